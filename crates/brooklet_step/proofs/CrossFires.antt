@@ -1,5 +1,5 @@
 -- Firings of products: a change comes to a port, and the changes of the pairs that pass are given.
-use Rattle.std.proofs.Common.{◌≡◌, ℕ, zero, suc, ℤ, ◌+◌, ◌≤◌, true, ◌&&◌, List, [], ◌∷◌, ◌++◌, length, map, refl, sym, ap, ◌∙◌, subst, arith}
+use Rattle.std.proofs.Common.{◌≡◌, ℕ, zero, suc, ℤ, ◌+◌, ◌≤◌, true, ◌&&◌, List, [], ◌∷◌, ◌++◌, length, refl, sym, ap, ◌∙◌, subst, arith}
 use Rattle.std.specs.Prelude.{All, nat_le}
 use Rattle.std.proofs.lemmas.Bool.{and_parts}
 use Rattle.std.proofs.lemmas.List.{append-nil, map-append}
@@ -10,8 +10,8 @@ use Rattle.river_base.specs.declared.item.Item as item
 use Rattle.river_base.specs.declared.item.Item.TheVariants.{Flat}
 use Rattle.river_base.specs.declared.item.Flat.TheVariants.{Batch as Batched, Change as Changed}
 use Rattle.river_base.specs.declared.kind.QueueType.{QueueType}
-use Rattle.river_base.specs.Changes.{change_to, changes, last_content, IsWideChange, IsChangeOf, GaveChanges}
-use Rattle.river_base.specs.Held.{held, held_from, content_from, HaveWidth, HasType, IsHeld}
+use Rattle.river_base.specs.Changes.{change_to, changes, last_content, IsWideChange, IsChangeOf}
+use Rattle.river_base.specs.Held.{held, held_from, content_from, IsHeld}
 use Rattle.river_base.proofs.HeldLemmas.{held-relation, content-append}
 use Rattle.kern_bags.specs.Contents.{product}
 use Rattle.kern_bags.specs.Steps.{Pairing, put_pair, crosses, crossed}
@@ -28,11 +28,10 @@ use Rattle.brooklet_model.specs.Fire.{fire, first_kept}
 use Rattle.brooklet_model.specs.Words.{Word, at_port}
 use Rattle.brooklet_model.proofs.Free.{at_port-append}
 use Rattle.brooklet_step.specs.declared.emit.Emit.{Emit}
-use Rattle.brooklet_step.specs.declared.state.State.{State}
 use Rattle.brooklet_step.specs.declared.state.State.TheVariants as state
 use Rattle.brooklet_step.specs.Bags.{as_changes}
 use Rattle.brooklet_step.specs.Took.{Took}
-use Rattle.brooklet_step.specs.Given.{IsHeldOf, FitCross, FitState, as_batches, ran, CrossAfter, StandsAfter, TookHeld, Gives, Does, FiresAt}
+use Rattle.brooklet_step.specs.Given.{IsHeldOf, FitCross, FitState, as_batches, ran, CrossAfter, StandsAfter, TookHeld, Gives, FiresAt}
 use Rattle.brooklet_step.proofs.GivenLemmas.{at_next, ran_more}
 use Rattle.brooklet_step.proofs.OnePort.{change_held, held_change, relation_typed, came_content, took_first, came_first, does_at}
 
@@ -224,7 +223,8 @@ gives_left : (n k : ℕ) (out out' : Emit) (ds : List Change) (now now' : CrossK
 gives_left n k out out' ds now now' c f took = record {
   given = λ start w x is_start tw tx a h.
       let y = relation_typed n x tx in
-      subst (λ z. GivesFor n k out out' ds now now' start w 0 z) (sym y.is) (at_left n k out out' ds now now' c start w y.batch f took a (came_content n (at_port 0 w) c y.batch x y.is h));
+      let is = came_content n (at_port 0 w) c y.batch x y.is h in
+      subst (λ z. GivesFor n k out out' ds now now' start w 0 z) (sym y.is) (at_left n k out out' ds now now' c start w y.batch f took a is);
 }
 
 gives_right : (n k : ℕ) (out out' : Emit) (ds : List Change) (now now' : CrossKept) (c : Change) → Crosses (put_change 1 c now) now' [] ds
@@ -233,7 +233,8 @@ gives_right : (n k : ℕ) (out out' : Emit) (ds : List Change) (now now' : Cross
 gives_right n k out out' ds now now' c f took = record {
   given = λ start w x is_start tw tx a h.
       let y = relation_typed k x tx in
-      subst (λ z. GivesFor n k out out' ds now now' start w 1 z) (sym y.is) (at_right n k out out' ds now now' c start w y.batch f took a (came_content k (at_port 1 w) c y.batch x y.is h));
+      let is = came_content k (at_port 1 w) c y.batch x y.is h in
+      subst (λ z. GivesFor n k out out' ds now now' start w 1 z) (sym y.is) (at_right n k out out' ds now now' c start w y.batch f took a is);
 }
 
 pair_gives : (n k p : ℕ) (out out' : Emit) (ds : List Change) (now now' : CrossKept) (c : Change) → IsHeldOf (relation n ∷ relation k ∷ []) p (Flat (Changed c))
@@ -283,7 +284,9 @@ cross_does port c ds now now' out out' f fits took = record {
       let r = fits.each n k (put_wide n k port c now item was) in
       let all : All (IsChangeOf (n + k)) ds = subst (All (IsChangeOf (n + k))) (sym r.0.grew) r.0.each in
       let again : FitCross (relation n ∷ relation k ∷ []) (state.Cross now' ∷ []) = record { now = now'; code = refl; wide = λ a b e. of_types n k a b now' e r.1 } in
-      does_at cross port (Flat (Changed c)) out out' (state.Cross now ∷ []) (state.Cross now' ∷ []) reads (relation n ∷ relation k ∷ []) writes (relation (n + k) ∷ []) vars (Private ∷ []) t.2 t.3 t.4 (
+      let reads' = relation n ∷ relation k ∷ [] in
+      let st' = state.Cross now' ∷ [] in
+      does_at cross port (Flat (Changed c)) out out' (state.Cross now ∷ []) st' reads reads' writes (relation (n + k) ∷ []) vars (Private ∷ []) t.2 t.3 t.4 (
       record {
         gives = pair_gives n k port out out' ds now now' c item f took;
         came = came_first cross (relation n ∷ relation k ∷ []) (relation (n + k)) (Private ∷ []) [] out out' (state.Cross now' ∷ []) (as_changes ds) took

@@ -1,5 +1,5 @@
 -- Kernels with one input port, and what comes at the first output port alone.
-use Rattle.std.proofs.Common.{◌≡◌, ℕ, zero, suc, ℤ, ◌<◌, List, [], ◌∷◌, length, refl, sym, ap, ◌∙◌, subst, arith}
+use Rattle.std.proofs.Common.{◌≡◌, ℕ, zero, suc, ◌<◌, List, [], ◌∷◌, length, refl, sym, ◌∙◌, subst, arith}
 use Rattle.std.specs.Prelude.{All, slice_get, Some}
 use Rattle.std.proofs.lemmas.List.Elements.{All-cons, All-nil}
 use Rattle.river_base.specs.declared.item.Batch.{Batch}
@@ -10,14 +10,14 @@ use Rattle.river_base.specs.declared.item.Flat.TheVariants.{One, Batch as Batche
 use Rattle.river_base.specs.declared.kind.FlatType.{FlatType}
 use Rattle.river_base.specs.declared.kind.FlatType.TheVariants.{Rows, Stream, Relation}
 use Rattle.river_base.specs.declared.kind.QueueType.{QueueType}
-use Rattle.river_base.specs.declared.kind.QueueType.TheVariants.{Flat as FlatOf, Pack as PackOf}
+use Rattle.river_base.specs.declared.kind.QueueType.TheVariants.{Flat as FlatOf}
 use Rattle.river_base.specs.Held.{held, content_from, HasType, IsHeld, HaveWidth, IsAscending}
 use Rattle.river_base.specs.Changes.{change_to, IsChangeOf}
 use Rattle.river_base.proofs.HeldLemmas.{held-relation}
-use Rattle.river_base.specs.Places.{each_grew, only, none}
+use Rattle.river_base.specs.Places.{only, none}
 use Rattle.river_base.proofs.PlaceLemmas.{each_grew_cong}
 use Rattle.river_kernels.specs.declared.types.VarKind.{VarKind}
-use Rattle.river_kernels.specs.Fits.{Fits, stream, relation}
+use Rattle.river_kernels.specs.Fits.{stream, relation}
 use Rattle.river_kernels.specs.Kern.{Kern}
 use Rattle.brooklet_model.specs.Firings.{Kept, Fired, gives}
 use Rattle.brooklet_model.specs.Fire.{outs}

@@ -1,14 +1,12 @@
 -- Firings of selections and projections, on batches of a stream and on changes of a relation.
-use Rattle.std.proofs.Common.{◌≡◌, ℕ, ℤ, true, List, [], ◌∷◌, ◌++◌, length, refl, sym, ap, ◌∙◌, subst}
-use Rattle.std.specs.Prelude.{All}
+use Rattle.std.proofs.Common.{◌≡◌, ℕ, ℤ, List, [], ◌∷◌, ◌++◌, length, refl, sym, ap, ◌∙◌, subst}
 use Rattle.std.proofs.lemmas.List.Elements.{All-head}
 use Rattle.river_base.specs.declared.item.Batch.{Batch}
 use Rattle.river_base.specs.declared.item.Change.{Change}
 use Rattle.river_base.specs.declared.item.Item as item
 use Rattle.river_base.specs.declared.item.Item.TheVariants.{Flat, Pack}
 use Rattle.river_base.specs.declared.item.Flat.TheVariants.{One, Batch as Batched, Change as Changed}
-use Rattle.river_base.specs.declared.kind.FlatType.TheVariants.{Stream, Relation}
-use Rattle.river_base.specs.declared.kind.QueueType.{QueueType}
+use Rattle.river_base.specs.declared.kind.FlatType.TheVariants.{Stream}
 use Rattle.river_base.specs.declared.kind.QueueType.TheVariants.{Flat as FlatOf}
 use Rattle.river_base.specs.Changes.{change_to, IsChangeOf}
 use Rattle.river_base.specs.Held.{held, content_from, HaveWidth, HasType, with_rows}
@@ -17,21 +15,18 @@ use Rattle.work_code.specs.Term.{Term}
 use Rattle.kern_bags.specs.Contents.{selected, projected}
 use Rattle.kern_bags.specs.Steps.{select_one, project_one}
 use Rattle.kern_changes.specs.Kept.{stamped_as, FollowsContent}
-use Rattle.river_kernels.specs.declared.types.VarKind.{VarKind}
 use Rattle.river_kernels.specs.Fits.{stream, relation}
-use Rattle.river_kernels.specs.Kern.{Kern, select, project}
+use Rattle.river_kernels.specs.Kern.{select, project}
 use Rattle.brooklet_model.specs.Firings.{Kept, Fired, gives}
-use Rattle.brooklet_model.specs.Fire.{fire}
-use Rattle.brooklet_model.specs.Typed.{IsWordOf, IsOf}
+use Rattle.brooklet_model.specs.Typed.{IsWordOf}
 use Rattle.brooklet_model.specs.Words.{Word, run, at_port}
 use Rattle.brooklet_model.proofs.BagTypes.{select_typed}
 use Rattle.brooklet_model.proofs.Swaps.{at_port_here}
 use Rattle.brooklet_step.specs.declared.emit.Emit.{Emit}
 use Rattle.brooklet_step.specs.Took.{Took}
-use Rattle.brooklet_step.specs.Stands.{AreNone}
-use Rattle.brooklet_step.specs.Given.{IsHeldOf, ran, TookHeld, Gives, FiresAt}
+use Rattle.brooklet_step.specs.Given.{IsHeldOf, ran, Gives, FiresAt}
 use Rattle.brooklet_step.proofs.GivenLemmas.{ran_more}
-use Rattle.brooklet_step.proofs.OnePort.{batch_held, change_held, held_first, held_change, batch_type, change_type, relation_typed, typed_first, typed_port}
+use Rattle.brooklet_step.proofs.OnePort.{batch_held, change_held, held_first, batch_type, change_type, relation_typed, typed_first, typed_port}
 use Rattle.brooklet_step.proofs.OnePort.{same_item, came_content, took_first, came_first, one_held, does_at}
 
 -- A FUNCTION OF THE CONTENT
@@ -45,7 +40,8 @@ module _ (F : List (List ℤ) → List (List ℤ)) where
       → content_from (F c) ((run image w ss).outs 0) ≡ F (content_from c (at_port 0 w))
   image_from n [] ss c a = refl
   image_from n (e ∷ es) ss c a =
-      go (λ d. image_from n es ss d a.1) e.1 (typed_first (relation n) e.0 e.1 a.0) ∙ ap (λ l. F (content_from c l)) (sym (at_port_here 0 e es (typed_port (relation n) e.0 e.1 a.0)))
+      go (λ d. image_from n es ss d a.1) e.1 (typed_first (relation n) e.0 e.1 a.0)
+      ∙ ap (λ l. F (content_from c l)) (sym (at_port_here 0 e es (typed_port (relation n) e.0 e.1 a.0)))
     where
       go : ((d : List (List ℤ)) → content_from (F d) ((run image es ss).outs 0) ≡ F (content_from d (at_port 0 es))) → (x : item.Item) → HasType (relation n) x
           → content_from (F c) (with_rows (λ b. F b.rows) x ++ (run image es ss).outs 0) ≡ F (content_from c (x ∷ at_port 0 es))

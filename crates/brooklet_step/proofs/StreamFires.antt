@@ -14,8 +14,7 @@ use Rattle.kern_bags.specs.Steps.{last_rows, streamed, streamer_one}
 use Rattle.kern_bags.specs.declared.kernel.Streamer.{Streamer}
 use Rattle.kern_bags.specs.declared.kernel.Streamer.TheVariants.{Istream, Dstream, Rstream}
 use Rattle.kern_bags.proofs.KeptWindows.{batches_more}
-use Rattle.kern_changes.specs.Counted.{AreSame}
-use Rattle.kern_changes.specs.Kept.{stamped_as, StreamsFree, StreamsAll}
+use Rattle.kern_changes.specs.Kept.{stamped_as}
 use Rattle.river_kernels.specs.declared.types.VarKind.{VarKind}
 use Rattle.river_kernels.specs.declared.types.VarKind.TheVariants.{Private}
 use Rattle.river_kernels.specs.Fits.{Fits, stream, relation}
@@ -24,7 +23,6 @@ use Rattle.brooklet_model.specs.Firings.{Kept, Received, Fired, gives}
 use Rattle.brooklet_model.specs.Fire.{fire, first_kept}
 use Rattle.brooklet_model.specs.Words.{Word, at_port}
 use Rattle.brooklet_step.specs.declared.emit.Emit.{Emit}
-use Rattle.brooklet_step.specs.declared.state.State.{State}
 use Rattle.brooklet_step.specs.declared.state.State.TheVariants as state
 use Rattle.brooklet_step.specs.Bags.{StreamsChange, StreamFits}
 use Rattle.brooklet_step.specs.Took.{Took}
@@ -50,19 +48,6 @@ streamer_first_after s reads = record { now = []; past = []; code = refl; define
 pub streamer_first_fits : (s : Streamer) (reads writes : List QueueType) (vars : List VarKind) → Fits (streamer s) reads writes vars
     → FitState (streamer s) reads (state.Streamer [] ∷ [])
 streamer_first_fits s reads writes vars f = record { now = []; code = refl; wide = λ n e. All-nil (λ (row : List ℤ). length row ≡ n) }
-
--- STEPS
-
--- those that keep nothing of the content
-pub free_streams : (c : Change) (old : List (List ℤ)) (given : Batch) → StreamsFree Istream c given → StreamsChange Istream c old old given
-free_streams c old given f = record { each = λ before b up kept is. (f.each before b is, tt) }
-
-pub gone_streams : (c : Change) (old : List (List ℤ)) (given : Batch) → StreamsFree Dstream c given → StreamsChange Dstream c old old given
-gone_streams c old given f = record { each = λ before b up kept is. (f.each before b is, tt) }
-
--- and the one that keeps all of it
-pub all_streams : (c : Change) (old new : List (List ℤ)) (given : Batch) → StreamsAll c old new given → StreamsChange Rstream c old new given
-all_streams c old new given f = record { each = λ before b up kept is. f.each before b up kept is }
 
 -- FIRINGS
 
@@ -131,7 +116,8 @@ streamer_does s c g now now' out out' f fits took = record {
       let r = fits.each n (subst (HaveWidth n) (same_rows fit.now now (sym fit.code)) (fit.wide n refl)) change.wide in
       let again : FitStreamer (relation n ∷ []) (state.Streamer now' ∷ []) =
       record { now = now'; code = refl; wide = λ m e. subst (λ k. HaveWidth k now') (same_relation n m e) r.0 } in
-      does_at (streamer s) 0 (Flat (Changed c)) out out' (state.Streamer now ∷ []) (state.Streamer now' ∷ []) reads (relation n ∷ []) writes (stream n ∷ []) vars (Private ∷ []) t.1 t.2 t.3 (
+      let st' = state.Streamer now' ∷ [] in
+      does_at (streamer s) 0 (Flat (Changed c)) out out' (state.Streamer now ∷ []) st' reads (relation n ∷ []) writes (stream n ∷ []) vars (Private ∷ []) t.1 t.2 t.3 (
       record {
         gives = streamer_gives s n c g now now' out out' f took;
         came = came_first (streamer s) (relation n ∷ []) (stream n) (Private ∷ []) [] out out' (state.Streamer now' ∷ []) (Flat (Batched g) ∷ []) took

@@ -1,6 +1,5 @@
 -- Firings of windows: a batch comes, and the change of the content is given.
 use Rattle.std.proofs.Common.{◌≡◌, ℕ, zero, suc, ℤ, pos, ◌-◌, drop, List, [], ◌∷◌, ◌++◌, length, map, refl, sym, ap, ◌∙◌, subst}
-use Rattle.std.specs.Prelude.{Some}
 use Rattle.std.proofs.lemmas.List.Elements.{All-nil}
 use Rattle.river_base.specs.declared.item.Batch.{Batch}
 use Rattle.river_base.specs.declared.item.Change.{Change}
@@ -26,7 +25,6 @@ use Rattle.brooklet_model.specs.Firings.{Kept, Received, Fired, gives}
 use Rattle.brooklet_model.specs.Fire.{fire, first_kept}
 use Rattle.brooklet_model.specs.Words.{Word, at_port}
 use Rattle.brooklet_step.specs.declared.emit.Emit.{Emit}
-use Rattle.brooklet_step.specs.declared.state.State.{State}
 use Rattle.brooklet_step.specs.declared.state.State.TheVariants as state
 use Rattle.brooklet_step.specs.Took.{Took}
 use Rattle.brooklet_step.specs.Given.{IsHeldOf, FitWindow, FitState, ran, WindowAfter, StandsAfter, TookHeld, Gives, FiresAt}
@@ -133,7 +131,8 @@ window_does v b c now now' out out' f fits took = record {
         kept = record { past = fit.kept.past ++ Flat (Batched b) ∷ []; stands = next.1 };
         wide = λ m e. subst (λ k. HaveWidth k (map (λ (s : Stamped). s.1) now'.rows)) (same_stream n m e) r.1;
       } in
-      does_at (window v) 0 (Flat (Batched b)) out out' (state.Window now ∷ []) (state.Window now' ∷ []) reads (stream n ∷ []) writes (relation n ∷ []) vars (Private ∷ []) t.1 t.2 t.3 (
+      let st' = state.Window now' ∷ [] in
+      does_at (window v) 0 (Flat (Batched b)) out out' (state.Window now ∷ []) st' reads (stream n ∷ []) writes (relation n ∷ []) vars (Private ∷ []) t.1 t.2 t.3 (
       record {
         gives = window_gives v n b c now now' out out' f took;
         came = came_first (window v) (stream n ∷ []) (relation n) (Private ∷ []) [] out out' (state.Window now' ∷ []) (Flat (Changed c) ∷ []) took

@@ -1,4 +1,4 @@
-use Rattle.std.proofs.Common.{[], ◌∷◌, subst}
+use Rattle.std.proofs.Common.{[], subst}
 use Rattle.std.proofs.lemmas.Result.{on_ok_weaker}
 use Rattle.work_code.specs.Term.{terms}
 use Rattle.river_kernels.specs.Kern.{project}

@@ -1,7 +1,5 @@
 use Rattle.std.proofs.Common.{[], ◌∷◌, sym, subst}
 use Rattle.std.proofs.lemmas.Result.{on_ok_weaker}
-use Rattle.river_base.specs.declared.item.Item.TheVariants.{Flat}
-use Rattle.river_base.specs.declared.item.Flat.TheVariants.{Batch as Batched}
 use Rattle.river_kernels.specs.Kern.{window}
 use Rattle.brooklet_step.specs.declared.state.State.TheVariants as state
 use Rattle.brooklet_step.specs.Given.{FiresAt}
