@@ -1,12 +1,11 @@
 -- Firings of splitters, on items as they are and on changes.
 use Rattle.std.proofs.Common.{◌≡◌, ℕ, ℤ, zero, suc, ◌+◌, ◌<◌, Some, List, [], ◌∷◌, ◌++◌, length, replicate, refl, sym, ap, ◌∙◌, subst, arith, ⊎_elim}
-use Rattle.std.specs.Prelude.{All, slice_get, ◌≢◌, nat_eq, if◌then◌else◌}
+use Rattle.std.specs.Prelude.{All, slice_get}
 use Rattle.std.proofs.lemmas.Bool.{cases_eq}
 use Rattle.std.proofs.lemmas.List.{length-replicate, length-map}
 use Rattle.std.proofs.lemmas.List.Elements.{All-cons, All-nil}
 use Rattle.river_base.specs.declared.item.Batch.{Batch}
 use Rattle.river_base.specs.declared.item.Change.{Change}
-use Rattle.river_base.specs.declared.item.Flat as flat
 use Rattle.river_base.specs.declared.item.Flat.TheVariants.{One, Batch as Batched, Change as Changed}
 use Rattle.river_base.specs.declared.item.Item as item
 use Rattle.river_base.specs.declared.item.Item.TheVariants.{Flat, Pack}
@@ -19,18 +18,18 @@ use Rattle.river_base.specs.Held.{held, content_from, HaveWidth, IsHeld, IsPlain
 use Rattle.river_base.specs.Number.{count_of}
 use Rattle.river_base.specs.Places.{each_grew, only, none}
 use Rattle.river_base.proofs.HeldLemmas.{held-nil, held-relation, held-plain, content-append}
-use Rattle.river_base.proofs.PlaceLemmas.{each_grew_cong, each_grew-none, only_same, only_other}
+use Rattle.river_base.proofs.PlaceLemmas.{each_grew_cong, only_same, only_other}
 use Rattle.kern_rows.specs.Needs.{HaveShares}
 use Rattle.kern_rows.specs.Turns.{IsTurn, shares, next_port, next_had}
 use Rattle.kern_changes.specs.declared.owed.Debt.{Debt}
 use Rattle.kern_changes.specs.Owed.{AreOwed, OweLittle, AreDebtsOf, no_debt, debt_at, but_at, owed_start}
 use Rattle.kern_changes.proofs.LawProofs.{starts_hold}
 use Rattle.river_kernels.specs.declared.types.VarKind.{VarKind}
-use Rattle.river_kernels.specs.Fits.{Fits, relation}
+use Rattle.river_kernels.specs.Fits.{relation}
 use Rattle.river_kernels.specs.Kern.{deal}
 use Rattle.brooklet_model.specs.Firings.{Kept, Fired, Turn, gives}
 use Rattle.brooklet_model.specs.Fire.{fire, deal_one, first_kept}
-use Rattle.brooklet_model.specs.Typed.{IsOf, IsWordOf, widths_in, IsWide}
+use Rattle.brooklet_model.specs.Typed.{widths_in, IsWide}
 use Rattle.brooklet_model.specs.Words.{Word, at_port}
 use Rattle.brooklet_model.proofs.Lists.{if_eq, if_ne}
 use Rattle.brooklet_model.proofs.Ports.{shaped}
@@ -42,7 +41,7 @@ use Rattle.brooklet_step.specs.declared.state.State.TheVariants as state
 use Rattle.brooklet_step.specs.Dealing.{IsDealt, dealt_start}
 use Rattle.brooklet_step.specs.Stands.{IsChange, StandsForTurn}
 use Rattle.brooklet_step.specs.Took.{Took, HasRoom}
-use Rattle.brooklet_step.specs.Given.{held_by, held_at, IsHeldBy, IsHeldOf, IsRelationBy, columns_by, ran, FitState, FitTurn, DealAfter, StandsAfter, TookHeld, Does, FiresAt, CanTake}
+use Rattle.brooklet_step.specs.Given.{held_by, held_at, IsHeldBy, IsHeldOf, columns_by, ran, FitState, FitTurn, DealAfter, StandsAfter, TookHeld, Does, FiresAt, CanTake}
 use Rattle.brooklet_step.proofs.GivenFires.{ArePlain}
 use Rattle.brooklet_step.proofs.GivenLemmas.{at-plain, at_next, ran_more, not_both}
 use Rattle.brooklet_step.proofs.RowFires.{got_many}

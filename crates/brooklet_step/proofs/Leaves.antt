@@ -1,5 +1,5 @@
 -- Firings of kernels that have no kernel inside.
-use Rattle.std.proofs.Common.{◌≡◌, ℕ, zero, suc, ℤ, pos, ◌+◌, ◌≤◌, ◌<◌, false, List, [], ◌∷◌, ◌++◌, length, map, take, replicate, refl, get_or, to_z, of_z, sym}
+use Rattle.std.proofs.Common.{◌≡◌, ℕ, zero, suc, ℤ, pos, ◌+◌, ◌≤◌, ◌<◌, false, List, [], ◌∷◌, ◌++◌, length, map, take, refl, get_or, to_z, of_z, sym}
 use Rattle.std.proofs.Common.{ap, ◌∙◌, subst, arith, ⊎_elim}
 use Rattle.std.specs.Int.{w64}
 use Rattle.std.proofs.lemmas.Int.{to_z-of_z}
@@ -7,27 +7,25 @@ use Rattle.river_base.specs.Number.{IsValue}
 use Rattle.std.specs.Prelude.{IsTrue, ◌↔◌, All, slice_index_or, if◌then◌else◌, nat_eq}
 use Rattle.std.proofs.lemmas.Bool.{cases_eq, true≢false}
 use Rattle.std.proofs.Math.ListN.{set}
-use Rattle.std.proofs.lemmas.List.{take_more, length-replicate}
+use Rattle.std.proofs.lemmas.List.{take_more}
 use Rattle.std.proofs.lemmas.List.Elements.{All-head, All-tail, All-cons, All-nil}
 use Rattle.river_base.specs.declared.item.Item as item
 use Rattle.river_base.specs.declared.item.Item.TheVariants.{Flat, Pack}
 use Rattle.river_base.specs.declared.item.Flat.TheVariants.{One, Batch, Change as Changed}
 use Rattle.river_base.specs.declared.kind.QueueType.{QueueType}
-use Rattle.river_base.specs.Held.{HasType, items_of}
+use Rattle.river_base.specs.Held.{HasType}
 use Rattle.river_base.specs.Places.{append_at, each_grew, only, none}
 use Rattle.river_base.proofs.PlaceLemmas.{each_grew_cong, each_grew-none, append_at-each_grew, only_same, only_other}
 use Rattle.kern_rows.specs.Forms.{CodeForm, FilterForm}
-use Rattle.kern_rows.specs.Needs.{CanCode, CanFilter, HaveShares, IsJoiner}
+use Rattle.kern_rows.specs.Needs.{CanCode, CanFilter}
 use Rattle.kern_rows.specs.Runs.{run_kept, pushed_to, filter_one}
-use Rattle.kern_rows.specs.Stands.{Waiting, StandsForFiltering, Filters, Dealing, first_values}
-use Rattle.kern_rows.specs.Turns.{Turns, IsTurn, shares, ones, next_port, next_had, joins, itself, put, waiting}
+use Rattle.kern_rows.specs.Stands.{Waiting, StandsForFiltering, Filters, first_values}
 use Rattle.kern_rows.proofs.Given.{filter_values, given_items}
 use Rattle.kern_rows.proofs.Lengths.{run_kept_length}
 use Rattle.river_kernels.specs.Fits.{rows}
-use Rattle.river_kernels.specs.Kern.{code, filter, deal, collect, unpack}
-use Rattle.brooklet_model.specs.Firings.{Kept, Slots, Buffered, Turn, Joining, gives}
+use Rattle.river_kernels.specs.Kern.{code, filter}
+use Rattle.brooklet_model.specs.Firings.{Kept, Slots, Buffered, gives}
 use Rattle.brooklet_model.specs.Fire.{fire, code_one, values_of, value_of}
-use Rattle.brooklet_model.proofs.Shapes.{next_turn, put_joined, drain_joined}
 use Rattle.brooklet_model.specs.Typed.{IsOf, AreOf}
 use Rattle.brooklet_model.proofs.Lists.{if_eq, if_ne}
 use Rattle.brooklet_step.specs.declared.emit.Emit.{Emit}
@@ -36,7 +34,7 @@ use Rattle.brooklet_step.specs.declared.state.State.TheVariants as state
 use Rattle.brooklet_step.specs.Took.{Took, HasRoom}
 use Rattle.brooklet_step.specs.Stands.{AreNone, AreSlots, StandsForSlots, StandsForFilter, IsRow, IsSlots, RanKept, Pushed}
 use Rattle.brooklet_step.specs.Stands.{Fires, Takes, Applies}
-use Rattle.brooklet_model.proofs.Ports.{counts, shaped}
+use Rattle.brooklet_model.proofs.Ports.{counts}
 use Rattle.brooklet_model.proofs.Typing.{fire_typed}
 use Rattle.brooklet_step.proofs.Standing.{stands_shape}
 use Rattle.river_kernels.proofs.WellFormed.{can_code, can_filter}

@@ -1,5 +1,5 @@
 -- States that stand for some of the definition: all that fit do, where no relation passes.
-use Rattle.std.proofs.Common.{◌≡◌, ℕ, ℤ, zero, suc, List, [], ◌∷◌, ◌++◌, length, take, drop, replicate, refl, sym, ap, ◌∙◌, subst}
+use Rattle.std.proofs.Common.{◌≡◌, ℕ, ℤ, zero, suc, List, [], ◌∷◌, ◌++◌, length, take, drop, replicate, refl, sym, subst}
 use Rattle.std.specs.Prelude.{slice_get}
 use Rattle.river_base.specs.Places.{list_at}
 use Rattle.river_base.specs.declared.kind.QueueType.{QueueType}

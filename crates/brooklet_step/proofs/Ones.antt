@@ -1,12 +1,12 @@
 -- Kernels with one port, and with one state or none.
-use Rattle.std.proofs.Common.{◌≡◌, ℕ, zero, suc, ◌<◌, List, [], ◌∷◌, length, refl, sym, ap, ◌∙◌, subst, arith, get_or}
+use Rattle.std.proofs.Common.{◌≡◌, ℕ, ◌<◌, List, [], ◌∷◌, length, refl, sym, ap, ◌∙◌, subst, arith, get_or}
 use Rattle.std.proofs.Math.ListN.{set}
 use Rattle.river_base.specs.declared.item.Item as item
 use Rattle.river_kernels.specs.Kern.{Kern}
 use Rattle.brooklet_model.specs.Fire.{ins, privates}
 use Rattle.brooklet_step.specs.declared.emit.Emit.{Emit}
 use Rattle.brooklet_step.specs.declared.state.State.{State}
-use Rattle.brooklet_step.specs.Given.{FitState, CanTake, FiresAt}
+use Rattle.brooklet_step.specs.Given.{CanTake, FiresAt}
 use Rattle.brooklet_step.proofs.GivenLemmas.{fit_length}
 use Rattle.brooklet_step.proofs.RowFires.{port_zero}
 

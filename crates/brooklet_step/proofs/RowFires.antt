@@ -4,7 +4,6 @@ use Rattle.std.specs.Prelude.{All, Some, slice_get, nat_lt, if◌then◌else◌}
 use Rattle.std.proofs.lemmas.Bool.{cases_lt}
 use Rattle.std.proofs.lemmas.List.Elements.{All-cons, All-nil}
 use Rattle.river_base.specs.declared.item.Item as item
-use Rattle.river_base.specs.declared.kind.FlatType.{FlatType}
 use Rattle.river_base.specs.declared.kind.QueueType.{QueueType}
 use Rattle.river_base.specs.declared.kind.QueueType.TheVariants.{Flat as FlatOf}
 use Rattle.river_base.specs.Held.{held, IsHeld}
@@ -12,19 +11,19 @@ use Rattle.river_base.specs.Places.{each_grew, none}
 use Rattle.river_base.proofs.PlaceLemmas.{each_grew_cong, each_grew-none, if_lt, if_ge}
 use Rattle.kern_rows.specs.Forms.{CodeForm, FilterForm}
 use Rattle.river_kernels.specs.declared.types.VarKind.{VarKind}
-use Rattle.river_kernels.specs.Fits.{Fits, rows, ports}
+use Rattle.river_kernels.specs.Fits.{rows, ports}
 use Rattle.river_kernels.specs.Kern.{Kern, code, filter, duplicate, tally}
-use Rattle.brooklet_model.specs.Firings.{Kept, Fired}
+use Rattle.brooklet_model.specs.Firings.{Kept}
 use Rattle.brooklet_model.specs.Fire.{fire, outs, ins}
-use Rattle.brooklet_model.specs.Typed.{IsOf, IsWordOf, widths_in, IsWide}
-use Rattle.brooklet_model.specs.Words.{Word, run, at_port}
+use Rattle.brooklet_model.specs.Typed.{IsWordOf, widths_in, IsWide}
+use Rattle.brooklet_model.specs.Words.{Word, at_port}
 use Rattle.brooklet_model.proofs.Ports.{counts}
 use Rattle.brooklet_model.proofs.Swaps.{at_port_here}
 use Rattle.brooklet_step.specs.declared.emit.Emit.{Emit}
 use Rattle.brooklet_step.specs.declared.state.State.{State}
 use Rattle.brooklet_step.specs.Stands.{AreNone, Fires, Applies}
 use Rattle.brooklet_step.specs.Took.{HasRoom}
-use Rattle.brooklet_step.specs.Given.{held_at, IsHeldBy, IsHeldOf, IsPlainBy, held_by, ran, StandsAfter, TookHeld, Does, FiresAt, CanTake}
+use Rattle.brooklet_step.specs.Given.{held_at, IsHeldBy, IsHeldOf, IsPlainBy, held_by, ran, Does, FiresAt, CanTake}
 use Rattle.brooklet_step.proofs.GivenLemmas.{ran_more}
 use Rattle.brooklet_step.proofs.GivenFires.{ArePlain, one_plain, simple_applies, plain_does}
 

@@ -1,9 +1,7 @@
 -- The first states of kernels.
-use Rattle.std.proofs.Common.{◌≡◌, ℕ, zero, suc, ◌-◌, ℤ, pos, drop, Ok, Err, List, [], ◌∷◌, ◌++◌, length, refl, sym, ap, ◌∙◌, subst, arith, IfOk}
-use Rattle.std.proofs.lemmas.List.{length-map, length-replicate}
+use Rattle.std.proofs.Common.{◌≡◌, ℕ, ◌-◌, ℤ, Ok, Err, List, [], ◌∷◌, ◌++◌, length, refl, sym, ap, ◌∙◌, subst, IfOk}
 use Rattle.std.specs.declared.result.Result.{Result}
 use Rattle.river_base.specs.declared.memory.NoMemory.{NoMemory}
-use Rattle.river_base.specs.Number.{count_of}
 use Rattle.river_base.specs.declared.kind.QueueType.{QueueType}
 use Rattle.river_base.specs.declared.kind.QueueType.TheVariants.{Flat as FlatOf}
 use Rattle.work_code.specs.Term.{term, terms}
@@ -17,7 +15,7 @@ use Rattle.kern_bags.specs.declared.kernel.Streamer.{Streamer}
 use Rattle.kern_rows.specs.declared.kernel.CodeKernel.{CodeKernel}
 use Rattle.kern_rows.specs.Forms.{FilterForm, code_form}
 use Rattle.kern_rows.specs.Needs.{CanFilter, HaveShares}
-use Rattle.kern_rows.specs.Turns.{shares, ones, turns_start}
+use Rattle.kern_rows.specs.Turns.{shares, ones}
 use Rattle.river_kernels.specs.declared.kernel.Kernel.{fold-roll-Kernel}
 use Rattle.river_kernels.specs.declared.kernel.Kernel.TheVariants as kernel
 use Rattle.river_kernels.specs.declared.kernel.Kernel.TheOpen as layer
@@ -27,8 +25,8 @@ use Rattle.brooklet_model.specs.Shapes.{IsFormed}
 use Rattle.brooklet_model.specs.Typed.{between}
 use Rattle.brooklet_model.proofs.Ports.{formed_shaped}
 use Rattle.brooklet_model.proofs.Lists.{take_front, drop_front}
-use Rattle.brooklet_model.proofs.Shapes.{first_turn, shape_length}
-use Rattle.brooklet_model.proofs.Typing.{between_is, first_holds}
+use Rattle.brooklet_model.proofs.Shapes.{shape_length}
+use Rattle.brooklet_model.proofs.Typing.{between_is}
 use Rattle.river_kernels.specs.declared.types.VarKind.{VarKind}
 use Rattle.river_kernels.specs.Fits.{Fits}
 use Rattle.river_kernels.specs.Types.{types_of}

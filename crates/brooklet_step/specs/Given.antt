@@ -4,17 +4,17 @@ use Rattle.river_base.specs.declared.item.Batch.{Batch}
 use Rattle.river_base.specs.declared.item.Item as item
 use Rattle.river_base.specs.declared.item.Flat.TheVariants.{Batch as Batched}
 use Rattle.river_base.specs.declared.item.Item.TheVariants.{Flat}
-use Rattle.river_base.specs.declared.kind.FlatType.TheVariants.{Rows, Stream, Relation}
+use Rattle.river_base.specs.declared.kind.FlatType.TheVariants.{Relation}
 use Rattle.river_base.specs.declared.kind.QueueType.{QueueType}
 use Rattle.river_base.specs.declared.kind.QueueType.TheVariants.{Flat as FlatOf, Pack as PackOf}
 use Rattle.river_base.specs.Held.{held, content_from, IsHeld, IsPlain, IsRelation, HaveWidth, batches}
 use Rattle.river_base.specs.Places.{each_grew, list_at}
 use Rattle.kern_rows.specs.Forms.{FilterForm, RunForm}
 use Rattle.kern_rows.specs.Stands.{Waiting, needs_now}
-use Rattle.kern_rows.specs.Turns.{IsTurn, shares, ones, itself}
+use Rattle.kern_rows.specs.Turns.{IsTurn, shares, ones}
 use Rattle.kern_bags.specs.Contents.{content_of, product}
 use Rattle.kern_bags.specs.Kept.{Stamped, WindowKept, IsWindowKept, StandsForWindow}
-use Rattle.kern_bags.specs.Steps.{Pairing, last_rows}
+use Rattle.kern_bags.specs.Steps.{last_rows}
 use Rattle.kern_bags.specs.declared.kernel.Streamer.{Streamer}
 use Rattle.kern_bags.specs.declared.kernel.Streamer.TheVariants.{Istream, Dstream, Rstream}
 use Rattle.kern_bags.specs.declared.kernel.Window.{Window}
@@ -29,7 +29,7 @@ use Rattle.river_kernels.specs.declared.types.VarKind.{VarKind}
 use Rattle.river_kernels.specs.Fits.{Fits, stream, relation}
 use Rattle.river_kernels.specs.Types.{types_of}
 use Rattle.river_kernels.specs.Kern.{Kern, code, filter, duplicate, deal, collect, packed, unpack, window, select, project, cross, streamer, tally, fused}
-use Rattle.brooklet_model.specs.Firings.{Kept, Turn, Joining, Received, Crossing, Fired, feed, splice, beside}
+use Rattle.brooklet_model.specs.Firings.{Kept, Joining, Received, Crossing, Fired, feed, splice, beside}
 use Rattle.brooklet_model.specs.Fire.{fire, privates, outs, tabs}
 use Rattle.brooklet_model.specs.Typed.{IsOf, IsWordOf, IsStart, between, widths_in, AreWide}
 use Rattle.brooklet_model.specs.Words.{Word, run, at_port, word_of}

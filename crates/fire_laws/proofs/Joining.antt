@@ -4,10 +4,10 @@ use Rattle.std.specs.Prelude.{All, slice_get}
 use Rattle.std.proofs.lemmas.Bool.{cases_lt}
 use Rattle.std.proofs.lemmas.List.{append-nil, length-map, take-append-drop, length-take}
 use Rattle.std.proofs.Math.Seq.{take-nil}
-use Rattle.std.proofs.lemmas.List.Elements.{All-head, All-tail, All-cons, All-nil}
+use Rattle.std.proofs.lemmas.List.Elements.{All-nil}
 use Rattle.river_base.specs.declared.item.Item as item
 use Rattle.river_base.specs.declared.kind.QueueType.{QueueType}
-use Rattle.river_base.specs.Held.{held, IsHeld}
+use Rattle.river_base.specs.Held.{held, HasType, IsHeld}
 use Rattle.river_base.specs.Places.{list_at}
 use Rattle.river_base.proofs.HeldLemmas.{length-held}
 use Rattle.river_plan.specs.Forms.{Name, OpForm, PlanForm, all_decls, decl_names}
@@ -19,7 +19,6 @@ use Rattle.river_plan.proofs.NameLemmas.{more_or_zero, cases_name}
 use Rattle.brooklet_model.specs.Bounded.{Bounded, Capacities, history, sent}
 use Rattle.brooklet_model.specs.Fire.{first_kept}
 use Rattle.brooklet_model.specs.Histories.{History, written, Lists, lists_of}
-use Rattle.brooklet_model.specs.Laws.{given_to}
 use Rattle.brooklet_model.specs.Machine.{at_key}
 use Rattle.brooklet_model.specs.Traced.{ran}
 use Rattle.brooklet_model.specs.Received.{hist_by, AreWords, IsFront}

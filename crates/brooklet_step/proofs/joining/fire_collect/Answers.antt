@@ -1,4 +1,4 @@
-use Rattle.std.proofs.Common.{[], refl, subst}
+use Rattle.std.proofs.Common.{refl, subst}
 use Rattle.std.proofs.lemmas.Result.{on_ok_weaker}
 use Rattle.kern_rows.specs.Turns.{shares}
 use Rattle.kern_changes.specs.Joined.{put_item, JoinsItems, JoinsPlainly, KeepsJoin}

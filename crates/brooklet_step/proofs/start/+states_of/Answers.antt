@@ -1,4 +1,4 @@
-use Rattle.std.proofs.Common.{◌≡◌, refl, sym, ap, ◌∙◌, subst}
+use Rattle.std.proofs.Common.{◌≡◌, sym, ap, ◌∙◌, subst}
 use Rattle.river_kernels.specs.Kern.{kern_of, fused, packed}
 use Rattle.river_kernels.proofs.KernLemmas.{kern_of-fused}
 use Rattle.brooklet_model.specs.Shapes.{IsFormed}

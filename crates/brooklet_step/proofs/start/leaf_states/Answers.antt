@@ -1,15 +1,13 @@
 use Rattle.std.proofs.Common.{◌∷◌, [], ap, ◌∙◌, subst}
 use Rattle.kern_changes.specs.Joined.{join_start}
 use Rattle.kern_rows.specs.Forms.{code_form, filter_form}
-use Rattle.river_kernels.specs.Kern.{kern_of, code, filter, duplicate, deal, collect, unpack, window, select, project, cross, streamer, tally}
-use Rattle.work_code.specs.Term.{term, terms}
+use Rattle.river_kernels.specs.Kern.{kern_of, code, filter, deal, collect, unpack, window, cross, streamer}
 use Rattle.brooklet_model.specs.Shapes.{IsFormed}
 use Rattle.brooklet_step.specs.declared.state.State.TheVariants as state
 use Rattle.brooklet_step.specs.Initial.{IsFirst}
-use Rattle.brooklet_step.proofs.Fires.{kern_of-filter, kern_of-duplicate}
+use Rattle.brooklet_step.proofs.Fires.{kern_of-filter}
 use Rattle.brooklet_step.proofs.Starts.{if_ok, filter_first, first_at, simple_first, splitter_first, joiner_first, unpacker_first, window_first, cross_first, streamer_first}
-use Rattle.brooklet_step.proofs.Starts.{kern_of-code, kern_of-deal, kern_of-collect, kern_of-unpack, kern_of-window, kern_of-select, kern_of-project, kern_of-cross, kern_of-streamer}
-use Rattle.brooklet_step.proofs.Tallies.{kern_of-tally}
+use Rattle.brooklet_step.proofs.Starts.{kern_of-code, kern_of-deal, kern_of-collect, kern_of-unpack, kern_of-window, kern_of-cross, kern_of-streamer}
 use Rattle.brooklet_step.proofs.start.leaf_states.Goals as goal
 
 pub filter_states-requires : goal.filter_states-requires
