@@ -152,7 +152,7 @@ deal_needs ws i s old out e t =
 module _ (ws : List ℤ) (i g : item.Item) (s s' : State) (old new : Dealt) (out out' : Emit) (room : HasRoom (deal ws) out) (es : s ≡ state.Deal old)
     (es' : s' ≡ state.Deal new) (np : new.turn.port ≡ next_port (shares ws) old.turn.port old.turn.had) (nh : new.turn.had ≡ next_had (shares ws) old.turn.port old.turn.had)
     (took : Took out out' (gives old.turn.port (g ∷ []) [])) (dealt : IsDealt old.turn.port i g old.owed new.owed) where
-  place : ℕ
+  abbrev place : ℕ
   place = old.turn.port
 
   many : length out.outs ≡ length ws
@@ -235,6 +235,7 @@ module _ (ws : List ℤ) (i g : item.Item) (s s' : State) (old new : Dealt) (out
   -- a change comes to all lists, and the one in turn gives what it owes
   relates : (n : ℕ) (vars : List VarKind) → HaveShares (shares ws) → FitTurn (shares ws) (relation n ∷ []) (state.Deal old ∷ [])
       → IsHeld (relation n) i → Does (deal ws) (relation n ∷ []) (replicate (length ws) (relation n)) vars 0 i out out' (s ∷ []) (s' ∷ [])
+  unfolding next_stands
   relates n vars some f hi =
       let T = relation n in
       let ic = relation_change n i hi in

@@ -11,7 +11,7 @@ use Rattle.std.proofs.lemmas.List.{take_more, length-replicate}
 use Rattle.std.proofs.lemmas.List.Elements.{All-head, All-tail, All-cons, All-nil}
 use Rattle.river_base.specs.declared.item.Item as item
 use Rattle.river_base.specs.declared.item.Item.TheVariants.{Flat, Pack}
-use Rattle.river_base.specs.declared.item.Flat.TheVariants.{One, Batch}
+use Rattle.river_base.specs.declared.item.Flat.TheVariants.{One, Batch, Change as Changed}
 use Rattle.river_base.specs.declared.kind.QueueType.{QueueType}
 use Rattle.river_base.specs.Held.{HasType, items_of}
 use Rattle.river_base.specs.Places.{append_at, each_grew, only, none}
@@ -34,7 +34,7 @@ use Rattle.brooklet_step.specs.declared.emit.Emit.{Emit}
 use Rattle.brooklet_step.specs.declared.state.State.{State}
 use Rattle.brooklet_step.specs.declared.state.State.TheVariants as state
 use Rattle.brooklet_step.specs.Took.{Took, HasRoom}
-use Rattle.brooklet_step.specs.Stands.{AreNone, AreSlots, StandsForSlots, StandsForFilter, StandsForTurn, StandsForJoiner, IsRow, IsSlots, RanKept, Pushed}
+use Rattle.brooklet_step.specs.Stands.{AreNone, AreSlots, StandsForSlots, StandsForFilter, IsRow, IsSlots, RanKept, Pushed}
 use Rattle.brooklet_step.specs.Stands.{Fires, Takes, Applies}
 use Rattle.brooklet_model.proofs.Ports.{counts, shaped}
 use Rattle.brooklet_model.proofs.Typing.{fire_typed}
@@ -46,6 +46,7 @@ use Rattle.river_kernels.proofs.WellFormed.{can_code, can_filter}
 row_by : (n : ℕ) (x : item.Item) → HasType (rows n) x → IsRow x × (length (values_of x) ≡ n)
 row_by n (Flat (One row)) h = (record { row = row; is = refl }, h)
 row_by n (Flat (Batch b)) h = absurd h
+row_by n (Flat (Changed c)) h = absurd h
 row_by n (Pack fs) h = absurd h
 
 at_first : (t : QueueType) (p : ℕ) (x : item.Item) → IsOf (t ∷ []) p x → HasType t x

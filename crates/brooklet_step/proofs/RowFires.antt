@@ -100,7 +100,8 @@ copies_are n T ss ((zero, x) ∷ es) p lt h =
     ∙ sym (at_port_here 0 (0, x) es refl)
 copies_are n T ss ((suc q, x) ∷ es) p lt h = absurd h.0
 
-got_many : (t : QueueType) (n p : ℕ) → p < n → slice_get (replicate n t) p ≡ Some t
+-- the port at a place below n has the type of all n
+pub got_many : (t : QueueType) (n p : ℕ) → p < n → slice_get (replicate n t) p ≡ Some t
 got_many t zero p lt = absurd (omega (arith, lt))
 got_many t (suc n) zero lt = refl
 got_many t (suc n) (suc p) lt = got_many t n p (omega (arith, lt))

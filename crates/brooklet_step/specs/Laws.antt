@@ -1,8 +1,15 @@
 -- Laws of firings, of what waits and of what queues hold: statements over the contracts and the definitions alone.
-use Rattle.std.specs.Prelude.{◌≡◌, ◌↔◌, ℕ, false, List, [], ◌∷◌, slice_get}
+use Rattle.std.specs.Prelude.{◌≡◌, ◌↔◌, ℕ, false, List, [], ◌∷◌, All, slice_get}
+use Rattle.river_base.specs.declared.item.Change.{Change}
+use Rattle.river_base.specs.declared.item.Flat as flat
 use Rattle.river_base.specs.declared.item.Item as item
+use Rattle.river_base.specs.declared.item.Flat.TheVariants.{Change as Changed}
+use Rattle.river_base.specs.declared.item.Item.TheVariants.{Flat, Pack}
+use Rattle.river_base.specs.declared.kind.FlatType.TheVariants.{Relation}
 use Rattle.river_base.specs.declared.kind.QueueType.{QueueType}
-use Rattle.river_base.specs.Held.{HasType, IsHeld}
+use Rattle.river_base.specs.declared.kind.QueueType.TheVariants.{Flat as FlatOf, Pack as PackOf}
+use Rattle.river_base.specs.Changes.{IsChangeOf}
+use Rattle.river_base.specs.Held.{held, HasType, IsHeld, IsPlain}
 use Rattle.river_base.specs.Places.{each_grew}
 use Rattle.river_kernels.specs.declared.types.VarKind.{VarKind}
 use Rattle.river_kernels.specs.Fits.{Fits}
@@ -72,6 +79,22 @@ abbrev pub EnabledIsItem : Type 0
 EnabledIsItem =
     (m : Parts) (s : Machine) (o port : ℕ) → IsPlan m.plan → m.stopped ≡ false → Stands m s → IsEnabled m o port ↔ HasItem m.plan s o port
 
--- a queue may hold an item exactly where the item is of the queue's type
-abbrev pub HeldIsTyped : Type 0
-HeldIsTyped = (t : QueueType) (x : item.Item) → IsHeld t x ↔ HasType t x
+-- where no relation passes, a queue may hold an item exactly where the item is of the queue's type
+abbrev pub PlainQueuesHoldTyped : Type 0
+PlainQueuesHoldTyped = (t : QueueType) (x : item.Item) → IsPlain t → IsHeld t x ↔ HasType t x
+
+-- what is no pack is a normalised change of rows so wide
+abbrev pub IsChangeItem : ℕ → flat.Flat → Type 0
+IsChangeItem n f = (c : Change) × (f ≡ Changed c) × IsChangeOf n c
+
+-- a queue of a relation may hold an item exactly where that is a normalised change of rows so wide,
+-- and a queue of packs of a relation exactly where it is a pack of such changes
+abbrev pub RelationsHoldChanges : Type 0
+RelationsHoldChanges =
+    (n : ℕ) (x : item.Item)
+    → (IsHeld (FlatOf (Relation n)) x ↔ ((c : Change) × (x ≡ Flat (Changed c)) × IsChangeOf n c))
+    × (IsHeld (PackOf (Relation n)) x ↔ ((fs : List flat.Flat) × (x ≡ Pack fs) × All (IsChangeItem n) fs))
+
+-- what a queue holds for items of its type, after others of its type, is what it may hold
+abbrev pub TypedIsHeld : Type 0
+TypedIsHeld = (t : QueueType) (past xs : List item.Item) → All (HasType t) past → All (HasType t) xs → All (IsHeld t) (held t past xs)

@@ -1,3 +1,4 @@
+pub mod Bags
 pub mod ByPlace
 pub mod Dealing
 pub mod Drained

@@ -3,7 +3,8 @@
 ghost use Rattle.brooklet_model.specs.Laws.{FusedRuns, OrderIsFree, HistoriesSolve, OneSolution, RunsAgree, HistoriesAreTyped};
 ghost use Rattle.brooklet_model.specs.NetLaws.{NamedRuns, RunsAreFronts, WordsAreFronts, MovesAreFew, RoundsAreFew, DoneIsWhole};
 ghost use Rattle.brooklet_model.specs.NetLaws.{SomeMove, MovesAreSteps, NetsAreKept};
-ghost use Rattle.brooklet_step.specs.Laws.{FiringsChain, FitStatesStand, FiringsStep, EnabledIsItem, HeldIsTyped};
+ghost use Rattle.brooklet_step.specs.Laws.{FiringsChain, FitStatesStand, FiringsStep, EnabledIsItem};
+ghost use Rattle.brooklet_step.specs.Laws.{PlainQueuesHoldTyped, RelationsHoldChanges, TypedIsHeld};
 ghost use Rattle.brooklet_step.specs.Worked.{SlotsAreGiven};
 
 /// Over any firings, a fused kernel gives what its two parts give.
@@ -63,9 +64,20 @@ pub fn enabled_is_item()
     ensures { EnabledIsItem }
 {}
 
-/// What `item_fits` answers is whether the item has the type.
-pub fn held_is_typed()
-    ensures { HeldIsTyped }
+/// A queue of no relation may hold an item exactly where the item is of the queue's type.
+pub fn plain_queues_hold_typed()
+    ensures { PlainQueuesHoldTyped }
+{}
+
+/// A queue of a relation may hold changes alone: of rows as wide as the relation's, both parts in
+/// ascending order, and no row in both. A queue of packs of a relation may hold packs of such.
+pub fn relations_hold_changes()
+    ensures { RelationsHoldChanges }
+{}
+
+/// What a queue holds for items of its type is what it may hold.
+pub fn typed_is_held()
+    ensures { TypedIsHeld }
 {}
 
 /// Where what each operator received is the front of what was given there, the run that fires operator by operator, each at the ports at

@@ -9,7 +9,6 @@ mod firing;
 mod initial;
 mod joining;
 mod inputs;
-mod joining;
 mod kinds;
 pub mod laws;
 mod leaf;

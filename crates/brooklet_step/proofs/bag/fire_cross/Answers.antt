@@ -1,32 +1,32 @@
-use Rattle.std.proofs.Common.{◌≡◌, [], ◌++◌, sym, ap, ◌∙◌, subst}
+use Rattle.std.proofs.Common.{[], ◌∷◌, sym, subst}
 use Rattle.std.proofs.lemmas.Result.{on_ok_weaker}
-use Rattle.river_base.specs.declared.item.Item as item
-use Rattle.river_base.specs.declared.item.Item.TheVariants.{Flat}
-use Rattle.kern_bags.specs.Needs.{CanCross}
-use Rattle.kern_bags.specs.Steps.{Pairing, put_pair, crosses}
-use Rattle.brooklet_model.specs.Firings.{gives}
-use Rattle.brooklet_step.specs.Took.{Took}
+use Rattle.kern_changes.specs.Kept.{put_change, Crosses, CrossFits}
+use Rattle.river_kernels.specs.Kern.{cross}
 use Rattle.brooklet_step.specs.declared.state.State.TheVariants as state
-use Rattle.brooklet_step.proofs.BagLeaves.{same_pairing}
+use Rattle.brooklet_step.specs.Given.{FiresAt}
+use Rattle.brooklet_step.proofs.BagLeaves.{cross_item, cross_can}
+use Rattle.brooklet_step.proofs.CrossFires.{cross_does}
 use Rattle.brooklet_step.proofs.bag.fire_cross.Goals as goal
 
+pub change_of-requires : goal.change_of-requires
+change_of-requires c = cross_item c.args.port c.args.item c.args.state.now c.args.out.now c.requires
+
 pub step-requires : goal.step-requires
-step-requires c =
-    let h = c.requires.state in
-    subst (λ (p : Pairing). CanCross (put_pair c.args.port (Flat c.flat_of.result) p)) (same_pairing h.now c.in-Cross.state (sym h.is ∙ c.in-Cross.is))
-    (subst (λ x. CanCross (put_pair c.args.port x h.now)) (sym c.flat_of.ensures) h.can)
+step-requires c = cross_can c.args.port c.args.item c.args.state.now c.args.out.now c.requires c.in-Cross.rows c.change_of.result c.in-Cross.is c.change_of.ensures
 
 pub returns : goal.returns
 returns c =
+    let p = c.args.port in
+    let d = c.change_of.result in
+    let old = c.in-Cross.rows in
+    let ds = c.step.new.out in
+    let out = c.args.out.now in
+    let out' = c.give_changes.new.out in
+    let next = state.Cross c.step.new.self in
     let one = c.in_ok-step-in-Cross.ensures in
-    let d = λ (x : item.Item). crosses c.args.port x c.in-Cross.state in
-    let given : c.step.new.out ≡ (d c.args.item).0 = one.given ∙ ap (λ l. l ++ (d (Flat c.flat_of.result)).0) c.take_items-items.ensures ∙ ap (λ (x : item.Item). (d x).0) c.flat_of.ensures in
-    on_ok_weaker c.give_all.result (λ took.
-    record {
-      old = c.in-Cross.state;
-      was = c.in-Cross.is;
-      is = ap state.Cross (one.state ∙ ap (λ (x : item.Item). (d x).1) c.flat_of.ensures);
-      took =
-          subst (λ l. Took c.args.out.now c.give_all.new.self (gives 0 l [])) given took;
-    }
-    ) c.give_all.ensures
+    let contents = subst (λ l. Crosses (put_change p d old) c.step.new.self l ds) c.new-changes.ensures one.contents in
+    let fits = subst (λ l. CrossFits (put_change p d old) c.step.new.self l ds) c.new-changes.ensures one.fits in
+    on_ok_weaker c.give_changes.result (λ took.
+    subst (λ s. FiresAt cross p c.args.item out out' (s ∷ []) (next ∷ [])) (sym c.in-Cross.is)
+    (subst (λ i. FiresAt cross p i out out' (state.Cross old ∷ []) (next ∷ [])) c.change_of.ensures (cross_does p d ds old c.step.new.self out out' contents fits took))
+    ) c.give_changes.ensures

@@ -1,27 +1,23 @@
-use Rattle.std.proofs.Common.{◌≡◌, [], ◌++◌, sym, ap, ◌∙◌, subst}
+use Rattle.std.proofs.Common.{[], ◌∷◌, subst}
 use Rattle.std.proofs.lemmas.Result.{on_ok_weaker}
 use Rattle.work_code.specs.Term.{terms}
-use Rattle.river_base.specs.declared.item.Item.TheVariants.{Flat}
-use Rattle.kern_bags.specs.Needs.{flat_rows, CanProject}
-use Rattle.kern_bags.specs.Steps.{project_one}
-use Rattle.brooklet_model.specs.Firings.{gives}
-use Rattle.brooklet_step.specs.Took.{Took}
-use Rattle.brooklet_step.proofs.BagLeaves.{same_flat}
+use Rattle.river_kernels.specs.Kern.{project}
+use Rattle.brooklet_step.specs.Given.{FiresAt}
+use Rattle.brooklet_step.proofs.BagLeaves.{project_item, project_can}
+use Rattle.brooklet_step.proofs.RowwiseFires.{project_does}
 use Rattle.brooklet_step.proofs.bag.fire_project.Goals as goal
 
-pub flat_of-requires : goal.flat_of-requires
-flat_of-requires c = record { content = c.requires.item.content; is = c.requires.item.is; holds = tt }
+pub change_of-requires : goal.change_of-requires
+change_of-requires c = project_item (terms c.args.list.now) c.args.item [] c.args.out.now c.requires
 
 pub project-requires : goal.project-requires
-project-requires c =
-    let h = c.requires.item in
-    subst (λ f. CanProject (terms c.args.list.now) (flat_rows f)) (same_flat h.content c.flat_of.result (sym h.is ∙ sym c.flat_of.ensures)) h.holds
+project-requires c = project_can (terms c.args.list.now) c.args.item [] c.args.out.now c.requires c.change_of.result c.change_of.ensures
 
 pub returns : goal.returns
 returns c =
     let es = terms c.args.list.now in
-    let given : c.project.new.out ≡ project_one es c.args.item =
-    c.in_ok-project.ensures.ok ∙ ap (λ l. l ++ project_one es (Flat c.flat_of.result)) c.take_items-items.ensures ∙ ap (project_one es) c.flat_of.ensures in
-    on_ok_weaker c.give_all.result (λ took.
-    subst (λ l. Took c.args.out.now c.give_all.new.self (gives 0 l [])) given took
-    ) c.give_all.ensures
+    let one = c.in_ok-change in
+    on_ok_weaker c.give_change.result (λ took.
+    subst (λ i. FiresAt (project es) 0 i c.args.out.now c.give_change.new.out [] []) c.change_of.ensures
+    (project_does es c.change_of.result one.change c.args.out.now c.give_change.new.out one.ensures.contents one.ensures.fits took)
+    ) c.give_change.ensures

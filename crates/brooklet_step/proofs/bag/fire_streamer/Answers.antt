@@ -1,39 +1,24 @@
-use Rattle.std.proofs.Common.{[], refl, sym, ◌∙◌, subst}
+use Rattle.std.proofs.Common.{[], ◌∷◌, sym, subst}
 use Rattle.std.proofs.lemmas.Result.{on_ok_weaker}
-use Rattle.river_base.specs.Held.{IsAscending}
-use Rattle.river_base.specs.declared.item.Item.TheVariants.{Flat}
-use Rattle.kern_bags.specs.Kept.{StandsForStreamer, Steps}
-use Rattle.kern_bags.specs.Needs.{flat_rows}
-use Rattle.kern_bags.specs.Steps.{streamer_one}
-use Rattle.brooklet_step.proofs.BagLeaves.{same_flat, same_rows}
+use Rattle.river_kernels.specs.Kern.{streamer}
+use Rattle.brooklet_step.specs.declared.state.State.TheVariants as state
+use Rattle.brooklet_step.specs.Given.{FiresAt}
+use Rattle.brooklet_step.proofs.BagLeaves.{streamer_item}
+use Rattle.brooklet_step.proofs.StreamFires.{streamer_does}
 use Rattle.brooklet_step.proofs.bag.fire_streamer.Goals as goal
 
-pub flat_of-requires : goal.flat_of-requires
-flat_of-requires c = record { content = c.requires.item.content; is = c.requires.item.is; holds = tt }
+pub change_of-requires : goal.change_of-requires
+change_of-requires c = streamer_item c.args.streamer.now c.args.item (c.args.state.now ∷ []) c.args.out.now c.requires
 
-pub step-requires-clause-kept : goal.step-requires-clause-kept
-step-requires-clause-kept c = let h = c.requires.state in subst IsAscending (same_rows h.now c.in-Streamer.state (sym h.is ∙ c.in-Streamer.is)) h.ascends
-
-pub step-requires-clause-rows : goal.step-requires-clause-rows
-step-requires-clause-rows c =
-    let h = c.requires.item in subst (λ f. IsAscending (flat_rows f)) (same_flat h.content c.flat_of.result (sym h.is ∙ sym c.flat_of.ensures)) h.holds
-
-pub returns-clause-steps : goal.returns-clause-steps
-returns-clause-steps c =
+pub returns : goal.returns
+returns c =
     let s = c.args.streamer.now in
-    on_ok_weaker c.give_all.result (λ took.
-    record {
-      old = c.in-Streamer.state;
-      new = c.step.new.state;
-      given = c.step.new.out;
-      was = c.in-Streamer.is;
-      is = refl;
-      steps = subst (λ x. Steps (StandsForStreamer s) (streamer_one s) x c.in-Streamer.state c.step.new.state [] c.step.new.out) c.flat_of.ensures
-          (subst (λ l. Steps (StandsForStreamer s) (streamer_one s) (Flat c.flat_of.result) c.in-Streamer.state c.step.new.state l c.step.new.out) c.take_items-items.ensures c.in_ok-step-in-Streamer.ensures.ok);
-      took = took;
-    }
-    ) c.give_all.ensures
-
-pub returns-clause-kept : goal.returns-clause-kept
-returns-clause-kept c =
-    on_ok_weaker c.give_all.result (λ took. record { now = c.step.new.state; is = refl; ascends = c.in_ok-step-in-Streamer.ensures.kept }) c.give_all.ensures
+    let out = c.args.out.now in
+    let out' = c.give_batch.new.out in
+    let next = state.Streamer c.stream.new.content in
+    let one = c.in_ok-batch-in-Streamer in
+    on_ok_weaker c.give_batch.result (λ took.
+    subst (λ st. FiresAt (streamer s) 0 c.args.item out out' (st ∷ []) (next ∷ [])) (sym c.in-Streamer.is)
+    (subst (λ i. FiresAt (streamer s) 0 i out out' (state.Streamer c.in-Streamer.content ∷ []) (next ∷ [])) c.change_of.ensures
+    (streamer_does s c.change_of.result one.batch c.in-Streamer.content c.stream.new.content out out' one.ensures.contents one.ensures.fits took))
+    ) c.give_batch.ensures

@@ -1,30 +1,26 @@
-use Rattle.std.proofs.Common.{[], refl, sym, ◌∙◌, subst}
+use Rattle.std.proofs.Common.{[], ◌∷◌, sym, subst}
 use Rattle.std.proofs.lemmas.Result.{on_ok_weaker}
 use Rattle.river_base.specs.declared.item.Item.TheVariants.{Flat}
 use Rattle.river_base.specs.declared.item.Flat.TheVariants.{Batch as Batched}
-use Rattle.kern_bags.specs.Kept.{IsWindowKept, StandsForWindow, Steps}
-use Rattle.kern_bags.specs.Steps.{window_one}
-use Rattle.brooklet_step.proofs.BagLeaves.{same_window}
+use Rattle.river_kernels.specs.Kern.{window}
+use Rattle.brooklet_step.specs.declared.state.State.TheVariants as state
+use Rattle.brooklet_step.specs.Given.{FiresAt}
+use Rattle.brooklet_step.proofs.BagLeaves.{window_item}
+use Rattle.brooklet_step.proofs.WindowFires.{window_does}
 use Rattle.brooklet_step.proofs.bag.fire_window.Goals as goal
 
-pub step-requires : goal.step-requires
-step-requires c =
-    let h = c.requires.state in
-    subst (IsWindowKept c.args.window.now) (same_window h.now c.in-Window.state (sym h.is ∙ c.in-Window.is)) h.kept
+pub batch_of-requires : goal.batch_of-requires
+batch_of-requires c = window_item c.args.window.now c.args.item c.args.state.now c.args.out.now c.requires
 
 pub returns : goal.returns
 returns c =
-    let w = c.args.window.now in
-    let one = c.in_ok-step-in-Window.ensures.ok in
-    on_ok_weaker c.give_all.result (λ took.
-    record {
-      old = c.in-Window.state;
-      new = c.step.new.state;
-      given = c.step.new.out;
-      was = c.in-Window.is;
-      is = refl;
-      steps = subst (λ x. Steps (StandsForWindow w) (window_one w) x c.in-Window.state c.step.new.state [] c.step.new.out) c.batch_of.ensures
-          (subst (λ l. Steps (StandsForWindow w) (window_one w) (Flat (Batched c.batch_of.result)) c.in-Window.state c.step.new.state l c.step.new.out) c.take_items-items.ensures one);
-      took = took;
-    }
-    ) c.give_all.ensures
+    let v = c.args.window.now in
+    let out = c.args.out.now in
+    let out' = c.give_change.new.out in
+    let next = state.Window c.step.new.self in
+    let one = c.in_ok-change-in-Window in
+    on_ok_weaker c.give_change.result (λ took.
+    subst (λ s. FiresAt (window v) 0 c.args.item out out' (s ∷ []) (next ∷ [])) (sym c.in-Window.is)
+    (subst (λ i. FiresAt (window v) 0 i out out' (state.Window c.in-Window.rows ∷ []) (next ∷ [])) c.batch_of.ensures
+    (window_does v c.batch_of.result one.change c.in-Window.rows c.step.new.self out out' one.ensures.contents one.ensures.fits took))
+    ) c.give_change.ensures

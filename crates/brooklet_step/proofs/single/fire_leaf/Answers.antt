@@ -1,8 +1,9 @@
-use Rattle.std.proofs.Common.{refl, ap, ◌∙◌, get_or}
+use Rattle.std.proofs.Common.{refl, ap, ◌∙◌, get_or, subst}
 use Rattle.kern_rows.specs.Forms.{code_form, filter_form}
 use Rattle.river_kernels.specs.Kern.{kern_of, code, filter, duplicate, deal, collect, unpack, window, select, project, cross, streamer, tally}
 use Rattle.work_code.specs.Term.{term, terms}
-use Rattle.brooklet_step.proofs.Fires.{kern_of-filter, kern_of-duplicate, on_ok, on_both, filter_whole}
+use Rattle.brooklet_step.specs.Took.{HasRoom}
+use Rattle.brooklet_step.proofs.Fires.{kern_of-filter, kern_of-duplicate, on_ok, on_both}
 use Rattle.brooklet_step.proofs.Ones.{zero_can, zero_fires, first_can, first_fires, free_can, free_fires, ports_can, ports_fires}
 use Rattle.brooklet_step.proofs.RowFires.{code_applies, code_does, filter_applies, filter_does, tally_applies, tally_does, duplicate_does}
 use Rattle.brooklet_step.proofs.Starts.{kern_of-code, kern_of-deal, kern_of-collect, kern_of-unpack, kern_of-window, kern_of-select, kern_of-project, kern_of-cross, kern_of-streamer}
@@ -87,3 +88,55 @@ returns-in-Streamer c =
     (λ f. first_fires (kern_of c.args.kernel.now) (streamer c.in-Streamer.streamer) c.args.port c.args.item c.args.states.now c.index-states-0-in-Streamer.result (get_or c.args.states.now 0 c.index-states-0-in-Streamer.result) c.fire_streamer.new.state c.args.out.now c.fire_streamer.new.out (ap kern_of c.in-Streamer.is ∙ kern_of-streamer c.in-Streamer.streamer) refl refl refl c.requires.can f)
     c.fire_streamer.ensures
 
+pub fire_code-requires : goal.fire_code-requires
+fire_code-requires c =
+    let f = code_form c.in-Code.code in
+    code_applies f 0 c.args.item c.args.states.now c.args.out.now
+    (zero_can (kern_of c.args.kernel.now) (code f) c.args.port c.args.item c.args.states.now c.args.out.now (ap kern_of c.in-Code.is ∙ kern_of-code c.in-Code.code) refl c.requires.can)
+
+pub returns-in-Code : goal.returns-in-Code
+returns-in-Code c =
+    let f = code_form c.in-Code.code in
+    on_ok _ _ c.fire_code.result
+    (λ h. zero_fires (kern_of c.args.kernel.now) (code f) c.args.port c.args.item c.args.states.now c.fire_code.new.states c.args.out.now c.fire_code.new.out (ap kern_of c.in-Code.is ∙ kern_of-code c.in-Code.code) refl c.requires.can
+    (code_does f 0 c.args.item c.args.out.now c.fire_code.new.out c.args.states.now c.fire_code.new.states h))
+    c.fire_code.ensures
+
+pub fire_filter-requires : goal.fire_filter-requires
+fire_filter-requires c =
+    let f = filter_form c.in-Filter.filter in
+    filter_applies f 0 c.args.item _ c.args.out.now
+    (first_can (kern_of c.args.kernel.now) (filter f) c.args.port c.args.item c.args.states.now c.index-states-0.result (get_or c.args.states.now 0 c.index-states-0.result) c.args.out.now (ap kern_of c.in-Filter.is ∙ kern_of-filter c.in-Filter.filter) refl refl refl c.requires.can)
+
+pub returns-in-Filter : goal.returns-in-Filter
+returns-in-Filter c =
+    let f = filter_form c.in-Filter.filter in
+    let s = get_or c.args.states.now 0 c.index-states-0.result in
+    on_ok _ _ c.fire_filter.result
+    (λ h. first_fires (kern_of c.args.kernel.now) (filter f) c.args.port c.args.item c.args.states.now c.index-states-0.result s c.fire_filter.new.state c.args.out.now c.fire_filter.new.out (ap kern_of c.in-Filter.is ∙ kern_of-filter c.in-Filter.filter) refl refl refl c.requires.can
+    (filter_does f 0 c.args.item c.args.out.now c.fire_filter.new.out _ _ h))
+    c.fire_filter.ensures
+
+pub returns-in-Duplicate : goal.returns-in-Duplicate
+returns-in-Duplicate c =
+    let n = c.in-Duplicate.field-0 in
+    let e = ap kern_of c.in-Duplicate.is ∙ kern_of-duplicate n in
+    on_both _ _ _ c.give_everywhere.result
+    (λ o a. zero_fires (kern_of c.args.kernel.now) (duplicate n) c.args.port c.args.item c.args.states.now c.args.states.now c.args.out.now c.give_everywhere.new.self e refl c.requires.can
+    (duplicate_does n c.args.item c.args.states.now c.args.out.now c.give_everywhere.new.self (subst (λ k. HasRoom k c.args.out.now) e c.requires.can.room) o a))
+    c.give_everywhere.ensures.outs c.give_everywhere.ensures.adds
+
+pub fire_tally-requires-clause-row : goal.fire_tally-requires-clause-row
+fire_tally-requires-clause-row c =
+    tally_row tally 0 c.args.item c.args.states.now refl
+    (tally_applies 0 c.args.item c.args.states.now c.args.out.now (zero_can (kern_of c.args.kernel.now) tally c.args.port c.args.item c.args.states.now c.args.out.now (ap kern_of c.in-Tally.is ∙ kern_of-tally) refl c.requires.can)).takes
+
+pub fire_tally-requires-clause-room : goal.fire_tally-requires-clause-room
+fire_tally-requires-clause-room c = tally_room (kern_of c.args.kernel.now) c.args.out.now (ap kern_of c.in-Tally.is ∙ kern_of-tally) c.requires.can.room
+
+pub returns-in-Tally : goal.returns-in-Tally
+returns-in-Tally c =
+    on_both _ _ _ c.fire_tally.result
+    (λ o a. zero_fires (kern_of c.args.kernel.now) tally c.args.port c.args.item c.args.states.now c.args.states.now c.args.out.now c.fire_tally.new.out (ap kern_of c.in-Tally.is ∙ kern_of-tally) refl c.requires.can
+    (tally_does 0 c.args.item c.args.out.now c.fire_tally.new.out c.args.states.now c.args.states.now (tally_fires tally 0 c.args.item c.args.states.now c.args.out.now c.fire_tally.new.out refl o a)))
+    c.fire_tally.ensures.outs c.fire_tally.ensures.adds
