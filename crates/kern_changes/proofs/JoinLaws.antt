@@ -19,7 +19,7 @@ use Rattle.river_base.specs.Places.{list_at}
 use Rattle.river_base.proofs.HeldLemmas.{content-append}
 use Rattle.kern_rows.specs.Needs.{HaveShares, IsJoiner}
 use Rattle.kern_rows.specs.Passing.{Passes, IsStuck, SoFar, passed_by, port_after, had_after}
-use Rattle.kern_rows.specs.Turns.{Turns, front_at, rest_at, rest_in, waiting, settled, itself}
+use Rattle.kern_rows.specs.Turns.{Turns, front_at, rest_at, rest_in, put, waiting, settled, itself}
 use Rattle.kern_rows.proofs.Passed.{front_is, front_none, length-rest_at, joined_put, so_far_start, so_far_step, so_far_less, so_far_end}
 use Rattle.kern_changes.specs.declared.owed.Debt.{Debt}
 use Rattle.kern_changes.specs.Owed.{AreOwed, but_at, JoinsOwed, KeepsOwed}
@@ -568,3 +568,7 @@ keeps_end ws start s s' out out' f gone same = subst (λ k. KeepsJoin ws start k
 -- a joiner that an item comes to keeps its shape
 pub put_shape : (ws : List ℕ) (p : ℕ) (x : item.Item) (s : JoinKept) → HasJoinShape ws s → HasJoinShape ws (put_item p x s)
 put_shape ws p x s j = record { joined = joined_put ws p x s.turns j.joined; owed = j.owed }
+
+-- what is kept once an item came
+pub put_kept : (p : ℕ) (x : item.Item) (old new : Turns) (owed : List Debt) (s : JoinKept) → new ≡ put p x old → join_kept old owed ≡ s → join_kept new owed ≡ put_item p x s
+put_kept p x old new owed s e v = ap (λ t. join_kept t owed) e ∙ ap (put_item p x) v

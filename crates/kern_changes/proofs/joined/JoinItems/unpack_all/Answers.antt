@@ -7,15 +7,20 @@ use Rattle.kern_changes.proofs.joined.JoinItems.unpack_all.Goals as goal
 
 pub loop-port-init : goal.loop-port-init
 loop-port-init c =
-    subst (λ (s : JoinKept). JoinedSoFar (ones c.args.ports) s s c.args.out.now c.args.out.now) (sym c.self.view_is) (joined_start (ones c.args.ports) c.args.self.now c.args.out.now c.requires.shape)
+    let ws = ones c.args.ports in
+    let out = c.args.out.now in
+    subst (λ (s : JoinKept). JoinedSoFar ws s s out out) (sym c.self.view_is) (joined_start ws c.args.self.now out c.requires.shape)
 
 pub loop-port-preserved : goal.loop-port-preserved
 loop-port-preserved c =
-    let turns = c.loop-port.self-inside.joined in
-    let owed = c.loop-port.self-inside.owed in
-    joined_step (ones c.args.ports) (join_kept c.self.inside.joined c.self.inside.owed) (join_kept turns owed) (join_kept c.take_one.new.joined c.join_item.new.owed) c.in-Some.item
-    c.args.out.now c.loop-port.out c.join_item.new.out (ones_shares c.args.ports c.requires.some) c.in-Some.ensures.passes
-    (subst (λ p. JoinsItem p c.in-Some.item owed c.join_item.new.owed c.loop-port.out c.join_item.new.out) c.in-Some.ensures.port c.in_ok-join_item.ensures) c.loop-port.invariant
+    let old = c.loop-port.self-inside in
+    let out = c.loop-port.out in
+    let owed = c.join_item.new.owed in
+    let out' = c.join_item.new.out in
+    let x = c.in-Some.item in
+    joined_step (ones c.args.ports) (join_kept c.self.inside.joined c.self.inside.owed) (join_kept old.joined old.owed) (join_kept c.take_one.new.joined owed) x
+    c.args.out.now out out' (ones_shares c.args.ports c.requires.some) c.in-Some.ensures.passes
+    (subst (λ p. JoinsItem p x old.owed owed out out') c.in-Some.ensures.port c.in_ok-join_item.ensures) c.loop-port.invariant
 
 pub loop-port-smaller : goal.loop-port-smaller
 loop-port-smaller c =
@@ -23,21 +28,30 @@ loop-port-smaller c =
 
 pub returns-clause-contents : goal.returns-clause-contents
 returns-clause-contents c =
+    let ws = ones c.args.ports in
+    let start = join_kept c.self.inside.joined c.self.inside.owed in
+    let old = join_kept c.loop-port.self-inside.joined c.loop-port.self-inside.owed in
     let last = join_kept c.take_one.new.joined c.loop-port.self-inside.owed in
-    subst (λ (s : JoinKept). JoinsItems (ones c.args.ports) s last c.args.out.now c.loop-port.out) c.self.view_is
-    (joined_end (ones c.args.ports) (join_kept c.self.inside.joined c.self.inside.owed) (join_kept c.loop-port.self-inside.joined c.loop-port.self-inside.owed) last c.args.out.now
-    c.loop-port.out c.loop-port.invariant c.in_default.ensures refl)
+    let out = c.args.out.now in
+    let out' = c.loop-port.out in
+    subst (λ (s : JoinKept). JoinsItems ws s last out out') c.self.view_is (joined_end ws start old last out out' c.loop-port.invariant c.in_default.ensures refl)
 
 pub returns-clause-plain : goal.returns-clause-plain
 returns-clause-plain c =
+    let ws = ones c.args.ports in
+    let start = join_kept c.self.inside.joined c.self.inside.owed in
+    let old = join_kept c.loop-port.self-inside.joined c.loop-port.self-inside.owed in
     let last = join_kept c.take_one.new.joined c.loop-port.self-inside.owed in
-    subst (λ (s : JoinKept). JoinsPlainly (ones c.args.ports) s last c.args.out.now c.loop-port.out) c.self.view_is
-    (plain_end (ones c.args.ports) (join_kept c.self.inside.joined c.self.inside.owed) (join_kept c.loop-port.self-inside.joined c.loop-port.self-inside.owed) last c.args.out.now
-    c.loop-port.out c.loop-port.invariant c.in_default.ensures refl)
+    let out = c.args.out.now in
+    let out' = c.loop-port.out in
+    subst (λ (s : JoinKept). JoinsPlainly ws s last out out') c.self.view_is (plain_end ws start old last out out' c.loop-port.invariant c.in_default.ensures refl)
 
 pub returns-clause-keeps : goal.returns-clause-keeps
 returns-clause-keeps c =
+    let ws = ones c.args.ports in
+    let start = join_kept c.self.inside.joined c.self.inside.owed in
+    let old = join_kept c.loop-port.self-inside.joined c.loop-port.self-inside.owed in
     let last = join_kept c.take_one.new.joined c.loop-port.self-inside.owed in
-    subst (λ (s : JoinKept). KeepsJoin (ones c.args.ports) s last c.args.out.now c.loop-port.out) c.self.view_is
-    (keeps_end (ones c.args.ports) (join_kept c.self.inside.joined c.self.inside.owed) (join_kept c.loop-port.self-inside.joined c.loop-port.self-inside.owed) last c.args.out.now
-    c.loop-port.out c.loop-port.invariant c.in_default.ensures refl)
+    let out = c.args.out.now in
+    let out' = c.loop-port.out in
+    subst (λ (s : JoinKept). KeepsJoin ws s last out out') c.self.view_is (keeps_end ws start old last out out' c.loop-port.invariant c.in_default.ensures refl)
