@@ -1,5 +1,5 @@
 -- What a finished net gave.
-use Rattle.std.specs.Prelude.{◌≡◌, ℕ, ◌*◌, ◌<◌, ◌≤◌, List, length, Some, slice_get}
+use Rattle.std.specs.Prelude.{◌≡◌, ℕ, ◌*◌, ◌<◌, ◌≤◌, List, [], length, Some, slice_get}
 use Rattle.river_base.specs.Bags.{SameBag}
 use Rattle.river_base.specs.Held.{held}
 use Rattle.river_base.specs.Places.{list_at}
