@@ -7,6 +7,7 @@ use Rattle.std.proofs.lemmas.Int.{ints}
 use Rattle.std.proofs.lemmas.List.{take-append-drop, append-nil}
 use Rattle.std.proofs.lemmas.List.Elements.{filter-append}
 use Rattle.kern_bags.specs.Kept.{Stamped, stamped, AreInTurn, inserted, since}
+use Rattle.kern_changes.proofs.Merged.{all_as}
 
 -- TESTS ON INSTANTS
 
@@ -38,11 +39,6 @@ module _ {K : Type 0} where
   pub filter_none : (p : K → Bool) (xs : List K) → AllByRecursion (λ x. p x ≡ false) xs → filter p xs ≡ []
   filter_none p [] h = refl
   filter_none p (x ∷ xs) h = ap (λ b. cond b (x ∷ filter p xs) (filter p xs)) h.0 ∙ filter_none p xs h.1
-
-  -- what holds of all, with a weaker condition
-  pub all_as : (P Q : K → Type 0) (xs : List K) → ((x : K) → P x → Q x) → AllByRecursion P xs → AllByRecursion Q xs
-  all_as P Q [] f h = tt
-  all_as P Q (x ∷ xs) f h = (f x h.0, all_as P Q xs f h.1)
 
   -- what holds of the elements of two lists
   pub all_join : (P : K → Type 0) (xs ys : List K) → AllByRecursion P xs → AllByRecursion P ys → AllByRecursion P (xs ++ ys)

@@ -9,8 +9,9 @@ use Rattle.std.proofs.lemmas.List.Sums.{sum_by-cons}
 use Rattle.river_base.specs.declared.item.Batch.{Batch}
 use Rattle.kern_bags.specs.Contents.{later, greatest, put_batch, by_instant}
 use Rattle.kern_bags.specs.Kept.{Stamped, stamped, in_turn, AreInTurn, inserted, now_of, now_after}
-use Rattle.kern_bags.proofs.InTurn.{le_true, le_false, lt_true, lt_false, filter_all, filter_none, all_as, all_join}
+use Rattle.kern_bags.proofs.InTurn.{le_true, le_false, lt_true, lt_false, filter_all, filter_none, all_join}
 use Rattle.kern_bags.proofs.Windowed.{bounded}
+use Rattle.kern_changes.proofs.Merged.{all_as}
 
 -- the rows of a batch with its instant
 abbrev pub rows_with : Batch → List Stamped

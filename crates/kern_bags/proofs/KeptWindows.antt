@@ -22,9 +22,10 @@ use Rattle.kern_bags.specs.Kept.{Steps}
 use Rattle.kern_bags.specs.Steps.{window_one}
 use Rattle.kern_bags.specs.declared.kernel.Window.{Window}
 use Rattle.kern_bags.specs.declared.kernel.Window.TheVariants.{Now, Range, Unbounded, Latest}
-use Rattle.kern_bags.proofs.InTurn.{le_true, le_false, lt_true, filter_all, filter_none, all_as, all_join, all_filter, all_from}
+use Rattle.kern_bags.proofs.InTurn.{le_true, le_false, lt_true, filter_all, filter_none, all_join, all_filter, all_from}
 use Rattle.kern_bags.proofs.KeptRows.{rows_with, rows_of_all, are_in_turn, none_later, in_turn_more, now_more, greatest_more, sum_all, all_stamped}
 use Rattle.kern_bags.proofs.Windowed.{copies-where, later_from, later_to}
+use Rattle.kern_changes.proofs.Merged.{all_as}
 
 -- THE LAST OF A LIST
 

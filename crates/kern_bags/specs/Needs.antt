@@ -1,11 +1,10 @@
 -- What steps of the kernels on bags need: what well-formed kernels and items of their types have.
-use Rattle.std.specs.Prelude.{◌≡◌, ℕ, ℤ, ◌+◌, ◌≤◌, None, List, [], ◌∷◌, length, All, if◌then◌else◌}
+use Rattle.std.specs.Prelude.{◌≡◌, ℕ, ℤ, ◌+◌, ◌≤◌, None, List, [], ◌∷◌, length, All}
 use Rattle.std.specs.List.{AllByRecursion}
 use Rattle.river_base.specs.declared.item.Item as item
 use Rattle.river_base.specs.declared.item.Flat as flat
 use Rattle.river_base.specs.declared.item.Flat.TheVariants.{One, Batch as Batched, Change as Changed}
 use Rattle.river_base.specs.Held.{HaveWidth}
-use Rattle.river_base.specs.Row.{row_lt}
 use Rattle.work_code.specs.Term.{Term}
 use Rattle.work_code.specs.Value.{IsWithin}
 use Rattle.kern_bags.specs.Steps.{Pairing, rows_of, front_of_pair}
@@ -47,8 +46,3 @@ pub record TakesPair (old new : Pairing) (x y : item.Item) : Type 0 where
 pub record HasNoPair (old new : Pairing) : Type 0 where
   pub front : front_of_pair old ≡ None
   pub same : new ≡ old
-
--- rows from the first one on that is not below a row
-abbrev pub rows_from : List ℤ → List (List ℤ) → List (List ℤ)
-rows_from row [] = []
-rows_from row (x ∷ xs) = if row_lt x row then rows_from row xs else x ∷ xs

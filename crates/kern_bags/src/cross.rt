@@ -1,48 +1,120 @@
-// What products keep, and their steps.
-ghost use Rattle.std.specs.Prelude.{◌≡◌, ◌++◌, IfOk, OnOk, OnErr, MatchOption};
-ghost use Rattle.river_base.specs.Grew.{GrewByPrefix};
-ghost use Rattle.river_base.specs.declared.item.Item.TheVariants.{Flat as flat_item};
-ghost use Rattle.kern_bags.specs.Needs.{CanCross, TakesPair, HasNoPair};
-ghost use Rattle.kern_bags.specs.Steps.{pairing_start, put_pair, crosses, crossed};
+// A product of two relations that come as changes.
+ghost use Rattle.std.specs.Prelude.{◌≡◌, ◌++◌, OnOk, MatchOption};
+ghost use Rattle.kern_bags.specs.Needs.{CanJoin};
+ghost use Rattle.river_base.specs.Changes.{all_pairs};
+ghost use Rattle.kern_changes.specs.Kept.{cross_start, put_change, Crosses, CrossFits};
+ghost use Rattle.kern_changes.specs.Needs.{CanCrossChanges, CanMake, TakesChanges, HasNoChanges, JoinsChanges};
 
-use crate::Cross;
-use crate::product::join_pair;
-use kern_rows::Line;
-use river_base::{Flat, Item, Items, NoMemory};
+use crate::line::Line;
+use crate::settling::settle;
+use crate::{Change, Changes, Content};
+use kern_bags::join_each;
+use river_base::{NoMemory, Row, Rows};
 use std::alloc::Global;
 use std::marker::Model;
 
-/// What a product keeps between items: what waits at each of its ports.
+/// What a product keeps: the changes that wait at each of its ports, and the contents that passed
+/// last, each as a bag.
 #[derive(Drop)]
-pub struct CrossState {
+pub struct CrossRows {
     left: Line,
     right: Line,
+    lefts: Content,
+    rights: Content,
 }
 
-impl Model for CrossState {
-    ghost use Rattle.kern_bags.specs.Steps.{Pairing};
+impl Model for CrossRows {
+    ghost use Rattle.kern_changes.specs.Kept.{CrossKept};
 
-    ghost Value = { Pairing };
+    ghost Value = { CrossKept };
 
-    ghost view = { λ s. record { left = s.left; right = s.right } };
+    ghost view = { λ s. record { left = s.left; right = s.right; lefts = s.lefts; rights = s.rights } };
 }
 
-impl CrossState {
-    // An item comes to a port, the first or the second.
-    fn put(&mut self, port: u32, item: Item) -> Result<(), NoMemory>
-        ensures { OnOk result (self.new ≡ put_pair port item self.old) }
+// All pairs, joined.
+fn join_all(lefts: &[Row], rights: &[Row], all: &mut Rows) -> Result<(), NoMemory>
+    requires { CanJoin lefts.now rights.now }
+    ensures { OnOk result (all.new ≡ all.old ++ all_pairs lefts.now rights.now) }
+{
+    for left in lefts {
+        join_each(left, rights, all)?;
+    }
+    Ok(())
+}
+
+// What comes and goes at the left meets all that is at the right.
+fn meet_right(
+    alloc: Global,
+    change: &Change,
+    rights: &Content,
+    plus: &mut Rows,
+    minus: &mut Rows,
+) -> Result<(), NoMemory>
+    requires plus { CanJoin change.now.plus rights.now }
+    requires minus { CanJoin change.now.minus rights.now }
+    ensures plus { OnOk result (plus.new ≡ plus.old ++ all_pairs change.now.plus rights.now) }
+    ensures minus { OnOk result (minus.new ≡ minus.old ++ all_pairs change.now.minus rights.now) }
+{
+    if change.is_nothing() {
+        return Ok(());
+    }
+    let others = rights.rows(alloc)?;
+    join_all(change.plus.as_slice(), others.as_slice(), plus)?;
+    join_all(change.minus.as_slice(), others.as_slice(), minus)?;
+    Ok(())
+}
+
+// What comes and goes at the right meets all that is at the left.
+#[tactic(auto, using(crate::proofs::Stepping::nothing_meets))]
+fn meet_left(
+    alloc: Global,
+    change: &Change,
+    lefts: &Content,
+    plus: &mut Rows,
+    minus: &mut Rows,
+) -> Result<(), NoMemory>
+    requires plus { CanJoin lefts.now change.now.plus }
+    requires minus { CanJoin lefts.now change.now.minus }
+    ensures plus { OnOk result (plus.new ≡ plus.old ++ all_pairs lefts.now change.now.plus) }
+    ensures minus { OnOk result (minus.new ≡ minus.old ++ all_pairs lefts.now change.now.minus) }
+{
+    if change.is_nothing() {
+        return Ok(());
+    }
+    let others = lefts.rows(alloc)?;
+    join_all(others.as_slice(), change.plus.as_slice(), plus)?;
+    join_all(others.as_slice(), change.minus.as_slice(), minus)?;
+    Ok(())
+}
+
+impl CrossRows {
+    /// Nothing waits, and nothing has passed.
+    pub fn start(alloc: Global) -> CrossRows
+        ensures { result ≡ cross_start }
+    {
+        CrossRows {
+            left: Line::new(alloc),
+            right: Line::new(alloc),
+            lefts: Content::new(alloc),
+            rights: Content::new(alloc),
+        }
+    }
+
+    // A change comes to a port, the first or the second.
+    fn put(&mut self, port: u32, change: Change) -> Result<(), NoMemory>
+        ensures { OnOk result (self.new ≡ put_change port change self.old) }
     {
         if port == 0 {
-            self.left.push(item)?;
+            self.left.push(change)?;
         } else {
-            self.right.push(item)?;
+            self.right.push(change)?;
         }
         Ok(())
     }
 
-    // The first items of both ports leave, where both have one.
-    fn take_pair(&mut self) -> Option<(Item, Item)>
-        ensures { MatchOption result (HasNoPair self.old self.new) (λ pair. TakesPair self.old self.new pair.0 pair.1) }
+    // The first changes of both ports leave, where both have one.
+    fn take_pair(&mut self) -> Option<(Change, Change)>
+        ensures { MatchOption result (HasNoChanges self.old self.new) (λ pair. TakesChanges self.old self.new pair.0 pair.1) }
     {
         if self.left.is_empty() || self.right.is_empty() {
             return None;
@@ -52,49 +124,59 @@ impl CrossState {
             _ => None,
         }
     }
-}
 
-// Joins pairs as long as both ports have an item.
-fn pass_pairs(alloc: Global, state: &mut CrossState, out: &mut Items) -> Result<(), NoMemory>
-    requires { CanCross state.old }
-    ensures given { OnOk result (out.new ≡ out.old ++ (crossed state.old).0) }
-    ensures state { OnOk result (state.new ≡ (crossed state.old).1) }
-    ensures err { OnErr result (GrewByPrefix out.old (crossed state.old).0 out.new) }
-{
-    while let Some((left, right)) = state.take_pair() {
-        join_pair(alloc, &left, &right, out)?;
-    }
-    Ok(())
-}
-
-impl Cross {
-    /// The state before the first item: nothing waits.
-    pub fn start(alloc: Global) -> Result<CrossState, NoMemory>
-        ensures { IfOk result (λ state. state ≡ pairing_start) }
-    {
-        Ok(CrossState {
-            left: Line::new(alloc),
-            right: Line::new(alloc),
-        })
-    }
-
-    /// A content comes to a port, the first or the second: it waits there, and as long as both ports have one, the rows of the two
-    /// in front are joined in all pairs and given in ascending order, at the instant of the first port's. Where there is no memory,
-    /// a part of what passes was given, and nothing is said of the state.
-    pub fn step(
+    // Two changes are made, and the change of the product is given.
+    fn join(
+        &mut self,
         alloc: Global,
-        state: &mut CrossState,
-        port: u32,
-        item: Flat,
-        out: &mut Items,
+        left: &Change,
+        right: &Change,
+        out: &mut Changes,
     ) -> Result<(), NoMemory>
-        requires { CanCross (put_pair port (flat_item item) state.old) }
-        ensures given { OnOk result (out.new ≡ out.old ++ (crosses port (flat_item item) state.old).0) }
-        ensures state { OnOk result (state.new ≡ (crosses port (flat_item item) state.old).1) }
-        ensures err { OnErr result (GrewByPrefix out.old (crosses port (flat_item item) state.old).0 out.new) }
+        requires { CanMake left.now right.now self.old }
+        ensures { OnOk result (JoinsChanges left.now right.now self.old self.new out.old out.new) }
     {
-        state.put(port, Item::Flat(item))?;
-        pass_pairs(alloc, state, out)?;
+        let mut plus = Rows::new(alloc);
+        let mut minus = Rows::new(alloc);
+        meet_right(alloc, left, &self.rights, &mut plus, &mut minus)?;
+        self.lefts.make(left)?;
+        meet_left(alloc, right, &self.lefts, &mut plus, &mut minus)?;
+        self.rights.make(right)?;
+        let change = settle(alloc, left.at, plus, minus)?;
+        out.push(change)?;
+        Ok(())
+    }
+
+    // Pairs pass as long as a change waits at both ports.
+    fn pass_pairs(&mut self, alloc: Global, out: &mut Changes) -> Result<(), NoMemory>
+        requires { CanCrossChanges self.old }
+        ensures contents { OnOk result (Crosses self.old self.new out.old out.new) }
+        ensures fits { OnOk result (CrossFits self.old self.new out.old out.new) }
+    {
+        while let Some((left, right)) = self.take_pair() {
+            self.join(alloc, &left, &right, out)?;
+        }
+        Ok(())
+    }
+
+    /// A change comes to a port, the first or the second, and waits there. As long as a change
+    /// waits at both, the first two are made, and the change of the product of the contents is
+    /// given, at the instant of the first port's. Costs for each two the rows of the one change
+    /// times the other side, n log n of these, and the logarithm of what is kept for each row of
+    /// a change. Where there is no memory, nothing is said of the state.
+    pub fn step(
+        &mut self,
+        alloc: Global,
+        port: u32,
+        change: Change,
+        out: &mut Changes,
+    ) -> Result<(), NoMemory>
+        requires { CanCrossChanges (put_change port change self.old) }
+        ensures contents { OnOk result (Crosses (put_change port change self.old) self.new out.old out.new) }
+        ensures fits { OnOk result (CrossFits (put_change port change self.old) self.new out.old out.new) }
+    {
+        self.put(port, change)?;
+        self.pass_pairs(alloc, out)?;
         Ok(())
     }
 }

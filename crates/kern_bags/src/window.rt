@@ -1,27 +1,26 @@
-// What windows keep, and their steps.
-ghost use Rattle.std.specs.Prelude.{◌≡◌, ◌-ℤ◌, pos, map, Some, IfOk, OnOk, OnErr};
-ghost use Rattle.river_base.specs.Row.{in_order};
-ghost use Rattle.river_base.specs.declared.item.Item.TheVariants.{Flat as flat_item};
-ghost use Rattle.river_base.specs.declared.item.Flat.TheVariants.{Batch as batched};
+// What windows keep, and their steps on changes.
+ghost use Rattle.std.specs.Prelude.{◌≡◌, ◌-ℤ◌, pos, Some, [], IfOk, OnOk};
 ghost use Rattle.kern_bags.specs.Contents.{later};
-ghost use Rattle.kern_bags.specs.Kept.{Stamped, AreInTurn, inserted, still_in, now_after, window_start, StandsForWindow, IsWindowKept, Steps};
-ghost use Rattle.kern_bags.specs.Steps.{window_one};
+ghost use Rattle.kern_bags.specs.Kept.{AreInTurn, inserted, still_in, now_after, window_start, IsWindowKept};
+ghost use Rattle.kern_changes.specs.Kept.{LetGo, Windows, WindowFits};
 
-use crate::Window;
-use crate::given::give;
+use crate::Change;
+use crate::settling::settle;
 use crate::stamped::StampedRows;
-use river_base::{Batch, Items, NoMemory, Rows};
+use kern_bags::Window;
+use river_base::{Batch, NoMemory, Rows};
 use std::alloc::Global;
 use std::marker::Model;
 
-/// What a window keeps between batches: the greatest instant so far, and the rows that stand in the window.
+/// What a window of CQL (Arasu, Babu, Widom, 2006) keeps between batches: the greatest instant so
+/// far, and the rows that stand in the window.
 #[derive(Drop)]
-pub struct WindowState {
+pub struct WindowRows {
     now: Option<i64>,
     rows: StampedRows,
 }
 
-impl Model for WindowState {
+impl Model for WindowRows {
     ghost use Rattle.kern_bags.specs.Kept.{WindowKept};
 
     ghost Value = { WindowKept };
@@ -46,64 +45,67 @@ fn first_in_range(now: i64, span: i64) -> i128
     (i128::from(now) - i128::from(span)).max(0)
 }
 
-impl Window {
+// The rows that do not stand in the window leave, and come to others.
+fn let_go(
+    window: &Window,
+    now: i64,
+    rows: &mut StampedRows,
+    gone: &mut Rows,
+) -> Result<(), NoMemory>
+    requires { AreInTurn rows.old }
+    ensures kept { OnOk result (rows.new ≡ still_in window.now now rows.old) }
+    ensures gone { OnOk result (LetGo rows.old rows.new gone.old gone.new) }
+{
+    match window {
+        Window::Now => rows.move_before(i128::from(now), gone),
+        Window::Range(span) => rows.move_before(first_in_range(now, *span), gone),
+        Window::Unbounded => Ok(()),
+        Window::Latest(most) => rows.move_all_but(*most as usize, gone),
+    }
+}
+
+impl WindowRows {
     /// The state before the first batch: no row.
-    pub fn start(&self, alloc: Global) -> Result<WindowState, NoMemory>
-        ensures { IfOk result (λ state. state ≡ window_start) }
+    pub fn start(alloc: Global) -> WindowRows
+        ensures { result ≡ window_start }
     {
-        Ok(WindowState {
+        WindowRows {
             now: None,
             rows: StampedRows::new(alloc),
-        })
-    }
-
-    // The rows that do not stand in the window leave.
-    fn let_go(&self, now: i64, rows: &mut StampedRows)
-        requires { AreInTurn rows.old }
-        ensures { rows.new ≡ still_in self.now now rows.old }
-    {
-        match self {
-            Window::Now => rows.leave_before(i128::from(now)),
-            Window::Range(span) => {
-                rows.leave_before(first_in_range(now, *span));
-            }
-            Window::Unbounded => {}
-            Window::Latest(most) => rows.keep_last(*most as usize),
         }
     }
 
-    // Rows of an instant come, and the window's content comes in their place.
-    fn renew(&self, state: &mut WindowState, at: i64, rows: &mut Rows) -> Result<(), NoMemory>
-        requires { IsWindowKept self.now state.old }
-        ensures now { OnOk result (state.new.now ≡ Some (now_after state.old.now at)) }
-        ensures kept { OnOk result (state.new.rows ≡ still_in self.now (now_after state.old.now at) (inserted at rows.old state.old.rows)) }
-        ensures content { OnOk result (rows.new ≡ in_order (map (λ (e : Stamped). e.1) state.new.rows)) }
+    // Rows of an instant come, and those that leave come to an empty list.
+    fn renew(
+        &mut self,
+        window: &Window,
+        at: i64,
+        rows: &Rows,
+        gone: &mut Rows,
+    ) -> Result<(), NoMemory>
+        requires kept { IsWindowKept window.now self.old }
+        ensures now { OnOk result (self.new.now ≡ Some (now_after self.old.now at)) }
+        ensures kept { OnOk result (self.new.rows ≡ still_in window.now (now_after self.old.now at) (inserted at rows.now self.old.rows)) }
+        ensures gone { OnOk result (LetGo (inserted at rows.now self.old.rows) self.new.rows gone.old gone.new) }
     {
-        let now = now_after(state.now, at);
-        state.now = Some(now);
-        state.rows.insert(at, rows)?;
-        self.let_go(now, &mut state.rows);
-        state.rows.put_sorted(rows)?;
+        let now = now_after(self.now, at);
+        self.now = Some(now);
+        self.rows.insert(at, rows)?;
+        let_go(window, now, &mut self.rows, gone)?;
         Ok(())
     }
 
-    /// A batch comes: its rows join those that are kept, now is the greatest instant so far, the rows that have left the
-    /// window are let go, and the others are given in ascending order, as the content at the batch's instant. Where there is no
-    /// memory nothing was given, and nothing is said of the state.
-    pub fn step(
-        &self,
-        _alloc: Global,
-        state: &mut WindowState,
-        batch: Batch,
-        out: &mut Items,
-    ) -> Result<(), NoMemory>
-        requires { IsWindowKept self.now state.old }
-        ensures ok { OnOk result (Steps (StandsForWindow self.now) (window_one self.now) (flat_item (batched batch)) state.old state.new out.old out.new) }
-        ensures err { OnErr result (out.new ≡ out.old) }
+    /// A batch comes: its rows come to the window, those that have left it go, and that is the
+    /// change of its content, at the batch's instant. Costs n log n of the rows that came and
+    /// went, and moves the rows behind the place of a late batch. Where there is no memory,
+    /// nothing is said of the state.
+    pub fn step(&mut self, alloc: Global, window: &Window, batch: Batch) -> Result<Change, NoMemory>
+        requires { IsWindowKept window.now self.old }
+        ensures contents { IfOk result (λ change. Windows window.now batch self.old self.new change) }
+        ensures fits { IfOk result (λ change. WindowFits batch self.old self.new change) }
     {
-        let mut rows = batch.rows;
-        self.renew(state, batch.at, &mut rows)?;
-        give(batch.at, rows, out)?;
-        Ok(())
+        let mut gone = Rows::new(alloc);
+        self.renew(window, batch.at, &batch.rows, &mut gone)?;
+        settle(alloc, batch.at, batch.rows, gone)
     }
 }

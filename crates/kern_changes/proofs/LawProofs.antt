@@ -1,15 +1,10 @@
 -- The laws of changes.
-use Rattle.std.proofs.Common.{◌≡◌, ◌<◌, ℕ, zero, suc, ℤ, List, [], ◌∷◌, length, replicate, refl, sym, ap, ◌∙◌, subst}
-use Rattle.std.proofs.lemmas.List.{length-replicate}
+use Rattle.std.proofs.Common.{◌≡◌, ℤ, List, [], ◌∷◌, refl, sym, ◌∙◌, subst}
 use Rattle.river_base.specs.declared.item.Batch.{Batch}
-use Rattle.river_base.specs.Held.{held_from}
-use Rattle.river_base.specs.Places.{list_at}
-use Rattle.kern_rows.proofs.Passed.{start_joined}
 use Rattle.river_base.specs.declared.item.Change.{Change}
 use Rattle.river_base.specs.Changes.{StandForContents, ChangesInto, LeadsTo}
 use Rattle.kern_changes.specs.declared.owed.Debt.{Debt}
-use Rattle.kern_changes.specs.Owed.{no_debt, debt_at, owed_start}
-use Rattle.kern_changes.specs.Laws.{ChangesAre, StandForOne, StartsAre}
+use Rattle.kern_changes.specs.Laws.{ChangesAre, StandForOne, NothingIsOwed}
 use Rattle.kern_changes.proofs.Leading.{changes_stand, changes_are, leads_none}
 use Rattle.kern_changes.proofs.OwedLaws.{start_little, nothing_owed}
 
@@ -32,26 +27,9 @@ stand_holds before (c ∷ cs) (b ∷ bs) (b' ∷ bs') h g =
     let t : bs ≡ bs' = stand_holds b.rows cs bs bs' h.1 (subst (λ (x : Batch). StandForContents x.rows cs bs') (sym e) g.1) in
     λ i. e i ∷ t i
 
-no_list : {A : Type 0} (n p : ℕ) → list_at {A = A} (replicate n []) p ≡ []
-no_list zero p = refl
-no_list (suc n) zero = refl
-no_list (suc n) (suc p) = no_list n p
-
--- what is kept at the start stands for empty contents
-pub starts_hold : StartsAre
-starts_hold = record {
-  cross = record { lefts = record { each = λ row. refl }; rights = record { each = λ row. refl }; left = refl; right = refl };
-  owed = owed;
+-- nothing is owed at the start
+pub nothing_holds : NothingIsOwed
+nothing_holds = record {
+  owed = λ n p lt. subst (λ (d : Debt). LeadsTo [] [] d.plus d.minus) (sym (nothing_owed n p)) (leads_none []);
   little = start_little;
-  joined = λ n. record {
-    port = refl;
-    had = refl;
-    lists = length-replicate n [] ∙ sym (length-replicate n []);
-    lines = λ p lt. no_list n p ∙ ap (held_from []) (sym (no_list n p));
-    owed = owed n;
-  };
-  shape = λ ws all. record { joined = start_joined ws all; owed = length-replicate (length ws) no_debt };
 }
-  where
-    owed : (n p : ℕ) → p < length (owed_start n) → LeadsTo [] [] (debt_at (owed_start n) p).plus (debt_at (owed_start n) p).minus
-    owed n p lt = subst (λ (d : Debt). LeadsTo [] [] d.plus d.minus) (sym (nothing_owed n p)) (leads_none [])

@@ -4,19 +4,15 @@ use Rattle.std.specs.Prelude.{sum_by, flat_map}
 use Rattle.std.specs.List.Sorted.{IsPermutation}
 use Rattle.std.proofs.lemmas.List.Sums.{sum_by-cons, sum_by-append}
 use Rattle.std.proofs.lemmas.List.Sorted.{sum_by-IsPermutation}
-use Rattle.std.proofs.lemmas.List.Kept.{IsSortedBy-filter}
 use Rattle.std.proofs.lemmas.Bool.{cases_lt}
 use Rattle.river_base.specs.Held.{IsAscending}
-use Rattle.river_base.specs.Row.{row_eq, row_lt, copies, in_order}
+use Rattle.river_base.specs.Row.{row_eq, copies, in_order}
 use Rattle.river_base.specs.declared.item.Batch.{Batch}
 use Rattle.river_base.proofs.Counts.{permutation_from_copies}
-use Rattle.river_base.proofs.Rows.{in_order_bag, in_order_ascends, in_order-IsPermutation, same_from_sorted, rows_ranked}
-use Rattle.work_code.specs.Term.{Term}
-use Rattle.work_code.specs.Value.{val, is_true}
-use Rattle.kern_bags.specs.Contents.{without, difference, selected, projected, product}
-use Rattle.kern_bags.proofs.Copies.{count-append, copies-in_order, copies-without, differences_are, sum-cong}
+use Rattle.river_base.proofs.Rows.{in_order_bag, in_order_ascends, in_order-IsPermutation, same_from_sorted}
+use Rattle.kern_changes.proofs.Copies.{count-append, copies-in_order, copies-without, differences_are, sum-cong}
 use Rattle.river_base.specs.declared.item.Change.{Change}
-use Rattle.river_base.specs.Changes.{content_after, ChangesInto, StandForContents, IsNormal, AllNormal, AllAscending, change_to, changes, last_content, cancelled, LeadsTo}
+use Rattle.river_base.specs.Changes.{without, difference, content_after, ChangesInto, StandForContents, IsNormal, AllNormal, AllAscending, change_to, changes, last_content, cancelled, LeadsTo}
 use Rattle.river_base.specs.Changes.{all_pairs}
 
 -- SUMS OVER LISTS
@@ -256,57 +252,3 @@ leads_right xs before after plus minus h = record {
       let l = sum-plus (over after) (over minus) xs in let r = sum-plus (over before) (over plus) xs in
       omega (arith, a, b, c, d, e, l, r);
 }
-
--- THE CHANGES THAT KERNELS GIVE
-
-some_pass : (p : List ℤ → Bool) (row : List ℤ) (xs : List (List ℤ)) → copies row (filter p xs) ≤ copies row xs
-some_pass p row [] = omega arith
-some_pass p row (x ∷ xs) = step (p x) (some_pass p row xs) where
-  step : (b : Bool) → copies row (filter p xs) ≤ copies row xs → copies row (cond b (x ∷ filter p xs) (filter p xs)) ≤ copies row (x ∷ xs)
-  step true h =
-      let a = sum_by-cons (λ y. cond (row_eq row y) 1 0) x (filter p xs) in let b = sum_by-cons (λ y. cond (row_eq row y) 1 0) x xs in omega (arith, h, a, b)
-  step false h = let b = sum_by-cons (λ y. cond (row_eq row y) 1 0) x xs in omega (arith, h, b)
-
--- what passes of a normalised change, in both parts, is normalised
-pub selected_normal : (t : Term) (c : Change) → IsNormal c → IsNormal (record { at = c.at; plus = selected t c.plus; minus = selected t c.minus })
-selected_normal t c n =
-    let p : List ℤ → Bool = λ row. is_true (val t row []) in
-    record {
-      plus = IsSortedBy-filter row_lt rows_ranked p c.plus n.plus;
-      minus = IsSortedBy-filter row_lt rows_ranked p c.minus n.minus;
-      apart = λ row.
-          let l = some_pass p row c.plus in let m = some_pass p row c.minus in
-          ⊎_elim (λ e. inl (omega (arith, e, l))) (λ e. inr (omega (arith, e, m))) (n.apart row);
-    }
-
--- what passes, in both parts, is the change of what passes
-pub change_selected : (t : Term) (before : List (List ℤ)) (b : Batch)
-    → change_to (selected t before) (record { at = b.at; rows = selected t b.rows })
-    ≡ record { at = b.at; plus = selected t (difference b.rows before); minus = selected t (difference before b.rows) }
-change_selected t before b =
-    let p : List ℤ → Bool = λ row. is_true (val t row []) in
-    let c : Change = record { at = b.at; plus = selected t (difference b.rows before); minus = selected t (difference before b.rows) } in
-    cancelled_is b.at (selected t before) (selected t b.rows) c.plus c.minus (leads_filter p before b.rows (difference b.rows before) (difference before b.rows)
-    (change_leads before b.rows))
-    ∙ cancelled_none c (selected_normal t (change_to before b) (cancelled_normal b.at b.rows before))
-
--- the images, without those that come and go
-pub change_projected : (ts : List Term) (before : List (List ℤ)) (b : Batch) → change_to (projected ts before) (record { at = b.at; rows = projected ts b.rows })
-    ≡ cancelled b.at (map (λ row. map (λ t. val t row []) ts) (difference b.rows before)) (map (λ row. map (λ t. val t row []) ts) (difference before b.rows))
-change_projected ts before b =
-    let g : List ℤ → List ℤ = λ row. map (λ t. val t row []) ts in
-    cancelled_is b.at (projected ts before) (projected ts b.rows) (map g (difference b.rows before)) (map g (difference before b.rows))
-    (leads_in_order (map g before) (map g b.rows) (map g (difference b.rows before)) (map g (difference before b.rows))
-    (leads_map g before b.rows (difference b.rows before) (difference before b.rows) (change_leads before b.rows)))
-
--- what comes and goes at the left meets the right side as it was, what comes and goes at the right meets the left side as it will be
-pub change_product : (at : ℤ) (left left' right right' : List (List ℤ)) → change_to (product left right) (record { at = at; rows = product left' right' })
-    ≡ cancelled at (all_pairs (difference left' left) right ++ all_pairs left' (difference right' right)) (all_pairs (difference left left') right ++ all_pairs left'
-    (difference right right'))
-change_product at left left' right right' =
-    let p = difference left' left in let m = difference left left' in let q = difference right' right in let n = difference right right' in
-    cancelled_is at (product left right) (product left' right') (all_pairs p right ++ all_pairs left' q) (all_pairs m right ++ all_pairs left' n)
-    (leads_in_order (all_pairs left right) (all_pairs left' right') (all_pairs p right ++ all_pairs left' q) (all_pairs m right ++ all_pairs left' n)
-    (leads_both (all_pairs left right) (all_pairs left' right) (all_pairs left' right') (all_pairs p right) (all_pairs m right) (all_pairs left' q) (all_pairs left' n)
-    (leads_left left left' p m right (change_leads left left'))
-    (leads_right left' right right' q n (change_leads right right'))))

@@ -1,11 +1,9 @@
+pub mod Copies
 pub mod Counted
-pub mod Crossed
-pub mod JoinLaws
+pub mod InPlace
 pub mod LawProofs
 pub mod Leading
-pub mod Leaving
+pub mod Making
+pub mod Merged
 pub mod OwedLaws
-pub mod Sliding
-pub mod Stepping
-pub mod Streaming
 pub mod Widths

@@ -6,7 +6,7 @@ use Rattle.std.proofs.lemmas.List.Elements.{All-nil}
 use Rattle.std.proofs.lemmas.List.Sums.{sum_by-append}
 use Rattle.std.proofs.lemmas.Bool.{cases_eq}
 use Rattle.river_base.specs.Held.{HaveWidth}
-use Rattle.kern_bags.specs.Contents.{difference}
+use Rattle.river_base.specs.Changes.{difference}
 use Rattle.river_base.specs.declared.item.Change.{Change}
 use Rattle.kern_changes.specs.declared.owed.Debt.{Debt}
 use Rattle.river_base.specs.Changes.{change_to, cancelled, LeadsTo, IsNormal, IsWideChange}

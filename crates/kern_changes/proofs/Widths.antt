@@ -1,22 +1,17 @@
 -- How wide the rows of bags and changes are.
-use Rattle.std.proofs.Common.{◌≡◌, ◌≤◌, ◌+◌, ℕ, ℤ, Bool, true, false, cond, List, [], ◌∷◌, ◌++◌, length, map, sym, ap, ◌∙◌, arith, append_assoc, length-append}
-use Rattle.std.specs.Prelude.{All}
+use Rattle.std.proofs.Common.{◌≡◌, ℕ, ℤ, Bool, true, false, cond, List, [], ◌∷◌, ◌++◌, length, sym, ap, ◌∙◌, arith, append_assoc}
 use Rattle.std.specs.List.Sorted.{IsPermutation}
-use Rattle.std.proofs.lemmas.List.{length-map, append-nil}
+use Rattle.std.proofs.lemmas.List.{append-nil}
 use Rattle.std.proofs.lemmas.List.Elements.{All-head, All-tail, All-cons, All-nil, All-append}
 use Rattle.std.proofs.lemmas.List.Sorted.{All-permutation}
+use Rattle.river_base.specs.Changes.{take_out, without, difference, cancelled, IsChangeOf, GaveChanges}
 use Rattle.river_base.specs.Held.{HaveWidth}
 use Rattle.river_base.specs.Row.{row_eq, in_order}
+use Rattle.river_base.specs.declared.item.Change.{Change}
 use Rattle.river_base.proofs.Counts.{permutation_from_copies}
 use Rattle.river_base.proofs.Rows.{in_order_bag}
-use Rattle.work_code.specs.Term.{Term}
-use Rattle.work_code.specs.Value.{val}
-use Rattle.kern_bags.specs.Contents.{take_out, without, difference}
-use Rattle.kern_bags.specs.Needs.{CanJoin}
-use Rattle.kern_bags.proofs.Copies.{count-append, copies-without}
-use Rattle.river_base.specs.declared.item.Change.{Change}
-use Rattle.river_base.specs.Changes.{cancelled, all_pairs, IsChangeOf, GaveChanges}
 use Rattle.kern_changes.specs.Counted.{Changed}
+use Rattle.kern_changes.proofs.Copies.{count-append, copies-without}
 use Rattle.kern_changes.proofs.Leading.{cancelled_normal}
 
 -- rows so wide, in two lists
@@ -55,42 +50,6 @@ wide_changed w c old new h g made =
     let p : IsPermutation (without old c.minus ++ c.plus) new = permutation_from_copies (without old c.minus ++ c.plus) new (λ row.
     let a = count-append (row_eq row) (without old c.minus) c.plus in let b = copies-without row old c.minus in let n = made.each row in omega (arith, a, b, n)) in
     All-permutation (λ row. length row ≡ w) (without old c.minus ++ c.plus) new p (wide_append w (without old c.minus) c.plus (wide_without w old c.minus h) g)
-
--- projected rows are as wide as there are expressions
-pub wide_projected : (ts : List Term) (rows : List (List ℤ)) → HaveWidth (length ts) (map (λ row. map (λ t. val t row []) ts) rows)
-wide_projected ts [] = All-nil (λ row. length row ≡ length ts)
-wide_projected ts (row ∷ rows) =
-    All-cons (λ r. length r ≡ length ts) (map (λ t. val t row []) ts) (map (λ r. map (λ t. val t r []) ts) rows) (length-map ts (λ t. val t row [])) (wide_projected ts rows)
-
--- joined rows are as wide as both together
-pub wide_pairs : (l r : ℕ) (xs ys : List (List ℤ)) → HaveWidth l xs → HaveWidth r ys → HaveWidth (l + r) (all_pairs xs ys)
-wide_pairs l r [] ys h g = All-nil (λ row. length row ≡ l + r)
-wide_pairs l r (x ∷ xs) ys h g =
-    wide_append (l + r) (map (λ y. x ++ y) ys) (all_pairs xs ys) (each ys g) (wide_pairs l r xs ys (All-tail (λ row. length row ≡ l) x xs h) g)
-  where
-    wide : length x ≡ l
-    wide = All-head (λ row. length row ≡ l) x xs h
-
-    each : (zs : List (List ℤ)) → HaveWidth r zs → HaveWidth (l + r) (map (λ y. x ++ y) zs)
-    each [] k = All-nil (λ row. length row ≡ l + r)
-    each (z ∷ zs) k =
-        let e = All-head (λ row. length row ≡ r) z zs k in let w = wide in let a = length-append x z in
-        All-cons (λ row. length row ≡ l + r) (x ++ z) (map (λ y. x ++ y) zs) (omega (arith, e, w, a)) (each zs (All-tail (λ row. length row ≡ r) z zs k))
-
--- rows of two such widths can be joined
-pub can_join : (l r : ℕ) (xs ys : List (List ℤ)) → l + r ≤ 16 → HaveWidth l xs → HaveWidth r ys → CanJoin xs ys
-can_join l r [] ys few h g = All-nil (λ x. All (λ y. length x + length y ≤ 16) ys)
-can_join l r (x ∷ xs) ys few h g =
-    All-cons (λ x. All (λ y. length x + length y ≤ 16) ys) x xs (each ys g) (can_join l r xs ys few (All-tail (λ row. length row ≡ l) x xs h) g)
-  where
-    wide : length x ≡ l
-    wide = All-head (λ row. length row ≡ l) x xs h
-
-    each : (zs : List (List ℤ)) → HaveWidth r zs → All (λ y. length x + length y ≤ 16) zs
-    each [] k = All-nil (λ y. length x + length y ≤ 16)
-    each (z ∷ zs) k =
-        let e = All-head (λ row. length row ≡ r) z zs k in let w = wide in
-        All-cons (λ y. length x + length y ≤ 16) z zs (omega (arith, e, w, few)) (each zs (All-tail (λ row. length row ≡ r) z zs k))
 
 -- CHANGES THAT WERE GIVEN
 

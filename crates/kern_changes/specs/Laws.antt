@@ -1,12 +1,8 @@
 -- Laws of changes: statements over the definitions alone.
-use Rattle.std.specs.Prelude.{◌≡◌, ℕ, ℤ, List, [], length}
+use Rattle.std.specs.Prelude.{◌≡◌, ℕ, ℤ, List, []}
 use Rattle.river_base.specs.declared.item.Batch.{Batch}
-use Rattle.kern_rows.specs.Needs.{HaveShares}
-use Rattle.kern_rows.specs.Turns.{turns_start}
 use Rattle.river_base.specs.declared.item.Change.{Change}
 use Rattle.river_base.specs.Changes.{StandForContents, AllNormal, AllAscending, changes}
-use Rattle.kern_changes.specs.Joined.{join_start, StandsForJoining, HasJoinShape}
-use Rattle.kern_changes.specs.Kept.{cross_start, crossing, StandsForCrossing}
 use Rattle.kern_changes.specs.Owed.{owed_start, AreOwed, OweLittle}
 
 -- the changes between these contents stand for them and are normalised, and no other list of changes does and is
@@ -23,10 +19,7 @@ ChangesAre = (before : List (List ℤ)) (bs : List Batch) → AllAscending bs �
 abbrev pub StandForOne : Type 0
 StandForOne = (before : List (List ℤ)) (cs : List Change) (bs bs' : List Batch) → StandForContents before cs bs → StandForContents before cs bs' → bs ≡ bs'
 
--- what is kept before the first change stands for empty contents, of which none waits
-pub record StartsAre : Type 0 where
-  pub cross : StandsForCrossing cross_start (crossing [] [] [] [])
+-- what lists owe before the first change leads from empty contents to empty contents, and is little
+pub record NothingIsOwed : Type 0 where
   pub owed : (n : ℕ) → AreOwed (owed_start n) (λ p. []) (λ p. [])
   pub little : (n : ℕ) → OweLittle (owed_start n)
-  pub joined : (n : ℕ) → StandsForJoining (join_start n) (record { turns = turns_start n; last = []; now = λ p. [] })
-  pub shape : (ws : List ℕ) → HaveShares ws → HasJoinShape ws (join_start (length ws))

@@ -3,7 +3,7 @@ use Rattle.std.specs.Prelude.{◌≡◌, ◌<◌, ◌≤◌, ◌+◌, ◌*◌, �
 use Rattle.river_base.specs.Held.{HaveWidth}
 use Rattle.river_base.specs.Row.{copies}
 use Rattle.river_base.specs.declared.item.Batch.{Batch}
-use Rattle.kern_bags.specs.Contents.{difference}
+use Rattle.river_base.specs.Changes.{difference}
 use Rattle.river_base.specs.declared.item.Change.{Change}
 use Rattle.kern_changes.specs.declared.owed.Debt.{Debt}
 use Rattle.river_base.specs.Changes.{change_to, LeadsTo, IsNormal, IsWideChange}

@@ -3,8 +3,7 @@ ghost use Rattle.std.specs.Prelude.{◌≡◌, [], ◌++◌, replicate, IfOk, On
 ghost use Rattle.river_base.specs.Row.{copies};
 ghost use Rattle.kern_changes.specs.Counted.{CameOne, WentOne, CameAll, WentAll, Changed};
 
-use crate::Change;
-use river_base::{NoMemory, Row, Rows};
+use river_base::{Change, NoMemory, Row, Rows};
 use std::alloc::Global;
 use std::collections::BTreeMap;
 use std::marker::Model;

@@ -1,5 +1,5 @@
 //! Laws of changes, each the contract of a function that does nothing.
-ghost use Rattle.kern_changes.specs.Laws.{ChangesAre, StandForOne, StartsAre};
+ghost use Rattle.kern_changes.specs.Laws.{ChangesAre, StandForOne, NothingIsOwed};
 
 /// Between contents that ascend there is just one list of normalised changes that stands for them.
 pub fn changes_are()
@@ -11,7 +11,7 @@ pub fn stand_for_one()
     ensures { StandForOne }
 {}
 
-/// What products, splitters and joiners keep at the start stands for empty contents.
-pub fn starts_are()
-    ensures { StartsAre }
+/// What lists owe at the start leads from empty contents to empty contents.
+pub fn nothing_is_owed()
+    ensures { NothingIsOwed }
 {}

@@ -1,28 +1,16 @@
-//! Kernels on relations that come as changes: what came to a content and what went, in place of
-//! the whole content. The operators are those of CQL (Arasu, Babu, Widom, 2006) and the splitters
-//! and joiners of StreamIt. Each contract speaks of contents.
+//! Changes of relations: what came to a content and what went, in place of the whole content. Rows
+//! that come and go are settled to the change that they make; a content is kept as a bag, on which
+//! changes are made; and each of several lists of contents owes what came and went since it was
+//! last written. Each contract speaks of contents.
 #![tactic(auto)]
 
-mod change;
 mod content;
-mod cross;
-mod joined;
+mod difference;
 pub mod laws;
-mod line;
 mod owed;
-mod rowwise;
 mod settling;
-mod stamped;
-mod streamer;
-mod window;
 
-pub use change::Changes;
 pub use content::Content;
-pub use cross::CrossRows;
-pub use joined::JoinItems;
+pub use difference::without;
 pub use owed::Owed;
-pub use river_base::Change;
-pub use rowwise::{project, select};
 pub use settling::settle;
-pub use streamer::{dstream, istream, rstream};
-pub use window::WindowRows;

@@ -3,9 +3,8 @@ ghost use Rattle.std.specs.Prelude.{◌≡◌, ◌<◌, ◌+◌, ◌++◌, [], l
 ghost use Rattle.river_base.specs.Changes.{cancelled};
 ghost use Rattle.kern_changes.specs.Owed.{no_debt, debt_at, owing_more, netted, owing, owed_start, DealsOwed, JoinsOwed, KeepsOwed};
 
-use crate::Change;
 use crate::settling::settle;
-use river_base::{Listed, NoMemory, Row, Rows};
+use river_base::{Change, Listed, NoMemory, Row, Rows};
 use std::alloc::Global;
 use std::marker::Model;
 use std::mem;

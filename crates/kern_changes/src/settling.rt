@@ -2,9 +2,8 @@
 ghost use Rattle.std.specs.Prelude.{◌≡◌, IfOk};
 ghost use Rattle.river_base.specs.Changes.{cancelled};
 
-use crate::Change;
-use kern_bags::without;
-use river_base::{NoMemory, Rows};
+use crate::difference::without;
+use river_base::{Change, NoMemory, Rows};
 use std::alloc::Global;
 
 /// The change that rows make which come and go, in any order: those that do both are left out,

@@ -1,5 +1,8 @@
+pub mod Dealing
 pub mod Even
 pub mod Forms
+pub mod Joined
+pub mod Laws
 pub mod Needs
 pub mod Passing
 pub mod Runs

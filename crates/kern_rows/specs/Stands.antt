@@ -89,8 +89,3 @@ pub record RunIs (peek pop : ℕ) (b : Body) (old new : Waiting) (out out' : Lis
 -- the next run
 abbrev pub RunsOnce : FilterForm → Waiting → Waiting → List ℤ → List ℤ → Type 0
 RunsOnce f old new out out' = let r = run_now f old.fresh in RunIs r.peek r.pop r.body old new out out'
-
--- what a splitter keeps: the port in turn, and how many items it had
-pub record Dealing : Type 0 where
-  pub port : ℕ
-  pub had : ℕ

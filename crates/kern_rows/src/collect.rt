@@ -1,59 +1,55 @@
 // What a joiner does with an item.
-ghost use Rattle.std.specs.Prelude.{◌≡◌, ◌<◌, ◌++◌, length, IfOk, OnOk, OnErr};
-ghost use Rattle.river_base.specs.Grew.{GrewByPrefix};
-ghost use Rattle.kern_rows.specs.Needs.{HaveShares, IsJoiner};
-ghost use Rattle.kern_rows.specs.Turns.{shares, turns_start, joins, settled, itself};
+ghost use Rattle.std.specs.Prelude.{◌≡◌, ◌<◌, length, IfOk, OnOk, OnErr};
+ghost use Rattle.kern_rows.specs.Joined.{join_start, put_item, HasJoinShape, JoinsItems, JoinsPlainly, KeepsJoin, JoinsPart};
+ghost use Rattle.kern_rows.specs.Needs.{HaveShares};
+ghost use Rattle.kern_rows.specs.Turns.{shares};
 
 use crate::Collect;
-use crate::joined::Joined;
+use crate::joining::JoinState;
 use crate::turn::share;
 use river_base::{Item, Items, NoMemory, Numbers};
 use std::alloc::Global;
-use std::marker::Model;
 
-/// What a joiner keeps between items: the port in turn, how many items it had, and what waits at each port.
-#[derive(Drop)]
-pub struct CollectState {
-    joined: Joined,
-}
+/// What a joiner keeps between items: the port in turn, how many items it had, what waits at each
+/// port, and what each port owes where they carry a relation.
+pub type CollectState = JoinState;
 
-impl Model for CollectState {
-    ghost use Rattle.kern_rows.specs.Turns.{Turns};
-
-    ghost Value = { Turns };
-
-    ghost view = { λ s. s.joined };
-}
-
-// Passes items as long as the port in turn has one.
-fn pass_all(weights: &Numbers, joined: &mut Joined, out: &mut Items) -> Result<(), NoMemory>
+// Items pass as long as the port in turn has one.
+fn pass_all(
+    alloc: Global,
+    weights: &Numbers,
+    state: &mut CollectState,
+    out: &mut Items,
+) -> Result<(), NoMemory>
     requires weights { HaveShares (shares weights.now) }
-    requires joined { IsJoiner (shares weights.now) joined.old }
-    ensures given { OnOk result (out.new ≡ out.old ++ (settled itself (shares weights.now) joined.old).0) }
-    ensures state { OnOk result (joined.new ≡ (settled itself (shares weights.now) joined.old).1) }
-    ensures joined { OnOk result (IsJoiner (shares weights.now) joined.new) }
-    ensures err { OnErr result (GrewByPrefix out.old (settled itself (shares weights.now) joined.old).0 out.new) }
+    requires shape { HasJoinShape (shares weights.now) state.old }
+    ensures contents { OnOk result (JoinsItems (shares weights.now) state.old state.new out.old out.new) }
+    ensures plain { OnOk result (JoinsPlainly (shares weights.now) state.old state.new out.old out.new) }
+    ensures keeps { OnOk result (KeepsJoin (shares weights.now) state.old state.new out.old out.new) }
+    ensures err { OnErr result (JoinsPart (shares weights.now) state.old out.old out.new) }
 {
-    while let Some(item) = joined.pass(share(weights, joined.turn())) {
-        out.push(item)?;
+    while let Some((port, item)) = state.take(share(weights, state.turn())) {
+        state.give(alloc, port, item, out)?;
     }
     Ok(())
 }
 
 impl Collect {
-    /// The state before the first item: the first port is in turn.
+    /// The state before the first item: the first port is in turn, nothing waits, and nothing is
+    /// owed.
     pub fn start(alloc: Global, weights: &Numbers) -> Result<CollectState, NoMemory>
-        ensures { IfOk result (λ state. state ≡ turns_start (length weights.now)) }
+        ensures { IfOk result (λ state. state ≡ join_start (length weights.now)) }
     {
-        Ok(CollectState {
-            joined: Joined::start(alloc, weights.len())?,
-        })
+        JoinState::start(alloc, weights.len())
     }
 
-    /// An item comes to a port: it waits there, and items pass as long as the port in turn has one. Each port passes
-    /// as many items in its turn as its weight. Where there is no memory, a part of what passes was appended, and
-    /// nothing is said of the state.
+    /// An item comes to a port: it waits there, and items pass as long as the port in turn has one,
+    /// each port as many in its turn as its weight. A change that passes is given as the change
+    /// between the contents that pass, whatever port they came from; other items pass as they are.
+    /// Where there is no memory, a part of what passes was appended, and nothing is said of the
+    /// state.
     pub fn step(
+        alloc: Global,
         weights: &Numbers,
         state: &mut CollectState,
         port: u32,
@@ -61,15 +57,15 @@ impl Collect {
         out: &mut Items,
     ) -> Result<(), NoMemory>
         requires weights { HaveShares (shares weights.now) }
-        requires shape { IsJoiner (shares weights.now) state.old }
+        requires shape { HasJoinShape (shares weights.now) state.old }
         requires port { port < length weights.now }
-        ensures given { OnOk result (out.new ≡ out.old ++ (joins itself (shares weights.now) port item state.old).0) }
-        ensures state { OnOk result (state.new ≡ (joins itself (shares weights.now) port item state.old).1) }
-        ensures shape { OnOk result (IsJoiner (shares weights.now) state.new) }
-        ensures err { OnErr result (GrewByPrefix out.old (joins itself (shares weights.now) port item state.old).0 out.new) }
+        ensures contents { OnOk result (JoinsItems (shares weights.now) (put_item port item state.old) state.new out.old out.new) }
+        ensures plain { OnOk result (JoinsPlainly (shares weights.now) (put_item port item state.old) state.new out.old out.new) }
+        ensures keeps { OnOk result (KeepsJoin (shares weights.now) (put_item port item state.old) state.new out.old out.new) }
+        ensures err { OnErr result (JoinsPart (shares weights.now) (put_item port item state.old) out.old out.new) }
     {
-        state.joined.put(port as usize, item)?;
-        pass_all(weights, &mut state.joined, out)?;
+        state.put(port, item)?;
+        pass_all(alloc, weights, state, out)?;
         Ok(())
     }
 }

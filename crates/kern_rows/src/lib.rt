@@ -1,4 +1,5 @@
-//! Kernels on rows: bodies of work code, and the splitters and joiners.
+//! Kernels on rows: bodies of work code, and the splitters and joiners, also of relations that come
+//! as changes.
 #![tactic(auto)]
 
 mod body;
@@ -7,7 +8,9 @@ mod collect;
 mod even;
 mod filter;
 mod joined;
+mod joining;
 mod kernel;
+pub mod laws;
 mod line;
 mod queue;
 mod turn;
@@ -16,7 +19,6 @@ mod unpack;
 pub use collect::CollectState;
 pub use even::EvenRows;
 pub use filter::FilterState;
-pub use joined::Joined;
 pub use kernel::{CodeKernel, Collect, Deal, Filter, First, Unpack};
 pub use line::Line;
 pub use turn::DealState;

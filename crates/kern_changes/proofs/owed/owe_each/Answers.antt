@@ -1,6 +1,6 @@
 use Rattle.std.proofs.Common.{◌≡◌, ◌<◌, ◌+◌, ℕ, List, length, get_or, set, map, take, drop, ap, ◌∙◌, arith}
 use Rattle.std.proofs.lemmas.List.{length-set, get_or_default}
-use Rattle.kern_bags.proofs.InPlace.{as_it_was, rest_beside, changed_next}
+use Rattle.kern_changes.proofs.InPlace.{as_it_was, rest_beside, changed_next}
 use Rattle.kern_changes.specs.declared.owed.Debt.{Debt}
 use Rattle.kern_changes.specs.Owed.{debt_at, owing, no_debt}
 use Rattle.kern_changes.proofs.owed.owe_each.Goals as goal

@@ -3,7 +3,7 @@ use Rattle.std.specs.List.{AllByRecursion}
 use Rattle.std.proofs.lemmas.Int.{ints, to_z-of_z}
 use Rattle.kern_bags.specs.Kept.{Stamped, AreInTurn}
 use Rattle.kern_bags.proofs.InTurn.{earlier_all, one_earlier}
-use Rattle.kern_bags.proofs.stamped.StampedRows.count_until.Goals as goal
+use Rattle.kern_changes.proofs.stamped.StampedRows.count_until.Goals as goal
 
 pub loop-count-preserved : goal.loop-count-preserved
 loop-count-preserved c =
@@ -15,7 +15,8 @@ loop-count-preserved c =
     record {
       within = omega arith;
       later =
-          one_earlier (λ (e : Stamped). to_z w64 (of_z w64 c.args.at) <ℤ e.0) es (n - 1) c.index.result.now (omega arith) c.index.ensures (subst (λ (t : ℤ). t <ℤ c.index.result.now.0) (sym at) later)
+          one_earlier (λ (e : Stamped). to_z w64 (of_z w64 c.args.at) <ℤ e.0) es (n - 1) c.index.result.now (omega arith) c.index.ensures (subst
+          (λ (t : ℤ). t <ℤ c.index.result.now.0) (sym at) later)
           (subst (λ k. AllByRecursion (λ (e : Stamped). to_z w64 (of_z w64 c.args.at) <ℤ e.0) (drop k es)) same c.loop-count.invariant.later);
     }
 

@@ -1,5 +1,5 @@
 use Rattle.std.proofs.Common.{arith}
-use Rattle.kern_changes.proofs.Stepping.{came_none, came_more, came_whole}
+use Rattle.kern_changes.proofs.Making.{came_none, came_more, came_whole}
 use Rattle.kern_changes.proofs.content.Content.put_all.Goals as goal
 
 pub loop-row-init : goal.loop-row-init

@@ -1,5 +1,5 @@
 use Rattle.std.proofs.Common.{arith}
-use Rattle.kern_changes.proofs.Stepping.{went_none, went_more, went_whole}
+use Rattle.kern_changes.proofs.Making.{went_none, went_more, went_whole}
 use Rattle.kern_changes.proofs.content.Content.take_all.Goals as goal
 
 pub loop-row-init : goal.loop-row-init

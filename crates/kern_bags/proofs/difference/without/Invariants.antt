@@ -1,9 +1,0 @@
-use Rattle.std.proofs.Common.{◌≤◌, length}
-use Rattle.kern_bags.proofs.Merged.{IsMerged}
-use Rattle.kern_bags.proofs.difference.without.Given as goal
-
-abbrev pub invariant-loop-row : goal.invariant-loop-row
-invariant-loop-row l = record {
-  within : l.place ≤ length l.others;
-  merged : IsMerged l.row-items l.others l.row-index l.place l.left;
-}
