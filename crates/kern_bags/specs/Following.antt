@@ -1,19 +1,22 @@
 -- What steps on changes do, by contents.
-use Rattle.std.specs.Prelude.{◌≡◌, ◌+◌, ◌≤◌, ℕ, zero, suc, ℤ, List, [], ◌∷◌, ◌++◌, map, All}
+use Rattle.std.specs.Prelude.{◌≡◌, ◌+◌, ◌≤◌, ℕ, zero, suc, ℤ, List, [], ◌∷◌, ◌++◌, length, map, All}
+use Rattle.river_base.specs.Changes.{change_to, changes, IsWideChange, IsChangeOf, GaveChanges}
+use Rattle.river_base.specs.Grew.{GrewByPrefix}
+use Rattle.river_base.specs.Held.{batches, IsAscending, HaveWidth}
 use Rattle.river_base.specs.declared.item.Batch.{Batch}
+use Rattle.river_base.specs.declared.item.Change.{Change}
+use Rattle.river_base.specs.declared.item.Flat as flat
+use Rattle.river_base.specs.declared.item.Flat.TheVariants.{One, Batch as Batched, Change as Changed}
 use Rattle.river_base.specs.declared.item.Item as item
 use Rattle.river_base.specs.declared.item.Item.TheVariants.{Flat}
-use Rattle.river_base.specs.declared.item.Flat.TheVariants.{Batch as Batched}
-use Rattle.river_base.specs.Held.{batches, IsAscending, HaveWidth}
-use Rattle.kern_bags.specs.Contents.{content_of, product}
+use Rattle.work_code.specs.Term.{Term}
+use Rattle.kern_changes.specs.Counted.{AreSame}
+use Rattle.kern_bags.specs.Contents.{content_of, product, selected, projected}
 use Rattle.kern_bags.specs.Kept.{Stamped, WindowKept, StandsForWindow}
-use Rattle.kern_bags.specs.Steps.{streamed}
+use Rattle.kern_bags.specs.Steps.{select_one, streamed}
 use Rattle.kern_bags.specs.declared.kernel.Window.{Window}
 use Rattle.kern_bags.specs.declared.kernel.Streamer.{Streamer}
-use Rattle.kern_bags.specs.declared.kernel.Streamer.TheVariants.{Rstream}
-use Rattle.kern_changes.specs.Counted.{AreSame}
-use Rattle.river_base.specs.declared.item.Change.{Change}
-use Rattle.river_base.specs.Changes.{change_to, changes, IsWideChange, IsChangeOf, GaveChanges}
+use Rattle.kern_bags.specs.declared.kernel.Streamer.TheVariants.{Istream, Dstream, Rstream}
 
 -- a batch with these rows at the instant of another
 abbrev pub stamped_as : Batch → List (List ℤ) → Batch
@@ -40,6 +43,76 @@ pub record Windows (w : Window) (b : Batch) (old new : WindowKept) (c : Change) 
 pub record WindowFits (b : Batch) (old new : WindowKept) (c : Change) : Type 0 where
   pub each : (w : ℕ) → HaveWidth w b.rows → HaveWidth w (map (λ (e : Stamped). e.1) old.rows)
       → IsChangeOf w c × HaveWidth w (map (λ (e : Stamped). e.1) new.rows)
+
+-- WHAT ONE ITEM GIVES
+
+-- one change was given, of which this holds
+pub record GaveChange (P : Change → Type 0) (out out' : List item.Item) : Type 0 where
+  pub change : Change
+  pub grew : out' ≡ out ++ Flat (Changed change) ∷ []
+  pub is : P change
+
+-- one batch was given, of which this holds
+pub record GaveBatch (P : Batch → Type 0) (out out' : List item.Item) : Type 0 where
+  pub batch : Batch
+  pub grew : out' ≡ out ++ Flat (Batched batch) ∷ []
+  pub is : P batch
+
+-- changes as items
+abbrev pub as_changes : List Change → List item.Item
+as_changes cs = map (λ c. Flat (Changed c)) cs
+
+-- a batch came to a window: the change is that of its content, and it fits
+pub record WindowSteps (w : Window) (b : Batch) (old new : WindowKept) (c : Change) : Type 0 where
+  pub contents : Windows w b old new c
+  pub fits : WindowFits b old new c
+
+-- a change came to a selection: the change is that of what is selected, and as wide
+pub record Selects (t : Term) (c d : Change) : Type 0 where
+  pub contents : FollowsContent (selected t) c d
+  pub fits : (w : ℕ) → IsChangeOf w c → IsChangeOf w d
+
+-- an item came to a selection: of a stream its rows that are selected are given, of a relation the change
+abbrev pub SelectsFlat : Term → flat.Flat → List item.Item → List item.Item → Type 0
+SelectsFlat t (One row) out out' = out' ≡ out
+SelectsFlat t (Batched b) out out' = out' ≡ out ++ select_one t (Flat (Batched b))
+SelectsFlat t (Changed c) out out' = GaveChange (Selects t c) out out'
+
+-- a change came to a projection: the change is that of what is projected, as wide as there are expressions
+pub record Projects (ts : List Term) (c d : Change) : Type 0 where
+  pub contents : FollowsContent (projected ts) c d
+  pub fits : IsChangeOf (length ts) d
+
+-- an item that is a change came to a projection
+pub record ProjectsFlat (ts : List Term) (x : flat.Flat) (out out' : List item.Item) : Type 0 where
+  pub each : (c : Change) → x ≡ Changed c → GaveChange (Projects ts c) out out'
+
+-- STREAMERS
+
+-- what a streamer keeps of a content: Rstream the bag of its rows, the others nothing
+abbrev pub KeepsContent : Streamer → List (List ℤ) → List (List ℤ) → Type 0
+KeepsContent Istream now content = Unit {0}
+KeepsContent Dstream now content = Unit {0}
+KeepsContent Rstream now content = AreSame now content
+
+-- a change came to a streamer: whatever the content was of which it kept what it keeps, the batch is what the streamer gives, and it
+-- keeps what it keeps of the content after it
+pub record StreamsChange (s : Streamer) (c : Change) (old new : List (List ℤ)) (given : Batch) : Type 0 where
+  pub each : (before : List (List ℤ)) (b : Batch) → IsAscending b.rows → KeepsContent s old before → c ≡ change_to before b
+      → (given ≡ stamped_as b (streamed s before b.rows)) × KeepsContent s new b.rows
+
+-- what is given and what is kept is as wide as the change and what was kept
+pub record StreamFits (c : Change) (old new : List (List ℤ)) (given : Batch) : Type 0 where
+  pub each : (w : ℕ) → HaveWidth w old → IsWideChange w c → HaveWidth w new × HaveWidth w given.rows
+
+-- both
+pub record StreamSteps (s : Streamer) (c : Change) (old new : List (List ℤ)) (given : Batch) : Type 0 where
+  pub contents : StreamsChange s c old new given
+  pub fits : StreamFits c old new given
+
+-- an item that is a change came to a streamer
+pub record StreamsFlat (s : Streamer) (x : flat.Flat) (old new : List (List ℤ)) (out out' : List item.Item) : Type 0 where
+  pub each : (c : Change) → x ≡ Changed c → GaveBatch (StreamSteps s c old new) out out'
 
 -- a change came to a streamer that keeps nothing: whatever the content was, the batch is what the streamer gives
 pub record StreamsFree (s : Streamer) (c : Change) (given : Batch) : Type 0 where
@@ -112,3 +185,23 @@ pub record IsCrossOf (left right : ℕ) (s : CrossKept) : Type 0 where
 -- whatever contents there were: the changes given are normalised, and as wide as both sides together
 pub record CrossFits (old new : CrossKept) (out out' : List Change) : Type 0 where
   pub each : (left right : ℕ) → IsCrossOf left right old → GaveChanges (left + right) out out' × IsCrossOf left right new
+
+-- both
+pub record CrossSteps (old new : CrossKept) (given : List Change) : Type 0 where
+  pub contents : Crosses old new [] given
+  pub fits : CrossFits old new [] given
+
+-- a change came to a port: the changes that it lets pass were given
+pub record CrossesChange (port : ℕ) (c : Change) (old new : CrossKept) (out out' : List item.Item) : Type 0 where
+  pub given : List Change
+  pub grew : out' ≡ out ++ as_changes given
+  pub is : CrossSteps (put_change port c old) new given
+
+-- an item that is a change came to a port
+pub record CrossesFlat (port : ℕ) (x : flat.Flat) (old new : CrossKept) (out out' : List item.Item) : Type 0 where
+  pub each : (c : Change) → x ≡ Changed c → CrossesChange port c old new out out'
+
+-- there was no memory: whatever contents the changes stand for, a part of the changes of the products was given
+pub record CrossesPart (port : ℕ) (x : flat.Flat) (old : CrossKept) (out out' : List item.Item) : Type 0 where
+  pub each : (c : Change) → x ≡ Changed c → (m : Crossing) → StandsForCrossing (put_change port c old) m
+      → GrewByPrefix out (as_changes (changes (product m.lefts m.rights) (passed_pairs m).0)) out'

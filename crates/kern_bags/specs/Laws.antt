@@ -12,6 +12,7 @@ use Rattle.river_base.specs.declared.item.Batch.{Batch}
 use Rattle.work_code.specs.Term.{Term}
 use Rattle.work_code.specs.Value.{val, is_true}
 use Rattle.kern_bags.specs.Contents.{difference, selected, projected, product, greatest, content_of}
+use Rattle.kern_bags.specs.Following.{cross_start, crossing, StandsForCrossing}
 use Rattle.kern_bags.specs.Steps.{streamed}
 use Rattle.kern_bags.specs.declared.kernel.Streamer.TheVariants.{Istream, Dstream, Rstream}
 use Rattle.kern_bags.specs.declared.kernel.Window.{Window}
@@ -112,3 +113,7 @@ pub record Ascend : Type 0 where
   pub projections : (ts : List Term) (rows : List (List ℤ)) → IsSorted row_cmp (projected ts rows)
   pub products : (xs ys : List (List ℤ)) → IsSorted row_cmp (product xs ys)
   pub differences : (xs ys : List (List ℤ)) → IsSorted row_cmp (difference xs ys)
+
+-- what a product keeps before the first change stands for empty contents, of which none waits
+abbrev pub ProductsStartEmpty : Type 0
+ProductsStartEmpty = StandsForCrossing cross_start (crossing [] [] [] [])

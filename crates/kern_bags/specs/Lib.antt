@@ -1,5 +1,7 @@
 pub mod Contents
+pub mod Following
 pub mod Kept
 pub mod Laws
 pub mod Needs
 pub mod Steps
+pub mod Takes

@@ -1,28 +1,46 @@
--- What steps on changes need.
+-- What steps on changes need, and how a pair of them passes.
 use Rattle.std.specs.Prelude.{◌≡◌, ◌≤◌, ◌+◌, ◌⊎◌, ℕ, List, [], ◌∷◌, ◌++◌}
 use Rattle.river_base.specs.Held.{HaveWidth}
 use Rattle.work_code.specs.Term.{Term}
 use Rattle.kern_bags.specs.Needs.{CanRead, CanProject}
 use Rattle.river_base.specs.declared.item.Change.{Change}
+use Rattle.river_base.specs.declared.item.Flat as flat
+use Rattle.river_base.specs.declared.item.Flat.TheVariants.{One, Batch as Batched, Change as Changed}
 use Rattle.river_base.specs.Changes.{cancelled, all_pairs, IsWideChange}
-use Rattle.kern_changes.specs.Counted.{Changed}
-use Rattle.kern_changes.specs.Kept.{CrossKept, IsCrossOf}
+use Rattle.kern_changes.specs.Counted as counted
+use Rattle.kern_bags.specs.Following.{CrossKept, IsCrossOf, put_change}
 
 -- the expression reads only fields that each row has
 pub record CanReadBoth (t : Term) (c : Change) : Type 0 where
   pub plus : CanRead t c.plus
   pub minus : CanRead t c.minus
 
+-- the same of an item
+abbrev pub CanReadFlat : Term → flat.Flat → Type 0
+CanReadFlat t (One row) = Unit {0}
+CanReadFlat t (Batched b) = CanRead t b.rows
+CanReadFlat t (Changed c) = CanReadBoth t c
+
 -- so do 1 to 16 expressions
 pub record CanProjectBoth (ts : List Term) (c : Change) : Type 0 where
   pub plus : CanProject ts c.plus
   pub minus : CanProject ts c.minus
+
+-- the same of an item that is a change
+abbrev pub CanProjectFlat : List Term → flat.Flat → Type 0
+CanProjectFlat ts (Changed c) = CanProjectBoth ts c
+CanProjectFlat ts x = ⊥
 
 -- rows at the one port can be joined with rows at the other, those that wait and those that are kept
 pub record CanCrossChanges (s : CrossKept) : Type 0 where
   pub left : ℕ
   pub right : ℕ
   pub wide : IsCrossOf left right s
+
+-- an item that is a change can come to a port
+abbrev pub CanCrossFlat : ℕ → flat.Flat → CrossKept → Type 0
+CanCrossFlat port (Changed c) s = CanCrossChanges (put_change port c s)
+CanCrossFlat port x s = ⊥
 
 -- these two can be made
 pub record CanMake (c d : Change) (s : CrossKept) : Type 0 where
@@ -50,6 +68,6 @@ pub record HasNoChanges (old new : CrossKept) : Type 0 where
 pub record JoinsChanges (c d : Change) (old new : CrossKept) (out out' : List Change) : Type 0 where
   pub left : new.left ≡ old.left
   pub right : new.right ≡ old.right
-  pub lefts : Changed c old.lefts new.lefts
-  pub rights : Changed d old.rights new.rights
+  pub lefts : counted.Changed c old.lefts new.lefts
+  pub rights : counted.Changed d old.rights new.rights
   pub gave : out' ≡ out ++ cancelled c.at (all_pairs c.plus old.rights ++ all_pairs new.lefts d.plus) (all_pairs c.minus old.rights ++ all_pairs new.lefts d.minus) ∷ []

@@ -1,45 +1,36 @@
 // A product of two relations that come as changes.
-ghost use Rattle.std.specs.Prelude.{◌≡◌, ◌++◌, OnOk, MatchOption};
-ghost use Rattle.kern_bags.specs.Needs.{CanJoin};
+ghost use Rattle.std.specs.Prelude.{◌≡◌, ◌++◌, IfOk, OnOk, OnErr, MatchOption};
 ghost use Rattle.river_base.specs.Changes.{all_pairs};
-ghost use Rattle.kern_changes.specs.Kept.{cross_start, put_change, Crosses, CrossFits};
-ghost use Rattle.kern_changes.specs.Needs.{CanCrossChanges, CanMake, TakesChanges, HasNoChanges, JoinsChanges};
+ghost use Rattle.kern_rows.specs.Dealing.{IsChanged};
+ghost use Rattle.kern_bags.specs.Following.{cross_start, put_change, Crosses, CrossFits, CrossesFlat, CrossesPart};
+ghost use Rattle.kern_bags.specs.Needs.{CanJoin};
+ghost use Rattle.kern_bags.specs.Takes.{CanCrossChanges, CanCrossFlat, CanMake, TakesChanges, HasNoChanges, JoinsChanges};
 
-use crate::line::Line;
-use crate::settling::settle;
-use crate::{Change, Changes, Content};
-use kern_bags::join_each;
-use river_base::{NoMemory, Row, Rows};
+use crate::Cross;
+use crate::given::{change_of, give_changes};
+use crate::line::{Changes, Line};
+use crate::product::join_all;
+use kern_changes::{Content, settle};
+use river_base::{Change, Flat, Items, NoMemory, Rows};
 use std::alloc::Global;
 use std::marker::Model;
 
 /// What a product keeps: the changes that wait at each of its ports, and the contents that passed
 /// last, each as a bag.
 #[derive(Drop)]
-pub struct CrossRows {
+pub struct CrossState {
     left: Line,
     right: Line,
     lefts: Content,
     rights: Content,
 }
 
-impl Model for CrossRows {
-    ghost use Rattle.kern_changes.specs.Kept.{CrossKept};
+impl Model for CrossState {
+    ghost use Rattle.kern_bags.specs.Following.{CrossKept};
 
     ghost Value = { CrossKept };
 
     ghost view = { λ s. record { left = s.left; right = s.right; lefts = s.lefts; rights = s.rights } };
-}
-
-// All pairs, joined.
-fn join_all(lefts: &[Row], rights: &[Row], all: &mut Rows) -> Result<(), NoMemory>
-    requires { CanJoin lefts.now rights.now }
-    ensures { OnOk result (all.new ≡ all.old ++ all_pairs lefts.now rights.now) }
-{
-    for left in lefts {
-        join_each(left, rights, all)?;
-    }
-    Ok(())
 }
 
 // What comes and goes at the left meets all that is at the right.
@@ -87,19 +78,7 @@ fn meet_left(
     Ok(())
 }
 
-impl CrossRows {
-    /// Nothing waits, and nothing has passed.
-    pub fn start(alloc: Global) -> CrossRows
-        ensures { result ≡ cross_start }
-    {
-        CrossRows {
-            left: Line::new(alloc),
-            right: Line::new(alloc),
-            lefts: Content::new(alloc),
-            rights: Content::new(alloc),
-        }
-    }
-
+impl CrossState {
     // A change comes to a port, the first or the second.
     fn put(&mut self, port: u32, change: Change) -> Result<(), NoMemory>
         ensures { OnOk result (self.new ≡ put_change port change self.old) }
@@ -158,25 +137,42 @@ impl CrossRows {
         }
         Ok(())
     }
+}
+
+impl Cross {
+    /// The state before the first change: nothing waits, and nothing has passed.
+    pub fn start(alloc: Global) -> Result<CrossState, NoMemory>
+        ensures { IfOk result (λ state. state ≡ cross_start) }
+    {
+        Ok(CrossState {
+            left: Line::new(alloc),
+            right: Line::new(alloc),
+            lefts: Content::new(alloc),
+            rights: Content::new(alloc),
+        })
+    }
 
     /// A change comes to a port, the first or the second, and waits there. As long as a change
     /// waits at both, the first two are made, and the change of the product of the contents is
     /// given, at the instant of the first port's. Costs for each two the rows of the one change
     /// times the other side, n log n of these, and the logarithm of what is kept for each row of
-    /// a change. Where there is no memory, nothing is said of the state.
+    /// a change. Where there is no memory, a part of what passes was given, and nothing is said of
+    /// the state.
     pub fn step(
-        &mut self,
         alloc: Global,
+        state: &mut CrossState,
         port: u32,
-        change: Change,
-        out: &mut Changes,
+        item: Flat,
+        out: &mut Items,
     ) -> Result<(), NoMemory>
-        requires { CanCrossChanges (put_change port change self.old) }
-        ensures contents { OnOk result (Crosses (put_change port change self.old) self.new out.old out.new) }
-        ensures fits { OnOk result (CrossFits (put_change port change self.old) self.new out.old out.new) }
+        requires change { IsChanged item }
+        requires fits { CanCrossFlat port item state.old }
+        ensures ok { OnOk result (CrossesFlat port item state.old state.new out.old out.new) }
+        ensures err { OnErr result (CrossesPart port item state.old out.old out.new) }
     {
-        self.put(port, change)?;
-        self.pass_pairs(alloc, out)?;
-        Ok(())
+        let mut changes = Changes::new(alloc);
+        state.put(port, change_of(item))?;
+        state.pass_pairs(alloc, &mut changes)?;
+        give_changes(changes, out)
     }
 }

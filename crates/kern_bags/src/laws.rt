@@ -1,5 +1,5 @@
 //! Laws of bags, each the contract of a function that does nothing.
-ghost use Rattle.kern_bags.specs.Laws.{DifferencesAre, StreamersAre, SelectionsAre, ProjectionsAre, ProductsAre, ContentsAre, GreatestIsNow, LatestAre, Ascend};
+ghost use Rattle.kern_bags.specs.Laws.{DifferencesAre, StreamersAre, SelectionsAre, ProjectionsAre, ProductsAre, ContentsAre, GreatestIsNow, LatestAre, Ascend, ProductsStartEmpty};
 
 /// A row is in a difference as often as in the first bag, less the times it is in the second, and not below 0.
 pub fn differences_are()
@@ -44,4 +44,9 @@ pub fn latest_are()
 /// What stands in a relation stands in ascending order.
 pub fn relations_ascend()
     ensures { Ascend }
+{}
+
+/// What a product keeps at the start stands for empty contents, of which none waits.
+pub fn products_start_empty()
+    ensures { ProductsStartEmpty }
 {}

@@ -1,11 +1,12 @@
-//! Kernels on bags of rows: windows, products and streamers of continuous queries.
+//! Kernels on bags of rows: windows, products and streamers of continuous queries. A relation comes
+//! as changes, and each contract speaks of contents.
 #![tactic(auto)]
 
 mod cross;
-mod difference;
 mod given;
 mod kernel;
 pub mod laws;
+mod line;
 mod product;
 mod rowwise;
 mod stamped;
@@ -13,9 +14,7 @@ mod streamer;
 mod window;
 
 pub use cross::CrossState;
-pub use difference::without;
 pub use kernel::{Cross, Streamer, Window};
-pub use product::join_each;
-pub use rowwise::{keep_rows, project, project_rows, select};
+pub use rowwise::{project, select};
 pub use streamer::StreamerState;
 pub use window::WindowState;

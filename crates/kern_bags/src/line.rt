@@ -1,11 +1,13 @@
 // Changes in a line.
 ghost use Rattle.std.specs.Prelude.{◌≡◌, ◌↔◌, [], ◌∷◌, ◌++◌, IsTrue, OnOk, MatchOption};
 
-use crate::Change;
-use river_base::NoMemory;
+use river_base::{Change, Listed, NoMemory};
 use std::alloc::Global;
 use std::collections::VecDeque;
 use std::marker::Model;
+
+/// A list of changes.
+pub type Changes = Listed<Change>;
 
 /// Changes in a line: new ones come to its end, and each leaves at its front. Contracts see the
 /// list of those that are there.

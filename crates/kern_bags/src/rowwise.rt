@@ -1,44 +1,58 @@
 // What selections and projections do with an item.
-ghost use Rattle.std.specs.Prelude.{◌≡◌, [], ◌++◌, ◌≤◌, length, map, IfOk, OnOk, OnErr};
+ghost use Rattle.std.specs.Prelude.{◌≡◌, [], ◌≤◌, length, map, IfOk, OnOk, OnErr};
 ghost use Rattle.std.specs.List.{AllByRecursion};
-ghost use Rattle.river_base.specs.declared.item.Item.TheVariants.{Flat as flat_item};
-ghost use Rattle.river_base.specs.declared.item.Flat.TheVariants.{Batch as batched};
 ghost use Rattle.work_code.specs.Term.{term, terms};
 ghost use Rattle.work_code.specs.Value.{val, is_true, IsWithin};
 ghost use Rattle.kern_bags.specs.Contents.{selected};
-ghost use Rattle.kern_bags.specs.Needs.{flat_rows, CanRead, CanProject};
-ghost use Rattle.kern_bags.specs.Steps.{select_one, project_one};
+ghost use Rattle.kern_bags.specs.Following.{Selects, SelectsFlat, Projects, ProjectsFlat};
+ghost use Rattle.kern_bags.specs.Needs.{CanRead, CanProject};
+ghost use Rattle.kern_bags.specs.Takes.{CanReadBoth, CanReadFlat, CanProjectBoth, CanProjectFlat};
+ghost use Rattle.kern_rows.specs.Dealing.{IsChanged};
 
-use crate::given::give;
-use river_base::{Batch, Flat, Items, MAX_ROW, NoMemory, Row, Rows};
+use crate::given::{change_of, give_batch, give_change};
+use kern_changes::settle;
+use river_base::{Change, Flat, Items, MAX_ROW, NoMemory, Row, Rows};
+use std::alloc::Global;
 use work_code::{Expr, Exprs, eval};
 
-/// A batch comes to a selection: the rows for which the condition is not 0 are given in their order, at the batch's instant. An item
-/// that is no batch gives nothing. Where there is no memory, nothing was given.
+/// An item comes to a selection. Of a stream it gives the rows for which the condition is not 0, in
+/// their order; of a relation the change of these, which is both parts without the others. Either is
+/// at the item's instant. A row gives nothing. Touches each row of the item once. Where there is no
+/// memory, nothing was given.
 pub fn select(cond: &Expr, item: Flat, out: &mut Items) -> Result<(), NoMemory>
-    requires { CanRead (term cond.now) (flat_rows item) }
-    ensures ok { OnOk result (out.new ≡ out.old ++ select_one (term cond.now) (flat_item item)) }
+    requires { CanReadFlat (term cond.now) item }
+    ensures ok { OnOk result (SelectsFlat (term cond.now) item out.old out.new) }
     ensures err { OnErr result (out.new ≡ out.old) }
 {
     match item {
-        Flat::One(_) | Flat::Change(_) => Ok(()),
-        Flat::Batch(batch) => select_batch(cond, batch, out),
+        Flat::One(_) => Ok(()),
+        Flat::Batch(batch) => {
+            let mut kept = batch;
+            keep_rows(cond, &mut kept.rows);
+            give_batch(kept, out)
+        }
+        Flat::Change(change) => give_change(select_change(cond, change), out),
     }
 }
 
-fn select_batch(cond: &Expr, batch: Batch, out: &mut Items) -> Result<(), NoMemory>
-    requires { CanRead (term cond.now) batch.rows }
-    ensures ok { OnOk result (out.new ≡ out.old ++ select_one (term cond.now) (flat_item (batched batch))) }
-    ensures err { OnErr result (out.new ≡ out.old) }
+// The change of a selection: both parts without the rows for which the condition is 0.
+fn select_change(cond: &Expr, change: Change) -> Change
+    requires { CanReadBoth (term cond.now) change }
+    ensures { Selects (term cond.now) change result }
 {
-    let mut rows = batch.rows;
-    keep_rows(cond, &mut rows);
-    give(batch.at, rows, out)?;
-    Ok(())
+    let mut plus = change.plus;
+    let mut minus = change.minus;
+    keep_rows(cond, &mut plus);
+    keep_rows(cond, &mut minus);
+    Change {
+        at: change.at,
+        plus,
+        minus,
+    }
 }
 
-/// Keeps the rows for which the condition is not 0, in their order, in place.
-pub fn keep_rows(cond: &Expr, rows: &mut Rows)
+// Keeps the rows for which the condition is not 0, in their order, in place.
+fn keep_rows(cond: &Expr, rows: &mut Rows)
     requires { CanRead (term cond.now) rows.old }
     ensures { rows.new ≡ selected (term cond.now) rows.old }
 {
@@ -61,33 +75,39 @@ fn passes(cond: &Expr, row: &Row) -> bool
     eval(cond, row.values(), &[]) != 0
 }
 
-/// A batch comes to a projection: the values of the expressions of each row are given, in ascending order, at the batch's
-/// instant. An item that is no batch gives nothing. Where there is no memory, nothing was given.
-pub fn project(list: &Exprs, item: Flat, out: &mut Items) -> Result<(), NoMemory>
-    requires { CanProject (terms list.now) (flat_rows item) }
-    ensures ok { OnOk result (out.new ≡ out.old ++ project_one (terms list.now) (flat_item item)) }
+/// A change comes to a projection, which gives the change of what it projects: for the rows of both
+/// parts their values of the 1 to 16 expressions, without those that then come and go, at the same
+/// instant. Costs n log n of the change's rows. Where there is no memory, nothing was given.
+pub fn project(
+    alloc: Global,
+    list: &Exprs,
+    item: Flat,
+    out: &mut Items,
+) -> Result<(), NoMemory>
+    requires change { IsChanged item }
+    requires fits { CanProjectFlat (terms list.now) item }
+    ensures ok { OnOk result (ProjectsFlat (terms list.now) item out.old out.new) }
     ensures err { OnErr result (out.new ≡ out.old) }
 {
-    match item {
-        Flat::One(_) | Flat::Change(_) => Ok(()),
-        Flat::Batch(batch) => project_batch(list, batch, out),
-    }
+    let change = project_change(alloc, list, change_of(item))?;
+    give_change(change, out)
 }
 
-fn project_batch(list: &Exprs, batch: Batch, out: &mut Items) -> Result<(), NoMemory>
-    requires { CanProject (terms list.now) batch.rows }
-    ensures ok { OnOk result (out.new ≡ out.old ++ project_one (terms list.now) (flat_item (batched batch))) }
-    ensures err { OnErr result (out.new ≡ out.old) }
+// The change of a projection: for the rows of both parts their values of the expressions, without
+// those that then come and go.
+fn project_change(alloc: Global, list: &Exprs, change: Change) -> Result<Change, NoMemory>
+    requires { CanProjectBoth (terms list.now) change }
+    ensures { IfOk result (λ d. Projects (terms list.now) change d) }
 {
-    let mut rows = batch.rows;
-    project_rows(list, &mut rows);
-    rows.sort()?;
-    give(batch.at, rows, out)?;
-    Ok(())
+    let mut plus = change.plus;
+    let mut minus = change.minus;
+    project_rows(list, &mut plus);
+    project_rows(list, &mut minus);
+    settle(alloc, change.at, plus, minus)
 }
 
-/// In the place of each row come its values of the expressions, of which there are 1 to 16.
-pub fn project_rows(list: &Exprs, rows: &mut Rows)
+// In the place of each row come its values of the expressions, of which there are 1 to 16.
+fn project_rows(list: &Exprs, rows: &mut Rows)
     requires { CanProject (terms list.now) rows.old }
     ensures { rows.new ≡ map (λ row. map (λ t. val t row []) (terms list.now)) rows.old }
 {

@@ -1,17 +1,34 @@
-// Streamers of changes.
-ghost use Rattle.std.specs.Prelude.{ℕ, IfOk};
+// Streamers of changes, and what they keep.
+ghost use Rattle.std.specs.Prelude.{◌≡◌, [], ℕ, IfOk, OnOk, OnErr};
+ghost use Rattle.river_base.specs.Changes.{IsWideChange};
 ghost use Rattle.river_base.specs.Held.{HaveWidth};
 ghost use Rattle.kern_bags.specs.declared.kernel.Streamer.TheVariants.{Istream, Dstream};
-ghost use Rattle.river_base.specs.Changes.{IsWideChange};
-ghost use Rattle.kern_changes.specs.Kept.{StreamsFree, StreamsAll};
+ghost use Rattle.kern_bags.specs.Following.{StreamsFree, StreamsAll, StreamSteps, StreamsFlat};
+ghost use Rattle.kern_rows.specs.Dealing.{IsChanged};
 
-use crate::{Change, Content};
-use river_base::{Batch, NoMemory};
+use crate::Streamer;
+use crate::given::{change_of, give_batch};
+use kern_changes::Content;
+use river_base::{Batch, Change, Flat, Items, NoMemory};
 use std::alloc::Global;
+use std::marker::Model;
 
-/// The rows that came since the content before: `Istream` of CQL (Arasu, Babu, Widom, 2006).
-/// Costs nothing, since these are the change.
-pub fn istream(change: Change) -> Batch
+/// What a streamer keeps between changes: the content, where it gives the whole of it.
+#[derive(Drop)]
+pub struct StreamerState {
+    content: Content,
+}
+
+impl Model for StreamerState {
+    ghost use Rattle.std.specs.Prelude.{ℤ, List};
+
+    ghost Value = { List (List ℤ) };
+
+    ghost view = { λ s. s.content };
+}
+
+// The rows that came since the content before.
+fn istream(change: Change) -> Batch
     ensures contents { StreamsFree Istream change result }
     ensures fits { (w : ℕ) → IsWideChange w change → HaveWidth w result.rows }
 {
@@ -21,8 +38,8 @@ pub fn istream(change: Change) -> Batch
     }
 }
 
-/// The rows that went since the content before: `Dstream` of CQL. Costs nothing.
-pub fn dstream(change: Change) -> Batch
+// The rows that went since the content before.
+fn dstream(change: Change) -> Batch
     ensures contents { StreamsFree Dstream change result }
     ensures fits { (w : ℕ) → IsWideChange w change → HaveWidth w result.rows }
 {
@@ -32,10 +49,8 @@ pub fn dstream(change: Change) -> Batch
     }
 }
 
-/// All rows of the content, in ascending order: `Rstream` of CQL. The content is kept, and the
-/// change is made on it first. Costs what it gives. Where there is no memory, nothing is said of
-/// the content.
-pub fn rstream(alloc: Global, content: &mut Content, change: Change) -> Result<Batch, NoMemory>
+// All rows of the content, in ascending order, once the change is made on it.
+fn rstream(alloc: Global, content: &mut Content, change: Change) -> Result<Batch, NoMemory>
     ensures contents { IfOk result (λ batch. StreamsAll change content.old content.new batch) }
     ensures fits { IfOk result (λ batch. (w : ℕ) → HaveWidth w content.old → IsWideChange w change → HaveWidth w content.new × HaveWidth w batch.rows) }
 {
@@ -46,4 +61,53 @@ pub fn rstream(alloc: Global, content: &mut Content, change: Change) -> Result<B
         at: change.at,
         rows,
     })
+}
+
+impl StreamerState {
+    // What a streamer gives for a change.
+    fn take(
+        &mut self,
+        alloc: Global,
+        streamer: &Streamer,
+        change: Change,
+    ) -> Result<Batch, NoMemory>
+        ensures { IfOk result (λ batch. StreamSteps streamer.now change self.old self.new batch) }
+    {
+        match streamer {
+            Streamer::Istream => Ok(istream(change)),
+            Streamer::Dstream => Ok(dstream(change)),
+            Streamer::Rstream => rstream(alloc, &mut self.content, change),
+        }
+    }
+}
+
+impl Streamer {
+    /// The state before the first change, when the relation is empty.
+    pub fn start(&self, alloc: Global) -> Result<StreamerState, NoMemory>
+        ensures { IfOk result (λ state. state ≡ []) }
+    {
+        Ok(StreamerState {
+            content: Content::new(alloc),
+        })
+    }
+
+    /// A change of a relation comes. The rows that came since the content before, those that went,
+    /// or all are given in ascending order, at the change's instant. `Istream` and `Dstream` cost
+    /// nothing, since their rows are parts of the change; `Rstream` makes the change on the content
+    /// that it keeps, and costs what it gives. Where there is no memory, nothing was given, and
+    /// nothing is said of the state.
+    pub fn step(
+        &self,
+        alloc: Global,
+        state: &mut StreamerState,
+        item: Flat,
+        out: &mut Items,
+    ) -> Result<(), NoMemory>
+        requires { IsChanged item }
+        ensures ok { OnOk result (StreamsFlat self.now item state.old state.new out.old out.new) }
+        ensures err { OnErr result (out.new ≡ out.old) }
+    {
+        let batch = state.take(alloc, self, change_of(item))?;
+        give_batch(batch, out)
+    }
 }

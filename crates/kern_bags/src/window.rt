@@ -1,26 +1,26 @@
 // What windows keep, and their steps on changes.
-ghost use Rattle.std.specs.Prelude.{◌≡◌, ◌-ℤ◌, pos, Some, [], IfOk, OnOk};
+ghost use Rattle.std.specs.Prelude.{◌≡◌, ◌-ℤ◌, pos, Some, IfOk, OnOk, OnErr};
 ghost use Rattle.kern_bags.specs.Contents.{later};
 ghost use Rattle.kern_bags.specs.Kept.{AreInTurn, inserted, still_in, now_after, window_start, IsWindowKept};
-ghost use Rattle.kern_changes.specs.Kept.{LetGo, Windows, WindowFits};
+ghost use Rattle.kern_bags.specs.Following.{LetGo, Windows, WindowFits, WindowSteps, GaveChange};
 
-use crate::Change;
-use crate::settling::settle;
+use crate::Window;
+use crate::given::give_change;
 use crate::stamped::StampedRows;
-use kern_bags::Window;
-use river_base::{Batch, NoMemory, Rows};
+use kern_changes::settle;
+use river_base::{Batch, Change, Items, NoMemory, Rows};
 use std::alloc::Global;
 use std::marker::Model;
 
 /// What a window of CQL (Arasu, Babu, Widom, 2006) keeps between batches: the greatest instant so
 /// far, and the rows that stand in the window.
 #[derive(Drop)]
-pub struct WindowRows {
+pub struct WindowState {
     now: Option<i64>,
     rows: StampedRows,
 }
 
-impl Model for WindowRows {
+impl Model for WindowState {
     ghost use Rattle.kern_bags.specs.Kept.{WindowKept};
 
     ghost Value = { WindowKept };
@@ -64,17 +64,7 @@ fn let_go(
     }
 }
 
-impl WindowRows {
-    /// The state before the first batch: no row.
-    pub fn start(alloc: Global) -> WindowRows
-        ensures { result ≡ window_start }
-    {
-        WindowRows {
-            now: None,
-            rows: StampedRows::new(alloc),
-        }
-    }
-
+impl WindowState {
     // Rows of an instant come, and those that leave come to an empty list.
     fn renew(
         &mut self,
@@ -95,11 +85,8 @@ impl WindowRows {
         Ok(())
     }
 
-    /// A batch comes: its rows come to the window, those that have left it go, and that is the
-    /// change of its content, at the batch's instant. Costs n log n of the rows that came and
-    /// went, and moves the rows behind the place of a late batch. Where there is no memory,
-    /// nothing is said of the state.
-    pub fn step(&mut self, alloc: Global, window: &Window, batch: Batch) -> Result<Change, NoMemory>
+    // A batch comes: the change of the window's content.
+    fn take(&mut self, alloc: Global, window: &Window, batch: Batch) -> Result<Change, NoMemory>
         requires { IsWindowKept window.now self.old }
         ensures contents { IfOk result (λ change. Windows window.now batch self.old self.new change) }
         ensures fits { IfOk result (λ change. WindowFits batch self.old self.new change) }
@@ -107,5 +94,36 @@ impl WindowRows {
         let mut gone = Rows::new(alloc);
         self.renew(window, batch.at, &batch.rows, &mut gone)?;
         settle(alloc, batch.at, batch.rows, gone)
+    }
+}
+
+impl Window {
+    /// The state before the first batch: no row.
+    pub fn start(&self, alloc: Global) -> Result<WindowState, NoMemory>
+        ensures { IfOk result (λ state. state ≡ window_start) }
+    {
+        Ok(WindowState {
+            now: None,
+            rows: StampedRows::new(alloc),
+        })
+    }
+
+    /// A batch comes: its rows come to the window, those that have left it go, and the change of its
+    /// content is given, at the batch's instant. Costs n log n of the rows that came and went, and
+    /// moves the rows behind the place of a late batch. Where there is no memory, nothing was given,
+    /// and nothing is said of the state.
+    pub fn step(
+        &self,
+        alloc: Global,
+        state: &mut WindowState,
+        batch: Batch,
+        out: &mut Items,
+    ) -> Result<(), NoMemory>
+        requires { IsWindowKept self.now state.old }
+        ensures ok { OnOk result (GaveChange (WindowSteps self.now batch state.old state.new) out.old out.new) }
+        ensures err { OnErr result (out.new ≡ out.old) }
+    {
+        let change = state.take(alloc, self, batch)?;
+        give_change(change, out)
     }
 }
