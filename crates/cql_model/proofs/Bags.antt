@@ -11,7 +11,7 @@ use Rattle.river_base.specs.Row.{row_cmp, row_eq, in_order, copies}
 use Rattle.river_base.proofs.Counts.{permutation_from_copies}
 use Rattle.river_base.proofs.Rows.{rows_ranked, in_order_bag, in_order_ascends, in_order_sorted, in_order-IsPermutation}
 use Rattle.kern_bags.specs.Contents.{difference, product, without}
-use Rattle.kern_bags.proofs.Copies.{sum-cong, copies-in_order, copies-without}
+use Rattle.kern_changes.proofs.Copies.{sum-cong, copies-in_order, copies-without}
 
 -- the sum over what a function gives
 pub sum-map : {J K : Type 0} (f : K → ℕ) (g : J → K) (xs : List J) → sum_by f (map g xs) ≡ sum_by (λ x. f (g x)) xs

@@ -9,7 +9,7 @@ use Rattle.river_base.specs.Held.{HaveWidth}
 use Rattle.river_base.specs.Row.{in_order}
 use Rattle.work_code.specs.Value.{val, is_true}
 use Rattle.kern_bags.specs.Contents.{selected, projected, product}
-use Rattle.kern_bags.proofs.Copies.{sum-cong}
+use Rattle.kern_changes.proofs.Copies.{sum-cong}
 use Rattle.cql_text.specs.Tree.{Scalar, Column, Chosen}
 use Rattle.cql_model.specs.Scopes.{Named}
 use Rattle.cql_model.specs.Meaning.{Tuple, eval, with_each, product_of, where_true, all_values, selected_row}

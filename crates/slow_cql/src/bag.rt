@@ -3,7 +3,7 @@ ghost use Rattle.std.specs.Prelude.{◌≡◌, ◌≤◌, length, drop, IfOk};
 ghost use Rattle.river_base.specs.Held.{IsAscending};
 ghost use Rattle.river_base.specs.Row.{in_order};
 ghost use Rattle.kern_bags.specs.Contents.{without, difference};
-ghost use Rattle.kern_bags.specs.Needs.{rows_from};
+ghost use Rattle.kern_changes.specs.Needs.{rows_from};
 ghost use Rattle.cql_model.specs.Streams.{changed};
 
 use cql_text::Kind;

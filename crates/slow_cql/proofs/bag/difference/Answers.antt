@@ -1,7 +1,7 @@
 use Rattle.std.proofs.Common.{◌≡◌, true, false, sym, ap, ◌∙◌, subst, arith}
 use Rattle.river_base.specs.Row.{row_eq}
 use Rattle.kern_bags.specs.Contents.{without}
-use Rattle.kern_bags.proofs.Merged.{Up, up_of, row_taken, row_left, row_last, merged_all, left_in_order}
+use Rattle.kern_changes.proofs.Merged.{Up, up_of, row_taken, row_left, row_last, merged_all, left_in_order}
 use Rattle.slow_cql.proofs.bag.difference.Goals.{then-place-len+then-eq, else-place-len+in_ok-push, else-place-len-via-then-place-len+else-eq}
 use Rattle.slow_cql.proofs.bag.difference.Goals.{else-place-len-via-else-place-len}
 use Rattle.slow_cql.proofs.bag.difference.Goals as goal

@@ -1,5 +1,5 @@
 use Rattle.std.proofs.Common.{◌≤◌, length}
-use Rattle.kern_bags.proofs.Merged.{IsMerged}
+use Rattle.kern_changes.proofs.Merged.{IsMerged}
 use Rattle.slow_cql.proofs.bag.difference.Given as goal
 
 abbrev pub invariant-loop-row : goal.invariant-loop-row

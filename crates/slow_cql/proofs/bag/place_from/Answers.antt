@@ -1,7 +1,7 @@
 use Rattle.std.proofs.Common.{◌≡◌, true, false, sym, ap, ◌∙◌, arith}
 use Rattle.std.specs.Ordering.{is_lt}
 use Rattle.river_base.specs.Row.{row_lt}
-use Rattle.kern_bags.proofs.Merged.{place_next, place_found}
+use Rattle.kern_changes.proofs.Merged.{place_next, place_found}
 use Rattle.slow_cql.proofs.bag.place_from.Goals as goal
 
 pub loop-place-preserved : goal.loop-place-preserved

@@ -1,5 +1,5 @@
 use Rattle.std.proofs.Common.{◌≡◌, ◌≤◌, ◌-◌, length, drop}
-use Rattle.kern_bags.specs.Needs.{rows_from}
+use Rattle.kern_changes.specs.Needs.{rows_from}
 use Rattle.slow_cql.proofs.bag.place_from.Given as goal
 
 abbrev pub invariant-loop-place : goal.invariant-loop-place
