@@ -13,9 +13,9 @@ use Rattle.river_plan.proofs.NameLemmas.{cases_name}
 use Rattle.brooklet_model.specs.Bounded.{Bounded, Capacities, sent, at_first, Send, Take, ManyMoves, Rounds, MoveOrEnd}
 use Rattle.brooklet_model.specs.Histories.{History, hist, lengths}
 use Rattle.brooklet_model.specs.NetLaws.{NetsStay, RoundsAreFew}
-use Rattle.brooklet_model.specs.Nets.{IsNet, and_took, sent_in}
+use Rattle.brooklet_model.specs.Nets.{IsNet, and_took, sent_count_in}
 use Rattle.brooklet_model.specs.Received.{moves_from, lengths_at}
-use Rattle.brooklet_model.specs.Traced.{ran, numbered}
+use Rattle.brooklet_model.specs.Traced.{ran, sum_numbered}
 use Rattle.brooklet_model.specs.Words.{Word}
 use Rattle.brooklet_model.proofs.BoundedMoves.{took_sent}
 use Rattle.brooklet_model.proofs.FewMoves.{few_law}
@@ -48,30 +48,30 @@ sends_made ops h = total (λ op. lengths h op.writes) ops
 
 -- how many items they took
 abbrev takes_made : List OpForm → (ℕ → Word) → ℕ
-takes_made ops ws = numbered (λ o op. length (ws o)) 0 ops
+takes_made ops ws = sum_numbered (λ o op. length (ws o)) 0 ops
 
-sent_is : (b : Bounded) (qs : List Name) → sent_in b qs ≡ lengths (sent b) qs
+sent_is : (b : Bounded) (qs : List Name) → sent_count_in b qs ≡ lengths (sent b) qs
 sent_is b [] = omega arith
 sent_is b (q ∷ qs) = let i = sent_is b qs in omega (arith, i)
 
 sent_by : Bounded → Option OpForm → ℕ
 sent_by b None = 0
-sent_by b (Some op) = sent_in b op.writes
+sent_by b (Some op) = sent_count_in b op.writes
 
-sent_by_is : (b : Bounded) (o : ℕ) (op : OpForm) (ops : List OpForm) → slice_get ops o ≡ Some op → sent_by b (slice_get ops o) ≡ sent_in b op.writes
+sent_by_is : (b : Bounded) (o : ℕ) (op : OpForm) (ops : List OpForm) → slice_get ops o ≡ Some op → sent_by b (slice_get ops o) ≡ sent_count_in b op.writes
 unfolding sent_by
 sent_by_is b o op ops g = ap (sent_by b) g
 
 moves_are : (b : Bounded) (ws : ℕ → Word) (s : ℕ → ℕ) (ops : List OpForm) (o : ℕ)
-    → ((i : ℕ) (op : OpForm) → slice_get ops i ≡ Some op → s (o + i) ≡ sent_in b op.writes)
-    → moves_from o ops ws s ≡ numbered (λ i op. length (ws i)) o ops + sends_made ops (sent b)
+    → ((i : ℕ) (op : OpForm) → slice_get ops i ≡ Some op → s (o + i) ≡ sent_count_in b op.writes)
+    → moves_from o ops ws s ≡ sum_numbered (λ i op. length (ws i)) o ops + sends_made ops (sent b)
 moves_are b ws s [] o e = omega arith
 moves_are b ws s (op ∷ ops) o e =
     let z : o + 0 ≡ o = omega arith in
-    let a : s o ≡ sent_in b op.writes = subst (λ n. s n ≡ sent_in b op.writes) z (e 0 op refl) in
+    let a : s o ≡ sent_count_in b op.writes = subst (λ n. s n ≡ sent_count_in b op.writes) z (e 0 op refl) in
     let c = sent_is b op.writes in
     let i = moves_are b ws s ops (suc o)
-    (λ i op' g. let y : o + suc i ≡ suc o + i = omega arith in subst (λ n. s n ≡ sent_in b op'.writes) y (e (suc i) op' g)) in
+    (λ i op' g. let y : o + suc i ≡ suc o + i = omega arith in subst (λ n. s n ≡ sent_count_in b op'.writes) y (e (suc i) op' g)) in
     omega (arith, a, c, i)
 
 module _ (p : PlanForm) (inputs : List (List item.Item)) (caps : Capacities) (v : IsPlan p) where
@@ -149,10 +149,10 @@ module _ (p : PlanForm) (inputs : List (List item.Item)) (caps : Capacities) (v 
   made_few : (n : ℕ) (b : Bounded) → Made n b → n ≤ 2 * lengths (hist p inputs) (queue_names p)
   made_few n b m =
       let s = λ (o : ℕ). sent_by b (slice_get p.ops o) in
-      let is : (o : ℕ) (op : OpForm) → slice_get p.ops o ≡ Some op → s o ≡ sent_in b op.writes = (λ o op g. sent_by_is b o op p.ops g) in
+      let is : (o : ℕ) (op : OpForm) → slice_get p.ops o ≡ Some op → s o ≡ sent_count_in b op.writes = (λ o op g. sent_by_is b o op p.ops g) in
       let few = few_law p inputs m.words s v m.net.words
       (λ o op g. subst (λ k. k ≤ lengths_at op.writes (ran op (m.words o)).outs) (sym (is o op g)) (stays.sent m.words b o op m.net g)) in
-      let all = moves_are b m.words s p.ops 0 (λ i op g. let z : i ≡ 0 + i = omega arith in subst (λ j. s j ≡ sent_in b op.writes) z (is i op g)) in
+      let all = moves_are b m.words s p.ops 0 (λ i op g. let z : i ≡ 0 + i = omega arith in subst (λ j. s j ≡ sent_count_in b op.writes) z (is i op g)) in
       let k = m.made in
       omega (arith, few, all, k)
 

@@ -14,7 +14,7 @@ use Rattle.brooklet_model.specs.Laws.{given_to}
 use Rattle.brooklet_model.specs.Machine.{Machine, Step, Run, start, fired, at_key, times}
 use Rattle.brooklet_model.specs.Words.{Word, at_port, PortsBelow}
 use Rattle.brooklet_model.proofs.Complete.{traced_start, traced_fired, nothing_given}
-use Rattle.brooklet_model.specs.Traced.{ran, numbered, Traced}
+use Rattle.brooklet_model.specs.Traced.{ran, sum_numbered, Traced}
 use Rattle.brooklet_model.proofs.Free.{at_port-append}
 use Rattle.brooklet_model.proofs.Lists.{if_eq, if_ne}
 use Rattle.brooklet_model.proofs.Ports.{got_below}
@@ -22,7 +22,7 @@ use Rattle.brooklet_model.proofs.Solutions.{lists_one}
 use Rattle.brooklet_model.proofs.Swaps.{at_port_here, count_by-append}
 use Rattle.brooklet_model.proofs.Traces.{got_count, read_of, at_key_same, at_key_other, numbered_same}
 use Rattle.river_base.specs.Places.{list_at}
-use Rattle.brooklet_model.specs.Received.{hist_by, added, AreWords, events, named_from, named}
+use Rattle.brooklet_model.specs.Received.{hist_by, added, AreWords, events, named_from, named_run}
 use Rattle.brooklet_model.specs.NetLaws.{NamedRuns}
 use Rattle.brooklet_model.proofs.Received.{got_mid, writer_before, by_words, unwritten_by, only_words}
 
@@ -74,7 +74,7 @@ times_named (op ∷ rest) o (suc i) ws lt =
 
 -- how often a row was added to a table is a sum over the operators with their numbers
 pub added_numbered : (tables : List Name) (ops : List OpForm) (o : ℕ) (ws : ℕ → Word) (t : Name) (test : List ℤ → Bool)
-    → count_by test (added tables o ops ws t) ≡ numbered (λ i op. count_by test (joined (tables_of tables op) (ran op (ws i)).adds t)) o ops
+    → count_by test (added tables o ops ws t) ≡ sum_numbered (λ i op. count_by test (joined (tables_of tables op) (ran op (ws i)).adds t)) o ops
 added_numbered tables [] o ws t test = refl
 added_numbered tables (op ∷ ops) o ws t test =
     let a = count_by-append test (joined (tables_of tables op) (ran op (ws o)).adds t) (added tables (suc o) ops ws t) in
@@ -178,7 +178,7 @@ module _ (p : PlanForm) (inputs : List (List item.Item)) (v : IsPlan p) (ws : �
       )
 
   -- the machine after the named run, as what is known of it
-  pub reached : (s : Machine) × Run p (start p inputs) (named p ws) s × Traced tables ops first s ws
+  pub reached : (s : Machine) × Run p (start p inputs) (named_run p ws) s × Traced tables ops first s ws
   reached =
       let k : Half 0 [] (start p inputs) (λ o. []) = record {
         traced = traced_start p first v empty;
@@ -221,6 +221,6 @@ named_law p inputs ws v a =
         kept = t.kept;
         rows = λ u test. t.rows u test ∙ sym (added_numbered (table_names p.tables) p.ops 0 ws u test);
         times_of = λ o op g. let z : 0 + o ≡ o = omega arith in
-            subst (λ n. times n (named p ws) ≡ length (ws n)) z (times_named p.ops 0 o ws (got_below p.ops o op g));
+            subst (λ n. times n (named_run p ws) ≡ length (ws n)) z (times_named p.ops 0 o ws (got_below p.ops o op g));
       },
     )

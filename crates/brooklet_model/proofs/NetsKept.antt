@@ -26,8 +26,8 @@ use Rattle.brooklet_model.proofs.Free.{at_port-append}
 use Rattle.brooklet_model.proofs.Traces.{some_is, at_most, joined_out, one_place, got_count, place_once, at_same, at_key_same, at_key_other}
 use Rattle.brooklet_model.specs.Bounded.{Bounded, Capacities, history, sent, at_first, IsWithin, IsBusy, took, Send, Take}
 use Rattle.brooklet_model.specs.NetLaws.{NetsAreKept}
-use Rattle.brooklet_model.specs.Nets.{IsNet, Leads, and_took, sent_in}
-use Rattle.brooklet_model.specs.Received.{hist_by, AreWords, AreDone, IsFront, named, lengths_at}
+use Rattle.brooklet_model.specs.Nets.{IsNet, Leads, and_took, sent_count_in}
+use Rattle.brooklet_model.specs.Received.{hist_by, AreWords, AreDone, IsFront, named_run, lengths_at}
 use Rattle.brooklet_model.proofs.BoundedMoves.{empty_or, some_in, passed_history, took_sent, sends_keep, takes_keep}
 use Rattle.brooklet_model.proofs.Received.{got_mid, only_words, by_words, writer_of}
 use Rattle.brooklet_model.proofs.NamedRun.{reached, named_law, added_numbered}
@@ -140,7 +140,7 @@ module _ (p : PlanForm) (inputs : List (List item.Item)) (caps : Capacities) (v 
       r : Fired
       r = fire m.op.kernel port m.item (b.kept o)
 
-      all : (s : Machine) × Run p (start p inputs) (named p ws) s × Traced (table_names p.tables) p.ops (given_to p inputs) s ws
+      all : (s : Machine) × Run p (start p inputs) (named_run p ws) s × Traced (table_names p.tables) p.ops (given_to p inputs) s ws
       all = reached p inputs v ws n.words
 
       s : Machine
@@ -228,7 +228,7 @@ module _ (p : PlanForm) (inputs : List (List item.Item)) (caps : Capacities) (v 
         },
       )
 
-  sent_most : (qs : List Name) (f : ℕ → List item.Item) (b : Bounded) → Lists qs f (history b) → sent_in b qs ≤ lengths_at qs f
+  sent_most : (qs : List Name) (f : ℕ → List item.Item) (b : Bounded) → Lists qs f (history b) → sent_count_in b qs ≤ lengths_at qs f
   sent_most [] f b l = omega arith
   sent_most (q ∷ qs) f b l =
       let e = ap length l.0 in
@@ -237,7 +237,7 @@ module _ (p : PlanForm) (inputs : List (List item.Item)) (caps : Capacities) (v 
       omega (arith, e, a, i)
 
   net_sent : (ws : ℕ → Word) (b : Bounded) (o : ℕ) (op : OpForm) → IsNet p inputs caps ws b → slice_get p.ops o ≡ Some op
-      → sent_in b op.writes ≤ lengths_at op.writes (ran op (ws o)).outs
+      → sent_count_in b op.writes ≤ lengths_at op.writes (ran op (ws o)).outs
   net_sent ws b o op n g = sent_most op.writes (ran op (ws o)).outs b (subst (λ (h : History). Lists op.writes (ran op (ws o)).outs h)
       (funext (hist_by p inputs ws) (history b) (λ q. sym (n.histories q))) (by_words p inputs ws v o op g))
 

@@ -15,7 +15,7 @@ use Rattle.river_plan.proofs.NameLemmas.{cases_name, one_same}
 use Rattle.brooklet_model.specs.Firings.{Kept, Fired, and_then, Same}
 use Rattle.brooklet_model.specs.Histories.{History, lists_of, given, joined, tables_of, adds, lengths, Lists}
 use Rattle.brooklet_model.specs.Machine.{at_key}
-use Rattle.brooklet_model.specs.Traced.{numbered}
+use Rattle.brooklet_model.specs.Traced.{sum_numbered}
 use Rattle.river_base.specs.Bags.{SameBag}
 use Rattle.brooklet_model.specs.Words.{Word, run, at_port, PortsBelow}
 use Rattle.brooklet_model.proofs.Lists.{if_true, if_false, if_eq, if_ne}
@@ -201,7 +201,7 @@ take_next xs more n x h =
 
 -- sums by place are equal, where their parts are
 pub numbered_same : (f f' : ℕ → OpForm → ℕ) (ops : List OpForm) (j : ℕ) → ((i : ℕ) (op : OpForm) → slice_get ops i ≡ Some op → f (j + i) op ≡ f' (j + i) op)
-    → numbered f j ops ≡ numbered f' j ops
+    → sum_numbered f j ops ≡ sum_numbered f' j ops
 numbered_same f f' [] j h = refl
 numbered_same f f' (op ∷ ops) j h =
     let z : j + 0 ≡ j = omega arith in
@@ -211,7 +211,7 @@ numbered_same f f' (op ∷ ops) j h =
 
 -- one of them is more
 pub numbered_more : (f f' : ℕ → OpForm → ℕ) (ops : List OpForm) (j o d : ℕ) (op : OpForm) → slice_get ops o ≡ Some op → f' (j + o) op ≡ f (j + o) op + d
-    → ((i : ℕ) (op' : OpForm) → i ≢ j + o → f i op' ≡ f' i op') → numbered f' j ops ≡ numbered f j ops + d
+    → ((i : ℕ) (op' : OpForm) → i ≢ j + o → f i op' ≡ f' i op') → sum_numbered f' j ops ≡ sum_numbered f j ops + d
 numbered_more f f' [] j o d op g e h = absurd (cc g)
 numbered_more f f' (a ∷ ops) j zero d op g e h =
     let z : j + 0 ≡ j = omega arith in
@@ -227,7 +227,7 @@ numbered_more f f' (a ∷ ops) j (suc o) d op g e h =
     omega (arith, t, u)
 
 -- a sum by place that asks for no place is the sum
-pub numbered_total : (f : OpForm → ℕ) (ops : List OpForm) (j : ℕ) → numbered (λ i op. f op) j ops ≡ total f ops
+pub numbered_total : (f : OpForm → ℕ) (ops : List OpForm) (j : ℕ) → sum_numbered (λ i op. f op) j ops ≡ total f ops
 numbered_total f [] j = refl
 numbered_total f (op ∷ ops) j = let e = numbered_total f ops (suc j) in omega (arith, e)
 

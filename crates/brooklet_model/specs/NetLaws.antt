@@ -7,8 +7,8 @@ use Rattle.river_plan.specs.Valid.{IsPlan}
 use Rattle.brooklet_model.specs.Bounded.{Bounded, Capacities, at_first, machine_of, Send, Take, IsWithin, IsBusy, LastMoves, Rounds, MoveOrEnd}
 use Rattle.brooklet_model.specs.Histories.{hist, all_adds, given, lengths}
 use Rattle.brooklet_model.specs.Machine.{Machine, Run, Step, start}
-use Rattle.brooklet_model.specs.Nets.{IsNet, Leads, and_took, sent_in}
-use Rattle.brooklet_model.specs.Received.{AreWords, AreDone, Reaches, IsFront, hist_by, added, HasSent, lengths_at, moves}
+use Rattle.brooklet_model.specs.Nets.{IsNet, Leads, and_took, sent_count_in}
+use Rattle.brooklet_model.specs.Received.{AreWords, AreDone, Reaches, IsFront, hist_by, added, HasSent, lengths_at, moves_made}
 use Rattle.brooklet_model.specs.Traced.{ran}
 use Rattle.brooklet_model.specs.Words.{Word}
 
@@ -35,7 +35,7 @@ WordsAreFronts =
 abbrev pub MovesAreFew : Type 0
 MovesAreFew =
     (p : PlanForm) (inputs : List (List item.Item)) (ws : ℕ → Word) (sent : ℕ → ℕ) → IsPlan p → AreWords p inputs ws → HasSent p inputs ws sent
-    → moves p ws sent ≤ 2 * lengths (hist p inputs) (queue_names p)
+    → moves_made p ws sent ≤ 2 * lengths (hist p inputs) (queue_names p)
 
 -- Rounds of moves from the beginning, of which each moves something or is the last: at most one more than twice the items in
 -- the defined histories, whatever the capacities.
@@ -88,7 +88,7 @@ pub record NetsStay (p : PlanForm) (inputs : List (List item.Item)) (caps : Capa
       → IsNet p inputs caps (and_took o port t.item ws) b'
   pub leads : (ws : ℕ → Word) (b : Bounded) → IsNet p inputs caps ws b → (s : Machine) × Leads p inputs ws b s
   pub sent : (ws : ℕ → Word) (b : Bounded) (o : ℕ) (op : OpForm) → IsNet p inputs caps ws b → slice_get p.ops o ≡ Some op
-      → sent_in b op.writes ≤ lengths_at op.writes (ran op (ws o)).outs
+      → sent_count_in b op.writes ≤ lengths_at op.writes (ran op (ws o)).outs
   -- where no operator has a pending or an untaken item, each received all that was given at its ports
   pub ends : (ws : ℕ → Word) (b : Bounded) → IsNet p inputs caps ws b
       → ((o : ℕ) (op : OpForm) → slice_get p.ops o ≡ Some op → IsBusy b op → ⊥) → AreDone p inputs ws

@@ -27,9 +27,9 @@ abbrev pub and_took : ℕ → ℕ → item.Item → (ℕ → Word) → ℕ → W
 and_took o port x ws = at_key o (ws o ++ (port, x) ∷ []) ws
 
 -- how many items were sent to these queues
-abbrev pub sent_in : Bounded → List Name → ℕ
-sent_in b [] = 0
-sent_in b (q ∷ qs) = length (sent b q) + sent_in b qs
+abbrev pub sent_count_in : Bounded → List Name → ℕ
+sent_count_in b [] = 0
+sent_count_in b (q ∷ qs) = length (sent b q) + sent_count_in b qs
 
 -- the named run leads to the histories and states of the bounded state, to what was taken there, and to its tables as bags
 pub record Leads (p : PlanForm) (inputs : List (List item.Item)) (ws : ℕ → Word) (b : Bounded) (s : Machine) : Type 0 where

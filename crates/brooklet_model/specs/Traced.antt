@@ -9,9 +9,9 @@ use Rattle.brooklet_model.specs.Machine.{Machine}
 use Rattle.brooklet_model.specs.Words.{Word, run, at_port, PortsBelow}
 
 -- sums over the operators with their numbers
-abbrev pub numbered : (ℕ → OpForm → ℕ) → ℕ → List OpForm → ℕ
-numbered f j [] = 0
-numbered f j (op ∷ ops) = f j op + numbered f (suc j) ops
+abbrev pub sum_numbered : (ℕ → OpForm → ℕ) → ℕ → List OpForm → ℕ
+sum_numbered f j [] = 0
+sum_numbered f j (op ∷ ops) = f j op + sum_numbered f (suc j) ops
 
 -- all that an operator gives in the firings of a word
 abbrev pub ran : OpForm → Word → Fired
@@ -26,4 +26,4 @@ pub record Traced (tables : List Name) (ops : List OpForm) (inputs : History) (s
   pub taken : (o : ℕ) (op : OpForm) → slice_get ops o ≡ Some op → (p : ℕ) (q : Name) → slice_get op.reads p ≡ Some q
       → (at_port p (ws o) ≡ take (s.taken q) (s.hist q)) × (s.taken q ≤ length (s.hist q))
   pub rows : (t : Name) (test : List ℤ → Bool)
-      → count_by test (s.rows t) ≡ numbered (λ o op. count_by test (joined (tables_of tables op) (ran op (ws o)).adds t)) 0 ops
+      → count_by test (s.rows t) ≡ sum_numbered (λ o op. count_by test (joined (tables_of tables op) (ran op (ws o)).adds t)) 0 ops

@@ -35,30 +35,30 @@ use Rattle.brooklet_step.specs.Given.{held_at, held_by, IsHeldBy, IsHeldOf}
 use Rattle.brooklet_step.proofs.GivenLemmas.{at-nil, at-length, ran_typed, first_is_start}
 use Rattle.fire_tasks.specs.Fired.{Seen, bad_at, IsBad, IsHeldAs, kinds_in, kinds_out, HasFired}
 use Rattle.brooklet_step.proofs.Edges.{inputs_held, inputs_may}
-use Rattle.fire_laws.specs.Joins.{TasksJoin, Joins, AreBeside, spread, kept_by, taken_by, bounded}
+use Rattle.fire_laws.specs.Joins.{TasksJoin, Joins, AreBeside, lists_by_name, kept_by, taken_by, bounded}
 use Rattle.fire_laws.proofs.HeldWords.{held_front, held_fewer, all_left, all_mid, relabel, relabel_ports, relabel_at, typed_ports, below_same, nothing_beyond, no_list, found}
 
 -- what these operators have at a queue of theirs
 pub spread_out : (names : OpForm → List Name) (f : ℕ → ℕ → List item.Item) (ops : List OpForm) (o : ℕ) (h : History) (q : Name)
-    → total (λ op. count q (names op)) ops ≡ 0 → spread names f o ops h q ≡ h q
+    → total (λ op. count q (names op)) ops ≡ 0 → lists_by_name names f o ops h q ≡ h q
 spread_out names f [] o h q z = refl
 spread_out names f (op ∷ ops) o h q z = spread_out names f ops (suc o) (written (names op) (f o) h) q (omega (arith, z)) ∙ written_out (names op) (f o) h q (omega (arith, z))
 
 -- each operator's lists are found under the names of its queues
 pub spread_lists : (names : OpForm → List Name) (f : ℕ → ℕ → List item.Item) (ops : List OpForm) (o : ℕ) (h : History)
     → ((q : Name) → total (λ op. count q (names op)) ops ≤ 1) → (i : ℕ) (op : OpForm) → slice_get ops i ≡ Some op
-    → Lists (names op) (f (o + i)) (spread names f o ops h)
+    → Lists (names op) (f (o + i)) (lists_by_name names f o ops h)
 spread_lists names f [] o h once i op g = absurd (cc g)
 spread_lists names f (a ∷ ops) o h once zero op g =
     let z : o ≡ o + 0 = omega arith in
-    subst (λ (b : OpForm). Lists (names b) (f (o + 0)) (spread names f o (a ∷ ops) h)) (some_is a op g)
-    (subst (λ n. Lists (names a) (f n) (spread names f o (a ∷ ops) h)) z
-    (lists_written (names a) (f o) h (spread names f o (a ∷ ops) h)
+    subst (λ (b : OpForm). Lists (names b) (f (o + 0)) (lists_by_name names f o (a ∷ ops) h)) (some_is a op g)
+    (subst (λ n. Lists (names a) (f n) (lists_by_name names f o (a ∷ ops) h)) z
+    (lists_written (names a) (f o) h (lists_by_name names f o (a ∷ ops) h)
     (λ q. let w = once q in omega (arith, w))
     (λ q lt. spread_out names f ops (suc o) (written (names a) (f o) h) q (let w = once q in omega (arith, w, lt)))))
 spread_lists names f (a ∷ ops) o h once (suc i) op g =
     let z : suc o + i ≡ o + suc i = omega arith in
-    subst (λ n. Lists (names op) (f n) (spread names f o (a ∷ ops) h)) z
+    subst (λ n. Lists (names op) (f n) (lists_by_name names f o (a ∷ ops) h)) z
     (spread_lists names f ops (suc o) (written (names a) (f o) h) (λ q. let w = once q in omega (arith, w)) i op g)
 
 -- a list at its place

@@ -16,7 +16,7 @@ use Rattle.brooklet_model.proofs.Ports.{got_below}
 use Rattle.brooklet_model.proofs.Traces.{some_is}
 use Rattle.fire_tasks.specs.Fired.{Seen, HasFired, bad_at, ports_of}
 use Rattle.fire_laws.specs.Facts.{SettledIsNet}
-use Rattle.fire_laws.specs.Joins.{Joins, AreBeside, spread}
+use Rattle.fire_laws.specs.Joins.{Joins, AreBeside, lists_by_name}
 use Rattle.brooklet_model.proofs.BoundedMoves.{reader_of}
 use Rattle.brooklet_model.proofs.Received.{writer_of}
 use Rattle.fire_laws.proofs.Joining.{join_law, lists_at, place_of, spread_out, spread_lists}
@@ -27,7 +27,7 @@ use Rattle.fire_tasks.specs.declared.ports.Outlet.TheVariants.{Ring as SendsTo, 
 use Rattle.fire_tasks.specs.declared.task.Task.{Task}
 use Rattle.fire_laws.specs.Layout.{IsLink, IsSettled, IsInput, Ends, AreLaid, AreTasks, AreSettled, known_at, known_in, sent_at, left_in, seen_at, MakeNet}
 use Rattle.fire_tasks.specs.Ports.{received_of, received_in, known_of, sent_of, sent_in}
-use Rattle.fire_tasks.specs.Tasks.{IsTask, Stands, seen}
+use Rattle.fire_tasks.specs.Tasks.{IsTask, StatesStand, seen}
 
 -- something is there below the length
 pub there_is : {A : Type 0} (xs : List A) (i : ℕ) → i < length xs → (x : A) × (slice_get xs i ≡ Some x)
@@ -81,7 +81,7 @@ record Works (p : PlanForm) (adds : ℕ → ℕ → List (List ℤ)) (t : Task) 
   ins : length t.ins ≡ length op.reads
   outs : length t.outs ≡ length op.writes
   fired : HasFired p op (adds t.op) (seen t) w
-  stands : Stands p op t w
+  stands : StatesStand p op t w
   count : t.count ≡ min most_firings (length w)
 
 works_at : (p : PlanForm) (adds : ℕ → ℕ → List (List ℤ)) (ts : List Task)
@@ -134,7 +134,7 @@ module _ (p : PlanForm) (inputs : List (List item.Item)) (caps : Capacities) (ad
     pub ins : length t.ins ≡ length op.reads
     pub outs : length t.outs ≡ length op.writes
     pub fired : HasFired p op (adds o) (seen t) (word_at p adds ts tasks.each o)
-    pub stands : Stands p op t (word_at p adds ts tasks.each o)
+    pub stands : StatesStand p op t (word_at p adds ts tasks.each o)
     pub count : t.count ≡ min most_firings (length (word_at p adds ts tasks.each o))
 
   -- the facts of the task of an operator
@@ -164,14 +164,14 @@ module _ (p : PlanForm) (inputs : List (List item.Item)) (caps : Capacities) (ad
       → slice_get ts o ≡ Some t → slice_get t.ins port ≡ Some i → left q ≡ known_of i
   left_read o port op q t i g r gt gi =
       let z : 0 + o ≡ o = omega arith in
-      let base = spread (λ a. a.writes) (sent_at ts) 0 p.ops (given_to p inputs) in
+      let base = lists_by_name (λ a. a.writes) (sent_at ts) 0 p.ops (given_to p inputs) in
       lists_at op.reads (known_in ts o) left
       (subst (λ n. Lists op.reads (known_in ts n) left) z (spread_lists (λ a. a.reads) (known_in ts) p.ops 0 base (λ n. let w = v.read_once n in omega (arith, w)) o op g)) port q r
       ∙ known_there ts o port t gt ∙ known_here t.ins port i gi
 
   -- what lies where nobody reads
-  left_unread : (q : Name) → total (reads_it q) p.ops ≡ 0 → left q ≡ spread (λ a. a.writes) (sent_at ts) 0 p.ops (given_to p inputs) q
-  left_unread q z = spread_out (λ a. a.reads) (known_in ts) p.ops 0 (spread (λ a. a.writes) (sent_at ts) 0 p.ops (given_to p inputs)) q z
+  left_unread : (q : Name) → total (reads_it q) p.ops ≡ 0 → left q ≡ lists_by_name (λ a. a.writes) (sent_at ts) 0 p.ops (given_to p inputs) q
+  left_unread q z = spread_out (λ a. a.reads) (known_in ts) p.ops 0 (lists_by_name (λ a. a.writes) (sent_at ts) 0 p.ops (given_to p inputs)) q z
 
   pub ends : (o o' port j : ℕ) (op op' : OpForm) (q : Name) (t t' : Task) (f : outlet.Outlet) (i : inlet.Inlet) → slice_get p.ops o ≡ Some op
       → slice_get op.reads port ≡ Some q → slice_get p.ops o' ≡ Some op' → slice_get op'.writes j ≡ Some q
@@ -201,7 +201,7 @@ module _ (p : PlanForm) (inputs : List (List item.Item)) (caps : Capacities) (ad
     output = λ o' op' j q g' r' z.
         let t' = task_of o' op' g' in
         let y : 0 + o' ≡ o' = omega arith in
-        let base = spread (λ a. a.writes) (sent_at ts) 0 p.ops (given_to p inputs) in
+        let base = lists_by_name (λ a. a.writes) (sent_at ts) 0 p.ops (given_to p inputs) in
         left_unread q z
         ∙ lists_at op'.writes (sent_at ts o') base
         (subst (λ n. Lists op'.writes (sent_at ts n) base) y (spread_lists (λ a. a.writes) (sent_at ts) p.ops 0 (given_to p inputs) (λ n. let w = v.written_once n in omega (arith, w)) o' op' g')) j q r'

@@ -33,9 +33,9 @@ pub record AreBeside (p : PlanForm) (inputs : List (List item.Item)) (caps : Cap
   pub within : (q : Name) → 0 < total (writes_it q) p.ops → 0 < total (reads_it q) p.ops → length (left q) ≤ caps q
 
 -- what each operator has at its ports, by name: the lists of these queues of each operator
-abbrev pub spread : (OpForm → List Name) → (ℕ → ℕ → List item.Item) → ℕ → List OpForm → History → History
-spread names f o [] h = h
-spread names f o (op ∷ ops) h = spread names f (suc o) ops (written (names op) (f o) h)
+abbrev pub lists_by_name : (OpForm → List Name) → (ℕ → ℕ → List item.Item) → ℕ → List OpForm → History → History
+lists_by_name names f o [] h = h
+lists_by_name names f o (op ∷ ops) h = lists_by_name names f (suc o) ops (written (names op) (f o) h)
 
 abbrev pub kept_by : Option OpForm → Word → List Kept
 kept_by None w = []
@@ -43,7 +43,7 @@ kept_by (Some op) w = (ran op w).states
 
 -- what operators took from each queue, by these words
 abbrev pub taken_by : PlanForm → (ℕ → Word) → History
-taken_by p ws = spread (λ op. op.reads) (λ o port. at_port port (ws o)) 0 p.ops (λ q. [])
+taken_by p ws = lists_by_name (λ op. op.reads) (λ o port. at_port port (ws o)) 0 p.ops (λ q. [])
 
 -- the bounded state in which operators received these words, and as many items as in `left` lie in each queue: of a history
 -- there is first what was taken, then what lies in the queue, then what is pending

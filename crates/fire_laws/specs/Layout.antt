@@ -18,7 +18,7 @@ use Rattle.fire_tasks.specs.declared.ports.Outlet.TheVariants.{Ring as SendsTo, 
 use Rattle.fire_tasks.specs.declared.task.Task.{Task}
 use Rattle.fire_tasks.specs.Ports.{known_of}
 use Rattle.fire_tasks.specs.Tasks.{IsTask, seen}
-use Rattle.fire_laws.specs.Joins.{Joins, spread}
+use Rattle.fire_laws.specs.Joins.{Joins, lists_by_name}
 
 -- the two ends of one ring of this capacity
 abbrev pub IsLink : ℕ → outlet.Outlet → inlet.Inlet → Type 0
@@ -95,7 +95,7 @@ sent_at (t ∷ ts) (suc o) j = sent_at ts o j
 
 -- what lies in each queue: at its reader, or all that was sent or given where nobody reads
 abbrev pub left_in : PlanForm → List (List item.Item) → List Task → History
-left_in p inputs ts = spread (λ op. op.reads) (known_in ts) 0 p.ops (spread (λ op. op.writes) (sent_at ts) 0 p.ops (given_to p inputs))
+left_in p inputs ts = lists_by_name (λ op. op.reads) (known_in ts) 0 p.ops (lists_by_name (λ op. op.writes) (sent_at ts) 0 p.ops (given_to p inputs))
 
 abbrev pub nobody : Seen
 nobody = record { received = []; sent = []; pending = []; bad = None }

@@ -19,7 +19,7 @@ use Rattle.brooklet_model.proofs.Traces.{some_is, got_count}
 use Rattle.brooklet_step.specs.Tables.{table_places}
 use Rattle.brooklet_step.proofs.OpTables.{among_known, table_places_are}
 use Rattle.brooklet_step.proofs.ReadLemmas.{got_map, op_at, places_at}
-use Rattle.fire_tasks.specs.Adds.{AreHomes, number_of, table_class, table_numbers}
+use Rattle.fire_tasks.specs.Adds.{AreHomes, natural_of, table_class, table_numbers}
 use Rattle.fire_tasks.specs.declared.task.TablePort.{TablePort}
 use Rattle.fire_open.specs.Homes.{HasClass, AreByFirst, AreClassesOf, AreTableClasses}
 use Rattle.fire_open.proofs.FirstLemmas.{map_got}
@@ -170,7 +170,7 @@ table_classes_are p users numbers places eu h en =
       many = many;
       each = λ n lt.
           got_index places n (omega (arith, many, lt))
-          ∙ ap Some (ap number_of (sym (index_map places n) ∙ ap (λ l. class_of l n) (en ∙ is)));
+          ∙ ap Some (ap natural_of (sym (index_map places n) ∙ ap (λ l. class_of l n) (en ∙ is)));
       by_first = λ i c d g lt.
           let li = slice_get_within places i c g in
           let at : class_of numbers i ≡ pos c = ap (λ l. class_of l i) (sym en) ∙ index_map places i ∙ ap pos (index_got places i c g) in

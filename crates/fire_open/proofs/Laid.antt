@@ -19,7 +19,7 @@ use Rattle.fire_laws.specs.Layout.{IsStored, AreLaid, AreTasks, AreSettled, Ends
 use Rattle.fire_tasks.specs.Ports.{in_end, out_end}
 use Rattle.fire_tasks.specs.Tasks.{TaskEnds, IsTask, ends_of, all_ends}
 use Rattle.fire_laws.proofs.NetLemmas.{there_is}
-use Rattle.fire_open.specs.Links.{IsLinkOf, AreLinks, LinkEnds, IsPaired, ArePaired, ShareAnEnd, AreApart, AreMet}
+use Rattle.fire_open.specs.Links.{IsLinkOf, AreLinks, LinkEnds, IsPaired, ArePaired, ShareAnEnd, ShareNoEnd, AreMet}
 use Rattle.fire_open.proofs.Lists.{same_got, map_long}
 use Rattle.fire_open.proofs.StillLemmas.{link_same, input_same, pair_of}
 
@@ -88,7 +88,7 @@ apart_links p v l l' a b s = ⊎_elim
         λ i. record { writer = ew i; out = ej i; reader = er i; port = ep i }
 
 -- no two links of a plan share an end
-pub apart_net : (p : PlanForm) (ls : List Link) → IsPlan p → AreLinks p ls → AreApart ls
+pub apart_net : (p : PlanForm) (ls : List Link) → IsPlan p → AreLinks p ls → ShareNoEnd ls
 apart_net p ls v k = record { each = λ m n l l' g g' s. apart_links p v l l' (k.right m l g) (k.right n l' g') s }
 
 -- THE TASKS OF A NET

@@ -21,7 +21,7 @@ use Rattle.fire_tasks.specs.Adds.{AreHomes}
 use Rattle.fire_laws.proofs.NetLemmas.{there_is}
 use Rattle.fire_open.specs.Fresh.{AreFresh}
 use Rattle.fire_open.specs.Links.{IsLinkOf, AreLinks, IsThere}
-use Rattle.fire_open.specs.Rings.{AreUnmoved, AreThere, Body, body, AreRung}
+use Rattle.fire_open.specs.Rings.{AreUnmoved, AreThere, TaskBody, body, AreRung}
 use Rattle.fire_open.proofs.Laid.{apart_net}
 use Rattle.fire_open.proofs.Lists.{map_long}
 use Rattle.fire_open.proofs.RingLemmas.{bodies_unmoved}
@@ -29,15 +29,15 @@ use Rattle.fire_open.proofs.RingLemmas.{bodies_unmoved}
 -- a task is known by its body
 pub body_task : (p : PlanForm) (adds : ℕ → List (List ℤ)) (t t' : Task) → body t' ≡ body t → IsTask p adds t → IsTask p adds t'
 body_task p adds t t' e k =
-    let o : t'.op ≡ t.op = ap (λ (s : Body). s.op) e in
-    let s : seen t' ≡ seen t = ap (λ (x : Body). x.seen) e in
-    let ks : t'.kinds ≡ t.kinds = ap (λ (x : Body). x.kinds) e in
-    let st : t'.states ≡ t.states = ap (λ (x : Body). x.states) e in
-    let pe : t'.pending ≡ t.pending = ap (λ (x : Body). x.pending) e in
-    let ou : t'.out ≡ t.out = ap (λ (x : Body). x.out) e in
-    let ta : t'.tables ≡ t.tables = ap (λ (x : Body). x.tables) e in
-    let cl : t'.classes ≡ t.classes = ap (λ (x : Body). x.classes) e in
-    let co : t'.count ≡ t.count = ap (λ (x : Body). x.count) e in
+    let o : t'.op ≡ t.op = ap (λ (s : TaskBody). s.op) e in
+    let s : seen t' ≡ seen t = ap (λ (x : TaskBody). x.seen) e in
+    let ks : t'.kinds ≡ t.kinds = ap (λ (x : TaskBody). x.kinds) e in
+    let st : t'.states ≡ t.states = ap (λ (x : TaskBody). x.states) e in
+    let pe : t'.pending ≡ t.pending = ap (λ (x : TaskBody). x.pending) e in
+    let ou : t'.out ≡ t.out = ap (λ (x : TaskBody). x.out) e in
+    let ta : t'.tables ≡ t.tables = ap (λ (x : TaskBody). x.tables) e in
+    let cl : t'.classes ≡ t.classes = ap (λ (x : TaskBody). x.classes) e in
+    let co : t'.count ≡ t.count = ap (λ (x : TaskBody). x.count) e in
     record {
       op = k.op;
       op_is = ap (slice_get p.ops) o ∙ k.op_is;

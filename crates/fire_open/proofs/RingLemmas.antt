@@ -18,7 +18,7 @@ use Rattle.fire_open.specs.Settling.{with_out, with_in}
 use Rattle.fire_laws.proofs.NetLemmas.{there_is, received_here, sent_here}
 use Rattle.fire_tasks.proofs.PortLemmas.{received_same}
 use Rattle.fire_open.specs.Links.{LinkEnds, IsThere, Put, ShareAnEnd}
-use Rattle.fire_open.specs.Rings.{AreUnmoved, AreThere, Body, body, AreRung}
+use Rattle.fire_open.specs.Rings.{AreUnmoved, AreThere, TaskBody, body, AreRung}
 use Rattle.fire_open.proofs.Lists.{same_got, map_long}
 use Rattle.fire_open.proofs.SettleLemmas.{after_task, view_stays, same_or, sent_stays, reader_is, writer_is}
 
@@ -32,10 +32,10 @@ rung_first room ts ls = record {
 }
 
 ins_long : (t t0 : Task) → body t ≡ body t0 → length t.ins ≡ length t0.ins
-ins_long t t0 e = map_long received_of t.ins t0.ins (ap (λ (b : Body). b.seen.received) e)
+ins_long t t0 e = map_long received_of t.ins t0.ins (ap (λ (b : TaskBody). b.seen.received) e)
 
 outs_long : (t t0 : Task) → body t ≡ body t0 → length t.outs ≡ length t0.outs
-outs_long t t0 e = map_long sent_of t.outs t0.outs (ap (λ (b : Body). b.seen.sent) e)
+outs_long t t0 e = map_long sent_of t.outs t0.outs (ap (λ (b : TaskBody). b.seen.sent) e)
 
 -- tasks with the same bodies moved nothing either
 pub bodies_unmoved : (ts0 ts : List Task) → map body ts ≡ map body ts0 → AreUnmoved ts0 → AreUnmoved ts
@@ -43,11 +43,12 @@ bodies_unmoved ts0 ts e u = record {
   ins = λ o port t i g gi.
       let x = same_got body ts ts0 e o t g in
       let i0 = there_is x.0.ins port (let l = ins_long t x.0 x.2 in let b = slice_get_within t.ins port i gi in omega (arith, l, b)) in
-      sym (received_here t.ins port i gi) ∙ ap (λ (b : Body). list_at b.seen.received port) x.2 ∙ received_here x.0.ins port i0.0 i0.1 ∙ u.ins o port x.0 i0.0 x.1 i0.1;
+      sym (received_here t.ins port i gi) ∙ ap (λ (b : TaskBody). list_at b.seen.received port) x.2 ∙ received_here x.0.ins port i0.0 i0.1
+      ∙ u.ins o port x.0 i0.0 x.1 i0.1;
   outs = λ o j t f g gf.
       let x = same_got body ts ts0 e o t g in
       let f0 = there_is x.0.outs j (let l = outs_long t x.0 x.2 in let b = slice_get_within t.outs j f gf in omega (arith, l, b)) in
-      sym (sent_here t.outs j f gf) ∙ ap (λ (b : Body). list_at b.seen.sent j) x.2 ∙ sent_here x.0.outs j f0.0 f0.1 ∙ u.outs o j x.0 f0.0 x.1 f0.1;
+      sym (sent_here t.outs j f gf) ∙ ap (λ (b : TaskBody). list_at b.seen.sent j) x.2 ∙ sent_here x.0.outs j f0.0 f0.1 ∙ u.outs o j x.0 f0.0 x.1 f0.1;
 }
 
 pub rung_there : (ts0 ts : List Task) (l : Link) → map body ts ≡ map body ts0 → IsThere ts0 l → IsThere ts l

@@ -7,7 +7,7 @@ use Rattle.river_plan.specs.declared.op.Op.{Op}
 use Rattle.river_plan.specs.declared.plan.RawPlan.{RawPlan}
 use Rattle.brooklet_step.proofs.NextLemmas.{op_there}
 use Rattle.brooklet_step.proofs.ReadLemmas.{got_map}
-use Rattle.fire_open.specs.Links.{IsLinkOf, queue_of, writes_in}
+use Rattle.fire_open.specs.Links.{IsLinkOf, link_queue, writes_in}
 use Rattle.fire_open.specs.declared.settling.Link.{Link}
 use Rattle.brooklet_model.proofs.Traces.{some_is}
 
@@ -26,12 +26,12 @@ port_there raw p l d v k at =
     subst (λ (op : OpForm). l.out < length op.writes) (sym (writer_at raw p l.writer d k.write v k.write_is at)) (slice_get_within k.write.writes l.out k.queue k.writes)
 
 -- a link has the queue that its writer writes
-pub queue_here : (p : PlanForm) (l : Link) (op : OpForm) (q : Name) → slice_get p.ops l.writer ≡ Some op → slice_get op.writes l.out ≡ Some q → queue_of p l ≡ q
+pub queue_here : (p : PlanForm) (l : Link) (op : OpForm) (q : Name) → slice_get p.ops l.writer ≡ Some op → slice_get op.writes l.out ≡ Some q → link_queue p l ≡ q
 queue_here p l op q g w = ap (λ o. get_or (writes_in o) l.out []) g ∙ get_or_from_slice_get op.writes l.out q [] w
 
 -- and that is found there
 pub queue_found : (raw : RawPlan) (p : PlanForm) (l : Link) (d : Op) (q : Name) → plan_form raw ≡ p → IsLinkOf p l → d ≡ get_or raw.ops l.writer d
-    → q ≡ get_or d.writes l.out q → q ≡ queue_of p l
+    → q ≡ get_or d.writes l.out q → q ≡ link_queue p l
 queue_found raw p l d q v k at found =
     let same : op_form d ≡ k.write = writer_at raw p l.writer d k.write v k.write_is at in
     found ∙ ap (λ (op : OpForm). get_or op.writes l.out q) same ∙ get_or_from_slice_get k.write.writes l.out k.queue q k.writes

@@ -12,7 +12,7 @@ use Rattle.fire_laws.specs.Layout.{IsPair, IsSettled}
 use Rattle.fire_tasks.specs.Ports.{in_end, out_end, in_ends, out_ends, sent_of, sent_in, received_in, pending_in}
 use Rattle.fire_open.specs.Settling.{Met, with_out, with_in}
 use Rattle.fire_tasks.proofs.PortLemmas.{ins_set, outs_set, received_same}
-use Rattle.fire_open.specs.Links.{LinkEnds, IsThere, Swapped, IsPaired, ArePaired, ShareAnEnd, AreApart, AreMet}
+use Rattle.fire_open.specs.Links.{LinkEnds, IsThere, Swapped, IsPaired, ArePaired, ShareAnEnd, ShareNoEnd, AreMet}
 use Rattle.fire_open.specs.Still.{Still, still}
 use Rattle.fire_open.proofs.Lists.{set_got_is, set_got_other, same_got, map_set}
 use Rattle.fire_open.proofs.StillLemmas.{pair_same}
@@ -163,7 +163,7 @@ pub settling_first : (ts : List Task) (ls : List Link) → Settling ts ls 0 ts
 settling_first ts ls = record { same = refl; met = record { each = λ m l f i lt. absurd (omega (arith, lt)) } }
 
 -- one link more has looked
-pub settling_next : (ts0 : List Task) (ls : List Link) (n : ℕ) (ts ts' : List Task) (l : Link) → ArePaired ts0 ls → AreApart ls
+pub settling_next : (ts0 : List Task) (ls : List Link) (n : ℕ) (ts ts' : List Task) (l : Link) → ArePaired ts0 ls → ShareNoEnd ls
     → slice_get ls n ≡ Some l → Settling ts0 ls n ts → Met ts ts' l → Settling ts0 ls (n + 1) ts'
 settling_next ts0 ls n ts ts' l paired apart g h m =
     let pl = still_paired ts0 ts l h.same (paired.each n l g) in

@@ -14,7 +14,7 @@ use Rattle.brooklet_model.proofs.Traces.{some_is, one_place, place_once, got_cou
 use Rattle.brooklet_step.proofs.ReadLemmas.{op_at, places_at}
 use Rattle.fire_tasks.specs.declared.ports.Inlet as inlet
 use Rattle.fire_tasks.specs.declared.task.Task.{Task}
-use Rattle.fire_open.specs.First.{whole_list, IsApart, HasLeft, AreUnread, IsFirstTask, AreFirstTasks}
+use Rattle.fire_open.specs.First.{whole_list, IsNoneOf, HasLeft, AreUnread, IsFirstTask, AreFirstTasks}
 use Rattle.fire_open.proofs.FirstLemmas.{map_got, reads_there, first_none, first_more}
 
 -- ONE PORT FOR EACH PLACE
@@ -89,7 +89,7 @@ snoc_last [] x = refl
 snoc_last (a ∷ xs) x = snoc_last xs x
 
 pub ins_more : (qs0 : List (List item.Item)) (ps : List ℕ) (n : ℕ) (ins ins' : List inlet.Inlet) (qs qs' : List (List item.Item)) (i : inlet.Inlet)
-    → InsOf qs0 ps ins qs → IsApart ps n
+    → InsOf qs0 ps ins qs → IsNoneOf ps n
     → i ≡ whole_list qs n → qs' ≡ slice_set qs n [] → ins' ≡ ins ++ i ∷ [] → InsOf qs0 (ps ++ n ∷ []) ins' qs'
 ins_more qs0 ps n ins ins' qs qs' i h a ei eq en = record {
   ins_are = en ∙ ap (λ l. l ++ i ∷ []) h.ins_are
@@ -107,7 +107,7 @@ ins_more qs0 ps n ins ins' qs qs' i h a ei eq en = record {
     whole_of l = whole_list (l ∷ []) 0
 
 -- a place behind the first ones of a list that has each once is none of these
-pub apart_behind : (ps : List ℕ) (i : ℕ) (d : ℕ) → AllPairs (λ m n. m ≡ n → ⊥) ps → i < length ps → IsApart (take i ps) (get_or ps i d)
+pub apart_behind : (ps : List ℕ) (i : ℕ) (d : ℕ) → AllPairs (λ m n. m ≡ n → ⊥) ps → i < length ps → IsNoneOf (take i ps) (get_or ps i d)
 apart_behind ps i d a lt port g =
     let b = slice_get_within (take i ps) port (get_or ps i d) g in
     let lp : port < i = taken_within ps i port (get_or ps i d) g in

@@ -19,18 +19,18 @@ abbrev pub first_lines : PlanForm → List (List item.Item) → List (List item.
 first_lines p inputs = replicate (length p.outputs) [] ++ (inputs ++ replicate (length p.queues) [])
 
 -- the place n is none of these
-abbrev pub IsApart : List ℕ → ℕ → Type 0
-IsApart ps n = (port : ℕ) → slice_get ps port ≡ Some n → ⊥
+abbrev pub IsNoneOf : List ℕ → ℕ → Type 0
+IsNoneOf ps n = (port : ℕ) → slice_get ps port ≡ Some n → ⊥
 
 -- the lines at some places were taken out: the others are as they were
 pub record HasLeft (ps : List ℕ) (qs qs' : List (List item.Item)) : Type 0 where
   pub many : length qs' ≡ length qs
-  pub others : (n : ℕ) → IsApart ps n → list_at qs' n ≡ list_at qs n
+  pub others : (n : ℕ) → IsNoneOf ps n → list_at qs' n ≡ list_at qs n
 
 -- the lines that no operator before number o reads are as they were at first
 pub record AreUnread (p : PlanForm) (qs0 : List (List item.Item)) (o : ℕ) (qs : List (List item.Item)) : Type 0 where
   pub many : length qs ≡ length qs0
-  pub each : (n : ℕ) → ((m : ℕ) → m < o → IsApart (list_at (read_places p) m) n) → list_at qs n ≡ list_at qs0 n
+  pub each : (n : ℕ) → ((m : ℕ) → m < o → IsNoneOf (list_at (read_places p) m) n) → list_at qs n ≡ list_at qs0 n
 
 -- a kept list of the items of the queue at a place
 abbrev pub whole_list : List (List item.Item) → ℕ → inlet.Inlet

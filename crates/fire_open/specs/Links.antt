@@ -25,12 +25,12 @@ abbrev pub writes_in : Option OpForm → List Name
 writes_in None = []
 writes_in (Some op) = op.writes
 
-abbrev pub queue_of : PlanForm → Link → Name
-queue_of p l = slice_index_or (writes_in (slice_get p.ops l.writer)) l.out []
+abbrev pub link_queue : PlanForm → Link → Name
+link_queue p l = slice_index_or (writes_in (slice_get p.ops l.writer)) l.out []
 
 -- how many items it holds at most
 abbrev pub room_of : PlanForm → ℕ → OwnCaps → Link → ℕ
-room_of p cap own l = capacity cap own (queue_of p l)
+room_of p cap own l = capacity cap own (link_queue p l)
 
 -- there is a link for each queue between two operators, and no other
 pub record AreLinks (p : PlanForm) (ls : List Link) : Type 0 where
@@ -86,7 +86,7 @@ pub record ArePaired (ts : List Task) (ls : List Link) : Type 0 where
 abbrev pub ShareAnEnd : Link → Link → Type 0
 ShareAnEnd l l' = ((l.reader ≡ l'.reader) × (l.port ≡ l'.port)) ⊎ ((l.writer ≡ l'.writer) × (l.out ≡ l'.out))
 
-pub record AreApart (ls : List Link) : Type 0 where
+pub record ShareNoEnd (ls : List Link) : Type 0 where
   pub each : (m n : ℕ) (l l' : Link) → slice_get ls m ≡ Some l → slice_get ls n ≡ Some l' → ShareAnEnd l l' → l ≡ l'
 
 -- the ends of the first n links know of each other

@@ -13,7 +13,7 @@ use Rattle.fire_tasks.specs.declared.task.Task.{Task}
 use Rattle.fire_laws.specs.Layout.{IsLink, IsSettled}
 use Rattle.fire_tasks.specs.Ports.{received_of, sent_of}
 use Rattle.fire_tasks.specs.Tasks.{seen}
-use Rattle.fire_open.specs.Links.{LinkEnds, IsThere, AreApart}
+use Rattle.fire_open.specs.Links.{LinkEnds, IsThere, ShareNoEnd}
 
 -- nothing was sent and nothing was received, at any port
 pub record AreUnmoved (ts : List Task) : Type 0 where
@@ -23,11 +23,11 @@ pub record AreUnmoved (ts : List Task) : Type 0 where
 -- the ends of all links are there, no two share one, and nothing moved
 pub record AreThere (ts : List Task) (ls : List Link) : Type 0 where
   pub each : (n : ℕ) (l : Link) → slice_get ls n ≡ Some l → IsThere ts l
-  pub apart : AreApart ls
+  pub apart : ShareNoEnd ls
   pub unmoved : AreUnmoved ts
 
 -- all of a task but which ends it has
-pub record Body : Type 0 where
+pub record TaskBody : Type 0 where
   pub op : ℕ
   pub seen : Seen
   pub kinds : List QueueType
@@ -38,7 +38,7 @@ pub record Body : Type 0 where
   pub classes : List ℕ
   pub count : ℕ
 
-abbrev pub body : Task → Body
+abbrev pub body : Task → TaskBody
 body t = record { op = t.op; seen = seen t; kinds = t.kinds; states = t.states; pending = t.pending; out = t.out; tables = t.tables; classes = t.classes; count = t.count }
 
 -- the end is that of none of the first n links

@@ -2,7 +2,7 @@
 ghost use Rattle.std.specs.Prelude.{◌≡◌, ◌<◌, length, map, slice_index_or};
 ghost use Rattle.fire_tasks.specs.Ports.{received_of, sent_of, in_end, out_end};
 ghost use Rattle.fire_laws.specs.Layout.{IsPair, IsSettled};
-ghost use Rattle.fire_open.specs.Links.{ArePaired, AreApart, AreMet};
+ghost use Rattle.fire_open.specs.Links.{ArePaired, ShareNoEnd, AreMet};
 ghost use Rattle.fire_open.specs.Settling.{Met};
 ghost use Rattle.fire_open.specs.Still.{still};
 
@@ -53,7 +53,7 @@ pub fn settle_one(tasks: &mut Listed<Task>, link: Link)
 /// Both ends of each ring look; afterwards they know of each other.
 pub fn settle_all(tasks: &mut Listed<Task>, links: &Listed<Link>)
     requires paired { ArePaired tasks.old links.now }
-    requires apart { AreApart links.now }
+    requires apart { ShareNoEnd links.now }
     ensures still { map still tasks.new ≡ map still tasks.old }
     ensures met { AreMet tasks.new links.now (length links.now) }
 {

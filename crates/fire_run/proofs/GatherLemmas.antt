@@ -12,7 +12,7 @@ use Rattle.class_locks.proofs.Owns.{own-append}
 use Rattle.fire_tasks.specs.declared.bundle.Bundle.{Bundle}
 use Rattle.fire_tasks.specs.declared.task.Task.{Task}
 use Rattle.fire_run.specs.Cells.{AreSingle}
-use Rattle.fire_run.specs.Shares.{AreAtRest, AreWithin, merged, put_all, put_each, seats_of}
+use Rattle.fire_run.specs.Shares.{AreAtRest, AreWithin, merged_view, put_all, put_each, seats_of}
 
 -- TASKS AT THEIR PLACES
 
@@ -191,7 +191,7 @@ pub record Merging (seats0 seats : List Chair) (v : View) : Type 0 where
   pub first : Chair
   pub later : List Chair
   pub all : seats0 ≡ seats ++ (first ∷ later)
-  pub view : v ≡ merged (first ∷ later)
+  pub view : v ≡ merged_view (first ∷ later)
 
 seats-last : (bs : List Bundle) (b : Bundle) → seats_of (bs ++ b ∷ []) ≡ seats_of bs ++ b.seat ∷ []
 seats-last [] b = refl
@@ -240,7 +240,7 @@ pub record IsRound (n : ℕ) (starts : List Holding) (v : View) : Type 0 where
 -- what all know of the round the one knows
 pub merged_round : (n : ℕ) (starts : List Holding) (ss : List Chair) → 0 < length ss
     → ((i : ℕ) (d : Chair) → i < length ss → IsRound n starts (get_or ss i d).view)
-    → IsRound n starts (merged ss)
+    → IsRound n starts (merged_view ss)
 merged_round n starts [] lt h = absurd (omega (arith, lt))
 merged_round n starts (s ∷ []) lt h = h 0 s (omega arith)
 merged_round n starts (s ∷ (r ∷ rest)) lt h =
@@ -257,25 +257,25 @@ has_back k (p ∷ ps) qs h = inr (has_back k ps qs h)
 
 -- it has the part of each
 pub merged_parts : (m : ℕ) (ss : List Chair) → ((i : ℕ) (d : Chair) → i < length ss → (get_or ss i d).view.parts ≡ (m + i) ∷ []) → (i : ℕ) → i < length ss
-    → Has (m + i) (merged ss).parts
+    → Has (m + i) (merged_view ss).parts
 merged_parts m [] h i lt = absurd (omega (arith, lt))
 merged_parts m (s ∷ []) h zero lt = subst (Has (m + 0)) (sym (h 0 s (omega arith))) (inl refl)
 merged_parts m (s ∷ []) h (suc i) lt = absurd (omega (arith, lt))
-merged_parts m (s ∷ (r ∷ rest)) h zero lt = has_back (m + 0) (merged (r ∷ rest)).parts s.view.parts (subst (Has (m + 0)) (sym (h 0 s (omega arith))) (inl refl))
+merged_parts m (s ∷ (r ∷ rest)) h zero lt = has_back (m + 0) (merged_view (r ∷ rest)).parts s.view.parts (subst (Has (m + 0)) (sym (h 0 s (omega arith))) (inl refl))
 merged_parts m (s ∷ (r ∷ rest)) h (suc i) lt =
     let z : suc m + i ≡ m + suc i = omega arith in
-    has_front (m + suc i) (merged (r ∷ rest)).parts s.view.parts
-    (subst (λ k. Has k (merged (r ∷ rest)).parts) z
+    has_front (m + suc i) (merged_view (r ∷ rest)).parts s.view.parts
+    (subst (λ k. Has k (merged_view (r ∷ rest)).parts) z
     (merged_parts (suc m) (r ∷ rest) (λ j d l. let y : m + suc j ≡ suc m + j = omega arith in h (suc j) d (omega (arith, l))
     ∙ ap (λ x. x ∷ []) y) i (omega (arith, lt))))
 
 -- what holds of the claims of each holds of its claims
 pub merged_all : (P : Claim → Type 0) (ss : List Chair) → 0 < length ss → ((i : ℕ) (d : Chair) → i < length ss → All P (get_or ss i d).view.claims)
-    → All P (merged ss).claims
+    → All P (merged_view ss).claims
 merged_all P [] lt h = absurd (omega (arith, lt))
 merged_all P (s ∷ []) lt h = h 0 s (omega arith)
 merged_all P (s ∷ (r ∷ rest)) lt h =
-    All-append P (merged (r ∷ rest)).claims s.view.claims (merged_all P (r ∷ rest) (omega arith) (λ i d l. h (suc i) d (omega (arith, l))))
+    All-append P (merged_view (r ∷ rest)).claims s.view.claims (merged_all P (r ∷ rest) (omega arith) (λ i d l. h (suc i) d (omega (arith, l))))
     (h 0 s (omega arith))
 
 -- claims that belong to some parts belong to them as entries
@@ -291,29 +291,29 @@ OwnAlone n m ss = (i : ℕ) (d : Chair) (j c : ℕ) → i < length ss → (j ≡
 alone_rest : (n m : ℕ) (s : Chair) (ss : List Chair) → OwnAlone n m (s ∷ ss) → OwnAlone n (suc m) ss
 alone_rest n m s ss h i d j c lt ne = h (suc i) d j c (omega (arith, lt)) (λ z. ne (omega (arith, z)))
 
-merged_none : (n m j c : ℕ) (ss : List Chair) → 0 < length ss → OwnAlone n m ss → ((i : ℕ) → i < length ss → j ≡ m + i → ⊥) → own n j c (merged ss).claims ≡ []
+merged_none : (n m j c : ℕ) (ss : List Chair) → 0 < length ss → OwnAlone n m ss → ((i : ℕ) → i < length ss → j ≡ m + i → ⊥) → own n j c (merged_view ss).claims ≡ []
 merged_none n m j c [] lt h ne = absurd (omega (arith, lt))
 merged_none n m j c (s ∷ []) lt h ne = h 0 s j c (omega arith) (ne 0 (omega arith))
 merged_none n m j c (s ∷ (r ∷ rest)) lt h ne =
-    own-append n j c (merged (r ∷ rest)).claims s.view.claims
+    own-append n j c (merged_view (r ∷ rest)).claims s.view.claims
     ∙ ap (λ l. l ++ own n j c s.view.claims)
     (merged_none n (suc m) j c (r ∷ rest) (omega arith) (alone_rest n m s (r ∷ rest) h) (λ i l z. ne (suc i) (omega (arith, l)) (omega (arith, z))))
     ∙ h 0 s j c (omega arith) (ne 0 (omega arith))
 
 -- the own list of each part is that of its seat
 pub merged_own : (n m c : ℕ) (ss : List Chair) → OwnAlone n m ss → (i : ℕ) (d : Chair) → i < length ss
-    → own n (m + i) c (merged ss).claims ≡ own n (m + i) c (get_or ss i d).view.claims
+    → own n (m + i) c (merged_view ss).claims ≡ own n (m + i) c (get_or ss i d).view.claims
 merged_own n m c [] h i d lt = absurd (omega (arith, lt))
 merged_own n m c (s ∷ []) h zero d lt = refl
 merged_own n m c (s ∷ []) h (suc i) d lt = absurd (omega (arith, lt))
 merged_own n m c (s ∷ (r ∷ rest)) h zero d lt =
-    own-append n (m + 0) c (merged (r ∷ rest)).claims s.view.claims
+    own-append n (m + 0) c (merged_view (r ∷ rest)).claims s.view.claims
     ∙ ap (λ l. l ++ own n (m + 0) c s.view.claims)
     (merged_none n (suc m) (m + 0) c (r ∷ rest) (omega arith) (alone_rest n m s (r ∷ rest) h) (λ i l z. omega (arith, z)))
 merged_own n m c (s ∷ (r ∷ rest)) h (suc i) d lt =
     let z : suc m + i ≡ m + suc i = omega arith in
-    own-append n (m + suc i) c (merged (r ∷ rest)).claims s.view.claims
-    ∙ ap (λ l. own n (m + suc i) c (merged (r ∷ rest)).claims ++ l) (h 0 s (m + suc i) c (omega arith) (λ q. omega (arith, q)))
-    ∙ append-nil (own n (m + suc i) c (merged (r ∷ rest)).claims)
-    ∙ subst (λ k. own n k c (merged (r ∷ rest)).claims ≡ own n k c (get_or (r ∷ rest) i d).view.claims) z
+    own-append n (m + suc i) c (merged_view (r ∷ rest)).claims s.view.claims
+    ∙ ap (λ l. own n (m + suc i) c (merged_view (r ∷ rest)).claims ++ l) (h 0 s (m + suc i) c (omega arith) (λ q. omega (arith, q)))
+    ∙ append-nil (own n (m + suc i) c (merged_view (r ∷ rest)).claims)
+    ∙ subst (λ k. own n k c (merged_view (r ∷ rest)).claims ≡ own n k c (get_or (r ∷ rest) i d).view.claims) z
     (merged_own n (suc m) c (r ∷ rest) (alone_rest n m s (r ∷ rest) h) i d (omega (arith, lt)))

@@ -14,7 +14,7 @@ use Rattle.class_locks.specs.Seats.{Chair, HasAll, HasGrown}
 use Rattle.class_locks.specs.Views.{Has, own}
 use Rattle.class_locks.proofs.Owns.{own_none}
 use Rattle.fire_tasks.specs.Adds.{AreClaims, AreEntries, AreOwn, IsEntryOf, added, logs_at, logs_of, table_class}
-use Rattle.fire_tasks.specs.Bundles.{AreTasks}
+use Rattle.fire_tasks.specs.Bundles.{AreTasksAt}
 use Rattle.fire_tasks.specs.declared.bundle.Bundle.{Bundle}
 use Rattle.fire_tasks.specs.declared.task.Task.{Task}
 use Rattle.fire_tasks.specs.Tasks.{IsTask, IsTaskAt, TaskEnds, all_ends, all_moves, ends_of}
@@ -23,14 +23,14 @@ use Rattle.fire_tasks.proofs.JoinLemmas.{joined_adds, joined_entries}
 use Rattle.fire_tasks.proofs.TaskLemmas.{got_at, table_there, tables_many, with_adds}
 use Rattle.fire_laws.specs.Layout as layout
 use Rattle.fire_open.specs.Homes.{AreClassCells}
-use Rattle.fire_open.specs.Links.{AreApart, AreMet, ArePaired}
+use Rattle.fire_open.specs.Links.{ShareNoEnd, AreMet, ArePaired}
 use Rattle.fire_open.specs.Still.{Still, still}
 use Rattle.fire_open.proofs.Laid.{apart_net, laid_same, paired_net, settled_by}
 use Rattle.fire_open.proofs.StillLemmas.{still_all_moves, still_ends, still_tasks}
 use Rattle.fire_run.specs.declared.net.Net.{Net}
-use Rattle.fire_run.specs.Frames.{AreBundlesOf, AreSeated, AreTasksOf, Framed, HaveGrownBy, bundle_moves, ends_of_part, tasks_of_part}
+use Rattle.fire_run.specs.Frames.{AreBundlesOf, AreSeatedIn, AreTasksOf, Framed, HaveGrownBy, bundle_moves, ends_of_part, tasks_of_part}
 use Rattle.fire_run.specs.NetOf.{Stays}
-use Rattle.fire_run.specs.Shares.{AreAtRest, AreWithin, merged, put_all, seats_of}
+use Rattle.fire_run.specs.Shares.{AreAtRest, AreWithin, merged_view, put_all, seats_of}
 use Rattle.fire_run.proofs.GatherLemmas.{AreApart as AreSharesApart, IsRound, OwnAlone, all_here, all_many, belongs, merged_all, merged_own, merged_parts, merged_round}
 use Rattle.fire_run.proofs.PartLemmas.{eq_told, filter_finds, filter_stood, list_at_all, map_at, moves_of_parts, part_ends}
 use Rattle.fire_run.proofs.RowLemmas.{class_has}
@@ -64,7 +64,7 @@ seat_by P bs h k d lt =
     let b = (got_at bs k l).0 in
     subst (P k) (sym (seat_is bs k d b l)) (h k b l)
 
-module _ (f : Framed) (bs : List Bundle) (h : AreSeated f bs) where
+module _ (f : Framed) (bs : List Bundle) (h : AreSeatedIn f bs) where
   -- the seats of a frame's bundles are of one round, and none holds a class
   pub at_rest : AreAtRest (seats_of bs)
   at_rest = record {
@@ -75,30 +75,30 @@ module _ (f : Framed) (bs : List Bundle) (h : AreSeated f bs) where
   }
 
   -- what the seat that took over all others knows of the round
-  pub one_round : IsRound f.workers f.net.cells (merged (seats_of bs))
+  pub one_round : IsRound f.workers f.net.cells (merged_view (seats_of bs))
   one_round = merged_round f.workers f.net.cells (seats_of bs)
       (let long = length-map bs (λ (x : Bundle). x.seat) in let s = h.some in let m = h.many in omega (arith, long, s, m))
       (λ k d lt. seat_by (λ j c. IsRound f.workers f.net.cells c.view) bs
       (λ j b l. let s = h.each j b l in record { seats = s.seats; starts_are = s.starts; rests = s.rests }) k d lt)
 
   -- it has every part
-  pub has_every : (k : ℕ) → k < f.workers → Has k (merged (seats_of bs)).parts
+  pub has_every : (k : ℕ) → k < f.workers → Has k (merged_view (seats_of bs)).parts
   has_every k lt =
       let long = length-map bs (λ (x : Bundle). x.seat) in
       let m = h.many in
       let z : 0 + k ≡ k = omega arith in
-      subst (λ j. Has j (merged (seats_of bs)).parts) z
+      subst (λ j. Has j (merged_view (seats_of bs)).parts) z
       (merged_parts 0 (seats_of bs) (λ i d l. seat_by (λ j c. c.view.parts ≡ (0 + j) ∷ []) bs
       (λ j b lj. let y : j ≡ 0 + j = omega arith in (h.each j b lj).parts ∙ ap (λ x. x ∷ []) y) i d l)
       k (omega (arith, lt, long, m)))
 
   -- so it can close the round
-  pub has_all : HasAll (merged (seats_of bs))
+  pub has_all : HasAll (merged_view (seats_of bs))
   unfolding one_round
   has_all k lt = has_every k (let e = one_round.seats in omega (arith, lt, e))
 
   -- as many cells as the round began with
-  pub as_many : (n : ℕ) → n ≡ length f.net.cells → n ≡ length (merged (seats_of bs)).starts
+  pub as_many : (n : ℕ) → n ≡ length f.net.cells → n ≡ length (merged_view (seats_of bs)).starts
   as_many n e = e ∙ ap length (sym one_round.starts_are)
 
 -- TASKS
@@ -147,7 +147,7 @@ module _ (p : PlanForm) (f : Framed) (bs : List Bundle) (h : AreBundlesOf p f bs
       }
 
   -- the tasks of a bundle keep their facts
-  pub keep : (k : ℕ) (b : Bundle) → k < length bs → AreTasks p (get_or bs k b).seat.view (get_or bs k b).tasks
+  pub keep : (k : ℕ) (b : Bundle) → k < length bs → AreTasksAt p (get_or bs k b).seat.view (get_or bs k b).tasks
   keep k b lk = let x = h.each k b lk in x.bundle.keeps x.calm
 
   -- and each has a place
@@ -259,7 +259,7 @@ module _ (p : PlanForm) (f : Framed) (bs : List Bundle) (h : AreBundlesOf p f bs
 
 -- the seat that took over all others
 abbrev pub all_views : List Bundle → View
-all_views bs = merged (seats_of bs)
+all_views bs = merged_view (seats_of bs)
 
 module _ (p : PlanForm) (f : Framed) (bs : List Bundle) (h : AreBundlesOf p f bs) where
   alone : OwnAlone f.workers 0 (seats_of bs)
@@ -428,7 +428,7 @@ module _ (p : PlanForm) (f : Framed) (bs : List Bundle) (h : AreBundlesOf p f bs
       (joined_tasks p f bs h cells grown ts0 as_long) n.links
 
   -- and no two rings share one
-  pub net_apart : AreApart f.net.links
+  pub net_apart : ShareNoEnd f.net.links
   net_apart = apart_net p f.net.links h.valid h.net.is.links
 
   -- whatever inputs and capacities the net that was split had, this one has

@@ -16,7 +16,7 @@ use Rattle.fire_open.specs.declared.settling.Link.{Link}
 use Rattle.fire_tasks.specs.declared.task.Task.{Task}
 use Rattle.fire_open.specs.Fresh.{AreFresh}
 use Rattle.fire_open.specs.Links.{AreLinks, room_of}
-use Rattle.fire_open.specs.Rings.{Body, body, NoReader, NoWriter, AreRung}
+use Rattle.fire_open.specs.Rings.{TaskBody, body, NoReader, NoWriter, AreRung}
 use Rattle.fire_open.proofs.Lists.{same_got, map_long}
 use Rattle.std.proofs.lemmas.List.Elements.{All-nil, All-head, All-tail}
 use Rattle.class_locks.specs.Logs.{Holding}
@@ -46,7 +46,7 @@ opened p inputs cap caps ts0 ts ls cells v typed one all h k r cs blank = record
   room = λ q. let h = (capacity_fits (first_cap caps) cap q one (first_fits caps q all)).0 in omega (arith, h);
   laid = record {
     many = map_long body ts ts0 r.bodies ∙ h.many;
-    numbers = λ o t g. let x = same_got body ts ts0 r.bodies o t g in ap (λ (b : Body). b.op) x.2 ∙ (h.each o x.0 x.1).number;
+    numbers = λ o t g. let x = same_got body ts ts0 r.bodies o t g in ap (λ (b : TaskBody). b.op) x.2 ∙ (h.each o x.0 x.1).number;
     rings = λ o o' port j q f i x.
         let l : Link = record { writer = o'; out = j; reader = o; port = port } in
         let a = k.all l (record { queue = q; read = x.op; write = x.op'; read_is = x.op_is; reads = x.reads; write_is = x.op_is'; writes = x.writes }) in

@@ -6,7 +6,7 @@ use Rattle.river_plan.specs.declared.plan.RawPlan.{RawPlan}
 use Rattle.class_locks.specs.Seats.{TableId}
 use Rattle.fire_tasks.specs.Bundles.{HasWorked, IsReady}
 use Rattle.fire_tasks.specs.declared.bundle.Bundle.{Bundle}
-use Rattle.fire_run.specs.Frames.{AreBundlesOf, AreCalm, AreSeated, Framed, HasToldMoves, HaveWorked, SitsAt, bundle_moves}
+use Rattle.fire_run.specs.Frames.{AreBundlesOf, AreCalm, AreSeatedIn, Framed, HasToldMoves, HaveWorked, SitsAt, bundle_moves}
 
 -- the bundles of a frame can work by the lists of its plan
 pub are_ready : (raw : RawPlan) (f : Framed) (bs : List Bundle) → AreBundlesOf (plan_form raw) f bs → All (IsReady raw) bs
@@ -22,7 +22,7 @@ sits_still raw z f k b b' s w = record {
 }
 
 -- they stay bundles of their frame, some of which may be refused
-pub round_seated : (raw : RawPlan) (f : Framed) (bs bs' : List Bundle) → AreSeated f bs → HaveWorked raw bs bs' → AreSeated f bs'
+pub round_seated : (raw : RawPlan) (f : Framed) (bs bs' : List Bundle) → AreSeatedIn f bs → HaveWorked raw bs bs' → AreSeatedIn f bs'
 round_seated raw f bs bs' s w = record {
   some = s.some;
   many = w.many ∙ s.many;

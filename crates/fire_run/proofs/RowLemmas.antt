@@ -22,7 +22,7 @@ use Rattle.fire_tasks.proofs.AddLemmas.{added_else, added_more, entries_logged, 
 use Rattle.fire_tasks.proofs.TaskLemmas.{with_adds, tables_many, got_at}
 use Rattle.fire_open.specs.Homes.{AreClassCells, kinds_from}
 use Rattle.fire_run.specs.Cells.{HaveAdded, cells_grown}
-use Rattle.fire_run.specs.Rows.{CanAddTo, with_rows}
+use Rattle.fire_run.specs.Rows.{CanAddTo, cells_with_rows}
 use Rattle.fire_run.proofs.CellLemmas.{grown_long, grown_got, grown_log}
 
 -- CELLS THAT GROW AT ONE CLASS
@@ -35,7 +35,7 @@ grown_same f g c (x ∷ xs) h =
 
 grown_put : (f g : ℕ → List LogEntry) (o table c k : ℕ) (rows : List (List ℤ)) (xs : List Holding) → k < length xs
     → g (c + k) ≡ f (c + k) ++ entry_of o table rows
-    → ((n : ℕ) → n ≢ c + k → g n ≡ f n) → with_rows o table k rows (cells_grown f c xs) ≡ cells_grown g c xs
+    → ((n : ℕ) → n ≢ c + k → g n ≡ f n) → cells_with_rows o table k rows (cells_grown f c xs) ≡ cells_grown g c xs
 grown_put f g o table c k rows [] lt here other = absurd (omega (arith, lt))
 grown_put f g o table c zero rows (x ∷ xs) lt here other =
     let z : c + 0 ≡ c = omega arith in
@@ -44,15 +44,15 @@ grown_put f g o table c zero rows (x ∷ xs) lt here other =
     ∙ ap (λ ys. record x { log = x.log ++ g c } ∷ ys) (grown_same f g (suc c) xs (λ n le. sym (other n (λ q. omega (arith, le, q)))))
 grown_put f g o table c (suc k) rows (x ∷ xs) lt here other =
     let z : suc c + k ≡ c + suc k = omega arith in
-    ap (λ l. record x { log = x.log ++ l } ∷ with_rows o table k rows (cells_grown f (suc c) xs)) (sym (other c (λ q. omega (arith, q))))
+    ap (λ l. record x { log = x.log ++ l } ∷ cells_with_rows o table k rows (cells_grown f (suc c) xs)) (sym (other c (λ q. omega (arith, q))))
     ∙ ap (λ ys. record x { log = x.log ++ g c } ∷ ys)
     (grown_put f g o table (suc c) k rows xs (omega (arith, lt)) (ap g z ∙ here ∙ ap (λ n. f n ++ entry_of o table rows) (sym z)) (λ n ne. other n (λ q. ne (q ∙ sym z))))
 
 -- nothing was added where there are no rows
-pub no_rows : (o table c : ℕ) (rows : List (List ℤ)) (cells : List Holding) → rows ≡ [] → cells ≡ with_rows o table c rows cells
-no_rows o table c rows cells e = sym (ap (λ r. with_rows o table c r cells) e ∙ same cells c)
+pub no_rows : (o table c : ℕ) (rows : List (List ℤ)) (cells : List Holding) → rows ≡ [] → cells ≡ cells_with_rows o table c rows cells
+no_rows o table c rows cells e = sym (ap (λ r. cells_with_rows o table c r cells) e ∙ same cells c)
   where
-    same : (xs : List Holding) (k : ℕ) → with_rows o table k [] xs ≡ xs
+    same : (xs : List Holding) (k : ℕ) → cells_with_rows o table k [] xs ≡ xs
     same [] k = refl
     same (x ∷ xs) zero = ap (λ l. record x { log = l } ∷ xs) (append-nil x.log)
     same (x ∷ xs) (suc k) = ap (λ ys. x ∷ ys) (same xs k)
@@ -82,7 +82,7 @@ added_first o classes (h ∷ hs) rows cells = sym (none_more 0 cells)
 pub added_step : (o : ℕ) (classes : List ℕ) (tables : List TablePort) (rows : ℕ → List (List ℤ)) (j : ℕ) (cells0 cells cells' : List Holding)
     (h : TablePort) → slice_get tables j ≡ Some h
     → slice_index_or classes h.place 0 < length cells0 → AddedTo o classes tables rows j cells0 cells
-    → cells' ≡ with_rows o h.table (slice_index_or classes h.place 0) (rows j) cells
+    → cells' ≡ cells_with_rows o h.table (slice_index_or classes h.place 0) (rows j) cells
     → AddedTo o classes tables rows (j + 1) cells0 cells'
 added_step o classes tables rows j cells0 cells cells' h gh lc a e =
     let lt = slice_get_within tables j h gh in
@@ -93,7 +93,7 @@ added_step o classes tables rows j cells0 cells cells' h gh lc a e =
     ≡ logged o classes (take j tables) rows c ++ (if nat_eq (slice_index_or classes h.place 0) c then entry_of o h.table (rows j) else [])
     = (λ c. ap (λ l. logged o classes l rows c) taken ∙ logged_more o classes (take j tables) h rows c
     ∙ ap (λ n. logged o classes (take j tables) rows c ++ (if nat_eq (slice_index_or classes h.place 0) c then entry_of o h.table (rows n) else [])) long) in
-    e ∙ ap (with_rows o h.table (slice_index_or classes h.place 0) (rows j)) a
+    e ∙ ap (cells_with_rows o h.table (slice_index_or classes h.place 0) (rows j)) a
     ∙ grown_put (logged o classes (take j tables) rows) (logged o classes (take (j + 1) tables) rows) o h.table 0 (slice_index_or classes h.place 0) (rows j) cells0 lc
     (let z : 0 + slice_index_or classes h.place 0 ≡ slice_index_or classes h.place 0 = omega arith in
     more (0 + slice_index_or classes h.place 0)

@@ -19,7 +19,7 @@ use Rattle.fire_run.specs.declared.running.Round.{Round}
 use Rattle.fire_run.specs.declared.running.Round.TheVariants.{Moved, Still}
 use Rattle.fire_run.specs.NetOf.{HasNet, HasNetAt, HasNetOf, Stays, OneMore}
 use Rattle.fire_run.specs.Frames.{Framed, AreBundlesOf, AreCalm, HaveWorked, bundle_moves}
-use Rattle.fire_run.specs.Rounds.{GoesOn, HasJoined, SomeMoved}
+use Rattle.fire_run.specs.Rounds.{NetGoesOn, HasJoined, SomeMoved}
 use Rattle.fire_run.proofs.RoundLemmas.{are_ready, round_bundles, round_falls, round_grew, round_stayed}
 
 -- STAYING A NET
@@ -73,7 +73,7 @@ joined raw p f bs bs' net moved e h w calm stays moves some none = record {
 
 -- a net that was split, and whose bundles worked, goes on
 pub goes_round : (p : PlanForm) (net net' : Net) (f : Framed) (bs : List Bundle) (moved : Bool) (round : Round) (n : ℕ) → f ≡ record { net = net; workers = n }
-    → bundle_moves bs ≡ all_moves net.tasks → HasJoined p f bs net' moved → (round ≡ Moved → IsTrue moved) → GoesOn p net net' round
+    → bundle_moves bs ≡ all_moves net.tasks → HasJoined p f bs net' moved → (round ≡ Moved → IsTrue moved) → NetGoesOn p net net' round
 goes_round p net net' f bs moved round n e m j g = record {
   stays = subst (λ (x : Framed). Stays p x.net net') e j.stays;
   never_falls = let a = j.number.never_falls in omega (arith, a, m);
@@ -82,11 +82,11 @@ goes_round p net net' f bs moved round n e m j g = record {
 
 -- so it does whatever moved
 pub goes_still : (p : PlanForm) (net net' : Net) (f : Framed) (bs : List Bundle) (moved : Bool) (n : ℕ) → f ≡ record { net = net; workers = n }
-    → bundle_moves bs ≡ all_moves net.tasks → HasJoined p f bs net' moved → GoesOn p net net' Still
+    → bundle_moves bs ≡ all_moves net.tasks → HasJoined p f bs net' moved → NetGoesOn p net net' Still
 goes_still p net net' f bs moved n e m j = goes_round p net net' f bs moved Still n e m j (λ t. absurd (cc))
 
 -- then a move of it
-pub goes_then : (p : PlanForm) (a b c : Net) (first second : Round) → GoesOn p a b first → GoesOn p b c second → GoesOn p a c second
+pub goes_then : (p : PlanForm) (a b c : Net) (first second : Round) → NetGoesOn p a b first → NetGoesOn p b c second → NetGoesOn p a c second
 goes_then p a b c first second g h = record {
   stays = stays_then p a b c g.stays h.stays;
   never_falls = let x = g.never_falls in let y = h.never_falls in omega (arith, x, y);
@@ -95,7 +95,7 @@ goes_then p a b c first second g h = record {
 
 -- a move, or none
 pub goes_move : (p : PlanForm) (net net' : Net) (moved : Bool) (round : Round) → Stays p net net' → OneMore (all_moves net.tasks) (all_moves net'.tasks) moved
-    → (round ≡ Moved → IsTrue moved) → GoesOn p net net' round
+    → (round ≡ Moved → IsTrue moved) → NetGoesOn p net net' round
 goes_move p net net' true round s o g = record { stays = s; never_falls = let a = o.one refl in omega (arith, a); grew = λ t. let a = o.one refl in omega (arith, a) }
 goes_move p net net' false round s o g = record { stays = s; never_falls = let a = o.none refl in omega (arith, a); grew = λ t. absurd (let x = g t in cc) }
 
@@ -111,13 +111,13 @@ pub went_first : (p : PlanForm) (net : Net) → HasNet p net → WentOn p net 0 
 went_first p net h = record { stays = stays_same p net h; many = omega arith }
 
 -- one round more
-pub went_next : (p : PlanForm) (first : Net) (n : ℕ) (net net' : Net) (round : Round) → WentOn p first n net → GoesOn p net net' round → round ≡ Moved
+pub went_next : (p : PlanForm) (first : Net) (n : ℕ) (net net' : Net) (round : Round) → WentOn p first n net → NetGoesOn p net net' round → round ≡ Moved
     → WentOn p first (n + 1) net'
 went_next p first n net net' round w g e =
     record { stays = stays_then p first net net' w.stays g.stays; many = let a = w.many in let b = g.grew e in omega (arith, a, b) }
 
 -- a last round, or none
-pub went_end : (p : PlanForm) (first : Net) (n : ℕ) (net net' : Net) (round : Round) → WentOn p first n net → GoesOn p net net' round
+pub went_end : (p : PlanForm) (first : Net) (n : ℕ) (net net' : Net) (round : Round) → WentOn p first n net → NetGoesOn p net net' round
     → Stays p first net' × (n + 1 ≤ 1 + all_moves net'.tasks)
 went_end p first n net net' round w g =
     (stays_then p first net net' w.stays g.stays, let a = w.many in let b = g.never_falls in omega (arith, a, b))

@@ -17,7 +17,7 @@ use Rattle.class_locks.specs.Logs.{Holding}
 use Rattle.class_locks.specs.Seats.{Chair, TableId, seats_from, with_parts}
 use Rattle.class_locks.specs.Views.{Has}
 use Rattle.fire_tasks.specs.Adds.{AreCells, added, logs_at, logs_of, rows_by, table_at, table_class, IsEntryOf}
-use Rattle.fire_tasks.specs.Bundles.{AreTasks}
+use Rattle.fire_tasks.specs.Bundles.{AreTasksAt}
 use Rattle.fire_tasks.specs.declared.bundle.Bundle.{Bundle}
 use Rattle.fire_tasks.specs.declared.task.Task.{Task}
 use Rattle.fire_tasks.specs.Tasks.{IsTask, all_ends, all_moves}
@@ -102,7 +102,7 @@ cells_for p cells h = record { each = λ n t g. let x = class_has p cells n t h 
 
 -- the tasks of a part keep their facts at a seat that has put nothing
 pub share_tasks : (p : PlanForm) (inputs : List (List item.Item)) (caps : Capacities) (net : Net) (w k : ℕ) → IsPlan p → IsNetOf p inputs caps net
-    → AreTasks p (with_parts w net.cells (k ∷ []) []) (tasks_of_part w k net.tasks)
+    → AreTasksAt p (with_parts w net.cells (k ∷ []) []) (tasks_of_part w k net.tasks)
 share_tasks p inputs caps net w k v n = record {
   each = λ i d lt.
       let t = get_or own i d in
@@ -201,8 +201,8 @@ module _ (z : TableId) (net : Net) (w : ℕ) (seats : List Chair) (bs : List Bun
           bundle = record {
             rests = ap (λ (x : View). x.held) e;
             blank = s.blank;
-            keeps = λ calm. subst (λ x. AreTasks p x (get_or bs k d).tasks) (sym e)
-                (subst (AreTasks p (with_parts w net.cells (k ∷ []) [])) (sym s.tasks) (share_tasks p h.inputs h.caps net w k v h.is));
+            keeps = λ calm. subst (λ x. AreTasksAt p x (get_or bs k d).tasks) (sym e)
+                (subst (AreTasksAt p (with_parts w net.cells (k ∷ []) [])) (sym s.tasks) (share_tasks p h.inputs h.caps net w k v h.is));
           };
           calm = s.calm;
           ends = ap all_ends s.tasks ∙ part_ends w k net.tasks;

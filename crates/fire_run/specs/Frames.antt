@@ -48,7 +48,7 @@ pub record SitsAt (z : TableId) (f : Framed) (k : ℕ) (seat : Chair) : Type 0 w
   pub rests : seat.view.held ≡ []
 
 -- the bundles of the frame, each once and in order, whether they were refused or not
-pub record AreSeated (f : Framed) (bundles : List Bundle) : Type 0 where
+pub record AreSeatedIn (f : Framed) (bundles : List Bundle) : Type 0 where
   pub some : 0 < f.workers
   pub many : length bundles ≡ f.workers
   pub lot : TableId
@@ -65,13 +65,13 @@ pub record IsBundleAt (p : PlanForm) (f : Framed) (k : ℕ) (b : Bundle) : Type 
 pub record AreBundlesOf (p : PlanForm) (f : Framed) (bundles : List Bundle) : Type 0 where
   pub valid : IsPlan p
   pub net : HasNet p f.net
-  pub seated : AreSeated f bundles
+  pub seated : AreSeatedIn f bundles
   pub each : (k : ℕ) (d : Bundle) → k < length bundles → IsBundleAt p f k (slice_index_or bundles k d)
 
 -- WHAT SPLITTING LEAVES
 
 -- bundle number k of n as splitting gives it: the net's tasks of part k as they were, and a seat that has put nothing
-pub record IsDealt (net : Net) (n k : ℕ) (b : Bundle) : Type 0 where
+pub record IsDealtBundle (net : Net) (n k : ℕ) (b : Bundle) : Type 0 where
   pub tasks : b.tasks ≡ tasks_of_part n k net.tasks
   pub seat : b.seat.view ≡ with_parts n net.cells (k ∷ []) []
   pub unmoved : b.moved ≡ false
@@ -79,7 +79,7 @@ pub record IsDealt (net : Net) (n k : ℕ) (b : Bundle) : Type 0 where
 -- a bundle for each of n workers
 pub record AreDealt (net : Net) (n : ℕ) (bundles : List Bundle) : Type 0 where
   pub many : length bundles ≡ n
-  pub each : (k : ℕ) (d : Bundle) → k < length bundles → IsDealt net n k (slice_index_or bundles k d)
+  pub each : (k : ℕ) (d : Bundle) → k < length bundles → IsDealtBundle net n k (slice_index_or bundles k d)
 
 -- where the round had begun, the net comes back as it was
 abbrev pub GivesBack : Net → fault.SplitFault → Type 0
@@ -105,7 +105,7 @@ pub record HasToldMoves (bundles bundles' : List Bundle) : Type 0 where
 
 -- After a round the bundles of a frame are bundles of it, and their seats are as they were.
 abbrev pub RoundsKeepSeats : Type 0
-RoundsKeepSeats = (raw : RawPlan) (f : Framed) (bs bs' : List Bundle) → AreSeated f bs → HaveWorked raw bs bs' → AreSeated f bs'
+RoundsKeepSeats = (raw : RawPlan) (f : Framed) (bs bs' : List Bundle) → AreSeatedIn f bs → HaveWorked raw bs bs' → AreSeatedIn f bs'
 
 -- Where none was refused they are tasks of the frame's plan as before.
 abbrev pub RoundsKeepBundles : Type 0

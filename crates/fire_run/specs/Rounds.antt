@@ -23,7 +23,7 @@ pub record HasJoined (p : PlanForm) (f : Framed) (bundles : List Bundle) (net : 
   pub number : HasMoved (bundle_moves bundles) (all_moves net.tasks) moved
 
 -- a net of the same plan, inputs and capacities; no number fell, and one grew where the round says that something moved
-pub record GoesOn (p : PlanForm) (net net' : Net) (round : Round) : Type 0 where
+pub record NetGoesOn (p : PlanForm) (net net' : Net) (round : Round) : Type 0 where
   pub stays : Stays p net net'
   pub never_falls : all_moves net.tasks ≤ all_moves net'.tasks
   pub grew : round ≡ Moved → all_moves net.tasks < all_moves net'.tasks

@@ -14,6 +14,6 @@ abbrev pub no_cell : Holding
 no_cell = record { kinds = []; log = [] }
 
 -- the cells, with an entry for these rows of operator o at one class
-abbrev pub with_rows : ℕ → ℕ → ℕ → List (List ℤ) → List Holding → List Holding
-with_rows o table c rows cells =
+abbrev pub cells_with_rows : ℕ → ℕ → ℕ → List (List ℤ) → List Holding → List Holding
+cells_with_rows o table c rows cells =
     slice_set cells c (record (slice_index_or cells c no_cell) { log = (slice_index_or cells c no_cell).log ++ entry_of o table rows })

@@ -55,7 +55,7 @@ pub record AreAtRest (seats : List Chair) : Type 0 where
   pub rests : (k : ℕ) (d : Chair) → k < length seats → (slice_index_or seats k d).view.held ≡ []
 
 -- what the last of some seats knows, once it took over those before it, one after another
-abbrev pub merged : List Chair → View
-merged [] = fresh 0 []
-merged (s ∷ []) = s.view
-merged (s ∷ (r ∷ rest)) = both (merged (r ∷ rest)) s.view
+abbrev pub merged_view : List Chair → View
+merged_view [] = fresh 0 []
+merged_view (s ∷ []) = s.view
+merged_view (s ∷ (r ∷ rest)) = both (merged_view (r ∷ rest)) s.view

@@ -4,7 +4,7 @@ ghost use Rattle.river_base.specs.Places.{list_at};
 ghost use Rattle.class_locks.specs.Logs.{Holding, TakesRows};
 ghost use Rattle.fire_tasks.specs.Turns.{logged, entry_of};
 ghost use Rattle.fire_run.specs.Cells.{cells_grown};
-ghost use Rattle.fire_run.specs.Rows.{CanAddTo, with_rows};
+ghost use Rattle.fire_run.specs.Rows.{CanAddTo, cells_with_rows};
 
 use brooklet_step::RowLists;
 use class_locks::Cells;
@@ -55,7 +55,7 @@ fn add_at(
 ) -> Result<(), NoMemory>
     requires there { class < length cells.old }
     requires takes { (d : Holding) → TakesRows (slice_index_or cells.old class d).kinds table rows.old }
-    ensures ok { OnOk result (cells.new ≡ with_rows op table class rows.old cells.old) }
+    ensures ok { OnOk result (cells.new ≡ cells_with_rows op table class rows.old cells.old) }
     ensures blank { OnOk result (rows.new ≡ []) }
 {
     if rows.is_empty() {
@@ -76,7 +76,7 @@ fn put_entry(
     requires some { rows ≡ [] → ⊥ }
     requires there { class < length cells.old }
     requires takes { (d : Holding) → TakesRows (slice_index_or cells.old class d).kinds table rows }
-    ensures { OnOk result (cells.new ≡ with_rows op table class rows cells.old) }
+    ensures { OnOk result (cells.new ≡ cells_with_rows op table class rows cells.old) }
 {
     cells.at_mut(class).add(op, table, rows)
 }

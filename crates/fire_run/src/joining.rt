@@ -2,9 +2,9 @@
 ghost use Rattle.std.specs.Prelude.{◌≡◌, ◌<◌, ℕ, All, length};
 ghost use Rattle.river_plan.specs.Forms.{PlanForm};
 ghost use Rattle.fire_tasks.specs.Tasks.{all_ends, all_moves};
-ghost use Rattle.fire_run.specs.Frames.{AreBundlesOf, AreSeated, AreTasksOf, HaveGrownBy, bundle_moves};
+ghost use Rattle.fire_run.specs.Frames.{AreBundlesOf, AreSeatedIn, AreTasksOf, HaveGrownBy, bundle_moves};
 ghost use Rattle.fire_run.specs.NetOf.{Stays};
-ghost use Rattle.fire_run.specs.Shares.{AreAtRest, AreWithin, merged, put_all, put_each, seats_of};
+ghost use Rattle.fire_run.specs.Shares.{AreAtRest, AreWithin, merged_view, put_all, put_each, seats_of};
 
 use crate::frame::{Bundles, Frame};
 use crate::net::Net;
@@ -38,7 +38,7 @@ fn gather(tasks: &mut Listed<Task>, bundles: &mut Bundles)
 // The last of the seats takes over the others.
 fn one_seat(mut bundles: Bundles) -> Seat
     requires { AreAtRest (seats_of bundles.items) }
-    ensures { result.view ≡ merged (seats_of bundles.items) }
+    ensures { result.view ≡ merged_view (seats_of bundles.items) }
 {
     let Some(last) = bundles.pop() else {
         unreachable!();
@@ -83,7 +83,7 @@ impl Frame {
 
     /// Closes the round of bundles of this frame, whether they were refused or not, and drops all.
     pub fn scrap(self, bundles: Bundles)
-        requires { AreSeated self bundles.items }
+        requires { AreSeatedIn self bundles.items }
     {
         let Frame {
             tasks: _,

@@ -8,7 +8,7 @@ ghost use Rattle.fire_tasks.specs.Tasks.{all_moves};
 ghost use Rattle.fire_run.specs.Closed.{IsRanOf};
 ghost use Rattle.fire_run.specs.Frames.{AreBundlesOf, AreCalm, HaveWorked};
 ghost use Rattle.fire_run.specs.NetOf.{HasNet, Stays};
-ghost use Rattle.fire_run.specs.Rounds.{GoesOn, HasJoined, SomeMoved};
+ghost use Rattle.fire_run.specs.Rounds.{NetGoesOn, HasJoined, SomeMoved};
 
 use crate::{Bundles, Frame, Net, Ran, SplitFault};
 use brooklet_step::Lines;
@@ -99,7 +99,7 @@ fn make_round<R: Threads + Sync, G: Gate + Sync>(
     requires valid { IsPlan plan.now }
     requires net { HasNet plan.now net }
     requires workers { (1 ≤ workers) × (workers ≤ 64) }
-    ensures { IfOk result (λ both. GoesOn plan.now net both.0 both.1) }
+    ensures { IfOk result (λ both. NetGoesOn plan.now net both.0 both.1) }
 {
     match net.split(alloc, workers) {
         Ok((frame, bundles)) => {
@@ -122,7 +122,7 @@ fn move_once<G: Gate>(
     gate: &G,
 ) -> Result<(Net, Round), NoMemory>
     requires { HasNet plan.now net }
-    ensures { IfOk result (λ both. GoesOn plan.now net both.0 both.1) }
+    ensures { IfOk result (λ both. NetGoesOn plan.now net both.0 both.1) }
 {
     let mut net = net;
     if net.one(alloc, plan, gate)? {

@@ -25,7 +25,7 @@ use Rattle.class_locks.specs.Logs.{TakesRows, rows_in, rows_to, part_of_op}
 use Rattle.class_locks.specs.Piles.{Piled}
 use Rattle.fire_tasks.specs.declared.task.TablePort.{TablePort}
 use Rattle.fire_tasks.specs.Adds.{AreHomes, IsEntryOf, added, rows_by, table_at, table_class, table_numbers}
-use Rattle.fire_tasks.specs.Turns.{AreCellsOf, AreRowsFor, CanAdd, HaveGained, classes_of, entry_of, grown, logged, with_entry}
+use Rattle.fire_tasks.specs.Turns.{AreCellsOf, AreRowsFor, CanAdd, HaveGained, classes_of, entry_of, pile_grown, logged, cell_with_rows}
 
 -- ENTRIES OF A FIRING
 
@@ -242,29 +242,29 @@ module _ (p : PlanForm) (v : IsPlan p) (o : ℕ) (op : OpForm) (g : slice_get p.
 -- CELLS OF A PILE
 
 -- nothing came
-pub grown_none : (pile : List Piled) → grown (λ c. []) pile ≡ pile
+pub grown_none : (pile : List Piled) → pile_grown (λ c. []) pile ≡ pile
 grown_none [] = refl
 grown_none (x ∷ xs) =
-    ap (λ (l : List LogEntry). (x.0, record x.1 { log = l }) ∷ grown (λ c. []) xs) (append-nil x.1.log) ∙ ap (λ (l : List Piled). x ∷ l) (grown_none xs)
+    ap (λ (l : List LogEntry). (x.0, record x.1 { log = l }) ∷ pile_grown (λ c. []) xs) (append-nil x.1.log) ∙ ap (λ (l : List Piled). x ∷ l) (grown_none xs)
 
-grown_same : (f g : ℕ → List LogEntry) (pile : List Piled) → ((c : ℕ) → f c ≡ g c) → grown f pile ≡ grown g pile
+grown_same : (f g : ℕ → List LogEntry) (pile : List Piled) → ((c : ℕ) → f c ≡ g c) → pile_grown f pile ≡ pile_grown g pile
 grown_same f g [] e = refl
 grown_same f g (x ∷ xs) e =
-    ap (λ (l : List LogEntry). (x.0, record x.1 { log = x.1.log ++ l }) ∷ grown f xs) (e x.0)
+    ap (λ (l : List LogEntry). (x.0, record x.1 { log = x.1.log ++ l }) ∷ pile_grown f xs) (e x.0)
     ∙ ap (λ (l : List Piled). (x.0, record x.1 { log = x.1.log ++ g x.0 }) ∷ l) (grown_same f g xs e)
 
-grown_twice : (f g : ℕ → List LogEntry) (pile : List Piled) → grown g (grown f pile) ≡ grown (λ c. f c ++ g c) pile
+grown_twice : (f g : ℕ → List LogEntry) (pile : List Piled) → pile_grown g (pile_grown f pile) ≡ pile_grown (λ c. f c ++ g c) pile
 grown_twice f g [] = refl
 grown_twice f g (x ∷ xs) =
-    ap (λ (l : List LogEntry). (x.0, record x.1 { log = l }) ∷ grown g (grown f xs)) (append_assoc x.1.log (f x.0) (g x.0))
+    ap (λ (l : List LogEntry). (x.0, record x.1 { log = l }) ∷ pile_grown g (pile_grown f xs)) (append_assoc x.1.log (f x.0) (g x.0))
     ∙ ap (λ (l : List Piled). (x.0, record x.1 { log = x.1.log ++ (f x.0 ++ g x.0) }) ∷ l) (grown_twice f g xs)
 
 -- the classes of the cells stay
-pub classes_grown : (f : ℕ → List LogEntry) (pile : List Piled) → classes_of (grown f pile) ≡ classes_of pile
+pub classes_grown : (f : ℕ → List LogEntry) (pile : List Piled) → classes_of (pile_grown f pile) ≡ classes_of pile
 classes_grown f [] = refl
 classes_grown f (x ∷ xs) = ap (λ (l : List ℕ). x.0 ∷ l) (classes_grown f xs)
 
-grown_at : (f : ℕ → List LogEntry) (pile : List Piled) (i : ℕ) (x : Piled) → slice_get pile i ≡ Some x → slice_get (grown f pile) i ≡ Some (x.0, record x.1 { log = x.1.log ++ f x.0 })
+grown_at : (f : ℕ → List LogEntry) (pile : List Piled) (i : ℕ) (x : Piled) → slice_get pile i ≡ Some x → slice_get (pile_grown f pile) i ≡ Some (x.0, record x.1 { log = x.1.log ++ f x.0 })
 grown_at f pile i x g = got_map (λ (y : Piled). (y.0, record y.1 { log = y.1.log ++ f y.0 })) pile i x g
 
 piled_is : (a b : Piled) → Some a ≡ Some b → a ≡ b
@@ -279,37 +279,37 @@ abbrev only_at : ℕ → List LogEntry → ℕ → List LogEntry
 only_at c e n = if nat_eq c n then e else []
 
 -- a cell of none of these classes
-none_grown : (c : ℕ) (e : List LogEntry) (xs : List Piled) → ((k d : ℕ) → k < length xs → c ≢ get_or (classes_of xs) k d) → grown (only_at c e) xs ≡ xs
+none_grown : (c : ℕ) (e : List LogEntry) (xs : List Piled) → ((k d : ℕ) → k < length xs → c ≢ get_or (classes_of xs) k d) → pile_grown (only_at c e) xs ≡ xs
 none_grown c e [] ne = refl
 none_grown c e (x ∷ xs) ne =
-    ap (λ (l : List LogEntry). (x.0, record x.1 { log = x.1.log ++ l }) ∷ grown (only_at c e) xs) (if_ne c x.0 e [] (ne 0 0 (omega arith)))
-    ∙ ap (λ (l : List LogEntry). (x.0, record x.1 { log = l }) ∷ grown (only_at c e) xs) (append-nil x.1.log)
+    ap (λ (l : List LogEntry). (x.0, record x.1 { log = x.1.log ++ l }) ∷ pile_grown (only_at c e) xs) (if_ne c x.0 e [] (ne 0 0 (omega arith)))
+    ∙ ap (λ (l : List LogEntry). (x.0, record x.1 { log = l }) ∷ pile_grown (only_at c e) xs) (append-nil x.1.log)
     ∙ ap (λ (l : List Piled). x ∷ l) (none_grown c e xs (λ k d lt. ne (suc k) d (omega (arith, lt))))
 
 -- one cell has more
 set_grown : (pile : List Piled) (i : ℕ) (x : Piled) (e : List LogEntry) → slice_get pile i ≡ Some x → AllPairs (λ a b. a < b) (classes_of pile)
-    → set pile i (x.0, record x.1 { log = x.1.log ++ e }) ≡ grown (only_at x.0 e) pile
+    → set pile i (x.0, record x.1 { log = x.1.log ++ e }) ≡ pile_grown (only_at x.0 e) pile
 set_grown [] i x e g up = absurd (cc g)
 set_grown (y ∷ ys) zero x e g up =
     let is : y ≡ x = piled_is y x g in
     let long = length-map ys (λ (z : Piled). z.0) in
     let ne : (k d : ℕ) → k < length ys → x.0 ≢ get_or (classes_of ys) k d = λ k d lt q. let h = up 0 (suc k) d (omega arith) (omega (arith, long, lt)) in let m = ap (λ (z : Piled). z.0) is in omega (arith, h, m, q) in
     ap (λ (l : List Piled). (x.0, record x.1 { log = x.1.log ++ e }) ∷ l) (sym (none_grown x.0 e ys ne))
-    ∙ ap (λ (l : List LogEntry). (x.0, record x.1 { log = x.1.log ++ l }) ∷ grown (only_at x.0 e) ys) (sym (if_eq x.0 x.0 e [] refl))
-    ∙ ap (λ (z : Piled). (z.0, record z.1 { log = z.1.log ++ only_at x.0 e z.0 }) ∷ grown (only_at x.0 e) ys) (sym is)
+    ∙ ap (λ (l : List LogEntry). (x.0, record x.1 { log = x.1.log ++ l }) ∷ pile_grown (only_at x.0 e) ys) (sym (if_eq x.0 x.0 e [] refl))
+    ∙ ap (λ (z : Piled). (z.0, record z.1 { log = z.1.log ++ only_at x.0 e z.0 }) ∷ pile_grown (only_at x.0 e) ys) (sym is)
 set_grown (y ∷ ys) (suc i) x e g up =
     let long = length-map ys (λ (z : Piled). z.0) in
     let there = slice_get_within ys i x g in
     let at = class_at ys i 0 x g in
     let lt : y.0 < x.0 = (let h = up 0 (suc i) 0 (omega arith) (omega (arith, long, there)) in omega (arith, h, at)) in
     ap (λ (l : List Piled). y ∷ l) (set_grown ys i x e g (λ a b d la lb. up (suc a) (suc b) d (omega (arith, la)) (omega (arith, lb))))
-    ∙ ap (λ (l : List LogEntry). (y.0, record y.1 { log = l }) ∷ grown (only_at x.0 e) ys) (sym (append-nil y.1.log))
-    ∙ ap (λ (l : List LogEntry). (y.0, record y.1 { log = y.1.log ++ l }) ∷ grown (only_at x.0 e) ys) (sym (if_ne x.0 y.0 e [] (λ q. omega (arith, q, lt))))
+    ∙ ap (λ (l : List LogEntry). (y.0, record y.1 { log = l }) ∷ pile_grown (only_at x.0 e) ys) (sym (append-nil y.1.log))
+    ∙ ap (λ (l : List LogEntry). (y.0, record y.1 { log = y.1.log ++ l }) ∷ pile_grown (only_at x.0 e) ys) (sym (if_ne x.0 y.0 e [] (λ q. omega (arith, q, lt))))
 
 -- where there are no rows nothing changes
-pub set_none : (o table : ℕ) (rows : List (List ℤ)) (pile : List Piled) (i : ℕ) (x : Piled) → slice_get pile i ≡ Some x → rows ≡ [] → pile ≡ set pile i (with_entry o table rows x)
+pub set_none : (o table : ℕ) (rows : List (List ℤ)) (pile : List Piled) (i : ℕ) (x : Piled) → slice_get pile i ≡ Some x → rows ≡ [] → pile ≡ set pile i (cell_with_rows o table rows x)
 set_none o table rows pile i x g e =
-    sym (at pile i g) ∙ ap (set pile i) (ap (λ (l : List LogEntry). (x.0, record x.1 { log = l })) (sym (append-nil x.1.log)) ∙ ap (λ (r : List (List ℤ)). with_entry o table r x) (sym e))
+    sym (at pile i g) ∙ ap (set pile i) (ap (λ (l : List LogEntry). (x.0, record x.1 { log = l })) (sym (append-nil x.1.log)) ∙ ap (λ (r : List (List ℤ)). cell_with_rows o table r x) (sym e))
   where
     at : (ps : List Piled) (n : ℕ) → slice_get ps n ≡ Some x → set ps n x ≡ ps
     at [] n h = refl
@@ -320,7 +320,7 @@ set_none o table rows pile i x g e =
 
 -- the pile after the entries of the first ports
 abbrev pub AddedTo : ℕ → List TablePort → (ℕ → List (List ℤ)) → ℕ → List Piled → List Piled → Type 0
-AddedTo o tables rows j pile now = now ≡ grown (logged o (classes_of pile) (take j tables) rows) pile
+AddedTo o tables rows j pile now = now ≡ pile_grown (logged o (classes_of pile) (take j tables) rows) pile
 
 -- before the first port
 pub added_none : (o : ℕ) (tables : List TablePort) (rows : ℕ → List (List ℤ)) (pile : List Piled) → AddedTo o tables rows 0 pile pile
@@ -352,7 +352,7 @@ cell_now o tables rows j pile now h e can g =
 
 -- one port more
 pub added_next : (o : ℕ) (tables : List TablePort) (rows : ℕ → List (List ℤ)) (j : ℕ) (pile now new : List Piled) (h : TablePort) (x : Piled) → IsStrictlyIncreasing (classes_of pile)
-    → AddedTo o tables rows j pile now → slice_get tables j ≡ Some h → slice_get now h.place ≡ Some x → new ≡ set now h.place (with_entry o h.table (rows j) x)
+    → AddedTo o tables rows j pile now → slice_get tables j ≡ Some h → slice_get now h.place ≡ Some x → new ≡ set now h.place (cell_with_rows o h.table (rows j) x)
     → AddedTo o tables rows (j + 1) pile new
 added_next o tables rows j pile now new h x up e g gx n =
     let cs = classes_of pile in
@@ -361,7 +361,7 @@ added_next o tables rows j pile now new h x up e g gx n =
     let same : classes_of now ≡ cs = ap classes_of e ∙ classes_grown f pile in
     let at : slice_index_or cs h.place 0 ≡ x.0 = ap (λ (l : List ℕ). slice_index_or l h.place 0) (sym same) ∙ class_at now h.place 0 x gx in
     let rises = subst (λ l. AllPairs (λ (a b : ℕ). a < b) l) (sym same) (AllPairs-from_increasing cs up) in
-    n ∙ set_grown now h.place x en gx rises ∙ ap (grown (only_at x.0 en)) e ∙ grown_twice f (only_at x.0 en) pile
+    n ∙ set_grown now h.place x en gx rises ∙ ap (pile_grown (only_at x.0 en)) e ∙ grown_twice f (only_at x.0 en) pile
     ∙ grown_same (λ c. f c ++ only_at x.0 en c) (logged o cs (take (j + 1) tables) rows) pile (λ c.
     ap (λ m. f c ++ only_at m en c) (sym at)
     ∙ ap (λ m. f c ++ (if nat_eq (slice_index_or cs h.place 0) c then entry_of o h.table (rows m) else [])) (sym (take_length tables j (slice_get_within tables j h g)))
@@ -370,8 +370,8 @@ added_next o tables rows j pile now new h x up e g gx n =
 
 -- behind the last port
 pub added_whole : (o : ℕ) (tables : List TablePort) (rows : ℕ → List (List ℤ)) (j : ℕ) (pile now : List Piled) → AddedTo o tables rows j pile now → length tables ≤ j
-    → now ≡ grown (logged o (classes_of pile) tables rows) pile
-added_whole o tables rows j pile now e le = e ∙ ap (λ l. grown (logged o (classes_of pile) l rows) pile) (whole tables j le)
+    → now ≡ pile_grown (logged o (classes_of pile) tables rows) pile
+added_whole o tables rows j pile now e le = e ∙ ap (λ l. pile_grown (logged o (classes_of pile) l rows) pile) (whole tables j le)
   where
     whole : {A : Type 0} (xs : List A) (n : ℕ) → length xs ≤ n → take n xs ≡ xs
     whole [] zero l = refl

@@ -10,11 +10,11 @@ use Rattle.class_locks.specs.Views.{Has}
 use Rattle.fire_tasks.specs.declared.task.Task.{Task}
 use Rattle.fire_tasks.specs.Adds.{AreCells, added, logs_at}
 use Rattle.fire_tasks.specs.declared.ports.Inlet as inlet
-use Rattle.fire_tasks.specs.Bundles.{AreTasks, AreIdle, AllLooked, HasGone, HasSwept, SameSeat}
+use Rattle.fire_tasks.specs.Bundles.{AreTasksAt, AllDone, AllLooked, HasGone, HasSwept, SameSeat}
 use Rattle.fire_tasks.specs.declared.bundle.Bundle.{Bundle}
 use Rattle.fire_tasks.specs.Ports.{AllReceived, HasMoved, known_of}
 use Rattle.fire_tasks.specs.Tasks.{TaskEnds, IsTaskAt, IsDone, ends_of, all_ends, moves, all_moves}
-use Rattle.fire_tasks.specs.Turns.{HasTurned, IsSeatOf, IsStuck, LooksSame, StillSits}
+use Rattle.fire_tasks.specs.Turns.{HasTurned, IsSeatOf, IsStuckSince, LooksSame, StillSits}
 use Rattle.fire_tasks.proofs.PassLemmas.{moved_second, moved_first, moved_false}
 use Rattle.fire_tasks.proofs.PortLemmas.{ins_many}
 use Rattle.fire_tasks.proofs.TaskLemmas.{got_at, with_adds}
@@ -60,18 +60,18 @@ there (x ∷ xs) (suc j) c d l = there xs j c d (omega (arith, l))
 
 -- the first tasks had their turns
 pub record HavePassed (p : PlanForm) (v w : View) (place : ℕ) (ts ts' : List Task) (moved : Bool) : Type 0 where
-  pub tasks : AreTasks p w ts'
+  pub tasks : AreTasksAt p w ts'
   pub sits : StillSits v w
   pub tries : HasMoreTries v w
   pub same : all_ends ts' ≡ all_ends ts
   pub number : HasMoved (all_moves ts) (all_moves ts') moved
-  pub stuck : IsFalse moved → (i : ℕ) (d : Task) → i < place → i < length ts' → IsStuck v w (get_or ts' i d)
+  pub stuck : IsFalse moved → (i : ℕ) (d : Task) → i < place → i < length ts' → IsStuckSince v w (get_or ts' i d)
 
 no_tries : (v : View) → HasMoreTries v v
 no_tries v = record { more = []; takes = sym (append-nil v.takes) }
 
 -- before the first task
-pub passed_first : (p : PlanForm) (v : View) (ts : List Task) → AreTasks p v ts → v.held ≡ [] → HavePassed p v v 0 ts ts false
+pub passed_first : (p : PlanForm) (v : View) (ts : List Task) → AreTasksAt p v ts → v.held ≡ [] → HavePassed p v v 0 ts ts false
 passed_first p v ts k h = record {
   tasks = k;
   sits = sits_none v h;
@@ -82,7 +82,7 @@ passed_first p v ts k h = record {
 }
 
 -- the seat is that of each of the tasks
-pub seat_for : (p : PlanForm) (v : View) (ts : List Task) (i : ℕ) (t : Task) → AreTasks p v ts → v.held ≡ [] → i < length ts → t ≡ get_or ts i t → IsSeatOf p t.op v
+pub seat_for : (p : PlanForm) (v : View) (ts : List Task) (i : ℕ) (t : Task) → AreTasksAt p v ts → v.held ≡ [] → i < length ts → t ≡ get_or ts i t → IsSeatOf p t.op v
 seat_for p v ts i t k h lt e = record {
   rests = h;
   part = subst (λ (x : Task). Has (x.op % v.seats) v.parts) (sym e) (k.parts i t lt);
@@ -90,8 +90,8 @@ seat_for p v ts i t k h lt e = record {
 }
 
 -- the tasks after one of them had its turn
-after_turn : (p : PlanForm) (v w : View) (now : List Task) (i : ℕ) (old new : Task) (n : Bool) → AreTasks p v now → i < length now → old ≡ get_or now i old
-    → HasTurned p v w old new n → AreTasks p w (set now i new)
+after_turn : (p : PlanForm) (v w : View) (now : List Task) (i : ℕ) (old new : Task) (n : Bool) → AreTasksAt p v now → i < length now → old ≡ get_or now i old
+    → HasTurned p v w old new n → AreTasksAt p w (set now i new)
 after_turn p v w now i old new n k lt e h = record {
   each = λ j d lj. ⊎_elim
       (λ q. subst (IsTaskAt p w) (sym (ap (λ m. get_or (set now i new) m d) (sym q) ∙ get_or-set_same now i new d lt)) h.task)
@@ -149,11 +149,11 @@ passed_turn p v0 v w ts now i old new m n k h lt e t c f =
           (λ l.
           let ne : (j ≡ i → ⊥) = λ q. omega (arith, l, q) in
           let q = set_many now i new in
-          subst (IsStuck v0 w) (sym (get_or-set_other now i j new d ne)) (stuck_still v0 v w (get_or now j d) tries (h.stuck (f z).0 j d l (omega (arith, ll, q)))))
+          subst (IsStuckSince v0 w) (sym (get_or-set_other now i j new d ne)) (stuck_still v0 v w (get_or now j d) tries (h.stuck (f z).0 j d l (omega (arith, ll, q)))))
           (λ ge.
           let q : i ≡ j = omega (arith, lj, ge) in
-          subst (λ (y : ℕ). IsStuck v0 w (get_or (set now i new) y d)) q
-          (subst (IsStuck v0 w) (sym (get_or-set_same now i new d lt)) (stuck_since v0 v w new h.tries (t.stuck (f z).1))))
+          subst (λ (y : ℕ). IsStuckSince v0 w (get_or (set now i new) y d)) q
+          (subst (IsStuckSince v0 w) (sym (get_or-set_same now i new d lt)) (stuck_since v0 v w new h.tries (t.stuck (f z).1))))
           (cases_lt j i);
     }
 
@@ -187,14 +187,14 @@ passed_all p v w place ts ts' moved h le = record {
 
 -- nothing moved in the looks so far
 pub record Swept (p : PlanForm) (v w : View) (ts ts' : List Task) : Type 0 where
-  pub tasks : AreTasks p w ts'
+  pub tasks : AreTasksAt p w ts'
   pub sits : StillSits v w
   pub tries : HasMoreTries v w
   pub same : all_ends ts' ≡ all_ends ts
   pub number : all_moves ts' ≡ all_moves ts
 
 -- before the first look
-pub swept_none : (p : PlanForm) (v : View) (ts : List Task) → AreTasks p v ts → v.held ≡ [] → Swept p v v ts ts
+pub swept_none : (p : PlanForm) (v : View) (ts : List Task) → AreTasksAt p v ts → v.held ≡ [] → Swept p v v ts ts
 swept_none p v ts k h = record { tasks = k; sits = sits_none v h; tries = no_tries v; same = refl; number = refl }
 
 -- one more
@@ -265,11 +265,11 @@ module _ (place : ℕ) (ts now : List Task) (old new : Task) (h : LookedTo place
   }
 
   -- or not
-  pub looked_busy : (IsDone new → ⊥) → AreIdle (set now place new) → ⊥
+  pub looked_busy : (IsDone new → ⊥) → AllDone (set now place new) → ⊥
   looked_busy busy idle = busy (subst IsDone (get_or-set_same now place new new lt) (idle.each place new (let m = many_now in omega (arith, lt, m))))
 
 -- behind the last one
-pub looked_all : (place : ℕ) (ts ts' : List Task) → LookedTo place ts ts' → length ts ≤ place → AreIdle ts'
+pub looked_all : (place : ℕ) (ts ts' : List Task) → LookedTo place ts ts' → length ts ≤ place → AllDone ts'
 looked_all place ts ts' h le = record { each = λ i d lt. h.done i d (let n = h.looked.many in omega (arith, lt, le, n)) lt }
 
 -- a task with an item that is known to be there is not done

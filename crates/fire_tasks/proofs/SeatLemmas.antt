@@ -14,19 +14,19 @@ use Rattle.class_locks.specs.Piles.{Piled, AllBelow, Matches, IsPile, HasGained,
 use Rattle.class_locks.specs.Views.{Has, Belong, own, claims_of}
 use Rattle.class_locks.proofs.Owns.{own-append, own_same, own_other}
 use Rattle.fire_tasks.specs.Adds.{AreClaims, IsEntryOf}
-use Rattle.fire_tasks.specs.Turns.{SameRound, grown, HaveGained}
+use Rattle.fire_tasks.specs.Turns.{SameRound, pile_grown, HaveGained}
 
 -- GROWN PILES
 
-turned : (more : ℕ → List LogEntry) (pile : List Piled) → reverse (grown more pile) ≡ grown more (reverse pile)
+turned : (more : ℕ → List LogEntry) (pile : List Piled) → reverse (pile_grown more pile) ≡ pile_grown more (reverse pile)
 turned more [] = refl
 turned more (x ∷ xs) =
     let y : Piled = (x.0, record x.1 { log = x.1.log ++ more x.0 }) in
-    reverse-append (y ∷ []) (grown more xs)
+    reverse-append (y ∷ []) (pile_grown more xs)
     ∙ ap (λ (l : List Piled). l ++ y ∷ []) (turned more xs)
-    ∙ sym (ap (grown more) (reverse-append (x ∷ []) xs) ∙ grown-append (reverse xs) (x ∷ []))
+    ∙ sym (ap (pile_grown more) (reverse-append (x ∷ []) xs) ∙ grown-append (reverse xs) (x ∷ []))
   where
-    grown-append : (ps qs : List Piled) → grown more (ps ++ qs) ≡ grown more ps ++ grown more qs
+    grown-append : (ps qs : List Piled) → pile_grown more (ps ++ qs) ≡ pile_grown more ps ++ pile_grown more qs
     grown-append [] qs = refl
     grown-append (q ∷ ps) qs = ap (λ (l : List Piled). (q.0, record q.1 { log = q.1.log ++ more q.0 }) ∷ l) (grown-append ps qs)
 
@@ -42,7 +42,7 @@ belongs-append n parts (x ∷ xs) ys h g = (h.0, belongs-append n parts xs ys h.
 
 -- the cells have gained what belongs to the seat
 grown_matches : (n : ℕ) (parts : List ℕ) (more : ℕ → List LogEntry) (ps : List Piled) (hs : List Held) → ((c : ℕ) → Belong n parts (more c))
-    → Matches n parts ps hs → Matches n parts (grown more ps) hs
+    → Matches n parts ps hs → Matches n parts (pile_grown more ps) hs
 grown_matches n parts more [] [] b m = m
 grown_matches n parts more [] (h ∷ hs) b m = absurd m
 grown_matches n parts more (p ∷ ps) [] b m = absurd m
@@ -85,25 +85,25 @@ module _ (n : ℕ) (parts : List ℕ) (more : ℕ → List LogEntry) where
       ap (λ (l : List LogEntry). drop (length h.taken.log) (l ++ more p.0)) log ∙ drop_front h.taken.log (more p.0)
 
   -- all classes are below c: nothing is claimed there
-  claimed_past : (k c m : ℕ) (ps : List Piled) (hs : List Held) → m ≤ c → AllBelow m hs → Matches n parts ps hs → own n k c (gained (grown more ps) hs) ≡ []
+  claimed_past : (k c m : ℕ) (ps : List Piled) (hs : List Held) → m ≤ c → AllBelow m hs → Matches n parts ps hs → own n k c (gained (pile_grown more ps) hs) ≡ []
   claimed_past k c m [] hs le b ma = refl
   claimed_past k c m (p ∷ ps) [] le b ma = refl
   claimed_past k c m (p ∷ ps) (h ∷ hs) le b ma =
       let es = drop (length h.taken.log) (p.1.log ++ more p.0) in
       let lt = b.0 in
       let e = ma.0 in
-      own-append n k c (claims_of p.0 es) (gained (grown more ps) hs)
-      ∙ ap (λ (l : List LogEntry). l ++ own n k c (gained (grown more ps) hs)) (own_other n k p.0 c es (λ q. omega (arith, lt, le, e, q)))
+      own-append n k c (claims_of p.0 es) (gained (pile_grown more ps) hs)
+      ∙ ap (λ (l : List LogEntry). l ++ own n k c (gained (pile_grown more ps) hs)) (own_other n k p.0 c es (λ q. omega (arith, lt, le, e, q)))
       ∙ claimed_past k c h.class ps hs (omega (arith, lt, le)) b.1 ma.2
 
   -- at a class what is claimed is the part of what its cell has more; at another there is none
   claimed_at : (k c m : ℕ) (ps : List Piled) (hs : List Held) → AllBelow m hs → Matches n parts ps hs → gained ps hs ≡ []
-      → (own n k c (gained (grown more ps) hs) ≡ part n k (more c)) ⊎ ((own n k c (gained (grown more ps) hs) ≡ []) × All (λ (x : Piled). x.0 ≢ c) ps)
+      → (own n k c (gained (pile_grown more ps) hs) ≡ part n k (more c)) ⊎ ((own n k c (gained (pile_grown more ps) hs) ≡ []) × All (λ (x : Piled). x.0 ≢ c) ps)
   claimed_at k c m [] hs b ma g = inr (refl, All-nil (λ (x : Piled). x.0 ≢ c))
   claimed_at k c m (p ∷ ps) [] b ma g = absurd ma
   claimed_at k c m (p ∷ ps) (h ∷ hs) b ma g =
       let es = drop (length h.taken.log) (p.1.log ++ more p.0) in
-      let rest = gained (grown more ps) hs in
+      let rest = gained (pile_grown more ps) hs in
       let split = own-append n k c (claims_of p.0 es) rest in
       let one : es ≡ more p.0 = claimed_one p ps h hs ma.1 g in
       let e = ma.0 in
@@ -123,12 +123,12 @@ module _ (n : ℕ) (parts : List ℕ) (more : ℕ → List LogEntry) where
 
 -- the same of each claim
 claims_right : (P : ℕ → LogEntry → Type 0) (more : ℕ → List LogEntry) (n : ℕ) (parts : List ℕ) (ps : List Piled) (hs : List Held) → Matches n parts ps hs → gained ps hs ≡ []
-    → ((c : ℕ) → All (P c) (more c)) → All (λ (q : Claim). P q.class q.entry) (gained (grown more ps) hs)
+    → ((c : ℕ) → All (P c) (more c)) → All (λ (q : Claim). P q.class q.entry) (gained (pile_grown more ps) hs)
 claims_right P more n parts [] hs ma g a = All-nil (λ (q : Claim). P q.class q.entry)
 claims_right P more n parts (p ∷ ps) [] ma g a = absurd ma
 claims_right P more n parts (p ∷ ps) (h ∷ hs) ma g a =
     let one = claimed_one n parts more p ps h hs ma.1 g in
-    All-append (λ (q : Claim). P q.class q.entry) (claims_of p.0 (drop (length h.taken.log) (p.1.log ++ more p.0))) (gained (grown more ps) hs)
+    All-append (λ (q : Claim). P q.class q.entry) (claims_of p.0 (drop (length h.taken.log) (p.1.log ++ more p.0))) (gained (pile_grown more ps) hs)
     (as_claims p.0 (drop (length h.taken.log) (p.1.log ++ more p.0)) (subst (All (P p.0)) (sym one) (a p.0)))
     (claims_right P more n parts ps hs ma.2 (no_claims p.0 (drop (length h.taken.log) p.1.log) (gained ps hs) g).1 a)
   where
@@ -146,11 +146,11 @@ turned_all P xs h = subst (All P) (reverse-reverse xs) (turn (reverse xs) h)
     turn [] a = All-nil P
     turn (y ∷ ys) a = subst (All P) (sym (reverse-append (y ∷ []) ys)) (All-append P (reverse ys) (y ∷ []) (turn ys (All-tail P y ys a)) (All-cons P y [] (All-head P y ys a) (All-nil P)))
 
-module _ (v u w : View) (classes : List ℕ) (pile pile' : List Piled) (more : ℕ → List LogEntry) (t : HasTaken classes v u pile) (e : pile' ≡ grown more pile) (put : HasPut u w pile') where
+module _ (v u w : View) (classes : List ℕ) (pile pile' : List Piled) (more : ℕ → List LogEntry) (t : HasTaken classes v u pile) (e : pile' ≡ pile_grown more pile) (put : HasPut u w pile') where
   pub same_round : SameRound v w
   same_round = record { seats = put.seats ∙ t.looked.seats; starts = put.starts ∙ t.looked.starts; parts = put.parts ∙ t.looked.parts }
 
-  came : w.claims ≡ v.claims ++ gained (grown more (reverse pile)) u.held
+  came : w.claims ≡ v.claims ++ gained (pile_grown more (reverse pile)) u.held
   came = put.claims ∙ ap (λ (l : List Claim). l ++ gained (reverse pile') u.held) t.looked.claims ∙ ap (λ (l : List Piled). v.claims ++ gained l u.held) (ap reverse e ∙ turned more pile)
 
   -- each own list has the part of what the cell of its class has more
@@ -159,12 +159,14 @@ module _ (v u w : View) (classes : List ℕ) (pile pile' : List Piled) (more : �
   own_grew none k c =
       let n = u.seats in
       let seats : u.seats ≡ v.seats = t.looked.seats in
-      let at : own n k c (gained (grown more (reverse pile)) u.held) ≡ part n k (more c) = ⊎_elim
+      let at : own n k c (gained (pile_grown more (reverse pile)) u.held) ≡ part n k (more c) = ⊎_elim
       (λ here. here)
       (λ there. there.0 ∙ sym (ap (part n k) (none c (λ i x g. at_all (λ (y : Piled). y.0 ≢ c) pile i x g (turned_all (λ (y : Piled). y.0 ≢ c) pile there.1)))))
       (claimed_at n u.parts more k c (length u.starts) (reverse pile) u.held t.pile.descend t.pile.matches t.as_taken) in
-      ap (λ (m : ℕ). own m k c w.claims) (put.seats ∙ seats) ∙ ap (own v.seats k c) came ∙ own-append v.seats k c v.claims (gained (grown more (reverse pile)) u.held)
-      ∙ ap (λ (l : List LogEntry). own v.seats k c v.claims ++ l) (subst (λ (m : ℕ). own m k c (gained (grown more (reverse pile)) u.held) ≡ part m k (more c)) seats at)
+      ap (λ (m : ℕ). own m k c w.claims) (put.seats ∙ seats) ∙ ap (own v.seats k c) came
+      ∙ own-append v.seats k c v.claims (gained (pile_grown more (reverse pile)) u.held)
+      ∙ ap (λ (l : List LogEntry). own v.seats k c v.claims ++ l)
+      (subst (λ (m : ℕ). own m k c (gained (pile_grown more (reverse pile)) u.held) ≡ part m k (more c)) seats at)
     where
       piled_is : (a b : Piled) → Some a ≡ Some b → a ≡ b
       piled_is a b s = cc s
@@ -178,7 +180,7 @@ module _ (v u w : View) (classes : List ℕ) (pile pile' : List Piled) (more : �
   pub claims_all : (P : ℕ → LogEntry → Type 0) → ((c : ℕ) → All (P c) (more c)) → All (λ (q : Claim). P q.class q.entry) v.claims
       → All (λ (q : Claim). P q.class q.entry) w.claims
   claims_all P a h = subst (All (λ (q : Claim). P q.class q.entry)) (sym came)
-      (All-append (λ (q : Claim). P q.class q.entry) v.claims (gained (grown more (reverse pile)) u.held) h
+      (All-append (λ (q : Claim). P q.class q.entry) v.claims (gained (pile_grown more (reverse pile)) u.held) h
       (claims_right P more u.seats u.parts (reverse pile) u.held t.pile.matches t.as_taken a))
 
   -- the claims are right where the entries are

@@ -45,7 +45,7 @@ use Rattle.fire_tasks.specs.Adds.{table_numbers}
 use Rattle.fire_tasks.specs.Fired.{bad_at, kinds_in, kinds_out}
 use Rattle.fire_tasks.specs.Ports.{received_of, received_in, sent_in, pending_in, InEnd, IsIdle, in_ends, out_ends}
 use Rattle.fire_tasks.specs.Tasks.{IsTask}
-use Rattle.fire_tasks.specs.Turns.{AreRowsFor, HasFiredAt, HasTakenAt, Owes, classes_of, grown, logged}
+use Rattle.fire_tasks.specs.Turns.{AreRowsFor, HasFiredAt, HasTakenAt, Owes, classes_of, pile_grown, logged}
 use Rattle.fire_tasks.proofs.PortLemmas.{count_more, ins_many}
 use Rattle.fire_tasks.proofs.Turned.{turn_twice}
 use Rattle.fire_tasks.proofs.WordLemmas.{longer_word}
@@ -386,11 +386,12 @@ took_fired p v t fine ins port x st out pending blanks spare n e r lt i idle f e
 
 -- the rows that a task owed were added
 pub taken_at : (p : PlanForm) (t t1 : Task) (pile pile' : List Piled) (adds' : List (List (List ℤ))) → HasFiredAt p t t1
-    → pile' ≡ grown (logged t.op (classes_of pile) t1.tables (list_at t1.out.adds)) pile → classes_of pile ≡ t.classes → adds' ≡ replicate (length t1.out.adds) []
+    → pile' ≡ pile_grown (logged t.op (classes_of pile) t1.tables (list_at t1.out.adds)) pile → classes_of pile ≡ t.classes → adds' ≡ replicate (length t1.out.adds) []
     → HasTakenAt p t (record t1 { out = record { outs = t1.out.outs; adds = adds' } }) pile pile'
 taken_at p t t1 pile pile' adds' f e cs b = record {
   rows = list_at t1.out.adds;
-  logs = e ∙ ap (λ c. grown (logged t.op c t1.tables (list_at t1.out.adds)) pile) cs ∙ ap (λ hs. grown (logged t.op t.classes hs (list_at t1.out.adds)) pile) f.homes.0;
+  logs = e ∙ ap (λ c. pile_grown (logged t.op c t1.tables (list_at t1.out.adds)) pile) cs
+      ∙ ap (λ hs. pile_grown (logged t.op t.classes hs (list_at t1.out.adds)) pile) f.homes.0;
   task = λ adds k. subst (λ (a : List (List (List ℤ))). IsTask p (λ j. adds j ++ list_at t1.out.adds j) (record t1 { out = record { outs = t1.out.outs; adds = a } })) (sym b) (f.owes adds k).task;
   ends = f.ends;
   one = f.one;

@@ -23,7 +23,7 @@ use Rattle.fire_tasks.specs.declared.task.Task.{Task}
 use Rattle.fire_tasks.specs.Adds.{AreCells, AreClaims, AreOwn, added, logs_at, logs_of, table_class}
 use Rattle.fire_tasks.specs.Ports.{HasMoved, InEnd, OutEnd, AllReceived, IsIdle, RefusedAll, Sent, in_ends, out_ends, received_count, received_in, sent_count}
 use Rattle.fire_tasks.specs.Tasks.{IsTask, IsTaskAt, TaskEnds, ends_of, moves}
-use Rattle.fire_tasks.specs.Turns.{AreCellsOf, HasSat, HasTakenAt, HasTried, HasTurned, IsSeatOf, IsStuck, SameRound, StillSits, classes_of, logged}
+use Rattle.fire_tasks.specs.Turns.{AreCellsOf, HasSat, HasTakenAt, HasTried, HasTurned, IsSeatOf, IsStuckSince, SameRound, StillSits, classes_of, logged}
 use Rattle.fire_tasks.proofs.AddLemmas.{added_else, added_more, class_is, entries_logged, logged_none, logged_own}
 use Rattle.fire_tasks.proofs.PassLemmas.{moved_true, moved_false, moved_first, moved_second, sent_task, looked_task, turn_sent, with_sent}
 use Rattle.fire_tasks.proofs.PortLemmas.{ins_many}
@@ -80,12 +80,12 @@ found_still cs v u w f b = record {
     before (x ∷ xs) ys (suc i) t g = before xs ys i t g
 
 -- so is a task that is stuck
-pub stuck_since : (v u w : View) (t : Task) → HasMoreTries v u → IsStuck u w t → IsStuck v w t
+pub stuck_since : (v u w : View) (t : Task) → HasMoreTries v u → IsStuckSince u w t → IsStuckSince v w t
 stuck_since v u w t a (inl bad) = inl bad
 stuck_since v u w t a (inr (inl waits)) = inr (inl waits)
 stuck_since v u w t a (inr (inr f)) = inr (inr (found_since t.classes v u w a f))
 
-pub stuck_still : (v u w : View) (t : Task) → HasMoreTries u w → IsStuck v u t → IsStuck v w t
+pub stuck_still : (v u w : View) (t : Task) → HasMoreTries u w → IsStuckSince v u t → IsStuckSince v w t
 stuck_still v u w t b (inl bad) = inl bad
 stuck_still v u w t b (inr (inl waits)) = inr (inl waits)
 stuck_still v u w t b (inr (inr f)) = inr (inr (found_still t.classes v u w f b))

@@ -29,13 +29,13 @@ table_numbers p (Some op) = places (table_names p.tables) (tables_of (table_name
 abbrev pub table_at : PlanForm → ℕ → ℕ → ℕ
 table_at p o j = slice_index_or (table_numbers p (slice_get p.ops o)) j 0
 
-abbrev pub number_of : ℤ → ℕ
-number_of (pos n) = n
-number_of (negsuc n) = 0
+abbrev pub natural_of : ℤ → ℕ
+natural_of (pos n) = n
+natural_of (negsuc n) = 0
 
 -- the lock class of a table, by the table's number
 abbrev pub table_class : PlanForm → ℕ → ℕ
-table_class p n = number_of (class_of (class_numbers (table_users p)) n)
+table_class p n = natural_of (class_of (class_numbers (table_users p)) n)
 
 -- there is a cell for the class of each table, and the table is in it
 pub record AreCells (p : PlanForm) (cells : List Holding) : Type 0 where

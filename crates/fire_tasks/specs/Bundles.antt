@@ -10,16 +10,16 @@ use Rattle.fire_tasks.specs.declared.bundle.Bundle.{Bundle}
 use Rattle.fire_tasks.specs.declared.task.Task.{Task}
 use Rattle.fire_tasks.specs.Adds.{AreCells, AreClaims, AreOwn}
 use Rattle.fire_tasks.specs.Ports.{HasMoved}
-use Rattle.fire_tasks.specs.Tasks.{IsTaskAt, IsDone, AreNarrow, all_ends, all_moves}
-use Rattle.fire_tasks.specs.Turns.{SameRound, IsStuck, LooksSame}
+use Rattle.fire_tasks.specs.Tasks.{IsTaskAt, IsDone, HaveFewPorts, all_ends, all_moves}
+use Rattle.fire_tasks.specs.Turns.{SameRound, IsStuckSince, LooksSame}
 
 -- each task keeps what it keeps of itself, with the rows that the seat knows of its operator; no two are of one operator, and the seat has
 -- their parts and right claims alone
-pub record AreTasks (p : PlanForm) (v : View) (ts : List Task) : Type 0 where
+pub record AreTasksAt (p : PlanForm) (v : View) (ts : List Task) : Type 0 where
   pub each : (i : ℕ) (d : Task) → i < length ts → IsTaskAt p v (slice_index_or ts i d)
   pub parts : (i : ℕ) (d : Task) → i < length ts → Has ((slice_index_or ts i d).op % v.seats) v.parts
   pub apart : (i k : ℕ) (d : Task) → i < length ts → k < length ts → (slice_index_or ts i d).op ≡ (slice_index_or ts k d).op → i ≡ k
-  pub narrow : AreNarrow ts
+  pub narrow : HaveFewPorts ts
   pub cells : AreCells p v.starts
   pub claims : AreClaims p v.claims
   pub own : AreOwn v
@@ -28,7 +28,7 @@ pub record AreTasks (p : PlanForm) (v : View) (ts : List Task) : Type 0 where
 pub record IsBundle (p : PlanForm) (b : Bundle) : Type 0 where
   pub rests : b.seat.view.held ≡ []
   pub blank : b.pile.items ≡ []
-  pub keeps : b.refused ≡ false → AreTasks p b.seat.view b.tasks
+  pub keeps : b.refused ≡ false → AreTasksAt p b.seat.view b.tasks
 
 -- the bundle of the same seat and round, whether it was refused or not
 pub record SameSeat (b b' : Bundle) : Type 0 where
@@ -38,10 +38,10 @@ pub record SameSeat (b b' : Bundle) : Type 0 where
 
 -- none of them can move, for what was seen since v
 pub record AreStuck (v w : View) (ts : List Task) : Type 0 where
-  pub each : (i : ℕ) (d : Task) → i < length ts → IsStuck v w (slice_index_or ts i d)
+  pub each : (i : ℕ) (d : Task) → i < length ts → IsStuckSince v w (slice_index_or ts i d)
 
 -- each has nothing pending, and received every item known to be there
-pub record AreIdle (ts : List Task) : Type 0 where
+pub record AllDone (ts : List Task) : Type 0 where
   pub each : (i : ℕ) (d : Task) → i < length ts → IsDone (slice_index_or ts i d)
 
 -- the same operators with the same ends; `moved` says whether a number grew
@@ -62,7 +62,7 @@ pub record HaveLooked (b b' : Bundle) : Type 0 where
 
 -- looks at the tasks of a seat, or several, since the view v: they are the same with the same ends, and `moved` says whether a number grew
 pub record HasSwept (p : PlanForm) (v w : View) (ts ts' : List Task) (moved : Bool) : Type 0 where
-  pub tasks : AreTasks p w ts'
+  pub tasks : AreTasksAt p w ts'
   pub ends : all_ends ts' ≡ all_ends ts
   pub number : HasMoved (all_moves ts) (all_moves ts') moved
   pub stuck : IsFalse moved → AreStuck v w ts'

@@ -18,7 +18,7 @@ abbrev pub seen : Task → Seen
 seen t = record { received = received_in t.ins; sent = sent_in t.outs; pending = pending_in t.pending; bad = t.bad }
 
 -- what the states of the task stand for, and that they fit: it can fire on any item of its ports' types
-pub record Stands (p : PlanForm) (op : OpForm) (t : Task) (is : Word) : Type 0 where
+pub record StatesStand (p : PlanForm) (op : OpForm) (t : Task) (is : Word) : Type 0 where
   pub fit : FitState op.kernel (kinds_in p op) t.states
   pub after : (w : Word) → IsWordOf (kinds_in p op) w → IsHeldAs (kinds_in p op) w is
       → StandsAfter op.kernel (kinds_in p op) (first_kept op.kernel) t.states w
@@ -37,7 +37,7 @@ pub record IsTask (p : PlanForm) (adds : ℕ → List (List ℤ)) (t : Task) : T
   pub word : Word
   pub count : t.count ≡ min most_firings (length word)
   pub fired : HasFired p op adds (seen t) word
-  pub stands : Stands p op t word
+  pub stands : StatesStand p op t word
 
 -- what it added is told by the logs as a seat knows them
 abbrev pub IsTaskAt : PlanForm → View → Task → Type 0
@@ -75,5 +75,5 @@ all_moves [] = 0
 all_moves (t ∷ ts) = moves t + all_moves ts
 
 -- each task has fewer than 2^32 ports
-pub record AreNarrow (ts : List Task) : Type 0 where
+pub record HaveFewPorts (ts : List Task) : Type 0 where
   pub each : (i : ℕ) (d : Task) → i < length ts → length (slice_index_or ts i d).ins < 2 ^ 32

@@ -41,8 +41,8 @@ abbrev pub classes_of : List Piled → List ℕ
 classes_of pile = map (λ (x : Piled). x.0) pile
 
 -- each cell's log, with more entries for its class
-abbrev pub grown : (ℕ → List LogEntry) → List Piled → List Piled
-grown more pile = map (λ (x : Piled). (x.0, record x.1 { log = x.1.log ++ more x.0 })) pile
+abbrev pub pile_grown : (ℕ → List LogEntry) → List Piled → List Piled
+pile_grown more pile = map (λ (x : Piled). (x.0, record x.1 { log = x.1.log ++ more x.0 })) pile
 
 -- one entry for rows, and none where there are none
 abbrev pub entry_of : ℕ → ℕ → List (List ℤ) → List LogEntry
@@ -50,8 +50,8 @@ entry_of o table [] = []
 entry_of o table (r ∷ rs) = record { op = o; table = table; rows = r ∷ rs } ∷ []
 
 -- a cell with these rows of operator o
-abbrev pub with_entry : ℕ → ℕ → List (List ℤ) → Piled → Piled
-with_entry o table rows x = (x.0, record x.1 { log = x.1.log ++ entry_of o table rows })
+abbrev pub cell_with_rows : ℕ → ℕ → List (List ℤ) → Piled → Piled
+cell_with_rows o table rows x = (x.0, record x.1 { log = x.1.log ++ entry_of o table rows })
 
 -- the entries of a firing of operator o for a class, port by port, where `classes` are those of the task
 abbrev pub logged : ℕ → List ℕ → List TablePort → (ℕ → List (List ℤ)) → ℕ → List LogEntry
@@ -67,7 +67,7 @@ pub record CanAdd (tables : List TablePort) (rows : ℕ → List (List ℤ)) (pi
 -- the cells of a pile have more entries, all of this operator
 pub record HaveGained (o : ℕ) (pile pile' : List Piled) : Type 0 where
   pub more : ℕ → List LogEntry
-  pub is : pile' ≡ grown more pile
+  pub is : pile' ≡ pile_grown more pile
   pub own : (c : ℕ) → All (λ e. e.op ≡ o) (more c)
 
 -- the cells of these classes, with the tables of the plan
@@ -88,7 +88,7 @@ pub record HasFiredAt (p : PlanForm) (t t' : Task) : Type 0 where
 -- and the rows came to the cells of its classes
 pub record HasTakenAt (p : PlanForm) (t t' : Task) (pile pile' : List Piled) : Type 0 where
   pub rows : ℕ → List (List ℤ)
-  pub logs : pile' ≡ grown (logged t.op t.classes t.tables rows) pile
+  pub logs : pile' ≡ pile_grown (logged t.op t.classes t.tables rows) pile
   pub task : (adds : ℕ → List (List ℤ)) → IsTask p adds t → IsTask p (λ j. adds j ++ rows j) t'
   pub ends : ends_of t' ≡ ends_of t
   pub one : moves t' ≡ moves t + 1
@@ -120,8 +120,8 @@ pub record HasSat (p : PlanForm) (o : ℕ) (v w : View) : Type 0 where
   pub takes : w.takes ≡ v.takes ++ more
 
 -- why nothing moved: an item failed its test; or the task waits; or a try since v found one of its classes taken
-abbrev pub IsStuck : View → View → Task → Type 0
-IsStuck v w t = (t.bad ≡ None → ⊥) ⊎ (Waits t ⊎ FoundTaken t.classes v w)
+abbrev pub IsStuckSince : View → View → Task → Type 0
+IsStuckSince v w t = (t.bad ≡ None → ⊥) ⊎ (Waits t ⊎ FoundTaken t.classes v w)
 
 -- a turn of a task at its seat, or several: `moved` says whether its number grew
 pub record HasTurned (p : PlanForm) (v w : View) (t t' : Task) (moved : Bool) : Type 0 where
@@ -129,7 +129,7 @@ pub record HasTurned (p : PlanForm) (v w : View) (t t' : Task) (moved : Bool) : 
   pub ends : ends_of t' ≡ ends_of t
   pub sat : HasSat p t.op v w
   pub number : HasMoved (moves t) (moves t') moved
-  pub stuck : IsFalse moved → IsStuck v w t'
+  pub stuck : IsFalse moved → IsStuckSince v w t'
 
 -- the seat of the same round holds no class, whether the turn was refused or not
 pub record StillSits (v w : View) : Type 0 where

@@ -4,7 +4,7 @@ ghost use Rattle.std.specs.List.Sorted.{IsStrictlyIncreasing};
 ghost use Rattle.river_base.specs.Places.{list_at};
 ghost use Rattle.class_locks.specs.Logs.{TakesRows};
 ghost use Rattle.class_locks.specs.Piles.{Piled};
-ghost use Rattle.fire_tasks.specs.Turns.{CanAdd, HaveGained, classes_of, grown, logged, with_entry};
+ghost use Rattle.fire_tasks.specs.Turns.{CanAdd, HaveGained, classes_of, pile_grown, logged, cell_with_rows};
 
 use crate::TablePort;
 use brooklet_step::RowLists;
@@ -26,7 +26,7 @@ pub fn add_rows(
     requires many { length adds.old ≡ length tables.now }
     requires can { CanAdd tables.now (list_at adds.old) pile.old.items }
     ensures gained { HaveGained op pile.old.items pile.new.items }
-    ensures logged { OnOk result (pile.new.items ≡ grown (logged op (classes_of pile.old.items) tables.now (list_at adds.old)) pile.old.items) }
+    ensures logged { OnOk result (pile.new.items ≡ pile_grown (logged op (classes_of pile.old.items) tables.now (list_at adds.old)) pile.old.items) }
     ensures blank { OnOk result (adds.new ≡ replicate (length adds.old) []) }
 {
     for port in 0..tables.len() {
@@ -44,7 +44,7 @@ fn add_at(
     pile: &mut Pile,
 ) -> Result<(), NoMemory>
     requires { (x : Piled) × (slice_get pile.old.items to.place ≡ Some x) × TakesRows x.1.kinds to.table rows.old }
-    ensures ok { (x : Piled) → slice_get pile.old.items to.place ≡ Some x → OnOk result (pile.new.items ≡ slice_set pile.old.items to.place (with_entry op to.table rows.old x)) }
+    ensures ok { (x : Piled) → slice_get pile.old.items to.place ≡ Some x → OnOk result (pile.new.items ≡ slice_set pile.old.items to.place (cell_with_rows op to.table rows.old x)) }
     ensures blank { OnOk result (rows.new ≡ []) }
     ensures err { OnErr result (pile.new.items ≡ pile.old.items) }
 {
@@ -59,7 +59,7 @@ fn add_at(
 fn put_entry(op: u32, to: TablePort, rows: Rows, pile: &mut Pile) -> Result<(), NoMemory>
     requires some { rows ≡ [] → ⊥ }
     requires takes { (x : Piled) × (slice_get pile.old.items to.place ≡ Some x) × TakesRows x.1.kinds to.table rows }
-    ensures ok { (x : Piled) → slice_get pile.old.items to.place ≡ Some x → OnOk result (pile.new.items ≡ slice_set pile.old.items to.place (with_entry op to.table rows x)) }
+    ensures ok { (x : Piled) → slice_get pile.old.items to.place ≡ Some x → OnOk result (pile.new.items ≡ slice_set pile.old.items to.place (cell_with_rows op to.table rows x)) }
     ensures err { OnErr result (pile.new.items ≡ pile.old.items) }
 {
     let at = &mut pile[to.place];

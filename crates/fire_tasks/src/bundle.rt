@@ -2,8 +2,8 @@
 ghost use Rattle.std.specs.Prelude.{◌≡◌, ◌<◌, ◌↔◌, ℕ, [], length, IfOk, OnOk, OnErr, IsTrue, IsFalse, true, false};
 ghost use Rattle.river_plan.specs.Forms.{PlanForm, plan_form};
 ghost use Rattle.river_plan.specs.Valid.{IsPlan};
-ghost use Rattle.fire_tasks.specs.Bundles.{IsBundle, AreTasks, AreStuck, AreIdle, AllLooked, SameSeat, HasGone, HasSwept, HaveLooked};
-ghost use Rattle.fire_tasks.specs.Tasks.{IsDone, AreNarrow, all_ends};
+ghost use Rattle.fire_tasks.specs.Bundles.{IsBundle, AreTasksAt, AreStuck, AllDone, AllLooked, SameSeat, HasGone, HasSwept, HaveLooked};
+ghost use Rattle.fire_tasks.specs.Tasks.{IsDone, HaveFewPorts, all_ends};
 ghost use Rattle.fire_tasks.specs.Turns.{StillSits, LooksSame};
 
 use crate::Task;
@@ -41,7 +41,7 @@ fn sweep<G: Gate>(
     gate: &G,
 ) -> Result<bool, NoMemory>
     requires valid { IsPlan (plan_form plan.now) }
-    requires tasks { AreTasks (plan_form plan.now) seat.old.view tasks.old }
+    requires tasks { AreTasksAt (plan_form plan.now) seat.old.view tasks.old }
     requires rests { seat.old.view.held ≡ [] }
     requires blank { pile.old.items ≡ [] }
     ensures lot { seat.new.lot ≡ seat.old.lot }
@@ -70,7 +70,7 @@ fn pass_all<G: Gate>(
     gate: &G,
 ) -> Result<bool, NoMemory>
     requires valid { IsPlan (plan_form plan.now) }
-    requires tasks { AreTasks (plan_form plan.now) seat.old.view tasks.old }
+    requires tasks { AreTasksAt (plan_form plan.now) seat.old.view tasks.old }
     requires rests { seat.old.view.held ≡ [] }
     requires blank { pile.old.items ≡ [] }
     ensures lot { seat.new.lot ≡ seat.old.lot }
@@ -102,7 +102,7 @@ fn is_done(task: &mut Task) -> bool
 #[tactic(auto, using(crate::proofs::BundleLemmas::looked_none))]
 fn all_done(tasks: &mut Listed<Task>) -> bool
     ensures same { AllLooked tasks.old tasks.new }
-    ensures idle { IsTrue result ↔ AreIdle tasks.new }
+    ensures idle { IsTrue result ↔ AllDone tasks.new }
 {
     for place in 0..tasks.len() {
         if !is_done(tasks.at_mut(place)) {
@@ -178,7 +178,7 @@ impl Bundle {
     /// it takes no memory.
     pub fn idle(&mut self) -> bool
         ensures same { HaveLooked self.old self.new }
-        ensures idle { IsTrue result ↔ AreIdle self.new.tasks }
+        ensures idle { IsTrue result ↔ AllDone self.new.tasks }
     {
         all_done(&mut self.tasks)
     }

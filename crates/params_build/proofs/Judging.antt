@@ -8,35 +8,35 @@ use Rattle.params_text.specs.Params.{is_one_of}
 use Rattle.params_text.specs.Program.{in_order, step_of, declared_of, program_of, ParamProgram}
 use Rattle.params_text.specs.declared.program.ParamUnit.{ParamUnit}
 use Rattle.params_text.specs.declared.program.Step.{Step}
-use Rattle.params_model.specs.Judged.{Above, Judgement, and_then, no_fault, statement_judged, block_judged, step_judged, steps_judged, new_names, unit_judged}
+use Rattle.params_model.specs.Judged.{Above, Judgement, judged_then, no_fault, statement_judged, block_judged, step_judged, steps_judged, new_names, unit_judged}
 use Rattle.params_model.specs.Judged.{units_judged}
 use Rattle.params_model.specs.Making.{NameTwice, demand}
-use Rattle.params_build.specs.Above.{Knows}
+use Rattle.params_build.specs.Above.{CountsParameters}
 use Rattle.params_build.specs.declared.above.StreamsAbove.{StreamsAbove}
 use Rattle.params_build.specs.declared.fault.Fault.{Fault}
 use Rattle.params_build.specs.declared.fault.Fault.TheVariants as fault
 use Rattle.params_build.specs.Told.{Told}
 
 -- the fault of the first part is told
-pub told-first : (k : ℕ) (f : Fault) (a b : Judgement) → Told k f a → Told k f (and_then a b)
-told-first k fault.UnknownName a b h = ap (λ x. and_then x b) h
-told-first k fault.NameTwice a b h = ap (λ x. and_then x b) h
-told-first k fault.Arity a b h = ap (λ x. and_then x b) h
-told-first k fault.NotConstant a b h = ap (λ x. and_then x b) h
-told-first k fault.Top a b h = ap (λ x. and_then x b) h
-told-first k fault.Range a b h = ap (λ x. and_then x b) h
-told-first k fault.Empty a b h = ap (λ x. and_then x b) h
-told-first k fault.Budget a b h = ap (λ x. and_then x b) h
+pub told-first : (k : ℕ) (f : Fault) (a b : Judgement) → Told k f a → Told k f (judged_then a b)
+told-first k fault.UnknownName a b h = ap (λ x. judged_then x b) h
+told-first k fault.NameTwice a b h = ap (λ x. judged_then x b) h
+told-first k fault.Arity a b h = ap (λ x. judged_then x b) h
+told-first k fault.NotConstant a b h = ap (λ x. judged_then x b) h
+told-first k fault.Top a b h = ap (λ x. judged_then x b) h
+told-first k fault.Range a b h = ap (λ x. judged_then x b) h
+told-first k fault.Empty a b h = ap (λ x. judged_then x b) h
+told-first k fault.Budget a b h = ap (λ x. judged_then x b) h
 told-first k fault.NoMemory a b h = tt
 
 -- a part without a fault is passed over
-pub passed-over : (a b : Judgement) → a ≡ no_fault → and_then a b ≡ b
-passed-over a b h = ap (λ x. and_then x b) h
+pub passed-over : (a b : Judgement) → a ≡ no_fault → judged_then a b ≡ b
+passed-over a b h = ap (λ x. judged_then x b) h
 
 -- the statements of a block from a place on
 pub from-place : (k : ℕ) (ps : List (List ℕ)) (items : List written.Statement) (i : ℕ) (c : written.Statement) → i < length items → c ≡ get_or items i c
     → block_judged k ps (in_turn (map statement (drop i items)))
-    ≡ and_then (statement_judged k ps (statement c)) (block_judged k ps (in_turn (map statement (drop (i + 1) items))))
+    ≡ judged_then (statement_judged k ps (statement c)) (block_judged k ps (in_turn (map statement (drop (i + 1) items))))
 from-place k ps items i c lt is = ap (λ l. block_judged k ps (in_turn l)) (at_place statement items i c lt is)
 
 pub at-end : (k : ℕ) (ps : List (List ℕ)) (items : List written.Statement) (i : ℕ) → length items ≤ i → block_judged k ps (in_turn (map statement (drop i items))) ≡ no_fault
@@ -45,7 +45,7 @@ at-end k ps items i h = ap (λ l. block_judged k ps (in_turn l)) (none_left stat
 -- the steps from a place on
 pub steps-place : (k : ℕ) (us : Above) (ks : List (List ℕ)) (items : List Step) (i : ℕ) (s : Step) → i < length items → s ≡ get_or items i s
     → steps_judged k us ks (in_order (map step_of (drop i items)))
-    ≡ and_then (step_judged k us ks (step_of s)) (steps_judged k us ks (in_order (map step_of (drop (i + 1) items))))
+    ≡ judged_then (step_judged k us ks (step_of s)) (steps_judged k us ks (in_order (map step_of (drop (i + 1) items))))
 steps-place k us ks items i s lt is = ap (λ l. steps_judged k us ks (in_order l)) (at_place step_of items i s lt is)
 
 pub steps-end : (k : ℕ) (us : Above) (ks : List (List ℕ)) (items : List Step) (i : ℕ) → length items ≤ i
@@ -55,29 +55,29 @@ steps-end k us ks items i h = ap (λ l. steps_judged k us ks (in_order l)) (none
 -- the parameters from a place on, none of which has the name of one before it
 pub names-place : (k : ℕ) (names : List (List ℕ)) (i : ℕ) (n : List ℕ) → i < length names → n ≡ get_or names i n
     → new_names k (take i names) (drop i names)
-    ≡ and_then (demand (not (is_one_of (take i names) n)) k NameTwice) (new_names k (take (i + 1) names) (drop (i + 1) names))
+    ≡ judged_then (demand (not (is_one_of (take i names) n)) k NameTwice) (new_names k (take (i + 1) names) (drop (i + 1) names))
 names-place k names i n lt is =
     ap (new_names k (take i names)) (drop-cons names i n lt ∙ ap (λ x. x ∷ drop (suc i) names) (sym is))
-    ∙ ap (λ l. and_then (demand (not (is_one_of (take i names) n)) k NameTwice) (new_names k l (drop (suc i) names)))
+    ∙ ap (λ l. judged_then (demand (not (is_one_of (take i names) n)) k NameTwice) (new_names k l (drop (suc i) names)))
     (ap (λ x. take i names ++ x ∷ []) is ∙ sym (take-suc names i n lt))
-    ∙ ap (λ j. and_then (demand (not (is_one_of (take i names) n)) k NameTwice) (new_names k (take j names) (drop j names))) (sym (add-one i))
+    ∙ ap (λ j. judged_then (demand (not (is_one_of (take i names) n)) k NameTwice) (new_names k (take j names) (drop j names))) (sym (add-one i))
 
 -- the units from a place on, below these streams
 pub units-place : (k : ℕ) (us : Above) (units : List ParamUnit) (i : ℕ) (u : ParamUnit) → i < length units → u ≡ get_or units i u
     → units_judged k us (program_of (drop i units))
-    ≡ and_then (unit_judged k us (declared_of u)) (units_judged (suc k) ((u.name, length u.params.items) ∷ us) (program_of (drop (i + 1) units)))
+    ≡ judged_then (unit_judged k us (declared_of u)) (units_judged (suc k) ((u.name, length u.params.items) ∷ us) (program_of (drop (i + 1) units)))
 units-place k us units i u lt is = ap (units_judged k us) (at_place declared_of units i u lt is)
 
 -- what is known behind some units, and what is left to judge then
 pub record Judging (whole : Judgement) (i : ℕ) (rest : ParamProgram) (streams : StreamsAbove) : Type 0 where
   pub above : Above
-  pub knows : Knows streams above
+  pub knows : CountsParameters streams above
   pub judged : units_judged (suc i) above rest ≡ whole
 
 -- one unit more is judged
 pub judging-next : (whole : Judgement) (i : ℕ) (units : List ParamUnit) (u : ParamUnit) (old new : StreamsAbove) → i < length units → u ≡ get_or units i u
-    → Judging whole i (program_of (drop i units)) old → ((us : Above) → Knows old us → unit_judged (suc i) us (declared_of u) ≡ no_fault)
-    → ((us : Above) → Knows old us → Knows new ((u.name, length u.params.items) ∷ us)) → Judging whole (i + 1) (program_of (drop (i + 1) units)) new
+    → Judging whole i (program_of (drop i units)) old → ((us : Above) → CountsParameters old us → unit_judged (suc i) us (declared_of u) ≡ no_fault)
+    → ((us : Above) → CountsParameters old us → CountsParameters new ((u.name, length u.params.items) ∷ us)) → Judging whole (i + 1) (program_of (drop (i + 1) units)) new
 judging-next whole i units u old new lt is j passed known =
     let above : Above = (u.name, length u.params.items) ∷ j.above in
     let rest = program_of (drop (i + 1) units) in

@@ -4,7 +4,7 @@ use Rattle.std.proofs.lemmas.List.{reverse-append}
 use Rattle.params_text.specs.Program.{Declared, ParamProgram, declared_of, program_of}
 use Rattle.params_text.specs.declared.program.ParamUnit.{ParamUnit}
 use Rattle.params_model.specs.Judged.{no_fault, has_none, top_judged, head_or, tail_of, numbered_from, sources_of}
-use Rattle.params_model.specs.Making.{Source, Top, demand}
+use Rattle.params_model.specs.Making.{SourceUnit, Top, demand}
 
 abbrev last_unit : Declared → ParamProgram → Declared
 last_unit u [] = u
@@ -12,21 +12,21 @@ last_unit u (v ∷ us) = last_unit v us
 
 -- the newest source is the last unit, with its number
 record Newest (k : ℕ) (u : Declared) (us : ParamProgram) (sizes : List ℕ) : Type 0 where
-  source : Source
-  others : List Source
+  source : SourceUnit
+  others : List SourceUnit
   unit : source.unit ≡ k + length us
   stream : source.stream ≡ last_unit u us
   is : reverse (numbered_from k (u ∷ us) sizes) ≡ source ∷ others
 
-reverse-cons : (u : Source) (us : List Source) → reverse (u ∷ us) ≡ reverse us ++ u ∷ []
+reverse-cons : (u : SourceUnit) (us : List SourceUnit) → reverse (u ∷ us) ≡ reverse us ++ u ∷ []
 reverse-cons u us = reverse-append (u ∷ []) us
 
 newest : (k : ℕ) (u : Declared) (us : ParamProgram) (sizes : List ℕ) → Newest k u us sizes
 newest k u [] sizes =
-    let s : Source = record { unit = k; bytes = head_or sizes; stream = u } in
+    let s : SourceUnit = record { unit = k; bytes = head_or sizes; stream = u } in
     record { source = s; others = []; unit = omega arith; stream = refl; is = reverse-cons s [] }
 newest k u (v ∷ us) sizes =
-    let s : Source = record { unit = k; bytes = head_or sizes; stream = u } in
+    let s : SourceUnit = record { unit = k; bytes = head_or sizes; stream = u } in
     let n = newest (suc k) v us (tail_of sizes) in
     let same = n.unit in
     record {

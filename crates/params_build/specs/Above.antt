@@ -8,5 +8,5 @@ use Rattle.params_model.specs.Judged.{Above}
 use Rattle.params_build.specs.declared.above.StreamsAbove.{StreamsAbove}
 
 -- each name has the number of parameters of the nearest stream of this name
-pub record Knows (streams : StreamsAbove) (above : Above) : Type 0 where
+pub record CountsParameters (streams : StreamsAbove) (above : Above) : Type 0 where
   pub arities : (n : Name) → get name_eq streams.arities n ≡ look above n

@@ -5,7 +5,7 @@ ghost use Rattle.params_model.specs.Making.{UnknownName, NameTwice, Arity, deman
 ghost use Rattle.params_model.specs.Judged.{has_arity, is_there};
 ghost use Rattle.streamit_model.specs.Meaning.{look};
 ghost use Rattle.std.specs.Prelude.{ℕ, not};
-ghost use Rattle.params_build.specs.Above.{Knows};
+ghost use Rattle.params_build.specs.Above.{CountsParameters};
 ghost use Rattle.params_build.specs.Told.{Judges};
 
 use crate::Fault;
@@ -22,7 +22,7 @@ pub struct StreamsAbove {
 impl StreamsAbove {
     /// There is none.
     pub fn new(alloc: Global) -> StreamsAbove
-        ensures { Knows result [] }
+        ensures { CountsParameters result [] }
     {
         StreamsAbove {
             arities: IndexMap::new(alloc),
@@ -31,14 +31,14 @@ impl StreamsAbove {
 
     // How many parameters the nearest stream of this name has, where there is one.
     fn arity(&self, name: &Name) -> Option<usize>
-        ensures { (above : Above) → Knows self.now above → result ≡ look above name.now }
+        ensures { (above : Above) → CountsParameters self.now above → result ≡ look above name.now }
     {
         self.arities.get(name).copied()
     }
 
     /// Whether no stream above has this name.
     pub fn is_new(&self, name: &Name) -> Result<(), Fault>
-        ensures { (k : ℕ) (above : Above) → Knows self.now above → Judges k result (demand (not (is_there (look above name.now))) k NameTwice) }
+        ensures { (k : ℕ) (above : Above) → CountsParameters self.now above → Judges k result (demand (not (is_there (look above name.now))) k NameTwice) }
     {
         match self.arity(name) {
             Some(_) => Err(Fault::NameTwice),
@@ -48,7 +48,7 @@ impl StreamsAbove {
 
     /// Whether a stream above has this name.
     pub fn has(&self, name: &Name) -> Result<(), Fault>
-        ensures { (k : ℕ) (above : Above) → Knows self.now above → Judges k result (demand (is_there (look above name.now)) k UnknownName) }
+        ensures { (k : ℕ) (above : Above) → CountsParameters self.now above → Judges k result (demand (is_there (look above name.now)) k UnknownName) }
     {
         match self.arity(name) {
             Some(_) => Ok(()),
@@ -58,7 +58,7 @@ impl StreamsAbove {
 
     /// Whether the nearest stream of this name has so many parameters.
     pub fn takes(&self, name: &Name, count: usize) -> Result<(), Fault>
-        ensures { (k : ℕ) (above : Above) → Knows self.now above → Judges k result (demand (has_arity (look above name.now) count) k Arity) }
+        ensures { (k : ℕ) (above : Above) → CountsParameters self.now above → Judges k result (demand (has_arity (look above name.now) count) k Arity) }
     {
         if self.arity(name) == Some(count) {
             Ok(())
@@ -69,7 +69,7 @@ impl StreamsAbove {
 
     /// One stream more.
     pub fn declare(&mut self, name: Name, count: usize) -> Result<(), NoMemory>
-        ensures { (above : Above) → Knows self.old above → OnOk result (Knows self.new ((name, count) ∷ above)) }
+        ensures { (above : Above) → CountsParameters self.old above → OnOk result (CountsParameters self.new ((name, count) ∷ above)) }
     {
         self.arities.insert(name, count)?;
         Ok(())

@@ -2,7 +2,7 @@
 ghost use Rattle.std.specs.Prelude.{◌≡◌, ◌<◌, ◌^◌, ℕ, List, [], ◌∷◌, length, OnOk};
 ghost use Rattle.params_text.specs.Program.{declared_of, program_of};
 ghost use Rattle.params_model.specs.Judged.{Above, sources_of, top_judged, unit_judged, units_judged};
-ghost use Rattle.params_build.specs.Above.{Knows};
+ghost use Rattle.params_build.specs.Above.{CountsParameters};
 ghost use Rattle.params_build.specs.Told.{Judges, JudgesAll};
 
 use crate::above::StreamsAbove;
@@ -28,7 +28,7 @@ pub fn judged(alloc: Global, units: &[ParamUnit]) -> Result<(), Refusal>
 // The units, below these streams.
 fn each_unit(alloc: Global, above: &mut StreamsAbove, units: &[ParamUnit]) -> Result<(), Refusal>
     requires { length units.now < 2 ^ 32 }
-    ensures { (us : Above) → Knows above.old us → JudgesAll result (units_judged 1 us (program_of units.now)) }
+    ensures { (us : Above) → CountsParameters above.old us → JudgesAll result (units_judged 1 us (program_of units.now)) }
 {
     'units: for i in 0..units.len() {
         match unit_and_name(alloc, above, &units[i]) {
@@ -46,8 +46,8 @@ fn each_unit(alloc: Global, above: &mut StreamsAbove, units: &[ParamUnit]) -> Re
 
 // A unit, which is declared then.
 fn unit_and_name(alloc: Global, above: &mut StreamsAbove, one: &ParamUnit) -> Result<(), Fault>
-    ensures judged { (k : ℕ) (us : Above) → Knows above.old us → Judges k result (unit_judged k us (declared_of one.now)) }
-    ensures known { (us : Above) → Knows above.old us → OnOk result (Knows above.new ((one.now.name, length one.now.params.items) ∷ us)) }
+    ensures judged { (k : ℕ) (us : Above) → CountsParameters above.old us → Judges k result (unit_judged k us (declared_of one.now)) }
+    ensures known { (us : Above) → CountsParameters above.old us → OnOk result (CountsParameters above.new ((one.now.name, length one.now.params.items) ∷ us)) }
 {
     unit(alloc, above, one)?;
     above.declare(one.name, one.params.len())?;

@@ -4,10 +4,10 @@ ghost use Rattle.std.specs.Prelude.{◌≡◌, ℕ, not, ◌&&◌, [], ◌∷◌
 ghost use Rattle.streamit_text.specs.Tree.{expression};
 ghost use Rattle.params_text.specs.Params.{is_one_of};
 ghost use Rattle.params_text.specs.Program.{expressions, step_of, steps_of};
-ghost use Rattle.params_model.specs.Judged.{Above, and_then, are_known, all_known, has_arity, is_there, step_judged, steps_judged};
+ghost use Rattle.params_model.specs.Judged.{Above, judged_then, are_known, all_known, has_arity, is_there, step_judged, steps_judged};
 ghost use Rattle.params_model.specs.Making.{UnknownName, NameTwice, Arity, demand};
 ghost use Rattle.streamit_model.specs.Meaning.{look};
-ghost use Rattle.params_build.specs.Above.{Knows};
+ghost use Rattle.params_build.specs.Above.{CountsParameters};
 ghost use Rattle.params_build.specs.Told.{Judges};
 
 use crate::Fault;
@@ -19,7 +19,7 @@ use streamit_text::Expr;
 
 // The arguments of an `add`, and how many there are.
 fn given(above: &StreamsAbove, known: &[Name], name: &Name, args: &Vec<Expr>) -> Result<(), Fault>
-    ensures { (k : ℕ) (us : Above) → Knows above.now us → Judges k result (and_then (demand (all_known known.now (expressions args.now)) k UnknownName) (demand (has_arity (look us name.now) (length args.now.items)) k Arity)) }
+    ensures { (k : ℕ) (us : Above) → CountsParameters above.now us → Judges k result (judged_then (demand (all_known known.now (expressions args.now)) k UnknownName) (demand (has_arity (look us name.now) (length args.now.items)) k Arity)) }
 {
     if !all_known(known, args) {
         return Err(Fault::UnknownName);
@@ -29,7 +29,7 @@ fn given(above: &StreamsAbove, known: &[Name], name: &Name, args: &Vec<Expr>) ->
 
 // An `add`.
 fn add(above: &StreamsAbove, known: &[Name], name: &Name, args: &Vec<Expr>) -> Result<(), Fault>
-    ensures { (k : ℕ) (us : Above) → Knows above.now us → Judges k result (and_then (demand (is_there (look us name.now)) k UnknownName) (and_then (demand (all_known known.now (expressions args.now)) k UnknownName) (demand (has_arity (look us name.now) (length args.now.items)) k Arity))) }
+    ensures { (k : ℕ) (us : Above) → CountsParameters above.now us → Judges k result (judged_then (demand (is_there (look us name.now)) k UnknownName) (judged_then (demand (all_known known.now (expressions args.now)) k UnknownName) (demand (has_arity (look us name.now) (length args.now.items)) k Arity))) }
 {
     above.has(name)?;
     given(above, known, name, args)
@@ -37,7 +37,7 @@ fn add(above: &StreamsAbove, known: &[Name], name: &Name, args: &Vec<Expr>) -> R
 
 // The head of a loop.
 fn head(known: &[Name], name: &Name, low: &Expr, high: &Expr) -> Result<(), Fault>
-    ensures { (k : ℕ) → Judges k result (and_then (demand (not (is_one_of known.now name.now)) k NameTwice) (demand (are_known known.now (expression low.now) && are_known known.now (expression high.now)) k UnknownName)) }
+    ensures { (k : ℕ) → Judges k result (judged_then (demand (not (is_one_of known.now name.now)) k NameTwice) (demand (are_known known.now (expression low.now) && are_known known.now (expression high.now)) k UnknownName)) }
 {
     if is_one_of(known, name) {
         return Err(Fault::NameTwice);
@@ -61,7 +61,7 @@ fn more(known: &mut Vec<Name>, name: Name) -> Result<(), NoMemory>
 #[cycle(judged)]
 #[tactic(auto, using(params_text::proofs::StepTrees::steps))]
 fn step(above: &StreamsAbove, known: &mut Vec<Name>, one: &Step) -> Result<(), Fault>
-    ensures judged { (k : ℕ) (us : Above) → Knows above.now us → Judges k result (step_judged k us known.old.items (step_of one.now)) }
+    ensures judged { (k : ℕ) (us : Above) → CountsParameters above.now us → Judges k result (step_judged k us known.old.items (step_of one.now)) }
     ensures kept { OnOk result (known.new.items ≡ known.old.items) }
 {
     match one {
@@ -82,7 +82,7 @@ fn step(above: &StreamsAbove, known: &mut Vec<Name>, one: &Step) -> Result<(), F
 // The steps of a loop with this variable.
 #[cycle(judged)]
 fn turn(above: &StreamsAbove, known: &mut Vec<Name>, name: &Name, body: &Steps) -> Result<(), Fault>
-    ensures judged { (k : ℕ) (us : Above) → Knows above.now us → Judges k result (steps_judged k us (known.old.items ++ name.now ∷ []) (steps_of body.now)) }
+    ensures judged { (k : ℕ) (us : Above) → CountsParameters above.now us → Judges k result (steps_judged k us (known.old.items ++ name.now ∷ []) (steps_of body.now)) }
     ensures kept { OnOk result (known.new.items ≡ known.old.items) }
 {
     more(known, *name)?;
@@ -94,7 +94,7 @@ fn turn(above: &StreamsAbove, known: &mut Vec<Name>, name: &Name, body: &Steps) 
 /// Steps, one after another, with the names that are known there, which they leave as they are.
 #[cycle(judged)]
 pub fn steps(above: &StreamsAbove, known: &mut Vec<Name>, all: &Steps) -> Result<(), Fault>
-    ensures judged { (k : ℕ) (us : Above) → Knows above.now us → Judges k result (steps_judged k us known.old.items (steps_of all.now)) }
+    ensures judged { (k : ℕ) (us : Above) → CountsParameters above.now us → Judges k result (steps_judged k us known.old.items (steps_of all.now)) }
     ensures kept { OnOk result (known.new.items ≡ known.old.items) }
 {
     'items: for each in all.items.as_slice() {

@@ -1,9 +1,9 @@
 // Units judged: the name of the stream, its parameters, and what is declared.
 ghost use Rattle.std.specs.Prelude.{◌≡◌, ℕ, [], ◌∷◌, length, IfOk};
 ghost use Rattle.params_text.specs.Program.{body_of, dealing_of, declared_of, rounds_of, steps_of};
-ghost use Rattle.params_model.specs.Judged.{Above, and_then, all_known_option, body_judged, dealing_judged, new_names, steps_judged, unit_judged};
+ghost use Rattle.params_model.specs.Judged.{Above, judged_then, all_known_option, body_judged, dealing_judged, new_names, steps_judged, unit_judged};
 ghost use Rattle.params_model.specs.Making.{UnknownName, demand};
-ghost use Rattle.params_build.specs.Above.{Knows};
+ghost use Rattle.params_build.specs.Above.{CountsParameters};
 ghost use Rattle.params_build.specs.Told.{Judges};
 
 use crate::Fault;
@@ -58,7 +58,7 @@ fn copied(alloc: Global, names: &[Name]) -> Result<Vec<Name>, NoMemory>
 
 // The steps of a stream with these parameters.
 fn all_steps(alloc: Global, above: &StreamsAbove, params: &[Name], all: &Steps) -> Result<(), Fault>
-    ensures { (k : ℕ) (us : Above) → Knows above.now us → Judges k result (steps_judged k us params.now (steps_of all.now)) }
+    ensures { (k : ℕ) (us : Above) → CountsParameters above.now us → Judges k result (steps_judged k us params.now (steps_of all.now)) }
 {
     let mut known = copied(alloc, params)?;
     steps(above, &mut known, all)
@@ -71,7 +71,7 @@ fn joined(
     params: &[Name],
     all: &ParamSplitJoin,
 ) -> Result<(), Fault>
-    ensures { (k : ℕ) (us : Above) → Knows above.now us → Judges k result (and_then (steps_judged k us params.now (steps_of all.now.steps)) (demand (all_known_option params.now (rounds_of all.now.join)) k UnknownName)) }
+    ensures { (k : ℕ) (us : Above) → CountsParameters above.now us → Judges k result (judged_then (steps_judged k us params.now (steps_of all.now.steps)) (demand (all_known_option params.now (rounds_of all.now.join)) k UnknownName)) }
 {
     all_steps(alloc, above, params, &all.steps)?;
     weights(params, &all.join)
@@ -84,7 +84,7 @@ fn split_join(
     params: &[Name],
     all: &ParamSplitJoin,
 ) -> Result<(), Fault>
-    ensures { (k : ℕ) (us : Above) → Knows above.now us → Judges k result (and_then (dealing_judged k params.now (dealing_of all.now.split)) (and_then (steps_judged k us params.now (steps_of all.now.steps)) (demand (all_known_option params.now (rounds_of all.now.join)) k UnknownName))) }
+    ensures { (k : ℕ) (us : Above) → CountsParameters above.now us → Judges k result (judged_then (dealing_judged k params.now (dealing_of all.now.split)) (judged_then (steps_judged k us params.now (steps_of all.now.steps)) (demand (all_known_option params.now (rounds_of all.now.join)) k UnknownName))) }
 {
     dealing(params, &all.split)?;
     joined(alloc, above, params, all)
@@ -92,7 +92,7 @@ fn split_join(
 
 // What is declared.
 fn body(alloc: Global, above: &StreamsAbove, params: &[Name], body: &ParamBody) -> Result<(), Fault>
-    ensures { (k : ℕ) (us : Above) → Knows above.now us → Judges k result (body_judged k us params.now (body_of body.now)) }
+    ensures { (k : ℕ) (us : Above) → CountsParameters above.now us → Judges k result (body_judged k us params.now (body_of body.now)) }
 {
     match body {
         ParamBody::Filter(tree) => filter(params, tree),
@@ -103,7 +103,7 @@ fn body(alloc: Global, above: &StreamsAbove, params: &[Name], body: &ParamBody) 
 
 // The parameters, and what is declared.
 fn inner(alloc: Global, above: &StreamsAbove, unit: &ParamUnit) -> Result<(), Fault>
-    ensures { (k : ℕ) (us : Above) → Knows above.now us → Judges k result (and_then (new_names k [] unit.now.params.items) (body_judged k us unit.now.params.items (body_of unit.now.body))) }
+    ensures { (k : ℕ) (us : Above) → CountsParameters above.now us → Judges k result (judged_then (new_names k [] unit.now.params.items) (body_judged k us unit.now.params.items (body_of unit.now.body))) }
 {
     let params = unit.params.as_slice();
     new_names(params)?;
@@ -112,7 +112,7 @@ fn inner(alloc: Global, above: &StreamsAbove, unit: &ParamUnit) -> Result<(), Fa
 
 /// A unit, below these streams.
 pub fn unit(alloc: Global, above: &StreamsAbove, unit: &ParamUnit) -> Result<(), Fault>
-    ensures { (k : ℕ) (us : Above) → Knows above.now us → Judges k result (unit_judged k us (declared_of unit.now)) }
+    ensures { (k : ℕ) (us : Above) → CountsParameters above.now us → Judges k result (unit_judged k us (declared_of unit.now)) }
 {
     above.is_new(&unit.name)?;
     inner(alloc, above, unit)

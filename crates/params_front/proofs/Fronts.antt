@@ -40,7 +40,7 @@ use Rattle.params_build.specs.Told.{Told, JudgesAll}
 use Rattle.params_make.specs.Written.{Makes}
 use Rattle.params_make.specs.declared.make.Written.{Written}
 use Rattle.params_front.specs.Laws.{IsFirstFault, HasFault, HasMade, ElaborationHas}
-use Rattle.params_front.specs.Meaning.{Elaboration, fault_at, or_fault, then_made, of_tokens, then_read, elaboration, Writes, StandsForMade, Refused}
+use Rattle.params_front.specs.Meaning.{Elaboration, fault_at, or_fault, then_elaborated, of_tokens, then_read, elaboration, Writes, StandsForMade, Refused}
 use Rattle.params_front.specs.Sizes.{sizes_of}
 use Rattle.params_front.specs.declared.fault.ParamFault.{ParamFault}
 use Rattle.params_front.specs.declared.fault.ParamFault.TheVariants.{Text, UnknownName, NameTwice, Arity, NotConstant, Top, Range, Empty, Budget, Inner}
@@ -54,7 +54,7 @@ read_of marks = some_units (cut_units (toks marks))
 -- of a text that stands for a program is made what is made of that
 pub stands-made : (text : List ℕ) (p : ParamProgram) (t : IsText text p) → elaboration text ≡ or_fault p (elaborated p (sizes_of t.marks))
 unfolding elaboration
-stands-made text p t = ap then_read t.lexed ∙ ap (then_made (sizes_of t.marks)) (text-reads text p t)
+stands-made text p t = ap then_read t.lexed ∙ ap (then_elaborated (sizes_of t.marks)) (text-reads text p t)
 
 bad-units : (units : List (List Tok)) (n : ℕ) → IsFirstBad IsUnitAt next_unit tt units n ⊎ IsEmpty units n → some_units units ≡ Err n
 bad-units units n (inl b) = by units (bad-read tt next_unit exact-unit_from tt units n b) where
@@ -66,7 +66,7 @@ bad-units units n (inr e) = ap some_units e.0 ∙ ap Err (sym e.1)
 -- of one with a unit that is not in the grammar, the first of them is told
 pub bad-made : (text : List ℕ) (unit : ℕ) → IsBadAt text unit → elaboration text ≡ Err (Text (Syntax unit))
 unfolding elaboration
-bad-made text unit b = ap then_read b.lexed ∙ ap (then_made (sizes_of b.marks)) (bad-units (cut_units (toks b.marks)) unit b.first)
+bad-made text unit b = ap then_read b.lexed ∙ ap (then_elaborated (sizes_of b.marks)) (bad-units (cut_units (toks b.marks)) unit b.first)
 
 -- of one with a fault of its bytes, this fault
 pub lexed-made : (text : List ℕ) (fault : LexFault) → tokens_in text ≡ Err fault → elaboration text ≡ Err (of_lexer Text NoMemory fault)
@@ -142,7 +142,7 @@ accepted-has text p t = by (elaborated p (sizes_of t.marks)) refl where
 made-has : (text : List ℕ) → HasMade text (elaboration text)
 unfolding elaboration
 made-has text = by (tokens_in text) refl where
-  read : (marks : List Mark) → tokens_in text ≡ Ok marks → (r : Result ParamProgram ℕ) → read_of marks ≡ r → HasMade text (then_made (sizes_of marks) r)
+  read : (marks : List Mark) → tokens_in text ≡ Ok marks → (r : Result ParamProgram ℕ) → read_of marks ≡ r → HasMade text (then_elaborated (sizes_of marks) r)
   read marks lexed (Ok p) e =
       let f = units-read (cut_units (toks marks)) p e in
       accepted-has text p (record { marks = marks; lexed = lexed; formed = f.0; some = f.1 })
@@ -181,11 +181,11 @@ pub ruleset fronts = (written-stands)
 
 -- tokens that stand for a program mean what is made of it
 tokens-made : (marks : List Mark) (p : ParamProgram) → StandFor marks p → of_tokens marks ≡ or_fault p (elaborated p (sizes_of marks))
-tokens-made marks p h = ap (then_made (sizes_of marks)) (units-reads (cut_units (toks marks)) p h.0 h.1)
+tokens-made marks p h = ap (then_elaborated (sizes_of marks)) (units-reads (cut_units (toks marks)) p h.0 h.1)
 
 -- tokens with a unit that is not in the grammar mean the first of them
 pub read-bad : (marks : List Mark) (unit : ℕ) → Refuses marks (Syntax_at unit) → of_tokens marks ≡ Err (Text (Syntax unit))
-read-bad marks unit h = ap (then_made (sizes_of marks)) (bad-units (cut_units (toks marks)) unit h.0)
+read-bad marks unit h = ap (then_elaborated (sizes_of marks)) (bad-units (cut_units (toks marks)) unit h.0)
 
 pub ruleset readings = (read-bad)
 

@@ -51,13 +51,13 @@ or_fault p (Ok m) = Ok (record { tree = p; made = m })
 or_fault p (Err e) = Err (fault_at e.unit e.fault)
 
 -- what is read is judged, and its plain program is made; the units have so many bytes
-abbrev pub then_made : List ℕ → Result ParamProgram ℕ → Result Elaboration ParamFault
-then_made sizes (Ok p) = or_fault p (elaborated p sizes)
-then_made sizes (Err unit) = Err (Text (text.Syntax unit))
+abbrev pub then_elaborated : List ℕ → Result ParamProgram ℕ → Result Elaboration ParamFault
+then_elaborated sizes (Ok p) = or_fault p (elaborated p sizes)
+then_elaborated sizes (Err unit) = Err (Text (text.Syntax unit))
 
 -- the tokens of a text are read
 abbrev pub of_tokens : List Mark → Result Elaboration ParamFault
-of_tokens marks = then_made (sizes_of marks) (some_units (units_of (toks marks)))
+of_tokens marks = then_elaborated (sizes_of marks) (some_units (units_of (toks marks)))
 
 -- what is lexed is read
 abbrev pub then_read : Result (List Mark) LexFault → Result Elaboration ParamFault

@@ -8,7 +8,7 @@ use Rattle.streamit_model.specs.Meaning.{numbers, turns_between}
 use Rattle.params_text.specs.Program.{Add, Loop, Steps, declared_of}
 use Rattle.params_text.specs.declared.program.ParamUnit.{ParamUnit}
 use Rattle.params_model.specs.Environment.{Environment, value}
-use Rattle.params_model.specs.Making.{Source, Made, nothing_made, Adding, Range, Empty, on_fine, demand, begin, turn, is_ranged, made_once, steps_made, turns_made, adds_of, children_made, make, last_made}
+use Rattle.params_model.specs.Making.{SourceUnit, Made, nothing_made, Adding, Range, Empty, on_fine, demand, begin, turn, is_ranged, made_once, steps_made, turns_made, adds_of, children_made, make, last_made}
 use Rattle.params_model.specs.Making as model
 use Rattle.params_build.specs.declared.fault.Refusal.{Refusal}
 use Rattle.params_build.specs.Told.{Told}
@@ -117,7 +117,7 @@ module _ (add : Adding) (k : ℕ) (env : Environment) (ss : Steps) (m : Made) wh
 
 -- AN INSTANCE
 
-module _ (add : Adding) (u : Source) (depth : ℕ) (env : Environment) (m : Made) where
+module _ (add : Adding) (u : SourceUnit) (depth : ℕ) (env : Environment) (m : Made) where
   pub make-begun : (r : Result Instance Refusal) (new : Making) (t : Made) → begin u depth m ≡ Ok t
       → MakesOne r new (bodied add u.unit u.stream.name env u.stream.body t) → MakesOne r new (make add u depth env m)
   make-begun r new t h g = subst (MakesOne r new) (sym (ap (λ q. on_fine q (bodied add u.unit u.stream.name env u.stream.body)) h)) g

@@ -9,7 +9,7 @@ use Rattle.params_text.specs.declared.program.ParamUnit.{ParamUnit}
 use Rattle.params_model.specs.Environment.{Environment}
 use Rattle.params_model.specs.Plain.{instance_name}
 use Rattle.params_model.specs.Judged.{sources_of}
-use Rattle.params_model.specs.Making.{Source, Made, Added, Adding, instance, on_fine, turn, steps_made, body_made}
+use Rattle.params_model.specs.Making.{SourceUnit, Made, Added, Adding, instance, on_fine, turn, steps_made, body_made}
 use Rattle.params_model.specs.Making as model
 use Rattle.params_build.specs.declared.fault.Fault.{Fault}
 use Rattle.params_build.specs.declared.fault.Fault.TheVariants as fault
@@ -23,11 +23,11 @@ use Rattle.params_make.specs.declared.body.Scope.{Scope}
 -- THE STREAMS ABOVE
 
 -- the streams of these units, the newest first
-abbrev pub sources : List ParamUnit → List ℕ → List Source
+abbrev pub sources : List ParamUnit → List ℕ → List SourceUnit
 sources us sizes = sources_of (program_of us) sizes
 
 -- the unit behind so many
-abbrev pub source_at : ℕ → List ℕ → Declared → Source
+abbrev pub source_at : ℕ → List ℕ → Declared → SourceUnit
 source_at i sizes d = record { unit = suc i; bytes = get_or sizes i 0; stream = d }
 
 -- what an `add` makes below these units, where its instance lies so deep
@@ -66,16 +66,16 @@ turn_made k f v s = on_fine (turn k s) (f v)
 -- ANSWERS
 
 -- a fault that a test tells; no test tells want of memory
-abbrev pub fault_of : Fault → model.Fault
-fault_of fault.UnknownName = model.UnknownName
-fault_of fault.NameTwice = model.NameTwice
-fault_of fault.Arity = model.Arity
-fault_of fault.NotConstant = model.NotConstant
-fault_of fault.Top = model.Top
-fault_of fault.Range = model.Range
-fault_of fault.Empty = model.Empty
-fault_of fault.Budget = model.Budget
-fault_of fault.NoMemory = model.Budget
+abbrev pub tested_fault : Fault → model.Fault
+tested_fault fault.UnknownName = model.UnknownName
+tested_fault fault.NameTwice = model.NameTwice
+tested_fault fault.Arity = model.Arity
+tested_fault fault.NotConstant = model.NotConstant
+tested_fault fault.Top = model.Top
+tested_fault fault.Range = model.Range
+tested_fault fault.Empty = model.Empty
+tested_fault fault.Budget = model.Budget
+tested_fault fault.NoMemory = model.Budget
 
 -- this was made then
 abbrev pub Begins : Result (Unit {0}) Refusal → Making → Result Made model.Refusal → Type 0

@@ -3,7 +3,7 @@ ghost use Rattle.std.specs.Prelude.{◌≡◌, ◌≤◌, ◌+◌, ◌&&◌, suc
 ghost use Rattle.params_text.specs.Program.{Declared};
 ghost use Rattle.params_model.specs.Making.{Made, nothing_made, begin, turn, demand};
 ghost use Rattle.params_build.specs.Told.{JudgesAll};
-ghost use Rattle.params_make.specs.Standing.{Stands, Begins, Wrote, Blames, fault_of};
+ghost use Rattle.params_make.specs.Standing.{Stands, Begins, Wrote, Blames, tested_fault};
 
 use params_build::{Fault, Refusal};
 use params_print::Instance;
@@ -100,7 +100,7 @@ fn unit_behind(above: &[ParamUnit]) -> Result<u32, NoMemory>
 
 /// The fault of the unit behind these.
 pub fn refuse(above: &[ParamUnit], fault: Fault) -> Refusal
-    ensures { Blames result (suc (length above.now)) (fault_of fault) }
+    ensures { Blames result (suc (length above.now)) (tested_fault fault) }
 {
     match unit_behind(above) {
         Ok(unit) => Refusal { unit, fault },
@@ -110,7 +110,7 @@ pub fn refuse(above: &[ParamUnit], fault: Fault) -> Refusal
 
 /// The fault of the unit behind these, where a test fails.
 pub fn demand(above: &[ParamUnit], holds: bool, fault: Fault) -> Result<(), Refusal>
-    ensures { JudgesAll result (demand holds (suc (length above.now)) (fault_of fault)) }
+    ensures { JudgesAll result (demand holds (suc (length above.now)) (tested_fault fault)) }
 {
     if holds {
         Ok(())

@@ -8,12 +8,12 @@ use Rattle.streamit_text.specs.Tree as block
 use Rattle.params_text.specs.Params.{is_one_of}
 use Rattle.params_text.specs.Program.{ParamWork, ParamFilter, Body, AFilter, APipeline, ASplitJoin, ParamProgram}
 use Rattle.params_model.specs.Meaning.{last_works}
-use Rattle.params_model.specs.Making.{Fault, NameTwice, NotConstant, on_fine, demand, Source, last_made}
-use Rattle.params_model.specs.Judged.{Judgement, and_then, new_names, other_names, statement_judged, block_judged, optional_judged, rates_judged, work_judged, prework_judged, filter_judged, Above, body_judged, unit_judged, units_judged, top_judged, numbered_from, sources_of, tail_of}
+use Rattle.params_model.specs.Making.{Fault, NameTwice, NotConstant, on_fine, demand, SourceUnit, last_made}
+use Rattle.params_model.specs.Judged.{Judgement, judged_then, new_names, other_names, statement_judged, block_judged, optional_judged, rates_judged, work_judged, prework_judged, filter_judged, Above, body_judged, unit_judged, units_judged, top_judged, numbered_from, sources_of, tail_of}
 use Rattle.params_model.specs.Laws.{Differs, AllDiffer, SparesOnce, SparesAll, SparesOptional, SparesPrework, SparesFilter, IsFine, AreFine, streams_of, IsFitBody, IsFitProgram, ElaboratedMeans}
 use Rattle.params_model.proofs.Instances.{fine, ok_parts, demanded, elaboration_means}
 
-both : (a b : Judgement) (u : Unit {0}) → and_then a b ≡ fine u → (a ≡ fine tt) × (b ≡ fine u)
+both : (a b : Judgement) (u : Unit {0}) → judged_then a b ≡ fine u → (a ≡ fine tt) × (b ≡ fine u)
 both (Ok x) b u h = (refl, h)
 both (Err e) b u h = absurd (cc h)
 
@@ -90,20 +90,20 @@ units_fine k above (d ∷ ds) sizes u fit h =
     let r = both (new_names k [] d.params) (body_judged k above d.params d.body) tt q.1 in
     (body_fine k above d.params d.body tt fit.0 r.1, units_fine (suc k) ((d.name, length d.params) ∷ above) ds (tail_of sizes) u fit.1 p.1)
 
-fine_append : (us vs : List Source) → AreFine us → AreFine vs → AreFine (us ++ vs)
+fine_append : (us vs : List SourceUnit) → AreFine us → AreFine vs → AreFine (us ++ vs)
 fine_append [] vs h g = g
 fine_append (u ∷ us) vs h g = (h.0, fine_append us vs h.1 g)
 
-pub reverse-cons : (u : Source) (us : List Source) → reverse (u ∷ us) ≡ reverse us ++ u ∷ []
+pub reverse-cons : (u : SourceUnit) (us : List SourceUnit) → reverse (u ∷ us) ≡ reverse us ++ u ∷ []
 reverse-cons u us = reverse-append (u ∷ []) us
 
-pub map-reverse : (us : List Source) → streams_of (reverse us) ≡ reverse (streams_of us)
+pub map-reverse : (us : List SourceUnit) → streams_of (reverse us) ≡ reverse (streams_of us)
 map-reverse [] = refl
 map-reverse (u ∷ us) =
     ap streams_of (reverse-append (u ∷ []) us) ∙ map-append (λ u. u.stream) (reverse us) (u ∷ []) ∙ ap (λ l. l ++ u.stream ∷ []) (map-reverse us)
     ∙ sym (reverse-append (u.stream ∷ []) (streams_of us))
 
-pub fine_reverse : (us : List Source) → AreFine us → AreFine (reverse us)
+pub fine_reverse : (us : List SourceUnit) → AreFine us → AreFine (reverse us)
 fine_reverse [] h = tt
 fine_reverse (u ∷ us) h = subst AreFine (sym (reverse-cons u us)) (fine_append (reverse us) (u ∷ []) (fine_reverse us h.1) (h.0, tt))
 

@@ -18,7 +18,7 @@ use Rattle.params_text.specs.Program.{ParamWork, ParamFilter, Step, Add, Loop, S
 use Rattle.params_model.specs.Environment.{Environment, bound, value, option_counts, dealing, rated_work, rated_prework, rated}
 use Rattle.params_model.specs.Meaning.{Child, Streams, each_turn, children_once, children, in_line, side_by_side, works_under, stream_works}
 use Rattle.params_model.specs.Plain.{instance_name, plain_filter}
-use Rattle.params_model.specs.Making.{Fault, Budget, Range, Refusal, on_fine, demand, Source, Made, nothing_made, begin, turn, is_ranged, are_ranged_option, is_ranged_dealing, is_ranged_filter, Adding, Added, also}
+use Rattle.params_model.specs.Making.{Fault, Budget, Range, Refusal, on_fine, demand, SourceUnit, Made, nothing_made, begin, turn, is_ranged, are_ranged_option, is_ranged_dealing, is_ranged_filter, Adding, Added, also}
 use Rattle.params_model.specs.Making.{turns_made, made_once, steps_made, adds_of, children_made, body_made, finish, make, instance}
 use Rattle.params_model.specs.Laws.{AllDiffer, SparesOnce, SparesAll, SparesOptional, SparesPrework, SparesFilter, IsFine, AreFine, IsFitStep, AreFitSteps, streams_of, ElaborationMeans}
 use Rattle.params_model.proofs.Values.{Fits, AllFit, bound_fits, values_fit, small}
@@ -360,7 +360,7 @@ module _ (all : Streams) (add : Adding) (unit : ℕ) (right : Right all add) whe
 
 -- AN INSTANCE
 
-pub begin_parts : (u : Source) (depth : ℕ) (s t : Made) → begin u depth s ≡ fine t → (s.begun < 1024) × (s.units ≡ t.units) × (t.begun ≡ suc s.begun)
+pub begin_parts : (u : SourceUnit) (depth : ℕ) (s t : Made) → begin u depth s ≡ fine t → (s.begun < 1024) × (s.units ≡ t.units) × (t.begun ≡ suc s.begun)
 begin_parts u depth s t h =
     let few = nat_lt s.begun 1024 in
     let rest = nat_le depth 64 && nat_le (s.bytes + u.bytes) 1048576 in
@@ -397,7 +397,7 @@ made_does f s x m =
     })
 
 module _ (all : Streams) (add : Adding) (right : Right all add) where
-  pub make_right : (u : Source) (depth : ℕ) (ps : List Name) (zs : List ℤ) (s : Made) (x : Name × Made) → AllFit zs → IsFine ps u.stream.body → IsSmall s
+  pub make_right : (u : SourceUnit) (depth : ℕ) (ps : List Name) (zs : List ℤ) (s : Made) (x : Name × Made) → AllFit zs → IsFine ps u.stream.body → IsSmall s
       → make add u depth (bound ps zs) s ≡ fine x → MadeBy (works_under all (bound ps zs) u.stream.body) s x
   make_right u depth ps zs s x fits ok small h =
       let env = bound ps zs in
@@ -432,7 +432,7 @@ module _ (all : Streams) (add : Adding) (right : Right all add) where
         };
       })
 
-either_right : (u : Source) (us : List Source) (depth : ℕ) (n : Name) (zs : List ℤ) (s : Made) (x : Name × Made) → AllFit zs → IsFine u.stream.params u.stream.body → IsSmall s
+either_right : (u : SourceUnit) (us : List SourceUnit) (depth : ℕ) (n : Name) (zs : List ℤ) (s : Made) (x : Name × Made) → AllFit zs → IsFine u.stream.params u.stream.body → IsSmall s
     → Right (stream_works (streams_of us)) (instance us (suc depth)) → Right (stream_works (streams_of us)) (instance us depth)
     → (b : Bool) → name_eq u.stream.name n ≡ b → instance (u ∷ us) depth n zs s ≡ fine x → AddsBy (stream_works (streams_of (u ∷ us))) n zs s x
 either_right u us depth n zs s x fits ok small below beside b e h = go b e
@@ -452,7 +452,7 @@ either_right u us depth n zs s x fits ok small below beside b e h = go b e
         let a = beside n zs s x fits small (sym (ap here e) ∙ h) in
         record { grew = a.grew; does = record { number = a.does.number; same = λ xs. a.does.same xs ∙ sym (ap (λ b. does b xs) e) } }
 
-pub instance_right : (us : List Source) (depth : ℕ) → AreFine us → Right (stream_works (streams_of us)) (instance us depth)
+pub instance_right : (us : List SourceUnit) (depth : ℕ) → AreFine us → Right (stream_works (streams_of us)) (instance us depth)
 instance_right [] depth ok n zs s x fits small h = absurd (cc h)
 instance_right (u ∷ us) depth ok n zs s x fits small h =
     either_right u us depth n zs s x fits ok.0 small (instance_right us (suc depth) ok.1) (instance_right us depth ok.1) (name_eq u.stream.name n) refl h

@@ -10,10 +10,10 @@ use Rattle.streamit_text.specs.Program as plain
 use Rattle.streamit_model.specs.Meaning.{program_outputs}
 use Rattle.streamit_text.specs.Grammar.{IsSome}
 use Rattle.params_text.specs.Program.{Step, Add, Loop, Steps, End, Then, Dealing, Copies, Turns, Body, AFilter, APipeline, ASplitJoin}
-use Rattle.params_model.specs.Environment.{Environment, bound, value, counts, option_counts, dealing}
+use Rattle.params_model.specs.Environment.{Environment, bound, value, counts_in, option_counts, dealing}
 use Rattle.params_model.specs.Meaning.{Streams, stream_works, last_works}
 use Rattle.params_model.specs.Plain.{instance_name, plain_filter}
-use Rattle.params_model.specs.Making.{Budget, Range, Refusal, on_fine, demand, Source, Made, nothing_made, begin, turn, is_ranged, are_ranged, are_ranged_option, is_ranged_dealing, is_ranged_filter, Adding, Added, also}
+use Rattle.params_model.specs.Making.{Budget, Range, Refusal, on_fine, demand, SourceUnit, Made, nothing_made, begin, turn, is_ranged, are_ranged, are_ranged_option, is_ranged_dealing, is_ranged_filter, Adding, Added, also}
 use Rattle.params_model.specs.Making.{turns_made, made_once, steps_made, adds_of, children_made, body_made, finish, make, instance, last_made}
 use Rattle.params_model.specs.Laws.{IsFine, AreFine, IsFitStep, AreFitSteps, streams_of}
 use Rattle.params_model.proofs.Values.{Fits, AllFit, bound_fits, values_fit, small}
@@ -109,7 +109,7 @@ module _ (add : Adding) (unit : ℕ) (fitting : Fitting add) where
       let c = steps_fit env ss s p.0 fits fit g p.1 in
       subst AddsFit (ok_is (q.0, p.0.1) r q.2) (record { told = adds_told p.0.0 q.0 q.1 c.own; fit = c.fit })
 
-  counts_told : (env : Environment) (cs : List Expression) → are_ranged env cs ≡ true → AreValues (counts env cs)
+  counts_told : (env : Environment) (cs : List Expression) → are_ranged env cs ≡ true → AreValues (counts_in env cs)
   counts_told env [] h = tt
   counts_told env (c ∷ cs) h =
       let p = and_parts (is_ranged (value env c)) (are_ranged env cs) h in
@@ -155,7 +155,7 @@ module _ (add : Adding) (unit : ℕ) (fitting : Fitting add) where
 -- AN INSTANCE
 
 module _ (all : Streams) (add : Adding) (right : Right all add) (fitting : Fitting add) where
-  make_fit : (u : Source) (depth : ℕ) (ps : List Name) (zs : List ℤ) (s : Made) (x : Name × Made) → AllFit zs → IsFine ps u.stream.body → IsWrittenUnit u.stream
+  make_fit : (u : SourceUnit) (depth : ℕ) (ps : List Name) (zs : List ℤ) (s : Made) (x : Name × Made) → AllFit zs → IsFine ps u.stream.body → IsWrittenUnit u.stream
       → IsWrittenBody ps u.stream.body → IsFit s → make add u depth (bound ps zs) s ≡ fine x → NameFit x
   make_fit u depth ps zs s x fits ok w wb g h =
       let env = bound ps zs in
@@ -182,7 +182,7 @@ module _ (all : Streams) (add : Adding) (right : Right all add) (fitting : Fitti
         };
       }
 
-either_fit : (u : Source) (us : List Source) (depth : ℕ) (n : Name) (zs : List ℤ) (s : Made) (x : Name × Made) → AllFit zs → IsFine u.stream.params u.stream.body
+either_fit : (u : SourceUnit) (us : List SourceUnit) (depth : ℕ) (n : Name) (zs : List ℤ) (s : Made) (x : Name × Made) → AllFit zs → IsFine u.stream.params u.stream.body
     → IsWrittenUnit u.stream → IsFit s → Right (stream_works (streams_of us)) (instance us (suc depth)) → Fitting (instance us (suc depth)) → Fitting (instance us depth)
     → (b : Bool) → name_eq u.stream.name n ≡ b → instance (u ∷ us) depth n zs s ≡ fine x → NameFit x
 either_fit u us depth n zs s x fits ok w g right below beside b e h = go b e
@@ -195,7 +195,7 @@ either_fit u us depth n zs s x fits ok w g right below beside b e h = go b e
         make_fit (stream_works (streams_of us)) (instance us (suc depth)) right below u depth u.stream.params zs s x fits ok w w.body g (sym (ap here e) ∙ h)
     go false e = beside n zs s x fits g (sym (ap here e) ∙ h)
 
-instance_fit : (us : List Source) (depth : ℕ) → AreFine us → AreWritten us → Fitting (instance us depth)
+instance_fit : (us : List SourceUnit) (depth : ℕ) → AreFine us → AreWritten us → Fitting (instance us depth)
 instance_fit [] depth ok w n zs s x fits g h = absurd (cc h)
 instance_fit (u ∷ us) depth ok w n zs s x fits g h =
     either_fit u us depth n zs s x fits ok.0 w.0 g (instance_right us (suc depth) ok.1) (instance_fit us (suc depth) ok.1 w.1) (instance_fit us depth ok.1 w.1)
@@ -207,7 +207,7 @@ some_append : (us : plain.Program) (u : plain.Declared) → IsSome (us ++ u ∷ 
 some_append [] u = tt
 some_append (v ∷ us) u = tt
 
-pub made_told : (us : List Source) (m : Made) → AreFine us → AreWritten us → last_made us ≡ Ok m → IsSome m.units × IsToldProgram m.units
+pub made_told : (us : List SourceUnit) (m : Made) → AreFine us → AreWritten us → last_made us ≡ Ok m → IsSome m.units × IsToldProgram m.units
 made_told [] m ok w h = absurd (cc h)
 made_told (u ∷ us) m ok w h =
     let all = stream_works (streams_of us) in
@@ -233,11 +233,11 @@ made_stands us m ok w h =
     let s = text_stands m.units t.0 t.1 in
     (s.0, λ q xs k. ap (λ p. program_outputs p xs) (s.1 q k) ∙ elaboration_means us m xs ok h)
 
-written_append : (us vs : List Source) → AreWritten us → AreWritten vs → AreWritten (us ++ vs)
+written_append : (us vs : List SourceUnit) → AreWritten us → AreWritten vs → AreWritten (us ++ vs)
 written_append [] vs h g = g
 written_append (u ∷ us) vs h g = (h.0, written_append us vs h.1 g)
 
-written_reverse : (us : List Source) → AreWritten us → AreWritten (reverse us)
+written_reverse : (us : List SourceUnit) → AreWritten us → AreWritten (reverse us)
 written_reverse [] h = tt
 written_reverse (u ∷ us) h = subst AreWritten (sym (reverse-cons u us)) (written_append (reverse us) (u ∷ []) (written_reverse us h.1) (h.0, tt))
 

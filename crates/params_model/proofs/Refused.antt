@@ -10,8 +10,8 @@ use Rattle.streamit_text.specs.Tree.{Expression, Statement, Declare, Assign, Pus
 use Rattle.streamit_text.specs.Tree as tree
 use Rattle.params_text.specs.Params.{is_one_of}
 use Rattle.params_text.specs.Program.{ParamWork, ParamFilter, Step, Add, Loop, Steps, End, Then, Dealing, Copies, Turns, Body, AFilter, APipeline, ASplitJoin, Declared, ParamProgram}
-use Rattle.params_model.specs.Faulty.{IsAmong, IsAbove, IsWrong, fault_of, IsRight, RefusalsAre, AcceptedAre}
-use Rattle.params_model.specs.Judged.{Judgement, and_then, no_fault, are_known, all_known, known_option, all_known_option, new_names, other_names, statement_judged}
+use Rattle.params_model.specs.Faulty.{IsAmong, IsAbove, IsWrong, spot_fault, IsRight, RefusalsAre, AcceptedAre}
+use Rattle.params_model.specs.Judged.{Judgement, judged_then, no_fault, are_known, all_known, known_option, all_known_option, new_names, other_names, statement_judged}
 use Rattle.params_model.specs.Judged.{block_judged, optional_judged, rates_judged, work_judged, prework_judged, filter_judged, Above, has_arity, is_there}
 use Rattle.params_model.specs.Judged.{step_judged, steps_judged, dealing_judged, body_judged, unit_judged, units_judged}
 use Rattle.params_model.specs.Making.{Fault, UnknownName, Refusal, demand}
@@ -102,35 +102,35 @@ wrong (Gives n count above) h = arity_not (look above n) count h
 
 -- THE TESTS ONE AFTER ANOTHER
 
-then-assoc : (a b c : Judgement) → and_then (and_then a b) c ≡ and_then a (and_then b c)
+then-assoc : (a b c : Judgement) → judged_then (judged_then a b) c ≡ judged_then a (judged_then b c)
 then-assoc (Ok x) b c = refl
 then-assoc (Err e) b c = refl
 
-then-none : (a : Judgement) → and_then a no_fault ≡ a
+then-none : (a : Judgement) → judged_then a no_fault ≡ a
 then-none (Ok x) = refl
 then-none (Err e) = refl
 
-demand-both : (a b : Bool) (k : ℕ) (f : Fault) → and_then (demand a k f) (demand b k f) ≡ demand (a && b) k f
+demand-both : (a b : Bool) (k : ℕ) (f : Fault) → judged_then (demand a k f) (demand b k f) ≡ demand (a && b) k f
 demand-both true b k f = refl
 demand-both false b k f = refl
 
 abbrev tested : ℕ → List Spot → Judgement
 tested k [] = no_fault
-tested k (s ∷ ss) = and_then (demand (test s) k (fault_of s)) (tested k ss)
+tested k (s ∷ ss) = judged_then (demand (test s) k (spot_fault s)) (tested k ss)
 
-tested-append : (k : ℕ) (ss ts : List Spot) → tested k (ss ++ ts) ≡ and_then (tested k ss) (tested k ts)
+tested-append : (k : ℕ) (ss ts : List Spot) → tested k (ss ++ ts) ≡ judged_then (tested k ss) (tested k ts)
 tested-append k [] ts = refl
-tested-append k (s ∷ ss) ts = ap (and_then (demand (test s) k (fault_of s))) (tested-append k ss ts) ∙ sym (then-assoc (demand (test s) k (fault_of s)) (tested k ss) (tested k ts))
+tested-append k (s ∷ ss) ts = ap (judged_then (demand (test s) k (spot_fault s))) (tested-append k ss ts) ∙ sym (then-assoc (demand (test s) k (spot_fault s)) (tested k ss) (tested k ts))
 
 -- two parts, each of which is judged as its places are tested
-parts : (k : ℕ) (ss ts : List Spot) (a b : Judgement) → tested k ss ≡ a → tested k ts ≡ b → tested k (ss ++ ts) ≡ and_then a b
-parts k ss ts a b h g = tested-append k ss ts ∙ ap (λ x. and_then x (tested k ts)) h ∙ ap (and_then a) g
+parts : (k : ℕ) (ss ts : List Spot) (a b : Judgement) → tested k ss ≡ a → tested k ts ≡ b → tested k (ss ++ ts) ≡ judged_then a b
+parts k ss ts a b h g = tested-append k ss ts ∙ ap (λ x. judged_then x (tested k ts)) h ∙ ap (judged_then a) g
 
-first-of : (k : ℕ) (s : Spot) (ts : List Spot) (b : Judgement) → tested k ts ≡ b → tested k (s ∷ ts) ≡ and_then (demand (test s) k (fault_of s)) b
-first-of k s ts b h = ap (and_then (demand (test s) k (fault_of s))) h
+first-of : (k : ℕ) (s : Spot) (ts : List Spot) (b : Judgement) → tested k ts ≡ b → tested k (s ∷ ts) ≡ judged_then (demand (test s) k (spot_fault s)) b
+first-of k s ts b h = ap (judged_then (demand (test s) k (spot_fault s))) h
 
-one-of : (k : ℕ) (s : Spot) → tested k (s ∷ []) ≡ demand (test s) k (fault_of s)
-one-of k s = then-none (demand (test s) k (fault_of s))
+one-of : (k : ℕ) (s : Spot) → tested k (s ∷ []) ≡ demand (test s) k (spot_fault s)
+one-of k s = then-none (demand (test s) k (spot_fault s))
 
 -- CONSTANTS
 
@@ -241,19 +241,19 @@ unit-is k above u =
 
 abbrev all_tested : List Place → Judgement
 all_tested [] = no_fault
-all_tested (p ∷ ps) = and_then (demand (test p.spot) p.unit (fault_of p.spot)) (all_tested ps)
+all_tested (p ∷ ps) = judged_then (demand (test p.spot) p.unit (spot_fault p.spot)) (all_tested ps)
 
-in_unit-tested : (k : ℕ) (ss : List Spot) (ps : List Place) → all_tested (in_unit k ss ++ ps) ≡ and_then (tested k ss) (all_tested ps)
+in_unit-tested : (k : ℕ) (ss : List Spot) (ps : List Place) → all_tested (in_unit k ss ++ ps) ≡ judged_then (tested k ss) (all_tested ps)
 in_unit-tested k [] ps = refl
 in_unit-tested k (s ∷ ss) ps =
-    ap (and_then (demand (test s) k (fault_of s))) (in_unit-tested k ss ps) ∙ sym (then-assoc (demand (test s) k (fault_of s)) (tested k ss) (all_tested ps))
+    ap (judged_then (demand (test s) k (spot_fault s))) (in_unit-tested k ss ps) ∙ sym (then-assoc (demand (test s) k (spot_fault s)) (tested k ss) (all_tested ps))
 
 units-are : (k : ℕ) (above : Above) (p : ParamProgram) → all_tested (places_from k above p) ≡ units_judged k above p
 units-are k above [] = refl
 units-are k above (u ∷ us) =
     in_unit-tested k (unit_spots above u) (places_from (suc k) ((u.name, length u.params) ∷ above) us)
-    ∙ ap (λ x. and_then x (all_tested (places_from (suc k) ((u.name, length u.params) ∷ above) us))) (unit-is k above u)
-    ∙ ap (and_then (unit_judged k above u)) (units-are (suc k) ((u.name, length u.params) ∷ above) us)
+    ∙ ap (λ x. judged_then x (all_tested (places_from (suc k) ((u.name, length u.params) ∷ above) us))) (unit-is k above u)
+    ∙ ap (judged_then (unit_judged k above u)) (units-are (suc k) ((u.name, length u.params) ∷ above) us)
 
 -- THE FIRST FAULT
 
@@ -264,7 +264,7 @@ record Parted (ps : List Place) (r : Refusal) : Type 0 where
   is : ps ≡ before ++ place ∷ behind
   all : AllByRecursion IsRight before
   bad : IsWrong place.spot
-  fault : r.fault ≡ fault_of place.spot
+  fault : r.fault ≡ spot_fault place.spot
   there : r.unit ≡ place.unit
 
 refused-same : (unit : ℕ) (f : Fault) (r : Refusal) → ◌≡◌ {A = Judgement} (Err (record { unit = unit; fault = f })) (Err r) → (r.fault ≡ f) × (r.unit ≡ unit)
@@ -274,7 +274,7 @@ parted : (ps : List Place) (r : Refusal) → all_tested ps ≡ Err r → Parted 
 parted [] r h = absurd (cc h)
 parted (p ∷ ps) r h = by (parted ps r) (test p.spot) refl where
   here : Bool → Judgement
-  here b = and_then (demand b p.unit (fault_of p.spot)) (all_tested ps)
+  here b = judged_then (demand b p.unit (spot_fault p.spot)) (all_tested ps)
 
   by : (all_tested ps ≡ Err r → Parted ps r) → (b : Bool) → test p.spot ≡ b → Parted (p ∷ ps) r
   by more true e =
@@ -290,7 +290,7 @@ parted (p ∷ ps) r h = by (parted ps r) (test p.spot) refl where
         there = q.there;
       }
   by more false e =
-      let s = refused-same p.unit (fault_of p.spot) r (sym (ap here e) ∙ h) in
+      let s = refused-same p.unit (spot_fault p.spot) r (sym (ap here e) ∙ h) in
       record { before = []; place = p; behind = ps; is = refl; all = tt; bad = wrong p.spot e; fault = s.0; there = s.1 }
 
 -- a place that is right passes its test, and one that is wrong does not
@@ -307,26 +307,26 @@ fails s h = by (test s) refl where
   by false e = refl
 
 refuses : (before : List Place) (p : Place) (behind : List Place) → AllByRecursion IsRight before → IsWrong p.spot
-    → all_tested (before ++ p ∷ behind) ≡ Err (record { unit = p.unit; fault = fault_of p.spot })
-refuses [] p behind a w = ap (λ b. and_then (demand b p.unit (fault_of p.spot)) (all_tested behind)) (fails p.spot w)
+    → all_tested (before ++ p ∷ behind) ≡ Err (record { unit = p.unit; fault = spot_fault p.spot })
+refuses [] p behind a w = ap (λ b. judged_then (demand b p.unit (spot_fault p.spot)) (all_tested behind)) (fails p.spot w)
 refuses (q ∷ qs) p behind a w =
-    ap (λ b. and_then (demand b q.unit (fault_of q.spot)) (all_tested (qs ++ p ∷ behind))) (passes q.spot a.0) ∙ refuses qs p behind a.1 w
+    ap (λ b. judged_then (demand b q.unit (spot_fault q.spot)) (all_tested (qs ++ p ∷ behind))) (passes q.spot a.0) ∙ refuses qs p behind a.1 w
 
 all-right : (ps : List Place) → all_tested ps ≡ Ok tt → AllByRecursion IsRight ps
 all-right [] h = tt
 all-right (p ∷ ps) h = by (all-right ps) (test p.spot) refl where
   here : Bool → Judgement
-  here b = and_then (demand b p.unit (fault_of p.spot)) (all_tested ps)
+  here b = judged_then (demand b p.unit (spot_fault p.spot)) (all_tested ps)
 
   by : (all_tested ps ≡ Ok tt → AllByRecursion IsRight ps) → (b : Bool) → test p.spot ≡ b → AllByRecursion IsRight (p ∷ ps)
   by more true e = (right p.spot e, more (sym (ap here e) ∙ h))
   by more false e = absurd (no (sym (ap here e) ∙ h)) where
-    no : ◌≡◌ {A = Judgement} (Err (record { unit = p.unit; fault = fault_of p.spot })) (Ok tt) → ⊥
+    no : ◌≡◌ {A = Judgement} (Err (record { unit = p.unit; fault = spot_fault p.spot })) (Ok tt) → ⊥
     no g = cc g
 
 right-all : (ps : List Place) → AllByRecursion IsRight ps → all_tested ps ≡ Ok tt
 right-all [] h = refl
-right-all (p ∷ ps) h = ap (λ b. and_then (demand b p.unit (fault_of p.spot)) (all_tested ps)) (passes p.spot h.0) ∙ right-all ps h.1
+right-all (p ∷ ps) h = ap (λ b. judged_then (demand b p.unit (spot_fault p.spot)) (all_tested ps)) (passes p.spot h.0) ∙ right-all ps h.1
 
 -- the laws
 pub refusals_are : RefusalsAre
@@ -336,7 +336,7 @@ refusals_are p unit f = (
       record { before = q.before; place = q.place; behind = q.behind; parts = q.is; right = q.all; wrong = q.bad; fault = q.fault; there = q.there }),
   (λ h.
       sym (units-are 1 [] p) ∙ ap all_tested h.parts ∙ refuses h.before h.place h.behind h.right h.wrong
-      ∙ same unit h.place.unit f (fault_of h.place.spot) h.there h.fault),
+      ∙ same unit h.place.unit f (spot_fault h.place.spot) h.there h.fault),
 )
   where
     same : (i j : ℕ) (f g : Fault) → i ≡ j → f ≡ g → ◌≡◌ {A = Judgement} (Err (record { unit = j; fault = g })) (Err (record { unit = i; fault = f }))

@@ -29,19 +29,19 @@ abbrev pub value : Environment → Expression → ℤ
 value env c = eval c [] (under env nought) 0
 
 -- a rate or a weight
-abbrev pub count : Environment → Expression → ℕ
-count env c = count_of (value env c)
+abbrev pub count_in : Environment → Expression → ℕ
+count_in env c = count_of (value env c)
 
-abbrev pub counts : Environment → List Expression → List ℕ
-counts env cs = map (count env) cs
+abbrev pub counts_in : Environment → List Expression → List ℕ
+counts_in env cs = map (count_in env) cs
 
 abbrev pub option_count : Environment → Option Expression → Option ℕ
 option_count env None = None
-option_count env (Some c) = Some (count env c)
+option_count env (Some c) = Some (count_in env c)
 
 abbrev pub option_counts : Environment → Option (List Expression) → Option (List ℕ)
 option_counts env None = None
-option_counts env (Some cs) = Some (counts env cs)
+option_counts env (Some cs) = Some (counts_in env cs)
 
 -- `work` or `prework` with the values of its rates
 abbrev pub rated_work : Environment → ParamWork → WorkTree

@@ -33,15 +33,15 @@ IsWrong (Adds n above) = IsAbove above n → ⊥
 IsWrong (Gives n count above) = look above n ≡ Some count → ⊥
 
 -- the fault that this is
-abbrev pub fault_of : Spot → Fault
-fault_of (Names n above) = NameTwice
-fault_of (Takes n before) = NameTwice
-fault_of (Declares n params) = NameTwice
-fault_of (Sets n params) = NotConstant
-fault_of (Uses n known) = UnknownName
-fault_of (Loops n known) = NameTwice
-fault_of (Adds n above) = UnknownName
-fault_of (Gives n count above) = Arity
+abbrev pub spot_fault : Spot → Fault
+spot_fault (Names n above) = NameTwice
+spot_fault (Takes n before) = NameTwice
+spot_fault (Declares n params) = NameTwice
+spot_fault (Sets n params) = NotConstant
+spot_fault (Uses n known) = UnknownName
+spot_fault (Loops n known) = NameTwice
+spot_fault (Adds n above) = UnknownName
+spot_fault (Gives n count above) = Arity
 
 -- the place has no fault
 abbrev pub IsRight : Place → Type 0
@@ -55,7 +55,7 @@ pub record IsFaultOf (p : ParamProgram) (unit : ℕ) (f : Fault) : Type 0 where
   pub parts : places_of p ≡ before ++ place ∷ behind
   pub right : AllByRecursion IsRight before
   pub wrong : IsWrong place.spot
-  pub fault : f ≡ fault_of place.spot
+  pub fault : f ≡ spot_fault place.spot
   pub there : unit ≡ place.unit
 
 -- a program is refused for its text, with a fault in a unit, exactly where this is its first fault

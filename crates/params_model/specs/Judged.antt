@@ -7,14 +7,14 @@ use Rattle.streamit_text.specs.Tree.{Statement, Declare, Assign, Push, Discard, 
 use Rattle.streamit_model.specs.Meaning.{look}
 use Rattle.params_text.specs.Params.{is_one_of}
 use Rattle.params_text.specs.Program.{ParamWork, ParamFilter, Step, Add, Loop, Steps, End, Then, Dealing, Copies, Turns, Body, AFilter, APipeline, ASplitJoin, Declared, ParamProgram}
-use Rattle.params_model.specs.Making.{UnknownName, NameTwice, Arity, NotConstant, Top, Refusal, on_fine, demand, Source, Made, last_made}
+use Rattle.params_model.specs.Making.{UnknownName, NameTwice, Arity, NotConstant, Top, Refusal, on_fine, demand, SourceUnit, Made, last_made}
 
 -- the unit has no fault here, or this is its first one
 abbrev pub Judgement : Type 0
 Judgement = Result (Unit {0}) Refusal
 
-abbrev pub and_then : Judgement → Judgement → Judgement
-and_then a b = on_fine a (λ x. b)
+abbrev pub judged_then : Judgement → Judgement → Judgement
+judged_then a b = on_fine a (λ x. b)
 
 abbrev pub no_fault : Judgement
 no_fault = Ok tt
@@ -45,11 +45,11 @@ all_known_option ks (Some cs) = all_known ks cs
 
 abbrev pub new_names : ℕ → List Name → List Name → Judgement
 new_names unit ks [] = no_fault
-new_names unit ks (n ∷ ns) = and_then (demand (not (is_one_of ks n)) unit NameTwice) (new_names unit (ks ++ n ∷ []) ns)
+new_names unit ks (n ∷ ns) = judged_then (demand (not (is_one_of ks n)) unit NameTwice) (new_names unit (ks ++ n ∷ []) ns)
 
 abbrev pub other_names : ℕ → List Name → List Name → Judgement
 other_names unit ps [] = no_fault
-other_names unit ps (n ∷ ns) = and_then (demand (not (is_one_of ps n)) unit NameTwice) (other_names unit ps ns)
+other_names unit ps (n ∷ ns) = judged_then (demand (not (is_one_of ps n)) unit NameTwice) (other_names unit ps ns)
 
 abbrev mutual
   pub statement_judged : ℕ → List Name → Statement → Judgement
@@ -57,12 +57,12 @@ abbrev mutual
   statement_judged unit ps (Assign n t) = demand (not (is_one_of ps n)) unit NotConstant
   statement_judged unit ps (Push t) = no_fault
   statement_judged unit ps Discard = no_fault
-  statement_judged unit ps (If t a b) = and_then (block_judged unit ps a) (optional_judged unit ps b)
-  statement_judged unit ps (For n low upto high b) = and_then (demand (not (is_one_of ps n)) unit NameTwice) (block_judged unit ps b)
+  statement_judged unit ps (If t a b) = judged_then (block_judged unit ps a) (optional_judged unit ps b)
+  statement_judged unit ps (For n low upto high b) = judged_then (demand (not (is_one_of ps n)) unit NameTwice) (block_judged unit ps b)
 
   pub block_judged : ℕ → List Name → Block → Judgement
   block_judged unit ps tree.End = no_fault
-  block_judged unit ps (tree.Then c b) = and_then (statement_judged unit ps c) (block_judged unit ps b)
+  block_judged unit ps (tree.Then c b) = judged_then (statement_judged unit ps c) (block_judged unit ps b)
 
   pub optional_judged : ℕ → List Name → Optional → Judgement
   optional_judged unit ps Unwritten = no_fault
@@ -73,14 +73,14 @@ rates_judged unit ps w = demand (known_option ps w.push && (known_option ps w.po
 
 -- the rates, then the block
 abbrev pub work_judged : ℕ → List Name → ParamWork → Judgement
-work_judged unit ps w = and_then (rates_judged unit ps w) (block_judged unit ps w.block)
+work_judged unit ps w = judged_then (rates_judged unit ps w) (block_judged unit ps w.block)
 
 abbrev pub prework_judged : ℕ → List Name → Option ParamWork → Judgement
 prework_judged unit ps None = no_fault
 prework_judged unit ps (Some w) = work_judged unit ps w
 
 abbrev pub filter_judged : ℕ → List Name → ParamFilter → Judgement
-filter_judged unit ps t = and_then (other_names unit ps t.fields) (and_then (optional_judged unit ps t.init) (and_then (prework_judged unit ps t.prework) (work_judged unit ps t.work)))
+filter_judged unit ps t = judged_then (other_names unit ps t.fields) (judged_then (optional_judged unit ps t.init) (judged_then (prework_judged unit ps t.prework) (work_judged unit ps t.work)))
 
 -- STEPS: names that are known stand in order, the newest last; the streams above have these names and so many parameters, the newest first
 
@@ -98,15 +98,15 @@ is_there (Some m) = true
 abbrev mutual
   pub step_judged : ℕ → Above → List Name → Step → Judgement
   step_judged unit above ks (Add n cs) =
-      and_then (demand (is_there (look above n)) unit UnknownName)
-      (and_then (demand (all_known ks cs) unit UnknownName) (demand (has_arity (look above n) (length cs)) unit Arity))
+      judged_then (demand (is_there (look above n)) unit UnknownName)
+      (judged_then (demand (all_known ks cs) unit UnknownName) (demand (has_arity (look above n) (length cs)) unit Arity))
   step_judged unit above ks (Loop n low upto high ss) =
-      and_then (demand (not (is_one_of ks n)) unit NameTwice)
-      (and_then (demand (are_known ks low && are_known ks high) unit UnknownName) (steps_judged unit above (ks ++ n ∷ []) ss))
+      judged_then (demand (not (is_one_of ks n)) unit NameTwice)
+      (judged_then (demand (are_known ks low && are_known ks high) unit UnknownName) (steps_judged unit above (ks ++ n ∷ []) ss))
 
   pub steps_judged : ℕ → Above → List Name → Steps → Judgement
   steps_judged unit above ks End = no_fault
-  steps_judged unit above ks (Then s ss) = and_then (step_judged unit above ks s) (steps_judged unit above ks ss)
+  steps_judged unit above ks (Then s ss) = judged_then (step_judged unit above ks s) (steps_judged unit above ks ss)
 
 abbrev pub dealing_judged : ℕ → List Name → Dealing → Judgement
 dealing_judged unit ps Copies = no_fault
@@ -116,25 +116,25 @@ abbrev pub body_judged : ℕ → Above → List Name → Body → Judgement
 body_judged unit above ps (AFilter t) = filter_judged unit ps t
 body_judged unit above ps (APipeline ss) = steps_judged unit above ps ss
 body_judged unit above ps (ASplitJoin d ss ws) =
-    and_then (dealing_judged unit ps d) (and_then (steps_judged unit above ps ss) (demand (all_known_option ps ws) unit UnknownName))
+    judged_then (dealing_judged unit ps d) (judged_then (steps_judged unit above ps ss) (demand (all_known_option ps ws) unit UnknownName))
 
 -- UNITS: the stream's name, its parameters, and then the rest
 
 abbrev pub unit_judged : ℕ → Above → Declared → Judgement
 unit_judged unit above u =
-    and_then (demand (not (is_there (look above u.name))) unit NameTwice) (and_then (new_names unit [] u.params) (body_judged unit above u.params u.body))
+    judged_then (demand (not (is_there (look above u.name))) unit NameTwice) (judged_then (new_names unit [] u.params) (body_judged unit above u.params u.body))
 
 -- unit k and those after it
 abbrev pub units_judged : ℕ → Above → ParamProgram → Judgement
 units_judged k above [] = no_fault
-units_judged k above (u ∷ us) = and_then (unit_judged k above u) (units_judged (suc k) ((u.name, length u.params) ∷ above) us)
+units_judged k above (u ∷ us) = judged_then (unit_judged k above u) (units_judged (suc k) ((u.name, length u.params) ∷ above) us)
 
 -- the last stream has no parameters
 abbrev pub has_none : List Name → Bool
 has_none [] = true
 has_none (p ∷ ps) = false
 
-abbrev pub top_judged : List Source → Judgement
+abbrev pub top_judged : List SourceUnit → Judgement
 top_judged [] = no_fault
 top_judged (u ∷ us) = demand (has_none u.stream.params) u.unit Top
 
@@ -147,12 +147,12 @@ abbrev pub tail_of : List ℕ → List ℕ
 tail_of [] = []
 tail_of (n ∷ ns) = ns
 
-abbrev pub numbered_from : ℕ → ParamProgram → List ℕ → List Source
+abbrev pub numbered_from : ℕ → ParamProgram → List ℕ → List SourceUnit
 numbered_from k [] sizes = []
 numbered_from k (u ∷ us) sizes = record { unit = k; bytes = head_or sizes; stream = u } ∷ numbered_from (suc k) us (tail_of sizes)
 
 -- the newest first
-abbrev pub sources_of : ParamProgram → List ℕ → List Source
+abbrev pub sources_of : ParamProgram → List ℕ → List SourceUnit
 sources_of p sizes = reverse (numbered_from 1 p sizes)
 
 -- what is made of a program whose units have so many bytes, or its first fault

@@ -8,7 +8,7 @@ use Rattle.streamit_text.specs.Tree.{Statement, Declare, Assign, Push, Discard, 
 use Rattle.streamit_model.specs.Meaning.{program_outputs}
 use Rattle.params_text.specs.Program.{Step, Add, Loop, Steps, End, Then, ParamWork, ParamFilter, Body, AFilter, APipeline, ASplitJoin, Declared, ParamProgram}
 use Rattle.params_model.specs.Meaning.{last_works, params_outputs}
-use Rattle.params_model.specs.Making.{Source, Made, last_made}
+use Rattle.params_model.specs.Making.{SourceUnit, Made, last_made}
 use Rattle.params_model.specs.Judged.{elaborated}
 use Rattle.params_model.specs.Written.{AreWritten, IsWrittenProgram}
 use Rattle.params_text.specs.Grammar as source
@@ -82,16 +82,16 @@ IsFine ps (AFilter t) = SparesFilter ps t
 IsFine ps (APipeline ss) = AreFitSteps ss
 IsFine ps (ASplitJoin d ss ws) = AreFitSteps ss
 
-abbrev pub AreFine : List Source → Type 0
+abbrev pub AreFine : List SourceUnit → Type 0
 AreFine [] = Unit {0}
 AreFine (u ∷ us) = IsFine u.stream.params u.stream.body × AreFine us
 
-abbrev pub streams_of : List Source → List Declared
+abbrev pub streams_of : List SourceUnit → List Declared
 streams_of us = map (λ u. u.stream) us
 
 -- the plain program that is made means what the program with parameters means
 abbrev pub ElaborationMeans : Type 0
-ElaborationMeans = (us : List Source) (m : Made) (xs : List ℤ) → AreFine us → last_made us ≡ Ok m → program_outputs m.units xs ≡ last_works (streams_of us) xs
+ElaborationMeans = (us : List SourceUnit) (m : Made) (xs : List ℤ) → AreFine us → last_made us ≡ Ok m → program_outputs m.units xs ≡ last_works (streams_of us) xs
 
 -- each number of an argument of a program is a value, as the grammar has it
 abbrev pub IsFitBody : Body → Type 0
@@ -113,7 +113,7 @@ ElaboratedMeans =
 -- it stands for what is made alone, so whatever program it stands for means what the program with parameters means
 abbrev pub MadeStands : Type 0
 MadeStands =
-    (us : List Source) (m : Made) → AreFine us → AreWritten us → last_made us ≡ Ok m
+    (us : List SourceUnit) (m : Made) → AreFine us → AreWritten us → last_made us ≡ Ok m
     → IsText (plain_text m.units) m.units
     × ((q : Program) (xs : List ℤ) → IsText (plain_text m.units) q → program_outputs q xs ≡ last_works (streams_of us) xs)
 

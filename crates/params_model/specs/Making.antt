@@ -34,7 +34,7 @@ abbrev pub demand : Bool → ℕ → Fault → Result (Unit {0}) Refusal
 demand b unit e = if b then Ok tt else Err (record { unit = unit; fault = e })
 
 -- a unit of the text: its number, and the bytes from its first token to its last
-pub record Source : Type 0 where
+pub record SourceUnit : Type 0 where
   pub unit : ℕ
   pub bytes : ℕ
   pub stream : Declared
@@ -52,7 +52,7 @@ abbrev pub nothing_made : Made
 nothing_made = record { units = []; from = []; begun = 0; bytes = 0; turns = 0 }
 
 -- an instance of u is begun, so deep
-abbrev pub begin : Source → ℕ → Made → Result Made Refusal
+abbrev pub begin : SourceUnit → ℕ → Made → Result Made Refusal
 begin u depth s =
     on_fine (demand (nat_lt s.begun 1024 && (nat_le depth 64 && nat_le (s.bytes + u.bytes) 1048576)) u.unit Budget) (λ x.
     Ok (record s { begun = suc s.begun; bytes = s.bytes + u.bytes }))
@@ -138,21 +138,21 @@ body_made add unit env (ASplitJoin d ss ws) s =
     on_fine (demand (are_ranged_option env ws) unit Range) (λ y. Ok (plain.ASplitJoin (dealing env d) c.0 (option_counts env ws), c.1))))
 
 -- the instance is made, as the next unit
-abbrev pub finish : Source → plain.Body × Made → Name × Made
+abbrev pub finish : SourceUnit → plain.Body × Made → Name × Made
 finish u r =
     let name = instance_name u.stream.name (suc (length r.1.units)) in
     (name, record r.1 { units = r.1.units ++ record { name = name; body = r.0 } ∷ []; from = r.1.from ++ u.unit ∷ [] })
 
-abbrev pub make : Adding → Source → ℕ → Environment → Made → Result (Name × Made) Refusal
+abbrev pub make : Adding → SourceUnit → ℕ → Environment → Made → Result (Name × Made) Refusal
 make add u depth env s0 = on_fine (begin u depth s0) (λ s. on_fine (body_made add u.unit env u.stream.body s) (λ r. Ok (finish u r)))
 
 -- an instance of the stream of this name, so deep; the streams are given with the newest first
-abbrev pub instance : List Source → ℕ → Adding
+abbrev pub instance : List SourceUnit → ℕ → Adding
 instance [] depth n zs s = Err (record { unit = 0; fault = UnknownName })
 instance (u ∷ us) depth n zs s =
     if name_eq u.stream.name n then make (instance us (suc depth)) u depth (bound u.stream.params zs) s else instance us depth n zs s
 
 -- the instances of the last stream, and of all that it adds
-abbrev pub last_made : List Source → Result Made Refusal
+abbrev pub last_made : List SourceUnit → Result Made Refusal
 last_made [] = Err (record { unit = 0; fault = UnknownName })
 last_made (u ∷ us) = on_fine (make (instance us 2) u 1 [] nothing_made) (λ x. Ok x.1)

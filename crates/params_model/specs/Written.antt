@@ -5,7 +5,7 @@ use Rattle.streamit_text.specs.Tree.{Expression}
 use Rattle.river_plan.specs.Forms.{Name}
 use Rattle.streamit_text.specs.Grammar.{stay_optional}
 use Rattle.params_text.specs.Program.{ParamWork, ParamFilter, Body, AFilter, APipeline, ASplitJoin, Declared, ParamProgram}
-use Rattle.params_model.specs.Making.{Source}
+use Rattle.params_model.specs.Making.{SourceUnit}
 use Rattle.params_text.specs.Params.{param_depth}
 use Rattle.params_text.specs.Told.{IsOwnName, AreOwnNames, IsTold, AllBy, OptionalBy}
 
@@ -38,6 +38,6 @@ abbrev pub IsWrittenProgram : ParamProgram → Type 0
 IsWrittenProgram [] = Unit {0}
 IsWrittenProgram (u ∷ us) = IsWrittenUnit u × IsWrittenProgram us
 
-abbrev pub AreWritten : List Source → Type 0
+abbrev pub AreWritten : List SourceUnit → Type 0
 AreWritten [] = Unit {0}
 AreWritten (u ∷ us) = IsWrittenUnit u.stream × AreWritten us

@@ -2,7 +2,7 @@
 ghost use Rattle.std.specs.Prelude.{◌≡◌};
 ghost use Rattle.streamit_text.specs.Tree.{expression};
 ghost use Rattle.streamit_model.specs.Meaning.{nought};
-ghost use Rattle.params_model.specs.Environment.{under, value, count};
+ghost use Rattle.params_model.specs.Environment.{under, value, count_in};
 ghost use Rattle.params_model.specs.Laws.{IsFit};
 
 use crate::Bindings;
@@ -44,7 +44,7 @@ pub fn value(known: &Bindings, c: &Expr) -> i64
 /// The value of a rate or a weight as a number; one below 0 counts as 0.
 pub fn count(known: &Bindings, c: &Expr) -> u64
     requires { IsFit (expression c.now) }
-    ensures { result ≡ count known.now (expression c.now) }
+    ensures { result ≡ count_in known.now (expression c.now) }
 {
     let value = value(known, c);
     if value < 0 { 0 } else { value as u64 }

@@ -4,7 +4,7 @@ ghost use Rattle.streamit_text.specs.Tree.{expression};
 ghost use Rattle.params_text.specs.Program.{dealing_of, rounds_of};
 ghost use Rattle.params_text.specs.Toks.{more_numbers, numbers_toks, weights_toks, dealing_toks, split_toks, join_toks, spaced};
 ghost use Rattle.params_model.specs.Constants.{AreFitOption, IsFitDealing};
-ghost use Rattle.params_model.specs.Environment.{counts, option_counts, dealing};
+ghost use Rattle.params_model.specs.Environment.{counts_in, option_counts, dealing};
 ghost use Rattle.params_model.specs.Laws.{AreFit};
 
 use crate::token::tokens;
@@ -24,7 +24,7 @@ fn more_numbers(
     to: &mut Bytes,
 ) -> Result<(), NoMemory>
     requires { AreFit (map expression cs.now) }
-    ensures { OnOk result (to.new ≡ to.old ++ spaced (more_numbers (counts known.now (map expression cs.now)))) }
+    ensures { OnOk result (to.new ≡ to.old ++ spaced (more_numbers (counts_in known.now (map expression cs.now)))) }
 {
     'cs: for each in cs {
         let number = Token::Number(count(known, each));
@@ -37,7 +37,7 @@ fn more_numbers(
 #[tactic(auto, using(crate::proofs::Texts::texts))]
 fn numbers(alloc: Global, known: &Bindings, cs: &[Expr], to: &mut Bytes) -> Result<(), NoMemory>
     requires { AreFit (map expression cs.now) }
-    ensures { OnOk result (to.new ≡ to.old ++ spaced (numbers_toks (counts known.now (map expression cs.now)))) }
+    ensures { OnOk result (to.new ≡ to.old ++ spaced (numbers_toks (counts_in known.now (map expression cs.now)))) }
 {
     let Some((first, rest)) = cs.split_first() else {
         return Ok(());

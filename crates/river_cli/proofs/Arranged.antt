@@ -7,7 +7,7 @@ use Rattle.river_plan.specs.declared.plan.Decl.{Decl}
 use Rattle.river_plan.specs.Forms.{decl_names}
 use Rattle.river_plan.specs.Names.{count, one_if}
 use Rattle.river_plan.proofs.NameLemmas.{name_same, name_sym}
-use Rattle.river_cli.specs.Inputs.{content_named, in_order, NamesPlace}
+use Rattle.river_cli.specs.Inputs.{content_named, contents_in_order, NamesPlace}
 use Rattle.river_cli.specs.declared.content.Content.{Content}
 use Rattle.river_cli.specs.declared.content.Content.TheVariants.{Rows as Plain}
 use Rattle.river_cli.specs.declared.command.InWord.{InWord}
@@ -53,11 +53,11 @@ no_name false n e = (refl, omega (arith, e))
 
 -- inputs of other names have what they had
 others-kept : (ds : List Decl) (ins : List InWord) (all all' : List Content) (name : List ℕ) → count name (decl_names ds) ≡ 0
-    → ((q : List ℕ) → name_eq name q ≡ false → content_named ins all' q ≡ content_named ins all q) → in_order ds ins all' ≡ in_order ds ins all
+    → ((q : List ℕ) → name_eq name q ≡ false → content_named ins all' q ≡ content_named ins all q) → contents_in_order ds ins all' ≡ contents_in_order ds ins all
 others-kept [] ins all all' name none same = refl
 others-kept (d ∷ ds) ins all all' name none same =
     let p = no_name (name_eq d.name name) (count name (decl_names ds)) none in
-    ap (λ t. t ∷ in_order ds ins all') (same d.name (name_sym name d.name ∙ p.0))
+    ap (λ t. t ∷ contents_in_order ds ins all') (same d.name (name_sym name d.name ∙ p.0))
     ∙ ap (λ t. content_named ins all d.name ∷ t) (others-kept ds ins all all' name p.1 same)
 
 fewer : (b : Bool) (n : ℕ) → b ≡ true → one_if b + n ≤ 1 → n ≡ 0
@@ -85,19 +85,19 @@ pub arranged-next : (ds : List Decl) (ins : List InWord) (all all' files files' 
     → d ≡ get_or ds i d
     → ((q : List ℕ) → count q (decl_names ds) ≤ 1) → x ≡ content_named ins all d.name
     → ((q : List ℕ) → name_eq d.name q ≡ false → content_named ins all' q ≡ content_named ins all q)
-    → files ++ in_order (drop i ds) ins all ≡ whole → files' ≡ files ++ x ∷ [] → files' ++ in_order (drop (i + 1) ds) ins all' ≡ whole
+    → files ++ contents_in_order (drop i ds) ins all ≡ whole → files' ≡ files ++ x ∷ [] → files' ++ contents_in_order (drop (i + 1) ds) ins all' ≡ whole
 arranged-next ds ins all all' files files' whole i d x lt is apart taken others so_far grown =
     let rest = drop (i + 1) ds in
     let left : drop i ds ≡ d ∷ rest = drop_more ds i d lt ∙ ap (λ y. y ∷ rest) (sym is) in
-    ap (λ l. l ++ in_order rest ins all') grown
+    ap (λ l. l ++ contents_in_order rest ins all') grown
     ∙ ap (λ l. (files ++ x ∷ []) ++ l) (others-kept rest ins all all' d.name (later_apart ds i d lt is apart) others)
-    ∙ append_assoc files (x ∷ []) (in_order rest ins all)
-    ∙ ap (λ c. files ++ (c ∷ in_order rest ins all)) taken
-    ∙ ap (λ l. files ++ in_order l ins all) (sym left)
+    ∙ append_assoc files (x ∷ []) (contents_in_order rest ins all)
+    ∙ ap (λ c. files ++ (c ∷ contents_in_order rest ins all)) taken
+    ∙ ap (λ l. files ++ contents_in_order l ins all) (sym left)
     ∙ so_far
 
 -- all inputs have it
-pub arranged-all : (ds : List Decl) (ins : List InWord) (all files whole : List Content) (i : ℕ) → length ds ≤ i → files ++ in_order (drop i ds) ins all ≡ whole
+pub arranged-all : (ds : List Decl) (ins : List InWord) (all files whole : List Content) (i : ℕ) → length ds ≤ i → files ++ contents_in_order (drop i ds) ins all ≡ whole
     → files ≡ whole
 arranged-all ds ins all files whole i le so_far =
-    sym (append-nil files) ∙ ap (λ l. files ++ in_order l ins all) (sym (drop_all i ds le)) ∙ so_far
+    sym (append-nil files) ∙ ap (λ l. files ++ contents_in_order l ins all) (sym (drop_all i ds le)) ∙ so_far

@@ -33,7 +33,7 @@ use Rattle.params_front.specs.declared.fault.ParamFault.TheVariants as params_fa
 use Rattle.params_front.proofs.Compiling.{compiled-readable as params-readable, plain_means, plans_mean as params_plans_mean}
 use Rattle.river_cli.specs.Contents.{AreContents}
 use Rattle.river_cli.specs.Inputs.{row_items, all_items}
-use Rattle.river_cli.specs.Source.{river_source, streamit_source, params_source, saw_source, values, told, IsPlanOf, IsCompiled}
+use Rattle.river_cli.specs.Source.{river_source, streamit_source, params_source, saw_source, values, source_or_refused, IsPlanOf, IsCompiled}
 use Rattle.std.proofs.lemmas.List.{take_all}
 use Rattle.saw_model.specs.Plan.{as_items as saw_items}
 use Rattle.saw_model.specs.Meaning.{width}
@@ -53,12 +53,12 @@ use Rattle.river_cli.specs.declared.content.Content.TheVariants.{Rows as Plain, 
 
 -- the plan that was read of a River text, and its capacities, stand for what the text means
 pub river-compiled : (meant : Result TextForm RiverFault) (p : PlanForm) (caps : List Cap) → meant ≡ Ok (record { plan = p; caps = caps }) → AreCaps caps
-    → StandsFor IsCompiled (told river_source river_words meant) (record { plan = p; program = program.River caps })
+    → StandsFor IsCompiled (source_or_refused river_source river_words meant) (record { plan = p; program = program.River caps })
 river-compiled meant p caps is fit =
     rw is (record { plan = record { plan = refl; inputs = refl; outputs = refl; tables = refl; means = λ rows t. refl }; program = tt; caps = refl; fit = fit })
 
 pub river-refused : (meant : Result TextForm RiverFault) (f : RiverFault) (text : List _) → (f ≡ river_fault.NoMemory → ⊥) → river.Refused meant f
-    → text ≡ program_refused (river_words f) → told river_source river_words meant ≡ Err text
+    → text ≡ program_refused (river_words f) → source_or_refused river_source river_words meant ≡ Err text
 river-refused meant (river_fault.Text refusal) text not is says = rw (is, says) refl
 river-refused meant (river_fault.Plan fault) text not is says = rw (is, says) refl
 river-refused meant river_fault.NoMemory text not is says = absurd (not refl)
@@ -91,10 +91,10 @@ program_plan text a e = record { plan = refl; inputs = refl; outputs = refl; tab
 
 -- the plan that was compiled is the program's, and so is the tree
 pub streamit-compiled : (text : List ℕ) (t : StreamitProgram) (plan : PlanForm) → Plans (compiled text) (streamit_tree.program_of t.units.items) plan
-    → StandsFor IsCompiled (told streamit_source streamit_words (compiled text)) (record { plan = plan; program = program.Streamit t })
+    → StandsFor IsCompiled (source_or_refused streamit_source streamit_words (compiled text)) (record { plan = plan; program = program.Streamit t })
 streamit-compiled text t plan (s, is, made) =
     let a : Accepted = record { program = streamit_tree.program_of t.units.items; stream = s } in
-    subst (λ (r : Result Accepted StreamitFault). StandsFor IsCompiled (told streamit_source streamit_words r) (record { plan = plan; program = program.Streamit t })) (sym is)
+    subst (λ (r : Result Accepted StreamitFault). StandsFor IsCompiled (source_or_refused streamit_source streamit_words r) (record { plan = plan; program = program.Streamit t })) (sym is)
     (record {
       plan = subst (IsPlanOf (streamit_source a)) (sym made) (program_plan text a is);
       program = record { readable = compiled-readable text a is; means = λ files. refl };
@@ -103,7 +103,7 @@ streamit-compiled text t plan (s, is, made) =
     })
 
 pub streamit-refused : (meant : Result Accepted StreamitFault) (f : StreamitFault) (text : List _) → (f ≡ streamit_fault.NoMemory → ⊥) → Refused meant f
-    → text ≡ program_refused (streamit_words f) → told streamit_source streamit_words meant ≡ Err text
+    → text ≡ program_refused (streamit_words f) → source_or_refused streamit_source streamit_words meant ≡ Err text
 streamit-refused meant (streamit_fault.Text refusal) text not is says = rw (is, says) refl
 streamit-refused meant (streamit_fault.UnknownName unit) text not is says = rw (is, says) refl
 streamit-refused meant (streamit_fault.NameTwice unit) text not is says = rw (is, says) refl
@@ -128,10 +128,10 @@ params_mean text a e (Plain r ∷ []) t =
 -- the plan that was compiled is the program's, and the plain program means what the program means
 pub params-compiled : (text : List ℕ) (tree : params_tree.ParamProgram) (t : StreamitProgram) (plan : PlanForm)
     → params.Plans (params.compiled text) tree (streamit_tree.program_of t.units.items) plan
-    → StandsFor IsCompiled (told params_source params_words (params.compiled text)) (record { plan = plan; program = program.Streamit t })
+    → StandsFor IsCompiled (source_or_refused params_source params_words (params.compiled text)) (record { plan = plan; program = program.Streamit t })
 params-compiled text tree t plan (s, is, made) =
     let a : params.Accepted = record { tree = tree; program = streamit_tree.program_of t.units.items; stream = s } in
-    subst (λ (r : Result params.Accepted ParamFault). StandsFor IsCompiled (told params_source params_words r) (record { plan = plan; program = program.Streamit t })) (sym is)
+    subst (λ (r : Result params.Accepted ParamFault). StandsFor IsCompiled (source_or_refused params_source params_words r) (record { plan = plan; program = program.Streamit t })) (sym is)
     (record {
       plan = subst (IsPlanOf (params_source a)) (sym made) (record { plan = refl; inputs = refl; outputs = refl; tables = refl; means = params_mean text a is });
       program = record {
@@ -143,7 +143,7 @@ params-compiled text tree t plan (s, is, made) =
     })
 
 pub params-refused : (meant : Result params.Accepted ParamFault) (f : ParamFault) (text : List _) → (f ≡ params_fault.NoMemory → ⊥) → params.Refused meant f
-    → text ≡ program_refused (params_words f) → told params_source params_words meant ≡ Err text
+    → text ≡ program_refused (params_words f) → source_or_refused params_source params_words meant ≡ Err text
 params-refused meant (params_fault.Text refusal) text not is says = rw (is, says) refl
 params-refused meant (params_fault.UnknownName unit) text not is says = rw (is, says) refl
 params-refused meant (params_fault.NameTwice unit) text not is says = rw (is, says) refl
@@ -178,10 +178,11 @@ plan_means text a e (Plain r ∷ []) t = ap (λ l. meaning (saw.plan_in a) (l �
 
 -- and so does what was compiled of a Sawzall text
 pub saw-compiled : (text : List ℕ) (t : SawProgram) (plan : PlanForm) → saw.Plans (saw.compiled text) (unit_forms t.units.items) plan
-    → StandsFor IsCompiled (told saw_source saw_words (saw.compiled text)) (record { plan = plan; program = program.Sawzall t })
+    → StandsFor IsCompiled (source_or_refused saw_source saw_words (saw.compiled text)) (record { plan = plan; program = program.Sawzall t })
 saw-compiled text t plan (read, is, made) =
     let a : saw.Accepted = record { units = unit_forms t.units.items; read = read } in
-    subst (λ (r : Result saw.Accepted SawFault). StandsFor IsCompiled (told saw_source saw_words r) (record { plan = plan; program = program.Sawzall t })) (sym is)
+    subst (λ (r : Result saw.Accepted SawFault). StandsFor IsCompiled (source_or_refused saw_source saw_words r) (record { plan = plan; program = program.Sawzall t }))
+    (sym is)
     (record {
       plan = subst (IsPlanOf (saw_source a)) (sym made) (record { plan = refl; inputs = refl; outputs = refl; tables = refl; means = plan_means text a is });
       program = record { accepted = (read, compiled-judged text a is); valued = compiled-valued text a is; means = λ files. refl };
@@ -190,7 +191,7 @@ saw-compiled text t plan (read, is, made) =
     })
 
 pub saw-refused : (meant : Result saw.Accepted SawFault) (f : SawFault) (text : List _) → (f ≡ saw_fault.NoMemory → ⊥) → saw.Refused meant f
-    → text ≡ program_refused (saw_words f) → told saw_source saw_words meant ≡ Err text
+    → text ≡ program_refused (saw_words f) → source_or_refused saw_source saw_words meant ≡ Err text
 saw-refused meant (saw_fault.Text refusal) text not is says = rw (is, says) refl
 saw-refused meant (saw_fault.UnknownName unit) text not is says = rw (is, says) refl
 saw-refused meant (saw_fault.NameTwice unit) text not is says = rw (is, says) refl

@@ -22,7 +22,7 @@ use Rattle.csv_streams.specs.declared.fault.InFault.{InFault}
 use Rattle.csv_streams.proofs.TimedWritten.{timed_have_width}
 use Rattle.csv_streams.proofs.WrittenRows.{read_rows-width}
 use Rattle.river_cli.specs.Contents.{IsContent, AreContents}
-use Rattle.river_cli.specs.Inputs.{names, names_fit, or_told, read_as, content_of, content_reader, file_read, with_first, all_read, content_named, in_order}
+use Rattle.river_cli.specs.Inputs.{names, names_fit, or_told, read_as, file_content, content_reader, file_read, with_first, all_read, content_named, contents_in_order}
 use Rattle.river_cli.specs.declared.content.Content.{Content}
 use Rattle.river_cli.specs.declared.content.Content.TheVariants.{Rows as Plain, Timed}
 use Rattle.river_cli.specs.declared.command.InWord.{InWord}
@@ -35,7 +35,7 @@ was_read : {A : Type 0} (content : A → Content) (r : Result A InFault) (x : Co
 was_read content (Ok y) x e = let is : x ≡ content y = cc in (y, refl, is)
 was_read content (Err f) x e = cc
 
-content_is : (t : QueueType) (layout : Layout) (bytes : List ℕ) (x : Content) → IsRowsOrStream t → content_of t layout bytes ≡ Ok x → IsContent t x
+content_is : (t : QueueType) (layout : Layout) (bytes : List ℕ) (x : Content) → IsRowsOrStream t → file_content t layout bytes ≡ Ok x → IsContent t x
 content_is (FlatOf (Rows w)) layout bytes x o e =
     let (rs, read, is) = was_read Plain (rows_of_file bytes w layout.header layout.more) x e in
     subst (IsContent (FlatOf (Rows w))) (sym is) (read_rows-width bytes w layout.header layout.more rs read)
@@ -63,11 +63,11 @@ module _ (decls : List Decl) (layout : Layout) where
   named_content (w ∷ ins) [] all name same e lt o = absurd (omega (arith, same))
   named_content (w ∷ ins) (b ∷ files) all name same e lt o =
       let (x, others, first, later, parts) = first_and_others (file_read (content_reader decls layout) w b) (all_read (content_reader decls layout) ins files) all e in
-      let read : content_of (kind_of decls w.name) layout b ≡ Ok x = told_content w.name (content_of (kind_of decls w.name) layout b) x first in
+      let read : file_content (kind_of decls w.name) layout b ≡ Ok x = told_content w.name (file_content (kind_of decls w.name) layout b) x first in
       subst (λ l. IsContent (kind_of decls name) (content_named (w ∷ ins) l name)) (sym parts)
       (⊎_elim
       (λ c. subst (λ (t : Bool). IsContent (kind_of decls name) (if t then x else content_named ins others name)) (sym c.1)
-      (content_is (kind_of decls name) layout b x o (ap (λ n. content_of (kind_of decls n) layout b) (sym c.0) ∙ read)))
+      (content_is (kind_of decls name) layout b x o (ap (λ n. file_content (kind_of decls n) layout b) (sym c.0) ∙ read)))
       (λ c. subst (λ (t : Bool). IsContent (kind_of decls name) (if t then x else content_named ins others name)) (sym c.1)
       (let none = ap one_if c.1 in named_content ins files others name (omega (arith, same)) later (omega (arith, none, lt)) o))
       (cases_name w.name name))
@@ -108,7 +108,7 @@ inputs-apart p v q =
 
 module _ (decls : List Decl) (layout : Layout) (ins : List InWord) (files : List (List ℕ)) (all : List Content)
     (same : length files ≡ length ins) (read : all_read (content_reader decls layout) ins files ≡ Ok all) where
-  each_content : (ds : List Decl) → Known (kind_of decls) ds → All IsOuter ds → All (λ d. IsNamed ins d) ds → AreContents ds (in_order ds ins all)
+  each_content : (ds : List Decl) → Known (kind_of decls) ds → All IsOuter ds → All (λ d. IsNamed ins d) ds → AreContents ds (contents_in_order ds ins all)
   each_content [] k o n = tt
   each_content (d ∷ ds) k o n =
       let outer = (All-head IsOuter d ds o).1 in (
@@ -121,13 +121,13 @@ module _ (decls : List Decl) (layout : Layout) (ins : List InWord) (files : List
 pub read-contents : (decls : List Decl) (layout : Layout) (ins : List InWord) (files : List (List ℕ)) (result : Result (List Content) Stop) → All IsOuter decls
     → ((q : Name) → count q (decl_names decls) ≤ 1)
     → names_fit decls ins ≡ Ok tt → length files ≡ length ins
-    → AnswersAs (λ all contents. contents ≡ in_order decls ins all) (all_read (content_reader decls layout) ins files) result
+    → AnswersAs (λ all contents. contents ≡ contents_in_order decls ins all) (all_read (content_reader decls layout) ins files) result
     → IfOk result (AreContents decls)
 read-contents decls layout ins files (Err s) o apart fit same told = tt
 read-contents decls layout ins files (Ok contents) o apart fit same told = by (all_read (content_reader decls layout) ins files) refl told
   where
     by : (r : Result (List Content) (List ℕ)) → all_read (content_reader decls layout) ins files ≡ r
-        → StandsFor (λ all found. found ≡ in_order decls ins all) r contents → AreContents decls contents
+        → StandsFor (λ all found. found ≡ contents_in_order decls ins all) r contents → AreContents decls contents
     by (Ok all) is told =
         subst (AreContents decls) (sym told) (each_content decls layout ins files all same is decls (known_all decls apart) o (all-named decls ins fit))
     by (Err text) is told = absurd told

@@ -25,7 +25,7 @@ use Rattle.cql_front.proofs.Fronts.{plans_mean}
 use Rattle.slow_cql.proofs.Accepted.{accepted_columns}
 use Rattle.river_cli.specs.Contents.{AreContents}
 use Rattle.river_cli.specs.Inputs.{timed_files, items_at, all_items}
-use Rattle.river_cli.specs.Source.{asked_names, cql_source, told, IsPlanOf, IsCompiled}
+use Rattle.river_cli.specs.Source.{asked_names, cql_source, source_or_refused, IsPlanOf, IsCompiled}
 use Rattle.river_cli.specs.Text.{program_refused}
 use Rattle.river_cli.specs.declared.compile.Program.TheVariants as program
 use Rattle.river_cli.specs.declared.content.Content.{Content}
@@ -75,9 +75,10 @@ program_plan text p e = record { plan = refl; inputs = refl; outputs = outputs-a
 
 -- the program and the plan that were compiled stand for what the text means
 pub cql-compiled : (text : List ℕ) (t : CqlProgram) (plan : PlanForm) → Plans (compiled text) (program_of t) plan
-    → StandsFor IsCompiled (told cql_source cql_words (compiled text)) (record { plan = plan; program = program.Cql t })
+    → StandsFor IsCompiled (source_or_refused cql_source cql_words (compiled text)) (record { plan = plan; program = program.Cql t })
 cql-compiled text t plan h =
-    subst (λ (r : Result (List Part) CqlFault). StandsFor IsCompiled (told cql_source cql_words r) (record { plan = plan; program = program.Cql t })) (sym h.accepted)
+    subst (λ (r : Result (List Part) CqlFault). StandsFor IsCompiled (source_or_refused cql_source cql_words r) (record { plan = plan; program = program.Cql t }))
+    (sym h.accepted)
     (record {
       plan = subst (IsPlanOf (cql_source (program_of t))) (sym h.planned) (program_plan text (program_of t) h.accepted);
       program = record { columns = accepted_columns text (program_of t) h.accepted; inputs = refl; means = λ files. refl };
@@ -87,7 +88,7 @@ cql-compiled text t plan h =
 
 -- a text that is refused is told its fault
 pub cql-refused : (meant : Result (List Part) CqlFault) (f : CqlFault) (text : List _) → (f ≡ cql_fault.NoMemory → ⊥) → Refused meant f
-    → text ≡ program_refused (cql_words f) → told cql_source cql_words meant ≡ Err text
+    → text ≡ program_refused (cql_words f) → source_or_refused cql_source cql_words meant ≡ Err text
 cql-refused meant (cql_fault.Text refusal) text not is says = rw (is, says) refl
 cql-refused meant (cql_fault.UnknownStream unit) text not is says = rw (is, says) refl
 cql-refused meant (cql_fault.UnknownField unit) text not is says = rw (is, says) refl

@@ -9,7 +9,7 @@ use Rattle.river_order.specs.Decides.{Stops}
 use Rattle.river_order.specs.declared.stop.Stop.{Stop}
 use Rattle.river_order.proofs.Comes.{Comes-same, Comes-on}
 use Rattle.river_order.proofs.Turns.{Stops-later}
-use Rattle.river_cli.specs.Inputs.{fetches}
+use Rattle.river_cli.specs.Inputs.{fetch_each}
 use Rattle.river_cli.specs.Text.{large_input}
 use Rattle.river_cli.specs.declared.command.InWord.{InWord}
 
@@ -19,33 +19,33 @@ after files next rest = next (files ++ rest)
 
 -- the points come to the fetches of the words that are left
 abbrev pub ComesTo : List InWord → Option Held → List (List ℕ) → List InWord → Type 0
-ComesTo ins held files left = (next : List (List ℕ) → Order) → Comes (fetches ins next) held (fetches left (after files next))
+ComesTo ins held files left = (next : List (List ℕ) → Order) → Comes (fetch_each ins next) held (fetch_each left (after files next))
 
 -- before the first file all of them are to come
 pub comes-first : (ins : List InWord) (held : Option Held) → ComesTo ins held [] ins
-comes-first ins held next = Comes-same (fetches ins next) held
+comes-first ins held next = Comes-same (fetch_each ins next) held
 
 -- one file more
 pub comes-more : (ins : List InWord) (held : Option Held) (files : List (List ℕ)) (w : InWord) (left : List InWord) (bytes : List ℕ)
     → ComesTo ins held files (w ∷ left) → ((next : List ℕ → Order) → Comes (Fetch w.file 67108864 (large_input w.name) next) held (next bytes))
     → ComesTo ins held (files ++ bytes ∷ []) left
-unfolding fetches
+unfolding fetch_each
 comes-more ins held files w left bytes far one next =
     let same : after (files ++ bytes ∷ []) next ≡ (λ rest. next (files ++ bytes ∷ rest)) = funext (after (files ++ bytes ∷ []) next) (λ rest. next (files ++ bytes ∷ rest)) (λ rest. ap next (append_assoc files (bytes ∷ []) rest)) in
-    let on = Comes-on (fetches ins next) (fetches (w ∷ left) (after files next)) (fetches left (λ rest. next (files ++ bytes ∷ rest))) held (far next) (one (λ b. fetches left (λ rest. next (files ++ b ∷ rest)))) in
-    subst (λ (k : List (List ℕ) → Order). Comes (fetches ins next) held (fetches left k)) (sym same) on
+    let on = Comes-on (fetch_each ins next) (fetch_each (w ∷ left) (after files next)) (fetch_each left (λ rest. next (files ++ bytes ∷ rest))) held (far next) (one (λ b. fetch_each left (λ rest. next (files ++ b ∷ rest)))) in
+    subst (λ (k : List (List ℕ) → Order). Comes (fetch_each ins next) held (fetch_each left k)) (sym same) on
 
 -- all files
 pub comes-all : (ins : List InWord) (held : Option Held) (files : List (List ℕ)) → ComesTo ins held files [] → (next : List (List ℕ) → Order)
-    → Comes (fetches ins next) held (next files)
-unfolding fetches
-comes-all ins held files far next = subst (λ (l : List (List ℕ)). Comes (fetches ins next) held (next l)) (append-nil files) (far next)
+    → Comes (fetch_each ins next) held (next files)
+unfolding fetch_each
+comes-all ins held files far next = subst (λ (l : List (List ℕ)). Comes (fetch_each ins next) held (next l)) (append-nil files) (far next)
 
 -- the fetch of the next file stops the whole
 pub stops-more : (ins : List InWord) (held : Option Held) (early late : Type 0) → (late → early)
     → (files : List (List ℕ)) (w : InWord) (left : List InWord) (s : Stop)
     → ComesTo ins held files (w ∷ left) → ((next : List ℕ → Order) → Stops (Some (Fetch w.file 67108864 (large_input w.name) next)) held late s)
-    → (next : List (List ℕ) → Order) → Stops (Some (fetches ins next)) held early s
-unfolding fetches
+    → (next : List (List ℕ) → Order) → Stops (Some (fetch_each ins next)) held early s
+unfolding fetch_each
 stops-more ins held early late sooner files w left s far one next =
-    Stops-later (fetches ins next) (fetches (w ∷ left) (after files next)) held early late sooner s (far next) (one (λ b. fetches left (λ rest. next (files ++ b ∷ rest))))
+    Stops-later (fetch_each ins next) (fetch_each (w ∷ left) (after files next)) held early late sooner s (far next) (one (λ b. fetch_each left (λ rest. next (files ++ b ∷ rest))))

@@ -18,8 +18,8 @@ use Rattle.river_plan.specs.declared.plan.Decl.{Decl}
 use Rattle.river_plan.specs.Faults.{HasWidth, IsOuter}
 use Rattle.river_plan.specs.Forms.{decl_names}
 use Rattle.river_plan.specs.Names.{count}
-use Rattle.river_cli.specs.Inputs.{names, unknown, missing, first_told, names_fit, Reader, file_read, fetches, width_named, content_reader, with_first}
-use Rattle.river_cli.specs.Inputs.{all_read, content_named, in_order, of_inputs}
+use Rattle.river_cli.specs.Inputs.{names, unknown, missing, first_told, names_fit, Reader, file_read, fetch_each, width_named, content_reader, with_first}
+use Rattle.river_cli.specs.Inputs.{all_read, content_named, contents_in_order, of_inputs}
 use Rattle.river_cli.specs.Text.{unknown_input, missing_input}
 use Rattle.river_cli.specs.declared.content.Content.{Content}
 use Rattle.river_cli.specs.declared.content.Content.TheVariants.{Rows as Plain}
@@ -190,7 +190,7 @@ module _ (decls : List Decl) (ins : List InWord) (layout : Layout) (held : Optio
 
   -- after the names: the files are fetched, and then read
   abbrev from_files : (List Content → Order) → Order
-  from_files next = fetches ins (λ files. past (all_read reader ins files) (λ all. next (in_order decls ins all)))
+  from_files next = fetch_each ins (λ files. past (all_read reader ins files) (λ all. next (contents_in_order decls ins all)))
 
   past_names : (next : List Content → Order) → names_fit decls ins ≡ Ok tt → of_inputs decls ins layout next ≡ from_files next
   unfolding of_inputs
@@ -203,29 +203,29 @@ module _ (decls : List Decl) (ins : List InWord) (layout : Layout) (held : Optio
   names-stop rose s told next = past-refused (names_fit decls ins) s held rose told (λ _. from_files next)
 
   -- a fetch stops
-  pub fetch-stop : (rose : Type 0) (s : Stop) → names_fit decls ins ≡ Ok tt → ((next : List (List ℕ) → Order) → Stops (Some (fetches ins next)) held rose s)
+  pub fetch-stop : (rose : Type 0) (s : Stop) → names_fit decls ins ≡ Ok tt → ((next : List (List ℕ) → Order) → Stops (Some (fetch_each ins next)) held rose s)
       → (next : List Content → Order) → Stops (Some (of_inputs decls ins layout next)) held rose s
   fetch-stop rose s fit stops next =
-      subst (λ (o : Order). Stops (Some o) held rose s) (sym (past_names next fit)) (stops (λ files. past (all_read reader ins files) (λ all. next (in_order decls ins all))))
+      subst (λ (o : Order). Stops (Some o) held rose s) (sym (past_names next fit)) (stops (λ files. past (all_read reader ins files) (λ all. next (contents_in_order decls ins all))))
 
   -- the files are read
   read_passes : (rose : Type 0) (files : List (List ℕ)) (result : Result (List Content) Stop)
-      → AnswersAs (λ all rows. rows ≡ in_order decls ins all) (all_read reader ins files) result
-      → Passes (λ next. past (all_read reader ins files) (λ all. next (in_order decls ins all))) held rose result
+      → AnswersAs (λ all rows. rows ≡ contents_in_order decls ins all) (all_read reader ins files) result
+      → Passes (λ next. past (all_read reader ins files) (λ all. next (contents_in_order decls ins all))) held rose result
   read_passes rose files (Ok rows) told = found (all_read reader ins files) refl told
     where
-      found : (r : Result (List Content) (List ℕ)) → all_read reader ins files ≡ r → StandsFor (λ all rows. rows ≡ in_order decls ins all) r rows
-          → (next : List Content → Order) → Comes (past r (λ all. next (in_order decls ins all))) held (next rows)
+      found : (r : Result (List Content) (List ℕ)) → all_read reader ins files ≡ r → StandsFor (λ all rows. rows ≡ contents_in_order decls ins all) r rows
+          → (next : List Content → Order) → Comes (past r (λ all. next (contents_in_order decls ins all))) held (next rows)
       found (Ok all) is told next =
-          subst (λ l. Comes (next (in_order decls ins all)) held (next l)) (sym told) (Comes-same (next (in_order decls ins all)) held)
+          subst (λ l. Comes (next (contents_in_order decls ins all)) held (next l)) (sym told) (Comes-same (next (contents_in_order decls ins all)) held)
       found (Err text) is told next = absurd told
-  read_passes rose files (Err s) told = λ next. past-refused (all_read reader ins files) s held rose told (λ all. next (in_order decls ins all))
+  read_passes rose files (Err s) told = λ next. past-refused (all_read reader ins files) s held rose told (λ all. next (contents_in_order decls ins all))
 
   -- what is read of the files passes on as the order of points says
   pub files-pass : (rose : Type 0) (files : List (List ℕ)) (result : Result (List Content) Stop) → names_fit decls ins ≡ Ok tt
-      → ((next : List (List ℕ) → Order) → Comes (fetches ins next) held (next files))
-      → AnswersAs (λ all rows. rows ≡ in_order decls ins all) (all_read reader ins files) result → Passes (of_inputs decls ins layout) held rose result
+      → ((next : List (List ℕ) → Order) → Comes (fetch_each ins next) held (next files))
+      → AnswersAs (λ all rows. rows ≡ contents_in_order decls ins all) (all_read reader ins files) result → Passes (of_inputs decls ins layout) held rose result
   files-pass rose files (Ok rows) fit far told = λ next.
-      subst (λ (o : Order). Comes o held (next rows)) (sym (past_names next fit)) (then-passes (fetches ins) (λ f next. past (all_read reader ins f) (λ all. next (in_order decls ins all))) held rose rose (λ r. r) files (Ok rows) far (read_passes rose files (Ok rows) told) next)
+      subst (λ (o : Order). Comes o held (next rows)) (sym (past_names next fit)) (then-passes (fetch_each ins) (λ f next. past (all_read reader ins f) (λ all. next (contents_in_order decls ins all))) held rose rose (λ r. r) files (Ok rows) far (read_passes rose files (Ok rows) told) next)
   files-pass rose files (Err s) fit far told = λ next.
-      subst (λ (o : Order). Stops (Some o) held rose s) (sym (past_names next fit)) (then-passes (fetches ins) (λ f next. past (all_read reader ins f) (λ all. next (in_order decls ins all))) held rose rose (λ r. r) files (Err s) far (read_passes rose files (Err s) told) next)
+      subst (λ (o : Order). Stops (Some o) held rose s) (sym (past_names next fit)) (then-passes (fetch_each ins) (λ f next. past (all_read reader ins f) (λ all. next (contents_in_order decls ins all))) held rose rose (λ r. r) files (Err s) far (read_passes rose files (Err s) told) next)

@@ -18,7 +18,7 @@ use Rattle.river_script.specs.Meaning.{rewritten}
 use Rattle.river_cli.specs.Contents.{IsContent, AreContents}
 use Rattle.river_cli.specs.Load.{load_program, load_script, load_record, load_records, load_files, is_of_pairs, takes_pairs}
 use Rattle.river_cli.specs.Points.{with_plan, then_made, load_source, loaded, of_command}
-use Rattle.river_cli.specs.Source.{Source, source_of, IsPlanOf, IsOf, IsCompiled, printed}
+use Rattle.river_cli.specs.Source.{SourceProgram, source_of, IsPlanOf, IsCompiledAs, IsCompiled, printed}
 use Rattle.river_cli.specs.declared.compile.Compiled.{Compiled}
 use Rattle.river_cli.specs.declared.command.Command.TheVariants.{Load}
 use Rattle.river_cli.specs.declared.command.Lang.TheVariants.{Sawzall}
@@ -72,17 +72,18 @@ program-refused s told = refused_first (source_of Sawzall load_program) (λ sour
 
 -- its script was applied, or refused
 pub script-answers : (c : Compiled) (result : Result PlanForm Stop) → StandsFor IsCompiled (source_of Sawzall load_program) c
-    → ((source : Source) → IsOf c.program source c.plan → AnswersAs (IsOf c.program) (with_plan source (rewritten source.plan load_script)) result)
+    → ((source : SourceProgram) → IsCompiledAs c.program source c.plan → AnswersAs (IsCompiledAs c.program) (with_plan source (rewritten source.plan load_script)) result)
     → AnswersAs IsPlanOf load_source result
 unfolding load_source
 script-answers c result told later = by (source_of Sawzall load_program) result told later
   where
-    plan_of : (found : Result Source (List ℕ)) (plan : PlanForm) → StandsFor (IsOf c.program) found plan → StandsFor IsPlanOf found plan
+    plan_of : (found : Result SourceProgram (List ℕ)) (plan : PlanForm) → StandsFor (IsCompiledAs c.program) found plan → StandsFor IsPlanOf found plan
     plan_of (Ok later) plan is = is.plan
     plan_of (Err text) plan is = is
 
-    by : (found : Result Source (List ℕ)) (result : Result PlanForm Stop) → StandsFor IsCompiled found c
-        → ((source : Source) → IsOf c.program source c.plan → AnswersAs (IsOf c.program) (with_plan source (rewritten source.plan load_script)) result)
+    by : (found : Result SourceProgram (List ℕ)) (result : Result PlanForm Stop) → StandsFor IsCompiled found c
+        → ((source : SourceProgram) → IsCompiledAs c.program source c.plan
+        → AnswersAs (IsCompiledAs c.program) (with_plan source (rewritten source.plan load_script)) result)
         → AnswersAs IsPlanOf (then_made found (λ source. with_plan source (rewritten source.plan load_script))) result
     by (Ok source) (Ok plan) told later = plan_of (with_plan source (rewritten source.plan load_script)) plan (later source told)
     by (Ok source) (Err s) told later = later source told
@@ -90,7 +91,7 @@ script-answers c result told later = by (source_of Sawzall load_program) result 
 
 -- ---- WHAT IS PRINTED
 
-abbrev printed_of : ℕ → Source → Result (List ℕ) (List ℕ)
+abbrev printed_of : ℕ → SourceProgram → Result (List ℕ) (List ℕ)
 printed_of n source = then_made (load_files n source.inputs) (λ files. Ok (printed source false files))
 
 -- there is no plan
@@ -104,7 +105,7 @@ module _ (n : ℕ) (plan : PlanForm) (is : StandsFor IsPlanOf load_source plan) 
   unfolding loaded
   files-refused s told = by load_source is
     where
-      by : (found : Result Source (List ℕ)) → StandsFor IsPlanOf found plan → Refuses (then_made found (printed_of n)) s
+      by : (found : Result SourceProgram (List ℕ)) → StandsFor IsPlanOf found plan → Refuses (then_made found (printed_of n)) s
       by (Ok source) of =
           refused_first (load_files n source.inputs) (λ files. Ok (printed source false files)) s
           (subst (λ (ds : List Decl). Refuses (load_files n ds) s) of.inputs told)
@@ -112,11 +113,11 @@ module _ (n : ℕ) (plan : PlanForm) (is : StandsFor IsPlanOf load_source plan) 
 
   -- they are, and the program's meaning is printed
   pub files-printed : (files : List Content) (text : List ℕ) → load_files n plan.inputs ≡ Ok files
-      → ((source : Source) → IsPlanOf source plan → text ≡ printed source false files) → loaded n ≡ Ok text
+      → ((source : SourceProgram) → IsPlanOf source plan → text ≡ printed source false files) → loaded n ≡ Ok text
   unfolding loaded
   files-printed files text told says = by load_source is
     where
-      by : (found : Result Source (List ℕ)) → StandsFor IsPlanOf found plan → then_made found (printed_of n) ≡ Ok text
+      by : (found : Result SourceProgram (List ℕ)) → StandsFor IsPlanOf found plan → then_made found (printed_of n) ≡ Ok text
       by (Ok source) of =
           let same : load_files n source.inputs ≡ Ok files = subst (λ (ds : List Decl). load_files n ds ≡ Ok files) of.inputs told in
           ap (λ (r : Result (List Content) (List ℕ)). then_made r (λ files. Ok (printed source false files))) same

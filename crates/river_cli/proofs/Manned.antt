@@ -5,9 +5,9 @@ use Rattle.std.specs.Str.{bytes_eq}
 use Rattle.std.proofs.lemmas.Bool.Decides.{nat_tests}
 use Rattle.csv_streams.specs.Number.{value_after}
 use Rattle.river_cli.specs.Commands.{with_header, with_counts, with_script, with_workers, with_cap, with_input, IsManned}
-use Rattle.river_cli.specs.Phrases.{Phrase, option, script, input, number_ahead, numbered, phrase_of, one_more, phrases, made, are_apart, with_phrases}
+use Rattle.river_cli.specs.Phrases.{Phrase, option, script, input, number_ahead, with_number, phrase_of, one_more, phrases, made, are_apart, with_phrases}
 use Rattle.river_cli.specs.Sentences.{plain, with_words, asked, asked_load, asked_upgrade, asked_two, command_of}
-use Rattle.river_cli.specs.Words.{lang_named, is_file, is_number, within, number_to, in_word_of}
+use Rattle.river_cli.specs.Words.{lang_named, is_file, is_number_word, up_to_most, number_to, in_word_of}
 use Rattle.river_cli.specs.declared.command.Command.{Command}
 use Rattle.river_cli.specs.declared.command.Command.TheVariants.{Run, Plan, Mean, Upgrade, Load}
 use Rattle.river_cli.specs.declared.command.InWord.{InWord}
@@ -69,7 +69,7 @@ input_keeps (Some w) = by
 
 -- the numbers behind options are within their bounds
 number_within : (most : ℕ) (word : List ℕ) (n : ℕ) → number_to most word ≡ Some n → (1 ≤ n) × (n ≤ most)
-number_within most word n e = by (is_number word) refl e
+number_within most word n e = by (is_number_word word) refl e
   where
     value : ℕ
     value = value_after 0 word
@@ -80,7 +80,7 @@ number_within most word n e = by (is_number word) refl e
         (grind (arith, nat_tests, t, same), grind (arith, nat_tests, t, same))
     fits false t e = cc e
 
-    by : (b : Bool) → is_number word ≡ b → (if b then within most value else None) ≡ Some n → (1 ≤ n) × (n ≤ most)
+    by : (b : Bool) → is_number_word word ≡ b → (if b then up_to_most most value else None) ≡ Some n → (1 ≤ n) × (n ≤ most)
     by true t e = fits (nat_lt 0 value && nat_le value most) refl e
     by false t e = cc e
 
@@ -88,7 +88,7 @@ ahead_within : (most : ℕ) (words : List (List ℕ)) (n : ℕ) → number_ahead
 ahead_within most [] n e = cc e
 ahead_within most (word ∷ words) n e = number_within most word n e
 
-workers_keep : (key : List ℕ) (words : List (List ℕ)) → MayKeep (numbered key with_workers (number_ahead 64 words))
+workers_keep : (key : List ℕ) (words : List (List ℕ)) → MayKeep (with_number key with_workers (number_ahead 64 words))
 workers_keep key words = by (number_ahead 64 words) refl
   where
     some : (n : ℕ) → (1 ≤ n) × (n ≤ 64) → (command : Command) → IsManned command → MayBeManned (with_workers n command)
@@ -98,11 +98,11 @@ workers_keep key words = by (number_ahead 64 words) refl
     some n w (Upgrade file) h = tt
     some n w (Load number) h = tt
 
-    by : (o : Option ℕ) → number_ahead 64 words ≡ o → MayKeep (numbered key with_workers o)
+    by : (o : Option ℕ) → number_ahead 64 words ≡ o → MayKeep (with_number key with_workers o)
     by None e = tt
     by (Some n) e = some n (ahead_within 64 words n e)
 
-cap_keeps : (key : List ℕ) (words : List (List ℕ)) → MayKeep (numbered key with_cap (number_ahead 65536 words))
+cap_keeps : (key : List ℕ) (words : List (List ℕ)) → MayKeep (with_number key with_cap (number_ahead 65536 words))
 cap_keeps key words = by (number_ahead 65536 words) refl
   where
     some : (n : ℕ) → (1 ≤ n) × (n ≤ 65536) → (command : Command) → IsManned command → MayBeManned (with_cap n command)
@@ -112,7 +112,7 @@ cap_keeps key words = by (number_ahead 65536 words) refl
     some n w (Upgrade file) h = tt
     some n w (Load number) h = tt
 
-    by : (o : Option ℕ) → number_ahead 65536 words ≡ o → MayKeep (numbered key with_cap o)
+    by : (o : Option ℕ) → number_ahead 65536 words ≡ o → MayKeep (with_number key with_cap o)
     by None e = tt
     by (Some n) e = some n (ahead_within 65536 words n e)
 
@@ -122,8 +122,8 @@ phrase_keeps (w ∷ ws) =
     either (bytes_eq w (codes "-H")) (option w with_header) _ header_keeps
     (either (bytes_eq w (codes "-c")) (option w with_counts) _ counts_keep
     (either (bytes_eq w (codes "-r")) (script ws) _ (script_keeps ws)
-    (either (bytes_eq w (codes "-w")) (numbered w with_workers (number_ahead 64 ws)) _ (workers_keep w ws)
-    (either (bytes_eq w (codes "-q")) (numbered w with_cap (number_ahead 65536 ws)) _ (cap_keeps w ws)
+    (either (bytes_eq w (codes "-w")) (with_number w with_workers (number_ahead 64 ws)) _ (workers_keep w ws)
+    (either (bytes_eq w (codes "-q")) (with_number w with_cap (number_ahead 65536 ws)) _ (cap_keeps w ws)
     (either (is_file w) (input (in_word_of w)) None (input_keeps (in_word_of w)) tt)))))
 
 -- phrases that make of each command that is manned another one

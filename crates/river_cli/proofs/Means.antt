@@ -10,7 +10,7 @@ use Rattle.brooklet_model.specs.Meaning.{Results, meaning}
 use Rattle.brooklet_step.specs.declared.run.Outcome.{Outcome}
 use Rattle.river_cli.specs.Contents.{AreContents}
 use Rattle.river_cli.specs.Inputs.{timed_files, all_items}
-use Rattle.river_cli.specs.Source.{Source, IsPlanOf, IsOf, IsKnown, Gives, printed}
+use Rattle.river_cli.specs.Source.{SourceProgram, IsPlanOf, IsCompiledAs, IsKnownProgram, GivesResults, printed}
 use Rattle.river_cli.specs.declared.compile.Program.{Program}
 use Rattle.river_cli.specs.declared.compile.Program.TheVariants as program
 use Rattle.river_cli.specs.declared.content.Content.{Content}
@@ -23,7 +23,7 @@ use Rattle.cql_text.specs.Tree.{program_of}
 use Rattle.cql_text.specs.declared.tree.CqlProgram.{CqlProgram}
 
 -- the files of a CQL program fit its registered streams
-pub known-files : (t : CqlProgram) (p : PlanForm) (all : List Content) → IsKnown (program.Cql t) p → AreContents p.inputs all
+pub known-files : (t : CqlProgram) (p : PlanForm) (all : List Content) → IsKnownProgram (program.Cql t) p → AreContents p.inputs all
     → AreFiles (program_of t) (timed_files all)
 known-files t p all (source, is) typed =
     files-are (program_of t) all (subst (λ ds. AreContents ds all) (is.plan.inputs ∙ is.program.inputs) typed)
@@ -37,7 +37,7 @@ timed-more (Timed rows ∷ fs) f = ap (λ l. rows ∷ l) (timed-more fs f)
 -- ---- WHAT IS PRINTED
 
 -- what the program means is what the plan's printed text asks for
-pub mean-printed : (source : Source) (p : PlanForm) (all : List Content) (o : Outcome) → IsPlanOf source p → Gives o (source.means all)
+pub mean-printed : (source : SourceProgram) (p : PlanForm) (all : List Content) (o : Outcome) → IsPlanOf source p → GivesResults o (source.means all)
     → printed_outcome p o.outs (map rows_of o.tables) (asked_counts false o.counts) ≡ printed source false all
 mean-printed source p all o is gives = λ i.
     outputs_text (is.outputs i) (gives.outs i) ++ (tables_text (is.tables i) (gives.tables i) ++ firings_text (labels (is.plan i).ops) (asked_counts false o.counts))
@@ -45,13 +45,13 @@ mean-printed source p all o is gives = λ i.
 -- what is printed is what the program means
 pub mean-says : (it : Program) (p : PlanForm) (all : List Content) (o : Outcome) (result : Result (List ℕ) NoMemory)
     → IfOk result (λ text. text ≡ printed_outcome p o.outs (map rows_of o.tables) (asked_counts false o.counts))
-    → ((source : Source) → IsOf it source p → Gives o (source.means all))
-    → IfOk result (λ text. (source : Source) → IsOf it source p → text ≡ printed source false all)
+    → ((source : SourceProgram) → IsCompiledAs it source p → GivesResults o (source.means all))
+    → IfOk result (λ text. (source : SourceProgram) → IsCompiledAs it source p → text ≡ printed source false all)
 mean-says it p all o (Ok text) says gives = λ source is. says ∙ mean-printed source p all o is.plan (gives source is)
 mean-says it p all o (Err e) says gives = tt
 
 module _ (it : Program) (p : PlanForm) (all : List Content) (o : Outcome) (typed : AreContents p.inputs all)
-    (known : IsKnown it p) (gives : (source : Source) → IsOf it source p → Gives o (source.means all)) where
+    (known : IsKnownProgram it p) (gives : (source : SourceProgram) → IsCompiledAs it source p → GivesResults o (source.means all)) where
   same : (known.0).means all ≡ meaning p (all_items all)
   same = sym (known.1.plan.means all typed)
 

@@ -23,8 +23,8 @@ use Rattle.river_cli.specs.Contents.{AreContents}
 use Rattle.river_cli.specs.Layouts.{layout_of}
 use Rattle.river_cli.specs.Inputs.{of_inputs, all_items}
 use Rattle.plan_classes.specs.Lines.{classes_text}
-use Rattle.river_cli.specs.Points.{of_program, of_script, of_inputs_run, of_run, of_show, of_mean, of_upgrade, of_command, ended, shown}
-use Rattle.river_cli.specs.Source.{Source, source_of, program_caps, IsPlanOf, IsOf, IsCompiled, printed}
+use Rattle.river_cli.specs.Points.{of_program, of_script, of_inputs_run, of_run, of_show, of_mean, of_upgrade, of_command, ended, plan_as_shown}
+use Rattle.river_cli.specs.Source.{SourceProgram, source_of, program_caps, IsPlanOf, IsCompiledAs, IsCompiled, printed}
 use Rattle.river_cli.specs.Text.{large_program}
 use Rattle.river_cli.specs.declared.compile.Compiled.{Compiled}
 use Rattle.river_cli.specs.declared.content.Content.{Content}
@@ -58,7 +58,7 @@ module _ (lang : Lang) (file text : List ℕ) (held : Option Held) (rose : Type 
 
   -- it cannot be fetched
   pub program-stops : (s : Stop) → ((next : List ℕ → Order) → Stops (Some (Fetch file 1048576 large_program next)) held rose s)
-      → (next : Source → Order) → Stops (Some (of_program lang file next)) held rose s
+      → (next : SourceProgram → Order) → Stops (Some (of_program lang file next)) held rose s
   unfolding of_program
   program-stops s stops next = stops (λ t. past (source_of lang t) next)
 
@@ -66,18 +66,18 @@ module _ (lang : Lang) (file text : List ℕ) (held : Option Held) (rose : Type 
 
 module _ (lang : Lang) (file : List ℕ) (held : Option Held) where
   module _ (ins : List InWord) (script : Option (List ℕ)) (header counts : Bool) where
-    abbrev run_after : Source → (List ℕ → Order) → Order
+    abbrev run_after : SourceProgram → (List ℕ → Order) → Order
     run_after source next = of_script script source (λ later. of_inputs_run ins (layout_of lang header) counts later next)
 
     -- a run that stops before its program is there
-    pub run-first : (rose : Type 0) (s : Stop) → ((next : Source → Order) → Stops (Some (of_program lang file next)) held rose s)
+    pub run-first : (rose : Type 0) (s : Stop) → ((next : SourceProgram → Order) → Stops (Some (of_program lang file next)) held rose s)
         → (next : List ℕ → Order) → Stops (Some (of_run lang file ins script header counts next)) held rose s
     unfolding of_run
     run-first rose s stops next = stops (λ source. run_after source next)
 
     -- one that stops before its plan is rewritten
     pub run-script : (mid early late : Type 0) → (late → early) → (c : Compiled) (s : Stop) → PassesAs IsCompiled (of_program lang file) held mid (Ok c)
-        → ((source : Source) → IsOf c.program source c.plan → (next : Source → Order) → Stops (Some (of_script script source next)) held late s)
+        → ((source : SourceProgram) → IsCompiledAs c.program source c.plan → (next : SourceProgram → Order) → Stops (Some (of_script script source next)) held late s)
         → (next : List ℕ → Order) → Stops (Some (of_run lang file ins script header counts next)) held early s
     unfolding of_run
     run-script mid early late sooner c s here stops =
@@ -86,47 +86,47 @@ module _ (lang : Lang) (file : List ℕ) (held : Option Held) where
     -- one that comes to its files
     pub run-last : (mid half early late : Type 0) → (late → early) → (c : Compiled) (plan : PlanForm) (result : Result (List ℕ) Stop)
         → PassesAs IsCompiled (of_program lang file) held mid (Ok c)
-        → ((source : Source) → IsOf c.program source c.plan → PassesAs (IsOf c.program) (of_script script source) held half (Ok plan))
-        → ((later : Source) → IsPlanOf later plan → Passes (of_inputs_run ins (layout_of lang header) counts later) held late result)
+        → ((source : SourceProgram) → IsCompiledAs c.program source c.plan → PassesAs (IsCompiledAs c.program) (of_script script source) held half (Ok plan))
+        → ((later : SourceProgram) → IsPlanOf later plan → Passes (of_inputs_run ins (layout_of lang header) counts later) held late result)
         → Passes (of_run lang file ins script header counts) held early result
     unfolding of_run
     run-last mid half early late sooner c plan result here scripted over =
         as-then IsCompiled (of_program lang file) run_after held mid early late sooner c result here (λ source is.
-        as-then (IsOf c.program) (of_script script source) (of_inputs_run ins (layout_of lang header) counts) held half late late (λ r. r) plan result (scripted source is) (λ later of. over later of.plan))
+        as-then (IsCompiledAs c.program) (of_script script source) (of_inputs_run ins (layout_of lang header) counts) held half late late (λ r. r) plan result (scripted source is) (λ later of. over later of.plan))
 
   module _ (script : Option (List ℕ)) where
-    abbrev show_after : Source → (List ℕ → Order) → Order
-    show_after source next = of_script script source (λ later. next (shown later.caps later.plan))
+    abbrev show_after : SourceProgram → (List ℕ → Order) → Order
+    show_after source next = of_script script source (λ later. next (plan_as_shown later.caps later.plan))
 
     -- `plan` that stops before its program is there
-    pub show-first : (rose : Type 0) (s : Stop) → ((next : Source → Order) → Stops (Some (of_program lang file next)) held rose s)
+    pub show-first : (rose : Type 0) (s : Stop) → ((next : SourceProgram → Order) → Stops (Some (of_program lang file next)) held rose s)
         → (next : List ℕ → Order) → Stops (Some (of_show lang file script next)) held rose s
     unfolding of_show
     show-first rose s stops next = stops (λ source. show_after source next)
 
     -- one that stops before its plan is rewritten
     pub show-script : (mid early late : Type 0) → (late → early) → (c : Compiled) (s : Stop) → PassesAs IsCompiled (of_program lang file) held mid (Ok c)
-        → ((source : Source) → IsOf c.program source c.plan → (next : Source → Order) → Stops (Some (of_script script source next)) held late s)
+        → ((source : SourceProgram) → IsCompiledAs c.program source c.plan → (next : SourceProgram → Order) → Stops (Some (of_script script source next)) held late s)
         → (next : List ℕ → Order) → Stops (Some (of_show lang file script next)) held early s
     unfolding of_show
     show-script mid early late sooner c s here stops =
-        as-then IsCompiled (of_program lang file) show_after held mid early late sooner c (Err s) here (λ source is next. stops source is (λ later. next (shown later.caps later.plan)))
+        as-then IsCompiled (of_program lang file) show_after held mid early late sooner c (Err s) here (λ source is next. stops source is (λ later. next (plan_as_shown later.caps later.plan)))
 
     -- one that comes to its plan
     pub show-last : (mid half rose : Type 0) (c : Compiled) (plan : PlanForm) (text : List ℕ)
         → PassesAs IsCompiled (of_program lang file) held mid (Ok c)
-        → ((source : Source) → IsOf c.program source c.plan → PassesAs (IsOf c.program) (of_script script source) held half (Ok plan))
-        → text ≡ shown (program_caps c.program) plan → (next : List ℕ → Order) → Comes (of_show lang file script next) held (next text)
+        → ((source : SourceProgram) → IsCompiledAs c.program source c.plan → PassesAs (IsCompiledAs c.program) (of_script script source) held half (Ok plan))
+        → text ≡ plan_as_shown (program_caps c.program) plan → (next : List ℕ → Order) → Comes (of_show lang file script next) held (next text)
     unfolding of_show
     show-last mid half rose c plan text here scripted says =
         as-then IsCompiled (of_program lang file) show_after held mid rose rose (λ r. r) c (Ok text) here (λ source is.
-        as-then (IsOf c.program) (of_script script source) (λ (later : Source) (next : List ℕ → Order). next (shown later.caps later.plan)) held half rose rose (λ r. r) plan (Ok text) (scripted source is) (λ later of next.
-        let same : text ≡ shown later.caps later.plan = says ∙ (λ i. shown (of.caps i) (of.plan.plan i)) in
-        subst (λ t. Comes (next (shown later.caps later.plan)) held (next t)) (sym same) (Comes-same (next (shown later.caps later.plan)) held)))
+        as-then (IsCompiledAs c.program) (of_script script source) (λ (later : SourceProgram) (next : List ℕ → Order). next (plan_as_shown later.caps later.plan)) held half rose rose (λ r. r) plan (Ok text) (scripted source is) (λ later of next.
+        let same : text ≡ plan_as_shown later.caps later.plan = says ∙ (λ i. plan_as_shown (of.caps i) (of.plan.plan i)) in
+        subst (λ t. Comes (next (plan_as_shown later.caps later.plan)) held (next t)) (sym same) (Comes-same (next (plan_as_shown later.caps later.plan)) held)))
 
   module _ (ins : List InWord) (header : Bool) where
     -- `mean` that stops before its program is there
-    pub mean-first : (rose : Type 0) (s : Stop) → ((next : Source → Order) → Stops (Some (of_program lang file next)) held rose s)
+    pub mean-first : (rose : Type 0) (s : Stop) → ((next : SourceProgram → Order) → Stops (Some (of_program lang file next)) held rose s)
         → (next : List ℕ → Order) → Stops (Some (of_mean lang file ins header next)) held rose s
     unfolding of_mean
     mean-first rose s stops next = stops (λ source. of_inputs_run ins (layout_of lang header) false source next)
@@ -134,7 +134,7 @@ module _ (lang : Lang) (file : List ℕ) (held : Option Held) where
     -- one that comes to its files
     pub mean-last : (mid early late : Type 0) → (late → early) → (c : Compiled) (result : Result (List ℕ) Stop)
         → PassesAs IsCompiled (of_program lang file) held mid (Ok c)
-        → ((source : Source) → IsOf c.program source c.plan → Passes (of_inputs_run ins (layout_of lang header) false source) held late result)
+        → ((source : SourceProgram) → IsCompiledAs c.program source c.plan → Passes (of_inputs_run ins (layout_of lang header) false source) held late result)
         → Passes (of_mean lang file ins header) held early result
     unfolding of_mean
     mean-last mid early late sooner c result here over =
@@ -142,7 +142,7 @@ module _ (lang : Lang) (file : List ℕ) (held : Option Held) where
 
 -- `upgrade` that stops before its text is read
 module _ (file : List ℕ) (held : Option Held) where
-  pub upgrade-first : (rose : Type 0) (s : Stop) → ((next : Source → Order) → Stops (Some (of_program River file next)) held rose s)
+  pub upgrade-first : (rose : Type 0) (s : Stop) → ((next : SourceProgram → Order) → Stops (Some (of_program River file next)) held rose s)
       → (next : List ℕ → Order) → Stops (Some (of_upgrade file next)) held rose s
   unfolding of_upgrade
   upgrade-first rose s stops next = stops (λ source. next (plan_text (first_cap source.caps) source.plan))
@@ -152,7 +152,7 @@ module _ (file : List ℕ) (held : Option Held) where
       → text ≡ plan_text (first_cap (program_caps c.program)) c.plan → (next : List ℕ → Order) → Comes (of_upgrade file next) held (next text)
   unfolding of_upgrade
   upgrade-last mid rose c text here says =
-      as-then IsCompiled (of_program River file) (λ (source : Source) (next : List ℕ → Order). next (plan_text (first_cap source.caps) source.plan)) held mid rose rose (λ r. r) c (Ok text) here (λ source of next.
+      as-then IsCompiled (of_program River file) (λ (source : SourceProgram) (next : List ℕ → Order). next (plan_text (first_cap source.caps) source.plan)) held mid rose rose (λ r. r) c (Ok text) here (λ source of next.
       let same : text ≡ plan_text (first_cap source.caps) source.plan = says ∙ (λ i. plan_text (first_cap (of.caps i)) (of.plan.plan i)) in
       subst (λ t. Comes (next (plan_text (first_cap source.caps) source.plan)) held (next t)) (sym same) (Comes-same (next (plan_text (first_cap source.caps) source.plan)) held))
 
@@ -205,10 +205,10 @@ module _ (held : Option Held) (rose : Type 0) where
   upgrade-answers file (Err s) passed = passed
 
 -- a text with a line for each class
-pub shown_is : (caps : List Cap) (p : PlanForm) (a b : List ℕ) → a ≡ plan_text (first_cap caps) p → b ≡ a ++ classes_text p → b ≡ shown caps p
+pub shown_is : (caps : List Cap) (p : PlanForm) (a b : List ℕ) → a ≡ plan_text (first_cap caps) p → b ≡ a ++ classes_text p → b ≡ plan_as_shown caps p
 shown_is caps p a b e f = f ∙ ap (λ (l : List ℕ). l ++ classes_text p) e
 
-module _ (ins : List InWord) (layout : Layout) (counted : Bool) (source : Source) (plan : PlanForm) (held : Option Held) (is : IsPlanOf source plan) where
+module _ (ins : List InWord) (layout : Layout) (counted : Bool) (source : SourceProgram) (plan : PlanForm) (held : Option Held) (is : IsPlanOf source plan) where
   abbrev from_inputs : (List ℕ → Order) → Order
   from_inputs next = of_inputs source.inputs ins layout (λ rows. next (printed source counted rows))
 
@@ -233,7 +233,7 @@ module _ (ins : List InWord) (layout : Layout) (counted : Bool) (source : Source
       subst (λ o. Comes o held (next text)) (sym (run_is next)) there
 
 -- what the plan prints is what the program prints
-pub output-printed : (source : Source) (plan : PlanForm) (counted : Bool) (all : List Content) → IsPlanOf source plan → AreContents plan.inputs all
+pub output-printed : (source : SourceProgram) (plan : PlanForm) (counted : Bool) (all : List Content) → IsPlanOf source plan → AreContents plan.inputs all
     → printed_outcome plan (meaning plan (all_items all)).outs (meaning plan (all_items all)).tables (asked_counts counted (map pos (firings plan (all_items all)))) ≡ printed source counted all
 output-printed source plan counted all is typed =
     ap (λ n. outputs_text n (meaning plan (all_items all)).outs ++ (tables_text (table_names plan.tables) (meaning plan (all_items all)).tables ++ fired plan)) is.outputs
@@ -249,7 +249,7 @@ pub output-says : (plan : PlanForm) (counted : Bool) (all : List Content) (outs 
     → IfOk result (λ text. text ≡ printed_outcome plan outs tables (asked_counts counted counts)) → outs ≡ (meaning plan (all_items all)).outs
     → tables ≡ (meaning plan (all_items all)).tables
     → counts ≡ map pos (firings plan (all_items all)) → AreContents plan.inputs all
-    → IfOk result (λ text. (source : Source) → IsPlanOf source plan → text ≡ printed source counted all)
+    → IfOk result (λ text. (source : SourceProgram) → IsPlanOf source plan → text ≡ printed source counted all)
 output-says plan counted all outs tables counts (Ok text) says outs_is tables_is counts_is typed = λ source is.
     says ∙ (λ i. printed_outcome plan (outs_is i) (tables_is i) (asked_counts counted (counts_is i))) ∙ output-printed source plan counted all is typed
 output-says plan counted all outs tables counts (Err e) says outs_is tables_is counts_is typed = tt

@@ -8,7 +8,7 @@ use Rattle.river_plan.specs.Names.{count, one_if}
 use Rattle.river_plan.proofs.NameLemmas.{count-append, name_sym}
 use Rattle.river_cli.specs.Phrases.{Phrase, phrase_of, one_more, phrases, made, are_apart, with_phrases}
 use Rattle.river_cli.specs.Commands.{MayMake}
-use Rattle.river_cli.specs.Said.{Grown, grown, said_once, said_fitting, with_phrase}
+use Rattle.river_cli.specs.Said.{Grown, grown_if_taken, said_once, said_fitting, with_phrase}
 use Rattle.river_cli.specs.declared.command.Command.{Command}
 use Rattle.river_cli.specs.declared.command.WordFault.{WordFault}
 use Rattle.river_cli.specs.declared.command.WordFault.TheVariants as fault
@@ -46,13 +46,13 @@ still_apart w (v ∷ vs) a z = by (name_eq v w) refl (still_apart w vs)
 
 -- the command takes the phrase, which was not said before
 pub noted : (fits : Bool) (takes : ℕ) (made : Option Command) (command : Command) (key : List ℕ) (said said' : List (List ℕ)) → MayMake fits made command
-    → said_fitting fits key said ≡ Some said' → grown takes made (said_once key said) ≡ Some (record { takes = takes; said = said'; command = command })
+    → said_fitting fits key said ≡ Some said' → grown_if_taken takes made (said_once key said) ≡ Some (record { takes = takes; said = said'; command = command })
 noted true takes made command key said said' m e = rw (m, e) refl
 noted false takes made command key said said' m e = cc
 
 -- it does not, or it was
 pub not_noted : (fits : Bool) (takes : ℕ) (made : Option Command) (command : Command) (key : List ℕ) (said : List (List ℕ)) → MayMake fits made command
-    → said_fitting fits key said ≡ None → grown takes made (said_once key said) ≡ None
+    → said_fitting fits key said ≡ None → grown_if_taken takes made (said_once key said) ≡ None
 not_noted true takes made command key said m e = rw (m, e) refl
 not_noted false takes made command key said m e = rw m refl
 
@@ -108,7 +108,7 @@ module _ (behind said : List (List ℕ)) (command : Command) where
   one-more (Some p) g e = by (p.makes command) (count p.once said == 0) refl refl e
     where
       by : (makes : Option Command) (fresh : Bool) → p.makes command ≡ makes → (count p.once said == 0) ≡ fresh
-          → grown p.takes makes (if fresh then Some (said ++ p.once ∷ []) else None) ≡ Some g
+          → grown_if_taken p.takes makes (if fresh then Some (said ++ p.once ∷ []) else None) ≡ Some g
           → on_by said command (one_more p (phrases p.takes behind)) ≡ on_by g.said g.command (phrases 0 (drop g.takes behind))
       by (Some next) true m fresh e =
           let is : record { takes = p.takes; said = said ++ p.once ∷ []; command = next } ≡ g = cc in
@@ -121,7 +121,7 @@ module _ (behind said : List (List ℕ)) (command : Command) where
   no-more (Some p) e = by (p.makes command) (count p.once said == 0) refl refl e
     where
       by : (makes : Option Command) (fresh : Bool) → p.makes command ≡ makes → (count p.once said == 0) ≡ fresh
-          → grown p.takes makes (if fresh then Some (said ++ p.once ∷ []) else None) ≡ None
+          → grown_if_taken p.takes makes (if fresh then Some (said ++ p.once ∷ []) else None) ≡ None
           → on_by said command (one_more p (phrases p.takes behind)) ≡ None
       by (Some next) true m fresh e = cc
       by (Some next) false m fresh e = twice p (phrases p.takes behind) (grind (arith, nat_tests, fresh))
@@ -132,7 +132,8 @@ module _ (behind said : List (List ℕ)) (command : Command) where
   still-apart None g e a = cc
   still-apart (Some p) g e a = by (p.makes command) (count p.once said == 0) refl e
     where
-      by : (makes : Option Command) (fresh : Bool) → (count p.once said == 0) ≡ fresh → grown p.takes makes (if fresh then Some (said ++ p.once ∷ []) else None) ≡ Some g
+      by : (makes : Option Command) (fresh : Bool) → (count p.once said == 0) ≡ fresh
+          → grown_if_taken p.takes makes (if fresh then Some (said ++ p.once ∷ []) else None) ≡ Some g
           → are_apart g.said ≡ true
       by (Some next) true fresh e =
           let is : record { takes = p.takes; said = said ++ p.once ∷ []; command = next } ≡ g = cc in

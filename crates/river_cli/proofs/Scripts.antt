@@ -17,20 +17,20 @@ use Rattle.river_script.proofs.Steps.{script_means}
 use Rattle.river_cli.specs.Contents.{AreContents}
 use Rattle.river_cli.specs.Inputs.{all_items}
 use Rattle.river_cli.specs.Points.{of_script, with_plan}
-use Rattle.river_cli.specs.Source.{Source, IsProgramOf, IsOf}
+use Rattle.river_cli.specs.Source.{SourceProgram, IsProgramOf, IsCompiledAs}
 use Rattle.river_cli.specs.declared.compile.Program.{Program}
 use Rattle.river_cli.specs.declared.compile.Program.TheVariants as variant
 use Rattle.river_cli.specs.Text.{large_script}
 use Rattle.river_cli.proofs.Items.{contents-typed}
 
 -- the plan that a script makes means what the program means
-pub made-stands : (program : Program) (source : Source) (p made : PlanForm) (text : List ℕ) → IsPlan p → IsOf program source p → rewritten p text ≡ Ok made
-    → StandsFor (IsOf program) (with_plan source (rewritten source.plan text)) made
+pub made-stands : (program : Program) (source : SourceProgram) (p made : PlanForm) (text : List ℕ) → IsPlan p → IsCompiledAs program source p → rewritten p text ≡ Ok made
+    → StandsFor (IsCompiledAs program) (with_plan source (rewritten source.plan text)) made
 made-stands program source p made text v of e =
     let h = (makes_what_it_has p text (Ok made)).0 e in
     let k = script_means p made h.0 v h.2 in
     let is = of.plan in
-    subst (λ r. StandsFor (IsOf program) (with_plan source r) made) (sym (ap (λ q. rewritten q text) (sym is.plan) ∙ e)) (record {
+    subst (λ r. StandsFor (IsCompiledAs program) (with_plan source r) made) (sym (ap (λ q. rewritten q text) (sym is.plan) ∙ e)) (record {
       plan = record {
         plan = refl;
         inputs = k.1.inputs ∙ is.inputs;
@@ -45,7 +45,7 @@ made-stands program source p made text v of e =
     })
   where
     -- the program does not ask which plan its source has
-    still : (program : Program) (source : Source) (made : PlanForm) → IsProgramOf source program → IsProgramOf (record source { plan = made }) program
+    still : (program : Program) (source : SourceProgram) (made : PlanForm) → IsProgramOf source program → IsProgramOf (record source { plan = made }) program
     still (variant.River caps) source made is = tt
     still (variant.Streamit t) source made is = record { readable = is.readable; means = is.means }
     still (variant.Sawzall t) source made is = record { accepted = is.accepted; valued = is.valued; means = is.means }
@@ -57,20 +57,20 @@ pub as_passed : {A B : Type 0} (stands : A → B → Type 0) (found : Result A (
 as_passed stands (Ok x) y held told = (x, told, λ next. Comes-same (next x) held)
 as_passed stands (Err t) y held told = absurd told
 
-module _ (program : Program) (file : List ℕ) (source : Source) (text : List ℕ) (held : Option Held) where
+module _ (program : Program) (file : List ℕ) (source : SourceProgram) (text : List ℕ) (held : Option Held) where
   -- it was fetched and applied
   pub script-comes : (plan : PlanForm) → ((next : List ℕ → Order) → Comes (Fetch file 65536 large_script next) held (next text))
-      → StandsFor (IsOf program) (with_plan source (rewritten source.plan text)) plan
-      → (later : Source) × IsOf program later plan × ((next : Source → Order) → Comes (of_script (Some file) source next) held (next later))
+      → StandsFor (IsCompiledAs program) (with_plan source (rewritten source.plan text)) plan
+      → (later : SourceProgram) × IsCompiledAs program later plan × ((next : SourceProgram → Order) → Comes (of_script (Some file) source next) held (next later))
   unfolding of_script
   script-comes plan here told =
-      let s = as_passed (IsOf program) (with_plan source (rewritten source.plan text)) plan held told in
+      let s = as_passed (IsCompiledAs program) (with_plan source (rewritten source.plan text)) plan held told in
       (s.0, s.1, λ next. Comes-on (Fetch file 65536 large_script (λ t. past (with_plan source (rewritten source.plan t)) next)) (past (with_plan source (rewritten source.plan text)) next) (next s.0) held (here (λ t. past (with_plan source (rewritten source.plan t)) next)) (s.2 next))
 
   -- it is refused
   pub script-refused : (early late : Type 0) → (late → early) → (s : Stop)
       → ((next : List ℕ → Order) → Comes (Fetch file 65536 large_script next) held (next text)) → Refuses (with_plan source (rewritten source.plan text)) s
-      → (next : Source → Order) → Stops (Some (of_script (Some file) source next)) held early s
+      → (next : SourceProgram → Order) → Stops (Some (of_script (Some file) source next)) held early s
   unfolding of_script
   script-refused early late sooner s here told next =
       Stops-later (Fetch file 65536 large_script (λ t. past (with_plan source (rewritten source.plan t)) next)) (past (with_plan source (rewritten source.plan text)) next) held early late sooner s (here (λ t. past (with_plan source (rewritten source.plan t)) next))
@@ -78,20 +78,20 @@ module _ (program : Program) (file : List ℕ) (source : Source) (text : List �
 
   -- it was fetched, and applied or refused
   pub script-passes : (rose : Type 0) (result : Result PlanForm Stop) → ((next : List ℕ → Order) → Comes (Fetch file 65536 large_script next) held (next text))
-      → AnswersAs (IsOf program) (with_plan source (rewritten source.plan text)) result
-      → PassesAs (IsOf program) (of_script (Some file) source) held rose result
+      → AnswersAs (IsCompiledAs program) (with_plan source (rewritten source.plan text)) result
+      → PassesAs (IsCompiledAs program) (of_script (Some file) source) held rose result
   script-passes rose (Ok plan) here told = script-comes plan here told
   script-passes rose (Err s) here told = script-refused rose rose (λ r. r) s here told
 
 -- it cannot be fetched
-pub fetch-stops : (file : List ℕ) (source : Source) (held : Option Held) (rose : Type 0) (s : Stop)
+pub fetch-stops : (file : List ℕ) (source : SourceProgram) (held : Option Held) (rose : Type 0) (s : Stop)
     → ((next : List ℕ → Order) → Stops (Some (Fetch file 65536 large_script next)) held rose s)
-    → (next : Source → Order) → Stops (Some (of_script (Some file) source next)) held rose s
+    → (next : SourceProgram → Order) → Stops (Some (of_script (Some file) source next)) held rose s
 unfolding of_script
 fetch-stops file source held rose s stops next = stops (λ t. past (with_plan source (rewritten source.plan t)) next)
 
 -- there is none
-pub no-script : (program : Program) (source : Source) (plan : PlanForm) (held : Option Held) → IsOf program source plan
-    → (later : Source) × IsOf program later plan × ((next : Source → Order) → Comes (of_script None source next) held (next later))
+pub no-script : (program : Program) (source : SourceProgram) (plan : PlanForm) (held : Option Held) → IsCompiledAs program source plan
+    → (later : SourceProgram) × IsCompiledAs program later plan × ((next : SourceProgram → Order) → Comes (of_script None source next) held (next later))
 unfolding of_script
 no-script program source plan held is = (source, is, λ next. Comes-same (next source) held)

@@ -8,29 +8,29 @@ use Rattle.river_order.specs.Order.{Order, IsVerdict, Verdict, Usage, Refused, U
 use Rattle.river_order.specs.Decides.{FailedAt, AbsentAt}
 
 -- a sink took nothing
-abbrev pub Kept : Option (List ℕ) → Option (List ℕ) → Type 0
-Kept old new = new ≡ old
+abbrev pub TookNothing : Option (List ℕ) → Option (List ℕ) → Type 0
+TookNothing old new = new ≡ old
 
 -- a sink took the text and no more
-abbrev pub Took : List ℕ → Option (List ℕ) → Option (List ℕ) → Type 0
-Took text old new = new ≡ append_known old text
+abbrev pub TookText : List ℕ → Option (List ℕ) → Option (List ℕ) → Type 0
+TookText text old new = new ≡ append_known old text
 
 -- the points end so, and a sink took the text of that end
 pub record Wrote (points : Option Order) (held : Option Held) (kind : List ℕ → Verdict) (old new : Option (List ℕ)) : Type 0 where
   pub text : List ℕ
   pub end : IsVerdict points held (kind text)
-  pub took : Took text old new
+  pub took : TookText text old new
 
 -- the words are no sentence, and a sink took the usage
 pub record WroteUsage (points : Option Order) (old new : Option (List ℕ)) : Type 0 where
   pub end : points ≡ None
-  pub took : Took usage_text old new
+  pub took : TookText usage_text old new
 
 -- a fetch whose turn came had no bytes, and a sink took what is said of it, or a proper prefix where its count rose
 pub record WroteFault (points : Option Order) (held : Option Held) (rose : Type 0) (old new : Option (List ℕ)) (stopped : Type 0) : Type 0 where
   pub text : List ℕ
   pub cause : FailedAt points held rose text ⊎ AbsentAt points held rose text
-  pub took : Took text old new ⊎ (stopped × TookPart text old new)
+  pub took : TookText text old new ⊎ (stopped × TookPart text old new)
 
 -- the points end so, and a sink whose count rose took a proper prefix of the text of that end
 pub record Stopped (points : Option Order) (held : Option Held) (kind : List ℕ → Verdict) (old new : Option (List ℕ)) (rose : Type 0) : Type 0 where

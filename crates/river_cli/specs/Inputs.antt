@@ -51,9 +51,9 @@ names_fit decls ins = first_told (unknown decls ins) (missing decls ins)
 -- ---- THE FILES
 
 -- all files are fetched, in the order of the words
-unfoldable pub fetches : List InWord → (List (List ℕ) → Order) → Order
-fetches [] next = next []
-fetches (w ∷ ins) next = Fetch w.file 67108864 (large_input w.name) (λ bytes. fetches ins (λ files. next (bytes ∷ files)))
+unfoldable pub fetch_each : List InWord → (List (List ℕ) → Order) → Order
+fetch_each [] next = next []
+fetch_each (w ∷ ins) next = Fetch w.file 67108864 (large_input w.name) (λ bytes. fetch_each ins (λ files. next (bytes ∷ files)))
 
 -- what a reader gives for the file of an input, or what is told of the first record at fault
 abbrev pub Reader : Type 0 → Type 0
@@ -81,7 +81,7 @@ all_read reader (w ∷ ins) (bytes ∷ files) = with_first (file_read reader w b
 -- the names of the inputs are looked at, all files are fetched, all are read, and the whole is made of what was read
 abbrev pub of_files : {A B : Type 0} → List Decl → List InWord → Reader A → (List A → B) → (B → Order) → Order
 of_files decls ins reader make next =
-    past (names_fit decls ins) (λ _. fetches ins (λ files. past (all_read reader ins files) (λ all. next (make all))))
+    past (names_fit decls ins) (λ _. fetch_each ins (λ files. past (all_read reader ins files) (λ all. next (make all))))
 
 -- ---- FILES OF ROWS
 
@@ -94,14 +94,14 @@ read_as content (Ok x) = Ok (content x)
 read_as content (Err fault) = Err fault
 
 -- an input has rows of its width, and those of a stream have timestamps
-abbrev pub content_of : QueueType → Layout → List ℕ → Result Content InFault
-content_of (FlatOf (Stream w)) layout bytes = read_as Timed (timed_of bytes w layout.header)
-content_of (FlatOf (Rows w)) layout bytes = read_as Plain (rows_of_file bytes w layout.header layout.more)
-content_of (FlatOf (Relation w)) layout bytes = read_as Plain (rows_of_file bytes w layout.header layout.more)
-content_of (PackOf t) layout bytes = read_as Plain (rows_of_file bytes (type_width (PackOf t)) layout.header layout.more)
+abbrev pub file_content : QueueType → Layout → List ℕ → Result Content InFault
+file_content (FlatOf (Stream w)) layout bytes = read_as Timed (timed_of bytes w layout.header)
+file_content (FlatOf (Rows w)) layout bytes = read_as Plain (rows_of_file bytes w layout.header layout.more)
+file_content (FlatOf (Relation w)) layout bytes = read_as Plain (rows_of_file bytes w layout.header layout.more)
+file_content (PackOf t) layout bytes = read_as Plain (rows_of_file bytes (type_width (PackOf t)) layout.header layout.more)
 
 abbrev pub content_reader : List Decl → Layout → Reader Content
-content_reader decls layout name bytes = content_of (kind_of decls name) layout bytes
+content_reader decls layout name bytes = file_content (kind_of decls name) layout bytes
 
 -- what the words give to an input
 abbrev pub content_named : List InWord → List Content → List ℕ → Content
@@ -122,11 +122,11 @@ pub record NamesPlace (ins : List InWord) (name : List ℕ) (place : ℕ) : Type
   pub gives : (all : List Content) (d : Content) → length all ≡ length ins → content_named ins all name ≡ slice_index_or all place d
 
 -- what each input has, in the order of the program's inputs
-abbrev pub in_order : List Decl → List InWord → List Content → List Content
-in_order decls ins all = map (content_named ins all) (decl_names decls)
+abbrev pub contents_in_order : List Decl → List InWord → List Content → List Content
+contents_in_order decls ins all = map (content_named ins all) (decl_names decls)
 
 unfoldable pub of_inputs : List Decl → List InWord → Layout → (List Content → Order) → Order
-of_inputs decls ins layout next = of_files decls ins (content_reader decls layout) (in_order decls ins) next
+of_inputs decls ins layout next = of_files decls ins (content_reader decls layout) (contents_in_order decls ins) next
 
 -- ---- THE ITEMS OF INPUTS
 

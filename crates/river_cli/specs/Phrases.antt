@@ -30,9 +30,9 @@ number_ahead most [] = None
 number_ahead most (word ∷ words) = number_to most word
 
 -- an option with the number behind it
-abbrev pub numbered : List ℕ → (ℕ → Command → Option Command) → Option ℕ → Option Phrase
-numbered word makes None = None
-numbered word makes (Some n) = Some (record { takes = 1; once = word; makes = makes n })
+abbrev pub with_number : List ℕ → (ℕ → Command → Option Command) → Option ℕ → Option Phrase
+with_number word makes None = None
+with_number word makes (Some n) = Some (record { takes = 1; once = word; makes = makes n })
 
 -- the file of an input
 abbrev pub input : Option InWord → Option Phrase
@@ -46,8 +46,8 @@ phrase_of (word ∷ behind) =
     if bytes_eq word (codes "-H") then option word with_header
     else if bytes_eq word (codes "-c") then option word with_counts
     else if bytes_eq word (codes "-r") then script behind
-    else if bytes_eq word (codes "-w") then numbered word with_workers (number_ahead 64 behind)
-    else if bytes_eq word (codes "-q") then numbered word with_cap (number_ahead 65536 behind)
+    else if bytes_eq word (codes "-w") then with_number word with_workers (number_ahead 64 behind)
+    else if bytes_eq word (codes "-q") then with_number word with_cap (number_ahead 65536 behind)
     else if is_file word then input (in_word_of word)
     else None
 

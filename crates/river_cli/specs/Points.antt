@@ -11,7 +11,7 @@ use Rattle.river_cli.specs.Inputs.{of_inputs}
 use Rattle.river_cli.specs.Layouts.{layout_of}
 use Rattle.river_cli.specs.Load.{load_program, load_script, load_files}
 use Rattle.river_cli.specs.Sentences.{command_of}
-use Rattle.river_cli.specs.Source.{Source, source_of, printed}
+use Rattle.river_cli.specs.Source.{SourceProgram, source_of, printed}
 use Rattle.river_cli.specs.Text.{large_program, large_script, script_refused}
 use Rattle.river_script.specs.Meaning.{rewritten}
 use Rattle.river_script.specs.Words.{script_words}
@@ -24,26 +24,26 @@ use Rattle.river_cli.specs.declared.command.Lang.TheVariants.{River, Sawzall}
 use Rattle.river_cli.specs.declared.command.Layout.{Layout}
 
 -- the program is fetched and compiled
-unfoldable pub of_program : Lang → List ℕ → (Source → Order) → Order
+unfoldable pub of_program : Lang → List ℕ → (SourceProgram → Order) → Order
 of_program lang file next = Fetch file 1048576 large_program (λ text. past (source_of lang text) next)
 
 -- the program with this plan in place of its own, or the text that refuses the script
-abbrev pub with_plan : Source → Result PlanForm ScriptFault → Result Source (List ℕ)
+abbrev pub with_plan : SourceProgram → Result PlanForm ScriptFault → Result SourceProgram (List ℕ)
 with_plan source (Ok p) = Ok (record source { plan = p })
 with_plan source (Err fault) = Err (script_refused (script_words fault))
 
 -- the script is fetched, read and applied step by step, where one is given
-unfoldable pub of_script : Option (List ℕ) → Source → (Source → Order) → Order
+unfoldable pub of_script : Option (List ℕ) → SourceProgram → (SourceProgram → Order) → Order
 of_script None source next = next source
 of_script (Some file) source next = Fetch file 65536 large_script (λ text. past (with_plan source (rewritten source.plan text)) next)
 
 -- what the files of its inputs have is read, and what the program means is printed
-unfoldable pub of_inputs_run : List InWord → Layout → Bool → Source → (List ℕ → Order) → Order
+unfoldable pub of_inputs_run : List InWord → Layout → Bool → SourceProgram → (List ℕ → Order) → Order
 of_inputs_run ins layout counted source next = of_inputs source.inputs ins layout (λ files. next (printed source counted files))
 
 -- a plan as it is shown: its text with the capacities of its queues, and a line for each lock class of its tables
-abbrev pub shown : List Cap → PlanForm → List ℕ
-shown caps p = plan_text (first_cap caps) p ++ classes_text p
+abbrev pub plan_as_shown : List Cap → PlanForm → List ℕ
+plan_as_shown caps p = plan_text (first_cap caps) p ++ classes_text p
 
 -- `run`: the program is compiled, its plan is rewritten, and it is run over its inputs
 unfoldable pub of_run : Lang → List ℕ → List InWord → Option (List ℕ) → Bool → Bool → (List ℕ → Order) → Order
@@ -52,7 +52,7 @@ of_run lang file ins script header counts next =
 
 -- `plan`: it is compiled, its plan is rewritten and shown
 unfoldable pub of_show : Lang → List ℕ → Option (List ℕ) → (List ℕ → Order) → Order
-of_show lang file script next = of_program lang file (λ source. of_script script source (λ later. next (shown later.caps later.plan)))
+of_show lang file script next = of_program lang file (λ source. of_script script source (λ later. next (plan_as_shown later.caps later.plan)))
 
 -- `mean`: it is compiled, and what it means over its inputs is printed
 unfoldable pub of_mean : Lang → List ℕ → List InWord → Bool → (List ℕ → Order) → Order
@@ -68,7 +68,7 @@ then_made (Ok x) make = make x
 then_made (Err text) make = Err text
 
 -- the program of `load`, with the plan that its script makes
-unfoldable pub load_source : Result Source (List ℕ)
+unfoldable pub load_source : Result SourceProgram (List ℕ)
 load_source = then_made (source_of Sawzall load_program) (λ source. with_plan source (rewritten source.plan load_script))
 
 -- what this program means over the first n records

@@ -18,11 +18,11 @@ pub record Grown : Type 0 where
   pub said : List (List ℕ)
   pub command : Command
 
-abbrev pub grown : ℕ → Option Command → Option (List (List ℕ)) → Option Grown
-grown takes None said = None
-grown takes (Some command) None = None
-grown takes (Some command) (Some said) = Some (record { takes = takes; said = said; command = command })
+abbrev pub grown_if_taken : ℕ → Option Command → Option (List (List ℕ)) → Option Grown
+grown_if_taken takes None said = None
+grown_if_taken takes (Some command) None = None
+grown_if_taken takes (Some command) (Some said) = Some (record { takes = takes; said = said; command = command })
 
 abbrev pub with_phrase : Option Phrase → List (List ℕ) → Command → Option Grown
 with_phrase None said command = None
-with_phrase (Some p) said command = grown p.takes (p.makes command) (said_once p.once said)
+with_phrase (Some p) said command = grown_if_taken p.takes (p.makes command) (said_once p.once said)

@@ -53,7 +53,7 @@ use Rattle.river_cli.specs.declared.command.Lang.TheVariants.{River, Streamit, P
 
 -- a program: its inputs, the names of its outputs and of its tables, what these have for the files of its inputs, its plan, and the
 -- capacities that it gives to queues of its plan
-pub record Source : Type 0 where
+pub record SourceProgram : Type 0 where
   pub inputs : List Decl
   pub outputs : List Name
   pub tables : List Name
@@ -62,7 +62,7 @@ pub record Source : Type 0 where
   pub caps : List Cap
 
 -- the program of a River text is its plan
-abbrev pub river_source : TextForm → Source
+abbrev pub river_source : TextForm → SourceProgram
 river_source t = record {
   inputs = t.plan.inputs;
   outputs = decl_names t.plan.outputs;
@@ -73,20 +73,20 @@ river_source t = record {
 }
 
 -- the first value of each row
-abbrev pub first_values : List (List ℤ) → List ℤ
-first_values rows = map (λ row. slice_index_or row 0 (pos 0)) rows
+abbrev pub first_of_rows : List (List ℤ) → List ℤ
+first_of_rows rows = map (λ row. slice_index_or row 0 (pos 0)) rows
 
 -- the values of the first input, of which each row has one
 abbrev pub values : List Content → List ℤ
 values [] = []
-values (Plain rows ∷ others) = first_values rows
+values (Plain rows ∷ others) = first_of_rows rows
 values (Timed rows ∷ others) = []
 
 abbrev pub streamit_means : streamit.Program → List Content → Results
 streamit_means p files = record { outs = as_items (program_outputs p (values files)) ∷ []; tables = [] }
 
 -- a StreamIt program, by its own definition
-abbrev pub streamit_source : Accepted → Source
+abbrev pub streamit_source : Accepted → SourceProgram
 streamit_source a = record {
   inputs = values_in (codes "in") ∷ [];
   outputs = codes "out" ∷ [];
@@ -100,7 +100,7 @@ abbrev pub params_means : params.ParamProgram → List Content → Results
 params_means p files = record { outs = as_items (params_outputs p (values files)) ∷ []; tables = [] }
 
 -- a StreamIt program with parameters, by its own definition
-abbrev pub params_source : params_front.Accepted → Source
+abbrev pub params_source : params_front.Accepted → SourceProgram
 params_source a = record {
   inputs = values_in (codes "in") ∷ [];
   outputs = codes "out" ∷ [];
@@ -120,7 +120,7 @@ abbrev pub saw_means : saw_text.Program → List Content → Results
 saw_means p files = record { outs = []; tables = program_tables p (records files) }
 
 -- a Sawzall program, by its own definition
-abbrev pub saw_source : saw.Accepted → Source
+abbrev pub saw_source : saw.Accepted → SourceProgram
 saw_source a = record {
   inputs = record { name = codes "in"; kind = rows (width (saw.program_in a)) } ∷ [];
   outputs = [];
@@ -140,7 +140,7 @@ abbrev pub cql_means : cql_text.Program → List Content → Results
 cql_means p files = record { outs = program_means p (timed_files files); tables = [] }
 
 -- a CQL program, by its own definition: a registered stream is an input, and a query an output
-abbrev pub cql_source : List Part → Source
+abbrev pub cql_source : List Part → SourceProgram
 cql_source p = record {
   inputs = input_decls p;
   outputs = asked_names p;
@@ -151,21 +151,21 @@ cql_source p = record {
 }
 
 -- the program of what was read, or the text that refuses it
-abbrev pub told : {A F : Type 0} → (A → Source) → (F → List ℕ) → Result A F → Result Source (List ℕ)
-told source words (Ok x) = Ok (source x)
-told source words (Err fault) = Err (program_refused (words fault))
+abbrev pub source_or_refused : {A F : Type 0} → (A → SourceProgram) → (F → List ℕ) → Result A F → Result SourceProgram (List ℕ)
+source_or_refused source words (Ok x) = Ok (source x)
+source_or_refused source words (Err fault) = Err (program_refused (words fault))
 
 -- the program of a text
-unfoldable pub source_of : Lang → List ℕ → Result Source (List ℕ)
-source_of River text = told river_source river_words (plan_in text)
-source_of Streamit text = told streamit_source streamit_words (compiled text)
-source_of Params text = told params_source params_words (params_front.compiled text)
-source_of Sawzall text = told saw_source saw_words (saw.compiled text)
-source_of Cql text = told cql_source cql_words (cql_front.compiled text)
+unfoldable pub source_of : Lang → List ℕ → Result SourceProgram (List ℕ)
+source_of River text = source_or_refused river_source river_words (plan_in text)
+source_of Streamit text = source_or_refused streamit_source streamit_words (compiled text)
+source_of Params text = source_or_refused params_source params_words (params_front.compiled text)
+source_of Sawzall text = source_or_refused saw_source saw_words (saw.compiled text)
+source_of Cql text = source_or_refused cql_source cql_words (cql_front.compiled text)
 
 -- a plan that may be run in place of the program: it has the same inputs, outputs and tables, and means the same for all that
 -- the files of its inputs may have
-pub record IsPlanOf (s : Source) (p : PlanForm) : Type 0 where
+pub record IsPlanOf (s : SourceProgram) (p : PlanForm) : Type 0 where
   pub plan : p ≡ s.plan
   pub inputs : p.inputs ≡ s.inputs
   pub outputs : decl_names p.outputs ≡ s.outputs
@@ -175,22 +175,22 @@ pub record IsPlanOf (s : Source) (p : PlanForm) : Type 0 where
 -- WHAT STANDS FOR A PROGRAM
 
 -- this is the program as it was read: it is accepted, and the meaning is its own
-pub record IsStreamit (s : Source) (p : streamit.Program) : Type 0 where
+pub record IsStreamit (s : SourceProgram) (p : streamit.Program) : Type 0 where
   pub readable : AreReadable p
   pub means : (files : List Content) → s.means files ≡ streamit_means p files
 
-pub record IsSawzall (s : Source) (p : saw_text.Program) : Type 0 where
+pub record IsSawzall (s : SourceProgram) (p : saw_text.Program) : Type 0 where
   pub accepted : IsAccepted p
   pub valued : AreValuedParts p
   pub means : (files : List Content) → s.means files ≡ saw_means p files
 
-pub record IsCql (s : Source) (p : cql_text.Program) : Type 0 where
+pub record IsCql (s : SourceProgram) (p : cql_text.Program) : Type 0 where
   pub columns : HaveColumns [] p
   pub inputs : s.inputs ≡ input_decls p
   pub means : (files : List Content) → s.means files ≡ cql_means p files
 
 -- a River text is its plan
-abbrev pub IsProgramOf : Source → Program → Type 0
+abbrev pub IsProgramOf : SourceProgram → Program → Type 0
 IsProgramOf s (program.River caps) = Unit {0}
 IsProgramOf s (program.Streamit p) = IsStreamit s (streamit.program_of p.units.items)
 IsProgramOf s (program.Sawzall p) = IsSawzall s (unit_forms p.units.items)
@@ -204,27 +204,27 @@ program_caps (program.Sawzall p) = []
 program_caps (program.Cql p) = []
 
 -- a plan that may be run in place of the program, and the program as it was read, with its capacities
-pub record IsOf (tree : Program) (s : Source) (p : PlanForm) : Type 0 where
+pub record IsCompiledAs (tree : Program) (s : SourceProgram) (p : PlanForm) : Type 0 where
   pub plan : IsPlanOf s p
   pub program : IsProgramOf s tree
   pub caps : program_caps tree ≡ s.caps
   pub fit : AreCaps (program_caps tree)
 
 -- there is such a program
-abbrev pub IsKnown : Program → PlanForm → Type 0
-IsKnown tree p = (s : Source) × IsOf tree s p
+abbrev pub IsKnownProgram : Program → PlanForm → Type 0
+IsKnownProgram tree p = (s : SourceProgram) × IsCompiledAs tree s p
 
-abbrev pub IsCompiled : Source → Compiled → Type 0
-IsCompiled s c = IsOf c.program s c.plan
+abbrev pub IsCompiled : SourceProgram → Compiled → Type 0
+IsCompiled s c = IsCompiledAs c.program s c.plan
 
 -- what is given is what is meant
-pub record Gives (o : Outcome) (r : Results) : Type 0 where
+pub record GivesResults (o : Outcome) (r : Results) : Type 0 where
   pub outs : o.outs ≡ r.outs
   pub tables : map table_rows o.tables ≡ r.tables
 
 -- what is printed for the files of a program's inputs: its outputs, its tables, and then the firings of its plan where they are
 -- asked for
-abbrev pub printed : Source → Bool → List Content → List ℕ
+abbrev pub printed : SourceProgram → Bool → List Content → List ℕ
 printed s counted files =
     outputs_text s.outputs (s.means files).outs
     ++ (tables_text s.tables (s.means files).tables ++ firings_text (labels s.plan.ops) (asked_counts counted (map pos (firings s.plan (all_items files)))))

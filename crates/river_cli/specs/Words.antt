@@ -24,16 +24,16 @@ is_file [] = false
 is_file (c ∷ cs) = not (c == 45)
 
 -- a word that is a number: 1 to 9 decimal digits
-abbrev pub is_number : List ℕ → Bool
-is_number word = nat_lt 0 (length word) && (nat_le (length word) 9 && list_all is_digit word)
+abbrev pub is_number_word : List ℕ → Bool
+is_number_word word = nat_lt 0 (length word) && (nat_le (length word) 9 && list_all is_digit word)
 
 -- a number from 1 to the greatest that may stand there
-abbrev pub within : ℕ → ℕ → Option ℕ
-within most n = if nat_lt 0 n && nat_le n most then Some n else None
+abbrev pub up_to_most : ℕ → ℕ → Option ℕ
+up_to_most most n = if nat_lt 0 n && nat_le n most then Some n else None
 
 -- the number that a word writes, if it is one from 1 to the greatest that may stand there
 abbrev pub number_to : ℕ → List ℕ → Option ℕ
-number_to most word = if is_number word then within most (value_after 0 word) else None
+number_to most word = if is_number_word word then up_to_most most (value_after 0 word) else None
 
 -- the part of a word before its first `=`
 abbrev pub name_part : List ℕ → List ℕ

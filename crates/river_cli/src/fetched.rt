@@ -3,7 +3,7 @@ ghost use Rattle.std.specs.Prelude.{◌≡◌, ◌≤◌, length, IfOk};
 ghost use Rattle.river_outside.specs.Causes.{Rose};
 ghost use Rattle.river_order.specs.Order.{Fetch};
 ghost use Rattle.river_order.specs.Passes.{Passes};
-ghost use Rattle.river_cli.specs.Inputs.{fetches};
+ghost use Rattle.river_cli.specs.Inputs.{fetch_each};
 ghost use Rattle.river_cli.specs.Text.{large_input};
 
 use crate::command::InWord;
@@ -24,7 +24,7 @@ pub fn fetch_all<S: Shelf>(
     ensures stays { S.held shelf.new ≡ S.held shelf.old }
     ensures later { S.faults shelf.old ≤ S.faults shelf.new }
     ensures count { IfOk result (λ files. length files ≡ length ins.now) }
-    ensures passes { Passes (fetches ins.now) (S.held shelf.old) (Rose S.stays_at_last (S.faults shelf.old) (S.faults shelf.new)) result }
+    ensures passes { Passes (fetch_each ins.now) (S.held shelf.old) (Rose S.stays_at_last (S.faults shelf.old) (S.faults shelf.new)) result }
 {
     let mut files = Listed::new(alloc);
     for word in ins {

@@ -3,7 +3,7 @@ ghost use Rattle.std.specs.Prelude.{◌≡◌, false, [], ◌∷◌, ◌++◌, I
 ghost use Rattle.river_plan.specs.Valid.{IsPlan};
 ghost use Rattle.river_cli.specs.Contents.{AreContents};
 ghost use Rattle.river_cli.specs.Inputs as inputs;
-ghost use Rattle.river_cli.specs.Source.{Source, IsOf, IsKnown, Gives, first_values, records, printed};
+ghost use Rattle.river_cli.specs.Source.{SourceProgram, IsCompiledAs, IsKnownProgram, GivesResults, first_of_rows, records, printed};
 
 use crate::compile::Program;
 use crate::content::Content;
@@ -24,9 +24,9 @@ pub fn mean_text(
     files: Listed<Content>,
 ) -> Result<Bytes, NoMemory>
     requires valid { IsPlan plan.now }
-    requires known { IsKnown program.now plan.now }
+    requires known { IsKnownProgram program.now plan.now }
     requires contents { AreContents plan.now.inputs files }
-    ensures { IfOk result (λ text. (source : Source) → IsOf program.now source plan.now → text ≡ printed source false files) }
+    ensures { IfOk result (λ text. (source : SourceProgram) → IsCompiledAs program.now source plan.now → text ≡ printed source false files) }
 {
     let outcome = mean(alloc, plan, program, files)?;
     print_outcome(alloc, plan, &outcome, false)
@@ -40,9 +40,9 @@ fn mean(
     files: Listed<Content>,
 ) -> Result<Outcome, NoMemory>
     requires valid { IsPlan plan.now }
-    requires known { IsKnown program.now plan.now }
+    requires known { IsKnownProgram program.now plan.now }
     requires contents { AreContents plan.now.inputs files }
-    ensures { IfOk result (λ outcome. (source : Source) → IsOf program.now source plan.now → Gives outcome (source.means files)) }
+    ensures { IfOk result (λ outcome. (source : SourceProgram) → IsCompiledAs program.now source plan.now → GivesResults outcome (source.means files)) }
 {
     match program {
         Program::River(_) => run_lines(alloc, plan, inputs_of(alloc, files)?),
@@ -68,7 +68,7 @@ fn rows_of(alloc: Global, files: Listed<Content>) -> EvenRows
 
 // The first value of each row.
 fn values_of(alloc: Global, mut rows: EvenRows) -> Result<Numbers, NoMemory>
-    ensures { IfOk result (λ all. all ≡ first_values rows) }
+    ensures { IfOk result (λ all. all ≡ first_of_rows rows) }
 {
     let mut all = Numbers::new(alloc);
     while let Some(row) = rows.pop() {

@@ -3,7 +3,7 @@ ghost use Rattle.std.specs.Prelude.{◌≡◌, ◌<◌, ◌-◌, ◌^◌, min};
 ghost use Rattle.std.specs.List.{list_all};
 ghost use Rattle.river_base.specs.Name.{is_digit};
 ghost use Rattle.csv_streams.specs.Number.{value_after};
-ghost use Rattle.river_cli.specs.Words.{is_number, number_to};
+ghost use Rattle.river_cli.specs.Words.{is_number_word, number_to};
 
 // How many digits a number has at most.
 const MOST_DIGITS: usize = 9;
@@ -25,7 +25,7 @@ pub(crate) fn read_number(word: &[u8], most: u32) -> Option<u32>
 }
 
 fn is_number(word: &[u8]) -> bool
-    ensures { result ≡ is_number word.now }
+    ensures { result ≡ is_number_word word.now }
 {
     !word.is_empty() && word.len() <= MOST_DIGITS && are_digits(word)
 }

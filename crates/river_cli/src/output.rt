@@ -5,7 +5,7 @@ ghost use Rattle.river_plan.specs.Caps.{AreCaps};
 ghost use Rattle.river_plan.specs.Valid.{IsPlan};
 ghost use Rattle.river_cli.specs.Contents.{AreContents};
 ghost use Rattle.river_cli.specs.Inputs as inputs;
-ghost use Rattle.river_cli.specs.Source.{Source, IsPlanOf, printed};
+ghost use Rattle.river_cli.specs.Source.{SourceProgram, IsPlanOf, printed};
 
 use crate::content::Content;
 use crate::crew::Crew;
@@ -30,7 +30,7 @@ pub fn output<R: Threads + Sync, G: Gate + Sync>(
     requires valid { IsPlan plan.now }
     requires caps { AreCaps caps.now }
     requires contents { AreContents plan.now.inputs files }
-    ensures { IfOk result (λ text. (source : Source) → IsPlanOf source plan.now → text ≡ printed source counted files) }
+    ensures { IfOk result (λ text. (source : SourceProgram) → IsPlanOf source plan.now → text ≡ printed source counted files) }
 {
     let inputs = inputs_of(alloc, files)?;
     let ran = run_plan(

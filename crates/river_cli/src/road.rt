@@ -5,10 +5,10 @@ ghost use Rattle.river_order.specs.Decides.{Decides};
 ghost use Rattle.river_order.specs.Passes.{Passes, PassesAs};
 ghost use Rattle.river_plan.specs.Caps.{AreCaps};
 ghost use Rattle.river_plan.specs.Valid.{IsPlan};
-ghost use Rattle.river_cli.specs.Points.{points_of, of_command, of_run, of_show, of_mean, of_upgrade, of_program, of_script, of_inputs_run, shown as shown_text};
+ghost use Rattle.river_cli.specs.Points.{points_of, of_command, of_run, of_show, of_mean, of_upgrade, of_program, of_script, of_inputs_run, plan_as_shown as shown_text};
 ghost use Rattle.river_cli.specs.Commands.{IsManned};
 ghost use Rattle.river_cli.specs.Layouts.{layout_of};
-ghost use Rattle.river_cli.specs.Source.{Source, IsPlanOf, IsOf, IsKnown, IsCompiled, printed};
+ghost use Rattle.river_cli.specs.Source.{SourceProgram, IsPlanOf, IsCompiledAs, IsKnownProgram, IsCompiled, printed};
 ghost use Rattle.river_cli.specs.declared.compile.Program.{Program};
 
 use crate::command::{Command, InWords, Lang, Layout, WordFault};
@@ -208,8 +208,8 @@ fn script<S: Shelf>(
 ) -> Result<Plan, Stop>
     ensures stays { S.held shelf.new ≡ S.held shelf.old }
     ensures later { S.faults shelf.old ≤ S.faults shelf.new }
-    ensures passes { (program : Program) (source : Source) → IsOf program source plan
-        → PassesAs (IsOf program) (of_script name.now source) (S.held shelf.old) (Rose S.stays_at_last (S.faults shelf.old) (S.faults shelf.new)) result }
+    ensures passes { (program : Program) (source : SourceProgram) → IsCompiledAs program source plan
+        → PassesAs (IsCompiledAs program) (of_script name.now source) (S.held shelf.old) (Rose S.stays_at_last (S.faults shelf.old) (S.faults shelf.new)) result }
 {
     match name {
         None => Ok(plan),
@@ -221,8 +221,8 @@ fn script<S: Shelf>(
 fn rewritten<S: Shelf>(alloc: Global, file: &[u8], plan: &Plan, shelf: &mut S) -> Result<Plan, Stop>
     ensures stays { S.held shelf.new ≡ S.held shelf.old }
     ensures later { S.faults shelf.old ≤ S.faults shelf.new }
-    ensures passes { (program : Program) (source : Source) → IsOf program source plan.now
-        → PassesAs (IsOf program) (of_script (Some file.now) source) (S.held shelf.old) (Rose S.stays_at_last (S.faults shelf.old) (S.faults shelf.new)) result }
+    ensures passes { (program : Program) (source : SourceProgram) → IsCompiledAs program source plan.now
+        → PassesAs (IsCompiledAs program) (of_script (Some file.now) source) (S.held shelf.old) (Rose S.stays_at_last (S.faults shelf.old) (S.faults shelf.new)) result }
 {
     let text = fetch_turn(alloc, shelf, file, MOST_SCRIPT, text::LARGE_SCRIPT)?;
     applied(alloc, plan, &text)
@@ -252,7 +252,7 @@ fn run_over<R: Threads + Sync, S: Shelf, G: Gate + Sync>(
 ) -> Result<Bytes, Stop>
     requires caps { AreCaps caps.now }
     ensures later { S.faults shelf.old ≤ S.faults shelf.new }
-    ensures passes { (source : Source) → IsPlanOf source plan.now
+    ensures passes { (source : SourceProgram) → IsPlanOf source plan.now
         → Passes (of_inputs_run ins.now layout counts source) (S.held shelf.old) (Rose S.stays_at_last (S.faults shelf.old) (S.faults shelf.new)) result }
 {
     let decls = plan.raw().inputs.as_slice();
@@ -269,9 +269,9 @@ fn mean_over<S: Shelf>(
     program: &Program,
     shelf: &mut S,
 ) -> Result<Bytes, Stop>
-    requires { IsKnown program.now plan.now }
+    requires { IsKnownProgram program.now plan.now }
     ensures later { S.faults shelf.old ≤ S.faults shelf.new }
-    ensures passes { (source : Source) → IsOf program.now source plan.now
+    ensures passes { (source : SourceProgram) → IsCompiledAs program.now source plan.now
         → Passes (of_inputs_run ins.now layout false source) (S.held shelf.old) (Rose S.stays_at_last (S.faults shelf.old) (S.faults shelf.new)) result }
 {
     let decls = plan.raw().inputs.as_slice();

@@ -10,7 +10,7 @@ ghost use Rattle.river_plan.specs.Faults.{type_width};
 ghost use Rattle.river_plan.specs.Forms.{decl_names};
 ghost use Rattle.river_plan.specs.Kinds.{kind_of};
 ghost use Rattle.river_plan.specs.Names.{count};
-ghost use Rattle.river_cli.specs.Inputs.{width_named, file_read, read_as, content_of, content_reader, all_read, content_named, in_order, NamesNone, NamesPlace};
+ghost use Rattle.river_cli.specs.Inputs.{width_named, file_read, read_as, file_content, content_reader, all_read, content_named, contents_in_order, NamesNone, NamesPlace};
 ghost use Rattle.river_cli.specs.declared.content.Content.TheVariants.{Rows as Plain, Timed};
 
 use crate::command::{InWord, Layout};
@@ -35,7 +35,7 @@ pub fn read_inputs(
     requires count { length files.now ≡ length ins.now }
     requires widths { All (λ w. IsTrue (is_width (width_named decls.now w.name))) ins.now }
     requires apart { (q : List ℕ) → count q (decl_names decls.now) ≤ 1 }
-    ensures { AnswersAs (λ all files. files ≡ in_order decls.now ins.now all) (all_read (content_reader decls.now layout) ins.now files.now) result }
+    ensures { AnswersAs (λ all files. files ≡ contents_in_order decls.now ins.now all) (all_read (content_reader decls.now layout) ins.now files.now) result }
 {
     let mut all = read_all(alloc, decls, layout, ins, files)?;
     Ok(arrange(alloc, decls, ins, &mut all)?)
@@ -100,7 +100,7 @@ fn read_content(
     bytes: &Bytes,
 ) -> Result<Content, InFault>
     requires { IsTrue (is_width (type_width kind)) }
-    ensures { IsAnswer (content_of kind layout bytes.now) result }
+    ensures { IsAnswer (file_content kind layout bytes.now) result }
 {
     match kind {
         QueueType::Flat(FlatType::Stream(width)) => read_stream(alloc, bytes, width, layout.header),
@@ -141,7 +141,7 @@ fn arrange(
 ) -> Result<Listed<Content>, NoMemory>
     requires count { length all.old ≡ length ins.now }
     requires apart { (q : List ℕ) → count q (decl_names decls.now) ≤ 1 }
-    ensures { IfOk result (λ files. files ≡ in_order decls.now ins.now all.old) }
+    ensures { IfOk result (λ files. files ≡ contents_in_order decls.now ins.now all.old) }
 {
     let mut files = Listed::new(alloc);
     for place in 0..decls.len() {

@@ -4,7 +4,7 @@ ghost use Rattle.river_order.specs.Passes.{AnswersAs};
 ghost use Rattle.river_script.specs.Meaning.{rewritten as rewritten_plan};
 ghost use Rattle.river_script.specs.Words.{script_words};
 ghost use Rattle.river_cli.specs.Points.{with_plan};
-ghost use Rattle.river_cli.specs.Source.{Source, IsOf};
+ghost use Rattle.river_cli.specs.Source.{SourceProgram, IsCompiledAs};
 ghost use Rattle.river_cli.specs.Text.{script_refused as script_text};
 ghost use Rattle.river_cli.specs.declared.compile.Program.{Program};
 
@@ -18,8 +18,8 @@ use std::alloc::Global;
 /// The plan that a script makes of a plan, or its refusal.
 pub fn applied(alloc: Global, plan: &Plan, text: &Bytes) -> Result<Plan, Stop>
     requires { length text.now ≤ 65536 }
-    ensures { (program : Program) (source : Source) → IsOf program source plan.now
-        → AnswersAs (IsOf program) (with_plan source (rewritten_plan source.plan text.now)) result }
+    ensures { (program : Program) (source : SourceProgram) → IsCompiledAs program source plan.now
+        → AnswersAs (IsCompiledAs program) (with_plan source (rewritten_plan source.plan text.now)) result }
 {
     // The lists of a plan are valid, which the law of scripts asks for.
     let _lists = plan.raw();

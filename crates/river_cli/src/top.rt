@@ -3,7 +3,7 @@ ghost use Rattle.std.specs.Prelude.{◌≡◌, ◌≤◌, ◌⊎◌, MatchResult
 ghost use Rattle.river_outside.specs.Causes.{Rose};
 ghost use Rattle.river_order.specs.Order.{verdict, Done, Refused};
 ghost use Rattle.river_cli.specs.Points.{points_of};
-ghost use Rattle.river_cli.specs.Answer.{Kept, Wrote, WroteUsage, WroteFault, Stopped, StoppedUsage, HasStatus};
+ghost use Rattle.river_cli.specs.Answer.{TookNothing, Wrote, WroteUsage, WroteFault, Stopped, StoppedUsage, HasStatus};
 
 use crate::road::decide;
 use crate::text::USAGE;
@@ -26,39 +26,39 @@ pub fn river<R: Threads + Sync, S: Shelf, O: Sink, E: Sink, G: Gate + Sync>(
     // 0: the run is done, and the output took exactly its text.
     ensures done { result ≡ 0
         → Wrote (points_of words.now) (S.held shelf.old) Done (O.taken out.old) (O.taken out.new)
-        × Kept (E.taken err.old) (E.taken err.new) }
+        × TookNothing (E.taken err.old) (E.taken err.new) }
 
     // 1: it is refused, and the error output took exactly the refusal.
     ensures refused { result ≡ 1
         → Wrote (points_of words.now) (S.held shelf.old) Refused (E.taken err.old) (E.taken err.new)
-        × Kept (O.taken out.old) (O.taken out.new) }
+        × TookNothing (O.taken out.old) (O.taken out.new) }
 
     // 2: the words are no sentence, and the shelf was not read.
     ensures usage { result ≡ 2
         → WroteUsage (points_of words.now) (E.taken err.old) (E.taken err.new)
-        × Kept (O.taken out.old) (O.taken out.new) × (shelf.new ≡ shelf.old) }
+        × TookNothing (O.taken out.old) (O.taken out.new) × (shelf.new ≡ shelf.old) }
 
     // 3: a file whose turn came could not be read.
     ensures fault { result ≡ 3
         → WroteFault (points_of words.now) (S.held shelf.old) (Rose S.stays_at_last (S.faults shelf.old) (S.faults shelf.new))
         (E.taken err.old) (E.taken err.new) (Rose E.stays_at_last (E.faults err.old) (E.faults err.new))
-        × Kept (O.taken out.old) (O.taken out.new) }
+        × TookNothing (O.taken out.old) (O.taken out.new) }
 
     // 4: a sink failed within its text.
     ensures stopped { result ≡ 4
         → (Stopped (points_of words.now) (S.held shelf.old) Done (O.taken out.old) (O.taken out.new)
         (Rose O.stays_at_last (O.faults out.old) (O.faults out.new))
-        × Kept (E.taken err.old) (E.taken err.new))
+        × TookNothing (E.taken err.old) (E.taken err.new))
         ⊎ (Stopped (points_of words.now) (S.held shelf.old) Refused (E.taken err.old) (E.taken err.new)
         (Rose E.stays_at_last (E.faults err.old) (E.faults err.new))
-        × Kept (O.taken out.old) (O.taken out.new))
+        × TookNothing (O.taken out.old) (O.taken out.new))
         ⊎ (StoppedUsage (points_of words.now) (E.taken err.old) (E.taken err.new)
         (Rose E.stays_at_last (E.faults err.old) (E.faults err.new))
-        × Kept (O.taken out.old) (O.taken out.new)) }
+        × TookNothing (O.taken out.old) (O.taken out.new)) }
 
     // 5: memory was wanting, and nothing was written.
     ensures memory { result ≡ 5
-        → Kept (O.taken out.old) (O.taken out.new) × Kept (E.taken err.old) (E.taken err.new) }
+        → TookNothing (O.taken out.old) (O.taken out.new) × TookNothing (E.taken err.old) (E.taken err.new) }
 
     ensures only { result ≤ 5 }
 

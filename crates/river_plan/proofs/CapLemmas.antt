@@ -5,7 +5,7 @@ use Rattle.std.proofs.lemmas.List.{drop_more}
 use Rattle.std.proofs.lemmas.List.Elements.{All-head, All-tail}
 use Rattle.indexmap.specs.IndexMap.{IndexMap, Updates, get}
 use Rattle.river_base.specs.Name.{name_eq}
-use Rattle.river_plan.specs.Caps.{Knows, IsCap, AreCaps, IsOwnCap, OwnCaps, first_cap, capacity}
+use Rattle.river_plan.specs.Caps.{KnowsCaps, IsCap, AreCaps, IsOwnCap, OwnCaps, first_cap, capacity}
 use Rattle.river_plan.specs.Forms.{Name}
 use Rattle.river_plan.specs.declared.caps.Cap.{Cap}
 
@@ -15,10 +15,10 @@ chosen false x y = refl
 
 -- with the entry before them
 pub known_more : {S : Type 0} (known known' : IndexMap Name ℕ S) (caps : List Cap) (i j k : ℕ) (c : Cap) → i < length caps → j ≡ i + 1 → k ≡ i → c ≡ get_or caps k c
-    → Knows known (drop j caps) → Updates name_eq known known' c.queue (Some c.most) → Knows known' (drop i caps)
+    → KnowsCaps known (drop j caps) → Updates name_eq known known' c.queue (Some c.most) → KnowsCaps known' (drop i caps)
 known_more known known' caps i j k c lt next same at known_j u = record { each = each } where
-  h : Knows known (drop (i + 1) caps)
-  h = subst (λ n. Knows known (drop n caps)) next known_j
+  h : KnowsCaps known (drop (i + 1) caps)
+  h = subst (λ n. KnowsCaps known (drop n caps)) next known_j
 
   front : drop i caps ≡ c ∷ drop (i + 1) caps
   front = drop_more caps i c lt ∙ ap (λ x. x ∷ drop (i + 1) caps) (sym (at ∙ ap (λ n. get_or caps n c) same))

@@ -43,7 +43,7 @@ caps_of own [] = []
 caps_of own (d ∷ ds) = cap_of d.name (own d.name) ++ caps_of own ds
 
 -- the map has for each name the number of its first entry
-pub record Knows {S : Type 0} (known : IndexMap Name ℕ S) (caps : List Cap) : Type 0 where
+pub record KnowsCaps {S : Type 0} (known : IndexMap Name ℕ S) (caps : List Cap) : Type 0 where
   pub each : (q : Name) → get name_eq known q ≡ first_cap caps q
 
 -- what it gives to each queue

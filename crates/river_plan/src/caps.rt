@@ -1,6 +1,6 @@
 // How many items queues hold at most.
 ghost use Rattle.std.specs.Prelude.{◌≡◌, IfOk};
-ghost use Rattle.river_plan.specs.Caps.{capacity, first_cap, own_of, Knows};
+ghost use Rattle.river_plan.specs.Caps.{capacity, first_cap, own_of, KnowsCaps};
 
 use indexmap::IndexMap;
 use river_base::{Duplicate, Listed, Name, NoMemory};
@@ -56,7 +56,7 @@ impl CapsByName {
 
 // For each name the number of its first entry: later entries are put in before.
 fn by_name(alloc: Global, caps: &Caps) -> Result<IndexMap<Name, u32>, NoMemory>
-    ensures { IfOk result (λ known. Knows known caps.now) }
+    ensures { IfOk result (λ known. KnowsCaps known caps.now) }
 {
     let mut known = IndexMap::new(alloc);
     let count = caps.len();

@@ -49,10 +49,10 @@ counts-pieces ns h = pieces form.Count decimal count_tok w.IsCount count-item ns
 abbrev run_toks : List ℤ → Steps → List Tok
 run_toks starts steps = listed (map start_tok starts) (body_toks steps)
 
-run-piece : (starts : List ℤ) (steps : Steps) → w.Every w.IsStart starts → w.IsSteps steps → Piece (run_text starts steps) (run_toks starts steps)
+run-piece : (starts : List ℤ) (steps : Steps) → w.Every w.IsWritableStart starts → w.AreWritableSteps steps → Piece (run_text starts steps) (run_toks starts steps)
 run-piece starts steps h b =
     blank-first (starts_text starts ++ (codes " " ++ body_text steps)) (run_toks starts steps)
-    (list-first (map start_text starts) (map start_tok starts) (codes " " ++ body_text steps) (body_toks steps) (pieces g.Signed start_text start_tok w.IsStart start-item starts h)
+    (list-first (map start_text starts) (map start_tok starts) (codes " " ++ body_text steps) (body_toks steps) (pieces g.Signed start_text start_tok w.IsWritableStart start-item starts h)
     (blank-first (body_text steps) (body_toks steps) (body-piece steps b)))
 
 -- a first run of its own, or none
@@ -195,7 +195,7 @@ module _ where
 one_count : (n : ℕ) → w.IsCount n → AllPieces (decimal n ∷ []) (count_tok n ∷ [])
 one_count n h = counts-pieces (n ∷ []) (h, tt)
 
-window-piece : (x : Window) → w.IsWindow x → Piece (window_text x) (window_toks x)
+window-piece : (x : Window) → w.IsWritableWindow x → Piece (window_text x) (window_toks x)
 unfolding window_toks
 window-piece Now h = lone (codes "now") is_now
 window-piece (Range t) h = worded (codes "range") (signed_decimal t ∷ []) (value_tok t ∷ []) is_range ((value-item t h).piece, tt)
@@ -208,7 +208,7 @@ streamer-piece Istream = lone (codes "istream") is_istream
 streamer-piece Dstream = lone (codes "dstream") is_dstream
 streamer-piece Rstream = lone (codes "rstream") is_rstream
 
-code-piece : (c : CodeForm) → w.IsCode c → Piece (kernel_text (kern.code c)) (kernel_toks (kern.code c))
+code-piece : (c : CodeForm) → w.IsWritableCode c → Piece (kernel_text (kern.code c)) (kernel_toks (kern.code c))
 unfolding kernel_toks
 code-piece c h =
     let outs = map value_tok c.outs in
@@ -221,7 +221,7 @@ code-piece c h =
     word-first (codes "code") (list_text (decimal c.body.inputs ∷ decimal c.body.slots ∷ []) ++ (codes " " ++ (values_text c.outs ++ run_text c.starts c.body.steps))) (listed (counts (c.body.inputs ∷ c.body.slots ∷ [])) (listed outs (run_toks c.starts c.body.steps))) is_code sizes
     (ends-open _)
 
-first-piece : (slots : ℕ) (r : RunForm) → w.IsRun slots r → Piece (first_text r) (first_toks r)
+first-piece : (slots : ℕ) (r : RunForm) → w.IsWritableRun slots r → Piece (first_text r) (first_toks r)
 first-piece slots r h =
     let ns : List ℕ = r.peek ∷ r.pop ∷ r.push ∷ [] in
     let rates : Piece (list_text (map decimal ns) ++ (codes " " ++ body_text r.body.steps)) (listed (counts ns) (body_toks r.body.steps)) =
@@ -231,7 +231,7 @@ first-piece slots r h =
     (word-first (codes "first") (list_text (map decimal ns) ++ (codes " " ++ body_text r.body.steps)) (listed (counts ns) (body_toks r.body.steps)) is_first rates
     (ends-open _))
 
-firsts-piece : (slots : ℕ) (o : Option RunForm) → w.IsFirst slots o → Piece (firsts_text o) (firsts_toks o)
+firsts-piece : (slots : ℕ) (o : Option RunForm) → w.IsWritableFirst slots o → Piece (firsts_text o) (firsts_toks o)
 firsts-piece slots None h = piece-nothing
 firsts-piece slots (Some r) h = first-piece slots r h
 
@@ -239,7 +239,7 @@ firsts-ends : (o : Option RunForm) → EndsWord (firsts_text o)
 firsts-ends None = ends-nothing
 firsts-ends (Some r) = ends-blank _
 
-filter-piece : (f : FilterForm) → w.IsFilter f → Piece (kernel_text (kern.filter f)) (kernel_toks (kern.filter f))
+filter-piece : (f : FilterForm) → w.IsWritableFilter f → Piece (kernel_text (kern.filter f)) (kernel_toks (kern.filter f))
 unfolding kernel_toks
 filter-piece f h =
     let ns : List ℕ = f.peek ∷ f.pop ∷ f.push ∷ f.body.slots ∷ [] in
@@ -278,7 +278,7 @@ fused-piece a b at count p q =
     (ends-open _)
 
 -- the text of a kernel spells its tokens
-pub kernel-piece : (k : Kern) → w.IsKernel k → Piece (kernel_text k) (kernel_toks k)
+pub kernel-piece : (k : Kern) → w.IsWritableKernel k → Piece (kernel_text k) (kernel_toks k)
 unfolding kernel_toks
 kernel-piece (kern.code c) h = code-piece c h
 kernel-piece (kern.filter f) h = filter-piece f h
@@ -292,7 +292,7 @@ kernel-piece (kern.unpack n) h = worded (codes "unpack") (decimal n ∷ []) (cou
 kernel-piece (kern.window x) h = window-piece x h
 kernel-piece (kern.select e) h = worded (codes "select") (text_of e ∷ []) (printed e ∷ []) is_select ((term-item 64 (omega arith) e h).piece, tt)
 kernel-piece (kern.project es) h =
-    worded (codes "project") (map text_of es) (map printed es) is_project (pieces (exprs.IsTerm 64) text_of printed w.IsTerm (term-item 64 (omega arith)) es h.1)
+    worded (codes "project") (map text_of es) (map printed es) is_project (pieces (exprs.IsTerm 64) text_of printed w.IsWritableTerm (term-item 64 (omega arith)) es h.1)
 kernel-piece kern.cross h = lone (codes "cross") is_cross
 kernel-piece (kern.streamer x) h = streamer-piece x
 kernel-piece kern.tally h = lone (codes "tally") is_tally
@@ -333,12 +333,12 @@ list-then F G m v x ts us f y =
 abbrev runs : ℕ → List ℤ × Steps → List Tok → Type 0
 runs n = form.Both (g.IsStarts n) (bodies.IsBody 16 n)
 
-run-formed : (m : ℕ) (starts : List ℤ) (steps : Steps) → w.Every w.IsStart starts → w.IsBody steps → 81 ≤ m
+run-formed : (m : ℕ) (starts : List ℤ) (steps : Steps) → w.Every w.IsWritableStart starts → w.IsWritableBody steps → 81 ≤ m
     → runs (suc m) (starts, steps) (run_toks starts steps)
 run-formed m starts steps h b room =
-    list-then (λ k. form.Listing g.Signed) (bodies.IsBody 16 (suc m)) m starts steps (items_toks (map start_tok starts)) (body_toks steps) (items-listing g.Signed start_text start_tok w.IsStart start-item starts h) (body-formed 16 (suc m) steps b.0 b.1 (omega arith))
+    list-then (λ k. form.Listing g.Signed) (bodies.IsBody 16 (suc m)) m starts steps (items_toks (map start_tok starts)) (body_toks steps) (items-listing g.Signed start_text start_tok w.IsWritableStart start-item starts h) (body-formed 16 (suc m) steps b.0 b.1 (omega arith))
 
-code-formed : (m : ℕ) (c : CodeForm) → w.IsCode c → 81 ≤ m
+code-formed : (m : ℕ) (c : CodeForm) → w.IsWritableCode c → 81 ≤ m
     → g.IsCode (suc m) (kern.code c) (listed (counts (c.body.inputs ∷ c.body.slots ∷ [])) (listed (map value_tok c.outs) (run_toks c.starts c.body.steps)))
 code-formed m c h room = record {
   value = ((c.body.inputs, c.body.slots), (c.outs, (c.starts, c.body.steps)));
@@ -364,7 +364,7 @@ three-formed a b c x y z = record {
 abbrev parts_of : RunForm → g.FirstParts
 parts_of r = ((r.peek, (r.pop, r.push)), r.body.steps)
 
-first-formed : (m slots : ℕ) (r : RunForm) → w.IsRun slots r → 81 ≤ m → form.AfterWord (codes "first") (g.IsFirst (suc m)) (parts_of r) (first_toks r)
+first-formed : (m slots : ℕ) (r : RunForm) → w.IsWritableRun slots r → 81 ≤ m → form.AfterWord (codes "first") (g.IsFirst (suc m)) (parts_of r) (first_toks r)
 first-formed m slots r h room = record {
   back = listed (counts (r.peek ∷ r.pop ∷ r.push ∷ [])) (body_toks r.body.steps);
   is = refl;
@@ -374,18 +374,18 @@ first-formed m slots r h room = record {
       (body-formed 16 (suc m) r.body.steps h.3.0 h.3.1 (omega arith));
 }
 
-firsts-formed : (m slots : ℕ) (o : Option RunForm) → w.IsFirst slots o → 81 ≤ m
+firsts-formed : (m slots : ℕ) (o : Option RunForm) → w.IsWritableFirst slots o → 81 ≤ m
     → form.Maybe (form.AfterWord (codes "first") (g.IsFirst (suc m))) (optional parts_of o) (firsts_toks o)
 firsts-formed m slots None h room = refl
 firsts-formed m slots (Some r) h room = first-formed m slots r h room
 
 -- a run and its parts are one
-run-is : (slots : ℕ) (r : RunForm) → w.IsRun slots r → r ≡ g.made_first slots (parts_of r)
+run-is : (slots : ℕ) (r : RunForm) → w.IsWritableRun slots r → r ≡ g.made_first slots (parts_of r)
 run-is slots r h =
     ap (λ (k : ℕ). record { peek = r.peek; pop = r.pop; push = r.push; body = record { inputs = k; slots = r.body.slots; steps = r.body.steps } }) h.4
     ∙ ap (λ (k : ℕ). record { peek = r.peek; pop = r.pop; push = r.push; body = record { inputs = r.peek; slots = k; steps = r.body.steps } }) h.5
 
-runs-are : (slots : ℕ) (o : Option RunForm) → w.IsFirst slots o → o ≡ optional (g.made_first slots) (optional parts_of o)
+runs-are : (slots : ℕ) (o : Option RunForm) → w.IsWritableFirst slots o → o ≡ optional (g.made_first slots) (optional parts_of o)
 runs-are slots None h = refl
 runs-are slots (Some r) h = ap (λ (x : RunForm). Some x) (run-is slots r h)
 
@@ -393,7 +393,8 @@ runs-are slots (Some r) h = ap (λ (x : RunForm). Some x) (run-is slots r h)
 abbrev filter_runs : ℕ → List ℤ × (Steps × Option g.FirstParts) → List Tok → Type 0
 filter_runs n = form.Both (g.IsStarts n) (form.Both (bodies.IsBody 16 n) (form.Maybe (form.AfterWord (codes "first") (g.IsFirst n))))
 
-runs-formed : (m slots : ℕ) (starts : List ℤ) (steps : Steps) (o : Option RunForm) → w.Every w.IsStart starts → w.IsBody steps → w.IsFirst slots o → 81 ≤ m
+runs-formed : (m slots : ℕ) (starts : List ℤ) (steps : Steps) (o : Option RunForm)
+    → w.Every w.IsWritableStart starts → w.IsWritableBody steps → w.IsWritableFirst slots o → 81 ≤ m
     → filter_runs (suc m) (starts, (steps, optional parts_of o)) (run_toks starts steps ++ firsts_toks o)
 runs-formed m slots starts steps o h b f room =
     let ts = symbol s.Open ∷ (items_toks (map start_tok starts) ++ symbol s.Close ∷ []) in
@@ -401,7 +402,7 @@ runs-formed m slots starts steps o h b f room =
       front = ts;
       back = body_toks steps ++ firsts_toks o;
       is = ap (λ (l : List Tok). l ++ firsts_toks o) (behind_round (items_toks (map start_tok starts)) (body_toks steps)) ∙ append_assoc ts (body_toks steps) (firsts_toks o);
-      first = round-formed (λ k. form.Listing g.Signed) m starts (items_toks (map start_tok starts)) (items-listing g.Signed start_text start_tok w.IsStart start-item starts h);
+      first = round-formed (λ k. form.Listing g.Signed) m starts (items_toks (map start_tok starts)) (items-listing g.Signed start_text start_tok w.IsWritableStart start-item starts h);
       second = record {
         front = body_toks steps;
         back = firsts_toks o;
@@ -411,7 +412,7 @@ runs-formed m slots starts steps o h b f room =
       };
     }
 
-filter-formed : (m : ℕ) (f : FilterForm) → w.IsFilter f → 81 ≤ m → g.IsFilter (suc m) (kern.filter f) (filter_toks f)
+filter-formed : (m : ℕ) (f : FilterForm) → w.IsWritableFilter f → 81 ≤ m → g.IsFilter (suc m) (kern.filter f) (filter_toks f)
 filter-formed m f h room = record {
   value = ((f.peek, (f.pop, (f.push, f.body.slots))), (f.starts, (f.body.steps, optional parts_of f.first)));
   is =
@@ -423,7 +424,7 @@ filter-formed m f h room = record {
       (runs-formed m f.body.slots f.starts f.body.steps f.first h.4 h.5 h.7 room);
 }
 
-window-formed : (m : ℕ) (x : Window) → w.IsWindow x → g.IsKernel (suc m) (kern.window x) (window_toks x)
+window-formed : (m : ℕ) (x : Window) → w.IsWritableWindow x → g.IsKernel (suc m) (kern.window x) (window_toks x)
 unfolding window_toks
 window-formed m Now h = record { word = codes "now"; back = []; is = refl; formed = (refl, refl) }
 window-formed m (Range t) h =
@@ -443,7 +444,7 @@ in_braces : (m : ℕ) (k : Kern) → g.IsKernel m k (kernel_toks k) → IsBraced
 unfolding IsBraced
 in_braces m k f = record { back = kernel_toks k ++ symbol s.CloseBrace ∷ []; is = refl; formed = record { front = kernel_toks k; is = refl; formed = f } }
 
-pub kernel-formed : (n : ℕ) (k : Kern) → w.IsKernel k → nesting k + 81 ≤ n → g.IsKernel n k (kernel_toks k)
+pub kernel-formed : (n : ℕ) (k : Kern) → w.IsWritableKernel k → nesting k + 81 ≤ n → g.IsKernel n k (kernel_toks k)
 unfolding kernel_toks
 kernel-formed zero k h room = absurd (omega arith)
 kernel-formed (suc m) (kern.code c) h room =
@@ -464,7 +465,7 @@ kernel-formed (suc m) (kern.window x) h room = window-formed m x h
 kernel-formed (suc m) (kern.select e) h room =
     record { word = codes "select"; back = listed (printed e ∷ []) []; is = refl; formed = record { value = e; is = refl; formed = subst (λ (l : List Tok). Round exprs.IsTerm (suc m) e (symbol s.Open ∷ (l ++ symbol s.Close ∷ []))) (sym (append-nil (printed e))) (round-formed exprs.IsTerm m e (printed e) ((term-item m (omega arith) e h).formed)) } }
 kernel-formed (suc m) (kern.project es) h room =
-    record { word = codes "project"; back = listed (map printed es) []; is = refl; formed = record { value = es; is = refl; formed = round-formed (λ k. form.Commas (exprs.IsTerm k)) m es (items_toks (map printed es)) (items-commas (exprs.IsTerm m) text_of printed w.IsTerm (term-item m (omega arith)) es h.0 h.1) } }
+    record { word = codes "project"; back = listed (map printed es) []; is = refl; formed = record { value = es; is = refl; formed = round-formed (λ k. form.Commas (exprs.IsTerm k)) m es (items_toks (map printed es)) (items-commas (exprs.IsTerm m) text_of printed w.IsWritableTerm (term-item m (omega arith)) es h.0 h.1) } }
 kernel-formed (suc m) kern.cross h room = record { word = codes "cross"; back = []; is = refl; formed = (refl, refl) }
 kernel-formed (suc m) (kern.streamer x) h room = streamer-formed m x
 kernel-formed (suc m) kern.tally h room = record { word = codes "tally"; back = []; is = refl; formed = (refl, refl) }
@@ -483,5 +484,5 @@ kernel-formed (suc m) (kern.fused a b at) h room = record {
 }
 
 -- a kernel in braces, where all brackets of a unit are left
-pub braced-formed : (k : Kern) → w.IsKernel k → nesting k ≤ 32 → IsBraced 128 k (symbol s.OpenBrace ∷ (kernel_toks k ++ symbol s.CloseBrace ∷ []))
+pub braced-formed : (k : Kern) → w.IsWritableKernel k → nesting k ≤ 32 → IsBraced 128 k (symbol s.OpenBrace ∷ (kernel_toks k ++ symbol s.CloseBrace ∷ []))
 braced-formed k h deep = in_braces 127 k (kernel-formed 127 k h (omega arith))

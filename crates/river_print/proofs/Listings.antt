@@ -94,12 +94,12 @@ min-piece : Piece (codes "min") (name (codes "min") ∷ [])
 min-piece = record { spells = spells-name (codes "min") min_is; inside = inside-name (codes "min") }
 
 -- a start, with its sign
-pub start-item : (z : ℤ) → w.IsStart z → Item g.Signed start_text start_tok z
+pub start-item : (z : ℤ) → w.IsWritableStart z → Item g.Signed start_text start_tok z
 start-item z h = by (int_eq z (negsuc 9223372036854775807)) refl where
   least : z ≡ negsuc 9223372036854775807 → g.Signed z (name (codes "min") ∷ [])
   least e = inr (inl (record { back = []; is = refl; formed = (e, refl) }))
 
-  signed : (y : ℤ) → w.IsStart y → (y ≡ negsuc 9223372036854775807 → ⊥) → Piece (signed_decimal y) (signed_tok y) × g.Signed y (signed_tok y)
+  signed : (y : ℤ) → w.IsWritableStart y → (y ≡ negsuc 9223372036854775807 → ⊥) → Piece (signed_decimal y) (signed_tok y) × g.Signed y (signed_tok y)
   signed (pos n) k other = (number-piece n k, inr (inr (value-formed n k)))
   signed (negsuc n) k other =
       let below : suc n ≤ most = small n k other in (

@@ -109,7 +109,7 @@ unfolding is_letter is_word is_digit
 is_capped = refl
 
 -- a type, and the capacity behind it
-typed : (t : QueueType) (most : Option ℕ) → w.IsType t → IsOwnCap most
+typed : (t : QueueType) (most : Option ℕ) → w.IsWritableType t → IsOwnCap most
     → Line (type_text t ++ (cap_text most ++ codes ";\n")) (type_toks t ++ (cap_toks most ++ symbol s.Semicolon ∷ []))
 unfolding cap_toks
 typed t None h k = line-then (type_text t) (type_toks t) (codes ";\n") (symbol s.Semicolon ∷ []) (type-piece t h) semicolon-end (now-semicolon (codes "\n"))
@@ -121,7 +121,7 @@ typed t (Some n) h k =
     (line-then (codes "cap" ++ list_text (decimal n ∷ [])) (name (codes "cap") ∷ listed (count_tok n ∷ []) []) (codes ";\n") (symbol s.Semicolon ∷ []) (worded (codes "cap") (decimal n ∷ []) (count_tok n ∷ []) is_capped (one_count n (counts n k))) semicolon-end (now-semicolon (codes "\n"))))
     (now-blank cap_line)
 
-queue-spells : (d : Decl) (most : Option ℕ) → w.IsDecl d → IsOwnCap most → Line (capped_line d most) (queue_toks d most)
+queue-spells : (d : Decl) (most : Option ℕ) → w.IsWritableDecl d → IsOwnCap most → Line (capped_line d most) (queue_toks d most)
 unfolding queue_toks
 queue-spells d most h k =
     let line = type_text d.kind ++ (cap_text most ++ codes ";\n") in
@@ -149,7 +149,7 @@ queue-whole n (Pack (Stream k)) (Some m) rest = refl
 queue-whole n (Pack (Relation k)) (Some m) rest = refl
 
 -- its line spells a unit
-pub queue-unit : (d : Decl) (most : Option ℕ) → w.IsDecl d → IsOwnCap most → UnitPiece (capped_line d most) (queue_toks d most)
+pub queue-unit : (d : Decl) (most : Option ℕ) → w.IsWritableDecl d → IsOwnCap most → UnitPiece (capped_line d most) (queue_toks d most)
 unfolding queue_toks
 queue-unit d most h k = record { spells = queue-spells d most h k; begins = λ rest. refl; whole = λ rest none. queue-whole d.name d.kind most rest }
 
@@ -159,7 +159,7 @@ capped-formed None k = refl
 capped-formed (Some n) k = record { back = listed (count_tok n ∷ []) []; is = refl; formed = count-round n (counts n k) }
 
 -- which is in the grammar
-pub queue-formed : (d : Decl) (most : Option ℕ) → w.IsDecl d → IsOwnCap most → p.IsUnit (p.inner (record { decl = d; most = most })) (queue_toks d most)
+pub queue-formed : (d : Decl) (most : Option ℕ) → w.IsWritableDecl d → IsOwnCap most → p.IsUnit (p.inner (record { decl = d; most = most })) (queue_toks d most)
 unfolding queue_toks
 queue-formed d most h k = record {
   word = codes "queue";

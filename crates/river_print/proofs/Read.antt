@@ -113,27 +113,27 @@ count = gives-tested is_count form.Number w.IsCount (λ n h. let a = at_most n 4
 value : Gives form.Value w.IsNatural
 value = record { give = λ v ts h. subst w.IsNatural (sym h.is) (h.number, refl, at_most h.number 9223372036854775807 h.fits) }
 
-start-natural : (z : ℤ) → w.IsNatural z → w.IsStart z
-start-natural z h = subst w.IsStart (sym h.1) h.2
+start-natural : (z : ℤ) → w.IsNatural z → w.IsWritableStart z
+start-natural z h = subst w.IsWritableStart (sym h.1) h.2
 
-value-start : Gives form.Value w.IsStart
+value-start : Gives form.Value w.IsWritableStart
 value-start = record { give = λ v ts h. start-natural v (value.give v ts h) }
 
-width : Gives g.Width w.IsStart
-width = gives-seen (λ n. pos n) w.IsStart count (λ n h. omega (arith, h))
+width : Gives g.Width w.IsWritableStart
+width = gives-seen (λ n. pos n) w.IsWritableStart count (λ n h. omega (arith, h))
 
-neg-start : (z : ℤ) → w.IsNatural z → w.IsStart (neg_ℤ z)
-neg-start z h = subst (λ y. w.IsStart (neg_ℤ y)) (sym h.1) (of_pos h.0 h.2)
+neg-start : (z : ℤ) → w.IsNatural z → w.IsWritableStart (neg_ℤ z)
+neg-start z h = subst (λ y. w.IsWritableStart (neg_ℤ y)) (sym h.1) (of_pos h.0 h.2)
   where
-    of_pos : (n : ℕ) → n ≤ 9223372036854775807 → w.IsStart (neg_ℤ (pos n))
+    of_pos : (n : ℕ) → n ≤ 9223372036854775807 → w.IsWritableStart (neg_ℤ (pos n))
     of_pos zero le = omega arith
     of_pos (suc n) le = omega (arith, le)
 
-signed : Gives g.Signed w.IsStart
+signed : Gives g.Signed w.IsWritableStart
 signed =
-    gives-merged (gives-after _ (gives-seen neg_ℤ w.IsStart value neg-start)) (gives-merged (gives-after_word (codes "min") (gives-nothing w.IsStart g.least (omega arith))) value-start)
+    gives-merged (gives-after _ (gives-seen neg_ℤ w.IsWritableStart value neg-start)) (gives-merged (gives-after_word (codes "min") (gives-nothing w.IsWritableStart g.least (omega arith))) value-start)
 
-starts : (n : ℕ) → Gives (g.IsStarts n) (w.Every w.IsStart)
+starts : (n : ℕ) → Gives (g.IsStarts n) (w.Every w.IsWritableStart)
 starts n = gives-enclosed _ _ (λ m. gives-listing signed) n
 
 -- EXPRESSIONS
@@ -245,7 +245,7 @@ filter n = gives-seen g.made_filter IsKernel
 counted : (f : ℕ → Kern) → ((n : ℕ) → w.IsCount n → IsKernel (f n)) → (n : ℕ) → Gives (form.Seen f (Round (λ m. form.Count) n)) IsKernel
 counted f k n = gives-seen f IsKernel (gives-enclosed _ _ (λ m. count) n) k
 
-weighed : (f : List ℤ → Kern) → ((ws : List ℤ) → w.Every w.IsStart ws → IsKernel (f ws)) → (n : ℕ)
+weighed : (f : List ℤ → Kern) → ((ws : List ℤ) → w.Every w.IsWritableStart ws → IsKernel (f ws)) → (n : ℕ)
     → Gives (form.Seen f (Round (λ m. form.Commas form.Value) n)) IsKernel
 weighed f k n = gives-seen f IsKernel (gives-enclosed _ _ (λ m. gives-commas value-start) n) k
 
@@ -303,23 +303,23 @@ flat-after n word =
     (gives-choose (bytes_eq word (codes "relation")) (gives-seen Relation _ (gives-enclosed _ _ (λ m. count) n) (λ k h. h))
     (gives-never _)))
 
-type : Gives t.IsType w.IsType
+type : Gives t.IsType w.IsWritableType
 type = gives-headed (λ word. gives-choose (bytes_eq word (codes "pack"))
-    (gives-seen Pack w.IsType (gives-enclosed _ _ (λ n. gives-headed (λ v. flat-after n v)) t.brackets) (λ k h. h))
-    (gives-seen Flat w.IsType (flat-after t.brackets word) (λ k h. h)))
+    (gives-seen Pack w.IsWritableType (gives-enclosed _ _ (λ n. gives-headed (λ v. flat-after n v)) t.brackets) (λ k h. h))
+    (gives-seen Flat w.IsWritableType (flat-after t.brackets word) (λ k h. h)))
 
-decl : Gives t.IsDecl w.IsDecl
-decl = gives-seen t.made_decl w.IsDecl (gives-both named (gives-after _ (gives-before _ type))) (λ v h. h)
+decl : Gives t.IsDecl w.IsWritableDecl
+decl = gives-seen t.made_decl w.IsWritableDecl (gives-both named (gives-after _ (gives-before _ type))) (λ v h. h)
 
-kind : (word : List ℕ) → Gives (t.KindAfter word) w.IsKind
+kind : (word : List ℕ) → Gives (t.KindAfter word) w.IsWritableKind
 kind word =
-    gives-choose (bytes_eq word (codes "sum")) (gives-seen Sum w.IsKind (gives-enclosed _ _ (λ m. count) t.brackets) (λ k h. h))
-    (gives-choose (bytes_eq word (codes "collection")) (gives-seen Collection w.IsKind (gives-enclosed _ _ (λ m. count) t.brackets) (λ k h. h))
-    (gives-choose (bytes_eq word (codes "maximum")) (gives-seen t.made_maximum w.IsKind (gives-enclosed s.Open s.Close (λ m. gives-both count (gives-after (s.Comma ∷ []) count)) t.brackets) (λ k h. h))
-    (gives-never w.IsKind)))
+    gives-choose (bytes_eq word (codes "sum")) (gives-seen Sum w.IsWritableKind (gives-enclosed _ _ (λ m. count) t.brackets) (λ k h. h))
+    (gives-choose (bytes_eq word (codes "collection")) (gives-seen Collection w.IsWritableKind (gives-enclosed _ _ (λ m. count) t.brackets) (λ k h. h))
+    (gives-choose (bytes_eq word (codes "maximum")) (gives-seen t.made_maximum w.IsWritableKind (gives-enclosed s.Open s.Close (λ m. gives-both count (gives-after (s.Comma ∷ []) count)) t.brackets) (λ k h. h))
+    (gives-never w.IsWritableKind)))
 
-table : Gives t.IsTable w.IsTable
-table = gives-seen t.made_table w.IsTable (gives-both named-var (gives-after _ (gives-before _ (gives-headed kind)))) (λ v h. h)
+table : Gives t.IsTable w.IsWritableTable
+table = gives-seen t.made_table w.IsWritableTable (gives-both named-var (gives-after _ (gives-before _ (gives-headed kind)))) (λ v h. h)
 
 -- the names of ports
 abbrev IsPort : t.Port → Type 0
@@ -352,19 +352,19 @@ operator = gives-seen t.made_op IsOp
 -- PLANS
 
 -- a declaration with a capacity
-queue : Gives t.IsQueue (λ q. w.IsDecl q.decl)
+queue : Gives t.IsQueue (λ q. w.IsWritableDecl q.decl)
 queue = record {
   give = λ q ts h.
       let b = h.formed.second.formed.formed in
-      subst (λ (x : QueueDecl). w.IsDecl x.decl) (sym h.is) (named.give h.value.0 h.formed.front h.formed.first, type.give h.value.1.0 b.front b.first);
+      subst (λ (x : QueueDecl). w.IsWritableDecl x.decl) (sym h.is) (named.give h.value.0 h.formed.front h.formed.first, type.give h.value.1.0 b.front b.first);
 }
 
 abbrev IsEntry : t.Entry → Type 0
 IsEntry t.header = Unit {0}
-IsEntry (t.output d) = w.IsDecl d
-IsEntry (t.input d) = w.IsDecl d
-IsEntry (t.inner q) = w.IsDecl q.decl
-IsEntry (t.table x) = w.IsTable x
+IsEntry (t.output d) = w.IsWritableDecl d
+IsEntry (t.input d) = w.IsWritableDecl d
+IsEntry (t.inner q) = w.IsWritableDecl q.decl
+IsEntry (t.table x) = w.IsWritableTable x
 IsEntry (t.private v) = w.IsNamed v
 IsEntry (t.operator o) = IsOp o
 
@@ -404,13 +404,13 @@ said-empty = record { ranged = record { outputs = tt; inputs = tt; queues = tt; 
 said-add : (x : t.TextForm) (e : t.Entry) → IsSaid x.plan → IsEntry e → IsSaid (t.add x e).plan
 said-add x t.header s h = s
 said-add x (t.output d) s h = let k = s.ranged in
-    record { ranged = record { outputs = every-append w.IsDecl x.plan.outputs d k.outputs h; inputs = k.inputs; queues = k.queues; tables = k.tables; vars = k.vars; ops = k.ops }; shallow = s.shallow; forward = s.forward }
+    record { ranged = record { outputs = every-append w.IsWritableDecl x.plan.outputs d k.outputs h; inputs = k.inputs; queues = k.queues; tables = k.tables; vars = k.vars; ops = k.ops }; shallow = s.shallow; forward = s.forward }
 said-add x (t.input d) s h = let k = s.ranged in
-    record { ranged = record { outputs = k.outputs; inputs = every-append w.IsDecl x.plan.inputs d k.inputs h; queues = k.queues; tables = k.tables; vars = k.vars; ops = k.ops }; shallow = s.shallow; forward = s.forward }
+    record { ranged = record { outputs = k.outputs; inputs = every-append w.IsWritableDecl x.plan.inputs d k.inputs h; queues = k.queues; tables = k.tables; vars = k.vars; ops = k.ops }; shallow = s.shallow; forward = s.forward }
 said-add x (t.inner q) s h = let k = s.ranged in
-    record { ranged = record { outputs = k.outputs; inputs = k.inputs; queues = every-append w.IsDecl x.plan.queues q.decl k.queues h; tables = k.tables; vars = k.vars; ops = k.ops }; shallow = s.shallow; forward = s.forward }
+    record { ranged = record { outputs = k.outputs; inputs = k.inputs; queues = every-append w.IsWritableDecl x.plan.queues q.decl k.queues h; tables = k.tables; vars = k.vars; ops = k.ops }; shallow = s.shallow; forward = s.forward }
 said-add x (t.table y) s h = let k = s.ranged in
-    record { ranged = record { outputs = k.outputs; inputs = k.inputs; queues = k.queues; tables = every-append w.IsTable x.plan.tables y k.tables h; vars = k.vars; ops = k.ops }; shallow = s.shallow; forward = s.forward }
+    record { ranged = record { outputs = k.outputs; inputs = k.inputs; queues = k.queues; tables = every-append w.IsWritableTable x.plan.tables y k.tables h; vars = k.vars; ops = k.ops }; shallow = s.shallow; forward = s.forward }
 said-add x (t.private v) s h = let k = s.ranged in
     record { ranged = record { outputs = k.outputs; inputs = k.inputs; queues = k.queues; tables = k.tables; vars = every-append w.IsNamed x.plan.vars v k.vars h; ops = k.ops }; shallow = s.shallow; forward = s.forward }
 said-add x (t.operator o) s h = let k = s.ranged in

@@ -110,11 +110,11 @@ stage-then k start (e ∷ es) fs (u ∷ us) vs le h more = (
       (stage-then k (suc k) es fs us vs (omega arith) h.3 more),
 )
 
-output-formed : (d : Decl) → w.IsDecl d → IsUnit (output d) (decl_toks (codes "output") d)
+output-formed : (d : Decl) → w.IsWritableDecl d → IsUnit (output d) (decl_toks (codes "output") d)
 unfolding decl_toks
 output-formed d h = record { word = codes "output"; back = _; is = refl; formed = record { value = d; is = refl; formed = decl-formed d h } }
 
-input-formed : (d : Decl) → w.IsDecl d → IsUnit (input d) (decl_toks (codes "input") d)
+input-formed : (d : Decl) → w.IsWritableDecl d → IsUnit (input d) (decl_toks (codes "input") d)
 unfolding decl_toks
 input-formed d h = record { word = codes "input"; back = _; is = refl; formed = record { value = d; is = refl; formed = decl-formed d h } }
 
@@ -128,7 +128,7 @@ stands_behind (Some n) k = let a = k.0 in let b = k.1 in rw (within 1 n a, withi
   within : (x y : ℕ) → x ≤ y → nat_le x y ≡ true
   within x y le = grind (arith, nat_tests)
 
-table_formed : (t : TableDecl) → w.IsTable t → IsUnit (table t) (table_toks t)
+table_formed : (t : TableDecl) → w.IsWritableTable t → IsUnit (table t) (table_toks t)
 unfolding table_toks
 table_formed t h = record { word = codes "table"; back = _; is = refl; formed = record { value = t; is = refl; formed = table-formed t h } }
 
@@ -136,7 +136,7 @@ var_formed : (v : Name) → w.IsNamed v → IsUnit (private v) (var_toks v)
 unfolding var_toks
 var_formed v h = record { word = codes "var"; back = _; is = refl; formed = record { value = v; is = refl; formed = var-formed v h } }
 
-op_formed : (o : OpForm) → w.IsOp o → IsUnit (operator o) (op_toks o)
+op_formed : (o : OpForm) → w.IsWritableOp o → IsUnit (operator o) (op_toks o)
 unfolding op_toks
 op_formed o h = record { word = codes "op"; back = _; is = refl; formed = record { value = o; is = refl; formed = op-formed o h } }
 
@@ -217,12 +217,12 @@ unit_lines own p =
 
 plan-chunk : (own : OwnCaps) (p : PlanForm) → HaveOwnCaps own → w.IsWritable p → Chunk (unit_lines own p) (units own p)
 plan-chunk own p fit h =
-    chunk-then (lines (decl_line (codes "output")) p.outputs) (map (decl_toks (codes "output")) p.outputs) _ _ (chunk-lines (decl_line (codes "output")) (decl_toks (codes "output")) w.IsDecl (λ d k. decl-unit (codes "output") d is_output refl k) p.outputs h.outputs)
-    (chunk-then (lines (decl_line (codes "input")) p.inputs) (map (decl_toks (codes "input")) p.inputs) _ _ (chunk-lines (decl_line (codes "input")) (decl_toks (codes "input")) w.IsDecl (λ d k. decl-unit (codes "input") d is_input refl k) p.inputs h.inputs)
-    (chunk-then (lines (queue_line own) p.queues) (map (λ d. queue_toks d (own d.name)) p.queues) _ _ (chunk-lines (queue_line own) (λ d. queue_toks d (own d.name)) w.IsDecl (λ d k. queue-unit d (own d.name) k (fit d.name)) p.queues h.queues)
-    (chunk-then (lines table_line p.tables) (map table_toks p.tables) _ _ (chunk-lines table_line table_toks w.IsTable table-unit p.tables h.tables)
+    chunk-then (lines (decl_line (codes "output")) p.outputs) (map (decl_toks (codes "output")) p.outputs) _ _ (chunk-lines (decl_line (codes "output")) (decl_toks (codes "output")) w.IsWritableDecl (λ d k. decl-unit (codes "output") d is_output refl k) p.outputs h.outputs)
+    (chunk-then (lines (decl_line (codes "input")) p.inputs) (map (decl_toks (codes "input")) p.inputs) _ _ (chunk-lines (decl_line (codes "input")) (decl_toks (codes "input")) w.IsWritableDecl (λ d k. decl-unit (codes "input") d is_input refl k) p.inputs h.inputs)
+    (chunk-then (lines (queue_line own) p.queues) (map (λ d. queue_toks d (own d.name)) p.queues) _ _ (chunk-lines (queue_line own) (λ d. queue_toks d (own d.name)) w.IsWritableDecl (λ d k. queue-unit d (own d.name) k (fit d.name)) p.queues h.queues)
+    (chunk-then (lines table_line p.tables) (map table_toks p.tables) _ _ (chunk-lines table_line table_toks w.IsWritableTable table-unit p.tables h.tables)
     (chunk-then (lines var_line p.vars) (map var_toks p.vars) _ _ (chunk-lines var_line var_toks w.IsNamed var-unit p.vars h.vars)
-    (chunk-lines op_line op_toks w.IsOp op-unit p.ops h.ops)))))
+    (chunk-lines op_line op_toks w.IsWritableOp op-unit p.ops h.ops)))))
 
 text-chunk : (own : OwnCaps) (p : PlanForm) → HaveOwnCaps own → w.IsWritable p → Chunk (plan_text own p) (header_toks ∷ units own p)
 text-chunk own p fit h =
@@ -232,14 +232,14 @@ last_stage : (p : PlanForm) → w.IsWritable p → (b : ℕ) → b ≤ 6 → All
 last_stage p h b le =
     subst (λ (es : List Entry). AllFormed IsUnitAt next_place (behind b) es (map op_toks p.ops)) (append-nil (map operator p.ops))
     (subst (λ (us : List (List Tok)). AllFormed IsUnitAt next_place (behind b) (map operator p.ops ++ []) us) (append-nil (map op_toks p.ops))
-    (stage-then 5 b (map operator p.ops) [] (map op_toks p.ops) [] le (stage_lines 5 operator op_toks w.IsOp (λ x. refl) (λ x k. refl) op_formed p.ops h.ops) (λ c k. tt)))
+    (stage-then 5 b (map operator p.ops) [] (map op_toks p.ops) [] le (stage_lines 5 operator op_toks w.IsWritableOp (λ x. refl) (λ x k. refl) op_formed p.ops h.ops) (λ c k. tt)))
 
 plan-formed : (own : OwnCaps) (p : PlanForm) → HaveOwnCaps own → w.IsWritable p → AreUnits (behind 1) (entries_of own p) (units own p)
 plan-formed own p fit h =
-    stage-then 0 1 (map output p.outputs) _ (map (decl_toks (codes "output")) p.outputs) _ (omega arith) (stage_lines 0 output (decl_toks (codes "output")) w.IsDecl (λ x. refl) (λ x k. refl) output-formed p.outputs h.outputs) (λ a la.
-    stage-then 1 a (map input p.inputs) _ (map (decl_toks (codes "input")) p.inputs) _ (omega arith) (stage_lines 1 input (decl_toks (codes "input")) w.IsDecl (λ x. refl) (λ x k. refl) input-formed p.inputs h.inputs) (λ b lb.
-    stage-then 2 b (map (capped own) p.queues) _ (map (λ d. queue_toks d (own d.name)) p.queues) _ (omega arith) (stage_lines 2 (capped own) (λ d. queue_toks d (own d.name)) w.IsDecl (λ x. refl) (λ d k. stands_behind (own d.name) (fit d.name)) (λ d k. queue-formed d (own d.name) k (fit d.name)) p.queues h.queues) (λ c lc.
-    stage-then 3 c (map table p.tables) _ (map table_toks p.tables) _ (omega arith) (stage_lines 3 table table_toks w.IsTable (λ x. refl) (λ x k. refl) table_formed p.tables h.tables) (λ d ld.
+    stage-then 0 1 (map output p.outputs) _ (map (decl_toks (codes "output")) p.outputs) _ (omega arith) (stage_lines 0 output (decl_toks (codes "output")) w.IsWritableDecl (λ x. refl) (λ x k. refl) output-formed p.outputs h.outputs) (λ a la.
+    stage-then 1 a (map input p.inputs) _ (map (decl_toks (codes "input")) p.inputs) _ (omega arith) (stage_lines 1 input (decl_toks (codes "input")) w.IsWritableDecl (λ x. refl) (λ x k. refl) input-formed p.inputs h.inputs) (λ b lb.
+    stage-then 2 b (map (capped own) p.queues) _ (map (λ d. queue_toks d (own d.name)) p.queues) _ (omega arith) (stage_lines 2 (capped own) (λ d. queue_toks d (own d.name)) w.IsWritableDecl (λ x. refl) (λ d k. stands_behind (own d.name) (fit d.name)) (λ d k. queue-formed d (own d.name) k (fit d.name)) p.queues h.queues) (λ c lc.
+    stage-then 3 c (map table p.tables) _ (map table_toks p.tables) _ (omega arith) (stage_lines 3 table table_toks w.IsWritableTable (λ x. refl) (λ x k. refl) table_formed p.tables h.tables) (λ d ld.
     stage-then 4 d (map private p.vars) _ (map var_toks p.vars) _ (omega arith) (stage_lines 4 private var_toks w.IsNamed (λ x. refl) (λ x k. refl) var_formed p.vars h.vars) (λ e le.
     last_stage p h e (omega arith))))))
 

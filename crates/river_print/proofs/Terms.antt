@@ -65,14 +65,14 @@ inside-printed (Bin o a b) =
     in_round (printed a ++ symbol (sign_of o) ∷ printed b) (inside-then (printed a) (symbol (sign_of o) ∷ printed b) (inside-printed a)
     (inside-then (symbol (sign_of o) ∷ []) (printed b) (inside-symbol (sign_of o) (plain-sign o)) (inside-printed b)))
 
-pub term-piece : (t : Term) → w.IsTerm t → Piece (text_of t) (printed t)
+pub term-piece : (t : Term) → w.IsWritableTerm t → Piece (text_of t) (printed t)
 term-piece t h = record { spells = spells-term t h.0; inside = inside-printed t }
 
-pub term-formed : (n : ℕ) (t : Term) → 64 ≤ n → w.IsTerm t → exprs.IsTerm n t (printed t)
+pub term-formed : (n : ℕ) (t : Term) → 64 ≤ n → w.IsWritableTerm t → exprs.IsTerm n t (printed t)
 term-formed n t room h = printed-is t n h.0 h.1 (omega (arith, h.1))
 
 -- an expression
-pub term-item : (n : ℕ) → 64 ≤ n → (t : Term) → w.IsTerm t → Item (exprs.IsTerm n) text_of printed t
+pub term-item : (n : ℕ) → 64 ≤ n → (t : Term) → w.IsWritableTerm t → Item (exprs.IsTerm n) text_of printed t
 term-item n room t h = record { piece = term-piece t h; formed = term-formed n t room h }
 
 -- ---- bodies
@@ -119,7 +119,7 @@ ends-else : (xs : Steps) → EndsWord (else_text xs)
 ends-else Done = ends-nothing
 ends-else (Then x xs) = ends-blank (codes "else { " ++ (step_text x ++ (more_text xs ++ codes " }")))
 
-set-piece : (k : ℕ) (t : Term) → w.IsCount k → w.IsTerm t → Piece (step_text (Set k t)) (step_toks (Set k t))
+set-piece : (k : ℕ) (t : Term) → w.IsCount k → w.IsWritableTerm t → Piece (step_text (Set k t)) (step_toks (Set k t))
 set-piece k t count term =
     let last : Piece (text_of t ++ codes ";") (printed t ++ symbol s.Semicolon ∷ []) = piece-then (text_of t) (printed t) (codes ";") (symbol s.Semicolon ∷ []) (term-piece t term) (semicolon-first [] [] piece-nothing) (ends-semicolon []) in
     let value : Piece (codes "= " ++ (text_of t ++ codes ";")) (symbol s.Assign ∷ (printed t ++ symbol s.Semicolon ∷ [])) =
@@ -131,13 +131,13 @@ set-piece k t count term =
     word-first (codes "slot") (codes "[" ++ (decimal k ++ (codes "] = " ++ (text_of t ++ codes ";")))) (symbol s.OpenBracket ∷ number k ∷ symbol s.CloseBracket ∷ symbol s.Assign ∷ (printed t ++ symbol s.Semicolon ∷ [])) slot_is
     (square-first (decimal k ++ (codes "] = " ++ (text_of t ++ codes ";"))) (number k ∷ symbol s.CloseBracket ∷ symbol s.Assign ∷ (printed t ++ symbol s.Semicolon ∷ [])) counted) (ends-square (decimal k ++ (codes "] = " ++ (text_of t ++ codes ";"))))
 
-push-piece : (p : ℕ) (ts : List Term) → w.IsCount p → w.Every w.IsTerm ts → Piece (step_text (Push p ts)) (step_toks (Push p ts))
+push-piece : (p : ℕ) (ts : List Term) → w.IsCount p → w.Every w.IsWritableTerm ts → Piece (step_text (Push p ts)) (step_toks (Push p ts))
 push-piece p ts count terms =
     let items = items_toks (map printed ts) in
     let text = items_text (map text_of ts) in
     let last : Piece (codes ");") (symbol s.Close ∷ symbol s.Semicolon ∷ []) = close-first (codes ";") (symbol s.Semicolon ∷ []) (semicolon-first [] [] piece-nothing) in
     let values : Piece (text ++ codes ");") (items ++ symbol s.Close ∷ symbol s.Semicolon ∷ []) =
-    piece-then text items (codes ");") (symbol s.Close ∷ symbol s.Semicolon ∷ []) (pieces-items (map text_of ts) (map printed ts) (pieces (exprs.IsTerm 64) text_of printed w.IsTerm (term-item 64 (omega arith)) ts terms)) last (ends-close (codes ";")) in
+    piece-then text items (codes ");") (symbol s.Close ∷ symbol s.Semicolon ∷ []) (pieces-items (map text_of ts) (map printed ts) (pieces (exprs.IsTerm 64) text_of printed w.IsWritableTerm (term-item 64 (omega arith)) ts terms)) last (ends-close (codes ";")) in
     let opened : Piece (codes " (" ++ (text ++ codes ");")) (symbol s.Open ∷ (items ++ symbol s.Close ∷ symbol s.Semicolon ∷ [])) =
     blank-first (codes "(" ++ (text ++ codes ");")) (symbol s.Open ∷ (items ++ symbol s.Close ∷ symbol s.Semicolon ∷ [])) (open-first (text ++ codes ");") (items ++ symbol s.Close ∷ symbol s.Semicolon ∷ []) values) in
     let counted : Piece (decimal p ++ (codes " (" ++ (text ++ codes ");"))) (number p ∷ symbol s.Open ∷ (items ++ symbol s.Close ∷ symbol s.Semicolon ∷ [])) =
@@ -145,7 +145,7 @@ push-piece p ts count terms =
     word-first (codes "push") (codes " " ++ (decimal p ++ (codes " (" ++ (text ++ codes ");")))) (number p ∷ symbol s.Open ∷ (items ++ symbol s.Close ∷ symbol s.Semicolon ∷ [])) push_is
     (blank-first (decimal p ++ (codes " (" ++ (text ++ codes ");"))) (number p ∷ symbol s.Open ∷ (items ++ symbol s.Close ∷ symbol s.Semicolon ∷ [])) counted) (ends-blank (decimal p ++ (codes " (" ++ (text ++ codes ");"))))
 
-if-piece : (c : Term) (a b : Steps) → w.IsTerm c → Piece (body_text a) (body_toks a) → Piece (else_text b) (else_toks b)
+if-piece : (c : Term) (a b : Steps) → w.IsWritableTerm c → Piece (body_text a) (body_toks a) → Piece (else_text b) (else_toks b)
     → Piece (step_text (If c a b)) (step_toks (If c a b))
 if-piece c a b term when otherwise =
     let arms : Piece (body_text a ++ else_text b) (body_toks a ++ else_toks b) = piece-then (body_text a) (body_toks a) (else_text b) (else_toks b) when otherwise (ends-else b) in
@@ -165,21 +165,21 @@ in_braces x xs p q =
     (braced (step_text x ++ more_text xs) (step_toks x ++ rest_toks xs) (piece-then (step_text x) (step_toks x) (more_text xs) (rest_toks xs) p q (ends-rest xs)))
 
 mutual
-  step-piece : (x : Step) → w.IsStep x → Piece (step_text x) (step_toks x)
+  step-piece : (x : Step) → w.IsWritableStep x → Piece (step_text x) (step_toks x)
   step-piece (Set k t) h = set-piece k t h.0 h.1
   step-piece (Push p ts) h = push-piece p ts h.0 h.2
   step-piece (If c a b) h = if-piece c a b h.0 (body-piece a h.1) (else-piece b h.2)
 
-  pub body-piece : (xs : Steps) → w.IsSteps xs → Piece (body_text xs) (body_toks xs)
+  pub body-piece : (xs : Steps) → w.AreWritableSteps xs → Piece (body_text xs) (body_toks xs)
   body-piece Done h = braced-nothing
   body-piece (Then x xs) h = in_braces x xs (step-piece x h.0) (rest-piece xs h.1)
 
-  rest-piece : (xs : Steps) → w.IsSteps xs → Piece (more_text xs) (rest_toks xs)
+  rest-piece : (xs : Steps) → w.AreWritableSteps xs → Piece (more_text xs) (rest_toks xs)
   rest-piece Done h = piece-nothing
   rest-piece (Then x xs) h =
       blank-first (step_text x ++ more_text xs) (step_toks x ++ rest_toks xs) (piece-then (step_text x) (step_toks x) (more_text xs) (rest_toks xs) (step-piece x h.0) (rest-piece xs h.1) (ends-rest xs))
 
-  else-piece : (xs : Steps) → w.IsSteps xs → Piece (else_text xs) (else_toks xs)
+  else-piece : (xs : Steps) → w.AreWritableSteps xs → Piece (else_text xs) (else_toks xs)
   else-piece Done h = piece-nothing
   else-piece (Then x xs) h =
       blank-first (codes "else " ++ body_text (Then x xs)) (else_toks (Then x xs)) (word-first (codes "else") (codes " " ++ body_text (Then x xs)) (body_toks (Then x xs)) else_is
@@ -203,7 +203,7 @@ round-formed F m v ts f = record { back = ts ++ symbol s.Close ∷ []; is = refl
 pub behind_round : (ts us : List Tok) → symbol s.Open ∷ (ts ++ symbol s.Close ∷ us) ≡ (symbol s.Open ∷ (ts ++ symbol s.Close ∷ [])) ++ us
 behind_round ts us = ap (λ (l : List Tok). symbol s.Open ∷ l) (sym (append_assoc ts (symbol s.Close ∷ []) us))
 
-set-formed : (m k : ℕ) (t : Term) → w.IsCount k → w.IsTerm t → 64 ≤ m
+set-formed : (m k : ℕ) (t : Term) → w.IsCount k → w.IsWritableTerm t → 64 ≤ m
     → bodies.IsSet (suc m) (Set k t) (symbol s.OpenBracket ∷ number k ∷ symbol s.CloseBracket ∷ symbol s.Assign ∷ (printed t ++ symbol s.Semicolon ∷ []))
 set-formed m k t count term room = record {
   value = (k, t);
@@ -219,7 +219,7 @@ set-formed m k t count term room = record {
   };
 }
 
-push-formed : (m p : ℕ) (ts : List Term) → w.IsCount p → 0 < length ts → w.Every w.IsTerm ts → 64 ≤ m
+push-formed : (m p : ℕ) (ts : List Term) → w.IsCount p → 0 < length ts → w.Every w.IsWritableTerm ts → 64 ≤ m
     → bodies.IsPush (suc m) (Push p ts) (number p ∷ symbol s.Open ∷ (items_toks (map printed ts) ++ symbol s.Close ∷ symbol s.Semicolon ∷ []))
 push-formed m p ts count some terms room =
     let items = items_toks (map printed ts) in
@@ -235,7 +235,8 @@ push-formed m p ts count some terms room =
           front = symbol s.Open ∷ (items ++ symbol s.Close ∷ []);
           is = behind_round items (symbol s.Semicolon ∷ []);
           formed =
-              round-formed (λ k. form.Commas (exprs.IsTerm k)) m ts items (items-commas (exprs.IsTerm m) text_of printed w.IsTerm (term-item m room) ts some terms);
+              round-formed (λ k. form.Commas (exprs.IsTerm k)) m ts items (items-commas (exprs.IsTerm m) text_of printed w.IsWritableTerm (term-item m room)
+              ts some terms);
         };
       };
     }
@@ -249,7 +250,7 @@ arm-done : (xs : Steps) → bodies.or_done (arm_of xs) ≡ xs
 arm-done Done = refl
 arm-done (Then x xs) = refl
 
-if-formed : (body : ℕ → Steps → List Tok → Type 0) (m : ℕ) (c : Term) (a b : Steps) → w.IsTerm c → 64 ≤ m → body (suc m) a (body_toks a)
+if-formed : (body : ℕ → Steps → List Tok → Type 0) (m : ℕ) (c : Term) (a b : Steps) → w.IsWritableTerm c → 64 ≤ m → body (suc m) a (body_toks a)
     → form.Maybe (form.AfterWord (codes "else") (body (suc m))) (arm_of b) (else_toks b)
     → IsBranch bodies.style bodies.holes body (suc m) (If c a b) (symbol s.Open ∷ (printed c ++ symbol s.Close ∷ (body_toks a ++ else_toks b)))
 if-formed body m c a b term room when otherwise = record {
@@ -280,7 +281,7 @@ then-formed nest m x xs first rest = record {
 mutual
   unfolding IsRest
 
-  stmt-formed : (nest m : ℕ) (x : Step) → w.IsStep x → w.depth_once x ≤ nest → nest + 65 ≤ m → IsStmt nest m x (step_toks x)
+  stmt-formed : (nest m : ℕ) (x : Step) → w.IsWritableStep x → w.depth_once x ≤ nest → nest + 65 ≤ m → IsStmt nest m x (step_toks x)
   stmt-formed zero zero x h d room = absurd (omega arith)
   stmt-formed (suc nest) zero x h d room = absurd (omega arith)
   stmt-formed zero (suc m) (Set k t) h d room =
@@ -300,19 +301,19 @@ mutual
         if-formed (bodies.IsBody nest) m c a b h.0 (omega arith) (body-formed nest (suc m) a h.1 (omega arith) (omega arith)) (else-formed nest (suc m) b h.2 (omega arith) (omega arith));
   }
 
-  pub body-formed : (nest n : ℕ) (xs : Steps) → w.IsSteps xs → w.depths xs ≤ nest → nest + 66 ≤ n → bodies.IsBody nest n xs (body_toks xs)
+  pub body-formed : (nest n : ℕ) (xs : Steps) → w.AreWritableSteps xs → w.depths xs ≤ nest → nest + 66 ≤ n → bodies.IsBody nest n xs (body_toks xs)
   body-formed nest zero xs h d room = absurd (omega arith)
   body-formed nest (suc m) Done h d room =
       record { back = symbol s.CloseBrace ∷ []; is = refl; formed = record { front = []; is = refl; formed = record { value = []; is = refl; formed = refl } } }
   body-formed nest (suc m) (Then x xs) h d room =
       then-formed nest m x xs (stmt-formed nest m x h.0 (omega arith) (omega arith)) (rest-formed nest m xs h.1 (omega arith) (omega arith))
 
-  rest-formed : (nest m : ℕ) (xs : Steps) → w.IsSteps xs → w.depths xs ≤ nest → nest + 65 ≤ m → form.Each (IsStmt nest m) (list_of xs) (rest_toks xs)
+  rest-formed : (nest m : ℕ) (xs : Steps) → w.AreWritableSteps xs → w.depths xs ≤ nest → nest + 65 ≤ m → form.Each (IsStmt nest m) (list_of xs) (rest_toks xs)
   rest-formed nest m Done h d room = refl
   rest-formed nest m (Then x xs) h d room =
       (step_toks x, rest_toks xs, refl, stmt-formed nest m x h.0 (omega arith) (omega arith), rest-formed nest m xs h.1 (omega arith) (omega arith))
 
-  else-formed : (nest n : ℕ) (xs : Steps) → w.IsSteps xs → w.depths xs ≤ nest → nest + 66 ≤ n
+  else-formed : (nest n : ℕ) (xs : Steps) → w.AreWritableSteps xs → w.depths xs ≤ nest → nest + 66 ≤ n
       → form.Maybe (form.AfterWord (codes "else") (bodies.IsBody nest n)) (arm_of xs) (else_toks xs)
   else-formed nest zero xs h d room = absurd (omega arith)
   else-formed nest (suc m) Done h d room = refl

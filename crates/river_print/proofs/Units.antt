@@ -140,7 +140,7 @@ flat-piece (Rows n) h = worded (codes "rows") (decimal n ∷ []) (count_tok n �
 flat-piece (Stream n) h = worded (codes "stream") (decimal n ∷ []) (count_tok n ∷ []) is_stream (one_count n h)
 flat-piece (Relation n) h = worded (codes "relation") (decimal n ∷ []) (count_tok n ∷ []) is_relation (one_count n h)
 
-pub type-piece : (t : QueueType) → w.IsType t → Piece (type_text t) (type_toks t)
+pub type-piece : (t : QueueType) → w.IsWritableType t → Piece (type_text t) (type_toks t)
 unfolding type_toks
 type-piece (Flat t) h = flat-piece t h
 type-piece (Pack t) h = worded (codes "pack") (flat_text t ∷ []) (flat_toks t ∷ []) is_pack (flat-piece t h, tt)
@@ -160,7 +160,7 @@ flat-formed (Stream n) h =
 flat-formed (Relation n) h =
     record { word = codes "relation"; back = listed (count_tok n ∷ []) []; is = refl; formed = record { value = n; is = refl; formed = inner_count n h } }
 
-pub type-formed : (t : QueueType) → w.IsType t → p.IsType t (type_toks t)
+pub type-formed : (t : QueueType) → w.IsWritableType t → p.IsType t (type_toks t)
 unfolding type_toks flat_toks
 type-formed (Flat (Rows n)) h =
     record { word = codes "rows"; back = listed (count_tok n ∷ []) []; is = refl; formed = record { value = Rows n; is = refl; formed = record { value = n; is = refl; formed = count-round n h } } }
@@ -181,7 +181,7 @@ type-formed (Pack t) h = record {
 unfoldable pub decl_toks : List ℕ → Decl → List Tok
 decl_toks word d = name word ∷ name d.name ∷ symbol s.Colon ∷ (type_toks d.kind ++ symbol s.Semicolon ∷ [])
 
-decl-spells : (word : List ℕ) (d : Decl) → is_name_text word ≡ true → w.IsDecl d → Line (decl_line word d) (decl_toks word d)
+decl-spells : (word : List ℕ) (d : Decl) → is_name_text word ≡ true → w.IsWritableDecl d → Line (decl_line word d) (decl_toks word d)
 unfolding decl_toks
 decl-spells word d is h =
     let typed = type_text d.kind ++ codes ";\n" in
@@ -210,7 +210,7 @@ variable-formed : (v : List ℕ) → is_name v ≡ true → p.IsVar v (var v ∷
 variable-formed v h = record { passes = h; formed = refl }
 
 -- the declaration of a queue is in the grammar
-pub decl-formed : (d : Decl) → w.IsDecl d → p.IsDecl d (name d.name ∷ symbol s.Colon ∷ (type_toks d.kind ++ symbol s.Semicolon ∷ []))
+pub decl-formed : (d : Decl) → w.IsWritableDecl d → p.IsDecl d (name d.name ∷ symbol s.Colon ∷ (type_toks d.kind ++ symbol s.Semicolon ∷ []))
 decl-formed d h = record {
   value = (d.name, d.kind);
   is = refl;
@@ -225,7 +225,7 @@ decl-formed d h = record {
 }
 
 -- its line spells a unit
-pub decl-unit : (word : List ℕ) (d : Decl) → is_name_text word ≡ true → bytes_eq word (codes "else") ≡ false → w.IsDecl d
+pub decl-unit : (word : List ℕ) (d : Decl) → is_name_text word ≡ true → bytes_eq word (codes "else") ≡ false → w.IsWritableDecl d
     → UnitPiece (decl_line word d) (decl_toks word d)
 unfolding decl_toks
 decl-unit word d is other h = record { spells = decl-spells word d is h; begins = λ rest. other; whole = λ rest none. decl-whole word d.name d.kind rest }
@@ -261,14 +261,14 @@ is_op : is_name_text (codes "op") ≡ true
 unfolding is_letter is_word is_digit
 is_op = refl
 
-kind-piece : (t : TableKind) → w.IsKind t → Piece (table_text t) (kind_toks t)
+kind-piece : (t : TableKind) → w.IsWritableKind t → Piece (table_text t) (kind_toks t)
 unfolding kind_toks
 kind-piece (Sum k) h = worded (codes "sum") (decimal k ∷ []) (count_tok k ∷ []) is_sum (one_count k h)
 kind-piece (Collection k) h = worded (codes "collection") (decimal k ∷ []) (count_tok k ∷ []) is_collection (one_count k h)
 kind-piece (Maximum best k) h =
     worded (codes "maximum") (decimal best ∷ decimal k ∷ []) (count_tok best ∷ count_tok k ∷ []) is_maximum (pieces form.Count decimal count_tok w.IsCount count-item (best ∷ k ∷ []) (h.0, (h.1, tt)))
 
-kind-formed : (t : TableKind) → w.IsKind t → form.Headed p.KindAfter t (kind_toks t)
+kind-formed : (t : TableKind) → w.IsWritableKind t → form.Headed p.KindAfter t (kind_toks t)
 unfolding kind_toks
 kind-formed (Sum k) h =
     record { word = codes "sum"; back = listed (count_tok k ∷ []) []; is = refl; formed = record { value = k; is = refl; formed = count-round k h } }
@@ -296,7 +296,7 @@ table-whole n (Sum k) rest = refl
 table-whole n (Collection k) rest = refl
 table-whole n (Maximum best k) rest = refl
 
-table-spells : (t : TableDecl) → w.IsTable t → Line (table_line t) (table_toks t)
+table-spells : (t : TableDecl) → w.IsWritableTable t → Line (table_line t) (table_toks t)
 unfolding table_toks
 table-spells t h =
     let kind = table_text t.kind ++ codes ";\n" in
@@ -309,12 +309,12 @@ table-spells t h =
     (now-blank (var_text t.name ++ (codes ": " ++ kind)))
 
 -- the line of a table spells a unit
-pub table-unit : (t : TableDecl) → w.IsTable t → UnitPiece (table_line t) (table_toks t)
+pub table-unit : (t : TableDecl) → w.IsWritableTable t → UnitPiece (table_line t) (table_toks t)
 unfolding table_toks
 table-unit t h = record { spells = table-spells t h; begins = λ rest. refl; whole = λ rest none. table-whole t.name t.kind rest }
 
 -- the declaration of a table is in the grammar
-pub table-formed : (t : TableDecl) → w.IsTable t → p.IsTable t (var t.name ∷ symbol s.Colon ∷ (kind_toks t.kind ++ symbol s.Semicolon ∷ []))
+pub table-formed : (t : TableDecl) → w.IsWritableTable t → p.IsTable t (var t.name ∷ symbol s.Colon ∷ (kind_toks t.kind ++ symbol s.Semicolon ∷ []))
 table-formed t h = record {
   value = (t.name, t.kind);
   is = refl;
@@ -413,7 +413,7 @@ less_minus : (rest : List ℕ) → MayFollow s.Less (codes "-" ++ rest)
 unfolding long_symbol
 less_minus rest = (refl, refl, refl)
 
-op-spells : (op : OpForm) → w.IsOp op → Line (op_line op) (op_toks op)
+op-spells : (op : OpForm) → w.IsWritableOp op → Line (op_line op) (op_toks op)
 unfolding op_toks
 op-spells op h =
     let k = kernel_text op.kernel in
@@ -537,7 +537,7 @@ flat-front op =
     (flat-then (symbol s.Colon ∷ []) (listed (port_toks op.writes op.vars) (symbol s.Less ∷ symbol s.Minus ∷ listed (port_toks op.reads op.vars) [])) flat-colon
     (flat-listed (ports op.writes op.vars) (symbol s.Less ∷ symbol s.Minus ∷ listed (port_toks op.reads op.vars) []) (flat-then (symbol s.Less ∷ symbol s.Minus ∷ []) (listed (port_toks op.reads op.vars) []) flat-arrow (flat-listed (ports op.reads op.vars) [] flat-nothing)))))
 
-op-whole : (op : OpForm) → w.IsOp op → (rest : List Tok) → is_else rest ≡ false → cut 0 (op_toks op ++ rest) ≡ op_toks op ∷ cut 0 rest
+op-whole : (op : OpForm) → w.IsWritableOp op → (rest : List Tok) → is_else rest ≡ false → cut 0 (op_toks op ++ rest) ≡ op_toks op ∷ cut 0 rest
 op-whole op h rest none =
     let f = flat-front op in
     ap (λ (l : List Tok). cut 0 (l ++ rest)) (op-split op) ∙ ap (cut 0) (append_assoc (op_front op) (kernel_braced op) rest) ∙ f.goes (kernel_braced op ++ rest)
@@ -549,7 +549,7 @@ unfolding op_toks
 op-begins op rest = refl
 
 -- the line of an operator spells a unit
-pub op-unit : (op : OpForm) → w.IsOp op → UnitPiece (op_line op) (op_toks op)
+pub op-unit : (op : OpForm) → w.IsWritableOp op → UnitPiece (op_line op) (op_toks op)
 op-unit op h = record { spells = op-spells op h; begins = op-begins op; whole = op-whole op h }
 
 same-names : (vs : List Name) → pointwise name_eq vs vs ≡ true
@@ -565,7 +565,7 @@ ports-formed qs vs h k =
     round-formed (λ k. p.IsPorts) 127 (qs, vs) (items_toks (port_toks qs vs)) (items-listing p.IsPort port_text port_tok IsPortNamed port-item (ports qs vs) (ports-named qs vs h k))
 
 -- an operator is in the grammar
-pub op-formed : (op : OpForm) → w.IsOp op → p.IsOp op (op_back op)
+pub op-formed : (op : OpForm) → w.IsWritableOp op → p.IsOp op (op_back op)
 op-formed op h =
     let i1 = items_toks (port_toks op.writes op.vars) in
     let i2 = items_toks (port_toks op.reads op.vars) in

@@ -47,10 +47,10 @@ spoken i s (Neg t) h k = spoken i s t h k
 spoken i s (Not t) h k = spoken i s t h k
 spoken i s (Bin o l m) h k = let a = and_parts (is_sound i s l) (is_sound i s m) h in (spoken i s l a.0 k.0, spoken i s m a.1 k.1)
 
-term : (inputs slots : ℕ) (t : Term) → is_term inputs slots t ≡ true → ranges.IsRangedTerm t → w.IsTerm t
+term : (inputs slots : ℕ) (t : Term) → is_term inputs slots t ≡ true → ranges.IsRangedTerm t → w.IsWritableTerm t
 term i s t h k = let a = and_parts (is_sound i s t) (nat_le (depth_of t) 64) h in (spoken i s t a.0 k, at_most (depth_of t) 64 a.1)
 
-terms : (inputs slots : ℕ) (ts : List Term) → list_all (is_term inputs slots) ts ≡ true → w.Every ranges.IsRangedTerm ts → w.Every w.IsTerm ts
+terms : (inputs slots : ℕ) (ts : List Term) → list_all (is_term inputs slots) ts ≡ true → w.Every ranges.IsRangedTerm ts → w.Every w.IsWritableTerm ts
 terms i s [] h k = tt
 terms i s (t ∷ ts) h k = let a = and_parts (is_term i s t) (list_all (is_term i s) ts) h in (term i s t a.0 k.0, terms i s ts a.1 k.1)
 
@@ -77,7 +77,7 @@ some_values outs port n h k = of_port (slice_get outs port) (there outs port h) 
     of_port (Some z) h k = let e : count_of z ≡ n = grind (arith, nat_tests, k) in omega (arith, e, h)
 
 mutual
-  step : (inputs slots : ℕ) (outs : List ℤ) (x : Step) → are_widths outs ≡ true → is_step inputs slots outs x ≡ true → ranges.IsRangedStep x → w.IsStep x
+  step : (inputs slots : ℕ) (outs : List ℤ) (x : Step) → are_widths outs ≡ true → is_step inputs slots outs x ≡ true → ranges.IsRangedStep x → w.IsWritableStep x
   step i s outs (Set slot t) wide h k = let a = and_parts (nat_lt slot s) (is_term i s t) h in (k.0, term i s t a.1 k.1)
   step i s outs (Push port ts) wide h k =
       let a = and_parts (has_port outs port (length ts)) (list_all (is_term i s) ts) h in
@@ -88,7 +88,7 @@ mutual
       (term i s cond a.0 k.0, steps i s outs when wide b.0 k.1, steps i s outs otherwise wide b.1 k.2)
 
   steps : (inputs slots : ℕ) (outs : List ℤ) (xs : Steps) → are_widths outs ≡ true → is_steps inputs slots outs xs ≡ true → ranges.IsRangedSteps xs
-      → w.IsSteps xs
+      → w.AreWritableSteps xs
   steps i s outs Done wide h k = tt
   steps i s outs (Then x xs) wide h k =
       let a = and_parts (is_step i s outs x) (is_steps i s outs xs) h in (step i s outs x wide a.0 k.0, steps i s outs xs wide a.1 k.1)
@@ -103,34 +103,34 @@ widths : (zs : List ℤ) → are_widths zs ≡ true → w.Every w.IsWidth zs
 widths [] h = tt
 widths (z ∷ zs) h = let a = and_parts (is_width (count_of z)) (are_widths zs) h in (width z a.0, widths zs a.1)
 
-weight : (z : ℤ) → nat_le 1 (count_of z) ≡ true → w.IsStart z → w.IsNatural z
+weight : (z : ℤ) → nat_le 1 (count_of z) ≡ true → w.IsWritableStart z → w.IsNatural z
 weight (pos n) h k = (n, refl, k)
 weight (negsuc n) h k = absurd (true≢false (sym h))
 
-each_weight : (zs : List ℤ) → list_all (λ z. nat_le 1 (count_of z)) zs ≡ true → w.Every w.IsStart zs → w.Every w.IsNatural zs
+each_weight : (zs : List ℤ) → list_all (λ z. nat_le 1 (count_of z)) zs ≡ true → w.Every w.IsWritableStart zs → w.Every w.IsNatural zs
 each_weight [] h k = tt
 each_weight (z ∷ zs) h k = let a = and_parts (nat_le 1 (count_of z)) (list_all (λ y. nat_le 1 (count_of y)) zs) h in (weight z a.0 k.0, each_weight zs a.1 k.1)
 
-weights : (zs : List ℤ) → are_weights zs ≡ true → w.Every w.IsStart zs → (0 < length zs) × w.Every w.IsNatural zs
+weights : (zs : List ℤ) → are_weights zs ≡ true → w.Every w.IsWritableStart zs → (0 < length zs) × w.Every w.IsNatural zs
 weights zs h k =
     let a = and_parts (nat_le 1 (length zs)) (list_all (λ z. nat_le 1 (count_of z)) zs) h in let b = at_most 1 (length zs) a.0 in
     (omega (arith, b), each_weight zs a.1 k)
 
 -- KERNELS
 
-window : (x : Window) → ranges.IsRangedWindow x → r.IsForward x → w.IsWindow x
+window : (x : Window) → ranges.IsRangedWindow x → r.IsForward x → w.IsWritableWindow x
 window Now k f = tt
 window (Range (pos n)) k f = (n, refl, k)
 window (Range (negsuc n)) k f = absurd f
 window Unbounded k f = tt
 window (Latest n) k f = k
 
-code : (c : CodeForm) → are_widths c.outs ≡ true → is_code c ≡ true → ranges.IsRangedCode c → depths c.body.steps ≤ 16 → w.IsCode c
+code : (c : CodeForm) → are_widths c.outs ≡ true → is_code c ≡ true → ranges.IsRangedCode c → depths c.body.steps ≤ 16 → w.IsWritableCode c
 code c wide h k s =
     let a = and_parts (is_steps c.body.inputs c.body.slots c.outs c.body.steps) (nat_le (length c.starts) c.body.slots) h in
     (k.0.0, k.0.1, widths c.outs wide, k.2, (steps c.body.inputs c.body.slots c.outs c.body.steps wide a.0 k.0.2, s))
 
-run : (slots : ℕ) (x : RunForm) → is_run slots x ≡ true → ranges.IsRangedRun x → depths x.body.steps ≤ 16 → w.IsRun slots x
+run : (slots : ℕ) (x : RunForm) → is_run slots x ≡ true → ranges.IsRangedRun x → depths x.body.steps ≤ 16 → w.IsWritableRun slots x
 run slots x h k d =
     let body = is_steps x.peek slots (pos 1 ∷ []) x.body.steps in
     let a = and_parts (nat_eq x.body.inputs x.peek) (nat_eq x.body.slots slots && (nat_le x.pop x.peek && (body && is_number (pushes x.body.steps) x.push))) h in
@@ -139,11 +139,11 @@ run slots x h k d =
     let e = and_parts body (is_number (pushes x.body.steps) x.push) c.1 in
     (k.0, k.1, k.2, (steps x.peek slots (pos 1 ∷ []) x.body.steps refl e.0 k.3.2, d), same_eq x.body.inputs x.peek a.0, same_eq x.body.slots slots b.0)
 
-first : (slots : ℕ) (o : Option RunForm) → is_first slots o ≡ true → ranges.IsRangedFirst o → r.IsShallowFirst o → w.IsFirst slots o
+first : (slots : ℕ) (o : Option RunForm) → is_first slots o ≡ true → ranges.IsRangedFirst o → r.IsShallowFirst o → w.IsWritableFirst slots o
 first slots None h k d = tt
 first slots (Some x) h k d = run slots x h k d
 
-filter : (f : FilterForm) → is_filter f ≡ true → ranges.IsRangedFilter f → r.IsShallow (kern.filter f) → w.IsFilter f
+filter : (f : FilterForm) → is_filter f ≡ true → ranges.IsRangedFilter f → r.IsShallow (kern.filter f) → w.IsWritableFilter f
 filter f h0 k s =
     let z = and_parts (is_usual f) (is_first f.body.slots f.first) h0 in
     let h = z.0 in
@@ -152,7 +152,7 @@ filter f h0 k s =
     let c = and_parts (nat_eq f.body.inputs f.peek) (nat_le 1 f.pop && nat_le f.pop f.peek) a.0 in
     (k.0, k.1, k.2, k.3.1, k.4, (steps f.peek f.body.slots (pos 1 ∷ []) f.body.steps refl b.0 k.3.2, s.0), same_eq f.body.inputs f.peek c.0, first f.body.slots f.first z.1 k.5 s.1)
 
-kernel : (k : Kern) (is os : List QueueType) (vs : List VarKind) → Fits k is os vs → ranges.IsRangedKernel k → r.IsShallow k → r.HasForward k → w.IsKernel k
+kernel : (k : Kern) (is os : List QueueType) (vs : List VarKind) → Fits k is os vs → ranges.IsRangedKernel k → r.IsShallow k → r.HasForward k → w.IsWritableKernel k
 kernel (kern.code c) is os vs f k s d =
     let a = and_parts (is_width c.body.inputs) (are_widths c.outs && is_code c) f.3 in
     let b = and_parts (are_widths c.outs) (is_code c) a.1 in
@@ -180,7 +180,7 @@ kernel (kern.fused a b at) is os vs f k s d = (k.2, kernel a is f.0 f.3 f.5 k.0 
 -- PLANS
 
 operators : (p : PlanForm) (ops : List OpForm) → Each (IsFit p) ops → All (λ n. n ≤ 32) (nestings ops) → w.Every ranges.IsRangedOp ops
-    → w.Every (λ op. r.IsShallow op.kernel) ops → w.Every (λ op. r.HasForward op.kernel) ops → w.Every w.IsOp ops
+    → w.Every (λ op. r.IsShallow op.kernel) ops → w.Every (λ op. r.HasForward op.kernel) ops → w.Every w.IsWritableOp ops
 operators p [] f n k s d = tt
 operators p (op ∷ ops) f n k s d = (
   (

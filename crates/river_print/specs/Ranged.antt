@@ -8,11 +8,11 @@ use Rattle.kern_bags.specs.declared.kernel.Window.TheVariants.{Now, Range, Unbou
 use Rattle.river_kernels.specs.Kern.{Kern}
 use Rattle.river_kernels.specs.Kern as kern
 use Rattle.river_plan.specs.Forms.{OpForm, PlanForm}
-use Rattle.river_print.specs.Writable.{IsCount, IsStart, IsNamed, IsDecl, IsTable, Every}
+use Rattle.river_print.specs.Writable.{IsCount, IsWritableStart, IsNamed, IsWritableDecl, IsWritableTable, Every}
 
 -- counts have 32 bits, values have 64 bits and a sign
 abbrev pub IsRangedTerm : Term → Type 0
-IsRangedTerm (Const z) = IsStart z
+IsRangedTerm (Const z) = IsWritableStart z
 IsRangedTerm (Input place) = IsCount place
 IsRangedTerm (Slot slot) = IsCount slot
 IsRangedTerm (Neg t) = IsRangedTerm t
@@ -33,7 +33,7 @@ abbrev pub IsRangedBody : Body → Type 0
 IsRangedBody b = IsCount b.inputs × IsCount b.slots × IsRangedSteps b.steps
 
 abbrev pub IsRangedCode : CodeForm → Type 0
-IsRangedCode c = IsRangedBody c.body × Every IsStart c.outs × Every IsStart c.starts
+IsRangedCode c = IsRangedBody c.body × Every IsWritableStart c.outs × Every IsWritableStart c.starts
 
 abbrev pub IsRangedRun : RunForm → Type 0
 IsRangedRun r = IsCount r.peek × IsCount r.pop × IsCount r.push × IsRangedBody r.body
@@ -43,11 +43,11 @@ IsRangedFirst None = Unit {0}
 IsRangedFirst (Some r) = IsRangedRun r
 
 abbrev pub IsRangedFilter : FilterForm → Type 0
-IsRangedFilter f = IsCount f.peek × IsCount f.pop × IsCount f.push × IsRangedBody f.body × Every IsStart f.starts × IsRangedFirst f.first
+IsRangedFilter f = IsCount f.peek × IsCount f.pop × IsCount f.push × IsRangedBody f.body × Every IsWritableStart f.starts × IsRangedFirst f.first
 
 abbrev pub IsRangedWindow : Window → Type 0
 IsRangedWindow Now = Unit {0}
-IsRangedWindow (Range t) = IsStart t
+IsRangedWindow (Range t) = IsWritableStart t
 IsRangedWindow Unbounded = Unit {0}
 IsRangedWindow (Latest n) = IsCount n
 
@@ -55,8 +55,8 @@ abbrev pub IsRangedKernel : Kern → Type 0
 IsRangedKernel (kern.code c) = IsRangedCode c
 IsRangedKernel (kern.filter f) = IsRangedFilter f
 IsRangedKernel (kern.duplicate n) = IsCount n
-IsRangedKernel (kern.deal ws) = Every IsStart ws
-IsRangedKernel (kern.collect ws) = Every IsStart ws
+IsRangedKernel (kern.deal ws) = Every IsWritableStart ws
+IsRangedKernel (kern.collect ws) = Every IsWritableStart ws
 IsRangedKernel (kern.packed k) = IsRangedKernel k
 IsRangedKernel (kern.unpack n) = IsCount n
 IsRangedKernel (kern.window w) = IsRangedWindow w
@@ -72,9 +72,9 @@ abbrev pub IsRangedOp : OpForm → Type 0
 IsRangedOp op = IsNamed op.label × IsRangedKernel op.kernel × Every IsNamed op.reads × Every IsNamed op.writes × Every IsNamed op.vars
 
 pub record IsRanged (p : PlanForm) : Type 0 where
-  pub outputs : Every IsDecl p.outputs
-  pub inputs : Every IsDecl p.inputs
-  pub queues : Every IsDecl p.queues
-  pub tables : Every IsTable p.tables
+  pub outputs : Every IsWritableDecl p.outputs
+  pub inputs : Every IsWritableDecl p.inputs
+  pub queues : Every IsWritableDecl p.queues
+  pub tables : Every IsWritableTable p.tables
   pub vars : Every IsNamed p.vars
   pub ops : Every IsRangedOp p.ops

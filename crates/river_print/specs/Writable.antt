@@ -31,9 +31,9 @@ abbrev pub IsWidth : ℤ → Type 0
 IsWidth z = (n : ℕ) × (z ≡ pos n) × IsCount n
 
 -- a value of 64 bits
-abbrev pub IsStart : ℤ → Type 0
-IsStart (pos n) = n ≤ 9223372036854775807
-IsStart (negsuc n) = n ≤ 9223372036854775807
+abbrev pub IsWritableStart : ℤ → Type 0
+IsWritableStart (pos n) = n ≤ 9223372036854775807
+IsWritableStart (negsuc n) = n ≤ 9223372036854775807
 
 -- no constant below 0, and indexes that are counts
 abbrev pub IsSpoken : Term → Type 0
@@ -45,8 +45,8 @@ IsSpoken (Not t) = IsSpoken t
 IsSpoken (Bin o l r) = IsSpoken l × IsSpoken r
 
 -- such an expression, at most 64 deep
-abbrev pub IsTerm : Term → Type 0
-IsTerm t = IsSpoken t × (depth_of t ≤ 64)
+abbrev pub IsWritableTerm : Term → Type 0
+IsWritableTerm t = IsSpoken t × (depth_of t ≤ 64)
 
 -- each of a list
 abbrev pub Every : {A : Type 0} → (A → Type 0) → List A → Type 0
@@ -54,14 +54,14 @@ Every P [] = Unit {0}
 Every P (x ∷ xs) = P x × Every P xs
 
 abbrev mutual
-  pub IsStep : Step → Type 0
-  IsStep (Set slot value) = IsCount slot × IsTerm value
-  IsStep (Push port values) = IsCount port × (0 < length values) × Every IsTerm values
-  IsStep (If cond when otherwise) = IsTerm cond × IsSteps when × IsSteps otherwise
+  pub IsWritableStep : Step → Type 0
+  IsWritableStep (Set slot value) = IsCount slot × IsWritableTerm value
+  IsWritableStep (Push port values) = IsCount port × (0 < length values) × Every IsWritableTerm values
+  IsWritableStep (If cond when otherwise) = IsWritableTerm cond × AreWritableSteps when × AreWritableSteps otherwise
 
-  pub IsSteps : Steps → Type 0
-  IsSteps Done = Unit {0}
-  IsSteps (Then s ss) = IsStep s × IsSteps ss
+  pub AreWritableSteps : Steps → Type 0
+  AreWritableSteps Done = Unit {0}
+  AreWritableSteps (Then s ss) = IsWritableStep s × AreWritableSteps ss
 
 -- how deep `if` nests
 abbrev mutual
@@ -75,73 +75,73 @@ abbrev mutual
   depths (Then s ss) = max (depth_once s) (depths ss)
 
 -- a body, in which `if` nests at most 16 deep
-abbrev pub IsBody : Steps → Type 0
-IsBody steps = IsSteps steps × (depths steps ≤ 16)
+abbrev pub IsWritableBody : Steps → Type 0
+IsWritableBody steps = AreWritableSteps steps × (depths steps ≤ 16)
 
-abbrev pub IsCode : CodeForm → Type 0
-IsCode c = IsCount c.body.inputs × IsCount c.body.slots × Every IsWidth c.outs × Every IsStart c.starts × IsBody c.body.steps
+abbrev pub IsWritableCode : CodeForm → Type 0
+IsWritableCode c = IsCount c.body.inputs × IsCount c.body.slots × Every IsWidth c.outs × Every IsWritableStart c.starts × IsWritableBody c.body.steps
 
 -- a first run of a filter with so many slots
-abbrev pub IsRun : ℕ → RunForm → Type 0
-IsRun slots r = IsCount r.peek × IsCount r.pop × IsCount r.push × IsBody r.body.steps × (r.body.inputs ≡ r.peek) × (r.body.slots ≡ slots)
+abbrev pub IsWritableRun : ℕ → RunForm → Type 0
+IsWritableRun slots r = IsCount r.peek × IsCount r.pop × IsCount r.push × IsWritableBody r.body.steps × (r.body.inputs ≡ r.peek) × (r.body.slots ≡ slots)
 
-abbrev pub IsFirst : ℕ → Option RunForm → Type 0
-IsFirst slots None = Unit {0}
-IsFirst slots (Some r) = IsRun slots r
+abbrev pub IsWritableFirst : ℕ → Option RunForm → Type 0
+IsWritableFirst slots None = Unit {0}
+IsWritableFirst slots (Some r) = IsWritableRun slots r
 
-abbrev pub IsFilter : FilterForm → Type 0
-IsFilter f =
-    IsCount f.peek × IsCount f.pop × IsCount f.push × IsCount f.body.slots × Every IsStart f.starts × IsBody f.body.steps × (f.body.inputs ≡ f.peek)
-    × IsFirst f.body.slots f.first
+abbrev pub IsWritableFilter : FilterForm → Type 0
+IsWritableFilter f =
+    IsCount f.peek × IsCount f.pop × IsCount f.push × IsCount f.body.slots × Every IsWritableStart f.starts × IsWritableBody f.body.steps × (f.body.inputs ≡ f.peek)
+    × IsWritableFirst f.body.slots f.first
 
-abbrev pub IsWindow : Window → Type 0
-IsWindow Now = Unit {0}
-IsWindow (Range t) = IsNatural t
-IsWindow Unbounded = Unit {0}
-IsWindow (Latest n) = IsCount n
+abbrev pub IsWritableWindow : Window → Type 0
+IsWritableWindow Now = Unit {0}
+IsWritableWindow (Range t) = IsNatural t
+IsWritableWindow Unbounded = Unit {0}
+IsWritableWindow (Latest n) = IsCount n
 
-abbrev pub IsKernel : Kern → Type 0
-IsKernel (kern.code c) = IsCode c
-IsKernel (kern.filter f) = IsFilter f
-IsKernel (kern.duplicate n) = IsCount n
-IsKernel (kern.deal ws) = (0 < length ws) × Every IsNatural ws
-IsKernel (kern.collect ws) = (0 < length ws) × Every IsNatural ws
-IsKernel (kern.packed k) = IsKernel k
-IsKernel (kern.unpack n) = IsCount n
-IsKernel (kern.window w) = IsWindow w
-IsKernel (kern.select e) = IsTerm e
-IsKernel (kern.project es) = (0 < length es) × Every IsTerm es
-IsKernel kern.cross = Unit {0}
-IsKernel (kern.streamer s) = Unit {0}
-IsKernel kern.tally = Unit {0}
-IsKernel (kern.fused a b at) = IsCount at × IsKernel a × IsKernel b
+abbrev pub IsWritableKernel : Kern → Type 0
+IsWritableKernel (kern.code c) = IsWritableCode c
+IsWritableKernel (kern.filter f) = IsWritableFilter f
+IsWritableKernel (kern.duplicate n) = IsCount n
+IsWritableKernel (kern.deal ws) = (0 < length ws) × Every IsNatural ws
+IsWritableKernel (kern.collect ws) = (0 < length ws) × Every IsNatural ws
+IsWritableKernel (kern.packed k) = IsWritableKernel k
+IsWritableKernel (kern.unpack n) = IsCount n
+IsWritableKernel (kern.window w) = IsWritableWindow w
+IsWritableKernel (kern.select e) = IsWritableTerm e
+IsWritableKernel (kern.project es) = (0 < length es) × Every IsWritableTerm es
+IsWritableKernel kern.cross = Unit {0}
+IsWritableKernel (kern.streamer s) = Unit {0}
+IsWritableKernel kern.tally = Unit {0}
+IsWritableKernel (kern.fused a b at) = IsCount at × IsWritableKernel a × IsWritableKernel b
 
 abbrev pub IsNamed : Name → Type 0
 IsNamed w = is_name w ≡ true
 
-abbrev pub IsType : QueueType → Type 0
-IsType (Flat t) = IsCount (width_of t)
-IsType (Pack t) = IsCount (width_of t)
+abbrev pub IsWritableType : QueueType → Type 0
+IsWritableType (Flat t) = IsCount (width_of t)
+IsWritableType (Pack t) = IsCount (width_of t)
 
-abbrev pub IsDecl : Decl → Type 0
-IsDecl d = IsNamed d.name × IsType d.kind
+abbrev pub IsWritableDecl : Decl → Type 0
+IsWritableDecl d = IsNamed d.name × IsWritableType d.kind
 
-abbrev pub IsKind : TableKind → Type 0
-IsKind (Sum k) = IsCount k
-IsKind (Collection k) = IsCount k
-IsKind (Maximum best k) = IsCount best × IsCount k
+abbrev pub IsWritableKind : TableKind → Type 0
+IsWritableKind (Sum k) = IsCount k
+IsWritableKind (Collection k) = IsCount k
+IsWritableKind (Maximum best k) = IsCount best × IsCount k
 
-abbrev pub IsTable : TableDecl → Type 0
-IsTable t = IsNamed t.name × IsKind t.kind
+abbrev pub IsWritableTable : TableDecl → Type 0
+IsWritableTable t = IsNamed t.name × IsWritableKind t.kind
 
 -- an operator: kernels nest at most 32 deep
-abbrev pub IsOp : OpForm → Type 0
-IsOp op = IsNamed op.label × IsKernel op.kernel × (nesting op.kernel ≤ 32) × Every IsNamed op.reads × Every IsNamed op.writes × Every IsNamed op.vars
+abbrev pub IsWritableOp : OpForm → Type 0
+IsWritableOp op = IsNamed op.label × IsWritableKernel op.kernel × (nesting op.kernel ≤ 32) × Every IsNamed op.reads × Every IsNamed op.writes × Every IsNamed op.vars
 
 pub record IsWritable (p : PlanForm) : Type 0 where
-  pub outputs : Every IsDecl p.outputs
-  pub inputs : Every IsDecl p.inputs
-  pub queues : Every IsDecl p.queues
-  pub tables : Every IsTable p.tables
+  pub outputs : Every IsWritableDecl p.outputs
+  pub inputs : Every IsWritableDecl p.inputs
+  pub queues : Every IsWritableDecl p.queues
+  pub tables : Every IsWritableTable p.tables
   pub vars : Every IsNamed p.vars
-  pub ops : Every IsOp p.ops
+  pub ops : Every IsWritableOp p.ops

@@ -7,7 +7,7 @@ ghost use Rattle.kern_rows.specs.Forms.{code_form, filter_form, optional_run, ru
 ghost use Rattle.river_kernels.specs.Kern.{kern_of};
 ghost use Rattle.river_plan.specs.Forms.{plan_form, op_form};
 ghost use Rattle.river_print.specs.Ranged.{IsRanged, IsRangedTerm, IsRangedStep, IsRangedSteps, IsRangedBody, IsRangedCode, IsRangedRun, IsRangedFirst, IsRangedFilter, IsRangedWindow, IsRangedKernel, IsRangedOp};
-ghost use Rattle.river_print.specs.Writable.{Every, IsCount, IsStart, IsNamed, IsDecl, IsType, IsTable, IsKind};
+ghost use Rattle.river_print.specs.Writable.{Every, IsCount, IsWritableStart, IsNamed, IsWritableDecl, IsWritableType, IsWritableTable, IsWritableKind};
 ghost use Rattle.river_kernels.specs.Fits.{width_of};
 
 use kern_bags::Window;
@@ -45,7 +45,7 @@ fn read_name(name: &Name)
 }
 
 fn read_decls(decls: &[Decl])
-    ensures { Every IsDecl decls.now }
+    ensures { Every IsWritableDecl decls.now }
 {
     for decl in decls {
         read_decl(decl);
@@ -53,14 +53,14 @@ fn read_decls(decls: &[Decl])
 }
 
 fn read_decl(decl: &Decl)
-    ensures { IsDecl decl.now }
+    ensures { IsWritableDecl decl.now }
 {
     read_name(&decl.name);
     read_type(decl.kind);
 }
 
 fn read_type(kind: QueueType)
-    ensures { IsType kind }
+    ensures { IsWritableType kind }
 {
     match kind {
         QueueType::Flat(flat) | QueueType::Pack(flat) => read_flat(flat),
@@ -76,7 +76,7 @@ fn read_flat(flat: FlatType)
 }
 
 fn read_tables(tables: &[TableDecl])
-    ensures { Every IsTable tables.now }
+    ensures { Every IsWritableTable tables.now }
 {
     for table in tables {
         read_table(table);
@@ -84,14 +84,14 @@ fn read_tables(tables: &[TableDecl])
 }
 
 fn read_table(table: &TableDecl)
-    ensures { IsTable table.now }
+    ensures { IsWritableTable table.now }
 {
     read_name(&table.name);
     read_kind(table.kind);
 }
 
 fn read_kind(kind: TableKind)
-    ensures { IsKind kind }
+    ensures { IsWritableKind kind }
 {
     match kind {
         TableKind::Sum { keys: _keys } | TableKind::Collection { keys: _keys } => {}
@@ -249,7 +249,7 @@ fn read_expr(e: &Expr)
 }
 
 fn read_values(items: &[i64])
-    ensures { Every IsStart items.now }
+    ensures { Every IsWritableStart items.now }
 {
     for item in items {
         read_value(*item);
@@ -257,7 +257,7 @@ fn read_values(items: &[i64])
 }
 
 fn read_value(_value: i64)
-    ensures { IsStart _value }
+    ensures { IsWritableStart _value }
 {}
 
 fn read_count(_count: u32)

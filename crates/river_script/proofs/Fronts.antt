@@ -15,7 +15,7 @@ use Rattle.text_forms.specs.declared.refusal.Refusal.TheVariants.{BadByte, BigNu
 use Rattle.work_code.proofs.Counts.{tokens-few, units-few}
 use Rattle.river_script.specs.Grammar.{IsScript, IsBadAt, go_on}
 use Rattle.river_script.specs.Laws.{Has, MakesWhatItHas}
-use Rattle.river_script.specs.Meaning.{from_lexer, ended, then_applied, then_read, rewritten, Refused, IsEnded, IsUnread, at_unit}
+use Rattle.river_script.specs.Meaning.{from_lexer, script_ended, then_applied, then_read, rewritten, Refused, IsEnded, IsUnread, at_unit}
 use Rattle.river_script.specs.Reading.{read_steps}
 use Rattle.river_script.specs.Script.{StepForm, script_of}
 use Rattle.river_script.specs.Steps.{step_form, step_forms, GivesSteps}
@@ -27,7 +27,7 @@ use Rattle.river_script.proofs.Scripts.{exact-in, units-read, script-read, scrip
 -- FROM THE GRAMMAR
 
 -- a text that stands for steps makes what these make
-pub stands-makes : (p : PlanForm) (text : List ℕ) (ss : List StepForm) → IsScript text ss → rewritten p text ≡ ended (script_of p ss)
+pub stands-makes : (p : PlanForm) (text : List ℕ) (ss : List StepForm) → IsScript text ss → rewritten p text ≡ script_ended (script_of p ss)
 unfolding rewritten
 stands-makes p text ss t = ap (then_read p) t.lexed ∙ ap (then_applied p) (script-reads text ss t)
 
@@ -45,11 +45,11 @@ unfolding rewritten
 lexed-makes p text fault e = ap (then_read p) e
 
 has-makes : (p : PlanForm) (text : List ℕ) (made : Result PlanForm ScriptFault) → Has p text made → rewritten p text ≡ made
-has-makes p text (Ok q) h = stands-makes p text h.0 h.1 ∙ ap ended h.2
+has-makes p text (Ok q) h = stands-makes p text h.0 h.1 ∙ ap script_ended h.2
 has-makes p text (Err (Text (BadByte at))) h = lexed-makes p text (lex.BadByte at) h
 has-makes p text (Err (Text (BigNumber at))) h = lexed-makes p text (lex.BigNumber at) h
 has-makes p text (Err (Text (Syntax unit))) h = bad-makes p text unit h
-has-makes p text (Err (Unfit step why)) h = stands-makes p text h.0 h.1 ∙ ap ended h.2
+has-makes p text (Err (Unfit step why)) h = stands-makes p text h.0 h.1 ∙ ap script_ended h.2
 has-makes p text (Err NoMemory) h = absurd h
 
 -- TO THE GRAMMAR
@@ -57,7 +57,7 @@ has-makes p text (Err NoMemory) h = absurd h
 makes-has : (p : PlanForm) (text : List ℕ) → Has p text (rewritten p text)
 unfolding rewritten
 makes-has p text = by (tokens_in text) refl where
-  last : (ss : List StepForm) → IsScript text ss → (r : Result PlanForm (ℕ × Why)) → script_of p ss ≡ r → Has p text (ended r)
+  last : (ss : List StepForm) → IsScript text ss → (r : Result PlanForm (ℕ × Why)) → script_of p ss ≡ r → Has p text (script_ended r)
   last ss t (Ok q) e = (ss, t, e)
   last ss t (Err f) e = (ss, t, e)
 
@@ -107,13 +107,13 @@ few-read text marks (Err f) short lexed g = tt
 
 -- the last plan of the steps
 pub ended-made : (p q : PlanForm) (text : List ℕ) (ss : List StepForm) → IsScript text ss → script_of p ss ≡ Ok q → rewritten p text ≡ Ok q
-ended-made p q text ss t e = stands-makes p text ss t ∙ ap ended e
+ended-made p q text ss t e = stands-makes p text ss t ∙ ap script_ended e
 
 -- the first step that fails
 pub ended-refused : (p : PlanForm) (text : List ℕ) (ss : List StepForm) (f : ScriptFault) → IsScript text ss → IsEnded p ss (Err f)
     → Refused (rewritten p text) f
 ended-refused p text ss (Text refusal) t e = absurd e
-ended-refused p text ss (Unfit step why) t e = stands-makes p text ss t ∙ ap ended e
+ended-refused p text ss (Unfit step why) t e = stands-makes p text ss t ∙ ap script_ended e
 ended-refused p text ss NoMemory t e = tt
 
 -- a text that is not read makes no plan

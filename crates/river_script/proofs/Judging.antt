@@ -8,7 +8,7 @@ use Rattle.plan_edits.specs.Judged.{IsFirstToFail, IsJudged}
 use Rattle.rw_local.proofs.FuseJudged.{fusion_is_judged}
 use Rattle.rw_local.proofs.HoistJudged.{hoisting_is_judged}
 use Rattle.rw_fission.proofs.FissionJudged.{fission_is_judged}
-use Rattle.river_script.specs.Judged.{StepFails, StepMakes, Accepts, Leads, Judges, ScriptIsJudged}
+use Rattle.river_script.specs.Judged.{StepFails, StepMakes, Accepts, StepsLeadTo, Judges, ScriptIsJudged}
 use Rattle.river_script.specs.Script.{StepForm, fusing, hoisting, splitting, step_of, then_all, script_from}
 use Rattle.river_script.proofs.Steps.{step_keeps}
 
@@ -25,11 +25,11 @@ record Refused (n : ℕ) (p : PlanForm) (ss : List StepForm) (step : ℕ) (why :
   steps : ss ≡ done ++ here ∷ others
   number : step ≡ length done + n
   last : PlanForm
-  leads : Leads p done last
+  leads : StepsLeadTo p done last
   fails : IsFirstToFail (StepFails last here) why
 
 abbrev Judged : ℕ → PlanForm → List StepForm → Result PlanForm (ℕ × Unfit) → Type 0
-Judged n p ss (Ok q) = Leads p ss q
+Judged n p ss (Ok q) = StepsLeadTo p ss q
 Judged n p ss (Err f) = Refused n p ss f.0 f.1
 
 -- TO THE CONDITIONS
@@ -75,7 +75,7 @@ all_steps n p (s ∷ ss) v = one_step n p s ss (step_of p s) v refl (λ p' w. al
 accepted_is : (p p' : PlanForm) (s : StepForm) → IsPlan p → Accepts p s p' → step_of p s ≡ Ok p'
 accepted_is p p' s v a = (step_judged p s (Ok p') v).1 a
 
-leads_is : (n : ℕ) (p q : PlanForm) (ss : List StepForm) → IsPlan p → Leads p ss q → script_from n p ss ≡ Ok q
+leads_is : (n : ℕ) (p q : PlanForm) (ss : List StepForm) → IsPlan p → StepsLeadTo p ss q → script_from n p ss ≡ Ok q
 leads_is n p q [] v h = ap (λ x. Ok x) h
 leads_is n p q (s ∷ ss) v h =
     let e = accepted_is p h.0 s v h.1 in
@@ -83,7 +83,7 @@ leads_is n p q (s ∷ ss) v h =
 
 refused_is : (n : ℕ) (p last : PlanForm) (done : List StepForm) (here : StepForm) (others : List StepForm) (step : ℕ) (why : Unfit) → IsPlan p
     → step ≡ length done + n
-    → Leads p done last
+    → StepsLeadTo p done last
     → IsFirstToFail (StepFails last here) why
     → script_from n p (done ++ here ∷ others) ≡ Err (step, why)
 refused_is n p last [] here others step why v k h f =

@@ -26,9 +26,9 @@ abbrev pub Accepts : PlanForm → StepForm → PlanForm → Type 0
 Accepts p s p' = ((f : Unfit) → StepFails p s f → ⊥) × StepMakes p s p'
 
 -- each step is accepted, and the last makes q
-abbrev pub Leads : PlanForm → List StepForm → PlanForm → Type 0
-Leads p [] q = p ≡ q
-Leads p (s ∷ ss) q = (p' : PlanForm) × Accepts p s p' × Leads p' ss q
+abbrev pub StepsLeadTo : PlanForm → List StepForm → PlanForm → Type 0
+StepsLeadTo p [] q = p ≡ q
+StepsLeadTo p (s ∷ ss) q = (p' : PlanForm) × Accepts p s p' × StepsLeadTo p' ss q
 
 -- the steps before this one, counted from 1, are accepted, and of its conditions this is the first that fails
 pub record IsRefused (p : PlanForm) (ss : List StepForm) (step : ℕ) (why : Unfit) : Type 0 where
@@ -38,11 +38,11 @@ pub record IsRefused (p : PlanForm) (ss : List StepForm) (step : ℕ) (why : Unf
   pub steps : ss ≡ done ++ here ∷ others
   pub number : step ≡ length done + 1
   pub last : PlanForm
-  pub leads : Leads p done last
+  pub leads : StepsLeadTo p done last
   pub fails : IsFirstToFail (StepFails last here) why
 
 abbrev pub Judges : PlanForm → List StepForm → Result PlanForm (ℕ × Unfit) → Type 0
-Judges p ss (Ok q) = Leads p ss q
+Judges p ss (Ok q) = StepsLeadTo p ss q
 Judges p ss (Err f) = IsRefused p ss f.0 f.1
 
 -- steps give the plan to which they lead, and otherwise the first that fails and the first of its conditions that does

@@ -23,13 +23,13 @@ from_step step why.NoMemory = NoMemory
 from_step step w = Unfit step w
 
 -- the last plan, or the first step that fails
-abbrev pub ended : Result PlanForm (ℕ × Why) → Result PlanForm ScriptFault
-ended (Ok q) = Ok q
-ended (Err f) = Err (Unfit f.0 f.1)
+abbrev pub script_ended : Result PlanForm (ℕ × Why) → Result PlanForm ScriptFault
+script_ended (Ok q) = Ok q
+script_ended (Err f) = Err (Unfit f.0 f.1)
 
 -- what is read, whole, is applied
 abbrev pub then_applied : PlanForm → Result (List StepForm) ℕ → Result PlanForm ScriptFault
-then_applied p (Ok ss) = ended (script_of p ss)
+then_applied p (Ok ss) = script_ended (script_of p ss)
 then_applied p (Err unit) = Err (Text (Syntax unit))
 
 -- what is lexed is read

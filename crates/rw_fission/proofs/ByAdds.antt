@@ -27,7 +27,7 @@ use Rattle.brooklet_model.proofs.Solutions.{count_here}
 use Rattle.rw_fission.specs.Fission.{Way, each_op, by_adds, replica_op, joiner_ops, split_ops, split_by}
 use Rattle.plan_edits.specs.Lists.{first_with}
 use Rattle.rw_fission.specs.Made.{Made}
-use Rattle.rw_fission.specs.May.{MayAdd, IsApart}
+use Rattle.rw_fission.specs.May.{MayAdd, IsApartPlan}
 use Rattle.rw_fission.specs.Splits.{Splits, dealt_to, sum_below}
 use Rattle.rw_fission.proofs.BlockLaw.{shares_are, are_shares}
 use Rattle.rw_fission.proofs.Dealt.{in_turns, dealt_is, turns_below}
@@ -89,7 +89,7 @@ module _ (p : PlanForm) (l : Name) (op : OpForm) (m : Made) (n : ℕ) (source : 
       ∙ sym (fed xs)
 
   -- an operator that only adds may be split
-  pub splits_adds : IsApart (split_by p l op m n (Flat t) w) → Splits (λ x. Unit {0}) p l op m n source (Flat t) w
+  pub splits_adds : IsApartPlan (split_by p l op m n (Flat t) w) → Splits (λ x. Unit {0}) p l op m n source (Flat t) w
   splits_adds apart = record {
     some = some;
     reads = y.reads;

@@ -20,11 +20,11 @@ use Rattle.brooklet_model.specs.Words.{feed_all}
 use Rattle.brooklet_model.specs.Histories.{joined, tables_of}
 use Rattle.brooklet_model.proofs.Lists.{if_ge}
 use Rattle.brooklet_model.proofs.Solutions.{count_here}
-use Rattle.rw_fission.specs.Fission.{Way, weights, each_op, by_blocks, replica_op, joiner_ops, split_ops, split_by}
+use Rattle.rw_fission.specs.Fission.{Way, equal_weights, each_op, by_blocks, replica_op, joiner_ops, split_ops, split_by}
 use Rattle.plan_edits.specs.Lists.{first_with}
 use Rattle.rw_fission.specs.Made.{Made, each_name}
-use Rattle.rw_fission.specs.May.{MayBlock, IsApart}
-use Rattle.rw_fission.specs.Splits.{Splits, Joins, dealt_to}
+use Rattle.rw_fission.specs.May.{MayBlock, IsApartPlan}
+use Rattle.rw_fission.specs.Splits.{Splits, JoinerGives, dealt_to}
 use Rattle.rw_fission.proofs.BlockLaw.{TakesBlocks, blocks_undo}
 use Rattle.rw_fission.proofs.Declared.{count_each}
 use Rattle.plan_edits.proofs.Surgery.{total-append, found}
@@ -66,16 +66,16 @@ module _ (p : PlanForm) (l : Name) (op : OpForm) (m : Made) (n : ℕ) (source : 
   takes : TakesBlocks f
   takes = record { fits = fit.3; whole = y.whole; takes = rates.0; gives = y.gives; none = y.starts; usual = y.usual }
 
-  joins_blocks : Joins (λ x. Unit {0}) op n w w.join
+  joins_blocks : JoinerGives (λ x. Unit {0}) op n w w.join
   joins_blocks xs h good e = by_kernel op.kernel y.kernel e
     where
       by_kernel : (k : Kern) → k ≡ filter f → ((i : ℕ) → i < n → h i ≡ (feed (fire k 0) (dealt_to n f.pop xs i) (first_kept k)).outs 0)
-          → (feed_all (collect (weights n f.push)) h (first_kept (collect (weights n f.push)))).outs 0 ≡ (feed (fire k 0) xs (first_kept k)).outs 0
+          → (feed_all (collect (equal_weights n f.push)) h (first_kept (collect (equal_weights n f.push)))).outs 0 ≡ (feed (fire k 0) xs (first_kept k)).outs 0
       by_kernel k ek d =
           blocks_undo n f xs h some takes (λ i lt. d i lt ∙ ap (λ a. (feed (fire a 0) (dealt_to n f.pop xs i) (first_kept a)).outs 0) ek)
           ∙ ap (λ a. (feed (fire a 0) xs (first_kept a)).outs 0) (sym ek)
 
-  module _ (apart : IsApart (split_by p l op m n (rows 1) w)) where
+  module _ (apart : IsApartPlan (split_by p l op m n (rows 1) w)) where
     variables : (x : Name) → count x (table_names p.tables) + (count x w.stay + count x w.new) ≤ 1
     variables x =
         let a = apart.variables_once x in let b = count-append x (table_names p.tables) (w.stay ++ w.new) in let c = count-append x w.stay w.new in
@@ -93,7 +93,7 @@ module _ (p : PlanForm) (l : Name) (op : OpForm) (m : Made) (n : ℕ) (source : 
       reads = y.reads;
       kind = kind_in;
       ends =
-          (out.0, out.1, refl, subst (λ k. Fits (collect (weights n f.push)) (replicate n (rows 1)) (k ∷ []) (Private ∷ [])) (sym out.2) (collect_fits n f.push (Rows 1) some y.gives refl));
+          (out.0, out.1, refl, subst (λ k. Fits (collect (equal_weights n f.push)) (replicate n (rows 1)) (k ∷ []) (Private ∷ [])) (sym out.2) (collect_fits n f.push (Rows 1) some y.gives refl));
       queues_once = apart.queues_once;
       variables_once = variables;
       labels_once = apart.labels_once;

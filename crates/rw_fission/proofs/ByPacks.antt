@@ -24,8 +24,8 @@ use Rattle.brooklet_model.proofs.Solutions.{count_here}
 use Rattle.rw_fission.specs.Fission.{Way, each_op, by_packs, replica_op, joiner_ops, split_ops, split_by}
 use Rattle.plan_edits.specs.Lists.{first_with}
 use Rattle.rw_fission.specs.Made.{Made}
-use Rattle.rw_fission.specs.May.{MayPack, IsApart}
-use Rattle.rw_fission.specs.Splits.{Splits, Joins, dealt_to}
+use Rattle.rw_fission.specs.May.{MayPack, IsApartPlan}
+use Rattle.rw_fission.specs.Splits.{Splits, JoinerGives, dealt_to}
 use Rattle.rw_fission.proofs.BlockLaw.{shares_are, are_shares}
 use Rattle.rw_fission.proofs.Packs.{GivesFlat, packs_of, packed_is, packs_undo, none_first}
 use Rattle.rw_fission.proofs.Sized.{named_sized}
@@ -67,7 +67,7 @@ module _ (p : PlanForm) (l : Name) (op : OpForm) (m : Made) (n : ℕ) (source ou
   u_sized =
       subst (λ k. IsTrue (is_width (type_width k))) y.kind_out (named_sized p v out (v.writes_declared out (let a = at_most_all l (writes_it out) p.ops op here in let b = ap (count out) y.writes in let c = count_here out [] in omega (arith, a, b, c))))
 
-  joins_packs : Joins (GivesFlat op.kernel) op n w w.join
+  joins_packs : JoinerGives (GivesFlat op.kernel) op n w w.join
   joins_packs xs h good e =
       packs_undo n op.kernel xs h shape no_privates (are_shares n 1 some (omega arith)) good
       (λ i lt.
@@ -78,7 +78,7 @@ module _ (p : PlanForm) (l : Name) (op : OpForm) (m : Made) (n : ℕ) (source ou
       ∙ ap (λ ss. (feed (fire op.kernel 0) xs ss).outs 0) (sym no_state)
 
   -- an operator without variables may be split
-  pub splits_packs : IsApart (split_by p l op m n (Flat t) w) → Splits (GivesFlat op.kernel) p l op m n source (Flat t) w
+  pub splits_packs : IsApartPlan (split_by p l op m n (Flat t) w) → Splits (GivesFlat op.kernel) p l op m n source (Flat t) w
   splits_packs apart = record {
     some = some;
     reads = y.reads;

@@ -3,7 +3,7 @@ use Rattle.std.proofs.Common.{◌≡◌, ℕ, zero, suc, ◌+◌, ◌<◌, ◌�
 use Rattle.std.proofs.Common.{◌∙◌, subst, arith, append_assoc, pos}
 use Rattle.std.specs.Prelude.{if◌then◌else◌, nat_lt, slice_index_or, slice_get}
 use Rattle.std.proofs.lemmas.List.{at_drop_more, take_more, replicate_more, take_all, length-map, map-append}
-use Rattle.rw_fission.specs.Fission.{decls, without, weights, each_op}
+use Rattle.rw_fission.specs.Fission.{decls, names_without, equal_weights, each_op}
 use Rattle.river_base.specs.Name.{name_eq}
 use Rattle.river_base.specs.declared.kind.QueueType.{QueueType}
 use Rattle.river_plan.specs.declared.plan.Decl.{Decl}
@@ -99,17 +99,18 @@ decls_join t [] ys = refl
 decls_join t (x ∷ xs) ys = ap (λ l. record { name = x; kind = t } ∷ l) (decls_join t xs ys)
 
 -- the names that are kept of two lists
-pub without_join : (gone xs ys : List Name) → without gone (xs ++ ys) ≡ without gone xs ++ without gone ys
+pub without_join : (gone xs ys : List Name) → names_without gone (xs ++ ys) ≡ names_without gone xs ++ names_without gone ys
 without_join gone [] ys = refl
 without_join gone (x ∷ xs) ys = arms (nat_lt (count x gone) 1) (without_join gone xs ys)
   where
-    arms : (b : Bool) → without gone (xs ++ ys) ≡ without gone xs ++ without gone ys
-        → (if b then x ∷ without gone (xs ++ ys) else without gone (xs ++ ys)) ≡ (if b then x ∷ without gone xs else without gone xs) ++ without gone ys
+    arms : (b : Bool) → names_without gone (xs ++ ys) ≡ names_without gone xs ++ names_without gone ys
+        → (if b then x ∷ names_without gone (xs ++ ys) else names_without gone (xs ++ ys))
+        ≡ (if b then x ∷ names_without gone xs else names_without gone xs) ++ names_without gone ys
     arms true h = ap (λ l. x ∷ l) h
     arms false h = h
 
 -- one weight more
-pub weights_more : (n w : ℕ) → weights (n + 1) w ≡ weights n w ++ pos w ∷ []
+pub weights_more : (n w : ℕ) → equal_weights (n + 1) w ≡ equal_weights n w ++ pos w ∷ []
 weights_more n w = sym (replicate_more n (pos w))
 
 -- OPERATORS

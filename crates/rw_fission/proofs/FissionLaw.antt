@@ -29,7 +29,7 @@ use Rattle.plan_edits.proofs.MeaningSame.{meaning_same}
 use Rattle.rw_fission.specs.Asked.{fission_of}
 use Rattle.rw_fission.specs.Laws.{FissionKeeps, FissionApart}
 use Rattle.rw_fission.specs.Made.{Made, made_of}
-use Rattle.rw_fission.specs.May.{IsApart, is_apart, is_within, stand_once}
+use Rattle.rw_fission.specs.May.{IsApartPlan, is_apart, is_within, stand_once}
 use Rattle.rw_fission.proofs.Accepted.{accepted, IsPacks, IsBlocks, IsAdds, IsWay, way_is}
 use Rattle.rw_fission.proofs.ByAdds as adding
 use Rattle.rw_fission.proofs.ByBlocks as blocking
@@ -92,7 +92,7 @@ all_limits t [] h = refl
 all_limits t (x ∷ xs) h = and_from (t x) (list_all t xs) (h x) (all_limits t xs h)
 
 -- what the tests of a result say
-pub apart_is : (p : PlanForm) → is_apart p ≡ true → IsApart p
+pub apart_is : (p : PlanForm) → is_apart p ≡ true → IsApartPlan p
 apart_is p h =
     let rest2 = stand_once (labels p.ops) && list_all (is_within p) limits in
     let a = and_parts (stand_once (queue_names p)) (stand_once (variable_names p) && rest2) h in
@@ -133,9 +133,9 @@ module _ (p : PlanForm) (l : Name) (op : OpForm) (n : ℕ) (source : Name) (v : 
   abbrev m : Made
   m = made_of l
 
-  by_packs_keeps : (t : FlatType) (w : Way) → IsPacks p op m n source t w → IsApart (split_by p l op m n (Flat t) w) → Keeps p (split_by p l op m n (Flat t) w)
+  by_packs_keeps : (t : FlatType) (w : Way) → IsPacks p op m n source t w → IsApartPlan (split_by p l op m n (Flat t) w) → Keeps p (split_by p l op m n (Flat t) w)
   by_packs_keeps t w k =
-      subst (λ x. IsApart (split_by p l op m n (Flat t) x) → Keeps p (split_by p l op m n (Flat t) x)) (sym k.is) (λ a.
+      subst (λ x. IsApartPlan (split_by p l op m n (Flat t) x) → Keeps p (split_by p l op m n (Flat t) x)) (sym k.is) (λ a.
       let s = packing.splits_packs p l op m n source k.out t k.type v here some k.may a in
       let ft = packing.fit p l op m n source k.out t k.type v here some k.may in
       let none = packing.no_privates p l op m n source k.out t k.type v here some k.may in (
@@ -147,18 +147,18 @@ module _ (p : PlanForm) (l : Name) (op : OpForm) (n : ℕ) (source : Name) (v : 
             (subst (λ q. All (HasType q) (hist p inputs source)) k.may.kind_in (i source))),
       ))
 
-  by_blocks_keeps : (w : Way) → IsBlocks p op m n source w → IsApart (split_by p l op m n (rows 1) w) → Keeps p (split_by p l op m n (rows 1) w)
+  by_blocks_keeps : (w : Way) → IsBlocks p op m n source w → IsApartPlan (split_by p l op m n (rows 1) w) → Keeps p (split_by p l op m n (rows 1) w)
   by_blocks_keeps w k =
-      subst (λ x. IsApart (split_by p l op m n (rows 1) x) → Keeps p (split_by p l op m n (rows 1) x)) (sym k.is) (λ a.
+      subst (λ x. IsApartPlan (split_by p l op m n (rows 1) x) → Keeps p (split_by p l op m n (rows 1) x)) (sym k.is) (λ a.
       let s = blocking.splits_blocks p l op m n source k.form v here some k.may a in (
         split.valid (λ x. Unit {0}) p l op m n source (rows 1) (by_blocks p op m n k.form.pop k.form.push) v here s,
         record { outputs = refl; inputs = refl; tables = refl },
         λ inputs i. law.same_meaning (λ x. Unit {0}) p l op m n source (rows 1) (by_blocks p op m n k.form.pop k.form.push) v here s inputs (any_good (hist p inputs source)),
       ))
 
-  by_adds_keeps : (t : FlatType) (w : Way) → IsAdds p op m source t w → IsApart (split_by p l op m n (Flat t) w) → Keeps p (split_by p l op m n (Flat t) w)
+  by_adds_keeps : (t : FlatType) (w : Way) → IsAdds p op m source t w → IsApartPlan (split_by p l op m n (Flat t) w) → Keeps p (split_by p l op m n (Flat t) w)
   by_adds_keeps t w k =
-      subst (λ x. IsApart (split_by p l op m n (Flat t) x) → Keeps p (split_by p l op m n (Flat t) x)) (sym k.is) (λ a.
+      subst (λ x. IsApartPlan (split_by p l op m n (Flat t) x) → Keeps p (split_by p l op m n (Flat t) x)) (sym k.is) (λ a.
       let s = adding.splits_adds p l op m n source t v here some k.may a in (
         split.valid (λ x. Unit {0}) p l op m n source (Flat t) (by_adds p op m) v here s,
         record { outputs = refl; inputs = refl; tables = refl },
@@ -166,7 +166,7 @@ module _ (p : PlanForm) (l : Name) (op : OpForm) (n : ℕ) (source : Name) (v : 
       ))
 
   -- whatever the way, a result that passes the tests is valid, and means the same
-  pub way_keeps : (w : Way) → IsWay p op m n source w → IsApart (split_by p l op m n (kind_of (all_decls p) source) w)
+  pub way_keeps : (w : Way) → IsWay p op m n source w → IsApartPlan (split_by p l op m n (kind_of (all_decls p) source) w)
       → Keeps p (split_by p l op m n (kind_of (all_decls p) source) w)
   way_keeps w k a = ⊎_elim
       (λ s. by_type (Flat k.type) k.kind (by_packs_keeps k.type w s))
@@ -175,9 +175,9 @@ module _ (p : PlanForm) (l : Name) (op : OpForm) (n : ℕ) (source : Name) (v : 
       (λ s. by_type (Flat k.type) k.kind (by_adds_keeps k.type w s)) r)
       k.one
     where
-      by_type : (t : QueueType) → kind_of (all_decls p) source ≡ t → (IsApart (split_by p l op m n t w) → Keeps p (split_by p l op m n t w))
+      by_type : (t : QueueType) → kind_of (all_decls p) source ≡ t → (IsApartPlan (split_by p l op m n t w) → Keeps p (split_by p l op m n t w))
           → Keeps p (split_by p l op m n (kind_of (all_decls p) source) w)
-      by_type t e f = subst (λ q. IsApart (split_by p l op m n q w) → Keeps p (split_by p l op m n q w)) (sym e) f a
+      by_type t e f = subst (λ q. IsApartPlan (split_by p l op m n q w) → Keeps p (split_by p l op m n q w)) (sym e) f a
 
 -- fission keeps a plan valid, and all its histories and rows, where all items are of their queues' types
 pub fission_same : (p p' : PlanForm) (l : Name) (n : ℕ) → IsPlan p → fission_of p l n ≡ Ok p' → Keeps p p'

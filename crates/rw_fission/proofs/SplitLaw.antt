@@ -23,7 +23,7 @@ use Rattle.brooklet_model.proofs.Traces.{adds_it, lists_cong}
 use Rattle.rw_fission.specs.Fission.{Way, outs_of, replica_op, splitter_op, joiner_ops, each_op, split_ops, split_by}
 use Rattle.plan_edits.specs.Lists.{first_with}
 use Rattle.rw_fission.specs.Made.{Made, each_name}
-use Rattle.rw_fission.specs.Splits.{Splits, Ends, Joins, given_names, dealt_to, sum_below}
+use Rattle.rw_fission.specs.Splits.{Splits, JoinerFits, JoinerGives, given_names, dealt_to, sum_below}
 use Rattle.plan_edits.specs.Meaning.{SameMeaning}
 use Rattle.plan_edits.proofs.Swap.{it_is, stay, swapped_hist, swapped_adds}
 use Rattle.rw_fission.proofs.SplitValid as split
@@ -142,8 +142,8 @@ module _ (Good : item.Item → Type 0) (p : PlanForm) (l : Name) (op : OpForm) (
           → Solves h' (record { label = m.joiner; kernel = j.0; reads = each_name m.given n; writes = op.writes; vars = m.joiner ∷ [] })
       joiner_solves j e =
           let o : OpForm = record { label = m.joiner; kernel = j.0; reads = each_name m.given n; writes = op.writes; vars = m.joiner ∷ [] } in
-          let en : Ends p op n (Some j) = subst (Ends p op n) e y.ends in
-          let law : Joins Good op n w (Some j) = subst (Joins Good op n w) e y.joins in
+          let en : JoinerFits p op n (Some j) = subst (JoinerFits p op n) e y.ends in
+          let law : JoinerGives Good op n w (Some j) = subst (JoinerGives Good op n w) e y.joins in
           let lists = subst (λ k. Lists (given_names m.given n k) outs h') e outs_lists in
           let s : Lists (en.0 ∷ []) (given op h).outs h = subst (λ ws. Lists ws (given op h).outs h) en.1 (it_is p.ops p'.ops op put (split.e Good p l op m n source t w v here y) (Solves h) (plan_solves p v g)) in
           let named = split.old_write Good p l op m n source t w v here y en.0 (let a = split.writes_old Good p l op m n source t w v here y en.0 in let b = ap (count en.0) en.1 in let c = count_here en.0 [] in omega (arith, a, b, c)) in

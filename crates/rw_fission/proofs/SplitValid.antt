@@ -19,10 +19,10 @@ use Rattle.river_plan.specs.Uses.{Each, total, writes_it, reads_it, vars_it, nam
 use Rattle.river_plan.specs.Valid.{IsPlan}
 use Rattle.river_plan.proofs.NameLemmas.{cases_name, count-append, more_or_zero}
 use Rattle.brooklet_model.proofs.Solutions.{count_here}
-use Rattle.rw_fission.specs.Fission.{Way, weights, outs_of, replica_op, splitter_op, joiner_ops, each_op, split_ops, split_by, decls, given_decls}
+use Rattle.rw_fission.specs.Fission.{Way, equal_weights, outs_of, replica_op, splitter_op, joiner_ops, each_op, split_ops, split_by, decls, given_decls}
 use Rattle.plan_edits.specs.Lists.{first_with}
 use Rattle.rw_fission.specs.Made.{Made, each_name}
-use Rattle.rw_fission.specs.Splits.{Splits, Ends, given_types, given_names}
+use Rattle.rw_fission.specs.Splits.{Splits, JoinerFits, given_types, given_names}
 use Rattle.plan_edits.proofs.Surgery.{total-append, before_append, found}
 use Rattle.river_plan.proofs.ShareLemmas.{each_append}
 use Rattle.plan_edits.proofs.Swap.{Swap, swap_of, stay, sum_old, sum_new, it_is, together, reordered}
@@ -66,7 +66,7 @@ joins_read : (x : Name) (op : OpForm) (m : Made) (n : ℕ) (j : Option (Kern × 
 joins_read x op m n None = refl
 joins_read x op m n (Some j) = omega arith
 
-joins_write : (p : PlanForm) (x : Name) (op : OpForm) (m : Made) (n k : ℕ) (j : Option (Kern × QueueType)) → Ends p op k j
+joins_write : (p : PlanForm) (x : Name) (op : OpForm) (m : Made) (n k : ℕ) (j : Option (Kern × QueueType)) → JoinerFits p op k j
     → total (writes_it x) (joiner_ops op m n j) ≡ count x op.writes
 joins_write p x op m n k None e = sym (ap (count x) e)
 joins_write p x op m n k (Some j) e = omega arith
@@ -87,7 +87,7 @@ given_names_of : (m : Made) (n : ℕ) (j : Option (Kern × QueueType)) → decl_
 given_names_of m n None = refl
 given_names_of m n (Some j) = names_of_decls j.1 (each_name m.given n)
 
-given_sized : (p : PlanForm) (op : OpForm) (m : Made) (n k : ℕ) (j : Option (Kern × QueueType)) → Ends p op k j → All HasWidth (given_decls m n j)
+given_sized : (p : PlanForm) (op : OpForm) (m : Made) (n k : ℕ) (j : Option (Kern × QueueType)) → JoinerFits p op k j → All HasWidth (given_decls m n j)
 given_sized p op m n k None e = All-nil HasWidth
 given_sized p op m n k (Some j) e = decls_sized j.1 (each_name m.given n) e.2
 
@@ -324,9 +324,9 @@ module _ (Good : item.Item → Type 0) (p : PlanForm) (l : Name) (op : OpForm) (
       let a = reads_kind in
       let b = map_each kind' m.dealt n t kind_dealt in
       let c = ap (λ k. k ∷ []) (var_new m.splitter y.splitter_new) in
-      subst (λ ts. Fits (deal (weights n w.share)) ts (map kind' da) (var' m.splitter ∷ [])) (sym a)
-      (subst (λ ts. Fits (deal (weights n w.share)) (t ∷ []) ts (var' m.splitter ∷ [])) (sym b)
-      (subst (λ ts. Fits (deal (weights n w.share)) (t ∷ []) (replicate n t) ts) (sym c) y.deals))
+      subst (λ ts. Fits (deal (equal_weights n w.share)) ts (map kind' da) (var' m.splitter ∷ [])) (sym a)
+      (subst (λ ts. Fits (deal (equal_weights n w.share)) (t ∷ []) ts (var' m.splitter ∷ [])) (sym b)
+      (subst (λ ts. Fits (deal (equal_weights n w.share)) (t ∷ []) (replicate n t) ts) (sym c) y.deals))
 
   given_kind : (i : ℕ) → i < n → (j : Option (Kern × QueueType)) → w.join ≡ j → map kind' (outs_of j (m.given i)) ≡ given_types j
   given_kind i lt None ej = refl
@@ -342,7 +342,7 @@ module _ (Good : item.Item → Type 0) (p : PlanForm) (l : Name) (op : OpForm) (
   joiner_fit : (j : Kern × QueueType) → w.join ≡ Some j
       → IsFit p' (record { label = m.joiner; kernel = j.0; reads = each_name m.given n; writes = op.writes; vars = m.joiner ∷ [] })
   joiner_fit j ej =
-      let en : Ends p op n (Some j) = subst (Ends p op n) ej y.ends in
+      let en : JoinerFits p op n (Some j) = subst (JoinerFits p op n) ej y.ends in
       let out = en.0 in
       let named : 0 < count out (queue_names p) = v.writes_declared out (let a = writes_old out in let b = ap (count out) en.1 in let c = count_here out [] in omega (arith, a, b, c)) in
       let a = map_each kind' m.given n j.1 (kind_given j ej) in

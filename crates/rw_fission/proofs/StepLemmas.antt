@@ -16,7 +16,7 @@ use Rattle.river_plan.proofs.OneFirst.{fault-one}
 use Rattle.river_plan.proofs.ValidLaw.{valid-no_fault}
 use Rattle.river_plan.proofs.NameLemmas.{cases_bool}
 use Rattle.plan_edits.specs.Answered.{IsAnswered}
-use Rattle.rw_fission.specs.Asked.{IsStep, way_of, by_way, by_reads, by_op, all_made, are_short}
+use Rattle.rw_fission.specs.Asked.{HoldsOfAnswer, way_of, by_way, by_reads, by_op, all_made, are_short}
 use Rattle.rw_fission.specs.Code.{IsPlace, IsJudgedAs, split_plan, longest}
 use Rattle.rw_fission.specs.Fission.{Way, split_by, split_ops}
 use Rattle.plan_edits.specs.Lists.{first_with}
@@ -74,7 +74,7 @@ ended_long short q s = sym (ap (λ b. if b && is_apart q then yes q else no N5) 
 
 -- what was judged ends the step
 pub judged_step : (short : Bool) (q : PlanForm) (u : Answer) → short ≡ true → (is_apart q ≡ true → IsPlan q) × (IsPlan q → is_apart q ≡ true) → IsJudgedAs q u
-    → IsStep (λ x. x ≡ (if short && is_apart q then yes q else no N5)) u
+    → HoldsOfAnswer (λ x. x ≡ (if short && is_apart q then yes q else no N5)) u
 judged_step short q (Ok r) s v j = ap yes j.0 ∙ ended_yes short q s (v.1 j.1)
 judged_step short q (Err U1) s v j = absurd j
 judged_step short q (Err U2) s v j = absurd j
@@ -151,14 +151,14 @@ module _ (p : PlanForm) (l : Name) (i : ℕ) (op : OpForm) (n : ℕ) (source : N
 
   -- the layers one under the other
   pub step_ends : (u : Answer)
-      → IsStep (λ x. x ≡ (if are_short (all_made (made_of l) n) && is_apart (split_plan p i op (made_of l) n t w) then yes (split_plan p i op (made_of l) n t w) else no N5)) u
-      → IsStep (λ x. x ≡ by_op p l n (Some op)) u
+      → HoldsOfAnswer (λ x. x ≡ (if are_short (all_made (made_of l) n) && is_apart (split_plan p i op (made_of l) n t w) then yes (split_plan p i op (made_of l) n t w) else no N5)) u
+      → HoldsOfAnswer (λ x. x ≡ by_op p l n (Some op)) u
   step_ends u s =
-      subst (λ y. IsStep (λ x. x ≡ y) u)
+      subst (λ y. HoldsOfAnswer (λ x. x ≡ y) u)
       (ap (λ q. if are_short (all_made (made_of l) n) && is_apart q then yes q else no N5) (sym split_is) ∙ sym (step_way p l op n source t (Some w) many few r e h)) s
 
 -- the answer of the whole
-pub step_answered : (told : Answer) (u : Answer) → IsStep (λ x. x ≡ told) u → IsAnswered told u
+pub step_answered : (told : Answer) (u : Answer) → HoldsOfAnswer (λ x. x ≡ told) u → IsAnswered told u
 step_answered told (Ok q) h = sym h
 step_answered told (Err U1) h = sym h
 step_answered told (Err U2) h = sym h

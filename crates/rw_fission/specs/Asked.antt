@@ -85,7 +85,7 @@ abbrev pub fission_of : PlanForm → Name → ℕ → Result PlanForm Unfit
 fission_of p l n = by_op p l n (first_with (named_it l) p.ops)
 
 -- this holds of what a call answers; of want of memory nothing is said
-abbrev pub IsStep : (Result PlanForm Unfit → Type 0) → Result PlanForm Unfit → Type 0
-IsStep P (Ok q) = P (Ok q)
-IsStep P (Err NoMemory) = Unit {0}
-IsStep P (Err f) = P (Err f)
+abbrev pub HoldsOfAnswer : (Result PlanForm Unfit → Type 0) → Result PlanForm Unfit → Type 0
+HoldsOfAnswer P (Ok q) = P (Ok q)
+HoldsOfAnswer P (Err NoMemory) = Unit {0}
+HoldsOfAnswer P (Err f) = P (Err f)

@@ -48,8 +48,8 @@ abbrev pub longest : ℕ → ℕ
 longest n = if nat_lt n 10 then 3 else 4
 
 -- the name of the label, with this letter (or none) and a number behind it
-abbrev pub numbered : Name → List ℕ → ℕ → Name
-numbered l letter i = l ++ 64 ∷ (letter ++ digits i)
+abbrev pub numbered_label : Name → List ℕ → ℕ → Name
+numbered_label l letter i = l ++ 64 ∷ (letter ++ digits i)
 
 -- the names are those that are made from a label for n replicas
 pub record IsMadeOf (l : Name) (n : ℕ) (names : MadeNames) : Type 0 where

@@ -12,8 +12,8 @@ use Rattle.rw_fission.specs.Made.{Made, each_name}
 use Rattle.plan_edits.specs.Lists.{swapped}
 
 -- n weights
-abbrev pub weights : ℕ → ℕ → List ℤ
-weights n w = replicate n (pos w)
+abbrev pub equal_weights : ℕ → ℕ → List ℤ
+equal_weights n w = replicate n (pos w)
 
 -- How the replicas work: how many items each gets in its turn, their kernel, their variables, and the joiner with the type of the
 -- queues from the replicas to it, where there is one; and of the plan's variables those that stay and those that are new.
@@ -37,8 +37,8 @@ by_packs p op m n u = record {
 }
 
 -- the names that are not among these
-abbrev pub without : List Name → List Name → List Name
-without gone ws = filter (λ w. nat_lt (count w gone) 1) ws
+abbrev pub names_without : List Name → List Name → List Name
+names_without gone ws = filter (λ w. nat_lt (count w gone) 1) ws
 
 -- each replica is the filter, and gets a block
 abbrev pub by_blocks : PlanForm → OpForm → Made → ℕ → (pop push : ℕ) → Way
@@ -46,8 +46,8 @@ by_blocks p op m n pop push = record {
   share = pop;
   inner = op.kernel;
   vars = λ i. m.replica i ∷ [];
-  join = Some (collect (weights n push), rows 1);
-  stay = without op.vars p.vars;
+  join = Some (collect (equal_weights n push), rows 1);
+  stay = names_without op.vars p.vars;
   new = m.splitter ∷ (each_name m.replica n ++ m.joiner ∷ []);
 }
 
@@ -65,7 +65,7 @@ by_adds p op m = record {
 -- THE RESULT
 
 abbrev pub splitter_op : OpForm → Made → ℕ → Way → OpForm
-splitter_op op m n w = record { label = m.splitter; kernel = deal (weights n w.share); reads = op.reads; writes = each_name m.dealt n; vars = m.splitter ∷ [] }
+splitter_op op m n w = record { label = m.splitter; kernel = deal (equal_weights n w.share); reads = op.reads; writes = each_name m.dealt n; vars = m.splitter ∷ [] }
 
 -- what a replica writes
 abbrev pub outs_of : Option (Kern × QueueType) → Name → List Name

@@ -18,7 +18,7 @@ use Rattle.brooklet_model.specs.Firings.{feed}
 use Rattle.brooklet_model.specs.Fire.{fire, first_kept}
 use Rattle.brooklet_model.specs.Histories.{joined, tables_of}
 use Rattle.brooklet_model.specs.Words.{feed_all}
-use Rattle.rw_fission.specs.Fission.{Way, weights, replica_op, split_ops, split_by}
+use Rattle.rw_fission.specs.Fission.{Way, equal_weights, replica_op, split_ops, split_by}
 use Rattle.rw_fission.specs.Made.{Made, each_name}
 
 -- the types of what a replica writes, and the names of all that they write
@@ -31,14 +31,14 @@ given_names b n None = []
 given_names b n (Some j) = each_name b n
 
 -- the output, where there is one, and that the joiner fits
-abbrev pub Ends : PlanForm → OpForm → ℕ → Option (Kern × QueueType) → Type 0
-Ends p op n None = op.writes ≡ []
-Ends p op n (Some j) =
+abbrev pub JoinerFits : PlanForm → OpForm → ℕ → Option (Kern × QueueType) → Type 0
+JoinerFits p op n None = op.writes ≡ []
+JoinerFits p op n (Some j) =
     (out : Name) × (op.writes ≡ out ∷ []) × IsTrue (is_width (type_width j.1)) × Fits j.0 (replicate n j.1) (kind_of (all_decls p) out ∷ []) (Private ∷ [])
 
 -- what is dealt to a replica, and what it gives
 abbrev pub dealt_to : ℕ → ℕ → List item.Item → ℕ → List item.Item
-dealt_to n share xs i = (feed (fire (deal (weights n share)) 0) xs (first_kept (deal (weights n share)))).outs i
+dealt_to n share xs i = (feed (fire (deal (equal_weights n share)) 0) xs (first_kept (deal (equal_weights n share)))).outs i
 
 -- the sum of f below n
 abbrev pub sum_below : ℕ → (ℕ → ℕ) → ℕ
@@ -46,9 +46,9 @@ sum_below zero f = 0
 sum_below (suc n) f = f 0 + sum_below n (λ i. f (suc i))
 
 -- whatever lists the joiner is given, if they are what the replicas give on what was dealt, it gives what the operator gives
-abbrev pub Joins : (item.Item → Type 0) → OpForm → ℕ → Way → Option (Kern × QueueType) → Type 0
-Joins Good op n w None = Unit {0}
-Joins Good op n w (Some j) =
+abbrev pub JoinerGives : (item.Item → Type 0) → OpForm → ℕ → Way → Option (Kern × QueueType) → Type 0
+JoinerGives Good op n w None = Unit {0}
+JoinerGives Good op n w (Some j) =
     (xs : List item.Item) (h : ℕ → List item.Item) → All Good xs
     → ((i : ℕ) → i < n → h i ≡ (feed (fire w.inner 0) (dealt_to n w.share xs i) (first_kept w.inner)).outs 0)
     → (feed_all j.0 h (first_kept j.0)).outs 0 ≡ (feed (fire op.kernel 0) xs (first_kept op.kernel)).outs 0
@@ -58,14 +58,14 @@ pub record Splits (Good : item.Item → Type 0) (p : PlanForm) (l : Name) (op : 
   pub some : 0 < n
   pub reads : op.reads ≡ source ∷ []
   pub kind : kind_of (all_decls p) source ≡ t
-  pub ends : Ends p op n w.join
+  pub ends : JoinerFits p op n w.join
   -- no name stands twice, and no number is above its limit
   pub queues_once : (q : Name) → count q (queue_names (split_by p l op m n t w)) ≤ 1
   pub variables_once : (x : Name) → count x (table_names p.tables) + (count x w.stay + count x w.new) ≤ 1
   pub labels_once : (k : Name) → total (named_it k) (split_by p l op m n t w).ops ≤ 1
   pub within : (limit : Limit) → All (λ k. k ≤ most_of limit) (numbers limit (split_by p l op m n t w))
   -- the kernels fit
-  pub deals : Fits (deal (weights n w.share)) (t ∷ []) (replicate n t) (Private ∷ [])
+  pub deals : Fits (deal (equal_weights n w.share)) (t ∷ []) (replicate n t) (Private ∷ [])
   pub inner : (kind : Name → VarKind) → ((x : Name) → 0 < count x (table_names p.tables) → kind x ≡ var_kind p.tables p.vars x)
       → ((x : Name) → 0 < count x w.new → kind x ≡ Private)
       → (i : ℕ) → i < n → Fits w.inner (t ∷ []) (given_types w.join) (map kind (w.vars i))
@@ -77,7 +77,7 @@ pub record Splits (Good : item.Item → Type 0) (p : PlanForm) (l : Name) (op : 
   pub put_vars : (x : Name) → count x (table_names p.tables) ≡ 0 → total (vars_it x) (split_ops op m n w) ≡ count x w.new
   pub apart : (i : ℕ) (x : Name) → i < n → count x (w.vars i) ≤ 1
   -- what comes out and what is added
-  pub joins : Joins Good op n w w.join
+  pub joins : JoinerGives Good op n w w.join
   pub adds : (xs : List item.Item) (x : Name) (test : List ℤ → Bool)
       → sum_below n (λ i. count_by test (joined (tables_of (table_names p.tables) (replica_op w m i)) (feed (fire w.inner 0) (dealt_to n w.share xs i) (first_kept w.inner)).adds x))
       ≡ count_by test (joined (tables_of (table_names p.tables) op) (feed (fire op.kernel 0) xs (first_kept op.kernel)).adds x)

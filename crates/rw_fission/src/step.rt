@@ -3,7 +3,7 @@ ghost use Rattle.plan_edits.specs.Answered.{IsAnswered};
 ghost use Rattle.std.specs.Prelude.{◌≡◌, ◌≤◌, Some};
 ghost use Rattle.river_plan.specs.Forms.{OpForm, op_forms, plan_form};
 ghost use Rattle.river_plan.specs.Valid.{IsPlan};
-ghost use Rattle.rw_fission.specs.Asked.{fission_of, IsStep, by_op, fitting};
+ghost use Rattle.rw_fission.specs.Asked.{fission_of, HoldsOfAnswer, by_op, fitting};
 ghost use Rattle.rw_fission.specs.Code.{Placed, IsPlace, IsJudgedAs, IsPlaceOf, formed_plan};
 ghost use Rattle.rw_fission.specs.May.{IsPlanIfApart};
 ghost use Rattle.rw_fission.specs.Made.{made_of};
@@ -40,7 +40,7 @@ fn split_place(
 ) -> Result<Plan, Unfit>
     requires valid { IsPlan (plan_form raw.now) }
     requires place { IsPlace label.now (op_forms raw.now.ops) place }
-    ensures { (op : OpForm) → IsPlaceOf op raw.now.ops place → IsStep (λ u. u ≡ by_op (plan_form raw.now) label.now n (Some op)) result }
+    ensures { (op : OpForm) → IsPlaceOf op raw.now.ops place → HoldsOfAnswer (λ u. u ≡ by_op (plan_form raw.now) label.now n (Some op)) result }
 {
     if n < 2 || 16 < n {
         return Err(Unfit::N2);
@@ -70,7 +70,7 @@ fn split_form(
     requires few { n ≤ 16 }
     requires place { IsPlace label.now (op_forms raw.now.ops) place }
     requires valid { (op : OpForm) → IsPlaceOf op raw.now.ops place → IsPlanIfApart (formed_plan (plan_form raw.now) place op (made_of label.now) n kind form) }
-    ensures { (op : OpForm) → IsPlaceOf op raw.now.ops place → let m = made_of label.now in IsStep (λ u. u ≡ fitting m n (formed_plan (plan_form raw.now) place op m n kind form)) result }
+    ensures { (op : OpForm) → IsPlaceOf op raw.now.ops place → let m = made_of label.now in HoldsOfAnswer (λ u. u ≡ fitting m n (formed_plan (plan_form raw.now) place op m n kind form)) result }
 {
     if !are_short(label, n) {
         return Err(Unfit::N5);

@@ -21,7 +21,7 @@ use Rattle.plan_edits.proofs.Judging.{rank_most, judged_law, by_if}
 use Rattle.plan_edits.proofs.Lookups.{names_append}
 use Rattle.plan_edits.proofs.Surgery.{total-append, first_past, some_op}
 use Rattle.rw_local.specs.Fuse.{fused_op, fused_plan, share, is_large, fuse_two, fuse_found, fuse_of}
-use Rattle.rw_local.specs.Fusion.{Feeds, IsWhole, FuseFails, IsFused, FusionIsJudged}
+use Rattle.rw_local.specs.Fusion.{Feeds, IsBothAsOne, FuseFails, IsFused, FusionIsJudged}
 use Rattle.rw_local.proofs.Cuts.{parted, place_cut, spliced_cut, declared, undeclared_cut}
 use Rattle.rw_local.proofs.FuseCode.{declared_there}
 use Rattle.rw_local.proofs.FuseLaw.{names_of}
@@ -125,13 +125,13 @@ module _ (p : PlanForm) (q : Name) (v : IsPlan p) where
         ∙ spliced_cut left q right r.writes
 
     -- the two as one are one operator
-    pub whole_is : (op : OpForm) → IsWhole q w r op → op ≡ fused_op q w r
+    pub whole_is : (op : OpForm) → IsBothAsOne q w r op → op ≡ fused_op q w r
     whole_is op k =
         let kern : op.kernel ≡ fused w.kernel r.kernel (place q w.writes) = k.kernel ∙ ap (fused w.kernel r.kernel) (sym (outs_cut k.left k.right k.outs)) in
         let outs : op.writes ≡ spliced (place q w.writes) w.writes r.writes = k.writes ∙ sym (outs_spliced k.left k.right k.outs) in
         λ i. record { label = k.label i; kernel = kern i; reads = k.reads i; writes = outs i; vars = k.vars i }
 
-    is_whole : IsWhole q w r (fused_op q w r)
+    is_whole : IsBothAsOne q w r (fused_op q w r)
     is_whole =
         let c = parted q w.writes f.written in
         record {

@@ -22,7 +22,7 @@ pub record Feeds (p : PlanForm) (q : Name) (w r : OpForm) : Type 0 where
 
 -- op is the two as one. It has w's label and inputs and both kernels, r's in the place of q among w's outputs; there its
 -- outputs are r's; its variables are w's and then r's
-pub record IsWhole (q : Name) (w r op : OpForm) : Type 0 where
+pub record IsBothAsOne (q : Name) (w r op : OpForm) : Type 0 where
   pub left : List Name
   pub right : List Name
   pub outs : w.writes ≡ left ++ q ∷ right
@@ -41,7 +41,7 @@ FuseFails p q U2 = (w r : OpForm) → Feeds p q w r → ⊥
 -- q is not the reader's only input
 FuseFails p q U3 = (w : OpForm) × (r : OpForm) × Feeds p q w r × (r.reads ≡ q ∷ [] → ⊥)
 -- the two as one nest above 32, or have more than 64 output ports
-FuseFails p q U4 = (w : OpForm) × (r : OpForm) × (op : OpForm) × Feeds p q w r × IsWhole q w r op × ((32 < nesting op.kernel) ⊎ (64 < length op.writes))
+FuseFails p q U4 = (w : OpForm) × (r : OpForm) × (op : OpForm) × Feeds p q w r × IsBothAsOne q w r op × ((32 < nesting op.kernel) ⊎ (64 < length op.writes))
 -- the two have a variable in common
 FuseFails p q U5 = (w : OpForm) × (r : OpForm) × Feeds p q w r × (v : Name) × (0 < count v w.vars) × (0 < count v r.vars)
 FuseFails p q H1 = ⊥
@@ -61,7 +61,7 @@ pub record IsFused (p : PlanForm) (q : Name) (p' : PlanForm) : Type 0 where
   pub reader : OpForm
   pub whole : OpForm
   pub feeds : Feeds p q writer reader
-  pub is_whole : IsWhole q writer reader whole
+  pub is_whole : IsBothAsOne q writer reader whole
   pub ops : p'.ops ≡ feeds.before ++ whole ∷ (feeds.middle ++ feeds.behind)
   pub above : List Decl
   pub decl : Decl

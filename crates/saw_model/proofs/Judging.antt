@@ -26,7 +26,7 @@ use Rattle.saw_model.specs.Faults.{IsTwice, IsMaximum, IsNoBest}
 use Rattle.saw_model.specs.Places.{Mark, Begins, Enters, Leaves, Names, Reads, Declares, Local, Sets, Emits, Index, Indexed, Weighted}
 use Rattle.saw_model.specs.Places.{Unweighted, Tables}
 use Rattle.saw_model.specs.Places.{term_marks, value_marks, index_marks, weight_marks, statement_marks, block_marks, optional_marks, part_marks, What, ALocal, ATable}
-use Rattle.saw_model.specs.Places.{gives, stays, Known}
+use Rattle.saw_model.specs.Places.{gives, stays, IsKnownAs}
 use Rattle.saw_model.specs.Places.{is_statement, is_local, is_table, how_many}
 use Rattle.saw_model.proofs.Marks.{many_append, steady_stays, known_parts, known_first, known_second, known_behind, quiet_alone, IsPlain, IsAlong}
 use Rattle.saw_model.proofs.Marks.{plain_one, along_names}
@@ -44,8 +44,8 @@ what_of (Port p k) = ATable k
 
 -- the names in the scope are those that the text before says, with what they are
 pub record IsScope (b : List Mark) (sc : Scope) : Type 0 where
-  found : (n : Name) (e : Entry) → find sc n ≡ Some e → Known b n (what_of e)
-  known : (n : Name) (w : What) → Known b n w → (e : Entry) × (find sc n ≡ Some e) × (what_of e ≡ w)
+  found : (n : Name) (e : Entry) → find sc n ≡ Some e → IsKnownAs b n (what_of e)
+  known : (n : Name) (w : What) → IsKnownAs b n w → (e : Entry) × (find sc n ≡ Some e) × (what_of e ≡ w)
 
 -- and so many locals, statements and tables
 pub record IsAt (b : List Mark) (s : At) : Type 0 where
@@ -70,7 +70,7 @@ same_kind : (k j : TableKind) → ATable k ≡ ATable j → k ≡ j
 same_kind k j h = cc h
 
 -- a scope that stays
-scope_kept : (b ms : List Mark) (sc : Scope) → ((k : ℕ) → stays k ms ≡ true) → ((n : Name) (w : What) → Known ms n w → ⊥) → IsScope b sc
+scope_kept : (b ms : List Mark) (sc : Scope) → ((k : ℕ) → stays k ms ≡ true) → ((n : Name) (w : What) → IsKnownAs ms n w → ⊥) → IsScope b sc
     → IsScope (b ++ ms) sc
 scope_kept b ms sc s none a = record {
   found = λ n e h. known_first b ms n (what_of e) s (a.found n e h);
@@ -151,7 +151,7 @@ left_at b ms s q r body a z e1 e2 e3 e4 =
     let whole = Enters ∷ (ms ++ Leaves ∷ []) in
     let same : inner ++ Leaves ∷ [] ≡ b ++ whole = append_assoc (b ++ Enters ∷ []) ms (Leaves ∷ []) ∙ append_assoc b (Enters ∷ []) (ms ++ Leaves ∷ []) in
     let block = block_whole ms [] body (plain_body [] plain_none) in
-    let none = λ (n : Name) (w : What) (d : Known whole n w).
+    let none = λ (n : Name) (w : What) (d : IsKnownAs whole n w).
     known_behind Leaves [] n w refl (body.shut (Leaves ∷ []) n w refl (known_behind Enters (ms ++ Leaves ∷ []) n w refl d)) in
     record {
       scope = subst (λ x. IsScope x r.scope) (sym same) (subst (IsScope (b ++ whole)) (sym e1)
@@ -180,25 +180,25 @@ table_at b n k s new a = record {
 }
 
 -- no name of this spelling is known
-unknown : (b : List Mark) (n : Name) (w : What) (s : At) → IsAt b s → find s.scope n ≡ None → Known b n w → ⊥
+unknown : (b : List Mark) (n : Name) (w : What) (s : At) → IsAt b s → find s.scope n ≡ None → IsKnownAs b n w → ⊥
 unknown b n w s a e d = let r = a.scope.known n w d in no_entry r.0 (sym e ∙ r.1)
 
 -- a table is no local
-not_local : (b : List Mark) (n : Name) (p : ℕ) (k : TableKind) (s : At) → IsAt b s → find s.scope n ≡ Some (Port p k) → Known b n ALocal → ⊥
+not_local : (b : List Mark) (n : Name) (p : ℕ) (k : TableKind) (s : At) → IsAt b s → find s.scope n ≡ Some (Port p k) → IsKnownAs b n ALocal → ⊥
 not_local b n p k s a e d =
     let r = a.scope.known n ALocal d in
     let i = same_entry r.0 (Port p k) (sym r.1 ∙ e) in
     no_local k (ap what_of (sym i) ∙ r.2)
 
 -- a table has one kind
-the_kind : (b : List Mark) (n : Name) (p : ℕ) (k j : TableKind) (s : At) → IsAt b s → find s.scope n ≡ Some (Port p k) → Known b n (ATable j) → k ≡ j
+the_kind : (b : List Mark) (n : Name) (p : ℕ) (k j : TableKind) (s : At) → IsAt b s → find s.scope n ≡ Some (Port p k) → IsKnownAs b n (ATable j) → k ≡ j
 the_kind b n p k j s a e d =
     let r = a.scope.known n (ATable j) d in
     let i = same_entry r.0 (Port p k) (sym r.1 ∙ e) in
     same_kind k j (ap what_of (sym i) ∙ r.2)
 
 -- a local is no table
-not_table : (b : List Mark) (n : Name) (i : ℕ) (j : TableKind) (s : At) → IsAt b s → find s.scope n ≡ Some (Var i) → Known b n (ATable j) → ⊥
+not_table : (b : List Mark) (n : Name) (i : ℕ) (j : TableKind) (s : At) → IsAt b s → find s.scope n ≡ Some (Var i) → IsKnownAs b n (ATable j) → ⊥
 not_table b n i j s a e d =
     let r = a.scope.known n (ATable j) d in
     let h = same_entry r.0 (Var i) (sym r.1 ∙ e) in

@@ -9,7 +9,7 @@ use Rattle.saw_text.specs.Tree.{Statement, Declare, Assign, Emit, If, Block, End
 use Rattle.saw_model.specs.Places.{Mark, Begins, Enters, Leaves, Names, Reads, Declares, Local, Sets, Emits, Index, Indexed, Weighted, Unweighted}
 use Rattle.saw_model.specs.Places.{term_marks, value_marks, index_marks, weight_marks, statement_marks, block_marks, optional_marks, What, gives, Turn, In, Out}
 use Rattle.saw_model.specs.Places.{Along, turn, past}
-use Rattle.saw_model.specs.Places.{stays, Known, is_statement, is_local, is_table, how_many}
+use Rattle.saw_model.specs.Places.{stays, IsKnownAs, is_statement, is_local, is_table, how_many}
 
 -- HOW MANY
 
@@ -45,7 +45,7 @@ steady_both xs ys a b k zs = ap (stays k) (append_assoc xs ys zs) ∙ a k (ys ++
 -- WHAT IS KNOWN
 
 -- behind two texts a name is known from one of them
-pub known_parts : (xs ys : List Mark) (n : Name) (w : What) → ((k : ℕ) → stays k ys ≡ true) → Known (xs ++ ys) n w → Known xs n w ⊎ Known ys n w
+pub known_parts : (xs ys : List Mark) (n : Name) (w : What) → ((k : ℕ) → stays k ys ≡ true) → IsKnownAs (xs ++ ys) n w → IsKnownAs xs n w ⊎ IsKnownAs ys n w
 known_parts [] ys n w h d = inr d
 known_parts (x ∷ xs) ys n w h d = ⊎_elim
     (λ e. inl (inl (e.0, sym (stays_before xs ys h 0) ∙ e.1)))
@@ -53,7 +53,7 @@ known_parts (x ∷ xs) ys n w h d = ⊎_elim
     d
 
 -- what is known by the first marks is known by both
-pub known_first : (xs ys : List Mark) (n : Name) (w : What) → ((k : ℕ) → stays k ys ≡ true) → Known xs n w → Known (xs ++ ys) n w
+pub known_first : (xs ys : List Mark) (n : Name) (w : What) → ((k : ℕ) → stays k ys ≡ true) → IsKnownAs xs n w → IsKnownAs (xs ++ ys) n w
 known_first [] ys n w h d = absurd d
 known_first (x ∷ xs) ys n w h d = ⊎_elim
     (λ e. inl (e.0, stays_before xs ys h 0 ∙ e.1))
@@ -61,7 +61,7 @@ known_first (x ∷ xs) ys n w h d = ⊎_elim
     d
 
 -- and by the second
-pub known_second : (xs ys : List Mark) (n : Name) (w : What) → Known ys n w → Known (xs ++ ys) n w
+pub known_second : (xs ys : List Mark) (n : Name) (w : What) → IsKnownAs ys n w → IsKnownAs (xs ++ ys) n w
 known_second [] ys n w d = d
 known_second (x ∷ xs) ys n w d = inr (known_second xs ys n w d)
 
@@ -69,23 +69,23 @@ none_given : (e : Name × What) → None ≡ Some e → ⊥
 none_given e h = cc h
 
 -- a mark that gives no name
-pub known_behind : (m : Mark) (ms : List Mark) (n : Name) (w : What) → gives m ≡ None → Known (m ∷ ms) n w → Known ms n w
+pub known_behind : (m : Mark) (ms : List Mark) (n : Name) (w : What) → gives m ≡ None → IsKnownAs (m ∷ ms) n w → IsKnownAs ms n w
 known_behind m ms n w e d = ⊎_elim (λ a. absurd (none_given (n, w) (sym e ∙ a.0))) (λ a. a) d
 
 -- a text behind which no name of it is known
 abbrev pub IsQuiet : List Mark → Type 0
-IsQuiet xs = (ys : List Mark) (n : Name) (w : What) → Known (xs ++ ys) n w → Known ys n w
+IsQuiet xs = (ys : List Mark) (n : Name) (w : What) → IsKnownAs (xs ++ ys) n w → IsKnownAs ys n w
 
 -- a text of which no name is known once its block is left
 abbrev pub IsShut : List Mark → Type 0
-IsShut xs = (ys : List Mark) (n : Name) (w : What) → stays 0 ys ≡ false → Known (xs ++ ys) n w → Known ys n w
+IsShut xs = (ys : List Mark) (n : Name) (w : What) → stays 0 ys ≡ false → IsKnownAs (xs ++ ys) n w → IsKnownAs ys n w
 
 pub quiet_both : (xs ys : List Mark) → IsQuiet xs → IsQuiet ys → IsQuiet (xs ++ ys)
-quiet_both xs ys a b zs n w d = b zs n w (a (ys ++ zs) n w (subst (λ ms. Known ms n w) (append_assoc xs ys zs) d))
+quiet_both xs ys a b zs n w d = b zs n w (a (ys ++ zs) n w (subst (λ ms. IsKnownAs ms n w) (append_assoc xs ys zs) d))
 
 -- quiet marks make nothing known
-pub quiet_alone : (xs : List Mark) → IsQuiet xs → (n : Name) (w : What) → Known xs n w → ⊥
-quiet_alone xs h n w d = h [] n w (subst (λ ms. Known ms n w) (sym (append-nil xs)) d)
+pub quiet_alone : (xs : List Mark) → IsQuiet xs → (n : Name) (w : What) → IsKnownAs xs n w → ⊥
+quiet_alone xs h n w d = h [] n w (subst (λ ms. IsKnownAs ms n w) (sym (append-nil xs)) d)
 
 -- PLAIN TEXTS
 
@@ -204,7 +204,7 @@ plain_body ms p = record { steady = p.steady; shut = λ ys n w h d. p.quiet ys n
 body_both : (xs ys : List Mark) → IsBody xs → IsBody ys → IsBody (xs ++ ys)
 body_both xs ys a b = record {
   steady = steady_both xs ys a.steady b.steady;
-  shut = λ zs n w h d. b.shut zs n w h (a.shut (ys ++ zs) n w (b.steady 0 zs ∙ h) (subst (λ ms. Known ms n w) (append_assoc xs ys zs) d));
+  shut = λ zs n w h d. b.shut zs n w h (a.shut (ys ++ zs) n w (b.steady 0 zs ∙ h) (subst (λ ms. IsKnownAs ms n w) (append_assoc xs ys zs) d));
   tables = let e = many_append is_table xs ys in let x = a.tables in let y = b.tables in omega (arith, e, x, y);
 }
 
@@ -232,7 +232,7 @@ block_whole xs rest a r = record {
   steady = λ k ys. ap (stays (suc k)) (append_assoc xs (Leaves ∷ rest) ys) ∙ a.steady (suc k) (Leaves ∷ (rest ++ ys)) ∙ r.steady k ys;
   shut = λ ys n w h d.
       let e = known_behind Enters ((xs ++ Leaves ∷ rest) ++ ys) n w refl d in
-      let f = a.shut (Leaves ∷ (rest ++ ys)) n w refl (subst (λ ms. Known ms n w) (append_assoc xs (Leaves ∷ rest) ys) e) in
+      let f = a.shut (Leaves ∷ (rest ++ ys)) n w refl (subst (λ ms. IsKnownAs ms n w) (append_assoc xs (Leaves ∷ rest) ys) e) in
       r.shut ys n w h (known_behind Leaves (rest ++ ys) n w refl f);
   tables = let e = many_append is_table xs (Leaves ∷ rest) in let x = a.tables in let y = r.tables in omega (arith, e, x, y);
 }

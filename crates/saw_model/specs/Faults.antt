@@ -7,20 +7,20 @@ use Rattle.saw_model.specs.Elaborate.{Fault, UnknownName, NameTwice, Shape, Limi
 use Rattle.saw_model.specs.Judged.{Refusal, judged}
 use Rattle.saw_model.specs.Places.{Mark, Begins, Names, Reads, Declares, Sets, Emits, Index, Indexed, Weighted, Unweighted, Tables, What}
 use Rattle.saw_model.specs.Places.{ALocal, ATable}
-use Rattle.saw_model.specs.Places.{Known, is_statement, is_local, is_table, how_many, part_marks, program_marks}
+use Rattle.saw_model.specs.Places.{IsKnownAs, is_statement, is_local, is_table, how_many, part_marks, program_marks}
 use Rattle.saw_text.specs.Tree.{UnitForm, Program}
 
 -- a value's name or a name that is set is no known local, or the name behind emit is no table that is declared above
 abbrev pub IsUnknown : List Mark → Mark → Type 0
-IsUnknown before (Names n) = Known before n ALocal → ⊥
-IsUnknown before (Sets n) = Known before n ALocal → ⊥
-IsUnknown before (Emits n) = (k : TableKind) → Known before n (ATable k) → ⊥
+IsUnknown before (Names n) = IsKnownAs before n ALocal → ⊥
+IsUnknown before (Sets n) = IsKnownAs before n ALocal → ⊥
+IsUnknown before (Emits n) = (k : TableKind) → IsKnownAs before n (ATable k) → ⊥
 IsUnknown before m = ⊥
 
 -- a name that is known there is declared again
 abbrev pub IsTwice : List Mark → Mark → Type 0
-IsTwice before (Declares n) = (w : What) × Known before n w
-IsTwice before (Tables n k) = (w : What) × Known before n w
+IsTwice before (Declares n) = (w : What) × IsKnownAs before n w
+IsTwice before (Tables n k) = (w : What) × IsKnownAs before n w
 IsTwice before m = ⊥
 
 abbrev pub IsMaximum : TableKind → Type 0
@@ -30,9 +30,9 @@ IsMaximum (Maximum best keys) = Unit {0}
 
 -- an emit has another number of indexes than its table, or a weight where there is none, or none where there is one
 abbrev pub IsMisshapen : List Mark → Mark → Type 0
-IsMisshapen before (Indexed n i) = (k : TableKind) × Known before n (ATable k) × (i ≡ keys_in k → ⊥)
-IsMisshapen before (Weighted n) = (k : TableKind) × Known before n (ATable k) × (IsMaximum k → ⊥)
-IsMisshapen before (Unweighted n) = (k : TableKind) × Known before n (ATable k) × IsMaximum k
+IsMisshapen before (Indexed n i) = (k : TableKind) × IsKnownAs before n (ATable k) × (i ≡ keys_in k → ⊥)
+IsMisshapen before (Weighted n) = (k : TableKind) × IsKnownAs before n (ATable k) × (IsMaximum k → ⊥)
+IsMisshapen before (Unweighted n) = (k : TableKind) × IsKnownAs before n (ATable k) × IsMaximum k
 IsMisshapen before m = ⊥
 
 -- a maximum of 0 or above 1,000,000

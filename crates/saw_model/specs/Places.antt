@@ -118,9 +118,9 @@ stays k (m ∷ ms) = past (turn m) k (λ j. stays j ms)
 
 -- Behind this text the name is known as this: it is declared there, and behind that no block is left but those that are entered
 -- there.
-abbrev pub Known : List Mark → Name → What → Type 0
-Known [] n w = ⊥
-Known (m ∷ ms) n w = ((gives m ≡ Some (n, w)) × (stays 0 ms ≡ true)) ⊎ Known ms n w
+abbrev pub IsKnownAs : List Mark → Name → What → Type 0
+IsKnownAs [] n w = ⊥
+IsKnownAs (m ∷ ms) n w = ((gives m ≡ Some (n, w)) × (stays 0 ms ≡ true)) ⊎ IsKnownAs ms n w
 
 -- HOW MANY THERE WERE
 

@@ -14,7 +14,7 @@ use Rattle.cql_text.specs.declared.tree.Source.{Source}
 use Rattle.cql_text.specs.Tree.{window_of, source_of, sources_of}
 use Rattle.slow_cql.specs.declared.kept.Kept.{Kept}
 use Rattle.slow_cql.specs.declared.kept.Input.{Input}
-use Rattle.slow_cql.specs.Kept.{timed, is_in_order, latest, fields_or, entries_or, StandsKept, reached, named_input, content_in, IsInput, AreInputsOf}
+use Rattle.slow_cql.specs.Kept.{timed, is_in_order, latest, fields_or, entries_or, StandsKept, reached, named_input, input_content, IsInput, AreInputsOf}
 use Rattle.slow_cql.proofs.Timed.{timed-none, reached-timed, timed_in_order}
 
 -- ---- THE LATEST
@@ -89,7 +89,7 @@ inputs_push : (ts : List ℤ) (ks : List KnownStream) (items : List tree.Source)
     → AreInputsOf ts ks (items ++ item ∷ []) (is ++ i ∷ [])
 inputs_push ts ks items item is i a h = record {
   named = map-append named_input is (i ∷ []) ∙ (λ j. a.named j ++ h.named j ∷ []) ∙ sym (map-append (item_named (named_of ks)) items (item ∷ []));
-  contents = λ t. map-append (content_in t) is (i ∷ []) ∙ (λ j. a.contents t j ++ h.content t j ∷ [])
+  contents = λ t. map-append (input_content t) is (i ∷ []) ∙ (λ j. a.contents t j ++ h.content t j ∷ [])
       ∙ sym (map-append (λ (x : tree.Source). windowed x.window ts (rows_named ks x.stream) t) items (item ∷ []));
   in_order = each_push (λ (x : Input). is_in_order x.entries.now) is i a.in_order h.in_order;
 }

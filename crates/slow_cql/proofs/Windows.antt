@@ -7,7 +7,7 @@ use Rattle.std.specs.Ordering.{int_eq}
 use Rattle.std.proofs.lemmas.List.{take_all, length-map}
 use Rattle.std.proofs.lemmas.List.Elements.{filter_agree}
 use Rattle.csv_streams.proofs.Spreading.{passes_between}
-use Rattle.cql_model.specs.Streams.{latest_rows}
+use Rattle.cql_model.specs.Streams.{newest_rows}
 use Rattle.slow_cql.specs.Kept.{Entry}
 
 -- the rows that pass in front
@@ -47,6 +47,6 @@ pub between : (p q r : Entry → Bool) → ((e : Entry) → (p e && q e) ≡ r e
 between p q r is es ps qs a b = b ∙ ap (filter q) a ∙ filter-filter p q es ∙ filter_agree (λ e. p e && q e) r is es
 
 -- the last of them
-pub last_of : (n : ℕ) (es : List Entry) → map (λ (e : Entry). e.1) (drop (length es - n) es) ≡ latest_rows n (map (λ (e : Entry). e.1) es)
+pub last_of : (n : ℕ) (es : List Entry) → map (λ (e : Entry). e.1) (drop (length es - n) es) ≡ newest_rows n (map (λ (e : Entry). e.1) es)
 last_of n es = drop-map (λ (e : Entry). e.1) (length es - n) es
     ∙ (let l = length-map es (λ (e : Entry). e.1) in ap (λ k. drop (k - n) (map (λ (e : Entry). e.1) es)) (sym l))

@@ -7,7 +7,7 @@ use Rattle.cql_model.specs.Scopes.{Named, scope_of}
 use Rattle.cql_model.specs.Streams.{Timed}
 use Rattle.cql_model.specs.Meaning.{KnownStream, named_of, windows_at, Tuple, eval, product_of, where_true, selected_row}
 use Rattle.cql_model.specs.Translation.{columns_width, query_named}
-use Rattle.slow_cql.specs.Kept.{input_scope, content_in}
+use Rattle.slow_cql.specs.Kept.{input_scope, input_content}
 use Rattle.slow_cql.specs.declared.kept.Input.{Input}
 
 -- whether the condition holds for a tuple
@@ -16,7 +16,7 @@ condition_holds names None tuple = true
 condition_holds names (Some e) tuple = is_true (eval names e tuple)
 
 abbrev pub product_at : ℤ → List Input → List Tuple
-product_at t is = product_of (map (content_in t) is)
+product_at t is = product_of (map (input_content t) is)
 
 abbrev pub content_over : List Input → Query → Timed
 content_over is q t = map (selected_row (input_scope is) q.columns) (where_true (input_scope is) q.condition (product_at t is))

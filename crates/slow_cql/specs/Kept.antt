@@ -61,17 +61,17 @@ abbrev pub input_scope : List Input → List Named
 input_scope is = map named_input is
 
 -- the content of an input at an instant
-abbrev pub content_in : ℤ → Input → List (List ℤ)
-content_in t i = reached (window_of i.window) t i.entries.now
+abbrev pub input_content : ℤ → Input → List (List ℤ)
+input_content t i = reached (window_of i.window) t i.entries.now
 
 -- the input is the window of this item
 pub record IsInput (ts : List ℤ) (ks : List KnownStream) (item : Source) (i : Input) : Type 0 where
   pub named : named_input i ≡ item_named (named_of ks) item
-  pub content : (t : ℤ) → content_in t i ≡ windowed item.window ts (rows_named ks item.stream) t
+  pub content : (t : ℤ) → input_content t i ≡ windowed item.window ts (rows_named ks item.stream) t
   pub in_order : is_in_order i.entries.now
 
 -- the inputs are those of these items
 pub record AreInputsOf (ts : List ℤ) (ks : List KnownStream) (items : List Source) (is : List Input) : Type 0 where
   pub named : input_scope is ≡ scope_of (named_of ks) items
-  pub contents : (t : ℤ) → map (content_in t) is ≡ windows_at ts ks items t
+  pub contents : (t : ℤ) → map (input_content t) is ≡ windows_at ts ks items t
   pub in_order : AllByRecursion (λ i. is_in_order i.entries.now) is

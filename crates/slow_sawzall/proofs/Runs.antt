@@ -19,7 +19,7 @@ use Rattle.saw_build.proofs.Planned.{map_more}
 use Rattle.saw_build.proofs.SoFar.{at_place, none_left}
 use Rattle.saw_build.proofs.Units.{parts_at, parts_none}
 use Rattle.slow_sawzall.specs.declared.run.Run.{Run}
-use Rattle.slow_sawzall.specs.Sawzall.{values_of, now_of, do_part, AreRunnable, IsRunnable, IsRunnablePart, AreRunnableParts}
+use Rattle.slow_sawzall.specs.Sawzall.{named_values, run_state, do_part, AreRunnable, IsRunnable, IsRunnablePart, AreRunnableParts}
 
 -- A RECORD AFTER OTHERS
 
@@ -57,11 +57,11 @@ exec_units-behind (StatementUnit c ∷ ps) r es s = ap (exec_units ps r) (exec-b
 
 -- a record whose locals are fresh adds what it emits
 pub record_adds : (p : Program) (r : List ℤ) (old start now : Run) → start.locals.items ≡ [] → start.emitted.items ≡ old.emitted.items
-    → now_of now ≡ exec_units p r (now_of start) → now.emitted.items ≡ old.emitted.items ++ emits p r
+    → run_state now ≡ exec_units p r (run_state start) → now.emitted.items ≡ old.emitted.items ++ emits p r
 record_adds p r old start now none same is =
     let es = old.emitted.items in
-    let a = ap values_of none in let b = same ∙ sym (append-nil es) in
-    let first : now_of start ≡ behind es fresh = (λ i. record { values = a i; emitted = b i }) in
+    let a = ap named_values none in let b = same ∙ sym (append-nil es) in
+    let first : run_state start ≡ behind es fresh = (λ i. record { values = a i; emitted = b i }) in
     ap (λ (s : State). s.emitted) (is ∙ ap (exec_units p r) first ∙ exec_units-behind p r es fresh)
 
 -- UNITS

@@ -15,7 +15,7 @@ use Rattle.saw_model.specs.Meaning.{Emitted, rows_for, table_kind, table_decl}
 use Rattle.saw_text.specs.declared.tree.Unit as unit
 use Rattle.saw_text.specs.Tree.{unit_form, unit_forms}
 use Rattle.saw_build.proofs.Units.{parts_at, parts_none}
-use Rattle.slow_sawzall.specs.Sawzall.{tables_for, AreWide, IsWideFor, AreWideFor}
+use Rattle.slow_sawzall.specs.Sawzall.{tables_for, AreAllWide, IsWideFor, AreWideFor}
 use Rattle.slow_sawzall.proofs.Values.{from_place}
 
 -- ONE TABLE
@@ -45,10 +45,10 @@ new_none kind table e = e ∙ ap (λ k. kept_of k []) (sym (new_kind kind table 
 -- what was added so far, and that what is left is as wide as the table
 pub record AddedSoFar (kind : TableKind) (n : Name) (es : List Emitted) (i : ℕ) (table : Kept) : Type 0 where
   pub kept : table ≡ kept_of kind (rows_for n (take i es))
-  pub wide : AreWide (table_width kind) (rows_for n (drop i es))
+  pub wide : AreAllWide (table_width kind) (rows_for n (drop i es))
 
 pub added_start : (kind : TableKind) (n : Name) (es : List Emitted) (table : Kept) → table ≡ kept_of kind []
-    → AreWide (table_width kind) (rows_for n es) → AddedSoFar kind n es 0 table
+    → AreAllWide (table_width kind) (rows_for n es) → AddedSoFar kind n es 0 table
 added_start kind n es table h w = record { kept = h; wide = w }
 
 module _ (kind : TableKind) (n : Name) (es : List Emitted) (i : ℕ) (e : Emitted) (table : Kept) (lt : i < length es) (is : e ≡ get_or es i e)
@@ -56,15 +56,15 @@ module _ (kind : TableKind) (n : Name) (es : List Emitted) (i : ℕ) (e : Emitte
   taken : take (i + 1) es ≡ take i es ++ e ∷ []
   taken = take_more es i e lt ∙ ap (λ x. take i es ++ x ∷ []) (sym is)
 
-  left : AreWide (table_width kind) (rows_for n (e ∷ drop (i + 1) es))
-  left = subst (λ l. AreWide (table_width kind) (rows_for n l)) (from_place es i e lt is) f.wide
+  left : AreAllWide (table_width kind) (rows_for n (e ∷ drop (i + 1) es))
+  left = subst (λ l. AreAllWide (table_width kind) (rows_for n l)) (from_place es i e lt is) f.wide
 
   more : rows_for n (take (i + 1) es) ≡ rows_for n (take i es) ++ rows_for n (e ∷ [])
   more = ap (rows_for n) taken ∙ rows_for-append n (take i es) (e ∷ [])
 
   module _ (h : name_eq e.0 n ≡ true) where
-    both : AreWide (table_width kind) (e.1 ∷ rows_for n (drop (i + 1) es))
-    both = subst (AreWide (table_width kind)) (row_here n e (drop (i + 1) es) h) left
+    both : AreAllWide (table_width kind) (e.1 ∷ rows_for n (drop (i + 1) es))
+    both = subst (AreAllWide (table_width kind)) (row_here n e (drop (i + 1) es) h) left
 
     -- the row is as wide as the table
     pub row_fits : length e.1 ≡ width_of table
@@ -83,7 +83,7 @@ module _ (kind : TableKind) (n : Name) (es : List Emitted) (i : ℕ) (e : Emitte
   pub added_skip : name_eq e.0 n ≡ false → AddedSoFar kind n es (i + 1) table
   added_skip h = record {
     kept = f.kept ∙ ap (kept_of kind) (sym (append-nil (rows_for n (take i es))) ∙ ap (λ l. rows_for n (take i es) ++ l) (sym (row_other n e [] h)) ∙ sym more);
-    wide = subst (AreWide (table_width kind)) (row_other n e (drop (i + 1) es) h) left;
+    wide = subst (AreAllWide (table_width kind)) (row_other n e (drop (i + 1) es) h) left;
   }
 
 -- behind the last row all were added

@@ -23,7 +23,7 @@ use Rattle.saw_model.proofs.Fed.{AreOnce, one_place}
 use Rattle.saw_model.proofs.Parts.{parts_read, reads_parts, tabled_parts, split_parts, tables_once, got_here, ports_new}
 use Rattle.saw_model.proofs.Statements.{second_at, Sent, sent_parts, forked_parts, followed_parts, grows}
 use Rattle.saw_build.specs.Valued.{IsValued, AreValued, AreValuedOptional, AreValuedParts}
-use Rattle.slow_sawzall.specs.Sawzall.{IsAccepted, IsRunnable, AreRunnable, AreRunnableOptional, AreRunnableParts, AreWide, AreWideFor}
+use Rattle.slow_sawzall.specs.Sawzall.{IsAccepted, IsRunnable, AreRunnable, AreRunnableOptional, AreRunnableParts, AreAllWide, AreWideFor}
 use Rattle.slow_sawzall.proofs.Runs.{evals_many}
 
 -- THE PARTS OF AN EMIT
@@ -229,12 +229,12 @@ module _ (ts : List TableDecl) where
 
   -- TABLE BY TABLE
 
-  rows_wide : (es : List Emitted) (i : ℕ) (t : TableDecl) → slice_get ts i ≡ Some t → AreRowsWide es → AreWide (table_width t.kind) (rows_for t.name es)
+  rows_wide : (es : List Emitted) (i : ℕ) (t : TableDecl) → slice_get ts i ≡ Some t → AreRowsWide es → AreAllWide (table_width t.kind) (rows_for t.name es)
   rows_wide [] i t g h = tt
   rows_wide (e ∷ es) i t g h = ⊎_elim
-      (λ c. subst (AreWide (table_width t.kind)) (sym (ap (λ b. if b then e.1 ∷ rows_for t.name es else rows_for t.name es) c))
+      (λ c. subst (AreAllWide (table_width t.kind)) (sym (ap (λ b. if b then e.1 ∷ rows_for t.name es else rows_for t.name es) c))
       (h.0.each i t g (sym (name_is e.0 t.name c)), rows_wide es i t g h.1))
-      (λ c. subst (AreWide (table_width t.kind)) (sym (ap (λ b. if b then e.1 ∷ rows_for t.name es else rows_for t.name es) c)) (rows_wide es i t g h.1))
+      (λ c. subst (AreAllWide (table_width t.kind)) (sym (ap (λ b. if b then e.1 ∷ rows_for t.name es else rows_for t.name es) c)) (rows_wide es i t g h.1))
       (cases_bool (name_eq e.0 t.name))
 
   tables_wide : (p : Program) (done : List TableDecl) (es : List Emitted) → ts ≡ done ++ tables_in p → AreRowsWide es → AreWideFor p es

@@ -21,13 +21,13 @@ IsAccepted p = (read : Steps × At) × (judged p ≡ Ok read)
 -- WHAT IS KEPT
 
 -- the values of names, of which the first that is listed counts; a name that is not listed has 0
-abbrev pub values_of : List (Name × ℤ) → Values
-values_of [] = λ n. pos 0
-values_of (e ∷ es) = at_name e.0 e.1 (values_of es)
+abbrev pub named_values : List (Name × ℤ) → Values
+named_values [] = λ n. pos 0
+named_values (e ∷ es) = at_name e.0 e.1 (named_values es)
 
 -- where the run stands
-abbrev pub now_of : Run → State
-now_of run = record { values = values_of run.locals.items; emitted = run.emitted.items }
+abbrev pub run_state : Run → State
+run_state run = record { values = named_values run.locals.items; emitted = run.emitted.items }
 
 -- what a unit does
 abbrev pub do_part : UnitForm → List ℤ → State → State
@@ -68,12 +68,12 @@ AreRunnableParts [] = Unit {0}
 AreRunnableParts (c ∷ ps) = IsRunnablePart c × AreRunnableParts ps
 
 -- each row has so many values
-abbrev pub AreWide : ℕ → List (List ℤ) → Type 0
-AreWide width rows = AllByRecursion (λ row. length row ≡ width) rows
+abbrev pub AreAllWide : ℕ → List (List ℤ) → Type 0
+AreAllWide width rows = AllByRecursion (λ row. length row ≡ width) rows
 
 -- what was emitted to a table is as wide as its rows are
 abbrev pub IsWideFor : UnitForm → List Emitted → Type 0
-IsWideFor (TableUnit tb) es = AreWide (table_width (table_kind tb)) (rows_for tb.name es)
+IsWideFor (TableUnit tb) es = AreAllWide (table_width (table_kind tb)) (rows_for tb.name es)
 IsWideFor (StatementUnit c) es = Unit {0}
 
 abbrev pub AreWideFor : Program → List Emitted → Type 0

@@ -6,7 +6,7 @@ ghost use Rattle.kern_tables.specs.Kept.{kept_of, rows_of, width_of, kind_of as 
 ghost use Rattle.saw_model.specs.Meaning.{kind_of, rows_for, program_tables};
 ghost use Rattle.saw_text.specs.Tree.{unit_form, unit_forms};
 ghost use Rattle.saw_build.specs.Valued.{AreValuedParts};
-ghost use Rattle.slow_sawzall.specs.Sawzall.{IsAccepted, tables_for, AreWide, IsWideFor, AreWideFor};
+ghost use Rattle.slow_sawzall.specs.Sawzall.{IsAccepted, tables_for, AreAllWide, IsWideFor, AreWideFor};
 
 use crate::run::Run;
 use brooklet_step::{Lines, Outcome, Tables};
@@ -113,7 +113,7 @@ fn made_table(
     kind: TableKind,
     emitted: &[(Name, Row)],
 ) -> Result<Table, NoMemory>
-    requires { AreWide (table_width kind) (rows_for name.now emitted.now) }
+    requires { AreAllWide (table_width kind) (rows_for name.now emitted.now) }
     ensures { IfOk result (λ table. rows_of table ≡ tab kind (rows_for name.now emitted.now)) }
 {
     let mut table = Table::new(alloc, kind);
@@ -124,7 +124,7 @@ fn made_table(
 // Adds what was emitted to it to a table that has no row yet.
 fn add_rows(name: &Name, emitted: &[(Name, Row)], table: &mut Table) -> Result<(), NoMemory>
     requires none { table.old ≡ kept_of (kind_kept table.old) [] }
-    requires wide { AreWide (width_of table.old) (rows_for name.now emitted.now) }
+    requires wide { AreAllWide (width_of table.old) (rows_for name.now emitted.now) }
     ensures { OnOk result (rows_of table.new ≡ tab (kind_kept table.old) (rows_for name.now emitted.now)) }
 {
     for one in emitted {

@@ -5,7 +5,7 @@ ghost use Rattle.saw_model.specs.Meaning.{eval_all, parts_of, listed, exec, exec
 ghost use Rattle.saw_text.specs.Tree.{expression, option_expression, statement, block, or_unwritten, unit_form, unit_forms};
 ghost use Rattle.saw_text.specs.View.{expressions, option_block};
 ghost use Rattle.saw_build.specs.Valued.{AreValues, AllValues};
-ghost use Rattle.slow_sawzall.specs.Sawzall.{values_of, now_of, do_part, AreEmitted, IsRunnable, AreRunnable, AreRunnableOptional, IsRunnablePart, AreRunnableParts};
+ghost use Rattle.slow_sawzall.specs.Sawzall.{named_values, run_state, do_part, AreEmitted, IsRunnable, AreRunnable, AreRunnableOptional, IsRunnablePart, AreRunnableParts};
 
 use crate::value::{first_value, set, value};
 use river_base::{Name, NoMemory, Row};
@@ -54,7 +54,7 @@ impl Run {
     // All units, one after another.
     fn units(&mut self, alloc: Global, units: &[Unit], row: &Row) -> Result<(), NoMemory>
         requires { AreRunnableParts (unit_forms units.now) }
-        ensures { OnOk result (now_of self.new ≡ exec_units (unit_forms units.now) row.now (now_of self.old)) }
+        ensures { OnOk result (run_state self.new ≡ exec_units (unit_forms units.now) row.now (run_state self.old)) }
     {
         for unit in units {
             self.unit(alloc, unit, row)?;
@@ -65,7 +65,7 @@ impl Run {
     // A unit; a table does nothing.
     fn unit(&mut self, alloc: Global, unit: &Unit, row: &Row) -> Result<(), NoMemory>
         requires { IsRunnablePart (unit_form unit.now) }
-        ensures { OnOk result (now_of self.new ≡ do_part (unit_form unit.now) row.now (now_of self.old)) }
+        ensures { OnOk result (run_state self.new ≡ do_part (unit_form unit.now) row.now (run_state self.old)) }
     {
         match unit {
             Unit::Table(_) => Ok(()),
@@ -77,7 +77,7 @@ impl Run {
     #[cycle(statements)]
     fn block(&mut self, alloc: Global, b: &Block, row: &Row) -> Result<(), NoMemory>
         requires { AreRunnable (block b.now) }
-        ensures { OnOk result (now_of self.new ≡ exec_block (block b.now) row.now (now_of self.old)) }
+        ensures { OnOk result (run_state self.new ≡ exec_block (block b.now) row.now (run_state self.old)) }
     {
         for s in b.statements.as_slice() {
             self.statement(alloc, s, row)?;
@@ -89,7 +89,7 @@ impl Run {
     #[cycle(statements)]
     fn statement(&mut self, alloc: Global, s: &Statement, row: &Row) -> Result<(), NoMemory>
         requires { IsRunnable (statement s.now) }
-        ensures { OnOk result (now_of self.new ≡ exec (statement s.now) row.now (now_of self.old)) }
+        ensures { OnOk result (run_state self.new ≡ exec (statement s.now) row.now (run_state self.old)) }
     {
         match s {
             Statement::Declare { name, value } => self.declare(*name, value, row),
@@ -114,7 +114,7 @@ impl Run {
     #[cycle(statements)]
     fn otherwise(&mut self, alloc: Global, no: &Option<Block>, row: &Row) -> Result<(), NoMemory>
         requires { AreRunnableOptional (or_unwritten (option_block no.now)) }
-        ensures { OnOk result (now_of self.new ≡ exec_optional (or_unwritten (option_block no.now)) row.now (now_of self.old)) }
+        ensures { OnOk result (run_state self.new ≡ exec_optional (or_unwritten (option_block no.now)) row.now (run_state self.old)) }
     {
         match no {
             None => Ok(()),
@@ -125,7 +125,7 @@ impl Run {
     // A local is declared; without a value it is 0.
     fn declare(&mut self, name: Name, first: &Option<Expr>, row: &Row) -> Result<(), NoMemory>
         requires { AllValues (listed (option_expression first.now)) }
-        ensures { OnOk result (now_of self.new ≡ exec (Declare name (option_expression first.now)) row.now (now_of self.old)) }
+        ensures { OnOk result (run_state self.new ≡ exec (Declare name (option_expression first.now)) row.now (run_state self.old)) }
     {
         let start = first_value(first, row, self.locals.as_slice());
         set(&mut self.locals, name, start)
@@ -134,7 +134,7 @@ impl Run {
     // A local is set.
     fn assign(&mut self, name: Name, e: &Expr, row: &Row) -> Result<(), NoMemory>
         requires { AreValues (expression e.now) }
-        ensures { OnOk result (now_of self.new ≡ exec (Assign name (expression e.now)) row.now (now_of self.old)) }
+        ensures { OnOk result (run_state self.new ≡ exec (Assign name (expression e.now)) row.now (run_state self.old)) }
     {
         let next = value(e, row, self.locals.as_slice());
         set(&mut self.locals, name, next)
@@ -151,7 +151,7 @@ impl Run {
         row: &Row,
     ) -> Result<(), NoMemory>
         requires { AreEmitted (expressions indexes.now) (expression value.now) (option_expression weight.now) }
-        ensures { OnOk result (now_of self.new ≡ exec (Emit table (expressions indexes.now) (expression value.now) (option_expression weight.now)) row.now (now_of self.old)) }
+        ensures { OnOk result (run_state self.new ≡ exec (Emit table (expressions indexes.now) (expression value.now) (option_expression weight.now)) row.now (run_state self.old)) }
     {
         let made = emitted_row(alloc, indexes, value, weight, row, self.locals.as_slice())?;
         self.emitted.push((table, made))?;
@@ -169,7 +169,7 @@ fn emitted_row(
     locals: &[(Name, i64)],
 ) -> Result<Row, NoMemory>
     requires { AreEmitted (expressions indexes.now) (expression first.now) (option_expression weight.now) }
-    ensures { IfOk result (λ made. made ≡ eval_all (parts_of (expressions indexes.now) (expression first.now) (option_expression weight.now)) row.now (values_of locals.now)) }
+    ensures { IfOk result (λ made. made ≡ eval_all (parts_of (expressions indexes.now) (expression first.now) (option_expression weight.now)) row.now (named_values locals.now)) }
 {
     let mut values = Vec::new(alloc);
     add_values(&mut values, indexes, row, locals)?;
@@ -186,7 +186,7 @@ fn add_weight(
     locals: &[(Name, i64)],
 ) -> Result<(), NoMemory>
     requires { AllValues (listed (option_expression weight.now)) }
-    ensures { OnOk result (values.new.items ≡ values.old.items ++ eval_all (listed (option_expression weight.now)) row.now (values_of locals.now)) }
+    ensures { OnOk result (values.new.items ≡ values.old.items ++ eval_all (listed (option_expression weight.now)) row.now (named_values locals.now)) }
 {
     if let Some(weight) = weight {
         values.push(value(weight, row, locals))?;
@@ -202,7 +202,7 @@ fn add_values(
     locals: &[(Name, i64)],
 ) -> Result<(), NoMemory>
     requires { AllValues (expressions es.now) }
-    ensures { OnOk result (values.new.items ≡ values.old.items ++ eval_all (expressions es.now) row.now (values_of locals.now)) }
+    ensures { OnOk result (values.new.items ≡ values.old.items ++ eval_all (expressions es.now) row.now (named_values locals.now)) }
 {
     for e in es {
         values.push(value(e, row, locals))?;

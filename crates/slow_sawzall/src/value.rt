@@ -4,7 +4,7 @@ ghost use Rattle.brooklet_model.specs.Machine.{at_name};
 ghost use Rattle.saw_model.specs.Meaning.{eval as value_said, eval_or, listed};
 ghost use Rattle.saw_text.specs.Tree.{expression, option_expression};
 ghost use Rattle.saw_build.specs.Valued.{AreValues, AllValues};
-ghost use Rattle.slow_sawzall.specs.Sawzall.{values_of};
+ghost use Rattle.slow_sawzall.specs.Sawzall.{named_values};
 
 use river_base::{Name, NoMemory, Row};
 use saw_text::Expr;
@@ -22,7 +22,7 @@ fn field(row: &Row, place: u32) -> i64
 
 // The value of a local; one that was not set is 0.
 fn value_of(locals: &[(Name, i64)], name: &Name) -> i64
-    ensures { result ≡ values_of locals.now name.now }
+    ensures { result ≡ named_values locals.now name.now }
 {
     for local in locals {
         if local.0 == *name {
@@ -34,7 +34,7 @@ fn value_of(locals: &[(Name, i64)], name: &Name) -> i64
 
 /// Sets a local to a value.
 pub fn set(locals: &mut Vec<(Name, i64)>, name: Name, value: i64) -> Result<(), NoMemory>
-    ensures { OnOk result (values_of locals.new.items ≡ at_name name value (values_of locals.old.items)) }
+    ensures { OnOk result (named_values locals.new.items ≡ at_name name value (named_values locals.old.items)) }
 {
     for i in 0..locals.len() {
         if locals[i].0 == name {
@@ -49,7 +49,7 @@ pub fn set(locals: &mut Vec<(Name, i64)>, name: Name, value: i64) -> Result<(), 
 /// The value of an expression.
 pub fn value(e: &Expr, row: &Row, locals: &[(Name, i64)]) -> i64
     requires { AreValues (expression e.now) }
-    ensures { result ≡ value_said (expression e.now) row.now (values_of locals.now) }
+    ensures { result ≡ value_said (expression e.now) row.now (named_values locals.now) }
 {
     match e {
         Expr::Number(number) => *number as i64,
@@ -68,7 +68,7 @@ pub fn value(e: &Expr, row: &Row, locals: &[(Name, i64)]) -> i64
 /// The value of an expression, where there is one; otherwise 0.
 pub fn first_value(e: &Option<Expr>, row: &Row, locals: &[(Name, i64)]) -> i64
     requires { AllValues (listed (option_expression e.now)) }
-    ensures { result ≡ eval_or (pos 0) (option_expression e.now) row.now (values_of locals.now) }
+    ensures { result ≡ eval_or (pos 0) (option_expression e.now) row.now (named_values locals.now) }
 {
     match e {
         None => 0,

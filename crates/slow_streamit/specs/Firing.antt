@@ -12,9 +12,9 @@ abbrev pub or_nought : Option ℤ → ℤ
 or_nought None = pos 0
 or_nought (Some z) = z
 
-abbrev pub values_of : Values → meaning.Values
-values_of v n = or_nought (get name_eq v.known n)
+abbrev pub named_values : Values → meaning.Values
+named_values v n = or_nought (get name_eq v.known n)
 
 -- where the firing stands
 abbrev pub state_of : Firing → State
-state_of f = record { values = values_of f.values; popped = f.popped; pushed = f.pushed }
+state_of f = record { values = named_values f.values; popped = f.popped; pushed = f.pushed }

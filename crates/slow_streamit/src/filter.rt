@@ -5,7 +5,7 @@ ghost use Rattle.streamit_text.specs.Program.{work_tree, filter_tree};
 ghost use Rattle.streamit_text.specs.Tree.{block};
 ghost use Rattle.streamit_unroll.specs.Filter.{IsReadable};
 ghost use Rattle.streamit_unroll.specs.Unrolling.{AreWritten};
-ghost use Rattle.slow_streamit.specs.Firing.{values_of};
+ghost use Rattle.slow_streamit.specs.Firing.{named_values};
 
 use crate::firing::Firing;
 use river_base::{Name, NoMemory, Numbers};
@@ -35,7 +35,7 @@ fn initial(alloc: Global, tree: &FilterTree) -> Result<Numbers, NoMemory>
 // The same, where nothing has a value yet.
 fn fields_after(alloc: Global, tree: &FilterTree, firing: &mut Firing) -> Result<Numbers, NoMemory>
     requires readable { IsReadable (filter_tree tree.now) }
-    requires values { values_of firing.old.values ≡ nought }
+    requires values { named_values firing.old.values ≡ nought }
     requires popped { firing.old.popped ≡ 0 }
     requires pushed { firing.old.pushed ≡ [] }
     ensures { IfOk result (λ kept. kept ≡ initial (filter_tree tree.now)) }
@@ -184,7 +184,7 @@ fn fire_anew(
 ) -> Result<(), NoMemory>
     requires written { AreWritten (block body.now) }
     requires kept { length kept.old ≡ length fields.now }
-    requires values { values_of firing.old.values ≡ nought }
+    requires values { named_values firing.old.values ≡ nought }
     requires popped { firing.old.popped ≡ 0 }
     requires pushed { firing.old.pushed ≡ [] }
     ensures kept { OnOk result (kept.new ≡ map (exec_all (block body.now) items.now (at_start fields.now kept.old)).values fields.now) }

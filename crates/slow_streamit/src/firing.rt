@@ -8,7 +8,7 @@ ghost use Rattle.streamit_model.specs.Meaning.{eval, pops, numbers, first_value,
 ghost use Rattle.streamit_model.specs.Meaning.{at_start};
 ghost use Rattle.streamit_unroll.specs.Numbers.{AreValues};
 ghost use Rattle.streamit_unroll.specs.Unrolling.{AreOptional, AreWritten, AreWrittenOptional, IsWritten};
-ghost use Rattle.slow_streamit.specs.Firing.{values_of, state_of};
+ghost use Rattle.slow_streamit.specs.Firing.{named_values, state_of};
 
 use indexmap::IndexMap;
 use river_base::{Name, NoMemory, Numbers};
@@ -25,7 +25,7 @@ pub struct Values {
 impl Values {
     /// No name has a value.
     pub fn new(alloc: Global) -> Values
-        ensures { values_of result ≡ nought }
+        ensures { named_values result ≡ nought }
     {
         Values {
             known: IndexMap::new(alloc),
@@ -34,7 +34,7 @@ impl Values {
 
     /// The value of a name.
     pub fn get(&self, name: Name) -> i64
-        ensures { result ≡ values_of self.now name }
+        ensures { result ≡ named_values self.now name }
     {
         match self.known.get(&name) {
             Some(value) => *value,
@@ -44,7 +44,7 @@ impl Values {
 
     /// A name has this value from here on.
     pub fn set(&mut self, name: Name, value: i64) -> Result<(), NoMemory>
-        ensures { OnOk result (values_of self.new ≡ at_name name value (values_of self.old)) }
+        ensures { OnOk result (named_values self.new ≡ at_name name value (named_values self.old)) }
     {
         self.known.insert(name, value)?;
         Ok(())
@@ -63,7 +63,7 @@ pub struct Firing {
 #[cycle(eval)]
 fn eval(e: &Expr, items: &[i64], values: &Values, popped: &mut usize) -> Result<i64, NoMemory>
     requires { AreValues (expression e.now) }
-    ensures value { IfOk result (λ value. value ≡ eval (expression e.now) items.now (values_of values.now) popped.old) }
+    ensures value { IfOk result (λ value. value ≡ eval (expression e.now) items.now (named_values values.now) popped.old) }
     ensures popped { OnOk result (popped.new ≡ popped.old + pops (expression e.now)) }
 {
     match e {
@@ -103,7 +103,7 @@ fn both(
 ) -> Result<i64, NoMemory>
     requires left { AreValues (expression left.now) }
     requires right { AreValues (expression right.now) }
-    ensures value { IfOk result (λ value. value ≡ eval (Bin op (expression left.now) (expression right.now)) items.now (values_of values.now) popped.old) }
+    ensures value { IfOk result (λ value. value ≡ eval (Bin op (expression left.now) (expression right.now)) items.now (named_values values.now) popped.old) }
     ensures popped { OnOk result (popped.new ≡ popped.old + pops (Bin op (expression left.now) (expression right.now))) }
 {
     let left = eval(left, items, values, popped)?;
@@ -162,7 +162,7 @@ fn end_of(high: i64, until: Until) -> usize
 impl Firing {
     /// Nothing has a value, and nothing was popped or pushed.
     pub fn new(alloc: Global) -> Firing
-        ensures values { values_of result.values ≡ nought }
+        ensures values { named_values result.values ≡ nought }
         ensures popped { result.popped ≡ 0 }
         ensures pushed { result.pushed ≡ [] }
     {
@@ -175,7 +175,7 @@ impl Firing {
 
     /// At its beginning only the fields have values.
     pub fn begin(&mut self, fields: &[Name], kept: &[i64]) -> Result<(), NoMemory>
-        requires values { values_of self.old.values ≡ nought }
+        requires values { named_values self.old.values ≡ nought }
         requires popped { self.old.popped ≡ 0 }
         requires pushed { self.old.pushed ≡ [] }
         requires kept { length kept.now ≡ length fields.now }
@@ -357,7 +357,7 @@ impl Firing {
     // The value of an expression; its pops are counted.
     fn value(&mut self, e: &Expr, items: &[i64]) -> Result<i64, NoMemory>
         requires { AreValues (expression e.now) }
-        ensures value { IfOk result (λ z. z ≡ eval (expression e.now) items.now (values_of self.old.values) self.old.popped) }
+        ensures value { IfOk result (λ z. z ≡ eval (expression e.now) items.now (named_values self.old.values) self.old.popped) }
         ensures popped { OnOk result (self.new.popped ≡ self.old.popped + pops (expression e.now)) }
         ensures values { self.new.values ≡ self.old.values }
         ensures pushed { self.new.pushed ≡ self.old.pushed }
@@ -368,7 +368,7 @@ impl Firing {
     // The value of a bound; its pops are not counted.
     fn bound(&self, e: &Expr, items: &[i64]) -> Result<i64, NoMemory>
         requires { AreValues (expression e.now) }
-        ensures { IfOk result (λ z. z ≡ eval (expression e.now) items.now (values_of self.now.values) self.now.popped) }
+        ensures { IfOk result (λ z. z ≡ eval (expression e.now) items.now (named_values self.now.values) self.now.popped) }
     {
         let mut popped = self.popped;
         eval(e, items, &self.values, &mut popped)
@@ -378,7 +378,7 @@ impl Firing {
 // The fields have these values from here on.
 fn set_all(values: &mut Values, fields: &[Name], kept: &[i64]) -> Result<(), NoMemory>
     requires { length kept.now ≡ length fields.now }
-    ensures { OnOk result (values_of values.new ≡ with_fields fields.now kept.now (values_of values.old)) }
+    ensures { OnOk result (named_values values.new ≡ with_fields fields.now kept.now (named_values values.old)) }
 {
     for i in 0..fields.len() {
         values.set(fields[i], kept[i])?;

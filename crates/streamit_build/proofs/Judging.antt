@@ -19,7 +19,7 @@ use Rattle.streamit_unroll.proofs.SoFar.{tells_more}
 use Rattle.streamit_build.specs.declared.streams.Children.{Children}
 use Rattle.streamit_build.specs.declared.streams.Known.{Known}
 use Rattle.streamit_build.specs.declared.builder.Declared.{Declared}
-use Rattle.streamit_build.specs.Units.{UnitForm, AFilter as UFilter, APipe, ASplit, unit_form, unit_forms, IsLower, IsShort, IsTree}
+use Rattle.streamit_build.specs.Units.{UnitForm, AFilter as UFilter, APipe, ASplit, unit_form, unit_forms, IsLower, HasShortFilters, IsTree}
 use Rattle.streamit_build.specs.Knowing.{Knows, AreChildren}
 use Rattle.streamit_build.proofs.Added.{fine}
 use Rattle.streamit_build.proofs.Knowing.{get_last, trees_kept}
@@ -31,7 +31,7 @@ tells_on f r k h = tells_more f r (on_ok r k) (λ g e. ap (λ x. on_ok x k) e) h
 -- what a call ensures of every stream: that it is known besides
 abbrev pub Made : Known → Known → Declared → Name → ℕ → ℕ → Type 0
 Made old new d name ops depth =
-    (known : Streamed) (s : Stream) → Knows old known → IsLower (length old.declared.items) (Some (unit_form d)) → IsShort (Some (unit_form d))
+    (known : Streamed) (s : Stream) → Knows old known → IsLower (length old.declared.items) (Some (unit_form d)) → HasShortFilters (Some (unit_form d))
     → IsTree (unit_forms old.declared.items ++ unit_form d ∷ []) (length old.declared.items) s → ops ≡ min (ops_in s) 257 → depth ≡ nesting s
     → Knows new ((name, s) ∷ known)
 
@@ -48,7 +48,7 @@ filter_declared old new d name t f known e short made k h =
       ap (λ r. on_ok r (λ g. fine (Filter name g))) h,
       made known (Filter name f) k
           (subst (λ u. IsLower (length old.declared.items) (Some u)) (sym e) tt)
-          (subst (λ u. IsShort (Some u)) (sym e) short)
+          (subst (λ u. HasShortFilters (Some u)) (sym e) short)
           (at_last old (unit_form d) (λ i. IsTree (us ++ unit_form d ∷ []) i (Filter name f)) (get_last us (unit_form d) ∙ ap Some e))
           refl refl,
     )
@@ -72,7 +72,7 @@ pipe_declared old new d name a c depth ss known e dp made k h are =
       ap (λ r. on_ok r (λ x. fine (Pipeline x))) h,
       made known (Pipeline ss) k
           (subst (λ u. IsLower (length old.declared.items) (Some u)) (sym e) (lower_here old c.front.items are.front, omega (arith, low, len)))
-          (subst (λ u. IsShort (Some u)) (sym e) tt)
+          (subst (λ u. HasShortFilters (Some u)) (sym e) tt)
           (at_last old v (λ i. IsTree (us ++ v ∷ []) i (Pipeline ss)) (c.front.items, c.last, get_last us v ∙ ap Some e, trees_kept us (v ∷ []) c.front.items c.last ss are.trees))
           are.ops
           (omega (arith, dp, deep)),
@@ -98,7 +98,7 @@ split_declared old new d name g a ws vs sp c ops depth ss known e op dp made k h
       ap (λ r. on_ok r f1) hs ∙ ap (λ r. on_ok r (f2 sp)) h ∙ ap (λ r. on_ok r (λ vs. fine (SplitJoin sp ss vs))) hr,
       made known (SplitJoin sp ss vs) k
           (subst (λ u. IsLower (length old.declared.items) (Some u)) (sym e) (lower_here old c.front.items are.front, omega (arith, low, len)))
-          (subst (λ u. IsShort (Some u)) (sym e) tt)
+          (subst (λ u. HasShortFilters (Some u)) (sym e) tt)
           (at_last old v (λ i. IsTree (us ++ v ∷ []) i (SplitJoin sp ss vs)) (c.front.items, c.last, get_last us v ∙ ap Some e, trees_kept us (v ∷ []) c.front.items c.last ss are.trees))
           (omega (arith, op, many))
           (omega (arith, dp, deep)),

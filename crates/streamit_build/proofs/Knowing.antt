@@ -14,7 +14,7 @@ use Rattle.streamit_build.specs.declared.builder.Declared.{Declared}
 use Rattle.river_base.specs.declared.memory.NoMemory.{NoMemory}
 use Rattle.indexmap.specs.IndexMap.{get}
 use Rattle.std.proofs.lemmas.List.{map-append, length-map}
-use Rattle.streamit_build.specs.Units.{unit_form, unit_forms, UnitForm, AFilter, APipe, ASplit, IsLower, AreLower, IsShort, AreShort, IsTree, AreTrees}
+use Rattle.streamit_build.specs.Units.{unit_form, unit_forms, UnitForm, AFilter, APipe, ASplit, IsLower, AreLower, HasShortFilters, HaveShortFilters, IsTree, AreTrees}
 use Rattle.streamit_build.specs.Knowing.{IsEntry, IsFound, Knows}
 
 -- what was there is there in a longer list
@@ -59,8 +59,8 @@ lower_more us u all new i = ⊎_elim
     (get_more us u i)
 
 -- names are short with one unit more
-pub short_more : (us : List UnitForm) (u : UnitForm) → AreShort us → IsShort (Some u) → AreShort (us ++ u ∷ [])
-short_more us u all new i = ⊎_elim (λ e. subst IsShort (sym e) (all i)) (λ e. subst IsShort (sym e.1) new) (get_more us u i)
+pub short_more : (us : List UnitForm) (u : UnitForm) → HaveShortFilters us → HasShortFilters (Some u) → HaveShortFilters (us ++ u ∷ [])
+short_more us u all new i = ⊎_elim (λ e. subst HasShortFilters (sym e) (all i)) (λ e. subst HasShortFilters (sym e.1) new) (get_more us u i)
 
 entry_kept : (us vs : List UnitForm) (k : Entry) (s : Stream) → IsEntry us k s → IsEntry (us ++ vs) k s
 entry_kept us vs k s e = record {
@@ -96,7 +96,7 @@ new_entry us u k s e t o n = record {
 -- one stream more is known
 pub declares : (r : Result (Unit {0}) NoMemory) (old new : Known) (d : Declared) (k : Entry) (name : Name) (s : Stream) (known : Streamed)
     → OnOk r ((q : Name) → get name_eq new.entries q ≡ (if name_eq name q then Some k else get name_eq old.entries q))
-    → new.declared.items ≡ old.declared.items ++ d ∷ [] → IsLower (length old.declared.items) (Some (unit_form d)) → IsShort (Some (unit_form d))
+    → new.declared.items ≡ old.declared.items ++ d ∷ [] → IsLower (length old.declared.items) (Some (unit_form d)) → HasShortFilters (Some (unit_form d))
     → k.number ≡ length old.declared.items
     → Knows old known → IsTree (unit_forms old.declared.items ++ unit_form d ∷ []) (length old.declared.items) s → k.ops ≡ min (ops_in s) 257
     → k.nesting ≡ nesting s → OnOk r (Knows new ((name, s) ∷ known))
@@ -112,5 +112,5 @@ declares (Ok u) old new d k name s known g it lo sh nu kn t o n =
           (subst (λ x. IsFound (us ++ v ∷ []) x (look ((name, s) ∷ known) q)) (sym (g q))
           (found_more (us ++ v ∷ []) (name_eq name q) k s (get name_eq old.entries q) (look known q) e (found_kept us (v ∷ []) (get name_eq old.entries q) (look known q) (kn.entries q))));
       lower = subst AreLower (sym all) (lower_more us v kn.lower (subst (λ i. IsLower i (Some v)) (sym len) lo));
-      short = subst AreShort (sym all) (short_more us v kn.short sh);
+      short = subst HaveShortFilters (sym all) (short_more us v kn.short sh);
     }

@@ -10,7 +10,7 @@ use Rattle.river_plan.specs.Forms.{Name, OpForm, op_forms}
 use Rattle.streamit_model.specs.Unrolled.{Splitter, Stream, Streams, Last, Then, Filter, Pipeline, SplitJoin}
 use Rattle.streamit_model.specs.Build.{numbered, with_own, queue, build, build_line, ops_in, ops_of, queues_in, queues_between}
 use Rattle.streamit_build.specs.declared.builder.Made.{Made}
-use Rattle.streamit_build.specs.Units.{UnitForm, AFilter, APipe, ASplit, unit_form, unit_forms, AreBelow, AreLower, IsLower, AreShort, IsShort, IsTree}
+use Rattle.streamit_build.specs.Units.{UnitForm, AFilter, APipe, ASplit, unit_form, unit_forms, AreBelow, AreLower, IsLower, HaveShortFilters, HasShortFilters, IsTree}
 use Rattle.streamit_build.specs.Units.{AreTrees}
 use Rattle.streamit_build.specs.Units.{Built}
 
@@ -193,5 +193,5 @@ filter_returns us i name f old new op from to (Ok x) u e o n q (Pipeline ss) t =
 filter_returns us i name f old new op from to (Ok x) u e o n q (SplitJoin d ss ws) t = absurd (filter_split name f d t.0 t.1 ws (sym u ∙ t.2))
 
 -- the name of a filter has at most 40 bytes
-pub short_of : (us : List UnitForm) (i : ℕ) (name : Name) (f : FilterForm) → AreShort us → slice_get us i ≡ Some (AFilter name f) → length name ≤ 40
-short_of us i name f a e = subst IsShort e (a i)
+pub short_of : (us : List UnitForm) (i : ℕ) (name : Name) (f : FilterForm) → HaveShortFilters us → slice_get us i ≡ Some (AFilter name f) → length name ≤ 40
+short_of us i name f a e = subst HasShortFilters e (a i)

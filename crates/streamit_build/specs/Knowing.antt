@@ -15,7 +15,7 @@ use Rattle.streamit_build.specs.declared.builder.Declared.{Declared}
 use Rattle.streamit_build.specs.declared.streams.Entry.{Entry}
 use Rattle.streamit_build.specs.declared.streams.Children.{Children}
 use Rattle.streamit_build.specs.declared.streams.Known as code
-use Rattle.streamit_build.specs.Units.{UnitForm, unit_form, unit_forms, IsLower, AreLower, IsShort, AreShort, IsTree, AreTrees}
+use Rattle.streamit_build.specs.Units.{UnitForm, unit_form, unit_forms, IsLower, AreLower, HasShortFilters, HaveShortFilters, IsTree, AreTrees}
 
 -- an entry says where the stream stands, how many operators it has up to 257, and how deep it is nested
 pub record IsEntry (us : List UnitForm) (k : Entry) (s : Stream) : Type 0 where
@@ -34,12 +34,12 @@ IsFound us (Some k) (Some s) = IsEntry us k s
 pub record Knows (ss : code.Known) (known : Streamed) : Type 0 where
   pub entries : (n : Name) → IsFound (unit_forms ss.declared.items) (get name_eq ss.entries n) (look known n)
   pub lower : AreLower (unit_forms ss.declared.items)
-  pub short : AreShort (unit_forms ss.declared.items)
+  pub short : HaveShortFilters (unit_forms ss.declared.items)
 
 -- this holds where the next stream is lower, with short names, and stands for the tree, with so many operators, so deep
 abbrev pub IfNext : List Declared → Declared → Stream → (ops depth : ℕ) → Type 0 → Type 0
 IfNext us u s ops depth P =
-    IsLower (length us) (Some (unit_form u)) → IsShort (Some (unit_form u)) → IsTree (unit_forms us ++ unit_form u ∷ []) (length us) s
+    IsLower (length us) (Some (unit_form u)) → HasShortFilters (Some (unit_form u)) → IsTree (unit_forms us ++ unit_form u ∷ []) (length us) s
     → ops ≡ min (ops_in s) 257
     → depth ≡ nesting s
     → P

@@ -43,14 +43,14 @@ abbrev pub AreLower : List UnitForm → Type 0
 AreLower us = (i : ℕ) → IsLower i (slice_get us i)
 
 -- the names of filters have at most 40 bytes
-abbrev pub IsShort : Option UnitForm → Type 0
-IsShort None = Unit {0}
-IsShort (Some (AFilter name f)) = length name ≤ 40
-IsShort (Some (APipe front last)) = Unit {0}
-IsShort (Some (ASplit d front last ws)) = Unit {0}
+abbrev pub HasShortFilters : Option UnitForm → Type 0
+HasShortFilters None = Unit {0}
+HasShortFilters (Some (AFilter name f)) = length name ≤ 40
+HasShortFilters (Some (APipe front last)) = Unit {0}
+HasShortFilters (Some (ASplit d front last ws)) = Unit {0}
 
-abbrev pub AreShort : List UnitForm → Type 0
-AreShort us = (i : ℕ) → IsShort (slice_get us i)
+abbrev pub HaveShortFilters : List UnitForm → Type 0
+HaveShortFilters us = (i : ℕ) → HasShortFilters (slice_get us i)
 
 -- unit i is this stream
 abbrev mutual

@@ -5,7 +5,7 @@ ghost use Rattle.river_kernels.specs.Kern.{filter};
 ghost use Rattle.river_plan.specs.Forms.{op_form, op_forms};
 ghost use Rattle.streamit_model.specs.Unrolled.{Stream, Streams};
 ghost use Rattle.streamit_model.specs.Build.{numbered, queue, queues, with_own, splitter, joiner, build, ops_in, queues_in};
-ghost use Rattle.streamit_build.specs.Units.{splitter_form, unit_forms, AreBelow, AreLower, AreShort, IsTree, AreTrees, AddsSplitter, Built, BuiltLine, BuiltBranches};
+ghost use Rattle.streamit_build.specs.Units.{splitter_form, unit_forms, AreBelow, AreLower, HaveShortFilters, IsTree, AreTrees, AddsSplitter, Built, BuiltLine, BuiltBranches};
 
 use crate::names::{queue, sum};
 use crate::operators::{filter_op, join_op, split_op};
@@ -181,7 +181,7 @@ pub fn build(
 ) -> Result<(), NoMemory>
     requires there { i < length units.now }
     requires lower { AreLower (unit_forms units.now) }
-    requires named { AreShort (unit_forms units.now) }
+    requires named { HaveShortFilters (unit_forms units.now) }
     ensures { (s : Stream) → IsTree (unit_forms units.now) i s → OnOk result (Built made.old made.new (build s made.old.next_op made.old.next_queue from to) (ops_in s) (queues_in s)) }
 {
     match &units[i] {
@@ -218,7 +218,7 @@ fn line(
     requires there { i < length units.now }
     requires below { AreBelow i parts.front.now parts.last }
     requires lower { AreLower (unit_forms units.now) }
-    requires named { AreShort (unit_forms units.now) }
+    requires named { HaveShortFilters (unit_forms units.now) }
     ensures { (ss : Streams) → AreTrees (unit_forms units.now) parts.entry.front.now parts.entry.last ss → OnOk result (BuiltLine ss from to made.old made.new) }
 {
     let mut start = from;
@@ -243,7 +243,7 @@ fn branches(
     requires there { i < length units.now }
     requires below { AreBelow i parts.front.now parts.last }
     requires lower { AreLower (unit_forms units.now) }
-    requires named { AreShort (unit_forms units.now) }
+    requires named { HaveShortFilters (unit_forms units.now) }
     ensures { (ss : Streams) → AreTrees (unit_forms units.now) parts.entry.front.now parts.entry.last ss → OnOk result (BuiltBranches ss lanes.first lanes.second made.old made.new) }
 {
     let mut a = lanes.first;
@@ -268,7 +268,7 @@ fn lane(
 ) -> Result<(), NoMemory>
     requires there { i < length units.now }
     requires lower { AreLower (unit_forms units.now) }
-    requires named { AreShort (unit_forms units.now) }
+    requires named { HaveShortFilters (unit_forms units.now) }
     ensures { (s : Stream) → IsTree (unit_forms units.now) i s → OnOk result (Built made.old made.new (build s made.old.next_op made.old.next_queue (queue a) (queue b)) (ops_in s) (queues_in s)) }
 {
     let start = queue(alloc, a)?;

@@ -4,7 +4,7 @@ ghost use Rattle.river_plan.specs.Forms.{plan_form, op_forms, empty_form};
 ghost use Rattle.river_plan.specs.Uses.{all_vars};
 ghost use Rattle.streamit_model.specs.Unrolled.{Stream};
 ghost use Rattle.streamit_model.specs.Build.{values_in as queue_of, is_own_queue, own_queues, ops_from, plan_of};
-ghost use Rattle.streamit_build.specs.Units.{unit_forms, AreLower, AreShort, IsTree};
+ghost use Rattle.streamit_build.specs.Units.{unit_forms, AreLower, HaveShortFilters, IsTree};
 ghost use Rattle.streamit_model.specs.Judged.{Streamed, judged};
 ghost use Rattle.streamit_build.specs.Knowing.{IsEntry, Knows};
 ghost use Rattle.streamit_build.specs.Plans.{lists_of};
@@ -61,7 +61,7 @@ impl Known {
     fn plan_at(&self, alloc: Global, unit: u32, top: Entry) -> Result<RawPlan, Refusal>
         requires there { top.number < length self.now.declared.items }
         requires lower { AreLower (unit_forms self.now.declared.items) }
-        requires short { AreShort (unit_forms self.now.declared.items) }
+        requires short { HaveShortFilters (unit_forms self.now.declared.items) }
         ensures { (s : Stream) → IsEntry (unit_forms self.now.declared.items) top s → PlansLast result unit s }
     {
         if top.ops > 256 {
@@ -83,7 +83,7 @@ impl Known {
     fn plan(&self, alloc: Global, top: usize) -> Result<RawPlan, NoMemory>
         requires there { top < length self.now.declared.items }
         requires lower { AreLower (unit_forms self.now.declared.items) }
-        requires short { AreShort (unit_forms self.now.declared.items) }
+        requires short { HaveShortFilters (unit_forms self.now.declared.items) }
         ensures { (s : Stream) → IsTree (unit_forms self.now.declared.items) top s → IfOk result (λ raw. plan_form raw ≡ plan_of s) }
     {
         let ops = self.operators(alloc, top)?;
@@ -95,7 +95,7 @@ impl Known {
     fn operators(&self, alloc: Global, top: usize) -> Result<Ops, NoMemory>
         requires there { top < length self.now.declared.items }
         requires lower { AreLower (unit_forms self.now.declared.items) }
-        requires short { AreShort (unit_forms self.now.declared.items) }
+        requires short { HaveShortFilters (unit_forms self.now.declared.items) }
         ensures { (s : Stream) → IsTree (unit_forms self.now.declared.items) top s → IfOk result (λ ops. op_forms ops ≡ ops_from s) }
     {
         let mut made = Made {

@@ -5,7 +5,7 @@ ghost use Rattle.work_code.specs.Term.{term};
 ghost use Rattle.streamit_model.specs.Meaning.{pops};
 ghost use Rattle.streamit_model.specs.Elaborate.{find, constant, constant_of, named_term, term_of, peeked};
 ghost use Rattle.streamit_unroll.specs.View.{scope_of, Judges};
-ghost use Rattle.streamit_unroll.specs.Numbers.{AreValues, itself};
+ghost use Rattle.streamit_unroll.specs.Numbers.{AreValues, value_itself};
 
 use crate::{Fault, Known, Names};
 use river_base::Name;
@@ -17,7 +17,7 @@ use work_code::{BinOp, Expr, apply, negate, truth_of};
 #[cycle(constant)]
 pub fn constant(names: &Names, e: &Written) -> Result<i64, Fault>
     requires { AreValues (expression e.now) }
-    ensures { Judges itself result (constant (scope_of names.now.items.items) (expression e.now)) }
+    ensures { Judges value_itself result (constant (scope_of names.now.items.items) (expression e.now)) }
 {
     match e {
         Written::Number(value) => Ok(*value as i64),
@@ -37,7 +37,7 @@ pub fn constant(names: &Names, e: &Written) -> Result<i64, Fault>
 
 // The value of a name, which is the variable of a loop.
 fn known_constant(names: &Names, name: Name) -> Result<i64, Fault>
-    ensures { Judges itself result (constant_of (find (scope_of names.now.items.items) name)) }
+    ensures { Judges value_itself result (constant_of (find (scope_of names.now.items.items) name)) }
 {
     match names.find(name) {
         None => Err(Fault::UnknownName),
@@ -51,7 +51,7 @@ fn known_constant(names: &Names, name: Name) -> Result<i64, Fault>
 fn constants(names: &Names, op: BinOp, left: &Written, right: &Written) -> Result<i64, Fault>
     requires left { AreValues (expression left.now) }
     requires right { AreValues (expression right.now) }
-    ensures { Judges itself result (constant (scope_of names.now.items.items) (Bin op (expression left.now) (expression right.now))) }
+    ensures { Judges value_itself result (constant (scope_of names.now.items.items) (Bin op (expression left.now) (expression right.now))) }
 {
     let left = constant(names, left)?;
     let right = constant(names, right)?;

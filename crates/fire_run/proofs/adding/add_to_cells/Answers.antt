@@ -7,7 +7,7 @@ use Rattle.brooklet_step.proofs.Moving.{emptied, emptied_next, emptied_all}
 use Rattle.class_locks.specs.Logs.{TakesRows}
 use Rattle.fire_tasks.specs.Turns.{logged}
 use Rattle.fire_run.specs.Cells.{cells_grown}
-use Rattle.fire_run.specs.Rows.{with_rows}
+use Rattle.fire_run.specs.Rows.{cells_with_rows}
 use Rattle.fire_run.proofs.RowLemmas.{class_below, added_first, added_step, cell_now}
 use Rattle.fire_run.proofs.adding.add_to_cells.Goals as goal
 
@@ -55,8 +55,8 @@ loop-port-preserved c =
       emptied = emptied_next j c.args.adds.now c.loop-port.adds _ c.loop-port.invariant.emptied (omega (arith, many, lt, end)) (ap (λ r. slice_set c.loop-port.adds j r) c.in_ok-add_at.ensures.blank);
       added = added_step c.args.op c.args.classes.now c.args.tables.now rows j c.args.cells.now c.loop-port.cells c.add_at.new.cells h g
           (class_below c.args.classes.now c.args.tables.now rows c.args.cells.now j h c.requires.can g) c.loop-port.invariant.added
-          (c.in_ok-add_at.ensures.ok ∙ ap (λ k. with_rows c.args.op h.table k c.at_mut.result.now c.loop-port.cells) (c.at-class.ensures 0)
-          ∙ ap (λ r. with_rows c.args.op h.table (slice_index_or c.args.classes.now h.place 0) r c.loop-port.cells) same);
+          (c.in_ok-add_at.ensures.ok ∙ ap (λ k. cells_with_rows c.args.op h.table k c.at_mut.result.now c.loop-port.cells) (c.at-class.ensures 0)
+          ∙ ap (λ r. cells_with_rows c.args.op h.table (slice_index_or c.args.classes.now h.place 0) r c.loop-port.cells) same);
     }
 
 pub returns-clause-logged : goal.returns-clause-logged

@@ -4,7 +4,7 @@ use Rattle.std.proofs.lemmas.Option.{slice_get-get_or}
 use Rattle.river_base.specs.Places.{list_at}
 use Rattle.brooklet_step.proofs.Moving.{emptied, emptied_next, emptied_all}
 use Rattle.class_locks.specs.Logs.{TakesRows}
-use Rattle.fire_tasks.specs.Turns.{HaveGained, with_entry}
+use Rattle.fire_tasks.specs.Turns.{HaveGained, cell_with_rows}
 use Rattle.fire_tasks.proofs.AddLemmas.{added_none, added_next, added_gained, added_whole, cell_now}
 use Rattle.fire_tasks.proofs.adding.add_rows.Goals as goal
 
@@ -42,7 +42,7 @@ loop-port-preserved c =
     record {
       emptied = emptied_next j c.args.adds.now c.loop-port.adds _ c.loop-port.invariant.emptied (omega (arith, many, lt, end)) (ap (λ r. slice_set c.loop-port.adds j r) c.in_ok-add_at.ensures.blank);
       added = added_next c.args.op c.args.tables.now rows j c.args.pile.now.items c.loop-port.pile.items c.add_at.new.pile.items h x.0 c.requires.ascend c.loop-port.invariant.added g x.1
-          (c.in_ok-add_at.ensures.ok x.0 x.1 ∙ ap (λ r. slice_set c.loop-port.pile.items h.place (with_entry c.args.op h.table r x.0)) same);
+          (c.in_ok-add_at.ensures.ok x.0 x.1 ∙ ap (λ r. slice_set c.loop-port.pile.items h.place (cell_with_rows c.args.op h.table r x.0)) same);
     }
 
 pub returns-clause-gained : goal.returns-clause-gained

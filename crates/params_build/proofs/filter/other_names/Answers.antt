@@ -1,6 +1,6 @@
 use Rattle.std.proofs.Common.{◌≡◌, not, drop, sym, ap, ◌∙◌, arith, rules, true, drop-cons, suc, ◌∷◌}
 use Rattle.params_text.specs.Params.{is_one_of}
-use Rattle.params_model.specs.Judged.{and_then, other_names}
+use Rattle.params_model.specs.Judged.{judged_then, other_names}
 use Rattle.params_model.specs.Making.{NameTwice, demand}
 use Rattle.params_build.proofs.filter.other_names.Goals as goal
 
@@ -12,4 +12,4 @@ returns-then-is_one_of c =
     let n = c.each-item.result in
     let yes : is_one_of ps n ≡ true = search rules in
     λ k. sym (c.names.invariant k) ∙ ap (other_names k ps) (drop-cons ns i n (omega arith) ∙ ap (λ x. x ∷ drop (suc i) ns) (sym c.each-item.is))
-    ∙ ap (λ b. and_then (demand (not b) k NameTwice) (other_names k ps (drop (suc i) ns))) yes
+    ∙ ap (λ b. judged_then (demand (not b) k NameTwice) (other_names k ps (drop (suc i) ns))) yes

@@ -1,6 +1,6 @@
 use Rattle.std.proofs.Common.{sym, ap, ◌∙◌, subst}
 use Rattle.river_plan.specs.Caps.{AreCaps}
-use Rattle.river_cli.specs.Points.{shown as shown_text}
+use Rattle.river_cli.specs.Points.{plan_as_shown as shown_text}
 use Rattle.std.proofs.lemmas.Result.{err_from_is_err_and}
 use Rattle.river_outside.proofs.Counts.{rose_before}
 use Rattle.river_outside.specs.Causes.{Rose}

@@ -3,7 +3,7 @@ use Rattle.std.specs.Prelude.{not, ◌&&◌}
 use Rattle.std.proofs.lemmas.Int.{to_z-of_z}
 use mir.Val.{SFits}
 use Rattle.std.specs.Ordering.{int_eq}
-use Rattle.cql_model.specs.Streams.{in_reach, latest_rows}
+use Rattle.cql_model.specs.Streams.{in_reach, newest_rows}
 use Rattle.cql_text.specs.declared.tree.Window.{Window}
 use Rattle.cql_text.specs.declared.tree.Window.TheVariants.{Range}
 use Rattle.cql_text.specs.Tree.{window_of}
@@ -57,5 +57,5 @@ returns-in-Rows c =
     let ps = c.up_to-in-Rows.result.now in
     ap (map (λ (e : Entry). e.1)) c.last.ensures
     ∙ last_of c.in-Rows.count ps
-    ∙ ap (λ (l : List Entry). latest_rows c.in-Rows.count (map (λ (e : Entry). e.1) l)) (below es ps (to_z w64 (of_z w64 at)) at e c.up_to-in-Rows.ensures.rows)
+    ∙ ap (λ (l : List Entry). newest_rows c.in-Rows.count (map (λ (e : Entry). e.1) l)) (below es ps (to_z w64 (of_z w64 at)) at e c.up_to-in-Rows.ensures.rows)
     ∙ ap (λ (w : Window). reached (window_of w) at es) (sym c.in-Rows.is)

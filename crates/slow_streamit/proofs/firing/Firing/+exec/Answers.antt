@@ -2,7 +2,7 @@ use Rattle.std.proofs.Common.{◌<◌, ap, ◌∙◌, rules}
 use Rattle.brooklet_model.specs.Machine.{at_name}
 use Rattle.streamit_model.specs.Meaning.{Values, exec_all}
 use Rattle.streamit_text.specs.Tree.{block}
-use Rattle.slow_streamit.specs.Firing.{values_of, state_of}
+use Rattle.slow_streamit.specs.Firing.{named_values, state_of}
 use Rattle.slow_streamit.proofs.Blocks.{turn_value, turns_next}
 use Rattle.slow_streamit.proofs.firing.Firing.+exec.Goals as goal
 
@@ -15,5 +15,5 @@ turns-loop-v-preserved t c =
     turns_next body c.args.name c.args.low v c.args.end (state_of c.args.self.now) (state_of now) (state_of c.block.new.self) lt c.loop-v.invariant
     (c.in_ok-block.ensures {u = tt}
     ∙ ap (λ (f : Values). body (record { values = f; popped = now.popped; pushed = now.pushed })) (c.in_ok-set.ensures {u = tt})
-    ∙ ap (λ z. body (record { values = at_name c.args.name z (values_of now.values); popped = now.popped; pushed = now.pushed }))
+    ∙ ap (λ z. body (record { values = at_name c.args.name z (named_values now.values); popped = now.popped; pushed = now.pushed }))
     (turn_value v c.args.end lt c.requires.end))
