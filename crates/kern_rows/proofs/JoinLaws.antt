@@ -379,10 +379,6 @@ no_item before (x ∷ xs) e = absurd (cc e)
 
 -- ALL ITEMS
 
--- what waits and what is owed
-abbrev pub join_kept : Turns → List Debt → JoinKept
-join_kept turns owed = record { turns = turns; owed = owed }
-
 -- some items have passed: they were given, with changes in place of contents, and what is kept stands for the others
 pub record JoinedIn (give : item.Item → List item.Item) (ws : List ℕ) (m : Joining) (s : JoinKept) (out out' : List item.Item) : Type 0 where
   pub next : Joining
@@ -533,6 +529,7 @@ module _ (ws : List ℕ) (s s' : JoinKept) (x : item.Item) (t : Passes (slice_in
         out' out'' g.gave
         (ap (held_from m.last) all ∙ held_from-append m.last g.items (items_of h.y ++ more)
         ∙ ap (λ l. held_from m.last g.items ++ l) (ap (λ c. held_from c (items_of h.y ++ more)) g.last ∙ held_from-append n.last (items_of h.y) more)) p
+
     plain : (give : item.Item → List item.Item) → PlainIn give ws start s out out' → GrewByPrefix out (settled give ws start.turns).0 out''
     plain give g =
         let o : PassesOpened give x = of_front (PassesOpened give) g.left in
@@ -656,11 +653,6 @@ plain_end ws start s s' out out' f gone same = record {
       let e = so_far_end give ws start.turns s.turns s'.turns out out' g.passed gone in
       record { gave = e.0; turns = e.1; owed = same ∙ g.owed };
 }
-
--- and what was given fits
-pub keeps_end : (ws : List ℕ) (start s s' : JoinKept) (out out' : List item.Item) → JoinedSoFar ws start s out out' → IsStuck s.turns s'.turns → s'.owed ≡ s.owed
-    → KeepsJoin ws start s' out out'
-keeps_end ws start s s' out out' f gone same = subst (λ k. KeepsJoin ws start k out out') (same_kept s s' gone.same same) f.keeps
 
 -- a joiner that an item comes to keeps its shape
 pub put_shape : (ws : List ℕ) (p : ℕ) (x : item.Item) (s : JoinKept) → HasJoinShape ws s → HasJoinShape ws (put_item p x s)

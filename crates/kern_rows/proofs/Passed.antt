@@ -5,7 +5,7 @@ use Rattle.std.specs.Prelude.{if◌then◌else◌, slice_index_or}
 use Rattle.std.specs.List.{AllByRecursion}
 use Rattle.std.proofs.Math.Nat.{le_refl}
 use Rattle.std.proofs.lemmas.Bool.{cases_lt}
-use Rattle.std.proofs.lemmas.List.{append-nil, length-replicate}
+use Rattle.std.proofs.lemmas.List.{append-nil}
 use Rattle.river_base.specs.declared.item.Item as item
 use Rattle.river_base.specs.Drain.{drain, pass_on}
 use Rattle.river_base.specs.Grew.{GrewByPrefix}
@@ -13,7 +13,6 @@ use Rattle.river_base.proofs.PlaceLemmas.{if_lt, if_ge, length-append_at}
 use Rattle.kern_rows.specs.Needs.{HaveShares, IsJoiner}
 use Rattle.kern_rows.specs.Passing.{Passes, IsStuck, SoFar, passed_by}
 use Rattle.kern_rows.specs.Turns.{Turns, IsTurn, next_port, next_had, front_in, front_at, rest_in, rest_at, front_of, passed, waiting, put, settled, ones}
-use Rattle.kern_rows.specs.Turns.{turns_start}
 
 -- WHAT IS IN FRONT
 
@@ -199,10 +198,3 @@ are_ones (suc n) = (omega arith, are_ones n)
 pub ones_shares : (n : ℕ) → 0 < n → HaveShares (ones n)
 ones_shares zero h = absurd (omega (arith, h))
 ones_shares (suc n) h = (omega arith, are_ones (suc n))
-
--- at the start the first port is in turn
-pub first_turn : (ws : List ℕ) → HaveShares ws → IsTurn ws 0 0
-first_turn ws all = (all.0, share_at ws 0 all.1 all.0)
-
-pub start_joined : (ws : List ℕ) → HaveShares ws → IsJoiner ws (turns_start (length ws))
-start_joined ws all = record { turn = first_turn ws all; lists = length-replicate (length ws) [] }
