@@ -1,9 +1,9 @@
 -- Items pass a joiner, one after another.
-use Rattle.std.proofs.Common.{◌≡◌, ◌≢◌, ◌<◌, ℕ, zero, suc, ℤ, Some, None, List, [], ◌∷◌, ◌++◌, length, refl, sym, ap, ◌∙◌, subst, append_assoc, ⊎_elim}
+use Rattle.std.proofs.Common.{◌≡◌, ◌≢◌, ◌<◌, ℕ, zero, suc, ℤ, Some, None, List, [], ◌∷◌, ◌++◌, length, take, refl, sym, ap, ◌∙◌, subst, append_assoc, ⊎_elim}
 use Rattle.std.specs.Prelude.{All, slice_index_or}
 use Rattle.std.proofs.lemmas.Bool.{cases_eq}
 use Rattle.std.proofs.lemmas.List.{append-nil}
-use Rattle.std.proofs.lemmas.List.Elements.{All-head, All-tail, All-cons, All-nil, All-append}
+use Rattle.std.proofs.lemmas.List.Elements.{All-head, All-tail, All-cons, All-nil, All-append, All-take}
 use Rattle.river_base.specs.declared.item.Batch.{Batch}
 use Rattle.river_base.specs.declared.item.Change.{Change}
 use Rattle.river_base.specs.declared.item.Flat as flat
@@ -14,17 +14,20 @@ use Rattle.river_base.specs.declared.kind.FlatType as flat_type
 use Rattle.river_base.specs.declared.kind.FlatType.TheVariants.{Rows, Stream, Relation}
 use Rattle.river_base.specs.declared.kind.QueueType as queue_type
 use Rattle.river_base.specs.declared.kind.QueueType.TheVariants.{Flat as FlatOf, Pack as PackOf}
+use Rattle.river_base.specs.Grew.{GrewByPrefix}
 use Rattle.river_base.specs.Held.{MayHold, IsHeld, after_flat, after_flats, after_item, content_from, held_flat, held_flats, held_item, held_from, as_items, items_of}
 use Rattle.river_base.specs.Places.{list_at}
 use Rattle.river_base.proofs.HeldLemmas.{content-append}
+use Rattle.river_base.proofs.LoopLemmas.{grew_by_map}
 use Rattle.kern_rows.specs.Needs.{HaveShares, IsJoiner}
 use Rattle.kern_rows.specs.Passing.{Passes, IsStuck, SoFar, passed_by, port_after, had_after}
-use Rattle.kern_rows.specs.Turns.{Turns, front_at, rest_at, rest_in, put, waiting, settled, itself}
-use Rattle.kern_rows.proofs.Passed.{front_is, front_none, length-rest_at, joined_put, so_far_start, so_far_step, so_far_less, so_far_end}
+use Rattle.kern_rows.specs.Turns.{Turns, front_at, rest_at, rest_in, waiting, passed, settled, itself}
+use Rattle.kern_rows.proofs.Passed.{front_is, front_none, length-rest_at, joined_put, so_far_start, so_far_step, so_far_next, so_far_less, so_far_end, grew_by_none, grew_on}
 use Rattle.kern_changes.specs.declared.owed.Debt.{Debt}
 use Rattle.kern_changes.specs.Owed.{AreOwed, but_at, JoinsOwed, KeepsOwed}
-use Rattle.kern_changes.specs.Joined.{JoinKept, put_item, HasJoinShape, IsUnchanged, HasNoChange, PassesOpened, AreOpened, Joining, StandsForJoining, JoinedItems, JoinsItems}
-use Rattle.kern_changes.specs.Joined.{JoinsPlainly, flat_in, MayOwe, GaveHeld, KeepsJoin, FlatJoined, FlatsJoined, ItemJoined, JoinsFlat, JoinsFlats, JoinsItem}
+use Rattle.kern_rows.specs.Joined.{JoinKept, put_item, HasJoinShape, IsUnchanged, HasNoChange, PassesOpened, AreOpened, Joining, StandsForJoining, JoinedItems, JoinsItems}
+use Rattle.kern_rows.specs.Joined.{JoinsPlainly, flat_in, MayOwe, GaveHeld, KeepsJoin, JoinsPart, TakesItem, FlatJoined, FlatsJoined, ItemJoined, JoinsFlat, JoinsFlats, JoinsItem}
+use Rattle.kern_rows.specs.Joined.{JoinsFlatsPart, JoinsItemPart}
 use Rattle.kern_changes.proofs.OwedLaws.{but_same, but_other}
 
 -- CONTENTS
@@ -48,6 +51,11 @@ content-as_items before (f ∷ fs) = content-as_items (after_flat before f) fs
 pub content-items_of : (before : List (List ℤ)) (x : item.Item) → content_from before (items_of x) ≡ after_item before x
 content-items_of before (Flat f) = refl
 content-items_of before (Pack fs) = content-as_items before fs
+
+held-take : (n : ℕ) (before : List (List ℤ)) (fs : List flat.Flat) → held_flats before (take n fs) ≡ take n (held_flats before fs)
+held-take zero before fs = refl
+held-take (suc n) before [] = refl
+held-take (suc n) before (f ∷ fs) = ap (λ l. held_flat before f ∷ l) (held-take n (after_flat before f) fs)
 
 after-more : (before : List (List ℤ)) (fs : List flat.Flat) (f : flat.Flat) → after_flats before (fs ++ f ∷ []) ≡ after_flat (after_flats before fs) f
 after-more before [] f = refl
@@ -270,7 +278,38 @@ flats_step place fs f given start s s' out out' out'' j k e = record {
               ∙ ap (λ r. out ++ r) (sym (held-more last l.front l.g));
         })
 
+-- there was no memory for more
+pub flats_part : (place n : ℕ) (done fs : List flat.Flat) (s s' : List Debt) (out out' out'' : List item.Item) → JoinsFlats place done s s' out out' → done ≡ take n fs
+    → out'' ≡ out' → JoinsFlatsPart place fs s out out''
+flats_part place n done fs s s' out out' out'' j e f = record {
+  each = λ last now gs same owed is.
+      let h : done ≡ held_flats (now place) (take n gs) = e ∙ ap (take n) is ∙ sym (held-take n (now place) gs) in
+      let g = j.each last now (take n gs) (All-take IsUnchanged n gs same) owed h in
+      grew_by_map (λ x. Flat x) out out'' (held_flats last gs) n (f ∙ g.gave ∙ ap (λ l. out ++ as_items l) (held-take n last gs));
+  plain = λ h.
+      let g = j.plain (subst (All IsUnchanged) (sym e) (All-take IsUnchanged n fs h)) in
+      grew_by_map (λ x. Flat x) out out'' fs n (f ∙ g.0 ∙ ap (λ l. out ++ as_items l) e);
+}
+
 -- ONE ITEM
+
+-- nothing of an item was given
+pub item_none : (place : ℕ) (x : item.Item) (s : List Debt) (out out' : List item.Item) → out' ≡ out → JoinsItemPart place x s out out'
+item_none place x s out out' e = record {
+  each = λ last now y same owed is. grew_by_none out out' (held_from last (items_of y)) e;
+  plain = λ h. grew_by_none out out' (items_of x) e;
+}
+
+pack_part : (place : ℕ) (fs : List flat.Flat) (s : List Debt) (out out' : List item.Item) → JoinsFlatsPart place fs s out out'
+    → (last : List (List ℤ)) (now : ℕ → List (List ℤ)) (y : item.Item) → HasNoChange y → AreOwed s (λ p. last) now → Pack fs ≡ held_item (now place) y
+    → GrewByPrefix out (held_from last (items_of y)) out'
+pack_part place fs s out out' j last now (Flat g) same owed is = absurd (cc is)
+pack_part place fs s out out' j last now (Pack gs) same owed is =
+    subst (λ l. GrewByPrefix out l out') (sym (held-as_items last gs)) (j.each last now gs same owed (cc is))
+
+-- a part of a pack was
+pub item_part : (place : ℕ) (fs : List flat.Flat) (s : List Debt) (out out' : List item.Item) → JoinsFlatsPart place fs s out out' → JoinsItemPart place (Pack fs) s out out'
+item_part place fs s out out' j = record { each = λ last now y same owed is. pack_part place fs s out out' j last now y same owed is; plain = j.plain }
 
 flat_joined : (place : ℕ) (f given : flat.Flat) (s s' : List Debt) (out out' : List item.Item) → JoinsFlat place f s s' given → out' ≡ out ++ Flat given ∷ []
     → (last : List (List ℤ)) (now : ℕ → List (List ℤ)) (y : item.Item) → HasNoChange y → AreOwed s (λ p. last) now → Flat f ≡ held_item (now place) y
@@ -340,10 +379,6 @@ no_item before (x ∷ xs) e = absurd (cc e)
 
 -- ALL ITEMS
 
--- what waits and what is owed
-abbrev pub join_kept : Turns → List Debt → JoinKept
-join_kept turns owed = record { turns = turns; owed = owed }
-
 -- some items have passed: they were given, with changes in place of contents, and what is kept stands for the others
 pub record JoinedIn (give : item.Item → List item.Item) (ws : List ℕ) (m : Joining) (s : JoinKept) (out out' : List item.Item) : Type 0 where
   pub next : Joining
@@ -390,12 +425,22 @@ joined_start ws s out j = record {
   keeps = record { shape = j; few = λ h. h; wide = λ t h. (held_none (flat_in t) out, h) };
 }
 
--- one that passes does not wait any more
-pub fewer_wait : (ws : List ℕ) (s t : Turns) (x : item.Item) → IsJoiner ws s → Passes (slice_index_or ws s.port 0) s t x → waiting t.lists < waiting s.lists
-fewer_wait ws s t x j p = so_far_less itself ws s s t [] [] x (so_far_start itself ws s [] j) p
+-- an item was taken of the port in turn
+pub record Took (ws : List ℕ) (s s' : JoinKept) (place : ℕ) (x : item.Item) : Type 0 where
+  pub port : place ≡ s.turns.port
+  pub passes : Passes (slice_index_or ws s.turns.port 0) s.turns s'.turns x
+  pub owed : s'.owed ≡ s.owed
 
-module _ (ws : List ℕ) (start s s' : JoinKept) (x : item.Item) (out out' out'' : List item.Item) (shares : HaveShares ws)
-    (t : Passes (slice_index_or ws s.turns.port 0) s.turns s'.turns x) (j : JoinsItem s.turns.port x s.owed s'.owed out' out'') where
+pub took : (ws : List ℕ) (share place : ℕ) (x : item.Item) (s s' : JoinKept) → share ≡ slice_index_or ws s.turns.port 0 → TakesItem share s.turns s'.turns (place, x)
+    → s'.owed ≡ s.owed → Took ws s s' place x
+took ws share place x s s' e h owed = record { port = h.port; passes = subst (λ n. Passes n s.turns s'.turns x) e h.passes; owed = owed }
+
+-- one that passes does not wait any more
+pub fewer_wait : (ws : List ℕ) (s s' : JoinKept) (place : ℕ) (x : item.Item) → IsJoiner ws s.turns → Took ws s s' place x
+    → waiting s'.turns.lists < waiting s.turns.lists
+fewer_wait ws s s' place x j t = so_far_less itself ws s.turns s.turns s'.turns [] [] x (so_far_start itself ws s.turns [] j) t.passes
+
+module _ (ws : List ℕ) (s s' : JoinKept) (x : item.Item) (t : Passes (slice_index_or ws s.turns.port 0) s.turns s'.turns x) where
   abbrev port : ℕ
   port = s.turns.port
 
@@ -417,32 +462,6 @@ module _ (ws : List ℕ) (start s s' : JoinKept) (x : item.Item) (out out' out''
   of_front : (P : item.Item → Type 0) → ((p : ℕ) → All P (list_at s.turns.lists p)) → P x
   of_front P h = All-head P x front.rest (subst (All P) front.is (h port))
 
-  next_shape : HasJoinShape ws s → HasJoinShape ws s'
-  next_shape h = record {
-    joined = (so_far_step itself ws s.turns s.turns s'.turns [] [] (x ∷ []) x shares (so_far_start itself ws s.turns [] h.joined) t refl).joined;
-    owed = j.lists ∙ h.owed;
-  }
-
-  next_keeps : KeepsJoin ws start s out out' → KeepsJoin ws start s' out out''
-  next_keeps f = record {
-    shape = next_shape f.shape;
-    few = λ h. j.few (f.few h);
-    wide = λ q h.
-        let g = f.wide q h in
-        let r = j.wide q (of_front (IsHeld q) (g.1).lines) (g.1).owed in
-        (held_on (flat_in q) out out' out'' g.0 r.0, record { lines = all_left (IsHeld q) (g.1).lines; owed = r.1 });
-  }
-
-  next_plain : (give : item.Item → List item.Item) → PlainIn give ws start s out out' → PlainIn give ws start s' out out''
-  next_plain give f =
-      let o : PassesOpened give x = of_front (PassesOpened give) f.left in
-      let b = j.plain o.same in
-      record {
-        left = all_left (PassesOpened give) f.left;
-        passed = so_far_step give ws start.turns s.turns s'.turns out out' out'' x shares f.passed t (b.0 ∙ ap (λ l. out' ++ l) (sym o.opened));
-        owed = b.1 ∙ f.owed;
-      }
-
   module _ (give : item.Item → List item.Item) (n : Joining) (h : StandsForJoining s n) (left : AreOpened give n.turns) (joiner : IsJoiner ws n.turns) where
     abbrev q : ℕ
     q = n.turns.port
@@ -459,69 +478,144 @@ module _ (ws : List ℕ) (start s s' : JoinKept) (x : item.Item) (out out' out''
     passes : Passes (slice_index_or ws q 0) n.turns (passed_by (slice_index_or ws q 0) n.turns) held.y
     passes = record { front = λ g. front_is g n.turns.lists q held.y held.ys lt held.is; after = refl }
 
-    joined : ItemJoined q n.last n.now held.y s'.owed out' out''
-    joined = (subst (λ p. JoinsItem p x s.owed s'.owed out' out'') h.port j).each n.last n.now held.y opens.same h.owed held.front
-
-    abbrev after : Joining
-    after = record { turns = passed_by (slice_index_or ws q 0) n.turns; last = after_item n.last held.y; now = joined.next }
-
     rest_front : list_at (rest_at n.turns.lists q) q ≡ held.ys
     rest_front = rest_here n.turns.lists q held.y held.ys held.is
 
-    stands_after : StandsForJoining s' after
-    stands_after = record {
-      port = ap (λ (u : Turns). u.port) t.after ∙ (λ i. port_after (slice_index_or ws (h.port i) 0) (h.lists i) (h.port i) (h.had i));
-      had = ap (λ (u : Turns). u.had) t.after ∙ (λ i. had_after (slice_index_or ws (h.port i) 0) (h.had i));
-      lists = ap length lists_are ∙ length-rest_at s.turns.lists port ∙ h.lists ∙ sym (length-rest_at n.turns.lists q);
-      lines = λ p l.
-          let l' : p < length n.turns.lists = subst (λ i. p < i) (length-rest_at n.turns.lists q) l in
-          ⊎_elim
-          (λ e. subst (λ r. list_at s'.turns.lists r ≡ held_from (joined.next r) (list_at (rest_at n.turns.lists q) r)) e
-          (ap (λ r. list_at s'.turns.lists r) (sym h.port) ∙ line_here ∙ held.rest ∙ (λ i. held_from (sym joined.here i) (sym rest_front i))))
-          (λ ne. line_else p (λ e. ne (sym h.port ∙ e)) ∙ h.lines p l' ∙ (λ i. held_from (sym (joined.others p ne) i) (sym (rest_else n.turns.lists q p ne) i)))
-          (cases_eq q p);
-      owed = joined.owed;
-    }
+    module _ (out' out'' : List item.Item) (j : JoinsItem port x s.owed s'.owed out' out'') where
+      joined : ItemJoined q n.last n.now held.y s'.owed out' out''
+      joined = (subst (λ p. JoinsItem p x s.owed s'.owed out' out'') h.port j).each n.last n.now held.y opens.same h.owed held.front
 
-    ends_after : (p : ℕ) → content_from (joined.next p) (list_at (rest_at n.turns.lists q) p) ≡ content_from (n.now p) (list_at n.turns.lists p)
-    ends_after p =
-        ⊎_elim
-        (λ e. subst (λ r. content_from (joined.next r) (list_at (rest_at n.turns.lists q) r) ≡ content_from (n.now r) (list_at n.turns.lists r)) e
-        ((λ i. content_from (joined.here i) (rest_front i)) ∙ ap (content_from (n.now q)) (sym held.is)))
-        (λ ne. (λ i. content_from (joined.others p ne i) (rest_else n.turns.lists q p ne i)))
-        (cases_eq q p)
+      abbrev after : Joining
+      after = record { turns = passed_by (slice_index_or ws q 0) n.turns; last = after_item n.last held.y; now = joined.next }
 
-  next_in : (give : item.Item → List item.Item) (m : Joining) → JoinedIn give ws m s out out' → JoinedIn give ws m s' out out''
-  next_in give m g =
-      let n = g.next in
-      let jn : IsJoiner ws n.turns = g.passed.joined in
-      let y = (held give n g.stands g.left jn).y in
-      let o : PassesOpened give y = opens give n g.stands g.left jn in
-      let p = joined give n g.stands g.left jn in
-      record {
-        next = after give n g.stands g.left jn;
-        stands = stands_after give n g.stands g.left jn;
-        left = λ r. all_rest (PassesOpened give) n.turns.lists n.turns.port g.left r;
-        items = g.items ++ give y;
-        passed = so_far_step give ws m.turns n.turns (passed_by (slice_index_or ws n.turns.port 0) n.turns) [] g.items (g.items ++ give y) y shares g.passed
-            (passes give n g.stands g.left jn) refl;
-        gave =
-            p.gave ∙ ap (λ l. l ++ held_from n.last (items_of y)) g.gave ∙ append_assoc out (held_from m.last g.items) (held_from n.last (items_of y))
-            ∙ ap (λ l. out ++ (held_from m.last g.items ++ held_from l (items_of y))) (sym g.last)
-            ∙ ap (λ l. out ++ l) (sym (held_from-append m.last g.items (items_of y)) ∙ ap (λ l. held_from m.last (g.items ++ l)) (sym o.opened));
-        last =
-            ap (λ l. content_from m.last (g.items ++ l)) o.opened ∙ content-append m.last g.items (items_of y) ∙ ap (λ l. content_from l (items_of y)) g.last
-            ∙ content-items_of n.last y;
-        ends = λ r l. ends_after give n g.stands g.left jn r ∙ g.ends r l;
+      stands_after : StandsForJoining s' after
+      stands_after = record {
+        port = ap (λ (u : Turns). u.port) t.after ∙ (λ i. port_after (slice_index_or ws (h.port i) 0) (h.lists i) (h.port i) (h.had i));
+        had = ap (λ (u : Turns). u.had) t.after ∙ (λ i. had_after (slice_index_or ws (h.port i) 0) (h.had i));
+        lists = ap length lists_are ∙ length-rest_at s.turns.lists port ∙ h.lists ∙ sym (length-rest_at n.turns.lists q);
+        lines = λ p l.
+            let l' : p < length n.turns.lists = subst (λ i. p < i) (length-rest_at n.turns.lists q) l in
+            ⊎_elim
+            (λ e. subst (λ r. list_at s'.turns.lists r ≡ held_from (joined.next r) (list_at (rest_at n.turns.lists q) r)) e
+            (ap (λ r. list_at s'.turns.lists r) (sym h.port) ∙ line_here ∙ held.rest ∙ (λ i. held_from (sym joined.here i) (sym rest_front i))))
+            (λ ne. line_else p (λ e. ne (sym h.port ∙ e)) ∙ h.lines p l' ∙ (λ i. held_from (sym (joined.others p ne) i) (sym (rest_else n.turns.lists q p ne) i)))
+            (cases_eq q p);
+        owed = joined.owed;
       }
 
-  -- one more has
-  pub joined_step : JoinedSoFar ws start s out out' → JoinedSoFar ws start s' out out''
-  joined_step f = record {
-    each = λ give m opened h. next_in give m (f.each give m opened h);
-    plain = λ give opened. next_plain give (f.plain give opened);
-    keeps = next_keeps f.keeps;
-  }
+      ends_after : (p : ℕ) → content_from (joined.next p) (list_at (rest_at n.turns.lists q) p) ≡ content_from (n.now p) (list_at n.turns.lists p)
+      ends_after p =
+          ⊎_elim
+          (λ e. subst (λ r. content_from (joined.next r) (list_at (rest_at n.turns.lists q) r) ≡ content_from (n.now r) (list_at n.turns.lists r)) e
+          ((λ i. content_from (joined.here i) (rest_front i)) ∙ ap (content_from (n.now q)) (sym held.is)))
+          (λ ne. (λ i. content_from (joined.others p ne i) (rest_else n.turns.lists q p ne i)))
+          (cases_eq q p)
+
+  -- there was no memory for what it gives
+  pub joined_part : (start : JoinKept) (out out' out'' : List item.Item) → JoinedSoFar ws start s out out' → JoinsItemPart port x s.owed out' out'' → JoinsPart ws start out out''
+  joined_part start out out' out'' f part = record { contents = λ give m opened h. contents give m (f.each give m opened h); plain = λ give opened. plain give (f.plain give opened) } where
+    contents : (give : item.Item → List item.Item) (m : Joining) → JoinedIn give ws m s out out' → GrewByPrefix out (held_from m.last (settled give ws m.turns).0) out''
+    contents give m g =
+        let n = g.next in
+        let jn : IsJoiner ws n.turns = g.passed.joined in
+        let h = held give n g.stands g.left jn in
+        let o : PassesOpened give h.y = opens give n g.stands g.left jn in
+        let more : List item.Item = (settled give ws (passed ws n.turns)).0 in
+        let all : (settled give ws m.turns).0 ≡ g.items ++ (items_of h.y ++ more) =
+        sym (so_far_next give ws m.turns n.turns (passed_by (slice_index_or ws n.turns.port 0) n.turns) [] g.items h.y g.passed (passes give n g.stands g.left jn))
+        ∙ (λ i. sym g.passed.grew i ++ (o.opened i ++ more)) in
+        let p = (subst (λ q. JoinsItemPart q x s.owed out' out'') g.stands.port part).each n.last n.now h.y o.same g.stands.owed h.front in
+        grew_on out (held_from m.last g.items) (held_from n.last (items_of h.y)) (held_from (content_from n.last (items_of h.y)) more) (held_from m.last (settled give ws m.turns).0)
+        out' out'' g.gave
+        (ap (held_from m.last) all ∙ held_from-append m.last g.items (items_of h.y ++ more)
+        ∙ ap (λ l. held_from m.last g.items ++ l) (ap (λ c. held_from c (items_of h.y ++ more)) g.last ∙ held_from-append n.last (items_of h.y) more)) p
+
+    plain : (give : item.Item → List item.Item) → PlainIn give ws start s out out' → GrewByPrefix out (settled give ws start.turns).0 out''
+    plain give g =
+        let o : PassesOpened give x = of_front (PassesOpened give) g.left in
+        let more : List item.Item = (settled give ws (passed ws s.turns)).0 in
+        grew_on out g.passed.given (give x) more (settled give ws start.turns).0 out' out'' g.passed.grew
+        (sym (so_far_next give ws start.turns s.turns s'.turns out out' x g.passed t)) (subst (λ l. GrewByPrefix out' l out'') (sym o.opened) (part.plain o.same))
+
+  module _ (start : JoinKept) (out out' out'' : List item.Item) (shares : HaveShares ws) (j : JoinsItem port x s.owed s'.owed out' out'') where
+    next_shape : HasJoinShape ws s → HasJoinShape ws s'
+    next_shape h = record {
+      joined = (so_far_step itself ws s.turns s.turns s'.turns [] [] (x ∷ []) x shares (so_far_start itself ws s.turns [] h.joined) t refl).joined;
+      owed = j.lists ∙ h.owed;
+    }
+
+    next_keeps : KeepsJoin ws start s out out' → KeepsJoin ws start s' out out''
+    next_keeps f = record {
+      shape = next_shape f.shape;
+      few = λ h. j.few (f.few h);
+      wide = λ q h.
+          let g = f.wide q h in
+          let r = j.wide q (of_front (IsHeld q) (g.1).lines) (g.1).owed in
+          (held_on (flat_in q) out out' out'' g.0 r.0, record { lines = all_left (IsHeld q) (g.1).lines; owed = r.1 });
+    }
+
+    next_plain : (give : item.Item → List item.Item) → PlainIn give ws start s out out' → PlainIn give ws start s' out out''
+    next_plain give f =
+        let o : PassesOpened give x = of_front (PassesOpened give) f.left in
+        let b = j.plain o.same in
+        record {
+          left = all_left (PassesOpened give) f.left;
+          passed = so_far_step give ws start.turns s.turns s'.turns out out' out'' x shares f.passed t (b.0 ∙ ap (λ l. out' ++ l) (sym o.opened));
+          owed = b.1 ∙ f.owed;
+        }
+
+    next_in : (give : item.Item → List item.Item) (m : Joining) → JoinedIn give ws m s out out' → JoinedIn give ws m s' out out''
+    next_in give m g =
+        let n = g.next in
+        let jn : IsJoiner ws n.turns = g.passed.joined in
+        let y = (held give n g.stands g.left jn).y in
+        let o : PassesOpened give y = opens give n g.stands g.left jn in
+        let p = joined give n g.stands g.left jn out' out'' j in
+        record {
+          next = after give n g.stands g.left jn out' out'' j;
+          stands = stands_after give n g.stands g.left jn out' out'' j;
+          left = λ r. all_rest (PassesOpened give) n.turns.lists n.turns.port g.left r;
+          items = g.items ++ give y;
+          passed = so_far_step give ws m.turns n.turns (passed_by (slice_index_or ws n.turns.port 0) n.turns) [] g.items (g.items ++ give y) y shares g.passed
+              (passes give n g.stands g.left jn) refl;
+          gave =
+              p.gave ∙ ap (λ l. l ++ held_from n.last (items_of y)) g.gave ∙ append_assoc out (held_from m.last g.items) (held_from n.last (items_of y))
+              ∙ ap (λ l. out ++ (held_from m.last g.items ++ held_from l (items_of y))) (sym g.last)
+              ∙ ap (λ l. out ++ l) (sym (held_from-append m.last g.items (items_of y)) ∙ ap (λ l. held_from m.last (g.items ++ l)) (sym o.opened));
+          last =
+              ap (λ l. content_from m.last (g.items ++ l)) o.opened ∙ content-append m.last g.items (items_of y) ∙ ap (λ l. content_from l (items_of y)) g.last
+              ∙ content-items_of n.last y;
+          ends = λ r l. ends_after give n g.stands g.left jn out' out'' j r ∙ g.ends r l;
+        }
+
+    -- one more has
+    pub joined_step : JoinedSoFar ws start s out out' → JoinedSoFar ws start s' out out''
+    joined_step f = record {
+      each = λ give m opened h. next_in give m (f.each give m opened h);
+      plain = λ give opened. next_plain give (f.plain give opened);
+      keeps = next_keeps f.keeps;
+    }
+
+-- the item that was taken is given
+pub given_step : (ws : List ℕ) (start s u s' : JoinKept) (place : ℕ) (x : item.Item) (out out' out'' : List item.Item) → HaveShares ws → JoinedSoFar ws start s out out'
+    → Took ws s u place x → s'.turns ≡ u.turns → JoinsItem place x u.owed s'.owed out' out'' → JoinedSoFar ws start s' out out''
+given_step ws start s u s' place x out out' out'' shares f t e j =
+    joined_step ws s s' x (subst (λ v. Passes (slice_index_or ws s.turns.port 0) s.turns v x) (sym e) t.passes) start out out' out'' shares
+    (subst (λ p. JoinsItem p x s.owed s'.owed out' out'') t.port (subst (λ d. JoinsItem place x d s'.owed out' out'') t.owed j)) f
+
+-- a part of it is
+pub given_part : (ws : List ℕ) (start s u : JoinKept) (place : ℕ) (x : item.Item) (out out' out'' : List item.Item) → JoinedSoFar ws start s out out' → Took ws s u place x
+    → JoinsItemPart place x u.owed out' out'' → JoinsPart ws start out out''
+given_part ws start s u place x out out' out'' f t p =
+    joined_part ws s u x t.passes start out out' out'' f
+    (subst (λ q. JoinsItemPart q x s.owed out' out'') t.port (subst (λ d. JoinsItemPart place x d out' out'') t.owed p))
+
+-- nothing is
+pub part_none : (ws : List ℕ) (s : JoinKept) (out : List item.Item) → JoinsPart ws s out out
+part_none ws s out = record {
+  contents = λ give m opened h. grew_by_none out out (held_from m.last (settled give ws m.turns).0) refl;
+  plain = λ give opened. grew_by_none out out (settled give ws s.turns).0 refl;
+}
 
 same_kept : (s s' : JoinKept) → s'.turns ≡ s.turns → s'.owed ≡ s.owed → s ≡ s'
 same_kept s s' e f i = record { turns = sym e i; owed = sym f i }
@@ -560,15 +654,6 @@ plain_end ws start s s' out out' f gone same = record {
       record { gave = e.0; turns = e.1; owed = same ∙ g.owed };
 }
 
--- and what was given fits
-pub keeps_end : (ws : List ℕ) (start s s' : JoinKept) (out out' : List item.Item) → JoinedSoFar ws start s out out' → IsStuck s.turns s'.turns → s'.owed ≡ s.owed
-    → KeepsJoin ws start s' out out'
-keeps_end ws start s s' out out' f gone same = subst (λ k. KeepsJoin ws start k out out') (same_kept s s' gone.same same) f.keeps
-
 -- a joiner that an item comes to keeps its shape
 pub put_shape : (ws : List ℕ) (p : ℕ) (x : item.Item) (s : JoinKept) → HasJoinShape ws s → HasJoinShape ws (put_item p x s)
 put_shape ws p x s j = record { joined = joined_put ws p x s.turns j.joined; owed = j.owed }
-
--- what is kept once an item came
-pub put_kept : (p : ℕ) (x : item.Item) (old new : Turns) (owed : List Debt) (s : JoinKept) → new ≡ put p x old → join_kept old owed ≡ s → join_kept new owed ≡ put_item p x s
-put_kept p x old new owed s e v = ap (λ t. join_kept t owed) e ∙ ap (put_item p x) v

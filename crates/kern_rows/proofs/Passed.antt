@@ -5,7 +5,7 @@ use Rattle.std.specs.Prelude.{if◌then◌else◌, slice_index_or}
 use Rattle.std.specs.List.{AllByRecursion}
 use Rattle.std.proofs.Math.Nat.{le_refl}
 use Rattle.std.proofs.lemmas.Bool.{cases_lt}
-use Rattle.std.proofs.lemmas.List.{append-nil, length-replicate}
+use Rattle.std.proofs.lemmas.List.{append-nil}
 use Rattle.river_base.specs.declared.item.Item as item
 use Rattle.river_base.specs.Drain.{drain, pass_on}
 use Rattle.river_base.specs.Grew.{GrewByPrefix}
@@ -13,7 +13,6 @@ use Rattle.river_base.proofs.PlaceLemmas.{if_lt, if_ge, length-append_at}
 use Rattle.kern_rows.specs.Needs.{HaveShares, IsJoiner}
 use Rattle.kern_rows.specs.Passing.{Passes, IsStuck, SoFar, passed_by}
 use Rattle.kern_rows.specs.Turns.{Turns, IsTurn, next_port, next_had, front_in, front_at, rest_in, rest_at, front_of, passed, waiting, put, settled, ones}
-use Rattle.kern_rows.specs.Turns.{turns_start}
 
 -- WHAT IS IN FRONT
 
@@ -123,6 +122,11 @@ module _ (give : item.Item → List item.Item) (ws : List ℕ) where
   pub so_far_start : (s : Turns) (out : List item.Item) → IsJoiner ws s → SoFar give ws s s out out
   so_far_start s out j = record { given = []; grew = sym (append-nil out); all = refl; last = refl; joined = j }
 
+  -- an item passes next: it and what passes after it is what is left
+  pub so_far_next : (start now next : Turns) (out out' : List item.Item) (x : item.Item) (f : SoFar give ws start now out out')
+      → Passes (slice_index_or ws now.port 0) now next x → f.given ++ (give x ++ (settled give ws (passed ws now)).0) ≡ (settled give ws start).0
+  so_far_next start now next out out' x f p = ap (λ d. f.given ++ d.0) (sym (settled_some now (give x) (p.front give))) ∙ f.all
+
   -- one item more has passed
   pub so_far_step : (start now next : Turns) (out out' out'' : List item.Item) (x : item.Item) → HaveShares ws → SoFar give ws start now out out'
       → Passes (slice_index_or ws now.port 0) now next x → out'' ≡ out' ++ give x → SoFar give ws start next out out''
@@ -132,7 +136,7 @@ module _ (give : item.Item → List item.Item) (ws : List ℕ) where
       subst (λ s. SoFar give ws start s out out'') (sym n) (record {
         given = f.given ++ give x;
         grew = g ∙ ap (λ o. o ++ give x) f.grew ∙ append_assoc out f.given (give x);
-        all = append_assoc f.given (give x) (settled give ws (passed ws now)).0 ∙ ap (λ d. f.given ++ d.0) (sym e) ∙ f.all;
+        all = append_assoc f.given (give x) (settled give ws (passed ws now)).0 ∙ so_far_next start now next out out' x f p;
         last = ap (λ d. d.1) (sym e) ∙ f.last;
         joined = record { turn = next_turn ws now.port now.had shares f.joined.turn; lists = length-rest_at now.lists now.port ∙ f.joined.lists };
       })
@@ -152,51 +156,39 @@ module _ (give : item.Item → List item.Item) (ws : List ℕ) where
       let g : f.given ≡ (settled give ws start).0 = sym (append-nil f.given) ∙ ap (λ d. f.given ++ d.0) (sym e) ∙ f.all in
       (f.grew ∙ ap (λ t. out ++ t) g, h.same ∙ ap (λ d. d.1) (sym e) ∙ f.last)
 
-  prefix_of : (a b : List item.Item) (n : ℕ) → take (length a + n) (a ++ b) ≡ a ++ take n b
-  prefix_of [] b n = ap (λ k. take k b) (let e : 0 + n ≡ n = omega arith in e)
-  prefix_of (x ∷ xs) b n =
-      ap (λ k. take k (x ∷ (xs ++ b))) (let e : suc (length xs) + n ≡ suc (length xs + n) = omega arith in e) ∙ ap (λ t. x ∷ t) (prefix_of xs b n)
+prefix_of : (a b : List item.Item) (n : ℕ) → take (length a + n) (a ++ b) ≡ a ++ take n b
+prefix_of [] b n = ap (λ k. take k b) (let e : 0 + n ≡ n = omega arith in e)
+prefix_of (x ∷ xs) b n =
+    ap (λ k. take k (x ∷ (xs ++ b))) (let e : suc (length xs) + n ≡ suc (length xs + n) = omega arith in e) ∙ ap (λ t. x ∷ t) (prefix_of xs b n)
 
-  prefix_is : (a b : List item.Item) (n : ℕ) → take (length (take n a)) (a ++ b) ≡ take n a
-  prefix_is a b zero = refl
-  prefix_is [] b (suc n) = refl
-  prefix_is (x ∷ xs) b (suc n) = ap (λ t. x ∷ t) (prefix_is xs b n)
+prefix_is : (a b : List item.Item) (n : ℕ) → take (length (take n a)) (a ++ b) ≡ take n a
+prefix_is a b zero = refl
+prefix_is [] b (suc n) = refl
+prefix_is (x ∷ xs) b (suc n) = ap (λ t. x ∷ t) (prefix_is xs b n)
 
-  -- there was no memory for what an item gives
-  pub so_far_refused : (start now next : Turns) (out out' out'' : List item.Item) (x : item.Item) → SoFar give ws start now out out'
-      → Passes (slice_index_or ws now.port 0) now next x → GrewByPrefix out' (give x) out'' → GrewByPrefix out (settled give ws start).0 out''
-  so_far_refused start now next out out' out'' x f p g =
-      let e = settled_some now (give x) (p.front give) in
-      let more = (settled give ws (passed ws now)).0 in
-      record {
-        n = length f.given + length (take g.n (give x));
-        is =
-            g.is
-            ∙ ap (λ o. o ++ take g.n (give x)) f.grew
-            ∙ append_assoc out f.given (take g.n (give x))
-            ∙ ap (λ t. out ++ t) (sym (prefix_of f.given (give x ++ more) (length (take g.n (give x))) ∙ ap (λ t. f.given ++ t) (prefix_is (give x) more g.n)))
-            ∙ ap (λ t. out ++ take (length f.given + length (take g.n (give x))) t) (ap (λ d. f.given ++ d.0) (sym e) ∙ f.all);
-      }
-
--- the share that was read is that of the port in turn
-pub passes_at : (ws : List ℕ) (share port : ℕ) (now next : Turns) (x : item.Item) → share ≡ slice_index_or ws port 0 → port ≡ now.port → Passes share now next x
-    → Passes (slice_index_or ws now.port 0) now next x
-passes_at ws share port now next x s p h = subst (λ k. Passes k now next x) (s ∙ ap (λ q. slice_index_or ws q 0) p) h
+-- a part of b was appended behind a: a part of all was
+pub grew_on : (out a b more all out' out'' : List item.Item) → out' ≡ out ++ a → all ≡ a ++ (b ++ more) → GrewByPrefix out' b out'' → GrewByPrefix out all out''
+grew_on out a b more all out' out'' e f g =
+    let m = length (take g.n b) in
+    record {
+      n = length a + m;
+      is =
+          g.is
+          ∙ ap (λ o. o ++ take g.n b) e
+          ∙ append_assoc out a (take g.n b)
+          ∙ ap (λ t. out ++ t) (sym (prefix_of a (b ++ more) m ∙ ap (λ t. a ++ t) (prefix_is b more g.n)))
+          ∙ ap (λ t. out ++ take (length a + m) t) (sym f);
+    }
 
 -- nothing was appended
 pub grew_by_none : {X : Type 0} (old new all : List X) → new ≡ old → GrewByPrefix old all new
 grew_by_none old new all e = record { n = 0; is = e ∙ sym (append-nil old) }
 
 -- each of n ports has one item in its turn
-one_at : (n p : ℕ) → p < length (ones n) → slice_index_or (ones n) p 0 ≡ 1
+pub one_at : (n p : ℕ) → p < length (ones n) → slice_index_or (ones n) p 0 ≡ 1
 one_at zero p h = absurd (omega (arith, h))
 one_at (suc n) zero h = refl
 one_at (suc n) (suc p) h = one_at n p (omega arith)
-
--- a turn of weight 1
-pub passes_one : (n : ℕ) (now next : Turns) (x : item.Item) → now.port < length (ones n) → Passes 1 now next x
-    → Passes (slice_index_or (ones n) now.port 0) now next x
-passes_one n now next x lt h = subst (λ k. Passes k now next x) (sym (one_at n now.port lt)) h
 
 are_ones : (n : ℕ) → AllByRecursion (λ w. 0 < w) (ones n)
 are_ones zero = tt
@@ -206,10 +198,3 @@ are_ones (suc n) = (omega arith, are_ones n)
 pub ones_shares : (n : ℕ) → 0 < n → HaveShares (ones n)
 ones_shares zero h = absurd (omega (arith, h))
 ones_shares (suc n) h = (omega arith, are_ones (suc n))
-
--- at the start the first port is in turn
-pub first_turn : (ws : List ℕ) → HaveShares ws → IsTurn ws 0 0
-first_turn ws all = (all.0, share_at ws 0 all.1 all.0)
-
-pub start_joined : (ws : List ℕ) → HaveShares ws → IsJoiner ws (turns_start (length ws))
-start_joined ws all = record { turn = first_turn ws all; lists = length-replicate (length ws) [] }

@@ -1,9 +1,9 @@
-use Rattle.kern_rows.specs.Passing.{SoFar}
-use Rattle.kern_rows.specs.Turns.{shares, itself, waiting}
+use Rattle.kern_rows.specs.Turns.{shares, waiting}
+use Rattle.kern_rows.proofs.JoinLaws.{JoinedSoFar}
 use Rattle.kern_rows.proofs.collect.pass_all.Given as goal
 
-abbrev pub invariant-loop-item : goal.invariant-loop-item
-invariant-loop-item l = SoFar itself (shares l.weights) l.initial.joined l.joined l.initial.out l.out
+abbrev pub invariant-loop-port : goal.invariant-loop-port
+invariant-loop-port l = JoinedSoFar (shares l.weights) l.initial.state l.state l.initial.out l.out
 
-abbrev pub decreases-loop-item : goal.decreases-loop-item
-decreases-loop-item l = waiting l.joined.lists
+abbrev pub decreases-loop-port : goal.decreases-loop-port
+decreases-loop-port l = waiting l.state.turns.lists

@@ -1,8 +1,8 @@
 use Rattle.std.proofs.Common.{sym, subst}
 use Rattle.river_base.specs.declared.item.Flat.TheVariants.{One, Batch as Batched, Change as Changed}
-use Rattle.kern_changes.specs.Joined.{JoinsFlat}
-use Rattle.kern_changes.proofs.JoinLaws.{row_passes, batch_passes, change_passes}
-use Rattle.kern_changes.proofs.joined.join_flat.Goals as goal
+use Rattle.kern_rows.specs.Joined.{JoinsFlat}
+use Rattle.kern_rows.proofs.JoinLaws.{row_passes, batch_passes, change_passes}
+use Rattle.kern_rows.proofs.joining.join_flat.Goals as goal
 
 pub returns-in-One : goal.returns-in-One
 returns-in-One c =

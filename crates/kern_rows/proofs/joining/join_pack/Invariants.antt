@@ -1,5 +1,5 @@
-use Rattle.kern_changes.specs.Joined.{JoinsFlats}
-use Rattle.kern_changes.proofs.joined.join_pack.Given as goal
+use Rattle.kern_rows.specs.Joined.{JoinsFlats}
+use Rattle.kern_rows.proofs.joining.join_pack.Given as goal
 
 abbrev pub invariant-loop-flat : goal.invariant-loop-flat
 invariant-loop-flat l = JoinsFlats l.place l.yielded l.initial.owed l.owed l.initial.out l.out

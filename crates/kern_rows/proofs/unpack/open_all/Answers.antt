@@ -1,25 +1,44 @@
-use Rattle.work_code.proofs.Running.{on_err}
-use Rattle.river_base.specs.Held.{items_of}
-use Rattle.kern_rows.specs.Turns.{ones}
-use Rattle.kern_rows.proofs.Passed.{so_far_step, so_far_less, so_far_refused, passes_one, ones_shares}
+use Rattle.std.proofs.Common.{◌<◌, sym, subst}
+use Rattle.river_base.proofs.PlaceLemmas.{on_err}
+use Rattle.kern_rows.specs.Turns.{ones, waiting}
+use Rattle.kern_rows.proofs.JoinLaws.{took, fewer_wait, joined_start, given_step, given_part, joined_end, plain_end}
+use Rattle.kern_rows.proofs.Passed.{one_at, ones_shares}
 use Rattle.kern_rows.proofs.unpack.open_all.Goals as goal
 
-pub loop-item-smaller : goal.loop-item-smaller
-loop-item-smaller c =
-    let now = c.loop-item.joined in
-    so_far_less items_of (ones c.args.ports) c.args.joined.now now c.pass.new.self c.args.out.now c.loop-item.out c.in-Some.item c.loop-item.invariant
-    (passes_one c.args.ports now c.pass.new.self c.in-Some.item c.loop-item.invariant.joined.turn.0 c.in-Some.ensures)
+pub loop-port-init : goal.loop-port-init
+loop-port-init c = joined_start (ones c.args.ports) c.args.state.now c.args.out.now c.requires.shape
 
-pub loop-item-preserved : goal.loop-item-preserved
-loop-item-preserved c =
-    let now = c.loop-item.joined in
-    so_far_step items_of (ones c.args.ports) c.args.joined.now now c.pass.new.self c.args.out.now c.loop-item.out c.open.new.out c.in-Some.item (ones_shares c.args.ports c.requires.some) c.loop-item.invariant
-    (passes_one c.args.ports now c.pass.new.self c.in-Some.item c.loop-item.invariant.joined.turn.0 c.in-Some.ensures)
-    c.in_ok-open.ensures.ok
+pub loop-port-smaller : goal.loop-port-smaller
+loop-port-smaller c =
+    let ws = ones c.args.ports in
+    let t = took ws 1 c.in-Some.port c.in-Some.pack c.loop-port.state c.take.new.self
+    (sym (one_at c.args.ports c.loop-port.state.turns.port c.loop-port.invariant.keeps.shape.joined.turn.0)) c.in-Some.ensures.turns c.take.ensures.owed in
+    subst (λ u. waiting u.lists < waiting c.loop-port.state.turns.lists) (sym c.in_ok-give.ensures.turns)
+    (fewer_wait ws c.loop-port.state c.take.new.self c.in-Some.port c.in-Some.pack c.loop-port.invariant.keeps.shape.joined t)
 
-pub returns-in_err-open-clause-err : goal.returns-in_err-open-clause-err
-returns-in_err-open-clause-err c =
-    let now = c.loop-item.joined in
-    on_err c.from_residual.result (so_far_refused items_of (ones c.args.ports) c.args.joined.now now c.pass.new.self c.args.out.now c.loop-item.out c.open.new.out c.in-Some.item c.loop-item.invariant
-    (passes_one c.args.ports now c.pass.new.self c.in-Some.item c.loop-item.invariant.joined.turn.0 c.in-Some.ensures)
-    c.in_err-open.ensures.err)
+pub loop-port-preserved : goal.loop-port-preserved
+loop-port-preserved c =
+    let ws = ones c.args.ports in
+    let t = took ws 1 c.in-Some.port c.in-Some.pack c.loop-port.state c.take.new.self
+    (sym (one_at c.args.ports c.loop-port.state.turns.port c.loop-port.invariant.keeps.shape.joined.turn.0)) c.in-Some.ensures.turns c.take.ensures.owed in
+    given_step ws c.args.state.now c.loop-port.state c.take.new.self c.give.new.self c.in-Some.port c.in-Some.pack c.args.out.now c.loop-port.out c.give.new.out
+    (ones_shares c.args.ports c.requires.some) c.loop-port.invariant t c.in_ok-give.ensures.turns c.in_ok-give.ensures.ok
+
+pub returns-in_err-give-clause-err : goal.returns-in_err-give-clause-err
+returns-in_err-give-clause-err c =
+    let ws = ones c.args.ports in
+    let t = took ws 1 c.in-Some.port c.in-Some.pack c.loop-port.state c.take.new.self
+    (sym (one_at c.args.ports c.loop-port.state.turns.port c.loop-port.invariant.keeps.shape.joined.turn.0)) c.in-Some.ensures.turns c.take.ensures.owed in
+    on_err c.from_residual.result
+    (given_part ws c.args.state.now c.loop-port.state c.take.new.self c.in-Some.port c.in-Some.pack c.args.out.now c.loop-port.out c.give.new.out c.loop-port.invariant t
+    c.in_err-give.ensures.err)
+
+pub returns-clause-contents : goal.returns-clause-contents
+returns-clause-contents c =
+    joined_end (ones c.args.ports) c.args.state.now c.loop-port.state c.take.new.self c.args.out.now c.loop-port.out c.loop-port.invariant c.in_default.ensures.turns
+    c.take.ensures.owed
+
+pub returns-clause-plain : goal.returns-clause-plain
+returns-clause-plain c =
+    plain_end (ones c.args.ports) c.args.state.now c.loop-port.state c.take.new.self c.args.out.now c.loop-port.out c.loop-port.invariant c.in_default.ensures.turns
+    c.take.ensures.owed
