@@ -184,7 +184,7 @@ module _ (all : Streams) (add : Adding) (right : Right all add) (fitting : Fitti
 
 either_fit : (u : SourceUnit) (us : List SourceUnit) (depth : ℕ) (n : Name) (zs : List ℤ) (s : Made) (x : Name × Made) → AllFit zs → IsFine u.stream.params u.stream.body
     → IsWrittenUnit u.stream → IsFit s → Right (stream_works (unit_streams us)) (instance us (suc depth)) → Fitting (instance us (suc depth))
-      → Fitting (instance us depth)
+    → Fitting (instance us depth)
     → (b : Bool) → name_eq u.stream.name n ≡ b → instance (u ∷ us) depth n zs s ≡ fine x → NameFit x
 either_fit u us depth n zs s x fits ok w g right below beside b e h = go b e
   where

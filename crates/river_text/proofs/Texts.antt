@@ -29,7 +29,7 @@ plan-read place n p (u ∷ us) = by (whole (unit_from place) u) (λ e. plan-read
 
   by : (o : Option Entry)
       → ((e : Entry) → read_plan (next_place place e) (n + 1) (add_entry p e) us
-        ≡ added (add_entry p e) (read_units unit_from next_place (next_place place e) (n + 1) us))
+      ≡ added (add_entry p e) (read_units unit_from next_place (next_place place e) (n + 1) us))
       → with_entry n (λ e. read_plan (next_place place e) (n + 1) (add_entry p e) us) o ≡ added p (after_unit n (λ e. read_units unit_from next_place (next_place place e) (n + 1) us) o)
   by None more = refl
   by (Some e) more = more e ∙ first e (read_units unit_from next_place (next_place place e) (n + 1) us)

@@ -61,7 +61,7 @@ decl_past q (x ∷ ds) zero ge le z = absurd (omega (arith, ge))
 decl_past q (x ∷ ds) (suc i) ge le z = ⊎_elim
     (λ c. absurd (let k = ap one_if c in omega (arith, k, z)))
     (λ c. ap suc (decl_past q ds i (omega (arith, ge)) (omega (arith, le)) (omega (arith, z)))
-      ∙ sym (if_false (name_eq x.name q) 0 (suc (place_of_name q (decl_names ds))) c))
+    ∙ sym (if_false (name_eq x.name q) 0 (suc (place_of_name q (decl_names ds))) c))
     (cases_bool (name_eq x.name q))
 
 -- the place of a declaration that is there

@@ -68,7 +68,7 @@ place_below [] q lt = absurd (omega (arith, lt))
 place_below (w ∷ ws) q lt = ⊎_elim
     (λ c. let e = if_true (name_eq w q) 0 (suc (place_of_name q ws)) c.1 in omega (arith, e))
     (λ c. let e = if_false (name_eq w q) 0 (suc (place_of_name q ws)) c.1 in let z = ap one_if c.1
-      in let i = place_below ws q (omega (arith, z, lt)) in omega (arith, e, i))
+    in let i = place_below ws q (omega (arith, z, lt)) in omega (arith, e, i))
     (cases_name w q)
 
 -- the value at the place of a name
@@ -85,7 +85,7 @@ list_at_place [] q f h lt l = absurd (omega (arith, lt))
 list_at_place (w ∷ ws) q f h lt l = ⊎_elim
     (λ c. ap h (sym c.0) ∙ l.0 ∙ ap f (sym (if_true (name_eq w q) 0 (suc (place_of_name q ws)) c.1)))
     (λ c. list_at_place ws q (λ j. f (suc j)) h (let e = ap one_if c.1 in omega (arith, e, lt)) l.1
-      ∙ ap f (sym (if_false (name_eq w q) 0 (suc (place_of_name q ws)) c.1)))
+    ∙ ap f (sym (if_false (name_eq w q) 0 (suc (place_of_name q ws)) c.1)))
     (cases_name w q)
 
 -- how often a name stands in spliced lists

@@ -77,7 +77,7 @@ front_map f ws ls zero x = refl
 front_map f ws ls (suc n) x =
     ap (λ o. and_more o (found_front (collected_at ws (map (map f) ls)) n (suc x))) (item_map f ws ls x)
     ∙ more_map f (collected_at ws ls x) (found_front (collected_at ws ls) n (suc x)) (found_front (collected_at ws (map (map f) ls)) n (suc x))
-      (front_map f ws ls n (suc x))
+    (front_map f ws ls n (suc x))
 
 size_map : {A B : Type 0} (f : A → B) (ls : List (List A)) → size_of (map (map f) ls) ≡ size_of ls
 size_map f [] = refl

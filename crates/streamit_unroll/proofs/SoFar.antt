@@ -177,7 +177,7 @@ turns_next e b n low v end first now next out out' out'' lt f r = record {
       f.all_is
       ∙ ap (λ vs. behind (in_turn (map step f.added)) (unrolled (steps_of e b) n vs (at_of now))) (numbers_more v end lt)
       ∙ ap (behind (in_turn (map step f.added))) (turns_ok (steps_of e b) n v (numbers_from (v + 1) (end - (v + 1))) (at_of now)
-        (in_turn (map step r.0)) (at_of next) r.2)
+      (in_turn (map step r.0)) (at_of next) r.2)
       ∙ behind_both (in_turn (map step f.added)) (in_turn (map step r.0)) rest
       ∙ ap (λ a. behind a rest) (joined-in_turn (map step f.added) (map step r.0) ∙ ap in_turn (sym (map-append step f.added r.0)));
   names = r.3 ∙ f.names;
