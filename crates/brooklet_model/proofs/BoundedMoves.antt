@@ -14,7 +14,8 @@ use Rattle.brooklet_model.specs.Histories.{History, joined}
 use Rattle.brooklet_model.specs.Machine.{Machine, Step, fired, at_name}
 use Rattle.brooklet_model.proofs.Lists.{if_true, if_false, funext}
 use Rattle.brooklet_model.proofs.Traces.{at_most, one_place, got_count}
-use Rattle.brooklet_model.specs.Bounded.{Bounded, Capacities, history, machine_of, HasRoom, IsWithin, passed, took, Send, Take, Moves, HasIn, IsBusy, LastMoves}
+use Rattle.brooklet_model.specs.Bounded.{Bounded, Capacities, history, machine_of, QueueHasRoom, IsWithinCapacities, after_sending, after_taking}
+use Rattle.brooklet_model.specs.Bounded.{Send, Take, Moves, HasIn, IsBusy, LastMoves}
 use Rattle.brooklet_model.specs.NetLaws.{SomeMove, MovesAreSteps}
 use Rattle.brooklet_model.proofs.Received.{got_mid, writer_before}
 
@@ -118,7 +119,7 @@ some_move_law p caps b o op v lc g k = ⊎_elim
     (λ q. absurd (busy_quiet b op k (q o op g)))
     (last_busy b p.ops)
   where
-    room : (l : LastBusy b p.ops) (port : ℕ) (q : Name) → slice_get l.op.writes port ≡ Some q → HasRoom p caps b q
+    room : (l : LastBusy b p.ops) (port : ℕ) (q : Name) → slice_get l.op.writes port ≡ Some q → QueueHasRoom p caps b q
     room l port q is = ⊎_elim
         (λ lt. let r = reader_of p.ops q lt in
         let lt1 = reader_behind p v l.at r.0 l.op r.1 q l.op_is (got_count l.op.writes port q is) r.2 r.3 in
@@ -132,7 +133,7 @@ some_move_law p caps b o op v lc g k = ⊎_elim
     send l i =
         let h = head_of (b.pending i.1) i.3 in (
           i.0,
-          passed i.1 h.0 h.1 b,
+          after_sending i.1 h.0 h.1 b,
           inl (record {
             op = l.op;
             queue = i.1;
@@ -152,7 +153,7 @@ some_move_law p caps b o op v lc g k = ⊎_elim
         (λ n.
         let h = head_of (b.left i.1) i.3 in (
           i.0,
-          took (table_names p.tables) l.at l.op i.0 i.1 h.0 h.1 b,
+          after_taking (table_names p.tables) l.at l.op i.0 i.1 h.0 h.1 b,
           inr (record {
             op = l.op;
             queue = i.1;
@@ -183,7 +184,7 @@ some_move_law p caps b o op v lc g k = ⊎_elim
 
 -- a send changes no history
 pub passed_history : (q : Name) (x : item.Item) (rest : List item.Item) (b : Bounded) → b.pending q ≡ x ∷ rest → (n : Name)
-    → history (passed q x rest b) n ≡ history b n
+    → history (after_sending q x rest b) n ≡ history b n
 passed_history q x rest b e n = ⊎_elim
     (λ c.
     ap (λ l. (b.taken n ++ l) ++ at_name q rest b.pending n) (if_true (name_eq q n) (b.left q ++ x ∷ []) (b.left n) c.1)
@@ -227,8 +228,8 @@ with_parts s hist taken a b = λ i. record { hist = a i; taken = b i; kept = s.k
 module _ (p : PlanForm) (caps : Capacities) where
   pub sends_same : (b b' : Bounded) (o port : ℕ) → Send p caps b o port b' → machine_of b' ≡ machine_of b
   sends_same b b' o port m =
-      let same = funext (history (passed m.queue m.item m.rest b)) (history b) (passed_history m.queue m.item m.rest b m.item_is) in
-      ap machine_of m.after ∙ with_parts (machine_of b) (history (passed m.queue m.item m.rest b)) (λ n. length (b.taken n)) same refl
+      let same = funext (history (after_sending m.queue m.item m.rest b)) (history b) (passed_history m.queue m.item m.rest b m.item_is) in
+      ap machine_of m.after ∙ with_parts (machine_of b) (history (after_sending m.queue m.item m.rest b)) (λ n. length (b.taken n)) same refl
 
   pub takes_step : (b b' : Bounded) (o port : ℕ) → IsPlan p → Take p b o port b' → Step p (machine_of b) o port (machine_of b')
   takes_step b b' o port v m =
@@ -245,21 +246,21 @@ module _ (p : PlanForm) (caps : Capacities) where
             ∙ ap (λ l. slice_get l (length (b.taken q))) (append_assoc (b.taken q) (x ∷ m.rest) (b.pending q))
             ∙ got_mid (b.taken q) (m.rest ++ b.pending q) x (length (b.taken q)) refl;
         after = ap machine_of m.after ∙ with_parts (fired (table_names p.tables) o m.op port q x (machine_of b))
-            (history (took (table_names p.tables) o m.op port q x m.rest b))
+            (history (after_taking (table_names p.tables) o m.op port q x m.rest b))
             (λ n. length (at_name q (b.taken q ++ x ∷ []) b.taken n)) hist_is (funext (λ n. length (at_name q (b.taken q ++ x ∷ []) b.taken n))
             (at_name q (length (b.taken q) + 1) (λ n. length (b.taken n))) (took_taken q x b));
       }
     where
-      hist_is : history (took (table_names p.tables) o m.op port m.queue m.item m.rest b)
+      hist_is : history (after_taking (table_names p.tables) o m.op port m.queue m.item m.rest b)
           ≡ (fired (table_names p.tables) o m.op port m.queue m.item (machine_of b)).hist
-      hist_is = funext (history (took (table_names p.tables) o m.op port m.queue m.item m.rest b))
+      hist_is = funext (history (after_taking (table_names p.tables) o m.op port m.queue m.item m.rest b))
           (fired (table_names p.tables) o m.op port m.queue m.item (machine_of b)).hist
           (λ n. let r = fire m.op.kernel port m.item (b.kept o) in
           ap (λ l. l ++ (b.pending n ++ joined m.op.writes r.outs n)) (took_sent m.queue m.item m.rest b m.item_is n)
           ∙ sym (append_assoc (b.taken n ++ b.left n) (b.pending n) (joined m.op.writes r.outs n)))
 
   -- sends keep the capacities
-  pub sends_keep : (b b' : Bounded) (o port : ℕ) → Send p caps b o port b' → IsWithin p caps b → IsWithin p caps b'
+  pub sends_keep : (b b' : Bounded) (o port : ℕ) → Send p caps b o port b' → IsWithinCapacities p caps b → IsWithinCapacities p caps b'
   sends_keep b b' o port m w q lw lr =
       let e = ap (λ (c : Bounded). length (c.left q)) m.after in
       ⊎_elim
@@ -274,7 +275,7 @@ module _ (p : PlanForm) (caps : Capacities) where
       (cases_name m.queue q)
 
   -- and so do takes
-  pub takes_keep : (b b' : Bounded) (o port : ℕ) → Take p b o port b' → IsWithin p caps b → IsWithin p caps b'
+  pub takes_keep : (b b' : Bounded) (o port : ℕ) → Take p b o port b' → IsWithinCapacities p caps b → IsWithinCapacities p caps b'
   takes_keep b b' o port m w q lw lr =
       let e = ap (λ (c : Bounded). length (c.left q)) m.after in
       let old = w q lw lr in

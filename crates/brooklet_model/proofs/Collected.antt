@@ -15,7 +15,7 @@ use Rattle.brooklet_model.specs.Fire.{join_one}
 use Rattle.brooklet_model.specs.Words.{Word, run, word_of, port_by_port}
 use Rattle.brooklet_model.proofs.Drained.{put_drain}
 use Rattle.brooklet_model.proofs.Joins.{join_keeps}
-use Rattle.brooklet_model.specs.ByIndex.{cycle, branch, within, number_at, item_at, and_more, size_of, collected}
+use Rattle.brooklet_model.specs.ByIndex.{cycle, branch, within, number_at, collected_at, and_more, size_of, collected}
 use Rattle.brooklet_model.specs.ByIndex as index
 use Rattle.brooklet_model.proofs.Cycles.{Positive, next_turn, first_turn, taken, taken_none, taken_here, taken_same, taken_other}
 
@@ -165,13 +165,13 @@ next_is ws x rs pos lt =
     turns a b = record { port = a; had = b; lists = rest_at rs (branch ws x) }
 
 passes_front : (ws : List ℕ) (ls rs : List (List item.Item)) (n x : ℕ) → Positive ws → 0 < cycle ws → IsLeft ws ls rs x
-    → (drain (front_of itself) (passed ws) n (at_turn ws x rs)).0 ≡ index.front_of (item_at ws ls) n x
+    → (drain (front_of itself) (passed ws) n (at_turn ws x rs)).0 ≡ index.found_front (collected_at ws ls) n x
 passes_front ws ls rs zero x pos lt left = refl
 passes_front ws ls rs (suc n) x pos lt left =
     let s = at_turn ws x rs in
     let b = branch ws x in
     let on = λ (o : Option (List item.Item)). (pass_on (passed ws) s (drain (front_of itself) (passed ws) n) o).0 in
-    let more = λ (o : Option item.Item). and_more o (index.front_of (item_at ws ls) n (suc x)) in
+    let more = λ (o : Option item.Item). and_more o (index.found_front (collected_at ws ls) n (suc x)) in
     let here : list_at rs b ≡ drop (number_at ws x) (list_at ls b) = left.each b ∙ ap (λ k. drop k (list_at ls b)) (taken_here ws x lt) in
     cases_list (list_at rs b)
     (λ e. ap on (front_at_none rs b e) ∙ sym (ap more (got_none (list_at ls b) (number_at ws x) (sym here ∙ e))))
@@ -194,7 +194,7 @@ settles ws ls pos lt =
     let go = λ (a b : ℕ). (drain (front_of itself) (passed ws) (waiting ls) (record { port = a; had = b; lists = ls })).0 in
     ap (λ a. go a 0) (sym f.0) ∙ ap (go (branch ws 0)) (sym f.1)
     ∙ passes_front ws ls ls (waiting ls) 0 pos lt (record { each = λ p. ap (λ k. drop k (list_at ls p)) (sym (taken_none ws p lt)) })
-    ∙ ap (λ n. index.front_of (item_at ws ls) n 0) (waiting_is ls)
+    ∙ ap (λ n. index.found_front (collected_at ws ls) n 0) (waiting_is ls)
 
 -- THE LISTS THAT CAME, PORT BY PORT
 

@@ -19,7 +19,7 @@ use Rattle.river_plan.specs.Valid.{IsPlan}
 use Rattle.river_plan.proofs.NameLemmas.{cases_name, more_or_zero}
 use Rattle.brooklet_model.specs.Firings.{Kept, Fired, and_then, Same}
 use Rattle.brooklet_model.specs.Fire.{fire, ins, first_kept}
-use Rattle.brooklet_model.specs.Histories.{History, lists_of, given, histories, joined, tables_of, adds, all_adds, inputs_of, lengths, Lists, Solves}
+use Rattle.brooklet_model.specs.Histories.{History, lists_of, given_on, histories, joined, tables_of, adds, all_adds, inputs_of, lengths, Lists, Solves}
 use Rattle.brooklet_model.specs.Laws.{given_to, RunsAgree}
 use Rattle.brooklet_model.specs.Machine.{Machine, at_key, fired, Run, IsComplete, first_of, times}
 use Rattle.brooklet_model.specs.Traced.{ran, Traced}
@@ -232,7 +232,7 @@ module _ (pl : PlanForm) (inputs : History) (v : IsPlan pl) (empty : (q : Name) 
   came s ws o op t done g p q is = (t.taken o op g p q is).0 ∙ ap (λ n. take n (s.hist q)) (done o p op q g is) ∙ take-length (s.hist q)
 
   operator_is : (s : Machine) (ws : ℕ → Word) (o : ℕ) (op : OpForm) → Traced tables ops inputs s ws → IsComplete pl s → slice_get ops o ≡ Some op
-      → Alike (ran op (ws o)) (given op s.hist)
+      → Alike (ran op (ws o)) (given_on op s.hist)
   operator_is s ws o op t done g =
       let fit : IsFit pl op = each_at (IsFit pl) ops o op v.fits g in
       let e = reads_are pl v o op g in
@@ -253,7 +253,7 @@ module _ (pl : PlanForm) (inputs : History) (v : IsPlan pl) (empty : (q : Name) 
       let w = traced_run es (started pl inputs) s (λ o. []) traced_start r in
       let t = w.1 in
       let all = plan_unique pl v inputs s.hist t.unwritten
-      (each_of (Solves s.hist) ops (λ o op g. lists_cong op.writes (ran op (w.0 o)).outs (given op s.hist).outs s.hist (operator_is s w.0 o op t done g).outs (t.written_by o op g))) in
+      (each_of (Solves s.hist) ops (λ o op g. lists_cong op.writes (ran op (w.0 o)).outs (given_on op s.hist).outs s.hist (operator_is s w.0 o op t done g).outs (t.written_by o op g))) in
       let same : s.hist ≡ histories ops inputs = funext s.hist (histories ops inputs) all in (
         all,
         λ u test.
@@ -262,7 +262,7 @@ module _ (pl : PlanForm) (inputs : History) (v : IsPlan pl) (empty : (q : Name) 
             (λ i op g.
             let z : 0 + i ≡ i = omega arith in
             ap (λ n. count_by test (joined (tabs op) (ran op (w.0 n)).adds u)) z
-            ∙ joined_bag test (tabs op) (ran op (w.0 i)).adds (given op s.hist).adds u (operator_is s w.0 i op t done g).adds
+            ∙ joined_bag test (tabs op) (ran op (w.0 i)).adds (given_on op s.hist).adds u (operator_is s w.0 i op t done g).adds
             ∙ ap (λ n. adds_it tables s.hist u test op) z) in
             let c = numbered_total (adds_it tables s.hist u test) ops 0 in
             let d = adds_total tables ops s.hist u test in

@@ -14,7 +14,7 @@ use Rattle.river_plan.specs.Valid.{IsPlan}
 use Rattle.river_plan.proofs.NameLemmas.{cases_name, more_or_zero}
 use Rattle.brooklet_model.specs.Firings.{Kept, Fired, and_then, Same}
 use Rattle.brooklet_model.specs.Fire.{fire, ins, first_kept}
-use Rattle.brooklet_model.specs.Histories.{History, lists_of, given, hist, Lists, Solves}
+use Rattle.brooklet_model.specs.Histories.{History, lists_of, given_on, hist, Lists, Solves}
 use Rattle.brooklet_model.specs.Laws.{given_to}
 use Rattle.brooklet_model.specs.Machine.{start}
 use Rattle.brooklet_model.specs.Shapes.{IsShaped, HasShape}
@@ -140,7 +140,7 @@ module _ (p : PlanForm) (inputs : List (List item.Item)) (v : IsPlan p) (ws : â„
       (Î» o op g e n ln.
       let fit : IsFit p op = each_at (IsFit p) p.ops o op v.fits g in
       let s = shaped op.kernel _ _ _ fit in
-      lists_front op.writes (ran op (ws o)).outs (given op last).outs h last (a.written o op g) (each_at (Solves last) p.ops o op (plan_solves p v first) g)
+      lists_front op.writes (ran op (ws o)).outs (given_on op last).outs h last (a.written o op g) (each_at (Solves last) p.ops o op (plan_solves p v first) g)
       (fronts_give op.kernel (ws o) (first_kept op.kernel) (lists_of last op.reads) s (first_shape op.kernel s) (below_ins o op g)
       (at_ports o op last g e)) n ln))
       q (omega (arith, lt)))

@@ -22,7 +22,7 @@ use Rattle.brooklet_model.proofs.Solutions.{lists_one}
 use Rattle.brooklet_model.proofs.Swaps.{at_port_here, count_by-append}
 use Rattle.brooklet_model.proofs.Traces.{got_count, read_of, at_key_same, at_key_other, numbered_same}
 use Rattle.river_base.specs.Places.{list_at}
-use Rattle.brooklet_model.specs.Received.{hist_by, added, AreWords, events, named_from, named_run}
+use Rattle.brooklet_model.specs.Received.{hist_by, rows_added, AreWords, events, named_from, named_run}
 use Rattle.brooklet_model.specs.NetLaws.{NamedRuns}
 use Rattle.brooklet_model.proofs.Received.{got_mid, writer_before, by_words, unwritten_by, only_words}
 
@@ -74,10 +74,10 @@ times_named (op ∷ rest) o (suc i) ws lt =
 
 -- how often a row was added to a table is a sum over the operators with their numbers
 pub added_numbered : (tables : List Name) (ops : List OpForm) (o : ℕ) (ws : ℕ → Word) (t : Name) (test : List ℤ → Bool)
-    → count_by test (added tables o ops ws t) ≡ sum_numbered (λ i op. count_by test (joined (tables_of tables op) (ran op (ws i)).adds t)) o ops
+    → count_by test (rows_added tables o ops ws t) ≡ sum_numbered (λ i op. count_by test (joined (tables_of tables op) (ran op (ws i)).adds t)) o ops
 added_numbered tables [] o ws t test = refl
 added_numbered tables (op ∷ ops) o ws t test =
-    let a = count_by-append test (joined (tables_of tables op) (ran op (ws o)).adds t) (added tables (suc o) ops ws t) in
+    let a = count_by-append test (joined (tables_of tables op) (ran op (ws o)).adds t) (rows_added tables (suc o) ops ws t) in
     let b = added_numbered tables ops (suc o) ws t test in
     omega (arith, a, b)
 

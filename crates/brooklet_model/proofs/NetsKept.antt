@@ -24,7 +24,7 @@ use Rattle.brooklet_model.proofs.Lists.{if_true, if_false, funext}
 use Rattle.brooklet_model.proofs.Swaps.{count_by-append, at_port_here, at_port_past}
 use Rattle.brooklet_model.proofs.Free.{at_port-append}
 use Rattle.brooklet_model.proofs.Traces.{some_is, at_most, joined_out, one_place, got_count, place_once, at_same, at_key_same, at_key_other}
-use Rattle.brooklet_model.specs.Bounded.{Bounded, Capacities, history, sent, at_first, IsWithin, IsBusy, took, Send, Take}
+use Rattle.brooklet_model.specs.Bounded.{Bounded, Capacities, history, sent, at_first, IsWithinCapacities, IsBusy, after_taking, Send, Take}
 use Rattle.brooklet_model.specs.NetLaws.{NetsAreKept}
 use Rattle.brooklet_model.specs.Nets.{IsNet, Leads, and_took, sent_count_in}
 use Rattle.brooklet_model.specs.Received.{hist_by, AreWords, AreDone, IsFront, named_run, lengths_at}
@@ -93,7 +93,7 @@ module _ (p : PlanForm) (inputs : List (List item.Item)) (caps : Capacities) (v 
             if_false (name_eq m.queue q) m.rest (b.pending q) (not_written o m.op port m.queue q m.op_is m.queue_is z) ∙ n.unwritten q z;
         kept = n.kept;
         rows = n.rows;
-        within = subst (IsWithin p caps) m.after (sends_keep p caps b b' o port m n.within);
+        within = subst (IsWithinCapacities p caps) m.after (sends_keep p caps b b' o port m n.within);
       })
 
   net_takes : (ws : ℕ → Word) (b b' : Bounded) (o port : ℕ) → (m : Take p b o port b') → IsNet p inputs caps ws b
@@ -128,7 +128,7 @@ module _ (p : PlanForm) (inputs : List (List item.Item)) (caps : Capacities) (v 
             let y = added_numbered tables p.ops 0 ws u test in
             let z = n.rows u test in
             omega (arith, a, c, d, e, f, x, y, z);
-        within = subst (IsWithin p caps) m.after (takes_keep p caps b b' o port m n.within);
+        within = subst (IsWithinCapacities p caps) m.after (takes_keep p caps b b' o port m n.within);
       })
     where
       q : Name
@@ -175,7 +175,7 @@ module _ (p : PlanForm) (inputs : List (List item.Item)) (caps : Capacities) (v 
       w : AreWords p inputs ws' × ((x : Name) → s1.hist x ≡ hist_by p inputs ws' x)
       w = traced_words p inputs s1 ws' v t1
 
-      hist_is : (x : Name) → history (took (table_names p.tables) o m.op port q m.item m.rest b) x ≡ hist_by p inputs ws' x
+      hist_is : (x : Name) → history (after_taking (table_names p.tables) o m.op port q m.item m.rest b) x ≡ hist_by p inputs ws' x
       hist_is x =
           ap (λ l. l ++ (b.pending x ++ joined m.op.writes r.outs x)) (took_sent q m.item m.rest b m.item_is x)
           ∙ sym (append_assoc (b.taken x ++ b.left x) (b.pending x) (joined m.op.writes r.outs x))

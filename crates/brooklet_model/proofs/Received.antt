@@ -13,7 +13,7 @@ use Rattle.brooklet_model.specs.Words.{Word}
 use Rattle.brooklet_model.proofs.Solutions.{written_out, lists_written, lists_one}
 use Rattle.brooklet_model.proofs.Traces.{some_is}
 use Rattle.brooklet_model.specs.Traced.{ran}
-use Rattle.brooklet_model.specs.Received.{came, hist_by}
+use Rattle.brooklet_model.specs.Received.{hist_from, hist_by}
 
 -- the item behind a list of n items is at place n
 pub got_mid : {A : Type 0} (xs ys : List A) (x : A) (n : ℕ) → length xs ≡ n → slice_get (xs ++ x ∷ ys) n ≡ Some x
@@ -42,7 +42,7 @@ writer_before (a ∷ ops) known (suc o) op q g lt r = ⊎_elim
     (writer_before ops (and_writes known a) o op q g lt r.1)
 
 -- what is not written stays
-came_out : (ops : List OpForm) (o : ℕ) (ws : ℕ → Word) (h : History) (q : Name) → total (writes_it q) ops ≡ 0 → came o ops ws h q ≡ h q
+came_out : (ops : List OpForm) (o : ℕ) (ws : ℕ → Word) (h : History) (q : Name) → total (writes_it q) ops ≡ 0 → hist_from o ops ws h q ≡ h q
 came_out [] o ws h q z = refl
 came_out (op ∷ ops) o ws h q z = came_out ops (suc o) ws (written op.writes (ran op (ws o)).outs h) q (omega (arith, z))
     ∙ written_out op.writes (ran op (ws o)).outs h q (omega (arith, z))
@@ -50,18 +50,18 @@ came_out (op ∷ ops) o ws h q z = came_out ops (suc o) ws (written op.writes (r
 -- what an operator gives is the histories that it writes, since nobody else writes them
 came_lists : (ops : List OpForm) (o : ℕ) (ws : ℕ → Word) (h : History) → ((q : Name) → total (writes_it q) ops ≤ 1) → (i : ℕ) (op : OpForm)
     → slice_get ops i ≡ Some op
-    → Lists op.writes (ran op (ws (o + i))).outs (came o ops ws h)
+    → Lists op.writes (ran op (ws (o + i))).outs (hist_from o ops ws h)
 came_lists [] o ws h once i op g = absurd (cc g)
 came_lists (a ∷ ops) o ws h once zero op g =
     let z : o ≡ o + 0 = omega arith in
-    subst (λ (b : OpForm). Lists b.writes (ran b (ws (o + 0))).outs (came o (a ∷ ops) ws h)) (some_is a op g)
-    (subst (λ n. Lists a.writes (ran a (ws n)).outs (came o (a ∷ ops) ws h)) z
-    (lists_written a.writes (ran a (ws o)).outs h (came o (a ∷ ops) ws h)
+    subst (λ (b : OpForm). Lists b.writes (ran b (ws (o + 0))).outs (hist_from o (a ∷ ops) ws h)) (some_is a op g)
+    (subst (λ n. Lists a.writes (ran a (ws n)).outs (hist_from o (a ∷ ops) ws h)) z
+    (lists_written a.writes (ran a (ws o)).outs h (hist_from o (a ∷ ops) ws h)
     (λ q. let w = once q in omega (arith, w))
     (λ q lt. came_out ops (suc o) ws (written a.writes (ran a (ws o)).outs h) q (let w = once q in omega (arith, w, lt)))))
 came_lists (a ∷ ops) o ws h once (suc i) op g =
     let z : suc o + i ≡ o + suc i = omega arith in
-    subst (λ n. Lists op.writes (ran op (ws n)).outs (came o (a ∷ ops) ws h)) z
+    subst (λ n. Lists op.writes (ran op (ws n)).outs (hist_from o (a ∷ ops) ws h)) z
     (came_lists ops (suc o) ws (written a.writes (ran a (ws o)).outs h) (λ q. let w = once q in omega (arith, w)) i op g)
 
 -- each operator's outputs are the histories of the queues that it writes

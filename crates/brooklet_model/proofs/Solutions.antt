@@ -8,7 +8,7 @@ use Rattle.river_plan.specs.Uses.{Each, total, writes_it, and_writes, ReadsBefor
 use Rattle.river_plan.specs.Valid.{IsPlan}
 use Rattle.river_plan.proofs.NameLemmas.{cases_name, one_same, more_or_zero}
 use Rattle.brooklet_model.specs.Fire.{first_kept}
-use Rattle.brooklet_model.specs.Histories.{History, lists_of, given, written, histories, Lists, Solves}
+use Rattle.brooklet_model.specs.Histories.{History, lists_of, given_on, written, histories, Lists, Solves}
 use Rattle.brooklet_model.specs.Laws.{given_to, HistoriesSolve, OneSolution}
 use Rattle.brooklet_model.specs.Words.{feed_all}
 use Rattle.brooklet_model.proofs.Lists.{if_true, if_false, funext}
@@ -31,7 +31,7 @@ pub lists_same : (h h' : History) (rs : List Name) → ((q : Name) → 0 < count
 lists_same h h' rs e = funext (lists_of h rs) (lists_of h' rs) (lists_by_place h h' rs e)
 
 -- an operator gives the same for histories that agree at what it reads
-pub given_same : (op : OpForm) (h h' : History) → ((q : Name) → 0 < count q op.reads → h q ≡ h' q) → given op h ≡ given op h'
+pub given_same : (op : OpForm) (h h' : History) → ((q : Name) → 0 < count q op.reads → h q ≡ h' q) → given_on op h ≡ given_on op h'
 given_same op h h' e = ap (λ l. feed_all op.kernel l (first_kept op.kernel)) (lists_same h h' op.reads e)
 
 -- two that have these lists are the same there
@@ -47,9 +47,9 @@ pub unique : (ops : List OpForm) (known : Name → ℕ) (h h' : History) → ((q
 unique [] known h h' e r s s' q lt = e q (omega (arith, lt))
 unique (op ∷ ops) known h h' e r s s' q lt =
     let g = given_same op h h' (λ p lp. e p (r.0 p lp)) in
-    let s1 : Lists op.writes (given op h').outs h = subst (λ f. Lists op.writes f.outs h) g s.0 in
+    let s1 : Lists op.writes (given_on op h').outs h = subst (λ f. Lists op.writes f.outs h) g s.0 in
     unique ops (and_writes known op) h h'
-    (λ p lp. ⊎_elim (λ k. e p k) (λ z. lists_one op.writes (given op h').outs h h' s1 s'.0 p (omega (arith, lp, z))) (more_or_zero (known p)))
+    (λ p lp. ⊎_elim (λ k. e p k) (λ z. lists_one op.writes (given_on op h').outs h h' s1 s'.0 p (omega (arith, lp, z))) (more_or_zero (known p)))
     r.1 s.1 s'.1 q (omega (arith, lt))
 
 -- what is not written stays
@@ -63,7 +63,7 @@ written_out (w ∷ ws) f h q z = ⊎_elim
 -- a queue that no operator writes keeps its history
 pub stays : (ops : List OpForm) (h : History) (q : Name) → total (writes_it q) ops ≡ 0 → histories ops h q ≡ h q
 stays [] h q z = refl
-stays (op ∷ ops) h q z = stays ops (written op.writes (given op h).outs h) q (omega (arith, z)) ∙ written_out op.writes (given op h).outs h q (omega (arith, z))
+stays (op ∷ ops) h q z = stays ops (written op.writes (given_on op h).outs h) q (omega (arith, z)) ∙ written_out op.writes (given_on op h).outs h q (omega (arith, z))
 
 -- a list whose names stand once each is written place by place
 pub lists_written : (ws : List Name) (f : ℕ → List item.Item) (h g : History) → ((q : Name) → count q ws ≤ 1)
@@ -83,13 +83,13 @@ pub solves : (ops : List OpForm) (known : Name → ℕ) (h : History) → ReadsB
     → ((q : Name) → total (writes_it q) ops ≤ 1) → Each (Solves (histories ops h)) ops
 solves [] known h r k once = tt
 solves (op ∷ ops) known h r k once =
-    let h1 = written op.writes (given op h).outs h in
+    let h1 = written op.writes (given_on op h).outs h in
     let last = histories ops h1 in
-    let g : given op h ≡ given op last = given_same op h last (λ q lt.
+    let g : given_on op h ≡ given_on op last = given_same op h last (λ q lt.
     let z = k q (r.0 q lt) in
-    sym (stays ops h1 q (omega (arith, z)) ∙ written_out op.writes (given op h).outs h q (omega (arith, z)))) in (
+    sym (stays ops h1 q (omega (arith, z)) ∙ written_out op.writes (given_on op h).outs h q (omega (arith, z)))) in (
       subst (λ f. Lists op.writes f.outs last) g
-          (lists_written op.writes (given op h).outs h last
+          (lists_written op.writes (given_on op h).outs h last
           (λ q. let o = once q in omega (arith, o))
           (λ q lt. stays ops h1 q (let o = once q in omega (arith, o, lt)))),
       solves ops (and_writes known op) h1 r.1

@@ -13,7 +13,7 @@ use Rattle.river_plan.specs.Names.{one_if, count}
 use Rattle.river_plan.specs.Uses.{Each, total}
 use Rattle.river_plan.proofs.NameLemmas.{cases_name, one_same}
 use Rattle.brooklet_model.specs.Firings.{Kept, Fired, and_then, Same}
-use Rattle.brooklet_model.specs.Histories.{History, lists_of, given, joined, tables_of, adds, lengths, Lists}
+use Rattle.brooklet_model.specs.Histories.{History, lists_of, given_on, joined, tables_of, adds, lengths, Lists}
 use Rattle.brooklet_model.specs.Machine.{at_key}
 use Rattle.brooklet_model.specs.Traced.{sum_numbered}
 use Rattle.river_base.specs.Bags.{SameBag}
@@ -250,7 +250,7 @@ lists_agree (w ∷ ws) f h h' e l = (sym (e w (count_here w ws)) ∙ l.0, lists_
 
 -- what an operator adds to a table, counted, and what all do
 abbrev pub adds_it : List Name → History → Name → (List ℤ → Bool) → OpForm → ℕ
-adds_it tables h t test op = count_by test (joined (tables_of tables op) (given op h).adds t)
+adds_it tables h t test op = count_by test (joined (tables_of tables op) (given_on op h).adds t)
 
 -- how many of the rows that all operators add to a table pass a test
 pub adds_total : (tables : List Name) (ops : List OpForm) (h : History) (t : Name) (test : List ℤ → Bool)
@@ -258,7 +258,7 @@ pub adds_total : (tables : List Name) (ops : List OpForm) (h : History) (t : Nam
 adds_total tables [] h t test = refl
 adds_total tables (op ∷ ops) h t test =
     let e = adds_total tables ops h t test in
-    let c = count_by-append test (joined (tables_of tables op) (given op h).adds t) (adds tables ops h t) in
+    let c = count_by-append test (joined (tables_of tables op) (given_on op h).adds t) (adds tables ops h t) in
     omega (arith, e, c)
 
 -- HOW MANY FIRINGS THERE ARE

@@ -21,7 +21,7 @@ use Rattle.river_plan.specs.Valid.{IsPlan}
 use Rattle.river_plan.proofs.NameLemmas.{cases_name, count-append, more_or_zero}
 use Rattle.brooklet_model.specs.Firings.{Kept}
 use Rattle.brooklet_model.specs.Fire.{fire, ins, first_kept}
-use Rattle.brooklet_model.specs.Histories.{History, lists_of, given, hist, joined, inputs_of, Lists, Solves}
+use Rattle.brooklet_model.specs.Histories.{History, lists_of, given_on, hist, joined, inputs_of, Lists, Solves}
 use Rattle.brooklet_model.specs.Laws.{HistoriesAreTyped}
 use Rattle.brooklet_model.specs.Machine.{Machine, at_key, fired, Step, first_of, start}
 use Rattle.brooklet_model.specs.Shapes.{HasShape}
@@ -165,7 +165,7 @@ module _ (p : PlanForm) (v : IsPlan p) where
 
   -- what an operator gives on inputs of their types
   pub given_typed : (o : ℕ) (op : OpForm) (h : History) → slice_get p.ops o ≡ Some op → ((q : Name) → 0 < count q op.reads → All (HasType (kinds q)) (h q))
-      → AreOf (map kinds op.writes) (given op h).outs
+      → AreOf (map kinds op.writes) (given_on op h).outs
   given_typed o op h g e =
       let f = op_fits p v o op g in
       let s = shaped op.kernel _ _ _ f in
@@ -181,7 +181,7 @@ module _ (p : PlanForm) (v : IsPlan p) where
       (λ lt.
       by_order (λ x. All (HasType (kinds x)) (hist p inputs x)) p.ops (λ x. count x (decl_names p.inputs)) v.in_order
       (λ x lx. old x (let w = v.written_once x in omega (arith, w, lx)))
-      (each_of _ p.ops (λ o op s e x lx. writes_of kinds op.writes (given op (hist p inputs)).outs (hist p inputs) (given_typed o op (hist p inputs) s e) (each_at (Solves (hist p inputs)) p.ops o op (plan_solves p v g) s) x lx))
+      (each_of _ p.ops (λ o op s e x lx. writes_of kinds op.writes (given_on op (hist p inputs)).outs (hist p inputs) (given_typed o op (hist p inputs) s e) (each_at (Solves (hist p inputs)) p.ops o op (plan_solves p v g) s) x lx))
       q (omega (arith, lt)))
       (λ z. old q z)
       (more_or_zero (total (writes_it q) p.ops))

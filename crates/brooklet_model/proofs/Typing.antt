@@ -32,7 +32,7 @@ use Rattle.brooklet_model.specs.Firings.{Kept, Slots, Buffered, Turn, Joining, R
 use Rattle.brooklet_model.specs.Fire.{fire, outs, privates, first_kept, code_one, filter_firing, deal_one, join_one, received_one, cross_one, values_of}
 use Rattle.brooklet_model.specs.Fire.{value_of}
 use Rattle.brooklet_model.specs.Shapes.{IsOne, HasSlots, IsDealing, IsJoining, IsReceived, IsCrossing, HasShape, IsShaped}
-use Rattle.brooklet_model.specs.Typed.{IsTyped, IsOf, AreOf, AreWaiting, AreReceived, ArePaired, one_type, between, Holds}
+use Rattle.brooklet_model.specs.Typed.{IsTyped, IsOf, AreOf, AreWaiting, AreReceived, WaitAsTyped, one_type, between, Holds}
 use Rattle.brooklet_model.proofs.BagTypes.{window_typed, select_typed, project_typed, streamer_typed, PairTyped, cross_typed_left, cross_typed_right}
 use Rattle.kern_bags.specs.Steps.{Pairing, window_one, select_one, project_one, streamer_one, crosses}
 use Rattle.brooklet_model.proofs.Lists.{if_lt, if_ge, if_eq, if_ne, take_front, drop_front}
@@ -334,7 +334,7 @@ pair_of a b (suc zero) x s t k = cross_typed_right a b 0 x s t k
 pair_of a b (suc (suc p)) x s t k = absurd k
 
 cross_of : (a b : ℕ) (is os : List QueueType) (p : ℕ) (x : item.Item) (ss : List Kept) → is ≡ relation a ∷ relation b ∷ [] → os ≡ relation (a + b) ∷ []
-    → IsOne IsCrossing ss → ArePaired is ss → IsOf is p x → AreOf os (cross_one p x ss).outs × ArePaired is (cross_one p x ss).states
+    → IsOne IsCrossing ss → WaitAsTyped is ss → IsOf is p x → AreOf os (cross_one p x ss).outs × WaitAsTyped is (cross_one p x ss).states
 cross_of a b is os p x [] e g h t k = absurd h
 cross_of a b is os p x (Slots zs ∷ []) e g h t k = absurd h
 cross_of a b is os p x (Buffered s ∷ []) e g h t k = absurd h

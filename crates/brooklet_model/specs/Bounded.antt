@@ -47,20 +47,20 @@ at_first p inputs = record {
 }
 
 -- a queue with a writer and a reader holds at most its capacity
-abbrev pub IsWithin : PlanForm → Capacities → Bounded → Type 0
-IsWithin p caps b = (q : Name) → 0 < total (writes_it q) p.ops → 0 < total (reads_it q) p.ops → length (b.left q) ≤ caps q
+abbrev pub IsWithinCapacities : PlanForm → Capacities → Bounded → Type 0
+IsWithinCapacities p caps b = (q : Name) → 0 < total (writes_it q) p.ops → 0 < total (reads_it q) p.ops → length (b.left q) ≤ caps q
 
 -- a queue that nobody reads, as an output, always has room
-abbrev pub HasRoom : PlanForm → Capacities → Bounded → Name → Type 0
-HasRoom p caps b q = (total (reads_it q) p.ops ≡ 0) ⊎ (length (b.left q) < caps q)
+abbrev pub QueueHasRoom : PlanForm → Capacities → Bounded → Name → Type 0
+QueueHasRoom p caps b q = (total (reads_it q) p.ops ≡ 0) ⊎ (length (b.left q) < caps q)
 
 -- the item x, the front of what is pending for queue q, is sent there
-abbrev pub passed : Name → item.Item → List item.Item → Bounded → Bounded
-passed q x rest b = record b { left = at_name q (b.left q ++ x ∷ []) b.left; pending = at_name q rest b.pending }
+abbrev pub after_sending : Name → item.Item → List item.Item → Bounded → Bounded
+after_sending q x rest b = record b { left = at_name q (b.left q ++ x ∷ []) b.left; pending = at_name q rest b.pending }
 
 -- operator number o takes the item x, the front of what lies in queue q, at its port, and fires on it: what it gives is pending
-abbrev pub took : List Name → ℕ → OpForm → ℕ → Name → item.Item → List item.Item → Bounded → Bounded
-took tables o op port q x rest b =
+abbrev pub after_taking : List Name → ℕ → OpForm → ℕ → Name → item.Item → List item.Item → Bounded → Bounded
+after_taking tables o op port q x rest b =
     let r = fire op.kernel port x (b.kept o) in
     record {
       taken = at_name q (b.taken q ++ x ∷ []) b.taken;
@@ -79,8 +79,8 @@ pub record Send (p : PlanForm) (caps : Capacities) (b : Bounded) (o port : ℕ) 
   pub op_is : slice_get p.ops o ≡ Some op
   pub queue_is : slice_get op.writes port ≡ Some queue
   pub item_is : b.pending queue ≡ item ∷ rest
-  pub room : HasRoom p caps b queue
-  pub after : b' ≡ passed queue item rest b
+  pub room : QueueHasRoom p caps b queue
+  pub after : b' ≡ after_sending queue item rest b
 
 -- a take needs empty pending lists of the operator and an item that is not taken; it is a firing whose outputs become pending
 pub record Take (p : PlanForm) (b : Bounded) (o port : ℕ) (b' : Bounded) : Type 0 where
@@ -92,7 +92,7 @@ pub record Take (p : PlanForm) (b : Bounded) (o port : ℕ) (b' : Bounded) : Typ
   pub queue_is : slice_get op.reads port ≡ Some queue
   pub idle : (q : Name) → 0 < count q op.writes → b.pending q ≡ []
   pub item_is : b.left queue ≡ item ∷ rest
-  pub after : b' ≡ took (table_names p.tables) o op port queue item rest b
+  pub after : b' ≡ after_taking (table_names p.tables) o op port queue item rest b
 
 -- a move of operator number o at one of its ports
 abbrev pub Moves : PlanForm → Capacities → Bounded → ℕ → ℕ → Bounded → Type 0

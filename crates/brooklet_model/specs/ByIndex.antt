@@ -48,17 +48,17 @@ abbrev pub number_at : List ℕ → ℕ → ℕ
 number_at ws x = x / cycle ws * slice_index_or ws (branch ws x) 0 + within ws (x % cycle ws)
 
 -- this item, where it is there
-abbrev pub item_at : {A : Type 0} → List ℕ → List (List A) → ℕ → Option A
-item_at ws ls x = slice_get (list_at ls (branch ws x)) (number_at ws x)
+abbrev pub collected_at : {A : Type 0} → List ℕ → List (List A) → ℕ → Option A
+collected_at ws ls x = slice_get (list_at ls (branch ws x)) (number_at ws x)
 
 -- what f gives for the numbers from x on, n at most, as long as it gives something
 abbrev pub and_more : {A : Type 0} → Option A → List A → List A
 and_more None ys = []
 and_more (Some y) ys = y ∷ ys
 
-abbrev pub front_of : {A : Type 0} → (ℕ → Option A) → ℕ → ℕ → List A
-front_of f zero x = []
-front_of f (suc n) x = and_more (f x) (front_of f n (suc x))
+abbrev pub found_front : {A : Type 0} → (ℕ → Option A) → ℕ → ℕ → List A
+found_front f zero x = []
+found_front f (suc n) x = and_more (f x) (found_front f n (suc x))
 
 -- how many items the branches have
 abbrev pub size_of : {A : Type 0} → List (List A) → ℕ
@@ -67,7 +67,7 @@ size_of (l ∷ ls) = length l + size_of ls
 
 -- what a joiner collects: as many places as have their items
 abbrev pub collected : {A : Type 0} → List ℕ → List (List A) → List A
-collected ws ls = front_of (item_at ws ls) (size_of ls) 0
+collected ws ls = found_front (collected_at ws ls) (size_of ls) 0
 
 -- THE LAWS
 
@@ -87,5 +87,5 @@ CollectsByIndex =
 abbrev pub CollectsLongest : Type 0
 CollectsLongest =
     (weights : List ℤ) (ls : List (List item.Item)) → IsFormed (collect weights) → length ls ≡ length weights
-    → ((x : ℕ) → x < length (collected (shares weights) ls) → slice_get (collected (shares weights) ls) x ≡ item_at (shares weights) ls x)
-    × (item_at (shares weights) ls (length (collected (shares weights) ls)) ≡ None)
+    → ((x : ℕ) → x < length (collected (shares weights) ls) → slice_get (collected (shares weights) ls) x ≡ collected_at (shares weights) ls x)
+    × (collected_at (shares weights) ls (length (collected (shares weights) ls)) ≡ None)

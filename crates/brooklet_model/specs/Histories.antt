@@ -21,8 +21,8 @@ lists_of h (r ∷ rs) zero = h r
 lists_of h (r ∷ rs) (suc p) = lists_of h rs p
 
 -- all that an operator gives when it is fed with these histories of its inputs
-abbrev pub given : OpForm → History → Fired
-given op h = feed_all op.kernel (lists_of h op.reads) (first_kept op.kernel)
+abbrev pub given_on : OpForm → History → Fired
+given_on op h = feed_all op.kernel (lists_of h op.reads) (first_kept op.kernel)
 
 -- the histories, with those of these queues anew
 abbrev pub written : List Name → (ℕ → List item.Item) → History → History
@@ -32,7 +32,7 @@ written (w ∷ ws) f h q = if name_eq w q then f 0 else written ws (λ j. f (suc
 -- operator by operator, what each gives on the histories of its inputs
 abbrev pub histories : List OpForm → History → History
 histories [] h = h
-histories (op ∷ ops) h = histories ops (written op.writes (given op h).outs h)
+histories (op ∷ ops) h = histories ops (written op.writes (given_on op h).outs h)
 
 -- what these ports or tables give to this name, joined
 abbrev pub joined : {A : Type 0} → List Name → (ℕ → List A) → Name → List A
@@ -45,7 +45,7 @@ tables_of tables op = filter (λ v. nat_lt 0 (count v tables)) op.vars
 
 -- what an operator adds to a table, on these histories
 abbrev pub own_adds : List Name → History → Name → OpForm → List (List ℤ)
-own_adds tables h t op = joined (tables_of tables op) (given op h).adds t
+own_adds tables h t op = joined (tables_of tables op) (given_on op h).adds t
 
 -- what all operators add to a table, one after another
 abbrev pub adds : List Name → List OpForm → History → Name → List (List ℤ)
@@ -84,4 +84,4 @@ Lists (w ∷ ws) f h = (h w ≡ f 0) × Lists ws (λ j. f (suc j)) h
 
 -- the operator's equation: what it writes is what it gives on what it reads
 abbrev pub Solves : History → OpForm → Type 0
-Solves h op = Lists op.writes (given op h).outs h
+Solves h op = Lists op.writes (given_on op h).outs h

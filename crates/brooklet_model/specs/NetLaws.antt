@@ -4,11 +4,11 @@ use Rattle.river_base.specs.declared.item.Item as item
 use Rattle.river_base.specs.Bags.{SameBag}
 use Rattle.river_plan.specs.Forms.{Name, OpForm, PlanForm, table_names, queue_names}
 use Rattle.river_plan.specs.Valid.{IsPlan}
-use Rattle.brooklet_model.specs.Bounded.{Bounded, Capacities, at_first, machine_of, Send, Take, IsWithin, IsBusy, LastMoves, Rounds, MoveOrEnd}
-use Rattle.brooklet_model.specs.Histories.{hist, all_adds, given, lengths}
+use Rattle.brooklet_model.specs.Bounded.{Bounded, Capacities, at_first, machine_of, Send, Take, IsWithinCapacities, IsBusy, LastMoves, Rounds, MoveOrEnd}
+use Rattle.brooklet_model.specs.Histories.{hist, all_adds, given_on, lengths}
 use Rattle.brooklet_model.specs.Machine.{Machine, Run, Step, start}
 use Rattle.brooklet_model.specs.Nets.{IsNet, Leads, and_took, sent_count_in}
-use Rattle.brooklet_model.specs.Received.{AreWords, AreDone, Reaches, IsFront, hist_by, added, HasSent, lengths_at, moves_made}
+use Rattle.brooklet_model.specs.Received.{AreWords, AreDone, Reaches, IsFront, hist_by, rows_added, HasSent, lengths_at, moves_made}
 use Rattle.brooklet_model.specs.Traced.{ran}
 use Rattle.brooklet_model.specs.Words.{Word}
 
@@ -48,13 +48,13 @@ RoundsAreFew =
 -- where each operator received all that was given at its ports, its histories, its bags of rows and its firings are the defined ones
 pub record IsWhole (p : PlanForm) (inputs : List (List item.Item)) (ws : ℕ → Word) : Type 0 where
   pub queues : (q : Name) → hist_by p inputs ws q ≡ hist p inputs q
-  pub tables : (t : Name) → SameBag (added (table_names p.tables) 0 p.ops ws t) (all_adds p inputs t)
+  pub tables : (t : Name) → SameBag (rows_added (table_names p.tables) 0 p.ops ws t) (all_adds p inputs t)
   pub firings : (o : ℕ) (op : OpForm) → slice_get p.ops o ≡ Some op → length (ws o) ≡ lengths (hist p inputs) op.reads
   -- the rows of one operator to one table: those defined as a bag, and in order where it has one input
   pub bags : (o : ℕ) (op : OpForm) → slice_get p.ops o ≡ Some op → (t : ℕ)
-      → SameBag ((ran op (ws o)).adds t) ((given op (hist p inputs)).adds t)
+      → SameBag ((ran op (ws o)).adds t) ((given_on op (hist p inputs)).adds t)
   pub rows : (o : ℕ) (op : OpForm) → slice_get p.ops o ≡ Some op → length op.reads ≡ 1 → (t : ℕ)
-      → (ran op (ws o)).adds t ≡ (given op (hist p inputs)).adds t
+      → (ran op (ws o)).adds t ≡ (given_on op (hist p inputs)).adds t
 
 -- The end: where each operator received all that was given, all is as defined.
 abbrev pub DoneIsWhole : Type 0
@@ -72,8 +72,8 @@ SomeMove =
 pub record AreSteps (p : PlanForm) (caps : Capacities) : Type 0 where
   pub sends : (b b' : Bounded) (o port : ℕ) → Send p caps b o port b' → machine_of b' ≡ machine_of b
   pub takes : (b b' : Bounded) (o port : ℕ) → IsPlan p → Take p b o port b' → Step p (machine_of b) o port (machine_of b')
-  pub sends_within : (b b' : Bounded) (o port : ℕ) → Send p caps b o port b' → IsWithin p caps b → IsWithin p caps b'
-  pub takes_within : (b b' : Bounded) (o port : ℕ) → Take p b o port b' → IsWithin p caps b → IsWithin p caps b'
+  pub sends_within : (b b' : Bounded) (o port : ℕ) → Send p caps b o port b' → IsWithinCapacities p caps b → IsWithinCapacities p caps b'
+  pub takes_within : (b b' : Bounded) (o port : ℕ) → Take p b o port b' → IsWithinCapacities p caps b → IsWithinCapacities p caps b'
 
 -- Bounded moves are moves of the machine.
 abbrev pub MovesAreSteps : Type 0

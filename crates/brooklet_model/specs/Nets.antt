@@ -4,9 +4,9 @@ use Rattle.river_base.specs.declared.item.Item as item
 use Rattle.river_base.specs.Bags.{SameBag}
 use Rattle.river_plan.specs.Forms.{Name, OpForm, PlanForm, table_names}
 use Rattle.river_plan.specs.Uses.{total, writes_it, reads_it}
-use Rattle.brooklet_model.specs.Bounded.{Bounded, Capacities, history, sent, IsWithin}
+use Rattle.brooklet_model.specs.Bounded.{Bounded, Capacities, history, sent, IsWithinCapacities}
 use Rattle.brooklet_model.specs.Machine.{Machine, at_key}
-use Rattle.brooklet_model.specs.Received.{added, hist_by, AreWords, Reaches}
+use Rattle.brooklet_model.specs.Received.{rows_added, hist_by, AreWords, Reaches}
 use Rattle.brooklet_model.specs.Traced.{ran}
 use Rattle.brooklet_model.specs.Words.{Word, at_port}
 
@@ -19,8 +19,8 @@ pub record IsNet (p : PlanForm) (inputs : List (List item.Item)) (caps : Capacit
   pub unread : (q : Name) → total (reads_it q) p.ops ≡ 0 → b.taken q ≡ []
   pub unwritten : (q : Name) → total (writes_it q) p.ops ≡ 0 → b.pending q ≡ []
   pub kept : (o : ℕ) (op : OpForm) → slice_get p.ops o ≡ Some op → b.kept o ≡ (ran op (ws o)).states
-  pub rows : (t : Name) → SameBag (b.rows t) (added (table_names p.tables) 0 p.ops ws t)
-  pub within : IsWithin p caps b
+  pub rows : (t : Name) → SameBag (b.rows t) (rows_added (table_names p.tables) 0 p.ops ws t)
+  pub within : IsWithinCapacities p caps b
 
 -- the words with one more firing of operator o
 abbrev pub and_took : ℕ → ℕ → item.Item → (ℕ → Word) → ℕ → Word

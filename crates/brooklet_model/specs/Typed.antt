@@ -46,9 +46,9 @@ AreReceived is (Received past ∷ ss) = All (IsOf is 0) past
 AreReceived is ss = Unit {0}
 
 -- what waits at the ports of a product is of their types
-abbrev pub ArePaired : List QueueType → List Kept → Type 0
-ArePaired is (Crossing s ∷ ss) = All (IsOf is 0) s.left × All (IsOf is 1) s.right
-ArePaired is ss = Unit {0}
+abbrev pub WaitAsTyped : List QueueType → List Kept → Type 0
+WaitAsTyped is (Crossing s ∷ ss) = All (IsOf is 0) s.left × All (IsOf is 1) s.right
+WaitAsTyped is ss = Unit {0}
 
 -- the type of the port between two kernels, by the types that the first writes
 abbrev pub one_type : Option QueueType → List QueueType
@@ -65,7 +65,7 @@ Holds (collect ws) is ss = AreWaiting is ss
 Holds (packed k) is ss = Holds k is ss
 Holds (unpack n) is ss = AreWaiting is ss
 Holds (window w) is ss = AreReceived is ss
-Holds cross is ss = ArePaired is ss
+Holds cross is ss = WaitAsTyped is ss
 Holds (streamer s) is ss = AreReceived is ss
 Holds (fused a b at) is ss = Holds a is (take (privates a) ss) × Holds b (between at (types_of a is)) (drop (privates a) ss)
 Holds kernel is ss = Unit {0}

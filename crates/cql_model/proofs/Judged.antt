@@ -10,7 +10,7 @@ use Rattle.cql_model.specs.declared.fault.Fault.{Fault}
 use Rattle.cql_model.specs.declared.fault.Fault.TheVariants.{UnknownStream, UnknownField, AmbiguousField, NameTwice, Limit}
 use Rattle.cql_model.specs.declared.fault.Refusal.{Refusal}
 use Rattle.cql_model.specs.Faults.{query_fault, stream_fault, in_unit, first_fault, then_refusal, refusal_of}
-use Rattle.cql_model.specs.Places.{known_by, Spot, spots, Place, unit_places, places}
+use Rattle.cql_model.specs.Places.{known_by, Spot, spots, Place, unit_places, program_places}
 use Rattle.cql_model.specs.Plannable.{exceeds, KeepsLimits}
 use Rattle.cql_model.specs.Program.{registered}
 use Rattle.cql_text.specs.Tree.{Register, AQuery, Part, Program}
@@ -80,7 +80,7 @@ units before (AQuery q ∷ ps) =
     (same_state (known-more before u) (registered-same before q) (longer before u) ps) (units more ps))
 
 -- the first fault of a program
-judged : (p : Program) → Judged (places p) (first_fault [] 0 1 p)
+judged : (p : Program) → Judged (program_places p) (first_fault [] 0 1 p)
 judged p = subst (λ (l : List (Program × Part)). Judged (flat_map unit_places l) (first_fault [] 0 1 p)) (behind-none p) (units [] p)
 
 -- ONE FAULT
@@ -131,21 +131,21 @@ or_limit b p = if b then Some (last_limit p) else None
 
 first_is : (p : Program) (r : Refusal) → first_fault [] 0 1 p ≡ Some r → HasFirstFault p r
 first_is p r e =
-    let s = finds_some IsFaultless Tells (places p) r (subst (Judged (places p)) e (judged p)) in
+    let s = finds_some IsFaultless Tells (program_places p) r (subst (Judged (program_places p)) e (judged p)) in
     record { before = s.before; place = s.element; behind = s.behind; places = s.parts; faultless = s.silent; faulty = s.says.faulty; unit = s.says.unit }
 
 is_first : (p : Program) (r : Refusal) → HasFirstFault p r → first_fault [] 0 1 p ≡ Some r
 is_first p r h =
-    finds_same IsFaultless Tells silent_tells one_refusal (places p) (first_fault [] 0 1 p) (Some r) (judged p)
+    finds_same IsFaultless Tells silent_tells one_refusal (program_places p) (first_fault [] 0 1 p) (Some r) (judged p)
     (subst (λ l. Judged l (Some r)) (sym h.places)
     (some_finds IsFaultless Tells h.before h.place h.behind r h.faultless (record { faulty = h.faulty; unit = h.unit })))
 
-none_faulty : (p : Program) → first_fault [] 0 1 p ≡ None → AllByRecursion IsFaultless (places p)
-none_faulty p e = finds_none IsFaultless Tells (places p) (subst (Judged (places p)) e (judged p))
+none_faulty : (p : Program) → first_fault [] 0 1 p ≡ None → AllByRecursion IsFaultless (program_places p)
+none_faulty p e = finds_none IsFaultless Tells (program_places p) (subst (Judged (program_places p)) e (judged p))
 
-faulty_none : (p : Program) → AllByRecursion IsFaultless (places p) → first_fault [] 0 1 p ≡ None
+faulty_none : (p : Program) → AllByRecursion IsFaultless (program_places p) → first_fault [] 0 1 p ≡ None
 faulty_none p a =
-    finds_same IsFaultless Tells silent_tells one_refusal (places p) (first_fault [] 0 1 p) None (judged p) (none_finds IsFaultless Tells (places p) a)
+    finds_same IsFaultless Tells silent_tells one_refusal (program_places p) (first_fault [] 0 1 p) None (judged p) (none_finds IsFaultless Tells (program_places p) a)
 
 -- whether it exceeds a limit
 over : (p : Program) (b : Bool) → exceeds (plan_of p) ≡ b → (r : Refusal) → or_limit b p ≡ Some r → (KeepsLimits (plan_of p) → ⊥) × (r ≡ last_limit p)

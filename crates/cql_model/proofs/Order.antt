@@ -5,7 +5,7 @@ use Rattle.std.proofs.lemmas.Bool.{cases_lt}
 use Rattle.river_kernels.specs.Kern.{window, cross}
 use Rattle.river_plan.specs.Forms.{Name, OpForm}
 use Rattle.river_plan.specs.Names.{one_if, count}
-use Rattle.river_plan.specs.Uses.{total, writes_it, reads_it, Known, and_writes, ReadsBefore}
+use Rattle.river_plan.specs.Uses.{total, writes_it, reads_it, AreAllKnown, and_writes, ReadsBefore}
 use Rattle.river_plan.proofs.NameLemmas.{cases_name, count-append, one_same, more_or_zero}
 use Rattle.cql_model.specs.KernelWords.{kernel_window}
 use Rattle.cql_model.specs.Plannable.{AreQueries}
@@ -41,10 +41,10 @@ reads_append (x ∷ xs) ys known a b = (
 )
 
 -- one name that is known, and two
-one_known : (known : Name → ℕ) (r : Name) → 0 < known r → Known known (r ∷ [])
+one_known : (known : Name → ℕ) (r : Name) → 0 < known r → AreAllKnown known (r ∷ [])
 one_known known r h z lt = ⊎_elim (λ c. subst (λ x. 0 < known x) c.0 h) (λ c. absurd (let o = ap one_if c.1 in omega (arith, o, lt))) (cases_name r z)
 
-two_known : (known : Name → ℕ) (r s : Name) → 0 < known r → 0 < known s → Known known (r ∷ s ∷ [])
+two_known : (known : Name → ℕ) (r s : Name) → 0 < known r → 0 < known s → AreAllKnown known (r ∷ s ∷ [])
 two_known known r s h g z lt =
     ⊎_elim (λ c. subst (λ x. 0 < known x) c.0 h) (λ c. one_known known s g z (let o = ap one_if c.1 in omega (arith, o, lt))) (cases_name r z)
 

@@ -82,5 +82,5 @@ abbrev pub unit_places : Program × Part → List Place
 unit_places e = map (λ spot. record { before = e.0; unit = e.1; spot = spot }) (spots e.1)
 
 -- all places of a program
-abbrev pub places : Program → List Place
-places p = flat_map unit_places (with_earlier p)
+abbrev pub program_places : Program → List Place
+program_places p = flat_map unit_places (with_earlier p)

@@ -14,7 +14,7 @@ use Rattle.cql_model.specs.Faults.{refusal_of, AreSpoken}
 use Rattle.cql_model.specs.Instants.{program_means, inputs_for}
 use Rattle.cql_model.specs.Laws.{AreFiles}
 use Rattle.cql_model.specs.Places.{known_by, Mention, Alone, OfItem, Spot, StreamName, FieldName, QueryName, ItemStream, ItemWindow, ItemName, ColumnStart}
-use Rattle.cql_model.specs.Places.{FieldUse, Place, places}
+use Rattle.cql_model.specs.Places.{FieldUse, Place, program_places}
 use Rattle.cql_model.specs.Plannable.{declared, KeepsLimits, IsPlannable}
 use Rattle.cql_model.specs.Program.{registered}
 use Rattle.cql_text.specs.Tree.{Source, Program}
@@ -89,14 +89,14 @@ pub record HasFirstFault (p : Program) (r : Refusal) : Type 0 where
   pub before : List Place
   pub place : Place
   pub behind : List Place
-  pub places : places p ≡ before ++ place ∷ behind
+  pub places : program_places p ≡ before ++ place ∷ behind
   pub faultless : AllByRecursion IsFaultless before
   pub faulty : IsFirstFault place r.fault
   pub unit : r.unit ≡ length place.before + 1
 
 -- no place has a fault, but the plan exceeds a limit of plans; this is told at the last unit
 pub record IsTooLarge (p : Program) (r : Refusal) : Type 0 where
-  pub faultless : AllByRecursion IsFaultless (places p)
+  pub faultless : AllByRecursion IsFaultless (program_places p)
   pub exceeds : KeepsLimits (plan_of p) → ⊥
   pub fault : r.fault ≡ Limit
   pub unit : r.unit ≡ length p
@@ -107,7 +107,7 @@ IsRefused p r = HasFirstFault p r ⊎ IsTooLarge p r
 
 -- the programs of the language: no place has a fault, and the plan keeps the limits of plans
 pub record IsAccepted (p : Program) : Type 0 where
-  pub faultless : AllByRecursion IsFaultless (places p)
+  pub faultless : AllByRecursion IsFaultless (program_places p)
   pub within : KeepsLimits (plan_of p)
 
 -- a program is refused exactly for its first fault, and not refused exactly where it is accepted

@@ -10,7 +10,7 @@ use Rattle.brooklet_model.specs.Firings.{Kept}
 use Rattle.brooklet_model.specs.Histories.{History, written}
 use Rattle.brooklet_model.specs.Laws.{given_to}
 use Rattle.brooklet_model.specs.Nets.{IsNet}
-use Rattle.brooklet_model.specs.Received.{hist_by, added}
+use Rattle.brooklet_model.specs.Received.{hist_by, rows_added}
 use Rattle.brooklet_model.specs.Traced.{ran}
 use Rattle.brooklet_model.specs.Typed.{AreInputs, IsWordOf}
 use Rattle.brooklet_model.specs.Words.{Word, at_port}
@@ -53,7 +53,7 @@ bounded p inputs left ws = record {
   left = λ q. drop (length (taken_by p ws q)) (take (length (taken_by p ws q) + length (left q)) (hist_by p inputs ws q));
   pending = λ q. drop (length (taken_by p ws q) + length (left q)) (hist_by p inputs ws q);
   kept = λ o. kept_by (slice_get p.ops o) (ws o);
-  rows = λ t. added (table_names p.tables) 0 p.ops ws t;
+  rows = λ t. rows_added (table_names p.tables) 0 p.ops ws t;
 }
 
 -- The join: from what each task keeps of itself, and what the rings tell, there is a word for each operator that its items stand

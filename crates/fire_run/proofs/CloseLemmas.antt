@@ -12,7 +12,7 @@ use Rattle.river_plan.specs.declared.plan.TableDecl.{TableDecl}
 use Rattle.river_plan.specs.Forms.{PlanForm}
 use Rattle.river_plan.specs.Valid.{IsPlan}
 use Rattle.brooklet_model.specs.Bounded.{Capacities}
-use Rattle.brooklet_model.specs.Histories.{hist, given, all_adds}
+use Rattle.brooklet_model.specs.Histories.{hist, given_on, all_adds}
 use Rattle.brooklet_model.proofs.Traces.{some_is}
 use Rattle.brooklet_step.specs.Tables.{defined_tables, kept_tables}
 use Rattle.brooklet_step.proofs.KeptTables.{defined_rows}
@@ -58,7 +58,7 @@ module _ (p : PlanForm) (inputs : List (List item.Item)) (caps : Capacities) (ne
         record {
           all = λ k lt. let a = n.cells.all k lt in omega (arith, a, m);
           used = λ c lt. n.cells.used c (omega (arith, lt, m));
-          bags = λ o k op g lt. subst (λ f. SameBag (added p f o k) ((given op (hist p inputs)).adds k)) same_logs (whole.bags o k op g lt);
+          bags = λ o k op g lt. subst (λ f. SameBag (added p f o k) ((given_on op (hist p inputs)).adds k)) same_logs (whole.bags o k op g lt);
           rows = λ o k op g lt one. ap (λ f. added p f o k) (sym same_logs) ∙ whole.rows o k op g lt one;
           entries = subst (AreEntries p) same_logs whole.entries;
         }

@@ -17,7 +17,7 @@ use Rattle.river_plan.specs.Valid.{IsPlan}
 use Rattle.river_plan.proofs.NameLemmas.{cases_name, count-append}
 use Rattle.river_plan.proofs.PlaceLemmas.{place_apart}
 use Rattle.brooklet_model.specs.Fire.{tabs}
-use Rattle.brooklet_model.specs.Histories.{given, hist, joined, own_adds, all_adds, tables_of}
+use Rattle.brooklet_model.specs.Histories.{given_on, hist, joined, own_adds, all_adds, tables_of}
 use Rattle.brooklet_model.proofs.Lists.{if_lt, if_ge}
 use Rattle.brooklet_model.proofs.Swaps.{bag_append, count_by-append}
 use Rattle.brooklet_model.proofs.Traces.{some_is, got_count, each_at, joined_out}
@@ -135,7 +135,7 @@ fewer ns (x ∷ vs) w =
     (cases_lt 0 (count x ns))
 
 module _ (p : PlanForm) (inputs : List (List item.Item)) (logs : ℕ → List LogEntry) (v : IsPlan p) (entries : AreEntries p logs)
-    (bags : (o k : ℕ) (op : OpForm) → slice_get p.ops o ≡ Some op → k < tabs op.kernel → SameBag (added p logs o k) ((given op (hist p inputs)).adds k))
+    (bags : (o k : ℕ) (op : OpForm) → slice_get p.ops o ≡ Some op → k < tabs op.kernel → SameBag (added p logs o k) ((given_on op (hist p inputs)).adds k))
     (n : ℕ) (t : TableDecl) (g : slice_get p.tables n ≡ Some t) where
   abbrev names : List Name
   names = table_names p.tables
@@ -169,7 +169,7 @@ module _ (p : PlanForm) (inputs : List (List item.Item)) (logs : ℕ → List Lo
   own_rows : (o : ℕ) (op : OpForm) → slice_get p.ops o ≡ Some op → SameBag (rows_by o n log) (own_adds names (hist p inputs) t.name op)
   own_rows o op go =
       let mine = tables_of names op in
-      let f = (given op (hist p inputs)).adds in
+      let f = (given_on op (hist p inputs)).adds in
       ⊎_elim
       (λ more.
       let j = place_of mine t.name more in

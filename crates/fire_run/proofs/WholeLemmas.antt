@@ -15,7 +15,7 @@ use Rattle.river_plan.specs.Valid.{IsPlan}
 use Rattle.brooklet_model.specs.Bounded.{Capacities}
 use Rattle.brooklet_model.specs.NetLaws.{IsWhole}
 use Rattle.brooklet_model.specs.Received.{AreDone, hist_by, IsFront}
-use Rattle.brooklet_model.specs.Histories.{hist, given, most_firings}
+use Rattle.brooklet_model.specs.Histories.{hist, given_on, most_firings}
 use Rattle.brooklet_model.specs.Traced.{ran}
 use Rattle.brooklet_model.specs.Words.{Word, at_port}
 use Rattle.brooklet_model.proofs.Ports.{got_below}
@@ -136,7 +136,7 @@ module _ (p : PlanForm) (inputs : List (List item.Item)) (caps : Capacities) (ne
         ∙ ap (held (kind_of (all_decls p) q) []) (sym is ∙ whole.queues q);
     bags = λ o k op g lt.
         let t = task_here o op g in
-        subst (λ l. SameBag l ((given op (hist p inputs)).adds k)) (sym ((make.gave o op t.0 g t.1).adds_are k lt)) (whole.bags o op g k);
+        subst (λ l. SameBag l ((given_on op (hist p inputs)).adds k)) (sym ((make.gave o op t.0 g t.1).adds_are k lt)) (whole.bags o op g k);
     rows = λ o k op g lt one. let t = task_here o op g in (make.gave o op t.0 g t.1).adds_are k lt ∙ whole.rows o op g one k;
     counts = λ o op t g gt. make.counts o op t g gt ∙ ap (min most_firings) (whole.firings o op g);
     entries = n.entries;

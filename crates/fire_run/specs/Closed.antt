@@ -10,7 +10,7 @@ use Rattle.river_plan.specs.Forms.{Name, OpForm, PlanForm, queue_names}
 use Rattle.river_plan.specs.Places.{place}
 use Rattle.river_plan.specs.declared.plan.TableDecl.{TableDecl}
 use Rattle.brooklet_model.specs.Fire.{tabs}
-use Rattle.brooklet_model.specs.Histories.{History, hist, given, firings, lengths}
+use Rattle.brooklet_model.specs.Histories.{History, hist, given_on, firings, lengths}
 use Rattle.brooklet_model.specs.Meaning.{meaning}
 use Rattle.brooklet_step.specs.Tables.{defined_tables}
 use Rattle.class_locks.specs.declared.log.LogEntry.{LogEntry}
@@ -36,9 +36,9 @@ pub record AreLogsOf (p : PlanForm) (inputs : List (List item.Item)) (logs : Lis
   pub all : (n : ℕ) → n < length p.tables → table_class p n < length logs
   pub used : (c : ℕ) → c < length logs → (n : ℕ) × (n < length p.tables) × (table_class p n ≡ c)
   pub bags : (o k : ℕ) (op : OpForm) → slice_get p.ops o ≡ Some op → k < tabs op.kernel
-      → SameBag (added p (log_at logs) o k) ((given op (hist p inputs)).adds k)
+      → SameBag (added p (log_at logs) o k) ((given_on op (hist p inputs)).adds k)
   pub rows : (o k : ℕ) (op : OpForm) → slice_get p.ops o ≡ Some op → k < tabs op.kernel → length op.reads ≡ 1
-      → added p (log_at logs) o k ≡ (given op (hist p inputs)).adds k
+      → added p (log_at logs) o k ≡ (given_on op (hist p inputs)).adds k
   pub entries : AreEntries p (log_at logs)
 
 -- each table keeps what its class's log makes of it

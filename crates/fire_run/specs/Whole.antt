@@ -8,7 +8,7 @@ use Rattle.river_plan.specs.Forms.{Name, OpForm, PlanForm, all_decls, queue_name
 use Rattle.river_plan.specs.Kinds.{kind_of}
 use Rattle.river_plan.specs.Valid.{IsPlan}
 use Rattle.brooklet_model.specs.Fire.{tabs}
-use Rattle.brooklet_model.specs.Histories.{History, hist, given, firings_of, lengths}
+use Rattle.brooklet_model.specs.Histories.{History, hist, given_on, firings_of, lengths}
 use Rattle.brooklet_model.specs.Bounded.{Capacities}
 use Rattle.class_locks.specs.Logs.{Holding}
 use Rattle.fire_tasks.specs.declared.task.Task.{Task}
@@ -29,9 +29,9 @@ pub record IsWholeNet (p : PlanForm) (inputs : List (List item.Item)) (cells : L
   pub sent : (o j : ℕ) (op : OpForm) (q : Name) (t : Task) → slice_get p.ops o ≡ Some op → slice_get op.writes j ≡ Some q → slice_get ts o ≡ Some t
       → list_at (sent_in t.outs) j ≡ sent_hist p inputs q
   pub bags : (o k : ℕ) (op : OpForm) → slice_get p.ops o ≡ Some op → k < tabs op.kernel
-      → SameBag (added p (logs_of cells) o k) ((given op (hist p inputs)).adds k)
+      → SameBag (added p (logs_of cells) o k) ((given_on op (hist p inputs)).adds k)
   pub rows : (o k : ℕ) (op : OpForm) → slice_get p.ops o ≡ Some op → k < tabs op.kernel → length op.reads ≡ 1
-      → added p (logs_of cells) o k ≡ (given op (hist p inputs)).adds k
+      → added p (logs_of cells) o k ≡ (given_on op (hist p inputs)).adds k
   pub counts : (o : ℕ) (op : OpForm) (t : Task) → slice_get p.ops o ≡ Some op → slice_get ts o ≡ Some t → t.count ≡ firings_of (hist p inputs) op
   pub entries : AreEntries p (logs_of cells)
 

@@ -4,7 +4,7 @@ use Rattle.std.proofs.lemmas.List.{map-append, take_all}
 use Rattle.river_plan.specs.Forms.{Name}
 use Rattle.streamit_text.specs.Program as plain
 use Rattle.streamit_text.specs.Tree.{Expression}
-use Rattle.streamit_model.specs.Meaning.{numbers, turns_between}
+use Rattle.streamit_model.specs.Meaning.{numbers_from, turns_between}
 use Rattle.params_text.specs.Program.{Add, Loop, Steps, declared_of}
 use Rattle.params_text.specs.declared.program.ParamUnit.{ParamUnit}
 use Rattle.params_model.specs.Environment.{Environment, value}
@@ -17,7 +17,7 @@ use Rattle.params_print.specs.declared.instance.Instance.{Instance}
 use Rattle.params_make.specs.declared.body.Scope.{Scope}
 use Rattle.params_make.specs.declared.making.Making.{Making}
 use Rattle.params_make.specs.declared.span.Span.{Span}
-use Rattle.params_make.specs.Standing.{Stands, Blames, MakesOne, MakesMore, MakesAll, adding, bodied, in_turn, source_at, sources, turn_made}
+use Rattle.params_make.specs.Standing.{Stands, Blames, MakesOne, MakesMore, MakesAll, adding, bodied, turn_steps, source_at, sources, turn_made}
 use Rattle.params_make.specs.Turning.{Spans}
 use Rattle.params_make.proofs.Faults.{fine, told-on, told-behind, told-blamed}
 use Rattle.params_make.proofs.Sources.{sources-more}
@@ -49,26 +49,26 @@ add-told add k env n cs zs m e z h = told-on e.unit e.fault (add n (map (value e
 -- a loop makes what its turns make, from the low bound up to the end
 pub loop-is : (add : Adding) (k : ℕ) (env : Environment) (n : Name) (lo : Expression) (upto : Bool) (hi : Expression) (ss : Steps) (m : Made) (s : Span)
     → Spans (Some s) (value env lo) upto (value env hi)
-    → made_once add k env (Loop n lo upto hi ss) m ≡ turns_made k (in_turn add k env n ss) (numbers s.low (s.end - s.low)) m
+    → made_once add k env (Loop n lo upto hi ss) m ≡ turns_made k (turn_steps add k env n ss) (numbers_from s.low (s.end - s.low)) m
 loop-is add k env n lo upto hi ss m s h =
-    let f = in_turn add k env n ss in
+    let f = turn_steps add k env n ss in
     ap (λ b. on_fine (demand b k Range) (λ x. turns_made k f (turns_between (value env lo) upto (value env hi)) m)) h.0
     ∙ ap (λ vs. turns_made k f vs m) h.1
 
 pub loop-told : (add : Adding) (k : ℕ) (env : Environment) (n : Name) (lo : Expression) (upto : Bool) (hi : Expression) (ss : Steps) (m : Made) (e : Refusal)
     → Spans None (value env lo) upto (value env hi) → Blames e k Range → Told e.unit e.fault (made_once add k env (Loop n lo upto hi ss) m)
 loop-told add k env n lo upto hi ss m e h b =
-    let f = in_turn add k env n ss in
+    let f = turn_steps add k env n ss in
     told-blamed e k Range (made_once add k env (Loop n lo upto hi ss) m) b
     (ap (λ q. on_fine (demand q k Range) (λ x. turns_made k f (turns_between (value env lo) upto (value env hi)) m)) h)
 
 pub one-turn : (add : Adding) (k : ℕ) (name : Name) (ss : Steps) (v : ℕ) (m t : Made) (old mid last new : Scope) (s : Making)
     → turn k m ≡ Ok t → mid.known ≡ (name, pos v) ∷ old.known → mid.children ≡ old.children → MakesMore (Ok tt) mid last s (steps_made add k mid.known ss t)
-    → new.known ≡ drop 1 last.known → new.children ≡ last.children → MakesMore (Ok tt) old new s (turn_made k (in_turn add k old.known name ss) v m)
+    → new.known ≡ drop 1 last.known → new.children ≡ last.children → MakesMore (Ok tt) old new s (turn_made k (turn_steps add k old.known name ss) v m)
 one-turn add k name ss v m t old mid last new s h kn ch r nk nc = (
   r.0,
   r.1,
-  ap (λ q. on_fine q (in_turn add k old.known name ss v)) h ∙ ap (λ e. steps_made add k e ss t) (sym kn) ∙ r.2,
+  ap (λ q. on_fine q (turn_steps add k old.known name ss v)) h ∙ ap (λ e. steps_made add k e ss t) (sym kn) ∙ r.2,
   r.3,
   ap names_written nc ∙ r.4 ∙ ap (λ l. names_written l ++ r.0) ch,
   nk ∙ ap (drop 1) (r.5 ∙ kn),
@@ -76,9 +76,9 @@ one-turn add k name ss v m t old mid last new s h kn ch r nk nc = (
 
 pub turn-refused : (add : Adding) (k : ℕ) (name : Name) (ss : Steps) (v : ℕ) (m t : Made) (old mid : Scope) (e : Refusal)
     → turn k m ≡ Ok t → mid.known ≡ (name, pos v) ∷ old.known → Told e.unit e.fault (steps_made add k mid.known ss t)
-    → Told e.unit e.fault (turn_made k (in_turn add k old.known name ss) v m)
+    → Told e.unit e.fault (turn_made k (turn_steps add k old.known name ss) v m)
 turn-refused add k name ss v m t old mid e h kn r =
-    told-behind e.unit e.fault (turn k m) t (in_turn add k old.known name ss v) h (subst (λ q. Told e.unit e.fault (steps_made add k q ss t)) kn r)
+    told-behind e.unit e.fault (turn k m) t (turn_steps add k old.known name ss v) h (subst (λ q. Told e.unit e.fault (steps_made add k q ss t)) kn r)
 
 -- CHILDREN
 

@@ -17,7 +17,7 @@ use Rattle.params_build.specs.Told.{Told}
 use Rattle.params_print.specs.Heads.{name_written}
 use Rattle.params_print.specs.declared.instance.Instance.{Instance}
 use Rattle.params_make.specs.declared.making.Making.{Making}
-use Rattle.params_make.specs.Standing.{Stands, Begins, MakesOne, Writes, Wrote, finished, bodied}
+use Rattle.params_make.specs.Standing.{Stands, Begins, MakesOne, WritesInstance, Wrote, finished, bodied}
 use Rattle.params_make.proofs.Faults.{fine, told-on, told-behind}
 
 -- COUNTS
@@ -119,7 +119,7 @@ written-stands s mid new m k stream b i h one two is w =
 
 -- a filter whose rates are in range
 pub filter-made : (add : Adding) (k : ℕ) (name : Name) (env : Environment) (t : ParamFilter) (m : Made) (i : Instance) (new : Making)
-    → demand (is_ranged_filter env t) k Range ≡ Ok tt → Writes (fine i) new k name (plain.AFilter (plain_filter env t)) m
+    → demand (is_ranged_filter env t) k Range ≡ Ok tt → WritesInstance (fine i) new k name (plain.AFilter (plain_filter env t)) m
     → MakesOne (Ok i) new (bodied add k name env (AFilter t) m)
 filter-made add k name env t m i new h w =
     let b = plain.AFilter (plain_filter env t) in (
@@ -138,7 +138,7 @@ filter-told add k name env t m e h =
 
 -- a pipeline with children
 pub pipeline-made : (add : Adding) (k : ℕ) (name : Name) (env : Environment) (ss : Steps) (m m1 : Made) (a : plain.Adds) (i : Instance) (new : Making)
-    → children_made add k env ss m ≡ Ok (a, m1) → Writes (fine i) new k name (plain.APipeline a) m1
+    → children_made add k env ss m ≡ Ok (a, m1) → WritesInstance (fine i) new k name (plain.APipeline a) m1
     → MakesOne (Ok i) new (bodied add k name env (APipeline ss) m)
 pipeline-made add k name env ss m m1 a i new h w =
     let b = plain.APipeline a in (
@@ -185,7 +185,7 @@ module _ (add : Adding) (k : ℕ) (name : Name) (env : Environment) (d : Dealing
   -- where its weights are in range and its children are made, a split-join is made and written
   pub split-made : (a : plain.Adds) (m1 : Made) (i : Instance) (new : Making) → demand (is_ranged_dealing env d) k Range ≡ Ok tt
       → children_made add k env ss m ≡ Ok (a, m1) → demand (are_ranged_option env ws) k Range ≡ Ok tt
-      → Writes (fine i) new k name (plain.ASplitJoin (dealing env d) a (option_counts env ws)) m1
+      → WritesInstance (fine i) new k name (plain.ASplitJoin (dealing env d) a (option_counts env ws)) m1
       → MakesOne (Ok i) new (bodied add k name env (ASplitJoin d ss ws) m)
   split-made a m1 i new h g j w =
       let b = plain.ASplitJoin (dealing env d) a (option_counts env ws) in
@@ -201,7 +201,7 @@ module _ (add : Adding) (k : ℕ) (name : Name) (env : Environment) (d : Dealing
 -- an instance that may have been written
 pub written-by : {E : Type 0} (r : Result Instance E) (s mid new : Making) (m : Made) (k : ℕ) (stream : Name) (b : plain.Body) (i : Instance) → Stands s m
     → i.stream ≡ stream → i.number ≡ suc s.number → mid ≡ record s { text = s.text ++ spaced (unit_toks (record { name = name_written i; body = b })) }
-    → IfOk r (λ j. j ≡ i) → OnOk r (Wrote mid new k i.number) → Writes r new k stream b m
+    → IfOk r (λ j. j ≡ i) → OnOk r (Wrote mid new k i.number) → WritesInstance r new k stream b m
 written-by (Ok j) s mid new m k stream b i h one two is same w =
     subst (λ (x : Instance). (name_written x ≡ (finished k stream (b, m)).0) × Stands new (finished k stream (b, m)).1) (sym same)
     (written-stands s mid new m k stream b i h one two is w)

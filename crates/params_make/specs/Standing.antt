@@ -56,8 +56,8 @@ abbrev pub bodied : Adding → ℕ → Name → Environment → Body → Made �
 bodied add k stream env b s = on_fine (body_made add k env b s) (λ r. Ok (finished k stream r))
 
 -- the steps of a loop for this value of its variable
-abbrev pub in_turn : Adding → ℕ → Environment → Name → Steps → ℕ → Made → Added
-in_turn add k env name ss v s = steps_made add k ((name, pos v) ∷ env) ss s
+abbrev pub turn_steps : Adding → ℕ → Environment → Name → Steps → ℕ → Made → Added
+turn_steps add k env name ss v s = steps_made add k ((name, pos v) ∷ env) ss s
 
 -- a turn of a loop
 abbrev pub turn_made : ℕ → (ℕ → Made → Added) → ℕ → Made → Added
@@ -110,9 +110,9 @@ pub record Wrote (old new : Making) (k n : ℕ) : Type 0 where
   pub turns : new.turns ≡ old.turns
 
 -- an instance of this stream with this body was written
-abbrev pub Writes : {E : Type 0} → Result Instance E → Making → ℕ → Name → plain.Body → Made → Type 0
-Writes (Ok i) new k stream b m = (name_written i ≡ (finished k stream (b, m)).0) × Stands new (finished k stream (b, m)).1
-Writes (Err e) new k stream b m = Unit {0}
+abbrev pub WritesInstance : {E : Type 0} → Result Instance E → Making → ℕ → Name → plain.Body → Made → Type 0
+WritesInstance (Ok i) new k stream b m = (name_written i ≡ (finished k stream (b, m)).0) × Stands new (finished k stream (b, m)).1
+WritesInstance (Err e) new k stream b m = Unit {0}
 
 -- the refusal tells this fault of unit k, or want of memory
 abbrev pub Blames : Refusal → ℕ → model.Fault → Type 0

@@ -2,10 +2,10 @@
 ghost use Rattle.std.specs.Prelude.{◌≡◌, ◌-◌, [], suc, length};
 ghost use Rattle.params_text.specs.Program.{program_of, body_of, declared_of, filter_of, steps_of, step_of, expressions, Add, AFilter, APipeline};
 ghost use Rattle.params_text.specs.View.{split_join_of};
-ghost use Rattle.streamit_model.specs.Meaning.{numbers};
+ghost use Rattle.streamit_model.specs.Meaning.{numbers_from};
 ghost use Rattle.params_model.specs.Laws.{AreFit};
 ghost use Rattle.params_model.specs.Making.{Made, Adding, made_once, steps_made, children_made, turns_made, make};
-ghost use Rattle.params_make.specs.Standing.{Stands, MakesOne, MakesMore, MakesAll, adding, source_at, bodied, in_turn, turn_made};
+ghost use Rattle.params_make.specs.Standing.{Stands, MakesOne, MakesMore, MakesAll, adding, source_at, bodied, turn_steps, turn_made};
 ghost use Rattle.params_model.specs.Constants.{AreFitUnits, IsFitUnit, IsFitFilter, HasFitConstants, HaveFitConstants};
 
 use crate::Making;
@@ -312,8 +312,9 @@ impl Making {
         requires steps { HaveFitConstants (steps_of steps.now) }
         ensures { (m : Made) → Stands self.old m
             → MakesMore result scope.old scope.new self.new (turns_made (suc (length seen.entry.units.now))
-            (in_turn (adding seen.entry.units.now seen.entry.sizes.now seen.entry.depth) (suc (length seen.entry.units.now)) scope.old.known turns.name (steps_of steps.now))
-            (numbers turns.span.low (turns.span.end - turns.span.low)) m) }
+            (turn_steps (adding seen.entry.units.now seen.entry.sizes.now seen.entry.depth)
+            (suc (length seen.entry.units.now)) scope.old.known turns.name (steps_of steps.now))
+            (numbers_from turns.span.low (turns.span.end - turns.span.low)) m) }
     {
         'range: for each in turns.span.low..turns.span.end {
             match self.turn(alloc, seen, scope, turns.name, each, steps) {
@@ -339,7 +340,7 @@ impl Making {
         requires steps { HaveFitConstants (steps_of steps.now) }
         ensures { (m : Made) → Stands self.old m
             → MakesMore result scope.old scope.new self.new (turn_made (suc (length seen.entry.units.now))
-            (in_turn (adding seen.entry.units.now seen.entry.sizes.now seen.entry.depth)
+            (turn_steps (adding seen.entry.units.now seen.entry.sizes.now seen.entry.depth)
             (suc (length seen.entry.units.now)) scope.old.known name (steps_of steps.now)) value m) }
     {
         self.begin_turn(seen.units)?;

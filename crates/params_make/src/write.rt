@@ -5,7 +5,7 @@ ghost use Rattle.params_text.specs.Program.{filter_of, dealing_of, rounds_of};
 ghost use Rattle.params_model.specs.Environment.{dealing, option_counts};
 ghost use Rattle.params_model.specs.Making.{Made};
 ghost use Rattle.params_model.specs.Plain.{plain_filter};
-ghost use Rattle.params_make.specs.Standing.{Stands, Writes};
+ghost use Rattle.params_make.specs.Standing.{Stands, WritesInstance};
 ghost use Rattle.params_print.specs.Heads.{names_written};
 ghost use Rattle.params_model.specs.Constants.{IsFitFilter, IsFitDealing, AreFitOption};
 
@@ -27,7 +27,7 @@ impl Making {
         tree: &ParamFilter,
     ) -> Result<Instance, NoMemory>
         requires { IsFitFilter (filter_of tree.now) }
-        ensures { (m : Made) → Stands self.old m → Writes result self.new (suc (length above.now)) stream (plain.AFilter (plain_filter known.now (filter_of tree.now))) m }
+        ensures { (m : Made) → Stands self.old m → WritesInstance result self.new (suc (length above.now)) stream (plain.AFilter (plain_filter known.now (filter_of tree.now))) m }
     {
         let instance = self.next(stream)?;
         print_filter(alloc, &instance, known, tree, &mut self.text)?;
@@ -43,7 +43,7 @@ impl Making {
         children: &[Instance],
     ) -> Result<Instance, NoMemory>
         ensures { (m : Made) (a : plain.Adds) → Stands self.old m → names_written children.now ≡ a.first ∷ a.others
-            → Writes result self.new (suc (length above.now)) stream (plain.APipeline a) m }
+            → WritesInstance result self.new (suc (length above.now)) stream (plain.APipeline a) m }
     {
         let instance = self.next(stream)?;
         print_pipeline(alloc, &instance, children, &mut self.text)?;
@@ -62,7 +62,7 @@ impl Making {
         requires split { IsFitDealing (dealing_of all.now.split) }
         requires join { AreFitOption (rounds_of all.now.join) }
         ensures { (m : Made) (a : plain.Adds) → Stands self.old m → names_written scope.now.children ≡ a.first ∷ a.others
-            → Writes result self.new (suc (length above.now)) stream
+            → WritesInstance result self.new (suc (length above.now)) stream
             (plain.ASplitJoin (dealing scope.now.known (dealing_of all.now.split)) a (option_counts scope.now.known (rounds_of all.now.join))) m }
     {
         let instance = self.next(stream)?;

@@ -10,7 +10,7 @@ use Rattle.params_text.specs.Program.{ParamWork, ParamFilter, Body, AFilter, APi
 use Rattle.params_model.specs.Meaning.{last_works}
 use Rattle.params_model.specs.Making.{Fault, NameTwice, NotConstant, on_fine, demand, SourceUnit, last_made}
 use Rattle.params_model.specs.Judged.{Judgement, judged_then, new_names, other_names, statement_judged, block_judged, optional_judged, rates_judged, work_judged, prework_judged, filter_judged, Above, body_judged, unit_judged, units_judged, top_judged, numbered_from, sources_of, tail_of}
-use Rattle.params_model.specs.Laws.{Differs, AllDiffer, SparesOnce, SparesAll, SparesOptional, SparesPrework, SparesFilter, IsFine, AreFine, streams_of, IsFitBody, IsFitProgram, ElaboratedMeans}
+use Rattle.params_model.specs.Laws.{Differs, AllDiffer, SparesOnce, SparesAll, SparesOptional, SparesPrework, SparesFilter, IsFine, AreFine, unit_streams, IsFitBody, IsFitProgram, ElaboratedMeans}
 use Rattle.params_model.proofs.Instances.{fine, ok_parts, demanded, elaboration_means}
 
 both : (a b : Judgement) (u : Unit {0}) → judged_then a b ≡ fine u → (a ≡ fine tt) × (b ≡ fine u)
@@ -100,11 +100,11 @@ pub reverse-cons : (u : SourceUnit) (us : List SourceUnit) → reverse (u ∷ us
 reverse-cons u us = reverse-append (u ∷ []) us
 
 -- the streams of turned units are their streams, turned
-pub map-reverse : (us : List SourceUnit) → streams_of (reverse us) ≡ reverse (streams_of us)
+pub map-reverse : (us : List SourceUnit) → unit_streams (reverse us) ≡ reverse (unit_streams us)
 map-reverse [] = refl
 map-reverse (u ∷ us) =
-    ap streams_of (reverse-append (u ∷ []) us) ∙ map-append (λ u. u.stream) (reverse us) (u ∷ []) ∙ ap (λ l. l ++ u.stream ∷ []) (map-reverse us)
-    ∙ sym (reverse-append (u.stream ∷ []) (streams_of us))
+    ap unit_streams (reverse-append (u ∷ []) us) ∙ map-append (λ u. u.stream) (reverse us) (u ∷ []) ∙ ap (λ l. l ++ u.stream ∷ []) (map-reverse us)
+    ∙ sym (reverse-append (u.stream ∷ []) (unit_streams us))
 
 -- fine units are fine when turned
 pub fine_reverse : (us : List SourceUnit) → AreFine us → AreFine (reverse us)
@@ -112,7 +112,7 @@ fine_reverse [] h = tt
 fine_reverse (u ∷ us) h = subst AreFine (sym (reverse-cons u us)) (fine_append (reverse us) (u ∷ []) (fine_reverse us h.1) (h.0, tt))
 
 -- the streams of a numbered program are the program
-pub streams_are : (k : ℕ) (p : ParamProgram) (sizes : List ℕ) → streams_of (numbered_from k p sizes) ≡ p
+pub streams_are : (k : ℕ) (p : ParamProgram) (sizes : List ℕ) → unit_streams (numbered_from k p sizes) ≡ p
 streams_are k [] sizes = refl
 streams_are k (u ∷ us) sizes = ap (λ l. u ∷ l) (streams_are (suc k) us (tail_of sizes))
 

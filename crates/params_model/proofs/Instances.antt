@@ -9,18 +9,18 @@ use Rattle.river_base.specs.Number.{count_of}
 use Rattle.river_plan.specs.Forms.{Name}
 use Rattle.river_plan.proofs.NameLemmas.{cases_name, name_same}
 use Rattle.brooklet_model.specs.ByIndex.{collected}
-use Rattle.streamit_model.specs.Meaning.{or_work, runs_in, numbers, turns_between}
+use Rattle.streamit_model.specs.Meaning.{or_work, runs_in, numbers_from, turns_between}
 use Rattle.streamit_text.specs.Tree.{Statement, Declare, Assign, Push, Discard, If, For, Block, Optional, Unwritten, Written}
 use Rattle.streamit_text.specs.Tree as source
 use Rattle.streamit_model.specs.Meaning.{Works, look, or_same, work_of, piped, branched, branch_count, weights_for, share_of, body_works, all_work, last_of, program_outputs}
 use Rattle.streamit_text.specs.Program as plain
 use Rattle.params_text.specs.Program.{ParamWork, ParamFilter, Step, Add, Loop, Steps, End, Then, Body, AFilter, APipeline, ASplitJoin}
 use Rattle.params_model.specs.Environment.{Environment, bound, value, option_counts, dealing, rated_work, rated_prework, rated}
-use Rattle.params_model.specs.Meaning.{Child, Streams, each_turn, children_once, children, in_line, side_by_side, works_under, stream_works}
+use Rattle.params_model.specs.Meaning.{Child, Streams, children_each_turn, children_once, children, in_line, side_by_side, works_under, stream_works}
 use Rattle.params_model.specs.Plain.{instance_name, plain_filter}
 use Rattle.params_model.specs.Making.{Fault, Budget, Range, Refusal, on_fine, demand, SourceUnit, Made, nothing_made, begin, turn, is_ranged, are_ranged_option, is_ranged_dealing, is_ranged_filter, Adding, Added, also}
 use Rattle.params_model.specs.Making.{turns_made, made_once, steps_made, adds_of, children_made, body_made, finish, make, instance}
-use Rattle.params_model.specs.Laws.{AllDiffer, SparesOnce, SparesAll, SparesOptional, SparesPrework, SparesFilter, IsFine, AreFine, IsFitStep, AreFitSteps, streams_of, ElaborationMeans}
+use Rattle.params_model.specs.Laws.{AllDiffer, SparesOnce, SparesAll, SparesOptional, SparesPrework, SparesFilter, IsFine, AreFine, IsFitStep, AreFitSteps, unit_streams, ElaborationMeans}
 use Rattle.params_model.proofs.Values.{Fits, AllFit, bound_fits, values_fit, small}
 use Rattle.params_model.proofs.Put.{none_bound, filter_same}
 use Rattle.params_model.proofs.InstanceNames.{number_in, number_is}
@@ -203,7 +203,7 @@ abbrev pub AllAtMost : ℕ → List ℕ → Type 0
 AllAtMost m [] = Unit {0}
 AllAtMost m (v ∷ vs) = (v ≤ m) × AllAtMost m vs
 
-pub numbers_at_most : (m v n : ℕ) → v + n ≤ suc m → AllAtMost m (numbers v n)
+pub numbers_at_most : (m v n : ℕ) → v + n ≤ suc m → AllAtMost m (numbers_from v n)
 numbers_at_most m v zero h = tt
 numbers_at_most m v (suc n) h = (omega (arith, h), numbers_at_most m (suc v) n (omega (arith, h)))
 
@@ -241,14 +241,14 @@ module _ (all : Streams) (add : Adding) (unit : ℕ) (right : Right all add) whe
 
   turns_right : (f : ℕ → Made → Added) (g : ℕ → List Child) (m : ℕ)
       → ((v : ℕ) (s : Made) (r : List Name × Made) → v ≤ m → IsSmall s → f v s ≡ fine r → ChildrenBy all (g v) s r)
-      → (vs : List ℕ) (s : Made) (r : List Name × Made) → AllAtMost m vs → IsSmall s → turns_made unit f vs s ≡ fine r → ChildrenBy all (each_turn g vs) s r
+      → (vs : List ℕ) (s : Made) (r : List Name × Made) → AllAtMost m vs → IsSmall s → turns_made unit f vs s ≡ fine r → ChildrenBy all (children_each_turn g vs) s r
   turns_right f g m one [] s r le small h = subst (ChildrenBy all [] s) (ok_is ([], s) r h) (children_none all s)
   turns_right f g m one (v ∷ vs) s r le small h =
       let p = ok_parts (turn unit s) (λ t. also (f v t) (turns_made unit f vs)) r h in
       let t = p.0 in
       let k = turn_grew s t p.1 in
       let ok = grew_small s t k small in
-      let c = children_also all (g v) (each_turn g vs) t (f v t) (turns_made unit f vs) r
+      let c = children_also all (g v) (children_each_turn g vs) t (f v t) (turns_made unit f vs) r
       (λ x e. one v t x le.0 ok e)
       (λ q y w e. turns_right f g m one vs q y le.1 (grew_small t q w ok) e)
       p.2 in
@@ -443,27 +443,27 @@ module _ (all : Streams) (add : Adding) (right : Right all add) where
       })
 
 either_right : (u : SourceUnit) (us : List SourceUnit) (depth : ℕ) (n : Name) (zs : List ℤ) (s : Made) (x : Name × Made) → AllFit zs → IsFine u.stream.params u.stream.body → IsSmall s
-    → Right (stream_works (streams_of us)) (instance us (suc depth)) → Right (stream_works (streams_of us)) (instance us depth)
-    → (b : Bool) → name_eq u.stream.name n ≡ b → instance (u ∷ us) depth n zs s ≡ fine x → AddsBy (stream_works (streams_of (u ∷ us))) n zs s x
+    → Right (stream_works (unit_streams us)) (instance us (suc depth)) → Right (stream_works (unit_streams us)) (instance us depth)
+    → (b : Bool) → name_eq u.stream.name n ≡ b → instance (u ∷ us) depth n zs s ≡ fine x → AddsBy (stream_works (unit_streams (u ∷ us))) n zs s x
 either_right u us depth n zs s x fits ok small below beside b e h = go b e
   where
     here : Bool → Result (Name × Made) Refusal
     here b = if b then make (instance us (suc depth)) u depth (bound u.stream.params zs) s else instance us depth n zs s
 
     does : Bool → List ℤ → List ℤ
-    does b xs = if b then works_under (stream_works (streams_of us)) (bound u.stream.params zs) u.stream.body xs else stream_works (streams_of us) n zs xs
+    does b xs = if b then works_under (stream_works (unit_streams us)) (bound u.stream.params zs) u.stream.body xs else stream_works (unit_streams us) n zs xs
 
-    go : (b : Bool) → name_eq u.stream.name n ≡ b → AddsBy (stream_works (streams_of (u ∷ us))) n zs s x
+    go : (b : Bool) → name_eq u.stream.name n ≡ b → AddsBy (stream_works (unit_streams (u ∷ us))) n zs s x
     go true e =
-        let m = make_right (stream_works (streams_of us)) (instance us (suc depth)) below u depth u.stream.params zs s x fits ok small (sym (ap here e) ∙ h) in
-        let d = made_does (works_under (stream_works (streams_of us)) (bound u.stream.params zs) u.stream.body) s x m in
+        let m = make_right (stream_works (unit_streams us)) (instance us (suc depth)) below u depth u.stream.params zs s x fits ok small (sym (ap here e) ∙ h) in
+        let d = made_does (works_under (stream_works (unit_streams us)) (bound u.stream.params zs) u.stream.body) s x m in
         record { grew = m.grew; does = record { number = d.number; same = λ xs. d.same xs ∙ sym (ap (λ b. does b xs) e) } }
     go false e =
         let a = beside n zs s x fits small (sym (ap here e) ∙ h) in
         record { grew = a.grew; does = record { number = a.does.number; same = λ xs. a.does.same xs ∙ sym (ap (λ b. does b xs) e) } }
 
 -- so does what an `add` of these streams makes
-pub instance_right : (us : List SourceUnit) (depth : ℕ) → AreFine us → Right (stream_works (streams_of us)) (instance us depth)
+pub instance_right : (us : List SourceUnit) (depth : ℕ) → AreFine us → Right (stream_works (unit_streams us)) (instance us depth)
 instance_right [] depth ok n zs s x fits small h = absurd (cc h)
 instance_right (u ∷ us) depth ok n zs s x fits small h =
     either_right u us depth n zs s x fits ok.0 small (instance_right us (suc depth) ok.1) (instance_right us depth ok.1) (name_eq u.stream.name n) refl h
@@ -499,7 +499,7 @@ none_prework (Some w) = none_all w.block
 pub elaboration_means : ElaborationMeans
 elaboration_means [] m xs ok h = absurd (cc h)
 elaboration_means (u ∷ us) m xs ok h =
-    let all = stream_works (streams_of us) in
+    let all = stream_works (unit_streams us) in
     let p = ok_parts (make (instance us 2) u 1 [] nothing_made) (λ x. fine x.1) m h in
     let b = make_right all (instance us 2) (instance_right us 2 ok.1) u 1 [] [] nothing_made p.0 tt (top u.stream.body ok.0) (record { made = omega arith; few = omega arith }) p.1 in
     let new : plain.Declared = record { name = p.0.0; body = b.body } in

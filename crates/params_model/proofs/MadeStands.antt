@@ -15,7 +15,7 @@ use Rattle.params_model.specs.Meaning.{Streams, stream_works, last_works}
 use Rattle.params_model.specs.Plain.{instance_name, plain_filter}
 use Rattle.params_model.specs.Making.{Budget, Range, Refusal, on_fine, demand, SourceUnit, Made, nothing_made, begin, turn, is_ranged, are_ranged, are_ranged_option, is_ranged_dealing, is_ranged_filter, Adding, Added, also}
 use Rattle.params_model.specs.Making.{turns_made, made_once, steps_made, adds_of, children_made, body_made, finish, make, instance, last_made}
-use Rattle.params_model.specs.Laws.{IsFine, AreFine, IsFitStep, AreFitSteps, streams_of}
+use Rattle.params_model.specs.Laws.{IsFine, AreFine, IsFitStep, AreFitSteps, unit_streams}
 use Rattle.params_model.proofs.Values.{Fits, AllFit, bound_fits, values_fit, small}
 use Rattle.params_model.proofs.Instances.{fine, ok_is, ok_parts, demanded, also_parts, AllAtMost, turns_small, IsSmall, grew_small, Right, begin_parts, make_right, instance_right, elaboration_means}
 use Rattle.params_text.specs.Told.{IsOwnName, AreOwnNames, AreToldAdds, AreValues, AreToldWeights, IsToldDealing, IsToldBody, IsToldProgram}
@@ -183,7 +183,8 @@ module _ (all : Streams) (add : Adding) (right : Right all add) (fitting : Fitti
       }
 
 either_fit : (u : SourceUnit) (us : List SourceUnit) (depth : ℕ) (n : Name) (zs : List ℤ) (s : Made) (x : Name × Made) → AllFit zs → IsFine u.stream.params u.stream.body
-    → IsWrittenUnit u.stream → IsFit s → Right (stream_works (streams_of us)) (instance us (suc depth)) → Fitting (instance us (suc depth)) → Fitting (instance us depth)
+    → IsWrittenUnit u.stream → IsFit s → Right (stream_works (unit_streams us)) (instance us (suc depth)) → Fitting (instance us (suc depth))
+    → Fitting (instance us depth)
     → (b : Bool) → name_eq u.stream.name n ≡ b → instance (u ∷ us) depth n zs s ≡ fine x → NameFit x
 either_fit u us depth n zs s x fits ok w g right below beside b e h = go b e
   where
@@ -192,7 +193,7 @@ either_fit u us depth n zs s x fits ok w g right below beside b e h = go b e
 
     go : (b : Bool) → name_eq u.stream.name n ≡ b → NameFit x
     go true e =
-        make_fit (stream_works (streams_of us)) (instance us (suc depth)) right below u depth u.stream.params zs s x fits ok w w.body g (sym (ap here e) ∙ h)
+        make_fit (stream_works (unit_streams us)) (instance us (suc depth)) right below u depth u.stream.params zs s x fits ok w w.body g (sym (ap here e) ∙ h)
     go false e = beside n zs s x fits g (sym (ap here e) ∙ h)
 
 instance_fit : (us : List SourceUnit) (depth : ℕ) → AreFine us → AreWritten us → Fitting (instance us depth)
@@ -210,7 +211,7 @@ some_append (v ∷ us) u = tt
 pub made_told : (us : List SourceUnit) (m : Made) → AreFine us → AreWritten us → last_made us ≡ Ok m → IsSome m.units × IsToldProgram m.units
 made_told [] m ok w h = absurd (cc h)
 made_told (u ∷ us) m ok w h =
-    let all = stream_works (streams_of us) in
+    let all = stream_works (unit_streams us) in
     let p = ok_parts (make (instance us 2) u 1 [] nothing_made) (λ x. fine x.1) m h in
     let few : IsSmall nothing_made = record { made = omega arith; few = omega arith } in
     let e = ok_is p.0.1 m p.2 in

@@ -18,7 +18,7 @@ use Rattle.streamit_text.specs.Program.{WorkTree, FilterTree}
 use Rattle.streamit_model.proofs.Elaborated.{at_here, at_other}
 use Rattle.params_model.specs.Environment.{Environment, bound, under}
 use Rattle.params_model.specs.Meaning.{started, initial_under, fires_under, fires_from_under, pushed_under}
-use Rattle.params_model.specs.Plain.{literal, literal_or, put, put_first, put_once, put_all, put_optional, put_work, put_prework, put_filter}
+use Rattle.params_model.specs.Plain.{literal, literal_or, put, put_option, put_once, put_all, put_optional, put_work, put_prework, put_filter}
 use Rattle.params_model.specs.Laws.{Differs, AllDiffer, SparesOnce, SparesAll, SparesOptional}
 use Rattle.params_model.proofs.Values.{Fits, said_literal_or, not_given}
 
@@ -113,11 +113,11 @@ module _ (env : Environment) (fits : Fits env) where
   popping : (t : Expression) (p s : State) → Alike p s → p.popped + pops (put env t) ≡ s.popped + pops t
   popping t p s h = ap (λ j. p.popped + j) (put_pops env t) ∙ ap (λ j. j + pops t) h.popped
 
-  first_alike : (t : Option Expression) (xs : List ℤ) (p s : State) → Alike p s → first_value (put_first env t) xs p ≡ first_value t xs s
+  first_alike : (t : Option Expression) (xs : List ℤ) (p s : State) → Alike p s → first_value (put_option env t) xs p ≡ first_value t xs s
   first_alike None xs p s h = refl
   first_alike (Some t) xs p s h = said_alike t xs p s h
 
-  first_popping : (t : Option Expression) (p s : State) → Alike p s → p.popped + first_pops (put_first env t) ≡ s.popped + first_pops t
+  first_popping : (t : Option Expression) (p s : State) → Alike p s → p.popped + first_pops (put_option env t) ≡ s.popped + first_pops t
   first_popping None p s h = ap (λ j. j + 0) h.popped
   first_popping (Some t) p s h = popping t p s h
 

@@ -13,7 +13,7 @@ use Rattle.streamit_model.specs.Meaning.{look}
 use Rattle.streamit_text.specs.Grammar.{is_still, is_still_first, stays, stay, stay_optional}
 use Rattle.params_text.specs.Program.{ParamWork, ParamFilter}
 use Rattle.params_model.specs.Environment.{Environment, bound, value, option_count, rated_work, rated_prework}
-use Rattle.params_model.specs.Plain.{literal, literal_or, put, put_first, put_once, put_all, put_optional, put_work, put_prework, plain_filter}
+use Rattle.params_model.specs.Plain.{literal, literal_or, put, put_option, put_once, put_all, put_optional, put_work, put_prework, plain_filter}
 use Rattle.params_model.specs.Making.{is_ranged, is_ranged_option, is_ranged_work, is_ranged_prework, is_ranged_filter}
 use Rattle.params_model.proofs.Values.{AllFit, bound_fits, look_fits}
 use Rattle.params_text.specs.Told.{IsOwnName, IsTold, IsToldExpr, FirstBy, OnceBy, AllBy, OptionalBy, IsToldRate, IsToldWork, IsToldPrework, IsToldFilter}
@@ -103,7 +103,7 @@ module _ (ps : List Name) (zs : List ℤ) (fits : AllFit zs) where
 
   -- BLOCKS
 
-  first_by : (t : Option Expression) → FirstBy (IsWrittenExpr ps) t → FirstBy IsToldExpr (put_first env t)
+  first_by : (t : Option Expression) → FirstBy (IsWrittenExpr ps) t → FirstBy IsToldExpr (put_option env t)
   first_by None h = tt
   first_by (Some t) h = put_expr t h
 
@@ -146,7 +146,7 @@ module _ (ps : List Name) (zs : List ℤ) (fits : AllFit zs) where
   put_still (tree.Not t) = put_still t
   put_still (tree.Bin o a b) = ap (λ x. x && is_still (put env b)) (put_still a) ∙ ap (λ x. is_still a && x) (put_still b)
 
-  first_still : (t : Option Expression) → is_still_first (put_first env t) ≡ is_still_first t
+  first_still : (t : Option Expression) → is_still_first (put_option env t) ≡ is_still_first t
   first_still None = refl
   first_still (Some t) = put_still t
 

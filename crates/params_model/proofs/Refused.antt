@@ -17,7 +17,7 @@ use Rattle.params_model.specs.Judged.{step_judged, steps_judged, dealing_judged,
 use Rattle.params_model.specs.Making.{Fault, UnknownName, Refusal, demand}
 use Rattle.params_model.specs.Places.{Spot, Names, Takes, Declares, Sets, Uses, Loops, Adds, Gives, Place, uses, all_uses, option_uses, option_all_uses, declares}
 use Rattle.params_model.specs.Places.{statement_spots, block_spots, optional_spots, rate_spots, work_spots, prework_spots, filter_spots, step_spots, steps_spots}
-use Rattle.params_model.specs.Places.{dealing_spots, body_spots, takes, unit_spots, in_unit, places_from, places_of}
+use Rattle.params_model.specs.Places.{dealing_spots, body_spots, parameter_spots, unit_spots, in_unit, places_from, places_of}
 
 -- THE TEST OF A PLACE
 
@@ -159,9 +159,9 @@ option-all-are k ks (Some cs) = all-are k ks cs
 
 -- FILTERS
 
-takes-are : (k : ℕ) (ks ns : List Name) → tested k (takes ks ns) ≡ new_names k ks ns
+takes-are : (k : ℕ) (ks ns : List Name) → tested k (parameter_spots ks ns) ≡ new_names k ks ns
 takes-are k ks [] = refl
-takes-are k ks (n ∷ ns) = first-of k (Takes n ks) (takes (ks ++ n ∷ []) ns) _ (takes-are k (ks ++ n ∷ []) ns)
+takes-are k ks (n ∷ ns) = first-of k (Takes n ks) (parameter_spots (ks ++ n ∷ []) ns) _ (takes-are k (ks ++ n ∷ []) ns)
 
 declares-are : (k : ℕ) (ps ns : List Name) → tested k (declares ps ns) ≡ other_names k ps ns
 declares-are k ps [] = refl
@@ -236,8 +236,8 @@ body-is k above ps (ASplitJoin d ss ws) =
 
 unit-is : (k : ℕ) (above : Above) (u : Declared) → tested k (unit_spots above u) ≡ unit_judged k above u
 unit-is k above u =
-    first-of k (Names u.name above) (takes [] u.params ++ body_spots above u.params u.body) _
-    (parts k (takes [] u.params) (body_spots above u.params u.body) _ _ (takes-are k [] u.params) (body-is k above u.params u.body))
+    first-of k (Names u.name above) (parameter_spots [] u.params ++ body_spots above u.params u.body) _
+    (parts k (parameter_spots [] u.params) (body_spots above u.params u.body) _ _ (takes-are k [] u.params) (body-is k above u.params u.body))
 
 abbrev all_tested : List Place → Judgement
 all_tested [] = no_fault

@@ -86,12 +86,12 @@ abbrev pub AreFine : List SourceUnit → Type 0
 AreFine [] = Unit {0}
 AreFine (u ∷ us) = IsFine u.stream.params u.stream.body × AreFine us
 
-abbrev pub streams_of : List SourceUnit → List Declared
-streams_of us = map (λ u. u.stream) us
+abbrev pub unit_streams : List SourceUnit → List Declared
+unit_streams us = map (λ u. u.stream) us
 
 -- the plain program that is made means what the program with parameters means
 abbrev pub ElaborationMeans : Type 0
-ElaborationMeans = (us : List SourceUnit) (m : Made) (xs : List ℤ) → AreFine us → last_made us ≡ Ok m → program_outputs m.units xs ≡ last_works (streams_of us) xs
+ElaborationMeans = (us : List SourceUnit) (m : Made) (xs : List ℤ) → AreFine us → last_made us ≡ Ok m → program_outputs m.units xs ≡ last_works (unit_streams us) xs
 
 -- each number of an argument of a program is a value, as the grammar has it
 abbrev pub IsFitBody : Body → Type 0
@@ -115,7 +115,7 @@ abbrev pub MadeStands : Type 0
 MadeStands =
     (us : List SourceUnit) (m : Made) → AreFine us → AreWritten us → last_made us ≡ Ok m
     → IsText (plain_text m.units) m.units
-    × ((q : Program) (xs : List ℤ) → IsText (plain_text m.units) q → program_outputs q xs ≡ last_works (streams_of us) xs)
+    × ((q : Program) (xs : List ℤ) → IsText (plain_text m.units) q → program_outputs q xs ≡ last_works (unit_streams us) xs)
 
 -- so does the text of what is made of a program that is accepted
 abbrev pub ElaboratedStands : Type 0

@@ -37,14 +37,14 @@ pushed_under env t xs = fires_from_under env t (suc (length xs)) 0 (initial_unde
 abbrev pub Child : Type 0
 Child = Name × List ℤ
 
-abbrev pub each_turn : (ℕ → List Child) → List ℕ → List Child
-each_turn f [] = []
-each_turn f (v ∷ vs) = f v ++ each_turn f vs
+abbrev pub children_each_turn : (ℕ → List Child) → List ℕ → List Child
+children_each_turn f [] = []
+children_each_turn f (v ∷ vs) = f v ++ children_each_turn f vs
 
 abbrev mutual
   pub children_once : Environment → Step → List Child
   children_once env (Add n cs) = (n, map (value env) cs) ∷ []
-  children_once env (Loop n low upto high ss) = each_turn (λ v. children ((n, pos v) ∷ env) ss) (turns_between (value env low) upto (value env high))
+  children_once env (Loop n low upto high ss) = children_each_turn (λ v. children ((n, pos v) ∷ env) ss) (turns_between (value env low) upto (value env high))
 
   pub children : Environment → Steps → List Child
   children env End = []

@@ -113,12 +113,12 @@ body_spots above ps (APipeline ss) = steps_spots above ps ss
 body_spots above ps (ASplitJoin d ss ws) = dealing_spots ps d ++ (steps_spots above ps ss ++ option_all_uses ps ws)
 
 -- the parameters, behind these
-abbrev pub takes : List Name → List Name → List Spot
-takes ks [] = []
-takes ks (n ∷ ns) = Takes n ks ∷ takes (ks ++ n ∷ []) ns
+abbrev pub parameter_spots : List Name → List Name → List Spot
+parameter_spots ks [] = []
+parameter_spots ks (n ∷ ns) = Takes n ks ∷ parameter_spots (ks ++ n ∷ []) ns
 
 abbrev pub unit_spots : Above → Declared → List Spot
-unit_spots above u = Names u.name above ∷ (takes [] u.params ++ body_spots above u.params u.body)
+unit_spots above u = Names u.name above ∷ (parameter_spots [] u.params ++ body_spots above u.params u.body)
 
 abbrev pub in_unit : ℕ → List Spot → List Place
 in_unit k ss = map (λ s. record { unit = k; spot = s }) ss

@@ -32,13 +32,13 @@ put env (tree.Neg t) = tree.Neg (put env t)
 put env (tree.Not t) = tree.Not (put env t)
 put env (tree.Bin o a b) = tree.Bin o (put env a) (put env b)
 
-abbrev pub put_first : Environment → Option Expression → Option Expression
-put_first env None = None
-put_first env (Some t) = Some (put env t)
+abbrev pub put_option : Environment → Option Expression → Option Expression
+put_option env None = None
+put_option env (Some t) = Some (put env t)
 
 abbrev mutual
   pub put_once : Environment → Statement → Statement
-  put_once env (Declare n t) = Declare n (put_first env t)
+  put_once env (Declare n t) = Declare n (put_option env t)
   put_once env (Assign n t) = Assign n (put env t)
   put_once env (Push t) = Push (put env t)
   put_once env Discard = Discard

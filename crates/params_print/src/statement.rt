@@ -2,7 +2,7 @@
 ghost use Rattle.std.specs.Prelude.{◌≡◌, ◌++◌, OnOk};
 ghost use Rattle.streamit_text.specs.Tree.{Declare, Assign, Push, Discard, expression, option_expression, is_turn, statement, block, optional_block};
 ghost use Rattle.params_text.specs.Toks.{below, statement_toks, block_toks, else_toks, spaced};
-ghost use Rattle.params_model.specs.Plain.{put, put_first, put_once, put_all, put_optional};
+ghost use Rattle.params_model.specs.Plain.{put, put_option, put_once, put_all, put_optional};
 ghost use Rattle.params_print.specs.Heads.{if_toks, for_toks};
 
 use crate::Bindings;
@@ -32,7 +32,7 @@ fn declare(
     value: &Option<Expr>,
     to: &mut Bytes,
 ) -> Result<(), NoMemory>
-    ensures { OnOk result (to.new ≡ to.old ++ spaced (statement_toks (Declare name.now (put_first known.now (option_expression value.now))))) }
+    ensures { OnOk result (to.new ≡ to.old ++ spaced (statement_toks (Declare name.now (put_option known.now (option_expression value.now))))) }
 {
     match value {
         None => {

@@ -5,7 +5,7 @@ use Rattle.std.proofs.lemmas.Bool.{cases_lt}
 use Rattle.river_plan.specs.Forms.{PlanForm}
 use Rattle.plan_edits.specs.declared.unfit.Unfit.{Unfit}
 use Rattle.plan_edits.specs.declared.unfit.Unfit.TheVariants.{U1, U2, U3, U4, U5, H1, H2, H3, H4, N1, N2, N3, N4, N5, NoMemory}
-use Rattle.plan_edits.specs.Judged.{rank, IsFirstToFail, IsJudged}
+use Rattle.plan_edits.specs.Judged.{rank, IsFirstToFail, IsJudgedBy}
 
 -- the condition of a rank
 abbrev of_rank : ℕ → Unfit
@@ -70,17 +70,17 @@ one_first Fails f g a b = ⊎_elim
     (cases_lt (rank g) (rank f)))
     (cases_lt (rank f) (rank g))
 
-one_answer : (Fails : Unfit → Type 0) (Makes : PlanForm → Type 0) (told made : Result PlanForm Unfit) → IsJudged Fails Makes told
-    → ((a b : PlanForm) → Makes a → Makes b → a ≡ b) → IsJudged Fails Makes made → told ≡ made
+one_answer : (Fails : Unfit → Type 0) (Makes : PlanForm → Type 0) (told made : Result PlanForm Unfit) → IsJudgedBy Fails Makes told
+    → ((a b : PlanForm) → Makes a → Makes b → a ≡ b) → IsJudgedBy Fails Makes made → told ≡ made
 one_answer Fails Makes (Ok a) (Ok b) h one k = ap (λ x. Ok x) (one a b h.1 k.1)
 one_answer Fails Makes (Ok a) (Err g) h one k = absurd (h.0 g k.fails)
 one_answer Fails Makes (Err f) (Ok b) h one k = absurd (k.0 f h.fails)
 one_answer Fails Makes (Err f) (Err g) h one k = ap (λ x. Err x) (one_first Fails f g h k)
 
 -- an answer that the conditions allow is the only one, where they make one plan
-pub judged_law : (Fails : Unfit → Type 0) (Makes : PlanForm → Type 0) (told : Result PlanForm Unfit) → IsJudged Fails Makes told
-    → ((a b : PlanForm) → Makes a → Makes b → a ≡ b) → (made : Result PlanForm Unfit) → (told ≡ made) ↔ IsJudged Fails Makes made
-judged_law Fails Makes told h one made = ((λ e. subst (IsJudged Fails Makes) e h), (λ k. one_answer Fails Makes told made h one k))
+pub judged_law : (Fails : Unfit → Type 0) (Makes : PlanForm → Type 0) (told : Result PlanForm Unfit) → IsJudgedBy Fails Makes told
+    → ((a b : PlanForm) → Makes a → Makes b → a ≡ b) → (made : Result PlanForm Unfit) → (told ≡ made) ↔ IsJudgedBy Fails Makes made
+judged_law Fails Makes told h one made = ((λ e. subst (IsJudgedBy Fails Makes) e h), (λ k. one_answer Fails Makes told made h one k))
 
 -- by the cases of a test
 pub by_if : (P : Result PlanForm Unfit → Type 0) (b : Bool) (x y : Result PlanForm Unfit) → (b ≡ true → P x) → (b ≡ false → P y) → P (if b then x else y)

@@ -6,7 +6,7 @@ use Rattle.river_plan.specs.Forms.{Name}
 use Rattle.river_plan.specs.Names.{count, one_if}
 use Rattle.river_plan.proofs.NameLemmas.{count-append, cases_bool}
 use Rattle.brooklet_model.proofs.Lists.{if_true, if_false}
-use Rattle.plan_edits.specs.Lists.{place}
+use Rattle.plan_edits.specs.Lists.{place_of_name}
 
 -- one element more
 pub next_take : {A : Type 0} (xs : List A) (i : ℕ) (x : A) → i < length xs → x ≡ get_or xs i x → take (i + 1) xs ≡ take i xs ++ x ∷ []
@@ -29,19 +29,19 @@ there_at q (y ∷ xs) (suc i) x lt e t = let r = there_at q xs i x (omega (arith
 
 -- the first place of the name
 pub place_at : (q : Name) (xs : List Name) (i : ℕ) (x : Name) → i < length xs → x ≡ get_or xs i x → name_eq x q ≡ true → count q (take i xs) ≡ 0
-    → i ≡ place q xs
+    → i ≡ place_of_name q xs
 place_at q [] i x lt e t z = absurd (omega (arith, lt))
-place_at q (y ∷ xs) zero x lt e t z = sym (if_true (name_eq y q) 0 (suc (place q xs)) (sym (ap (λ n. name_eq n q) e) ∙ t))
+place_at q (y ∷ xs) zero x lt e t z = sym (if_true (name_eq y q) 0 (suc (place_of_name q xs)) (sym (ap (λ n. name_eq n q) e) ∙ t))
 place_at q (y ∷ xs) (suc i) x lt e t z = ⊎_elim
     (λ c. absurd (let d = ap one_if c in omega (arith, d, z)))
-    (λ c. ap suc (place_at q xs i x (omega (arith, lt)) e t (omega (arith, z))) ∙ sym (if_false (name_eq y q) 0 (suc (place q xs)) c))
+    (λ c. ap suc (place_at q xs i x (omega (arith, lt)) e t (omega (arith, z))) ∙ sym (if_false (name_eq y q) 0 (suc (place_of_name q xs)) c))
     (cases_bool (name_eq y q))
 
 -- where the name is not in the list, its place is the length
-pub place_past : (q : Name) (xs : List Name) (i : ℕ) → length xs ≤ i → i ≤ length xs → count q (take i xs) ≡ 0 → i ≡ place q xs
+pub place_past : (q : Name) (xs : List Name) (i : ℕ) → length xs ≤ i → i ≤ length xs → count q (take i xs) ≡ 0 → i ≡ place_of_name q xs
 place_past q [] i ge le z = omega (arith, le)
 place_past q (y ∷ xs) zero ge le z = absurd (omega (arith, ge))
 place_past q (y ∷ xs) (suc i) ge le z = ⊎_elim
     (λ c. absurd (let d = ap one_if c in omega (arith, d, z)))
-    (λ c. ap suc (place_past q xs i (omega (arith, ge)) (omega (arith, le)) (omega (arith, z))) ∙ sym (if_false (name_eq y q) 0 (suc (place q xs)) c))
+    (λ c. ap suc (place_past q xs i (omega (arith, ge)) (omega (arith, le)) (omega (arith, z))) ∙ sym (if_false (name_eq y q) 0 (suc (place_of_name q xs)) c))
     (cases_bool (name_eq y q))

@@ -5,7 +5,7 @@ use Rattle.river_plan.specs.Forms.{Name, OpForm}
 use Rattle.river_plan.specs.Names.{count}
 use Rattle.river_plan.specs.Uses.{Each, total, writes_it, reads_it, and_writes, ReadsBefore, named_it}
 use Rattle.river_plan.proofs.NameLemmas.{more_or_zero}
-use Rattle.brooklet_model.specs.Histories.{History, given, joined, tables_of, adds, Lists, Solves}
+use Rattle.brooklet_model.specs.Histories.{History, given_on, joined, tables_of, adds, Lists, Solves}
 use Rattle.brooklet_model.proofs.Lists.{if_lt, if_ge}
 use Rattle.brooklet_model.proofs.Solutions.{given_same}
 use Rattle.plan_edits.specs.Lists.{first_with}
@@ -92,14 +92,14 @@ pub adds_same : (tables : List Name) (ops : List OpForm) (h h' : History) (t : N
 adds_same tables [] h h' t e = refl
 adds_same tables (op ∷ ops) h h' t e =
     ap (λ g. joined (tables_of tables op) g.adds t ++ adds tables ops h t) (given_same op h h' (λ q lt. e q (omega (arith, lt))))
-    ∙ ap (λ l. joined (tables_of tables op) (given op h').adds t ++ l) (adds_same tables ops h h' t (λ q lt. e q (omega (arith, lt))))
+    ∙ ap (λ l. joined (tables_of tables op) (given_on op h').adds t ++ l) (adds_same tables ops h h' t (λ q lt. e q (omega (arith, lt))))
 
 -- histories that agree on all that operators read and write solve the same equations
 pub all_agree : (ops : List OpForm) (h h' : History) → ((q : Name) → 0 < total (reads_it q) ops + total (writes_it q) ops → h q ≡ h' q) → Each (Solves h) ops
     → Each (Solves h') ops
 all_agree [] h h' e s = tt
 all_agree (op ∷ ops) h h' e s = (
-  lists_agree op.writes (given op h').outs h h' (λ q lt. e q (omega (arith, lt)))
+  lists_agree op.writes (given_on op h').outs h h' (λ q lt. e q (omega (arith, lt)))
       (subst (λ f. Lists op.writes f.outs h) (given_same op h h' (λ q lt. e q (omega (arith, lt)))) s.0),
   all_agree ops h h' (λ q lt. e q (omega (arith, lt))) s.1,
 )

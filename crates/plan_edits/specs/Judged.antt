@@ -28,6 +28,6 @@ pub record IsFirstToFail (Fails : Unfit → Type 0) (f : Unfit) : Type 0 where
   pub first : (g : Unfit) → rank g < rank f → Fails g → ⊥
 
 -- the answer is a plan exactly where no condition fails, and then the one that is made; otherwise it is the first that fails
-abbrev pub IsJudged : (Unfit → Type 0) → (PlanForm → Type 0) → Result PlanForm Unfit → Type 0
-IsJudged Fails Makes (Ok p) = ((f : Unfit) → Fails f → ⊥) × Makes p
-IsJudged Fails Makes (Err f) = IsFirstToFail Fails f
+abbrev pub IsJudgedBy : (Unfit → Type 0) → (PlanForm → Type 0) → Result PlanForm Unfit → Type 0
+IsJudgedBy Fails Makes (Ok p) = ((f : Unfit) → Fails f → ⊥) × Makes p
+IsJudgedBy Fails Makes (Err f) = IsFirstToFail Fails f

@@ -8,9 +8,9 @@ use Rattle.river_plan.specs.Names.{count}
 use Rattle.river_plan.specs.Uses.{named_it}
 
 -- the place of a name in a list
-abbrev pub place : Name → List Name → ℕ
-place q [] = 0
-place q (w ∷ ws) = if name_eq w q then 0 else suc (place q ws)
+abbrev pub place_of_name : Name → List Name → ℕ
+place_of_name q [] = 0
+place_of_name q (w ∷ ws) = if name_eq w q then 0 else suc (place_of_name q ws)
 
 -- the declarations, without the first of this name
 abbrev pub undeclared : Name → List Decl → List Decl

@@ -22,6 +22,7 @@ use Rattle.streamit_front.specs.Words.{streamit_words}
 use Rattle.streamit_front.specs.declared.fault.StreamitFault.{StreamitFault}
 use Rattle.streamit_front.specs.declared.fault.StreamitFault.TheVariants as streamit_fault
 use Rattle.streamit_text.specs.Program as streamit_tree
+use Rattle.kern_rows.specs.Even.{row_items}
 use Rattle.streamit_front.specs.declared.program.StreamitProgram.{StreamitProgram}
 use Rattle.streamit_front.proofs.Fronts.{compiled-readable, plans_mean}
 use Rattle.params_text.specs.Program as params_tree
@@ -32,7 +33,7 @@ use Rattle.params_front.specs.declared.fault.ParamFault.{ParamFault}
 use Rattle.params_front.specs.declared.fault.ParamFault.TheVariants as params_fault
 use Rattle.params_front.proofs.Compiling.{compiled-readable as params-readable, plain_means, plans_mean as params_plans_mean}
 use Rattle.river_cli.specs.Contents.{AreContents}
-use Rattle.river_cli.specs.Inputs.{row_items, all_items}
+use Rattle.river_cli.specs.Inputs.{all_items}
 use Rattle.river_cli.specs.Source.{river_source, streamit_source, params_source, saw_source, values, source_or_refused, IsPlanOf, IsCompiled}
 use Rattle.std.proofs.lemmas.List.{take_all}
 use Rattle.saw_model.specs.Plan.{as_items as saw_items}

@@ -10,6 +10,7 @@ use Rattle.river_order.specs.declared.stop.Stop.{Stop}
 use Rattle.river_order.proofs.Comes.{Comes-same, Comes-on}
 use Rattle.river_order.proofs.Turns.{Stops-later}
 use Rattle.river_cli.specs.Inputs.{fetch_each}
+use Rattle.river_cli.specs.Limits.{most_input}
 use Rattle.river_cli.specs.Text.{large_input}
 use Rattle.river_cli.specs.declared.command.InWord.{InWord}
 
@@ -27,7 +28,7 @@ comes-first ins held next = Comes-same (fetch_each ins next) held
 
 -- one file more
 pub comes-more : (ins : List InWord) (held : Option Held) (files : List (List ℕ)) (w : InWord) (left : List InWord) (bytes : List ℕ)
-    → ComesTo ins held files (w ∷ left) → ((next : List ℕ → Order) → Comes (Fetch w.file 67108864 (large_input w.name) next) held (next bytes))
+    → ComesTo ins held files (w ∷ left) → ((next : List ℕ → Order) → Comes (Fetch w.file most_input (large_input w.name) next) held (next bytes))
     → ComesTo ins held (files ++ bytes ∷ []) left
 unfolding fetch_each
 comes-more ins held files w left bytes far one next =
@@ -44,7 +45,7 @@ comes-all ins held files far next = subst (λ (l : List (List ℕ)). Comes (fetc
 -- the fetch of the next file stops the whole
 pub stops-more : (ins : List InWord) (held : Option Held) (early late : Type 0) → (late → early)
     → (files : List (List ℕ)) (w : InWord) (left : List InWord) (s : Stop)
-    → ComesTo ins held files (w ∷ left) → ((next : List ℕ → Order) → Stops (Some (Fetch w.file 67108864 (large_input w.name) next)) held late s)
+    → ComesTo ins held files (w ∷ left) → ((next : List ℕ → Order) → Stops (Some (Fetch w.file most_input (large_input w.name) next)) held late s)
     → (next : List (List ℕ) → Order) → Stops (Some (fetch_each ins next)) held early s
 unfolding fetch_each
 stops-more ins held early late sooner files w left s far one next =

@@ -5,6 +5,7 @@ use Rattle.std.specs.Str.{bytes_eq}
 use Rattle.std.proofs.lemmas.Bool.Decides.{nat_tests}
 use Rattle.csv_streams.specs.Number.{value_after}
 use Rattle.river_cli.specs.Commands.{with_header, with_counts, with_script, with_workers, with_cap, with_input, IsManned}
+use Rattle.river_cli.specs.Limits.{most_cap}
 use Rattle.river_cli.specs.Phrases.{Phrase, option, script, input, number_ahead, with_number, phrase_of, one_more, phrases, made, are_apart, with_phrases}
 use Rattle.river_cli.specs.Sentences.{plain, with_words, asked, asked_load, asked_upgrade, asked_two, command_of}
 use Rattle.river_cli.specs.Words.{lang_named, is_file, is_number_word, up_to_most, number_to, in_word_of}
@@ -102,19 +103,19 @@ workers_keep key words = by (number_ahead 64 words) refl
     by None e = tt
     by (Some n) e = some n (ahead_within 64 words n e)
 
-cap_keeps : (key : List ℕ) (words : List (List ℕ)) → MayKeep (with_number key with_cap (number_ahead 65536 words))
-cap_keeps key words = by (number_ahead 65536 words) refl
+cap_keeps : (key : List ℕ) (words : List (List ℕ)) → MayKeep (with_number key with_cap (number_ahead most_cap words))
+cap_keeps key words = by (number_ahead most_cap words) refl
   where
-    some : (n : ℕ) → (1 ≤ n) × (n ≤ 65536) → (command : Command) → IsManned command → MayBeManned (with_cap n command)
+    some : (n : ℕ) → (1 ≤ n) × (n ≤ most_cap) → (command : Command) → IsManned command → MayBeManned (with_cap n command)
     some n w (Run lang file ins script workers cap header counts) h = (h.0, h.1, w.0, w.1)
     some n w (Plan lang file script) h = tt
     some n w (Mean lang file ins header) h = tt
     some n w (Upgrade file) h = tt
     some n w (Load number) h = tt
 
-    by : (o : Option ℕ) → number_ahead 65536 words ≡ o → MayKeep (with_number key with_cap o)
+    by : (o : Option ℕ) → number_ahead most_cap words ≡ o → MayKeep (with_number key with_cap o)
     by None e = tt
-    by (Some n) e = some n (ahead_within 65536 words n e)
+    by (Some n) e = some n (ahead_within most_cap words n e)
 
 phrase_keeps : (words : List (List ℕ)) → MayKeep (phrase_of words)
 phrase_keeps [] = tt
@@ -123,7 +124,7 @@ phrase_keeps (w ∷ ws) =
     (either (bytes_eq w (codes "-c")) (option w with_counts) _ counts_keep
     (either (bytes_eq w (codes "-r")) (script ws) _ (script_keeps ws)
     (either (bytes_eq w (codes "-w")) (with_number w with_workers (number_ahead 64 ws)) _ (workers_keep w ws)
-    (either (bytes_eq w (codes "-q")) (with_number w with_cap (number_ahead 65536 ws)) _ (cap_keeps w ws)
+    (either (bytes_eq w (codes "-q")) (with_number w with_cap (number_ahead most_cap ws)) _ (cap_keeps w ws)
     (either (is_file w) (input (in_word_of w)) None (input_keeps (in_word_of w)) tt)))))
 
 -- phrases that make of each command that is manned another one

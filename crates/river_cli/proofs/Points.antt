@@ -23,6 +23,7 @@ use Rattle.river_cli.specs.Contents.{AreContents}
 use Rattle.river_cli.specs.Layouts.{layout_of}
 use Rattle.river_cli.specs.Inputs.{of_inputs, all_items}
 use Rattle.plan_classes.specs.Lines.{classes_text}
+use Rattle.river_cli.specs.Limits.{most_program}
 use Rattle.river_cli.specs.Points.{of_program, of_script, of_inputs_run, of_run, of_show, of_mean, of_upgrade, of_command, ended, plan_as_shown}
 use Rattle.river_cli.specs.Source.{SourceProgram, source_of, program_caps, IsPlanOf, IsCompiledAs, IsCompiled, printed}
 use Rattle.river_cli.specs.Text.{large_program}
@@ -46,18 +47,18 @@ as-then stands first second held mid early late sooner y result here later = the
 
 module _ (lang : Lang) (file text : List ℕ) (held : Option Held) (rose : Type 0) where
   -- it was fetched, and compiled or refused
-  pub program-passes : (result : Result Compiled Stop) → ((next : List ℕ → Order) → Comes (Fetch file 1048576 large_program next) held (next text))
+  pub program-passes : (result : Result Compiled Stop) → ((next : List ℕ → Order) → Comes (Fetch file most_program large_program next) held (next text))
       → AnswersAs IsCompiled (source_of lang text) result → PassesAs IsCompiled (of_program lang file) held rose result
   unfolding of_program
   program-passes (Ok c) here told =
       let s = as_passed IsCompiled (source_of lang text) c held told in
-      (s.0, s.1, λ next. Comes-on (Fetch file 1048576 large_program (λ t. past (source_of lang t) next)) (past (source_of lang text) next) (next s.0) held (here (λ t. past (source_of lang t) next)) (s.2 next))
+      (s.0, s.1, λ next. Comes-on (Fetch file most_program large_program (λ t. past (source_of lang t) next)) (past (source_of lang text) next) (next s.0) held (here (λ t. past (source_of lang t) next)) (s.2 next))
   program-passes (Err s) here told = λ next.
-      Stops-later (Fetch file 1048576 large_program (λ t. past (source_of lang t) next)) (past (source_of lang text) next) held rose rose (λ r. r) s (here (λ t. past (source_of lang t) next))
+      Stops-later (Fetch file most_program large_program (λ t. past (source_of lang t) next)) (past (source_of lang text) next) held rose rose (λ r. r) s (here (λ t. past (source_of lang t) next))
       (past-refused (source_of lang text) s held rose told next)
 
   -- it cannot be fetched
-  pub program-stops : (s : Stop) → ((next : List ℕ → Order) → Stops (Some (Fetch file 1048576 large_program next)) held rose s)
+  pub program-stops : (s : Stop) → ((next : List ℕ → Order) → Stops (Some (Fetch file most_program large_program next)) held rose s)
       → (next : SourceProgram → Order) → Stops (Some (of_program lang file next)) held rose s
   unfolding of_program
   program-stops s stops next = stops (λ t. past (source_of lang t) next)

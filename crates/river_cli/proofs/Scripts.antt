@@ -16,6 +16,7 @@ use Rattle.river_script.proofs.Fronts.{makes_what_it_has}
 use Rattle.river_script.proofs.Steps.{script_means}
 use Rattle.river_cli.specs.Contents.{AreContents}
 use Rattle.river_cli.specs.Inputs.{all_items}
+use Rattle.river_cli.specs.Limits.{most_script}
 use Rattle.river_cli.specs.Points.{of_script, with_plan}
 use Rattle.river_cli.specs.Source.{SourceProgram, IsProgramOf, IsCompiledAs}
 use Rattle.river_cli.specs.declared.compile.Program.{Program}
@@ -59,25 +60,25 @@ as_passed stands (Err t) y held told = absurd told
 
 module _ (program : Program) (file : List ℕ) (source : SourceProgram) (text : List ℕ) (held : Option Held) where
   -- it was fetched and applied
-  pub script-comes : (plan : PlanForm) → ((next : List ℕ → Order) → Comes (Fetch file 65536 large_script next) held (next text))
+  pub script-comes : (plan : PlanForm) → ((next : List ℕ → Order) → Comes (Fetch file most_script large_script next) held (next text))
       → StandsFor (IsCompiledAs program) (with_plan source (rewritten source.plan text)) plan
       → (later : SourceProgram) × IsCompiledAs program later plan × ((next : SourceProgram → Order) → Comes (of_script (Some file) source next) held (next later))
   unfolding of_script
   script-comes plan here told =
       let s = as_passed (IsCompiledAs program) (with_plan source (rewritten source.plan text)) plan held told in
-      (s.0, s.1, λ next. Comes-on (Fetch file 65536 large_script (λ t. past (with_plan source (rewritten source.plan t)) next)) (past (with_plan source (rewritten source.plan text)) next) (next s.0) held (here (λ t. past (with_plan source (rewritten source.plan t)) next)) (s.2 next))
+      (s.0, s.1, λ next. Comes-on (Fetch file most_script large_script (λ t. past (with_plan source (rewritten source.plan t)) next)) (past (with_plan source (rewritten source.plan text)) next) (next s.0) held (here (λ t. past (with_plan source (rewritten source.plan t)) next)) (s.2 next))
 
   -- it is refused
   pub script-refused : (early late : Type 0) → (late → early) → (s : Stop)
-      → ((next : List ℕ → Order) → Comes (Fetch file 65536 large_script next) held (next text)) → Refuses (with_plan source (rewritten source.plan text)) s
+      → ((next : List ℕ → Order) → Comes (Fetch file most_script large_script next) held (next text)) → Refuses (with_plan source (rewritten source.plan text)) s
       → (next : SourceProgram → Order) → Stops (Some (of_script (Some file) source next)) held early s
   unfolding of_script
   script-refused early late sooner s here told next =
-      Stops-later (Fetch file 65536 large_script (λ t. past (with_plan source (rewritten source.plan t)) next)) (past (with_plan source (rewritten source.plan text)) next) held early late sooner s (here (λ t. past (with_plan source (rewritten source.plan t)) next))
+      Stops-later (Fetch file most_script large_script (λ t. past (with_plan source (rewritten source.plan t)) next)) (past (with_plan source (rewritten source.plan text)) next) held early late sooner s (here (λ t. past (with_plan source (rewritten source.plan t)) next))
       (past-refused (with_plan source (rewritten source.plan text)) s held late told next)
 
   -- it was fetched, and applied or refused
-  pub script-passes : (rose : Type 0) (result : Result PlanForm Stop) → ((next : List ℕ → Order) → Comes (Fetch file 65536 large_script next) held (next text))
+  pub script-passes : (rose : Type 0) (result : Result PlanForm Stop) → ((next : List ℕ → Order) → Comes (Fetch file most_script large_script next) held (next text))
       → AnswersAs (IsCompiledAs program) (with_plan source (rewritten source.plan text)) result
       → PassesAs (IsCompiledAs program) (of_script (Some file) source) held rose result
   script-passes rose (Ok plan) here told = script-comes plan here told
@@ -85,7 +86,7 @@ module _ (program : Program) (file : List ℕ) (source : SourceProgram) (text : 
 
 -- it cannot be fetched
 pub fetch-stops : (file : List ℕ) (source : SourceProgram) (held : Option Held) (rose : Type 0) (s : Stop)
-    → ((next : List ℕ → Order) → Stops (Some (Fetch file 65536 large_script next)) held rose s)
+    → ((next : List ℕ → Order) → Stops (Some (Fetch file most_script large_script next)) held rose s)
     → (next : SourceProgram → Order) → Stops (Some (of_script (Some file) source next)) held rose s
 unfolding of_script
 fetch-stops file source held rose s stops next = stops (λ t. past (with_plan source (rewritten source.plan t)) next)

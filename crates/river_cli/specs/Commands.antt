@@ -3,6 +3,7 @@ use Rattle.std.specs.Prelude.{◌≡◌, ◌≤◌, List, ℕ, [], ◌∷◌, �
 use Rattle.river_cli.specs.declared.command.Command.{Command}
 use Rattle.river_cli.specs.declared.command.Command.TheVariants.{Run, Plan, Mean, Upgrade, Load}
 use Rattle.river_cli.specs.declared.command.InWord.{InWord}
+use Rattle.river_cli.specs.Limits.{most_cap}
 
 -- `-H`: each input begins with a header
 abbrev pub with_header : Command → Option Command
@@ -59,7 +60,7 @@ MayMake false made command = made ≡ None
 
 -- a run has 1 to 64 workers, and queues that hold 1 to 65,536 items
 abbrev pub IsManned : Command → Type 0
-IsManned (Run lang file ins script workers cap header counts) = (1 ≤ workers) × (workers ≤ 64) × (1 ≤ cap) × (cap ≤ 65536)
+IsManned (Run lang file ins script workers cap header counts) = (1 ≤ workers) × (workers ≤ 64) × (1 ≤ cap) × (cap ≤ most_cap)
 IsManned (Plan lang file script) = Unit {0}
 IsManned (Mean lang file ins header) = Unit {0}
 IsManned (Upgrade file) = Unit {0}

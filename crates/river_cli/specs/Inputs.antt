@@ -3,12 +3,11 @@ use Rattle.std.specs.Prelude.{◌≡◌, ◌<◌, length, slice_index_or, ℕ, �
 use Rattle.std.specs.List.{find}
 use Rattle.river_base.specs.Name.{name_eq}
 use Rattle.river_base.specs.declared.item.Item as item
-use Rattle.river_base.specs.declared.item.Flat.TheVariants.{One}
-use Rattle.river_base.specs.declared.item.Item.TheVariants.{Flat}
 use Rattle.river_base.specs.Instants.{at_instant, instants, spread}
 use Rattle.river_base.specs.declared.kind.FlatType.TheVariants.{Rows, Stream, Relation}
 use Rattle.river_base.specs.declared.kind.QueueType.{QueueType}
 use Rattle.river_base.specs.declared.kind.QueueType.TheVariants.{Flat as FlatOf, Pack as PackOf}
+use Rattle.kern_rows.specs.Even.{row_items}
 use Rattle.csv_streams.specs.Rows.{rows_of_file}
 use Rattle.csv_streams.specs.Timed.{Entry, timed_of}
 use Rattle.csv_streams.specs.declared.fault.InFault.{InFault}
@@ -20,6 +19,7 @@ use Rattle.river_plan.specs.Faults.{type_width}
 use Rattle.river_plan.specs.Kinds.{kind_of}
 use Rattle.river_plan.specs.Names.{count}
 use Rattle.csv_streams.specs.FaultWords.{in_words}
+use Rattle.river_cli.specs.Limits.{most_input}
 use Rattle.river_cli.specs.Text.{unknown_input, missing_input, large_input, input_refused}
 use Rattle.river_cli.specs.declared.content.Content.{Content}
 use Rattle.river_cli.specs.declared.content.Content.TheVariants.{Rows as Plain, Timed}
@@ -53,7 +53,7 @@ names_fit decls ins = first_told (unknown decls ins) (missing decls ins)
 -- all files are fetched, in the order of the words
 unfoldable pub fetch_each : List InWord → (List (List ℕ) → Order) → Order
 fetch_each [] next = next []
-fetch_each (w ∷ ins) next = Fetch w.file 67108864 (large_input w.name) (λ bytes. fetch_each ins (λ files. next (bytes ∷ files)))
+fetch_each (w ∷ ins) next = Fetch w.file most_input (large_input w.name) (λ bytes. fetch_each ins (λ files. next (bytes ∷ files)))
 
 -- what a reader gives for the file of an input, or what is told of the first record at fault
 abbrev pub Reader : Type 0 → Type 0
@@ -139,10 +139,6 @@ timed_files (Timed rows ∷ files) = rows ∷ timed_files files
 -- the instants of a run: the timestamps of all its files
 abbrev pub instants_of : List Content → List ℤ
 instants_of files = instants (timed_files files)
-
--- rows as items of a queue
-abbrev pub row_items : List (List ℤ) → List item.Item
-row_items rows = map (λ row. Flat (One row)) rows
 
 -- the items of an input: its rows, or a batch of its rows for each instant
 abbrev pub items_at : List ℤ → Content → List item.Item

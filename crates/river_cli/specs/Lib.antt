@@ -3,6 +3,7 @@ pub mod Commands
 pub mod Contents
 pub mod Inputs
 pub mod Layouts
+pub mod Limits
 pub mod Load
 pub mod Phrases
 pub mod Points

@@ -3,6 +3,7 @@ use Rattle.std.specs.Prelude.{ℕ, zero, suc, List, [], ◌∷◌, map, Bool, tr
 use Rattle.std.specs.Str.{bytes_eq}
 use Rattle.river_plan.specs.Names.{count}
 use Rattle.river_cli.specs.Commands.{with_header, with_counts, with_script, with_workers, with_cap, with_input}
+use Rattle.river_cli.specs.Limits.{most_cap}
 use Rattle.river_cli.specs.Words.{is_file, number_to, in_word_of}
 use Rattle.river_cli.specs.declared.command.Command.{Command}
 use Rattle.river_cli.specs.declared.command.InWord.{InWord}
@@ -47,7 +48,7 @@ phrase_of (word ∷ behind) =
     else if bytes_eq word (codes "-c") then option word with_counts
     else if bytes_eq word (codes "-r") then script behind
     else if bytes_eq word (codes "-w") then with_number word with_workers (number_ahead 64 behind)
-    else if bytes_eq word (codes "-q") then with_number word with_cap (number_ahead 65536 behind)
+    else if bytes_eq word (codes "-q") then with_number word with_cap (number_ahead most_cap behind)
     else if is_file word then input (in_word_of word)
     else None
 

@@ -9,6 +9,7 @@ use Rattle.river_plan.specs.declared.caps.Cap.{Cap}
 use Rattle.river_print.specs.Printed.{plan_text}
 use Rattle.river_cli.specs.Inputs.{of_inputs}
 use Rattle.river_cli.specs.Layouts.{layout_of}
+use Rattle.river_cli.specs.Limits.{most_program, most_script}
 use Rattle.river_cli.specs.Load.{load_program, load_script, load_files}
 use Rattle.river_cli.specs.Sentences.{command_of}
 use Rattle.river_cli.specs.Source.{SourceProgram, source_of, printed}
@@ -25,7 +26,7 @@ use Rattle.river_cli.specs.declared.command.Layout.{Layout}
 
 -- the program is fetched and compiled
 unfoldable pub of_program : Lang → List ℕ → (SourceProgram → Order) → Order
-of_program lang file next = Fetch file 1048576 large_program (λ text. past (source_of lang text) next)
+of_program lang file next = Fetch file most_program large_program (λ text. past (source_of lang text) next)
 
 -- the program with this plan in place of its own, or the text that refuses the script
 abbrev pub with_plan : SourceProgram → Result PlanForm ScriptFault → Result SourceProgram (List ℕ)
@@ -35,7 +36,7 @@ with_plan source (Err fault) = Err (script_refused (script_words fault))
 -- the script is fetched, read and applied step by step, where one is given
 unfoldable pub of_script : Option (List ℕ) → SourceProgram → (SourceProgram → Order) → Order
 of_script None source next = next source
-of_script (Some file) source next = Fetch file 65536 large_script (λ text. past (with_plan source (rewritten source.plan text)) next)
+of_script (Some file) source next = Fetch file most_script large_script (λ text. past (with_plan source (rewritten source.plan text)) next)
 
 -- what the files of its inputs have is read, and what the program means is printed
 unfoldable pub of_inputs_run : List InWord → Layout → Bool → SourceProgram → (List ℕ → Order) → Order

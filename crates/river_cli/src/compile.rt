@@ -9,6 +9,7 @@ ghost use Rattle.params_front.specs.Meaning.{compiled as params_compiled};
 ghost use Rattle.params_front.specs.Words.{params_words};
 ghost use Rattle.cql_front.specs.Meaning.{compiled as cql_compiled};
 ghost use Rattle.cql_front.specs.Words.{cql_words};
+ghost use Rattle.river_cli.specs.Limits.{most_program};
 ghost use Rattle.river_cli.specs.Source.{river_source, streamit_source, params_source, saw_source, cql_source, source_or_refused, source_of, program_caps, IsCompiled};
 ghost use Rattle.saw_front.specs.Meaning.{compiled as saw_compiled};
 ghost use Rattle.saw_front.specs.Words.{saw_words};
@@ -61,7 +62,7 @@ pub fn caps_of(alloc: Global, program: Program) -> Caps
 
 /// The program of a text, or its refusal.
 pub fn compile(alloc: Global, lang: Lang, text: &Bytes) -> Result<Compiled, Stop>
-    requires { length text.now ≤ 1048576 }
+    requires { length text.now ≤ most_program }
     ensures { AnswersAs IsCompiled (source_of lang text.now) result }
 {
     match lang {
@@ -74,7 +75,7 @@ pub fn compile(alloc: Global, lang: Lang, text: &Bytes) -> Result<Compiled, Stop
 }
 
 fn river(alloc: Global, text: &Bytes) -> Result<Compiled, Stop>
-    requires { length text.now ≤ 1048576 }
+    requires { length text.now ≤ most_program }
     ensures { AnswersAs IsCompiled (source_or_refused river_source river_words (plan_in text.now)) result }
 {
     match compile_river(alloc, text) {
@@ -96,7 +97,7 @@ fn river_refused(alloc: Global, fault: RiverFault) -> Result<Bytes, NoMemory>
 }
 
 fn streamit(alloc: Global, text: &Bytes) -> Result<Compiled, Stop>
-    requires { length text.now ≤ 1048576 }
+    requires { length text.now ≤ most_program }
     ensures { AnswersAs IsCompiled (source_or_refused streamit_source streamit_words (compiled text.now)) result }
 {
     match compile_streamit(alloc, text) {
@@ -118,7 +119,7 @@ fn streamit_refused(alloc: Global, fault: StreamitFault) -> Result<Bytes, NoMemo
 }
 
 fn params(alloc: Global, text: &Bytes) -> Result<Compiled, Stop>
-    requires { length text.now ≤ 1048576 }
+    requires { length text.now ≤ most_program }
     ensures { AnswersAs IsCompiled (source_or_refused params_source params_words (params_compiled text.now)) result }
 {
     match compile_params(alloc, text) {
@@ -140,7 +141,7 @@ fn params_refused(alloc: Global, fault: ParamFault) -> Result<Bytes, NoMemory>
 }
 
 fn sawzall(alloc: Global, text: &Bytes) -> Result<Compiled, Stop>
-    requires { length text.now ≤ 1048576 }
+    requires { length text.now ≤ most_program }
     ensures { AnswersAs IsCompiled (source_or_refused saw_source saw_words (saw_compiled text.now)) result }
 {
     match compile_sawzall(alloc, text) {
@@ -162,7 +163,7 @@ fn saw_refused(alloc: Global, fault: SawFault) -> Result<Bytes, NoMemory>
 }
 
 fn cql(alloc: Global, text: &Bytes) -> Result<Compiled, Stop>
-    requires { length text.now ≤ 1048576 }
+    requires { length text.now ≤ most_program }
     ensures { AnswersAs IsCompiled (source_or_refused cql_source cql_words (cql_compiled text.now)) result }
 {
     match compile_cql(alloc, text) {

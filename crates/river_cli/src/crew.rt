@@ -1,5 +1,6 @@
 // Who runs a plan.
 ghost use Rattle.std.specs.Prelude.{◌≡◌, ◌≤◌};
+ghost use Rattle.river_cli.specs.Limits.{most_cap};
 
 use river_base::Gate;
 use std::thread::Threads;
@@ -15,7 +16,7 @@ pub struct Crew<'a, R: Threads + Sync, G: Gate + Sync> {
     ghost some_workers: { 1 ≤ workers },
     ghost at_most_64: { workers ≤ 64 },
     ghost some_room: { 1 ≤ cap },
-    ghost at_most_65536: { cap ≤ 65536 },
+    ghost at_most_cap: { cap ≤ most_cap },
 }
 
 impl<'a, R: Threads + Sync, G: Gate + Sync> Crew<'a, R, G> {
@@ -24,7 +25,7 @@ impl<'a, R: Threads + Sync, G: Gate + Sync> Crew<'a, R, G> {
         requires some_workers { 1 ≤ workers }
         requires at_most_64 { workers ≤ 64 }
         requires some_room { 1 ≤ cap }
-        requires at_most_65536 { cap ≤ 65536 }
+        requires at_most_cap { cap ≤ most_cap }
     {
         Crew {
             rt,

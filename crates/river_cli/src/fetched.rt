@@ -4,6 +4,7 @@ ghost use Rattle.river_outside.specs.Causes.{Rose};
 ghost use Rattle.river_order.specs.Order.{Fetch};
 ghost use Rattle.river_order.specs.Passes.{Passes};
 ghost use Rattle.river_cli.specs.Inputs.{fetch_each};
+ghost use Rattle.river_cli.specs.Limits.{most_input};
 ghost use Rattle.river_cli.specs.Text.{large_input};
 
 use crate::command::InWord;
@@ -37,7 +38,8 @@ pub fn fetch_all<S: Shelf>(
 fn fetch_one<S: Shelf>(alloc: Global, shelf: &mut S, word: &InWord) -> Result<Bytes, Stop>
     ensures stays { S.held shelf.new ≡ S.held shelf.old }
     ensures later { S.faults shelf.old ≤ S.faults shelf.new }
-    ensures passes { Passes (Fetch word.now.file 67108864 (large_input word.now.name)) (S.held shelf.old) (Rose S.stays_at_last (S.faults shelf.old) (S.faults shelf.new)) result }
+    ensures passes { Passes (Fetch word.now.file most_input (large_input word.now.name))
+        (S.held shelf.old) (Rose S.stays_at_last (S.faults shelf.old) (S.faults shelf.new)) result }
 {
     let large = text::large(alloc, word.name.as_slice())?;
     fetch_turn(

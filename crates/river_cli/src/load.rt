@@ -2,6 +2,7 @@
 ghost use Rattle.std.specs.Prelude.{◌≡◌, ◌≤◌, [], ◌∷◌, length, IfOk};
 ghost use Rattle.river_order.specs.Passes.{Answers, AnswersAs};
 ghost use Rattle.river_cli.specs.Contents.{AreContents};
+ghost use Rattle.river_cli.specs.Limits.{most_program, most_script};
 ghost use Rattle.river_cli.specs.Load.{load_program, load_script, load_records, load_files, takes_pairs, is_of_pairs};
 ghost use Rattle.river_cli.specs.Points.{load_source, loaded};
 ghost use Rattle.river_cli.specs.Source.{IsPlanOf};
@@ -52,7 +53,7 @@ fn load_plan(alloc: Global) -> Result<Plan, Stop>
 
 #[tactic(auto, unfolding(crate::specs::Load::load_program))]
 fn program(alloc: Global) -> Result<Bytes, NoMemory>
-    ensures short { IfOk result (λ text. length text ≤ 1048576) }
+    ensures short { IfOk result (λ text. length text ≤ most_program) }
     ensures text { IfOk result (λ text. text ≡ load_program) }
 {
     Ok(Bytes::from_slice(alloc, PROGRAM)?)
@@ -60,7 +61,7 @@ fn program(alloc: Global) -> Result<Bytes, NoMemory>
 
 #[tactic(auto, unfolding(crate::specs::Load::load_script))]
 fn script(alloc: Global) -> Result<Bytes, NoMemory>
-    ensures short { IfOk result (λ text. length text ≤ 65536) }
+    ensures short { IfOk result (λ text. length text ≤ most_script) }
     ensures text { IfOk result (λ text. text ≡ load_script) }
 {
     Ok(Bytes::from_slice(alloc, SCRIPT)?)

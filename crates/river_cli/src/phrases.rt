@@ -1,5 +1,6 @@
 // What stands behind a program's file: options and words NAME=FILE, in any order.
 ghost use Rattle.std.specs.Prelude.{◌≡◌, ◌≤◌, ◌<◌, ◌+◌, ◌-◌, ◌^◌, [], ◌∷◌, length, take, drop, Bool, Some, None, IfOk, OnOk, IsErrOf, IsSome};
+ghost use Rattle.river_cli.specs.Limits.{most_cap};
 ghost use Rattle.river_cli.specs.Words.{name_part, rest_part, in_word_of};
 ghost use Rattle.river_cli.specs.Commands.{with_header, with_counts, with_workers, with_cap};
 ghost use Rattle.river_cli.specs.Phrases.{phrase_of, phrases, with_phrases, option, number_ahead, with_number, input as input_phrase, script as script_phrase};
@@ -184,9 +185,9 @@ fn add_cap(
     said: &mut WordSet,
 ) -> Result<(), WordFault>
     ensures within { OnOk result (1 ≤ length behind.now) }
-    ensures ok { OnOk result (with_phrase (with_number word.now with_cap (number_ahead 65536 behind.now)) said.old command.old
+    ensures ok { OnOk result (with_phrase (with_number word.now with_cap (number_ahead most_cap behind.now)) said.old command.old
         ≡ Some (record { takes = 1; said = said.new; command = command.new })) }
-    ensures usage { IsErrOf result WordFault.Usage → with_phrase (with_number word.now with_cap (number_ahead 65536 behind.now)) said.old command.old ≡ None }
+    ensures usage { IsErrOf result WordFault.Usage → with_phrase (with_number word.now with_cap (number_ahead most_cap behind.now)) said.old command.old ≡ None }
 {
     let Some(number) = number_ahead(behind, MOST_CAP) else {
         return Err(WordFault::Usage);

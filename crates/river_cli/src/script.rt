@@ -3,6 +3,7 @@ ghost use Rattle.std.specs.Prelude.{◌≡◌, ◌≤◌, length, IfOk};
 ghost use Rattle.river_order.specs.Passes.{AnswersAs};
 ghost use Rattle.river_script.specs.Meaning.{rewritten as rewritten_plan};
 ghost use Rattle.river_script.specs.Words.{script_words};
+ghost use Rattle.river_cli.specs.Limits.{most_script};
 ghost use Rattle.river_cli.specs.Points.{with_plan};
 ghost use Rattle.river_cli.specs.Source.{SourceProgram, IsCompiledAs};
 ghost use Rattle.river_cli.specs.Text.{script_refused as script_text};
@@ -17,7 +18,7 @@ use std::alloc::Global;
 
 /// The plan that a script makes of a plan, or its refusal.
 pub fn applied(alloc: Global, plan: &Plan, text: &Bytes) -> Result<Plan, Stop>
-    requires { length text.now ≤ 65536 }
+    requires { length text.now ≤ most_script }
     ensures { (program : Program) (source : SourceProgram) → IsCompiledAs program source plan.now
         → AnswersAs (IsCompiledAs program) (with_plan source (rewritten_plan source.plan text.now)) result }
 {

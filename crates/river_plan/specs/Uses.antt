@@ -29,8 +29,8 @@ abbrev pub named_it : Name → OpForm → ℕ
 named_it l op = one_if (name_eq op.label l)
 
 -- each of these names is known
-abbrev pub Known : (Name → ℕ) → List Name → Type 0
-Known known rs = (q : Name) → 0 < count q rs → 0 < known q
+abbrev pub AreAllKnown : (Name → ℕ) → List Name → Type 0
+AreAllKnown known rs = (q : Name) → 0 < count q rs → 0 < known q
 
 -- what is known, and what the operator writes
 abbrev pub and_writes : (Name → ℕ) → OpForm → Name → ℕ
@@ -39,7 +39,7 @@ and_writes known op q = known q + count q op.writes
 -- each operator reads what is known, or what one before it writes
 abbrev pub ReadsBefore : (Name → ℕ) → List OpForm → Type 0
 ReadsBefore known [] = Unit {0}
-ReadsBefore known (op ∷ ops) = Known known op.reads × ReadsBefore (and_writes known op) ops
+ReadsBefore known (op ∷ ops) = AreAllKnown known op.reads × ReadsBefore (and_writes known op) ops
 
 -- all that the operators write and use, in order
 abbrev pub all_writes : List OpForm → List Name

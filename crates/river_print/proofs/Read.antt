@@ -401,7 +401,7 @@ record IsSaid (p : PlanForm) : Type 0 where
 said-empty : IsSaid empty_form
 said-empty = record { ranged = record { outputs = tt; inputs = tt; queues = tt; tables = tt; vars = tt; ops = tt }; shallow = tt; forward = tt }
 
-said-add : (x : t.TextForm) (e : t.Entry) → IsSaid x.plan → IsEntry e → IsSaid (t.add x e).plan
+said-add : (x : t.TextForm) (e : t.Entry) → IsSaid x.plan → IsEntry e → IsSaid (t.add_entry x e).plan
 said-add x t.header s h = s
 said-add x (t.output d) s h = let k = s.ranged in
     record { ranged = record { outputs = every-append w.IsWritableDecl x.plan.outputs d k.outputs h; inputs = k.inputs; queues = k.queues; tables = k.tables; vars = k.vars; ops = k.ops }; shallow = s.shallow; forward = s.forward }
@@ -423,7 +423,7 @@ said-add x (t.operator o) s h = let k = s.ranged in
 
 said-all : (x : t.TextForm) (es : List t.Entry) → IsSaid x.plan → w.Every IsEntry es → IsSaid (t.add_all x es).plan
 said-all x [] s h = s
-said-all x (e ∷ es) s h = said-all (t.add x e) es (said-add x e s h.0) h.1
+said-all x (e ∷ es) s h = said-all (t.add_entry x e) es (said-add x e s h.0) h.1
 
 -- lists that a text stands for have the ranges of their types and keep the grammar's bounds
 pub read-printable : (text : List ℕ) (x : t.TextForm) → t.IsText text x → ranges.IsRanged x.plan × r.IsPrintable x.plan

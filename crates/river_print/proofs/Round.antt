@@ -15,7 +15,7 @@ use Rattle.river_plan.specs.declared.plan.TableDecl.{TableDecl}
 use Rattle.text_forms.specs.Texts.{AllFormed}
 use Rattle.river_print.specs.Printed.{header_line, decl_line, queue_line, table_line, var_line, op_line, lines, plan_text}
 use Rattle.river_text.specs.Plans.{Entry, header, output, input, inner, table, private, operator, stage_of, most_of, cap_stands, may_stand, IsUnit, IsUnitAt}
-use Rattle.river_text.specs.Plans.{TextForm, empty_text, add, add_all, first_place, next_place, AreUnits, IsText}
+use Rattle.river_text.specs.Plans.{TextForm, empty_text, add_entry, add_all, first_place, next_place, AreUnits, IsText}
 use Rattle.river_text.specs.declared.entry.Place.{Place}
 use Rattle.river_text.proofs.Texts.{one_plan}
 use Rattle.river_print.specs.Laws.{HaveOwnCaps, stood, PrintedIsRead}
@@ -144,7 +144,7 @@ op_formed o h = record { word = codes "op"; back = _; is = refl; formed = record
 
 add-then : (t : TextForm) (es fs : List Entry) → add_all t (es ++ fs) ≡ add_all (add_all t es) fs
 add-then t [] fs = refl
-add-then t (e ∷ es) fs = add-then (add t e) es fs
+add-then t (e ∷ es) fs = add-then (add_entry t e) es fs
 
 abbrev text_with : PlanForm → List Cap → TextForm
 text_with p caps = record { plan = p; caps = caps }

@@ -4,7 +4,7 @@ use Rattle.std.specs.Prelude.{Result, Ok, Err}
 use Rattle.river_plan.specs.Forms.{PlanForm}
 use Rattle.river_plan.specs.Valid.{IsPlan}
 use Rattle.plan_edits.specs.declared.unfit.Unfit.{Unfit}
-use Rattle.plan_edits.specs.Judged.{IsFirstToFail, IsJudged}
+use Rattle.plan_edits.specs.Judged.{IsFirstToFail, IsJudgedBy}
 use Rattle.rw_local.proofs.FuseJudged.{fusion_is_judged}
 use Rattle.rw_local.proofs.HoistJudged.{hoisting_is_judged}
 use Rattle.rw_fission.proofs.FissionJudged.{fission_is_judged}
@@ -12,7 +12,7 @@ use Rattle.river_script.specs.Judged.{StepFails, StepMakes, Accepts, StepsLeadTo
 use Rattle.river_script.specs.Script.{StepForm, fusing, hoisting, splitting, step_of, then_all, script_from}
 use Rattle.river_script.proofs.Steps.{step_keeps}
 
-step_judged : (p : PlanForm) (s : StepForm) (made : Result PlanForm Unfit) → IsPlan p → (step_of p s ≡ made) ↔ IsJudged (StepFails p s) (StepMakes p s) made
+step_judged : (p : PlanForm) (s : StepForm) (made : Result PlanForm Unfit) → IsPlan p → (step_of p s ≡ made) ↔ IsJudgedBy (StepFails p s) (StepMakes p s) made
 step_judged p (fusing q) made v = fusion_is_judged p q made v
 step_judged p (hoisting l) made v = hoisting_is_judged p l made v
 step_judged p (splitting l n) made v = fission_is_judged p l n made v

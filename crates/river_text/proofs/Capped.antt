@@ -9,7 +9,7 @@ use Rattle.river_plan.specs.Forms.{Name}
 use Rattle.river_plan.specs.declared.caps.Cap.{Cap}
 use Rattle.text_forms.specs.Texts.{AllFormed}
 use Rattle.river_text.specs.Laws.{CapsFit}
-use Rattle.river_text.specs.Plans.{Entry, header, output, input, inner, table, private, operator, TextForm, IsText, IsUnitAt, next_place, add, add_all}
+use Rattle.river_text.specs.Plans.{Entry, header, output, input, inner, table, private, operator, TextForm, IsText, IsUnitAt, next_place, add_entry, add_all}
 use Rattle.river_text.specs.Plans.{cap_stands, is_cap, may_stand, most_of, stage_of, empty_text, first_place}
 use Rattle.river_text.specs.declared.entry.Place.{Place}
 
@@ -30,7 +30,7 @@ one headed q (Some n) h =
     All-cons (λ (c : Cap). IsCap c.most) (record { queue = q; most = n }) [] (fits n (both_true headed (is_cap n) h)) (All-nil (λ (c : Cap). IsCap c.most))
 
 -- with one entry more they still are
-more : (at : Place) (t : TextForm) (e : Entry) → may_stand at e ≡ true → AreCaps t.caps → AreCaps (add t e).caps
+more : (at : Place) (t : TextForm) (e : Entry) → may_stand at e ≡ true → AreCaps t.caps → AreCaps (add_entry t e).caps
 more at t header h all = all
 more at t (output d) h all = all
 more at t (input d) h all = all
@@ -44,7 +44,7 @@ all_fit : (at : Place) (t : TextForm) (es : List Entry) (us : List (List Tok)) �
     → AreCaps (add_all t es).caps
 all_fit at t [] us h all = all
 all_fit at t (e ∷ es) [] h all = absurd h
-all_fit at t (e ∷ es) (u ∷ us) h all = all_fit (next_place at e) (add t e) es us h.1 (more at t e h.0.passes all)
+all_fit at t (e ∷ es) (u ∷ us) h all = all_fit (next_place at e) (add_entry t e) es us h.1 (more at t e h.0.passes all)
 
 -- the law
 pub caps_fit : CapsFit

@@ -13,7 +13,7 @@ use Rattle.river_text.specs.declared.number.Kind.{Kind}
 use Rattle.river_text.specs.declared.number.Kind.TheVariants as kind
 use Rattle.river_text.specs.ExactExpressions.{exact-term}
 use Rattle.river_text.specs.Expressions.{term_at}
-use Rattle.river_text.specs.ReadKernels.{kind_at}
+use Rattle.river_text.specs.ReadKernels.{kind_number_at}
 use Rattle.river_text.proofs.Kernels.{exact-width, exact-signed}
 use Rattle.work_code.specs.Term.{Term}
 use Rattle.text_forms.proofs.Exact.{exact-value}
@@ -30,13 +30,13 @@ shorter x ts us v e =
 pub taken-shorter : (x : Symbol) (ts : List Tok) → parse.begins_with x ts ≡ true → length (tail ts) < length ts
 taken-shorter x ts e = let size : length ts ≡ suc (length (tail ts)) = ap length (begins_with-is x ts e) in omega arith
 
-pub numbers-next : (k : Kind) (done : List ℤ) (ts us : List Tok) (v : ℤ) → parse.begins_with s.Comma ts ≡ true → kind_at k (tail ts) ≡ Some (v, us)
-    → repeated (parse.comma_turn (kind_at k)) (done ++ v ∷ []) us ≡ repeated (parse.comma_turn (kind_at k)) done ts
+pub numbers-next : (k : Kind) (done : List ℤ) (ts us : List Tok) (v : ℤ) → parse.begins_with s.Comma ts ≡ true → kind_number_at k (tail ts) ≡ Some (v, us)
+    → repeated (parse.comma_turn (kind_number_at k)) (done ++ v ∷ []) us ≡ repeated (parse.comma_turn (kind_number_at k)) done ts
 numbers-next kind.Width = comma-next exact-width (λ rest. tt)
 numbers-next kind.Signed = comma-next exact-signed (λ rest. tt)
 numbers-next kind.Value = comma-next exact-value (λ rest. tt)
 
-pub numbers-shorter : (k : Kind) (ts us : List Tok) (v : ℤ) → kind_at k ts ≡ Some (v, us) → length us ≤ length ts
+pub numbers-shorter : (k : Kind) (ts us : List Tok) (v : ℤ) → kind_number_at k ts ≡ Some (v, us) → length us ≤ length ts
 numbers-shorter kind.Width = shorter exact-width
 numbers-shorter kind.Signed = shorter exact-signed
 numbers-shorter kind.Value = shorter exact-value

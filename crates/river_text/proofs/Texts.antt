@@ -6,7 +6,7 @@ use Rattle.work_code.specs.Tok.{Tok, Mark, toks}
 use Rattle.work_code.specs.declared.fault.LexFault.{LexFault}
 use Rattle.text_forms.specs.Texts.{whole, after_unit, put_first, read_units}
 use Rattle.text_forms.proofs.Texts.{all-formed, formed-read, first-bad}
-use Rattle.river_text.specs.Plans.{Entry, TextForm, add, add_all, empty_text, first_place, next_place, IsText}
+use Rattle.river_text.specs.Plans.{Entry, TextForm, add_entry, add_all, empty_text, first_place, next_place, IsText}
 use Rattle.river_text.specs.declared.entry.Place.{Place}
 use Rattle.river_text.specs.ReadPlans.{unit_from, with_entry, read_plan}
 use Rattle.river_text.specs.Faults.{StandsForNone}
@@ -22,14 +22,15 @@ added p (Err n) = Err n
 pub plan-read : (place : Place) (n : ℕ) (p : TextForm) (units : List (List Tok)) → read_plan place n p units ≡ added p (read_units unit_from next_place place n units)
 unfolding read_plan
 plan-read place n p [] = refl
-plan-read place n p (u ∷ us) = by (whole (unit_from place) u) (λ e. plan-read (next_place place e) (n + 1) (add p e) us) where
-  first : (e : Entry) (r : Result (List Entry) ℕ) → added (add p e) r ≡ added p (put_first e r)
+plan-read place n p (u ∷ us) = by (whole (unit_from place) u) (λ e. plan-read (next_place place e) (n + 1) (add_entry p e) us) where
+  first : (e : Entry) (r : Result (List Entry) ℕ) → added (add_entry p e) r ≡ added p (put_first e r)
   first e (Ok es) = refl
   first e (Err m) = refl
 
   by : (o : Option Entry)
-      → ((e : Entry) → read_plan (next_place place e) (n + 1) (add p e) us ≡ added (add p e) (read_units unit_from next_place (next_place place e) (n + 1) us))
-      → with_entry n (λ e. read_plan (next_place place e) (n + 1) (add p e) us) o ≡ added p (after_unit n (λ e. read_units unit_from next_place (next_place place e) (n + 1) us) o)
+      → ((e : Entry) → read_plan (next_place place e) (n + 1) (add_entry p e) us
+      ≡ added (add_entry p e) (read_units unit_from next_place (next_place place e) (n + 1) us))
+      → with_entry n (λ e. read_plan (next_place place e) (n + 1) (add_entry p e) us) o ≡ added p (after_unit n (λ e. read_units unit_from next_place (next_place place e) (n + 1) us) o)
   by None more = refl
   by (Some e) more = more e ∙ first e (read_units unit_from next_place (next_place place e) (n + 1) us)
 

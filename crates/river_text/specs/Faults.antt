@@ -10,10 +10,10 @@ use Rattle.river_text.specs.declared.fault.TextFault.TheVariants.{Lex, Syntax, N
 use Rattle.river_text.specs.Laws.{IsBadAt}
 use Rattle.river_text.specs.Plans.{IsText, TextForm}
 
-abbrev pub from_lexer : LexFault → TextFault
-from_lexer (lexical.BadByte at) = Lex (lexical.BadByte at)
-from_lexer (lexical.BigNumber at) = Lex (lexical.BigNumber at)
-from_lexer lexical.NoMemory = NoMemory
+abbrev pub text_from_lexer : LexFault → TextFault
+text_from_lexer (lexical.BadByte at) = Lex (lexical.BadByte at)
+text_from_lexer (lexical.BigNumber at) = Lex (lexical.BigNumber at)
+text_from_lexer lexical.NoMemory = NoMemory
 
 -- no plan
 abbrev pub StandsForNone : List ℕ → Type 0

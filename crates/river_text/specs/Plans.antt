@@ -220,18 +220,18 @@ abbrev pub empty_text : TextForm
 empty_text = record { plan = empty_form; caps = [] }
 
 -- with one entry more, at the end of its list
-abbrev pub add : TextForm → Entry → TextForm
-add t header = t
-add t (output d) = record { plan = record t.plan { outputs = t.plan.outputs ++ d ∷ [] }; caps = t.caps }
-add t (input d) = record { plan = record t.plan { inputs = t.plan.inputs ++ d ∷ [] }; caps = t.caps }
-add t (inner q) = record { plan = record t.plan { queues = t.plan.queues ++ q.decl ∷ [] }; caps = t.caps ++ cap_of q.decl.name q.most }
-add t (table d) = record { plan = record t.plan { tables = t.plan.tables ++ d ∷ [] }; caps = t.caps }
-add t (private v) = record { plan = record t.plan { vars = t.plan.vars ++ v ∷ [] }; caps = t.caps }
-add t (operator o) = record { plan = record t.plan { ops = t.plan.ops ++ o ∷ [] }; caps = t.caps }
+abbrev pub add_entry : TextForm → Entry → TextForm
+add_entry t header = t
+add_entry t (output d) = record { plan = record t.plan { outputs = t.plan.outputs ++ d ∷ [] }; caps = t.caps }
+add_entry t (input d) = record { plan = record t.plan { inputs = t.plan.inputs ++ d ∷ [] }; caps = t.caps }
+add_entry t (inner q) = record { plan = record t.plan { queues = t.plan.queues ++ q.decl ∷ [] }; caps = t.caps ++ cap_of q.decl.name q.most }
+add_entry t (table d) = record { plan = record t.plan { tables = t.plan.tables ++ d ∷ [] }; caps = t.caps }
+add_entry t (private v) = record { plan = record t.plan { vars = t.plan.vars ++ v ∷ [] }; caps = t.caps }
+add_entry t (operator o) = record { plan = record t.plan { ops = t.plan.ops ++ o ∷ [] }; caps = t.caps }
 
 abbrev pub add_all : TextForm → List Entry → TextForm
 add_all t [] = t
-add_all t (e ∷ es) = add_all (add t e) es
+add_all t (e ∷ es) = add_all (add_entry t e) es
 
 -- the units stand for the entries
 abbrev pub AreUnits : Place → List Entry → List (List Tok) → Type 0

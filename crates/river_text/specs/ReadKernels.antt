@@ -23,10 +23,10 @@ signed_at ts =
     merged (begins_with s.Minus) (after (s.Minus ∷ []) (seen neg_ℤ value_at)) (merged (is_word_at (codes "min")) (after_word (codes "min") (nothing_at least)) value_at) ts
 
 -- the kinds of numbers in lists
-abbrev pub kind_at : Kind → Parse ℤ
-kind_at OfWidth = width_at
-kind_at OfSigned = signed_at
-kind_at OfValue = value_at
+abbrev pub kind_number_at : Kind → Parse ℤ
+kind_number_at OfWidth = width_at
+kind_number_at OfSigned = signed_at
+kind_number_at OfValue = value_at
 
 abbrev pub round : {A : Type 0} → (ℕ → Parse A) → ℕ → Parse A
 round p = enclosed s.Open s.Close p

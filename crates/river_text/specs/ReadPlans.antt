@@ -20,7 +20,7 @@ use Rattle.text_forms.specs.Parse as parse
 use Rattle.text_forms.specs.Parse.{headed}
 use Rattle.text_forms.specs.Texts.{whole}
 use Rattle.river_text.specs.Plans.{brackets, made_decl, made_maximum, made_table, Port, queue, variable, Ports, same_vars, made_op, Entry, output, input, inner}
-use Rattle.river_text.specs.Plans.{table, private, operator, made_queue, is_two, as_header, may_stand, next_place, TextForm, add}
+use Rattle.river_text.specs.Plans.{table, private, operator, made_queue, is_two, as_header, may_stand, next_place, TextForm, add_entry}
 use Rattle.river_text.specs.declared.decl.QueueDecl.{QueueDecl}
 use Rattle.river_text.specs.declared.entry.Place.{Place}
 use Rattle.river_text.specs.ReadKernels.{round, number_at, pair_at, braced_at}
@@ -101,14 +101,14 @@ unfoldable pub ports_at : Parse Ports
 ports_at ts = round (λ m. known (split_from [] []) port_list_at) brackets ts
 
 -- an operator of these parts, where it reads and writes the same variables
-abbrev pub op_of : List ℕ → Ports → Ports → Kern → Option OpForm
-op_of label outs ins kernel = if same_vars (label, (outs, (ins, kernel))) then Some (made_op (label, (outs, (ins, kernel)))) else None
+abbrev pub op_of_parts : List ℕ → Ports → Ports → Kern → Option OpForm
+op_of_parts label outs ins kernel = if same_vars (label, (outs, (ins, kernel))) then Some (made_op (label, (outs, (ins, kernel)))) else None
 
 -- an operator, behind its name and what it writes
 unfoldable pub op_from_at : List ℕ → Ports → Parse OpForm
 op_from_at label outs ts =
     then_rest (run_at (s.Less ∷ s.Minus ∷ []) ts)
-    (λ us. then_read (ports_at us) (λ ins vs. then_read (braced_at brackets vs) (λ kernel ws. given (op_of label outs ins kernel) ws)))
+    (λ us. then_read (ports_at us) (λ ins vs. then_read (braced_at brackets vs) (λ kernel ws. given (op_of_parts label outs ins kernel) ws)))
 
 unfoldable pub op_at : Parse OpForm
 op_at ts =
@@ -141,4 +141,4 @@ with_entry n more (Some e) = more e
 
 unfoldable pub read_plan : Place → (n : ℕ) → TextForm → List (List Tok) → Result TextForm ℕ
 read_plan at n t [] = Ok t
-read_plan at n t (u ∷ us) = with_entry n (λ e. read_plan (next_place at e) (n + 1) (add t e) us) (whole (unit_from at) u)
+read_plan at n t (u ∷ us) = with_entry n (λ e. read_plan (next_place at e) (n + 1) (add_entry t e) us) (whole (unit_from at) u)

@@ -3,7 +3,7 @@ ghost use Rattle.std.specs.Prelude.{◌≡◌, ◌↔◌, [], true, IsTrue, OnOk
 ghost use Rattle.text_forms.specs.Gives.{Gives};
 ghost use Rattle.text_forms.specs.Texts.{whole};
 ghost use Rattle.work_code.specs.Tok.{tokens_of};
-ghost use Rattle.river_text.specs.Plans.{add, cap_stands, inner, may_stand, most_of, next_place, stage_of};
+ghost use Rattle.river_text.specs.Plans.{add_entry, cap_stands, inner, may_stand, most_of, next_place, stage_of};
 ghost use Rattle.river_text.specs.ReadPlans.{unit_at, unit_from};
 ghost use Rattle.river_text.specs.Entries.{entry_of, text_form};
 ghost use Rattle.text_forms.specs.Gives.{Makes};
@@ -91,7 +91,7 @@ impl Entry {
 
     /// Puts this at the end of its list.
     pub fn add_to(self, text: &mut RiverText) -> Result<(), NoMemory>
-        ensures { OnOk result (text_form text.new ≡ add (text_form text.old) (entry_of self)) }
+        ensures { OnOk result (text_form text.new ≡ add_entry (text_form text.old) (entry_of self)) }
     {
         let plan = &mut text.raw;
         match self {
@@ -108,7 +108,7 @@ impl Entry {
 
 // Puts a queue at the end of its list, and its capacity, if it has one, at the end of the capacities.
 fn add_queue(queue: QueueDecl, text: &mut RiverText) -> Result<(), NoMemory>
-    ensures { OnOk result (text_form text.new ≡ add (text_form text.old) (inner queue)) }
+    ensures { OnOk result (text_form text.new ≡ add_entry (text_form text.old) (inner queue)) }
 {
     text.raw.queues.push(queue.decl)?;
     if let Some(most) = queue.most {

@@ -1,6 +1,6 @@
 // Why a text is no River text.
 ghost use Rattle.std.specs.Prelude.{◌≡◌};
-ghost use Rattle.river_text.specs.Faults.{from_lexer};
+ghost use Rattle.river_text.specs.Faults.{text_from_lexer};
 ghost use Rattle.river_text.specs.declared.fault.TextFault.TheVariants as fault;
 
 use river_base::NoMemory;
@@ -26,7 +26,7 @@ impl From<NoMemory> for TextFault {
 }
 
 impl From<LexFault> for TextFault {
-    ghost from_gives = { λ lexical f. f ≡ from_lexer lexical };
+    ghost from_gives = { λ lexical f. f ≡ text_from_lexer lexical };
 
     fn from(lexical: LexFault) -> Self {
         match lexical {

@@ -3,7 +3,8 @@ ghost use Rattle.std.specs.Prelude.{◌≡◌};
 ghost use Rattle.text_forms.specs.Gives.{Gives};
 ghost use Rattle.text_forms.specs.Parse.{commas, count_at, listing};
 ghost use Rattle.work_code.specs.declared.sign.Symbol.TheVariants as s;
-ghost use Rattle.river_text.specs.ReadKernels.{kind_at, signed_at, width_at, round, starts_at, widths_at, weights_at, number_at, two_at, pair_at, three_at, triple_at, rates_at};
+ghost use Rattle.river_text.specs.ReadKernels.{kind_number_at, signed_at, width_at, round, starts_at};
+ghost use Rattle.river_text.specs.ReadKernels.{widths_at, weights_at, number_at, two_at, pair_at, three_at, triple_at, rates_at};
 
 use river_base::Numbers;
 use std::alloc::Global;
@@ -23,7 +24,7 @@ pub enum Kind {
 
 // A number of this kind.
 fn number_of(reader: &mut Reader<'_>, kind: Kind) -> Result<i64, Fault>
-    ensures { Gives (λ value. value) result reader.new (kind_at kind reader.old) }
+    ensures { Gives (λ value. value) result reader.new (kind_number_at kind reader.old) }
 {
     match kind {
         Kind::Width => width(reader),
@@ -57,7 +58,7 @@ fn signed(reader: &mut Reader<'_>) -> Result<i64, Fault>
 // Numbers of this kind with commas between them, at least one.
 #[tactic(auto, using(crate::proofs::Steps::numbers))]
 fn some_numbers(reader: &mut Reader<'_>, alloc: Global, kind: Kind) -> Result<Numbers, Fault>
-    ensures { Gives (λ list. list) result reader.new (commas (kind_at kind) reader.old) }
+    ensures { Gives (λ list. list) result reader.new (commas (kind_number_at kind) reader.old) }
 {
     let mut list = Numbers::new(alloc);
     list.push(number_of(reader, kind)?)?;
@@ -69,7 +70,7 @@ fn some_numbers(reader: &mut Reader<'_>, alloc: Global, kind: Kind) -> Result<Nu
 
 // Numbers of this kind with commas between them, or none before a closing bracket.
 fn numbers(reader: &mut Reader<'_>, alloc: Global, kind: Kind) -> Result<Numbers, Fault>
-    ensures { Gives (λ list. list) result reader.new (listing s.Close (kind_at kind) reader.old) }
+    ensures { Gives (λ list. list) result reader.new (listing s.Close (kind_number_at kind) reader.old) }
 {
     if reader.is_at(Symbol::Close) {
         return Ok(Numbers::new(alloc));
@@ -84,7 +85,7 @@ fn round_numbers(
     brackets: u32,
     kind: Kind,
 ) -> Result<Numbers, Fault>
-    ensures { Gives (λ list. list) result reader.new (round (λ m. listing s.Close (kind_at kind)) brackets reader.old) }
+    ensures { Gives (λ list. list) result reader.new (round (λ m. listing s.Close (kind_number_at kind)) brackets reader.old) }
 {
     reader.opens(Symbol::Open, brackets)?;
     let list = numbers(reader, alloc, kind)?;

@@ -19,7 +19,7 @@ use Rattle.river_plan.proofs.NameLemmas.{cases_bool, cases_name, name_is, name_s
 use Rattle.brooklet_model.proofs.Lists.{if_lt}
 use Rattle.plan_edits.specs.declared.unfit.Unfit.{Unfit}
 use Rattle.plan_edits.specs.declared.unfit.Unfit.TheVariants.{U1, U2, U3, U4, U5, H1, H2, H3, H4, N1, N2, N3, N4, N5, NoMemory}
-use Rattle.plan_edits.specs.Judged.{rank, IsJudged}
+use Rattle.plan_edits.specs.Judged.{rank, IsJudgedBy}
 use Rattle.plan_edits.specs.Lists.{first_with, swapped}
 use Rattle.plan_edits.proofs.Judging.{rank_most, judged_law, by_if}
 use Rattle.plan_edits.proofs.Surgery.{total-append, first_past, found, some_op}
@@ -210,7 +210,7 @@ module _ (p : PlanForm) (l : Name) (n : ℕ) (v : IsPlan p) where
   Fails = FissionFails p l n
 
   abbrev Judged : Result PlanForm Unfit → Type 0
-  Judged = IsJudged (FissionFails p l n) (IsSplit p l n)
+  Judged = IsJudgedBy (FissionFails p l n) (IsSplit p l n)
 
   -- THE OPERATOR
 

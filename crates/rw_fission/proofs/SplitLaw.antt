@@ -13,7 +13,7 @@ use Rattle.river_plan.specs.Valid.{IsPlan}
 use Rattle.river_plan.proofs.NameLemmas.{more_or_zero}
 use Rattle.brooklet_model.specs.Firings.{feed}
 use Rattle.brooklet_model.specs.Fire.{fire, first_kept, ins}
-use Rattle.brooklet_model.specs.Histories.{History, lists_of, given, written, histories, joined, tables_of, adds, hist, Lists, Solves}
+use Rattle.brooklet_model.specs.Histories.{History, lists_of, given_on, written, histories, joined, tables_of, adds, hist, Lists, Solves}
 use Rattle.brooklet_model.specs.Laws.{given_to}
 use Rattle.brooklet_model.proofs.Feeds.{one_input}
 use Rattle.brooklet_model.proofs.Lists.{if_ge}
@@ -56,10 +56,10 @@ no_adds : (tables : List Name) (h : History) (x : Name) (test : List ℤ → Boo
     → adds_it tables h x test o ≡ 0
 no_adds tables h x test o w e z =
     let none : tables_of tables o ≡ [] = ap (filter (λ v. nat_lt 0 (count v tables))) e ∙ if_ge 0 (count w tables) (w ∷ []) [] (omega (arith, z)) in
-    ap (λ ts. count_by test (joined ts (given o h).adds x)) none
+    ap (λ ts. count_by test (joined ts (given_on o h).adds x)) none
 
 -- an operator of one input
-pub fed_one : (o : OpForm) (r : Name) (h : History) → o.reads ≡ r ∷ [] → ins o.kernel ≡ 1 → given o h ≡ feed (fire o.kernel 0) (h r) (first_kept o.kernel)
+pub fed_one : (o : OpForm) (r : Name) (h : History) → o.reads ≡ r ∷ [] → ins o.kernel ≡ 1 → given_on o h ≡ feed (fire o.kernel 0) (h r) (first_kept o.kernel)
 fed_one o r h e k =
     one_input o.kernel (lists_of h o.reads) (first_kept o.kernel) k ∙ ap (λ rs. feed (fire o.kernel 0) (lists_of h rs 0) (first_kept o.kernel)) e
 
@@ -120,17 +120,17 @@ module _ (Good : item.Item → Type 0) (p : PlanForm) (l : Name) (op : OpForm) (
 
     splitter_solves : Solves h' (splitter_op op m n w)
     splitter_solves =
-        lists_cong da dealt (given (splitter_op op m n w) h').outs h'
+        lists_cong da dealt (given_on (splitter_op op m n w) h').outs h'
         (λ i. sym (ap (λ r. r.outs i) (fed_one (splitter_op op m n w) source h' y.reads refl) ∙ ap (λ xs. dealt_to n w.share xs i) source_old))
         dealt_lists
 
     dealt_at : (i : ℕ) → i < n → h' (m.dealt i) ≡ dealt i
     dealt_at i lt = lists_at m.dealt n dealt h' dealt_lists i lt
 
-    copy_is : (i : ℕ) → i < n → given (replica_op w m i) h' ≡ feed (fire w.inner 0) (dealt i) (first_kept w.inner)
+    copy_is : (i : ℕ) → i < n → given_on (replica_op w m i) h' ≡ feed (fire w.inner 0) (dealt i) (first_kept w.inner)
     copy_is i lt = fed_one (replica_op w m i) (m.dealt i) h' refl inner_in ∙ ap (λ xs. feed (fire w.inner 0) xs (first_kept w.inner)) (dealt_at i lt)
 
-    given_at : (j : Option (Kern × QueueType)) → w.join ≡ j → (i : ℕ) → i < n → Lists (outs_of j (m.given i)) (given (replica_op w m i) h').outs h'
+    given_at : (j : Option (Kern × QueueType)) → w.join ≡ j → (i : ℕ) → i < n → Lists (outs_of j (m.given i)) (given_on (replica_op w m i) h').outs h'
     given_at None e i lt = tt
     given_at (Some j) e i lt = (
       lists_at m.given n outs h' (subst (λ k. Lists (given_names m.given n k) outs h') e outs_lists) i lt ∙ sym (ap (λ r. r.outs 0) (copy_is i lt)),
@@ -145,9 +145,9 @@ module _ (Good : item.Item → Type 0) (p : PlanForm) (l : Name) (op : OpForm) (
           let en : JoinerFits p op n (Some j) = subst (JoinerFits p op n) e y.ends in
           let law : JoinerGives Good op n w (Some j) = subst (JoinerGives Good op n w) e y.joins in
           let lists = subst (λ k. Lists (given_names m.given n k) outs h') e outs_lists in
-          let s : Lists (en.0 ∷ []) (given op h).outs h = subst (λ ws. Lists ws (given op h).outs h) en.1 (it_is p.ops p'.ops op put (split.e Good p l op m n source t w v here y) (Solves h) (plan_solves p v g)) in
+          let s : Lists (en.0 ∷ []) (given_on op h).outs h = subst (λ ws. Lists ws (given_on op h).outs h) en.1 (it_is p.ops p'.ops op put (split.e Good p l op m n source t w v here y) (Solves h) (plan_solves p v g)) in
           let named = split.old_write Good p l op m n source t w v here y en.0 (let a = split.writes_old Good p l op m n source t w v here y en.0 in let b = ap (count en.0) en.1 in let c = count_here en.0 [] in omega (arith, a, b, c)) in
-          subst (λ ws. Lists ws (given o h').outs h') (sym en.1) (
+          subst (λ ws. Lists ws (given_on o h').outs h') (sym en.1) (
             old en.0 named ∙ s.0
                 ∙ ap (λ r. r.outs 0) (fed_one op source h y.reads one_in)
                 ∙ sym (law (h source) (lists_of h' (each_name m.given n)) good (λ i lt. read_at m.given n h' i lt ∙ lists_at m.given n outs h' lists i lt)),

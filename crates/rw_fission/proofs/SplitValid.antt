@@ -15,7 +15,7 @@ use Rattle.river_plan.specs.Faults.{HasWidth, IsOuter, type_width}
 use Rattle.river_plan.specs.Forms.{Name, OpForm, PlanForm, decl_names, table_names, all_decls, queue_names, variable_names}
 use Rattle.river_plan.specs.Kinds.{kind_in, kind_of, var_kind, IsFit}
 use Rattle.river_plan.specs.Names.{count, one_if}
-use Rattle.river_plan.specs.Uses.{Each, total, writes_it, reads_it, vars_it, named_it, Known, ReadsBefore}
+use Rattle.river_plan.specs.Uses.{Each, total, writes_it, reads_it, vars_it, named_it, AreAllKnown, ReadsBefore}
 use Rattle.river_plan.specs.Valid.{IsPlan}
 use Rattle.river_plan.proofs.NameLemmas.{cases_name, count-append, more_or_zero}
 use Rattle.brooklet_model.proofs.Solutions.{count_here}
@@ -57,7 +57,7 @@ copies_before : (g : ℕ → OpForm) (a : ℕ → Name) (n : ℕ) (known : Name 
     → ((q : Name) → 0 < count q (each_name a n) → 0 < known q) → ReadsBefore known (each_op g n)
 copies_before g a zero known e h = tt
 copies_before g a (suc n) known e h = (
-  subst (Known known) (sym (e 0)) (λ q lt. h q (omega (arith, lt))),
+  subst (AreAllKnown known) (sym (e 0)) (λ q lt. h q (omega (arith, lt))),
   copies_before (λ i. g (suc i)) (λ i. a (suc i)) n _ (λ i. e (suc i)) (λ q lt. let k = h q (omega (arith, lt)) in omega (arith, k)),
 )
 

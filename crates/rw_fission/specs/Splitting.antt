@@ -10,7 +10,7 @@ use Rattle.river_plan.specs.Names.{count}
 use Rattle.river_plan.specs.Valid.{IsPlan}
 use Rattle.plan_edits.specs.declared.unfit.Unfit.{Unfit}
 use Rattle.plan_edits.specs.declared.unfit.Unfit.TheVariants.{U1, U2, U3, U4, U5, H1, H2, H3, H4, N1, N2, N3, N4, N5, NoMemory}
-use Rattle.plan_edits.specs.Judged.{IsJudged}
+use Rattle.plan_edits.specs.Judged.{IsJudgedBy}
 use Rattle.rw_fission.specs.Asked.{fission_of}
 use Rattle.rw_fission.specs.Fission.{Way, by_packs, by_blocks, by_adds, split_ops, decls, given_decls}
 use Rattle.rw_fission.specs.Made.{Made, made_of, each_name}
@@ -111,4 +111,4 @@ FissionFails p l n NoMemory = ⊥
 abbrev pub FissionIsJudged : Type 0
 FissionIsJudged =
     (p : PlanForm) (l : Name) (n : ℕ) (made : Result PlanForm Unfit) → IsPlan p
-    → (fission_of p l n ≡ made) ↔ IsJudged (FissionFails p l n) (IsSplit p l n) made
+    → (fission_of p l n ≡ made) ↔ IsJudgedBy (FissionFails p l n) (IsSplit p l n) made

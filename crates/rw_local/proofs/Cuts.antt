@@ -9,7 +9,7 @@ use Rattle.river_plan.specs.Forms.{Name, decl_names}
 use Rattle.river_plan.specs.Names.{count, one_if}
 use Rattle.river_plan.proofs.NameLemmas.{cases_name, name_same}
 use Rattle.brooklet_model.proofs.Lists.{if_true, if_false}
-use Rattle.plan_edits.specs.Lists.{place, undeclared, retyped}
+use Rattle.plan_edits.specs.Lists.{place_of_name, undeclared, retyped}
 use Rattle.rw_local.proofs.FuseLemmas.{spliced_next}
 
 -- the names on both sides of one
@@ -30,11 +30,11 @@ parted q (w ∷ ws) lt = ⊎_elim
     (cases_name w q)
 
 -- its place is the length of the left side
-pub place_cut : (left right : List Name) (q : Name) → count q left ≡ 0 → place q (left ++ q ∷ right) ≡ length left
-place_cut [] right q z = if_true (name_eq q q) 0 (suc (place q right)) (name_same q)
+pub place_cut : (left right : List Name) (q : Name) → count q left ≡ 0 → place_of_name q (left ++ q ∷ right) ≡ length left
+place_cut [] right q z = if_true (name_eq q q) 0 (suc (place_of_name q right)) (name_same q)
 place_cut (w ∷ left) right q z = ⊎_elim
     (λ c. absurd (let e = ap one_if c.1 in omega (arith, e, z)))
-    (λ c. if_false (name_eq w q) 0 (suc (place q (left ++ q ∷ right))) c.1 ∙ ap suc (place_cut left right q (omega (arith, z))))
+    (λ c. if_false (name_eq w q) 0 (suc (place_of_name q (left ++ q ∷ right))) c.1 ∙ ap suc (place_cut left right q (omega (arith, z))))
     (cases_name w q)
 
 -- others in its place

@@ -14,7 +14,7 @@ use Rattle.river_plan.specs.Valid.{IsPlan}
 use Rattle.river_plan.proofs.NameLemmas.{cases_bool}
 use Rattle.river_plan.proofs.ShareLemmas.{each_back}
 use Rattle.brooklet_model.proofs.Lists.{if_true, if_false, if_lt, if_eq}
-use Rattle.plan_edits.specs.Lists.{place, undeclared, first_with}
+use Rattle.plan_edits.specs.Lists.{place_of_name, undeclared, first_with}
 use Rattle.rw_local.specs.Fuse.{fused_op, fused_plan, share, is_large, fuse_found, fuse_of}
 use Rattle.plan_edits.proofs.Surgery.{total-append, found}
 use Rattle.plan_edits.proofs.Types.{flat_each}
@@ -46,44 +46,45 @@ decl_there q (x ∷ ds) (suc i) d lt e t = let r = decl_there q ds i d (omega (a
 
 -- the place of the declaration
 pub decl_at : (q : Name) (ds : List Decl) (i : ℕ) (d : Decl) → i < length ds → d ≡ get_or ds i d → name_eq d.name q ≡ true
-    → count q (decl_names (take i ds)) ≡ 0 → i ≡ place q (decl_names ds)
+    → count q (decl_names (take i ds)) ≡ 0 → i ≡ place_of_name q (decl_names ds)
 decl_at q [] i d lt e t z = absurd (omega (arith, lt))
-decl_at q (x ∷ ds) zero d lt e t z = sym (if_true (name_eq x.name q) 0 (suc (place q (decl_names ds))) (sym (ap (λ y. name_eq y.name q) e) ∙ t))
+decl_at q (x ∷ ds) zero d lt e t z = sym (if_true (name_eq x.name q) 0 (suc (place_of_name q (decl_names ds))) (sym (ap (λ y. name_eq y.name q) e) ∙ t))
 decl_at q (x ∷ ds) (suc i) d lt e t z = ⊎_elim
     (λ c. absurd (let k = ap one_if c in omega (arith, k, z)))
-    (λ c. ap suc (decl_at q ds i d (omega (arith, lt)) e t (omega (arith, z))) ∙ sym (if_false (name_eq x.name q) 0 (suc (place q (decl_names ds))) c))
+    (λ c. ap suc (decl_at q ds i d (omega (arith, lt)) e t (omega (arith, z))) ∙ sym (if_false (name_eq x.name q) 0 (suc (place_of_name q (decl_names ds))) c))
     (cases_bool (name_eq x.name q))
 
 -- where there is none, the place is the length
-pub decl_past : (q : Name) (ds : List Decl) (i : ℕ) → length ds ≤ i → i ≤ length ds → count q (decl_names (take i ds)) ≡ 0 → i ≡ place q (decl_names ds)
+pub decl_past : (q : Name) (ds : List Decl) (i : ℕ) → length ds ≤ i → i ≤ length ds → count q (decl_names (take i ds)) ≡ 0 → i ≡ place_of_name q (decl_names ds)
 decl_past q [] i ge le z = omega (arith, le)
 decl_past q (x ∷ ds) zero ge le z = absurd (omega (arith, ge))
 decl_past q (x ∷ ds) (suc i) ge le z = ⊎_elim
     (λ c. absurd (let k = ap one_if c in omega (arith, k, z)))
-    (λ c. ap suc (decl_past q ds i (omega (arith, ge)) (omega (arith, le)) (omega (arith, z))) ∙ sym (if_false (name_eq x.name q) 0 (suc (place q (decl_names ds))) c))
+    (λ c. ap suc (decl_past q ds i (omega (arith, ge)) (omega (arith, le)) (omega (arith, z)))
+    ∙ sym (if_false (name_eq x.name q) 0 (suc (place_of_name q (decl_names ds))) c))
     (cases_bool (name_eq x.name q))
 
 -- the place of a declaration that is there
-pub decl_below : (q : Name) (ds : List Decl) → 0 < count q (decl_names ds) → place q (decl_names ds) < length ds
+pub decl_below : (q : Name) (ds : List Decl) → 0 < count q (decl_names ds) → place_of_name q (decl_names ds) < length ds
 decl_below q [] lt = absurd (omega (arith, lt))
 decl_below q (x ∷ ds) lt = ⊎_elim
-    (λ c. let e = if_true (name_eq x.name q) 0 (suc (place q (decl_names ds))) c in omega (arith, e))
-    (λ c. let e = if_false (name_eq x.name q) 0 (suc (place q (decl_names ds))) c in let z = ap one_if c in let i = decl_below q ds (omega (arith, z, lt)) in omega (arith, e, i))
+    (λ c. let e = if_true (name_eq x.name q) 0 (suc (place_of_name q (decl_names ds))) c in omega (arith, e))
+    (λ c. let e = if_false (name_eq x.name q) 0 (suc (place_of_name q (decl_names ds))) c in let z = ap one_if c in let i = decl_below q ds (omega (arith, z, lt)) in omega (arith, e, i))
     (cases_bool (name_eq x.name q))
 
 -- the declarations without one
-pub undeclared_is : (q : Name) (ds : List Decl) (n : ℕ) → 0 < count q (decl_names ds) → n ≡ place q (decl_names ds)
+pub undeclared_is : (q : Name) (ds : List Decl) (n : ℕ) → 0 < count q (decl_names ds) → n ≡ place_of_name q (decl_names ds)
     → take n ds ++ drop (n + 1) ds ≡ undeclared q ds
 undeclared_is q ds n lt e = ap (λ m. take m ds ++ drop (m + 1) ds) e ∙ go ds lt
   where
-    go : (xs : List Decl) → 0 < count q (decl_names xs) → take (place q (decl_names xs)) xs ++ drop (place q (decl_names xs) + 1) xs ≡ undeclared q xs
+    go : (xs : List Decl) → 0 < count q (decl_names xs) → take (place_of_name q (decl_names xs)) xs ++ drop (place_of_name q (decl_names xs) + 1) xs ≡ undeclared q xs
     go [] l = absurd (omega (arith, l))
     go (x ∷ xs) l = ⊎_elim
-        (λ c. ap (λ m. take m (x ∷ xs) ++ drop (m + 1) (x ∷ xs)) (if_true (name_eq x.name q) 0 (suc (place q (decl_names xs))) c) ∙ sym (if_true (name_eq x.name q) xs (x ∷ undeclared q xs) c))
+        (λ c. ap (λ m. take m (x ∷ xs) ++ drop (m + 1) (x ∷ xs)) (if_true (name_eq x.name q) 0 (suc (place_of_name q (decl_names xs))) c) ∙ sym (if_true (name_eq x.name q) xs (x ∷ undeclared q xs) c))
         (λ c.
-        let k : suc (place q (decl_names xs)) + 1 ≡ suc (place q (decl_names xs) + 1) = omega arith in
-        ap (λ m. take m (x ∷ xs) ++ drop (m + 1) (x ∷ xs)) (if_false (name_eq x.name q) 0 (suc (place q (decl_names xs))) c)
-        ∙ ap (λ m. x ∷ (take (place q (decl_names xs)) xs ++ drop m (x ∷ xs))) k
+        let k : suc (place_of_name q (decl_names xs)) + 1 ≡ suc (place_of_name q (decl_names xs) + 1) = omega arith in
+        ap (λ m. take m (x ∷ xs) ++ drop (m + 1) (x ∷ xs)) (if_false (name_eq x.name q) 0 (suc (place_of_name q (decl_names xs))) c)
+        ∙ ap (λ m. x ∷ (take (place_of_name q (decl_names xs)) xs ++ drop m (x ∷ xs))) k
         ∙ ap (λ m. x ∷ m) (go xs (let z = ap one_if c in omega (arith, z, l))) ∙ sym (if_false (name_eq x.name q) xs (x ∷ undeclared q xs) c))
         (cases_bool (name_eq x.name q))
 

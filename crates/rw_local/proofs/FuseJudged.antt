@@ -14,8 +14,8 @@ use Rattle.river_plan.proofs.NameLemmas.{count-append, one_same}
 use Rattle.brooklet_model.proofs.Lists.{if_lt, if_ge}
 use Rattle.plan_edits.specs.declared.unfit.Unfit.{Unfit}
 use Rattle.plan_edits.specs.declared.unfit.Unfit.TheVariants.{U1, U2, U3, U4, U5, H1, H2, H3, H4, N1, N2, N3, N4, N5, NoMemory}
-use Rattle.plan_edits.specs.Judged.{rank, IsJudged}
-use Rattle.plan_edits.specs.Lists.{first_with, place, undeclared}
+use Rattle.plan_edits.specs.Judged.{rank, IsJudgedBy}
+use Rattle.plan_edits.specs.Lists.{first_with, place_of_name, undeclared}
 use Rattle.plan_edits.proofs.Edit.{Cut, cut_of, replaced_is}
 use Rattle.plan_edits.proofs.Judging.{rank_most, judged_law, by_if}
 use Rattle.plan_edits.proofs.Lookups.{names_append}
@@ -111,14 +111,14 @@ module _ (p : PlanForm) (q : Name) (v : IsPlan p) where
     written_once = let a = sums (writes_it q) in let o = v.written_once q in omega (arith, a, o)
 
     -- how q stands among the writer's outputs
-    outs_cut : (left right : List Name) → w.writes ≡ left ++ q ∷ right → place q w.writes ≡ length left
+    outs_cut : (left right : List Name) → w.writes ≡ left ++ q ∷ right → place_of_name q w.writes ≡ length left
     outs_cut left right e =
         let c = ap (count q) e ∙ count-append q left (q ∷ right) in
         let s = one_same q in
         let o = written_once in
-        ap (place q) e ∙ place_cut left right q (omega (arith, c, s, o))
+        ap (place_of_name q) e ∙ place_cut left right q (omega (arith, c, s, o))
 
-    outs_spliced : (left right : List Name) → w.writes ≡ left ++ q ∷ right → spliced (place q w.writes) w.writes r.writes ≡ left ++ (r.writes ++ right)
+    outs_spliced : (left right : List Name) → w.writes ≡ left ++ q ∷ right → spliced (place_of_name q w.writes) w.writes r.writes ≡ left ++ (r.writes ++ right)
     outs_spliced left right e =
         ap (λ n. spliced n w.writes r.writes) (outs_cut left right e)
         ∙ ap (λ ws. spliced (length left) ws r.writes) e
@@ -127,8 +127,8 @@ module _ (p : PlanForm) (q : Name) (v : IsPlan p) where
     -- the two as one are one operator
     pub whole_is : (op : OpForm) → IsBothAsOne q w r op → op ≡ fused_op q w r
     whole_is op k =
-        let kern : op.kernel ≡ fused w.kernel r.kernel (place q w.writes) = k.kernel ∙ ap (fused w.kernel r.kernel) (sym (outs_cut k.left k.right k.outs)) in
-        let outs : op.writes ≡ spliced (place q w.writes) w.writes r.writes = k.writes ∙ sym (outs_spliced k.left k.right k.outs) in
+        let kern : op.kernel ≡ fused w.kernel r.kernel (place_of_name q w.writes) = k.kernel ∙ ap (fused w.kernel r.kernel) (sym (outs_cut k.left k.right k.outs)) in
+        let outs : op.writes ≡ spliced (place_of_name q w.writes) w.writes r.writes = k.writes ∙ sym (outs_spliced k.left k.right k.outs) in
         λ i. record { label = k.label i; kernel = kern i; reads = k.reads i; writes = outs i; vars = k.vars i }
 
     is_whole : IsBothAsOne q w r (fused_op q w r)
@@ -201,7 +201,7 @@ module _ (p : PlanForm) (q : Name) (v : IsPlan p) where
   nots n a b c d e NoMemory lt h = h
 
   abbrev Judged : Result PlanForm Unfit → Type 0
-  Judged = IsJudged (FuseFails p q) (IsFused p q)
+  Judged = IsJudgedBy (FuseFails p q) (IsFused p q)
 
   module _ (w r : OpForm) (f : Feeds p q w r) where
     no1 : Fails U1 → ⊥

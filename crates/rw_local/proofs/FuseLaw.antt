@@ -23,13 +23,13 @@ use Rattle.river_plan.specs.Valid.{IsPlan}
 use Rattle.river_plan.proofs.NameLemmas.{cases_name, count-append, more_or_zero}
 use Rattle.brooklet_model.specs.Firings.{Same, splice, beside, fused_of}
 use Rattle.brooklet_model.specs.Fire.{outs, tabs}
-use Rattle.brooklet_model.specs.Histories.{History, given, written, histories, joined, adds, tables_of, inputs_of, Lists, Solves}
+use Rattle.brooklet_model.specs.Histories.{History, given_on, written, histories, joined, adds, tables_of, inputs_of, Lists, Solves}
 use Rattle.brooklet_model.proofs.Lists.{if_true}
 use Rattle.brooklet_model.proofs.Ports.{Counts, counts, shaped}
 use Rattle.brooklet_model.proofs.Solutions.{stays, written_out, plan_solves}
 use Rattle.brooklet_model.proofs.Swaps.{count_by-append}
 use Rattle.brooklet_model.proofs.Traces.{adds_it, joined_cong, lists_cong}
-use Rattle.plan_edits.specs.Lists.{place, undeclared}
+use Rattle.plan_edits.specs.Lists.{place_of_name, undeclared}
 use Rattle.plan_edits.specs.Meaning.{SameMeaning}
 use Rattle.rw_local.specs.Fuse.{fused_op, fused_plan, MayFuse}
 use Rattle.plan_edits.proofs.Edit.{Edit, Cut, cut_of, edit_of, Stays, sum_old, sum_new, Parts, parts, together, reordered, edited, edited_adds}
@@ -135,7 +135,7 @@ module _ (p : PlanForm) (q : Name) (w r : OpForm) (v : IsPlan p) (m : MayFuse p 
   r_fit : IsFit p r
   r_fit = (old (IsFit p) v.fits).two.0
 
-  at_below : place q w.writes < length w.writes
+  at_below : place_of_name q w.writes < length w.writes
   at_below = place_below w.writes q c.w_writes
 
   -- the fused kernel fits the types as they were
@@ -149,7 +149,7 @@ module _ (p : PlanForm) (q : Name) (w r : OpForm) (v : IsPlan p) (m : MayFuse p 
     w_fit,
     place_of kind w.writes q c.w_writes,
     subst (λ rs. Fits r.kernel (map kind rs) (map kind r.writes) (map var r.vars)) reads_are r_fit,
-    map-spliced kind (place q w.writes) w.writes r.writes at_below,
+    map-spliced kind (place_of_name q w.writes) w.writes r.writes at_below,
     map-append var w.vars r.vars,
   )
 
@@ -269,10 +269,11 @@ module _ (p : PlanForm) (q : Name) (w r : OpForm) (v : IsPlan p) (m : MayFuse p 
   r_counts = counts r.kernel _ _ _ r_fit
 
   -- the old histories solve the new equations, except that q is not written there
-  whole : (h : History) → Each (Solves h) p.ops → Same (given new h) (fused_of (place q w.writes) (outs r.kernel) (tabs w.kernel) (given w h) (λ xs. given r h))
+  whole : (h : History) → Each (Solves h) p.ops → Same (given_on new h) (fused_of (place_of_name q w.writes) (outs r.kernel) (tabs w.kernel)
+      (given_on w h) (λ xs. given_on r h))
   whole h s =
       let a = old (Solves h) s in
-      fused_given q w r h (shaped new.kernel _ _ _ new_fits) reads_are (list_at_place w.writes q (given w h).outs h c.w_writes a.one.0)
+      fused_given q w r h (shaped new.kernel _ _ _ new_fits) reads_are (list_at_place w.writes q (given_on w h).outs h c.w_writes a.one.0)
 
   r_outs : length r.writes ≡ outs r.kernel
   r_outs = sym (length-map r.writes kind) ∙ r_counts.outs
@@ -285,9 +286,9 @@ module _ (p : PlanForm) (q : Name) (w r : OpForm) (v : IsPlan p) (m : MayFuse p 
   new_solves h s =
       let a = old (Solves h) s in
       let k = whole h s in
-      let l = lists_spliced (place q w.writes) w.writes r.writes (given w h).outs (given r h).outs h at_below a.one.0 a.two.0 in
-      let l' = subst (λ n. Lists new.writes (splice (place q w.writes) n (given w h).outs (given r h).outs) h) r_outs l in
-      lists_cong new.writes _ (given new h).outs h (λ j. sym (k.outs j)) l'
+      let l = lists_spliced (place_of_name q w.writes) w.writes r.writes (given_on w h).outs (given_on r h).outs h at_below a.one.0 a.two.0 in
+      let l' = subst (λ n. Lists new.writes (splice (place_of_name q w.writes) n (given_on w h).outs (given_on r h).outs) h) r_outs l in
+      lists_cong new.writes _ (given_on new h).outs h (λ j. sym (k.outs j)) l'
 
   abbrev tables : List Name
   tables = table_names p.tables
@@ -296,9 +297,9 @@ module _ (p : PlanForm) (q : Name) (w r : OpForm) (v : IsPlan p) (m : MayFuse p 
       → adds_it tables h t test new ≡ adds_it tables h t test w + adds_it tables h t test r
   new_adds h s t test =
       let k = whole h s in
-      let f = (given w h).adds in
-      let g = (given r h).adds in
-      ap (count_by test) (joined_cong (tables_of tables new) (given new h).adds (beside (tabs w.kernel) f g) t (λ j. k.adds j)
+      let f = (given_on w h).adds in
+      let g = (given_on r h).adds in
+      ap (count_by test) (joined_cong (tables_of tables new) (given_on new h).adds (beside (tabs w.kernel) f g) t (λ j. k.adds j)
       ∙ ap (λ n. joined (tables_of tables new) (beside n f g) t) (sym w_tables)
       ∙ ap (λ l. joined l (beside (length (tables_of tables w)) f g) t) (filter-append (λ x. nat_lt 0 (count x tables)) w.vars r.vars)
       ∙ joined_beside (tables_of tables w) (tables_of tables r) f g t)

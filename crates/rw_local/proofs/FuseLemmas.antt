@@ -13,7 +13,7 @@ use Rattle.river_plan.proofs.NameLemmas.{cases_name, count-append}
 use Rattle.brooklet_model.specs.Firings.{Same, feed, splice, beside, fused_of}
 use Rattle.brooklet_model.specs.Fire.{fire, ins, outs, tabs, privates, first_kept}
 use Rattle.brooklet_model.specs.Shapes.{IsShaped}
-use Rattle.brooklet_model.specs.Histories.{History, lists_of, given, joined, Lists}
+use Rattle.brooklet_model.specs.Histories.{History, lists_of, given_on, joined, Lists}
 use Rattle.brooklet_model.specs.Words.{run, port_by_port, feed_all}
 use Rattle.brooklet_model.proofs.Lists.{if_true, if_false, if_lt, if_ge, take_front, drop_front}
 use Rattle.brooklet_model.proofs.Feeds.{one_input}
@@ -21,7 +21,7 @@ use Rattle.brooklet_model.proofs.FusedRun.{fused_runs}
 use Rattle.brooklet_model.proofs.Shapes.{first_shape, shape_length}
 use Rattle.brooklet_model.proofs.Spliced.{splice_first, splice_second, splice_last, splice_next}
 use Rattle.brooklet_model.proofs.Traces.{joined_cong, lists_cong}
-use Rattle.plan_edits.specs.Lists.{place}
+use Rattle.plan_edits.specs.Lists.{place_of_name}
 use Rattle.rw_local.specs.Fuse.{fused_op}
 
 -- SPLICED LISTS
@@ -63,41 +63,43 @@ lists_spliced (suc at) (w ∷ ws) vs f g h lt a b =
 -- PLACES
 
 -- the place of a name that is there
-pub place_below : (ws : List Name) (q : Name) → 0 < count q ws → place q ws < length ws
+pub place_below : (ws : List Name) (q : Name) → 0 < count q ws → place_of_name q ws < length ws
 place_below [] q lt = absurd (omega (arith, lt))
 place_below (w ∷ ws) q lt = ⊎_elim
-    (λ c. let e = if_true (name_eq w q) 0 (suc (place q ws)) c.1 in omega (arith, e))
-    (λ c. let e = if_false (name_eq w q) 0 (suc (place q ws)) c.1 in let z = ap one_if c.1 in let i = place_below ws q (omega (arith, z, lt)) in omega (arith, e, i))
+    (λ c. let e = if_true (name_eq w q) 0 (suc (place_of_name q ws)) c.1 in omega (arith, e))
+    (λ c. let e = if_false (name_eq w q) 0 (suc (place_of_name q ws)) c.1 in let z = ap one_if c.1
+    in let i = place_below ws q (omega (arith, z, lt)) in omega (arith, e, i))
     (cases_name w q)
 
 -- the value at the place of a name
-pub place_of : {A : Type 0} (f : Name → A) (ws : List Name) (q : Name) → 0 < count q ws → slice_get (map f ws) (place q ws) ≡ Some (f q)
+pub place_of : {A : Type 0} (f : Name → A) (ws : List Name) (q : Name) → 0 < count q ws → slice_get (map f ws) (place_of_name q ws) ≡ Some (f q)
 place_of f [] q lt = absurd (omega (arith, lt))
 place_of f (w ∷ ws) q lt = ⊎_elim
-    (λ c. ap (slice_get (map f (w ∷ ws))) (if_true (name_eq w q) 0 (suc (place q ws)) c.1) ∙ ap (λ n. Some (f n)) c.0)
-    (λ c. ap (slice_get (map f (w ∷ ws))) (if_false (name_eq w q) 0 (suc (place q ws)) c.1) ∙ place_of f ws q (let z = ap one_if c.1 in omega (arith, z, lt)))
+    (λ c. ap (slice_get (map f (w ∷ ws))) (if_true (name_eq w q) 0 (suc (place_of_name q ws)) c.1) ∙ ap (λ n. Some (f n)) c.0)
+    (λ c. ap (slice_get (map f (w ∷ ws))) (if_false (name_eq w q) 0 (suc (place_of_name q ws)) c.1) ∙ place_of f ws q (let z = ap one_if c.1 in omega (arith, z, lt)))
     (cases_name w q)
 
 -- the list at the place of a name
-pub list_at_place : (ws : List Name) (q : Name) (f : ℕ → List item.Item) (h : History) → 0 < count q ws → Lists ws f h → h q ≡ f (place q ws)
+pub list_at_place : (ws : List Name) (q : Name) (f : ℕ → List item.Item) (h : History) → 0 < count q ws → Lists ws f h → h q ≡ f (place_of_name q ws)
 list_at_place [] q f h lt l = absurd (omega (arith, lt))
 list_at_place (w ∷ ws) q f h lt l = ⊎_elim
-    (λ c. ap h (sym c.0) ∙ l.0 ∙ ap f (sym (if_true (name_eq w q) 0 (suc (place q ws)) c.1)))
-    (λ c. list_at_place ws q (λ j. f (suc j)) h (let e = ap one_if c.1 in omega (arith, e, lt)) l.1 ∙ ap f (sym (if_false (name_eq w q) 0 (suc (place q ws)) c.1)))
+    (λ c. ap h (sym c.0) ∙ l.0 ∙ ap f (sym (if_true (name_eq w q) 0 (suc (place_of_name q ws)) c.1)))
+    (λ c. list_at_place ws q (λ j. f (suc j)) h (let e = ap one_if c.1 in omega (arith, e, lt)) l.1
+    ∙ ap f (sym (if_false (name_eq w q) 0 (suc (place_of_name q ws)) c.1)))
     (cases_name w q)
 
 -- how often a name stands in spliced lists
-pub count_spliced : (ws vs : List Name) (q x : Name) → 0 < count q ws → count x (spliced (place q ws) ws vs) + one_if (name_eq q x) ≡ count x ws + count x vs
+pub count_spliced : (ws vs : List Name) (q x : Name) → 0 < count q ws → count x (spliced (place_of_name q ws) ws vs) + one_if (name_eq q x) ≡ count x ws + count x vs
 count_spliced [] vs q x lt = absurd (omega (arith, lt))
 count_spliced (w ∷ ws) vs q x lt = ⊎_elim
     (λ c.
-    let e = ap (λ n. count x (spliced n (w ∷ ws) vs)) (if_true (name_eq w q) 0 (suc (place q ws)) c.1) in
+    let e = ap (λ n. count x (spliced n (w ∷ ws) vs)) (if_true (name_eq w q) 0 (suc (place_of_name q ws)) c.1) in
     let d = ap (λ n. one_if (name_eq n x)) c.0 in
     let a = count-append x vs ws in
     omega (arith, e, d, a))
     (λ c.
-    let e = ap (λ n. count x (spliced n (w ∷ ws) vs)) (if_false (name_eq w q) 0 (suc (place q ws)) c.1) in
-    let n = ap (count x) (spliced_next (place q ws) w ws vs) in
+    let e = ap (λ n. count x (spliced n (w ∷ ws) vs)) (if_false (name_eq w q) 0 (suc (place_of_name q ws)) c.1) in
+    let n = ap (count x) (spliced_next (place_of_name q ws) w ws vs) in
     let z = ap one_if c.1 in
     let i = count_spliced ws vs q x (omega (arith, z, lt)) in
     omega (arith, e, n, i))
@@ -123,11 +125,11 @@ joined_beside (w ∷ ts) us f g t =
 -- THE WHOLE
 
 -- what the whole gives, by what its parts give
-pub fused_given : (q : Name) (w r : OpForm) (h : History) → IsShaped (fused w.kernel r.kernel (place q w.writes)) → r.reads ≡ q ∷ []
-    → h q ≡ (given w h).outs (place q w.writes)
-    → Same (given (fused_op q w r) h) (fused_of (place q w.writes) (outs r.kernel) (tabs w.kernel) (given w h) (λ xs. given r h))
+pub fused_given : (q : Name) (w r : OpForm) (h : History) → IsShaped (fused w.kernel r.kernel (place_of_name q w.writes)) → r.reads ≡ q ∷ []
+    → h q ≡ (given_on w h).outs (place_of_name q w.writes)
+    → Same (given_on (fused_op q w r) h) (fused_of (place_of_name q w.writes) (outs r.kernel) (tabs w.kernel) (given_on w h) (λ xs. given_on r h))
 fused_given q w r h f reads eq =
-    let a = w.kernel in let b = r.kernel in let at = place q w.writes in
+    let a = w.kernel in let b = r.kernel in let at = place_of_name q w.writes in
     let fa = first_kept a in let fb = first_kept b in
     let word = port_by_port (ins a) 0 (lists_of h w.reads) in
     let sh = first_shape (fused a b at) f in
@@ -135,13 +137,13 @@ fused_given q w r h f reads eq =
     let l9 = fused_runs a b at word (fa ++ fb) f sh in
     let e1 = take_front fa fb (privates a) la in
     let e2 = drop_front fa fb (privates a) la in
-    let W = given w h in
-    let second : feed (fire b 0) (W.outs at) fb ≡ given r h =
+    let W = given_on w h in
+    let second : feed (fire b 0) (W.outs at) fb ≡ given_on r h =
     ap (λ xs. feed (fire b 0) xs fb) (sym eq) ∙ sym (one_input b (lists_of h (q ∷ [])) fb f.3) ∙ ap (λ rs. feed_all b (lists_of h rs) fb) (sym reads) in
-    let l9' : Same (given (fused_op q w r) h) (fused_of at (outs b) (tabs a) W (λ xs. feed (fire b 0) xs fb)) =
-    subst (λ us. Same (given (fused_op q w r) h) (fused_of at (outs b) (tabs a) W (λ xs. feed (fire b 0) xs us))) e2
-    (subst (λ us. Same (given (fused_op q w r) h) (fused_of at (outs b) (tabs a) (run (fire a) word us) (λ xs. feed (fire b 0) xs (drop (privates a) (fa ++ fb))))) e1 l9) in
-    subst (λ s. Same (given (fused_op q w r) h) (fused_of at (outs b) (tabs a) W (λ xs. s))) second l9'
+    let l9' : Same (given_on (fused_op q w r) h) (fused_of at (outs b) (tabs a) W (λ xs. feed (fire b 0) xs fb)) =
+    subst (λ us. Same (given_on (fused_op q w r) h) (fused_of at (outs b) (tabs a) W (λ xs. feed (fire b 0) xs us))) e2
+    (subst (λ us. Same (given_on (fused_op q w r) h) (fused_of at (outs b) (tabs a) (run (fire a) word us) (λ xs. feed (fire b 0) xs (drop (privates a) (fa ++ fb))))) e1 l9) in
+    subst (λ s. Same (given_on (fused_op q w r) h) (fused_of at (outs b) (tabs a) W (λ xs. s))) second l9'
 
 -- a list of one name
 pub length_one : (rs : List Name) (q : Name) → length rs ≡ 1 → 0 < count q rs → rs ≡ q ∷ []

@@ -21,7 +21,7 @@ use Rattle.river_plan.proofs.NameLemmas.{cases_bool, name_is}
 use Rattle.brooklet_model.proofs.Lists.{if_true, if_false, if_lt, if_ge, if_eq}
 use Rattle.plan_edits.specs.declared.unfit.Unfit.{Unfit}
 use Rattle.plan_edits.specs.declared.unfit.Unfit.TheVariants.{U1, U2, U3, U4, U5, H1, H2, H3, H4, N1, N2, N3, N4, N5, NoMemory}
-use Rattle.plan_edits.specs.Lists.{place, first_with, replaced, retyped}
+use Rattle.plan_edits.specs.Lists.{place_of_name, first_with, replaced, retyped}
 use Rattle.plan_edits.specs.Answered.{IsAnswered}
 use Rattle.rw_local.specs.HoistCode.{IsPassing}
 use Rattle.rw_local.specs.Hoist.{plain_field, of_projection, width_at, first_width, passes, hoisted_plan, hoist_at, hoist_passed, hoist_past, hoist_between}
@@ -57,22 +57,22 @@ not_empty [] h = absurd (h refl)
 not_empty (x ∷ rs) h = omega arith
 
 -- the declarations with one in its place
-pub retyped_is : (q : Name) (k : QueueType) (ds : List Decl) (n : ℕ) → 0 < count q (decl_names ds) → n ≡ place q (decl_names ds)
+pub retyped_is : (q : Name) (k : QueueType) (ds : List Decl) (n : ℕ) → 0 < count q (decl_names ds) → n ≡ place_of_name q (decl_names ds)
     → take n ds ++ (record { name = q; kind = k } ∷ drop (n + 1) ds) ≡ retyped q k ds
 retyped_is q k ds n lt e = ap (λ m. take m ds ++ (record { name = q; kind = k } ∷ drop (m + 1) ds)) e ∙ go ds lt
   where
     go : (xs : List Decl) → 0 < count q (decl_names xs)
-        → take (place q (decl_names xs)) xs ++ (record { name = q; kind = k } ∷ drop (place q (decl_names xs) + 1) xs) ≡ retyped q k xs
+        → take (place_of_name q (decl_names xs)) xs ++ (record { name = q; kind = k } ∷ drop (place_of_name q (decl_names xs) + 1) xs) ≡ retyped q k xs
     go [] l = absurd (omega (arith, l))
     go (x ∷ xs) l = ⊎_elim
         (λ c.
-        ap (λ m. take m (x ∷ xs) ++ (record { name = q; kind = k } ∷ drop (m + 1) (x ∷ xs))) (if_true (name_eq x.name q) 0 (suc (place q (decl_names xs))) c)
+        ap (λ m. take m (x ∷ xs) ++ (record { name = q; kind = k } ∷ drop (m + 1) (x ∷ xs))) (if_true (name_eq x.name q) 0 (suc (place_of_name q (decl_names xs))) c)
         ∙ ap (λ m. record { name = m; kind = k } ∷ xs) (sym (name_is x.name q c))
         ∙ sym (if_true (name_eq x.name q) (record x { kind = k } ∷ xs) (x ∷ retyped q k xs) c))
         (λ c.
-        let s : suc (place q (decl_names xs)) + 1 ≡ suc (place q (decl_names xs) + 1) = omega arith in
-        ap (λ m. take m (x ∷ xs) ++ (record { name = q; kind = k } ∷ drop (m + 1) (x ∷ xs))) (if_false (name_eq x.name q) 0 (suc (place q (decl_names xs))) c)
-        ∙ ap (λ m. x ∷ (take (place q (decl_names xs)) xs ++ (record { name = q; kind = k } ∷ drop m (x ∷ xs)))) s
+        let s : suc (place_of_name q (decl_names xs)) + 1 ≡ suc (place_of_name q (decl_names xs) + 1) = omega arith in
+        ap (λ m. take m (x ∷ xs) ++ (record { name = q; kind = k } ∷ drop (m + 1) (x ∷ xs))) (if_false (name_eq x.name q) 0 (suc (place_of_name q (decl_names xs))) c)
+        ∙ ap (λ m. x ∷ (take (place_of_name q (decl_names xs)) xs ++ (record { name = q; kind = k } ∷ drop m (x ∷ xs)))) s
         ∙ ap (λ m. x ∷ m) (go xs (let z = ap one_if c in omega (arith, z, l)))
         ∙ sym (if_false (name_eq x.name q) (record x { kind = k } ∷ xs) (x ∷ retyped q k xs) c))
         (cases_bool (name_eq x.name q))

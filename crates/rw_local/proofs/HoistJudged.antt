@@ -21,7 +21,7 @@ use Rattle.river_plan.proofs.ShareLemmas.{each_back}
 use Rattle.brooklet_model.proofs.Lists.{if_lt}
 use Rattle.plan_edits.specs.declared.unfit.Unfit.{Unfit}
 use Rattle.plan_edits.specs.declared.unfit.Unfit.TheVariants.{U1, U2, U3, U4, U5, H1, H2, H3, H4, N1, N2, N3, N4, N5, NoMemory}
-use Rattle.plan_edits.specs.Judged.{rank, IsJudged}
+use Rattle.plan_edits.specs.Judged.{rank, IsJudgedBy}
 use Rattle.plan_edits.specs.Lists.{first_with, replaced, retyped}
 use Rattle.plan_edits.proofs.Edit.{cut_of, replaced_is}
 use Rattle.plan_edits.proofs.Judging.{rank_most, judged_law, by_if}
@@ -101,7 +101,7 @@ module _ (p : PlanForm) (l : Name) (v : IsPlan p) where
   Fails = HoistFails p l
 
   abbrev Judged : Result PlanForm Unfit → Type 0
-  Judged = IsJudged (HoistFails p l) (IsHoisted p l)
+  Judged = IsJudgedBy (HoistFails p l) (IsHoisted p l)
 
   -- THE SELECTION
 

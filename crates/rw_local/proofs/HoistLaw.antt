@@ -28,7 +28,7 @@ use Rattle.river_plan.specs.Valid.{IsPlan}
 use Rattle.river_plan.proofs.NameLemmas.{cases_name, more_or_zero}
 use Rattle.brooklet_model.specs.Fire.{first_kept}
 use Rattle.brooklet_model.specs.Words.{feed_all}
-use Rattle.brooklet_model.specs.Histories.{History, lists_of, given, written, histories, joined, adds, tables_of, inputs_of, Lists, Solves}
+use Rattle.brooklet_model.specs.Histories.{History, lists_of, given_on, written, histories, joined, adds, tables_of, inputs_of, Lists, Solves}
 use Rattle.brooklet_model.proofs.Lists.{if_true, funext}
 use Rattle.brooklet_model.proofs.Ports.{counts, length-spliced}
 use Rattle.brooklet_model.proofs.Solutions.{stays, written_out, plan_solves}
@@ -373,18 +373,18 @@ module _ (p : PlanForm) (l : Name) (u b : OpForm) (t : Term) (side : ℕ) (t' : 
     solved : Parts p.ops p'.ops e (Solves h)
     solved = old (Solves h) (plan_solves p v g)
 
-    mid_was : h mid ≡ (given b h).outs 0
-    mid_was = one_list b.writes mid (given b h).outs h only solved.one.0
+    mid_was : h mid ≡ (given_on b h).outs 0
+    mid_was = one_list b.writes mid (given_on b h).outs h only solved.one.0
 
     -- what a selection gives
-    selected_of : (op : OpForm) (s : Term) (r : Name) (f : History) → op.kernel ≡ select s → op.reads ≡ r ∷ [] → (given op f).outs 0 ≡ sift s (f r)
-    selected_of op s r f k rs = ap (λ x. (given x f).outs 0) (same_op k rs) ∙ all_select s (lists_of f (r ∷ []))
+    selected_of : (op : OpForm) (s : Term) (r : Name) (f : History) → op.kernel ≡ select s → op.reads ≡ r ∷ [] → (given_on op f).outs 0 ≡ sift s (f r)
+    selected_of op s r f k rs = ap (λ x. (given_on x f).outs 0) (same_op k rs) ∙ all_select s (lists_of f (r ∷ []))
       where
         same_op : op.kernel ≡ select s → op.reads ≡ r ∷ [] → op ≡ record op { kernel = select s; reads = r ∷ [] }
         same_op a d = λ i. record op { kernel = a i; reads = d i }
 
     out_was : h out ≡ sift t (h mid)
-    out_was = one_list u.writes out (given u h).outs h is.writes solved.two.0 ∙ selected_of u t mid h m.selects is.reads
+    out_was = one_list u.writes out (given_on u h).outs h is.writes solved.two.0 ∙ selected_of u t mid h m.selects is.reads
 
     commutes : Commutes b.kernel t side t' (lists_of h b.reads)
     commutes =
@@ -431,10 +431,10 @@ module _ (p : PlanForm) (l : Name) (u b : OpForm) (t : Term) (side : ℕ) (t' : 
     same_adds : (x : Name) (test : List ℤ → Bool) → count_by test (adds tables p'.ops (histories p'.ops g) x) ≡ count_by test (adds tables p.ops h x)
     same_adds x test =
         let a = edited_adds p p' v valid e g h' put_solves same_h in_put tables x test in
-        let d1 = ap (λ ts. count_by test (joined ts (given b h).adds x)) b_tables in
-        let d2 = ap (λ ts. count_by test (joined ts (given u h).adds x)) u_tables in
-        let d3 = ap (λ ts. count_by test (joined ts (given b' h').adds x)) b_tables in
-        let d4 = ap (λ ts. count_by test (joined ts (given u' h').adds x)) u_tables in
+        let d1 = ap (λ ts. count_by test (joined ts (given_on b h).adds x)) b_tables in
+        let d2 = ap (λ ts. count_by test (joined ts (given_on u h).adds x)) u_tables in
+        let d3 = ap (λ ts. count_by test (joined ts (given_on b' h').adds x)) b_tables in
+        let d4 = ap (λ ts. count_by test (joined ts (given_on u' h').adds x)) u_tables in
         omega (arith, a, d1, d2, d3, d4)
 
     same : SameMeaning p p' inputs

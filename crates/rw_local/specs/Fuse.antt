@@ -13,16 +13,16 @@ use Rattle.brooklet_model.specs.Meaning.{meaning}
 use Rattle.brooklet_model.specs.Typed.{AreInputs}
 use Rattle.plan_edits.specs.declared.unfit.Unfit.{Unfit}
 use Rattle.plan_edits.specs.declared.unfit.Unfit.TheVariants.{U1, U2, U3, U4, U5}
-use Rattle.plan_edits.specs.Lists.{place, undeclared, first_with, replaced}
+use Rattle.plan_edits.specs.Lists.{place_of_name, undeclared, first_with, replaced}
 use Rattle.plan_edits.specs.Meaning.{SameOuter}
 
 -- one operator with the writer's label and inputs; the reader's outputs stand in the place of the queue among the writer's outputs
 abbrev pub fused_op : Name → OpForm → OpForm → OpForm
 fused_op q w r = record {
   label = w.label;
-  kernel = fused w.kernel r.kernel (place q w.writes);
+  kernel = fused w.kernel r.kernel (place_of_name q w.writes);
   reads = w.reads;
-  writes = spliced (place q w.writes) w.writes r.writes;
+  writes = spliced (place_of_name q w.writes) w.writes r.writes;
   vars = w.vars ++ r.vars;
 }
 

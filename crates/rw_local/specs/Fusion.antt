@@ -8,7 +8,7 @@ use Rattle.river_plan.specs.Names.{count}
 use Rattle.river_plan.specs.Valid.{IsPlan}
 use Rattle.plan_edits.specs.declared.unfit.Unfit.{Unfit}
 use Rattle.plan_edits.specs.declared.unfit.Unfit.TheVariants.{U1, U2, U3, U4, U5, H1, H2, H3, H4, N1, N2, N3, N4, N5, NoMemory}
-use Rattle.plan_edits.specs.Judged.{IsJudged}
+use Rattle.plan_edits.specs.Judged.{IsJudgedBy}
 use Rattle.rw_local.specs.Fuse.{fuse_of}
 
 -- an operator w of the plan writes the queue q, and another one, r, reads it: in a plan it stands behind w
@@ -76,4 +76,4 @@ pub record IsFused (p : PlanForm) (q : Name) (p' : PlanForm) : Type 0 where
 
 -- a fusion is refused by the first condition that fails, and gives that plan exactly where none fails
 abbrev pub FusionIsJudged : Type 0
-FusionIsJudged = (p : PlanForm) (q : Name) (made : Result PlanForm Unfit) → IsPlan p → (fuse_of p q ≡ made) ↔ IsJudged (FuseFails p q) (IsFused p q) made
+FusionIsJudged = (p : PlanForm) (q : Name) (made : Result PlanForm Unfit) → IsPlan p → (fuse_of p q ≡ made) ↔ IsJudgedBy (FuseFails p q) (IsFused p q) made

@@ -9,7 +9,7 @@ use Rattle.river_plan.specs.Kinds.{kind_of}
 use Rattle.river_plan.specs.Valid.{IsPlan}
 use Rattle.plan_edits.specs.declared.unfit.Unfit.{Unfit}
 use Rattle.plan_edits.specs.declared.unfit.Unfit.TheVariants.{U1, U2, U3, U4, U5, H1, H2, H3, H4, N1, N2, N3, N4, N5, NoMemory}
-use Rattle.plan_edits.specs.Judged.{IsJudged}
+use Rattle.plan_edits.specs.Judged.{IsJudgedBy}
 use Rattle.rw_local.specs.Hoist.{width_at, hoist_of}
 
 -- u is the plan's operator of this label, and it selects by this condition
@@ -162,4 +162,4 @@ pub record IsHoisted (p : PlanForm) (l : Name) (p' : PlanForm) : Type 0 where
 
 -- a hoisting is refused by the first condition that fails, and gives that plan exactly where none fails
 abbrev pub HoistingIsJudged : Type 0
-HoistingIsJudged = (p : PlanForm) (l : Name) (made : Result PlanForm Unfit) → IsPlan p → (hoist_of p l ≡ made) ↔ IsJudged (HoistFails p l) (IsHoisted p l) made
+HoistingIsJudged = (p : PlanForm) (l : Name) (made : Result PlanForm Unfit) → IsPlan p → (hoist_of p l ≡ made) ↔ IsJudgedBy (HoistFails p l) (IsHoisted p l) made

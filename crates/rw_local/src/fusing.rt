@@ -2,7 +2,7 @@
 ghost use Rattle.std.specs.Prelude.{◌≡◌, ◌<◌, ◌^◌, IfOk, OnOk, ◌++◌, IsTrue, ◌↔◌, length, take, drop, ◌+◌};
 ghost use Rattle.river_plan.specs.Forms.{plan_form, op_form, op_forms, decl_names, queue_names};
 ghost use Rattle.river_plan.specs.Names.{count};
-ghost use Rattle.plan_edits.specs.Lists.{place, undeclared};
+ghost use Rattle.plan_edits.specs.Lists.{place_of_name, undeclared};
 ghost use Rattle.rw_local.specs.Fuse.{fuse_of, fused_plan};
 ghost use Rattle.plan_edits.specs.Answered.{IsAnswered};
 
@@ -118,7 +118,7 @@ fn without(alloc: Global, decls: &Decls, at: usize) -> Result<Decls, NoMemory>
 
 // The place of the first declaration of this name, or the length.
 pub(crate) fn decl_place(decls: &Decls, queue: Name) -> usize
-    ensures { result ≡ place queue (decl_names decls.now) }
+    ensures { result ≡ place_of_name queue (decl_names decls.now) }
 {
     let mut at = 0;
     for decl in decls.as_slice() {

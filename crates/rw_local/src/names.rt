@@ -2,7 +2,7 @@
 ghost use Rattle.std.specs.Prelude.{◌≡◌, ◌<◌, ◌++◌, IfOk, OnOk, IsTrue, ◌↔◌, length};
 ghost use Rattle.river_plan.specs.Names.{count};
 ghost use Rattle.river_kernels.specs.Fits.{spliced};
-ghost use Rattle.plan_edits.specs.Lists.{place};
+ghost use Rattle.plan_edits.specs.Lists.{place_of_name};
 ghost use Rattle.rw_local.specs.Fuse.{share};
 
 use river_base::{Name, NoMemory};
@@ -23,7 +23,7 @@ pub(crate) fn contains(names: &Names, name: Name) -> bool
 
 /// The place of the name in the list, or the list's length.
 pub(crate) fn place(names: &Names, name: Name) -> usize
-    ensures { result ≡ place name names.now }
+    ensures { result ≡ place_of_name name names.now }
 {
     let mut at = 0;
     for other in names.as_slice() {

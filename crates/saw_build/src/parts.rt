@@ -3,7 +3,7 @@ ghost use Rattle.std.specs.Prelude.{◌≡◌, ◌<◌, length, OnOk};
 ghost use Rattle.work_code.specs.Steps.{Done};
 ghost use Rattle.saw_model.specs.Elaborate.{is_best, table_of, part_of as read_part};
 ghost use Rattle.saw_model.specs.Judged.{all_parts};
-ghost use Rattle.saw_model.specs.Meaning.{kind_of, table_kind};
+ghost use Rattle.saw_model.specs.Meaning.{table_kind_of, table_kind};
 ghost use Rattle.saw_text.specs.Tree.{unit_form, unit_forms};
 ghost use Rattle.saw_build.specs.View.{Judges};
 ghost use Rattle.saw_build.specs.Judging.{at_of, fits_of, within, Reads, ReadsTable, JudgesAll};
@@ -19,7 +19,7 @@ use work_code::Stmts;
 
 /// The kind of a table that has so many keys.
 pub fn kind_of(kind: Kind, keys: u32) -> TableKind
-    ensures { result ≡ kind_of kind keys }
+    ensures { result ≡ table_kind_of kind keys }
 {
     match kind {
         Kind::Sum => TableKind::Sum { keys },
@@ -40,7 +40,7 @@ fn is_best(kind: TableKind) -> bool
 
 // The kind of a table, which is within its limits.
 fn within(table: &Table) -> Result<TableKind, Fault>
-    ensures { Judges (λ k. k) result (within (kind_of table.now.kind (length table.now.indexes.items))) }
+    ensures { Judges (λ k. k) result (within (table_kind_of table.now.kind (length table.now.indexes.items))) }
 {
     let Ok(keys) = u32::try_from(table.indexes.len()) else {
         return Err(Fault::Limit);
@@ -83,7 +83,7 @@ impl Judge {
 
     // A table, which is known from here on.
     fn table(&mut self, table: &Table) -> Result<(), Fault>
-        ensures { ReadsTable result self.old self.new (table_of table.now.name (kind_of table.now.kind (length table.now.indexes.items)) (at_of self.old)) }
+        ensures { ReadsTable result self.old self.new (table_of table.now.name (table_kind_of table.now.kind (length table.now.indexes.items)) (at_of self.old)) }
     {
         let kind = self.fits(table)?;
         let place = self.tables;
@@ -96,7 +96,7 @@ impl Judge {
 
     // The kind of a table whose name is new, where there may be one more.
     fn fits(&self, table: &Table) -> Result<TableKind, Fault>
-        ensures judged { Judges (λ k. k) result (fits_of (at_of self.now) table.now.name (kind_of table.now.kind (length table.now.indexes.items))) }
+        ensures judged { Judges (λ k. k) result (fits_of (at_of self.now) table.now.name (table_kind_of table.now.kind (length table.now.indexes.items))) }
         ensures few { OnOk result (self.now.tables < 64) }
     {
         self.new_name(&table.name)?;

@@ -19,7 +19,7 @@ use Rattle.river_print.specs.Writable.{Every, depths}
 use Rattle.river_print.proofs.Spoken.{IsSpoken, spoken-printable}
 use Rattle.saw_text.specs.Tree.{Statement, Declare, Assign, Emit, If, Block, End, Then, Optional, Unwritten, Written, UnitForm, TableUnit, StatementUnit, Program}
 use Rattle.saw_model.specs.Meaning.{tables_in, table_kind, table_decl}
-use Rattle.saw_model.specs.Elaborate.{Fault, Limit, Shape, At, on_ok, demand, joined, one_step, counted, is_new, has_slot, first_term, declared, slot_of}
+use Rattle.saw_model.specs.Elaborate.{Fault, Limit, Shape, At, on_ok, demand, both_steps, one_step, counted, is_new, has_slot, first_term, declared, slot_of}
 use Rattle.saw_model.specs.Elaborate.{port_of, indexes_of, term_of, weight_of, keys_in, emitted, is_best, tabled, table_of, find, step_of, steps_of, steps_optional}
 use Rattle.saw_model.specs.Elaborate.{part_of as read_part, nothing_read}
 use Rattle.saw_model.specs.Judged.{Refusal, on_fine, in_unit, all_parts}
@@ -117,11 +117,11 @@ units-nest (u ∷ us) (t ∷ ts) h = (unit-nests u t h.0, units-nest us ts h.1)
 
 -- THE BODY OF THE PLAN
 
-joined-depths : (a b : Steps) → depths (joined a b) ≡ max (depths a) (depths b)
+joined-depths : (a b : Steps) → depths (both_steps a b) ≡ max (depths a) (depths b)
 joined-depths Done b = omega arith
 joined-depths (steps.Then c a) b = let e = joined-depths a b in omega (arith, e)
 
-joined-below : (k : ℕ) (a b : Steps) → depths a ≤ k → depths b ≤ k → depths (joined a b) ≤ k
+joined-below : (k : ℕ) (a b : Steps) → depths a ≤ k → depths b ≤ k → depths (both_steps a b) ≤ k
 joined-below k a b h g = let e = joined-depths a b in omega (arith, e)
 
 by-steps : (k : ℕ) (x y : Steps × At) → fine x ≡ fine y → depths x.0 ≤ k → depths y.0 ≤ k
@@ -175,11 +175,11 @@ mutual
   steps-below : (b : Block) (s : At) (y : Steps × At) → steps_of b s ≡ fine y → depths y.0 ≤ nests b
   steps-below End s y h = by-steps 0 (Done, s) y h (omega arith)
   steps-below (Then c b) s y h =
-      let p = ok_parts (step_of c s) (λ p. on_ok (steps_of b p.1) (λ q. fine (joined p.0 q.0, q.1))) y h in
-      let q = ok_parts (steps_of b p.0.1) (λ q. fine (joined p.0.0 q.0, q.1)) y p.2 in
+      let p = ok_parts (step_of c s) (λ p. on_ok (steps_of b p.1) (λ q. fine (both_steps p.0 q.0, q.1))) y h in
+      let q = ok_parts (steps_of b p.0.1) (λ q. fine (both_steps p.0.0 q.0, q.1)) y p.2 in
       let i = step-below c s p.0 p.1 in
       let j = steps-below b p.0.1 q.0 q.1 in
-      by-steps (max (nest c) (nests b)) (joined p.0.0 q.0.0, q.0.1) y q.2
+      by-steps (max (nest c) (nests b)) (both_steps p.0.0 q.0.0, q.0.1) y q.2
       (joined-below (max (nest c) (nests b)) p.0.0 q.0.0 (omega (arith, i)) (omega (arith, j)))
 
   optional-below : (o : Optional) (s : At) (y : Steps × At) → steps_optional o s ≡ fine y → depths y.0 ≤ nests_optional o
@@ -218,10 +218,10 @@ fine-parts (Err e) f y h = absurd (cc h)
 parts-below : (k : ℕ) (p : Program) (s : At) (y : Steps × At) → AreNestedParts p → all_parts k p s ≡ took y → depths y.0 ≤ 16
 parts-below k [] s y low h = subst (λ (r : Steps × At). depths r.0 ≤ 16) (took-is (Done, s) y h) (omega arith)
 parts-below k (c ∷ ps) s y low h =
-    let more = λ (p : Steps × At). on_fine (all_parts (suc k) ps p.1) (λ q. took (joined p.0 q.0, q.1)) in
+    let more = λ (p : Steps × At). on_fine (all_parts (suc k) ps p.1) (λ q. took (both_steps p.0 q.0, q.1)) in
     let a = unit-parts k (read_part c s) more y h in
-    let b = fine-parts (all_parts (suc k) ps a.0.1) (λ q. took (joined a.0.0 q.0, q.1)) y a.2 in
-    subst (λ (r : Steps × At). depths r.0 ≤ 16) (took-is (joined a.0.0 b.0.0, b.0.1) y b.2)
+    let b = fine-parts (all_parts (suc k) ps a.0.1) (λ q. took (both_steps a.0.0 q.0, q.1)) y a.2 in
+    subst (λ (r : Steps × At). depths r.0 ≤ 16) (took-is (both_steps a.0.0 b.0.0, b.0.1) y b.2)
     (joined-below 16 a.0.0 b.0.0 (part-below c s a.0 low.0 a.1) (parts-below (suc k) ps a.0.1 b.0 low.1 b.1))
 
 -- THE PLAN

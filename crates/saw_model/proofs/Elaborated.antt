@@ -22,7 +22,7 @@ use Rattle.saw_text.specs.Tree.{Expression}
 use Rattle.saw_text.specs.Tree as tree
 use Rattle.saw_model.specs.Meaning.{Values, eval, Emitted, State, eval_or, eval_all, listed, reach, reach_all}
 use Rattle.saw_model.specs.Elaborate.{Fault, Limit, on_ok, demand, Known, Var, Port, Scope, find, named, term_of, At, counted, first_term, indexes_of}
-use Rattle.saw_model.specs.Elaborate.{weight_of, joined, one_step}
+use Rattle.saw_model.specs.Elaborate.{weight_of, both_steps, one_step}
 
 -- ANSWERS
 
@@ -342,7 +342,7 @@ pub record Met (ts : List TableDecl) (now now' : State) (sc' : Scope) (run : Ran
   pub matches : Matches ts new run.pushes
 
 pub ran_joined : (a b : Steps) (xs mem : List ℤ)
-    → ran (joined a b) xs mem ≡ record { pushes = (ran a xs mem).pushes ++ (ran b xs (ran a xs mem).slots).pushes; slots = (ran b xs (ran a xs mem).slots).slots }
+    → ran (both_steps a b) xs mem ≡ record { pushes = (ran a xs mem).pushes ++ (ran b xs (ran a xs mem).slots).pushes; slots = (ran b xs (ran a xs mem).slots).slots }
 ran_joined Done b xs mem = refl
 ran_joined (steps.Then s ss) b xs mem =
     let first = ran_once s xs mem in
@@ -357,7 +357,7 @@ module _ (w : ℕ) (r : List ℤ) (ts : List TableDecl) where
 
   -- two lists of statements, one after the other
   pub met_more : (now mid now' : State) (sc sc' : Scope) (a b : Steps) (mem : List ℤ) → Met ts now mid sc (ran a (take w r) mem)
-      → Met ts mid now' sc' (ran b (take w r) (ran a (take w r) mem).slots) → Met ts now now' sc' (ran (joined a b) (take w r) mem)
+      → Met ts mid now' sc' (ran b (take w r) (ran a (take w r) mem).slots) → Met ts now now' sc' (ran (both_steps a b) (take w r) mem)
   met_more now mid now' sc sc' a b mem m n = subst (Met ts now now' sc') (sym (ran_joined a b (take w r) mem)) (record {
     agrees = n.agrees;
     new = m.new ++ n.new;

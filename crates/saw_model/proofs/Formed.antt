@@ -22,7 +22,7 @@ use Rattle.saw_text.specs.Tree.{Statement, Declare, Assign, Emit, If, Block, End
 use Rattle.saw_model.specs.Meaning.{tables_in, listed, parts_of, reach, table_kind, table_decl}
 use Rattle.saw_model.specs.Meaning.{reach_all, reach_statement, reach_block, reach_optional, reach_parts}
 use Rattle.saw_model.specs.Shallow.{IsLow, AreLow, IsShallow, AreShallow, AreShallowOptional, AreShallowParts}
-use Rattle.saw_model.specs.Elaborate.{Limit, on_ok, Known, Var, Port, Scope, find, named, term_of, At, first_term, indexes_of, keys_in, weight_of, joined}
+use Rattle.saw_model.specs.Elaborate.{Limit, on_ok, Known, Var, Port, Scope, find, named, term_of, At, first_term, indexes_of, keys_in, weight_of, both_steps}
 use Rattle.saw_model.specs.Elaborate.{one_step, step_of, steps_of, steps_optional, part_of}
 use Rattle.saw_model.proofs.Elaborated.{fine, ok_is, ok_parts, if_ok, if_both, IsSound, ArePorts, more_slots, sound_port, one_more}
 use Rattle.saw_model.proofs.Statements.{second_at, declared_parts, assigned_parts, sent_parts, forked_parts, followed_parts, grows, grows_all, grows_optional}
@@ -135,7 +135,7 @@ parts_reach (StatementUnit c ∷ ps) s y h =
 
 -- HOW MANY STATEMENTS AND SLOTS
 
-size_joined : (a b : Steps) → size (joined a b) ≡ size a + size b
+size_joined : (a b : Steps) → size (both_steps a b) ≡ size a + size b
 size_joined Done b = omega arith
 size_joined (steps.Then c a) b = let e = size_joined a b in omega (arith, e)
 
@@ -144,7 +144,7 @@ pub record Counts (s : At) (y : Steps × At) : Type 0 where
   pub small : s.size ≤ 16384 → y.1.size ≤ 16384
   pub few : s.slots ≤ 256 → y.1.slots ≤ 256
 
-counts_both : (s : At) (a b : Steps × At) → Counts s a → Counts a.1 b → Counts s (joined a.0 b.0, b.1)
+counts_both : (s : At) (a b : Steps × At) → Counts s a → Counts a.1 b → Counts s (both_steps a.0 b.0, b.1)
 counts_both s a b f g =
     let z = size_joined a.0 b.0 in let x = f.size in let y = g.size in
     record { size = omega (arith, z, x, y); small = λ h. g.small (f.small h); few = λ h. g.few (f.few h) }
@@ -296,11 +296,11 @@ module _ (w m : ℕ) (ts : List TableDecl) where
   abbrev outs : List ℤ
   outs = widths_of ts
 
-  steps_joined : (a b : Steps) → is_steps w m outs a ≡ true → is_steps w m outs b ≡ true → is_steps w m outs (joined a b) ≡ true
+  steps_joined : (a b : Steps) → is_steps w m outs a ≡ true → is_steps w m outs b ≡ true → is_steps w m outs (both_steps a b) ≡ true
   steps_joined Done b h g = g
   steps_joined (steps.Then c a) b h g =
       let q = and_parts (is_step w m outs c) (is_steps w m outs a) h in
-      both_true (is_step w m outs c) (is_steps w m outs (joined a b)) q.0 (steps_joined a b q.1 g)
+      both_true (is_step w m outs c) (is_steps w m outs (both_steps a b)) q.0 (steps_joined a b q.1 g)
 
   one_formed : (c : Step) → is_step w m outs c ≡ true → is_steps w m outs (one_step c) ≡ true
   one_formed c h = both_true (is_step w m outs c) true h refl

@@ -19,7 +19,7 @@ use Rattle.saw_text.specs.Tree.{Statement, Declare, Assign, Emit, If, Block, End
 use Rattle.saw_model.specs.Meaning.{table_kind}
 use Rattle.saw_model.specs.Elaborate.{Fault, UnknownName, NameTwice, Shape, Limit, on_ok, Known as Entry, Var, Port, Scope, find, named, term_of, At}
 use Rattle.saw_model.specs.Elaborate.{counted, has_slot, is_new}
-use Rattle.saw_model.specs.Elaborate.{slot_of, port_of, first_term, indexes_of, keys_in, weight_of, joined, one_step, declared, emitted, step_of}
+use Rattle.saw_model.specs.Elaborate.{slot_of, port_of, first_term, indexes_of, keys_in, weight_of, both_steps, one_step, declared, emitted, step_of}
 use Rattle.saw_model.specs.Elaborate.{steps_of, steps_optional, is_best, tabled}
 use Rattle.saw_model.specs.Elaborate.{part_of}
 use Rattle.saw_model.specs.Faults.{IsTwice, IsMaximum, IsNoBest}
@@ -457,9 +457,9 @@ mutual
   pub block_read : (c : Block) (b : List Mark) (s : At) → IsAt b s → Verdict AtEnd b (block_marks c) (steps_of c s)
   block_read End b s a = (tt, none_at b s a)
   block_read (Then c d) b s a =
-      then_read AtEnd AtEnd b (statement_marks c) (block_marks d) (step_of c s) (λ p. on_ok (steps_of d p.1) (λ q. Ok (joined p.0 q.0, q.1)))
+      then_read AtEnd AtEnd b (statement_marks c) (block_marks d) (step_of c s) (λ p. on_ok (steps_of d p.1) (λ q. Ok (both_steps p.0 q.0, q.1)))
       (statement_read c b s a)
-      (λ p h. then_is AtEnd AtEnd (b ++ statement_marks c) (block_marks d) (steps_of d p.1) (λ q. (joined p.0 q.0, q.1))
+      (λ p h. then_is AtEnd AtEnd (b ++ statement_marks c) (block_marks d) (steps_of d p.1) (λ q. (both_steps p.0 q.0, q.1))
       (block_read d (b ++ statement_marks c) p.1 h) (λ q k. k))
 
   optional_read : (o : Optional) (b : List Mark) (s : At) → IsAt b s → Verdict AtEnd b (optional_marks o) (steps_optional o s)

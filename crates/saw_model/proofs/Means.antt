@@ -13,7 +13,7 @@ use Rattle.river_plan.specs.Forms.{Name, table_names}
 use Rattle.river_plan.specs.declared.plan.TableDecl.{TableDecl}
 use Rattle.brooklet_model.specs.Firings.{feed}
 use Rattle.brooklet_model.specs.Fire.{fire}
-use Rattle.brooklet_model.specs.Histories.{History, lists_of, given, written, inputs_of, hist, all_adds}
+use Rattle.brooklet_model.specs.Histories.{History, lists_of, given_on, written, inputs_of, hist, all_adds}
 use Rattle.brooklet_model.proofs.Feeds.{one_input}
 use Rattle.kern_tables.specs.Tables.{tab}
 use Rattle.saw_text.specs.Tree.{Program}
@@ -63,8 +63,8 @@ module _ (p : Program) (read : Steps × At) (h : parts_read p nothing_read ≡ f
   queue_has records i t g =
       let op = map_op p read.0 read.1.slots in
       let given_is = one_input op.kernel (lists_of (first records) op.reads) [] refl in
-      ap (λ (x : History). x (queue_name t.name)) (tallies_write_nothing ts (written (queues_of ts) (given op (first records)).outs (first records)))
-      ∙ written_queue ts (given op (first records)).outs (first records) i t (tables_once p nothing_read read h) g
+      ap (λ (x : History). x (queue_name t.name)) (tallies_write_nothing ts (written (queues_of ts) (given_on op (first records)).outs (first records)))
+      ∙ written_queue ts (given_on op (first records)).outs (first records) i t (tables_once p nothing_read read h) g
       ∙ ap (λ f. f.outs i) given_is
       ∙ code_fed (body_form p read.0 read.1.slots) (map (take (width p)) records) i
       ∙ all_pushes i t records g

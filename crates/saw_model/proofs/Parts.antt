@@ -13,7 +13,7 @@ use Rattle.river_plan.specs.declared.plan.TableDecl.{TableDecl}
 use Rattle.river_plan.proofs.NameLemmas.{name_same, cases_name}
 use Rattle.saw_text.specs.Tree.{UnitForm, TableUnit, StatementUnit, Program}
 use Rattle.saw_model.specs.Meaning.{tables_in, State, exec, exec_units, fresh, emits, reach_statement, reach_parts, table_kind, table_decl}
-use Rattle.saw_model.specs.Elaborate.{Limit, on_ok, demand, Known, Var, Port, Scope, find, At, is_new, keys_in, joined, Read, is_best, tabled, table_of}
+use Rattle.saw_model.specs.Elaborate.{Limit, on_ok, demand, Known, Var, Port, Scope, find, At, is_new, keys_in, both_steps, Read, is_best, tabled, table_of}
 use Rattle.saw_model.specs.Elaborate.{part_of, nothing_read}
 use Rattle.saw_model.specs.Judged.{Refusal, on_fine, in_unit, all_parts}
 use Rattle.saw_model.proofs.Elaborated.{fine, ok_is, ok_parts, demanded, found_here, found_other, Agrees, ArePorts, Keeps, keeps_new, sound_port, Matches}
@@ -23,21 +23,21 @@ use Rattle.saw_model.proofs.Statements.{new_is, grows, met, Ready, MetBy, ready_
 -- what is read of all units, whichever their numbers
 abbrev pub parts_read : Program → At → Read
 parts_read [] s = Ok (Done, s)
-parts_read (c ∷ ps) s = on_ok (part_of c s) (λ p. on_ok (parts_read ps p.1) (λ q. Ok (joined p.0 q.0, q.1)))
+parts_read (c ∷ ps) s = on_ok (part_of c s) (λ p. on_ok (parts_read ps p.1) (λ q. Ok (both_steps p.0 q.0, q.1)))
 
 -- units are read one after another
 pub reads_parts : (k : ℕ) (p : Program) (s : At) (y : Steps × At) → all_parts k p s ≡ Ok y → parts_read p s ≡ Ok y
 reads_parts k [] s y h = cc h
 reads_parts k (c ∷ ps) s y h = first (λ p q e. reads_parts (suc k) ps p.1 q e) (part_of c s) h where
   more : (p : Steps × At) (r : Result (Steps × At) Refusal) → ((q : Steps × At) → r ≡ Ok q → parts_read ps p.1 ≡ Ok q)
-      → on_fine r (λ q. Ok (joined p.0 q.0, q.1)) ≡ Ok y
-      → on_ok (parts_read ps p.1) (λ q. Ok (joined p.0 q.0, q.1)) ≡ Ok y
-  more p (Ok q) f g = ap (λ r. on_ok r (λ q. Ok (joined p.0 q.0, q.1))) (f q refl) ∙ cc g
+      → on_fine r (λ q. Ok (both_steps p.0 q.0, q.1)) ≡ Ok y
+      → on_ok (parts_read ps p.1) (λ q. Ok (both_steps p.0 q.0, q.1)) ≡ Ok y
+  more p (Ok q) f g = ap (λ r. on_ok r (λ q. Ok (both_steps p.0 q.0, q.1))) (f q refl) ∙ cc g
   more p (Err e) f g = absurd (cc g)
 
   first : ((p q : Steps × At) → all_parts (suc k) ps p.1 ≡ Ok q → parts_read ps p.1 ≡ Ok q) → (r : Read)
-      → in_unit k r (λ p. on_fine (all_parts (suc k) ps p.1) (λ q. Ok (joined p.0 q.0, q.1))) ≡ Ok y
-      → on_ok r (λ p. on_ok (parts_read ps p.1) (λ q. Ok (joined p.0 q.0, q.1))) ≡ Ok y
+      → in_unit k r (λ p. on_fine (all_parts (suc k) ps p.1) (λ q. Ok (both_steps p.0 q.0, q.1))) ≡ Ok y
+      → on_ok r (λ p. on_ok (parts_read ps p.1) (λ q. Ok (both_steps p.0 q.0, q.1))) ≡ Ok y
   first f (Ok p) g = more p (all_parts (suc k) ps p.1) (f p) g
   first f (Err e) g = absurd (cc g)
 
@@ -77,13 +77,13 @@ pub record Split (c : UnitForm) (ps : Program) (s : At) (y : Steps × At) : Type
   pub first_is : part_of c s ≡ Ok first
   pub others : Steps × At
   pub others_is : parts_read ps first.1 ≡ Ok others
-  pub is : (joined first.0 others.0, others.1) ≡ y
+  pub is : (both_steps first.0 others.0, others.1) ≡ y
 
 -- the first unit and the others
 pub split_parts : (c : UnitForm) (ps : Program) (s : At) (y : Steps × At) → parts_read (c ∷ ps) s ≡ fine y → Split c ps s y
 split_parts c ps s y h =
-    let p = ok_parts (part_of c s) (λ p. on_ok (parts_read ps p.1) (λ q. Ok (joined p.0 q.0, q.1))) y h in
-    let q = ok_parts (parts_read ps p.0.1) (λ q. Ok (joined p.0.0 q.0, q.1)) y p.2 in
+    let p = ok_parts (part_of c s) (λ p. on_ok (parts_read ps p.1) (λ q. Ok (both_steps p.0 q.0, q.1))) y h in
+    let q = ok_parts (parts_read ps p.0.1) (λ q. Ok (both_steps p.0.0 q.0, q.1)) y p.2 in
     record { first = p.0; first_is = p.1; others = q.0; others_is = q.1; is = ok_is _ y q.2 }
 
 -- slots are never given back

@@ -3,7 +3,7 @@ use Rattle.std.proofs.Common.{◌≡◌, ℕ, suc, ◌+◌, ◌⊎◌, inl, inr,
 use Rattle.std.specs.Prelude.{Result, Ok, Err}
 use Rattle.work_code.specs.Steps.{Steps}
 use Rattle.saw_text.specs.Tree.{UnitForm, Program}
-use Rattle.saw_model.specs.Elaborate.{Fault, joined, At, part_of, nothing_read}
+use Rattle.saw_model.specs.Elaborate.{Fault, both_steps, At, part_of, nothing_read}
 use Rattle.saw_model.specs.Judged.{Refusal, on_fine, in_unit, all_parts, judged}
 use Rattle.saw_model.specs.Faults.{IsFirstFault, IsFaultless, IsFaultAt, RefusedAtFirst, AcceptedFaultless}
 use Rattle.saw_model.specs.Places.{Mark, part_marks, program_marks}
@@ -22,13 +22,13 @@ Answers b k ps (Err r) = FirstIn b k ps r
 
 later : (b : List Mark) (k : ℕ) (c : UnitForm) (ps : Program) (p : Steps × At) → AreFine b (part_marks c) → (r : Result (Steps × At) Refusal)
     → Answers (b ++ part_marks c) (suc k) ps r
-    → Answers b k (c ∷ ps) (on_fine r (λ q. Ok (joined p.0 q.0, q.1)))
+    → Answers b k (c ∷ ps) (on_fine r (λ q. Ok (both_steps p.0 q.0, q.1)))
 later b k c ps p f (Ok q) a = fine_both b (part_marks c) (program_marks ps) f a
 later b k c ps p f (Err e) a = inr (f, a)
 
 unit_read : (b : List Mark) (k : ℕ) (c : UnitForm) (ps : Program) (r : Result (Steps × At) Fault) → Verdict AtEnd b (part_marks c) r
     → ((s : At) → IsAt (b ++ part_marks c) s → Answers (b ++ part_marks c) (suc k) ps (all_parts (suc k) ps s))
-    → Answers b k (c ∷ ps) (in_unit k r (λ p. on_fine (all_parts (suc k) ps p.1) (λ q. Ok (joined p.0 q.0, q.1))))
+    → Answers b k (c ∷ ps) (in_unit k r (λ p. on_fine (all_parts (suc k) ps p.1) (λ q. Ok (both_steps p.0 q.0, q.1))))
 unit_read b k c ps (Ok p) v more = later b k c ps p v.0 (all_parts (suc k) ps p.1) (more p.1 v.1)
 unit_read b k c ps (Err e) v more = inl (refl, v)
 

@@ -19,7 +19,7 @@ use Rattle.saw_text.specs.Tree.{Statement, Declare, Assign, Emit, If, Block, End
 use Rattle.saw_model.specs.Meaning.{eval, State, eval_or, eval_all, listed, parts_of, exec, exec_block, exec_optional, reach}
 use Rattle.saw_model.specs.Meaning.{reach_all, reach_statement, reach_block, reach_optional}
 use Rattle.saw_model.specs.Elaborate.{Shape, Limit, on_ok, demand, has_slot, Known, Var, Port, Scope, find, term_of, At, is_new, slot_of, port_of, first_term}
-use Rattle.saw_model.specs.Elaborate.{indexes_of, keys_in, weight_of, joined, one_step, Read, declared, emitted, step_of, steps_of, steps_optional}
+use Rattle.saw_model.specs.Elaborate.{indexes_of, keys_in, weight_of, both_steps, one_step, Read, declared, emitted, step_of, steps_of, steps_optional}
 use Rattle.saw_model.proofs.Elaborated.{fine, ok_is, ok_parts, demanded, room_for, found_here, found_other, Agrees, IsSound, ArePorts, Keeps, agrees_within}
 use Rattle.saw_model.proofs.Elaborated.{more_slots, keeps_new, sound_var, ports_var, agrees_set, term_is, vals, first_is, indexes_are, weight_is}
 use Rattle.saw_model.proofs.Elaborated.{eval_all-append, reach-append, Grows, grows_same, grows_trans, grows_back, one_more, counted_on, Met, none_met}
@@ -155,13 +155,13 @@ pub record Followed (c : Statement) (b : Block) (s : At) (y : Steps × At) : Typ
   pub first_is : step_of c s ≡ Ok first
   pub others : Steps × At
   pub others_is : steps_of b first.1 ≡ Ok others
-  pub is : (joined first.0 others.0, others.1) ≡ y
+  pub is : (both_steps first.0 others.0, others.1) ≡ y
 
 -- a statement and those behind it
 pub followed_parts : (c : Statement) (b : Block) (s : At) (y : Steps × At) → steps_of (Then c b) s ≡ fine y → Followed c b s y
 followed_parts c b s y h =
-    let p = ok_parts (step_of c s) (λ p. on_ok (steps_of b p.1) (λ q. Ok (joined p.0 q.0, q.1))) y h in
-    let q = ok_parts (steps_of b p.0.1) (λ q. Ok (joined p.0.0 q.0, q.1)) y p.2 in
+    let p = ok_parts (step_of c s) (λ p. on_ok (steps_of b p.1) (λ q. Ok (both_steps p.0 q.0, q.1))) y h in
+    let q = ok_parts (steps_of b p.0.1) (λ q. Ok (both_steps p.0.0 q.0, q.1)) y p.2 in
     record { first = p.0; first_is = p.1; others = q.0; others_is = q.1; is = ok_is _ y q.2 }
 
 -- READING GOES ON

@@ -107,9 +107,9 @@ weight_of (Sum keys) (Some t) sc = Err Shape
 weight_of (Collection keys) None sc = Ok []
 weight_of (Collection keys) (Some t) sc = Err Shape
 
-abbrev pub joined : Steps → Steps → Steps
-joined Done ts = ts
-joined (steps.Then s ss) ts = steps.Then s (joined ss ts)
+abbrev pub both_steps : Steps → Steps → Steps
+both_steps Done ts = ts
+both_steps (steps.Then s ss) ts = steps.Then s (both_steps ss ts)
 
 abbrev pub one_step : Step → Steps
 one_step s = steps.Then s Done
@@ -143,7 +143,7 @@ abbrev mutual
 
   pub steps_of : Block → At → Read
   steps_of End s = Ok (Done, s)
-  steps_of (Then c b) s = on_ok (step_of c s) (λ p. on_ok (steps_of b p.1) (λ q. Ok (joined p.0 q.0, q.1)))
+  steps_of (Then c b) s = on_ok (step_of c s) (λ p. on_ok (steps_of b p.1) (λ q. Ok (both_steps p.0 q.0, q.1)))
 
   pub steps_optional : Optional → At → Read
   steps_optional Unwritten s = Ok (Done, s)

@@ -22,13 +22,13 @@ use Rattle.kern_tables.specs.declared.kind.TableKind.TheVariants as kind
 use Rattle.kern_tables.specs.Tables.{tab}
 
 -- the names of fields mean nothing: a table has as many keys as it has indexes
-abbrev pub kind_of : Kind → ℕ → TableKind
-kind_of code.Sum keys = kind.Sum keys
-kind_of code.Collection keys = kind.Collection keys
-kind_of (code.Maximum best) keys = kind.Maximum best keys
+abbrev pub table_kind_of : Kind → ℕ → TableKind
+table_kind_of code.Sum keys = kind.Sum keys
+table_kind_of code.Collection keys = kind.Collection keys
+table_kind_of (code.Maximum best) keys = kind.Maximum best keys
 
 abbrev pub table_kind : TableForm → TableKind
-table_kind t = kind_of t.kind (length t.indexes)
+table_kind t = table_kind_of t.kind (length t.indexes)
 
 abbrev pub table_decl : TableForm → TableDecl
 table_decl t = record { name = t.name; kind = table_kind t }

@@ -3,7 +3,7 @@ ghost use Rattle.std.specs.Prelude.{◌≡◌, [], ◌∷◌, ◌++◌, map, IfO
 ghost use Rattle.std.specs.List.{AllByRecursion};
 ghost use Rattle.kern_tables.specs.Tables.{tab, table_width};
 ghost use Rattle.kern_tables.specs.Kept.{kept_of, rows_of, width_of, kind_of as kind_kept};
-ghost use Rattle.saw_model.specs.Meaning.{kind_of, rows_for, program_tables};
+ghost use Rattle.saw_model.specs.Meaning.{table_kind_of, rows_for, program_tables};
 ghost use Rattle.saw_text.specs.Tree.{unit_form, unit_forms};
 ghost use Rattle.saw_build.specs.Valued.{AreValuedParts};
 ghost use Rattle.slow_sawzall.specs.Sawzall.{IsAccepted, tables_for, AreAllWide, IsWideFor, AreWideFor};
@@ -97,7 +97,7 @@ fn add_table(
 
 // The kind of a table that has so many keys.
 fn kind_of(kind: Kind, keys: u32) -> TableKind
-    ensures { result ≡ kind_of kind keys }
+    ensures { result ≡ table_kind_of kind keys }
 {
     match kind {
         Kind::Sum => TableKind::Sum { keys },

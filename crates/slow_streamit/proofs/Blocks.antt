@@ -8,7 +8,7 @@ use Rattle.river_base.specs.Name.{name_eq}
 use Rattle.river_plan.specs.Forms.{Name}
 use Rattle.brooklet_model.specs.Machine.{at_name}
 use Rattle.streamit_text.specs.Tree as source
-use Rattle.streamit_model.specs.Meaning.{State, numbers, each_turn, exec, exec_all, nought}
+use Rattle.streamit_model.specs.Meaning.{State, numbers_from, each_turn, exec, exec_all, nought}
 use Rattle.streamit_unroll.specs.Unrolling.{AreWritten}
 use Rattle.streamit_text.specs.Tree.{in_turn}
 use Rattle.slow_streamit.specs.Firing.{or_nought}
@@ -46,13 +46,13 @@ block_end xs all first now f = f.same
 
 -- TURNS
 
-numbers_more : (v end : ℕ) → v < end → numbers v (end - v) ≡ v ∷ numbers (v + 1) (end - (v + 1))
-numbers_more v end lt = ap (numbers v) (let e : end - v ≡ suc (end - (v + 1)) = omega (arith, lt) in e)
-    ∙ ap (λ k. v ∷ numbers k (end - (v + 1))) (let e : suc v ≡ v + 1 = omega arith in e)
+numbers_more : (v end : ℕ) → v < end → numbers_from v (end - v) ≡ v ∷ numbers_from (v + 1) (end - (v + 1))
+numbers_more v end lt = ap (numbers_from v) (let e : end - v ≡ suc (end - (v + 1)) = omega (arith, lt) in e)
+    ∙ ap (λ k. v ∷ numbers_from k (end - (v + 1))) (let e : suc v ≡ v + 1 = omega arith in e)
 
 -- the turns that are left give what all give
 pub record TurnsSoFar (block : State → State) (n : Name) (low v end : ℕ) (first now : State) : Type 0 where
-  pub same : each_turn block n (numbers v (end - v)) now ≡ each_turn block n (numbers low (end - low)) first
+  pub same : each_turn block n (numbers_from v (end - v)) now ≡ each_turn block n (numbers_from low (end - low)) first
 
 pub turns_start : (block : State → State) (n : Name) (low end : ℕ) (first : State) → TurnsSoFar block n low low end first first
 turns_start block n low end first = record { same = refl }
@@ -61,7 +61,7 @@ turns_start block n low end first = record { same = refl }
 pub turns_next : (block : State → State) (n : Name) (low v end : ℕ) (first now next : State) → v < end → TurnsSoFar block n low v end first now
     → next ≡ block (record now { values = at_name n (pos v) now.values }) → TurnsSoFar block n low (v + 1) end first next
 turns_next block n low v end first now next lt f e = record {
-  same = ap (each_turn block n (numbers (v + 1) (end - (v + 1)))) e ∙ ap (λ vs. each_turn block n vs now) (sym (numbers_more v end lt)) ∙ f.same;
+  same = ap (each_turn block n (numbers_from (v + 1) (end - (v + 1)))) e ∙ ap (λ vs. each_turn block n vs now) (sym (numbers_more v end lt)) ∙ f.same;
 }
 
 -- a turn's value is a number
@@ -69,8 +69,8 @@ pub turn_value : (v end : ℕ) → v < end → end ≤ 2 ^ 63 → to_z w64 v ≡
 turn_value v end lt le = to_z_pos w64 v (omega (arith, lt, le))
 
 pub turns_end : (block : State → State) (n : Name) (low v end : ℕ) (first now : State) → end ≤ v → TurnsSoFar block n low v end first now
-    → now ≡ each_turn block n (numbers low (end - low)) first
-turns_end block n low v end first now le f = ap (λ k. each_turn block n (numbers v k) now) (let z : 0 ≡ end - v = omega (arith, le) in z) ∙ f.same
+    → now ≡ each_turn block n (numbers_from low (end - low)) first
+turns_end block n low v end first now le f = ap (λ k. each_turn block n (numbers_from v k) now) (let z : 0 ≡ end - v = omega (arith, le) in z) ∙ f.same
 
 -- ITEMS
 

@@ -3,7 +3,7 @@ use Rattle.std.proofs.Common.{◌≡◌, ℕ, zero, suc, ◌+◌, ◌-◌, ◌<�
 use Rattle.std.proofs.Common.{◌∙◌, arith, append_assoc, append-nil, drop-cons}
 use Rattle.std.specs.Prelude.{nat_lt, nat_eq}
 use Rattle.std.proofs.lemmas.List.{drop_all}
-use Rattle.brooklet_model.specs.ByIndex.{cycle, part, within, branch, picked, dealt, item_at, and_more, front_of, size_of}
+use Rattle.brooklet_model.specs.ByIndex.{cycle, part, within, branch, picked, dealt, collected_at, and_more, found_front, size_of}
 
 -- the list from a place on
 pub from_place : {A : Type 0} (xs : List A) (i : ℕ) (x : A) → i < length xs → x ≡ get_or xs i x → drop i xs ≡ x ∷ drop (i + 1) xs
@@ -122,36 +122,36 @@ dealt_end ws p xs x out le f =
 
 -- what was collected, and what is collected from place x on
 abbrev pub CollectedSoFar : List ℕ → List (List ℤ) → ℕ → ℕ → List ℤ → Type 0
-CollectedSoFar ws ls size x out = out ++ front_of (item_at ws ls) (size - x) x ≡ front_of (item_at ws ls) size 0
+CollectedSoFar ws ls size x out = out ++ found_front (collected_at ws ls) (size - x) x ≡ found_front (collected_at ws ls) size 0
 
 one_less : (size x : ℕ) → x < size → size - x ≡ suc (size - (x + 1))
 one_less size x lt = omega (arith, lt)
 
 -- one item more is there
-pub collected_more : (ws : List ℕ) (ls : List (List ℤ)) (size x : ℕ) (out : List ℤ) (y : ℤ) → x < size → item_at ws ls x ≡ Some y
+pub collected_more : (ws : List ℕ) (ls : List (List ℤ)) (size x : ℕ) (out : List ℤ) (y : ℤ) → x < size → collected_at ws ls x ≡ Some y
     → CollectedSoFar ws ls size x out → CollectedSoFar ws ls size (x + 1) (out ++ y ∷ [])
 collected_more ws ls size x out y lt e f =
-    let at = item_at ws ls in
-    append_assoc out (y ∷ []) (front_of at (size - (x + 1)) (x + 1))
-    ∙ ap (λ n. out ++ (y ∷ front_of at (size - (x + 1)) n)) (let s : x + 1 ≡ suc x = omega arith in s)
-    ∙ ap (λ o. out ++ and_more o (front_of at (size - (x + 1)) (suc x))) (sym e)
-    ∙ ap (λ n. out ++ front_of at n x) (sym (one_less size x lt))
+    let at = collected_at ws ls in
+    append_assoc out (y ∷ []) (found_front at (size - (x + 1)) (x + 1))
+    ∙ ap (λ n. out ++ (y ∷ found_front at (size - (x + 1)) n)) (let s : x + 1 ≡ suc x = omega arith in s)
+    ∙ ap (λ o. out ++ and_more o (found_front at (size - (x + 1)) (suc x))) (sym e)
+    ∙ ap (λ n. out ++ found_front at n x) (sym (one_less size x lt))
     ∙ f
 
 -- no item more is there
-pub collected_none : (ws : List ℕ) (ls : List (List ℤ)) (size x : ℕ) (out : List ℤ) → x < size → item_at ws ls x ≡ None → CollectedSoFar ws ls size x out
-    → out ≡ front_of (item_at ws ls) size 0
+pub collected_none : (ws : List ℕ) (ls : List (List ℤ)) (size x : ℕ) (out : List ℤ) → x < size → collected_at ws ls x ≡ None → CollectedSoFar ws ls size x out
+    → out ≡ found_front (collected_at ws ls) size 0
 collected_none ws ls size x out lt e f =
-    let at = item_at ws ls in
+    let at = collected_at ws ls in
     sym (append-nil out)
-    ∙ ap (λ o. out ++ and_more o (front_of at (size - (x + 1)) (suc x))) (sym e)
-    ∙ ap (λ n. out ++ front_of at n x) (sym (one_less size x lt))
+    ∙ ap (λ o. out ++ and_more o (found_front at (size - (x + 1)) (suc x))) (sym e)
+    ∙ ap (λ n. out ++ found_front at n x) (sym (one_less size x lt))
     ∙ f
 
 pub collected_end : (ws : List ℕ) (ls : List (List ℤ)) (size x : ℕ) (out : List ℤ) → size ≤ x → CollectedSoFar ws ls size x out
-    → out ≡ front_of (item_at ws ls) size 0
+    → out ≡ found_front (collected_at ws ls) size 0
 collected_end ws ls size x out le f =
-    sym (append-nil out) ∙ ap (λ n. out ++ front_of (item_at ws ls) n x) (let z : 0 ≡ size - x = omega (arith, le) in z) ∙ f
+    sym (append-nil out) ∙ ap (λ n. out ++ found_front (collected_at ws ls) n x) (let z : 0 ≡ size - x = omega (arith, le) in z) ∙ f
 
 -- how many items the lists have that are left
 pub size-from : (ls : List (List ℤ)) (i : ℕ) (l : List ℤ) → i < length ls → l ≡ get_or ls i l → size_of (drop i ls) ≡ length l + size_of (drop (i + 1) ls)

@@ -4,7 +4,7 @@ ghost use Rattle.river_base.specs.Number.{count_of};
 ghost use Rattle.streamit_text.specs.Tree.{Bin, Declare, Assign, Push, Discard, If, For, expression, option_expression, is_turn, statement, block};
 ghost use Rattle.streamit_text.specs.Tree.{optional_block};
 ghost use Rattle.brooklet_model.specs.Machine.{at_name};
-ghost use Rattle.streamit_model.specs.Meaning.{eval, pops, numbers, first_value, first_pops, each_turn, exec, exec_all, exec_optional, nought, with_fields};
+ghost use Rattle.streamit_model.specs.Meaning.{eval, pops, numbers_from, first_value, first_pops, each_turn, exec, exec_all, exec_optional, nought, with_fields};
 ghost use Rattle.streamit_model.specs.Meaning.{at_start};
 ghost use Rattle.streamit_unroll.specs.Numbers.{AreValues};
 ghost use Rattle.streamit_unroll.specs.Unrolling.{AreOptional, AreWritten, AreWrittenOptional, IsWritten};
@@ -296,7 +296,7 @@ impl Firing {
     ) -> Result<(), NoMemory>
         requires end { end ≤ 2 ^ 63 }
         requires body { AreWritten (block body.now) }
-        ensures { OnOk result (state_of self.new ≡ each_turn (exec_all (block body.now) items.now) name (numbers low (end - low)) (state_of self.old)) }
+        ensures { OnOk result (state_of self.new ≡ each_turn (exec_all (block body.now) items.now) name (numbers_from low (end - low)) (state_of self.old)) }
     {
         for v in low..end {
             self.values.set(name, v as i64)?;

@@ -1,7 +1,7 @@
 // Splitters and joiners, by the numbers of their items.
 ghost use Rattle.std.specs.Prelude.{◌≡◌, ◌+◌, ◌*◌, ◌/◌, ◌%◌, ◌∷◌, [], length, replicate, IfOk, nat_eq, slice_index_or};
 ghost use Rattle.river_base.specs.Places.{list_at};
-ghost use Rattle.brooklet_model.specs.ByIndex.{cycle, part, within, branch, dealt, number_at, item_at, size_of, collected};
+ghost use Rattle.brooklet_model.specs.ByIndex.{cycle, part, within, branch, dealt, number_at, collected_at, size_of, collected};
 ghost use Rattle.streamit_model.specs.Meaning.{weights_for};
 ghost use Rattle.streamit_text.specs.Program.{weights_of};
 
@@ -162,7 +162,7 @@ fn item_at(
     x: usize,
 ) -> Result<Option<i64>, NoMemory>
     requires { size ≡ cycle weights.now }
-    ensures { IfOk result (λ item. item ≡ item_at weights.now branches.now x) }
+    ensures { IfOk result (λ item. item ≡ collected_at weights.now branches.now x) }
 {
     let turn = Turn::of(x, size);
     let spot = Spot::of(weights, turn.place);

@@ -11,8 +11,8 @@ use Rattle.kern_rows.specs.Forms.{FilterForm, RunForm}
 use Rattle.river_plan.specs.Forms.{Name}
 use Rattle.streamit_text.specs.Tree.{Statement, Declare, Assign, Push, Discard, If, For, Block, End, Then, Optional, Unwritten, Written, in_turn, or_unwritten}
 use Rattle.streamit_text.specs.Tree.{Expression}
-use Rattle.streamit_model.specs.Meaning.{pops, numbers, peek_of}
-use Rattle.streamit_model.specs.Elaborate.{At, Read, on_ok, joined, one_step, counted, is_new, has_slot, first_term, declared, slot_of, term_of, constant}
+use Rattle.streamit_model.specs.Meaning.{pops, numbers_from, peek_of}
+use Rattle.streamit_model.specs.Elaborate.{At, Read, on_ok, both_steps, one_step, counted, is_new, has_slot, first_term, declared, slot_of, term_of, constant}
 use Rattle.streamit_model.specs.Elaborate.{bound_of, after_arms, unrolled, step_of, steps_of, find, BranchRates, Turn, optional_of}
 use Rattle.streamit_text.specs.Program.{WorkTree, FilterTree}
 use Rattle.streamit_model.specs.ElaborateFilter.{elaborated, slots_for, first_with}
@@ -84,11 +84,11 @@ block-nested n b ts h =
 
 -- THE STATEMENTS OF A PLAN
 
-joined-depths : (a b : Steps) → depths (joined a b) ≡ max (depths a) (depths b)
+joined-depths : (a b : Steps) → depths (both_steps a b) ≡ max (depths a) (depths b)
 joined-depths Done b = omega arith
 joined-depths (steps.Then c a) b = let e = joined-depths a b in omega (arith, e)
 
-joined-below : (k : ℕ) (a b : Steps) → depths a ≤ k → depths b ≤ k → depths (joined a b) ≤ k
+joined-below : (k : ℕ) (a b : Steps) → depths a ≤ k → depths b ≤ k → depths (both_steps a b) ≤ k
 joined-below k a b h g = let e = joined-depths a b in omega (arith, e)
 
 -- what a block becomes nests at most so deep
@@ -101,11 +101,11 @@ by-steps k x y h le = subst (λ (r : Steps × At). depths r.0 ≤ k) (ok_is x y 
 unrolled-below : (k : ℕ) (block : At → Read) → Below k block → (n : Name) (vs : List ℕ) → Below k (unrolled block n vs)
 unrolled-below k block below n [] s y h = by-steps k (Done, s) y h (omega arith)
 unrolled-below k block below n (v ∷ vs) s y h =
-    let more = λ (a : Steps × At). on_ok (unrolled block n vs (record a.1 { scope = s.scope })) (λ b. fine (joined a.0 b.0, b.1)) in
+    let more = λ (a : Steps × At). on_ok (unrolled block n vs (record a.1 { scope = s.scope })) (λ b. fine (both_steps a.0 b.0, b.1)) in
     let p = ok_parts (counted s) (λ t. on_ok (block (record t { scope = (n, Turn v) ∷ s.scope })) more) y h in
     let q = ok_parts (block (record p.0 { scope = (n, Turn v) ∷ s.scope })) more y p.2 in
-    let r = ok_parts (unrolled block n vs (record q.0.1 { scope = s.scope })) (λ b. fine (joined q.0.0 b.0, b.1)) y q.2 in
-    by-steps k (joined q.0.0 r.0.0, r.0.1) y r.2
+    let r = ok_parts (unrolled block n vs (record q.0.1 { scope = s.scope })) (λ b. fine (both_steps q.0.0 b.0, b.1)) y q.2 in
+    by-steps k (both_steps q.0.0 r.0.0, r.0.1) y r.2
     (joined-below k q.0.0 r.0.0 (below (record p.0 { scope = (n, Turn v) ∷ s.scope }) q.0 q.1)
     (unrolled-below k block below n vs (record q.0.1 { scope = s.scope }) r.0 r.1))
 
@@ -153,7 +153,7 @@ mutual
       let j = optional-below e b (record w.0 { popped = w.0.popped + pops t; slots = p.0.1.slots; size = p.0.1.size }) q.0 q.1 in
       arms-below (max (nests a) (nests_optional b)) w.0 c.0 p.0 q.0 y q.2 (omega (arith, i)) (omega (arith, j))
   step-below e (For n low upto high b) s y h =
-      let turns = λ (l g : ℕ). numbers l (g + (if upto then 1 else 0) - l) in
+      let turns = λ (l g : ℕ). numbers_from l (g + (if upto then 1 else 0) - l) in
       let f5 = λ (l g : ℕ). unrolled (steps_of e b) n (turns l g) s in
       let f3 = λ (l : ℕ). on_ok (constant s.scope high) (λ z. on_ok (bound_of z) (f5 l)) in
       let f1 = on_ok (constant s.scope low) (λ x. on_ok (bound_of x) f3) in
@@ -168,11 +168,11 @@ mutual
   steps-below : (e : ℕ) (b : Block) → Below (nests b) (steps_of e b)
   steps-below e End s y h = by-steps 0 (Done, s) y h (omega arith)
   steps-below e (Then c b) s y h =
-      let p = ok_parts (step_of e c s) (λ p. on_ok (steps_of e b p.1) (λ q. fine (joined p.0 q.0, q.1))) y h in
-      let q = ok_parts (steps_of e b p.0.1) (λ q. fine (joined p.0.0 q.0, q.1)) y p.2 in
+      let p = ok_parts (step_of e c s) (λ p. on_ok (steps_of e b p.1) (λ q. fine (both_steps p.0 q.0, q.1))) y h in
+      let q = ok_parts (steps_of e b p.0.1) (λ q. fine (both_steps p.0.0 q.0, q.1)) y p.2 in
       let i = step-below e c s p.0 p.1 in
       let j = steps-below e b p.0.1 q.0 q.1 in
-      by-steps (max (nest c) (nests b)) (joined p.0.0 q.0.0, q.0.1) y q.2
+      by-steps (max (nest c) (nests b)) (both_steps p.0.0 q.0.0, q.0.1) y q.2
       (joined-below (max (nest c) (nests b)) p.0.0 q.0.0 (omega (arith, i)) (omega (arith, j)))
 
   optional-below : (e : ℕ) (b : Optional) → Below (nests_optional b) (optional_of e b)

@@ -20,10 +20,10 @@ use Rattle.river_plan.proofs.NameLemmas.{cases_name, name_same as name_self}
 use Rattle.brooklet_model.specs.Machine.{at_name}
 use Rattle.streamit_text.specs.Tree.{Expression, Statement, Declare, Assign, Push, Discard, If, For, Block, End, Then, Optional, Unwritten, Written}
 use Rattle.streamit_text.specs.Tree as tree
-use Rattle.streamit_model.specs.Meaning.{pops, Values, eval, State, numbers, turns_between, each_turn, first_value, first_pops, exec, exec_all, exec_optional}
+use Rattle.streamit_model.specs.Meaning.{pops, Values, eval, State, numbers_from, turns_between, each_turn, first_value, first_pops, exec, exec_all, exec_optional}
 use Rattle.streamit_model.specs.Elaborate.{Fault, Limit, BranchRates, PeekRange, on_ok, demand, Known, Var, Turn, Scope, find, constant_of, constant}
 use Rattle.streamit_model.specs.Elaborate.{named_term}
-use Rattle.streamit_model.specs.Elaborate.{peeked, term_of, At, counted, has_slot, is_new, slot_of, bound_of, first_term, first_popped, joined, one_step, Read}
+use Rattle.streamit_model.specs.Elaborate.{peeked, term_of, At, counted, has_slot, is_new, slot_of, bound_of, first_term, first_popped, both_steps, one_step, Read}
 use Rattle.streamit_model.specs.Elaborate.{declared, after_arms, unrolled, step_of, steps_of, optional_of}
 
 -- ANSWERS
@@ -320,16 +320,16 @@ pub record Turned (block : At → Read) (n : Name) (v : ℕ) (vs : List ℕ) (s 
   pub others : Steps × At
   pub first_is : block (turning n v s) ≡ Ok first
   pub others_is : unrolled block n vs (left s first.1) ≡ Ok others
-  pub is : y ≡ (joined first.0 others.0, others.1)
+  pub is : y ≡ (both_steps first.0 others.0, others.1)
 
 -- the parts of a turn that was read
 pub turned : (block : At → Read) (n : Name) (v : ℕ) (vs : List ℕ) (s : At) (y : Steps × At) → unrolled block n (v ∷ vs) s ≡ Ok y → Turned block n v vs s y
 unfolding left one_more turning
 turned block n v vs s y h =
-    let c = counted_on s (λ t. on_ok (block (record t { scope = (n, Turn v) ∷ s.scope })) (λ a. on_ok (unrolled block n vs (record a.1 { scope = s.scope })) (λ b. Ok (joined a.0 b.0, b.1)))) y h in
-    let p = ok_parts (block (record (one_more s) { scope = (n, Turn v) ∷ s.scope })) (λ a. on_ok (unrolled block n vs (record a.1 { scope = s.scope })) (λ b. Ok (joined a.0 b.0, b.1))) y c in
-    let q = ok_parts (unrolled block n vs (record p.0.1 { scope = s.scope })) (λ b. Ok (joined p.0.0 b.0, b.1)) y p.2 in
-    record { room = counted_room s (λ t. on_ok (block (record t { scope = (n, Turn v) ∷ s.scope })) (λ a. on_ok (unrolled block n vs (record a.1 { scope = s.scope })) (λ b. Ok (joined a.0 b.0, b.1)))) y h; first = p.0; others = q.0; first_is = p.1; others_is = q.1; is = sym (ok_is (joined p.0.0 q.0.0, q.0.1) y q.2) }
+    let c = counted_on s (λ t. on_ok (block (record t { scope = (n, Turn v) ∷ s.scope })) (λ a. on_ok (unrolled block n vs (record a.1 { scope = s.scope })) (λ b. Ok (both_steps a.0 b.0, b.1)))) y h in
+    let p = ok_parts (block (record (one_more s) { scope = (n, Turn v) ∷ s.scope })) (λ a. on_ok (unrolled block n vs (record a.1 { scope = s.scope })) (λ b. Ok (both_steps a.0 b.0, b.1))) y c in
+    let q = ok_parts (unrolled block n vs (record p.0.1 { scope = s.scope })) (λ b. Ok (both_steps p.0.0 b.0, b.1)) y p.2 in
+    record { room = counted_room s (λ t. on_ok (block (record t { scope = (n, Turn v) ∷ s.scope })) (λ a. on_ok (unrolled block n vs (record a.1 { scope = s.scope })) (λ b. Ok (both_steps a.0 b.0, b.1)))) y h; first = p.0; others = q.0; first_is = p.1; others_is = q.1; is = sym (ok_is (both_steps p.0.0 q.0.0, q.0.1) y q.2) }
 
 -- turns were read
 pub unrolled_grows : (block : At → Read) → Grown block → (n : Name) (vs : List ℕ) (s : At) (y : Steps × At) → find s.scope n ≡ None
@@ -457,7 +457,7 @@ pub record Looped (e : ℕ) (n : Name) (low : Expression) (upto : Bool) (high : 
 pub looped_parts : (e : ℕ) (n : Name) (low : Expression) (upto : Bool) (high : Expression) (b : Block) (s : At) (y : Steps × At)
     → step_of e (For n low upto high b) s ≡ Ok y → Looped e n low upto high b s y
 looped_parts e n low upto high b s y h =
-    let f4 = λ (l m : ℕ). unrolled (steps_of e b) n (numbers l (m + (if upto then 1 else 0) - l)) s in
+    let f4 = λ (l m : ℕ). unrolled (steps_of e b) n (numbers_from l (m + (if upto then 1 else 0) - l)) s in
     let f3 = λ (l : ℕ) (z : ℤ). on_ok (bound_of z) (f4 l) in
     let f2 = λ (l : ℕ). on_ok (constant s.scope high) (f3 l) in
     let f1 = λ (x : ℤ). on_ok (bound_of x) f2 in
@@ -480,14 +480,14 @@ pub record Followed (e : ℕ) (c : Statement) (b : Block) (s : At) (y : Steps ×
   pub others : Steps × At
   pub first_is : step_of e c s ≡ Ok first
   pub others_is : steps_of e b first.1 ≡ Ok others
-  pub is : y ≡ (joined first.0 others.0, others.1)
+  pub is : y ≡ (both_steps first.0 others.0, others.1)
 
 -- of a block
 pub followed_parts : (e : ℕ) (c : Statement) (b : Block) (s : At) (y : Steps × At) → steps_of e (Then c b) s ≡ Ok y → Followed e c b s y
 followed_parts e c b s y h =
-    let p = ok_parts (step_of e c s) (λ p. on_ok (steps_of e b p.1) (λ q. Ok (joined p.0 q.0, q.1))) y h in
-    let q = ok_parts (steps_of e b p.0.1) (λ q. Ok (joined p.0.0 q.0, q.1)) y p.2 in
-    record { first = p.0; others = q.0; first_is = p.1; others_is = q.1; is = sym (ok_is (joined p.0.0 q.0.0, q.0.1) y q.2) }
+    let p = ok_parts (step_of e c s) (λ p. on_ok (steps_of e b p.1) (λ q. Ok (both_steps p.0 q.0, q.1))) y h in
+    let q = ok_parts (steps_of e b p.0.1) (λ q. Ok (both_steps p.0.0 q.0, q.1)) y p.2 in
+    record { first = p.0; others = q.0; first_is = p.1; others_is = q.1; is = sym (ok_is (both_steps p.0.0 q.0.0, q.0.1) y q.2) }
 
 -- STATEMENTS GROW
 
@@ -549,7 +549,7 @@ values-append ps qs = map-append (λ e. slice_index_or e.1 0 (pos 0)) ps qs
 after_both : Ran → Ran → Ran
 after_both r q = record { pushes = r.pushes ++ q.pushes; slots = q.slots }
 
-ran_joined : (a b : Steps) (xs mem : List ℤ) → ran (joined a b) xs mem ≡ after_both (ran a xs mem) (ran b xs (ran a xs mem).slots)
+ran_joined : (a b : Steps) (xs mem : List ℤ) → ran (both_steps a b) xs mem ≡ after_both (ran a xs mem) (ran b xs (ran a xs mem).slots)
 unfolding after_both
 ran_joined Done b xs mem = refl
 ran_joined (steps.Then c a) b xs mem =
@@ -559,7 +559,7 @@ ran_joined (steps.Then c a) b xs mem =
     ∙ ap (λ l. record { pushes = l; slots = (ran b xs rest.slots).slots }) (sym (append_assoc one.pushes rest.pushes (ran b xs rest.slots).pushes))
 
 does_both : (a b : Steps) (xs mem : List ℤ) (s t : At) (n m o : State) → DoesBy (ran a xs mem) s n m → DoesBy (ran b xs (ran a xs mem).slots) t m o
-    → DoesBy (ran (joined a b) xs mem) t n o
+    → DoesBy (ran (both_steps a b) xs mem) t n o
 unfolding after_both
 does_both a b xs mem s t n m o f g =
     let p = (ran a xs mem).pushes in

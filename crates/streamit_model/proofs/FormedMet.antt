@@ -20,7 +20,7 @@ use Rattle.streamit_model.specs.Meaning.{pops, turns_between, push_of, peek_of}
 use Rattle.streamit_model.specs.Shallow.{IsLowFirst, IsShallow, AreShallow, IsItemlessFirst, KeepsItems, KeepAll, AreShallowOptional, KeepAllOptional}
 use Rattle.streamit_model.specs.Shallow.{IsShallowPrework, IsShallowFilter}
 use Rattle.streamit_model.specs.Elaborate.{Limit, PeekRange, on_ok, Known, Var, Turn, Scope, find, constant, named_term, peeked, term_of, At, first_term}
-use Rattle.streamit_model.specs.Elaborate.{first_popped, joined, one_step, Read, unrolled, step_of, steps_of, optional_of}
+use Rattle.streamit_model.specs.Elaborate.{first_popped, both_steps, one_step, Read, unrolled, step_of, steps_of, optional_of}
 use Rattle.std.proofs.lemmas.List.{length-replicate}
 use Rattle.std.proofs.Math.Nat.{le_refl}
 use Rattle.streamit_text.specs.Program.{WorkTree, FilterTree}
@@ -103,7 +103,7 @@ both-assoc (Some l) None c = refl
 both-assoc (Some l) (Some m) None = refl
 both-assoc (Some l) (Some m) (Some n) = ap Some (let e : l + m + n ≡ l + (m + n) = omega arith in e)
 
-pushes_joined : (a b : Steps) → pushes (joined a b) ≡ both (pushes a) (pushes b)
+pushes_joined : (a b : Steps) → pushes (both_steps a b) ≡ both (pushes a) (pushes b)
 pushes_joined Done b = zero_both (pushes b)
   where
     zero_both : (o : Option ℕ) → o ≡ both (Some 0) o
@@ -111,7 +111,7 @@ pushes_joined Done b = zero_both (pushes b)
     zero_both (Some n) = ap Some (let e : n ≡ 0 + n = omega arith in e)
 pushes_joined (steps.Then c a) b = ap (both (pushes_once c)) (pushes_joined a b) ∙ sym (both-assoc (pushes_once c) (pushes a) (pushes b))
 
-size_joined : (a b : Steps) → size (joined a b) ≡ size a + size b
+size_joined : (a b : Steps) → size (both_steps a b) ≡ size a + size b
 size_joined Done b = omega arith
 size_joined (steps.Then c a) b = let e = size_joined a b in omega (arith, e)
 
@@ -127,7 +127,7 @@ record Counts (s : At) (y : Steps × At) : Type 0 where
 abbrev Counted : (At → Read) → Type 0
 Counted f = (s : At) (y : Steps × At) → f s ≡ Ok y → Counts s y
 
-counts_both : (s : At) (a b : Steps × At) → Counts s a → Counts a.1 b → Counts s (joined a.0 b.0, b.1)
+counts_both : (s : At) (a b : Steps × At) → Counts s a → Counts a.1 b → Counts s (both_steps a.0 b.0, b.1)
 counts_both s a b f g =
     let z = size_joined a.0 b.0 in
     let f1 = f.popped in let g1 = g.popped in let f2 = f.pushed in let g2 = g.pushed in let f3 = f.size in let g3 = g.size in
@@ -210,11 +210,11 @@ mutual
 abbrev one_port : List ℤ
 one_port = pos 1 ∷ []
 
-steps_joined : (p m : ℕ) (a b : Steps) → is_steps p m one_port a ≡ true → is_steps p m one_port b ≡ true → is_steps p m one_port (joined a b) ≡ true
+steps_joined : (p m : ℕ) (a b : Steps) → is_steps p m one_port a ≡ true → is_steps p m one_port b ≡ true → is_steps p m one_port (both_steps a b) ≡ true
 steps_joined p m Done b h g = g
 steps_joined p m (steps.Then c a) b h g =
     let q = and_parts (is_step p m one_port c) (is_steps p m one_port a) h in
-    both_true (is_step p m one_port c) (is_steps p m one_port (joined a b)) q.0 (steps_joined p m a b q.1 g)
+    both_true (is_step p m one_port c) (is_steps p m one_port (both_steps a b)) q.0 (steps_joined p m a b q.1 g)
 
 one_formed : (p m : ℕ) (c : Step) → is_step p m one_port c ≡ true → is_steps p m one_port (one_step c) ≡ true
 one_formed p m c h = both_true (is_step p m one_port c) true h refl

@@ -3,7 +3,7 @@ use Rattle.std.proofs.Common.{ℕ, suc, ◌+◌, ◌<◌, List, [], ◌∷◌, �
 use Rattle.std.specs.Prelude.{codes}
 use Rattle.river_plan.specs.Forms.{Name, OpForm}
 use Rattle.river_plan.specs.Names.{one_if, count}
-use Rattle.river_plan.specs.Uses.{total, writes_it, Known, and_writes, ReadsBefore}
+use Rattle.river_plan.specs.Uses.{total, writes_it, AreAllKnown, and_writes, ReadsBefore}
 use Rattle.river_plan.proofs.NameLemmas.{cases_name, one_same, more_or_zero}
 use Rattle.streamit_model.specs.Unrolled.{Splitter, Duplicate, RoundRobin, Stream, Filter, Pipeline, SplitJoin, Streams, Last, Then, number_of}
 use Rattle.streamit_model.specs.Build.{numbered, queue, queues, ops_in, ops_of, queues_in, splitter, joiner, build, build_line, build_branches}
@@ -25,13 +25,13 @@ reads-append : (xs ys : List OpForm) (known after : Name → ℕ) → ReadsBefor
 reads-append [] ys known after h m r = more_known ys after known (λ q lt. let e = m q lt in omega (arith, e)) r
 reads-append (x ∷ xs) ys known after h m r = (h.0, reads-append xs ys (and_writes known x) after h.1 (λ q lt. let e = m q lt in omega (arith, e)) r)
 
-known_one : (known : Name → ℕ) (from : Name) → 0 < known from → Known known (from ∷ [])
+known_one : (known : Name → ℕ) (from : Name) → 0 < known from → AreAllKnown known (from ∷ [])
 known_one known from h q lt = ⊎_elim
     (λ c. subst (λ x. 0 < known x) c.0 h)
     (λ c. absurd (let o = ap one_if c.1 in omega (arith, o, lt)))
     (cases_name from q)
 
-split_first : (d : Splitter) (n k : ℕ) (label from : Name) (known : Name → ℕ) → 0 < known from → Known known (splitter d n label from (queues k n)).reads
+split_first : (d : Splitter) (n k : ℕ) (label from : Name) (known : Name → ℕ) → 0 < known from → AreAllKnown known (splitter d n label from (queues k n)).reads
 split_first Duplicate n k label from known h = known_one known from h
 split_first (RoundRobin ws) n k label from known h = known_one known from h
 

@@ -10,9 +10,9 @@ use Rattle.work_code.specs.Steps as steps
 use Rattle.river_plan.specs.Forms.{Name}
 use Rattle.streamit_text.specs.Tree.{Expression, Statement, Declare, Assign, Push, Discard, If, For, Block, End, Then, Optional, Unwritten, Written}
 use Rattle.brooklet_model.specs.Machine.{at_name}
-use Rattle.streamit_model.specs.Meaning.{Values, pops, numbers, turns_between}
+use Rattle.streamit_model.specs.Meaning.{Values, pops, numbers_from, turns_between}
 use Rattle.streamit_model.specs.Elaborate.{Fault, BranchRates, Limit, on_ok, Known, Var, Turn, find, constant, term_of, At, counted, has_slot, is_new, slot_of}
-use Rattle.streamit_model.specs.Elaborate.{bound_of, first_term, first_popped, joined, one_step, Read, declared, after_arms, unrolled, step_of, steps_of}
+use Rattle.streamit_model.specs.Elaborate.{bound_of, first_term, first_popped, both_steps, one_step, Read, declared, after_arms, unrolled, step_of, steps_of}
 use Rattle.streamit_model.specs.Elaborate.{optional_of}
 use Rattle.streamit_text.specs.Program.{Declared}
 use Rattle.streamit_model.specs.Words.{Word, Begins, Declares, Knows, Leaves, Sets, Drops, Bounds, Loops, Enters, Exits, Pushes, Otherwise, Joins, knows}
@@ -333,9 +333,9 @@ module _ (above : List Declared) (e : ℕ) where
       let Q = Went before (turning n block (v ∷ vs) turns) s turns in
       begins_met before (Enters n ∷ (bw ++ Exits n ∷ rest)) s turns
       (λ t. on_ok (f (record t { scope = (n, Turn v) ∷ s.scope })) (λ a. on_ok (unrolled f n vs (record a.1 { scope = s.scope }))
-      (λ b. Ok (joined a.0 b.0, b.1)))) Q h
+      (λ b. Ok (both_steps a.0 b.0, b.1)))) Q h
       (λ h1. beyond above e b1 (Enters n ∷ []) (bw ++ Exits n ∷ rest) _ Q (enters_free b1 n, tt)
-      (next above e b2 bw (Exits n ∷ rest) (f i) (λ a. on_ok (unrolled f n vs (record a.1 { scope = s.scope })) (λ b. Ok (joined a.0 b.0, b.1)))
+      (next above e b2 bw (Exits n ∷ rest) (f i) (λ a. on_ok (unrolled f n vs (record a.1 { scope = s.scope })) (λ b. Ok (both_steps a.0 b.0, b.1)))
       (Within b2 bw i inner) Q (reads b2 i inner (with_turn b1 o turns n v new h1))
       (λ a w.
       let t = record a.1 { scope = s.scope } in
@@ -350,11 +350,11 @@ module _ (above : List Declared) (e : ℕ) where
       (subst (λ b. Counted b t.slots t.size t.popped t.pushed) (sym g) c)) in
       let wp = w.popped in let wq = w.pushed in
       beyond above e b3 (Exits n ∷ []) rest _ Q (exits_free b3 n, tt)
-      (finish above (each_word e b4 rest) (unrolled f n vs t) (λ b. (joined a.0 b.0, b.1)) (Went b4 rest t turns) Q
+      (finish above (each_word e b4 rest) (unrolled f n vs t) (λ b. (both_steps a.0 b.0, b.1)) (Went b4 rest t turns) Q
       (turns_met block f reads even n vs b4 t turns new at)
       (λ b z.
       let zp = z.popped in let zq = z.pushed in
-      went_by before (b4 ++ rest) (turning n block (v ∷ vs) turns) s turns (joined a.0 b.0, b.1)
+      went_by before (b4 ++ rest) (turning n block (v ∷ vs) turns) s turns (both_steps a.0 b.0, b.1)
       (regroup b3 (Exits n) rest ∙ append_assoc b2 bw (Exits n ∷ rest) ∙ regroup b1 (Enters n) (bw ++ Exits n ∷ rest) ∙ regroup before Begins
       (Enters n ∷ (bw ++ Exits n ∷ rest)))
       z.stands (omega (arith, wp, zp)) (omega (arith, wq, zq)))))))
@@ -395,15 +395,15 @@ module _ (above : List Declared) (e : ℕ) where
   then_met : (xs ys : List Word) (r : Read) (g : At → Read) (before : List Word) (s : At) (turns : Values)
       → Meets above (each_word e before xs) r (Went before xs s turns)
       → ((b : List Word) (t : At) → Stands b t turns → Meets above (each_word e b ys) (g t) (Went b ys t turns))
-      → Meets above (each_word e before (xs ++ ys)) (on_ok r (λ p. on_ok (g p.1) (λ q. Ok (joined p.0 q.0, q.1)))) (Went before (xs ++ ys) s turns)
+      → Meets above (each_word e before (xs ++ ys)) (on_ok r (λ p. on_ok (g p.1) (λ q. Ok (both_steps p.0 q.0, q.1)))) (Went before (xs ++ ys) s turns)
   then_met xs ys r g before s turns m k =
-      next above e before xs ys r (λ p. on_ok (g p.1) (λ q. Ok (joined p.0 q.0, q.1))) (Went before xs s turns) (Went before (xs ++ ys) s turns) m
-      (λ p w. finish above (each_word e (before ++ xs) ys) (g p.1) (λ q. (joined p.0 q.0, q.1)) (Went (before ++ xs) ys p.1 turns)
+      next above e before xs ys r (λ p. on_ok (g p.1) (λ q. Ok (both_steps p.0 q.0, q.1))) (Went before xs s turns) (Went before (xs ++ ys) s turns) m
+      (λ p w. finish above (each_word e (before ++ xs) ys) (g p.1) (λ q. (both_steps p.0 q.0, q.1)) (Went (before ++ xs) ys p.1 turns)
       (Went before (xs ++ ys) s turns)
       (k (before ++ xs) p.1 w.stands)
       (λ q z.
       let wp = w.popped in let wq = w.pushed in let zp = z.popped in let zq = z.pushed in
-      went_by before ((before ++ xs) ++ ys) (xs ++ ys) s turns (joined p.0 q.0, q.1) (append_assoc before xs ys) z.stands (omega (arith, wp, zp))
+      went_by before ((before ++ xs) ++ ys) (xs ++ ys) s turns (both_steps p.0 q.0, q.1) (append_assoc before xs ys) z.stands (omega (arith, wp, zp))
       (omega (arith, wq, zq))))
 
   if_met : (t : Expression) (a : Block) (b : Optional) (before : List Word) (s : At) (turns : Values) → e ≤ 65536 → Stands before s turns
@@ -473,7 +473,7 @@ module _ (above : List Declared) (e : ℕ) where
       let b4 = b3 ++ fh in
       let b5 = b4 ++ Bounds hv ∷ [] in
       let Q = Went before (read_of (For n low upto high b) turns) s turns in
-      let to = λ (l h : ℕ). unrolled (steps_of e b) n (numbers l (h + (if upto then 1 else 0) - l)) s in
+      let to = λ (l h : ℕ). unrolled (steps_of e b) n (numbers_from l (h + (if upto then 1 else 0) - l)) s in
       let second = λ (l : ℕ). on_ok (constant s.scope high) (λ y. on_ok (bound_of y) (to l)) in
       loops_met before (fl ++ Bounds lv ∷ (fh ++ Bounds hv ∷ T)) s turns n (find s.scope n) (on_ok (constant s.scope low) (λ x. on_ok (bound_of x) second)) Q
       refl h
@@ -486,7 +486,7 @@ module _ (above : List Declared) (e : ℕ) where
       (λ y g. subst (λ z. Meets above (each_word e b4 (Bounds hv ∷ T)) (on_ok (bound_of z) (to l)) Q) (g.value [] 0)
       (bounds_at b4 T s turns hv (to l) Q g.stands
       (λ k is' h3.
-      let same : turns_between lv upto hv ≡ numbers l (k + (if upto then 1 else 0) - l) = ap (λ z. turns_between z upto hv) is ∙ ap
+      let same : turns_between lv upto hv ≡ numbers_from l (k + (if upto then 1 else 0) - l) = ap (λ z. turns_between z upto hv) is ∙ ap
       (λ z. turns_between (pos l) upto z) is' in
       subst (λ vs. Meets above (each_word e b5 T) (unrolled (steps_of e b) n vs s) Q) same
       (weaken above (each_word e b5 T) (unrolled (steps_of e b) n (turns_between lv upto hv) s) (Went b5 T s turns) Q

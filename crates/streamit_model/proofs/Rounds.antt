@@ -9,7 +9,7 @@ use Rattle.river_base.specs.declared.item.Flat.TheVariants.{One}
 use Rattle.river_base.specs.Places.{list_at, each_grew}
 use Rattle.kern_rows.specs.Turns.{shares}
 use Rattle.river_kernels.specs.Kern.{duplicate}
-use Rattle.brooklet_model.specs.ByIndex.{branch, picked, number_at, item_at, and_more, front_of, size_of, collected}
+use Rattle.brooklet_model.specs.ByIndex.{branch, picked, number_at, collected_at, and_more, found_front, size_of, collected}
 use Rattle.brooklet_model.specs.Fire.{fire}
 use Rattle.brooklet_model.specs.Firings.{feed}
 use Rattle.brooklet_model.proofs.Cycles.{positive_cycle}
@@ -64,7 +64,7 @@ list_at_map f (l ∷ ls) zero = refl
 list_at_map f (l ∷ ls) (suc p) = list_at_map f ls p
 
 -- the item at a place
-item_map : {A B : Type 0} (f : A → B) (ws : List ℕ) (ls : List (List A)) (x : ℕ) → item_at ws (map (map f) ls) x ≡ map_option f (item_at ws ls x)
+item_map : {A B : Type 0} (f : A → B) (ws : List ℕ) (ls : List (List A)) (x : ℕ) → collected_at ws (map (map f) ls) x ≡ map_option f (collected_at ws ls x)
 item_map f ws ls x = ap (λ l. slice_get l (number_at ws x)) (list_at_map f ls (branch ws x)) ∙ got_map f (list_at ls (branch ws x)) (number_at ws x)
 
 more_map : {A B : Type 0} (f : A → B) (o : Option A) (xs : List A) (ys : List B) → ys ≡ map f xs → and_more (map_option f o) ys ≡ map f (and_more o xs)
@@ -72,11 +72,12 @@ more_map f None xs ys e = refl
 more_map f (Some x) xs ys e = ap (λ l. f x ∷ l) e
 
 front_map : {A B : Type 0} (f : A → B) (ws : List ℕ) (ls : List (List A)) (n x : ℕ)
-    → front_of (item_at ws (map (map f) ls)) n x ≡ map f (front_of (item_at ws ls) n x)
+    → found_front (collected_at ws (map (map f) ls)) n x ≡ map f (found_front (collected_at ws ls) n x)
 front_map f ws ls zero x = refl
 front_map f ws ls (suc n) x =
-    ap (λ o. and_more o (front_of (item_at ws (map (map f) ls)) n (suc x))) (item_map f ws ls x)
-    ∙ more_map f (item_at ws ls x) (front_of (item_at ws ls) n (suc x)) (front_of (item_at ws (map (map f) ls)) n (suc x)) (front_map f ws ls n (suc x))
+    ap (λ o. and_more o (found_front (collected_at ws (map (map f) ls)) n (suc x))) (item_map f ws ls x)
+    ∙ more_map f (collected_at ws ls x) (found_front (collected_at ws ls) n (suc x)) (found_front (collected_at ws (map (map f) ls)) n (suc x))
+    (front_map f ws ls n (suc x))
 
 size_map : {A B : Type 0} (f : A → B) (ls : List (List A)) → size_of (map (map f) ls) ≡ size_of ls
 size_map f [] = refl
@@ -84,7 +85,7 @@ size_map f (l ∷ ls) = let a = length-map l f in let b = size_map f ls in omega
 
 -- what is collected does not depend on what the items are
 pub collected_map : {A B : Type 0} (f : A → B) (ws : List ℕ) (ls : List (List A)) → collected ws (map (map f) ls) ≡ map f (collected ws ls)
-collected_map f ws ls = ap (λ n. front_of (item_at ws (map (map f) ls)) n 0) (size_map f ls) ∙ front_map f ws ls (size_of ls) 0
+collected_map f ws ls = ap (λ n. found_front (collected_at ws (map (map f) ls)) n 0) (size_map f ls) ∙ front_map f ws ls (size_of ls) 0
 
 -- the lists that came, port by port
 pub blanks_mapped : {A : Type 0} (f : A → item.Item) (ls : List (List A)) (g : ℕ → List item.Item)
@@ -116,8 +117,8 @@ collects_longest ws (l ∷ ls) r =
     let same : collected ws items ≡ map as_item (collected ws all) = collected_map as_item ws all in
     let len : length (collected ws items) ≡ length (collected ws all) = ap length same ∙ length-map (collected ws all) as_item in (
       (λ x lt.
-          same_value (slice_get (collected ws all) x) (item_at ws all x)
+          same_value (slice_get (collected ws all) x) (collected_at ws all x)
           (sym (got_map as_item (collected ws all) x) ∙ ap (λ c. slice_get c x) (sym same) ∙ long.0 x (omega (arith, lt, len)) ∙ item_map as_item ws all x)),
-      same_value (item_at ws all (length (collected ws all))) None
-          (sym (item_map as_item ws all (length (collected ws all))) ∙ ap (item_at ws items) (sym len) ∙ long.1),
+      same_value (collected_at ws all (length (collected ws all))) None
+          (sym (item_map as_item ws all (length (collected ws all))) ∙ ap (collected_at ws items) (sym len) ∙ long.1),
     )

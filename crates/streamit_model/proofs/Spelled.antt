@@ -15,7 +15,7 @@ use Rattle.streamit_model.specs.Elaborate.{NotConstant, PeekRange, Limit, on_ok,
 use Rattle.streamit_model.specs.Elaborate.{peeked}
 use Rattle.streamit_model.specs.Elaborate.{term_of, At, first_term, first_popped}
 use Rattle.streamit_text.specs.Program.{Declared}
-use Rattle.streamit_model.specs.Words.{Word, Uses, Fixes, Varies, Pops, Peeks, over, knows, leaves, enters, exits, IsLocal, IsTurn, IsKnown, popped_in}
+use Rattle.streamit_model.specs.Words.{Word, Uses, Fixes, Varies, Pops, Peeks, over, knows, leaves, enters, exits, IsLocal, IsLoopVariable, IsKnown, popped_in}
 use Rattle.streamit_model.specs.Text.{fixed, fixed_value, spelled, spelled_first}
 use Rattle.streamit_model.specs.Places.{Reads, each_word}
 use Rattle.streamit_model.proofs.Meeting.{FirstIn, Meets, free, first_unknown, first_variable, first_peek, first_limit, finish, last_test, next, weaken}
@@ -49,7 +49,7 @@ natural i n h = cc
 
 -- what stands for a slot is the name of a local
 pub local_known : (before : List Word) (n : Name) (o : Option Known) (i : ℕ) (z : ℤ) → o ≡ Some (Var i)
-    → NameIs o (over (knows n) before) (over (leaves n) before) (over (enters n) before) (over (exits n) before) z → IsLocal before n × (IsTurn before n → ⊥)
+    → NameIs o (over (knows n) before) (over (leaves n) before) (over (enters n) before) (over (exits n) before) z → IsLocal before n × (IsLoopVariable before n → ⊥)
 local_known before n o i z f h =
     let d = subst (λ o. NameIs o (over (knows n) before) (over (leaves n) before) (over (enters n) before) (over (exits n) before) z) f h in
     let a = d.0 in let b = d.1 in (omega (arith, a), λ lt. omega (arith, b, lt))
@@ -57,7 +57,7 @@ local_known before n o i z f h =
 -- what stands for a turn is the variable of a loop
 pub turn_known : (before : List Word) (n : Name) (o : Option Known) (v : ℕ) (z : ℤ) → o ≡ Some (Turn v)
     → NameIs o (over (knows n) before) (over (leaves n) before) (over (enters n) before) (over (exits n) before) z
-    → IsTurn before n × (IsLocal before n → ⊥) × (z ≡ pos v)
+    → IsLoopVariable before n × (IsLocal before n → ⊥) × (z ≡ pos v)
 turn_known before n o v z f h =
     let d = subst (λ o. NameIs o (over (knows n) before) (over (leaves n) before) (over (enters n) before) (over (exits n) before) z) f h in
     let a = d.0 in let b = d.1 in (omega (arith, b), λ lt. omega (arith, a, lt), d.2)

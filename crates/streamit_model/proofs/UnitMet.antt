@@ -21,7 +21,7 @@ use Rattle.streamit_model.specs.Judged.{Streamed, found, added, streams_of, any,
 use Rattle.streamit_model.specs.Words.{Word, Declares, Knows, pops_one, pushes_one, pops_beside, pushes_beside, popped_in, pushed_in}
 use Rattle.streamit_model.specs.Text.{all_read, optional_read}
 use Rattle.streamit_model.specs.Places.{Names, Rated, Counts, Branch, Added, Weighs, each_word, fields_read, work_spots, prework_spots, filter_spots, branch_spots, split_spots}
-use Rattle.streamit_model.specs.Places.{body_spots, unit_spots, most, in_all, body_depth, depth_above, body_operators, operators_above, last_operators}
+use Rattle.streamit_model.specs.Places.{body_spots, unit_spots, greatest_said, in_all, body_depth, depth_above, body_operators, operators_above, last_operators}
 use Rattle.streamit_model.proofs.Meeting.{Meets, free, first_twice, first_unknown, first_limit, first_weights, first_rates, behind, chain, finish, test}
 use Rattle.streamit_model.proofs.Meeting.{last_test, weaken, next}
 use Rattle.streamit_model.proofs.Standing.{over-append, Stands, with_local, regrouped}
@@ -272,7 +272,7 @@ module _ (above : List Declared) (known : Streamed) (k : KnowsAbove above known)
       (λ f. let le = lt_fails i 64 f in inl (first_limit above spot (omega (arith, le)) (λ h. h) (λ h. h) (λ h. h) (λ h. h) (λ i r h. h)))
 
   abbrev AreAs : Name → List Name → Streams → Type 0
-  AreAs n ms ss = (deepest ss ≡ most (depth_above above) n ms) × (ops_of ss ≡ in_all (operators_above above) n ms)
+  AreAs n ms ss = (deepest ss ≡ greatest_said (depth_above above) n ms) × (ops_of ss ≡ in_all (operators_above above) n ms)
 
   both_as : (n m : Name) (ms : List Name) (s : Stream) (ss : Streams) → IsAs n s → AreAs m ms ss → AreAs n (m ∷ ms) (Then s ss)
   both_as n m ms s ss a b =

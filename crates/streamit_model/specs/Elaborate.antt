@@ -12,7 +12,7 @@ use Rattle.work_code.specs.Value.{applied, truth}
 use Rattle.river_plan.specs.Forms.{Name}
 use Rattle.streamit_text.specs.Tree.{Expression, Statement, Declare, Assign, Push, Discard, If, For, Block, End, Then, Optional, Unwritten, Written}
 use Rattle.streamit_text.specs.Tree as tree
-use Rattle.streamit_model.specs.Meaning.{pops, numbers}
+use Rattle.streamit_model.specs.Meaning.{pops, numbers_from}
 
 -- why a program is refused
 pub data Fault : Type 0 where
@@ -125,9 +125,9 @@ first_popped None = 0
 first_popped (Some t) = pops t
 
 -- the statements of both, one after another
-abbrev pub joined : Steps → Steps → Steps
-joined Done ts = ts
-joined (steps.Then s ss) ts = steps.Then s (joined ss ts)
+abbrev pub both_steps : Steps → Steps → Steps
+both_steps Done ts = ts
+both_steps (steps.Then s ss) ts = steps.Then s (both_steps ss ts)
 
 abbrev pub one_step : Step → Steps
 one_step s = steps.Then s Done
@@ -151,7 +151,7 @@ abbrev pub unrolled : (At → Read) → Name → List ℕ → At → Read
 unrolled block n [] s = Ok (Done, s)
 unrolled block n (v ∷ vs) s =
     on_ok (counted s) (λ t. on_ok (block (record t { scope = (n, Turn v) ∷ s.scope }))
-    (λ a. on_ok (unrolled block n vs (record a.1 { scope = s.scope })) (λ b. Ok (joined a.0 b.0, b.1))))
+    (λ a. on_ok (unrolled block n vs (record a.1 { scope = s.scope })) (λ b. Ok (both_steps a.0 b.0, b.1))))
 
 abbrev mutual
   pub step_of : ℕ → Statement → At → Read
@@ -171,11 +171,11 @@ abbrev mutual
       on_ok (is_new (find s.scope n)) (λ u.
       on_ok (constant s.scope low) (λ x. on_ok (bound_of x) (λ l.
       on_ok (constant s.scope high) (λ y. on_ok (bound_of y) (λ h.
-      unrolled (steps_of e b) n (numbers l (h + (if upto then 1 else 0) - l)) s)))))
+      unrolled (steps_of e b) n (numbers_from l (h + (if upto then 1 else 0) - l)) s)))))
 
   pub steps_of : ℕ → Block → At → Read
   steps_of e End s = Ok (Done, s)
-  steps_of e (Then c b) s = on_ok (step_of e c s) (λ p. on_ok (steps_of e b p.1) (λ q. Ok (joined p.0 q.0, q.1)))
+  steps_of e (Then c b) s = on_ok (step_of e c s) (λ p. on_ok (steps_of e b p.1) (λ q. Ok (both_steps p.0 q.0, q.1)))
 
   -- a block that is not written has no statements
   pub optional_of : ℕ → Optional → At → Read

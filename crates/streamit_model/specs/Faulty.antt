@@ -10,7 +10,7 @@ use Rattle.streamit_model.specs.Elaborate.{Fault, UnknownName, NameTwice, Rates,
 use Rattle.streamit_text.specs.Program.{Declared, Program}
 use Rattle.streamit_model.specs.Meaning.{weights_for}
 use Rattle.streamit_model.specs.Judged.{Streamed, judged}
-use Rattle.streamit_model.specs.Words.{Begins, Declares, Sets, Uses, Fixes, Varies, Pops, Peeks, Bounds, Loops, Joins, IsLocal, IsTurn, IsKnown, slots_in}
+use Rattle.streamit_model.specs.Words.{Begins, Declares, Sets, Uses, Fixes, Varies, Pops, Peeks, Bounds, Loops, Joins, IsLocal, IsLoopVariable, IsKnown, slots_in}
 use Rattle.streamit_model.specs.Words.{statements_in, popped_in}
 use Rattle.streamit_model.specs.Places.{Spot, Names, Reads, Rated, Counts, Branch, Added, Weighs, Finishes, Place, places_of, depth_above, last_operators}
 
@@ -54,7 +54,7 @@ IsOutside index rate s = ⊥
 abbrev pub IsVariable : Spot → Type 0
 IsVariable (Reads peek before (Fixes n)) = IsLocal before n
 IsVariable (Reads peek before Varies) = Unit {0}
-IsVariable (Reads peek before (Sets n)) = IsTurn before n
+IsVariable (Reads peek before (Sets n)) = IsLoopVariable before n
 IsVariable s = ⊥
 
 -- the arms of an `if` differ in pops or pushes

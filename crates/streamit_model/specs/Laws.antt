@@ -14,7 +14,7 @@ use Rattle.brooklet_model.specs.Fire.{first_kept}
 use Rattle.brooklet_model.specs.Words.{feed_all}
 use Rattle.brooklet_model.specs.Histories.{History, Solves}
 use Rattle.brooklet_model.specs.Meaning.{meaning}
-use Rattle.brooklet_model.specs.ByIndex.{item_at, dealt, collected}
+use Rattle.brooklet_model.specs.ByIndex.{collected_at, dealt, collected}
 use Rattle.streamit_model.specs.Unrolled.{Stream, IsRound, IsStream, IsSmall}
 use Rattle.streamit_model.specs.UnrolledFilters.{filtered}
 use Rattle.streamit_model.specs.UnrolledMeans.{outputs}
@@ -81,7 +81,7 @@ FiltersMean = (t : FilterTree) (f : FilterForm) (xs : List ℤ) → elaborated t
 abbrev pub CollectsLongest : Type 0
 CollectsLongest =
     (ws : List ℕ) (ls : List (List ℤ)) → IsRound ws (length ls)
-    → ((x : ℕ) → x < length (collected ws ls) → slice_get (collected ws ls) x ≡ item_at ws ls x) × (item_at ws ls (length (collected ws ls)) ≡ None)
+    → ((x : ℕ) → x < length (collected ws ls) → slice_get (collected ws ls) x ≡ collected_at ws ls x) × (collected_at ws ls (length (collected ws ls)) ≡ None)
 
 -- the plan of a program that is accepted is valid, and means what the program means
 abbrev pub ProgramsMean : Type 0

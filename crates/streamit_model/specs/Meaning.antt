@@ -50,13 +50,13 @@ pub record State : Type 0 where
   pub pushed : List ℤ
 
 -- n numbers from v on
-abbrev pub numbers : ℕ → ℕ → List ℕ
-numbers v zero = []
-numbers v (suc n) = v ∷ numbers (suc v) n
+abbrev pub numbers_from : ℕ → ℕ → List ℕ
+numbers_from v zero = []
+numbers_from v (suc n) = v ∷ numbers_from (suc v) n
 
 -- the turns of a loop from one bound to another
 abbrev pub turns_between : ℤ → Bool → ℤ → List ℕ
-turns_between low upto high = numbers (count_of low) (count_of high + (if upto then 1 else 0) - count_of low)
+turns_between low upto high = numbers_from (count_of low) (count_of high + (if upto then 1 else 0) - count_of low)
 
 -- a block for each value of a variable
 abbrev pub each_turn : (State → State) → Name → List ℕ → State → State

@@ -100,9 +100,9 @@ places_of p = places_behind 0 [] p
 -- WHAT IS KNOWN OF THE STREAMS ABOVE
 
 -- the greatest of what is said of one or more names
-abbrev pub most : (Name → ℕ) → Name → List Name → ℕ
-most f n [] = f n
-most f n (m ∷ ms) = max (f n) (most f m ms)
+abbrev pub greatest_said : (Name → ℕ) → Name → List Name → ℕ
+greatest_said f n [] = f n
+greatest_said f n (m ∷ ms) = max (f n) (greatest_said f m ms)
 
 -- and the sum
 abbrev pub in_all : (Name → ℕ) → Name → List Name → ℕ
@@ -112,8 +112,8 @@ in_all f n (m ∷ ms) = f n + in_all f m ms
 -- a filter is nested 1 deep, and all else 1 deeper than the deepest stream that it adds
 abbrev pub body_depth : (Name → ℕ) → Body → ℕ
 body_depth f (AFilter t) = 1
-body_depth f (APipeline a) = suc (most f a.first a.others)
-body_depth f (ASplitJoin d a ws) = suc (most f a.first a.others)
+body_depth f (APipeline a) = suc (greatest_said f a.first a.others)
+body_depth f (ASplitJoin d a ws) = suc (greatest_said f a.first a.others)
 
 abbrev pub depth_above : List Declared → Name → ℕ
 depth_above [] n = 0

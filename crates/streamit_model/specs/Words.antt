@@ -99,11 +99,11 @@ abbrev pub IsLocal : List Word → Name → Type 0
 IsLocal before n = over (leaves n) before < over (knows n) before
 
 -- the variable of a loop in one of its turns: more turns began than ended
-abbrev pub IsTurn : List Word → Name → Type 0
-IsTurn before n = over (exits n) before < over (enters n) before
+abbrev pub IsLoopVariable : List Word → Name → Type 0
+IsLoopVariable before n = over (exits n) before < over (enters n) before
 
 abbrev pub IsKnown : List Word → Name → Type 0
-IsKnown before n = IsLocal before n ⊎ IsTurn before n
+IsKnown before n = IsLocal before n ⊎ IsLoopVariable before n
 
 -- the slots that are taken
 abbrev pub slots_in : List Word → ℕ

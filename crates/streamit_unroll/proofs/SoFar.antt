@@ -7,8 +7,8 @@ use Rattle.work_code.specs.Steps.{Step, Steps, Done, step, statements, in_turn}
 use Rattle.work_code.specs.Steps as steps
 use Rattle.streamit_text.specs.Tree as source
 use Rattle.river_plan.specs.Forms.{Name}
-use Rattle.streamit_model.specs.Meaning.{numbers, pops}
-use Rattle.streamit_model.specs.Elaborate.{Fault, At, Read, on_ok, joined, step_of, steps_of, unrolled, counted, is_new, find, constant, bound_of, term_of}
+use Rattle.streamit_model.specs.Meaning.{numbers_from, pops}
+use Rattle.streamit_model.specs.Elaborate.{Fault, At, Read, on_ok, both_steps, step_of, steps_of, unrolled, counted, is_new, find, constant, bound_of, term_of}
 use Rattle.streamit_model.specs.Elaborate.{one_step, after_arms, optional_of}
 use Rattle.streamit_text.specs.Tree.{Expression}
 use Rattle.work_code.specs.Term.{Term}
@@ -30,28 +30,28 @@ good x = Ok x
 
 -- behind these statements
 abbrev pub behind : Steps → Read → Read
-behind a r = on_ok r (λ q. Ok (joined a q.0, q.1))
+behind a r = on_ok r (λ q. Ok (both_steps a q.0, q.1))
 
 -- behind nothing
 pub behind_none : (r : Read) → behind Done r ≡ r
 behind_none (Ok q) = refl
 behind_none (Err f) = refl
 
-joined-assoc : (a b c : Steps) → joined (joined a b) c ≡ joined a (joined b c)
+joined-assoc : (a b c : Steps) → both_steps (both_steps a b) c ≡ both_steps a (both_steps b c)
 joined-assoc Done b c = refl
 joined-assoc (steps.Then s a) b c = ap (steps.Then s) (joined-assoc a b c)
 
-joined-done : (a : Steps) → joined a Done ≡ a
+joined-done : (a : Steps) → both_steps a Done ≡ a
 joined-done Done = refl
 joined-done (steps.Then s a) = ap (steps.Then s) (joined-done a)
 
 -- lists of statements one behind the other
-pub joined-in_turn : (xs ys : List Step) → joined (in_turn xs) (in_turn ys) ≡ in_turn (xs ++ ys)
+pub joined-in_turn : (xs ys : List Step) → both_steps (in_turn xs) (in_turn ys) ≡ in_turn (xs ++ ys)
 joined-in_turn [] ys = refl
 joined-in_turn (x ∷ xs) ys = ap (steps.Then x) (joined-in_turn xs ys)
 
 -- behind two lists
-pub behind_both : (a b : Steps) (r : Read) → behind a (behind b r) ≡ behind (joined a b) r
+pub behind_both : (a b : Steps) (r : Read) → behind a (behind b r) ≡ behind (both_steps a b) r
 behind_both a b (Ok q) = ap (λ s. Ok (s, q.1)) (sym (joined-assoc a b q.0))
 behind_both a b (Err f) = refl
 
@@ -74,7 +74,7 @@ pub record BlockSoFar (e : ℕ) (all rest : List source.Statement) (first now : 
 pub record TurnsSoFar (e : ℕ) (b : source.Block) (n : Name) (low v end : ℕ) (first now : Unroller) (out out' : Stmts) : Type 0 where
   pub added : List Stmt
   pub grew : statements out' ≡ statements out ++ added
-  pub all_is : unrolled (steps_of e b) n (numbers low (end - low)) (at_of first) ≡ behind (in_turn (map step added)) (unrolled (steps_of e b) n (numbers v (end - v)) (at_of now))
+  pub all_is : unrolled (steps_of e b) n (numbers_from low (end - low)) (at_of first) ≡ behind (in_turn (map step added)) (unrolled (steps_of e b) n (numbers_from v (end - v)) (at_of now))
   pub names : now.names.items.items ≡ first.names.items.items
 
 -- a front of a front
@@ -101,10 +101,10 @@ tells_more faults.NoMemory r r' h e = tt
 
 steps_ok : (e : ℕ) (c : source.Statement) (rest : source.Block) (s : At) (a : Steps) (s' : At) → step_of e c s ≡ Ok (a, s')
     → steps_of e (source.Then c rest) s ≡ behind a (steps_of e rest s')
-steps_ok e c rest s a s' h = ap (λ r. on_ok r (λ p. on_ok (steps_of e rest p.1) (λ q. Ok (joined p.0 q.0, q.1)))) h
+steps_ok e c rest s a s' h = ap (λ r. on_ok r (λ p. on_ok (steps_of e rest p.1) (λ q. Ok (both_steps p.0 q.0, q.1)))) h
 
 steps_err : (e : ℕ) (c : source.Statement) (rest : source.Block) (s : At) (g : Fault) → step_of e c s ≡ Err g → steps_of e (source.Then c rest) s ≡ Err g
-steps_err e c rest s g h = ap (λ r. on_ok r (λ p. on_ok (steps_of e rest p.1) (λ q. Ok (joined p.0 q.0, q.1)))) h
+steps_err e c rest s g h = ap (λ r. on_ok r (λ p. on_ok (steps_of e rest p.1) (λ q. Ok (both_steps p.0 q.0, q.1)))) h
 
 -- one statement more
 pub block_next : (e : ℕ) (all : List source.Statement) (c : source.Statement) (rest : List source.Statement) (first now next : Unroller) (out out' out'' : Stmts)
@@ -156,15 +156,15 @@ turns_ok block n v vs s a s' h = unrolled-turn block n v vs s ∙ ap (λ r. on_o
 turns_err : (block : At → Read) (n : Name) (v : ℕ) (vs : List ℕ) (s : At) (g : Fault) → turn_of block n v s ≡ Err g → unrolled block n (v ∷ vs) s ≡ Err g
 turns_err block n v vs s g h = unrolled-turn block n v vs s ∙ ap (λ r. on_ok r (λ p. behind p.0 (unrolled block n vs p.1))) h
 
-numbers_more : (v end : ℕ) → v < end → numbers v (end - v) ≡ v ∷ numbers (v + 1) (end - (v + 1))
+numbers_more : (v end : ℕ) → v < end → numbers_from v (end - v) ≡ v ∷ numbers_from (v + 1) (end - (v + 1))
 numbers_more v end lt =
-    ap (numbers v) (let e : end - v ≡ suc (end - (v + 1)) = omega (arith, lt) in e)
-    ∙ ap (λ k. v ∷ numbers k (end - (v + 1))) (let e : suc v ≡ v + 1 = omega arith in e)
+    ap (numbers_from v) (let e : end - v ≡ suc (end - (v + 1)) = omega (arith, lt) in e)
+    ∙ ap (λ k. v ∷ numbers_from k (end - (v + 1))) (let e : suc v ≡ v + 1 = omega arith in e)
 
 -- before the first turn
 pub turns_start : (e : ℕ) (b : source.Block) (n : Name) (low end : ℕ) (first : Unroller) (out : Stmts) → TurnsSoFar e b n low low end first first out out
 turns_start e b n low end first out =
-    record { added = []; grew = sym (append-nil (statements out)); all_is = sym (behind_none (unrolled (steps_of e b) n (numbers low (end - low)) (at_of first))); names = refl }
+    record { added = []; grew = sym (append-nil (statements out)); all_is = sym (behind_none (unrolled (steps_of e b) n (numbers_from low (end - low)) (at_of first))); names = refl }
 
 -- one turn more
 pub turns_next : (e : ℕ) (b : source.Block) (n : Name) (low v end : ℕ) (first now next : Unroller) (out out' out'' : Stmts) → v < end
@@ -174,10 +174,11 @@ turns_next e b n low v end first now next out out' out'' lt f r = record {
   added = f.added ++ r.0;
   grew = r.1 ∙ ap (λ l. l ++ r.0) f.grew ∙ append_assoc (statements out) f.added r.0;
   all_is =
-      let rest = unrolled (steps_of e b) n (numbers (v + 1) (end - (v + 1))) (at_of next) in
+      let rest = unrolled (steps_of e b) n (numbers_from (v + 1) (end - (v + 1))) (at_of next) in
       f.all_is
       ∙ ap (λ vs. behind (in_turn (map step f.added)) (unrolled (steps_of e b) n vs (at_of now))) (numbers_more v end lt)
-      ∙ ap (behind (in_turn (map step f.added))) (turns_ok (steps_of e b) n v (numbers (v + 1) (end - (v + 1))) (at_of now) (in_turn (map step r.0)) (at_of next) r.2)
+      ∙ ap (behind (in_turn (map step f.added))) (turns_ok (steps_of e b) n v (numbers_from (v + 1) (end - (v + 1))) (at_of now)
+      (in_turn (map step r.0)) (at_of next) r.2)
       ∙ behind_both (in_turn (map step f.added)) (in_turn (map step r.0)) rest
       ∙ ap (λ a. behind a rest) (joined-in_turn (map step f.added) (map step r.0) ∙ ap in_turn (sym (map-append step f.added r.0)));
   names = r.3 ∙ f.names;
@@ -185,31 +186,31 @@ turns_next e b n low v end first now next out out' out'' lt f r = record {
 
 -- a turn that is refused
 pub turns_fault : (e : ℕ) (b : source.Block) (n : Name) (low v end : ℕ) (first now next x y : Unroller) (out out' out'' o k : Stmts) (whole : Read) (result : Result (Unit {0}) fault.Fault) (f : fault.Fault)
-    → result ≡ Err f → v < end → whole ≡ unrolled (steps_of e b) n (numbers low (end - low)) (at_of first) → TurnsSoFar e b n low v end first now out out'
+    → result ≡ Err f → v < end → whole ≡ unrolled (steps_of e b) n (numbers_from low (end - low)) (at_of first) → TurnsSoFar e b n low v end first now out out'
     → ReadsTurn (Err f) out' out'' now next (turn_of (steps_of e b) n v (at_of now)) → Reads result o k x y whole
 turns_fault e b n low v end first now next x y out out' out'' o k whole result f is lt w s r =
     subst (λ t. Reads t o k x y whole) (sym is)
     (tells_more f (turn_of (steps_of e b) n v (at_of now)) whole
-    (λ g h. w ∙ s.all_is ∙ ap (λ vs. behind (in_turn (map step s.added)) (unrolled (steps_of e b) n vs (at_of now))) (numbers_more v end lt) ∙ ap (behind (in_turn (map step s.added))) (turns_err (steps_of e b) n v (numbers (v + 1) (end - (v + 1))) (at_of now) g h))
+    (λ g h. w ∙ s.all_is ∙ ap (λ vs. behind (in_turn (map step s.added)) (unrolled (steps_of e b) n vs (at_of now))) (numbers_more v end lt) ∙ ap (behind (in_turn (map step s.added))) (turns_err (steps_of e b) n v (numbers_from (v + 1) (end - (v + 1))) (at_of now) g h))
     r)
 
 -- all turns
 pub turns_end : (e : ℕ) (b : source.Block) (n : Name) (low v end : ℕ) (first now : Unroller) (out out' : Stmts) (whole : Read) → end ≤ v
-    → whole ≡ unrolled (steps_of e b) n (numbers low (end - low)) (at_of first) → TurnsSoFar e b n low v end first now out out'
+    → whole ≡ unrolled (steps_of e b) n (numbers_from low (end - low)) (at_of first) → TurnsSoFar e b n low v end first now out out'
     → Reads (Ok tt) out out' first now whole
 turns_end e b n low v end first now out out' whole le w f = (
   f.added,
   f.grew,
-  w ∙ f.all_is ∙ ap (λ k. behind (in_turn (map step f.added)) (unrolled (steps_of e b) n (numbers v k) (at_of now))) (let z : end - v ≡ 0 = omega (arith, le) in z) ∙ behind_done (in_turn (map step f.added)) (at_of now),
+  w ∙ f.all_is ∙ ap (λ k. behind (in_turn (map step f.added)) (unrolled (steps_of e b) n (numbers_from v k) (at_of now))) (let z : end - v ≡ 0 = omega (arith, le) in z) ∙ behind_done (in_turn (map step f.added)) (at_of now),
   ap (take (length first.names.items.items)) f.names ∙ take_all (length first.names.items.items) first.names.items.items (omega arith),
 )
 
 -- a loop goes through its turns
 for_is : (e : ℕ) (n : Name) (lo hi : Expression) (upto : Bool) (b : source.Block) (s : At)
-    → step_of e (source.For n lo upto hi b) s ≡ on_ok (turns_of s.scope n lo upto hi) (λ p. unrolled (steps_of e b) n (numbers p.0 (p.1 - p.0)) s)
+    → step_of e (source.For n lo upto hi b) s ≡ on_ok (turns_of s.scope n lo upto hi) (λ p. unrolled (steps_of e b) n (numbers_from p.0 (p.1 - p.0)) s)
 for_is e n lo hi upto b s =
     let k = if upto then 1 else 0 in
-    let turns = λ (p : ℕ × ℕ). unrolled (steps_of e b) n (numbers p.0 (p.1 - p.0)) s in
+    let turns = λ (p : ℕ × ℕ). unrolled (steps_of e b) n (numbers_from p.0 (p.1 - p.0)) s in
     let f4 = λ (l m : ℕ). turns (l, m + k) in
     let f3 = λ (l : ℕ). on_ok (constant s.scope hi) (λ y. on_ok (bound_of y) (f4 l)) in
     let g3 = λ (l : ℕ). on_ok (on_ok (constant s.scope hi) bound_of) (λ m. Ok (l, m + k)) in
@@ -219,15 +220,15 @@ for_is e n lo hi upto b s =
 
 -- a loop whose turns are these
 pub for_turns : (e : ℕ) (n : Name) (lo hi : Expression) (upto : Bool) (b : source.Block) (s : At) (l end : ℕ)
-    → turns_of s.scope n lo upto hi ≡ Ok (l, end) → step_of e (source.For n lo upto hi b) s ≡ unrolled (steps_of e b) n (numbers l (end - l)) s
-for_turns e n lo hi upto b s l end h = for_is e n lo hi upto b s ∙ ap (λ r. on_ok r (λ p. unrolled (steps_of e b) n (numbers p.0 (p.1 - p.0)) s)) h
+    → turns_of s.scope n lo upto hi ≡ Ok (l, end) → step_of e (source.For n lo upto hi b) s ≡ unrolled (steps_of e b) n (numbers_from l (end - l)) s
+for_turns e n lo hi upto b s l end h = for_is e n lo hi upto b s ∙ ap (λ r. on_ok r (λ p. unrolled (steps_of e b) n (numbers_from p.0 (p.1 - p.0)) s)) h
 
 -- a loop whose turns are refused
 pub for_fault : (e : ℕ) (n : Name) (lo hi : Expression) (upto : Bool) (b : source.Block) (s : At) (f : fault.Fault)
     → Tells f (turns_of s.scope n lo upto hi) → Tells f (step_of e (source.For n lo upto hi b) s)
 for_fault e n lo hi upto b s f h =
     tells_more f (turns_of s.scope n lo upto hi) (step_of e (source.For n lo upto hi b) s)
-    (λ g r. for_is e n lo hi upto b s ∙ ap (λ q. on_ok q (λ p. unrolled (steps_of e b) n (numbers p.0 (p.1 - p.0)) s)) r) h
+    (λ g r. for_is e n lo hi upto b s ∙ ap (λ q. on_ok q (λ p. unrolled (steps_of e b) n (numbers_from p.0 (p.1 - p.0)) s)) r) h
 
 -- an `if` whose parts are there
 pub if_is : (e : ℕ) (t : Expression) (a : source.Block) (b : source.Optional) (s s1 : At) (cond : Term) (f g : Steps) (la lb : At) → counted s ≡ Ok s1

@@ -2,7 +2,7 @@
 ghost use Rattle.std.specs.Prelude.{◌≡◌, ◌≤◌, ◌+◌, ◌-◌, if◌then◌else◌};
 ghost use Rattle.streamit_model.specs.Elaborate.{step_of, steps_of, optional_of, unrolled};
 ghost use Rattle.streamit_text.specs.Tree.{If, expression, is_turn, statement, block, optional_block};
-ghost use Rattle.streamit_model.specs.Meaning.{numbers};
+ghost use Rattle.streamit_model.specs.Meaning.{numbers_from};
 ghost use Rattle.streamit_unroll.specs.Numbers.{AreValues};
 ghost use Rattle.streamit_unroll.specs.View.{Judges};
 ghost use Rattle.streamit_unroll.specs.Unrolling.{at_of, Reads, ReadsArm, ReadsTurn, turn_of, turns_of, span, AreWritten, AreWrittenOptional, IsWritten};
@@ -154,7 +154,7 @@ impl Unroller {
         out: &mut Stmts,
     ) -> Result<(), Fault>
         requires { AreWritten (block b.now) }
-        ensures { Reads result out.old out.new self.old self.new (unrolled (steps_of peek (block b.now)) name (numbers span.low (span.end - span.low)) (at_of self.old)) }
+        ensures { Reads result out.old out.new self.old self.new (unrolled (steps_of peek (block b.now)) name (numbers_from span.low (span.end - span.low)) (at_of self.old)) }
     {
         for v in span.low..span.end {
             self.turn(alloc, peek, name, v, b, out)?;

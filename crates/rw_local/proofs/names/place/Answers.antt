@@ -1,5 +1,5 @@
 use Rattle.std.proofs.Common.{◌+◌, sym, ap, ◌∙◌}
-use Rattle.plan_edits.specs.Lists.{place}
+use Rattle.plan_edits.specs.Lists.{place_of_name}
 use Rattle.plan_edits.proofs.NameLoops.{none_next, place_at, place_past}
 use Rattle.rw_local.proofs.names.place.Goals as goal
 
@@ -7,7 +7,7 @@ pub returns-then-eq : goal.returns-then-eq
 returns-then-eq c =
     c.loop-other.invariant.1
     ∙ place_at c.args.name _ _ c.other-item.result c.loop-other-test.true c.other-item.is (sym c.if-eq.ensures) c.loop-other.invariant.0
-    ∙ ap (place c.args.name) c.as_slice-other-items.ensures
+    ∙ ap (place_of_name c.args.name) c.as_slice-other-items.ensures
 
 pub loop-other-preserved : goal.loop-other-preserved
 loop-other-preserved c =
@@ -16,4 +16,4 @@ loop-other-preserved c =
 pub returns : goal.returns
 returns c =
     c.loop-other.invariant.1 ∙ place_past c.args.name _ _ c.loop-other-test.false c.loop-other.auto.other-index-end c.loop-other.invariant.0
-    ∙ ap (place c.args.name) c.as_slice-other-items.ensures
+    ∙ ap (place_of_name c.args.name) c.as_slice-other-items.ensures

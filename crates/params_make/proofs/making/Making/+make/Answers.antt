@@ -2,7 +2,7 @@ use Rattle.std.proofs.Common.{◌≡◌, ◌+◌, ◌-◌, ◌<◌, ◌≤◌, s
 use Rattle.streamit_text.specs.Tree.{expression, is_turn}
 use Rattle.streamit_text.specs.Program as plain
 use Rattle.streamit_text.proofs.Places.{at_place, none_left}
-use Rattle.streamit_model.specs.Meaning.{numbers}
+use Rattle.streamit_model.specs.Meaning.{numbers_from}
 use Rattle.params_text.specs.Program.{in_order, step_of, steps_of, expressions, declared_of, body_of, dealing_of, rounds_of, Step}
 use Rattle.params_text.proofs.StepTrees.{steps-are, step-loop}
 use Rattle.params_model.specs.Constants.{HaveFitConstants}
@@ -12,7 +12,7 @@ use Rattle.params_build.specs.Told.{Told}
 use Rattle.std.specs.Prelude.{IsTrue}
 use Rattle.river_base.specs.declared.memory.NoMemory.{NoMemory}
 use Rattle.params_print.specs.Heads.{names_written}
-use Rattle.params_make.specs.Standing.{MakesOne, MakesMore, Writes, adding, bodied, in_turn, turn_made, source_at}
+use Rattle.params_make.specs.Standing.{MakesOne, MakesMore, WritesInstance, adding, bodied, turn_steps, turn_made, source_at}
 use Rattle.params_make.proofs.Bodies.{add-made, loop-is, all-made, make-begun}
 use Rattle.params_make.proofs.Growing.{so-start, so-next, so-fault, so-end, turns-next, numbers-next, numbers-end}
 use Rattle.params_make.proofs.Parts.{pipeline-made, split-made}
@@ -81,8 +81,8 @@ pub turns-range-init : goal.turns-range-init
 turns-range-init t c = λ m h.
     let add = adding c.args.seen.units.now c.args.seen.sizes.now c.args.seen.depth in
     let k = suc (length c.args.seen.units.now) in
-    let f = in_turn add k c.args.scope.now.known c.args.turns.name (steps_of c.args.steps.now) in
-    so-start (turns_made k f (numbers c.args.turns.span.low (c.args.turns.span.end - c.args.turns.span.low))) c.args.scope.now c.args.self.now m h
+    let f = turn_steps add k c.args.scope.now.known c.args.turns.name (steps_of c.args.steps.now) in
+    so-start (turns_made k f (numbers_from c.args.turns.span.low (c.args.turns.span.end - c.args.turns.span.low))) c.args.scope.now c.args.self.now m h
 
 pub turns-range-preserved : goal.turns-range-preserved
 turns-range-preserved t c = λ m h.
@@ -93,12 +93,12 @@ turns-range-preserved t c = λ m h.
     let v = c.range.each in
     let low = c.args.turns.span.low in
     let end = c.args.turns.span.end in
-    let f = in_turn add k c.args.scope.now.known name ss in
+    let f = turn_steps add k c.args.scope.now.known name ss in
     let far = c.range.invariant m h in
     let lt : v < end = search rules in
-    so-next (turns_made k f (numbers low (end - low)) m) (λ e. turn_made k (in_turn add k e name ss) v) (turns_made k f (numbers v (end - v))) (turns_made k f (numbers (v + 1) (end - (v + 1))))
+    so-next (turns_made k f (numbers_from low (end - low)) m) (λ e. turn_made k (turn_steps add k e name ss) v) (turns_made k f (numbers_from v (end - v))) (turns_made k f (numbers_from (v + 1) (end - (v + 1))))
     c.args.scope.now c.range.scope c.turn.new.scope c.range.self c.turn.new.self
-    (λ q. ap (λ l. turns_made k f l q) (numbers-next v end lt) ∙ turns-next k f v (numbers (v + 1) (end - (v + 1))) q) far (c.in-Ok.ensures far.made far.stands)
+    (λ q. ap (λ l. turns_made k f l q) (numbers-next v end lt) ∙ turns-next k f v (numbers_from (v + 1) (end - (v + 1))) q) far (c.in-Ok.ensures far.made far.stands)
 
 pub turns-returns : goal.turns-returns
 turns-returns t c = λ m h.
@@ -107,9 +107,9 @@ turns-returns t c = λ m h.
     let v = c.range.each in
     let low = c.args.turns.span.low in
     let end = c.args.turns.span.end in
-    let f = in_turn add k c.args.scope.now.known c.args.turns.name (steps_of c.args.steps.now) in
+    let f = turn_steps add k c.args.scope.now.known c.args.turns.name (steps_of c.args.steps.now) in
     let le : end ≤ v = search rules in
-    so-end (turns_made k f (numbers low (end - low)) m) (turns_made k f (numbers v (end - v))) c.args.scope.now c.range.scope c.range.self
+    so-end (turns_made k f (numbers_from low (end - low)) m) (turns_made k f (numbers_from v (end - v))) c.args.scope.now c.range.scope c.range.self
     (λ q. ap (λ l. turns_made k f l q) (numbers-end v end le)) (c.range.invariant m h)
 
 pub turns-returns-in-Err : goal.turns-returns-in-Err
@@ -121,13 +121,13 @@ turns-returns-in-Err t c = λ m h.
     let v = c.range.each in
     let low = c.args.turns.span.low in
     let end = c.args.turns.span.end in
-    let f = in_turn add k c.args.scope.now.known name ss in
+    let f = turn_steps add k c.args.scope.now.known name ss in
     let far = c.range.invariant m h in
     let lt : v < end = search rules in
     let e = c.in-Err.refusal in
-    so-fault (turns_made k f (numbers low (end - low)) m) (λ g. turn_made k (in_turn add k g name ss) v) (turns_made k f (numbers v (end - v))) (turns_made k f (numbers (v + 1) (end - (v + 1))))
+    so-fault (turns_made k f (numbers_from low (end - low)) m) (λ g. turn_made k (turn_steps add k g name ss) v) (turns_made k f (numbers_from v (end - v))) (turns_made k f (numbers_from (v + 1) (end - (v + 1))))
     c.args.scope.now c.range.scope c.range.self e
-    (λ q. ap (λ l. turns_made k f l q) (numbers-next v end lt) ∙ turns-next k f v (numbers (v + 1) (end - (v + 1))) q) far (c.in-Err.ensures far.made far.stands)
+    (λ q. ap (λ l. turns_made k f l q) (numbers-next v end lt) ∙ turns-next k f v (numbers_from (v + 1) (end - (v + 1))) q) far (c.in-Err.ensures far.made far.stands)
 
 -- THE PARTS OF ONE INSTANCE
 
@@ -175,7 +175,7 @@ split_join-returns t c = λ m h.
     let two = subst (λ b. demand b k Range ≡ Ok tt) (c.is_ranged_round.ensures ∙ ap (λ e. are_ranged_option e ws) r.5) c.in_ok-demand-2.ensures in
     let wrote = c.in_ok-instance.ensures r.1 r.0 r.3 r.4 in
     split-made add k c.args.name env d (steps_of all.steps) ws m r.0 r.1 i new one r.2 two
-    (subst (λ e. Writes {E = NoMemory} (Ok i) new k c.args.name (plain.ASplitJoin (dealing e d) r.0 (option_counts e ws)) r.1) r.5 wrote)
+    (subst (λ e. WritesInstance {E = NoMemory} (Ok i) new k c.args.name (plain.ASplitJoin (dealing e d) r.0 (option_counts e ws)) r.1) r.5 wrote)
 
 pub body-returns-in-Filter : goal.body-returns-in-Filter
 body-returns-in-Filter t c = λ m h.

@@ -1,10 +1,10 @@
 use Rattle.std.proofs.Common.{◌+◌, ◌*◌, ◌-◌, suc, drop, map, length}
-use Rattle.streamit_model.specs.Meaning.{numbers}
+use Rattle.streamit_model.specs.Meaning.{numbers_from}
 use Rattle.params_text.specs.Program.{in_order, step_of, steps_of}
 use Rattle.params_text.specs.declared.program.Steps.{size-Steps}
 use Rattle.params_model.specs.Constants.{HaveFitConstants}
 use Rattle.params_model.specs.Making.{Made, steps_made, turns_made}
-use Rattle.params_make.specs.Standing.{Stands, adding, in_turn}
+use Rattle.params_make.specs.Standing.{Stands, adding, turn_steps}
 use Rattle.params_make.proofs.Growing.{SoFar}
 use Rattle.params_make.proofs.Sources.{room, body_size}
 use Rattle.params_make.proofs.making.Making.+make.Given as goal
@@ -55,6 +55,6 @@ invariant-steps-items l = record {
 abbrev pub invariant-turns-range : goal.invariant-turns-range
 invariant-turns-range l =
     (m : Made) → Stands l.initial.self m
-    → SoFar (turns_made (suc (length l.seen.units.now)) (in_turn (adding l.seen.units.now l.seen.sizes.now l.seen.depth) (suc (length l.seen.units.now)) l.initial.scope.known l.fn.turns.name (steps_of l.steps)) (numbers l.fn.turns.span.low (l.fn.turns.span.end - l.fn.turns.span.low)) m)
-    (turns_made (suc (length l.seen.units.now)) (in_turn (adding l.seen.units.now l.seen.sizes.now l.seen.depth) (suc (length l.seen.units.now)) l.initial.scope.known l.fn.turns.name (steps_of l.steps)) (numbers l.each (l.fn.turns.span.end - l.each)))
+    → SoFar (turns_made (suc (length l.seen.units.now)) (turn_steps (adding l.seen.units.now l.seen.sizes.now l.seen.depth) (suc (length l.seen.units.now)) l.initial.scope.known l.fn.turns.name (steps_of l.steps)) (numbers_from l.fn.turns.span.low (l.fn.turns.span.end - l.fn.turns.span.low)) m)
+    (turns_made (suc (length l.seen.units.now)) (turn_steps (adding l.seen.units.now l.seen.sizes.now l.seen.depth) (suc (length l.seen.units.now)) l.initial.scope.known l.fn.turns.name (steps_of l.steps)) (numbers_from l.each (l.fn.turns.span.end - l.each)))
     l.initial.scope l.scope l.self

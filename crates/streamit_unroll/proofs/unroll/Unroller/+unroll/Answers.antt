@@ -1,6 +1,6 @@
 use Rattle.streamit_text.specs.Tree.{expression, is_turn, statement, block, optional_block}
 use Rattle.streamit_unroll.specs.View.{Tells}
-use Rattle.streamit_model.specs.Meaning.{numbers}
+use Rattle.streamit_model.specs.Meaning.{numbers_from}
 use Rattle.streamit_model.specs.Elaborate.{step_of, steps_of, unrolled}
 use Rattle.streamit_unroll.specs.Unrolling.{at_of, Reads}
 use Rattle.work_code.specs.Steps.{step, steps, statements, in_turn}
@@ -78,14 +78,14 @@ turns-returns-in_err-turn t c =
     let end = c.args.span.end in
     let body = block c.args.b.now in
     turns_fault c.args.peek body c.args.name low c.loop-v.v end c.args.self.now c.loop-v.self c.turn.new.self c.args.self.now c.turn.new.self c.args.out.now c.loop-v.out c.turn.new.out c.args.out.now c.turn.new.out
-    (unrolled (steps_of c.args.peek body) c.args.name (numbers low (end - low)) (at_of c.args.self.now)) c.from_residual.result c.in_err-turn.field-0.0 (search rules) (search rules) refl c.loop-v.invariant (c.in_err-turn.ensures {u = tt})
+    (unrolled (steps_of c.args.peek body) c.args.name (numbers_from low (end - low)) (at_of c.args.self.now)) c.from_residual.result c.in_err-turn.field-0.0 (search rules) (search rules) refl c.loop-v.invariant (c.in_err-turn.ensures {u = tt})
 
 pub turns-returns : goal.turns-returns
 turns-returns t c =
     let low = c.args.span.low in
     let end = c.args.span.end in
     let body = block c.args.b.now in
-    turns_end c.args.peek body c.args.name low c.loop-v.v end c.args.self.now c.loop-v.self c.args.out.now c.loop-v.out (unrolled (steps_of c.args.peek body) c.args.name (numbers low (end - low)) (at_of c.args.self.now)) (search rules) refl c.loop-v.invariant
+    turns_end c.args.peek body c.args.name low c.loop-v.v end c.args.self.now c.loop-v.self c.args.out.now c.loop-v.out (unrolled (steps_of c.args.peek body) c.args.name (numbers_from low (end - low)) (at_of c.args.self.now)) (search rules) refl c.loop-v.invariant
 
 pub statement-returns-in_ok-span-in-For : goal.statement-returns-in_ok-span-in-For
 statement-returns-in_ok-span-in-For t c =

@@ -1,0 +1,18 @@
+-- The most bytes that a file may have, and the most items that a queue may hold.
+use Rattle.std.specs.Prelude.{ℕ}
+
+-- the bytes of a program
+abbrev pub most_program : ℕ
+most_program = 1048576
+
+-- those of a script
+abbrev pub most_script : ℕ
+most_script = 65536
+
+-- those of the file of an input
+abbrev pub most_input : ℕ
+most_input = 67108864
+
+-- how many items a queue may be told to hold
+abbrev pub most_cap : ℕ
+most_cap = 65536
