@@ -28,6 +28,7 @@ alike_same r s a = record { outs = a.outs; adds = λ u test. ap (count_by test) 
 pub count_by-append : {A : Type 0} (test : A → Bool) (xs ys : List A) → count_by test (xs ++ ys) ≡ count_by test xs + count_by test ys
 count_by-append test xs ys = sum_by-append (λ x. if test x then 1 else 0) xs ys
 
+-- lists that are one bag, put behind lists that are one bag, are one bag with them
 pub bag_append : (xs xs' ys ys' : List (List ℤ)) → SameBag xs xs' → SameBag ys ys' → SameBag (xs ++ ys) (xs' ++ ys')
 bag_append xs xs' ys ys' a b test =
     let h = a test in let j = b test in

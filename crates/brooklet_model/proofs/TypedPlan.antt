@@ -1,4 +1,5 @@
--- In a valid plan, on inputs of their types, all items in all histories are of their queues' types, and each step of the machine keeps this.
+-- In a valid plan, on inputs of their types, all items in all histories are of
+-- their queues' types, and each step of the machine keeps this.
 use Rattle.std.proofs.Common.{◌≡◌, ℕ, zero, suc, ◌+◌, ◌<◌, Option, Some, List, [], ◌∷◌, ◌++◌, map, refl, sym, ap, ◌∙◌, subst, arith, ⊎_elim}
 use Rattle.std.specs.Prelude.{if◌then◌else◌, All, slice_get, unwrap_or}
 use Rattle.std.proofs.lemmas.Bool.{cases_eq}

@@ -8,7 +8,8 @@ use Rattle.brooklet_model.specs.Firings.{Kept}
 use Rattle.brooklet_model.specs.Fire.{fire, first_kept}
 use Rattle.brooklet_model.specs.Histories.{History, joined, tables_of, inputs_of}
 
--- all items ever put into each queue, how many of them were taken, the states of each operator's private variables, and the rows added to each table
+-- all items ever put into each queue, how many of them were taken, the states of each
+-- operator's private variables, and the rows added to each table
 pub record Machine : Type 0 where
   pub hist : History
   pub taken : Name → ℕ

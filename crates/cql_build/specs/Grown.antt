@@ -12,7 +12,8 @@ use Rattle.cql_model.specs.KernelWords.{streamer_of}
 use Rattle.cql_model.specs.Plannable.{IsPlannableQuery}
 use Rattle.cql_model.specs.Faults.{IsShortName}
 use Rattle.cql_model.specs.Scopes.{Named, scope_of}
-use Rattle.cql_model.specs.Translation.{op, at_word, cross_decls, out_name, out_ops, out_decls, decl, decls_of, copy_names, copy_decls, copy_ops, select_decls, select_ops, project_decls, widths_of, columns_width}
+use Rattle.cql_model.specs.Translation.{op, at_word, cross_decls, out_name, out_ops, out_decls}
+use Rattle.cql_model.specs.Translation.{decl, decls_of, copy_names, copy_decls, copy_ops, select_decls, select_ops, project_decls, widths_of, columns_width}
 use Rattle.cql_model.specs.Translation.{window_decls, window_ops, queues_of_uses, tail_ops, query_decls, query_ops, output_decls, queries_decls, queries_ops}
 use Rattle.cql_model.specs.Program.{streams_of}
 use Rattle.cql_text.specs.Tree.{Scalar, Source, Query, Part, Register, AQuery, Program}

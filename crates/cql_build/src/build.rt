@@ -81,7 +81,8 @@ fn window(
     source: &Source,
     from: Name,
 ) -> Result<(), NoMemory>
-    ensures { OnOk result (Grew raw.old raw.new [] (decl name kind ∷ []) (op name (window (kernel_window (window_of source.now.window))) (from ∷ []) (name ∷ []) (name ∷ []) ∷ [])) }
+    ensures { OnOk result (Grew raw.old raw.new [] (decl name kind ∷ [])
+        (op name (window (kernel_window (window_of source.now.window))) (from ∷ []) (name ∷ []) (name ∷ []) ∷ [])) }
 {
     let op = window_op(alloc, name, source.window, from)?;
     add(raw, op, name, kind)
@@ -200,7 +201,8 @@ fn chosen(
     requires short { length query ≤ 40 }
     requires narrow { widths_of (scope items.now) ≤ 16 }
     requires few { length columns.now < 2 ^ 32 }
-    ensures grew { OnOk result (Grew raw.old raw.new [] (project_decls query (Chosen (chosen_of columns.now))) (project_ops query (scope items.now) last (Chosen (chosen_of columns.now)))) }
+    ensures grew { OnOk result (Grew raw.old raw.new [] (project_decls query (Chosen (chosen_of columns.now)))
+        (project_ops query (scope items.now) last (Chosen (chosen_of columns.now)))) }
     ensures last { IfOk result (λ name. name ≡ project_last query last (Chosen (chosen_of columns.now))) }
 {
     let name = marked(alloc, query, Mark::Project)?;

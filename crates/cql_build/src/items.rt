@@ -37,9 +37,11 @@ impl Known {
     // The width of a product with one item more; or the fault of this item.
     fn width_with(&self, before: &[Source], width: usize, source: &Source) -> Result<usize, Fault>
         requires { width ≤ 16 }
-        ensures good { (ks : List Named) → Knows self.now ks → width ≡ widths_of (scope_of ks (sources_of before.now)) → IfOk result (IsWidthWith ks (sources_of before.now) (source_of source.now)) }
+        ensures good { (ks : List Named) → Knows self.now ks → width ≡ widths_of (scope_of ks (sources_of before.now))
+            → IfOk result (IsWidthWith ks (sources_of before.now) (source_of source.now)) }
         ensures within { IfOk result (λ wider. wider ≤ 16) }
-        ensures bad { (ks : List Named) → Knows self.now ks → width ≡ widths_of (scope_of ks (sources_of before.now)) → IfErr result (IsFaultBehind ks (sources_of before.now) (source_of source.now)) }
+        ensures bad { (ks : List Named) → Knows self.now ks → width ≡ widths_of (scope_of ks (sources_of before.now))
+            → IfErr result (IsFaultBehind ks (sources_of before.now) (source_of source.now)) }
     {
         let Some(fields) = self.fields(source.stream) else {
             return Err(Fault::UnknownStream);

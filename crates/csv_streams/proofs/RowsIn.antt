@@ -9,6 +9,7 @@ use Rattle.csv_streams.specs.declared.fault.InFault.{InFault}
 use Rattle.csv_streams.specs.declared.fault.InFault.TheVariants as fault
 use Rattle.csv_streams.proofs.Numbered.{numbered-push, numbered-fault}
 
+-- rows without a fault
 abbrev pub told : List (List ℤ) → Result (List (List ℤ)) InFault
 told rows = Ok rows
 

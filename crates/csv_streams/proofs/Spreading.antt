@@ -15,6 +15,7 @@ use Rattle.river_base.specs.Instants.{at_instant}
 use Rattle.csv_streams.specs.SpreadOut.{IsFirstItem, IsEnd}
 use Rattle.csv_streams.specs.Timed.{Entry}
 
+-- the timestamp of an entry
 abbrev pub stamp : Entry → ℤ
 stamp e = e.0
 

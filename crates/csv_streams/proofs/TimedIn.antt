@@ -11,6 +11,7 @@ use Rattle.csv_streams.specs.declared.fault.InFault.TheVariants as fault
 use Rattle.csv_streams.proofs.Numbered.{first_and_later}
 use Rattle.csv_streams.proofs.RowsIn.{row_within}
 
+-- entries without a fault
 abbrev pub all_told : List Entry → Result (List Entry) InFault
 all_told es = Ok es
 

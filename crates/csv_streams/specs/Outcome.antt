@@ -25,7 +25,8 @@ abbrev pub texts_of : {A : Type 0} → (A → List ℕ) → List A → List ℕ
 texts_of line [] = []
 texts_of line (x ∷ xs) = line x ++ texts_of line xs
 
--- the rows that an item prints: a row, or a batch's rows in ascending order, each behind the batch's instant. No output carries packs or changes
+-- the rows that an item prints: a row, or a batch's rows in ascending order, each
+-- behind the batch's instant. No output carries packs or changes
 abbrev pub item_rows : item.Item → List (List ℤ)
 item_rows (Flat (One row)) = row ∷ []
 item_rows (Flat (Batched b)) = map (λ row. b.at ∷ row) (in_order b.rows)

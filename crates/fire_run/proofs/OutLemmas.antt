@@ -207,6 +207,7 @@ end_here p h o j n a outs f k lt e =
 pub ends_next : (p : PlanForm) (h : History) (o j : ℕ) (outs : List outlet.Outlet) → HasOuts p h o j outs → HasOuts p h o (j + 1) outs
 ends_next p h o j outs k = record { many = k.many; each = λ i op q f le g w gf. k.each i op q f (omega (arith, le)) g w gf }
 
+-- the ends behind a port, where the end at the port is another
 pub ends_set : (p : PlanForm) (h : History) (o j : ℕ) (outs : List outlet.Outlet) (f : outlet.Outlet) → HasOuts p h o j outs
     → HasOuts p h o (j + 1) (set outs j f)
 ends_set p h o j outs f k = record {

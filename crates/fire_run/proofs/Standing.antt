@@ -42,6 +42,7 @@ use Rattle.fire_run.proofs.CellLemmas.{cells_again}
 
 -- A MOVE THAT CAN BE MADE
 
+-- a task of a plan has fewer than 2^32 inlets
 pub few_ports : (p : PlanForm) (adds : ℕ → List (List ℤ)) (t : Task) → IsPlan p → IsTask p adds t → length t.ins < 2 ^ 32
 few_ports p adds t v k = let f = ports_few p.ops t.op k.op (v.within Ports) k.op_is in let i = k.ins in omega (arith, f, i)
 

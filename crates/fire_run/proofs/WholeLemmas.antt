@@ -122,6 +122,7 @@ module _ (p : PlanForm) (inputs : List (List item.Item)) (caps : Capacities) (ne
   unfolding ws make
   whole = done_law p inputs ws v make.joins.net.words are_done
 
+  -- what the tasks sent and what the logs tell is what is defined for the whole net
   pub whole_net : IsWholeNet p inputs net.cells net.tasks
   unfolding ws make
   whole_net = record {

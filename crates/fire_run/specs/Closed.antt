@@ -46,8 +46,8 @@ abbrev pub AreReplayed : PlanForm → (ℕ → List LogEntry) → List Kept → 
 AreReplayed p logs tables = (n : ℕ) (t : TableDecl) → slice_get p.tables n ≡ Some t
     → slice_get tables n ≡ Some (kept_of t.kind (rows_to n (logs (table_class p n))))
 
--- the outputs, the tables and the counts are what the plan means on these inputs; the logs tell where the rows come from; and the rounds are
--- at most 1 more than twice the items of the histories
+-- the outputs, the tables and the counts are what the plan means on these inputs; the logs tell where the rows come from; and the rounds
+-- are at most 1 more than twice the items of the histories
 pub record IsRanOf (p : PlanForm) (inputs : List (List item.Item)) (ran : Ran) : Type 0 where
   pub outs : ran.outcome.outs ≡ (meaning p inputs).outs
   pub tables : ran.outcome.tables ≡ defined_tables p inputs

@@ -54,8 +54,8 @@ pub record AreSeatedIn (f : Framed) (bundles : List Bundle) : Type 0 where
   pub lot : TableId
   pub each : (k : ℕ) (d : Bundle) → k < length bundles → SitsAt lot f k (slice_index_or bundles k d).seat
 
--- bundle number k of the frame, which was not refused: it has a task for each operator of part k, in ascending order, with the ends that the
--- net's task has
+-- bundle number k of the frame, which was not refused: it has a task for each operator of part k, in ascending order, with the ends that
+-- the net's task has
 pub record IsBundleAt (p : PlanForm) (f : Framed) (k : ℕ) (b : Bundle) : Type 0 where
   pub bundle : IsBundle p b
   pub calm : b.refused ≡ false
@@ -97,7 +97,8 @@ pub record HaveWorked (raw : RawPlan) (bundles bundles' : List Bundle) : Type 0 
 abbrev pub AreCalm : List Bundle → Type 0
 AreCalm bundles = All (λ b. b.refused ≡ false) bundles
 
--- the items that the tasks of bundles took and sent do not become fewer; they become more where one says that it moved, and stay where none does
+-- the items that the tasks of bundles took and sent do not become fewer; they become
+-- more where one says that it moved, and stay where none does
 pub record HasToldMoves (bundles bundles' : List Bundle) : Type 0 where
   pub never_fall : bundle_moves bundles ≤ bundle_moves bundles'
   pub grew : (i : ℕ) (d : Bundle) → i < length bundles' → (slice_index_or bundles' i d).moved ≡ true → bundle_moves bundles < bundle_moves bundles'

@@ -13,9 +13,9 @@ use Rattle.fire_open.specs.Homes.{AreClassCells}
 use Rattle.fire_open.specs.Links.{AreLinks}
 use Rattle.fire_run.specs.declared.net.Net.{Net}
 
--- a net of this plan, these inputs and these capacities: a task for each operator, which keeps the facts of itself and added what the logs of
--- the cells have of it; rings between the tasks, whose ends know of each other; and a cell for each lock class, in whose log no other
--- operator stands. That it is a net in the sense of the bounded machine follows
+-- a net of this plan, these inputs and these capacities: a task for each operator, which keeps the facts of itself and added what the
+-- logs of the cells have of it; rings between the tasks, whose ends know of each other; and a cell for each lock class, in whose log no
+-- other operator stands. That it is a net in the sense of the bounded machine follows
 pub record IsNetOf (p : PlanForm) (inputs : List (List item.Item)) (caps : Capacities) (net : Net) : Type 0 where
   pub typed : AreInputs p.inputs inputs
   pub room : (q : Name) → 0 < caps q

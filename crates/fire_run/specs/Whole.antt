@@ -22,8 +22,9 @@ use Rattle.fire_run.specs.NetOf.{IsNetOf, AreIdle}
 abbrev pub sent_hist : PlanForm → List (List item.Item) → History
 sent_hist p inputs q = held (kind_of (all_decls p) q) [] (hist p inputs q)
 
--- each task sent what each queue that it writes holds for the defined history, and fired as often as is defined; the rows of each operator in the logs
--- are those defined for each of its tables, as a bag, and in order where it has one input. No other operator stands in a log
+-- each task sent what each queue that it writes holds for the defined history, and fired as often as is defined; the rows of each
+-- operator in the logs are those defined for each of its tables, as a bag, and in order where it has one input. No other operator stands
+-- in a log
 pub record IsWholeNet (p : PlanForm) (inputs : List (List item.Item)) (cells : List Holding) (ts : List Task) : Type 0 where
   pub sent : (o j : ℕ) (op : OpForm) (q : Name) (t : Task) → slice_get p.ops o ≡ Some op → slice_get op.writes j ≡ Some q → slice_get ts o ≡ Some t
       → list_at (sent_in t.outs) j ≡ sent_hist p inputs q

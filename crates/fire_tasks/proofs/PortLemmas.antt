@@ -42,6 +42,7 @@ received_more [] i x more lt e = refl
 received_more (y ∷ ys) zero x more lt e = ap (λ l. l ∷ received_in ys) e
 received_more (y ∷ ys) (suc i) x more lt e = ap (λ l. received_of y ∷ l) (received_more ys i x more (omega (arith, lt)) e)
 
+-- where one outlet has sent one item more, one more was sent in all
 pub sent_more : (xs : List outlet.Outlet) (i : ℕ) (x : outlet.Outlet) (y : item.Item) → i < length xs → sent_of x ≡ sent_of (get_or xs i x) ++ y ∷ [] → sent_count (set xs i x) ≡ sent_count xs + 1
 sent_more [] i x y lt e = absurd (omega (arith, lt))
 sent_more (o ∷ os) zero x y lt e = let a = ap length e in let b = length-append (sent_of o) (y ∷ []) in omega (arith, a, b)

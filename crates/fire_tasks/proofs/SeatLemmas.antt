@@ -147,6 +147,7 @@ turned_all P xs h = subst (All P) (reverse-reverse xs) (turn (reverse xs) h)
     turn (y ∷ ys) a = subst (All P) (sym (reverse-append (y ∷ []) ys)) (All-append P (reverse ys) (y ∷ []) (turn ys (All-tail P y ys a)) (All-cons P y [] (All-head P y ys a) (All-nil P)))
 
 module _ (v u w : View) (classes : List ℕ) (pile pile' : List Piled) (more : ℕ → List LogEntry) (t : HasTaken classes v u pile) (e : pile' ≡ pile_grown more pile) (put : HasPut u w pile') where
+  -- where the classes were taken and put, the seat is of the same round
   pub same_round : SameRound v w
   same_round = record { seats = put.seats ∙ t.looked.seats; starts = put.starts ∙ t.looked.starts; parts = put.parts ∙ t.looked.parts }
 

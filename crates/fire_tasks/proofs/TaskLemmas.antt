@@ -111,6 +111,7 @@ module _ (p : PlanForm) (v : IsPlan p) (t : Task) (adds : ℕ → List (List ℤ
   numbers_are : map (λ (h : TablePort). h.table) t.tables ≡ places (table_names p.tables) (tables_of (table_names p.tables) k.op)
   numbers_are = k.homes.numbers ∙ ap (table_numbers p) k.op_is
 
+  -- a task has as many tables as its operator's kernel adds to
   pub tables_many : length t.tables ≡ tabs k.op.kernel
   tables_many =
       sym (length-map t.tables (λ (h : TablePort). h.table)) ∙ ap length numbers_are
@@ -166,6 +167,7 @@ module _ (p : PlanForm) (v : IsPlan p) (t : Task) (adds : ℕ → List (List ℤ
         };
       }
 
+  -- what is kept for the next firing is blank for the operator
   pub blank_op : IsBlankOf p t.op t.out
   blank_op = record { blank = λ op g. let e : k.op ≡ op = some_is k.op op (sym k.op_is ∙ g) in subst (λ (o : OpForm). IsBlank o.kernel t.out) e k.blank }
 

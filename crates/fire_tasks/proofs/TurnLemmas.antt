@@ -35,15 +35,19 @@ use Rattle.fire_tasks.proofs.TaskLemmas.{got_at, table_there, tables_many, with_
 same_here : (v : View) → SameRound v v
 same_here v = record { seats = refl; starts = refl; parts = refl }
 
+-- the same round twice is the same round
 pub round_then : (v u w : View) → SameRound v u → SameRound u w → SameRound v w
 round_then v u w a b = record { seats = b.seats ∙ a.seats; starts = b.starts ∙ a.starts; parts = b.parts ∙ a.parts }
 
+-- a seat that holds no class still sits
 pub sits_none : (v : View) → v.held ≡ [] → StillSits v v
 sits_none v h = record { round = same_here v; rests = h }
 
+-- a seat that still sits after one step and after the next still sits after both
 pub sits_then : (v u w : View) → StillSits v u → StillSits u w → StillSits v w
 sits_then v u w a b = record { round = round_then v u w a.round b.round; rests = b.rests }
 
+-- more tries and then more are more tries
 pub tries_then : (v u w : View) → HasMoreTries v u → HasMoreTries u w → HasMoreTries v w
 tries_then v u w a b = record { more = a.more ++ b.more; takes = b.takes ∙ ap (λ (l : List Tried). l ++ b.more) a.takes ∙ append_assoc v.takes a.more b.more }
 
@@ -85,6 +89,7 @@ stuck_since v u w t a (inl bad) = inl bad
 stuck_since v u w t a (inr (inl waits)) = inr (inl waits)
 stuck_since v u w t a (inr (inr f)) = inr (inr (found_since t.classes v u w a f))
 
+-- a task that is stuck is stuck still when more tries have come
 pub stuck_still : (v u w : View) (t : Task) → HasMoreTries u w → IsStuckSince v u t → IsStuckSince v w t
 stuck_still v u w t b (inl bad) = inl bad
 stuck_still v u w t b (inr (inl waits)) = inr (inl waits)
@@ -92,6 +97,7 @@ stuck_still v u w t b (inr (inr f)) = inr (inr (found_still t.classes v u w f b)
 
 -- TURNS ONE AFTER ANOTHER
 
+-- where an operator sat, the view has more tries, or as many
 pub tries_of : (p : PlanForm) (o : ℕ) (v w : View) → HasSat p o v w → HasMoreTries v w
 tries_of p o v w h = record { more = h.more; takes = h.takes }
 
@@ -291,6 +297,7 @@ turned_sent p v t os ls m k h s r busy = record {
 abbrev pub looked : Task → List outlet.Outlet → List (List item.Item) → List inlet.Inlet → Task
 looked t os ls ins = record t { ins = ins; outs = os; pending = ls }
 
+-- a task that sent, and looked at inlets with the same ends and the same items received, is at the seat still
 pub looked_at : (p : PlanForm) (v : View) (t : Task) (os : List outlet.Outlet) (ls : List (List item.Item)) (m : Bool) (ins : List inlet.Inlet) → IsTaskAt p v t
     → Sent t.outs t.pending os ls m → in_ends ins ≡ in_ends t.ins → received_in ins ≡ received_in t.ins → IsTaskAt p v (looked t os ls ins)
 looked_at p v t os ls m ins k s e r =

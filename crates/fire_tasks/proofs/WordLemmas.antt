@@ -80,6 +80,7 @@ pub record Longer (types : List QueueType) (w is : Word) (port : ℕ) (i : item.
   pub held : IsHeldAs types before is
   pub next : held_at types port (at_port port before) (item ∷ []) ≡ i ∷ []
 
+-- a word of these types that is held as one item more is a longer word
 pub longer_word : (types : List QueueType) (w is : Word) (port : ℕ) (i : item.Item) → IsWordOf types w → IsHeldAs types w (is ++ (port, i) ∷ []) → Longer types w is port i
 longer_word types [] is port i a h =
     let l = ap length (h.ports ∙ ports-append is ((port, i) ∷ [])) in

@@ -1,5 +1,6 @@
 -- Turns of a task at a seat, and why a task does not move.
-use Rattle.std.specs.Prelude.{◌≡◌, ◌≢◌, ℕ, ℤ, suc, ◌%◌, ◌+◌, ◌⊎◌, Bool, IsFalse, Some, None, List, [], ◌∷◌, ◌++◌, length, map, All, nat_eq, slice_get, slice_index_or, replicate, if◌then◌else◌}
+use Rattle.std.specs.Prelude.{◌≡◌, ◌≢◌, ℕ, ℤ, suc, ◌%◌, ◌+◌, ◌⊎◌, Bool, IsFalse, Some}
+use Rattle.std.specs.Prelude.{None, List, [], ◌∷◌, ◌++◌, length, map, All, nat_eq, slice_get, slice_index_or, replicate, if◌then◌else◌}
 use Rattle.river_plan.specs.declared.plan.TableDecl.{TableDecl}
 use Rattle.river_base.specs.Places.{list_at}
 use Rattle.river_plan.specs.Forms.{PlanForm}

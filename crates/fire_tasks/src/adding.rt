@@ -44,7 +44,8 @@ fn add_at(
     pile: &mut Pile,
 ) -> Result<(), NoMemory>
     requires { (x : Piled) × (slice_get pile.old.items to.place ≡ Some x) × TakesRows x.1.kinds to.table rows.old }
-    ensures ok { (x : Piled) → slice_get pile.old.items to.place ≡ Some x → OnOk result (pile.new.items ≡ slice_set pile.old.items to.place (cell_with_rows op to.table rows.old x)) }
+    ensures ok { (x : Piled) → slice_get pile.old.items to.place ≡ Some x
+        → OnOk result (pile.new.items ≡ slice_set pile.old.items to.place (cell_with_rows op to.table rows.old x)) }
     ensures blank { OnOk result (rows.new ≡ []) }
     ensures err { OnErr result (pile.new.items ≡ pile.old.items) }
 {

@@ -88,7 +88,8 @@ impl Outlet {
     pub fn push(&mut self, item: Item) -> Result<Option<Item>, NoMemory>
         ensures same { out_end self.new ≡ out_end self.old }
         ensures room { HasRoom self.old → IfOk result IsNone }
-        ensures sent { IfOk result (λ r. MatchOption r (sent_of self.new ≡ sent_of self.old ++ item ∷ []) (λ back. (back ≡ item) × (sent_of self.new ≡ sent_of self.old) × IsFull self.new)) }
+        ensures sent { IfOk result (λ r. MatchOption r (sent_of self.new ≡ sent_of self.old ++ item ∷ [])
+            (λ back. (back ≡ item) × (sent_of self.new ≡ sent_of self.old) × IsFull self.new)) }
         ensures err { OnErr result (sent_of self.new ≡ sent_of self.old) }
     {
         match self {

@@ -13,6 +13,7 @@ one_turned : (k : ℕ) (z : TableId) (old new : Worker) → old.seat ≡ record 
 one_turned k z old new seat op calm h now =
     subst (λ (n : ℕ). HasWorked n new.added (first_view k) new.seat.view) op (subst (λ (v : View). HasWorked old.op new.added v new.seat.view) (ap (λ (c : Chair). c.view) seat) (h.worked calm now))
 
+-- where each worker of a crew has turned, the crew has
 pub turned : (old new : List Worker) → AreSeated old → length new ≡ length old
     → ((i : ℕ) (d : Worker) → i < length old → HasTurned (slice_index_or old i d) (slice_index_or new i d)) → HaveTurned new
 turned old [] s n each = absurd (let m = ap length s.both in omega (arith, n, m))

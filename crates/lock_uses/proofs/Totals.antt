@@ -80,6 +80,7 @@ module _ (a b : ℕ) (v w : View) (one : HasWorked 0 a (first_view 0) v) (two : 
       ∙ (l.owns 0 (both v w) refl k (has_part k lt)
       ∙ (ap (λ (n : ℕ). own n k c (both v w).claims) seats_are ∙ ap (own 2 k c) claims_are)))
 
+  -- cells that have grown as both views tell have the total of the visits
   pub total : (cells : List Holding) → HasGrown (both v w) cells → HasTotal a b cells
   total cells h =
       let many : length cells ≡ 2 = h.as_many ∙ ap length starts_are in

@@ -39,6 +39,7 @@ pub from-place : (k : ℕ) (ps : List (List ℕ)) (items : List written.Statemen
     ≡ judged_then (statement_judged k ps (statement c)) (block_judged k ps (in_turn (map statement (drop (i + 1) items))))
 from-place k ps items i c lt is = ap (λ l. block_judged k ps (in_turn l)) (at_place statement items i c lt is)
 
+-- behind the last statement nothing is left to judge
 pub at-end : (k : ℕ) (ps : List (List ℕ)) (items : List written.Statement) (i : ℕ) → length items ≤ i → block_judged k ps (in_turn (map statement (drop i items))) ≡ no_fault
 at-end k ps items i h = ap (λ l. block_judged k ps (in_turn l)) (none_left statement items i h)
 
@@ -48,6 +49,7 @@ pub steps-place : (k : ℕ) (us : Above) (ks : List (List ℕ)) (items : List St
     ≡ judged_then (step_judged k us ks (step_of s)) (steps_judged k us ks (in_order (map step_of (drop (i + 1) items))))
 steps-place k us ks items i s lt is = ap (λ l. steps_judged k us ks (in_order l)) (at_place step_of items i s lt is)
 
+-- behind the last step nothing is left to judge
 pub steps-end : (k : ℕ) (us : Above) (ks : List (List ℕ)) (items : List Step) (i : ℕ) → length items ≤ i
     → steps_judged k us ks (in_order (map step_of (drop i items))) ≡ no_fault
 steps-end k us ks items i h = ap (λ l. steps_judged k us ks (in_order l)) (none_left step_of items i h)

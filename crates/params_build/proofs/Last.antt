@@ -68,10 +68,12 @@ top-at (u ∷ us) sizes d lt is =
         let s = same vs in
         omega (arith, h, s)
 
+-- where the length is 0 there are no parameters
 pub has-none : (ps : List (List ℕ)) → length ps ≡ 0 → has_none ps ≡ true
 has-none [] h = refl
 has-none (p ∷ ps) h = absurd (omega (arith, h))
 
+-- and where it is not there are some
 pub has-some : (ps : List (List ℕ)) → (length ps ≡ 0 → ⊥) → has_none ps ≡ false
 has-some [] h = absurd (h refl)
 has-some (p ∷ ps) h = refl

@@ -93,7 +93,9 @@ fn optional_block(params: &[Name], all: &Option<Block>) -> Result<(), Fault>
 
 // The rates.
 fn rates(params: &[Name], rates: &ParamRates) -> bool
-    ensures { result ≡ (known_option params.now (optional expression rates.now.push) && (known_option params.now (optional expression rates.now.pop) && known_option params.now (optional expression rates.now.peek))) }
+    ensures { result
+        ≡ (known_option params.now (optional expression rates.now.push)
+        && (known_option params.now (optional expression rates.now.pop) && known_option params.now (optional expression rates.now.peek))) }
 {
     known_option(params, &rates.push)
         && known_option(params, &rates.pop)
@@ -130,7 +132,9 @@ fn works(params: &[Name], tree: &ParamFilter) -> Result<(), Fault>
 
 // What stands behind the fields.
 fn blocks(params: &[Name], tree: &ParamFilter) -> Result<(), Fault>
-    ensures { (k : ℕ) → Judges k result (judged_then (optional_judged k params.now (optional_block tree.now.init)) (judged_then (prework_judged k params.now (optional work_of tree.now.prework)) (work_judged k params.now (work_of tree.now.work)))) }
+    ensures { (k : ℕ)
+        → Judges k result (judged_then (optional_judged k params.now (optional_block tree.now.init))
+        (judged_then (prework_judged k params.now (optional work_of tree.now.prework)) (work_judged k params.now (work_of tree.now.work)))) }
 {
     optional_block(params, &tree.init)?;
     works(params, tree)

@@ -19,7 +19,9 @@ use streamit_text::Expr;
 
 // The arguments of an `add`, and how many there are.
 fn given(above: &StreamsAbove, known: &[Name], name: &Name, args: &Vec<Expr>) -> Result<(), Fault>
-    ensures { (k : ℕ) (us : Above) → CountsParameters above.now us → Judges k result (judged_then (demand (all_known known.now (expressions args.now)) k UnknownName) (demand (has_arity (look us name.now) (length args.now.items)) k Arity)) }
+    ensures { (k : ℕ) (us : Above) → CountsParameters above.now us
+        → Judges k result (judged_then (demand (all_known known.now (expressions args.now)) k UnknownName)
+        (demand (has_arity (look us name.now) (length args.now.items)) k Arity)) }
 {
     if !all_known(known, args) {
         return Err(Fault::UnknownName);
@@ -29,7 +31,9 @@ fn given(above: &StreamsAbove, known: &[Name], name: &Name, args: &Vec<Expr>) ->
 
 // An `add`.
 fn add(above: &StreamsAbove, known: &[Name], name: &Name, args: &Vec<Expr>) -> Result<(), Fault>
-    ensures { (k : ℕ) (us : Above) → CountsParameters above.now us → Judges k result (judged_then (demand (is_there (look us name.now)) k UnknownName) (judged_then (demand (all_known known.now (expressions args.now)) k UnknownName) (demand (has_arity (look us name.now) (length args.now.items)) k Arity))) }
+    ensures { (k : ℕ) (us : Above) → CountsParameters above.now us
+        → Judges k result (judged_then (demand (is_there (look us name.now)) k UnknownName)
+        (judged_then (demand (all_known known.now (expressions args.now)) k UnknownName) (demand (has_arity (look us name.now) (length args.now.items)) k Arity))) }
 {
     above.has(name)?;
     given(above, known, name, args)
@@ -37,7 +41,9 @@ fn add(above: &StreamsAbove, known: &[Name], name: &Name, args: &Vec<Expr>) -> R
 
 // The head of a loop.
 fn head(known: &[Name], name: &Name, low: &Expr, high: &Expr) -> Result<(), Fault>
-    ensures { (k : ℕ) → Judges k result (judged_then (demand (not (is_one_of known.now name.now)) k NameTwice) (demand (are_known known.now (expression low.now) && are_known known.now (expression high.now)) k UnknownName)) }
+    ensures { (k : ℕ)
+        → Judges k result (judged_then (demand (not (is_one_of known.now name.now)) k NameTwice)
+        (demand (are_known known.now (expression low.now) && are_known known.now (expression high.now)) k UnknownName)) }
 {
     if is_one_of(known, name) {
         return Err(Fault::NameTwice);

@@ -71,7 +71,9 @@ fn joined(
     params: &[Name],
     all: &ParamSplitJoin,
 ) -> Result<(), Fault>
-    ensures { (k : ℕ) (us : Above) → CountsParameters above.now us → Judges k result (judged_then (steps_judged k us params.now (steps_of all.now.steps)) (demand (all_known_option params.now (rounds_of all.now.join)) k UnknownName)) }
+    ensures { (k : ℕ) (us : Above) → CountsParameters above.now us
+        → Judges k result (judged_then (steps_judged k us params.now (steps_of all.now.steps))
+        (demand (all_known_option params.now (rounds_of all.now.join)) k UnknownName)) }
 {
     all_steps(alloc, above, params, &all.steps)?;
     weights(params, &all.join)
@@ -84,7 +86,9 @@ fn split_join(
     params: &[Name],
     all: &ParamSplitJoin,
 ) -> Result<(), Fault>
-    ensures { (k : ℕ) (us : Above) → CountsParameters above.now us → Judges k result (judged_then (dealing_judged k params.now (dealing_of all.now.split)) (judged_then (steps_judged k us params.now (steps_of all.now.steps)) (demand (all_known_option params.now (rounds_of all.now.join)) k UnknownName))) }
+    ensures { (k : ℕ) (us : Above) → CountsParameters above.now us
+        → Judges k result (judged_then (dealing_judged k params.now (dealing_of all.now.split))
+        (judged_then (steps_judged k us params.now (steps_of all.now.steps)) (demand (all_known_option params.now (rounds_of all.now.join)) k UnknownName))) }
 {
     dealing(params, &all.split)?;
     joined(alloc, above, params, all)
@@ -103,7 +107,8 @@ fn body(alloc: Global, above: &StreamsAbove, params: &[Name], body: &ParamBody) 
 
 // The parameters, and what is declared.
 fn inner(alloc: Global, above: &StreamsAbove, unit: &ParamUnit) -> Result<(), Fault>
-    ensures { (k : ℕ) (us : Above) → CountsParameters above.now us → Judges k result (judged_then (new_names k [] unit.now.params.items) (body_judged k us unit.now.params.items (body_of unit.now.body))) }
+    ensures { (k : ℕ) (us : Above) → CountsParameters above.now us
+        → Judges k result (judged_then (new_names k [] unit.now.params.items) (body_judged k us unit.now.params.items (body_of unit.now.body))) }
 {
     let params = unit.params.as_slice();
     new_names(params)?;

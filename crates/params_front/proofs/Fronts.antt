@@ -212,6 +212,7 @@ pub read-written : (marks : List Mark) (ds : List ParamUnit) (sizes : List ℕ) 
 read-written marks ds sizes w h are made =
     (made.0, tokens-made marks (program_of ds) h ∙ ap (λ l. or_fault (program_of ds) (elaborated (program_of ds) l)) (sym are) ∙ ap (or_fault (program_of ds)) made.1, made.2, made.3)
 
+-- the fault of a program is the fault of the tokens that stand for it
 pub read-refused : (marks : List Mark) (ds : List ParamUnit) (sizes : List ℕ) (fault : ParamFault) → StandFor marks (program_of ds) → sizes ≡ sizes_of marks
     → Refused (or_fault (program_of ds) (elaborated (program_of ds) sizes)) fault → Refused (of_tokens marks) fault
 read-refused marks ds sizes fault h are is =

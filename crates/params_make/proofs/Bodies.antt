@@ -27,6 +27,7 @@ use Rattle.params_make.proofs.Sources.{sources-more}
 abbrev one_name : Name × Made → Result (List Name × Made) model.Refusal
 one_name x = fine (x.0 ∷ [], x.1)
 
+-- where an `add` makes an instance, the child stands behind the others, and the same names are known
 pub add-made : (add : Adding) (k : ℕ) (env : Environment) (n : Name) (cs : List Expression) (zs : List ℤ) (m m' : Made) (i : Instance) (old new : Scope) (s : Making)
     → zs ≡ map (value env) cs → add n zs m ≡ Ok (name_written i, m') → Stands s m' → new.children ≡ old.children ++ i ∷ [] → new.known ≡ old.known
     → MakesMore (Ok tt) old new s (made_once add k env (Add n cs) m)
@@ -45,6 +46,7 @@ add-told add k env n cs zs m e z h = told-on e.unit e.fault (add n (map (value e
 
 -- A LOOP
 
+-- a loop makes what its turns make, from the low bound up to the end
 pub loop-is : (add : Adding) (k : ℕ) (env : Environment) (n : Name) (lo : Expression) (upto : Bool) (hi : Expression) (ss : Steps) (m : Made) (s : Span)
     → Spans (Some s) (value env lo) upto (value env hi)
     → made_once add k env (Loop n lo upto hi ss) m ≡ turns_made k (turn_steps add k env n ss) (numbers_from s.low (s.end - s.low)) m
@@ -92,6 +94,7 @@ module _ (add : Adding) (k : ℕ) (env : Environment) (ss : Steps) (m : Made) wh
   abbrev counted : List Name × Made → Result (plain.Adds × Made) model.Refusal
   counted x = on_fine (adds_of k x.0) (λ a. fine (a, x.1))
 
+  -- the steps of a body that had no children, and has some now, have made them all
   pub all-made : (old new : Scope) (s : Making) → old.children ≡ [] → MakesMore (Ok tt) old new s (steps_made add k env ss m) → (new.children ≡ [] → ⊥)
       → MakesAll (Ok tt) old new s (children_made add k env ss m)
   all-made old new s none r some =
@@ -118,6 +121,7 @@ module _ (add : Adding) (k : ℕ) (env : Environment) (ss : Steps) (m : Made) wh
 -- AN INSTANCE
 
 module _ (add : Adding) (u : SourceUnit) (depth : ℕ) (env : Environment) (m : Made) where
+  -- where an instance is begun, it is made as its body is
   pub make-begun : (r : Result Instance Refusal) (new : Making) (t : Made) → begin u depth m ≡ Ok t
       → MakesOne r new (bodied add u.unit u.stream.name env u.stream.body t) → MakesOne r new (make add u depth env m)
   make-begun r new t h g = subst (MakesOne r new) (sym (ap (λ q. on_fine q (bodied add u.unit u.stream.name env u.stream.body)) h)) g
@@ -133,6 +137,7 @@ top-is us i u sizes len e =
     let all : take (i + 1) us ≡ us = take_all (i + 1) us (omega (arith, len)) in
     ap (λ l. last_made (sources l sizes)) (sym all) ∙ ap last_made (sources-more us i u sizes (omega (arith, len)) e)
 
+-- what the last stream makes without arguments is what the units make
 pub top-made : (us : List ParamUnit) (i j : ℕ) (u : ParamUnit) (sizes : List ℕ) (env : Environment) (name : Name) (m : Made) → i + 1 ≡ length us → u ≡ get_or us i u
     → j ≡ i → env ≡ [] → make (adding (take i us) sizes 2) (source_at j sizes (declared_of u)) 1 env nothing_made ≡ Ok (name, m)
     → last_made (sources us sizes) ≡ Ok m
@@ -142,6 +147,7 @@ top-made us i j u sizes env name m len is e none h =
     ∙ ap (λ v. on_fine (make (adding (take i us) sizes 2) (source_at j sizes (declared_of u)) 1 v nothing_made) (λ x. fine x.1)) (sym none)
     ∙ ap (λ q. on_fine q (λ x. fine x.1)) h
 
+-- the fault of the last stream is the fault of the units
 pub top-told : (us : List ParamUnit) (i j : ℕ) (u : ParamUnit) (sizes : List ℕ) (env : Environment) (r : Refusal) → i + 1 ≡ length us → u ≡ get_or us i u
     → j ≡ i → env ≡ [] → Told r.unit r.fault (make (adding (take i us) sizes 2) (source_at j sizes (declared_of u)) 1 env nothing_made)
     → Told r.unit r.fault (last_made (sources us sizes))

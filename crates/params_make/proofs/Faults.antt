@@ -8,6 +8,7 @@ use Rattle.params_build.specs.declared.fault.Refusal.{Refusal}
 use Rattle.params_build.specs.Told.{refused, Told}
 use Rattle.params_make.specs.Standing.{Blames}
 
+-- a result without a fault
 abbrev pub fine : {A : Type 0} → A → Result A model.Refusal
 fine x = Ok x
 

@@ -37,6 +37,7 @@ pub record SoFar (whole : Added) (rest : Made → Added) (first now : Scope) (ne
   pub grew : names_written now.children ≡ names_written first.children ++ names
   pub known : now.known ≡ first.known
 
+-- before the first child nothing is made yet
 pub so-start : (rest : Made → Added) (scope : Scope) (s : Making) (m : Made) → Stands s m → SoFar (rest m) rest scope scope s
 so-start rest scope s m h = record {
   names = [];
@@ -83,13 +84,16 @@ also-on : (r : Result Made model.Refusal) (f g : Made → Added) → on_fine r (
 also-on (Ok t) f g = refl
 also-on (Err e) f g = refl
 
+-- the turns of a loop are its first turn, and then the others
 pub turns-next : (k : ℕ) (f : ℕ → Made → Added) (v : ℕ) (vs : List ℕ) (m : Made) → turns_made k f (v ∷ vs) m ≡ also (turn_made k f v m) (turns_made k f vs)
 turns-next k f v vs m = also-on (turn k m) (f v) (turns_made k f vs)
 
+-- the numbers from one up to an end are that one and those behind it
 pub numbers-next : (v end : ℕ) → v < end → numbers_from v (end - v) ≡ v ∷ numbers_from (v + 1) (end - (v + 1))
 numbers-next v end lt =
     ap (numbers_from v) (let e : end - v ≡ suc (end - (v + 1)) = omega (arith, lt) in e)
     ∙ ap (λ k. v ∷ numbers_from k (end - (v + 1))) (let e : suc v ≡ v + 1 = omega arith in e)
 
+-- from the end on there are none
 pub numbers-end : (v end : ℕ) → end ≤ v → numbers_from v (end - v) ≡ []
 numbers-end v end le = ap (numbers_from v) (let e : end - v ≡ 0 = omega (arith, le) in e)

@@ -182,6 +182,7 @@ module _ (add : Adding) (k : ℕ) (name : Name) (env : Environment) (d : Dealing
       (told-behind e.unit e.fault (children_made add k env ss m) c joined g
       (told-on e.unit e.fault (demand (are_ranged_option env ws) k Range) (λ y. fine (plain.ASplitJoin (dealing env d) c.0 (option_counts env ws), c.1)) t)))
 
+  -- where its weights are in range and its children are made, a split-join is made and written
   pub split-made : (a : plain.Adds) (m1 : Made) (i : Instance) (new : Making) → demand (is_ranged_dealing env d) k Range ≡ Ok tt
       → children_made add k env ss m ≡ Ok (a, m1) → demand (are_ranged_option env ws) k Range ≡ Ok tt
       → WritesInstance (fine i) new k name (plain.ASplitJoin (dealing env d) a (option_counts env ws)) m1

@@ -81,6 +81,7 @@ passed-at us i v sizes depth n zs m lt vis other =
 
 -- VALUES
 
+-- where the constants of every unit are values, so are those of the first units
 pub values-above : (us : List ParamUnit) (i : ℕ) → AreFitUnits (program_of us) → AreFitUnits (program_of (take i us))
 values-above us zero h = tt
 values-above [] (suc i) h = tt
@@ -91,11 +92,13 @@ values-there [] i d lt h = absurd (omega (arith, lt))
 values-there (u ∷ us) zero d lt h = h.0
 values-there (u ∷ us) (suc i) d lt h = values-there us i d (omega (arith, lt)) h.1
 
+-- where the constants of every unit are values, so are those of each one
 pub values-at : (us : List ParamUnit) (i : ℕ) (u : ParamUnit) → i < length us → u ≡ get_or us i u → AreFitUnits (program_of us) → IsFitUnit (body_of u.body)
 values-at us i u lt e h = subst (λ v. IsFitUnit (body_of v.body)) (sym e) (values-there us i u lt h)
 
 -- HOW FAR THE MAKING CAN GO
 
+-- the size of a body's steps; a filter has none
 abbrev pub body_size : ParamBody → ℕ
 body_size (body.Filter t) = 0
 body_size (body.Pipeline ss) = size-Steps ss
@@ -104,6 +107,7 @@ body_size (body.SplitJoin b) = size-Steps b.steps
 abbrev pub room_of : ParamUnit → ℕ
 room_of u = body_size u.body * 8 + 16
 
+-- the room for what the units make
 abbrev pub room : List ParamUnit → ℕ
 room [] = 0
 room (u ∷ us) = room_of u + room us
@@ -113,5 +117,6 @@ room-there [] i d lt = absurd (omega (arith, lt))
 room-there (u ∷ us) zero d lt = omega arith
 room-there (u ∷ us) (suc i) d lt = let r = room-there us i d (omega (arith, lt)) in omega (arith, r)
 
+-- the units before one, and that one, need no more room than all
 pub room-at : (us : List ParamUnit) (i : ℕ) (u : ParamUnit) → i < length us → u ≡ get_or us i u → room (take i us) + (body_size u.body * 8 + 16) ≤ room us
 room-at us i u lt e = subst (λ v. room (take i us) + room_of v ≤ room us) (sym e) (room-there us i u lt)

@@ -83,7 +83,9 @@ impl Making {
     ) -> Result<Instance, Refusal>
         requires above { AreFitUnits (program_of seen.units.now) }
         requires unit { IsFitUnit (body_of unit.now.body) }
-        ensures { (m : Made) → Stands self.old m → MakesOne result self.new (make (adding seen.entry.units.now seen.entry.sizes.now (suc seen.entry.depth)) (source_at (length seen.entry.units.now) seen.entry.sizes.now (declared_of unit.now)) seen.entry.depth known m) }
+        ensures { (m : Made) → Stands self.old m
+            → MakesOne result self.new (make (adding seen.entry.units.now seen.entry.sizes.now (suc seen.entry.depth))
+            (source_at (length seen.entry.units.now) seen.entry.sizes.now (declared_of unit.now)) seen.entry.depth known m) }
     {
         let size = size_at(seen.sizes, seen.units.len());
         self.begin(seen.units, size, seen.depth)?;
@@ -111,7 +113,9 @@ impl Making {
         requires above { AreFitUnits (program_of seen.units.now) }
         requires body { IsFitUnit (body_of body.now) }
         requires none { scope.old.children ≡ [] }
-        ensures { (m : Made) → Stands self.old m → MakesOne result self.new (bodied (adding seen.entry.units.now seen.entry.sizes.now seen.entry.depth) (suc (length seen.entry.units.now)) name scope.old.known (body_of body.now) m) }
+        ensures { (m : Made) → Stands self.old m
+            → MakesOne result self.new (bodied (adding seen.entry.units.now seen.entry.sizes.now seen.entry.depth)
+            (suc (length seen.entry.units.now)) name scope.old.known (body_of body.now) m) }
     {
         match body {
             ParamBody::Filter(tree) => self.filter(alloc, seen.units, &scope.known, name, tree),
@@ -150,7 +154,9 @@ impl Making {
         requires above { AreFitUnits (program_of seen.units.now) }
         requires steps { HaveFitConstants (steps_of steps.now) }
         requires none { scope.old.children ≡ [] }
-        ensures { (m : Made) → Stands self.old m → MakesOne result self.new (bodied (adding seen.entry.units.now seen.entry.sizes.now seen.entry.depth) (suc (length seen.entry.units.now)) name scope.old.known (APipeline (steps_of steps.now)) m) }
+        ensures { (m : Made) → Stands self.old m
+            → MakesOne result self.new (bodied (adding seen.entry.units.now seen.entry.sizes.now seen.entry.depth)
+            (suc (length seen.entry.units.now)) name scope.old.known (APipeline (steps_of steps.now)) m) }
     {
         self.children(alloc, seen, scope, steps)?;
         let instance = self.write_pipeline(alloc, seen.units, name, scope.children.as_slice())?;
@@ -170,7 +176,9 @@ impl Making {
         requires above { AreFitUnits (program_of seen.units.now) }
         requires body { IsFitUnit (split_join_of all.now) }
         requires none { scope.old.children ≡ [] }
-        ensures { (m : Made) → Stands self.old m → MakesOne result self.new (bodied (adding seen.entry.units.now seen.entry.sizes.now seen.entry.depth) (suc (length seen.entry.units.now)) name scope.old.known (split_join_of all.now) m) }
+        ensures { (m : Made) → Stands self.old m
+            → MakesOne result self.new (bodied (adding seen.entry.units.now seen.entry.sizes.now seen.entry.depth)
+            (suc (length seen.entry.units.now)) name scope.old.known (split_join_of all.now) m) }
     {
         let above = seen.units;
         demand(
@@ -200,7 +208,9 @@ impl Making {
         requires above { AreFitUnits (program_of seen.units.now) }
         requires steps { HaveFitConstants (steps_of steps.now) }
         requires none { scope.old.children ≡ [] }
-        ensures { (m : Made) → Stands self.old m → MakesAll result scope.old scope.new self.new (children_made (adding seen.entry.units.now seen.entry.sizes.now seen.entry.depth) (suc (length seen.entry.units.now)) scope.old.known (steps_of steps.now) m) }
+        ensures { (m : Made) → Stands self.old m
+            → MakesAll result scope.old scope.new self.new (children_made (adding seen.entry.units.now seen.entry.sizes.now seen.entry.depth)
+            (suc (length seen.entry.units.now)) scope.old.known (steps_of steps.now) m) }
     {
         self.steps(alloc, seen, scope, steps)?;
         if scope.children.is_empty() {
@@ -220,7 +230,9 @@ impl Making {
     ) -> Result<(), Refusal>
         requires above { AreFitUnits (program_of seen.units.now) }
         requires steps { HaveFitConstants (steps_of steps.now) }
-        ensures { (m : Made) → Stands self.old m → MakesMore result scope.old scope.new self.new (steps_made (adding seen.entry.units.now seen.entry.sizes.now seen.entry.depth) (suc (length seen.entry.units.now)) scope.old.known (steps_of steps.now) m) }
+        ensures { (m : Made) → Stands self.old m
+            → MakesMore result scope.old scope.new self.new (steps_made (adding seen.entry.units.now seen.entry.sizes.now seen.entry.depth)
+            (suc (length seen.entry.units.now)) scope.old.known (steps_of steps.now) m) }
     {
         'items: for each in steps.items.as_slice() {
             match self.step(alloc, seen, scope, each) {
@@ -242,7 +254,9 @@ impl Making {
     ) -> Result<(), Refusal>
         requires above { AreFitUnits (program_of seen.units.now) }
         requires step { HasFitConstants (step_of step.now) }
-        ensures { (m : Made) → Stands self.old m → MakesMore result scope.old scope.new self.new (made_once (adding seen.entry.units.now seen.entry.sizes.now seen.entry.depth) (suc (length seen.entry.units.now)) scope.old.known (step_of step.now) m) }
+        ensures { (m : Made) → Stands self.old m
+            → MakesMore result scope.old scope.new self.new (made_once (adding seen.entry.units.now seen.entry.sizes.now seen.entry.depth)
+            (suc (length seen.entry.units.now)) scope.old.known (step_of step.now) m) }
     {
         match step {
             Step::Add { name, args } => self.add(alloc, seen, scope, *name, args),
@@ -274,7 +288,9 @@ impl Making {
     ) -> Result<(), Refusal>
         requires above { AreFitUnits (program_of seen.units.now) }
         requires args { AreFit (expressions args.now) }
-        ensures { (m : Made) → Stands self.old m → MakesMore result scope.old scope.new self.new (made_once (adding seen.entry.units.now seen.entry.sizes.now seen.entry.depth) (suc (length seen.entry.units.now)) scope.old.known (Add stream (expressions args.now)) m) }
+        ensures { (m : Made) → Stands self.old m
+            → MakesMore result scope.old scope.new self.new (made_once (adding seen.entry.units.now seen.entry.sizes.now seen.entry.depth)
+            (suc (length seen.entry.units.now)) scope.old.known (Add stream (expressions args.now)) m) }
     {
         let values = values(alloc, &scope.known, args)?;
         let child = self.instance(alloc, seen, stream, values.as_slice())?;
@@ -294,7 +310,11 @@ impl Making {
     ) -> Result<(), Refusal>
         requires above { AreFitUnits (program_of seen.units.now) }
         requires steps { HaveFitConstants (steps_of steps.now) }
-        ensures { (m : Made) → Stands self.old m → MakesMore result scope.old scope.new self.new (turns_made (suc (length seen.entry.units.now)) (turn_steps (adding seen.entry.units.now seen.entry.sizes.now seen.entry.depth) (suc (length seen.entry.units.now)) scope.old.known turns.name (steps_of steps.now)) (numbers_from turns.span.low (turns.span.end - turns.span.low)) m) }
+        ensures { (m : Made) → Stands self.old m
+            → MakesMore result scope.old scope.new self.new (turns_made (suc (length seen.entry.units.now))
+            (turn_steps (adding seen.entry.units.now seen.entry.sizes.now seen.entry.depth)
+            (suc (length seen.entry.units.now)) scope.old.known turns.name (steps_of steps.now))
+            (numbers_from turns.span.low (turns.span.end - turns.span.low)) m) }
     {
         'range: for each in turns.span.low..turns.span.end {
             match self.turn(alloc, seen, scope, turns.name, each, steps) {
@@ -318,7 +338,10 @@ impl Making {
     ) -> Result<(), Refusal>
         requires above { AreFitUnits (program_of seen.units.now) }
         requires steps { HaveFitConstants (steps_of steps.now) }
-        ensures { (m : Made) → Stands self.old m → MakesMore result scope.old scope.new self.new (turn_made (suc (length seen.entry.units.now)) (turn_steps (adding seen.entry.units.now seen.entry.sizes.now seen.entry.depth) (suc (length seen.entry.units.now)) scope.old.known name (steps_of steps.now)) value m) }
+        ensures { (m : Made) → Stands self.old m
+            → MakesMore result scope.old scope.new self.new (turn_made (suc (length seen.entry.units.now))
+            (turn_steps (adding seen.entry.units.now seen.entry.sizes.now seen.entry.depth)
+            (suc (length seen.entry.units.now)) scope.old.known name (steps_of steps.now)) value m) }
     {
         self.begin_turn(seen.units)?;
         scope.known.push(name, i64::from(value))?;

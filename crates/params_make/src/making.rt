@@ -40,7 +40,8 @@ impl Making {
 
     /// An instance of the unit behind these is begun: it has so many bytes, and lies so deep.
     pub fn begin(&mut self, above: &[ParamUnit], size: usize, depth: u32) -> Result<(), Refusal>
-        ensures begun { (m : Made) (d : Declared) → Stands self.old m → Begins result self.new (begin (record { unit = suc (length above.now); bytes = size; stream = d }) depth m) }
+        ensures begun { (m : Made) (d : Declared) → Stands self.old m
+            → Begins result self.new (begin (record { unit = suc (length above.now); bytes = size; stream = d }) depth m) }
         ensures deep { OnOk result (depth ≤ 64) }
     {
         let fits = self.has_room(size, depth);

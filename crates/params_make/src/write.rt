@@ -42,7 +42,8 @@ impl Making {
         stream: Name,
         children: &[Instance],
     ) -> Result<Instance, NoMemory>
-        ensures { (m : Made) (a : plain.Adds) → Stands self.old m → names_written children.now ≡ a.first ∷ a.others → WritesInstance result self.new (suc (length above.now)) stream (plain.APipeline a) m }
+        ensures { (m : Made) (a : plain.Adds) → Stands self.old m → names_written children.now ≡ a.first ∷ a.others
+            → WritesInstance result self.new (suc (length above.now)) stream (plain.APipeline a) m }
     {
         let instance = self.next(stream)?;
         print_pipeline(alloc, &instance, children, &mut self.text)?;
@@ -60,7 +61,9 @@ impl Making {
     ) -> Result<Instance, NoMemory>
         requires split { IsFitDealing (dealing_of all.now.split) }
         requires join { AreFitOption (rounds_of all.now.join) }
-        ensures { (m : Made) (a : plain.Adds) → Stands self.old m → names_written scope.now.children ≡ a.first ∷ a.others → WritesInstance result self.new (suc (length above.now)) stream (plain.ASplitJoin (dealing scope.now.known (dealing_of all.now.split)) a (option_counts scope.now.known (rounds_of all.now.join))) m }
+        ensures { (m : Made) (a : plain.Adds) → Stands self.old m → names_written scope.now.children ≡ a.first ∷ a.others
+            → WritesInstance result self.new (suc (length above.now)) stream
+            (plain.ASplitJoin (dealing scope.now.known (dealing_of all.now.split)) a (option_counts scope.now.known (rounds_of all.now.join))) m }
     {
         let instance = self.next(stream)?;
         print_split_join(

@@ -81,6 +81,7 @@ body_fine unit above ps (AFilter t) u fit h = filter_spares unit ps t u h
 body_fine unit above ps (APipeline ss) u fit h = fit
 body_fine unit above ps (ASplitJoin d ss ws) u fit h = fit
 
+-- units that are judged without a fault are fine, numbered from the same number on
 pub units_fine : (k : ℕ) (above : Above) (p : ParamProgram) (sizes : List ℕ) (u : Unit {0}) → IsFitProgram p → units_judged k above p ≡ fine u
     → AreFine (numbered_from k p sizes)
 units_fine k above [] sizes u fit h = tt
@@ -94,19 +95,23 @@ fine_append : (us vs : List SourceUnit) → AreFine us → AreFine vs → AreFin
 fine_append [] vs h g = g
 fine_append (u ∷ us) vs h g = (h.0, fine_append us vs h.1 g)
 
+-- the first unit comes last when units are turned
 pub reverse-cons : (u : SourceUnit) (us : List SourceUnit) → reverse (u ∷ us) ≡ reverse us ++ u ∷ []
 reverse-cons u us = reverse-append (u ∷ []) us
 
+-- the streams of turned units are their streams, turned
 pub map-reverse : (us : List SourceUnit) → unit_streams (reverse us) ≡ reverse (unit_streams us)
 map-reverse [] = refl
 map-reverse (u ∷ us) =
     ap unit_streams (reverse-append (u ∷ []) us) ∙ map-append (λ u. u.stream) (reverse us) (u ∷ []) ∙ ap (λ l. l ++ u.stream ∷ []) (map-reverse us)
     ∙ sym (reverse-append (u.stream ∷ []) (unit_streams us))
 
+-- fine units are fine when turned
 pub fine_reverse : (us : List SourceUnit) → AreFine us → AreFine (reverse us)
 fine_reverse [] h = tt
 fine_reverse (u ∷ us) h = subst AreFine (sym (reverse-cons u us)) (fine_append (reverse us) (u ∷ []) (fine_reverse us h.1) (h.0, tt))
 
+-- the streams of a numbered program are the program
 pub streams_are : (k : ℕ) (p : ParamProgram) (sizes : List ℕ) → unit_streams (numbered_from k p sizes) ≡ p
 streams_are k [] sizes = refl
 streams_are k (u ∷ us) sizes = ap (λ l. u ∷ l) (streams_are (suc k) us (tail_of sizes))

@@ -166,6 +166,7 @@ unit-fit u ts h =
     let parts = k.formed.formed.second in
     subst (λ (d : Declared). IsFitUnit d.body) (sym k.formed.is) (body-fit 128 k.word v.1.0 v.1.1 parts.back parts.second)
 
+-- in units that tokens stand for, every constant is a value
 pub units-fit : (p : ParamProgram) (us : List (List Tok)) → AreUnits p us → AreFitUnits p
 units-fit [] [] h = tt
 units-fit [] (u ∷ us) h = absurd h

@@ -27,16 +27,20 @@ use Rattle.params_model.proofs.InstanceNames.{number_in, number_is}
 
 -- RESULTS THAT ARE THERE
 
+-- a result without a fault
 abbrev pub fine : {A : Type 0} → A → Result A Refusal
 fine x = Ok x
 
+-- equal results have equal values
 pub ok_is : {A : Type 0} (x y : A) → fine x ≡ fine y → x ≡ y
 ok_is x y e = cc e
 
+-- where two steps in a row are fine, each of them is
 pub ok_parts : {A B : Type 0} (r : Result A Refusal) (f : A → Result B Refusal) (y : B) → on_fine r f ≡ fine y → (x : A) × (r ≡ fine x) × (f x ≡ fine y)
 ok_parts (Ok x) f y h = (x, refl, h)
 ok_parts (Err e) f y h = absurd (cc h)
 
+-- what is demanded without a fault holds
 pub demanded : (b : Bool) (k : ℕ) (e : Fault) (u : Unit {0}) → demand b k e ≡ fine u → b ≡ true
 demanded true k e u h = refl
 demanded false k e u h = absurd (cc h)
@@ -126,6 +130,7 @@ pub record IsSmall (s : Made) : Type 0 where
   pub made : length s.units ≤ s.begun
   pub few : s.begun ≤ 1024
 
+-- what comes from few instances is few
 pub grew_small : (s t : Made) → Grew s t → IsSmall s → IsSmall t
 grew_small s t g h = record {
   made = let a = g.begun in let b = h.made in let l = ap length g.units in omega (arith, a, b, l, length-append s.units g.more);
@@ -158,6 +163,7 @@ pub record AddsBy (all : Streams) (n : Name) (zs : List ℤ) (s : Made) (x : Nam
   pub grew : Grew s x.1
   pub does : Does x.1.units x.0 (all n zs)
 
+-- what each `add` of values makes does what the stream does under them
 abbrev pub Right : Streams → Adding → Type 0
 Right all add = (n : Name) (zs : List ℤ) (s : Made) (x : Name × Made) → AllFit zs → IsSmall s → add n zs s ≡ fine x → AddsBy all n zs s x
 
@@ -175,6 +181,7 @@ children_both all cs ds s x y g h = record {
   all_do = all_do-append all y.1.units x.0 y.0 cs ds (all_do_more all x.1 y.1 x.0 cs h.grew g.all_do) h.all_do;
 }
 
+-- where steps and then others make something, it is what both make, in order
 pub also_parts : (a : Added) (f : Made → Added) (r : List Name × Made) → also a f ≡ fine r
     → (x : List Name × Made) × (y : List Name × Made) × (a ≡ fine x) × (f x.1 ≡ fine y) × (r ≡ (x.0 ++ y.0, y.1))
 also_parts a f r h =
@@ -208,6 +215,7 @@ one_more : (b : Bool) → (if b then 1 else 0) ≤ 1
 one_more true = omega arith
 one_more false = omega arith
 
+-- between bounds that are in range every turn is at most 65,536
 pub turns_small : (low high : ℤ) (upto : Bool) → is_ranged high ≡ true → is_ranged low ≡ true → AllAtMost 65536 (turns_between low upto high)
 turns_small low high upto h l =
     let a = ranged_is high h in
@@ -360,6 +368,7 @@ module _ (all : Streams) (add : Adding) (unit : ℕ) (right : Right all add) whe
 
 -- AN INSTANCE
 
+-- an instance that is begun is counted, fewer than 1,024 were before, and no unit is made yet
 pub begin_parts : (u : SourceUnit) (depth : ℕ) (s t : Made) → begin u depth s ≡ fine t → (s.begun < 1024) × (s.units ≡ t.units) × (t.begun ≡ suc s.begun)
 begin_parts u depth s t h =
     let few = nat_lt s.begun 1024 in
@@ -397,6 +406,7 @@ made_does f s x m =
     })
 
 module _ (all : Streams) (add : Adding) (right : Right all add) where
+  -- an instance under values does what its stream does under these values
   pub make_right : (u : SourceUnit) (depth : ℕ) (ps : List Name) (zs : List ℤ) (s : Made) (x : Name × Made) → AllFit zs → IsFine ps u.stream.body → IsSmall s
       → make add u depth (bound ps zs) s ≡ fine x → MadeBy (works_under all (bound ps zs) u.stream.body) s x
   make_right u depth ps zs s x fits ok small h =
@@ -452,6 +462,7 @@ either_right u us depth n zs s x fits ok small below beside b e h = go b e
         let a = beside n zs s x fits small (sym (ap here e) ∙ h) in
         record { grew = a.grew; does = record { number = a.does.number; same = λ xs. a.does.same xs ∙ sym (ap (λ b. does b xs) e) } }
 
+-- so does what an `add` of these streams makes
 pub instance_right : (us : List SourceUnit) (depth : ℕ) → AreFine us → Right (stream_works (unit_streams us)) (instance us depth)
 instance_right [] depth ok n zs s x fits small h = absurd (cc h)
 instance_right (u ∷ us) depth ok n zs s x fits small h =
@@ -484,6 +495,7 @@ none_prework : (o : Option ParamWork) → SparesPrework [] o
 none_prework None = tt
 none_prework (Some w) = none_all w.block
 
+-- the plain program that is made means what the program with parameters means
 pub elaboration_means : ElaborationMeans
 elaboration_means [] m xs ok h = absurd (cc h)
 elaboration_means (u ∷ us) m xs ok h =

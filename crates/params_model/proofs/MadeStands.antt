@@ -246,6 +246,7 @@ units_written : (k : ℕ) (p : ParamProgram) (sizes : List ℕ) → IsWrittenPro
 units_written k [] sizes h = tt
 units_written k (u ∷ us) sizes h = (h.0, units_written (suc k) us (tail_of sizes) h.1)
 
+-- the text of what is made stands for it, and each program that it stands for means the same
 pub elaborated_stands : ElaboratedStands
 elaborated_stands p sizes m fit w h =
     let us = sources_of p sizes in

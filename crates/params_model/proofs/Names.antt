@@ -97,6 +97,7 @@ instance_named (b ∷ bs) k h short lt =
     (list_all-append is_word bs tail ∙ both_true (list_all is_word bs) (list_all is_word tail) q.0 (decimal_goes k (omega (arith, lt))))
     (le_true (length (bs ++ tail)) 63 (omega (arith, a, l, short))))
 
+-- the name of an instance of a short name that a program may give is one too
 pub instance_own : (name : List ℕ) (k : ℕ) → IsOwnName name → length name ≤ 32 → k < 10000 → IsOwnName (instance_name name k)
 instance_own name k h short lt =
     both_true (is_plain (instance_name name k)) (is_name (instance_name name k)) (instance_plain name k h short lt) (instance_named name k (own_name name h) short lt)

@@ -24,6 +24,7 @@ use Rattle.params_model.proofs.Values.{Fits, said_literal_or, not_given}
 
 -- NAMES THAT ARE NO PARAMETERS
 
+-- a name that is no parameter has no value
 pub none_bound : (ps : List Name) (zs : List ℤ) (n : Name) → Differs ps n → look (bound ps zs) n ≡ None
 none_bound [] zs n h = refl
 none_bound (p ∷ ps) [] n h = refl

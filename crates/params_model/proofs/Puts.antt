@@ -175,6 +175,7 @@ module _ (ps : List Name) (zs : List ℤ) (fits : AllFit zs) where
 
   -- RATES AND FILTERS
 
+  -- a number in range counts at most 65,536
   pub ranged_count : (z : ℤ) → is_ranged z ≡ true → count_of z ≤ 65536
   ranged_count (pos n) h = grind (arith, h)
   ranged_count (negsuc n) h = omega arith
@@ -193,6 +194,7 @@ module _ (ps : List Name) (zs : List ℤ) (fits : AllFit zs) where
   prework_told None h r = tt
   prework_told (Some w) h r = work_told w h r
 
+  -- a written filter whose numbers are in range is one that a text can stand for, once the values are put in
   pub filter_told : (t : ParamFilter) → IsWrittenFilter ps t → is_ranged_filter env t ≡ true → IsToldFilter (plain_filter env t)
   filter_told t h r =
       let a = and_parts (is_ranged_prework env t.prework) (is_ranged_work env t.work) r in

@@ -57,14 +57,17 @@ module _ (Leaf : ℕ → Expression → List Tok → Type 0) (leaves : (n : ℕ)
   spells-told n rank t ts (spelled.once m k x o a b us vs e f g h) = (spells-told m k a us g, spells-told m k b vs h)
   spells-told n rank t ts (spelled.prefix m k x p u us e h) = marked-told p u (spells-told m (suc k) u us h)
 
+  -- an expression that tokens stand for is one that a text can stand for
   pub term-told : (n : ℕ) (t : Expression) (ts : List Tok) → IsExpression Leaf n t ts → IsTold t
   term-told n t ts h = spells-told n 7 t ts h.0
 
+-- so is a leaf that tokens stand for
 pub leaf-told : (n : ℕ) (t : Expression) (ts : List Tok) → IsLeaf n t ts → IsTold t
 leaf-told n t ts (leaf.number m v h) = a_value v h
 leaf-told n t ts (leaf.name m text h) = h
 leaf-told n t ts (leaf.pop m) = tt
 
+-- the numbers of an expression that a text can stand for are values
 pub told-fit : (t : Expression) → IsTold t → IsFit t
 told-fit (tree.Number v) h = h
 told-fit (tree.Name n) h = tt
@@ -74,6 +77,7 @@ told-fit (tree.Neg t) h = told-fit t h
 told-fit (tree.Not t) h = told-fit t h
 told-fit (tree.Bin o a b) h = (told-fit a h.0, told-fit b h.1)
 
+-- the numbers of a constant are values
 pub constant-fit : (n : ℕ) (t : Expression) (ts : List Tok) → Constant n t ts → IsFit t
 constant-fit n t ts h = told-fit t (term-told IsLeaf leaf-told n t ts h.formed)
 
@@ -89,6 +93,7 @@ listing-fit n cs ts h = ⊎_elim
     (λ f. subst AreFit (sym f.is) (constant-fit n f.value.0 f.formed.front f.formed.first, commas-fit n f.value.1 f.formed.back f.formed.second))
     h
 
+-- so are those of a list of constants
 pub constants-fit : (n : ℕ) (o : Option (List Expression)) (ts : List Tok) → Constants n o ts → AreFit (or_none o)
 constants-fit n None ts h = tt
 constants-fit n (Some cs) ts h = enclosed AreFit _ _ _ n cs ts h (λ m us f. listing-fit m cs us f)

@@ -342,5 +342,6 @@ refusals_are p unit f = (
     same : (i j : ℕ) (f g : Fault) → i ≡ j → f ≡ g → ◌≡◌ {A = Judgement} (Err (record { unit = j; fault = g })) (Err (record { unit = i; fault = f }))
     same i j f g e h = cc
 
+-- units are accepted exactly where no place has a fault
 pub accepted_are : AcceptedAre
 accepted_are p = ((λ h. all-right (places_of p) (units-are 1 [] p ∙ h)), (λ a. sym (units-are 1 [] p) ∙ right-all (places_of p) a))

@@ -19,6 +19,7 @@ use Rattle.params_model.specs.Environment.{Environment, bound, under, value}
 use Rattle.params_model.specs.Laws.{IsFit, AreFit}
 use Rattle.params_model.specs.Plain.{literal, literal_or}
 
+-- a number that is small enough is a value
 pub small : (n : ℕ) → n ≤ 9223372036854775807 → IsValue (pos n)
 small n h = grind (arith, h)
 
@@ -59,10 +60,12 @@ abbrev pub Fits : Environment → Type 0
 Fits [] = Unit {0}
 Fits (e ∷ env) = IsValue e.1 × Fits env
 
+-- each number is a value
 abbrev pub AllFit : List ℤ → Type 0
 AllFit [] = Unit {0}
 AllFit (z ∷ zs) = IsValue z × AllFit zs
 
+-- names bound to values are an environment of values
 pub bound_fits : (ps : List Name) (zs : List ℤ) → AllFit zs → Fits (bound ps zs)
 bound_fits [] zs h = tt
 bound_fits (p ∷ ps) [] h = tt
@@ -81,6 +84,7 @@ said_fits env (tree.Neg t) k h f = SFits-int_wrap w64 _
 said_fits env (tree.Not t) k h f = truth_fits _
 said_fits env (tree.Bin o a b) k h f = applied_fits o _ _ (said_fits env a k h f.0) (said_fits env b _ h f.1)
 
+-- the values of arguments under an environment of values are values
 pub values_fit : (env : Environment) (cs : List Expression) → Fits env → AreFit cs → AllFit (map (value env) cs)
 values_fit env [] h f = tt
 values_fit env (c ∷ cs) h f = (said_fits env c 0 h f.0, values_fit env cs h f.1)
@@ -97,6 +101,7 @@ given (e ∷ env) vs n z h = ⊎_elim
     some_is : (x y : ℤ) → Some x ≡ Some y → x ≡ y
     some_is x y e = cc e
 
+-- a name that the environment does not have is as it was
 pub not_given : (env : Environment) (vs : Values) (n : Name) → look env n ≡ None → under env vs n ≡ vs n
 not_given [] vs n h = refl
 not_given (e ∷ env) vs n h = ⊎_elim
@@ -107,6 +112,7 @@ not_given (e ∷ env) vs n h = ⊎_elim
     some_none : Some e.1 ≡ None → ⊥
     some_none h = cc h
 
+-- what an environment of values has for a name is a value
 pub look_fits : (env : Environment) (n : Name) (z : ℤ) → Fits env → look env n ≡ Some z → IsValue z
 look_fits env n z h e = subst IsValue (given env nought n z e) (under_fits env n h)
 
@@ -134,6 +140,7 @@ said_literal (negsuc n) xs vs k h = negative (nat_eq n 9223372036854775807) refl
         ap (λ (b : Bool). eval (if b then tree.Bin op.Sub (tree.Neg (tree.Number 9223372036854775807)) (tree.Number 1) else tree.Neg (tree.Number (suc n))) xs vs k) e
         ∙ int_wrap_fits w64 (negsuc n) h
 
+-- the literal of a name's value, or the name, says what the name does under the environment
 pub said_literal_or : (env : Environment) (n : Name) (xs : List ℤ) (vs : Values) (k : ℕ) → Fits env
     → eval (literal_or n (look env n)) xs vs k ≡ under env vs n
 said_literal_or env n xs vs k h = go (look env n) refl

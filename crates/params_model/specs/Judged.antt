@@ -6,7 +6,8 @@ use Rattle.river_plan.specs.Forms.{Name}
 use Rattle.streamit_text.specs.Tree.{Statement, Declare, Assign, Push, Discard, If, For, Block, Optional, Unwritten, Written}
 use Rattle.streamit_model.specs.Meaning.{look}
 use Rattle.params_text.specs.Params.{is_one_of}
-use Rattle.params_text.specs.Program.{ParamWork, ParamFilter, Step, Add, Loop, Steps, End, Then, Dealing, Copies, Turns, Body, AFilter, APipeline, ASplitJoin, Declared, ParamProgram}
+use Rattle.params_text.specs.Program.{ParamWork, ParamFilter, Step, Add, Loop, Steps, End, Then}
+use Rattle.params_text.specs.Program.{Dealing, Copies, Turns, Body, AFilter, APipeline, ASplitJoin, Declared, ParamProgram}
 use Rattle.params_model.specs.Making.{UnknownName, NameTwice, Arity, NotConstant, Top, Refusal, on_fine, demand, SourceUnit, Made, last_made}
 
 -- the unit has no fault here, or this is its first one
@@ -80,7 +81,9 @@ prework_judged unit ps None = no_fault
 prework_judged unit ps (Some w) = work_judged unit ps w
 
 abbrev pub filter_judged : ℕ → List Name → ParamFilter → Judgement
-filter_judged unit ps t = judged_then (other_names unit ps t.fields) (judged_then (optional_judged unit ps t.init) (judged_then (prework_judged unit ps t.prework) (work_judged unit ps t.work)))
+filter_judged unit ps t =
+    judged_then (other_names unit ps t.fields)
+    (judged_then (optional_judged unit ps t.init) (judged_then (prework_judged unit ps t.prework) (work_judged unit ps t.work)))
 
 -- STEPS: names that are known stand in order, the newest last; the streams above have these names and so many parameters, the newest first
 

@@ -22,6 +22,7 @@ listed-next env items i c lt is =
     ap (listed env) (at_place statement items i c lt is)
     ∙ spaced-append (statement_toks (put_once env (statement c))) (statements_toks (put_all env (in_turn (map statement (drop (i + 1) items)))))
 
+-- behind the last statement nothing is left to print
 pub listed-end : (env : Environment) (items : List written.Statement) (i : ℕ) → length items ≤ i → listed env (map statement (drop i items)) ≡ []
 listed-end env items i h = ap (listed env) (none_left statement items i h)
 

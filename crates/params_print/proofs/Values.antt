@@ -40,6 +40,7 @@ eval-none (tree.Bin o a b) f k =
     ap (λ z. applied o z (eval b [] f (k + pops a))) (eval-none a f k)
     ∙ ap (λ z. applied o (eval a [] f 0) z) (eval-none b f (k + pops a) ∙ sym (eval-none b f (0 + pops a)))
 
+-- the value of an operator is the operator on both values
 pub value-bin : (env : Environment) (o : BinOp) (a b : Expression) → value env (tree.Bin o a b) ≡ applied o (value env a) (value env b)
 value-bin env o a b = ap (λ z. applied o (value env a) z) (eval-none b (under env nought) (0 + pops a))
 

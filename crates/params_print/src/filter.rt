@@ -79,7 +79,9 @@ fn rates(alloc: Global, known: &Bindings, all: &ParamRates, to: &mut Bytes) -> R
     requires push { IsFitOption (optional expression all.now.push) }
     requires pop { IsFitOption (optional expression all.now.pop) }
     requires peek { IsFitOption (optional expression all.now.peek) }
-    ensures { OnOk result (to.new ≡ to.old ++ spaced (all_rates (option_count known.now (optional expression all.now.push)) (option_count known.now (optional expression all.now.pop)) (option_count known.now (optional expression all.now.peek)))) }
+    ensures { OnOk result (to.new
+        ≡ to.old ++ spaced (all_rates (option_count known.now (optional expression all.now.push)) (option_count known.now (optional expression all.now.pop))
+        (option_count known.now (optional expression all.now.peek)))) }
 {
     rate(alloc, known, b"push", &all.push, to)?;
     rate(alloc, known, b"pop", &all.pop, to)?;

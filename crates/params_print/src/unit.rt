@@ -41,7 +41,8 @@ pub fn print_pipeline(
     children: &[Instance],
     to: &mut Bytes,
 ) -> Result<(), NoMemory>
-    ensures { (a : Adds) → names_written children.now ≡ a.first ∷ a.others → OnOk result (to.new ≡ to.old ++ spaced (unit_toks (record { name = name_written instance.now; body = APipeline a }))) }
+    ensures { (a : Adds) → names_written children.now ≡ a.first ∷ a.others
+        → OnOk result (to.new ≡ to.old ++ spaced (unit_toks (record { name = name_written instance.now; body = APipeline a }))) }
 {
     head(alloc, b"pipeline", instance, to)?;
     adds(alloc, children, to)?;
@@ -60,7 +61,9 @@ pub fn print_split_join(
 ) -> Result<(), NoMemory>
     requires split { IsFitDealing (dealing_of tree.now.split) }
     requires join { AreFitOption (rounds_of tree.now.join) }
-    ensures { (a : Adds) → names_written children.now ≡ a.first ∷ a.others → OnOk result (to.new ≡ to.old ++ spaced (unit_toks (record { name = name_written instance.now; body = ASplitJoin (dealing known.now (dealing_of tree.now.split)) a (option_counts known.now (rounds_of tree.now.join)) }))) }
+    ensures { (a : Adds) → names_written children.now ≡ a.first ∷ a.others
+        → OnOk result (to.new ≡ to.old ++ spaced (unit_toks
+        (record { name = name_written instance.now; body = ASplitJoin (dealing known.now (dealing_of tree.now.split)) a (option_counts known.now (rounds_of tree.now.join)) }))) }
 {
     head(alloc, b"splitjoin", instance, to)?;
     split(alloc, known, &tree.split, to)?;

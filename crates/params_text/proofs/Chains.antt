@@ -7,6 +7,7 @@ use Rattle.text_forms.proofs.Pairs.{pair_inj}
 use Rattle.params_text.specs.Chained.{Chained, chained}
 
 module _ {A B : Type 0} {F : A → List Tok → Type 0} {G : A → B → List Tok → Type 0} {p : Parse A} {q : A → Parse B} {E D : List Tok → Type 0} where
+  -- a part that is read exactly, and one behind it that is read by what it says, are read exactly together
   pub exact-chained : Exact F p E → ((a : A) → Exact (G a) (q a) D) → ((a : A) (y : B) (s rest : List Tok) → G a y s → D rest → E (s ++ rest))
       → Exact (Chained F G) (chained p q) D
   exact-chained f g follows = record { sound = sound; complete = complete } where

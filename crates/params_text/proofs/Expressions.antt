@@ -34,6 +34,7 @@ use Rattle.params_text.proofs.Good.{IsPiece, piece-nothing, piece-then, piece-sy
 pub own_plain : (n : List ℕ) → IsOwnName n → is_plain n ≡ true
 own_plain n h = (and_parts (is_plain n) (is_name n) h).0
 
+-- it is a word of at most 63 bytes
 pub own_name : (n : List ℕ) → IsOwnName n → is_name n ≡ true
 own_name n h = (and_parts (is_plain n) (is_name n) h).1
 
@@ -44,13 +45,16 @@ name-text (b ∷ bs) h =
     let y = and_parts (list_all river.is_word bs) (nat_le (length bs) 63) x.1 in
     rw (x.0, y.0) refl
 
+-- a name of a program is the text of a word
 pub own_text : (n : List ℕ) → IsOwnName n → is_name_text n ≡ true
 own_text n h = name-text n (own_name n h)
 
+-- `peek` is a word
 pub peek_is : is_name_text (codes "peek") ≡ true
 unfolding lexis.is_letter lexis.is_word lexis.is_digit
 peek_is = refl
 
+-- `pop` is a word
 pub pop_is : is_name_text (codes "pop") ≡ true
 unfolding lexis.is_letter lexis.is_word lexis.is_digit
 pop_is = refl
@@ -72,9 +76,11 @@ plain-sign op.Or = record { no_open = refl; no_close = refl }
 
 -- ITS TOKENS ARE A PIECE
 
+-- round brackets around a piece
 pub round : (ts : List Tok) → IsPiece ts → IsPiece (symbol s.Open ∷ (ts ++ symbol s.Close ∷ []))
 round ts h = piece-symbol s.Open plain-Open (ts ++ symbol s.Close ∷ []) (piece-last s.Close plain-Close ts h)
 
+-- the tokens of an expression that a text can stand for are a piece
 pub told-piece : (t : Expression) → IsTold t → IsPiece (expr_toks t)
 told-piece (tree.Number v) h = piece-number v h [] piece-nothing
 told-piece (tree.Name n) h = piece-name n (own_text n h) [] piece-nothing
@@ -88,6 +94,7 @@ told-piece (tree.Bin o a b) h =
 
 -- IT IS IN THE GRAMMAR
 
+-- a number that is small enough is a value
 pub value-true : (n : ℕ) → n ≤ 9223372036854775807 → is_value n ≡ true
 value-true n h = grind arith
 
@@ -154,5 +161,6 @@ told-says (tree.Bin o a b) (suc n) h d =
     levels.bracket n (tree.Bin o a b) (expr_toks a ++ symbol (grammar.sign_of o) ∷ expr_toks b)
     (operation n o a b (expr_toks a) (expr_toks b) (told-says a n h.0 (omega arith)) (told-says b n h.1 (omega arith)))
 
+-- an expression that a text can stand for is in the grammar, by its tokens
 pub told-formed : (n : ℕ) (t : Expression) → 64 ≤ n → IsToldExpr t → IsExpression IsLeaf n t (expr_toks t)
 told-formed n t room h = (looser n t (expr_toks t) (told-says t n h.0 (let d = h.1 in omega (arith, d, room))) 7, h.1)

@@ -15,10 +15,12 @@ IsGood (var text) = is_name_text text ≡ true
 IsGood (number n) = n ≤ most
 IsGood (symbol x) = Unit {0}
 
+-- each token is good
 abbrev pub AreGood : List Tok → Type 0
 AreGood [] = Unit {0}
 AreGood (t ∷ ts) = IsGood t × AreGood ts
 
+-- good tokens behind good ones are good
 pub good-append : (ts us : List Tok) → AreGood ts → AreGood us → AreGood (ts ++ us)
 good-append [] us h g = g
 good-append (t ∷ ts) us h g = (h.0, good-append ts us h.1 g)
@@ -54,21 +56,27 @@ pub record IsPiece (ts : List Tok) : Type 0 where
   pub good : AreGood ts
   pub inside : Inside ts
 
+-- no tokens
 pub piece-nothing : IsPiece []
 piece-nothing = record { good = tt; inside = inside-nothing }
 
+-- one piece behind another
 pub piece-then : (ts us : List Tok) → IsPiece ts → IsPiece us → IsPiece (ts ++ us)
 piece-then ts us x y = record { good = good-append ts us x.good y.good; inside = inside-then ts us x.inside y.inside }
 
+-- a symbol that is no brace, in front
 pub piece-symbol : (x : Symbol) → IsPlain x → (ts : List Tok) → IsPiece ts → IsPiece (symbol x ∷ ts)
 piece-symbol x p ts h = record { good = (tt, h.good); inside = inside-then (symbol x ∷ []) ts (inside-symbol x p) h.inside }
 
+-- a name in front
 pub piece-name : (text : List ℕ) → is_name_text text ≡ true → (ts : List Tok) → IsPiece ts → IsPiece (name text ∷ ts)
 piece-name text is ts h = record { good = (is, h.good); inside = inside-then (name text ∷ []) ts (inside-name text) h.inside }
 
+-- a number in front
 pub piece-number : (n : ℕ) → n ≤ most → (ts : List Tok) → IsPiece ts → IsPiece (number n ∷ ts)
 piece-number n fits ts h = record { good = (fits, h.good); inside = inside-then (number n ∷ []) ts (inside-number n) h.inside }
 
+-- braces around a piece
 pub piece-braces : (ts : List Tok) → IsPiece ts → IsPiece (symbol s.OpenBrace ∷ (ts ++ symbol s.CloseBrace ∷ []))
 piece-braces ts h = record { good = (tt, good-append ts (symbol s.CloseBrace ∷ []) h.good (tt, tt)); inside = inside-braces ts h.inside }
 

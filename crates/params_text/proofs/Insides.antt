@@ -9,6 +9,7 @@ use Rattle.work_code.specs.Tok.{Tok, name, number, symbol}
 use Rattle.work_code.specs.declared.sign.Symbol.{Symbol}
 use Rattle.work_code.specs.declared.sign.Symbol.TheVariants as s
 
+-- tokens put before the first of the units
 abbrev pub all_first : List Tok → List (List Tok) → List (List Tok)
 all_first [] us = us
 all_first (t ∷ ts) us = to_first t (all_first ts us)
@@ -21,6 +22,7 @@ all_first-append (t ∷ ts) us vs = ap (to_first t) (all_first-append ts us vs)
 pub record Inside (ts : List Tok) : Type 0 where
   pub goes : (b : ℕ) (rest : List Tok) → cut (suc b) (ts ++ rest) ≡ all_first ts (cut (suc b) rest)
 
+-- no tokens stay inside a unit
 pub inside-nothing : Inside []
 inside-nothing = record { goes = λ b rest. refl }
 
@@ -87,6 +89,7 @@ inner_close b rest =
     let one_no : (suc (suc b) == 1) ≡ false = ne_eqb (suc (suc b)) 1 (λ e. absurd (omega arith)) in
     rw (zero_no, one_no) refl
 
+-- tokens that stay inside a unit do so in braces
 pub inside-braces : (ts : List Tok) → Inside ts → Inside (symbol s.OpenBrace ∷ (ts ++ symbol s.CloseBrace ∷ []))
 inside-braces ts x = record { goes = goes } where
   goes : (b : ℕ) (rest : List Tok)
@@ -103,29 +106,38 @@ inside-braces ts x = record { goes = goes } where
 pub plain-Open : IsPlain s.Open
 plain-Open = record { no_open = refl; no_close = refl }
 
+-- `)` is no brace
 pub plain-Close : IsPlain s.Close
 plain-Close = record { no_open = refl; no_close = refl }
 
+-- `,` is no brace
 pub plain-Comma : IsPlain s.Comma
 plain-Comma = record { no_open = refl; no_close = refl }
 
+-- `;` is no brace
 pub plain-Semicolon : IsPlain s.Semicolon
 plain-Semicolon = record { no_open = refl; no_close = refl }
 
+-- `=` is no brace
 pub plain-Assign : IsPlain s.Assign
 plain-Assign = record { no_open = refl; no_close = refl }
 
+-- `<` is no brace
 pub plain-Less : IsPlain s.Less
 plain-Less = record { no_open = refl; no_close = refl }
 
+-- `<=` is no brace
 pub plain-LessEqual : IsPlain s.LessEqual
 plain-LessEqual = record { no_open = refl; no_close = refl }
 
+-- `++` is no brace
 pub plain-Increment : IsPlain s.Increment
 plain-Increment = record { no_open = refl; no_close = refl }
 
+-- `-` is no brace
 pub plain-Minus : IsPlain s.Minus
 plain-Minus = record { no_open = refl; no_close = refl }
 
+-- `!` is no brace
 pub plain-Not : IsPlain s.Not
 plain-Not = record { no_open = refl; no_close = refl }

@@ -21,10 +21,12 @@ pub place-none : (ps : List (List ℕ)) (text : List ℕ) (ts : List Tok) → is
 unfolding place_at
 place-none ps text ts h = rw h refl
 
+-- a name that is none of these parameters is a name alone
 pub place-other : (ps : List (List ℕ)) (text : List ℕ) (ts : List Tok) → is_one_of ps text ≡ false → place_at ps 0 text ts ≡ Some (expression (written.Name text), ts)
 unfolding place_at
 place-other ps text ts h = rw h (seen text ts)
 
+-- where a bracket may yet be open, a name is a name alone
 pub place-some : (ps : List (List ℕ)) (n : ℕ) (text : List ℕ) (ts : List Tok) → n ≢ 0 → place_at ps n text ts ≡ Some (expression (written.Name text), ts)
 unfolding place_at
 place-some ps zero text ts h = absurd (h refl)

@@ -83,10 +83,12 @@ own_no_word n h =
 
 -- KEYWORDS ARE WORDS
 
+-- `int` is a word
 pub int_is : is_name_text (codes "int") ≡ true
 unfolding lexis.is_letter lexis.is_word lexis.is_digit
 int_is = refl
 
+-- `push` is a word
 pub push_is : is_name_text (codes "push") ≡ true
 unfolding lexis.is_letter lexis.is_word lexis.is_digit
 push_is = refl
@@ -149,6 +151,7 @@ mutual
   else-piece nest Unwritten h = piece-nothing
   else-piece nest (Written b) h = piece-name (codes "else") else_is (block_toks b) (piece-braces (statements_toks b) (statements-piece nest b h))
 
+-- the tokens of a block that a text can stand for are a piece
 pub block-piece : (nest : ℕ) (b : Block) → IsToldAll nest b → IsPiece (block_toks b)
 block-piece nest b h = piece-braces (statements_toks b) (statements-piece nest b h)
 
@@ -174,6 +177,7 @@ list_of-is (Then c b) = ap (Then c) (list_of-is b)
 abbrev Expr : ℕ → Expression → List Tok → Type 0
 Expr = IsExpression IsLeaf
 
+-- a name of a program is read as one
 pub plain-formed : (n : List ℕ) → IsOwnName n → Own n (name n ∷ [])
 plain-formed n h = record { passes = h; formed = refl }
 
@@ -389,5 +393,6 @@ mutual
   else-formed nest n Unwritten room h = refl
   else-formed nest n (Written b) room h = record { back = block_toks b; is = refl; formed = block-of nest n b room (λ m le. each-formed nest m b le h) }
 
+-- a block that a text can stand for is in the grammar, by its tokens
 pub block-formed : (n : ℕ) (b : Block) → 82 ≤ n → IsToldAll 16 b → IsBlock n b (block_toks b)
 block-formed n b room h = block-of 16 n b (omega (arith, room)) (λ m le. each-formed 16 m b le h)

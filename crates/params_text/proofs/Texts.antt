@@ -89,5 +89,6 @@ stands p some h =
       some = some;
     }
 
+-- the text of a plain program that a text can stand for stands for it, and for no other
 pub text_stands : TextStands
 text_stands p some h = (stands p some h, λ q t. one_program (plain_text p) q p t (stands p some h))

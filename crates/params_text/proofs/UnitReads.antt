@@ -39,6 +39,7 @@ use Rattle.params_text.proofs.Chains.{exact-chained}
 
 -- STEPS
 
+-- a step is read exactly
 pub exact-step : (n : ℕ) → Exact (IsStep n) (step_at n) NoElse
 unfolding step_at
 exact-step n = blocks.exact-stmt exact-steps_are 16 n
@@ -49,6 +50,7 @@ exact-pipe n = blocks.exact-block exact-steps_are 16 n
 
 -- RATES
 
+-- a rate is read exactly
 pub exact-rate : (n : ℕ) → Exact (IsRate n) (rate_at n) (Ends 6)
 unfolding rate_at rate_after
 exact-rate n =
@@ -172,6 +174,7 @@ other-word n w word v ts h never = by (bytes_eq w word) refl where
   by false e = refl
   by true e = absurd (never (subst (λ (x : List ℕ). IsRest style holes 16 n x v ts) ((bytes_eq-Decides w word).0 e) h))
 
+-- steps are a list, as none begins with `join` or `else`
 pub listed-steps : (n : ℕ) → Listed at_join (IsStep n) NoElse
 listed-steps n = record {
   some = λ v ts h. rw h.is (omega arith);

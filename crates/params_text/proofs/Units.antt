@@ -109,6 +109,7 @@ dealing-piece : (d : Dealing) → IsToldDealing d → IsPiece (dealing_toks d)
 dealing-piece Copies h = piece-name (codes "duplicate") duplicate_is [] piece-nothing
 dealing-piece (Turns ws) h = piece-name (codes "roundrobin") roundrobin_is (weights_toks ws) (weights-piece ws h)
 
+-- the tokens in the braces of a body that a text can stand for are a piece
 pub inner-piece : (b : Body) → IsToldBody b → IsPiece (inner_toks b)
 inner-piece (AFilter t) h = filter-piece t h
 inner-piece (APipeline a) h = adds-piece a h
@@ -334,6 +335,7 @@ body-formed (AFilter t) h = record { value = t; is = refl; formed = braced-forme
 body-formed (APipeline a) h = record { value = a; is = refl; formed = braced-formed AreAdds 127 a (adds_toks a) (adds-formed 127 a h) }
 body-formed (ASplitJoin d a ws) h = braced-formed InBoth 127 (ASplitJoin d a ws) _ (both-formed 127 d a ws (omega arith) h.0 h.1 h.2)
 
+-- a unit that a text can stand for is in the grammar, by its tokens
 pub unit-formed : (u : Declared) → IsToldUnit u → IsUnit u (unit_toks u)
 unit-formed u h =
     let body : List Tok = braced (inner_toks u.body) in

@@ -24,7 +24,8 @@ module _ (ps : List (List ℕ)) where
       let tokens : ts ≡ symbol s.Open ∷ symbol s.Close ∷ [] =
       h.is ∙ ap (λ (l : List Tok). symbol s.Open ∷ l) (h.formed.is ∙ ap (λ (l : List Tok). l ++ symbol s.Close ∷ []) h.formed.formed.1) in
       subst (λ (u : Expression). IsLeafWith ps (suc n) u (name text ∷ ts)) (sym h.formed.formed.0)
-      (subst (λ (us : List Tok). IsLeafWith ps (suc n) Pop us) (ap (λ (w : List ℕ). name w ∷ symbol s.Open ∷ symbol s.Close ∷ []) (sym is) ∙ ap (λ (us : List Tok). name text ∷ us) (sym tokens)) (rule.pop n))
+      (subst (λ (us : List Tok). IsLeafWith ps (suc n) Pop us)
+      (ap (λ (w : List ℕ). name w ∷ symbol s.Open ∷ symbol s.Close ∷ []) (sym is) ∙ ap (λ (us : List Tok). name text ∷ us) (sym tokens)) (rule.pop n))
 
   one-name : (n : ℕ) (text : List ℕ) (ts : List Tok) (t : Expression) (rest : List Tok) → IsLeafWith ps n (Name text) (name text ∷ [])
       → ◌≡◌ {A = Option (Expression × List Tok)} (Some (Name text, ts)) (Some (t, rest)) → Front (IsLeafWith ps n) t (name text ∷ ts) rest

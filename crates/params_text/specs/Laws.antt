@@ -19,7 +19,8 @@ OneParamProgram = (text : List ℕ) (p q : ParamProgram) → IsText text p → I
 abbrev pub IsEmpty : List (List Tok) → ℕ → Type 0
 IsEmpty units n = (units ≡ []) × (n ≡ 1)
 
--- the text has tokens, and the unit with this number, from 1, is the first that is not in the grammar; of a text without a unit it is the first
+-- the text has tokens, and the unit with this number, from 1, is the first that is
+-- not in the grammar; of a text without a unit it is the first
 pub record IsBadAt (text : List ℕ) (n : ℕ) : Type 0 where
   pub marks : List Mark
   pub lexed : tokens_in text ≡ Ok marks

@@ -47,7 +47,8 @@ below true = s.LessEqual
 -- "=" e ";" NAME ("<" | "<=") e ";" NAME "++"
 abbrev pub head_toks : List ℕ → Expression → Bool → Expression → List Tok
 head_toks n low upto high =
-    symbol s.Assign ∷ ((expr_toks low ++ symbol s.Semicolon ∷ []) ++ name n ∷ symbol (below upto) ∷ ((expr_toks high ++ symbol s.Semicolon ∷ []) ++ name n ∷ symbol s.Increment ∷ []))
+    symbol s.Assign ∷ ((expr_toks low ++ symbol s.Semicolon ∷ [])
+    ++ name n ∷ symbol (below upto) ∷ ((expr_toks high ++ symbol s.Semicolon ∷ []) ++ name n ∷ symbol s.Increment ∷ []))
 
 abbrev pub braces_toks : List Tok → List Tok
 braces_toks ts = symbol s.OpenBrace ∷ (ts ++ symbol s.CloseBrace ∷ [])

@@ -62,6 +62,7 @@ users_named p valid i d lt =
     let here : place (variable_names p) at.0 ≡ i = (let e = at.3 in omega (arith, e)) in
     ap (λ (k : ℕ). map pos (users_from 0 (var_places p) k)) (sym here) ∙ (named (variable_names p) at.0 at.2 p.ops 0 valid.vars_apart ∙ ap (λ (v : Name). having v 0 p.ops) same)
 
+-- a list that is mapped has as many elements
 pub map-length : {A B : Type 0} (f : A → B) (xs : List A) → length (map f xs) ≡ length xs
 map-length f [] = refl
 map-length f (x ∷ xs) = ap suc (map-length f xs)
@@ -74,5 +75,6 @@ few_users p valid i k d lt =
     let small = all_small (0 + length (var_places p)) (users_from 0 (var_places p) i) (users_below 0 (var_places p) i) k d lt in
     omega (arith, few, many, small)
 
+-- a plan has at most 256 tables
 pub few_tables : (p : PlanForm) → IsPlan p → length p.tables ≤ 256
 few_tables p valid = let few : length p.tables + length p.vars ≤ 256 = valid.within Variables 0 0 (omega arith) in omega (arith, few)

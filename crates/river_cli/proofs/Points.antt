@@ -143,6 +143,7 @@ module _ (lang : Lang) (file : List ℕ) (held : Option Held) where
 
 -- `upgrade` that stops before its text is read
 module _ (file : List ℕ) (held : Option Held) where
+  -- `upgrade` stops where its program does
   pub upgrade-first : (rose : Type 0) (s : Stop) → ((next : SourceProgram → Order) → Stops (Some (of_program River file next)) held rose s)
       → (next : List ℕ → Order) → Stops (Some (of_upgrade file next)) held rose s
   unfolding of_upgrade

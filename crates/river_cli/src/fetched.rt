@@ -38,7 +38,8 @@ pub fn fetch_all<S: Shelf>(
 fn fetch_one<S: Shelf>(alloc: Global, shelf: &mut S, word: &InWord) -> Result<Bytes, Stop>
     ensures stays { S.held shelf.new ≡ S.held shelf.old }
     ensures later { S.faults shelf.old ≤ S.faults shelf.new }
-    ensures passes { Passes (Fetch word.now.file most_input (large_input word.now.name)) (S.held shelf.old) (Rose S.stays_at_last (S.faults shelf.old) (S.faults shelf.new)) result }
+    ensures passes { Passes (Fetch word.now.file most_input (large_input word.now.name))
+        (S.held shelf.old) (Rose S.stays_at_last (S.faults shelf.old) (S.faults shelf.new)) result }
 {
     let large = text::large(alloc, word.name.as_slice())?;
     fetch_turn(

@@ -164,7 +164,8 @@ fn add_workers(
     said: &mut WordSet,
 ) -> Result<(), WordFault>
     ensures within { OnOk result (1 ≤ length behind.now) }
-    ensures ok { OnOk result (with_phrase (with_number word.now with_workers (number_ahead 64 behind.now)) said.old command.old ≡ Some (record { takes = 1; said = said.new; command = command.new })) }
+    ensures ok { OnOk result (with_phrase (with_number word.now with_workers (number_ahead 64 behind.now)) said.old command.old
+        ≡ Some (record { takes = 1; said = said.new; command = command.new })) }
     ensures usage { IsErrOf result WordFault.Usage → with_phrase (with_number word.now with_workers (number_ahead 64 behind.now)) said.old command.old ≡ None }
 {
     let Some(number) = number_ahead(behind, MOST_WORKERS) else {
@@ -184,7 +185,8 @@ fn add_cap(
     said: &mut WordSet,
 ) -> Result<(), WordFault>
     ensures within { OnOk result (1 ≤ length behind.now) }
-    ensures ok { OnOk result (with_phrase (with_number word.now with_cap (number_ahead most_cap behind.now)) said.old command.old ≡ Some (record { takes = 1; said = said.new; command = command.new })) }
+    ensures ok { OnOk result (with_phrase (with_number word.now with_cap (number_ahead most_cap behind.now)) said.old command.old
+        ≡ Some (record { takes = 1; said = said.new; command = command.new })) }
     ensures usage { IsErrOf result WordFault.Usage → with_phrase (with_number word.now with_cap (number_ahead most_cap behind.now)) said.old command.old ≡ None }
 {
     let Some(number) = number_ahead(behind, MOST_CAP) else {

@@ -10,9 +10,10 @@ use river_base::{NoMemory, Text};
 use std::alloc::Global;
 
 /// The command that the words ask for. A sentence is `load N`, with N from 1 to 100,000; or `upgrade FILE`; or `run LANG FILE`,
-/// `mean LANG FILE` or `plan LANG FILE`, and behind it, in any order, what the command takes: `run` and `mean` take words NAME=FILE and `-H`, `run`
-/// also `-c`, `-w N` with N from 1 to 64 and `-q N` with N from 1 to 65,536, and `run` and `plan` take `-r SCRIPT`. FILE behind
-/// `upgrade` or the language is not empty and does not begin with `-`; no option and no NAME stands twice. A number has 1 to 9 decimal digits.
+/// `mean LANG FILE` or `plan LANG FILE`, and behind it, in any order, what the command takes: `run` and `mean` take words NAME=FILE and
+/// `-H`, `run` also `-c`, `-w N` with N from 1 to 64 and `-q N` with N from 1 to 65,536, and `run` and `plan` take `-r SCRIPT`. FILE
+/// behind `upgrade` or the language is not empty and does not begin with `-`; no option and no NAME stands twice. A number has 1 to 9
+/// decimal digits.
 pub fn read_words(alloc: Global, words: &[Text]) -> Result<Command, WordFault>
     ensures ok { IfOk result (λ command. command_of words.now ≡ Some command) }
     ensures usage { IsErrOf result WordFault.Usage → command_of words.now ≡ None }

@@ -47,6 +47,7 @@ filter =
     let n : IsSync (Listed.the_field i64).row = numbers in
     search (sendable, crosses) depth 40
 
+-- a kernel may be shared among threads
 pub kernel_shared : IsSync (Kernel.the_field).row
 kernel_shared =
     kernel.sync-Kernel code_kernel filter (search sendable) numbers (λ h s. search crosses) (search (sendable, window.the_field_sync)) expression expressions

@@ -50,9 +50,8 @@ kept (z ∷ zs) = Private ∷ []
 abbrev pub spliced : {A : Type 0} → ℕ → List A → List A → List A
 spliced at firsts seconds = take at firsts ++ (seconds ++ drop (at + 1) firsts)
 
--- The kernel is well formed, reads queues of the types `is`, writes queues of the types `os`, and has the variables `vs`, private ones and tables, in this
--- order.
--- All widths are 1 to 16, those of ports between two kernels included.
+-- The kernel is well formed, reads queues of the types `is`, writes queues of the types `os`, and has the variables `vs`, private ones
+-- and tables, in this order. All widths are 1 to 16, those of ports between two kernels included.
 abbrev pub Fits : Kern → List QueueType → List QueueType → List VarKind → Type 0
 Fits (code k) is os vs =
     (is ≡ rows k.body.inputs ∷ []) × (os ≡ ports k.outs) × (vs ≡ kept k.starts) × IsTrue (is_width k.body.inputs && (are_widths k.outs && is_code k))

@@ -5,7 +5,8 @@ ghost use Rattle.work_code.specs.Term.{term, terms, depth_of};
 ghost use Rattle.work_code.specs.Steps.{step, steps};
 ghost use Rattle.kern_rows.specs.Forms.{code_form, filter_form, run_form, optional_run};
 ghost use Rattle.river_base.specs.Number.{count_of};
-ghost use Rattle.river_kernels.specs.Formed.{left_of, has_rates, is_sound, is_term, has_port, is_step, is_steps, is_width, is_code, is_filter, is_usual, is_run, is_first, are_weights, is_window, pushes, pushes_once};
+ghost use Rattle.river_kernels.specs.Formed.{left_of, has_rates, is_sound, is_term, has_port};
+ghost use Rattle.river_kernels.specs.Formed.{is_step, is_steps, is_width, is_code, is_filter, is_usual, is_run, is_first, are_weights, is_window, pushes, pushes_once};
 ghost use Rattle.river_kernels.specs.Fits.{are_widths};
 
 use kern_bags::Window;

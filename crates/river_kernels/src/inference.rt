@@ -6,7 +6,8 @@ ghost use Rattle.kern_rows.specs.Forms.{code_form, filter_form};
 ghost use Rattle.river_kernels.specs.Formed.{is_width, is_term, is_code, is_filter, are_weights, is_window};
 ghost use Rattle.river_kernels.specs.Kern.{kern_of, code, filter, duplicate, deal, collect, packed, unpack, window, select, project, cross, streamer, tally, fused};
 ghost use Rattle.river_kernels.specs.Fits.{rows, stream, relation, width_of, is_sized, is_bag, ports, are_widths, kept, spliced};
-ghost use Rattle.river_kernels.specs.Types.{gives, only, rows_width, stream_width, relation_width, all_flat, all_packs, two_relations, types_of, packed_of, packed_outs, joined, IsFound, same_type};
+ghost use Rattle.river_kernels.specs.Types.{gives, only, rows_width, stream_width, relation_width, all_flat, all_packs};
+ghost use Rattle.river_kernels.specs.Types.{two_relations, types_of, packed_of, packed_outs, joined, IsFound, same_type};
 ghost use Rattle.river_kernels.specs.declared.types.VarKind.TheVariants.{Private, Table};
 
 use crate::formed::{

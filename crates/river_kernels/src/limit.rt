@@ -4,7 +4,8 @@ ghost use Rattle.work_code.specs.Steps.{step, steps, statements, body_of};
 ghost use Rattle.kern_rows.specs.Forms.{filter_form, run_form, optional_run};
 ghost use Rattle.river_base.specs.Number.{count_of};
 ghost use Rattle.river_kernels.specs.Kern.{kern_of};
-ghost use Rattle.river_kernels.specs.Limits.{told, either, first_above, size_once, size, weight_sum, nesting, body_numbers, rate_numbers, run_numbers, first_numbers, filter_numbers, weight_numbers, window_numbers, part_numbers};
+ghost use Rattle.river_kernels.specs.Limits.{told, either, first_above, size_once, size, weight_sum, nesting};
+ghost use Rattle.river_kernels.specs.Limits.{body_numbers, rate_numbers, run_numbers, first_numbers, filter_numbers, weight_numbers, window_numbers, part_numbers};
 
 use crate::Kernel;
 use kern_bags::Window;

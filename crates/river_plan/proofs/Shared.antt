@@ -13,6 +13,7 @@ use Rattle.river_plan.proofs.plan.TableDecl.TheSendSync as table
 operator : IsSync (Op.the_field).row
 operator = let k : IsSync (Kernel.the_field).row = kernel_shared in search (sendable, crosses, listed.the_sync, name.the_sync) depth 40
 
+-- a raw plan may be shared among threads
 pub plan_shared : IsSync (RawPlan.the_field).row
 plan_shared =
     let o : IsSync (Op.the_field).row = operator in

@@ -26,7 +26,8 @@ PlanParts = List Decl × (List Decl × (List Decl × (List TableDecl × (List Na
 
 abbrev pub plan_code : Coded PlanForm
 plan_code =
-    code_by PlanParts (coded× (coded_list decl.the_row.coded) (coded× (coded_list decl.the_row.coded) (coded× (coded_list decl.the_row.coded) (coded× (coded_list table_decl.the_row.coded) (coded× (coded_list name_code) (coded_list op_code))))))
+    code_by PlanParts (coded× (coded_list decl.the_row.coded) (coded× (coded_list decl.the_row.coded) (coded× (coded_list decl.the_row.coded)
+    (coded× (coded_list table_decl.the_row.coded) (coded× (coded_list name_code) (coded_list op_code))))))
     (λ p. (p.outputs, (p.inputs, (p.queues, (p.tables, (p.vars, p.ops))))))
     (λ t. record { outputs = t.0; inputs = t.1.0; queues = t.1.1.0; tables = t.1.1.1.0; vars = t.1.1.1.1.0; ops = t.1.1.1.1.1 })
     (λ p. refl)

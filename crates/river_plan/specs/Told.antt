@@ -69,7 +69,8 @@ in_found f declared ws = first_found f (IsIn declared) (λ b w. less_decided 0 (
 
 undeclared_found : (p : PlanForm) → Found (Undeclared p)
 undeclared_found p = along_found (λ b op. UndeclaredAt (queue_names p) (variable_names p) op)
-    (λ b op. or_else_found _ _ (in_found Queue (queue_names p) op.reads) (or_else_found _ _ (in_found Queue (queue_names p) op.writes) (in_found Variable (variable_names p) op.vars))) [] p.ops
+    (λ b op. or_else_found _ _ (in_found Queue (queue_names p) op.reads)
+    (or_else_found _ _ (in_found Queue (queue_names p) op.writes) (in_found Variable (variable_names p) op.vars))) [] p.ops
 
 once_found : (given : List Name) (uses : Name → ℕ) (ws : List Name) → Found (As Queue (IsFirst (λ before q. IsUsedOnce (count q given) (uses q)) ws))
 once_found given uses ws = first_found Queue (λ before q. IsUsedOnce (count q given) (uses q)) (λ b q. once_decided (count q given) (uses q)) ws
@@ -93,7 +94,8 @@ misfit_found p = first_found (λ op. Label op.label) (λ before op. IsFit p op) 
 
 over_found : (p : PlanForm) → Found (OverLimit p)
 over_found p =
-    along_found (λ b limit. OverLimitAt p limit) (λ b limit. first_found (λ n. P8 limit (told n)) (λ c n. n ≤ most_of limit) (λ c n. most_decided n (most_of limit)) (numbers limit p)) [] limits
+    along_found (λ b limit. OverLimitAt p limit)
+    (λ b limit. first_found (λ n. P8 limit (told n)) (λ c n. n ≤ most_of limit) (λ c n. most_decided n (most_of limit)) (numbers limit p)) [] limits
 
 shared_found : (p : PlanForm) → Found (Shared p)
 shared_found p = first_found Variable (λ before v. IsApart p v) (λ b v. apart_decided p v) (variable_names p)

@@ -62,7 +62,9 @@ fn is_fit(
     requires reads { op < length wiring.now.reads.by_op }
     requires writes { op < length wiring.now.writes.by_op }
     requires vars { op < length wiring.now.vars.by_op }
-    ensures { IfOk result (λ fit. IsTrue fit ↔ FitsPlaces queues.now vars.now (kern_of kernel.now) (list_at wiring.now.reads.by_op op) (list_at wiring.now.writes.by_op op) (list_at wiring.now.vars.by_op op)) }
+    ensures { IfOk result (λ fit. IsTrue fit
+        ↔ FitsPlaces queues.now vars.now (kern_of kernel.now) (list_at wiring.now.reads.by_op op) (list_at wiring.now.writes.by_op op)
+        (list_at wiring.now.vars.by_op op)) }
 {
     let reads = kinds_at(alloc, wiring.reads.by_op.at(op), queues)?;
     let writes = kinds_at(alloc, wiring.writes.by_op.at(op), queues)?;

@@ -21,6 +21,7 @@ pub record Item {A : Type 0} (F : A → List Tok → Type 0) (text : A → List 
   pub formed : F v (tok v)
 
 module _ {A : Type 0} (F : A → List Tok → Type 0) (text : A → List ℕ) (tok : A → List Tok) where
+  -- items each of which is printed as its tokens are so all together
   pub pieces : (P : A → Type 0) → ((v : A) → P v → Item F text tok v) → (vs : List A) → w.Every P vs → AllPieces (map text vs) (map tok vs)
   pieces P item [] h = tt
   pieces P item (v ∷ vs) h = ((item v h.0).piece, pieces P item vs h.1)
@@ -31,6 +32,7 @@ module _ {A : Type 0} (F : A → List Tok → Type 0) (text : A → List ℕ) (t
   each-more P item (v ∷ vs) h =
       (symbol s.Comma ∷ tok v, more_toks (map tok vs), refl, record { back = tok v; is = refl; formed = (item v h.0).formed }, each-more P item vs h.1)
 
+  -- one item or more, with commas between, are in the grammar
   pub items-commas : (P : A → Type 0) → ((v : A) → P v → Item F text tok v) → (vs : List A) → 0 < length vs → w.Every P vs
       → form.Commas F vs (items_toks (map tok vs))
   items-commas P item [] some h = absurd (omega arith)
@@ -40,6 +42,7 @@ module _ {A : Type 0} (F : A → List Tok → Type 0) (text : A → List ℕ) (t
     formed = record { front = tok v; back = more_toks (map tok vs); is = refl; first = (item v h.0).formed; second = each-more P item vs h.1 };
   }
 
+  -- so is a list of items, or of none
   pub items-listing : (P : A → Type 0) → ((v : A) → P v → Item F text tok v) → (vs : List A) → w.Every P vs → form.Listing F vs (items_toks (map tok vs))
   items-listing P item [] h = inl (refl, refl)
   items-listing P item (v ∷ vs) h = inr (items-commas P item (v ∷ vs) (omega arith) h)
@@ -49,6 +52,7 @@ module _ {A : Type 0} (F : A → List Tok → Type 0) (text : A → List ℕ) (t
 pub number-piece : (n : ℕ) → n ≤ most → Piece (decimal n) (number n ∷ [])
 number-piece n fits = record { spells = spells-number n fits; inside = inside-number n }
 
+-- the token of a count
 abbrev pub count_tok : ℕ → List Tok
 count_tok n = number n ∷ []
 
@@ -60,6 +64,7 @@ count-formed n h = record { passes = is_count-below n h; formed = refl }
 pub count-item : (n : ℕ) → w.IsCount n → Item form.Count decimal count_tok n
 count-item n h = record { piece = number-piece n (omega arith); formed = count-formed n h }
 
+-- the token of a value from 0 on
 abbrev pub value_tok : ℤ → List Tok
 value_tok z = number (natural z) ∷ []
 
@@ -83,6 +88,7 @@ abbrev pub signed_tok : ℤ → List Tok
 signed_tok (pos n) = number n ∷ []
 signed_tok (negsuc n) = symbol s.Minus ∷ number (suc n) ∷ []
 
+-- the tokens of a start; the least one is `min`
 abbrev pub start_tok : ℤ → List Tok
 start_tok z = cond (int_eq z (negsuc 9223372036854775807)) (name (codes "min") ∷ []) (signed_tok z)
 

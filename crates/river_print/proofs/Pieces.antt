@@ -18,6 +18,7 @@ use Rattle.river_print.proofs.PrintedExpr.{blank-then}
 
 -- ---- units do not end within braces
 
+-- tokens put before the first of the units
 abbrev pub all_first : List Tok → List (List Tok) → List (List Tok)
 all_first [] us = us
 all_first (t ∷ ts) us = to_first t (all_first ts us)
@@ -167,6 +168,7 @@ number-first n u us fits y e = record {
 pub blank-first : (u : List ℕ) (us : List Tok) → Piece u us → Piece (codes " " ++ u) us
 blank-first u us y = record { spells = blank-then u us y.spells; inside = y.inside }
 
+-- the end of a line is a blank
 pub line_is : is_blank 10 ≡ true
 unfolding is_blank
 line_is = refl
@@ -216,12 +218,15 @@ ends-colon u = record { ends = λ rest no. refl }
 pub plain-Open : IsPlain s.Open
 plain-Open = record { no_open = refl; no_close = refl }
 
+-- `)` is no brace
 pub plain-Close : IsPlain s.Close
 plain-Close = record { no_open = refl; no_close = refl }
 
+-- `[` is no brace
 pub plain-OpenBracket : IsPlain s.OpenBracket
 plain-OpenBracket = record { no_open = refl; no_close = refl }
 
+-- `]` is no brace
 pub plain-CloseBracket : IsPlain s.CloseBracket
 plain-CloseBracket = record { no_open = refl; no_close = refl }
 
@@ -234,12 +239,14 @@ plain-Semicolon = record { no_open = refl; no_close = refl }
 pub plain-Colon : IsPlain s.Colon
 plain-Colon = record { no_open = refl; no_close = refl }
 
+-- `=` is no brace
 pub plain-Assign : IsPlain s.Assign
 plain-Assign = record { no_open = refl; no_close = refl }
 
 pub plain-Less : IsPlain s.Less
 plain-Less = record { no_open = refl; no_close = refl }
 
+-- `-` is no brace
 pub plain-Minus : IsPlain s.Minus
 plain-Minus = record { no_open = refl; no_close = refl }
 
@@ -287,14 +294,17 @@ braced-nothing = record {
 
 -- ---- lists
 
+-- the tokens of items, each behind a comma
 abbrev pub more_toks : List (List Tok) → List Tok
 more_toks [] = []
 more_toks (t ∷ ts) = symbol s.Comma ∷ (t ++ more_toks ts)
 
+-- the tokens of items with commas between
 abbrev pub items_toks : List (List Tok) → List Tok
 items_toks [] = []
 items_toks (t ∷ ts) = t ++ more_toks ts
 
+-- each of the texts has the tokens of its place
 abbrev pub AllPieces : List (List ℕ) → List (List Tok) → Type 0
 AllPieces [] [] = Unit {0}
 AllPieces [] (t ∷ ts) = ⊥

@@ -31,6 +31,7 @@ counts n h = let most = h.1 in omega (arith, most)
 
 -- ---- the header
 
+-- the tokens of `river 2;`
 unfoldable pub header_toks : List Tok
 header_toks = name (codes "river") ∷ number 2 ∷ symbol s.Semicolon ∷ []
 
@@ -97,6 +98,7 @@ unfoldable pub cap_toks : Option ℕ → List Tok
 cap_toks None = []
 cap_toks (Some n) = name (codes "cap") ∷ listed (count_tok n ∷ []) []
 
+-- the tokens of a queue, with its capacity where it has one
 unfoldable pub queue_toks : Decl → Option ℕ → List Tok
 queue_toks d most = name (codes "queue") ∷ name d.name ∷ symbol s.Colon ∷ (type_toks d.kind ++ (cap_toks most ++ symbol s.Semicolon ∷ []))
 

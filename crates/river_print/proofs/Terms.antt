@@ -83,6 +83,7 @@ abbrev mutual
   step_toks (Push p ts) = name (codes "push") ∷ number p ∷ symbol s.Open ∷ (items_toks (map printed ts) ++ symbol s.Close ∷ symbol s.Semicolon ∷ [])
   step_toks (If c a b) = name (codes "if") ∷ symbol s.Open ∷ (printed c ++ symbol s.Close ∷ (body_toks a ++ else_toks b))
 
+  -- the tokens of a body: its steps in braces
   pub body_toks : Steps → List Tok
   body_toks Done = symbol s.OpenBrace ∷ symbol s.CloseBrace ∷ []
   body_toks (Then x xs) = symbol s.OpenBrace ∷ ((step_toks x ++ rest_toks xs) ++ symbol s.CloseBrace ∷ [])
@@ -170,6 +171,7 @@ mutual
   step-piece (Push p ts) h = push-piece p ts h.0 h.2
   step-piece (If c a b) h = if-piece c a b h.0 (body-piece a h.1) (else-piece b h.2)
 
+  -- the text of a body that can be written has these tokens
   pub body-piece : (xs : Steps) → w.AreWritableSteps xs → Piece (body_text xs) (body_toks xs)
   body-piece Done h = braced-nothing
   body-piece (Then x xs) h = in_braces x xs (step-piece x h.0) (rest-piece xs h.1)
@@ -301,6 +303,7 @@ mutual
         if-formed (bodies.IsBody nest) m c a b h.0 (omega arith) (body-formed nest (suc m) a h.1 (omega arith) (omega arith)) (else-formed nest (suc m) b h.2 (omega arith) (omega arith));
   }
 
+  -- a body that can be written is in the grammar, by its tokens, where there is room for its nesting
   pub body-formed : (nest n : ℕ) (xs : Steps) → w.AreWritableSteps xs → w.depths xs ≤ nest → nest + 66 ≤ n → bodies.IsBody nest n xs (body_toks xs)
   body-formed nest zero xs h d room = absurd (omega arith)
   body-formed nest (suc m) Done h d room =

@@ -39,6 +39,7 @@ use Rattle.river_print.proofs.PrintedExpr.{blank-then}
 
 -- ---- names
 
+-- a name is the text of a word
 pub name-text : (v : List ℕ) → is_name v ≡ true → is_name_text v ≡ true
 name-text [] h = cc
 name-text (b ∷ bs) h =
@@ -56,6 +57,7 @@ pub record UnitPiece (bytes : List ℕ) (ts : List Tok) : Type 0 where
 
 -- ---- lines
 
+-- these bytes are these tokens, whatever comes behind
 abbrev pub Line : List ℕ → List Tok → Type 0
 Line bytes ts = Spells bytes ts Anything
 
@@ -63,14 +65,17 @@ Line bytes ts = Spells bytes ts Anything
 pub record EndsNow (bytes : List ℕ) : Type 0 where
   pub now : (rest : List ℕ) → NoWord (bytes ++ rest)
 
+-- no word goes on at a blank
 pub now-blank : (u : List ℕ) → EndsNow (codes " " ++ u)
 unfolding first_is is_word is_letter is_digit
 now-blank u = record { now = λ rest. refl }
 
+-- nor at a colon
 pub now-colon : (u : List ℕ) → EndsNow (codes ":" ++ u)
 unfolding first_is is_word is_letter is_digit
 now-colon u = record { now = λ rest. refl }
 
+-- nor at a semicolon
 pub now-semicolon : (u : List ℕ) → EndsNow (codes ";" ++ u)
 unfolding first_is is_word is_letter is_digit
 now-semicolon u = record { now = λ rest. refl }
@@ -79,9 +84,11 @@ now-line : (u : List ℕ) → EndsNow (codes "\n" ++ u)
 unfolding first_is is_word is_letter is_digit
 now-line u = record { now = λ rest. refl }
 
+-- a piece before a line where no word goes on
 pub line-then : (a : List ℕ) (ts : List Tok) (u : List ℕ) (us : List Tok) → Piece a ts → Line u us → EndsNow u → Line (a ++ u) (ts ++ us)
 line-then a ts u us x y e = spells-then a ts u us x.spells y (λ rest any. e.now rest)
 
+-- a blank before a line
 pub line-blank : (u : List ℕ) (us : List Tok) → Line u us → Line (codes " " ++ u) us
 line-blank u us y = blank-then u us y
 
@@ -91,9 +98,11 @@ line-symbol x u us y follows = spells-then (symbol_bytes x) (symbol x ∷ []) u 
 line-end : Line (codes "\n") []
 line-end = spells-blank 10 line_is
 
+-- a semicolon and the end of the line
 pub semicolon-end : Line (codes ";\n") (symbol s.Semicolon ∷ [])
 semicolon-end = line-symbol s.Semicolon (codes "\n") [] line-end (λ rest. tt)
 
+-- a name alone
 pub name-piece : (v : List ℕ) → is_name_text v ≡ true → Piece v (name v ∷ [])
 name-piece v is = record { spells = spells-name v is; inside = inside-name v }
 
@@ -106,14 +115,17 @@ colon-line u us y = line-symbol s.Colon (codes " " ++ u) us (line-blank u us y) 
 
 -- ---- types
 
+-- a list of one count is printed as its token
 pub one_count : (n : ℕ) → w.IsCount n → AllPieces (decimal n ∷ []) (count_tok n ∷ [])
 one_count n h = pieces form.Count decimal count_tok w.IsCount count-item (n ∷ []) (h, tt)
 
+-- the tokens of a type without `pack`
 unfoldable pub flat_toks : FlatType → List Tok
 flat_toks (Rows n) = name (codes "rows") ∷ listed (count_tok n ∷ []) []
 flat_toks (Stream n) = name (codes "stream") ∷ listed (count_tok n ∷ []) []
 flat_toks (Relation n) = name (codes "relation") ∷ listed (count_tok n ∷ []) []
 
+-- the tokens of a type
 unfoldable pub type_toks : QueueType → List Tok
 type_toks (Flat t) = flat_toks t
 type_toks (Pack t) = name (codes "pack") ∷ listed (flat_toks t ∷ []) []
@@ -140,11 +152,13 @@ flat-piece (Rows n) h = worded (codes "rows") (decimal n ∷ []) (count_tok n �
 flat-piece (Stream n) h = worded (codes "stream") (decimal n ∷ []) (count_tok n ∷ []) is_stream (one_count n h)
 flat-piece (Relation n) h = worded (codes "relation") (decimal n ∷ []) (count_tok n ∷ []) is_relation (one_count n h)
 
+-- the text of a type that can be written has these tokens
 pub type-piece : (t : QueueType) → w.IsWritableType t → Piece (type_text t) (type_toks t)
 unfolding type_toks
 type-piece (Flat t) h = flat-piece t h
 type-piece (Pack t) h = worded (codes "pack") (flat_text t ∷ []) (flat_toks t ∷ []) is_pack (flat-piece t h, tt)
 
+-- a count in round brackets is in the grammar
 pub count-round : (n : ℕ) → w.IsCount n → Round (λ m. form.Count) 128 n (listed (count_tok n ∷ []) [])
 count-round n h = round-formed (λ k. form.Count) 127 n (count_tok n) (count-formed n h)
 
@@ -160,6 +174,7 @@ flat-formed (Stream n) h =
 flat-formed (Relation n) h =
     record { word = codes "relation"; back = listed (count_tok n ∷ []) []; is = refl; formed = record { value = n; is = refl; formed = inner_count n h } }
 
+-- a type that can be written is in the grammar, by its tokens
 pub type-formed : (t : QueueType) → w.IsWritableType t → p.IsType t (type_toks t)
 unfolding type_toks flat_toks
 type-formed (Flat (Rows n)) h =
@@ -178,6 +193,7 @@ type-formed (Pack t) h = record {
 
 -- ---- declarations
 
+-- the tokens of a declaration: a word, a name and a type
 unfoldable pub decl_toks : List ℕ → Decl → List Tok
 decl_toks word d = name word ∷ name d.name ∷ symbol s.Colon ∷ (type_toks d.kind ++ symbol s.Semicolon ∷ [])
 
@@ -203,6 +219,7 @@ decl-whole word n (Pack (Rows k)) rest = refl
 decl-whole word n (Pack (Stream k)) rest = refl
 decl-whole word n (Pack (Relation k)) rest = refl
 
+-- a name is in the grammar
 pub named-formed : (v : List ℕ) → is_name v ≡ true → p.IsName v (name v ∷ [])
 named-formed v h = record { passes = h; formed = refl }
 
@@ -286,6 +303,7 @@ kind-formed (Maximum best k) h = record {
   };
 }
 
+-- the tokens of a table
 unfoldable pub table_toks : TableDecl → List Tok
 table_toks t = name (codes "table") ∷ var t.name ∷ symbol s.Colon ∷ (kind_toks t.kind ++ symbol s.Semicolon ∷ [])
 
@@ -328,6 +346,7 @@ table-formed t h = record {
   };
 }
 
+-- the tokens of a variable
 unfoldable pub var_toks : List ℕ → List Tok
 var_toks v = name (codes "var") ∷ var v ∷ symbol s.Semicolon ∷ []
 
@@ -405,6 +424,7 @@ ports-line qs vs u us h k y e =
 abbrev kernel_braced : OpForm → List Tok
 kernel_braced op = symbol s.OpenBrace ∷ (kernel_toks op.kernel ++ symbol s.CloseBrace ∷ [])
 
+-- the tokens of an operator: what it writes, what it reads, and its kernel in braces
 unfoldable pub op_toks : OpForm → List Tok
 op_toks op =
     name (codes "op") ∷ name op.label ∷ symbol s.Colon ∷ listed (port_toks op.writes op.vars) (symbol s.Less ∷ symbol s.Minus ∷ listed (port_toks op.reads op.vars) (kernel_braced op))

@@ -5,7 +5,8 @@ ghost use Rattle.river_plan.specs.Caps.{AreCaps, first_cap, own_of};
 ghost use Rattle.river_plan.specs.Forms.{plan_form, op_form};
 ghost use Rattle.river_print.specs.Laws.{StandsForAlone, stood};
 ghost use Rattle.river_print.specs.Printable.{IsPrintable};
-ghost use Rattle.river_print.specs.Printed.{flat_text, type_text, table_text, cap_text, decl_line, capped_line, queue_line, table_line, var_line, op_line, head_text, lines, queues_text, plan_text};
+ghost use Rattle.river_print.specs.Printed.{flat_text, type_text, table_text, cap_text, decl_line, capped_line};
+ghost use Rattle.river_print.specs.Printed.{queue_line, table_line, var_line, op_line, head_text, lines, queues_text, plan_text};
 
 use crate::items::{counted, ports, two_in_brackets, var};
 use crate::kernel::print_kernel;

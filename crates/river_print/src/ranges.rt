@@ -6,7 +6,8 @@ ghost use Rattle.work_code.specs.Steps.{step, steps, body_of};
 ghost use Rattle.kern_rows.specs.Forms.{code_form, filter_form, optional_run, run_form};
 ghost use Rattle.river_kernels.specs.Kern.{kern_of};
 ghost use Rattle.river_plan.specs.Forms.{plan_form, op_form};
-ghost use Rattle.river_print.specs.Ranged.{IsRanged, IsRangedTerm, IsRangedStep, IsRangedSteps, IsRangedBody, IsRangedCode, IsRangedRun, IsRangedFirst, IsRangedFilter, IsRangedWindow, IsRangedKernel, IsRangedOp};
+ghost use Rattle.river_print.specs.Ranged.{IsRanged, IsRangedTerm, IsRangedStep, IsRangedSteps, IsRangedBody, IsRangedCode};
+ghost use Rattle.river_print.specs.Ranged.{IsRangedRun, IsRangedFirst, IsRangedFilter, IsRangedWindow, IsRangedKernel, IsRangedOp};
 ghost use Rattle.river_print.specs.Writable.{Every, IsCount, IsWritableStart, IsNamed, IsWritableDecl, IsWritableType, IsWritableTable, IsWritableKind};
 ghost use Rattle.river_kernels.specs.Fits.{width_of};
 

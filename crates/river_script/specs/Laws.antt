@@ -10,9 +10,9 @@ use Rattle.river_script.specs.Grammar.{IsScript, IsBadAt}
 use Rattle.river_script.specs.Meaning.{rewritten}
 use Rattle.river_script.specs.Script.{StepForm, script_of}
 
--- What a script has, in the words of the grammar. A plan: the text stands for steps of which it is the last plan. A fault of its bytes: that is its first; a
--- unit: that is the first that is no step, whatever the steps before it would do; a step: the text stands for steps of which it is the first that fails. It is
--- never want of memory.
+-- What a script has, in the words of the grammar. A plan: the text stands for steps of which it is the last plan. A fault of its bytes:
+-- that is its first; a unit: that is the first that is no step, whatever the steps before it would do; a step: the text stands for steps
+-- of which it is the first that fails. It is never want of memory.
 abbrev pub Has : PlanForm → List ℕ → Result PlanForm ScriptFault → Type 0
 Has p text (Ok q) = (ss : List StepForm) × IsScript text ss × (script_of p ss ≡ Ok q)
 Has p text (Err (Text (BadByte at))) = tokens_in text ≡ Err (lex.BadByte at)

@@ -12,7 +12,8 @@ use Rattle.rw_local.specs.Fuse.{fuse_of}
 use Rattle.rw_local.specs.Hoist.{hoist_of}
 use Rattle.rw_fission.specs.Asked.{fission_of}
 
--- a step of a script: the writer and the reader of a queue are fused; the selection of a label is hoisted; the operator of a label is split into so many
+-- a step of a script: the writer and the reader of a queue are fused; the selection of a
+-- label is hoisted; the operator of a label is split into so many
 pub data StepForm : Type 0 where
   fusing : Name → StepForm
   hoisting : Name → StepForm

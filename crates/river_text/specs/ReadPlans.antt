@@ -14,7 +14,8 @@ use Rattle.river_plan.specs.Forms.{OpForm}
 use Rattle.river_plan.specs.declared.plan.Decl.{Decl}
 use Rattle.river_plan.specs.declared.plan.TableDecl.{TableDecl}
 use Rattle.river_kernels.specs.Kern.{Kern}
-use Rattle.text_forms.specs.Parse.{Parse, is_word_at, name_at, var_at, run_at, then_read, then_rest, given, both, after, after_word, before, maybe, tested, seen, known, merged, listing}
+use Rattle.text_forms.specs.Parse.{Parse, is_word_at, name_at, var_at, run_at, then_read, then_rest}
+use Rattle.text_forms.specs.Parse.{given, both, after, after_word, before, maybe, tested, seen, known, merged, listing}
 use Rattle.text_forms.specs.Parse as parse
 use Rattle.text_forms.specs.Parse.{headed}
 use Rattle.text_forms.specs.Texts.{whole}
@@ -106,7 +107,8 @@ op_of_parts label outs ins kernel = if same_vars (label, (outs, (ins, kernel))) 
 -- an operator, behind its name and what it writes
 unfoldable pub op_from_at : List ℕ → Ports → Parse OpForm
 op_from_at label outs ts =
-    then_rest (run_at (s.Less ∷ s.Minus ∷ []) ts) (λ us. then_read (ports_at us) (λ ins vs. then_read (braced_at brackets vs) (λ kernel ws. given (op_of_parts label outs ins kernel) ws)))
+    then_rest (run_at (s.Less ∷ s.Minus ∷ []) ts)
+    (λ us. then_read (ports_at us) (λ ins vs. then_read (braced_at brackets vs) (λ kernel ws. given (op_of_parts label outs ins kernel) ws)))
 
 unfoldable pub op_at : Parse OpForm
 op_at ts =

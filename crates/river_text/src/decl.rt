@@ -1,7 +1,8 @@
 // Declarations read.
 ghost use Rattle.std.specs.Prelude.{◌≡◌};
 ghost use Rattle.text_forms.specs.Gives.{Gives};
-ghost use Rattle.river_text.specs.ReadPlans.{river_name_at, river_var_at, flat_after, flat_at, packed_at, type_at, decl_at, cap_at, queue_at, header_at, kind_at, table_at, private_at};
+ghost use Rattle.river_text.specs.ReadPlans.{river_name_at, river_var_at, flat_after, flat_at, packed_at, type_at, decl_at};
+ghost use Rattle.river_text.specs.ReadPlans.{cap_at, queue_at, header_at, kind_at, table_at, private_at};
 
 use crate::number::{number, pair};
 use kern_tables::TableKind;

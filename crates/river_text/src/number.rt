@@ -3,7 +3,8 @@ ghost use Rattle.std.specs.Prelude.{◌≡◌};
 ghost use Rattle.text_forms.specs.Gives.{Gives};
 ghost use Rattle.text_forms.specs.Parse.{commas, count_at, listing};
 ghost use Rattle.work_code.specs.declared.sign.Symbol.TheVariants as s;
-ghost use Rattle.river_text.specs.ReadKernels.{kind_number_at, signed_at, width_at, round, starts_at, widths_at, weights_at, number_at, two_at, pair_at, three_at, triple_at, rates_at};
+ghost use Rattle.river_text.specs.ReadKernels.{kind_number_at, signed_at, width_at, round, starts_at};
+ghost use Rattle.river_text.specs.ReadKernels.{widths_at, weights_at, number_at, two_at, pair_at, three_at, triple_at, rates_at};
 
 use river_base::Numbers;
 use std::alloc::Global;

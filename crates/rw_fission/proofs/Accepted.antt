@@ -39,6 +39,7 @@ not_ok h = absurd (cc h)
 some_ok : (p q : PlanForm) → yes p ≡ yes q → p ≡ q
 some_ok p q h = cc h
 
+-- what is none is not some
 pub no_some : {A : Type 0} (a : A) → None ≡ Some a → ⊥
 no_some a h = absurd (cc h)
 
@@ -210,6 +211,7 @@ way_by p op m n source w (Flat t) r e h = record {
       (either_is (packs_way p op m n op.writes op.vars) (either (blocks_way p op m n op.kernel) (adds_way p op m op.writes op.vars)) w h);
 }
 
+-- a way that is found for an operator with one source is one of the three
 pub way_is : (p : PlanForm) (op : OpForm) (m : Made) (n : ℕ) (source : Name) (w : Way) → op.reads ≡ source ∷ []
     → way_of p op m n (kind_of (all_decls p) source) ≡ Some w → IsWay p op m n source w
 way_is p op m n source w r h = way_by p op m n source w (kind_of (all_decls p) source) r refl h

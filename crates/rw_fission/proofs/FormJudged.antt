@@ -74,6 +74,7 @@ module _ (p : PlanForm) (op : OpForm) (m : Made) (n : ℕ) (source : Name) where
 
   -- WHICH IS TAKEN
 
+  -- what is answered: the form by which the operator is split, or that it has none of the three
   abbrev pub WayJudged : Option Way → Type 0
   WayJudged (Some w) = Takes p op m n source w
   WayJudged None = (CanPack p op source → ⊥) × (CanBlock p op source → ⊥) × (CanAdd p op source → ⊥)

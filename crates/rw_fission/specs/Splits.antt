@@ -79,5 +79,6 @@ pub record Splits (Good : item.Item → Type 0) (p : PlanForm) (l : Name) (op : 
   -- what comes out and what is added
   pub joins : JoinerGives Good op n w w.join
   pub adds : (xs : List item.Item) (x : Name) (test : List ℤ → Bool)
-      → sum_below n (λ i. count_by test (joined (tables_of (table_names p.tables) (replica_op w m i)) (feed (fire w.inner 0) (dealt_to n w.share xs i) (first_kept w.inner)).adds x))
+      → sum_below n (λ i. count_by test (joined (tables_of (table_names p.tables) (replica_op w m i))
+      (feed (fire w.inner 0) (dealt_to n w.share xs i) (first_kept w.inner)).adds x))
       ≡ count_by test (joined (tables_of (table_names p.tables) op) (feed (fire op.kernel 0) xs (first_kept op.kernel)).adds x)

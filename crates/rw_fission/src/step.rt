@@ -70,7 +70,8 @@ fn split_form(
     requires few { n ≤ 16 }
     requires place { IsPlace label.now (op_forms raw.now.ops) place }
     requires valid { (op : OpForm) → IsPlaceOf op raw.now.ops place → IsPlanIfApart (formed_plan (plan_form raw.now) place op (made_of label.now) n kind form) }
-    ensures { (op : OpForm) → IsPlaceOf op raw.now.ops place → let m = made_of label.now in HoldsOfAnswer (λ u. u ≡ fitting m n (formed_plan (plan_form raw.now) place op m n kind form)) result }
+    ensures { (op : OpForm) → IsPlaceOf op raw.now.ops place
+        → let m = made_of label.now in HoldsOfAnswer (λ u. u ≡ fitting m n (formed_plan (plan_form raw.now) place op m n kind form)) result }
 {
     if !are_short(label, n) {
         return Err(Unfit::N5);

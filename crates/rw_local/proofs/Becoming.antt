@@ -166,6 +166,7 @@ module _ (w : ℕ) (t : Term) where
       let m = none_reads (of_second w) t d in
       (tt, (m.0, n.0, m.1, n.1, none_second w m.0 m.2, none_first w n.0 n.2))
 
+  -- what is answered of each kernel is right
   pub passes_judged : (k : Kern) → PassJudged k (passes w k t)
   passes_judged (window Now) = (tt, (λ h. h), (refl, refl))
   passes_judged (window (Range span)) = (tt, (λ h. h), (refl, refl))

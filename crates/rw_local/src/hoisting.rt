@@ -108,7 +108,8 @@ fn replaced(
     out: Name,
 ) -> Result<Ops, NoMemory>
     requires { side < length below.now.reads }
-    ensures { IfOk result (λ all. op_forms all ≡ replaced mid (raised (op_form above.now) (term cond.now) src mid ∷ lowered (op_form below.now) side mid out ∷ []) (op_forms ops.now)) }
+    ensures { IfOk result (λ all. op_forms all
+        ≡ replaced mid (raised (op_form above.now) (term cond.now) src mid ∷ lowered (op_form below.now) side mid out ∷ []) (op_forms ops.now)) }
 {
     let mut all = Ops::new(alloc);
     for op in ops.as_slice() {
@@ -131,7 +132,8 @@ fn add(
     out: Name,
 ) -> Result<(), NoMemory>
     requires { side < length below.now.reads }
-    ensures { OnOk result (op_forms all.new ≡ op_forms all.old ++ replaced mid (hoisted_ops (op_form above.now) (op_form below.now) side (term cond.now) src mid out) (op_form op.now ∷ [])) }
+    ensures { OnOk result (op_forms all.new
+        ≡ op_forms all.old ++ replaced mid (hoisted_ops (op_form above.now) (op_form below.now) side (term cond.now) src mid out) (op_form op.now ∷ [])) }
 {
     if contains(&op.writes, mid) {
         all.push(raised(alloc, above, cond, src, mid)?)?;

@@ -98,7 +98,8 @@ impl Judge {
         requires indexes { AllValues (expressions indexes.now) }
         requires value { AreValues (expression value.now) }
         requires weight { AllValues (listed (option_expression weight.now)) }
-        ensures { Reads result out.old out.new self.old self.new (step_of (Emit table.now (expressions indexes.now) (expression value.now) (option_expression weight.now)) (at_of self.old)) }
+        ensures { Reads result out.old out.new self.old self.new
+            (step_of (Emit table.now (expressions indexes.now) (expression value.now) (option_expression weight.now)) (at_of self.old)) }
     {
         self.counted()?;
         let (port, kind) = self.port_of(table)?;

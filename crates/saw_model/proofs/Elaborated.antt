@@ -259,6 +259,7 @@ module _ (w : ℕ) (r : List ℤ) where
       let one = term_is sc t env mem p.0 (omega (arith, h)) a p.1 in
       (λ i. one i ∷ []) ∙ ap (λ l. vals l mem) (ok_is (p.0 ∷ []) us p.2)
 
+  -- the values of expressions in a row are the values of the first and then of the others
   pub eval_all-append : (xs ys : List Expression) (env : Values) → eval_all (xs ++ ys) r env ≡ eval_all xs r env ++ eval_all ys r env
   eval_all-append [] ys env = refl
   eval_all-append (x ∷ xs) ys env = ap (λ l. eval x r env ∷ l) (eval_all-append xs ys env)

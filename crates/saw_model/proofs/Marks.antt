@@ -265,6 +265,7 @@ mutual
   block_body End = plain_body [] plain_none
   block_body (Then c b) = body_both (statement_marks c) (block_marks b) (statement_body c) (block_body b)
 
+  -- so do the marks of an `else`, or of none
   pub optional_body : (o : Optional) → IsBody (optional_marks o)
   optional_body Unwritten = plain_body [] plain_none
   optional_body (Written b) = block_body b

@@ -198,6 +198,7 @@ mutual
       let d = followed_parts c b s y h in
       subst (λ (q : Steps × At). Grows s q.1) d.is (grows_trans s d.first.1 d.others.1 (grows c s d.first d.first_is) (grows_all b d.first.1 d.others d.others_is))
 
+  -- so does an `else`, or none
   pub grows_optional : (o : Optional) (s : At) (y : Steps × At) → steps_optional o s ≡ fine y → Grows s y.1
   grows_optional Unwritten s y h = subst (λ (q : Steps × At). Grows s q.1) (ok_is (Done, s) y h) (grows_same s s refl refl refl)
   grows_optional (Written b) s y h = grows_all b s y h

@@ -151,7 +151,8 @@ impl Run {
         row: &Row,
     ) -> Result<(), NoMemory>
         requires { AreEmitted (expressions indexes.now) (expression value.now) (option_expression weight.now) }
-        ensures { OnOk result (run_state self.new ≡ exec (Emit table (expressions indexes.now) (expression value.now) (option_expression weight.now)) row.now (run_state self.old)) }
+        ensures { OnOk result (run_state self.new
+            ≡ exec (Emit table (expressions indexes.now) (expression value.now) (option_expression weight.now)) row.now (run_state self.old)) }
     {
         let made = emitted_row(alloc, indexes, value, weight, row, self.locals.as_slice())?;
         self.emitted.push((table, made))?;

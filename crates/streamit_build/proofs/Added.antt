@@ -16,6 +16,7 @@ use Rattle.streamit_build.specs.declared.streams.Children.{Children}
 use Rattle.streamit_build.specs.Units.{UnitForm, IsTree, AreTrees}
 use Rattle.streamit_build.specs.Knowing.{AddsOne, AreChildren, AddsAll}
 
+-- a result without a fault
 abbrev pub fine : {A : Type 0} → A → Result A Fault
 fine x = Ok x
 

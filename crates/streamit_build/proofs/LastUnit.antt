@@ -14,6 +14,7 @@ use Rattle.streamit_build.specs.declared.judge.Refusal as code
 use Rattle.streamit_text.specs.declared.program.Declaration.{Declaration}
 use Rattle.streamit_build.specs.Told.{refused, Told, few_in, PlansLast, PlansBy}
 
+-- a result without a refusal
 abbrev pub took : {A : Type 0} → A → Result A Refusal
 took x = Ok x
 

@@ -122,7 +122,8 @@ impl Made {
         to: Name,
     ) -> Result<(), NoMemory>
         requires { length name.now ≤ 40 }
-        ensures ops { OnOk result (op_forms self.new.ops ≡ op_forms self.old.ops ++ with_own (numbered name.now self.old.next_op) (filter (filter_form body.now)) (from ∷ []) (to ∷ []) ∷ []) }
+        ensures ops { OnOk result (op_forms self.new.ops
+            ≡ op_forms self.old.ops ++ with_own (numbered name.now self.old.next_op) (filter (filter_form body.now)) (from ∷ []) (to ∷ []) ∷ []) }
         ensures next { OnOk result (self.new.next_op ≡ self.old.next_op + 1) }
         ensures queue { self.new.next_queue ≡ self.old.next_queue }
     {
@@ -160,7 +161,8 @@ impl Made {
         lanes: Lanes,
         to: Name,
     ) -> Result<(), NoMemory>
-        ensures ops { OnOk result (op_forms self.new.ops ≡ op_forms self.old.ops ++ joiner join.now.items (numbered (codes "join") self.old.next_op) (queues lanes.second lanes.count) to ∷ []) }
+        ensures ops { OnOk result (op_forms self.new.ops
+            ≡ op_forms self.old.ops ++ joiner join.now.items (numbered (codes "join") self.old.next_op) (queues lanes.second lanes.count) to ∷ []) }
         ensures next { OnOk result (self.new.next_op ≡ self.old.next_op + 1) }
         ensures queue { self.new.next_queue ≡ self.old.next_queue }
     {
@@ -182,7 +184,8 @@ pub fn build(
     requires there { i < length units.now }
     requires lower { AreLower (unit_forms units.now) }
     requires named { HaveShortFilters (unit_forms units.now) }
-    ensures { (s : Stream) → IsTree (unit_forms units.now) i s → OnOk result (Built made.old made.new (build s made.old.next_op made.old.next_queue from to) (ops_in s) (queues_in s)) }
+    ensures { (s : Stream) → IsTree (unit_forms units.now) i s
+        → OnOk result (Built made.old made.new (build s made.old.next_op made.old.next_queue from to) (ops_in s) (queues_in s)) }
 {
     match &units[i] {
         Declared::Filter { name, filter } => made.filter(alloc, name, filter, from, to),
@@ -244,7 +247,8 @@ fn branches(
     requires below { AreBelow i parts.front.now parts.last }
     requires lower { AreLower (unit_forms units.now) }
     requires named { HaveShortFilters (unit_forms units.now) }
-    ensures { (ss : Streams) → AreTrees (unit_forms units.now) parts.entry.front.now parts.entry.last ss → OnOk result (BuiltBranches ss lanes.first lanes.second made.old made.new) }
+    ensures { (ss : Streams) → AreTrees (unit_forms units.now) parts.entry.front.now parts.entry.last ss
+        → OnOk result (BuiltBranches ss lanes.first lanes.second made.old made.new) }
 {
     let mut a = lanes.first;
     let mut b = lanes.second;
@@ -269,7 +273,8 @@ fn lane(
     requires there { i < length units.now }
     requires lower { AreLower (unit_forms units.now) }
     requires named { HaveShortFilters (unit_forms units.now) }
-    ensures { (s : Stream) → IsTree (unit_forms units.now) i s → OnOk result (Built made.old made.new (build s made.old.next_op made.old.next_queue (queue a) (queue b)) (ops_in s) (queues_in s)) }
+    ensures { (s : Stream) → IsTree (unit_forms units.now) i s
+        → OnOk result (Built made.old made.new (build s made.old.next_op made.old.next_queue (queue a) (queue b)) (ops_in s) (queues_in s)) }
 {
     let start = queue(alloc, a)?;
     let end = queue(alloc, b)?;

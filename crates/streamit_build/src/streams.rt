@@ -80,7 +80,8 @@ impl Known {
         branch: bool,
         adds: &Adds,
     ) -> Result<Children, Fault>
-        ensures { (known : Streamed) → Knows self.now known → AddsAll (unit_forms self.now.declared.items) result (streams_of (may branch) known 0 adds.now.first adds.now.others.items) }
+        ensures { (known : Streamed) → Knows self.now known
+            → AddsAll (unit_forms self.now.declared.items) result (streams_of (may branch) known 0 adds.now.first adds.now.others.items) }
     {
         let first = self.added(branch, 0, adds.first)?;
         let mut children = Children::one(alloc, first);

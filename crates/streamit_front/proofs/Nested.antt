@@ -37,6 +37,7 @@ abbrev mutual
   nest (If t a b) = suc (max (nests a) (nests_optional b))
   nest (For n low upto high b) = suc (nests b)
 
+  -- how deep a block nests
   pub nests : Block → ℕ
   nests End = 0
   nests (Then c b) = max (nest c) (nests b)
@@ -183,6 +184,7 @@ abbrev pub depths-first : Option RunForm → ℕ
 depths-first None = 0
 depths-first (Some r) = depths r.body.steps
 
+-- how deep `prework` nests, where there is one
 abbrev pub nests-first : Option WorkTree → ℕ
 nests-first None = 0
 nests-first (Some w) = nests w.block
@@ -197,6 +199,7 @@ first-below None s (Some r) n h = absurd h
 first-below (Some w) s None n h = absurd h
 first-below (Some w) s (Some r) n h = work-below 0 w s r h
 
+-- the runs of an elaborated filter nest no deeper than its `prework` and its `work`
 pub filter-below : (t : FilterTree) (f : FilterForm) → elaborated t ≡ Ok f → (depths-first f.first ≤ nests-first t.prework) × (depths f.body.steps ≤ nests t.work.block)
 filter-below t f h =
     let e = elaborated_parts t f h in

@@ -132,6 +132,7 @@ module _ (f : FilterForm) (can : CanFilter f) where
       ∙ ap as_items (sym t.is)
       ∙ ap (λ l. as_items (firings_from f n k kept l)) whole
 
+-- a filter that is fed values one by one gives, item by item, what it makes of all of them
 pub filter_fed : (f : FilterForm) (xs : List ℤ) → CanFilter f
     → (feed (fire (filter f) 0) (as_items xs) (Buffered (state [] 0 f.starts) ∷ [])).outs 0 ≡ as_items (filtered f xs)
 filter_fed f xs can =

@@ -207,6 +207,7 @@ pub record WorkRead (least : ℕ) (w : WorkTree) (s : At) (r : RunForm) : Type 0
   pub pushed : read.1.pushed ≡ push_of w
   pub is : run_of w read ≡ r
 
+-- what is read of `prework`, where there is one, and nothing where there is none
 abbrev pub PreworkRead : Option WorkTree → At → Option RunForm → Type 0
 PreworkRead None s None = Unit {0}
 PreworkRead None s (Some r) = ⊥
@@ -301,6 +302,7 @@ first_as fs None w s (Some q) r hf a b = absurd a
 first_as fs (Some v) w s None r hf a b = absurd a
 first_as fs (Some v) w s (Some q) r hf a b = work_as fs 0 (max q.body.slots r.body.slots) v s q hf a (omega arith)
 
+-- the slots that both runs share are no fewer than those of `work`
 pub slots_within : (p : Option RunForm) (n : ℕ) → n ≤ slots_for p n
 slots_within None n = le_refl n
 slots_within (Some q) n = omega arith

@@ -150,14 +150,16 @@ after_arms s c a b =
 abbrev pub unrolled : (At → Read) → Name → List ℕ → At → Read
 unrolled block n [] s = Ok (Done, s)
 unrolled block n (v ∷ vs) s =
-    on_ok (counted s) (λ t. on_ok (block (record t { scope = (n, Turn v) ∷ s.scope })) (λ a. on_ok (unrolled block n vs (record a.1 { scope = s.scope })) (λ b. Ok (both_steps a.0 b.0, b.1))))
+    on_ok (counted s) (λ t. on_ok (block (record t { scope = (n, Turn v) ∷ s.scope }))
+    (λ a. on_ok (unrolled block n vs (record a.1 { scope = s.scope })) (λ b. Ok (both_steps a.0 b.0, b.1))))
 
 abbrev mutual
   pub step_of : ℕ → Statement → At → Read
   step_of e (Declare n t) s0 =
       on_ok (counted s0) (λ s. on_ok (is_new (find s.scope n)) (λ u. on_ok (has_slot s) (λ w. on_ok (first_term e t s) (λ v. Ok (declared n t s v)))))
   step_of e (Assign n t) s0 =
-      on_ok (counted s0) (λ s. on_ok (slot_of (find s.scope n)) (λ i. on_ok (term_of e s.scope t s.popped) (λ v. Ok (one_step (steps.Set i v), record s { popped = s.popped + pops t }))))
+      on_ok (counted s0) (λ s. on_ok (slot_of (find s.scope n)) (λ i. on_ok (term_of e s.scope t s.popped)
+      (λ v. Ok (one_step (steps.Set i v), record s { popped = s.popped + pops t }))))
   step_of e (Push t) s0 =
       on_ok (counted s0) (λ s. on_ok (term_of e s.scope t s.popped) (λ v. Ok (one_step (steps.Push 0 (v ∷ [])), record s { popped = s.popped + pops t; pushed = s.pushed + 1 })))
   step_of e Discard s = Ok (Done, record s { popped = s.popped + 1 })

@@ -65,8 +65,8 @@ AreArmsApart s = ⊥
 abbrev pub IsBound : ℤ → Type 0
 IsBound z = (n : ℕ) × (z ≡ pos n) × (n ≤ 65536)
 
--- a rate above 65,536; no pop in `work`; more than 16,384 statements; more than 256 slots; an index above 65,536; a bound not 0 to 65,536; more
--- than 64 branches; streams nested above 64 deep; weights that sum above 65,536; a plan of more than 256 operators
+-- a rate above 65,536; no pop in `work`; more than 16,384 statements; more than 256 slots; an index above 65,536; a bound not 0 to
+-- 65,536; more than 64 branches; streams nested above 64 deep; weights that sum above 65,536; a plan of more than 256 operators
 abbrev pub IsOverLimit : List Declared → Spot → Type 0
 IsOverLimit above (Rated least push pop peek) = (65536 < push) ⊎ (65536 < pop) ⊎ (65536 < peek) ⊎ (pop < least)
 IsOverLimit above (Reads peek before Begins) = 16384 < statements_in before + 1

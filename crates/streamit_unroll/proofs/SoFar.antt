@@ -24,6 +24,7 @@ use Rattle.streamit_unroll.specs.declared.fault.Fault.TheVariants as faults
 use Rattle.streamit_model.specs.Elaborate as spec
 use Rattle.std.proofs.lemmas.List.{map-append, take_all}
 
+-- a result without a fault
 abbrev pub good : {A : Type 0} → A → Result A Fault
 good x = Ok x
 

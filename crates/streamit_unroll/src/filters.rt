@@ -138,7 +138,8 @@ impl Unroller {
     fn starts(&mut self, alloc: Global, tree: &FilterTree) -> Result<Numbers, Fault>
         requires fields { read_fields (filter_tree tree.now).fields nothing_read ≡ Ok (at_of self.old) }
         requires readable { IsReadable (filter_tree tree.now) }
-        ensures starts { Judges (λ zs. zs) result (on_ok (optional_of 0 (filter_tree tree.now).init (at_of self.old)) (λ i. Ok (starts_of (length (filter_tree tree.now).fields) i))) }
+        ensures starts { Judges (λ zs. zs) result
+            (on_ok (optional_of 0 (filter_tree tree.now).init (at_of self.old)) (λ i. Ok (starts_of (length (filter_tree tree.now).fields) i))) }
         ensures back { OnOk result (at_of self.new ≡ at_of self.old) }
     {
         let before = self.place();
