@@ -22,8 +22,7 @@ TablesAreOfBags = (kind : TableKind) (xs ys : List (List ℤ)) → SameBag xs ys
 abbrev pub total_of : List (List ℤ) → ℤ
 total_of rests = fold (λ sum rest. sum +ℤ value_in rest) (pos 0) rests
 
--- one row for each key in ascending order; a key is there exactly where a row was
--- added with it, and has the sum of what was added modulo 2^64
+-- one row for each key in ascending order; a key is there exactly where a row was added with it, and has the sum of what was added modulo 2^64
 pub record IsSums (keys : ℕ) (adds rows : List (List ℤ)) : Type 0 where
   pub entries : List (List ℤ × ℤ)
   pub rows_are : rows ≡ map (λ e. sum_row e.0 e.1) entries

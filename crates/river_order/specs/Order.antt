@@ -10,8 +10,8 @@ pub data Verdict : Type 0 where
   Unread : List ℕ → Verdict
   Done : List ℕ → Verdict
 
--- the points that are left: an end; or the fetch of a file, how many bytes it may have, the text that refuses a larger one, and the
--- points that come after its bytes
+-- the points that are left: an end; or the fetch of a file, how many bytes it may have, the text that refuses a larger one, and the points that come after its
+-- bytes
 pub data Order : Type 0 where
   Ends : Verdict → Order
   Fetch : (name : List ℕ) (limit : ℕ) (large : List ℕ) (next : List ℕ → Order) → Order

@@ -46,8 +46,7 @@ abbrev pub distinct_names : List (List ℕ × List ℕ) → Bool
 distinct_names [] = true
 distinct_names (file ∷ files) = not (list_any (λ other. bytes_eq file.0 other.0) files) && distinct_names files
 
--- a sink in memory: what it took, how many bytes a write takes at most and all of
--- them, which calls fail, and how many calls and faults there were
+-- a sink in memory: what it took, how many bytes a write takes at most and all of them, which calls fail, and how many calls and faults there were
 pub record Taking : Type 0 where
   pub taken : List ℕ
   pub piece : ℕ
