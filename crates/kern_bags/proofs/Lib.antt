@@ -1,10 +1,15 @@
 pub mod Copies
-pub mod InPlace
+pub mod Crossed
+pub mod Followed
 pub mod InTurn
 pub mod KeptRows
 pub mod KeptWindows
-pub mod Merged
+pub mod Leaving
 pub mod Pairs
+pub mod Sliding
+pub mod Stepping
 pub mod Streamed
+pub mod Streaming
 pub mod Taken
+pub mod Wide
 pub mod Windowed

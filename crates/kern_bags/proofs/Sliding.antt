@@ -18,7 +18,7 @@ use Rattle.kern_bags.specs.declared.kernel.Window.{Window}
 use Rattle.kern_bags.proofs.KeptWindows.{content_is, window_steps}
 use Rattle.river_base.specs.declared.item.Change.{Change}
 use Rattle.river_base.specs.Changes.{change_to, cancelled, LeadsTo, IsChangeOf}
-use Rattle.kern_changes.specs.Kept.{LetGo, Windows, WindowFits, stamped_as}
+use Rattle.kern_bags.specs.Following.{LetGo, Windows, WindowFits, stamped_as}
 use Rattle.kern_changes.proofs.Leading.{sum-map, leads_in_order, cancelled_is}
 use Rattle.kern_changes.proofs.Widths.{wide_append, cancelled_of}
 

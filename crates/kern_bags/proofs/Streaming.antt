@@ -5,12 +5,12 @@ use Rattle.river_base.specs.Row.{copies, in_order}
 use Rattle.river_base.specs.declared.item.Batch.{Batch}
 use Rattle.river_base.proofs.Rows.{in_order_sorted}
 use Rattle.kern_bags.specs.Contents.{difference}
-use Rattle.kern_bags.proofs.Copies.{differences_are}
+use Rattle.kern_changes.proofs.Copies.{differences_are}
 use Rattle.kern_bags.specs.declared.kernel.Streamer.TheVariants.{Istream, Dstream}
 use Rattle.river_base.specs.declared.item.Change.{Change}
 use Rattle.river_base.specs.Changes.{change_to, IsWideChange}
 use Rattle.kern_changes.specs.Counted.{AreSame, Changed}
-use Rattle.kern_changes.specs.Kept.{StreamsFree, StreamsAll}
+use Rattle.kern_bags.specs.Following.{StreamsFree, StreamsAll}
 use Rattle.kern_changes.proofs.Leading.{same_order}
 use Rattle.kern_changes.proofs.Widths.{wide_changed, wide_in_order}
 

@@ -1,8 +1,9 @@
 use Rattle.std.proofs.Common.{sym, subst}
 use Rattle.river_base.specs.Held.{HaveWidth}
-use Rattle.kern_changes.specs.Kept.{CrossKept}
-use Rattle.kern_changes.proofs.Widths.{wide_changed, can_join}
-use Rattle.kern_changes.proofs.cross.CrossRows.join.Goals as goal
+use Rattle.kern_bags.specs.Following.{CrossKept}
+use Rattle.kern_changes.proofs.Widths.{wide_changed}
+use Rattle.kern_bags.proofs.Wide.{can_join}
+use Rattle.kern_bags.proofs.cross.CrossState.join.Goals as goal
 
 pub meet_left-requires-clause-plus : goal.meet_left-requires-clause-plus
 meet_left-requires-clause-plus c =

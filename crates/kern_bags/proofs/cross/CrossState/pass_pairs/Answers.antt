@@ -1,5 +1,5 @@
-use Rattle.kern_changes.proofs.Crossed.{pairs_start, pairs_step, pairs_end, pairs_fit, can_make, pairs_less}
-use Rattle.kern_changes.proofs.cross.CrossRows.pass_pairs.Goals as goal
+use Rattle.kern_bags.proofs.Crossed.{pairs_start, pairs_step, pairs_end, pairs_fit, can_make, pairs_less}
+use Rattle.kern_bags.proofs.cross.CrossState.pass_pairs.Goals as goal
 
 pub loop-left-init : goal.loop-left-init
 loop-left-init c = pairs_start c.args.self.now c.args.out.now c.requires

@@ -2,9 +2,9 @@ use Rattle.std.proofs.Common.{◌≡◌, Some, w64, to_z, of_z, ap, ◌∙◌, s
 use Rattle.std.proofs.lemmas.Result.{IfOk-weaker}
 use Rattle.kern_bags.specs.Kept.{inserted, still_in, now_after}
 use Rattle.river_base.specs.Changes.{cancelled}
-use Rattle.kern_changes.specs.Kept.{LetGo, Windows, WindowFits}
-use Rattle.kern_changes.proofs.Sliding.{slides, slide_fits}
-use Rattle.kern_changes.proofs.window.WindowRows.step.Goals as goal
+use Rattle.kern_bags.specs.Following.{LetGo, Windows, WindowFits}
+use Rattle.kern_bags.proofs.Sliding.{slides, slide_fits}
+use Rattle.kern_bags.proofs.window.WindowState.take.Goals as goal
 
 pub returns-clause-contents : goal.returns-clause-contents
 returns-clause-contents c =

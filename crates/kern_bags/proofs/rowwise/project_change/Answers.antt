@@ -3,9 +3,9 @@ use Rattle.std.proofs.lemmas.Result.{IfOk-weaker}
 use Rattle.work_code.specs.Term.{terms}
 use Rattle.kern_bags.specs.Contents.{projected}
 use Rattle.river_base.specs.Changes.{cancelled, IsChangeOf}
-use Rattle.kern_changes.specs.Kept.{FollowsContent}
-use Rattle.kern_changes.proofs.Stepping.{projects, project_fits}
-use Rattle.kern_changes.proofs.rowwise.project.Goals as goal
+use Rattle.kern_bags.specs.Following.{FollowsContent}
+use Rattle.kern_bags.proofs.Stepping.{projects, project_fits}
+use Rattle.kern_bags.proofs.rowwise.project_change.Goals as goal
 
 pub returns-clause-contents : goal.returns-clause-contents
 returns-clause-contents c =

@@ -1,8 +1,8 @@
 use Rattle.std.proofs.Common.{◌≡◌, w64, to_z, of_z, rules}
 use Rattle.work_code.specs.Term.{term}
 use Rattle.river_base.specs.declared.item.Change.{Change}
-use Rattle.kern_changes.proofs.Stepping.{selects, select_fits}
-use Rattle.kern_changes.proofs.rowwise.select.Goals as goal
+use Rattle.kern_bags.proofs.Stepping.{selects, select_fits}
+use Rattle.kern_bags.proofs.rowwise.select_change.Goals as goal
 
 pub returns-clause-contents : goal.returns-clause-contents
 returns-clause-contents c =
