@@ -1,5 +1,6 @@
 pub mod Copies
 pub mod Crossed
+pub mod Flats
 pub mod Followed
 pub mod InTurn
 pub mod KeptRows

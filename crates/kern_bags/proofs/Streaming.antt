@@ -6,11 +6,12 @@ use Rattle.river_base.specs.declared.item.Batch.{Batch}
 use Rattle.river_base.proofs.Rows.{in_order_sorted}
 use Rattle.kern_bags.specs.Contents.{difference}
 use Rattle.kern_changes.proofs.Copies.{differences_are}
+use Rattle.kern_bags.specs.declared.kernel.Streamer.{Streamer}
 use Rattle.kern_bags.specs.declared.kernel.Streamer.TheVariants.{Istream, Dstream}
 use Rattle.river_base.specs.declared.item.Change.{Change}
 use Rattle.river_base.specs.Changes.{change_to, IsWideChange}
 use Rattle.kern_changes.specs.Counted.{AreSame, Changed}
-use Rattle.kern_bags.specs.Following.{StreamsFree, StreamsAll}
+use Rattle.kern_bags.specs.Following.{StreamsFree, StreamsAll, StreamSteps}
 use Rattle.kern_changes.proofs.Leading.{same_order}
 use Rattle.kern_changes.proofs.Widths.{wide_changed, wide_in_order}
 
@@ -53,3 +54,19 @@ pub all_fit : (w : ℕ) (c : Change) (old new rows : List (List ℤ)) → Change
 all_fit w c old new rows made e h k =
     let n = wide_changed w c old new h k.plus made in
     (n, subst (HaveWidth w) (sym e) (wide_in_order w new n))
+
+-- so Istream steps: it keeps nothing
+pub came_steps : (s : Streamer) (c : Change) (kept : List (List ℤ)) (g : Batch) → s ≡ Istream → StreamsFree Istream c g
+    → ((w : ℕ) → IsWideChange w c → HaveWidth w g.rows) → StreamSteps s c kept kept g
+came_steps s c kept g is free wide = subst (λ t. StreamSteps t c kept kept g) (sym is) (record {
+  contents = record { each = λ before b up k e. (free.each before b e, tt) };
+  fits = record { each = λ w h k. (h, wide w k) };
+})
+
+-- and Dstream
+pub went_steps : (s : Streamer) (c : Change) (kept : List (List ℤ)) (g : Batch) → s ≡ Dstream → StreamsFree Dstream c g
+    → ((w : ℕ) → IsWideChange w c → HaveWidth w g.rows) → StreamSteps s c kept kept g
+went_steps s c kept g is free wide = subst (λ t. StreamSteps t c kept kept g) (sym is) (record {
+  contents = record { each = λ before b up k e. (free.each before b e, tt) };
+  fits = record { each = λ w h k. (h, wide w k) };
+})
