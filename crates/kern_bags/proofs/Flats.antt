@@ -1,6 +1,5 @@
 -- Steps on items that are changes.
 use Rattle.std.proofs.Common.{◌≡◌, ℕ, ℤ, List, [], ◌∷◌, ◌++◌, sym, ◌∙◌, subst}
-use Rattle.std.proofs.lemmas.List.{append-nil}
 use Rattle.river_base.specs.Grew.{GrewByPrefix}
 use Rattle.river_base.specs.declared.item.Batch.{Batch}
 use Rattle.river_base.specs.declared.item.Change.{Change}
@@ -9,16 +8,11 @@ use Rattle.river_base.specs.declared.item.Flat.TheVariants.{Batch as Batched, Ch
 use Rattle.river_base.specs.declared.item.Item as item
 use Rattle.river_base.specs.declared.item.Item.TheVariants.{Flat}
 use Rattle.work_code.specs.Term.{Term}
-use Rattle.kern_bags.specs.Following.{as_changes, Selects, SelectsFlat, Projects, ProjectsFlat, StreamSteps, StreamsFlat, CrossKept, Crosses, CrossFits, put_change, StandsForCrossing, CrossesFlat, CrossesPart}
+use Rattle.kern_bags.specs.Following.{as_changes, Projects, ProjectsFlat, StreamSteps, StreamsFlat, CrossKept, Crosses, CrossFits, put_change, StandsForCrossing, CrossesFlat, CrossesPart}
 use Rattle.kern_bags.specs.declared.kernel.Streamer.{Streamer}
 
 same_change : (c d : Change) → Changed c ≡ Changed d → c ≡ d
 same_change c d e = cc e
-
--- a selection gave the change of what is selected
-pub selects_flat : (t : Term) (x : flat.Flat) (c d : Change) (out out' : List item.Item) → x ≡ Changed c → Selects t c d → out' ≡ out ++ Flat (Changed d) ∷ []
-    → SelectsFlat t x out out'
-selects_flat t x c d out out' is s g = subst (λ y. SelectsFlat t y out out') (sym is) (record { change = d; grew = g; is = s })
 
 -- a projection gave the change of what is projected
 pub projects_flat : (ts : List Term) (x : flat.Flat) (c d : Change) (out out' : List item.Item) → Changed c ≡ x → Projects ts c d
@@ -60,7 +54,3 @@ module _ (port : ℕ) (x : flat.Flat) (c : Change) (old mid : CrossKept) (out ou
         let r = (subst (λ l. Crosses mid new l given) nil contents).each m (subst (λ s. StandsForCrossing s m) (sym (same_put e same)) h) in
         subst (λ l. GrewByPrefix out (as_changes l) out') r.0 g;
   }
-
--- a product gave nothing
-pub crosses_none : (port : ℕ) (x : flat.Flat) (old : CrossKept) (out out' : List item.Item) → out' ≡ out → CrossesPart port x old out out'
-crosses_none port x old out out' e = record { each = λ c same m h. record { n = 0; is = e ∙ sym (append-nil out) } }

@@ -6,10 +6,10 @@ pub mod InTurn
 pub mod KeptRows
 pub mod KeptWindows
 pub mod Leaving
+pub mod Meeting
 pub mod Pairs
 pub mod Sliding
 pub mod Stepping
-pub mod Streamed
 pub mod Streaming
 pub mod Taken
 pub mod Wide

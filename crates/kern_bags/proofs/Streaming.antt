@@ -15,18 +15,6 @@ use Rattle.kern_bags.specs.Following.{StreamsFree, StreamsAll, StreamSteps}
 use Rattle.kern_changes.proofs.Leading.{same_order}
 use Rattle.kern_changes.proofs.Widths.{wide_changed, wide_in_order}
 
--- what came is what Istream gives
-pub came_streams : (c : Change) (g : Batch) → g ≡ record { at = c.at; rows = c.plus } → StreamsFree Istream c g
-came_streams c g e = record { each = λ before b is. e ∙ ap (λ (d : Change). at_rows d.at d.plus) is } where
-  at_rows : ℤ → List (List ℤ) → Batch
-  at_rows at rows = record { at = at; rows = rows }
-
--- what went is what Dstream gives
-pub went_streams : (c : Change) (g : Batch) → g ≡ record { at = c.at; rows = c.minus } → StreamsFree Dstream c g
-went_streams c g e = record { each = λ before b is. e ∙ ap (λ (d : Change). at_rows d.at d.minus) is } where
-  at_rows : ℤ → List (List ℤ) → Batch
-  at_rows at rows = record { at = at; rows = rows }
-
 -- a change made on the bag of the content gives the next one
 pub changed_same : (c : Change) (old new before : List (List ℤ)) (b : Batch) → AreSame old before → c ≡ change_to before b → Changed c old new → AreSame new b.rows
 changed_same c old new before b same is made = record {
