@@ -23,3 +23,7 @@ still_meets c d lefts lefts' can made = record {
   first = can.first;
   second = can.second;
 }
+
+-- so both parts can be joined then
+pub can_meet_then : (c d : Change) (lefts lefts' : List (List ℤ)) → CanMeet c d lefts → Changed c lefts lefts' → CanJoinBoth lefts' d
+can_meet_then c d lefts lefts' can made = can_meet c d lefts' (still_meets c d lefts lefts' can made)

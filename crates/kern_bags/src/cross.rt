@@ -80,7 +80,6 @@ fn meet_left(
 
 // The change of the left side is made, and what comes and goes at the right meets the side as it is
 // then.
-#[tactic(auto, using(crate::proofs::Meeting::can_meet, crate::proofs::Meeting::still_meets))]
 fn make_and_meet(
     alloc: Global,
     left: &Change,
