@@ -9,15 +9,16 @@ use Rattle.river_base.specs.Held.{HaveWidth}
 use Rattle.river_base.specs.declared.item.Batch.{Batch}
 use Rattle.river_base.proofs.Counts.{permutation_from_copies}
 use Rattle.kern_bags.specs.Contents.{difference, product}
-use Rattle.kern_bags.proofs.Copies.{sum-cong}
+use Rattle.kern_changes.proofs.Copies.{sum-cong}
 use Rattle.river_base.specs.declared.item.Change.{Change}
 use Rattle.river_base.specs.Changes.{change_to, changes, last_content, cancelled, LeadsTo, all_pairs, IsWideChange, GaveChanges}
 use Rattle.kern_changes.specs.Counted.{AreSame}
-use Rattle.kern_changes.specs.Kept.{stamped_as, CrossKept, Crossing, crossing, passing, passed_pairs, StandsForCrossing, Crosses, IsCrossOf, CrossFits}
-use Rattle.kern_changes.specs.Needs.{CanCrossChanges, CanMake, TakesChanges, HasNoChanges, JoinsChanges}
+use Rattle.kern_bags.specs.Following.{stamped_as, CrossKept, Crossing, crossing, passing, passed_pairs, StandsForCrossing, Crosses, IsCrossOf, CrossFits}
+use Rattle.kern_bags.specs.Takes.{CanCrossChanges, CanMake, TakesChanges, HasNoChanges, JoinsChanges}
 use Rattle.kern_changes.proofs.Leading.{sum-pairs, cancelled_is, change_leads, leads_in_order, leads_both, leads_left, leads_right, changes-append, last_content-append}
-use Rattle.kern_changes.proofs.Widths.{wide_append, wide_pairs, wide_changed, cancelled_of, gave_none, gave_more, gave_on}
-use Rattle.kern_changes.proofs.Streaming.{changed_same}
+use Rattle.kern_changes.proofs.Widths.{wide_append, wide_changed, cancelled_of, gave_none, gave_more, gave_on}
+use Rattle.kern_bags.proofs.Wide.{wide_pairs}
+use Rattle.kern_bags.proofs.Streaming.{changed_same}
 
 -- THE CHANGE OF A PRODUCT, BY BAGS
 

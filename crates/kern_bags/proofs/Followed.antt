@@ -1,17 +1,17 @@
--- The changes that selections, projections and products give.
+-- The changes that selections and projections give.
 use Rattle.std.proofs.Common.{◌≡◌, ℕ, ◌+◌, ◌≤◌, ℤ, Bool, true, false, cond, List, [], ◌∷◌, ◌++◌, map, filter, ◌∙◌, arith, inl, inr, ⊎_elim}
 use Rattle.std.specs.Prelude.{sum_by}
 use Rattle.std.proofs.lemmas.List.Sums.{sum_by-cons}
 use Rattle.std.proofs.lemmas.List.Kept.{IsSortedBy-filter}
 use Rattle.river_base.specs.Row.{row_eq, row_lt, copies}
-use Rattle.river_base.specs.Changes.{difference, change_to, cancelled, all_pairs, IsNormal}
+use Rattle.river_base.specs.Changes.{difference, change_to, cancelled, IsNormal}
 use Rattle.river_base.specs.declared.item.Batch.{Batch}
 use Rattle.river_base.specs.declared.item.Change.{Change}
 use Rattle.river_base.proofs.Rows.{rows_ranked}
 use Rattle.work_code.specs.Term.{Term}
 use Rattle.work_code.specs.Value.{val, is_true}
-use Rattle.kern_bags.specs.Contents.{selected, projected, product}
-use Rattle.kern_changes.proofs.Leading.{cancelled_is, cancelled_none, cancelled_normal, change_leads, leads_both, leads_filter, leads_in_order, leads_left, leads_map, leads_right}
+use Rattle.kern_bags.specs.Contents.{selected, projected}
+use Rattle.kern_changes.proofs.Leading.{cancelled_is, cancelled_none, cancelled_normal, change_leads, leads_filter, leads_in_order, leads_map}
 
 some_pass : (p : List ℤ → Bool) (row : List ℤ) (xs : List (List ℤ)) → copies row (filter p xs) ≤ copies row xs
 some_pass p row [] = omega arith
@@ -52,15 +52,3 @@ change_projected ts before b =
     cancelled_is b.at (projected ts before) (projected ts b.rows) (map g (difference b.rows before)) (map g (difference before b.rows))
     (leads_in_order (map g before) (map g b.rows) (map g (difference b.rows before)) (map g (difference before b.rows))
     (leads_map g before b.rows (difference b.rows before) (difference before b.rows) (change_leads before b.rows)))
-
--- what comes and goes at the left meets the right side as it was, what comes and goes at the right meets the left side as it will be
-pub change_product : (at : ℤ) (left left' right right' : List (List ℤ)) → change_to (product left right) (record { at = at; rows = product left' right' })
-    ≡ cancelled at (all_pairs (difference left' left) right ++ all_pairs left' (difference right' right)) (all_pairs (difference left left') right ++ all_pairs left'
-    (difference right right'))
-change_product at left left' right right' =
-    let p = difference left' left in let m = difference left left' in let q = difference right' right in let n = difference right right' in
-    cancelled_is at (product left right) (product left' right') (all_pairs p right ++ all_pairs left' q) (all_pairs m right ++ all_pairs left' n)
-    (leads_in_order (all_pairs left right) (all_pairs left' right') (all_pairs p right ++ all_pairs left' q) (all_pairs m right ++ all_pairs left' n)
-    (leads_both (all_pairs left right) (all_pairs left' right) (all_pairs left' right') (all_pairs p right) (all_pairs m right) (all_pairs left' q) (all_pairs left' n)
-    (leads_left left left' p m right (change_leads left left'))
-    (leads_right left' right right' q n (change_leads right right'))))

@@ -105,18 +105,6 @@ inserted_by at rows n es before h g e =
     ∙ append_assoc (take n es) (stamped at rows) (drop n es)
     ∙ (λ i. sym (parts_before at n es h g) i ++ (stamped at rows ++ sym (parts_behind at n es h g) i))
 
--- one row more
-pub stamped_more : (at : ℤ) (rows : List (List ℤ)) (n : ℕ) (row : List ℤ) (start before : List Stamped) → n < length rows → row ≡ get_or rows n row
-    → before ≡ start ++ stamped at (take n rows) → before ++ (at, row) ∷ [] ≡ start ++ stamped at (take (n + 1) rows)
-stamped_more at rows n row start before lt is e =
-    ap (λ l. l ++ (at, row) ∷ []) e ∙ append_assoc start (stamped at (take n rows)) ((at, row) ∷ []) ∙ ap (λ l. start ++ l) (more rows n lt is)
-  where
-    more : (xs : List (List ℤ)) (m : ℕ) → m < length xs → row ≡ get_or xs m row → stamped at (take m xs) ++ (at, row) ∷ [] ≡ stamped at (take (m + 1) xs)
-    more [] m l i = absurd (omega (arith, l))
-    more (x ∷ xs) zero l i = ap (λ r. (at, r) ∷ []) i
-    more (x ∷ xs) (suc m) l i =
-        ap (λ t. (at, x) ∷ t) (more xs m (omega (arith, l)) i) ∙ ap (λ k. stamped at (take k (x ∷ xs))) (let e : suc (m + 1) ≡ suc m + 1 = omega arith in e)
-
 -- LEAVING
 
 -- one that is before an instant leaves
@@ -140,6 +128,3 @@ rest_in_turn (x ∷ xs) t = t.1
 pub last_next : {K : Type 0} (n : ℕ) (xs : List K) → n < length xs → drop (length (drop 1 xs) - n) (drop 1 xs) ≡ drop (length xs - n) xs
 last_next n [] lt = absurd (omega (arith, lt))
 last_next n (x ∷ xs) lt = ap (λ k. drop k (x ∷ xs)) (let e : suc (length xs - n) ≡ suc (length xs) - n = omega (arith, lt) in e)
-
-pub none_leaves : {K : Type 0} (n : ℕ) (xs : List K) → length xs ≤ n → drop (length xs - n) xs ≡ xs
-none_leaves n xs le = ap (λ k. drop k xs) (let e : length xs - n ≡ 0 = omega (arith, le) in e)

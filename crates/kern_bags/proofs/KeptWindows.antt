@@ -18,8 +18,6 @@ use Rattle.river_base.proofs.Counts.{permutation_from_copies}
 use Rattle.river_base.proofs.Rows.{in_order-IsPermutation}
 use Rattle.kern_bags.specs.Contents.{later, greatest, rows_where, by_instant, last_of, in_window, content_of}
 use Rattle.kern_bags.specs.Kept.{Stamped, stamped, in_turn, AreInTurn, inserted, since, still_in, now_of, now_after, WindowKept, StandsForWindow, IsWindowKept}
-use Rattle.kern_bags.specs.Kept.{Steps}
-use Rattle.kern_bags.specs.Steps.{window_one}
 use Rattle.kern_bags.specs.declared.kernel.Window.{Window}
 use Rattle.kern_bags.specs.declared.kernel.Window.TheVariants.{Now, Range, Unbounded, Latest}
 use Rattle.kern_bags.proofs.InTurn.{le_true, le_false, lt_true, filter_all, filter_none, all_join, all_filter, all_from}
@@ -348,22 +346,16 @@ batches_more (Flat (One row) ∷ xs) b = batches_more xs b
 batches_more (Flat (Changed c) ∷ xs) b = batches_more xs b
 batches_more (Pack fs ∷ xs) b = batches_more xs b
 
--- a batch comes: its rows are inserted, those that have left are let go, and the others are given
-pub window_steps : (w : Window) (b : Batch) (old new : WindowKept) (out out' : List item.Item) → new.now ≡ Some (now_after old.now b.at)
-    → new.rows ≡ still_in w (now_after old.now b.at) (inserted b.at b.rows old.rows)
-    → out' ≡ out ++ Flat (Batched (record { at = b.at; rows = in_order (map row_in new.rows) })) ∷ []
-    → Steps (StandsForWindow w) (window_one w) (Flat (Batched b)) old new out out'
-window_steps w b old new out out' now rows gave = record {
-  each = λ past h.
-      let bs = batches past in
-      let more = batches_more past b in
-      let t : now_after old.now b.at ≡ greatest (bs ++ b ∷ []) = ap (λ n. now_after n b.at) h.now ∙ sym (greatest_more bs b) in
-      let are : new.rows ≡ still_in w (greatest (bs ++ b ∷ [])) (in_turn (bs ++ b ∷ [])) = rows ∙ (λ i. still_in w (t i) (inserted b.at b.rows (h.rows i))) ∙ kept_more w bs b in
-      let content : in_order (map row_in new.rows) ≡ content_of w (batches (past ++ Flat (Batched b) ∷ [])) = ap (λ l. in_order (map row_in l)) are ∙ sym (content_is w (bs ++ b ∷ [])) ∙ ap (content_of w) (sym more) in (
-        gave ∙ ap (λ rs. out ++ Flat (Batched (record { at = b.at; rows = rs })) ∷ []) content,
-        record {
-          now = now ∙ ap (λ n. Some (now_after n b.at)) h.now ∙ sym (now_more bs b) ∙ ap now_of (sym more);
-          rows = are ∙ ap (λ l. still_in w (greatest l) (in_turn l)) (sym more);
-        },
-      );
-}
+-- a batch comes: its rows are inserted, those that have left are let go, and what is kept is kept of it too
+pub window_stands : (w : Window) (b : Batch) (old new : WindowKept) (past : List item.Item) → new.now ≡ Some (now_after old.now b.at)
+    → new.rows ≡ still_in w (now_after old.now b.at) (inserted b.at b.rows old.rows) → StandsForWindow w old past
+    → StandsForWindow w new (past ++ Flat (Batched b) ∷ [])
+window_stands w b old new past now rows h =
+    let bs = batches past in
+    let more = batches_more past b in
+    let t : now_after old.now b.at ≡ greatest (bs ++ b ∷ []) = ap (λ n. now_after n b.at) h.now ∙ sym (greatest_more bs b) in
+    let are : new.rows ≡ still_in w (greatest (bs ++ b ∷ [])) (in_turn (bs ++ b ∷ [])) = rows ∙ (λ i. still_in w (t i) (inserted b.at b.rows (h.rows i))) ∙ kept_more w bs b in
+    record {
+      now = now ∙ ap (λ n. Some (now_after n b.at)) h.now ∙ sym (now_more bs b) ∙ ap now_of (sym more);
+      rows = are ∙ ap (λ l. still_in w (greatest l) (in_turn l)) (sym more);
+    }

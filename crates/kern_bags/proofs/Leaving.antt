@@ -2,7 +2,7 @@
 use Rattle.std.proofs.Common.{◌≡◌, ◌<◌, ℤ, List, [], ◌∷◌, ◌++◌, length, map, drop, get_or, refl, sym, ap, ◌∙◌, arith, append_assoc}
 use Rattle.std.proofs.lemmas.List.{append-nil, map-append}
 use Rattle.kern_bags.specs.Kept.{Stamped}
-use Rattle.kern_changes.specs.Kept.{LetGo}
+use Rattle.kern_bags.specs.Following.{LetGo}
 
 -- no row has left
 pub none_left : (es : List Stamped) (g : List (List ℤ)) → LetGo es es g g

@@ -15,10 +15,10 @@ use Rattle.river_base.specs.Row.{in_order}
 use Rattle.kern_bags.specs.Contents.{content_of}
 use Rattle.kern_bags.specs.Kept.{Stamped, WindowKept, stamped, inserted, still_in, now_after}
 use Rattle.kern_bags.specs.declared.kernel.Window.{Window}
-use Rattle.kern_bags.proofs.KeptWindows.{content_is, window_steps}
+use Rattle.kern_bags.proofs.KeptWindows.{content_is, window_stands}
 use Rattle.river_base.specs.declared.item.Change.{Change}
 use Rattle.river_base.specs.Changes.{change_to, cancelled, LeadsTo, IsChangeOf}
-use Rattle.kern_changes.specs.Kept.{LetGo, Windows, WindowFits, stamped_as}
+use Rattle.kern_bags.specs.Following.{LetGo, Windows, WindowFits, stamped_as}
 use Rattle.kern_changes.proofs.Leading.{sum-map, leads_in_order, cancelled_is}
 use Rattle.kern_changes.proofs.Widths.{wide_append, cancelled_of}
 
@@ -49,10 +49,10 @@ pub slides : (w : Window) (b : Batch) (old new : WindowKept) (gone : List (List 
 slides w b old new gone c now rows went is = record {
   each = λ past h.
       let x : item.Item = Flat (Batched b) in
-      let s = (window_steps w b old new [] (Flat (Batched (record { at = b.at; rows = in_order (map row_in new.rows) })) ∷ []) now rows refl).each past h in
+      let s = window_stands w b old new past now rows h in
       let before : content_of w (batches past) ≡ in_order (map row_in old.rows) = content_is w (batches past) ∙ ap (λ l. in_order (map row_in l)) (sym h.rows) in
       let after : content_of w (batches (past ++ x ∷ [])) ≡ in_order (map row_in new.rows) = content_is w (batches (past ++ x ∷ []))
-      ∙ ap (λ l. in_order (map row_in l)) (sym (s.1).rows) in
+      ∙ ap (λ l. in_order (map row_in l)) (sym s.rows) in
       let l : LeadsTo (map row_in old.rows) (map row_in new.rows) b.rows gone = record {
         each = λ f.
             let i = sum-inserted f b.at b.rows old.rows in
@@ -63,7 +63,7 @@ slides w b old new gone c now rows went is = record {
       } in
       let change : change_to (in_order (map row_in old.rows)) (stamped_as b (in_order (map row_in new.rows))) ≡ cancelled b.at b.rows gone =
       cancelled_is b.at (in_order (map row_in old.rows)) (in_order (map row_in new.rows)) b.rows gone (leads_in_order (map row_in old.rows) (map row_in new.rows) b.rows gone l) in
-      (is ∙ sym change ∙ (λ i. change_to (sym before i) (stamped_as b (sym after i))), s.1);
+      (is ∙ sym change ∙ (λ i. change_to (sym before i) (stamped_as b (sym after i))), s);
 }
 
 -- rows so wide, among which others so wide are inserted

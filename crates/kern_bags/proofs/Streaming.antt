@@ -5,26 +5,15 @@ use Rattle.river_base.specs.Row.{copies, in_order}
 use Rattle.river_base.specs.declared.item.Batch.{Batch}
 use Rattle.river_base.proofs.Rows.{in_order_sorted}
 use Rattle.kern_bags.specs.Contents.{difference}
-use Rattle.kern_bags.proofs.Copies.{differences_are}
+use Rattle.kern_changes.proofs.Copies.{differences_are}
+use Rattle.kern_bags.specs.declared.kernel.Streamer.{Streamer}
 use Rattle.kern_bags.specs.declared.kernel.Streamer.TheVariants.{Istream, Dstream}
 use Rattle.river_base.specs.declared.item.Change.{Change}
 use Rattle.river_base.specs.Changes.{change_to, IsWideChange}
 use Rattle.kern_changes.specs.Counted.{AreSame, Changed}
-use Rattle.kern_changes.specs.Kept.{StreamsFree, StreamsAll}
+use Rattle.kern_bags.specs.Following.{StreamsFree, StreamsAll, StreamSteps}
 use Rattle.kern_changes.proofs.Leading.{same_order}
 use Rattle.kern_changes.proofs.Widths.{wide_changed, wide_in_order}
-
--- what came is what Istream gives
-pub came_streams : (c : Change) (g : Batch) → g ≡ record { at = c.at; rows = c.plus } → StreamsFree Istream c g
-came_streams c g e = record { each = λ before b is. e ∙ ap (λ (d : Change). at_rows d.at d.plus) is } where
-  at_rows : ℤ → List (List ℤ) → Batch
-  at_rows at rows = record { at = at; rows = rows }
-
--- what went is what Dstream gives
-pub went_streams : (c : Change) (g : Batch) → g ≡ record { at = c.at; rows = c.minus } → StreamsFree Dstream c g
-went_streams c g e = record { each = λ before b is. e ∙ ap (λ (d : Change). at_rows d.at d.minus) is } where
-  at_rows : ℤ → List (List ℤ) → Batch
-  at_rows at rows = record { at = at; rows = rows }
 
 -- a change made on the bag of the content gives the next one
 pub changed_same : (c : Change) (old new before : List (List ℤ)) (b : Batch) → AreSame old before → c ≡ change_to before b → Changed c old new → AreSame new b.rows
@@ -53,3 +42,19 @@ pub all_fit : (w : ℕ) (c : Change) (old new rows : List (List ℤ)) → Change
 all_fit w c old new rows made e h k =
     let n = wide_changed w c old new h k.plus made in
     (n, subst (HaveWidth w) (sym e) (wide_in_order w new n))
+
+-- so Istream steps: it keeps nothing
+pub came_steps : (s : Streamer) (c : Change) (kept : List (List ℤ)) (g : Batch) → s ≡ Istream → StreamsFree Istream c g
+    → ((w : ℕ) → IsWideChange w c → HaveWidth w g.rows) → StreamSteps s c kept kept g
+came_steps s c kept g is free wide = subst (λ t. StreamSteps t c kept kept g) (sym is) (record {
+  contents = record { each = λ before b up k e. (free.each before b e, tt) };
+  fits = record { each = λ w h k. (h, wide w k) };
+})
+
+-- and Dstream
+pub went_steps : (s : Streamer) (c : Change) (kept : List (List ℤ)) (g : Batch) → s ≡ Dstream → StreamsFree Dstream c g
+    → ((w : ℕ) → IsWideChange w c → HaveWidth w g.rows) → StreamSteps s c kept kept g
+went_steps s c kept g is free wide = subst (λ t. StreamSteps t c kept kept g) (sym is) (record {
+  contents = record { each = λ before b up k e. (free.each before b e, tt) };
+  fits = record { each = λ w h k. (h, wide w k) };
+})

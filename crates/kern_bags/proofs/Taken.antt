@@ -1,15 +1,8 @@
 -- One element more of a list that a loop goes over.
-use Rattle.std.proofs.Common.{◌≡◌, ◌<◌, ◌+◌, ℕ, List, [], ◌∷◌, ◌++◌, length, get_or, map, take, sym, ap, ◌∙◌, append_assoc}
+use Rattle.std.proofs.Common.{◌≡◌, ◌<◌, ◌+◌, ℕ, List, [], ◌∷◌, ◌++◌, length, get_or, take, sym, ap, ◌∙◌}
 use Rattle.std.specs.Prelude.{flat_map}
-use Rattle.std.proofs.lemmas.List.{take_more, map-append, append-nil}
+use Rattle.std.proofs.lemmas.List.{take_more, append-nil}
 use Rattle.std.proofs.lemmas.List.Concat.{flat_map-append}
-
--- what a loop made of the elements so far, and of one more
-pub map_next : {A B : Type 0} (f : A → B) (xs : List A) (n : ℕ) (x : A) (start old new : List B) → n < length xs → x ≡ get_or xs n x
-    → old ≡ start ++ map f (take n xs) → new ≡ old ++ f x ∷ [] → new ≡ start ++ map f (take (n + 1) xs)
-map_next f xs n x start old new lt is o e =
-    e ∙ ap (λ l. l ++ f x ∷ []) o ∙ append_assoc start (map f (take n xs)) (f x ∷ [])
-    ∙ ap (λ l. start ++ l) (ap (λ y. map f (take n xs) ++ f y ∷ []) is ∙ sym (map-append f (take n xs) (get_or xs n x ∷ [])) ∙ ap (map f) (sym (take_more xs n x lt)))
 
 -- the pairs of one row more
 pub join_next : {A B : Type 0} (f : A → List B) (xs : List A) (n : ℕ) (x : A) (old new : List B) → n < length xs → x ≡ get_or xs n x

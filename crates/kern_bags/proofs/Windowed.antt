@@ -14,7 +14,7 @@ use Rattle.river_base.proofs.Rows.{in_order_bag}
 use Rattle.kern_bags.specs.Contents.{later, greatest, rows_where, put_batch, by_instant, last_of, in_window, content_of}
 use Rattle.kern_bags.specs.Laws.{lets_pass, ContentsAre, GreatestIsNow, Came, came_at, came, IsLater, LatestAre}
 use Rattle.kern_bags.specs.declared.kernel.Window.TheVariants.{Now, Range, Unbounded, Latest}
-use Rattle.kern_bags.proofs.Copies.{count-append, copies-in_order, sum-cong}
+use Rattle.kern_changes.proofs.Copies.{count-append, copies-in_order, sum-cong}
 
 -- INSTANTS
 

@@ -1,16 +1,12 @@
--- What windows and streamers keep of the batches that came, and what it stands for.
+-- What windows keep of the batches that came, and what it stands for.
 use Rattle.std.specs.Prelude.{◌≡◌, ℤ, pos, ◌-◌, ◌-ℤ◌, ◌≤ℤ◌, Option, Some, None, List, [], ◌∷◌, ◌++◌, length, drop, map, filter, flat_map, int_le, int_lt}
 use Rattle.std.specs.List.{AllByRecursion}
 use Rattle.river_base.specs.declared.item.Batch.{Batch}
 use Rattle.river_base.specs.declared.item.Item as item
-use Rattle.river_base.specs.Grew.{GrewByPrefix}
 use Rattle.river_base.specs.Held.{batches}
 use Rattle.kern_bags.specs.Contents.{later, greatest, by_instant}
-use Rattle.kern_bags.specs.Steps.{last_rows}
 use Rattle.kern_bags.specs.declared.kernel.Window.{Window}
 use Rattle.kern_bags.specs.declared.kernel.Window.TheVariants.{Now, Range, Unbounded, Latest}
-use Rattle.kern_bags.specs.declared.kernel.Streamer.{Streamer}
-use Rattle.kern_bags.specs.declared.kernel.Streamer.TheVariants.{Istream, Dstream, Rstream}
 
 -- a row that came, behind its instant
 abbrev pub Stamped : Type 0
@@ -71,18 +67,3 @@ pub record StandsForWindow (w : Window) (kept : WindowKept) (past : List item.It
 pub record IsWindowKept (w : Window) (kept : WindowKept) : Type 0 where
   pub past : List item.Item
   pub stands : StandsForWindow w kept past
-
--- what a streamer keeps of these items: the last content, where it gives a difference
-abbrev pub StandsForStreamer : Streamer → List (List ℤ) → List item.Item → Type 0
-StandsForStreamer Istream kept past = kept ≡ last_rows (batches past)
-StandsForStreamer Dstream kept past = kept ≡ last_rows (batches past)
-StandsForStreamer Rstream kept past = Unit {0}
-
--- an item x came: for all items of which the old state was kept, the output grew by what x gives after them, and the new state is
--- kept of them and x
-pub record Steps {S : Type 0} (StandsFor : S → List item.Item → Type 0) (one : List item.Item → item.Item → List item.Item) (x : item.Item) (old new : S) (out out' : List item.Item) : Type 0 where
-  pub each : (past : List item.Item) → StandsFor old past → (out' ≡ out ++ one past x) × StandsFor new (past ++ x ∷ [])
-
--- there was no memory: the output grew by a part
-pub record GaveUp {S : Type 0} (StandsFor : S → List item.Item → Type 0) (one : List item.Item → item.Item → List item.Item) (x : item.Item) (old : S) (out out' : List item.Item) : Type 0 where
-  pub each : (past : List item.Item) → StandsFor old past → GrewByPrefix out (one past x) out'

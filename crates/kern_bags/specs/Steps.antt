@@ -42,10 +42,6 @@ pub record Pairing : Type 0 where
   pub left : List item.Item
   pub right : List item.Item
 
--- nothing waits
-abbrev pub pairing_start : Pairing
-pairing_start = record { left = []; right = [] }
-
 -- the rows of an item
 abbrev pub rows_of : item.Item → List (List ℤ)
 rows_of (Flat (Batched b)) = b.rows

@@ -1,8 +1,8 @@
 -- What steps on changes need, and how a pair of them passes.
-use Rattle.std.specs.Prelude.{◌≡◌, ◌≤◌, ◌+◌, ◌⊎◌, ℕ, List, [], ◌∷◌, ◌++◌}
+use Rattle.std.specs.Prelude.{◌≡◌, ◌≤◌, ◌+◌, ◌⊎◌, ℕ, ℤ, List, [], ◌∷◌, ◌++◌}
 use Rattle.river_base.specs.Held.{HaveWidth}
 use Rattle.work_code.specs.Term.{Term}
-use Rattle.kern_bags.specs.Needs.{CanRead, CanProject}
+use Rattle.kern_bags.specs.Needs.{CanRead, CanProject, CanJoin}
 use Rattle.river_base.specs.declared.item.Change.{Change}
 use Rattle.river_base.specs.declared.item.Flat as flat
 use Rattle.river_base.specs.declared.item.Flat.TheVariants.{One, Batch as Batched, Change as Changed}
@@ -49,6 +49,20 @@ pub record CanMake (c d : Change) (s : CrossKept) : Type 0 where
   pub few : left + right ≤ 16
   pub lefts : HaveWidth left s.lefts
   pub rights : HaveWidth right s.rights
+  pub first : IsWideChange left c
+  pub second : IsWideChange right d
+
+-- both parts of a change can be joined with a side
+pub record CanJoinBoth (side : List (List ℤ)) (c : Change) : Type 0 where
+  pub plus : CanJoin side c.plus
+  pub minus : CanJoin side c.minus
+
+-- the first can be made on a left side, and the second can meet it then
+pub record CanMeet (c d : Change) (side : List (List ℤ)) : Type 0 where
+  pub left : ℕ
+  pub right : ℕ
+  pub few : left + right ≤ 16
+  pub lefts : HaveWidth left side
   pub first : IsWideChange left c
   pub second : IsWideChange right d
 

@@ -1,10 +1,11 @@
 // A product of two relations that come as changes.
 ghost use Rattle.std.specs.Prelude.{◌≡◌, ◌++◌, IfOk, OnOk, OnErr, MatchOption};
 ghost use Rattle.river_base.specs.Changes.{all_pairs};
+ghost use Rattle.kern_changes.specs.Counted.{Changed};
 ghost use Rattle.kern_rows.specs.Dealing.{IsChanged};
 ghost use Rattle.kern_bags.specs.Following.{cross_start, put_change, Crosses, CrossFits, CrossesFlat, CrossesPart};
 ghost use Rattle.kern_bags.specs.Needs.{CanJoin};
-ghost use Rattle.kern_bags.specs.Takes.{CanCrossChanges, CanCrossFlat, CanMake, TakesChanges, HasNoChanges, JoinsChanges};
+ghost use Rattle.kern_bags.specs.Takes.{CanCrossChanges, CanCrossFlat, CanJoinBoth, CanMake, CanMeet, TakesChanges, HasNoChanges, JoinsChanges};
 
 use crate::Cross;
 use crate::given::{change_of, give_changes};
@@ -64,8 +65,7 @@ fn meet_left(
     plus: &mut Rows,
     minus: &mut Rows,
 ) -> Result<(), NoMemory>
-    requires plus { CanJoin lefts.now change.now.plus }
-    requires minus { CanJoin lefts.now change.now.minus }
+    requires { CanJoinBoth lefts.now change.now }
     ensures plus { OnOk result (plus.new ≡ plus.old ++ all_pairs lefts.now change.now.plus) }
     ensures minus { OnOk result (minus.new ≡ minus.old ++ all_pairs lefts.now change.now.minus) }
 {
@@ -76,6 +76,25 @@ fn meet_left(
     join_all(others.as_slice(), change.plus.as_slice(), plus)?;
     join_all(others.as_slice(), change.minus.as_slice(), minus)?;
     Ok(())
+}
+
+// The change of the left side is made, and what comes and goes at the right meets the side as it is
+// then.
+fn make_and_meet(
+    alloc: Global,
+    left: &Change,
+    right: &Change,
+    lefts: &mut Content,
+    plus: &mut Rows,
+    minus: &mut Rows,
+) -> Result<(), NoMemory>
+    requires { CanMeet left.now right.now lefts.old }
+    ensures made { OnOk result (Changed left.now lefts.old lefts.new) }
+    ensures plus { OnOk result (plus.new ≡ plus.old ++ all_pairs lefts.new right.now.plus) }
+    ensures minus { OnOk result (minus.new ≡ minus.old ++ all_pairs lefts.new right.now.minus) }
+{
+    lefts.make(left)?;
+    meet_left(alloc, right, lefts, plus, minus)
 }
 
 impl CrossState {
@@ -118,8 +137,7 @@ impl CrossState {
         let mut plus = Rows::new(alloc);
         let mut minus = Rows::new(alloc);
         meet_right(alloc, left, &self.rights, &mut plus, &mut minus)?;
-        self.lefts.make(left)?;
-        meet_left(alloc, right, &self.lefts, &mut plus, &mut minus)?;
+        make_and_meet(alloc, left, right, &mut self.lefts, &mut plus, &mut minus)?;
         self.rights.make(right)?;
         let change = settle(alloc, left.at, plus, minus)?;
         out.push(change)?;

@@ -78,12 +78,7 @@ fn passes(cond: &Expr, row: &Row) -> bool
 /// A change comes to a projection, which gives the change of what it projects: for the rows of both
 /// parts their values of the 1 to 16 expressions, without those that then come and go, at the same
 /// instant. Costs n log n of the change's rows. Where there is no memory, nothing was given.
-pub fn project(
-    alloc: Global,
-    list: &Exprs,
-    item: Flat,
-    out: &mut Items,
-) -> Result<(), NoMemory>
+pub fn project(alloc: Global, list: &Exprs, item: Flat, out: &mut Items) -> Result<(), NoMemory>
     requires change { IsChanged item }
     requires fits { CanProjectFlat (terms list.now) item }
     ensures ok { OnOk result (ProjectsFlat (terms list.now) item out.old out.new) }

@@ -1,4 +1,4 @@
-use Rattle.kern_bags.proofs.Copies.{differences_are}
+use Rattle.kern_changes.proofs.Copies.{differences_are}
 use Rattle.kern_bags.proofs.laws.differences_are.Goals as goal
 
 pub returns : goal.returns

@@ -2,7 +2,7 @@ use Rattle.std.proofs.Common.{ℤ, List, [], ◌<◌, ◌+◌, take, drop, Bool,
 use Rattle.std.proofs.lemmas.List.{length-set}
 use Rattle.work_code.specs.Term.{term}
 use Rattle.work_code.specs.Value.{val, is_true, IsWithin}
-use Rattle.kern_bags.proofs.InPlace.{as_it_was, rest_as_it_was, rest_beside, kept_next, left_next}
+use Rattle.kern_changes.proofs.InPlace.{as_it_was, rest_as_it_was, rest_beside, kept_next, left_next}
 use Rattle.kern_bags.proofs.rowwise.keep_rows.Goals.{then-passes, else-passes}
 use Rattle.kern_bags.proofs.rowwise.keep_rows.Goals as goal
 

@@ -3,7 +3,7 @@ use Rattle.std.specs.List.{AllByRecursion}
 use Rattle.std.proofs.lemmas.List.{length-set}
 use Rattle.work_code.specs.Term.{terms}
 use Rattle.work_code.specs.Value.{val, IsWithin}
-use Rattle.kern_bags.proofs.InPlace.{as_it_was, rest_beside, changed_next}
+use Rattle.kern_changes.proofs.InPlace.{as_it_was, rest_beside, changed_next}
 use Rattle.kern_bags.proofs.rowwise.project_rows.Goals as goal
 
 pub project_row-row-requires-clause-within : goal.project_row-row-requires-clause-within

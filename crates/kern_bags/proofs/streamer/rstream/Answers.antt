@@ -1,8 +1,8 @@
 use Rattle.std.proofs.Common.{◌≡◌, w64, to_z, of_z, ap, ◌∙◌, rules}
 use Rattle.river_base.specs.Row.{in_order}
 use Rattle.river_base.specs.declared.item.Batch.{Batch}
-use Rattle.kern_changes.proofs.Streaming.{all_streams, all_fit}
-use Rattle.kern_changes.proofs.streamer.rstream.Goals as goal
+use Rattle.kern_bags.proofs.Streaming.{all_streams, all_fit}
+use Rattle.kern_bags.proofs.streamer.rstream.Goals as goal
 
 pub returns-clause-contents : goal.returns-clause-contents
 returns-clause-contents c =

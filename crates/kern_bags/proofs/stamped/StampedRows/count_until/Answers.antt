@@ -3,7 +3,7 @@ use Rattle.std.specs.List.{AllByRecursion}
 use Rattle.std.proofs.lemmas.Int.{ints, to_z-of_z}
 use Rattle.kern_bags.specs.Kept.{Stamped, AreInTurn}
 use Rattle.kern_bags.proofs.InTurn.{earlier_all, one_earlier}
-use Rattle.kern_changes.proofs.stamped.StampedRows.count_until.Goals as goal
+use Rattle.kern_bags.proofs.stamped.StampedRows.count_until.Goals as goal
 
 pub loop-count-preserved : goal.loop-count-preserved
 loop-count-preserved c =

@@ -4,8 +4,8 @@ use Rattle.std.proofs.lemmas.Int.{ints, to_z-of_z}
 use Rattle.std.proofs.lemmas.Bool.Decides.{nat_tests}
 use Rattle.kern_bags.specs.Kept.{AreInTurn, since}
 use Rattle.kern_bags.proofs.InTurn.{since_next, since_all, rest_in_turn}
-use Rattle.kern_changes.proofs.Leaving.{more_left}
-use Rattle.kern_changes.proofs.stamped.StampedRows.move_before.Goals as goal
+use Rattle.kern_bags.proofs.Leaving.{more_left}
+use Rattle.kern_bags.proofs.stamped.StampedRows.move_before.Goals as goal
 
 pub loop-self-preserved : goal.loop-self-preserved
 loop-self-preserved c =
