@@ -22,12 +22,14 @@ use Rattle.river_base.proofs.LoopLemmas.{grew_by_map}
 use Rattle.kern_rows.specs.Needs.{HaveShares, IsJoiner}
 use Rattle.kern_rows.specs.Passing.{Passes, IsStuck, SoFar, passed_by, port_after, had_after}
 use Rattle.kern_rows.specs.Turns.{Turns, front_at, rest_at, rest_in, waiting, passed, settled, itself}
-use Rattle.kern_rows.proofs.Passed.{front_is, front_none, length-rest_at, joined_put, so_far_start, so_far_step, so_far_next, so_far_less, so_far_end, grew_by_none, grew_on}
+use Rattle.kern_rows.proofs.Passed.{front_is, front_none, length-rest_at, joined_put, so_far_start, so_far_step, so_far_next, so_far_less, so_far_end}
+use Rattle.kern_rows.proofs.Passed.{grew_by_none, grew_on}
 use Rattle.kern_changes.specs.declared.owed.Debt.{Debt}
 use Rattle.kern_changes.specs.Owed.{AreOwed, but_at, JoinsOwed, KeepsOwed}
-use Rattle.kern_rows.specs.Joined.{JoinKept, put_item, HasJoinShape, IsUnchanged, HasNoChange, PassesOpened, AreOpened, Joining, StandsForJoining, JoinedItems, JoinsItems}
-use Rattle.kern_rows.specs.Joined.{JoinsPlainly, flat_in, MayOwe, GaveHeld, KeepsJoin, JoinsPart, TakesItem, FlatJoined, FlatsJoined, ItemJoined, JoinsFlat, JoinsFlats, JoinsItem}
-use Rattle.kern_rows.specs.Joined.{JoinsFlatsPart, JoinsItemPart}
+use Rattle.kern_rows.specs.Joined.{JoinKept, put_item, HasJoinShape, IsUnchanged, HasNoChange, PassesOpened, AreOpened, Joining}
+use Rattle.kern_rows.specs.Joined.{StandsForJoining, JoinedItems, JoinsItems}
+use Rattle.kern_rows.specs.Joined.{JoinsPlainly, flat_in, MayOwe, GaveHeld, KeepsJoin, JoinsPart, TakesItem, FlatJoined, FlatsJoined, ItemJoined}
+use Rattle.kern_rows.specs.Joined.{JoinsFlat, JoinsFlats, JoinsItem, JoinsFlatsPart, JoinsItemPart}
 use Rattle.kern_changes.proofs.OwedLaws.{but_same, but_other}
 
 -- CONTENTS
@@ -308,7 +310,8 @@ pack_part place fs s out out' j last now (Pack gs) same owed is =
     subst (λ l. GrewByPrefix out l out') (sym (held-as_items last gs)) (j.each last now gs same owed (cc is))
 
 -- a part of a pack was
-pub item_part : (place : ℕ) (fs : List flat.Flat) (s : List Debt) (out out' : List item.Item) → JoinsFlatsPart place fs s out out' → JoinsItemPart place (Pack fs) s out out'
+pub item_part : (place : ℕ) (fs : List flat.Flat) (s : List Debt) (out out' : List item.Item) → JoinsFlatsPart place fs s out out'
+    → JoinsItemPart place (Pack fs) s out out'
 item_part place fs s out out' j = record { each = λ last now y same owed is. pack_part place fs s out out' j last now y same owed is; plain = j.plain }
 
 flat_joined : (place : ℕ) (f given : flat.Flat) (s s' : List Debt) (out out' : List item.Item) → JoinsFlat place f s s' given → out' ≡ out ++ Flat given ∷ []
@@ -351,7 +354,8 @@ pack_wide place fs s s' out out' j (FlatOf t) h o = absurd h
 pack_wide place fs s s' out out' j (PackOf t) h o = j.wide t h o
 
 -- a pack has
-pub item_pack : (place : ℕ) (fs : List flat.Flat) (s s' : List Debt) (out out' : List item.Item) → JoinsFlats place fs s s' out out' → JoinsItem place (Pack fs) s s' out out'
+pub item_pack : (place : ℕ) (fs : List flat.Flat) (s s' : List Debt) (out out' : List item.Item) → JoinsFlats place fs s s' out out'
+    → JoinsItem place (Pack fs) s s' out out'
 item_pack place fs s s' out out' j = record {
   each = λ last now y same owed is. pack_joined place fs s s' out out' j last now y same owed is;
   plain = j.plain;
@@ -404,7 +408,11 @@ pub record JoinedSoFar (ws : List ℕ) (start now : JoinKept) (out out' : List i
 
 joiner_of : (ws : List ℕ) (s : JoinKept) (m : Joining) → StandsForJoining s m → IsJoiner ws s.turns → IsJoiner ws m.turns
 joiner_of ws s m h j = record {
-  turn = (subst (λ p. p < length ws) h.port j.turn.0, subst (λ n. n < slice_index_or ws m.turns.port 0) h.had (subst (λ p. s.turns.had < slice_index_or ws p 0) h.port j.turn.1));
+  turn = (
+    subst (λ p. p < length ws) h.port j.turn.0,
+    subst (λ n. n < slice_index_or ws m.turns.port 0) h.had
+        (subst (λ p. s.turns.had < slice_index_or ws p 0) h.port j.turn.1),
+  );
   lists = sym h.lists ∙ j.lists;
 }
 
@@ -512,9 +520,14 @@ module _ (ws : List ℕ) (s s' : JoinKept) (x : item.Item) (t : Passes (slice_in
           (cases_eq q p)
 
   -- there was no memory for what it gives
-  pub joined_part : (start : JoinKept) (out out' out'' : List item.Item) → JoinedSoFar ws start s out out' → JoinsItemPart port x s.owed out' out'' → JoinsPart ws start out out''
-  joined_part start out out' out'' f part = record { contents = λ give m opened h. contents give m (f.each give m opened h); plain = λ give opened. plain give (f.plain give opened) } where
-    contents : (give : item.Item → List item.Item) (m : Joining) → JoinedIn give ws m s out out' → GrewByPrefix out (held_from m.last (settled give ws m.turns).0) out''
+  pub joined_part : (start : JoinKept) (out out' out'' : List item.Item) → JoinedSoFar ws start s out out' → JoinsItemPart port x s.owed out' out''
+      → JoinsPart ws start out out''
+  joined_part start out out' out'' f part = record {
+    contents = λ give m opened h. contents give m (f.each give m opened h);
+    plain = λ give opened. plain give (f.plain give opened);
+  } where
+    contents : (give : item.Item → List item.Item) (m : Joining) → JoinedIn give ws m s out out'
+        → GrewByPrefix out (held_from m.last (settled give ws m.turns).0) out''
     contents give m g =
         let n = g.next in
         let jn : IsJoiner ws n.turns = g.passed.joined in
@@ -525,8 +538,8 @@ module _ (ws : List ℕ) (s s' : JoinKept) (x : item.Item) (t : Passes (slice_in
         sym (so_far_next give ws m.turns n.turns (passed_by (slice_index_or ws n.turns.port 0) n.turns) [] g.items h.y g.passed (passes give n g.stands g.left jn))
         ∙ (λ i. sym g.passed.grew i ++ (o.opened i ++ more)) in
         let p = (subst (λ q. JoinsItemPart q x s.owed out' out'') g.stands.port part).each n.last n.now h.y o.same g.stands.owed h.front in
-        grew_on out (held_from m.last g.items) (held_from n.last (items_of h.y)) (held_from (content_from n.last (items_of h.y)) more) (held_from m.last (settled give ws m.turns).0)
-        out' out'' g.gave
+        grew_on out (held_from m.last g.items) (held_from n.last (items_of h.y)) (held_from (content_from n.last (items_of h.y)) more)
+        (held_from m.last (settled give ws m.turns).0) out' out'' g.gave
         (ap (held_from m.last) all ∙ held_from-append m.last g.items (items_of h.y ++ more)
         ∙ ap (λ l. held_from m.last g.items ++ l) (ap (λ c. held_from c (items_of h.y ++ more)) g.last ∙ held_from-append n.last (items_of h.y) more)) p
 
@@ -604,8 +617,8 @@ given_step ws start s u s' place x out out' out'' shares f t e j =
     (subst (λ p. JoinsItem p x s.owed s'.owed out' out'') t.port (subst (λ d. JoinsItem place x d s'.owed out' out'') t.owed j)) f
 
 -- a part of it is
-pub given_part : (ws : List ℕ) (start s u : JoinKept) (place : ℕ) (x : item.Item) (out out' out'' : List item.Item) → JoinedSoFar ws start s out out' → Took ws s u place x
-    → JoinsItemPart place x u.owed out' out'' → JoinsPart ws start out out''
+pub given_part : (ws : List ℕ) (start s u : JoinKept) (place : ℕ) (x : item.Item) (out out' out'' : List item.Item) → JoinedSoFar ws start s out out'
+    → Took ws s u place x → JoinsItemPart place x u.owed out' out'' → JoinsPart ws start out out''
 given_part ws start s u place x out out' out'' f t p =
     joined_part ws s u x t.passes start out out' out'' f
     (subst (λ q. JoinsItemPart q x s.owed out' out'') t.port (subst (λ d. JoinsItemPart place x d out' out'') t.owed p))

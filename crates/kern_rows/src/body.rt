@@ -20,8 +20,8 @@ fn add_zeros(slots: &mut Numbers, count: usize) -> Result<(), NoMemory>
     Ok(())
 }
 
-/// Runs a body on the values of a row: appends what it pushes, and keeps its first slots. Where there is no memory, a
-/// part of the pushes was appended, and nothing is said of the slots.
+/// Runs a body on the values of a row: appends what it pushes, and keeps its first slots. Where
+/// there is no memory, a part of the pushes was appended, and nothing is said of the slots.
 pub fn run_kept(
     code: &Code,
     kept: &mut Numbers,

@@ -19,8 +19,9 @@ impl CodeKernel {
         self.starts.copy(alloc)
     }
 
-    /// A row comes: appends what the body pushes, and keeps its slots. The body runs on as many inputs as the row has
-    /// values. Where there is no memory, a part of the pushes was appended, and nothing is said of the slots.
+    /// A row comes: appends what the body pushes, and keeps its slots. The body runs on as many
+    /// inputs as the row has values. Where there is no memory, a part of the pushes was appended,
+    /// and nothing is said of the slots.
     pub fn step(&self, kept: &mut Numbers, row: &Row, out: &mut Emitted) -> Result<(), NoMemory>
         requires formed { CanCode (code_form self.now) }
         requires kept { length kept.old ≡ length (code_form self.now).starts }

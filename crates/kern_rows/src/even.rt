@@ -7,7 +7,8 @@ use river_base::{NoMemory, Row};
 use std::alloc::Global;
 use std::marker::Model;
 
-/// Rows of one width, which is that of the first: their values lie one after another. Contracts see the list of the rows.
+/// Rows of one width, which is that of the first: their values lie one after another. Contracts see
+/// the list of the rows.
 #[derive(Drop)]
 pub struct EvenRows {
     width: usize,

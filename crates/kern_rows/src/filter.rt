@@ -15,7 +15,8 @@ use std::alloc::Global;
 use std::marker::Model;
 use work_code::{Code, Emitted};
 
-/// What a filter keeps between values: those that wait, which are fewer than the next run needs, and its kept slots.
+/// What a filter keeps between values: those that wait, which are fewer than the next run needs,
+/// and its kept slots.
 #[derive(Drop)]
 pub struct FilterState {
     // whether a first run of its own is to come
@@ -46,8 +47,8 @@ fn append_values(pushes: &Emitted, out: &mut Numbers) -> Result<(), NoMemory>
     Ok(())
 }
 
-// One run of this body, which looks at so many values and takes so many of them. Where there is no memory, a part of what it
-// gives was appended, and nothing is said of the state.
+// One run of this body, which looks at so many values and takes so many of them. Where there is no
+// memory, a part of what it gives was appended, and nothing is said of the state.
 fn run_body(
     code: &Code,
     peek: u32,
@@ -119,9 +120,9 @@ impl Filter {
         }
     }
 
-    /// A value comes: as long as as many values wait as the next run needs, its body runs on the first ones, then the
-    /// first leave, and what the body gives is appended. Where there is no memory, a part of that was appended, and
-    /// nothing is said of the state.
+    /// A value comes: as long as as many values wait as the next run needs, its body runs on the
+    /// first ones, then the first leave, and what the body gives is appended. Where there is no
+    /// memory, a part of that was appended, and nothing is said of the state.
     pub fn step(
         &self,
         state: &mut FilterState,

@@ -9,7 +9,8 @@ use river_base::{Item, NoMemory};
 use std::alloc::Global;
 use std::marker::Model;
 
-/// What a joiner keeps between items: the port in turn, how many items it had, and what waits at each port.
+/// What a joiner keeps between items: the port in turn, how many items it had, and what waits at
+/// each port.
 #[derive(Drop)]
 pub struct Joined {
     port: usize,

@@ -6,7 +6,8 @@ use river_base::{Duplicate, NoMemory, Numbers};
 use std::alloc::Global;
 use work_code::Code;
 
-/// A body that is run on each row, as a `map` of the River language of Soulé and others (DEBS 2012).
+/// A body that is run on each row, as a `map` of the River language of Soulé and others (DEBS
+/// 2012).
 #[derive(Drop)]
 pub struct CodeKernel {
     /// The body, whose inputs are the values of the row.
@@ -30,8 +31,8 @@ impl CodeKernel {
     }
 }
 
-/// A run that replaces the usual run in the first firing of a filter, as `prework` of the StreamIt language. It waits for
-/// the greater of its peek rate and 1 values.
+/// A run that replaces the usual run in the first firing of a filter, as `prework` of the StreamIt
+/// language. It waits for the greater of its peek rate and 1 values.
 #[derive(Drop)]
 pub struct First {
     /// How many values the run looks at.
@@ -81,8 +82,8 @@ pub struct Filter {
     pub code: Code,
     /// The values that the first slots have at the start, and that are kept from run to run.
     pub starts: Numbers,
-    /// What replaces the usual run in the first firing, where it is not like the others; it waits for the greater of its
-    /// peek rate and 1 values.
+    /// What replaces the usual run in the first firing, where it is not like the others; it waits
+    /// for the greater of its peek rate and 1 values.
     pub first: Option<First>,
 }
 
@@ -102,11 +103,13 @@ impl Filter {
     }
 }
 
-/// Passes items to its output ports in turn, as many to each as its weight says: StreamIt's round-robin splitter.
+/// Passes items to its output ports in turn, as many to each as its weight says: StreamIt's
+/// round-robin splitter.
 #[derive(Clone, Copy, Debug, PartialEq, Eq)]
 pub struct Deal;
 
-/// Takes items from its input ports in turn, as many from each as its weight says: StreamIt's round-robin joiner.
+/// Takes items from its input ports in turn, as many from each as its weight says: StreamIt's
+/// round-robin joiner.
 #[derive(Clone, Copy, Debug, PartialEq, Eq)]
 pub struct Collect;
 

@@ -13,8 +13,8 @@ use std::marker::Model;
 // For how many items an empty line keeps memory.
 const KEPT: usize = 16;
 
-/// Items in a line: new ones come to its end, and each leaves at its front. As long as all are rows of one width, their values
-/// alone are kept. Contracts see the list of the items that are there.
+/// Items in a line: new ones come to its end, and each leaves at its front. As long as all are rows
+/// of one width, their values alone are kept. Contracts see the list of the items that are there.
 #[derive(Drop)]
 pub struct Line {
     // the rows in front
@@ -158,7 +158,8 @@ impl Line {
         self.rows.truncate(count);
     }
 
-    /// The item at the front leaves; None where there is none. A line that is empty gives back its memory, but for a few items.
+    /// The item at the front leaves; None where there is none. A line that is empty gives back its
+    /// memory, but for a few items.
     pub fn pop(&mut self) -> Option<Item>
         ensures { MatchOption result ((self.old ≡ []) × (self.new ≡ [])) (λ x. self.old ≡ x ∷ self.new) }
     {

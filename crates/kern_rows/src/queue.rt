@@ -8,11 +8,13 @@ use std::marker::Model;
 // For how many values an empty queue keeps memory.
 const KEPT: usize = 64;
 
-/// Values of which the first can be read as a slice and taken out. Contracts see the list of those that are there.
+/// Values of which the first can be read as a slice and taken out. Contracts see the list of those
+/// that are there.
 #[derive(Drop)]
 pub struct Queue {
     items: Vec<i64>,
-    // how many at the front of `items` were taken out; they are dropped once they are more than the others
+    // how many at the front of `items` were taken out; they are dropped once they are more than the
+    // others
     taken: usize,
 }
 

@@ -35,10 +35,10 @@ returns-in_err-give-clause-err c =
 
 pub returns-clause-contents : goal.returns-clause-contents
 returns-clause-contents c =
-    joined_end (shares c.args.weights.now) c.args.state.now c.loop-port.state c.take.new.self c.args.out.now c.loop-port.out c.loop-port.invariant c.in_default.ensures.turns
-    c.take.ensures.owed
+    joined_end (shares c.args.weights.now) c.args.state.now c.loop-port.state c.take.new.self c.args.out.now c.loop-port.out c.loop-port.invariant
+    c.in_default.ensures.turns c.take.ensures.owed
 
 pub returns-clause-plain : goal.returns-clause-plain
 returns-clause-plain c =
-    plain_end (shares c.args.weights.now) c.args.state.now c.loop-port.state c.take.new.self c.args.out.now c.loop-port.out c.loop-port.invariant c.in_default.ensures.turns
-    c.take.ensures.owed
+    plain_end (shares c.args.weights.now) c.args.state.now c.loop-port.state c.take.new.self c.args.out.now c.loop-port.out c.loop-port.invariant
+    c.in_default.ensures.turns c.take.ensures.owed

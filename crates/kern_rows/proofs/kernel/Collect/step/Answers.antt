@@ -7,7 +7,8 @@ use Rattle.kern_rows.proofs.kernel.Collect.step.Goals as goal
 
 pub pass_all-requires-clause-shape : goal.pass_all-requires-clause-shape
 pass_all-requires-clause-shape c =
-    subst (HasJoinShape (shares c.args.weights.now)) (sym c.in_ok-put.ensures) (put_shape (shares c.args.weights.now) c.args.port c.args.item c.args.state.now c.requires.shape)
+    subst (HasJoinShape (shares c.args.weights.now)) (sym c.in_ok-put.ensures)
+    (put_shape (shares c.args.weights.now) c.args.port c.args.item c.args.state.now c.requires.shape)
 
 pub returns-in_err-put-clause-err : goal.returns-in_err-put-clause-err
 returns-in_err-put-clause-err c =
