@@ -1,18 +1,18 @@
 -- How many copies of a row there are in what is made of bags.
-use Rattle.std.proofs.Common.{◌≡◌, ℕ, suc, ◌+◌, ◌-◌, ◌*◌, ℤ, Bool, true, false, cond, List, [], ◌∷◌, ◌++◌, length, map, filter, refl, sym, ap, ◌∙◌, arith}
+use Rattle.std.proofs.Common.{◌≡◌, ℕ, suc, ◌+◌, ◌*◌, ℤ, Bool, true, false, cond, List, [], ◌∷◌, ◌++◌, length, map, filter, refl, sym, ap, ◌∙◌, arith}
 use Rattle.std.specs.Prelude.{count_by, sum_by, flat_map}
 use Rattle.std.proofs.lemmas.List.Sums.{sum_by-cons}
 use Rattle.std.proofs.lemmas.List.Elements.{All-head, All-tail}
 use Rattle.std.proofs.lemmas.Bool.{true≢false}
 use Rattle.river_base.specs.Changes.{without}
 use Rattle.river_base.specs.Held.{HaveWidth}
-use Rattle.river_base.specs.Row.{row_eq, in_order, copies}
+use Rattle.river_base.specs.Row.{row_eq, copies}
 use Rattle.river_base.proofs.Counts.{same_row, row_itself, count-cons, count_pass, count_fail}
 use Rattle.river_base.proofs.Rows.{in_order_ascends}
 use Rattle.work_code.specs.Value.{val, is_true}
 use Rattle.kern_bags.specs.Contents.{product, greatest, in_window}
 use Rattle.kern_bags.specs.Laws.{StreamersAre, SelectionsAre, ProjectionsAre, ProductsAre, Ascend}
-use Rattle.kern_changes.proofs.Copies.{count-append, count-map, count-flat_map, sum-cong, copies-in_order, differences_are}
+use Rattle.kern_changes.proofs.Copies.{count-map, count-flat_map, sum-cong, copies-in_order, differences_are}
 
 -- streamers by copies
 pub streamers_are : StreamersAre

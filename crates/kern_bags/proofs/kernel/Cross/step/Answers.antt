@@ -1,6 +1,5 @@
-use Rattle.std.proofs.Common.{sym, ◌∙◌, subst}
+use Rattle.std.proofs.Common.{sym, subst}
 use Rattle.std.proofs.lemmas.Result.{on_ok_weaker, on_err_weaker}
-use Rattle.river_base.proofs.PlaceLemmas.{on_err}
 use Rattle.kern_bags.specs.Takes.{CanCrossChanges, CanCrossFlat}
 use Rattle.kern_bags.proofs.Flats.{crosses_flat, crosses_part}
 use Rattle.kern_bags.proofs.kernel.Cross.step.Goals as goal
