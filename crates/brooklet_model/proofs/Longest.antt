@@ -55,8 +55,8 @@ ends ws ls rs (suc n) x lt left le = cases_list (list_at rs (branch ws x))
     let less = less_at itself rs b (y ∷ []) (front_at_some rs b y ys e) in
     let rest = ends ws ls (rest_at rs b) n (suc x) lt (left_next ws ls rs x y ys lt left e) (omega (arith, less, le)) in
     ap (λ o. collected_at ws ls (x + length (and_more o (found_front (collected_at ws ls) n (suc x))))) there
-    ∙ ap (collected_at ws ls) (let z : x + suc (length (found_front (collected_at ws ls) n (suc x))) ≡ suc x + length (found_front (collected_at ws ls) n (suc x))
-    = omega arith in z)
+    ∙ ap (collected_at ws ls)
+    (let z : x + suc (length (found_front (collected_at ws ls) n (suc x))) ≡ suc x + length (found_front (collected_at ws ls) n (suc x)) = omega arith in z)
     ∙ rest)
 
 -- each place has its item, and the first without one ends what is collected

@@ -67,8 +67,8 @@ pub place_below : (ws : List Name) (q : Name) → 0 < count q ws → place_of_na
 place_below [] q lt = absurd (omega (arith, lt))
 place_below (w ∷ ws) q lt = ⊎_elim
     (λ c. let e = if_true (name_eq w q) 0 (suc (place_of_name q ws)) c.1 in omega (arith, e))
-    (λ c. let e = if_false (name_eq w q) 0 (suc (place_of_name q ws)) c.1 in let z = ap one_if c.1
-    in let i = place_below ws q (omega (arith, z, lt)) in omega (arith, e, i))
+    (λ c. let e = if_false (name_eq w q) 0 (suc (place_of_name q ws)) c.1 in let z = ap one_if c.1 in
+    let i = place_below ws q (omega (arith, z, lt)) in omega (arith, e, i))
     (cases_name w q)
 
 -- the value at the place of a name
