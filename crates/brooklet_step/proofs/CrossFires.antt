@@ -31,7 +31,7 @@ use Rattle.brooklet_step.specs.declared.emit.Emit.{Emit}
 use Rattle.brooklet_step.specs.declared.state.State.TheVariants as state
 use Rattle.brooklet_step.specs.Bags.{as_changes}
 use Rattle.brooklet_step.specs.Took.{Took}
-use Rattle.brooklet_step.specs.Given.{IsHeldOf, FitCross, FitState, as_batches, ran, CrossAfter, StandsAfter, TookHeld, Gives, FiresAt}
+use Rattle.brooklet_step.specs.Given.{IsHeldOf, FitCross, FitState, as_batches, ran, CrossStands, StandsAfter, TookHeld, Gives, FiresAt}
 use Rattle.brooklet_step.proofs.GivenLemmas.{at_next, ran_more}
 use Rattle.brooklet_step.proofs.OnePort.{change_held, held_change, relation_typed, came_content, took_first, came_first, does_at}
 
@@ -141,10 +141,10 @@ module _ (n k : ℕ) (out out' : Emit) (ds : List Change) (now now' : CrossKept)
   -- what a firing on x gives, and what it keeps
   abbrev GivesFor : List Kept → Word → ℕ → item.Item → Type 0
   GivesFor start w p x = TookHeld (relation (n + k) ∷ []) (ran cross start w) out out' (fire cross p x (ran cross start w).states)
-      × CrossAfter start (state.Cross now' ∷ []) (w ++ (p, x) ∷ [])
+      × CrossStands start (state.Cross now' ∷ []) (w ++ (p, x) ∷ [])
 
   -- where the item has come to its port, and what is kept with it stands for that
-  passed : (start : List Kept) (w : Word) (p : ℕ) (x : item.Item) (a : CrossAfter start (state.Cross now ∷ []) w) (m : Crossing) (kept : CrossKept)
+  passed : (start : List Kept) (w : Word) (p : ℕ) (x : item.Item) (a : CrossStands start (state.Cross now ∷ []) w) (m : Crossing) (kept : CrossKept)
       → m.lefts ≡ a.contents.lefts → m.rights ≡ a.contents.rights
       → put_pair p x (pairing (as_batches a.contents.left) (as_batches a.contents.right)) ≡ pairing (as_batches m.left) (as_batches m.right)
       → content_from [] (at_port 0 (w ++ (p, x) ∷ [])) ≡ last_content m.lefts m.left
@@ -183,7 +183,7 @@ module _ (n k : ℕ) (out out' : Emit) (ds : List Change) (now now' : CrossKept)
       )
 
   at_left : (c : Change) (start : List Kept) (w : Word) (b : Batch) → Crosses (put_change 0 c now) now' [] ds → Took out out' (gives 0 (as_changes ds) [])
-      → CrossAfter start (state.Cross now ∷ []) w → c ≡ change_to (content_from [] (at_port 0 w)) b → GivesFor start w 0 (Flat (Batched b))
+      → CrossStands start (state.Cross now ∷ []) w → c ≡ change_to (content_from [] (at_port 0 w)) b → GivesFor start w 0 (Flat (Batched b))
   at_left c start w b f took a is =
       let x : item.Item = Flat (Batched b) in
       let h = a.contents in
@@ -200,7 +200,7 @@ module _ (n k : ℕ) (out out' : Emit) (ds : List Change) (now now' : CrossKept)
       }) f took
 
   at_right : (c : Change) (start : List Kept) (w : Word) (b : Batch) → Crosses (put_change 1 c now) now' [] ds → Took out out' (gives 0 (as_changes ds) [])
-      → CrossAfter start (state.Cross now ∷ []) w → c ≡ change_to (content_from [] (at_port 1 w)) b → GivesFor start w 1 (Flat (Batched b))
+      → CrossStands start (state.Cross now ∷ []) w → c ≡ change_to (content_from [] (at_port 1 w)) b → GivesFor start w 1 (Flat (Batched b))
   at_right c start w b f took a is =
       let x : item.Item = Flat (Batched b) in
       let h = a.contents in

@@ -41,23 +41,11 @@ use Rattle.brooklet_step.specs.declared.state.State.TheVariants as state
 use Rattle.brooklet_step.specs.Dealing.{IsDealt, dealt_start}
 use Rattle.brooklet_step.specs.Stands.{IsChange, StandsForTurn}
 use Rattle.brooklet_step.specs.Took.{Took, HasRoom}
-use Rattle.brooklet_step.specs.Given.{held_by, held_at, IsHeldBy, IsHeldOf, columns_by, ran, FitState, FitTurn, DealAfter, StandsAfter, TookHeld, Does, FiresAt, CanTake}
+use Rattle.brooklet_step.specs.Given.{held_by, held_at, IsHeldBy, IsHeldOf, columns_by, ran, FitState, FitTurn, DealStands, StandsAfter, TookHeld, Does, FiresAt, CanTake}
 use Rattle.brooklet_step.proofs.GivenFires.{ArePlain}
 use Rattle.brooklet_step.proofs.GivenLemmas.{at-plain, at_next, ran_more, not_both}
+use Rattle.brooklet_step.proofs.OnePort.{relation_holds, change_held, relation_typed, same_item, same_state, same_columns, came_content}
 use Rattle.brooklet_step.proofs.RowFires.{got_many}
-
--- what a queue of a relation may hold is a change
-pub relation_change : (n : ℕ) (i : item.Item) → IsHeld (relation n) i → (c : Change) × (i ≡ Flat (Changed c)) × IsChangeOf n c
-unfolding IsHeld
-relation_change n (Flat (Changed c)) h = (c, refl, h)
-relation_change n (Flat (One row)) h = absurd h
-relation_change n (Flat (Batched b)) h = absurd h
-relation_change n (Pack fs) h = absurd h
-
--- and it may hold each such change
-pub change_relation : (n : ℕ) (c : Change) → IsChangeOf n c → IsHeld (relation n) (Flat (Changed c))
-unfolding IsHeld
-change_relation n c h = h
 
 -- a queue of no relation may hold no change
 pub plain_unchanged : (t : FlatType) (i : item.Item) → IsPlain (FlatOf t) → IsHeld (FlatOf t) i → IsChange i → ⊥
@@ -66,34 +54,13 @@ plain_unchanged (Rows w) i p h c = subst (IsHeld (FlatOf (Rows w))) c.is h
 plain_unchanged (Stream w) i p h c = subst (IsHeld (FlatOf (Stream w))) c.is h
 plain_unchanged (Relation w) i p h c = p
 
--- a relation's item is a batch
-pub relation_batch : (n : ℕ) (x : item.Item) → HasType (relation n) x → (b : Batch) × (x ≡ Flat (Batched b))
-relation_batch n (Flat (Batched b)) h = (b, refl)
-relation_batch n (Flat (One row)) h = absurd h
-relation_batch n (Flat (Changed c)) h = absurd h
-relation_batch n (Pack fs) h = absurd h
-
--- a change that is held is that to the next content
-pub change_is : (n : ℕ) (past : List item.Item) (b : Batch) (c : Change) → held (relation n) past (Flat (Batched b) ∷ []) ≡ Flat (Changed c) ∷ []
-    → c ≡ change_to (content_from [] past) b
-change_is n past b c h = same (sym h ∙ held-relation n past (Flat (Batched b) ∷ []))
-  where
-    same : {d : Change} → Flat (Changed c) ∷ [] ≡ Flat (Changed d) ∷ [] → c ≡ d
-    same e = cc
-
 -- what is held of one more content
-pub held_change : (n : ℕ) (past : List item.Item) (b : Batch) (c : Change) → c ≡ change_to (content_from [] past) b
+pub content_held : (n : ℕ) (past : List item.Item) (b : Batch) (c : Change) → c ≡ change_to (content_from [] past) b
     → held (relation n) past (Flat (Batched b) ∷ []) ≡ Flat (Changed c) ∷ []
-held_change n past b c e = held-relation n past (Flat (Batched b) ∷ []) ∙ ap (λ d. Flat (Changed d) ∷ []) (sym e)
+content_held n past b c e = held-relation n past (Flat (Batched b) ∷ []) ∙ ap (λ d. Flat (Changed d) ∷ []) (sym e)
 
 same_dealt : (a b : Dealt) → state.Deal a ≡ state.Deal b → a ≡ b
 same_dealt a b h = cc
-
-head_is : (s t : State) → s ∷ [] ≡ t ∷ [] → s ≡ t
-head_is s t h = cc
-
-head_item : (x i : item.Item) → x ∷ [] ≡ i ∷ [] → x ≡ i
-head_item x i e = cc
 
 many_plain : (t : QueueType) (n : ℕ) → IsPlain t → ArePlain (replicate n t)
 many_plain t zero h p = tt
@@ -119,20 +86,20 @@ fit_dealt ws reads s old e h = subst (λ (u : State). FitTurn (shares ws) reads 
 dealt_turn : (ws : List ℤ) (reads : List QueueType) (old : Dealt) → FitTurn (shares ws) reads (state.Deal old ∷ [])
     → IsTurn (shares ws) old.turn.port old.turn.had
 dealt_turn ws reads old f =
-    subst (λ (d : Dealt). IsTurn (shares ws) d.turn.port d.turn.had) (sym (same_dealt old f.now (head_is (state.Deal old) (state.Deal f.now) f.code))) f.turn
+    subst (λ (d : Dealt). IsTurn (shares ws) d.turn.port d.turn.had) (sym (same_dealt old f.now (same_state (state.Deal old) (state.Deal f.now) f.code))) f.turn
 
 dealt_lists : (ws : List ℤ) (reads : List QueueType) (old : Dealt) → FitTurn (shares ws) reads (state.Deal old ∷ []) → length old.owed ≡ length (shares ws)
 dealt_lists ws reads old f =
-    subst (λ (d : Dealt). length d.owed ≡ length (shares ws)) (sym (same_dealt old f.now (head_is (state.Deal old) (state.Deal f.now) f.code))) f.lists
+    subst (λ (d : Dealt). length d.owed ≡ length (shares ws)) (sym (same_dealt old f.now (same_state (state.Deal old) (state.Deal f.now) f.code))) f.lists
 
 dealt_few : (ws : List ℤ) (reads : List QueueType) (old : Dealt) → FitTurn (shares ws) reads (state.Deal old ∷ []) → OweLittle old.owed
 dealt_few ws reads old f =
-    subst (λ (d : Dealt). OweLittle d.owed) (sym (same_dealt old f.now (head_is (state.Deal old) (state.Deal f.now) f.code))) f.few
+    subst (λ (d : Dealt). OweLittle d.owed) (sym (same_dealt old f.now (same_state (state.Deal old) (state.Deal f.now) f.code))) f.few
 
 dealt_wide : (ws : List ℤ) (reads : List QueueType) (old : Dealt) → FitTurn (shares ws) reads (state.Deal old ∷ []) → (n : ℕ)
     → columns_by (slice_get reads 0) ≡ Some n → AreDebtsOf n old.owed
 dealt_wide ws reads old f n e =
-    subst (λ (d : Dealt). AreDebtsOf n d.owed) (sym (same_dealt old f.now (head_is (state.Deal old) (state.Deal f.now) f.code))) (f.wide n e)
+    subst (λ (d : Dealt). AreDebtsOf n d.owed) (sym (same_dealt old f.now (same_state (state.Deal old) (state.Deal f.now) f.code))) (f.wide n e)
 
 -- what a splitter needs: its turn, its weights, and a place for what the list in turn owes
 pub deal_needs : (ws : List ℤ) (i : item.Item) (s : State) (old : Dealt) (out : Emit) → s ≡ state.Deal old → CanTake (deal ws) 0 i (s ∷ []) out
@@ -158,9 +125,9 @@ module _ (ws : List ℤ) (i g : item.Item) (s s' : State) (old new : Dealt) (out
   many = room.outs
 
   -- the state of the definition before the firing, and what it gives
-  module _ (reads : List QueueType) (start : List Kept) (w : Word) (sa : DealAfter ws reads start (s ∷ []) w) where
+  module _ (reads : List QueueType) (start : List Kept) (w : Word) (sa : DealStands ws reads start (s ∷ []) w) where
     same : old ≡ sa.stands.now
-    same = same_dealt old sa.stands.now (sym es ∙ head_is s (state.Deal sa.stands.now) sa.stands.code)
+    same = same_dealt old sa.stands.now (sym es ∙ same_state s (state.Deal sa.stands.now) sa.stands.code)
 
     states_are : (ran (deal ws) start w).states ≡ Turn place old.turn.had ∷ []
     states_are = sa.stands.defined ∙ ap (λ (d : Dealt). Turn d.turn.port d.turn.had ∷ []) (sym same)
@@ -205,7 +172,7 @@ module _ (ws : List ℤ) (i g : item.Item) (s s' : State) (old new : Dealt) (out
       record {
         gives = record {
           given = λ start w x is_start tw tx sa h.
-              let e : x ≡ i = head_item x i (sym (held-plain T (at_port 0 w) (x ∷ []) p) ∙ h) in
+              let e : x ≡ i = same_item x i (sym (held-plain T (at_port 0 w) (x ∷ []) p) ∙ h) in
               let before = ran (deal ws) start w in
               let r = fire (deal ws) 0 x before.states in
               let is : g ∷ [] ≡ x ∷ [] = ap (λ (y : item.Item). y ∷ []) (one.0 ∙ sym e) in (
@@ -237,12 +204,12 @@ module _ (ws : List ℤ) (i g : item.Item) (s s' : State) (old new : Dealt) (out
   unfolding next_stands
   relates n vars some f hi =
       let T = relation n in
-      let ic = relation_change n i hi in
-      let c = ic.0 in
-      let one = dealt.change c ic.1 in
+      let ic = relation_holds n i hi in
+      let c = ic.change in
+      let one = dealt.change c ic.is in
       let d = one.given in
       let len = one.keeps.lists in
-      let wide = one.keeps.wide n (dealt_wide ws (T ∷ []) old f n refl) ic.2.wide in
+      let wide = one.keeps.wide n (dealt_wide ws (T ∷ []) old f n refl) ic.of.wide in
       record {
         gives = record {
           given = λ start w x is_start tw tx sa h. over start w x tx sa h;
@@ -253,39 +220,36 @@ module _ (ws : List ℤ) (i g : item.Item) (s s' : State) (old new : Dealt) (out
           outs_are = took.outs;
           adds_are = took.adds;
           held = λ q. held_only T (length ws) place g q (let b = (dealt_turn ws (T ∷ []) old f).0 in let l = length-map ws count_of in omega (arith, b, l))
-              (subst (IsHeld T) (sym one.is) (change_relation n d (record { normal = one.keeps.normal; wide = wide.0 })));
+              (subst (IsHeld T) (sym one.is) (change_held n d (record { normal = one.keeps.normal; wide = wide.0 })));
           wide = λ j. All-nil (IsWide (slice_get (widths_in vars) j));
           again = next_fits (T ∷ []) some f len (one.keeps.few (dealt_few ws (T ∷ []) old f)) (λ m e. subst (λ k. AreDebtsOf k new.owed) (same_columns n m e) wide.1);
         };
       }
     where
-      same_columns : (k m : ℕ) → Some k ≡ Some m → k ≡ m
-      same_columns k m e = cc
-
-      over : (start : List Kept) (w : Word) (x : item.Item) → HasType (relation n) x → DealAfter ws (relation n ∷ []) start (s ∷ []) w
+      over : (start : List Kept) (w : Word) (x : item.Item) → HasType (relation n) x → DealStands ws (relation n ∷ []) start (s ∷ []) w
           → held (relation n) (at_port 0 w) (x ∷ []) ≡ i ∷ []
           → TookHeld (replicate (length ws) (relation n)) (ran (deal ws) start w) out out' (fire (deal ws) 0 x (ran (deal ws) start w).states)
-          × DealAfter ws (relation n ∷ []) start (s' ∷ []) (w ++ (0, x) ∷ [])
+          × DealStands ws (relation n ∷ []) start (s' ∷ []) (w ++ (0, x) ∷ [])
       over start w x tx sa h =
           let T = relation n in
-          let ic = relation_change n i hi in
-          let c = ic.0 in
-          let one = dealt.change c ic.1 in
+          let ic = relation_holds n i hi in
+          let c = ic.change in
+          let one = dealt.change c ic.is in
           let d = one.given in
-          let xb = relation_batch n x tx in
-          let b = xb.0 in
+          let xb = relation_typed n x tx in
+          let b = xb.batch in
           let before = ran (deal ws) start w in
           let prev = before.outs in
           let now = content_from [] (at_port 0 w) in
           let last : ℕ → List (List ℤ) = λ p. content_from [] (prev p) in
-          let is : c ≡ change_to now b = change_is n (at_port 0 w) b c (ap (λ (y : item.Item). held T (at_port 0 w) (y ∷ [])) (sym xb.1) ∙ h ∙ ap (λ (y : item.Item). y ∷ []) ic.1) in
+          let is : c ≡ change_to now b = came_content n (at_port 0 w) c b x xb.is (h ∙ ap (λ (y : item.Item). y ∷ []) ic.is) in
           let owed : AreOwed old.owed last (λ p. now) = subst (λ (e : Dealt). AreOwed e.owed last (λ p. now)) (sym (same (T ∷ []) start w sa)) (sa.owed tt) in
           let r = one.contents.each now last b owed is in
           let xs : List item.Item = Flat (Batched b) ∷ [] in
-          let fired = fired_is (T ∷ []) start w sa x ∙ ap (λ (y : item.Item). gives place (y ∷ []) (Turn (next_port (shares ws) place old.turn.had) (next_had (shares ws) place old.turn.had) ∷ [])) xb.1 in
+          let fired = fired_is (T ∷ []) start w sa x ∙ ap (λ (y : item.Item). gives place (y ∷ []) (Turn (next_port (shares ws) place old.turn.had) (next_had (shares ws) place old.turn.had) ∷ [])) xb.is in
           let at_is : (p : ℕ) → only place (g ∷ []) p ≡ held T (prev p) (only place xs p) = λ p. ⊎_elim
           (λ q. subst (λ j. only place (g ∷ []) j ≡ held T (prev j) (only place xs j)) q
-          (only_same place (g ∷ []) ∙ ap (λ (y : item.Item). y ∷ []) one.is ∙ sym (held_change n (prev place) b d r.0) ∙ ap (held T (prev place)) (sym (only_same place xs))))
+          (only_same place (g ∷ []) ∙ ap (λ (y : item.Item). y ∷ []) one.is ∙ sym (content_held n (prev place) b d r.0) ∙ ap (held T (prev place)) (sym (only_same place xs))))
           (λ q. only_other place p (g ∷ []) (λ z. q (sym z)) ∙ sym (held-nil T (prev p)) ∙ ap (held T (prev p)) (sym (only_other place p xs (λ z. q (sym z)))))
           (cases_eq place p) in
           let more = ran_more (deal ws) start w 0 x in
@@ -296,7 +260,7 @@ module _ (ws : List ℤ) (i g : item.Item) (s s' : State) (old new : Dealt) (out
           (λ q. ap (content_from (last p)) (only_other place p xs (λ z. q (sym z))) ∙ sym (if_ne place p b.rows (last p) q))
           (cases_eq place p) in
           let next : content_from [] (at_port 0 (w ++ (0, x) ∷ [])) ≡ b.rows =
-          ap (content_from []) (at_next 0 w x ∙ ap (λ (y : item.Item). at_port 0 w ++ y ∷ []) xb.1) ∙ content-append [] (at_port 0 w) xs in (
+          ap (content_from []) (at_next 0 w x ∙ ap (λ (y : item.Item). at_port 0 w ++ y ∷ []) xb.is) ∙ content-append [] (at_port 0 w) xs in (
             record {
               outs = took.outs
                   ∙ each_grew_cong out.outs (only place (g ∷ [])) (λ q. held_at (replicate (length ws) T) q (prev q) ((fire (deal ws) 0 x before.states).outs q))

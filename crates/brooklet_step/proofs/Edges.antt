@@ -23,7 +23,7 @@ use Rattle.brooklet_model.specs.Typed.{AreInputs}
 use Rattle.brooklet_model.proofs.Lists.{if_true, if_false}
 use Rattle.brooklet_model.proofs.Solutions.{written_out}
 use Rattle.brooklet_model.proofs.TypedPlan.{kind_front, kind_back, inputs_typed}
-use Rattle.brooklet_step.proofs.GivenLemmas.{typed_plain}
+use Rattle.brooklet_step.proofs.HeldLaws.{plain_law}
 
 outer_plain : (t : QueueType) → IsRowsOrStream t → IsPlain t
 outer_plain (FlatOf (Rows w)) h = tt
@@ -71,7 +71,7 @@ inputs_held p v inputs q = ⊎_elim
 all_typed_plain : (t : QueueType) (xs : List item.Item) → IsPlain t → All (HasType t) xs → All (IsHeld t) xs
 all_typed_plain t [] h a = All-nil (IsHeld t)
 all_typed_plain t (x ∷ xs) h a =
-    All-cons (IsHeld t) x xs (typed_plain t x h (All-head (HasType t) x xs a)) (all_typed_plain t xs h (All-tail (HasType t) x xs a))
+    All-cons (IsHeld t) x xs ((plain_law t x h).1 (All-head (HasType t) x xs a)) (all_typed_plain t xs h (All-tail (HasType t) x xs a))
 
 -- and is what the queue may hold
 pub inputs_may : (p : PlanForm) → IsPlan p → (inputs : List (List item.Item)) → AreInputs p.inputs inputs → (q : Name)

@@ -43,10 +43,11 @@ use Rattle.brooklet_step.specs.declared.emit.Emit.{Emit}
 use Rattle.brooklet_step.specs.declared.state.State.{State}
 use Rattle.brooklet_step.specs.declared.state.State.TheVariants as state
 use Rattle.brooklet_step.specs.Took.{Took}
-use Rattle.brooklet_step.specs.Given.{held_by, held_at, IsHeldBy, IsHeldOf, AreHeldOf, IsPlainBy, IsRelationBy, columns_by, ran, FitState, FitJoiner, JoinsAfter, JoinAfter}
+use Rattle.brooklet_step.specs.Given.{held_by, held_at, IsHeldBy, IsHeldOf, AreHeldOf, IsPlainBy, IsRelationBy, columns_by, ran, FitState, FitJoiner, ContentsWait, JoinStands}
 use Rattle.brooklet_step.specs.Given.{StandsAfter, TookHeld, Does, FiresAt, CanTake}
 use Rattle.brooklet_step.proofs.DealFires.{start_wide}
 use Rattle.brooklet_step.proofs.GivenLemmas.{at-plain, at_next, ran_more, not_both}
+use Rattle.brooklet_step.proofs.OnePort.{same_item, same_state, same_columns}
 use Rattle.brooklet_step.proofs.RowFires.{got_many}
 
 -- PORTS OF ONE TYPE
@@ -101,9 +102,6 @@ may_owe (FlatOf (Relation n)) s h = h n refl
 may_owe (PackOf (Rows n)) s h = tt
 may_owe (PackOf (Stream n)) s h = tt
 may_owe (PackOf (Relation n)) s h = h n refl
-
-same_columns : (m n : ℕ) → Some m ≡ Some n → m ≡ n
-same_columns m n e = cc
 
 no_columns : {A : Type 0} (n : ℕ) → None ≡ Some n → A
 no_columns n e = absurd (cc e)
@@ -174,12 +172,6 @@ list_past (l ∷ ls) (suc p) le = list_past ls p (omega (arith, le))
 at_other : (p q : ℕ) (w : Word) (x : item.Item) → p ≢ q → at_port q (w ++ (p, x) ∷ []) ≡ at_port q w
 at_other p q w x ne = at_port-append q w ((p, x) ∷ []) ∙ ap (λ l. at_port q w ++ l) (at_port_past q (p, x) [] ne) ∙ append-nil (at_port q w)
 
-head_item : (x i : item.Item) → x ∷ [] ≡ i ∷ [] → x ≡ i
-head_item x i e = cc
-
-head_is : (s t : State) → s ∷ [] ≡ t ∷ [] → s ≡ t
-head_is s t h = cc
-
 same_join : (a b : JoinKept) → state.Join a ≡ state.Join b → a ≡ b
 same_join a b h = cc
 
@@ -227,12 +219,12 @@ module _ (k : Kern) (wl : List ℕ) (give : item.Item → List item.Item) (m : �
       (opens x (of_type port x tx).1)
 
   module _ (vars : List VarKind) (fits : Fits k types (given ∷ []) vars) (start : List Kept) (w : Word) (x : item.Item) (is_start : IsStart k types start)
-      (tw : IsWordOf types w) (tx : IsOf types port x) (sa : JoinAfter k wl types start (s ∷ []) w) (h : held_at types port (at_port port w) (x ∷ []) ≡ i ∷ []) where
+      (tw : IsWordOf types w) (tx : IsOf types port x) (sa : JoinStands k wl types start (s ∷ []) w) (h : held_at types port (at_port port w) (x ∷ []) ≡ i ∷ []) where
     abbrev before : Fired
     before = ran k start w
 
     same : old ≡ sa.now
-    same = same_join old sa.now (sym es ∙ head_is s (state.Join sa.now) sa.code)
+    same = same_join old sa.now (sym es ∙ same_state s (state.Join sa.now) sa.code)
 
     shape_is : HasJoinShape wl old
     shape_is = subst (HasJoinShape wl) (sym same) sa.shape
@@ -249,11 +241,11 @@ module _ (k : Kern) (wl : List ℕ) (give : item.Item → List item.Item) (m : �
     port_below = (of_type port x tx).0
 
     -- items as they are
-    plain_given : IsPlain t → TookHeld (given ∷ []) before out out' (fire k port x before.states) × JoinAfter k wl types start (s' ∷ []) (w ++ (port, x) ∷ [])
+    plain_given : IsPlain t → TookHeld (given ∷ []) before out out' (fire k port x before.states) × JoinStands k wl types start (s' ∷ []) (w ++ (port, x) ∷ [])
     plain_given p =
         let pr : IsPlainBy (slice_get types 0) = plain_alike t m 0 p in
         let states_are : before.states ≡ Joining old.turns ∷ [] = sa.plain pr ∙ ap (λ (n : JoinKept). Joining n.turns ∷ []) (sym same) in
-        let e : x ≡ i = head_item x i (sym (at-plain types port (at_port port w) (x ∷ []) (plain_alike t m port p)) ∙ h) in
+        let e : x ≡ i = same_item x i (sym (at-plain types port (at_port port w) (x ∷ []) (plain_alike t m port p)) ∙ h) in
         let fired : fire k port x before.states ≡ gives 0 (settled give wl (put port i old.turns)).0 (Joining (settled give wl (put port i old.turns)).1 ∷ []) =
         fired_is old.turns states_are
         ∙ ap (λ (y : item.Item). gives 0 (settled give wl (put port y old.turns)).0 (Joining (settled give wl (put port y old.turns)).1 ∷ [])) e in
@@ -277,7 +269,7 @@ module _ (k : Kern) (wl : List ℕ) (give : item.Item → List item.Item) (m : �
         )
 
     -- contents, of which changes came
-    module _ (rel : IsRelation t) (ja : JoinsAfter k start old w) where
+    module _ (rel : IsRelation t) (ja : ContentsWait k start old w) where
       abbrev c : joined.Joining
       c = ja.contents
 
@@ -288,7 +280,7 @@ module _ (k : Kern) (wl : List ℕ) (give : item.Item → List item.Item) (m : �
       line = list_at c.turns.lists port
 
       item_is : i ≡ held_item (content_from [] (at_port port w)) x
-      item_is = sym (head_item (held_item (content_from [] (at_port port w)) x) i (sym (held_changes t (at_port port w) (x ∷ []) rel)
+      item_is = sym (same_item (held_item (content_from [] (at_port port w)) x) i (sym (held_changes t (at_port port w) (x ∷ []) rel)
           ∙ ap (λ o. held_by o (at_port port w) (x ∷ [])) (sym (got_many t m port port_below)) ∙ h))
 
       content_is : content_from (c.now port) line ≡ content_from [] (at_port port w)
@@ -347,7 +339,7 @@ module _ (k : Kern) (wl : List ℕ) (give : item.Item → List item.Item) (m : �
       next_below : (p : ℕ) → p < length left.lists → p < length c.turns.lists
       next_below p lt = subst (λ n. p < n) (sym result.stands.lists ∙ keeps.shape.joined.lists ∙ sym shape_is.joined.lists ∙ ja.stands.lists) lt
 
-      next_joins : JoinsAfter k start new (w ++ (port, x) ∷ [])
+      next_joins : ContentsWait k start new (w ++ (port, x) ∷ [])
       next_joins = record {
         contents = record { turns = left; last = content_from c.last passed; now = result.now };
         defined = (ran_more k start w port x).states ∙ ap (λ (u : Fired). u.states) fired;
@@ -369,10 +361,10 @@ module _ (k : Kern) (wl : List ℕ) (give : item.Item → List item.Item) (m : �
     related : IsRelation t → IsRelationBy (slice_get types 0)
     related rel = subst IsRelationBy (sym first_read) rel
 
-    joins_after : IsRelation t → JoinsAfter k start old w
-    joins_after rel = subst (λ (n : JoinKept). JoinsAfter k start n w) (sym same) (sa.relation (related rel))
+    joins_after : IsRelation t → ContentsWait k start old w
+    joins_after rel = subst (λ (n : JoinKept). ContentsWait k start n w) (sym same) (sa.relation (related rel))
 
-    joined_after : IsRelation t → JoinAfter k wl types start (s' ∷ []) (w ++ (port, x) ∷ [])
+    joined_after : IsRelation t → JoinStands k wl types start (s' ∷ []) (w ++ (port, x) ∷ [])
     joined_after rel = record {
       now = new;
       code = ap (λ (u : State). u ∷ []) es';
@@ -382,13 +374,13 @@ module _ (k : Kern) (wl : List ℕ) (give : item.Item → List item.Item) (m : �
     }
 
     -- either
-    join_given : TookHeld (given ∷ []) before out out' (fire k port x before.states) × JoinAfter k wl types start (s' ∷ []) (w ++ (port, x) ∷ [])
+    join_given : TookHeld (given ∷ []) before out out' (fire k port x before.states) × JoinStands k wl types start (s' ∷ []) (w ++ (port, x) ∷ [])
     join_given = ⊎_elim (λ p. plain_given p) (λ rel. (changes_given rel (joins_after rel), joined_after rel)) (plain_or t)
 
   -- whatever was received: what came may be held, and the state fits again
   module _ (f : FitJoiner wl types (s ∷ [])) (hi : IsHeldOf types port i) where
     fit_same : f.now ≡ old
-    fit_same = sym (same_join old f.now (sym es ∙ head_is s (state.Join f.now) f.code))
+    fit_same = sym (same_join old f.now (sym es ∙ same_state s (state.Join f.now) f.code))
 
     fit_items : AreHeldOf types (list_at old.turns.lists)
     fit_items = subst (λ (n : JoinKept). AreHeldOf types (list_at n.turns.lists)) fit_same f.items
@@ -516,7 +508,7 @@ collect_needs ws i port s old out e t =
     let room = t.room.outs in
     let held : IsHeldOf (replicate (length ws) (FlatOf f.0)) port i = subst (λ (l : List QueueType). IsHeldOf l port i) f.1 t.item in (
       shaped (collect ws) t.reads t.fitting.writes t.fitting.vars f,
-      subst (HasJoinShape (shares ws)) (sym (same_join old j.now (sym e ∙ head_is s (state.Join j.now) j.code))) j.joined,
+      subst (HasJoinShape (shares ws)) (sym (same_join old j.now (sym e ∙ same_state s (state.Join j.now) j.code))) j.joined,
       (at_alike (FlatOf f.0) (λ o. IsHeldBy o i) (length ws) port (λ z. z) held).0,
       omega (arith, room),
     )
@@ -530,7 +522,7 @@ unpack_needs n i port s old out e t =
     let room = t.room.outs in
     let held : IsHeldOf (replicate n (PackOf f.0)) port i = subst (λ (l : List QueueType). IsHeldOf l port i) f.1 t.item in (
       shaped (unpack n) t.reads t.fitting.writes t.fitting.vars f,
-      subst (HasJoinShape (ones n)) (sym (same_join old j.now (sym e ∙ head_is s (state.Join j.now) j.code))) j.joined,
+      subst (HasJoinShape (ones n)) (sym (same_join old j.now (sym e ∙ same_state s (state.Join j.now) j.code))) j.joined,
       (at_alike (PackOf f.0) (λ o. IsHeldBy o i) n port (λ z. z) held).0,
       omega (arith, room),
     )
@@ -542,7 +534,7 @@ nothing_waits zero p = refl
 nothing_waits (suc n) zero = refl
 nothing_waits (suc n) (suc p) = nothing_waits n p
 
-start_stands : (k : Kern) (n : ℕ) → first_kept k ≡ Joining (join_start n).turns ∷ [] → JoinsAfter k (first_kept k) (join_start n) []
+start_stands : (k : Kern) (n : ℕ) → first_kept k ≡ Joining (join_start n).turns ∷ [] → ContentsWait k (first_kept k) (join_start n) []
 start_stands k n e = record {
   contents = record { turns = (join_start n).turns; last = []; now = λ p. [] };
   defined = e;

@@ -18,7 +18,7 @@ use Rattle.brooklet_model.proofs.Ports.{shaped}
 use Rattle.brooklet_model.proofs.Shapes.{shape_length}
 use Rattle.brooklet_model.proofs.Typing.{between_is}
 use Rattle.brooklet_step.specs.declared.state.State.{State}
-use Rattle.brooklet_step.specs.Given.{IsPlainBy, FitState, ran, JoinAfter, StandsAfter}
+use Rattle.brooklet_step.specs.Given.{IsPlainBy, FitState, ran, JoinStands, StandsAfter}
 use Rattle.brooklet_step.specs.Laws.{StandForSome, PassesNone, FitStatesStand, FiringsStep}
 use Rattle.brooklet_step.proofs.GivenLemmas.{IsSimple, simple_kept, simple_to, simple_from, not_both, all_of, ran_length}
 use Rattle.brooklet_step.proofs.GivenParts.{packed_states, fused_ran}
@@ -139,7 +139,7 @@ deal_moved : (ws : List ℤ) (is : List QueueType) (ss : List Kept) (st : List S
 deal_moved ws is ss st w p h = record { stands = h.stands; owed = λ rel. absurd (not_both (slice_get is 0) p rel) }
 
 join_moved : (k : Kern) (ws : List ℕ) (is : List QueueType) (ss : List Kept) (st : List State) (w : Word) → IsPlainBy (slice_get is 0)
-    → JoinAfter k ws is ss st w → JoinAfter k ws is (ran k ss w).states st []
+    → JoinStands k ws is ss st w → JoinStands k ws is (ran k ss w).states st []
 join_moved k ws is ss st w p h =
     record { now = h.now; code = h.code; shape = h.shape; plain = h.plain; relation = λ rel. absurd (not_both (slice_get is 0) p rel) }
 

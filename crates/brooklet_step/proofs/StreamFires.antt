@@ -26,7 +26,7 @@ use Rattle.brooklet_step.specs.declared.emit.Emit.{Emit}
 use Rattle.brooklet_step.specs.declared.state.State.TheVariants as state
 use Rattle.brooklet_step.specs.Bags.{StreamsChange, StreamFits}
 use Rattle.brooklet_step.specs.Took.{Took}
-use Rattle.brooklet_step.specs.Given.{IsHeldOf, FitStreamer, FitState, KeepsContent, ran, StreamerAfter, StandsAfter, TookHeld, Gives, FiresAt}
+use Rattle.brooklet_step.specs.Given.{IsHeldOf, FitStreamer, FitState, KeepsContent, ran, StreamerStands, StandsAfter, TookHeld, Gives, FiresAt}
 use Rattle.brooklet_step.proofs.GivenLemmas.{at_next, ran_more}
 use Rattle.brooklet_step.proofs.OnePort.{batch_held, held_change, relation_typed, came_content, same_relation, took_first, came_first, one_held, does_at}
 
@@ -63,10 +63,10 @@ module _ (s : Streamer) (n : ℕ) (c : Change) (g : Batch) (now now' : List (Lis
   -- what a firing on x gives, and what it keeps
   abbrev GivesFor : List Kept → Word → item.Item → Type 0
   GivesFor start w x = TookHeld (stream n ∷ []) (ran (streamer s) start w) out out' (fire (streamer s) 0 x (ran (streamer s) start w).states)
-      × StreamerAfter s start (state.Streamer now' ∷ []) (w ++ (0, x) ∷ [])
+      × StreamerStands s start (state.Streamer now' ∷ []) (w ++ (0, x) ∷ [])
 
   streamer_step : StreamsChange s c now now' g → Took out out' (gives 0 (Flat (Batched g) ∷ []) []) → (start : List Kept) (w : Word) (b : Batch) → IsAscending b.rows
-      → StreamerAfter s start (state.Streamer now ∷ []) w → c ≡ change_to (content_from [] (at_port 0 w)) b → GivesFor start w (Flat (Batched b))
+      → StreamerStands s start (state.Streamer now ∷ []) w → c ≡ change_to (content_from [] (at_port 0 w)) b → GivesFor start w (Flat (Batched b))
   streamer_step f took start w b up a is =
       let x : item.Item = Flat (Batched b) in
       let content = content_from [] (at_port 0 w) in

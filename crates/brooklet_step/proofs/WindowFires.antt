@@ -27,7 +27,7 @@ use Rattle.brooklet_model.specs.Words.{Word, at_port}
 use Rattle.brooklet_step.specs.declared.emit.Emit.{Emit}
 use Rattle.brooklet_step.specs.declared.state.State.TheVariants as state
 use Rattle.brooklet_step.specs.Took.{Took}
-use Rattle.brooklet_step.specs.Given.{IsHeldOf, FitWindow, FitState, ran, WindowAfter, StandsAfter, TookHeld, Gives, FiresAt}
+use Rattle.brooklet_step.specs.Given.{IsHeldOf, FitWindow, FitState, ran, WindowStands, StandsAfter, TookHeld, Gives, FiresAt}
 use Rattle.brooklet_step.proofs.GivenLemmas.{ran_more}
 use Rattle.brooklet_step.proofs.OnePort.{held_batch, change_held, same_item, same_stream, took_first, came_first, one_held, does_at}
 
@@ -75,10 +75,10 @@ module _ (v : Window) (n : ℕ) (b : Batch) (c : Change) (now now' : WindowKept)
   -- what a firing on x gives, and what it keeps
   abbrev GivesFor : List Kept → Word → item.Item → Type 0
   GivesFor start w x = TookHeld (relation n ∷ []) (ran (window v) start w) out out' (fire (window v) 0 x (ran (window v) start w).states)
-      × WindowAfter v start (state.Window now' ∷ []) (w ++ (0, x) ∷ [])
+      × WindowStands v start (state.Window now' ∷ []) (w ++ (0, x) ∷ [])
 
   window_step : Windows v b now now' c → Took out out' (gives 0 (Flat (Changed c) ∷ []) []) → (start : List Kept) (w : Word)
-      → WindowAfter v start (state.Window now ∷ []) w → GivesFor start w (Flat (Batched b))
+      → WindowStands v start (state.Window now ∷ []) w → GivesFor start w (Flat (Batched b))
   window_step f took start w a =
       let x : item.Item = Flat (Batched b) in
       let before = ran (window v) start w in
