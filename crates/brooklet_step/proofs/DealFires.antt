@@ -23,7 +23,7 @@ use Rattle.kern_rows.specs.Needs.{HaveShares}
 use Rattle.kern_rows.specs.Turns.{IsTurn, shares, next_port, next_had}
 use Rattle.kern_changes.specs.declared.owed.Debt.{Debt}
 use Rattle.kern_changes.specs.Owed.{AreOwed, OweLittle, AreDebtsOf, no_debt, debt_at, but_at, owed_start}
-use Rattle.kern_changes.proofs.LawProofs.{starts_hold}
+use Rattle.kern_changes.proofs.LawProofs.{nothing_holds}
 use Rattle.river_kernels.specs.declared.types.VarKind.{VarKind}
 use Rattle.river_kernels.specs.Fits.{relation}
 use Rattle.river_kernels.specs.Kern.{deal}
@@ -35,10 +35,10 @@ use Rattle.brooklet_model.proofs.Lists.{if_eq, if_ne}
 use Rattle.brooklet_model.proofs.Ports.{shaped}
 use Rattle.brooklet_model.proofs.Shapes.{next_turn, first_turn}
 use Rattle.brooklet_step.specs.declared.emit.Emit.{Emit}
-use Rattle.brooklet_step.specs.declared.state.Dealt.{Dealt}
+use Rattle.kern_rows.specs.Dealing.{Dealt, dealt_start}
 use Rattle.brooklet_step.specs.declared.state.State.{State}
 use Rattle.brooklet_step.specs.declared.state.State.TheVariants as state
-use Rattle.brooklet_step.specs.Dealing.{IsDealt, dealt_start}
+use Rattle.brooklet_step.specs.Dealing.{DealsAsChange, DealsItem}
 use Rattle.brooklet_step.specs.Stands.{IsChange, StandsForTurn}
 use Rattle.brooklet_step.specs.Took.{Took, HasRoom}
 use Rattle.brooklet_step.specs.Given.{held_by, held_at, IsHeldBy, IsHeldOf, columns_by, ran, FitState, FitTurn, DealStands, StandsAfter, TookHeld, Does, FiresAt, CanTake}
@@ -101,9 +101,9 @@ dealt_wide : (ws : List ℤ) (reads : List QueueType) (old : Dealt) → FitTurn 
 dealt_wide ws reads old f n e =
     subst (λ (d : Dealt). AreDebtsOf n d.owed) (sym (same_dealt old f.now (same_state (state.Deal old) (state.Deal f.now) f.code))) (f.wide n e)
 
--- what a splitter needs: its turn, its weights, and a place for what the list in turn owes
+-- what a splitter needs: its weights, its turn, and a place for what each list owes
 pub deal_needs : (ws : List ℤ) (i : item.Item) (s : State) (old : Dealt) (out : Emit) → s ≡ state.Deal old → CanTake (deal ws) 0 i (s ∷ []) out
-    → HaveShares (shares ws) × IsTurn (shares ws) old.turn.port old.turn.had × (old.turn.port < length old.owed) × (old.turn.port < length out.outs)
+    → HaveShares (shares ws) × IsTurn (shares ws) old.turn.port old.turn.had × (length old.owed ≡ length ws) × (old.turn.port < length out.outs)
 deal_needs ws i s old out e t =
     let f = fit_dealt ws t.reads s old e t.fitting.state in
     let turn = dealt_turn ws t.reads old f in
@@ -111,13 +111,17 @@ deal_needs ws i s old out e t =
     let many = length-map ws count_of in
     let room = t.room.outs in
     let below = turn.0 in
-    (shaped (deal ws) t.reads t.fitting.writes t.fitting.vars t.fitting.fits, turn, omega (arith, below, lists), omega (arith, below, room, many))
+    (shaped (deal ws) t.reads t.fitting.writes t.fitting.vars t.fitting.fits, turn, lists ∙ many, omega (arith, below, room, many))
+
+-- the change that a list is given
+gave : {place : ℕ} {c : Change} {old new : List Debt} {g : item.Item} (h : DealsAsChange place c old new g) → g ≡ Flat (Changed h.deals.given)
+gave h = h.is ∙ ap (λ f. Flat f) h.deals.is
 
 -- A FIRING
 
 module _ (ws : List ℤ) (i g : item.Item) (s s' : State) (old new : Dealt) (out out' : Emit) (room : HasRoom (deal ws) out) (es : s ≡ state.Deal old)
     (es' : s' ≡ state.Deal new) (np : new.turn.port ≡ next_port (shares ws) old.turn.port old.turn.had) (nh : new.turn.had ≡ next_had (shares ws) old.turn.port old.turn.had)
-    (took : Took out out' (gives old.turn.port (g ∷ []) [])) (dealt : IsDealt old.turn.port i g old.owed new.owed) where
+    (took : Took out out' (gives old.turn.port (g ∷ []) [])) (dealt : DealsItem old.turn.port i old.owed new.owed g) where
   abbrev place : ℕ
   place = old.turn.port
 
@@ -206,7 +210,8 @@ module _ (ws : List ℤ) (i g : item.Item) (s s' : State) (old new : Dealt) (out
       let T = relation n in
       let ic = relation_holds n i hi in
       let c = ic.change in
-      let one = dealt.change c ic.is in
+      let like = dealt.change c ic.is in
+      let one = like.deals in
       let d = one.given in
       let len = one.keeps.lists in
       let wide = one.keeps.wide n (dealt_wide ws (T ∷ []) old f n refl) ic.of.wide in
@@ -220,7 +225,7 @@ module _ (ws : List ℤ) (i g : item.Item) (s s' : State) (old new : Dealt) (out
           outs_are = took.outs;
           adds_are = took.adds;
           held = λ q. held_only T (length ws) place g q (let b = (dealt_turn ws (T ∷ []) old f).0 in let l = length-map ws count_of in omega (arith, b, l))
-              (subst (IsHeld T) (sym one.is) (change_held n d (record { normal = one.keeps.normal; wide = wide.0 })));
+              (subst (IsHeld T) (sym (gave like)) (change_held n d (record { normal = one.keeps.normal; wide = wide.0 })));
           wide = λ j. All-nil (IsWide (slice_get (widths_in vars) j));
           again = next_fits (T ∷ []) some f len (one.keeps.few (dealt_few ws (T ∷ []) old f)) (λ m e. subst (λ k. AreDebtsOf k new.owed) (same_columns n m e) wide.1);
         };
@@ -234,7 +239,8 @@ module _ (ws : List ℤ) (i g : item.Item) (s s' : State) (old new : Dealt) (out
           let T = relation n in
           let ic = relation_holds n i hi in
           let c = ic.change in
-          let one = dealt.change c ic.is in
+          let like = dealt.change c ic.is in
+          let one = like.deals in
           let d = one.given in
           let xb = relation_typed n x tx in
           let b = xb.batch in
@@ -249,7 +255,7 @@ module _ (ws : List ℤ) (i g : item.Item) (s s' : State) (old new : Dealt) (out
           let fired = fired_is (T ∷ []) start w sa x ∙ ap (λ (y : item.Item). gives place (y ∷ []) (Turn (next_port (shares ws) place old.turn.had) (next_had (shares ws) place old.turn.had) ∷ [])) xb.is in
           let at_is : (p : ℕ) → only place (g ∷ []) p ≡ held T (prev p) (only place xs p) = λ p. ⊎_elim
           (λ q. subst (λ j. only place (g ∷ []) j ≡ held T (prev j) (only place xs j)) q
-          (only_same place (g ∷ []) ∙ ap (λ (y : item.Item). y ∷ []) one.is ∙ sym (content_held n (prev place) b d r.0) ∙ ap (held T (prev place)) (sym (only_same place xs))))
+          (only_same place (g ∷ []) ∙ ap (λ (y : item.Item). y ∷ []) (gave like) ∙ sym (content_held n (prev place) b d r.0) ∙ ap (held T (prev place)) (sym (only_same place xs))))
           (λ q. only_other place p (g ∷ []) (λ z. q (sym z)) ∙ sym (held-nil T (prev p)) ∙ ap (held T (prev p)) (sym (only_other place p xs (λ z. q (sym z)))))
           (cases_eq place p) in
           let more = ran_more (deal ws) start w 0 x in
@@ -316,7 +322,7 @@ deal_first_after ws reads some = record {
     turn = first_turn (shares ws) some;
     lists = length-replicate (length ws) no_debt ∙ sym (length-map ws count_of);
   };
-  owed = λ rel. starts_hold.owed (length ws);
+  owed = λ rel. nothing_holds.owed (length ws);
 }
 
 -- and fits
@@ -326,6 +332,6 @@ deal_first_fits ws reads some = record {
   code = refl;
   turn = first_turn (shares ws) some;
   lists = length-replicate (length ws) no_debt ∙ sym (length-map ws count_of);
-  few = starts_hold.little (length ws);
+  few = nothing_holds.little (length ws);
   wide = λ n e. start_wide n (length ws);
 }

@@ -20,12 +20,13 @@ use Rattle.river_base.proofs.PlaceLemmas.{each_grew_cong, length-append_at}
 use Rattle.kern_rows.specs.Needs.{HaveShares}
 use Rattle.kern_rows.specs.Turns.{Turns, shares, ones, put, settled, itself}
 use Rattle.kern_changes.specs.declared.owed.Debt.{Debt}
-use Rattle.kern_changes.specs.Joined as joined
-use Rattle.kern_changes.specs.Joined.{JoinKept, join_start, put_item, HasJoinShape, IsUnchanged, PassesOpened, AreOpened, StandsForJoining, JoinedItems, JoinsItems}
-use Rattle.kern_changes.specs.Joined.{JoinedPlainly, JoinsPlainly, flat_in, MayOwe, IsJoinOf, KeepsJoin}
+use Rattle.kern_rows.specs.Joined as joined
+use Rattle.kern_rows.specs.Joined.{JoinKept, join_start, put_item, HasJoinShape, IsUnchanged, PassesOpened, AreOpened, StandsForJoining, JoinedItems, JoinsItems}
+use Rattle.kern_rows.specs.Joined.{JoinedPlainly, JoinsPlainly, flat_in, MayOwe, IsJoinOf, KeepsJoin}
 use Rattle.kern_changes.specs.Owed.{OweLittle, AreDebtsOf}
-use Rattle.kern_changes.proofs.JoinLaws.{held_from-append}
-use Rattle.kern_changes.proofs.LawProofs.{starts_hold}
+use Rattle.kern_rows.proofs.JoinLaws.{held_from-append}
+use Rattle.kern_changes.proofs.LawProofs.{nothing_holds}
+use Rattle.kern_rows.proofs.LawProofs.{starts_hold}
 use Rattle.river_kernels.specs.declared.types.VarKind.{VarKind}
 use Rattle.river_kernels.specs.Fits.{Fits}
 use Rattle.river_kernels.specs.Kern.{Kern, collect, unpack}
@@ -42,6 +43,7 @@ use Rattle.brooklet_model.proofs.Typing.{fire_typed}
 use Rattle.brooklet_step.specs.declared.emit.Emit.{Emit}
 use Rattle.brooklet_step.specs.declared.state.State.{State}
 use Rattle.brooklet_step.specs.declared.state.State.TheVariants as state
+use Rattle.brooklet_step.specs.Stands.{IsPack}
 use Rattle.brooklet_step.specs.Took.{Took}
 use Rattle.brooklet_step.specs.Given.{held_by, held_at, IsHeldBy, IsHeldOf, AreHeldOf, IsPlainBy, IsRelationBy, columns_by, ran, FitState, FitJoiner, ContentsWait, JoinStands}
 use Rattle.brooklet_step.specs.Given.{StandsAfter, TookHeld, Does, FiresAt, CanTake}
@@ -513,7 +515,19 @@ collect_needs ws i port s old out e t =
       omega (arith, room),
     )
 
--- and of a joiner of packs
+held_pack : (u : FlatType) (x : item.Item) → IsHeld (PackOf u) x → IsPack x
+unfolding IsHeld
+held_pack u (Flat g) h = absurd h
+held_pack u (Pack fs) h = record { flats = fs; is = refl }
+
+-- what a joiner of packs takes is a pack
+pub unpack_pack : (n : ℕ) (i : item.Item) (port : ℕ) (st : List State) (out : Emit) → CanTake (unpack n) port i st out → IsPack i
+unpack_pack n i port st out t =
+    let f = t.fitting.fits in
+    let held : IsHeldOf (replicate n (PackOf f.0)) port i = subst (λ (l : List QueueType). IsHeldOf l port i) f.1 t.item in
+    held_pack f.0 i (at_alike (PackOf f.0) (λ o. IsHeldBy o i) n port (λ z. z) held).1
+
+-- and its shape, its port and its list are as well
 pub unpack_needs : (n : ℕ) (i : item.Item) (port : ℕ) (s : State) (old : JoinKept) (out : Emit) → s ≡ state.Join old → CanTake (unpack n) port i (s ∷ []) out
     → HaveShares (ones n) × HasJoinShape (ones n) old × (port < n) × (0 < length out.outs)
 unpack_needs n i port s old out e t =
@@ -549,7 +563,7 @@ start_fits wl n reads e some = record {
   code = refl;
   joined = subst (λ (l : ℕ). HasJoinShape wl (join_start l)) (sym e) (starts_hold.shape wl some);
   items = λ p. subst (All (IsHeldOf reads p)) (sym (nothing_waits n p)) (All-nil (IsHeldOf reads p));
-  few = starts_hold.little n;
+  few = nothing_holds.little n;
   wide = λ m z. start_wide m n;
 }
 

@@ -20,7 +20,7 @@ use Rattle.brooklet_model.specs.Firings.{Kept, Slots, Buffered, Turn, Fired}
 use Rattle.brooklet_model.specs.Fire.{code_one}
 use Rattle.brooklet_model.specs.Typed.{IsOf, Holds}
 use Rattle.brooklet_step.specs.declared.emit.Emit.{Emit}
-use Rattle.brooklet_step.specs.declared.state.Dealt.{Dealt}
+use Rattle.kern_rows.specs.Dealing.{Dealt}
 use Rattle.brooklet_step.specs.declared.state.State.{State}
 use Rattle.brooklet_step.specs.declared.state.State.TheVariants as state
 use Rattle.brooklet_step.specs.Took.{Took, HasRoom}

@@ -1,9 +1,7 @@
-use Rattle.std.proofs.Common.{◌∷◌, [], ap, ◌∙◌, subst}
-use Rattle.kern_changes.specs.Joined.{join_start}
+use Rattle.std.proofs.Common.{ap, ◌∙◌, subst}
 use Rattle.kern_rows.specs.Forms.{code_form, filter_form}
 use Rattle.river_kernels.specs.Kern.{kern_of, code, filter, deal, collect, unpack, window, cross, streamer}
 use Rattle.brooklet_model.specs.Shapes.{IsFormed}
-use Rattle.brooklet_step.specs.declared.state.State.TheVariants as state
 use Rattle.brooklet_step.specs.Initial.{IsFirst}
 use Rattle.brooklet_step.proofs.Fires.{kern_of-filter}
 use Rattle.brooklet_step.proofs.Starts.{if_ok, filter_first, first_at, simple_first, splitter_first, joiner_first, unpacker_first, window_first, cross_first, streamer_first}
@@ -32,17 +30,17 @@ returns-in-Deal c =
 pub returns-in-Collect : goal.returns-in-Collect
 returns-in-Collect c =
     let e = ap kern_of c.in-Collect.is ∙ kern_of-collect c.in-Collect.weights in
-    if_ok _ (IsFirst (kern_of c.args.kernel.now)) c.join_states.result (λ st h. first_at (kern_of c.args.kernel.now) (collect c.in-Collect.weights) st e (joiner_first c.in-Collect.weights st (subst IsFormed e c.requires.formed) (h ∙ ap (λ n. state.Join (join_start n) ∷ []) c.len.ensures))) c.join_states.ensures
+    if_ok _ (IsFirst (kern_of c.args.kernel.now)) c.collect_states.result (λ st h. first_at (kern_of c.args.kernel.now) (collect c.in-Collect.weights) st e (joiner_first c.in-Collect.weights st (subst IsFormed e c.requires.formed) h)) c.collect_states.ensures
 
 pub returns-in-Unpack : goal.returns-in-Unpack
 returns-in-Unpack c =
     let e = ap kern_of c.in-Unpack.is ∙ kern_of-unpack c.in-Unpack.ports in
-    if_ok _ (IsFirst (kern_of c.args.kernel.now)) c.join_states-in-Unpack.result (λ st h. first_at (kern_of c.args.kernel.now) (unpack c.in-Unpack.ports) st e (unpacker_first c.in-Unpack.ports st (subst IsFormed e c.requires.formed) h)) c.join_states-in-Unpack.ensures
+    if_ok _ (IsFirst (kern_of c.args.kernel.now)) c.unpack_states.result (λ st h. first_at (kern_of c.args.kernel.now) (unpack c.in-Unpack.ports) st e (unpacker_first c.in-Unpack.ports st (subst IsFormed e c.requires.formed) h)) c.unpack_states.ensures
 
 pub returns-in-Window : goal.returns-in-Window
 returns-in-Window c =
-    let e = ap kern_of c.in-Window.is ∙ kern_of-window c.in-Window.field-0 in
-    if_ok _ (IsFirst (kern_of c.args.kernel.now)) c.window_states.result (λ st h. first_at (kern_of c.args.kernel.now) (window c.in-Window.field-0) st e (window_first c.in-Window.field-0 st (subst IsFormed e c.requires.formed) h)) c.window_states.ensures
+    let e = ap kern_of c.in-Window.is ∙ kern_of-window c.in-Window.window in
+    if_ok _ (IsFirst (kern_of c.args.kernel.now)) c.window_states.result (λ st h. first_at (kern_of c.args.kernel.now) (window c.in-Window.window) st e (window_first c.in-Window.window st (subst IsFormed e c.requires.formed) h)) c.window_states.ensures
 
 pub returns-in-Cross : goal.returns-in-Cross
 returns-in-Cross c =
@@ -51,5 +49,5 @@ returns-in-Cross c =
 
 pub returns-in-Streamer : goal.returns-in-Streamer
 returns-in-Streamer c =
-    let e = ap kern_of c.in-Streamer.is ∙ kern_of-streamer c.in-Streamer.field-0 in
-    if_ok _ (IsFirst (kern_of c.args.kernel.now)) c.streamer_states.result (λ st h. first_at (kern_of c.args.kernel.now) (streamer c.in-Streamer.field-0) st e (streamer_first c.in-Streamer.field-0 st (subst IsFormed e c.requires.formed) h)) c.streamer_states.ensures
+    let e = ap kern_of c.in-Streamer.is ∙ kern_of-streamer c.in-Streamer.streamer in
+    if_ok _ (IsFirst (kern_of c.args.kernel.now)) c.streamer_states.result (λ st h. first_at (kern_of c.args.kernel.now) (streamer c.in-Streamer.streamer) st e (streamer_first c.in-Streamer.streamer st (subst IsFormed e c.requires.formed) h)) c.streamer_states.ensures
