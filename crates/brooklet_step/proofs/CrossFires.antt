@@ -270,7 +270,8 @@ put_wide n k (suc (suc p)) c s h of = absurd h
 changes_held : (n : ℕ) (cs : List Change) → All (IsChangeOf n) cs → All (IsHeld (relation n)) (as_changes cs)
 changes_held n [] h = All-nil (IsHeld (relation n))
 changes_held n (c ∷ cs) h =
-    All-cons (IsHeld (relation n)) (Flat (Changed c)) (as_changes cs) (change_held n c (All-head (IsChangeOf n) c cs h)) (changes_held n cs (All-tail (IsChangeOf n) c cs h))
+    All-cons (IsHeld (relation n)) (Flat (Changed c)) (as_changes cs) (change_held n c (All-head (IsChangeOf n) c cs h))
+    (changes_held n cs (All-tail (IsChangeOf n) c cs h))
 
 -- a product's step on a change at a port is a firing
 cross_does : (port : ℕ) (c : Change) (ds : List Change) (now now' : CrossKept) (out out' : Emit) → Crosses (put_change port c now) now' [] ds

@@ -6,6 +6,7 @@ use Rattle.std.proofs.lemmas.List.{length-replicate, length-map}
 use Rattle.std.proofs.lemmas.List.Elements.{All-cons, All-nil}
 use Rattle.river_base.specs.declared.item.Batch.{Batch}
 use Rattle.river_base.specs.declared.item.Change.{Change}
+use Rattle.river_base.specs.declared.item.Flat as flat
 use Rattle.river_base.specs.declared.item.Flat.TheVariants.{One, Batch as Batched, Change as Changed}
 use Rattle.river_base.specs.declared.item.Item as item
 use Rattle.river_base.specs.declared.item.Item.TheVariants.{Flat, Pack}
@@ -35,7 +36,7 @@ use Rattle.brooklet_model.proofs.Lists.{if_eq, if_ne}
 use Rattle.brooklet_model.proofs.Ports.{shaped}
 use Rattle.brooklet_model.proofs.Shapes.{next_turn, first_turn}
 use Rattle.brooklet_step.specs.declared.emit.Emit.{Emit}
-use Rattle.kern_rows.specs.Dealing.{Dealt, dealt_start}
+use Rattle.kern_rows.specs.Dealing.{Dealt, dealt_start, DealsFlat}
 use Rattle.brooklet_step.specs.declared.state.State.{State}
 use Rattle.brooklet_step.specs.declared.state.State.TheVariants as state
 use Rattle.brooklet_step.specs.Dealing.{DealsAsChange, DealsItem}
@@ -75,6 +76,26 @@ held_only t n place g p lt h = ⊎_elim
     (All-cons (IsHeldOf (replicate n t) place) g [] (subst (λ o. IsHeldBy o g) (sym (got_many t n place lt)) h) (All-nil (IsHeldOf (replicate n t) place)))))
     (λ ne. subst (All (IsHeldOf (replicate n t) p)) (sym (only_other place p (g ∷ []) (λ z. ne (sym z)))) (All-nil (IsHeldOf (replicate n t) p)))
     (cases_eq place p)
+
+-- ONE ITEM
+
+same_changed : (c d : Change) → Flat (Changed c) ≡ Flat (Changed d) → Changed c ≡ Changed d
+same_changed c d h = cc
+
+-- a change is dealt as one
+pub deals_change : (place : ℕ) (c : Change) (old new : List Debt) (f : flat.Flat) → DealsFlat place (Changed c) old new f
+    → DealsItem place (Flat (Changed c)) old new (Flat f)
+deals_change place c old new f h = record {
+  plain = λ no. absurd (no (record { change = c; is = refl }));
+  change = λ d e. record { given = f; is = refl; deals = h.each d (same_changed c d e) };
+}
+
+-- what is no change goes on as it is
+pub deals_plain : (place : ℕ) (i : item.Item) (old new : List Debt) → (IsChange i → ⊥) → new ≡ old → DealsItem place i old new i
+deals_plain place i old new no e = record {
+  plain = λ n. (refl, e);
+  change = λ d h. absurd (no (record { change = d; is = h }));
+}
 
 -- THE STATE
 
@@ -120,7 +141,8 @@ gave h = h.is ∙ ap (λ f. Flat f) h.deals.is
 -- A FIRING
 
 module _ (ws : List ℤ) (i g : item.Item) (s s' : State) (old new : Dealt) (out out' : Emit) (room : HasRoom (deal ws) out) (es : s ≡ state.Deal old)
-    (es' : s' ≡ state.Deal new) (np : new.turn.port ≡ next_port (shares ws) old.turn.port old.turn.had) (nh : new.turn.had ≡ next_had (shares ws) old.turn.port old.turn.had)
+    (es' : s' ≡ state.Deal new) (np : new.turn.port ≡ next_port (shares ws) old.turn.port old.turn.had)
+    (nh : new.turn.had ≡ next_had (shares ws) old.turn.port old.turn.had)
     (took : Took out out' (gives old.turn.port (g ∷ []) [])) (dealt : DealsItem old.turn.port i old.owed new.owed g) where
   abbrev place : ℕ
   place = old.turn.port
@@ -137,7 +159,8 @@ module _ (ws : List ℤ) (i g : item.Item) (s s' : State) (old new : Dealt) (out
     states_are = sa.stands.defined ∙ ap (λ (d : Dealt). Turn d.turn.port d.turn.had ∷ []) (sym same)
 
     fired_is : (x : item.Item)
-        → fire (deal ws) 0 x (ran (deal ws) start w).states ≡ gives place (x ∷ []) (Turn (next_port (shares ws) place old.turn.had) (next_had (shares ws) place old.turn.had) ∷ [])
+        → fire (deal ws) 0 x (ran (deal ws) start w).states
+        ≡ gives place (x ∷ []) (Turn (next_port (shares ws) place old.turn.had) (next_had (shares ws) place old.turn.had) ∷ [])
     fired_is x = ap (deal_one (shares ws) x) states_are
 
     -- the next state
@@ -195,7 +218,8 @@ module _ (ws : List ℤ) (i g : item.Item) (s s' : State) (old new : Dealt) (out
           adds = none;
           outs_are = took.outs;
           adds_are = took.adds;
-          held = λ q. held_only T (length ws) place g q (let b = (dealt_turn ws (T ∷ []) old f).0 in let l = length-map ws count_of in omega (arith, b, l)) (subst (IsHeld T) (sym one.0) hi);
+          held = λ q. held_only T (length ws) place g q (let b = (dealt_turn ws (T ∷ []) old f).0 in let l = length-map ws count_of in omega (arith, b, l))
+              (subst (IsHeld T) (sym one.0) hi);
           wide = λ j. All-nil (IsWide (slice_get (widths_in vars) j));
           again = next_fits (T ∷ []) some f len (subst OweLittle (sym one.1) (dealt_few ws (T ∷ []) old f))
               (λ n c. subst (AreDebtsOf n) (sym one.1) (dealt_wide ws (T ∷ []) old f n c));
@@ -252,17 +276,21 @@ module _ (ws : List ℤ) (i g : item.Item) (s s' : State) (old new : Dealt) (out
           let owed : AreOwed old.owed last (λ p. now) = subst (λ (e : Dealt). AreOwed e.owed last (λ p. now)) (sym (same (T ∷ []) start w sa)) (sa.owed tt) in
           let r = one.contents.each now last b owed is in
           let xs : List item.Item = Flat (Batched b) ∷ [] in
-          let fired = fired_is (T ∷ []) start w sa x ∙ ap (λ (y : item.Item). gives place (y ∷ []) (Turn (next_port (shares ws) place old.turn.had) (next_had (shares ws) place old.turn.had) ∷ [])) xb.is in
+          let fired =
+          fired_is (T ∷ []) start w sa x
+          ∙ ap (λ (y : item.Item). gives place (y ∷ []) (Turn (next_port (shares ws) place old.turn.had) (next_had (shares ws) place old.turn.had) ∷ [])) xb.is in
           let at_is : (p : ℕ) → only place (g ∷ []) p ≡ held T (prev p) (only place xs p) = λ p. ⊎_elim
           (λ q. subst (λ j. only place (g ∷ []) j ≡ held T (prev j) (only place xs j)) q
-          (only_same place (g ∷ []) ∙ ap (λ (y : item.Item). y ∷ []) (gave like) ∙ sym (content_held n (prev place) b d r.0) ∙ ap (held T (prev place)) (sym (only_same place xs))))
+          (only_same place (g ∷ []) ∙ ap (λ (y : item.Item). y ∷ []) (gave like) ∙ sym (content_held n (prev place) b d r.0)
+          ∙ ap (held T (prev place)) (sym (only_same place xs))))
           (λ q. only_other place p (g ∷ []) (λ z. q (sym z)) ∙ sym (held-nil T (prev p)) ∙ ap (held T (prev p)) (sym (only_other place p xs (λ z. q (sym z)))))
           (cases_eq place p) in
           let more = ran_more (deal ws) start w 0 x in
           let after : (p : ℕ) → content_from [] ((ran (deal ws) start (w ++ (0, x) ∷ [])).outs p) ≡ but_at place b.rows last p = λ p.
           ap (content_from []) (more.outs p ∙ ap (λ (u : Fired). prev p ++ u.outs p) fired) ∙ content-append [] (prev p) (only place xs p)
           ∙ ⊎_elim
-          (λ q. subst (λ j. content_from (last j) (only place xs j) ≡ but_at place b.rows last j) q (ap (content_from (last place)) (only_same place xs) ∙ sym (if_eq place place b.rows (last place) refl)))
+          (λ q. subst (λ j. content_from (last j) (only place xs j) ≡ but_at place b.rows last j) q
+          (ap (content_from (last place)) (only_same place xs) ∙ sym (if_eq place place b.rows (last place) refl)))
           (λ q. ap (content_from (last p)) (only_other place p xs (λ z. q (sym z))) ∙ sym (if_ne place p b.rows (last p) q))
           (cases_eq place p) in
           let next : content_from [] (at_port 0 (w ++ (0, x) ∷ [])) ≡ b.rows =
@@ -277,7 +305,8 @@ module _ (ws : List ℤ) (i g : item.Item) (s s' : State) (old new : Dealt) (out
             },
             record {
               stands = next_stands (T ∷ []) start w sa x some one.keeps.lists;
-              owed = λ rel p lt. subst (λ l. LeadsTo l (content_from [] (at_port 0 (w ++ (0, x) ∷ []))) (debt_at new.owed p).plus (debt_at new.owed p).minus) (sym (after p))
+              owed = λ rel p lt.
+                  subst (λ l. LeadsTo l (content_from [] (at_port 0 (w ++ (0, x) ∷ []))) (debt_at new.owed p).plus (debt_at new.owed p).minus) (sym (after p))
                   (subst (λ l. LeadsTo (but_at place b.rows last p) l (debt_at new.owed p).plus (debt_at new.owed p).minus) (sym next) (r.1 p lt));
             },
           )
@@ -288,7 +317,8 @@ module _ (ws : List ℤ) (i g : item.Item) (s s' : State) (old new : Dealt) (out
     each = λ reads writes vars f fs hi.
         subst (λ (l : List QueueType). Does (deal ws) l writes vars 0 i out out' (s ∷ []) (s' ∷ [])) (sym f.1)
         (subst (λ (l : List QueueType). Does (deal ws) (FlatOf f.0 ∷ []) l vars 0 i out out' (s ∷ []) (s' ∷ [])) (sym f.2)
-        (by f.0 vars (subst (λ (l : List QueueType). FitTurn (shares ws) l (state.Deal old ∷ [])) f.1 (fit_dealt ws reads s old es fs)) (subst (λ (l : List QueueType). IsHeldOf l 0 i) f.1 hi)));
+        (by f.0 vars (subst (λ (l : List QueueType). FitTurn (shares ws) l (state.Deal old ∷ [])) f.1 (fit_dealt ws reads s old es fs))
+        (subst (λ (l : List QueueType). IsHeldOf l 0 i) f.1 hi)));
   }
     where
       by : (t : FlatType) (vars : List VarKind) → FitTurn (shares ws) (FlatOf t ∷ []) (state.Deal old ∷ []) → IsHeld (FlatOf t) i

@@ -1,5 +1,6 @@
 -- Firings of joiners, on items as they are and on changes.
-use Rattle.std.proofs.Common.{◌≡◌, ◌≢◌, ℕ, ℤ, zero, suc, ◌<◌, ◌≤◌, Option, Some, None, List, [], ◌∷◌, ◌++◌, length, replicate, refl, sym, ap, ◌∙◌, subst, arith, inl, inr, ⊎_elim}
+use Rattle.std.proofs.Common.{◌≡◌, ◌≢◌, ℕ, ℤ, zero, suc, ◌<◌, ◌≤◌, Option, Some, None, List, [], ◌∷◌, ◌++◌, length, replicate}
+use Rattle.std.proofs.Common.{refl, sym, ap, ◌∙◌, subst, arith, inl, inr, ⊎_elim}
 use Rattle.std.specs.Prelude.{All, slice_get, ◌⊎◌}
 use Rattle.std.proofs.lemmas.Bool.{cases_eq, cases_lt}
 use Rattle.std.proofs.lemmas.List.{append-nil, length-replicate, length-map}
@@ -45,8 +46,8 @@ use Rattle.brooklet_step.specs.declared.state.State.{State}
 use Rattle.brooklet_step.specs.declared.state.State.TheVariants as state
 use Rattle.brooklet_step.specs.Stands.{IsPack}
 use Rattle.brooklet_step.specs.Took.{Took}
-use Rattle.brooklet_step.specs.Given.{held_by, held_at, IsHeldBy, IsHeldOf, AreHeldOf, IsPlainBy, IsRelationBy, columns_by, ran, FitState, FitJoiner, ContentsWait, JoinStands}
-use Rattle.brooklet_step.specs.Given.{StandsAfter, TookHeld, Does, FiresAt, CanTake}
+use Rattle.brooklet_step.specs.Given.{held_by, held_at, IsHeldBy, IsHeldOf, AreHeldOf, IsPlainBy, IsRelationBy, columns_by, ran, FitState, FitJoiner}
+use Rattle.brooklet_step.specs.Given.{ContentsWait, JoinStands, StandsAfter, TookHeld, Does, FiresAt, CanTake}
 use Rattle.brooklet_step.proofs.DealFires.{start_wide}
 use Rattle.brooklet_step.proofs.GivenLemmas.{at-plain, at_next, ran_more, not_both}
 use Rattle.brooklet_step.proofs.OnePort.{same_item, same_state, same_columns}
@@ -411,7 +412,8 @@ module _ (k : Kern) (wl : List ℕ) (give : item.Item → List item.Item) (m : �
     lines_held p =
         ⊎_elim
         (λ lt. All-weaker (IsHeld t) (IsHeldOf types p) (λ y g. subst (λ o. IsHeldBy o y) (sym (got_many t m p lt)) g) (list_at new.turns.lists p) (next_of.lines p))
-        (λ ge. subst (All (IsHeldOf types p)) (sym (list_past new.turns.lists p (subst (λ n. n ≤ p) (many ∙ sym keeps.shape.joined.lists) ge))) (All-nil (IsHeldOf types p)))
+        (λ ge. subst (All (IsHeldOf types p)) (sym (list_past new.turns.lists p (subst (λ n. n ≤ p) (many ∙ sym keeps.shape.joined.lists) ge)))
+        (All-nil (IsHeldOf types p)))
         (cases_lt p m)
 
     fit_again : FitJoiner wl types (s' ∷ [])

@@ -71,7 +71,8 @@ missing_by x ys (Ok k) up low found = (
 missing_by x ys (Err k) up low found = (
   (λ t.
       let p = found (searchable_from_sorted row_total (λ y. y) ys x up) in
-      none_alike x ys (λ i d lt. ⊎_elim (λ a. alike_by x (get_or ys i d) Less (p.0 i d (omega arith) a)) (λ a. alike_by x (get_or ys i d) Greater (p.1 i d a lt)) (cases_lt i k))),
+      none_alike x ys (λ i d lt. ⊎_elim (λ a. alike_by x (get_or ys i d) Less (p.0 i d (omega arith) a))
+      (λ a. alike_by x (get_or ys i d) Greater (p.1 i d a lt)) (cases_lt i k))),
   (λ z. refl),
 )
 

@@ -99,7 +99,8 @@ splitter_first ws st f e =
 pub joiner_first : (ws : List ℤ) (st : List State) → IsFormed (collect ws) → st ≡ state.Join (join_start (length ws)) ∷ [] → IsFirst (collect ws) st
 joiner_first ws st f e =
     first_of (collect ws) st f
-    (λ reads. subst (λ (l : List State). StandsAfter (collect ws) reads (first_kept (collect ws)) l []) (sym e) (collect_first_after ws reads (formed_shaped (collect ws) f)))
+    (λ reads. subst (λ (l : List State). StandsAfter (collect ws) reads (first_kept (collect ws)) l []) (sym e)
+    (collect_first_after ws reads (formed_shaped (collect ws) f)))
     (λ reads writes vars fits. subst (FitState (collect ws) reads) (sym e) (collect_first_fits ws reads (formed_shaped (collect ws) f)))
 
 -- a joiner of packs

@@ -29,5 +29,6 @@ returns c =
     let one = subst (λ l. GaveChange (WindowSteps v b old new) l items) c.take_items-items.ensures c.in_ok-step-in-Window.ensures.ok in
     on_ok_weaker c.give_all.result (λ took.
     subst (λ s. FiresAt (window v) 0 c.args.item out out' (s ∷ []) (state.Window new ∷ [])) (sym c.in-Window.is)
-    (subst (λ i. FiresAt (window v) 0 i out out' (state.Window old ∷ []) (state.Window new ∷ [])) c.batch_of.ensures (window_step_does v b items old new out out' one took))
+    (subst (λ i. FiresAt (window v) 0 i out out' (state.Window old ∷ []) (state.Window new ∷ [])) c.batch_of.ensures
+    (window_step_does v b items old new out out' one took))
     ) c.give_all.ensures
