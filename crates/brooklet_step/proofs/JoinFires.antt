@@ -448,8 +448,8 @@ collect_does ws i port s s' old new items out out' some es es' took contents pla
     by t vars fits f hi = record {
       gives = record {
         given = λ start w x is_start tw tx sa h.
-            join_given (collect ws) (shares ws) itself (length ws) (FlatOf t) many some (λ p y ss. refl) (λ ss g. g) (alone_opens t) i port s s' old new items out out' es es'
-            took contents plain keeps vars fits start w x is_start tw tx sa h;
+            join_given (collect ws) (shares ws) itself (length ws) (FlatOf t) many some (λ p y ss. refl) (λ ss g. g) (alone_opens t)
+            i port s s' old new items out out' es es' took contents plain keeps vars fits start w x is_start tw tx sa h;
       };
       came = record {
         outs = only 0 items;
