@@ -24,10 +24,10 @@ use Rattle.kern_changes.specs.declared.owed.Debt.{Debt}
 use Rattle.kern_rows.specs.Joined as joined
 use Rattle.kern_rows.specs.Joined.{JoinKept, join_start, put_item, HasJoinShape, IsUnchanged, PassesOpened, AreOpened, StandsForJoining, JoinedItems, JoinsItems}
 use Rattle.kern_rows.specs.Joined.{JoinedPlainly, JoinsPlainly, flat_in, MayOwe, IsJoinOf, KeepsJoin}
-use Rattle.kern_changes.specs.Owed.{OweLittle, AreDebtsOf}
+use Rattle.kern_changes.specs.Owed.{OweLittle, AreDebtsOf, no_debt}
 use Rattle.kern_rows.proofs.JoinLaws.{held_from-append}
 use Rattle.kern_changes.proofs.LawProofs.{nothing_holds}
-use Rattle.kern_rows.proofs.LawProofs.{starts_hold}
+use Rattle.kern_rows.proofs.Passed.{start_joined}
 use Rattle.river_kernels.specs.declared.types.VarKind.{VarKind}
 use Rattle.river_kernels.specs.Fits.{Fits}
 use Rattle.river_kernels.specs.Kern.{Kern, collect, unpack}
@@ -550,11 +550,24 @@ nothing_waits zero p = refl
 nothing_waits (suc n) zero = refl
 nothing_waits (suc n) (suc p) = nothing_waits n p
 
+-- what is kept before the first item stands for empty contents, of which none waits
+start_empty : (n : ℕ) → StandsForJoining (join_start n) (record { turns = (join_start n).turns; last = []; now = λ p. [] })
+start_empty n = record {
+  port = refl;
+  had = refl;
+  lists = refl;
+  lines = λ p lt. nothing_waits n p ∙ ap (held_from []) (sym (nothing_waits n p));
+  owed = nothing_holds.owed n;
+}
+
+start_shape : (wl : List ℕ) → HaveShares wl → HasJoinShape wl (join_start (length wl))
+start_shape wl some = record { joined = start_joined wl some; owed = length-replicate (length wl) no_debt }
+
 start_stands : (k : Kern) (n : ℕ) → first_kept k ≡ Joining (join_start n).turns ∷ [] → ContentsWait k (first_kept k) (join_start n) []
 start_stands k n e = record {
   contents = record { turns = (join_start n).turns; last = []; now = λ p. [] };
   defined = e;
-  stands = starts_hold.joined n;
+  stands = start_empty n;
   given = refl;
   received = λ p lt. ap (content_from []) (nothing_waits n p);
 }
@@ -563,7 +576,7 @@ start_fits : (wl : List ℕ) (n : ℕ) (reads : List QueueType) → n ≡ length
 start_fits wl n reads e some = record {
   now = join_start n;
   code = refl;
-  joined = subst (λ (l : ℕ). HasJoinShape wl (join_start l)) (sym e) (starts_hold.shape wl some);
+  joined = subst (λ (l : ℕ). HasJoinShape wl (join_start l)) (sym e) (start_shape wl some);
   items = λ p. subst (All (IsHeldOf reads p)) (sym (nothing_waits n p)) (All-nil (IsHeldOf reads p));
   few = nothing_holds.little n;
   wide = λ m z. start_wide m n;
@@ -575,7 +588,7 @@ pub collect_first_after : (ws : List ℤ) (reads : List QueueType) → HaveShare
 collect_first_after ws reads some = record {
   now = join_start (length ws);
   code = refl;
-  shape = subst (λ (l : ℕ). HasJoinShape (shares ws) (join_start l)) (length-map ws count_of) (starts_hold.shape (shares ws) some);
+  shape = subst (λ (l : ℕ). HasJoinShape (shares ws) (join_start l)) (length-map ws count_of) (start_shape (shares ws) some);
   plain = λ p. refl;
   relation = λ rel. start_stands (collect ws) (length ws) refl;
 }
@@ -591,7 +604,7 @@ pub unpack_first_after : (n : ℕ) (reads : List QueueType) → HaveShares (ones
 unpack_first_after n reads some = record {
   now = join_start n;
   code = refl;
-  shape = subst (λ (l : ℕ). HasJoinShape (ones n) (join_start l)) (length-replicate n 1) (starts_hold.shape (ones n) some);
+  shape = subst (λ (l : ℕ). HasJoinShape (ones n) (join_start l)) (length-replicate n 1) (start_shape (ones n) some);
   plain = λ p. refl;
   relation = λ rel. start_stands (unpack n) n refl;
 }
