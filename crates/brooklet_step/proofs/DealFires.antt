@@ -6,7 +6,6 @@ use Rattle.std.proofs.lemmas.List.{length-replicate, length-map}
 use Rattle.std.proofs.lemmas.List.Elements.{All-cons, All-nil}
 use Rattle.river_base.specs.declared.item.Batch.{Batch}
 use Rattle.river_base.specs.declared.item.Change.{Change}
-use Rattle.river_base.specs.declared.item.Flat as flat
 use Rattle.river_base.specs.declared.item.Flat.TheVariants.{One, Batch as Batched, Change as Changed}
 use Rattle.river_base.specs.declared.item.Item as item
 use Rattle.river_base.specs.declared.item.Item.TheVariants.{Flat, Pack}
@@ -36,7 +35,7 @@ use Rattle.brooklet_model.proofs.Lists.{if_eq, if_ne}
 use Rattle.brooklet_model.proofs.Ports.{shaped}
 use Rattle.brooklet_model.proofs.Shapes.{next_turn, first_turn}
 use Rattle.brooklet_step.specs.declared.emit.Emit.{Emit}
-use Rattle.kern_rows.specs.Dealing.{Dealt, dealt_start, DealsFlat}
+use Rattle.kern_rows.specs.Dealing.{Dealt, dealt_start}
 use Rattle.brooklet_step.specs.declared.state.State.{State}
 use Rattle.brooklet_step.specs.declared.state.State.TheVariants as state
 use Rattle.brooklet_step.specs.Dealing.{DealsAsChange, DealsItem}
@@ -76,26 +75,6 @@ held_only t n place g p lt h = ⊎_elim
     (All-cons (IsHeldOf (replicate n t) place) g [] (subst (λ o. IsHeldBy o g) (sym (got_many t n place lt)) h) (All-nil (IsHeldOf (replicate n t) place)))))
     (λ ne. subst (All (IsHeldOf (replicate n t) p)) (sym (only_other place p (g ∷ []) (λ z. ne (sym z)))) (All-nil (IsHeldOf (replicate n t) p)))
     (cases_eq place p)
-
--- ONE ITEM
-
-same_changed : (c d : Change) → Flat (Changed c) ≡ Flat (Changed d) → Changed c ≡ Changed d
-same_changed c d h = cc
-
--- a change is dealt as one
-pub deals_change : (place : ℕ) (c : Change) (old new : List Debt) (f : flat.Flat) → DealsFlat place (Changed c) old new f
-    → DealsItem place (Flat (Changed c)) old new (Flat f)
-deals_change place c old new f h = record {
-  plain = λ no. absurd (no (record { change = c; is = refl }));
-  change = λ d e. record { given = f; is = refl; deals = h.each d (same_changed c d e) };
-}
-
--- what is no change goes on as it is
-pub deals_plain : (place : ℕ) (i : item.Item) (old new : List Debt) → (IsChange i → ⊥) → new ≡ old → DealsItem place i old new i
-deals_plain place i old new no e = record {
-  plain = λ n. (refl, e);
-  change = λ d h. absurd (no (record { change = d; is = h }));
-}
 
 -- THE STATE
 

@@ -1,5 +1,7 @@
 use Rattle.std.proofs.Common.{[], ◌∷◌, refl, subst}
 use Rattle.std.proofs.lemmas.Result.{on_ok_weaker}
+use Rattle.river_base.specs.declared.item.Item as item
+use Rattle.river_base.specs.declared.item.Item.TheVariants.{Pack}
 use Rattle.kern_rows.specs.Joined.{put_item, JoinsItems, JoinsPlainly, KeepsJoin}
 use Rattle.kern_rows.specs.Turns.{ones}
 use Rattle.brooklet_step.proofs.JoinFires.{unpack_needs, unpack_pack, unpack_does}
@@ -21,6 +23,7 @@ pub returns : goal.returns
 returns c =
     let ws = ones c.args.ports in
     let i = c.args.item in
+    let x : item.Item = Pack c.pack_of.result in
     let p = c.args.port in
     let old = c.in-Join.state in
     let new = c.step.new.state in
@@ -30,6 +33,6 @@ returns c =
     let is = c.pack_of.ensures in
     on_ok_weaker c.give_all.result (λ took. unpack_does c.args.ports i p c.args.state.now _ old new items c.args.out.now c.give_all.new.self
     (unpack_needs c.args.ports i p c.args.state.now old c.args.out.now c.in-Join.is c.requires).0 c.in-Join.is refl took
-    (subst (λ x. JoinsItems ws (put_item p x old) new [] items) is (subst (λ l. JoinsItems ws (put_item p _ old) new l items) none one.contents))
-    (subst (λ x. JoinsPlainly ws (put_item p x old) new [] items) is (subst (λ l. JoinsPlainly ws (put_item p _ old) new l items) none one.plain))
-    (subst (λ x. KeepsJoin ws (put_item p x old) new [] items) is (subst (λ l. KeepsJoin ws (put_item p _ old) new l items) none one.keeps))) c.give_all.ensures
+    (subst (λ y. JoinsItems ws (put_item p y old) new [] items) is (subst (λ l. JoinsItems ws (put_item p x old) new l items) none one.contents))
+    (subst (λ y. JoinsPlainly ws (put_item p y old) new [] items) is (subst (λ l. JoinsPlainly ws (put_item p x old) new l items) none one.plain))
+    (subst (λ y. KeepsJoin ws (put_item p y old) new [] items) is (subst (λ l. KeepsJoin ws (put_item p x old) new l items) none one.keeps))) c.give_all.ensures

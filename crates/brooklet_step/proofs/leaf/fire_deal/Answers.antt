@@ -17,7 +17,7 @@ deal_item-requires-clause-owed c = (deal_needs c.args.weights.now c.args.item c.
 pub returns : goal.returns
 returns c =
     let needs = deal_needs c.args.weights.now c.args.item c.args.state.now c.in-Deal.dealt c.args.out.now c.in-Deal.is c.requires in
-    let one = c.in_ok-deal_item-in-Deal in
+    let one = c.in_ok-port-in-Deal in
     let given = one.given in
     on_ok_weaker c.give.result (λ took.
     deal_does c.args.weights.now c.args.item given c.args.state.now _ c.in-Deal.dealt _ c.args.out.now c.give.new.self c.requires.room c.in-Deal.is refl
