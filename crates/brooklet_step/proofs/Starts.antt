@@ -15,7 +15,7 @@ use Rattle.kern_bags.specs.declared.kernel.Streamer.{Streamer}
 use Rattle.kern_rows.specs.declared.kernel.CodeKernel.{CodeKernel}
 use Rattle.kern_rows.specs.Forms.{FilterForm, code_form}
 use Rattle.kern_rows.specs.Needs.{CanFilter, HaveShares}
-use Rattle.kern_rows.specs.Turns.{shares, ones}
+use Rattle.kern_rows.specs.Turns.{shares}
 use Rattle.river_kernels.specs.declared.kernel.Kernel.{fold-roll-Kernel}
 use Rattle.river_kernels.specs.declared.kernel.Kernel.TheVariants as kernel
 use Rattle.river_kernels.specs.declared.kernel.Kernel.TheOpen as layer

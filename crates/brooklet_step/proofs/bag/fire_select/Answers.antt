@@ -1,6 +1,5 @@
 use Rattle.std.proofs.Common.{[], sym, subst}
 use Rattle.std.proofs.lemmas.Result.{on_ok_weaker}
-use Rattle.river_base.specs.declared.item.Item.TheVariants.{Flat}
 use Rattle.work_code.specs.Term.{term}
 use Rattle.kern_bags.specs.Following.{SelectsFlat}
 use Rattle.river_kernels.specs.Kern.{select}
