@@ -19,8 +19,8 @@ use Rattle.kern_bags.specs.Steps.{Pairing, put_pair, crosses, crossed}
 use Rattle.kern_bags.proofs.Pairs.{zipped, crossed_is}
 use Rattle.kern_bags.specs.Following.{stamped_as, CrossKept, Crossing, crossing, passing, passed_pairs, cross_start, put_change, StandsForCrossing}
 use Rattle.kern_bags.specs.Following.{Crosses, IsCrossOf, CrossFits, CrossesFlat, as_changes}
-use Rattle.kern_rows.specs.Dealing.{IsChanged}
 use Rattle.kern_changes.proofs.Leading.{changes-append, last_content-append}
+use Rattle.kern_rows.specs.Dealing.{IsChanged}
 use Rattle.river_kernels.specs.declared.types.VarKind.{VarKind}
 use Rattle.river_kernels.specs.declared.types.VarKind.TheVariants.{Private}
 use Rattle.river_kernels.specs.Fits.{Fits, relation}

@@ -19,6 +19,7 @@ use Rattle.river_base.specs.Number.{count_of}
 use Rattle.river_base.specs.Places.{each_grew, only, none}
 use Rattle.river_base.proofs.HeldLemmas.{held-nil, held-relation, held-plain, content-append}
 use Rattle.river_base.proofs.PlaceLemmas.{each_grew_cong, only_same, only_other}
+use Rattle.kern_rows.specs.Dealing.{Dealt, dealt_start}
 use Rattle.kern_rows.specs.Needs.{HaveShares}
 use Rattle.kern_rows.specs.Turns.{IsTurn, shares, next_port, next_had}
 use Rattle.kern_changes.specs.declared.owed.Debt.{Debt}
@@ -35,7 +36,6 @@ use Rattle.brooklet_model.proofs.Lists.{if_eq, if_ne}
 use Rattle.brooklet_model.proofs.Ports.{shaped}
 use Rattle.brooklet_model.proofs.Shapes.{next_turn, first_turn}
 use Rattle.brooklet_step.specs.declared.emit.Emit.{Emit}
-use Rattle.kern_rows.specs.Dealing.{Dealt, dealt_start}
 use Rattle.brooklet_step.specs.declared.state.State.{State}
 use Rattle.brooklet_step.specs.declared.state.State.TheVariants as state
 use Rattle.brooklet_step.specs.Dealing.{DealsAsChange, DealsItem}

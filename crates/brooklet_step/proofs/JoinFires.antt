@@ -18,12 +18,12 @@ use Rattle.river_base.specs.Number.{count_of}
 use Rattle.river_base.specs.Places.{each_grew, append_at, list_at, only, none}
 use Rattle.river_base.proofs.HeldLemmas.{held-relation, held-packs, content-append}
 use Rattle.river_base.proofs.PlaceLemmas.{each_grew_cong, length-append_at}
-use Rattle.kern_rows.specs.Needs.{HaveShares}
-use Rattle.kern_rows.specs.Turns.{Turns, shares, ones, put, settled, itself}
-use Rattle.kern_changes.specs.declared.owed.Debt.{Debt}
 use Rattle.kern_rows.specs.Joined as joined
 use Rattle.kern_rows.specs.Joined.{JoinKept, join_start, put_item, HasJoinShape, IsUnchanged, PassesOpened, AreOpened, StandsForJoining, JoinedItems, JoinsItems}
 use Rattle.kern_rows.specs.Joined.{JoinedPlainly, JoinsPlainly, flat_in, MayOwe, IsJoinOf, KeepsJoin}
+use Rattle.kern_rows.specs.Needs.{HaveShares}
+use Rattle.kern_rows.specs.Turns.{Turns, shares, ones, put, settled, itself}
+use Rattle.kern_changes.specs.declared.owed.Debt.{Debt}
 use Rattle.kern_changes.specs.Owed.{OweLittle, AreDebtsOf, no_debt}
 use Rattle.kern_rows.proofs.JoinLaws.{held_from-append}
 use Rattle.kern_changes.proofs.LawProofs.{nothing_holds}

@@ -8,10 +8,11 @@ use Rattle.work_code.specs.Term.{term, terms}
 use Rattle.work_code.specs.declared.expr.Expr.{Expr}
 use Rattle.work_code.specs.declared.expr.Exprs.{Exprs}
 use Rattle.kern_bags.specs.Kept.{window_start}
-use Rattle.kern_rows.specs.Joined.{join_start}
 use Rattle.kern_bags.specs.Following.{cross_start}
 use Rattle.kern_bags.specs.declared.kernel.Window.{Window}
 use Rattle.kern_bags.specs.declared.kernel.Streamer.{Streamer}
+use Rattle.kern_rows.specs.Joined.{join_start}
+use Rattle.kern_rows.specs.Dealing.{dealt_start}
 use Rattle.kern_rows.specs.declared.kernel.CodeKernel.{CodeKernel}
 use Rattle.kern_rows.specs.Forms.{FilterForm, code_form}
 use Rattle.kern_rows.specs.Needs.{CanFilter, HaveShares}
@@ -32,7 +33,6 @@ use Rattle.river_kernels.specs.Fits.{Fits}
 use Rattle.river_kernels.specs.Types.{types_of}
 use Rattle.brooklet_step.specs.declared.state.State.{State}
 use Rattle.brooklet_step.specs.declared.state.State.TheVariants as state
-use Rattle.kern_rows.specs.Dealing.{dealt_start}
 use Rattle.brooklet_step.specs.Given.{FitState, StandsAfter}
 use Rattle.brooklet_step.specs.Initial.{IsFirst}
 use Rattle.brooklet_step.specs.Stands.{StandsForSlots, StandsFor}

@@ -7,8 +7,12 @@ use Rattle.river_base.specs.declared.item.Item.TheVariants.{Flat}
 use Rattle.river_base.specs.declared.kind.FlatType.TheVariants.{Relation}
 use Rattle.river_base.specs.declared.kind.QueueType.{QueueType}
 use Rattle.river_base.specs.declared.kind.QueueType.TheVariants.{Flat as FlatOf, Pack as PackOf}
+use Rattle.river_base.specs.Changes.{last_content}
 use Rattle.river_base.specs.Held.{held, content_from, IsHeld, IsPlain, IsRelation, HaveWidth, batches}
 use Rattle.river_base.specs.Places.{each_grew, list_at}
+use Rattle.kern_rows.specs.Joined.{JoinKept, HasJoinShape, StandsForJoining}
+use Rattle.kern_rows.specs.Joined as joined
+use Rattle.kern_rows.specs.Dealing.{Dealt}
 use Rattle.kern_rows.specs.Forms.{FilterForm, RunForm}
 use Rattle.kern_rows.specs.Stands.{Waiting, needs_now}
 use Rattle.kern_rows.specs.Turns.{IsTurn, shares, ones}
@@ -19,9 +23,6 @@ use Rattle.kern_bags.specs.Kept.{Stamped, WindowKept, IsWindowKept, StandsForWin
 use Rattle.kern_bags.specs.Steps.{last_rows}
 use Rattle.kern_bags.specs.declared.kernel.Streamer.{Streamer}
 use Rattle.kern_bags.specs.declared.kernel.Window.{Window}
-use Rattle.river_base.specs.Changes.{last_content}
-use Rattle.kern_rows.specs.Joined.{JoinKept, HasJoinShape, StandsForJoining}
-use Rattle.kern_rows.specs.Joined as joined
 use Rattle.kern_changes.specs.Owed.{AreOwed, OweLittle, AreDebtsOf}
 use Rattle.river_kernels.specs.declared.types.VarKind.{VarKind}
 use Rattle.river_kernels.specs.Fits.{Fits, stream, relation}
@@ -32,7 +33,6 @@ use Rattle.brooklet_model.specs.Fire.{fire, privates, outs, tabs}
 use Rattle.brooklet_model.specs.Typed.{IsOf, IsWordOf, IsStart, between, widths_in, AreWide}
 use Rattle.brooklet_model.specs.Words.{Word, run, at_port, word_of}
 use Rattle.brooklet_step.specs.declared.emit.Emit.{Emit}
-use Rattle.kern_rows.specs.Dealing.{Dealt}
 use Rattle.brooklet_step.specs.declared.state.State.{State}
 use Rattle.brooklet_step.specs.declared.state.State.TheVariants as state
 use Rattle.brooklet_step.specs.Stands.{StandsFor, StandsForTurn}
