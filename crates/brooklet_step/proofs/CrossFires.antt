@@ -6,6 +6,7 @@ use Rattle.std.proofs.lemmas.List.{append-nil, map-append}
 use Rattle.std.proofs.lemmas.List.Elements.{All-head, All-tail, All-cons, All-nil, All-append}
 use Rattle.river_base.specs.declared.item.Batch.{Batch}
 use Rattle.river_base.specs.declared.item.Change.{Change}
+use Rattle.river_base.specs.declared.item.Flat as flat
 use Rattle.river_base.specs.declared.item.Item as item
 use Rattle.river_base.specs.declared.item.Item.TheVariants.{Flat}
 use Rattle.river_base.specs.declared.item.Flat.TheVariants.{Batch as Batched, Change as Changed}
@@ -16,8 +17,10 @@ use Rattle.river_base.proofs.HeldLemmas.{held-relation, content-append}
 use Rattle.kern_bags.specs.Contents.{product}
 use Rattle.kern_bags.specs.Steps.{Pairing, put_pair, crosses, crossed}
 use Rattle.kern_bags.proofs.Pairs.{zipped, crossed_is}
-use Rattle.kern_changes.specs.Kept.{stamped_as, CrossKept, Crossing, crossing, passing, passed_pairs, cross_start, put_change, StandsForCrossing, Crosses, IsCrossOf, CrossFits}
+use Rattle.kern_bags.specs.Following.{stamped_as, CrossKept, Crossing, crossing, passing, passed_pairs, cross_start, put_change, StandsForCrossing}
+use Rattle.kern_bags.specs.Following.{Crosses, IsCrossOf, CrossFits, CrossesFlat, as_changes}
 use Rattle.kern_changes.proofs.Leading.{changes-append, last_content-append}
+use Rattle.kern_rows.specs.Dealing.{IsChanged}
 use Rattle.river_kernels.specs.declared.types.VarKind.{VarKind}
 use Rattle.river_kernels.specs.declared.types.VarKind.TheVariants.{Private}
 use Rattle.river_kernels.specs.Fits.{Fits, relation}
@@ -29,9 +32,8 @@ use Rattle.brooklet_model.specs.Words.{Word, at_port}
 use Rattle.brooklet_model.proofs.Free.{at_port-append}
 use Rattle.brooklet_step.specs.declared.emit.Emit.{Emit}
 use Rattle.brooklet_step.specs.declared.state.State.TheVariants as state
-use Rattle.brooklet_step.specs.Bags.{as_changes}
 use Rattle.brooklet_step.specs.Took.{Took}
-use Rattle.brooklet_step.specs.Given.{IsHeldOf, FitCross, FitState, as_batches, ran, CrossAfter, StandsAfter, TookHeld, Gives, FiresAt}
+use Rattle.brooklet_step.specs.Given.{IsHeldOf, FitCross, FitState, as_batches, ran, CrossStands, StandsAfter, TookHeld, Gives, FiresAt}
 use Rattle.brooklet_step.proofs.GivenLemmas.{at_next, ran_more}
 use Rattle.brooklet_step.proofs.OnePort.{change_held, held_change, relation_typed, came_content, took_first, came_first, does_at}
 
@@ -141,10 +143,10 @@ module _ (n k : ℕ) (out out' : Emit) (ds : List Change) (now now' : CrossKept)
   -- what a firing on x gives, and what it keeps
   abbrev GivesFor : List Kept → Word → ℕ → item.Item → Type 0
   GivesFor start w p x = TookHeld (relation (n + k) ∷ []) (ran cross start w) out out' (fire cross p x (ran cross start w).states)
-      × CrossAfter start (state.Cross now' ∷ []) (w ++ (p, x) ∷ [])
+      × CrossStands start (state.Cross now' ∷ []) (w ++ (p, x) ∷ [])
 
   -- where the item has come to its port, and what is kept with it stands for that
-  passed : (start : List Kept) (w : Word) (p : ℕ) (x : item.Item) (a : CrossAfter start (state.Cross now ∷ []) w) (m : Crossing) (kept : CrossKept)
+  passed : (start : List Kept) (w : Word) (p : ℕ) (x : item.Item) (a : CrossStands start (state.Cross now ∷ []) w) (m : Crossing) (kept : CrossKept)
       → m.lefts ≡ a.contents.lefts → m.rights ≡ a.contents.rights
       → put_pair p x (pairing (as_batches a.contents.left) (as_batches a.contents.right)) ≡ pairing (as_batches m.left) (as_batches m.right)
       → content_from [] (at_port 0 (w ++ (p, x) ∷ [])) ≡ last_content m.lefts m.left
@@ -183,7 +185,7 @@ module _ (n k : ℕ) (out out' : Emit) (ds : List Change) (now now' : CrossKept)
       )
 
   at_left : (c : Change) (start : List Kept) (w : Word) (b : Batch) → Crosses (put_change 0 c now) now' [] ds → Took out out' (gives 0 (as_changes ds) [])
-      → CrossAfter start (state.Cross now ∷ []) w → c ≡ change_to (content_from [] (at_port 0 w)) b → GivesFor start w 0 (Flat (Batched b))
+      → CrossStands start (state.Cross now ∷ []) w → c ≡ change_to (content_from [] (at_port 0 w)) b → GivesFor start w 0 (Flat (Batched b))
   at_left c start w b f took a is =
       let x : item.Item = Flat (Batched b) in
       let h = a.contents in
@@ -200,7 +202,7 @@ module _ (n k : ℕ) (out out' : Emit) (ds : List Change) (now now' : CrossKept)
       }) f took
 
   at_right : (c : Change) (start : List Kept) (w : Word) (b : Batch) → Crosses (put_change 1 c now) now' [] ds → Took out out' (gives 0 (as_changes ds) [])
-      → CrossAfter start (state.Cross now ∷ []) w → c ≡ change_to (content_from [] (at_port 1 w)) b → GivesFor start w 1 (Flat (Batched b))
+      → CrossStands start (state.Cross now ∷ []) w → c ≡ change_to (content_from [] (at_port 1 w)) b → GivesFor start w 1 (Flat (Batched b))
   at_right c start w b f took a is =
       let x : item.Item = Flat (Batched b) in
       let h = a.contents in
@@ -268,10 +270,11 @@ put_wide n k (suc (suc p)) c s h of = absurd h
 changes_held : (n : ℕ) (cs : List Change) → All (IsChangeOf n) cs → All (IsHeld (relation n)) (as_changes cs)
 changes_held n [] h = All-nil (IsHeld (relation n))
 changes_held n (c ∷ cs) h =
-    All-cons (IsHeld (relation n)) (Flat (Changed c)) (as_changes cs) (change_held n c (All-head (IsChangeOf n) c cs h)) (changes_held n cs (All-tail (IsChangeOf n) c cs h))
+    All-cons (IsHeld (relation n)) (Flat (Changed c)) (as_changes cs) (change_held n c (All-head (IsChangeOf n) c cs h))
+    (changes_held n cs (All-tail (IsChangeOf n) c cs h))
 
 -- a product's step on a change at a port is a firing
-pub cross_does : (port : ℕ) (c : Change) (ds : List Change) (now now' : CrossKept) (out out' : Emit) → Crosses (put_change port c now) now' [] ds
+cross_does : (port : ℕ) (c : Change) (ds : List Change) (now now' : CrossKept) (out out' : Emit) → Crosses (put_change port c now) now' [] ds
     → CrossFits (put_change port c now) now' [] ds → Took out out' (gives 0 (as_changes ds) [])
     → FiresAt cross port (Flat (Changed c)) out out' (state.Cross now ∷ []) (state.Cross now' ∷ [])
 cross_does port c ds now now' out out' f fits took = record {
@@ -294,3 +297,11 @@ cross_does port c ds now now' out out' f fits took = record {
       }
       );
 }
+
+-- so is what it gives
+pub cross_flat_does : (p : ℕ) (x : flat.Flat) (items : List item.Item) (now now' : CrossKept) (out out' : Emit) → IsChanged x → CrossesFlat p x now now' [] items
+    → Took out out' (gives 0 items []) → FiresAt cross p (Flat x) out out' (state.Cross now ∷ []) (state.Cross now' ∷ [])
+cross_flat_does p x items now now' out out' k h took =
+    let g = h.each k.change k.is in
+    subst (λ y. FiresAt cross p (Flat y) out out' (state.Cross now ∷ []) (state.Cross now' ∷ [])) (sym k.is)
+    (cross_does p k.change g.given now now' out out' g.is.contents g.is.fits (subst (λ l. Took out out' (gives 0 l [])) g.grew took))

@@ -6,24 +6,25 @@ use Rattle.std.proofs.lemmas.List.{length-replicate, length-map}
 use Rattle.std.proofs.lemmas.List.Elements.{All-cons, All-nil}
 use Rattle.river_base.specs.declared.item.Batch.{Batch}
 use Rattle.river_base.specs.declared.item.Change.{Change}
-use Rattle.river_base.specs.declared.item.Flat.TheVariants.{One, Batch as Batched, Change as Changed}
+use Rattle.river_base.specs.declared.item.Flat.TheVariants.{Batch as Batched, Change as Changed}
 use Rattle.river_base.specs.declared.item.Item as item
-use Rattle.river_base.specs.declared.item.Item.TheVariants.{Flat, Pack}
+use Rattle.river_base.specs.declared.item.Item.TheVariants.{Flat}
 use Rattle.river_base.specs.declared.kind.FlatType.{FlatType}
 use Rattle.river_base.specs.declared.kind.FlatType.TheVariants.{Rows, Stream, Relation}
 use Rattle.river_base.specs.declared.kind.QueueType.{QueueType}
 use Rattle.river_base.specs.declared.kind.QueueType.TheVariants.{Flat as FlatOf}
-use Rattle.river_base.specs.Changes.{change_to, IsChangeOf, LeadsTo}
+use Rattle.river_base.specs.Changes.{change_to, LeadsTo}
 use Rattle.river_base.specs.Held.{held, content_from, HaveWidth, IsHeld, IsPlain, HasType}
 use Rattle.river_base.specs.Number.{count_of}
 use Rattle.river_base.specs.Places.{each_grew, only, none}
 use Rattle.river_base.proofs.HeldLemmas.{held-nil, held-relation, held-plain, content-append}
 use Rattle.river_base.proofs.PlaceLemmas.{each_grew_cong, only_same, only_other}
+use Rattle.kern_rows.specs.Dealing.{Dealt, dealt_start}
 use Rattle.kern_rows.specs.Needs.{HaveShares}
 use Rattle.kern_rows.specs.Turns.{IsTurn, shares, next_port, next_had}
 use Rattle.kern_changes.specs.declared.owed.Debt.{Debt}
 use Rattle.kern_changes.specs.Owed.{AreOwed, OweLittle, AreDebtsOf, no_debt, debt_at, but_at, owed_start}
-use Rattle.kern_changes.proofs.LawProofs.{starts_hold}
+use Rattle.kern_changes.proofs.LawProofs.{nothing_holds}
 use Rattle.river_kernels.specs.declared.types.VarKind.{VarKind}
 use Rattle.river_kernels.specs.Fits.{relation}
 use Rattle.river_kernels.specs.Kern.{deal}
@@ -35,29 +36,16 @@ use Rattle.brooklet_model.proofs.Lists.{if_eq, if_ne}
 use Rattle.brooklet_model.proofs.Ports.{shaped}
 use Rattle.brooklet_model.proofs.Shapes.{next_turn, first_turn}
 use Rattle.brooklet_step.specs.declared.emit.Emit.{Emit}
-use Rattle.brooklet_step.specs.declared.state.Dealt.{Dealt}
 use Rattle.brooklet_step.specs.declared.state.State.{State}
 use Rattle.brooklet_step.specs.declared.state.State.TheVariants as state
-use Rattle.brooklet_step.specs.Dealing.{IsDealt, dealt_start}
+use Rattle.brooklet_step.specs.Dealing.{DealsAsChange, DealsItem}
 use Rattle.brooklet_step.specs.Stands.{IsChange, StandsForTurn}
 use Rattle.brooklet_step.specs.Took.{Took, HasRoom}
-use Rattle.brooklet_step.specs.Given.{held_by, held_at, IsHeldBy, IsHeldOf, columns_by, ran, FitState, FitTurn, DealAfter, StandsAfter, TookHeld, Does, FiresAt, CanTake}
+use Rattle.brooklet_step.specs.Given.{held_by, held_at, IsHeldBy, IsHeldOf, columns_by, ran, FitState, FitTurn, DealStands, StandsAfter, TookHeld, Does, FiresAt, CanTake}
 use Rattle.brooklet_step.proofs.GivenFires.{ArePlain}
 use Rattle.brooklet_step.proofs.GivenLemmas.{at-plain, at_next, ran_more, not_both}
+use Rattle.brooklet_step.proofs.OnePort.{relation_holds, change_held, relation_typed, same_item, same_state, same_columns, came_content}
 use Rattle.brooklet_step.proofs.RowFires.{got_many}
-
--- what a queue of a relation may hold is a change
-pub relation_change : (n : ℕ) (i : item.Item) → IsHeld (relation n) i → (c : Change) × (i ≡ Flat (Changed c)) × IsChangeOf n c
-unfolding IsHeld
-relation_change n (Flat (Changed c)) h = (c, refl, h)
-relation_change n (Flat (One row)) h = absurd h
-relation_change n (Flat (Batched b)) h = absurd h
-relation_change n (Pack fs) h = absurd h
-
--- and it may hold each such change
-pub change_relation : (n : ℕ) (c : Change) → IsChangeOf n c → IsHeld (relation n) (Flat (Changed c))
-unfolding IsHeld
-change_relation n c h = h
 
 -- a queue of no relation may hold no change
 pub plain_unchanged : (t : FlatType) (i : item.Item) → IsPlain (FlatOf t) → IsHeld (FlatOf t) i → IsChange i → ⊥
@@ -66,34 +54,13 @@ plain_unchanged (Rows w) i p h c = subst (IsHeld (FlatOf (Rows w))) c.is h
 plain_unchanged (Stream w) i p h c = subst (IsHeld (FlatOf (Stream w))) c.is h
 plain_unchanged (Relation w) i p h c = p
 
--- a relation's item is a batch
-pub relation_batch : (n : ℕ) (x : item.Item) → HasType (relation n) x → (b : Batch) × (x ≡ Flat (Batched b))
-relation_batch n (Flat (Batched b)) h = (b, refl)
-relation_batch n (Flat (One row)) h = absurd h
-relation_batch n (Flat (Changed c)) h = absurd h
-relation_batch n (Pack fs) h = absurd h
-
--- a change that is held is that to the next content
-pub change_is : (n : ℕ) (past : List item.Item) (b : Batch) (c : Change) → held (relation n) past (Flat (Batched b) ∷ []) ≡ Flat (Changed c) ∷ []
-    → c ≡ change_to (content_from [] past) b
-change_is n past b c h = same (sym h ∙ held-relation n past (Flat (Batched b) ∷ []))
-  where
-    same : {d : Change} → Flat (Changed c) ∷ [] ≡ Flat (Changed d) ∷ [] → c ≡ d
-    same e = cc
-
 -- what is held of one more content
-pub held_change : (n : ℕ) (past : List item.Item) (b : Batch) (c : Change) → c ≡ change_to (content_from [] past) b
+pub content_held : (n : ℕ) (past : List item.Item) (b : Batch) (c : Change) → c ≡ change_to (content_from [] past) b
     → held (relation n) past (Flat (Batched b) ∷ []) ≡ Flat (Changed c) ∷ []
-held_change n past b c e = held-relation n past (Flat (Batched b) ∷ []) ∙ ap (λ d. Flat (Changed d) ∷ []) (sym e)
+content_held n past b c e = held-relation n past (Flat (Batched b) ∷ []) ∙ ap (λ d. Flat (Changed d) ∷ []) (sym e)
 
 same_dealt : (a b : Dealt) → state.Deal a ≡ state.Deal b → a ≡ b
 same_dealt a b h = cc
-
-head_is : (s t : State) → s ∷ [] ≡ t ∷ [] → s ≡ t
-head_is s t h = cc
-
-head_item : (x i : item.Item) → x ∷ [] ≡ i ∷ [] → x ≡ i
-head_item x i e = cc
 
 many_plain : (t : QueueType) (n : ℕ) → IsPlain t → ArePlain (replicate n t)
 many_plain t zero h p = tt
@@ -119,24 +86,24 @@ fit_dealt ws reads s old e h = subst (λ (u : State). FitTurn (shares ws) reads 
 dealt_turn : (ws : List ℤ) (reads : List QueueType) (old : Dealt) → FitTurn (shares ws) reads (state.Deal old ∷ [])
     → IsTurn (shares ws) old.turn.port old.turn.had
 dealt_turn ws reads old f =
-    subst (λ (d : Dealt). IsTurn (shares ws) d.turn.port d.turn.had) (sym (same_dealt old f.now (head_is (state.Deal old) (state.Deal f.now) f.code))) f.turn
+    subst (λ (d : Dealt). IsTurn (shares ws) d.turn.port d.turn.had) (sym (same_dealt old f.now (same_state (state.Deal old) (state.Deal f.now) f.code))) f.turn
 
 dealt_lists : (ws : List ℤ) (reads : List QueueType) (old : Dealt) → FitTurn (shares ws) reads (state.Deal old ∷ []) → length old.owed ≡ length (shares ws)
 dealt_lists ws reads old f =
-    subst (λ (d : Dealt). length d.owed ≡ length (shares ws)) (sym (same_dealt old f.now (head_is (state.Deal old) (state.Deal f.now) f.code))) f.lists
+    subst (λ (d : Dealt). length d.owed ≡ length (shares ws)) (sym (same_dealt old f.now (same_state (state.Deal old) (state.Deal f.now) f.code))) f.lists
 
 dealt_few : (ws : List ℤ) (reads : List QueueType) (old : Dealt) → FitTurn (shares ws) reads (state.Deal old ∷ []) → OweLittle old.owed
 dealt_few ws reads old f =
-    subst (λ (d : Dealt). OweLittle d.owed) (sym (same_dealt old f.now (head_is (state.Deal old) (state.Deal f.now) f.code))) f.few
+    subst (λ (d : Dealt). OweLittle d.owed) (sym (same_dealt old f.now (same_state (state.Deal old) (state.Deal f.now) f.code))) f.few
 
 dealt_wide : (ws : List ℤ) (reads : List QueueType) (old : Dealt) → FitTurn (shares ws) reads (state.Deal old ∷ []) → (n : ℕ)
     → columns_by (slice_get reads 0) ≡ Some n → AreDebtsOf n old.owed
 dealt_wide ws reads old f n e =
-    subst (λ (d : Dealt). AreDebtsOf n d.owed) (sym (same_dealt old f.now (head_is (state.Deal old) (state.Deal f.now) f.code))) (f.wide n e)
+    subst (λ (d : Dealt). AreDebtsOf n d.owed) (sym (same_dealt old f.now (same_state (state.Deal old) (state.Deal f.now) f.code))) (f.wide n e)
 
--- what a splitter needs: its turn, its weights, and a place for what the list in turn owes
+-- what a splitter needs: its weights, its turn, and a place for what each list owes
 pub deal_needs : (ws : List ℤ) (i : item.Item) (s : State) (old : Dealt) (out : Emit) → s ≡ state.Deal old → CanTake (deal ws) 0 i (s ∷ []) out
-    → HaveShares (shares ws) × IsTurn (shares ws) old.turn.port old.turn.had × (old.turn.port < length old.owed) × (old.turn.port < length out.outs)
+    → HaveShares (shares ws) × IsTurn (shares ws) old.turn.port old.turn.had × (length old.owed ≡ length ws) × (old.turn.port < length out.outs)
 deal_needs ws i s old out e t =
     let f = fit_dealt ws t.reads s old e t.fitting.state in
     let turn = dealt_turn ws t.reads old f in
@@ -144,13 +111,18 @@ deal_needs ws i s old out e t =
     let many = length-map ws count_of in
     let room = t.room.outs in
     let below = turn.0 in
-    (shaped (deal ws) t.reads t.fitting.writes t.fitting.vars t.fitting.fits, turn, omega (arith, below, lists), omega (arith, below, room, many))
+    (shaped (deal ws) t.reads t.fitting.writes t.fitting.vars t.fitting.fits, turn, lists ∙ many, omega (arith, below, room, many))
+
+-- the change that a list is given
+gave : {place : ℕ} {c : Change} {old new : List Debt} {g : item.Item} (h : DealsAsChange place c old new g) → g ≡ Flat (Changed h.deals.given)
+gave h = h.is ∙ ap (λ f. Flat f) h.deals.is
 
 -- A FIRING
 
 module _ (ws : List ℤ) (i g : item.Item) (s s' : State) (old new : Dealt) (out out' : Emit) (room : HasRoom (deal ws) out) (es : s ≡ state.Deal old)
-    (es' : s' ≡ state.Deal new) (np : new.turn.port ≡ next_port (shares ws) old.turn.port old.turn.had) (nh : new.turn.had ≡ next_had (shares ws) old.turn.port old.turn.had)
-    (took : Took out out' (gives old.turn.port (g ∷ []) [])) (dealt : IsDealt old.turn.port i g old.owed new.owed) where
+    (es' : s' ≡ state.Deal new) (np : new.turn.port ≡ next_port (shares ws) old.turn.port old.turn.had)
+    (nh : new.turn.had ≡ next_had (shares ws) old.turn.port old.turn.had)
+    (took : Took out out' (gives old.turn.port (g ∷ []) [])) (dealt : DealsItem old.turn.port i old.owed new.owed g) where
   abbrev place : ℕ
   place = old.turn.port
 
@@ -158,15 +130,16 @@ module _ (ws : List ℤ) (i g : item.Item) (s s' : State) (old new : Dealt) (out
   many = room.outs
 
   -- the state of the definition before the firing, and what it gives
-  module _ (reads : List QueueType) (start : List Kept) (w : Word) (sa : DealAfter ws reads start (s ∷ []) w) where
+  module _ (reads : List QueueType) (start : List Kept) (w : Word) (sa : DealStands ws reads start (s ∷ []) w) where
     same : old ≡ sa.stands.now
-    same = same_dealt old sa.stands.now (sym es ∙ head_is s (state.Deal sa.stands.now) sa.stands.code)
+    same = same_dealt old sa.stands.now (sym es ∙ same_state s (state.Deal sa.stands.now) sa.stands.code)
 
     states_are : (ran (deal ws) start w).states ≡ Turn place old.turn.had ∷ []
     states_are = sa.stands.defined ∙ ap (λ (d : Dealt). Turn d.turn.port d.turn.had ∷ []) (sym same)
 
     fired_is : (x : item.Item)
-        → fire (deal ws) 0 x (ran (deal ws) start w).states ≡ gives place (x ∷ []) (Turn (next_port (shares ws) place old.turn.had) (next_had (shares ws) place old.turn.had) ∷ [])
+        → fire (deal ws) 0 x (ran (deal ws) start w).states
+        ≡ gives place (x ∷ []) (Turn (next_port (shares ws) place old.turn.had) (next_had (shares ws) place old.turn.had) ∷ [])
     fired_is x = ap (deal_one (shares ws) x) states_are
 
     -- the next state
@@ -205,7 +178,7 @@ module _ (ws : List ℤ) (i g : item.Item) (s s' : State) (old new : Dealt) (out
       record {
         gives = record {
           given = λ start w x is_start tw tx sa h.
-              let e : x ≡ i = head_item x i (sym (held-plain T (at_port 0 w) (x ∷ []) p) ∙ h) in
+              let e : x ≡ i = same_item x i (sym (held-plain T (at_port 0 w) (x ∷ []) p) ∙ h) in
               let before = ran (deal ws) start w in
               let r = fire (deal ws) 0 x before.states in
               let is : g ∷ [] ≡ x ∷ [] = ap (λ (y : item.Item). y ∷ []) (one.0 ∙ sym e) in (
@@ -224,7 +197,8 @@ module _ (ws : List ℤ) (i g : item.Item) (s s' : State) (old new : Dealt) (out
           adds = none;
           outs_are = took.outs;
           adds_are = took.adds;
-          held = λ q. held_only T (length ws) place g q (let b = (dealt_turn ws (T ∷ []) old f).0 in let l = length-map ws count_of in omega (arith, b, l)) (subst (IsHeld T) (sym one.0) hi);
+          held = λ q. held_only T (length ws) place g q (let b = (dealt_turn ws (T ∷ []) old f).0 in let l = length-map ws count_of in omega (arith, b, l))
+              (subst (IsHeld T) (sym one.0) hi);
           wide = λ j. All-nil (IsWide (slice_get (widths_in vars) j));
           again = next_fits (T ∷ []) some f len (subst OweLittle (sym one.1) (dealt_few ws (T ∷ []) old f))
               (λ n c. subst (AreDebtsOf n) (sym one.1) (dealt_wide ws (T ∷ []) old f n c));
@@ -237,12 +211,13 @@ module _ (ws : List ℤ) (i g : item.Item) (s s' : State) (old new : Dealt) (out
   unfolding next_stands
   relates n vars some f hi =
       let T = relation n in
-      let ic = relation_change n i hi in
-      let c = ic.0 in
-      let one = dealt.change c ic.1 in
+      let ic = relation_holds n i hi in
+      let c = ic.change in
+      let like = dealt.change c ic.is in
+      let one = like.deals in
       let d = one.given in
       let len = one.keeps.lists in
-      let wide = one.keeps.wide n (dealt_wide ws (T ∷ []) old f n refl) ic.2.wide in
+      let wide = one.keeps.wide n (dealt_wide ws (T ∷ []) old f n refl) ic.of.wide in
       record {
         gives = record {
           given = λ start w x is_start tw tx sa h. over start w x tx sa h;
@@ -253,50 +228,52 @@ module _ (ws : List ℤ) (i g : item.Item) (s s' : State) (old new : Dealt) (out
           outs_are = took.outs;
           adds_are = took.adds;
           held = λ q. held_only T (length ws) place g q (let b = (dealt_turn ws (T ∷ []) old f).0 in let l = length-map ws count_of in omega (arith, b, l))
-              (subst (IsHeld T) (sym one.is) (change_relation n d (record { normal = one.keeps.normal; wide = wide.0 })));
+              (subst (IsHeld T) (sym (gave like)) (change_held n d (record { normal = one.keeps.normal; wide = wide.0 })));
           wide = λ j. All-nil (IsWide (slice_get (widths_in vars) j));
           again = next_fits (T ∷ []) some f len (one.keeps.few (dealt_few ws (T ∷ []) old f)) (λ m e. subst (λ k. AreDebtsOf k new.owed) (same_columns n m e) wide.1);
         };
       }
     where
-      same_columns : (k m : ℕ) → Some k ≡ Some m → k ≡ m
-      same_columns k m e = cc
-
-      over : (start : List Kept) (w : Word) (x : item.Item) → HasType (relation n) x → DealAfter ws (relation n ∷ []) start (s ∷ []) w
+      over : (start : List Kept) (w : Word) (x : item.Item) → HasType (relation n) x → DealStands ws (relation n ∷ []) start (s ∷ []) w
           → held (relation n) (at_port 0 w) (x ∷ []) ≡ i ∷ []
           → TookHeld (replicate (length ws) (relation n)) (ran (deal ws) start w) out out' (fire (deal ws) 0 x (ran (deal ws) start w).states)
-          × DealAfter ws (relation n ∷ []) start (s' ∷ []) (w ++ (0, x) ∷ [])
+          × DealStands ws (relation n ∷ []) start (s' ∷ []) (w ++ (0, x) ∷ [])
       over start w x tx sa h =
           let T = relation n in
-          let ic = relation_change n i hi in
-          let c = ic.0 in
-          let one = dealt.change c ic.1 in
+          let ic = relation_holds n i hi in
+          let c = ic.change in
+          let like = dealt.change c ic.is in
+          let one = like.deals in
           let d = one.given in
-          let xb = relation_batch n x tx in
-          let b = xb.0 in
+          let xb = relation_typed n x tx in
+          let b = xb.batch in
           let before = ran (deal ws) start w in
           let prev = before.outs in
           let now = content_from [] (at_port 0 w) in
           let last : ℕ → List (List ℤ) = λ p. content_from [] (prev p) in
-          let is : c ≡ change_to now b = change_is n (at_port 0 w) b c (ap (λ (y : item.Item). held T (at_port 0 w) (y ∷ [])) (sym xb.1) ∙ h ∙ ap (λ (y : item.Item). y ∷ []) ic.1) in
+          let is : c ≡ change_to now b = came_content n (at_port 0 w) c b x xb.is (h ∙ ap (λ (y : item.Item). y ∷ []) ic.is) in
           let owed : AreOwed old.owed last (λ p. now) = subst (λ (e : Dealt). AreOwed e.owed last (λ p. now)) (sym (same (T ∷ []) start w sa)) (sa.owed tt) in
           let r = one.contents.each now last b owed is in
           let xs : List item.Item = Flat (Batched b) ∷ [] in
-          let fired = fired_is (T ∷ []) start w sa x ∙ ap (λ (y : item.Item). gives place (y ∷ []) (Turn (next_port (shares ws) place old.turn.had) (next_had (shares ws) place old.turn.had) ∷ [])) xb.1 in
+          let fired =
+          fired_is (T ∷ []) start w sa x
+          ∙ ap (λ (y : item.Item). gives place (y ∷ []) (Turn (next_port (shares ws) place old.turn.had) (next_had (shares ws) place old.turn.had) ∷ [])) xb.is in
           let at_is : (p : ℕ) → only place (g ∷ []) p ≡ held T (prev p) (only place xs p) = λ p. ⊎_elim
           (λ q. subst (λ j. only place (g ∷ []) j ≡ held T (prev j) (only place xs j)) q
-          (only_same place (g ∷ []) ∙ ap (λ (y : item.Item). y ∷ []) one.is ∙ sym (held_change n (prev place) b d r.0) ∙ ap (held T (prev place)) (sym (only_same place xs))))
+          (only_same place (g ∷ []) ∙ ap (λ (y : item.Item). y ∷ []) (gave like) ∙ sym (content_held n (prev place) b d r.0)
+          ∙ ap (held T (prev place)) (sym (only_same place xs))))
           (λ q. only_other place p (g ∷ []) (λ z. q (sym z)) ∙ sym (held-nil T (prev p)) ∙ ap (held T (prev p)) (sym (only_other place p xs (λ z. q (sym z)))))
           (cases_eq place p) in
           let more = ran_more (deal ws) start w 0 x in
           let after : (p : ℕ) → content_from [] ((ran (deal ws) start (w ++ (0, x) ∷ [])).outs p) ≡ but_at place b.rows last p = λ p.
           ap (content_from []) (more.outs p ∙ ap (λ (u : Fired). prev p ++ u.outs p) fired) ∙ content-append [] (prev p) (only place xs p)
           ∙ ⊎_elim
-          (λ q. subst (λ j. content_from (last j) (only place xs j) ≡ but_at place b.rows last j) q (ap (content_from (last place)) (only_same place xs) ∙ sym (if_eq place place b.rows (last place) refl)))
+          (λ q. subst (λ j. content_from (last j) (only place xs j) ≡ but_at place b.rows last j) q
+          (ap (content_from (last place)) (only_same place xs) ∙ sym (if_eq place place b.rows (last place) refl)))
           (λ q. ap (content_from (last p)) (only_other place p xs (λ z. q (sym z))) ∙ sym (if_ne place p b.rows (last p) q))
           (cases_eq place p) in
           let next : content_from [] (at_port 0 (w ++ (0, x) ∷ [])) ≡ b.rows =
-          ap (content_from []) (at_next 0 w x ∙ ap (λ (y : item.Item). at_port 0 w ++ y ∷ []) xb.1) ∙ content-append [] (at_port 0 w) xs in (
+          ap (content_from []) (at_next 0 w x ∙ ap (λ (y : item.Item). at_port 0 w ++ y ∷ []) xb.is) ∙ content-append [] (at_port 0 w) xs in (
             record {
               outs = took.outs
                   ∙ each_grew_cong out.outs (only place (g ∷ [])) (λ q. held_at (replicate (length ws) T) q (prev q) ((fire (deal ws) 0 x before.states).outs q))
@@ -307,7 +284,8 @@ module _ (ws : List ℤ) (i g : item.Item) (s s' : State) (old new : Dealt) (out
             },
             record {
               stands = next_stands (T ∷ []) start w sa x some one.keeps.lists;
-              owed = λ rel p lt. subst (λ l. LeadsTo l (content_from [] (at_port 0 (w ++ (0, x) ∷ []))) (debt_at new.owed p).plus (debt_at new.owed p).minus) (sym (after p))
+              owed = λ rel p lt.
+                  subst (λ l. LeadsTo l (content_from [] (at_port 0 (w ++ (0, x) ∷ []))) (debt_at new.owed p).plus (debt_at new.owed p).minus) (sym (after p))
                   (subst (λ l. LeadsTo (but_at place b.rows last p) l (debt_at new.owed p).plus (debt_at new.owed p).minus) (sym next) (r.1 p lt));
             },
           )
@@ -318,7 +296,8 @@ module _ (ws : List ℤ) (i g : item.Item) (s s' : State) (old new : Dealt) (out
     each = λ reads writes vars f fs hi.
         subst (λ (l : List QueueType). Does (deal ws) l writes vars 0 i out out' (s ∷ []) (s' ∷ [])) (sym f.1)
         (subst (λ (l : List QueueType). Does (deal ws) (FlatOf f.0 ∷ []) l vars 0 i out out' (s ∷ []) (s' ∷ [])) (sym f.2)
-        (by f.0 vars (subst (λ (l : List QueueType). FitTurn (shares ws) l (state.Deal old ∷ [])) f.1 (fit_dealt ws reads s old es fs)) (subst (λ (l : List QueueType). IsHeldOf l 0 i) f.1 hi)));
+        (by f.0 vars (subst (λ (l : List QueueType). FitTurn (shares ws) l (state.Deal old ∷ [])) f.1 (fit_dealt ws reads s old es fs))
+        (subst (λ (l : List QueueType). IsHeldOf l 0 i) f.1 hi)));
   }
     where
       by : (t : FlatType) (vars : List VarKind) → FitTurn (shares ws) (FlatOf t ∷ []) (state.Deal old ∷ []) → IsHeld (FlatOf t) i
@@ -352,7 +331,7 @@ deal_first_after ws reads some = record {
     turn = first_turn (shares ws) some;
     lists = length-replicate (length ws) no_debt ∙ sym (length-map ws count_of);
   };
-  owed = λ rel. starts_hold.owed (length ws);
+  owed = λ rel. nothing_holds.owed (length ws);
 }
 
 -- and fits
@@ -362,6 +341,6 @@ deal_first_fits ws reads some = record {
   code = refl;
   turn = first_turn (shares ws) some;
   lists = length-replicate (length ws) no_debt ∙ sym (length-map ws count_of);
-  few = starts_hold.little (length ws);
+  few = nothing_holds.little (length ws);
   wide = λ n e. start_wide n (length ws);
 }

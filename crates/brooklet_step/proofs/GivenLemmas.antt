@@ -6,11 +6,9 @@ use Rattle.std.proofs.lemmas.List.{length-take, length-replicate}
 use Rattle.std.proofs.Math.Seq.{drop-append_seam}
 use Rattle.std.proofs.lemmas.List.Elements.{All-head, All-tail, All-cons, All-nil}
 use Rattle.river_base.specs.declared.item.Item as item
-use Rattle.river_base.specs.declared.item.Item.TheVariants.{Flat, Pack}
 use Rattle.river_base.specs.declared.kind.FlatType.TheVariants.{Rows, Stream, Relation}
 use Rattle.river_base.specs.declared.kind.QueueType.{QueueType}
 use Rattle.river_base.specs.declared.kind.QueueType.TheVariants.{Flat as FlatOf, Pack as PackOf}
-use Rattle.river_base.specs.Held.{IsHeld, HasType, IsPlain}
 use Rattle.river_base.proofs.HeldLemmas.{held-nil, held-append, length-held, held-plain}
 use Rattle.kern_rows.specs.Forms.{FilterForm, RunForm}
 use Rattle.kern_rows.specs.Runs.{Filtering, begins}
@@ -34,6 +32,7 @@ use Rattle.brooklet_model.proofs.TypedPlan.{at_append, run_typed}
 use Rattle.brooklet_step.specs.declared.state.State.{State}
 use Rattle.brooklet_step.specs.Stands.{StandsFor, StandsForSlots}
 use Rattle.brooklet_step.specs.Given.{held_by, held_at, IsHeldBy, IsHeldOf, IsPlainBy, IsRelationBy, FitSlots, FitState, ran, StandsAfter, MayBeFresh}
+use Rattle.brooklet_step.proofs.HeldLaws.{plain_law}
 
 -- QUEUES AT PORTS
 
@@ -80,41 +79,13 @@ not_both (Some (PackOf (Rows w))) p r = r
 not_both (Some (PackOf (Stream w))) p r = r
 not_both (Some (PackOf (Relation w))) p r = p
 
--- what such a queue may hold has its type
-plain_typed : (t : QueueType) (x : item.Item) → IsPlain t → IsHeld t x → HasType t x
-unfolding IsHeld
-plain_typed (FlatOf (Rows w)) (Flat f) p h = h
-plain_typed (FlatOf (Rows w)) (Pack fs) p h = absurd h
-plain_typed (FlatOf (Stream w)) (Flat f) p h = h
-plain_typed (FlatOf (Stream w)) (Pack fs) p h = absurd h
-plain_typed (FlatOf (Relation w)) x p h = absurd p
-plain_typed (PackOf (Rows w)) (Flat f) p h = absurd h
-plain_typed (PackOf (Rows w)) (Pack fs) p h = h
-plain_typed (PackOf (Stream w)) (Flat f) p h = absurd h
-plain_typed (PackOf (Stream w)) (Pack fs) p h = h
-plain_typed (PackOf (Relation w)) x p h = absurd p
-
--- and such a queue may hold what has its type
-pub typed_plain : (t : QueueType) (x : item.Item) → IsPlain t → HasType t x → IsHeld t x
-unfolding IsHeld
-typed_plain (FlatOf (Rows w)) (Flat f) p h = h
-typed_plain (FlatOf (Rows w)) (Pack fs) p h = absurd h
-typed_plain (FlatOf (Stream w)) (Flat f) p h = h
-typed_plain (FlatOf (Stream w)) (Pack fs) p h = absurd h
-typed_plain (FlatOf (Relation w)) x p h = absurd p
-typed_plain (PackOf (Rows w)) (Flat f) p h = absurd h
-typed_plain (PackOf (Rows w)) (Pack fs) p h = h
-typed_plain (PackOf (Stream w)) (Flat f) p h = absurd h
-typed_plain (PackOf (Stream w)) (Pack fs) p h = h
-typed_plain (PackOf (Relation w)) x p h = absurd p
-
 of_by : (o : Option QueueType) (x : item.Item) → IsPlainBy o → IsHeldBy o x → IsTyped o x
 of_by None x p h = h
-of_by (Some t) x p h = plain_typed t x p h
+of_by (Some t) x p h = (plain_law t x p).0 h
 
 by_of : (o : Option QueueType) (x : item.Item) → IsPlainBy o → IsTyped o x → IsHeldBy o x
 by_of None x p h = h
-by_of (Some t) x p h = typed_plain t x p h
+by_of (Some t) x p h = (plain_law t x p).1 h
 
 -- an item that a queue of no relation may hold has the queue's type
 pub of_plain : (ts : List QueueType) (p : ℕ) (x : item.Item) → IsPlainBy (slice_get ts p) → IsHeldOf ts p x → IsOf ts p x

@@ -13,7 +13,7 @@ use Rattle.river_base.specs.Held.{held, held_flat, held_flats, held_item, held_f
 use Rattle.river_base.specs.Held.{HasFlatType, HasType, MayHold, IsHeld, IsPlain, HaveWidth}
 use Rattle.river_base.proofs.HeldLemmas.{held-plain, held-relation, held-packs}
 use Rattle.kern_changes.proofs.Widths.{cancelled_of}
-use Rattle.brooklet_step.proofs.GivenLemmas.{typed_plain}
+use Rattle.brooklet_step.proofs.HeldLaws.{plain_law}
 
 abbrev Bag : Type 0
 Bag = List (List ℤ)
@@ -74,7 +74,7 @@ may_items t w wide may before (x ∷ xs) h a =
     (may_items t w wide may (after_item before x) xs (wide before x h head) (All-tail (HasType t) x xs a))
 
 plain_all : (t : QueueType) (past xs : List item.Item) → IsPlain t → All (HasType t) xs → All (IsHeld t) (held t past xs)
-plain_all t past xs p h = subst (All (IsHeld t)) (sym (held-plain t past xs p)) (All-weaker (HasType t) (IsHeld t) (λ x k. typed_plain t x p k) xs h)
+plain_all t past xs p h = subst (All (IsHeld t)) (sym (held-plain t past xs p)) (All-weaker (HasType t) (IsHeld t) (λ x k. (plain_law t x p).1 k) xs h)
 
 -- what a queue holds for typed items after typed items is what it may hold
 pub all_held_typed : (t : QueueType) (past xs : List item.Item) → All (HasType t) past → All (HasType t) xs → All (IsHeld t) (held t past xs)

@@ -1,5 +1,6 @@
 -- Firings of joiners, on items as they are and on changes.
-use Rattle.std.proofs.Common.{◌≡◌, ◌≢◌, ℕ, ℤ, zero, suc, ◌<◌, ◌≤◌, Option, Some, None, List, [], ◌∷◌, ◌++◌, length, replicate, refl, sym, ap, ◌∙◌, subst, arith, inl, inr, ⊎_elim}
+use Rattle.std.proofs.Common.{◌≡◌, ◌≢◌, ℕ, ℤ, zero, suc, ◌<◌, ◌≤◌, Option, Some, None, List, [], ◌∷◌, ◌++◌, length, replicate}
+use Rattle.std.proofs.Common.{refl, sym, ap, ◌∙◌, subst, arith, inl, inr, ⊎_elim}
 use Rattle.std.specs.Prelude.{All, slice_get, ◌⊎◌}
 use Rattle.std.proofs.lemmas.Bool.{cases_eq, cases_lt}
 use Rattle.std.proofs.lemmas.List.{append-nil, length-replicate, length-map}
@@ -17,15 +18,16 @@ use Rattle.river_base.specs.Number.{count_of}
 use Rattle.river_base.specs.Places.{each_grew, append_at, list_at, only, none}
 use Rattle.river_base.proofs.HeldLemmas.{held-relation, held-packs, content-append}
 use Rattle.river_base.proofs.PlaceLemmas.{each_grew_cong, length-append_at}
+use Rattle.kern_rows.specs.Joined as joined
+use Rattle.kern_rows.specs.Joined.{JoinKept, join_start, put_item, HasJoinShape, IsUnchanged, PassesOpened, AreOpened, StandsForJoining, JoinedItems, JoinsItems}
+use Rattle.kern_rows.specs.Joined.{JoinedPlainly, JoinsPlainly, flat_in, MayOwe, IsJoinOf, KeepsJoin}
 use Rattle.kern_rows.specs.Needs.{HaveShares}
 use Rattle.kern_rows.specs.Turns.{Turns, shares, ones, put, settled, itself}
 use Rattle.kern_changes.specs.declared.owed.Debt.{Debt}
-use Rattle.kern_changes.specs.Joined as joined
-use Rattle.kern_changes.specs.Joined.{JoinKept, join_start, put_item, HasJoinShape, IsUnchanged, PassesOpened, AreOpened, StandsForJoining, JoinedItems, JoinsItems}
-use Rattle.kern_changes.specs.Joined.{JoinedPlainly, JoinsPlainly, flat_in, MayOwe, IsJoinOf, KeepsJoin}
-use Rattle.kern_changes.specs.Owed.{OweLittle, AreDebtsOf}
-use Rattle.kern_changes.proofs.JoinLaws.{held_from-append}
-use Rattle.kern_changes.proofs.LawProofs.{starts_hold}
+use Rattle.kern_changes.specs.Owed.{OweLittle, AreDebtsOf, no_debt}
+use Rattle.kern_rows.proofs.JoinLaws.{held_from-append}
+use Rattle.kern_changes.proofs.LawProofs.{nothing_holds}
+use Rattle.kern_rows.proofs.Passed.{start_joined}
 use Rattle.river_kernels.specs.declared.types.VarKind.{VarKind}
 use Rattle.river_kernels.specs.Fits.{Fits}
 use Rattle.river_kernels.specs.Kern.{Kern, collect, unpack}
@@ -42,11 +44,13 @@ use Rattle.brooklet_model.proofs.Typing.{fire_typed}
 use Rattle.brooklet_step.specs.declared.emit.Emit.{Emit}
 use Rattle.brooklet_step.specs.declared.state.State.{State}
 use Rattle.brooklet_step.specs.declared.state.State.TheVariants as state
+use Rattle.brooklet_step.specs.Stands.{IsPack}
 use Rattle.brooklet_step.specs.Took.{Took}
-use Rattle.brooklet_step.specs.Given.{held_by, held_at, IsHeldBy, IsHeldOf, AreHeldOf, IsPlainBy, IsRelationBy, columns_by, ran, FitState, FitJoiner, JoinsAfter, JoinAfter}
-use Rattle.brooklet_step.specs.Given.{StandsAfter, TookHeld, Does, FiresAt, CanTake}
+use Rattle.brooklet_step.specs.Given.{held_by, held_at, IsHeldBy, IsHeldOf, AreHeldOf, IsPlainBy, IsRelationBy, columns_by, ran, FitState, FitJoiner}
+use Rattle.brooklet_step.specs.Given.{ContentsWait, JoinStands, StandsAfter, TookHeld, Does, FiresAt, CanTake}
 use Rattle.brooklet_step.proofs.DealFires.{start_wide}
 use Rattle.brooklet_step.proofs.GivenLemmas.{at-plain, at_next, ran_more, not_both}
+use Rattle.brooklet_step.proofs.OnePort.{same_item, same_state, same_columns}
 use Rattle.brooklet_step.proofs.RowFires.{got_many}
 
 -- PORTS OF ONE TYPE
@@ -101,9 +105,6 @@ may_owe (FlatOf (Relation n)) s h = h n refl
 may_owe (PackOf (Rows n)) s h = tt
 may_owe (PackOf (Stream n)) s h = tt
 may_owe (PackOf (Relation n)) s h = h n refl
-
-same_columns : (m n : ℕ) → Some m ≡ Some n → m ≡ n
-same_columns m n e = cc
 
 no_columns : {A : Type 0} (n : ℕ) → None ≡ Some n → A
 no_columns n e = absurd (cc e)
@@ -174,12 +175,6 @@ list_past (l ∷ ls) (suc p) le = list_past ls p (omega (arith, le))
 at_other : (p q : ℕ) (w : Word) (x : item.Item) → p ≢ q → at_port q (w ++ (p, x) ∷ []) ≡ at_port q w
 at_other p q w x ne = at_port-append q w ((p, x) ∷ []) ∙ ap (λ l. at_port q w ++ l) (at_port_past q (p, x) [] ne) ∙ append-nil (at_port q w)
 
-head_item : (x i : item.Item) → x ∷ [] ≡ i ∷ [] → x ≡ i
-head_item x i e = cc
-
-head_is : (s t : State) → s ∷ [] ≡ t ∷ [] → s ≡ t
-head_is s t h = cc
-
 same_join : (a b : JoinKept) → state.Join a ≡ state.Join b → a ≡ b
 same_join a b h = cc
 
@@ -227,12 +222,12 @@ module _ (k : Kern) (wl : List ℕ) (give : item.Item → List item.Item) (m : �
       (opens x (of_type port x tx).1)
 
   module _ (vars : List VarKind) (fits : Fits k types (given ∷ []) vars) (start : List Kept) (w : Word) (x : item.Item) (is_start : IsStart k types start)
-      (tw : IsWordOf types w) (tx : IsOf types port x) (sa : JoinAfter k wl types start (s ∷ []) w) (h : held_at types port (at_port port w) (x ∷ []) ≡ i ∷ []) where
+      (tw : IsWordOf types w) (tx : IsOf types port x) (sa : JoinStands k wl types start (s ∷ []) w) (h : held_at types port (at_port port w) (x ∷ []) ≡ i ∷ []) where
     abbrev before : Fired
     before = ran k start w
 
     same : old ≡ sa.now
-    same = same_join old sa.now (sym es ∙ head_is s (state.Join sa.now) sa.code)
+    same = same_join old sa.now (sym es ∙ same_state s (state.Join sa.now) sa.code)
 
     shape_is : HasJoinShape wl old
     shape_is = subst (HasJoinShape wl) (sym same) sa.shape
@@ -249,11 +244,11 @@ module _ (k : Kern) (wl : List ℕ) (give : item.Item → List item.Item) (m : �
     port_below = (of_type port x tx).0
 
     -- items as they are
-    plain_given : IsPlain t → TookHeld (given ∷ []) before out out' (fire k port x before.states) × JoinAfter k wl types start (s' ∷ []) (w ++ (port, x) ∷ [])
+    plain_given : IsPlain t → TookHeld (given ∷ []) before out out' (fire k port x before.states) × JoinStands k wl types start (s' ∷ []) (w ++ (port, x) ∷ [])
     plain_given p =
         let pr : IsPlainBy (slice_get types 0) = plain_alike t m 0 p in
         let states_are : before.states ≡ Joining old.turns ∷ [] = sa.plain pr ∙ ap (λ (n : JoinKept). Joining n.turns ∷ []) (sym same) in
-        let e : x ≡ i = head_item x i (sym (at-plain types port (at_port port w) (x ∷ []) (plain_alike t m port p)) ∙ h) in
+        let e : x ≡ i = same_item x i (sym (at-plain types port (at_port port w) (x ∷ []) (plain_alike t m port p)) ∙ h) in
         let fired : fire k port x before.states ≡ gives 0 (settled give wl (put port i old.turns)).0 (Joining (settled give wl (put port i old.turns)).1 ∷ []) =
         fired_is old.turns states_are
         ∙ ap (λ (y : item.Item). gives 0 (settled give wl (put port y old.turns)).0 (Joining (settled give wl (put port y old.turns)).1 ∷ [])) e in
@@ -277,7 +272,7 @@ module _ (k : Kern) (wl : List ℕ) (give : item.Item → List item.Item) (m : �
         )
 
     -- contents, of which changes came
-    module _ (rel : IsRelation t) (ja : JoinsAfter k start old w) where
+    module _ (rel : IsRelation t) (ja : ContentsWait k start old w) where
       abbrev c : joined.Joining
       c = ja.contents
 
@@ -288,7 +283,7 @@ module _ (k : Kern) (wl : List ℕ) (give : item.Item → List item.Item) (m : �
       line = list_at c.turns.lists port
 
       item_is : i ≡ held_item (content_from [] (at_port port w)) x
-      item_is = sym (head_item (held_item (content_from [] (at_port port w)) x) i (sym (held_changes t (at_port port w) (x ∷ []) rel)
+      item_is = sym (same_item (held_item (content_from [] (at_port port w)) x) i (sym (held_changes t (at_port port w) (x ∷ []) rel)
           ∙ ap (λ o. held_by o (at_port port w) (x ∷ [])) (sym (got_many t m port port_below)) ∙ h))
 
       content_is : content_from (c.now port) line ≡ content_from [] (at_port port w)
@@ -347,7 +342,7 @@ module _ (k : Kern) (wl : List ℕ) (give : item.Item → List item.Item) (m : �
       next_below : (p : ℕ) → p < length left.lists → p < length c.turns.lists
       next_below p lt = subst (λ n. p < n) (sym result.stands.lists ∙ keeps.shape.joined.lists ∙ sym shape_is.joined.lists ∙ ja.stands.lists) lt
 
-      next_joins : JoinsAfter k start new (w ++ (port, x) ∷ [])
+      next_joins : ContentsWait k start new (w ++ (port, x) ∷ [])
       next_joins = record {
         contents = record { turns = left; last = content_from c.last passed; now = result.now };
         defined = (ran_more k start w port x).states ∙ ap (λ (u : Fired). u.states) fired;
@@ -369,10 +364,10 @@ module _ (k : Kern) (wl : List ℕ) (give : item.Item → List item.Item) (m : �
     related : IsRelation t → IsRelationBy (slice_get types 0)
     related rel = subst IsRelationBy (sym first_read) rel
 
-    joins_after : IsRelation t → JoinsAfter k start old w
-    joins_after rel = subst (λ (n : JoinKept). JoinsAfter k start n w) (sym same) (sa.relation (related rel))
+    joins_after : IsRelation t → ContentsWait k start old w
+    joins_after rel = subst (λ (n : JoinKept). ContentsWait k start n w) (sym same) (sa.relation (related rel))
 
-    joined_after : IsRelation t → JoinAfter k wl types start (s' ∷ []) (w ++ (port, x) ∷ [])
+    joined_after : IsRelation t → JoinStands k wl types start (s' ∷ []) (w ++ (port, x) ∷ [])
     joined_after rel = record {
       now = new;
       code = ap (λ (u : State). u ∷ []) es';
@@ -382,13 +377,13 @@ module _ (k : Kern) (wl : List ℕ) (give : item.Item → List item.Item) (m : �
     }
 
     -- either
-    join_given : TookHeld (given ∷ []) before out out' (fire k port x before.states) × JoinAfter k wl types start (s' ∷ []) (w ++ (port, x) ∷ [])
+    join_given : TookHeld (given ∷ []) before out out' (fire k port x before.states) × JoinStands k wl types start (s' ∷ []) (w ++ (port, x) ∷ [])
     join_given = ⊎_elim (λ p. plain_given p) (λ rel. (changes_given rel (joins_after rel), joined_after rel)) (plain_or t)
 
   -- whatever was received: what came may be held, and the state fits again
   module _ (f : FitJoiner wl types (s ∷ [])) (hi : IsHeldOf types port i) where
     fit_same : f.now ≡ old
-    fit_same = sym (same_join old f.now (sym es ∙ head_is s (state.Join f.now) f.code))
+    fit_same = sym (same_join old f.now (sym es ∙ same_state s (state.Join f.now) f.code))
 
     fit_items : AreHeldOf types (list_at old.turns.lists)
     fit_items = subst (λ (n : JoinKept). AreHeldOf types (list_at n.turns.lists)) fit_same f.items
@@ -417,7 +412,8 @@ module _ (k : Kern) (wl : List ℕ) (give : item.Item → List item.Item) (m : �
     lines_held p =
         ⊎_elim
         (λ lt. All-weaker (IsHeld t) (IsHeldOf types p) (λ y g. subst (λ o. IsHeldBy o y) (sym (got_many t m p lt)) g) (list_at new.turns.lists p) (next_of.lines p))
-        (λ ge. subst (All (IsHeldOf types p)) (sym (list_past new.turns.lists p (subst (λ n. n ≤ p) (many ∙ sym keeps.shape.joined.lists) ge))) (All-nil (IsHeldOf types p)))
+        (λ ge. subst (All (IsHeldOf types p)) (sym (list_past new.turns.lists p (subst (λ n. n ≤ p) (many ∙ sym keeps.shape.joined.lists) ge)))
+        (All-nil (IsHeldOf types p)))
         (cases_lt p m)
 
     fit_again : FitJoiner wl types (s' ∷ [])
@@ -452,8 +448,8 @@ collect_does ws i port s s' old new items out out' some es es' took contents pla
     by t vars fits f hi = record {
       gives = record {
         given = λ start w x is_start tw tx sa h.
-            join_given (collect ws) (shares ws) itself (length ws) (FlatOf t) many some (λ p y ss. refl) (λ ss g. g) (alone_opens t) i port s s' old new items out out' es es'
-            took contents plain keeps vars fits start w x is_start tw tx sa h;
+            join_given (collect ws) (shares ws) itself (length ws) (FlatOf t) many some (λ p y ss. refl) (λ ss g. g) (alone_opens t)
+            i port s s' old new items out out' es es' took contents plain keeps vars fits start w x is_start tw tx sa h;
       };
       came = record {
         outs = only 0 items;
@@ -516,12 +512,24 @@ collect_needs ws i port s old out e t =
     let room = t.room.outs in
     let held : IsHeldOf (replicate (length ws) (FlatOf f.0)) port i = subst (λ (l : List QueueType). IsHeldOf l port i) f.1 t.item in (
       shaped (collect ws) t.reads t.fitting.writes t.fitting.vars f,
-      subst (HasJoinShape (shares ws)) (sym (same_join old j.now (sym e ∙ head_is s (state.Join j.now) j.code))) j.joined,
+      subst (HasJoinShape (shares ws)) (sym (same_join old j.now (sym e ∙ same_state s (state.Join j.now) j.code))) j.joined,
       (at_alike (FlatOf f.0) (λ o. IsHeldBy o i) (length ws) port (λ z. z) held).0,
       omega (arith, room),
     )
 
--- and of a joiner of packs
+held_pack : (u : FlatType) (x : item.Item) → IsHeld (PackOf u) x → IsPack x
+unfolding IsHeld
+held_pack u (Flat g) h = absurd h
+held_pack u (Pack fs) h = record { flats = fs; is = refl }
+
+-- what a joiner of packs takes is a pack
+pub unpack_pack : (n : ℕ) (i : item.Item) (port : ℕ) (st : List State) (out : Emit) → CanTake (unpack n) port i st out → IsPack i
+unpack_pack n i port st out t =
+    let f = t.fitting.fits in
+    let held : IsHeldOf (replicate n (PackOf f.0)) port i = subst (λ (l : List QueueType). IsHeldOf l port i) f.1 t.item in
+    held_pack f.0 i (at_alike (PackOf f.0) (λ o. IsHeldBy o i) n port (λ z. z) held).1
+
+-- and its shape, its port and its list are as well
 pub unpack_needs : (n : ℕ) (i : item.Item) (port : ℕ) (s : State) (old : JoinKept) (out : Emit) → s ≡ state.Join old → CanTake (unpack n) port i (s ∷ []) out
     → HaveShares (ones n) × HasJoinShape (ones n) old × (port < n) × (0 < length out.outs)
 unpack_needs n i port s old out e t =
@@ -530,7 +538,7 @@ unpack_needs n i port s old out e t =
     let room = t.room.outs in
     let held : IsHeldOf (replicate n (PackOf f.0)) port i = subst (λ (l : List QueueType). IsHeldOf l port i) f.1 t.item in (
       shaped (unpack n) t.reads t.fitting.writes t.fitting.vars f,
-      subst (HasJoinShape (ones n)) (sym (same_join old j.now (sym e ∙ head_is s (state.Join j.now) j.code))) j.joined,
+      subst (HasJoinShape (ones n)) (sym (same_join old j.now (sym e ∙ same_state s (state.Join j.now) j.code))) j.joined,
       (at_alike (PackOf f.0) (λ o. IsHeldBy o i) n port (λ z. z) held).0,
       omega (arith, room),
     )
@@ -542,11 +550,24 @@ nothing_waits zero p = refl
 nothing_waits (suc n) zero = refl
 nothing_waits (suc n) (suc p) = nothing_waits n p
 
-start_stands : (k : Kern) (n : ℕ) → first_kept k ≡ Joining (join_start n).turns ∷ [] → JoinsAfter k (first_kept k) (join_start n) []
+-- what is kept before the first item stands for empty contents, of which none waits
+start_empty : (n : ℕ) → StandsForJoining (join_start n) (record { turns = (join_start n).turns; last = []; now = λ p. [] })
+start_empty n = record {
+  port = refl;
+  had = refl;
+  lists = refl;
+  lines = λ p lt. nothing_waits n p ∙ ap (held_from []) (sym (nothing_waits n p));
+  owed = nothing_holds.owed n;
+}
+
+start_shape : (wl : List ℕ) → HaveShares wl → HasJoinShape wl (join_start (length wl))
+start_shape wl some = record { joined = start_joined wl some; owed = length-replicate (length wl) no_debt }
+
+start_stands : (k : Kern) (n : ℕ) → first_kept k ≡ Joining (join_start n).turns ∷ [] → ContentsWait k (first_kept k) (join_start n) []
 start_stands k n e = record {
   contents = record { turns = (join_start n).turns; last = []; now = λ p. [] };
   defined = e;
-  stands = starts_hold.joined n;
+  stands = start_empty n;
   given = refl;
   received = λ p lt. ap (content_from []) (nothing_waits n p);
 }
@@ -555,9 +576,9 @@ start_fits : (wl : List ℕ) (n : ℕ) (reads : List QueueType) → n ≡ length
 start_fits wl n reads e some = record {
   now = join_start n;
   code = refl;
-  joined = subst (λ (l : ℕ). HasJoinShape wl (join_start l)) (sym e) (starts_hold.shape wl some);
+  joined = subst (λ (l : ℕ). HasJoinShape wl (join_start l)) (sym e) (start_shape wl some);
   items = λ p. subst (All (IsHeldOf reads p)) (sym (nothing_waits n p)) (All-nil (IsHeldOf reads p));
-  few = starts_hold.little n;
+  few = nothing_holds.little n;
   wide = λ m z. start_wide m n;
 }
 
@@ -567,7 +588,7 @@ pub collect_first_after : (ws : List ℤ) (reads : List QueueType) → HaveShare
 collect_first_after ws reads some = record {
   now = join_start (length ws);
   code = refl;
-  shape = subst (λ (l : ℕ). HasJoinShape (shares ws) (join_start l)) (length-map ws count_of) (starts_hold.shape (shares ws) some);
+  shape = subst (λ (l : ℕ). HasJoinShape (shares ws) (join_start l)) (length-map ws count_of) (start_shape (shares ws) some);
   plain = λ p. refl;
   relation = λ rel. start_stands (collect ws) (length ws) refl;
 }
@@ -583,7 +604,7 @@ pub unpack_first_after : (n : ℕ) (reads : List QueueType) → HaveShares (ones
 unpack_first_after n reads some = record {
   now = join_start n;
   code = refl;
-  shape = subst (λ (l : ℕ). HasJoinShape (ones n) (join_start l)) (length-replicate n 1) (starts_hold.shape (ones n) some);
+  shape = subst (λ (l : ℕ). HasJoinShape (ones n) (join_start l)) (length-replicate n 1) (start_shape (ones n) some);
   plain = λ p. refl;
   relation = λ rel. start_stands (unpack n) n refl;
 }

@@ -1,4 +1,4 @@
--- What a queue may hold: how the parts of a change are searched for rows in common, and what items these are.
+-- How the parts of a change are searched for rows in common.
 use Rattle.std.proofs.Common.{◌≡◌, ℕ, ℤ, ◌+◌, ◌<◌, ◌≤◌, Bool, true, false, Result, Ok, Err, List, [], ◌∷◌, length, get_or, take, Ordering}
 use Rattle.std.proofs.Common.{refl, sym, ap, ◌∙◌, subst, arith, inl, inr, ⊎_elim}
 use Rattle.std.specs.Prelude.{◌⊎◌, All, IsTrue, is_err}
@@ -9,18 +9,8 @@ use Rattle.std.proofs.lemmas.Bool.{true≢false, cases_lt}
 use Rattle.std.proofs.lemmas.List.Elements.{All-head, All-tail, All-cons, All-nil, All-get_or, All-more}
 use Rattle.std.proofs.lemmas.List.{take_all}
 use Rattle.std.proofs.lemmas.List.Sorted.{searchable_from_sorted}
-use Rattle.river_base.specs.declared.item.Change.{Change}
-use Rattle.river_base.specs.declared.item.Flat as flat
-use Rattle.river_base.specs.declared.item.Item as item
-use Rattle.river_base.specs.declared.item.Flat.TheVariants.{One, Batch as Batched, Change as Changed}
-use Rattle.river_base.specs.declared.item.Item.TheVariants.{Flat, Pack}
-use Rattle.river_base.specs.declared.kind.FlatType.TheVariants.{Rows, Stream, Relation}
-use Rattle.river_base.specs.declared.kind.QueueType.TheVariants.{Flat as FlatOf, Pack as PackOf}
-use Rattle.river_base.specs.Held.{IsHeld, MayHold}
 use Rattle.river_base.specs.Row.{IsAscending, row_eq, row_cmp, row_ties, row_total, copies}
-use Rattle.river_base.specs.Changes.{IsChangeOf}
 use Rattle.river_base.proofs.Counts.{row_itself, same_row, count-cons, count_pass, count_fail}
-use Rattle.brooklet_step.specs.Laws.{IsChangeItem, PlainQueuesHoldTyped, RelationsHoldChanges}
 
 -- ROWS IN COMMON
 
@@ -71,7 +61,8 @@ missing_by x ys (Ok k) up low found = (
 missing_by x ys (Err k) up low found = (
   (λ t.
       let p = found (searchable_from_sorted row_total (λ y. y) ys x up) in
-      none_alike x ys (λ i d lt. ⊎_elim (λ a. alike_by x (get_or ys i d) Less (p.0 i d (omega arith) a)) (λ a. alike_by x (get_or ys i d) Greater (p.1 i d a lt)) (cases_lt i k))),
+      none_alike x ys (λ i d lt. ⊎_elim (λ a. alike_by x (get_or ys i d) Less (p.0 i d (omega arith) a))
+      (λ a. alike_by x (get_or ys i d) Greater (p.1 i d a lt)) (cases_lt i k))),
   (λ z. refl),
 )
 
@@ -99,58 +90,3 @@ not_apart xs ys i x b lt is h fails apart =
 -- no row is there
 pub apart_at_end : (xs ys : List (List ℤ)) (i : ℕ) → length xs ≤ i → All (λ z. copies z ys ≡ 0) (take i xs) → (row : List ℤ) → (copies row xs ≡ 0) ⊎ (copies row ys ≡ 0)
 apart_at_end xs ys i le h = apart_from_all xs ys (subst (All (λ z. copies z ys ≡ 0)) (take_all i xs le) h)
-
--- THE LAWS
-
--- what a queue of no relation may hold is what has its type
-pub plain_law : PlainQueuesHoldTyped
-unfolding IsHeld
-plain_law (FlatOf (Rows w)) (Flat f) p = ((λ h. h), (λ h. h))
-plain_law (FlatOf (Rows w)) (Pack fs) p = ((λ h. h), (λ h. h))
-plain_law (FlatOf (Stream w)) (Flat f) p = ((λ h. h), (λ h. h))
-plain_law (FlatOf (Stream w)) (Pack fs) p = ((λ h. h), (λ h. h))
-plain_law (FlatOf (Relation w)) x p = absurd p
-plain_law (PackOf (Rows w)) (Flat f) p = ((λ h. h), (λ h. h))
-plain_law (PackOf (Rows w)) (Pack fs) p = ((λ h. h), (λ h. h))
-plain_law (PackOf (Stream w)) (Flat f) p = ((λ h. h), (λ h. h))
-plain_law (PackOf (Stream w)) (Pack fs) p = ((λ h. h), (λ h. h))
-plain_law (PackOf (Relation w)) x p = absurd p
-
-may_change : (n : ℕ) (f : flat.Flat) → MayHold (Relation n) f → IsChangeItem n f
-may_change n (One row) h = absurd h
-may_change n (Batched b) h = absurd h
-may_change n (Changed c) h = (c, refl, h)
-
-change_may : (n : ℕ) (f : flat.Flat) → IsChangeItem n f → MayHold (Relation n) f
-change_may n f h = subst (MayHold (Relation n)) (sym h.1) h.2
-
-may_changes : (n : ℕ) (fs : List flat.Flat) → All (MayHold (Relation n)) fs → All (IsChangeItem n) fs
-may_changes n fs h k d lt = may_change n (get_or fs k d) (h k d lt)
-
-changes_may : (n : ℕ) (fs : List flat.Flat) → All (IsChangeItem n) fs → All (MayHold (Relation n)) fs
-changes_may n fs h k d lt = change_may n (get_or fs k d) (h k d lt)
-
-relation_holds : (n : ℕ) (x : item.Item) → IsHeld (FlatOf (Relation n)) x → (c : Change) × (x ≡ Flat (Changed c)) × IsChangeOf n c
-unfolding IsHeld
-relation_holds n (Flat f) h = let m = may_change n f h in (m.0, ap (λ g. Flat g) m.1, m.2)
-relation_holds n (Pack fs) h = absurd h
-
-holds_change : (n : ℕ) (c : Change) → IsChangeOf n c → IsHeld (FlatOf (Relation n)) (Flat (Changed c))
-unfolding IsHeld
-holds_change n c h = h
-
-packs_hold : (n : ℕ) (x : item.Item) → IsHeld (PackOf (Relation n)) x → (fs : List flat.Flat) × (x ≡ Pack fs) × All (IsChangeItem n) fs
-unfolding IsHeld
-packs_hold n (Flat f) h = absurd h
-packs_hold n (Pack fs) h = (fs, refl, may_changes n fs h)
-
-holds_pack : (n : ℕ) (fs : List flat.Flat) → All (IsChangeItem n) fs → IsHeld (PackOf (Relation n)) (Pack fs)
-unfolding IsHeld
-holds_pack n fs h = changes_may n fs h
-
--- a queue of a relation may hold normalised changes alone
-pub relation_law : RelationsHoldChanges
-relation_law n x = (
-  ((λ h. relation_holds n x h), (λ h. subst (IsHeld (FlatOf (Relation n))) (sym h.1) (holds_change n h.0 h.2))),
-  ((λ h. packs_hold n x h), (λ h. subst (IsHeld (PackOf (Relation n))) (sym h.1) (holds_pack n h.0 h.2))),
-)

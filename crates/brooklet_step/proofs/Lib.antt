@@ -12,6 +12,7 @@ pub mod GivenCode
 pub mod GivenFires
 pub mod GivenLemmas
 pub mod GivenParts
+pub mod HeldLaws
 pub mod HeldTyped
 pub mod JoinFires
 pub mod KeptTables

@@ -1,23 +1,27 @@
--- States that stand for some of the definition: all that fit do, where no relation passes.
-use Rattle.std.proofs.Common.{◌≡◌, ℕ, ℤ, zero, suc, List, [], ◌∷◌, ◌++◌, length, take, drop, replicate, refl, sym, subst}
+-- States that stand for some of the definition: where no relation passes all that fit do, and a word of firings can be cut anywhere.
+use Rattle.std.proofs.Common.{◌≡◌, ℕ, ℤ, zero, suc, List, [], ◌∷◌, ◌++◌, length, take, drop, replicate, refl, sym, ap, ◌∙◌, subst}
 use Rattle.std.specs.Prelude.{slice_get}
 use Rattle.river_base.specs.Places.{list_at}
 use Rattle.river_base.specs.declared.kind.QueueType.{QueueType}
 use Rattle.river_base.specs.declared.kind.QueueType.TheVariants.{Flat as FlatOf, Pack as PackOf}
+use Rattle.kern_rows.specs.Turns.{shares, ones}
 use Rattle.river_kernels.specs.Fits.{Fits}
 use Rattle.river_kernels.specs.Types.{types_of}
 use Rattle.river_kernels.specs.Kern.{Kern, code, filter, duplicate, deal, collect, packed, unpack, window, select, project, cross, streamer, tally, fused}
 use Rattle.brooklet_model.specs.Firings.{Kept, Turn, Joining}
 use Rattle.brooklet_model.specs.Fire.{privates}
-use Rattle.brooklet_model.specs.Shapes.{HasShape}
+use Rattle.brooklet_model.specs.Shapes.{IsShaped, HasShape}
 use Rattle.brooklet_model.specs.Typed.{Holds, between}
+use Rattle.brooklet_model.specs.Words.{Word, word_of}
 use Rattle.brooklet_model.proofs.Lists.{take_front, drop_front}
+use Rattle.brooklet_model.proofs.Ports.{shaped}
 use Rattle.brooklet_model.proofs.Shapes.{shape_length}
 use Rattle.brooklet_model.proofs.Typing.{between_is}
 use Rattle.brooklet_step.specs.declared.state.State.{State}
-use Rattle.brooklet_step.specs.Given.{IsPlainBy, FitState, StandsAfter}
+use Rattle.brooklet_step.specs.Given.{IsPlainBy, FitState, ran, JoinStands, StandsAfter}
 use Rattle.brooklet_step.specs.Laws.{StandForSome, PassesNone, FitStatesStand, FiringsStep}
-use Rattle.brooklet_step.proofs.GivenLemmas.{IsSimple, simple_kept, simple_from, not_both, all_of}
+use Rattle.brooklet_step.proofs.GivenLemmas.{IsSimple, simple_kept, simple_to, simple_from, not_both, all_of, ran_length}
+use Rattle.brooklet_step.proofs.GivenParts.{packed_states, fused_ran}
 use Rattle.brooklet_step.proofs.Standing.{stands_shape}
 
 -- STATES THAT FIT STAND FOR SOME
@@ -74,7 +78,9 @@ ports_alike t (suc zero) h (suc p) = tt
 ports_alike t (suc (suc n)) h (suc p) = ports_alike t (suc n) h p
 
 alike : (is : List QueueType) (t : QueueType) (n : ℕ) → is ≡ replicate n t → IsPlainBy (slice_get is 0) → (p : ℕ) → IsPlainBy (slice_get is p)
-alike is t n e h = subst (λ (l : List QueueType). (p : ℕ) → IsPlainBy (slice_get l p)) (sym e) (ports_alike t n (subst (λ (l : List QueueType). IsPlainBy (slice_get l 0)) e h))
+alike is t n e h =
+    subst (λ (l : List QueueType). (p : ℕ) → IsPlainBy (slice_get l p)) (sym e)
+    (ports_alike t n (subst (λ (l : List QueueType). IsPlainBy (slice_get l 0)) e h))
 
 packed_stand : (k : Kern) (is : List QueueType) (st : List State) → StandForSome k is st → StandForSome (packed k) is st
 packed_stand k is st r = record { start = r.start; is_start = record { shape = r.is_start.shape; holds = r.is_start.holds }; stands = r.stands }
@@ -98,7 +104,8 @@ fused_stand a b at is inner st e ra rb =
       };
       stands = (
         subst (λ (ss : List Kept). StandsAfter a is ss (take n st) []) (sym ta) ra.stands,
-        subst (λ (ss : List Kept). StandsAfter b (between at (types_of a is)) ss (drop n st) []) (sym tb) (subst (λ (l : List QueueType). StandsAfter b l rb.start (drop n st) []) e rb.stands),
+        subst (λ (ss : List Kept). StandsAfter b (between at (types_of a is)) ss (drop n st) []) (sym tb)
+            (subst (λ (l : List QueueType). StandsAfter b l rb.start (drop n st) []) e rb.stands),
       );
     }
 
@@ -124,6 +131,52 @@ fit_law (fused a b at) is os vs st f n h =
     (fit_law a is f.0 f.3 (take (privates a) st) f.5 n.0 h.0)
     (fit_law b (f.1 ∷ []) f.2 f.4 (drop (privates a) st) f.7 (subst (PassesNone b) mid n.1) (subst (λ (l : List QueueType). FitState b l (drop (privates a) st)) mid h.1))
 
+-- THE STATES AFTER A WORD AS A START
+
+simple_moved : (k : Kern) (is : List QueueType) (ss : List Kept) (st : List State) (w : Word) → IsSimple k → StandsAfter k is ss st w
+    → StandsAfter k is (ran k ss w).states st []
+simple_moved k is ss st w l h = simple_from k is (ran k ss w).states st [] l (simple_to k is ss st w l h)
+
+deal_moved : (ws : List ℤ) (is : List QueueType) (ss : List Kept) (st : List State) (w : Word) → IsPlainBy (slice_get is 0) → StandsAfter (deal ws) is ss st w
+    → StandsAfter (deal ws) is (ran (deal ws) ss w).states st []
+deal_moved ws is ss st w p h = record { stands = h.stands; owed = λ rel. absurd (not_both (slice_get is 0) p rel) }
+
+join_moved : (k : Kern) (ws : List ℕ) (is : List QueueType) (ss : List Kept) (st : List State) (w : Word) → IsPlainBy (slice_get is 0)
+    → JoinStands k ws is ss st w → JoinStands k ws is (ran k ss w).states st []
+join_moved k ws is ss st w p h =
+    record { now = h.now; code = h.code; shape = h.shape; plain = h.plain; relation = λ rel. absurd (not_both (slice_get is 0) p rel) }
+
+-- where no relation passes, what stands for the states after a word stands for them as a start
+pub moved : (k : Kern) (is : List QueueType) (ss : List Kept) (st : List State) (w : Word) → IsShaped k → HasShape k ss → PassesNone k is → StandsAfter k is ss st w
+    → StandsAfter k is (ran k ss w).states st []
+moved (code k) is ss st w s c n h = simple_moved (code k) is ss st w tt h
+moved (filter f) is ss st w s c n h = simple_moved (filter f) is ss st w tt h
+moved (duplicate m) is ss st w s c n h = simple_moved (duplicate m) is ss st w tt h
+moved (deal ws) is ss st w s c n h = deal_moved ws is ss st w n h
+moved (collect ws) is ss st w s c n h = join_moved (collect ws) (shares ws) is ss st w n h
+moved (packed k) is ss st w s c n h =
+    subst (λ (us : List Kept). StandsAfter k is us st []) (sym (packed_states k w ss)) (moved k is ss st w s.0 c n h)
+moved (unpack m) is ss st w s c n h = join_moved (unpack m) (ones m) is ss st w n h
+moved (window v) is ss st w s c n h = absurd n
+moved (select e) is ss st w s c n h = simple_moved (select e) is ss st w tt h
+moved (project es) is ss st w s c n h = absurd n
+moved cross is ss st w s c n h = absurd n
+moved (streamer r) is ss st w s c n h = absurd n
+moved tally is ss st w s c n h = simple_moved tally is ss st w tt h
+moved (fused a b at) is ss st w s c n h =
+    let m = privates a in
+    let inner = between at (types_of a is) in
+    let wa = ran a (take m ss) w in
+    let wb = word_of 0 (wa.outs at) in
+    let rb = ran b (drop m ss) wb in
+    let parts = fused_ran a b at ss w s c in
+    let own : length wa.states ≡ m = ran_length a (take m ss) w s.0 c.0 in
+    let ta : take m (ran (fused a b at) ss w).states ≡ wa.states = ap (take m) parts.states ∙ take_front wa.states rb.states m own in
+    let tb : drop m (ran (fused a b at) ss w).states ≡ rb.states = ap (drop m) parts.states ∙ drop_front wa.states rb.states m own in (
+      subst (λ (us : List Kept). StandsAfter a is us (take m st) []) (sym ta) (moved a is (take m ss) (take m st) w s.0 c.0 n.0 h.0),
+      subst (λ (us : List Kept). StandsAfter b inner us (drop m st) []) (sym tb) (moved b inner (drop m ss) (drop m st) wb s.1 c.1 n.1 h.1),
+    )
+
 -- A FIRING AS THE FIRST
 
 -- from whatever states they stand for, a firing is the definition's
@@ -131,4 +184,9 @@ pub step_law : FiringsStep
 step_law k is os vs port i x st st' out out' now f fs hi fires start stands tx held =
     let d = fires.each is os vs f fs hi in
     let g = d.gives.given now [] x start tt tx stands held in
-    record { outs = g.0.outs; adds = g.0.adds; next = g.1 }
+    record {
+      outs = g.0.outs;
+      adds = g.0.adds;
+      after = g.1;
+      next = λ none. moved k is now st' ((port, x) ∷ []) (shaped k is os vs f) start.shape none g.1;
+    }

@@ -7,23 +7,22 @@ use Rattle.river_base.specs.declared.item.Item.TheVariants.{Flat}
 use Rattle.river_base.specs.declared.kind.FlatType.TheVariants.{Relation}
 use Rattle.river_base.specs.declared.kind.QueueType.{QueueType}
 use Rattle.river_base.specs.declared.kind.QueueType.TheVariants.{Flat as FlatOf, Pack as PackOf}
+use Rattle.river_base.specs.Changes.{last_content}
 use Rattle.river_base.specs.Held.{held, content_from, IsHeld, IsPlain, IsRelation, HaveWidth, batches}
 use Rattle.river_base.specs.Places.{each_grew, list_at}
+use Rattle.kern_rows.specs.Joined.{JoinKept, HasJoinShape, StandsForJoining}
+use Rattle.kern_rows.specs.Joined as joined
+use Rattle.kern_rows.specs.Dealing.{Dealt}
 use Rattle.kern_rows.specs.Forms.{FilterForm, RunForm}
 use Rattle.kern_rows.specs.Stands.{Waiting, needs_now}
 use Rattle.kern_rows.specs.Turns.{IsTurn, shares, ones}
 use Rattle.kern_bags.specs.Contents.{content_of, product}
+use Rattle.kern_bags.specs.Following.{CrossKept, StandsForCrossing, IsCrossOf, KeepsContent}
+use Rattle.kern_bags.specs.Following as following
 use Rattle.kern_bags.specs.Kept.{Stamped, WindowKept, IsWindowKept, StandsForWindow}
 use Rattle.kern_bags.specs.Steps.{last_rows}
 use Rattle.kern_bags.specs.declared.kernel.Streamer.{Streamer}
-use Rattle.kern_bags.specs.declared.kernel.Streamer.TheVariants.{Istream, Dstream, Rstream}
 use Rattle.kern_bags.specs.declared.kernel.Window.{Window}
-use Rattle.kern_changes.specs.Counted.{AreSame}
-use Rattle.river_base.specs.Changes.{last_content}
-use Rattle.kern_changes.specs.Joined.{JoinKept, HasJoinShape, StandsForJoining}
-use Rattle.kern_changes.specs.Joined as joined
-use Rattle.kern_changes.specs.Kept.{CrossKept, StandsForCrossing, IsCrossOf}
-use Rattle.kern_changes.specs.Kept as kept
 use Rattle.kern_changes.specs.Owed.{AreOwed, OweLittle, AreDebtsOf}
 use Rattle.river_kernels.specs.declared.types.VarKind.{VarKind}
 use Rattle.river_kernels.specs.Fits.{Fits, stream, relation}
@@ -34,7 +33,6 @@ use Rattle.brooklet_model.specs.Fire.{fire, privates, outs, tabs}
 use Rattle.brooklet_model.specs.Typed.{IsOf, IsWordOf, IsStart, between, widths_in, AreWide}
 use Rattle.brooklet_model.specs.Words.{Word, run, at_port, word_of}
 use Rattle.brooklet_step.specs.declared.emit.Emit.{Emit}
-use Rattle.brooklet_step.specs.declared.state.Dealt.{Dealt}
 use Rattle.brooklet_step.specs.declared.state.State.{State}
 use Rattle.brooklet_step.specs.declared.state.State.TheVariants as state
 use Rattle.brooklet_step.specs.Stands.{StandsFor, StandsForTurn}
@@ -170,13 +168,13 @@ ran k start w = run (fire k) w start
 
 -- a splitter: its turn; and where it deals a relation, what each list owes leads from the content last given there to the content last
 -- received
-pub record DealAfter (ws : List ℤ) (reads : List QueueType) (start : List Kept) (st : List State) (w : Word) : Type 0 where
+pub record DealStands (ws : List ℤ) (reads : List QueueType) (start : List Kept) (st : List State) (w : Word) : Type 0 where
   pub stands : StandsForTurn (shares ws) st (ran (deal ws) start w).states
   pub owed : IsRelationBy (slice_get reads 0)
       → AreOwed stands.now.owed (λ p. content_from [] ((ran (deal ws) start w).outs p)) (λ p. content_from [] (at_port 0 w))
 
 -- a joiner of relations: what waits stands for the items that wait there by the definition, after contents that passed
-pub record JoinsAfter (k : Kern) (start : List Kept) (now : JoinKept) (w : Word) : Type 0 where
+pub record ContentsWait (k : Kern) (start : List Kept) (now : JoinKept) (w : Word) : Type 0 where
   pub contents : joined.Joining
   pub defined : (ran k start w).states ≡ Joining contents.turns ∷ []
   pub stands : StandsForJoining now contents
@@ -184,15 +182,15 @@ pub record JoinsAfter (k : Kern) (start : List Kept) (now : JoinKept) (w : Word)
   pub received : (p : ℕ) → p < length contents.turns.lists → content_from (contents.now p) (list_at contents.turns.lists p) ≡ content_from [] (at_port p w)
 
 -- a joiner: the items themselves wait, or changes that stand for them
-pub record JoinAfter (k : Kern) (ws : List ℕ) (reads : List QueueType) (start : List Kept) (st : List State) (w : Word) : Type 0 where
+pub record JoinStands (k : Kern) (ws : List ℕ) (reads : List QueueType) (start : List Kept) (st : List State) (w : Word) : Type 0 where
   pub now : JoinKept
   pub code : st ≡ state.Join now ∷ []
   pub shape : HasJoinShape ws now
   pub plain : IsPlainBy (slice_get reads 0) → (ran k start w).states ≡ Joining now.turns ∷ []
-  pub relation : IsRelationBy (slice_get reads 0) → JoinsAfter k start now w
+  pub relation : IsRelationBy (slice_get reads 0) → ContentsWait k start now w
 
 -- a window: the batches that it has received, of which it keeps what it keeps; what was given is its content
-pub record WindowAfter (v : Window) (start : List Kept) (st : List State) (w : Word) : Type 0 where
+pub record WindowStands (v : Window) (start : List Kept) (st : List State) (w : Word) : Type 0 where
   pub now : WindowKept
   pub past : List item.Item
   pub code : st ≡ state.Window now ∷ []
@@ -205,9 +203,9 @@ abbrev pub as_batches : List Batch → List item.Item
 as_batches bs = map (λ b. Flat (Batched b)) bs
 
 -- a product: the contents that passed last and those that wait, for which the kept changes stand
-pub record CrossAfter (start : List Kept) (st : List State) (w : Word) : Type 0 where
+pub record CrossStands (start : List Kept) (st : List State) (w : Word) : Type 0 where
   pub now : CrossKept
-  pub contents : kept.Crossing
+  pub contents : following.Crossing
   pub code : st ≡ state.Cross now ∷ []
   pub defined : (ran cross start w).states ≡ Crossing (record { left = as_batches contents.left; right = as_batches contents.right }) ∷ []
   pub stands : StandsForCrossing now contents
@@ -215,14 +213,8 @@ pub record CrossAfter (start : List Kept) (st : List State) (w : Word) : Type 0 
   pub left : content_from [] (at_port 0 w) ≡ last_content contents.lefts contents.left
   pub right : content_from [] (at_port 1 w) ≡ last_content contents.rights contents.right
 
--- what a streamer keeps of the content: all of it as a bag, where it gives all of it
-abbrev pub KeepsContent : Streamer → List (List ℤ) → List (List ℤ) → Type 0
-KeepsContent Istream now content = Unit {0}
-KeepsContent Dstream now content = Unit {0}
-KeepsContent Rstream now content = AreSame now content
-
 -- a streamer: the last of the contents that it has received is that of its queue
-pub record StreamerAfter (s : Streamer) (start : List Kept) (st : List State) (w : Word) : Type 0 where
+pub record StreamerStands (s : Streamer) (start : List Kept) (st : List State) (w : Word) : Type 0 where
   pub now : List (List ℤ)
   pub past : List item.Item
   pub code : st ≡ state.Streamer now ∷ []
@@ -234,13 +226,13 @@ pub record StreamerAfter (s : Streamer) (start : List Kept) (st : List State) (w
 -- they stand for `start`. The queues at the ports begin there too: what a queue has is what it holds for the items of the word, as though
 -- none had come before the start. So where a relation passes, the states stand for such a start alone whose last contents are empty
 abbrev pub StandsAfter : Kern → List QueueType → List Kept → List State → Word → Type 0
-StandsAfter (deal ws) reads start st w = DealAfter ws reads start st w
-StandsAfter (collect ws) reads start st w = JoinAfter (collect ws) (shares ws) reads start st w
+StandsAfter (deal ws) reads start st w = DealStands ws reads start st w
+StandsAfter (collect ws) reads start st w = JoinStands (collect ws) (shares ws) reads start st w
 StandsAfter (packed k) reads start st w = StandsAfter k reads start st w
-StandsAfter (unpack n) reads start st w = JoinAfter (unpack n) (ones n) reads start st w
-StandsAfter (window v) reads start st w = WindowAfter v start st w
-StandsAfter cross reads start st w = CrossAfter start st w
-StandsAfter (streamer s) reads start st w = StreamerAfter s start st w
+StandsAfter (unpack n) reads start st w = JoinStands (unpack n) (ones n) reads start st w
+StandsAfter (window v) reads start st w = WindowStands v start st w
+StandsAfter cross reads start st w = CrossStands start st w
+StandsAfter (streamer s) reads start st w = StreamerStands s start st w
 StandsAfter (fused a b at) reads start st w =
     StandsAfter a reads (take (privates a) start) (take (privates a) st) w
     × StandsAfter b (between at (types_of a reads)) (drop (privates a) start) (drop (privates a) st) (word_of 0 ((ran a (take (privates a) start) w).outs at))

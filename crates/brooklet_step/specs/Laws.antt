@@ -56,16 +56,19 @@ FitStatesStand =
     (k : Kern) (reads writes : List QueueType) (vars : List VarKind) (st : List State) → Fits k reads writes vars → PassesNone k reads → FitState k reads st
     → StandForSome k reads st
 
--- what a firing gave is what queues hold for what the definition gives from the states `now`, and the new states stand for its next ones
+-- what a firing gave is what queues hold for what the definition gives from the states `now`; and the new states stand for what is there
+-- after it. Where no relation passes, they also stand for the definition's next states as a start of their own
 pub record FiredFrom (k : Kern) (reads writes : List QueueType) (port : ℕ) (x : item.Item) (now : List Kept) (out out' : Emit)
     (st' : List State) : Type 0 where
   pub outs : out'.outs ≡ each_grew out.outs (λ p. held_at writes p [] ((fire k port x now).outs p))
   pub adds : out'.adds ≡ each_grew out.adds (fire k port x now).adds
-  pub next : StandsAfter k reads now st' ((port, x) ∷ [])
+  pub after : StandsAfter k reads now st' ((port, x) ∷ [])
+  pub next : PassesNone k reads → StandsAfter k reads (fire k port x now).states st' []
 
 -- let the code's states stand for states of the definition before a firing. Then what is given is what the definition gives from these, and
--- afterwards the code's states stand for the definition's next states. This is so for all such states, and not only for those to
--- which firings lead from the first ones
+-- afterwards the code's states stand for the definition's next states: for those after the firing; and where no relation passes, also
+-- for these as a start, from which a firing can be said again. This is so for all such states, and not only for those to which firings
+-- lead from the first ones
 abbrev pub FiringsStep : Type 0
 FiringsStep =
     (k : Kern) (reads writes : List QueueType) (vars : List VarKind) (port : ℕ) (i x : item.Item) (st st' : List State) (out out' : Emit) (now : List Kept)

@@ -48,8 +48,9 @@ pub fn fit_states_stand()
     ensures { FitStatesStand }
 {}
 
-/// Whatever states of the definition the code's stand for, a firing gives what the definition gives from these, and leads to its
-/// next states.
+/// Whatever states of the definition the code's stand for, a firing gives what the definition gives
+/// from these, and leads to its next states; where no relation passes, the new states stand for
+/// these as a start of their own.
 pub fn firings_step()
     ensures { FiringsStep }
 {}
