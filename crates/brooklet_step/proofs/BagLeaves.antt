@@ -15,23 +15,37 @@ use Rattle.river_base.specs.declared.kind.QueueType.TheVariants.{Flat as FlatOf}
 use Rattle.river_base.specs.Held.{IsHeld, HaveWidth}
 use Rattle.work_code.specs.Term.{Term, Const, Input, Slot, Neg, Not, Bin, depth_of}
 use Rattle.work_code.specs.Value.{IsWithin}
+use Rattle.kern_bags.specs.Following.{CrossKept, put_change, IsCrossOf}
 use Rattle.kern_bags.specs.Kept.{WindowKept, IsWindowKept}
 use Rattle.kern_bags.specs.Needs.{CanRead, CanProject}
+use Rattle.kern_bags.specs.Takes.{CanReadBoth, CanReadFlat, CanProjectBoth, CanProjectFlat, CanCrossChanges, CanCrossFlat}
 use Rattle.kern_bags.specs.declared.kernel.Streamer.{Streamer}
 use Rattle.kern_bags.specs.declared.kernel.Window.{Window}
-use Rattle.kern_changes.specs.Kept.{CrossKept, put_change, IsCrossOf}
-use Rattle.kern_changes.specs.Needs.{CanReadBoth, CanProjectBoth, CanCrossChanges}
+use Rattle.kern_rows.specs.Dealing.{IsChanged}
 use Rattle.river_kernels.specs.Fits.{stream, relation, is_sized, is_bag, width_of}
 use Rattle.river_kernels.specs.Formed.{is_width, is_sound, is_term}
 use Rattle.river_kernels.specs.Kern.{window, select, project, cross, streamer}
 use Rattle.brooklet_step.specs.declared.emit.Emit.{Emit}
 use Rattle.brooklet_step.specs.declared.state.State.{State}
 use Rattle.brooklet_step.specs.declared.state.State.TheVariants as state
-use Rattle.brooklet_step.specs.Stands.{IsBatch, IsChange}
+use Rattle.brooklet_step.specs.Stands.{IsBatch, IsChange, IsFlat}
 use Rattle.brooklet_step.specs.Given.{IsHeldOf, FitCross, CanTake}
 use Rattle.brooklet_step.proofs.OnePort.{held_first, held_change, stream_holds, relation_holds, batch_type, change_type, one_list}
 use Rattle.brooklet_step.proofs.WindowFires.{same_window}
 use Rattle.brooklet_step.proofs.CrossFires.{same_crossing, put_wide}
+
+-- ITEMS
+
+same_flat : (f g : flat.Flat) → Flat f ≡ Flat g → f ≡ g
+same_flat f g h = cc
+
+-- a change is no pack
+pub change_flat : (i : item.Item) → IsChange i → IsFlat i
+change_flat i h = record { content = Changed h.change; is = h.is; holds = tt }
+
+-- and what it is, is a change
+pub flat_changed : (f : flat.Flat) (i : item.Item) → Flat f ≡ i → IsChange i → IsChanged f
+flat_changed f i e h = record { change = h.change; is = same_flat f (Changed h.change) (e ∙ h.is) }
 
 -- WINDOWS
 
@@ -91,7 +105,7 @@ read_type t n e g h =
     subst (λ w. is_term w 0 e ≡ true) h (and_parts (is_bag t) (is_term (width_of t) 0 e) p.1).1
 
 -- a selection can read the rows of a batch that it takes
-pub select_rows_can : (e : Term) (b : Batch) (st : List State) (out : Emit) → CanTake (select e) 0 (Flat (Batched b)) st out → CanRead e b.rows
+select_rows_can : (e : Term) (b : Batch) (st : List State) (out : Emit) → CanTake (select e) 0 (Flat (Batched b)) st out → CanRead e b.rows
 select_rows_can e b st out t =
     let f = t.fitting.fits in
     let i : item.Item = Flat (Batched b) in
@@ -99,13 +113,19 @@ select_rows_can e b st out t =
     can_read k.0 e b.rows (read_type f.0 k.0 e f.4 (ap width_of k.1)) k.2
 
 -- and those of a change
-pub select_can : (e : Term) (c : Change) (st : List State) (out : Emit) → CanTake (select e) 0 (Flat (Changed c)) st out → CanReadBoth e c
+select_can : (e : Term) (c : Change) (st : List State) (out : Emit) → CanTake (select e) 0 (Flat (Changed c)) st out → CanReadBoth e c
 select_can e c st out t =
     let f = t.fitting.fits in
     let i : item.Item = Flat (Changed c) in
     let k = change_type f.0 c (held_first (FlatOf f.0) 0 i (subst (λ l. IsHeldOf l 0 i) f.1 t.item)) in
     let g = read_type f.0 k.0 e f.4 (ap width_of k.1) in
     record { plus = can_read k.0 e c.plus g k.2.wide.plus; minus = can_read k.0 e c.minus g k.2.wide.minus }
+
+-- so it can read what it takes
+pub select_flat_can : (e : Term) (f : flat.Flat) (st : List State) (out : Emit) → CanTake (select e) 0 (Flat f) st out → CanReadFlat e f
+select_flat_can e (One row) st out t = tt
+select_flat_can e (Batched b) st out t = select_rows_can e b st out t
+select_flat_can e (Changed c) st out t = select_can e c st out t
 
 no_row : (t : FlatType) (row : List ℤ) → is_bag t ≡ true → IsHeld (FlatOf t) (Flat (One row)) → ⊥
 unfolding IsHeld
@@ -117,7 +137,7 @@ no_pack : (t : FlatType) (fs : List flat.Flat) → IsHeld (FlatOf t) (Pack fs) �
 unfolding IsHeld
 no_pack t fs h = h
 
--- it takes no row, and no pack
+-- it takes no row
 pub select_no_row : (e : Term) (row : List ℤ) (st : List State) (out : Emit) → CanTake (select e) 0 (Flat (One row)) st out → ⊥
 select_no_row e row st out t =
     let f = t.fitting.fits in
@@ -126,10 +146,15 @@ select_no_row e row st out t =
     let q = and_parts (is_bag f.0) (is_term (width_of f.0) 0 e) p.1 in
     no_row f.0 row q.0 (held_first (FlatOf f.0) 0 i (subst (λ l. IsHeldOf l 0 i) f.1 t.item))
 
-pub select_no_pack : (e : Term) (fs : List flat.Flat) (st : List State) (out : Emit) → CanTake (select e) 0 (Pack fs) st out → ⊥
+select_no_pack : (e : Term) (fs : List flat.Flat) (st : List State) (out : Emit) → CanTake (select e) 0 (Pack fs) st out → ⊥
 select_no_pack e fs st out t =
     let f = t.fitting.fits in
     no_pack f.0 fs (held_first (FlatOf f.0) 0 (Pack fs) (subst (λ l. IsHeldOf l 0 (Pack fs)) f.1 t.item))
+
+-- and no pack
+pub select_item : (e : Term) (i : item.Item) (st : List State) (out : Emit) → CanTake (select e) 0 i st out → IsFlat i
+select_item e (Flat f) st out t = record { content = f; is = refl; holds = tt }
+select_item e (Pack fs) st out t = absurd (select_no_pack e fs st out t)
 
 -- there is a list for what it gives
 pub select_room : (e : Term) (i : item.Item) (st : List State) (out : Emit) → CanTake (select e) 0 i st out → 0 < length out.outs
@@ -157,13 +182,18 @@ module _ (es : List Term) (i : item.Item) (st : List State) (out : Emit) (t : Ca
       let h = relation_holds f.0 i (held_first (relation f.0) 0 i (subst (λ l. IsHeldOf l 0 i) f.1 t.item)) in
       record { change = h.change; is = h.is }
 
-  -- it can read its rows
-  pub project_can : (c : Change) → Flat (Changed c) ≡ i → CanProjectBoth es c
+  project_can : (c : Change) → Flat (Changed c) ≡ i → CanProjectBoth es c
   project_can c e =
       let f = t.fitting.fits in
       let at : IsHeldOf (relation f.0 ∷ []) 0 (Flat (Changed c)) = subst (λ x. IsHeldOf (relation f.0 ∷ []) 0 x) (sym e) (subst (λ l. IsHeldOf l 0 i) f.1 t.item) in
       let w = (held_change f.0 c (held_first (relation f.0) 0 (Flat (Changed c)) at)).wide in
       record { plus = can_project f.0 es c.plus f.4 w.plus; minus = can_project f.0 es c.minus f.4 w.minus }
+
+  -- it can read its rows
+  pub project_flat_can : (f : flat.Flat) → Flat f ≡ i → CanProjectFlat es f
+  project_flat_can f e =
+      let k = flat_changed f i e project_item in
+      subst (CanProjectFlat es) (sym k.is) (project_can k.change (ap (λ x. Flat x) (sym k.is) ∙ e))
 
   pub project_room : 0 < length out.outs
   project_room = one_list (project es) out refl t.room
@@ -193,8 +223,7 @@ module _ (port : ℕ) (i : item.Item) (s : State) (out : Emit) (t : CanTake cros
   pub cross_item : IsChange i
   cross_item = let f = t.fitting.fits in pair_item f.0 f.1 port i (subst (λ l. IsHeldOf l port i) f.2 t.item)
 
-  -- which can be joined with what waits at the other port
-  pub cross_can : (now : CrossKept) (c : Change) → s ≡ state.Cross now → Flat (Changed c) ≡ i → CanCrossChanges (put_change port c now)
+  cross_can : (now : CrossKept) (c : Change) → s ≡ state.Cross now → Flat (Changed c) ≡ i → CanCrossChanges (put_change port c now)
   cross_can now c e g =
       let f = t.fitting.fits in
       let h : FitCross (relation f.0 ∷ relation f.1 ∷ []) (s ∷ []) = subst (λ l. FitCross l (s ∷ [])) f.2 t.fitting.state in
@@ -202,6 +231,12 @@ module _ (port : ℕ) (i : item.Item) (s : State) (out : Emit) (t : CanTake cros
       let at : IsHeldOf (relation f.0 ∷ relation f.1 ∷ []) port (Flat (Changed c)) =
       subst (λ x. IsHeldOf (relation f.0 ∷ relation f.1 ∷ []) port x) (sym g) (subst (λ l. IsHeldOf l port i) f.2 t.item) in
       record { left = f.0; right = f.1; wide = put_wide f.0 f.1 port c now at was }
+
+  -- which can be joined with what waits at the other port
+  pub cross_flat_can : (now : CrossKept) (g : flat.Flat) → s ≡ state.Cross now → Flat g ≡ i → CanCrossFlat port g now
+  cross_flat_can now g e h =
+      let k = flat_changed g i h cross_item in
+      subst (λ x. CanCrossFlat port x now) (sym k.is) (cross_can now k.change e (ap (λ x. Flat x) (sym k.is) ∙ h))
 
   pub cross_room : 0 < length out.outs
   cross_room = one_list cross out refl t.room

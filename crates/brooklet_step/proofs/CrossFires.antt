@@ -6,6 +6,7 @@ use Rattle.std.proofs.lemmas.List.{append-nil, map-append}
 use Rattle.std.proofs.lemmas.List.Elements.{All-head, All-tail, All-cons, All-nil, All-append}
 use Rattle.river_base.specs.declared.item.Batch.{Batch}
 use Rattle.river_base.specs.declared.item.Change.{Change}
+use Rattle.river_base.specs.declared.item.Flat as flat
 use Rattle.river_base.specs.declared.item.Item as item
 use Rattle.river_base.specs.declared.item.Item.TheVariants.{Flat}
 use Rattle.river_base.specs.declared.item.Flat.TheVariants.{Batch as Batched, Change as Changed}
@@ -16,8 +17,10 @@ use Rattle.river_base.proofs.HeldLemmas.{held-relation, content-append}
 use Rattle.kern_bags.specs.Contents.{product}
 use Rattle.kern_bags.specs.Steps.{Pairing, put_pair, crosses, crossed}
 use Rattle.kern_bags.proofs.Pairs.{zipped, crossed_is}
-use Rattle.kern_changes.specs.Kept.{stamped_as, CrossKept, Crossing, crossing, passing, passed_pairs, cross_start, put_change, StandsForCrossing, Crosses, IsCrossOf, CrossFits}
+use Rattle.kern_bags.specs.Following.{stamped_as, CrossKept, Crossing, crossing, passing, passed_pairs, cross_start, put_change, StandsForCrossing}
+use Rattle.kern_bags.specs.Following.{Crosses, IsCrossOf, CrossFits, CrossesFlat, as_changes}
 use Rattle.kern_changes.proofs.Leading.{changes-append, last_content-append}
+use Rattle.kern_rows.specs.Dealing.{IsChanged}
 use Rattle.river_kernels.specs.declared.types.VarKind.{VarKind}
 use Rattle.river_kernels.specs.declared.types.VarKind.TheVariants.{Private}
 use Rattle.river_kernels.specs.Fits.{Fits, relation}
@@ -29,7 +32,6 @@ use Rattle.brooklet_model.specs.Words.{Word, at_port}
 use Rattle.brooklet_model.proofs.Free.{at_port-append}
 use Rattle.brooklet_step.specs.declared.emit.Emit.{Emit}
 use Rattle.brooklet_step.specs.declared.state.State.TheVariants as state
-use Rattle.brooklet_step.specs.Bags.{as_changes}
 use Rattle.brooklet_step.specs.Took.{Took}
 use Rattle.brooklet_step.specs.Given.{IsHeldOf, FitCross, FitState, as_batches, ran, CrossStands, StandsAfter, TookHeld, Gives, FiresAt}
 use Rattle.brooklet_step.proofs.GivenLemmas.{at_next, ran_more}
@@ -268,10 +270,11 @@ put_wide n k (suc (suc p)) c s h of = absurd h
 changes_held : (n : ℕ) (cs : List Change) → All (IsChangeOf n) cs → All (IsHeld (relation n)) (as_changes cs)
 changes_held n [] h = All-nil (IsHeld (relation n))
 changes_held n (c ∷ cs) h =
-    All-cons (IsHeld (relation n)) (Flat (Changed c)) (as_changes cs) (change_held n c (All-head (IsChangeOf n) c cs h)) (changes_held n cs (All-tail (IsChangeOf n) c cs h))
+    All-cons (IsHeld (relation n)) (Flat (Changed c)) (as_changes cs) (change_held n c (All-head (IsChangeOf n) c cs h))
+    (changes_held n cs (All-tail (IsChangeOf n) c cs h))
 
 -- a product's step on a change at a port is a firing
-pub cross_does : (port : ℕ) (c : Change) (ds : List Change) (now now' : CrossKept) (out out' : Emit) → Crosses (put_change port c now) now' [] ds
+cross_does : (port : ℕ) (c : Change) (ds : List Change) (now now' : CrossKept) (out out' : Emit) → Crosses (put_change port c now) now' [] ds
     → CrossFits (put_change port c now) now' [] ds → Took out out' (gives 0 (as_changes ds) [])
     → FiresAt cross port (Flat (Changed c)) out out' (state.Cross now ∷ []) (state.Cross now' ∷ [])
 cross_does port c ds now now' out out' f fits took = record {
@@ -294,3 +297,11 @@ cross_does port c ds now now' out out' f fits took = record {
       }
       );
 }
+
+-- so is what it gives
+pub cross_flat_does : (p : ℕ) (x : flat.Flat) (items : List item.Item) (now now' : CrossKept) (out out' : Emit) → IsChanged x → CrossesFlat p x now now' [] items
+    → Took out out' (gives 0 items []) → FiresAt cross p (Flat x) out out' (state.Cross now ∷ []) (state.Cross now' ∷ [])
+cross_flat_does p x items now now' out out' k h took =
+    let g = h.each k.change k.is in
+    subst (λ y. FiresAt cross p (Flat y) out out' (state.Cross now ∷ []) (state.Cross now' ∷ [])) (sym k.is)
+    (cross_does p k.change g.given now now' out out' g.is.contents g.is.fits (subst (λ l. Took out out' (gives 0 l [])) g.grew took))

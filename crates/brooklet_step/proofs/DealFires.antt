@@ -6,24 +6,25 @@ use Rattle.std.proofs.lemmas.List.{length-replicate, length-map}
 use Rattle.std.proofs.lemmas.List.Elements.{All-cons, All-nil}
 use Rattle.river_base.specs.declared.item.Batch.{Batch}
 use Rattle.river_base.specs.declared.item.Change.{Change}
-use Rattle.river_base.specs.declared.item.Flat.TheVariants.{One, Batch as Batched, Change as Changed}
+use Rattle.river_base.specs.declared.item.Flat.TheVariants.{Batch as Batched, Change as Changed}
 use Rattle.river_base.specs.declared.item.Item as item
-use Rattle.river_base.specs.declared.item.Item.TheVariants.{Flat, Pack}
+use Rattle.river_base.specs.declared.item.Item.TheVariants.{Flat}
 use Rattle.river_base.specs.declared.kind.FlatType.{FlatType}
 use Rattle.river_base.specs.declared.kind.FlatType.TheVariants.{Rows, Stream, Relation}
 use Rattle.river_base.specs.declared.kind.QueueType.{QueueType}
 use Rattle.river_base.specs.declared.kind.QueueType.TheVariants.{Flat as FlatOf}
-use Rattle.river_base.specs.Changes.{change_to, IsChangeOf, LeadsTo}
+use Rattle.river_base.specs.Changes.{change_to, LeadsTo}
 use Rattle.river_base.specs.Held.{held, content_from, HaveWidth, IsHeld, IsPlain, HasType}
 use Rattle.river_base.specs.Number.{count_of}
 use Rattle.river_base.specs.Places.{each_grew, only, none}
 use Rattle.river_base.proofs.HeldLemmas.{held-nil, held-relation, held-plain, content-append}
 use Rattle.river_base.proofs.PlaceLemmas.{each_grew_cong, only_same, only_other}
+use Rattle.kern_rows.specs.Dealing.{Dealt, dealt_start}
 use Rattle.kern_rows.specs.Needs.{HaveShares}
 use Rattle.kern_rows.specs.Turns.{IsTurn, shares, next_port, next_had}
 use Rattle.kern_changes.specs.declared.owed.Debt.{Debt}
 use Rattle.kern_changes.specs.Owed.{AreOwed, OweLittle, AreDebtsOf, no_debt, debt_at, but_at, owed_start}
-use Rattle.kern_changes.proofs.LawProofs.{starts_hold}
+use Rattle.kern_changes.proofs.LawProofs.{nothing_holds}
 use Rattle.river_kernels.specs.declared.types.VarKind.{VarKind}
 use Rattle.river_kernels.specs.Fits.{relation}
 use Rattle.river_kernels.specs.Kern.{deal}
@@ -35,10 +36,9 @@ use Rattle.brooklet_model.proofs.Lists.{if_eq, if_ne}
 use Rattle.brooklet_model.proofs.Ports.{shaped}
 use Rattle.brooklet_model.proofs.Shapes.{next_turn, first_turn}
 use Rattle.brooklet_step.specs.declared.emit.Emit.{Emit}
-use Rattle.brooklet_step.specs.declared.state.Dealt.{Dealt}
 use Rattle.brooklet_step.specs.declared.state.State.{State}
 use Rattle.brooklet_step.specs.declared.state.State.TheVariants as state
-use Rattle.brooklet_step.specs.Dealing.{IsDealt, dealt_start}
+use Rattle.brooklet_step.specs.Dealing.{DealsAsChange, DealsItem}
 use Rattle.brooklet_step.specs.Stands.{IsChange, StandsForTurn}
 use Rattle.brooklet_step.specs.Took.{Took, HasRoom}
 use Rattle.brooklet_step.specs.Given.{held_by, held_at, IsHeldBy, IsHeldOf, columns_by, ran, FitState, FitTurn, DealStands, StandsAfter, TookHeld, Does, FiresAt, CanTake}
@@ -101,9 +101,9 @@ dealt_wide : (ws : List ℤ) (reads : List QueueType) (old : Dealt) → FitTurn 
 dealt_wide ws reads old f n e =
     subst (λ (d : Dealt). AreDebtsOf n d.owed) (sym (same_dealt old f.now (same_state (state.Deal old) (state.Deal f.now) f.code))) (f.wide n e)
 
--- what a splitter needs: its turn, its weights, and a place for what the list in turn owes
+-- what a splitter needs: its weights, its turn, and a place for what each list owes
 pub deal_needs : (ws : List ℤ) (i : item.Item) (s : State) (old : Dealt) (out : Emit) → s ≡ state.Deal old → CanTake (deal ws) 0 i (s ∷ []) out
-    → HaveShares (shares ws) × IsTurn (shares ws) old.turn.port old.turn.had × (old.turn.port < length old.owed) × (old.turn.port < length out.outs)
+    → HaveShares (shares ws) × IsTurn (shares ws) old.turn.port old.turn.had × (length old.owed ≡ length ws) × (old.turn.port < length out.outs)
 deal_needs ws i s old out e t =
     let f = fit_dealt ws t.reads s old e t.fitting.state in
     let turn = dealt_turn ws t.reads old f in
@@ -111,13 +111,18 @@ deal_needs ws i s old out e t =
     let many = length-map ws count_of in
     let room = t.room.outs in
     let below = turn.0 in
-    (shaped (deal ws) t.reads t.fitting.writes t.fitting.vars t.fitting.fits, turn, omega (arith, below, lists), omega (arith, below, room, many))
+    (shaped (deal ws) t.reads t.fitting.writes t.fitting.vars t.fitting.fits, turn, lists ∙ many, omega (arith, below, room, many))
+
+-- the change that a list is given
+gave : {place : ℕ} {c : Change} {old new : List Debt} {g : item.Item} (h : DealsAsChange place c old new g) → g ≡ Flat (Changed h.deals.given)
+gave h = h.is ∙ ap (λ f. Flat f) h.deals.is
 
 -- A FIRING
 
 module _ (ws : List ℤ) (i g : item.Item) (s s' : State) (old new : Dealt) (out out' : Emit) (room : HasRoom (deal ws) out) (es : s ≡ state.Deal old)
-    (es' : s' ≡ state.Deal new) (np : new.turn.port ≡ next_port (shares ws) old.turn.port old.turn.had) (nh : new.turn.had ≡ next_had (shares ws) old.turn.port old.turn.had)
-    (took : Took out out' (gives old.turn.port (g ∷ []) [])) (dealt : IsDealt old.turn.port i g old.owed new.owed) where
+    (es' : s' ≡ state.Deal new) (np : new.turn.port ≡ next_port (shares ws) old.turn.port old.turn.had)
+    (nh : new.turn.had ≡ next_had (shares ws) old.turn.port old.turn.had)
+    (took : Took out out' (gives old.turn.port (g ∷ []) [])) (dealt : DealsItem old.turn.port i old.owed new.owed g) where
   abbrev place : ℕ
   place = old.turn.port
 
@@ -133,7 +138,8 @@ module _ (ws : List ℤ) (i g : item.Item) (s s' : State) (old new : Dealt) (out
     states_are = sa.stands.defined ∙ ap (λ (d : Dealt). Turn d.turn.port d.turn.had ∷ []) (sym same)
 
     fired_is : (x : item.Item)
-        → fire (deal ws) 0 x (ran (deal ws) start w).states ≡ gives place (x ∷ []) (Turn (next_port (shares ws) place old.turn.had) (next_had (shares ws) place old.turn.had) ∷ [])
+        → fire (deal ws) 0 x (ran (deal ws) start w).states
+        ≡ gives place (x ∷ []) (Turn (next_port (shares ws) place old.turn.had) (next_had (shares ws) place old.turn.had) ∷ [])
     fired_is x = ap (deal_one (shares ws) x) states_are
 
     -- the next state
@@ -191,7 +197,8 @@ module _ (ws : List ℤ) (i g : item.Item) (s s' : State) (old new : Dealt) (out
           adds = none;
           outs_are = took.outs;
           adds_are = took.adds;
-          held = λ q. held_only T (length ws) place g q (let b = (dealt_turn ws (T ∷ []) old f).0 in let l = length-map ws count_of in omega (arith, b, l)) (subst (IsHeld T) (sym one.0) hi);
+          held = λ q. held_only T (length ws) place g q (let b = (dealt_turn ws (T ∷ []) old f).0 in let l = length-map ws count_of in omega (arith, b, l))
+              (subst (IsHeld T) (sym one.0) hi);
           wide = λ j. All-nil (IsWide (slice_get (widths_in vars) j));
           again = next_fits (T ∷ []) some f len (subst OweLittle (sym one.1) (dealt_few ws (T ∷ []) old f))
               (λ n c. subst (AreDebtsOf n) (sym one.1) (dealt_wide ws (T ∷ []) old f n c));
@@ -206,7 +213,8 @@ module _ (ws : List ℤ) (i g : item.Item) (s s' : State) (old new : Dealt) (out
       let T = relation n in
       let ic = relation_holds n i hi in
       let c = ic.change in
-      let one = dealt.change c ic.is in
+      let like = dealt.change c ic.is in
+      let one = like.deals in
       let d = one.given in
       let len = one.keeps.lists in
       let wide = one.keeps.wide n (dealt_wide ws (T ∷ []) old f n refl) ic.of.wide in
@@ -220,7 +228,7 @@ module _ (ws : List ℤ) (i g : item.Item) (s s' : State) (old new : Dealt) (out
           outs_are = took.outs;
           adds_are = took.adds;
           held = λ q. held_only T (length ws) place g q (let b = (dealt_turn ws (T ∷ []) old f).0 in let l = length-map ws count_of in omega (arith, b, l))
-              (subst (IsHeld T) (sym one.is) (change_held n d (record { normal = one.keeps.normal; wide = wide.0 })));
+              (subst (IsHeld T) (sym (gave like)) (change_held n d (record { normal = one.keeps.normal; wide = wide.0 })));
           wide = λ j. All-nil (IsWide (slice_get (widths_in vars) j));
           again = next_fits (T ∷ []) some f len (one.keeps.few (dealt_few ws (T ∷ []) old f)) (λ m e. subst (λ k. AreDebtsOf k new.owed) (same_columns n m e) wide.1);
         };
@@ -234,7 +242,8 @@ module _ (ws : List ℤ) (i g : item.Item) (s s' : State) (old new : Dealt) (out
           let T = relation n in
           let ic = relation_holds n i hi in
           let c = ic.change in
-          let one = dealt.change c ic.is in
+          let like = dealt.change c ic.is in
+          let one = like.deals in
           let d = one.given in
           let xb = relation_typed n x tx in
           let b = xb.batch in
@@ -246,17 +255,21 @@ module _ (ws : List ℤ) (i g : item.Item) (s s' : State) (old new : Dealt) (out
           let owed : AreOwed old.owed last (λ p. now) = subst (λ (e : Dealt). AreOwed e.owed last (λ p. now)) (sym (same (T ∷ []) start w sa)) (sa.owed tt) in
           let r = one.contents.each now last b owed is in
           let xs : List item.Item = Flat (Batched b) ∷ [] in
-          let fired = fired_is (T ∷ []) start w sa x ∙ ap (λ (y : item.Item). gives place (y ∷ []) (Turn (next_port (shares ws) place old.turn.had) (next_had (shares ws) place old.turn.had) ∷ [])) xb.is in
+          let fired =
+          fired_is (T ∷ []) start w sa x
+          ∙ ap (λ (y : item.Item). gives place (y ∷ []) (Turn (next_port (shares ws) place old.turn.had) (next_had (shares ws) place old.turn.had) ∷ [])) xb.is in
           let at_is : (p : ℕ) → only place (g ∷ []) p ≡ held T (prev p) (only place xs p) = λ p. ⊎_elim
           (λ q. subst (λ j. only place (g ∷ []) j ≡ held T (prev j) (only place xs j)) q
-          (only_same place (g ∷ []) ∙ ap (λ (y : item.Item). y ∷ []) one.is ∙ sym (content_held n (prev place) b d r.0) ∙ ap (held T (prev place)) (sym (only_same place xs))))
+          (only_same place (g ∷ []) ∙ ap (λ (y : item.Item). y ∷ []) (gave like) ∙ sym (content_held n (prev place) b d r.0)
+          ∙ ap (held T (prev place)) (sym (only_same place xs))))
           (λ q. only_other place p (g ∷ []) (λ z. q (sym z)) ∙ sym (held-nil T (prev p)) ∙ ap (held T (prev p)) (sym (only_other place p xs (λ z. q (sym z)))))
           (cases_eq place p) in
           let more = ran_more (deal ws) start w 0 x in
           let after : (p : ℕ) → content_from [] ((ran (deal ws) start (w ++ (0, x) ∷ [])).outs p) ≡ but_at place b.rows last p = λ p.
           ap (content_from []) (more.outs p ∙ ap (λ (u : Fired). prev p ++ u.outs p) fired) ∙ content-append [] (prev p) (only place xs p)
           ∙ ⊎_elim
-          (λ q. subst (λ j. content_from (last j) (only place xs j) ≡ but_at place b.rows last j) q (ap (content_from (last place)) (only_same place xs) ∙ sym (if_eq place place b.rows (last place) refl)))
+          (λ q. subst (λ j. content_from (last j) (only place xs j) ≡ but_at place b.rows last j) q
+          (ap (content_from (last place)) (only_same place xs) ∙ sym (if_eq place place b.rows (last place) refl)))
           (λ q. ap (content_from (last p)) (only_other place p xs (λ z. q (sym z))) ∙ sym (if_ne place p b.rows (last p) q))
           (cases_eq place p) in
           let next : content_from [] (at_port 0 (w ++ (0, x) ∷ [])) ≡ b.rows =
@@ -271,7 +284,8 @@ module _ (ws : List ℤ) (i g : item.Item) (s s' : State) (old new : Dealt) (out
             },
             record {
               stands = next_stands (T ∷ []) start w sa x some one.keeps.lists;
-              owed = λ rel p lt. subst (λ l. LeadsTo l (content_from [] (at_port 0 (w ++ (0, x) ∷ []))) (debt_at new.owed p).plus (debt_at new.owed p).minus) (sym (after p))
+              owed = λ rel p lt.
+                  subst (λ l. LeadsTo l (content_from [] (at_port 0 (w ++ (0, x) ∷ []))) (debt_at new.owed p).plus (debt_at new.owed p).minus) (sym (after p))
                   (subst (λ l. LeadsTo (but_at place b.rows last p) l (debt_at new.owed p).plus (debt_at new.owed p).minus) (sym next) (r.1 p lt));
             },
           )
@@ -282,7 +296,8 @@ module _ (ws : List ℤ) (i g : item.Item) (s s' : State) (old new : Dealt) (out
     each = λ reads writes vars f fs hi.
         subst (λ (l : List QueueType). Does (deal ws) l writes vars 0 i out out' (s ∷ []) (s' ∷ [])) (sym f.1)
         (subst (λ (l : List QueueType). Does (deal ws) (FlatOf f.0 ∷ []) l vars 0 i out out' (s ∷ []) (s' ∷ [])) (sym f.2)
-        (by f.0 vars (subst (λ (l : List QueueType). FitTurn (shares ws) l (state.Deal old ∷ [])) f.1 (fit_dealt ws reads s old es fs)) (subst (λ (l : List QueueType). IsHeldOf l 0 i) f.1 hi)));
+        (by f.0 vars (subst (λ (l : List QueueType). FitTurn (shares ws) l (state.Deal old ∷ [])) f.1 (fit_dealt ws reads s old es fs))
+        (subst (λ (l : List QueueType). IsHeldOf l 0 i) f.1 hi)));
   }
     where
       by : (t : FlatType) (vars : List VarKind) → FitTurn (shares ws) (FlatOf t ∷ []) (state.Deal old ∷ []) → IsHeld (FlatOf t) i
@@ -316,7 +331,7 @@ deal_first_after ws reads some = record {
     turn = first_turn (shares ws) some;
     lists = length-replicate (length ws) no_debt ∙ sym (length-map ws count_of);
   };
-  owed = λ rel. starts_hold.owed (length ws);
+  owed = λ rel. nothing_holds.owed (length ws);
 }
 
 -- and fits
@@ -326,6 +341,6 @@ deal_first_fits ws reads some = record {
   code = refl;
   turn = first_turn (shares ws) some;
   lists = length-replicate (length ws) no_debt ∙ sym (length-map ws count_of);
-  few = starts_hold.little (length ws);
+  few = nothing_holds.little (length ws);
   wide = λ n e. start_wide n (length ws);
 }

@@ -35,7 +35,8 @@ outer_plain (PackOf t) h = absurd h
 found_plain : (ds : List Decl) (q : Name) → All IsOuter ds → 0 < count q (decl_names ds) → IsPlain (unwrap_or (kind_in ds q) (rows 0))
 found_plain [] q h lt = absurd (omega (arith, lt))
 found_plain (d ∷ ds) q h lt = ⊎_elim
-    (λ c. subst (λ o. IsPlain (unwrap_or o (rows 0))) (sym (if_true (name_eq d.name q) (Some d.kind) (kind_in ds q) c.1)) (outer_plain d.kind (All-head IsOuter d ds h).1))
+    (λ c. subst (λ o. IsPlain (unwrap_or o (rows 0))) (sym (if_true (name_eq d.name q) (Some d.kind) (kind_in ds q) c.1))
+    (outer_plain d.kind (All-head IsOuter d ds h).1))
     (λ c. subst (λ o. IsPlain (unwrap_or o (rows 0))) (sym (if_false (name_eq d.name q) (Some d.kind) (kind_in ds q) c.1))
     (found_plain ds q (All-tail IsOuter d ds h) (let e = ap one_if c.1 in omega (arith, e, lt))))
     (cases_name d.name q)
@@ -78,5 +79,6 @@ pub inputs_may : (p : PlanForm) → IsPlan p → (inputs : List (List item.Item)
     → All (IsHeld (kind_of (all_decls p) q)) (inputs_of (decl_names p.inputs) (list_at inputs) q)
 inputs_may p v inputs a q = ⊎_elim
     (λ lt. all_typed_plain (kind_of (all_decls p) q) (inputs_of (decl_names p.inputs) (list_at inputs) q) (input_plain p v q lt) (inputs_typed p v inputs a q))
-    (λ z. subst (All (IsHeld (kind_of (all_decls p) q))) (sym (written_out (decl_names p.inputs) (list_at inputs) (λ n. []) q z)) (All-nil (IsHeld (kind_of (all_decls p) q))))
+    (λ z. subst (All (IsHeld (kind_of (all_decls p) q))) (sym (written_out (decl_names p.inputs) (list_at inputs) (λ n. []) q z))
+    (All-nil (IsHeld (kind_of (all_decls p) q))))
     (more_or_zero (count q (decl_names p.inputs)))

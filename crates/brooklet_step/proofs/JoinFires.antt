@@ -1,5 +1,6 @@
 -- Firings of joiners, on items as they are and on changes.
-use Rattle.std.proofs.Common.{◌≡◌, ◌≢◌, ℕ, ℤ, zero, suc, ◌<◌, ◌≤◌, Option, Some, None, List, [], ◌∷◌, ◌++◌, length, replicate, refl, sym, ap, ◌∙◌, subst, arith, inl, inr, ⊎_elim}
+use Rattle.std.proofs.Common.{◌≡◌, ◌≢◌, ℕ, ℤ, zero, suc, ◌<◌, ◌≤◌, Option, Some, None, List, [], ◌∷◌, ◌++◌, length, replicate}
+use Rattle.std.proofs.Common.{refl, sym, ap, ◌∙◌, subst, arith, inl, inr, ⊎_elim}
 use Rattle.std.specs.Prelude.{All, slice_get, ◌⊎◌}
 use Rattle.std.proofs.lemmas.Bool.{cases_eq, cases_lt}
 use Rattle.std.proofs.lemmas.List.{append-nil, length-replicate, length-map}
@@ -17,15 +18,16 @@ use Rattle.river_base.specs.Number.{count_of}
 use Rattle.river_base.specs.Places.{each_grew, append_at, list_at, only, none}
 use Rattle.river_base.proofs.HeldLemmas.{held-relation, held-packs, content-append}
 use Rattle.river_base.proofs.PlaceLemmas.{each_grew_cong, length-append_at}
+use Rattle.kern_rows.specs.Joined as joined
+use Rattle.kern_rows.specs.Joined.{JoinKept, join_start, put_item, HasJoinShape, IsUnchanged, PassesOpened, AreOpened, StandsForJoining, JoinedItems, JoinsItems}
+use Rattle.kern_rows.specs.Joined.{JoinedPlainly, JoinsPlainly, flat_in, MayOwe, IsJoinOf, KeepsJoin}
 use Rattle.kern_rows.specs.Needs.{HaveShares}
 use Rattle.kern_rows.specs.Turns.{Turns, shares, ones, put, settled, itself}
 use Rattle.kern_changes.specs.declared.owed.Debt.{Debt}
-use Rattle.kern_changes.specs.Joined as joined
-use Rattle.kern_changes.specs.Joined.{JoinKept, join_start, put_item, HasJoinShape, IsUnchanged, PassesOpened, AreOpened, StandsForJoining, JoinedItems, JoinsItems}
-use Rattle.kern_changes.specs.Joined.{JoinedPlainly, JoinsPlainly, flat_in, MayOwe, IsJoinOf, KeepsJoin}
-use Rattle.kern_changes.specs.Owed.{OweLittle, AreDebtsOf}
-use Rattle.kern_changes.proofs.JoinLaws.{held_from-append}
-use Rattle.kern_changes.proofs.LawProofs.{starts_hold}
+use Rattle.kern_changes.specs.Owed.{OweLittle, AreDebtsOf, no_debt}
+use Rattle.kern_rows.proofs.JoinLaws.{held_from-append}
+use Rattle.kern_changes.proofs.LawProofs.{nothing_holds}
+use Rattle.kern_rows.proofs.Passed.{start_joined}
 use Rattle.river_kernels.specs.declared.types.VarKind.{VarKind}
 use Rattle.river_kernels.specs.Fits.{Fits}
 use Rattle.river_kernels.specs.Kern.{Kern, collect, unpack}
@@ -42,9 +44,10 @@ use Rattle.brooklet_model.proofs.Typing.{fire_typed}
 use Rattle.brooklet_step.specs.declared.emit.Emit.{Emit}
 use Rattle.brooklet_step.specs.declared.state.State.{State}
 use Rattle.brooklet_step.specs.declared.state.State.TheVariants as state
+use Rattle.brooklet_step.specs.Stands.{IsPack}
 use Rattle.brooklet_step.specs.Took.{Took}
-use Rattle.brooklet_step.specs.Given.{held_by, held_at, IsHeldBy, IsHeldOf, AreHeldOf, IsPlainBy, IsRelationBy, columns_by, ran, FitState, FitJoiner, ContentsWait, JoinStands}
-use Rattle.brooklet_step.specs.Given.{StandsAfter, TookHeld, Does, FiresAt, CanTake}
+use Rattle.brooklet_step.specs.Given.{held_by, held_at, IsHeldBy, IsHeldOf, AreHeldOf, IsPlainBy, IsRelationBy, columns_by, ran, FitState, FitJoiner}
+use Rattle.brooklet_step.specs.Given.{ContentsWait, JoinStands, StandsAfter, TookHeld, Does, FiresAt, CanTake}
 use Rattle.brooklet_step.proofs.DealFires.{start_wide}
 use Rattle.brooklet_step.proofs.GivenLemmas.{at-plain, at_next, ran_more, not_both}
 use Rattle.brooklet_step.proofs.OnePort.{same_item, same_state, same_columns}
@@ -409,7 +412,8 @@ module _ (k : Kern) (wl : List ℕ) (give : item.Item → List item.Item) (m : �
     lines_held p =
         ⊎_elim
         (λ lt. All-weaker (IsHeld t) (IsHeldOf types p) (λ y g. subst (λ o. IsHeldBy o y) (sym (got_many t m p lt)) g) (list_at new.turns.lists p) (next_of.lines p))
-        (λ ge. subst (All (IsHeldOf types p)) (sym (list_past new.turns.lists p (subst (λ n. n ≤ p) (many ∙ sym keeps.shape.joined.lists) ge))) (All-nil (IsHeldOf types p)))
+        (λ ge. subst (All (IsHeldOf types p)) (sym (list_past new.turns.lists p (subst (λ n. n ≤ p) (many ∙ sym keeps.shape.joined.lists) ge)))
+        (All-nil (IsHeldOf types p)))
         (cases_lt p m)
 
     fit_again : FitJoiner wl types (s' ∷ [])
@@ -444,8 +448,8 @@ collect_does ws i port s s' old new items out out' some es es' took contents pla
     by t vars fits f hi = record {
       gives = record {
         given = λ start w x is_start tw tx sa h.
-            join_given (collect ws) (shares ws) itself (length ws) (FlatOf t) many some (λ p y ss. refl) (λ ss g. g) (alone_opens t) i port s s' old new items out out' es es'
-            took contents plain keeps vars fits start w x is_start tw tx sa h;
+            join_given (collect ws) (shares ws) itself (length ws) (FlatOf t) many some (λ p y ss. refl) (λ ss g. g) (alone_opens t)
+            i port s s' old new items out out' es es' took contents plain keeps vars fits start w x is_start tw tx sa h;
       };
       came = record {
         outs = only 0 items;
@@ -513,7 +517,19 @@ collect_needs ws i port s old out e t =
       omega (arith, room),
     )
 
--- and of a joiner of packs
+held_pack : (u : FlatType) (x : item.Item) → IsHeld (PackOf u) x → IsPack x
+unfolding IsHeld
+held_pack u (Flat g) h = absurd h
+held_pack u (Pack fs) h = record { flats = fs; is = refl }
+
+-- what a joiner of packs takes is a pack
+pub unpack_pack : (n : ℕ) (i : item.Item) (port : ℕ) (st : List State) (out : Emit) → CanTake (unpack n) port i st out → IsPack i
+unpack_pack n i port st out t =
+    let f = t.fitting.fits in
+    let held : IsHeldOf (replicate n (PackOf f.0)) port i = subst (λ (l : List QueueType). IsHeldOf l port i) f.1 t.item in
+    held_pack f.0 i (at_alike (PackOf f.0) (λ o. IsHeldBy o i) n port (λ z. z) held).1
+
+-- and its shape, its port and its list are as well
 pub unpack_needs : (n : ℕ) (i : item.Item) (port : ℕ) (s : State) (old : JoinKept) (out : Emit) → s ≡ state.Join old → CanTake (unpack n) port i (s ∷ []) out
     → HaveShares (ones n) × HasJoinShape (ones n) old × (port < n) × (0 < length out.outs)
 unpack_needs n i port s old out e t =
@@ -534,11 +550,24 @@ nothing_waits zero p = refl
 nothing_waits (suc n) zero = refl
 nothing_waits (suc n) (suc p) = nothing_waits n p
 
+-- what is kept before the first item stands for empty contents, of which none waits
+start_empty : (n : ℕ) → StandsForJoining (join_start n) (record { turns = (join_start n).turns; last = []; now = λ p. [] })
+start_empty n = record {
+  port = refl;
+  had = refl;
+  lists = refl;
+  lines = λ p lt. nothing_waits n p ∙ ap (held_from []) (sym (nothing_waits n p));
+  owed = nothing_holds.owed n;
+}
+
+start_shape : (wl : List ℕ) → HaveShares wl → HasJoinShape wl (join_start (length wl))
+start_shape wl some = record { joined = start_joined wl some; owed = length-replicate (length wl) no_debt }
+
 start_stands : (k : Kern) (n : ℕ) → first_kept k ≡ Joining (join_start n).turns ∷ [] → ContentsWait k (first_kept k) (join_start n) []
 start_stands k n e = record {
   contents = record { turns = (join_start n).turns; last = []; now = λ p. [] };
   defined = e;
-  stands = starts_hold.joined n;
+  stands = start_empty n;
   given = refl;
   received = λ p lt. ap (content_from []) (nothing_waits n p);
 }
@@ -547,9 +576,9 @@ start_fits : (wl : List ℕ) (n : ℕ) (reads : List QueueType) → n ≡ length
 start_fits wl n reads e some = record {
   now = join_start n;
   code = refl;
-  joined = subst (λ (l : ℕ). HasJoinShape wl (join_start l)) (sym e) (starts_hold.shape wl some);
+  joined = subst (λ (l : ℕ). HasJoinShape wl (join_start l)) (sym e) (start_shape wl some);
   items = λ p. subst (All (IsHeldOf reads p)) (sym (nothing_waits n p)) (All-nil (IsHeldOf reads p));
-  few = starts_hold.little n;
+  few = nothing_holds.little n;
   wide = λ m z. start_wide m n;
 }
 
@@ -559,7 +588,7 @@ pub collect_first_after : (ws : List ℤ) (reads : List QueueType) → HaveShare
 collect_first_after ws reads some = record {
   now = join_start (length ws);
   code = refl;
-  shape = subst (λ (l : ℕ). HasJoinShape (shares ws) (join_start l)) (length-map ws count_of) (starts_hold.shape (shares ws) some);
+  shape = subst (λ (l : ℕ). HasJoinShape (shares ws) (join_start l)) (length-map ws count_of) (start_shape (shares ws) some);
   plain = λ p. refl;
   relation = λ rel. start_stands (collect ws) (length ws) refl;
 }
@@ -575,7 +604,7 @@ pub unpack_first_after : (n : ℕ) (reads : List QueueType) → HaveShares (ones
 unpack_first_after n reads some = record {
   now = join_start n;
   code = refl;
-  shape = subst (λ (l : ℕ). HasJoinShape (ones n) (join_start l)) (length-replicate n 1) (starts_hold.shape (ones n) some);
+  shape = subst (λ (l : ℕ). HasJoinShape (ones n) (join_start l)) (length-replicate n 1) (start_shape (ones n) some);
   plain = λ p. refl;
   relation = λ rel. start_stands (unpack n) n refl;
 }

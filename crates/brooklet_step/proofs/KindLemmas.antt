@@ -9,18 +9,8 @@ use Rattle.std.proofs.lemmas.Bool.{true≢false, cases_lt}
 use Rattle.std.proofs.lemmas.List.Elements.{All-head, All-tail, All-cons, All-nil, All-get_or, All-more}
 use Rattle.std.proofs.lemmas.List.{take_all}
 use Rattle.std.proofs.lemmas.List.Sorted.{searchable_from_sorted}
-use Rattle.river_base.specs.declared.item.Change.{Change}
-use Rattle.river_base.specs.declared.item.Flat as flat
-use Rattle.river_base.specs.declared.item.Item as item
-use Rattle.river_base.specs.declared.item.Flat.TheVariants.{One, Batch as Batched, Change as Changed}
-use Rattle.river_base.specs.declared.item.Item.TheVariants.{Flat, Pack}
-use Rattle.river_base.specs.declared.kind.FlatType.TheVariants.{Rows, Stream, Relation}
-use Rattle.river_base.specs.declared.kind.QueueType.TheVariants.{Flat as FlatOf, Pack as PackOf}
-use Rattle.river_base.specs.Held.{IsHeld, MayHold}
 use Rattle.river_base.specs.Row.{IsAscending, row_eq, row_cmp, row_ties, row_total, copies}
-use Rattle.river_base.specs.Changes.{IsChangeOf}
 use Rattle.river_base.proofs.Counts.{row_itself, same_row, count-cons, count_pass, count_fail}
-use Rattle.brooklet_step.specs.Laws.{IsChangeItem, PlainQueuesHoldTyped, RelationsHoldChanges}
 
 -- ROWS IN COMMON
 
@@ -71,7 +61,8 @@ missing_by x ys (Ok k) up low found = (
 missing_by x ys (Err k) up low found = (
   (λ t.
       let p = found (searchable_from_sorted row_total (λ y. y) ys x up) in
-      none_alike x ys (λ i d lt. ⊎_elim (λ a. alike_by x (get_or ys i d) Less (p.0 i d (omega arith) a)) (λ a. alike_by x (get_or ys i d) Greater (p.1 i d a lt)) (cases_lt i k))),
+      none_alike x ys (λ i d lt. ⊎_elim (λ a. alike_by x (get_or ys i d) Less (p.0 i d (omega arith) a))
+      (λ a. alike_by x (get_or ys i d) Greater (p.1 i d a lt)) (cases_lt i k))),
   (λ z. refl),
 )
 

@@ -78,7 +78,9 @@ ports_alike t (suc zero) h (suc p) = tt
 ports_alike t (suc (suc n)) h (suc p) = ports_alike t (suc n) h p
 
 alike : (is : List QueueType) (t : QueueType) (n : ℕ) → is ≡ replicate n t → IsPlainBy (slice_get is 0) → (p : ℕ) → IsPlainBy (slice_get is p)
-alike is t n e h = subst (λ (l : List QueueType). (p : ℕ) → IsPlainBy (slice_get l p)) (sym e) (ports_alike t n (subst (λ (l : List QueueType). IsPlainBy (slice_get l 0)) e h))
+alike is t n e h =
+    subst (λ (l : List QueueType). (p : ℕ) → IsPlainBy (slice_get l p)) (sym e)
+    (ports_alike t n (subst (λ (l : List QueueType). IsPlainBy (slice_get l 0)) e h))
 
 packed_stand : (k : Kern) (is : List QueueType) (st : List State) → StandForSome k is st → StandForSome (packed k) is st
 packed_stand k is st r = record { start = r.start; is_start = record { shape = r.is_start.shape; holds = r.is_start.holds }; stands = r.stands }
@@ -102,7 +104,8 @@ fused_stand a b at is inner st e ra rb =
       };
       stands = (
         subst (λ (ss : List Kept). StandsAfter a is ss (take n st) []) (sym ta) ra.stands,
-        subst (λ (ss : List Kept). StandsAfter b (between at (types_of a is)) ss (drop n st) []) (sym tb) (subst (λ (l : List QueueType). StandsAfter b l rb.start (drop n st) []) e rb.stands),
+        subst (λ (ss : List Kept). StandsAfter b (between at (types_of a is)) ss (drop n st) []) (sym tb)
+            (subst (λ (l : List QueueType). StandsAfter b l rb.start (drop n st) []) e rb.stands),
       );
     }
 

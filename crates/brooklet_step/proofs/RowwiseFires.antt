@@ -3,6 +3,7 @@ use Rattle.std.proofs.Common.{◌≡◌, ℕ, ℤ, List, [], ◌∷◌, ◌++◌
 use Rattle.std.proofs.lemmas.List.Elements.{All-head}
 use Rattle.river_base.specs.declared.item.Batch.{Batch}
 use Rattle.river_base.specs.declared.item.Change.{Change}
+use Rattle.river_base.specs.declared.item.Flat as flat
 use Rattle.river_base.specs.declared.item.Item as item
 use Rattle.river_base.specs.declared.item.Item.TheVariants.{Flat, Pack}
 use Rattle.river_base.specs.declared.item.Flat.TheVariants.{One, Batch as Batched, Change as Changed}
@@ -14,7 +15,8 @@ use Rattle.river_base.proofs.HeldLemmas.{held-plain, held-relation}
 use Rattle.work_code.specs.Term.{Term}
 use Rattle.kern_bags.specs.Contents.{selected, projected}
 use Rattle.kern_bags.specs.Steps.{select_one, project_one}
-use Rattle.kern_changes.specs.Kept.{stamped_as, FollowsContent}
+use Rattle.kern_bags.specs.Following.{stamped_as, FollowsContent, SelectsFlat, ProjectsFlat}
+use Rattle.kern_rows.specs.Dealing.{IsChanged}
 use Rattle.river_kernels.specs.Fits.{stream, relation}
 use Rattle.river_kernels.specs.Kern.{select, project}
 use Rattle.brooklet_model.specs.Firings.{Kept, Fired, gives}
@@ -24,7 +26,8 @@ use Rattle.brooklet_model.proofs.BagTypes.{select_typed}
 use Rattle.brooklet_model.proofs.Swaps.{at_port_here}
 use Rattle.brooklet_step.specs.declared.emit.Emit.{Emit}
 use Rattle.brooklet_step.specs.Took.{Took}
-use Rattle.brooklet_step.specs.Given.{IsHeldOf, ran, Gives, FiresAt}
+use Rattle.brooklet_step.specs.Given.{IsHeldOf, ran, Gives, FiresAt, CanTake}
+use Rattle.brooklet_step.proofs.BagLeaves.{select_no_row}
 use Rattle.brooklet_step.proofs.GivenLemmas.{ran_more}
 use Rattle.brooklet_step.proofs.OnePort.{batch_held, change_held, held_first, batch_type, change_type, relation_typed, typed_first, typed_port}
 use Rattle.brooklet_step.proofs.OnePort.{same_item, came_content, took_first, came_first, one_held, does_at}
@@ -84,7 +87,7 @@ select_gives_rows e n b out out' took = record {
 }
 
 -- a selection of rows is a firing
-pub select_rows_does : (e : Term) (b : Batch) (out out' : Emit) → Took out out' (gives 0 (select_one e (Flat (Batched b))) [])
+select_rows_does : (e : Term) (b : Batch) (out out' : Emit) → Took out out' (gives 0 (select_one e (Flat (Batched b))) [])
     → FiresAt (select e) 0 (Flat (Batched b)) out out' [] []
 select_rows_does e b out out' took = record {
   each = λ reads writes vars t fs h.
@@ -114,7 +117,7 @@ select_gives e n c d out out' f took = record {
 }
 
 -- a selection in both parts of a change is a firing
-pub select_does : (e : Term) (c d : Change) (out out' : Emit) → FollowsContent (selected e) c d → ((n : ℕ) → IsChangeOf n c → IsChangeOf n d)
+select_does : (e : Term) (c d : Change) (out out' : Emit) → FollowsContent (selected e) c d → ((n : ℕ) → IsChangeOf n c → IsChangeOf n d)
     → Took out out' (gives 0 (Flat (Changed d) ∷ []) []) → FiresAt (select e) 0 (Flat (Changed c)) out out' [] []
 select_does e c d out out' f fits took = record {
   each = λ reads writes vars t fs h.
@@ -131,6 +134,14 @@ select_does e c d out out' f fits took = record {
       );
 }
 
+-- so is what a selection gives for what it takes
+pub select_flat_does : (e : Term) (f : flat.Flat) (items : List item.Item) (out out' : Emit) → CanTake (select e) 0 (Flat f) [] out
+    → SelectsFlat e f [] items → Took out out' (gives 0 items []) → FiresAt (select e) 0 (Flat f) out out' [] []
+select_flat_does e (One row) items out out' t s took = absurd (select_no_row e row [] out t)
+select_flat_does e (Batched b) items out out' t s took = select_rows_does e b out out' (subst (λ l. Took out out' (gives 0 l [])) s took)
+select_flat_does e (Changed c) items out out' t s took =
+    select_does e c s.change out out' s.is.contents s.is.fits (subst (λ l. Took out out' (gives 0 l [])) s.grew took)
+
 -- PROJECTIONS
 
 project_gives : (es : List Term) (n : ℕ) (c d : Change) (out out' : Emit) → FollowsContent (projected es) c d → Took out out' (gives 0 (Flat (Changed d) ∷ []) [])
@@ -145,7 +156,7 @@ project_gives es n c d out out' f took = record {
 }
 
 -- a projection of both parts of a change, without what is then common, is a firing
-pub project_does : (es : List Term) (c d : Change) (out out' : Emit) → FollowsContent (projected es) c d → IsChangeOf (length es) d
+project_does : (es : List Term) (c d : Change) (out out' : Emit) → FollowsContent (projected es) c d → IsChangeOf (length es) d
     → Took out out' (gives 0 (Flat (Changed d) ∷ []) []) → FiresAt (project es) 0 (Flat (Changed c)) out out' [] []
 project_does es c d out out' f fits took = record {
   each = λ reads writes vars t fs h.
@@ -158,3 +169,11 @@ project_does es c d out out' f fits took = record {
       }
       );
 }
+
+-- so is what a projection gives for what it takes
+pub project_flat_does : (es : List Term) (f : flat.Flat) (items : List item.Item) (out out' : Emit) → IsChanged f → ProjectsFlat es f [] items
+    → Took out out' (gives 0 items []) → FiresAt (project es) 0 (Flat f) out out' [] []
+project_flat_does es f items out out' k p took =
+    let g = p.each k.change k.is in
+    subst (λ x. FiresAt (project es) 0 (Flat x) out out' [] []) (sym k.is)
+    (project_does es k.change g.change out out' g.is.contents g.is.fits (subst (λ l. Took out out' (gives 0 l [])) g.grew took))

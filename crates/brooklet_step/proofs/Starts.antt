@@ -8,14 +8,15 @@ use Rattle.work_code.specs.Term.{term, terms}
 use Rattle.work_code.specs.declared.expr.Expr.{Expr}
 use Rattle.work_code.specs.declared.expr.Exprs.{Exprs}
 use Rattle.kern_bags.specs.Kept.{window_start}
-use Rattle.kern_changes.specs.Joined.{join_start}
-use Rattle.kern_changes.specs.Kept.{cross_start}
+use Rattle.kern_bags.specs.Following.{cross_start}
 use Rattle.kern_bags.specs.declared.kernel.Window.{Window}
 use Rattle.kern_bags.specs.declared.kernel.Streamer.{Streamer}
+use Rattle.kern_rows.specs.Joined.{join_start}
+use Rattle.kern_rows.specs.Dealing.{dealt_start}
 use Rattle.kern_rows.specs.declared.kernel.CodeKernel.{CodeKernel}
 use Rattle.kern_rows.specs.Forms.{FilterForm, code_form}
 use Rattle.kern_rows.specs.Needs.{CanFilter, HaveShares}
-use Rattle.kern_rows.specs.Turns.{shares, ones}
+use Rattle.kern_rows.specs.Turns.{shares}
 use Rattle.river_kernels.specs.declared.kernel.Kernel.{fold-roll-Kernel}
 use Rattle.river_kernels.specs.declared.kernel.Kernel.TheVariants as kernel
 use Rattle.river_kernels.specs.declared.kernel.Kernel.TheOpen as layer
@@ -32,7 +33,6 @@ use Rattle.river_kernels.specs.Fits.{Fits}
 use Rattle.river_kernels.specs.Types.{types_of}
 use Rattle.brooklet_step.specs.declared.state.State.{State}
 use Rattle.brooklet_step.specs.declared.state.State.TheVariants as state
-use Rattle.brooklet_step.specs.Dealing.{dealt_start}
 use Rattle.brooklet_step.specs.Given.{FitState, StandsAfter}
 use Rattle.brooklet_step.specs.Initial.{IsFirst}
 use Rattle.brooklet_step.specs.Stands.{StandsForSlots, StandsFor}
@@ -99,7 +99,8 @@ splitter_first ws st f e =
 pub joiner_first : (ws : List ℤ) (st : List State) → IsFormed (collect ws) → st ≡ state.Join (join_start (length ws)) ∷ [] → IsFirst (collect ws) st
 joiner_first ws st f e =
     first_of (collect ws) st f
-    (λ reads. subst (λ (l : List State). StandsAfter (collect ws) reads (first_kept (collect ws)) l []) (sym e) (collect_first_after ws reads (formed_shaped (collect ws) f)))
+    (λ reads. subst (λ (l : List State). StandsAfter (collect ws) reads (first_kept (collect ws)) l []) (sym e)
+    (collect_first_after ws reads (formed_shaped (collect ws) f)))
     (λ reads writes vars fits. subst (FitState (collect ws) reads) (sym e) (collect_first_fits ws reads (formed_shaped (collect ws) f)))
 
 -- a joiner of packs

@@ -3,6 +3,7 @@ use Rattle.std.proofs.Common.{◌≡◌, ℕ, ℤ, List, [], ◌∷◌, ◌++◌
 use Rattle.std.proofs.lemmas.List.Elements.{All-nil}
 use Rattle.river_base.specs.declared.item.Batch.{Batch}
 use Rattle.river_base.specs.declared.item.Change.{Change}
+use Rattle.river_base.specs.declared.item.Flat as flat
 use Rattle.river_base.specs.declared.item.Item as item
 use Rattle.river_base.specs.declared.item.Item.TheVariants.{Flat}
 use Rattle.river_base.specs.declared.item.Flat.TheVariants.{Batch as Batched, Change as Changed}
@@ -14,7 +15,8 @@ use Rattle.kern_bags.specs.Steps.{last_rows, streamed, streamer_one}
 use Rattle.kern_bags.specs.declared.kernel.Streamer.{Streamer}
 use Rattle.kern_bags.specs.declared.kernel.Streamer.TheVariants.{Istream, Dstream, Rstream}
 use Rattle.kern_bags.proofs.KeptWindows.{batches_more}
-use Rattle.kern_changes.specs.Kept.{stamped_as}
+use Rattle.kern_bags.specs.Following.{stamped_as, KeepsContent, StreamsChange, StreamFits, StreamsFlat}
+use Rattle.kern_rows.specs.Dealing.{IsChanged}
 use Rattle.river_kernels.specs.declared.types.VarKind.{VarKind}
 use Rattle.river_kernels.specs.declared.types.VarKind.TheVariants.{Private}
 use Rattle.river_kernels.specs.Fits.{Fits, stream, relation}
@@ -24,9 +26,8 @@ use Rattle.brooklet_model.specs.Fire.{fire, first_kept}
 use Rattle.brooklet_model.specs.Words.{Word, at_port}
 use Rattle.brooklet_step.specs.declared.emit.Emit.{Emit}
 use Rattle.brooklet_step.specs.declared.state.State.TheVariants as state
-use Rattle.brooklet_step.specs.Bags.{StreamsChange, StreamFits}
 use Rattle.brooklet_step.specs.Took.{Took}
-use Rattle.brooklet_step.specs.Given.{IsHeldOf, FitStreamer, FitState, KeepsContent, ran, StreamerStands, StandsAfter, TookHeld, Gives, FiresAt}
+use Rattle.brooklet_step.specs.Given.{IsHeldOf, FitStreamer, FitState, ran, StreamerStands, StandsAfter, TookHeld, Gives, FiresAt}
 use Rattle.brooklet_step.proofs.GivenLemmas.{at_next, ran_more}
 use Rattle.brooklet_step.proofs.OnePort.{batch_held, held_change, relation_typed, came_content, same_relation, took_first, came_first, one_held, does_at}
 
@@ -104,7 +105,7 @@ module _ (s : Streamer) (n : ℕ) (c : Change) (g : Batch) (now now' : List (Lis
   }
 
 -- a streamer's step on a change is a firing
-pub streamer_does : (s : Streamer) (c : Change) (g : Batch) (now now' : List (List ℤ)) (out out' : Emit) → StreamsChange s c now now' g → StreamFits c now now' g
+streamer_does : (s : Streamer) (c : Change) (g : Batch) (now now' : List (List ℤ)) (out out' : Emit) → StreamsChange s c now now' g → StreamFits c now now' g
     → Took out out' (gives 0 (Flat (Batched g) ∷ []) [])
     → FiresAt (streamer s) 0 (Flat (Changed c)) out out' (state.Streamer now ∷ []) (state.Streamer now' ∷ [])
 streamer_does s c g now now' out out' f fits took = record {
@@ -125,3 +126,12 @@ streamer_does s c g now now' out out' f fits took = record {
       }
       );
 }
+
+-- so is what it gives
+pub streamer_flat_does : (s : Streamer) (x : flat.Flat) (items : List item.Item) (now now' : List (List ℤ)) (out out' : Emit) → IsChanged x
+    → StreamsFlat s x now now' [] items → Took out out' (gives 0 items [])
+    → FiresAt (streamer s) 0 (Flat x) out out' (state.Streamer now ∷ []) (state.Streamer now' ∷ [])
+streamer_flat_does s x items now now' out out' k p took =
+    let g = p.each k.change k.is in
+    subst (λ y. FiresAt (streamer s) 0 (Flat y) out out' (state.Streamer now ∷ []) (state.Streamer now' ∷ [])) (sym k.is)
+    (streamer_does s k.change g.batch now now' out out' g.is.contents g.is.fits (subst (λ l. Took out out' (gives 0 l [])) g.grew took))

@@ -16,7 +16,7 @@ use Rattle.kern_bags.specs.Kept.{Stamped, WindowKept, StandsForWindow, window_st
 use Rattle.kern_bags.specs.Steps.{window_one}
 use Rattle.kern_bags.specs.declared.kernel.Window.{Window}
 use Rattle.kern_bags.specs.declared.kernel.Window.TheVariants.{Now, Range, Unbounded, Latest}
-use Rattle.kern_changes.specs.Kept.{stamped_as, Windows, WindowFits}
+use Rattle.kern_bags.specs.Following.{stamped_as, Windows, WindowFits, WindowSteps, GaveChange}
 use Rattle.river_kernels.specs.declared.types.VarKind.{VarKind}
 use Rattle.river_kernels.specs.declared.types.VarKind.TheVariants.{Private}
 use Rattle.river_kernels.specs.Fits.{Fits, stream, relation}
@@ -112,7 +112,7 @@ module _ (v : Window) (n : ℕ) (b : Batch) (c : Change) (now now' : WindowKept)
   }
 
 -- a window's step on a batch is a firing
-pub window_does : (v : Window) (b : Batch) (c : Change) (now now' : WindowKept) (out out' : Emit) → Windows v b now now' c → WindowFits b now now' c
+window_does : (v : Window) (b : Batch) (c : Change) (now now' : WindowKept) (out out' : Emit) → Windows v b now now' c → WindowFits b now now' c
     → Took out out' (gives 0 (Flat (Changed c) ∷ []) [])
     → FiresAt (window v) 0 (Flat (Batched b)) out out' (state.Window now ∷ []) (state.Window now' ∷ [])
 window_does v b c now now' out out' f fits took = record {
@@ -140,3 +140,9 @@ window_does v b c now now' out out' f fits took = record {
       }
       );
 }
+
+-- so is what it gives
+pub window_step_does : (v : Window) (b : Batch) (items : List item.Item) (now now' : WindowKept) (out out' : Emit) → GaveChange (WindowSteps v b now now') [] items
+    → Took out out' (gives 0 items []) → FiresAt (window v) 0 (Flat (Batched b)) out out' (state.Window now ∷ []) (state.Window now' ∷ [])
+window_step_does v b items now now' out out' g took =
+    window_does v b g.change now now' out out' g.is.contents g.is.fits (subst (λ l. Took out out' (gives 0 l [])) g.grew took)

@@ -7,23 +7,22 @@ use Rattle.river_base.specs.declared.item.Item.TheVariants.{Flat}
 use Rattle.river_base.specs.declared.kind.FlatType.TheVariants.{Relation}
 use Rattle.river_base.specs.declared.kind.QueueType.{QueueType}
 use Rattle.river_base.specs.declared.kind.QueueType.TheVariants.{Flat as FlatOf, Pack as PackOf}
+use Rattle.river_base.specs.Changes.{last_content}
 use Rattle.river_base.specs.Held.{held, content_from, IsHeld, IsPlain, IsRelation, HaveWidth, batches}
 use Rattle.river_base.specs.Places.{each_grew, list_at}
+use Rattle.kern_rows.specs.Joined.{JoinKept, HasJoinShape, StandsForJoining}
+use Rattle.kern_rows.specs.Joined as joined
+use Rattle.kern_rows.specs.Dealing.{Dealt}
 use Rattle.kern_rows.specs.Forms.{FilterForm, RunForm}
 use Rattle.kern_rows.specs.Stands.{Waiting, needs_now}
 use Rattle.kern_rows.specs.Turns.{IsTurn, shares, ones}
 use Rattle.kern_bags.specs.Contents.{content_of, product}
+use Rattle.kern_bags.specs.Following.{CrossKept, StandsForCrossing, IsCrossOf, KeepsContent}
+use Rattle.kern_bags.specs.Following as following
 use Rattle.kern_bags.specs.Kept.{Stamped, WindowKept, IsWindowKept, StandsForWindow}
 use Rattle.kern_bags.specs.Steps.{last_rows}
 use Rattle.kern_bags.specs.declared.kernel.Streamer.{Streamer}
-use Rattle.kern_bags.specs.declared.kernel.Streamer.TheVariants.{Istream, Dstream, Rstream}
 use Rattle.kern_bags.specs.declared.kernel.Window.{Window}
-use Rattle.kern_changes.specs.Counted.{AreSame}
-use Rattle.river_base.specs.Changes.{last_content}
-use Rattle.kern_changes.specs.Joined.{JoinKept, HasJoinShape, StandsForJoining}
-use Rattle.kern_changes.specs.Joined as joined
-use Rattle.kern_changes.specs.Kept.{CrossKept, StandsForCrossing, IsCrossOf}
-use Rattle.kern_changes.specs.Kept as kept
 use Rattle.kern_changes.specs.Owed.{AreOwed, OweLittle, AreDebtsOf}
 use Rattle.river_kernels.specs.declared.types.VarKind.{VarKind}
 use Rattle.river_kernels.specs.Fits.{Fits, stream, relation}
@@ -34,7 +33,6 @@ use Rattle.brooklet_model.specs.Fire.{fire, privates, outs, tabs}
 use Rattle.brooklet_model.specs.Typed.{IsOf, IsWordOf, IsStart, between, widths_in, AreWide}
 use Rattle.brooklet_model.specs.Words.{Word, run, at_port, word_of}
 use Rattle.brooklet_step.specs.declared.emit.Emit.{Emit}
-use Rattle.brooklet_step.specs.declared.state.Dealt.{Dealt}
 use Rattle.brooklet_step.specs.declared.state.State.{State}
 use Rattle.brooklet_step.specs.declared.state.State.TheVariants as state
 use Rattle.brooklet_step.specs.Stands.{StandsFor, StandsForTurn}
@@ -207,19 +205,13 @@ as_batches bs = map (λ b. Flat (Batched b)) bs
 -- a product: the contents that passed last and those that wait, for which the kept changes stand
 pub record CrossStands (start : List Kept) (st : List State) (w : Word) : Type 0 where
   pub now : CrossKept
-  pub contents : kept.Crossing
+  pub contents : following.Crossing
   pub code : st ≡ state.Cross now ∷ []
   pub defined : (ran cross start w).states ≡ Crossing (record { left = as_batches contents.left; right = as_batches contents.right }) ∷ []
   pub stands : StandsForCrossing now contents
   pub given : content_from [] ((ran cross start w).outs 0) ≡ product contents.lefts contents.rights
   pub left : content_from [] (at_port 0 w) ≡ last_content contents.lefts contents.left
   pub right : content_from [] (at_port 1 w) ≡ last_content contents.rights contents.right
-
--- what a streamer keeps of the content: all of it as a bag, where it gives all of it
-abbrev pub KeepsContent : Streamer → List (List ℤ) → List (List ℤ) → Type 0
-KeepsContent Istream now content = Unit {0}
-KeepsContent Dstream now content = Unit {0}
-KeepsContent Rstream now content = AreSame now content
 
 -- a streamer: the last of the contents that it has received is that of its queue
 pub record StreamerStands (s : Streamer) (start : List Kept) (st : List State) (w : Word) : Type 0 where

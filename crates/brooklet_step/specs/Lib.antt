@@ -1,4 +1,3 @@
-pub mod Bags
 pub mod ByPlace
 pub mod Dealing
 pub mod Drained

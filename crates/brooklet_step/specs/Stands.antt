@@ -9,6 +9,7 @@ use Rattle.river_base.specs.declared.item.Change.{Change}
 use Rattle.river_base.specs.declared.kind.QueueType.{QueueType}
 use Rattle.river_base.specs.Places.{none}
 use Rattle.work_code.specs.Steps.{Body}
+use Rattle.kern_rows.specs.Dealing.{Dealt}
 use Rattle.kern_rows.specs.Forms.{CodeForm, FilterForm}
 use Rattle.kern_rows.specs.Runs.{Filtering, run_kept, pushed_to}
 use Rattle.kern_rows.specs.Stands.{Waiting, StandsForFiltering}
@@ -20,7 +21,6 @@ use Rattle.brooklet_model.specs.Firings.{Kept, Slots, Buffered, Turn, Fired}
 use Rattle.brooklet_model.specs.Fire.{code_one}
 use Rattle.brooklet_model.specs.Typed.{IsOf, Holds}
 use Rattle.brooklet_step.specs.declared.emit.Emit.{Emit}
-use Rattle.brooklet_step.specs.declared.state.Dealt.{Dealt}
 use Rattle.brooklet_step.specs.declared.state.State.{State}
 use Rattle.brooklet_step.specs.declared.state.State.TheVariants as state
 use Rattle.brooklet_step.specs.Took.{Took, HasRoom}

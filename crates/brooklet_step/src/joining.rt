@@ -1,12 +1,26 @@
 // Firings of joiners.
-ghost use Rattle.std.specs.Prelude.{◌∷◌, [], OnOk};
+ghost use Rattle.std.specs.Prelude.{◌≡◌, ◌∷◌, [], OnOk};
+ghost use Rattle.river_base.specs.declared.item.Item.TheVariants as variant;
 ghost use Rattle.river_kernels.specs.Kern.{collect as collect_kern, unpack as unpack_kern};
 ghost use Rattle.brooklet_step.specs.Given.{CanTake, FiresAt};
+ghost use Rattle.brooklet_step.specs.Stands.{IsPack};
 
 use crate::emit::{Emit, Spare};
 use crate::state::State;
-use river_base::{Item, NoMemory, Numbers};
+use kern_rows::{Collect, Unpack};
+use river_base::{Flats, Item, NoMemory, Numbers};
 use std::alloc::Global;
+
+// The pack that an item is.
+fn pack_of(item: Item) -> Flats
+    requires { IsPack item }
+    ensures { variant.Pack result ≡ item }
+{
+    match item {
+        Item::Pack(pack) => pack,
+        _ => unreachable!(),
+    }
+}
 
 /// An item comes to a joiner, a change as the others.
 pub fn fire_collect(
@@ -24,7 +38,7 @@ pub fn fire_collect(
     match state {
         State::Join(state) => {
             let mut items = spare.take_items(alloc);
-            state.collect(alloc, weights, port, item, &mut items)?;
+            Collect::step(alloc, weights, state, port, item, &mut items)?;
             out.give_all(0, items, spare)
         }
         _ => unreachable!(),
@@ -47,7 +61,7 @@ pub fn fire_unpack(
     match state {
         State::Join(state) => {
             let mut items = spare.take_items(alloc);
-            state.unpack(alloc, ports, port, item, &mut items)?;
+            Unpack::step(alloc, ports, state, port, pack_of(item), &mut items)?;
             out.give_all(0, items, spare)
         }
         _ => unreachable!(),

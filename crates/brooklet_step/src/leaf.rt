@@ -1,23 +1,24 @@
 // One firing of a kernel that has no kernel inside.
-ghost use Rattle.std.specs.Prelude.{◌≡◌, ◌<◌, ◌∷◌, [], length, map, IfOk, OnOk};
+ghost use Rattle.std.specs.Prelude.{◌≡◌, ◌<◌, ◌^◌, ◌∷◌, [], length, map, IfOk, OnOk};
 ghost use Rattle.river_base.specs.declared.item.Item.TheVariants as variant;
 ghost use Rattle.river_base.specs.declared.item.Flat.TheVariants as flat;
 ghost use Rattle.river_base.specs.Places.{each_grew, only};
+ghost use Rattle.kern_rows.specs.Dealing.{IsInTurn, TurnsOn};
 ghost use Rattle.kern_rows.specs.Forms.{code_form, filter_form};
-ghost use Rattle.kern_rows.specs.Needs.{CanCode};
+ghost use Rattle.kern_rows.specs.Needs.{CanCode, HaveShares};
 ghost use Rattle.kern_rows.specs.Runs.{run_kept};
+ghost use Rattle.kern_rows.specs.Turns.{shares};
 ghost use Rattle.river_kernels.specs.Kern.{code as code_kern, filter as filter_kern, deal as deal_kern};
 ghost use Rattle.brooklet_model.specs.Fire.{fire as fire_lem, values_of};
 ghost use Rattle.brooklet_model.specs.Firings.{gives};
 ghost use Rattle.brooklet_step.specs.Took.{Took};
-ghost use Rattle.brooklet_step.specs.Dealing.{IsDealt};
+ghost use Rattle.brooklet_step.specs.Dealing.{DealsItem};
 ghost use Rattle.brooklet_step.specs.Given.{CanTake, FiresAt};
 ghost use Rattle.brooklet_step.specs.Stands.{Takes, Applies, Fires, IsRow, IsSlots, Pushed, RanKept};
 
 use crate::emit::{Emit, Spare};
 use crate::state::State;
-use kern_changes::Owed;
-use kern_rows::{CodeKernel, Deal, Filter};
+use kern_rows::{CodeKernel, Deal, DealState, Filter};
 use river_base::{Flat, Item, Items, NoMemory, Numbers, Row};
 use std::alloc::Global;
 use work_code::Emitted;
@@ -157,17 +158,28 @@ pub fn fire_filter(
     }
 }
 
-// What the list at a place is given for an item: the item itself; or for a change the change of this list, by what each list owes.
-fn deal_item(alloc: Global, place: usize, item: Item, owed: &mut Owed) -> Result<Item, NoMemory>
-    requires { place < length owed.old }
-    ensures { IfOk result (λ given. IsDealt place item given owed.old owed.new) }
+// The port in turn, and what its list is given for an item: the item itself; or for a change the
+// change of this list, by what each list owes.
+fn deal_item(
+    alloc: Global,
+    weights: &Numbers,
+    item: Item,
+    dealt: &mut DealState,
+) -> Result<(u32, Item), NoMemory>
+    requires few { length weights.now < 2 ^ 32 }
+    requires weights { HaveShares (shares weights.now) }
+    requires turn { IsInTurn (shares weights.now) dealt.old.turn }
+    requires owed { length dealt.old.owed ≡ length weights.now }
+    ensures port { IfOk result (λ given. given.0 ≡ dealt.old.turn.port) }
+    ensures turn { OnOk result (TurnsOn (shares weights.now) dealt.old.turn dealt.new.turn) }
+    ensures item { IfOk result (λ given. DealsItem dealt.old.turn.port item dealt.old.owed dealt.new.owed given.1) }
 {
     match item {
         Item::Flat(Flat::Change(change)) => {
-            let given = owed.deal(alloc, place, &change)?;
-            Ok(Item::Flat(Flat::Change(given)))
+            let (port, given) = Deal::flat(alloc, weights, dealt, Flat::Change(change))?;
+            Ok((port, Item::Flat(given)))
         }
-        item => Ok(item),
+        item => Ok((Deal::step(weights, dealt), item)),
     }
 }
 
@@ -187,9 +199,8 @@ pub fn fire_deal(
     }
     match state {
         State::Deal(dealt) => {
-            let port = Deal::step(weights, &mut dealt.turn) as usize;
-            let given = deal_item(alloc, port, item, &mut dealt.owed)?;
-            out.give(port, given)
+            let (port, given) = deal_item(alloc, weights, item, dealt)?;
+            out.give(port as usize, given)
         }
         _ => unreachable!(),
     }

@@ -45,11 +45,13 @@ pub fn fire_leaf(
             fire_collect(alloc, weights, port, item, &mut states[0], out, spare)
         }
         Kernel::Unpack(ports) => fire_unpack(alloc, *ports, port, item, &mut states[0], out, spare),
-        Kernel::Window(window) => fire_window(alloc, window, item, &mut states[0], out),
-        Kernel::Select(cond) => fire_select(cond, item, out),
-        Kernel::Project(list) => fire_project(alloc, list, item, out),
+        Kernel::Window(window) => fire_window(alloc, window, item, &mut states[0], out, spare),
+        Kernel::Select(cond) => fire_select(alloc, cond, item, out, spare),
+        Kernel::Project(list) => fire_project(alloc, list, item, out, spare),
         Kernel::Cross => fire_cross(alloc, port, item, &mut states[0], out, spare),
-        Kernel::Streamer(streamer) => fire_streamer(alloc, streamer, item, &mut states[0], out),
+        Kernel::Streamer(streamer) => {
+            fire_streamer(alloc, streamer, item, &mut states[0], out, spare)
+        }
         Kernel::Tally => fire_tally(item, out),
         Kernel::Packed(_) | Kernel::Fused { .. } => unreachable!(),
     }

@@ -1,9 +1,10 @@
 // The states before the first firing.
 ghost use Rattle.std.specs.Prelude.{◌≡◌, [], ◌∷◌, length, IfOk};
 ghost use Rattle.kern_bags.specs.Kept.{window_start};
-ghost use Rattle.kern_changes.specs.Joined.{join_start};
-ghost use Rattle.kern_changes.specs.Kept.{cross_start};
+ghost use Rattle.kern_bags.specs.Following.{cross_start};
+ghost use Rattle.kern_rows.specs.Dealing.{dealt_start};
 ghost use Rattle.kern_rows.specs.Forms.{code_form, filter_form};
+ghost use Rattle.kern_rows.specs.Joined.{join_start};
 ghost use Rattle.kern_rows.specs.Needs.{CanFilter};
 ghost use Rattle.kern_rows.specs.Runs.{filter_start};
 ghost use Rattle.river_kernels.specs.Kern.{kern_of};
@@ -11,7 +12,6 @@ ghost use Rattle.brooklet_model.specs.Firings.{Buffered};
 ghost use Rattle.brooklet_model.specs.Fire.{first_slots};
 ghost use Rattle.brooklet_model.specs.Shapes.{IsFormed};
 ghost use Rattle.brooklet_step.specs.declared.state.State.TheVariants as variant;
-ghost use Rattle.brooklet_step.specs.Dealing.{dealt_start};
 ghost use Rattle.brooklet_step.specs.Given.{IsLeaf};
 ghost use Rattle.brooklet_step.specs.Took.{IsBlank};
 ghost use Rattle.brooklet_step.specs.Initial.{IsFirst};
@@ -20,9 +20,9 @@ ghost use Rattle.brooklet_step.specs.Stands.{StandsForSlots, StandsForFilter};
 use crate::emit::Emit;
 use crate::firing::blank_for;
 use crate::single::is_leaf;
-use crate::state::{Dealt, State, States};
-use kern_changes::{Content, CrossRows, JoinItems, Owed, WindowRows};
-use kern_rows::{CodeKernel, Deal, Filter};
+use crate::state::{State, States};
+use kern_bags::{Cross, Streamer, Window};
+use kern_rows::{CodeKernel, Collect, Deal, Filter, Unpack};
 use river_base::{NoMemory, Numbers};
 use river_plan::Kernel;
 use std::alloc::Global;
@@ -58,37 +58,49 @@ fn filter_states(alloc: Global, filter: &Filter) -> Result<States, NoMemory>
 fn deal_states(alloc: Global, weights: &Numbers) -> Result<States, NoMemory>
     ensures { IfOk result (λ states. states ≡ variant.Deal (dealt_start (length weights.now)) ∷ []) }
 {
-    let turn = Deal::start(weights)?;
-    let owed = Owed::start(alloc, weights.len())?;
-    let states = only(alloc, State::Deal(Dealt { turn, owed }))?;
+    let state = Deal::start(alloc, weights)?;
+    let states = only(alloc, State::Deal(state))?;
     Ok(states)
 }
 
-// The first state of a joiner with so many ports.
-fn join_states(alloc: Global, ports: usize) -> Result<States, NoMemory>
-    ensures { IfOk result (λ states. states ≡ variant.Join (join_start ports) ∷ []) }
+fn collect_states(alloc: Global, weights: &Numbers) -> Result<States, NoMemory>
+    ensures { IfOk result (λ states. states ≡ variant.Join (join_start (length weights.now)) ∷ []) }
 {
-    let state = JoinItems::start(alloc, ports)?;
+    let state = Collect::start(alloc, weights)?;
     let states = only(alloc, State::Join(state))?;
     Ok(states)
 }
 
-fn window_states(alloc: Global) -> Result<States, NoMemory>
+fn unpack_states(alloc: Global, ports: u32) -> Result<States, NoMemory>
+    ensures { IfOk result (λ states. states ≡ variant.Join (join_start ports) ∷ []) }
+{
+    let state = Unpack::start(alloc, ports)?;
+    let states = only(alloc, State::Join(state))?;
+    Ok(states)
+}
+
+fn window_states(alloc: Global, window: &Window) -> Result<States, NoMemory>
     ensures { IfOk result (λ states. states ≡ variant.Window window_start ∷ []) }
 {
-    only(alloc, State::Window(WindowRows::start(alloc)))
+    let state = window.start(alloc)?;
+    let states = only(alloc, State::Window(state))?;
+    Ok(states)
 }
 
 fn cross_states(alloc: Global) -> Result<States, NoMemory>
     ensures { IfOk result (λ states. states ≡ variant.Cross cross_start ∷ []) }
 {
-    only(alloc, State::Cross(CrossRows::start(alloc)))
+    let state = Cross::start(alloc)?;
+    let states = only(alloc, State::Cross(state))?;
+    Ok(states)
 }
 
-fn streamer_states(alloc: Global) -> Result<States, NoMemory>
+fn streamer_states(alloc: Global, streamer: &Streamer) -> Result<States, NoMemory>
     ensures { IfOk result (λ states. states ≡ variant.Streamer [] ∷ []) }
 {
-    only(alloc, State::Streamer(Content::new(alloc)))
+    let state = streamer.start(alloc)?;
+    let states = only(alloc, State::Streamer(state))?;
+    Ok(states)
 }
 
 // The first states of a kernel without a kernel inside.
@@ -104,11 +116,11 @@ fn leaf_states(alloc: Global, kernel: &Kernel) -> Result<States, NoMemory>
             Ok(States::new(alloc))
         }
         Kernel::Deal(weights) => deal_states(alloc, weights),
-        Kernel::Collect(weights) => join_states(alloc, weights.len()),
-        Kernel::Unpack(ports) => join_states(alloc, *ports as usize),
-        Kernel::Window(_) => window_states(alloc),
+        Kernel::Collect(weights) => collect_states(alloc, weights),
+        Kernel::Unpack(ports) => unpack_states(alloc, *ports),
+        Kernel::Window(window) => window_states(alloc, window),
         Kernel::Cross => cross_states(alloc),
-        Kernel::Streamer(_) => streamer_states(alloc),
+        Kernel::Streamer(streamer) => streamer_states(alloc, streamer),
         Kernel::Packed(_) | Kernel::Fused { .. } => unreachable!(),
     }
 }

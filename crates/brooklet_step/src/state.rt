@@ -1,15 +1,8 @@
 // What kernels keep between firings.
 
-use kern_changes::{Content, CrossRows, JoinItems, Owed, WindowRows};
-use kern_rows::{DealState, FilterState};
+use kern_bags::{CrossState, StreamerState, WindowState};
+use kern_rows::{CollectState, DealState, FilterState};
 use river_base::{Listed, Numbers};
-
-/// What a splitter keeps: its turn, and where it deals a relation what each list owes.
-#[derive(Drop)]
-pub struct Dealt {
-    pub turn: DealState,
-    pub owed: Owed,
-}
 
 /// What one private variable of a kernel keeps between firings.
 #[derive(Drop)]
@@ -18,16 +11,16 @@ pub enum State {
     Slots(Numbers),
     /// What a filter keeps.
     Filter(FilterState),
-    /// The turn of a splitter, and what its lists owe.
-    Deal(Dealt),
+    /// The turn of a splitter, and where it deals a relation what its lists owe.
+    Deal(DealState),
     /// What waits in a joiner, of packs or not, and what its ports owe.
-    Join(JoinItems),
+    Join(CollectState),
     /// What a window keeps.
-    Window(WindowRows),
+    Window(WindowState),
     /// What a product keeps.
-    Cross(CrossRows),
+    Cross(CrossState),
     /// The content that a streamer keeps.
-    Streamer(Content),
+    Streamer(StreamerState),
 }
 
 /// A state for each private variable of a kernel; of two kernels, those of the first and then those of the second.

@@ -1,18 +1,33 @@
-use Rattle.std.proofs.Common.{[], ap, ◌∙◌, subst}
-use Rattle.river_base.specs.declared.item.Item.TheVariants.{Flat}
+use Rattle.std.proofs.Common.{[], sym, subst}
+use Rattle.std.proofs.lemmas.Result.{on_ok_weaker}
 use Rattle.work_code.specs.Term.{term}
+use Rattle.kern_bags.specs.Following.{SelectsFlat}
 use Rattle.river_kernels.specs.Kern.{select}
-use Rattle.brooklet_step.specs.Given.{CanTake}
-use Rattle.brooklet_step.proofs.BagLeaves.{select_no_row, select_no_pack}
+use Rattle.brooklet_step.specs.Given.{CanTake, FiresAt}
+use Rattle.brooklet_step.proofs.BagLeaves.{select_item, select_flat_can, select_room}
+use Rattle.brooklet_step.proofs.RowwiseFires.{select_flat_does}
 use Rattle.brooklet_step.proofs.bag.fire_select.Goals as goal
 
-pub unreachable-requires : goal.unreachable-requires
-unreachable-requires c =
-    let e = term c.args.cond.now in
-    let is = c.in-Flat-One.is ∙ ap (λ f. Flat f) c.in-Flat-One.field-0-is in
-    select_no_row e c.in-Flat-One.field-0-0 [] c.args.out.now (subst (λ i. CanTake (select e) 0 i [] c.args.out.now) is c.requires)
+pub flat_of-requires : goal.flat_of-requires
+flat_of-requires c = select_item (term c.args.cond.now) c.args.item [] c.args.out.now c.requires
 
-pub unreachable-requires-in-Pack : goal.unreachable-requires-in-Pack
-unreachable-requires-in-Pack c =
+pub select-requires : goal.select-requires
+select-requires c =
     let e = term c.args.cond.now in
-    select_no_pack e c.in-Pack.field-0 [] c.args.out.now (subst (λ i. CanTake (select e) 0 i [] c.args.out.now) c.in-Pack.is c.requires)
+    select_flat_can e c.flat_of.result [] c.args.out.now (subst (λ i. CanTake (select e) 0 i [] c.args.out.now) (sym c.flat_of.ensures) c.requires)
+
+pub give_all-requires : goal.give_all-requires
+give_all-requires c = select_room (term c.args.cond.now) c.args.item [] c.args.out.now c.requires
+
+pub returns : goal.returns
+returns c =
+    let e = term c.args.cond.now in
+    let f = c.flat_of.result in
+    let items = c.select.new.out in
+    let out = c.args.out.now in
+    let out' = c.give_all.new.self in
+    let can = subst (λ i. CanTake (select e) 0 i [] out) (sym c.flat_of.ensures) c.requires in
+    let one = subst (λ l. SelectsFlat e f l items) c.take_items-items.ensures c.in_ok-select.ensures.ok in
+    on_ok_weaker c.give_all.result (λ took.
+    subst (λ i. FiresAt (select e) 0 i out out' [] []) c.flat_of.ensures (select_flat_does e f items out out' can one took)
+    ) c.give_all.ensures
