@@ -8,7 +8,8 @@ use Rattle.river_base.specs.declared.item.Flat.TheVariants.{Batch as Batched, Ch
 use Rattle.river_base.specs.declared.item.Item as item
 use Rattle.river_base.specs.declared.item.Item.TheVariants.{Flat}
 use Rattle.work_code.specs.Term.{Term}
-use Rattle.kern_bags.specs.Following.{as_changes, Projects, ProjectsFlat, StreamSteps, StreamsFlat, CrossKept, Crosses, CrossFits, put_change, StandsForCrossing, CrossesFlat, CrossesPart}
+use Rattle.kern_bags.specs.Following.{as_changes, Projects, ProjectsFlat, StreamSteps, StreamsFlat, CrossKept, Crosses}
+use Rattle.kern_bags.specs.Following.{CrossFits, put_change, StandsForCrossing, CrossesFlat, CrossesPart}
 use Rattle.kern_bags.specs.declared.kernel.Streamer.{Streamer}
 
 same_change : (c d : Change) → Changed c ≡ Changed d → c ≡ d

@@ -120,7 +120,8 @@ pub record StreamsFree (s : Streamer) (c : Change) (given : Batch) : Type 0 wher
 
 -- a change came to a streamer that keeps the content as a bag: whatever the content was, the batch is all of it
 pub record StreamsAll (c : Change) (old new : List (List ℤ)) (given : Batch) : Type 0 where
-  pub each : (before : List (List ℤ)) (b : Batch) → IsAscending b.rows → AreSame old before → c ≡ change_to before b → (given ≡ stamped_as b (streamed Rstream before b.rows))
+  pub each : (before : List (List ℤ)) (b : Batch) → IsAscending b.rows → AreSame old before → c ≡ change_to before b
+      → (given ≡ stamped_as b (streamed Rstream before b.rows))
       × AreSame new b.rows
 
 -- A PRODUCT OF TWO RELATIONS
