@@ -195,6 +195,7 @@ module _ (es : List Term) (i : item.Item) (st : List State) (out : Emit) (t : Ca
       let k = flat_changed f i e project_item in
       subst (CanProjectFlat es) (sym k.is) (project_can k.change (ap (λ x. Flat x) (sym k.is) ∙ e))
 
+  -- there is a list for what a projection gives
   pub project_room : 0 < length out.outs
   project_room = one_list (project es) out refl t.room
 
@@ -208,6 +209,7 @@ module _ (r : Streamer) (i : item.Item) (st : List State) (out : Emit) (t : CanT
       let h = relation_holds f.0 i (held_first (relation f.0) 0 i (subst (λ l. IsHeldOf l 0 i) f.1 t.item)) in
       record { change = h.change; is = h.is }
 
+  -- there is a list for what a streamer gives
   pub streamer_room : 0 < length out.outs
   streamer_room = one_list (streamer r) out refl t.room
 
@@ -238,5 +240,6 @@ module _ (port : ℕ) (i : item.Item) (s : State) (out : Emit) (t : CanTake cros
       let k = flat_changed g i h cross_item in
       subst (λ x. CanCrossFlat port x now) (sym k.is) (cross_can now k.change e (ap (λ x. Flat x) (sym k.is) ∙ h))
 
+  -- there is a list for what a product gives
   pub cross_room : 0 < length out.outs
   cross_room = one_list cross out refl t.room

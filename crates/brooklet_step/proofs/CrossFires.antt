@@ -85,6 +85,7 @@ nothing_wide a b few = record {
 of_types : (a b c d : ℕ) (s : CrossKept) → relation a ∷ relation b ∷ [] ≡ relation c ∷ relation d ∷ [] → IsCrossOf a b s → IsCrossOf c d s
 of_types a b c d s e h = let p = same_relations a b c d e in subst (λ i. IsCrossOf i d s) p.0 (subst (λ j. IsCrossOf a j s) p.1 h)
 
+-- the first state of a product fits it
 pub cross_first_fits : (reads writes : List QueueType) (vars : List VarKind) → Fits cross reads writes vars → FitState cross reads (state.Cross cross_start ∷ [])
 cross_first_fits reads writes vars f = record {
   now = cross_start;

@@ -101,6 +101,7 @@ all_plain ts p [] a h = All-nil (IsHeldOf ts p)
 all_plain ts p (x ∷ xs) a h =
     All-cons (IsHeldOf ts p) x xs (plain_of ts p x a (All-head (IsOf ts p) x xs h)) (all_plain ts p xs a (All-tail (IsOf ts p) x xs h))
 
+-- where a queue holds items as they are, all that it holds have its type
 pub all_of : (ts : List QueueType) (p : ℕ) (xs : List item.Item) → IsPlainBy (slice_get ts p) → All (IsHeldOf ts p) xs → All (IsOf ts p) xs
 all_of ts p [] a h = All-nil (IsOf ts p)
 all_of ts p (x ∷ xs) a h =

@@ -46,6 +46,7 @@ kernel_at raw p o d op v g e =
     let s : slice_get raw.ops o ≡ Some d = slice_get-get_or raw.ops o d lt ∙ ap Some (sym e) in
     ap (λ (f : OpForm). f.kernel) (some_is (op_form d) op (sym (got_map op_form raw.ops o d s) ∙ h))
 
+-- an operator of the plan as data is one of the plan
 pub op_there : (raw : RawPlan) (p : PlanForm) (o : ℕ) (op : OpForm) → plan_form raw ≡ p → slice_get p.ops o ≡ Some op → o < length raw.ops
 op_there raw p o op v g =
     let h : slice_get (op_forms raw.ops) o ≡ Some op = ap (λ (q : PlanForm). slice_get q.ops o) v ∙ g in

@@ -69,14 +69,17 @@ pub batch_held : (n : ℕ) (b : Batch) → HaveWidth n b.rows → IsHeld (stream
 unfolding IsHeld
 batch_held n b h = h
 
+-- a normalised change of the width may be held by a queue of a relation
 pub change_held : (n : ℕ) (c : Change) → IsChangeOf n c → IsHeld (relation n) (Flat (Changed c))
 unfolding IsHeld
 change_held n c h = h
 
+-- a batch that a queue of a stream may hold has rows of its width
 pub held_batch : (n : ℕ) (b : Batch) → IsHeld (stream n) (Flat (Batched b)) → HaveWidth n b.rows
 unfolding IsHeld
 held_batch n b h = h
 
+-- a change that a queue of a relation may hold is normalised and of its width
 pub held_change : (n : ℕ) (c : Change) → IsHeld (relation n) (Flat (Changed c)) → IsChangeOf n c
 unfolding IsHeld
 held_change n c h = h
@@ -106,6 +109,7 @@ relation_typed n (Pack fs) h = absurd h
 pub same_item : (x i : item.Item) → x ∷ [] ≡ i ∷ [] → x ≡ i
 same_item x i e = cc
 
+-- lists of one state are the same where the states are
 pub same_state : (s t : State) → s ∷ [] ≡ t ∷ [] → s ≡ t
 same_state s t e = cc
 
@@ -127,6 +131,7 @@ same_columns m n e = cc
 pub same_stream : (n m : ℕ) → Some (stream n) ≡ Some (stream m) → n ≡ m
 same_stream n m e = cc
 
+-- relations of one type are as wide
 pub same_relation : (n m : ℕ) → Some (relation n) ≡ Some (relation m) → n ≡ m
 same_relation n m e = cc
 
@@ -142,6 +147,7 @@ pub typed_first : (t : QueueType) (p : ℕ) (x : item.Item) → IsOf (t ∷ []) 
 typed_first t zero x h = h
 typed_first t (suc p) x h = absurd h
 
+-- an item of a kernel with one input port comes to the first
 pub typed_port : (t : QueueType) (p : ℕ) (x : item.Item) → IsOf (t ∷ []) p x → p ≡ 0
 typed_port t zero x h = refl
 typed_port t (suc p) x h = absurd h

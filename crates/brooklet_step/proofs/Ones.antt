@@ -83,10 +83,12 @@ pub first_fires : (k j : Kern) (port : ℕ) (i : item.Item) (st : List State) (d
 first_fires k j port i st d s s' out out' e a b g t f =
     zero_fires k j port i st (set st 0 s') out out' e a t (one_fires j 0 i st d s s' out out' b g (zero_can k j port i st out e a t) f)
 
+-- a kernel without state, at its only port, can take what came
 pub free_can : (k j : Kern) (port : ℕ) (i : item.Item) (st : List State) (out : Emit) → k ≡ j → ins j ≡ 1 → privates j ≡ 0 → CanTake k port i st out
     → CanTake j 0 i [] out
 free_can k j port i st out e a b t = none_can j 0 i st out b (zero_can k j port i st out e a t)
 
+-- what it does there is the firing
 pub free_fires : (k j : Kern) (port : ℕ) (i : item.Item) (st : List State) (out out' : Emit) → k ≡ j → ins j ≡ 1 → privates j ≡ 0 → CanTake k port i st out
     → FiresAt j 0 i out out' [] [] → FiresAt k port i out out' st st
 free_fires k j port i st out out' e a b t f =
@@ -94,10 +96,12 @@ free_fires k j port i st out out' e a b t f =
 
 -- MANY PORTS AND ONE STATE
 
+-- a kernel with one state can take what came
 pub ports_can : (k j : Kern) (port : ℕ) (i : item.Item) (st : List State) (d s : State) (out : Emit) → k ≡ j → privates j ≡ 1 → s ≡ get_or st 0 d
     → CanTake k port i st out → CanTake j port i (s ∷ []) out
 ports_can k j port i st d s out e b g t = one_can j port i st d s out b g (same_can k j port i st out e t)
 
+-- what it does with that state is the firing
 pub ports_fires : (k j : Kern) (port : ℕ) (i : item.Item) (st : List State) (d s s' : State) (out out' : Emit) → k ≡ j → privates j ≡ 1 → s ≡ get_or st 0 d
     → CanTake k port i st out → FiresAt j port i out out' (s ∷ []) (s' ∷ []) → FiresAt k port i out out' st (set st 0 s')
 ports_fires k j port i st d s s' out out' e b g t f =

@@ -55,11 +55,13 @@ pub code_applies : (k : CodeForm) (port : ℕ) (i : item.Item) (st : List State)
 code_applies k port i st out t =
     simple_applies (code k) port i st out tt t (subst (λ (l : List QueueType). IsPlainBy (slice_get l port)) (sym t.fitting.fits.0) (one_plain (rows k.body.inputs) tt port))
 
+-- where a filter can take an item, it applies to it
 pub filter_applies : (f : FilterForm) (port : ℕ) (i : item.Item) (st : List State) (out : Emit) → CanTake (filter f) port i st out
     → Applies (filter f) port i st out
 filter_applies f port i st out t =
     simple_applies (filter f) port i st out tt t (subst (λ (l : List QueueType). IsPlainBy (slice_get l port)) (sym t.fitting.fits.0) (one_plain (rows 1) tt port))
 
+-- where a tally can take an item, it applies to it
 pub tally_applies : (port : ℕ) (i : item.Item) (st : List State) (out : Emit) → CanTake tally port i st out → Applies tally port i st out
 tally_applies port i st out t =
     simple_applies tally port i st out tt t (subst (λ (l : List QueueType). IsPlainBy (slice_get l port)) (sym t.fitting.fits.1) (one_plain (rows t.fitting.fits.0) tt port))
@@ -73,6 +75,7 @@ code_does k port i out out' st st' f = record {
       (subst ArePlain (sym fits.1) (ports_plain k.outs));
 }
 
+-- what a filter does by the definition is the firing
 pub filter_does : (g : FilterForm) (port : ℕ) (i : item.Item) (out out' : Emit) (st st' : List State)
     → Fires (filter g) out out' st st' (fire (filter g) port i) → FiresAt (filter g) port i out out' st st'
 filter_does g port i out out' st st' f = record {
@@ -81,6 +84,7 @@ filter_does g port i out out' st st' f = record {
       (subst ArePlain (sym fits.1) (one_plain (rows 1) tt));
 }
 
+-- what a tally does by the definition is the firing
 pub tally_does : (port : ℕ) (i : item.Item) (out out' : Emit) (st st' : List State) → Fires tally out out' st st' (fire tally port i)
     → FiresAt tally port i out out' st st'
 tally_does port i out out' st st' f = record {

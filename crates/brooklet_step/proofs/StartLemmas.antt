@@ -146,6 +146,7 @@ module _ (p : PlanForm) (v : IsPlan p) (inputs : List (List item.Item)) (fit : F
   before : length (replicate {A = List item.Item} (length p.outputs) []) ≡ length outs_n
   before = length-replicate (length p.outputs) [] ∙ sym (length-map p.outputs (λ (d : Decl). d.name))
 
+  -- at the start there is a list for each queue
   pub queues_many : length first_queues ≡ length (queue_names p)
   queues_many =
       let a = length-append (replicate {A = List item.Item} (length p.outputs) []) (inputs ++ replicate (length p.queues) []) in
@@ -162,6 +163,7 @@ module _ (p : PlanForm) (v : IsPlan p) (inputs : List (List item.Item)) (fit : F
       ap (list_at first_queues) (e ∙ ap (λ n. n + k) (sym before))
       ∙ get_or-append-add (replicate {A = List item.Item} (length p.outputs) []) (inputs ++ replicate (length p.queues) []) k []
 
+  -- the first items of a queue are those that its input has
   pub first_hist : (q : Name) → 0 < count q (queue_names p) → inputs_of ins_n (list_at inputs) q ≡ list_at first_queues (place (queue_names p) q)
   first_hist q lt =
       let a = count-append q outs_n (ins_n ++ others_n) in

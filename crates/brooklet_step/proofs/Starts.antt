@@ -164,6 +164,7 @@ fused_first a b at st st' f h g = record {
 
 -- THE PLAIN FORM OF EACH KERNEL
 
+-- a body as plain data
 pub kern_of-code : (k : CodeKernel) → kern_of (kernel.Code k) ≡ code (code_form k)
 kern_of-code k = ap kern_of (sym (kernel.rolls-Code k)) ∙ fold-roll-Kernel Kern kern_at (layer.Code k)
 

@@ -46,6 +46,7 @@ start_keeps Rstream = record { each = λ row. refl }
 pub streamer_first_after : (s : Streamer) (reads : List QueueType) → StandsAfter (streamer s) reads (first_kept (streamer s)) (state.Streamer [] ∷ []) []
 streamer_first_after s reads = record { now = []; past = []; code = refl; defined = refl; last = refl; kept = start_keeps s }
 
+-- the first state of a streamer fits it
 pub streamer_first_fits : (s : Streamer) (reads writes : List QueueType) (vars : List VarKind) → Fits (streamer s) reads writes vars
     → FitState (streamer s) reads (state.Streamer [] ∷ [])
 streamer_first_fits s reads writes vars f = record { now = []; code = refl; wide = λ n e. All-nil (λ (row : List ℤ). length row ≡ n) }

@@ -60,6 +60,7 @@ start_stands v = record { now = refl; rows = sym (still_none v (pos 0)) }
 pub window_first_after : (v : Window) (reads : List QueueType) → StandsAfter (window v) reads (first_kept (window v)) (state.Window window_start ∷ []) []
 window_first_after v reads = record { now = window_start; past = []; code = refl; defined = refl; stands = start_stands v; given = content_none v }
 
+-- the first state of a window fits it
 pub window_first_fits : (v : Window) (reads writes : List QueueType) (vars : List VarKind) → Fits (window v) reads writes vars
     → FitState (window v) reads (state.Window window_start ∷ [])
 window_first_fits v reads writes vars f = record {
