@@ -27,7 +27,6 @@ use Rattle.kern_changes.specs.declared.owed.Debt.{Debt}
 use Rattle.kern_changes.specs.Owed.{OweLittle, AreDebtsOf, no_debt}
 use Rattle.kern_rows.proofs.JoinLaws.{held_from-append}
 use Rattle.kern_changes.proofs.LawProofs.{nothing_holds}
-use Rattle.kern_rows.proofs.Passed.{start_joined}
 use Rattle.river_kernels.specs.declared.types.VarKind.{VarKind}
 use Rattle.river_kernels.specs.Fits.{Fits}
 use Rattle.river_kernels.specs.Kern.{Kern, collect, unpack}
@@ -38,7 +37,7 @@ use Rattle.brooklet_model.specs.Typed.{IsTyped, IsOf, AreOf, AreWaiting, Holds, 
 use Rattle.brooklet_model.specs.Words.{Word, run, at_port}
 use Rattle.brooklet_model.proofs.Free.{at_port-append}
 use Rattle.brooklet_model.proofs.Ports.{shaped}
-use Rattle.brooklet_model.proofs.Shapes.{fire_shape}
+use Rattle.brooklet_model.proofs.Shapes.{fire_shape, first_turn}
 use Rattle.brooklet_model.proofs.Swaps.{at_port_past}
 use Rattle.brooklet_model.proofs.Typing.{fire_typed}
 use Rattle.brooklet_step.specs.declared.emit.Emit.{Emit}
@@ -561,7 +560,10 @@ start_empty n = record {
 }
 
 start_shape : (wl : List ℕ) → HaveShares wl → HasJoinShape wl (join_start (length wl))
-start_shape wl some = record { joined = start_joined wl some; owed = length-replicate (length wl) no_debt }
+start_shape wl some = record {
+  joined = record { turn = first_turn wl some; lists = length-replicate (length wl) [] };
+  owed = length-replicate (length wl) no_debt;
+}
 
 start_stands : (k : Kern) (n : ℕ) → first_kept k ≡ Joining (join_start n).turns ∷ [] → ContentsWait k (first_kept k) (join_start n) []
 start_stands k n e = record {
