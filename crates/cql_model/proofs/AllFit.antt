@@ -3,7 +3,7 @@ use Rattle.std.proofs.Common.{◌≡◌, ℕ, zero, suc, ◌+◌, ◌<◌, true,
 use Rattle.std.proofs.Common.{length-append}
 use Rattle.std.specs.Prelude.{if◌then◌else◌, nat_le}
 use Rattle.std.specs.List.{flat_map}
-use Rattle.std.proofs.lemmas.Bool.{cases_lt}
+use Rattle.std.proofs.lemmas.Bool.{cases_lt, and_from, le-leb}
 use Rattle.river_base.specs.declared.kind.FlatType.TheVariants.{Stream}
 use Rattle.river_base.specs.declared.kind.QueueType.{QueueType}
 use Rattle.river_kernels.specs.declared.types.VarKind.{VarKind}
@@ -147,7 +147,7 @@ module _ (kind : Name → QueueType) (var : Name → VarKind) (inputs all : List
       ap (λ (x : QueueType). x ∷ []) k,
       one.copies_kinds kind var (copy_names n 0 (suc (suc u))) (stream width) d ∙ ap (λ m. replicate m (stream width)) (one.length-copies kind var n 0 (suc (suc u))),
       refl,
-      one.both (is_width width) (nat_le 1 (suc (suc u))) w (one.le_true 1 (suc (suc u)) (omega arith)),
+      and_from (is_width width) (nat_le 1 (suc (suc u))) w (le-leb 1 (suc (suc u)) (omega arith)),
     ),
     tt,
   )

@@ -4,6 +4,7 @@ use Rattle.std.proofs.Common.{⊎_elim, append_assoc, append-nil, length-append}
 use Rattle.std.specs.Prelude.{nat_lt, nat_eq, IsTrue}
 use Rattle.std.specs.List.{AllByRecursion}
 use Rattle.std.proofs.lemmas.List.{length-map}
+use Rattle.std.proofs.lemmas.Bool.{ltb-false}
 use Rattle.cql_text.specs.Tree.{Window, Now, Range, Unbounded, Latest}
 use Rattle.river_kernels.specs.Fits.{rows}
 use Rattle.river_kernels.specs.Formed.{is_width, is_window}
@@ -24,7 +25,9 @@ use Rattle.cql_text.specs.Tree.{Source, Column, Columns, Star, Chosen, Query, Re
 use Rattle.cql_model.specs.Scopes.{Named, item_named, scope_of}
 use Rattle.cql_model.specs.Translation.{widths_of, query_named, columns_width}
 use Rattle.cql_model.proofs.AllFit.{sized_scope, columns_many}
-use Rattle.cql_model.proofs.Valid.{sized_some, wide, Sized}
+use Rattle.cql_model.proofs.Valid.{sized_some, Sized}
+use Rattle.cql_model.proofs.SpotFaults.{eq_no}
+use Rattle.cql_model.proofs.Fitting.{wide}
 
 first_none : (a b : Option Fault) → then_fault a b ≡ None → a ≡ None
 first_none None b h = refl
@@ -41,12 +44,6 @@ if_none false f h = refl
 unit_none : (unit : ℕ) (a : Option Fault) (o : Option Refusal) → in_unit unit a o ≡ None → (a ≡ None) × (o ≡ None)
 unit_none unit None o h = (refl, h)
 unit_none unit (Some f) o h = absurd (cc h)
-
-not_zero : (n : ℕ) → nat_eq n 0 ≡ false → 0 < n
-not_zero n h = grind (arith, h)
-
-not_above : (m n : ℕ) → nat_lt m n ≡ false → n ≤ m
-not_above m n h = grind (arith, h)
 
 window_good : (w : Window) → is_rows_fault w ≡ false → IsTrue (is_window (kernel_window w))
 window_good Now h = refl
@@ -78,14 +75,14 @@ items_good known scope (i ∷ is) few narrow h =
     let one_b = then_none a (then_fault b (then_fault c (then_fault d e))) one in
     let one_c = then_none b (then_fault c (then_fault d e)) one_b in
     let one_d = then_none c (then_fault d e) one_c in
-    let short = not_above 3 (length scope) (if_none (nat_lt 3 (length scope)) Limit (first_none b (then_fault c (then_fault d e)) one_b)) in
+    let short = ltb-false 3 (length scope) (if_none (nat_lt 3 (length scope)) Limit (first_none b (then_fault c (then_fault d e)) one_b)) in
     let longer = length-append scope (named ∷ []) in
-    let slim = not_above 16 (widths_of (scope ++ named ∷ [])) (if_none (nat_lt 16 (widths_of (scope ++ named ∷ []))) Limit (then_none d e one_d)) in
+    let slim = ltb-false 16 (widths_of (scope ++ named ∷ [])) (if_none (nat_lt 16 (widths_of (scope ++ named ∷ []))) Limit (then_none d e one_d)) in
     let more = items_good known (scope ++ named ∷ []) is (omega (arith, longer, short)) slim rest in
     record {
       few = (let m = more.few in omega (arith, m, longer));
       streams =
-          (not_zero (count i.stream (known_names known)) (if_none (nat_eq (count i.stream (known_names known)) 0) UnknownStream (first_none a (then_fault b (then_fault c (then_fault d e))) one)), more.streams);
+          (eq_no (count i.stream (known_names known)) (if_none (nat_eq (count i.stream (known_names known)) 0) UnknownStream (first_none a (then_fault b (then_fault c (then_fault d e))) one)), more.streams);
       windows = (window_good i.window (if_none (is_rows_fault i.window) Limit (first_none c (then_fault d e) one_c)), more.windows);
       product = subst (λ (l : List Named). widths_of l ≤ 16) (append_assoc scope (named ∷ []) (scope_of known is)) more.product;
     }
@@ -97,7 +94,7 @@ chosen_few scope k [] le h = omega (arith, le)
 chosen_few scope k (c ∷ cs) le h =
     let a = fault_if (nat_lt 15 k) Limit in
     let rest = then_fault (scalar_fault scope c.value) (chosen_fault scope (k + 1) cs) in
-    let short = not_above 15 k (if_none (nat_lt 15 k) Limit (first_none a rest h)) in
+    let short = ltb-false 15 k (if_none (nat_lt 15 k) Limit (first_none a rest h)) in
     let m = chosen_few scope (k + 1) cs (omega (arith, short)) (then_none (scalar_fault scope c.value) (chosen_fault scope (k + 1) cs) (then_none a rest h)) in
     omega (arith, m)
 
@@ -137,7 +134,7 @@ fields_few past (f ∷ fs) le h =
     let b = fault_if (nat_lt 15 (length past)) Limit in
     let c = fields_fault (past ++ f ∷ []) fs in
     let rest = then_none a (then_fault b c) h in
-    let short = not_above 15 (length past) (if_none (nat_lt 15 (length past)) Limit (first_none b c rest)) in
+    let short = ltb-false 15 (length past) (if_none (nat_lt 15 (length past)) Limit (first_none b c rest)) in
     let longer = length-append past (f ∷ []) in
     let m = fields_few (past ++ f ∷ []) fs (omega (arith, longer, short)) (then_none b c rest) in
     omega (arith, m, longer)
@@ -152,7 +149,7 @@ names_good (AQuery q ∷ ps) s = (s.0, names_good ps s.2)
 new_name : (known : List Named) (n : Name) (rest : Option Fault) → then_fault (fault_if (nat_lt 0 (count n (known_names known))) NameTwice) rest ≡ None
     → count n (known_names known) ≤ 0
 new_name known n rest h =
-    not_above 0 (count n (known_names known)) (if_none (nat_lt 0 (count n (known_names known))) NameTwice (first_none (fault_if (nat_lt 0 (count n (known_names known))) NameTwice) rest h))
+    ltb-false 0 (count n (known_names known)) (if_none (nat_lt 0 (count n (known_names known))) NameTwice (first_none (fault_if (nat_lt 0 (count n (known_names known))) NameTwice) rest h))
 
 abbrev Distinct : List Named → Type 0
 Distinct ks = (n : Name) → count n (known_names ks) ≤ 1

@@ -3,7 +3,7 @@ use Rattle.std.proofs.Common.{◌≡◌, ℕ, zero, suc, ◌+◌, ◌<◌, ◌�
 use Rattle.std.proofs.Common.{map, replicate}
 use Rattle.std.specs.Prelude.{codes, if◌then◌else◌, IsTrue, ◌&&◌, nat_le, max}
 use Rattle.std.specs.List.{list_all, AllByRecursion}
-use Rattle.std.proofs.lemmas.Bool.{and_parts}
+use Rattle.std.proofs.lemmas.Bool.{and_parts, and_from, le-leb}
 use Rattle.std.proofs.lemmas.List.{length-map}
 use Rattle.river_base.specs.Name.{name_eq}
 use Rattle.river_base.specs.declared.kind.FlatType.TheVariants.{Stream, Relation}
@@ -30,11 +30,6 @@ use Rattle.cql_model.specs.Translation.{columns_width, out_decls, query_decls}
 use Rattle.cql_model.proofs.Counting.{stream_op, project_from, block_ops}
 use Rattle.river_plan.proofs.ShareLemmas.{each_append}
 use Rattle.cql_model.proofs.Walk.{each-append}
-
--- two tests that hold
-pub both : (a b : Bool) → a ≡ true → b ≡ true → a && b ≡ true
-both true b h g = g
-both false b h g = h
 
 -- VALUES
 
@@ -89,7 +84,7 @@ sound scope (ItemField a f) = place_sound (item_place a f scope) (widths_of scop
 sound scope (Neg e) = sound scope e
 sound scope (Not e) = sound scope e
 sound scope (Bin o l r) =
-    both (is_sound (widths_of scope) 0 (resolved scope l)) (is_sound (widths_of scope) 0 (resolved scope r)) (sound scope l) (sound scope r)
+    and_from (is_sound (widths_of scope) 0 (resolved scope l)) (is_sound (widths_of scope) 0 (resolved scope r)) (sound scope l) (sound scope r)
 
 place_depth : (o : Option ℕ) → depth_of (at_place o) ≡ 1
 place_depth None = refl
@@ -103,21 +98,18 @@ same_depth scope (Neg e) = ap suc (same_depth scope e)
 same_depth scope (Not e) = ap suc (same_depth scope e)
 same_depth scope (Bin o l r) = ap (λ n. suc (max n (depth_of (resolved scope r)))) (same_depth scope l) ∙ ap (λ n. suc (max (scalar_depth l) n)) (same_depth scope r)
 
--- the test of a number that is not above another
-pub le_true : (a b : ℕ) → a ≤ b → nat_le a b ≡ true
-le_true a b h = grind (arith, h)
-
 pub is_value : (scope : List Named) (e : Scalar) → scalar_depth e ≤ 64 → is_term (widths_of scope) 0 (resolved scope e) ≡ true
 is_value scope e h =
-    both (is_sound (widths_of scope) 0 (resolved scope e)) (nat_le (depth_of (resolved scope e)) 64) (sound scope e) (le_true (depth_of (resolved scope e)) 64 (let d = same_depth scope e in omega (arith, d, h)))
+    and_from (is_sound (widths_of scope) 0 (resolved scope e)) (nat_le (depth_of (resolved scope e)) 64) (sound scope e) (le-leb (depth_of (resolved scope e)) 64 (let d = same_depth scope e in omega (arith, d, h)))
 
 are_values : (scope : List Named) (cs : List Column) → AllByRecursion (λ (c : Column). scalar_depth c.value ≤ 64) cs
     → list_all (is_term (widths_of scope) 0) (terms_of scope cs) ≡ true
 are_values scope [] h = refl
 are_values scope (c ∷ cs) h =
-    both (is_term (widths_of scope) 0 (resolved scope c.value)) (list_all (is_term (widths_of scope) 0) (terms_of scope cs)) (is_value scope c.value h.0) (are_values scope cs h.1)
+    and_from (is_term (widths_of scope) 0 (resolved scope c.value)) (list_all (is_term (widths_of scope) 0) (terms_of scope cs)) (is_value scope c.value h.0) (are_values scope cs h.1)
 
-wide : (n : ℕ) → 1 ≤ n → n ≤ 16 → is_width n ≡ true
+-- a number from 1 to 16 is a width
+pub wide : (n : ℕ) → 1 ≤ n → n ≤ 16 → is_width n ≡ true
 wide n h g = grind (arith, h, g)
 
 -- a width is from 1 to 16
@@ -160,7 +152,7 @@ module _ (kind : Name → QueueType) (var : Name → VarKind) where
   windows_fit known b k [] srcs s d z w o = tt
   windows_fit known b k (i ∷ is) [] s d z w o = tt
   windows_fit known b k (i ∷ is) (src ∷ srcs) s d z w o = (
-    (length (fields_of known i.stream), ap (λ (x : QueueType). x ∷ []) s.0, ap (λ (x : QueueType). x ∷ []) d.0, ap (λ (x : VarKind). x ∷ []) (o.0 (w_name b k) (count_first (w_name b k) [])), both (is_width (length (fields_of known i.stream))) (is_window (kernel_window i.window)) z.0 w.0),
+    (length (fields_of known i.stream), ap (λ (x : QueueType). x ∷ []) s.0, ap (λ (x : QueueType). x ∷ []) d.0, ap (λ (x : VarKind). x ∷ []) (o.0 (w_name b k) (count_first (w_name b k) [])), and_from (is_width (length (fields_of known i.stream))) (is_window (kernel_window i.window)) z.0 w.0),
     windows_fit known b (k + 1) is srcs s.1 d.1 z.1 w.1 o.1,
   )
 
@@ -177,8 +169,8 @@ module _ (kind : Name → QueueType) (var : Name → VarKind) where
       let n = length (fields_of known i.stream) in
       let m = widths_of (scope_of known is) in
       let rest = crosses_fit known b (x_name b k) (width + n) (k + 1) is d.0 (omega (arith, some)) (omega (arith, few)) w.1 d.1 z.1 o.1 in
-      let fits = both (is_width width) (is_width n && is_width (width + n)) (wide width some (omega (arith, few)))
-      (both (is_width n) (is_width (width + n)) z.0 (wide (width + n) (omega (arith, some)) (omega (arith, few)))) in (
+      let fits = and_from (is_width width) (is_width n && is_width (width + n)) (wide width some (omega (arith, few)))
+      (and_from (is_width n) (is_width (width + n)) z.0 (wide (width + n) (omega (arith, some)) (omega (arith, few)))) in (
         ((width, n, ap (λ x. two x (kind (w_name b k))) l ∙ ap (λ y. two (relation width) y) w.0, ap (λ (x : QueueType). x ∷ []) d.0, ap (λ (x : VarKind). x ∷ []) (o.0 (x_name b k) (count_first (x_name b k) [])), fits), rest.0),
         rest.1 ∙ ap relation (omega arith),
       )
@@ -200,7 +192,7 @@ module _ (kind : Name → QueueType) (var : Name → VarKind) where
       → Each Fit (select_ops b scope last o) × (kind (select_last b last o) ≡ relation (widths_of scope))
   select_fits b scope last None l n h d = (tt, l)
   select_fits b scope last (Some e) l n h d = (
-    ((Relation (widths_of scope), ap (λ (x : QueueType). x ∷ []) l, ap (λ (x : QueueType). x ∷ []) d.0, refl, both (is_width (widths_of scope)) (is_term (widths_of scope) 0 (resolved scope e)) n (is_value scope e h)), tt),
+    ((Relation (widths_of scope), ap (λ (x : QueueType). x ∷ []) l, ap (λ (x : QueueType). x ∷ []) d.0, refl, and_from (is_width (widths_of scope)) (is_term (widths_of scope) 0 (resolved scope e)) n (is_value scope e h)), tt),
     d.0,
   )
 
@@ -216,8 +208,9 @@ module _ (kind : Name → QueueType) (var : Name → VarKind) where
             ap (λ (x : QueueType). x ∷ []) l,
             ap (λ (x : QueueType). x ∷ []) (d.0 ∙ ap relation (sym e)),
             refl,
-            both (is_width (widths_of scope)) (is_width (length (terms_of scope cs)) && list_all (is_term (widths_of scope) 0) (terms_of scope cs)) n
-                (both (is_width (length (terms_of scope cs))) (list_all (is_term (widths_of scope) 0) (terms_of scope cs)) (ap is_width e ∙ c) (are_values scope cs h)),
+            and_from (is_width (widths_of scope)) (is_width (length (terms_of scope cs)) && list_all (is_term (widths_of scope) 0) (terms_of scope cs)) n
+                (and_from (is_width (length (terms_of scope cs))) (list_all (is_term (widths_of scope) 0) (terms_of scope cs)) (ap is_width e ∙ c)
+                (are_values scope cs h)),
           ),
           tt,
         ),
@@ -244,7 +237,7 @@ module _ (kind : Name → QueueType) (var : Name → VarKind) where
         ap (λ (x : QueueType). x ∷ []) d.0,
         ap (λ x. x ∷ map kind (copy_names b 0 (suc u))) o ∙ ap (λ l. stream width ∷ l) (copies_kinds (copy_names b 0 (suc u)) (stream width) d.1 ∙ ap (λ m. replicate m (stream width)) (length-copies b 0 (suc u))),
         refl,
-        both (is_width width) (nat_le 1 (suc (suc u))) n (le_true 1 (suc (suc u)) (omega arith)),
+        and_from (is_width width) (nat_le 1 (suc (suc u))) n (le-leb 1 (suc (suc u)) (omega arith)),
       ),
       tt,
     ),

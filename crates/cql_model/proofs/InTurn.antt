@@ -33,6 +33,7 @@ use Rattle.cql_model.proofs.Counting.{names_decls}
 use Rattle.cql_model.proofs.Naming.{split, split_tagged, Tag}
 use Rattle.cql_model.proofs.Sums.{as_many}
 use Rattle.cql_model.proofs.Valid.{asked, plans_keep}
+use Rattle.std.proofs.lemmas.Option.{none-some}
 
 -- ANY PLAN: what is named for the first time is what is written
 
@@ -231,13 +232,10 @@ module _ (f : Name → Bool) where
 abbrev Plain : List Name → Type 0
 Plain ns = AllByRecursion (λ n. IsTrue (has_no_at n)) ns
 
-no_word : {w : List ℕ} → None ≡ Some w → ⊥
-no_word h = cc h
-
 word_apart : (b : Name) (w : List ℕ) (ns : List Name) → IsTrue (has_no_at b) → Plain ns → count (at_word b w) ns ≡ 0
 word_apart b w [] h a = refl
 word_apart b w (n ∷ ns) h a = ⊎_elim
-    (λ c. absurd (no_word (ap (λ (x : Name × Tag). x.1) (sym (split_tagged n None a.0) ∙ ap split c.0 ∙ split_tagged b (Some w) h))))
+    (λ c. absurd (none-some w (ap (λ (x : Name × Tag). x.1) (sym (split_tagged n None a.0) ∙ ap split c.0 ∙ split_tagged b (Some w) h))))
     (λ c. let o = ap one_if c.1 in let m = word_apart b w ns h a.1 in omega (arith, o, m))
     (cases_name n (at_word b w))
 

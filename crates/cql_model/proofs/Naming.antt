@@ -2,7 +2,7 @@
 use Rattle.std.proofs.Common.{◌≡◌, ℕ, zero, suc, ◌+◌, ◌%◌, ◌<◌, ◌≤◌, Bool, true, false, Option, Some, None, List, [], ◌∷◌, ◌++◌, refl, sym, ap, ◌∙◌, arith}
 use Rattle.std.proofs.Common.{subst, map, ⊎_elim}
 use Rattle.std.specs.Prelude.{if◌then◌else◌, nat_eq, nat_lt, not, ◌&&◌, IsTrue}
-use Rattle.std.proofs.lemmas.Bool.{and_parts}
+use Rattle.std.proofs.lemmas.Bool.{and_parts, eq-eqb}
 use Rattle.river_base.specs.Name.{name_eq}
 use Rattle.river_plan.specs.Forms.{Name}
 use Rattle.river_plan.specs.Names.{one_if, count}
@@ -60,7 +60,8 @@ tag_self : (t : Tag) → tag_eq t t ≡ true
 tag_self None = refl
 tag_self (Some w) = name_same w
 
-bit_small : (b : Bool) → one_if b ≤ 1
+-- a test counts at most once
+pub bit_small : (b : Bool) → one_if b ≤ 1
 bit_small true = omega arith
 bit_small false = omega arith
 
@@ -164,9 +165,7 @@ starts_low n = by_steps (λ m ds. StartsLow ds) (λ m small. omega (arith, small
 
 front_same : (letter a b : List ℕ) → name_eq (letter ++ a) (letter ++ b) ≡ name_eq a b
 front_same [] a b = refl
-front_same (c ∷ cs) a b = ap (λ x. x && name_eq (cs ++ a) (cs ++ b)) (eq_self c) ∙ front_same cs a b where
-  eq_self : (n : ℕ) → nat_eq n n ≡ true
-  eq_self n = grind arith
+front_same (c ∷ cs) a b = ap (λ x. x && name_eq (cs ++ a) (cs ++ b)) (eq-eqb c c refl) ∙ front_same cs a b
 
 -- a number below them is not there
 below_none : (letter : List ℕ) (j k n : ℕ) → j < k → tags (Some (letter ++ numeral j)) (numbers letter k n) ≡ 0

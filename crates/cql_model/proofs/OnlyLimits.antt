@@ -4,6 +4,7 @@ use Rattle.std.specs.Prelude.{All, nat_lt, ◌||◌}
 use Rattle.std.specs.List.{list_any, AllByRecursion}
 use Rattle.std.specs.Option.{is_some}
 use Rattle.std.proofs.lemmas.List.Elements.{All-head, All-tail, All-cons, All-nil}
+use Rattle.std.proofs.lemmas.Bool.{ltb-false, le-ltb}
 use Rattle.river_plan.specs.declared.fault.PlanFault.{PlanFault}
 use Rattle.river_plan.specs.declared.fault.PlanFault.TheVariants.{P1, P2, P3, P4, P5, P6, P7, P9}
 use Rattle.river_plan.specs.declared.fault.Named.TheVariants.{Queue, Variable, Label}
@@ -154,15 +155,11 @@ Within p = (l : Limit) → All (λ n. n ≤ most_of l) (numbers l p)
 
 all_low : (m : ℕ) (ns : List ℕ) → AllByRecursion (λ n. nat_lt m n ≡ false) ns → All (λ n. n ≤ m) ns
 all_low m [] h = All-nil (λ n. n ≤ m)
-all_low m (n ∷ ns) h = All-cons (λ n. n ≤ m) n ns (low m n h.0) (all_low m ns h.1) where
-  low : (m n : ℕ) → nat_lt m n ≡ false → n ≤ m
-  low m n e = grind (arith, e)
+all_low m (n ∷ ns) h = All-cons (λ n. n ≤ m) n ns (ltb-false m n h.0) (all_low m ns h.1)
 
 low_all : (m : ℕ) (ns : List ℕ) → All (λ n. n ≤ m) ns → AllByRecursion (λ n. nat_lt m n ≡ false) ns
 low_all m [] h = tt
-low_all m (n ∷ ns) h = (low m n (All-head (λ n. n ≤ m) n ns h), low_all m ns (All-tail (λ n. n ≤ m) n ns h)) where
-  low : (m n : ℕ) → n ≤ m → nat_lt m n ≡ false
-  low m n e = grind (arith, e)
+low_all m (n ∷ ns) h = (le-ltb m n (All-head (λ n. n ≤ m) n ns h), low_all m ns (All-tail (λ n. n ≤ m) n ns h))
 
 abbrev is_over : PlanForm → Limit → Bool
 is_over p l = list_any (nat_lt (most_of l)) (numbers l p)

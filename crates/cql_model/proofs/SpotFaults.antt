@@ -1,7 +1,8 @@
 -- The faults of what is read in a unit, against the tests that look for them.
-use Rattle.std.proofs.Common.{◌≡◌, ℕ, zero, suc, ◌+◌, ◌<◌, ◌≤◌, Bool, true, false, Option, List, [], ◌∷◌}
+use Rattle.std.proofs.Common.{◌≡◌, ℕ, zero, suc, ◌+◌, ◌<◌, Bool, true, false, Option, List, [], ◌∷◌}
 use Rattle.std.proofs.Common.{refl, sym, arith, inl, inr, ⊎_elim}
 use Rattle.std.specs.Prelude.{◌⊎◌, nat_lt, nat_eq, ◌||◌}
+use Rattle.std.proofs.lemmas.Bool.{ltb-true, ltb-false, or_parts}
 use Rattle.cql_text.specs.Tree.{Window, Now, Range, Unbounded, Latest}
 use Rattle.river_plan.specs.Forms.{Name}
 use Rattle.river_plan.specs.Names.{count}
@@ -22,21 +23,16 @@ pub record Tests (b : Bool) (P : Type 0) : Type 0 where
   pub yes : b ≡ true → P
   pub no : b ≡ false → P → ⊥
 
-lt_yes : (m n : ℕ) → nat_lt m n ≡ true → m < n
-lt_yes m n h = grind (arith, h)
-
-lt_no : (m n : ℕ) → nat_lt m n ≡ false → n ≤ m
-lt_no m n h = grind (arith, h)
-
 eq_yes : (n : ℕ) → nat_eq n 0 ≡ true → n ≡ 0
 eq_yes n h = grind (arith, h)
 
-eq_no : (n : ℕ) → nat_eq n 0 ≡ false → 0 < n
+-- a number that is not zero
+pub eq_no : (n : ℕ) → nat_eq n 0 ≡ false → 0 < n
 eq_no n h = grind (arith, h)
 
 -- a name that stands among others is found there
 pub some_among : (n m : ℕ) → n ≡ m → Tests (nat_lt 0 n) (0 < m)
-some_among n m e = record { yes = λ h. let y = lt_yes 0 n h in omega (arith, y, e); no = λ h p. let y = lt_no 0 n h in omega (arith, y, e, p) }
+some_among n m e = record { yes = λ h. let y = ltb-true 0 n h in omega (arith, y, e); no = λ h p. let y = ltb-false 0 n h in omega (arith, y, e, p) }
 
 -- one that does not is not
 pub none_among : (n m : ℕ) → n ≡ m → Tests (nat_eq n 0) (0 < m → ⊥)
@@ -47,19 +43,15 @@ none_among n m e = record {
 
 -- with one more there are more than k + 1
 pub one_more : (k n m : ℕ) → n ≡ m → Tests (nat_lt k n) (k + 1 < m + 1)
-one_more k n m e = record { yes = λ h. let y = lt_yes k n h in omega (arith, y, e); no = λ h p. let y = lt_no k n h in omega (arith, y, e, p) }
+one_more k n m e = record { yes = λ h. let y = ltb-true k n h in omega (arith, y, e); no = λ h p. let y = ltb-false k n h in omega (arith, y, e, p) }
 
 -- a number above a bound is found to be so
 pub above : (k n m : ℕ) → n ≡ m → Tests (nat_lt k n) (k < m)
-above k n m e = record { yes = λ h. let y = lt_yes k n h in omega (arith, y, e); no = λ h p. let y = lt_no k n h in omega (arith, y, e, p) }
+above k n m e = record { yes = λ h. let y = ltb-true k n h in omega (arith, y, e); no = λ h p. let y = ltb-false k n h in omega (arith, y, e, p) }
 
 either_yes : (a b : Bool) → a || b ≡ true → (a ≡ true) ⊎ (b ≡ true)
 either_yes true b h = inl refl
 either_yes false b h = inr h
-
-either_no : (a b : Bool) → a || b ≡ false → (a ≡ false) × (b ≡ false)
-either_no true b h = absurd (cc h)
-either_no false b h = (refl, h)
 
 -- a window of too few or too many rows is found to be one
 pub bad_rows : (w : Window) → Tests (is_rows_fault w) (HasBadRows w)
@@ -67,8 +59,8 @@ bad_rows Now = record { yes = λ h. absurd (cc h); no = λ h p. p }
 bad_rows (Range n unit) = record { yes = λ h. absurd (cc h); no = λ h p. p }
 bad_rows Unbounded = record { yes = λ h. absurd (cc h); no = λ h p. p }
 bad_rows (Latest n) = record {
-  yes = λ h. ⊎_elim (λ e. inl (eq_yes n e)) (λ e. inr (lt_yes 1000000 n e)) (either_yes (nat_eq n 0) (nat_lt 1000000 n) h);
-  no = λ h p. let b = either_no (nat_eq n 0) (nat_lt 1000000 n) h in let y = eq_no n b.0 in let z = lt_no 1000000 n b.1 in
+  yes = λ h. ⊎_elim (λ e. inl (eq_yes n e)) (λ e. inr (ltb-true 1000000 n e)) (either_yes (nat_eq n 0) (nat_lt 1000000 n) h);
+  no = λ h p. let b = or_parts (nat_eq n 0) (nat_lt 1000000 n) h in let y = eq_no n b.0 in let z = ltb-false 1000000 n b.1 in
       ⊎_elim (λ e. omega (arith, e, y)) (λ e. omega (arith, e, z)) p;
 }
 

@@ -1,7 +1,7 @@
 -- Each use of a stream reads a queue of its own.
 use Rattle.std.proofs.Common.{◌≡◌, ℕ, zero, suc, ◌+◌, ◌<◌, ◌≤◌, ◌⊎◌, inl, inr, Some, None, List, [], ◌∷◌, ◌++◌, refl, sym, ap, ◌∙◌, arith, subst, length}
 use Rattle.std.proofs.Common.{⊎_elim}
-use Rattle.std.specs.Prelude.{IsTrue, unwrap_or}
+use Rattle.std.specs.Prelude.{IsTrue}
 use Rattle.std.specs.List.{AllByRecursion}
 use Rattle.std.proofs.lemmas.Bool.{cases_lt}
 use Rattle.river_plan.specs.Forms.{Name}
@@ -15,6 +15,7 @@ use Rattle.cql_model.proofs.Naming.{split, Tag, tagged, tags, class, split_tagge
 use Rattle.cql_model.proofs.Counting.{among, among-append, inner_tags, inner_from}
 use Rattle.cql_model.proofs.Numerals.{numeral_injective}
 use Rattle.cql_model.proofs.Sums.{taken_of, copy_read, sums, FewItems}
+use Rattle.std.proofs.lemmas.Option.{none-some, same_Some}
 
 -- a use reads the stream's own queue, or a copy
 pub record Own (inputs all : List Name) (n : Name) (k : ℕ) : Type 0 where
@@ -36,12 +37,6 @@ which inputs all n k = ⊎_elim
     (more_or_zero (count n inputs))
 
 module _ (inputs all : List Name) where
-  no_word : {w : List ℕ} → None ≡ Some w → ⊥
-  no_word h = cc h
-
-  some_is : (v w : List ℕ) → Some v ≡ Some w → v ≡ w
-  some_is v w h = ap (λ o. unwrap_or o v) h
-
   -- two uses that read one queue are one, or the stream is used once
   pub one_use : (n m : Name) (k j : ℕ) → IsTrue (has_no_at n) → IsTrue (has_no_at m)
       → queue_of_use inputs all n k ≡ queue_of_use inputs all m j
@@ -49,12 +44,12 @@ module _ (inputs all : List Name) where
   one_use n m k j hn hm e = ⊎_elim
       (λ a. ⊎_elim
       (λ b. let s = pair (tagged n None) (tagged m None) None None (sym a.is ∙ e ∙ b.is) (split_tagged n None hn) (split_tagged m None hm) in (s.0, inr a.few))
-      (λ b. let s = pair (tagged n None) (tagged m (Some (numeral (j + 1)))) None (Some (numeral (j + 1))) (sym a.is ∙ e ∙ b.is) (split_tagged n None hn) (split_tagged m (Some (numeral (j + 1))) hm) in absurd (no_word s.1))
+      (λ b. let s = pair (tagged n None) (tagged m (Some (numeral (j + 1)))) None (Some (numeral (j + 1))) (sym a.is ∙ e ∙ b.is) (split_tagged n None hn) (split_tagged m (Some (numeral (j + 1))) hm) in absurd (none-some (numeral (j + 1)) s.1))
       (which inputs all m j))
       (λ a. ⊎_elim
-      (λ b. let s = pair (tagged n (Some (numeral (k + 1)))) (tagged m None) (Some (numeral (k + 1))) None (sym a.is ∙ e ∙ b.is) (split_tagged n (Some (numeral (k + 1))) hn) (split_tagged m None hm) in absurd (no_word (sym s.1)))
+      (λ b. let s = pair (tagged n (Some (numeral (k + 1)))) (tagged m None) (Some (numeral (k + 1))) None (sym a.is ∙ e ∙ b.is) (split_tagged n (Some (numeral (k + 1))) hn) (split_tagged m None hm) in absurd (none-some (numeral (k + 1)) (sym s.1)))
       (λ b. let s = pair (tagged n (Some (numeral (k + 1)))) (tagged m (Some (numeral (j + 1)))) (Some (numeral (k + 1))) (Some (numeral (j + 1))) (sym a.is ∙ e ∙ b.is) (split_tagged n (Some (numeral (k + 1))) hn) (split_tagged m (Some (numeral (j + 1))) hm) in
-      let d = numeral_injective (k + 1) (j + 1) (some_is (numeral (k + 1)) (numeral (j + 1)) s.1) in (s.0, inl (omega (arith, d))))
+      let d = numeral_injective (k + 1) (j + 1) (same_Some (numeral (k + 1)) (numeral (j + 1)) s.1) in (s.0, inl (omega (arith, d))))
       (which inputs all m j))
       (which inputs all n k)
     where

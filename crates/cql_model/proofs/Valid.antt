@@ -1,5 +1,5 @@
 -- The plan of an accepted program is valid.
-use Rattle.std.proofs.Common.{◌≡◌, ℕ, zero, suc, ◌+◌, ◌<◌, ◌≤◌, Bool, true, false, Option, Some, None, List, [], ◌∷◌, ◌++◌, refl, ap, ◌∙◌, arith, subst, length}
+use Rattle.std.proofs.Common.{◌≡◌, ℕ, zero, suc, ◌+◌, ◌<◌, ◌≤◌, true, Option, Some, None, List, [], ◌∷◌, ◌++◌, refl, ap, ◌∙◌, arith, subst, length}
 use Rattle.std.proofs.Common.{⊎_elim, length-append}
 use Rattle.std.specs.Prelude.{All, codes, if◌then◌else◌, IsTrue, unwrap_or}
 use Rattle.std.specs.List.{AllByRecursion}
@@ -37,6 +37,7 @@ use Rattle.cql_model.proofs.Fitting as one
 use Rattle.cql_model.proofs.AllFit.{queries_fit, inputs_fit, input_kinds, sized_scope, columns_many}
 use Rattle.river_plan.proofs.ShareLemmas.{each_append}
 use Rattle.cql_model.proofs.Walk.{each-append}
+use Rattle.cql_model.proofs.Naming.{bit_small}
 
 -- FROM WHAT IS ACCEPTED
 
@@ -109,10 +110,7 @@ uses_plain ks (AQuery q ∷ ps) h d a =
 -- each use is an operator, so they are few
 pub count-length : (n : Name) (ns : List Name) → count n ns ≤ length ns
 count-length n [] = omega arith
-count-length n (m ∷ ms) = let e = count-length n ms in let b = bit (name_eq m n) in omega (arith, e, b) where
-  bit : (b : Bool) → one_if b ≤ 1
-  bit true = omega arith
-  bit false = omega arith
+count-length n (m ∷ ms) = let e = count-length n ms in let b = bit_small (name_eq m n) in omega (arith, e, b)
 
 length-windows : (b : Name) (k : ℕ) (items : List Source) (srcs : List Name) → length srcs ≡ length items → length (window_ops b k items srcs) ≡ length items
 length-windows b k [] srcs e = refl
@@ -181,14 +179,10 @@ windows_wide : (b : Name) (k : ℕ) (ks : List Named) → AllByRecursion (λ (i 
 windows_wide b k [] z = All-nil HasWidth
 windows_wide b k (i ∷ is) z = All-cons HasWidth (decl (w_name b k) (relation (length i.fields))) (window_decls b (k + 1) is) z.0 (windows_wide b (k + 1) is z.1)
 
--- a number from 1 to 16 is a width
-pub wide : (n : ℕ) → 1 ≤ n → n ≤ 16 → is_width n ≡ true
-wide n h g = grind (arith, h, g)
-
 crosses_wide : (b : Name) (width k : ℕ) (ks : List Named) → 1 ≤ width → width + widths_of ks ≤ 16 → All HasWidth (cross_decls b width k ks)
 crosses_wide b width k [] some few = All-nil HasWidth
 crosses_wide b width k (i ∷ is) some few =
-    All-cons HasWidth _ (cross_decls b (width + length i.fields) (k + 1) is) (wide (width + length i.fields) (omega (arith, some)) (omega (arith, few)))
+    All-cons HasWidth _ (cross_decls b (width + length i.fields) (k + 1) is) (one.wide (width + length i.fields) (omega (arith, some)) (omega (arith, few)))
     (crosses_wide b (width + length i.fields) (k + 1) is (omega (arith, some)) (omega (arith, few)))
 
 -- all that is known has a width of 1 to 16
@@ -225,7 +219,7 @@ query_wide all ks q a z =
     let pd = project_decls b q.columns in
     let od = out_decls b (columns_width scope q.columns) (count q.name all) in
     let long : 0 < length scope = (let e = length-map q.items (item_named ks) in let m = a.some in omega (arith, e, m)) in
-    let w : is_width (widths_of scope) ≡ true = wide (widths_of scope) (sized_some scope long z) a.product in
+    let w : is_width (widths_of scope) ≡ true = one.wide (widths_of scope) (sized_some scope long z) a.product in
     All-append HasWidth (item_decls b scope) (sd ++ (pd ++ od)) (items_wide b scope z a.product)
     (All-append HasWidth sd (pd ++ od) (select_wide b (widths_of scope) q.condition w)
     (All-append HasWidth pd od (project_wide b scope q.columns a.columns) (out_wide b (columns_width scope q.columns) (count q.name all) a.columns)))

@@ -1,8 +1,8 @@
 -- A program is refused for its text exactly where its first faulty place says.
-use Rattle.std.proofs.Common.{◌≡◌, ◌⊎◌, ℕ, suc, Bool, true, false, not, ◌||◌, ◌&&◌, Option, Some, None, Ok, Err, inl, inr, List, [], ◌∷◌, ◌++◌, length, refl, sym, ap, ◌∙◌, ⊎_elim, arith}
-use Rattle.std.specs.Prelude.{if◌then◌else◌, nat_eq}
+use Rattle.std.proofs.Common.{◌≡◌, ◌⊎◌, ℕ, suc, Bool, true, false, not, ◌||◌, ◌&&◌, Option, Some, None, Ok, Err, inl, inr, List, [], ◌∷◌, ◌++◌, length, refl, sym, ap, ◌∙◌, ⊎_elim}
+use Rattle.std.specs.Prelude.{if◌then◌else◌}
 use Rattle.std.specs.List.{AllByRecursion}
-use Rattle.std.proofs.lemmas.Bool.Decides.{nat_tests}
+use Rattle.std.proofs.lemmas.Bool.{true≢false, eqb-true, eq-eqb}
 use Rattle.river_plan.specs.Forms.{Name}
 use Rattle.river_plan.proofs.NameLemmas.{cases_name}
 use Rattle.streamit_model.specs.Meaning.{look}
@@ -52,33 +52,24 @@ above-found (u ∷ us) n = ⊎_elim
     (above-found us n))
     (cases_name u.0 n)
 
-true_false : true ≡ false → ⊥
-true_false h = cc h
-
-same_number : (m n : ℕ) → nat_eq m n ≡ true → m ≡ n
-same_number m n h = grind (arith, nat_tests, h)
-
-number_self : (n : ℕ) → nat_eq n n ≡ true
-number_self n = grind (arith, nat_tests)
-
 arity : (o : Option ℕ) (n : ℕ) → has_arity o n ≡ true → o ≡ Some n
 arity None n h = absurd (cc h)
-arity (Some m) n h = ap Some (same_number m n h)
+arity (Some m) n h = ap Some (eqb-true m n h)
 
 arity_not : (o : Option ℕ) (n : ℕ) → has_arity o n ≡ false → o ≡ Some n → ⊥
-arity_not o n h e = true_false (sym (number_self n) ∙ sym (ap (λ p. has_arity p n) e) ∙ h)
+arity_not o n h e = true≢false (sym (eq-eqb n n refl) ∙ sym (ap (λ p. has_arity p n) e) ∙ h)
 
 right-not : (b : Bool) {P : Type 0} → (P × (b ≡ true)) ⊎ ((P → ⊥) × (b ≡ false)) → not b ≡ true → P → ⊥
-right-not b c h p = ⊎_elim (λ s. true_false (sym h ∙ ap not s.1)) (λ d. d.0 p) c
+right-not b c h p = ⊎_elim (λ s. true≢false (sym h ∙ ap not s.1)) (λ d. d.0 p) c
 
 wrong-not : (b : Bool) {P : Type 0} → (P × (b ≡ true)) ⊎ ((P → ⊥) × (b ≡ false)) → not b ≡ false → P
-wrong-not b c h = ⊎_elim (λ s. s.0) (λ d. absurd (true_false (sym (ap not d.1) ∙ h))) c
+wrong-not b c h = ⊎_elim (λ s. s.0) (λ d. absurd (true≢false (sym (ap not d.1) ∙ h))) c
 
 right-is : (b : Bool) {P : Type 0} → (P × (b ≡ true)) ⊎ ((P → ⊥) × (b ≡ false)) → b ≡ true → (P → ⊥) → ⊥
-right-is b c h p = ⊎_elim (λ s. p s.0) (λ d. true_false (sym h ∙ d.1)) c
+right-is b c h p = ⊎_elim (λ s. p s.0) (λ d. true≢false (sym h ∙ d.1)) c
 
 wrong-is : (b : Bool) {P : Type 0} → (P × (b ≡ true)) ⊎ ((P → ⊥) × (b ≡ false)) → b ≡ false → P → ⊥
-wrong-is b c h p = ⊎_elim (λ s. true_false (sym s.1 ∙ h)) (λ d. d.0 p) c
+wrong-is b c h p = ⊎_elim (λ s. true≢false (sym s.1 ∙ h)) (λ d. d.0 p) c
 
 right : (s : Spot) → test s ≡ true → IsWrong s → ⊥
 right (Names n above) h = right-not (is_there (look above n)) (above-found above n) h

@@ -4,6 +4,7 @@ use Rattle.std.proofs.Common.{⊎_elim, w64, int_rem, nat_eq}
 use Rattle.std.specs.Prelude.{if◌then◌else◌}
 use Rattle.std.specs.Ordering.{int_eq}
 use Rattle.std.proofs.lemmas.Int.{SFits-int_wrap, int_wrap_fits}
+use Rattle.std.proofs.lemmas.Bool.{eqb-true}
 use Rattle.river_base.specs.Name.{name_eq}
 use Rattle.river_base.specs.Number.{IsValue, wrap, rem}
 use Rattle.work_code.specs.declared.expr.BinOp.{BinOp}
@@ -124,16 +125,13 @@ least =
     let all : wrap (negsuc 9223372036854775807) ≡ negsuc 9223372036854775807 = int_wrap_fits w64 (negsuc 9223372036854775807) (grind arith) in
     ap (λ a. wrap (a -ℤ pos 1)) one ∙ all
 
-eq_is : (a b : ℕ) → nat_eq a b ≡ true → a ≡ b
-eq_is a b h = grind (arith, h)
-
 said_literal : (z : ℤ) (xs : List ℤ) (vs : Values) (k : ℕ) → IsValue z → eval (literal z) xs vs k ≡ z
 said_literal (pos n) xs vs k h = refl
 said_literal (negsuc n) xs vs k h = negative (nat_eq n 9223372036854775807) refl
   where
     negative : (b : Bool) → nat_eq n 9223372036854775807 ≡ b → eval (literal (negsuc n)) xs vs k ≡ negsuc n
     negative true e =
-        let is : n ≡ 9223372036854775807 = eq_is n 9223372036854775807 e in
+        let is : n ≡ 9223372036854775807 = eqb-true n 9223372036854775807 e in
         ap (λ (b : Bool). eval (if b then tree.Bin op.Sub (tree.Neg (tree.Number 9223372036854775807)) (tree.Number 1) else tree.Neg (tree.Number (suc n))) xs vs k) e
         ∙ least ∙ ap negsuc (sym is)
     negative false e =

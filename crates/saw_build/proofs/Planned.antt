@@ -1,9 +1,9 @@
 -- The lists of a plan, and what is known of its tables.
-use Rattle.std.proofs.Common.{◌≡◌, ℕ, zero, suc, ◌+◌, ◌<◌, ◌≤◌, ◌^◌, Bool, true, List, [], ◌∷◌, ◌++◌, length, take, drop, map, get_or, Ok, refl, sym, ap, ◌∙◌}
+use Rattle.std.proofs.Common.{◌≡◌, ℕ, zero, suc, ◌+◌, ◌<◌, ◌≤◌, ◌^◌, true, List, [], ◌∷◌, ◌++◌, length, take, drop, map, get_or, Ok, refl, sym, ap, ◌∙◌}
 use Rattle.std.proofs.Common.{subst, arith, append_assoc, append-nil, length-append}
 use Rattle.std.specs.Prelude.{◌&&◌, codes, nat_le}
 use Rattle.std.specs.List.{AllByRecursion, list_all}
-use Rattle.std.proofs.lemmas.Bool.{and_parts, true≢false}
+use Rattle.std.proofs.lemmas.Bool.{and_parts, true≢false, and_from, le-leb}
 use Rattle.std.proofs.lemmas.List.{take_more, map-append}
 use Rattle.std.proofs.lemmas.List.Folds.{list_all-append}
 use Rattle.river_base.specs.Name.{is_letter, is_digit, is_word, is_name}
@@ -39,12 +39,6 @@ map_more f xs i x lt e = ap (map f) (take_more xs i x lt ∙ ap (λ y. take i xs
 
 -- NAMES
 
-both_true : (a b : Bool) → a ≡ true → b ≡ true → a && b ≡ true
-both_true a b h k = rw h k
-
-le_true : (a b : ℕ) → a ≤ b → nat_le a b ≡ true
-le_true a b h = grind arith
-
 -- a name of at most 40 bytes with a few letters behind it is a name
 longer_name : (name end : Name) → list_all is_word end ≡ true → length end ≤ 20 → is_name name ≡ true → length name ≤ 40 → is_name (name ++ end) ≡ true
 unfolding is_word is_letter is_digit
@@ -52,9 +46,9 @@ longer_name [] end w few h len = absurd (true≢false (sym h))
 longer_name (b ∷ bs) end w few h len =
     let p = and_parts (is_letter b) (list_all is_word bs && nat_le (length bs) 63) h in
     let q = and_parts (list_all is_word bs) (nat_le (length bs) 63) p.1 in
-    let all : list_all is_word (bs ++ end) ≡ true = list_all-append is_word bs end ∙ both_true (list_all is_word bs) (list_all is_word end) q.0 w in
+    let all : list_all is_word (bs ++ end) ≡ true = list_all-append is_word bs end ∙ and_from (list_all is_word bs) (list_all is_word end) q.0 w in
     let short : length (bs ++ end) ≤ 63 = (let a = length-append bs end in omega (arith, a, few, len)) in
-    both_true (is_letter b) _ p.0 (both_true (list_all is_word (bs ++ end)) _ all (le_true (length (bs ++ end)) 63 short))
+    and_from (is_letter b) _ p.0 (and_from (list_all is_word (bs ++ end)) _ all (le-leb (length (bs ++ end)) 63 short))
 
 -- the name of a queue is one
 pub queue_is_name : (name : Name) → is_name name ≡ true → length name ≤ 40 → is_name (name ++ codes "@q") ≡ true

@@ -1,9 +1,9 @@
 -- What is read is well formed, and within its limits.
-use Rattle.std.proofs.Common.{◌≡◌, ℕ, zero, suc, ℤ, pos, ◌+◌, ◌<◌, ◌≤◌, Bool, true, List, [], ◌∷◌, ◌++◌, length, map, Option, Some, None, Ok, refl, sym, ap}
-use Rattle.std.proofs.Common.{◌∙◌, subst, arith, nat_lt, nat_le, nat_eq, length-append, append_assoc}
+use Rattle.std.proofs.Common.{◌≡◌, ℕ, zero, suc, ℤ, pos, ◌+◌, ◌<◌, ◌≤◌, true, List, [], ◌∷◌, ◌++◌, length, map, Option, Some, None, Ok, refl, sym, ap}
+use Rattle.std.proofs.Common.{◌∙◌, subst, arith, nat_lt, nat_le, length-append, append_assoc}
 use Rattle.std.specs.Prelude.{◌&&◌, max, slice_get}
 use Rattle.std.specs.List.{list_all}
-use Rattle.std.proofs.lemmas.Bool.{and_parts}
+use Rattle.std.proofs.lemmas.Bool.{and_parts, and_from, lt-ltb, le-leb, eq-eqb, ltb-true, leb-true, eqb-true}
 use Rattle.std.proofs.lemmas.List.Folds.{list_all-append}
 use Rattle.work_code.specs.Term.{Term}
 use Rattle.work_code.specs.Term as term
@@ -30,35 +30,15 @@ use Rattle.saw_model.proofs.Parts.{parts_read, tabled_parts, split_parts, parts_
 
 -- EXPRESSIONS
 
--- two tests that hold
-pub both_true : (a b : Bool) → a ≡ true → b ≡ true → a && b ≡ true
-both_true a b h k = rw h k
-
-lt_true : (a b : ℕ) → a < b → nat_lt a b ≡ true
-lt_true a b h = grind arith
-
--- the test for at most, where it is so
-pub le_true : (a b : ℕ) → a ≤ b → nat_le a b ≡ true
-le_true a b h = grind arith
-
-eq_true : (a b : ℕ) → a ≡ b → nat_eq a b ≡ true
-eq_true a b h = grind (arith, h)
-
-lt_by : (a b : ℕ) → nat_lt a b ≡ true → a < b
-lt_by a b h = grind (arith, h)
-
 -- what the test for at most tells
 pub le_by : (a b : ℕ) → nat_le a b ≡ true → a ≤ b
 le_by a b h = grind (arith, h)
-
-eq_by : (a b : ℕ) → nat_eq a b ≡ true → a ≡ b
-eq_by a b h = grind (arith, h)
 
 -- an expression that is read reads at most 16 fields
 term_reach : (sc : Scope) (t : Expression) (u : Term) → term_of sc t ≡ Ok u → reach t ≤ 16
 term_reach sc (tree.Number v) u h = omega arith
 term_reach sc (tree.Name n) u h = omega arith
-term_reach sc (tree.Input p) u h = let e = le_by p 15 (if_both (nat_le p 15) (Ok (term.Input p)) u Limit h).0 in omega (arith, e)
+term_reach sc (tree.Input p) u h = let e = leb-true p 15 (if_both (nat_le p 15) (Ok (term.Input p)) u Limit h).0 in omega (arith, e)
 term_reach sc (tree.Neg t) u h = let p = ok_parts (term_of sc t) (λ a. Ok (term.Neg a)) u h in term_reach sc t p.0 p.1
 term_reach sc (tree.Not t) u h = let p = ok_parts (term_of sc t) (λ a. Ok (term.Not a)) u h in term_reach sc t p.0 p.1
 term_reach sc (tree.Bin o l r) u h =
@@ -152,16 +132,16 @@ counts_both s a b f g =
 mutual
   step_counts : (c : Statement) (s : At) (y : Steps × At) → step_of c s ≡ fine y → Counts s y
   step_counts (Declare n t) s y h =
-      let d = declared_parts n t s y h in let r = lt_by s.size 16384 d.room in let f = lt_by s.slots 256 d.few in
+      let d = declared_parts n t s y h in let r = ltb-true s.size 16384 d.room in let f = ltb-true s.slots 256 d.few in
       subst (Counts s) d.is (record { size = omega arith; small = λ h. omega (arith, r); few = λ h. omega (arith, f) })
   step_counts (Assign n t) s y h =
-      let d = assigned_parts n t s y h in let r = lt_by s.size 16384 d.room in
+      let d = assigned_parts n t s y h in let r = ltb-true s.size 16384 d.room in
       subst (Counts s) d.is (record { size = omega arith; small = λ h. omega (arith, r); few = λ h. h })
   step_counts (Emit t is v w) s y h =
-      let d = sent_parts t is v w s y h in let r = lt_by s.size 16384 d.room in
+      let d = sent_parts t is v w s y h in let r = ltb-true s.size 16384 d.room in
       subst (Counts s) d.made (record { size = omega arith; small = λ h. omega (arith, r); few = λ h. h })
   step_counts (If t a b) s y h =
-      let d = forked_parts t a b s y h in let r = lt_by s.size 16384 d.room in
+      let d = forked_parts t a b s y h in let r = ltb-true s.size 16384 d.room in
       let f = steps_count a (one_more s) d.first d.first_is in
       let g = optional_counts b (second_at s d.first) d.second d.second_is in
       let x = f.size in let z = g.size in
@@ -231,14 +211,14 @@ module _ (w m : ℕ) (ts : List TableDecl) where
 
   named_fits : (o : Option Known) (u : Term) → ((i : ℕ) → o ≡ Some (Var i) → i < m) → named o ≡ Ok u → Fits 1 u
   named_fits None u h c = absurd (cc c)
-  named_fits (Some (Var i)) u h c = subst (Fits 1) (ok_is (term.Slot i) u c) (lt_true i m (h i refl), omega arith)
+  named_fits (Some (Var i)) u h c = subst (Fits 1) (ok_is (term.Slot i) u c) (lt-ltb i m (h i refl), omega arith)
   named_fits (Some (Port p k)) u h c = absurd (cc c)
 
   term_fits : (sc : Scope) (t : Expression) (u : Term) → reach t ≤ w → AreBelow sc → term_of sc t ≡ Ok u → Fits (tree.depth_of t) u
   term_fits sc (tree.Number v) u le b c = subst (Fits 1) (ok_is (term.Const (pos v)) u c) (refl, omega arith)
   term_fits sc (tree.Name n) u le b c = named_fits (find sc n) u (b n) c
   term_fits sc (tree.Input p) u le b c =
-      subst (Fits 1) (ok_is (term.Input p) u (if_ok (nat_le p 15) (Ok (term.Input p)) u Limit c)) (lt_true p w (omega (arith, le)), omega arith)
+      subst (Fits 1) (ok_is (term.Input p) u (if_ok (nat_le p 15) (Ok (term.Input p)) u Limit c)) (lt-ltb p w (omega (arith, le)), omega arith)
   term_fits sc (tree.Neg t) u le b c =
       let q = ok_parts (term_of sc t) (λ a. Ok (term.Neg a)) u c in
       let i = term_fits sc t q.0 le b q.1 in
@@ -256,10 +236,10 @@ module _ (w m : ℕ) (ts : List TableDecl) where
       let j = term_fits sc r v.0 (omega (arith, le)) b v.1 in
       let d = i.1 in let g = j.1 in
       subst (Fits (suc (max (tree.depth_of l) (tree.depth_of r)))) (ok_is (term.Bin o q.0 v.0) u v.2)
-      (both_true (is_sound w m q.0) (is_sound w m v.0) i.0 j.0, omega (arith, d, g))
+      (and_from (is_sound w m q.0) (is_sound w m v.0) i.0 j.0, omega (arith, d, g))
 
   is_one : (d : ℕ) (u : Term) → d ≤ 64 → Fits d u → is_term w m u ≡ true
-  is_one d u low f = let e = f.1 in both_true (is_sound w m u) (nat_le (term.depth_of u) 64) f.0 (le_true (term.depth_of u) 64 (omega (arith, e, low)))
+  is_one d u low f = let e = f.1 in and_from (is_sound w m u) (nat_le (term.depth_of u) 64) f.0 (le-leb (term.depth_of u) 64 (omega (arith, e, low)))
 
   one_fits : (sc : Scope) (t : Expression) (u : Term) → IsLow t → reach t ≤ w → AreBelow sc → term_of sc t ≡ Ok u → is_term w m u ≡ true
   one_fits sc t u low le b h = is_one (tree.depth_of t) u low (term_fits sc t u le b h)
@@ -277,7 +257,7 @@ module _ (w m : ℕ) (ts : List TableDecl) where
       let p = ok_parts (term_of sc t) (λ u. on_ok (indexes_of sc (n + 1) is) (λ us. Ok (u ∷ us))) us c in
       let q = ok_parts (indexes_of sc (n + 1) is) (λ us. Ok (p.0 ∷ us)) us p.2 in
       ap (list_all (is_term w m)) (sym (ok_is (p.0 ∷ q.0) us q.2))
-      ∙ both_true (is_term w m p.0) (list_all (is_term w m) q.0) (one_fits sc t p.0 low.0 (omega (arith, le)) b p.1) (indexes_fit sc (n + 1) is q.0 low.1 (omega (arith, le)) b q.1)
+      ∙ and_from (is_term w m p.0) (list_all (is_term w m) q.0) (one_fits sc t p.0 low.0 (omega (arith, le)) b p.1) (indexes_fit sc (n + 1) is q.0 low.1 (omega (arith, le)) b q.1)
 
   weight_fits : (k : TableKind) (t : Option Expression) (sc : Scope) (us : List Term) → AreLow (listed t) → reach_all (listed t) ≤ w → AreBelow sc
       → weight_of k t sc ≡ Ok us → list_all (is_term w m) us ≡ true
@@ -288,7 +268,7 @@ module _ (w m : ℕ) (ts : List TableDecl) where
   weight_fits (Maximum best keys) None sc us low le b h = absurd (cc h)
   weight_fits (Maximum best keys) (Some t) sc us low le b h =
       let p = ok_parts (term_of sc t) (λ u. Ok (u ∷ [])) us h in
-      ap (list_all (is_term w m)) (sym (ok_is (p.0 ∷ []) us p.2)) ∙ both_true (is_term w m p.0) true (one_fits sc t p.0 low.0 (omega (arith, le)) b p.1) refl
+      ap (list_all (is_term w m)) (sym (ok_is (p.0 ∷ []) us p.2)) ∙ and_from (is_term w m p.0) true (one_fits sc t p.0 low.0 (omega (arith, le)) b p.1) refl
 
   below_of : (s : At) → IsSound s.scope s.slots → s.slots ≤ m → AreBelow s.scope
   below_of s ok le n i f = let b = ok.below n i f in omega (arith, b, le)
@@ -300,16 +280,16 @@ module _ (w m : ℕ) (ts : List TableDecl) where
   steps_joined Done b h g = g
   steps_joined (steps.Then c a) b h g =
       let q = and_parts (is_step w m outs c) (is_steps w m outs a) h in
-      both_true (is_step w m outs c) (is_steps w m outs (both_steps a b)) q.0 (steps_joined a b q.1 g)
+      and_from (is_step w m outs c) (is_steps w m outs (both_steps a b)) q.0 (steps_joined a b q.1 g)
 
   one_formed : (c : Step) → is_step w m outs c ≡ true → is_steps w m outs (one_step c) ≡ true
-  one_formed c h = both_true (is_step w m outs c) true h refl
+  one_formed c h = and_from (is_step w m outs c) true h refl
 
   abbrev Formed : Steps × At → Type 0
   Formed y = is_steps w m outs y.0 ≡ true
 
   set_formed : (i : ℕ) (u : Term) → i < m → is_term w m u ≡ true → is_steps w m outs (one_step (steps.Set i u)) ≡ true
-  set_formed i u lt h = one_formed (steps.Set i u) (both_true (nat_lt i m) (is_term w m u) (lt_true i m lt) h)
+  set_formed i u lt h = one_formed (steps.Set i u) (and_from (nat_lt i m) (is_term w m u) (lt-ltb i m lt) h)
 
   reach_parts_of : (is : List Expression) (v : Expression) (t : Option Expression) → reach_all (parts_of is v t) ≤ w
       → (reach_all is ≤ w) × (reach v ≤ w) × (reach_all (listed t) ≤ w)
@@ -337,14 +317,14 @@ module _ (w m : ℕ) (ts : List TableDecl) where
         let there = width_got ts d.port.0 (record { name = t; kind = d.port.1 }) (ports.port t d.port.0 d.port.1 d.port_there) in
         let many : length all ≡ table_width d.port.1 =
         (let a = length-append d.indexes (d.value ∷ d.weights) in let c = indexes_many s.scope 0 is d.indexes d.indexes_is in
-        let e = eq_by (length is) (keys_in d.port.1) d.shape in let f = weight_many d.port.1 wt s.scope d.weights d.weights_is in omega (arith, a, c, e, f)) in
-        let port : has_port outs d.port.0 (length all) ≡ true = ap (λ o. counts o (length all)) there ∙ eq_true (table_width d.port.1) (length all) (sym many) in
+        let e = eqb-true (length is) (keys_in d.port.1) d.shape in let f = weight_many d.port.1 wt s.scope d.weights d.weights_is in omega (arith, a, c, e, f)) in
+        let port : has_port outs d.port.0 (length all) ≡ true = ap (λ o. counts o (length all)) there ∙ eq-eqb (table_width d.port.1) (length all) (sym many) in
         let terms : list_all (is_term w m) all ≡ true =
         list_all-append (is_term w m) d.indexes (d.value ∷ d.weights)
-        ∙ both_true (list_all (is_term w m) d.indexes) (list_all (is_term w m) (d.value ∷ d.weights)) (indexes_fit s.scope 0 is d.indexes low.0 r.0 b d.indexes_is)
-        (both_true (is_term w m d.value) (list_all (is_term w m) d.weights) (one_fits s.scope v d.value low.1 r.1 b d.value_is)
+        ∙ and_from (list_all (is_term w m) d.indexes) (list_all (is_term w m) (d.value ∷ d.weights)) (indexes_fit s.scope 0 is d.indexes low.0 r.0 b d.indexes_is)
+        (and_from (is_term w m d.value) (list_all (is_term w m) d.weights) (one_fits s.scope v d.value low.1 r.1 b d.value_is)
         (weight_fits d.port.1 wt s.scope d.weights low.2 r.2 b d.weights_is)) in
-        subst Formed d.made (one_formed (steps.Push d.port.0 all) (both_true (has_port outs d.port.0 (length all)) (list_all (is_term w m) all) port terms))
+        subst Formed d.made (one_formed (steps.Push d.port.0 all) (and_from (has_port outs d.port.0 (length all)) (list_all (is_term w m) all) port terms))
     step_formed (If t a b) s y low le h ok ports sl =
         let d = forked_parts t a b s y h in
         let g = grows_all a (one_more s) d.first d.first_is in
@@ -356,7 +336,7 @@ module _ (w m : ℕ) (ts : List TableDecl) where
         let x = steps_formed a (one_more s) d.first low.1 (omega (arith, le)) d.first_is ok ports l1 in
         let z = optional_formed b (second_at s d.first) d.second low.2 (omega (arith, le)) d.second_is (more_slots s.scope s.slots d.first.1.slots gs ok) ports last in
         subst Formed d.is (one_formed (steps.If d.cond d.first.0 d.second.0)
-        (both_true (is_term w m d.cond) (is_steps w m outs d.first.0 && is_steps w m outs d.second.0) cond (both_true (is_steps w m outs d.first.0) (is_steps w m outs d.second.0) x z)))
+        (and_from (is_term w m d.cond) (is_steps w m outs d.first.0 && is_steps w m outs d.second.0) cond (and_from (is_steps w m outs d.first.0) (is_steps w m outs d.second.0) x z)))
 
     steps_formed : (b : Block) (s : At) (y : Steps × At) → AreShallow b → reach_block b ≤ w → steps_of b s ≡ fine y → IsSound s.scope s.slots
         → ArePorts ts s.scope → y.1.slots ≤ m → Formed y

@@ -1,6 +1,7 @@
 -- Texts of marks: what is known behind them, and how much they have.
 use Rattle.std.proofs.Common.{◌≡◌, ℕ, zero, suc, ◌+◌, ◌⊎◌, inl, inr, Bool, true, false, List, [], ◌∷◌, ◌++◌, length, Option, Some, None, refl, sym, ap, ◌∙◌}
 use Rattle.std.proofs.Common.{subst, arith, ⊎_elim, append_assoc, append-nil}
+use Rattle.std.proofs.lemmas.Bool.{both_ways}
 use Rattle.river_plan.specs.Forms.{Name}
 use Rattle.river_plan.specs.Names.{one_if}
 use Rattle.saw_text.specs.Tree.{Expression}
@@ -216,13 +217,10 @@ begun ms b = record {
   tables = let x = b.tables in omega (arith, x);
 }
 
-clash : (b : Bool) → b ≡ false → b ≡ true → ⊥
-clash b h e = absurd (let d : false ≡ true = sym h ∙ e in cc d)
-
 local_body : (n : Name) → IsBody (Local n ∷ [])
 local_body n = record {
   steady = λ k ys. refl;
-  shut = λ ys x w h d. ⊎_elim (λ e. absurd (clash (stays 0 ys) h e.1)) (λ e. e) d;
+  shut = λ ys x w h d. ⊎_elim (λ e. absurd (both_ways (stays 0 ys) h e.1)) (λ e. e) d;
   tables = refl;
 }
 

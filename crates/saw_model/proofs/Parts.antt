@@ -3,6 +3,7 @@ use Rattle.std.proofs.Common.{◌≡◌, ℕ, suc, ℤ, pos, ◌+◌, ◌<◌, �
 use Rattle.std.proofs.Common.{◌∙◌, subst, arith, nat_lt, nat_le, replicate, append_assoc, length-append, ⊎_elim}
 use Rattle.std.specs.Prelude.{slice_get}
 use Rattle.std.proofs.lemmas.List.{length-replicate}
+use Rattle.std.proofs.lemmas.Bool.{ltb-true, leb-true}
 use Rattle.work_code.specs.Steps.{Steps, Done}
 use Rattle.work_code.specs.Ran.{ran}
 use Rattle.kern_rows.proofs.Lengths.{ran_length}
@@ -48,12 +49,6 @@ pub record Tabled (n : Name) (k : TableKind) (s : At) (y : Steps × At) : Type 0
   pub keys : keys_in k ≤ 8
   pub is : tabled n k s ≡ y
 
-lt_from : (a b : ℕ) → nat_lt a b ≡ true → a < b
-lt_from a b h = grind arith
-
-le_from : (a b : ℕ) → nat_le a b ≡ true → a ≤ b
-le_from a b h = grind arith
-
 -- the parts of a table's unit
 pub tabled_parts : (n : Name) (k : TableKind) (s : At) (y : Steps × At) → table_of n k s ≡ fine y → Tabled n k s y
 tabled_parts n k s y h =
@@ -66,9 +61,9 @@ tabled_parts n k s y h =
     let d = ok_parts (demand (nat_le (keys_in k) 8) Limit) r3 y c.2 in
     record {
       new = new_is (find s.scope n) a.0 a.1;
-      few = lt_from s.tables 64 (demanded (nat_lt s.tables 64) Limit b.0 b.1);
+      few = ltb-true s.tables 64 (demanded (nat_lt s.tables 64) Limit b.0 b.1);
       best = demanded (is_best k) Limit c.0 c.1;
-      keys = le_from (keys_in k) 8 (demanded (nat_le (keys_in k) 8) Limit d.0 d.1);
+      keys = leb-true (keys_in k) 8 (demanded (nat_le (keys_in k) 8) Limit d.0 d.1);
       is = ok_is (tabled n k s) y d.2;
     }
 

@@ -3,7 +3,7 @@ use Rattle.std.proofs.Common.{◌≡◌, ℕ, zero, suc, ◌+◌, ◌<◌, ◌�
 use Rattle.std.proofs.Common.{subst, arith, ⊎_elim}
 use Rattle.std.specs.Prelude.{codes, All, unwrap_or, if◌then◌else◌, nat_le, slice_get, flat_map}
 use Rattle.std.specs.List.{AllByRecursion}
-use Rattle.std.proofs.lemmas.Bool.{and_parts}
+use Rattle.std.proofs.lemmas.Bool.{and_parts, and_from, le-leb, leb-true}
 use Rattle.std.proofs.lemmas.List.{length-map, append-nil}
 use Rattle.std.proofs.lemmas.List.Elements.{All-nil, All-cons, All-append}
 use Rattle.river_base.specs.Name.{name_eq}
@@ -31,14 +31,13 @@ use Rattle.river_plan.proofs.NameLemmas.{cases_name, name_same}
 use Rattle.saw_text.specs.Tree.{TableUnit, StatementUnit}
 use Rattle.saw_model.specs.Meaning.{table_kind}
 use Rattle.saw_text.specs.Tree.{Program}
-use Rattle.saw_model.specs.Meaning.{tables_in, width, reach_parts}
-use Rattle.saw_model.specs.Meaning as source
+use Rattle.saw_model.specs.Meaning.{tables_in, width}
 use Rattle.saw_model.specs.Elaborate.{At, Known, Var, Port, find, keys_in, is_best, nothing_read}
 use Rattle.saw_model.specs.Plan.{queue_name, queues_of, queue_decls, tally_op, map_op, plan_of}
 use Rattle.saw_model.specs.Shallow.{AreShallowParts}
 use Rattle.saw_model.specs.Laws.{PlansAreValid}
 use Rattle.saw_model.proofs.Elaborated.{fine, IsSound, ArePorts}
-use Rattle.saw_model.proofs.Formed.{both_true, le_true, le_by, widths_of, parts_reach, parts_count, parts_formed}
+use Rattle.saw_model.proofs.Formed.{widths_of, parts_reach, parts_count, parts_formed}
 use Rattle.saw_model.proofs.Parts.{parts_read, reads_parts, tables_once, tables_few, tabled_parts, split_parts}
 use Rattle.saw_model.proofs.Suffixed.{AreOnce, once_rest, got_once, with_end, end_count, end_once, end_none, not_in, not_map}
 
@@ -131,7 +130,7 @@ abbrev AreGood : List TableDecl → Type 0
 AreGood ts = AllByRecursion (λ t. IsGood t.kind) ts
 
 width_true : (n : ℕ) → 1 ≤ n → n ≤ 16 → is_width n ≡ true
-width_true n a b = both_true (nat_le 1 n) (nat_le n 16) (le_true 1 n a) (le_true n 16 b)
+width_true n a b = and_from (nat_le 1 n) (nat_le n 16) (le-leb 1 n a) (le-leb n 16 b)
 
 one : (most n : ℕ) → n ≤ most → All (λ (m : ℕ). m ≤ most) (n ∷ [])
 one most n h = All-cons (λ (m : ℕ). m ≤ most) n [] h (All-nil (λ (m : ℕ). m ≤ most))
@@ -147,7 +146,7 @@ good_kind (Sum keys) b h = record { table = h; width = width_true (keys + 1) (om
 good_kind (Collection keys) b h = record { table = h; width = width_true (keys + 1) (omega arith) (omega (arith, h)); best = nothing 1000000 }
 good_kind (Maximum best keys) b h =
     let p = and_parts (nat_le 1 best) (nat_le best 1000000) b in
-    record { table = (h, le_by 1 best p.0); width = width_true (keys + 2) (omega arith) (omega (arith, h)); best = one 1000000 best (le_by best 1000000 p.1) }
+    record { table = (h, leb-true 1 best p.0); width = width_true (keys + 2) (omega arith) (omega (arith, h)); best = one 1000000 best (leb-true best 1000000 p.1) }
 
 goods : (p : Program) (s : At) (y : Steps × At) → parts_read p s ≡ fine y → AreGood (tables_in p)
 goods [] s y h = tt
@@ -180,7 +179,7 @@ good_queues (t ∷ ts) h =
 
 good_widths : (ts : List TableDecl) → AreGood ts → are_widths (widths_of ts) ≡ true
 good_widths [] h = refl
-good_widths (t ∷ ts) h = both_true (is_width (table_width t.kind)) (are_widths (widths_of ts)) h.0.width (good_widths ts h.1)
+good_widths (t ∷ ts) h = and_from (is_width (table_width t.kind)) (are_widths (widths_of ts)) h.0.width (good_widths ts h.1)
 
 -- KERNELS
 
@@ -300,7 +299,7 @@ module _ (p : Program) (read : Steps × At) (low : AreShallowParts p) (h : parts
     refl,
     kinds_of kind ts kind_at,
     refl,
-    both_true (is_width (width p)) _ wide (both_true (are_widths (widths_of ts)) _ (good_widths ts good) (both_true (is_steps (width p) read.1.slots (widths_of ts) read.0) (nat_le 0 read.1.slots) body (le_true 0 read.1.slots (omega arith)))),
+    and_from (is_width (width p)) _ wide (and_from (are_widths (widths_of ts)) _ (good_widths ts good) (and_from (is_steps (width p) read.1.slots (widths_of ts) read.0) (nat_le 0 read.1.slots) body (le-leb 0 read.1.slots (omega arith)))),
   )
 
   limited : (l : Limit) → All (λ n. n ≤ most_of l) (numbers l (plan_of p read))

@@ -2,9 +2,10 @@
 use Rattle.std.proofs.Common.{◌≡◌, ◌≢◌, ℕ, ℤ, pos, negsuc, ◌+◌, ◌-◌, ◌<◌, ◌≤◌, Bool, true, false, List, [], ◌∷◌, ◌++◌, length, Option, Some, None, Result, Ok}
 use Rattle.std.proofs.Common.{Err, refl, sym, ap, ◌∙◌, subst, arith, append_assoc, nat_lt, nat_le, nat_eq, ⊎_elim}
 use Rattle.std.specs.Prelude.{if◌then◌else◌, ◌&&◌, slice_index_or, slice_set}
-use Rattle.std.proofs.lemmas.Bool.{and_parts}
+use Rattle.std.proofs.lemmas.Bool.{and_parts, eqb-true}
 use Rattle.std.proofs.lemmas.List.{append-nil, map-append, get_or-set_same, get_or-set_other}
 use Rattle.std.specs.Ordering.{int_eq}
+use Rattle.std.proofs.lemmas.Option.{same_Some}
 use Rattle.river_base.specs.Name.{name_eq}
 use Rattle.river_base.specs.Number.{count_of, negate}
 use Rattle.work_code.specs.Term.{Term}
@@ -49,10 +50,6 @@ if_ok false x y e h = absurd (cc h)
 -- what was demanded holds
 pub demanded : (b : Bool) (e : Fault) (u : Unit {0}) → demand b e ≡ fine u → b ≡ true
 demanded b e u h = (if_ok b tt u e h).0
-
--- equal options have equal values
-pub some_is : {A : Type 0} (x y : A) → Some x ≡ Some y → x ≡ y
-some_is x y h = cc
 
 -- the value of a name that was set
 pub at_here : (n m : Name) (z : ℤ) (env : Values) → name_eq n m ≡ true → at_name n z env m ≡ z
@@ -156,7 +153,7 @@ sound_turn n v sc slots s = record {
 agrees_turn : (n : Name) (v : ℕ) (sc : Scope) (env : Values) (mem : List ℤ) → Agrees sc env mem → Agrees ((n, Turn v) ∷ sc) (at_name n (pos v) env) mem
 agrees_turn n v sc env mem a = record {
   each = λ m b f. ⊎_elim
-      (λ e. subst (λ c. Holds c (at_name n (pos v) env m) mem) (some_is (Turn v) b (sym (found_here n m (Turn v) sc e.1) ∙ f)) (sym (at_here n m (pos v) env e.1)))
+      (λ e. subst (λ c. Holds c (at_name n (pos v) env m) mem) (same_Some (Turn v) b (sym (found_here n m (Turn v) sc e.1) ∙ f)) (sym (at_here n m (pos v) env e.1)))
       (λ e. subst (λ z. Holds b z mem) (sym (at_other n m (pos v) env e.1)) (a.each m b (sym (found_other n m (Turn v) sc e.1) ∙ f)))
       (cases_name n m);
 }
@@ -172,7 +169,7 @@ agrees_set : (n : Name) (i : ℕ) (z : ℤ) (sc : Scope) (slots : ℕ) (env : Va
 agrees_set n i z sc slots env mem s len f others = record {
   each = λ m b g. ⊎_elim
       (λ e.
-      let is : Var i ≡ b = some_is (Var i) b (sym f ∙ ap (find sc) e.0 ∙ g) in
+      let is : Var i ≡ b = same_Some (Var i) b (sym f ∙ ap (find sc) e.0 ∙ g) in
       let lt = s.below n i f in
       subst (λ c. Holds c (at_name n z env m) (slice_set mem i z)) is (get_or-set_same mem i z (pos 0) (omega (arith, lt, len)) ∙ sym (at_here n m z env e.1)))
       (λ e.
@@ -440,10 +437,7 @@ forked_parts e t a b s y h =
     let r = ok_parts (optional_of e b (at_second t s p.0.1)) (after_arms (one_more s) q.0 p.0) y p.2 in
     let i = if_ok (nat_eq p.0.1.popped r.0.1.popped && nat_eq p.0.1.pushed r.0.1.pushed) (one_step (steps.If q.0 p.0.0 r.0.0), left s r.0.1) y BranchRates r.2 in
     let z = and_parts (nat_eq p.0.1.popped r.0.1.popped) (nat_eq p.0.1.pushed r.0.1.pushed) i.0 in
-    record { room = counted_room s (λ s. on_ok (term_of e s.scope t s.popped) (after s)) y h; test = q.0; one = p.0; two = r.0; test_is = q.1; one_is = p.1; two_is = r.1; popped = same_by p.0.1.popped r.0.1.popped z.0; pushed = same_by p.0.1.pushed r.0.1.pushed z.1; is = sym i.1 }
-  where
-    same_by : (m n : ℕ) → nat_eq m n ≡ true → m ≡ n
-    same_by m n h = grind (arith, h)
+    record { room = counted_room s (λ s. on_ok (term_of e s.scope t s.popped) (after s)) y h; test = q.0; one = p.0; two = r.0; test_is = q.1; one_is = p.1; two_is = r.1; popped = eqb-true p.0.1.popped r.0.1.popped z.0; pushed = eqb-true p.0.1.pushed r.0.1.pushed z.1; is = sym i.1 }
 
 pub record Looped (e : ℕ) (n : Name) (low : Expression) (upto : Bool) (high : Expression) (b : Block) (s : At) (y : Steps × At) : Type 0 where
   pub first : ℤ

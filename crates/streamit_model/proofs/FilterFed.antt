@@ -1,7 +1,6 @@
 -- A filter that is fed with a whole list gives what its firings on that list give.
 use Rattle.std.proofs.Common.{◌≡◌, ℕ, zero, suc, ℤ, ◌+◌, ◌<◌, ◌≤◌, List, [], ◌∷◌, ◌++◌, length, take, drop, refl, sym, ap, ◌∙◌, subst, arith, append_assoc}
 use Rattle.std.proofs.Common.{length-append, length-drop, ⊎_elim}
-use Rattle.std.specs.Prelude.{if◌then◌else◌, nat_le}
 use Rattle.std.proofs.lemmas.List.{append-nil, drop-append-le, take-append-le, map-append}
 use Rattle.std.proofs.lemmas.Bool.{cases_lt}
 use Rattle.river_base.specs.declared.item.Item.TheVariants.{Flat}
@@ -17,12 +16,7 @@ use Rattle.brooklet_model.specs.Firings.{Buffered, Fired, feed}
 use Rattle.brooklet_model.specs.Fire.{fire}
 use Rattle.streamit_model.specs.UnrolledFilters.{firing, firings_from, filtered}
 use Rattle.streamit_model.specs.Laws.{as_items}
-
-if_le : {A : Type 0} (a b : ℕ) (x y : A) → a ≤ b → (if nat_le a b then x else y) ≡ x
-if_le a b x y h = grind arith
-
-if_gt : {A : Type 0} (a b : ℕ) (x y : A) → b < a → (if nat_le a b then x else y) ≡ y
-if_gt a b x y h = grind arith
+use Rattle.streamit_model.proofs.Firings.{if_le, if_gt}
 
 -- so many values have come, and so many runs were
 abbrev state : List ℤ → ℕ → List ℤ → Filtering

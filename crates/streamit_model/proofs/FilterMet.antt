@@ -2,9 +2,10 @@
 use Rattle.std.proofs.Common.{◌≡◌, ℕ, zero, suc, ℤ, pos, ◌+◌, ◌-◌, ◌*◌, ◌<◌, ◌≤◌, true, List, [], ◌∷◌, ◌++◌, length, map, take, drop, replicate, max, Option, Some, None, Ok, refl}
 use Rattle.std.proofs.Common.{sym, ap, ◌∙◌, subst, arith, nat_le, nat_eq, ⊎_elim, length-append}
 use Rattle.std.specs.Prelude.{if◌then◌else◌, ◌&&◌, slice_index_or, nat_lt}
-use Rattle.std.proofs.lemmas.Bool.{and_parts}
+use Rattle.std.proofs.lemmas.Bool.{and_parts, leb-true, eqb-true}
 use Rattle.std.proofs.lemmas.List.{length-replicate}
 use Rattle.std.proofs.Math.Nat.{le_refl}
+use Rattle.std.proofs.lemmas.Option.{same_Some}
 use Rattle.work_code.specs.Steps.{Steps}
 use Rattle.work_code.specs.Ran.{ran}
 use Rattle.kern_rows.specs.Forms.{FilterForm, RunForm}
@@ -22,7 +23,7 @@ use Rattle.streamit_text.specs.Program.{WorkTree, FilterTree}
 use Rattle.streamit_model.specs.ElaborateFilter.{read_field, read_fields, nothing_read, starts_of, elaborated_form, judged_rates, kept_rates, elaborated}
 use Rattle.streamit_model.specs.ElaborateFilter.{run_of, read_work, read_prework, slots_for, widened, first_with}
 use Rattle.streamit_model.specs.UnrolledFilters.{firing, firings_from, filtered}
-use Rattle.streamit_model.proofs.Elaborated.{fine, ok_parts, ok_is, demanded, new_is, some_is, found_here, found_other, at_here, at_other, Holds, Agrees}
+use Rattle.streamit_model.proofs.Elaborated.{fine, ok_parts, ok_is, demanded, new_is, found_here, found_other, at_here, at_other, Holds, Agrees}
 use Rattle.streamit_model.proofs.Elaborated.{IsSound, Keeps, keeps_new, sound_var, steps_grow, steps_met}
 
 -- THE FIELDS
@@ -95,7 +96,7 @@ fields_agree (f ∷ fs) (z ∷ zs) s s' env mem h len at a =
     (λ i lt. ap (λ k. slice_index_or mem k (pos 0)) (let e : s.slots + 1 + i ≡ s.slots + suc i = omega arith in e) ∙ at (suc i) (omega (arith, lt)))
     (record {
       each = λ m b g. ⊎_elim
-          (λ e. subst (λ c. Holds c (at_name f z env m) mem) (some_is (Var s.slots) b (sym (found_here f m (Var s.slots) s.scope e.1) ∙ g)) (here ∙ sym (at_here f m z env e.1)))
+          (λ e. subst (λ c. Holds c (at_name f z env m) mem) (same_Some (Var s.slots) b (sym (found_here f m (Var s.slots) s.scope e.1) ∙ g)) (here ∙ sym (at_here f m z env e.1)))
           (λ e. subst (λ w. Holds b w mem) (sym (at_other f m z env e.1)) (a.each m b (sym (found_other f m (Var s.slots) s.scope e.1) ∙ g)))
           (cases_name f m);
     })
@@ -188,15 +189,12 @@ rates_are least w u h =
     let a = and_parts (nat_le (push_of w) 65536) (nat_le (pop_of w) 65536 && nat_le (peek_of w) 65536) (demanded small Limit p.0 p.1) in
     let b = and_parts (nat_le (pop_of w) 65536) (nat_le (peek_of w) 65536) a.1 in
     record {
-      push = le_by (push_of w) 65536 a.0;
-      pop = le_by (pop_of w) 65536 b.0;
-      peek = le_by (peek_of w) 65536 b.1;
-      pops = le_by least (pop_of w) (demanded (nat_le least (pop_of w)) Limit q.0 q.1);
-      peeks = le_by (pop_of w) (peek_of w) (demanded (nat_le (pop_of w) (peek_of w)) (Rates (peek_of w) (pop_of w)) u q.2);
+      push = leb-true (push_of w) 65536 a.0;
+      pop = leb-true (pop_of w) 65536 b.0;
+      peek = leb-true (peek_of w) 65536 b.1;
+      pops = leb-true least (pop_of w) (demanded (nat_le least (pop_of w)) Limit q.0 q.1);
+      peeks = leb-true (pop_of w) (peek_of w) (demanded (nat_le (pop_of w) (peek_of w)) (Rates (peek_of w) (pop_of w)) u q.2);
     }
-  where
-    le_by : (m n : ℕ) → nat_le m n ≡ true → m ≤ n
-    le_by m n h = grind (arith, h)
 
 -- what is read of `prework` or `work` behind the fields
 pub record WorkRead (least : ℕ) (w : WorkTree) (s : At) (r : RunForm) : Type 0 where
@@ -237,13 +235,10 @@ work_parts least w s r h =
       read = q.0;
       steps_are = q.1;
       rates = rates_are least w p.0 p.1;
-      popped = same_by q.0.1.popped (pop_of w) (demanded (nat_eq q.0.1.popped (pop_of w)) (Rates (pop_of w) q.0.1.popped) m.0 m.1);
-      pushed = same_by q.0.1.pushed (push_of w) (demanded (nat_eq q.0.1.pushed (push_of w)) (Rates (push_of w) q.0.1.pushed) k.0 m.2);
+      popped = eqb-true q.0.1.popped (pop_of w) (demanded (nat_eq q.0.1.popped (pop_of w)) (Rates (pop_of w) q.0.1.popped) m.0 m.1);
+      pushed = eqb-true q.0.1.pushed (push_of w) (demanded (nat_eq q.0.1.pushed (push_of w)) (Rates (push_of w) q.0.1.pushed) k.0 m.2);
       is = ok_is (run_of w q.0) r k.2;
     }
-  where
-    same_by : (m n : ℕ) → nat_eq m n ≡ true → m ≡ n
-    same_by m n h = grind (arith, h)
 
 prework_parts : (o : Option WorkTree) (s : At) (p : Option RunForm) → read_prework o s ≡ Ok p → PreworkRead o s p
 prework_parts None s p h = subst (λ q. PreworkRead None s q) (ok_is None p h) tt

@@ -11,10 +11,12 @@ use Rattle.streamit_model.specs.Firings.{TakesPlace, place_in, fields_before, fi
 use Rattle.streamit_model.specs.Laws.{FiringsAre}
 use Rattle.streamit_model.proofs.FilterMet.{elaborated_parts}
 
-if_le : {A : Type 0} (a b : ℕ) (x y : A) → a ≤ b → (if nat_le a b then x else y) ≡ x
+-- a test for at most, where it is so
+pub if_le : {A : Type 0} (a b : ℕ) (x y : A) → a ≤ b → (if nat_le a b then x else y) ≡ x
 if_le a b x y h = grind arith
 
-if_gt : {A : Type 0} (a b : ℕ) (x y : A) → b < a → (if nat_le a b then x else y) ≡ y
+-- and where it is not
+pub if_gt : {A : Type 0} (a b : ℕ) (x y : A) → b < a → (if nat_le a b then x else y) ≡ y
 if_gt a b x y h = grind arith
 
 -- THE ITEMS THAT A FIRING LOOKS AT

@@ -1,9 +1,10 @@
 -- Each operator of a stream's plan fits its queues and its variable, names its variable as itself, and is within its limits.
-use Rattle.std.proofs.Common.{◌≡◌, ℕ, zero, suc, pos, ◌+◌, ◌<◌, ◌≤◌, Bool, true, Option, Some, None, List, [], ◌∷◌, ◌++◌, length, map, refl, sym, ap, ◌∙◌, arith, ⊎_elim}
-use Rattle.std.specs.Prelude.{All, nat_le, ◌&&◌, replicate}
+use Rattle.std.proofs.Common.{◌≡◌, ℕ, zero, suc, pos, ◌+◌, ◌<◌, ◌≤◌, true, Option, Some, None, List, [], ◌∷◌, ◌++◌, length, map, refl, sym, ap, ◌∙◌, arith, ⊎_elim}
+use Rattle.std.specs.Prelude.{All, nat_le, replicate}
 use Rattle.std.specs.List.{AllByRecursion, list_all}
 use Rattle.std.proofs.lemmas.List.{length-map}
 use Rattle.std.proofs.lemmas.List.Elements.{All-nil, All-cons, All-append}
+use Rattle.std.proofs.lemmas.Bool.{and_from, le-leb}
 use Rattle.river_base.specs.Number.{count_of}
 use Rattle.river_base.specs.declared.kind.FlatType.TheVariants.{Rows}
 use Rattle.river_base.specs.declared.kind.QueueType.{QueueType}
@@ -63,28 +64,22 @@ kinds_of kind (suc n) k h =
 one_kind : {K : Type 0} (kind : Name → K) (k : K) (q : Name) → ((x : Name) → 0 < count x (q ∷ []) → kind x ≡ k) → map kind (q ∷ []) ≡ k ∷ []
 one_kind kind k q h = ap (λ t. t ∷ []) (h q (let o = one_same q in omega (arith, o)))
 
-both_true : (a b : Bool) → a ≡ true → b ≡ true → a && b ≡ true
-both_true a b h k = rw h k
-
 all_positive : (ws : List ℕ) → AllByRecursion (λ w. 0 < w) ws → list_all (λ w. nat_le 1 (count_of w)) (weights ws) ≡ true
 all_positive [] h = refl
-all_positive (w ∷ ws) h = both_true (nat_le 1 w) (list_all (λ w. nat_le 1 (count_of w)) (weights ws)) (let a = h.0 in grind (arith, a)) (all_positive ws h.1)
-
-le_true : (a b : ℕ) → a ≤ b → nat_le a b ≡ true
-le_true a b h = grind arith
+all_positive (w ∷ ws) h = and_from (nat_le 1 w) (list_all (λ w. nat_le 1 (count_of w)) (weights ws)) (let a = h.0 in grind (arith, a)) (all_positive ws h.1)
 
 weights_good : (ws : List ℕ) (n : ℕ) → IsRound ws n → 0 < n → are_weights (weights ws) ≡ true
 weights_good ws n r lt =
     let l = length-map ws pos in
     let m = r.number in
-    both_true (nat_le 1 (length (weights ws))) (list_all (λ w. nat_le 1 (count_of w)) (weights ws)) (le_true 1 (length (weights ws)) (omega (arith, l, m, lt))) (all_positive ws r.each)
+    and_from (nat_le 1 (length (weights ws))) (list_all (λ w. nat_le 1 (count_of w)) (weights ws)) (le-leb 1 (length (weights ws)) (omega (arith, l, m, lt))) (all_positive ws r.each)
 
 many : (ws : List ℕ) (n : ℕ) → IsRound ws n → replicate n (rows 1) ≡ replicate (length (weights ws)) (rows 1)
 many ws n r = ap (λ k. replicate k (rows 1)) (sym (length-map ws pos ∙ r.number))
 
 fits_split : (d : Splitter) (n k : ℕ) (label from : Name) → IsSplitter d n → 0 < n → IsFitting (splitter d n label from (queues k n))
 fits_split Duplicate n k label from ok some kind var hq hv =
-    (Rows 1, one_kind kind (rows 1) from (λ q lt. hq q (omega (arith, lt))), kinds_of kind n k (λ q lt. hq q (omega (arith, lt))), refl, le_true 1 n some)
+    (Rows 1, one_kind kind (rows 1) from (λ q lt. hq q (omega (arith, lt))), kinds_of kind n k (λ q lt. hq q (omega (arith, lt))), refl, le-leb 1 n some)
 fits_split (RoundRobin ws) n k label from ok some kind var hq hv =
     (Rows 1, one_kind kind (rows 1) from (λ q lt. hq q (omega (arith, lt))), kinds_of kind n k (λ q lt. hq q (omega (arith, lt))) ∙ many ws n ok, one_kind var Private label hv, weights_good ws n ok some)
 

@@ -1,8 +1,8 @@
 -- What is read of a filter is a well-formed filter within its limits.
-use Rattle.std.proofs.Common.{◌≡◌, ℕ, suc, ℤ, pos, negsuc, ◌+◌, ◌<◌, ◌≤◌, Bool, true, List, [], ◌∷◌, length, replicate, Option, Some, None, Ok, refl, sym, ap}
+use Rattle.std.proofs.Common.{◌≡◌, ℕ, suc, ℤ, pos, negsuc, ◌+◌, ◌<◌, ◌≤◌, true, List, [], ◌∷◌, length, replicate, Option, Some, None, Ok, refl, sym, ap}
 use Rattle.std.proofs.Common.{◌∙◌, subst, arith, nat_lt, nat_le, nat_eq}
 use Rattle.std.specs.Prelude.{if◌then◌else◌, ◌&&◌, max}
-use Rattle.std.proofs.lemmas.Bool.{and_parts}
+use Rattle.std.proofs.lemmas.Bool.{and_parts, and_from, lt-ltb, le-leb, eq-eqb, ltb-true}
 use Rattle.work_code.specs.Term.{Term}
 use Rattle.work_code.specs.Term as term
 use Rattle.work_code.specs.Steps.{Step, Steps, Done}
@@ -33,38 +33,20 @@ use Rattle.streamit_model.proofs.Elaborated.{looped_parts, followed_parts}
 
 -- EXPRESSIONS
 
-both_true : (a b : Bool) → a ≡ true → b ≡ true → a && b ≡ true
-both_true a b h k = rw h k
-
-lt_true : (a b : ℕ) → a < b → nat_lt a b ≡ true
-lt_true a b h = grind arith
-
-le_true : (a b : ℕ) → a ≤ b → nat_le a b ≡ true
-le_true a b h = grind arith
-
-eq_true : (a b : ℕ) → a ≡ b → nat_eq a b ≡ true
-eq_true a b h = grind (arith, h)
-
-lt_by : (a b : ℕ) → nat_lt a b ≡ true → a < b
-lt_by a b h = grind (arith, h)
-
-le_by : (a b : ℕ) → nat_le a b ≡ true → a ≤ b
-le_by a b h = grind (arith, h)
-
 -- so many inputs and slots are enough, and it is no deeper than what was written
 abbrev Fits : ℕ → ℕ → ℕ → Term → Type 0
 Fits p m d u = (is_sound p m u ≡ true) × (term.depth_of u ≤ d)
 
 named_fits : (p m : ℕ) (o : Option Known) (u : Term) → ((i : ℕ) → o ≡ Some (Var i) → i < m) → named_term o ≡ Ok u → Fits p m 1 u
 named_fits p m None u h c = absurd (cc c)
-named_fits p m (Some (Var i)) u h c = subst (Fits p m 1) (ok_is (term.Slot i) u c) (lt_true i m (h i refl), omega arith)
+named_fits p m (Some (Var i)) u h c = subst (Fits p m 1) (ok_is (term.Slot i) u c) (lt-ltb i m (h i refl), omega arith)
 named_fits p m (Some (Turn v)) u h c = subst (Fits p m 1) (ok_is (term.Const (pos v)) u c) (refl, omega arith)
 
 peeked_fits : (p m e k d : ℕ) (i : ℤ) (u : Term) → e ≤ p → peeked e k i ≡ Ok u → Fits p m (suc d) u
 peeked_fits p m e k d (pos i) u le h =
     let q = if_ok (nat_lt (k + i) e) (term.Input (k + i)) u (PeekRange (pos i) e) h in
-    let lt = lt_by (k + i) e q.0 in
-    subst (Fits p m (suc d)) q.1 (lt_true (k + i) p (omega (arith, lt, le)), omega arith)
+    let lt = ltb-true (k + i) e q.0 in
+    subst (Fits p m (suc d)) q.1 (lt-ltb (k + i) p (omega (arith, lt, le)), omega arith)
 peeked_fits p m e k d (negsuc i) u le h = absurd (cc h)
 
 term_fits : (p m e : ℕ) (sc : Scope) (t : Expression) (k : ℕ) (u : Term) → e ≤ p → k + pops t ≤ p → ((n : Name) (i : ℕ) → find sc n ≡ Some (Var i) → i < m)
@@ -73,7 +55,7 @@ term_fits p m e sc (tree.Number v) k u le pp b c = subst (Fits p m 1) (ok_is (te
 term_fits p m e sc (tree.Name n) k u le pp b c = named_fits p m (find sc n) u (b n) c
 term_fits p m e sc (tree.Peek t) k u le pp b c = let q = ok_parts (constant sc t) (peeked e k) u c in peeked_fits p m e k (tree.depth_of t) q.0 u le q.2
 term_fits p m e sc tree.Pop k u le pp b c =
-    subst (Fits p m 1) (if_ok (nat_le k 65536) (term.Input k) u Limit c).1 (lt_true k p (omega (arith, pp)), omega arith)
+    subst (Fits p m 1) (if_ok (nat_le k 65536) (term.Input k) u Limit c).1 (lt-ltb k p (omega (arith, pp)), omega arith)
 term_fits p m e sc (tree.Neg t) k u le pp b c =
     let q = ok_parts (term_of e sc t k) (λ a. Ok (term.Neg a)) u c in
     let i = term_fits p m e sc t k q.0 le pp b q.1 in
@@ -90,10 +72,10 @@ term_fits p m e sc (tree.Bin o l r) k u le pp b c =
     let i = term_fits p m e sc l k q.0 le (omega (arith, pp)) b q.1 in
     let j = term_fits p m e sc r (k + pops l) w.0 le (omega (arith, pp)) b w.1 in
     let d = i.1 in let g = j.1 in
-    subst (Fits p m (suc (max (tree.depth_of l) (tree.depth_of r)))) (ok_is (term.Bin o q.0 w.0) u w.2) (both_true (is_sound p m q.0) (is_sound p m w.0) i.0 j.0, omega (arith, d, g))
+    subst (Fits p m (suc (max (tree.depth_of l) (tree.depth_of r)))) (ok_is (term.Bin o q.0 w.0) u w.2) (and_from (is_sound p m q.0) (is_sound p m w.0) i.0 j.0, omega (arith, d, g))
 
 is_one : (p m d : ℕ) (u : Term) → d ≤ 64 → Fits p m d u → is_term p m u ≡ true
-is_one p m d u low f = let e = f.1 in both_true (is_sound p m u) (nat_le (term.depth_of u) 64) f.0 (le_true (term.depth_of u) 64 (omega (arith, e, low)))
+is_one p m d u low f = let e = f.1 in and_from (is_sound p m u) (nat_le (term.depth_of u) 64) f.0 (le-leb (term.depth_of u) 64 (omega (arith, e, low)))
 
 -- STATEMENTS, COUNTED
 
@@ -170,7 +152,7 @@ mutual
   step_counts : (e : ℕ) (c : Statement) → Counted (step_of e c)
   step_counts e (Declare n t) s y h =
       let p = declared_parts e n t s y h in let r = p.room in
-      subst (Counts s) (sym p.is) (one_counts s _ (steps.Set s.slots p.value) 0 (omega arith) refl (omega arith) (omega arith) (λ h. omega (arith, r)) (λ h. let f = lt_by s.slots 256 p.few in omega (arith, f)))
+      subst (Counts s) (sym p.is) (one_counts s _ (steps.Set s.slots p.value) 0 (omega arith) refl (omega arith) (omega arith) (λ h. omega (arith, r)) (λ h. let f = ltb-true s.slots 256 p.few in omega (arith, f)))
   step_counts e (Assign n t) s y h =
       let p = assigned_parts e n t s y h in let r = p.room in
       subst (Counts s) (sym p.is) (one_counts s _ (steps.Set p.slot p.value) 0 (omega arith) refl (omega arith) (omega arith) (λ h. omega (arith, r)) (λ h. h))
@@ -190,7 +172,7 @@ mutual
       g2 (omega (arith, f3, g3)) (λ h. g.small (f.small (omega (arith, r)))) (λ h. g.few (f.few h)))
     where
       one_of : (m n : ℕ) → m ≡ n → (if nat_eq m n then Some m else None) ≡ Some n
-      one_of m n e = ap (λ b. if b then Some m else None) (eq_true m n e) ∙ ap Some e
+      one_of m n e = ap (λ b. if b then Some m else None) (eq-eqb m n e) ∙ ap Some e
   step_counts e (For n low upto high b) s y h =
       let p = looped_parts e n low upto high b s y h in
       unrolled_counts (steps_of e b) (steps_count e b) n (turns_between p.first upto p.last) s y p.is
@@ -214,10 +196,10 @@ steps_joined : (p m : ℕ) (a b : Steps) → is_steps p m one_port a ≡ true �
 steps_joined p m Done b h g = g
 steps_joined p m (steps.Then c a) b h g =
     let q = and_parts (is_step p m one_port c) (is_steps p m one_port a) h in
-    both_true (is_step p m one_port c) (is_steps p m one_port (both_steps a b)) q.0 (steps_joined p m a b q.1 g)
+    and_from (is_step p m one_port c) (is_steps p m one_port (both_steps a b)) q.0 (steps_joined p m a b q.1 g)
 
 one_formed : (p m : ℕ) (c : Step) → is_step p m one_port c ≡ true → is_steps p m one_port (one_step c) ≡ true
-one_formed p m c h = both_true (is_step p m one_port c) true h refl
+one_formed p m c h = and_from (is_step p m one_port c) true h refl
 
 -- where no more than p items and m slots are used
 abbrev Formed : ℕ → ℕ → (At → Read) → Type 0
@@ -257,19 +239,19 @@ mutual
       let pp' : s.popped + first_popped t ≤ p = subst (λ (r : Steps × At). r.1.popped ≤ p) q.is pp in
       let sl' : s.slots + 1 ≤ m = subst (λ (r : Steps × At). r.1.slots ≤ m) q.is sl in
       subst (λ (r : Steps × At). is_steps p m one_port r.0 ≡ true) (sym q.is)
-      (one_formed p m (steps.Set s.slots q.value) (both_true (nat_lt s.slots m) (is_term p m q.value) (lt_true s.slots m (omega (arith, sl'))) (first_fits p m e t s q.value low le pp' ok (omega (arith, sl')) q.value_is)))
+      (one_formed p m (steps.Set s.slots q.value) (and_from (nat_lt s.slots m) (is_term p m q.value) (lt-ltb s.slots m (omega (arith, sl'))) (first_fits p m e t s q.value low le pp' ok (omega (arith, sl')) q.value_is)))
   step_formed p m e (Assign n t) le low s y h ok pp sl =
       let q = assigned_parts e n t s y h in
       let pp' : s.popped + pops t ≤ p = subst (λ (r : Steps × At). r.1.popped ≤ p) q.is pp in
       let sl' : s.slots ≤ m = subst (λ (r : Steps × At). r.1.slots ≤ m) q.is sl in
       subst (λ (r : Steps × At). is_steps p m one_port r.0 ≡ true) (sym q.is)
-      (one_formed p m (steps.Set q.slot q.value) (both_true (nat_lt q.slot m) (is_term p m q.value) (lt_true q.slot m (below_of s m ok sl' n q.slot q.found)) (is_one p m (tree.depth_of t) q.value low (term_fits p m e s.scope t s.popped q.value le pp' (below_of s m ok sl') q.value_is))))
+      (one_formed p m (steps.Set q.slot q.value) (and_from (nat_lt q.slot m) (is_term p m q.value) (lt-ltb q.slot m (below_of s m ok sl' n q.slot q.found)) (is_one p m (tree.depth_of t) q.value low (term_fits p m e s.scope t s.popped q.value le pp' (below_of s m ok sl') q.value_is))))
   step_formed p m e (Push t) le low s y h ok pp sl =
       let q = pushed_parts e t s y h in
       let pp' : s.popped + pops t ≤ p = subst (λ (r : Steps × At). r.1.popped ≤ p) q.is pp in
       let sl' : s.slots ≤ m = subst (λ (r : Steps × At). r.1.slots ≤ m) q.is sl in
       subst (λ (r : Steps × At). is_steps p m one_port r.0 ≡ true) (sym q.is)
-      (one_formed p m (steps.Push 0 (q.value ∷ [])) (both_true (is_term p m q.value) true (is_one p m (tree.depth_of t) q.value low (term_fits p m e s.scope t s.popped q.value le pp' (below_of s m ok sl') q.value_is)) refl))
+      (one_formed p m (steps.Push 0 (q.value ∷ [])) (and_from (is_term p m q.value) true (is_one p m (tree.depth_of t) q.value low (term_fits p m e s.scope t s.popped q.value le pp' (below_of s m ok sl') q.value_is)) refl))
   step_formed p m e Discard le low s y h ok pp sl =
       subst (λ (r : Steps × At). is_steps p m one_port r.0 ≡ true) (ok_is (Done, record s { popped = s.popped + 1 }) y h) refl
   step_formed p m e (If t a b) le low s y h ok pp sl =
@@ -285,7 +267,7 @@ mutual
       let z = optional_formed p m e b le low.2 (at_second t s q.one.1) q.two q.two_is (more_slots s.scope s.slots q.one.1.slots ga ok) pp' sl' in
       subst (λ (r : Steps × At). is_steps p m one_port r.0 ≡ true) (sym q.is)
       (one_formed p m (steps.If q.test q.one.0 q.two.0)
-      (both_true (is_term p m q.test) (is_steps p m one_port q.one.0 && is_steps p m one_port q.two.0) u (both_true (is_steps p m one_port q.one.0) (is_steps p m one_port q.two.0) x z)))
+      (and_from (is_term p m q.test) (is_steps p m one_port q.one.0 && is_steps p m one_port q.two.0) u (and_from (is_steps p m one_port q.one.0) (is_steps p m one_port q.two.0) x z)))
   step_formed p m e (For n low upto high b) le shallow s y h ok pp sl =
       let q = looped_parts e n low upto high b s y h in
       unrolled_formed p m (steps_of e b) (steps_grow e b) (steps_count e b) (steps_formed p m e b le shallow) n (turns_between q.first upto q.last) s y q.new q.is ok pp sl
@@ -398,7 +380,7 @@ run_formed fs s least n w r hf low e le =
       pops = e.rates.pops;
       peeks = peek;
       formed = steps_formed (peek_of w) n (peek_of w) w.block (le_refl (peek_of w)) low s y e.steps_are ok (omega (arith, pp, peek)) le;
-      given = ap (λ o. is_number o (push_of w)) c.pushes ∙ eq_true c.more (push_of w) more;
+      given = ap (λ o. is_number o (push_of w)) c.pushes ∙ eq-eqb c.more (push_of w) more;
       fields = omega (arith, g, ks);
       small = record {
         statements = omega (arith, cs, small);
@@ -420,8 +402,8 @@ first_formed fs s (Some w) (Some r) m hf low h le =
     let k = run_formed fs s 0 n w r hf low h (omega arith) in
     let few = k.small.slots in
     let most : n ≤ 256 = omega (arith, few, le) in (
-      both_true _ _ (eq_true r.body.inputs r.peek k.inputs) (both_true _ _ (eq_true n n refl)
-          (both_true _ _ (le_true r.pop r.peek k.peeks) (both_true _ _ k.formed k.given))),
+      and_from _ _ (eq-eqb r.body.inputs r.peek k.inputs) (and_from _ _ (eq-eqb n n refl)
+          (and_from _ _ (le-leb r.pop r.peek k.peeks) (and_from _ _ k.formed k.given))),
       record { statements = k.small.statements; slots = most; peek = k.small.peek; pop = k.small.pop; push = k.small.push },
       most,
     )
@@ -438,8 +420,8 @@ filter_formed t f low h =
     let kept : length (starts_of (length t.fields) e.init) ≡ length t.fields = run_kept_length (record { inputs = 0; slots = e.init.1.slots; steps = e.init.0 }) (replicate (length t.fields) (pos 0)) [] ∙ length-replicate (length t.fields) (pos 0) in
     let few = k.fields in
     subst (λ (g : FilterForm). (is_filter g ≡ true) × IsSmallFilter g) e.is (
-      both_true _ _ (both_true _ _ (both_true _ _ (eq_true w.body.inputs w.peek k.inputs) (both_true _ _ (le_true 1 w.pop k.pops) (le_true w.pop w.peek k.peeks)))
-          (both_true _ _ k.formed (both_true _ _ (le_true (length (starts_of (length t.fields) e.init)) n (omega (arith, kept, few, le))) k.given))) p.0,
+      and_from _ _ (and_from _ _ (and_from _ _ (eq-eqb w.body.inputs w.peek k.inputs) (and_from _ _ (le-leb 1 w.pop k.pops) (le-leb w.pop w.peek k.peeks)))
+          (and_from _ _ k.formed (and_from _ _ (le-leb (length (starts_of (length t.fields) e.init)) n (omega (arith, kept, few, le))) k.given))) p.0,
       record {
         statements = k.small.statements;
         slots = p.2;

@@ -1,5 +1,5 @@
 -- Numbered names: a name says its number, so that names with different numbers differ.
-use Rattle.std.proofs.Common.{◌≡◌, ◌≢◌, ℕ, zero, suc, ◌+◌, ◌-◌, ◌*◌, ◌%◌, ◌^◌, ◌<◌, ◌≤◌, Bool, true, false, List, [], ◌∷◌, ◌++◌, refl, sym, ap, ◌∙◌, arith}
+use Rattle.std.proofs.Common.{◌≡◌, ℕ, zero, suc, ◌+◌, ◌-◌, ◌*◌, ◌%◌, ◌^◌, ◌<◌, ◌≤◌, Bool, true, false, List, [], ◌∷◌, ◌++◌, refl, sym, ap, ◌∙◌, arith}
 use Rattle.std.proofs.Common.{nat_eq, ⊎_elim}
 use Rattle.std.specs.Prelude.{codes, if◌then◌else◌}
 use Rattle.std.specs.Fmt.{decimal}
@@ -11,6 +11,7 @@ use Rattle.river_plan.specs.Forms.{Name}
 use Rattle.river_plan.specs.Names.{one_if, count}
 use Rattle.river_plan.proofs.NameLemmas.{cases_name}
 use Rattle.streamit_model.specs.Build.{numbered, queue, queues}
+use Rattle.brooklet_model.proofs.Lists.{if_eq, if_ne}
 
 -- the number that stands behind the last `@`; n is the number so far
 abbrev said : ℕ → List ℕ → ℕ
@@ -20,12 +21,6 @@ said n (c ∷ cs) = if nat_eq c 64 then said 0 cs else said (n * 10 + (c - 48)) 
 -- the number behind the last `@` of a name
 abbrev pub number_in : List ℕ → ℕ
 number_in text = said 0 text
-
-if_eq : {A : Type 0} (a b : ℕ) (x y : A) → a ≡ b → (if nat_eq a b then x else y) ≡ x
-if_eq a b x y h = grind arith
-
-if_ne : {A : Type 0} (a b : ℕ) (x y : A) → a ≢ b → (if nat_eq a b then x else y) ≡ y
-if_ne a b x y h = grind arith
 
 one_small : (b : Bool) → one_if b ≤ 1
 one_small true = omega arith

@@ -3,7 +3,7 @@ use Rattle.std.proofs.Common.{◌≡◌, ℕ, suc, ℤ, ◌<◌, ◌≤◌, Bool
 use Rattle.std.proofs.Common.{nat_lt, nat_le, nat_eq, ◌+◌, Result, Err}
 use Rattle.std.specs.Prelude.{if◌then◌else◌, ◌&&◌}
 use Rattle.std.specs.List.{list_all, AllByRecursion}
-use Rattle.std.proofs.lemmas.Bool.{and_parts}
+use Rattle.std.proofs.lemmas.Bool.{and_parts, ltb-true, eqb-true, leb-true}
 use Rattle.river_base.specs.Name.{name_eq}
 use Rattle.river_plan.specs.Forms.{Name}
 use Rattle.streamit_model.specs.Unrolled.{Splitter, Duplicate, RoundRobin, Stream, Filter, Pipeline, SplitJoin, Streams, Last, Then, number_of, nesting}
@@ -34,9 +34,6 @@ AllFit [] [] = Unit {0}
 AllFit [] (e ∷ es) = ⊥
 AllFit (k ∷ ks) [] = ⊥
 AllFit (k ∷ ks) (e ∷ es) = (k.0 ≡ e.0) × Fits k.1 e.1 × AllFit ks es
-
-below_by : (m n : ℕ) → nat_lt m n ≡ true → m < n
-below_by m n h = grind (arith, h)
 
 found_is : (o : Option Stream) (s : Stream) → found o ≡ Ok s → o ≡ Some s
 found_is None s h = absurd (cc h)
@@ -94,7 +91,7 @@ adds_fit may known env i n (m ∷ ms) ss a h =
 few_branches : (known : Streamed) (i : ℕ) (n : Name) (ms : List Name) (ss : Streams) → streams_of branches known i n ms ≡ Ok ss → i + number_of ss ≤ 64
 few_branches known i n [] ss h =
     let p = ok_parts (added branches known i n) (λ s. Ok (Last s)) ss h in
-    let lt = below_by i 64 (added_is branches known i n p.0 p.1).0 in
+    let lt = ltb-true i 64 (added_is branches known i n p.0 p.1).0 in
     subst (λ t. i + number_of t ≤ 64) (ok_is (Last p.0) ss p.2) (omega (arith, lt))
 few_branches known i n (m ∷ ms) ss h =
     let p = ok_parts (added branches known i n) (λ s. on_ok (streams_of branches known (suc i) m ms) (λ ss. Ok (Then s ss))) ss h in
@@ -122,13 +119,7 @@ round_parts ws n vs h =
     let p = ok_parts (demand (nat_eq (length us) n && all) Weights) f vs h in
     let q = and_parts (nat_eq (length us) n) all (demanded (nat_eq (length us) n && all) Weights p.0 p.1) in
     let r = ok_parts (demand (nat_le (cycle us) 65536) Limit) (λ v. fine us) vs p.2 in
-    subst (Round ws n) (ok_is us vs r.2) (record { is = refl; round = record { number = same_by (length us) n q.0; each = positive us q.1 }; sum = le_by (cycle us) 65536 (demanded (nat_le (cycle us) 65536) Limit r.0 r.1) })
-  where
-    same_by : (m n : ℕ) → nat_eq m n ≡ true → m ≡ n
-    same_by m n h = grind (arith, h)
-
-    le_by : (m n : ℕ) → nat_le m n ≡ true → m ≤ n
-    le_by m n h = grind (arith, h)
+    subst (Round ws n) (ok_is us vs r.2) (record { is = refl; round = record { number = eqb-true (length us) n q.0; each = positive us q.1 }; sum = leb-true (cycle us) 65536 (demanded (nat_le (cycle us) 65536) Limit r.0 r.1) })
 
 record Split (d : Dealing) (n : ℕ) (p : Splitter) : Type 0 where
   formed : IsSplitter p n

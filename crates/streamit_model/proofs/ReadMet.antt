@@ -3,7 +3,7 @@ use Rattle.std.proofs.Common.{◌≡◌, ℕ, ℤ, pos, negsuc, ◌+◌, ◌-◌
 use Rattle.std.proofs.Common.{refl, sym, ap, ◌∙◌, subst, arith, append_assoc, nat_lt, nat_le, nat_eq}
 use Rattle.std.specs.Prelude.{if◌then◌else◌, ◌&&◌}
 use Rattle.std.proofs.lemmas.List.{append-nil}
-use Rattle.std.proofs.lemmas.Bool.{and_parts}
+use Rattle.std.proofs.lemmas.Bool.{and_parts, ltb-true, ltb-false, leb-true, leb-false}
 use Rattle.work_code.specs.Term.{Term}
 use Rattle.work_code.specs.Steps.{Step, Steps, Done}
 use Rattle.work_code.specs.Steps as steps
@@ -24,7 +24,7 @@ use Rattle.streamit_model.proofs.Meeting.{test, last_test, next, ended, beyond, 
 use Rattle.streamit_model.proofs.Standing.{over-append, Counted, Stands, none_known, IsEven, names_on, counted_on, moved, unmoved, regrouped, with_local}
 use Rattle.streamit_model.proofs.Standing.{with_turn, leaves_nothing, left_behind}
 use Rattle.streamit_model.proofs.Even.{even_block}
-use Rattle.streamit_model.proofs.Spelled.{lt_holds, lt_fails, le_holds, le_fails, local_known, turn_known, some_known, Fixed, fixed_met, spelled_met, first_met}
+use Rattle.streamit_model.proofs.Spelled.{local_known, turn_known, some_known, Fixed, fixed_met, spelled_met, first_met}
 
 same_numbers : (a b c d : ℕ) → nat_eq a b && nat_eq c d ≡ true → (a ≡ b) × (c ≡ d)
 same_numbers a b c d h = let p = and_parts (nat_eq a b) (nat_eq c d) h in let x = p.0 in let y = p.1 in (grind (arith, x), grind (arith, y))
@@ -77,12 +77,12 @@ module _ (above : List Declared) (e : ℕ) where
       let z = h.counts.size_is in
       test above (spot ∷ rest) (nat_lt s.size 16384) (record s { size = s.size + 1 }) Limit g Q
       (λ t.
-      let lt = lt_holds s.size 16384 t in
+      let lt = ltb-true s.size 16384 t in
       behind above (spot ∷ []) rest (g (record s { size = s.size + 1 })) Q
       (free above spot (λ h. h) (λ h. h) (λ d c h. h) (λ i r h. h) (λ h. h) (λ h. h) (λ h. omega (arith, lt, z, h)) (λ h. h), tt)
       (k (moved before (Begins ∷ []) s turns s.slots s.popped s.pushed (s.size + 1) h (λ n. (refl, refl)) (omega arith) (omega arith) (omega arith)
       (omega arith))))
-      (λ f. let le = lt_fails s.size 16384 f in inl (first_limit above spot (omega (arith, le, z)) (λ h. h) (λ h. h) (λ h. h) (λ h. h) (λ i r h. h)))
+      (λ f. let le = ltb-false s.size 16384 f in inl (first_limit above spot (omega (arith, le, z)) (λ h. h) (λ h. h) (λ h. h) (λ h. h) (λ i r h. h)))
 
   -- where a name is declared, reading tells what the table has
   pub declares_met : {B : Type 0} (before ws : List Word) (s : At) (turns : Values) (n : Name) (o : Option Known) (r : Result B Fault) (Q : B → Type 0)
@@ -99,11 +99,11 @@ module _ (above : List Declared) (e : ℕ) where
       let new = none_known before s.scope turns n f (h.names n) in
       test above (spot ∷ rest) (nat_lt s.slots 256) tt Limit (λ w. r) Q
       (λ t.
-      let lt = lt_holds s.slots 256 t in
+      let lt = ltb-true s.slots 256 t in
       behind above (spot ∷ []) rest r Q
       (free above spot (λ h. h) new (λ d c h. h) (λ i r h. h) (λ h. h) (λ h. h) (λ h. omega (arith, lt, z, h)) (λ h. h), tt)
       (k f (unmoved before (Declares n) s turns h (λ m. (refl, refl)) refl refl refl refl refl refl)))
-      (λ t. let le = lt_fails s.slots 256 t in inl (first_limit above spot (omega (arith, le, z)) new (λ h. h) (λ h. h) (λ h. h) (λ i r h. h)))
+      (λ t. let le = ltb-false s.slots 256 t in inl (first_limit above spot (omega (arith, le, z)) new (λ h. h) (λ h. h) (λ h. h) (λ i r h. h)))
 
   loops_met : {B : Type 0} (before ws : List Word) (s : At) (turns : Values) (n : Name) (o : Option Known) (r : Result B Fault) (Q : B → Type 0)
       → find s.scope n ≡ o
@@ -142,12 +142,12 @@ module _ (above : List Declared) (e : ℕ) where
       let rest = each_word e (before ++ Bounds (pos m) ∷ []) ws in
       test above (spot ∷ rest) (nat_le m 65536) m Limit g Q
       (λ t.
-      let le = le_holds m 65536 t in
+      let le = leb-true m 65536 t in
       behind above (spot ∷ []) rest (g m) Q
       (free above spot (λ h. h) (λ h. h) (λ d c h. h) (λ i r h. h) (λ h. h) (λ h. h) (λ h. h (m, refl, le)) (λ h. h), tt)
       (k m refl (unmoved before (Bounds (pos m)) s turns h (λ n. (refl, refl)) refl refl refl refl refl refl)))
       (λ t.
-      let lt = le_fails m 65536 t in
+      let lt = leb-false m 65536 t in
       inl (first_limit above spot (λ b. let n = natural m b.0 b.1 in let c = b.2 in omega (arith, lt, n, c)) (λ h. h) (λ h. h) (λ h. h) (λ h. h) (λ i r h. h)))
     where
       natural : (i n : ℕ) → pos i ≡ pos n → i ≡ n

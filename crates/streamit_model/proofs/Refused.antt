@@ -2,7 +2,7 @@
 use Rattle.std.proofs.Common.{◌≡◌, ℕ, suc, ℤ, ◌+◌, ◌⊎◌, inl, inr, List, [], ◌∷◌, ◌++◌, length, map, Result, Ok, Err, refl, sym, ap, ◌∙◌, subst, arith, ⊎_elim}
 use Rattle.std.proofs.Common.{nat_le, Bool, true, false}
 use Rattle.std.specs.List.{AllByRecursion}
-use Rattle.std.proofs.lemmas.Bool.{cases_lt}
+use Rattle.std.proofs.lemmas.Bool.{cases_lt, leb-true, leb-false}
 use Rattle.streamit_model.specs.Unrolled.{Stream}
 use Rattle.streamit_model.specs.Build.{ops_in}
 use Rattle.streamit_model.specs.Elaborate.{Fault, UnknownName, NameTwice, Rates, PeekRange, NotConstant, BranchRates, Limit, Weights, demand}
@@ -12,7 +12,6 @@ use Rattle.streamit_model.specs.Words.{Peeks}
 use Rattle.streamit_model.specs.Places.{Spot, Reads, Rated, Counts, Finishes, Place, place, places_behind, places_of, unit_spots, last_operators}
 use Rattle.streamit_model.specs.Faulty.{AreRatesApart, IsOutside, HasFault, rank, IsFirstFault, IsRight, RefusalsAre, AcceptedAre}
 use Rattle.streamit_model.proofs.Meeting.{AllFree, FirstIn, Meets, free, first_limit}
-use Rattle.streamit_model.proofs.Spelled.{le_holds, le_fails}
 use Rattle.streamit_model.proofs.UnitMet.{LastIs, KnowsAbove, one_more, IsBodyAs, unit_met}
 
 -- ONE FAULT IS THE FIRST
@@ -152,9 +151,9 @@ finishes : (k n : ℕ) (above : List Declared) (known : Streamed) → n ≡ k �
 finishes k n above [] same h =
     (free above Finishes (λ h. h) (λ h. h) (λ d c h. h) (λ i r h. h) (λ h. h) (λ h. h) (λ x. omega (arith, h, x)) (λ h. h), tt)
 finishes k n above (e ∷ known) same h = by_test (nat_le (ops_in e.1) 256)
-    (λ t. let le = le_holds (ops_in e.1) 256 t in
+    (λ t. let le = leb-true (ops_in e.1) 256 t in
     (free above Finishes (λ h. h) (λ h. h) (λ d c h. h) (λ i r h. h) (λ h. h) (λ h. h) (λ x. omega (arith, h, le, x)) (λ h. h), tt))
-    (λ f. let lt = le_fails (ops_in e.1) 256 f in
+    (λ f. let lt = leb-false (ops_in e.1) 256 f in
     inl (first_limit above Finishes (omega (arith, h, lt)) (λ h. h) (λ h. h) (λ h. h) (λ h. h) (λ i r h. h), same))
   where
     by_test : (b : Bool) → (b ≡ true → AllByRecursion IsRight (place k above Finishes ∷ []))

@@ -1,8 +1,9 @@
 -- Expressions are read word by word: the first word that has a fault is told.
-use Rattle.std.proofs.Common.{◌≡◌, ℕ, ℤ, pos, negsuc, ◌+◌, ◌<◌, ◌≤◌, inl, inr, true, false, List, [], ◌∷◌, ◌++◌, Option, Some, None, Ok, refl, sym, ap, ◌∙◌}
+use Rattle.std.proofs.Common.{◌≡◌, ℕ, ℤ, pos, negsuc, ◌+◌, ◌≤◌, inl, inr, List, [], ◌∷◌, ◌++◌, Option, Some, None, Ok, refl, sym, ap, ◌∙◌}
 use Rattle.std.proofs.Common.{subst, arith, append_assoc, nat_lt, nat_le}
 use Rattle.std.proofs.lemmas.List.{append-nil}
 use Rattle.std.specs.Ordering.{int_eq}
+use Rattle.std.proofs.lemmas.Bool.{ltb-true, ltb-false, leb-true, leb-false}
 use Rattle.river_base.specs.Number.{negate}
 use Rattle.work_code.specs.Term.{Term}
 use Rattle.work_code.specs.Term as term
@@ -22,22 +23,6 @@ use Rattle.streamit_model.proofs.Meeting.{FirstIn, Meets, free, first_unknown, f
 use Rattle.streamit_model.proofs.Standing.{NameIs, Stands, stands_popped, none_known, moved, unmoved, regrouped, repopped}
 
 -- TESTS
-
--- a test that holds
-pub lt_holds : (a b : ℕ) → nat_lt a b ≡ true → a < b
-lt_holds a b e = grind (arith, e)
-
--- a test that fails
-pub lt_fails : (a b : ℕ) → nat_lt a b ≡ false → b ≤ a
-lt_fails a b e = grind (arith, e)
-
--- a test that holds
-pub le_holds : (a b : ℕ) → nat_le a b ≡ true → a ≤ b
-le_holds a b e = grind (arith, e)
-
--- a test that fails
-pub le_fails : (a b : ℕ) → nat_le a b ≡ false → b < a
-le_fails a b e = grind (arith, e)
 
 negative : (n i : ℕ) → negsuc i ≡ pos n → ⊥
 negative n i h = cc h
@@ -147,7 +132,7 @@ module _ (above : List Declared) (e : ℕ) where
       let s = Reads e before (Peeks (pos i)) in
       last_test above (s ∷ []) (nat_lt (k + i) e) (term.Input (k + i)) (PeekRange (pos i) e) Q
       (λ t.
-      let lt = lt_holds (k + i) e t in (
+      let lt = ltb-true (k + i) e t in (
         (
           free above s (λ h. h) (λ h. h) (λ d c h. h) (λ j r h. h.0 (i, refl, omega (arith, lt, is))) (λ h. h) (λ h. h)
               (λ h. let n = natural i h.0 h.1 in let m = h.2 in omega (arith, lt, is, n, m, small)) (λ h. h),
@@ -156,7 +141,7 @@ module _ (above : List Declared) (e : ℕ) where
         q (term.Input (k + i)),
       ))
       (λ f.
-      let le = lt_fails (k + i) e f in
+      let le = ltb-false (k + i) e f in
       inl (first_peek above s (pos i) e ((λ h. let n = natural i h.0 h.1 in let m = h.2 in omega (arith, le, is, n, m)), refl, refl) (λ h. h) (λ h. h) (λ h. h)
       (λ h. h)))
 
@@ -175,11 +160,11 @@ module _ (above : List Declared) (e : ℕ) where
       let s = Reads e before Pops in
       last_test above (s ∷ []) (nat_le k 65536) (term.Input k) Limit Q
       (λ t.
-      let le = le_holds k 65536 t in (
+      let le = leb-true k 65536 t in (
         (free above s (λ h. h) (λ h. h) (λ d c h. h) (λ j r h. h) (λ h. h) (λ h. h) (λ h. omega (arith, le, is, h)) (λ h. h), tt),
         q (term.Input k),
       ))
-      (λ f. let lt = le_fails k 65536 f in inl (first_limit above s (omega (arith, lt, is)) (λ h. h) (λ h. h) (λ h. h) (λ h. h) (λ j r h. h)))
+      (λ f. let lt = leb-false k 65536 f in inl (first_limit above s (omega (arith, lt, is)) (λ h. h) (λ h. h) (λ h. h) (λ h. h) (λ j r h. h)))
 
   -- EXPRESSIONS
 

@@ -3,7 +3,7 @@ use Rattle.std.proofs.Common.{◌≡◌, ℕ, suc, ◌+◌, ◌<◌, ◌≤◌, 
 use Rattle.std.proofs.Common.{Ok, refl, sym, ap, ◌∙◌, subst, arith, ⊎_elim, nat_lt, nat_le, nat_eq}
 use Rattle.std.specs.Prelude.{◌&&◌, if◌then◌else◌}
 use Rattle.std.specs.List.{list_all, AllByRecursion}
-use Rattle.std.proofs.lemmas.Bool.{and_parts}
+use Rattle.std.proofs.lemmas.Bool.{and_parts, ltb-true, ltb-false, leb-true, leb-false, eqb-true, eqb-false, and_from}
 use Rattle.std.proofs.lemmas.List.{append-nil}
 use Rattle.river_base.specs.Name.{name_eq}
 use Rattle.river_plan.specs.Forms.{Name}
@@ -25,7 +25,6 @@ use Rattle.streamit_model.specs.Places.{body_spots, unit_spots, greatest_said, i
 use Rattle.streamit_model.proofs.Meeting.{Meets, free, first_twice, first_unknown, first_limit, first_weights, first_rates, behind, chain, finish, test}
 use Rattle.streamit_model.proofs.Meeting.{last_test, weaken, next}
 use Rattle.streamit_model.proofs.Standing.{over-append, Stands, with_local, regrouped}
-use Rattle.streamit_model.proofs.Spelled.{lt_holds, lt_fails, le_holds, le_fails}
 use Rattle.streamit_model.proofs.ReadMet.{Went, Within, knows_free, declares_met, all_met, optional_met, regroup}
 
 three_true : (a b c : Bool) → a && (b && c) ≡ true → (a ≡ true) × (b ≡ true) × (c ≡ true)
@@ -36,12 +35,6 @@ one_false true true true h = absurd (cc h)
 one_false true true false h = inr (inr refl)
 one_false true false c h = inr (inl refl)
 one_false false b c h = inl refl
-
-eq_holds : (a b : ℕ) → nat_eq a b ≡ true → a ≡ b
-eq_holds a b e = grind (arith, e)
-
-eq_fails : (a b : ℕ) → nat_eq a b ≡ false → a ≡ b → ⊥
-eq_fails a b e h = grind (arith, e, h)
 
 -- FILTERS
 
@@ -80,23 +73,23 @@ module _ (above : List Declared) where
       (λ u. on_ok (demand (nat_le least pop) Limit) (λ v. demand (nat_le pop peek) (Rates peek pop))) (λ u. peek ≤ 65536)
       (λ t.
       let all = three_true (nat_le push 65536) (nat_le pop 65536) (nat_le peek 65536) t in
-      let a = le_holds push 65536 all.0 in let b = le_holds pop 65536 all.1 in let c = le_holds peek 65536 all.2 in
+      let a = leb-true push 65536 all.0 in let b = leb-true pop 65536 all.1 in let c = leb-true peek 65536 all.2 in
       test above (spot ∷ []) (nat_le least pop) tt Limit (λ v. demand (nat_le pop peek) (Rates peek pop)) (λ u. peek ≤ 65536)
       (λ t2.
-      let some = le_holds least pop t2 in
+      let some = leb-true least pop t2 in
       let low : (65536 < push) ⊎ (65536 < pop) ⊎ (65536 < peek) ⊎ (pop < least)
       → ⊥ = (λ h. ⊎_elim (λ x. omega (arith, a, x)) (λ h2. ⊎_elim (λ x. omega (arith, b, x))
       (λ h3. ⊎_elim (λ x. omega (arith, c, x)) (λ x. omega (arith, some, x)) h3) h2) h) in
       last_test above (spot ∷ []) (nat_le pop peek) tt (Rates peek pop) (λ u. peek ≤ 65536)
       (λ t3.
-      let le = le_holds pop peek t3 in (
+      let le = leb-true pop peek t3 in (
         (free above spot (λ h. h) (λ h. h) (λ d c h. let x = h.0 in omega (arith, le, x)) (λ i r h. h) (λ h. h) (λ h. h) low (λ h. h), tt),
         c,
       ))
-      (λ f. inl (first_rates above spot peek pop (le_fails pop peek f, refl, refl) (λ h. h) (λ h. h) (λ h. h) (λ h. h) (λ i r h. h) low)))
-      (λ f. inl (first_limit above spot (inr (inr (inr (le_fails least pop f)))) (λ h. h) (λ h. h) (λ h. h) (λ h. h) (λ i r h. h))))
+      (λ f. inl (first_rates above spot peek pop (leb-false pop peek f, refl, refl) (λ h. h) (λ h. h) (λ h. h) (λ h. h) (λ i r h. h) low)))
+      (λ f. inl (first_limit above spot (inr (inr (inr (leb-false least pop f)))) (λ h. h) (λ h. h) (λ h. h) (λ h. h) (λ i r h. h))))
       (λ f. inl (first_limit above spot
-      (⊎_elim (λ x. inl (le_fails push 65536 x)) (λ y. ⊎_elim (λ x. inr (inl (le_fails pop 65536 x))) (λ x. inr (inr (inl (le_fails peek 65536 x)))) y)
+      (⊎_elim (λ x. inl (leb-false push 65536 x)) (λ y. ⊎_elim (λ x. inr (inl (leb-false pop 65536 x))) (λ x. inr (inr (inl (leb-false peek 65536 x)))) y)
       (one_false (nat_le push 65536) (nat_le pop 65536) (nat_le peek 65536) f))
       (λ h. h) (λ h. h) (λ h. h) (λ h. h) (λ i r h. h)))
 
@@ -105,11 +98,11 @@ module _ (above : List Declared) where
       let spot = Counts d c in
       last_test above (spot ∷ []) (nat_eq k d) tt (Rates d k) (λ u. Unit {0})
       (λ t.
-      let e = eq_holds k d t in (
+      let e = eqb-true k d t in (
         (free above spot (λ h. h) (λ h. h) (λ x y h. h.0 (omega (arith, e, same))) (λ i r h. h) (λ h. h) (λ h. h) (λ h. h) (λ h. h), tt),
         tt,
       ))
-      (λ f. inl (first_rates above spot d k ((λ h. eq_fails k d f (omega (arith, h, same))), refl, sym same) (λ h. h) (λ h. h) (λ h. h) (λ h. h) (λ i r h. h)
+      (λ f. inl (first_rates above spot d k ((λ h. eqb-false k d f (omega (arith, h, same))), refl, sym same) (λ h. h) (λ h. h) (λ h. h) (λ h. h) (λ i r h. h)
       (λ h. h)))
 
   counts_met : (push pop : ℕ) (work : List Word) (s : At) → popped_in work ≡ s.popped → pushed_in work ≡ s.pushed
@@ -248,11 +241,11 @@ module _ (above : List Declared) (known : Streamed) (k : KnowsAbove above known)
       let deep = h.1 in
       test above (spot ∷ []) (nat_lt (nesting s) 64) tt Limit (λ v. Ok s) (IsAs n)
       (λ t.
-      let lt = lt_holds (nesting s) 64 t in (
+      let lt = ltb-true (nesting s) 64 t in (
         (free above spot (λ h. h there) (λ h. h) (λ d c h. h) (λ i r h. h) (λ h. h) (λ h. h) (λ h. omega (arith, lt, deep, h)) (λ h. h), tt),
         (h.1, h.2),
       ))
-      (λ f. let le = lt_fails (nesting s) 64 f in inl (first_limit above spot (omega (arith, le, deep)) (λ h. h) (λ h. h there) (λ h. h) (λ h. h) (λ i r h. h)))
+      (λ f. let le = ltb-false (nesting s) 64 f in inl (first_limit above spot (omega (arith, le, deep)) (λ h. h) (λ h. h there) (λ h. h) (λ h. h) (λ i r h. h)))
 
   -- added to a pipeline
   any_added : (i : ℕ) (n : Name) → Meets above (Added n ∷ []) (added any known i n) (IsAs n)
@@ -265,11 +258,11 @@ module _ (above : List Declared) (known : Streamed) (k : KnowsAbove above known)
       test above (spot ∷ Added n ∷ []) (nat_lt i 64) tt Limit (λ u. on_ok (found (look known n))
       (λ s. on_ok (demand (nat_lt (nesting s) 64) Limit) (λ v. Ok s))) (IsAs n)
       (λ t.
-      let lt = lt_holds i 64 t in
+      let lt = ltb-true i 64 t in
       behind above (spot ∷ []) (Added n ∷ []) (on_ok (found (look known n)) (λ s. on_ok (demand (nat_lt (nesting s) 64) Limit) (λ v. Ok s))) (IsAs n)
       (free above spot (λ h. h) (λ h. h) (λ d c h. h) (λ i r h. h) (λ h. h) (λ h. h) (λ h. omega (arith, lt, h)) (λ h. h), tt)
       (added_by n (look known n) (k.each n)))
-      (λ f. let le = lt_fails i 64 f in inl (first_limit above spot (omega (arith, le)) (λ h. h) (λ h. h) (λ h. h) (λ h. h) (λ i r h. h)))
+      (λ f. let le = ltb-false i 64 f in inl (first_limit above spot (omega (arith, le)) (λ h. h) (λ h. h) (λ h. h) (λ h. h) (λ i r h. h)))
 
   abbrev AreAs : Name → List Name → Streams → Type 0
   AreAs n ms ss = (deepest ss ≡ greatest_said (depth_above above) n ms) × (ops_of ss ≡ in_all (operators_above above) n ms)
@@ -300,18 +293,15 @@ module _ (above : List Declared) (known : Streamed) (k : KnowsAbove above known)
 
   each_some : (ws : List ℕ) → list_all (λ w. nat_le 1 w) ws ≡ true → AllByRecursion (λ w. 0 < w) ws
   each_some [] h = tt
-  each_some (w ∷ ws) h = let p = and_parts (nat_le 1 w) (list_all (λ w. nat_le 1 w) ws) h in (let a = le_holds 1 w p.0 in omega (arith, a), each_some ws p.1)
+  each_some (w ∷ ws) h = let p = and_parts (nat_le 1 w) (list_all (λ w. nat_le 1 w) ws) h in (let a = leb-true 1 w p.0 in omega (arith, a), each_some ws p.1)
 
   some_each : (ws : List ℕ) → AllByRecursion (λ w. 0 < w) ws → list_all (λ w. nat_le 1 w) ws ≡ true
   some_each [] h = refl
-  some_each (w ∷ ws) h = both_true (nat_le 1 w) (list_all (λ w. nat_le 1 w) ws) (let a = h.0 in grind (arith, a)) (some_each ws h.1)
-    where
-      both_true : (a b : Bool) → a ≡ true → b ≡ true → a && b ≡ true
-      both_true a b x y = rw x y
+  some_each (w ∷ ws) h = and_from (nat_le 1 w) (list_all (λ w. nat_le 1 w) ws) (let a = h.0 in grind (arith, a)) (some_each ws h.1)
 
   fits : (vs : List ℕ) (n : ℕ) → nat_eq (length vs) n && list_all (λ w. nat_le 1 w) vs ≡ true → IsRound vs n
   fits vs n h =
-      let p = and_parts (nat_eq (length vs) n) (list_all (λ w. nat_le 1 w) vs) h in record { number = eq_holds (length vs) n p.0; each = each_some vs p.1 }
+      let p = and_parts (nat_eq (length vs) n) (list_all (λ w. nat_le 1 w) vs) h in record { number = eqb-true (length vs) n p.0; each = each_some vs p.1 }
 
   misfits : (vs : List ℕ) (n : ℕ) → nat_eq (length vs) n && list_all (λ w. nat_le 1 w) vs ≡ false → IsRound vs n → ⊥
   misfits vs n h r = let a = r.number in let b = some_each vs r.each in grind (arith, a, b, h)
@@ -326,11 +316,11 @@ module _ (above : List Declared) (known : Streamed) (k : KnowsAbove above known)
       let r = fits vs n t in
       test above (spot ∷ []) (nat_le (cycle vs) 65536) tt Limit (λ v. Ok vs) (λ vs. Unit {0})
       (λ t2.
-      let le = le_holds (cycle vs) 65536 t2 in (
+      let le = leb-true (cycle vs) 65536 t2 in (
         (free above spot (λ h. h) (λ h. h) (λ d c h. h) (λ i r h. h) (λ h. h) (λ h. h) (λ h. omega (arith, le, h)) (λ h. h r), tt),
         tt,
       ))
-      (λ f. inl (first_limit above spot (le_fails (cycle vs) 65536 f) (λ h. h) (λ h. h) (λ h. h) (λ h. h r) (λ i r h. h))))
+      (λ f. inl (first_limit above spot (leb-false (cycle vs) 65536 f) (λ h. h) (λ h. h) (λ h. h) (λ h. h r) (λ i r h. h))))
       (λ f. inl (first_weights above spot (misfits vs n f) (λ h. h) (λ h. h) (λ h. h)))
 
   split_met : (d : Dealing) (n : ℕ) → Meets above (split_spots d n) (splitter_of d n) (λ p. Unit {0})

@@ -1,5 +1,5 @@
 -- Statements that were read so far, and those that are read after them.
-use Rattle.std.proofs.Common.{◌≡◌, ℕ, suc, ◌+◌, ◌-◌, ◌<◌, ◌≤◌, List, [], ◌∷◌, ◌++◌, length, take, map, Bool, true, Result, Ok, Err, refl, sym, ap}
+use Rattle.std.proofs.Common.{◌≡◌, ℕ, suc, ◌+◌, ◌-◌, ◌<◌, ◌≤◌, List, [], ◌∷◌, ◌++◌, length, take, map, Bool, Result, Ok, Err, refl, sym, ap}
 use Rattle.std.proofs.Common.{◌∙◌, subst, arith, append_assoc, append-nil}
 use Rattle.work_code.specs.declared.code.Stmt.{Stmt}
 use Rattle.work_code.specs.declared.code.Stmts.{Stmts}
@@ -12,7 +12,7 @@ use Rattle.streamit_model.specs.Elaborate.{Fault, At, Read, on_ok, both_steps, s
 use Rattle.streamit_model.specs.Elaborate.{one_step, after_arms, optional_of}
 use Rattle.streamit_text.specs.Tree.{Expression}
 use Rattle.work_code.specs.Term.{Term}
-use Rattle.std.specs.Prelude.{if◌then◌else◌, nat_eq, ◌&&◌}
+use Rattle.std.specs.Prelude.{if◌then◌else◌, nat_eq}
 use Rattle.streamit_unroll.specs.declared.unroll.Unroller.{Unroller}
 use Rattle.streamit_unroll.specs.declared.names.Known.{Known}
 use Rattle.streamit_unroll.specs.declared.names.Known.TheVariants as known
@@ -23,6 +23,7 @@ use Rattle.streamit_unroll.specs.declared.fault.Fault as fault
 use Rattle.streamit_unroll.specs.declared.fault.Fault.TheVariants as faults
 use Rattle.streamit_model.specs.Elaborate as spec
 use Rattle.std.proofs.lemmas.List.{map-append, take_all}
+use Rattle.std.proofs.lemmas.Bool.{and_from, eq-eqb}
 
 -- a result without a fault
 abbrev pub good : {A : Type 0} → A → Result A Fault
@@ -156,7 +157,8 @@ turns_ok block n v vs s a s' h = unrolled-turn block n v vs s ∙ ap (λ r. on_o
 turns_err : (block : At → Read) (n : Name) (v : ℕ) (vs : List ℕ) (s : At) (g : Fault) → turn_of block n v s ≡ Err g → unrolled block n (v ∷ vs) s ≡ Err g
 turns_err block n v vs s g h = unrolled-turn block n v vs s ∙ ap (λ r. on_ok r (λ p. behind p.0 (unrolled block n vs p.1))) h
 
-numbers_more : (v end : ℕ) → v < end → numbers_from v (end - v) ≡ v ∷ numbers_from (v + 1) (end - (v + 1))
+-- the numbers from v to an end above it: v, and those behind it
+pub numbers_more : (v end : ℕ) → v < end → numbers_from v (end - v) ≡ v ∷ numbers_from (v + 1) (end - (v + 1))
 numbers_more v end lt =
     ap (numbers_from v) (let e : end - v ≡ suc (end - (v + 1)) = omega (arith, lt) in e)
     ∙ ap (λ k. v ∷ numbers_from k (end - (v + 1))) (let e : suc v ≡ v + 1 = omega arith in e)
@@ -242,13 +244,7 @@ if_is e t a b s s1 cond f g la lb hc ht ha hb p q =
     ∙ ap (λ r. on_ok r f2) ht
     ∙ ap (λ r. on_ok r (f3 cond)) ha
     ∙ ap (λ r. on_ok r (after_arms s1 cond (f, la))) hb
-    ∙ ap (λ t. if t then good (one_step (steps.If cond f g), record lb { scope = s1.scope }) else Err spec.BranchRates) (both_true (nat_eq la.popped lb.popped) (nat_eq la.pushed lb.pushed) (eq_true la.popped lb.popped p) (eq_true la.pushed lb.pushed q))
-  where
-    both_true : (x y : Bool) → x ≡ true → y ≡ true → x && y ≡ true
-    both_true x y h k = rw h k
-
-    eq_true : (x y : ℕ) → x ≡ y → nat_eq x y ≡ true
-    eq_true x y h = grind (arith, h)
+    ∙ ap (λ t. if t then good (one_step (steps.If cond f g), record lb { scope = s1.scope }) else Err spec.BranchRates) (and_from (nat_eq la.popped lb.popped) (nat_eq la.pushed lb.pushed) (eq-eqb la.popped lb.popped p) (eq-eqb la.pushed lb.pushed q))
 
 abbrev Entry : Type 0
 Entry = Name × Known
