@@ -145,7 +145,8 @@ pub fn fire_filter(
     spare: &mut Spare,
 ) -> Result<(), NoMemory>
     requires { Applies (filter_kern (filter_form filter.now)) 0 item (state.old ∷ []) out.old }
-    ensures { OnOk result (Fires (filter_kern (filter_form filter.now)) out.old out.new (state.old ∷ []) (state.new ∷ []) (fire_lem (filter_kern (filter_form filter.now)) 0 item)) }
+    ensures { OnOk result (Fires (filter_kern (filter_form filter.now)) out.old out.new
+        (state.old ∷ []) (state.new ∷ []) (fire_lem (filter_kern (filter_form filter.now)) 0 item)) }
 {
     match state {
         State::Filter(state) => {

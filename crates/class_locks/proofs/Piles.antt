@@ -168,6 +168,7 @@ took_tried v u w c x m e =
 busy_takes : (v u w z : View) (c : ℕ) → (m : HasMoreTries v u) → w ≡ tried c 1 u → z.takes ≡ w.takes → z.takes ≡ v.takes ++ (m.more ++ record { class = c; found = 1 } ∷ [])
 busy_takes v u w z c m e p = p ∙ one_tried v u w (record { class = c; found = 1 }) m (ap (λ (y : View). y.takes) e)
 
+-- a try that found its lock busy is one more of the tries
 pub busy_tried : (v u w z : View) (c : ℕ) → HasMoreTries v u → w ≡ tried c 1 u → z.takes ≡ w.takes → HasMoreTries v z
 busy_tried v u w z c m e p = record { more = m.more ++ record { class = c; found = 1 } ∷ []; takes = busy_takes v u w z c m e p }
 

@@ -125,7 +125,8 @@ fn deal(top: &Top, place: &mut Place) -> Place
     requires view { (k : ℕ) × (m : ℕ) × (place.old.me.0 ≡ with_parts top.now.key.seats top.now.key.cells.value (count_up k (m + 2)) []) }
     ensures seated { IsSeated top.now.table_id top.now.key place.new }
     ensures other { IsSeated top.now.table_id top.now.key result }
-    ensures views { (k m : ℕ) → place.old.me.0 ≡ with_parts top.now.key.seats top.now.key.cells.value (count_up k (m + 2)) [] → (place.new.me.0 ≡ with_parts top.now.key.seats top.now.key.cells.value (count_up (k + 1) (m + 1)) []) × (result.me.0 ≡ with_parts top.now.key.seats top.now.key.cells.value (k ∷ []) []) }
+    ensures views { (k m : ℕ) → place.old.me.0 ≡ with_parts top.now.key.seats top.now.key.cells.value (count_up k (m + 2)) []
+        → (place.new.me.0 ≡ with_parts top.now.key.seats top.now.key.cells.value (count_up (k + 1) (m + 1)) []) × (result.me.0 ≡ with_parts top.now.key.seats top.now.key.cells.value (k ∷ []) []) }
 {
     top.split_seat::<Cut>(place)
 }
@@ -139,7 +140,8 @@ fn deal_all(locks: &Handle, place: &mut Place, mut handles: Vec<Handle>, all: &m
     requires room { length handles.items + 1 ≤ vec_capacity all.old }
     ensures seated { IsSeated (arc_value locks.now).shared.table_id (arc_value locks.now).shared.key place.new }
     ensures view { place.new.me.0 ≡ with_parts (arc_value locks.now).shared.key.seats (arc_value locks.now).shared.key.cells.value (length handles.items ∷ []) [] }
-    ensures seats { all.new.items ≡ seats_from (arc_value locks.now).shared.table_id (arc_value locks.now).shared.key.seats (arc_value locks.now).shared.key.cells.value 0 (length handles.items) }
+    ensures seats { all.new.items
+        ≡ seats_from (arc_value locks.now).shared.table_id (arc_value locks.now).shared.key.seats (arc_value locks.now).shared.key.cells.value 0 (length handles.items) }
     ensures room { (vec_len all.new ≡ length handles.items) × (vec_capacity all.new ≡ vec_capacity all.old) }
 {
     while let Some(handle) = handles.pop() {

@@ -14,11 +14,13 @@ use Rattle.river_base.proofs.Rows.{in_order_bag}
 pub count-append : {K : Type 0} (test : K → Bool) (xs ys : List K) → count_by test (xs ++ ys) ≡ count_by test xs + count_by test ys
 count-append test xs ys = sum_by-append (λ x. cond (test x) 1 0) xs ys
 
+-- elements counted behind a function
 pub count-map : {J K : Type 0} (test : K → Bool) (g : J → K) (xs : List J) → count_by test (map g xs) ≡ count_by (λ x. test (g x)) xs
 count-map test g [] = refl
 count-map test g (x ∷ xs) =
     count-cons test (g x) (map g xs) ∙ ap (λ n. cond (test (g x)) 1 0 + n) (count-map test g xs) ∙ sym (count-cons (λ y. test (g y)) x xs)
 
+-- elements counted in lists that are made of each element
 pub count-flat_map : {J K : Type 0} (test : K → Bool) (g : J → List K) (xs : List J) → count_by test (flat_map g xs) ≡ sum_by (λ x. count_by test (g x)) xs
 count-flat_map test g [] = refl
 count-flat_map test g (x ∷ xs) =

@@ -16,6 +16,7 @@ if_le a b x y h = grind arith
 if_gt : {A : Type 0} (a b : ℕ) (x y : A) → b < a → (if nat_le a b then x else y) ≡ y
 if_gt a b x y h = grind arith
 
+-- what is at least 1 is the greater of it and 1
 pub max-least : (a : ℕ) → 1 ≤ a → max a 1 ≡ a
 max-least a h = grind (arith, h)
 
@@ -60,6 +61,7 @@ module _ (f : FilterForm) (can : CanFilter f) where
       go None u = usual_can
       go (Some g) c = c
 
+  -- each firing has code that can run
   pub run_can : (k : ℕ) → CanRunOnce (length f.starts) (run_at f k)
   run_can zero = first_can
   run_can (suc k) = usual_can
@@ -80,14 +82,17 @@ module _ (f : FilterForm) (can : CanFilter f) where
       go (Some g) e zero = ap (λ o. needs_now f (is_fresh o 0)) e
       go (Some g) e (suc k) = ap (λ o. needs_now f (is_fresh o (suc k))) e
 
+  -- each firing needs an item at least
   pub needs_some : (k : ℕ) → 1 ≤ needs f k
   needs_some zero = max-right (first_run f).peek 1
   needs_some (suc k) = let p = can.pops in let q = can.peeks in omega (arith, p, q)
 
+  -- it looks at no more than it needs
   pub peek_within : (k : ℕ) → (run_at f k).peek ≤ needs f k
   peek_within zero = max-left (first_run f).peek 1
   peek_within (suc k) = omega arith
 
+  -- it takes no more than it needs
   pub pop_within : (k : ℕ) → (run_at f k).pop ≤ needs f k
   pop_within k = let p = peek_within k in let q = (run_can k).peeks in omega (arith, p, q)
 
@@ -98,10 +103,12 @@ module _ (f : FilterForm) (can : CanFilter f) where
 
   -- TURNS
 
+  -- where too few values wait no firing comes
   pub turns_stop : (n : ℕ) (s : Filtering) → length (buffer_of f s) < needs f s.fired → filter_turns f n s ≡ record { pushes = []; after = s }
   turns_stop zero s lt = refl
   turns_stop (suc n) s lt = if_gt (needs f s.fired) (length (buffer_of f s)) _ _ lt
 
+  -- where enough wait a firing comes, and the others after it
   pub turns_run : (n : ℕ) (s : Filtering) → needs f s.fired ≤ length (buffer_of f s)
       → filter_turns f (suc n) s ≡ with_pushes (next_run f s).pushes (filter_turns f n (after_run s (next_run f s)))
   turns_run n s le = if_le (needs f s.fired) (length (buffer_of f s)) _ _ le
@@ -155,6 +162,7 @@ module _ (f : FilterForm) (can : CanFilter f) where
       taken = let a = h.keeps.taken in omega (arith, a, length-append s.seen (v ∷ []));
     }
 
+    -- at the start nothing was given since
     pub between_start : (put : Waiting) (out : List ℤ) → Between f v put put out out
     between_start put out = record {
       each = λ s h. record {
@@ -266,14 +274,17 @@ module _ (f : FilterForm) (can : CanFilter f) where
                   ∙ ap (λ t. out ++ take (length (first_values b.given) + length (take g.n (first_values one))) t) (sym firsts);
             }
 
+    -- one firing more
     pub between_next : (put now new : Waiting) (out out' out'' : List ℤ) → Between f v put now out out' → needs_now f now.fresh ≤ length now.buffer
         → RunsOnce f now new out' out'' → Between f v put new out out''
     between_next put now new out out' out'' b enough r = record { each = λ s h. between_step now new s out out' out'' (b.each s h) enough r }
 
+    -- where too few values wait, what was given since is what the item gives
     pub between_gives : (old put now : Waiting) (out out' : List ℤ) → Between f v put now out out' → length now.buffer < needs_now f now.fresh
         → put.fresh ≡ old.fresh → put.buffer ≡ old.buffer ++ v ∷ [] → put.kept ≡ old.kept → Filters f v old now out out'
     between_gives old put now out out' b few e l k = record { each = λ s h. between_end now s out out' (b.each s (keeps_received old put s h e l k)) few }
 
+    -- a firing that gave up has given a part of it
     pub between_gave_up : (old put now : Waiting) (out out' out'' : List ℤ) → Between f v put now out out' → needs_now f now.fresh ≤ length now.buffer
         → GrewByPrefix out' (first_values (ran_now f now).pushes) out'' → put.fresh ≡ old.fresh → put.buffer ≡ old.buffer ++ v ∷ [] → put.kept ≡ old.kept
         → GaveUp f v old out out''

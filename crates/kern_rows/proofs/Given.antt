@@ -53,6 +53,7 @@ turn_values f can (suc n) s =
     (ran_values (run_at f s.fired).body.steps (take (run_at f s.fired).peek (buffer_of f s)) _ (run_can f can s.fired).gives)
     (turn_values f can n (after_run s (next_run f s)))) tt
 
+-- a filter pushes values of 64 bits
 pub filter_values : (f : FilterForm) (v : ℤ) (s : Filtering) → CanFilter f → AreValues (filter_one f v s).pushes
 filter_values f v s can = turn_values f can (suc (length (received v s).seen)) (received v s)
 

@@ -439,6 +439,7 @@ pub record Took (ws : List ℕ) (s s' : JoinKept) (place : ℕ) (x : item.Item) 
   pub passes : Passes (slice_index_or ws s.turns.port 0) s.turns s'.turns x
   pub owed : s'.owed ≡ s.owed
 
+-- an item that was put to the list of its port is taken
 pub took : (ws : List ℕ) (share place : ℕ) (x : item.Item) (s s' : JoinKept) → share ≡ slice_index_or ws s.turns.port 0 → TakesItem share s.turns s'.turns (place, x)
     → s'.owed ≡ s.owed → Took ws s s' place x
 took ws share place x s s' e h owed = record { port = h.port; passes = subst (λ n. Passes n s.turns s'.turns x) e h.passes; owed = owed }

@@ -48,6 +48,7 @@ stuck_at give [] p h = refl
 stuck_at give (l ∷ ls) zero h = stuck_in give l (omega (arith, h))
 stuck_at give (l ∷ ls) (suc p) h = stuck_at give ls p (omega arith)
 
+-- there are as many lists after an item has passed
 pub length-rest_at : (ls : List (List item.Item)) (p : ℕ) → length (rest_at ls p) ≡ length ls
 length-rest_at [] p = refl
 length-rest_at (l ∷ ls) zero = refl
@@ -119,6 +120,7 @@ module _ (give : item.Item → List item.Item) (ws : List ℕ) where
       ∙ drain_some (waiting s.lists) s o h
       ∙ ap (λ d. (o ++ d.0, d.1)) (enough (waiting s.lists) (waiting (rest_at s.lists s.port)) (passed ws s) (omega (arith, l)) (le_refl (waiting (rest_at s.lists s.port))))
 
+  -- at the start nothing has passed
   pub so_far_start : (s : Turns) (out : List item.Item) → IsJoiner ws s → SoFar give ws s s out out
   so_far_start s out j = record { given = []; grew = sym (append-nil out); all = refl; last = refl; joined = j }
 
@@ -149,6 +151,7 @@ module _ (give : item.Item → List item.Item) (ws : List ℕ) where
       let l = less_at give now.lists now.port (give x) (p.front give) in
       omega (arith, e, l)
 
+  -- where the lists are stuck, what has passed is what settles
   pub so_far_end : (start now last : Turns) (out out' : List item.Item) → SoFar give ws start now out out' → IsStuck now last
       → (out' ≡ out ++ (settled give ws start).0) × (last ≡ (settled give ws start).1)
   so_far_end start now last out out' f h =

@@ -19,6 +19,7 @@ ready_again added op v w r t = record {
 pub worked_none : (op : ℕ) (v : View) → IsReady op v → HasWorked op 0 v v
 worked_none op v r = record { ready = r; starts = refl; seats = refl; parts = refl; claims = sym (append-nil v.claims) }
 
+-- a try that did not come through leaves the work as it is
 pub worked_on : (op n : ℕ) (v w u : View) → HasWorked op n v w → HasTried false op w u → HasWorked op n v u
 worked_on op n v w u h t = record {
   ready = ready_again false op w u h.ready t;
@@ -28,6 +29,7 @@ worked_on op n v w u h t = record {
   claims = t.kept refl ∙ h.claims;
 }
 
+-- one that came through is one turn more
 pub worked_more : (op n : ℕ) (v w u : View) → HasWorked op n v w → HasTried true op w u → HasWorked op (n + 1) v u
 worked_more op n v w u h t =
     let next : suc n ≡ n + 1 = omega arith in

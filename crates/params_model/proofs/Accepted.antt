@@ -116,6 +116,7 @@ pub streams_are : (k : ℕ) (p : ParamProgram) (sizes : List ℕ) → unit_strea
 streams_are k [] sizes = refl
 streams_are k (u ∷ us) sizes = ap (λ l. u ∷ l) (streams_are (suc k) us (tail_of sizes))
 
+-- what is elaborated of a program means what the program means
 pub elaborated_means : ElaboratedMeans
 elaborated_means p sizes m xs fit h =
     let us = sources_of p sizes in

@@ -228,6 +228,7 @@ made_told (u ∷ us) m ok w h =
     top : (ps : List Name) {x : Name × Made} → make (instance us 2) u 1 [] nothing_made ≡ fine x → make (instance us 2) u 1 (bound ps []) nothing_made ≡ fine x
     top ps k = ap (λ env. make (instance us 2) u 1 env nothing_made) (none ps) ∙ k
 
+-- the text that is written out stands for the program
 pub made_stands : MadeStands
 made_stands us m ok w h =
     let t = made_told us m ok w h in

@@ -224,6 +224,7 @@ module _ (env : Environment) (fits : Fits env) where
           ∙ ap (λ k. s.pushed ++ fires_from (put_filter env t) n (suc j) k xs) (fields_same t.fields p.values s.values fields h.values)
           ∙ ap (λ l. s.pushed ++ l) (firings_same n (suc j) (map s.values t.fields) xs))
 
+      -- a filter with its parameters put in pushes what it pushes under their values
       pub filter_same : (xs : List ℤ) → pushed_by (put_filter env t) xs ≡ pushed_under env t xs
       filter_same xs =
           let zeros = replicate (length t.fields) (pos 0) in

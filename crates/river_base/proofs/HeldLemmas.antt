@@ -15,6 +15,7 @@ from-append : (before : List (List ℤ)) (xs ys : List item.Item) → held_from 
 from-append before [] ys = refl
 from-append before (x ∷ xs) ys = ap (λ l. held_item before x ∷ l) (from-append (after_item before x) xs ys)
 
+-- the content after two lists of items, one behind the other
 pub content-append : (before : List (List ℤ)) (xs ys : List item.Item) → content_from before (xs ++ ys) ≡ content_from (content_from before xs) ys
 content-append before [] ys = refl
 content-append before (x ∷ xs) ys = content-append (after_item before x) xs ys

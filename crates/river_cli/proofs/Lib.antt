@@ -1,15 +1,2 @@
-pub mod Arranged
-pub mod Compiled
-pub mod Contents
-pub mod CqlCompiled
-pub mod Cut
-pub mod Fetches
-pub mod Inputs
-pub mod Items
-pub mod Loaded
-pub mod Manned
-pub mod Means
 pub mod Points
-pub mod ReadOn
-pub mod Scripts
 pub mod Told

@@ -1,14 +1,3 @@
 pub mod Answer
-pub mod Commands
-pub mod Contents
-pub mod Inputs
-pub mod Layouts
-pub mod Limits
-pub mod Load
-pub mod Phrases
 pub mod Points
-pub mod Said
-pub mod Sentences
-pub mod Source
 pub mod Text
-pub mod Words

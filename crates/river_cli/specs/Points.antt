@@ -1,88 +1,45 @@
--- The road from the words to the text: the points of a command, in order. Each point is told what comes after it.
-use Rattle.std.specs.Prelude.{ℕ, List, ◌++◌, Bool, false, Option, Some, None, Result, Ok, Err, option_map}
-use Rattle.river_order.specs.Order.{Order, Ends, Fetch, Done}
+-- The road from the words to the text: the points of a command, in order.
+use Rattle.std.specs.Prelude.{ℕ, List, Bool, true, false, Option, Result, option_map}
+use Rattle.command_line.specs.Commands.{lang_of}
+use Rattle.command_line.specs.Sentences.{command_of}
+use Rattle.command_line.specs.declared.command.Command.{Command}
+use Rattle.command_line.specs.declared.command.Command.TheVariants.{Run, Plan, Mean, Upgrade, Load}
+use Rattle.command_line.specs.declared.command.Lang.{Lang}
+use Rattle.command_line.specs.declared.command.Lang.TheVariants.{River, Streamit, Params, Sawzall, Cql}
+use Rattle.river_langs.specs.Sources.{river_in, streamit_in, params_in, saw_in, cql_in}
+use Rattle.river_order.specs.Order.{Order, Ends, Done}
 use Rattle.river_order.specs.Passes.{past}
-use Rattle.plan_classes.specs.Lines.{classes_text}
-use Rattle.river_plan.specs.Caps.{first_cap}
-use Rattle.river_plan.specs.Forms.{PlanForm}
-use Rattle.river_plan.specs.declared.caps.Cap.{Cap}
-use Rattle.river_print.specs.Printed.{plan_text}
-use Rattle.river_cli.specs.Inputs.{of_inputs}
-use Rattle.river_cli.specs.Layouts.{layout_of}
-use Rattle.river_cli.specs.Limits.{most_program, most_script}
-use Rattle.river_cli.specs.Load.{load_program, load_script, load_files}
-use Rattle.river_cli.specs.Sentences.{command_of}
-use Rattle.river_cli.specs.Source.{SourceProgram, source_of, printed}
-use Rattle.river_cli.specs.Text.{large_program, large_script, script_refused}
-use Rattle.river_script.specs.Meaning.{rewritten}
-use Rattle.river_script.specs.Words.{script_words}
-use Rattle.river_script.specs.declared.fault.ScriptFault.{ScriptFault}
-use Rattle.river_cli.specs.declared.command.Command.{Command}
-use Rattle.river_cli.specs.declared.command.Command.TheVariants.{Run, Plan, Mean, Upgrade, Load}
-use Rattle.river_cli.specs.declared.command.InWord.{InWord}
-use Rattle.river_cli.specs.declared.command.Lang.{Lang}
-use Rattle.river_cli.specs.declared.command.Lang.TheVariants.{River, Sawzall}
-use Rattle.river_cli.specs.declared.command.Layout.{Layout}
+use Rattle.river_road.specs.Points.{of_run, of_show, of_mean, of_upgrade, loaded}
+use Rattle.river_road.specs.Source.{SourceProgram}
 
--- the program is fetched and compiled
-unfoldable pub of_program : Lang → List ℕ → (SourceProgram → Order) → Order
-of_program lang file next = Fetch file most_program large_program (λ text. past (source_of lang text) next)
+-- the program of a text in a language, or the text that refuses it
+abbrev pub source_of : Lang → List ℕ → Result SourceProgram (List ℕ)
+source_of River = river_in
+source_of Streamit = streamit_in
+source_of Params = params_in
+source_of Sawzall = saw_in
+source_of Cql = cql_in
 
--- the program with this plan in place of its own, or the text that refuses the script
-abbrev pub with_plan : SourceProgram → Result PlanForm ScriptFault → Result SourceProgram (List ℕ)
-with_plan source (Ok p) = Ok (record source { plan = p })
-with_plan source (Err fault) = Err (script_refused (script_words fault))
+-- a record may have further fields, which are not looked at
+abbrev pub takes_more : Lang → Bool
+takes_more River = false
+takes_more Streamit = false
+takes_more Params = false
+takes_more Sawzall = true
+takes_more Cql = false
 
--- the script is fetched, read and applied step by step, where one is given
-unfoldable pub of_script : Option (List ℕ) → SourceProgram → (SourceProgram → Order) → Order
-of_script None source next = next source
-of_script (Some file) source next = Fetch file most_script large_script (λ text. past (with_plan source (rewritten source.plan text)) next)
+-- the points of a command whose program is in this language. How many workers run a plan, and how much its queues hold, is no part
+-- of what is printed
+unfoldable pub of_command_in : (List ℕ → Result SourceProgram (List ℕ)) → Bool → Command → (List ℕ → Order) → Order
+of_command_in source more (Run lang file ins script workers cap header counts) next = of_run source more file ins script header counts next
+of_command_in source more (Plan lang file script) next = of_show source file script next
+of_command_in source more (Mean lang file ins header) next = of_mean source more file ins header next
+of_command_in source more (Upgrade file) next = of_upgrade source file next
+of_command_in source more (Load number) next = past (loaded source number) next
 
--- what the files of its inputs have is read, and what the program means is printed
-unfoldable pub of_inputs_run : List InWord → Layout → Bool → SourceProgram → (List ℕ → Order) → Order
-of_inputs_run ins layout counted source next = of_inputs source.inputs ins layout (λ files. next (printed source counted files))
-
--- a plan as it is shown: its text with the capacities of its queues, and a line for each lock class of its tables
-abbrev pub plan_as_shown : List Cap → PlanForm → List ℕ
-plan_as_shown caps p = plan_text (first_cap caps) p ++ classes_text p
-
--- `run`: the program is compiled, its plan is rewritten, and it is run over its inputs
-unfoldable pub of_run : Lang → List ℕ → List InWord → Option (List ℕ) → Bool → Bool → (List ℕ → Order) → Order
-of_run lang file ins script header counts next =
-    of_program lang file (λ source. of_script script source (λ later. of_inputs_run ins (layout_of lang header) counts later next))
-
--- `plan`: it is compiled, its plan is rewritten and shown
-unfoldable pub of_show : Lang → List ℕ → Option (List ℕ) → (List ℕ → Order) → Order
-of_show lang file script next = of_program lang file (λ source. of_script script source (λ later. next (plan_as_shown later.caps later.plan)))
-
--- `mean`: it is compiled, and what it means over its inputs is printed
-unfoldable pub of_mean : Lang → List ℕ → List InWord → Bool → (List ℕ → Order) → Order
-of_mean lang file ins header next = of_program lang file (λ source. of_inputs_run ins (layout_of lang header) false source next)
-
--- `upgrade`: a River text is compiled and printed with its capacities
-unfoldable pub of_upgrade : List ℕ → (List ℕ → Order) → Order
-of_upgrade file next = of_program River file (λ source. next (plan_text (first_cap source.caps) source.plan))
-
--- what is made of what was found; the first refusal stands
-abbrev pub then_made : {A B : Type 0} → Result A (List ℕ) → (A → Result B (List ℕ)) → Result B (List ℕ)
-then_made (Ok x) make = make x
-then_made (Err text) make = Err text
-
--- the program of `load`, with the plan that its script makes
-unfoldable pub load_source : Result SourceProgram (List ℕ)
-load_source = then_made (source_of Sawzall load_program) (λ source. with_plan source (rewritten source.plan load_script))
-
--- what this program means over the first n records
-unfoldable pub loaded : ℕ → Result (List ℕ) (List ℕ)
-loaded n = then_made load_source (λ source. then_made (load_files n source.inputs) (λ files. Ok (printed source false files)))
-
--- the points of a command. How many workers run a plan, and how much its queues hold, is no part of what is printed
+-- the points of a command
 unfoldable pub of_command : Command → (List ℕ → Order) → Order
-of_command (Run lang file ins script workers cap header counts) next = of_run lang file ins script header counts next
-of_command (Plan lang file script) next = of_show lang file script next
-of_command (Mean lang file ins header) next = of_mean lang file ins header next
-of_command (Upgrade file) next = of_upgrade file next
-of_command (Load number) next = past (loaded number) next
+of_command command = of_command_in (source_of (lang_of command)) (takes_more (lang_of command)) command
 
 -- at last the text is the output
 unfoldable pub ended : Command → Order

@@ -6,12 +6,14 @@ ghost use Rattle.river_cli.specs.Points.{points_of};
 ghost use Rattle.river_cli.specs.Answer.{TookNothing, Wrote, WroteUsage, WroteFault, Stopped, StoppedUsage, HasStatus};
 
 use crate::road::decide;
-use crate::text::USAGE;
 use river_base::{Gate, Text};
 use river_order::Stop;
 use river_outside::{Failed, Shelf, Sink, put_all};
 use std::alloc::Global;
 use std::thread::Threads;
+
+// What is written where the words are no sentence.
+const USAGE: &[u8] = b"usage: river run|plan|mean|load|upgrade\n";
 
 /// Does what the words say, and answers the status to end with.
 pub fn river<R: Threads + Sync, S: Shelf, O: Sink, E: Sink, G: Gate + Sync>(

@@ -4,6 +4,7 @@ use Rattle.std.specs.Prelude.{Option, None, Some}
 use Rattle.std.specs.Io.KnownBytes.{append_known}
 use Rattle.std.proofs.Math.Seq.{take-add}
 
+-- what is appended in two pieces is appended as one
 pub append_known-more : (old : Option (List ℕ)) (bytes : List ℕ) (m n : ℕ)
     → append_known (append_known old (take m bytes)) (take n (drop m bytes)) ≡ append_known old (take (m + n) bytes)
 append_known-more None bytes m n = refl

@@ -12,6 +12,7 @@ use Rattle.river_text.specs.Plans.{Entry, may_stand}
 use Rattle.river_text.specs.declared.entry.Place.{Place}
 use Rattle.river_text.specs.ReadPlans.{unit_at, unit_from}
 
+-- where no unit is read of the tokens there is none
 pub whole_none : (at : Place) (ts : List Tok) → unit_at ts ≡ None → whole (unit_from at) ts ≡ None
 whole_none at ts e = rw e refl
 

@@ -99,6 +99,7 @@ module _ (p : PlanForm) (q : Name) (v : IsPlan p) where
         ∙ first_past (writes_it q) f.before (w ∷ (f.middle ++ r ∷ f.behind)) cut.before_w
         ∙ if_lt 0 (count q w.writes) (Some w) (first_with (writes_it q) (f.middle ++ r ∷ f.behind)) f.written
 
+    -- the first operator that reads the queue is the reader
     pub read_first : first_with (reads_it q) p.ops ≡ Some r
     read_first =
         ap (first_with (reads_it q)) f.ops

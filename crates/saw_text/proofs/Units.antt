@@ -32,6 +32,7 @@ pub exact-field : Exact IsField field_at Any
 unfolding field_at field_after
 exact-field = exact-headed (λ w. exact-choose (bytes_eq w (codes "int")) (exact-nothing nameless) (exact-choose (is_user w) (exact-named_field w) exact-never))
 
+-- an index in square brackets is read exactly
 pub exact-column : (n : ℕ) → Exact (Square (λ m. IsField) n) (column_at n) Any
 unfolding column_at
 exact-column n = exact-square (λ m. exact-field) (λ rest. tt) n
@@ -81,5 +82,6 @@ exact-unit =
     exact-headed (λ w. exact-choose (is_user w) (exact-less (exact-unit_named w 128) (λ rest d. tt))
     (exact-seen StatementUnit (exact-rest exact-sawzall 16 128 w)))
 
+-- a unit is read exactly, wherever it stands
 pub exact-unit_from : (u : Unit {0}) → Exact (IsUnitAt u) (unit_from u) NoElse
 exact-unit_from u = exact-unit

@@ -38,7 +38,8 @@ leaf-sound n (name text ∷ ts) t rest e =
     record {
       front = name text ∷ f.front;
       is = ap (λ (us : List Tok). name text ∷ us) f.is;
-      formed = subst (λ (u : Expression). IsLeaf n u (name text ∷ f.front)) (sym f.formed.is) (input-leaf n f.formed.value text f.front ((bytes_eq-Decides text (codes "input")).0 b) f.formed.formed);
+      formed = subst (λ (u : Expression). IsLeaf n u (name text ∷ f.front)) (sym f.formed.is) (input-leaf n f.formed.value text f.front
+          ((bytes_eq-Decides text (codes "input")).0 b) f.formed.formed);
     })
     (λ _ e1. choose (is_user text) (Some (Name text, ts)) None (t, rest) e1
     (λ b r.

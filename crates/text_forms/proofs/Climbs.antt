@@ -96,6 +96,7 @@ module _ {T O P : Type 0} (S : Syntax T O P) where
     by true is = absurd (grind (arith, is, deep))
     by false is = refl
 
+  -- where there is room the right operand is read, and joined to the left one
   pub grown-taken : (right : parse.Parse T) (room : ℕ) (o : O) (left : T) (ts : List Tok) → S.depth left < room
       → grown S right room o left ts ≡ joined S o left (right ts)
   grown-taken right room o left ts small = by (nat_lt (S.depth left) room) refl where
@@ -105,6 +106,7 @@ module _ {T O P : Type 0} (S : Syntax T O P) where
 
   -- CHAINS
 
+  -- where no operator comes a chain ends
   pub chained-stop : (k : ℕ) (right : parse.Parse T) (room : ℕ) (left : T) (ts : List Tok) → operator_at S k ts ≡ None
       → chained S k right room left ts ≡ Some (left, ts)
   unfolding chained turns chain_turn
@@ -145,6 +147,7 @@ module _ {T O P : Type 0} (S : Syntax T O P) (deep : IsDeeper S) where
         let pair = pair_inj f in
         (q.0, grind (arith, is), same ∙ ap (λ (vs : List Tok). Some (q.0, vs)) pair.1, sym pair.0)
 
+  -- a turn of a chain passes over an operator, and grows the tree by it
   pub turn-is : (right : parse.Parse T) (room : ℕ) (k : ℕ) (left : T) (ts : List Tok) (t : T) (us : List Tok) → chain_turn S k right room left ts ≡ Next t us
       → (o : O) × (operator_at S k ts ≡ Some o) × (grown S right room o left (tail ts) ≡ Some (t, us))
   unfolding chain_turn
@@ -174,6 +177,7 @@ module _ {T O P : Type 0} (S : Syntax T O P) (deep : IsDeeper S) where
       let small = g.1 in
       omega (arith, size, small)
 
+  -- a chain goes on from the tree that a turn has grown
   pub chained-grown : (k : ℕ) (right : parse.Parse T) (room : ℕ) (left t : T) (ts us : List Tok) (o : O) → operator_at S k ts ≡ Some o
       → grown S right room o left (tail ts) ≡ Some (t, us) → chained S k right room t us ≡ chained S k right room left ts
   unfolding chained turns chain_turn

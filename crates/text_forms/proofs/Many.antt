@@ -39,6 +39,7 @@ module _ {A : Type 0} {F : A → List Tok → Type 0} {p : parse.Parse A} {E : L
     next_rest : Next (done ++ q.0 ∷ []) q.1 ≡ Next y us → q.1 ≡ us
     next_rest same = cc
 
+  -- each turn takes a token at least
   pub many-shortens : Shortens (parse.many_turn stop p)
   many-shortens done ts y us e =
       let t = turned done (stop ts) (p ts) y us e in
@@ -176,6 +177,7 @@ module _ {A : Type 0} {F : A → List Tok → Type 0} {p : parse.Parse A} {E : L
       out None = refl
       out (Some w) = refl
 
+  -- parts between commas are read exactly
   pub exact-commas : Exact (form.Commas F) (parse.commas p) (λ rest. E rest × (parse.no_comma rest ≡ true))
   exact-commas = exact-as exact-parts (λ v s h. h) (λ v s h. h) same_commas
 

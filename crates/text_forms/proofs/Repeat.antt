@@ -43,6 +43,7 @@ repeated-fail step x ts is = ap (after_turn (turns step (length ts)) x ts) is
 
 -- what holds at the start and is kept by each turn holds at the end, where the loop stops
 module _ {A : Type 0} (step : A → List Tok → Turn A) (P : A → List Tok → Type 0) (keeps : (x : A) (ts : List Tok) (y : A) (us : List Tok) → P x ts → step x ts ≡ Next y us → P y us) where
+  -- of so many turns
   pub turns-keep : (n : ℕ) (x : A) (ts : List Tok) (y : A) (us : List Tok) → P x ts → turns step n x ts ≡ Some (y, us) → P y us × (step y us ≡ Stop)
   unfolding turns
   turns-keep zero x ts y us p e = cc
@@ -53,6 +54,7 @@ module _ {A : Type 0} (step : A → List Tok → Turn A) (P : A → List Tok →
     by more Fail is at_end = cc
     by more (Next z vs) is at_end = more z vs (keeps x ts z vs p is) at_end
 
+  -- of as many turns as the tokens allow
   pub repeated-keeps : (x : A) (ts : List Tok) (y : A) (us : List Tok) → P x ts → repeated step x ts ≡ Some (y, us) → P y us × (step y us ≡ Stop)
   unfolding repeated
   repeated-keeps x ts y us p e = turns-keep (suc (length ts)) x ts y us p e

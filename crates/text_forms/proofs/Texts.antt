@@ -15,11 +15,13 @@ module _ {A : Type 0} {F : A → List Tok → Type 0} {p : Parse A} {E : List To
     last w [] f = ap (λ (y : A). Some (y, [])) (some_inj f)
     last w (t ∷ ts) f = cc
 
+  -- what is read of whole tokens is in the grammar
   pub whole-sound : (u : List Tok) (v : A) → whole p u ≡ Some v → F v u
   whole-sound u v e =
       let f = x.sound u v [] (ended-some (p u) v e) in
       subst (λ (l : List Tok). F v l) (sym (f.is ∙ append-nil f.front)) f.formed
 
+  -- what is in the grammar is read of whole tokens
   pub whole-complete : (u : List Tok) (v : A) → F v u → whole p u ≡ Some v
   whole-complete u v h =
       let all : p u ≡ Some (v, []) = subst (λ (l : List Tok). p l ≡ Some (v, [])) (append-nil u) (x.complete v u [] h end) in
@@ -112,6 +114,7 @@ module _ {S A : Type 0} {F : S → A → List Tok → Type 0} {p : S → Parse A
           omega (arith, count),
         )
 
+  -- the unit that is told is the first that is none
   pub first-bad : (s : S) (us : List (List Tok)) (m : ℕ) → read_units p next s 1 us ≡ Err m → IsFirstBad F next s us m
   first-bad s us m e =
       let (k, bad, count) = bad_from s 1 us m e in

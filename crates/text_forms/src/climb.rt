@@ -94,7 +94,8 @@ fn grown<R: TokenSource, D: Dialect<R>>(
     requires room { room ≤ 64 }
     requires level { level < 16 }
     requires exact { left.depth ≡ (D.syntax dialect.now).depth (D.view left.tree) }
-    ensures reads { Gives (λ m. D.view m.tree) result (R.rest reader.new) (grown_at (D.syntax dialect.now) (D.leaf dialect.now) brackets level room op (D.view left.tree) (R.rest reader.old)) }
+    ensures reads { Gives (λ m. D.view m.tree) result (R.rest reader.new) (grown_at (D.syntax dialect.now) (D.leaf dialect.now) brackets level room op
+        (D.view left.tree) (R.rest reader.old)) }
     ensures small { IfOk result (λ m. m.depth ≤ room) }
     ensures depth { IfOk result (λ m. m.depth ≡ (D.syntax dialect.now).depth (D.view m.tree)) }
     ensures more { IfOk result (λ m. left.depth < m.depth) }

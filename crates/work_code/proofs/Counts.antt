@@ -55,9 +55,11 @@ few-ok n (Ok ns) ms e h = let same : length ns ≡ length ms = lengths e in omeg
   lengths f = cc
 few-ok n (Err fault) ms e h = cc
 
+-- a text has at most as many tokens as bytes
 pub tokens-few : (text : List ℕ) (ms : List Mark) → tokens_in text ≡ Ok ms → length ms ≤ length text
 tokens-few text ms e = few-ok (length text) (tokens_in text) ms e (marks_few 0 0 text)
 
+-- it has at most as many units as tokens
 pub units-few : (ms : List Mark) → length (units_of (toks ms)) ≤ length ms
 units-few ms = let few : length (units_of (toks ms)) ≤ length (toks ms) = cut_few 0 (toks ms) in omega (arith, length-map ms (λ (m : Mark). m.tok))
 

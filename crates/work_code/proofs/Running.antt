@@ -99,6 +99,7 @@ none_left items i h = ap (map step) (drop_all i items h)
 pub step-push : (port : ℕ) (values : Exprs) → step (built.Push port values) ≡ Push port (terms values)
 step-push port values = ap step (sym (rolls-Push port values)) ∙ fold-roll-Stmt Step Steps step_at steps_at (layer.Push port values)
 
+-- a branch that is built is a branch, with its condition and both bodies
 pub step-if : (c : Expr) (a b : Stmts) → step (built.If c a b) ≡ If (term c) (steps a) (steps b)
 step-if c a b = ap step (sym (rolls-If c a b)) ∙ fold-roll-Stmt Step Steps step_at steps_at (layer.If c a b)
 

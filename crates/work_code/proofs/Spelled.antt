@@ -37,6 +37,7 @@ before ts (Some us) = Some (ts ++ us)
 pub record Spells (s : List ℕ) (ts : List Tok) (ok : List ℕ → Type 0) : Type 0 where
   pub reads : (at : ℕ) (rest : List ℕ) → ok rest → tokens_from at (s ++ rest) ≡ before ts (tokens_from (at + length s) rest)
 
+-- whatever text comes next
 abbrev pub Anything : List ℕ → Type 0
 Anything rest = Unit {0}
 

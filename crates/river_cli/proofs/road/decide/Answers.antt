@@ -1,7 +1,7 @@
 use Rattle.std.proofs.Common.{refl}
 use Rattle.river_outside.specs.Causes.{Rose}
 use Rattle.river_cli.specs.Points.{points_of, of_command}
-use Rattle.river_cli.proofs.Manned.{manned}
+use Rattle.command_line.proofs.Manned.{manned}
 use Rattle.river_cli.proofs.Points.{command-decides, never-usage}
 use Rattle.river_cli.proofs.road.decide.Goals as goal
 

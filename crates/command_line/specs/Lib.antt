@@ -1,0 +1,6 @@
+pub mod Commands
+pub mod Limits
+pub mod Phrases
+pub mod Said
+pub mod Sentences
+pub mod Words

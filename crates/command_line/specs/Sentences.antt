@@ -1,0 +1,43 @@
+-- Which words are a sentence, and the command that they ask for.
+use Rattle.std.specs.Prelude.{ℕ, List, [], ◌∷◌, false, Option, None, Some, option_map, codes, ◌&&◌, if◌then◌else◌}
+use Rattle.std.specs.Str.{bytes_eq}
+use Rattle.command_line.specs.Phrases.{phrases, with_phrases}
+use Rattle.command_line.specs.Words.{lang_named, is_file, number_to}
+use Rattle.command_line.specs.declared.command.Command.{Command}
+use Rattle.command_line.specs.declared.command.Command.TheVariants.{Run, Plan, Mean, Upgrade, Load}
+use Rattle.command_line.specs.declared.command.Lang.{Lang}
+
+-- the command that a word names, with a program and nothing else
+abbrev pub plain : List ℕ → Lang → List ℕ → Option Command
+plain word lang file =
+    if bytes_eq word (codes "run") then Some (Run lang file [] None 1 64 false false)
+    else if bytes_eq word (codes "mean") then Some (Mean lang file [] false)
+    else if bytes_eq word (codes "plan") then Some (Plan lang file None)
+    else None
+
+abbrev pub with_words : List (List ℕ) → Option Command → Option Command
+with_words words None = None
+with_words words (Some command) = with_phrases command (phrases 0 words)
+
+-- `COMMAND LANG FILE` and what stands behind it
+abbrev pub asked : List ℕ → Option Lang → List ℕ → List (List ℕ) → Option Command
+asked word None file words = None
+asked word (Some lang) file words = if is_file file then with_words words (plain word lang file) else None
+
+-- `load N`, with N from 1 to 100,000
+abbrev pub asked_load : List ℕ → List ℕ → Option Command
+asked_load word number = if bytes_eq word (codes "load") then option_map (λ n. Load n) (number_to 100000 number) else None
+
+-- `upgrade FILE`
+abbrev pub asked_upgrade : List ℕ → List ℕ → Option Command
+asked_upgrade word file = if bytes_eq word (codes "upgrade") && is_file file then Some (Upgrade file) else None
+
+-- two words
+abbrev pub asked_two : List ℕ → List ℕ → Option Command
+asked_two word behind = if bytes_eq word (codes "load") then asked_load word behind else asked_upgrade word behind
+
+-- the command that the words ask for, if they are a sentence
+abbrev pub command_of : List (List ℕ) → Option Command
+command_of (word ∷ behind ∷ []) = asked_two word behind
+command_of (word ∷ lang ∷ file ∷ words) = asked word (lang_named lang) file words
+command_of words = None

@@ -1,9 +1,0 @@
-use Rattle.std.proofs.Common.{◌≡◌, ◌++◌, length}
-use Rattle.river_cli.specs.Source.{first_of_rows}
-use Rattle.river_cli.proofs.mean.values_of.Given as goal
-
-abbrev pub invariant-loop-row : goal.invariant-loop-row
-invariant-loop-row l = l.all ++ first_of_rows l.rows ≡ first_of_rows l.initial.rows
-
-abbrev pub decreases-loop-row : goal.decreases-loop-row
-decreases-loop-row l = length l.rows

@@ -1,0 +1,64 @@
+// CQL as a language of the road.
+ghost use Rattle.std.specs.Prelude.{◌≡◌, true, false, IfOk};
+ghost use Rattle.river_langs.specs.Sources.{cql_in, IsCql};
+ghost use Rattle.river_road.specs.Text.{program_refused};
+ghost use Rattle.cql_front.specs.Words.{cql_words};
+ghost use Rattle.cql_text.specs.Tree.{program_of};
+
+use crate::records::timed_files_of;
+use brooklet_step::Outcome;
+use cql_front::{CqlFault, compile_cql};
+use cql_text::CqlProgram;
+use river_base::{Bytes, Listed, NoMemory};
+use river_order::Stop;
+use river_plan::Caps;
+use river_road::{Compiled, Content, Language, refused_program};
+use slow_mean::mean_cql;
+use std::alloc::Global;
+
+/// CQL.
+#[derive(Clone, Copy, Debug)]
+pub struct Cql;
+
+impl Language for Cql {
+    type Program = CqlProgram;
+
+    ghost source = { cql_in };
+
+    ghost stands = { λ s t. IsCql s (program_of t) };
+
+    ghost more = { false };
+
+    fn takes_more() -> bool {
+        false
+    }
+
+    fn compile(alloc: Global, text: &Bytes) -> Result<Compiled<CqlProgram>, Stop> {
+        match compile_cql(alloc, text) {
+            Ok((program, plan)) => Ok(Compiled {
+                plan,
+                caps: Caps::new(alloc),
+                program,
+            }),
+            Err(CqlFault::NoMemory) => Err(Stop::NoMemory),
+            Err(fault) => Err(Stop::Refused(refused(alloc, fault)?)),
+        }
+    }
+
+    fn mean(
+        alloc: Global,
+        compiled: &Compiled<CqlProgram>,
+        files: Listed<Content>,
+    ) -> Result<Outcome, NoMemory> {
+        mean_cql(alloc, &compiled.program, &timed_files_of(alloc, files)?)
+    }
+}
+
+// What refuses a text.
+fn refused(alloc: Global, fault: CqlFault) -> Result<Bytes, NoMemory>
+    ensures { IfOk result (λ text. text ≡ program_refused (cql_words fault)) }
+{
+    let mut words = Bytes::new(alloc);
+    fault.put(alloc, &mut words)?;
+    refused_program(alloc, words.as_slice())
+}

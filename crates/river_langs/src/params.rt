@@ -1,0 +1,64 @@
+// StreamIt with parameters as a language of the road.
+ghost use Rattle.std.specs.Prelude.{◌≡◌, true, false, IfOk};
+ghost use Rattle.river_langs.specs.Sources.{params_in, IsStreamit};
+ghost use Rattle.river_road.specs.Text.{program_refused};
+ghost use Rattle.params_front.specs.Words.{params_words};
+ghost use Rattle.streamit_text.specs.Program.{program_of};
+
+use crate::records::{rows_of, values_of};
+use brooklet_step::Outcome;
+use params_front::{ParamFault, compile_params};
+use river_base::{Bytes, Listed, NoMemory};
+use river_order::Stop;
+use river_plan::Caps;
+use river_road::{Compiled, Content, Language, refused_program};
+use slow_mean::mean_streamit;
+use std::alloc::Global;
+use streamit_front::StreamitProgram;
+
+/// StreamIt with parameters. Its program is the plain one that is made of it.
+#[derive(Clone, Copy, Debug)]
+pub struct Params;
+
+impl Language for Params {
+    type Program = StreamitProgram;
+
+    ghost source = { params_in };
+
+    ghost stands = { λ s t. IsStreamit s (program_of t.units.items) };
+
+    ghost more = { false };
+
+    fn takes_more() -> bool {
+        false
+    }
+
+    fn compile(alloc: Global, text: &Bytes) -> Result<Compiled<StreamitProgram>, Stop> {
+        match compile_params(alloc, text) {
+            Ok((_, program, plan)) => Ok(Compiled {
+                plan,
+                caps: Caps::new(alloc),
+                program,
+            }),
+            Err(ParamFault::NoMemory) => Err(Stop::NoMemory),
+            Err(fault) => Err(Stop::Refused(refused(alloc, fault)?)),
+        }
+    }
+
+    fn mean(
+        alloc: Global,
+        compiled: &Compiled<StreamitProgram>,
+        files: Listed<Content>,
+    ) -> Result<Outcome, NoMemory> {
+        mean_streamit(alloc, &compiled.program, &values_of(alloc, rows_of(alloc, files))?)
+    }
+}
+
+// What refuses a text.
+fn refused(alloc: Global, fault: ParamFault) -> Result<Bytes, NoMemory>
+    ensures { IfOk result (λ text. text ≡ program_refused (params_words fault)) }
+{
+    let mut words = Bytes::new(alloc);
+    fault.put(alloc, &mut words)?;
+    refused_program(alloc, words.as_slice())
+}

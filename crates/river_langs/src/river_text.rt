@@ -1,0 +1,59 @@
+// River text as a language of the road.
+ghost use Rattle.std.specs.Prelude.{◌≡◌, true, false, IfOk};
+ghost use Rattle.river_langs.specs.Sources.{river_in};
+ghost use Rattle.river_road.specs.Text.{program_refused};
+ghost use Rattle.river_text.specs.Words.{river_words};
+
+use brooklet_step::{Outcome, run_lines};
+use river_base::{Bytes, Listed, NoMemory};
+use river_order::Stop;
+use river_road::{Compiled, Content, Language, inputs_of, refused_program};
+use river_text::{RiverFault, RiverPlan, compile_river};
+use std::alloc::Global;
+
+/// River text, which is a plan; it alone gives capacities to queues.
+#[derive(Clone, Copy, Debug)]
+pub struct RiverText;
+
+impl Language for RiverText {
+    type Program = ();
+
+    ghost source = { river_in };
+
+    ghost stands = { λ s t. Unit {0} };
+
+    ghost more = { false };
+
+    fn takes_more() -> bool {
+        false
+    }
+
+    fn compile(alloc: Global, text: &Bytes) -> Result<Compiled<()>, Stop> {
+        match compile_river(alloc, text) {
+            Ok(RiverPlan { plan, caps }) => Ok(Compiled {
+                plan,
+                caps,
+                program: (),
+            }),
+            Err(RiverFault::NoMemory) => Err(Stop::NoMemory),
+            Err(fault) => Err(Stop::Refused(refused(alloc, fault)?)),
+        }
+    }
+
+    fn mean(
+        alloc: Global,
+        compiled: &Compiled<()>,
+        files: Listed<Content>,
+    ) -> Result<Outcome, NoMemory> {
+        run_lines(alloc, &compiled.plan, inputs_of(alloc, files)?)
+    }
+}
+
+// What refuses a text.
+fn refused(alloc: Global, fault: RiverFault) -> Result<Bytes, NoMemory>
+    ensures { IfOk result (λ text. text ≡ program_refused (river_words fault)) }
+{
+    let mut words = Bytes::new(alloc);
+    fault.put(alloc, &mut words)?;
+    refused_program(alloc, words.as_slice())
+}

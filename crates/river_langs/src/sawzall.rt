@@ -1,0 +1,63 @@
+// Sawzall as a language of the road.
+ghost use Rattle.std.specs.Prelude.{◌≡◌, true, false, IfOk};
+ghost use Rattle.river_langs.specs.Sources.{saw_in, IsSawzall};
+ghost use Rattle.river_road.specs.Text.{program_refused};
+ghost use Rattle.saw_front.specs.Words.{saw_words};
+ghost use Rattle.saw_text.specs.Tree.{unit_forms};
+
+use crate::records::{listed, rows_of};
+use brooklet_step::Outcome;
+use river_base::{Bytes, Listed, NoMemory};
+use river_order::Stop;
+use river_plan::Caps;
+use river_road::{Compiled, Content, Language, refused_program};
+use saw_front::{SawFault, SawProgram, compile_sawzall};
+use slow_mean::mean_sawzall;
+use std::alloc::Global;
+
+/// Sawzall. A record may have further fields, which are not looked at.
+#[derive(Clone, Copy, Debug)]
+pub struct Sawzall;
+
+impl Language for Sawzall {
+    type Program = SawProgram;
+
+    ghost source = { saw_in };
+
+    ghost stands = { λ s t. IsSawzall s (unit_forms t.units.items) };
+
+    ghost more = { true };
+
+    fn takes_more() -> bool {
+        true
+    }
+
+    fn compile(alloc: Global, text: &Bytes) -> Result<Compiled<SawProgram>, Stop> {
+        match compile_sawzall(alloc, text) {
+            Ok((program, plan)) => Ok(Compiled {
+                plan,
+                caps: Caps::new(alloc),
+                program,
+            }),
+            Err(SawFault::NoMemory) => Err(Stop::NoMemory),
+            Err(fault) => Err(Stop::Refused(refused(alloc, fault)?)),
+        }
+    }
+
+    fn mean(
+        alloc: Global,
+        compiled: &Compiled<SawProgram>,
+        files: Listed<Content>,
+    ) -> Result<Outcome, NoMemory> {
+        mean_sawzall(alloc, &compiled.program, &listed(alloc, rows_of(alloc, files))?)
+    }
+}
+
+// What refuses a text.
+fn refused(alloc: Global, fault: SawFault) -> Result<Bytes, NoMemory>
+    ensures { IfOk result (λ text. text ≡ program_refused (saw_words fault)) }
+{
+    let mut words = Bytes::new(alloc);
+    fault.put(alloc, &mut words)?;
+    refused_program(alloc, words.as_slice())
+}

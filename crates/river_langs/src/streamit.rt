@@ -1,0 +1,63 @@
+// StreamIt as a language of the road.
+ghost use Rattle.std.specs.Prelude.{◌≡◌, true, false, IfOk};
+ghost use Rattle.river_langs.specs.Sources.{streamit_in, IsStreamit};
+ghost use Rattle.river_road.specs.Text.{program_refused};
+ghost use Rattle.streamit_front.specs.Words.{streamit_words};
+ghost use Rattle.streamit_text.specs.Program.{program_of};
+
+use crate::records::{rows_of, values_of};
+use brooklet_step::Outcome;
+use river_base::{Bytes, Listed, NoMemory};
+use river_order::Stop;
+use river_plan::Caps;
+use river_road::{Compiled, Content, Language, refused_program};
+use slow_mean::mean_streamit;
+use std::alloc::Global;
+use streamit_front::{StreamitFault, StreamitProgram, compile_streamit};
+
+/// StreamIt.
+#[derive(Clone, Copy, Debug)]
+pub struct Streamit;
+
+impl Language for Streamit {
+    type Program = StreamitProgram;
+
+    ghost source = { streamit_in };
+
+    ghost stands = { λ s t. IsStreamit s (program_of t.units.items) };
+
+    ghost more = { false };
+
+    fn takes_more() -> bool {
+        false
+    }
+
+    fn compile(alloc: Global, text: &Bytes) -> Result<Compiled<StreamitProgram>, Stop> {
+        match compile_streamit(alloc, text) {
+            Ok((program, plan)) => Ok(Compiled {
+                plan,
+                caps: Caps::new(alloc),
+                program,
+            }),
+            Err(StreamitFault::NoMemory) => Err(Stop::NoMemory),
+            Err(fault) => Err(Stop::Refused(refused(alloc, fault)?)),
+        }
+    }
+
+    fn mean(
+        alloc: Global,
+        compiled: &Compiled<StreamitProgram>,
+        files: Listed<Content>,
+    ) -> Result<Outcome, NoMemory> {
+        mean_streamit(alloc, &compiled.program, &values_of(alloc, rows_of(alloc, files))?)
+    }
+}
+
+// What refuses a text.
+fn refused(alloc: Global, fault: StreamitFault) -> Result<Bytes, NoMemory>
+    ensures { IfOk result (λ text. text ≡ program_refused (streamit_words fault)) }
+{
+    let mut words = Bytes::new(alloc);
+    fault.put(alloc, &mut words)?;
+    refused_program(alloc, words.as_slice())
+}

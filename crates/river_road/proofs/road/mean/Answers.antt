@@ -1,0 +1,23 @@
+use Rattle.std.proofs.lemmas.Result.{err_from_is_err_and}
+use Rattle.river_outside.proofs.Counts.{rose_before}
+use Rattle.river_outside.specs.Causes.{Rose}
+use Rattle.river_road.specs.Source.{IsCompiled}
+use Rattle.river_road.proofs.Points.{mean-first, mean-last}
+use Rattle.river_road.proofs.road.mean.Goals as goal
+
+pub mean_over-requires : goal.mean_over-requires
+mean_over-requires g c = (c.in_ok-compiled.ensures.passes.0, c.in_ok-compiled.ensures.passes.1)
+
+pub returns-in_err-compiled-clause-passes : goal.returns-in_err-compiled-clause-passes
+returns-in_err-compiled-clause-passes g c =
+    let p = err_from_is_err_and c.from_residual.result c.from_residual.ensures.1 in
+    let rose = Rose g.S.Shelf.stays_at_last (g.S.Shelf.faults c.args.shelf.now) (g.S.Shelf.faults c.compiled.new.shelf) in
+    rw (p.1, p.2) (mean-first g.L.Language.source g.L.Language.more c.args.file.now (g.S.Shelf.held c.args.shelf.now) c.args.ins.now c.args.header rose c.in_err-compiled.field-0.0 c.in_err-compiled.ensures.passes)
+
+pub returns-clause-passes : goal.returns-clause-passes
+returns-clause-passes g c =
+    let mid = Rose g.S.Shelf.stays_at_last (g.S.Shelf.faults c.args.shelf.now) (g.S.Shelf.faults c.compiled.new.shelf) in
+    let early = Rose g.S.Shelf.stays_at_last (g.S.Shelf.faults c.args.shelf.now) (g.S.Shelf.faults c.mean_over.new.shelf) in
+    let late = Rose g.S.Shelf.stays_at_last (g.S.Shelf.faults c.compiled.new.shelf) (g.S.Shelf.faults c.mean_over.new.shelf) in
+    let over = rw (c.compiled.ensures.stays, c.layout.ensures) at c.mean_over.ensures.passes in
+    mean-last g.L.Language.source g.L.Language.more c.args.file.now (g.S.Shelf.held c.args.shelf.now) c.args.ins.now c.args.header (IsCompiled g.L.Language.stands) mid early late (rose_before g.S.Shelf.stays_at_last _ _ _ c.compiled.ensures.later) c.in_ok-compiled.compiled c.mean_over.result c.in_ok-compiled.ensures.passes over

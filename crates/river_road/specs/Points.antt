@@ -1,0 +1,77 @@
+-- The road from the file of a program to the text: the points of what a command does, in order. Each point is told what comes after it.
+-- A language is here what the text of a program is: its program, or the text that refuses it.
+use Rattle.std.specs.Prelude.{ℕ, List, ◌++◌, Bool, false, Option, Some, None, Result, Ok, Err}
+use Rattle.river_order.specs.Order.{Order, Fetch}
+use Rattle.river_order.specs.Passes.{past}
+use Rattle.plan_classes.specs.Lines.{classes_text}
+use Rattle.river_plan.specs.Caps.{first_cap}
+use Rattle.river_plan.specs.Forms.{PlanForm}
+use Rattle.river_plan.specs.declared.caps.Cap.{Cap}
+use Rattle.river_print.specs.Printed.{plan_text}
+use Rattle.river_road.specs.Inputs.{of_inputs}
+use Rattle.river_road.specs.Layouts.{layout_of}
+use Rattle.river_road.specs.Limits.{most_program, most_script}
+use Rattle.river_road.specs.Load.{load_program, load_script, load_files}
+use Rattle.river_road.specs.Source.{SourceProgram, printed}
+use Rattle.river_road.specs.Text.{large_program, large_script, script_refused}
+use Rattle.river_script.specs.Meaning.{rewritten}
+use Rattle.river_script.specs.Words.{script_words}
+use Rattle.river_script.specs.declared.fault.ScriptFault.{ScriptFault}
+use Rattle.command_line.specs.declared.command.InWord.{InWord}
+use Rattle.river_road.specs.declared.layout.Layout.{Layout}
+
+-- the program is fetched and compiled
+unfoldable pub of_program : (List ℕ → Result SourceProgram (List ℕ)) → List ℕ → (SourceProgram → Order) → Order
+of_program source_of file next = Fetch file most_program large_program (λ text. past (source_of text) next)
+
+-- the program with this plan in place of its own, or the text that refuses the script
+abbrev pub with_plan : SourceProgram → Result PlanForm ScriptFault → Result SourceProgram (List ℕ)
+with_plan source (Ok p) = Ok (record source { plan = p })
+with_plan source (Err fault) = Err (script_refused (script_words fault))
+
+-- the script is fetched, read and applied step by step, where one is given
+unfoldable pub of_script : Option (List ℕ) → SourceProgram → (SourceProgram → Order) → Order
+of_script None source next = next source
+of_script (Some file) source next = Fetch file most_script large_script (λ text. past (with_plan source (rewritten source.plan text)) next)
+
+-- what the files of its inputs have is read, and what the program means is printed
+unfoldable pub of_inputs_run : List InWord → Layout → Bool → SourceProgram → (List ℕ → Order) → Order
+of_inputs_run ins layout counted source next = of_inputs source.inputs ins layout (λ files. next (printed source counted files))
+
+-- a plan as it is shown: its text with the capacities of its queues, and a line for each lock class of its tables
+abbrev pub plan_as_shown : List Cap → PlanForm → List ℕ
+plan_as_shown caps p = plan_text (first_cap caps) p ++ classes_text p
+
+-- what is made of what was found; the first refusal stands
+abbrev pub then_made : {A B : Type 0} → Result A (List ℕ) → (A → Result B (List ℕ)) → Result B (List ℕ)
+then_made (Ok x) make = make x
+then_made (Err text) make = Err text
+
+-- a language, and whether records may have further fields in it
+module _ (source_of : List ℕ → Result SourceProgram (List ℕ)) (more : Bool) where
+  -- `run`: the program is compiled, its plan is rewritten, and it is run over its inputs
+  unfoldable pub of_run : List ℕ → List InWord → Option (List ℕ) → Bool → Bool → (List ℕ → Order) → Order
+  of_run file ins script header counts next =
+      of_program source_of file (λ source. of_script script source (λ later. of_inputs_run ins (layout_of more header) counts later next))
+
+  -- `mean`: it is compiled, and what it means over its inputs is printed
+  unfoldable pub of_mean : List ℕ → List InWord → Bool → (List ℕ → Order) → Order
+  of_mean file ins header next = of_program source_of file (λ source. of_inputs_run ins (layout_of more header) false source next)
+
+-- a language
+module _ (source_of : List ℕ → Result SourceProgram (List ℕ)) where
+  -- `plan`: it is compiled, its plan is rewritten and shown
+  unfoldable pub of_show : List ℕ → Option (List ℕ) → (List ℕ → Order) → Order
+  of_show file script next = of_program source_of file (λ source. of_script script source (λ later. next (plan_as_shown later.caps later.plan)))
+
+  -- `upgrade`: it is compiled, and its plan is printed with its capacities
+  unfoldable pub of_upgrade : List ℕ → (List ℕ → Order) → Order
+  of_upgrade file next = of_program source_of file (λ source. next (plan_text (first_cap source.caps) source.plan))
+
+  -- the program of `load`, with the plan that its script makes
+  unfoldable pub load_source : Result SourceProgram (List ℕ)
+  load_source = then_made (source_of load_program) (λ source. with_plan source (rewritten source.plan load_script))
+
+  -- what this program means over the first n records
+  unfoldable pub loaded : ℕ → Result (List ℕ) (List ℕ)
+  loaded n = then_made load_source (λ source. then_made (load_files n source.inputs) (λ files. Ok (printed source false files)))

@@ -1,0 +1,75 @@
+// The texts that are written besides the output of a program.
+ghost use Rattle.std.specs.Prelude.{◌≡◌, IfOk};
+ghost use Rattle.csv_streams.specs.FaultWords.{in_words};
+ghost use Rattle.river_road.specs.Text.{program_refused, script_refused, input_refused, large_input, unknown_input, missing_input};
+
+use csv_streams::InFault;
+use river_base::{Bytes, NoMemory};
+use std::alloc::Global;
+
+/// What refuses a program of too many bytes.
+pub const LARGE_PROGRAM: &[u8] = b"refused: program: Large\n";
+
+/// What refuses a script of too many bytes.
+pub const LARGE_SCRIPT: &[u8] = b"refused: script: Large\n";
+
+/// A program is refused, and why.
+pub fn program(alloc: Global, words: &[u8]) -> Result<Bytes, NoMemory>
+    ensures { IfOk result (λ text. text ≡ program_refused words.now) }
+{
+    let mut text = Bytes::from_slice(alloc, b"refused: program: ")?;
+    text.extend(words)?;
+    text.push(b'\n')?;
+    Ok(text)
+}
+
+/// A script is refused, and why.
+pub fn script(alloc: Global, words: &[u8]) -> Result<Bytes, NoMemory>
+    ensures { IfOk result (λ text. text ≡ script_refused words.now) }
+{
+    let mut text = Bytes::from_slice(alloc, b"refused: ")?;
+    text.extend(words)?;
+    text.push(b'\n')?;
+    Ok(text)
+}
+
+// An input is refused, and why.
+fn input(alloc: Global, name: &[u8], words: &[u8]) -> Result<Bytes, NoMemory>
+    ensures { IfOk result (λ text. text ≡ input_refused name.now words.now) }
+{
+    let mut text = Bytes::from_slice(alloc, b"refused: input ")?;
+    text.extend(name)?;
+    text.extend(b": ")?;
+    text.extend(words)?;
+    text.push(b'\n')?;
+    Ok(text)
+}
+
+/// An input has too many bytes.
+pub fn large(alloc: Global, name: &[u8]) -> Result<Bytes, NoMemory>
+    ensures { IfOk result (λ text. text ≡ large_input name.now) }
+{
+    input(alloc, name, b"Large")
+}
+
+/// No input of the program has this name.
+pub fn unknown(alloc: Global, name: &[u8]) -> Result<Bytes, NoMemory>
+    ensures { IfOk result (λ text. text ≡ unknown_input name.now) }
+{
+    input(alloc, name, b"Unknown")
+}
+
+/// No word names this input.
+pub fn missing(alloc: Global, name: &[u8]) -> Result<Bytes, NoMemory>
+    ensures { IfOk result (λ text. text ≡ missing_input name.now) }
+{
+    input(alloc, name, b"Missing")
+}
+
+/// What is told of the first record at fault of an input.
+pub fn in_fault(alloc: Global, name: &[u8], fault: InFault) -> Result<Bytes, NoMemory>
+    ensures { IfOk result (λ text. text ≡ input_refused name.now (in_words fault)) }
+{
+    let words = fault.words(alloc)?;
+    input(alloc, name, words.as_slice())
+}
