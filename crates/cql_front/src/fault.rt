@@ -1,11 +1,9 @@
 // Why a text is no program, and what is told of it.
-ghost use Rattle.std.specs.Prelude.{◌≡◌, ◌++◌, OnOk, IfOk, OnErr};
-ghost use Rattle.std.specs.Fmt.{decimal};
 ghost use Rattle.cql_front.specs.Words.{cql_words};
 
 use river_base::{Bytes, NoMemory};
 use std::alloc::Global;
-use text_forms::Refusal;
+use text_forms::{Refusal, Told, numbered};
 
 /// Why a text is no program. The unit, from 1, is the one in whose reading the fault comes.
 #[derive(Clone, Copy, Debug, PartialEq, Eq)]
@@ -38,46 +36,18 @@ impl From<NoMemory> for CqlFault {
     }
 }
 
-impl CqlFault {
-    /// Appends what is told of it; changes nothing where there is no memory.
-    pub fn put(self, alloc: Global, to: &mut Bytes) -> Result<(), NoMemory>
-        ensures ok { OnOk result (to.new ≡ to.old ++ cql_words self) }
-        ensures err { OnErr result (to.new ≡ to.old) }
-    {
-        let text = self.words(alloc)?;
-        to.extend(text.as_slice())
-    }
+impl Told for CqlFault {
+    ghost told = { cql_words };
 
-    // What is told of it.
-    fn words(self, alloc: Global) -> Result<Bytes, NoMemory>
-        ensures { IfOk result (λ text. text ≡ cql_words self) }
-    {
-        let mut text = Bytes::new(alloc);
-        self.write(alloc, &mut text)?;
-        Ok(text)
-    }
-
-    fn write(self, alloc: Global, to: &mut Bytes) -> Result<(), NoMemory>
-        ensures { OnOk result (to.new ≡ to.old ++ cql_words self) }
-    {
+    fn write(self, alloc: Global, to: &mut Bytes) -> Result<(), NoMemory> {
         match self {
-            CqlFault::Text(refusal) => refusal.put(alloc, to),
-            CqlFault::UnknownStream { unit } => at_unit(alloc, b"UnknownStream ", unit, to),
-            CqlFault::UnknownField { unit } => at_unit(alloc, b"UnknownField ", unit, to),
-            CqlFault::AmbiguousField { unit } => at_unit(alloc, b"AmbiguousField ", unit, to),
-            CqlFault::NameTwice { unit } => at_unit(alloc, b"NameTwice ", unit, to),
-            CqlFault::Limit { unit } => at_unit(alloc, b"Limit ", unit, to),
+            CqlFault::Text(refusal) => refusal.write(alloc, to),
+            CqlFault::UnknownStream { unit } => numbered(alloc, b"UnknownStream ", unit, to),
+            CqlFault::UnknownField { unit } => numbered(alloc, b"UnknownField ", unit, to),
+            CqlFault::AmbiguousField { unit } => numbered(alloc, b"AmbiguousField ", unit, to),
+            CqlFault::NameTwice { unit } => numbered(alloc, b"NameTwice ", unit, to),
+            CqlFault::Limit { unit } => numbered(alloc, b"Limit ", unit, to),
             CqlFault::NoMemory => to.extend(b"NoMemory"),
         }
     }
-}
-
-// Appends a word and a number.
-#[tactic(auto, using(work_code::proofs::Joined::joins))]
-fn at_unit(alloc: Global, word: &[u8], number: u32, to: &mut Bytes) -> Result<(), NoMemory>
-    ensures { OnOk result (to.new ≡ to.old ++ (word.now ++ decimal number)) }
-{
-    to.extend(word)?;
-    let digits = number.to_string(alloc)?;
-    to.extend(digits.as_bytes())
 }

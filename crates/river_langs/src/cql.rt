@@ -1,8 +1,6 @@
 // CQL as a language of the road.
-ghost use Rattle.std.specs.Prelude.{◌≡◌, true, false, IfOk};
+ghost use Rattle.std.specs.Prelude.{false};
 ghost use Rattle.river_langs.specs.Sources.{cql_in, IsCql};
-ghost use Rattle.river_road.specs.Text.{program_refused};
-ghost use Rattle.cql_front.specs.Words.{cql_words};
 ghost use Rattle.cql_text.specs.Tree.{program_of};
 
 use crate::records::timed_files_of;
@@ -41,7 +39,7 @@ impl Language for Cql {
                 program,
             }),
             Err(CqlFault::NoMemory) => Err(Stop::NoMemory),
-            Err(fault) => Err(Stop::Refused(refused(alloc, fault)?)),
+            Err(fault) => Err(Stop::Refused(refused_program(alloc, fault)?)),
         }
     }
 
@@ -52,13 +50,4 @@ impl Language for Cql {
     ) -> Result<Outcome, NoMemory> {
         mean_cql(alloc, &compiled.program, &timed_files_of(alloc, files)?)
     }
-}
-
-// What refuses a text.
-fn refused(alloc: Global, fault: CqlFault) -> Result<Bytes, NoMemory>
-    ensures { IfOk result (λ text. text ≡ program_refused (cql_words fault)) }
-{
-    let mut words = Bytes::new(alloc);
-    fault.put(alloc, &mut words)?;
-    refused_program(alloc, words.as_slice())
 }

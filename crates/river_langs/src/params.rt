@@ -1,8 +1,6 @@
 // StreamIt with parameters as a language of the road.
-ghost use Rattle.std.specs.Prelude.{◌≡◌, true, false, IfOk};
+ghost use Rattle.std.specs.Prelude.{false};
 ghost use Rattle.river_langs.specs.Sources.{params_in, IsStreamit};
-ghost use Rattle.river_road.specs.Text.{program_refused};
-ghost use Rattle.params_front.specs.Words.{params_words};
 ghost use Rattle.streamit_text.specs.Program.{program_of};
 
 use crate::records::{rows_of, values_of};
@@ -41,7 +39,7 @@ impl Language for Params {
                 program,
             }),
             Err(ParamFault::NoMemory) => Err(Stop::NoMemory),
-            Err(fault) => Err(Stop::Refused(refused(alloc, fault)?)),
+            Err(fault) => Err(Stop::Refused(refused_program(alloc, fault)?)),
         }
     }
 
@@ -52,13 +50,4 @@ impl Language for Params {
     ) -> Result<Outcome, NoMemory> {
         mean_streamit(alloc, &compiled.program, &values_of(alloc, rows_of(alloc, files))?)
     }
-}
-
-// What refuses a text.
-fn refused(alloc: Global, fault: ParamFault) -> Result<Bytes, NoMemory>
-    ensures { IfOk result (λ text. text ≡ program_refused (params_words fault)) }
-{
-    let mut words = Bytes::new(alloc);
-    fault.put(alloc, &mut words)?;
-    refused_program(alloc, words.as_slice())
 }

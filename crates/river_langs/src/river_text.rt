@@ -1,8 +1,6 @@
 // River text as a language of the road.
-ghost use Rattle.std.specs.Prelude.{◌≡◌, true, false, IfOk};
+ghost use Rattle.std.specs.Prelude.{false};
 ghost use Rattle.river_langs.specs.Sources.{river_in};
-ghost use Rattle.river_road.specs.Text.{program_refused};
-ghost use Rattle.river_text.specs.Words.{river_words};
 
 use brooklet_step::{Outcome, run_lines};
 use river_base::{Bytes, Listed, NoMemory};
@@ -36,7 +34,7 @@ impl Language for RiverText {
                 program: (),
             }),
             Err(RiverFault::NoMemory) => Err(Stop::NoMemory),
-            Err(fault) => Err(Stop::Refused(refused(alloc, fault)?)),
+            Err(fault) => Err(Stop::Refused(refused_program(alloc, fault)?)),
         }
     }
 
@@ -47,13 +45,4 @@ impl Language for RiverText {
     ) -> Result<Outcome, NoMemory> {
         run_lines(alloc, &compiled.plan, inputs_of(alloc, files)?)
     }
-}
-
-// What refuses a text.
-fn refused(alloc: Global, fault: RiverFault) -> Result<Bytes, NoMemory>
-    ensures { IfOk result (λ text. text ≡ program_refused (river_words fault)) }
-{
-    let mut words = Bytes::new(alloc);
-    fault.put(alloc, &mut words)?;
-    refused_program(alloc, words.as_slice())
 }

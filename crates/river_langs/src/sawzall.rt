@@ -1,8 +1,6 @@
 // Sawzall as a language of the road.
-ghost use Rattle.std.specs.Prelude.{◌≡◌, true, false, IfOk};
+ghost use Rattle.std.specs.Prelude.{true};
 ghost use Rattle.river_langs.specs.Sources.{saw_in, IsSawzall};
-ghost use Rattle.river_road.specs.Text.{program_refused};
-ghost use Rattle.saw_front.specs.Words.{saw_words};
 ghost use Rattle.saw_text.specs.Tree.{unit_forms};
 
 use crate::records::{listed, rows_of};
@@ -40,7 +38,7 @@ impl Language for Sawzall {
                 program,
             }),
             Err(SawFault::NoMemory) => Err(Stop::NoMemory),
-            Err(fault) => Err(Stop::Refused(refused(alloc, fault)?)),
+            Err(fault) => Err(Stop::Refused(refused_program(alloc, fault)?)),
         }
     }
 
@@ -51,13 +49,4 @@ impl Language for Sawzall {
     ) -> Result<Outcome, NoMemory> {
         mean_sawzall(alloc, &compiled.program, &listed(alloc, rows_of(alloc, files))?)
     }
-}
-
-// What refuses a text.
-fn refused(alloc: Global, fault: SawFault) -> Result<Bytes, NoMemory>
-    ensures { IfOk result (λ text. text ≡ program_refused (saw_words fault)) }
-{
-    let mut words = Bytes::new(alloc);
-    fault.put(alloc, &mut words)?;
-    refused_program(alloc, words.as_slice())
 }

@@ -1,16 +1,14 @@
 // A script, applied to a plan.
-ghost use Rattle.std.specs.Prelude.{◌≡◌, ◌≤◌, List, length, IfOk};
+ghost use Rattle.std.specs.Prelude.{◌≤◌, List, length};
 ghost use Rattle.river_order.specs.Passes.{AnswersAs};
 ghost use Rattle.river_script.specs.Meaning.{rewritten as rewritten_plan};
-ghost use Rattle.river_script.specs.Words.{script_words};
 ghost use Rattle.river_road.specs.Limits.{most_script};
 ghost use Rattle.river_road.specs.Points.{with_plan};
 ghost use Rattle.river_road.specs.Source.{SourceProgram, IsPlanned};
-ghost use Rattle.river_road.specs.Text.{script_refused as script_text};
 ghost use Rattle.river_plan.specs.declared.caps.Cap.{Cap};
 
 use crate::text;
-use river_base::{Bytes, NoMemory};
+use river_base::Bytes;
 use river_order::Stop;
 use river_plan::Plan;
 use river_script::{ScriptFault, apply_script};
@@ -27,14 +25,6 @@ pub fn applied(alloc: Global, plan: &Plan, text: &Bytes) -> Result<Plan, Stop>
     match apply_script(alloc, plan, text) {
         Ok(made) => Ok(made),
         Err(ScriptFault::NoMemory) => Err(Stop::NoMemory),
-        Err(fault) => Err(Stop::Refused(script_refused(alloc, fault)?)),
+        Err(fault) => Err(Stop::Refused(text::script(alloc, fault)?)),
     }
-}
-
-fn script_refused(alloc: Global, fault: ScriptFault) -> Result<Bytes, NoMemory>
-    ensures { IfOk result (λ text. text ≡ script_text (script_words fault)) }
-{
-    let mut words = Bytes::new(alloc);
-    fault.put(alloc, &mut words)?;
-    text::script(alloc, words.as_slice())
 }

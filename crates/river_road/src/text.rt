@@ -6,6 +6,7 @@ ghost use Rattle.river_road.specs.Text.{program_refused, script_refused, input_r
 use csv_streams::InFault;
 use river_base::{Bytes, NoMemory};
 use std::alloc::Global;
+use text_forms::{Told, words};
 
 /// What refuses a program of too many bytes.
 pub const LARGE_PROGRAM: &[u8] = b"refused: program: Large\n";
@@ -13,22 +14,24 @@ pub const LARGE_PROGRAM: &[u8] = b"refused: program: Large\n";
 /// What refuses a script of too many bytes.
 pub const LARGE_SCRIPT: &[u8] = b"refused: script: Large\n";
 
-/// A program is refused, and why.
-pub fn program(alloc: Global, words: &[u8]) -> Result<Bytes, NoMemory>
-    ensures { IfOk result (λ text. text ≡ program_refused words.now) }
+/// What refuses a program.
+pub fn program<F: Told>(alloc: Global, fault: F) -> Result<Bytes, NoMemory>
+    ensures { IfOk result (λ text. text ≡ program_refused (F.told fault)) }
 {
+    let words = words(alloc, fault)?;
     let mut text = Bytes::from_slice(alloc, b"refused: program: ")?;
-    text.extend(words)?;
+    text.extend(words.as_slice())?;
     text.push(b'\n')?;
     Ok(text)
 }
 
-/// A script is refused, and why.
-pub fn script(alloc: Global, words: &[u8]) -> Result<Bytes, NoMemory>
-    ensures { IfOk result (λ text. text ≡ script_refused words.now) }
+/// What refuses a script.
+pub fn script<F: Told>(alloc: Global, fault: F) -> Result<Bytes, NoMemory>
+    ensures { IfOk result (λ text. text ≡ script_refused (F.told fault)) }
 {
+    let words = words(alloc, fault)?;
     let mut text = Bytes::from_slice(alloc, b"refused: ")?;
-    text.extend(words)?;
+    text.extend(words.as_slice())?;
     text.push(b'\n')?;
     Ok(text)
 }

@@ -1,5 +1,5 @@
 // Why a script makes no plan, and what is told of it.
-ghost use Rattle.std.specs.Prelude.{◌≡◌, ◌++◌, OnOk, codes, IfOk, OnErr};
+ghost use Rattle.std.specs.Prelude.{◌≡◌, ◌++◌, codes, OnOk};
 ghost use Rattle.std.specs.Fmt.{decimal};
 ghost use Rattle.plan_edits.specs.Words.{unfit_word};
 ghost use Rattle.text_forms.specs.Refusals.{refusal_words};
@@ -10,7 +10,7 @@ ghost use Rattle.river_script.specs.declared.fault.ScriptFault.TheVariants as fa
 use plan_edits::Unfit;
 use river_base::{Bytes, NoMemory};
 use std::alloc::Global;
-use text_forms::Refusal;
+use text_forms::{Refusal, Told, numbered};
 use work_code::LexFault;
 
 /// Why a script makes no plan.
@@ -44,28 +44,10 @@ impl From<LexFault> for ScriptFault {
     }
 }
 
-impl ScriptFault {
-    /// Appends what is told of it; changes nothing where there is no memory.
-    pub fn put(self, alloc: Global, to: &mut Bytes) -> Result<(), NoMemory>
-        ensures ok { OnOk result (to.new ≡ to.old ++ script_words self) }
-        ensures err { OnErr result (to.new ≡ to.old) }
-    {
-        let text = self.words(alloc)?;
-        to.extend(text.as_slice())
-    }
+impl Told for ScriptFault {
+    ghost told = { script_words };
 
-    // What is told of it.
-    fn words(self, alloc: Global) -> Result<Bytes, NoMemory>
-        ensures { IfOk result (λ text. text ≡ script_words self) }
-    {
-        let mut text = Bytes::new(alloc);
-        self.write(alloc, &mut text)?;
-        Ok(text)
-    }
-
-    fn write(self, alloc: Global, to: &mut Bytes) -> Result<(), NoMemory>
-        ensures { OnOk result (to.new ≡ to.old ++ script_words self) }
-    {
+    fn write(self, alloc: Global, to: &mut Bytes) -> Result<(), NoMemory> {
         match self {
             ScriptFault::Text(refusal) => put_refusal(alloc, refusal, to),
             ScriptFault::Unfit { step, why } => put_step(alloc, step, why, to),
@@ -80,7 +62,7 @@ fn put_refusal(alloc: Global, refusal: Refusal, to: &mut Bytes) -> Result<(), No
     ensures { OnOk result (to.new ≡ to.old ++ (codes "script: " ++ refusal_words refusal)) }
 {
     to.extend(b"script: ")?;
-    refusal.put(alloc, to)
+    refusal.write(alloc, to)
 }
 
 // Appends the number of a step and its condition.
@@ -88,9 +70,7 @@ fn put_refusal(alloc: Global, refusal: Refusal, to: &mut Bytes) -> Result<(), No
 fn put_step(alloc: Global, step: u32, why: Unfit, to: &mut Bytes) -> Result<(), NoMemory>
     ensures { OnOk result (to.new ≡ to.old ++ (codes "rewrite " ++ (decimal step ++ (codes ": " ++ unfit_word why)))) }
 {
-    to.extend(b"rewrite ")?;
-    let digits = step.to_string(alloc)?;
-    to.extend(digits.as_bytes())?;
+    numbered(alloc, b"rewrite ", step, to)?;
     to.extend(b": ")?;
     to.extend(why.word())
 }

@@ -1,5 +1,5 @@
 // Why a River text has no plan, and what is told of it.
-ghost use Rattle.std.specs.Prelude.{◌≡◌, ◌++◌, codes, OnOk, IfOk, OnErr};
+ghost use Rattle.std.specs.Prelude.{◌≡◌, ◌++◌, codes, OnOk};
 ghost use Rattle.std.specs.Fmt.{decimal};
 ghost use Rattle.river_text.specs.Meaning.{from_text, from_plan};
 ghost use Rattle.river_text.specs.Words.{limit_word, name_words, plan_words, river_words};
@@ -8,7 +8,7 @@ use crate::TextFault;
 use river_base::{Bytes, NoMemory};
 use river_plan::{Limit, Named, PlanFault};
 use std::alloc::Global;
-use text_forms::Refusal;
+use text_forms::{Refusal, Told};
 use work_code::LexFault;
 
 /// Why a River text has no plan.
@@ -48,30 +48,12 @@ impl From<PlanFault> for RiverFault {
     }
 }
 
-impl RiverFault {
-    /// Appends what is told of it; changes nothing where there is no memory.
-    pub fn put(self, alloc: Global, to: &mut Bytes) -> Result<(), NoMemory>
-        ensures ok { OnOk result (to.new ≡ to.old ++ river_words self) }
-        ensures err { OnErr result (to.new ≡ to.old) }
-    {
-        let text = self.words(alloc)?;
-        to.extend(text.as_slice())
-    }
+impl Told for RiverFault {
+    ghost told = { river_words };
 
-    // What is told of it.
-    fn words(self, alloc: Global) -> Result<Bytes, NoMemory>
-        ensures { IfOk result (λ text. text ≡ river_words self) }
-    {
-        let mut text = Bytes::new(alloc);
-        self.write(alloc, &mut text)?;
-        Ok(text)
-    }
-
-    fn write(self, alloc: Global, to: &mut Bytes) -> Result<(), NoMemory>
-        ensures { OnOk result (to.new ≡ to.old ++ river_words self) }
-    {
+    fn write(self, alloc: Global, to: &mut Bytes) -> Result<(), NoMemory> {
         match self {
-            RiverFault::Text(refusal) => refusal.put(alloc, to),
+            RiverFault::Text(refusal) => refusal.write(alloc, to),
             RiverFault::Plan(fault) => put_fault(alloc, fault, to),
             RiverFault::NoMemory => to.extend(b"NoMemory"),
         }

@@ -1,11 +1,9 @@
 // Why a text is no program, and what is told of it.
-ghost use Rattle.std.specs.Prelude.{◌≡◌, ◌++◌, codes, OnOk, IfOk, OnErr};
-ghost use Rattle.std.specs.Fmt.{decimal};
 ghost use Rattle.saw_front.specs.Words.{saw_words};
 
 use river_base::{Bytes, NoMemory};
 use std::alloc::Global;
-use text_forms::Refusal;
+use text_forms::{Refusal, Told, numbered};
 
 /// Why a text is no program. The unit, from 1, is the one in whose reading the fault comes.
 #[derive(Clone, Copy, Debug)]
@@ -36,45 +34,17 @@ impl From<NoMemory> for SawFault {
     }
 }
 
-impl SawFault {
-    /// Appends what is told of it; changes nothing where there is no memory.
-    pub fn put(self, alloc: Global, to: &mut Bytes) -> Result<(), NoMemory>
-        ensures ok { OnOk result (to.new ≡ to.old ++ saw_words self) }
-        ensures err { OnErr result (to.new ≡ to.old) }
-    {
-        let text = self.words(alloc)?;
-        to.extend(text.as_slice())
-    }
+impl Told for SawFault {
+    ghost told = { saw_words };
 
-    // What is told of it.
-    fn words(self, alloc: Global) -> Result<Bytes, NoMemory>
-        ensures { IfOk result (λ text. text ≡ saw_words self) }
-    {
-        let mut text = Bytes::new(alloc);
-        self.write(alloc, &mut text)?;
-        Ok(text)
-    }
-
-    fn write(self, alloc: Global, to: &mut Bytes) -> Result<(), NoMemory>
-        ensures { OnOk result (to.new ≡ to.old ++ saw_words self) }
-    {
+    fn write(self, alloc: Global, to: &mut Bytes) -> Result<(), NoMemory> {
         match self {
-            SawFault::Text(refusal) => refusal.put(alloc, to),
-            SawFault::UnknownName { unit } => at_unit(alloc, b"UnknownName ", unit, to),
-            SawFault::NameTwice { unit } => at_unit(alloc, b"NameTwice ", unit, to),
-            SawFault::Shape { unit } => at_unit(alloc, b"Shape ", unit, to),
-            SawFault::Limit { unit } => at_unit(alloc, b"Limit ", unit, to),
+            SawFault::Text(refusal) => refusal.write(alloc, to),
+            SawFault::UnknownName { unit } => numbered(alloc, b"UnknownName ", unit, to),
+            SawFault::NameTwice { unit } => numbered(alloc, b"NameTwice ", unit, to),
+            SawFault::Shape { unit } => numbered(alloc, b"Shape ", unit, to),
+            SawFault::Limit { unit } => numbered(alloc, b"Limit ", unit, to),
             SawFault::NoMemory => to.extend(b"NoMemory"),
         }
     }
-}
-
-// Appends a word and a number.
-#[tactic(auto, using(work_code::proofs::Joined::joins))]
-fn at_unit(alloc: Global, word: &[u8], number: u32, to: &mut Bytes) -> Result<(), NoMemory>
-    ensures { OnOk result (to.new ≡ to.old ++ (word.now ++ decimal number)) }
-{
-    to.extend(word)?;
-    let digits = number.to_string(alloc)?;
-    to.extend(digits.as_bytes())
 }

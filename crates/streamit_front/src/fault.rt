@@ -1,11 +1,11 @@
 // Why a text is no program, and what is told of it.
-ghost use Rattle.std.specs.Prelude.{◌≡◌, ◌++◌, codes, OnOk, IfOk, OnErr};
+ghost use Rattle.std.specs.Prelude.{◌≡◌, ◌++◌, codes, OnOk};
 ghost use Rattle.std.specs.Fmt.{decimal, signed_decimal};
 ghost use Rattle.streamit_front.specs.Words.{streamit_words};
 
 use river_base::{Bytes, NoMemory};
 use std::alloc::Global;
-use text_forms::Refusal;
+use text_forms::{Refusal, Told, numbered};
 
 /// Why a text is no program. The unit, from 1, is the one in whose reading the fault comes.
 #[derive(Clone, Copy, Debug)]
@@ -63,32 +63,14 @@ impl From<NoMemory> for StreamitFault {
     }
 }
 
-impl StreamitFault {
-    /// Appends what is told of it; changes nothing where there is no memory.
-    pub fn put(self, alloc: Global, to: &mut Bytes) -> Result<(), NoMemory>
-        ensures ok { OnOk result (to.new ≡ to.old ++ streamit_words self) }
-        ensures err { OnErr result (to.new ≡ to.old) }
-    {
-        let text = self.words(alloc)?;
-        to.extend(text.as_slice())
-    }
+impl Told for StreamitFault {
+    ghost told = { streamit_words };
 
-    // What is told of it.
-    fn words(self, alloc: Global) -> Result<Bytes, NoMemory>
-        ensures { IfOk result (λ text. text ≡ streamit_words self) }
-    {
-        let mut text = Bytes::new(alloc);
-        self.write(alloc, &mut text)?;
-        Ok(text)
-    }
-
-    fn write(self, alloc: Global, to: &mut Bytes) -> Result<(), NoMemory>
-        ensures { OnOk result (to.new ≡ to.old ++ streamit_words self) }
-    {
+    fn write(self, alloc: Global, to: &mut Bytes) -> Result<(), NoMemory> {
         match self {
-            StreamitFault::Text(refusal) => refusal.put(alloc, to),
-            StreamitFault::UnknownName { unit } => at_unit(alloc, b"UnknownName ", unit, to),
-            StreamitFault::NameTwice { unit } => at_unit(alloc, b"NameTwice ", unit, to),
+            StreamitFault::Text(refusal) => refusal.write(alloc, to),
+            StreamitFault::UnknownName { unit } => numbered(alloc, b"UnknownName ", unit, to),
+            StreamitFault::NameTwice { unit } => numbered(alloc, b"NameTwice ", unit, to),
             StreamitFault::Rates {
                 unit,
                 declared,
@@ -97,23 +79,13 @@ impl StreamitFault {
             StreamitFault::PeekRange { unit, index, peek } => {
                 peek_range(alloc, unit, index, peek, to)
             }
-            StreamitFault::NotConstant { unit } => at_unit(alloc, b"NotConstant ", unit, to),
-            StreamitFault::BranchRates { unit } => at_unit(alloc, b"BranchRates ", unit, to),
-            StreamitFault::Limit { unit } => at_unit(alloc, b"Limit ", unit, to),
-            StreamitFault::Weights { unit } => at_unit(alloc, b"Weights ", unit, to),
+            StreamitFault::NotConstant { unit } => numbered(alloc, b"NotConstant ", unit, to),
+            StreamitFault::BranchRates { unit } => numbered(alloc, b"BranchRates ", unit, to),
+            StreamitFault::Limit { unit } => numbered(alloc, b"Limit ", unit, to),
+            StreamitFault::Weights { unit } => numbered(alloc, b"Weights ", unit, to),
             StreamitFault::NoMemory => to.extend(b"NoMemory"),
         }
     }
-}
-
-// Appends a word and a number.
-#[tactic(auto, using(work_code::proofs::Joined::joins))]
-fn at_unit(alloc: Global, word: &[u8], number: u32, to: &mut Bytes) -> Result<(), NoMemory>
-    ensures { OnOk result (to.new ≡ to.old ++ (word.now ++ decimal number)) }
-{
-    to.extend(word)?;
-    let digits = number.to_string(alloc)?;
-    to.extend(digits.as_bytes())
 }
 
 // Appends the unit, and the rates that are declared and counted.
@@ -127,9 +99,9 @@ fn rates(
 ) -> Result<(), NoMemory>
     ensures { OnOk result (to.new ≡ to.old ++ ((codes "Rates " ++ decimal unit) ++ ((codes " " ++ decimal declared) ++ (codes " " ++ decimal counted)))) }
 {
-    at_unit(alloc, b"Rates ", unit, to)?;
-    at_unit(alloc, b" ", declared, to)?;
-    at_unit(alloc, b" ", counted, to)
+    numbered(alloc, b"Rates ", unit, to)?;
+    numbered(alloc, b" ", declared, to)?;
+    numbered(alloc, b" ", counted, to)
 }
 
 // Appends the unit, the index, and the rate of `peek`.
@@ -143,9 +115,9 @@ fn peek_range(
 ) -> Result<(), NoMemory>
     ensures { OnOk result (to.new ≡ to.old ++ ((codes "PeekRange " ++ decimal unit) ++ ((codes " " ++ signed_decimal index) ++ (codes " " ++ decimal peek)))) }
 {
-    at_unit(alloc, b"PeekRange ", unit, to)?;
+    numbered(alloc, b"PeekRange ", unit, to)?;
     to.push(b' ')?;
     let digits = index.to_string(alloc)?;
     to.extend(digits.as_bytes())?;
-    at_unit(alloc, b" ", peek, to)
+    numbered(alloc, b" ", peek, to)
 }

@@ -9,6 +9,7 @@ mod form;
 mod names;
 mod reader;
 mod refusal;
+mod told;
 mod unit_fault;
 mod units;
 
@@ -20,5 +21,6 @@ pub use form::Form;
 pub use names::is_free;
 pub use reader::Reader;
 pub use refusal::Refusal;
+pub use told::{Told, numbered, words};
 pub use unit_fault::UnitFault;
 pub use units::{Units, read_text, read_units};
