@@ -5,7 +5,7 @@ ghost use Rattle.command_line.specs.Commands.{MayMake, lang_of, with_header, wit
 use river_base::{Listed, NoMemory, Text};
 
 /// A source language.
-#[derive(Clone, Copy, Debug, PartialEq, Eq)]
+#[derive(Clone, Copy)]
 pub enum Lang {
     /// River text.
     River,
@@ -199,7 +199,7 @@ impl Command {
 }
 
 /// Why the words ask for nothing.
-#[derive(Clone, Copy, Debug, PartialEq, Eq)]
+#[derive(Clone, Copy)]
 pub enum WordFault {
     /// They are no sentence.
     Usage,

@@ -8,7 +8,7 @@ use river_base::{Bytes, Name, NoMemory};
 use std::alloc::Global;
 
 /// What a made name is for.
-#[derive(Clone, Copy, Debug)]
+#[derive(Clone, Copy)]
 pub(crate) enum Mark {
     /// A window, by its item's number, from 1.
     Window(usize),

@@ -26,7 +26,7 @@ use river_plan::{Decl, Decls, Names, Ops, Plan, PlanFault, RawPlan, check};
 use std::alloc::Global;
 
 /// Why a program has no plan.
-#[derive(Clone, Copy, Debug)]
+#[derive(Clone, Copy)]
 pub enum Refused {
     /// The program is refused.
     Program(Refusal),

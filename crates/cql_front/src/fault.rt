@@ -6,7 +6,7 @@ use std::alloc::Global;
 use text_forms::{Refusal, Told, numbered};
 
 /// Why a text is no program. The unit, from 1, is the one in whose reading the fault comes.
-#[derive(Clone, Copy, Debug, PartialEq, Eq)]
+#[derive(Clone, Copy)]
 pub enum CqlFault {
     /// The text is not read.
     Text(Refusal),

@@ -1,7 +1,7 @@
 // Why a program is refused.
 
 /// Why a program is refused.
-#[derive(Clone, Copy, Debug, PartialEq, Eq)]
+#[derive(Clone, Copy)]
 pub enum Fault {
     /// An item names no stream that is declared above.
     UnknownStream,
@@ -17,7 +17,7 @@ pub enum Fault {
 }
 
 /// The fault that comes first in the order of reading, and its unit, from 1.
-#[derive(Clone, Copy, Debug, PartialEq, Eq)]
+#[derive(Clone, Copy)]
 pub struct Refusal {
     pub unit: usize,
     pub fault: Fault,

@@ -9,7 +9,7 @@ use text_forms::Reader;
 use work_code::{Symbol, Token};
 
 /// An operator between two values, as it is written.
-#[derive(Clone, Copy, Debug, PartialEq, Eq)]
+#[derive(Clone, Copy)]
 pub enum Operator {
     /// `*`
     Mul,
@@ -42,7 +42,7 @@ pub enum Operator {
 }
 
 /// What stands before a value.
-#[derive(Clone, Copy, Debug, PartialEq, Eq)]
+#[derive(Clone, Copy)]
 pub enum Sign {
     /// `-`
     Minus,

@@ -37,7 +37,7 @@ pub struct Query {
 }
 
 /// How the relation of a query becomes a stream.
-#[derive(Clone, Copy, Debug, PartialEq, Eq)]
+#[derive(Clone, Copy)]
 pub enum Kind {
     /// `Istream`: the rows that came.
     Istream,
@@ -85,7 +85,7 @@ pub enum Window {
 }
 
 /// How the unit of time is written.
-#[derive(Clone, Copy, Debug, PartialEq, Eq)]
+#[derive(Clone, Copy)]
 pub enum TimeUnit {
     /// `Second`
     Second,

@@ -7,7 +7,7 @@ use river_base::{Bytes, NoMemory};
 use std::alloc::Global;
 
 /// Why a file is no file of rows. Records and fields are counted from 1, and a header is a record.
-#[derive(Clone, Copy, Debug, PartialEq, Eq)]
+#[derive(Clone, Copy)]
 pub enum InFault {
     /// Record number `rec` has another number of fields.
     Width { rec: u32 },

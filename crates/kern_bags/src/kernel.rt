@@ -1,7 +1,7 @@
 // The kernels on bags of rows, as data.
 
 /// Which rows of a stream stand in the relation at an instant: the windows of CQL (Arasu, Babu, Widom, 2006).
-#[derive(Clone, Copy, Debug, PartialEq, Eq)]
+#[derive(Clone, Copy)]
 pub enum Window {
     /// The rows of the instant: `[Now]`.
     Now,
@@ -14,7 +14,7 @@ pub enum Window {
 }
 
 /// How a relation becomes a stream: the operators of CQL of the same names.
-#[derive(Clone, Copy, Debug, PartialEq, Eq)]
+#[derive(Clone, Copy)]
 pub enum Streamer {
     /// The rows that came since the instant before.
     Istream,
@@ -25,5 +25,5 @@ pub enum Streamer {
 }
 
 /// Joins each row of one relation with each row of another.
-#[derive(Clone, Copy, Debug, PartialEq, Eq)]
+#[derive(Clone, Copy)]
 pub struct Cross;

@@ -105,14 +105,14 @@ impl Filter {
 
 /// Passes items to its output ports in turn, as many to each as its weight says: StreamIt's
 /// round-robin splitter.
-#[derive(Clone, Copy, Debug, PartialEq, Eq)]
+#[derive(Clone, Copy)]
 pub struct Deal;
 
 /// Takes items from its input ports in turn, as many from each as its weight says: StreamIt's
 /// round-robin joiner.
-#[derive(Clone, Copy, Debug, PartialEq, Eq)]
+#[derive(Clone, Copy)]
 pub struct Collect;
 
 /// Takes packs from its input ports in turn and passes their items in order.
-#[derive(Clone, Copy, Debug, PartialEq, Eq)]
+#[derive(Clone, Copy)]
 pub struct Unpack;

@@ -43,7 +43,7 @@ pub fn next_turn(share: u64, ports: usize, port: usize, had: u64) -> (usize, u64
 }
 
 /// The port in turn, and how many items it had.
-#[derive(Debug, Drop)]
+#[derive(Drop)]
 struct Turn {
     port: u32,
     had: u64,

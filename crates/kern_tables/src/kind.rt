@@ -2,7 +2,7 @@
 
 /// What a table makes of the rows that are added to it: three of the aggregators of Sawzall (Pike and others, 2005).
 /// A row is the keys, then the value, and for `Maximum` then its weight. There are at most 8 keys.
-#[derive(Clone, Copy, Debug, PartialEq, Eq)]
+#[derive(Clone, Copy, PartialEq, Eq)]
 pub enum TableKind {
     /// For each key the sum of its values, modulo 2^64.
     Sum { keys: u32 },

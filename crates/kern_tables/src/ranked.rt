@@ -8,7 +8,7 @@ ghost use Rattle.kern_tables.specs.Ranks.{rank_eq, rank_equiv, rank_total, rank_
 use std::cmp::Ordering;
 
 /// A value and its weight. The greater weight comes first, and of equal weights the smaller value.
-#[derive(Clone, Copy, Debug)]
+#[derive(Clone, Copy)]
 pub struct Ranked {
     pub weight: i64,
     pub value: i64,

@@ -3,7 +3,7 @@
 use river_base::NoMemory;
 
 /// Why a program with parameters is refused, or nothing is made of it.
-#[derive(Clone, Copy, Debug, PartialEq, Eq)]
+#[derive(Clone, Copy)]
 pub enum Fault {
     /// `add` names no stream declared above, or a constant has a name that is not known there.
     UnknownName,

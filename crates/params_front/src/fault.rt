@@ -11,7 +11,7 @@ use text_forms::{Refusal, Told, numbered};
 
 /// Why a text is no program with parameters. The unit, from 1, is the one in whose reading the fault
 /// comes, or of which an instance was to be made.
-#[derive(Clone, Copy, Debug)]
+#[derive(Clone, Copy)]
 pub enum ParamFault {
     /// The text is not read.
     Text(Refusal),

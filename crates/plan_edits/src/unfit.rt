@@ -5,7 +5,7 @@ ghost use Rattle.plan_edits.specs.Words.{unfit_word};
 use river_base::NoMemory;
 
 /// The condition of a rewrite that fails first, or want of memory.
-#[derive(Clone, Copy, Debug, PartialEq, Eq)]
+#[derive(Clone, Copy)]
 pub enum Unfit {
     /// Fusion: no queue has the name.
     U1,

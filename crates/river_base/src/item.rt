@@ -7,7 +7,7 @@ use crate::{Listed, Row};
 pub type Rows = Listed<Row>;
 
 /// The rows of one instant.
-#[derive(Debug, PartialEq, Eq, Drop)]
+#[derive(PartialEq, Eq, Drop)]
 pub struct Batch {
     pub at: i64,
     pub rows: Rows,
@@ -15,7 +15,7 @@ pub struct Batch {
 
 /// What comes to a relation and what goes, at an instant. Between two contents there is one
 /// change whose parts ascend and have no row in common.
-#[derive(Debug, PartialEq, Eq, Drop)]
+#[derive(PartialEq, Eq, Drop)]
 pub struct Change {
     pub at: i64,
     pub plus: Rows,
@@ -32,7 +32,7 @@ impl Change {
 }
 
 /// An item that is no pack: a row, the rows of one instant, or the change of a relation.
-#[derive(Debug, PartialEq, Eq, Drop)]
+#[derive(PartialEq, Eq, Drop)]
 pub enum Flat {
     One(Row),
     Batch(Batch),
@@ -43,7 +43,7 @@ pub enum Flat {
 pub type Flats = Listed<Flat>;
 
 /// What a queue carries: a row, a batch, a change, or a pack of such.
-#[derive(Debug, PartialEq, Eq, Drop)]
+#[derive(PartialEq, Eq, Drop)]
 pub enum Item {
     Flat(Flat),
     Pack(Flats),

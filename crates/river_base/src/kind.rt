@@ -2,7 +2,7 @@
 
 /// What a queue without packs carries: rows, batches in which each instant of a stream has its rows, or batches of which each is
 /// the whole content of a relation. The number is the width of the rows, 1 to 16 in a valid plan.
-#[derive(Clone, Copy, Debug, PartialEq, Eq)]
+#[derive(Clone, Copy, PartialEq, Eq)]
 pub enum FlatType {
     Rows(u32),
     Stream(u32),
@@ -10,7 +10,7 @@ pub enum FlatType {
 }
 
 /// What a queue carries: items of a type, or packs of them.
-#[derive(Clone, Copy, Debug, PartialEq, Eq)]
+#[derive(Clone, Copy, PartialEq, Eq)]
 pub enum QueueType {
     Flat(FlatType),
     Pack(FlatType),

@@ -12,7 +12,7 @@ ghost use Rattle.river_base.specs.Instants.{each_once};
 use crate::{NoMemory, Row};
 use std::alloc::Global;
 use std::marker::Model;
-use std::{fmt, slice};
+use std::slice;
 
 /// A list, which contracts see as the list of its elements.
 #[derive(Drop)]
@@ -251,10 +251,4 @@ impl<T: PartialEq> PartialEq for Listed<T> {
 
 impl<T: Eq> Eq for Listed<T> {
     ghost laws = { lists_equiv T.Eq.laws };
-}
-
-impl<T: fmt::Debug> fmt::Debug for Listed<T> {
-    fn fmt<W: fmt::Write>(&self, f: &mut fmt::Formatter<W>) -> fmt::Result {
-        f.debug_list().entries(self.items.as_slice()).finish()
-    }
 }

@@ -16,7 +16,7 @@ use std::marker::Model;
 pub const MAX_NAME: usize = 64;
 
 /// A name: a letter or `_`, then letters, digits, `_` and `@`, in all 1 to 64 bytes. Contracts see it as the list of its bytes.
-#[derive(Clone, Copy, Debug)]
+#[derive(Clone, Copy)]
 pub struct Name {
     len: usize,
     bytes: [u8; 64],

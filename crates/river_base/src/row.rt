@@ -12,7 +12,7 @@ use std::marker::Model;
 pub const MAX_ROW: usize = 16;
 
 /// A row of 1 to 16 values, which contracts see as the list of its values.
-#[derive(Clone, Copy, Debug)]
+#[derive(Clone, Copy)]
 pub struct Row {
     width: usize,
     values: [i64; 16],

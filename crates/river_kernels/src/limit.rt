@@ -14,7 +14,7 @@ use river_base::Numbers;
 use work_code::{Code, Stmt, Stmts};
 
 /// What is limited in a plan.
-#[derive(Clone, Copy, Debug, PartialEq, Eq)]
+#[derive(Clone, Copy)]
 pub enum Limit {
     /// The inputs of the plan: 8.
     Inputs,

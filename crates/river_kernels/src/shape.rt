@@ -7,7 +7,7 @@ use crate::Kernel;
 use river_base::NoMemory;
 
 /// How many input ports, output ports, tables and private variables a kernel has.
-#[derive(Clone, Copy, Debug)]
+#[derive(Clone, Copy)]
 pub struct Shape {
     pub ins: usize,
     pub outs: usize,

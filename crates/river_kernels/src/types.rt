@@ -12,7 +12,7 @@ use river_base::{FlatType, Listed, NoMemory, Numbers, QueueType};
 use std::alloc::Global;
 
 /// What a variable of an operator is: private to it, or a table of rows of a width.
-#[derive(Clone, Copy, Debug, PartialEq, Eq)]
+#[derive(Clone, Copy, PartialEq, Eq)]
 pub enum VarKind {
     Private,
     Table(u64),

@@ -15,7 +15,7 @@ use slow_mean::mean_cql;
 use std::alloc::Global;
 
 /// CQL.
-#[derive(Clone, Copy, Debug)]
+#[derive(Clone, Copy)]
 pub struct Cql;
 
 impl Language for Cql {

@@ -15,7 +15,7 @@ use std::alloc::Global;
 use streamit_front::StreamitProgram;
 
 /// StreamIt with parameters. Its program is the plain one that is made of it.
-#[derive(Clone, Copy, Debug)]
+#[derive(Clone, Copy)]
 pub struct Params;
 
 impl Language for Params {

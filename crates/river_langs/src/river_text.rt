@@ -10,7 +10,7 @@ use river_text::{RiverFault, RiverPlan, compile_river};
 use std::alloc::Global;
 
 /// River text, which is a plan; it alone gives capacities to queues.
-#[derive(Clone, Copy, Debug)]
+#[derive(Clone, Copy)]
 pub struct RiverText;
 
 impl Language for RiverText {

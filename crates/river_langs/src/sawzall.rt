@@ -14,7 +14,7 @@ use slow_mean::mean_sawzall;
 use std::alloc::Global;
 
 /// Sawzall. A record may have further fields, which are not looked at.
-#[derive(Clone, Copy, Debug)]
+#[derive(Clone, Copy)]
 pub struct Sawzall;
 
 impl Language for Sawzall {

@@ -14,7 +14,7 @@ use std::alloc::Global;
 use streamit_front::{StreamitFault, StreamitProgram, compile_streamit};
 
 /// StreamIt.
-#[derive(Clone, Copy, Debug)]
+#[derive(Clone, Copy)]
 pub struct Streamit;
 
 impl Language for Streamit {

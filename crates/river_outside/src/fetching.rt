@@ -10,7 +10,7 @@ use river_base::{Bytes, NoMemory};
 use std::alloc::Global;
 
 /// Why a fetch gave nothing.
-#[derive(Clone, Copy, Debug, PartialEq, Eq)]
+#[derive(Clone, Copy)]
 pub enum FetchFault {
     /// The shelf failed.
     Failed,

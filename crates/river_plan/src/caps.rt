@@ -7,7 +7,7 @@ use river_base::{Duplicate, Listed, Name, NoMemory};
 use std::alloc::Global;
 
 /// A queue holds at most so many items.
-#[derive(Clone, Copy, Debug)]
+#[derive(Clone, Copy)]
 pub struct Cap {
     /// The queue's name.
     pub queue: Name,

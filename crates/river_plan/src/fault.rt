@@ -4,7 +4,7 @@ use river_base::{Name, NoMemory};
 use river_kernels::Limit;
 
 /// A name at fault, with what it is the name of.
-#[derive(Clone, Copy, Debug)]
+#[derive(Clone, Copy)]
 pub enum Named {
     Queue(Name),
     Variable(Name),
@@ -12,7 +12,7 @@ pub enum Named {
 }
 
 /// Why lists are no valid plan.
-#[derive(Clone, Copy, Debug)]
+#[derive(Clone, Copy)]
 pub enum PlanFault {
     /// Two queues, two variables or two labels have this name.
     P1(Named),

@@ -8,7 +8,7 @@ use river_base::{Duplicate, Listed, Name, NoMemory, QueueType};
 use std::alloc::Global;
 
 /// The declaration of a queue.
-#[derive(Clone, Copy, Debug)]
+#[derive(Clone, Copy)]
 pub struct Decl {
     /// The queue's name.
     pub name: Name,
@@ -20,7 +20,7 @@ pub struct Decl {
 pub type Decls = Listed<Decl>;
 
 /// The declaration of a table.
-#[derive(Clone, Copy, Debug)]
+#[derive(Clone, Copy)]
 pub struct TableDecl {
     /// The table's name, without its `$`.
     pub name: Name,

@@ -14,7 +14,7 @@ use text_forms::{Refusal, Told, numbered};
 use work_code::LexFault;
 
 /// Why a script makes no plan.
-#[derive(Clone, Copy, Debug, PartialEq, Eq)]
+#[derive(Clone, Copy)]
 pub enum ScriptFault {
     /// The text is not read; where a unit is no step, it is told by its number, from 1.
     Text(Refusal),

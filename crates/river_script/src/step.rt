@@ -11,7 +11,7 @@ use text_forms::{Fault, Reader};
 use work_code::{Lexeme, Symbol};
 
 /// A step of a script.
-#[derive(Clone, Copy, Debug)]
+#[derive(Clone, Copy)]
 pub enum Step {
     /// The writer and the reader of this queue become one operator.
     Fuse(Name),

@@ -7,7 +7,7 @@ use river_base::NoMemory;
 use work_code::LexFault;
 
 /// Why a text stands for no plan.
-#[derive(Clone, Copy, Debug, PartialEq, Eq)]
+#[derive(Clone, Copy)]
 pub enum TextFault {
     /// The bytes have a fault.
     Lex(LexFault),

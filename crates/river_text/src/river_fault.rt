@@ -12,7 +12,7 @@ use text_forms::{Refusal, Told};
 use work_code::LexFault;
 
 /// Why a River text has no plan.
-#[derive(Clone, Copy, Debug)]
+#[derive(Clone, Copy)]
 pub enum RiverFault {
     /// The text is not read.
     Text(Refusal),

@@ -15,7 +15,7 @@ use river_kernels::Kernel;
 use river_plan::{Names, Op, RawPlan, TableDecls};
 
 /// What may be done with an operator.
-#[derive(Clone, Copy, Debug)]
+#[derive(Clone, Copy)]
 pub(crate) enum Form {
     /// Its replicas pack what they give, of this type.
     Packs(FlatType),

@@ -13,7 +13,7 @@ use text_forms::{Fault, Reader};
 use work_code::{BinOp, Token};
 
 /// What stands before an expression.
-#[derive(Clone, Copy, Debug, PartialEq, Eq)]
+#[derive(Clone, Copy)]
 pub enum Sign {
     /// `-`
     Neg,

@@ -62,7 +62,7 @@ pub enum Statement {
 }
 
 /// How a loop's variable is held against its upper bound.
-#[derive(Clone, Copy, Debug, PartialEq, Eq)]
+#[derive(Clone, Copy)]
 pub enum Until {
     /// `<`: the upper bound is no turn.
     Below,

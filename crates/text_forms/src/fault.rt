@@ -4,7 +4,7 @@ use river_base::NoMemory;
 use std::alloc::{AllocError, AllocFailed};
 
 /// Why a reader stops.
-#[derive(Clone, Copy, Debug, PartialEq, Eq)]
+#[derive(Clone, Copy)]
 pub enum Fault {
     /// The tokens are not in the grammar.
     Syntax,

@@ -1,7 +1,7 @@
 // Forms of levels.
 
 /// How the expressions of a level are made of those of the level below, which binds tighter.
-#[derive(Clone, Copy, Debug, PartialEq, Eq)]
+#[derive(Clone, Copy)]
 pub enum Form {
     /// With operators between them, as many as come; the tree groups to the left.
     Chain,

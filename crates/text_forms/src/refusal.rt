@@ -6,7 +6,7 @@ use river_base::{Bytes, NoMemory};
 use std::alloc::Global;
 
 /// Why a text is not read: what all fronts tell alike, and each extends by faults of its own.
-#[derive(Clone, Copy, Debug, PartialEq, Eq)]
+#[derive(Clone, Copy)]
 pub enum Refusal {
     /// At this byte, from 0, no token, separator or comment begins.
     BadByte { at: u32 },

@@ -12,7 +12,7 @@ use std::slice;
 
 /// An operation on two values. Sums, differences and products wrap at 64 bits, `Quot` truncates towards zero, a
 /// division by 0 gives 0, a test gives 1 or 0, and `And` and `Or` take every value but 0 as true.
-#[derive(Clone, Copy, Debug, PartialEq, Eq)]
+#[derive(Clone, Copy)]
 pub enum BinOp {
     Add,
     Sub,

@@ -6,7 +6,7 @@ use river_base as base;
 use std::alloc::{AllocError, AllocFailed};
 
 /// Why a text has no tokens.
-#[derive(Clone, Copy, Debug, PartialEq, Eq)]
+#[derive(Clone, Copy)]
 pub enum LexFault {
     /// At this byte no token, separator or comment begins; an open `/*` counts at its first byte.
     BadByte { at: u32 },

@@ -3,7 +3,7 @@ ghost use Rattle.std.specs.Prelude.{◌≡◌};
 ghost use Rattle.work_code.specs.Symbols.{short_symbol, long_symbol};
 
 /// A symbol. `Or` is `||`, `Different` is `<>` and `NotEqual` is `!=`.
-#[derive(Clone, Copy, Debug, PartialEq, Eq)]
+#[derive(Clone, Copy, PartialEq, Eq)]
 pub enum Symbol {
     Plus,
     Minus,
