@@ -88,12 +88,6 @@ Exchanges f p q x y ss = Alike (and_then (f p x ss) (f q y (f p x ss).states)) (
 -- two items at two ports of a joiner change places
 pub join_swap : (give : item.Item → List item.Item) (ws : List ℕ) (n p q : ℕ) (x y : item.Item) (ss : List Kept) → p < n → q < n → p ≢ q
     → IsOne (IsJoining ws) ss → Exchanges (join_one give ws) p q x y ss
-join_swap give ws n p q x y [] hp hq ne h = absurd h
-join_swap give ws n p q x y (Slots zs ∷ []) hp hq ne h = absurd h
-join_swap give ws n p q x y (Buffered s ∷ []) hp hq ne h = absurd h
-join_swap give ws n p q x y (Turn port had ∷ []) hp hq ne h = absurd h
-join_swap give ws n p q x y (Received xs ∷ []) hp hq ne h = absurd h
-join_swap give ws n p q x y (Crossing s ∷ []) hp hq ne h = absurd h
 join_swap give ws n p q x y (s ∷ t ∷ ts) hp hq ne h = absurd h
 join_swap give ws n p q x y (Joining s ∷ []) hp hq ne h =
     let e = two_puts n Turns (front_of give) (passed ws) put (λ t. waiting t.lists) (join_keeps give ws n) s p q x y hp hq ne in
@@ -106,6 +100,7 @@ join_swap give ws n p q x y (Joining s ∷ []) hp hq ne h =
       adds = λ t test. refl;
       states = ap (λ t. Joining t ∷ []) e.1;
     }
+join_swap give ws n p q x y ss hp hq ne h = absurd h
 
 -- PRODUCTS
 
@@ -169,12 +164,6 @@ pair_keeps = record {
 
 -- two items at the two ports of a product change places
 pub cross_swap : (p q : ℕ) (x y : item.Item) (ss : List Kept) → p < 2 → q < 2 → p ≢ q → IsOne IsCrossing ss → Exchanges cross_one p q x y ss
-cross_swap p q x y [] hp hq ne h = absurd h
-cross_swap p q x y (Slots zs ∷ []) hp hq ne h = absurd h
-cross_swap p q x y (Buffered s ∷ []) hp hq ne h = absurd h
-cross_swap p q x y (Turn port had ∷ []) hp hq ne h = absurd h
-cross_swap p q x y (Joining s ∷ []) hp hq ne h = absurd h
-cross_swap p q x y (Received xs ∷ []) hp hq ne h = absurd h
 cross_swap p q x y (s ∷ t ∷ ts) hp hq ne h = absurd h
 cross_swap p q x y (Crossing s ∷ []) hp hq ne h =
     let e = two_puts 2 Pairing front_of_pair rest_of_pair put_pair (λ t. length t.left + length t.right) pair_keeps s p q x y hp hq ne in
@@ -187,3 +176,4 @@ cross_swap p q x y (Crossing s ∷ []) hp hq ne h =
       adds = λ t test. refl;
       states = ap (λ t. Crossing t ∷ []) e.1;
     }
+cross_swap p q x y ss hp hq ne h = absurd h

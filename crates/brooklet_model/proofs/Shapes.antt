@@ -110,14 +110,9 @@ put_joined ws p x s j = record { turn = j.turn; lists = length-append_at s.lists
 code_shape : (k : CodeForm) (x : item.Item) (zs : List ℤ) (ss : List Kept) → HasSlots zs ss → HasSlots zs (code_one k x ss).states
 code_shape k x [] [] h = tt
 code_shape k x [] (s ∷ ss) h = absurd h
-code_shape k x (z ∷ zs) [] h = absurd h
-code_shape k x (z ∷ zs) (Slots kept ∷ []) h = run_kept_length k.body kept (values_of x) ∙ h
-code_shape k x (z ∷ zs) (Buffered s ∷ []) h = absurd h
-code_shape k x (z ∷ zs) (Turn p q ∷ []) h = absurd h
-code_shape k x (z ∷ zs) (Joining s ∷ []) h = absurd h
-code_shape k x (z ∷ zs) (Received xs ∷ []) h = absurd h
-code_shape k x (z ∷ zs) (Crossing s ∷ []) h = absurd h
 code_shape k x (z ∷ zs) (s ∷ t ∷ ts) h = absurd h
+code_shape k x (z ∷ zs) (Slots kept ∷ []) h = run_kept_length k.body kept (values_of x) ∙ h
+code_shape k x (z ∷ zs) ss h = absurd h
 
 either_kept : (b : Bool) (x y : Filtered) (n : ℕ) → length x.after.kept ≡ n → length y.after.kept ≡ n → length (if b then x else y).after.kept ≡ n
 either_kept true x y n h g = h
@@ -131,57 +126,32 @@ turns_length f (suc n) s =
     refl
 
 filter_shape : (f : FilterForm) (n : ℕ) (x : item.Item) (ss : List Kept) → IsOne (IsFiltering n) ss → IsOne (IsFiltering n) (filter_firing f x ss).states
-filter_shape f n x [] h = absurd h
-filter_shape f n x (Slots zs ∷ []) h = absurd h
-filter_shape f n x (Buffered s ∷ []) h = turns_length f (suc (length (received (value_of x) s).seen)) (received (value_of x) s) ∙ h
-filter_shape f n x (Turn p q ∷ []) h = absurd h
-filter_shape f n x (Joining s ∷ []) h = absurd h
-filter_shape f n x (Received xs ∷ []) h = absurd h
-filter_shape f n x (Crossing s ∷ []) h = absurd h
 filter_shape f n x (s ∷ t ∷ ts) h = absurd h
+filter_shape f n x (Buffered s ∷ []) h = turns_length f (suc (length (received (value_of x) s).seen)) (received (value_of x) s) ∙ h
+filter_shape f n x ss h = absurd h
 
 deal_shape : (ws : List ℤ) (p : ℕ) (x : item.Item) (ss : List Kept) → HaveShares (shares ws) → HasShape (deal ws) ss
     → HasShape (deal ws) (fire (deal ws) p x ss).states
-deal_shape ws p x [] f h = absurd h
-deal_shape ws p x (Slots zs ∷ []) f h = absurd h
-deal_shape ws p x (Buffered s ∷ []) f h = absurd h
-deal_shape ws p x (Turn port had ∷ []) f h = next_turn (shares ws) port had f h
-deal_shape ws p x (Joining s ∷ []) f h = absurd h
-deal_shape ws p x (Received xs ∷ []) f h = absurd h
-deal_shape ws p x (Crossing s ∷ []) f h = absurd h
 deal_shape ws p x (s ∷ t ∷ ts) f h = absurd h
+deal_shape ws p x (Turn port had ∷ []) f h = next_turn (shares ws) port had f h
+deal_shape ws p x ss f h = absurd h
 
 join_shape : (give : item.Item → List item.Item) (ws : List ℕ) (p : ℕ) (x : item.Item) (ss : List Kept) → HaveShares ws → IsOne (IsJoining ws) ss
     → IsOne (IsJoining ws) (join_one give ws p x ss).states
-join_shape give ws p x [] f h = absurd h
-join_shape give ws p x (Slots zs ∷ []) f h = absurd h
-join_shape give ws p x (Buffered s ∷ []) f h = absurd h
-join_shape give ws p x (Turn port had ∷ []) f h = absurd h
-join_shape give ws p x (Joining s ∷ []) f h = drain_joined give ws (waiting (put p x s).lists) (put p x s) f (put_joined ws p x s h)
-join_shape give ws p x (Received xs ∷ []) f h = absurd h
-join_shape give ws p x (Crossing s ∷ []) f h = absurd h
 join_shape give ws p x (s ∷ t ∷ ts) f h = absurd h
+join_shape give ws p x (Joining s ∷ []) f h = drain_joined give ws (waiting (put p x s).lists) (put p x s) f (put_joined ws p x s h)
+join_shape give ws p x ss f h = absurd h
 
 received_shape : (one : List item.Item → item.Item → List item.Item) (x : item.Item) (ss : List Kept) → IsOne IsReceived ss
     → IsOne IsReceived (received_one one x ss).states
-received_shape one x [] h = absurd h
-received_shape one x (Slots zs ∷ []) h = absurd h
-received_shape one x (Buffered s ∷ []) h = absurd h
-received_shape one x (Turn port had ∷ []) h = absurd h
-received_shape one x (Joining s ∷ []) h = absurd h
-received_shape one x (Received xs ∷ []) h = tt
-received_shape one x (Crossing s ∷ []) h = absurd h
 received_shape one x (s ∷ t ∷ ts) h = absurd h
+received_shape one x (Received xs ∷ []) h = tt
+received_shape one x ss h = absurd h
 
 cross_shape : (p : ℕ) (x : item.Item) (ss : List Kept) → IsOne IsCrossing ss → IsOne IsCrossing (cross_one p x ss).states
-cross_shape p x [] h = absurd h
-cross_shape p x (Slots zs ∷ []) h = absurd h
-cross_shape p x (Buffered s ∷ []) h = absurd h
-cross_shape p x (Turn port had ∷ []) h = absurd h
-cross_shape p x (Joining s ∷ []) h = absurd h
-cross_shape p x (Received xs ∷ []) h = absurd h
-cross_shape p x (Crossing s ∷ []) h = tt
 cross_shape p x (s ∷ t ∷ ts) h = absurd h
+cross_shape p x (Crossing s ∷ []) h = tt
+cross_shape p x ss h = absurd h
 
 -- a firing keeps the shape
 pub fire_shape : (k : Kern) (p : ℕ) (x : item.Item) (ss : List Kept) → IsShaped k → HasShape k ss → HasShape k (fire k p x ss).states

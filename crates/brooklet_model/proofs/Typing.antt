@@ -139,11 +139,7 @@ code_of : (k : CodeForm) (x : item.Item) (ss : List Kept) → is_steps k.body.in
     → AreOf (ports k.outs) (code_one k x ss).outs
 code_of k x [] f h = kept_of k.body k.body.inputs k.outs [] (values_of x) f
 code_of k x (Slots kept ∷ ss) f h = kept_of k.body k.body.inputs k.outs kept (values_of x) f
-code_of k x (Buffered s ∷ ss) f h = only_of (IsOf (ports k.outs)) 0 [] (All-nil (IsOf (ports k.outs) 0))
-code_of k x (Turn p q ∷ ss) f h = only_of (IsOf (ports k.outs)) 0 [] (All-nil (IsOf (ports k.outs) 0))
-code_of k x (Joining s ∷ ss) f h = only_of (IsOf (ports k.outs)) 0 [] (All-nil (IsOf (ports k.outs) 0))
-code_of k x (Received xs ∷ ss) f h = only_of (IsOf (ports k.outs)) 0 [] (All-nil (IsOf (ports k.outs) 0))
-code_of k x (Crossing s ∷ ss) f h = only_of (IsOf (ports k.outs)) 0 [] (All-nil (IsOf (ports k.outs) 0))
+code_of k x ss f h = only_of (IsOf (ports k.outs)) 0 [] (All-nil (IsOf (ports k.outs) 0))
 
 nothing_of : (types : List QueueType) → AreOf types (only 0 [])
 nothing_of types = only_of (IsOf types) 0 [] (All-nil (IsOf types 0))
@@ -199,27 +195,17 @@ turn_of f v s well = pushes_of (pos 1 ∷ []) (filter_one f v s).pushes (turns_w
 
 filter_of : (f : FilterForm) (x : item.Item) (ss : List Kept) → RunsWell f
     → AreOf (rows 1 ∷ []) (filter_firing f x ss).outs
-filter_of f x [] h = nothing_of (rows 1 ∷ [])
-filter_of f x (Slots zs ∷ ss) h = nothing_of (rows 1 ∷ [])
 filter_of f x (Buffered s ∷ ss) h = turn_of f (value_of x) s h
-filter_of f x (Turn p q ∷ ss) h = nothing_of (rows 1 ∷ [])
-filter_of f x (Joining s ∷ ss) h = nothing_of (rows 1 ∷ [])
-filter_of f x (Received xs ∷ ss) h = nothing_of (rows 1 ∷ [])
-filter_of f x (Crossing s ∷ ss) h = nothing_of (rows 1 ∷ [])
+filter_of f x ss h = nothing_of (rows 1 ∷ [])
 
 -- SPLITTERS AND JOINERS
 
 deal_of : (ws : List ℕ) (t : QueueType) (x : item.Item) (ss : List Kept) → HasType t x → IsOne (IsDealing ws) ss
     → AreOf (replicate (length ws) t) (deal_one ws x ss).outs
-deal_of ws t x [] i h = absurd h
-deal_of ws t x (Slots zs ∷ []) i h = absurd h
-deal_of ws t x (Buffered s ∷ []) i h = absurd h
+deal_of ws t x (s ∷ u ∷ us) i h = absurd h
 deal_of ws t x (Turn port had ∷ []) i h =
     only_of (IsOf (replicate (length ws) t)) port (x ∷ []) (one_item (IsOf (replicate (length ws) t) port) x (to_many (length ws) t port x h.0 i))
-deal_of ws t x (Joining s ∷ []) i h = absurd h
-deal_of ws t x (Received xs ∷ []) i h = absurd h
-deal_of ws t x (Crossing s ∷ []) i h = absurd h
-deal_of ws t x (s ∷ u ∷ us) i h = absurd h
+deal_of ws t x ss i h = absurd h
 
 -- at each place what this says
 abbrev EachPlace : (ℕ → item.Item → Type 0) → List (List item.Item) → Type 0
@@ -270,16 +256,11 @@ drain_all P Q give ws f (suc n) s h = go (front_of give s) refl (drain_all P Q g
 join_of : (give : item.Item → List item.Item) (ws : List ℕ) (is os : List QueueType) (t : QueueType) (p : ℕ) (x : item.Item) (ss : List Kept)
     → ((q : ℕ) (y : item.Item) → IsOf is q y → All (HasType t) (give y)) → os ≡ t ∷ [] → IsOf is p x → IsOne (IsJoining ws) ss → AreWaiting is ss
     → AreOf os (join_one give ws p x ss).outs × AreWaiting is (join_one give ws p x ss).states
-join_of give ws is os t p x [] f e i h a = absurd h
-join_of give ws is os t p x (Slots zs ∷ []) f e i h a = absurd h
-join_of give ws is os t p x (Buffered s ∷ []) f e i h a = absurd h
-join_of give ws is os t p x (Turn port had ∷ []) f e i h a = absurd h
+join_of give ws is os t p x (s ∷ u ∷ us) f e i h a = absurd h
 join_of give ws is os t p x (Joining s ∷ []) f e i h a =
     let d = drain_all (IsOf is) (HasType t) give ws f (waiting (put p x s).lists) (put p x s) (put_each (IsOf is) s.lists p x a i) in
     (one_of t os (drain (front_of give) (passed ws) (waiting (put p x s).lists) (put p x s)).0 e d.0, d.1)
-join_of give ws is os t p x (Received xs ∷ []) f e i h a = absurd h
-join_of give ws is os t p x (Crossing s ∷ []) f e i h a = absurd h
-join_of give ws is os t p x (s ∷ u ∷ us) f e i h a = absurd h
+join_of give ws is os t p x ss f e i h a = absurd h
 
 -- PACKS
 
@@ -315,17 +296,12 @@ received_of : (i o : QueueType) (one : List item.Item → item.Item → List ite
     → is ≡ i ∷ [] → os ≡ o ∷ []
     → ((past : List item.Item) (y : item.Item) → All (HasType i) past → HasType i y → All (HasType o) (one past y))
     → IsOne IsReceived ss → AreReceived is ss → IsOf is p x → AreOf os (received_one one x ss).outs × AreReceived is (received_one one x ss).states
-received_of i o one is os p x [] e g f h t k = absurd h
-received_of i o one is os p x (Slots zs ∷ []) e g f h t k = absurd h
-received_of i o one is os p x (Buffered s ∷ []) e g f h t k = absurd h
-received_of i o one is os p x (Turn port had ∷ []) e g f h t k = absurd h
-received_of i o one is os p x (Joining s ∷ []) e g f h t k = absurd h
+received_of i o one is os p x (s ∷ u ∷ us) e g f h t k = absurd h
 received_of i o one is os p x (Received past ∷ []) e g f h t k =
     let typed : HasType i x = of_one i is p x e k in
     let all : All (HasType i) past = subst (λ (l : List QueueType). All (IsOf l 0) past) e t in
     (one_of o os (one past x) g (f past x all typed), subst (λ (l : List QueueType). All (IsOf l 0) (past ++ x ∷ [])) (sym e) (All-append (HasType i) past (x ∷ []) all (one_item (HasType i) x typed)))
-received_of i o one is os p x (Crossing s ∷ []) e g f h t k = absurd h
-received_of i o one is os p x (s ∷ u ∷ us) e g f h t k = absurd h
+received_of i o one is os p x ss e g f h t k = absurd h
 
 pair_of : (a b p : ℕ) (x : item.Item) (s : Pairing) → PairTyped a b s → IsOf (relation a ∷ relation b ∷ []) p x
     → All (HasType (relation (a + b))) (crosses p x s).0 × PairTyped a b (crosses p x s).1
@@ -335,16 +311,11 @@ pair_of a b (suc (suc p)) x s t k = absurd k
 
 cross_of : (a b : ℕ) (is os : List QueueType) (p : ℕ) (x : item.Item) (ss : List Kept) → is ≡ relation a ∷ relation b ∷ [] → os ≡ relation (a + b) ∷ []
     → IsOne IsCrossing ss → WaitAsTyped is ss → IsOf is p x → AreOf os (cross_one p x ss).outs × WaitAsTyped is (cross_one p x ss).states
-cross_of a b is os p x [] e g h t k = absurd h
-cross_of a b is os p x (Slots zs ∷ []) e g h t k = absurd h
-cross_of a b is os p x (Buffered s ∷ []) e g h t k = absurd h
-cross_of a b is os p x (Turn port had ∷ []) e g h t k = absurd h
-cross_of a b is os p x (Joining s ∷ []) e g h t k = absurd h
-cross_of a b is os p x (Received xs ∷ []) e g h t k = absurd h
+cross_of a b is os p x (s ∷ u ∷ us) e g h t k = absurd h
 cross_of a b is os p x (Crossing s ∷ []) e g h t k =
     let d = pair_of a b p x s (subst (λ (l : List QueueType). All (IsOf l 0) s.left × All (IsOf l 1) s.right) e t) (subst (λ (l : List QueueType). IsOf l p x) e k) in
     (one_of (relation (a + b)) os (crosses p x s).0 g d.0, subst (λ (l : List QueueType). All (IsOf l 0) (crosses p x s).1.left × All (IsOf l 1) (crosses p x s).1.right) (sym e) d.1)
-cross_of a b is os p x (s ∷ u ∷ us) e g h t k = absurd h
+cross_of a b is os p x ss e g h t k = absurd h
 
 -- a firing of a kernel on an item of its port's type gives items of its ports' types, and so are those that its states keep
 pub fire_typed : (k : Kern) (is os : List QueueType) (vs : List VarKind) (p : ℕ) (x : item.Item) (ss : List Kept) → Fits k is os vs → HasShape k ss

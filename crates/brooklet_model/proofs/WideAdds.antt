@@ -15,7 +15,7 @@ use Rattle.river_kernels.specs.declared.types.VarKind.{VarKind}
 use Rattle.river_kernels.specs.declared.types.VarKind.TheVariants.{Private, Table}
 use Rattle.river_kernels.specs.Fits.{Fits, rows}
 use Rattle.river_kernels.specs.Types.{types_of}
-use Rattle.river_kernels.specs.Kern.{Kern, code, filter, duplicate, deal, collect, packed, unpack, window, select, project, cross, streamer, tally, fused}
+use Rattle.river_kernels.specs.Kern.{Kern, code, filter, deal, collect, unpack, window, cross, streamer, tally, fused}
 use Rattle.brooklet_model.specs.Firings.{Kept, Slots, Buffered, Turn, Joining, Received, Crossing, Fired, feed, beside}
 use Rattle.brooklet_model.specs.Fire.{fire, tabs, privates, values_of, code_one, filter_firing, deal_one, join_one, received_one, cross_one}
 use Rattle.brooklet_model.specs.Shapes.{HasShape, IsShaped}
@@ -41,58 +41,28 @@ nothing_wide ns f e j = subst (All (IsWide (slice_get ns j))) (sym (e j)) (All-n
 -- KERNELS WITHOUT TABLES
 
 code_none : (k : CodeForm) (x : item.Item) (ss : List Kept) (j : ℕ) → (code_one k x ss).adds j ≡ []
-code_none k x [] j = refl
 code_none k x (Slots zs ∷ ss) j = refl
-code_none k x (Buffered s ∷ ss) j = refl
-code_none k x (Turn p q ∷ ss) j = refl
-code_none k x (Joining s ∷ ss) j = refl
-code_none k x (Received xs ∷ ss) j = refl
-code_none k x (Crossing s ∷ ss) j = refl
+code_none k x ss j = refl
 
 filter_none : (f : FilterForm) (x : item.Item) (ss : List Kept) (j : ℕ) → (filter_firing f x ss).adds j ≡ []
-filter_none f x [] j = refl
-filter_none f x (Slots zs ∷ ss) j = refl
 filter_none f x (Buffered s ∷ ss) j = refl
-filter_none f x (Turn p q ∷ ss) j = refl
-filter_none f x (Joining s ∷ ss) j = refl
-filter_none f x (Received xs ∷ ss) j = refl
-filter_none f x (Crossing s ∷ ss) j = refl
+filter_none f x ss j = refl
 
 deal_none : (ws : List ℕ) (x : item.Item) (ss : List Kept) (j : ℕ) → (deal_one ws x ss).adds j ≡ []
-deal_none ws x [] j = refl
-deal_none ws x (Slots zs ∷ ss) j = refl
-deal_none ws x (Buffered s ∷ ss) j = refl
 deal_none ws x (Turn p q ∷ ss) j = refl
-deal_none ws x (Joining s ∷ ss) j = refl
-deal_none ws x (Received xs ∷ ss) j = refl
-deal_none ws x (Crossing s ∷ ss) j = refl
+deal_none ws x ss j = refl
 
 join_none : (give : item.Item → List item.Item) (ws : List ℕ) (p : ℕ) (x : item.Item) (ss : List Kept) (j : ℕ) → (join_one give ws p x ss).adds j ≡ []
-join_none give ws p x [] j = refl
-join_none give ws p x (Slots zs ∷ ss) j = refl
-join_none give ws p x (Buffered s ∷ ss) j = refl
-join_none give ws p x (Turn a b ∷ ss) j = refl
 join_none give ws p x (Joining s ∷ ss) j = refl
-join_none give ws p x (Received xs ∷ ss) j = refl
-join_none give ws p x (Crossing s ∷ ss) j = refl
+join_none give ws p x ss j = refl
 
 received_none : (one : List item.Item → item.Item → List item.Item) (x : item.Item) (ss : List Kept) (j : ℕ) → (received_one one x ss).adds j ≡ []
-received_none one x [] j = refl
-received_none one x (Slots zs ∷ ss) j = refl
-received_none one x (Buffered s ∷ ss) j = refl
-received_none one x (Turn a b ∷ ss) j = refl
-received_none one x (Joining s ∷ ss) j = refl
 received_none one x (Received xs ∷ ss) j = refl
-received_none one x (Crossing s ∷ ss) j = refl
+received_none one x ss j = refl
 
 cross_none : (p : ℕ) (x : item.Item) (ss : List Kept) (j : ℕ) → (cross_one p x ss).adds j ≡ []
-cross_none p x [] j = refl
-cross_none p x (Slots zs ∷ ss) j = refl
-cross_none p x (Buffered s ∷ ss) j = refl
-cross_none p x (Turn a b ∷ ss) j = refl
-cross_none p x (Joining s ∷ ss) j = refl
-cross_none p x (Received xs ∷ ss) j = refl
 cross_none p x (Crossing s ∷ ss) j = refl
+cross_none p x ss j = refl
 
 -- TALLIES
 
@@ -146,14 +116,10 @@ pub fire_wide : (k : Kern) (is os : List QueueType) (vs : List VarKind) (p : ℕ
     → Holds k is ss → IsOf is p x → AreWide (widths_in vs) (fire k p x ss).adds
 fire_wide (code k) is os vs p x ss f h t i = nothing_wide (widths_in vs) _ (code_none k x ss)
 fire_wide (filter g) is os vs p x ss f h t i = nothing_wide (widths_in vs) _ (filter_none g x ss)
-fire_wide (duplicate n) is os vs p x ss f h t i = nothing_wide (widths_in vs) none (λ j. refl)
 fire_wide (deal ws) is os vs p x ss f h t i = nothing_wide (widths_in vs) _ (deal_none _ x ss)
 fire_wide (collect ws) is os vs p x ss f h t i = nothing_wide (widths_in vs) _ (join_none _ _ p x ss)
-fire_wide (packed k) is os vs p x ss f h t i = nothing_wide (widths_in vs) none (λ j. refl)
 fire_wide (unpack n) is os vs p x ss f h t i = nothing_wide (widths_in vs) _ (join_none _ _ p x ss)
 fire_wide (window w) is os vs p x ss f h t i = nothing_wide (widths_in vs) _ (received_none (window_one w) x ss)
-fire_wide (select e) is os vs p x ss f h t i = nothing_wide (widths_in vs) none (λ j. refl)
-fire_wide (project es) is os vs p x ss f h t i = nothing_wide (widths_in vs) none (λ j. refl)
 fire_wide cross is os vs p x ss f h t i = nothing_wide (widths_in vs) _ (cross_none p x ss)
 fire_wide (streamer s) is os vs p x ss f h t i = nothing_wide (widths_in vs) _ (received_none (streamer_one s) x ss)
 fire_wide tally is os vs p x ss f h t i =
@@ -180,3 +146,4 @@ fire_wide (fused a b at) is os vs p x ss f h t i =
     (λ y u iy hy. (fire_wide b (m ∷ []) bs ws 0 y u fb hy.0 hy.1 iy, (fire_shape b 0 y u there hy.0, (fire_typed b (m ∷ []) bs ws 0 y u fb hy.0 hy.1 iy).1)))
     (ra.outs at) sb items (h.1, subst (λ (l : List QueueType). Holds b l sb) mid t.1) in
     subst (λ (l : List VarKind). AreWide (widths_in l) (beside (tabs a) ra.adds rb.adds)) (sym f.9) (fused_wide a is ms us ws ra.adds rb.adds fa wa wb)
+fire_wide kernel is os vs p x ss f h t i = nothing_wide (widths_in vs) none (λ j. refl)

@@ -29,55 +29,31 @@ IsShaped kernel = Unit {0}
 -- so many slots
 abbrev pub AreSlots : ℕ → Kept → Type 0
 AreSlots n (Slots zs) = length zs ≡ n
-AreSlots n (Buffered s) = ⊥
-AreSlots n (Turn port had) = ⊥
-AreSlots n (Joining s) = ⊥
-AreSlots n (Received xs) = ⊥
-AreSlots n (Crossing s) = ⊥
+AreSlots n kept = ⊥
 
 -- the state of a filter with so many kept slots
 abbrev pub IsFiltering : ℕ → Kept → Type 0
-IsFiltering n (Slots zs) = ⊥
 IsFiltering n (Buffered s) = length s.kept ≡ n
-IsFiltering n (Turn port had) = ⊥
-IsFiltering n (Joining s) = ⊥
-IsFiltering n (Received xs) = ⊥
-IsFiltering n (Crossing s) = ⊥
+IsFiltering n kept = ⊥
 
 -- the turn of a splitter
 abbrev pub IsDealing : List ℕ → Kept → Type 0
-IsDealing ws (Slots zs) = ⊥
-IsDealing ws (Buffered s) = ⊥
 IsDealing ws (Turn port had) = IsTurn ws port had
-IsDealing ws (Joining s) = ⊥
-IsDealing ws (Received xs) = ⊥
-IsDealing ws (Crossing s) = ⊥
+IsDealing ws kept = ⊥
 
 abbrev pub IsJoining : List ℕ → Kept → Type 0
-IsJoining ws (Slots zs) = ⊥
-IsJoining ws (Buffered s) = ⊥
-IsJoining ws (Turn port had) = ⊥
 IsJoining ws (Joining s) = IsJoiner ws s
-IsJoining ws (Received xs) = ⊥
-IsJoining ws (Crossing s) = ⊥
+IsJoining ws kept = ⊥
 
 -- what a window or a streamer has received
 abbrev pub IsReceived : Kept → Type 0
-IsReceived (Slots zs) = ⊥
-IsReceived (Buffered s) = ⊥
-IsReceived (Turn port had) = ⊥
-IsReceived (Joining s) = ⊥
 IsReceived (Received xs) = Unit {0}
-IsReceived (Crossing s) = ⊥
+IsReceived kept = ⊥
 
 -- what waits at a product's ports
 abbrev pub IsCrossing : Kept → Type 0
-IsCrossing (Slots zs) = ⊥
-IsCrossing (Buffered s) = ⊥
-IsCrossing (Turn port had) = ⊥
-IsCrossing (Joining s) = ⊥
-IsCrossing (Received xs) = ⊥
 IsCrossing (Crossing s) = Unit {0}
+IsCrossing kept = ⊥
 
 -- there is no state, or just one and it is of this kind
 abbrev pub IsNone : List Kept → Type 0

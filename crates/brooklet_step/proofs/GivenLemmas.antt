@@ -189,31 +189,30 @@ past_keeps f w h =
 
 -- kernels that keep no items and no contents
 abbrev pub IsSimple : Kern → Type 0
-IsSimple (code k) = Unit {0}
-IsSimple (filter f) = Unit {0}
-IsSimple (duplicate n) = Unit {0}
-IsSimple (select e) = Unit {0}
-IsSimple (project es) = Unit {0}
-IsSimple tally = Unit {0}
-IsSimple kernel = ⊥
+IsSimple (deal ws) = ⊥
+IsSimple (collect ws) = ⊥
+IsSimple (packed k) = ⊥
+IsSimple (unpack n) = ⊥
+IsSimple (window w) = ⊥
+IsSimple cross = ⊥
+IsSimple (streamer s) = ⊥
+IsSimple (fused a b at) = ⊥
+IsSimple kernel = Unit {0}
 
 -- states that stand for some fit
 pub fit_of : (k : Kern) (is : List QueueType) (st : List State) (ks : List Kept) → StandsFor k st ks → FitState k is st
 fit_of (code k) is st ks h = fit_slots k.starts st ks h
 fit_of (filter f) is st ks h =
     record { now = h.now; code = h.code; count = h.count; few = h.stands.few; fresh = may_be_fresh f.first h.now.fresh h.seen.fired h.stands.keeps.fresh }
-fit_of (duplicate n) is st ks h = h.code
 fit_of (deal ws) is st ks h = absurd h
 fit_of (collect ws) is st ks h = absurd h
 fit_of (packed k) is st ks h = absurd h
 fit_of (unpack n) is st ks h = absurd h
 fit_of (window w) is st ks h = absurd h
-fit_of (select e) is st ks h = h.code
-fit_of (project es) is st ks h = h.code
 fit_of cross is st ks h = absurd h
 fit_of (streamer s) is st ks h = absurd h
-fit_of tally is st ks h = h.code
 fit_of (fused a b at) is st ks h = absurd h
+fit_of kernel is st ks h = h.code
 
 kept_slots : (zs : List ℤ) (st : List State) → FitSlots zs st → (ks : List Kept) × StandsForSlots zs st ks
 kept_slots [] st h = ([], record { code = h; defined = refl })
@@ -234,18 +233,15 @@ simple_kept (filter f) is st l h = (
   },
   tt,
 )
-simple_kept (duplicate n) is st l h = ([], record { code = h; defined = refl }, tt)
 simple_kept (deal ws) is st l h = absurd l
 simple_kept (collect ws) is st l h = absurd l
 simple_kept (packed k) is st l h = absurd l
 simple_kept (unpack n) is st l h = absurd l
 simple_kept (window w) is st l h = absurd l
-simple_kept (select e) is st l h = ([], record { code = h; defined = refl }, tt)
-simple_kept (project es) is st l h = ([], record { code = h; defined = refl }, tt)
 simple_kept cross is st l h = absurd l
 simple_kept (streamer s) is st l h = absurd l
-simple_kept tally is st l h = ([], record { code = h; defined = refl }, tt)
 simple_kept (fused a b at) is st l h = absurd l
+simple_kept kernel is st l h = ([], record { code = h; defined = refl }, tt)
 
 fit_slots_length : (zs : List ℤ) (st : List State) → FitSlots zs st → length st ≡ kept_vars zs
 fit_slots_length [] st h = ap length h
@@ -288,12 +284,6 @@ parts_after a b at is ss st st' w l h h' =
 -- states that stand after a word stand for the definition's
 pub simple_to : (k : Kern) (is : List QueueType) (ss : List Kept) (st : List State) (w : Word) → IsSimple k → StandsAfter k is ss st w
     → StandsFor k st (ran k ss w).states
-simple_to (code k) is ss st w l h = h
-simple_to (filter f) is ss st w l h = h
-simple_to (duplicate n) is ss st w l h = h
-simple_to (select e) is ss st w l h = h
-simple_to (project es) is ss st w l h = h
-simple_to tally is ss st w l h = h
 simple_to (deal ws) is ss st w l h = absurd l
 simple_to (collect ws) is ss st w l h = absurd l
 simple_to (packed k) is ss st w l h = absurd l
@@ -302,16 +292,11 @@ simple_to (window v) is ss st w l h = absurd l
 simple_to cross is ss st w l h = absurd l
 simple_to (streamer s) is ss st w l h = absurd l
 simple_to (fused a b at) is ss st w l h = absurd l
+simple_to kernel is ss st w l h = h
 
 -- and back
 pub simple_from : (k : Kern) (is : List QueueType) (ss : List Kept) (st : List State) (w : Word) → IsSimple k → StandsFor k st (ran k ss w).states
     → StandsAfter k is ss st w
-simple_from (code k) is ss st w l h = h
-simple_from (filter f) is ss st w l h = h
-simple_from (duplicate n) is ss st w l h = h
-simple_from (select e) is ss st w l h = h
-simple_from (project es) is ss st w l h = h
-simple_from tally is ss st w l h = h
 simple_from (deal ws) is ss st w l h = absurd l
 simple_from (collect ws) is ss st w l h = absurd l
 simple_from (packed k) is ss st w l h = absurd l
@@ -320,6 +305,7 @@ simple_from (window v) is ss st w l h = absurd l
 simple_from cross is ss st w l h = absurd l
 simple_from (streamer s) is ss st w l h = absurd l
 simple_from (fused a b at) is ss st w l h = absurd l
+simple_from kernel is ss st w l h = h
 
 shape_ran : (k : Kern) (w : Word) (ss : List Kept) → IsShaped k → HasShape k ss → HasShape k (run (fire k) w ss).states
 shape_ran k [] ss s h = h

@@ -7,7 +7,7 @@ use Rattle.river_base.specs.declared.kind.QueueType.TheVariants.{Flat as FlatOf,
 use Rattle.kern_rows.specs.Turns.{shares, ones}
 use Rattle.river_kernels.specs.Fits.{Fits}
 use Rattle.river_kernels.specs.Types.{types_of}
-use Rattle.river_kernels.specs.Kern.{Kern, code, filter, duplicate, deal, collect, packed, unpack, window, select, project, cross, streamer, tally, fused}
+use Rattle.river_kernels.specs.Kern.{Kern, deal, collect, packed, unpack, window, project, cross, streamer, fused}
 use Rattle.brooklet_model.specs.Firings.{Kept, Turn, Joining}
 use Rattle.brooklet_model.specs.Fire.{privates}
 use Rattle.brooklet_model.specs.Shapes.{IsShaped, HasShape}
@@ -111,25 +111,21 @@ fused_stand a b at is inner st e ra rb =
 
 -- all states that fit a kernel stand for some of the definition, where no relation passes
 pub fit_law : FitStatesStand
-fit_law (code k) is os vs st f n h = simple_stand (code k) is st tt h
-fit_law (filter g) is os vs st f n h = simple_stand (filter g) is st tt h
-fit_law (duplicate m) is os vs st f n h = simple_stand (duplicate m) is st tt h
 fit_law (deal ws) is os vs st f n h = deal_stand ws is st n h
 fit_law (collect ws) is os vs st f n h = collect_stand ws is st n (alike is (FlatOf f.0) (length ws) f.1 n) h
 fit_law (packed k) is os vs st f n h =
     packed_stand k is st (fit_law k is (FlatOf f.1 ∷ []) [] st (subst (λ (l : List QueueType). Fits k l (FlatOf f.1 ∷ []) []) (sym f.2) f.5) n h)
 fit_law (unpack m) is os vs st f n h = unpack_stand m is st n (alike is (PackOf f.0) m f.1 n) h
 fit_law (window v) is os vs st f n h = absurd n
-fit_law (select e) is os vs st f n h = simple_stand (select e) is st tt h
 fit_law (project es) is os vs st f n h = absurd n
 fit_law cross is os vs st f n h = absurd n
 fit_law (streamer s) is os vs st f n h = absurd n
-fit_law tally is os vs st f n h = simple_stand tally is st tt h
 fit_law (fused a b at) is os vs st f n h =
     let mid = between_is a is f.0 f.1 f.3 at f.5 f.6 in
     fused_stand a b at is (f.1 ∷ []) st (sym mid)
     (fit_law a is f.0 f.3 (take (privates a) st) f.5 n.0 h.0)
     (fit_law b (f.1 ∷ []) f.2 f.4 (drop (privates a) st) f.7 (subst (PassesNone b) mid n.1) (subst (λ (l : List QueueType). FitState b l (drop (privates a) st)) mid h.1))
+fit_law kernel is os vs st f n h = simple_stand kernel is st tt h
 
 -- THE STATES AFTER A WORD AS A START
 
@@ -149,20 +145,15 @@ join_moved k ws is ss st w p h =
 -- where no relation passes, what stands for the states after a word stands for them as a start
 pub moved : (k : Kern) (is : List QueueType) (ss : List Kept) (st : List State) (w : Word) → IsShaped k → HasShape k ss → PassesNone k is → StandsAfter k is ss st w
     → StandsAfter k is (ran k ss w).states st []
-moved (code k) is ss st w s c n h = simple_moved (code k) is ss st w tt h
-moved (filter f) is ss st w s c n h = simple_moved (filter f) is ss st w tt h
-moved (duplicate m) is ss st w s c n h = simple_moved (duplicate m) is ss st w tt h
 moved (deal ws) is ss st w s c n h = deal_moved ws is ss st w n h
 moved (collect ws) is ss st w s c n h = join_moved (collect ws) (shares ws) is ss st w n h
 moved (packed k) is ss st w s c n h =
     subst (λ (us : List Kept). StandsAfter k is us st []) (sym (packed_states k w ss)) (moved k is ss st w s.0 c n h)
 moved (unpack m) is ss st w s c n h = join_moved (unpack m) (ones m) is ss st w n h
 moved (window v) is ss st w s c n h = absurd n
-moved (select e) is ss st w s c n h = simple_moved (select e) is ss st w tt h
 moved (project es) is ss st w s c n h = absurd n
 moved cross is ss st w s c n h = absurd n
 moved (streamer r) is ss st w s c n h = absurd n
-moved tally is ss st w s c n h = simple_moved tally is ss st w tt h
 moved (fused a b at) is ss st w s c n h =
     let m = privates a in
     let inner = between at (types_of a is) in
@@ -176,6 +167,7 @@ moved (fused a b at) is ss st w s c n h =
       subst (λ (us : List Kept). StandsAfter a is us (take m st) []) (sym ta) (moved a is (take m ss) (take m st) w s.0 c.0 n.0 h.0),
       subst (λ (us : List Kept). StandsAfter b inner us (drop m st) []) (sym tb) (moved b inner (drop m ss) (drop m st) wb s.1 c.1 n.1 h.1),
     )
+moved kernel is ss st w s c n h = simple_moved kernel is ss st w tt h
 
 -- A FIRING AS THE FIRST
 

@@ -158,11 +158,9 @@ kernel (kern.code c) is os vs f k s d =
     let b = and_parts (are_widths c.outs) (is_code c) a.1 in
     code c b.0 b.1 k s
 kernel (kern.filter x) is os vs f k s d = filter x f.3 k s
-kernel (kern.duplicate n) is os vs f k s d = k
 kernel (kern.deal ws) is os vs f k s d = weights ws (and_parts (is_sized f.0) (are_weights ws) f.4).1 k
 kernel (kern.collect ws) is os vs f k s d = weights ws (and_parts (is_sized f.0) (are_weights ws) f.4).1 k
 kernel (kern.packed x) is os vs f k s d = kernel x (Flat f.0 ∷ []) (Flat f.1 ∷ []) [] f.5 k s d
-kernel (kern.unpack n) is os vs f k s d = k
 kernel (kern.window x) is os vs f k s d = window x k d
 kernel (kern.select e) is os vs f k s d =
     let a = and_parts (is_sized f.0) (is_bag f.0 && is_term (width_of f.0) 0 e) f.4 in
@@ -172,10 +170,8 @@ kernel (kern.project es) is os vs f k s d =
     let b = and_parts (is_width (length es)) (list_all (is_term f.0 0) es) a.1 in
     let c = at_most 1 (length es) (and_parts (nat_le 1 (length es)) (nat_le (length es) 16) b.0).0 in
     (omega (arith, c), terms f.0 0 es b.1 k)
-kernel kern.cross is os vs f k s d = tt
-kernel (kern.streamer x) is os vs f k s d = tt
-kernel kern.tally is os vs f k s d = tt
 kernel (kern.fused a b at) is os vs f k s d = (k.2, kernel a is f.0 f.3 f.5 k.0 s.0 d.0, kernel b (f.1 ∷ []) f.2 f.4 f.7 k.1 s.1 d.1)
+kernel other is os vs f k s d = k
 
 -- PLANS
 

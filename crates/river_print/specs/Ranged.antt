@@ -8,7 +8,7 @@ use Rattle.kern_bags.specs.declared.kernel.Window.TheVariants.{Now, Range, Unbou
 use Rattle.river_kernels.specs.Kern.{Kern}
 use Rattle.river_kernels.specs.Kern as kern
 use Rattle.river_plan.specs.Forms.{OpForm, PlanForm}
-use Rattle.river_print.specs.Writable.{IsCount, IsWritableStart, IsNamed, IsWritableDecl, IsWritableTable, Every}
+use Rattle.river_print.specs.Writable.{IsCount, IsWritableStart, IsNamed, IsWritableDecl, IsWritableTable, IsWritableKernel, Every}
 
 -- counts have 32 bits, values have 64 bits and a sign
 abbrev pub IsRangedTerm : Term → Type 0
@@ -51,21 +51,18 @@ IsRangedWindow (Range t) = IsWritableStart t
 IsRangedWindow Unbounded = Unit {0}
 IsRangedWindow (Latest n) = IsCount n
 
+-- of a kernel that is not named the types say all that its text asks for
 abbrev pub IsRangedKernel : Kern → Type 0
 IsRangedKernel (kern.code c) = IsRangedCode c
 IsRangedKernel (kern.filter f) = IsRangedFilter f
-IsRangedKernel (kern.duplicate n) = IsCount n
 IsRangedKernel (kern.deal ws) = Every IsWritableStart ws
 IsRangedKernel (kern.collect ws) = Every IsWritableStart ws
 IsRangedKernel (kern.packed k) = IsRangedKernel k
-IsRangedKernel (kern.unpack n) = IsCount n
 IsRangedKernel (kern.window w) = IsRangedWindow w
 IsRangedKernel (kern.select e) = IsRangedTerm e
 IsRangedKernel (kern.project es) = Every IsRangedTerm es
-IsRangedKernel kern.cross = Unit {0}
-IsRangedKernel (kern.streamer s) = Unit {0}
-IsRangedKernel kern.tally = Unit {0}
 IsRangedKernel (kern.fused a b at) = IsRangedKernel a × IsRangedKernel b × IsCount at
+IsRangedKernel kernel = IsWritableKernel kernel
 
 -- names are names of at most 64 bytes
 abbrev pub IsRangedOp : OpForm → Type 0
