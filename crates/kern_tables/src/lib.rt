@@ -13,7 +13,7 @@ mod table;
 
 use best::Best;
 pub use kept::Kept;
-use key::Key;
+use key::{Key, key_of, row_of};
 pub use kind::TableKind;
 use maxima::Maxima;
 pub use ranked::Ranked;

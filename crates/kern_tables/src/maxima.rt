@@ -5,7 +5,7 @@ ghost use Rattle.river_base.specs.Row.{row_cmp};
 ghost use Rattle.kern_tables.specs.Tables.{ranked_row};
 ghost use Rattle.kern_tables.specs.Entries.{split, best_more, maximum_rows};
 
-use crate::{Best, Key, Ranked};
+use crate::{Best, Key, Ranked, key_of, row_of};
 use river_base::{NoMemory, Row, Rows};
 use std::alloc::Global;
 use std::collections::BTreeMap;
@@ -47,7 +47,7 @@ impl Maxima {
         ensures ok { OnOk result (self.new ≡ put row_cmp [] (best_more best) self.old (split keys row.now)) }
         ensures err { OnErr result (self.new ≡ self.old) }
     {
-        let key = Key::of_row(row, keys);
+        let key = key_of(row, keys);
         let ranked = Ranked {
             weight: row.values()[keys + 1],
             value: row.values()[keys],
@@ -80,7 +80,7 @@ fn add_ranked(alloc: Global, key: &Key, best: &Best, rows: &mut Rows) -> Result<
 {
     let all = best.ranked(alloc)?;
     for r in all.as_slice() {
-        rows.push(key.pushed(r.value).row(r.weight))?;
+        rows.push(row_of(&key.pushed(r.value), r.weight))?;
     }
     Ok(())
 }

@@ -5,7 +5,7 @@ ghost use Rattle.river_base.specs.Row.{row_cmp};
 ghost use Rattle.kern_tables.specs.Tables.{add_value};
 ghost use Rattle.kern_tables.specs.Entries.{split, sum_rows};
 
-use crate::Key;
+use crate::{Key, key_of, row_of};
 use river_base::{NoMemory, Row, Rows, add};
 use std::alloc::Global;
 use std::collections::BTreeMap;
@@ -44,7 +44,7 @@ impl Sums {
         ensures ok { OnOk result (self.new ≡ put row_cmp (pos 0) add_value self.old (split keys row.now)) }
         ensures err { OnErr result (self.new ≡ self.old) }
     {
-        let key = Key::of_row(row, keys);
+        let key = key_of(row, keys);
         let value = row.values()[keys];
         if let Some(sum) = self.sums.get_mut(&key) {
             *sum = add(*sum, value);
@@ -60,7 +60,7 @@ impl Sums {
     {
         let mut rows = Rows::new(alloc);
         for (key, sum) in &self.sums {
-            rows.push(key.row(*sum))?;
+            rows.push(row_of(key, *sum))?;
         }
         Ok(rows)
     }

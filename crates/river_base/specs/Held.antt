@@ -48,12 +48,6 @@ abbrev pub content_from : List (List ℤ) → List item.Item → List (List ℤ)
 content_from before [] = before
 content_from before (x ∷ xs) = content_from (after_item before x) xs
 
--- the content of a queue of this type once these items came; nothing where the queue is of no relation
-abbrev pub content_in : queue_type.QueueType → List item.Item → List (List ℤ)
-content_in (FlatOf (Relation w)) xs = content_from [] xs
-content_in (PackOf (Relation w)) xs = content_from [] xs
-content_in t xs = []
-
 -- the change of a content after the content before it
 abbrev pub held_flat : List (List ℤ) → flat.Flat → flat.Flat
 held_flat before (Batched b) = Changed (change_to before b)

@@ -1,5 +1,5 @@
 -- Rows: lists of 1 to 16 values, and their order.
-use Rattle.std.specs.Prelude.{◌≡◌, ℕ, ℤ, pos, ◌≤◌, Bool, List, All, length, count_by, IsSorted}
+use Rattle.std.specs.Prelude.{◌≡◌, ℕ, ℤ, pos, Bool, List, All, length, count_by, IsSorted}
 use Rattle.std.specs.declared.cmp.Ordering.{Ordering}
 use Rattle.std.specs.Ordering.{int_eq, int_cmp, is_lt, eq_by_cmp}
 use Rattle.std.specs.Cmp.{IsEquivalence, IsTotalOrder}
@@ -10,9 +10,8 @@ use Rattle.river_base.specs.Number.{IsValue}
 use Rattle.river_base.specs.Short.{IsShort}
 use Rattle.river_base.specs.Bags.{ascending}
 
--- an array of 16 values whose first `width` are a row
-pub record IsRow (width : ℕ) (values : List ℤ) : Type 0 where
-  pub some : 1 ≤ width
+-- an array of 16 values, of which the first `width` count
+pub record AreValues (width : ℕ) (values : List ℤ) : Type 0 where
   pub short : IsShort 16 (pos 0) width values
   pub in_range : All IsValue values
 

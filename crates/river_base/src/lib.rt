@@ -11,6 +11,7 @@ mod memory;
 mod name;
 mod number;
 mod row;
+mod values;
 
 pub use duplicate::Duplicate;
 pub use gate::{Gate, NoGate};
@@ -21,3 +22,4 @@ pub use memory::NoMemory;
 pub use name::{MAX_NAME, Name};
 pub use number::{add, mul, quot, rem, sub};
 pub use row::{MAX_ROW, Row, compare};
+pub use values::Values;

@@ -5,6 +5,7 @@ ghost use Rattle.std.proofs.Common.{refl};
 ghost use Rattle.river_base.specs.Number.{IsValue};
 ghost use Rattle.river_base.specs.Row.{row_eq, row_cmp, row_equiv, row_total, row_ties};
 
+use crate::Values;
 use std::cmp::Ordering;
 use std::marker::Model;
 
@@ -14,24 +15,19 @@ pub const MAX_ROW: usize = 16;
 /// A row of 1 to 16 values, which contracts see as the list of its values.
 #[derive(Clone, Copy)]
 pub struct Row {
-    width: usize,
-    values: [i64; 16],
+    values: Values,
 }
 
 impl Model for Row {
-    ghost use Rattle.std.specs.Prelude.{ℤ, pos, List, length, take};
-    ghost use Rattle.river_base.specs.Row.{IsRow};
-    ghost use Rattle.river_base.specs.Short.{padded, rebuilt};
+    ghost use Rattle.std.specs.Prelude.{ℤ, List, ◌≤◌, length};
 
     ghost Value = { List ℤ };
 
-    ghost view = { λ r. take r.width r.values };
+    ghost view = { λ r. r.values };
 
-    ghost invariant = { λ r. IsRow r.width r.values };
+    ghost invariant = { λ r. 1 ≤ length r.values };
 
-    ghost inverse = { λ xs. record { width = length xs; values = padded 16 (pos 0) xs } };
-
-    ghost inverse_ok = { λ a h. rebuilt 16 (pos 0) (λ w v. record { width = w; values = v }) a.width a.values h.short };
+    ghost inverse = { λ xs. record { values = xs } };
 }
 
 impl Row {
@@ -41,13 +37,8 @@ impl Row {
         requires at_most { length values.now ≤ 16 }
         ensures { result ≡ values.now }
     {
-        let mut all = [0; 16];
-        for i in 0..values.len() {
-            all[i] = values[i];
-        }
         Row {
-            width: values.len(),
-            values: all,
+            values: Values::from_slice(values),
         }
     }
 
@@ -63,11 +54,8 @@ impl Row {
         requires { length self.now < 16 }
         ensures { result ≡ self.now ++ value ∷ [] }
     {
-        let mut values = self.values;
-        values[self.width] = value;
         Row {
-            width: self.width + 1,
-            values,
+            values: self.values.pushed(value),
         }
     }
 
@@ -90,7 +78,7 @@ impl Row {
         ensures some { 1 ≤ length self.now }
         ensures at_most { length self.now ≤ 16 }
     {
-        &self.values[..self.width]
+        self.values.as_slice()
     }
 
     /// How many values there are, 1 to 16.
@@ -99,7 +87,7 @@ impl Row {
         ensures some { 1 ≤ length self.now }
         ensures at_most { length self.now ≤ 16 }
     {
-        self.width
+        self.values.len()
     }
 }
 
@@ -107,7 +95,7 @@ impl Row {
 pub fn compare(a: &Row, b: &Row) -> Ordering
     ensures { result ≡ row_cmp a.now b.now }
 {
-    a.values().cmp(b.values())
+    a.values.cmp(&b.values)
 }
 
 impl PartialEq for Row {
@@ -116,7 +104,7 @@ impl PartialEq for Row {
     ghost laws = { partial_equiv_from_equiv row_equiv };
 
     fn eq(&self, other: &Row) -> bool {
-        self.values() == other.values()
+        self.values == other.values
     }
 }
 

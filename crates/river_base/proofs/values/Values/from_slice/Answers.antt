@@ -6,7 +6,7 @@ use Rattle.std.proofs.lemmas.Int.{to_z-of_z}
 use Rattle.std.proofs.lemmas.List.Elements.{All-set}
 use Rattle.river_base.specs.Number.{IsValue}
 use Rattle.river_base.proofs.RowLemmas.{filled_more, shown, short}
-use Rattle.kern_tables.proofs.key.Key.from_slice.Goals as goal
+use Rattle.river_base.proofs.values.Values.from_slice.Goals as goal
 
 pub loop-i-preserved : goal.loop-i-preserved
 loop-i-preserved c =
