@@ -1,5 +1,6 @@
 pub mod AllUnits
 pub mod Choices
+pub mod Climbed
 pub mod Climbs
 pub mod Exact
 pub mod ExactLevels
