@@ -17,14 +17,14 @@ use Rattle.river_base.specs.declared.kind.QueueType.{QueueType}
 use Rattle.river_base.specs.declared.kind.QueueType.TheVariants.{Flat as FlatOf}
 use Rattle.river_base.specs.Drain.{drain, pass_on}
 use Rattle.river_base.specs.Held.{HaveWidth, IsAscending, HasType, batches}
-use Rattle.river_base.specs.Bags.{place}
+use Rattle.river_base.specs.Bags.{put_in_order}
 use Rattle.river_base.specs.Row.{in_order, row_lt, row_eq}
 use Rattle.river_base.proofs.Rows.{in_order_ascends, rows_ranked}
 use Rattle.work_code.specs.Term.{Term}
 use Rattle.work_code.specs.Value.{val, is_true}
 use Rattle.kern_bags.specs.Contents.{take_out, selected, projected, product, difference, without, rows_where, put_batch, by_instant, in_window, content_of}
 use Rattle.kern_bags.specs.Contents.{greatest, later}
-use Rattle.kern_bags.specs.Steps.{last_rows, window_one, select_one, project_one, streamed, streamer_one, Pairing, rows_of, joined_batch, front_pair}
+use Rattle.kern_bags.specs.Steps.{last_rows, window_one, select_one, project_one, streamed, streamer_one, Pairing, rows_in_item, joined_batch, front_pair}
 use Rattle.kern_bags.specs.Steps.{front_of_pair, without_first, rest_of_pair, put_pair, crosses}
 use Rattle.kern_bags.specs.declared.kernel.Window.{Window}
 use Rattle.kern_bags.specs.declared.kernel.Window.TheVariants.{Now, Range, Unbounded, Latest}
@@ -39,16 +39,16 @@ all-drop P zero xs h = h
 all-drop P (suc n) [] h = h
 all-drop P (suc n) (x ∷ xs) h = all-drop P n xs (All-tail P x xs h)
 
-all-place : (P : List ℤ → Type 0) (x : List ℤ) (ys : List (List ℤ)) → P x → All P ys → All P (place row_lt x ys)
+all-place : (P : List ℤ → Type 0) (x : List ℤ) (ys : List (List ℤ)) → P x → All P ys → All P (put_in_order row_lt x ys)
 all-place P x [] p h = All-cons P x [] p h
 all-place P x (y ∷ ys) p h = step (row_lt y x) (all-place P x ys p (All-tail P y ys h)) where
-  step : (b : Bool) → All P (place row_lt x ys) → All P (cond b (y ∷ place row_lt x ys) (x ∷ (y ∷ ys)))
-  step true more = All-cons P y (place row_lt x ys) (All-head P y ys h) more
+  step : (b : Bool) → All P (put_in_order row_lt x ys) → All P (cond b (y ∷ put_in_order row_lt x ys) (x ∷ (y ∷ ys)))
+  step true more = All-cons P y (put_in_order row_lt x ys) (All-head P y ys h) more
   step false more = All-cons P x (y ∷ ys) p h
 
-all-from : (P : List ℤ → Type 0) (done xs : List (List ℤ)) → All P done → All P xs → All P (fold (λ d x. place row_lt x d) done xs)
+all-from : (P : List ℤ → Type 0) (done xs : List (List ℤ)) → All P done → All P xs → All P (fold (λ d x. put_in_order row_lt x d) done xs)
 all-from P done [] d h = d
-all-from P done (x ∷ xs) d h = all-from P (place row_lt x done) xs (all-place P x done (All-head P x xs h) d) (All-tail P x xs h)
+all-from P done (x ∷ xs) d h = all-from P (put_in_order row_lt x done) xs (all-place P x done (All-head P x xs h) d) (All-tail P x xs h)
 
 all-in_order : (P : List ℤ → Type 0) (xs : List (List ℤ)) → All P xs → All P (in_order xs)
 all-in_order P xs h = all-from P [] xs (All-nil P) h
@@ -205,7 +205,7 @@ streamer_typed n k past (Pack fs) h i = absurd i
 
 -- PRODUCTS
 
-rows_wide : (n : ℕ) (x : item.Item) → HasType (relation n) x → HaveWidth n (rows_of x)
+rows_wide : (n : ℕ) (x : item.Item) → HasType (relation n) x → HaveWidth n (rows_in_item x)
 rows_wide n (Flat (Batched b)) i = i.0
 rows_wide n (Flat (One row)) i = absurd i
 rows_wide n (Flat (Changed c)) i = absurd i
@@ -223,7 +223,7 @@ pairs_wide a b (x ∷ xs) ys h g =
 
 batch_typed : (a b : ℕ) (x y : item.Item) → HasType (relation a) x → HasType (relation b) y → All (HasType (relation (a + b))) (joined_batch x y)
 batch_typed a b (Flat (Batched c)) y i j =
-    one_of (relation (a + b)) (Flat (Batched (record { at = c.at; rows = product c.rows (rows_of y) }))) (content (a + b) (flat_map (λ x. map (λ z. x ++ z) (rows_of y)) c.rows) (pairs_wide a b c.rows (rows_of y) i.0 (rows_wide b y j)))
+    one_of (relation (a + b)) (Flat (Batched (record { at = c.at; rows = product c.rows (rows_in_item y) }))) (content (a + b) (flat_map (λ x. map (λ z. x ++ z) (rows_in_item y)) c.rows) (pairs_wide a b c.rows (rows_in_item y) i.0 (rows_wide b y j)))
 batch_typed a b (Flat (One row)) y i j = absurd i
 batch_typed a b (Flat (Changed c)) y i j = absurd i
 batch_typed a b (Pack fs) y i j = absurd i

@@ -15,7 +15,7 @@ use Rattle.brooklet_model.specs.Fire.{join_one}
 use Rattle.brooklet_model.specs.Words.{Word, run, word_of, port_by_port}
 use Rattle.brooklet_model.proofs.Drained.{put_drain}
 use Rattle.brooklet_model.proofs.Joins.{join_keeps}
-use Rattle.brooklet_model.specs.ByIndex.{cycle, branch, within, number_at, collected_at, and_more, size_of, collected}
+use Rattle.brooklet_model.specs.ByIndex.{cycle, branch, within, number_in_branch, collected_at, and_more, size_of, collected}
 use Rattle.brooklet_model.specs.ByIndex as index
 use Rattle.brooklet_model.proofs.Cycles.{Positive, next_turn, first_turn, taken, taken_none, taken_here, taken_same, taken_other}
 
@@ -172,14 +172,14 @@ passes_front ws ls rs (suc n) x pos lt left =
     let b = branch ws x in
     let on = λ (o : Option (List item.Item)). (pass_on (passed ws) s (drain (front_of itself) (passed ws) n) o).0 in
     let more = λ (o : Option item.Item). and_more o (index.found_front (collected_at ws ls) n (suc x)) in
-    let here : list_at rs b ≡ drop (number_at ws x) (list_at ls b) = left.each b ∙ ap (λ k. drop k (list_at ls b)) (taken_here ws x lt) in
+    let here : list_at rs b ≡ drop (number_in_branch ws x) (list_at ls b) = left.each b ∙ ap (λ k. drop k (list_at ls b)) (taken_here ws x lt) in
     cases_list (list_at rs b)
-    (λ e. ap on (front_at_none rs b e) ∙ sym (ap more (got_none (list_at ls b) (number_at ws x) (sym here ∙ e))))
+    (λ e. ap on (front_at_none rs b e) ∙ sym (ap more (got_none (list_at ls b) (number_in_branch ws x) (sym here ∙ e))))
     (λ y ys e.
     ap on (front_at_some rs b y ys e)
     ∙ ap (λ t. y ∷ (drain (front_of itself) (passed ws) n t).0) (next_is ws x rs pos lt)
     ∙ ap (λ l. y ∷ l) (passes_front ws ls (rest_at rs b) n (suc x) pos lt (left_next ws ls rs x y ys lt left e))
-    ∙ sym (ap more (got_some (list_at ls b) (number_at ws x) y ys (sym here ∙ e))))
+    ∙ sym (ap more (got_some (list_at ls b) (number_in_branch ws x) y ys (sym here ∙ e))))
 
 -- the number of items that wait, said in two ways
 pub waiting_is : (ls : List (List item.Item)) → waiting ls ≡ size_of ls

@@ -21,7 +21,7 @@ use Rattle.brooklet_model.specs.Firings.{Kept, Fired, and_then, Same}
 use Rattle.brooklet_model.specs.Fire.{fire, ins, first_kept}
 use Rattle.brooklet_model.specs.Histories.{History, lists_of, given_on, histories, joined, tables_of, adds, all_adds, inputs_of, lengths, Lists, Solves}
 use Rattle.brooklet_model.specs.Laws.{given_to, RunsAgree}
-use Rattle.brooklet_model.specs.Machine.{Machine, at_key, fired, Run, IsComplete, first_of, times}
+use Rattle.brooklet_model.specs.Machine.{Machine, at_key, fired, Run, IsComplete, first_kept_of, times}
 use Rattle.brooklet_model.specs.Traced.{ran, Traced}
 use Rattle.river_base.specs.Bags.{SameBag}
 use Rattle.brooklet_model.specs.Words.{Word, run, at_port, PortsBelow, Alike}
@@ -56,7 +56,7 @@ lists_none (w ∷ ws) h e = (e w (count_here w ws), lists_none ws h (λ q lt. e 
 
 -- the machine before the first firing, with these inputs
 abbrev pub started : PlanForm → History → Machine
-started p h = record { hist = h; taken = λ q. 0; kept = λ o. first_of (slice_get p.ops o); rows = λ t. [] }
+started p h = record { hist = h; taken = λ q. 0; kept = λ o. first_kept_of (slice_get p.ops o); rows = λ t. [] }
 
 -- an operator of a valid plan reads as many queues as its kernel has ports
 pub reads_are : (p : PlanForm) → IsPlan p → (o : ℕ) (op : OpForm) → slice_get p.ops o ≡ Some op → length op.reads ≡ ins op.kernel
@@ -78,7 +78,7 @@ module _ (pl : PlanForm) (inputs : History) (v : IsPlan pl) (empty : (q : Name) 
   -- the first state is traced by empty words
   pub traced_start : Traced tables ops inputs (started pl inputs) (λ o. [])
   traced_start = record {
-    kept = λ o op g. ap first_of g;
+    kept = λ o op g. ap first_kept_of g;
     written_by =
         λ o op g. lists_none op.writes inputs (λ q lt. empty q (let m = at_most (writes_it q) ops o op g in let w = v.written_once q in omega (arith, m, w, lt)));
     unwritten = λ q z. refl;

@@ -6,7 +6,7 @@ use Rattle.river_base.specs.Places.{list_at}
 use Rattle.kern_rows.specs.Turns.{rest_at, waiting, itself}
 use Rattle.brooklet_model.proofs.Joins.{less_at, stuck_at}
 use Rattle.brooklet_model.proofs.Collected.{IsLeft, left_next, cases_list, got_none, got_some, front_at_some, waiting_is}
-use Rattle.brooklet_model.specs.ByIndex.{cycle, branch, number_at, collected_at, and_more, found_front, size_of, collected}
+use Rattle.brooklet_model.specs.ByIndex.{cycle, branch, number_in_branch, collected_at, and_more, found_front, size_of, collected}
 use Rattle.brooklet_model.proofs.Cycles.{taken_none, taken_here}
 
 cases_option : {A B : Type 0} (o : Option A) → (o ≡ None → B) → ((x : A) → o ≡ Some x → B) → B
@@ -25,7 +25,7 @@ front_is f zero x i lt = absurd (omega (arith, lt))
 front_is f (suc n) x i lt = more_is f (f x) (found_front f n (suc x)) x i refl (λ j lj. front_is f n (suc x) j lj) lt
 
 here_is : (ws : List ℕ) (ls rs : List (List item.Item)) (x : ℕ) → 0 < cycle ws → IsLeft ws ls rs x
-    → list_at rs (branch ws x) ≡ drop (number_at ws x) (list_at ls (branch ws x))
+    → list_at rs (branch ws x) ≡ drop (number_in_branch ws x) (list_at ls (branch ws x))
 here_is ws ls rs x lt left = left.each (branch ws x) ∙ ap (λ k. drop k (list_at ls (branch ws x))) (taken_here ws x lt)
 
 stops : {A : Type 0} (f : ℕ → Option A) (n x : ℕ) → f x ≡ None → found_front f n x ≡ []
@@ -35,7 +35,7 @@ stops f (suc n) x e = ap (λ o. and_more o (found_front f n (suc x))) e
 stopped : (ws : List ℕ) (ls rs : List (List item.Item)) (n x : ℕ) → 0 < cycle ws → IsLeft ws ls rs x → list_at rs (branch ws x) ≡ []
     → collected_at ws ls (x + length (found_front (collected_at ws ls) n x)) ≡ None
 stopped ws ls rs n x lt left e =
-    let gone = got_none (list_at ls (branch ws x)) (number_at ws x) (sym (here_is ws ls rs x lt left) ∙ e) in
+    let gone = got_none (list_at ls (branch ws x)) (number_in_branch ws x) (sym (here_is ws ls rs x lt left) ∙ e) in
     ap (λ l. collected_at ws ls (x + length l)) (stops (collected_at ws ls) n x gone) ∙ ap (collected_at ws ls) (let z : x + 0 ≡ x = omega arith in z) ∙ gone
 
 -- with a turn for each item that is left, the items go on until one is missing
@@ -51,7 +51,7 @@ ends ws ls rs (suc n) x lt left le = cases_list (list_at rs (branch ws x))
     (stopped ws ls rs (suc n) x lt left)
     (λ y ys e.
     let b = branch ws x in
-    let there = got_some (list_at ls b) (number_at ws x) y ys (sym (here_is ws ls rs x lt left) ∙ e) in
+    let there = got_some (list_at ls b) (number_in_branch ws x) y ys (sym (here_is ws ls rs x lt left) ∙ e) in
     let less = less_at itself rs b (y ∷ []) (front_at_some rs b y ys e) in
     let rest = ends ws ls (rest_at rs b) n (suc x) lt (left_next ws ls rs x y ys lt left e) (omega (arith, less, le)) in
     ap (λ o. collected_at ws ls (x + length (and_more o (found_front (collected_at ws ls) n (suc x))))) there

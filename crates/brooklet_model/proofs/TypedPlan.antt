@@ -23,7 +23,7 @@ use Rattle.brooklet_model.specs.Firings.{Kept}
 use Rattle.brooklet_model.specs.Fire.{fire, ins, first_kept}
 use Rattle.brooklet_model.specs.Histories.{History, lists_of, given_on, hist, joined, inputs_of, Lists, Solves}
 use Rattle.brooklet_model.specs.Laws.{HistoriesAreTyped}
-use Rattle.brooklet_model.specs.Machine.{Machine, at_key, fired, Step, first_of, start}
+use Rattle.brooklet_model.specs.Machine.{Machine, at_key, fired, Step, first_kept_of, start}
 use Rattle.brooklet_model.specs.Shapes.{HasShape}
 use Rattle.brooklet_model.specs.Typed.{IsTyped, IsOf, AreOf, IsWordOf, AreInputs, Holds, IsTypedState}
 use Rattle.brooklet_model.specs.Words.{Word, run, word_of, port_by_port}
@@ -193,10 +193,10 @@ module _ (p : PlanForm) (v : IsPlan p) where
     queues = inputs_typed p v inputs a;
     shapes = λ o op g.
         let s = shaped op.kernel _ _ _ (op_fits p v o op g) in
-        subst (HasShape op.kernel) (sym (ap first_of g)) (first_shape op.kernel s);
+        subst (HasShape op.kernel) (sym (ap first_kept_of g)) (first_shape op.kernel s);
     holds = λ o op g.
         let s = shaped op.kernel _ _ _ (op_fits p v o op g) in
-        subst (Holds op.kernel (map kinds op.reads)) (sym (ap first_of g)) (first_holds op.kernel (map kinds op.reads) s);
+        subst (Holds op.kernel (map kinds op.reads)) (sym (ap first_kept_of g)) (first_holds op.kernel (map kinds op.reads) s);
   }
 
   pub fired_typed : (o port : ℕ) (op : OpForm) (q : Name) (x : item.Item) (s : Machine) → IsTypedState p s → slice_get p.ops o ≡ Some op

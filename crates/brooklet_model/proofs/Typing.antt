@@ -16,7 +16,7 @@ use Rattle.river_base.specs.Drain.{drain, pass_on}
 use Rattle.river_base.specs.Held.{HasType, HasFlatType, items_of, flats}
 use Rattle.river_base.specs.Number.{count_of}
 use Rattle.river_base.specs.Places.{only, none, list_at, append_at}
-use Rattle.work_code.specs.Steps.{Step, Steps, Set, Push, If, Done, Then, Body}
+use Rattle.work_code.specs.Steps.{Step, Steps, Set, Push, If, Done, Then, BodyForm}
 use Rattle.work_code.specs.Ran.{Ran, ran, ran_once}
 use Rattle.work_code.specs.Value.{val, is_true}
 use Rattle.kern_rows.specs.Forms.{CodeForm, FilterForm, RunForm}
@@ -131,7 +131,7 @@ pushes_of outs (e ∷ es) h q =
     (λ ne. subst (All P) (sym (if_ne e.0 q (Flat (One e.1) ∷ pushed_to q es) (pushed_to q es) ne)) rest)
     (cases_eq e.0 q)
 
-kept_of : (b : Body) (inputs : ℕ) (outs : List ℤ) (kept input : List ℤ) → is_steps inputs b.slots outs b.steps ≡ true
+kept_of : (b : BodyForm) (inputs : ℕ) (outs : List ℤ) (kept input : List ℤ) → is_steps inputs b.slots outs b.steps ≡ true
     → AreOf (ports outs) (λ q. pushed_to q (run_kept b kept input).pushes)
 kept_of b inputs outs kept input h = pushes_of outs (run_kept b kept input).pushes (ran_well inputs b.slots outs b.steps input (slots_from b.slots kept) h)
 

@@ -16,9 +16,9 @@ cycle [] = 0
 cycle (w ∷ ws) = w + cycle ws
 
 -- the branch in whose part a place of the cycle falls
-abbrev pub part : List ℕ → ℕ → ℕ
-part [] m = 0
-part (w ∷ ws) m = if nat_lt m w then 0 else suc (part ws (m - w))
+abbrev pub part_of_cycle : List ℕ → ℕ → ℕ
+part_of_cycle [] m = 0
+part_of_cycle (w ∷ ws) m = if nat_lt m w then 0 else suc (part_of_cycle ws (m - w))
 
 -- where in this part it falls
 abbrev pub within : List ℕ → ℕ → ℕ
@@ -27,7 +27,7 @@ within (w ∷ ws) m = if nat_lt m w then m else within ws (m - w)
 
 -- the branch of item x
 abbrev pub branch : List ℕ → ℕ → ℕ
-branch ws x = part ws (x % cycle ws)
+branch ws x = part_of_cycle ws (x % cycle ws)
 
 -- SPLITTERS
 
@@ -44,12 +44,12 @@ dealt ws p xs = picked (λ x. nat_eq (branch ws x) p) 0 xs
 
 -- the number of the item of its branch that stands at place x of what a joiner collects: the branch had its weight in each
 -- cycle before
-abbrev pub number_at : List ℕ → ℕ → ℕ
-number_at ws x = x / cycle ws * slice_index_or ws (branch ws x) 0 + within ws (x % cycle ws)
+abbrev pub number_in_branch : List ℕ → ℕ → ℕ
+number_in_branch ws x = x / cycle ws * slice_index_or ws (branch ws x) 0 + within ws (x % cycle ws)
 
 -- this item, where it is there
 abbrev pub collected_at : {A : Type 0} → List ℕ → List (List A) → ℕ → Option A
-collected_at ws ls x = slice_get (list_at ls (branch ws x)) (number_at ws x)
+collected_at ws ls x = slice_get (list_at ls (branch ws x)) (number_in_branch ws x)
 
 -- what f gives for the numbers from x on, n at most, as long as it gives something
 abbrev pub and_more : {A : Type 0} → Option A → List A → List A

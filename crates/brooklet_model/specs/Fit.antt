@@ -17,8 +17,8 @@ instant_of (Flat (Batched b)) = b.at
 instant_of (Flat (Changed c)) = pos 0
 instant_of (Pack fs) = pos 0
 
-abbrev pub instants : List item.Item → List ℤ
-instants xs = map instant_of xs
+abbrev pub instants_in : List item.Item → List ℤ
+instants_in xs = map instant_of xs
 
 -- each is later than the one before it
 abbrev pub Rises : List ℤ → Type 0
@@ -29,7 +29,7 @@ Rises (t ∷ u ∷ ts) = (t <ℤ u) × Rises (u ∷ ts)
 -- the items of a stream have these instants
 abbrev pub HasInstants : QueueType → List ℤ → List item.Item → Type 0
 HasInstants (FlatOf (Rows w)) ts xs = Unit {0}
-HasInstants (FlatOf (Stream w)) ts xs = instants xs ≡ ts
+HasInstants (FlatOf (Stream w)) ts xs = instants_in xs ≡ ts
 HasInstants (FlatOf (Relation w)) ts xs = Unit {0}
 HasInstants (PackOf t) ts xs = Unit {0}
 

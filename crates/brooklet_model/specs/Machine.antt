@@ -61,16 +61,16 @@ Run p s (e ∷ es) s' = (m : Machine) × Step p s e.0 e.1 m × Run p m es s'
 abbrev pub IsComplete : PlanForm → Machine → Type 0
 IsComplete p s = (o port : ℕ) (op : OpForm) (q : Name) → slice_get p.ops o ≡ Some op → slice_get op.reads port ≡ Some q → s.taken q ≡ length (s.hist q)
 
-abbrev pub first_of : Option OpForm → List Kept
-first_of None = []
-first_of (Some op) = first_kept op.kernel
+abbrev pub first_kept_of : Option OpForm → List Kept
+first_kept_of None = []
+first_kept_of (Some op) = first_kept op.kernel
 
 -- before the first firing: the inputs have these lists, and nothing else is there
 abbrev pub start : PlanForm → List (List item.Item) → Machine
 start p inputs = record {
   hist = inputs_of (decl_names p.inputs) (list_at inputs);
   taken = λ q. 0;
-  kept = λ o. first_of (slice_get p.ops o);
+  kept = λ o. first_kept_of (slice_get p.ops o);
   rows = λ t. [];
 }
 

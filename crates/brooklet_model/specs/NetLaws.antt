@@ -46,7 +46,7 @@ RoundsAreFew =
     → length rounds ≤ 1 + 2 * lengths (hist p inputs) (queue_names p)
 
 -- where each operator received all that was given at its ports, its histories, its bags of rows and its firings are the defined ones
-pub record IsWhole (p : PlanForm) (inputs : List (List item.Item)) (ws : ℕ → Word) : Type 0 where
+pub record IsWholeRun (p : PlanForm) (inputs : List (List item.Item)) (ws : ℕ → Word) : Type 0 where
   pub queues : (q : Name) → hist_by p inputs ws q ≡ hist p inputs q
   pub tables : (t : Name) → SameBag (rows_added (table_names p.tables) 0 p.ops ws t) (all_adds p inputs t)
   pub firings : (o : ℕ) (op : OpForm) → slice_get p.ops o ≡ Some op → length (ws o) ≡ lengths (hist p inputs) op.reads
@@ -59,7 +59,7 @@ pub record IsWhole (p : PlanForm) (inputs : List (List item.Item)) (ws : ℕ →
 -- The end: where each operator received all that was given, all is as defined.
 abbrev pub DoneIsWhole : Type 0
 DoneIsWhole =
-    (p : PlanForm) (inputs : List (List item.Item)) (ws : ℕ → Word) → IsPlan p → AreWords p inputs ws → AreDone p inputs ws → IsWhole p inputs ws
+    (p : PlanForm) (inputs : List (List item.Item)) (ws : ℕ → Word) → IsPlan p → AreWords p inputs ws → AreDone p inputs ws → IsWholeRun p inputs ws
 
 -- Some operator can move: while one has a pending or an untaken item, a move is there, for all capacities from 1. It is one of the
 -- last operator in the order listed that has a pending or an untaken item.

@@ -8,7 +8,7 @@ use Rattle.std.proofs.lemmas.List.Sums.{fold-append}
 use Rattle.std.proofs.lemmas.Option.{slice_get_within}
 use Rattle.river_base.specs.Places.{list_at, only}
 use Rattle.kern_tables.specs.declared.kept.Kept.{Kept}
-use Rattle.kern_tables.specs.Kept.{added, width_of}
+use Rattle.kern_tables.specs.Kept.{with_row, width_of_table}
 use Rattle.kern_tables.specs.Tables.{table_width}
 use Rattle.kern_tables.proofs.Tabs.{added_kind}
 use Rattle.brooklet_model.proofs.Lists.{if_lt, if_ge}
@@ -19,16 +19,16 @@ use Rattle.brooklet_step.proofs.QueuePlaces.{joined_at-more}
 -- ROWS FOR ONE TABLE
 
 -- adding rows keeps the width of a table
-pub all_width : (t : Kept) (rows : List (List ℤ)) → width_of (fold added t rows) ≡ width_of t
+pub all_width : (t : Kept) (rows : List (List ℤ)) → width_of_table (fold with_row t rows) ≡ width_of_table t
 all_width t [] = refl
-all_width t (r ∷ rs) = all_width (added t r) rs ∙ ap table_width (added_kind t r)
+all_width t (r ∷ rs) = all_width (with_row t r) rs ∙ ap table_width (added_kind t r)
 
 -- one row more
-pub added_step : (t now new : Kept) (rows : List (List ℤ)) (i : ℕ) (row : List ℤ) → i < length rows → row ≡ get_or rows i row → now ≡ fold added t (take i rows)
-    → new ≡ added now row → new ≡ fold added t (take (i + 1) rows)
+pub added_step : (t now new : Kept) (rows : List (List ℤ)) (i : ℕ) (row : List ℤ) → i < length rows → row ≡ get_or rows i row → now ≡ fold with_row t (take i rows)
+    → new ≡ with_row now row → new ≡ fold with_row t (take (i + 1) rows)
 added_step t now new rows i row lt e h a =
-    a ∙ ap (λ k. added k row) h ∙ sym (fold-append added t (take i rows) (row ∷ []))
-    ∙ ap (λ l. fold added t l) (ap (λ y. take i rows ++ y ∷ []) e ∙ sym (take_more rows i row lt))
+    a ∙ ap (λ k. with_row k row) h ∙ sym (fold-append with_row t (take i rows) (row ∷ []))
+    ∙ ap (λ l. fold with_row t l) (ap (λ y. take i rows ++ y ∷ []) e ∙ sym (take_more rows i row lt))
 
 -- ALL TABLES
 
@@ -40,7 +40,7 @@ length-each_added (t ∷ ts) f = ap suc (length-each_added ts (λ p. f (suc p)))
 each_added-cong : (ts : List Kept) (f g : ℕ → List (List ℤ)) → ((p : ℕ) → f p ≡ g p) → each_added ts f ≡ each_added ts g
 each_added-cong [] f g h = refl
 each_added-cong (t ∷ ts) f g h =
-    let a = ap (fold added t) (h 0) in let b = each_added-cong ts (λ p. f (suc p)) (λ p. g (suc p)) (λ p. h (suc p)) in λ i. a i ∷ b i
+    let a = ap (fold with_row t) (h 0) in let b = each_added-cong ts (λ p. f (suc p)) (λ p. g (suc p)) (λ p. h (suc p)) in λ i. a i ∷ b i
 
 -- adding no rows keeps each table
 pub each_added-none : (ts : List Kept) → each_added ts (λ p. []) ≡ ts
@@ -49,20 +49,20 @@ each_added-none (t ∷ ts) = ap (λ l. t ∷ l) (each_added-none ts)
 
 -- one table is given more
 set_added : (ts : List Kept) (f : ℕ → List (List ℤ)) (n : ℕ) (xs : List (List ℤ)) (d : Kept) → n < length ts
-    → slice_set (each_added ts f) n (fold added (get_or (each_added ts f) n d) xs) ≡ each_added ts (λ p. f p ++ only n xs p)
+    → slice_set (each_added ts f) n (fold with_row (get_or (each_added ts f) n d) xs) ≡ each_added ts (λ p. f p ++ only n xs p)
 set_added [] f n xs d h = absurd (omega (arith, h))
 set_added (t ∷ ts) f zero xs d h =
-    let a = sym (fold-append added t (f 0) xs) in
+    let a = sym (fold-append with_row t (f 0) xs) in
     let b = each_added-cong ts (λ p. f (suc p)) (λ p. f (suc p) ++ []) (λ p. sym (append-nil (f (suc p)))) in
     λ i. a i ∷ b i
 set_added (t ∷ ts) f (suc n) xs d h =
-    let a = ap (fold added t) (sym (append-nil (f 0))) in
+    let a = ap (fold with_row t) (sym (append-nil (f 0))) in
     let b = set_added ts (λ p. f (suc p)) n xs d (omega (arith, h)) in
     λ i. a i ∷ b i
 
 -- a table to which rows were added has the width that it had
 added_there : (ts : List Kept) (f : ℕ → List (List ℤ)) (w : ℕ) (d : Kept) → w < length ts
-    → (t : Kept) × (slice_get ts w ≡ Some t) × (get_or (each_added ts f) w d ≡ fold added t (f w))
+    → (t : Kept) × (slice_get ts w ≡ Some t) × (get_or (each_added ts f) w d ≡ fold with_row t (f w))
 added_there [] f w d h = absurd (omega (arith, h))
 added_there (t ∷ ts) f zero d h = (t, refl, refl)
 added_there (t ∷ ts) f (suc w) d h = added_there ts (λ p. f (suc p)) w d (omega (arith, h))
@@ -111,13 +111,13 @@ module _ (n : ℕ) (vars : List ℕ) (i w : ℕ) (lt : i < length vars) (e : w �
 pub added_next : (ts now : List Kept) (vars : List ℕ) (f : ℕ → List (List ℤ)) (i w number : ℕ) (old new : Kept) → i < length vars → w ≡ get_or vars i 0
     → w < length ts
     → now ≡ each_added ts (joined_at (table_places (length ts) (take i vars)) f) → number ≡ length (table_places (length ts) (take i vars))
-    → old ≡ get_or now w old → new ≡ fold added old (f number)
+    → old ≡ get_or now w old → new ≡ fold with_row old (f number)
     → slice_set now w new ≡ each_added ts (joined_at (table_places (length ts) (take (i + 1) vars)) f)
 added_next ts now vars f i w number old new lt we below h c o n =
     let before = table_places (length ts) (take i vars) in
     let rows = f (length before) in
     let more = places_more (length ts) vars i w lt we below in
-    ap (slice_set now w) (n ∙ ap (λ t. fold added t (f number)) o ∙ ap (λ k. fold added (get_or now w old) (f k)) c) ∙ ap (λ l. slice_set l w (fold added (get_or l w old) rows)) h
+    ap (slice_set now w) (n ∙ ap (λ t. fold with_row t (f number)) o ∙ ap (λ k. fold with_row (get_or now w old) (f k)) c) ∙ ap (λ l. slice_set l w (fold with_row (get_or l w old) rows)) h
     ∙ set_added ts (joined_at before f) w rows old below
     ∙ each_added-cong ts (λ p. joined_at before f p ++ only w rows p) (joined_at (table_places (length ts) (take (i + 1) vars)) f) (λ p.
     sym (ap (λ l. joined_at l f p) more ∙ joined_at-more before w f p))
@@ -127,13 +127,13 @@ pub rows_wide : (ts now : List Kept) (vars : List ℕ) (adds : List (List (List 
     → w < length ts
     → now ≡ each_added ts (joined_at (table_places (length ts) (take i vars)) (list_at adds)) → number ≡ length (table_places (length ts) (take i vars))
     → old ≡ get_or now w old
-    → AreFor ts (table_places (length ts) vars) adds → All (λ row. length row ≡ width_of old) (list_at adds number)
+    → AreFor ts (table_places (length ts) vars) adds → All (λ row. length row ≡ width_of_table old) (list_at adds number)
 rows_wide ts now vars adds i w number old lt we below h c o wide =
     let before = table_places (length ts) (take i vars) in
     let f = joined_at before (list_at adds) in
     let r = added_there ts f w old below in
-    let same : old ≡ fold added r.0 (f w) = o ∙ ap (λ l. get_or l w old) h ∙ r.2 in
-    let width : width_of old ≡ width_of r.0 = ap width_of same ∙ all_width r.0 (f w) in
+    let same : old ≡ fold with_row r.0 (f w) = o ∙ ap (λ l. get_or l w old) h ∙ r.2 in
+    let width : width_of_table old ≡ width_of_table r.0 = ap width_of_table same ∙ all_width r.0 (f w) in
     let here : slice_get (table_places (length ts) vars) number ≡ Some w = ap (slice_get (table_places (length ts) vars)) c ∙ place_here (length ts) vars i w lt we below in
     subst (λ k. All (λ row. length row ≡ k) (list_at adds number)) (sym width) (wide number w r.0 here r.1)
 

@@ -33,7 +33,7 @@ use Rattle.brooklet_model.proofs.Free.{at_port-append}
 use Rattle.brooklet_step.specs.declared.emit.Emit.{Emit}
 use Rattle.brooklet_step.specs.declared.state.State.TheVariants as state
 use Rattle.brooklet_step.specs.Took.{Took}
-use Rattle.brooklet_step.specs.Given.{IsHeldOf, FitCross, FitState, as_batches, ran, CrossStands, StandsAfter, TookHeld, Gives, FiresAt}
+use Rattle.brooklet_step.specs.Given.{IsHeldOf, FitCross, FitState, as_batches, ran_from, CrossStands, StandsAfter, TookHeld, GivesAsDefined, FiresAt}
 use Rattle.brooklet_step.proofs.GivenLemmas.{at_next, ran_more}
 use Rattle.brooklet_step.proofs.OnePort.{change_held, held_change, relation_typed, came_content, took_first, came_first, does_at}
 
@@ -143,7 +143,7 @@ other_one w x = at_port-append 1 w ((0, x) ∷ []) ∙ append-nil (at_port 1 w)
 module _ (n k : ℕ) (out out' : Emit) (ds : List Change) (now now' : CrossKept) where
   -- what a firing on x gives, and what it keeps
   abbrev GivesFor : List Kept → Word → ℕ → item.Item → Type 0
-  GivesFor start w p x = TookHeld (relation (n + k) ∷ []) (ran cross start w) out out' (fire cross p x (ran cross start w).states)
+  GivesFor start w p x = TookHeld (relation (n + k) ∷ []) (ran_from cross start w) out out' (fire cross p x (ran_from cross start w).states)
       × CrossStands start (state.Cross now' ∷ []) (w ++ (p, x) ∷ [])
 
   -- where the item has come to its port, and what is kept with it stands for that
@@ -157,7 +157,7 @@ module _ (n k : ℕ) (out out' : Emit) (ds : List Change) (now now' : CrossKept)
       let c = f.each m stands in
       let gs = (passed_pairs m).0 in
       let rest = (passed_pairs m).1 in
-      let before = ran cross start w in
+      let before = ran_from cross start w in
       let prev = before.outs 0 in
       let was = pairing (as_batches a.contents.left) (as_batches a.contents.right) in
       let left_over = pairing (as_batches rest.left) (as_batches rest.right) in
@@ -222,7 +222,7 @@ module _ (n k : ℕ) (out out' : Emit) (ds : List Change) (now now' : CrossKept)
 -- a change at either port
 gives_left : (n k : ℕ) (out out' : Emit) (ds : List Change) (now now' : CrossKept) (c : Change) → Crosses (put_change 0 c now) now' [] ds
     → Took out out' (gives 0 (as_changes ds) [])
-    → Gives cross (relation n ∷ relation k ∷ []) (relation (n + k) ∷ []) 0 (Flat (Changed c)) out out' (state.Cross now ∷ []) (state.Cross now' ∷ [])
+    → GivesAsDefined cross (relation n ∷ relation k ∷ []) (relation (n + k) ∷ []) 0 (Flat (Changed c)) out out' (state.Cross now ∷ []) (state.Cross now' ∷ [])
 gives_left n k out out' ds now now' c f took = record {
   given = λ start w x is_start tw tx a h.
       let y = relation_typed n x tx in
@@ -232,7 +232,7 @@ gives_left n k out out' ds now now' c f took = record {
 
 gives_right : (n k : ℕ) (out out' : Emit) (ds : List Change) (now now' : CrossKept) (c : Change) → Crosses (put_change 1 c now) now' [] ds
     → Took out out' (gives 0 (as_changes ds) [])
-    → Gives cross (relation n ∷ relation k ∷ []) (relation (n + k) ∷ []) 1 (Flat (Changed c)) out out' (state.Cross now ∷ []) (state.Cross now' ∷ [])
+    → GivesAsDefined cross (relation n ∷ relation k ∷ []) (relation (n + k) ∷ []) 1 (Flat (Changed c)) out out' (state.Cross now ∷ []) (state.Cross now' ∷ [])
 gives_right n k out out' ds now now' c f took = record {
   given = λ start w x is_start tw tx a h.
       let y = relation_typed k x tx in
@@ -242,7 +242,7 @@ gives_right n k out out' ds now now' c f took = record {
 
 pair_gives : (n k p : ℕ) (out out' : Emit) (ds : List Change) (now now' : CrossKept) (c : Change) → IsHeldOf (relation n ∷ relation k ∷ []) p (Flat (Changed c))
     → Crosses (put_change p c now) now' [] ds → Took out out' (gives 0 (as_changes ds) [])
-    → Gives cross (relation n ∷ relation k ∷ []) (relation (n + k) ∷ []) p (Flat (Changed c)) out out' (state.Cross now ∷ []) (state.Cross now' ∷ [])
+    → GivesAsDefined cross (relation n ∷ relation k ∷ []) (relation (n + k) ∷ []) p (Flat (Changed c)) out out' (state.Cross now ∷ []) (state.Cross now' ∷ [])
 pair_gives n k zero out out' ds now now' c h f took = gives_left n k out out' ds now now' c f took
 pair_gives n k (suc zero) out out' ds now now' c h f took = gives_right n k out out' ds now now' c f took
 pair_gives n k (suc (suc p)) out out' ds now now' c h f took = absurd h

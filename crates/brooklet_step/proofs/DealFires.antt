@@ -40,8 +40,8 @@ use Rattle.brooklet_step.specs.declared.state.State.{State}
 use Rattle.brooklet_step.specs.declared.state.State.TheVariants as state
 use Rattle.brooklet_step.specs.Dealing.{DealsAsChange, DealsItem}
 use Rattle.brooklet_step.specs.Stands.{IsChange, StandsForTurn}
-use Rattle.brooklet_step.specs.Took.{Took, HasRoom}
-use Rattle.brooklet_step.specs.Given.{held_by, held_at, IsHeldBy, IsHeldOf, columns_by, ran, FitState, FitTurn, DealStands, StandsAfter, TookHeld, Does, FiresAt, CanTake}
+use Rattle.brooklet_step.specs.Took.{Took, HasLists}
+use Rattle.brooklet_step.specs.Given.{held_by, held_at, IsHeldBy, IsHeldOf, columns_by, ran_from, FitState, FitTurn, DealStands, StandsAfter, TookHeld, Does, FiresAt, CanTake}
 use Rattle.brooklet_step.proofs.GivenFires.{ArePlain}
 use Rattle.brooklet_step.proofs.GivenLemmas.{at-plain, at_next, ran_more, not_both}
 use Rattle.brooklet_step.proofs.OnePort.{relation_holds, change_held, relation_typed, same_item, same_state, same_columns, came_content}
@@ -119,7 +119,7 @@ gave h = h.is ∙ ap (λ f. Flat f) h.deals.is
 
 -- A FIRING
 
-module _ (ws : List ℤ) (i g : item.Item) (s s' : State) (old new : Dealt) (out out' : Emit) (room : HasRoom (deal ws) out) (es : s ≡ state.Deal old)
+module _ (ws : List ℤ) (i g : item.Item) (s s' : State) (old new : Dealt) (out out' : Emit) (room : HasLists (deal ws) out) (es : s ≡ state.Deal old)
     (es' : s' ≡ state.Deal new) (np : new.turn.port ≡ next_port (shares ws) old.turn.port old.turn.had)
     (nh : new.turn.had ≡ next_had (shares ws) old.turn.port old.turn.had)
     (took : Took out out' (gives old.turn.port (g ∷ []) [])) (dealt : DealsItem old.turn.port i old.owed new.owed g) where
@@ -134,17 +134,17 @@ module _ (ws : List ℤ) (i g : item.Item) (s s' : State) (old new : Dealt) (out
     same : old ≡ sa.stands.now
     same = same_dealt old sa.stands.now (sym es ∙ same_state s (state.Deal sa.stands.now) sa.stands.code)
 
-    states_are : (ran (deal ws) start w).states ≡ Turn place old.turn.had ∷ []
+    states_are : (ran_from (deal ws) start w).states ≡ Turn place old.turn.had ∷ []
     states_are = sa.stands.defined ∙ ap (λ (d : Dealt). Turn d.turn.port d.turn.had ∷ []) (sym same)
 
     fired_is : (x : item.Item)
-        → fire (deal ws) 0 x (ran (deal ws) start w).states
+        → fire (deal ws) 0 x (ran_from (deal ws) start w).states
         ≡ gives place (x ∷ []) (Turn (next_port (shares ws) place old.turn.had) (next_had (shares ws) place old.turn.had) ∷ [])
     fired_is x = ap (deal_one (shares ws) x) states_are
 
     -- the next state
     next_stands : (x : item.Item) → HaveShares (shares ws) → length new.owed ≡ length old.owed
-        → StandsForTurn (shares ws) (s' ∷ []) (ran (deal ws) start (w ++ (0, x) ∷ [])).states
+        → StandsForTurn (shares ws) (s' ∷ []) (ran_from (deal ws) start (w ++ (0, x) ∷ [])).states
     next_stands x some len = record {
       now = new;
       code = ap (λ (u : State). u ∷ []) es';
@@ -179,7 +179,7 @@ module _ (ws : List ℤ) (i g : item.Item) (s s' : State) (old new : Dealt) (out
         gives = record {
           given = λ start w x is_start tw tx sa h.
               let e : x ≡ i = same_item x i (sym (held-plain T (at_port 0 w) (x ∷ []) p) ∙ h) in
-              let before = ran (deal ws) start w in
+              let before = ran_from (deal ws) start w in
               let r = fire (deal ws) 0 x before.states in
               let is : g ∷ [] ≡ x ∷ [] = ap (λ (y : item.Item). y ∷ []) (one.0 ∙ sym e) in (
                 record {
@@ -236,7 +236,7 @@ module _ (ws : List ℤ) (i g : item.Item) (s s' : State) (old new : Dealt) (out
     where
       over : (start : List Kept) (w : Word) (x : item.Item) → HasType (relation n) x → DealStands ws (relation n ∷ []) start (s ∷ []) w
           → held (relation n) (at_port 0 w) (x ∷ []) ≡ i ∷ []
-          → TookHeld (replicate (length ws) (relation n)) (ran (deal ws) start w) out out' (fire (deal ws) 0 x (ran (deal ws) start w).states)
+          → TookHeld (replicate (length ws) (relation n)) (ran_from (deal ws) start w) out out' (fire (deal ws) 0 x (ran_from (deal ws) start w).states)
           × DealStands ws (relation n ∷ []) start (s' ∷ []) (w ++ (0, x) ∷ [])
       over start w x tx sa h =
           let T = relation n in
@@ -247,7 +247,7 @@ module _ (ws : List ℤ) (i g : item.Item) (s s' : State) (old new : Dealt) (out
           let d = one.given in
           let xb = relation_typed n x tx in
           let b = xb.batch in
-          let before = ran (deal ws) start w in
+          let before = ran_from (deal ws) start w in
           let prev = before.outs in
           let now = content_from [] (at_port 0 w) in
           let last : ℕ → List (List ℤ) = λ p. content_from [] (prev p) in
@@ -265,7 +265,7 @@ module _ (ws : List ℤ) (i g : item.Item) (s s' : State) (old new : Dealt) (out
           (λ q. only_other place p (g ∷ []) (λ z. q (sym z)) ∙ sym (held-nil T (prev p)) ∙ ap (held T (prev p)) (sym (only_other place p xs (λ z. q (sym z)))))
           (cases_eq place p) in
           let more = ran_more (deal ws) start w 0 x in
-          let after : (p : ℕ) → content_from [] ((ran (deal ws) start (w ++ (0, x) ∷ [])).outs p) ≡ but_at place b.rows last p = λ p.
+          let after : (p : ℕ) → content_from [] ((ran_from (deal ws) start (w ++ (0, x) ∷ [])).outs p) ≡ but_at place b.rows last p = λ p.
           ap (content_from []) (more.outs p ∙ ap (λ (u : Fired). prev p ++ u.outs p) fired) ∙ content-append [] (prev p) (only place xs p)
           ∙ ⊎_elim
           (λ q. subst (λ j. content_from (last j) (only place xs j) ≡ but_at place b.rows last j) q

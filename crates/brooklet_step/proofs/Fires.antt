@@ -23,8 +23,8 @@ use Rattle.brooklet_model.specs.Fire.{fire, outs, tabs}
 use Rattle.brooklet_step.specs.declared.emit.Emit.{Emit}
 use Rattle.brooklet_step.specs.declared.state.State.{State}
 use Rattle.brooklet_step.specs.declared.state.State.TheVariants as state
-use Rattle.brooklet_step.specs.Took.{HasRoom, IsBlank}
-use Rattle.brooklet_step.specs.Stands.{StandsFor, Fires, Takes}
+use Rattle.brooklet_step.specs.Took.{HasLists, IsBlank}
+use Rattle.brooklet_step.specs.Stands.{StandsForKept, Fires, Takes}
 
 -- PACKS OF WHAT ITEMS ARE
 
@@ -55,7 +55,7 @@ kern_of-duplicate n = ap kern_of (sym (kernel.rolls-Duplicate n)) ∙ fold-roll-
 -- ROOM
 
 -- empty lists have a place for each port and table
-pub blank_room : (k : Kern) (e : Emit) → IsBlank k e → HasRoom k e
+pub blank_room : (k : Kern) (e : Emit) → IsBlank k e → HasLists k e
 blank_room k e b = record { outs = ap length b.outs ∙ length-replicate (outs k) []; adds = ap length b.adds ∙ length-replicate (tabs k) [] }
 
 -- what is in lists that were empty
@@ -82,14 +82,14 @@ pub filter_whole : (k : Kern) (f : FilterForm) (port : ℕ) (x : item.Item) (st 
     → Takes k port x st → s ≡ get_or st 0 d → Fires (filter f) out out' (s ∷ []) (s' ∷ []) (fire (filter f) 0 x)
     → Fires k out out' st (set st 0 s') (fire k port x)
 filter_whole k f port x st d s s' out out' ek t g h =
-    let a = subst (λ (j : Kern). StandsFor j st t.fitted.keeps.kept) ek t.fitted.keeps.stands in
+    let a = subst (λ (j : Kern). StandsForKept j st t.fitted.keeps.kept) ek t.fitted.keeps.stands in
     let same : s ≡ state.Filter a.now = g ∙ ap (λ (l : List State). get_or l 0 d) a.code in
     let e : st ≡ s ∷ [] = a.code ∙ ap (λ (u : State). u ∷ []) (sym same) in
     let whole : Fires (filter f) out out' st (set st 0 s') (fire (filter f) port x) = subst (λ (l : List State). Fires (filter f) out out' l (set l 0 s') (fire (filter f) port x)) (sym e) h in
     subst (λ (j : Kern). Fires j out out' st (set st 0 s') (fire j port x)) (sym ek) whole
 
 -- giving an item at each port is the firing of a kernel that copies
-pub duplicate_fires : (k : Kern) (n port : ℕ) (x : item.Item) (st : List State) (out out' : Emit) → k ≡ duplicate n → HasRoom k out
+pub duplicate_fires : (k : Kern) (n port : ℕ) (x : item.Item) (st : List State) (out out' : Emit) → k ≡ duplicate n → HasLists k out
     → out'.outs ≡ each_grew out.outs (λ p. x ∷ []) → out'.adds ≡ out.adds → Fires k out out' st st (fire k port x)
 duplicate_fires k n port x st out out' ek room eo ea =
     let l : length out.outs ≡ n = room.outs ∙ ap outs ek in

@@ -13,7 +13,7 @@ use Rattle.river_base.specs.Places.{list_at}
 use Rattle.river_plan.specs.declared.plan.Decl.{Decl}
 use Rattle.river_plan.specs.Forms.{PlanForm}
 use Rattle.brooklet_model.specs.Typed.{AreInputs}
-use Rattle.brooklet_model.specs.Fit.{Fit, instant_of, instants, Rises, HasInstants, AreInstants}
+use Rattle.brooklet_model.specs.Fit.{Fit, instant_of, instants_in, Rises, HasInstants, AreInstants}
 use Rattle.brooklet_step.specs.Fit.{IsStream, NoStream, IsStreamAt}
 
 -- what holds at each place of two lists
@@ -57,13 +57,13 @@ instants_by (d ∷ ds) ts [] h = tt
 instants_by (d ∷ ds) ts (xs ∷ ls) h = (h 0 d refl, instants_by ds ts ls (λ i x g. h (suc i) x g))
 
 -- streams have instants, and others any
-pub stream_has : (t : QueueType) (ts : List ℤ) (xs : List item.Item) → (IsStream t → instants xs ≡ ts) → HasInstants t ts xs
+pub stream_has : (t : QueueType) (ts : List ℤ) (xs : List item.Item) → (IsStream t → instants_in xs ≡ ts) → HasInstants t ts xs
 stream_has (FlatOf (Rows w)) ts xs h = tt
 stream_has (FlatOf (Stream w)) ts xs h = h tt
 stream_has (FlatOf (Relation w)) ts xs h = tt
 stream_has (PackOf t) ts xs h = tt
 
-pub has_stream : (t : QueueType) (ts : List ℤ) (xs : List item.Item) → HasInstants t ts xs → IsStream t → instants xs ≡ ts
+pub has_stream : (t : QueueType) (ts : List ℤ) (xs : List item.Item) → HasInstants t ts xs → IsStream t → instants_in xs ≡ ts
 has_stream (FlatOf (Rows w)) ts xs h s = absurd s
 has_stream (FlatOf (Stream w)) ts xs h s = h
 has_stream (FlatOf (Relation w)) ts xs h s = absurd s
@@ -79,15 +79,15 @@ fit_none p ls a n = record {
 }
 
 -- the first stream tells the instants
-pub fit_some : (p : PlanForm) (ls : List (List item.Item)) (i : ℕ) (xs : List item.Item) → AreInputs p.inputs ls → xs ≡ list_at ls i → Rises (instants xs)
-    → AreInstants p.inputs (instants xs) ls → Fit p ls
-fit_some p ls i xs a e r s = record { typed = a; instants_of = instants xs; ascending = r; streams = s }
+pub fit_some : (p : PlanForm) (ls : List (List item.Item)) (i : ℕ) (xs : List item.Item) → AreInputs p.inputs ls → xs ≡ list_at ls i → Rises (instants_in xs)
+    → AreInstants p.inputs (instants_in xs) ls → Fit p ls
+fit_some p ls i xs a e r s = record { typed = a; instants_of = instants_in xs; ascending = r; streams = s }
 
 pub some_fit : (p : PlanForm) (ls : List (List item.Item)) (i : ℕ) (d : Decl) (xs : List item.Item) → slice_get p.inputs i ≡ Some d → IsStream d.kind
-    → xs ≡ list_at ls i → Fit p ls → Rises (instants xs) × AreInstants p.inputs (instants xs) ls
+    → xs ≡ list_at ls i → Fit p ls → Rises (instants_in xs) × AreInstants p.inputs (instants_in xs) ls
 some_fit p ls i d xs g s e f =
     let h = instants_at p.inputs f.instants_of ls (inputs_long p.inputs ls f.typed) f.streams i d g in
-    let same : f.instants_of ≡ instants xs = sym (has_stream d.kind f.instants_of (list_at ls i) h s) ∙ ap instants (sym e) in
+    let same : f.instants_of ≡ instants_in xs = sym (has_stream d.kind f.instants_of (list_at ls i) h s) ∙ ap instants_in (sym e) in
     (subst Rises same f.ascending, subst (λ ts. AreInstants p.inputs ts ls) same f.streams)
 
 -- RISING, AND THE SAME
@@ -95,7 +95,7 @@ some_fit p ls i d xs g s e f =
 head_later : (t u : ℤ) (ts : List ℤ) → Rises (t ∷ u ∷ ts) → t <ℤ u
 head_later t u ts r = r.0
 
-pub rises_at : (xs : List item.Item) → Rises (instants xs) → (i : ℕ) (x y : item.Item) → slice_get xs i ≡ Some x → slice_get xs (suc i) ≡ Some y
+pub rises_at : (xs : List item.Item) → Rises (instants_in xs) → (i : ℕ) (x y : item.Item) → slice_get xs i ≡ Some x → slice_get xs (suc i) ≡ Some y
     → instant_of x <ℤ instant_of y
 rises_at [] r i x y g h = absurd (cc g)
 rises_at (a ∷ []) r zero x y g h = absurd (let e : None ≡ Some y = h in cc e)
@@ -108,35 +108,35 @@ rises_at (a ∷ b ∷ xs) r (suc i) x y g h = rises_at (b ∷ xs) r.1 i x y g h
 
 -- instants rise, where each is below the next
 pub rises_by : (xs : List item.Item) → ((i : ℕ) (x y : item.Item) → slice_get xs i ≡ Some x → slice_get xs (suc i) ≡ Some y → instant_of x <ℤ instant_of y)
-    → Rises (instants xs)
+    → Rises (instants_in xs)
 rises_by [] h = tt
 rises_by (a ∷ []) h = tt
 rises_by (a ∷ b ∷ xs) h = (h 0 a b refl refl, rises_by (b ∷ xs) (λ i x y g k. h (suc i) x y g k))
 
-pub same_at : (xs ys : List item.Item) → instants xs ≡ instants ys → (i : ℕ) (x y : item.Item) → slice_get xs i ≡ Some x → slice_get ys i ≡ Some y
+pub same_at : (xs ys : List item.Item) → instants_in xs ≡ instants_in ys → (i : ℕ) (x y : item.Item) → slice_get xs i ≡ Some x → slice_get ys i ≡ Some y
     → instant_of x ≡ instant_of y
 same_at xs ys e i x y g h =
     let s : Some (instant_of x) ≡ Some (instant_of y) = sym (got_map xs i x g) ∙ ap (λ (l : List ℤ). slice_get l i) e ∙ got_map ys i y h in cc
   where
-    got_map : (zs : List item.Item) (n : ℕ) (z : item.Item) → slice_get zs n ≡ Some z → slice_get (instants zs) n ≡ Some (instant_of z)
+    got_map : (zs : List item.Item) (n : ℕ) (z : item.Item) → slice_get zs n ≡ Some z → slice_get (instants_in zs) n ≡ Some (instant_of z)
     got_map [] n z k = absurd (cc k)
     got_map (w ∷ ws) zero z k = let q : w ≡ z = cc in ap (λ v. Some (instant_of v)) q
     got_map (w ∷ ws) (suc n) z k = got_map ws n z k
 
 -- instants are the same, where they are at each place
 pub same_by : (xs ys : List item.Item) → length xs ≡ length ys
-    → ((i : ℕ) (x y : item.Item) → slice_get xs i ≡ Some x → slice_get ys i ≡ Some y → instant_of x ≡ instant_of y) → instants xs ≡ instants ys
+    → ((i : ℕ) (x y : item.Item) → slice_get xs i ≡ Some x → slice_get ys i ≡ Some y → instant_of x ≡ instant_of y) → instants_in xs ≡ instants_in ys
 same_by [] [] e h = refl
 same_by [] (y ∷ ys) e h = absurd (omega (arith, e))
 same_by (x ∷ xs) [] e h = absurd (omega (arith, e))
 same_by (x ∷ xs) (y ∷ ys) e h =
-    ap (λ t. t ∷ instants xs) (h 0 x y refl refl) ∙ ap (λ l. instant_of y ∷ l) (same_by xs ys (omega (arith, e)) (λ i a b g k. h (suc i) a b g k))
+    ap (λ t. t ∷ instants_in xs) (h 0 x y refl refl) ∙ ap (λ l. instant_of y ∷ l) (same_by xs ys (omega (arith, e)) (λ i a b g k. h (suc i) a b g k))
 
-pub instants_long : (xs ys : List item.Item) → instants xs ≡ instants ys → length xs ≡ length ys
+pub instants_long : (xs ys : List item.Item) → instants_in xs ≡ instants_in ys → length xs ≡ length ys
 instants_long [] [] e = refl
 instants_long [] (y ∷ ys) e = absurd (cc e)
 instants_long (x ∷ xs) [] e = absurd (cc e)
-instants_long (x ∷ xs) (y ∷ ys) e = ap suc (instants_long xs ys (let t : instants xs ≡ instants ys = cc in t))
+instants_long (x ∷ xs) (y ∷ ys) e = ap suc (instants_long xs ys (let t : instants_in xs ≡ instants_in ys = cc in t))
 
 -- LOOPS
 
@@ -189,7 +189,7 @@ later_here xs n m a b lt ae be me h x y g k =
 
 -- an instant that is not below the next is told
 pub not_later : (xs : List item.Item) (n m : ℕ) (a b : item.Item) → n + 1 < length xs → a ≡ get_or xs n a → b ≡ get_or xs m b → m ≡ suc n
-    → (instant_of a <ℤ instant_of b → ⊥) → Rises (instants xs) → ⊥
+    → (instant_of a <ℤ instant_of b → ⊥) → Rises (instants_in xs) → ⊥
 not_later xs n m a b lt ae be me h r =
     h (rises_at xs r n a b (got_at xs n a (omega (arith, lt)) ae) (got_at xs (suc n) b (omega (arith, lt)) (be ∙ ap (λ i. get_or xs i b) me)))
 
@@ -200,7 +200,7 @@ same_here xs ys n a b lx ly ae be h x y g k = ap instant_of (sym (got_here xs n 
 
 -- instants that differ are told
 pub not_same : (xs ys : List item.Item) (n : ℕ) (a b : item.Item) → n < length xs → n < length ys → a ≡ get_or xs n a → b ≡ get_or ys n b
-    → (instant_of a ≡ instant_of b → ⊥) → instants xs ≡ instants ys → ⊥
+    → (instant_of a ≡ instant_of b → ⊥) → instants_in xs ≡ instants_in ys → ⊥
 not_same xs ys n a b lx ly ae be h e = h (same_at xs ys e n a b (got_at xs n a lx ae) (got_at ys n b ly be))
 
 -- A TEST'S ANSWER
@@ -238,17 +238,17 @@ module _ (p : PlanForm) (ds : List Decl) (ls : List (List item.Item)) (e : ds �
   stream_in i s = let w = slice_get_within ds i s.0 s.1 in let l = inputs_long ds ls a in omega (arith, w, l)
 
   -- where the first stream's instants rise, the others decide
-  pub fits_then : (i : ℕ) (xs : List item.Item) (b : Bool) → IsStreamAt ds (Some i) → xs ≡ list_at ls i → Rises (instants xs)
-      → (IsTrue b → AreInstants ds (instants xs) ls) × (AreInstants ds (instants xs) ls → IsTrue b) → (IsTrue b → Fit p ls) × (Fit p ls → IsTrue b)
+  pub fits_then : (i : ℕ) (xs : List item.Item) (b : Bool) → IsStreamAt ds (Some i) → xs ≡ list_at ls i → Rises (instants_in xs)
+      → (IsTrue b → AreInstants ds (instants_in xs) ls) × (AreInstants ds (instants_in xs) ls → IsTrue b) → (IsTrue b → Fit p ls) × (Fit p ls → IsTrue b)
   fits_then i xs b s x r h =
       let s' : IsStreamAt p.inputs (Some i) = subst (λ (y : List Decl). IsStreamAt y (Some i)) e s in (
-        (λ t. fit_some p ls i xs typed x r (subst (λ (y : List Decl). AreInstants y (instants xs) ls) e (h.0 t))),
-        (λ f. h.1 (subst (λ (y : List Decl). AreInstants y (instants xs) ls) (sym e) (some_fit p ls i s'.0 xs s'.1 s'.2 x f).1)),
+        (λ t. fit_some p ls i xs typed x r (subst (λ (y : List Decl). AreInstants y (instants_in xs) ls) e (h.0 t))),
+        (λ f. h.1 (subst (λ (y : List Decl). AreInstants y (instants_in xs) ls) (sym e) (some_fit p ls i s'.0 xs s'.1 s'.2 x f).1)),
       )
 
   -- where they do not, nothing fits
   pub fits_else : (i : ℕ) (xs : List item.Item) (b : Bool) → IsStreamAt ds (Some i) → xs ≡ list_at ls i → b ≡ false
-      → (IsTrue b → Rises (instants xs)) × (Rises (instants xs) → IsTrue b) → (IsTrue b → Fit p ls) × (Fit p ls → IsTrue b)
+      → (IsTrue b → Rises (instants_in xs)) × (Rises (instants_in xs) → IsTrue b) → (IsTrue b → Fit p ls) × (Fit p ls → IsTrue b)
   fits_else i xs b s x f h =
       let s' : IsStreamAt p.inputs (Some i) = subst (λ (y : List Decl). IsStreamAt y (Some i)) e s in (
         (λ t. absurd (let k : false ≡ true = sym f ∙ t in cc k)),

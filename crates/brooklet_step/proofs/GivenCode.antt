@@ -19,7 +19,7 @@ use Rattle.brooklet_model.proofs.Ports.{shaped}
 use Rattle.brooklet_model.proofs.Typing.{between_is}
 use Rattle.brooklet_step.specs.declared.emit.Emit.{Emit}
 use Rattle.brooklet_step.specs.declared.state.State.{State}
-use Rattle.brooklet_step.specs.Took.{Took, HasRoom, IsBlank}
+use Rattle.brooklet_step.specs.Took.{Took, HasLists, IsBlank}
 use Rattle.brooklet_step.specs.Given.{IsHeldBy, IsHeldOf, FitState, FiresAt, FiresEach, Does, CanTake, CanTakeAll, CanTakeOn, TookOn}
 use Rattle.brooklet_step.proofs.Fires.{grown_list, blank_room}
 use Rattle.brooklet_step.proofs.Fused.{Parts, mine_is, rest_is}
@@ -29,7 +29,7 @@ use Rattle.brooklet_step.proofs.GivenParts.{came_room, packed_does, fused_does}
 
 -- a kernel that fired can fire again
 pub fires_again : (k : Kern) (p : ℕ) (i : item.Item) (e e' : Emit) (st st' : List State) (t : CanTake k p i st e) → FiresAt k p i e e' st st'
-    → FitState k t.reads st' × HasRoom k e'
+    → FitState k t.reads st' × HasLists k e'
 fires_again k p i e e' st st' t f =
     let d = f.each t.reads t.fitting.writes t.fitting.vars t.fitting.fits t.fitting.state t.item in
     (d.came.again, came_room k t.reads t.fitting.writes t.fitting.vars e e' st' t.room d.came)
@@ -141,7 +141,7 @@ module _ (k a b : Kern) (at count port : ℕ) (x : item.Item) (st mine rest : Li
     abbrev da : Does a t.reads t.fitting.fits.0 t.fitting.fits.3 port x mid0 mid mine mine'
     da = fm.each t.reads t.fitting.fits.0 t.fitting.fits.3 t.fitting.fits.5 first_state t.item
 
-    pub first_room : HasRoom a mid
+    pub first_room : HasLists a mid
     first_room = came_room a t.reads t.fitting.fits.0 t.fitting.fits.3 mid0 mid mine' (blank_room a mid0 bm) da.came
 
     pub at_below : at < length mid.outs
@@ -189,7 +189,7 @@ pub takes_on : (k a b : Kern) (at count port : ℕ) (x : item.Item) (st mine res
 takes_on k a b at count port x st mine rest mine' out mid0 mid p t bm fm = on_of k a b at count port x st mine rest out mid0 p t bm mine' mid fm
 
 -- where a kernel fired on items one after another, there are still lists for what it gives
-each_room : (k : Kern) (is : List item.Item) (e e' : Emit) (st st' : List State) → CanTakeAll k is st e → FiresEach k is e e' st st' → HasRoom k e'
+each_room : (k : Kern) (is : List item.Item) (e e' : Emit) (st st' : List State) → CanTakeAll k is st e → FiresEach k is e e' st st' → HasLists k e'
 each_room k is e e' st st' t f =
     let d = f.each t.reads t.fitting.writes t.fitting.vars t.fitting.fits t.fitting.state t.items in
     came_room k t.reads t.fitting.writes t.fitting.vars e e' st' t.room d.came
@@ -207,7 +207,7 @@ parts_fire k a b at count port x st mine rest mine' rest' out new mid0 mid last0
 
 -- after all firings of the second part there is still a place for each port
 pub second_room : (b : Kern) (at : ℕ) (st st' : List State) (mid out last0 last : Emit) (items : List item.Item) → CanTakeOn b at st mid out → IsBlank b last0
-    → items ≡ list_at mid.outs at → FiresEach b items last0 last st st' → HasRoom b last
+    → items ≡ list_at mid.outs at → FiresEach b items last0 last st st' → HasLists b last
 second_room b at st st' mid out last0 last items t bl is f =
     let f' = subst (λ (l : List item.Item). FiresEach b l last0 last st st') is f in
     each_room b (list_at mid.outs at) last0 last st st' (t.takes last0 bl) f'

@@ -23,9 +23,9 @@ use Rattle.brooklet_model.proofs.Typing.{fire_typed}
 use Rattle.brooklet_model.proofs.WideAdds.{fire_wide}
 use Rattle.brooklet_step.specs.declared.emit.Emit.{Emit}
 use Rattle.brooklet_step.specs.declared.state.State.{State}
-use Rattle.brooklet_step.specs.Stands.{StandsFor, Fires, Applies}
+use Rattle.brooklet_step.specs.Stands.{StandsForKept, Fires, Applies}
 use Rattle.brooklet_step.specs.Took.{Took}
-use Rattle.brooklet_step.specs.Given.{held_at, IsHeldOf, IsPlainBy, FitState, ran, StandsAfter, TookHeld, Gives, Does, FiresAt, GivesAll, FiresEach, CanTake}
+use Rattle.brooklet_step.specs.Given.{held_at, IsHeldOf, IsPlainBy, FitState, ran_from, StandsAfter, TookHeld, GivesAsDefined, Does, FiresAt, GivesAll, FiresEach, CanTake}
 use Rattle.brooklet_step.proofs.Standing.{stands_shape}
 use Rattle.brooklet_step.proofs.GivenLemmas.{at-nil, at-append, at-length, at-plain, of_plain, all_plain, at_word, word_append, ran_more}
 use Rattle.brooklet_step.proofs.GivenLemmas.{IsSimple, fit_of, simple_kept, simple_to, simple_from}
@@ -72,10 +72,10 @@ plain_does k port i out out' st st' l f reads writes vars fits fs hi pr pw =
       gives = record {
         given = λ start w x is_start tw tx sa h.
             let e : x ≡ i = head_item x i (sym (at-plain reads port (at_port port w) (x ∷ []) (pr port)) ∙ h) in
-            let before = ran k start w in
+            let before = ran_from k start w in
             let ss = before.states in
-            let one : Took out out' (fire k port x ss) × StandsFor k st' (fire k port x ss).states =
-            subst (λ y. Took out out' (fire k port y ss) × StandsFor k st' (fire k port y ss).states) (sym e) (f.given ss (simple_to k reads start st w l sa)) in
+            let one : Took out out' (fire k port x ss) × StandsForKept k st' (fire k port x ss).states =
+            subst (λ y. Took out out' (fire k port y ss) × StandsForKept k st' (fire k port y ss).states) (sym e) (f.given ss (simple_to k reads start st w l sa)) in
             let r = fire k port x ss in (
               record {
                 outs =
@@ -83,7 +83,7 @@ plain_does k port i out out' st st' l f reads writes vars fits fs hi pr pw =
                     ∙ each_grew_cong out.outs r.outs (λ p. held_at writes p (before.outs p) (r.outs p)) (λ p lt. sym (at-plain writes p (before.outs p) (r.outs p) (pw p)));
                 adds = one.0.adds;
               },
-              simple_from k reads start st' (w ++ (port, x) ∷ []) l (subst (StandsFor k st') (sym (ran_more k start w port x).states) one.1),
+              simple_from k reads start st' (w ++ (port, x) ∷ []) l (subst (StandsForKept k st') (sym (ran_more k start w port x).states) one.1),
             );
       };
       came = record {
@@ -113,9 +113,9 @@ run-append f (e ∷ u) v ss =
 
 -- the firings of a word and then of a list at the first port
 pub ran_feed : (k : Kern) (ss : List Kept) (u : Word) (zs : List item.Item)
-    → Same (ran k ss (u ++ word_of 0 zs)) (and_then (ran k ss u) (feed (fire k 0) zs (ran k ss u).states))
+    → Same (ran_from k ss (u ++ word_of 0 zs)) (and_then (ran_from k ss u) (feed (fire k 0) zs (ran_from k ss u).states))
 ran_feed k ss u zs =
-    subst (λ (r : Fired). Same (ran k ss (u ++ word_of 0 zs)) (and_then (ran k ss u) r)) (feed_word (fire k) 0 zs (ran k ss u).states) (run-append (fire k) u (word_of 0 zs) ss)
+    subst (λ (r : Fired). Same (ran_from k ss (u ++ word_of 0 zs)) (and_then (ran_from k ss u) r)) (feed_word (fire k) 0 zs (ran_from k ss u).states) (run-append (fire k) u (word_of 0 zs) ss)
 
 -- before the first item nothing was fired
 pub each_start : (k : Kern) (out : Emit) (st : List State) → FiresEach k [] out out st st
@@ -131,12 +131,12 @@ each_start k out st = record {
     len reads w xs h = sym (at-length reads 0 (at_port 0 w) xs) ∙ ap length h
 
     nothing : (reads writes : List QueueType) (ss : List Kept) (w : Word) (xs : List item.Item) → StandsAfter k reads ss st w → length xs ≡ 0
-        → TookHeld writes (ran k ss w) out out (feed (fire k 0) xs (ran k ss w).states) × StandsAfter k reads ss st (w ++ word_of 0 xs)
+        → TookHeld writes (ran_from k ss w) out out (feed (fire k 0) xs (ran_from k ss w).states) × StandsAfter k reads ss st (w ++ word_of 0 xs)
     nothing reads writes ss w [] sa e = (
       record {
         outs =
             sym (each_grew-none out.outs)
-            ∙ each_grew_cong out.outs none (λ p. held_at writes p ((ran k ss w).outs p) []) (λ p lt. sym (at-nil writes p ((ran k ss w).outs p)));
+            ∙ each_grew_cong out.outs none (λ p. held_at writes p ((ran_from k ss w).outs p) []) (λ p lt. sym (at-nil writes p ((ran_from k ss w).outs p)));
         adds = sym (each_grew-none out.adds);
       },
       subst (StandsAfter k reads ss st) (sym (append-nil w)) sa,
@@ -180,7 +180,7 @@ each_step k is i st st1 st2 e e' e'' f u = record {
           given = λ start w xs is_start tw txs sa h.
               let n : length xs ≡ length is + 1 = sym (at-length reads 0 (at_port 0 w) xs) ∙ ap length h ∙ length-append is (i ∷ []) in
               let s = last_split xs (length is) n in
-              subst (λ (l : List item.Item). TookHeld writes (ran k start w) e e'' (feed (fire k 0) l (ran k start w).states) × StandsAfter k reads start st2 (w ++ word_of 0 l)) (sym s.2)
+              subst (λ (l : List item.Item). TookHeld writes (ran_from k start w) e e'' (feed (fire k 0) l (ran_from k start w).states) × StandsAfter k reads start st2 (w ++ word_of 0 l)) (sym s.2)
               (more reads writes start is_start w s.0 s.1 tw (subst (All (IsOf reads 0)) s.2 txs) sa (ap (held_at reads 0 (at_port 0 w)) (sym s.2) ∙ h) s.3 a.gives b.gives);
         };
         came = record {
@@ -197,19 +197,19 @@ each_step k is i st st1 st2 e e' e'' f u = record {
   where
     more : (reads writes : List QueueType) (start : List Kept) → IsStart k reads start → (w : Word) (ys : List item.Item) (y : item.Item) → IsWordOf reads w
         → All (IsOf reads 0) (ys ++ y ∷ []) → StandsAfter k reads start st w → held_at reads 0 (at_port 0 w) (ys ++ y ∷ []) ≡ is ++ i ∷ [] → length ys ≡ length is
-        → GivesAll k reads writes is e e' st st1 → Gives k reads writes 0 i e' e'' st1 st2
-        → TookHeld writes (ran k start w) e e'' (feed (fire k 0) (ys ++ y ∷ []) (ran k start w).states)
+        → GivesAll k reads writes is e e' st st1 → GivesAsDefined k reads writes 0 i e' e'' st1 st2
+        → TookHeld writes (ran_from k start w) e e'' (feed (fire k 0) (ys ++ y ∷ []) (ran_from k start w).states)
         × StandsAfter k reads start st2 (w ++ word_of 0 (ys ++ y ∷ []))
     more reads writes start is_start w ys y tw txs sa h l ga gb =
         let past = at_port 0 w in
-        let before = ran k start w in
+        let before = ran_from k start w in
         let parts = split_same (held_at reads 0 past ys) (held_at reads 0 (past ++ ys) (y ∷ [])) is (i ∷ []) (at-length reads 0 past ys ∙ l) (sym (at-append reads 0 past ys (y ∷ [])) ∙ h) in
         let one = ga.given start w ys is_start tw (all_left (IsOf reads 0) ys (y ∷ []) txs) sa parts.0 in
         let w1 = w ++ word_of 0 ys in
         let port_is : at_port 0 w1 ≡ past ++ ys = at_port-append 0 w (word_of 0 ys) ∙ ap (λ m. past ++ m) (at_word 0 ys) in
         let two = gb.given start w1 y is_start (at_append reads w (word_of 0 ys) tw (word_typed reads 0 ys (all_left (IsOf reads 0) ys (y ∷ []) txs))) (all_last (IsOf reads 0) ys y txs) one.1 (ap (λ m. held_at reads 0 m (y ∷ [])) port_is ∙ parts.1) in
         let r = feed (fire k 0) ys before.states in
-        let after = ran k start w1 in
+        let after = ran_from k start w1 in
         let mid : Same after (and_then before r) = ran_feed k start w ys in
         let last = fire k 0 y r.states in
         let all = feed-append (fire k 0) ys (y ∷ []) before.states in

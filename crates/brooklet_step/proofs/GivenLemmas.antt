@@ -30,8 +30,8 @@ use Rattle.brooklet_model.proofs.Traces.{run_more}
 use Rattle.brooklet_model.proofs.Typing.{first_holds}
 use Rattle.brooklet_model.proofs.TypedPlan.{at_append, run_typed}
 use Rattle.brooklet_step.specs.declared.state.State.{State}
-use Rattle.brooklet_step.specs.Stands.{StandsFor, StandsForSlots}
-use Rattle.brooklet_step.specs.Given.{held_by, held_at, IsHeldBy, IsHeldOf, IsPlainBy, IsRelationBy, FitSlots, FitState, ran, StandsAfter, MayBeFresh}
+use Rattle.brooklet_step.specs.Stands.{StandsForKept, StandsForSlots}
+use Rattle.brooklet_step.specs.Given.{held_by, held_at, IsHeldBy, IsHeldOf, IsPlainBy, IsRelationBy, FitSlots, FitState, ran_from, StandsAfter, MayBeFresh}
 use Rattle.brooklet_step.proofs.HeldLaws.{plain_law}
 
 -- QUEUES AT PORTS
@@ -125,7 +125,7 @@ at_next p w x = at_port-append p w ((p, x) ∷ []) ∙ ap (λ l. at_port p w ++ 
 
 -- one more firing
 pub ran_more : (k : Kern) (ss : List Kept) (w : Word) (p : ℕ) (x : item.Item)
-    → Same (ran k ss (w ++ (p, x) ∷ [])) (and_then (ran k ss w) (fire k p x (ran k ss w).states))
+    → Same (ran_from k ss (w ++ (p, x) ∷ [])) (and_then (ran_from k ss w) (fire k p x (ran_from k ss w).states))
 ran_more k ss w p x = run_more (fire k) w p x ss
 
 all_right : (P : item.Item → Type 0) (xs ys : List item.Item) → All P (xs ++ ys) → All P ys
@@ -134,15 +134,15 @@ all_right P (x ∷ xs) ys h = all_right P xs ys (All-tail P x (xs ++ ys) h)
 
 -- what is given for typed items is typed
 pub ran_typed : (k : Kern) (is os : List QueueType) (vs : List VarKind) (ss : List Kept) (w : Word) → Fits k is os vs → IsStart k is ss → IsWordOf is w
-    → AreOf os (ran k ss w).outs
+    → AreOf os (ran_from k ss w).outs
 ran_typed k is os vs ss w f s a = run_typed k is os vs w ss f s.shape s.holds a
 
 -- what a firing gives has the types of the ports
 pub fired_typed : (k : Kern) (is os : List QueueType) (vs : List VarKind) (ss : List Kept) (w : Word) (p : ℕ) (x : item.Item) → Fits k is os vs
-    → IsStart k is ss → IsWordOf is w → IsOf is p x → AreOf os (fire k p x (ran k ss w).states).outs
+    → IsStart k is ss → IsWordOf is w → IsOf is p x → AreOf os (fire k p x (ran_from k ss w).states).outs
 fired_typed k is os vs ss w p x f s a i q =
     let all = ran_typed k is os vs ss (w ++ (p, x) ∷ []) f s (at_append is w ((p, x) ∷ []) a (i, tt)) q in
-    all_right (IsOf os q) ((ran k ss w).outs q) ((fire k p x (ran k ss w).states).outs q) (subst (All (IsOf os q)) ((ran_more k ss w p x).outs q) all)
+    all_right (IsOf os q) ((ran_from k ss w).outs q) ((fire k p x (ran_from k ss w).states).outs q) (subst (All (IsOf os q)) ((ran_more k ss w p x).outs q) all)
 
 -- the first states of a kernel that fits some types are a start
 pub first_is_start : (k : Kern) (is : List QueueType) → IsShaped k → IsStart k is (first_kept k)
@@ -200,7 +200,7 @@ IsSimple (fused a b at) = ⊥
 IsSimple kernel = Unit {0}
 
 -- states that stand for some fit
-pub fit_of : (k : Kern) (is : List QueueType) (st : List State) (ks : List Kept) → StandsFor k st ks → FitState k is st
+pub fit_of : (k : Kern) (is : List QueueType) (st : List State) (ks : List Kept) → StandsForKept k st ks → FitState k is st
 fit_of (code k) is st ks h = fit_slots k.starts st ks h
 fit_of (filter f) is st ks h =
     record { now = h.now; code = h.code; count = h.count; few = h.stands.few; fresh = may_be_fresh f.first h.now.fresh h.seen.fired h.stands.keeps.fresh }
@@ -219,7 +219,7 @@ kept_slots [] st h = ([], record { code = h; defined = refl })
 kept_slots (z ∷ zs) st h = (Slots h.slots ∷ [], record { slots = h.slots; code = h.code; defined = refl; count = h.count })
 
 -- and states of such a kernel that fit stand for some
-pub simple_kept : (k : Kern) (is : List QueueType) (st : List State) → IsSimple k → FitState k is st → (ks : List Kept) × StandsFor k st ks × Holds k is ks
+pub simple_kept : (k : Kern) (is : List QueueType) (st : List State) → IsSimple k → FitState k is st → (ks : List Kept) × StandsForKept k st ks × Holds k is ks
 simple_kept (code k) is st l h = let s = kept_slots k.starts st h in (s.0, s.1, tt)
 simple_kept (filter f) is st l h = (
   Buffered (past_of f h.now) ∷ [],
@@ -271,19 +271,19 @@ parts_fit a b at is st st' h h' =
 -- states of two parts stand after a word, where each part's do
 pub parts_after : (a b : Kern) (at : ℕ) (is : List QueueType) (ss : List Kept) (st st' : List State) (w : Word) → length st ≡ privates a
     → StandsAfter a is (take (privates a) ss) st w
-    → StandsAfter b (between at (types_of a is)) (drop (privates a) ss) st' (word_of 0 ((ran a (take (privates a) ss) w).outs at))
+    → StandsAfter b (between at (types_of a is)) (drop (privates a) ss) st' (word_of 0 ((ran_from a (take (privates a) ss) w).outs at))
     → StandsAfter (fused a b at) is ss (st ++ st') w
 parts_after a b at is ss st st' w l h h' =
     let n = privates a in (
       subst (λ (u : List State). StandsAfter a is (take n ss) u w) (sym (take_front st st' n l)) h,
-      subst (λ (u : List State). StandsAfter b (between at (types_of a is)) (drop n ss) u (word_of 0 ((ran a (take n ss) w).outs at))) (sym (drop_front st st' n l)) h',
+      subst (λ (u : List State). StandsAfter b (between at (types_of a is)) (drop n ss) u (word_of 0 ((ran_from a (take n ss) w).outs at))) (sym (drop_front st st' n l)) h',
     )
 
 -- KERNELS THAT KEEP NO ITEMS
 
 -- states that stand after a word stand for the definition's
 pub simple_to : (k : Kern) (is : List QueueType) (ss : List Kept) (st : List State) (w : Word) → IsSimple k → StandsAfter k is ss st w
-    → StandsFor k st (ran k ss w).states
+    → StandsForKept k st (ran_from k ss w).states
 simple_to (deal ws) is ss st w l h = absurd l
 simple_to (collect ws) is ss st w l h = absurd l
 simple_to (packed k) is ss st w l h = absurd l
@@ -295,7 +295,7 @@ simple_to (fused a b at) is ss st w l h = absurd l
 simple_to kernel is ss st w l h = h
 
 -- and back
-pub simple_from : (k : Kern) (is : List QueueType) (ss : List Kept) (st : List State) (w : Word) → IsSimple k → StandsFor k st (ran k ss w).states
+pub simple_from : (k : Kern) (is : List QueueType) (ss : List Kept) (st : List State) (w : Word) → IsSimple k → StandsForKept k st (ran_from k ss w).states
     → StandsAfter k is ss st w
 simple_from (deal ws) is ss st w l h = absurd l
 simple_from (collect ws) is ss st w l h = absurd l
@@ -312,5 +312,5 @@ shape_ran k [] ss s h = h
 shape_ran k (e ∷ es) ss s h = shape_ran k es (fire k e.0 e.1 ss).states s (fire_shape k e.0 e.1 ss s h)
 
 -- a run keeps the number of states
-pub ran_length : (k : Kern) (ss : List Kept) (w : Word) → IsShaped k → HasShape k ss → length (ran k ss w).states ≡ privates k
-ran_length k ss w s h = shape_length k (ran k ss w).states (shape_ran k w ss s h)
+pub ran_length : (k : Kern) (ss : List Kept) (w : Word) → IsShaped k → HasShape k ss → length (ran_from k ss w).states ≡ privates k
+ran_length k ss w s h = shape_length k (ran_from k ss w).states (shape_ran k w ss s h)

@@ -9,7 +9,7 @@ use Rattle.river_base.specs.declared.item.Flat as flat
 use Rattle.river_base.specs.declared.kind.FlatType.{FlatType}
 use Rattle.river_base.specs.declared.kind.QueueType.{QueueType}
 use Rattle.river_base.specs.declared.kind.QueueType.TheVariants.{Flat as FlatOf, Pack as PackOf}
-use Rattle.river_base.specs.Held.{held, HasType, IsHeld, flats, as_items, opened}
+use Rattle.river_base.specs.Held.{held, HasType, IsHeld, flats, flats_as_items, opened}
 use Rattle.river_base.specs.Places.{each_grew, only, none, list_at}
 use Rattle.river_base.proofs.HeldLemmas.{held-pack, is_held-pack}
 use Rattle.river_base.proofs.PlaceLemmas.{each_grew_cong, length-each_grew}
@@ -32,8 +32,8 @@ use Rattle.brooklet_model.proofs.Typing.{between_is}
 use Rattle.brooklet_model.proofs.WideAdds.{fused_wide}
 use Rattle.brooklet_step.specs.declared.emit.Emit.{Emit}
 use Rattle.brooklet_step.specs.declared.state.State.{State}
-use Rattle.brooklet_step.specs.Took.{Took, HasRoom, IsBlank}
-use Rattle.brooklet_step.specs.Given.{held_by, held_at, IsHeldBy, IsHeldOf, FitState, ran, StandsAfter, TookHeld, Came, Does, FiresAt, FiresEach}
+use Rattle.brooklet_step.specs.Took.{Took, HasLists, IsBlank}
+use Rattle.brooklet_step.specs.Given.{held_by, held_at, IsHeldBy, IsHeldOf, FitState, ran_from, StandsAfter, TookHeld, CameAsHeld, Does, FiresAt, FiresEach}
 use Rattle.brooklet_step.proofs.Fires.{grown_list, flats-append, blank_room}
 use Rattle.brooklet_step.proofs.Fused.{splice_cong, beside_cong}
 use Rattle.brooklet_step.proofs.GivenLemmas.{at_word, word_append, ran_more, ran_length, ran_typed, fired_typed, fit_length, parts_fit, parts_after}
@@ -41,19 +41,19 @@ use Rattle.brooklet_step.proofs.GivenLemmas.{at_word, word_append, ran_more, ran
 -- ROOM
 
 -- a firing keeps a place for each port
-pub came_room : (k : Kern) (reads writes : List QueueType) (vars : List VarKind) (e e' : Emit) (st' : List State) → HasRoom k e
-    → Came k reads writes vars e e' st' → HasRoom k e'
+pub came_room : (k : Kern) (reads writes : List QueueType) (vars : List VarKind) (e e' : Emit) (st' : List State) → HasLists k e
+    → CameAsHeld k reads writes vars e e' st' → HasLists k e'
 came_room k reads writes vars e e' st' h c =
     record { outs = ap length c.outs_are ∙ length-each_grew e.outs c.outs ∙ h.outs; adds = ap length c.adds_are ∙ length-each_grew e.adds c.adds ∙ h.adds }
 
 -- PACKS
 
-as_items-append : (fs gs : List flat.Flat) → as_items (fs ++ gs) ≡ as_items fs ++ as_items gs
+as_items-append : (fs gs : List flat.Flat) → flats_as_items (fs ++ gs) ≡ flats_as_items fs ++ flats_as_items gs
 as_items-append [] gs = refl
 as_items-append (f ∷ fs) gs = ap (λ l. Flat f ∷ l) (as_items-append fs gs)
 
 -- items that are no packs
-items-flats : (t : FlatType) (xs : List item.Item) → All (HasType (FlatOf t)) xs → as_items (flats xs) ≡ xs
+items-flats : (t : FlatType) (xs : List item.Item) → All (HasType (FlatOf t)) xs → flats_as_items (flats xs) ≡ xs
 items-flats t [] h = refl
 items-flats t (Flat f ∷ xs) h = ap (λ l. Flat f ∷ l) (items-flats t xs (All-tail (HasType (FlatOf t)) (Flat f) xs h))
 items-flats t (Pack fs ∷ xs) h = absurd (All-head (HasType (FlatOf t)) (Pack fs) xs h)
@@ -69,14 +69,14 @@ pub packed_states : (k : Kern) (w : Word) (ss : List Kept) → (run (fire (packe
 packed_states k [] ss = refl
 packed_states k (e ∷ es) ss = packed_states k es (fire k e.0 e.1 ss).states
 
-packed_items : (k : Kern) (w : Word) (ss : List Kept) → opened ((run (fire (packed k)) w ss).outs 0) ≡ as_items (flats ((run (fire k) w ss).outs 0))
+packed_items : (k : Kern) (w : Word) (ss : List Kept) → opened ((run (fire (packed k)) w ss).outs 0) ≡ flats_as_items (flats ((run (fire k) w ss).outs 0))
 packed_items k [] ss = refl
 packed_items k (e ∷ es) ss =
     let r = fire k e.0 e.1 ss in
     let rest = run (fire k) es r.states in
-    ap (λ l. as_items (flats (r.outs 0)) ++ l) (packed_items k es r.states)
+    ap (λ l. flats_as_items (flats (r.outs 0)) ++ l) (packed_items k es r.states)
     ∙ sym (as_items-append (flats (r.outs 0)) (flats (rest.outs 0)))
-    ∙ ap as_items (sym (flats-append (r.outs 0) (rest.outs 0)))
+    ∙ ap flats_as_items (sym (flats-append (r.outs 0) (rest.outs 0)))
 
 -- what the kernel inside does is what the packed kernel does
 pub packed_does : (j : Kern) (port : ℕ) (i : item.Item) (st st' : List State) (out out' e e' : Emit) (items : List item.Item) (fs : List flat.Flat)
@@ -94,7 +94,7 @@ packed_does j port i st st' out out' e e' items fs b f ei ef took = record {
           given = λ start w x is_start tw tx sa h.
               let s : IsStart j reads start = record { shape = is_start.shape; holds = is_start.holds } in
               let g = d.gives.given start w x s tw tx sa h in
-              let before = ran j start w in
+              let before = ran_from j start w in
               let sj = before.states in
               let r = fire j port x sj in
               let past = before.outs 0 in
@@ -102,12 +102,12 @@ packed_does j port i st st' out out' e e' items fs b f ei ef took = record {
               let typed_past : All (HasType (FlatOf u)) past = ran_typed j reads (FlatOf u ∷ []) [] start w fj s tw 0 in
               let typed_xs : All (HasType (FlatOf u)) xs = fired_typed j reads (FlatOf u ∷ []) [] start w port x fj s tw tx 0 in
               let came : items ≡ held (FlatOf u) past xs = ei ∙ grown_list 1 e.outs e'.outs (λ p. held_at (FlatOf u ∷ []) p (before.outs p) (r.outs p)) 0 b g.0.outs (omega arith) in
-              let whole = ran (packed j) start w in
+              let whole = ran_from (packed j) start w in
               let states : whole.states ≡ sj = packed_states j w start in
               let opens : opened (whole.outs 0) ≡ past = packed_items j w start ∙ items-flats u past typed_past in
               let pack : held (PackOf u) (whole.outs 0) (Pack (flats xs) ∷ []) ≡ Pack fs ∷ [] =
               held-pack u (whole.outs 0) (flats xs)
-              ∙ ap (λ (l : List item.Item). Pack (flats (held (FlatOf u) l (as_items (flats xs)))) ∷ []) opens
+              ∙ ap (λ (l : List item.Item). Pack (flats (held (FlatOf u) l (flats_as_items (flats xs)))) ∷ []) opens
               ∙ ap (λ (l : List item.Item). Pack (flats (held (FlatOf u) past l)) ∷ []) (items-flats u xs typed_xs)
               ∙ ap (λ (l : List item.Item). Pack (flats l) ∷ []) (sym came)
               ∙ ap (λ (l : List flat.Flat). Pack l ∷ []) (sym ef) in
@@ -170,16 +170,16 @@ splice_held ms bs at p P R Q S lt =
 
 -- all that two kernels as one gave, part by part
 pub fused_ran : (a b : Kern) (at : ℕ) (ss : List Kept) (w : Word) → IsShaped (fused a b at) → HasShape (fused a b at) ss
-    → Same (ran (fused a b at) ss w) (fused_of at (outs b) (tabs a) (ran a (take (privates a) ss) w) (λ xs. ran b (drop (privates a) ss) (word_of 0 xs)))
+    → Same (ran_from (fused a b at) ss w) (fused_of at (outs b) (tabs a) (ran_from a (take (privates a) ss) w) (λ xs. ran_from b (drop (privates a) ss) (word_of 0 xs)))
 fused_ran a b at ss w s h =
     let k = fused a b at in
-    let ra = ran a (take (privates a) ss) w in
+    let ra = ran_from a (take (privates a) ss) w in
     let sb = drop (privates a) ss in
-    subst (λ (r : Fired). Same (ran k ss w) (fused_of at (outs b) (tabs a) ra (λ xs. r))) (sym (feed_word (fire b) 0 (ra.outs at) sb)) (fused_runs a b at w ss s h)
+    subst (λ (r : Fired). Same (ran_from k ss w) (fused_of at (outs b) (tabs a) ra (λ xs. r))) (sym (feed_word (fire b) 0 (ra.outs at) sb)) (fused_runs a b at w ss s h)
 
 -- what two parts do, one behind the other, is what the fused kernel does
 pub fused_does : (a b : Kern) (at port : ℕ) (i : item.Item) (st mine' rest' : List State) (out new mid0 mid last0 last : Emit) (items : List item.Item)
-    → HasRoom (fused a b at) out → IsBlank a mid0 → FiresAt a port i mid0 mid (take (privates a) st) mine' → IsBlank b last0 → items ≡ list_at mid.outs at
+    → HasLists (fused a b at) out → IsBlank a mid0 → FiresAt a port i mid0 mid (take (privates a) st) mine' → IsBlank b last0 → items ≡ list_at mid.outs at
     → FiresEach b items last0 last (drop (privates a) st) rest'
     → new.outs ≡ each_grew out.outs (splice at (length last.outs) (list_at mid.outs) (list_at last.outs))
     → new.adds ≡ each_grew out.adds (beside (length mid.adds) (list_at mid.adds) (list_at last.adds))
@@ -203,8 +203,8 @@ fused_does a b at port i st mine' rest' out new mid0 mid last0 last items room b
         let items_are : items ≡ da.came.outs at = is ∙ grown_list (outs a) mid0.outs mid.outs da.came.outs at bm.outs da.came.outs_are s.2 in
         let items_held : All (IsHeldOf (m ∷ []) 0) items = subst (λ (l : List item.Item). All (IsHeldOf (m ∷ []) 0) l) (sym items_are) (subst (λ o. All (IsHeldBy o) (da.came.outs at)) g (da.came.held at)) in
         let db = fl.each (m ∷ []) bs ws fb (subst (λ (l : List QueueType). FitState b l (drop (privates a) st)) mid_is fs.1) items_held in
-        let mid_room : HasRoom a mid = came_room a reads ms us mid0 mid mine' (blank_room a mid0 bm) da.came in
-        let last_room : HasRoom b last = came_room b (m ∷ []) bs ws last0 last rest' (blank_room b last0 bl) db.came in
+        let mid_room : HasLists a mid = came_room a reads ms us mid0 mid mine' (blank_room a mid0 bm) da.came in
+        let last_room : HasLists b last = came_room b (m ∷ []) bs ws last0 last rest' (blank_room b last0 bl) db.came in
         let cut : (fa fb : ℕ → List item.Item) → mid.outs ≡ each_grew mid0.outs fa → last.outs ≡ each_grew last0.outs fb → new.outs ≡ each_grew out.outs (splice at (length bs) fa fb) = λ ga gb ema emb.
         eo ∙ ap (λ n. each_grew out.outs (splice at n (list_at mid.outs) (list_at last.outs))) (last_room.outs ∙ sym cb.outs)
         ∙ each_grew_cong out.outs (splice at (length bs) (list_at mid.outs) (list_at last.outs)) (splice at (length bs) ga gb) (λ p h. splice_cong at (length bs) (outs a) (list_at mid.outs) ga (list_at last.outs) gb p s.2
@@ -225,7 +225,7 @@ fused_does a b at port i st mine' rest' out new mid0 mid last0 last items room b
                 let is_a : IsStart a reads start_a = record { shape = is_start.shape.0; holds = is_start.holds.0 } in
                 let is_b : IsStart b (m ∷ []) start_b = record { shape = is_start.shape.1; holds = subst (λ (l : List QueueType). Holds b l start_b) mid_is is_start.holds.1 } in
                 let one = da.gives.given start_a w x is_a tw tx sa.0 h in
-                let wa = ran a start_a w in
+                let wa = ran_from a start_a w in
                 let past = wa.outs at in
                 let ra = fire a port x wa.states in
                 let xs = ra.outs at in
@@ -233,11 +233,11 @@ fused_does a b at port i st mine' rest' out new mid0 mid last0 last items room b
                 let typed_past : All (HasType m) past = subst (λ o. All (IsTyped o) past) g (ran_typed a reads ms us start_a w fa is_a tw at) in
                 let typed_xs : All (HasType m) xs = subst (λ o. All (IsTyped o) xs) g (fired_typed a reads ms us start_a w port x fa is_a tw tx at) in
                 let came : items ≡ held m past xs = is ∙ grown_list (outs a) mid0.outs mid.outs (λ p. held_at ms p (wa.outs p) (ra.outs p)) at bm.outs one.0.outs s.2 ∙ ap (λ o. held_by o past xs) g in
-                let before_b = ran b start_b wb in
+                let before_b = ran_from b start_b wb in
                 let stands_b : StandsAfter b (m ∷ []) start_b (drop (privates a) st) wb = subst (λ (l : List QueueType). StandsAfter b l start_b (drop (privates a) st) wb) mid_is sa.1 in
                 let two = db.gives.given start_b wb xs is_b (word_typed (m ∷ []) 0 past typed_past) typed_xs stands_b (ap (λ l. held m l xs) (at_word 0 past) ∙ sym came) in
                 let rb = feed (fire b 0) xs before_b.states in
-                let whole = ran k start w in
+                let whole = ran_from k start w in
                 let parts = fused_ran a b at start w s is_start.shape in
                 let la : length wa.states ≡ privates a = ran_length a start_a w s.0 is_start.shape.0 in
                 let ta : take (privates a) whole.states ≡ wa.states = ap (take (privates a)) parts.states ∙ take_front wa.states before_b.states (privates a) la in
@@ -255,7 +255,7 @@ fused_does a b at port i st mine' rest' out new mid0 mid last0 last items room b
                   adds = cut_adds ra.adds rb.adds one.0.adds two.0.adds;
                 } in
                 let more = ran_more a start_a w port x in
-                let wb' = word_of 0 ((ran a start_a (w ++ (port, x) ∷ [])).outs at) in (
+                let wb' = word_of 0 ((ran_from a start_a (w ++ (port, x) ∷ [])).outs at) in (
                   subst (λ (r : Fired). TookHeld (spliced at ms bs) whole out new r) r_is now,
                   parts_after a b at reads start mine' rest' (w ++ (port, x) ∷ []) (fit_length a reads mine' da.came.again) one.1
                       (subst (λ (l : List QueueType). StandsAfter b l start_b rest' wb') (sym mid_is)

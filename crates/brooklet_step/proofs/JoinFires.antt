@@ -45,7 +45,7 @@ use Rattle.brooklet_step.specs.declared.state.State.{State}
 use Rattle.brooklet_step.specs.declared.state.State.TheVariants as state
 use Rattle.brooklet_step.specs.Stands.{IsPack}
 use Rattle.brooklet_step.specs.Took.{Took}
-use Rattle.brooklet_step.specs.Given.{held_by, held_at, IsHeldBy, IsHeldOf, AreHeldOf, IsPlainBy, IsRelationBy, columns_by, ran, FitState, FitJoiner}
+use Rattle.brooklet_step.specs.Given.{held_by, held_at, IsHeldBy, IsHeldOf, AreHeldOf, IsPlainBy, IsRelationBy, columns_by, ran_from, FitState, FitJoiner}
 use Rattle.brooklet_step.specs.Given.{ContentsWait, JoinStands, StandsAfter, TookHeld, Does, FiresAt, CanTake}
 use Rattle.brooklet_step.proofs.DealFires.{start_wide}
 use Rattle.brooklet_step.proofs.GivenLemmas.{at-plain, at_next, ran_more, not_both}
@@ -223,7 +223,7 @@ module _ (k : Kern) (wl : List ℕ) (give : item.Item → List item.Item) (m : �
   module _ (vars : List VarKind) (fits : Fits k types (given ∷ []) vars) (start : List Kept) (w : Word) (x : item.Item) (is_start : IsStart k types start)
       (tw : IsWordOf types w) (tx : IsOf types port x) (sa : JoinStands k wl types start (s ∷ []) w) (h : held_at types port (at_port port w) (x ∷ []) ≡ i ∷ []) where
     abbrev before : Fired
-    before = ran k start w
+    before = ran_from k start w
 
     same : old ≡ sa.now
     same = same_join old sa.now (sym es ∙ same_state s (state.Join sa.now) sa.code)

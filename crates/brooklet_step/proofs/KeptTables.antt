@@ -7,7 +7,7 @@ use Rattle.river_base.specs.Bags.{SameBag}
 use Rattle.river_base.specs.Places.{list_at}
 use Rattle.kern_tables.specs.declared.kind.TableKind.{TableKind}
 use Rattle.kern_tables.specs.declared.kept.Kept.{Kept}
-use Rattle.kern_tables.specs.Kept.{kept_of, added, rows_of, width_of}
+use Rattle.kern_tables.specs.Kept.{kept_of, with_row, rows_of, width_of_table}
 use Rattle.kern_tables.specs.Tables.{table_width, tab}
 use Rattle.kern_tables.proofs.Tabs.{kept_more, kept_rows, kept_of_bag, kept_kind}
 use Rattle.river_plan.specs.declared.plan.TableDecl.{TableDecl}
@@ -24,13 +24,13 @@ use Rattle.brooklet_step.proofs.QueuePlaces.{place_is, joined_places, joined_con
 -- ONE TABLE
 
 -- rows are added one after another
-pub all_added : (kind : TableKind) (xs ys : List (List ℤ)) → fold added (kept_of kind xs) ys ≡ kept_of kind (xs ++ ys)
+pub all_added : (kind : TableKind) (xs ys : List (List ℤ)) → fold with_row (kept_of kind xs) ys ≡ kept_of kind (xs ++ ys)
 all_added kind xs [] = ap (kept_of kind) (sym (append-nil xs))
 all_added kind xs (y ∷ ys) =
-    ap (λ t. fold added t ys) (sym (kept_more kind xs y)) ∙ all_added kind (xs ++ y ∷ []) ys ∙ ap (kept_of kind) (append_assoc xs (y ∷ []) ys)
+    ap (λ t. fold with_row t ys) (sym (kept_more kind xs y)) ∙ all_added kind (xs ++ y ∷ []) ys ∙ ap (kept_of kind) (append_assoc xs (y ∷ []) ys)
 
 -- its rows are as wide as the plan says
-pub kept_width : (kind : TableKind) (xs : List (List ℤ)) → width_of (kept_of kind xs) ≡ table_width kind
+pub kept_width : (kind : TableKind) (xs : List (List ℤ)) → width_of_table (kept_of kind xs) ≡ table_width kind
 kept_width kind xs = ap table_width (kept_kind kind xs)
 
 -- ALL TABLES
@@ -51,7 +51,7 @@ each_next : (ts : List TableDecl) (rows rows' : Name → List (List ℤ)) (f : �
     → ((i : ℕ) (t : TableDecl) → slice_get ts i ≡ Some t → rows t.name ++ f i ≡ rows' t.name) → each_added (kept_tables ts rows) f ≡ kept_tables ts rows'
 each_next [] rows rows' f h = refl
 each_next (t ∷ ts) rows rows' f h =
-    let a : fold added (kept_of t.kind (rows t.name)) (f 0) ≡ kept_of t.kind (rows' t.name) = all_added t.kind (rows t.name) (f 0) ∙ ap (kept_of t.kind) (h 0 t refl) in
+    let a : fold with_row (kept_of t.kind (rows t.name)) (f 0) ≡ kept_of t.kind (rows' t.name) = all_added t.kind (rows t.name) (f 0) ∙ ap (kept_of t.kind) (h 0 t refl) in
     let b = each_next ts rows rows' (λ p. f (suc p)) (λ i u g. h (suc i) u g) in
     λ i. a i ∷ b i
 

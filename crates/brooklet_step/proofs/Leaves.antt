@@ -31,8 +31,8 @@ use Rattle.brooklet_model.proofs.Lists.{if_eq, if_ne}
 use Rattle.brooklet_step.specs.declared.emit.Emit.{Emit}
 use Rattle.brooklet_step.specs.declared.state.State.{State}
 use Rattle.brooklet_step.specs.declared.state.State.TheVariants as state
-use Rattle.brooklet_step.specs.Took.{Took, HasRoom}
-use Rattle.brooklet_step.specs.Stands.{AreNone, AreSlots, StandsForSlots, StandsForFilter, IsRow, IsSlots, RanKept, Pushed}
+use Rattle.brooklet_step.specs.Took.{Took, HasLists}
+use Rattle.brooklet_step.specs.Stands.{AreNone, AreKeptSlots, StandsForSlots, StandsForFilter, IsRow, IsSlots, RanKept, Pushed}
 use Rattle.brooklet_step.specs.Stands.{Fires, Takes, Applies}
 use Rattle.brooklet_model.proofs.Ports.{counts}
 use Rattle.brooklet_model.proofs.Typing.{fire_typed}
@@ -64,11 +64,11 @@ code_row k x st t = row_is k.body.inputs 0 t.reads x t.fitted.fits.0 t.item
 pub code_can : (k : CodeForm) (p : ℕ) (x : item.Item) (st : List State) → Takes (code k) p x st → CanCode k
 code_can k p x st t = can_code k t.fitted.fits.3
 
-some_slots : (zs : List ℤ) (st : List State) (ks : List Kept) → (zs ≡ [] → ⊥) → StandsForSlots zs st ks → AreSlots (length zs) st ks
+some_slots : (zs : List ℤ) (st : List State) (ks : List Kept) → (zs ≡ [] → ⊥) → StandsForSlots zs st ks → AreKeptSlots (length zs) st ks
 some_slots [] st ks n h = absurd (n refl)
 some_slots (z ∷ zs) st ks n h = h
 
-are_slots : (zs : List ℤ) (st : List State) (ks : List Kept) → (zs ≡ [] → ⊥) → AreSlots (length zs) st ks → StandsForSlots zs st ks
+are_slots : (zs : List ℤ) (st : List State) (ks : List Kept) → (zs ≡ [] → ⊥) → AreKeptSlots (length zs) st ks → StandsForSlots zs st ks
 are_slots [] st ks n h = absurd (n refl)
 are_slots (z ∷ zs) st ks n h = h
 
@@ -102,7 +102,7 @@ pushed_kept k x st st' s s' row pushes n e e' r ran = record {
       let R = run_kept k.body a.slots (values_of x) in
       let q : pushes ≡ R.pushes = one.0 ∙ ap (λ v. (run_kept k.body a.slots v).pushes) r in
       let w : st' ≡ state.Slots R.slots ∷ [] = e' ∙ ap (λ (u : State). u ∷ []) (one.1 ∙ ap (λ v. state.Slots (run_kept k.body a.slots v).slots) r) in
-      let after : AreSlots (length k.starts) st' (Slots R.slots ∷ []) = record { slots = R.slots; code = w; defined = refl; count = run_kept_length k.body a.slots (values_of x) ∙ a.count } in
+      let after : AreKeptSlots (length k.starts) st' (Slots R.slots ∷ []) = record { slots = R.slots; code = w; defined = refl; count = run_kept_length k.body a.slots (values_of x) ∙ a.count } in
       subst (λ (us : List Kept). ((code_one k x us).outs ≡ (λ i. pushed_to i pushes)) × ((code_one k x us).adds ≡ none) × StandsForSlots k.starts st' (code_one k x us).states) (sym a.defined)
       (ap (λ (ps : List (ℕ × List ℤ)). λ i. pushed_to i ps) (sym q), refl, are_slots k.starts st' (Slots R.slots ∷ []) n after);
 }
@@ -219,7 +219,7 @@ number_is v vals row x all some ew e ev =
 
 -- a filter's step is its firing
 pub filter_fires : (f : FilterForm) (x : item.Item) (s s' : State) (old new : Waiting) (v : ℤ) (values : List ℤ) (items : List item.Item) (out out' : Emit)
-    → CanFilter f → HasRoom (filter f) out → s ≡ state.Filter old → s' ≡ state.Filter new → v ≡ value_of x → Filters f v old new [] values
+    → CanFilter f → HasLists (filter f) out → s ≡ state.Filter old → s' ≡ state.Filter new → v ≡ value_of x → Filters f v old new [] values
     → length new.kept ≡ length old.kept → items ≡ map (λ z. Flat (One (z ∷ []))) values → Took out out' (gives 0 items [])
     → Fires (filter f) out out' (s ∷ []) (s' ∷ []) (fire (filter f) 0 x)
 filter_fires f x s s' old new v values items out out' can room e e' ev ran len ei took = record {

@@ -18,7 +18,7 @@ use Rattle.brooklet_model.proofs.Ports.{shaped}
 use Rattle.brooklet_model.proofs.Shapes.{shape_length}
 use Rattle.brooklet_model.proofs.Typing.{between_is}
 use Rattle.brooklet_step.specs.declared.state.State.{State}
-use Rattle.brooklet_step.specs.Given.{IsPlainBy, FitState, ran, JoinStands, StandsAfter}
+use Rattle.brooklet_step.specs.Given.{IsPlainBy, FitState, ran_from, JoinStands, StandsAfter}
 use Rattle.brooklet_step.specs.Laws.{StandForSome, PassesNone, FitStatesStand, FiringsStep}
 use Rattle.brooklet_step.proofs.GivenLemmas.{IsSimple, simple_kept, simple_to, simple_from, not_both, all_of, ran_length}
 use Rattle.brooklet_step.proofs.GivenParts.{packed_states, fused_ran}
@@ -130,21 +130,21 @@ fit_law kernel is os vs st f n h = simple_stand kernel is st tt h
 -- THE STATES AFTER A WORD AS A START
 
 simple_moved : (k : Kern) (is : List QueueType) (ss : List Kept) (st : List State) (w : Word) → IsSimple k → StandsAfter k is ss st w
-    → StandsAfter k is (ran k ss w).states st []
-simple_moved k is ss st w l h = simple_from k is (ran k ss w).states st [] l (simple_to k is ss st w l h)
+    → StandsAfter k is (ran_from k ss w).states st []
+simple_moved k is ss st w l h = simple_from k is (ran_from k ss w).states st [] l (simple_to k is ss st w l h)
 
 deal_moved : (ws : List ℤ) (is : List QueueType) (ss : List Kept) (st : List State) (w : Word) → IsPlainBy (slice_get is 0) → StandsAfter (deal ws) is ss st w
-    → StandsAfter (deal ws) is (ran (deal ws) ss w).states st []
+    → StandsAfter (deal ws) is (ran_from (deal ws) ss w).states st []
 deal_moved ws is ss st w p h = record { stands = h.stands; owed = λ rel. absurd (not_both (slice_get is 0) p rel) }
 
 join_moved : (k : Kern) (ws : List ℕ) (is : List QueueType) (ss : List Kept) (st : List State) (w : Word) → IsPlainBy (slice_get is 0)
-    → JoinStands k ws is ss st w → JoinStands k ws is (ran k ss w).states st []
+    → JoinStands k ws is ss st w → JoinStands k ws is (ran_from k ss w).states st []
 join_moved k ws is ss st w p h =
     record { now = h.now; code = h.code; shape = h.shape; plain = h.plain; relation = λ rel. absurd (not_both (slice_get is 0) p rel) }
 
 -- where no relation passes, what stands for the states after a word stands for them as a start
 pub moved : (k : Kern) (is : List QueueType) (ss : List Kept) (st : List State) (w : Word) → IsShaped k → HasShape k ss → PassesNone k is → StandsAfter k is ss st w
-    → StandsAfter k is (ran k ss w).states st []
+    → StandsAfter k is (ran_from k ss w).states st []
 moved (deal ws) is ss st w s c n h = deal_moved ws is ss st w n h
 moved (collect ws) is ss st w s c n h = join_moved (collect ws) (shares ws) is ss st w n h
 moved (packed k) is ss st w s c n h =
@@ -157,13 +157,13 @@ moved (streamer r) is ss st w s c n h = absurd n
 moved (fused a b at) is ss st w s c n h =
     let m = privates a in
     let inner = between at (types_of a is) in
-    let wa = ran a (take m ss) w in
+    let wa = ran_from a (take m ss) w in
     let wb = word_of 0 (wa.outs at) in
-    let rb = ran b (drop m ss) wb in
+    let rb = ran_from b (drop m ss) wb in
     let parts = fused_ran a b at ss w s c in
     let own : length wa.states ≡ m = ran_length a (take m ss) w s.0 c.0 in
-    let ta : take m (ran (fused a b at) ss w).states ≡ wa.states = ap (take m) parts.states ∙ take_front wa.states rb.states m own in
-    let tb : drop m (ran (fused a b at) ss w).states ≡ rb.states = ap (drop m) parts.states ∙ drop_front wa.states rb.states m own in (
+    let ta : take m (ran_from (fused a b at) ss w).states ≡ wa.states = ap (take m) parts.states ∙ take_front wa.states rb.states m own in
+    let tb : drop m (ran_from (fused a b at) ss w).states ≡ rb.states = ap (drop m) parts.states ∙ drop_front wa.states rb.states m own in (
       subst (λ (us : List Kept). StandsAfter a is us (take m st) []) (sym ta) (moved a is (take m ss) (take m st) w s.0 c.0 n.0 h.0),
       subst (λ (us : List Kept). StandsAfter b inner us (drop m st) []) (sym tb) (moved b inner (drop m ss) (drop m st) wb s.1 c.1 n.1 h.1),
     )

@@ -8,7 +8,7 @@ use Rattle.river_base.specs.declared.item.Item as item
 use Rattle.river_base.specs.Places.{list_at, each_grew}
 use Rattle.river_base.proofs.PlaceLemmas.{each_grew-blanks}
 use Rattle.kern_tables.specs.declared.kept.Kept.{Kept}
-use Rattle.kern_tables.specs.Kept.{kept_of, width_of}
+use Rattle.kern_tables.specs.Kept.{kept_of, width_of_table}
 use Rattle.river_kernels.specs.Kern.{Kern, kern_of}
 use Rattle.river_plan.specs.declared.op.Op.{Op}
 use Rattle.river_plan.specs.declared.plan.RawPlan.{RawPlan}
@@ -25,7 +25,7 @@ use Rattle.brooklet_step.specs.declared.machine.Parts.{Parts}
 use Rattle.brooklet_step.specs.declared.state.State.{State}
 use Rattle.river_plan.specs.Places.{place, places, read_places, write_places, var_places}
 use Rattle.brooklet_step.specs.ByPlace.{joined_at}
-use Rattle.brooklet_step.specs.Reading.{IsFront, CanFire, IsBlankOf, CameOf, FiredOp}
+use Rattle.brooklet_step.specs.Reading.{IsFrontItem, CanFire, IsBlankOf, CameOf, FiredOp}
 use Rattle.brooklet_step.specs.Given.{FiresAt, CanTake}
 use Rattle.brooklet_step.proofs.GivenCode.{fires_again}
 use Rattle.brooklet_step.specs.Tables.{table_places, each_added, AreFor}
@@ -110,7 +110,7 @@ op_in m o port g e =
 
 -- the item at the front is one that the operator can take
 pub can_fire : (m : Parts) (o port n : ℕ) (x : item.Item) (queues : List (List item.Item)) (st : List State) (g : GoesOn m) (e : IsEnabled m o port)
-    → n ≡ place (queue_names m.plan) e.queue → IsFront m.queues n x queues → st ≡ list_at m.states o → CanFire m.plan o port x st
+    → n ≡ place (queue_names m.plan) e.queue → IsFrontItem m.queues n x queues → st ≡ list_at m.states o → CanFire m.plan o port x st
 can_fire m o port n x queues st g e at hx es = record {
   op = e.reads.op;
   op_is = e.reads.op_is;
@@ -119,7 +119,7 @@ can_fire m o port n x queues st g e at hx es = record {
 
 -- there are as many lists as queues to write, and the queues are there
 pub send_there : (m : Parts) (o port n : ℕ) (x : item.Item) (queues : List (List item.Item)) (st st' : List State) (out : Emit) (ws : List ℕ) (g : GoesOn m) (e : IsEnabled m o port)
-    → IsFront m.queues n x queues → st ≡ list_at m.states o → FiredOp m.plan o port x st st' out → ws ≡ list_at (write_places m.plan) o
+    → IsFrontItem m.queues n x queues → st ≡ list_at m.states o → FiredOp m.plan o port x st st' out → ws ≡ list_at (write_places m.plan) o
     → (length ws ≡ length out.outs) × ((j : ℕ) → j < length ws → slice_index_or ws j 0 < length queues)
 send_there m o port n x queues st st' out ws g e hx es f we =
     let op = e.reads.op in
@@ -155,7 +155,7 @@ rows_wide o n rows e a = subst (λ w. All (IsWide w) rows) e a
 
 -- there are as many lists of rows as tables among the operator's variables, and each has the width of its table
 pub add_there : (m : Parts) (o port n : ℕ) (x : item.Item) (less : List (List item.Item)) (st st' : List State) (out : Emit) (vs : List ℕ) (g : GoesOn m) (e : IsEnabled m o port)
-    → n ≡ place (queue_names m.plan) e.queue → IsFront m.queues n x less
+    → n ≡ place (queue_names m.plan) e.queue → IsFrontItem m.queues n x less
     → st ≡ list_at m.states o → FiredOp m.plan o port x st st' out → vs ≡ list_at (var_places m.plan) o
     → (length (table_places (length m.tables) vs) ≤ length out.adds) × AreFor m.tables (table_places (length m.tables) vs) out.adds
 add_there m o port n x less st st' out vs g e at hx es f ve =
@@ -181,12 +181,12 @@ add_there m o port n x less st st' out vs g e at hx es f ve =
       (λ j p t gj gt.
           let q = got_place names mine j p (ap (λ l. slice_get l j) (sym is) ∙ gj) in
           let d = kept_at tables s.rows p t (ap (λ l. slice_get l p) (sym held) ∙ gt) in
-          let width : width_at tables q.0 ≡ width_of t =
-          width_there tables q.0 d.0 (ap (slice_get tables) q.2 ∙ d.1) ∙ sym (ap width_of d.2 ∙ kept_width d.0.kind (s.rows d.0.name)) in
+          let width : width_at tables q.0 ≡ width_of_table t =
+          width_there tables q.0 d.0 (ap (slice_get tables) q.2 ∙ d.1) ∙ sym (ap width_of_table d.2 ∙ kept_width d.0.kind (s.rows d.0.name)) in
           let lt = slice_get_within mine j q.0 q.1 in
           let given : list_at out.adds j ≡ came.adds j = ap (λ (l : List (List (List ℤ))). list_at l j) (came.adds_are ∙ ap (λ l. each_grew l came.adds) c.is_blank.adds) ∙ each_grew-blanks (tabs op.kernel) came.adds j [] (omega (arith, lt, lm)) in
-          let got : slice_get (widths_in vars) j ≡ Some (width_of t) = ap (λ (l : List ℕ). slice_get l j) (widths_of m.plan g.valid o op e.reads.op_is) ∙ got_map (width_at tables) mine j q.0 q.1 ∙ ap Some width in
-          subst (λ (l : List (List ℤ)). All (λ row. length row ≡ width_of t) l) (sym given) (rows_wide (slice_get (widths_in vars) j) (width_of t) (came.adds j) got (came.wide j))),
+          let got : slice_get (widths_in vars) j ≡ Some (width_of_table t) = ap (λ (l : List ℕ). slice_get l j) (widths_of m.plan g.valid o op e.reads.op_is) ∙ got_map (width_at tables) mine j q.0 q.1 ∙ ap Some width in
+          subst (λ (l : List (List ℤ)). All (λ row. length row ≡ width_of_table t) l) (sym given) (rows_wide (slice_get (widths_in vars) j) (width_of_table t) (came.adds j) got (came.wide j))),
     )
 
 -- THE END
@@ -197,7 +197,7 @@ pub record Next (m m' : Parts) (o port : ℕ) : Type 0 where
 
 -- one firing more: the machine goes on
 pub next : (m : Parts) (o port n : ℕ) (x : item.Item) (st st' : List State) (out : Emit) (ws : List ℕ) (less queues : List (List item.Item)) (vs cs : List ℕ) (ts : List Kept) (g : GoesOn m) (e : IsEnabled m o port)
-    → n ≡ place (queue_names m.plan) e.queue → IsFront m.queues n x less
+    → n ≡ place (queue_names m.plan) e.queue → IsFrontItem m.queues n x less
     → st ≡ list_at m.states o → FiredOp m.plan o port x st st' out → ws ≡ list_at (write_places m.plan) o
     → queues ≡ each_grew less (joined_at ws (list_at out.outs)) → cs ≡ slice_set m.counts o (min most_firings (slice_index_or m.counts o 0 + 1))
     → vs ≡ list_at (var_places m.plan) o → ts ≡ each_added m.tables (joined_at (table_places (length m.tables) vs) (list_at out.adds))

@@ -24,8 +24,8 @@ use Rattle.brooklet_model.specs.Fire.{outs}
 use Rattle.brooklet_model.specs.Typed.{IsOf, widths_in, IsWide}
 use Rattle.brooklet_step.specs.declared.emit.Emit.{Emit}
 use Rattle.brooklet_step.specs.declared.state.State.{State}
-use Rattle.brooklet_step.specs.Took.{Took, HasRoom}
-use Rattle.brooklet_step.specs.Given.{held_at, IsHeldOf, FitState, TookHeld, Came, Does}
+use Rattle.brooklet_step.specs.Took.{Took, HasLists}
+use Rattle.brooklet_step.specs.Given.{held_at, IsHeldOf, FitState, TookHeld, CameAsHeld, Does}
 
 -- WHAT QUEUES MAY HOLD
 
@@ -155,7 +155,7 @@ typed_port t (suc p) x h = absurd h
 -- AT THE FIRST OUTPUT PORT
 
 -- of one output port: its list is there
-pub one_list : (k : Kern) (out : Emit) → outs k ≡ 1 → HasRoom k out → 0 < length out.outs
+pub one_list : (k : Kern) (out : Emit) → outs k ≡ 1 → HasLists k out → 0 < length out.outs
 one_list k out e h = let r = h.outs in omega (arith, r, e)
 
 -- what came at the first port alone is what the queue there holds
@@ -172,7 +172,7 @@ took_first t before ss ss' out out' is xs took e = record {
 
 -- and it may hold it
 pub came_first : (k : Kern) (reads : List QueueType) (t : QueueType) (vars : List VarKind) (ss : List Kept) (out out' : Emit) (st' : List State)
-    (is : List item.Item) → Took out out' (gives 0 is ss) → All (IsHeld t) is → FitState k reads st' → Came k reads (t ∷ []) vars out out' st'
+    (is : List item.Item) → Took out out' (gives 0 is ss) → All (IsHeld t) is → FitState k reads st' → CameAsHeld k reads (t ∷ []) vars out out' st'
 came_first k reads t vars ss out out' st' is took h again = record {
   outs = only 0 is;
   adds = none;

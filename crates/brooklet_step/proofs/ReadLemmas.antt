@@ -14,9 +14,9 @@ use Rattle.river_plan.proofs.PlaceLemmas.{place_below}
 use Rattle.brooklet_model.specs.Machine.{Machine}
 use Rattle.brooklet_model.proofs.Traces.{some_is, read_of}
 use Rattle.brooklet_step.specs.declared.machine.Parts.{Parts}
-use Rattle.brooklet_step.specs.Reading.{IsPlaceOf}
+use Rattle.brooklet_step.specs.Reading.{IsQueuePlace}
 use Rattle.brooklet_step.specs.Laws.{EnabledIsItem}
-use Rattle.brooklet_step.specs.Works.{queue_of, kinds_of, Stands, ReadsAt, IsEnabled, GoesOn}
+use Rattle.brooklet_step.specs.Works.{queue_of, kinds_of, StandsForMachine, ReadsAt, IsEnabled, GoesOn}
 use Rattle.brooklet_step.proofs.StepLemmas.{read_declared}
 
 -- what is got of a mapped list
@@ -71,7 +71,7 @@ ops_many raw p e = sym (length-map raw.ops op_form) ∙ ap (λ (x : PlanForm). l
 
 -- where the place is found
 pub found_place : (m : Parts) (o port n : ℕ) → GoesOn m → o < length m.plan.ops → port < length (list_at (read_places m.plan) o)
-    → n ≡ slice_index_or (list_at (read_places m.plan) o) port 0 → IsPlaceOf m o port n
+    → n ≡ slice_index_or (list_at (read_places m.plan) o) port 0 → IsQueuePlace m o port n
 found_place m o port n g lo lp e =
     let w = op_at m.plan.ops o lo in
     let k = ap length (places_at (λ d. d.reads) (queue_names m.plan) m.plan.ops o w.0 w.1) ∙ length-map w.0.reads (place (queue_names m.plan)) in
@@ -94,7 +94,7 @@ same_queue p o port q q' r r' =
     some_is q q' (sym r.queue_is ∙ ap (λ (d : OpForm). slice_get d.reads port) e ∙ r'.queue_is)
 
 -- whether something waits there
-pub enabled_by : (m : Parts) (o port n w : ℕ) (b : Bool) → m.stopped ≡ false → IsPlaceOf m o port n → w ≡ length (list_at m.queues n)
+pub enabled_by : (m : Parts) (o port n w : ℕ) (b : Bool) → m.stopped ≡ false → IsQueuePlace m o port n → w ≡ length (list_at m.queues n)
     → (IsTrue b → 0 < w) × (0 < w → IsTrue b) → (IsTrue b → IsEnabled m o port) × (IsEnabled m o port → IsTrue b)
 enabled_by m o port n w b run pl e t =
     let names = queue_names m.plan in
@@ -113,7 +113,7 @@ not_enabled m o port h on = h on.queue on.reads
 -- WHAT WAITS IN THE STATE OF THE DEFINITION
 
 -- as many items are left of a queue as its history is longer than what was taken
-left_many : (m : Parts) (s : Machine) (q : Name) → Stands m s → 0 < count q (queue_names m.plan) → length (queue_of m q) ≡ length (s.hist q) - s.taken q
+left_many : (m : Parts) (s : Machine) (q : Name) → StandsForMachine m s → 0 < count q (queue_names m.plan) → length (queue_of m q) ≡ length (s.hist q) - s.taken q
 left_many m s q h lt =
     let all = held (kinds_of m q) [] (s.hist q) in
     ap length (h.left q lt) ∙ length-drop (s.taken q) all ∙ ap (λ n. n - s.taken q) (length-held (kinds_of m q) [] (s.hist q))

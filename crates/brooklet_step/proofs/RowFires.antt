@@ -22,8 +22,8 @@ use Rattle.brooklet_model.proofs.Swaps.{at_port_here}
 use Rattle.brooklet_step.specs.declared.emit.Emit.{Emit}
 use Rattle.brooklet_step.specs.declared.state.State.{State}
 use Rattle.brooklet_step.specs.Stands.{AreNone, Fires, Applies}
-use Rattle.brooklet_step.specs.Took.{HasRoom}
-use Rattle.brooklet_step.specs.Given.{held_at, IsHeldBy, IsHeldOf, IsPlainBy, held_by, ran, Does, FiresAt, CanTake}
+use Rattle.brooklet_step.specs.Took.{HasLists}
+use Rattle.brooklet_step.specs.Given.{held_at, IsHeldBy, IsHeldOf, IsPlainBy, held_by, ran_from, Does, FiresAt, CanTake}
 use Rattle.brooklet_step.proofs.GivenLemmas.{ran_more}
 use Rattle.brooklet_step.proofs.GivenFires.{ArePlain, one_plain, simple_applies, plain_does}
 
@@ -96,10 +96,10 @@ tally_does port i out out' st st' f = record {
 -- COPIES
 
 -- each of the n lists has all that was received
-pub copies_are : (n : ℕ) (T : QueueType) (ss : List Kept) (w : Word) (p : ℕ) → p < n → IsWordOf (T ∷ []) w → (ran (duplicate n) ss w).outs p ≡ at_port 0 w
+pub copies_are : (n : ℕ) (T : QueueType) (ss : List Kept) (w : Word) (p : ℕ) → p < n → IsWordOf (T ∷ []) w → (ran_from (duplicate n) ss w).outs p ≡ at_port 0 w
 copies_are n T ss [] p lt h = refl
 copies_are n T ss ((zero, x) ∷ es) p lt h =
-    ap (λ l. l ++ (ran (duplicate n) ss es).outs p) (if_lt p n (x ∷ []) [] lt) ∙ ap (λ l. x ∷ l) (copies_are n T ss es p lt h.1)
+    ap (λ l. l ++ (ran_from (duplicate n) ss es).outs p) (if_lt p n (x ∷ []) [] lt) ∙ ap (λ l. x ∷ l) (copies_are n T ss es p lt h.1)
     ∙ sym (at_port_here 0 (0, x) es refl)
 copies_are n T ss ((suc q, x) ∷ es) p lt h = absurd h.0
 
@@ -117,7 +117,7 @@ held_many t n p i h = ⊎_elim
     (cases_lt p n)
 
 -- an item that is given at each port is what each of their queues holds for what the definition gives there
-pub duplicate_does : (n : ℕ) (i : item.Item) (st : List State) (out out' : Emit) → HasRoom (duplicate n) out → out'.outs ≡ each_grew out.outs (λ p. i ∷ [])
+pub duplicate_does : (n : ℕ) (i : item.Item) (st : List State) (out out' : Emit) → HasLists (duplicate n) out → out'.outs ≡ each_grew out.outs (λ p. i ∷ [])
     → out'.adds ≡ out.adds → FiresAt (duplicate n) 0 i out out' st st
 duplicate_does n i st out out' room eo ea = record {
   each = λ reads writes vars f fs hi.
@@ -134,7 +134,7 @@ duplicate_does n i st out out' room eo ea = record {
     does T vars fs hi = record {
       gives = record {
         given = λ start w x is_start tw tx sa h.
-            let before = ran (duplicate n) start w in
+            let before = ran_from (duplicate n) start w in
             let r = fire (duplicate n) 0 x before.states in
             let at_is : (p : ℕ) → p < n → i ∷ [] ≡ held_at (replicate n T) p (before.outs p) (r.outs p) = λ p lt.
             sym h ∙ ap (λ l. held T l (x ∷ [])) (sym (copies_are n T start w p lt tw)) ∙ ap (held T (before.outs p)) (sym (if_lt p n (x ∷ []) [] lt))

@@ -26,7 +26,7 @@ use Rattle.brooklet_model.proofs.BagTypes.{select_typed}
 use Rattle.brooklet_model.proofs.Swaps.{at_port_here}
 use Rattle.brooklet_step.specs.declared.emit.Emit.{Emit}
 use Rattle.brooklet_step.specs.Took.{Took}
-use Rattle.brooklet_step.specs.Given.{IsHeldOf, ran, Gives, FiresAt, CanTake}
+use Rattle.brooklet_step.specs.Given.{IsHeldOf, ran_from, GivesAsDefined, FiresAt, CanTake}
 use Rattle.brooklet_step.proofs.BagLeaves.{select_no_row}
 use Rattle.brooklet_step.proofs.GivenLemmas.{ran_more}
 use Rattle.brooklet_step.proofs.OnePort.{batch_held, change_held, held_first, batch_type, change_type, relation_typed, typed_first, typed_port}
@@ -74,10 +74,10 @@ module _ (F : List (List ℤ) → List (List ℤ)) where
 
 -- what a selection gives for a batch of a stream is what the queue holds
 select_gives_rows : (e : Term) (n : ℕ) (b : Batch) (out out' : Emit) → Took out out' (gives 0 (select_one e (Flat (Batched b))) [])
-    → Gives (select e) (stream n ∷ []) (stream n ∷ []) 0 (Flat (Batched b)) out out' [] []
+    → GivesAsDefined (select e) (stream n ∷ []) (stream n ∷ []) 0 (Flat (Batched b)) out out' [] []
 select_gives_rows e n b out out' took = record {
   given = λ start w x is_start tw tx a h.
-      let before = ran (select e) start w in
+      let before = ran_from (select e) start w in
       let is : x ≡ Flat (Batched b) = same_item x (Flat (Batched b)) (sym (held-plain (stream n) (at_port 0 w) (x ∷ []) tt) ∙ h) in
       let holds : held (stream n) (before.outs 0) (select_one e x) ≡ select_one e (Flat (Batched b)) =
       held-plain (stream n) (before.outs 0) (select_one e x) tt ∙ ap (select_one e) is in (
@@ -107,10 +107,10 @@ select_rows_does e b out out' took = record {
 }
 
 select_gives : (e : Term) (n : ℕ) (c d : Change) (out out' : Emit) → FollowsContent (selected e) c d → Took out out' (gives 0 (Flat (Changed d) ∷ []) [])
-    → Gives (select e) (relation n ∷ []) (relation n ∷ []) 0 (Flat (Changed c)) out out' [] []
+    → GivesAsDefined (select e) (relation n ∷ []) (relation n ∷ []) 0 (Flat (Changed c)) out out' [] []
 select_gives e n c d out out' f took = record {
   given = λ start w x is_start tw tx a h.
-      let before = ran (select e) start w in (
+      let before = ran_from (select e) start w in (
         took_first (relation n) before [] before.states out out' (Flat (Changed d) ∷ []) (select_one e x) took (image_held (selected e) n n c d refl f w start x tw tx h),
         record { code = refl; defined = (ran_more (select e) start w 0 x).states ∙ a.defined },
       );
@@ -145,10 +145,10 @@ select_flat_does e (Changed c) items out out' t s took =
 -- PROJECTIONS
 
 project_gives : (es : List Term) (n : ℕ) (c d : Change) (out out' : Emit) → FollowsContent (projected es) c d → Took out out' (gives 0 (Flat (Changed d) ∷ []) [])
-    → Gives (project es) (relation n ∷ []) (relation (length es) ∷ []) 0 (Flat (Changed c)) out out' [] []
+    → GivesAsDefined (project es) (relation n ∷ []) (relation (length es) ∷ []) 0 (Flat (Changed c)) out out' [] []
 project_gives es n c d out out' f took = record {
   given = λ start w x is_start tw tx a h.
-      let before = ran (project es) start w in (
+      let before = ran_from (project es) start w in (
         took_first (relation (length es)) before [] before.states out out' (Flat (Changed d) ∷ []) (project_one es x) took
             (image_held (projected es) n (length es) c d refl f w start x tw tx h),
         record { code = refl; defined = (ran_more (project es) start w 0 x).states ∙ a.defined },

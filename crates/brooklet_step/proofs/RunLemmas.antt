@@ -33,7 +33,7 @@ use Rattle.brooklet_model.proofs.RunMeaning.{outs_are, firings_are}
 use Rattle.brooklet_model.proofs.Traces.{some_is, at_most, got_count, joined_out}
 use Rattle.brooklet_step.specs.declared.machine.Parts.{Parts}
 use Rattle.brooklet_step.specs.Drained.{IsDrained, read_in, left_at, Follows, RunsOn, DrainedBefore, HasPorts, HasRun}
-use Rattle.brooklet_step.specs.Works.{queue_of, kinds_of, Stands, ReadsAt, IsEnabled, Ran, GoesOn, Starts, Steps, AreCounts}
+use Rattle.brooklet_step.specs.Works.{queue_of, kinds_of, StandsForMachine, ReadsAt, IsEnabled, StandsAfterRun, GoesOn, Starts, Steps, AreCounts}
 use Rattle.brooklet_step.specs.Tables.{defined_tables}
 use Rattle.brooklet_step.proofs.Edges.{output_held}
 use Rattle.brooklet_step.proofs.KeptTables.{kept_of_bags, defined_rows}
@@ -59,7 +59,7 @@ no_later q (a ∷ ops) known (suc o') (suc o) op' op r once g' g le lt =
 -- WHAT A STEP LEAVES
 
 -- as many items are left as were put and not taken
-left_length : (m : Parts) (s : Machine) → Stands m s → (q : Name) → 0 < count q (queue_names m.plan) → length (queue_of m q) ≡ length (s.hist q) - s.taken q
+left_length : (m : Parts) (s : Machine) → StandsForMachine m s → (q : Name) → 0 < count q (queue_names m.plan) → length (queue_of m q) ≡ length (s.hist q) - s.taken q
 left_length m s h q lt =
     ap length (h.left q lt) ∙ length-drop (s.taken q) (held (kinds_of m q) [] (s.hist q)) ∙ ap (λ n. n - s.taken q) (length-held (kinds_of m q) [] (s.hist q))
 
@@ -139,7 +139,7 @@ one_taken : (k : Name) (f : Name → ℕ) → at_name k (f k + 1) f k ≡ f k + 
 one_taken k f = ⊎_elim (λ c. if_true (name_eq k k) (f k + 1) (f k) c.1) (λ c. absurd (c.0 refl)) (cases_name k k)
 
 -- each step leaves one less
-pub step_less : (m m' : Parts) (o port : ℕ) (inputs : List (List item.Item)) → IsPlan m.plan → Ran m inputs → IsEnabled m o port → Steps m m' o port
+pub step_less : (m m' : Parts) (o port : ℕ) (inputs : List (List item.Item)) → IsPlan m.plan → StandsAfterRun m inputs → IsEnabled m o port → Steps m m' o port
     → left_at m' o port < left_at m o port
 step_less m m' o port inputs v r e st =
     let a = st.each r.state r.stands in
@@ -214,7 +214,7 @@ before_next m m' m'' o ports op b f g many d = record {
 -- THE END
 
 -- a machine whose ports are all drained is complete
-pub complete : (m : Parts) (inputs : List (List item.Item)) → IsPlan m.plan → (r : Ran m inputs) → ((o port : ℕ) → IsDrained m o port)
+pub complete : (m : Parts) (inputs : List (List item.Item)) → IsPlan m.plan → (r : StandsAfterRun m inputs) → ((o port : ℕ) → IsDrained m o port)
     → IsComplete m.plan r.state
 complete m inputs v r d o port op q g y =
     let u : ReadsAt m.plan o port q = record { op = op; op_is = g; queue_is = y } in
@@ -224,7 +224,7 @@ complete m inputs v r d o port op q g y =
     let w = r.stands.within q in
     omega (arith, b, h, w)
 
-pub ran_first : (p : PlanForm) (inputs : List (List item.Item)) (m : Parts) → Starts p inputs m → Ran m inputs
+pub ran_first : (p : PlanForm) (inputs : List (List item.Item)) (m : Parts) → Starts p inputs m → StandsAfterRun m inputs
 ran_first p inputs m s = record {
   events = [];
   state = start p inputs;
@@ -334,7 +334,7 @@ module _ (p : PlanForm) (inputs : List (List item.Item)) (m0 m : Parts) (v : IsP
   plan_is : m.plan ≡ p
   plan_is = b.plan ∙ st.plan
 
-  ran : Ran m inputs
+  ran : StandsAfterRun m inputs
   ran = b.ran inputs (ran_first p inputs m0 st)
 
   all_drained : (o port : ℕ) → IsDrained m o port

@@ -33,9 +33,9 @@ use Rattle.brooklet_model.proofs.Complete.{traced_start, nothing_given}
 use Rattle.brooklet_step.specs.declared.machine.Parts.{Parts}
 use Rattle.brooklet_step.specs.declared.state.State.{State}
 use Rattle.brooklet_model.specs.Fit.{Fit}
-use Rattle.brooklet_step.specs.Initial.{IsFirst, CanStart, AreFirst}
+use Rattle.brooklet_step.specs.Initial.{AreFirstStates, CanStart, AreFirst}
 use Rattle.brooklet_step.specs.Tables.{kept_tables}
-use Rattle.brooklet_step.specs.Works.{Stands, Counts, GoesOn, Starts}
+use Rattle.brooklet_step.specs.Works.{StandsForMachine, Counts, GoesOn, Starts}
 use Rattle.brooklet_step.proofs.Edges.{inputs_held, inputs_may}
 use Rattle.brooklet_step.proofs.QueuePlaces.{written_found}
 use Rattle.brooklet_step.proofs.ReadLemmas.{got_map}
@@ -54,7 +54,7 @@ got_last [] x (suc n) e = absurd (omega (arith, e))
 got_last (y ∷ ys) x zero e = absurd (omega (arith, e))
 got_last (y ∷ ys) x (suc n) e = got_last ys x n (omega (arith, e))
 
-first_more : (ops : List OpForm) (op : OpForm) (states : List (List State)) (st : List State) → AreFirst ops states → IsFirst op.kernel st
+first_more : (ops : List OpForm) (op : OpForm) (states : List (List State)) (st : List State) → AreFirst ops states → AreFirstStates op.kernel st
     → AreFirst (ops ++ op ∷ []) (states ++ st ∷ [])
 first_more ops op states st f h =
     let c = f.count in
@@ -65,13 +65,13 @@ first_more ops op states st f h =
       stand = λ o op' g. ⊎_elim
           (λ lt.
           let g' : slice_get ops o ≡ Some op' = sym (got_front ops (op ∷ []) o lt) ∙ g in
-          subst (λ (u : List State). IsFirst op'.kernel u) (sym (get_or-append states (st ∷ []) [] o (omega (arith, lt, c)))) (f.stand o op' g'))
+          subst (λ (u : List State). AreFirstStates op'.kernel u) (sym (get_or-append states (st ∷ []) [] o (omega (arith, lt, c)))) (f.stand o op' g'))
           (λ ge.
           let w = slice_get_within (ops ++ op ∷ []) o op' g in
           let e : o ≡ length ops = omega (arith, w, lo, ge) in
           let same : op ≡ op' = some_is op op' (sym (got_last ops op o e) ∙ g) in
-          subst (λ (u : List State). IsFirst op'.kernel u) (sym (get_or_push states st [] o (omega (arith, e, c))))
-          (subst (λ (d : OpForm). IsFirst d.kernel st) same h))
+          subst (λ (u : List State). AreFirstStates op'.kernel u) (sym (get_or_push states st [] o (omega (arith, e, c))))
+          (subst (λ (d : OpForm). AreFirstStates d.kernel st) same h))
           (cases_lt o (length ops));
     }
 
@@ -88,7 +88,7 @@ map_more f xs i x lt e = ap (map f) (take_more xs i x lt ∙ ap (λ y. take i xs
 
 -- a step of the loop that makes them
 pub first_next : (ops : List Op) (i : ℕ) (d : Op) (states states' : List (List State)) (st : List State) → i < length ops → d ≡ get_or ops i d
-    → AreFirst (op_forms (take i ops)) states → IsFirst (kern_of d.kernel) st → states' ≡ states ++ st ∷ [] → AreFirst (op_forms (take (i + 1) ops)) states'
+    → AreFirst (op_forms (take i ops)) states → AreFirstStates (kern_of d.kernel) st → states' ≡ states ++ st ∷ [] → AreFirst (op_forms (take (i + 1) ops)) states'
 first_next ops i d states states' st lt e f h n =
     subst (λ (l : List OpForm). AreFirst l states') (sym (map_more op_form ops i d lt e))
     (subst (AreFirst (op_forms (take i ops) ++ op_form d ∷ [])) (sym n) (first_more (op_forms (take i ops)) (op_form d) states st f h))
@@ -209,7 +209,7 @@ first p pl inputs queues cs states tables v fit pe qe f ce te =
     let all_typed = inputs_typed p v inputs fit.typed in
     let hist_is : (q : Name) → 0 < count q (queue_names p) → list_at queues (place (queue_names p) q) ≡ inputs_of (decl_names p.inputs) (list_at inputs) q =
     λ q lt. sym (first_hist p v inputs fit q lt ∙ ap (λ (l : List (List item.Item)). list_at l (place (queue_names p) q)) (sym qe)) in
-    let stands : Stands m (start p inputs) = record {
+    let stands : StandsForMachine m (start p inputs) = record {
       left = λ q lt. hist_is q lt ∙ sym (inputs_held p v inputs q);
       within = λ q. omega arith;
       unread = λ q z. refl;

@@ -34,8 +34,8 @@ use Rattle.river_kernels.specs.Types.{types_of}
 use Rattle.brooklet_step.specs.declared.state.State.{State}
 use Rattle.brooklet_step.specs.declared.state.State.TheVariants as state
 use Rattle.brooklet_step.specs.Given.{FitState, StandsAfter}
-use Rattle.brooklet_step.specs.Initial.{IsFirst}
-use Rattle.brooklet_step.specs.Stands.{StandsForSlots, StandsFor}
+use Rattle.brooklet_step.specs.Initial.{AreFirstStates}
+use Rattle.brooklet_step.specs.Stands.{StandsForSlots, StandsForKept}
 use Rattle.river_kernels.proofs.WellFormed.{can_filter}
 use Rattle.brooklet_step.proofs.DealFires.{deal_first_after, deal_first_fits}
 use Rattle.brooklet_step.proofs.JoinFires.{collect_first_after, collect_first_fits, unpack_first_after, unpack_first_fits}
@@ -79,16 +79,16 @@ second_formed a b at h = record { reads = h.fits.1 ∷ []; writes = h.fits.2; va
 
 -- states that stand for the first ones, and fit
 pub first_of : (k : Kern) (st : List State) → IsFormed k → ((reads : List QueueType) → StandsAfter k reads (first_kept k) st [])
-    → ((reads writes : List QueueType) (vars : List VarKind) → Fits k reads writes vars → FitState k reads st) → IsFirst k st
+    → ((reads writes : List QueueType) (vars : List VarKind) → Fits k reads writes vars → FitState k reads st) → AreFirstStates k st
 first_of k st f after again = record { start = λ reads. first_is_start k reads (formed_shaped k f); after = after; again = again }
 
 -- a kernel that keeps no items
-pub simple_first : (k : Kern) (st : List State) → IsSimple k → IsFormed k → StandsFor k st (first_kept k) → IsFirst k st
+pub simple_first : (k : Kern) (st : List State) → IsSimple k → IsFormed k → StandsForKept k st (first_kept k) → AreFirstStates k st
 simple_first k st l f h =
     first_of k st f (λ reads. simple_from k reads (first_kept k) st [] l h) (λ reads writes vars fits. fit_of k reads st (first_kept k) h)
 
 -- a splitter
-pub splitter_first : (ws : List ℤ) (st : List State) → IsFormed (deal ws) → st ≡ state.Deal (dealt_start (length ws)) ∷ [] → IsFirst (deal ws) st
+pub splitter_first : (ws : List ℤ) (st : List State) → IsFormed (deal ws) → st ≡ state.Deal (dealt_start (length ws)) ∷ [] → AreFirstStates (deal ws) st
 splitter_first ws st f e =
     let some = formed_shaped (deal ws) f in
     first_of (deal ws) st f
@@ -96,7 +96,7 @@ splitter_first ws st f e =
     (λ reads writes vars fits. subst (FitState (deal ws) reads) (sym e) (deal_first_fits ws reads some))
 
 -- a joiner
-pub joiner_first : (ws : List ℤ) (st : List State) → IsFormed (collect ws) → st ≡ state.Join (join_start (length ws)) ∷ [] → IsFirst (collect ws) st
+pub joiner_first : (ws : List ℤ) (st : List State) → IsFormed (collect ws) → st ≡ state.Join (join_start (length ws)) ∷ [] → AreFirstStates (collect ws) st
 joiner_first ws st f e =
     first_of (collect ws) st f
     (λ reads. subst (λ (l : List State). StandsAfter (collect ws) reads (first_kept (collect ws)) l []) (sym e)
@@ -104,39 +104,39 @@ joiner_first ws st f e =
     (λ reads writes vars fits. subst (FitState (collect ws) reads) (sym e) (collect_first_fits ws reads (formed_shaped (collect ws) f)))
 
 -- a joiner of packs
-pub unpacker_first : (n : ℕ) (st : List State) → IsFormed (unpack n) → st ≡ state.Join (join_start n) ∷ [] → IsFirst (unpack n) st
+pub unpacker_first : (n : ℕ) (st : List State) → IsFormed (unpack n) → st ≡ state.Join (join_start n) ∷ [] → AreFirstStates (unpack n) st
 unpacker_first n st f e =
     first_of (unpack n) st f
     (λ reads. subst (λ (l : List State). StandsAfter (unpack n) reads (first_kept (unpack n)) l []) (sym e) (unpack_first_after n reads (formed_shaped (unpack n) f)))
     (λ reads writes vars fits. subst (FitState (unpack n) reads) (sym e) (unpack_first_fits n reads (formed_shaped (unpack n) f)))
 
 -- a window
-pub window_first : (w : Window) (st : List State) → IsFormed (window w) → st ≡ state.Window window_start ∷ [] → IsFirst (window w) st
+pub window_first : (w : Window) (st : List State) → IsFormed (window w) → st ≡ state.Window window_start ∷ [] → AreFirstStates (window w) st
 window_first w st f e =
     first_of (window w) st f
     (λ reads. subst (λ (l : List State). StandsAfter (window w) reads (first_kept (window w)) l []) (sym e) (window_first_after w reads))
     (λ reads writes vars fits. subst (FitState (window w) reads) (sym e) (window_first_fits w reads writes vars fits))
 
 -- a product
-pub cross_first : (st : List State) → IsFormed cross → st ≡ state.Cross cross_start ∷ [] → IsFirst cross st
+pub cross_first : (st : List State) → IsFormed cross → st ≡ state.Cross cross_start ∷ [] → AreFirstStates cross st
 cross_first st f e =
     first_of cross st f
     (λ reads. subst (λ (l : List State). StandsAfter cross reads (first_kept cross) l []) (sym e) (cross_first_after reads))
     (λ reads writes vars fits. subst (FitState cross reads) (sym e) (cross_first_fits reads writes vars fits))
 
 -- a streamer
-pub streamer_first : (s : Streamer) (st : List State) → IsFormed (streamer s) → st ≡ state.Streamer [] ∷ [] → IsFirst (streamer s) st
+pub streamer_first : (s : Streamer) (st : List State) → IsFormed (streamer s) → st ≡ state.Streamer [] ∷ [] → AreFirstStates (streamer s) st
 streamer_first s st f e =
     first_of (streamer s) st f
     (λ reads. subst (λ (l : List State). StandsAfter (streamer s) reads (first_kept (streamer s)) l []) (sym e) (streamer_first_after s reads))
     (λ reads writes vars fits. subst (FitState (streamer s) reads) (sym e) (streamer_first_fits s reads writes vars fits))
 
 -- the first states of a kernel are those of another form of it
-pub first_at : (k j : Kern) (st : List State) → k ≡ j → IsFirst j st → IsFirst k st
-first_at k j st e h = subst (λ (i : Kern). IsFirst i st) (sym e) h
+pub first_at : (k j : Kern) (st : List State) → k ≡ j → AreFirstStates j st → AreFirstStates k st
+first_at k j st e h = subst (λ (i : Kern). AreFirstStates i st) (sym e) h
 
 -- a kernel whose items go into packs keeps what the kernel inside keeps
-pub packed_first : (k : Kern) (st : List State) → IsFirst k st → IsFirst (packed k) st
+pub packed_first : (k : Kern) (st : List State) → AreFirstStates k st → AreFirstStates (packed k) st
 packed_first k st h = record {
   start = λ reads. let s = h.start reads in record { shape = s.shape; holds = s.holds };
   after = h.after;
@@ -145,7 +145,7 @@ packed_first k st h = record {
 }
 
 -- two kernels keep what the first keeps and then what the second keeps
-pub fused_first : (a b : Kern) (at : ℕ) (st st' : List State) → IsFormed (fused a b at) → IsFirst a st → IsFirst b st' → IsFirst (fused a b at) (st ++ st')
+pub fused_first : (a b : Kern) (at : ℕ) (st st' : List State) → IsFormed (fused a b at) → AreFirstStates a st → AreFirstStates b st' → AreFirstStates (fused a b at) (st ++ st')
 fused_first a b at st st' f h g = record {
   start = λ reads. first_is_start (fused a b at) reads (formed_shaped (fused a b at) f);
   after = λ reads.

@@ -36,10 +36,10 @@ use Rattle.brooklet_step.specs.declared.emit.Emit.{Emit}
 use Rattle.brooklet_step.specs.declared.machine.Parts.{Parts}
 use Rattle.brooklet_step.specs.declared.state.State.{State}
 use Rattle.brooklet_step.specs.ByPlace.{joined_at}
-use Rattle.brooklet_step.specs.Given.{held_by, held_at, IsHeldBy, IsHeldOf, FitState, StandsAfter, ran, TookHeld, Does, FiresAt, CanTake}
+use Rattle.brooklet_step.specs.Given.{held_by, held_at, IsHeldBy, IsHeldOf, FitState, StandsAfter, ran_from, TookHeld, Does, FiresAt, CanTake}
 use Rattle.brooklet_step.specs.Tables.{kept_tables, each_added}
 use Rattle.brooklet_step.specs.Took.{IsBlank}
-use Rattle.brooklet_step.specs.Works.{queue_of, kinds_of, states_of, count_of, Stands, ReadsAt, Counts, GoesOn, After, Steps}
+use Rattle.brooklet_step.specs.Works.{queue_of, kinds_of, states_of, firing_count, StandsForMachine, ReadsAt, Counts, GoesOn, StandsAfterFiring, Steps}
 use Rattle.brooklet_step.proofs.GivenLemmas.{first_is_start, fired_typed}
 use Rattle.brooklet_step.proofs.Fires.{blank_room}
 use Rattle.river_plan.specs.Places.{place, places}
@@ -185,7 +185,7 @@ next_parts m o queues st ts = record {
   plan = m.plan;
   queues = queues;
   states = slice_set m.states o st;
-  counts = slice_set m.counts o (min most_firings (count_of m o + 1));
+  counts = slice_set m.counts o (min most_firings (firing_count m o + 1));
   tables = ts;
   stopped = false;
 }
@@ -264,7 +264,7 @@ module _ (m : Parts) (o port : ℕ) (q : Name) (i : item.Item) (rest : List item
   abbrev taken_next : Machine → Name → ℕ
   taken_next s = at_name q (s.taken q + 1) s.taken
 
-  left_next : (s : Machine) → Stands m s → (n : Name) → 0 < count n names → list_at base (place names n) ≡ drop (taken_next s n) (held (kinds n) [] (s.hist n))
+  left_next : (s : Machine) → StandsForMachine m s → (n : Name) → 0 < count n names → list_at base (place names n) ≡ drop (taken_next s n) (held (kinds n) [] (s.hist n))
   left_next s h n lt = ⊎_elim
       (λ c.
       let d : drop (s.taken q + 1) (held (kinds q) [] (s.hist q)) ≡ rest = drop_next (held (kinds q) [] (s.hist q)) (s.taken q) i rest (sym (h.left q q_there) ∙ hx) in
@@ -275,7 +275,7 @@ module _ (m : Parts) (o port : ℕ) (q : Name) (i : item.Item) (rest : List item
       base_other n lt (λ e. c.0 (sym e)) ∙ h.left n lt ∙ ap (λ k. drop k (held (kinds n) [] (s.hist n))) (sym (if_false (name_eq q n) (s.taken q + 1) (s.taken n) c.1)))
       (cases_name q n)
 
-  within_next : (s : Machine) → Stands m s → s.taken q < length (s.hist q) → (n : Name) → taken_next s n ≤ length (s.hist n)
+  within_next : (s : Machine) → StandsForMachine m s → s.taken q < length (s.hist q) → (n : Name) → taken_next s n ≤ length (s.hist n)
   within_next s h w n = ⊎_elim
       (λ c.
       let e = if_true (name_eq q n) (s.taken q + 1) (s.taken n) c.1 in
@@ -284,7 +284,7 @@ module _ (m : Parts) (o port : ℕ) (q : Name) (i : item.Item) (rest : List item
       (λ c. let e = if_false (name_eq q n) (s.taken q + 1) (s.taken n) c.1 in let d = h.within n in omega (arith, e, d))
       (cases_name q n)
 
-  unread_next : (s : Machine) → Stands m s → (n : Name) → total (reads_it n) m.plan.ops ≡ 0 → taken_next s n ≡ 0
+  unread_next : (s : Machine) → StandsForMachine m s → (n : Name) → total (reads_it n) m.plan.ops ≡ 0 → taken_next s n ≡ 0
   unread_next s h n z = ⊎_elim
       (λ c.
       let t = at_most (reads_it q) m.plan.ops o r.op r.op_is in
@@ -299,7 +299,7 @@ module _ (m : Parts) (o port : ℕ) (q : Name) (i : item.Item) (rest : List item
   mine = tables_of (table_names m.plan.tables) r.op
 
   -- the tables with what was added
-  tables_next : (s : Machine) (f_s : ℕ → List (List ℤ)) → Stands m s → out.adds ≡ each_grew blank.adds f_s
+  tables_next : (s : Machine) (f_s : ℕ → List (List ℤ)) → StandsForMachine m s → out.adds ≡ each_grew blank.adds f_s
       → ts ≡ kept_tables m.plan.tables (λ n. s.rows n ++ joined mine f_s n)
   tables_next s f_s h t =
       let names_t = table_names m.plan.tables in
@@ -322,7 +322,7 @@ module _ (m : Parts) (o port : ℕ) (q : Name) (i : item.Item) (rest : List item
       (λ n. subst (λ (u : List State). P op' u (at_key o w ws o')) (sym (get_or-set_other m.states o o' st [] (λ e. n (sym e)))) (subst (P op' (list_at m.states o')) (sym (at_key_other o w ws o' n)) (old o' op' g')))
       (cases_eq o o')
 
-  after : (s : Machine) → Stands m s → After m m' o port s
+  after : (s : Machine) → StandsForMachine m s → StandsAfterFiring m m' o port s
   after s h =
       let all = held (kinds q) [] (s.hist q) in
       let it = found (kinds q) (s.hist q) all (s.taken q) i refl (got_drop all (s.taken q) i rest (sym (h.left q q_there) ∙ hx)) in
@@ -331,7 +331,7 @@ module _ (m : Parts) (o port : ℕ) (q : Name) (i : item.Item) (rest : List item
       let w = h.words o in
       let first = first_kept r.op.kernel in
       let is_start = first_is_start r.op.kernel reads (shaped r.op.kernel reads writes _ fits) in
-      let before = ran r.op.kernel first w in
+      let before = ran_from r.op.kernel first w in
       let typed_w = h.received o r.op r.op_is in
       let typed_x : IsOf reads port x = subst (λ t. IsTyped t x) (sym (kind_got kinds r.op.reads port q r.queue_is)) (got_all (HasType (kinds q)) (s.hist q) (s.taken q) x (h.typed q) it.item_is) in
       let held_x : held_at reads port (at_port port w) (x ∷ []) ≡ i ∷ [] =
@@ -385,12 +385,12 @@ module _ (m : Parts) (o port : ℕ) (q : Name) (i : item.Item) (rest : List item
       (λ e.
       let c = h n lt in
       let one : (if nat_eq o n then 1 else 0) ≡ 1 = if_eq o n 1 0 e in
-      ap (λ k. slice_index_or (slice_set m.counts k (min most_firings (count_of m k + 1))) n 0) e ∙ get_or-set_same m.counts n (min most_firings (count_of m n + 1)) 0 below
+      ap (λ k. slice_index_or (slice_set m.counts k (min most_firings (firing_count m k + 1))) n 0) e ∙ get_or-set_same m.counts n (min most_firings (firing_count m n + 1)) 0 below
       ∙ ap (λ k. min most_firings (k + 1)) c ∙ sum_min most_firings (times n es) ∙ ap (min most_firings) (sym (t ∙ ap (λ k. times n es + k) one)))
       (λ ne.
       let c = h n lt in
       let none : (if nat_eq o n then 1 else 0) ≡ 0 = if_ne o n 1 0 ne in
-      get_or-set_other m.counts o n (min most_firings (count_of m o + 1)) 0 (λ e. ne (sym e)) ∙ c ∙ ap (min most_firings) (sym (t ∙ ap (λ k. times n es + k) none ∙ omega arith)))
+      get_or-set_other m.counts o n (min most_firings (firing_count m o + 1)) 0 (λ e. ne (sym e)) ∙ c ∙ ap (min most_firings) (sym (t ∙ ap (λ k. times n es + k) none ∙ omega arith)))
       (cases_eq o n)
 
   -- the machine made one step of the definition
@@ -407,7 +407,7 @@ module _ (m : Parts) (o port : ℕ) (q : Name) (i : item.Item) (rest : List item
         laid_out = record {
           queues = ap length eq ∙ length-each_grew base (joined_at (places names r.op.writes) (list_at out.outs)) ∙ base_many ∙ l.queues;
           states = length-set m.states o st ∙ l.states;
-          counts = length-set m.counts o (min most_firings (count_of m o + 1)) ∙ l.counts;
+          counts = length-set m.counts o (min most_firings (firing_count m o + 1)) ∙ l.counts;
         };
         fit = at_each (λ op u v. FitState op.kernel (map (kinds_of m) op.reads) u) [] (λ j. []) g.fit does.came.again;
         items = λ n lt. subst (λ (l : List item.Item). All (IsHeld (kinds n)) l) (sym (queue_is does.came.outs does.came.outs_are n lt))

@@ -27,7 +27,7 @@ use Rattle.brooklet_model.specs.Words.{Word, at_port}
 use Rattle.brooklet_step.specs.declared.emit.Emit.{Emit}
 use Rattle.brooklet_step.specs.declared.state.State.TheVariants as state
 use Rattle.brooklet_step.specs.Took.{Took}
-use Rattle.brooklet_step.specs.Given.{IsHeldOf, FitStreamer, FitState, ran, StreamerStands, StandsAfter, TookHeld, Gives, FiresAt}
+use Rattle.brooklet_step.specs.Given.{IsHeldOf, FitStreamer, FitState, ran_from, StreamerStands, StandsAfter, TookHeld, GivesAsDefined, FiresAt}
 use Rattle.brooklet_step.proofs.GivenLemmas.{at_next, ran_more}
 use Rattle.brooklet_step.proofs.OnePort.{batch_held, held_change, relation_typed, came_content, same_relation, took_first, came_first, one_held, does_at}
 
@@ -64,7 +64,7 @@ last_come past b = ap last_rows (batches_more past b) ∙ last_more (batches pas
 module _ (s : Streamer) (n : ℕ) (c : Change) (g : Batch) (now now' : List (List ℤ)) (out out' : Emit) where
   -- what a firing on x gives, and what it keeps
   abbrev GivesFor : List Kept → Word → item.Item → Type 0
-  GivesFor start w x = TookHeld (stream n ∷ []) (ran (streamer s) start w) out out' (fire (streamer s) 0 x (ran (streamer s) start w).states)
+  GivesFor start w x = TookHeld (stream n ∷ []) (ran_from (streamer s) start w) out out' (fire (streamer s) 0 x (ran_from (streamer s) start w).states)
       × StreamerStands s start (state.Streamer now' ∷ []) (w ++ (0, x) ∷ [])
 
   streamer_step : StreamsChange s c now now' g → Took out out' (gives 0 (Flat (Batched g) ∷ []) []) → (start : List Kept) (w : Word) (b : Batch) → IsAscending b.rows
@@ -72,7 +72,7 @@ module _ (s : Streamer) (n : ℕ) (c : Change) (g : Batch) (now now' : List (Lis
   streamer_step f took start w b up a is =
       let x : item.Item = Flat (Batched b) in
       let content = content_from [] (at_port 0 w) in
-      let before = ran (streamer s) start w in
+      let before = ran_from (streamer s) start w in
       let prev = before.outs 0 in
       let one = streamer_one s a.past x in
       let next = a.past ++ x ∷ [] in
@@ -95,7 +95,7 @@ module _ (s : Streamer) (n : ℕ) (c : Change) (g : Batch) (now now' : List (Lis
       )
 
   streamer_gives : StreamsChange s c now now' g → Took out out' (gives 0 (Flat (Batched g) ∷ []) [])
-      → Gives (streamer s) (relation n ∷ []) (stream n ∷ []) 0 (Flat (Changed c)) out out' (state.Streamer now ∷ []) (state.Streamer now' ∷ [])
+      → GivesAsDefined (streamer s) (relation n ∷ []) (stream n ∷ []) 0 (Flat (Changed c)) out out' (state.Streamer now ∷ []) (state.Streamer now' ∷ [])
   streamer_gives f took = record {
     given = λ start w x is_start tw tx a h.
         let y = relation_typed n x tx in

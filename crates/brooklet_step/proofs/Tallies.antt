@@ -10,7 +10,7 @@ use Rattle.river_kernels.specs.Kern.{Kern, kern_of, kern_at, tally}
 use Rattle.brooklet_model.specs.Fire.{fire, values_of, tabs}
 use Rattle.brooklet_step.specs.declared.emit.Emit.{Emit}
 use Rattle.brooklet_step.specs.declared.state.State.{State}
-use Rattle.brooklet_step.specs.Took.{HasRoom}
+use Rattle.brooklet_step.specs.Took.{HasLists}
 use Rattle.brooklet_step.specs.Stands.{IsRow, Fires, Takes}
 use Rattle.brooklet_step.proofs.Leaves.{row_is}
 
@@ -23,7 +23,7 @@ pub tally_row : (k : Kern) (port : ℕ) (x : item.Item) (st : List State) → k 
 tally_row k port x st ek t = let u = subst (λ (j : Kern). Takes j port x st) ek t in (row_is u.fitted.fits.0 port u.reads x u.fitted.fits.1 u.item).0
 
 -- and there is a list for its table
-pub tally_room : (k : Kern) (out : Emit) → k ≡ tally → HasRoom k out → 0 < length out.adds
+pub tally_room : (k : Kern) (out : Emit) → k ≡ tally → HasLists k out → 0 < length out.adds
 tally_room k out ek r = let e = r.adds ∙ ap tabs ek in omega (arith, e)
 
 -- adding a row to a table is the firing of a tally

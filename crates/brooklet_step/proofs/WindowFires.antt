@@ -27,7 +27,7 @@ use Rattle.brooklet_model.specs.Words.{Word, at_port}
 use Rattle.brooklet_step.specs.declared.emit.Emit.{Emit}
 use Rattle.brooklet_step.specs.declared.state.State.TheVariants as state
 use Rattle.brooklet_step.specs.Took.{Took}
-use Rattle.brooklet_step.specs.Given.{IsHeldOf, FitWindow, FitState, ran, WindowStands, StandsAfter, TookHeld, Gives, FiresAt}
+use Rattle.brooklet_step.specs.Given.{IsHeldOf, FitWindow, FitState, ran_from, WindowStands, StandsAfter, TookHeld, GivesAsDefined, FiresAt}
 use Rattle.brooklet_step.proofs.GivenLemmas.{ran_more}
 use Rattle.brooklet_step.proofs.OnePort.{held_batch, change_held, same_item, same_stream, took_first, came_first, one_held, does_at}
 
@@ -75,14 +75,14 @@ window_first_fits v reads writes vars f = record {
 module _ (v : Window) (n : ℕ) (b : Batch) (c : Change) (now now' : WindowKept) (out out' : Emit) where
   -- what a firing on x gives, and what it keeps
   abbrev GivesFor : List Kept → Word → item.Item → Type 0
-  GivesFor start w x = TookHeld (relation n ∷ []) (ran (window v) start w) out out' (fire (window v) 0 x (ran (window v) start w).states)
+  GivesFor start w x = TookHeld (relation n ∷ []) (ran_from (window v) start w) out out' (fire (window v) 0 x (ran_from (window v) start w).states)
       × WindowStands v start (state.Window now' ∷ []) (w ++ (0, x) ∷ [])
 
   window_step : Windows v b now now' c → Took out out' (gives 0 (Flat (Changed c) ∷ []) []) → (start : List Kept) (w : Word)
       → WindowStands v start (state.Window now ∷ []) w → GivesFor start w (Flat (Batched b))
   window_step f took start w a =
       let x : item.Item = Flat (Batched b) in
-      let before = ran (window v) start w in
+      let before = ran_from (window v) start w in
       let prev = before.outs 0 in
       let g = window_one v a.past x in
       let next = a.past ++ x ∷ [] in
@@ -105,7 +105,7 @@ module _ (v : Window) (n : ℕ) (b : Batch) (c : Change) (now now' : WindowKept)
       )
 
   window_gives : Windows v b now now' c → Took out out' (gives 0 (Flat (Changed c) ∷ []) [])
-      → Gives (window v) (stream n ∷ []) (relation n ∷ []) 0 (Flat (Batched b)) out out' (state.Window now ∷ []) (state.Window now' ∷ [])
+      → GivesAsDefined (window v) (stream n ∷ []) (relation n ∷ []) 0 (Flat (Batched b)) out out' (state.Window now ∷ []) (state.Window now' ∷ [])
   window_gives f took = record {
     given = λ start w x is_start tw tx a h.
         let e : x ≡ Flat (Batched b) = same_item x (Flat (Batched b)) (sym (held-plain (stream n) (at_port 0 w) (x ∷ []) tt) ∙ h) in

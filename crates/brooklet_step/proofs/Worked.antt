@@ -7,7 +7,7 @@ use Rattle.brooklet_model.specs.Firings.{Kept, Slots}
 use Rattle.brooklet_model.specs.Fire.{fire}
 use Rattle.brooklet_step.specs.declared.state.State.TheVariants as state
 use Rattle.brooklet_step.specs.Given.{held_at, IsPlainBy}
-use Rattle.brooklet_step.specs.Worked.{give_slot, row_of, SlotsAreGiven}
+use Rattle.brooklet_step.specs.Worked.{give_slot, single_row, SlotsAreGiven}
 use Rattle.brooklet_step.proofs.Fires.{grown_list}
 use Rattle.brooklet_step.proofs.GivenFires.{one_plain}
 use Rattle.brooklet_step.proofs.GivenLemmas.{at-plain, of_plain}
@@ -17,7 +17,7 @@ use Rattle.brooklet_step.proofs.Moved.{step_law}
 pub slots_law : SlotsAreGiven
 slots_law z v reads writes vars out out' st' f hi b fires =
     let now : List Kept = Slots (z ∷ []) ∷ [] in
-    let x = row_of v in
+    let x = single_row v in
     let g = step_law give_slot reads writes vars 0 x x (state.Slots (z ∷ []) ∷ []) st' out out' now f
     (record { slots = z ∷ []; code = refl; count = refl }) hi fires (record { shape = refl; holds = tt })
     (record { slots = z ∷ []; code = refl; defined = refl; count = refl }) (of_plain reads 0 x (plain reads 0 f.0) hi) (at-plain reads 0 [] (x ∷ []) (plain reads 0 f.0)) in

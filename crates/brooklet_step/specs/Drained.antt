@@ -3,7 +3,7 @@ use Rattle.std.specs.Prelude.{◌≡◌, ℕ, ◌<◌, ◌≤◌, false, List, [
 use Rattle.river_base.specs.declared.item.Item as item
 use Rattle.river_plan.specs.Forms.{Name, OpForm, PlanForm}
 use Rattle.brooklet_step.specs.declared.machine.Parts.{Parts}
-use Rattle.brooklet_step.specs.Works.{queue_of, ReadsAt, Ran}
+use Rattle.brooklet_step.specs.Works.{queue_of, ReadsAt, StandsAfterRun}
 
 -- nothing is left at this port
 abbrev pub IsDrained : Parts → ℕ → ℕ → Type 0
@@ -21,27 +21,27 @@ left_at m o port = length (queue_of m (read_in (slice_get m.plan.ops o) port))
 -- the machine stands for the state after some run
 pub record HasRun (m : Parts) : Type 0 where
   pub inputs : List (List item.Item)
-  pub ran : Ran m inputs
+  pub ran : StandsAfterRun m inputs
 
 -- after firings of operators from number o on: what was drained at ports of operators up to number o still is
 pub record Follows (m m' : Parts) (o : ℕ) : Type 0 where
   pub plan : m'.plan ≡ m.plan
   pub running : m'.stopped ≡ false
-  pub ran : (inputs : List (List item.Item)) → Ran m inputs → Ran m' inputs
-  pub drained : (inputs : List (List item.Item)) → Ran m inputs → (o' port' : ℕ) → o' ≤ o → IsDrained m o' port' → IsDrained m' o' port'
+  pub ran : (inputs : List (List item.Item)) → StandsAfterRun m inputs → StandsAfterRun m' inputs
+  pub drained : (inputs : List (List item.Item)) → StandsAfterRun m inputs → (o' port' : ℕ) → o' ≤ o → IsDrained m o' port' → IsDrained m' o' port'
 
 -- after some firings: the same plan, and a run goes on
 pub record RunsOn (m m' : Parts) : Type 0 where
   pub plan : m'.plan ≡ m.plan
   pub running : m'.stopped ≡ false
-  pub ran : (inputs : List (List item.Item)) → Ran m inputs → Ran m' inputs
+  pub ran : (inputs : List (List item.Item)) → StandsAfterRun m inputs → StandsAfterRun m' inputs
 
 -- all ports of the operators before number o are drained
 pub record DrainedBefore (m m' : Parts) (o : ℕ) : Type 0 where
   pub plan : m'.plan ≡ m.plan
   pub running : m'.stopped ≡ false
-  pub ran : (inputs : List (List item.Item)) → Ran m inputs → Ran m' inputs
-  pub drained : (inputs : List (List item.Item)) → Ran m inputs → (o' port' : ℕ) → o' < o → IsDrained m' o' port'
+  pub ran : (inputs : List (List item.Item)) → StandsAfterRun m inputs → StandsAfterRun m' inputs
+  pub drained : (inputs : List (List item.Item)) → StandsAfterRun m inputs → (o' port' : ℕ) → o' < o → IsDrained m' o' port'
 
 -- the operator reads so many queues
 pub record HasPorts (p : PlanForm) (o n : ℕ) : Type 0 where

@@ -35,8 +35,8 @@ use Rattle.brooklet_model.specs.Words.{Word, run, at_port, word_of}
 use Rattle.brooklet_step.specs.declared.emit.Emit.{Emit}
 use Rattle.brooklet_step.specs.declared.state.State.{State}
 use Rattle.brooklet_step.specs.declared.state.State.TheVariants as state
-use Rattle.brooklet_step.specs.Stands.{StandsFor, StandsForTurn}
-use Rattle.brooklet_step.specs.Took.{HasRoom, IsBlank}
+use Rattle.brooklet_step.specs.Stands.{StandsForKept, StandsForTurn}
+use Rattle.brooklet_step.specs.Took.{HasLists, IsBlank}
 
 -- QUEUES AT PORTS
 
@@ -155,30 +155,30 @@ FitState tally reads st = st ≡ []
 FitState (fused a b at) reads st = FitState a reads (take (privates a) st) × FitState b (between at (types_of a reads)) (drop (privates a) st)
 
 -- kernels without a kernel inside
-abbrev pub IsLeaf : Kern → Type 0
-IsLeaf (packed k) = ⊥
-IsLeaf (fused a b at) = ⊥
-IsLeaf kernel = Unit {0}
+abbrev pub IsLeafKernel : Kern → Type 0
+IsLeafKernel (packed k) = ⊥
+IsLeafKernel (fused a b at) = ⊥
+IsLeafKernel kernel = Unit {0}
 
 -- WHAT STATES STAND FOR
 
 -- all that a kernel gives in the firings of a word that begins at these states, and the states after them
-abbrev pub ran : Kern → List Kept → Word → Fired
-ran k start w = run (fire k) w start
+abbrev pub ran_from : Kern → List Kept → Word → Fired
+ran_from k start w = run (fire k) w start
 
 -- a splitter: its turn; and where it deals a relation, what each list owes leads from the content last given there to the content last
 -- received
 pub record DealStands (ws : List ℤ) (reads : List QueueType) (start : List Kept) (st : List State) (w : Word) : Type 0 where
-  pub stands : StandsForTurn (shares ws) st (ran (deal ws) start w).states
+  pub stands : StandsForTurn (shares ws) st (ran_from (deal ws) start w).states
   pub owed : IsRelationBy (slice_get reads 0)
-      → AreOwed stands.now.owed (λ p. content_from [] ((ran (deal ws) start w).outs p)) (λ p. content_from [] (at_port 0 w))
+      → AreOwed stands.now.owed (λ p. content_from [] ((ran_from (deal ws) start w).outs p)) (λ p. content_from [] (at_port 0 w))
 
 -- a joiner of relations: what waits stands for the items that wait there by the definition, after contents that passed
 pub record ContentsWait (k : Kern) (start : List Kept) (now : JoinKept) (w : Word) : Type 0 where
   pub contents : joined.Joining
-  pub defined : (ran k start w).states ≡ Joining contents.turns ∷ []
+  pub defined : (ran_from k start w).states ≡ Joining contents.turns ∷ []
   pub stands : StandsForJoining now contents
-  pub given : contents.last ≡ content_from [] ((ran k start w).outs 0)
+  pub given : contents.last ≡ content_from [] ((ran_from k start w).outs 0)
   pub received : (p : ℕ) → p < length contents.turns.lists → content_from (contents.now p) (list_at contents.turns.lists p) ≡ content_from [] (at_port p w)
 
 -- a joiner: the items themselves wait, or changes that stand for them
@@ -186,7 +186,7 @@ pub record JoinStands (k : Kern) (ws : List ℕ) (reads : List QueueType) (start
   pub now : JoinKept
   pub code : st ≡ state.Join now ∷ []
   pub shape : HasJoinShape ws now
-  pub plain : IsPlainBy (slice_get reads 0) → (ran k start w).states ≡ Joining now.turns ∷ []
+  pub plain : IsPlainBy (slice_get reads 0) → (ran_from k start w).states ≡ Joining now.turns ∷ []
   pub relation : IsRelationBy (slice_get reads 0) → ContentsWait k start now w
 
 -- a window: the batches that it has received, of which it keeps what it keeps; what was given is its content
@@ -194,9 +194,9 @@ pub record WindowStands (v : Window) (start : List Kept) (st : List State) (w : 
   pub now : WindowKept
   pub past : List item.Item
   pub code : st ≡ state.Window now ∷ []
-  pub defined : (ran (window v) start w).states ≡ Received past ∷ []
+  pub defined : (ran_from (window v) start w).states ≡ Received past ∷ []
   pub stands : StandsForWindow v now past
-  pub given : content_of v (batches past) ≡ content_from [] ((ran (window v) start w).outs 0)
+  pub given : content_of v (batches past) ≡ content_from [] ((ran_from (window v) start w).outs 0)
 
 -- batches as items
 abbrev pub as_batches : List Batch → List item.Item
@@ -207,9 +207,9 @@ pub record CrossStands (start : List Kept) (st : List State) (w : Word) : Type 0
   pub now : CrossKept
   pub contents : following.Crossing
   pub code : st ≡ state.Cross now ∷ []
-  pub defined : (ran cross start w).states ≡ Crossing (record { left = as_batches contents.left; right = as_batches contents.right }) ∷ []
+  pub defined : (ran_from cross start w).states ≡ Crossing (record { left = as_batches contents.left; right = as_batches contents.right }) ∷ []
   pub stands : StandsForCrossing now contents
-  pub given : content_from [] ((ran cross start w).outs 0) ≡ product contents.lefts contents.rights
+  pub given : content_from [] ((ran_from cross start w).outs 0) ≡ product contents.lefts contents.rights
   pub left : content_from [] (at_port 0 w) ≡ last_content contents.lefts contents.left
   pub right : content_from [] (at_port 1 w) ≡ last_content contents.rights contents.right
 
@@ -218,7 +218,7 @@ pub record StreamerStands (s : Streamer) (start : List Kept) (st : List State) (
   pub now : List (List ℤ)
   pub past : List item.Item
   pub code : st ≡ state.Streamer now ∷ []
-  pub defined : (ran (streamer s) start w).states ≡ Received past ∷ []
+  pub defined : (ran_from (streamer s) start w).states ≡ Received past ∷ []
   pub last : last_rows (batches past) ≡ content_from [] (at_port 0 w)
   pub kept : KeepsContent s now (content_from [] (at_port 0 w))
 
@@ -235,8 +235,8 @@ StandsAfter cross reads start st w = CrossStands start st w
 StandsAfter (streamer s) reads start st w = StreamerStands s start st w
 StandsAfter (fused a b at) reads start st w =
     StandsAfter a reads (take (privates a) start) (take (privates a) st) w
-    × StandsAfter b (between at (types_of a reads)) (drop (privates a) start) (drop (privates a) st) (word_of 0 ((ran a (take (privates a) start) w).outs at))
-StandsAfter kernel reads start st w = StandsFor kernel st (ran kernel start w).states
+    × StandsAfter b (between at (types_of a reads)) (drop (privates a) start) (drop (privates a) st) (word_of 0 ((ran_from a (take (privates a) start) w).outs at))
+StandsAfter kernel reads start st w = StandsForKept kernel st (ran_from kernel start w).states
 
 -- FIRINGS
 
@@ -249,13 +249,13 @@ pub record TookHeld (writes : List QueueType) (before : Fired) (old new : Emit) 
 -- the queue holds for the item x after it, what came is what queues hold for what the firing on x gives there, and the new states stand
 -- for the definition's after it and x. Where nothing was received since: let the states stand for states of the definition; then what came
 -- is what the firing gives from these, and the new states stand for the next ones
-pub record Gives (k : Kern) (reads writes : List QueueType) (port : ℕ) (i : item.Item) (out new : Emit) (st st' : List State) : Type 0 where
+pub record GivesAsDefined (k : Kern) (reads writes : List QueueType) (port : ℕ) (i : item.Item) (out new : Emit) (st st' : List State) : Type 0 where
   pub given : (start : List Kept) (w : Word) (x : item.Item) → IsStart k reads start → IsWordOf reads w → IsOf reads port x → StandsAfter k reads start st w
       → held_at reads port (at_port port w) (x ∷ []) ≡ i ∷ []
-      → TookHeld writes (ran k start w) out new (fire k port x (ran k start w).states) × StandsAfter k reads start st' (w ++ (port, x) ∷ [])
+      → TookHeld writes (ran_from k start w) out new (fire k port x (ran_from k start w).states) × StandsAfter k reads start st' (w ++ (port, x) ∷ [])
 
 -- whatever was received: what came is what queues may hold, rows for tables have the tables' widths, and the states fit again
-pub record Came (k : Kern) (reads writes : List QueueType) (vars : List VarKind) (out new : Emit) (st' : List State) : Type 0 where
+pub record CameAsHeld (k : Kern) (reads writes : List QueueType) (vars : List VarKind) (out new : Emit) (st' : List State) : Type 0 where
   pub outs : ℕ → List item.Item
   pub adds : ℕ → List (List ℤ)
   pub outs_are : new.outs ≡ each_grew out.outs outs
@@ -265,8 +265,8 @@ pub record Came (k : Kern) (reads writes : List QueueType) (vars : List VarKind)
   pub again : FitState k reads st'
 
 pub record Does (k : Kern) (reads writes : List QueueType) (vars : List VarKind) (port : ℕ) (i : item.Item) (out new : Emit) (st st' : List State) : Type 0 where
-  pub gives : Gives k reads writes port i out new st st'
-  pub came : Came k reads writes vars out new st'
+  pub gives : GivesAsDefined k reads writes port i out new st st'
+  pub came : CameAsHeld k reads writes vars out new st'
 
 -- under each choice of types for the ports
 pub record FiresAt (k : Kern) (port : ℕ) (i : item.Item) (out new : Emit) (st st' : List State) : Type 0 where
@@ -277,11 +277,11 @@ pub record FiresAt (k : Kern) (port : ℕ) (i : item.Item) (out new : Emit) (st 
 pub record GivesAll (k : Kern) (reads writes : List QueueType) (is : List item.Item) (out new : Emit) (st st' : List State) : Type 0 where
   pub given : (start : List Kept) (w : Word) (xs : List item.Item) → IsStart k reads start → IsWordOf reads w → All (IsOf reads 0) xs
       → StandsAfter k reads start st w → held_at reads 0 (at_port 0 w) xs ≡ is
-      → TookHeld writes (ran k start w) out new (feed (fire k 0) xs (ran k start w).states) × StandsAfter k reads start st' (w ++ word_of 0 xs)
+      → TookHeld writes (ran_from k start w) out new (feed (fire k 0) xs (ran_from k start w).states) × StandsAfter k reads start st' (w ++ word_of 0 xs)
 
 pub record DoesAll (k : Kern) (reads writes : List QueueType) (vars : List VarKind) (is : List item.Item) (out new : Emit) (st st' : List State) : Type 0 where
   pub gives : GivesAll k reads writes is out new st st'
-  pub came : Came k reads writes vars out new st'
+  pub came : CameAsHeld k reads writes vars out new st'
 
 pub record FiresEach (k : Kern) (is : List item.Item) (out new : Emit) (st st' : List State) : Type 0 where
   pub each : (reads writes : List QueueType) (vars : List VarKind) → Fits k reads writes vars → FitState k reads st → All (IsHeldOf reads 0) is
@@ -299,13 +299,13 @@ pub record CanTake (k : Kern) (port : ℕ) (i : item.Item) (st : List State) (ou
   pub reads : List QueueType
   pub fitting : Fitting k reads st
   pub item : IsHeldOf reads port i
-  pub room : HasRoom k out
+  pub room : HasLists k out
 
 pub record CanTakeAll (k : Kern) (is : List item.Item) (st : List State) (out : Emit) : Type 0 where
   pub reads : List QueueType
   pub fitting : Fitting k reads st
   pub items : All (IsHeldOf reads 0) is
-  pub room : HasRoom k out
+  pub room : HasLists k out
 
 -- TWO KERNELS
 

@@ -17,7 +17,7 @@ pub record CanStart (ops : List OpForm) : Type 0 where
   pub formed : (o : ℕ) (op : OpForm) → slice_get ops o ≡ Some op → IsFormed op.kernel
 
 -- firings may begin at the definition's first states; the states stand for these, before any firing, and fit, under each choice of types
-pub record IsFirst (k : Kern) (st : List State) : Type 0 where
+pub record AreFirstStates (k : Kern) (st : List State) : Type 0 where
   pub start : (reads : List QueueType) → IsStart k reads (first_kept k)
   pub after : (reads : List QueueType) → StandsAfter k reads (first_kept k) st []
   pub again : (reads writes : List QueueType) (vars : List VarKind) → Fits k reads writes vars → FitState k reads st
@@ -25,4 +25,4 @@ pub record IsFirst (k : Kern) (st : List State) : Type 0 where
 -- there are states for each operator, and they stand for its first ones
 pub record AreFirst (ops : List OpForm) (states : List (List State)) : Type 0 where
   pub count : length states ≡ length ops
-  pub stand : (o : ℕ) (op : OpForm) → slice_get ops o ≡ Some op → IsFirst op.kernel (list_at states o)
+  pub stand : (o : ℕ) (op : OpForm) → slice_get ops o ≡ Some op → AreFirstStates op.kernel (list_at states o)

@@ -24,7 +24,7 @@ use Rattle.brooklet_step.specs.declared.emit.Emit.{Emit}
 use Rattle.brooklet_step.specs.declared.machine.Parts.{Parts}
 use Rattle.brooklet_step.specs.declared.state.State.{State}
 use Rattle.brooklet_step.specs.Given.{held_at, IsHeldOf, IsPlainBy, FitState, StandsAfter, FiresAt, CanTake}
-use Rattle.brooklet_step.specs.Works.{Stands, IsEnabled}
+use Rattle.brooklet_step.specs.Works.{StandsForMachine, IsEnabled}
 
 -- where a kernel could take an item and fired on it, it can take any other item, at any port, that a queue of the port's type may
 -- hold; the types are those of the first firing
@@ -80,7 +80,7 @@ FiringsStep =
 -- definition, whichever of the states it is that the machine stands for
 abbrev pub EnabledIsItem : Type 0
 EnabledIsItem =
-    (m : Parts) (s : Machine) (o port : ℕ) → IsPlan m.plan → m.stopped ≡ false → Stands m s → IsEnabled m o port ↔ HasItem m.plan s o port
+    (m : Parts) (s : Machine) (o port : ℕ) → IsPlan m.plan → m.stopped ≡ false → StandsForMachine m s → IsEnabled m o port ↔ HasItem m.plan s o port
 
 -- where no relation passes, a queue may hold an item exactly where the item is of the queue's type
 abbrev pub PlainQueuesHoldTyped : Type 0

@@ -10,11 +10,11 @@ use Rattle.brooklet_step.specs.declared.emit.Emit.{Emit}
 use Rattle.brooklet_step.specs.declared.machine.Parts.{Parts}
 use Rattle.brooklet_step.specs.declared.state.State.{State}
 use Rattle.brooklet_step.specs.Given.{CanTake, FiresAt}
-use Rattle.brooklet_step.specs.Took.{HasRoom, IsBlank}
+use Rattle.brooklet_step.specs.Took.{HasLists, IsBlank}
 use Rattle.brooklet_step.specs.Works.{ReadsAt}
 
 -- the operator has this port, and this is the place of the queue that it reads there
-pub record IsPlaceOf (m : Parts) (o port n : ℕ) : Type 0 where
+pub record IsQueuePlace (m : Parts) (o port n : ℕ) : Type 0 where
   pub queue : Name
   pub reads : ReadsAt m.plan o port queue
   pub place_is : n ≡ place (queue_names m.plan) queue
@@ -23,11 +23,11 @@ pub record IsPlaceOf (m : Parts) (o port n : ℕ) : Type 0 where
 
 -- the place, where the operator and the port are there
 abbrev pub IsPlaceRead : Parts → ℕ → ℕ → Option ℕ → Type 0
-IsPlaceRead m o port (Some n) = IsPlaceOf m o port n
+IsPlaceRead m o port (Some n) = IsQueuePlace m o port n
 IsPlaceRead m o port None = (q : Name) → ReadsAt m.plan o port q → ⊥
 
 -- the front item of a list, and the lists without it
-pub record IsFront (queues : List (List item.Item)) (n : ℕ) (x : item.Item) (queues' : List (List item.Item)) : Type 0 where
+pub record IsFrontItem (queues : List (List item.Item)) (n : ℕ) (x : item.Item) (queues' : List (List item.Item)) : Type 0 where
   pub rest : List item.Item
   pub here : list_at queues n ≡ x ∷ rest
   pub left : queues' ≡ slice_set queues n rest
@@ -46,7 +46,7 @@ pub record IsBlankOf (p : PlanForm) (o : ℕ) (e : Emit) : Type 0 where
 pub record CameOf (k : Kern) (port : ℕ) (x : item.Item) (st st' : List State) (out : Emit) : Type 0 where
   pub blank : Emit
   pub is_blank : IsBlank k blank
-  pub room : HasRoom k out
+  pub room : HasLists k out
   pub fires : FiresAt k port x blank out st st'
 
 -- the operator fired

@@ -8,7 +8,7 @@ use Rattle.river_base.specs.declared.item.Batch.{Batch}
 use Rattle.river_base.specs.declared.item.Change.{Change}
 use Rattle.river_base.specs.declared.kind.QueueType.{QueueType}
 use Rattle.river_base.specs.Places.{none}
-use Rattle.work_code.specs.Steps.{Body}
+use Rattle.work_code.specs.Steps.{BodyForm}
 use Rattle.kern_rows.specs.Dealing.{Dealt}
 use Rattle.kern_rows.specs.Forms.{CodeForm, FilterForm}
 use Rattle.kern_rows.specs.Runs.{Filtering, run_kept, pushed_to}
@@ -23,7 +23,7 @@ use Rattle.brooklet_model.specs.Typed.{IsOf, Holds}
 use Rattle.brooklet_step.specs.declared.emit.Emit.{Emit}
 use Rattle.brooklet_step.specs.declared.state.State.{State}
 use Rattle.brooklet_step.specs.declared.state.State.TheVariants as state
-use Rattle.brooklet_step.specs.Took.{Took, HasRoom}
+use Rattle.brooklet_step.specs.Took.{Took, HasLists}
 
 -- there are no states
 pub record AreNone (st : List State) (ks : List Kept) : Type 0 where
@@ -31,7 +31,7 @@ pub record AreNone (st : List State) (ks : List Kept) : Type 0 where
   pub defined : ks ≡ []
 
 -- so many slots are kept
-pub record AreSlots (n : ℕ) (st : List State) (ks : List Kept) : Type 0 where
+pub record AreKeptSlots (n : ℕ) (st : List State) (ks : List Kept) : Type 0 where
   pub slots : List ℤ
   pub code : st ≡ state.Slots slots ∷ []
   pub defined : ks ≡ Slots slots ∷ []
@@ -40,7 +40,7 @@ pub record AreSlots (n : ℕ) (st : List State) (ks : List Kept) : Type 0 where
 -- the kept slots of a body are one state, where there are some
 abbrev pub StandsForSlots : List ℤ → List State → List Kept → Type 0
 StandsForSlots [] st ks = AreNone st ks
-StandsForSlots (z ∷ zs) st ks = AreSlots (length (z ∷ zs)) st ks
+StandsForSlots (z ∷ zs) st ks = AreKeptSlots (length (z ∷ zs)) st ks
 
 -- the values that wait in a filter, for all that it has received
 pub record StandsForFilter (f : FilterForm) (st : List State) (ks : List Kept) : Type 0 where
@@ -61,21 +61,21 @@ pub record StandsForTurn (ws : List ℕ) (st : List State) (ks : List Kept) : Ty
 
 -- the states that the code keeps stand for these, of a kernel that keeps no items and no contents. Those of other kernels stand for
 -- what they are after a word of firings, and not for states alone
-abbrev pub StandsFor : Kern → List State → List Kept → Type 0
-StandsFor (code k) st ks = StandsForSlots k.starts st ks
-StandsFor (filter f) st ks = StandsForFilter f st ks
-StandsFor (duplicate n) st ks = AreNone st ks
-StandsFor (deal ws) st ks = ⊥
-StandsFor (collect ws) st ks = ⊥
-StandsFor (packed k) st ks = ⊥
-StandsFor (unpack n) st ks = ⊥
-StandsFor (window w) st ks = ⊥
-StandsFor (select e) st ks = AreNone st ks
-StandsFor (project es) st ks = AreNone st ks
-StandsFor cross st ks = ⊥
-StandsFor (streamer s) st ks = ⊥
-StandsFor tally st ks = AreNone st ks
-StandsFor (fused a b at) st ks = ⊥
+abbrev pub StandsForKept : Kern → List State → List Kept → Type 0
+StandsForKept (code k) st ks = StandsForSlots k.starts st ks
+StandsForKept (filter f) st ks = StandsForFilter f st ks
+StandsForKept (duplicate n) st ks = AreNone st ks
+StandsForKept (deal ws) st ks = ⊥
+StandsForKept (collect ws) st ks = ⊥
+StandsForKept (packed k) st ks = ⊥
+StandsForKept (unpack n) st ks = ⊥
+StandsForKept (window w) st ks = ⊥
+StandsForKept (select e) st ks = AreNone st ks
+StandsForKept (project es) st ks = AreNone st ks
+StandsForKept cross st ks = ⊥
+StandsForKept (streamer s) st ks = ⊥
+StandsForKept tally st ks = AreNone st ks
+StandsForKept (fused a b at) st ks = ⊥
 
 -- the item is a row
 pub record IsRow (x : item.Item) : Type 0 where
@@ -113,7 +113,7 @@ pub record IsSlots (n : ℕ) (s : State) : Type 0 where
   pub count : length slots ≡ n
 
 -- a body ran on the values of a row with the kept slots: what it pushed, and the new slots
-pub record RanKept (b : Body) (row : List ℤ) (s s' : State) (pushes : List (ℕ × List ℤ)) : Type 0 where
+pub record RanKept (b : BodyForm) (row : List ℤ) (s s' : State) (pushes : List (ℕ × List ℤ)) : Type 0 where
   pub each : (slots : List ℤ) → s ≡ state.Slots slots → (pushes ≡ (run_kept b slots row).pushes) × (s' ≡ state.Slots (run_kept b slots row).slots)
 
 -- the body ran on the row: what it pushed, and what the new states stand for
@@ -123,12 +123,12 @@ pub record Pushed (k : CodeForm) (x : item.Item) (st st' : List State) (pushes :
 
 -- from all states that the old ones stand for, the lists grew by what the firing gives, and the new ones stand for its states
 pub record Fires (k : Kern) (out new : Emit) (st st' : List State) (r : List Kept → Fired) : Type 0 where
-  pub given : (ks : List Kept) → StandsFor k st ks → Took out new (r ks) × StandsFor k st' (r ks).states
+  pub given : (ks : List Kept) → StandsForKept k st ks → Took out new (r ks) × StandsForKept k st' (r ks).states
 
 -- the states stand for some that keep only items of these types
-pub record Keeps (k : Kern) (reads : List QueueType) (st : List State) : Type 0 where
+pub record KeepsOnlyItems (k : Kern) (reads : List QueueType) (st : List State) : Type 0 where
   pub kept : List Kept
-  pub stands : StandsFor k st kept
+  pub stands : StandsForKept k st kept
   pub holds : Holds k reads kept
 
 -- the kernel fits these types of its input ports, and the states keep what is of them
@@ -136,7 +136,7 @@ pub record Fitted (k : Kern) (reads : List QueueType) (st : List State) : Type 0
   pub writes : List QueueType
   pub vars : List VarKind
   pub fits : Fits k reads writes vars
-  pub keeps : Keeps k reads st
+  pub keeps : KeepsOnlyItems k reads st
 
 -- the item and its port fit too
 pub record Takes (k : Kern) (port : ℕ) (x : item.Item) (st : List State) : Type 0 where
@@ -147,4 +147,4 @@ pub record Takes (k : Kern) (port : ℕ) (x : item.Item) (st : List State) : Typ
 -- a firing can be made: the lists for what it gives are there
 pub record Applies (k : Kern) (port : ℕ) (x : item.Item) (st : List State) (out : Emit) : Type 0 where
   pub takes : Takes k port x st
-  pub room : HasRoom k out
+  pub room : HasLists k out

@@ -3,7 +3,7 @@ use Rattle.std.specs.Prelude.{◌≡◌, ℕ, suc, ℤ, nat_lt, List, [], ◌∷
 use Rattle.river_base.specs.declared.item.Item as item
 use Rattle.river_base.specs.Places.{list_at}
 use Rattle.kern_tables.specs.declared.kept.Kept.{Kept}
-use Rattle.kern_tables.specs.Kept.{kept_of, added, width_of}
+use Rattle.kern_tables.specs.Kept.{kept_of, with_row, width_of_table}
 use Rattle.river_plan.specs.declared.plan.TableDecl.{TableDecl}
 use Rattle.river_plan.specs.Forms.{Name, PlanForm}
 use Rattle.brooklet_model.specs.Histories.{all_adds}
@@ -23,8 +23,8 @@ table_places tables vars = filter (λ v. nat_lt v tables) vars
 -- to each table the rows for its place are added, one after another
 abbrev pub each_added : List Kept → (ℕ → List (List ℤ)) → List Kept
 each_added [] f = []
-each_added (t ∷ ts) f = fold added t (f 0) ∷ each_added ts (λ p. f (suc p))
+each_added (t ∷ ts) f = fold with_row t (f 0) ∷ each_added ts (λ p. f (suc p))
 
 -- each list of rows is for the table at its place, and has the width of that table
 abbrev pub AreFor : List Kept → List ℕ → List (List (List ℤ)) → Type 0
-AreFor tables to adds = (j p : ℕ) (t : Kept) → slice_get to j ≡ Some p → slice_get tables p ≡ Some t → All (λ row. length row ≡ width_of t) (list_at adds j)
+AreFor tables to adds = (j p : ℕ) (t : Kept) → slice_get to j ≡ Some p → slice_get tables p ≡ Some t → All (λ row. length row ≡ width_of_table t) (list_at adds j)

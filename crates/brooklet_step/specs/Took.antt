@@ -12,7 +12,7 @@ pub record Took (old new : Emit) (r : Fired) : Type 0 where
   pub adds : new.adds ≡ each_grew old.adds r.adds
 
 -- there is a list for each output port and for each table
-pub record HasRoom (k : Kern) (e : Emit) : Type 0 where
+pub record HasLists (k : Kern) (e : Emit) : Type 0 where
   pub outs : length e.outs ≡ outs k
   pub adds : length e.adds ≡ tabs k
 

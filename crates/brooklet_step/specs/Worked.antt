@@ -20,12 +20,12 @@ use Rattle.brooklet_step.specs.Took.{IsBlank}
 abbrev pub give_slot : Kern
 give_slot = code (record { body = record { inputs = 1; slots = 1; steps = Then (Push 0 (Slot 0 ∷ [])) Done }; outs = pos 1 ∷ []; starts = pos 5 ∷ [] })
 
-abbrev pub row_of : ℤ → item.Item
-row_of z = Flat (One (z ∷ []))
+abbrev pub single_row : ℤ → item.Item
+single_row z = Flat (One (z ∷ []))
 
 -- where its slot has the value z, it gives z for a row; no firing leads there, unless z is 5
 abbrev pub SlotsAreGiven : Type 0
 SlotsAreGiven =
     (z v : ℤ) (reads writes : List QueueType) (vars : List VarKind) (out out' : Emit) (st' : List State) → Fits give_slot reads writes vars
-    → IsHeldOf reads 0 (row_of v) → IsBlank give_slot out → FiresAt give_slot 0 (row_of v) out out' (state.Slots (z ∷ []) ∷ []) st'
-    → list_at out'.outs 0 ≡ row_of z ∷ []
+    → IsHeldOf reads 0 (single_row v) → IsBlank give_slot out → FiresAt give_slot 0 (single_row v) out out' (state.Slots (z ∷ []) ∷ []) st'
+    → list_at out'.outs 0 ≡ single_row z ∷ []

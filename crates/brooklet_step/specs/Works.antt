@@ -30,8 +30,8 @@ queue_of m q = list_at m.queues (place (queue_names m.plan) q)
 abbrev pub states_of : Parts → ℕ → List State
 states_of m o = list_at m.states o
 
-abbrev pub count_of : Parts → ℕ → ℕ
-count_of m o = slice_index_or m.counts o 0
+abbrev pub firing_count : Parts → ℕ → ℕ
+firing_count m o = slice_index_or m.counts o 0
 
 abbrev pub kinds_of : Parts → Name → QueueType
 kinds_of m q = kind_of (all_decls m.plan) q
@@ -39,7 +39,7 @@ kinds_of m q = kind_of (all_decls m.plan) q
 -- the machine stands for a state of the definition: of each queue it keeps what queues of its type hold for the history, without
 -- as many items as were taken, of each table what is kept of the rows that were added, and some firings of each operator led to
 -- that state, after which the operator's states stand
-pub record Stands (m : Parts) (s : Machine) : Type 0 where
+pub record StandsForMachine (m : Parts) (s : Machine) : Type 0 where
   pub left : (q : Name) → 0 < count q (queue_names m.plan) → queue_of m q ≡ drop (s.taken q) (held (kinds_of m q) [] (s.hist q))
   pub within : (q : Name) → s.taken q ≤ length (s.hist q)
   pub unread : (q : Name) → total (reads_it q) m.plan.ops ≡ 0 → s.taken q ≡ 0
@@ -67,14 +67,14 @@ pub record IsEnabled (m : Parts) (o port : ℕ) : Type 0 where
 
 -- the counts are those of the firings of a run
 abbrev pub Counts : Parts → List (ℕ × ℕ) → Type 0
-Counts m es = (o : ℕ) → o < length m.plan.ops → count_of m o ≡ min most_firings (times o es)
+Counts m es = (o : ℕ) → o < length m.plan.ops → firing_count m o ≡ min most_firings (times o es)
 
 -- the machine stands for the state after a run from these inputs
-pub record Ran (m : Parts) (inputs : List (List item.Item)) : Type 0 where
+pub record StandsAfterRun (m : Parts) (inputs : List (List item.Item)) : Type 0 where
   pub events : List (ℕ × ℕ)
   pub state : Machine
   pub run : Run m.plan (start m.plan inputs) events state
-  pub stands : Stands m state
+  pub stands : StandsForMachine m state
   pub counts : Counts m events
 
 -- there is a list for each queue and for each operator
@@ -91,7 +91,7 @@ pub record GoesOn (m : Parts) : Type 0 where
   pub items : (q : Name) → 0 < count q (queue_names m.plan) → All (IsHeld (kinds_of m q)) (queue_of m q)
   pub inputs : List (List item.Item)
   pub typed : AreInputs m.plan.inputs inputs
-  pub ran : Ran m inputs
+  pub ran : StandsAfterRun m inputs
 
 abbrev pub IsMachine : Parts → Type 0
 IsMachine m = m.stopped ≡ false → GoesOn m
@@ -100,23 +100,23 @@ IsMachine m = m.stopped ≡ false → GoesOn m
 pub record Starts (p : PlanForm) (inputs : List (List item.Item)) (m : Parts) : Type 0 where
   pub plan : m.plan ≡ p
   pub running : m.stopped ≡ false
-  pub stands : Stands m (start p inputs)
+  pub stands : StandsForMachine m (start p inputs)
   pub counts : Counts m []
 
 -- a firing, and what the new machine stands for
-pub record After (m m' : Parts) (o port : ℕ) (s : Machine) : Type 0 where
+pub record StandsAfterFiring (m m' : Parts) (o port : ℕ) (s : Machine) : Type 0 where
   pub state : Machine
   pub step : Step m.plan s o port state
-  pub stands : Stands m' state
+  pub stands : StandsForMachine m' state
 
 -- one firing: from every state that the old machine stands for, the new one stands for one after a step there
 pub record Steps (m m' : Parts) (o port : ℕ) : Type 0 where
   pub plan : m'.plan ≡ m.plan
   pub running : m'.stopped ≡ false
-  pub each : (s : Machine) → Stands m s → After m m' o port s
+  pub each : (s : Machine) → StandsForMachine m s → StandsAfterFiring m m' o port s
   pub counts : (es : List (ℕ × ℕ)) → Counts m es → Counts m' (es ++ (o, port) ∷ [])
 
 -- the counts of all operators, as values
 pub record AreCounts (m : Parts) (values : List ℤ) : Type 0 where
   pub many : length values ≡ length m.plan.ops
-  pub each : (o : ℕ) → o < length m.plan.ops → slice_index_or values o (pos 0) ≡ pos (count_of m o)
+  pub each : (o : ℕ) → o < length m.plan.ops → slice_index_or values o (pos 0) ≡ pos (firing_count m o)

@@ -1,7 +1,7 @@
 // The rows that a firing adds to tables.
 ghost use Rattle.std.specs.Prelude.{◌≡◌, ◌≤◌, All, length, fold, OnOk};
 ghost use Rattle.river_base.specs.Places.{list_at};
-ghost use Rattle.kern_tables.specs.Kept.{added, width_of};
+ghost use Rattle.kern_tables.specs.Kept.{with_row, width_of_table};
 ghost use Rattle.brooklet_step.specs.ByPlace.{joined_at};
 ghost use Rattle.brooklet_step.specs.Tables.{each_added, table_places, AreFor};
 
@@ -29,8 +29,8 @@ pub(crate) fn add_all(tables: &mut Tables, vars: &[usize], adds: &RowLists) -> R
 
 // Rows for a table, one after another.
 fn add_rows(table: &mut Table, rows: &Rows) -> Result<(), NoMemory>
-    requires { All (λ row. length row ≡ width_of table.old) rows.now }
-    ensures { OnOk result (table.new ≡ fold added table.old rows.now) }
+    requires { All (λ row. length row ≡ width_of_table table.old) rows.now }
+    ensures { OnOk result (table.new ≡ fold with_row table.old rows.now) }
 {
     for row in rows.as_slice() {
         table.add(row)?;

@@ -3,7 +3,7 @@ ghost use Rattle.std.specs.Prelude.{◌≡◌, ◌↔◌, ◌<◌, ◌<ℤ◌, I
 ghost use Rattle.river_base.specs.Held.{HasType};
 ghost use Rattle.river_plan.specs.Forms.{plan_form};
 ghost use Rattle.brooklet_model.specs.Typed.{AreInputs};
-ghost use Rattle.brooklet_model.specs.Fit.{Fit, instant_of, instants, Rises, HasInstants, AreInstants};
+ghost use Rattle.brooklet_model.specs.Fit.{Fit, instant_of, instants_in, Rises, HasInstants, AreInstants};
 ghost use Rattle.brooklet_step.specs.Fit.{IsStream, IsStreamAt};
 
 use crate::kinds::has_type;
@@ -79,7 +79,7 @@ fn is_stream(kind: &QueueType) -> bool
 // Whether each input that is a stream has these instants.
 fn all_follow(decls: &Decls, inputs: &Inputs, first: &Items) -> bool
     requires { length inputs.now ≡ length decls.now }
-    ensures { IsTrue result ↔ AreInstants decls.now (instants first.now) inputs.now }
+    ensures { IsTrue result ↔ AreInstants decls.now (instants_in first.now) inputs.now }
 {
     for place in 0..decls.len() {
         if !follow(&decls.at(place).kind, inputs.at(place), first) {
@@ -91,7 +91,7 @@ fn all_follow(decls: &Decls, inputs: &Inputs, first: &Items) -> bool
 
 // Whether items of this type have these instants, where it is a stream.
 fn follow(kind: &QueueType, items: &Items, first: &Items) -> bool
-    ensures { IsTrue result ↔ HasInstants kind.now (instants first.now) items.now }
+    ensures { IsTrue result ↔ HasInstants kind.now (instants_in first.now) items.now }
 {
     match kind {
         QueueType::Flat(kind) => match kind {
@@ -104,7 +104,7 @@ fn follow(kind: &QueueType, items: &Items, first: &Items) -> bool
 
 // Whether each item is later than the one before it.
 fn rise(items: &Items) -> bool
-    ensures { IsTrue result ↔ Rises (instants items.now) }
+    ensures { IsTrue result ↔ Rises (instants_in items.now) }
 {
     for place in 1..items.len() {
         if !is_earlier(items.at(place - 1), items.at(place)) {
@@ -115,7 +115,7 @@ fn rise(items: &Items) -> bool
 }
 
 fn have_same_instants(a: &Items, b: &Items) -> bool
-    ensures { IsTrue result ↔ (instants a.now ≡ instants b.now) }
+    ensures { IsTrue result ↔ (instants_in a.now ≡ instants_in b.now) }
 {
     if a.len() != b.len() {
         return false;

@@ -3,7 +3,7 @@ ghost use Rattle.std.specs.Prelude.{◌≡◌, ◌<◌, ◌^◌, ◌∷◌, [], 
 ghost use Rattle.river_base.specs.declared.item.Item.TheVariants as variant;
 ghost use Rattle.river_base.specs.declared.item.Flat.TheVariants as flat;
 ghost use Rattle.river_base.specs.Places.{each_grew, only};
-ghost use Rattle.kern_rows.specs.Dealing.{IsInTurn, TurnsOn};
+ghost use Rattle.kern_rows.specs.Dealing.{IsPortInTurn, TurnsOn};
 ghost use Rattle.kern_rows.specs.Forms.{code_form, filter_form};
 ghost use Rattle.kern_rows.specs.Needs.{CanCode, HaveShares};
 ghost use Rattle.kern_rows.specs.Runs.{run_kept};
@@ -169,7 +169,7 @@ fn deal_item(
 ) -> Result<(u32, Item), NoMemory>
     requires few { length weights.now < 2 ^ 32 }
     requires weights { HaveShares (shares weights.now) }
-    requires turn { IsInTurn (shares weights.now) dealt.old.turn }
+    requires turn { IsPortInTurn (shares weights.now) dealt.old.turn }
     requires owed { length dealt.old.owed ≡ length weights.now }
     ensures port { IfOk result (λ given. given.0 ≡ dealt.old.turn.port) }
     ensures turn { OnOk result (TurnsOn (shares weights.now) dealt.old.turn dealt.new.turn) }

@@ -1,7 +1,7 @@
 // One firing of a kernel that has no kernel inside.
 ghost use Rattle.std.specs.Prelude.{◌≡◌, ◌↔◌, IsTrue, OnOk};
 ghost use Rattle.river_kernels.specs.Kern.{kern_of};
-ghost use Rattle.brooklet_step.specs.Given.{IsLeaf, CanTake, FiresAt};
+ghost use Rattle.brooklet_step.specs.Given.{IsLeafKernel, CanTake, FiresAt};
 
 use crate::bag::{fire_cross, fire_project, fire_select, fire_streamer, fire_window};
 use crate::emit::{Emit, Spare};
@@ -14,7 +14,7 @@ use std::alloc::Global;
 
 /// Whether a kernel has no kernel inside.
 pub fn is_leaf(kernel: &Kernel) -> bool
-    ensures { IsTrue result ↔ IsLeaf (kern_of kernel.now) }
+    ensures { IsTrue result ↔ IsLeafKernel (kern_of kernel.now) }
 {
     match kernel {
         Kernel::Packed(_) | Kernel::Fused { .. } => false,
@@ -32,7 +32,7 @@ pub fn fire_leaf(
     out: &mut Emit,
     spare: &mut Spare,
 ) -> Result<(), NoMemory>
-    requires leaf { IsLeaf (kern_of kernel.now) }
+    requires leaf { IsLeafKernel (kern_of kernel.now) }
     requires can { CanTake (kern_of kernel.now) port item states.old out.old }
     ensures { OnOk result (FiresAt (kern_of kernel.now) port item out.old out.new states.old states.new) }
 {

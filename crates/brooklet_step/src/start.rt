@@ -12,9 +12,9 @@ ghost use Rattle.brooklet_model.specs.Firings.{Buffered};
 ghost use Rattle.brooklet_model.specs.Fire.{first_slots};
 ghost use Rattle.brooklet_model.specs.Shapes.{IsFormed};
 ghost use Rattle.brooklet_step.specs.declared.state.State.TheVariants as variant;
-ghost use Rattle.brooklet_step.specs.Given.{IsLeaf};
+ghost use Rattle.brooklet_step.specs.Given.{IsLeafKernel};
 ghost use Rattle.brooklet_step.specs.Took.{IsBlank};
-ghost use Rattle.brooklet_step.specs.Initial.{IsFirst};
+ghost use Rattle.brooklet_step.specs.Initial.{AreFirstStates};
 ghost use Rattle.brooklet_step.specs.Stands.{StandsForSlots, StandsForFilter};
 
 use crate::emit::Emit;
@@ -105,9 +105,9 @@ fn streamer_states(alloc: Global, streamer: &Streamer) -> Result<States, NoMemor
 
 // The first states of a kernel without a kernel inside.
 fn leaf_states(alloc: Global, kernel: &Kernel) -> Result<States, NoMemory>
-    requires leaf { IsLeaf (kern_of kernel.now) }
+    requires leaf { IsLeafKernel (kern_of kernel.now) }
     requires formed { IsFormed (kern_of kernel.now) }
-    ensures { IfOk result (IsFirst (kern_of kernel.now)) }
+    ensures { IfOk result (AreFirstStates (kern_of kernel.now)) }
 {
     match kernel {
         Kernel::Code(code) => code_states(alloc, code),
@@ -128,7 +128,7 @@ fn leaf_states(alloc: Global, kernel: &Kernel) -> Result<States, NoMemory>
 /// The states of a kernel before its first firing.
 pub(crate) fn states_of(alloc: Global, kernel: &Kernel) -> Result<States, NoMemory>
     requires { IsFormed (kern_of kernel.now) }
-    ensures { IfOk result (IsFirst (kern_of kernel.now)) }
+    ensures { IfOk result (AreFirstStates (kern_of kernel.now)) }
 {
     if is_leaf(kernel) {
         let states = leaf_states(alloc, kernel)?;
@@ -153,7 +153,7 @@ pub(crate) fn states_of(alloc: Global, kernel: &Kernel) -> Result<States, NoMemo
 /// kernel can fire.
 pub fn first_states(alloc: Global, kernel: &Kernel) -> Result<(States, Emit), NoMemory>
     requires { IsFormed (kern_of kernel.now) }
-    ensures states { IfOk result (λ both. IsFirst (kern_of kernel.now) both.0) }
+    ensures states { IfOk result (λ both. AreFirstStates (kern_of kernel.now) both.0) }
     ensures emit { IfOk result (λ both. IsBlank (kern_of kernel.now) both.1) }
 {
     let states = states_of(alloc, kernel)?;

@@ -6,7 +6,7 @@ ghost use Rattle.brooklet_step.specs.ByPlace.{joined_at};
 ghost use Rattle.brooklet_step.specs.Works.{GoesOn, IsEnabled, Steps};
 ghost use Rattle.brooklet_step.specs.Drained.{RunsOn};
 ghost use Rattle.river_plan.specs.Forms.{plan_form};
-ghost use Rattle.brooklet_step.specs.Reading.{IsPlaceRead, IsFront, CanFire, IsBlankOf, FiredOp};
+ghost use Rattle.brooklet_step.specs.Reading.{IsPlaceRead, IsFrontItem, CanFire, IsBlankOf, FiredOp};
 
 use crate::add::add_all;
 use crate::emit::{Spare, clear_all};
@@ -209,7 +209,7 @@ fn fire_with(
 fn front(queues: &mut Lines, queue: usize) -> Item
     requires queue { queue < length queues.old }
     requires item { 0 < length (list_at queues.old queue) }
-    ensures { IsFront queues.old queue result queues.new }
+    ensures { IsFrontItem queues.old queue result queues.new }
 {
     match queues.at_mut(queue).pop() {
         Some(item) => item,

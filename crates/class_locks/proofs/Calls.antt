@@ -9,7 +9,7 @@ use Rattle.class_locks.specs.declared.view.View.{View}
 use Rattle.class_locks.specs.declared.view.About.{About}
 use Rattle.class_locks.specs.declared.view.Held.{Held}
 use Rattle.class_locks.specs.Logs.{Holding}
-use Rattle.class_locks.specs.Views.{Has, Took, find_held, without, Belong, taking, tried, fetched, after_put, both, spent, claims_of, log_length}
+use Rattle.class_locks.specs.Views.{StandsIn, TookAt, find_held, without_class, Belong, taking, tried, fetched, after_put, both_views, spent, claims_of, log_length}
 use Rattle.class_locks.specs.Rule.{Locks, Mine, IsKept, IsLogged, took, took_by, parks, fetches, frees, beyond}
 use Rattle.class_locks.specs.Seats.{IsSeated, MayPut}
 use Rattle.class_locks.proofs.Lists.{find_took, has_left}
@@ -38,7 +38,7 @@ module _ (z : TableId) (about : About) where
 
   -- a place that sits as before
   pub resits : (p p' : Place) (w : View) → IsSeated z about p → p'.table_id ≡ p.table_id → p'.me ≡ (w, []) → w.parts ≡ p.me.0.parts → w.seats ≡ p.me.0.seats → w.starts ≡ p.me.0.starts → w.hand ≡ []
-      → ((c : ℕ) (x : Holding) → Took c x w.held → c < length about.cells.value) → IsSeated z about p'
+      → ((c : ℕ) (x : Holding) → TookAt c x w.held → c < length about.cells.value) → IsSeated z about p'
   resits p p' w h table me parts seats starts hand within = record {
     table = table ∙ h.table;
     wide = h.wide;
@@ -46,11 +46,11 @@ module _ (z : TableId) (about : About) where
     seats = ap (λ (m : Mine). m.0.seats) me ∙ (seats ∙ h.seats);
     starts = ap (λ (m : Mine). m.0.starts) me ∙ (starts ∙ h.starts);
     one = h.one;
-    has = subst (λ (m : Mine). Has h.one m.0.parts) (sym me) (subst (Has h.one) (sym parts) h.has);
+    has = subst (λ (m : Mine). StandsIn h.one m.0.parts) (sym me) (subst (StandsIn h.one) (sym parts) h.has);
     hand = ap (λ (m : Mine). m.0.hand) me ∙ hand;
     empty = ap (λ (m : Mine). m.1) me;
     few = h.few;
-    within = subst (λ (m : Mine). (c : ℕ) (x : Holding) → Took c x m.0.held → c < length about.cells.value) (sym me) within;
+    within = subst (λ (m : Mine). (c : ℕ) (x : Holding) → TookAt c x m.0.held → c < length about.cells.value) (sym me) within;
   }
 
   inside : (p : Place) (c : ℕ) → IsSeated z about p → c < length about.cells.value → c + 1 < z.words
@@ -74,7 +74,7 @@ module _ (z : TableId) (about : About) where
       → (p'.table_id ≡ z) × (c + 1 < z.words) × Allows Rule z.slots p'.id p'.me (c + 1) (λ w. w) (parks (step z.slots (c + 1) 0 0 none) p'.me)
   park_asks p p' c v x h lt table me parts hand =
       let lt' : c < length about.cells.value = subst (λ (s : List Holding). c < length s) h.starts lt in
-      let ok = parks_ok about.seats about.cells.value z.slots p'.id c v x h.one (subst (Has h.one) (sym parts) h.has) hand in
+      let ok = parks_ok about.seats about.cells.value z.slots p'.id c v x h.one (subst (StandsIn h.one) (sym parts) h.has) hand in
       let word : suc c ≡ c + 1 = omega arith in (
         table,
         inside p c h lt',
@@ -109,11 +109,11 @@ module _ (z : TableId) (about : About) where
 
   -- what joining two seats asks of the table
   pub join_asks : (p q : Place) → IsSeated z about p → q.table_id ≡ z → q.me.0.hand ≡ [] → q.me.0.held ≡ [] → q.me.1 ≡ []
-      → (p.table_id ≡ z) × (q.table_id ≡ z) × (q.me.1 ≡ []) × (0 < z.words) × Joins Rule p.id p.me.0 q.id q.me.0 (both p.me.0 q.me.0) spent
+      → (p.table_id ≡ z) × (q.table_id ≡ z) × (q.me.1 ≡ []) × (0 < z.words) × Joins Rule p.id p.me.0 q.id q.me.0 (both_views p.me.0 q.me.0) spent
   join_asks p q h table hand held empty = (h.table, table, empty, subst (λ n. 0 < n) (sym h.wide) (omega arith), joins_ok about.seats about.cells.value p.id p.me.0 q.id q.me.0 h.one h.has hand held)
 
   -- after a seat that takes over another's parts
-  pub rejoined : (p p' : Place) (w : View) → IsSeated z about p → p'.table_id ≡ p.table_id → p'.me ≡ (both p.me.0 w, p.me.1) → IsSeated z about p'
+  pub rejoined : (p p' : Place) (w : View) → IsSeated z about p → p'.table_id ≡ p.table_id → p'.me ≡ (both_views p.me.0 w, p.me.1) → IsSeated z about p'
   rejoined p p' w h table me = record {
     table = table ∙ h.table;
     wide = h.wide;
@@ -121,16 +121,16 @@ module _ (z : TableId) (about : About) where
     seats = ap (λ (m : Mine). m.0.seats) me ∙ h.seats;
     starts = ap (λ (m : Mine). m.0.starts) me ∙ h.starts;
     one = h.one;
-    has = subst (λ (m : Mine). Has h.one m.0.parts) (sym me) (has_left h.one p.me.0.parts w.parts h.has);
+    has = subst (λ (m : Mine). StandsIn h.one m.0.parts) (sym me) (has_left h.one p.me.0.parts w.parts h.has);
     hand = ap (λ (m : Mine). m.0.hand) me ∙ h.hand;
     empty = ap (λ (m : Mine). m.1) me ∙ h.empty;
     few = h.few;
-    within = subst (λ (m : Mine). (c : ℕ) (x : Holding) → Took c x m.0.held → c < length about.cells.value) (sym me) h.within;
+    within = subst (λ (m : Mine). (c : ℕ) (x : Holding) → TookAt c x m.0.held → c < length about.cells.value) (sym me) h.within;
   }
 
 -- what a put leaves
 pub put_view : (c : ℕ) (x y : Holding) (v : View) → find_held c v.held ≡ Some x → record (fetched c x v) { hand = []; claims = v.claims ++ beyond (record { class = c; taken = x } ∷ []) ((c, Some y) ∷ []) } ≡ after_put c y v
-put_view c x y v found = λ i. record v { hand = []; held = without c v.held; claims = v.claims ++ claims_of c (drop (log_length (sym found i)) y.log) }
+put_view c x y v found = λ i. record v { hand = []; held = without_class c v.held; claims = v.claims ++ claims_of c (drop (log_length (sym found i)) y.log) }
 
 -- the value of the slot in hand is exchanged
 pub exchanged_me : (k : ℕ) (w : View) (a b : Option Holding) (m m' : Mine) (l : List (ℕ × Option Holding)) → m ≡ (w, (k, a) ∷ l) → l ≡ [] → m' ≡ (m.0, (k, b) ∷ rest m.1) → m' ≡ (w, (k, b) ∷ [])
@@ -141,5 +141,5 @@ pub stored_me : (k : ℕ) (x y : Holding) (v : View) (m m' : Mine) → find_held
 stored_me k x y v m m' found e s = s ∙ (ap (λ (q : Mine). (record q.0 { hand = []; claims = q.0.claims ++ beyond q.0.hand q.1 }, [])) e ∙ ap (λ (w : View). (w, [])) (put_view k x y v found))
 
 -- one class more is held, and all are below n
-pub took_more : (k n : ℕ) (x : Holding) (hs : List Held) → k < n → ((c : ℕ) (y : Holding) → Took c y hs → c < n) → (c : ℕ) (y : Holding) → Took c y (record { class = k; taken = x } ∷ hs) → c < n
+pub took_more : (k n : ℕ) (x : Holding) (hs : List Held) → k < n → ((c : ℕ) (y : Holding) → TookAt c y hs → c < n) → (c : ℕ) (y : Holding) → TookAt c y (record { class = k; taken = x } ∷ hs) → c < n
 took_more k n x hs lt f c y t = ⊎_elim (λ h. subst (λ m. m < n) h.0 lt) (λ h. f c y h) t

@@ -13,8 +13,8 @@ use Rattle.class_locks.specs.declared.view.Held.{Held}
 use Rattle.class_locks.specs.declared.view.Claim.{Claim}
 use Rattle.class_locks.specs.declared.view.Tried.{Tried}
 use Rattle.class_locks.specs.Logs.{Holding, part}
-use Rattle.class_locks.specs.Views.{Has, own, Belong, entries_of, claims_of}
-use Rattle.class_locks.specs.Rule.{Locks, word_of, Grip, lies, Logged, ClassOk, SeatOk, IsOpen, IsShut, IsKept, IsLogged}
+use Rattle.class_locks.specs.Views.{StandsIn, own, Belong, entries_of, claims_of}
+use Rattle.class_locks.specs.Rule.{Locks, class_word, Grip, lies, Logged, ClassOk, SeatOk, IsOpen, IsShut, IsKept, IsLogged}
 use Rattle.class_locks.proofs.Lists.{at_within, at_end, at_one, put, put_here, put_else}
 use Rattle.class_locks.proofs.Owns.{part-append, own-append, own_same, part_none}
 
@@ -23,7 +23,7 @@ module _ (n : ℕ) (starts : List Holding) where
 
   -- a seat's view changes, but not its own lists for the class
   pub logged_set : (views : List View) (j : ℕ) (v w : View) (c : ℕ) (x : Holding) → get_elem? views j ≡ some v
-      → ((k : ℕ) → Has k w.parts → Has k v.parts × (own n k c w.claims ≡ own n k c v.claims))
+      → ((k : ℕ) → StandsIn k w.parts → StandsIn k v.parts × (own n k c w.claims ≡ own n k c v.claims))
       → Logged n starts views c x → Logged n starts (set views j w) c x
   logged_set views j v w c x at same l = record {
     start = l.start;
@@ -32,14 +32,14 @@ module _ (n : ℕ) (starts : List Holding) where
     kinds = l.kinds;
     log = l.log;
     owns = λ i u e k h. ⊎_elim
-        (λ t. let g = same k (subst (λ (z : View). Has k z.parts) (sym t.1) h) in l.owns j v at k g.0 ∙ (sym g.1 ∙ ap (λ (z : View). own n k c z.claims) t.1))
+        (λ t. let g = same k (subst (λ (z : View). StandsIn k z.parts) (sym t.1) h) in l.owns j v at k g.0 ∙ (sym g.1 ∙ ap (λ (z : View). own n k c z.claims) t.1))
         (λ t. l.owns i u t.1 k h)
         (at_set views j i w u e);
   }
 
   -- a seat comes
   pub logged_end : (views : List View) (w : View) (c : ℕ) (x : Holding) → (l : Logged n starts views c x)
-      → ((k : ℕ) → Has k w.parts → part n k l.growth ≡ own n k c w.claims) → Logged n starts (views ++ w ∷ []) c x
+      → ((k : ℕ) → StandsIn k w.parts → part n k l.growth ≡ own n k c w.claims) → Logged n starts (views ++ w ∷ []) c x
   logged_end views w c x l mine = record {
     start = l.start;
     growth = l.growth;
@@ -48,7 +48,7 @@ module _ (n : ℕ) (starts : List Holding) where
     log = l.log;
     owns = λ i u e k h. ⊎_elim
         (λ t. l.owns i u t k h)
-        (λ t. mine k (subst (λ (z : View). Has k z.parts) (sym t.1) h) ∙ ap (λ (z : View). own n k c z.claims) t.1)
+        (λ t. mine k (subst (λ (z : View). StandsIn k z.parts) (sym t.1) h) ∙ ap (λ (z : View). own n k c z.claims) t.1)
         (at_end views w u i e);
   }
 
@@ -63,12 +63,12 @@ module _ (n : ℕ) (starts : List Holding) where
         given = l.given;
         kinds = l.kinds;
         log = l.log;
-        owns = λ i u e k h. let t = at_one v u i e in l.owns j v at k (subst (λ (z : View). Has k z.parts) (sym t.1) h) ∙ ap (λ (z : View). own n k c z.claims) t.1;
+        owns = λ i u e k h. let t = at_one v u i e in l.owns j v at k (subst (λ (z : View). StandsIn k z.parts) (sym t.1) h) ∙ ap (λ (z : View). own n k c z.claims) t.1;
       }
 
   -- a seat with a part knows that the locks are open
-  pub opened : (s : Locks) (j : ℕ) (v : View) (k : ℕ) → IsKept n starts s → get_elem? s.views j ≡ some v → Has k v.parts → IsOpen n starts s
-  opened s j v k kept at has = ⊎_elim (λ (shut : IsShut n starts s). absurd (subst (λ (z : View). Has k z.parts) (shut.seats j v at) has)) (λ o. o) kept.state
+  pub opened : (s : Locks) (j : ℕ) (v : View) (k : ℕ) → IsKept n starts s → get_elem? s.views j ≡ some v → StandsIn k v.parts → IsOpen n starts s
+  opened s j v k kept at has = ⊎_elim (λ (shut : IsShut n starts s). absurd (subst (λ (z : View). StandsIn k z.parts) (shut.seats j v at) has)) (λ o. o) kept.state
 
   module _ (s : Locks) (wide : length s.words ≡ suc (length starts)) (deep : length s.homes ≡ length starts) (o : IsOpen n starts s) (j : ℕ) (v : View) (at : get_elem? s.views j ≡ some v) where
     -- a seat tells that it tried
@@ -135,8 +135,8 @@ module _ (n : ℕ) (starts : List Holding) where
       w = record v { hand = hand; held = held; takes = ts; claims = claims }
 
       -- the step of a seat at class c, with which the word becomes b and the home h
-      pub moves : (p : ℕ) → Has p v.parts → (c : ℕ) → c < length starts → (b : ℕ) → b < 2 → (h : maybe.Option (Option Holding))
-          → (word_of s.words c ≡ 1 → o.holder c ≡ j)
+      pub moves : (p : ℕ) → StandsIn p v.parts → (c : ℕ) → c < length starts → (b : ℕ) → b < 2 → (h : maybe.Option (Option Holding))
+          → (class_word s.words c ≡ 1 → o.holder c ≡ j)
           → (b ≡ 0 → (x : Holding) × (h ≡ some (Some x)) × Logged n starts (set s.views j w) c x)
           → ((g : Bool) (d : ℕ) (x : Holding) → Grip g d x w → ((d ≢ c) × Grip g d x v) ⊎ ((d ≡ c) × (h ≡ lies g) × (b ≡ 1) × Logged n starts (set s.views j w) d x))
           → ((g : Bool) (d : ℕ) (x : Holding) → d ≢ c → Grip g d x v → Grip g d x w)
@@ -163,10 +163,10 @@ module _ (n : ℕ) (starts : List Holding) where
           longer : (m : ℕ) → m < length s.views → m < length (set s.views j w)
           longer m q = subst (λ r. m < r) (sym (length-set s.views j w)) q
 
-          word_here : word_of (set s.words (suc c) b) c ≡ b
+          word_here : class_word (set s.words (suc c) b) c ≡ b
           word_here = get_or-set_same s.words (suc c) b 0 (subst (λ m. suc c < m) (sym wide) (omega arith))
 
-          word_else : (d : ℕ) → d ≢ c → word_of (set s.words (suc c) b) d ≡ word_of s.words d
+          word_else : (d : ℕ) → d ≢ c → class_word (set s.words (suc c) b) d ≡ class_word s.words d
           word_else d ne = get_or-set_other s.words (suc c) (suc d) b 0 (λ e. ne (omega arith))
 
           home_here : get_elem? (set s.homes c h) c ≡ some h
@@ -198,7 +198,7 @@ module _ (n : ℕ) (starts : List Holding) where
             parts_all = q.parts_all;
             grips = λ g d x r.
                 let y = q.grips g d x r in
-                let ne : d ≢ c = λ z. ni (sym y.0.mine ∙ (ap o.holder z ∙ mine (subst (λ m. word_of s.words m ≡ 1) z y.0.word))) in
+                let ne : d ≢ c = λ z. ni (sym y.0.mine ∙ (ap o.holder z ∙ mine (subst (λ m. class_word s.words m ≡ 1) z y.0.word))) in
                 (record { there = y.0.there; word = word_else d ne ∙ y.0.word; mine = put_else o.holder c j d ne ∙ y.0.mine; logged = others d x ne y.0.logged }, home_else d ne ∙ y.1);
             holds = λ d dl z m.
                 let ne : d ≢ c = λ r. ni (sym m ∙ (ap (put o.holder c j) r ∙ put_here o.holder c j)) in
@@ -218,7 +218,7 @@ module _ (n : ℕ) (starts : List Holding) where
                 (λ t. (
                   record {
                     there = subst (λ m. m < length starts) (sym t.0) lt;
-                    word = ap (word_of (set s.words (suc c) b)) t.0 ∙ (word_here ∙ t.2);
+                    word = ap (class_word (set s.words (suc c) b)) t.0 ∙ (word_here ∙ t.2);
                     mine = ap (put o.holder c j) t.0 ∙ put_here o.holder c j;
                     logged = t.3;
                   },
@@ -226,10 +226,10 @@ module _ (n : ℕ) (starts : List Holding) where
                 ))
                 (grip g d x r);
             holds = λ d dl z m. dite (ℕ_discrete d c)
-                (λ e. let r = hold (sym word_here ∙ (ap (word_of (set s.words (suc c) b)) (sym e) ∙ z)) in (r.0, r.1, subst (λ k. Grip r.0 k r.1 w) (sym e) r.2))
+                (λ e. let r = hold (sym word_here ∙ (ap (class_word (set s.words (suc c) b)) (sym e) ∙ z)) in (r.0, r.1, subst (λ k. Grip r.0 k r.1 w) (sym e) r.2))
                 (λ ne. let r = q.holds d dl (sym (word_else d ne) ∙ z) (sym (put_else o.holder c j d ne) ∙ m) in (r.0, r.1, keep r.0 d r.1 ne r.2));
             claimed = claimed;
-            idle = λ e. absurd (subst (Has p) e has);
+            idle = λ e. absurd (subst (StandsIn p) e has);
           }
 
           seats : (i : ℕ) (u : View) → get_elem? (set s.views j w) i ≡ some u → SeatOk n starts s' o.owner (put o.holder c j) i u
@@ -249,12 +249,12 @@ module _ (n : ℕ) (starts : List Holding) where
       log = log ∙ (ap (λ (a : List LogEntry). a ++ es) l.log ∙ append_assoc l.start.log l.growth es);
       owns = λ i u e k h. ⊎_elim
           (λ t.
-          let has : Has k v.parts = subst (Has k) same (subst (λ (z : View). Has k z.parts) (sym t.1) h) in
+          let has : StandsIn k v.parts = subst (StandsIn k) same (subst (λ (z : View). StandsIn k z.parts) (sym t.1) h) in
           part-append n k l.growth es ∙ (ap (λ (a : List LogEntry). a ++ part n k es) (l.owns j v at k has)
           ∙ (ap (λ (a : List LogEntry). own n k c v.claims ++ a) (sym (own_same n k c es))
           ∙ (sym (own-append n k c v.claims (claims_of c es)) ∙ (ap (own n k c) (sym claims) ∙ ap (λ (z : View). own n k c z.claims) t.1)))))
           (λ t.
-          let apart : Has k v.parts → ⊥ = λ r. t.0 (sym ((o.seats i u t.1).parts_in k h).1 ∙ ((o.seats j v at).parts_in k r).1) in
+          let apart : StandsIn k v.parts → ⊥ = λ r. t.0 (sym ((o.seats i u t.1).parts_in k h).1 ∙ ((o.seats j v at).parts_in k r).1) in
           part-append n k l.growth es ∙ (ap (λ (a : List LogEntry). part n k l.growth ++ a) (part_none n k v.parts es belong apart) ∙ (append-nil (part n k l.growth) ∙ l.owns i u t.1 k h)))
           (at_set s.views j i w u e);
     }

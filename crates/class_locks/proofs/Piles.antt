@@ -12,8 +12,8 @@ use Rattle.class_locks.specs.declared.view.Tried.{Tried}
 use Rattle.class_locks.specs.Logs.{Holding}
 use Rattle.class_locks.specs.Logs.{part}
 use Rattle.class_locks.specs.Rule.{IsLogged}
-use Rattle.class_locks.specs.Views.{Has, own, Took, find_held, without, claims_of, log_length, with_class, tried, after_put}
-use Rattle.class_locks.specs.Seats.{MayPut, IsAbove}
+use Rattle.class_locks.specs.Views.{StandsIn, own, TookAt, find_held, without_class, claims_of, log_length, with_class, tried, after_put}
+use Rattle.class_locks.specs.Seats.{MayPut, IsAboveHeld}
 use Rattle.class_locks.specs.Piles.{Piled, AllBelow, Matches, IsPile, gained, HasLooked, HasTaken, HasPut, HasMoreTries, FoundTaken}
 use Rattle.class_locks.proofs.Lists.{at_one}
 
@@ -26,17 +26,17 @@ below_more m n (h ∷ hs) le b = ((let lt = b.0 in omega (arith, le, lt)), b.1)
 find_here : (c : ℕ) (h : Held) (hs : List Held) → h.class ≡ c → find_held c (h ∷ hs) ≡ Some h.taken
 find_here c h hs e = ap (λ (t : Bool). cond t (Some h.taken) (find_held c hs)) (eq-eqb h.class c e)
 
-without_below : (c : ℕ) (hs : List Held) → AllBelow c hs → without c hs ≡ hs
+without_below : (c : ℕ) (hs : List Held) → AllBelow c hs → without_class c hs ≡ hs
 without_below c [] b = refl
 without_below c (h ∷ hs) b =
-    ap (λ (t : Bool). cond (not t) (h ∷ without c hs) (without c hs)) (ne_eqb h.class c (λ e. let lt = b.0 in omega (arith, lt, e)))
+    ap (λ (t : Bool). cond (not t) (h ∷ without_class c hs) (without_class c hs)) (ne_eqb h.class c (λ e. let lt = b.0 in omega (arith, lt, e)))
     ∙ ap (λ (l : List Held). h ∷ l) (without_below c hs (below_more h.class c hs (let lt = b.0 in omega (arith, lt)) b.1))
 
-without_here : (c : ℕ) (h : Held) (hs : List Held) → h.class ≡ c → AllBelow h.class hs → without c (h ∷ hs) ≡ hs
+without_here : (c : ℕ) (h : Held) (hs : List Held) → h.class ≡ c → AllBelow h.class hs → without_class c (h ∷ hs) ≡ hs
 without_here c h hs e b =
-    ap (λ (t : Bool). cond (not t) (h ∷ without c hs) (without c hs)) (eq-eqb h.class c e) ∙ without_below c hs (subst (λ k. AllBelow k hs) e b)
+    ap (λ (t : Bool). cond (not t) (h ∷ without_class c hs) (without_class c hs)) (eq-eqb h.class c e) ∙ without_below c hs (subst (λ k. AllBelow k hs) e b)
 
-took_below : (m c : ℕ) (x : Holding) (hs : List Held) → AllBelow m hs → Took c x hs → c < m
+took_below : (m c : ℕ) (x : Holding) (hs : List Held) → AllBelow m hs → TookAt c x hs → c < m
 took_below m c x [] b t = absurd t
 took_below m c x (h ∷ hs) b (inl t) = (let lt = b.0 in let e = t.0 in omega (arith, lt, e))
 took_below m c x (h ∷ hs) b (inr t) = (let lt = b.0 in let k = took_below h.class c x hs b.1 t in omega (arith, lt, k))
@@ -54,7 +54,7 @@ puts_held : (v : View) (items : List Piled) (c : ℕ) (x : Holding) (held : List
 puts_held v items c x [] e m b = absurd m
 puts_held v items c x (h ∷ hs) e m b =
     let found : find_held c v.held ≡ Some h.taken = ap (find_held c) e ∙ find_here c h hs m.0 in
-    let left : without c v.held ≡ hs = ap (without c) e ∙ without_here c h hs m.0 b.1 in
+    let left : without_class c v.held ≡ hs = ap (without_class c) e ∙ without_here c h hs m.0 b.1 in
     record {
       may = record { taken = h.taken; more = m.1.more; held = found; kinds = m.1.kinds; log = m.1.log; belong = m.1.belong };
       pile = record {
@@ -62,7 +62,7 @@ puts_held v items c x (h ∷ hs) e m b =
         descend = subst (λ (l : List Held). AllBelow (length v.starts) l) (sym left) (below_more h.class (length v.starts) hs (let lt = b.0 in omega (arith, lt)) b.1);
       };
       claims =
-          ap (λ (o : ℕ). (v.claims ++ claims_of c (drop o x.log)) ++ gained (reverse items) (without c v.held)) (ap log_length found)
+          ap (λ (o : ℕ). (v.claims ++ claims_of c (drop o x.log)) ++ gained (reverse items) (without_class c v.held)) (ap log_length found)
           ∙ (ap (λ (l : List Held). (v.claims ++ claims_of c (drop (length h.taken.log) x.log)) ++ gained (reverse items) l) left
           ∙ append_assoc v.claims (claims_of c (drop (length h.taken.log) x.log)) (gained (reverse items) hs));
     }
@@ -87,7 +87,7 @@ rests_held v (h ∷ hs) e m = absurd m
 -- A TAKE
 
 -- all classes that are held are below this one
-pub above_pile : (v : View) (m : ℕ) → AllBelow m v.held → IsAbove m v
+pub above_pile : (v : View) (m : ℕ) → AllBelow m v.held → IsAboveHeld m v
 above_pile v m b c x t = took_below m c x v.held b t
 
 pub logged_before : (v w : View) (c : ℕ) (x : Holding) → HasLooked v w → IsLogged w c x → IsLogged v c x
@@ -99,7 +99,7 @@ logged_before v w c x same l = record {
   log = l.log;
   owns = λ j u e k h.
       let at = at_one v u j e in
-      let there = subst (λ (ps : List ℕ). Has k ps) (sym same.parts) (subst (λ (y : View). Has k y.parts) (sym at.1) h) in
+      let there = subst (λ (ps : List ℕ). StandsIn k ps) (sym same.parts) (subst (λ (y : View). StandsIn k y.parts) (sym at.1) h) in
       let own_w = l.owns 0 w refl k there in
       ap (λ n. part n k l.growth) (sym same.seats) ∙ (own_w ∙ (ap (λ (n : ℕ). own n k c w.claims) same.seats ∙ (ap (λ (q : List Claim). own v.seats k c q) same.claims ∙ ap (λ (y : View). own v.seats k c y.claims) at.1)));
 }

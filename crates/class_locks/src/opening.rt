@@ -2,7 +2,7 @@
 ghost use Rattle.std.specs.Prelude.{◌≡◌, ◌<◌, ◌≤◌, ◌+◌, ◌^◌, ◌++◌, ◌∷◌, [], ℕ, List, All, length, replicate, IfOk, OnErr, vec_len, vec_capacity};
 ghost use Rattle.std.specs.Arc.{arc_value};
 ghost use Rattle.class_locks.specs.Logs.{Holding};
-ghost use Rattle.class_locks.specs.Views.{count_up, held_from};
+ghost use Rattle.class_locks.specs.Views.{count_up, held_at_classes};
 ghost use Rattle.class_locks.specs.Seats.{TableId, IsSeated, IsLaid, seats_from, with_parts};
 
 use crate::late::{BeginFault, Late};
@@ -94,7 +94,7 @@ fn arrive(top: &Top) -> Result<Place, Late>
     requires some { 0 < top.now.key.seats }
     requires few { length top.now.key.cells.value < 2 ^ 31 }
     ensures seated { IfOk result (λ p. IsSeated top.now.table_id top.now.key p) }
-    ensures view { IfOk result (λ p. p.me.0 ≡ with_parts top.now.key.seats top.now.key.cells.value (count_up 0 top.now.key.seats) (held_from 0 top.now.key.cells.value)) }
+    ensures view { IfOk result (λ p. p.me.0 ≡ with_parts top.now.key.seats top.now.key.cells.value (count_up 0 top.now.key.seats) (held_at_classes 0 top.now.key.cells.value)) }
 {
     let (found, place) = top.swap_new_seat::<Arrive>(0, 1);
     if found == 0 {
@@ -107,7 +107,7 @@ fn arrive(top: &Top) -> Result<Place, Late>
 // Each cell goes behind its lock.
 fn send_home(alloc: Global, top: &Top, place: &mut Place, cells: &mut Cells)
     requires seated { IsSeated top.now.table_id top.now.key place.old }
-    requires view { (parts : List ℕ) × (place.old.me.0 ≡ with_parts top.now.key.seats cells.old parts (held_from 0 cells.old)) }
+    requires view { (parts : List ℕ) × (place.old.me.0 ≡ with_parts top.now.key.seats cells.old parts (held_at_classes 0 cells.old)) }
     requires few { length cells.old < 2 ^ 31 }
     ensures seated { IsSeated top.now.table_id top.now.key place.new }
     ensures view { place.new.me.0 ≡ with_parts top.now.key.seats cells.old place.old.me.0.parts [] }

@@ -14,7 +14,7 @@ use Rattle.river_plan.specs.declared.fault.PlanFault.{PlanFault}
 use Rattle.river_plan.specs.declared.fault.PlanFault.TheVariants.{P1, P2, P3, P4, P5, P6, P7, P8, P9, NoMemory}
 use Rattle.river_plan.specs.declared.plan.Decl.{Decl}
 use Rattle.river_plan.specs.declared.plan.RawPlan.{RawPlan}
-use Rattle.cql_model.specs.Plannable.{IsPlannable, AreQueries, exceeds, declared}
+use Rattle.cql_model.specs.Plannable.{IsPlannable, AreQueries, exceeds, declared_names}
 use Rattle.cql_model.specs.Faults.{IsShortName, HaveShortNames, first_fault, then_refusal, refusal_of}
 use Rattle.cql_text.specs.Tree as tree
 use Rattle.cql_model.specs.Program.{registered, all_uses}
@@ -29,7 +29,7 @@ use Rattle.cql_build.specs.declared.uses.Uses.{Uses}
 use Rattle.cql_build.specs.declared.planning.Refused.{Refused}
 use Rattle.cql_build.specs.declared.planning.Refused.TheVariants as refused
 use Rattle.cql_build.specs.Grown.{Grew}
-use Rattle.cql_build.specs.Planned.{IsTold, IsLimited, limit_of, refused_of, unit_inputs, unit_copies, unit_copying, IsShortRegistered, IsNarrow}
+use Rattle.cql_build.specs.Planned.{IsWhyRefused, IsLimited, limit_of, refused_of, unit_inputs, unit_copies, unit_copying, IsShortRegistered, IsNarrow}
 use Rattle.cql_text.specs.Tree.{part_of, parts_of}
 use Rattle.cql_build.proofs.Growing.{Left, left_start, left_next, left_is, left_end}
 use Rattle.cql_build.proofs.Lists.{drop_next, drop_all}
@@ -95,7 +95,7 @@ over_limit parts n e =
 
 -- what is told of the plan is told of the program
 pub limited_refused : (parts : List Part) (form : PlanForm) (r : Refused) → first_fault [] 0 1 (parts_of parts) ≡ None → form ≡ plan_of (parts_of parts)
-    → IsLimited form (length parts) r → IsTold (parts_of parts) r
+    → IsLimited form (length parts) r → IsWhyRefused (parts_of parts) r
 limited_refused parts form (refused.Program x) n e h = over_limit parts n (sym (ap exceeds e) ∙ h.0) ∙ ap Some (sym h.1)
 limited_refused parts form refused.NoMemory n e h = tt
 
@@ -131,19 +131,19 @@ inputs_next parts i p start now later h lt e g =
 
 pub record Copying (old now : RawPlan) (all : List Name) (parts : List Part) (i : ℕ) : Type 0 where
   pub left : Left old now [] [] (input_copies all (parts_of parts)) (input_copies all (parts_of (drop i parts))) (input_ops all (parts_of parts)) (input_ops all (parts_of (drop i parts)))
-  pub names : AllByRecursion IsShortName (declared (parts_of (drop i parts)))
+  pub names : AllByRecursion IsShortName (declared_names (parts_of (drop i parts)))
 
 pub copying_start : (raw : RawPlan) (all : List Name) (parts : List Part) → HaveShortNames (parts_of parts) → Copying raw raw all parts 0
 copying_start raw all parts s = record { left = left_start raw _ _ _; names = s.names }
 
-short_one : (p : tree.Part) (ps : Program) → AllByRecursion IsShortName (declared (p ∷ ps)) → IsShortRegistered p × AllByRecursion IsShortName (declared ps)
+short_one : (p : tree.Part) (ps : Program) → AllByRecursion IsShortName (declared_names (p ∷ ps)) → IsShortRegistered p × AllByRecursion IsShortName (declared_names ps)
 short_one (Register name fields) ps h = (h.0, h.1)
 short_one (AQuery q) ps h = (tt, h.1)
 
 pub copying_short : (old now : RawPlan) (all : List Name) (parts : List Part) (i : ℕ) (p : Part) → Copying old now all parts i → i < length parts
     → p ≡ get_or parts i p → IsShortRegistered (part_of p)
 copying_short old now all parts i p c lt e =
-    (short_one (part_of p) (parts_of (drop (i + 1) parts)) (subst (λ (l : List Part). AllByRecursion IsShortName (declared (parts_of l))) (drop_next parts i p lt e) c.names)).0
+    (short_one (part_of p) (parts_of (drop (i + 1) parts)) (subst (λ (l : List Part). AllByRecursion IsShortName (declared_names (parts_of l))) (drop_next parts i p lt e) c.names)).0
 
 pub copying_next : (old now next : RawPlan) (all : List Name) (parts : List Part) (i : ℕ) (p : Part) → Copying old now all parts i → i < length parts
     → p ≡ get_or parts i p
@@ -155,7 +155,7 @@ copying_next old now next all parts i p c lt e g =
       left = left_next old now next _ [] _ _ (unit_copies all (part_of p)) _ _ (unit_copying all (part_of p)) _
           (left_is old now _ _ [] _ _ (unit_copies all (part_of p) ++ input_copies all rest) _ _ (unit_copying all (part_of p) ++ input_ops all rest) c.left refl
           (ap (λ l. input_copies all (parts_of l)) d ∙ copies_one (part_of p) rest) (ap (λ l. input_ops all (parts_of l)) d ∙ ops_one (part_of p) rest)) g;
-      names = (short_one (part_of p) rest (subst (λ (l : List Part). AllByRecursion IsShortName (declared (parts_of l))) d c.names)).1;
+      names = (short_one (part_of p) rest (subst (λ (l : List Part). AllByRecursion IsShortName (declared_names (parts_of l))) d c.names)).1;
     }
   where
     copies_one : (p : tree.Part) (ps : Program) → input_copies all (p ∷ ps) ≡ unit_copies all p ++ input_copies all ps

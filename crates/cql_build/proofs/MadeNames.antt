@@ -13,7 +13,7 @@ use Rattle.river_plan.specs.Forms.{Name}
 use Rattle.cql_model.specs.Numeral.{numeral}
 use Rattle.cql_model.specs.Translation.{at_word}
 use Rattle.cql_model.proofs.Numerals.{numeral_decimal}
-use Rattle.cql_build.specs.Marks.{word, marked, IsLowMark}
+use Rattle.cql_build.specs.Marks.{word, name_marked, IsLowMark}
 use Rattle.cql_build.specs.declared.names.Mark.{Mark}
 use Rattle.cql_build.specs.declared.names.Mark.TheVariants.{Window, Cross, Copy, Select, Project, Stream, Output, Copies}
 
@@ -70,7 +70,7 @@ word_goes Output lt = (refl, omega arith)
 word_goes Copies lt = (refl, omega arith)
 
 -- a short name with a mark is a name
-pub marked_is_name : (name : Name) (m : Mark) → is_name name ≡ true → length name ≤ 40 → IsLowMark m → is_name (marked name m) ≡ true
+pub marked_is_name : (name : Name) (m : Mark) → is_name name ≡ true → length name ≤ 40 → IsLowMark m → is_name (name_marked name m) ≡ true
 marked_is_name name m h len low = let g = word_goes m low in word_behind name (word m) h len g.0 g.1
 
 -- and so is the place of a column

@@ -7,7 +7,7 @@ use Rattle.river_kernels.specs.Fits.{stream}
 use Rattle.river_plan.specs.Forms.{Name}
 use Rattle.river_plan.specs.Names.{count}
 use Rattle.river_plan.specs.declared.plan.RawPlan.{RawPlan}
-use Rattle.cql_model.specs.Plannable.{AreQueries, declared}
+use Rattle.cql_model.specs.Plannable.{AreQueries, declared_names}
 use Rattle.cql_model.specs.Faults.{IsShortName, HaveShortNames}
 use Rattle.cql_text.specs.Tree as tree
 use Rattle.cql_model.specs.Program.{streams_of, all_uses}
@@ -78,7 +78,7 @@ pub record Querying (old now : RawPlan) (before after : Uses) (parts : List Part
   pub ks : List Named
   pub knows : Knows k ks
   pub good : AreQueries ks (parts_of (drop i parts))
-  pub names : AllByRecursion IsShortName (declared (parts_of (drop i parts)))
+  pub names : AllByRecursion IsShortName (declared_names (parts_of (drop i parts)))
   pub uses : AllByRecursion IsShortName (all_uses (parts_of (drop i parts)))
   pub inputs : after.inputs ≡ before.inputs
   pub all : after.all ≡ before.all
@@ -103,10 +103,10 @@ record Apart (ks : List Named) (p : tree.Part) (ps : Program) : Type 0 where
   pub unit : IsPlannableUnit ks p
   pub short : IsShortUnit p
   pub good : AreQueries (declares ks p ∷ ks) ps
-  pub names : AllByRecursion IsShortName (declared ps)
+  pub names : AllByRecursion IsShortName (declared_names ps)
   pub uses : AllByRecursion IsShortName (all_uses ps)
 
-apart : (ks : List Named) (p : tree.Part) (ps : Program) → AreQueries ks (p ∷ ps) → AllByRecursion IsShortName (declared (p ∷ ps))
+apart : (ks : List Named) (p : tree.Part) (ps : Program) → AreQueries ks (p ∷ ps) → AllByRecursion IsShortName (declared_names (p ∷ ps))
     → AllByRecursion IsShortName (all_uses (p ∷ ps)) → Apart ks p ps
 apart ks (Register name fields) ps g n u = record { unit = tt; short = tt; good = g.1; names = n.1; uses = u }
 apart ks (AQuery q) ps g n u = record {
@@ -122,7 +122,7 @@ at : (old now : RawPlan) (before after : Uses) (parts : List Part) (i : ℕ) (k 
     → Apart a.ks (part_of p) (parts_of (drop (i + 1) parts))
 at old now before after parts i k p a lt e =
     let d : parts_of (drop i parts) ≡ part_of p ∷ parts_of (drop (i + 1) parts) = ap parts_of (drop_next parts i p lt e) in
-    apart a.ks (part_of p) (parts_of (drop (i + 1) parts)) (subst (AreQueries a.ks) d a.good) (subst (λ (l : Program). AllByRecursion IsShortName (declared l)) d a.names)
+    apart a.ks (part_of p) (parts_of (drop (i + 1) parts)) (subst (AreQueries a.ks) d a.good) (subst (λ (l : Program). AllByRecursion IsShortName (declared_names l)) d a.names)
     (subst (λ (l : Program). AllByRecursion IsShortName (all_uses l)) d a.uses)
 
 -- the next unit is as the whole program asks

@@ -18,8 +18,8 @@ word Output = codes "o"
 word Copies = codes "d"
 
 -- a name with a mark behind it
-abbrev pub marked : Name → Mark → Name
-marked base mark = at_word base (word mark)
+abbrev pub name_marked : Name → Mark → Name
+name_marked base mark = at_word base (word mark)
 
 -- the numbers of a mark have a place in 64 bits
 abbrev pub IsLowMark : Mark → Type 0

@@ -16,9 +16,9 @@ use Rattle.cql_build.specs.declared.planning.Refused.{Refused}
 use Rattle.cql_build.specs.declared.planning.Refused.TheVariants as refused
 
 -- this is why a program is refused; want of memory says nothing
-abbrev pub IsTold : Program → Refused → Type 0
-IsTold p (refused.Program r) = refusal_of p ≡ Some r
-IsTold p refused.NoMemory = Unit {0}
+abbrev pub IsWhyRefused : Program → Refused → Type 0
+IsWhyRefused p (refused.Program r) = refusal_of p ≡ Some r
+IsWhyRefused p refused.NoMemory = Unit {0}
 
 -- a limit of plans, told at this unit
 abbrev pub limit_of : ℕ → model.Refusal

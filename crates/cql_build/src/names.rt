@@ -2,7 +2,7 @@
 ghost use Rattle.std.specs.Prelude.{◌≡◌, ◌≤◌, ◌<◌, ◌^◌, ◌++◌, codes, IsTrue, IfOk, OnOk, length};
 ghost use Rattle.std.specs.Fmt.{decimal};
 ghost use Rattle.river_base.specs.Name.{is_name};
-ghost use Rattle.cql_build.specs.Marks.{word, marked, IsLowMark};
+ghost use Rattle.cql_build.specs.Marks.{word, name_marked, IsLowMark};
 
 use river_base::{Bytes, Name, NoMemory};
 use std::alloc::Global;
@@ -31,7 +31,7 @@ pub(crate) enum Mark {
 /// The name for this mark.
 pub(crate) fn marked(alloc: Global, base: Name, mark: Mark) -> Result<Name, NoMemory>
     requires { length base ≤ 40 }
-    ensures { IfOk result (λ name. name ≡ marked base mark) }
+    ensures { IfOk result (λ name. name ≡ name_marked base mark) }
 {
     let text = text(alloc, base, mark)?;
     Ok(name_of(text.as_slice()))
@@ -39,7 +39,7 @@ pub(crate) fn marked(alloc: Global, base: Name, mark: Mark) -> Result<Name, NoMe
 
 // Its bytes.
 fn text(alloc: Global, base: Name, mark: Mark) -> Result<Bytes, NoMemory>
-    ensures is { IfOk result (λ text. text ≡ marked base mark) }
+    ensures is { IfOk result (λ text. text ≡ name_marked base mark) }
     ensures named { OnOk result (IsTrue (is_name base)) }
     ensures low { OnOk result (IsLowMark mark) }
 {

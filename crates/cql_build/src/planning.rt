@@ -11,7 +11,7 @@ ghost use Rattle.cql_model.specs.Faults.{AreSpoken, HaveShortNames, first_fault,
 ghost use Rattle.cql_model.specs.Program.{registered, all_uses};
 ghost use Rattle.cql_model.specs.Translation.{input_decls, input_copies, input_ops, plan_of};
 ghost use Rattle.cql_build.specs.Grown.{Grew};
-ghost use Rattle.cql_build.specs.Planned.{IsTold, IsLimited, limit_at, refused_of, unit_inputs, unit_copies, unit_copying, IsShortRegistered, IsNarrow};
+ghost use Rattle.cql_build.specs.Planned.{IsWhyRefused, IsLimited, limit_at, refused_of, unit_inputs, unit_copies, unit_copying, IsShortRegistered, IsNarrow};
 ghost use Rattle.cql_text.specs.Tree.{part_of, parts_of};
 
 use crate::columns::append;
@@ -51,7 +51,7 @@ pub fn plan(alloc: Global, parts: &[Part]) -> Result<Plan, Refused>
     requires spoken { AreSpoken (parts_of parts.now) }
     requires short { HaveShortNames (parts_of parts.now) }
     ensures plan { IfOk result (λ plan. (refusal_of (parts_of parts.now) ≡ None) × (plan ≡ plan_of (parts_of parts.now))) }
-    ensures refused { IfErr result (IsTold (parts_of parts.now)) }
+    ensures refused { IfErr result (IsWhyRefused (parts_of parts.now)) }
 {
     if let Some(refusal) = first_fault(alloc, parts)? {
         return Err(Refused::Program(refusal));
@@ -65,7 +65,7 @@ fn faultless(alloc: Global, parts: &[Part]) -> Result<Plan, Refused>
     requires short { HaveShortNames (parts_of parts.now) }
     requires none { first_fault [] 0 1 (parts_of parts.now) ≡ None }
     ensures plan { IfOk result (λ plan. (refusal_of (parts_of parts.now) ≡ None) × (plan ≡ plan_of (parts_of parts.now))) }
-    ensures refused { IfErr result (IsTold (parts_of parts.now)) }
+    ensures refused { IfErr result (IsWhyRefused (parts_of parts.now)) }
 {
     let mut uses = Uses::of(alloc, parts)?;
     if uses.all.len() > 256 {

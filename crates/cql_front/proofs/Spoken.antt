@@ -9,7 +9,7 @@ use Rattle.work_code.specs.Tok.{Tok}
 use Rattle.work_code.specs.declared.sign.Symbol.TheVariants as sign
 use Rattle.text_forms.specs.Forms as form
 use Rattle.text_forms.specs.Parse.{is_short}
-use Rattle.cql_model.specs.Plannable.{has_no_at, AreShallowColumns, IsShallowCondition, declared}
+use Rattle.cql_model.specs.Plannable.{has_no_at, AreShallowColumns, IsShallowCondition, declared_names}
 use Rattle.cql_model.specs.Faults.{has_columns, AreSpoken, IsShortName, HaveShortNames}
 use Rattle.cql_model.specs.Program.{streams_of, all_uses}
 use Rattle.cql_text.specs.Grammar.{IsColumn, IsColumns, IsSource, IsStreamUnit, IsQueryUnit, IsPart, IsWhere, AreParts}
@@ -35,7 +35,7 @@ Shallow c = scalar_depth c.value ≤ 64
 column_shallow : (c : Column) (ts : List Tok) → IsColumn c ts → Shallow c
 column_shallow c ts h = subst Shallow (sym h.is) h.formed.first.1
 
-more_shallow : (cs : List Column) (ts : List Tok) → form.Each (form.After (sign.Comma ∷ []) IsColumn) cs ts → AllByRecursion Shallow cs
+more_shallow : (cs : List Column) (ts : List Tok) → form.Many (form.After (sign.Comma ∷ []) IsColumn) cs ts → AllByRecursion Shallow cs
 more_shallow [] ts h = tt
 more_shallow (c ∷ cs) ts h = (column_shallow c h.3.back h.3.formed, more_shallow cs h.1 h.4)
 
@@ -107,13 +107,13 @@ spoken (p ∷ ps) (u ∷ us) h = join p ps (part_spoken p u h.0) (spoken ps us h
 source_short : (i : Source) (ts : List Tok) → IsSource i ts → IsShortName i.stream
 source_short i ts h = subst (λ (j : Source). IsShortName j.stream) (sym h.is) (short h.value.0 h.formed.first.passes)
 
-more_short : (is : List Source) (ts : List Tok) → form.Each (form.After (sign.Comma ∷ []) IsSource) is ts
+more_short : (is : List Source) (ts : List Tok) → form.Many (form.After (sign.Comma ∷ []) IsSource) is ts
     → AllByRecursion IsShortName (streams_of is)
 more_short [] ts h = tt
 more_short (i ∷ is) ts h = (source_short i h.3.back h.3.formed, more_short is h.1 h.4)
 
 abbrev PartShort : Part → Type 0
-PartShort p = AllByRecursion IsShortName (declared (p ∷ [])) × AllByRecursion IsShortName (all_uses (p ∷ []))
+PartShort p = AllByRecursion IsShortName (declared_names (p ∷ [])) × AllByRecursion IsShortName (all_uses (p ∷ []))
 
 both_all : {A : Type 0} (P : A → Type 0) (xs ys : List A) → AllByRecursion P xs → AllByRecursion P ys → AllByRecursion P (xs ++ ys)
 both_all P [] ys a b = b
@@ -136,7 +136,7 @@ part_short : (p : Part) (ts : List Tok) → IsPart p ts → PartShort p
 part_short p ts (inl h) = stream_short p ts h
 part_short p ts (inr h) = query_short p ts h
 
-join_short : (p : Part) (ps : Program) → AllByRecursion IsShortName (declared (p ∷ [])) → AllByRecursion IsShortName (all_uses (p ∷ []))
+join_short : (p : Part) (ps : Program) → AllByRecursion IsShortName (declared_names (p ∷ [])) → AllByRecursion IsShortName (all_uses (p ∷ []))
     → HaveShortNames ps → HaveShortNames (p ∷ ps)
 join_short (Register name fields) ps a b s = record { names = (a.0, s.names); uses = s.uses }
 join_short (AQuery q) ps a b s =

@@ -13,7 +13,7 @@ use Rattle.river_plan.specs.Forms.{Name}
 use Rattle.river_plan.specs.Names.{one_if, count}
 use Rattle.river_plan.proofs.NameLemmas.{cases_name}
 use Rattle.cql_model.specs.KernelWords.{kernel_window}
-use Rattle.cql_model.specs.Plannable.{has_no_at, declared, IsPlannableQuery, AreQueries}
+use Rattle.cql_model.specs.Plannable.{has_no_at, declared_names, IsPlannableQuery, AreQueries}
 use Rattle.cql_model.specs.declared.fault.Fault.{Fault}
 use Rattle.cql_model.specs.declared.fault.Fault.TheVariants.{UnknownStream, NameTwice, Limit}
 use Rattle.cql_model.specs.declared.fault.Refusal.{Refusal}
@@ -141,7 +141,7 @@ fields_few past (f ∷ fs) le h =
 
 -- THE PROGRAM
 
-names_good : (ps : Program) → AreSpoken ps → AllByRecursion (λ n. IsTrue (has_no_at n)) (declared ps)
+names_good : (ps : Program) → AreSpoken ps → AllByRecursion (λ n. IsTrue (has_no_at n)) (declared_names ps)
 names_good [] s = tt
 names_good (Register name fields ∷ ps) s = (s.0, names_good ps s.2)
 names_good (AQuery q ∷ ps) s = (s.0, names_good ps s.2)
@@ -161,7 +161,7 @@ more_distinct ks k d z n = ⊎_elim
     (cases_name k.name n)
 
 names_once : (ks : List Named) (many unit : ℕ) (ps : Program) → Distinct ks → first_fault ks many unit ps ≡ None → (n : Name)
-    → count n (known_names ks) + count n (declared ps) ≤ 1
+    → count n (known_names ks) + count n (declared_names ps) ≤ 1
 names_once ks many unit [] d h n = let o = d n in omega (arith, o)
 names_once ks many unit (Register name fields ∷ ps) d h n =
     let k : Named = record { name = name; fields = fields } in

@@ -18,7 +18,7 @@ use Rattle.river_plan.specs.Uses.{total, writes_it, and_writes, ReadsBefore, all
 use Rattle.river_plan.proofs.NameLemmas.{cases_name, count-append, one_same, more_or_zero}
 use Rattle.river_plan.proofs.ShareLemmas.{total-vars}
 use Rattle.cql_model.specs.KernelWords.{streamer_of}
-use Rattle.cql_model.specs.Plannable.{has_no_at, declared}
+use Rattle.cql_model.specs.Plannable.{has_no_at, declared_names}
 use Rattle.cql_model.specs.InTurn.{PlansInTurn}
 use Rattle.river_plan.specs.InTurn.{mentioned}
 use Rattle.cql_model.specs.Numeral.{numeral}
@@ -244,12 +244,12 @@ outputs_are known [] = refl
 outputs_are known (Register name fields ∷ ps) = outputs_are (record { name = name; fields = fields } ∷ known) ps
 outputs_are known (AQuery q ∷ ps) = ap (λ l. q.name ∷ l) (outputs_are (query_named known q ∷ known) ps)
 
-plain_asked : (ps : Program) → Plain (declared ps) → Plain (asked ps)
+plain_asked : (ps : Program) → Plain (declared_names ps) → Plain (asked ps)
 plain_asked [] a = tt
 plain_asked (Register name fields ∷ ps) a = plain_asked ps a.1
 plain_asked (AQuery q ∷ ps) a = (a.0, plain_asked ps a.1)
 
-all_kept : (outs : List Name) (ps : Program) → Plain outs → Plain (declared ps) → There (asked ps) outs → AreKept (other outs) ps
+all_kept : (outs : List Name) (ps : Program) → Plain outs → Plain (declared_names ps) → There (asked ps) outs → AreKept (other outs) ps
 all_kept outs [] a b t = tt
 all_kept outs (Register name fields ∷ ps) a b t = ((λ w. is_other outs (at_word name w) (word_apart name w outs b.0 a)), all_kept outs ps a b.1 t)
 all_kept outs (AQuery q ∷ ps) a b t = (

@@ -8,7 +8,7 @@ use Rattle.std.proofs.lemmas.Bool.{ltb-false, le-ltb}
 use Rattle.river_plan.specs.declared.fault.PlanFault.{PlanFault}
 use Rattle.river_plan.specs.declared.fault.PlanFault.TheVariants.{P1, P2, P3, P4, P5, P6, P7, P9}
 use Rattle.river_plan.specs.declared.fault.Named.TheVariants.{Queue, Variable, Label}
-use Rattle.river_plan.specs.Faults.{IsNew, IsOuter, HasWidth, IsTable, IsApart, Repeated, Undeclared, UndeclaredAt, WrittenTwice, ReadTwice, ReadTooEarly}
+use Rattle.river_plan.specs.Faults.{IsNew, IsOuter, HasWidth, IsTableKind, IsApart, Repeated, Undeclared, UndeclaredAt, WrittenTwice, ReadTwice, ReadTooEarly}
 use Rattle.river_plan.specs.Faults.{ReadTooEarlyAt, Mistyped, Misfit, Shared}
 use Rattle.river_plan.specs.First.{OrElse, As, Unless, Along, IsFirst}
 use Rattle.river_plan.specs.Forms.{PlanForm, decl_names, queue_names, variable_names, labels}
@@ -88,7 +88,7 @@ module _ (p : PlanForm) (v : KeepsRules p) where
   no_mistyped =
       or-empty _ _ (first _ _ p.outputs (all-along IsOuter [] p.outputs v.outputs_typed))
       (or-empty _ _ (first _ _ p.inputs (all-along IsOuter [] p.inputs v.inputs_typed))
-      (or-empty _ _ (first _ _ p.queues (all-along HasWidth [] p.queues v.queues_typed)) (first _ _ p.tables (all-along (λ t. IsTable t.kind) [] p.tables v.tables_typed))))
+      (or-empty _ _ (first _ _ p.queues (all-along HasWidth [] p.queues v.queues_typed)) (first _ _ p.tables (all-along (λ t. IsTableKind t.kind) [] p.tables v.tables_typed))))
 
   no_misfit : Empty (Misfit p)
   no_misfit = first _ _ p.ops (each-along (IsFit p) [] p.ops v.fits)

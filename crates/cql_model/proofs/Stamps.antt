@@ -76,12 +76,12 @@ instants_are files = record {
 -- EACH STREAM HAS THEM
 
 -- a stream over instants has these instants
-pub spread_instants : (ts : List ℤ) (s : Timed) → fit.instants (spread ts s) ≡ ts
+pub spread_instants : (ts : List ℤ) (s : Timed) → fit.instants_in (spread ts s) ≡ ts
 spread_instants [] s = refl
 spread_instants (t ∷ ts) s = ap (λ l. t ∷ l) (spread_instants ts s)
 
 all_spread : (files : List (List Entry)) (ts : List ℤ) (ss : List Timed) → AreInstantsOf files ts
-    → AllByRecursion (λ out. AreInstantsOf files (fit.instants out)) (map (spread ts) ss)
+    → AllByRecursion (λ out. AreInstantsOf files (fit.instants_in out)) (map (spread ts) ss)
 all_spread files ts [] h = tt
 all_spread files ts (s ∷ ss) h = (subst (AreInstantsOf files) (sym (spread_instants ts s)) h, all_spread files ts ss h)
 

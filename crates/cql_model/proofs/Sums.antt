@@ -7,7 +7,7 @@ use Rattle.river_plan.specs.Forms.{Name, decl_names}
 use Rattle.river_plan.specs.Names.{count}
 use Rattle.river_plan.specs.Uses.{total, writes_it, reads_it, vars_it, named_it}
 use Rattle.river_plan.proofs.NameLemmas.{count-append}
-use Rattle.cql_model.specs.Plannable.{has_no_at, declared}
+use Rattle.cql_model.specs.Plannable.{has_no_at, declared_names}
 use Rattle.cql_model.specs.Program.{registered, streams_of, all_uses}
 use Rattle.cql_text.specs.Tree.{Source, Query, Part, Register, AQuery, Program}
 use Rattle.cql_model.specs.Scopes.{Named, scope_of}
@@ -69,16 +69,16 @@ abbrev pub AreOnce : (Part → List Tag) → Program → Type 0
 AreOnce f [] = Unit {0}
 AreOnce f (p ∷ ps) = ((t : Tag) → tags t (f p) ≤ 1) × AreOnce f ps
 
-sums_base : (f : Part → List Tag) (z : Name) (ps : Program) → AllByRecursion (λ n. IsTrue (has_no_at n)) (declared ps) → AreOnce f ps
-    → sums f z ps ≤ count (split z).0 (declared ps)
+sums_base : (f : Part → List Tag) (z : Name) (ps : Program) → AllByRecursion (λ n. IsTrue (has_no_at n)) (declared_names ps) → AreOnce f ps
+    → sums f z ps ≤ count (split z).0 (declared_names ps)
 sums_base f z [] names once = omega arith
 sums_base f z (Register name fields ∷ ps) names once =
     let a = own_once name z (f (Register name fields)) names.0 once.0 in let m = sums_base f z ps names.1 once.1 in omega (arith, a, m)
 sums_base f z (AQuery q ∷ ps) names once = let a = own_once q.name z (f (AQuery q)) names.0 once.0 in let m = sums_base f z ps names.1 once.1 in omega (arith, a, m)
 
 -- tags that are once in each unit are once in a program whose names are once
-pub sums_once : (f : Part → List Tag) (z : Name) (ps : Program) → AllByRecursion (λ n. IsTrue (has_no_at n)) (declared ps)
-    → ((n : Name) → count n (declared ps) ≤ 1) → AreOnce f ps → sums f z ps ≤ 1
+pub sums_once : (f : Part → List Tag) (z : Name) (ps : Program) → AllByRecursion (λ n. IsTrue (has_no_at n)) (declared_names ps)
+    → ((n : Name) → count n (declared_names ps) ≤ 1) → AreOnce f ps → sums f z ps ≤ 1
 sums_once f z ps names single once = let a = sums_base f z ps names once in let b = single (split z).0 in omega (arith, a, b)
 
 -- queries have few items

@@ -16,7 +16,7 @@ use Rattle.cql_model.specs.Laws.{known_names}
 use Rattle.cql_model.specs.Places.{with_earlier, declares, known_by, Alone, OfItem, mentions}
 use Rattle.cql_model.specs.Places.{Spot, StreamName, FieldName, QueryName, ItemStream, ItemWindow, ItemName}
 use Rattle.cql_model.specs.Places.{ColumnStart, FieldUse, item_spots, value_spots, column_spots, columns_spots, condition_spots, spots}
-use Rattle.cql_model.specs.Plannable.{declared}
+use Rattle.cql_model.specs.Plannable.{declared_names}
 use Rattle.cql_text.specs.Tree.{Scalar, Number, Field, ItemField, Neg, Not, Bin, Source, Column, Columns, Star, Chosen}
 use Rattle.cql_model.specs.Program.{registered}
 use Rattle.cql_text.specs.Tree.{Query, Register, AQuery, Part, Program}
@@ -44,12 +44,12 @@ both before xs ys a b c e f g = subst (Found before (xs ++ ys)) e (finds_both (S
 -- WHAT IS KNOWN
 
 pub known-names : (n : Name) (ks : List Named) (ps : Program)
-    → count n (known_names (fold (λ (known : List Named) (unit : Part). declares known unit ∷ known) ks ps)) ≡ count n (known_names ks) + count n (declared ps)
+    → count n (known_names (fold (λ (known : List Named) (unit : Part). declares known unit ∷ known) ks ps)) ≡ count n (known_names ks) + count n (declared_names ps)
 known-names n ks [] = omega arith
 known-names n ks (Register name fields ∷ ps) = let m = known-names n (record { name = name; fields = fields } ∷ ks) ps in omega (arith, m)
 known-names n ks (AQuery q ∷ ps) = let m = known-names n (declares ks (AQuery q) ∷ ks) ps in omega (arith, m)
 
-known_are : (n : Name) (before : Program) → count n (known_names (known_by before)) ≡ count n (declared before)
+known_are : (n : Name) (before : Program) → count n (known_names (known_by before)) ≡ count n (declared_names before)
 known_are n before = let m = known-names n [] before in omega (arith, m)
 
 -- one unit more is known
@@ -125,7 +125,7 @@ item before past i =
     let e = fault_if (nat_lt 16 (widths_of (scope ++ named ∷ []))) Limit in
     both before (ItemStream past i ∷ []) (ItemWindow i.window ∷ ItemName past i ∷ []) (then_fault a b) (first_of c (then_fault d e)) _ (regroup a b c d e)
     (stream_or_many before past i (nat_eq (count i.stream (known_names ks)) 0) (nat_lt 3 (length scope))
-    (none_among (count i.stream (known_names ks)) (count i.stream (declared before)) (known_are i.stream before))
+    (none_among (count i.stream (known_names ks)) (count i.stream (declared_names before)) (known_are i.stream before))
     (one_more 3 (length scope) (length past) (length-map past (item_named ks))))
     (both before (ItemWindow i.window ∷ []) (ItemName past i ∷ []) c (then_fault d e) _ refl
     (only_limit before (ItemWindow i.window) (is_rows_fault i.window) (λ h. h) (λ h. h) (λ h. h) (λ h. h) (bad_rows i.window))
@@ -196,7 +196,7 @@ query before q =
     let ws = condition_spots q.items q.condition in
     both before (QueryName q.name ∷ []) (is ++ (cs ++ ws)) a (then_fault b (then_fault c d)) _ (then_first a (then_fault b (then_fault c d)))
     (only_twice before q.name (nat_lt 0 (count q.name (known_names ks)))
-    (some_among (count q.name (known_names ks)) (count q.name (declared before)) (known_are q.name before)))
+    (some_among (count q.name (known_names ks)) (count q.name (declared_names before)) (known_are q.name before)))
     (both before is (cs ++ ws) b (then_fault c d) _ (then_first b (then_fault c d))
     (subst (λ (l : List (List Source × Source)). Found before (flat_map item_spots l) b) (behind-none q.items) (items before [] q.items))
     (both before cs ws c d _ (then_first c d) (columns before q.items q.columns) (condition before q.items q.condition)))
@@ -226,6 +226,6 @@ stream before name fs =
     let c = fields_fault [] fs in
     both before (StreamName name ∷ []) (map field_spot (with_earlier fs)) (then_fault a b) c _ (then_more a b c)
     (twice_or_many before (StreamName name) (nat_lt 0 (count name (known_names ks))) (nat_lt 7 (length (registered before))) (λ h. h) (λ h. h) (λ h. h)
-    (some_among (count name (known_names ks)) (count name (declared before)) (known_are name before))
+    (some_among (count name (known_names ks)) (count name (declared_names before)) (known_are name before))
     (one_more 7 (length (registered before)) (length (registered before)) refl))
     (subst (λ (l : List (List Name × Name)). Found before (map field_spot l) c) (behind-none fs) (fields before [] fs))

@@ -12,14 +12,14 @@ use Rattle.river_kernels.specs.declared.types.VarKind.TheVariants.{Private, Tabl
 use Rattle.river_kernels.specs.Fits.{rows, stream, relation}
 use Rattle.river_kernels.specs.Formed.{is_width}
 use Rattle.river_plan.specs.declared.plan.Decl.{Decl}
-use Rattle.river_plan.specs.Faults.{IsOuter, HasWidth, IsTable}
+use Rattle.river_plan.specs.Faults.{IsOuter, HasWidth, IsTableKind}
 use Rattle.river_plan.specs.Forms.{Name, OpForm, decl_names, all_decls, queue_names}
 use Rattle.river_plan.specs.Kinds.{kind_in, kind_of, private_in, var_kind}
 use Rattle.river_plan.specs.Names.{one_if, count}
 use Rattle.river_plan.specs.Uses.{Each, total, writes_it, reads_it, vars_it, named_it, all_vars, ReadsBefore}
 use Rattle.river_plan.proofs.NameLemmas.{cases_name, name_same, count-append, one_same, more_or_zero}
 use Rattle.river_plan.proofs.ShareLemmas.{total-vars}
-use Rattle.cql_model.specs.Plannable.{has_no_at, declared, IsPlannableQuery, AreQueries, PlansKeep}
+use Rattle.cql_model.specs.Plannable.{has_no_at, declared_names, IsPlannableQuery, AreQueries, PlansKeep}
 use Rattle.cql_model.specs.Laws.{known_names, AreKnown}
 use Rattle.cql_model.specs.Program.{registered, streams_of, all_uses}
 use Rattle.cql_text.specs.Tree.{Scalar, Source, Columns, Star, Chosen, Query, Register, AQuery, Program}
@@ -53,13 +53,13 @@ asked (Register name fields ∷ ps) = asked ps
 asked (AQuery q ∷ ps) = q.name ∷ asked ps
 
 -- a name is declared as a stream or as a query
-pub declared_split : (n : Name) (ps : Program) → count n (declared ps) ≡ count n (registered ps) + count n (asked ps)
+pub declared_split : (n : Name) (ps : Program) → count n (declared_names ps) ≡ count n (registered ps) + count n (asked ps)
 declared_split n [] = refl
 declared_split n (Register name fields ∷ ps) = let m = declared_split n ps in omega (arith, m)
 declared_split n (AQuery q ∷ ps) = let m = declared_split n ps in omega (arith, m)
 
 -- queries have names of their own
-apart_in : (inputs all : List Name) (ps : Program) → AllByRecursion (λ n. IsTrue (has_no_at n)) (declared ps)
+apart_in : (inputs all : List Name) (ps : Program) → AllByRecursion (λ n. IsTrue (has_no_at n)) (declared_names ps)
     → ((n : Name) → 0 < count n (asked ps) → count n inputs ≡ 0) → Apart inputs all ps
 apart_in inputs all [] h f = tt
 apart_in inputs all (Register name fields ∷ ps) h f = (h.0, apart_in inputs all ps h.1 f)
@@ -100,7 +100,7 @@ both_lists : (xs ys : List Name) → AllByRecursion IsPlain xs → AllByRecursio
 both_lists [] ys a b = b
 both_lists (x ∷ xs) ys a b = (a.0, both_lists xs ys a.1 b)
 
-uses_plain : (ks : List Named) (ps : Program) → AllByRecursion IsPlain (known_names ks) → AllByRecursion IsPlain (declared ps) → AreQueries ks ps
+uses_plain : (ks : List Named) (ps : Program) → AllByRecursion IsPlain (known_names ks) → AllByRecursion IsPlain (declared_names ps) → AreQueries ks ps
     → AllByRecursion IsPlain (all_uses ps)
 uses_plain ks [] h d a = tt
 uses_plain ks (Register name fields ∷ ps) h d a = uses_plain (record { name = name; fields = fields } ∷ ks) ps (d.0, h) d.1 a.1
@@ -339,7 +339,7 @@ plans_keep p a =
       outputs_typed = outer_outputs [] p a.queries;
       inputs_typed = outer_inputs [] p a.queries;
       queues_typed = All-append HasWidth (input_copies all p) (queries_decls all [] p) (copies_wide all [] p a.queries) (queries_wide ins all [] p tt a.queries);
-      tables_typed = All-nil (λ t. IsTable t.kind);
+      tables_typed = All-nil (λ t. IsTableKind t.kind);
       fits = fit;
       vars_apart = single_from (ops_of p) vars;
       private_once = λ v lt. vars v;

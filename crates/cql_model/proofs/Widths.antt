@@ -7,7 +7,7 @@ use Rattle.std.specs.Ordering.{int_eq}
 use Rattle.std.proofs.lemmas.List.{length-map}
 use Rattle.std.proofs.lemmas.List.Elements.{All-head, All-tail, All-cons, All-nil, All-append}
 use Rattle.river_base.specs.Instants.{Timed, at_instant}
-use Rattle.river_base.specs.Bags.{place}
+use Rattle.river_base.specs.Bags.{put_in_order}
 use Rattle.river_base.specs.Held.{HaveWidth}
 use Rattle.river_base.specs.Name.{name_eq}
 use Rattle.river_base.specs.Row.{in_order, row_lt, row_eq}
@@ -34,16 +34,16 @@ pub all-flat_map : {A B : Type 0} (P : B → Type 0) (f : A → List B) (xs : Li
 all-flat_map P f [] h = All-nil P
 all-flat_map P f (x ∷ xs) h = All-append P (f x) (flat_map f xs) (h x) (all-flat_map P f xs h)
 
-all-place : (P : List ℤ → Type 0) (x : List ℤ) (ys : List (List ℤ)) → P x → All P ys → All P (place row_lt x ys)
+all-place : (P : List ℤ → Type 0) (x : List ℤ) (ys : List (List ℤ)) → P x → All P ys → All P (put_in_order row_lt x ys)
 all-place P x [] p h = All-cons P x [] p h
 all-place P x (y ∷ ys) p h = step (row_lt y x) (all-place P x ys p (All-tail P y ys h)) where
-  step : (b : Bool) → All P (place row_lt x ys) → All P (cond b (y ∷ place row_lt x ys) (x ∷ (y ∷ ys)))
-  step true more = All-cons P y (place row_lt x ys) (All-head P y ys h) more
+  step : (b : Bool) → All P (put_in_order row_lt x ys) → All P (cond b (y ∷ put_in_order row_lt x ys) (x ∷ (y ∷ ys)))
+  step true more = All-cons P y (put_in_order row_lt x ys) (All-head P y ys h) more
   step false more = All-cons P x (y ∷ ys) p h
 
-all-from : (P : List ℤ → Type 0) (done xs : List (List ℤ)) → All P done → All P xs → All P (fold (λ d x. place row_lt x d) done xs)
+all-from : (P : List ℤ → Type 0) (done xs : List (List ℤ)) → All P done → All P xs → All P (fold (λ d x. put_in_order row_lt x d) done xs)
 all-from P done [] d h = d
-all-from P done (x ∷ xs) d h = all-from P (place row_lt x done) xs (all-place P x done (All-head P x xs h) d) (All-tail P x xs h)
+all-from P done (x ∷ xs) d h = all-from P (put_in_order row_lt x done) xs (all-place P x done (All-head P x xs h) d) (All-tail P x xs h)
 
 pub all-in_order : (P : List ℤ → Type 0) (xs : List (List ℤ)) → All P xs → All P (in_order xs)
 all-in_order P xs h = all-from P [] xs (All-nil P) h

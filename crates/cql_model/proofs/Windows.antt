@@ -96,7 +96,7 @@ window_rows (Range n unit) t us s r =
     ∙ ap (flat_map s) (filter-same _ (in_reach (Range n unit) t) us (same_range (pos n) t))
 window_rows Unbounded t us s r = rows_where_is (λ u. int_le u t) us s
 window_rows (Latest n) t us s r =
-    ap (λ l. contents.last_of n (rows_where (λ u. int_le u t) l)) (by_instant_is us s r) ∙ ap (contents.last_of n) (rows_where_is (λ u. int_le u t) us s)
+    ap (λ l. contents.last_of_rows n (rows_where (λ u. int_le u t) l)) (by_instant_is us s r) ∙ ap (contents.last_of_rows n) (rows_where_is (λ u. int_le u t) us s)
 
 ascends_front : (us vs : List ℤ) → Ascends (us ++ vs) → Ascends us
 ascends_front [] vs r = tt

@@ -10,7 +10,7 @@ use Rattle.river_plan.specs.Names.{count}
 use Rattle.cql_model.specs.declared.fault.Fault.{Fault}
 use Rattle.cql_model.specs.declared.fault.Fault.TheVariants.{UnknownStream, UnknownField, AmbiguousField, NameTwice, Limit}
 use Rattle.cql_model.specs.declared.fault.Refusal.{Refusal}
-use Rattle.cql_model.specs.Plannable.{has_no_at, declared, AreShallowColumns, IsShallowCondition, IsPlannable, exceeds}
+use Rattle.cql_model.specs.Plannable.{has_no_at, declared_names, AreShallowColumns, IsShallowCondition, IsPlannable, exceeds}
 use Rattle.cql_model.specs.Laws.{known_names}
 use Rattle.cql_text.specs.Tree.{Scalar, Number, Field, ItemField, Neg, Not, Bin, Source, Column, Columns, Star, Chosen, Query, Register, AQuery, Program}
 use Rattle.cql_model.specs.Program.{all_uses}
@@ -142,7 +142,7 @@ abbrev pub IsShortName : Name → Type 0
 IsShortName n = length n ≤ 40
 
 pub record HaveShortNames (p : Program) : Type 0 where
-  pub names : AllByRecursion IsShortName (declared p)
+  pub names : AllByRecursion IsShortName (declared_names p)
   pub uses : AllByRecursion IsShortName (all_uses p)
 
 -- of a program without a fault a plan can be made

@@ -31,7 +31,7 @@ program_means p files = map (spread (instants files)) (answers (instants files) 
 
 -- each of its streams has a batch at each of the instants
 abbrev pub MeansAtInstants : Type 0
-MeansAtInstants = (p : Program) (files : List (List (ℤ × List ℤ))) → AllByRecursion (λ out. AreInstantsOf files (fit.instants out)) (program_means p files)
+MeansAtInstants = (p : Program) (files : List (List (ℤ × List ℤ))) → AllByRecursion (λ out. AreInstantsOf files (fit.instants_in out)) (program_means p files)
 
 -- the inputs of the plan
 abbrev pub inputs_for : List (List (ℤ × List ℤ)) → List (List item.Item)

@@ -15,7 +15,7 @@ use Rattle.river_plan.specs.Limits.{most_of, limits, numbers}
 use Rattle.river_plan.specs.Valid.{IsPlan, FirstFault}
 use Rattle.river_plan.specs.declared.fault.PlanFault.{PlanFault}
 use Rattle.river_plan.specs.declared.fault.PlanFault.TheVariants.{P1, P2, P3, P4, P5, P6, P7, P8, P9, NoMemory}
-use Rattle.river_plan.specs.Faults.{IsOuter, HasWidth, IsTable}
+use Rattle.river_plan.specs.Faults.{IsOuter, HasWidth, IsTableKind}
 use Rattle.river_plan.specs.Kinds.{IsFit}
 use Rattle.river_plan.specs.Uses.{Each, total, writes_it, reads_it, vars_it, named_it, ReadsBefore}
 use Rattle.cql_model.specs.Translation.{widths_of, columns_width, query_named, plan_of}
@@ -25,10 +25,10 @@ abbrev pub has_no_at : Name → Bool
 has_no_at n = list_all (λ b. not (nat_eq b 64)) n
 
 -- the names that are declared, in order
-abbrev pub declared : Program → List Name
-declared [] = []
-declared (Register name fields ∷ ps) = name ∷ declared ps
-declared (AQuery q ∷ ps) = q.name ∷ declared ps
+abbrev pub declared_names : Program → List Name
+declared_names [] = []
+declared_names (Register name fields ∷ ps) = name ∷ declared_names ps
+declared_names (AQuery q ∷ ps) = q.name ∷ declared_names ps
 
 abbrev pub AreShallowColumns : Columns → Type 0
 AreShallowColumns Star = Unit {0}
@@ -54,8 +54,8 @@ AreQueries known (Register name fields ∷ ps) = IsTrue (is_width (length fields
 AreQueries known (AQuery q ∷ ps) = IsPlannableQuery known q × AreQueries (query_named known q ∷ known) ps
 
 pub record IsPlannable (p : Program) : Type 0 where
-  pub names : AllByRecursion (λ n. IsTrue (has_no_at n)) (declared p)
-  pub once : (n : Name) → count n (declared p) ≤ 1
+  pub names : AllByRecursion (λ n. IsTrue (has_no_at n)) (declared_names p)
+  pub once : (n : Name) → count n (declared_names p) ≤ 1
   pub queries : AreQueries [] p
 
 -- no number of a plan is above its limit
@@ -80,7 +80,7 @@ pub record KeepsRules (p : PlanForm) : Type 0 where
   pub outputs_typed : All IsOuter p.outputs
   pub inputs_typed : All IsOuter p.inputs
   pub queues_typed : All HasWidth p.queues
-  pub tables_typed : All (λ t. IsTable t.kind) p.tables
+  pub tables_typed : All (λ t. IsTableKind t.kind) p.tables
   pub fits : Each (IsFit p) p.ops
   pub vars_apart : Each (λ op. (v : Name) → vars_it v op ≤ 1) p.ops
   pub private_once : (v : Name) → 0 < count v p.vars → total (vars_it v) p.ops ≤ 1

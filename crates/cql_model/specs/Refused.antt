@@ -15,7 +15,7 @@ use Rattle.cql_model.specs.Instants.{program_means, inputs_for}
 use Rattle.cql_model.specs.Laws.{AreFiles}
 use Rattle.cql_model.specs.Places.{known_by, Mention, Alone, OfItem, Spot, StreamName, FieldName, QueryName, ItemStream, ItemWindow, ItemName, ColumnStart}
 use Rattle.cql_model.specs.Places.{FieldUse, Place, program_places}
-use Rattle.cql_model.specs.Plannable.{declared, KeepsLimits, IsPlannable}
+use Rattle.cql_model.specs.Plannable.{declared_names, KeepsLimits, IsPlannable}
 use Rattle.cql_model.specs.Program.{registered}
 use Rattle.cql_text.specs.Tree.{Source, Program}
 use Rattle.cql_model.specs.Scopes.{Named, alias_or, scope_of}
@@ -48,14 +48,14 @@ HasBadRows (Latest n) = (n ≡ 0) ⊎ (1000000 < n)
 -- the place, behind these units, has this fault, whichever others it has
 abbrev pub HasFault : Program → Spot → Fault → Type 0
 -- an item names no stream that is declared above
-HasFault before (ItemStream past i) UnknownStream = IsAmong i.stream (declared before) → ⊥
+HasFault before (ItemStream past i) UnknownStream = IsAmong i.stream (declared_names before) → ⊥
 -- a field is in no item that it may mean, or no item is called so
 HasFault before (FieldUse items m) UnknownField = count (field_of m) (meant (scope_of (known_by before) items) m) ≡ 0
 -- a field is found more than once in the items that it may mean
 HasFault before (FieldUse items m) AmbiguousField = 1 < count (field_of m) (meant (scope_of (known_by before) items) m)
 -- a stream or query is declared again, a stream has a field twice, two items have one name
-HasFault before (StreamName n) NameTwice = IsAmong n (declared before)
-HasFault before (QueryName n) NameTwice = IsAmong n (declared before)
+HasFault before (StreamName n) NameTwice = IsAmong n (declared_names before)
+HasFault before (QueryName n) NameTwice = IsAmong n (declared_names before)
 HasFault before (FieldName past f) NameTwice = IsAmong f past
 HasFault before (ItemName past i) NameTwice = IsAmong (called i) (map called past)
 -- more than 8 registered streams, 16 fields, 16 columns or 4 items; a product wider than 16; `Rows` of 0 or above 1,000,000

@@ -151,7 +151,7 @@ sign-no_star k (symbol s.Star) p rest e = absurd (none_some (sym (sign-none k (s
 sign-no_star k (symbol y) p rest e = refl
 
 -- the sign of the first level is a minus
-pub sign_at-minus : (ts : List Tok) → levels.sign_at syntax 0 ts ≡ cond (begins_with s.Minus ts) (Some mark.Minus) None
+pub sign_at-minus : (ts : List Tok) → levels.sign_of_level syntax 0 ts ≡ cond (begins_with s.Minus ts) (Some mark.Minus) None
 sign_at-minus [] = refl
 sign_at-minus (name text ∷ ts) = refl
 sign_at-minus (var text ∷ ts) = refl
@@ -159,7 +159,7 @@ sign_at-minus (number v ∷ ts) = refl
 sign_at-minus (symbol y ∷ ts) = refl
 
 -- the sign of the fifth level is `Not`
-pub sign_at-not : (ts : List Tok) → levels.sign_at syntax 4 ts ≡ cond (is_keyword_at (codes "not") ts) (Some mark.Not) None
+pub sign_at-not : (ts : List Tok) → levels.sign_of_level syntax 4 ts ≡ cond (is_keyword_at (codes "not") ts) (Some mark.Not) None
 sign_at-not [] = refl
 sign_at-not (name text ∷ ts) = refl
 sign_at-not (var text ∷ ts) = refl
@@ -167,7 +167,7 @@ sign_at-not (number v ∷ ts) = refl
 sign_at-not (symbol y ∷ ts) = refl
 
 -- no other level has a sign
-pub sign_at-other : (k : ℕ) (ts : List Tok) → k ≢ 0 → k ≢ 4 → levels.sign_at syntax k ts ≡ None
+pub sign_at-other : (k : ℕ) (ts : List Tok) → k ≢ 0 → k ≢ 4 → levels.sign_of_level syntax k ts ≡ None
 sign_at-other k [] a b = refl
 sign_at-other k (x ∷ ts) a b = sign-other k x a b
 

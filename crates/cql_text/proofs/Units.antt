@@ -12,7 +12,7 @@ use Rattle.text_forms.proofs.Many.{exact-commas}
 use Rattle.cql_text.specs.Tree.{Name, Scalar, Window, Now, Unbounded, Latest, Column, Columns, Star, Chosen, Part}
 use Rattle.text_forms.specs.Levels as levels
 use Rattle.cql_text.specs.Grammar.{kind_named, IsKind, time_named, made_span, IsSpan, IsRange, IsRows, IsWindow, IsAlias, InBrackets, made_source, IsSource}
-use Rattle.cql_text.specs.Grammar.{made_column, IsColumn, IsColumns, InRound, IsWhere, IsBehind, IsSelected, made_query, IsQueryUnit, Fields, made_stream, IsStreamUnit}
+use Rattle.cql_text.specs.Grammar.{made_column, IsColumn, IsColumns, InRound, IsWhere, IsBehindColumns, IsSelected, made_query, IsQueryUnit, Fields, made_stream, IsStreamUnit}
 use Rattle.cql_text.specs.Grammar.{IsPart, IsPartAt}
 use Rattle.cql_text.specs.Reading.{kind_at, is_time, is_time_at, time_at, span_at, range_at, rows_at, window_after, window_at, in_brackets_at, alias_at}
 use Rattle.cql_text.specs.Reading.{is_alias_at, called_at, source_at, sources_at, as_at, column_at, chosen_at, columns_at, in_round_at, where_at, behind_at}
@@ -39,13 +39,13 @@ time-word text u e = by (is_keyword (codes "second") text) (is_keyword (codes "s
   by false true f = refl
   by false false f = cc
 
-time-comes : (u : TimeUnit) (ts rest : List Tok) → form.Known time_named form.Name u ts → is_time_at (ts ++ rest) ≡ true
+time-comes : (u : TimeUnit) (ts rest : List Tok) → form.Known time_named form.NameToken u ts → is_time_at (ts ++ rest) ≡ true
 time-comes u ts rest h = rw h.formed (time-word h.value u h.is)
 
 abbrev pub NoTime : List Tok → Type 0
 NoTime rest = is_time_at rest ≡ false
 
-exact-time : Exact (form.Maybe (form.Known time_named form.Name)) time_at NoTime
+exact-time : Exact (form.Maybe (form.Known time_named form.NameToken)) time_at NoTime
 unfolding time_at
 exact-time = exact-less (exact-maybe is_time_at (exact-known time_named exact-name) time-comes) (λ rest d. (tt, d))
 
@@ -223,7 +223,7 @@ end-follows (Some v) us rest h d =
     let none : (is_keyword (codes "as") w.spelled || is_plain w.spelled) ≡ false = rw (not_as, where-not_plain w.spelled w.same) refl in
     subst (λ (l : List Tok). (is_alias_at (l ++ rest) ≡ false) × (parse.no_comma (l ++ rest) ≡ true)) (sym (h.is ∙ ap (λ (l : List Tok). l ++ symbol s.Semicolon ∷ []) w.is)) (none, refl)
 
-exact-behind : Exact IsBehind behind_at Any
+exact-behind : Exact IsBehindColumns behind_at Any
 unfolding behind_at
 exact-behind = exact-both exact-sources (exact-before (s.Semicolon ∷ []) exact-where (λ rest. (((λ j le. refl), refl), refl))) end-follows
 

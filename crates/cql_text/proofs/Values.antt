@@ -113,7 +113,7 @@ no_word n t ts rest (rule.number m v q) = refl
 no_word n t ts rest (rule.field m f h) = refl
 no_word n t ts rest (rule.of_item m a f g h) = refl
 
-no_sign : (n k : ℕ) (t : Scalar) (ts rest : List Tok) → IsLeaf n t ts → levels.sign_at syntax k (ts ++ rest) ≡ None
+no_sign : (n k : ℕ) (t : Scalar) (ts rest : List Tok) → IsLeaf n t ts → levels.sign_of_level syntax k (ts ++ rest) ≡ None
 no_sign n k t ts rest (rule.number m v q) = sign-none k (number v) refl refl
 no_sign n k t ts rest (rule.field m f h) = sign-none k (name f) refl (rw (plain-not f h) refl)
 no_sign n k t ts rest (rule.of_item m a f g h) = sign-none k (name a) refl (rw (plain-not a g) refl)

@@ -34,7 +34,7 @@ kind_named text =
     else (if is_keyword (codes "rstream") text then Some kind.Rstream else None))
 
 abbrev pub IsKind : Kind → List Tok → Type 0
-IsKind = form.Known kind_named form.Name
+IsKind = form.Known kind_named form.NameToken
 
 -- a unit of time
 abbrev pub time_named : List ℕ → Option TimeUnit
@@ -47,7 +47,7 @@ abbrev pub made_span : ℕ × Option TimeUnit → Window
 made_span v = Range v.0 v.1
 
 abbrev pub IsSpan : Window → List Tok → Type 0
-IsSpan = form.Seen made_span (form.Both Numeral (form.Maybe (form.Known time_named form.Name)))
+IsSpan = form.Seen made_span (form.Both Numeral (form.Maybe (form.Known time_named form.NameToken)))
 
 -- what stands behind "Range"
 abbrev pub IsRange : Window → List Tok → Type 0
@@ -104,15 +104,15 @@ IsWhere = form.Maybe (Keyword (codes "where") (IsScalar 128))
 abbrev pub Behind : Type 0
 Behind = List Source × Option Scalar
 
-abbrev pub IsBehind : Behind → List Tok → Type 0
-IsBehind = form.Both (form.Commas IsSource) (form.Before IsWhere (s.Semicolon ∷ []))
+abbrev pub IsBehindColumns : Behind → List Tok → Type 0
+IsBehindColumns = form.Both (form.Commas IsSource) (form.Before IsWhere (s.Semicolon ∷ []))
 
 -- what stands behind "Select"
 abbrev pub Selected : Type 0
 Selected = Kind × (Columns × Behind)
 
 abbrev pub IsSelected : Selected → List Tok → Type 0
-IsSelected = form.Both IsKind (form.Both InRound (Keyword (codes "from") IsBehind))
+IsSelected = form.Both IsKind (form.Both InRound (Keyword (codes "from") IsBehindColumns))
 
 abbrev pub made_query : Name × Selected → Part
 made_query v = AQuery (record { name = v.0; kind = v.1.0; columns = v.1.1.0; items = v.1.1.1.0; condition = v.1.1.1.1 })

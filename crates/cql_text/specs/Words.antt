@@ -24,7 +24,7 @@ unfoldable pub is_plain : List ℕ → Bool
 is_plain text = is_name text && (is_free [] text && not (list_any (λ word. is_keyword word text) keywords))
 
 abbrev pub Plain : List ℕ → List Tok → Type 0
-Plain = form.Tested is_plain form.Name
+Plain = form.Tested is_plain form.NameToken
 
 unfoldable pub plain_at : Parse (List ℕ)
 plain_at ts = tested is_plain name_at ts

@@ -2,7 +2,7 @@
 ghost use Rattle.std.specs.Prelude.{◌≡◌, ◌||◌, if◌then◌else◌, IsTrue, map};
 ghost use Rattle.std.specs.List.{list_any};
 ghost use Rattle.std.specs.Option.{SomeIff};
-ghost use Rattle.text_forms.specs.Gives.{Gives, Passes};
+ghost use Rattle.text_forms.specs.Gives.{Gives, PassesOver};
 ghost use Rattle.text_forms.specs.Tail.{tail};
 ghost use Rattle.cql_text.specs.Reading.{is_alias_at};
 ghost use Rattle.cql_text.specs.Words.{is_keyword, is_keyword_at, keyword_at, keywords, is_plain, plain_at};
@@ -64,7 +64,7 @@ pub fn takes_keyword(reader: &mut Reader<'_>, word: &[u8]) -> bool
 
 /// Passes over this word, which has to come next.
 pub fn keyword(reader: &mut Reader<'_>, word: &[u8]) -> Result<(), Fault>
-    ensures { Passes result reader.new (keyword_at word.now reader.old) }
+    ensures { PassesOver result reader.new (keyword_at word.now reader.old) }
 {
     if takes_keyword(reader, word) {
         Ok(())

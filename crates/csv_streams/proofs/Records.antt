@@ -10,7 +10,7 @@ use Rattle.csv.specs.declared.parser.State.{State}
 use Rattle.csv.specs.declared.parser.State.TheVariants as st
 use Rattle.csv.specs.declared.reader.Reader.{Reader}
 use Rattle.csv.proofs.ReadFacts.{rows-end, rows-more}
-use Rattle.csv_streams.specs.Records.{csv_records, IsBehind, Reads}
+use Rattle.csv_streams.specs.Records.{csv_records, IsBehind, ReadsRecord}
 
 -- how many bytes a read leaves, and in which state
 abbrev bytes_after : Option Read → ℕ
@@ -128,7 +128,7 @@ all-records text rows s2 ys r none =
 
 -- a reader behind some records reads the next, or there is none
 pub reads-next : (bytes : List ℕ) (recs : List (List (List ℕ))) (a b : Reader (Bor (List ℕ))) (fields : List (List ℕ)) (found : Bool) → IsBehind bytes recs a
-    → ReadRecord (λ s. Some s.now) a b found fields → b.first ≡ true → Reads bytes recs fields b found
+    → ReadRecord (λ s. Some s.now) a b found fields → b.first ≡ true → ReadsRecord bytes recs fields b found
 reads-next bytes recs a b fields true h s first =
     let (z, at_z, more) = rows-more (λ (s : Bor (List ℕ)). Some s.now) a b fields default_config st.StartRecord (strip_bom bytes) h.left recs h.config h.source h.reached s in
     record { trims = s.3 ∙ h.trims; ready = inl first; config = s.2 ∙ h.config; left = z; source = at_z; reached = more }

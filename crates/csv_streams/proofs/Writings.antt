@@ -5,7 +5,7 @@ use Rattle.std.specs.Prelude.{ℤ, pos, neg_ℤ, Option, None, Some, option_and_
 use Rattle.std.specs.List.{list_all}
 use Rattle.std.proofs.lemmas.Bool.Decides.{nat_tests}
 use Rattle.river_base.specs.Name.{is_digit}
-use Rattle.csv_streams.specs.Number.{is_space, after_spaces, digits_of, after_digits, is_nothing, value_after, whole_number, positive, negative, signed, number_in}
+use Rattle.csv_streams.specs.Number.{is_space, after_spaces, digits_of, after_digits, is_nothing, value_after, whole_number, positive, negative, signed_number, number_in}
 use Rattle.csv_streams.specs.Writing.{AllSpaces, AllDigits, IsSigned, Writes}
 
 -- tests of a byte
@@ -147,7 +147,7 @@ minus_by : (c : ℕ) (cs : List ℕ) (z : ℤ) (b : Bool) → (c == 45) ≡ b
 minus_by c cs z true is e = subst (λ (k : ℕ). IsNumber (k ∷ cs) z) (same-byte c 45 is) (minus_is cs z e)
 minus_by c cs z false is e = plus_by c cs z (c == 43) refl e
 
-signed-is : (text : List ℕ) (z : ℤ) → signed text ≡ Some z → IsNumber text z
+signed-is : (text : List ℕ) (z : ℤ) → signed_number text ≡ Some z → IsNumber text z
 signed-is [] z e = cc
 signed-is (c ∷ cs) z e = minus_by c cs z (c == 45) refl e
 
@@ -208,7 +208,7 @@ other-byte : (d k : ℕ) → k < d → (d == k) ≡ false
 other-byte d k lt = grind (arith, nat_tests)
 
 -- no sign: the first byte is a digit
-bare-from : (digits after : List ℕ) → 0 < length digits → AllDigits digits → signed (digits ++ after) ≡ option_and_then positive (whole_number (digits ++ after))
+bare-from : (digits after : List ℕ) → 0 < length digits → AllDigits digits → signed_number (digits ++ after) ≡ option_and_then positive (whole_number (digits ++ after))
 bare-from [] after some all = absurd (omega arith)
 bare-from (d ∷ ds) after some all =
     let minus : (d == 45) ≡ false = other-byte d 45 (omega (arith, all.0)) in
@@ -220,16 +220,16 @@ bare-stays [] after some all = absurd (omega arith)
 bare-stays (d ∷ ds) after some all = let t : is_space d ≡ false = other-byte d 32 (omega (arith, all.0)) in rw t refl
 
 signed-from : (sign digits after : List ℕ) (z : ℤ) → 0 < length digits → AllDigits digits → AllSpaces after → IsSigned sign (value_after 0 digits) z
-    → signed (after_spaces (sign ++ (digits ++ after))) ≡ Some z
+    → signed_number (after_spaces (sign ++ (digits ++ after))) ≡ Some z
 signed-from sign digits after z some all blank (inl minus) =
     rw (minus.0, minus.2) (ap (option_and_then negative) (whole-from digits after some all blank) ∙ negative-from (value_after 0 digits) minus.1)
 signed-from sign digits after z some all blank (inr (inl none, lt, is)) =
-    rw (none, is) (ap signed (bare-stays digits after some all) ∙ bare-from digits after some all ∙ ap (option_and_then positive) (whole-from digits after some all blank) ∙ positive-from (value_after 0 digits) lt)
+    rw (none, is) (ap signed_number (bare-stays digits after some all) ∙ bare-from digits after some all ∙ ap (option_and_then positive) (whole-from digits after some all blank) ∙ positive-from (value_after 0 digits) lt)
 signed-from sign digits after z some all blank (inr (inr plus, lt, is)) =
     rw (plus, is) (ap (option_and_then positive) (whole-from digits after some all blank) ∙ positive-from (value_after 0 digits) lt)
 
 -- a field that writes a value is read as it
 pub written-is_read : (field : List ℕ) (z : ℤ) → Writes field z → number_in field ≡ Some z
 written-is_read field z w =
-    ap number_in w.parts ∙ ap signed (skip-spaces w.before (w.sign ++ (w.digits ++ w.after)) w.blank)
+    ap number_in w.parts ∙ ap signed_number (skip-spaces w.before (w.sign ++ (w.digits ++ w.after)) w.blank)
     ∙ signed-from w.sign w.digits w.after z w.some w.decimal w.blank_after w.value

@@ -48,16 +48,16 @@ abbrev pub negative : ℕ → Option ℤ
 negative n = if nat_le n (2 ^ 63) then Some (neg_ℤ (pos n)) else None
 
 -- the value of a sign, if there is one, and what follows at once
-abbrev pub signed : List ℕ → Option ℤ
-signed [] = None
-signed (c ∷ cs) =
+abbrev pub signed_number : List ℕ → Option ℤ
+signed_number [] = None
+signed_number (c ∷ cs) =
     if c == 45 then option_and_then negative (whole_number cs)
     else if c == 43 then option_and_then positive (whole_number cs)
     else option_and_then positive (whole_number (c ∷ cs))
 
 -- the value of a field
 abbrev pub number_in : List ℕ → Option ℤ
-number_in field = signed (after_spaces field)
+number_in field = signed_number (after_spaces field)
 
 -- a number of 64 bits that stands for it: itself, or the greatest, which is no value either
 abbrev pub capped : ℕ → ℕ

@@ -20,6 +20,6 @@ pub record IsBehind (bytes : List ℕ) (recs : List (List (List ℕ))) (rdr : Re
   pub reached : Reached default_config st.StartRecord (strip_bom bytes) recs rdr.state left
 
 -- behind these records there was another one with these fields, or there was none
-abbrev pub Reads : List ℕ → List (List (List ℕ)) → List (List ℕ) → Reader (Bor (List ℕ)) → Bool → Type 0
-Reads bytes recs fields rdr true = IsBehind bytes (recs ++ fields ∷ []) rdr
-Reads bytes recs fields rdr false = csv_records bytes ≡ recs
+abbrev pub ReadsRecord : List ℕ → List (List (List ℕ)) → List (List ℕ) → Reader (Bor (List ℕ)) → Bool → Type 0
+ReadsRecord bytes recs fields rdr true = IsBehind bytes (recs ++ fields ∷ []) rdr
+ReadsRecord bytes recs fields rdr false = csv_records bytes ≡ recs

@@ -3,7 +3,7 @@ ghost use Rattle.std.specs.Prelude.{◌≡◌, ◌≤◌, ◌<◌, ◌+◌, ℕ,
 ghost use Rattle.csv.specs.Records.{fields_of, field_at};
 ghost use Rattle.csv_streams.specs.Number.{number_in};
 ghost use Rattle.csv_streams.specs.Numbered.{numbered_results};
-ghost use Rattle.csv_streams.specs.Records.{IsBehind, Reads};
+ghost use Rattle.csv_streams.specs.Records.{IsBehind, ReadsRecord};
 ghost use Rattle.csv_streams.specs.Rows.{value_or, value_of_field, has_width, row_in, headers};
 ghost use Rattle.csv_streams.specs.declared.fault.InFault.TheVariants as fault;
 
@@ -28,7 +28,7 @@ pub fn reader_of(alloc: Global, bytes: &Bytes) -> Reader<&[u8]>
 /// Reads the next record, if there is one; a reader of bytes fails for want of memory alone.
 pub fn read_record(rdr: &mut Reader<&[u8]>, raw: &mut ByteRecord) -> Result<bool, InFault>
     requires { (bytes : List ℕ) × (recs : List (List (List ℕ))) × IsBehind bytes recs rdr.old }
-    ensures ok { IfOk result (λ found. (bytes : List ℕ) (recs : _) → IsBehind bytes recs rdr.old → Reads bytes recs (fields_of raw.new) rdr.new found) }
+    ensures ok { IfOk result (λ found. (bytes : List ℕ) (recs : _) → IsBehind bytes recs rdr.old → ReadsRecord bytes recs (fields_of raw.new) rdr.new found) }
     ensures fault { IfErr result (λ f. f ≡ fault.NoMemory) }
 {
     match rdr.read_byte_record(raw) {

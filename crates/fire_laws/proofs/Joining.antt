@@ -33,7 +33,7 @@ use Rattle.brooklet_model.proofs.Traces.{some_is, read_of, got_read, got_count, 
 use Rattle.brooklet_model.proofs.TypedPlan.{op_fits, inputs_typed}
 use Rattle.brooklet_step.specs.Given.{held_at, held_by, IsHeldBy, IsHeldOf}
 use Rattle.brooklet_step.proofs.GivenLemmas.{at-nil, at-length, ran_typed, first_is_start}
-use Rattle.fire_tasks.specs.Fired.{Seen, bad_at, IsBad, IsHeldAs, kinds_in, kinds_out, HasFired}
+use Rattle.fire_tasks.specs.Fired.{SeenTask, bad_at, IsBad, IsHeldAs, kinds_in, kinds_out, HasFired}
 use Rattle.brooklet_step.proofs.Edges.{inputs_held, inputs_may}
 use Rattle.fire_laws.specs.Joins.{TasksJoin, Joins, AreBeside, lists_by_name, kept_by, taken_by, bounded}
 use Rattle.fire_laws.proofs.HeldWords.{held_front, held_fewer, all_left, all_mid, relabel, relabel_ports, relabel_at, typed_ports, below_same, nothing_beyond, no_list, found}
@@ -97,7 +97,7 @@ none_behind (suc n) [] le = refl
 none_behind zero (x ∷ xs) le = absurd (omega (arith, le))
 none_behind (suc n) (x ∷ xs) le = none_behind n xs (omega (arith, le))
 
-module _ (p : PlanForm) (inputs : List (List item.Item)) (caps : Capacities) (adds : ℕ → ℕ → List (List ℤ)) (ts : ℕ → Seen) (left : History) (is : ℕ → Word) (v : IsPlan p) (typed : AreInputs p.inputs inputs)
+module _ (p : PlanForm) (inputs : List (List item.Item)) (caps : Capacities) (adds : ℕ → ℕ → List (List ℤ)) (ts : ℕ → SeenTask) (left : History) (is : ℕ → Word) (v : IsPlan p) (typed : AreInputs p.inputs inputs)
     (fired : (o : ℕ) (op : OpForm) → slice_get p.ops o ≡ Some op → HasFired p op (adds o) (ts o) (is o)) (beside : AreBeside p inputs caps ts left) where
   abbrev kind : Name → QueueType
   kind = kind_of (all_decls p)

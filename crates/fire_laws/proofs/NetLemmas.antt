@@ -14,7 +14,7 @@ use Rattle.brooklet_model.specs.Typed.{AreInputs}
 use Rattle.brooklet_model.specs.Words.{Word, at_port}
 use Rattle.brooklet_model.proofs.Ports.{got_below}
 use Rattle.brooklet_model.proofs.Traces.{some_is}
-use Rattle.fire_tasks.specs.Fired.{Seen, HasFired, bad_at, ports_of}
+use Rattle.fire_tasks.specs.Fired.{SeenTask, HasFired, bad_at, ports_of}
 use Rattle.fire_laws.specs.Facts.{SettledIsNet}
 use Rattle.fire_laws.specs.Joins.{Joins, AreBeside, lists_by_name}
 use Rattle.brooklet_model.proofs.BoundedMoves.{reader_of}
@@ -25,9 +25,9 @@ use Rattle.fire_tasks.specs.declared.ports.Inlet.TheVariants.{Ring as TakesFrom,
 use Rattle.fire_tasks.specs.declared.ports.Outlet as outlet
 use Rattle.fire_tasks.specs.declared.ports.Outlet.TheVariants.{Ring as SendsTo, Kept as Stored}
 use Rattle.fire_tasks.specs.declared.task.Task.{Task}
-use Rattle.fire_laws.specs.Layout.{IsLink, IsSettled, IsInput, Ends, AreLaid, AreTasks, AreSettled, known_at, known_in, sent_at, left_in, seen_at, MakeNet}
+use Rattle.fire_laws.specs.Layout.{IsLink, IsSettled, IsInput, HasEnds, AreLaid, AreTasks, AreSettled, known_at, known_in, sent_at, left_in, seen_at, MakeNet}
 use Rattle.fire_tasks.specs.Ports.{received_of, received_in, known_of, sent_of, sent_in}
-use Rattle.fire_tasks.specs.Tasks.{IsTask, StatesStand, seen}
+use Rattle.fire_tasks.specs.Tasks.{IsTask, StatesStand, seen_task}
 
 -- something is there below the length
 pub there_is : {A : Type 0} (xs : List A) (i : ℕ) → i < length xs → (x : A) × (slice_get xs i ≡ Some x)
@@ -53,9 +53,9 @@ known_here (x ∷ ins) zero i g = let e : x ≡ i = cc g in ap known_of e
 known_here (x ∷ ins) (suc port) i g = known_here ins port i g
 
 -- what is seen of the task of an operator
-pub seen_here : (ts : List Task) (o : ℕ) (t : Task) → slice_get ts o ≡ Some t → seen_at ts o ≡ seen t
+pub seen_here : (ts : List Task) (o : ℕ) (t : Task) → slice_get ts o ≡ Some t → seen_at ts o ≡ seen_task t
 seen_here [] o t g = absurd (cc g)
-seen_here (x ∷ ts) zero t g = let e : x ≡ t = cc g in ap seen e
+seen_here (x ∷ ts) zero t g = let e : x ≡ t = cc g in ap seen_task e
 seen_here (x ∷ ts) (suc o) t g = seen_here ts o t g
 
 pub known_there : (ts : List Task) (o port : ℕ) (t : Task) → slice_get ts o ≡ Some t → known_in ts o port ≡ known_at t.ins port
@@ -80,7 +80,7 @@ record Works (p : PlanForm) (adds : ℕ → ℕ → List (List ℤ)) (t : Task) 
   op_is : slice_get p.ops t.op ≡ Some op
   ins : length t.ins ≡ length op.reads
   outs : length t.outs ≡ length op.writes
-  fired : HasFired p op (adds t.op) (seen t) w
+  fired : HasFired p op (adds t.op) (seen_task t) w
   stands : StatesStand p op t w
   count : t.count ≡ min most_firings (length w)
 
@@ -133,7 +133,7 @@ module _ (p : PlanForm) (inputs : List (List item.Item)) (caps : Capacities) (ad
     pub there : slice_get ts o ≡ Some t
     pub ins : length t.ins ≡ length op.reads
     pub outs : length t.outs ≡ length op.writes
-    pub fired : HasFired p op (adds o) (seen t) (word_at p adds ts tasks.each o)
+    pub fired : HasFired p op (adds o) (seen_task t) (word_at p adds ts tasks.each o)
     pub stands : StatesStand p op t (word_at p adds ts tasks.each o)
     pub count : t.count ≡ min most_firings (length (word_at p adds ts tasks.each o))
 
@@ -143,7 +143,7 @@ module _ (p : PlanForm) (inputs : List (List item.Item)) (caps : Capacities) (ad
       let w = works_at p adds ts tasks.each o t gt in
       let n = laid.numbers o t gt in
       let e : w.op ≡ op = some_is w.op op (sym w.op_is ∙ ap (slice_get p.ops) n ∙ g) in
-      subst (λ (y : OpForm). At o y t) e (record { there = gt; ins = w.ins; outs = w.outs; fired = subst (λ i. HasFired p w.op (adds i) (seen t) (word_at p adds ts tasks.each o)) n w.fired; stands = w.stands; count = w.count })
+      subst (λ (y : OpForm). At o y t) e (record { there = gt; ins = w.ins; outs = w.outs; fired = subst (λ i. HasFired p w.op (adds i) (seen_task t) (word_at p adds ts tasks.each o)) n w.fired; stands = w.stands; count = w.count })
 
   fired : (o : ℕ) (op : OpForm) → slice_get p.ops o ≡ Some op → HasFired p op (adds o) (seen_at ts o) (words o)
   fired o op g =
@@ -175,7 +175,7 @@ module _ (p : PlanForm) (inputs : List (List item.Item)) (caps : Capacities) (ad
 
   pub ends : (o o' port j : ℕ) (op op' : OpForm) (q : Name) (t t' : Task) (f : outlet.Outlet) (i : inlet.Inlet) → slice_get p.ops o ≡ Some op
       → slice_get op.reads port ≡ Some q → slice_get p.ops o' ≡ Some op' → slice_get op'.writes j ≡ Some q
-      → slice_get ts o ≡ Some t → slice_get ts o' ≡ Some t' → slice_get t.ins port ≡ Some i → slice_get t'.outs j ≡ Some f → Ends p ts o o' port j q f i
+      → slice_get ts o ≡ Some t → slice_get ts o' ≡ Some t' → slice_get t.ins port ≡ Some i → slice_get t'.outs j ≡ Some f → HasEnds p ts o o' port j q f i
   ends o o' port j op op' q t t' f i g r g' r' gt gt' gi gf = record { op = op; op' = op'; op_is = g; reads = r; op_is' = g'; writes = r'; t = t; t' = t'; t_is = gt; t_is' = gt'; in_is = gi; out_is = gf }
 
   -- what the rings tell of these tasks
@@ -186,15 +186,15 @@ module _ (p : PlanForm) (inputs : List (List item.Item)) (caps : Capacities) (ad
         let t' = task_of o' op' g' in
         let i = inlet_of o port op q t.0 g r t.1 in
         let f = outlet_of o' j op' q t'.0 g' r' t'.1 in
-        ap (λ (s : Seen). list_at s.received port ++ left q) (seen_here ts o t.0 t.1)
+        ap (λ (s : SeenTask). list_at s.received port ++ left q) (seen_here ts o t.0 t.1)
         ∙ ap (λ l. l ++ left q) (received_here t.0.ins port i.0 i.1)
         ∙ ap (λ l. received_of i.0 ++ l) (left_read o port op q t.0 i.0 g r t.1 i.1)
         ∙ settled_ring f.0 i.0 (settled.each o o' port j q f.0 i.0 (ends o o' port j op op' q t.0 t'.0 f.0 i.0 g r g' r' t.1 t'.1 i.1 f.1))
-        ∙ sym (ap (λ (s : Seen). list_at s.sent j) (seen_here ts o' t'.0 t'.1) ∙ sent_here t'.0.outs j f.0 f.1);
+        ∙ sym (ap (λ (s : SeenTask). list_at s.sent j) (seen_here ts o' t'.0 t'.1) ∙ sent_here t'.0.outs j f.0 f.1);
     input = λ o op port q g r z.
         let t = task_of o op g in
         let i = inlet_of o port op q t.0 g r t.1 in
-        ap (λ (s : Seen). list_at s.received port ++ left q) (seen_here ts o t.0 t.1)
+        ap (λ (s : SeenTask). list_at s.received port ++ left q) (seen_here ts o t.0 t.1)
         ∙ ap (λ l. l ++ left q) (received_here t.0.ins port i.0 i.1)
         ∙ ap (λ l. received_of i.0 ++ l) (left_read o port op q t.0 i.0 g r t.1 i.1)
         ∙ kept_input (given_to p inputs q) i.0 (laid.inputs_are o port op q t.0 i.0 g r z t.1 i.1);
@@ -205,7 +205,7 @@ module _ (p : PlanForm) (inputs : List (List item.Item)) (caps : Capacities) (ad
         left_unread q z
         ∙ lists_at op'.writes (sent_at ts o') base
         (subst (λ n. Lists op'.writes (sent_at ts n) base) y (spread_lists (λ a. a.writes) (sent_at ts) p.ops 0 (given_to p inputs) (λ n. let w = v.written_once n in omega (arith, w)) o' op' g')) j q r'
-        ∙ sent_there ts o' j t'.0 t'.1 ∙ sym (ap (λ (s : Seen). list_at s.sent j) (seen_here ts o' t'.0 t'.1));
+        ∙ sent_there ts o' j t'.0 t'.1 ∙ sym (ap (λ (s : SeenTask). list_at s.sent j) (seen_here ts o' t'.0 t'.1));
     unused = λ q z zw. left_unread q z ∙ spread_out (λ a. a.writes) (sent_at ts) p.ops 0 (given_to p inputs) q zw;
     within = λ q lw lr.
         let w = writer_of p.ops q lw in
@@ -244,7 +244,7 @@ module _ (p : PlanForm) (inputs : List (List item.Item)) (caps : Capacities) (ad
   received_by typed o op t g gt port =
       let a = at_op o op t g gt in
       let none_bad = (joins_by typed).none_bad o op g in
-      let fine : t.bad ≡ None = ap (λ (s : Seen). s.bad) (sym (seen_here ts o t gt)) ∙ none_bad in
+      let fine : t.bad ≡ None = ap (λ (s : SeenTask). s.bad) (sym (seen_here ts o t gt)) ∙ none_bad in
       a.fired.received port ∙ ap (λ x. at_port port (words o) ++ bad_at port x) fine ∙ append-nil (at_port port (words o))
 
 -- settled tasks are a net: the law

@@ -22,7 +22,7 @@ use Rattle.fire_tasks.specs.declared.ports.Outlet as outlet
 use Rattle.fire_tasks.specs.declared.task.Task.{Task}
 use Rattle.fire_laws.specs.Facts.{NumbersAreFew}
 use Rattle.fire_tasks.specs.Ports.{received_in, received_count, sent_in, sent_count}
-use Rattle.fire_tasks.specs.Tasks.{all_moves, seen}
+use Rattle.fire_tasks.specs.Tasks.{all_moves, seen_task}
 use Rattle.fire_laws.proofs.NetLemmas.{joins_by, word_at, at_op, received_by, there_is}
 
 -- as long as all that came at its ports together
@@ -95,9 +95,9 @@ numbers_law p inputs caps adds ts v laid tasks settled typed =
     let m = laid.many in
     let t = there_is ts o (let l = got_below p.ops o op g in omega (arith, l, m)) in
     let a = at_op p inputs caps adds ts v laid tasks settled o op t.0 g t.1 in
-    let c = sent_counts t.0.outs op.writes (ran op (words o)).outs (list_at (seen t.0).pending) a.outs (λ j lj.
+    let c = sent_counts t.0.outs op.writes (ran op (words o)).outs (list_at (seen_task t.0).pending) a.outs (λ j lj.
     let e = ap length ((a.fired.given (words o) (n.typed o op g) (n.held o op g)).outs j lj) in
-    let l = length-append (list_at (seen t.0).sent j) (list_at (seen t.0).pending j) in
+    let l = length-append (list_at (seen_task t.0).sent j) (list_at (seen_task t.0).pending j) in
     let h = at-length (kinds_out p op) j [] ((ran op (words o)).outs j) in
     omega (arith, e, l, h)) in
     let d = sent_by_is ts o t.0 t.1 in

@@ -14,10 +14,10 @@ use Rattle.brooklet_model.specs.Received.{hist_by, rows_added}
 use Rattle.brooklet_model.specs.Traced.{ran}
 use Rattle.brooklet_model.specs.Typed.{AreInputs, IsWordOf}
 use Rattle.brooklet_model.specs.Words.{Word, at_port}
-use Rattle.fire_tasks.specs.Fired.{Seen, kinds_in, IsHeldAs, HasFired}
+use Rattle.fire_tasks.specs.Fired.{SeenTask, kinds_in, IsHeldAs, HasFired}
 
 -- what the rings tell, and the kept lists: `left` is what lies in each queue
-pub record AreBeside (p : PlanForm) (inputs : List (List item.Item)) (caps : Capacities) (ts : ℕ → Seen) (left : History) : Type 0 where
+pub record AreBeside (p : PlanForm) (inputs : List (List item.Item)) (caps : Capacities) (ts : ℕ → SeenTask) (left : History) : Type 0 where
   -- a queue with a writer and a reader: received, then what is left, is sent
   pub inner : (o o' : ℕ) (op op' : OpForm) (port j : ℕ) (q : Name) → slice_get p.ops o ≡ Some op → slice_get op.reads port ≡ Some q
       → slice_get p.ops o' ≡ Some op' → slice_get op'.writes j ≡ Some q
@@ -58,7 +58,7 @@ bounded p inputs left ws = record {
 
 -- The join: from what each task keeps of itself, and what the rings tell, there is a word for each operator that its items stand
 -- for; no item failed its test; and the tasks make a net, with the numbers that they have.
-pub record Joins (p : PlanForm) (inputs : List (List item.Item)) (caps : Capacities) (ts : ℕ → Seen) (left : History) (is : ℕ → Word) : Type 0 where
+pub record Joins (p : PlanForm) (inputs : List (List item.Item)) (caps : Capacities) (ts : ℕ → SeenTask) (left : History) (is : ℕ → Word) : Type 0 where
   pub words : ℕ → Word
   pub none_bad : (o : ℕ) (op : OpForm) → slice_get p.ops o ≡ Some op → (ts o).bad ≡ None
   pub typed : (o : ℕ) (op : OpForm) → slice_get p.ops o ≡ Some op → IsWordOf (kinds_in p op) (words o)
@@ -75,7 +75,7 @@ pub record Joins (p : PlanForm) (inputs : List (List item.Item)) (caps : Capacit
 -- Tasks join: whatever facts they keep of themselves alone, once the rings tell what lies between them.
 abbrev pub TasksJoin : Type 0
 TasksJoin =
-    (p : PlanForm) (inputs : List (List item.Item)) (caps : Capacities) (adds : ℕ → ℕ → List (List ℤ)) (ts : ℕ → Seen) (left : History) (is : ℕ → Word)
+    (p : PlanForm) (inputs : List (List item.Item)) (caps : Capacities) (adds : ℕ → ℕ → List (List ℤ)) (ts : ℕ → SeenTask) (left : History) (is : ℕ → Word)
     → IsPlan p → AreInputs p.inputs inputs
     → ((o : ℕ) (op : OpForm) → slice_get p.ops o ≡ Some op → HasFired p op (adds o) (ts o) (is o))
     → AreBeside p inputs caps ts left → Joins p inputs caps ts left is

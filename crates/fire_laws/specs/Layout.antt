@@ -10,14 +10,14 @@ use Rattle.brooklet_model.specs.Histories.{History, most_firings}
 use Rattle.brooklet_model.specs.Laws.{given_to}
 use Rattle.brooklet_model.specs.Words.{Word}
 use Rattle.brooklet_step.specs.Given.{StandsAfter}
-use Rattle.fire_tasks.specs.Fired.{Seen, Gave, kinds_in}
+use Rattle.fire_tasks.specs.Fired.{SeenTask, Gave, kinds_in}
 use Rattle.fire_tasks.specs.declared.ports.Inlet as inlet
 use Rattle.fire_tasks.specs.declared.ports.Inlet.TheVariants.{Ring as TakesFrom, Kept as Given}
 use Rattle.fire_tasks.specs.declared.ports.Outlet as outlet
 use Rattle.fire_tasks.specs.declared.ports.Outlet.TheVariants.{Ring as SendsTo, Kept as Stored}
 use Rattle.fire_tasks.specs.declared.task.Task.{Task}
 use Rattle.fire_tasks.specs.Ports.{known_of}
-use Rattle.fire_tasks.specs.Tasks.{IsTask, seen}
+use Rattle.fire_tasks.specs.Tasks.{IsTask, seen_task}
 use Rattle.fire_laws.specs.Joins.{Joins, lists_by_name}
 
 -- the two ends of one ring of this capacity
@@ -43,7 +43,7 @@ IsStored (SendsTo f) = ⊥
 IsStored (Stored xs) = Unit {0}
 
 -- one operator's port writes what another's reads, and these are the ends there
-pub record Ends (p : PlanForm) (ts : List Task) (o o' port j : ℕ) (q : Name) (f : outlet.Outlet) (i : inlet.Inlet) : Type 0 where
+pub record HasEnds (p : PlanForm) (ts : List Task) (o o' port j : ℕ) (q : Name) (f : outlet.Outlet) (i : inlet.Inlet) : Type 0 where
   pub op : OpForm
   pub op' : OpForm
   pub op_is : slice_get p.ops o ≡ Some op
@@ -62,7 +62,7 @@ pub record Ends (p : PlanForm) (ts : List Task) (o o' port j : ℕ) (q : Name) (
 pub record AreLaid (p : PlanForm) (inputs : List (List item.Item)) (caps : Capacities) (ts : List Task) : Type 0 where
   pub many : length ts ≡ length p.ops
   pub numbers : (o : ℕ) (t : Task) → slice_get ts o ≡ Some t → t.op ≡ o
-  pub rings : (o o' port j : ℕ) (q : Name) (f : outlet.Outlet) (i : inlet.Inlet) → Ends p ts o o' port j q f i → IsLink (caps q) f i
+  pub rings : (o o' port j : ℕ) (q : Name) (f : outlet.Outlet) (i : inlet.Inlet) → HasEnds p ts o o' port j q f i → IsLink (caps q) f i
   pub inputs_are : (o port : ℕ) (op : OpForm) (q : Name) (t : Task) (i : inlet.Inlet) → slice_get p.ops o ≡ Some op → slice_get op.reads port ≡ Some q
       → total (writes_it q) p.ops ≡ 0
       → slice_get ts o ≡ Some t → slice_get t.ins port ≡ Some i → IsInput (given_to p inputs q) i
@@ -76,7 +76,7 @@ pub record AreTasks (p : PlanForm) (adds : ℕ → ℕ → List (List ℤ)) (ts 
 
 -- all rings are settled
 pub record AreSettled (p : PlanForm) (ts : List Task) : Type 0 where
-  pub each : (o o' port j : ℕ) (q : Name) (f : outlet.Outlet) (i : inlet.Inlet) → Ends p ts o o' port j q f i → IsSettled f i
+  pub each : (o o' port j : ℕ) (q : Name) (f : outlet.Outlet) (i : inlet.Inlet) → HasEnds p ts o o' port j q f i → IsSettled f i
 
 abbrev pub known_at : List inlet.Inlet → ℕ → List item.Item
 known_at [] port = []
@@ -90,26 +90,26 @@ known_in (t ∷ ts) (suc o) port = known_in ts o port
 
 abbrev pub sent_at : List Task → ℕ → ℕ → List item.Item
 sent_at [] o j = []
-sent_at (t ∷ ts) zero j = list_at (seen t).sent j
+sent_at (t ∷ ts) zero j = list_at (seen_task t).sent j
 sent_at (t ∷ ts) (suc o) j = sent_at ts o j
 
 -- what lies in each queue: at its reader, or all that was sent or given where nobody reads
 abbrev pub left_in : PlanForm → List (List item.Item) → List Task → History
 left_in p inputs ts = lists_by_name (λ op. op.reads) (known_in ts) 0 p.ops (lists_by_name (λ op. op.writes) (sent_at ts) 0 p.ops (given_to p inputs))
 
-abbrev pub nobody : Seen
+abbrev pub nobody : SeenTask
 nobody = record { received = []; sent = []; pending = []; bad = None }
 
-abbrev pub seen_at : List Task → ℕ → Seen
+abbrev pub seen_at : List Task → ℕ → SeenTask
 seen_at [] o = nobody
-seen_at (t ∷ ts) zero = seen t
+seen_at (t ∷ ts) zero = seen_task t
 seen_at (t ∷ ts) (suc o) = seen_at ts o
 
 -- the tasks are a net: what each took stands for a word of its operator, by which it gave what is defined
 pub record MakeNet (p : PlanForm) (inputs : List (List item.Item)) (caps : Capacities) (adds : ℕ → ℕ → List (List ℤ)) (ts : List Task) : Type 0 where
   pub items : ℕ → Word
   pub joins : Joins p inputs caps (seen_at ts) (left_in p inputs ts) items
-  pub gave : (o : ℕ) (op : OpForm) (t : Task) → slice_get p.ops o ≡ Some op → slice_get ts o ≡ Some t → Gave p op (adds o) (seen t) (joins.words o)
+  pub gave : (o : ℕ) (op : OpForm) (t : Task) → slice_get p.ops o ≡ Some op → slice_get ts o ≡ Some t → Gave p op (adds o) (seen_task t) (joins.words o)
   pub stands : (o : ℕ) (op : OpForm) (t : Task) → slice_get p.ops o ≡ Some op → slice_get ts o ≡ Some t
       → StandsAfter op.kernel (kinds_in p op) (first_kept op.kernel) t.states (joins.words o)
   pub counts : (o : ℕ) (op : OpForm) (t : Task) → slice_get p.ops o ≡ Some op → slice_get ts o ≡ Some t → t.count ≡ min most_firings (length (joins.words o))

@@ -15,7 +15,7 @@ use Rattle.fire_tasks.specs.declared.ports.Outlet as outlet
 use Rattle.fire_tasks.specs.declared.ports.Outlet.TheVariants.{Ring as SendsTo, Kept as Stored}
 use Rattle.fire_open.specs.declared.settling.Link.{Link}
 use Rattle.fire_tasks.specs.declared.task.Task.{Task}
-use Rattle.fire_laws.specs.Layout.{IsStored, AreLaid, AreTasks, AreSettled, Ends}
+use Rattle.fire_laws.specs.Layout.{IsStored, AreLaid, AreTasks, AreSettled, HasEnds}
 use Rattle.fire_tasks.specs.Ports.{in_end, out_end}
 use Rattle.fire_tasks.specs.Tasks.{TaskEnds, IsTask, ends_of, all_ends}
 use Rattle.fire_laws.proofs.NetLemmas.{there_is}
@@ -112,7 +112,7 @@ task_at p inputs caps adds ts laid tasks o op g =
     record { t = x.0; t_is = x.1; ins = k.ins ∙ ap (λ (y : OpForm). length y.reads) e; outs = k.outs ∙ ap (λ (y : OpForm). length y.writes) e }
 
 pub ends_of_link : (p : PlanForm) (inputs : List (List item.Item)) (caps : Capacities) (adds : ℕ → ℕ → List (List ℤ)) (ts : List Task) (l : Link)
-    (k : IsLinkOf p l) (f : outlet.Outlet) (i : inlet.Inlet) → LinkEnds ts l f i → Ends p ts l.reader l.writer l.port l.out k.queue f i
+    (k : IsLinkOf p l) (f : outlet.Outlet) (i : inlet.Inlet) → LinkEnds ts l f i → HasEnds p ts l.reader l.writer l.port l.out k.queue f i
 ends_of_link p inputs caps adds ts l k f i x = record { op = k.read; op' = k.write; op_is = k.read_is; reads = k.reads; op_is' = k.write_is; writes = k.writes; t = x.t; t' = x.t'; t_is = x.t_is; t_is' = x.t_is'; in_is = x.in_is; out_is = x.out_is }
 
 pub paired_link : (p : PlanForm) (inputs : List (List item.Item)) (caps : Capacities) (adds : ℕ → ℕ → List (List ℤ)) (ts : List Task) → IsPlan p

@@ -10,13 +10,13 @@ use Rattle.brooklet_model.specs.Fire.{first_kept}
 use Rattle.brooklet_step.specs.Given.{FitState, StandsAfter}
 use Rattle.brooklet_step.specs.Took.{IsBlank}
 use Rattle.brooklet_model.proofs.BoundedMoves.{reader_behind}
-use Rattle.fire_tasks.specs.Fired.{Seen, HasFired, kinds_in}
+use Rattle.fire_tasks.specs.Fired.{SeenTask, HasFired, kinds_in}
 use Rattle.fire_tasks.specs.declared.ports.Inlet as inlet
 use Rattle.fire_tasks.specs.declared.ports.Outlet as outlet
 use Rattle.fire_open.specs.declared.settling.Link.{Link}
 use Rattle.fire_tasks.specs.declared.task.Task.{Task}
 use Rattle.fire_tasks.specs.Ports.{received_of, received_count, sent_of, sent_count}
-use Rattle.fire_tasks.specs.Tasks.{IsTask, all_moves, seen}
+use Rattle.fire_tasks.specs.Tasks.{IsTask, all_moves, seen_task}
 use Rattle.fire_tasks.specs.Adds.{AreHomes}
 use Rattle.fire_laws.proofs.NetLemmas.{there_is}
 use Rattle.fire_open.specs.Fresh.{AreFresh}
@@ -30,7 +30,7 @@ use Rattle.fire_open.proofs.RingLemmas.{bodies_unmoved}
 pub body_task : (p : PlanForm) (adds : ℕ → List (List ℤ)) (t t' : Task) → body t' ≡ body t → IsTask p adds t → IsTask p adds t'
 body_task p adds t t' e k =
     let o : t'.op ≡ t.op = ap (λ (s : TaskBody). s.op) e in
-    let s : seen t' ≡ seen t = ap (λ (x : TaskBody). x.seen) e in
+    let s : seen_task t' ≡ seen_task t = ap (λ (x : TaskBody). x.seen) e in
     let ks : t'.kinds ≡ t.kinds = ap (λ (x : TaskBody). x.kinds) e in
     let st : t'.states ≡ t.states = ap (λ (x : TaskBody). x.states) e in
     let pe : t'.pending ≡ t.pending = ap (λ (x : TaskBody). x.pending) e in
@@ -41,9 +41,9 @@ body_task p adds t t' e k =
     record {
       op = k.op;
       op_is = ap (slice_get p.ops) o ∙ k.op_is;
-      ins = map_long received_of t'.ins t.ins (ap (λ (x : Seen). x.received) s) ∙ k.ins;
+      ins = map_long received_of t'.ins t.ins (ap (λ (x : SeenTask). x.received) s) ∙ k.ins;
       kinds = ks ∙ k.kinds;
-      outs = map_long sent_of t'.outs t.outs (ap (λ (x : Seen). x.sent) s) ∙ k.outs;
+      outs = map_long sent_of t'.outs t.outs (ap (λ (x : SeenTask). x.sent) s) ∙ k.outs;
       pending = ap length pe ∙ k.pending;
       blank = subst (IsBlank k.op.kernel) (sym ou) k.blank;
       homes = subst (λ c. AreHomes p t'.op t'.tables c) (sym cl) (subst (λ a. AreHomes p t'.op a t.classes) (sym ta) (subst (λ i. AreHomes p i t.tables t.classes) (sym o) k.homes));

@@ -7,7 +7,7 @@ use Rattle.river_plan.specs.Forms.{PlanForm}
 use Rattle.brooklet_model.specs.Fire.{first_kept}
 use Rattle.brooklet_step.specs.Given.{FitState, StandsAfter}
 use Rattle.brooklet_step.specs.Took.{IsBlank}
-use Rattle.fire_tasks.specs.Fired.{Seen, HasFired, kinds_in}
+use Rattle.fire_tasks.specs.Fired.{SeenTask, HasFired, kinds_in}
 use Rattle.fire_tasks.specs.declared.task.Task.{Task}
 use Rattle.fire_tasks.specs.declared.ports.Inlet as inlet
 use Rattle.fire_tasks.specs.declared.ports.Inlet.TheVariants.{Ring as TakesFrom, Kept as Given}
@@ -17,7 +17,7 @@ use Rattle.fire_tasks.specs.Ports.{in_end, out_end, in_ends, out_ends, sent_in, 
 use Rattle.river_rings.specs.Ends.{RingId}
 use Rattle.fire_laws.specs.Layout.{IsLink, IsPair, IsInput, AreTasks}
 use Rattle.fire_tasks.specs.Adds.{AreHomes}
-use Rattle.fire_tasks.specs.Tasks.{TaskEnds, IsTask, ends_of, all_ends, moves, all_moves, seen}
+use Rattle.fire_tasks.specs.Tasks.{TaskEnds, IsTask, ends_of, all_ends, moves, all_moves, seen_task}
 use Rattle.fire_tasks.proofs.PortLemmas.{count_same}
 use Rattle.fire_open.specs.Still.{Still, still}
 use Rattle.fire_open.proofs.Lists.{same_got, map_through, map_long}
@@ -28,7 +28,7 @@ still_task p adds t t' e k =
     let o : t'.op ≡ t.op = ap (λ (s : TaskEnds). s.op) es in
     let i : in_ends t'.ins ≡ in_ends t.ins = ap (λ (s : TaskEnds). s.ins) es in
     let u : out_ends t'.outs ≡ out_ends t.outs = ap (λ (s : TaskEnds). s.outs) es in
-    let s : seen t' ≡ seen t = ap (λ (x : Still). x.seen) e in
+    let s : seen_task t' ≡ seen_task t = ap (λ (x : Still). x.seen) e in
     let ks : t'.kinds ≡ t.kinds = ap (λ (x : Still). x.kinds) e in
     let st : t'.states ≡ t.states = ap (λ (x : Still). x.states) e in
     let pe : t'.pending ≡ t.pending = ap (λ (x : Still). x.pending) e in
@@ -79,9 +79,9 @@ sent_same (x ∷ xs) (y ∷ ys) e =
 
 pub still_moves : (t t' : Task) → still t' ≡ still t → moves t' ≡ moves t
 still_moves t t' e =
-    let s : seen t' ≡ seen t = ap (λ (x : Still). x.seen) e in
-    let a = count_same t'.ins t.ins (ap (λ (x : Seen). x.received) s) in
-    let b = sent_same t'.outs t.outs (ap (λ (x : Seen). x.sent) s) in
+    let s : seen_task t' ≡ seen_task t = ap (λ (x : Still). x.seen) e in
+    let a = count_same t'.ins t.ins (ap (λ (x : SeenTask). x.received) s) in
+    let b = sent_same t'.outs t.outs (ap (λ (x : SeenTask). x.sent) s) in
     omega (arith, a, b)
 
 -- tasks that are still have the same number of moves

@@ -6,7 +6,7 @@ use Rattle.river_base.specs.Places.{list_at}
 use Rattle.river_plan.specs.ByPlace.{kind_at}
 use Rattle.river_plan.specs.Forms.{OpForm, PlanForm}
 use Rattle.river_plan.specs.Places.{read_places, write_places}
-use Rattle.brooklet_step.specs.Initial.{IsFirst}
+use Rattle.brooklet_step.specs.Initial.{AreFirstStates}
 use Rattle.brooklet_step.specs.Took.{IsBlank}
 use Rattle.fire_tasks.specs.declared.ports.Inlet as inlet
 use Rattle.fire_tasks.specs.declared.ports.Inlet.TheVariants.{Kept as Given}
@@ -44,7 +44,7 @@ pub record IsFirstTask (p : PlanForm) (qs : List (List item.Item)) (kinds : List
   pub kinds_are : t.kinds ≡ map (kind_at kinds) (list_at (read_places p) o)
   pub outs : t.outs ≡ replicate (length (list_at (write_places p) o)) (Stored [])
   pub pending : t.pending ≡ replicate (length (list_at (write_places p) o)) []
-  pub first : (op : OpForm) → slice_get p.ops o ≡ Some op → IsFirst op.kernel t.states × IsBlank op.kernel t.out
+  pub first : (op : OpForm) → slice_get p.ops o ≡ Some op → AreFirstStates op.kernel t.states × IsBlank op.kernel t.out
   pub homes : AreHomes p o t.tables t.classes
   pub count : t.count ≡ 0
   pub bad : t.bad ≡ None

@@ -4,7 +4,7 @@ use Rattle.river_base.specs.declared.item.Item as item
 use Rattle.river_base.specs.declared.kind.QueueType.{QueueType}
 use Rattle.brooklet_step.specs.declared.emit.Emit.{Emit}
 use Rattle.brooklet_step.specs.declared.state.State.{State}
-use Rattle.fire_tasks.specs.Fired.{Seen}
+use Rattle.fire_tasks.specs.Fired.{SeenTask}
 use Rattle.fire_tasks.specs.declared.ports.Inlet as inlet
 use Rattle.fire_tasks.specs.declared.ports.Outlet as outlet
 use Rattle.fire_open.specs.declared.settling.Link.{Link}
@@ -12,7 +12,7 @@ use Rattle.fire_tasks.specs.declared.task.TablePort.{TablePort}
 use Rattle.fire_tasks.specs.declared.task.Task.{Task}
 use Rattle.fire_laws.specs.Layout.{IsLink, IsSettled}
 use Rattle.fire_tasks.specs.Ports.{received_of, sent_of}
-use Rattle.fire_tasks.specs.Tasks.{seen}
+use Rattle.fire_tasks.specs.Tasks.{seen_task}
 use Rattle.fire_open.specs.Links.{LinkEnds, IsThere, ShareNoEnd}
 
 -- nothing was sent and nothing was received, at any port
@@ -29,7 +29,7 @@ pub record AreThere (ts : List Task) (ls : List Link) : Type 0 where
 -- all of a task but which ends it has
 pub record TaskBody : Type 0 where
   pub op : ℕ
-  pub seen : Seen
+  pub seen : SeenTask
   pub kinds : List QueueType
   pub states : List State
   pub pending : List (List item.Item)
@@ -39,7 +39,7 @@ pub record TaskBody : Type 0 where
   pub count : ℕ
 
 abbrev pub body : Task → TaskBody
-body t = record { op = t.op; seen = seen t; kinds = t.kinds; states = t.states; pending = t.pending; out = t.out; tables = t.tables; classes = t.classes; count = t.count }
+body t = record { op = t.op; seen = seen_task t; kinds = t.kinds; states = t.states; pending = t.pending; out = t.out; tables = t.tables; classes = t.classes; count = t.count }
 
 -- the end is that of none of the first n links
 abbrev pub NoReader : List Link → ℕ → ℕ → ℕ → Type 0

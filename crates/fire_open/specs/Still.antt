@@ -4,15 +4,15 @@ use Rattle.river_base.specs.declared.item.Item as item
 use Rattle.river_base.specs.declared.kind.QueueType.{QueueType}
 use Rattle.brooklet_step.specs.declared.emit.Emit.{Emit}
 use Rattle.brooklet_step.specs.declared.state.State.{State}
-use Rattle.fire_tasks.specs.Fired.{Seen}
+use Rattle.fire_tasks.specs.Fired.{SeenTask}
 use Rattle.fire_tasks.specs.declared.task.TablePort.{TablePort}
 use Rattle.fire_tasks.specs.declared.task.Task.{Task}
-use Rattle.fire_tasks.specs.Tasks.{TaskEnds, ends_of, seen}
+use Rattle.fire_tasks.specs.Tasks.{TaskEnds, ends_of, seen_task}
 
 -- all but what the ends of its rings know
 pub record Still : Type 0 where
   pub ends : TaskEnds
-  pub seen : Seen
+  pub seen : SeenTask
   pub kinds : List QueueType
   pub states : List State
   pub pending : List (List item.Item)
@@ -22,4 +22,4 @@ pub record Still : Type 0 where
   pub count : ℕ
 
 abbrev pub still : Task → Still
-still t = record { ends = ends_of t; seen = seen t; kinds = t.kinds; states = t.states; pending = t.pending; out = t.out; tables = t.tables; classes = t.classes; count = t.count }
+still t = record { ends = ends_of t; seen = seen_task t; kinds = t.kinds; states = t.states; pending = t.pending; out = t.out; tables = t.tables; classes = t.classes; count = t.count }

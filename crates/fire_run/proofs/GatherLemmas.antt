@@ -7,7 +7,7 @@ use Rattle.class_locks.specs.declared.view.Claim.{Claim}
 use Rattle.class_locks.specs.declared.view.View.{View}
 use Rattle.class_locks.specs.Logs.{Holding}
 use Rattle.class_locks.specs.Seats.{Chair}
-use Rattle.class_locks.specs.Views.{Belong, Has, both, entries_of, own}
+use Rattle.class_locks.specs.Views.{Belong, StandsIn, both_views, entries_of, own}
 use Rattle.class_locks.proofs.Owns.{own-append}
 use Rattle.fire_tasks.specs.declared.bundle.Bundle.{Bundle}
 use Rattle.fire_tasks.specs.declared.task.Task.{Task}
@@ -203,12 +203,12 @@ merging_first bs0 bs b e = record { first = b.seat; later = []; all = ap seats_o
 
 -- one seat more
 pub merging_next : (bs0 bs bs' : List Bundle) (b : Bundle) (v w : View) → Merging (seats_of bs0) (seats_of bs) v → bs ≡ bs' ++ b ∷ []
-    → w ≡ both v b.seat.view → Merging (seats_of bs0) (seats_of bs') w
+    → w ≡ both_views v b.seat.view → Merging (seats_of bs0) (seats_of bs') w
 merging_next bs0 bs bs' b v w h e q = record {
   first = b.seat;
   later = h.first ∷ h.later;
   all = h.all ∙ ap (λ l. l ++ (h.first ∷ h.later)) (ap seats_of e ∙ seats-last bs' b) ∙ append_assoc (seats_of bs') (b.seat ∷ []) (h.first ∷ h.later);
-  view = q ∙ ap (λ x. both x b.seat.view) h.view;
+  view = q ∙ ap (λ x. both_views x b.seat.view) h.view;
 }
 
 -- a seat that is taken over is of the round, and holds no class
@@ -247,25 +247,25 @@ merged_round n starts (s ∷ (r ∷ rest)) lt h =
     let x = merged_round n starts (r ∷ rest) (omega arith) (λ i d l. h (suc i) d (omega (arith, l))) in
     record { seats = x.seats; starts_are = x.starts_are; rests = x.rests }
 
-has_front : (k : ℕ) (ps qs : List ℕ) → Has k ps → Has k (ps ++ qs)
+has_front : (k : ℕ) (ps qs : List ℕ) → StandsIn k ps → StandsIn k (ps ++ qs)
 has_front k [] qs h = absurd h
 has_front k (p ∷ ps) qs h = ⊎_elim (λ e. inl e) (λ r. inr (has_front k ps qs r)) h
 
-has_back : (k : ℕ) (ps qs : List ℕ) → Has k qs → Has k (ps ++ qs)
+has_back : (k : ℕ) (ps qs : List ℕ) → StandsIn k qs → StandsIn k (ps ++ qs)
 has_back k [] qs h = h
 has_back k (p ∷ ps) qs h = inr (has_back k ps qs h)
 
 -- it has the part of each
 pub merged_parts : (m : ℕ) (ss : List Chair) → ((i : ℕ) (d : Chair) → i < length ss → (get_or ss i d).view.parts ≡ (m + i) ∷ []) → (i : ℕ) → i < length ss
-    → Has (m + i) (merged_view ss).parts
+    → StandsIn (m + i) (merged_view ss).parts
 merged_parts m [] h i lt = absurd (omega (arith, lt))
-merged_parts m (s ∷ []) h zero lt = subst (Has (m + 0)) (sym (h 0 s (omega arith))) (inl refl)
+merged_parts m (s ∷ []) h zero lt = subst (StandsIn (m + 0)) (sym (h 0 s (omega arith))) (inl refl)
 merged_parts m (s ∷ []) h (suc i) lt = absurd (omega (arith, lt))
-merged_parts m (s ∷ (r ∷ rest)) h zero lt = has_back (m + 0) (merged_view (r ∷ rest)).parts s.view.parts (subst (Has (m + 0)) (sym (h 0 s (omega arith))) (inl refl))
+merged_parts m (s ∷ (r ∷ rest)) h zero lt = has_back (m + 0) (merged_view (r ∷ rest)).parts s.view.parts (subst (StandsIn (m + 0)) (sym (h 0 s (omega arith))) (inl refl))
 merged_parts m (s ∷ (r ∷ rest)) h (suc i) lt =
     let z : suc m + i ≡ m + suc i = omega arith in
     has_front (m + suc i) (merged_view (r ∷ rest)).parts s.view.parts
-    (subst (λ k. Has k (merged_view (r ∷ rest)).parts) z
+    (subst (λ k. StandsIn k (merged_view (r ∷ rest)).parts) z
     (merged_parts (suc m) (r ∷ rest) (λ j d l. let y : m + suc j ≡ suc m + j = omega arith in h (suc j) d (omega (arith, l))
     ∙ ap (λ x. x ∷ []) y) i (omega (arith, lt))))
 
@@ -279,10 +279,10 @@ merged_all P (s ∷ (r ∷ rest)) lt h =
     (h 0 s (omega arith))
 
 -- claims that belong to some parts belong to them as entries
-pub belongs : (n : ℕ) (parts : List ℕ) (qs : List Claim) → All (λ (q : Claim). Has (q.entry.op % n) parts) qs → Belong n parts (entries_of qs)
+pub belongs : (n : ℕ) (parts : List ℕ) (qs : List Claim) → All (λ (q : Claim). StandsIn (q.entry.op % n) parts) qs → Belong n parts (entries_of qs)
 belongs n parts [] a = tt
 belongs n parts (q ∷ qs) a =
-    (All-head (λ (x : Claim). Has (x.entry.op % n) parts) q qs a, belongs n parts qs (All-tail (λ (x : Claim). Has (x.entry.op % n) parts) q qs a))
+    (All-head (λ (x : Claim). StandsIn (x.entry.op % n) parts) q qs a, belongs n parts qs (All-tail (λ (x : Claim). StandsIn (x.entry.op % n) parts) q qs a))
 
 -- what is claimed of each part is claimed by its seat alone: seat i claims nothing of another part than m + i
 abbrev pub OwnAlone : ℕ → ℕ → List Chair → Type 0

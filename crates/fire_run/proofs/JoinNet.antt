@@ -11,7 +11,7 @@ use Rattle.class_locks.specs.declared.view.Claim.{Claim}
 use Rattle.class_locks.specs.declared.view.View.{View}
 use Rattle.class_locks.specs.Logs.{Holding, part}
 use Rattle.class_locks.specs.Seats.{Chair, HasAll, HasGrown}
-use Rattle.class_locks.specs.Views.{Has, own}
+use Rattle.class_locks.specs.Views.{StandsIn, own}
 use Rattle.class_locks.proofs.Owns.{own_none}
 use Rattle.fire_tasks.specs.Adds.{AreClaims, AreEntries, AreOwn, IsEntryOf, added, logs_at, logs_of, table_class}
 use Rattle.fire_tasks.specs.Bundles.{AreTasksAt}
@@ -82,12 +82,12 @@ module _ (f : Framed) (bs : List Bundle) (h : AreSeatedIn f bs) where
       (λ j b l. let s = h.each j b l in record { seats = s.seats; starts_are = s.starts; rests = s.rests }) k d lt)
 
   -- it has every part
-  pub has_every : (k : ℕ) → k < f.workers → Has k (merged_view (seats_of bs)).parts
+  pub has_every : (k : ℕ) → k < f.workers → StandsIn k (merged_view (seats_of bs)).parts
   has_every k lt =
       let long = length-map bs (λ (x : Bundle). x.seat) in
       let m = h.many in
       let z : 0 + k ≡ k = omega arith in
-      subst (λ j. Has j (merged_view (seats_of bs)).parts) z
+      subst (λ j. StandsIn j (merged_view (seats_of bs)).parts) z
       (merged_parts 0 (seats_of bs) (λ i d l. seat_by (λ j c. c.view.parts ≡ (0 + j) ∷ []) bs
       (λ j b lj. let y : j ≡ 0 + j = omega arith in (h.each j b lj).parts ∙ ap (λ x. x ∷ []) y) i d l)
       k (omega (arith, lt, long, m)))
@@ -269,11 +269,11 @@ module _ (p : PlanForm) (f : Framed) (bs : List Bundle) (h : AreBundlesOf p f bs
       let s = h.seated.each k b lk in
       let mine : AreOwn v = (keep p f bs h k b lk).own in
       own_none f.workers j c v.parts v.claims
-      (belongs f.workers v.parts v.claims (subst (λ n. All (λ (q : Claim). Has (q.entry.op % n) v.parts) v.claims) s.seats mine))
-      (λ has. none j k (subst (Has j) s.parts has) ne0))
+      (belongs f.workers v.parts v.claims (subst (λ n. All (λ (q : Claim). StandsIn (q.entry.op % n) v.parts) v.claims) s.seats mine))
+      (λ has. none j k (subst (StandsIn j) s.parts has) ne0))
       i d lt ne
     where
-      none : (j k : ℕ) → Has j (k ∷ []) → ((j ≡ 0 + k) → ⊥) → ⊥
+      none : (j k : ℕ) → StandsIn j (k ∷ []) → ((j ≡ 0 + k) → ⊥) → ⊥
       none j k has ne0 = let z : k ≡ 0 + k = omega arith in ⊎_elim (λ e. ne0 (e ∙ z)) (λ n. n) has
 
   -- of each part it has the own list of the part's bundle
@@ -352,7 +352,7 @@ module _ (p : PlanForm) (f : Framed) (bs : List Bundle) (h : AreBundlesOf p f bs
         let s = h.seated.each k b lk in
         let m = h.seated.many in
         let at : (t.op % v.seats) ≡ k = ap (λ (n : ℕ). t.op % n) s.seats ∙ part_is in
-        let has : Has (t.op % v.seats) w.parts = subst (λ j. Has j w.parts) (sym at) (has_every f bs h.seated k (omega (arith, lk, m))) in
+        let has : StandsIn (t.op % v.seats) w.parts = subst (λ j. StandsIn j w.parts) (sym at) (has_every f bs h.seated k (omega (arith, lk, m))) in
         let claims : (c : ℕ) → own v.seats (t.op % v.seats) c w.claims ≡ own v.seats (t.op % v.seats) c v.claims =
         (λ c. subst (λ j. own v.seats j c w.claims ≡ own v.seats j c v.claims) (sym at)
         (subst (λ n. own n k c w.claims ≡ own n k c v.claims) (sym s.seats) (own_is k b c lk))) in

@@ -4,7 +4,7 @@ use Rattle.std.specs.Prelude.{All, true, false}
 use Rattle.river_plan.specs.Forms.{plan_form}
 use Rattle.river_plan.specs.declared.plan.RawPlan.{RawPlan}
 use Rattle.class_locks.specs.Seats.{TableId}
-use Rattle.fire_tasks.specs.Bundles.{HasWorked, IsReady}
+use Rattle.fire_tasks.specs.Bundles.{HasMadeRound, IsReady}
 use Rattle.fire_tasks.specs.declared.bundle.Bundle.{Bundle}
 use Rattle.fire_run.specs.Frames.{AreBundlesOf, AreCalm, AreSeatedIn, Framed, HasToldMoves, HaveWorked, SitsAt, bundle_moves}
 
@@ -12,7 +12,7 @@ use Rattle.fire_run.specs.Frames.{AreBundlesOf, AreCalm, AreSeatedIn, Framed, Ha
 pub are_ready : (raw : RawPlan) (f : Framed) (bs : List Bundle) → AreBundlesOf (plan_form raw) f bs → All (IsReady raw) bs
 are_ready raw f bs h = λ k d lt. (h.valid, (h.each k d lt).bundle)
 
-sits_still : (raw : RawPlan) (z : TableId) (f : Framed) (k : ℕ) (b b' : Bundle) → SitsAt z f k b.seat → HasWorked raw b b' → SitsAt z f k b'.seat
+sits_still : (raw : RawPlan) (z : TableId) (f : Framed) (k : ℕ) (b b' : Bundle) → SitsAt z f k b.seat → HasMadeRound raw b b' → SitsAt z f k b'.seat
 sits_still raw z f k b b' s w = record {
   lot = w.seat.lot ∙ s.lot;
   seats = w.seat.round.seats ∙ s.seats;

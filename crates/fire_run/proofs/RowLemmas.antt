@@ -17,7 +17,7 @@ use Rattle.fire_tasks.specs.declared.task.Task.{Task}
 use Rattle.fire_tasks.specs.declared.task.TablePort.{TablePort}
 use Rattle.fire_tasks.specs.Adds.{AreHomes, IsEntryOf, added, logs_of, table_class}
 use Rattle.fire_tasks.specs.Tasks.{IsTask}
-use Rattle.fire_tasks.specs.Turns.{AreRowsFor, HasFiredAt, Owes, entry_of, logged, without_rows}
+use Rattle.fire_tasks.specs.Turns.{AreRowsFor, HasFiredAt, Owes, entries_for, logged, without_rows}
 use Rattle.fire_tasks.proofs.AddLemmas.{added_else, added_more, entries_logged, logged_more, logged_none, logged_own}
 use Rattle.fire_tasks.proofs.TaskLemmas.{with_adds, tables_many, got_at}
 use Rattle.fire_open.specs.Homes.{AreClassCells, kinds_from}
@@ -34,19 +34,19 @@ grown_same f g c (x ∷ xs) h =
     ∙ ap (λ ys. record x { log = x.log ++ g c } ∷ ys) (grown_same f g (suc c) xs (λ n le. h n (omega (arith, le))))
 
 grown_put : (f g : ℕ → List LogEntry) (o table c k : ℕ) (rows : List (List ℤ)) (xs : List Holding) → k < length xs
-    → g (c + k) ≡ f (c + k) ++ entry_of o table rows
+    → g (c + k) ≡ f (c + k) ++ entries_for o table rows
     → ((n : ℕ) → n ≢ c + k → g n ≡ f n) → cells_with_rows o table k rows (cells_grown f c xs) ≡ cells_grown g c xs
 grown_put f g o table c k rows [] lt here other = absurd (omega (arith, lt))
 grown_put f g o table c zero rows (x ∷ xs) lt here other =
     let z : c + 0 ≡ c = omega arith in
-    let e : x.log ++ g c ≡ (x.log ++ f c) ++ entry_of o table rows = ap (λ l. x.log ++ l) (ap g (sym z) ∙ here ∙ ap (λ n. f n ++ entry_of o table rows) z) ∙ sym (append_assoc x.log (f c) (entry_of o table rows)) in
+    let e : x.log ++ g c ≡ (x.log ++ f c) ++ entries_for o table rows = ap (λ l. x.log ++ l) (ap g (sym z) ∙ here ∙ ap (λ n. f n ++ entries_for o table rows) z) ∙ sym (append_assoc x.log (f c) (entries_for o table rows)) in
     ap (λ l. record x { log = l } ∷ cells_grown f (suc c) xs) (sym e)
     ∙ ap (λ ys. record x { log = x.log ++ g c } ∷ ys) (grown_same f g (suc c) xs (λ n le. sym (other n (λ q. omega (arith, le, q)))))
 grown_put f g o table c (suc k) rows (x ∷ xs) lt here other =
     let z : suc c + k ≡ c + suc k = omega arith in
     ap (λ l. record x { log = x.log ++ l } ∷ cells_with_rows o table k rows (cells_grown f (suc c) xs)) (sym (other c (λ q. omega (arith, q))))
     ∙ ap (λ ys. record x { log = x.log ++ g c } ∷ ys)
-    (grown_put f g o table (suc c) k rows xs (omega (arith, lt)) (ap g z ∙ here ∙ ap (λ n. f n ++ entry_of o table rows) (sym z)) (λ n ne. other n (λ q. ne (q ∙ sym z))))
+    (grown_put f g o table (suc c) k rows xs (omega (arith, lt)) (ap g z ∙ here ∙ ap (λ n. f n ++ entries_for o table rows) (sym z)) (λ n ne. other n (λ q. ne (q ∙ sym z))))
 
 -- nothing was added where there are no rows
 pub no_rows : (o table c : ℕ) (rows : List (List ℤ)) (cells : List Holding) → rows ≡ [] → cells ≡ cells_with_rows o table c rows cells
@@ -58,7 +58,7 @@ no_rows o table c rows cells e = sym (ap (λ r. cells_with_rows o table c r cell
     same (x ∷ xs) (suc k) = ap (λ ys. x ∷ ys) (same xs k)
 
 -- one entry, where there are rows
-pub some_rows : (o table : ℕ) (rows : List (List ℤ)) → (rows ≡ [] → ⊥) → entry_of o table rows ≡ record { op = o; table = table; rows = rows } ∷ []
+pub some_rows : (o table : ℕ) (rows : List (List ℤ)) → (rows ≡ [] → ⊥) → entries_for o table rows ≡ record { op = o; table = table; rows = rows } ∷ []
 some_rows o table [] ne = absurd (ne refl)
 some_rows o table (r ∷ rs) ne = refl
 
@@ -90,17 +90,17 @@ added_step o classes tables rows j cells0 cells cells' h gh lc a e =
     let taken : take (j + 1) tables ≡ take j tables ++ h ∷ [] = ap (λ k. take k tables) (sym next) ∙ take-suc tables j h lt ∙ ap (λ x. take j tables ++ x ∷ []) (get_or_from_slice_get tables j h h gh) in
     let long : length (take j tables) ≡ j = taken_long tables j lt in
     let more : (c : ℕ) → logged o classes (take (j + 1) tables) rows c
-    ≡ logged o classes (take j tables) rows c ++ (if nat_eq (slice_index_or classes h.place 0) c then entry_of o h.table (rows j) else [])
+    ≡ logged o classes (take j tables) rows c ++ (if nat_eq (slice_index_or classes h.place 0) c then entries_for o h.table (rows j) else [])
     = (λ c. ap (λ l. logged o classes l rows c) taken ∙ logged_more o classes (take j tables) h rows c
-    ∙ ap (λ n. logged o classes (take j tables) rows c ++ (if nat_eq (slice_index_or classes h.place 0) c then entry_of o h.table (rows n) else [])) long) in
+    ∙ ap (λ n. logged o classes (take j tables) rows c ++ (if nat_eq (slice_index_or classes h.place 0) c then entries_for o h.table (rows n) else [])) long) in
     e ∙ ap (cells_with_rows o h.table (slice_index_or classes h.place 0) (rows j)) a
     ∙ grown_put (logged o classes (take j tables) rows) (logged o classes (take (j + 1) tables) rows) o h.table 0 (slice_index_or classes h.place 0) (rows j) cells0 lc
     (let z : 0 + slice_index_or classes h.place 0 ≡ slice_index_or classes h.place 0 = omega arith in
     more (0 + slice_index_or classes h.place 0)
     ∙ ap (λ l. logged o classes (take j tables) rows (0 + slice_index_or classes h.place 0) ++ l)
-    (if_eq (slice_index_or classes h.place 0) (0 + slice_index_or classes h.place 0) (entry_of o h.table (rows j)) [] (sym z)))
+    (if_eq (slice_index_or classes h.place 0) (0 + slice_index_or classes h.place 0) (entries_for o h.table (rows j)) [] (sym z)))
     (λ n ne. more n ∙ ap (λ l. logged o classes (take j tables) rows n ++ l)
-    (if_ne (slice_index_or classes h.place 0) n (entry_of o h.table (rows j)) [] (λ q. let z : 0 + slice_index_or classes h.place 0 ≡ slice_index_or classes h.place 0 = omega arith in ne (sym q ∙ sym z)))
+    (if_ne (slice_index_or classes h.place 0) n (entries_for o h.table (rows j)) [] (λ q. let z : 0 + slice_index_or classes h.place 0 ≡ slice_index_or classes h.place 0 = omega arith in ne (sym q ∙ sym z)))
     ∙ append-nil (logged o classes (take j tables) rows n))
   where
     taken_long : (us : List TablePort) (k : ℕ) → k < length us → length (take k us) ≡ k

@@ -15,7 +15,7 @@ use Rattle.class_locks.specs.declared.view.Claim.{Claim}
 use Rattle.class_locks.specs.declared.view.View.{View}
 use Rattle.class_locks.specs.Logs.{Holding}
 use Rattle.class_locks.specs.Seats.{Chair, TableId, seats_from, with_parts}
-use Rattle.class_locks.specs.Views.{Has}
+use Rattle.class_locks.specs.Views.{StandsIn}
 use Rattle.fire_tasks.specs.Adds.{AreCells, added, logs_at, logs_of, rows_by, table_at, table_class, IsEntryOf}
 use Rattle.fire_tasks.specs.Bundles.{AreTasksAt}
 use Rattle.fire_tasks.specs.declared.bundle.Bundle.{Bundle}
@@ -114,7 +114,7 @@ share_tasks p inputs caps net w k v n = record {
   narrow = record { each = λ i d lt. let t = get_or own i d in few_ports p (added p (logs_of net.cells) t.op) t v (task_at i d lt) };
   cells = cells_for p net.cells n.cells;
   claims = All-nil (λ (q : Claim). IsEntryOf p q.class q.entry);
-  own = All-nil (λ (q : Claim). Has (q.entry.op % w) (k ∷ []));
+  own = All-nil (λ (q : Claim). StandsIn (q.entry.op % w) (k ∷ []));
 }
   where
     own : List Task

@@ -15,13 +15,13 @@ use Rattle.brooklet_model.specs.Laws.{given_to}
 use Rattle.brooklet_model.proofs.BoundedMoves.{reader_behind, reader_of}
 use Rattle.brooklet_model.proofs.Received.{writer_of}
 use Rattle.fire_laws.proofs.Joining.{place_of}
-use Rattle.fire_tasks.specs.Fired.{Seen}
+use Rattle.fire_tasks.specs.Fired.{SeenTask}
 use Rattle.fire_tasks.specs.declared.ports.Inlet as inlet
 use Rattle.fire_tasks.specs.declared.ports.Inlet.TheVariants.{Ring as TakesFrom, Kept as Given}
 use Rattle.fire_tasks.specs.declared.ports.Outlet as outlet
 use Rattle.fire_tasks.specs.declared.ports.Outlet.TheVariants.{Ring as SendsTo, Kept as Stored}
 use Rattle.fire_tasks.specs.declared.task.Task.{Task}
-use Rattle.fire_laws.specs.Layout.{IsLink, IsSettled, IsInput, IsStored, AreLaid, AreTasks, Ends}
+use Rattle.fire_laws.specs.Layout.{IsLink, IsSettled, IsInput, IsStored, AreLaid, AreTasks, HasEnds}
 use Rattle.fire_tasks.specs.Ports.{in_end, received_of, known_of, sent_of, HasRoom}
 use Rattle.fire_tasks.specs.Tasks.{IsTask, IsDone, all_ends}
 use Rattle.fire_tasks.specs.Adds.{added, logs_of}
@@ -83,7 +83,7 @@ module _ (p : PlanForm) (inputs : List (List item.Item)) (caps : Capacities) (ne
   pub none_bad : (o : ℕ) (d : Task) → o < length net.tasks → (get_or net.tasks o d).bad ≡ None
   none_bad o d lt =
       let m = make_net p inputs caps adds net.tasks v n.laid n.tasks n.settled n.typed in
-      ap (λ (s : Seen). s.bad) (sym (seen_here net.tasks o (get_or net.tasks o d) (slice_get-get_or net.tasks o d lt))) ∙ m.joins.none_bad o (is_task o d lt).op (op_at o d lt)
+      ap (λ (s : SeenTask). s.bad) (sym (seen_here net.tasks o (get_or net.tasks o d) (slice_get-get_or net.tasks o d lt))) ∙ m.joins.none_bad o (is_task o d lt).op (op_at o d lt)
 
   room_at : (o : ℕ) (d : Task) → o < length net.tasks → ((m : ℕ) (e : Task) → o < m → m < length net.tasks → IsDone (get_or net.tasks m e))
       → (j : ℕ) (x : outlet.Outlet) → (list_at (get_or net.tasks o d).pending j ≡ [] → ⊥)
@@ -102,7 +102,7 @@ module _ (p : PlanForm) (inputs : List (List item.Item)) (caps : Capacities) (ne
       let port = place_of r.1.reads q.0 r.3 in
       let a = task_at p inputs caps adds net.tasks n.laid n.tasks r.0 r.1 r.2 in
       let i = there_is a.t.ins port.0 (let e = a.ins in let b = got_below r.1.reads port.0 q.0 port.1 in omega (arith, e, b)) in
-      let ends : Ends p net.tasks r.0 o port.0 j q.0 f.0 i.0 = record { op = r.1; op' = k.op; op_is = r.2; reads = port.1; op_is' = op_at o d lt; writes = q.1; t = a.t; t' = t; t_is = a.t_is; t_is' = gt; in_is = i.1; out_is = f.1 } in
+      let ends : HasEnds p net.tasks r.0 o port.0 j q.0 f.0 i.0 = record { op = r.1; op' = k.op; op_is = r.2; reads = port.1; op_is' = op_at o d lt; writes = q.1; t = a.t; t' = t; t_is = a.t_is; t_is' = gt; in_is = i.1; out_is = f.1 } in
       let after = reader_behind p v o r.0 k.op r.1 q.0 (op_at o d lt) (got_count k.op.writes j q.0 q.1) r.2 r.3 in
       let done = behind r.0 a.t after (slice_get_within net.tasks r.0 a.t a.t_is) in
       let done1 : IsDone a.t = subst IsDone (get_or_from_slice_get net.tasks r.0 a.t a.t a.t_is) done in

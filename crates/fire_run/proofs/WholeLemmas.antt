@@ -13,7 +13,7 @@ use Rattle.river_plan.specs.Kinds.{kind_of}
 use Rattle.river_plan.specs.Uses.{total, writes_it}
 use Rattle.river_plan.specs.Valid.{IsPlan}
 use Rattle.brooklet_model.specs.Bounded.{Capacities}
-use Rattle.brooklet_model.specs.NetLaws.{IsWhole}
+use Rattle.brooklet_model.specs.NetLaws.{IsWholeRun}
 use Rattle.brooklet_model.specs.Received.{AreDone, hist_by, IsFront}
 use Rattle.brooklet_model.specs.Histories.{hist, given_on, most_firings}
 use Rattle.brooklet_model.specs.Traced.{ran}
@@ -21,7 +21,7 @@ use Rattle.brooklet_model.specs.Words.{Word, at_port}
 use Rattle.brooklet_model.proofs.Ports.{got_below}
 use Rattle.brooklet_model.proofs.TypedPlan.{kind_got}
 use Rattle.brooklet_step.specs.Given.{held_by}
-use Rattle.fire_tasks.specs.Fired.{Seen}
+use Rattle.fire_tasks.specs.Fired.{SeenTask}
 use Rattle.fire_laws.specs.Joins.{bounded}
 use Rattle.brooklet_model.proofs.Received.{writer_of, by_words, unwritten_by}
 use Rattle.brooklet_model.proofs.RunsEnd.{done_law}
@@ -83,7 +83,7 @@ module _ (p : PlanForm) (inputs : List (List item.Item)) (caps : Capacities) (ne
   none_pends : (o j : ℕ) (op : OpForm) → slice_get p.ops o ≡ Some op → list_at (seen_at net.tasks o).pending j ≡ []
   none_pends o j op g =
       let t = task_here o op g in
-      ap (λ (s : Seen). list_at s.pending j) (seen_here net.tasks o t.0 t.1) ∙ turned_idle t.0.pending (done_at o t.0 t.1).idle j
+      ap (λ (s : SeenTask). list_at s.pending j) (seen_here net.tasks o t.0 t.1) ∙ turned_idle t.0.pending (done_at o t.0 t.1).idle j
 
   received_all : (o port : ℕ) (op : OpForm) (q : Name) → slice_get p.ops o ≡ Some op → slice_get op.reads port ≡ Some q
       → length (at_port port (ws o)) ≡ length (hist_by p inputs ws q)
@@ -118,7 +118,7 @@ module _ (p : PlanForm) (inputs : List (List item.Item)) (caps : Capacities) (ne
   unfolding ws make
   are_done o op g port q r = whole_front (at_port port (ws o)) (hist_by p inputs ws q) (make.joins.net.words.fronts o op g port q r) (received_all o port op q g r)
 
-  whole : IsWhole p inputs ws
+  whole : IsWholeRun p inputs ws
   unfolding ws make
   whole = done_law p inputs ws v make.joins.net.words are_done
 

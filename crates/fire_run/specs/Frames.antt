@@ -9,7 +9,7 @@ use Rattle.class_locks.specs.Seats.{Chair, TableId, with_parts}
 use Rattle.class_locks.specs.Views.{own}
 use Rattle.fire_tasks.specs.declared.bundle.Bundle.{Bundle}
 use Rattle.fire_tasks.specs.declared.task.Task.{Task}
-use Rattle.fire_tasks.specs.Bundles.{IsBundle, HasWorked}
+use Rattle.fire_tasks.specs.Bundles.{IsBundle, HasMadeRound}
 use Rattle.fire_tasks.specs.Tasks.{TaskEnds, all_ends, all_moves}
 use Rattle.fire_open.specs.Still.{still}
 use Rattle.fire_run.specs.declared.net.Net.{Net}
@@ -91,7 +91,7 @@ GivesBack net NoMemory = Unit {0}
 -- each of the bundles worked by the lists of a plan
 pub record HaveWorked (raw : RawPlan) (bundles bundles' : List Bundle) : Type 0 where
   pub many : length bundles' ≡ length bundles
-  pub each : (i : ℕ) (d : Bundle) → i < length bundles → HasWorked raw (slice_index_or bundles i d) (slice_index_or bundles' i d)
+  pub each : (i : ℕ) (d : Bundle) → i < length bundles → HasMadeRound raw (slice_index_or bundles i d) (slice_index_or bundles' i d)
 
 -- none was refused
 abbrev pub AreCalm : List Bundle → Type 0

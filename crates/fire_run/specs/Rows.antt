@@ -2,7 +2,7 @@
 use Rattle.std.specs.Prelude.{◌≡◌, ℕ, ℤ, ◌<◌, List, [], ◌++◌, Some, length, slice_get, slice_set, slice_index_or}
 use Rattle.class_locks.specs.Logs.{Holding, TakesRows}
 use Rattle.fire_tasks.specs.declared.task.TablePort.{TablePort}
-use Rattle.fire_tasks.specs.Turns.{entry_of}
+use Rattle.fire_tasks.specs.Turns.{entries_for}
 
 -- for each port there is the cell of its table's class, and the rows have the table's width
 pub record CanAddTo (tables : List TablePort) (classes : List ℕ) (rows : ℕ → List (List ℤ)) (cells : List Holding) : Type 0 where
@@ -16,4 +16,4 @@ no_cell = record { kinds = []; log = [] }
 -- the cells, with an entry for these rows of operator o at one class
 abbrev pub cells_with_rows : ℕ → ℕ → ℕ → List (List ℤ) → List Holding → List Holding
 cells_with_rows o table c rows cells =
-    slice_set cells c (record (slice_index_or cells c no_cell) { log = (slice_index_or cells c no_cell).log ++ entry_of o table rows })
+    slice_set cells c (record (slice_index_or cells c no_cell) { log = (slice_index_or cells c no_cell).log ++ entries_for o table rows })

@@ -1,7 +1,7 @@
 -- How tasks are dealt to bundles, and how they and the seats come together again.
 use Rattle.std.specs.Prelude.{◌≡◌, ℕ, ◌<◌, suc, false, All, List, [], ◌∷◌, length, map, slice_index_or, slice_set}
 use Rattle.class_locks.specs.Seats.{Chair, TableId}
-use Rattle.class_locks.specs.Views.{both, fresh}
+use Rattle.class_locks.specs.Views.{both_views, fresh_view}
 use Rattle.class_locks.specs.declared.view.View.{View}
 use Rattle.fire_tasks.specs.declared.bundle.Bundle.{Bundle}
 use Rattle.fire_tasks.specs.declared.task.Task.{Task}
@@ -56,6 +56,6 @@ pub record AreAtRest (seats : List Chair) : Type 0 where
 
 -- what the last of some seats knows, once it took over those before it, one after another
 abbrev pub merged_view : List Chair → View
-merged_view [] = fresh 0 []
+merged_view [] = fresh_view 0 []
 merged_view (s ∷ []) = s.view
-merged_view (s ∷ (r ∷ rest)) = both (merged_view (r ∷ rest)) s.view
+merged_view (s ∷ (r ∷ rest)) = both_views (merged_view (r ∷ rest)) s.view

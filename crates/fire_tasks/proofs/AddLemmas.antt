@@ -25,7 +25,7 @@ use Rattle.class_locks.specs.Logs.{TakesRows, rows_in, rows_to, part_of_op}
 use Rattle.class_locks.specs.Piles.{Piled}
 use Rattle.fire_tasks.specs.declared.task.TablePort.{TablePort}
 use Rattle.fire_tasks.specs.Adds.{AreHomes, IsEntryOf, added, rows_by, table_at, table_class, table_numbers}
-use Rattle.fire_tasks.specs.Turns.{AreCellsOf, AreRowsFor, CanAdd, HaveGained, classes_of, entry_of, pile_grown, logged, cell_with_rows}
+use Rattle.fire_tasks.specs.Turns.{AreCellsOf, AreRowsFor, HasCells, HaveGained, classes_of, entries_for, pile_grown, logged, cell_with_rows}
 
 -- ENTRIES OF A FIRING
 
@@ -35,16 +35,16 @@ pub logged_all : (P : LogEntry → Type 0) (o : ℕ) (classes : List ℕ) (hs : 
     → All P (logged o classes hs rows c)
 logged_all P o classes [] rows c each = All-nil P
 logged_all P o classes (h ∷ hs) rows c each =
-    let here : slice_index_or classes h.place 0 ≡ c → All P (entry_of o h.table (rows 0)) = λ e. one (rows 0) (each 0 h (rows 0) refl e) in
+    let here : slice_index_or classes h.place 0 ≡ c → All P (entries_for o h.table (rows 0)) = λ e. one (rows 0) (each 0 h (rows 0) refl e) in
     let rest = logged_all P o classes hs (λ j. rows (suc j)) c (λ j k rs g e. each (suc j) k rs g e) in
-    All-append P (if nat_eq (slice_index_or classes h.place 0) c then entry_of o h.table (rows 0) else []) (logged o classes hs (λ j. rows (suc j)) c)
+    All-append P (if nat_eq (slice_index_or classes h.place 0) c then entries_for o h.table (rows 0) else []) (logged o classes hs (λ j. rows (suc j)) c)
     (⊎_elim
-    (λ e. subst (All P) (sym (if_eq (slice_index_or classes h.place 0) c (entry_of o h.table (rows 0)) [] e)) (here e))
-    (λ ne. subst (All P) (sym (if_ne (slice_index_or classes h.place 0) c (entry_of o h.table (rows 0)) [] ne)) (All-nil P))
+    (λ e. subst (All P) (sym (if_eq (slice_index_or classes h.place 0) c (entries_for o h.table (rows 0)) [] e)) (here e))
+    (λ ne. subst (All P) (sym (if_ne (slice_index_or classes h.place 0) c (entries_for o h.table (rows 0)) [] ne)) (All-nil P))
     (cases_eq (slice_index_or classes h.place 0) c))
     rest
   where
-    one : (rs : List (List ℤ)) → P (record { op = o; table = h.table; rows = rs }) → All P (entry_of o h.table rs)
+    one : (rs : List (List ℤ)) → P (record { op = o; table = h.table; rows = rs }) → All P (entries_for o h.table rs)
     one [] x = All-nil P
     one (r ∷ rs) x = All-cons P (record { op = o; table = h.table; rows = r ∷ rs }) [] x (All-nil P)
 
@@ -55,29 +55,29 @@ logged_own o classes hs rows c = logged_all (λ e. e.op ≡ o) o classes hs rows
 -- one port more
 pub logged_more : (o : ℕ) (classes : List ℕ) (hs : List TablePort) (h : TablePort) (rows : ℕ → List (List ℤ)) (c : ℕ)
     → logged o classes (hs ++ h ∷ []) rows c
-    ≡ logged o classes hs rows c ++ (if nat_eq (slice_index_or classes h.place 0) c then entry_of o h.table (rows (length hs)) else [])
-logged_more o classes [] h rows c = append-nil (if nat_eq (slice_index_or classes h.place 0) c then entry_of o h.table (rows 0) else [])
+    ≡ logged o classes hs rows c ++ (if nat_eq (slice_index_or classes h.place 0) c then entries_for o h.table (rows (length hs)) else [])
+logged_more o classes [] h rows c = append-nil (if nat_eq (slice_index_or classes h.place 0) c then entries_for o h.table (rows 0) else [])
 logged_more o classes (k ∷ hs) h rows c =
-    let first = if nat_eq (slice_index_or classes k.place 0) c then entry_of o k.table (rows 0) else [] in
+    let first = if nat_eq (slice_index_or classes k.place 0) c then entries_for o k.table (rows 0) else [] in
     ap (λ l. first ++ l) (logged_more o classes hs h (λ j. rows (suc j)) c)
-    ∙ sym (append_assoc first (logged o classes hs (λ j. rows (suc j)) c) (if nat_eq (slice_index_or classes h.place 0) c then entry_of o h.table (rows (suc (length hs))) else []))
+    ∙ sym (append_assoc first (logged o classes hs (λ j. rows (suc j)) c) (if nat_eq (slice_index_or classes h.place 0) c then entries_for o h.table (rows (suc (length hs))) else []))
 
 -- a class at which no port has its table has none
 pub logged_none : (o : ℕ) (classes : List ℕ) (hs : List TablePort) (rows : ℕ → List (List ℤ)) (c : ℕ)
     → ((j : ℕ) (h : TablePort) → slice_get hs j ≡ Some h → slice_index_or classes h.place 0 ≢ c) → logged o classes hs rows c ≡ []
 logged_none o classes [] rows c ne = refl
 logged_none o classes (h ∷ hs) rows c ne =
-    ap (λ l. l ++ logged o classes hs (λ j. rows (suc j)) c) (if_ne (slice_index_or classes h.place 0) c (entry_of o h.table (rows 0)) [] (ne 0 h refl))
+    ap (λ l. l ++ logged o classes hs (λ j. rows (suc j)) c) (if_ne (slice_index_or classes h.place 0) c (entries_for o h.table (rows 0)) [] (ne 0 h refl))
     ∙ logged_none o classes hs (λ j. rows (suc j)) c (λ j k g. ne (suc j) k g)
 
 -- THE ROWS FOR A TABLE
 
-rows_one : (o table : ℕ) (rs : List (List ℤ)) → rows_to table (entry_of o table rs) ≡ rs
+rows_one : (o table : ℕ) (rs : List (List ℤ)) → rows_to table (entries_for o table rs) ≡ rs
 rows_one o table [] = refl
 rows_one o table (r ∷ rs) =
     ap (λ (b : Bool). (if b then r ∷ rs else []) ++ []) (eq-eqb table table refl) ∙ append-nil (r ∷ rs)
 
-rows_other : (o table other : ℕ) (rs : List (List ℤ)) → other ≢ table → rows_to table (entry_of o other rs) ≡ []
+rows_other : (o table other : ℕ) (rs : List (List ℤ)) → other ≢ table → rows_to table (entries_for o other rs) ≡ []
 rows_other o table other [] ne = refl
 rows_other o table other (r ∷ rs) ne = ap (λ (b : Bool). (if b then r ∷ rs else []) ++ []) (ne_eqb other table ne)
 
@@ -86,12 +86,12 @@ rows_absent : (o : ℕ) (classes : List ℕ) (hs : List TablePort) (rows : ℕ �
     → ((j : ℕ) (h : TablePort) → slice_get hs j ≡ Some h → h.table ≢ table) → rows_to table (logged o classes hs rows c) ≡ []
 rows_absent o classes [] rows c table ne = refl
 rows_absent o classes (h ∷ hs) rows c table ne =
-    let first = if nat_eq (slice_index_or classes h.place 0) c then entry_of o h.table (rows 0) else [] in
+    let first = if nat_eq (slice_index_or classes h.place 0) c then entries_for o h.table (rows 0) else [] in
     let rest = logged o classes hs (λ j. rows (suc j)) c in
     flat_map-append (rows_in table) first rest
     ∙ ap (λ l. l ++ rows_to table rest) (⊎_elim
-    (λ e. ap (rows_to table) (if_eq (slice_index_or classes h.place 0) c (entry_of o h.table (rows 0)) [] e) ∙ rows_other o table h.table (rows 0) (ne 0 h refl))
-    (λ e. ap (rows_to table) (if_ne (slice_index_or classes h.place 0) c (entry_of o h.table (rows 0)) [] e))
+    (λ e. ap (rows_to table) (if_eq (slice_index_or classes h.place 0) c (entries_for o h.table (rows 0)) [] e) ∙ rows_other o table h.table (rows 0) (ne 0 h refl))
+    (λ e. ap (rows_to table) (if_ne (slice_index_or classes h.place 0) c (entries_for o h.table (rows 0)) [] e))
     (cases_eq (slice_index_or classes h.place 0) c))
     ∙ rows_absent o classes hs (λ j. rows (suc j)) c table (λ j k g. ne (suc j) k g)
 
@@ -102,24 +102,24 @@ rows_present : (o : ℕ) (classes : List ℕ) (hs : List TablePort) (rows : ℕ 
 rows_present o classes [] rows c j h once g e = absurd (cc g)
 rows_present o classes (k ∷ hs) rows c zero h once g e =
     let is : k ≡ h = some_eq k h g in
-    let first = if nat_eq (slice_index_or classes k.place 0) c then entry_of o k.table (rows 0) else [] in
+    let first = if nat_eq (slice_index_or classes k.place 0) c then entries_for o k.table (rows 0) else [] in
     let rest = logged o classes hs (λ j. rows (suc j)) c in
     flat_map-append (rows_in h.table) first rest
     ∙ ap (λ l. rows_to h.table first ++ l) (rows_absent o classes hs (λ j. rows (suc j)) c h.table (λ i a ga same. absurd (let q = once (suc i) 0 a k ga refl (same ∙ sym (ap (λ (y : TablePort). y.table) is)) in omega (arith, q))))
     ∙ append-nil (rows_to h.table first)
-    ∙ ap (rows_to h.table) (if_eq (slice_index_or classes k.place 0) c (entry_of o k.table (rows 0)) [] (ap (λ (y : TablePort). slice_index_or classes y.place 0) is ∙ e) ∙ ap (λ (y : TablePort). entry_of o y.table (rows 0)) is)
+    ∙ ap (rows_to h.table) (if_eq (slice_index_or classes k.place 0) c (entries_for o k.table (rows 0)) [] (ap (λ (y : TablePort). slice_index_or classes y.place 0) is ∙ e) ∙ ap (λ (y : TablePort). entries_for o y.table (rows 0)) is)
     ∙ rows_one o h.table (rows 0)
   where
     some_eq : (a b : TablePort) → Some a ≡ Some b → a ≡ b
     some_eq a b s = cc s
 rows_present o classes (k ∷ hs) rows c (suc j) h once g e =
-    let first = if nat_eq (slice_index_or classes k.place 0) c then entry_of o k.table (rows 0) else [] in
+    let first = if nat_eq (slice_index_or classes k.place 0) c then entries_for o k.table (rows 0) else [] in
     let rest = logged o classes hs (λ i. rows (suc i)) c in
     let ne : k.table ≢ h.table = λ same. absurd (let q = once 0 (suc j) k h refl g same in omega (arith, q)) in
     flat_map-append (rows_in h.table) first rest
     ∙ ap (λ l. l ++ rows_to h.table rest) (⊎_elim
-    (λ q. ap (rows_to h.table) (if_eq (slice_index_or classes k.place 0) c (entry_of o k.table (rows 0)) [] q) ∙ rows_other o h.table k.table (rows 0) ne)
-    (λ q. ap (rows_to h.table) (if_ne (slice_index_or classes k.place 0) c (entry_of o k.table (rows 0)) [] q))
+    (λ q. ap (rows_to h.table) (if_eq (slice_index_or classes k.place 0) c (entries_for o k.table (rows 0)) [] q) ∙ rows_other o h.table k.table (rows 0) ne)
+    (λ q. ap (rows_to h.table) (if_ne (slice_index_or classes k.place 0) c (entries_for o k.table (rows 0)) [] q))
     (cases_eq (slice_index_or classes k.place 0) c))
     ∙ rows_present o classes hs (λ i. rows (suc i)) c j h (λ i m a b ga gb s. let q = once (suc i) (suc m) a b ga gb s in omega (arith, q)) g e
 
@@ -344,7 +344,7 @@ take_next xs j x g = let e : j + 1 ≡ suc j = omega arith in ap (λ n. take n x
 
 -- the cell of the table at a port has the class's place, whatever came before
 pub cell_now : (o : ℕ) (tables : List TablePort) (rows : ℕ → List (List ℤ)) (j : ℕ) (pile now : List Piled) (h : TablePort) → AddedTo o tables rows j pile now
-    → CanAdd tables rows pile → slice_get tables j ≡ Some h → (x : Piled) × (slice_get now h.place ≡ Some x) × TakesRows x.1.kinds h.table (rows j)
+    → HasCells tables rows pile → slice_get tables j ≡ Some h → (x : Piled) × (slice_get now h.place ≡ Some x) × TakesRows x.1.kinds h.table (rows j)
 cell_now o tables rows j pile now h e can g =
     let x = can.each j h g in
     let more = logged o (classes_of pile) (take j tables) rows in
@@ -357,14 +357,14 @@ pub added_next : (o : ℕ) (tables : List TablePort) (rows : ℕ → List (List 
 added_next o tables rows j pile now new h x up e g gx n =
     let cs = classes_of pile in
     let f = logged o cs (take j tables) rows in
-    let en = entry_of o h.table (rows j) in
+    let en = entries_for o h.table (rows j) in
     let same : classes_of now ≡ cs = ap classes_of e ∙ classes_grown f pile in
     let at : slice_index_or cs h.place 0 ≡ x.0 = ap (λ (l : List ℕ). slice_index_or l h.place 0) (sym same) ∙ class_at now h.place 0 x gx in
     let rises = subst (λ l. AllPairs (λ (a b : ℕ). a < b) l) (sym same) (AllPairs-from_increasing cs up) in
     n ∙ set_grown now h.place x en gx rises ∙ ap (pile_grown (only_at x.0 en)) e ∙ grown_twice f (only_at x.0 en) pile
     ∙ grown_same (λ c. f c ++ only_at x.0 en c) (logged o cs (take (j + 1) tables) rows) pile (λ c.
     ap (λ m. f c ++ only_at m en c) (sym at)
-    ∙ ap (λ m. f c ++ (if nat_eq (slice_index_or cs h.place 0) c then entry_of o h.table (rows m) else [])) (sym (take_length tables j (slice_get_within tables j h g)))
+    ∙ ap (λ m. f c ++ (if nat_eq (slice_index_or cs h.place 0) c then entries_for o h.table (rows m) else [])) (sym (take_length tables j (slice_get_within tables j h g)))
     ∙ sym (logged_more o cs (take j tables) h rows c)
     ∙ ap (λ l. logged o cs l rows c) (sym (take_next tables j h g)))
 
@@ -393,7 +393,7 @@ none_gained o pile = record { more = λ c. []; is = sym (grown_none pile); own =
 
 -- the cells of a task's classes take the rows of its tables
 pub can_add : (p : PlanForm) (o : ℕ) (tables : List TablePort) (classes : List ℕ) (rows : ℕ → List (List ℤ)) (pile : List Piled) → AreHomes p o tables classes
-    → AreRowsFor p tables rows → AreCellsOf p classes pile → CanAdd tables rows pile
+    → AreRowsFor p tables rows → AreCellsOf p classes pile → HasCells tables rows pile
 can_add p o tables classes rows pile homes wide cells = record {
   each = λ j h g.
       let d = wide.wide j h g in

@@ -6,7 +6,7 @@ use Rattle.std.proofs.lemmas.List.{length-map, append-nil}
 use Rattle.river_plan.specs.Forms.{PlanForm}
 use Rattle.class_locks.specs.declared.view.View.{View}
 use Rattle.class_locks.specs.Piles.{HasMoreTries}
-use Rattle.class_locks.specs.Views.{Has}
+use Rattle.class_locks.specs.Views.{StandsIn}
 use Rattle.fire_tasks.specs.declared.task.Task.{Task}
 use Rattle.fire_tasks.specs.Adds.{AreCells, added, logs_at}
 use Rattle.fire_tasks.specs.declared.ports.Inlet as inlet
@@ -85,7 +85,7 @@ passed_first p v ts k h = record {
 pub seat_for : (p : PlanForm) (v : View) (ts : List Task) (i : ℕ) (t : Task) → AreTasksAt p v ts → v.held ≡ [] → i < length ts → t ≡ get_or ts i t → IsSeatOf p t.op v
 seat_for p v ts i t k h lt e = record {
   rests = h;
-  part = subst (λ (x : Task). Has (x.op % v.seats) v.parts) (sym e) (k.parts i t lt);
+  part = subst (λ (x : Task). StandsIn (x.op % v.seats) v.parts) (sym e) (k.parts i t lt);
   cells = k.cells;
 }
 
@@ -103,9 +103,9 @@ after_turn p v w now i old new n k lt e h = record {
       (with_adds p (added p (logs_at v t.op) t.op) (added p (logs_at w t.op) t.op) t (k.each j d l) (λ m lm. h.sat.others t.op apart m)))
       (cases_eq i j);
   parts = λ j d lj. let r = h.sat.round in
-      subst (λ (ps : List ℕ). Has ((get_or (set now i new) j d).op % w.seats) ps) (sym r.parts)
-      (subst (λ (m : ℕ). Has ((get_or (set now i new) j d).op % m) v.parts) (sym r.seats)
-      (subst (λ (o : ℕ). Has (o % v.seats) v.parts) (sym (ops j d)) (k.parts j d (long j lj))));
+      subst (λ (ps : List ℕ). StandsIn ((get_or (set now i new) j d).op % w.seats) ps) (sym r.parts)
+      (subst (λ (m : ℕ). StandsIn ((get_or (set now i new) j d).op % m) v.parts) (sym r.seats)
+      (subst (λ (o : ℕ). StandsIn (o % v.seats) v.parts) (sym (ops j d)) (k.parts j d (long j lj))));
   apart = λ j m d lj lm q. k.apart j m d (long j lj) (long m lm) (sym (ops j d) ∙ q ∙ ops m d);
   narrow = record {
     each = λ j d lj. set_each (λ x. length x.ins < 2 ^ 32) now i new k.narrow.each

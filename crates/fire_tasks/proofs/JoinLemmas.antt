@@ -13,7 +13,7 @@ use Rattle.class_locks.specs.declared.view.Claim.{Claim}
 use Rattle.class_locks.specs.declared.view.View.{View}
 use Rattle.class_locks.specs.Logs.{Holding, part, part_of_op, rows_in, rows_to}
 use Rattle.class_locks.specs.Seats.{HasAll, HasGrown}
-use Rattle.class_locks.specs.Views.{Has, entries_of, is_own, own}
+use Rattle.class_locks.specs.Views.{StandsIn, entries_of, is_claim_of, own}
 use Rattle.fire_tasks.specs.Adds.{AreClaims, AreEntries, IsEntryOf, added, logs_at, logs_of, rows_by, table_at, table_class}
 
 -- an entry of another operator, whether it is in a part or not
@@ -48,7 +48,7 @@ rows-append o table xs ys = ap (rows_to table) (filter-append (λ e. e.op == o) 
 
 -- Let v be what the seat of operator o knew, and w what the seat that closed the round knows: it has o's part, and of this part claims
 -- what v does. Then the cells' logs have of o, at a table whose class is there, what v knew.
-pub joined_adds : (p : PlanForm) (v w : View) (cells : List Holding) (o j : ℕ) → HasGrown w cells → w.seats ≡ v.seats → w.starts ≡ v.starts → Has (o % v.seats) w.parts
+pub joined_adds : (p : PlanForm) (v w : View) (cells : List Holding) (o j : ℕ) → HasGrown w cells → w.seats ≡ v.seats → w.starts ≡ v.starts → StandsIn (o % v.seats) w.parts
     → ((c : ℕ) → own v.seats (o % v.seats) c w.claims ≡ own v.seats (o % v.seats) c v.claims)
     → (x : Holding) → get_elem? cells (table_class p (table_at p o j)) ≡ some x → added p (logs_of cells) o j ≡ added p (logs_at v o) o j
 joined_adds p v w cells o j grown seats starts has claims x g =
@@ -84,15 +84,15 @@ own_right P n k c [] a = All-nil (P c)
 own_right P n k c (q ∷ qs) a =
     let more = own_right P n k c qs (All-tail (λ (x : Claim). P x.class x.entry) q qs a) in
     let here = All-head (λ (x : Claim). P x.class x.entry) q qs a in
-    let f = filter (is_own n k c) qs in
+    let f = filter (is_claim_of n k c) qs in
     let t = (q.entry.op % n) == k in
     ⊎_elim
     (λ e. subst (λ (b : Bool). All (P c) (entries_of (cond (b && t) (q ∷ f) f))) (sym (eq-eqb q.class c e)) (taken t (subst (λ (d : ℕ). P d q.entry) e here) more))
     (λ ne. subst (λ (b : Bool). All (P c) (entries_of (cond (b && t) (q ∷ f) f))) (sym (ne_eqb q.class c ne)) more)
     (cases_eq q.class c)
   where
-    taken : (b : Bool) → P c q.entry → All (P c) (entries_of (filter (is_own n k c) qs)) → All (P c) (entries_of (cond b (q ∷ filter (is_own n k c) qs) (filter (is_own n k c) qs)))
-    taken true x r = All-cons (P c) q.entry (entries_of (filter (is_own n k c) qs)) x r
+    taken : (b : Bool) → P c q.entry → All (P c) (entries_of (filter (is_claim_of n k c) qs)) → All (P c) (entries_of (cond b (q ∷ filter (is_claim_of n k c) qs) (filter (is_claim_of n k c) qs)))
+    taken true x r = All-cons (P c) q.entry (entries_of (filter (is_claim_of n k c) qs)) x r
     taken false x r = r
 
 -- what holds of the log of each cell

@@ -11,7 +11,7 @@ use Rattle.fire_tasks.specs.Fired.{kinds_out}
 use Rattle.fire_tasks.specs.declared.task.Task.{Task}
 use Rattle.fire_tasks.specs.declared.ports.Inlet as inlet
 use Rattle.fire_tasks.specs.declared.ports.Outlet as outlet
-use Rattle.fire_tasks.specs.Ports.{HasMoved, in_ends, out_ends, given_at, sent_of, sent_count, received_count, received_in, IsFull, IsRefused, RefusedAll, Sent, SentAt}
+use Rattle.fire_tasks.specs.Ports.{HasMoved, in_ends, out_ends, given_at, sent_of, sent_count, received_count, received_in, IsFull, IsHeldBack, RefusedAll, Sent, SentAt}
 use Rattle.fire_tasks.specs.Tasks.{IsTask, moves}
 use Rattle.fire_tasks.proofs.PortLemmas.{outs_many, ins_many, count_same, given_moved, given_only, sent_more, sent_none, set_same, set_back}
 
@@ -139,7 +139,7 @@ goes_after port os ls os1 ls1 os2 ls2 n a e b =
 -- port by port
 pub record SentTo (port : ℕ) (os : List outlet.Outlet) (ls : List (List item.Item)) (os' : List outlet.Outlet) (ls' : List (List item.Item)) (moved : Bool) : Type 0 where
   pub sent : Sent os ls os' ls' moved
-  pub stuck : IsFalse moved → (j : ℕ) → j < port → IsRefused j os' ls'
+  pub stuck : IsFalse moved → (j : ℕ) → j < port → IsHeldBack j os' ls'
 
 -- before the first port
 pub to_first : (os : List outlet.Outlet) (ls : List (List item.Item)) → SentTo 0 os ls os ls false
@@ -165,7 +165,7 @@ to_still port os ls os1 ls1 os2 ls2 m n a b e = record {
       (λ z. inl (b.lists j ne ∙ z))
       (λ full. inr (λ d. subst IsFull (sym (b.others j d ne)) (full d)))
       (a.stuck f j l))
-      (λ ge. let q : port ≡ j = omega (arith, lt, ge) in subst (λ k. IsRefused k os2 ls2) q (b.stuck e))
+      (λ ge. let q : port ≡ j = omega (arith, lt, ge) in subst (λ k. IsHeldBack k os2 ls2) q (b.stuck e))
       (cases_lt j port);
 }
 

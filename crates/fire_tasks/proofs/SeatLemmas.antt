@@ -11,7 +11,7 @@ use Rattle.class_locks.specs.declared.view.Held.{Held}
 use Rattle.class_locks.specs.declared.view.Claim.{Claim}
 use Rattle.class_locks.specs.Logs.{part}
 use Rattle.class_locks.specs.Piles.{Piled, AllBelow, Matches, IsPile, HasGained, HasTaken, HasPut, gained}
-use Rattle.class_locks.specs.Views.{Has, Belong, own, claims_of}
+use Rattle.class_locks.specs.Views.{StandsIn, Belong, own, claims_of}
 use Rattle.class_locks.proofs.Owns.{own-append, own_same, own_other}
 use Rattle.fire_tasks.specs.Adds.{AreClaims, IsEntryOf}
 use Rattle.fire_tasks.specs.Turns.{SameRound, pile_grown, HaveGained}
@@ -31,10 +31,10 @@ turned more (x ∷ xs) =
     grown-append (q ∷ ps) qs = ap (λ (l : List Piled). (q.0, record q.1 { log = q.1.log ++ more q.0 }) ∷ l) (grown-append ps qs)
 
 -- entries of an operator whose part the seat has belong to it
-pub own_belongs : (n o : ℕ) (parts : List ℕ) (es : List LogEntry) → Has (o % n) parts → All (λ e. e.op ≡ o) es → Belong n parts es
+pub own_belongs : (n o : ℕ) (parts : List ℕ) (es : List LogEntry) → StandsIn (o % n) parts → All (λ e. e.op ≡ o) es → Belong n parts es
 own_belongs n o parts [] h a = tt
 own_belongs n o parts (e ∷ es) h a =
-    (subst (λ k. Has (k % n) parts) (sym (All-head (λ (x : LogEntry). x.op ≡ o) e es a)) h, own_belongs n o parts es h (All-tail (λ (x : LogEntry). x.op ≡ o) e es a))
+    (subst (λ k. StandsIn (k % n) parts) (sym (All-head (λ (x : LogEntry). x.op ≡ o) e es a)) h, own_belongs n o parts es h (All-tail (λ (x : LogEntry). x.op ≡ o) e es a))
 
 belongs-append : (n : ℕ) (parts : List ℕ) (xs ys : List LogEntry) → Belong n parts xs → Belong n parts ys → Belong n parts (xs ++ ys)
 belongs-append n parts [] ys h g = g
@@ -58,7 +58,7 @@ grown_matches n parts more (p ∷ ps) (h ∷ hs) b m = (
 )
 
 -- a pile whose cells gained entries of an operator of the seat may be put
-pub grown_pile : (v : View) (o : ℕ) (pile pile' : List Piled) → Has (o % v.seats) v.parts → IsPile v pile → HaveGained o pile pile' → IsPile v pile'
+pub grown_pile : (v : View) (o : ℕ) (pile pile' : List Piled) → StandsIn (o % v.seats) v.parts → IsPile v pile → HaveGained o pile pile' → IsPile v pile'
 grown_pile v o pile pile' h k g = record {
   matches = subst (λ (l : List Piled). Matches v.seats v.parts l v.held) (sym (ap reverse g.is ∙ turned g.more pile))
       (grown_matches v.seats v.parts g.more (reverse pile) v.held (λ c. own_belongs v.seats o v.parts (g.more c) h (g.own c)) k.matches);

@@ -14,7 +14,7 @@ use Rattle.class_locks.specs.declared.view.Tried.{Tried}
 use Rattle.class_locks.specs.Logs.{Holding, HasKind, part}
 use Rattle.class_locks.specs.Rule.{IsLogged}
 use Rattle.class_locks.specs.Piles.{Piled, HasLooked, HasTaken, HasPut, HasMoreTries, FoundTaken}
-use Rattle.class_locks.specs.Views.{Has, own}
+use Rattle.class_locks.specs.Views.{StandsIn, own}
 use Rattle.class_locks.proofs.Lists.{at_within}
 use Rattle.river_base.specs.declared.item.Item as item
 use Rattle.fire_tasks.specs.declared.ports.Inlet as inlet
@@ -120,15 +120,15 @@ sat_then p o v u w a b =
 pub seat_again : (p : PlanForm) (o : ℕ) (v w : View) → IsSeatOf p o v → SameRound v w → w.held ≡ [] → IsSeatOf p o w
 seat_again p o v w s r h = record {
   rests = h;
-  part = subst (λ (ps : List ℕ). Has (o % w.seats) ps) (sym r.parts) (subst (λ (n : ℕ). Has (o % n) v.parts) (sym r.seats) s.part);
+  part = subst (λ (ps : List ℕ). StandsIn (o % w.seats) ps) (sym r.parts) (subst (λ (n : ℕ). StandsIn (o % n) v.parts) (sym r.seats) s.part);
   cells = subst (AreCells p) (sym r.starts) s.cells;
 }
 
 -- what is known of claims by a seat's parts, as the seat of the same round knows it
-own_same_round : (v w : View) → SameRound v w → (qs : List Claim) → All (λ (q : Claim). Has (q.entry.op % v.seats) v.parts) qs
-    → All (λ (q : Claim). Has (q.entry.op % w.seats) w.parts) qs
-own_same_round v w r qs c = subst (λ (ps : List ℕ). All (λ (q : Claim). Has (q.entry.op % w.seats) ps) qs) (sym r.parts)
-    (subst (λ (n : ℕ). All (λ (q : Claim). Has (q.entry.op % n) v.parts) qs) (sym r.seats) c)
+own_same_round : (v w : View) → SameRound v w → (qs : List Claim) → All (λ (q : Claim). StandsIn (q.entry.op % v.seats) v.parts) qs
+    → All (λ (q : Claim). StandsIn (q.entry.op % w.seats) w.parts) qs
+own_same_round v w r qs c = subst (λ (ps : List ℕ). All (λ (q : Claim). StandsIn (q.entry.op % w.seats) ps) qs) (sym r.parts)
+    (subst (λ (n : ℕ). All (λ (q : Claim). StandsIn (q.entry.op % n) v.parts) qs) (sym r.seats) c)
 
 -- BUSY
 
@@ -150,7 +150,7 @@ tried_busy p v w t k l h m f =
         rests = h;
         others = λ n ne j. same n j;
         claims = λ c. subst (AreClaims p) (sym l.claims) c;
-        own = λ c. own_same_round v w (record { seats = l.seats; starts = l.starts; parts = l.parts }) w.claims (subst (λ (qs : List Claim). All (λ (q : Claim). Has (q.entry.op % v.seats) v.parts) qs) (sym l.claims) c);
+        own = λ c. own_same_round v w (record { seats = l.seats; starts = l.starts; parts = l.parts }) w.claims (subst (λ (qs : List Claim). All (λ (q : Claim). StandsIn (q.entry.op % v.seats) v.parts) qs) (sym l.claims) c);
         more = m.more;
         takes = m.takes;
       };
@@ -207,7 +207,7 @@ classes_there p valid v t k a i d lt =
     is_at (y ∷ ys) (suc i) x d g = is_at ys i x d g
 
 -- the task took an item, and its rows were put
-pub tried_took : (p : PlanForm) → IsPlan p → (v u w : View) (t t' : Task) (pile pile' : List Piled) → IsTaskAt p v t → Has (t.op % v.seats) v.parts → HasTaken t.classes v u pile
+pub tried_took : (p : PlanForm) → IsPlan p → (v u w : View) (t t' : Task) (pile pile' : List Piled) → IsTaskAt p v t → StandsIn (t.op % v.seats) v.parts → HasTaken t.classes v u pile
     → HasTakenAt p t t' pile pile' → HasPut u w pile' → HasMoreTries v u → w.takes ≡ u.takes → HasTried p v w t t' true
 tried_took p valid v u w t t' pile pile' k mine ht at put m q =
     let ends = at.ends in
@@ -253,8 +253,8 @@ tried_took p valid v u w t t' pile pile' k mine ht at put m q =
 
     own_right : AreOwn v → AreOwn w
     own_right c = own_same_round v w (same_round v u w t.classes pile pile' more ht at.logs put) w.claims
-        (claims_all v u w t.classes pile pile' more ht at.logs put (λ (c : ℕ) (e : LogEntry). Has (e.op % v.seats) v.parts)
-        (λ c i d lt. subst (λ (n : ℕ). Has (n % v.seats) v.parts) (sym (logged_own t.op t.classes t.tables at.rows c i d lt)) mine) c)
+        (claims_all v u w t.classes pile pile' more ht at.logs put (λ (c : ℕ) (e : LogEntry). StandsIn (e.op % v.seats) v.parts)
+        (λ c i d lt. subst (λ (n : ℕ). StandsIn (n % v.seats) v.parts) (sym (logged_own t.op t.classes t.tables at.rows c i d lt)) mine) c)
 
     absent : (c : ℕ) → ((i : ℕ) (x : Piled) → slice_get pile i ≡ Some x → x.0 ≢ c) → more c ≡ []
     absent c none = logged_none t.op t.classes t.tables at.rows c (λ j h g e.

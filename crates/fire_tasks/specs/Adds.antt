@@ -15,7 +15,7 @@ use Rattle.class_locks.specs.declared.log.LogEntry.{LogEntry}
 use Rattle.class_locks.specs.declared.view.View.{View}
 use Rattle.class_locks.specs.declared.view.Claim.{Claim}
 use Rattle.class_locks.specs.Logs.{Holding, HasKind, rows_to, part_of_op}
-use Rattle.class_locks.specs.Views.{Has, own}
+use Rattle.class_locks.specs.Views.{StandsIn, own}
 use Rattle.fire_tasks.specs.declared.task.TablePort.{TablePort}
 
 -- TABLES AND CLASSES BY NUMBERS
@@ -85,4 +85,4 @@ AreClaims p claims = All (λ q. IsEntryOf p q.class q.entry) claims
 
 -- each claim of a seat belongs to one of its parts
 abbrev pub AreOwn : View → Type 0
-AreOwn v = All (λ q. Has (q.entry.op % v.seats) v.parts) v.claims
+AreOwn v = All (λ q. StandsIn (q.entry.op % v.seats) v.parts) v.claims

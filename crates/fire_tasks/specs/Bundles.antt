@@ -2,7 +2,7 @@
 use Rattle.std.specs.Prelude.{◌≡◌, ℕ, ◌%◌, ◌<◌, Bool, false, IsFalse, List, [], length, slice_index_or}
 use Rattle.class_locks.specs.declared.view.View.{View}
 use Rattle.class_locks.specs.Piles.{HasMoreTries}
-use Rattle.class_locks.specs.Views.{Has}
+use Rattle.class_locks.specs.Views.{StandsIn}
 use Rattle.river_plan.specs.Forms.{PlanForm, plan_form}
 use Rattle.river_plan.specs.declared.plan.RawPlan.{RawPlan}
 use Rattle.river_plan.specs.Valid.{IsPlan}
@@ -17,7 +17,7 @@ use Rattle.fire_tasks.specs.Turns.{SameRound, IsStuckSince, LooksSame}
 -- their parts and right claims alone
 pub record AreTasksAt (p : PlanForm) (v : View) (ts : List Task) : Type 0 where
   pub each : (i : ℕ) (d : Task) → i < length ts → IsTaskAt p v (slice_index_or ts i d)
-  pub parts : (i : ℕ) (d : Task) → i < length ts → Has ((slice_index_or ts i d).op % v.seats) v.parts
+  pub parts : (i : ℕ) (d : Task) → i < length ts → StandsIn ((slice_index_or ts i d).op % v.seats) v.parts
   pub apart : (i k : ℕ) (d : Task) → i < length ts → k < length ts → (slice_index_or ts i d).op ≡ (slice_index_or ts k d).op → i ≡ k
   pub narrow : HaveFewPorts ts
   pub cells : AreCells p v.starts
@@ -75,7 +75,7 @@ abbrev pub IsReady : RawPlan → Bundle → Type 0
 IsReady raw b = IsPlan (plan_form raw) × IsBundle (plan_form raw) b
 
 -- after a round it still is one, at the same seat; and where it is not refused, `moved` says whether a number grew
-pub record HasWorked (raw : RawPlan) (b b' : Bundle) : Type 0 where
+pub record HasMadeRound (raw : RawPlan) (b b' : Bundle) : Type 0 where
   pub bundle : IsBundle (plan_form raw) b'
   pub seat : SameSeat b b'
   pub went : b'.refused ≡ false → HasGone b b' b'.moved

@@ -13,7 +13,7 @@ use Rattle.brooklet_step.specs.Given.{held_at, IsHeldOf, AreHeldOf}
 
 -- what the laws see of a task: port by port what it received, what it sent and what is pending there, and an item that it received and
 -- that its port's queue may not hold, with the port. What it added stands in logs
-pub record Seen : Type 0 where
+pub record SeenTask : Type 0 where
   pub received : List (List item.Item)
   pub sent : List (List item.Item)
   pub pending : List (List item.Item)
@@ -48,13 +48,13 @@ IsBad kinds None = Unit {0}
 IsBad kinds (Some e) = (e.0 < length kinds) × (IsHeldOf kinds e.0 e.1 → ⊥)
 
 -- what the operator gave is what queues hold for what it gives on this word, and what it added, table by table, is what it adds on it
-pub record Gave (p : PlanForm) (op : OpForm) (adds : ℕ → List (List ℤ)) (t : Seen) (w : Word) : Type 0 where
+pub record Gave (p : PlanForm) (op : OpForm) (adds : ℕ → List (List ℤ)) (t : SeenTask) (w : Word) : Type 0 where
   pub outs : (j : ℕ) → j < length op.writes → list_at t.sent j ++ list_at t.pending j ≡ held_at (kinds_out p op) j [] ((ran op w).outs j)
   pub adds_are : (j : ℕ) → j < tabs op.kernel → adds j ≡ (ran op w).adds j
 
 -- the operator fired on these items; nothing is said of other operators. What the items stand for it does not know: for every word that
 -- they stand for, it gave and added what is defined
-pub record HasFired (p : PlanForm) (op : OpForm) (adds : ℕ → List (List ℤ)) (t : Seen) (is : Word) : Type 0 where
+pub record HasFired (p : PlanForm) (op : OpForm) (adds : ℕ → List (List ℤ)) (t : SeenTask) (is : Word) : Type 0 where
   pub below : PortsBelow (length op.reads) is
   pub received : (port : ℕ) → list_at t.received port ≡ at_port port is ++ bad_at port t.bad
   pub bad : IsBad (kinds_in p op) t.bad

@@ -40,12 +40,12 @@ sent_of (Stored line) = line
 
 -- the items sent and not known to be taken are as many as the ring holds at most. A kept list is never full
 abbrev pub IsFull : outlet.Outlet → Type 0
-IsFull (SendsTo f) = rings.IsFull f
+IsFull (SendsTo f) = rings.IsFullRing f
 IsFull (Stored line) = ⊥
 
 -- they are fewer. A kept list always has room
 abbrev pub HasRoom : outlet.Outlet → Type 0
-HasRoom (SendsTo f) = rings.HasRoom f
+HasRoom (SendsTo f) = rings.HasRingRoom f
 HasRoom (Stored line) = Unit {0}
 
 -- which end it is: that of a ring, or a kept list
@@ -102,11 +102,11 @@ abbrev pub IsIdle : List (List item.Item) → Type 0
 IsIdle ls = (j : ℕ) → list_at ls j ≡ []
 
 -- at a port nothing is pending, or its ring refused what is
-abbrev pub IsRefused : ℕ → List outlet.Outlet → List (List item.Item) → Type 0
-IsRefused j outs pending = (list_at pending j ≡ []) ⊎ ((d : outlet.Outlet) → IsFull (slice_index_or outs j d))
+abbrev pub IsHeldBack : ℕ → List outlet.Outlet → List (List item.Item) → Type 0
+IsHeldBack j outs pending = (list_at pending j ≡ []) ⊎ ((d : outlet.Outlet) → IsFull (slice_index_or outs j d))
 
 abbrev pub RefusedAll : List outlet.Outlet → List (List item.Item) → Type 0
-RefusedAll outs pending = (j : ℕ) → IsRefused j outs pending
+RefusedAll outs pending = (j : ℕ) → IsHeldBack j outs pending
 
 -- every item known to be there was received
 abbrev pub AllReceived : List inlet.Inlet → Type 0
@@ -126,4 +126,4 @@ pub record SentAt (port : ℕ) (outs : List outlet.Outlet) (pending : List (List
   pub sent : Sent outs pending outs' pending' moved
   pub lists : (j : ℕ) → (port ≡ j → ⊥) → list_at pending' j ≡ list_at pending j
   pub others : (j : ℕ) (d : outlet.Outlet) → (port ≡ j → ⊥) → slice_index_or outs' j d ≡ slice_index_or outs j d
-  pub stuck : IsFalse moved → IsRefused port outs' pending'
+  pub stuck : IsFalse moved → IsHeldBack port outs' pending'

@@ -10,12 +10,12 @@ use Rattle.brooklet_step.specs.Took.{IsBlank}
 use Rattle.class_locks.specs.declared.view.View.{View}
 use Rattle.fire_tasks.specs.declared.task.Task.{Task}
 use Rattle.fire_tasks.specs.Adds.{AreHomes, added, logs_at}
-use Rattle.fire_tasks.specs.Fired.{Seen, HasFired, IsHeldAs, kinds_in}
+use Rattle.fire_tasks.specs.Fired.{SeenTask, HasFired, IsHeldAs, kinds_in}
 use Rattle.fire_tasks.specs.Ports.{received_in, sent_in, pending_in, InEnd, OutEnd, in_ends, out_ends, received_count, sent_count, IsIdle, RefusedAll, AllReceived}
 
 -- what the laws see of a task
-abbrev pub seen : Task → Seen
-seen t = record { received = received_in t.ins; sent = sent_in t.outs; pending = pending_in t.pending; bad = t.bad }
+abbrev pub seen_task : Task → SeenTask
+seen_task t = record { received = received_in t.ins; sent = sent_in t.outs; pending = pending_in t.pending; bad = t.bad }
 
 -- what the states of the task stand for, and that they fit: it can fire on any item of its ports' types
 pub record StatesStand (p : PlanForm) (op : OpForm) (t : Task) (is : Word) : Type 0 where
@@ -36,7 +36,7 @@ pub record IsTask (p : PlanForm) (adds : ℕ → List (List ℤ)) (t : Task) : T
   pub homes : AreHomes p t.op t.tables t.classes
   pub word : Word
   pub count : t.count ≡ min most_firings (length word)
-  pub fired : HasFired p op adds (seen t) word
+  pub fired : HasFired p op adds (seen_task t) word
   pub stands : StatesStand p op t word
 
 -- what it added is told by the logs as a seat knows them

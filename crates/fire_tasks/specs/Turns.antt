@@ -9,7 +9,7 @@ use Rattle.class_locks.specs.declared.view.View.{View}
 use Rattle.class_locks.specs.declared.view.Tried.{Tried}
 use Rattle.class_locks.specs.Logs.{HasKind, TakesRows}
 use Rattle.class_locks.specs.Piles.{Piled, FoundTaken}
-use Rattle.class_locks.specs.Views.{Has}
+use Rattle.class_locks.specs.Views.{StandsIn}
 use Rattle.kern_tables.specs.Tables.{table_width}
 use Rattle.fire_tasks.specs.declared.task.Task.{Task}
 use Rattle.fire_tasks.specs.declared.task.TablePort.{TablePort}
@@ -46,22 +46,22 @@ abbrev pub pile_grown : (ℕ → List LogEntry) → List Piled → List Piled
 pile_grown more pile = map (λ (x : Piled). (x.0, record x.1 { log = x.1.log ++ more x.0 })) pile
 
 -- one entry for rows, and none where there are none
-abbrev pub entry_of : ℕ → ℕ → List (List ℤ) → List LogEntry
-entry_of o table [] = []
-entry_of o table (r ∷ rs) = record { op = o; table = table; rows = r ∷ rs } ∷ []
+abbrev pub entries_for : ℕ → ℕ → List (List ℤ) → List LogEntry
+entries_for o table [] = []
+entries_for o table (r ∷ rs) = record { op = o; table = table; rows = r ∷ rs } ∷ []
 
 -- a cell with these rows of operator o
 abbrev pub cell_with_rows : ℕ → ℕ → List (List ℤ) → Piled → Piled
-cell_with_rows o table rows x = (x.0, record x.1 { log = x.1.log ++ entry_of o table rows })
+cell_with_rows o table rows x = (x.0, record x.1 { log = x.1.log ++ entries_for o table rows })
 
 -- the entries of a firing of operator o for a class, port by port, where `classes` are those of the task
 abbrev pub logged : ℕ → List ℕ → List TablePort → (ℕ → List (List ℤ)) → ℕ → List LogEntry
 logged o classes [] rows c = []
 logged o classes (h ∷ hs) rows c =
-    (if nat_eq (slice_index_or classes h.place 0) c then entry_of o h.table (rows 0) else []) ++ logged o classes hs (λ j. rows (suc j)) c
+    (if nat_eq (slice_index_or classes h.place 0) c then entries_for o h.table (rows 0) else []) ++ logged o classes hs (λ j. rows (suc j)) c
 
 -- for each port there is the cell of its table, and the rows have the table's width
-pub record CanAdd (tables : List TablePort) (rows : ℕ → List (List ℤ)) (pile : List Piled) : Type 0 where
+pub record HasCells (tables : List TablePort) (rows : ℕ → List (List ℤ)) (pile : List Piled) : Type 0 where
   pub each : (j : ℕ) (h : TablePort) → slice_get tables j ≡ Some h
       → (x : Piled) × (slice_get pile h.place ≡ Some x) × TakesRows x.1.kinds h.table (rows j)
 
@@ -106,7 +106,7 @@ pub record SameRound (v w : View) : Type 0 where
 -- the seat holds no class and has the operator's part, and the round's cells are those of the plan
 pub record IsSeatOf (p : PlanForm) (o : ℕ) (v : View) : Type 0 where
   pub rests : v.held ≡ []
-  pub part : Has (o % v.seats) v.parts
+  pub part : StandsIn (o % v.seats) v.parts
   pub cells : AreCells p v.starts
 
 -- what a turn of operator o makes of its seat: the other operators added nothing, each new claim is a right one that belongs to the seat's

@@ -4,7 +4,7 @@ ghost use Rattle.std.specs.List.Sorted.{IsStrictlyIncreasing};
 ghost use Rattle.river_base.specs.Places.{list_at};
 ghost use Rattle.class_locks.specs.Logs.{TakesRows};
 ghost use Rattle.class_locks.specs.Piles.{Piled};
-ghost use Rattle.fire_tasks.specs.Turns.{CanAdd, HaveGained, classes_of, pile_grown, logged, cell_with_rows};
+ghost use Rattle.fire_tasks.specs.Turns.{HasCells, HaveGained, classes_of, pile_grown, logged, cell_with_rows};
 
 use crate::TablePort;
 use brooklet_step::RowLists;
@@ -24,7 +24,7 @@ pub fn add_rows(
 ) -> Result<(), NoMemory>
     requires ascend { IsStrictlyIncreasing (classes_of pile.old.items) }
     requires many { length adds.old ≡ length tables.now }
-    requires can { CanAdd tables.now (list_at adds.old) pile.old.items }
+    requires can { HasCells tables.now (list_at adds.old) pile.old.items }
     ensures gained { HaveGained op pile.old.items pile.new.items }
     ensures logged { OnOk result (pile.new.items ≡ pile_grown (logged op (classes_of pile.old.items) tables.now (list_at adds.old)) pile.old.items) }
     ensures blank { OnOk result (adds.new ≡ replicate (length adds.old) []) }

@@ -1,6 +1,6 @@
 // What a worker does in a round, and rounds of several workers.
 ghost use Rattle.std.specs.Prelude.{◌≡◌, ◌<◌, ℕ, length, slice_index_or, All};
-ghost use Rattle.fire_tasks.specs.Bundles.{IsReady, HasWorked};
+ghost use Rattle.fire_tasks.specs.Bundles.{IsReady, HasMadeRound};
 
 use crate::Bundle;
 use river_base::Gate;
@@ -14,7 +14,7 @@ const MOST_PASSES: u32 = 1024;
 /// A round of a bundle: passes, until one moves nothing.
 pub fn work<G: Gate>(plan: &RawPlan, bundle: &mut Bundle, gate: &G)
     requires { IsReady plan.now bundle.old }
-    ensures { HasWorked plan.now bundle.old bundle.new }
+    ensures { HasMadeRound plan.now bundle.old bundle.new }
 {
     bundle.moved = false;
     if bundle.refused {
@@ -46,11 +46,11 @@ pub trait Works<P> {
 }
 
 impl Works<RawPlan> for Bundle {
-    ghost use Rattle.fire_tasks.specs.Bundles.{IsReady, HasWorked};
+    ghost use Rattle.fire_tasks.specs.Bundles.{IsReady, HasMadeRound};
 
     ghost ready = { IsReady };
 
-    ghost worked = { HasWorked };
+    ghost worked = { HasMadeRound };
 
     fn work<G: Gate>(&mut self, plan: &RawPlan, gate: &G) {
         work(plan, self, gate)
@@ -108,7 +108,7 @@ pub fn round_of<R: Threads + Sync, G: Gate + Sync>(
     requires workers { 0 < workers }
     requires bundles { All (IsReady plan.now) bundles.old }
     ensures many { length bundles.new ≡ length bundles.old }
-    ensures each { (i : ℕ) (d : _) → i < length bundles.old → HasWorked plan.now (slice_index_or bundles.old i d) (slice_index_or bundles.new i d) }
+    ensures each { (i : ℕ) (d : _) → i < length bundles.old → HasMadeRound plan.now (slice_index_or bundles.old i d) (slice_index_or bundles.new i d) }
 {
     round_by(rt, plan, bundles, workers, gate);
 }

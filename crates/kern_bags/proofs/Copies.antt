@@ -11,11 +11,11 @@ use Rattle.river_base.proofs.Counts.{same_row, row_itself, count-cons, count_pas
 use Rattle.river_base.proofs.Rows.{in_order_ascends}
 use Rattle.work_code.specs.Value.{val, is_true}
 use Rattle.kern_bags.specs.Contents.{product, greatest, in_window}
-use Rattle.kern_bags.specs.Laws.{StreamersAre, SelectionsAre, ProjectionsAre, ProductsAre, Ascend}
+use Rattle.kern_bags.specs.Laws.{StreamedRowsAre, SelectionsAre, ProjectionsAre, ProductsAre, Ascend}
 use Rattle.kern_changes.proofs.Copies.{count-map, count-flat_map, sum-cong, copies-in_order, differences_are}
 
 -- streamers by copies
-pub streamers_are : StreamersAre
+pub streamers_are : StreamedRowsAre
 streamers_are before rows row = record { came = differences_are rows before row; went = differences_are before rows row; all = refl }
 
 -- SELECTIONS

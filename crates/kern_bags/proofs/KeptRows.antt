@@ -8,7 +8,7 @@ use Rattle.std.proofs.lemmas.List.Elements.{filter-append}
 use Rattle.std.proofs.lemmas.List.Sums.{sum_by-cons}
 use Rattle.river_base.specs.declared.item.Batch.{Batch}
 use Rattle.kern_bags.specs.Contents.{later, greatest, put_batch, by_instant}
-use Rattle.kern_bags.specs.Kept.{Stamped, stamped, in_turn, AreInTurn, inserted, now_of, now_after}
+use Rattle.kern_bags.specs.Kept.{Stamped, stamped, stamped_in_order, AreInTurn, inserted, now_of, now_after}
 use Rattle.kern_bags.proofs.InTurn.{le_true, le_false, lt_true, lt_false, filter_all, filter_none, all_join}
 use Rattle.kern_bags.proofs.Windowed.{bounded}
 use Rattle.kern_changes.proofs.Merged.{all_as}
@@ -124,11 +124,11 @@ in_turn_rows [] r = tt
 in_turn_rows (b ∷ bs) r = in_turn_stamped b.at b.rows (rows_of_all bs) (all_rows (λ t. b.at ≤ℤ t) bs r.0) (in_turn_rows bs r.1)
 
 -- the rows that came are in turn
-pub are_in_turn : (bs : List Batch) → AreInTurn (in_turn bs)
+pub are_in_turn : (bs : List Batch) → AreInTurn (stamped_in_order bs)
 are_in_turn bs = in_turn_rows (by_instant bs) (rise_all [] bs tt)
 
 -- none of them is later than now
-pub none_later : (bs : List Batch) → AllByRecursion (λ (e : Stamped). e.0 ≤ℤ greatest bs) (in_turn bs)
+pub none_later : (bs : List Batch) → AllByRecursion (λ (e : Stamped). e.0 ≤ℤ greatest bs) (stamped_in_order bs)
 none_later bs = all_rows (λ t. t ≤ℤ greatest bs) (by_instant bs) (all_all (λ (b : Batch). b.at ≤ℤ greatest bs) [] bs tt (bounded bs))
 
 fold_more : {A B : Type 0} (f : B → A → B) (b : B) (xs : List A) (x : A) → fold f b (xs ++ x ∷ []) ≡ f (fold f b xs) x
@@ -136,7 +136,7 @@ fold_more f b [] x = refl
 fold_more f b (y ∷ ys) x = fold_more f (f b y) ys x
 
 -- one batch more comes among them
-pub in_turn_more : (bs : List Batch) (b : Batch) → in_turn (bs ++ b ∷ []) ≡ inserted b.at b.rows (in_turn bs)
+pub in_turn_more : (bs : List Batch) (b : Batch) → stamped_in_order (bs ++ b ∷ []) ≡ inserted b.at b.rows (stamped_in_order bs)
 in_turn_more bs b = ap rows_of_all (fold_more (λ d c. put_batch c d) [] bs b) ∙ rows_put b (by_instant bs) (rise_all [] bs tt)
 
 -- now, after one batch more

@@ -16,8 +16,8 @@ use Rattle.river_base.specs.declared.item.Flat.TheVariants.{One, Batch as Batche
 use Rattle.river_base.specs.Held.{batches}
 use Rattle.river_base.proofs.Counts.{permutation_from_copies}
 use Rattle.river_base.proofs.Rows.{in_order-IsPermutation}
-use Rattle.kern_bags.specs.Contents.{later, greatest, rows_where, by_instant, last_of, in_window, content_of}
-use Rattle.kern_bags.specs.Kept.{Stamped, stamped, in_turn, AreInTurn, inserted, since, still_in, now_of, now_after, WindowKept, StandsForWindow, IsWindowKept}
+use Rattle.kern_bags.specs.Contents.{later, greatest, rows_where, by_instant, last_of_rows, in_window, content_of}
+use Rattle.kern_bags.specs.Kept.{Stamped, stamped, stamped_in_order, AreInTurn, inserted, since, still_in, now_of, now_after, WindowKept, StandsForWindow, IsWindowKept}
 use Rattle.kern_bags.specs.declared.kernel.Window.{Window}
 use Rattle.kern_bags.specs.declared.kernel.Window.TheVariants.{Now, Range, Unbounded, Latest}
 use Rattle.kern_bags.proofs.InTurn.{le_true, le_false, lt_true, filter_all, filter_none, all_join, all_filter, all_from}
@@ -210,14 +210,14 @@ still_none (Latest n) t = last_of_none n
 
 -- what was let go stays away
 pub kept_more : (w : Window) (bs : List Batch) (b : Batch)
-    → still_in w (greatest (bs ++ b ∷ [])) (inserted b.at b.rows (still_in w (greatest bs) (in_turn bs))) ≡ still_in w (greatest (bs ++ b ∷ [])) (in_turn (bs ++ b ∷ []))
+    → still_in w (greatest (bs ++ b ∷ [])) (inserted b.at b.rows (still_in w (greatest bs) (stamped_in_order bs))) ≡ still_in w (greatest (bs ++ b ∷ [])) (stamped_in_order (bs ++ b ∷ []))
 kept_more w [] b =
     ap (λ l. still_in w (greatest (b ∷ [])) (inserted b.at b.rows l)) (still_none w (pos 0)) ∙ ap (still_in w (greatest (b ∷ []))) (sym (in_turn_more [] b))
 kept_more w (c ∷ cs) b =
     let t = greatest (c ∷ cs) in
     let t' = greatest (c ∷ cs ++ b ∷ []) in
     let h : t ≤ℤ t' = subst (λ u. t ≤ℤ u) (sym (greatest_more (c ∷ cs) b)) (later_from t b.at) in
-    kept_later w t t' b.at b.rows (in_turn (c ∷ cs)) (are_in_turn (c ∷ cs)) h ∙ ap (still_in w t') (sym (in_turn_more (c ∷ cs) b))
+    kept_later w t t' b.at b.rows (stamped_in_order (c ∷ cs)) (are_in_turn (c ∷ cs)) h ∙ ap (still_in w t') (sym (in_turn_more (c ∷ cs) b))
 
 filter_in_turn : (p : Stamped → Bool) (es : List Stamped) → AreInTurn es → AreInTurn (filter p es)
 filter_in_turn p [] t = tt
@@ -240,7 +240,7 @@ still_in_turn (Latest n) t es h = drop_in_turn (length es - n) es h
 -- what a window keeps is in turn
 pub kept_in_turn : (w : Window) (kept : WindowKept) → IsWindowKept w kept → AreInTurn kept.rows
 kept_in_turn w kept k =
-    subst AreInTurn (sym k.stands.rows) (still_in_turn w (greatest (batches k.past)) (in_turn (batches k.past)) (are_in_turn (batches k.past)))
+    subst AreInTurn (sym k.stands.rows) (still_in_turn w (greatest (batches k.past)) (stamped_in_order (batches k.past)) (are_in_turn (batches k.past)))
 
 join_in_turn : (at : ℤ) (xs ys : List Stamped) → AllByRecursion (λ (e : Stamped). e.0 ≤ℤ at) xs → AllByRecursion (λ (e : Stamped). at ≤ℤ e.0) ys → AreInTurn xs
     → AreInTurn ys → AreInTurn (xs ++ ys)
@@ -303,7 +303,7 @@ where_rows p (b ∷ bs) = step (p b.at) refl (where_rows p bs) where
       more ∙ ap (map row_in) (sym (all ∙ ap (λ l. l ++ filter Q (rows_of_all bs)) none))
 
 -- the order of batches is nothing to a bag
-where_bag : (p : ℤ → Bool) (bs : List Batch) → in_order (rows_where p bs) ≡ in_order (map row_in (filter (λ (e : Stamped). p e.0) (in_turn bs)))
+where_bag : (p : ℤ → Bool) (bs : List Batch) → in_order (rows_where p bs) ≡ in_order (map row_in (filter (λ (e : Stamped). p e.0) (stamped_in_order bs)))
 where_bag p bs =
     in_order-IsPermutation (rows_where p bs) (rows_where p (by_instant bs)) (permutation_from_copies (rows_where p bs) (rows_where p (by_instant bs)) (λ row.
     let f : Batch → ℕ = λ b. cond (p b.at) (copies row b.rows) 0 in
@@ -311,29 +311,29 @@ where_bag p bs =
     copies-where row p bs ∙ sym (copies-where row p (by_instant bs) ∙ s ∙ omega arith)))
     ∙ ap in_order (where_rows p (by_instant bs))
 
-content_by : (w : Window) (t : ℤ) (bs : List Batch) → AllByRecursion (λ (e : Stamped). e.0 ≤ℤ t) (in_turn bs)
-    → in_order (in_window w t bs) ≡ in_order (map row_in (still_in w t (in_turn bs)))
+content_by : (w : Window) (t : ℤ) (bs : List Batch) → AllByRecursion (λ (e : Stamped). e.0 ≤ℤ t) (stamped_in_order bs)
+    → in_order (in_window w t bs) ≡ in_order (map row_in (still_in w t (stamped_in_order bs)))
 content_by Now t bs h =
     where_bag (λ u. int_eq u t) bs
-    ∙ ap (λ l. in_order (map row_in l)) (filter_same (λ (e : Stamped). int_eq e.0 t) (λ (e : Stamped). int_le t e.0) (in_turn bs) (all_as (λ (e : Stamped). e.0 ≤ℤ t) (λ (e : Stamped). int_eq e.0 t ≡ int_le t e.0) (in_turn bs) (λ e k. same e.0 k) h))
+    ∙ ap (λ l. in_order (map row_in l)) (filter_same (λ (e : Stamped). int_eq e.0 t) (λ (e : Stamped). int_le t e.0) (stamped_in_order bs) (all_as (λ (e : Stamped). e.0 ≤ℤ t) (λ (e : Stamped). int_eq e.0 t ≡ int_le t e.0) (stamped_in_order bs) (λ e k. same e.0 k) h))
   where
     same : (u : ℤ) → u ≤ℤ t → int_eq u t ≡ int_le t u
     same u k = grind (arith, ints, k)
 content_by (Range span) t bs h =
     where_bag (λ u. int_le u t && int_le (later (pos 0) (t -ℤ span)) u) bs
-    ∙ ap (λ l. in_order (map row_in l)) (filter_same (λ (e : Stamped). int_le e.0 t && int_le (later (pos 0) (t -ℤ span)) e.0) (λ (e : Stamped). int_le (later (pos 0) (t -ℤ span)) e.0) (in_turn bs)
-    (all_as (λ (e : Stamped). e.0 ≤ℤ t) (λ (e : Stamped). (int_le e.0 t && int_le (later (pos 0) (t -ℤ span)) e.0) ≡ int_le (later (pos 0) (t -ℤ span)) e.0) (in_turn bs) (λ e k. ap (λ b. b && int_le (later (pos 0) (t -ℤ span)) e.0) (le_true e.0 t k)) h))
+    ∙ ap (λ l. in_order (map row_in l)) (filter_same (λ (e : Stamped). int_le e.0 t && int_le (later (pos 0) (t -ℤ span)) e.0) (λ (e : Stamped). int_le (later (pos 0) (t -ℤ span)) e.0) (stamped_in_order bs)
+    (all_as (λ (e : Stamped). e.0 ≤ℤ t) (λ (e : Stamped). (int_le e.0 t && int_le (later (pos 0) (t -ℤ span)) e.0) ≡ int_le (later (pos 0) (t -ℤ span)) e.0) (stamped_in_order bs) (λ e k. ap (λ b. b && int_le (later (pos 0) (t -ℤ span)) e.0) (le_true e.0 t k)) h))
 content_by Unbounded t bs h =
     where_bag (λ u. int_le u t) bs
-    ∙ ap (λ l. in_order (map row_in l)) (filter_all (λ (e : Stamped). int_le e.0 t) (in_turn bs) (all_as (λ (e : Stamped). e.0 ≤ℤ t) (λ (e : Stamped). int_le e.0 t ≡ true) (in_turn bs) (λ e k. le_true e.0 t k) h))
+    ∙ ap (λ l. in_order (map row_in l)) (filter_all (λ (e : Stamped). int_le e.0 t) (stamped_in_order bs) (all_as (λ (e : Stamped). e.0 ≤ℤ t) (λ (e : Stamped). int_le e.0 t ≡ true) (stamped_in_order bs) (λ e k. le_true e.0 t k) h))
 content_by (Latest n) t bs h =
-    let es = in_turn bs in
+    let es = stamped_in_order bs in
     let all : rows_where (λ u. int_le u t) (by_instant bs) ≡ map row_in es =
     where_rows (λ u. int_le u t) (by_instant bs) ∙ ap (map row_in) (filter_all (λ (e : Stamped). int_le e.0 t) es (all_as (λ (e : Stamped). e.0 ≤ℤ t) (λ (e : Stamped). int_le e.0 t ≡ true) es (λ e k. le_true e.0 t k) h)) in
-    ap in_order (ap (last_of n) all ∙ ap (λ m. drop (m - n) (map row_in es)) (length-map es row_in) ∙ drop-map row_in (length es - n) es)
+    ap in_order (ap (last_of_rows n) all ∙ ap (λ m. drop (m - n) (map row_in es)) (length-map es row_in) ∙ drop-map row_in (length es - n) es)
 
 -- a window's content is what is kept, without instants
-pub content_is : (w : Window) (bs : List Batch) → content_of w bs ≡ in_order (map row_in (still_in w (greatest bs) (in_turn bs)))
+pub content_is : (w : Window) (bs : List Batch) → content_of w bs ≡ in_order (map row_in (still_in w (greatest bs) (stamped_in_order bs)))
 content_is w bs = content_by w (greatest bs) bs (none_later bs)
 
 -- STEPS
@@ -354,8 +354,8 @@ window_stands w b old new past now rows h =
     let bs = batches past in
     let more = batches_more past b in
     let t : now_after old.now b.at ≡ greatest (bs ++ b ∷ []) = ap (λ n. now_after n b.at) h.now ∙ sym (greatest_more bs b) in
-    let are : new.rows ≡ still_in w (greatest (bs ++ b ∷ [])) (in_turn (bs ++ b ∷ [])) = rows ∙ (λ i. still_in w (t i) (inserted b.at b.rows (h.rows i))) ∙ kept_more w bs b in
+    let are : new.rows ≡ still_in w (greatest (bs ++ b ∷ [])) (stamped_in_order (bs ++ b ∷ [])) = rows ∙ (λ i. still_in w (t i) (inserted b.at b.rows (h.rows i))) ∙ kept_more w bs b in
     record {
       now = now ∙ ap (λ n. Some (now_after n b.at)) h.now ∙ sym (now_more bs b) ∙ ap now_of (sym more);
-      rows = are ∙ ap (λ l. still_in w (greatest l) (in_turn l)) (sym more);
+      rows = are ∙ ap (λ l. still_in w (greatest l) (stamped_in_order l)) (sym more);
     }

@@ -11,7 +11,7 @@ use Rattle.river_base.specs.Row.{row_eq, copies}
 use Rattle.river_base.specs.declared.item.Batch.{Batch}
 use Rattle.river_base.proofs.Counts.{count_pass, bag_from_permutation}
 use Rattle.river_base.proofs.Rows.{in_order_bag}
-use Rattle.kern_bags.specs.Contents.{later, greatest, rows_where, put_batch, by_instant, last_of, in_window, content_of}
+use Rattle.kern_bags.specs.Contents.{later, greatest, rows_where, put_batch, by_instant, last_of_rows, in_window, content_of}
 use Rattle.kern_bags.specs.Laws.{lets_pass, ContentsAre, GreatestIsNow, Came, came_at, came, IsLater, LatestAre}
 use Rattle.kern_bags.specs.declared.kernel.Window.TheVariants.{Now, Range, Unbounded, Latest}
 use Rattle.kern_changes.proofs.Copies.{count-append, copies-in_order, sum-cong}
@@ -347,8 +347,8 @@ latest_are n bs =
     let rows : passed ≡ map row_of es =
     ap (rows_where (λ u. int_le u (greatest bs))) (sym (batches_sorted bs))
     ∙ where_all (greatest bs) (sorted bs) (all_put_all (λ (p : Placed). p.batch.at ≤ℤ greatest bs) [] (placed 0 bs) tt (all_placed (greatest bs) 0 bs (bounded bs))) in
-    let last : last_of n passed ≡ map row_of (drop more es) =
-    ap (last_of n) rows ∙ ap (λ m. drop (m - n) (map row_of es)) (length-map es row_of) ∙ drop-map row_of more es in
+    let last : last_of_rows n passed ≡ map row_of (drop more es) =
+    ap (last_of_rows n) rows ∙ ap (λ m. drop (m - n) (map row_of es)) (length-map es row_of) ∙ drop-map row_of more es in
     let many : length (came 0 bs) ≡ length es = sym (count_each (came 0 bs)) ∙ count_sorted (λ e. true) bs ∙ count_each es in
     record {
       kept = drop more es;
@@ -360,7 +360,7 @@ latest_are n bs =
           let d = count-append test (drop more es) (take more es) in
           omega (arith, a, b, c, d);
       content_is =
-          λ test. sym (bag_from_permutation (last_of n passed) (content_of (Latest n) bs) (in_order_bag (last_of n passed)) test) ∙ ap (count_by test) last;
+          λ test. sym (bag_from_permutation (last_of_rows n passed) (content_of (Latest n) bs) (in_order_bag (last_of_rows n passed)) test) ∙ ap (count_by test) last;
       number = let l = length-drop more es in omega (arith, l, many);
       later = later_than more es (climb_all (sorted bs) (climbs_all [] 0 bs tt tt));
     }

@@ -42,15 +42,15 @@ abbrev pub by_instant : List Batch → List Batch
 by_instant bs = fold (λ done b. put_batch b done) [] bs
 
 -- the last n
-abbrev pub last_of : ℕ → List (List ℤ) → List (List ℤ)
-last_of n xs = drop (length xs - n) xs
+abbrev pub last_of_rows : ℕ → List (List ℤ) → List (List ℤ)
+last_of_rows n xs = drop (length xs - n) xs
 
 -- the rows in a window whose greatest instant is t, of all the batches that have come
 abbrev pub in_window : Window → ℤ → List Batch → List (List ℤ)
 in_window Now t bs = rows_where (λ u. int_eq u t) bs
 in_window (Range span) t bs = rows_where (λ u. int_le u t && int_le (later (pos 0) (t -ℤ span)) u) bs
 in_window Unbounded t bs = rows_where (λ u. int_le u t) bs
-in_window (Latest n) t bs = last_of n (rows_where (λ u. int_le u t) (by_instant bs))
+in_window (Latest n) t bs = last_of_rows n (rows_where (λ u. int_le u t) (by_instant bs))
 
 -- the window's content after these batches
 abbrev pub content_of : Window → List Batch → List (List ℤ)

@@ -17,8 +17,8 @@ abbrev pub stamped : ℤ → List (List ℤ) → List Stamped
 stamped at rows = map (λ row. (at, row)) rows
 
 -- the rows that came, in order of their instants, and of their places where these are equal
-abbrev pub in_turn : List Batch → List Stamped
-in_turn bs = flat_map (λ b. stamped b.at b.rows) (by_instant bs)
+abbrev pub stamped_in_order : List Batch → List Stamped
+stamped_in_order bs = flat_map (λ b. stamped b.at b.rows) (by_instant bs)
 
 -- no row stands before one of an earlier instant
 abbrev pub AreInTurn : List Stamped → Type 0
@@ -61,7 +61,7 @@ window_start = record { now = None; rows = [] }
 -- it is kept of these items: the rows that stand in the window, and no others
 pub record StandsForWindow (w : Window) (kept : WindowKept) (past : List item.Item) : Type 0 where
   pub now : kept.now ≡ now_of (batches past)
-  pub rows : kept.rows ≡ still_in w (greatest (batches past)) (in_turn (batches past))
+  pub rows : kept.rows ≡ still_in w (greatest (batches past)) (stamped_in_order (batches past))
 
 -- some items are there of which it is kept
 pub record IsWindowKept (w : Window) (kept : WindowKept) : Type 0 where

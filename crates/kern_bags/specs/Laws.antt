@@ -28,8 +28,8 @@ pub record AreStreamed (before rows : List (List ℤ)) (row : List ℤ) : Type 0
   pub went : copies row (streamed Dstream before rows) ≡ copies row before - copies row rows
   pub all : copies row (streamed Rstream before rows) ≡ copies row rows
 
-abbrev pub StreamersAre : Type 0
-StreamersAre = (before rows : List (List ℤ)) (row : List ℤ) → AreStreamed before rows row
+abbrev pub StreamedRowsAre : Type 0
+StreamedRowsAre = (before rows : List (List ℤ)) (row : List ℤ) → AreStreamed before rows row
 
 -- the rows for which the expression is not 0, each as often as before
 abbrev pub SelectionsAre : Type 0

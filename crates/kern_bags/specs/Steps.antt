@@ -43,15 +43,15 @@ pub record Pairing : Type 0 where
   pub right : List item.Item
 
 -- the rows of an item
-abbrev pub rows_of : item.Item → List (List ℤ)
-rows_of (Flat (Batched b)) = b.rows
-rows_of (Flat (One row)) = []
-rows_of (Flat (Changed c)) = []
-rows_of (Pack fs) = []
+abbrev pub rows_in_item : item.Item → List (List ℤ)
+rows_in_item (Flat (Batched b)) = b.rows
+rows_in_item (Flat (One row)) = []
+rows_in_item (Flat (Changed c)) = []
+rows_in_item (Pack fs) = []
 
 -- two contents joined, at the instant of the first
 abbrev pub joined_batch : item.Item → item.Item → List item.Item
-joined_batch x y = with_rows (λ b. product b.rows (rows_of y)) x
+joined_batch x y = with_rows (λ b. product b.rows (rows_in_item y)) x
 
 -- what the first items of both ports give, where both have one
 abbrev pub front_pair : List item.Item → List item.Item → Option (List item.Item)

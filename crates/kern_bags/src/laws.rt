@@ -1,5 +1,5 @@
 //! Laws of bags, each the contract of a function that does nothing.
-ghost use Rattle.kern_bags.specs.Laws.{DifferencesAre, StreamersAre, SelectionsAre, ProjectionsAre, ProductsAre, ContentsAre, GreatestIsNow, LatestAre, Ascend, ProductsStartEmpty};
+ghost use Rattle.kern_bags.specs.Laws.{DifferencesAre, StreamedRowsAre, SelectionsAre, ProjectionsAre, ProductsAre, ContentsAre, GreatestIsNow, LatestAre, Ascend, ProductsStartEmpty};
 
 /// A row is in a difference as often as in the first bag, less the times it is in the second, and not below 0.
 pub fn differences_are()
@@ -8,7 +8,7 @@ pub fn differences_are()
 
 /// Istream has of each row as many as came, Dstream as many as went, Rstream all.
 pub fn streamers_are()
-    ensures { StreamersAre }
+    ensures { StreamedRowsAre }
 {}
 
 /// A selection has the rows for which the expression is not 0, each as often as before.

@@ -2,7 +2,7 @@
 use Rattle.std.proofs.Common.{◌≡◌, ℕ, zero, suc, ◌<◌, List, [], ◌∷◌, length, get_or, sym, ap, ◌∙◌, subst, arith}
 use Rattle.std.proofs.Math.ListN.{set}
 use Rattle.river_base.specs.declared.item.Item as item
-use Rattle.kern_rows.specs.Passing.{Passes, IsStuck, port_after, had_after}
+use Rattle.kern_rows.specs.Passing.{PassesFront, IsStuck, port_after, had_after}
 use Rattle.kern_rows.specs.Turns.{Turns, rest_at, rest_in}
 use Rattle.kern_rows.proofs.Passed.{front_is, front_none}
 
@@ -37,11 +37,11 @@ stuck_is now port had lists line left v lt at none gone =
 -- the port whose turn it is has an item: it passes
 pub passes_is : (now : Turns) (share port had count next next_had : ℕ) (lists : List (List item.Item)) (line left : List item.Item) (x : item.Item)
     → turns port had lists ≡ now → now.port < length now.lists → line ≡ get_or lists port line → line ≡ x ∷ left → count ≡ length lists
-    → next ≡ port_after share count port had → next_had ≡ had_after share had → Passes share now (turns next next_had (set lists port left)) x
+    → next ≡ port_after share count port had → next_had ≡ had_after share had → PassesFront share now (turns next next_had (set lists port left)) x
 passes_is now share port had count next next_had lists line left x v lt at first c n h =
     let less : port < length lists = subst (λ s. s.port < length s.lists) (sym v) lt in
     let e : get_or lists port [] ≡ x ∷ left = line_at lists port line line less at ∙ first in
-    subst (λ s. Passes share s (turns next next_had (set lists port left)) x) v (record {
+    subst (λ s. PassesFront share s (turns next next_had (set lists port left)) x) v (record {
       front = λ give. front_is give lists port x left less e;
       after =
           ap (λ p. turns p next_had (set lists port left)) (n ∙ ap (λ k. port_after share k port had) c)

@@ -15,12 +15,12 @@ use Rattle.river_base.specs.declared.kind.FlatType.TheVariants.{Rows, Stream, Re
 use Rattle.river_base.specs.declared.kind.QueueType as queue_type
 use Rattle.river_base.specs.declared.kind.QueueType.TheVariants.{Flat as FlatOf, Pack as PackOf}
 use Rattle.river_base.specs.Grew.{GrewByPrefix}
-use Rattle.river_base.specs.Held.{MayHold, IsHeld, after_flat, after_flats, after_item, content_from, held_flat, held_flats, held_item, held_from, as_items, items_of}
+use Rattle.river_base.specs.Held.{MayHold, IsHeld, after_flat, after_flats, after_item, content_from, held_flat, held_flats, held_item, held_from, flats_as_items, items_of}
 use Rattle.river_base.specs.Places.{list_at}
 use Rattle.river_base.proofs.HeldLemmas.{content-append}
 use Rattle.river_base.proofs.LoopLemmas.{grew_by_map}
 use Rattle.kern_rows.specs.Needs.{HaveShares, IsJoiner}
-use Rattle.kern_rows.specs.Passing.{Passes, IsStuck, SoFar, passed_by, port_after, had_after}
+use Rattle.kern_rows.specs.Passing.{PassesFront, IsStuck, SoFar, passed_by, port_after, had_after}
 use Rattle.kern_rows.specs.Turns.{Turns, front_at, rest_at, rest_in, waiting, passed, settled, itself}
 use Rattle.kern_rows.proofs.Passed.{front_is, front_none, length-rest_at, joined_put, so_far_start, so_far_step, so_far_next, so_far_less, so_far_end}
 use Rattle.kern_rows.proofs.Passed.{grew_by_none, grew_on}
@@ -40,12 +40,12 @@ held_from-append before [] ys = refl
 held_from-append before (x ∷ xs) ys = ap (λ l. held_item before x ∷ l) (held_from-append (after_item before x) xs ys)
 
 -- the items of a pack are held as the pack is
-pub held-as_items : (before : List (List ℤ)) (fs : List flat.Flat) → held_from before (as_items fs) ≡ as_items (held_flats before fs)
+pub held-as_items : (before : List (List ℤ)) (fs : List flat.Flat) → held_from before (flats_as_items fs) ≡ flats_as_items (held_flats before fs)
 held-as_items before [] = refl
 held-as_items before (f ∷ fs) = ap (λ l. Flat (held_flat before f) ∷ l) (held-as_items (after_flat before f) fs)
 
 -- and have its content
-pub content-as_items : (before : List (List ℤ)) (fs : List flat.Flat) → content_from before (as_items fs) ≡ after_flats before fs
+pub content-as_items : (before : List (List ℤ)) (fs : List flat.Flat) → content_from before (flats_as_items fs) ≡ after_flats before fs
 content-as_items before [] = refl
 content-as_items before (f ∷ fs) = content-as_items (after_flat before f) fs
 
@@ -64,11 +64,11 @@ after-more before [] f = refl
 after-more before (g ∷ fs) f = after-more (after_flat before g) fs f
 
 held-more : (before : List (List ℤ)) (fs : List flat.Flat) (f : flat.Flat)
-    → as_items (held_flats before (fs ++ f ∷ [])) ≡ as_items (held_flats before fs) ++ Flat (held_flat (after_flats before fs) f) ∷ []
+    → flats_as_items (held_flats before (fs ++ f ∷ [])) ≡ flats_as_items (held_flats before fs) ++ Flat (held_flat (after_flats before fs) f) ∷ []
 held-more before [] f = refl
 held-more before (g ∷ fs) f = ap (λ l. Flat (held_flat before g) ∷ l) (held-more (after_flat before g) fs f)
 
-items-more : (fs : List flat.Flat) (f : flat.Flat) → as_items (fs ++ f ∷ []) ≡ as_items fs ++ Flat f ∷ []
+items-more : (fs : List flat.Flat) (f : flat.Flat) → flats_as_items (fs ++ f ∷ []) ≡ flats_as_items fs ++ Flat f ∷ []
 items-more [] f = refl
 items-more (g ∷ fs) f = ap (λ l. Flat g ∷ l) (items-more fs f)
 
@@ -255,7 +255,7 @@ flats_step place fs f given start s s' out out' out'' j k e = record {
   plain = λ h.
       let a = j.plain (all_front IsUnchanged fs f h) in
       let b = k.plain (all_last IsUnchanged fs f h) in
-      (e ∙ (λ i. a.0 i ++ Flat (b.0 i) ∷ []) ∙ append_assoc out (as_items fs) (Flat f ∷ []) ∙ ap (λ l. out ++ l) (sym (items-more fs f)), b.1 ∙ a.1);
+      (e ∙ (λ i. a.0 i ++ Flat (b.0 i) ∷ []) ∙ append_assoc out (flats_as_items fs) (Flat f ∷ []) ∙ ap (λ l. out ++ l) (sym (items-more fs f)), b.1 ∙ a.1);
   lists = k.lists ∙ j.lists;
   few = λ h. k.few (j.few h);
   wide = λ t h o.
@@ -276,7 +276,7 @@ flats_step place fs f given start s s' out out' out'' j k e = record {
           others = λ r ne. q.others r ne ∙ p.others r ne;
           owed = subst (λ b. AreOwed s' (λ r. b) q.next) (sym (after-more last l.front l.g)) q.owed;
           gave =
-              e ∙ (λ i. p.gave i ++ Flat (q.gave i) ∷ []) ∙ append_assoc out (as_items (held_flats last l.front)) (Flat (held_flat (after_flats last l.front) l.g) ∷ [])
+              e ∙ (λ i. p.gave i ++ Flat (q.gave i) ∷ []) ∙ append_assoc out (flats_as_items (held_flats last l.front)) (Flat (held_flat (after_flats last l.front) l.g) ∷ [])
               ∙ ap (λ r. out ++ r) (sym (held-more last l.front l.g));
         })
 
@@ -287,10 +287,10 @@ flats_part place n done fs s s' out out' out'' j e f = record {
   each = λ last now gs same owed is.
       let h : done ≡ held_flats (now place) (take n gs) = e ∙ ap (take n) is ∙ sym (held-take n (now place) gs) in
       let g = j.each last now (take n gs) (All-take IsUnchanged n gs same) owed h in
-      grew_by_map (λ x. Flat x) out out'' (held_flats last gs) n (f ∙ g.gave ∙ ap (λ l. out ++ as_items l) (held-take n last gs));
+      grew_by_map (λ x. Flat x) out out'' (held_flats last gs) n (f ∙ g.gave ∙ ap (λ l. out ++ flats_as_items l) (held-take n last gs));
   plain = λ h.
       let g = j.plain (subst (All IsUnchanged) (sym e) (All-take IsUnchanged n fs h)) in
-      grew_by_map (λ x. Flat x) out out'' fs n (f ∙ g.0 ∙ ap (λ l. out ++ as_items l) e);
+      grew_by_map (λ x. Flat x) out out'' fs n (f ∙ g.0 ∙ ap (λ l. out ++ flats_as_items l) e);
 }
 
 -- ONE ITEM
@@ -436,20 +436,20 @@ joined_start ws s out j = record {
 -- an item was taken of the port in turn
 pub record Took (ws : List ℕ) (s s' : JoinKept) (place : ℕ) (x : item.Item) : Type 0 where
   pub port : place ≡ s.turns.port
-  pub passes : Passes (slice_index_or ws s.turns.port 0) s.turns s'.turns x
+  pub passes : PassesFront (slice_index_or ws s.turns.port 0) s.turns s'.turns x
   pub owed : s'.owed ≡ s.owed
 
 -- an item that was put to the list of its port is taken
 pub took : (ws : List ℕ) (share place : ℕ) (x : item.Item) (s s' : JoinKept) → share ≡ slice_index_or ws s.turns.port 0 → TakesItem share s.turns s'.turns (place, x)
     → s'.owed ≡ s.owed → Took ws s s' place x
-took ws share place x s s' e h owed = record { port = h.port; passes = subst (λ n. Passes n s.turns s'.turns x) e h.passes; owed = owed }
+took ws share place x s s' e h owed = record { port = h.port; passes = subst (λ n. PassesFront n s.turns s'.turns x) e h.passes; owed = owed }
 
 -- one that passes does not wait any more
 pub fewer_wait : (ws : List ℕ) (s s' : JoinKept) (place : ℕ) (x : item.Item) → IsJoiner ws s.turns → Took ws s s' place x
     → waiting s'.turns.lists < waiting s.turns.lists
 fewer_wait ws s s' place x j t = so_far_less itself ws s.turns s.turns s'.turns [] [] x (so_far_start itself ws s.turns [] j) t.passes
 
-module _ (ws : List ℕ) (s s' : JoinKept) (x : item.Item) (t : Passes (slice_index_or ws s.turns.port 0) s.turns s'.turns x) where
+module _ (ws : List ℕ) (s s' : JoinKept) (x : item.Item) (t : PassesFront (slice_index_or ws s.turns.port 0) s.turns s'.turns x) where
   abbrev port : ℕ
   port = s.turns.port
 
@@ -484,7 +484,7 @@ module _ (ws : List ℕ) (s s' : JoinKept) (x : item.Item) (t : Passes (slice_in
     opens : PassesOpened give held.y
     opens = All-head (PassesOpened give) held.y held.ys (subst (All (PassesOpened give)) held.is (left q))
 
-    passes : Passes (slice_index_or ws q 0) n.turns (passed_by (slice_index_or ws q 0) n.turns) held.y
+    passes : PassesFront (slice_index_or ws q 0) n.turns (passed_by (slice_index_or ws q 0) n.turns) held.y
     passes = record { front = λ g. front_is g n.turns.lists q held.y held.ys lt held.is; after = refl }
 
     rest_front : list_at (rest_at n.turns.lists q) q ≡ held.ys
@@ -614,7 +614,7 @@ module _ (ws : List ℕ) (s s' : JoinKept) (x : item.Item) (t : Passes (slice_in
 pub given_step : (ws : List ℕ) (start s u s' : JoinKept) (place : ℕ) (x : item.Item) (out out' out'' : List item.Item) → HaveShares ws → JoinedSoFar ws start s out out'
     → Took ws s u place x → s'.turns ≡ u.turns → JoinsItem place x u.owed s'.owed out' out'' → JoinedSoFar ws start s' out out''
 given_step ws start s u s' place x out out' out'' shares f t e j =
-    joined_step ws s s' x (subst (λ v. Passes (slice_index_or ws s.turns.port 0) s.turns v x) (sym e) t.passes) start out out' out'' shares
+    joined_step ws s s' x (subst (λ v. PassesFront (slice_index_or ws s.turns.port 0) s.turns v x) (sym e) t.passes) start out out' out'' shares
     (subst (λ p. JoinsItem p x s.owed s'.owed out' out'') t.port (subst (λ d. JoinsItem place x d s'.owed out' out'') t.owed j)) f
 
 -- a part of it is

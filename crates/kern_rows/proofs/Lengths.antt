@@ -2,7 +2,7 @@
 use Rattle.std.proofs.Common.{◌≡◌, ℕ, ℤ, pos, ◌-◌, Bool, true, false, List, length, refl, ◌∙◌, arith, length-append, replicate}
 use Rattle.std.specs.Prelude.{if◌then◌else◌}
 use Rattle.std.proofs.lemmas.List.{length-take-le, length-set}
-use Rattle.work_code.specs.Steps.{Step, Steps, Set, Push, If, Done, Then, Body}
+use Rattle.work_code.specs.Steps.{Step, Steps, Set, Push, If, Done, Then, BodyForm}
 use Rattle.work_code.specs.Ran.{Ran, ran, ran_once}
 use Rattle.work_code.specs.Value.{val, is_true}
 use Rattle.kern_rows.specs.Runs.{slots_from, run_kept}
@@ -24,7 +24,7 @@ mutual
   ran_length (Then s ss) input slots = ran_length ss input (ran_once s input slots).slots ∙ once_length s input slots
 
 -- as many slots are kept as were
-pub run_kept_length : (b : Body) (kept input : List ℤ) → length (run_kept b kept input).slots ≡ length kept
+pub run_kept_length : (b : BodyForm) (kept input : List ℤ) → length (run_kept b kept input).slots ≡ length kept
 run_kept_length b kept input =
     let all = (ran b.steps input (slots_from b.slots kept)).slots in
     let e = ran_length b.steps input (slots_from b.slots kept) in

@@ -11,7 +11,7 @@ use Rattle.river_base.specs.Drain.{drain, pass_on}
 use Rattle.river_base.specs.Grew.{GrewByPrefix}
 use Rattle.river_base.proofs.PlaceLemmas.{if_lt, if_ge, length-append_at}
 use Rattle.kern_rows.specs.Needs.{HaveShares, IsJoiner}
-use Rattle.kern_rows.specs.Passing.{Passes, IsStuck, SoFar, passed_by}
+use Rattle.kern_rows.specs.Passing.{PassesFront, IsStuck, SoFar, passed_by}
 use Rattle.kern_rows.specs.Turns.{Turns, IsTurn, next_port, next_had, front_in, front_at, rest_in, rest_at, front_of, passed, waiting, put, settled, ones}
 
 -- WHAT IS IN FRONT
@@ -126,12 +126,12 @@ module _ (give : item.Item → List item.Item) (ws : List ℕ) where
 
   -- an item passes next: it and what passes after it is what is left
   pub so_far_next : (start now next : Turns) (out out' : List item.Item) (x : item.Item) (f : SoFar give ws start now out out')
-      → Passes (slice_index_or ws now.port 0) now next x → f.given ++ (give x ++ (settled give ws (passed ws now)).0) ≡ (settled give ws start).0
+      → PassesFront (slice_index_or ws now.port 0) now next x → f.given ++ (give x ++ (settled give ws (passed ws now)).0) ≡ (settled give ws start).0
   so_far_next start now next out out' x f p = ap (λ d. f.given ++ d.0) (sym (settled_some now (give x) (p.front give))) ∙ f.all
 
   -- one item more has passed
   pub so_far_step : (start now next : Turns) (out out' out'' : List item.Item) (x : item.Item) → HaveShares ws → SoFar give ws start now out out'
-      → Passes (slice_index_or ws now.port 0) now next x → out'' ≡ out' ++ give x → SoFar give ws start next out out''
+      → PassesFront (slice_index_or ws now.port 0) now next x → out'' ≡ out' ++ give x → SoFar give ws start next out out''
   so_far_step start now next out out' out'' x shares f p g =
       let n : next ≡ passed ws now = p.after ∙ passed_is ws now f.joined.lists in
       let e = settled_some now (give x) (p.front give) in
@@ -145,7 +145,7 @@ module _ (give : item.Item → List item.Item) (ws : List ℕ) where
 
   -- and one item less waits
   pub so_far_less : (start now next : Turns) (out out' : List item.Item) (x : item.Item) → SoFar give ws start now out out'
-      → Passes (slice_index_or ws now.port 0) now next x → waiting next.lists < waiting now.lists
+      → PassesFront (slice_index_or ws now.port 0) now next x → waiting next.lists < waiting now.lists
   so_far_less start now next out out' x f p =
       let e = ap (λ s. waiting s.lists) p.after in
       let l = less_at give now.lists now.port (give x) (p.front give) in

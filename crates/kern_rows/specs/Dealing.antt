@@ -8,13 +8,13 @@ use Rattle.kern_changes.specs.Owed.{DealsOwed, KeepsOwed, owed_start}
 use Rattle.kern_rows.specs.Turns.{next_port, next_had, IsTurn}
 
 -- the port in turn, and how many items it had
-pub record Dealing : Type 0 where
+pub record PortInTurn : Type 0 where
   pub port : ℕ
   pub had : ℕ
 
 -- what a splitter keeps: its turn, and where it deals a relation what each list owes
 pub record Dealt : Type 0 where
-  pub turn : Dealing
+  pub turn : PortInTurn
   pub owed : List Debt
 
 -- before the first item: the first of so many ports is in turn, and nothing is owed
@@ -22,14 +22,14 @@ abbrev pub dealt_start : ℕ → Dealt
 dealt_start n = record { turn = record { port = 0; had = 0 }; owed = owed_start n }
 
 -- the port in turn has had fewer than its share
-abbrev pub IsInTurn : List ℕ → Dealing → Type 0
-IsInTurn ws t = IsTurn ws t.port t.had
+abbrev pub IsPortInTurn : List ℕ → PortInTurn → Type 0
+IsPortInTurn ws t = IsTurn ws t.port t.had
 
 -- the port in turn has had one item more
-pub record TurnsOn (ws : List ℕ) (old new : Dealing) : Type 0 where
+pub record TurnsOn (ws : List ℕ) (old new : PortInTurn) : Type 0 where
   pub port : new.port ≡ next_port ws old.port old.had
   pub had : new.had ≡ next_had ws old.port old.had
-  pub turn : IsInTurn ws new
+  pub turn : IsPortInTurn ws new
 
 -- the item is a change
 pub record IsChanged (x : flat.Flat) : Type 0 where

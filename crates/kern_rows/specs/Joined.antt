@@ -9,10 +9,10 @@ use Rattle.river_base.specs.declared.kind.FlatType.TheVariants.{Rows, Stream, Re
 use Rattle.river_base.specs.declared.kind.QueueType as queue_type
 use Rattle.river_base.specs.declared.kind.QueueType.TheVariants.{Flat as FlatOf, Pack as PackOf}
 use Rattle.river_base.specs.Grew.{GrewByPrefix}
-use Rattle.river_base.specs.Held.{MayHold, IsHeld, after_flat, after_flats, after_item, content_from, held_flat, held_flats, held_item, held_from, as_items, items_of}
+use Rattle.river_base.specs.Held.{MayHold, IsHeld, after_flat, after_flats, after_item, content_from, held_flat, held_flats, held_item, held_from, flats_as_items, items_of}
 use Rattle.river_base.specs.Places.{list_at}
 use Rattle.kern_rows.specs.Needs.{IsJoiner}
-use Rattle.kern_rows.specs.Passing.{Passes}
+use Rattle.kern_rows.specs.Passing.{PassesFront}
 use Rattle.kern_rows.specs.Turns.{Turns, turns_start, put, settled}
 use Rattle.kern_changes.specs.declared.owed.Debt.{Debt}
 use Rattle.kern_changes.specs.Owed.{AreOwed, AreDebtsOf, OweLittle, owed_start}
@@ -141,7 +141,7 @@ pub record KeepsJoin (ws : List ℕ) (old new : JoinKept) (out out' : List item.
 -- the port in turn had an item, which left; or it had none
 pub record TakesItem (share : ℕ) (old new : Turns) (taken : ℕ × item.Item) : Type 0 where
   pub port : taken.0 ≡ old.port
-  pub passes : Passes share old new taken.1
+  pub passes : PassesFront share old new taken.1
 
 -- an item that is no pack has passed from a port: whatever contents were there, it is given with the change from what was given last in
 -- place of its content
@@ -158,7 +158,7 @@ pub record FlatsJoined (port : ℕ) (last : List (List ℤ)) (now : ℕ → List
   pub here : next port ≡ after_flats (now port) fs
   pub others : (q : ℕ) → port ≢ q → next q ≡ now q
   pub owed : AreOwed s (λ p. after_flats last fs) next
-  pub gave : out' ≡ out ++ as_items (held_flats last fs)
+  pub gave : out' ≡ out ++ flats_as_items (held_flats last fs)
 
 -- the same of an item, and its items where it is a pack
 pub record ItemJoined (port : ℕ) (last : List (List ℤ)) (now : ℕ → List (List ℤ)) (x : item.Item) (s : List Debt) (out out' : List item.Item) : Type 0 where
@@ -181,7 +181,7 @@ pub record JoinsFlat (port : ℕ) (f : flat.Flat) (old new : List Debt) (given :
 pub record JoinsFlats (port : ℕ) (fs : List flat.Flat) (old new : List Debt) (out out' : List item.Item) : Type 0 where
   pub each : (last : List (List ℤ)) (now : ℕ → List (List ℤ)) (gs : List flat.Flat) → All IsUnchanged gs → AreOwed old (λ p. last) now
       → fs ≡ held_flats (now port) gs → FlatsJoined port last now gs new out out'
-  pub plain : All IsUnchanged fs → (out' ≡ out ++ as_items fs) × (new ≡ old)
+  pub plain : All IsUnchanged fs → (out' ≡ out ++ flats_as_items fs) × (new ≡ old)
   pub lists : length new ≡ length old
   pub few : OweLittle old → OweLittle new
   pub wide : (t : flat_type.FlatType) → All (MayHold t) fs → MayOwe t old → GaveHeld t out out' × MayOwe t new
@@ -200,8 +200,8 @@ pub record JoinsItem (port : ℕ) (x : item.Item) (old new : List Debt) (out out
 -- a part of a pack was given
 pub record JoinsFlatsPart (port : ℕ) (fs : List flat.Flat) (old : List Debt) (out out' : List item.Item) : Type 0 where
   pub each : (last : List (List ℤ)) (now : ℕ → List (List ℤ)) (gs : List flat.Flat) → All IsUnchanged gs → AreOwed old (λ p. last) now
-      → fs ≡ held_flats (now port) gs → GrewByPrefix out (as_items (held_flats last gs)) out'
-  pub plain : All IsUnchanged fs → GrewByPrefix out (as_items fs) out'
+      → fs ≡ held_flats (now port) gs → GrewByPrefix out (flats_as_items (held_flats last gs)) out'
+  pub plain : All IsUnchanged fs → GrewByPrefix out (flats_as_items fs) out'
 
 -- a part of an item was given
 pub record JoinsItemPart (port : ℕ) (x : item.Item) (old : List Debt) (out out' : List item.Item) : Type 0 where

@@ -1,13 +1,13 @@
 -- What runs of the kernels on rows need: what well-formed kernels have.
 use Rattle.std.specs.Prelude.{◌≡◌, ℕ, ◌<◌, ◌≤◌, List, length, Option, Some, None}
 use Rattle.std.specs.List.{AllByRecursion}
-use Rattle.work_code.specs.Steps.{Step, Steps, Body, Set, Push, If, Done, Then}
+use Rattle.work_code.specs.Steps.{Step, Steps, BodyForm, Set, Push, If, Done, Then}
 use Rattle.work_code.specs.Ran.{IsBodyWithin}
 use Rattle.kern_rows.specs.Forms.{CodeForm, FilterForm, RunForm}
 use Rattle.kern_rows.specs.Turns.{Turns, IsTurn}
 
 -- the body runs on so many inputs, with so many kept slots among its slots
-pub record CanRun (inputs : ℕ) (b : Body) (kept : ℕ) : Type 0 where
+pub record CanRun (inputs : ℕ) (b : BodyForm) (kept : ℕ) : Type 0 where
   pub within : IsBodyWithin inputs b.slots b.steps
   pub slots : kept ≤ b.slots
 

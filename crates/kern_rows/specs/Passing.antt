@@ -16,7 +16,7 @@ abbrev pub passed_by : ℕ → Turns → Turns
 passed_by share s = record { port = port_after share (length s.lists) s.port s.had; had = had_after share s.had; lists = rest_at s.lists s.port }
 
 -- x was the front item, and has passed
-pub record Passes (share : ℕ) (old new : Turns) (x : item.Item) : Type 0 where
+pub record PassesFront (share : ℕ) (old new : Turns) (x : item.Item) : Type 0 where
   pub front : (give : item.Item → List item.Item) → front_of give old ≡ Some (give x)
   pub after : new ≡ passed_by share old
 

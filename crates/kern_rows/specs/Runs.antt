@@ -3,7 +3,7 @@ use Rattle.std.specs.Prelude.{ℕ, zero, suc, ℤ, pos, ◌+◌, ◌-◌, ◌*�
 use Rattle.river_base.specs.declared.item.Item as item
 use Rattle.river_base.specs.declared.item.Item.TheVariants.{Flat}
 use Rattle.river_base.specs.declared.item.Flat.TheVariants.{One}
-use Rattle.work_code.specs.Steps.{Body}
+use Rattle.work_code.specs.Steps.{BodyForm}
 use Rattle.work_code.specs.Ran.{Ran, ran}
 use Rattle.kern_rows.specs.Forms.{FilterForm, RunForm}
 
@@ -12,7 +12,7 @@ abbrev pub slots_from : ℕ → List ℤ → List ℤ
 slots_from slots kept = kept ++ replicate (slots - length kept) (pos 0)
 
 -- one run of a body: what it pushes, and the kept slots afterwards
-abbrev pub run_kept : Body → List ℤ → List ℤ → Ran
+abbrev pub run_kept : BodyForm → List ℤ → List ℤ → Ran
 run_kept b kept input = let r = ran b.steps input (slots_from b.slots kept) in record { pushes = r.pushes; slots = take (length kept) r.slots }
 
 -- the rows that are pushed to a port, as items

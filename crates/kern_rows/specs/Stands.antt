@@ -4,7 +4,7 @@ use Rattle.river_base.specs.Grew.{GrewByPrefix}
 use Rattle.kern_rows.specs.Forms.{FilterForm, RunForm}
 use Rattle.kern_rows.specs.Runs.{Filtering, buffer_of, begins, usual_run, first_run, received, filter_turns, filter_one, with_pushes, run_kept}
 use Rattle.work_code.specs.Ran.{Ran}
-use Rattle.work_code.specs.Steps.{Body}
+use Rattle.work_code.specs.Steps.{BodyForm}
 
 -- what a filter keeps: whether a first run of its own is to come, the values that wait, and the slots
 pub record Waiting : Type 0 where
@@ -80,7 +80,7 @@ abbrev pub runs_left : Waiting → ℕ
 runs_left w = length w.buffer + (if w.fresh then 1 else 0)
 
 -- one run of a body, which looks at `peek` values and takes `pop` of them
-pub record RunIs (peek pop : ℕ) (b : Body) (old new : Waiting) (out out' : List ℤ) : Type 0 where
+pub record RunIs (peek pop : ℕ) (b : BodyForm) (old new : Waiting) (out out' : List ℤ) : Type 0 where
   pub grew : out' ≡ out ++ first_values (run_kept b old.kept (take peek old.buffer)).pushes
   pub fresh : new.fresh ≡ false
   pub buffer : new.buffer ≡ drop pop old.buffer

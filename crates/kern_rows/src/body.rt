@@ -1,7 +1,7 @@
 // Runs of bodies whose first slots are kept.
 ghost use Rattle.std.specs.Prelude.{◌≡◌, ◌-◌, ◌≤◌, ◌++◌, length, replicate, pos, OnOk, OnErr};
 ghost use Rattle.river_base.specs.Grew.{GrewByPrefix};
-ghost use Rattle.work_code.specs.Steps.{body_of};
+ghost use Rattle.work_code.specs.Steps.{code_body};
 ghost use Rattle.work_code.specs.Ran.{IsBodyWithin};
 ghost use Rattle.kern_rows.specs.Needs.{CanRun};
 ghost use Rattle.kern_rows.specs.Runs.{slots_from, run_kept as kept_run};
@@ -28,10 +28,10 @@ pub fn run_kept(
     input: &[i64],
     out: &mut Emitted,
 ) -> Result<(), NoMemory>
-    requires { CanRun (length input.now) (body_of code.now) (length kept.old) }
-    ensures pushes { OnOk result (out.new ≡ out.old ++ (kept_run (body_of code.now) kept.old input.now).pushes) }
-    ensures slots { OnOk result (kept.new ≡ (kept_run (body_of code.now) kept.old input.now).slots) }
-    ensures err { OnErr result (GrewByPrefix out.old (kept_run (body_of code.now) kept.old input.now).pushes out.new) }
+    requires { CanRun (length input.now) (code_body code.now) (length kept.old) }
+    ensures pushes { OnOk result (out.new ≡ out.old ++ (kept_run (code_body code.now) kept.old input.now).pushes) }
+    ensures slots { OnOk result (kept.new ≡ (kept_run (code_body code.now) kept.old input.now).slots) }
+    ensures err { OnErr result (GrewByPrefix out.old (kept_run (code_body code.now) kept.old input.now).pushes out.new) }
 {
     let count = kept.len();
     add_zeros(kept, code.slots as usize)?;

@@ -1,7 +1,7 @@
 // What a filter does with a value.
 ghost use Rattle.std.specs.Prelude.{◌≡◌, ◌≤◌, [], ◌++◌, length, take, IfOk, OnOk, OnErr};
 ghost use Rattle.river_base.specs.Grew.{GrewByPrefix};
-ghost use Rattle.work_code.specs.Steps.{body_of};
+ghost use Rattle.work_code.specs.Steps.{code_body};
 ghost use Rattle.kern_rows.specs.Forms.{filter_form};
 ghost use Rattle.kern_rows.specs.Needs.{CanFilter, CanRun};
 ghost use Rattle.kern_rows.specs.Runs.{filter_start, run_kept as kept_run};
@@ -56,12 +56,12 @@ fn run_body(
     state: &mut FilterState,
     out: &mut Numbers,
 ) -> Result<(), NoMemory>
-    requires can { CanRun peek (body_of code.now) (length state.old.kept) }
+    requires can { CanRun peek (code_body code.now) (length state.old.kept) }
     requires enough { peek ≤ length state.old.buffer }
     requires takes { pop ≤ peek }
-    ensures ran { OnOk result (RunIs peek pop (body_of code.now) state.old state.new out.old out.new) }
+    ensures ran { OnOk result (RunIs peek pop (code_body code.now) state.old state.new out.old out.new) }
     ensures shape { OnOk result (length state.new.kept ≡ length state.old.kept) }
-    ensures err { OnErr result (GrewByPrefix out.old (first_values (kept_run (body_of code.now) state.old.kept (take peek state.old.buffer)).pushes) out.new) }
+    ensures err { OnErr result (GrewByPrefix out.old (first_values (kept_run (code_body code.now) state.old.kept (take peek state.old.buffer)).pushes) out.new) }
 {
     state.pushes.truncate(0);
     let input = state.buffer.first(peek as usize);

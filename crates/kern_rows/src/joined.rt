@@ -1,7 +1,7 @@
 // Items that wait at ports that take turns.
 ghost use Rattle.std.specs.Prelude.{◌≡◌, ◌<◌, length, IfOk, OnOk, MatchOption};
 ghost use Rattle.kern_rows.specs.Turns.{turns_start, put as put_in};
-ghost use Rattle.kern_rows.specs.Passing.{Passes, IsStuck};
+ghost use Rattle.kern_rows.specs.Passing.{PassesFront, IsStuck};
 
 use crate::line::Line;
 use crate::turn::next_turn;
@@ -63,7 +63,7 @@ impl Joined {
     pub fn pass(&mut self, share: u64) -> Option<Item>
         requires port { self.old.port < length self.old.lists }
         requires had { self.old.had < share }
-        ensures { MatchOption result (IsStuck self.old self.new) (λ x. Passes share self.old self.new x) }
+        ensures { MatchOption result (IsStuck self.old self.new) (λ x. PassesFront share self.old self.new x) }
     {
         let line = &mut self.lines[self.port];
         let Some(item) = line.pop() else {

@@ -1,7 +1,7 @@
 // Ports that take turns.
 ghost use Rattle.std.specs.Prelude.{◌≡◌, ◌+◌, ◌<◌, ◌^◌, length, slice_index_or, nat_lt, if◌then◌else◌, IfOk, OnOk};
 ghost use Rattle.river_base.specs.Number.{count_of};
-ghost use Rattle.kern_rows.specs.Dealing.{dealt_start, IsInTurn, TurnsOn, IsChanged, DealsFlat};
+ghost use Rattle.kern_rows.specs.Dealing.{dealt_start, IsPortInTurn, TurnsOn, IsChanged, DealsFlat};
 ghost use Rattle.kern_rows.specs.Needs.{HaveShares};
 ghost use Rattle.kern_rows.specs.Turns.{shares};
 
@@ -50,9 +50,9 @@ struct Turn {
 }
 
 impl Model for Turn {
-    ghost use Rattle.kern_rows.specs.Dealing.{Dealing};
+    ghost use Rattle.kern_rows.specs.Dealing.{PortInTurn};
 
-    ghost Value = { Dealing };
+    ghost Value = { PortInTurn };
 
     ghost view = { λ s. record { port = s.port; had = s.had } };
 
@@ -64,7 +64,7 @@ impl Turn {
     fn pass(&mut self, weights: &Numbers) -> u32
         requires few { length weights.now < 2 ^ 32 }
         requires weights { HaveShares (shares weights.now) }
-        requires turn { IsInTurn (shares weights.now) self.old }
+        requires turn { IsPortInTurn (shares weights.now) self.old }
         ensures given { result ≡ self.old.port }
         ensures turn { TurnsOn (shares weights.now) self.old self.new }
     {
@@ -110,7 +110,7 @@ impl Deal {
     pub fn step(weights: &Numbers, state: &mut DealState) -> u32
         requires few { length weights.now < 2 ^ 32 }
         requires weights { HaveShares (shares weights.now) }
-        requires turn { IsInTurn (shares weights.now) state.old.turn }
+        requires turn { IsPortInTurn (shares weights.now) state.old.turn }
         ensures given { result ≡ state.old.turn.port }
         ensures turn { TurnsOn (shares weights.now) state.old.turn state.new.turn }
         ensures owed { state.new.owed ≡ state.old.owed }
@@ -130,7 +130,7 @@ impl Deal {
     ) -> Result<(u32, Flat), NoMemory>
         requires few { length weights.now < 2 ^ 32 }
         requires weights { HaveShares (shares weights.now) }
-        requires turn { IsInTurn (shares weights.now) state.old.turn }
+        requires turn { IsPortInTurn (shares weights.now) state.old.turn }
         requires owed { length state.old.owed ≡ length weights.now }
         requires change { IsChanged item }
         ensures port { IfOk result (λ given. given.0 ≡ state.old.turn.port) }

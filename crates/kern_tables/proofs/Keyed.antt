@@ -13,14 +13,14 @@ use Rattle.std.proofs.lemmas.List.Elements.{filter-append, All-head, All-tail, A
 use Rattle.std.proofs.lemmas.List.Sums.{fold-append}
 use Rattle.std.proofs.lemmas.List.Sorted.{IsPermutation-sym, All-permutation}
 use Rattle.std.proofs.lemmas.Map.Keys.{sorted_head, sorted_tail}
-use Rattle.river_base.specs.Bags.{place}
+use Rattle.river_base.specs.Bags.{put_in_order}
 use Rattle.river_base.specs.Keyed.{put, keyed}
 use Rattle.river_base.specs.Row.{row_eq, row_cmp, row_lt, row_total, row_ties, in_order}
 use Rattle.river_base.proofs.Counts.{same_row, row_itself}
 use Rattle.river_base.proofs.Rows.{exact_rows, in_order_bag}
 use Rattle.river_base.proofs.KeyedLookups as lookups
 use Rattle.kern_tables.specs.Entries.{split, splits}
-use Rattle.kern_tables.specs.Tables.{once_after, each_once, keys_of, under, has_key}
+use Rattle.kern_tables.specs.Tables.{once_after, each_row_once, keys_of, under_key, has_key}
 
 -- THE ORDER OF KEYS
 
@@ -44,11 +44,11 @@ skip k x xs h = ap (λ b. cond b (once_after k xs) (x ∷ once_after x xs)) h
 keep : (k x : List ℤ) (xs : List (List ℤ)) → row_eq k x ≡ false → once_after k (x ∷ xs) ≡ x ∷ once_after x xs
 keep k x xs h = ap (λ b. cond b (once_after k xs) (x ∷ once_after x xs)) h
 
-past : (k z : List ℤ) (zs : List (List ℤ)) → row_cmp z k ≡ Less → place row_lt k (z ∷ zs) ≡ z ∷ place row_lt k zs
-past k z zs h = ap (λ r. cond (is_lt r) (z ∷ place row_lt k zs) (k ∷ (z ∷ zs))) h
+past : (k z : List ℤ) (zs : List (List ℤ)) → row_cmp z k ≡ Less → put_in_order row_lt k (z ∷ zs) ≡ z ∷ put_in_order row_lt k zs
+past k z zs h = ap (λ r. cond (is_lt r) (z ∷ put_in_order row_lt k zs) (k ∷ (z ∷ zs))) h
 
-here : (k z : List ℤ) (zs : List (List ℤ)) → row_lt z k ≡ false → place row_lt k (z ∷ zs) ≡ k ∷ (z ∷ zs)
-here k z zs h = ap (λ b. cond b (z ∷ place row_lt k zs) (k ∷ (z ∷ zs))) h
+here : (k z : List ℤ) (zs : List (List ℤ)) → row_lt z k ≡ false → put_in_order row_lt k (z ∷ zs) ≡ k ∷ (z ∷ zs)
+here k z zs h = ap (λ b. cond b (z ∷ put_in_order row_lt k zs) (k ∷ (z ∷ zs))) h
 
 at_less : (k e : List ℤ) (es : List (List ℤ)) → row_cmp k e ≡ Less → add_key k (e ∷ es) ≡ k ∷ (e ∷ es)
 at_less k e es h = ap (λ r. match_ordering r (k ∷ (e ∷ es)) (e ∷ es) (e ∷ add_key k es)) h
@@ -68,22 +68,22 @@ front k z zs Equal h g =
     ap (λ l. k ∷ l) (skip k z zs (row_ties k z ∙ ap is_eq h)) ∙ (λ i. e i ∷ once_after (e i) zs) ∙ sym (at_equal k z (once_after z zs) h)
 front k z zs Greater h g = absurd (true≢false g)
 
-placed_after : (y k : List ℤ) (ys : List (List ℤ)) → row_cmp y k ≡ Less → once_after y (place row_lt k ys) ≡ add_key k (once_after y ys)
+placed_after : (y k : List ℤ) (ys : List (List ℤ)) → row_cmp y k ≡ Less → once_after y (put_in_order row_lt k ys) ≡ add_key k (once_after y ys)
 placed_after y k [] h = keep y k [] (apart_less y k h)
 placed_after y k (z ∷ zs) h = step (row_cmp k z) refl (row_eq y z) refl (λ e. placed_after y k zs h) (placed_after z k zs) where
-  step : (r : Ordering) → row_cmp k z ≡ r → (b : Bool) → row_eq y z ≡ b → (row_eq y z ≡ true → once_after y (place row_lt k zs) ≡ add_key k (once_after y zs))
-      → (row_cmp z k ≡ Less → once_after z (place row_lt k zs) ≡ add_key k (once_after z zs))
-      → once_after y (place row_lt k (z ∷ zs)) ≡ add_key k (once_after y (z ∷ zs))
+  step : (r : Ordering) → row_cmp k z ≡ r → (b : Bool) → row_eq y z ≡ b → (row_eq y z ≡ true → once_after y (put_in_order row_lt k zs) ≡ add_key k (once_after y zs))
+      → (row_cmp z k ≡ Less → once_after z (put_in_order row_lt k zs) ≡ add_key k (once_after z zs))
+      → once_after y (put_in_order row_lt k (z ∷ zs)) ≡ add_key k (once_after y (z ∷ zs))
   step Greater g true q same other =
       let l : row_cmp z k ≡ Less = turned k z Greater g in
-      ap (once_after y) (past k z zs l) ∙ skip y z (place row_lt k zs) q ∙ same q ∙ ap (add_key k) (sym (skip y z zs q))
+      ap (once_after y) (past k z zs l) ∙ skip y z (put_in_order row_lt k zs) q ∙ same q ∙ ap (add_key k) (sym (skip y z zs q))
   step Greater g false q same other =
       let l : row_cmp z k ≡ Less = turned k z Greater g in
-      ap (once_after y) (past k z zs l) ∙ keep y z (place row_lt k zs) q ∙ ap (λ t. z ∷ t) (other l) ∙ sym (at_greater k z (once_after z zs) g) ∙ ap (add_key k) (sym (keep y z zs q))
+      ap (once_after y) (past k z zs l) ∙ keep y z (put_in_order row_lt k zs) q ∙ ap (λ t. z ∷ t) (other l) ∙ sym (at_greater k z (once_after z zs) g) ∙ ap (add_key k) (sym (keep y z zs q))
   step Less g b q same other = before Less g refl
     where
       before : (r : Ordering) → row_cmp k z ≡ r → is_lt (ordering_reverse r) ≡ false
-          → once_after y (place row_lt k (z ∷ zs)) ≡ add_key k (once_after y (z ∷ zs))
+          → once_after y (put_in_order row_lt k (z ∷ zs)) ≡ add_key k (once_after y (z ∷ zs))
       before r g' l =
           let apart : row_eq y z ≡ false = apart_less y z (row_total.trans y k z h g) in
           ap (once_after y) (here k z zs (ap is_lt (turned k z r g') ∙ l)) ∙ keep y k (z ∷ zs) (apart_less y k h) ∙ front k z zs r g' l ∙ ap (add_key k) (sym (keep y z zs apart))
@@ -93,14 +93,14 @@ placed_after y k (z ∷ zs) h = step (row_cmp k z) refl (row_eq y z) refl (λ e.
       ap (once_after y) (here k z zs (ap is_lt (turned k z Equal g))) ∙ keep y k (z ∷ zs) (apart_less y k h) ∙ front k z zs Equal g refl ∙ ap (add_key k) (sym (keep y z zs apart))
 
 -- one more key among those that occur
-pub placed_once : (k : List ℤ) (ks : List (List ℤ)) → each_once (place row_lt k ks) ≡ add_key k (each_once ks)
+pub placed_once : (k : List ℤ) (ks : List (List ℤ)) → each_row_once (put_in_order row_lt k ks) ≡ add_key k (each_row_once ks)
 placed_once k [] = refl
 placed_once k (z ∷ zs) = step (row_cmp k z) refl where
-  step : (r : Ordering) → row_cmp k z ≡ r → each_once (place row_lt k (z ∷ zs)) ≡ add_key k (each_once (z ∷ zs))
-  step Less g = ap each_once (here k z zs (ap is_lt (turned k z Less g))) ∙ front k z zs Less g refl
-  step Equal g = ap each_once (here k z zs (ap is_lt (turned k z Equal g))) ∙ front k z zs Equal g refl
+  step : (r : Ordering) → row_cmp k z ≡ r → each_row_once (put_in_order row_lt k (z ∷ zs)) ≡ add_key k (each_row_once (z ∷ zs))
+  step Less g = ap each_row_once (here k z zs (ap is_lt (turned k z Less g))) ∙ front k z zs Less g refl
+  step Equal g = ap each_row_once (here k z zs (ap is_lt (turned k z Equal g))) ∙ front k z zs Equal g refl
   step Greater g =
-      ap each_once (past k z zs (turned k z Greater g)) ∙ ap (λ t. z ∷ t) (placed_after z k zs (turned k z Greater g))
+      ap each_row_once (past k z zs (turned k z Greater g)) ∙ ap (λ t. z ∷ t) (placed_after z k zs (turned k z Greater g))
       ∙ sym (at_greater k z (once_after z zs) g)
 
 -- what holds of each key that occurs holds of the key of each row
@@ -111,7 +111,7 @@ all_after P k (x ∷ xs) p a = step (row_eq k x) refl (all_after P k xs p) (all_
   step true h same other = All-cons P x xs (subst P (same_row k x h) p) (same (subst (AllByRecursion P) (skip k x xs h) a))
   step false h same other = let b : AllByRecursion P (x ∷ once_after x xs) = subst (AllByRecursion P) (keep k x xs h) a in All-cons P x xs b.0 (other b.0 b.1)
 
-all_once : (P : List ℤ → Type 0) (xs : List (List ℤ)) → AllByRecursion P (each_once xs) → All P xs
+all_once : (P : List ℤ → Type 0) (xs : List (List ℤ)) → AllByRecursion P (each_row_once xs) → All P xs
 all_once P [] a = All-nil P
 all_once P (x ∷ xs) a = All-cons P x xs a.0 (all_after P x xs a.0 a.1)
 
@@ -124,17 +124,17 @@ all_keys P keys adds a =
 
 keys_more : (keys : ℕ) (done : List (List ℤ)) (x : List ℤ) → keys_of keys (done ++ x ∷ []) ≡ add_key (take keys x) (keys_of keys done)
 keys_more keys done x =
-    ap (λ l. each_once (in_order l)) (map-append (λ row. take keys row) done (x ∷ []))
-    ∙ ap each_once (fold-append (λ kept k. place row_lt k kept) [] (map (λ row. take keys row) done) (take keys x ∷ []))
+    ap (λ l. each_row_once (in_order l)) (map-append (λ row. take keys row) done (x ∷ []))
+    ∙ ap each_row_once (fold-append (λ kept k. put_in_order row_lt k kept) [] (map (λ row. take keys row) done) (take keys x ∷ []))
     ∙ placed_once (take keys x) (in_order (map (λ row. take keys row) done))
 
 under_more : (keys : ℕ) (key : List ℤ) (done : List (List ℤ)) (x : List ℤ)
-    → under keys key (done ++ x ∷ []) ≡ under keys key done ++ map (λ row. drop keys row) (cond (has_key keys key x) (x ∷ []) [])
+    → under_key keys key (done ++ x ∷ []) ≡ under_key keys key done ++ map (λ row. drop keys row) (cond (has_key keys key x) (x ∷ []) [])
 under_more keys key done x =
     ap (map (λ row. drop keys row)) (filter-append (has_key keys key) done (x ∷ []))
     ∙ map-append (λ row. drop keys row) (filter (has_key keys key) done) (cond (has_key keys key x) (x ∷ []) [])
 
-none_under : (keys : ℕ) (key : List ℤ) (adds : List (List ℤ)) → All (λ k. row_eq key k ≡ false) (map (λ row. take keys row) adds) → under keys key adds ≡ []
+none_under : (keys : ℕ) (key : List ℤ) (adds : List (List ℤ)) → All (λ k. row_eq key k ≡ false) (map (λ row. take keys row) adds) → under_key keys key adds ≡ []
 none_under keys key [] a = refl
 none_under keys key (x ∷ xs) a =
     let P : List ℤ → Type 0 = λ k. row_eq key k ≡ false in
@@ -151,7 +151,7 @@ none_under keys key (x ∷ xs) a =
 module _ {V : Type 0} (start : V) (merge : V → List ℤ → V) where
   -- what is merged under a key
   abbrev pub value_at : ℕ → List (List ℤ) → List ℤ → V
-  value_at keys adds key = fold merge start (under keys key adds)
+  value_at keys adds key = fold merge start (under_key keys key adds)
 
   -- a key with its value
   abbrev pub with_value : ℕ → List (List ℤ) → List ℤ → List ℤ × V
@@ -164,14 +164,14 @@ module _ {V : Type 0} (start : V) (merge : V → List ℤ → V) where
   value_here : (keys : ℕ) (done : List (List ℤ)) (x key : List ℤ) → row_eq (take keys x) key ≡ true
       → value_at keys (done ++ x ∷ []) key ≡ merge (value_at keys done key) (drop keys x)
   value_here keys done x key h =
-      ap (fold merge start) (under_more keys key done x ∙ ap (λ b. under keys key done ++ map (λ row. drop keys row) (cond b (x ∷ []) [])) h)
-      ∙ fold-append merge start (under keys key done) (drop keys x ∷ [])
+      ap (fold merge start) (under_more keys key done x ∙ ap (λ b. under_key keys key done ++ map (λ row. drop keys row) (cond b (x ∷ []) [])) h)
+      ∙ fold-append merge start (under_key keys key done) (drop keys x ∷ [])
 
   value_there : (keys : ℕ) (done : List (List ℤ)) (x key : List ℤ) → row_eq (take keys x) key ≡ false
       → value_at keys (done ++ x ∷ []) key ≡ value_at keys done key
   value_there keys done x key h =
-      ap (fold merge start) (under_more keys key done x ∙ ap (λ b. under keys key done ++ map (λ row. drop keys row) (cond b (x ∷ []) [])) h)
-      ∙ fold-append merge start (under keys key done) []
+      ap (fold merge start) (under_more keys key done x ∙ ap (λ b. under_key keys key done ++ map (λ row. drop keys row) (cond b (x ∷ []) [])) h)
+      ∙ fold-append merge start (under_key keys key done) []
 
   -- keys to which the new one is not equal keep their values
   others : (keys : ℕ) (done : List (List ℤ)) (x : List ℤ) (ks : List (List ℤ)) → AllByRecursion (λ e. row_eq (take keys x) e ≡ false) ks

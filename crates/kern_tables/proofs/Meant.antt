@@ -25,7 +25,7 @@ use Rattle.river_base.proofs.Ascending as order
 use Rattle.river_base.proofs.Rows.{in_order_bag}
 use Rattle.kern_tables.specs.declared.ranked.Ranked.{Ranked}
 use Rattle.kern_tables.specs.Laws.{SumsAre, IsAhead, AreBest, MaximaAre}
-use Rattle.kern_tables.specs.Tables.{once_after, each_once, keys_of, under, has_key, ranked_in, add_value, sum_of, ranks_before, best_of, sum_row, ranked_row}
+use Rattle.kern_tables.specs.Tables.{once_after, each_row_once, keys_of, under_key, has_key, ranked_in, add_value, sum_of, ranks_before, best_of, sum_row, ranked_row}
 use Rattle.river_base.proofs.Counts.{same_row, row_itself}
 use Rattle.kern_tables.proofs.Keyed.{keys_rise}
 use Rattle.kern_tables.proofs.Ranking.{Rises, Empty, More, rises}
@@ -51,7 +51,7 @@ any_after k x (y ∷ ys) h = step (row_eq x y) refl (any_after k x ys h) (λ g. 
     here true g = ap (λ b. any_more b (list_any (row_eq k) (once_after y ys))) g ∙ sym (ap (λ b. any_more b (list_any (row_eq k) ys)) g)
     here false g = ap (any_more (row_eq k y)) (other g)
 
-any_once : (k : List ℤ) (xs : List (List ℤ)) → list_any (row_eq k) (each_once xs) ≡ list_any (row_eq k) xs
+any_once : (k : List ℤ) (xs : List (List ℤ)) → list_any (row_eq k) (each_row_once xs) ≡ list_any (row_eq k) xs
 any_once k [] = refl
 any_once k (x ∷ xs) = step (row_eq k x) refl (λ g. any_after k x xs g) where
   step : (b : Bool) → row_eq k x ≡ b → (row_eq k x ≡ false → list_any (row_eq k) (once_after x xs) ≡ list_any (row_eq k) xs)
@@ -117,7 +117,7 @@ wrap_zero = refl
 -- sums by the bag of rows
 pub sums_are : SumsAre
 sums_are keys adds =
-    let f : List ℤ → ℤ = λ key. sum_of (under keys key adds) in
+    let f : List ℤ → ℤ = λ key. sum_of (under_key keys key adds) in
     let es : List (List ℤ × ℤ) = map (paired f) (keys_of keys adds) in
     record {
       entries = es;
@@ -125,7 +125,7 @@ sums_are keys adds =
       rise = subst (IsStrictlySortedBy row_cmp) (sym (keys_paired f (keys_of keys adds))) (keys_rise (pos 0) add_value sums_commute keys adds);
       at =
           λ key. stands_at f keys key adds
-          ∙ ap (λ v. cond (list_any (has_key keys key) adds) (Some v) None) (ap (λ z. fold add_value z (under keys key adds)) (sym wrap_zero) ∙ wrapped_sum (pos 0) (under keys key adds));
+          ∙ ap (λ v. cond (list_any (has_key keys key) adds) (Some v) None) (ap (λ z. fold add_value z (under_key keys key adds)) (sym wrap_zero) ∙ wrapped_sum (pos 0) (under_key keys key adds));
     }
 
 -- THE BEST
@@ -194,12 +194,12 @@ best_are best rests =
 -- maxima by the bag of rows
 pub maxima_are : MaximaAre
 maxima_are keys best adds =
-    let f : List ℤ → List Ranked = λ key. best_of best (under keys key adds) in
+    let f : List ℤ → List Ranked = λ key. best_of best (under_key keys key adds) in
     record {
       entries = map (paired f) (keys_of keys adds);
       rows_are = flat_map_map (λ (e : List ℤ × List Ranked). map (ranked_row e.0) e.1) (paired f) (keys_of keys adds);
       rise = subst (IsStrictlySortedBy row_cmp) (sym (keys_paired f (keys_of keys adds))) (keys_rise [] (best_more best) (maxima_commute best) keys adds);
       kept = f;
       at = λ key. stands_at f keys key adds;
-      best_are = λ key. best_are best (under keys key adds);
+      best_are = λ key. best_are best (under_key keys key adds);
     }

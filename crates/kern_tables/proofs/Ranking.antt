@@ -8,7 +8,7 @@ use Rattle.std.proofs.lemmas.Bool.{true≢false}
 use Rattle.std.proofs.lemmas.List.Elements.{All-head, All-tail, All-cons, All-nil}
 use Rattle.std.proofs.lemmas.List.Sorted.{All-permutation, length_permutation}
 use Rattle.std.proofs.lemmas.List.{take-append-le, take_all}
-use Rattle.river_base.specs.Bags.{place, ascending}
+use Rattle.river_base.specs.Bags.{put_in_order, ascending}
 use Rattle.river_base.proofs.Ascending as order
 use Rattle.kern_tables.specs.declared.ranked.Ranked.{Ranked}
 use Rattle.kern_tables.specs.Tables.{rank_cmp, ranks_before}
@@ -18,7 +18,7 @@ abbrev by_rank : List Ranked → List Ranked
 by_rank xs = ascending ranks_before xs
 
 -- one row more, by rank
-pub pushed : (x : Ranked) (xs ys : List Ranked) → IsPermutation (x ∷ xs) ys → by_rank ys ≡ place ranks_before x (by_rank xs)
+pub pushed : (x : Ranked) (xs ys : List Ranked) → IsPermutation (x ∷ xs) ys → by_rank ys ≡ put_in_order ranks_before x (by_rank xs)
 pushed x xs ys h =
     sym (order.ascending-IsPermutation ranks_before ranked_weakly apart_ranks (x ∷ xs) ys h) ∙ order.ascending-cons ranks_before ranked_weakly apart_ranks x xs
 
@@ -30,10 +30,10 @@ by_recursion : (P : Ranked → Type 0) (xs : List Ranked) → All P xs → AllBy
 by_recursion P [] a = tt
 by_recursion P (x ∷ xs) a = (All-head P x xs a, by_recursion P xs (All-tail P x xs a))
 
-first_stays : (x w : Ranked) (ws : List Ranked) → ranks_before w x ≡ false → place ranks_before x (w ∷ ws) ≡ x ∷ (w ∷ ws)
-first_stays x w ws h = ap (λ b. cond b (w ∷ place ranks_before x ws) (x ∷ (w ∷ ws))) h
+first_stays : (x w : Ranked) (ws : List Ranked) → ranks_before w x ≡ false → put_in_order ranks_before x (w ∷ ws) ≡ x ∷ (w ∷ ws)
+first_stays x w ws h = ap (λ b. cond b (w ∷ put_in_order ranks_before x ws) (x ∷ (w ∷ ws))) h
 
-pub stays : (x : Ranked) (zs : List Ranked) → AllByRecursion (λ w. ranks_before w x ≡ false) zs → place ranks_before x zs ≡ x ∷ zs
+pub stays : (x : Ranked) (zs : List Ranked) → AllByRecursion (λ w. ranks_before w x ≡ false) zs → put_in_order ranks_before x zs ≡ x ∷ zs
 stays x [] a = refl
 stays x (w ∷ ws) a = first_stays x w ws a.0
 
@@ -43,19 +43,19 @@ pub data Rises : List Ranked → Type 0 where
   More : {x : Ranked} {xs : List Ranked} → AllByRecursion (λ w. ranks_before w x ≡ false) xs → Rises xs → Rises (x ∷ xs)
 
 -- what is below none goes to the end
-place_last : (x : Ranked) (zs : List Ranked) → Rises zs → AllByRecursion (λ w. ranks_before x w ≡ false) zs → place ranks_before x zs ≡ zs ++ x ∷ []
+place_last : (x : Ranked) (zs : List Ranked) → Rises zs → AllByRecursion (λ w. ranks_before x w ≡ false) zs → put_in_order ranks_before x zs ≡ zs ++ x ∷ []
 place_last x [] r a = refl
 place_last x (z ∷ zs) (More low r) a = step (ranks_before z x) refl (place_last x zs r a.1) where
-  step : (b : Bool) → ranks_before z x ≡ b → place ranks_before x zs ≡ zs ++ x ∷ [] → place ranks_before x (z ∷ zs) ≡ z ∷ (zs ++ x ∷ [])
-  step true h more = ap (λ b. cond b (z ∷ place ranks_before x zs) (x ∷ (z ∷ zs))) h ∙ ap (λ l. z ∷ l) more
+  step : (b : Bool) → ranks_before z x ≡ b → put_in_order ranks_before x zs ≡ zs ++ x ∷ [] → put_in_order ranks_before x (z ∷ zs) ≡ z ∷ (zs ++ x ∷ [])
+  step true h more = ap (λ b. cond b (z ∷ put_in_order ranks_before x zs) (x ∷ (z ∷ zs))) h ∙ ap (λ l. z ∷ l) more
   step false h more =
       let e : z ≡ x = apart_ranks z x h a.0 in
       first_stays x z zs h ∙ (λ i. sym e i ∷ (e i ∷ zs)) ∙ ap (λ l. z ∷ l) (sym (stays x zs (subst (λ u. AllByRecursion (λ w. ranks_before w u ≡ false) zs) e low)) ∙ more)
 
-all_placed : (P : Ranked → Type 0) (x : Ranked) (zs : List Ranked) → P x → AllByRecursion P zs → AllByRecursion P (place ranks_before x zs)
+all_placed : (P : Ranked → Type 0) (x : Ranked) (zs : List Ranked) → P x → AllByRecursion P zs → AllByRecursion P (put_in_order ranks_before x zs)
 all_placed P x [] p a = (p, tt)
 all_placed P x (z ∷ zs) p a = step (ranks_before z x) (all_placed P x zs p a.1) where
-  step : (b : Bool) → AllByRecursion P (place ranks_before x zs) → AllByRecursion P (cond b (z ∷ place ranks_before x zs) (x ∷ (z ∷ zs)))
+  step : (b : Bool) → AllByRecursion P (put_in_order ranks_before x zs) → AllByRecursion P (cond b (z ∷ put_in_order ranks_before x zs) (x ∷ (z ∷ zs)))
   step true more = (a.0, more)
   step false more = (p, a)
 
@@ -64,18 +64,18 @@ farther : (x z : Ranked) (zs : List Ranked) → ranks_before z x ≡ false → A
 farther x z [] h a = tt
 farther x z (w ∷ ws) h a = (ranked_weakly.chain w z x a.0 h, farther x z ws h a.1)
 
-place_rises : (x : Ranked) (zs : List Ranked) → Rises zs → Rises (place ranks_before x zs)
+place_rises : (x : Ranked) (zs : List Ranked) → Rises zs → Rises (put_in_order ranks_before x zs)
 place_rises x [] r = More tt Empty
 place_rises x (z ∷ zs) (More low r) = step (ranks_before z x) refl (place_rises x zs r) where
-  step : (b : Bool) → ranks_before z x ≡ b → Rises (place ranks_before x zs) → Rises (place ranks_before x (z ∷ zs))
+  step : (b : Bool) → ranks_before z x ≡ b → Rises (put_in_order ranks_before x zs) → Rises (put_in_order ranks_before x (z ∷ zs))
   step true h more =
-      subst Rises (sym (ap (λ b. cond b (z ∷ place ranks_before x zs) (x ∷ (z ∷ zs))) h))
+      subst Rises (sym (ap (λ b. cond b (z ∷ put_in_order ranks_before x zs) (x ∷ (z ∷ zs))) h))
       (More (all_placed (λ w. ranks_before w z ≡ false) x zs (ranked_weakly.one_way z x h) low) more)
   step false h more = subst Rises (sym (first_stays x z zs h)) (More (h, farther x z zs h low) (More low r))
 
-fold_rises : (acc xs : List Ranked) → Rises acc → Rises (fold (λ done x. place ranks_before x done) acc xs)
+fold_rises : (acc xs : List Ranked) → Rises acc → Rises (fold (λ done x. put_in_order ranks_before x done) acc xs)
 fold_rises acc [] r = r
-fold_rises acc (x ∷ xs) r = fold_rises (place ranks_before x acc) xs (place_rises x acc r)
+fold_rises acc (x ∷ xs) r = fold_rises (put_in_order ranks_before x acc) xs (place_rises x acc r)
 
 -- rows by rank rise
 pub rises : (xs : List Ranked) → Rises (by_rank xs)
@@ -127,7 +127,7 @@ behind_top r top (w ∷ ws) h up = (ranked_weakly.chain r top w h up.0, behind_t
 
 -- where as many as may be kept are kept, one that does not rank before the worst changes nothing
 pub stays_out : (best : ℕ) (r top : Ranked) (xs : List Ranked) → length xs ≡ best → IsUpperBound rank_cmp top xs → ranks_before r top ≡ false
-    → take best (place ranks_before r (by_rank xs)) ≡ by_rank xs
+    → take best (put_in_order ranks_before r (by_rank xs)) ≡ by_rank xs
 stays_out best r top xs n up h =
     let m : length (by_rank xs) ≡ length xs = length_permutation xs (by_rank xs) (order.ascending_bag ranks_before ranked_weakly apart_ranks xs) in
     let bound : AllByRecursion (λ w. ranks_before r w ≡ false) (by_rank xs) =

@@ -13,11 +13,11 @@ use Rattle.std.proofs.lemmas.List.Sorted.{ranks_by, IsPermutation-map}
 use Rattle.std.proofs.lemmas.Map.Lookups.{CmpEqualImpliesEq, exact_signed}
 use Rattle.kern_tables.specs.declared.kind.TableKind.{TableKind}
 use Rattle.kern_tables.specs.declared.kind.TableKind.TheVariants.{Sum, Collection, Maximum}
-use Rattle.river_base.specs.Bags.{place}
+use Rattle.river_base.specs.Bags.{put_in_order}
 use Rattle.river_base.specs.Keyed.{keyed, put}
 use Rattle.std.proofs.lemmas.List.{map-append}
 use Rattle.std.proofs.lemmas.List.Sums.{fold-append}
-use Rattle.kern_tables.specs.Kept.{kept_of, added, added_all, rows_of, kind_of}
+use Rattle.kern_tables.specs.Kept.{kept_of, with_row, added_all, rows_of, kind_of_table}
 use Rattle.kern_tables.specs.declared.kept.Kept.{Kept}
 use Rattle.kern_tables.specs.declared.kept.Kept.TheVariants.{Sums, Rows, Maxima}
 use Rattle.river_base.specs.Number.{wrap}
@@ -30,7 +30,7 @@ use Rattle.river_base.specs.Bags.{SameBag}
 use Rattle.kern_tables.specs.Laws.{TablesAreOfBags, CollectionsAre, TablesKeepAdds}
 use Rattle.kern_tables.specs.Entries.{split, splits, best_more, sum_rows, maximum_rows}
 use Rattle.kern_tables.specs.Ranks.{rank_total}
-use Rattle.kern_tables.specs.Tables.{tab, keys_of, under, value_in, ranked_in, add_value, sum_of, rank_cmp, ranks_before, best_of, sum_row, ranked_row}
+use Rattle.kern_tables.specs.Tables.{tab, keys_of, under_key, value_in, ranked_in, add_value, sum_of, rank_cmp, ranks_before, best_of, sum_row, ranked_row}
 use Rattle.river_base.proofs.Counts.{permutation_from_bag, bag_from_permutation}
 use Rattle.kern_tables.proofs.Keyed.{with_value, grouped_keyed}
 
@@ -76,7 +76,7 @@ wrapped_sum z (r ∷ rs) = ap (λ v. fold add_value v rs) (int_wrap-add_left w64
 -- MAXIMA
 
 -- to cut before changes nothing
-pub cut_place : {K : Type 0} (lt : K → K → Bool) (n : ℕ) (x : K) (l : List K) → take n (place lt x (take n l)) ≡ take n (place lt x l)
+pub cut_place : {K : Type 0} (lt : K → K → Bool) (n : ℕ) (x : K) (l : List K) → take n (put_in_order lt x (take n l)) ≡ take n (put_in_order lt x l)
 cut_place lt zero x l = refl
 cut_place lt (suc n) x [] = refl
 cut_place lt (suc n) x (y ∷ ys) = step (lt y x) refl (cut_place lt n x ys) where
@@ -89,29 +89,29 @@ cut_place lt (suc n) x (y ∷ ys) = step (lt y x) refl (cut_place lt n x ys) whe
       cut (suc m) [] = refl
       cut (suc m) (z ∷ zs) = ap (λ l. z ∷ l) (cut m zs)
 
-  step : (b : Bool) → lt y x ≡ b → take n (place lt x (take n ys)) ≡ take n (place lt x ys)
-      → take (suc n) (place lt x (y ∷ take n ys)) ≡ take (suc n) (place lt x (y ∷ ys))
+  step : (b : Bool) → lt y x ≡ b → take n (put_in_order lt x (take n ys)) ≡ take n (put_in_order lt x ys)
+      → take (suc n) (put_in_order lt x (y ∷ take n ys)) ≡ take (suc n) (put_in_order lt x (y ∷ ys))
   step true h more =
-      ap (λ b. take (suc n) (cond b (y ∷ place lt x (take n ys)) (x ∷ (y ∷ take n ys)))) h ∙ ap (λ l. y ∷ l) more
-      ∙ sym (ap (λ b. take (suc n) (cond b (y ∷ place lt x ys) (x ∷ (y ∷ ys)))) h)
+      ap (λ b. take (suc n) (cond b (y ∷ put_in_order lt x (take n ys)) (x ∷ (y ∷ take n ys)))) h ∙ ap (λ l. y ∷ l) more
+      ∙ sym (ap (λ b. take (suc n) (cond b (y ∷ put_in_order lt x ys) (x ∷ (y ∷ ys)))) h)
   step false h more =
-      ap (λ b. take (suc n) (cond b (y ∷ place lt x (take n ys)) (x ∷ (y ∷ take n ys)))) h ∙ ap (λ l. x ∷ l) (shorter n y ys)
-      ∙ sym (ap (λ b. take (suc n) (cond b (y ∷ place lt x ys) (x ∷ (y ∷ ys)))) h)
+      ap (λ b. take (suc n) (cond b (y ∷ put_in_order lt x (take n ys)) (x ∷ (y ∷ take n ys)))) h ∙ ap (λ l. x ∷ l) (shorter n y ys)
+      ∙ sym (ap (λ b. take (suc n) (cond b (y ∷ put_in_order lt x ys) (x ∷ (y ∷ ys)))) h)
 
 -- two rows may come to a maximum in either order
 pub maxima_commute : (best : ℕ) (v : List Ranked) (w u : List ℤ) → best_more best (best_more best v w) u ≡ best_more best (best_more best v u) w
 maxima_commute best v w u =
     let a = ranked_in w in
     let b = ranked_in u in
-    cut_place ranks_before best b (place ranks_before a v)
+    cut_place ranks_before best b (put_in_order ranks_before a v)
     ∙ ap (take best) (order.place-place ranks_before ranked_weakly apart_ranks b a v)
-    ∙ sym (cut_place ranks_before best a (place ranks_before b v))
+    ∙ sym (cut_place ranks_before best a (put_in_order ranks_before b v))
 
 best_from : (best : ℕ) (l : List Ranked) (rests : List (List ℤ))
-    → fold (best_more best) (take best l) rests ≡ take best (fold (λ done x. place ranks_before x done) l (map ranked_in rests))
+    → fold (best_more best) (take best l) rests ≡ take best (fold (λ done x. put_in_order ranks_before x done) l (map ranked_in rests))
 best_from best l [] = refl
 best_from best l (r ∷ rs) =
-    ap (λ t. fold (best_more best) t rs) (cut_place ranks_before best (ranked_in r) l) ∙ best_from best (place ranks_before (ranked_in r) l) rs
+    ap (λ t. fold (best_more best) t rs) (cut_place ranks_before best (ranked_in r) l) ∙ best_from best (put_in_order ranks_before (ranked_in r) l) rs
 
 abbrev none : List Ranked
 none = []
@@ -132,17 +132,17 @@ abbrev pub maxima : ℕ → ℕ → List (List ℤ) → List (List ℤ × List R
 maxima best keys adds = keyed row_cmp [] (best_more best) (splits keys adds)
 
 map_with : (keys : ℕ) (adds ks : List (List ℤ))
-    → sum_rows (map (with_value (pos 0) add_value keys adds) ks) ≡ map (λ key. sum_row key (sum_of (under keys key adds))) ks
+    → sum_rows (map (with_value (pos 0) add_value keys adds) ks) ≡ map (λ key. sum_row key (sum_of (under_key keys key adds))) ks
 map_with keys adds [] = refl
-map_with keys adds (k ∷ ks) = ap (λ l. sum_row k (sum_of (under keys k adds)) ∷ l) (map_with keys adds ks)
+map_with keys adds (k ∷ ks) = ap (λ l. sum_row k (sum_of (under_key keys k adds)) ∷ l) (map_with keys adds ks)
 
 pub sums_keyed : (keys : ℕ) (adds : List (List ℤ)) → sum_rows (sums keys adds) ≡ tab (Sum keys) adds
 sums_keyed keys adds = ap sum_rows (sym (grouped_keyed (pos 0) add_value sums_commute keys adds)) ∙ map_with keys adds (keys_of keys adds)
 
 flat_with : (best keys : ℕ) (adds ks : List (List ℤ))
-    → maximum_rows (map (with_value [] (best_more best) keys adds) ks) ≡ flat_map (λ key. map (ranked_row key) (best_of best (under keys key adds))) ks
+    → maximum_rows (map (with_value [] (best_more best) keys adds) ks) ≡ flat_map (λ key. map (ranked_row key) (best_of best (under_key keys key adds))) ks
 flat_with best keys adds [] = refl
-flat_with best keys adds (k ∷ ks) = λ i. map (ranked_row k) (best_is best (under keys k adds) i) ++ flat_with best keys adds ks i
+flat_with best keys adds (k ∷ ks) = λ i. map (ranked_row k) (best_is best (under_key keys k adds) i) ++ flat_with best keys adds ks i
 
 pub maxima_keyed : (best keys : ℕ) (adds : List (List ℤ)) → maximum_rows (maxima best keys adds) ≡ tab (Maximum best keys) adds
 maxima_keyed best keys adds =
@@ -172,11 +172,11 @@ collections_are keys adds = ((λ row. sym (bag_from_permutation adds (in_order a
 -- WHAT A TABLE HOLDS
 
 -- one row more in order
-pub in_order_more : (rows : List (List ℤ)) (row : List ℤ) → in_order (rows ++ row ∷ []) ≡ place row_lt row (in_order rows)
-in_order_more rows row = fold-append (λ done x. place row_lt x done) [] rows (row ∷ [])
+pub in_order_more : (rows : List (List ℤ)) (row : List ℤ) → in_order (rows ++ row ∷ []) ≡ put_in_order row_lt row (in_order rows)
+in_order_more rows row = fold-append (λ done x. put_in_order row_lt x done) [] rows (row ∷ [])
 
 -- one more row
-pub kept_more : (kind : TableKind) (adds : List (List ℤ)) (row : List ℤ) → kept_of kind (adds ++ row ∷ []) ≡ added (kept_of kind adds) row
+pub kept_more : (kind : TableKind) (adds : List (List ℤ)) (row : List ℤ) → kept_of kind (adds ++ row ∷ []) ≡ with_row (kept_of kind adds) row
 kept_more (Sum keys) adds row =
     ap (Sums keys) (ap (keyed row_cmp (pos 0) add_value) (map-append (split keys) adds (row ∷ [])) ∙ fold-append (put row_cmp (pos 0) add_value) [] (splits keys adds) (split keys row ∷ []))
 kept_more (Collection keys) adds row = ap (Rows keys) (in_order_more adds row)
@@ -198,13 +198,13 @@ kept_of_bag (Maximum best keys) xs ys h =
     ap (Maxima best keys) (tables.keyed-IsPermutation row_cmp row_total exact_rows [] (best_more best) (maxima_commute best) (splits keys xs) (splits keys ys) (IsPermutation-map (split keys) xs ys (permutation_from_bag xs ys h)))
 
 -- the kind stays
-pub kept_kind : (kind : TableKind) (adds : List (List ℤ)) → kind_of (kept_of kind adds) ≡ kind
+pub kept_kind : (kind : TableKind) (adds : List (List ℤ)) → kind_of_table (kept_of kind adds) ≡ kind
 kept_kind (Sum keys) adds = refl
 kept_kind (Collection keys) adds = refl
 kept_kind (Maximum best keys) adds = refl
 
 -- adding a row keeps the kind
-pub added_kind : (t : Kept) (row : List ℤ) → kind_of (added t row) ≡ kind_of t
+pub added_kind : (t : Kept) (row : List ℤ) → kind_of_table (with_row t row) ≡ kind_of_table t
 added_kind (Sums keys es) row = refl
 added_kind (Rows keys rows) row = refl
 added_kind (Maxima best keys es) row = refl
@@ -214,14 +214,14 @@ pub tables_keep_adds : TablesKeepAdds
 tables_keep_adds kind = record { rows = kept_rows kind; more = kept_more kind; of_bag = kept_of_bag kind; kind_is = kept_kind kind }
 
 -- one more at the end
-pub added_more : (t : Kept) (rows : List (List ℤ)) (row : List ℤ) → added_all t (rows ++ row ∷ []) ≡ added (added_all t rows) row
-added_more t rows row = fold-append added t rows (row ∷ [])
+pub added_more : (t : Kept) (rows : List (List ℤ)) (row : List ℤ) → added_all t (rows ++ row ∷ []) ≡ with_row (added_all t rows) row
+added_more t rows row = fold-append with_row t rows (row ∷ [])
 
 -- the first rows, and then the others
 pub added_in_two : (t u : Kept) (n : ℕ) (rows : List (List ℤ)) → u ≡ added_all t (take n rows) → added_all u (drop n rows) ≡ added_all t rows
-added_in_two t u n rows e = ap (λ (k : Kept). added_all k (drop n rows)) e ∙ (sym (fold-append added t (take n rows) (drop n rows)) ∙ ap (added_all t) (take-append-drop n rows))
+added_in_two t u n rows e = ap (λ (k : Kept). added_all k (drop n rows)) e ∙ (sym (fold-append with_row t (take n rows) (drop n rows)) ∙ ap (added_all t) (take-append-drop n rows))
 
 -- adding rows keeps the kind
-pub added_all_kind : (t : Kept) (rows : List (List ℤ)) → kind_of (added_all t rows) ≡ kind_of t
+pub added_all_kind : (t : Kept) (rows : List (List ℤ)) → kind_of_table (added_all t rows) ≡ kind_of_table t
 added_all_kind t [] = refl
-added_all_kind t (row ∷ rows) = added_all_kind (added t row) rows ∙ added_kind t row
+added_all_kind t (row ∷ rows) = added_all_kind (with_row t row) rows ∙ added_kind t row

@@ -1,7 +1,7 @@
 -- Keys with what stands at them.
 use Rattle.std.specs.Prelude.{ℕ, ℤ, ◌≤◌, List, map, flat_map, take, drop, length}
 use Rattle.std.specs.List.{AllByRecursion}
-use Rattle.river_base.specs.Bags.{place}
+use Rattle.river_base.specs.Bags.{put_in_order}
 use Rattle.kern_tables.specs.declared.ranked.Ranked.{Ranked}
 use Rattle.kern_tables.specs.Tables.{ranked_in, ranks_before, sum_row, ranked_row}
 
@@ -14,7 +14,7 @@ splits keys adds = map (split keys) adds
 
 -- one more among the best
 abbrev pub best_more : ℕ → List Ranked → List ℤ → List Ranked
-best_more best kept rest = take best (place ranks_before (ranked_in rest) kept)
+best_more best kept rest = take best (put_in_order ranks_before (ranked_in rest) kept)
 
 abbrev pub sum_rows : List (List ℤ × ℤ) → List (List ℤ)
 sum_rows es = map (λ e. sum_row e.0 e.1) es

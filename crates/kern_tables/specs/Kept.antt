@@ -2,7 +2,7 @@
 use Rattle.std.specs.Prelude.{ℕ, ℤ, pos, List, [], fold}
 use Rattle.kern_tables.specs.declared.kind.TableKind.{TableKind}
 use Rattle.kern_tables.specs.declared.kind.TableKind.TheVariants.{Sum, Collection, Maximum}
-use Rattle.river_base.specs.Bags.{place}
+use Rattle.river_base.specs.Bags.{put_in_order}
 use Rattle.river_base.specs.Keyed.{put, keyed}
 use Rattle.river_base.specs.Row.{row_cmp, row_lt, in_order}
 use Rattle.kern_tables.specs.declared.kept.Kept.{Kept}
@@ -17,14 +17,14 @@ kept_of (Collection keys) adds = Rows keys (in_order adds)
 kept_of (Maximum best keys) adds = Maxima best keys (keyed row_cmp [] (best_more best) (splits keys adds))
 
 -- and after one more
-abbrev pub added : Kept → List ℤ → Kept
-added (Sums keys es) row = Sums keys (put row_cmp (pos 0) add_value es (split keys row))
-added (Rows keys rows) row = Rows keys (place row_lt row rows)
-added (Maxima best keys es) row = Maxima best keys (put row_cmp [] (best_more best) es (split keys row))
+abbrev pub with_row : Kept → List ℤ → Kept
+with_row (Sums keys es) row = Sums keys (put row_cmp (pos 0) add_value es (split keys row))
+with_row (Rows keys rows) row = Rows keys (put_in_order row_lt row rows)
+with_row (Maxima best keys es) row = Maxima best keys (put row_cmp [] (best_more best) es (split keys row))
 
 -- and after these, one after another
 abbrev pub added_all : Kept → List (List ℤ) → Kept
-added_all t rows = fold added t rows
+added_all t rows = fold with_row t rows
 
 -- its rows
 abbrev pub rows_of : Kept → List (List ℤ)
@@ -39,11 +39,11 @@ shown (Rows keys rows) = Rows keys (in_order rows)
 shown (Maxima best keys es) = Maxima best keys es
 
 -- the kind of a table
-abbrev pub kind_of : Kept → TableKind
-kind_of (Sums keys es) = Sum keys
-kind_of (Rows keys rows) = Collection keys
-kind_of (Maxima best keys es) = Maximum best keys
+abbrev pub kind_of_table : Kept → TableKind
+kind_of_table (Sums keys es) = Sum keys
+kind_of_table (Rows keys rows) = Collection keys
+kind_of_table (Maxima best keys es) = Maximum best keys
 
 -- how many values a row of it has
-abbrev pub width_of : Kept → ℕ
-width_of t = table_width (kind_of t)
+abbrev pub width_of_table : Kept → ℕ
+width_of_table t = table_width (kind_of_table t)

@@ -11,8 +11,8 @@ use Rattle.river_base.specs.Number.{wrap}
 use Rattle.river_base.specs.Row.{row_cmp, copies}
 use Rattle.kern_tables.specs.declared.ranked.Ranked.{Ranked}
 use Rattle.river_base.specs.Bags.{SameBag}
-use Rattle.kern_tables.specs.Tables.{tab, under, value_in, ranked_in, sum_row, ranked_row, has_key}
-use Rattle.kern_tables.specs.Kept.{kept_of, added, rows_of, kind_of}
+use Rattle.kern_tables.specs.Tables.{tab, under_key, value_in, ranked_in, sum_row, ranked_row, has_key}
+use Rattle.kern_tables.specs.Kept.{kept_of, with_row, rows_of, kind_of_table}
 
 -- A table is a function of the bag of the rows that were added.
 abbrev pub TablesAreOfBags : Type 0
@@ -28,7 +28,7 @@ pub record IsSums (keys : ℕ) (adds rows : List (List ℤ)) : Type 0 where
   pub rows_are : rows ≡ map (λ e. sum_row e.0 e.1) entries
   pub rise : IsStrictlySortedBy row_cmp (map.keys_of entries)
   pub at : (key : List ℤ)
-      → map.lookup (is_at (row_cmp key)) entries ≡ (if list_any (has_key keys key) adds then Some (wrap (total_of (under keys key adds))) else None)
+      → map.lookup (is_at (row_cmp key)) entries ≡ (if list_any (has_key keys key) adds then Some (wrap (total_of (under_key keys key adds))) else None)
 
 abbrev pub SumsAre : Type 0
 SumsAre = (keys : ℕ) (adds : List (List ℤ)) → IsSums keys adds (tab (Sum keys) adds)
@@ -58,7 +58,7 @@ pub record AreMaxima (keys best : ℕ) (adds rows : List (List ℤ)) : Type 0 wh
   pub rise : IsStrictlySortedBy row_cmp (map.keys_of entries)
   pub kept : List ℤ → List Ranked
   pub at : (key : List ℤ) → map.lookup (is_at (row_cmp key)) entries ≡ (if list_any (has_key keys key) adds then Some (kept key) else None)
-  pub best_are : (key : List ℤ) → AreBest best (map ranked_in (under keys key adds)) (kept key)
+  pub best_are : (key : List ℤ) → AreBest best (map ranked_in (under_key keys key adds)) (kept key)
 
 abbrev pub MaximaAre : Type 0
 MaximaAre = (keys best : ℕ) (adds : List (List ℤ)) → AreMaxima keys best adds (tab (Maximum best keys) adds)
@@ -67,9 +67,9 @@ MaximaAre = (keys best : ℕ) (adds : List (List ℤ)) → AreMaxima keys best a
 -- what an empty table keeps, and is a function of their bag.
 pub record AreKept (kind : TableKind) : Type 0 where
   pub rows : (adds : List (List ℤ)) → rows_of (kept_of kind adds) ≡ tab kind adds
-  pub more : (adds : List (List ℤ)) (row : List ℤ) → kept_of kind (adds ++ row ∷ []) ≡ added (kept_of kind adds) row
+  pub more : (adds : List (List ℤ)) (row : List ℤ) → kept_of kind (adds ++ row ∷ []) ≡ with_row (kept_of kind adds) row
   pub of_bag : (xs ys : List (List ℤ)) → SameBag xs ys → kept_of kind xs ≡ kept_of kind ys
-  pub kind_is : (adds : List (List ℤ)) → kind_of (kept_of kind adds) ≡ kind
+  pub kind_is : (adds : List (List ℤ)) → kind_of_table (kept_of kind adds) ≡ kind
 
 abbrev pub TablesKeepAdds : Type 0
 TablesKeepAdds = (kind : TableKind) → AreKept kind

@@ -20,21 +20,21 @@ abbrev pub once_after : List ℤ → List (List ℤ) → List (List ℤ)
 once_after k [] = []
 once_after k (x ∷ xs) = if row_eq k x then once_after k xs else x ∷ once_after x xs
 
-abbrev pub each_once : List (List ℤ) → List (List ℤ)
-each_once [] = []
-each_once (x ∷ xs) = x ∷ once_after x xs
+abbrev pub each_row_once : List (List ℤ) → List (List ℤ)
+each_row_once [] = []
+each_row_once (x ∷ xs) = x ∷ once_after x xs
 
 -- the keys that occur, in ascending order. The key of a row is its first values
 abbrev pub keys_of : ℕ → List (List ℤ) → List (List ℤ)
-keys_of keys adds = each_once (in_order (map (λ row. take keys row) adds))
+keys_of keys adds = each_row_once (in_order (map (λ row. take keys row) adds))
 
 -- the row has this key
 abbrev pub has_key : ℕ → List ℤ → List ℤ → Bool
 has_key keys key row = row_eq (take keys row) key
 
 -- what follows the key in the rows of this key
-abbrev pub under : ℕ → List ℤ → List (List ℤ) → List (List ℤ)
-under keys key adds = map (λ row. drop keys row) (filter (has_key keys key) adds)
+abbrev pub under_key : ℕ → List ℤ → List (List ℤ) → List (List ℤ)
+under_key keys key adds = map (λ row. drop keys row) (filter (has_key keys key) adds)
 
 -- the value of what follows a key
 abbrev pub value_in : List ℤ → ℤ
@@ -70,6 +70,6 @@ abbrev pub ranked_row : List ℤ → Ranked → List ℤ
 ranked_row key r = key ++ r.value ∷ r.weight ∷ []
 
 abbrev pub tab : TableKind → List (List ℤ) → List (List ℤ)
-tab (Sum keys) adds = map (λ key. sum_row key (sum_of (under keys key adds))) (keys_of keys adds)
+tab (Sum keys) adds = map (λ key. sum_row key (sum_of (under_key keys key adds))) (keys_of keys adds)
 tab (Collection keys) adds = in_order adds
-tab (Maximum best keys) adds = flat_map (λ key. map (ranked_row key) (best_of best (under keys key adds))) (keys_of keys adds)
+tab (Maximum best keys) adds = flat_map (λ key. map (ranked_row key) (best_of best (under_key keys key adds))) (keys_of keys adds)

@@ -1,6 +1,6 @@
 // The best of what was given.
 ghost use Rattle.std.specs.Prelude.{◌≡◌, [], take, IfOk, OnOk, OnErr, IsTrue};
-ghost use Rattle.river_base.specs.Bags.{place};
+ghost use Rattle.river_base.specs.Bags.{put_in_order};
 ghost use Rattle.kern_tables.specs.Tables.{ranks_before};
 
 use crate::Ranked;
@@ -42,7 +42,7 @@ impl Best {
 
     // Whether as many as may be kept are kept, and this one ranks before none of them.
     fn keeps_out(&self, best: usize, r: &Ranked) -> bool
-        ensures { IsTrue result → (take best (place ranks_before r.now self.now) ≡ self.now) }
+        ensures { IsTrue result → (take best (put_in_order ranks_before r.now self.now) ≡ self.now) }
     {
         if self.heap.len() != best {
             return false;
@@ -55,7 +55,7 @@ impl Best {
 
     /// One more, of which at most `best` are kept; changes nothing where there is no memory.
     pub fn add(&mut self, best: usize, r: Ranked) -> Result<(), NoMemory>
-        ensures ok { OnOk result (self.new ≡ take best (place ranks_before r self.old)) }
+        ensures ok { OnOk result (self.new ≡ take best (put_in_order ranks_before r self.old)) }
         ensures err { OnErr result (self.new ≡ self.old) }
     {
         if self.keeps_out(best, &r) {

@@ -1,6 +1,6 @@
 // Tables.
 ghost use Rattle.std.specs.Prelude.{◌≡◌, ◌≤◌, ◌+◌, ◌++◌, [], take, length, IfOk, OnOk, OnErr, All, vec_capacity};
-ghost use Rattle.kern_tables.specs.Kept.{kept_of, added, added_all, shown, rows_of, kind_of, width_of};
+ghost use Rattle.kern_tables.specs.Kept.{kept_of, with_row, added_all, shown, rows_of, kind_of_table, width_of_table};
 
 use crate::{Kept, Maxima, Sums, TableKind};
 use river_base::{Duplicate, NoMemory, Row, Rows};
@@ -53,10 +53,10 @@ impl Table {
 
     /// One more row; changes nothing where there is no memory.
     pub fn add(&mut self, row: &Row) -> Result<(), NoMemory>
-        requires { length row.now ≡ width_of self.old }
-        ensures ok { OnOk result (self.new ≡ added self.old row.now) }
+        requires { length row.now ≡ width_of_table self.old }
+        ensures ok { OnOk result (self.new ≡ with_row self.old row.now) }
         ensures err { OnErr result (self.new ≡ self.old) }
-        ensures kind { kind_of self.new ≡ kind_of self.old }
+        ensures kind { kind_of_table self.new ≡ kind_of_table self.old }
     {
         if !self.waiting.is_empty() {
             return Err(NoMemory);
@@ -67,10 +67,10 @@ impl Table {
     /// These rows, one after another; changes nothing where there is no memory for the list of them.
     #[tactic(auto, using(crate::proofs::Tabs::added_in_two, crate::proofs::Tabs::added_all_kind))]
     pub fn add_all(&mut self, rows: &[Row]) -> Result<(), NoMemory>
-        requires { All (λ row. length row ≡ width_of self.old) rows.now }
+        requires { All (λ row. length row ≡ width_of_table self.old) rows.now }
         ensures ok { OnOk result (self.new ≡ added_all self.old rows.now) }
         ensures err { OnErr result (self.new ≡ self.old) }
-        ensures kind { kind_of self.new ≡ kind_of self.old }
+        ensures kind { kind_of_table self.new ≡ kind_of_table self.old }
     {
         if !self.waiting.is_empty() {
             return Err(NoMemory);
@@ -103,10 +103,10 @@ impl Table {
 // One more row, in place; changes nothing where there is no memory.
 #[tactic(auto, using(crate::proofs::Tabs::in_order_more, crate::proofs::Tabs::added_kind))]
 fn place(kept: &mut Kept, row: &Row) -> Result<(), NoMemory>
-    requires { length row.now ≡ width_of (shown kept.old) }
-    ensures ok { OnOk result (shown kept.new ≡ added (shown kept.old) row.now) }
+    requires { length row.now ≡ width_of_table (shown kept.old) }
+    ensures ok { OnOk result (shown kept.new ≡ with_row (shown kept.old) row.now) }
     ensures err { OnErr result (shown kept.new ≡ shown kept.old) }
-    ensures kind { kind_of (shown kept.new) ≡ kind_of (shown kept.old) }
+    ensures kind { kind_of_table (shown kept.new) ≡ kind_of_table (shown kept.old) }
 {
     match kept {
         Kept::Sums { keys, sums } => sums.add(*keys as usize, row),
@@ -118,10 +118,10 @@ fn place(kept: &mut Kept, row: &Row) -> Result<(), NoMemory>
 // Places rows, up to the first that there is no memory for; answers how many.
 #[tactic(auto, using(crate::proofs::Tabs::added_kind, crate::proofs::Tabs::added_more))]
 fn place_some(kept: &mut Kept, rows: &[Row]) -> usize
-    requires { All (λ row. length row ≡ width_of (shown kept.old)) rows.now }
+    requires { All (λ row. length row ≡ width_of_table (shown kept.old)) rows.now }
     ensures at_most { result ≤ length rows.now }
     ensures rows { shown kept.new ≡ added_all (shown kept.old) (take result rows.now) }
-    ensures kind { kind_of (shown kept.new) ≡ kind_of (shown kept.old) }
+    ensures kind { kind_of_table (shown kept.new) ≡ kind_of_table (shown kept.old) }
 {
     for i in 0..rows.len() {
         if place(kept, &rows[i]).is_err() {

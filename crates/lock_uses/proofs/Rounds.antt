@@ -5,24 +5,24 @@ use Rattle.class_locks.specs.declared.view.View.{View}
 use Rattle.class_locks.specs.Seats.{Chair, TableId}
 use Rattle.lock_uses.specs.declared.crew.Worker.{Worker}
 use Rattle.lock_uses.specs.Uses.{HasWorked}
-use Rattle.lock_uses.specs.Crews.{AreSeated, HasTurned, HaveTurned, first_view}
+use Rattle.lock_uses.specs.Crews.{AreSeated, HasTakenTurn, HaveTurned, first_view}
 
 -- a worker that sat with its first view
-one_turned : (k : ℕ) (z : TableId) (old new : Worker) → old.seat ≡ record { lot = z; view = first_view k } → old.op ≡ k → old.refused ≡ false → HasTurned old new
+one_turned : (k : ℕ) (z : TableId) (old new : Worker) → old.seat ≡ record { lot = z; view = first_view k } → old.op ≡ k → old.refused ≡ false → HasTakenTurn old new
     → new.refused ≡ false → HasWorked k new.added (first_view k) new.seat.view
 one_turned k z old new seat op calm h now =
     subst (λ (n : ℕ). HasWorked n new.added (first_view k) new.seat.view) op (subst (λ (v : View). HasWorked old.op new.added v new.seat.view) (ap (λ (c : Chair). c.view) seat) (h.worked calm now))
 
 -- where each worker of a crew has turned, the crew has
 pub turned : (old new : List Worker) → AreSeated old → length new ≡ length old
-    → ((i : ℕ) (d : Worker) → i < length old → HasTurned (slice_index_or old i d) (slice_index_or new i d)) → HaveTurned new
+    → ((i : ℕ) (d : Worker) → i < length old → HasTakenTurn (slice_index_or old i d) (slice_index_or new i d)) → HaveTurned new
 turned old [] s n each = absurd (let m = ap length s.both in omega (arith, n, m))
 turned old (x ∷ []) s n each = absurd (let m = ap length s.both in omega (arith, n, m))
 turned old (x ∷ y ∷ z ∷ zs) s n each = absurd (let m = ap length s.both in omega (arith, n, m))
 turned old (x ∷ y ∷ []) s n each =
     let m = ap length s.both in
-    let one = subst (λ (l : List Worker). HasTurned (slice_index_or l 0 x) x) s.both (each 0 x (omega (arith, m))) in
-    let two = subst (λ (l : List Worker). HasTurned (slice_index_or l 1 y) y) s.both (each 1 y (omega (arith, m))) in
+    let one = subst (λ (l : List Worker). HasTakenTurn (slice_index_or l 0 x) x) s.both (each 0 x (omega (arith, m))) in
+    let two = subst (λ (l : List Worker). HasTakenTurn (slice_index_or l 1 y) y) s.both (each 1 y (omega (arith, m))) in
     record {
       first = x;
       second = y;

@@ -7,20 +7,20 @@ use Rattle.class_locks.specs.declared.log.LogEntry.{LogEntry}
 use Rattle.class_locks.specs.declared.view.View.{View}
 use Rattle.class_locks.specs.Logs.{Holding, part}
 use Rattle.class_locks.specs.Seats.{TableId}
-use Rattle.class_locks.specs.Views.{fresh}
+use Rattle.class_locks.specs.Views.{fresh_view}
 use Rattle.lock_uses.specs.declared.crew.Worker.{Worker}
 use Rattle.lock_uses.specs.Uses.{HasWorked, entry}
 
 -- the worker stays at its seat, and where memory was not wanting it claims what it added
-pub record HasTurned (old new : Worker) : Type 0 where
+pub record HasTakenTurn (old new : Worker) : Type 0 where
   pub op : new.op ≡ old.op
   pub lot : new.seat.lot ≡ old.seat.lot
   pub worked : old.refused ≡ false → new.refused ≡ false → HasWorked old.op new.added old.seat.view new.seat.view
 
 -- an entry, so many times
-abbrev pub times : ℕ → LogEntry → List LogEntry
-times zero e = []
-times (suc n) e = times n e ++ e ∷ []
+abbrev pub entry_times : ℕ → LogEntry → List LogEntry
+entry_times zero e = []
+entry_times (suc n) e = entry_times n e ++ e ∷ []
 
 -- an empty cell with one table of sums, which has the number of its class
 abbrev pub blank_cell : ℕ → Holding
@@ -33,12 +33,12 @@ two_blank = blank_cell 0 ∷ blank_cell 1 ∷ []
 pub record HasTotal (a b : ℕ) (cells : List Holding) : Type 0 where
   pub as_many : length cells ≡ 2
   pub kinds : (c : ℕ) (x : Holding) → get_elem? cells c ≡ some x → x.kinds ≡ (c, Sum 0) ∷ []
-  pub first : (c : ℕ) (x : Holding) → get_elem? cells c ≡ some x → part 2 0 x.log ≡ times a (entry 0 c)
-  pub second : (c : ℕ) (x : Holding) → get_elem? cells c ≡ some x → part 2 1 x.log ≡ times b (entry 1 c)
+  pub first : (c : ℕ) (x : Holding) → get_elem? cells c ≡ some x → part 2 0 x.log ≡ entry_times a (entry 0 c)
+  pub second : (c : ℕ) (x : Holding) → get_elem? cells c ≡ some x → part 2 1 x.log ≡ entry_times b (entry 1 c)
 
 -- the view of seat k at the beginning
 abbrev pub first_view : ℕ → View
-first_view k = record (fresh 2 two_blank) { parts = k ∷ [] }
+first_view k = record (fresh_view 2 two_blank) { parts = k ∷ [] }
 
 -- two workers at the seats of one round, operator k at seat k
 pub record AreSeated (ws : List Worker) : Type 0 where

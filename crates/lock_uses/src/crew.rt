@@ -1,8 +1,8 @@
 // Two workers on two threads, which add to the tables of the same two classes.
 ghost use Rattle.std.specs.Prelude.{◌≡◌, ◌≤◌, ◌<◌, ◌+◌, ◌^◌, ℕ, [], length, slice_index_or, All, IfOk, IfSome};
 ghost use Rattle.class_locks.specs.declared.view.View.{View};
-ghost use Rattle.lock_uses.specs.Uses.{IsReady, HasWorked};
-ghost use Rattle.lock_uses.specs.Crews.{HasTurned};
+ghost use Rattle.lock_uses.specs.Uses.{IsReadyToAdd, HasWorked};
+ghost use Rattle.lock_uses.specs.Crews.{HasTakenTurn};
 ghost use Rattle.lock_uses.specs.declared.crew.Worker.{Worker};
 
 use crate::try_once;
@@ -25,7 +25,7 @@ pub struct Worker {
 
 /// Adds a row to each table as often as is wanted, where the classes are free, in so many tries.
 pub fn work(alloc: Global, seat: &mut Seat, op: u32, wanted: u32, tries: u32) -> Option<u32>
-    requires { IsReady op seat.old.view }
+    requires { IsReadyToAdd op seat.old.view }
     ensures lot { seat.new.lot ≡ seat.old.lot }
     ensures worked { IfSome result (λ added. HasWorked op added seat.old.view seat.new.view) }
 {
@@ -42,7 +42,7 @@ pub fn work(alloc: Global, seat: &mut Seat, op: u32, wanted: u32, tries: u32) ->
 // One try more, where so many were successful.
 #[tactic(auto, using(crate::proofs::Workers::worked_more, crate::proofs::Workers::worked_on))]
 fn once_more(alloc: Global, seat: &mut Seat, op: u32, added: u32) -> Option<u32>
-    requires ready { IsReady op seat.old.view }
+    requires ready { IsReadyToAdd op seat.old.view }
     requires few { added + 1 < 2 ^ 32 }
     ensures lot { seat.new.lot ≡ seat.old.lot }
     ensures worked { (before : View) → HasWorked op added before seat.old.view → IfSome result (λ now. HasWorked op now before seat.new.view) }
@@ -56,8 +56,8 @@ fn once_more(alloc: Global, seat: &mut Seat, op: u32, added: u32) -> Option<u32>
 
 // What a worker does in a round.
 fn turn(worker: &mut Worker)
-    requires { IsReady worker.old.op worker.old.seat.view }
-    ensures { HasTurned worker.old worker.new }
+    requires { IsReadyToAdd worker.old.op worker.old.seat.view }
+    ensures { HasTakenTurn worker.old worker.new }
 {
     let tries = 1_000_000_000;
     match work(
@@ -74,17 +74,17 @@ fn turn(worker: &mut Worker)
 
 /// Both workers work, each on a thread of its own.
 pub fn work_both<R: Threads + Sync>(rt: &R, workers: &mut [Worker])
-    requires { All (λ w. IsReady w.op w.seat.view) workers.old }
+    requires { All (λ w. IsReadyToAdd w.op w.seat.view) workers.old }
     ensures len { length workers.new ≡ length workers.old }
-    ensures each { (i : ℕ) (d : Worker) → i < length workers.old → HasTurned (slice_index_or workers.old i d) (slice_index_or workers.new i d) }
+    ensures each { (i : ℕ) (d : Worker) → i < length workers.old → HasTakenTurn (slice_index_or workers.old i d) (slice_index_or workers.new i d) }
 {
     thread::for_each_mut(
         rt,
         workers,
         2,
         &|_, worker: &mut Worker|
-            requires { IsReady worker.old.op worker.old.seat.view }
-            ensures { HasTurned worker.old worker.new }
+            requires { IsReadyToAdd worker.old.op worker.old.seat.view }
+            ensures { HasTakenTurn worker.old worker.new }
         { turn(worker) },
     );
 }

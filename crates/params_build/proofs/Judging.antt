@@ -5,7 +5,7 @@ use Rattle.streamit_text.specs.Tree.{statement, in_turn}
 use Rattle.streamit_text.specs.declared.tree.Statement as written
 use Rattle.streamit_text.proofs.Places.{at_place, none_left}
 use Rattle.params_text.specs.Params.{is_one_of}
-use Rattle.params_text.specs.Program.{in_order, step_of, declared_of, program_of, ParamProgram}
+use Rattle.params_text.specs.Program.{steps_in_turn, step_of, declared_of, program_of, ParamProgram}
 use Rattle.params_text.specs.declared.program.ParamUnit.{ParamUnit}
 use Rattle.params_text.specs.declared.program.Step.{Step}
 use Rattle.params_model.specs.Judged.{Above, Judgement, judged_then, no_fault, statement_judged, block_judged, step_judged, steps_judged, new_names, unit_judged}
@@ -45,14 +45,14 @@ at-end k ps items i h = ap (λ l. block_judged k ps (in_turn l)) (none_left stat
 
 -- the steps from a place on
 pub steps-place : (k : ℕ) (us : Above) (ks : List (List ℕ)) (items : List Step) (i : ℕ) (s : Step) → i < length items → s ≡ get_or items i s
-    → steps_judged k us ks (in_order (map step_of (drop i items)))
-    ≡ judged_then (step_judged k us ks (step_of s)) (steps_judged k us ks (in_order (map step_of (drop (i + 1) items))))
-steps-place k us ks items i s lt is = ap (λ l. steps_judged k us ks (in_order l)) (at_place step_of items i s lt is)
+    → steps_judged k us ks (steps_in_turn (map step_of (drop i items)))
+    ≡ judged_then (step_judged k us ks (step_of s)) (steps_judged k us ks (steps_in_turn (map step_of (drop (i + 1) items))))
+steps-place k us ks items i s lt is = ap (λ l. steps_judged k us ks (steps_in_turn l)) (at_place step_of items i s lt is)
 
 -- behind the last step nothing is left to judge
 pub steps-end : (k : ℕ) (us : Above) (ks : List (List ℕ)) (items : List Step) (i : ℕ) → length items ≤ i
-    → steps_judged k us ks (in_order (map step_of (drop i items))) ≡ no_fault
-steps-end k us ks items i h = ap (λ l. steps_judged k us ks (in_order l)) (none_left step_of items i h)
+    → steps_judged k us ks (steps_in_turn (map step_of (drop i items))) ≡ no_fault
+steps-end k us ks items i h = ap (λ l. steps_judged k us ks (steps_in_turn l)) (none_left step_of items i h)
 
 -- the parameters from a place on, none of which has the name of one before it
 pub names-place : (k : ℕ) (names : List (List ℕ)) (i : ℕ) (n : List ℕ) → i < length names → n ≡ get_or names i n

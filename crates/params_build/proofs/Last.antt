@@ -3,7 +3,7 @@ use Rattle.std.proofs.Common.{◌≡◌, ℕ, suc, ◌+◌, ◌-◌, ◌<◌, tr
 use Rattle.std.proofs.lemmas.List.{reverse-append}
 use Rattle.params_text.specs.Program.{Declared, ParamProgram, declared_of, program_of}
 use Rattle.params_text.specs.declared.program.ParamUnit.{ParamUnit}
-use Rattle.params_model.specs.Judged.{no_fault, has_none, top_judged, head_or, tail_of, numbered_from, sources_of}
+use Rattle.params_model.specs.Judged.{no_fault, has_none, top_judged, head_or, tail_of, numbered_from, source_units}
 use Rattle.params_model.specs.Making.{SourceUnit, Top, demand}
 
 abbrev last_unit : Declared → ParamProgram → Declared
@@ -43,13 +43,13 @@ last_at u [] d = refl
 last_at u (v ∷ us) d = last_at v us d
 
 -- where there is no unit, nothing is asked
-pub top-none : (us : List ParamUnit) (sizes : List ℕ) → length us ≡ 0 → top_judged (sources_of (program_of us) sizes) ≡ no_fault
+pub top-none : (us : List ParamUnit) (sizes : List ℕ) → length us ≡ 0 → top_judged (source_units (program_of us) sizes) ≡ no_fault
 top-none [] sizes h = refl
 top-none (u ∷ us) sizes h = absurd (omega (arith, h))
 
 -- the last unit decides
 pub top-at : (us : List ParamUnit) (sizes : List ℕ) (d : ParamUnit) → 0 < length us → d ≡ get_or us (length us - 1) d
-    → top_judged (sources_of (program_of us) sizes) ≡ demand (has_none d.params.items) (length us) Top
+    → top_judged (source_units (program_of us) sizes) ≡ demand (has_none d.params.items) (length us) Top
 top-at [] sizes d lt is = absurd (omega (arith, lt))
 top-at (u ∷ us) sizes d lt is =
     let n = newest 1 (declared_of u) (program_of us) sizes in

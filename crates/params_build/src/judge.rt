@@ -1,7 +1,7 @@
 // Programs judged: their units, one after another, and the last of them.
 ghost use Rattle.std.specs.Prelude.{◌≡◌, ◌<◌, ◌^◌, ℕ, List, [], ◌∷◌, length, OnOk};
 ghost use Rattle.params_text.specs.Program.{declared_of, program_of};
-ghost use Rattle.params_model.specs.Judged.{Above, sources_of, top_judged, unit_judged, units_judged};
+ghost use Rattle.params_model.specs.Judged.{Above, source_units, top_judged, unit_judged, units_judged};
 ghost use Rattle.params_build.specs.Above.{CountsParameters};
 ghost use Rattle.params_build.specs.Told.{Judges, JudgesAll};
 
@@ -61,7 +61,7 @@ fn unit_and_name(alloc: Global, above: &mut StreamsAbove, one: &ParamUnit) -> Re
 /// `Top` with its number, where it has.
 pub fn top(units: &[ParamUnit]) -> Result<(), Refusal>
     requires { length units.now < 2 ^ 32 }
-    ensures { (sizes : List ℕ) → JudgesAll result (top_judged (sources_of (program_of units.now) sizes)) }
+    ensures { (sizes : List ℕ) → JudgesAll result (top_judged (source_units (program_of units.now) sizes)) }
 {
     let count = units.len();
     if count == 0 {

@@ -7,9 +7,9 @@ use Rattle.std.proofs.lemmas.List.{length-map, take-map, take_min, drop-map, dro
 use Rattle.work_code.specs.Cut.{unit_tokens}
 use Rattle.work_code.specs.Tok.{Mark, mark_of, token_of}
 use Rattle.work_code.specs.declared.token.Lexeme.{Lexeme}
-use Rattle.params_front.specs.Sizes.{end_of, bytes_of, bytes_of_each}
+use Rattle.params_front.specs.Sizes.{end_of_last, bytes_of, bytes_of_each}
 
-end-is : (l : Lexeme) (ls : List Lexeme) (last : Lexeme) → (get_or (l ∷ ls) (length ls) last).end ≡ end_of (mark_of l) (map mark_of ls)
+end-is : (l : Lexeme) (ls : List Lexeme) (last : Lexeme) → (get_or (l ∷ ls) (length ls) last).end ≡ end_of_last (mark_of l) (map mark_of ls)
 end-is l [] last = refl
 end-is l (m ∷ ls) last = end-is m ls last
 

@@ -19,7 +19,7 @@ use Rattle.params_model.specs.Meaning.{params_outputs}
 use Rattle.params_model.proofs.MadeStands.{elaborated_stands}
 use Rattle.params_model.proofs.Readable.{texts_are_written}
 use Rattle.params_front.specs.Laws.{HasMade, Has, MeansWhatItHas, PlainMeans, PlansMean, PlansInTurn, PlansArePrintable}
-use Rattle.params_front.specs.Meaning.{Elaboration, Accepted, elaboration, unit_in, source_unit, or_inner, then_compiled, compiled, Writes, Plans, Refused}
+use Rattle.params_front.specs.Meaning.{Elaboration, Accepted, elaboration, unit_in, source_unit, or_inner, then_compiled, compiled, WritesPlainText, Plans, Refused}
 use Rattle.params_front.specs.Sizes.{sizes_of}
 use Rattle.params_front.specs.declared.fault.ParamFault.{ParamFault}
 use Rattle.params_front.specs.declared.fault.ParamFault.TheVariants.{Text, UnknownName, NameTwice, Arity, NotConstant, Top, Range, Empty, Budget, Inner}
@@ -169,7 +169,7 @@ pub ruleset inners = (inner-refused)
 
 -- the plan of the plain text is that of the text
 pub made-plans : (text : List ℕ) (tree : ParamProgram) (plain_bytes : List ℕ) (from : List ℤ) (q : plain.Program) (plan : PlanForm)
-    → Writes (elaboration text) tree plain_bytes from → streamit.Plans (streamit.compiled plain_bytes) q plan → Plans (compiled text) tree q plan
+    → WritesPlainText (elaboration text) tree plain_bytes from → streamit.Plans (streamit.compiled plain_bytes) q plan → Plans (compiled text) tree q plan
 unfolding compiled
 made-plans text tree plain_bytes from q plan (m, is, same, units) (s, accepted, made) =
     let e : Elaboration = record { tree = tree; made = m } in
@@ -197,7 +197,7 @@ made-refused text NoMemory h = tt
 
 -- and where the plain text is refused
 pub plain-refused : (text : List ℕ) (tree : ParamProgram) (plain_bytes : List ℕ) (from : List ℤ) (f : ParamFault)
-    → Writes (elaboration text) tree plain_bytes from
+    → WritesPlainText (elaboration text) tree plain_bytes from
     → ((e : Elaboration) → from ≡ map pos e.made.from → Refused (or_inner e (streamit.compiled plain_bytes)) f) → Refused (compiled text) f
 unfolding compiled
 plain-refused text tree plain_bytes from f (m, is, same, units) told =

@@ -26,7 +26,7 @@ use Rattle.params_text.specs.declared.program.ParamUnit.{ParamUnit}
 use Rattle.params_text.proofs.ParamTexts.{text-reads, units-read, units-bad, units-reads}
 use Rattle.params_text.proofs.UnitReads.{exact-unit_from}
 use Rattle.params_model.specs.Constants.{AreFitUnits}
-use Rattle.params_model.specs.Judged.{Judgement, no_fault, units_judged, sources_of, top_judged, elaborated}
+use Rattle.params_model.specs.Judged.{Judgement, no_fault, units_judged, source_units, top_judged, elaborated_program}
 use Rattle.params_model.specs.Making.{Made, Refusal, on_fine, last_made}
 use Rattle.params_model.specs.Making as model
 use Rattle.params_model.proofs.FitConstants.{units-fit}
@@ -37,10 +37,10 @@ use Rattle.params_build.specs.declared.fault.Fault.{Fault}
 use Rattle.params_build.specs.declared.fault.Fault.TheVariants as told
 use Rattle.params_build.specs.declared.fault.Refusal as code
 use Rattle.params_build.specs.Told.{Told, JudgesAll}
-use Rattle.params_make.specs.Written.{Makes}
+use Rattle.params_make.specs.Written.{MakesText}
 use Rattle.params_make.specs.declared.make.Written.{Written}
-use Rattle.params_front.specs.Laws.{IsFirstFault, HasFault, HasMade, ElaborationHas}
-use Rattle.params_front.specs.Meaning.{Elaboration, fault_at, or_fault, then_elaborated, of_tokens, then_read, elaboration, Writes, StandsForMade, Refused}
+use Rattle.params_front.specs.Laws.{IsProgramFault, HasFault, HasMade, ElaborationHas}
+use Rattle.params_front.specs.Meaning.{Elaboration, fault_at, or_fault, then_elaborated, of_tokens, then_read, elaboration, WritesPlainText, StandsForMade, Refused}
 use Rattle.params_front.specs.Sizes.{sizes_of}
 use Rattle.params_front.specs.declared.fault.ParamFault.{ParamFault}
 use Rattle.params_front.specs.declared.fault.ParamFault.TheVariants.{Text, UnknownName, NameTwice, Arity, NotConstant, Top, Range, Empty, Budget, Inner}
@@ -52,7 +52,7 @@ read_of marks = some_units (cut_units (toks marks))
 -- ---- FROM THE GRAMMAR
 
 -- of a text that stands for a program is made what is made of that
-pub stands-made : (text : List ℕ) (p : ParamProgram) (t : IsText text p) → elaboration text ≡ or_fault p (elaborated p (sizes_of t.marks))
+pub stands-made : (text : List ℕ) (p : ParamProgram) (t : IsText text p) → elaboration text ≡ or_fault p (elaborated_program p (sizes_of t.marks))
 unfolding elaboration
 stands-made text p t = ap then_read t.lexed ∙ ap (then_elaborated (sizes_of t.marks)) (text-reads text p t)
 
@@ -74,12 +74,12 @@ unfolding elaboration
 lexed-made text fault e = ap then_read e
 
 -- what is told first is what elaboration tells
-first-told : (p : ParamProgram) (sizes : List ℕ) (unit : ℕ) (f : model.Fault) → IsFirstFault p sizes unit f
-    → elaborated p sizes ≡ Err (record { unit = unit; fault = f })
+first-told : (p : ParamProgram) (sizes : List ℕ) (unit : ℕ) (f : model.Fault) → IsProgramFault p sizes unit f
+    → elaborated_program p sizes ≡ Err (record { unit = unit; fault = f })
 first-told p sizes unit f (inl h) =
-    ap (λ r. on_fine r (λ x. on_fine (top_judged (sources_of p sizes)) (λ y. last_made (sources_of p sizes)))) ((refusals_are p unit f).1 h)
+    ap (λ r. on_fine r (λ x. on_fine (top_judged (source_units p sizes)) (λ y. last_made (source_units p sizes)))) ((refusals_are p unit f).1 h)
 first-told p sizes unit f (inr h) =
-    ap (λ r. on_fine r (λ x. on_fine (top_judged (sources_of p sizes)) (λ y. last_made (sources_of p sizes)))) ((accepted_are p).1 h.0) ∙ h.1
+    ap (λ r. on_fine r (λ x. on_fine (top_judged (source_units p sizes)) (λ y. last_made (source_units p sizes)))) ((accepted_are p).1 h.0) ∙ h.1
 
 fault-made : (text : List ℕ) (fault : ParamFault) → HasFault text fault → elaboration text ≡ Err fault
 fault-made text fault h =
@@ -105,25 +105,25 @@ has-made text (Err NoMemory) h = absurd h
 
 -- what is made of units that are judged
 abbrev behind : ParamProgram → List ℕ → Result Made Refusal
-behind p sizes = on_fine (top_judged (sources_of p sizes)) (λ y. last_made (sources_of p sizes))
+behind p sizes = on_fine (top_judged (source_units p sizes)) (λ y. last_made (source_units p sizes))
 
 -- what elaboration tells is what is told first
-told-first : (p : ParamProgram) (sizes : List ℕ) (e : Refusal) → elaborated p sizes ≡ Err e → IsFirstFault p sizes e.unit e.fault
+told-first : (p : ParamProgram) (sizes : List ℕ) (e : Refusal) → elaborated_program p sizes ≡ Err e → IsProgramFault p sizes e.unit e.fault
 told-first p sizes e is = by (units_judged 1 [] p) refl is where
   same : (a b : Refusal) → ◌≡◌ {A = Result Made Refusal} (Err a) (Err b) → ◌≡◌ {A = Judgement} (Err a) (Err b)
   same a b h = cc
 
-  by : (r : Judgement) → units_judged 1 [] p ≡ r → on_fine r (λ x. behind p sizes) ≡ Err e → IsFirstFault p sizes e.unit e.fault
+  by : (r : Judgement) → units_judged 1 [] p ≡ r → on_fine r (λ x. behind p sizes) ≡ Err e → IsProgramFault p sizes e.unit e.fault
   by (Ok u) j h = inr ((accepted_are p).0 j, h)
   by (Err a) j h = inl ((refusals_are p e.unit e.fault).0 (j ∙ same a e h))
 
-fault-has : (text : List ℕ) (p : ParamProgram) (e : Refusal) (t : IsText text p) → elaborated p (sizes_of t.marks) ≡ Err e
+fault-has : (text : List ℕ) (p : ParamProgram) (e : Refusal) (t : IsText text p) → elaborated_program p (sizes_of t.marks) ≡ Err e
     → HasMade text (Err (fault_at e.unit e.fault))
 fault-has text p e t is = by e.fault (told-first p (sizes_of t.marks) e is) where
-  has : (f : model.Fault) → IsFirstFault p (sizes_of t.marks) e.unit f → HasFault text (fault_at e.unit f)
+  has : (f : model.Fault) → IsProgramFault p (sizes_of t.marks) e.unit f → HasFault text (fault_at e.unit f)
   has f first = record { tree = p; unit = e.unit; told = f; stands = t; first = first; is = refl }
 
-  by : (f : model.Fault) → IsFirstFault p (sizes_of t.marks) e.unit f → HasMade text (Err (fault_at e.unit f))
+  by : (f : model.Fault) → IsProgramFault p (sizes_of t.marks) e.unit f → HasMade text (Err (fault_at e.unit f))
   by model.UnknownName first = has model.UnknownName first
   by model.NameTwice first = has model.NameTwice first
   by model.Arity first = has model.Arity first
@@ -133,9 +133,9 @@ fault-has text p e t is = by e.fault (told-first p (sizes_of t.marks) e is) wher
   by model.Empty first = has model.Empty first
   by model.Budget first = has model.Budget first
 
-accepted-has : (text : List ℕ) (p : ParamProgram) (t : IsText text p) → HasMade text (or_fault p (elaborated p (sizes_of t.marks)))
-accepted-has text p t = by (elaborated p (sizes_of t.marks)) refl where
-  by : (r : Result Made Refusal) → elaborated p (sizes_of t.marks) ≡ r → HasMade text (or_fault p r)
+accepted-has : (text : List ℕ) (p : ParamProgram) (t : IsText text p) → HasMade text (or_fault p (elaborated_program p (sizes_of t.marks)))
+accepted-has text p t = by (elaborated_program p (sizes_of t.marks)) refl where
+  by : (r : Result Made Refusal) → elaborated_program p (sizes_of t.marks) ≡ r → HasMade text (or_fault p r)
   by (Ok m) j = (t, j)
   by (Err e) j = fault-has text p e t j
 
@@ -170,7 +170,7 @@ made-stands text e is =
 -- ---- WHAT THE FRONT ANSWERS
 
 -- the text that was written stands for what is made
-pub written-stands : (text : List ℕ) (p : ParamProgram) (plain : List ℕ) (from : List ℤ) → Writes (elaboration text) p plain from
+pub written-stands : (text : List ℕ) (p : ParamProgram) (plain : List ℕ) (from : List ℤ) → WritesPlainText (elaboration text) p plain from
     → StandsForMade (elaboration text) plain
 written-stands text p plain from (m, is, same, units) =
     let e : Elaboration = record { tree = p; made = m } in
@@ -180,7 +180,7 @@ written-stands text p plain from (m, is, same, units) =
 pub ruleset fronts = (written-stands)
 
 -- tokens that stand for a program mean what is made of it
-tokens-made : (marks : List Mark) (p : ParamProgram) → StandFor marks p → of_tokens marks ≡ or_fault p (elaborated p (sizes_of marks))
+tokens-made : (marks : List Mark) (p : ParamProgram) → StandFor marks p → of_tokens marks ≡ or_fault p (elaborated_program p (sizes_of marks))
 tokens-made marks p h = ap (then_elaborated (sizes_of marks)) (units-reads (cut_units (toks marks)) p h.0 h.1)
 
 -- tokens with a unit that is not in the grammar mean the first of them
@@ -208,16 +208,16 @@ read-few marks ds e =
 
 -- what was made of the units is made of the tokens
 pub read-written : (marks : List Mark) (ds : List ParamUnit) (sizes : List ℕ) (w : Written) → StandFor marks (program_of ds) → sizes ≡ sizes_of marks
-    → Makes (Ok w) (elaborated (program_of ds) sizes) → Writes (of_tokens marks) (program_of ds) w.plain w.from
+    → MakesText (Ok w) (elaborated_program (program_of ds) sizes) → WritesPlainText (of_tokens marks) (program_of ds) w.plain w.from
 read-written marks ds sizes w h are made =
-    (made.0, tokens-made marks (program_of ds) h ∙ ap (λ l. or_fault (program_of ds) (elaborated (program_of ds) l)) (sym are) ∙ ap (or_fault (program_of ds)) made.1, made.2, made.3)
+    (made.0, tokens-made marks (program_of ds) h ∙ ap (λ l. or_fault (program_of ds) (elaborated_program (program_of ds) l)) (sym are) ∙ ap (or_fault (program_of ds)) made.1, made.2, made.3)
 
 -- the fault of a program is the fault of the tokens that stand for it
 pub read-refused : (marks : List Mark) (ds : List ParamUnit) (sizes : List ℕ) (fault : ParamFault) → StandFor marks (program_of ds) → sizes ≡ sizes_of marks
-    → Refused (or_fault (program_of ds) (elaborated (program_of ds) sizes)) fault → Refused (of_tokens marks) fault
+    → Refused (or_fault (program_of ds) (elaborated_program (program_of ds) sizes)) fault → Refused (of_tokens marks) fault
 read-refused marks ds sizes fault h are is =
     subst (λ (r : Result Elaboration ParamFault). Refused r fault)
-    (sym (tokens-made marks (program_of ds) h ∙ ap (λ l. or_fault (program_of ds) (elaborated (program_of ds) l)) (sym are))) is
+    (sym (tokens-made marks (program_of ds) h ∙ ap (λ l. or_fault (program_of ds) (elaborated_program (program_of ds) l)) (sym are))) is
 
 pub ruleset writings = (read-fit, read-few, read-written, read-refused)
 
@@ -233,21 +233,21 @@ told-fine k told.Empty r g h = ap (λ x. on_fine x g) h
 told-fine k told.Budget r g h = ap (λ x. on_fine x g) h
 told-fine k told.NoMemory r g h = tt
 
-pub judged-refused : (p : ParamProgram) (sizes : List ℕ) (e : code.Refusal) → JudgesAll (Err e) (units_judged 1 [] p) → Makes (Err e) (elaborated p sizes)
+pub judged-refused : (p : ParamProgram) (sizes : List ℕ) (e : code.Refusal) → JudgesAll (Err e) (units_judged 1 [] p) → MakesText (Err e) (elaborated_program p sizes)
 judged-refused p sizes e h = told-fine e.unit e.fault (units_judged 1 [] p) (λ x. behind p sizes) h
 
-after-judged : (p : ParamProgram) (sizes : List ℕ) → units_judged 1 [] p ≡ no_fault → elaborated p sizes ≡ behind p sizes
+after-judged : (p : ParamProgram) (sizes : List ℕ) → units_judged 1 [] p ≡ no_fault → elaborated_program p sizes ≡ behind p sizes
 after-judged p sizes h = ap (λ r. on_fine r (λ x. behind p sizes)) h
 
-pub top-refused : (p : ParamProgram) (sizes : List ℕ) (e : code.Refusal) → units_judged 1 [] p ≡ no_fault → JudgesAll (Err e) (top_judged (sources_of p sizes))
-    → Makes (Err e) (elaborated p sizes)
+pub top-refused : (p : ParamProgram) (sizes : List ℕ) (e : code.Refusal) → units_judged 1 [] p ≡ no_fault → JudgesAll (Err e) (top_judged (source_units p sizes))
+    → MakesText (Err e) (elaborated_program p sizes)
 top-refused p sizes e j h =
     subst (λ (r : Result Made Refusal). Told e.unit e.fault r) (sym (after-judged p sizes j))
-    (told-fine e.unit e.fault (top_judged (sources_of p sizes)) (λ y. last_made (sources_of p sizes)) h)
+    (told-fine e.unit e.fault (top_judged (source_units p sizes)) (λ y. last_made (source_units p sizes)) h)
 
-pub judged-made : (p : ParamProgram) (sizes : List ℕ) (r : Result Written code.Refusal) → units_judged 1 [] p ≡ no_fault → top_judged (sources_of p sizes) ≡ no_fault
-    → Makes r (last_made (sources_of p sizes)) → Makes r (elaborated p sizes)
+pub judged-made : (p : ParamProgram) (sizes : List ℕ) (r : Result Written code.Refusal) → units_judged 1 [] p ≡ no_fault → top_judged (source_units p sizes) ≡ no_fault
+    → MakesText r (last_made (source_units p sizes)) → MakesText r (elaborated_program p sizes)
 judged-made p sizes r j t h =
-    subst (Makes r) (sym (after-judged p sizes j ∙ ap (λ x. on_fine x (λ y. last_made (sources_of p sizes))) t)) h
+    subst (MakesText r) (sym (after-judged p sizes j ∙ ap (λ x. on_fine x (λ y. last_made (source_units p sizes))) t)) h
 
 pub ruleset makings = (judged-refused, top-refused, judged-made)

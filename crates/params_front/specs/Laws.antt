@@ -18,7 +18,7 @@ use Rattle.params_text.specs.Laws.{IsBadAt}
 use Rattle.params_text.specs.Program.{ParamProgram}
 use Rattle.params_text.specs.Toks.{plain_text}
 use Rattle.params_model.specs.Faulty.{IsRight, IsFaultOf}
-use Rattle.params_model.specs.Judged.{sources_of, top_judged, elaborated}
+use Rattle.params_model.specs.Judged.{source_units, top_judged, elaborated_program}
 use Rattle.params_model.specs.Making.{Made, on_fine, last_made}
 use Rattle.params_model.specs.Making as model
 use Rattle.params_model.specs.Meaning.{params_outputs}
@@ -30,10 +30,10 @@ use Rattle.params_front.specs.Meaning.{Elaboration, Accepted, fault_at, unit_in,
 
 -- this is the first fault of a program whose units have so many bytes: that of the first place that has one; or no place has one, and
 -- the last stream has parameters, or this is the first in the order in which instances are made
-abbrev pub IsFirstFault : ParamProgram → List ℕ → ℕ → model.Fault → Type 0
-IsFirstFault p sizes unit f =
+abbrev pub IsProgramFault : ParamProgram → List ℕ → ℕ → model.Fault → Type 0
+IsProgramFault p sizes unit f =
     IsFaultOf p unit f
-    ⊎ (AllByRecursion IsRight (places_of p) × (on_fine (top_judged (sources_of p sizes)) (λ x. last_made (sources_of p sizes)) ≡ Err (record { unit = unit; fault = f })))
+    ⊎ (AllByRecursion IsRight (places_of p) × (on_fine (top_judged (source_units p sizes)) (λ x. last_made (source_units p sizes)) ≡ Err (record { unit = unit; fault = f })))
 
 -- the grammar has the text for a program whose first fault this is
 pub record HasFault (text : List ℕ) (fault : ParamFault) : Type 0 where
@@ -41,13 +41,13 @@ pub record HasFault (text : List ℕ) (fault : ParamFault) : Type 0 where
   pub unit : ℕ
   pub told : model.Fault
   pub stands : IsText text tree
-  pub first : IsFirstFault tree (sizes_of stands.marks) unit told
+  pub first : IsProgramFault tree (sizes_of stands.marks) unit told
   pub is : fault ≡ fault_at unit told
 
 -- the grammar has the text for a program, and this is made of it; or the program has a fault; or the text has a first unit that is not in
 -- the grammar, or a first fault of its bytes
 abbrev pub HasMade : List ℕ → Result Elaboration ParamFault → Type 0
-HasMade text (Ok e) = (t : IsText text e.tree) × (elaborated e.tree (sizes_of t.marks) ≡ Ok e.made)
+HasMade text (Ok e) = (t : IsText text e.tree) × (elaborated_program e.tree (sizes_of t.marks) ≡ Ok e.made)
 HasMade text (Err (Text (BadByte at))) = tokens_in text ≡ Err (lex.BadByte at)
 HasMade text (Err (Text (BigNumber at))) = tokens_in text ≡ Err (lex.BigNumber at)
 HasMade text (Err (Text (Syntax unit))) = IsBadAt text unit

@@ -20,7 +20,7 @@ use Rattle.params_text.specs.Reading.{some_units}
 use Rattle.params_text.specs.Toks.{plain_text}
 use Rattle.params_model.specs.Making.{Made, Refusal}
 use Rattle.params_model.specs.Making as model
-use Rattle.params_model.specs.Judged.{elaborated}
+use Rattle.params_model.specs.Judged.{elaborated_program}
 use Rattle.params_front.specs.Sizes.{sizes_of}
 use Rattle.params_front.specs.declared.fault.ParamFault.{ParamFault}
 use Rattle.params_front.specs.declared.fault.ParamFault.TheVariants.{Text, UnknownName, NameTwice, Arity, NotConstant, Top, Range, Empty, Budget, Inner}
@@ -52,7 +52,7 @@ or_fault p (Err e) = Err (fault_at e.unit e.fault)
 
 -- what is read is judged, and its plain program is made; the units have so many bytes
 abbrev pub then_elaborated : List ℕ → Result ParamProgram ℕ → Result Elaboration ParamFault
-then_elaborated sizes (Ok p) = or_fault p (elaborated p sizes)
+then_elaborated sizes (Ok p) = or_fault p (elaborated_program p sizes)
 then_elaborated sizes (Err unit) = Err (Text (text.Syntax unit))
 
 -- the tokens of a text are read
@@ -111,11 +111,11 @@ compiled text = then_compiled (elaboration text)
 -- ---- ANSWERS
 
 -- the program is accepted, and this is the text of what is made of it, with the unit that each is an instance of
-abbrev pub Writes : Result Elaboration ParamFault → ParamProgram → List ℕ → List ℤ → Type 0
-Writes meant p text from = (m : Made) × (meant ≡ Ok (record { tree = p; made = m })) × (text ≡ plain_text m.units) × (from ≡ map pos m.from)
+abbrev pub WritesPlainText : Result Elaboration ParamFault → ParamProgram → List ℕ → List ℤ → Type 0
+WritesPlainText meant p text from = (m : Made) × (meant ≡ Ok (record { tree = p; made = m })) × (text ≡ plain_text m.units) × (from ≡ map pos m.from)
 
 abbrev pub Elaborates : Result Elaboration ParamFault → Elaborated → Type 0
-Elaborates meant e = Writes meant (program_of e.tree.units.items) e.plain e.from
+Elaborates meant e = WritesPlainText meant (program_of e.tree.units.items) e.plain e.from
 
 -- the text stands for the plain program that is made, and for no other
 abbrev pub StandsForMade : Result Elaboration ParamFault → List ℕ → Type 0

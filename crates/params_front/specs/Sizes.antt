@@ -4,14 +4,14 @@ use Rattle.work_code.specs.Cut.{units_of}
 use Rattle.work_code.specs.Tok.{Tok, Mark, toks}
 
 -- where the last token ends
-abbrev pub end_of : Mark → List Mark → ℕ
-end_of m [] = m.end
-end_of m (n ∷ ms) = end_of n ms
+abbrev pub end_of_last : Mark → List Mark → ℕ
+end_of_last m [] = m.end
+end_of_last m (n ∷ ms) = end_of_last n ms
 
 -- from the first byte of the first token to the last byte of the last
 abbrev pub bytes_of : List Mark → ℕ
 bytes_of [] = 0
-bytes_of (m ∷ ms) = end_of m ms - m.start
+bytes_of (m ∷ ms) = end_of_last m ms - m.start
 
 -- of units that have the tokens one after another
 abbrev pub bytes_of_each : List (List Tok) → List Mark → List ℕ

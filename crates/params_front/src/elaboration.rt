@@ -4,12 +4,12 @@ ghost use Rattle.params_text.specs.Faults.{StandFor};
 ghost use Rattle.params_text.specs.Program.{program_of};
 ghost use Rattle.params_text.specs.Program as text;
 ghost use Rattle.params_model.specs.Constants.{AreFitUnits};
-ghost use Rattle.params_model.specs.Judged.{elaborated};
+ghost use Rattle.params_model.specs.Judged.{elaborated_program};
 ghost use Rattle.params_model.specs.Making.{Made};
 ghost use Rattle.params_model.specs.Making as model;
 ghost use Rattle.params_build.specs.Told.{Told};
-ghost use Rattle.params_make.specs.Written.{Makes};
-ghost use Rattle.params_front.specs.Meaning.{or_fault, of_tokens, elaboration, Writes, Elaborates, StandsForMade, Refused};
+ghost use Rattle.params_make.specs.Written.{MakesText};
+ghost use Rattle.params_front.specs.Meaning.{or_fault, of_tokens, elaboration, WritesPlainText, Elaborates, StandsForMade, Refused};
 
 use crate::fault::ParamFault;
 use crate::sizes::sizes;
@@ -82,7 +82,7 @@ fn read(alloc: Global, tokens: &Tokens<'_>) -> Result<Vec<ParamUnit>, ParamFault
 fn written(alloc: Global, tokens: &Tokens<'_>, units: &[ParamUnit]) -> Result<Written, ParamFault>
     requires few { length tokens.now < 2 ^ 32 }
     requires read { StandFor tokens.now (program_of units.now) }
-    ensures made { IfOk result (λ w. Writes (of_tokens tokens.now) (program_of units.now) w.plain w.from) }
+    ensures made { IfOk result (λ w. WritesPlainText (of_tokens tokens.now) (program_of units.now) w.plain w.from) }
     ensures refused { IfErr result (Refused (of_tokens tokens.now)) }
 {
     let sizes = sizes(alloc, tokens)?;
@@ -97,7 +97,7 @@ fn written(alloc: Global, tokens: &Tokens<'_>, units: &[ParamUnit]) -> Result<Wr
 fn made_of(alloc: Global, units: &[ParamUnit], sizes: &[usize]) -> Result<Written, Refusal>
     requires fit { AreFitUnits (program_of units.now) }
     requires few { length units.now < 2 ^ 32 }
-    ensures { Makes result (elaborated (program_of units.now) sizes.now) }
+    ensures { MakesText result (elaborated_program (program_of units.now) sizes.now) }
 {
     judged(alloc, units)?;
     top(units)?;

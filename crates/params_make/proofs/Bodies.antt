@@ -8,7 +8,7 @@ use Rattle.streamit_model.specs.Meaning.{numbers_from, turns_between}
 use Rattle.params_text.specs.Program.{Add, Loop, Steps, declared_of}
 use Rattle.params_text.specs.declared.program.ParamUnit.{ParamUnit}
 use Rattle.params_model.specs.Environment.{Environment, value}
-use Rattle.params_model.specs.Making.{SourceUnit, Made, nothing_made, Adding, Range, Empty, on_fine, demand, begin, turn, is_ranged, made_once, steps_made, turns_made, adds_of, children_made, make, last_made}
+use Rattle.params_model.specs.Making.{SourceUnit, Made, nothing_made, Adding, Range, Empty, on_fine, demand, begin, turn, is_ranged, made_once, steps_made, turns_made, some_adds, children_made, make, last_made}
 use Rattle.params_model.specs.Making as model
 use Rattle.params_build.specs.declared.fault.Refusal.{Refusal}
 use Rattle.params_build.specs.Told.{Told}
@@ -82,7 +82,7 @@ turn-refused add k name ss v m t old mid e h kn r =
 
 -- CHILDREN
 
-some-adds : (ns : List Name) → (ns ≡ [] → ⊥) → (a : plain.Adds) × (ns ≡ a.first ∷ a.others) × ((k : ℕ) → adds_of k ns ≡ Ok a)
+some-adds : (ns : List Name) → (ns ≡ [] → ⊥) → (a : plain.Adds) × (ns ≡ a.first ∷ a.others) × ((k : ℕ) → some_adds k ns ≡ Ok a)
 some-adds [] h = absurd (h refl)
 some-adds (n ∷ ns) h = (record { first = n; others = ns }, refl, λ k. refl)
 
@@ -92,7 +92,7 @@ none-named (i ∷ is) h = absurd (cc h)
 
 module _ (add : Adding) (k : ℕ) (env : Environment) (ss : Steps) (m : Made) where
   abbrev counted : List Name × Made → Result (plain.Adds × Made) model.Refusal
-  counted x = on_fine (adds_of k x.0) (λ a. fine (a, x.1))
+  counted x = on_fine (some_adds k x.0) (λ a. fine (a, x.1))
 
   -- the steps of a body that had no children, and has some now, have made them all
   pub all-made : (old new : Scope) (s : Making) → old.children ≡ [] → MakesMore (Ok tt) old new s (steps_made add k env ss m) → (new.children ≡ [] → ⊥)
@@ -113,7 +113,7 @@ module _ (add : Adding) (k : ℕ) (env : Environment) (ss : Steps) (m : Made) wh
   none-told old new s e none r empty b =
       let names : r.0 ≡ [] = sym (r.4 ∙ ap (λ l. names_written l ++ r.0) none) ∙ ap names_written empty in
       told-blamed e k Empty (children_made add k env ss m) b
-      (ap (λ q. on_fine q counted) r.2 ∙ ap (λ ns. on_fine (adds_of k ns) (λ b. fine (b, r.1))) names)
+      (ap (λ q. on_fine q counted) r.2 ∙ ap (λ ns. on_fine (some_adds k ns) (λ b. fine (b, r.1))) names)
 
   pub steps-told : (e : Refusal) → Told e.unit e.fault (steps_made add k env ss m) → Told e.unit e.fault (children_made add k env ss m)
   steps-told e h = told-on e.unit e.fault (steps_made add k env ss m) counted h

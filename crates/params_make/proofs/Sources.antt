@@ -10,7 +10,7 @@ use Rattle.params_text.specs.declared.program.ParamBody.{ParamBody}
 use Rattle.params_text.specs.declared.program.ParamBody.TheVariants as body
 use Rattle.params_text.specs.declared.program.Steps.{size-Steps}
 use Rattle.params_model.specs.Environment.{bound}
-use Rattle.params_model.specs.Judged.{head_or, tail_of, numbered_from, sources_of}
+use Rattle.params_model.specs.Judged.{head_or, tail_of, numbered_from, source_units}
 use Rattle.params_model.specs.Making.{Made, make, instance}
 use Rattle.params_make.specs.Standing.{sources, source_at, adding}
 use Rattle.params_model.specs.Constants.{IsFitUnit, AreFitUnits}
@@ -44,7 +44,7 @@ sources-more us i u sizes lt e =
     let d = declared_of u in
     let len : length p ≡ i = length-map (take i us) declared_of ∙ length-take-le i us (omega (arith, lt)) in
     ap (λ l. sources l sizes) (take_more us i u lt ∙ ap (λ x. take i us ++ x ∷ []) (sym e))
-    ∙ ap (λ q. sources_of q sizes) (map-append declared_of (take i us) (u ∷ []))
+    ∙ ap (λ q. source_units q sizes) (map-append declared_of (take i us) (u ∷ []))
     ∙ ap reverse (numbered-more 1 p d sizes)
     ∙ reverse-append (numbered_from 1 p sizes) (record { unit = 1 + length p; bytes = get_or sizes (length p) 0; stream = d } ∷ [])
     ∙ ap (λ n. record { unit = n; bytes = get_or sizes (length p) 0; stream = d } ∷ sources (take i us) sizes) (let e : 1 + length p ≡ suc (length p) = omega arith in e)

@@ -8,7 +8,7 @@ use Rattle.params_text.specs.Toks.{plain_text}
 use Rattle.params_text.specs.declared.program.ParamUnit.{ParamUnit}
 use Rattle.params_model.specs.Environment.{Environment}
 use Rattle.params_model.specs.Plain.{instance_name}
-use Rattle.params_model.specs.Judged.{sources_of}
+use Rattle.params_model.specs.Judged.{source_units}
 use Rattle.params_model.specs.Making.{SourceUnit, Made, Added, Adding, instance, on_fine, turn, steps_made, body_made}
 use Rattle.params_model.specs.Making as model
 use Rattle.params_build.specs.declared.fault.Fault.{Fault}
@@ -24,7 +24,7 @@ use Rattle.params_make.specs.declared.body.Scope.{Scope}
 
 -- the streams of these units, the newest first
 abbrev pub sources : List ParamUnit → List ℕ → List SourceUnit
-sources us sizes = sources_of (program_of us) sizes
+sources us sizes = source_units (program_of us) sizes
 
 -- the unit behind so many
 abbrev pub source_at : ℕ → List ℕ → Declared → SourceUnit

@@ -5,9 +5,9 @@ use Rattle.params_model.specs.Making.{is_ranged}
 use Rattle.params_make.specs.declared.span.Span.{Span}
 
 -- a bound, where it is in range
-abbrev pub IsBound : Option ℕ → ℤ → Type 0
-IsBound None z = is_ranged z ≡ false
-IsBound (Some n) z = (is_ranged z ≡ true) × (z ≡ pos n) × (n ≤ 65536)
+abbrev pub IsRangedBound : Option ℕ → ℤ → Type 0
+IsRangedBound None z = is_ranged z ≡ false
+IsRangedBound (Some n) z = (is_ranged z ≡ true) × (z ≡ pos n) × (n ≤ 65536)
 
 -- the turns, where both bounds are in range
 abbrev pub Spans : Option Span → ℤ → Bool → ℤ → Type 0

@@ -8,6 +8,6 @@ use Rattle.params_build.specs.Told.{Told}
 use Rattle.params_make.specs.declared.make.Written.{Written}
 
 -- the text is that of the instances that are made, with the source unit of each; or the fault is the first
-abbrev pub Makes : Result Written Refusal → Result Made model.Refusal → Type 0
-Makes (Ok w) r = (m : Made) × (r ≡ Ok m) × (w.plain ≡ plain_text m.units) × (w.from ≡ map pos m.from)
-Makes (Err e) r = Told e.unit e.fault r
+abbrev pub MakesText : Result Written Refusal → Result Made model.Refusal → Type 0
+MakesText (Ok w) r = (m : Made) × (r ≡ Ok m) × (w.plain ≡ plain_text m.units) × (w.from ≡ map pos m.from)
+MakesText (Err e) r = Told e.unit e.fault r

@@ -3,7 +3,7 @@ ghost use Rattle.params_text.specs.Program.{program_of};
 ghost use Rattle.params_model.specs.Making.{last_made};
 ghost use Rattle.params_make.specs.Standing.{sources};
 ghost use Rattle.params_model.specs.Constants.{AreFitUnits};
-ghost use Rattle.params_make.specs.Written.{Makes};
+ghost use Rattle.params_make.specs.Written.{MakesText};
 
 use crate::Making;
 use crate::body::Seen;
@@ -31,7 +31,7 @@ pub struct Written {
 /// that was judged has not; `NoMemory` where there is no memory.
 pub fn made(alloc: Global, units: &[ParamUnit], sizes: &[usize]) -> Result<Written, Refusal>
     requires { AreFitUnits (program_of units.now) }
-    ensures { Makes result (last_made (sources units.now sizes.now)) }
+    ensures { MakesText result (last_made (sources units.now sizes.now)) }
 {
     let count = units.len();
     if count == 0 {

@@ -4,7 +4,7 @@ ghost use Rattle.text_blocks.specs.Parts.{optional};
 ghost use Rattle.streamit_text.specs.Tree.{expression};
 ghost use Rattle.params_text.specs.Program.{expressions, rounds_of, dealing_of, work_of, filter_of};
 ghost use Rattle.params_model.specs.Environment.{value};
-ghost use Rattle.params_model.specs.Laws.{IsFit, AreFit};
+ghost use Rattle.params_model.specs.Laws.{HasValues, AreFit};
 ghost use Rattle.params_model.specs.Making.{is_ranged, are_ranged, is_ranged_option, are_ranged_option, is_ranged_dealing, is_ranged_work, is_ranged_prework, is_ranged_filter};
 ghost use Rattle.params_model.specs.Constants.{IsFitOption, AreFitOption, IsFitDealing, IsFitWork, IsFitPrework, IsFitFilter};
 
@@ -14,7 +14,7 @@ use streamit_text::Expr;
 
 // A rate, a weight or a bound.
 fn is_ranged(known: &Bindings, c: &Expr) -> bool
-    requires { IsFit (expression c.now) }
+    requires { HasValues (expression c.now) }
     ensures { result ≡ is_ranged (value known.now (expression c.now)) }
 {
     let value = value(known, c);

@@ -3,8 +3,8 @@ ghost use Rattle.std.specs.Prelude.{◌≡◌, map, IfOk};
 ghost use Rattle.streamit_text.specs.Tree.{expression, is_turn};
 ghost use Rattle.params_text.specs.Program.{expressions};
 ghost use Rattle.params_model.specs.Environment.{value};
-ghost use Rattle.params_model.specs.Laws.{IsFit, AreFit};
-ghost use Rattle.params_make.specs.Turning.{IsBound, Spans};
+ghost use Rattle.params_model.specs.Laws.{HasValues, AreFit};
+ghost use Rattle.params_make.specs.Turning.{IsRangedBound, Spans};
 
 use params_print::{Bindings, value};
 use river_base::{NoMemory, Numbers};
@@ -20,8 +20,8 @@ pub struct Span {
 
 // A bound of a loop, where it is in range.
 fn bound(known: &Bindings, c: &Expr) -> Option<u32>
-    requires { IsFit (expression c.now) }
-    ensures { IsBound result (value known.now (expression c.now)) }
+    requires { HasValues (expression c.now) }
+    ensures { IsRangedBound result (value known.now (expression c.now)) }
 {
     let value = value(known, c);
     if 0 <= value && value <= 65_536 {
@@ -33,8 +33,8 @@ fn bound(known: &Bindings, c: &Expr) -> Option<u32>
 
 /// The turns of a loop between these bounds, where both are in range.
 pub fn span_between(known: &Bindings, low: &Expr, until: Until, high: &Expr) -> Option<Span>
-    requires low { IsFit (expression low.now) }
-    requires high { IsFit (expression high.now) }
+    requires low { HasValues (expression low.now) }
+    requires high { HasValues (expression high.now) }
     ensures { Spans result (value known.now (expression low.now)) (is_turn until) (value known.now (expression high.now)) }
 {
     let low = bound(known, low)?;

@@ -9,7 +9,7 @@ use Rattle.params_text.specs.Params.{is_one_of}
 use Rattle.params_text.specs.Program.{ParamWork, ParamFilter, Body, AFilter, APipeline, ASplitJoin, ParamProgram}
 use Rattle.params_model.specs.Meaning.{last_works}
 use Rattle.params_model.specs.Making.{Fault, NameTwice, NotConstant, on_fine, demand, SourceUnit, last_made}
-use Rattle.params_model.specs.Judged.{Judgement, judged_then, new_names, other_names, statement_judged, block_judged, optional_judged, rates_judged, work_judged, prework_judged, filter_judged, Above, body_judged, unit_judged, units_judged, top_judged, numbered_from, sources_of, tail_of}
+use Rattle.params_model.specs.Judged.{Judgement, judged_then, new_names, other_names, statement_judged, block_judged, optional_judged, rates_judged, work_judged, prework_judged, filter_judged, Above, body_judged, unit_judged, units_judged, top_judged, numbered_from, source_units, tail_of}
 use Rattle.params_model.specs.Laws.{Differs, AllDiffer, SparesOnce, SparesAll, SparesOptional, SparesPrework, SparesFilter, IsFine, AreFine, unit_streams, IsFitBody, IsFitProgram, ElaboratedMeans}
 use Rattle.params_model.proofs.Instances.{fine, ok_parts, demanded, elaboration_means}
 
@@ -119,7 +119,7 @@ streams_are k (u ∷ us) sizes = ap (λ l. u ∷ l) (streams_are (suc k) us (tai
 -- what is elaborated of a program means what the program means
 pub elaborated_means : ElaboratedMeans
 elaborated_means p sizes m xs fit h =
-    let us = sources_of p sizes in
+    let us = source_units p sizes in
     let a = ok_parts (units_judged 1 [] p) (λ x. on_fine (top_judged us) (λ y. last_made us)) m h in
     let b = ok_parts (top_judged us) (λ y. last_made us) m a.2 in
     elaboration_means us m xs (fine_reverse (numbered_from 1 p sizes) (units_fine 1 [] p sizes a.0 fit a.1)) b.2

@@ -13,20 +13,20 @@ use Rattle.streamit_text.specs.Leaves.{IsLeaf}
 use Rattle.streamit_text.specs.Tree.{Expression}
 use Rattle.streamit_text.specs.Words.{is_own}
 use Rattle.params_text.specs.Grammar.{Rate, push, pop, peek, IsRate, Rates, unwritten, fresh, with_rate, rates_in, AreRates, IsWork, IsPrework, InFilter, IsStep, IsPipe, SplitAfter, InBoth, BodyAfter, IsUnit, AreUnits}
-use Rattle.params_text.specs.Program.{ParamWork, ParamFilter, Step, Steps, in_order, Dealing, Body, Declared, ParamProgram}
+use Rattle.params_text.specs.Program.{ParamWork, ParamFilter, Step, Steps, steps_in_turn, Dealing, Body, Declared, ParamProgram}
 use Rattle.params_text.specs.Steps.{or_none, Constants, StepHead, StepAfter, style, holes}
 use Rattle.params_text.specs.Steps as step
-use Rattle.params_model.specs.Laws.{IsFit, AreFit}
+use Rattle.params_model.specs.Laws.{HasValues, AreFit}
 use Rattle.params_model.specs.Constants.{IsFitOption, AreFitOption, IsFitDealing, IsFitWork, IsFitPrework, IsFitFilter, HasFitConstants, HaveFitConstants, IsFitUnit, AreFitUnits, ConstantsAreFit}
 use Rattle.params_model.proofs.Readable.{term-told, leaf-told, told-fit, constant-fit, constants-fit}
 
 -- STEPS
 
-expr-fit : (n : ℕ) (t : Expression) (ts : List Tok) → IsExpression IsLeaf n t ts → IsFit t
+expr-fit : (n : ℕ) (t : Expression) (ts : List Tok) → IsExpression IsLeaf n t ts → HasValues t
 expr-fit n t ts h = told-fit t (term-told IsLeaf leaf-told n t ts h)
 
 abbrev HeadFit : Head → Type 0
-HeadFit h = IsFit h.low × IsFit h.high
+HeadFit h = HasValues h.low × HasValues h.high
 
 after-fit : (n : ℕ) (name : List ℕ) (v : Head) (ts : List Tok) → HeadAfter (IsExpression IsLeaf) n name v ts → HeadFit v
 after-fit n name v ts h =
@@ -58,7 +58,7 @@ add-has k n w v ts h =
     chosen (Once k v) _ _ (bytes_eq w (codes "add")) v ts h
     (λ e f. subst HasFitConstants (sym f.is) (constants-fit n f.value.1 f.formed.second.front f.formed.second.formed)) (λ f. absurd f)
 
-order-has : (k : ℕ) (ss : List Step) → AllByRecursion (Once k) ss → All k (in_order ss)
+order-has : (k : ℕ) (ss : List Step) → AllByRecursion (Once k) ss → All k (steps_in_turn ss)
 order-has k [] h = tt
 order-has k (s ∷ ss) h = (h.0, order-has k ss h.1)
 
@@ -68,16 +68,16 @@ pipe-has n ss ts h = every-block style holes Once All branch-has loop-has add-ha
 step-has : (n : ℕ) (s : Step) (ts : List Tok) → IsStep n s ts → HasFitConstants s
 step-has n s ts h = every-rest style holes Once All branch-has loop-has add-has order-has 16 n h.word s h.back h.formed
 
-each-has : (n : ℕ) (ss : List Step) (ts : List Tok) → form.Each (IsStep n) ss ts → HaveFitConstants (in_order ss)
+each-has : (n : ℕ) (ss : List Step) (ts : List Tok) → form.Many (IsStep n) ss ts → HaveFitConstants (steps_in_turn ss)
 each-has n [] ts h = tt
 each-has n (s ∷ ss) ts h = (step-has n s h.0 h.3, each-has n ss h.1 h.4)
 
 -- RATES
 
 abbrev RateFit : Rate → Type 0
-RateFit (push c) = IsFit c
-RateFit (pop c) = IsFit c
-RateFit (peek c) = IsFit c
+RateFit (push c) = HasValues c
+RateFit (pop c) = HasValues c
+RateFit (peek c) = HasValues c
 
 abbrev RatesFit : Rates → Type 0
 RatesFit r = IsFitOption r.push × IsFitOption r.pop × IsFitOption r.peek
@@ -102,7 +102,7 @@ some-of : (P : Type 0) (o : Option Rates) (f : Rates → Option Rates) (q : Rate
 some-of P None f q e k = absurd (cc e)
 some-of P (Some m) f q e k = k m refl e
 
-in-fit : (n : ℕ) (xs : List Rate) (r q : Rates) (ts : List Tok) → RatesFit r → form.Each (IsRate n) xs ts → rates_in r xs ≡ Some q → RatesFit q
+in-fit : (n : ℕ) (xs : List Rate) (r q : Rates) (ts : List Tok) → RatesFit r → form.Many (IsRate n) xs ts → rates_in r xs ≡ Some q → RatesFit q
 in-fit n [] r q ts h g e = let same : r ≡ q = cc in subst RatesFit same h
 in-fit n (x ∷ xs) r q ts h g e =
     some-of (RatesFit q) (with_rate r x) (λ m. rates_in m xs) q e

@@ -12,14 +12,14 @@ use Rattle.brooklet_model.specs.ByIndex.{collected}
 use Rattle.streamit_model.specs.Meaning.{or_work, runs_in, numbers_from, turns_between}
 use Rattle.streamit_text.specs.Tree.{Statement, Declare, Assign, Push, Discard, If, For, Block, Optional, Unwritten, Written}
 use Rattle.streamit_text.specs.Tree as source
-use Rattle.streamit_model.specs.Meaning.{Works, look, or_same, work_of, piped, branched, branch_count, weights_for, share_of, body_works, all_work, last_of, program_outputs}
+use Rattle.streamit_model.specs.Meaning.{Works, look, or_same, known_works, piped, branched, branch_count, weights_for, share_of, body_works, all_work, last_of, program_outputs}
 use Rattle.streamit_text.specs.Program as plain
 use Rattle.params_text.specs.Program.{ParamWork, ParamFilter, Step, Add, Loop, Steps, End, Then, Body, AFilter, APipeline, ASplitJoin}
 use Rattle.params_model.specs.Environment.{Environment, bound, value, option_counts, dealing, rated_work, rated_prework, rated}
 use Rattle.params_model.specs.Meaning.{Child, Streams, children_each_turn, children_once, children, in_line, side_by_side, works_under, stream_works}
 use Rattle.params_model.specs.Plain.{instance_name, plain_filter}
 use Rattle.params_model.specs.Making.{Fault, Budget, Range, Refusal, on_fine, demand, SourceUnit, Made, nothing_made, begin, turn, is_ranged, are_ranged_option, is_ranged_dealing, is_ranged_filter, Adding, Added, also}
-use Rattle.params_model.specs.Making.{turns_made, made_once, steps_made, adds_of, children_made, body_made, finish, make, instance}
+use Rattle.params_model.specs.Making.{turns_made, made_once, steps_made, some_adds, children_made, body_made, finish, make, instance}
 use Rattle.params_model.specs.Laws.{AllDiffer, SparesOnce, SparesAll, SparesOptional, SparesPrework, SparesFilter, IsFine, AreFine, IsFitStep, AreFitSteps, unit_streams, ElaborationMeans}
 use Rattle.params_model.proofs.Values.{Fits, AllFit, bound_fits, values_fit, small}
 use Rattle.params_model.proofs.Put.{none_bound, filter_same}
@@ -70,7 +70,7 @@ look_here : {A : Type 0} (e : Name × A) (es : List (Name × A)) (n : Name) → 
 look_here e es n h = ap (λ b. if b then Some e.1 else look es n) h
 
 -- later units change nothing for earlier names
-work_kept : (us : plain.Program) (k : ℕ) (env : List (Name × Works)) (n : Name) → Numbered k us → number_in n ≤ k → work_of (all_work env us) n ≡ work_of env n
+work_kept : (us : plain.Program) (k : ℕ) (env : List (Name × Works)) (n : Name) → Numbered k us → number_in n ≤ k → known_works (all_work env us) n ≡ known_works env n
 work_kept [] k env n h le = refl
 work_kept (u ∷ us) k env n h le =
     work_kept us (suc k) ((u.name, body_works env u.body) ∷ env) n h.1 (omega (arith, le))
@@ -83,13 +83,13 @@ all_work-append (u ∷ us) vs env = all_work-append us vs ((u.name, body_works e
 -- in these units the name does this
 pub record Does (units : plain.Program) (n : Name) (f : Works) : Type 0 where
   pub number : number_in n ≤ length units
-  pub same : (xs : List ℤ) → work_of (all_work [] units) n xs ≡ f xs
+  pub same : (xs : List ℤ) → known_works (all_work [] units) n xs ≡ f xs
 
 does_more : (units more : plain.Program) (n : Name) (f : Works) → Does units n f → Numbered (length units) more → Does (units ++ more) n f
 does_more units more n f h g = record {
   number = let e = h.number in omega (arith, e, length-append units more);
   same =
-      λ xs. ap (λ w. work_of w n xs) (all_work-append units more [])
+      λ xs. ap (λ w. known_works w n xs) (all_work-append units more [])
       ∙ ap (λ w. w xs) (work_kept more (length units) (all_work [] units) n g h.number)
       ∙ h.same xs;
 }
@@ -311,15 +311,15 @@ module _ (all : Streams) (add : Adding) (unit : ℕ) (right : Right all add) whe
     grew : Grew s r.1
     all_do : AllDo all r.1.units (r.0.first ∷ r.0.others) cs
 
-  names_do : (m : plain.Program) (cs : List Child) (ns : List Name) (a : plain.Adds) → adds_of unit ns ≡ fine a → AllDo all m ns cs → AllDo all m (a.first ∷ a.others) cs
+  names_do : (m : plain.Program) (cs : List Child) (ns : List Name) (a : plain.Adds) → some_adds unit ns ≡ fine a → AllDo all m ns cs → AllDo all m (a.first ∷ a.others) cs
   names_do m cs [] a h d = absurd (cc h)
   names_do m cs (n ∷ ns) a h d = subst (λ (b : plain.Adds). AllDo all m (b.first ∷ b.others) cs) (ok_is (record { first = n; others = ns }) a h) d
 
   some_children : (env : Environment) (ss : Steps) (s : Made) (r : plain.Adds × Made) → Fits env → AreFitSteps ss → IsSmall s → children_made add unit env ss s ≡ fine r
       → SomeChildren (children env ss) s r
   some_children env ss s r fits fit small h =
-      let p = ok_parts (steps_made add unit env ss s) (λ x. on_fine (adds_of unit x.0) (λ a. fine (a, x.1))) r h in
-      let q = ok_parts (adds_of unit p.0.0) (λ a. fine (a, p.0.1)) r p.2 in
+      let p = ok_parts (steps_made add unit env ss s) (λ x. on_fine (some_adds unit x.0) (λ a. fine (a, x.1))) r h in
+      let q = ok_parts (some_adds unit p.0.0) (λ a. fine (a, p.0.1)) r p.2 in
       let c = steps_right env ss s p.0 fits fit small p.1 in
       let e = ok_is (q.0, p.0.1) r q.2 in
       subst (SomeChildren (children env ss) s) e (record {
@@ -400,7 +400,7 @@ made_does f s x m =
     subst (λ l. Does l x.0 f) (sym m.units) (record {
       number = let e = m.number in omega (arith, e, length-append m.before (u ∷ []));
       same =
-          λ xs. ap (λ w. work_of w x.0 xs) (all_last m.before u)
+          λ xs. ap (λ w. known_works w x.0 xs) (all_last m.before u)
           ∙ ap (λ o. or_same o xs) (look_here (x.0, body_works (all_work [] m.before) m.body) (all_work [] m.before) x.0 (name_same x.0))
           ∙ m.same xs;
     })

@@ -14,13 +14,13 @@ use Rattle.params_model.specs.Environment.{Environment, bound, value, counts_in,
 use Rattle.params_model.specs.Meaning.{Streams, stream_works, last_works}
 use Rattle.params_model.specs.Plain.{instance_name, plain_filter}
 use Rattle.params_model.specs.Making.{Budget, Range, Refusal, on_fine, demand, SourceUnit, Made, nothing_made, begin, turn, is_ranged, are_ranged, are_ranged_option, is_ranged_dealing, is_ranged_filter, Adding, Added, also}
-use Rattle.params_model.specs.Making.{turns_made, made_once, steps_made, adds_of, children_made, body_made, finish, make, instance, last_made}
+use Rattle.params_model.specs.Making.{turns_made, made_once, steps_made, some_adds, children_made, body_made, finish, make, instance, last_made}
 use Rattle.params_model.specs.Laws.{IsFine, AreFine, IsFitStep, AreFitSteps, unit_streams}
 use Rattle.params_model.proofs.Values.{Fits, AllFit, bound_fits, values_fit, small}
 use Rattle.params_model.proofs.Instances.{fine, ok_is, ok_parts, demanded, also_parts, AllAtMost, turns_small, IsSmall, grew_small, Right, begin_parts, make_right, instance_right, elaboration_means}
-use Rattle.params_text.specs.Told.{IsOwnName, AreOwnNames, AreToldAdds, AreValues, AreToldWeights, IsToldDealing, IsToldBody, IsToldProgram}
+use Rattle.params_text.specs.Told.{IsOwnName, AreOwnNames, AreToldAdds, AreToldNumbers, AreToldWeights, IsToldDealing, IsToldBody, IsToldProgram}
 use Rattle.params_model.specs.Written.{IsWrittenBody, IsWrittenUnit, IsWrittenProgram, AreWritten}
-use Rattle.params_model.specs.Judged.{units_judged, top_judged, numbered_from, sources_of, tail_of}
+use Rattle.params_model.specs.Judged.{units_judged, top_judged, numbered_from, source_units, tail_of}
 use Rattle.params_text.specs.Program.{ParamProgram}
 use Rattle.params_model.proofs.Accepted.{fine_reverse, units_fine, streams_are, map-reverse, reverse-cons}
 use Rattle.params_model.specs.Laws.{MadeStands, ElaboratedStands}
@@ -98,18 +98,18 @@ module _ (add : Adding) (unit : ℕ) (fitting : Fitting add) where
     told : AreToldAdds r.0
     fit : IsFit r.1
 
-  adds_told : (ns : List Name) (a : plain.Adds) → adds_of unit ns ≡ fine a → AreOwnNames ns → AreToldAdds a
+  adds_told : (ns : List Name) (a : plain.Adds) → some_adds unit ns ≡ fine a → AreOwnNames ns → AreToldAdds a
   adds_told [] a h g = absurd (cc h)
   adds_told (n ∷ ns) a h g = subst AreToldAdds (ok_is (record { first = n; others = ns }) a h) g
 
   children_fit : (env : Environment) (ss : Steps) (s : Made) (r : plain.Adds × Made) → Fits env → AreFitSteps ss → IsFit s → children_made add unit env ss s ≡ fine r → AddsFit r
   children_fit env ss s r fits fit g h =
-      let p = ok_parts (steps_made add unit env ss s) (λ x. on_fine (adds_of unit x.0) (λ a. fine (a, x.1))) r h in
-      let q = ok_parts (adds_of unit p.0.0) (λ a. fine (a, p.0.1)) r p.2 in
+      let p = ok_parts (steps_made add unit env ss s) (λ x. on_fine (some_adds unit x.0) (λ a. fine (a, x.1))) r h in
+      let q = ok_parts (some_adds unit p.0.0) (λ a. fine (a, p.0.1)) r p.2 in
       let c = steps_fit env ss s p.0 fits fit g p.1 in
       subst AddsFit (ok_is (q.0, p.0.1) r q.2) (record { told = adds_told p.0.0 q.0 q.1 c.own; fit = c.fit })
 
-  counts_told : (env : Environment) (cs : List Expression) → are_ranged env cs ≡ true → AreValues (counts_in env cs)
+  counts_told : (env : Environment) (cs : List Expression) → are_ranged env cs ≡ true → AreToldNumbers (counts_in env cs)
   counts_told env [] h = tt
   counts_told env (c ∷ cs) h =
       let p = and_parts (is_ranged (value env c)) (are_ranged env cs) h in
@@ -250,7 +250,7 @@ units_written k (u ∷ us) sizes h = (h.0, units_written (suc k) us (tail_of siz
 -- the text of what is made stands for it, and each program that it stands for means the same
 pub elaborated_stands : ElaboratedStands
 elaborated_stands p sizes m fit w h =
-    let us = sources_of p sizes in
+    let us = source_units p sizes in
     let a = ok_parts (units_judged 1 [] p) (λ x. on_fine (top_judged us) (λ y. last_made us)) m h in
     let b = ok_parts (top_judged us) (λ y. last_made us) m a.2 in
     let s = made_stands us m (fine_reverse (numbered_from 1 p sizes) (units_fine 1 [] p sizes a.0 fit a.1)) (written_reverse (numbered_from 1 p sizes) (units_written 1 p sizes w)) b.2 in (

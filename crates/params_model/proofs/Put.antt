@@ -18,7 +18,7 @@ use Rattle.streamit_text.specs.Program.{WorkTree, FilterTree}
 use Rattle.streamit_model.proofs.Elaborated.{at_here, at_other}
 use Rattle.params_model.specs.Environment.{Environment, bound, under}
 use Rattle.params_model.specs.Meaning.{started, initial_under, fires_under, fires_from_under, pushed_under}
-use Rattle.params_model.specs.Plain.{literal, literal_or, put, put_option, put_once, put_all, put_optional, put_work, put_prework, put_filter}
+use Rattle.params_model.specs.Plain.{literal, literal_or, put_in, put_option, put_once, put_all, put_optional, put_work, put_prework, put_filter}
 use Rattle.params_model.specs.Laws.{Differs, AllDiffer, SparesOnce, SparesAll, SparesOptional}
 use Rattle.params_model.proofs.Values.{Fits, said_literal_or, not_given}
 
@@ -74,17 +74,17 @@ literal_or_pops : (n : Name) (o : Option ℤ) → pops (literal_or n o) ≡ 0
 literal_or_pops n None = refl
 literal_or_pops n (Some z) = literal_pops z
 
-pub put_pops : (env : Environment) (t : Expression) → pops (put env t) ≡ pops t
+pub put_pops : (env : Environment) (t : Expression) → pops (put_in env t) ≡ pops t
 put_pops env (tree.Number v) = refl
 put_pops env (tree.Name n) = literal_or_pops n (look env n)
 put_pops env (tree.Peek t) = put_pops env t
 put_pops env tree.Pop = refl
 put_pops env (tree.Neg t) = put_pops env t
 put_pops env (tree.Not t) = put_pops env t
-put_pops env (tree.Bin o a b) = ap (λ k. k + pops (put env b)) (put_pops env a) ∙ ap (λ k. pops a + k) (put_pops env b)
+put_pops env (tree.Bin o a b) = ap (λ k. k + pops (put_in env b)) (put_pops env a) ∙ ap (λ k. pops a + k) (put_pops env b)
 
 module _ (env : Environment) (fits : Fits env) where
-  pub put_said : (t : Expression) (xs : List ℤ) (plain source : Values) (k : ℕ) → Sees env plain source → eval (put env t) xs plain k ≡ eval t xs source k
+  pub put_said : (t : Expression) (xs : List ℤ) (plain source : Values) (k : ℕ) → Sees env plain source → eval (put_in env t) xs plain k ≡ eval t xs source k
   put_said (tree.Number v) xs plain source k h = refl
   put_said (tree.Name n) xs plain source k h = said_literal_or env n xs plain k fits ∙ sym (h n)
   put_said (tree.Peek t) xs plain source k h = ap (λ z. slice_index_or xs (k + count_of z) (pos 0)) (put_said t xs plain source k h)
@@ -92,8 +92,8 @@ module _ (env : Environment) (fits : Fits env) where
   put_said (tree.Neg t) xs plain source k h = ap negate (put_said t xs plain source k h)
   put_said (tree.Not t) xs plain source k h = ap (λ z. truth (int_eq z (pos 0))) (put_said t xs plain source k h)
   put_said (tree.Bin o a b) xs plain source k h =
-      ap (λ z. applied o z (eval (put env b) xs plain (k + pops (put env a)))) (put_said a xs plain source k h)
-      ∙ ap (λ j. applied o (eval a xs source k) (eval (put env b) xs plain (k + j))) (put_pops env a)
+      ap (λ z. applied o z (eval (put_in env b) xs plain (k + pops (put_in env a)))) (put_said a xs plain source k h)
+      ∙ ap (λ j. applied o (eval a xs source k) (eval (put_in env b) xs plain (k + j))) (put_pops env a)
       ∙ ap (λ z. applied o (eval a xs source k) z) (put_said b xs plain source (k + pops a) h)
 
   -- STATEMENTS
@@ -103,14 +103,14 @@ module _ (env : Environment) (fits : Fits env) where
     pub popped : plain.popped ≡ source.popped
     pub pushed : plain.pushed ≡ source.pushed
 
-  said_alike : (t : Expression) (xs : List ℤ) (p s : State) → Alike p s → eval (put env t) xs p.values p.popped ≡ eval t xs s.values s.popped
+  said_alike : (t : Expression) (xs : List ℤ) (p s : State) → Alike p s → eval (put_in env t) xs p.values p.popped ≡ eval t xs s.values s.popped
   said_alike t xs p s h = put_said t xs p.values s.values p.popped h.values ∙ ap (eval t xs s.values) h.popped
 
   set_sees : (n : Name) (y z : ℤ) (plain source : Values) → look env n ≡ None → y ≡ z → Sees env plain source → Sees env (at_name n y plain) (at_name n z source)
   set_sees n y z plain source free e h =
       λ m. ap (λ w. if name_eq n m then z else w) (h m) ∙ ap (λ w. if name_eq n m then w else under env plain m) (sym e) ∙ sym (under_set env plain n y m free)
 
-  popping : (t : Expression) (p s : State) → Alike p s → p.popped + pops (put env t) ≡ s.popped + pops t
+  popping : (t : Expression) (p s : State) → Alike p s → p.popped + pops (put_in env t) ≡ s.popped + pops t
   popping t p s h = ap (λ j. p.popped + j) (put_pops env t) ∙ ap (λ j. j + pops t) h.popped
 
   first_alike : (t : Option Expression) (xs : List ℤ) (p s : State) → Alike p s → first_value (put_option env t) xs p ≡ first_value t xs s
@@ -154,16 +154,16 @@ module _ (env : Environment) (fits : Fits env) where
       once_alike (Push t) xs p s d h = record {
         values = h.values;
         popped = popping t p s h;
-        pushed = ap (λ l. l ++ eval (put env t) xs p.values p.popped ∷ []) h.pushed ∙ ap (λ z. s.pushed ++ z ∷ []) (said_alike t xs p s h);
+        pushed = ap (λ l. l ++ eval (put_in env t) xs p.values p.popped ∷ []) h.pushed ∙ ap (λ z. s.pushed ++ z ∷ []) (said_alike t xs p s h);
       }
       once_alike Discard xs p s d h = record { values = h.values; popped = ap (λ j. j + 1) h.popped; pushed = h.pushed }
       once_alike (If t a b) xs p s d h =
-          let on : Alike (record p { popped = p.popped + pops (put env t) }) (record s { popped = s.popped + pops t }) = record { values = h.values; popped = popping t p s h; pushed = h.pushed } in
-          either_alike (is_true (eval (put env t) xs p.values p.popped)) (is_true (eval t xs s.values s.popped)) _ _ _ _ (ap is_true (said_alike t xs p s h))
+          let on : Alike (record p { popped = p.popped + pops (put_in env t) }) (record s { popped = s.popped + pops t }) = record { values = h.values; popped = popping t p s h; pushed = h.pushed } in
+          either_alike (is_true (eval (put_in env t) xs p.values p.popped)) (is_true (eval t xs s.values s.popped)) _ _ _ _ (ap is_true (said_alike t xs p s h))
           (all_alike a xs _ _ d.0 on) (optional_alike b xs _ _ d.1 on)
       once_alike (For n low upto high b) xs p s d h =
           subst (λ vs. Alike (each_turn (exec_all (put_all env b) xs) n vs p) (each_turn (exec_all b xs) n (turns_between (eval low xs s.values s.popped) upto (eval high xs s.values s.popped)) s))
-          (sym (ap (λ l. turns_between l upto (eval (put env high) xs p.values p.popped)) (said_alike low xs p s h) ∙ ap (λ k. turns_between (eval low xs s.values s.popped) upto k) (said_alike high xs p s h)))
+          (sym (ap (λ l. turns_between l upto (eval (put_in env high) xs p.values p.popped)) (said_alike low xs p s h) ∙ ap (λ k. turns_between (eval low xs s.values s.popped) upto k) (said_alike high xs p s h)))
           (turns_alike (exec_all (put_all env b) xs) (exec_all b xs) n d.0 (λ q t g. all_alike b xs q t d.1 g) (turns_between (eval low xs s.values s.popped) upto (eval high xs s.values s.popped)) p s h)
 
       pub all_alike : (b : Block) (xs : List ℤ) (p s : State) → SparesAll ps b → Alike p s → Alike (exec_all (put_all env b) xs p) (exec_all b xs s)

@@ -13,10 +13,10 @@ use Rattle.streamit_model.specs.Meaning.{look}
 use Rattle.streamit_text.specs.Grammar.{is_still, is_still_first, stays, stay, stay_optional}
 use Rattle.params_text.specs.Program.{ParamWork, ParamFilter}
 use Rattle.params_model.specs.Environment.{Environment, bound, value, option_count, rated_work, rated_prework}
-use Rattle.params_model.specs.Plain.{literal, literal_or, put, put_option, put_once, put_all, put_optional, put_work, put_prework, plain_filter}
+use Rattle.params_model.specs.Plain.{literal, literal_or, put_in, put_option, put_once, put_all, put_optional, put_work, put_prework, plain_filter}
 use Rattle.params_model.specs.Making.{is_ranged, is_ranged_option, is_ranged_work, is_ranged_prework, is_ranged_filter}
 use Rattle.params_model.proofs.Values.{AllFit, bound_fits, look_fits}
-use Rattle.params_text.specs.Told.{IsOwnName, IsTold, IsToldExpr, FirstBy, OnceBy, AllBy, OptionalBy, IsToldRate, IsToldWork, IsToldPrework, IsToldFilter}
+use Rattle.params_text.specs.Told.{IsOwnName, IsToldTree, IsToldExpr, FirstBy, OnceBy, AllBy, OptionalBy, IsToldRate, IsToldWork, IsToldPrework, IsToldFilter}
 use Rattle.params_text.specs.Params.{is_one_of, param_depth}
 use Rattle.params_model.specs.Written.{IsWrittenExpr, IsWrittenPrework, IsWrittenFilter}
 
@@ -29,11 +29,11 @@ value_low : (n : ℕ) → IsValue (negsuc n) → nat_eq n 9223372036854775807 �
 value_low n h e = grind (arith, h, e)
 
 either_told : (b : Bool) (n : ℕ) → nat_eq n 9223372036854775807 ≡ b → IsValue (negsuc n)
-    → IsTold (if b then tree.Bin op.Sub (tree.Neg (tree.Number 9223372036854775807)) (tree.Number 1) else tree.Neg (tree.Number (suc n)))
+    → IsToldTree (if b then tree.Bin op.Sub (tree.Neg (tree.Number 9223372036854775807)) (tree.Number 1) else tree.Neg (tree.Number (suc n)))
 either_told true n e h = (omega arith, omega arith)
 either_told false n e h = value_low n h e
 
-literal_told : (z : ℤ) → IsValue z → IsTold (literal z)
+literal_told : (z : ℤ) → IsValue z → IsToldTree (literal z)
 literal_told (pos n) h = value_small n h
 literal_told (negsuc n) h = either_told (nat_eq n 9223372036854775807) n refl h
 
@@ -64,7 +64,7 @@ module _ (ps : List Name) (zs : List ℤ) (fits : AllFit zs) where
   some_fits : (n : Name) (z : ℤ) → look env n ≡ Some z → IsValue z
   some_fits n z h = look_fits env n z (bound_fits ps zs fits) h
 
-  name_told : (n : Name) (o : Option ℤ) → look env n ≡ o → IsOwnName n → IsTold (literal_or n o)
+  name_told : (n : Name) (o : Option ℤ) → look env n ≡ o → IsOwnName n → IsToldTree (literal_or n o)
   name_told n None e h = h
   name_told n (Some z) e h = literal_told z (some_fits n z e)
 
@@ -76,7 +76,7 @@ module _ (ps : List Name) (zs : List ℤ) (fits : AllFit zs) where
       one false = omega arith
   name_depth n (Some z) e = subst (λ b. depth_of (literal z) ≤ (if b then 3 else 1)) (sym (given_one ps zs n z e)) (literal_depth z)
 
-  put_told : (t : Expression) → IsTold t → IsTold (put env t)
+  put_told : (t : Expression) → IsToldTree t → IsToldTree (put_in env t)
   put_told (tree.Number v) h = h
   put_told (tree.Name n) h = name_told n (look env n) refl h
   put_told (tree.Peek t) h = put_told t h
@@ -88,7 +88,7 @@ module _ (ps : List Name) (zs : List ℤ) (fits : AllFit zs) where
   max_both : (a b c d : ℕ) → a ≤ c → b ≤ d → max a b ≤ max c d
   max_both a b c d h g = grind (arith, h, g)
 
-  put_depth : (t : Expression) → depth_of (put env t) ≤ param_depth ps t
+  put_depth : (t : Expression) → depth_of (put_in env t) ≤ param_depth ps t
   put_depth (tree.Number v) = omega arith
   put_depth (tree.Name n) = name_depth n (look env n) refl
   put_depth (tree.Peek t) = let e = put_depth t in omega (arith, e)
@@ -96,9 +96,9 @@ module _ (ps : List Name) (zs : List ℤ) (fits : AllFit zs) where
   put_depth (tree.Neg t) = let e = put_depth t in omega (arith, e)
   put_depth (tree.Not t) = let e = put_depth t in omega (arith, e)
   put_depth (tree.Bin o a b) =
-      let e = max_both (depth_of (put env a)) (depth_of (put env b)) (param_depth ps a) (param_depth ps b) (put_depth a) (put_depth b) in omega (arith, e)
+      let e = max_both (depth_of (put_in env a)) (depth_of (put_in env b)) (param_depth ps a) (param_depth ps b) (put_depth a) (put_depth b) in omega (arith, e)
 
-  put_expr : (t : Expression) → IsWrittenExpr ps t → IsToldExpr (put env t)
+  put_expr : (t : Expression) → IsWrittenExpr ps t → IsToldExpr (put_in env t)
   put_expr t h = (put_told t h.0, let e = put_depth t in omega (arith, e, h.1))
 
   -- BLOCKS
@@ -137,14 +137,14 @@ module _ (ps : List Name) (zs : List ℤ) (fits : AllFit zs) where
   literal_still n (Some (pos k)) = refl
   literal_still n (Some (negsuc k)) = either_still (nat_eq k 9223372036854775807) k
 
-  put_still : (t : Expression) → is_still (put env t) ≡ is_still t
+  put_still : (t : Expression) → is_still (put_in env t) ≡ is_still t
   put_still (tree.Number v) = refl
   put_still (tree.Name n) = literal_still n (look env n)
   put_still (tree.Peek t) = refl
   put_still tree.Pop = refl
   put_still (tree.Neg t) = put_still t
   put_still (tree.Not t) = put_still t
-  put_still (tree.Bin o a b) = ap (λ x. x && is_still (put env b)) (put_still a) ∙ ap (λ x. is_still a && x) (put_still b)
+  put_still (tree.Bin o a b) = ap (λ x. x && is_still (put_in env b)) (put_still a) ∙ ap (λ x. is_still a && x) (put_still b)
 
   first_still : (t : Option Expression) → is_still_first (put_option env t) ≡ is_still_first t
   first_still None = refl
@@ -161,7 +161,7 @@ module _ (ps : List Name) (zs : List ℤ) (fits : AllFit zs) where
         ∙ ap (λ x. is_still t && (x && stay_optional (put_optional env b))) (all_stay a)
         ∙ ap (λ x. is_still t && (stay a && x)) (optional_stay b)
     once_stays (For n low upto high b) =
-        ap (λ x. x && (is_still (put env high) && stay (put_all env b))) (put_still low)
+        ap (λ x. x && (is_still (put_in env high) && stay (put_all env b))) (put_still low)
         ∙ ap (λ x. is_still low && (x && stay (put_all env b))) (put_still high)
         ∙ ap (λ x. is_still low && (is_still high && x)) (all_stay b)
 

@@ -29,11 +29,11 @@ use Rattle.params_text.specs.Grammar.{IsBlock, IsInit, IsWork, IsPrework, InFilt
 use Rattle.params_text.specs.Parameters.{IsLeafWith, leaf_with}
 use Rattle.params_text.specs.Parameters as rule
 use Rattle.params_text.specs.Params.{low, lows, low_optional, is_low, is_low_first, param_depth}
-use Rattle.params_text.specs.Program.{ParamWork, ParamFilter, Step, Steps, in_order, Body, Declared, ParamProgram}
+use Rattle.params_text.specs.Program.{ParamWork, ParamFilter, Step, Steps, steps_in_turn, Body, Declared, ParamProgram}
 use Rattle.params_text.specs.Steps.{Constant, StreamName, or_none, Constants, IsAdd, StepHead, StepAfter, style, holes}
 use Rattle.params_text.specs.Steps as step
-use Rattle.params_text.specs.Told.{IsOwnName, AreOwnNames, IsTold, FirstBy, OnceBy, AllBy, OptionalBy}
-use Rattle.params_model.specs.Laws.{IsFit, AreFit, IsFitStep, AreFitSteps, IsFitBody, IsFitProgram, TextsAreWritten}
+use Rattle.params_text.specs.Told.{IsOwnName, AreOwnNames, IsToldTree, FirstBy, OnceBy, AllBy, OptionalBy}
+use Rattle.params_model.specs.Laws.{HasValues, AreFit, IsFitStep, AreFitSteps, IsFitBody, IsFitProgram, TextsAreWritten}
 use Rattle.params_model.specs.Written.{IsWrittenExpr, IsWrittenPrework, IsWrittenFilter, IsWrittenBody, IsWrittenUnit, IsWrittenProgram}
 
 -- EXPRESSIONS
@@ -41,14 +41,14 @@ use Rattle.params_model.specs.Written.{IsWrittenExpr, IsWrittenPrework, IsWritte
 a_value : (v : ℕ) → is_value v ≡ true → v ≤ 9223372036854775807
 a_value v h = grind (arith, nat_tests)
 
-marked-told : (p : Sign) (t : Expression) → IsTold t → IsTold (marked p t)
+marked-told : (p : Sign) (t : Expression) → IsToldTree t → IsToldTree (marked p t)
 marked-told sign.Neg t h = h
 marked-told sign.Not t h = h
 marked-told sign.Peek t h = h
 
 -- whatever the leaves are
-module _ (Leaf : ℕ → Expression → List Tok → Type 0) (leaves : (n : ℕ) (t : Expression) (ts : List Tok) → Leaf n t ts → IsTold t) where
-  spells-told : (n rank : ℕ) (t : Expression) (ts : List Tok) → Spells syntax Leaf n rank t ts → IsTold t
+module _ (Leaf : ℕ → Expression → List Tok → Type 0) (leaves : (n : ℕ) (t : Expression) (ts : List Tok) → Leaf n t ts → IsToldTree t) where
+  spells-told : (n rank : ℕ) (t : Expression) (ts : List Tok) → Spells syntax Leaf n rank t ts → IsToldTree t
   spells-told n rank t ts (spelled.leaf m u us h) = leaves m u us h
   spells-told n rank t ts (spelled.bracket m u us h) = spells-told m 7 u us h
   spells-told n rank t ts (spelled.call m x p u us e h) = marked-told p u (spells-told m 7 u us h)
@@ -58,17 +58,17 @@ module _ (Leaf : ℕ → Expression → List Tok → Type 0) (leaves : (n : ℕ)
   spells-told n rank t ts (spelled.prefix m k x p u us e h) = marked-told p u (spells-told m (suc k) u us h)
 
   -- an expression that tokens stand for is one that a text can stand for
-  pub term-told : (n : ℕ) (t : Expression) (ts : List Tok) → IsExpression Leaf n t ts → IsTold t
+  pub term-told : (n : ℕ) (t : Expression) (ts : List Tok) → IsExpression Leaf n t ts → IsToldTree t
   term-told n t ts h = spells-told n 7 t ts h.0
 
 -- so is a leaf that tokens stand for
-pub leaf-told : (n : ℕ) (t : Expression) (ts : List Tok) → IsLeaf n t ts → IsTold t
+pub leaf-told : (n : ℕ) (t : Expression) (ts : List Tok) → IsLeaf n t ts → IsToldTree t
 leaf-told n t ts (leaf.number m v h) = a_value v h
 leaf-told n t ts (leaf.name m text h) = h
 leaf-told n t ts (leaf.pop m) = tt
 
 -- the numbers of an expression that a text can stand for are values
-pub told-fit : (t : Expression) → IsTold t → IsFit t
+pub told-fit : (t : Expression) → IsToldTree t → HasValues t
 told-fit (tree.Number v) h = h
 told-fit (tree.Name n) h = tt
 told-fit (tree.Peek t) h = tt
@@ -78,12 +78,12 @@ told-fit (tree.Not t) h = told-fit t h
 told-fit (tree.Bin o a b) h = (told-fit a h.0, told-fit b h.1)
 
 -- the numbers of a constant are values
-pub constant-fit : (n : ℕ) (t : Expression) (ts : List Tok) → Constant n t ts → IsFit t
+pub constant-fit : (n : ℕ) (t : Expression) (ts : List Tok) → Constant n t ts → HasValues t
 constant-fit n t ts h = told-fit t (term-told IsLeaf leaf-told n t ts h.formed)
 
 -- STEPS
 
-commas-fit : (n : ℕ) (cs : List Expression) (ts : List Tok) → form.Each (form.After (s.Comma ∷ []) (Constant n)) cs ts → AreFit cs
+commas-fit : (n : ℕ) (cs : List Expression) (ts : List Tok) → form.Many (form.After (s.Comma ∷ []) (Constant n)) cs ts → AreFit cs
 commas-fit n [] ts h = tt
 commas-fit n (c ∷ cs) ts h = (constant-fit n c h.3.back h.3.formed, commas-fit n cs h.1 h.4)
 
@@ -115,7 +115,7 @@ add-fit k n w v ts h =
     chosen (FitStep k v) _ _ (bytes_eq w (codes "add")) v ts h
     (λ e f. subst IsFitStep (sym f.is) (constants-fit n f.value.1 f.formed.second.front f.formed.second.formed)) (λ f. absurd f)
 
-order-fit : (k : ℕ) (ss : List Step) → AllByRecursion (FitStep k) ss → FitSteps k (in_order ss)
+order-fit : (k : ℕ) (ss : List Step) → AllByRecursion (FitStep k) ss → FitSteps k (steps_in_turn ss)
 order-fit k [] h = tt
 order-fit k (s ∷ ss) h = (h.0, order-fit k ss h.1)
 
@@ -125,7 +125,7 @@ pipe-fit n ss ts h = every-block style holes FitStep FitSteps branch-fit loop-fi
 step-fit : (n : ℕ) (s : Step) (ts : List Tok) → IsStep n s ts → IsFitStep s
 step-fit n s ts h = every-rest style holes FitStep FitSteps branch-fit loop-fit add-fit order-fit 16 n h.word s h.back h.formed
 
-each-fit : (n : ℕ) (ss : List Step) (ts : List Tok) → form.Each (IsStep n) ss ts → AreFitSteps (in_order ss)
+each-fit : (n : ℕ) (ss : List Step) (ts : List Tok) → form.Many (IsStep n) ss ts → AreFitSteps (steps_in_turn ss)
 each-fit n [] ts h = tt
 each-fit n (s ∷ ss) ts h = (step-fit n s h.0 h.3, each-fit n ss h.1 h.4)
 
@@ -135,25 +135,25 @@ module _ (ps : List (List ℕ)) where
   abbrev F : ℕ → Expression → List Tok → Type 0
   F = IsExpression (IsLeafWith ps)
 
-  with-told : (n : ℕ) (t : Expression) (ts : List Tok) → IsLeafWith ps n t ts → IsTold t
+  with-told : (n : ℕ) (t : Expression) (ts : List Tok) → IsLeafWith ps n t ts → IsToldTree t
   with-told n t ts (rule.number m v h) = a_value v h
   with-told n t ts (rule.name m text h p) = h
   with-told n t ts (rule.parameter m text h p) = h
   with-told n t ts (rule.pop m) = tt
 
-  expr-told : (n : ℕ) (t : Expression) (ts : List Tok) → F n t ts → IsTold t
+  expr-told : (n : ℕ) (t : Expression) (ts : List Tok) → F n t ts → IsToldTree t
   expr-told = term-told (IsLeafWith ps) with-told
 
-  round-told : (n : ℕ) (t : Expression) (ts : List Tok) → Round F n t ts → IsTold t
-  round-told n t ts h = enclosed IsTold _ _ _ n t ts h (λ m us f. expr-told m t us f)
+  round-told : (n : ℕ) (t : Expression) (ts : List Tok) → Round F n t ts → IsToldTree t
+  round-told n t ts h = enclosed IsToldTree _ _ _ n t ts h (λ m us f. expr-told m t us f)
 
   abbrev Once : ℕ → Statement → Type 0
-  Once k s = OnceBy IsTold k s
+  Once k s = OnceBy IsToldTree k s
 
   abbrev All : ℕ → Block → Type 0
-  All k b = AllBy IsTold k b
+  All k b = AllBy IsToldTree k b
 
-  first-told : (n : ℕ) (o : Option Expression) (ts : List Tok) → form.Maybe (form.After (s.Assign ∷ []) (F n)) o ts → FirstBy IsTold o
+  first-told : (n : ℕ) (o : Option Expression) (ts : List Tok) → form.Maybe (form.After (s.Assign ∷ []) (F n)) o ts → FirstBy IsToldTree o
   first-told n None ts h = tt
   first-told n (Some t) ts h = expr-told n t h.back h.formed
 
@@ -178,7 +178,7 @@ module _ (ps : List (List ℕ)) where
       chosen (Once k v) _ _ (is_own w) v ts h (λ e. assign-told k n w v ts e) (λ h. absurd h))))
 
   abbrev HeadTold : Head → Type 0
-  HeadTold h = IsOwnName h.name × IsTold h.low × IsTold h.high
+  HeadTold h = IsOwnName h.name × IsToldTree h.low × IsToldTree h.high
 
   after-told : (n : ℕ) (name : List ℕ) (v : Head) (ts : List Tok) → is_own name ≡ true → HeadAfter F n name v ts → HeadTold v
   after-told n name v ts own h =
@@ -209,15 +209,15 @@ module _ (ps : List (List ℕ)) where
   below : (d : ℕ) → nat_le d 64 ≡ true → d ≤ 64
   below d h = grind (arith, nat_tests, h)
 
-  expr-written : (t : Expression) → IsTold t → is_low ps t ≡ true → IsWrittenExpr ps t
+  expr-written : (t : Expression) → IsToldTree t → is_low ps t ≡ true → IsWrittenExpr ps t
   expr-written t h g = (h, below (param_depth ps t) g)
 
-  first-written : (o : Option Expression) → FirstBy IsTold o → is_low_first ps o ≡ true → FirstBy (IsWrittenExpr ps) o
+  first-written : (o : Option Expression) → FirstBy IsToldTree o → is_low_first ps o ≡ true → FirstBy (IsWrittenExpr ps) o
   first-written None h g = tt
   first-written (Some t) h g = expr-written t h g
 
   mutual
-    once-written : (k : ℕ) (c : Statement) → OnceBy IsTold k c → lows ps c ≡ true → OnceBy (IsWrittenExpr ps) k c
+    once-written : (k : ℕ) (c : Statement) → OnceBy IsToldTree k c → lows ps c ≡ true → OnceBy (IsWrittenExpr ps) k c
     once-written k (Declare n t) h g = (h.0, first-written t h.1 g)
     once-written k (Assign n t) h g = (h.0, expr-written t h.1 g)
     once-written k (Push t) h g = expr-written t h g
@@ -233,13 +233,13 @@ module _ (ps : List (List ℕ)) where
         let q = and_parts (is_low ps to) (low ps b) p.1 in
         (h.0, expr-written from h.1 p.0, expr-written to h.2 q.0, all-written k b h.3 q.1)
 
-    all-written : (k : ℕ) (b : Block) → AllBy IsTold k b → low ps b ≡ true → AllBy (IsWrittenExpr ps) k b
+    all-written : (k : ℕ) (b : Block) → AllBy IsToldTree k b → low ps b ≡ true → AllBy (IsWrittenExpr ps) k b
     all-written k End h g = tt
     all-written k (Then c b) h g =
         let p = and_parts (lows ps c) (low ps b) g in
         (once-written k c h.0 p.0, all-written k b h.1 p.1)
 
-    optional-written : (k : ℕ) (b : Optional) → OptionalBy IsTold k b → low_optional ps b ≡ true → OptionalBy (IsWrittenExpr ps) k b
+    optional-written : (k : ℕ) (b : Optional) → OptionalBy IsToldTree k b → low_optional ps b ≡ true → OptionalBy (IsWrittenExpr ps) k b
     optional-written k Unwritten h g = tt
     optional-written k (Written b) h g = all-written k b h g
 
@@ -250,7 +250,7 @@ module _ (ps : List (List ℕ)) where
 
   -- FILTERS
 
-  fields-own : (fs : List (List ℕ)) (ts : List Tok) → form.Each IsField fs ts → AreOwnNames fs
+  fields-own : (fs : List (List ℕ)) (ts : List Tok) → form.Many IsField fs ts → AreOwnNames fs
   fields-own [] ts h = tt
   fields-own (f ∷ fs) ts h = (h.3.formed.formed.passes, fields-own fs h.1 h.4)
 

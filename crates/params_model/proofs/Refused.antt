@@ -15,9 +15,9 @@ use Rattle.params_model.specs.Judged.{Judgement, judged_then, no_fault, are_know
 use Rattle.params_model.specs.Judged.{block_judged, optional_judged, rates_judged, work_judged, prework_judged, filter_judged, Above, has_arity, is_there}
 use Rattle.params_model.specs.Judged.{step_judged, steps_judged, dealing_judged, body_judged, unit_judged, units_judged}
 use Rattle.params_model.specs.Making.{Fault, UnknownName, Refusal, demand}
-use Rattle.params_model.specs.Places.{Spot, Names, Takes, Declares, Sets, Uses, Loops, Adds, Gives, Place, uses, all_uses, option_uses, option_all_uses, declares}
+use Rattle.params_model.specs.Places.{Spot, Names, Takes, Declares, Sets, Uses, Loops, Adds, Gives, Place, uses, uses_in_all, option_uses, option_all_uses, declared_spots}
 use Rattle.params_model.specs.Places.{statement_spots, block_spots, optional_spots, rate_spots, work_spots, prework_spots, filter_spots, step_spots, steps_spots}
-use Rattle.params_model.specs.Places.{dealing_spots, body_spots, parameter_spots, unit_spots, in_unit, places_from, places_of}
+use Rattle.params_model.specs.Places.{dealing_spots, body_spots, parameter_spots, unit_spots, spots_in_unit, places_from, places_of}
 
 -- THE TEST OF A PLACE
 
@@ -135,10 +135,10 @@ uses-are k ks (tree.Not t) = uses-are k ks t
 uses-are k ks (tree.Bin o a b) =
     parts k (uses ks a) (uses ks b) _ _ (uses-are k ks a) (uses-are k ks b) ∙ demand-both (are_known ks a) (are_known ks b) k UnknownName
 
-all-are : (k : ℕ) (ks : List Name) (cs : List Expression) → tested k (all_uses ks cs) ≡ demand (all_known ks cs) k UnknownName
+all-are : (k : ℕ) (ks : List Name) (cs : List Expression) → tested k (uses_in_all ks cs) ≡ demand (all_known ks cs) k UnknownName
 all-are k ks [] = refl
 all-are k ks (c ∷ cs) =
-    parts k (uses ks c) (all_uses ks cs) _ _ (uses-are k ks c) (all-are k ks cs) ∙ demand-both (are_known ks c) (all_known ks cs) k UnknownName
+    parts k (uses ks c) (uses_in_all ks cs) _ _ (uses-are k ks c) (all-are k ks cs) ∙ demand-both (are_known ks c) (all_known ks cs) k UnknownName
 
 option-are : (k : ℕ) (ks : List Name) (o : Option Expression) → tested k (option_uses ks o) ≡ demand (known_option ks o) k UnknownName
 option-are k ks None = refl
@@ -154,9 +154,9 @@ takes-are : (k : ℕ) (ks ns : List Name) → tested k (parameter_spots ks ns) �
 takes-are k ks [] = refl
 takes-are k ks (n ∷ ns) = first-of k (Takes n ks) (parameter_spots (ks ++ n ∷ []) ns) _ (takes-are k (ks ++ n ∷ []) ns)
 
-declares-are : (k : ℕ) (ps ns : List Name) → tested k (declares ps ns) ≡ other_names k ps ns
+declares-are : (k : ℕ) (ps ns : List Name) → tested k (declared_spots ps ns) ≡ other_names k ps ns
 declares-are k ps [] = refl
-declares-are k ps (n ∷ ns) = first-of k (Declares n ps) (declares ps ns) _ (declares-are k ps ns)
+declares-are k ps (n ∷ ns) = first-of k (Declares n ps) (declared_spots ps ns) _ (declares-are k ps ns)
 
 mutual
   statement-is : (k : ℕ) (ps : List Name) (c : Statement) → tested k (statement_spots ps c) ≡ statement_judged k ps c
@@ -191,7 +191,7 @@ prework-is k ps (Some w) = work-is k ps w
 
 filter-is : (k : ℕ) (ps : List Name) (t : ParamFilter) → tested k (filter_spots ps t) ≡ filter_judged k ps t
 filter-is k ps t =
-    parts k (declares ps t.fields) _ _ _ (declares-are k ps t.fields)
+    parts k (declared_spots ps t.fields) _ _ _ (declares-are k ps t.fields)
     (parts k (optional_spots ps t.init) _ _ _ (optional-is k ps t.init)
     (parts k (prework_spots ps t.prework) (work_spots ps t.work) _ _ (prework-is k ps t.prework) (work-is k ps t.work)))
 
@@ -200,8 +200,8 @@ filter-is k ps t =
 mutual
   step-is : (k : ℕ) (above : Above) (ks : List Name) (c : Step) → tested k (step_spots above ks c) ≡ step_judged k above ks c
   step-is k above ks (Add n cs) =
-      first-of k (Adds n above) (all_uses ks cs ++ Gives n (length cs) above ∷ []) _
-      (parts k (all_uses ks cs) (Gives n (length cs) above ∷ []) _ _ (all-are k ks cs) (one-of k (Gives n (length cs) above)))
+      first-of k (Adds n above) (uses_in_all ks cs ++ Gives n (length cs) above ∷ []) _
+      (parts k (uses_in_all ks cs) (Gives n (length cs) above ∷ []) _ _ (all-are k ks cs) (one-of k (Gives n (length cs) above)))
   step-is k above ks (Loop n low upto high ss) =
       first-of k (Loops n ks) ((uses ks low ++ uses ks high) ++ steps_spots above (ks ++ n ∷ []) ss) _
       (parts k (uses ks low ++ uses ks high) (steps_spots above (ks ++ n ∷ []) ss) _ _
@@ -234,7 +234,7 @@ abbrev all_tested : List Place → Judgement
 all_tested [] = no_fault
 all_tested (p ∷ ps) = judged_then (demand (test p.spot) p.unit (spot_fault p.spot)) (all_tested ps)
 
-in_unit-tested : (k : ℕ) (ss : List Spot) (ps : List Place) → all_tested (in_unit k ss ++ ps) ≡ judged_then (tested k ss) (all_tested ps)
+in_unit-tested : (k : ℕ) (ss : List Spot) (ps : List Place) → all_tested (spots_in_unit k ss ++ ps) ≡ judged_then (tested k ss) (all_tested ps)
 in_unit-tested k [] ps = refl
 in_unit-tested k (s ∷ ss) ps =
     ap (judged_then (demand (test s) k (spot_fault s))) (in_unit-tested k ss ps) ∙ sym (then-assoc (demand (test s) k (spot_fault s)) (tested k ss) (all_tested ps))

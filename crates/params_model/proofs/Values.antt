@@ -17,7 +17,7 @@ use Rattle.river_plan.proofs.NameLemmas.{cases_name}
 use Rattle.streamit_model.specs.Meaning.{Values, eval, nought, look}
 use Rattle.streamit_model.proofs.Elaborated.{at_here, at_other}
 use Rattle.params_model.specs.Environment.{Environment, bound, under, value}
-use Rattle.params_model.specs.Laws.{IsFit, AreFit}
+use Rattle.params_model.specs.Laws.{HasValues, AreFit}
 use Rattle.params_model.specs.Plain.{literal, literal_or}
 
 -- a number that is small enough is a value
@@ -76,7 +76,7 @@ under_fits : (env : Environment) (n : Name) → Fits env → IsValue (under env 
 under_fits [] n h = small 0 (omega arith)
 under_fits (e ∷ env) n h = if_fits (name_eq e.0 n) e.1 (under env nought n) h.0 (under_fits env n h.1)
 
-said_fits : (env : Environment) (c : Expression) (k : ℕ) → Fits env → IsFit c → IsValue (eval c [] (under env nought) k)
+said_fits : (env : Environment) (c : Expression) (k : ℕ) → Fits env → HasValues c → IsValue (eval c [] (under env nought) k)
 said_fits env (tree.Number v) k h f = small v f
 said_fits env (tree.Name n) k h f = under_fits env n h
 said_fits env (tree.Peek t) k h f = small 0 (omega arith)

@@ -3,12 +3,12 @@ use Rattle.std.specs.Prelude.{ℕ, List, [], ◌∷◌, Option, Some, None}
 use Rattle.streamit_text.specs.Tree.{Expression}
 use Rattle.params_text.specs.Grammar.{IsText}
 use Rattle.params_text.specs.Program.{ParamWork, ParamFilter, Step, Add, Loop, Steps, End, Then, Dealing, Copies, Turns, Body, AFilter, APipeline, ASplitJoin, ParamProgram}
-use Rattle.params_model.specs.Laws.{IsFit, AreFit}
+use Rattle.params_model.specs.Laws.{HasValues, AreFit}
 
 -- a rate
 abbrev pub IsFitOption : Option Expression → Type 0
 IsFitOption None = Unit {0}
-IsFitOption (Some c) = IsFit c
+IsFitOption (Some c) = HasValues c
 
 -- weights
 abbrev pub AreFitOption : Option (List Expression) → Type 0
@@ -36,7 +36,7 @@ pub record IsFitFilter (t : ParamFilter) : Type 0 where
 abbrev mutual
   pub HasFitConstants : Step → Type 0
   HasFitConstants (Add n cs) = AreFit cs
-  HasFitConstants (Loop n low upto high ss) = IsFit low × IsFit high × HaveFitConstants ss
+  HasFitConstants (Loop n low upto high ss) = HasValues low × HasValues high × HaveFitConstants ss
 
   pub HaveFitConstants : Steps → Type 0
   HaveFitConstants End = Unit {0}

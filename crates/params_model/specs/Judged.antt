@@ -155,9 +155,9 @@ numbered_from k [] sizes = []
 numbered_from k (u ∷ us) sizes = record { unit = k; bytes = head_or sizes; stream = u } ∷ numbered_from (suc k) us (tail_of sizes)
 
 -- the newest first
-abbrev pub sources_of : ParamProgram → List ℕ → List SourceUnit
-sources_of p sizes = reverse (numbered_from 1 p sizes)
+abbrev pub source_units : ParamProgram → List ℕ → List SourceUnit
+source_units p sizes = reverse (numbered_from 1 p sizes)
 
 -- what is made of a program whose units have so many bytes, or its first fault
-abbrev pub elaborated : ParamProgram → List ℕ → Result Made Refusal
-elaborated p sizes = on_fine (units_judged 1 [] p) (λ x. on_fine (top_judged (sources_of p sizes)) (λ y. last_made (sources_of p sizes)))
+abbrev pub elaborated_program : ParamProgram → List ℕ → Result Made Refusal
+elaborated_program p sizes = on_fine (units_judged 1 [] p) (λ x. on_fine (top_judged (source_units p sizes)) (λ y. last_made (source_units p sizes)))

@@ -9,7 +9,7 @@ use Rattle.streamit_model.specs.Meaning.{program_outputs}
 use Rattle.params_text.specs.Program.{Step, Add, Loop, Steps, End, Then, ParamWork, ParamFilter, Body, AFilter, APipeline, ASplitJoin, Declared, ParamProgram}
 use Rattle.params_model.specs.Meaning.{last_works, params_outputs}
 use Rattle.params_model.specs.Making.{SourceUnit, Made, last_made}
-use Rattle.params_model.specs.Judged.{elaborated}
+use Rattle.params_model.specs.Judged.{elaborated_program}
 use Rattle.params_model.specs.Written.{AreWritten, IsWrittenProgram}
 use Rattle.params_text.specs.Grammar as source
 use Rattle.params_text.specs.Toks.{plain_text}
@@ -54,18 +54,18 @@ pub record SparesFilter (ps : List Name) (t : ParamFilter) : Type 0 where
   pub work : SparesAll ps t.work.block
 
 -- each number of an argument is a value
-abbrev pub IsFit : Expression → Type 0
-IsFit (tree.Number v) = v ≤ 9223372036854775807
-IsFit (tree.Name n) = Unit {0}
-IsFit (tree.Peek t) = Unit {0}
-IsFit tree.Pop = Unit {0}
-IsFit (tree.Neg t) = IsFit t
-IsFit (tree.Not t) = IsFit t
-IsFit (tree.Bin o a b) = IsFit a × IsFit b
+abbrev pub HasValues : Expression → Type 0
+HasValues (tree.Number v) = v ≤ 9223372036854775807
+HasValues (tree.Name n) = Unit {0}
+HasValues (tree.Peek t) = Unit {0}
+HasValues tree.Pop = Unit {0}
+HasValues (tree.Neg t) = HasValues t
+HasValues (tree.Not t) = HasValues t
+HasValues (tree.Bin o a b) = HasValues a × HasValues b
 
 abbrev pub AreFit : List Expression → Type 0
 AreFit [] = Unit {0}
-AreFit (c ∷ cs) = IsFit c × AreFit cs
+AreFit (c ∷ cs) = HasValues c × AreFit cs
 
 abbrev mutual
   pub IsFitStep : Step → Type 0
@@ -106,7 +106,7 @@ IsFitProgram (u ∷ us) = IsFitBody u.body × IsFitProgram us
 -- so does that of a program that is accepted
 abbrev pub ElaboratedMeans : Type 0
 ElaboratedMeans =
-    (p : ParamProgram) (sizes : List ℕ) (m : Made) (xs : List ℤ) → IsFitProgram p → elaborated p sizes ≡ Ok m → program_outputs m.units xs ≡ params_outputs p xs
+    (p : ParamProgram) (sizes : List ℕ) (m : Made) (xs : List ℤ) → IsFitProgram p → elaborated_program p sizes ≡ Ok m → program_outputs m.units xs ≡ params_outputs p xs
 
 -- THE TEXT OF WHAT IS MADE
 
@@ -120,7 +120,7 @@ MadeStands =
 -- so does the text of what is made of a program that is accepted
 abbrev pub ElaboratedStands : Type 0
 ElaboratedStands =
-    (p : ParamProgram) (sizes : List ℕ) (m : Made) → IsFitProgram p → IsWrittenProgram p → elaborated p sizes ≡ Ok m
+    (p : ParamProgram) (sizes : List ℕ) (m : Made) → IsFitProgram p → IsWrittenProgram p → elaborated_program p sizes ≡ Ok m
     → IsText (plain_text m.units) m.units
     × ((q : Program) (xs : List ℤ) → IsText (plain_text m.units) q → program_outputs q xs ≡ params_outputs p xs)
 

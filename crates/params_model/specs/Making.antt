@@ -120,13 +120,13 @@ abbrev mutual
   steps_made add unit env (Then c ss) s = also (made_once add unit env c s) (steps_made add unit env ss)
 
 -- one name or more
-abbrev pub adds_of : ℕ → List Name → Result plain.Adds Refusal
-adds_of unit [] = Err (record { unit = unit; fault = Empty })
-adds_of unit (n ∷ ns) = Ok (record { first = n; others = ns })
+abbrev pub some_adds : ℕ → List Name → Result plain.Adds Refusal
+some_adds unit [] = Err (record { unit = unit; fault = Empty })
+some_adds unit (n ∷ ns) = Ok (record { first = n; others = ns })
 
 -- the children, of which there are some
 abbrev pub children_made : Adding → ℕ → Environment → Steps → Made → Result (plain.Adds × Made) Refusal
-children_made add unit env ss s = on_fine (steps_made add unit env ss s) (λ x. on_fine (adds_of unit x.0) (λ a. Ok (a, x.1)))
+children_made add unit env ss s = on_fine (steps_made add unit env ss s) (λ x. on_fine (some_adds unit x.0) (λ a. Ok (a, x.1)))
 
 -- the rest of an instance's unit
 abbrev pub body_made : Adding → ℕ → Environment → Body → Made → Result (plain.Body × Made) Refusal

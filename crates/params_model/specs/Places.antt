@@ -42,9 +42,9 @@ uses ks (tree.Neg t) = uses ks t
 uses ks (tree.Not t) = uses ks t
 uses ks (tree.Bin o a b) = uses ks a ++ uses ks b
 
-abbrev pub all_uses : List Name → List Expression → List Spot
-all_uses ks [] = []
-all_uses ks (c ∷ cs) = uses ks c ++ all_uses ks cs
+abbrev pub uses_in_all : List Name → List Expression → List Spot
+uses_in_all ks [] = []
+uses_in_all ks (c ∷ cs) = uses ks c ++ uses_in_all ks cs
 
 abbrev pub option_uses : List Name → Option Expression → List Spot
 option_uses ks None = []
@@ -52,13 +52,13 @@ option_uses ks (Some c) = uses ks c
 
 abbrev pub option_all_uses : List Name → Option (List Expression) → List Spot
 option_all_uses ks None = []
-option_all_uses ks (Some cs) = all_uses ks cs
+option_all_uses ks (Some cs) = uses_in_all ks cs
 
 -- FILTERS
 
-abbrev pub declares : List Name → List Name → List Spot
-declares ps [] = []
-declares ps (n ∷ ns) = Declares n ps ∷ declares ps ns
+abbrev pub declared_spots : List Name → List Name → List Spot
+declared_spots ps [] = []
+declared_spots ps (n ∷ ns) = Declares n ps ∷ declared_spots ps ns
 
 abbrev mutual
   pub statement_spots : List Name → Statement → List Spot
@@ -88,13 +88,13 @@ prework_spots ps None = []
 prework_spots ps (Some w) = work_spots ps w
 
 abbrev pub filter_spots : List Name → ParamFilter → List Spot
-filter_spots ps t = declares ps t.fields ++ (optional_spots ps t.init ++ (prework_spots ps t.prework ++ work_spots ps t.work))
+filter_spots ps t = declared_spots ps t.fields ++ (optional_spots ps t.init ++ (prework_spots ps t.prework ++ work_spots ps t.work))
 
 -- STEPS
 
 abbrev mutual
   pub step_spots : Above → List Name → Step → List Spot
-  step_spots above ks (Add n cs) = Adds n above ∷ (all_uses ks cs ++ Gives n (length cs) above ∷ [])
+  step_spots above ks (Add n cs) = Adds n above ∷ (uses_in_all ks cs ++ Gives n (length cs) above ∷ [])
   step_spots above ks (Loop n low upto high ss) = Loops n ks ∷ ((uses ks low ++ uses ks high) ++ steps_spots above (ks ++ n ∷ []) ss)
 
   pub steps_spots : Above → List Name → Steps → List Spot
@@ -120,13 +120,13 @@ parameter_spots ks (n ∷ ns) = Takes n ks ∷ parameter_spots (ks ++ n ∷ []) 
 abbrev pub unit_spots : Above → Declared → List Spot
 unit_spots above u = Names u.name above ∷ (parameter_spots [] u.params ++ body_spots above u.params u.body)
 
-abbrev pub in_unit : ℕ → List Spot → List Place
-in_unit k ss = map (λ s. record { unit = k; spot = s }) ss
+abbrev pub spots_in_unit : ℕ → List Spot → List Place
+spots_in_unit k ss = map (λ s. record { unit = k; spot = s }) ss
 
 -- unit k and those behind it
 abbrev pub places_from : ℕ → Above → ParamProgram → List Place
 places_from k above [] = []
-places_from k above (u ∷ us) = in_unit k (unit_spots above u) ++ places_from (suc k) ((u.name, length u.params) ∷ above) us
+places_from k above (u ∷ us) = spots_in_unit k (unit_spots above u) ++ places_from (suc k) ((u.name, length u.params) ∷ above) us
 
 abbrev pub places_of : ParamProgram → List Place
 places_of p = places_from 1 [] p

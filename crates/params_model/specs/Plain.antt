@@ -23,27 +23,27 @@ abbrev pub literal_or : Name → Option ℤ → Expression
 literal_or n None = tree.Name n
 literal_or n (Some z) = literal z
 
-abbrev pub put : Environment → Expression → Expression
-put env (tree.Number v) = tree.Number v
-put env (tree.Name n) = literal_or n (look env n)
-put env (tree.Peek t) = tree.Peek (put env t)
-put env tree.Pop = tree.Pop
-put env (tree.Neg t) = tree.Neg (put env t)
-put env (tree.Not t) = tree.Not (put env t)
-put env (tree.Bin o a b) = tree.Bin o (put env a) (put env b)
+abbrev pub put_in : Environment → Expression → Expression
+put_in env (tree.Number v) = tree.Number v
+put_in env (tree.Name n) = literal_or n (look env n)
+put_in env (tree.Peek t) = tree.Peek (put_in env t)
+put_in env tree.Pop = tree.Pop
+put_in env (tree.Neg t) = tree.Neg (put_in env t)
+put_in env (tree.Not t) = tree.Not (put_in env t)
+put_in env (tree.Bin o a b) = tree.Bin o (put_in env a) (put_in env b)
 
 abbrev pub put_option : Environment → Option Expression → Option Expression
 put_option env None = None
-put_option env (Some t) = Some (put env t)
+put_option env (Some t) = Some (put_in env t)
 
 abbrev mutual
   pub put_once : Environment → Statement → Statement
   put_once env (Declare n t) = Declare n (put_option env t)
-  put_once env (Assign n t) = Assign n (put env t)
-  put_once env (Push t) = Push (put env t)
+  put_once env (Assign n t) = Assign n (put_in env t)
+  put_once env (Push t) = Push (put_in env t)
   put_once env Discard = Discard
-  put_once env (If t a b) = If (put env t) (put_all env a) (put_optional env b)
-  put_once env (For n low upto high b) = For n (put env low) upto (put env high) (put_all env b)
+  put_once env (If t a b) = If (put_in env t) (put_all env a) (put_optional env b)
+  put_once env (For n low upto high b) = For n (put_in env low) upto (put_in env high) (put_all env b)
 
   pub put_all : Environment → Block → Block
   put_all env End = End

@@ -7,10 +7,10 @@ use Rattle.streamit_text.specs.Grammar.{stay_optional}
 use Rattle.params_text.specs.Program.{ParamWork, ParamFilter, Body, AFilter, APipeline, ASplitJoin, Declared, ParamProgram}
 use Rattle.params_model.specs.Making.{SourceUnit}
 use Rattle.params_text.specs.Params.{param_depth}
-use Rattle.params_text.specs.Told.{IsOwnName, AreOwnNames, IsTold, AllBy, OptionalBy}
+use Rattle.params_text.specs.Told.{IsOwnName, AreOwnNames, IsToldTree, AllBy, OptionalBy}
 
 abbrev pub IsWrittenExpr : List Name → Expression → Type 0
-IsWrittenExpr ps t = IsTold t × (param_depth ps t ≤ 64)
+IsWrittenExpr ps t = IsToldTree t × (param_depth ps t ≤ 64)
 
 abbrev pub IsWrittenPrework : List Name → Option ParamWork → Type 0
 IsWrittenPrework ps None = Unit {0}

@@ -3,7 +3,7 @@ ghost use Rattle.std.specs.Prelude.{◌≡◌};
 ghost use Rattle.streamit_text.specs.Tree.{expression};
 ghost use Rattle.streamit_model.specs.Meaning.{nought};
 ghost use Rattle.params_model.specs.Environment.{under, value, count_in};
-ghost use Rattle.params_model.specs.Laws.{IsFit};
+ghost use Rattle.params_model.specs.Laws.{HasValues};
 
 use crate::Bindings;
 use river_base::Name;
@@ -24,7 +24,7 @@ fn named(known: &Bindings, name: &Name) -> i64
 /// The value of a constant.
 #[tactic(auto, using(crate::proofs::Values::values))]
 pub fn value(known: &Bindings, c: &Expr) -> i64
-    requires { IsFit (expression c.now) }
+    requires { HasValues (expression c.now) }
     ensures { result ≡ value known.now (expression c.now) }
 {
     match c {
@@ -43,7 +43,7 @@ pub fn value(known: &Bindings, c: &Expr) -> i64
 
 /// The value of a rate or a weight as a number; one below 0 counts as 0.
 pub fn count(known: &Bindings, c: &Expr) -> u64
-    requires { IsFit (expression c.now) }
+    requires { HasValues (expression c.now) }
     ensures { result ≡ count_in known.now (expression c.now) }
 {
     let value = value(known, c);

@@ -6,7 +6,7 @@ ghost use Rattle.text_blocks.specs.Seven.{sign_of};
 ghost use Rattle.streamit_text.specs.Tree.{Bin, expression};
 ghost use Rattle.streamit_model.specs.Meaning.{look};
 ghost use Rattle.params_text.specs.Toks.{expr_toks, spaced};
-ghost use Rattle.params_model.specs.Plain.{literal, literal_or, put};
+ghost use Rattle.params_model.specs.Plain.{literal, literal_or, put_in};
 
 use crate::Bindings;
 use crate::token::tokens;
@@ -92,7 +92,7 @@ fn named(alloc: Global, known: &Bindings, name: &Name, to: &mut Bytes) -> Result
 #[cycle(expression)]
 #[tactic(auto, using(crate::proofs::Texts::texts))]
 pub fn expression(alloc: Global, known: &Bindings, e: &Expr, to: &mut Bytes) -> Result<(), NoMemory>
-    ensures { OnOk result (to.new ≡ to.old ++ spaced (expr_toks (put known.now (expression e.now)))) }
+    ensures { OnOk result (to.new ≡ to.old ++ spaced (expr_toks (put_in known.now (expression e.now)))) }
 {
     let open = Token::Sign(Symbol::Open);
     let close = Token::Sign(Symbol::Close);
@@ -133,7 +133,7 @@ fn operation(
     right: &Expr,
     to: &mut Bytes,
 ) -> Result<(), NoMemory>
-    ensures { OnOk result (to.new ≡ to.old ++ spaced (expr_toks (Bin op (put known.now (expression left.now)) (put known.now (expression right.now))))) }
+    ensures { OnOk result (to.new ≡ to.old ++ spaced (expr_toks (Bin op (put_in known.now (expression left.now)) (put_in known.now (expression right.now))))) }
 {
     let sign = [Token::Sign(sign_of(op))];
     between(alloc, known, &[Token::Sign(Symbol::Open)], left, &sign, to)?;
@@ -151,7 +151,7 @@ pub fn between(
     behind: &[Token<'_>],
     to: &mut Bytes,
 ) -> Result<(), NoMemory>
-    ensures { OnOk result (to.new ≡ to.old ++ spaced (map token_of before.now ++ (expr_toks (put known.now (expression e.now)) ++ map token_of behind.now))) }
+    ensures { OnOk result (to.new ≡ to.old ++ spaced (map token_of before.now ++ (expr_toks (put_in known.now (expression e.now)) ++ map token_of behind.now))) }
 {
     tokens(alloc, before, to)?;
     expression(alloc, known, e, to)?;

@@ -2,7 +2,7 @@
 ghost use Rattle.std.specs.Prelude.{◌≡◌, ◌++◌, OnOk};
 ghost use Rattle.streamit_text.specs.Tree.{Declare, Assign, Push, Discard, expression, option_expression, is_turn, statement, block, optional_block};
 ghost use Rattle.params_text.specs.Toks.{below, statement_toks, block_toks, else_toks, spaced};
-ghost use Rattle.params_model.specs.Plain.{put, put_option, put_once, put_all, put_optional};
+ghost use Rattle.params_model.specs.Plain.{put_in, put_option, put_once, put_all, put_optional};
 ghost use Rattle.params_print.specs.Heads.{if_toks, for_toks};
 
 use crate::Bindings;
@@ -72,7 +72,7 @@ fn head(
     high: &Expr,
     to: &mut Bytes,
 ) -> Result<(), NoMemory>
-    ensures { OnOk result (to.new ≡ to.old ++ spaced (for_toks name.now (put known.now (expression low.now)) (is_turn until) (put known.now (expression high.now)))) }
+    ensures { OnOk result (to.new ≡ to.old ++ spaced (for_toks name.now (put_in known.now (expression low.now)) (is_turn until) (put_in known.now (expression high.now)))) }
 {
     let before = [
         Token::Name(b"for"),
@@ -108,7 +108,7 @@ fn assign(
     value: &Expr,
     to: &mut Bytes,
 ) -> Result<(), NoMemory>
-    ensures { OnOk result (to.new ≡ to.old ++ spaced (statement_toks (Assign name.now (put known.now (expression value.now))))) }
+    ensures { OnOk result (to.new ≡ to.old ++ spaced (statement_toks (Assign name.now (put_in known.now (expression value.now))))) }
 {
     let before = [Token::Name(name.as_slice()), Token::Sign(Symbol::Assign)];
     between(
@@ -124,7 +124,7 @@ fn assign(
 // Appends a push.
 #[tactic(auto, using(crate::proofs::Texts::texts))]
 fn push(alloc: Global, known: &Bindings, value: &Expr, to: &mut Bytes) -> Result<(), NoMemory>
-    ensures { OnOk result (to.new ≡ to.old ++ spaced (statement_toks (Push (put known.now (expression value.now))))) }
+    ensures { OnOk result (to.new ≡ to.old ++ spaced (statement_toks (Push (put_in known.now (expression value.now))))) }
 {
     let before = [Token::Name(b"push"), Token::Sign(Symbol::Open)];
     let behind = [Token::Sign(Symbol::Close), Token::Sign(Symbol::Semicolon)];
@@ -147,7 +147,7 @@ fn discard(alloc: Global, to: &mut Bytes) -> Result<(), NoMemory>
 // Appends the condition of an `if`.
 #[tactic(auto, using(crate::proofs::Texts::texts))]
 fn condition(alloc: Global, known: &Bindings, e: &Expr, to: &mut Bytes) -> Result<(), NoMemory>
-    ensures { OnOk result (to.new ≡ to.old ++ spaced (if_toks (put known.now (expression e.now)))) }
+    ensures { OnOk result (to.new ≡ to.old ++ spaced (if_toks (put_in known.now (expression e.now)))) }
 {
     let before = [Token::Name(b"if"), Token::Sign(Symbol::Open)];
     between(alloc, known, &before, e, &[Token::Sign(Symbol::Close)], to)

@@ -27,7 +27,7 @@ use Rattle.streamit_text.specs.declared.term.Sign.{Sign}
 use Rattle.streamit_text.specs.declared.term.Sign.TheVariants as sign
 use Rattle.params_text.proofs.Insides.{IsPlain, plain-Open, plain-Close, plain-Minus, plain-Not}
 use Rattle.params_text.specs.Toks.{expr_toks}
-use Rattle.params_text.specs.Told.{IsOwnName, IsTold, IsToldExpr}
+use Rattle.params_text.specs.Told.{IsOwnName, IsToldTree, IsToldExpr}
 use Rattle.params_text.proofs.Good.{IsPiece, piece-nothing, piece-then, piece-symbol, piece-name, piece-number, piece-last}
 
 -- a name of a program
@@ -81,7 +81,7 @@ pub round : (ts : List Tok) → IsPiece ts → IsPiece (symbol s.Open ∷ (ts ++
 round ts h = piece-symbol s.Open plain-Open (ts ++ symbol s.Close ∷ []) (piece-last s.Close plain-Close ts h)
 
 -- the tokens of an expression that a text can stand for are a piece
-pub told-piece : (t : Expression) → IsTold t → IsPiece (expr_toks t)
+pub told-piece : (t : Expression) → IsToldTree t → IsPiece (expr_toks t)
 told-piece (tree.Number v) h = piece-number v h [] piece-nothing
 told-piece (tree.Name n) h = piece-name n (own_text n h) [] piece-nothing
 told-piece (tree.Peek t) h = piece-name (codes "peek") peek_is (symbol s.Open ∷ (expr_toks t ++ symbol s.Close ∷ [])) (round (expr_toks t) (told-piece t h))
@@ -147,7 +147,7 @@ signed : (n : ℕ) (x : Symbol) (p : Sign) (t : Expression) (ts : List Tok) → 
     → Says n 7 (marked p t) (symbol x ∷ ts)
 signed n x p t ts is h = up n 6 1 (marked p t) (symbol x ∷ ts) (levels.prefix n 0 (symbol x) p t ts is (looser n t ts h 1))
 
-told-says : (t : Expression) (n : ℕ) → IsTold t → depth_of t ≤ n → Says n 0 t (expr_toks t)
+told-says : (t : Expression) (n : ℕ) → IsToldTree t → depth_of t ≤ n → Says n 0 t (expr_toks t)
 told-says t zero h d = absurd (let e = some_depth t in omega arith)
 told-says (tree.Number v) (suc n) h d = levels.leaf (suc n) (tree.Number v) (expr_toks (tree.Number v)) (rule.number (suc n) v (value-true v h))
 told-says (tree.Name w) (suc n) h d = levels.leaf (suc n) (tree.Name w) (expr_toks (tree.Name w)) (rule.name (suc n) w h)

@@ -55,30 +55,30 @@ rates-start n ts = refl
 pub rates-stop : (n : ℕ) (r : Rates) (ts : List Tok) → at_block ts ≡ true → rates_from n r ts ≡ Some (r, ts)
 unfolding rate_list_at
 rates-stop n r ts e =
-    ap (λ (o : Option (List Rate × List Tok)). parse.then_read o (λ a us. parse.given (rates_in r a) us)) (repeated-stop (parse.many_turn at_block (rate_at n)) [] ts (rw e refl))
+    ap (λ (o : Option (List Rate × List Tok)). parse.then_parsed o (λ a us. parse.answer_at (rates_in r a) us)) (repeated-stop (parse.many_turn at_block (rate_at n)) [] ts (rw e refl))
 
 pub rates-bad : (n : ℕ) (r : Rates) (ts : List Tok) → at_block ts ≡ false → rate_at n ts ≡ None → rates_from n r ts ≡ None
 unfolding rate_list_at
 rates-bad n r ts e bad =
-    ap (λ (o : Option (List Rate × List Tok)). parse.then_read o (λ a us. parse.given (rates_in r a) us)) (repeated-fail (parse.many_turn at_block (rate_at n)) [] ts (rw (e, bad) refl))
+    ap (λ (o : Option (List Rate × List Tok)). parse.then_parsed o (λ a us. parse.answer_at (rates_in r a) us)) (repeated-fail (parse.many_turn at_block (rate_at n)) [] ts (rw (e, bad) refl))
 
 -- one rate more
 pub rates-next : (n : ℕ) (r q : Rates) (ts us : List Tok) (v : Rate) → at_block ts ≡ false → rate_at n ts ≡ Some (v, us) → with_rate r v ≡ Some q
     → rates_from n q us ≡ rates_from n r ts
 rates-next n r q ts us v e read more =
-    sym (ap (λ (o : Option (List Rate × List Tok)). parse.then_read o (λ a ws. parse.given (rates_in r a) ws)) (listed-next n ts us v e read) ∙ by (rate_list_at n us)) where
+    sym (ap (λ (o : Option (List Rate × List Tok)). parse.then_parsed o (λ a ws. parse.answer_at (rates_in r a) ws)) (listed-next n ts us v e read) ∙ by (rate_list_at n us)) where
       by : (o : Option (List Rate × List Tok))
-          → parse.then_read (behind (v ∷ []) o) (λ a ws. parse.given (rates_in r a) ws) ≡ parse.then_read o (λ a ws. parse.given (rates_in q a) ws)
+          → parse.then_parsed (behind (v ∷ []) o) (λ a ws. parse.answer_at (rates_in r a) ws) ≡ parse.then_parsed o (λ a ws. parse.answer_at (rates_in q a) ws)
       by None = refl
-      by (Some all) = ap (λ (m : Option Rates). parse.given (on_some m (λ s. rates_in s all.0)) all.1) more
+      by (Some all) = ap (λ (m : Option Rates). parse.answer_at (on_some m (λ s. rates_in s all.0)) all.1) more
 
 -- a rate that is written twice
 pub rates-twice : (n : ℕ) (r : Rates) (ts us : List Tok) (v : Rate) → at_block ts ≡ false → rate_at n ts ≡ Some (v, us) → with_rate r v ≡ None → rates_from n r ts ≡ None
 rates-twice n r ts us v e read none =
-    ap (λ (o : Option (List Rate × List Tok)). parse.then_read o (λ a ws. parse.given (rates_in r a) ws)) (listed-next n ts us v e read) ∙ by (rate_list_at n us) where
-      by : (o : Option (List Rate × List Tok)) → parse.then_read (behind (v ∷ []) o) (λ a ws. parse.given (rates_in r a) ws) ≡ None
+    ap (λ (o : Option (List Rate × List Tok)). parse.then_parsed o (λ a ws. parse.answer_at (rates_in r a) ws)) (listed-next n ts us v e read) ∙ by (rate_list_at n us) where
+      by : (o : Option (List Rate × List Tok)) → parse.then_parsed (behind (v ∷ []) o) (λ a ws. parse.answer_at (rates_in r a) ws) ≡ None
       by None = refl
-      by (Some all) = ap (λ (m : Option Rates). parse.given (on_some m (λ s. rates_in s all.0)) all.1) none
+      by (Some all) = ap (λ (m : Option Rates). parse.answer_at (on_some m (λ s. rates_in s all.0)) all.1) none
 
 pub rate-shortens : (n : ℕ) (ts us : List Tok) (v : Rate) → rate_at n ts ≡ Some (v, us) → length us < length ts
 rate-shortens n ts us v e =

@@ -9,7 +9,7 @@ use Rattle.work_code.specs.Tok.{Tok, name, symbol}
 use Rattle.work_code.specs.Lexis as lexis
 use Rattle.work_code.proofs.Spelled.{is_name_text}
 use Rattle.text_forms.specs.Parse.{is_short}
-use Rattle.text_forms.specs.Forms.{After, Before, AfterWord, Maybe, Each, Choose, Never}
+use Rattle.text_forms.specs.Forms.{After, Before, AfterWord, Maybe, Many, Choose, Never}
 use Rattle.text_blocks.specs.Parts.{Round}
 use Rattle.text_blocks.specs.Statements.{ByOpening, IsRest}
 use Rattle.text_blocks.specs.Statements as statements
@@ -323,7 +323,7 @@ assign-plain n w t room h k =
     choose_false _ _ _ (Assign w t) _ other.no_int (choose_false _ _ _ (Assign w t) _ other.no_push (choose_false _ _ _ (Assign w t) _ other.no_pop
     (choose_true (is_own w) (IsAssign Expr w n) Never (Assign w t) _ h (assign-formed n w t room k))))
 
-block-of : (nest n : ℕ) (b : Block) → nest + 66 ≤ n → ((m : ℕ) → nest + 65 ≤ m → Each (IsStatement nest m) (list_of b) (statements_toks b))
+block-of : (nest n : ℕ) (b : Block) → nest + 66 ≤ n → ((m : ℕ) → nest + 65 ≤ m → Many (IsStatement nest m) (list_of b) (statements_toks b))
     → IsBlockIn nest n b (block_toks b)
 block-of nest zero b room h = absurd (omega (arith, room))
 block-of nest (suc n) b room h = record {
@@ -385,7 +385,7 @@ mutual
     };
   }
 
-  each-formed : (nest n : ℕ) (b : Block) → nest + 65 ≤ n → IsToldAll nest b → Each (IsStatement nest n) (list_of b) (statements_toks b)
+  each-formed : (nest n : ℕ) (b : Block) → nest + 65 ≤ n → IsToldAll nest b → Many (IsStatement nest n) (list_of b) (statements_toks b)
   each-formed nest n End room h = refl
   each-formed nest n (Then c b) room h = (statement_toks c, statements_toks b, refl, statement-formed nest n c room h.0, each-formed nest n b room h.1)
 

@@ -9,11 +9,11 @@ use Rattle.params_text.specs.declared.program.Step.TheVariants.{rolls-Add, rolls
 use Rattle.params_text.specs.declared.program.Step.TheOpen as part
 use Rattle.params_text.specs.declared.program.Step.TheFolds.{fold_out-Steps}
 use Rattle.params_text.specs.declared.program.Steps.{Steps}
-use Rattle.params_text.specs.Program.{expressions, in_order, step_layer, steps_layer, step_of, steps_of}
+use Rattle.params_text.specs.Program.{expressions, steps_in_turn, step_layer, steps_layer, step_of, steps_of}
 use Rattle.params_text.specs.Program as tree
 
 -- the tree of a list of steps
-pub steps-are : (all : Steps) → steps_of all ≡ in_order (map step_of all.items.items)
+pub steps-are : (all : Steps) → steps_of all ≡ steps_in_turn (map step_of all.items.items)
 steps-are all = fold_out-Steps tree.Step tree.Steps step_layer steps_layer all
 
 -- of an `add`

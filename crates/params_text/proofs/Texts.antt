@@ -10,7 +10,7 @@ use Rattle.params_text.proofs.Insides.{Inside, all_first}
 use Rattle.streamit_text.specs.Program.{Body, AFilter, APipeline, ASplitJoin, Declared, Program}
 use Rattle.streamit_text.specs.Grammar.{IsText, IsSome, AreUnits}
 use Rattle.streamit_text.proofs.Texts.{one_program}
-use Rattle.params_text.specs.Toks.{kind_of, inner_toks, unit_toks, units_toks, plain_text}
+use Rattle.params_text.specs.Toks.{kind_word, inner_toks, unit_toks, units_toks, plain_text}
 use Rattle.params_text.specs.Told.{IsToldProgram, IsToldUnit}
 use Rattle.params_text.specs.Laws.{TextStands}
 use Rattle.params_text.proofs.Good.{AreGood, good-append, spaced-spells}
@@ -45,8 +45,8 @@ head-cut kind n ts = refl
 
 unit-whole : (u : Declared) (rest : List Tok) → IsToldUnit u → is_else rest ≡ false → cut 0 (unit_toks u ++ rest) ≡ unit_toks u ∷ cut 0 rest
 unit-whole u rest h none =
-    head-cut (kind_of u.body) u.name (symbol s.OpenBrace ∷ ((inner_toks u.body ++ symbol s.CloseBrace ∷ []) ++ rest))
-    ∙ ap (λ l. to_first (name (codes "int")) (to_first (symbol s.Arrow) (to_first (name (codes "int")) (to_first (name (kind_of u.body)) (to_first (name u.name) l)))))
+    head-cut (kind_word u.body) u.name (symbol s.OpenBrace ∷ ((inner_toks u.body ++ symbol s.CloseBrace ∷ []) ++ rest))
+    ∙ ap (λ l. to_first (name (codes "int")) (to_first (symbol s.Arrow) (to_first (name (codes "int")) (to_first (name (kind_word u.body)) (to_first (name u.name) l)))))
     (braces-whole (inner_toks u.body) rest (inner-piece u.body h.1).inside none)
 
 no_else : (p : Program) → is_else (units_toks p) ≡ false
@@ -63,7 +63,7 @@ units-whole (u ∷ us) h = unit-whole u (units_toks us) h.0 (no_else us) ∙ ap 
 
 -- THE WHOLE
 
-kind-word : (b : Body) → is_name_text (kind_of b) ≡ true
+kind-word : (b : Body) → is_name_text (kind_word b) ≡ true
 unfolding lexis.is_letter lexis.is_word lexis.is_digit
 kind-word (AFilter t) = refl
 kind-word (APipeline a) = refl

@@ -128,7 +128,7 @@ init-follows ps n v ts rest h = by h.first.value h.first.formed where
   by None g = rw (h.is, g) (works-follow ps n v.1 h.back rest h.second).0
   by (Some b) g = rw (h.is, append_assoc h.front h.back rest, g.is) refl
 
-exact-fields : Exact (form.Each IsField) fields_at (λ rest. no_field rest ≡ true)
+exact-fields : Exact (form.Many IsField) fields_at (λ rest. no_field rest ≡ true)
 unfolding fields_at
 exact-fields = exact-less (exact-many no_field exact-field listed-fields) (λ rest d. (tt, d))
 
@@ -185,7 +185,7 @@ listed-steps n = record {
 join-no_else : (rest : List Tok) → at_join rest ≡ true → NoElse rest
 join-no_else rest e = subst NoElse (sym (is_word_at-is (codes "join") rest e)) refl
 
-exact-steps : (n : ℕ) → Exact (form.Each (IsStep n)) (steps_at n) (λ rest. at_join rest ≡ true)
+exact-steps : (n : ℕ) → Exact (form.Many (IsStep n)) (steps_at n) (λ rest. at_join rest ≡ true)
 unfolding steps_at
 exact-steps n = exact-less (exact-many at_join (exact-step n) (listed-steps n)) (λ rest d. (join-no_else rest d, d))
 

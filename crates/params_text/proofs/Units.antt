@@ -6,13 +6,13 @@ use Rattle.work_code.specs.Tok.{Tok, name, number, symbol}
 use Rattle.work_code.specs.Lexis as lexis
 use Rattle.work_code.proofs.Spelled.{is_name_text}
 use Rattle.text_forms.specs.Parse.{is_count}
-use Rattle.text_forms.specs.Forms.{After, Each, Listing, Headed}
+use Rattle.text_forms.specs.Forms.{After, Many, Listing, Headed}
 use Rattle.streamit_text.specs.Tree.{Optional, Unwritten, Written}
 use Rattle.streamit_text.specs.Program.{WorkTree, FilterTree, Dealing, Copies, Turns, Adds, Body, AFilter, APipeline, ASplitJoin, Declared}
 use Rattle.streamit_text.specs.Grammar.{Weight, IsWork, IsPrework, IsInit, IsField, Rate, push, pop, peek, IsRate, Rates, unwritten, rates_in, AreRates, InFilter, Braces, Called, IsAdd, AreAdds, Weights, SplitAfter, IsSplit, IsJoin, InBoth, BodyAfter, IsUnit, stay_optional}
 use Rattle.params_text.proofs.Insides.{plain-Semicolon, plain-Comma}
-use Rattle.params_text.specs.Toks.{block_toks, field_toks, fields_toks, init_toks, rate_toks, rates_toks, work_toks, prework_toks, filter_toks, add_toks, other_toks, adds_toks, more_numbers, numbers_toks, weights_toks, dealing_toks, split_toks, join_toks, kind_of, inner_toks, unit_toks}
-use Rattle.params_text.specs.Told.{IsOwnName, AreOwnNames, IsToldRate, IsToldOptional, IsToldWork, IsToldPrework, IsToldFilter, AreToldAdds, AreValues, AreToldWeights, IsToldDealing, IsToldBody, IsToldUnit}
+use Rattle.params_text.specs.Toks.{block_toks, field_toks, fields_toks, init_toks, rate_toks, rates_toks, work_toks, prework_toks, filter_toks, add_toks, other_toks, adds_toks, more_numbers, numbers_toks, weights_toks, dealing_toks, split_toks, join_toks, kind_word, inner_toks, unit_toks}
+use Rattle.params_text.specs.Told.{IsOwnName, AreOwnNames, IsToldRate, IsToldOptional, IsToldWork, IsToldPrework, IsToldFilter, AreToldAdds, AreToldNumbers, AreToldWeights, IsToldDealing, IsToldBody, IsToldUnit}
 use Rattle.params_text.proofs.Good.{IsPiece, piece-nothing, piece-then, piece-symbol, piece-name, piece-number, piece-last}
 use Rattle.params_text.proofs.Expressions.{own_text, pop_is, peek_is, round, value-true}
 use Rattle.params_text.proofs.Statements.{int_is, push_is, block-piece, block-formed, plain-formed}
@@ -92,12 +92,12 @@ others-piece (n ∷ ns) h = piece-then (add_toks n) (other_toks ns) (add-piece n
 adds-piece : (a : Adds) → AreToldAdds a → IsPiece (adds_toks a)
 adds-piece a h = piece-then (add_toks a.first) (other_toks a.others) (add-piece a.first h.0) (others-piece a.others h.1)
 
-more-piece : (ns : List ℕ) → AreValues ns → IsPiece (more_numbers ns)
+more-piece : (ns : List ℕ) → AreToldNumbers ns → IsPiece (more_numbers ns)
 more-piece [] h = piece-nothing
 more-piece (n ∷ ns) h =
     piece-then (symbol s.Comma ∷ number n ∷ []) (more_numbers ns) (piece-symbol s.Comma plain-Comma _ (piece-number n h.0 [] piece-nothing)) (more-piece ns h.1)
 
-numbers-piece : (ns : List ℕ) → AreValues ns → IsPiece (numbers_toks ns)
+numbers-piece : (ns : List ℕ) → AreToldNumbers ns → IsPiece (numbers_toks ns)
 numbers-piece [] h = piece-nothing
 numbers-piece (n ∷ ns) h = piece-then (number n ∷ []) (more_numbers ns) (piece-number n h.0 [] piece-nothing) (more-piece ns h.1)
 
@@ -120,11 +120,11 @@ inner-piece (ASplitJoin d a ws) h =
 
 -- THEY ARE IN THE GRAMMAR
 
-each-append : {A : Type 0} (F : A → List Tok → Type 0) (xs ys : List A) (ts us : List Tok) → Each F xs ts → Each F ys us → Each F (xs ++ ys) (ts ++ us)
+each-append : {A : Type 0} (F : A → List Tok → Type 0) (xs ys : List A) (ts us : List Tok) → Many F xs ts → Many F ys us → Many F (xs ++ ys) (ts ++ us)
 each-append F [] ys ts us h g = rw h g
 each-append F (x ∷ xs) ys ts us h g = (h.0, h.1 ++ us, ap (λ l. l ++ us) h.2 ∙ append_assoc h.0 h.1 us, h.3, each-append F xs ys h.1 us h.4 g)
 
-fields-formed : (fs : List (List ℕ)) → AreOwnNames fs → Each IsField fs (fields_toks fs)
+fields-formed : (fs : List (List ℕ)) → AreOwnNames fs → Many IsField fs (fields_toks fs)
 fields-formed [] h = refl
 fields-formed (f ∷ fs) h = (
   field_toks f,
@@ -146,7 +146,7 @@ abbrev rate_list : (ℕ → Rate) → Option ℕ → List Rate
 rate_list make None = []
 rate_list make (Some n) = make n ∷ []
 
-push-formed : (o : Option ℕ) → IsToldRate o → Each IsRate (rate_list push o) (rate_toks (codes "push") o)
+push-formed : (o : Option ℕ) → IsToldRate o → Many IsRate (rate_list push o) (rate_toks (codes "push") o)
 push-formed None h = refl
 push-formed (Some n) h = (
   name (codes "push") ∷ number n ∷ [],
@@ -156,7 +156,7 @@ push-formed (Some n) h = (
   refl,
 )
 
-pop-formed : (o : Option ℕ) → IsToldRate o → Each IsRate (rate_list pop o) (rate_toks (codes "pop") o)
+pop-formed : (o : Option ℕ) → IsToldRate o → Many IsRate (rate_list pop o) (rate_toks (codes "pop") o)
 pop-formed None h = refl
 pop-formed (Some n) h = (
   name (codes "pop") ∷ number n ∷ [],
@@ -166,7 +166,7 @@ pop-formed (Some n) h = (
   refl,
 )
 
-peek-formed : (o : Option ℕ) → IsToldRate o → Each IsRate (rate_list peek o) (rate_toks (codes "peek") o)
+peek-formed : (o : Option ℕ) → IsToldRate o → Many IsRate (rate_list peek o) (rate_toks (codes "peek") o)
 peek-formed None h = refl
 peek-formed (Some n) h = (
   name (codes "peek") ∷ number n ∷ [],
@@ -245,7 +245,7 @@ add-formed : (n : ℕ) (w : List ℕ) → IsOwnName w → IsAdd n w (add_toks w)
 add-formed n w h =
     record { back = name w ∷ symbol s.Semicolon ∷ []; is = refl; formed = record { front = name w ∷ []; is = refl; formed = called-formed n w h } }
 
-others-formed : (n : ℕ) (ws : List (List ℕ)) → AreOwnNames ws → Each (IsAdd n) ws (other_toks ws)
+others-formed : (n : ℕ) (ws : List (List ℕ)) → AreOwnNames ws → Many (IsAdd n) ws (other_toks ws)
 others-formed n [] h = refl
 others-formed n (w ∷ ws) h = (add_toks w, other_toks ws, refl, add-formed n w h.0, others-formed n ws h.1)
 
@@ -259,12 +259,12 @@ adds-formed n a h = record {
 weight-formed : (n : ℕ) → n ≤ 9223372036854775807 → Weight n (number n ∷ [])
 weight-formed n h = record { passes = value-true n h; formed = refl }
 
-more-formed : (ns : List ℕ) → AreValues ns → Each (After (s.Comma ∷ []) Weight) ns (more_numbers ns)
+more-formed : (ns : List ℕ) → AreToldNumbers ns → Many (After (s.Comma ∷ []) Weight) ns (more_numbers ns)
 more-formed [] h = refl
 more-formed (n ∷ ns) h =
     (symbol s.Comma ∷ number n ∷ [], more_numbers ns, refl, record { back = number n ∷ []; is = refl; formed = weight-formed n h.0 }, more-formed ns h.1)
 
-numbers-formed : (ns : List ℕ) → AreValues ns → Listing Weight ns (numbers_toks ns)
+numbers-formed : (ns : List ℕ) → AreToldNumbers ns → Listing Weight ns (numbers_toks ns)
 numbers-formed [] h = inl (refl, refl)
 numbers-formed (n ∷ ns) h = inr (record {
   value = (n, ns);
@@ -330,7 +330,7 @@ braced ts = symbol s.OpenBrace ∷ (ts ++ symbol s.CloseBrace ∷ [])
 braced-formed : {A : Type 0} (F : ℕ → A → List Tok → Type 0) (n : ℕ) (v : A) (ts : List Tok) → F n v ts → Braces F (suc n) v (braced ts)
 braced-formed F n v ts h = record { back = ts ++ symbol s.CloseBrace ∷ []; is = refl; formed = record { front = ts; is = refl; formed = h } }
 
-body-formed : (b : Body) → IsToldBody b → BodyAfter 128 (kind_of b) b (braced (inner_toks b))
+body-formed : (b : Body) → IsToldBody b → BodyAfter 128 (kind_word b) b (braced (inner_toks b))
 body-formed (AFilter t) h = record { value = t; is = refl; formed = braced-formed InFilter 127 t (filter_toks t) (filter-formed 127 t (omega arith) h) }
 body-formed (APipeline a) h = record { value = a; is = refl; formed = braced-formed AreAdds 127 a (adds_toks a) (adds-formed 127 a h) }
 body-formed (ASplitJoin d a ws) h = braced-formed InBoth 127 (ASplitJoin d a ws) _ (both-formed 127 d a ws (omega arith) h.0 h.1 h.2)
@@ -340,16 +340,16 @@ pub unit-formed : (u : Declared) → IsToldUnit u → IsUnit u (unit_toks u)
 unit-formed u h =
     let body : List Tok = braced (inner_toks u.body) in
     record {
-      back = symbol s.Arrow ∷ name (codes "int") ∷ name (kind_of u.body) ∷ name u.name ∷ body;
+      back = symbol s.Arrow ∷ name (codes "int") ∷ name (kind_word u.body) ∷ name u.name ∷ body;
       is = refl;
       formed = record {
-        back = name (codes "int") ∷ name (kind_of u.body) ∷ name u.name ∷ body;
+        back = name (codes "int") ∷ name (kind_word u.body) ∷ name u.name ∷ body;
         is = refl;
         formed = record {
-          back = name (kind_of u.body) ∷ name u.name ∷ body;
+          back = name (kind_word u.body) ∷ name u.name ∷ body;
           is = refl;
           formed = record {
-            word = kind_of u.body;
+            word = kind_word u.body;
             back = name u.name ∷ body;
             is = refl;
             formed = record {

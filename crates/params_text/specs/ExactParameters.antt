@@ -8,7 +8,7 @@ use Rattle.work_code.specs.declared.sign.Symbol.TheVariants as s
 use Rattle.text_forms.specs.Parse as parse
 use Rattle.text_forms.proofs.Exact.{Front}
 use Rattle.text_forms.proofs.Pairs.{pair_inj, choose}
-use Rattle.streamit_text.specs.ExactLeaves.{IsPop, exact-pop, not-pop, not-peek, call-sign}
+use Rattle.streamit_text.specs.ExactLeaves.{IsPopLeaf, exact-pop, not-pop, not-peek, call-sign}
 use Rattle.streamit_text.specs.Expressions.{sign_at, call_at, AreLeaves}
 use Rattle.streamit_text.specs.Leaves.{pop_at}
 use Rattle.params_text.specs.Parameters.{IsLeafWith, place_at, named_with, leaf_with}
@@ -18,7 +18,7 @@ use Rattle.streamit_text.specs.Tree.{Expression, Number, Name, Pop, depth_of}
 use Rattle.streamit_text.specs.Words.{is_own}
 
 module _ (ps : List (List ℕ)) where
-  pop-leaf : (n : ℕ) (t : Expression) (text : List ℕ) (ts : List Tok) → text ≡ codes "pop" → IsPop n t ts → IsLeafWith ps n t (name text ∷ ts)
+  pop-leaf : (n : ℕ) (t : Expression) (text : List ℕ) (ts : List Tok) → text ≡ codes "pop" → IsPopLeaf n t ts → IsLeafWith ps n t (name text ∷ ts)
   pop-leaf zero t text ts is h = absurd h
   pop-leaf (suc n) t text ts is h =
       let tokens : ts ≡ symbol s.Open ∷ symbol s.Close ∷ [] =

@@ -19,7 +19,7 @@ use Rattle.work_code.specs.Lexis.{tokens_in}
 use Rattle.work_code.specs.Tok.{Tok, Mark, toks}
 use Rattle.work_code.specs.declared.sign.Symbol.TheVariants as s
 use Rattle.text_forms.specs.Texts.{AllFormed}
-use Rattle.text_forms.specs.Forms.{Never, Both, After, Before, AfterWord, Tested, Seen, Known, Maybe, Each, Choose, Headed}
+use Rattle.text_forms.specs.Forms.{Never, Both, After, Before, AfterWord, Tested, Seen, Known, Maybe, Many, Choose, Headed}
 use Rattle.text_blocks.specs.Statements as statements
 use Rattle.streamit_text.specs.Blocks as streamit
 use Rattle.streamit_text.specs.Expressions.{IsExpression, expr_at}
@@ -29,7 +29,7 @@ use Rattle.params_text.specs.Chained.{Chained}
 use Rattle.params_text.specs.Parameters.{IsLeafWith, leaf_with}
 use Rattle.params_text.specs.Params.{low}
 use Rattle.params_text.specs.Steps.{Constant, StreamName, Params, Constants, style, holes}
-use Rattle.params_text.specs.Program.{ParamWork, ParamFilter, Step, Steps, in_order, Dealing, Copies, Turns, Body, AFilter, APipeline, ASplitJoin, Declared, ParamProgram}
+use Rattle.params_text.specs.Program.{ParamWork, ParamFilter, Step, Steps, steps_in_turn, Dealing, Copies, Turns, Body, AFilter, APipeline, ASplitJoin, Declared, ParamProgram}
 
 -- a step, in which loops nest at most 16 deep, and steps in braces
 abbrev pub IsStep : ℕ → Step → List Tok → Type 0
@@ -78,7 +78,7 @@ rates_in r [] = Some r
 rates_in r (x ∷ xs) = on_some (with_rate r x) (λ q. rates_in q xs)
 
 abbrev pub AreRates : ℕ → Rates → List Tok → Type 0
-AreRates n = Known (rates_in unwritten) (Each (IsRate n))
+AreRates n = Known (rates_in unwritten) (Many (IsRate n))
 
 -- FILTERS WITH THESE PARAMETERS
 
@@ -109,7 +109,7 @@ abbrev pub made_filter : List (List ℕ) × (Optional × (Option ParamWork × Pa
 made_filter v = record { fields = v.0; init = v.1.0; prework = v.1.1.0; work = v.1.1.1 }
 
 abbrev pub InFilter : List (List ℕ) → ℕ → ParamFilter → List Tok → Type 0
-InFilter ps n = Seen made_filter (Both (Each IsField) (Both (IsInit ps n) (AreWorks ps n)))
+InFilter ps n = Seen made_filter (Both (Many IsField) (Both (IsInit ps n) (AreWorks ps n)))
 
 -- SPLIT-JOINS
 
@@ -128,10 +128,10 @@ abbrev pub IsJoin : ℕ → Option (List Expression) → List Tok → Type 0
 IsJoin n = AfterWord (codes "join") (AfterWord (codes "roundrobin") (Before (Constants n) (s.Semicolon ∷ [])))
 
 abbrev pub made_both : Dealing × (List Step × Option (List Expression)) → Body
-made_both v = ASplitJoin v.0 (in_order v.1.0) v.1.1
+made_both v = ASplitJoin v.0 (steps_in_turn v.1.0) v.1.1
 
 abbrev pub InBoth : ℕ → Body → List Tok → Type 0
-InBoth n = Seen made_both (Both (IsSplit n) (Both (Each (IsStep n)) (IsJoin n)))
+InBoth n = Seen made_both (Both (IsSplit n) (Both (Many (IsStep n)) (IsJoin n)))
 
 -- UNITS
 

@@ -70,16 +70,16 @@ abbrev pub expressions : Vec Expr Global → List Expression
 expressions es = map expression es.items
 
 -- the steps, one after another
-abbrev pub in_order : List Step → Steps
-in_order [] = End
-in_order (s ∷ ss) = Then s (in_order ss)
+abbrev pub steps_in_turn : List Step → Steps
+steps_in_turn [] = End
+steps_in_turn (s ∷ ss) = Then s (steps_in_turn ss)
 
 abbrev pub step_layer : Step-F Step Steps → Step
 step_layer (layer.Add name args) = Add name (expressions args)
 step_layer (layer.Loop name low until high steps) = Loop name (expression low) (is_turn until) (expression high) steps
 
 abbrev pub steps_layer : Steps-F Step Steps → Steps
-steps_layer all = in_order all.items.items
+steps_layer all = steps_in_turn all.items.items
 
 abbrev pub step_of : written_step.Step → Step
 step_of s = fold-Step Step Steps step_layer steps_layer s

@@ -14,7 +14,7 @@ use Rattle.streamit_text.specs.Expressions.{IsExpression, expr_at}
 use Rattle.streamit_text.specs.Grammar.{is_still}
 use Rattle.streamit_text.specs.Leaves.{IsLeaf, leaf_at}
 use Rattle.streamit_text.specs.Tree.{Expression}
-use Rattle.params_text.specs.Program.{Step, Add, Loop, Steps, in_order}
+use Rattle.params_text.specs.Program.{Step, Add, Loop, Steps, steps_in_turn}
 
 -- c
 abbrev pub Constant : ℕ → Expression → List Tok → Type 0
@@ -116,7 +116,7 @@ style = record {
   opening = opening;
   branch = λ c a b. c;
   loop = looped;
-  block = in_order;
+  block = steps_in_turn;
   condition = λ n ts. nowhere ts;
   head = λ n w. step_head_at n;
   plain = step_after;

@@ -135,10 +135,10 @@ split_toks d = name (codes "split") ∷ (dealing_toks d ++ symbol s.Semicolon �
 abbrev pub join_toks : Option (List ℕ) → List Tok
 join_toks ws = name (codes "join") ∷ name (codes "roundrobin") ∷ (weights_toks ws ++ symbol s.Semicolon ∷ [])
 
-abbrev pub kind_of : Body → List ℕ
-kind_of (AFilter t) = codes "filter"
-kind_of (APipeline a) = codes "pipeline"
-kind_of (ASplitJoin d a ws) = codes "splitjoin"
+abbrev pub kind_word : Body → List ℕ
+kind_word (AFilter t) = codes "filter"
+kind_word (APipeline a) = codes "pipeline"
+kind_word (ASplitJoin d a ws) = codes "splitjoin"
 
 abbrev pub inner_toks : Body → List Tok
 inner_toks (AFilter t) = filter_toks t
@@ -147,7 +147,7 @@ inner_toks (ASplitJoin d a ws) = split_toks d ++ (adds_toks a ++ join_toks ws)
 
 abbrev pub unit_toks : Declared → List Tok
 unit_toks u =
-    name (codes "int") ∷ symbol s.Arrow ∷ name (codes "int") ∷ name (kind_of u.body) ∷ name u.name
+    name (codes "int") ∷ symbol s.Arrow ∷ name (codes "int") ∷ name (kind_word u.body) ∷ name u.name
     ∷ symbol s.OpenBrace ∷ (inner_toks u.body ++ symbol s.CloseBrace ∷ [])
 
 abbrev pub units_toks : Program → List Tok

@@ -14,18 +14,18 @@ abbrev pub AreOwnNames : List (List ℕ) → Type 0
 AreOwnNames [] = Unit {0}
 AreOwnNames (n ∷ ns) = IsOwnName n × AreOwnNames ns
 
-abbrev pub IsTold : Expression → Type 0
-IsTold (tree.Number v) = v ≤ 9223372036854775807
-IsTold (tree.Name n) = IsOwnName n
-IsTold (tree.Peek t) = IsTold t
-IsTold tree.Pop = Unit {0}
-IsTold (tree.Neg t) = IsTold t
-IsTold (tree.Not t) = IsTold t
-IsTold (tree.Bin o a b) = IsTold a × IsTold b
+abbrev pub IsToldTree : Expression → Type 0
+IsToldTree (tree.Number v) = v ≤ 9223372036854775807
+IsToldTree (tree.Name n) = IsOwnName n
+IsToldTree (tree.Peek t) = IsToldTree t
+IsToldTree tree.Pop = Unit {0}
+IsToldTree (tree.Neg t) = IsToldTree t
+IsToldTree (tree.Not t) = IsToldTree t
+IsToldTree (tree.Bin o a b) = IsToldTree a × IsToldTree b
 
 -- at most 64 deep
 abbrev pub IsToldExpr : Expression → Type 0
-IsToldExpr t = IsTold t × (depth_of t ≤ 64)
+IsToldExpr t = IsToldTree t × (depth_of t ≤ 64)
 
 -- each expression is such a one
 abbrev pub FirstBy : (Expression → Type 0) → Option Expression → Type 0
@@ -88,13 +88,13 @@ pub record IsToldFilter (t : FilterTree) : Type 0 where
 abbrev pub AreToldAdds : Adds → Type 0
 AreToldAdds a = IsOwnName a.first × AreOwnNames a.others
 
-abbrev pub AreValues : List ℕ → Type 0
-AreValues [] = Unit {0}
-AreValues (n ∷ ns) = (n ≤ 9223372036854775807) × AreValues ns
+abbrev pub AreToldNumbers : List ℕ → Type 0
+AreToldNumbers [] = Unit {0}
+AreToldNumbers (n ∷ ns) = (n ≤ 9223372036854775807) × AreToldNumbers ns
 
 abbrev pub AreToldWeights : Option (List ℕ) → Type 0
 AreToldWeights None = Unit {0}
-AreToldWeights (Some ws) = AreValues ws
+AreToldWeights (Some ws) = AreToldNumbers ws
 
 abbrev pub IsToldDealing : Dealing → Type 0
 IsToldDealing Copies = Unit {0}

@@ -22,8 +22,8 @@ abbrev pub option_rates : Option ParamRates → Option grammar.Rates
 option_rates None = None
 option_rates (Some r) = Some (rates_of r)
 
-abbrev pub works_of : Option code_work.ParamWork × code_work.ParamWork → Option ParamWork × ParamWork
-works_of w = (optional work_of w.0, work_of w.1)
+abbrev pub both_works : Option code_work.ParamWork × code_work.ParamWork → Option ParamWork × ParamWork
+both_works w = (optional work_of w.0, work_of w.1)
 
 abbrev pub split_join_of : ParamSplitJoin → Body
 split_join_of b = ASplitJoin (dealing_of b.split) (steps_of b.steps) (rounds_of b.join)

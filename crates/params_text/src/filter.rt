@@ -7,7 +7,7 @@ ghost use Rattle.params_text.specs.Grammar.{fresh, with_rate};
 ghost use Rattle.params_text.specs.Program.{work_of, filter_of};
 ghost use Rattle.params_text.specs.Reading.{rate_after, rate_at, rates_at, statements_at, block_at, still_at, init_at, work_at, prework_at, works_at};
 ghost use Rattle.params_text.specs.Reading.{in_filter_at, filter_at};
-ghost use Rattle.params_text.specs.View.{rate_of, rates_of, option_rates, works_of};
+ghost use Rattle.params_text.specs.View.{rate_of, rates_of, option_rates, both_works};
 
 use crate::constant::constant;
 use crate::low::low;
@@ -220,7 +220,7 @@ fn works(
     params: &[Name],
     brackets: u32,
 ) -> Result<(Option<ParamWork>, ParamWork), Fault>
-    ensures { Gives works_of result reader.new (works_at params.now brackets reader.old) }
+    ensures { Gives both_works result reader.new (works_at params.now brackets reader.old) }
 {
     let prework = prework(reader, alloc, params, brackets)?;
     reader.word(b"work")?;

@@ -4,7 +4,7 @@ ghost use Rattle.text_blocks.specs.Parts.{optional};
 ghost use Rattle.text_forms.specs.Gives.{Gives};
 ghost use Rattle.streamit_text.specs.Tree.{expression};
 ghost use Rattle.streamit_text.specs.View.{head_of};
-ghost use Rattle.params_text.specs.Program.{expressions, step_of, steps_of, in_order};
+ghost use Rattle.params_text.specs.Program.{expressions, step_of, steps_of, steps_in_turn};
 ghost use Rattle.params_text.specs.Steps.{made_add, add_at, step_head_at, step_after, opening, looped, style};
 ghost use Rattle.params_text.specs.Reading.{step_at, pipe_at, steps_at};
 
@@ -171,7 +171,7 @@ impl Blocks for StepWords {
 
     #[tactic(auto, using(crate::proofs::StepTrees::steps))]
     fn block(&self, _alloc: Global, statements: Vec<Step>) -> Result<Steps, NoMemory>
-        ensures { IfOk result (λ made. steps_of made ≡ in_order (map step_of statements.items)) }
+        ensures { IfOk result (λ made. steps_of made ≡ steps_in_turn (map step_of statements.items)) }
     {
         Ok(Steps { items: statements })
     }

@@ -9,7 +9,7 @@ use Rattle.river_base.specs.declared.kind.FlatType as flat_type
 use Rattle.river_base.specs.declared.kind.FlatType.TheVariants.{Rows, Stream, Relation}
 use Rattle.river_base.specs.declared.kind.QueueType as queue_type
 use Rattle.river_base.specs.declared.kind.QueueType.TheVariants.{Flat as FlatOf, Pack as PackOf}
-use Rattle.river_base.specs.Held.{held, held_by_type, held_from, held_item, held_flat, held_flats, content_from, after_item, after_flat, after_flats, MayHold, IsHeld, IsPlain, as_items, opened, flats}
+use Rattle.river_base.specs.Held.{held, held_by_type, held_from, held_item, held_flat, held_flats, content_from, after_item, after_flat, after_flats, MayHold, IsHeld, IsPlain, flats_as_items, opened, flats}
 
 from-append : (before : List (List ℤ)) (xs ys : List item.Item) → held_from before (xs ++ ys) ≡ held_from before xs ++ held_from (content_from before xs) ys
 from-append before [] ys = refl
@@ -77,15 +77,15 @@ pub held-packs : (w : ℕ) (past xs : List item.Item) → held (PackOf (Relation
 unfolding held
 held-packs w past xs = refl
 
-pub flats-as_items : (fs : List flat.Flat) → flats (as_items fs) ≡ fs
+pub flats-as_items : (fs : List flat.Flat) → flats (flats_as_items fs) ≡ fs
 flats-as_items [] = refl
 flats-as_items (f ∷ fs) = ap (λ l. f ∷ l) (flats-as_items fs)
 
-flats_from : (before : List (List ℤ)) (fs : List flat.Flat) → flats (held_from before (as_items fs)) ≡ held_flats before fs
+flats_from : (before : List (List ℤ)) (fs : List flat.Flat) → flats (held_from before (flats_as_items fs)) ≡ held_flats before fs
 flats_from before [] = refl
 flats_from before (f ∷ fs) = ap (λ l. held_flat before f ∷ l) (flats_from (after_flat before f) fs)
 
-content_pack : (before : List (List ℤ)) (fs : List flat.Flat) (is : List item.Item) → content_from before (as_items fs ++ is) ≡ content_from (after_flats before fs) is
+content_pack : (before : List (List ℤ)) (fs : List flat.Flat) (is : List item.Item) → content_from before (flats_as_items fs ++ is) ≡ content_from (after_flats before fs) is
 content_pack before [] is = refl
 content_pack before (f ∷ fs) is = content_pack (after_flat before f) fs is
 
@@ -97,9 +97,9 @@ content_opened before (Pack fs ∷ ps) = content_pack before fs (opened ps) ∙ 
 
 -- a pack holds what a queue of its items would
 pub held-pack : (t : flat_type.FlatType) (past : List item.Item) (fs : List flat.Flat)
-    → held (PackOf t) past (Pack fs ∷ []) ≡ Pack (flats (held (FlatOf t) (opened past) (as_items fs))) ∷ []
+    → held (PackOf t) past (Pack fs ∷ []) ≡ Pack (flats (held (FlatOf t) (opened past) (flats_as_items fs))) ∷ []
 unfolding held
-held-pack (Relation w) past fs = ap (λ l. Pack l ∷ []) (sym (ap (λ b. flats (held_from b (as_items fs))) (content_opened [] past) ∙ flats_from (content_from [] past) fs))
+held-pack (Relation w) past fs = ap (λ l. Pack l ∷ []) (sym (ap (λ b. flats (held_from b (flats_as_items fs))) (content_opened [] past) ∙ flats_from (content_from [] past) fs))
 held-pack (Rows w) past fs = ap (λ l. Pack l ∷ []) (sym (flats-as_items fs))
 held-pack (Stream w) past fs = ap (λ l. Pack l ∷ []) (sym (flats-as_items fs))
 

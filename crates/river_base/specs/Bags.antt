@@ -6,10 +6,10 @@ abbrev pub SameBag : {K : Type 0} → List K → List K → Type 0
 SameBag {K} xs ys = (test : K → Bool) → count_by test xs ≡ count_by test ys
 
 -- x before the first element that is greater. `lt` is a strict order
-abbrev pub place : {K : Type 0} → (K → K → Bool) → K → List K → List K
-place lt x [] = x ∷ []
-place lt x (y ∷ ys) = if lt y x then y ∷ place lt x ys else x ∷ (y ∷ ys)
+abbrev pub put_in_order : {K : Type 0} → (K → K → Bool) → K → List K → List K
+put_in_order lt x [] = x ∷ []
+put_in_order lt x (y ∷ ys) = if lt y x then y ∷ put_in_order lt x ys else x ∷ (y ∷ ys)
 
 -- the elements in ascending order
 abbrev pub ascending : {K : Type 0} → (K → K → Bool) → List K → List K
-ascending lt xs = fold (λ done x. place lt x done) [] xs
+ascending lt xs = fold (λ done x. put_in_order lt x done) [] xs

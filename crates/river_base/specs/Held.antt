@@ -104,12 +104,12 @@ IsRelation (PackOf (Relation w)) = Unit {0}
 IsRelation t = ⊥
 
 -- the items of a pack, and those of a list of packs, joined
-abbrev pub as_items : List flat.Flat → List item.Item
-as_items fs = map (λ f. Flat f) fs
+abbrev pub flats_as_items : List flat.Flat → List item.Item
+flats_as_items fs = map (λ f. Flat f) fs
 
 abbrev pub items_of : item.Item → List item.Item
 items_of (Flat f) = Flat f ∷ []
-items_of (Pack fs) = as_items fs
+items_of (Pack fs) = flats_as_items fs
 
 abbrev pub opened : List item.Item → List item.Item
 opened [] = []

@@ -26,7 +26,7 @@ is_name [] = false
 is_name (b ∷ bs) = is_letter b && (list_all is_word bs && nat_le (length bs) 63)
 
 -- an array of 64 bytes whose first `len` are a name
-pub record IsName (len : ℕ) (bytes : List ℕ) : Type 0 where
+pub record HoldsName (len : ℕ) (bytes : List ℕ) : Type 0 where
   pub short : IsShort 64 0 len bytes
   pub named : IsTrue (is_name (take len bytes))
 

@@ -11,7 +11,7 @@ use Rattle.river_base.specs.Short.{IsShort}
 use Rattle.river_base.specs.Bags.{ascending}
 
 -- an array of 16 values, of which the first `width` count
-pub record AreValues (width : ℕ) (values : List ℤ) : Type 0 where
+pub record AreShortValues (width : ℕ) (values : List ℤ) : Type 0 where
   pub short : IsShort 16 (pos 0) width values
   pub in_range : All IsValue values
 

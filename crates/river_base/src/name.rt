@@ -24,14 +24,14 @@ pub struct Name {
 
 impl Model for Name {
     ghost use Rattle.std.specs.Prelude.{ℕ, List, length, take};
-    ghost use Rattle.river_base.specs.Name.{IsName};
+    ghost use Rattle.river_base.specs.Name.{HoldsName};
     ghost use Rattle.river_base.specs.Short.{padded, rebuilt};
 
     ghost Value = { List ℕ };
 
     ghost view = { λ n. take n.len n.bytes };
 
-    ghost invariant = { λ n. IsName n.len n.bytes };
+    ghost invariant = { λ n. HoldsName n.len n.bytes };
 
     ghost inverse = { λ bs. record { len = length bs; bytes = padded 64 0 bs } };
 

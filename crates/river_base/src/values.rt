@@ -9,7 +9,7 @@ use std::cmp::Ordering;
 use std::marker::Model;
 
 /// At most 16 values, which contracts see as the list of them.
-#[derive(Clone, Copy, Debug)]
+#[derive(Clone, Copy)]
 pub struct Values {
     width: usize,
     values: [i64; 16],
@@ -17,14 +17,14 @@ pub struct Values {
 
 impl Model for Values {
     ghost use Rattle.std.specs.Prelude.{ℤ, pos, List, length, take};
-    ghost use Rattle.river_base.specs.Row.{AreValues};
+    ghost use Rattle.river_base.specs.Row.{AreShortValues};
     ghost use Rattle.river_base.specs.Short.{padded, rebuilt};
 
     ghost Value = { List ℤ };
 
     ghost view = { λ r. take r.width r.values };
 
-    ghost invariant = { λ r. AreValues r.width r.values };
+    ghost invariant = { λ r. AreShortValues r.width r.values };
 
     ghost inverse = { λ xs. record { width = length xs; values = padded 16 (pos 0) xs } };
 

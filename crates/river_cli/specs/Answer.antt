@@ -16,7 +16,7 @@ abbrev pub TookText : List ℕ → Option (List ℕ) → Option (List ℕ) → T
 TookText text old new = new ≡ append_known old text
 
 -- the points end so, and a sink took the text of that end
-pub record Wrote (points : Option Order) (held : Option Held) (kind : List ℕ → Verdict) (old new : Option (List ℕ)) : Type 0 where
+pub record WroteEnd (points : Option Order) (held : Option Held) (kind : List ℕ → Verdict) (old new : Option (List ℕ)) : Type 0 where
   pub text : List ℕ
   pub end : IsVerdict points held (kind text)
   pub took : TookText text old new

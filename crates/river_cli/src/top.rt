@@ -3,7 +3,7 @@ ghost use Rattle.std.specs.Prelude.{◌≡◌, ◌≤◌, ◌⊎◌, MatchResult
 ghost use Rattle.river_outside.specs.Causes.{Rose};
 ghost use Rattle.river_order.specs.Order.{verdict, Done, Refused};
 ghost use Rattle.river_cli.specs.Points.{points_of};
-ghost use Rattle.river_cli.specs.Answer.{TookNothing, Wrote, WroteUsage, WroteFault, Stopped, StoppedUsage, HasStatus};
+ghost use Rattle.river_cli.specs.Answer.{TookNothing, WroteEnd, WroteUsage, WroteFault, Stopped, StoppedUsage, HasStatus};
 
 use crate::road::decide;
 use river_base::{Gate, Text};
@@ -27,12 +27,12 @@ pub fn river<R: Threads + Sync, S: Shelf, O: Sink, E: Sink, G: Gate + Sync>(
 ) -> u8
     // 0: the run is done, and the output took exactly its text.
     ensures done { result ≡ 0
-        → Wrote (points_of words.now) (S.held shelf.old) Done (O.taken out.old) (O.taken out.new)
+        → WroteEnd (points_of words.now) (S.held shelf.old) Done (O.taken out.old) (O.taken out.new)
         × TookNothing (E.taken err.old) (E.taken err.new) }
 
     // 1: it is refused, and the error output took exactly the refusal.
     ensures refused { result ≡ 1
-        → Wrote (points_of words.now) (S.held shelf.old) Refused (E.taken err.old) (E.taken err.new)
+        → WroteEnd (points_of words.now) (S.held shelf.old) Refused (E.taken err.old) (E.taken err.new)
         × TookNothing (O.taken out.old) (O.taken out.new) }
 
     // 2: the words are no sentence, and the shelf was not read.

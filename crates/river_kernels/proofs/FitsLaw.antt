@@ -12,7 +12,7 @@ use Rattle.river_kernels.specs.declared.types.Types.{Types}
 use Rattle.river_kernels.specs.Kern.{Kern, code, filter, duplicate, deal, collect, packed, unpack, window, select, project, cross, streamer, tally, fused}
 use Rattle.river_kernels.specs.Formed.{is_width, is_term, is_code, is_filter, are_weights, is_window}
 use Rattle.river_kernels.specs.Fits.{Fits, rows, stream, relation, width_of, is_sized, is_bag, ports, are_widths, kept, spliced}
-use Rattle.river_kernels.specs.Types.{given, gives, rows_in, stream_in, relation_in, crossed, packed_outs, packed_of, joined, behind, fused_of, types_of}
+use Rattle.river_kernels.specs.Types.{given, given_if, on_rows_width, stream_in, relation_in, crossed_types, packed_outs, packed_of, joined_types, behind, fused_types, types_of}
 use Rattle.river_kernels.proofs.TypeLemmas.{eq_same, same_eq, not_some, some_same, gives_if, gives_some, flat_some, rows_some, stream_some, relation_some}
 use Rattle.river_kernels.proofs.TypeLemmas.{flats_some, packs_some, flats_all, packs_all, pair_some}
 
@@ -31,13 +31,13 @@ fits_types (deal ws) is os vs h =
     ap (types_of (deal ws)) h.1 ∙ gives_if (is_sized h.0 && are_weights ws) (replicate (length ws) (Flat h.0)) os (Private ∷ []) vs h.4 h.2 h.3
 fits_types (collect ws) is os vs h =
     ap (types_of (collect ws)) h.1
-    ∙ flats_all (length ws) h.0 (λ t. gives (is_sized t && are_weights ws) (Flat t ∷ []) (Private ∷ [])) (weighed (is_sized h.0) ws h.4)
+    ∙ flats_all (length ws) h.0 (λ t. given_if (is_sized t && are_weights ws) (Flat t ∷ []) (Private ∷ [])) (weighed (is_sized h.0) ws h.4)
     ∙ gives_if (is_sized h.0 && are_weights ws) (Flat h.0 ∷ []) os (Private ∷ []) vs h.4 h.2 h.3
 fits_types (packed k) is os vs h =
     ap (types_of (packed k)) h.2 ∙ ap packed_of (fits_types k (Flat h.0 ∷ []) (Flat h.1 ∷ []) [] h.5) ∙ (λ i. Some (given (sym h.3 i) (sym h.4 i)))
 fits_types (unpack n) is os vs h =
     ap (types_of (unpack n)) h.1
-    ∙ packs_all n h.0 (λ t. gives (is_sized t && nat_le 1 n) (Flat t ∷ []) (Private ∷ [])) (grind (arith, h.4))
+    ∙ packs_all n h.0 (λ t. given_if (is_sized t && nat_le 1 n) (Flat t ∷ []) (Private ∷ [])) (grind (arith, h.4))
     ∙ gives_if (is_sized h.0 && nat_le 1 n) (Flat h.0 ∷ []) os (Private ∷ []) vs h.4 h.2 h.3
 fits_types (window w) is os vs h = ap (types_of (window w)) h.1 ∙ gives_if (is_width h.0 && is_window w) (relation h.0 ∷ []) os (Private ∷ []) vs h.4 h.2 h.3
 fits_types (select e) is os vs h =
@@ -54,8 +54,8 @@ fits_types (fused a b at) is os vs h =
     let bs = h.2 in
     let us = h.3 in
     let ws = h.4 in
-    ap (λ o. fused_of at o (types_of b)) (fits_types a is ms us h.5) ∙ ap (λ o. behind at (given ms us) o (types_of b)) h.6
-    ∙ ap (joined at (given ms us)) (fits_types b (m ∷ []) bs ws h.7) ∙ (λ i. Some (given (sym h.8 i) (sym h.9 i)))
+    ap (λ o. fused_types at o (types_of b)) (fits_types a is ms us h.5) ∙ ap (λ o. behind at (given ms us) o (types_of b)) h.6
+    ∙ ap (joined_types at (given ms us)) (fits_types b (m ∷ []) bs ws h.7) ∙ (λ i. Some (given (sym h.8 i) (sym h.9 i)))
 
 -- what is inferred for the kernel inside a pack
 record Inside (o : Option Types) (p : Types) : Type 0 where
@@ -93,7 +93,7 @@ record Behind (at : ℕ) (o : Option Types) (f : List QueueType → Option Types
   pub vars : p.vars ≡ first.vars ++ second.vars
 
 behind_joined : (at : ℕ) (q : Types) (m : QueueType) (f : List QueueType → Option Types) (o : Option Types) (p : Types) → slice_get q.outs at ≡ Some m
-    → f (m ∷ []) ≡ o → joined at q o ≡ Some p → Behind at (Some q) f p
+    → f (m ∷ []) ≡ o → joined_types at q o ≡ Some p → Behind at (Some q) f p
 behind_joined at q m f None p e g h = absurd (not_some h)
 behind_joined at q m f (Some r) p e g h =
     let s : given (spliced at q.outs r.outs) (q.vars ++ r.vars) ≡ p = some_same h in
@@ -113,34 +113,34 @@ behind_middle : (at : ℕ) (q : Types) (o : Option QueueType) (f : List QueueTyp
 behind_middle at q None f p e h = absurd (not_some h)
 behind_middle at q (Some m) f p e h = behind_joined at q m f (f (m ∷ [])) p e refl h
 
-two_parts : (at : ℕ) (o : Option Types) (f : List QueueType → Option Types) (p : Types) → fused_of at o f ≡ Some p → Behind at o f p
+two_parts : (at : ℕ) (o : Option Types) (f : List QueueType → Option Types) (p : Types) → fused_types at o f ≡ Some p → Behind at o f p
 two_parts at None f p h = absurd (not_some h)
 two_parts at (Some q) f p h = behind_middle at q (slice_get q.outs at) f p refl h
 
 -- what is inferred fits
 pub types_fits : (k : Kern) (is : List QueueType) (p : Types) → types_of k is ≡ Some p → Fits k is p.outs p.vars
 types_fits (code k) is p h =
-    let a = flat_some is (λ t. rows_in t (λ n. gives (nat_eq n k.body.inputs && (is_width k.body.inputs && (are_widths k.outs && is_code k))) (ports k.outs) (kept k.starts))) p h in
-    let b = rows_some a.type (λ n. gives (nat_eq n k.body.inputs && (is_width k.body.inputs && (are_widths k.outs && is_code k))) (ports k.outs) (kept k.starts)) p a.some in
+    let a = flat_some is (λ t. on_rows_width t (λ n. given_if (nat_eq n k.body.inputs && (is_width k.body.inputs && (are_widths k.outs && is_code k))) (ports k.outs) (kept k.starts))) p h in
+    let b = rows_some a.type (λ n. given_if (nat_eq n k.body.inputs && (is_width k.body.inputs && (are_widths k.outs && is_code k))) (ports k.outs) (kept k.starts)) p a.some in
     let g = gives_some (nat_eq b.width k.body.inputs && (is_width k.body.inputs && (are_widths k.outs && is_code k))) (ports k.outs) (kept k.starts) p b.some in
     let c = and_parts (nat_eq b.width k.body.inputs) (is_width k.body.inputs && (are_widths k.outs && is_code k)) g.holds in
     (a.reads ∙ ap (λ t. Flat t ∷ []) b.is ∙ ap (λ n. rows n ∷ []) (same_eq b.width k.body.inputs c.0), g.outs, g.vars, c.1)
 types_fits (filter f) is p h =
-    let a = flat_some is (λ t. rows_in t (λ n. gives (nat_eq n 1 && is_filter f) (rows 1 ∷ []) (Private ∷ []))) p h in
-    let b = rows_some a.type (λ n. gives (nat_eq n 1 && is_filter f) (rows 1 ∷ []) (Private ∷ [])) p a.some in
+    let a = flat_some is (λ t. on_rows_width t (λ n. given_if (nat_eq n 1 && is_filter f) (rows 1 ∷ []) (Private ∷ []))) p h in
+    let b = rows_some a.type (λ n. given_if (nat_eq n 1 && is_filter f) (rows 1 ∷ []) (Private ∷ [])) p a.some in
     let g = gives_some (nat_eq b.width 1 && is_filter f) (rows 1 ∷ []) (Private ∷ []) p b.some in
     let c = and_parts (nat_eq b.width 1) (is_filter f) g.holds in
     (a.reads ∙ ap (λ t. Flat t ∷ []) b.is ∙ ap (λ n. rows n ∷ []) (same_eq b.width 1 c.0), g.outs, g.vars, c.1)
 types_fits (duplicate n) is p h =
-    let a = flat_some is (λ t. gives (is_sized t && nat_le 1 n) (replicate n (Flat t)) []) p h in
+    let a = flat_some is (λ t. given_if (is_sized t && nat_le 1 n) (replicate n (Flat t)) []) p h in
     let g = gives_some (is_sized a.type && nat_le 1 n) (replicate n (Flat a.type)) [] p a.some in
     (a.type, a.reads, g.outs, g.vars, g.holds)
 types_fits (deal ws) is p h =
-    let a = flat_some is (λ t. gives (is_sized t && are_weights ws) (replicate (length ws) (Flat t)) (Private ∷ [])) p h in
+    let a = flat_some is (λ t. given_if (is_sized t && are_weights ws) (replicate (length ws) (Flat t)) (Private ∷ [])) p h in
     let g = gives_some (is_sized a.type && are_weights ws) (replicate (length ws) (Flat a.type)) (Private ∷ []) p a.some in
     (a.type, a.reads, g.outs, g.vars, g.holds)
 types_fits (collect ws) is p h =
-    let a = flats_some (length ws) is (λ t. gives (is_sized t && are_weights ws) (Flat t ∷ []) (Private ∷ [])) p h in
+    let a = flats_some (length ws) is (λ t. given_if (is_sized t && are_weights ws) (Flat t ∷ []) (Private ∷ [])) p h in
     let g = gives_some (is_sized a.type && are_weights ws) (Flat a.type ∷ []) (Private ∷ []) p a.some in
     (a.type, a.reads, g.outs, g.vars, g.holds)
 types_fits (packed k) is p h =
@@ -149,35 +149,35 @@ types_fits (packed k) is p h =
     let f : Fits k (Flat a.type ∷ []) c.within.outs c.within.vars = types_fits k (Flat a.type ∷ []) c.within c.some in
     (a.type, c.type, a.reads, c.pack, c.none, subst (Fits k (Flat a.type ∷ []) (Flat c.type ∷ [])) c.vars (subst (λ os. Fits k (Flat a.type ∷ []) os c.within.vars) c.outs f))
 types_fits (unpack n) is p h =
-    let a = packs_some n is (λ t. gives (is_sized t && nat_le 1 n) (Flat t ∷ []) (Private ∷ [])) p h in
+    let a = packs_some n is (λ t. given_if (is_sized t && nat_le 1 n) (Flat t ∷ []) (Private ∷ [])) p h in
     let g = gives_some (is_sized a.type && nat_le 1 n) (Flat a.type ∷ []) (Private ∷ []) p a.some in
     (a.type, a.reads, g.outs, g.vars, g.holds)
 types_fits (window w) is p h =
-    let a = flat_some is (λ t. stream_in t (λ n. gives (is_width n && is_window w) (relation n ∷ []) (Private ∷ []))) p h in
-    let b = stream_some a.type (λ n. gives (is_width n && is_window w) (relation n ∷ []) (Private ∷ [])) p a.some in
+    let a = flat_some is (λ t. stream_in t (λ n. given_if (is_width n && is_window w) (relation n ∷ []) (Private ∷ []))) p h in
+    let b = stream_some a.type (λ n. given_if (is_width n && is_window w) (relation n ∷ []) (Private ∷ [])) p a.some in
     let g = gives_some (is_width b.width && is_window w) (relation b.width ∷ []) (Private ∷ []) p b.some in
     (b.width, a.reads ∙ ap (λ t. Flat t ∷ []) b.is, g.outs, g.vars, g.holds)
 types_fits (select e) is p h =
-    let a = flat_some is (λ t. gives (is_sized t && (is_bag t && is_term (width_of t) 0 e)) (Flat t ∷ []) []) p h in
+    let a = flat_some is (λ t. given_if (is_sized t && (is_bag t && is_term (width_of t) 0 e)) (Flat t ∷ []) []) p h in
     let g = gives_some (is_sized a.type && (is_bag a.type && is_term (width_of a.type) 0 e)) (Flat a.type ∷ []) [] p a.some in
     (a.type, a.reads, g.outs, g.vars, g.holds)
 types_fits (project es) is p h =
-    let a = flat_some is (λ t. relation_in t (λ n. gives (is_width n && (is_width (length es) && list_all (is_term n 0) es)) (relation (length es) ∷ []) [])) p h in
-    let b = relation_some a.type (λ n. gives (is_width n && (is_width (length es) && list_all (is_term n 0) es)) (relation (length es) ∷ []) []) p a.some in
+    let a = flat_some is (λ t. relation_in t (λ n. given_if (is_width n && (is_width (length es) && list_all (is_term n 0) es)) (relation (length es) ∷ []) [])) p h in
+    let b = relation_some a.type (λ n. given_if (is_width n && (is_width (length es) && list_all (is_term n 0) es)) (relation (length es) ∷ []) []) p a.some in
     let g = gives_some (is_width b.width && (is_width (length es) && list_all (is_term b.width 0) es)) (relation (length es) ∷ []) [] p b.some in
     (b.width, a.reads ∙ ap (λ t. Flat t ∷ []) b.is, g.outs, g.vars, g.holds)
 types_fits cross is p h =
-    let a = pair_some is crossed p h in
+    let a = pair_some is crossed_types p h in
     let g = gives_some (is_width a.left && (is_width a.right && is_width (a.left + a.right))) (relation (a.left + a.right) ∷ []) (Private ∷ []) p a.some in
     (a.left, a.right, a.reads, g.outs, g.vars, g.holds)
 types_fits (streamer s) is p h =
-    let a = flat_some is (λ t. relation_in t (λ n. gives (is_width n) (stream n ∷ []) (Private ∷ []))) p h in
-    let b = relation_some a.type (λ n. gives (is_width n) (stream n ∷ []) (Private ∷ [])) p a.some in
+    let a = flat_some is (λ t. relation_in t (λ n. given_if (is_width n) (stream n ∷ []) (Private ∷ []))) p h in
+    let b = relation_some a.type (λ n. given_if (is_width n) (stream n ∷ []) (Private ∷ [])) p a.some in
     let g = gives_some (is_width b.width) (stream b.width ∷ []) (Private ∷ []) p b.some in
     (b.width, a.reads ∙ ap (λ t. Flat t ∷ []) b.is, g.outs, g.vars, g.holds)
 types_fits tally is p h =
-    let a = flat_some is (λ t. rows_in t (λ n. gives (is_width n) [] (Table n ∷ []))) p h in
-    let b = rows_some a.type (λ n. gives (is_width n) [] (Table n ∷ [])) p a.some in
+    let a = flat_some is (λ t. on_rows_width t (λ n. given_if (is_width n) [] (Table n ∷ []))) p h in
+    let b = rows_some a.type (λ n. given_if (is_width n) [] (Table n ∷ [])) p a.some in
     let g = gives_some (is_width b.width) [] (Table b.width ∷ []) p b.some in
     (b.width, a.reads ∙ ap (λ t. Flat t ∷ []) b.is, g.outs, g.vars, g.holds)
 types_fits (fused a b at) is p h =

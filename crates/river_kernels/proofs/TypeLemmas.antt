@@ -12,8 +12,8 @@ use Rattle.river_base.specs.declared.kind.QueueType.TheVariants.{Flat, Pack}
 use Rattle.river_kernels.specs.declared.types.VarKind.{VarKind}
 use Rattle.river_kernels.specs.declared.types.Types.{Types}
 use Rattle.river_kernels.specs.Fits.{relation}
-use Rattle.river_kernels.specs.Types.{given, gives, bind, flat_in, rows_in, stream_in, relation_in, same_flat, same_type, flats_in, packs_in, two_relations}
-use Rattle.river_kernels.specs.Types.{IsFound}
+use Rattle.river_kernels.specs.Types.{given, given_if, bind, on_only_type, on_rows_width, stream_in, relation_in, same_flat, same_type, flats_in, packs_in, two_relations}
+use Rattle.river_kernels.specs.Types.{MayAnswer}
 
 -- a number is equal to itself
 pub eq_same : (n : ℕ) → nat_eq n n ≡ true
@@ -73,7 +73,7 @@ all_same_is t (u ∷ us) h =
     λ i. sym e i ∷ f i
 
 -- what is given under a condition
-pub gives_if : (b : Bool) (os os' : List QueueType) (vs vs' : List VarKind) → b ≡ true → os' ≡ os → vs' ≡ vs → gives b os vs ≡ Some (given os' vs')
+pub gives_if : (b : Bool) (os os' : List QueueType) (vs vs' : List VarKind) → b ≡ true → os' ≡ os → vs' ≡ vs → given_if b os vs ≡ Some (given os' vs')
 gives_if true os os' vs vs' h e f = λ i. Some (given (sym e i) (sym f i))
 gives_if false os os' vs vs' h e f = absurd (true≢false (sym h))
 
@@ -83,7 +83,7 @@ pub record Gives (b : Bool) (os : List QueueType) (vs : List VarKind) (p : Types
   pub vars : p.vars ≡ vs
 
 -- what is given under a condition, where it is given
-pub gives_some : (b : Bool) (os : List QueueType) (vs : List VarKind) (p : Types) → gives b os vs ≡ Some p → Gives b os vs p
+pub gives_some : (b : Bool) (os : List QueueType) (vs : List VarKind) (p : Types) → given_if b os vs ≡ Some p → Gives b os vs p
 gives_some true os vs p h =
     let e : given os vs ≡ p = some_same h in
     record { holds = refl; outs = sym (ap (λ (q : Types). q.outs) e); vars = sym (ap (λ (q : Types). q.vars) e) }
@@ -95,7 +95,7 @@ pub record OneFlat (is : List QueueType) (f : FlatType → Option Types) (p : Ty
   pub some : f type ≡ Some p
 
 -- the one flat type that is read
-pub flat_some : (is : List QueueType) (f : FlatType → Option Types) (p : Types) → flat_in is f ≡ Some p → OneFlat is f p
+pub flat_some : (is : List QueueType) (f : FlatType → Option Types) (p : Types) → on_only_type is f ≡ Some p → OneFlat is f p
 flat_some [] f p h = absurd (not_some h)
 flat_some (Flat t ∷ []) f p h = record { type = t; reads = refl; some = h }
 flat_some (Pack t ∷ []) f p h = absurd (not_some h)
@@ -108,7 +108,7 @@ pub record Width (t : FlatType) (of : ℕ → FlatType) (f : ℕ → Option Type
   pub some : f width ≡ Some p
 
 -- the width of rows
-pub rows_some : (t : FlatType) (f : ℕ → Option Types) (p : Types) → rows_in t f ≡ Some p → Width t (λ n. Rows n) f p
+pub rows_some : (t : FlatType) (f : ℕ → Option Types) (p : Types) → on_rows_width t f ≡ Some p → Width t (λ n. Rows n) f p
 rows_some (Rows n) f p h = record { width = n; is = refl; some = h }
 rows_some (Stream n) f p h = absurd (not_some h)
 rows_some (Relation n) f p h = absurd (not_some h)
@@ -199,7 +199,7 @@ pair_some (Pack a ∷ u ∷ []) f p h = absurd (not_some h)
 pair_some (t ∷ u ∷ v ∷ vs) f p h = absurd (not_some h)
 
 -- what is inferred may be answered
-pub found_is : (most : ℕ) (o r : Option Types) → r ≡ o → IsFound most o r
+pub found_is : (most : ℕ) (o r : Option Types) → r ≡ o → MayAnswer most o r
 found_is most (Some p) (Some r) h = some_same h
 found_is most (Some p) None h = absurd (not_some h)
 found_is most None (Some r) h = absurd (not_some (sym h))

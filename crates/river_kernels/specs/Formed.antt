@@ -48,10 +48,10 @@ abbrev mutual
   is_steps inputs slots outs (Then s ss) = is_step inputs slots outs s && is_steps inputs slots outs ss
 
 -- two numbers together
-abbrev pub both : Option ℕ → Option ℕ → Option ℕ
-both (Some m) (Some n) = Some (m + n)
-both (Some m) None = None
-both None n = None
+abbrev pub both_counts : Option ℕ → Option ℕ → Option ℕ
+both_counts (Some m) (Some n) = Some (m + n)
+both_counts (Some m) None = None
+both_counts None n = None
 
 -- the number that two arms share
 abbrev pub same : Option ℕ → Option ℕ → Option ℕ
@@ -68,7 +68,7 @@ abbrev mutual
 
   pub pushes : Steps → Option ℕ
   pushes Done = Some 0
-  pushes (Then s ss) = both (pushes_once s) (pushes ss)
+  pushes (Then s ss) = both_counts (pushes_once s) (pushes ss)
 
 -- what is left of `room` where so many are taken from it; None where they are more
 abbrev pub left_of : Option ℕ → ℕ → Option ℕ

@@ -1,6 +1,6 @@
 -- The numbers in a kernel that are limited, in the order of its parts.
 use Rattle.std.specs.Prelude.{ℕ, ◌+◌, ◌-◌, ◌^◌, ℤ, List, [], ◌∷◌, ◌++◌, Option, Some, None, min, max, nat_lt, if◌then◌else◌}
-use Rattle.work_code.specs.Steps.{Step, Steps, Set, Push, If, Done, Then, Body}
+use Rattle.work_code.specs.Steps.{Step, Steps, Set, Push, If, Done, Then, BodyForm}
 use Rattle.kern_rows.specs.Forms.{FilterForm, RunForm}
 use Rattle.kern_bags.specs.declared.kernel.Window.{Window}
 use Rattle.kern_bags.specs.declared.kernel.Window.TheVariants.{Now, Range, Unbounded, Latest as LatestRows}
@@ -47,7 +47,7 @@ nesting (fused a b at) = 1 + max (nesting a) (nesting b)
 nesting kernel = 1
 
 -- the statements, or the slots, of one body
-abbrev pub body_numbers : Limit → Body → List ℕ
+abbrev pub body_numbers : Limit → BodyForm → List ℕ
 body_numbers Inputs b = []
 body_numbers Operators b = []
 body_numbers Queues b = []

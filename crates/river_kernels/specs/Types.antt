@@ -17,9 +17,9 @@ use Rattle.river_kernels.specs.declared.types.Types.{Types}
 abbrev pub given : List QueueType → List VarKind → Types
 given os vs = record { outs = os; vars = vs }
 
-abbrev pub gives : Bool → List QueueType → List VarKind → Option Types
-gives true os vs = Some (given os vs)
-gives false os vs = None
+abbrev pub given_if : Bool → List QueueType → List VarKind → Option Types
+given_if true os vs = Some (given os vs)
+given_if false os vs = None
 
 -- what f gives for the value that is there
 abbrev pub bind : {A B : Type 0} → Option A → (A → Option B) → Option B
@@ -27,14 +27,14 @@ bind None f = None
 bind (Some x) f = f x
 
 -- the type of the only queue, where it carries no packs
-abbrev pub only : List QueueType → Option FlatType
-only [] = None
-only (Flat t ∷ []) = Some t
-only (Pack t ∷ []) = None
-only (t ∷ u ∷ us) = None
+abbrev pub only_type : List QueueType → Option FlatType
+only_type [] = None
+only_type (Flat t ∷ []) = Some t
+only_type (Pack t ∷ []) = None
+only_type (t ∷ u ∷ us) = None
 
-abbrev pub flat_in : List QueueType → (FlatType → Option Types) → Option Types
-flat_in is f = bind (only is) f
+abbrev pub on_only_type : List QueueType → (FlatType → Option Types) → Option Types
+on_only_type is f = bind (only_type is) f
 
 -- the width of rows, of a stream, of a relation
 abbrev pub rows_width : FlatType → Option ℕ
@@ -52,8 +52,8 @@ relation_width (Rows n) = None
 relation_width (Stream n) = None
 relation_width (Relation n) = Some n
 
-abbrev pub rows_in : FlatType → (ℕ → Option Types) → Option Types
-rows_in t f = bind (rows_width t) f
+abbrev pub on_rows_width : FlatType → (ℕ → Option Types) → Option Types
+on_rows_width t f = bind (rows_width t) f
 
 abbrev pub stream_in : FlatType → (ℕ → Option Types) → Option Types
 stream_in t f = bind (stream_width t) f
@@ -106,8 +106,8 @@ two_relations (t ∷ []) = None
 two_relations (t ∷ u ∷ []) = two_widths t u
 two_relations (t ∷ u ∷ v ∷ vs) = None
 
-abbrev pub crossed : ℕ × ℕ → Option Types
-crossed w = gives (is_width w.0 && (is_width w.1 && is_width (w.0 + w.1))) (relation (w.0 + w.1) ∷ []) (Private ∷ [])
+abbrev pub crossed_types : ℕ × ℕ → Option Types
+crossed_types w = given_if (is_width w.0 && (is_width w.1 && is_width (w.0 + w.1))) (relation (w.0 + w.1) ∷ []) (Private ∷ [])
 
 -- one pack of what the kernel inside gives at its only port
 abbrev pub packed_outs : List QueueType → List VarKind → Option Types
@@ -119,39 +119,39 @@ packed_of None = None
 packed_of (Some p) = packed_outs p.outs p.vars
 
 -- the second kernel behind a port of the first
-abbrev pub joined : ℕ → Types → Option Types → Option Types
-joined at p None = None
-joined at p (Some q) = Some (given (spliced at p.outs q.outs) (p.vars ++ q.vars))
+abbrev pub joined_types : ℕ → Types → Option Types → Option Types
+joined_types at p None = None
+joined_types at p (Some q) = Some (given (spliced at p.outs q.outs) (p.vars ++ q.vars))
 
 abbrev pub behind : ℕ → Types → Option QueueType → (List QueueType → Option Types) → Option Types
 behind at p None f = None
-behind at p (Some m) f = joined at p (f (m ∷ []))
+behind at p (Some m) f = joined_types at p (f (m ∷ []))
 
-abbrev pub fused_of : ℕ → Option Types → (List QueueType → Option Types) → Option Types
-fused_of at None f = None
-fused_of at (Some p) f = behind at p (slice_get p.outs at) f
+abbrev pub fused_types : ℕ → Option Types → (List QueueType → Option Types) → Option Types
+fused_types at None f = None
+fused_types at (Some p) f = behind at p (slice_get p.outs at) f
 
 abbrev pub types_of : Kern → List QueueType → Option Types
 types_of (code k) is =
-    flat_in is (λ t. rows_in t (λ n. gives (nat_eq n k.body.inputs && (is_width k.body.inputs && (are_widths k.outs && is_code k))) (ports k.outs) (kept k.starts)))
-types_of (filter f) is = flat_in is (λ t. rows_in t (λ n. gives (nat_eq n 1 && is_filter f) (rows 1 ∷ []) (Private ∷ [])))
-types_of (duplicate n) is = flat_in is (λ t. gives (is_sized t && nat_le 1 n) (replicate n (Flat t)) [])
-types_of (deal ws) is = flat_in is (λ t. gives (is_sized t && are_weights ws) (replicate (length ws) (Flat t)) (Private ∷ []))
-types_of (collect ws) is = flats_in (length ws) is (λ t. gives (is_sized t && are_weights ws) (Flat t ∷ []) (Private ∷ []))
-types_of (packed k) is = flat_in is (λ t. packed_of (types_of k (Flat t ∷ [])))
-types_of (unpack n) is = packs_in n is (λ t. gives (is_sized t && nat_le 1 n) (Flat t ∷ []) (Private ∷ []))
-types_of (window w) is = flat_in is (λ t. stream_in t (λ n. gives (is_width n && is_window w) (relation n ∷ []) (Private ∷ [])))
-types_of (select e) is = flat_in is (λ t. gives (is_sized t && (is_bag t && is_term (width_of t) 0 e)) (Flat t ∷ []) [])
+    on_only_type is (λ t. on_rows_width t (λ n. given_if (nat_eq n k.body.inputs && (is_width k.body.inputs && (are_widths k.outs && is_code k))) (ports k.outs) (kept k.starts)))
+types_of (filter f) is = on_only_type is (λ t. on_rows_width t (λ n. given_if (nat_eq n 1 && is_filter f) (rows 1 ∷ []) (Private ∷ [])))
+types_of (duplicate n) is = on_only_type is (λ t. given_if (is_sized t && nat_le 1 n) (replicate n (Flat t)) [])
+types_of (deal ws) is = on_only_type is (λ t. given_if (is_sized t && are_weights ws) (replicate (length ws) (Flat t)) (Private ∷ []))
+types_of (collect ws) is = flats_in (length ws) is (λ t. given_if (is_sized t && are_weights ws) (Flat t ∷ []) (Private ∷ []))
+types_of (packed k) is = on_only_type is (λ t. packed_of (types_of k (Flat t ∷ [])))
+types_of (unpack n) is = packs_in n is (λ t. given_if (is_sized t && nat_le 1 n) (Flat t ∷ []) (Private ∷ []))
+types_of (window w) is = on_only_type is (λ t. stream_in t (λ n. given_if (is_width n && is_window w) (relation n ∷ []) (Private ∷ [])))
+types_of (select e) is = on_only_type is (λ t. given_if (is_sized t && (is_bag t && is_term (width_of t) 0 e)) (Flat t ∷ []) [])
 types_of (project es) is =
-    flat_in is (λ t. relation_in t (λ n. gives (is_width n && (is_width (length es) && list_all (is_term n 0) es)) (relation (length es) ∷ []) []))
-types_of cross is = bind (two_relations is) crossed
-types_of (streamer s) is = flat_in is (λ t. relation_in t (λ n. gives (is_width n) (stream n ∷ []) (Private ∷ [])))
-types_of tally is = flat_in is (λ t. rows_in t (λ n. gives (is_width n) [] (Table n ∷ [])))
-types_of (fused a b at) is = fused_of at (types_of a is) (types_of b)
+    on_only_type is (λ t. relation_in t (λ n. given_if (is_width n && (is_width (length es) && list_all (is_term n 0) es)) (relation (length es) ∷ []) []))
+types_of cross is = bind (two_relations is) crossed_types
+types_of (streamer s) is = on_only_type is (λ t. relation_in t (λ n. given_if (is_width n) (stream n ∷ []) (Private ∷ [])))
+types_of tally is = on_only_type is (λ t. on_rows_width t (λ n. given_if (is_width n) [] (Table n ∷ [])))
+types_of (fused a b at) is = fused_types at (types_of a is) (types_of b)
 
 -- what the code may answer: the types, or None also where there are more output ports than `most`
-abbrev pub IsFound : ℕ → Option Types → Option Types → Type 0
-IsFound most (Some p) (Some r) = r ≡ p
-IsFound most (Some p) None = most < length p.outs
-IsFound most None (Some r) = ⊥
-IsFound most None None = Unit {0}
+abbrev pub MayAnswer : ℕ → Option Types → Option Types → Type 0
+MayAnswer most (Some p) (Some r) = r ≡ p
+MayAnswer most (Some p) None = most < length p.outs
+MayAnswer most None (Some r) = ⊥
+MayAnswer most None None = Unit {0}

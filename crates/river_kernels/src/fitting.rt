@@ -2,7 +2,7 @@
 ghost use Rattle.std.specs.Prelude.{◌≡◌, ◌<◌, length, slice_get, IfOk, IsTrue, ◌↔◌};
 ghost use Rattle.river_kernels.specs.Kern.{kern_of};
 ghost use Rattle.river_kernels.specs.Fits.{Fits};
-ghost use Rattle.river_kernels.specs.Types.{types_of, packed_of, joined, IsFound};
+ghost use Rattle.river_kernels.specs.Types.{types_of, packed_of, joined_types, MayAnswer};
 
 use crate::Kernel;
 use crate::inference::{
@@ -21,7 +21,7 @@ fn types(
     reads: &[QueueType],
     most: usize,
 ) -> Result<Option<Types>, NoMemory>
-    ensures { IfOk result (λ found. IsFound most (types_of (kern_of kernel.now) reads.now) found) }
+    ensures { IfOk result (λ found. MayAnswer most (types_of (kern_of kernel.now) reads.now) found) }
 {
     match kernel {
         Kernel::Code(k) => of_code(alloc, k, reads),
@@ -72,7 +72,7 @@ fn pack_of(alloc: Global, within: Option<Types>) -> Result<Option<Types>, NoMemo
 // The second kernel behind a port of the first, where it has types.
 fn both(alloc: Global, one: &Types, two: Option<Types>, at: u32) -> Result<Option<Types>, NoMemory>
     requires { at < length one.now.outs }
-    ensures { IfOk result (λ found. found ≡ joined at one.now two) }
+    ensures { IfOk result (λ found. found ≡ joined_types at one.now two) }
 {
     match two {
         None => Ok(None),

@@ -6,8 +6,8 @@ ghost use Rattle.kern_rows.specs.Forms.{code_form, filter_form};
 ghost use Rattle.river_kernels.specs.Formed.{is_width, is_term, is_code, is_filter, are_weights, is_window};
 ghost use Rattle.river_kernels.specs.Kern.{kern_of, code, filter, duplicate, deal, collect, packed, unpack, window, select, project, cross, streamer, tally, fused};
 ghost use Rattle.river_kernels.specs.Fits.{rows, stream, relation, width_of, is_sized, is_bag, ports, are_widths, kept, spliced};
-ghost use Rattle.river_kernels.specs.Types.{gives, only, rows_width, stream_width, relation_width, all_flat, all_packs};
-ghost use Rattle.river_kernels.specs.Types.{two_relations, types_of, packed_of, packed_outs, joined, IsFound, same_type};
+ghost use Rattle.river_kernels.specs.Types.{given_if, only_type, rows_width, stream_width, relation_width, all_flat, all_packs};
+ghost use Rattle.river_kernels.specs.Types.{two_relations, types_of, packed_of, packed_outs, joined_types, MayAnswer, same_type};
 ghost use Rattle.river_kernels.specs.declared.types.VarKind.TheVariants.{Private, Table};
 
 use crate::formed::{
@@ -23,7 +23,7 @@ use work_code::{Expr, Exprs};
 
 // The type of the only queue, where it carries no packs.
 pub(crate) fn only_flat(reads: &[QueueType]) -> Option<FlatType>
-    ensures { result ≡ only reads.now }
+    ensures { result ≡ only_type reads.now }
 {
     match reads {
         [QueueType::Flat(t)] => Some(*t),
@@ -119,7 +119,7 @@ fn one_port(
     out: QueueType,
     vars: Listed<VarKind>,
 ) -> Result<Option<Types>, NoMemory>
-    ensures { IfOk result (λ found. found ≡ gives formed (out ∷ []) vars) }
+    ensures { IfOk result (λ found. found ≡ given_if formed (out ∷ []) vars) }
 {
     if !formed {
         return Ok(None);
@@ -197,7 +197,7 @@ pub(crate) fn of_duplicate(
     reads: &[QueueType],
     most: usize,
 ) -> Result<Option<Types>, NoMemory>
-    ensures { IfOk result (λ found. IsFound most (types_of (duplicate n) reads.now) found) }
+    ensures { IfOk result (λ found. MayAnswer most (types_of (duplicate n) reads.now) found) }
 {
     let Some(t) = only_flat(reads) else {
         return Ok(None)

@@ -1,6 +1,6 @@
 // What is limited in kernels and plans.
 ghost use Rattle.std.specs.Prelude.{◌≡◌, [], ◌∷◌, ◌++◌};
-ghost use Rattle.work_code.specs.Steps.{step, steps, statements, body_of};
+ghost use Rattle.work_code.specs.Steps.{step, steps, statements, code_body};
 ghost use Rattle.kern_rows.specs.Forms.{filter_form, run_form, optional_run};
 ghost use Rattle.river_base.specs.Number.{count_of};
 ghost use Rattle.river_kernels.specs.Kern.{kern_of};
@@ -101,7 +101,7 @@ fn above(number: u128, most: u64) -> Option<u128>
 // The statements or slots of a body, where they are above the most.
 #[tactic(auto, using(crate::proofs::LimitLemmas::tellings))]
 fn body_above(code: &Code, limit: Limit, most: u64) -> Option<u128>
-    ensures { result ≡ first_above most (body_numbers limit (body_of code.now)) }
+    ensures { result ≡ first_above most (body_numbers limit (code_body code.now)) }
 {
     match limit {
         Limit::Statements => above(size(&code.body), most),
@@ -121,7 +121,7 @@ fn filter_above(filter: &Filter, limit: Limit, most: u64) -> Option<u128>
 
 #[tactic(auto, using(crate::proofs::LimitLemmas::joins))]
 fn usual_above(filter: &Filter, limit: Limit, most: u64) -> Option<u128>
-    ensures { result ≡ first_above most (body_numbers limit (body_of filter.now.code) ++ rate_numbers limit (filter_form filter.now)) }
+    ensures { result ≡ first_above most (body_numbers limit (code_body filter.now.code) ++ rate_numbers limit (filter_form filter.now)) }
 {
     let number = body_above(&filter.code, limit, most);
     either(number, rate_above(filter, limit, most))

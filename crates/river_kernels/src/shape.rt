@@ -1,7 +1,7 @@
 // How many ports and variables a kernel has.
 ghost use Rattle.std.specs.Prelude.{◌≡◌, ◌+◌, IfOk};
 ghost use Rattle.river_kernels.specs.Kern.{kern_of};
-ghost use Rattle.river_kernels.specs.Shape.{counts, kept_vars, fused_shape, shape};
+ghost use Rattle.river_kernels.specs.Shape.{shape_with, kept_vars, fused_shape, shape};
 
 use crate::Kernel;
 use river_base::NoMemory;
@@ -40,7 +40,7 @@ impl Kernel {
 }
 
 fn counts(ins: usize, outs: usize, tables: usize, privates: usize) -> Shape
-    ensures { result ≡ counts ins outs tables privates }
+    ensures { result ≡ shape_with ins outs tables privates }
 {
     Shape {
         ins,

@@ -37,7 +37,7 @@ use Rattle.river_road.specs.Inputs.{all_items}
 use Rattle.river_road.specs.Source.{SourceProgram, source_or_refused, IsPlanOf, IsCompiled}
 use Rattle.river_langs.specs.Sources.{river_source, streamit_source, params_source, saw_source, values, river_in, streamit_in, params_in, saw_in, IsStreamit, IsSawzall}
 use Rattle.std.proofs.lemmas.List.{take_all}
-use Rattle.saw_model.specs.Plan.{as_items as saw_items}
+use Rattle.saw_model.specs.Plan.{rows_as_items as saw_items}
 use Rattle.saw_model.specs.Meaning.{width}
 use Rattle.saw_front.specs.Meaning as saw
 use Rattle.saw_front.specs.Words.{saw_words}

@@ -2,7 +2,7 @@
 use Rattle.std.proofs.Common.{ℕ, List, refl, sym, subst, inl, inr}
 use Rattle.std.specs.Prelude.{Option, Some}
 use Rattle.river_outside.specs.Held.{Held}
-use Rattle.river_order.specs.Order.{Order, Ends, Fetch, Verdict, EndsIn, Reaches}
+use Rattle.river_order.specs.Order.{Order, Ends, Fetch, Verdict, EndsIn, ReachesFetch}
 use Rattle.river_order.specs.Order.{Comes}
 
 -- a point comes to itself
@@ -24,8 +24,8 @@ EndsIn-later (Fetch n l g k) later held v (inr far) end =
     (Some far.0, far.1, rw far.2 (EndsIn-later (k far.0) later held v far.3 end))
 
 -- what is reached later is reached
-pub Reaches-later : (from later : Order) (held : Option Held) (file : List ℕ) → Comes from held later → Reaches later held file → Reaches from held file
-Reaches-later (Ends w) later held file far turn = subst (λ (o : Order). Reaches o held file) (sym far) turn
-Reaches-later (Fetch n l g k) later held file (inl here) turn = subst (λ (o : Order). Reaches o held file) (sym here) turn
+pub Reaches-later : (from later : Order) (held : Option Held) (file : List ℕ) → Comes from held later → ReachesFetch later held file → ReachesFetch from held file
+Reaches-later (Ends w) later held file far turn = subst (λ (o : Order). ReachesFetch o held file) (sym far) turn
+Reaches-later (Fetch n l g k) later held file (inl here) turn = subst (λ (o : Order). ReachesFetch o held file) (sym here) turn
 Reaches-later (Fetch n l g k) later held file (inr far) turn =
     inr (far.0, far.1, far.2, Reaches-later (k far.0) later held file far.3 turn)

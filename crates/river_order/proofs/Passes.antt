@@ -4,7 +4,7 @@ use Rattle.std.specs.Prelude.{Option, Some, Result, Ok, Err}
 use Rattle.river_outside.specs.Held.{Held}
 use Rattle.river_order.specs.Order.{Order, Ends, Done, Comes}
 use Rattle.river_order.specs.Decides.{Decides, Stops}
-use Rattle.river_order.specs.Passes.{past, Refuses, Answers, StandsFor, Passes}
+use Rattle.river_order.specs.Passes.{past, RefusesPoint, Answers, StandsFor, Passes}
 use Rattle.river_order.specs.declared.stop.Stop.{Stop}
 use Rattle.river_order.specs.declared.stop.Stop.TheVariants as stop
 use Rattle.river_order.proofs.Comes.{Comes-same, Comes-on, EndsIn-later}
@@ -16,7 +16,7 @@ pub past-found : {A : Type 0} (found : Result A (List ℕ)) (x : A) (held : Opti
 past-found found x held is next = subst (λ o. Comes o held (next x)) (sym (ap (λ f. past f next) is)) (Comes-same (next x) held)
 
 -- a call that is refused stops its point
-pub past-refused : {A : Type 0} (found : Result A (List ℕ)) (s : Stop) (held : Option Held) (rose : Type 0) → Refuses found s → (next : A → Order)
+pub past-refused : {A : Type 0} (found : Result A (List ℕ)) (s : Stop) (held : Option Held) (rose : Type 0) → RefusesPoint found s → (next : A → Order)
     → Stops (Some (past found next)) held rose s
 past-refused found stop.Usage held rose told next = absurd told
 past-refused found (stop.Refused text) held rose told next = rw told refl

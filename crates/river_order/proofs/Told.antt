@@ -3,7 +3,7 @@ use Rattle.std.proofs.Common.{◌≡◌, ℕ, List, length, Bool, true, false, r
 use Rattle.std.specs.Prelude.{Option, None, Some, MatchOption}
 use Rattle.std.specs.Bool.{MatchBool}
 use Rattle.river_outside.specs.Held.{Held}
-use Rattle.river_order.specs.Order.{Order, Ends, Fetch, Verdict, Refused, Unread, EndsIn, Reaches, end_of, IsVerdict, IsTurn, verdict}
+use Rattle.river_order.specs.Order.{Order, Ends, Fetch, Verdict, Refused, Unread, EndsIn, ReachesFetch, end_of, IsVerdict, IsFetchTurn, verdict}
 
 -- a fetch and what comes after it
 fetched : (h : Held) (name : List ℕ) (limit : ℕ) (large : List ℕ) (next : List ℕ → Order) (v : Verdict) (given : Option (List ℕ)) → h name ≡ given
@@ -79,13 +79,13 @@ same_fetch h k name limit large next (Some bytes) is also later = rw (is, also, 
     within true later = refl
     within false later = later refl
 
-end-same : (order : Order) (h k : Held) → ((file : List ℕ) → Reaches order (Some h) file → h file ≡ k file) → end_of order h ≡ end_of order k
+end-same : (order : Order) (h k : Held) → ((file : List ℕ) → ReachesFetch order (Some h) file → h file ≡ k file) → end_of order h ≡ end_of order k
 end-same (Ends v) h k same = refl
 end-same (Fetch name limit large next) h k same =
     same_fetch h k name limit large next (h name) refl (sym (same name (inl refl))) (λ bytes is le. end-same (next bytes) h k (λ file turn. same file (inr (bytes, is, le, turn))))
 
 -- only files whose turn comes matter
-pub verdict-same : (points : Option Order) (h k : Held) → ((file : List ℕ) → IsTurn points (Some h) file → h file ≡ k file)
+pub verdict-same : (points : Option Order) (h k : Held) → ((file : List ℕ) → IsFetchTurn points (Some h) file → h file ≡ k file)
     → verdict points h ≡ verdict points k
 verdict-same None h k same = refl
 verdict-same (Some order) h k same = end-same order h k same

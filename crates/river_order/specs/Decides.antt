@@ -2,7 +2,7 @@
 use Rattle.std.specs.Prelude.{◌≡◌, ⊤, ℕ, List, Option, None, MatchOption, Result, Ok, Err}
 use Rattle.river_outside.specs.Held.{Held}
 use Rattle.river_order.specs.Text.{failed_text, absent_text}
-use Rattle.river_order.specs.Order.{Order, IsVerdict, IsTurn, Refused, Unread, Done}
+use Rattle.river_order.specs.Order.{Order, IsVerdict, IsFetchTurn, Refused, Unread, Done}
 use Rattle.river_order.specs.declared.stop.Stop.{Stop}
 use Rattle.river_order.specs.declared.stop.Stop.TheVariants as stop
 
@@ -10,14 +10,14 @@ use Rattle.river_order.specs.declared.stop.Stop.TheVariants as stop
 pub record FailedAt (points : Option Order) (held : Option Held) (rose : Type 0) (text : List ℕ) : Type 0 where
   pub file : List ℕ
   pub says : text ≡ failed_text file
-  pub turn : IsTurn points held file
+  pub turn : IsFetchTurn points held file
   pub counted : rose
 
 -- a file whose turn came is not held, or the shelf does not tell and its count rose
 pub record AbsentAt (points : Option Order) (held : Option Held) (rose : Type 0) (text : List ℕ) : Type 0 where
   pub file : List ℕ
   pub says : text ≡ absent_text file
-  pub turn : IsTurn points held file
+  pub turn : IsFetchTurn points held file
   pub end : IsVerdict points held (Unread file)
   pub cause : MatchOption held rose (λ _. ⊤)
 

@@ -1,7 +1,7 @@
 -- What is said of all points in order.
 use Rattle.std.specs.Prelude.{◌≡◌, ℕ, List, Option, None, Some}
 use Rattle.river_outside.specs.Held.{Held}
-use Rattle.river_order.specs.Order.{Order, Verdict, IsVerdict, IsTurn, verdict}
+use Rattle.river_order.specs.Order.{Order, Verdict, IsVerdict, IsFetchTurn, verdict}
 
 -- over files that are told there is one verdict
 abbrev pub OneVerdict : Type 0
@@ -17,4 +17,4 @@ VerdictUntold = (points : Option Order) (h : Held) (v : Verdict) → IsVerdict p
 
 -- no file matters but those whose turn comes
 abbrev pub OnlyTurnsMatter : Type 0
-OnlyTurnsMatter = (points : Option Order) (h k : Held) → ((file : List ℕ) → IsTurn points (Some h) file → h file ≡ k file) → verdict points h ≡ verdict points k
+OnlyTurnsMatter = (points : Option Order) (h k : Held) → ((file : List ℕ) → IsFetchTurn points (Some h) file → h file ≡ k file) → verdict points h ≡ verdict points k

@@ -32,10 +32,10 @@ EndsIn (Fetch name limit large next) held end =
     × MatchOption given (end ≡ Unread name) (λ bytes. MatchBool (nat_lt limit (length bytes)) (end ≡ Refused large) (EndsIn (next bytes) held end))
 
 -- the turn of a file's fetch comes
-abbrev pub Reaches : Order → Option Held → List ℕ → Type 0
-Reaches (Ends v) held file = ⊥
-Reaches (Fetch name limit large next) held file =
-    (name ≡ file) ⊎ ((bytes : List ℕ) × IfSome held (λ h. h name ≡ Some bytes) × (nat_lt limit (length bytes) ≡ false) × Reaches (next bytes) held file)
+abbrev pub ReachesFetch : Order → Option Held → List ℕ → Type 0
+ReachesFetch (Ends v) held file = ⊥
+ReachesFetch (Fetch name limit large next) held file =
+    (name ≡ file) ⊎ ((bytes : List ℕ) × IfSome held (λ h. h name ≡ Some bytes) × (nat_lt limit (length bytes) ≡ false) × ReachesFetch (next bytes) held file)
 
 -- the points come to these later ones; where the files are not told, each fetch may give anything
 abbrev pub Comes : Order → Option Held → Order → Type 0
@@ -55,6 +55,6 @@ IsVerdict None held v = v ≡ Usage
 IsVerdict (Some order) held v = EndsIn order held v
 
 -- the turn of a file comes
-abbrev pub IsTurn : Option Order → Option Held → List ℕ → Type 0
-IsTurn None held file = ⊥
-IsTurn (Some order) held file = Reaches order held file
+abbrev pub IsFetchTurn : Option Order → Option Held → List ℕ → Type 0
+IsFetchTurn None held file = ⊥
+IsFetchTurn (Some order) held file = ReachesFetch order held file

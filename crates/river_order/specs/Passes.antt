@@ -12,17 +12,17 @@ past (Ok x) next = next x
 past (Err text) next = Ends (Refused text)
 
 -- why the call at such a point has no value: it is refused, with the text; want of memory is free
-abbrev pub Refuses : {A : Type 0} → Result A (List ℕ) → Stop → Type 0
-Refuses found stop.Usage = ⊥
-Refuses found (stop.Refused text) = found ≡ Err text
-Refuses found (stop.Failed text) = ⊥
-Refuses found (stop.Absent text) = ⊥
-Refuses found stop.NoMemory = Unit {0}
+abbrev pub RefusesPoint : {A : Type 0} → Result A (List ℕ) → Stop → Type 0
+RefusesPoint found stop.Usage = ⊥
+RefusesPoint found (stop.Refused text) = found ≡ Err text
+RefusesPoint found (stop.Failed text) = ⊥
+RefusesPoint found (stop.Absent text) = ⊥
+RefusesPoint found stop.NoMemory = Unit {0}
 
 -- the call at such a point gives what was found, or is refused
 abbrev pub Answers : {A : Type 0} → Result A (List ℕ) → Result A Stop → Type 0
 Answers found (Ok x) = found ≡ Ok x
-Answers found (Err stop) = Refuses found stop
+Answers found (Err stop) = RefusesPoint found stop
 
 -- the same, where what the call gives stands for what was found
 abbrev pub StandsFor : {A B : Type 0} → (A → B → Type 0) → Result A (List ℕ) → B → Type 0
@@ -31,7 +31,7 @@ StandsFor stands (Err text) y = ⊥
 
 abbrev pub AnswersAs : {A B : Type 0} → (A → B → Type 0) → Result A (List ℕ) → Result B Stop → Type 0
 AnswersAs stands found (Ok y) = StandsFor stands found y
-AnswersAs stands found (Err stop) = Refuses found stop
+AnswersAs stands found (Err stop) = RefusesPoint found stop
 
 -- the call at any point: it gives a value, and the points come to what is after this one, given the value; or they stop
 -- here. Both hold whatever comes after it

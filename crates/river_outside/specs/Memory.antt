@@ -18,7 +18,7 @@ abbrev pub call_fails : List ℤ → ℕ → Bool
 call_fails fails call = nat_lt call (2 ^ 63) && list_any (λ f. int_eq f (pos call)) fails
 
 -- a shelf in memory: names and contents, how many bytes a read gives at most, which calls fail, and how many calls and faults there were
-pub record Kept : Type 0 where
+pub record MemoryShelf : Type 0 where
   pub files : List (List ℕ × List ℕ)
   pub piece : ℕ
   pub fails : List ℤ
@@ -26,7 +26,7 @@ pub record Kept : Type 0 where
   pub faults : ℕ
 
 -- what the next read answers: how many bytes it gives from a place on where there is room for so many
-abbrev pub read_answer : Kept → List ℕ → ℕ → ℕ → Result ℕ ReadFault
+abbrev pub read_answer : MemoryShelf → List ℕ → ℕ → ℕ → Result ℕ ReadFault
 read_answer shelf name at room =
     if call_fails shelf.fails shelf.calls then Err read.Failed
     else (elim (lookup shelf.files name) [
@@ -35,7 +35,7 @@ read_answer shelf name at room =
     ])
 
 -- the shelf after that call: only the numbers moved
-abbrev pub after_read : Kept → Kept
+abbrev pub after_read : MemoryShelf → MemoryShelf
 after_read shelf = record shelf {
   calls = next_number shelf.calls;
   faults = if call_fails shelf.fails shelf.calls then shelf.faults + 1 else shelf.faults;
@@ -47,7 +47,7 @@ distinct_names [] = true
 distinct_names (file ∷ files) = not (list_any (λ other. bytes_eq file.0 other.0) files) && distinct_names files
 
 -- a sink in memory: what it took, how many bytes a write takes at most and all of them, which calls fail, and how many calls and faults there were
-pub record Taking : Type 0 where
+pub record MemorySink : Type 0 where
   pub taken : List ℕ
   pub piece : ℕ
   pub room : ℕ
@@ -56,19 +56,19 @@ pub record Taking : Type 0 where
   pub faults : ℕ
 
 -- whether the next write, of so many bytes, fails: its number is asked to, or there are bytes and no room
-abbrev pub write_fails : Taking → ℕ → Bool
+abbrev pub write_fails : MemorySink → ℕ → Bool
 write_fails sink n = call_fails sink.fails sink.calls || (nat_lt 0 n && nat_eq (length sink.taken) sink.room)
 
 -- how many of so many bytes it takes where it does not fail
-abbrev pub write_count : Taking → ℕ → ℕ
+abbrev pub write_count : MemorySink → ℕ → ℕ
 write_count sink n = min (min sink.piece n) (sink.room - length sink.taken)
 
 -- what the next write of these bytes answers
-abbrev pub write_answer : Taking → List ℕ → Result ℕ Failed
+abbrev pub write_answer : MemorySink → List ℕ → Result ℕ Failed
 write_answer sink bytes = if write_fails sink (length bytes) then Err (record {}) else Ok (write_count sink (length bytes))
 
 -- the sink after that call
-abbrev pub after_write : Taking → List ℕ → Taking
+abbrev pub after_write : MemorySink → List ℕ → MemorySink
 after_write sink bytes = record sink {
   taken = if write_fails sink (length bytes) then sink.taken else sink.taken ++ take (write_count sink (length bytes)) bytes;
   calls = next_number sink.calls;

@@ -1,7 +1,7 @@
 // Fetches the whole of a name.
 ghost use Rattle.std.specs.Prelude.{◌≡◌, ◌<◌, ◌≤◌, ◌+◌, length, None, IfSome, IfOk, OnOk, MatchOption, IsErrOf};
 ghost use Rattle.std.specs.Bool.{OnTrue, OnFalse};
-ghost use Rattle.river_outside.specs.Held.{IsStart, EndsBy};
+ghost use Rattle.river_outside.specs.Held.{IsStartOfHeld, EndsBy};
 ghost use Rattle.river_outside.specs.Causes.{Rose};
 ghost use Rattle.river_outside.specs.Fetched.{FetchesAll, IsLarger, FetchesExactly};
 
@@ -70,7 +70,7 @@ fn take_piece<S: Shelf>(
     ensures end { IfOk result (λ more. OnFalse more ((got.new ≡ got.old)
         × IfSome (S.held shelf.old) (λ h. EndsBy (h name.now) (length got.old)))) }
     ensures most { OnOk result (length got.new ≤ limit + 1) }
-    ensures start { OnOk result (IfSome (S.held shelf.old) (λ h. IsStart (h name.now) got.old → IsStart (h name.now) got.new)) }
+    ensures start { OnOk result (IfSome (S.held shelf.old) (λ h. IsStartOfHeld (h name.now) got.old → IsStartOfHeld (h name.now) got.new)) }
 
     ensures failed { IsErrOf result FetchFault.Failed → Rose S.stays_at_last (S.faults shelf.old) (S.faults shelf.new) }
     ensures not_large { IsErrOf result FetchFault.Large → ⊥ }

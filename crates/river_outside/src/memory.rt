@@ -2,7 +2,7 @@
 ghost use Rattle.std.specs.Prelude.{◌≡◌, ◌≤◌, ◌<◌, ◌+◌, ◌-◌, ◌++◌, min, List, [], ℕ, Bool, true, false, length, take, drop, Option, Some, None, IfSome, IfOk, OnErr, MatchOption, IsErrOf, IsTrue};
 ghost use Rattle.std.specs.Io.KnownBytes.{append_known};
 ghost use Rattle.river_outside.specs.Causes.{Rose};
-ghost use Rattle.river_outside.specs.Held.{ReadsAt, EndsBy};
+ghost use Rattle.river_outside.specs.Held.{ReadsHeld, EndsBy};
 ghost use Rattle.river_outside.specs.Files.{lookup};
 ghost use Rattle.river_outside.specs.Memory as memory;
 
@@ -30,7 +30,7 @@ impl Model for MemShelf {
     ghost use Rattle.std.specs.Prelude.{◌≤◌};
     ghost use Rattle.river_outside.specs.Memory as memory;
 
-    ghost Value = { memory.Kept };
+    ghost Value = { memory.MemoryShelf };
 
     ghost view = { λ s. record { files = s.files; piece = s.piece; fails = s.fails; calls = s.calls; faults = s.faults } };
 
@@ -68,7 +68,7 @@ impl Shelf for MemShelf {
         ensures later { self.old.faults ≤ self.new.faults }
 
         ensures bound { IfOk result (λ n. n ≤ length into.new) }
-        ensures bytes { IfOk result (λ n. ReadsAt (lookup self.old.files name.now) at n into.new) }
+        ensures bytes { IfOk result (λ n. ReadsHeld (lookup self.old.files name.now) at n into.new) }
         ensures end { IfOk result (λ n. n ≡ 0 → 0 < length into.new → EndsBy (lookup self.old.files name.now) at) }
 
         ensures failed { IsErrOf result ReadFault.Failed → Rose false self.old.faults self.new.faults }
@@ -141,7 +141,7 @@ impl Model for MemSink {
     ghost use Rattle.std.specs.Prelude.{◌≤◌, length, vec_capacity};
     ghost use Rattle.river_outside.specs.Memory as memory;
 
-    ghost Value = { memory.Taking };
+    ghost Value = { memory.MemorySink };
 
     ghost view = { λ s. record { taken = s.taken.items; piece = s.piece; room = s.room; fails = s.fails; calls = s.calls; faults = s.faults } };
 

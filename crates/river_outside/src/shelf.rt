@@ -1,7 +1,7 @@
 // A shelf of named files.
 ghost use Rattle.std.specs.Prelude.{◌≡◌, ◌≢◌, ◌≤◌, ◌<◌, ◌⊎◌, List, ℕ, Bool, length, Option, IfSome, IfOk, MatchOption, IsErrOf, None};
 ghost use Rattle.river_outside.specs.Causes.{Rose};
-ghost use Rattle.river_outside.specs.Held.{Held, ReadsAt, EndsBy};
+ghost use Rattle.river_outside.specs.Held.{Held, ReadsHeld, EndsBy};
 
 /// Why a read gave nothing.
 #[derive(Clone, Copy, Debug, PartialEq, Eq)]
@@ -33,7 +33,7 @@ pub trait Shelf {
         ensures later { faults self.old ≤ faults self.new }
 
         ensures bound { IfOk result (λ n. n ≤ length into.new) }
-        ensures bytes { IfOk result (λ n. IfSome (held self.old) (λ h. ReadsAt (h name.now) at n into.new)) }
+        ensures bytes { IfOk result (λ n. IfSome (held self.old) (λ h. ReadsHeld (h name.now) at n into.new)) }
         ensures end { IfOk result (λ n. n ≡ 0 → 0 < length into.new
             → IfSome (held self.old) (λ h. EndsBy (h name.now) at)) }
 

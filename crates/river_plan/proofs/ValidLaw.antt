@@ -11,7 +11,7 @@ use Rattle.river_plan.specs.Uses.{Each, total, writes_it, reads_it, vars_it, nam
 use Rattle.river_plan.specs.First.{Unless, Along, IsFirst}
 use Rattle.river_plan.specs.Kinds.{IsFit}
 use Rattle.river_plan.specs.Limits.{most_of, numbers, OverLimit}
-use Rattle.river_plan.specs.Faults.{IsNew, IsWritten, IsOuter, HasWidth, IsTable, IsApart, UndeclaredAt, ReadTooEarlyAt}
+use Rattle.river_plan.specs.Faults.{IsNew, IsWritten, IsOuter, HasWidth, IsTableKind, IsApart, UndeclaredAt, ReadTooEarlyAt}
 use Rattle.river_plan.specs.Valid.{IsPlan, FirstFault}
 use Rattle.river_plan.proofs.NameLemmas.{cases_name, count-append, one_same, nat_zero, more_or_zero}
 
@@ -184,7 +184,7 @@ no_fault-valid p h =
       outputs_typed = along-all IsOuter [] p.outputs p6.0;
       inputs_typed = along-all IsOuter [] p.inputs p6.1.0;
       queues_typed = along-all HasWidth [] p.queues p6.1.1.0;
-      tables_typed = along-all (λ t. IsTable t.kind) [] p.tables p6.1.1.1;
+      tables_typed = along-all (λ t. IsTableKind t.kind) [] p.tables p6.1.1.1;
       fits = along-each (IsFit p) [] p.ops p7;
       within = λ limit. along-all (λ n. n ≤ most_of limit) [] (numbers limit p) (limit_part p limit p8);
       vars_apart = each-every p.ops (λ v. ⊎_elim
@@ -233,7 +233,7 @@ valid-no_fault p v = (
         (
           reads-order (decl_names p.inputs) (λ q. count q (decl_names p.inputs)) [] p.ops (λ q. omega arith) v.in_order,
           (
-            (all-along IsOuter [] p.outputs v.outputs_typed, (all-along IsOuter [] p.inputs v.inputs_typed, (all-along HasWidth [] p.queues v.queues_typed, all-along (λ t. IsTable t.kind) [] p.tables v.tables_typed))),
+            (all-along IsOuter [] p.outputs v.outputs_typed, (all-along IsOuter [] p.inputs v.inputs_typed, (all-along HasWidth [] p.queues v.queues_typed, all-along (λ t. IsTableKind t.kind) [] p.tables v.tables_typed))),
             (
               each-along (IsFit p) [] p.ops v.fits,
               (

@@ -18,7 +18,7 @@ use Rattle.river_plan.specs.declared.wiring.Wiring.{Wiring}
 use Rattle.river_plan.specs.Forms.{Name, OpForm, PlanForm, op_form, op_forms, all_decls, decl_names, table_names, queue_names, variable_names}
 use Rattle.river_plan.specs.Kinds.{kind_in, kind_of, table_in, private_in, var_in, var_kind, table_width, IsFit}
 use Rattle.river_plan.specs.Places.{place, places}
-use Rattle.river_plan.specs.ByPlace.{decl_kinds, table_kinds, private_kinds, queue_kinds, var_kinds, kind_at, var_at, FitsPlaces}
+use Rattle.river_plan.specs.ByPlace.{decl_kinds, table_kinds, private_kinds, queue_kinds, var_kinds, kind_at, var_kind_at, FitsPlaces}
 use Rattle.river_plan.specs.Wired.{IsWired}
 
 -- one declaration more before those that are looked through
@@ -84,10 +84,10 @@ module _ (p : PlanForm) (w : Wiring) (queues : List QueueType) (kinds : List Var
       ap (λ (ks : List QueueType). map (kind_at ks) l) qs ∙ ap (map (kind_at (queue_kinds p))) e
       ∙ mapped_places (queue_names p) (kind_at (queue_kinds p)) (kind_of (all_decls p)) (kind_place p) ws
 
-  variables : (ws : List Name) (l : List ℕ) → l ≡ places (variable_names p) ws → map (var_at kinds) l ≡ map (var_kind p.tables p.vars) ws
+  variables : (ws : List Name) (l : List ℕ) → l ≡ places (variable_names p) ws → map (var_kind_at kinds) l ≡ map (var_kind p.tables p.vars) ws
   variables ws l e =
-      ap (λ (ks : List VarKind). map (var_at ks) l) vs ∙ ap (map (var_at (var_kinds p))) e
-      ∙ mapped_places (variable_names p) (var_at (var_kinds p)) (var_kind p.tables p.vars) (var_place p.tables p.vars) ws
+      ap (λ (ks : List VarKind). map (var_kind_at ks) l) vs ∙ ap (map (var_kind_at (var_kinds p))) e
+      ∙ mapped_places (variable_names p) (var_kind_at (var_kinds p)) (var_kind p.tables p.vars) (var_place p.tables p.vars) ws
 
   same : (k : Kern) (is is' os os' : List QueueType) (us us' : List VarKind) → is ≡ is' → os ≡ os' → us ≡ us' → Fits k is os us → Fits k is' os' us'
   same k is is' os os' us us' a b c h = subst (λ l. Fits k is' os' l) c (subst (λ l. Fits k is' l us) b (subst (λ l. Fits k l os us) a h))
@@ -99,7 +99,7 @@ module _ (p : PlanForm) (w : Wiring) (queues : List QueueType) (kinds : List Var
     writes : map (kind_at queues) (list_at w.writes.by_op i) ≡ map (kind_of (all_decls p)) op.writes
     writes = types op.writes (list_at w.writes.by_op i) (at_places ops are lt e (λ o. places (queue_names p) o.writes) w.writes.by_op wired.writes.by_op)
 
-    vars : map (var_at kinds) (list_at w.vars.by_op i) ≡ map (var_kind p.tables p.vars) op.vars
+    vars : map (var_kind_at kinds) (list_at w.vars.by_op i) ≡ map (var_kind p.tables p.vars) op.vars
     vars = variables op.vars (list_at w.vars.by_op i) (at_places ops are lt e (λ o. places (variable_names p) o.vars) w.vars.by_op wired.vars.by_op)
 
     -- a kernel that fits by places fits by names

@@ -30,9 +30,9 @@ var_kinds p = table_kinds p.tables ++ private_kinds p.vars
 abbrev pub kind_at : List QueueType → ℕ → QueueType
 kind_at kinds i = slice_index_or kinds i (rows 0)
 
-abbrev pub var_at : List VarKind → ℕ → VarKind
-var_at kinds i = slice_index_or kinds i (Table 0)
+abbrev pub var_kind_at : List VarKind → ℕ → VarKind
+var_kind_at kinds i = slice_index_or kinds i (Table 0)
 
 -- the kernel fits the types at these places
 abbrev pub FitsPlaces : List QueueType → List VarKind → Kern → (reads writes vars : List ℕ) → Type 0
-FitsPlaces queues kinds k reads writes vars = Fits k (map (kind_at queues) reads) (map (kind_at queues) writes) (map (var_at kinds) vars)
+FitsPlaces queues kinds k reads writes vars = Fits k (map (kind_at queues) reads) (map (kind_at queues) writes) (map (var_kind_at kinds) vars)

@@ -24,7 +24,7 @@ use Rattle.river_plan.specs.Forms.{Name, OpForm, PlanForm, all_decls}
 use Rattle.river_plan.specs.Names.{count, IsUsedOnce}
 use Rattle.river_plan.specs.Uses.{Each, total, vars_it}
 use Rattle.river_plan.specs.Kinds.{kind_of, var_kind, IsFit}
-use Rattle.river_plan.specs.Faults.{IsOuter, HasWidth, IsRowsOrStream, IsTable, IsApart, type_width}
+use Rattle.river_plan.specs.Faults.{IsOuter, HasWidth, IsRowsOrStream, IsTableKind, IsApart, type_width}
 
 -- the fact holds, or it does not
 abbrev pub Decided : Type 0 → Type 0
@@ -73,7 +73,7 @@ rows_or_stream_decided (Pack t) = inr (λ h. h)
 pub outer_decided : (d : Decl) → Decided (IsOuter d)
 outer_decided d = both_decided (width_decided d) (rows_or_stream_decided d.kind)
 
-pub table_decided : (t : TableKind) → Decided (IsTable t)
+pub table_decided : (t : TableKind) → Decided (IsTableKind t)
 table_decided (Sum keys) = most_decided keys 8
 table_decided (Collection keys) = most_decided keys 8
 table_decided (Maximum best keys) = both_decided (most_decided keys 8) (most_decided 1 best)

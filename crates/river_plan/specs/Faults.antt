@@ -77,16 +77,16 @@ IsRowsOrStream (Pack t) = ⊥
 abbrev pub IsOuter : Decl → Type 0
 IsOuter d = HasWidth d × IsRowsOrStream d.kind
 
-abbrev pub IsTable : TableKind → Type 0
-IsTable (Sum keys) = keys ≤ 8
-IsTable (Collection keys) = keys ≤ 8
-IsTable (Maximum best keys) = (keys ≤ 8) × (1 ≤ best)
+abbrev pub IsTableKind : TableKind → Type 0
+IsTableKind (Sum keys) = keys ≤ 8
+IsTableKind (Collection keys) = keys ≤ 8
+IsTableKind (Maximum best keys) = (keys ≤ 8) × (1 ≤ best)
 
 abbrev pub MistypedQueue : (Decl → Type 0) → List Decl → Option Named → Type 0
 MistypedQueue good ds = As (λ d. Queue d.name) (IsFirst (λ before d. good d) ds)
 
 abbrev pub MistypedTable : List TableDecl → Option Named → Type 0
-MistypedTable ts = As (λ t. Variable t.name) (IsFirst (λ before t. IsTable t.kind) ts)
+MistypedTable ts = As (λ t. Variable t.name) (IsFirst (λ before t. IsTableKind t.kind) ts)
 
 abbrev pub Mistyped : PlanForm → Option Named → Type 0
 Mistyped p =

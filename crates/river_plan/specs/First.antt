@@ -12,9 +12,9 @@ As f s None = s None
 As f s (Some b) = (a : _) × (f a ≡ b) × s (Some a)
 
 -- nothing is found
-abbrev pub Nothing : {B : Type 0} → Option B → Type 0
-Nothing None = Unit {0}
-Nothing (Some b) = ⊥
+abbrev pub FindsNothing : {B : Type 0} → Option B → Type 0
+FindsNothing None = Unit {0}
+FindsNothing (Some b) = ⊥
 
 -- y is found, unless this holds
 abbrev pub Unless : {A : Type 0} → Type 0 → A → Option A → Type 0
@@ -23,7 +23,7 @@ Unless good y (Some x) = (good → ⊥) × (y ≡ x)
 
 -- what is found in the first element of a list in which something is found, given those before it
 abbrev pub Along : {A B : Type 0} → (List A → A → Option B → Type 0) → (before : List A) → List A → Option B → Type 0
-Along s before [] = Nothing
+Along s before [] = FindsNothing
 Along s before (y ∷ ys) = OrElse (s before y) (Along s (before ++ y ∷ []) ys)
 
 -- the first element for which this does not hold, given those before it

@@ -14,7 +14,7 @@ use Rattle.river_plan.specs.Uses.{total, writes_it, reads_it}
 use Rattle.river_plan.specs.Kinds.{IsFit}
 use Rattle.river_plan.specs.First.{OrElse, As, Unless, Along, IsFirst}
 use Rattle.river_plan.specs.Limits.{OverLimit, OverLimitAt, most_of, numbers, limits}
-use Rattle.river_plan.specs.Faults.{IsNew, IsIn, IsWritten, IsOuter, HasWidth, IsTable, IsApart, UndeclaredAt, ReadTooEarlyAt, MistypedQueue, Repeated}
+use Rattle.river_plan.specs.Faults.{IsNew, IsIn, IsWritten, IsOuter, HasWidth, IsTableKind, IsApart, UndeclaredAt, ReadTooEarlyAt, MistypedQueue, Repeated}
 use Rattle.river_plan.specs.Faults.{Undeclared, ReadTooEarly, Mistyped, Misfit, Shared}
 use Rattle.river_plan.specs.Valid.{FirstFault}
 use Rattle.river_plan.specs.Decided.{Decided, less_decided, most_decided, equal_decided, once_decided, width_decided, outer_decided, table_decided, fit_decided}
@@ -87,7 +87,7 @@ mistyped_found p =
     or_else_found _ _ (queue_found IsOuter outer_decided p.outputs)
     (or_else_found _ _ (queue_found IsOuter outer_decided p.inputs)
     (or_else_found _ _ (queue_found HasWidth width_decided p.queues)
-    (first_found (λ t. Variable t.name) (λ before t. IsTable t.kind) (λ b t. table_decided t.kind) p.tables)))
+    (first_found (λ t. Variable t.name) (λ before t. IsTableKind t.kind) (λ b t. table_decided t.kind) p.tables)))
 
 misfit_found : (p : PlanForm) → Found (Misfit p)
 misfit_found p = first_found (λ op. Label op.label) (λ before op. IsFit p op) (λ b op. fit_decided p op) p.ops

@@ -9,7 +9,7 @@ use Rattle.river_plan.specs.Uses.{Each, total, writes_it, reads_it, vars_it, nam
 use Rattle.river_plan.specs.Kinds.{IsFit}
 use Rattle.river_plan.specs.Limits.{most_of, numbers, OverLimit}
 use Rattle.river_plan.specs.First.{OrElse, As}
-use Rattle.river_plan.specs.Faults.{IsOuter, HasWidth, IsTable, Repeated, Undeclared, WrittenTwice, ReadTwice, ReadTooEarly, Mistyped, Misfit, Shared}
+use Rattle.river_plan.specs.Faults.{IsOuter, HasWidth, IsTableKind, Repeated, Undeclared, WrittenTwice, ReadTwice, ReadTooEarly, Mistyped, Misfit, Shared}
 
 pub record IsPlan (p : PlanForm) : Type 0 where
   -- P1: no two queues, no two variables and no two operators have one name
@@ -30,7 +30,7 @@ pub record IsPlan (p : PlanForm) : Type 0 where
   pub outputs_typed : All IsOuter p.outputs
   pub inputs_typed : All IsOuter p.inputs
   pub queues_typed : All HasWidth p.queues
-  pub tables_typed : All (λ t. IsTable t.kind) p.tables
+  pub tables_typed : All (λ t. IsTableKind t.kind) p.tables
   -- P7: each kernel is well formed, and fits its queues and variables
   pub fits : Each (IsFit p) p.ops
   -- P8: no number is above its limit

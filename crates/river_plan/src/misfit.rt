@@ -4,7 +4,7 @@ ghost use Rattle.river_base.specs.Places.{list_at};
 ghost use Rattle.river_kernels.specs.Kern.{kern_of};
 ghost use Rattle.river_plan.specs.Forms.{plan_form};
 ghost use Rattle.river_plan.specs.Faults.{Misfit};
-ghost use Rattle.river_plan.specs.ByPlace.{kind_at, var_at, queue_kinds, var_kinds, FitsPlaces};
+ghost use Rattle.river_plan.specs.ByPlace.{kind_at, var_kind_at, queue_kinds, var_kinds, FitsPlaces};
 ghost use Rattle.river_plan.specs.Wired.{IsWired};
 
 use crate::kinds::{queue_kinds, var_kinds};
@@ -97,7 +97,7 @@ fn kinds_at(
 // The kinds at these places.
 #[tactic(auto, using(work_code::proofs::Lists::copies))]
 fn vars_at(alloc: Global, places: &Places, vars: &[VarKind]) -> Result<Listed<VarKind>, NoMemory>
-    ensures { IfOk result (λ kinds. kinds ≡ mapped (var_at vars.now) places.now) }
+    ensures { IfOk result (λ kinds. kinds ≡ mapped (var_kind_at vars.now) places.now) }
 {
     let mut kinds = Listed::new(alloc);
     for place in places.as_slice() {
@@ -118,7 +118,7 @@ fn kind_at(place: usize, queues: &[QueueType]) -> QueueType
 
 // The kind at a place; a table without width beyond the last.
 fn var_at(place: usize, vars: &[VarKind]) -> VarKind
-    ensures { result ≡ var_at vars.now place }
+    ensures { result ≡ var_kind_at vars.now place }
 {
     vars.get(place).copied().unwrap_or(VarKind::Table(0))
 }

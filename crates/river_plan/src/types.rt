@@ -2,7 +2,7 @@
 ghost use Rattle.std.specs.Prelude.{IsTrue, ◌↔◌, ◌≡◌};
 ghost use Rattle.river_kernels.specs.Fits as fits;
 ghost use Rattle.river_plan.specs.Forms.{plan_form};
-ghost use Rattle.river_plan.specs.Faults.{Mistyped, MistypedQueue, MistypedTable, IsOuter, HasWidth, IsTable, IsRowsOrStream, type_width};
+ghost use Rattle.river_plan.specs.Faults.{Mistyped, MistypedQueue, MistypedTable, IsOuter, HasWidth, IsTableKind, IsRowsOrStream, type_width};
 
 use crate::{Decl, Decls, Named, RawPlan, TableDecls};
 use kern_tables::TableKind;
@@ -111,7 +111,7 @@ fn is_rows_or_stream(kind: QueueType) -> bool
 
 // Whether a table has at most 8 keys and keeps a row.
 fn is_table(kind: TableKind) -> bool
-    ensures { IsTrue result ↔ IsTable kind }
+    ensures { IsTrue result ↔ IsTableKind kind }
 {
     match kind {
         TableKind::Sum { keys } => keys <= 8,

@@ -364,7 +364,7 @@ three-formed a b c x y z = record {
 abbrev parts_of : RunForm → g.FirstParts
 parts_of r = ((r.peek, (r.pop, r.push)), r.body.steps)
 
-first-formed : (m slots : ℕ) (r : RunForm) → w.IsWritableRun slots r → 81 ≤ m → form.AfterWord (codes "first") (g.IsFirst (suc m)) (parts_of r) (first_toks r)
+first-formed : (m slots : ℕ) (r : RunForm) → w.IsWritableRun slots r → 81 ≤ m → form.AfterWord (codes "first") (g.AreFirstParts (suc m)) (parts_of r) (first_toks r)
 first-formed m slots r h room = record {
   back = listed (counts (r.peek ∷ r.pop ∷ r.push ∷ [])) (body_toks r.body.steps);
   is = refl;
@@ -375,7 +375,7 @@ first-formed m slots r h room = record {
 }
 
 firsts-formed : (m slots : ℕ) (o : Option RunForm) → w.IsWritableFirst slots o → 81 ≤ m
-    → form.Maybe (form.AfterWord (codes "first") (g.IsFirst (suc m))) (optional parts_of o) (firsts_toks o)
+    → form.Maybe (form.AfterWord (codes "first") (g.AreFirstParts (suc m))) (optional parts_of o) (firsts_toks o)
 firsts-formed m slots None h room = refl
 firsts-formed m slots (Some r) h room = first-formed m slots r h room
 
@@ -391,7 +391,7 @@ runs-are slots (Some r) h = ap (λ (x : RunForm). Some x) (run-is slots r h)
 
 -- starts, a body, and what stands behind it
 abbrev filter_runs : ℕ → List ℤ × (Steps × Option g.FirstParts) → List Tok → Type 0
-filter_runs n = form.Both (g.IsStarts n) (form.Both (bodies.IsBody 16 n) (form.Maybe (form.AfterWord (codes "first") (g.IsFirst n))))
+filter_runs n = form.Both (g.IsStarts n) (form.Both (bodies.IsBody 16 n) (form.Maybe (form.AfterWord (codes "first") (g.AreFirstParts n))))
 
 runs-formed : (m slots : ℕ) (starts : List ℤ) (steps : Steps) (o : Option RunForm)
     → w.Every w.IsWritableStart starts → w.IsWritableBody steps → w.IsWritableFirst slots o → 81 ≤ m

@@ -27,7 +27,7 @@ module _ {A : Type 0} (F : A → List Tok → Type 0) (text : A → List ℕ) (t
   pieces P item (v ∷ vs) h = ((item v h.0).piece, pieces P item vs h.1)
 
   each-more : (P : A → Type 0) → ((v : A) → P v → Item F text tok v) → (vs : List A) → w.Every P vs
-      → form.Each (form.After (s.Comma ∷ []) F) vs (more_toks (map tok vs))
+      → form.Many (form.After (s.Comma ∷ []) F) vs (more_toks (map tok vs))
   each-more P item [] h = refl
   each-more P item (v ∷ vs) h =
       (symbol s.Comma ∷ tok v, more_toks (map tok vs), refl, record { back = tok v; is = refl; formed = (item v h.0).formed }, each-more P item vs h.1)

@@ -87,10 +87,10 @@ gives-choose false f g = g
 gives-headed : {A : Type 0} {F : List ℕ → A → List Tok → Type 0} {P : A → Type 0} → ((word : List ℕ) → Gives (F word) P) → Gives (form.Headed F) P
 gives-headed f = record { give = λ v ts h. let g = f h.word in g.give v h.back h.formed }
 
-gives-each : {A : Type 0} {F : A → List Tok → Type 0} {P : A → Type 0} → Gives F P → Gives (form.Each F) (w.Every P)
+gives-each : {A : Type 0} {F : A → List Tok → Type 0} {P : A → Type 0} → Gives F P → Gives (form.Many F) (w.Every P)
 gives-each {A = A} {F = F} {P = P} f = record { give = given }
   where
-    given : (vs : List A) (ts : List Tok) → form.Each F vs ts → w.Every P vs
+    given : (vs : List A) (ts : List Tok) → form.Many F vs ts → w.Every P vs
     given [] ts h = tt
     given (v ∷ vs) ts h = (f.give v h.0 h.3, given vs h.1 h.4)
 
@@ -182,7 +182,7 @@ push-step nest n = gives-seen bodies.made_push (IsStep nest)
     (gives-both count (gives-before _ (gives-enclosed _ _ (λ m. gives-commas (term_ranged m)) n)))
     (λ v h. (h, omega arith))
 
-plain-step : (nest n : ℕ) (word : List ℕ) → Gives (bodies.IsPlain n word) (IsStep nest)
+plain-step : (nest n : ℕ) (word : List ℕ) → Gives (bodies.PlainAfter n word) (IsStep nest)
 plain-step nest n word =
     gives-choose (bytes_eq word (codes "slot")) (set-step nest n) (gives-choose (bytes_eq word (codes "push")) (push-step nest n) (gives-never (IsStep nest)))
 
@@ -218,14 +218,14 @@ abbrev AreFirsts : Option g.FirstParts → Type 0
 AreFirsts None = Unit {0}
 AreFirsts (Some v) = AreFirst v
 
-first : (n : ℕ) → Gives (form.AfterWord (codes "first") (g.IsFirst n)) AreFirst
+first : (n : ℕ) → Gives (form.AfterWord (codes "first") (g.AreFirstParts n)) AreFirst
 first n = gives-after_word (codes "first")
     (gives-both (gives-enclosed _ _ (λ m. gives-both count (gives-after _ (gives-both count (gives-after _ count)))) n) (body n))
 
-firsts : (n : ℕ) → Gives (form.Maybe (form.AfterWord (codes "first") (g.IsFirst n))) AreFirsts
+firsts : (n : ℕ) → Gives (form.Maybe (form.AfterWord (codes "first") (g.AreFirstParts n))) AreFirsts
 firsts n = record { give = give }
   where
-    give : (v : Option g.FirstParts) (ts : List Tok) → form.Maybe (form.AfterWord (codes "first") (g.IsFirst n)) v ts → AreFirsts v
+    give : (v : Option g.FirstParts) (ts : List Tok) → form.Maybe (form.AfterWord (codes "first") (g.AreFirstParts n)) v ts → AreFirsts v
     give None ts h = tt
     give (Some v) ts h = let f = first n in f.give v ts h
 
@@ -249,7 +249,7 @@ weighed : (f : List ℤ → Kern) → ((ws : List ℤ) → w.Every w.IsWritableS
     → Gives (form.Seen f (Round (λ m. form.Commas form.Value) n)) IsKernel
 weighed f k n = gives-seen f IsKernel (gives-enclosed _ _ (λ m. gives-commas value-start) n) k
 
-fused : (braced : Kern → List Tok → Type 0) → Gives braced IsKernel → (n : ℕ) → Gives (g.IsFused braced n) IsKernel
+fused : (braced : Kern → List Tok → Type 0) → Gives braced IsKernel → (n : ℕ) → Gives (g.IsFusedKernel braced n) IsKernel
 fused braced f n = gives-seen g.made_fused IsKernel (gives-both (gives-enclosed _ _ (λ m. count) n) (gives-both f f))
     (λ v h. ((h.1.0.0, h.1.1.0, h.0), (h.1.0.1, h.1.1.1), (h.1.0.2, h.1.1.2)))
 
@@ -291,7 +291,7 @@ kernel (suc n) = gives-after _ (gives-before _ (gives-headed (λ word. kernel-af
 -- UNITS
 
 named : Gives t.IsName w.IsNamed
-named = gives-tested is_name form.Name w.IsNamed (λ v h. h)
+named = gives-tested is_name form.NameToken w.IsNamed (λ v h. h)
 
 named-var : Gives t.IsVar w.IsNamed
 named-var = gives-tested is_name form.Var w.IsNamed (λ v h. h)
@@ -359,7 +359,7 @@ queue = record {
       subst (λ (x : QueueDecl). w.IsWritableDecl x.decl) (sym h.is) (named.give h.value.0 h.formed.front h.formed.first, type.give h.value.1.0 b.front b.first);
 }
 
-abbrev IsEntry : t.Entry → Type 0
+abbrev IsEntry : t.EntryForm → Type 0
 IsEntry t.header = Unit {0}
 IsEntry (t.output d) = w.IsWritableDecl d
 IsEntry (t.input d) = w.IsWritableDecl d
@@ -383,7 +383,7 @@ unit = gives-headed (λ word.
     (gives-choose (bytes_eq word (codes "river")) (gives-seen t.as_header IsEntry heading (λ v h. tt))
     (gives-never IsEntry))))))))
 
-entries : (at : Place) (es : List t.Entry) (us : List (List Tok)) → AllFormed t.IsUnitAt t.next_place at es us → w.Every IsEntry es
+entries : (at : Place) (es : List t.EntryForm) (us : List (List Tok)) → AllFormed t.IsUnitAt t.next_place at es us → w.Every IsEntry es
 entries at [] us h = tt
 entries at (e ∷ es) [] h = absurd h
 entries at (e ∷ es) (u ∷ us) h = (unit.give e u h.0.formed, entries (t.next_place at e) es us h.1)
@@ -401,7 +401,7 @@ record IsSaid (p : PlanForm) : Type 0 where
 said-empty : IsSaid empty_form
 said-empty = record { ranged = record { outputs = tt; inputs = tt; queues = tt; tables = tt; vars = tt; ops = tt }; shallow = tt; forward = tt }
 
-said-add : (x : t.TextForm) (e : t.Entry) → IsSaid x.plan → IsEntry e → IsSaid (t.add_entry x e).plan
+said-add : (x : t.TextForm) (e : t.EntryForm) → IsSaid x.plan → IsEntry e → IsSaid (t.add_entry x e).plan
 said-add x t.header s h = s
 said-add x (t.output d) s h = let k = s.ranged in
     record { ranged = record { outputs = every-append w.IsWritableDecl x.plan.outputs d k.outputs h; inputs = k.inputs; queues = k.queues; tables = k.tables; vars = k.vars; ops = k.ops }; shallow = s.shallow; forward = s.forward }
@@ -421,7 +421,7 @@ said-add x (t.operator o) s h = let k = s.ranged in
       forward = every-append (λ op. r.HasForward op.kernel) x.plan.ops o s.forward h.2;
     }
 
-said-all : (x : t.TextForm) (es : List t.Entry) → IsSaid x.plan → w.Every IsEntry es → IsSaid (t.add_all x es).plan
+said-all : (x : t.TextForm) (es : List t.EntryForm) → IsSaid x.plan → w.Every IsEntry es → IsSaid (t.add_all x es).plan
 said-all x [] s h = s
 said-all x (e ∷ es) s h = said-all (t.add_entry x e) es (said-add x e s h.0) h.1
 

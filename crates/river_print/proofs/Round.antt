@@ -2,7 +2,7 @@
 use Rattle.std.proofs.Common.{◌≡◌, ℕ, suc, ◌≤◌, Bool, true, false, List, [], ◌∷◌, ◌++◌, Option, Some, None, refl, sym, ap, ◌∙◌, subst, arith, append_assoc, append-nil}
 use Rattle.std.specs.Prelude.{codes, map, nat_le, ◌&&◌, ◌==◌, if◌then◌else◌}
 use Rattle.std.proofs.lemmas.Bool.Decides.{nat_tests}
-use Rattle.work_code.specs.Laws.{joined}
+use Rattle.work_code.specs.Laws.{joined_units}
 use Rattle.work_code.specs.Cut.{cut, units_of, is_else}
 use Rattle.work_code.specs.Lexis.{is_letter, is_word, is_digit}
 use Rattle.work_code.specs.Tok.{Tok, toks}
@@ -14,7 +14,7 @@ use Rattle.river_plan.specs.declared.plan.Decl.{Decl}
 use Rattle.river_plan.specs.declared.plan.TableDecl.{TableDecl}
 use Rattle.text_forms.specs.Texts.{AllFormed}
 use Rattle.river_print.specs.Printed.{header_line, decl_line, queue_line, table_line, var_line, op_line, lines, plan_text}
-use Rattle.river_text.specs.Plans.{Entry, header, output, input, inner, table, private, operator, stage_of, most_of, cap_stands, may_stand, IsUnit, IsUnitAt}
+use Rattle.river_text.specs.Plans.{EntryForm, header, output, input, inner, table, private, operator, stage_of, entry_cap, cap_stands, may_stand, IsUnit, IsUnitAt}
 use Rattle.river_text.specs.Plans.{TextForm, empty_text, add_entry, add_all, first_place, next_place, AreUnits, IsText}
 use Rattle.river_text.specs.declared.entry.Place.{Place}
 use Rattle.river_text.proofs.Texts.{one_plan}
@@ -25,34 +25,34 @@ use Rattle.river_print.proofs.Units.{UnitPiece, decl_toks, decl-unit, decl-forme
 use Rattle.river_print.proofs.Units.{op_toks, op-unit, op-formed}
 
 -- the tokens of some units
-joined-append : (us vs : List (List Tok)) → joined (us ++ vs) ≡ joined us ++ joined vs
+joined-append : (us vs : List (List Tok)) → joined_units (us ++ vs) ≡ joined_units us ++ joined_units vs
 joined-append [] vs = refl
-joined-append (u ∷ us) vs = ap (λ (l : List Tok). u ++ l) (joined-append us vs) ∙ sym (append_assoc u (joined us) (joined vs))
+joined-append (u ∷ us) vs = ap (λ (l : List Tok). u ++ l) (joined-append us vs) ∙ sym (append_assoc u (joined_units us) (joined_units vs))
 
 -- these bytes are these units
 record Chunk (bytes : List ℕ) (units : List (List Tok)) : Type 0 where
-  spells : Spells bytes (joined units) Anything
-  begins : (rest : List Tok) → is_else rest ≡ false → is_else (joined units ++ rest) ≡ false
-  whole : (rest : List Tok) → is_else rest ≡ false → cut 0 (joined units ++ rest) ≡ units ++ cut 0 rest
+  spells : Spells bytes (joined_units units) Anything
+  begins : (rest : List Tok) → is_else rest ≡ false → is_else (joined_units units ++ rest) ≡ false
+  whole : (rest : List Tok) → is_else rest ≡ false → cut 0 (joined_units units ++ rest) ≡ units ++ cut 0 rest
 
 chunk-nothing : Chunk [] []
 chunk-nothing = record { spells = spells-nothing Anything; begins = λ rest none. none; whole = λ rest none. refl }
 
 chunk-then : (a : List ℕ) (us : List (List Tok)) (b : List ℕ) (vs : List (List Tok)) → Chunk a us → Chunk b vs → Chunk (a ++ b) (us ++ vs)
 chunk-then a us b vs x y = record { spells = spells; begins = begins; whole = whole } where
-  spells : Spells (a ++ b) (joined (us ++ vs)) Anything
+  spells : Spells (a ++ b) (joined_units (us ++ vs)) Anything
   spells =
-      subst (λ (l : List Tok). Spells (a ++ b) l Anything) (sym (joined-append us vs)) (spells-then a (joined us) b (joined vs) x.spells y.spells (λ rest any. tt))
+      subst (λ (l : List Tok). Spells (a ++ b) l Anything) (sym (joined-append us vs)) (spells-then a (joined_units us) b (joined_units vs) x.spells y.spells (λ rest any. tt))
 
-  regroup : (rest : List Tok) → joined (us ++ vs) ++ rest ≡ joined us ++ (joined vs ++ rest)
-  regroup rest = ap (λ (l : List Tok). l ++ rest) (joined-append us vs) ∙ append_assoc (joined us) (joined vs) rest
+  regroup : (rest : List Tok) → joined_units (us ++ vs) ++ rest ≡ joined_units us ++ (joined_units vs ++ rest)
+  regroup rest = ap (λ (l : List Tok). l ++ rest) (joined-append us vs) ∙ append_assoc (joined_units us) (joined_units vs) rest
 
-  begins : (rest : List Tok) → is_else rest ≡ false → is_else (joined (us ++ vs) ++ rest) ≡ false
-  begins rest none = ap is_else (regroup rest) ∙ x.begins (joined vs ++ rest) (y.begins rest none)
+  begins : (rest : List Tok) → is_else rest ≡ false → is_else (joined_units (us ++ vs) ++ rest) ≡ false
+  begins rest none = ap is_else (regroup rest) ∙ x.begins (joined_units vs ++ rest) (y.begins rest none)
 
-  whole : (rest : List Tok) → is_else rest ≡ false → cut 0 (joined (us ++ vs) ++ rest) ≡ (us ++ vs) ++ cut 0 rest
+  whole : (rest : List Tok) → is_else rest ≡ false → cut 0 (joined_units (us ++ vs) ++ rest) ≡ (us ++ vs) ++ cut 0 rest
   whole rest none =
-      ap (cut 0) (regroup rest) ∙ x.whole (joined vs ++ rest) (y.begins rest none) ∙ ap (λ (l : List (List Tok)). us ++ l) (y.whole rest none) ∙ sym (append_assoc us vs (cut 0 rest))
+      ap (cut 0) (regroup rest) ∙ x.whole (joined_units vs ++ rest) (y.begins rest none) ∙ ap (λ (l : List (List Tok)). us ++ l) (y.whole rest none) ∙ sym (append_assoc us vs (cut 0 rest))
 
 chunk-unit : (b : List ℕ) (ts : List Tok) → UnitPiece b ts → Chunk b (ts ∷ [])
 chunk-unit b ts x = record {
@@ -70,14 +70,14 @@ chunk-lines line tokens P unit (x ∷ xs) h =
 -- ---- the units stand for the entries
 
 -- entries of one stage, whose capacities may stand behind a header
-abbrev OfStage : ℕ → List Entry → List (List Tok) → Type 0
+abbrev OfStage : ℕ → List EntryForm → List (List Tok) → Type 0
 OfStage k [] [] = Unit {0}
 OfStage k [] (u ∷ us) = ⊥
 OfStage k (e ∷ es) [] = ⊥
-OfStage k (e ∷ es) (u ∷ us) = (stage_of e ≡ suc k) × (cap_stands true (most_of e) ≡ true) × IsUnit e u × OfStage k es us
+OfStage k (e ∷ es) (u ∷ us) = (stage_of e ≡ suc k) × (cap_stands true (entry_cap e) ≡ true) × IsUnit e u × OfStage k es us
 
-stage_lines : {A : Type 0} (k : ℕ) (make : A → Entry) (tokens : A → List Tok) (P : A → Type 0) → ((x : A) → stage_of (make x) ≡ suc k)
-    → ((x : A) → P x → cap_stands true (most_of (make x)) ≡ true) → ((x : A) → P x → IsUnit (make x) (tokens x)) → (xs : List A) → w.Every P xs
+stage_lines : {A : Type 0} (k : ℕ) (make : A → EntryForm) (tokens : A → List Tok) (P : A → Type 0) → ((x : A) → stage_of (make x) ≡ suc k)
+    → ((x : A) → P x → cap_stands true (entry_cap (make x)) ≡ true) → ((x : A) → P x → IsUnit (make x) (tokens x)) → (xs : List A) → w.Every P xs
     → OfStage k (map make xs) (map tokens xs)
 stage_lines k make tokens P same stands formed [] h = tt
 stage_lines k make tokens P same stands formed (x ∷ xs) h = (same x, stands x h.0, formed x h.0, stage_lines k make tokens P same stands formed xs h.1)
@@ -86,20 +86,20 @@ stage_lines k make tokens P same stands formed (x ∷ xs) h = (same x, stands x 
 abbrev behind : ℕ → Place
 behind stage = record { stage = stage; headed = true }
 
-late : (start : ℕ) (e : Entry) → start ≤ stage_of e → nat_le start (stage_of e) ≡ true
+late : (start : ℕ) (e : EntryForm) → start ≤ stage_of e → nat_le start (stage_of e) ≡ true
 late start e h = grind (arith, nat_tests)
 
-may : (start : ℕ) (e : Entry) → start ≤ stage_of e → cap_stands true (most_of e) ≡ true → may_stand (behind start) e ≡ true
-may start e h k = ap (λ b. b && cap_stands true (most_of e)) (late start e h) ∙ k
+may : (start : ℕ) (e : EntryForm) → start ≤ stage_of e → cap_stands true (entry_cap e) ≡ true → may_stand (behind start) e ≡ true
+may start e h k = ap (λ b. b && cap_stands true (entry_cap e)) (late start e h) ∙ k
 
 not_first : (k : ℕ) → (suc k == 0) ≡ false
 not_first k = grind (arith, nat_tests)
 
-next : (start k : ℕ) (e : Entry) → stage_of e ≡ suc k → next_place (behind start) e ≡ behind (suc k)
+next : (start k : ℕ) (e : EntryForm) → stage_of e ≡ suc k → next_place (behind start) e ≡ behind (suc k)
 next start k e h =
     ap (λ (n : ℕ). behind (if n == 0 then 1 else n)) h ∙ ap (λ (b : Bool). behind (if b then 1 else suc k)) (not_first k)
 
-stage-then : (k start : ℕ) (es fs : List Entry) (us vs : List (List Tok)) → start ≤ suc k → OfStage k es us
+stage-then : (k start : ℕ) (es fs : List EntryForm) (us vs : List (List Tok)) → start ≤ suc k → OfStage k es us
     → ((b : ℕ) → b ≤ suc k → AllFormed IsUnitAt next_place (behind b) fs vs) → AllFormed IsUnitAt next_place (behind start) (es ++ fs) (us ++ vs)
 stage-then k start [] fs [] vs le h more = more start le
 stage-then k start [] fs (u ∷ us) vs le h more = absurd h
@@ -119,7 +119,7 @@ unfolding decl_toks
 input-formed d h = record { word = codes "input"; back = _; is = refl; formed = record { value = d; is = refl; formed = decl-formed d h } }
 
 -- a queue that has a capacity of its own, if it has one
-abbrev capped : OwnCaps → Decl → Entry
+abbrev capped : OwnCaps → Decl → EntryForm
 capped own d = inner (record { decl = d; most = own d.name })
 
 stands_behind : (most : Option ℕ) → IsOwnCap most → cap_stands true most ≡ true
@@ -142,7 +142,7 @@ op_formed o h = record { word = codes "op"; back = _; is = refl; formed = record
 
 -- ---- the entries make the plan
 
-add-then : (t : TextForm) (es fs : List Entry) → add_all t (es ++ fs) ≡ add_all (add_all t es) fs
+add-then : (t : TextForm) (es fs : List EntryForm) → add_all t (es ++ fs) ≡ add_all (add_all t es) fs
 add-then t [] fs = refl
 add-then t (e ∷ es) fs = add-then (add_entry t e) es fs
 
@@ -181,7 +181,7 @@ adds-ops p caps [] = ap (λ (l : List OpForm). text_with (record p { ops = l }) 
 adds-ops p caps (d ∷ ds) =
     adds-ops (record p { ops = p.ops ++ d ∷ [] }) caps ds ∙ ap (λ (l : List OpForm). text_with (record p { ops = l }) caps) (append_assoc p.ops (d ∷ []) ds)
 
-abbrev entries_of : OwnCaps → PlanForm → List Entry
+abbrev entries_of : OwnCaps → PlanForm → List EntryForm
 entries_of own p =
     map output p.outputs ++ (map input p.inputs ++ (map (capped own) p.queues ++ (map table p.tables ++ (map private p.vars ++ map operator p.ops))))
 
@@ -230,7 +230,7 @@ text-chunk own p fit h =
 
 last_stage : (p : PlanForm) → w.IsWritable p → (b : ℕ) → b ≤ 6 → AllFormed IsUnitAt next_place (behind b) (map operator p.ops) (map op_toks p.ops)
 last_stage p h b le =
-    subst (λ (es : List Entry). AllFormed IsUnitAt next_place (behind b) es (map op_toks p.ops)) (append-nil (map operator p.ops))
+    subst (λ (es : List EntryForm). AllFormed IsUnitAt next_place (behind b) es (map op_toks p.ops)) (append-nil (map operator p.ops))
     (subst (λ (us : List (List Tok)). AllFormed IsUnitAt next_place (behind b) (map operator p.ops ++ []) us) (append-nil (map op_toks p.ops))
     (stage-then 5 b (map operator p.ops) [] (map op_toks p.ops) [] le (stage_lines 5 operator op_toks w.IsWritableOp (λ x. refl) (λ x k. refl) op_formed p.ops h.ops) (λ c k. tt)))
 
@@ -256,9 +256,9 @@ stands : (own : OwnCaps) (p : PlanForm) → HaveOwnCaps own → w.IsWritable p �
 stands own p fit h =
     let all : List (List Tok) = header_toks ∷ units own p in
     let chunk = text-chunk own p fit h in
-    let (ms, lexed, same) = spells-whole (plan_text own p) (joined all) chunk.spells tt in
-    let whole : units_of (joined all) ≡ all =
-    ap (cut 0) (sym (append-nil (joined all))) ∙ chunk.whole [] refl ∙ ap (λ (l : List (List Tok)). all ++ l) cut-nothing ∙ append-nil all in
+    let (ms, lexed, same) = spells-whole (plan_text own p) (joined_units all) chunk.spells tt in
+    let whole : units_of (joined_units all) ≡ all =
+    ap (cut 0) (sym (append-nil (joined_units all))) ∙ chunk.whole [] refl ∙ ap (λ (l : List (List Tok)). all ++ l) cut-nothing ∙ append-nil all in
     let first : first_place ms ≡ record { stage = 0; headed = false } =
     ap (λ b. record { stage = if b then 0 else 1; headed = false }) (header-short (unit_lines own p) ms lexed) in
     record {

@@ -268,7 +268,7 @@ if-formed body m c a b term room when otherwise = record {
 }
 
 -- statements in braces, put together
-then-formed : (nest m : ℕ) (x : Step) (xs : Steps) → IsStmt nest m x (step_toks x) → form.Each (IsStmt nest m) (list_of xs) (rest_toks xs)
+then-formed : (nest m : ℕ) (x : Step) (xs : Steps) → IsStmt nest m x (step_toks x) → form.Many (IsStmt nest m) (list_of xs) (rest_toks xs)
     → bodies.IsBody nest (suc m) (Then x xs) (body_toks (Then x xs))
 then-formed nest m x xs first rest = record {
   back = (step_toks x ++ rest_toks xs) ++ symbol s.CloseBrace ∷ [];
@@ -311,7 +311,7 @@ mutual
   body-formed nest (suc m) (Then x xs) h d room =
       then-formed nest m x xs (stmt-formed nest m x h.0 (omega arith) (omega arith)) (rest-formed nest m xs h.1 (omega arith) (omega arith))
 
-  rest-formed : (nest m : ℕ) (xs : Steps) → w.AreWritableSteps xs → w.depths xs ≤ nest → nest + 65 ≤ m → form.Each (IsStmt nest m) (list_of xs) (rest_toks xs)
+  rest-formed : (nest m : ℕ) (xs : Steps) → w.AreWritableSteps xs → w.depths xs ≤ nest → nest + 65 ≤ m → form.Many (IsStmt nest m) (list_of xs) (rest_toks xs)
   rest-formed nest m Done h d room = refl
   rest-formed nest m (Then x xs) h d room =
       (step_toks x, rest_toks xs, refl, stmt-formed nest m x h.0 (omega arith) (omega arith), rest-formed nest m xs h.1 (omega arith) (omega arith))

@@ -165,7 +165,7 @@ count-round n h = round-formed (λ k. form.Count) 127 n (count_tok n) (count-for
 inner_count : (n : ℕ) → w.IsCount n → Round (λ m. form.Count) 127 n (listed (count_tok n ∷ []) [])
 inner_count n h = round-formed (λ k. form.Count) 126 n (count_tok n) (count-formed n h)
 
-flat-formed : (t : FlatType) → w.IsCount (width_of t) → p.IsFlat 127 t (flat_toks t)
+flat-formed : (t : FlatType) → w.IsCount (width_of t) → p.IsFlatType 127 t (flat_toks t)
 unfolding flat_toks
 flat-formed (Rows n) h =
     record { word = codes "rows"; back = listed (count_tok n ∷ []) []; is = refl; formed = record { value = n; is = refl; formed = inner_count n h } }
@@ -188,7 +188,7 @@ type-formed (Pack t) h = record {
   back = listed (flat_toks t ∷ []) [];
   is = refl;
   formed =
-      record { value = t; is = refl; formed = subst (λ (l : List Tok). Round p.IsFlat 128 t (symbol s.Open ∷ (l ++ symbol s.Close ∷ []))) (sym (append-nil (flat_toks t))) (round-formed p.IsFlat 127 t (flat_toks t) (flat-formed t h)) };
+      record { value = t; is = refl; formed = subst (λ (l : List Tok). Round p.IsFlatType 128 t (symbol s.Open ∷ (l ++ symbol s.Close ∷ []))) (sym (append-nil (flat_toks t))) (round-formed p.IsFlatType 127 t (flat_toks t) (flat-formed t h)) };
 }
 
 -- ---- declarations

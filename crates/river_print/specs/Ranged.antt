@@ -1,7 +1,7 @@
 -- What the types of a plan's numbers and names say of them: each plan that is kept in memory has these ranges.
 use Rattle.std.specs.Prelude.{Option, None, Some}
 use Rattle.work_code.specs.Term.{Term, Const, Input, Slot, Neg, Not, Bin}
-use Rattle.work_code.specs.Steps.{Step, Steps, Set, Push, If, Done, Then, Body}
+use Rattle.work_code.specs.Steps.{Step, Steps, Set, Push, If, Done, Then, BodyForm}
 use Rattle.kern_rows.specs.Forms.{CodeForm, FilterForm, RunForm}
 use Rattle.kern_bags.specs.declared.kernel.Window.{Window}
 use Rattle.kern_bags.specs.declared.kernel.Window.TheVariants.{Now, Range, Unbounded, Latest}
@@ -29,7 +29,7 @@ abbrev mutual
   IsRangedSteps Done = Unit {0}
   IsRangedSteps (Then s ss) = IsRangedStep s × IsRangedSteps ss
 
-abbrev pub IsRangedBody : Body → Type 0
+abbrev pub IsRangedBody : BodyForm → Type 0
 IsRangedBody b = IsCount b.inputs × IsCount b.slots × IsRangedSteps b.steps
 
 abbrev pub IsRangedCode : CodeForm → Type 0

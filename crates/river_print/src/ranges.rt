@@ -2,7 +2,7 @@
 // where it is read: these functions read each of a plan once, change nothing and give nothing.
 ghost use Rattle.std.specs.Prelude.{map};
 ghost use Rattle.work_code.specs.Term.{term, terms};
-ghost use Rattle.work_code.specs.Steps.{step, steps, body_of};
+ghost use Rattle.work_code.specs.Steps.{step, steps, code_body};
 ghost use Rattle.kern_rows.specs.Forms.{code_form, filter_form, optional_run, run_form};
 ghost use Rattle.river_kernels.specs.Kern.{kern_of};
 ghost use Rattle.river_plan.specs.Forms.{plan_form, op_form};
@@ -190,7 +190,7 @@ fn read_window(window: Window)
 }
 
 fn read_code(code: &Code)
-    ensures { IsRangedBody (body_of code.now) }
+    ensures { IsRangedBody (code_body code.now) }
 {
     read_count(code.inputs);
     read_count(code.slots);

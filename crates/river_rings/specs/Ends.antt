@@ -57,15 +57,15 @@ abbrev pub SameTaking : Taking → Taking → Type 0
 SameTaking t u = (u.id ≡ t.id) × (u.cap ≡ t.cap)
 
 -- the items sent and not known to be taken are as many as the ring holds at most
-abbrev pub IsFull : Sending → Type 0
-IsFull f = f.waiting ≡ f.cap
+abbrev pub IsFullRing : Sending → Type 0
+IsFullRing f = f.waiting ≡ f.cap
 
 -- they are fewer
-abbrev pub HasRoom : Sending → Type 0
-HasRoom f = f.waiting < f.cap
+abbrev pub HasRingRoom : Sending → Type 0
+HasRingRoom f = f.waiting < f.cap
 
 -- the sending end has looked: nothing was sent, and more may be known to be taken
-pub record HasLooked (f g : Sending) : Type 0 where
+pub record HasSeenTaken (f g : Sending) : Type 0 where
   pub same : SameSending f g
   pub sent : g.sent ≡ f.sent
   pub waiting : g.waiting ≤ f.waiting

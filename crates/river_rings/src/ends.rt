@@ -1,6 +1,6 @@
 // The two ends of a bounded queue of items. Each may move to a thread of its own; no call of theirs waits or takes memory.
 ghost use Rattle.std.specs.Prelude.{◌≡◌, ◌+◌, ◌<◌, ◌≤◌, [], ◌∷◌, ◌++◌, length, IsTrue, IsFalse, IfOk, OnOk, IfErr, IfSome, IfNone, IsOk, IsSome};
-ghost use Rattle.river_rings.specs.Ends.{AreEnds, SameSending, SameTaking, IsFull, HasRoom, HasLooked, HasSeen};
+ghost use Rattle.river_rings.specs.Ends.{AreEnds, SameSending, SameTaking, IsFullRing, HasRingRoom, HasSeenTaken, HasSeen};
 ghost use mathlib.Core.List.{IsPrefix};
 
 use river_base::{Item, NoMemory};
@@ -52,8 +52,8 @@ impl Feed {
     pub fn push(&mut self, item: Item) -> Result<(), Item>
         ensures ring { SameSending self.old self.new }
         ensures sent { OnOk result ((self.new.sent ≡ self.old.sent ++ item ∷ []) × (self.new.waiting ≤ self.old.waiting + 1)) }
-        ensures refused { IfErr result (λ back. (back ≡ item) × (self.new.sent ≡ self.old.sent) × IsFull self.new) }
-        ensures succeeds { HasRoom self.old → IsOk result }
+        ensures refused { IfErr result (λ back. (back ≡ item) × (self.new.sent ≡ self.old.sent) × IsFullRing self.new) }
+        ensures succeeds { HasRingRoom self.old → IsOk result }
     {
         match self.end.push(item) {
             Ok(()) => Ok(()),
@@ -86,7 +86,7 @@ impl Take {
 // The sending end looks: it learns of all that was taken.
 fn look_for_room(feed: &mut Feed, take: &mut Take)
     requires { AreEnds feed.old take.old }
-    ensures feed { HasLooked feed.old feed.new }
+    ensures feed { HasSeenTaken feed.old feed.new }
     ensures take { HasSeen take.old take.new }
     ensures room { feed.new.waiting + length take.new.received ≤ length feed.new.sent }
 {
@@ -96,7 +96,7 @@ fn look_for_room(feed: &mut Feed, take: &mut Take)
 // The taking end looks: it learns of all that was sent.
 fn look_for_items(feed: &mut Feed, take: &mut Take)
     requires { AreEnds feed.old take.old }
-    ensures feed { HasLooked feed.old feed.new }
+    ensures feed { HasSeenTaken feed.old feed.new }
     ensures take { HasSeen take.old take.new }
     ensures ends { take.new.cap ≡ feed.new.cap }
     ensures order { take.new.received ++ take.new.known ≡ feed.new.sent }
@@ -111,7 +111,7 @@ fn look_for_items(feed: &mut Feed, take: &mut Take)
 pub fn beside(feed: &mut Feed, take: &mut Take)
     requires { AreEnds feed.old take.old }
     ensures ends { AreEnds feed.new take.new × (take.new.cap ≡ feed.new.cap) }
-    ensures feed { HasLooked feed.old feed.new }
+    ensures feed { HasSeenTaken feed.old feed.new }
     ensures take { HasSeen take.old take.new }
     ensures order { take.new.received ++ take.new.known ≡ feed.new.sent }
     ensures bound { length take.new.known ≤ take.new.cap }

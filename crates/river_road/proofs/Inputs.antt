@@ -8,7 +8,7 @@ use Rattle.river_base.specs.Name.{name_eq}
 use Rattle.river_outside.specs.Held.{Held}
 use Rattle.river_order.specs.Order.{Order, Comes}
 use Rattle.river_order.specs.Decides.{Stops}
-use Rattle.river_order.specs.Passes.{past, Refuses, StandsFor, AnswersAs, Passes}
+use Rattle.river_order.specs.Passes.{past, RefusesPoint, StandsFor, AnswersAs, Passes}
 use Rattle.river_order.specs.declared.stop.Stop.{Stop}
 use Rattle.river_order.specs.declared.stop.Stop.TheVariants as stop
 use Rattle.river_order.proofs.Comes.{Comes-same}
@@ -147,8 +147,8 @@ module _ {A : Type 0} (reader : Reader A) (ins : List InWord) (files : List (Lis
 
   -- a record at fault
   pub read-fault : (i : ℕ) (w : InWord) (b : List ℕ) (all : List A) (s : Stop)
-      → i < length ins → length files ≡ length ins → w ≡ get_or ins i w → b ≡ get_or files i b → Refuses (file_read reader w b) s
-      → put_before all (all_read reader (drop i ins) (drop i files)) ≡ all_read reader ins files → Refuses (all_read reader ins files) s
+      → i < length ins → length files ≡ length ins → w ≡ get_or ins i w → b ≡ get_or files i b → RefusesPoint (file_read reader w b) s
+      → put_before all (all_read reader (drop i ins) (drop i files)) ≡ all_read reader ins files → RefusesPoint (all_read reader ins files) s
   read-fault i w b all stop.Usage lt same w_is b_is told so_far = absurd told
   read-fault i w b all (stop.Refused text) lt same w_is b_is told so_far =
       let later = all_read reader (drop (i + 1) ins) (drop (i + 1) files) in
@@ -197,7 +197,7 @@ module _ (decls : List Decl) (ins : List InWord) (layout : Layout) (held : Optio
   past_names next fit = ap (λ r. past r (λ _. from_files next)) fit
 
   -- a name refuses
-  pub names-stop : (rose : Type 0) (s : Stop) → Refuses (names_fit decls ins) s → (next : List Content → Order)
+  pub names-stop : (rose : Type 0) (s : Stop) → RefusesPoint (names_fit decls ins) s → (next : List Content → Order)
       → Stops (Some (of_inputs decls ins layout next)) held rose s
   unfolding of_inputs
   names-stop rose s told next = past-refused (names_fit decls ins) s held rose told (λ _. from_files next)

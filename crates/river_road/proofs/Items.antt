@@ -17,7 +17,7 @@ use Rattle.river_base.proofs.Instants.{once_rises}
 use Rattle.river_plan.specs.declared.plan.Decl.{Decl}
 use Rattle.river_plan.specs.Forms.{PlanForm}
 use Rattle.brooklet_model.specs.Typed.{AreInputs}
-use Rattle.brooklet_model.specs.Fit.{Fit, instants, Rises, HasInstants, AreInstants}
+use Rattle.brooklet_model.specs.Fit.{Fit, instants_in, Rises, HasInstants, AreInstants}
 use Rattle.csv_streams.specs.Timed.{Entry}
 use Rattle.river_road.specs.Contents.{IsContent, AreContents}
 use Rattle.river_road.specs.Inputs.{timed_files, instants_of, items_at, all_items}
@@ -57,7 +57,7 @@ pub contents-typed : (ds : List Decl) (files : List Content) → AreContents ds 
 contents-typed ds files h = are_typed (instants_of files) ds files h
 
 -- a stream has a batch for each instant
-spread_instants : (ts : List ℤ) (s : AtInstants) → instants (spread ts s) ≡ ts
+spread_instants : (ts : List ℤ) (s : AtInstants) → instants_in (spread ts s) ≡ ts
 spread_instants [] s = refl
 spread_instants (t ∷ ts) s = ap (λ l. t ∷ l) (spread_instants ts s)
 

@@ -7,7 +7,7 @@ use Rattle.river_base.specs.Held.{HaveWidth}
 use Rattle.river_base.specs.declared.kind.FlatType.TheVariants.{Rows, Stream, Relation}
 use Rattle.river_base.specs.declared.kind.QueueType.{QueueType}
 use Rattle.river_base.specs.declared.kind.QueueType.TheVariants.{Flat as FlatOf, Pack as PackOf}
-use Rattle.river_order.specs.Passes.{Refuses, StandsFor, AnswersAs}
+use Rattle.river_order.specs.Passes.{RefusesPoint, StandsFor, AnswersAs}
 use Rattle.river_order.specs.declared.stop.Stop.{Stop}
 use Rattle.river_order.specs.declared.stop.Stop.TheVariants as stop
 use Rattle.river_plan.specs.declared.plan.Decl.{Decl}
@@ -54,7 +54,7 @@ pairs-fit (d ∷ []) rows is wide = (fits d.kind is, tt)
 -- ---- THE PROGRAM
 
 -- what refuses the first refuses the whole
-refused_first : {A B : Type 0} (found : Result A (List ℕ)) (make : A → Result B (List ℕ)) (s : Stop) → Refuses found s → Refuses (then_made found make) s
+refused_first : {A B : Type 0} (found : Result A (List ℕ)) (make : A → Result B (List ℕ)) (s : Stop) → RefusesPoint found s → RefusesPoint (then_made found make) s
 refused_first found make stop.Usage told = absurd told
 refused_first found make (stop.Refused text) told = rw told refl
 refused_first found make (stop.Failed text) told = absurd told
@@ -62,7 +62,7 @@ refused_first found make (stop.Absent text) told = absurd told
 refused_first found make stop.NoMemory told = tt
 
 -- the program is refused
-pub program-refused : (source_of : List ℕ → Result SourceProgram (List ℕ)) (s : Stop) → Refuses (source_of load_program) s → Refuses (load_source source_of) s
+pub program-refused : (source_of : List ℕ → Result SourceProgram (List ℕ)) (s : Stop) → RefusesPoint (source_of load_program) s → RefusesPoint (load_source source_of) s
 unfolding load_source
 program-refused source_of s told = refused_first (source_of load_program) (λ source. with_plan source (rewritten source.plan load_script)) s told
 
@@ -91,20 +91,20 @@ abbrev printed_of : ℕ → SourceProgram → Result (List ℕ) (List ℕ)
 printed_of n source = then_made (load_files n source.inputs) (λ files. Ok (printed source false files))
 
 -- there is no plan
-pub load-refused : (source_of : List ℕ → Result SourceProgram (List ℕ)) (n : ℕ) (s : Stop) → Refuses (load_source source_of) s → Refuses (loaded source_of n) s
+pub load-refused : (source_of : List ℕ → Result SourceProgram (List ℕ)) (n : ℕ) (s : Stop) → RefusesPoint (load_source source_of) s → RefusesPoint (loaded source_of n) s
 unfolding loaded
 load-refused source_of n s told = refused_first (load_source source_of) (printed_of n) s told
 
 module _ (source_of : List ℕ → Result SourceProgram (List ℕ)) (n : ℕ) (plan : PlanForm) (is : StandsFor IsPlanOf (load_source source_of) plan) where
   -- the records are not those of its inputs
-  pub files-refused : (s : Stop) → Refuses (load_files n plan.inputs) s → Refuses (loaded source_of n) s
+  pub files-refused : (s : Stop) → RefusesPoint (load_files n plan.inputs) s → RefusesPoint (loaded source_of n) s
   unfolding loaded
   files-refused s told = by (load_source source_of) is
     where
-      by : (found : Result SourceProgram (List ℕ)) → StandsFor IsPlanOf found plan → Refuses (then_made found (printed_of n)) s
+      by : (found : Result SourceProgram (List ℕ)) → StandsFor IsPlanOf found plan → RefusesPoint (then_made found (printed_of n)) s
       by (Ok source) of =
           refused_first (load_files n source.inputs) (λ files. Ok (printed source false files)) s
-          (subst (λ (ds : List Decl). Refuses (load_files n ds) s) of.inputs told)
+          (subst (λ (ds : List Decl). RefusesPoint (load_files n ds) s) of.inputs told)
       by (Err text) of = absurd of
 
   -- they are, and the program's meaning is printed

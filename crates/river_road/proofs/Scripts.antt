@@ -4,7 +4,7 @@ use Rattle.std.specs.Prelude.{Option, Some, None, Result, Ok, Err}
 use Rattle.river_outside.specs.Held.{Held}
 use Rattle.river_order.specs.Order.{Order, Fetch, Comes}
 use Rattle.river_order.specs.Decides.{Stops}
-use Rattle.river_order.specs.Passes.{past, Refuses, StandsFor, AnswersAs, PassesAs}
+use Rattle.river_order.specs.Passes.{past, RefusesPoint, StandsFor, AnswersAs, PassesAs}
 use Rattle.river_order.specs.declared.stop.Stop.{Stop}
 use Rattle.river_order.proofs.Comes.{Comes-same, Comes-on}
 use Rattle.river_order.proofs.Passes.{past-refused}
@@ -61,7 +61,7 @@ module _ (caps : List Cap) (file : List ℕ) (source : SourceProgram) (text : Li
 
   -- it is refused
   pub script-refused : (early late : Type 0) → (late → early) → (s : Stop)
-      → ((next : List ℕ → Order) → Comes (Fetch file most_script large_script next) held (next text)) → Refuses (with_plan source (rewritten source.plan text)) s
+      → ((next : List ℕ → Order) → Comes (Fetch file most_script large_script next) held (next text)) → RefusesPoint (with_plan source (rewritten source.plan text)) s
       → (next : SourceProgram → Order) → Stops (Some (of_script (Some file) source next)) held early s
   unfolding of_script
   script-refused early late sooner s here told next =

@@ -8,11 +8,11 @@ use Rattle.plan_edits.specs.Judged.{IsFirstToFail, IsJudgedBy}
 use Rattle.rw_local.proofs.FuseJudged.{fusion_is_judged}
 use Rattle.rw_local.proofs.HoistJudged.{hoisting_is_judged}
 use Rattle.rw_fission.proofs.FissionJudged.{fission_is_judged}
-use Rattle.river_script.specs.Judged.{StepFails, StepMakes, Accepts, StepsLeadTo, Judges, ScriptIsJudged}
-use Rattle.river_script.specs.Script.{StepForm, fusing, hoisting, splitting, step_of, then_all, script_from}
+use Rattle.river_script.specs.Judged.{StepFails, StepMakes, Accepts, StepsLeadTo, JudgesSteps, ScriptIsJudged}
+use Rattle.river_script.specs.Script.{StepForm, fusing, hoisting, splitting, after_step, then_all, script_from}
 use Rattle.river_script.proofs.Steps.{step_keeps}
 
-step_judged : (p : PlanForm) (s : StepForm) (made : Result PlanForm Unfit) → IsPlan p → (step_of p s ≡ made) ↔ IsJudgedBy (StepFails p s) (StepMakes p s) made
+step_judged : (p : PlanForm) (s : StepForm) (made : Result PlanForm Unfit) → IsPlan p → (after_step p s ≡ made) ↔ IsJudgedBy (StepFails p s) (StepMakes p s) made
 step_judged p (fusing q) made v = fusion_is_judged p q made v
 step_judged p (hoisting l) made v = hoisting_is_judged p l made v
 step_judged p (splitting l n) made v = fission_is_judged p l n made v
@@ -50,7 +50,7 @@ later n p p' s ss (Err f) a j =
       fails = j.fails;
     }
 
-one_step : (n : ℕ) (p : PlanForm) (s : StepForm) (ss : List StepForm) (r : Result PlanForm Unfit) → IsPlan p → step_of p s ≡ r
+one_step : (n : ℕ) (p : PlanForm) (s : StepForm) (ss : List StepForm) (r : Result PlanForm Unfit) → IsPlan p → after_step p s ≡ r
     → ((p' : PlanForm) → IsPlan p' → Judged (suc n) p' ss (script_from (suc n) p' ss))
     → Judged n p (s ∷ ss) (then_all n r (λ q. script_from (suc n) q ss))
 one_step n p s ss (Ok p') v e more =
@@ -68,11 +68,11 @@ one_step n p s ss (Err f) v e more = record {
 
 all_steps : (n : ℕ) (p : PlanForm) (ss : List StepForm) → IsPlan p → Judged n p ss (script_from n p ss)
 all_steps n p [] v = refl
-all_steps n p (s ∷ ss) v = one_step n p s ss (step_of p s) v refl (λ p' w. all_steps (suc n) p' ss w)
+all_steps n p (s ∷ ss) v = one_step n p s ss (after_step p s) v refl (λ p' w. all_steps (suc n) p' ss w)
 
 -- BACK
 
-accepted_is : (p p' : PlanForm) (s : StepForm) → IsPlan p → Accepts p s p' → step_of p s ≡ Ok p'
+accepted_is : (p p' : PlanForm) (s : StepForm) → IsPlan p → Accepts p s p' → after_step p s ≡ Ok p'
 accepted_is p p' s v a = (step_judged p s (Ok p') v).1 a
 
 leads_is : (n : ℕ) (p q : PlanForm) (ss : List StepForm) → IsPlan p → StepsLeadTo p ss q → script_from n p ss ≡ Ok q
@@ -87,7 +87,7 @@ refused_is : (n : ℕ) (p last : PlanForm) (done : List StepForm) (here : StepFo
     → IsFirstToFail (StepFails last here) why
     → script_from n p (done ++ here ∷ others) ≡ Err (step, why)
 refused_is n p last [] here others step why v k h f =
-    let e : step_of p here ≡ Err why = (step_judged p here (Err why) v).1 (subst (λ x. IsFirstToFail (StepFails x here) why) (sym h) f) in
+    let e : after_step p here ≡ Err why = (step_judged p here (Err why) v).1 (subst (λ x. IsFirstToFail (StepFails x here) why) (sym h) f) in
     let same : n ≡ step = omega (arith, k) in
     ap (λ r. then_all n r (λ x. script_from (suc n) x others)) e ∙ ap (λ m. Err (m, why)) same
 refused_is n p last (s ∷ done) here others step why v k h f =
@@ -99,7 +99,7 @@ refused_is n p last (s ∷ done) here others step why v k h f =
 pub script_is_judged : ScriptIsJudged
 script_is_judged p ss made v = ((λ e. to made (subst (Judged 1 p ss) e (all_steps 1 p ss v))), back made)
   where
-    to : (made : Result PlanForm (ℕ × Unfit)) → Judged 1 p ss made → Judges p ss made
+    to : (made : Result PlanForm (ℕ × Unfit)) → Judged 1 p ss made → JudgesSteps p ss made
     to (Ok q) j = j
     to (Err f) j = record {
       done = j.done;
@@ -112,6 +112,6 @@ script_is_judged p ss made v = ((λ e. to made (subst (Judged 1 p ss) e (all_ste
       fails = j.fails;
     }
 
-    back : (made : Result PlanForm (ℕ × Unfit)) → Judges p ss made → script_from 1 p ss ≡ made
+    back : (made : Result PlanForm (ℕ × Unfit)) → JudgesSteps p ss made → script_from 1 p ss ≡ made
     back (Ok q) j = leads_is 1 p q ss v j
     back (Err f) j = ap (script_from 1 p) j.steps ∙ refused_is 1 p j.last j.done j.here j.others f.0 f.1 v j.number j.leads j.fails

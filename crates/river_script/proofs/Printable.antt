@@ -17,9 +17,9 @@ use Rattle.rw_local.proofs.FuseSteps as fusion
 use Rattle.rw_local.proofs.HoistSteps as hoisting_up
 use Rattle.rw_fission.specs.Asked.{fission_of}
 use Rattle.rw_fission.specs.Fission.{Way, replica_op, each_op, joiner_ops, split_ops}
-use Rattle.rw_fission.specs.Made.{Made, made_of}
+use Rattle.rw_fission.specs.Made.{FissionNames, made_of}
 use Rattle.rw_fission.proofs.Accepted as fission
-use Rattle.river_script.specs.Script.{StepForm, fusing, hoisting, splitting, step_of, then_all, script_from, ScriptIsPrintable}
+use Rattle.river_script.specs.Script.{StepForm, fusing, hoisting, splitting, after_step, then_all, script_from, ScriptIsPrintable}
 
 -- LISTS OF OPERATORS
 
@@ -82,7 +82,7 @@ record IsSpokenWay (w : Way) : Type 0 where
   inner : IsSpokenKernel w.inner
   join : IsSpokenJoin w.join
 
-way-spoken : (p : PlanForm) (op : OpForm) (m : Made) (n : ℕ) (source : Name) (w : Way) → IsSpoken op → fission.IsWay p op m n source w → IsSpokenWay w
+way-spoken : (p : PlanForm) (op : OpForm) (m : FissionNames) (n : ℕ) (source : Name) (w : Way) → IsSpoken op → fission.IsWay p op m n source w → IsSpokenWay w
 way-spoken p op m n source w h i = ⊎_elim
     (λ a. subst IsSpokenWay (sym a.is) (record { inner = h; join = (tt, tt) }))
     (λ o. ⊎_elim
@@ -95,11 +95,11 @@ replicas-spoken : (f : ℕ → OpForm) → ((i : ℕ) → IsSpoken (f i)) → (n
 replicas-spoken f h zero = tt
 replicas-spoken f h (suc n) = (h 0, replicas-spoken (λ i. f (suc i)) (λ i. h (suc i)) n)
 
-joiner-spoken : (op : OpForm) (m : Made) (n : ℕ) (o : Option (Kern × QueueType)) → IsSpokenJoin o → Every IsSpoken (joiner_ops op m n o)
+joiner-spoken : (op : OpForm) (m : FissionNames) (n : ℕ) (o : Option (Kern × QueueType)) → IsSpokenJoin o → Every IsSpoken (joiner_ops op m n o)
 joiner-spoken op m n None h = tt
 joiner-spoken op m n (Some j) h = (h, tt)
 
-split-spoken : (op : OpForm) (m : Made) (n : ℕ) (w : Way) → IsSpokenWay w → Every IsSpoken (split_ops op m n w)
+split-spoken : (op : OpForm) (m : FissionNames) (n : ℕ) (w : Way) → IsSpokenWay w → Every IsSpoken (split_ops op m n w)
 split-spoken op m n w h = (
   (tt, tt),
   every-joined IsSpoken (each_op (replica_op w m) n) (joiner_ops op m n w.join)
@@ -114,7 +114,7 @@ fission-spoken p p' l n h e =
     subst (λ (x : PlanForm). Every IsSpoken x.ops) (sym a.is)
     (swapped-spoken l (split_ops a.op (made_of l) n a.way) p.ops (split-spoken a.op (made_of l) n a.way w) h)
 
-step-spoken : (p p' : PlanForm) (s : StepForm) → Every IsSpoken p.ops → step_of p s ≡ Ok p' → Every IsSpoken p'.ops
+step-spoken : (p p' : PlanForm) (s : StepForm) → Every IsSpoken p.ops → after_step p s ≡ Ok p' → Every IsSpoken p'.ops
 step-spoken p p' (fusing q) h e = fuse-spoken p p' q h e
 step-spoken p p' (hoisting l) h e = hoist-spoken p p' l h e
 step-spoken p p' (splitting l n) h e = fission-spoken p p' l n h e
@@ -122,9 +122,9 @@ step-spoken p p' (splitting l n) h e = fission-spoken p p' l n h e
 -- steps one after another
 script-spoken : (n : ℕ) (p p' : PlanForm) (ss : List StepForm) → Every IsSpoken p.ops → script_from n p ss ≡ Ok p' → Every IsSpoken p'.ops
 script-spoken n p p' [] h e = subst (λ (x : PlanForm). Every IsSpoken x.ops) (let same : p ≡ p' = cc in same) h
-script-spoken n p p' (s ∷ ss) h e = by (step_of p s) refl e (λ q. script-spoken (suc n) q p' ss)
+script-spoken n p p' (s ∷ ss) h e = by (after_step p s) refl e (λ q. script-spoken (suc n) q p' ss)
   where
-    by : (r : Result PlanForm Unfit) → step_of p s ≡ r → then_all n r (λ q. script_from (suc n) q ss) ≡ Ok p'
+    by : (r : Result PlanForm Unfit) → after_step p s ≡ r → then_all n r (λ q. script_from (suc n) q ss) ≡ Ok p'
         → ((q : PlanForm) → Every IsSpoken q.ops → script_from (suc n) q ss ≡ Ok p' → Every IsSpoken p'.ops) → Every IsSpoken p'.ops
     by (Err f) is g later = absurd (cc g)
     by (Ok q) is g later = later q (step-spoken p q s h is) g

@@ -15,10 +15,10 @@ use Rattle.text_forms.proofs.Choices.{exact-never, exact-choose, exact-headed}
 use Rattle.text_forms.proofs.Exact.{Exact, Any, exact-both, exact-before, exact-tested, exact-seen, exact-name, exact-number}
 use Rattle.text_forms.proofs.Texts.{all-formed, formed-read, first-bad}
 use Rattle.river_script.specs.Script.{StepForm, fusing, hoisting}
-use Rattle.river_script.specs.Grammar.{Named, Counted, split_into, IsStep, StepIn, go_on, IsScript, IsBadAt, OneScript}
+use Rattle.river_script.specs.Grammar.{NameAndEnd, Counted, split_into, IsStep, StepIn, go_on, IsScript, IsBadAt, OneScript}
 use Rattle.river_script.specs.Reading.{step_name_at, named_at, counted_at, step_after, step_at, with_step, read_steps}
 
-exact-named : Exact Named named_at Any
+exact-named : Exact NameAndEnd named_at Any
 unfolding named_at step_name_at
 exact-named = exact-before (s.Semicolon ∷ []) (exact-tested is_name exact-name) (λ rest. tt)
 

@@ -10,7 +10,7 @@ use Rattle.plan_edits.specs.declared.unfit.Unfit.{Unfit}
 use Rattle.plan_edits.specs.Meaning.{SameOuter, SameMeaning}
 use Rattle.rw_fission.proofs.FissionLaw.{fission_same}
 use Rattle.plan_edits.proofs.MeaningSame.{meaning_same}
-use Rattle.river_script.specs.Script.{StepForm, fusing, hoisting, splitting, step_of, then_all, script_from, ScriptKeeps, ScriptMeans}
+use Rattle.river_script.specs.Script.{StepForm, fusing, hoisting, splitting, after_step, then_all, script_from, ScriptKeeps, ScriptMeans}
 use Rattle.rw_local.proofs.FuseSteps.{fuse_same}
 use Rattle.rw_local.proofs.HoistSteps.{hoist_same}
 use Rattle.brooklet_model.proofs.TypedPlan.{typed_law}
@@ -40,7 +40,7 @@ keeps_trans p q r a b = (
 )
 
 -- each step keeps what a plan means
-pub step_keeps : (p p' : PlanForm) (s : StepForm) → IsPlan p → step_of p s ≡ Ok p' → Keeps p p'
+pub step_keeps : (p p' : PlanForm) (s : StepForm) → IsPlan p → after_step p s ≡ Ok p' → Keeps p p'
 step_keeps p p' (fusing q) v h = let k = fuse_same p p' q v h in (k.0, k.1, λ inputs a. k.2 inputs)
 step_keeps p p' (hoisting l) v h = let k = hoist_same p p' l v h in (k.0, k.1, λ inputs a. k.2 inputs (typed_law p inputs v a))
 step_keeps p p' (splitting l n) v h = let k = fission_same p p' l n v h in (k.0, k.1, λ inputs a. k.2 inputs (typed_law p inputs v a))
@@ -51,7 +51,7 @@ no_script f p' h = cc h
 ok_script : (p p' : PlanForm) (r : Result PlanForm (ℕ × Unfit)) → r ≡ Ok p → r ≡ Ok p' → p ≡ p'
 ok_script p p' r h g = cc
 
-after_keeps : (n : ℕ) (p p' : PlanForm) (s : StepForm) (r : Result PlanForm Unfit) (ss : List StepForm) → IsPlan p → step_of p s ≡ r
+after_keeps : (n : ℕ) (p p' : PlanForm) (s : StepForm) (r : Result PlanForm Unfit) (ss : List StepForm) → IsPlan p → after_step p s ≡ r
     → then_all n r (λ q. script_from (suc n) q ss) ≡ Ok p'
     → ((q : PlanForm) → IsPlan q → script_from (suc n) q ss ≡ Ok p' → Keeps q p') → Keeps p p'
 after_keeps n p p' s (Err f) ss v e h more = absurd (no_script (n, f) p' h)
@@ -59,7 +59,7 @@ after_keeps n p p' s (Ok q) ss v e h more = let k = step_keeps p q s v e in keep
 
 from_keeps : (n : ℕ) (p p' : PlanForm) (ss : List StepForm) → IsPlan p → script_from n p ss ≡ Ok p' → Keeps p p'
 from_keeps n p p' [] v h = subst (Keeps p) (ok_script p p' (Ok p) refl h) (keeps_refl p v)
-from_keeps n p p' (s ∷ ss) v h = after_keeps n p p' s (step_of p s) ss v refl h (λ q w g. from_keeps (suc n) q p' ss w g)
+from_keeps n p p' (s ∷ ss) v h = after_keeps n p p' s (after_step p s) ss v refl h (λ q w g. from_keeps (suc n) q p' ss w g)
 
 -- so a script does
 pub script_law : ScriptKeeps

@@ -10,18 +10,18 @@ use Rattle.work_code.specs.Lexis.{tokens_in}
 use Rattle.work_code.specs.Tok.{Tok, Mark, toks}
 use Rattle.work_code.specs.declared.sign.Symbol.TheVariants as s
 use Rattle.river_base.specs.Name.{is_name}
-use Rattle.text_forms.specs.Forms.{Name, Number, Never, Both, Before, Tested, Seen, Choose, Headed}
+use Rattle.text_forms.specs.Forms.{NameToken, Number, Never, Both, Before, Tested, Seen, Choose, Headed}
 use Rattle.text_forms.specs.Parse.{is_count}
 use Rattle.text_forms.specs.Texts.{AllFormed, IsFirstBad}
 use Rattle.river_script.specs.Script.{StepForm, fusing, hoisting, splitting}
 
 -- NAME ";"
-abbrev pub Named : List ℕ → List Tok → Type 0
-Named = Before (Tested is_name Name) (s.Semicolon ∷ [])
+abbrev pub NameAndEnd : List ℕ → List Tok → Type 0
+NameAndEnd = Before (Tested is_name NameToken) (s.Semicolon ∷ [])
 
 -- NAME N ";"
 abbrev pub Counted : List ℕ × ℕ → List Tok → Type 0
-Counted = Both (Tested is_name Name) (Before (Tested is_count Number) (s.Semicolon ∷ []))
+Counted = Both (Tested is_name NameToken) (Before (Tested is_count Number) (s.Semicolon ∷ []))
 
 abbrev pub split_into : List ℕ × ℕ → StepForm
 split_into v = splitting v.0 v.1
@@ -29,8 +29,8 @@ split_into v = splitting v.0 v.1
 -- what stands behind the word of a step
 abbrev pub StepAfter : List ℕ → StepForm → List Tok → Type 0
 StepAfter w =
-    Choose (bytes_eq w (codes "fuse")) (Seen fusing Named)
-    (Choose (bytes_eq w (codes "hoist")) (Seen hoisting Named)
+    Choose (bytes_eq w (codes "fuse")) (Seen fusing NameAndEnd)
+    (Choose (bytes_eq w (codes "hoist")) (Seen hoisting NameAndEnd)
     (Choose (bytes_eq w (codes "fission")) (Seen split_into Counted)
     Never))
 

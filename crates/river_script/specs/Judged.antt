@@ -6,7 +6,7 @@ use Rattle.plan_edits.specs.declared.unfit.Unfit.{Unfit}
 use Rattle.plan_edits.specs.Judged.{IsFirstToFail}
 use Rattle.rw_local.specs.Fusion.{FuseFails, IsFused}
 use Rattle.rw_local.specs.Hoisting.{HoistFails, IsHoisted}
-use Rattle.rw_fission.specs.Splitting.{FissionFails, IsSplit}
+use Rattle.rw_fission.specs.Splitting.{FissionFails, IsSplitInto}
 use Rattle.river_script.specs.Script.{StepForm, fusing, hoisting, splitting, script_of}
 
 -- the step is refused by this condition, whichever others refuse it
@@ -19,7 +19,7 @@ StepFails p (splitting l n) f = FissionFails p l n f
 abbrev pub StepMakes : PlanForm → StepForm → PlanForm → Type 0
 StepMakes p (fusing q) p' = IsFused p q p'
 StepMakes p (hoisting l) p' = IsHoisted p l p'
-StepMakes p (splitting l n) p' = IsSplit p l n p'
+StepMakes p (splitting l n) p' = IsSplitInto p l n p'
 
 -- none of its conditions fails
 abbrev pub Accepts : PlanForm → StepForm → PlanForm → Type 0
@@ -41,10 +41,10 @@ pub record IsRefused (p : PlanForm) (ss : List StepForm) (step : ℕ) (why : Unf
   pub leads : StepsLeadTo p done last
   pub fails : IsFirstToFail (StepFails last here) why
 
-abbrev pub Judges : PlanForm → List StepForm → Result PlanForm (ℕ × Unfit) → Type 0
-Judges p ss (Ok q) = StepsLeadTo p ss q
-Judges p ss (Err f) = IsRefused p ss f.0 f.1
+abbrev pub JudgesSteps : PlanForm → List StepForm → Result PlanForm (ℕ × Unfit) → Type 0
+JudgesSteps p ss (Ok q) = StepsLeadTo p ss q
+JudgesSteps p ss (Err f) = IsRefused p ss f.0 f.1
 
 -- steps give the plan to which they lead, and otherwise the first that fails and the first of its conditions that does
 abbrev pub ScriptIsJudged : Type 0
-ScriptIsJudged = (p : PlanForm) (ss : List StepForm) (made : Result PlanForm (ℕ × Unfit)) → IsPlan p → (script_of p ss ≡ made) ↔ Judges p ss made
+ScriptIsJudged = (p : PlanForm) (ss : List StepForm) (made : Result PlanForm (ℕ × Unfit)) → IsPlan p → (script_of p ss ≡ made) ↔ JudgesSteps p ss made

@@ -20,10 +20,10 @@ pub data StepForm : Type 0 where
   splitting : Name → ℕ → StepForm
 
 -- the plan after a step, or the first condition that fails
-abbrev pub step_of : PlanForm → StepForm → Result PlanForm Unfit
-step_of p (fusing q) = fuse_of p q
-step_of p (hoisting l) = hoist_of p l
-step_of p (splitting l n) = fission_of p l n
+abbrev pub after_step : PlanForm → StepForm → Result PlanForm Unfit
+after_step p (fusing q) = fuse_of p q
+after_step p (hoisting l) = hoist_of p l
+after_step p (splitting l n) = fission_of p l n
 
 -- where the step is accepted, what is said of its result
 abbrev pub then_all : ℕ → Result PlanForm Unfit → (PlanForm → Result PlanForm (ℕ × Unfit)) → Result PlanForm (ℕ × Unfit)
@@ -33,7 +33,7 @@ then_all n (Ok p) more = more p
 -- the last plan, or the number of the first step that fails and its condition; the first step has this number
 abbrev pub script_from : ℕ → PlanForm → List StepForm → Result PlanForm (ℕ × Unfit)
 script_from n p [] = Ok p
-script_from n p (s ∷ ss) = then_all n (step_of p s) (λ q. script_from (suc n) q ss)
+script_from n p (s ∷ ss) = then_all n (after_step p s) (λ q. script_from (suc n) q ss)
 
 abbrev pub script_of : PlanForm → List StepForm → Result PlanForm (ℕ × Unfit)
 script_of p ss = script_from 1 p ss

@@ -2,7 +2,7 @@
 ghost use Rattle.std.specs.Prelude.{◌≡◌, ◌<◌, ◌^◌, length, Ok, IfOk, IfErr};
 ghost use Rattle.plan_edits.specs.Answered.{IsAnswered};
 ghost use Rattle.river_script.specs.Meaning.{rewritten, Refused, IsEnded, from_step};
-ghost use Rattle.river_script.specs.Script.{step_of};
+ghost use Rattle.river_script.specs.Script.{after_step};
 ghost use Rattle.river_script.specs.Steps.{step_form, step_forms};
 
 use crate::ScriptFault;
@@ -63,7 +63,7 @@ fn failed(step: u32, why: Unfit) -> ScriptFault
 
 // The plan after the step.
 fn apply(alloc: Global, plan: &Plan, step: Step) -> Result<Plan, Unfit>
-    ensures { IsAnswered (step_of plan.now (step_form step)) result }
+    ensures { IsAnswered (after_step plan.now (step_form step)) result }
 {
     match step {
         Step::Fuse(queue) => fuse(alloc, plan, &queue),

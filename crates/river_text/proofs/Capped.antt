@@ -9,8 +9,8 @@ use Rattle.river_plan.specs.Forms.{Name}
 use Rattle.river_plan.specs.declared.caps.Cap.{Cap}
 use Rattle.text_forms.specs.Texts.{AllFormed}
 use Rattle.river_text.specs.Laws.{CapsFit}
-use Rattle.river_text.specs.Plans.{Entry, header, output, input, inner, table, private, operator, TextForm, IsText, IsUnitAt, next_place, add_entry, add_all}
-use Rattle.river_text.specs.Plans.{cap_stands, is_cap, may_stand, most_of, stage_of, empty_text, first_place}
+use Rattle.river_text.specs.Plans.{EntryForm, header, output, input, inner, table, private, operator, TextForm, IsText, IsUnitAt, next_place, add_entry, add_all}
+use Rattle.river_text.specs.Plans.{cap_stands, is_cap, may_stand, entry_cap, stage_of, empty_text, first_place}
 use Rattle.river_text.specs.declared.entry.Place.{Place}
 
 both_true : (a b : Bool) → a && b ≡ true → b ≡ true
@@ -30,7 +30,7 @@ one headed q (Some n) h =
     All-cons (λ (c : Cap). IsCap c.most) (record { queue = q; most = n }) [] (fits n (both_true headed (is_cap n) h)) (All-nil (λ (c : Cap). IsCap c.most))
 
 -- with one entry more they still are
-more : (at : Place) (t : TextForm) (e : Entry) → may_stand at e ≡ true → AreCaps t.caps → AreCaps (add_entry t e).caps
+more : (at : Place) (t : TextForm) (e : EntryForm) → may_stand at e ≡ true → AreCaps t.caps → AreCaps (add_entry t e).caps
 more at t header h all = all
 more at t (output d) h all = all
 more at t (input d) h all = all
@@ -40,7 +40,7 @@ more at t (table d) h all = all
 more at t (private v) h all = all
 more at t (operator o) h all = all
 
-all_fit : (at : Place) (t : TextForm) (es : List Entry) (us : List (List Tok)) → AllFormed IsUnitAt next_place at es us → AreCaps t.caps
+all_fit : (at : Place) (t : TextForm) (es : List EntryForm) (us : List (List Tok)) → AllFormed IsUnitAt next_place at es us → AreCaps t.caps
     → AreCaps (add_all t es).caps
 all_fit at t [] us h all = all
 all_fit at t (e ∷ es) [] h all = absurd h

@@ -22,8 +22,8 @@ use Rattle.river_text.specs.Bodies.{IsBody, body_at}
 use Rattle.river_text.specs.ExactBodies.{exact-terms, exact-river}
 use Rattle.river_text.specs.ExactExpressions.{exact-term}
 use Rattle.river_text.specs.Expressions.{IsTerm, term_at}
-use Rattle.river_text.specs.Kernels.{least, made_code, made_filter, made_fused, Width, Signed, IsStarts, IsCode, IsFilter, IsFused, BagAfter, KernelAfter, IsBraced}
-use Rattle.river_text.specs.Kernels.{FirstParts, IsFirst, IsKernel}
+use Rattle.river_text.specs.Kernels.{least, made_code, made_filter, made_fused, Width, Signed, IsStarts, IsCode, IsFilter, IsFusedKernel, BagAfter, KernelAfter, IsBraced}
+use Rattle.river_text.specs.Kernels.{FirstParts, AreFirstParts, IsKernel}
 use Rattle.river_text.specs.ReadKernels.{width_at, signed_at, round, starts_at, widths_at, weights_at, number_at, two_at, pair_at, rates_at, code_at, filter_at}
 use Rattle.river_text.specs.ReadKernels.{three_at, triple_at, first_at, fused_at, range_at, stream_after, relation_after, bag_after, kernel_after, braced_at, kernel_at}
 use Rattle.river_text.proofs.Regroup.{rates-same}
@@ -119,13 +119,13 @@ exact-triple n =
 abbrev NoFirst : List Tok → Type 0
 NoFirst rest = parse.is_word_at (codes "first") rest ≡ false
 
-exact-first : (n : ℕ) → Exact (form.Maybe (form.AfterWord (codes "first") (IsFirst n))) (first_at n) NoFirst
+exact-first : (n : ℕ) → Exact (form.Maybe (form.AfterWord (codes "first") (AreFirstParts n))) (first_at n) NoFirst
 unfolding first_at
 exact-first n =
     exact-less (exact-maybe (parse.is_word_at (codes "first")) (exact-after_word (codes "first") (exact-both (exact-triple n) (exact-body n) (λ y ts rest g d. tt))) comes)
     (λ rest d. (tt, d))
   where
-    comes : (v : FirstParts) (ts rest : List Tok) → form.AfterWord (codes "first") (IsFirst n) v ts → parse.is_word_at (codes "first") (ts ++ rest) ≡ true
+    comes : (v : FirstParts) (ts rest : List Tok) → form.AfterWord (codes "first") (AreFirstParts n) v ts → parse.is_word_at (codes "first") (ts ++ rest) ≡ true
     comes v ts rest h = rw h.is refl
 
 exact-filter : (n : ℕ) → Exact (IsFilter n) (filter_at n) NoFirst
@@ -138,7 +138,7 @@ exact-filter n =
 any : {A : Type 0} {F : A → List Tok → Type 0} {p : Parse A} → Exact F p Any → Exact F p NoFirst
 any x = exact-less x (λ rest d. tt)
 
-exact-fused : {braced : Kern → List Tok → Type 0} {p : Parse Kern} → Exact braced p Any → (n : ℕ) → Exact (IsFused braced n) (fused_at p n) Any
+exact-fused : {braced : Kern → List Tok → Type 0} {p : Parse Kern} → Exact braced p Any → (n : ℕ) → Exact (IsFusedKernel braced n) (fused_at p n) Any
 unfolding fused_at
 exact-fused x n = exact-seen made_fused (exact-both (exact-counted n) (exact-both x x (λ y ts rest g d. tt)) (λ y ts rest g d. tt))
 

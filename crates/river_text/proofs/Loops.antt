@@ -6,7 +6,7 @@ use Rattle.std.proofs.lemmas.List.{drop_more, drop_all}
 use Rattle.work_code.specs.Cut.{unit_tokens}
 use Rattle.work_code.specs.declared.token.Lexeme.{Lexeme}
 use Rattle.text_forms.specs.Texts.{whole}
-use Rattle.river_text.specs.Plans.{Entry, TextForm, add_entry, next_place}
+use Rattle.river_text.specs.Plans.{EntryForm, TextForm, add_entry, next_place}
 use Rattle.river_text.specs.declared.entry.Place.{Place}
 use Rattle.river_text.specs.ReadPlans.{unit_from, with_entry, read_plan}
 
@@ -16,7 +16,7 @@ unfolding read_plan
 step place n t parts i d h = ap (λ (l : List (Bor (List Lexeme))). read_plan place n t (map unit_tokens l)) (drop_more parts i d h)
 
 -- one entry more
-pub plan-next : (place : Place) (n : ℕ) (t : TextForm) (parts : List (Bor (List Lexeme))) (i : ℕ) (d : Bor (List Lexeme)) (e : Entry) → i < length parts
+pub plan-next : (place : Place) (n : ℕ) (t : TextForm) (parts : List (Bor (List Lexeme))) (i : ℕ) (d : Bor (List Lexeme)) (e : EntryForm) → i < length parts
     → whole (unit_from place) (unit_tokens (get_or parts i d)) ≡ Some e
     → read_plan (next_place place e) (n + 1) (add_entry t e) (map unit_tokens (drop (i + 1) parts)) ≡ read_plan place n t (map unit_tokens (drop i parts))
 plan-next place n t parts i d e h read =

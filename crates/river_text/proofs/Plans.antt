@@ -16,7 +16,7 @@ use Rattle.text_forms.proofs.Exact.{exact-var, exact-number, exact-maybe, exact-
 use Rattle.text_forms.proofs.Pairs.{some_inj}
 use Rattle.std.proofs.lemmas.List.{map-append}
 use Rattle.text_forms.proofs.Choices.{exact-never, exact-choose, exact-headed, exact-known, exact-listing}
-use Rattle.river_text.specs.Plans.{IsName, IsVar, brackets, FlatAfter, IsFlat, IsType, made_decl, IsDecl, made_maximum, made_table, IsTable, Port, queue}
+use Rattle.river_text.specs.Plans.{IsName, IsVar, brackets, FlatAfter, IsFlatType, IsType, made_decl, IsDecl, made_maximum, made_table, IsTable, Port, queue}
 use Rattle.river_text.specs.Plans.{variable, IsPort, IsPorts, Ports, same_vars, made_op, IsOp, output, input, inner, table, private, operator, IsUnit, may_stand, as_header}
 use Rattle.river_text.specs.Plans.{made_queue, IsCapped, IsQueue, is_two, IsHeader}
 use Rattle.text_blocks.specs.Parts.{Round}
@@ -42,7 +42,7 @@ exact-flat_after n w =
     (exact-choose (bytes_eq w (codes "stream")) (exact-seen Stream (exact-counted n))
     (exact-choose (bytes_eq w (codes "relation")) (exact-seen Relation (exact-counted n)) exact-never))
 
-exact-flat : (n : ℕ) → Exact (IsFlat n) (flat_at n) Any
+exact-flat : (n : ℕ) → Exact (IsFlatType n) (flat_at n) Any
 unfolding flat_at
 exact-flat n = exact-headed (exact-flat_after n)
 

@@ -6,7 +6,7 @@ use Rattle.work_code.specs.Tok.{Tok, Mark, toks}
 use Rattle.work_code.specs.declared.fault.LexFault.{LexFault}
 use Rattle.text_forms.specs.Texts.{whole, after_unit, put_first, read_units}
 use Rattle.text_forms.proofs.Texts.{all-formed, formed-read, first-bad}
-use Rattle.river_text.specs.Plans.{Entry, TextForm, add_entry, add_all, empty_text, first_place, next_place, IsText}
+use Rattle.river_text.specs.Plans.{EntryForm, TextForm, add_entry, add_all, empty_text, first_place, next_place, IsText}
 use Rattle.river_text.specs.declared.entry.Place.{Place}
 use Rattle.river_text.specs.ReadPlans.{unit_from, with_entry, read_plan}
 use Rattle.river_text.specs.Faults.{StandsForNone}
@@ -14,7 +14,7 @@ use Rattle.river_text.specs.Laws.{OnePlan, IsBadAt}
 use Rattle.river_text.proofs.Plans.{exact-unit_from}
 
 -- the entries of a reading, added to what was read
-abbrev pub added : TextForm → Result (List Entry) ℕ → Result TextForm ℕ
+abbrev pub added : TextForm → Result (List EntryForm) ℕ → Result TextForm ℕ
 added p (Ok es) = Ok (add_all p es)
 added p (Err n) = Err n
 
@@ -23,28 +23,28 @@ pub plan-read : (place : Place) (n : ℕ) (p : TextForm) (units : List (List Tok
 unfolding read_plan
 plan-read place n p [] = refl
 plan-read place n p (u ∷ us) = by (whole (unit_from place) u) (λ e. plan-read (next_place place e) (n + 1) (add_entry p e) us) where
-  first : (e : Entry) (r : Result (List Entry) ℕ) → added (add_entry p e) r ≡ added p (put_first e r)
+  first : (e : EntryForm) (r : Result (List EntryForm) ℕ) → added (add_entry p e) r ≡ added p (put_first e r)
   first e (Ok es) = refl
   first e (Err m) = refl
 
-  by : (o : Option Entry)
-      → ((e : Entry) → read_plan (next_place place e) (n + 1) (add_entry p e) us
+  by : (o : Option EntryForm)
+      → ((e : EntryForm) → read_plan (next_place place e) (n + 1) (add_entry p e) us
       ≡ added (add_entry p e) (read_units unit_from next_place (next_place place e) (n + 1) us))
       → with_entry n (λ e. read_plan (next_place place e) (n + 1) (add_entry p e) us) o ≡ added p (after_unit n (λ e. read_units unit_from next_place (next_place place e) (n + 1) us) o)
   by None more = refl
   by (Some e) more = more e ∙ first e (read_units unit_from next_place (next_place place e) (n + 1) us)
 
 -- what was read is what the text stands for
-added-ok : (p : TextForm) (r : Result (List Entry) ℕ) (q : TextForm) → added p r ≡ Ok q → (es : List Entry) × (r ≡ Ok es) × (q ≡ add_all p es)
+added-ok : (p : TextForm) (r : Result (List EntryForm) ℕ) (q : TextForm) → added p r ≡ Ok q → (es : List EntryForm) × (r ≡ Ok es) × (q ≡ add_all p es)
 added-ok p (Ok es) q e = (es, refl, same e) where
   same : added p (Ok es) ≡ Ok q → q ≡ add_all p es
   same f = cc
 added-ok p (Err n) q e = cc
 
-added-err : (p : TextForm) (r : Result (List Entry) ℕ) (m : ℕ) → added p r ≡ Err m → r ≡ Err m
+added-err : (p : TextForm) (r : Result (List EntryForm) ℕ) (m : ℕ) → added p r ≡ Err m → r ≡ Err m
 added-err p (Ok es) m e = cc
 added-err p (Err n) m e = same e where
-  same : added p (Err n) ≡ Err m → ◌≡◌ {A = Result (List Entry) ℕ} (Err n) (Err m)
+  same : added p (Err n) ≡ Err m → ◌≡◌ {A = Result (List EntryForm) ℕ} (Err n) (Err m)
   same f = cc
 
 -- the text stands for the lists that are read of it

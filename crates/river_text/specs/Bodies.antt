@@ -33,8 +33,8 @@ abbrev pub IsPush : ℕ → Step → List Tok → Type 0
 IsPush n = Seen made_push (Both Count (Before (Round (λ m. Commas (IsTerm m)) n) (s.Semicolon ∷ [])))
 
 -- what stands behind the first word of a statement that is no `if`
-abbrev pub IsPlain : ℕ → List ℕ → Step → List Tok → Type 0
-IsPlain n w = Choose (bytes_eq w (codes "slot")) (IsSet n) (Choose (bytes_eq w (codes "push")) (IsPush n) Never)
+abbrev pub PlainAfter : ℕ → List ℕ → Step → List Tok → Type 0
+PlainAfter n w = Choose (bytes_eq w (codes "slot")) (IsSet n) (Choose (bytes_eq w (codes "push")) (IsPush n) Never)
 
 -- HOW THEY ARE READ
 
@@ -83,7 +83,7 @@ style = record {
 }
 
 abbrev pub holes : Holes Term Step Step
-holes = record { Condition = Round IsTerm; Head = λ n w. Never; Plain = IsPlain }
+holes = record { Condition = Round IsTerm; Head = λ n w. Never; Plain = PlainAfter }
 
 -- stmt, and body = "{" { stmt } "}", in which `if` nests at most so deep
 abbrev pub IsStmt : (nest n : ℕ) → Step → List Tok → Type 0

@@ -2,5 +2,5 @@
 use Rattle.river_text.specs.Plans.{TextForm}
 use Rattle.river_text.specs.declared.front.RiverPlan.{RiverPlan}
 
-abbrev pub form_of : RiverPlan → TextForm
-form_of read = record { plan = read.plan; caps = read.caps }
+abbrev pub text_form_of : RiverPlan → TextForm
+text_form_of read = record { plan = read.plan; caps = read.caps }

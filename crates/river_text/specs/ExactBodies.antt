@@ -11,7 +11,7 @@ use Rattle.text_forms.proofs.Choices.{exact-never, exact-choose}
 use Rattle.text_blocks.specs.Exact.{AreExact}
 use Rattle.text_blocks.specs.Parts.{Round}
 use Rattle.text_blocks.proofs.Parts.{exact-round, exact-ended, exact-place}
-use Rattle.river_text.specs.Bodies.{made_set, IsSet, made_push, IsPush, IsPlain, set_at, some_terms_at, terms_at, push_at, plain_at, style, holes}
+use Rattle.river_text.specs.Bodies.{made_set, IsSet, made_push, IsPush, PlainAfter, set_at, some_terms_at, terms_at, push_at, plain_at, style, holes}
 use Rattle.river_text.specs.ExactExpressions.{exact-term}
 use Rattle.river_text.specs.Expressions.{IsTerm}
 
@@ -31,7 +31,7 @@ exact-push n =
     exact-seen made_push (exact-both (exact-tested parse.is_count exact-number) (exact-before (s.Semicolon ∷ []) (exact-terms n) (λ rest. tt))
     (λ y ts rest g d. tt))
 
-exact-plain : (n : ℕ) (w : List ℕ) → Exact (IsPlain n w) (plain_at n w) Any
+exact-plain : (n : ℕ) (w : List ℕ) → Exact (PlainAfter n w) (plain_at n w) Any
 unfolding plain_at
 exact-plain n w =
     exact-choose (bytes_eq w (codes "slot")) (exact-set n) (exact-choose (bytes_eq w (codes "push")) (exact-push n) exact-never)

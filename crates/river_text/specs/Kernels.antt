@@ -43,8 +43,8 @@ IsCode n =
 abbrev pub FirstParts : Type 0
 FirstParts = (ℕ × (ℕ × ℕ)) × Steps
 
-abbrev pub IsFirst : ℕ → FirstParts → List Tok → Type 0
-IsFirst n = Both (Round (λ m. Both Count (After (s.Comma ∷ []) (Both Count (After (s.Comma ∷ []) Count)))) n) (IsBody 16 n)
+abbrev pub AreFirstParts : ℕ → FirstParts → List Tok → Type 0
+AreFirstParts n = Both (Round (λ m. Both Count (After (s.Comma ∷ []) (Both Count (After (s.Comma ∷ []) Count)))) n) (IsBody 16 n)
 
 -- that run of a filter with so many slots
 abbrev pub made_first : ℕ → FirstParts → RunForm
@@ -65,14 +65,14 @@ made_filter v =
 abbrev pub IsFilter : ℕ → Kern → List Tok → Type 0
 IsFilter n =
     Seen made_filter (Both (Round (λ m. Both Count (After (s.Comma ∷ []) (Both Count (After (s.Comma ∷ []) (Both Count (After (s.Comma ∷ []) Count)))))) n)
-    (Both (IsStarts n) (Both (IsBody 16 n) (Maybe (AfterWord (codes "first") (IsFirst n))))))
+    (Both (IsStarts n) (Both (IsBody 16 n) (Maybe (AfterWord (codes "first") (AreFirstParts n))))))
 
 -- "(" N ")" "{" kernel "}" "{" kernel "}"
 abbrev pub made_fused : ℕ × (Kern × Kern) → Kern
 made_fused v = kern.fused v.1.0 v.1.1 v.0
 
-abbrev pub IsFused : (Kern → List Tok → Type 0) → ℕ → Kern → List Tok → Type 0
-IsFused braced n = Seen made_fused (Both (Round (λ m. Count) n) (Both braced braced))
+abbrev pub IsFusedKernel : (Kern → List Tok → Type 0) → ℕ → Kern → List Tok → Type 0
+IsFusedKernel braced n = Seen made_fused (Both (Round (λ m. Count) n) (Both braced braced))
 
 -- what stands behind the word of a kernel on bags of rows
 abbrev pub BagAfter : ℕ → List ℕ → Kern → List Tok → Type 0
@@ -100,7 +100,7 @@ KernelAfter braced n w =
     (Choose (bytes_eq w (codes "collect")) (Seen kern.collect (Round (λ m. Commas Value) n))
     (Choose (bytes_eq w (codes "packed")) (Seen kern.packed braced)
     (Choose (bytes_eq w (codes "unpack")) (Seen kern.unpack (Round (λ m. Count) n))
-    (Choose (bytes_eq w (codes "fused")) (IsFused braced n)
+    (Choose (bytes_eq w (codes "fused")) (IsFusedKernel braced n)
     (BagAfter n w))))))))
 
 -- "{" kernel "}"

@@ -33,7 +33,7 @@ use Rattle.river_plan.specs.Forms.{OpForm, PlanForm, empty_form}
 use Rattle.river_plan.specs.declared.caps.Cap.{Cap}
 use Rattle.river_plan.specs.declared.plan.Decl.{Decl}
 use Rattle.river_plan.specs.declared.plan.TableDecl.{TableDecl}
-use Rattle.text_forms.specs.Forms.{Count, Name, Number, Var, Never, Both, After, AfterWord, Before, Tested, Seen, Maybe, Merged, Listing, Choose, Headed}
+use Rattle.text_forms.specs.Forms.{Count, NameToken, Number, Var, Never, Both, After, AfterWord, Before, Tested, Seen, Maybe, Merged, Listing, Choose, Headed}
 use Rattle.text_forms.specs.Texts.{AllFormed}
 use Rattle.text_blocks.specs.Parts.{Round}
 use Rattle.river_text.specs.Kernels.{IsBraced}
@@ -42,7 +42,7 @@ use Rattle.river_text.specs.declared.entry.Place.{Place}
 
 -- NAME and VAR, of at most 64 bytes
 abbrev pub IsName : List ℕ → List Tok → Type 0
-IsName = Tested is_name Name
+IsName = Tested is_name NameToken
 
 abbrev pub IsVar : List ℕ → List Tok → Type 0
 IsVar = Tested is_name Var
@@ -59,12 +59,12 @@ FlatAfter n w =
     (Choose (bytes_eq w (codes "relation")) (Seen Relation (Round (λ m. Count) n))
     Never))
 
-abbrev pub IsFlat : ℕ → FlatType → List Tok → Type 0
-IsFlat n = Headed (FlatAfter n)
+abbrev pub IsFlatType : ℕ → FlatType → List Tok → Type 0
+IsFlatType n = Headed (FlatAfter n)
 
 -- type
 abbrev pub IsType : QueueType → List Tok → Type 0
-IsType = Headed (λ w. Choose (bytes_eq w (codes "pack")) (Seen Pack (Round IsFlat brackets)) (Seen Flat (FlatAfter brackets w)))
+IsType = Headed (λ w. Choose (bytes_eq w (codes "pack")) (Seen Pack (Round IsFlatType brackets)) (Seen Flat (FlatAfter brackets w)))
 
 -- NAME ":" type ";"
 abbrev pub made_decl : List ℕ × QueueType → Decl
@@ -135,17 +135,17 @@ IsOp =
     (After (s.Less ∷ s.Minus ∷ []) (Both (Round (λ m. IsPorts) brackets) (IsBraced brackets)))))))
 
 -- what a unit says: that the text is of version 2, or what is added to a plan
-pub data Entry : Type 0 where
-  header : Entry
-  output : Decl → Entry
-  input : Decl → Entry
-  inner : QueueDecl → Entry
-  table : TableDecl → Entry
-  private : List ℕ → Entry
-  operator : OpForm → Entry
+pub data EntryForm : Type 0 where
+  header : EntryForm
+  output : Decl → EntryForm
+  input : Decl → EntryForm
+  inner : QueueDecl → EntryForm
+  table : TableDecl → EntryForm
+  private : List ℕ → EntryForm
+  operator : OpForm → EntryForm
 
 -- the units come in this order
-abbrev pub stage_of : Entry → ℕ
+abbrev pub stage_of : EntryForm → ℕ
 stage_of header = 0
 stage_of (output d) = 1
 stage_of (input d) = 2
@@ -154,10 +154,10 @@ stage_of (table t) = 4
 stage_of (private v) = 5
 stage_of (operator o) = 6
 
-abbrev pub as_header : ℕ → Entry
+abbrev pub as_header : ℕ → EntryForm
 as_header version = header
 
-abbrev pub UnitAfter : List ℕ → Entry → List Tok → Type 0
+abbrev pub UnitAfter : List ℕ → EntryForm → List Tok → Type 0
 UnitAfter w =
     Choose (bytes_eq w (codes "output")) (Seen output IsDecl)
     (Choose (bytes_eq w (codes "input")) (Seen input IsDecl)
@@ -168,7 +168,7 @@ UnitAfter w =
     (Choose (bytes_eq w (codes "river")) (Seen as_header IsHeader)
     Never))))))
 
-abbrev pub IsUnit : Entry → List Tok → Type 0
+abbrev pub IsUnit : EntryForm → List Tok → Type 0
 IsUnit = Headed UnitAfter
 
 -- a capacity stands only behind a header, and it is 1 to 65,536
@@ -179,27 +179,27 @@ abbrev pub cap_stands : Bool → Option ℕ → Bool
 cap_stands headed None = true
 cap_stands headed (Some n) = headed && is_cap n
 
-abbrev pub most_of : Entry → Option ℕ
-most_of header = None
-most_of (output d) = None
-most_of (input d) = None
-most_of (inner q) = q.most
-most_of (table t) = None
-most_of (private v) = None
-most_of (operator o) = None
+abbrev pub entry_cap : EntryForm → Option ℕ
+entry_cap header = None
+entry_cap (output d) = None
+entry_cap (input d) = None
+entry_cap (inner q) = q.most
+entry_cap (table t) = None
+entry_cap (private v) = None
+entry_cap (operator o) = None
 
 -- a unit that may stand there: late enough, and with a capacity only where it may have one
-abbrev pub may_stand : Place → Entry → Bool
-may_stand at e = nat_le at.stage (stage_of e) && cap_stands at.headed (most_of e)
+abbrev pub may_stand : Place → EntryForm → Bool
+may_stand at e = nat_le at.stage (stage_of e) && cap_stands at.headed (entry_cap e)
 
-abbrev pub IsUnitAt : Place → Entry → List Tok → Type 0
+abbrev pub IsUnitAt : Place → EntryForm → List Tok → Type 0
 IsUnitAt at = Tested (may_stand at) IsUnit
 
 -- behind any unit there is no header
-abbrev pub is_header : Entry → Bool
+abbrev pub is_header : EntryForm → Bool
 is_header e = stage_of e == 0
 
-abbrev pub next_place : Place → Entry → Place
+abbrev pub next_place : Place → EntryForm → Place
 next_place at e = record { stage = if is_header e then 1 else stage_of e; headed = at.headed || is_header e }
 
 -- where a text begins: a header may come where the second token is one byte long, as `2` is
@@ -220,7 +220,7 @@ abbrev pub empty_text : TextForm
 empty_text = record { plan = empty_form; caps = [] }
 
 -- with one entry more, at the end of its list
-abbrev pub add_entry : TextForm → Entry → TextForm
+abbrev pub add_entry : TextForm → EntryForm → TextForm
 add_entry t header = t
 add_entry t (output d) = record { plan = record t.plan { outputs = t.plan.outputs ++ d ∷ [] }; caps = t.caps }
 add_entry t (input d) = record { plan = record t.plan { inputs = t.plan.inputs ++ d ∷ [] }; caps = t.caps }
@@ -229,18 +229,18 @@ add_entry t (table d) = record { plan = record t.plan { tables = t.plan.tables +
 add_entry t (private v) = record { plan = record t.plan { vars = t.plan.vars ++ v ∷ [] }; caps = t.caps }
 add_entry t (operator o) = record { plan = record t.plan { ops = t.plan.ops ++ o ∷ [] }; caps = t.caps }
 
-abbrev pub add_all : TextForm → List Entry → TextForm
+abbrev pub add_all : TextForm → List EntryForm → TextForm
 add_all t [] = t
 add_all t (e ∷ es) = add_all (add_entry t e) es
 
 -- the units stand for the entries
-abbrev pub AreUnits : Place → List Entry → List (List Tok) → Type 0
+abbrev pub AreUnits : Place → List EntryForm → List (List Tok) → Type 0
 AreUnits at entries units = AllFormed IsUnitAt next_place at entries units
 
 -- what the text stands for: it has tokens, and their units stand for entries, one after another
 pub record IsText (text : List ℕ) (t : TextForm) : Type 0 where
   pub marks : List Mark
   pub lexed : tokens_in text ≡ Ok marks
-  pub entries : List Entry
+  pub entries : List EntryForm
   pub formed : AreUnits (first_place marks) entries (units_of (toks marks))
   pub is : t ≡ add_all empty_text entries

@@ -14,12 +14,12 @@ use Rattle.river_plan.specs.Forms.{OpForm}
 use Rattle.river_plan.specs.declared.plan.Decl.{Decl}
 use Rattle.river_plan.specs.declared.plan.TableDecl.{TableDecl}
 use Rattle.river_kernels.specs.Kern.{Kern}
-use Rattle.text_forms.specs.Parse.{Parse, is_word_at, name_at, var_at, run_at, then_read, then_rest}
-use Rattle.text_forms.specs.Parse.{given, both, after, after_word, before, maybe, tested, seen, known, merged, listing}
+use Rattle.text_forms.specs.Parse.{Parse, is_word_at, name_at, var_at, symbols_at, then_parsed, then_rest}
+use Rattle.text_forms.specs.Parse.{answer_at, both, after, after_word, before, maybe, tested, seen, known, merged, listing}
 use Rattle.text_forms.specs.Parse as parse
 use Rattle.text_forms.specs.Parse.{headed}
 use Rattle.text_forms.specs.Texts.{whole}
-use Rattle.river_text.specs.Plans.{brackets, made_decl, made_maximum, made_table, Port, queue, variable, Ports, same_vars, made_op, Entry, output, input, inner}
+use Rattle.river_text.specs.Plans.{brackets, made_decl, made_maximum, made_table, Port, queue, variable, Ports, same_vars, made_op, EntryForm, output, input, inner}
 use Rattle.river_text.specs.Plans.{table, private, operator, made_queue, is_two, as_header, may_stand, next_place, TextForm, add_entry}
 use Rattle.river_text.specs.declared.decl.QueueDecl.{QueueDecl}
 use Rattle.river_text.specs.declared.entry.Place.{Place}
@@ -107,17 +107,17 @@ op_of_parts label outs ins kernel = if same_vars (label, (outs, (ins, kernel))) 
 -- an operator, behind its name and what it writes
 unfoldable pub op_from_at : List ℕ → Ports → Parse OpForm
 op_from_at label outs ts =
-    then_rest (run_at (s.Less ∷ s.Minus ∷ []) ts)
-    (λ us. then_read (ports_at us) (λ ins vs. then_read (braced_at brackets vs) (λ kernel ws. given (op_of_parts label outs ins kernel) ws)))
+    then_rest (symbols_at (s.Less ∷ s.Minus ∷ []) ts)
+    (λ us. then_parsed (ports_at us) (λ ins vs. then_parsed (braced_at brackets vs) (λ kernel ws. answer_at (op_of_parts label outs ins kernel) ws)))
 
 unfoldable pub op_at : Parse OpForm
 op_at ts =
-    then_read (river_name_at ts) (λ label us. then_rest (run_at (s.Colon ∷ []) us) (λ vs. then_read (ports_at vs) (λ outs ws. op_from_at label outs ws)))
+    then_parsed (river_name_at ts) (λ label us. then_rest (symbols_at (s.Colon ∷ []) us) (λ vs. then_parsed (ports_at vs) (λ outs ws. op_from_at label outs ws)))
 
 unfoldable pub private_at : Parse (List ℕ)
 private_at ts = before river_var_at (s.Semicolon ∷ []) ts
 
-unfoldable pub unit_after : List ℕ → Parse Entry
+unfoldable pub unit_after : List ℕ → Parse EntryForm
 unit_after w ts =
     if bytes_eq w (codes "output") then seen output decl_at ts
     else if bytes_eq w (codes "input") then seen input decl_at ts
@@ -128,14 +128,14 @@ unit_after w ts =
     else if bytes_eq w (codes "river") then seen as_header header_at ts
     else None
 
-unfoldable pub unit_at : Parse Entry
+unfoldable pub unit_at : Parse EntryForm
 unit_at ts = headed unit_after ts
 
-abbrev pub unit_from : Place → Parse Entry
+abbrev pub unit_from : Place → Parse EntryForm
 unit_from at ts = tested (may_stand at) unit_at ts
 
 -- what the units say, of which the first has number n, behind what stands in t; or the first unit that is none
-abbrev pub with_entry : ℕ → (Entry → Result TextForm ℕ) → Option Entry → Result TextForm ℕ
+abbrev pub with_entry : ℕ → (EntryForm → Result TextForm ℕ) → Option EntryForm → Result TextForm ℕ
 with_entry n more None = Err n
 with_entry n more (Some e) = more e
 

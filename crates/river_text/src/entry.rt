@@ -3,9 +3,9 @@ ghost use Rattle.std.specs.Prelude.{◌≡◌, ◌↔◌, [], true, IsTrue, OnOk
 ghost use Rattle.text_forms.specs.Gives.{Gives};
 ghost use Rattle.text_forms.specs.Texts.{whole};
 ghost use Rattle.work_code.specs.Tok.{tokens_of};
-ghost use Rattle.river_text.specs.Plans.{add_entry, cap_stands, inner, may_stand, most_of, next_place, stage_of};
+ghost use Rattle.river_text.specs.Plans.{add_entry, cap_stands, inner, may_stand, entry_cap, next_place, stage_of};
 ghost use Rattle.river_text.specs.ReadPlans.{unit_at, unit_from};
-ghost use Rattle.river_text.specs.Entries.{entry_of, text_form};
+ghost use Rattle.river_text.specs.Entries.{entry_form, text_form};
 ghost use Rattle.text_forms.specs.Gives.{Makes};
 
 use crate::decl::{QueueDecl, decl, header, private, queue, table};
@@ -47,7 +47,7 @@ pub struct RiverText {
 impl Entry {
     /// The place of such units in a text: 0 for a header, 1 for outputs up to 6 for operators.
     pub fn stage(&self) -> u32
-        ensures { result ≡ stage_of (entry_of self.now) }
+        ensures { result ≡ stage_of (entry_form self.now) }
     {
         match self {
             Entry::Header => 0,
@@ -62,7 +62,7 @@ impl Entry {
 
     // The capacity that it gives to a queue.
     fn most(&self) -> Option<u32>
-        ensures { result ≡ most_of (entry_of self.now) }
+        ensures { result ≡ entry_cap (entry_form self.now) }
     {
         match self {
             Entry::Queue(queue) => queue.most,
@@ -72,14 +72,14 @@ impl Entry {
 
     // Whether it may stand there: late enough, and with a capacity only where it may have one.
     fn may_stand(&self, at: Place) -> bool
-        ensures { result ≡ may_stand at (entry_of self.now) }
+        ensures { result ≡ may_stand at (entry_form self.now) }
     {
         at.stage <= self.stage() && cap_stands(at.headed, self.most())
     }
 
     /// What may come behind it.
     pub fn next_place(&self, at: Place) -> Place
-        ensures { result ≡ next_place at (entry_of self.now) }
+        ensures { result ≡ next_place at (entry_form self.now) }
     {
         let stage = self.stage();
         let is_header = stage == 0;
@@ -91,7 +91,7 @@ impl Entry {
 
     /// Puts this at the end of its list.
     pub fn add_to(self, text: &mut RiverText) -> Result<(), NoMemory>
-        ensures { OnOk result (text_form text.new ≡ add_entry (text_form text.old) (entry_of self)) }
+        ensures { OnOk result (text_form text.new ≡ add_entry (text_form text.old) (entry_form self)) }
     {
         let plan = &mut text.raw;
         match self {
@@ -133,7 +133,7 @@ fn cap_stands(headed: bool, most: Option<u32>) -> bool
 // A unit.
 #[tactic(auto, unfolding(crate::specs::ReadPlans::unit_at, crate::specs::ReadPlans::unit_after))]
 fn unit(reader: &mut Reader<'_>, alloc: Global) -> Result<Entry, Fault>
-    ensures { Gives entry_of result reader.new (unit_at reader.old) }
+    ensures { Gives entry_form result reader.new (unit_at reader.old) }
 {
     let word = reader.name()?;
     if is(word, b"output") {
@@ -163,7 +163,7 @@ fn unit(reader: &mut Reader<'_>, alloc: Global) -> Result<Entry, Fault>
 
 // Whether an entry may stand there, and no token is left behind it.
 fn fits(entry: &Entry, reader: &Reader<'_>, at: Place) -> bool
-    ensures { IsTrue result ↔ ((reader.now ≡ []) × (may_stand at (entry_of entry.now) ≡ true)) }
+    ensures { IsTrue result ↔ ((reader.now ≡ []) × (may_stand at (entry_form entry.now) ≡ true)) }
 {
     reader.is_at_end() && entry.may_stand(at)
 }
@@ -171,7 +171,7 @@ fn fits(entry: &Entry, reader: &Reader<'_>, at: Place) -> bool
 /// The entry of a whole unit that stands there.
 #[tactic(auto, using(crate::proofs::Wholes::whole_none))]
 pub fn whole_entry(alloc: Global, tokens: &[Lexeme<'_>], at: Place) -> Result<Entry, Fault>
-    ensures { Makes entry_of result (whole (unit_from at) (tokens_of tokens.now)) }
+    ensures { Makes entry_form result (whole (unit_from at) (tokens_of tokens.now)) }
 {
     let mut reader = Reader::new(tokens);
     let entry = unit(&mut reader, alloc)?;

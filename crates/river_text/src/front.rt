@@ -1,7 +1,7 @@
 // From a text to its plan.
 ghost use Rattle.std.specs.Prelude.{◌≡◌, ◌<◌, ◌^◌, length, Ok, IfOk, IfErr};
 ghost use Rattle.river_plan.specs.Caps.{AreCaps};
-ghost use Rattle.river_text.specs.Checked.{form_of};
+ghost use Rattle.river_text.specs.Checked.{text_form_of};
 ghost use Rattle.river_text.specs.Meaning.{plan_in, Refused};
 
 use crate::{RiverFault, RiverText, read_river};
@@ -26,7 +26,7 @@ pub struct RiverPlan {
 #[tactic(auto, using(crate::proofs::Fronts::fronts))]
 pub fn compile_river(alloc: Global, text: &Bytes) -> Result<RiverPlan, RiverFault>
     requires { length text.now < 2 ^ 32 }
-    ensures plan { IfOk result (λ read. plan_in text.now ≡ Ok (form_of read)) }
+    ensures plan { IfOk result (λ read. plan_in text.now ≡ Ok (text_form_of read)) }
     ensures caps { IfOk result (λ read. AreCaps read.caps) }
     ensures refused { IfErr result (Refused (plan_in text.now)) }
 {

@@ -19,7 +19,7 @@ use Rattle.plan_edits.specs.declared.unfit.Unfit.{Unfit}
 use Rattle.plan_edits.specs.declared.unfit.Unfit.TheVariants.{N2, N5}
 use Rattle.rw_fission.specs.Fission.{Way, by_packs, by_blocks, by_adds, split_by}
 use Rattle.plan_edits.specs.Lists.{first_with}
-use Rattle.rw_fission.specs.Made.{Made, made_of}
+use Rattle.rw_fission.specs.Made.{FissionNames, made_of}
 use Rattle.rw_fission.specs.May.{is_apart, MayPack, MayBlock, MayAdd}
 
 -- ANSWERS
@@ -104,18 +104,18 @@ accepted p l n p' h = op_found p l n p' (first_with (named_it l) p.ops) refl h
 
 -- FORMS
 
-pub record IsPacks (p : PlanForm) (op : OpForm) (m : Made) (n : ℕ) (source : Name) (t : FlatType) (w : Way) : Type 0 where
+pub record IsPacks (p : PlanForm) (op : OpForm) (m : FissionNames) (n : ℕ) (source : Name) (t : FlatType) (w : Way) : Type 0 where
   pub out : Name
   pub type : FlatType
   pub may : MayPack p op source out t type
   pub is : w ≡ by_packs p op m n type
 
-pub record IsBlocks (p : PlanForm) (op : OpForm) (m : Made) (n : ℕ) (source : Name) (w : Way) : Type 0 where
+pub record IsBlocks (p : PlanForm) (op : OpForm) (m : FissionNames) (n : ℕ) (source : Name) (w : Way) : Type 0 where
   pub form : FilterForm
   pub may : MayBlock p op source form
   pub is : w ≡ by_blocks p op m n form.pop form.push
 
-pub record IsAdds (p : PlanForm) (op : OpForm) (m : Made) (source : Name) (t : FlatType) (w : Way) : Type 0 where
+pub record IsAdds (p : PlanForm) (op : OpForm) (m : FissionNames) (source : Name) (t : FlatType) (w : Way) : Type 0 where
   pub may : MayAdd p op source t
   pub is : w ≡ by_adds p op m
 
@@ -123,7 +123,7 @@ either_is : {A : Type 0} (o q : Option A) (a : A) → either o q ≡ Some a → 
 either_is None q a h = inr h
 either_is (Some x) q a h = inl h
 
-packs_to_is : (p : PlanForm) (op : OpForm) (m : Made) (n : ℕ) (source out : Name) (t : FlatType) (w : Way) (k : QueueType) → op.reads ≡ source ∷ []
+packs_to_is : (p : PlanForm) (op : OpForm) (m : FissionNames) (n : ℕ) (source out : Name) (t : FlatType) (w : Way) (k : QueueType) → op.reads ≡ source ∷ []
     → kind_of (all_decls p) source ≡ Flat t
     → op.writes ≡ out ∷ [] → op.vars ≡ [] → kind_of (all_decls p) out ≡ k → packs_to p op m n k ≡ Some w → IsPacks p op m n source t w
 packs_to_is p op m n source out t w (Flat u) r ki ws vs ko h =
@@ -131,7 +131,7 @@ packs_to_is p op m n source out t w (Flat u) r ki ws vs ko h =
 packs_to_is p op m n source out t w (Pack u) r ki ws vs ko h = absurd (no_some w h)
 
 -- one output and no variable
-pub packs_is : (p : PlanForm) (op : OpForm) (m : Made) (n : ℕ) (source : Name) (t : FlatType) (w : Way) (ws vs : List Name) → op.reads ≡ source ∷ []
+pub packs_is : (p : PlanForm) (op : OpForm) (m : FissionNames) (n : ℕ) (source : Name) (t : FlatType) (w : Way) (ws vs : List Name) → op.reads ≡ source ∷ []
     → kind_of (all_decls p) source ≡ Flat t
     → op.writes ≡ ws → op.vars ≡ vs → packs_way p op m n ws vs ≡ Some w → IsPacks p op m n source t w
 packs_is p op m n source t w [] vs r ki ew ev h = absurd (no_some w h)
@@ -148,7 +148,7 @@ nil_is [] h = refl
 nil_is (x ∷ xs) h = absurd (cc h)
 
 -- a filter that takes all that it looks at
-pub blocks_is : (p : PlanForm) (op : OpForm) (m : Made) (n : ℕ) (source : Name) (w : Way) (k : Kern) → op.reads ≡ source ∷ [] → op.kernel ≡ k
+pub blocks_is : (p : PlanForm) (op : OpForm) (m : FissionNames) (n : ℕ) (source : Name) (w : Way) (k : Kern) → op.reads ≡ source ∷ [] → op.kernel ≡ k
     → blocks_way p op m n k ≡ Some w → IsBlocks p op m n source w
 blocks_is p op m n source w (filter f) r e h = ⊎_elim
     (λ t.
@@ -175,7 +175,7 @@ each_table tables (v ∷ vs) h x lt =
     (cases_name v x)
 
 -- tables alone
-pub adds_is : (p : PlanForm) (op : OpForm) (m : Made) (source : Name) (t : FlatType) (w : Way) (ws vs : List Name) → op.reads ≡ source ∷ []
+pub adds_is : (p : PlanForm) (op : OpForm) (m : FissionNames) (source : Name) (t : FlatType) (w : Way) (ws vs : List Name) → op.reads ≡ source ∷ []
     → kind_of (all_decls p) source ≡ Flat t
     → op.writes ≡ ws → op.vars ≡ vs → adds_way p op m ws vs ≡ Some w → IsAdds p op m source t w
 adds_is p op m source t w [] [] r ki ew ev h = absurd (no_some w h)
@@ -191,12 +191,12 @@ adds_is p op m source t w [] (v ∷ vs) r ki ew ev h = ⊎_elim
 adds_is p op m source t w (q ∷ qs) vs r ki ew ev h = absurd (no_some w h)
 
 -- one of the three
-pub record IsWay (p : PlanForm) (op : OpForm) (m : Made) (n : ℕ) (source : Name) (w : Way) : Type 0 where
+pub record IsWay (p : PlanForm) (op : OpForm) (m : FissionNames) (n : ℕ) (source : Name) (w : Way) : Type 0 where
   pub type : FlatType
   pub kind : kind_of (all_decls p) source ≡ Flat type
   pub one : IsPacks p op m n source type w ⊎ (IsBlocks p op m n source w ⊎ IsAdds p op m source type w)
 
-way_by : (p : PlanForm) (op : OpForm) (m : Made) (n : ℕ) (source : Name) (w : Way) (k : QueueType) → op.reads ≡ source ∷ [] → kind_of (all_decls p) source ≡ k
+way_by : (p : PlanForm) (op : OpForm) (m : FissionNames) (n : ℕ) (source : Name) (w : Way) (k : QueueType) → op.reads ≡ source ∷ [] → kind_of (all_decls p) source ≡ k
     → way_of p op m n k ≡ Some w → IsWay p op m n source w
 way_by p op m n source w (Pack t) r e h = absurd (no_some w h)
 way_by p op m n source w (Flat t) r e h = record {
@@ -212,6 +212,6 @@ way_by p op m n source w (Flat t) r e h = record {
 }
 
 -- a way that is found for an operator with one source is one of the three
-pub way_is : (p : PlanForm) (op : OpForm) (m : Made) (n : ℕ) (source : Name) (w : Way) → op.reads ≡ source ∷ []
+pub way_is : (p : PlanForm) (op : OpForm) (m : FissionNames) (n : ℕ) (source : Name) (w : Way) → op.reads ≡ source ∷ []
     → way_of p op m n (kind_of (all_decls p) source) ≡ Some w → IsWay p op m n source w
 way_is p op m n source w r h = way_by p op m n source w (kind_of (all_decls p) source) r refl h

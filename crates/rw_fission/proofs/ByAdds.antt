@@ -26,7 +26,7 @@ use Rattle.brooklet_model.proofs.Shapes.{first_turn}
 use Rattle.brooklet_model.proofs.Solutions.{count_here}
 use Rattle.rw_fission.specs.Fission.{Way, each_op, by_adds, replica_op, joiner_ops, split_ops, split_by}
 use Rattle.plan_edits.specs.Lists.{first_with}
-use Rattle.rw_fission.specs.Made.{Made}
+use Rattle.rw_fission.specs.Made.{FissionNames}
 use Rattle.rw_fission.specs.May.{MayAdd, IsApartPlan}
 use Rattle.rw_fission.specs.Splits.{Splits, dealt_to, sum_below}
 use Rattle.rw_fission.proofs.BlockLaw.{shares_are, are_shares}
@@ -40,7 +40,7 @@ use Rattle.plan_edits.proofs.Swap.{it_is, swap_of}
 use Rattle.rw_fission.proofs.WayLemmas.{deal_fits, copies_none, all_tables}
 use Rattle.rw_fission.proofs.Weighed.{weigh, weigh_ports, items_turns, one_adds, fed_adds}
 
-module _ (p : PlanForm) (l : Name) (op : OpForm) (m : Made) (n : ℕ) (source : Name) (t : FlatType) (v : IsPlan p)
+module _ (p : PlanForm) (l : Name) (op : OpForm) (m : FissionNames) (n : ℕ) (source : Name) (t : FlatType) (v : IsPlan p)
     (here : first_with (named_it l) p.ops ≡ Some op) (some : 0 < n) (y : MayAdd p op source t) where
   abbrev w : Way
   w = by_adds p op m

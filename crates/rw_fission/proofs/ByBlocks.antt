@@ -22,7 +22,7 @@ use Rattle.brooklet_model.proofs.Lists.{if_ge}
 use Rattle.brooklet_model.proofs.Solutions.{count_here}
 use Rattle.rw_fission.specs.Fission.{Way, equal_weights, each_op, by_blocks, replica_op, joiner_ops, split_ops, split_by}
 use Rattle.plan_edits.specs.Lists.{first_with}
-use Rattle.rw_fission.specs.Made.{Made, each_name}
+use Rattle.rw_fission.specs.Made.{FissionNames, each_name}
 use Rattle.rw_fission.specs.May.{MayBlock, IsApartPlan}
 use Rattle.rw_fission.specs.Splits.{Splits, JoinerGives, dealt_to}
 use Rattle.rw_fission.proofs.BlockLaw.{TakesBlocks, blocks_undo}
@@ -35,7 +35,7 @@ use Rattle.rw_fission.proofs.WayLemmas.{one_at_most, deal_fits, collect_fits, su
 no_tables : (tables vs : List Name) (w : Name) → vs ≡ w ∷ [] → count w tables ≡ 0 → kept_of (λ v. nat_lt 0 (count v tables)) vs ≡ []
 no_tables tables vs w e z = ap (kept_of (λ v. nat_lt 0 (count v tables))) e ∙ if_ge 0 (count w tables) (w ∷ []) [] (omega (arith, z))
 
-module _ (p : PlanForm) (l : Name) (op : OpForm) (m : Made) (n : ℕ) (source : Name) (f : FilterForm) (v : IsPlan p)
+module _ (p : PlanForm) (l : Name) (op : OpForm) (m : FissionNames) (n : ℕ) (source : Name) (f : FilterForm) (v : IsPlan p)
     (here : first_with (named_it l) p.ops ≡ Some op) (some : 0 < n) (y : MayBlock p op source f) where
   abbrev w : Way
   w = by_blocks p op m n f.pop f.push

@@ -23,7 +23,7 @@ use Rattle.brooklet_model.proofs.Ports.{shaped, counts}
 use Rattle.brooklet_model.proofs.Solutions.{count_here}
 use Rattle.rw_fission.specs.Fission.{Way, each_op, by_packs, replica_op, joiner_ops, split_ops, split_by}
 use Rattle.plan_edits.specs.Lists.{first_with}
-use Rattle.rw_fission.specs.Made.{Made}
+use Rattle.rw_fission.specs.Made.{FissionNames}
 use Rattle.rw_fission.specs.May.{MayPack, IsApartPlan}
 use Rattle.rw_fission.specs.Splits.{Splits, JoinerGives, dealt_to}
 use Rattle.rw_fission.proofs.BlockLaw.{shares_are, are_shares}
@@ -33,7 +33,7 @@ use Rattle.plan_edits.proofs.Surgery.{total-append, found, at_most_all}
 use Rattle.plan_edits.proofs.Swap.{it_is, swap_of}
 use Rattle.rw_fission.proofs.WayLemmas.{deal_fits, sum_zero, copies_none}
 
-module _ (p : PlanForm) (l : Name) (op : OpForm) (m : Made) (n : ℕ) (source out : Name) (t u : FlatType) (v : IsPlan p)
+module _ (p : PlanForm) (l : Name) (op : OpForm) (m : FissionNames) (n : ℕ) (source out : Name) (t u : FlatType) (v : IsPlan p)
     (here : first_with (named_it l) p.ops ≡ Some op) (some : 0 < n) (y : MayPack p op source out t u) where
   abbrev w : Way
   w = by_packs p op m n u

@@ -20,7 +20,7 @@ use Rattle.rw_fission.specs.Code.{IsPlace}
 use Rattle.plan_edits.specs.Lists.{first_with, swapped}
 use Rattle.plan_edits.proofs.Surgery.{total-append}
 use Rattle.rw_fission.proofs.Declared.{length_each}
-use Rattle.rw_fission.specs.Made.{Made, each_name}
+use Rattle.rw_fission.specs.Made.{FissionNames, each_name}
 
 -- TABLES
 
@@ -56,7 +56,7 @@ table_found x ts i t lt e n h =
 -- FORMS
 
 -- the way of an operator with one output
-pub one_way : (p : PlanForm) (op : OpForm) (m : Made) (n : ℕ) (ws vs : List Name) (w : Name) (k : QueueType) → length ws ≡ 1 → vs ≡ []
+pub one_way : (p : PlanForm) (op : OpForm) (m : FissionNames) (n : ℕ) (ws vs : List Name) (w : Name) (k : QueueType) → length ws ≡ 1 → vs ≡ []
     → ((d : Name) → w ≡ slice_index_or ws 0 d) → k ≡ kind_of (all_decls p) w → packs_way p op m n ws vs ≡ packs_to p op m n k
 one_way p op m n [] vs w k l e at h = absurd (omega (arith, l))
 one_way p op m n (x ∷ []) [] w k l e at h = ap (λ y. packs_to p op m n (kind_of (all_decls p) y)) (sym (at x)) ∙ ap (packs_to p op m n) (sym h)

@@ -27,10 +27,10 @@ use Rattle.plan_edits.proofs.Swap.{swapped_past}
 use Rattle.rw_fission.specs.Asked.{all_made, are_short, way_of, by_way, by_reads, by_op, fission_of}
 use Rattle.rw_fission.specs.Code.{longest}
 use Rattle.rw_fission.specs.Fission.{Way, replica_op, each_op, joiner_ops, split_ops, split_by}
-use Rattle.rw_fission.specs.Made.{Made, made_of, each_name, digits}
+use Rattle.rw_fission.specs.Made.{FissionNames, made_of, each_name, digits}
 use Rattle.rw_fission.specs.May.{is_apart, is_within, stand_once}
 use Rattle.rw_fission.specs.Splits.{given_names}
-use Rattle.rw_fission.specs.Splitting.{IsLabelled, Takes, IsSplit, IsOver, HasTwice, new_names, HasLong, FissionFails, FissionIsJudged}
+use Rattle.rw_fission.specs.Splitting.{IsLabelled, SplitsBy, IsSplitInto, IsOver, HasTwice, all_made_names, HasLong, FissionFails, FissionIsJudged}
 use Rattle.rw_fission.proofs.ByBlocks as blocking
 use Rattle.rw_fission.proofs.FissionLaw.{limit_in}
 use Rattle.rw_fission.proofs.FormJudged.{WayJudged, way_judged, one_way}
@@ -121,14 +121,14 @@ each_count f (suc n) zero lt = let s = one_same (f 0) in omega (arith, s)
 each_count f (suc n) (suc i) lt = let r = each_count (λ j. f (suc j)) n i (omega (arith, lt)) in omega (arith, r)
 
 module _ (l : Name) (n : ℕ) (op : OpForm) (w : Way) (some : 1 ≤ n) where
-  abbrev m : Made
+  abbrev m : FissionNames
   m = made_of l
 
   abbrev rest : List Name
   rest = each_name m.dealt n ++ (given_names m.given n w.join ++ w.new)
 
   -- where the longest is too long, a name that is made is
-  long_name : are_short (all_made m n) ≡ false → HasLong (new_names op m n w)
+  long_name : are_short (all_made m n) ≡ false → HasLong (all_made_names op m n w)
   long_name h =
       let e : nat_le (length l + longest n) 64 ≡ false = short_is l n (length l) (longest n) some refl refl ∙ h in
       let gt = leb-false (length l + longest n) 64 e in
@@ -152,7 +152,7 @@ module _ (l : Name) (n : ℕ) (op : OpForm) (w : Way) (some : 1 ≤ n) where
 
   -- where all are short that can be made, all are that are
   no_long : ((fits_64 m.splitter ≡ true) → (fits_64 m.joiner ≡ true) → (list_all fits_64 (each_name m.replica n) ≡ true) → list_all fits_64 w.new ≡ true)
-      → are_short (all_made m n) ≡ true → HasLong (new_names op m n w) → ⊥
+      → are_short (all_made m n) ≡ true → HasLong (all_made_names op m n w) → ⊥
   no_long new h o =
       let more = each_name m.replica n ++ (each_name m.dealt n ++ each_name m.given n) in
       let a = and_parts (fits_64 m.splitter) (fits_64 m.joiner && list_all fits_64 more) h in
@@ -169,12 +169,12 @@ module _ (l : Name) (n : ℕ) (op : OpForm) (w : Way) (some : 1 ≤ n) where
       let all = all_both fits_64 (labels (split_ops op m n w)) rest front
       (all_both fits_64 (each_name m.dealt n) (given_names m.given n w.join ++ w.new) d.0
       (all_both fits_64 (given_names m.given n w.join) w.new (given_short w.join d.1) (new a.0 b.0 c.0))) in
-      let le = leb-true (length o.0) 64 (name_passes fits_64 (new_names op m n w) o.0 all o.1) in
+      let le = leb-true (length o.0) 64 (name_passes fits_64 (all_made_names op m n w) o.0 all o.1) in
       let lt = o.2 in
       omega (arith, le, lt)
 
 -- the new variables have names that can be made
-new_short : (p : PlanForm) (l : Name) (op : OpForm) (n : ℕ) (source : Name) (w : Way) → Takes p op (made_of l) n source w → fits_64 (made_of l).splitter ≡ true
+new_short : (p : PlanForm) (l : Name) (op : OpForm) (n : ℕ) (source : Name) (w : Way) → SplitsBy p op (made_of l) n source w → fits_64 (made_of l).splitter ≡ true
     → fits_64 (made_of l).joiner ≡ true
     → list_all fits_64 (each_name (made_of l).replica n) ≡ true
     → list_all fits_64 w.new ≡ true
@@ -210,7 +210,7 @@ module _ (p : PlanForm) (l : Name) (n : ℕ) (v : IsPlan p) where
   Fails = FissionFails p l n
 
   abbrev Judged : Result PlanForm Unfit → Type 0
-  Judged = IsJudgedBy (FissionFails p l n) (IsSplit p l n)
+  Judged = IsJudgedBy (FissionFails p l n) (IsSplitInto p l n)
 
   -- THE OPERATOR
 
@@ -253,20 +253,20 @@ module _ (p : PlanForm) (l : Name) (n : ℕ) (v : IsPlan p) where
 
   -- THE RESULT
 
-  split_is : (p' : PlanForm) (k : IsSplit p l n p') → p' ≡ split_by p l k.op (made_of l) n (kind_of (all_decls p) k.source) k.way
+  split_is : (p' : PlanForm) (k : IsSplitInto p l n p') → p' ≡ split_by p l k.op (made_of l) n (kind_of (all_decls p) k.source) k.way
   split_is p' k =
       let ops = k.ops ∙ sym (swapped_is k.op k.at (split_ops k.op (made_of l) n k.way)) in
       λ i. record { outputs = k.outputs i; inputs = k.inputs i; queues = k.queues i; tables = k.tables i; vars = k.vars i; ops = ops i }
 
   -- a split by the same operator, input and way
-  parts_same : (a b : PlanForm) (k : IsSplit p l n a) (m : IsSplit p l n b) → (k.op ≡ m.op) × (k.source ≡ m.source) × (k.way ≡ m.way)
+  parts_same : (a b : PlanForm) (k : IsSplitInto p l n a) (m : IsSplitInto p l n b) → (k.op ≡ m.op) × (k.source ≡ m.source) × (k.way ≡ m.way)
   parts_same a b k m =
       let e = one_source k.op m.op k.source m.source k.at k.reads m.at m.reads in
-      let t = subst (λ o. Takes p o (made_of l) n k.source k.way) e.0 k.takes in
-      let u = subst (λ s. Takes p m.op (made_of l) n s k.way) e.1 t in
+      let t = subst (λ o. SplitsBy p o (made_of l) n k.source k.way) e.0 k.takes in
+      let u = subst (λ s. SplitsBy p m.op (made_of l) n s k.way) e.1 t in
       (e.0, e.1, one_way p m.op (made_of l) n m.source k.way m.way u m.takes)
 
-  one_split : (a b : PlanForm) → IsSplit p l n a → IsSplit p l n b → a ≡ b
+  one_split : (a b : PlanForm) → IsSplitInto p l n a → IsSplitInto p l n b → a ≡ b
   one_split a b k m =
       let e = parts_same a b k m in
       split_is a k
@@ -314,12 +314,12 @@ module _ (p : PlanForm) (l : Name) (n : ℕ) (v : IsPlan p) where
         abbrev type : QueueType
         type = kind_of (all_decls p) source
 
-        module _ (w : Way) (takes : Takes p op (made_of l) n source w) where
+        module _ (w : Way) (takes : SplitsBy p op (made_of l) n source w) where
           no4 : Fails N4 → ⊥
           no4 h =
               let e = one_source h.0 op h.1 source h.2 h.3 at reads in
-              let t = subst (λ o. Takes p o (made_of l) n source w) (sym e.0) takes in
-              let u = subst (λ s. Takes p h.0 (made_of l) n s w) (sym e.1) t in
+              let t = subst (λ o. SplitsBy p o (made_of l) n source w) (sym e.0) takes in
+              let u = subst (λ s. SplitsBy p h.0 (made_of l) n s w) (sym e.1) t in
               ⊎_elim
               (λ x. h.4 (x.0, x.1, x.2, x.3))
               (λ r. ⊎_elim (λ x. h.5 (x.1, x.2)) (λ x. h.6 x.2) r)
@@ -328,7 +328,7 @@ module _ (p : PlanForm) (l : Name) (n : ℕ) (v : IsPlan p) where
           abbrev whole : PlanForm
           whole = split_by p l op (made_of l) n type w
 
-          abbrev is_split : IsSplit p l n whole
+          abbrev is_split : IsSplitInto p l n whole
           is_split = record {
             op = op;
             source = source;
@@ -355,7 +355,7 @@ module _ (p : PlanForm) (l : Name) (n : ℕ) (v : IsPlan p) where
               r)
               h.2
 
-          fails5 : are_short (all_made (made_of l) n) && is_apart whole ≡ false → IsOver whole ⊎ (HasLong (new_names op (made_of l) n w) ⊎ HasTwice whole)
+          fails5 : are_short (all_made (made_of l) n) && is_apart whole ≡ false → IsOver whole ⊎ (HasLong (all_made_names op (made_of l) n w) ⊎ HasTwice whole)
           fails5 h = ⊎_elim
               (λ e. inr (inl (long_name l n op w (omega (arith, many)) e)))
               (λ e. ⊎_elim (λ o. inl o) (λ o. inr (inr o)) (apart_fails whole e))
@@ -415,9 +415,9 @@ module _ (p : PlanForm) (l : Name) (n : ℕ) (v : IsPlan p) where
   pub fission_judged : Judged (fission_of p l n)
   fission_judged = any (first_with (named_it l) p.ops) refl
 
-  pub one_result : (a b : PlanForm) → IsSplit p l n a → IsSplit p l n b → a ≡ b
+  pub one_result : (a b : PlanForm) → IsSplitInto p l n a → IsSplitInto p l n b → a ≡ b
   one_result a b k m = one_split a b k m
 
 -- fission answers what its conditions say
 pub fission_is_judged : FissionIsJudged
-fission_is_judged p l n made v = judged_law (FissionFails p l n) (IsSplit p l n) (fission_of p l n) (fission_judged p l n v) (one_result p l n v) made
+fission_is_judged p l n made v = judged_law (FissionFails p l n) (IsSplitInto p l n) (fission_of p l n) (fission_judged p l n v) (one_result p l n v) made

@@ -28,7 +28,7 @@ use Rattle.brooklet_model.proofs.TypedPlan.{typed_law}
 use Rattle.plan_edits.proofs.MeaningSame.{meaning_same}
 use Rattle.rw_fission.specs.Asked.{fission_of}
 use Rattle.rw_fission.specs.Laws.{FissionKeeps, FissionApart}
-use Rattle.rw_fission.specs.Made.{Made, made_of}
+use Rattle.rw_fission.specs.Made.{FissionNames, made_of}
 use Rattle.rw_fission.specs.May.{IsApartPlan, is_apart, is_within, stand_once}
 use Rattle.rw_fission.proofs.Accepted.{accepted, IsPacks, IsBlocks, IsAdds, IsWay, way_is}
 use Rattle.rw_fission.proofs.ByAdds as adding
@@ -130,7 +130,7 @@ abbrev pub Keeps : PlanForm → PlanForm → Type 0
 Keeps p p' = IsPlan p' × SameOuter p p' × ((inputs : List (List item.Item)) → AreTypedHistories p inputs → SameMeaning p p' inputs)
 
 module _ (p : PlanForm) (l : Name) (op : OpForm) (n : ℕ) (source : Name) (v : IsPlan p) (here : first_with (named_it l) p.ops ≡ Some op) (some : 0 < n) where
-  abbrev m : Made
+  abbrev m : FissionNames
   m = made_of l
 
   by_packs_keeps : (t : FlatType) (w : Way) → IsPacks p op m n source t w → IsApartPlan (split_by p l op m n (Flat t) w) → Keeps p (split_by p l op m n (Flat t) w)

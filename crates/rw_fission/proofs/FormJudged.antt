@@ -17,9 +17,9 @@ use Rattle.brooklet_model.proofs.Lists.{if_true}
 use Rattle.brooklet_model.proofs.Solutions.{count_here}
 use Rattle.rw_fission.specs.Asked.{packs_to, packs_way, is_nil, blocks_way, adds_way, way_of}
 use Rattle.rw_fission.specs.Fission.{Way, by_packs, by_blocks, by_adds}
-use Rattle.rw_fission.specs.Made.{Made}
+use Rattle.rw_fission.specs.Made.{FissionNames}
 use Rattle.rw_fission.specs.May.{MayPack, MayBlock, MayAdd}
-use Rattle.rw_fission.specs.Splitting.{CanPack, CanBlock, CanAdd, Takes}
+use Rattle.rw_fission.specs.Splitting.{CanPack, CanBlock, CanAdd, SplitsBy}
 use Rattle.rw_fission.proofs.Accepted.{packs_is, blocks_is, adds_is, no_some}
 
 all_named : (t : Name → Bool) (ws : List Name) → ((x : Name) → 0 < count x ws → t x ≡ true) → list_all t ws ≡ true
@@ -41,7 +41,7 @@ not_flat t u h = cc h
 some_none : {A : Type 0} (o : Option A) (a : A) → o ≡ None → o ≡ Some a → ⊥
 some_none o a e h = no_some a (sym e ∙ h)
 
-module _ (p : PlanForm) (op : OpForm) (m : Made) (n : ℕ) (source : Name) where
+module _ (p : PlanForm) (op : OpForm) (m : FissionNames) (n : ℕ) (source : Name) where
   -- WHERE A FORM IS THERE
 
   packs_some : (out : Name) (t u : FlatType) → MayPack p op source out t u → packs_way p op m n op.writes op.vars ≡ Some (by_packs p op m n u)
@@ -76,7 +76,7 @@ module _ (p : PlanForm) (op : OpForm) (m : Made) (n : ℕ) (source : Name) where
 
   -- what is answered: the form by which the operator is split, or that it has none of the three
   abbrev pub WayJudged : Option Way → Type 0
-  WayJudged (Some w) = Takes p op m n source w
+  WayJudged (Some w) = SplitsBy p op m n source w
   WayJudged None = (CanPack p op source → ⊥) × (CanBlock p op source → ⊥) × (CanAdd p op source → ⊥)
 
   module _ (reads : op.reads ≡ source ∷ []) where
@@ -114,7 +114,7 @@ module _ (p : PlanForm) (op : OpForm) (m : Made) (n : ℕ) (source : Name) where
     way_judged block = by_kind (kind_of (all_decls p) source) refl block
 
   -- there is one way
-  pub one_way : (w u : Way) → Takes p op m n source w → Takes p op m n source u → w ≡ u
+  pub one_way : (w u : Way) → SplitsBy p op m n source w → SplitsBy p op m n source u → w ≡ u
   one_way w u a b = ⊎_elim
       (λ x. ⊎_elim
       (λ y. packs_same x.0 x.1 x.2 y.0 y.1 y.2 w u x.3 x.4 y.3 y.4)

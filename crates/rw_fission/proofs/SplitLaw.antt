@@ -22,7 +22,7 @@ use Rattle.brooklet_model.proofs.Solutions.{count_here, lists_written, written_o
 use Rattle.brooklet_model.proofs.Traces.{adds_it, lists_cong}
 use Rattle.rw_fission.specs.Fission.{Way, outs_of, replica_op, splitter_op, joiner_ops, each_op, split_ops, split_by}
 use Rattle.plan_edits.specs.Lists.{first_with}
-use Rattle.rw_fission.specs.Made.{Made, each_name}
+use Rattle.rw_fission.specs.Made.{FissionNames, each_name}
 use Rattle.rw_fission.specs.Splits.{Splits, JoinerFits, JoinerGives, given_names, dealt_to, sum_below}
 use Rattle.plan_edits.specs.Meaning.{SameMeaning}
 use Rattle.plan_edits.proofs.Swap.{it_is, stay, swapped_hist, swapped_adds}
@@ -63,7 +63,7 @@ pub fed_one : (o : OpForm) (r : Name) (h : History) → o.reads ≡ r ∷ [] →
 fed_one o r h e k =
     one_input o.kernel (lists_of h o.reads) (first_kept o.kernel) k ∙ ap (λ rs. feed (fire o.kernel 0) (lists_of h rs 0) (first_kept o.kernel)) e
 
-module _ (Good : item.Item → Type 0) (p : PlanForm) (l : Name) (op : OpForm) (m : Made) (n : ℕ) (source : Name) (t : QueueType) (w : Way) (v : IsPlan p)
+module _ (Good : item.Item → Type 0) (p : PlanForm) (l : Name) (op : OpForm) (m : FissionNames) (n : ℕ) (source : Name) (t : QueueType) (w : Way) (v : IsPlan p)
     (here : first_with (named_it l) p.ops ≡ Some op) (y : Splits Good p l op m n source t w) where
   abbrev p' : PlanForm
   p' = split_by p l op m n t w

@@ -21,7 +21,7 @@ use Rattle.river_plan.proofs.NameLemmas.{cases_name, count-append, more_or_zero}
 use Rattle.brooklet_model.proofs.Solutions.{count_here}
 use Rattle.rw_fission.specs.Fission.{Way, equal_weights, outs_of, replica_op, splitter_op, joiner_ops, each_op, split_ops, split_by, decls, given_decls}
 use Rattle.plan_edits.specs.Lists.{first_with}
-use Rattle.rw_fission.specs.Made.{Made, each_name}
+use Rattle.rw_fission.specs.Made.{FissionNames, each_name}
 use Rattle.rw_fission.specs.Splits.{Splits, JoinerFits, given_types, given_names}
 use Rattle.plan_edits.proofs.Surgery.{total-append, before_append, found}
 use Rattle.river_plan.proofs.ShareLemmas.{each_append}
@@ -61,33 +61,33 @@ copies_before g a (suc n) known e h = (
   copies_before (λ i. g (suc i)) (λ i. a (suc i)) n _ (λ i. e (suc i)) (λ q lt. let k = h q (omega (arith, lt)) in omega (arith, k)),
 )
 
-joins_read : (x : Name) (op : OpForm) (m : Made) (n : ℕ) (j : Option (Kern × QueueType))
+joins_read : (x : Name) (op : OpForm) (m : FissionNames) (n : ℕ) (j : Option (Kern × QueueType))
     → total (reads_it x) (joiner_ops op m n j) ≡ count x (given_names m.given n j)
 joins_read x op m n None = refl
 joins_read x op m n (Some j) = omega arith
 
-joins_write : (p : PlanForm) (x : Name) (op : OpForm) (m : Made) (n k : ℕ) (j : Option (Kern × QueueType)) → JoinerFits p op k j
+joins_write : (p : PlanForm) (x : Name) (op : OpForm) (m : FissionNames) (n k : ℕ) (j : Option (Kern × QueueType)) → JoinerFits p op k j
     → total (writes_it x) (joiner_ops op m n j) ≡ count x op.writes
 joins_write p x op m n k None e = sym (ap (count x) e)
 joins_write p x op m n k (Some j) e = omega arith
 
-joins_before : (op : OpForm) (m : Made) (n : ℕ) (j : Option (Kern × QueueType)) (known : Name → ℕ)
+joins_before : (op : OpForm) (m : FissionNames) (n : ℕ) (j : Option (Kern × QueueType)) (known : Name → ℕ)
     → ((q : Name) → 0 < count q (given_names m.given n j) → 0 < known q) → ReadsBefore known (joiner_ops op m n j)
 joins_before op m n None known h = tt
 joins_before op m n (Some j) known h = (h, tt)
 
 -- what holds of the joiner
-pub each_join : (P : OpForm → Type 0) (op : OpForm) (m : Made) (n : ℕ) (j : Option (Kern × QueueType))
+pub each_join : (P : OpForm → Type 0) (op : OpForm) (m : FissionNames) (n : ℕ) (j : Option (Kern × QueueType))
     → ((k : Kern × QueueType) → j ≡ Some k → P (record { label = m.joiner; kernel = k.0; reads = each_name m.given n; writes = op.writes; vars = m.joiner ∷ [] }))
     → Each P (joiner_ops op m n j)
 each_join P op m n None h = tt
 each_join P op m n (Some j) h = (h j refl, tt)
 
-given_names_of : (m : Made) (n : ℕ) (j : Option (Kern × QueueType)) → decl_names (given_decls m n j) ≡ given_names m.given n j
+given_names_of : (m : FissionNames) (n : ℕ) (j : Option (Kern × QueueType)) → decl_names (given_decls m n j) ≡ given_names m.given n j
 given_names_of m n None = refl
 given_names_of m n (Some j) = names_of_decls j.1 (each_name m.given n)
 
-given_sized : (p : PlanForm) (op : OpForm) (m : Made) (n k : ℕ) (j : Option (Kern × QueueType)) → JoinerFits p op k j → All HasWidth (given_decls m n j)
+given_sized : (p : PlanForm) (op : OpForm) (m : FissionNames) (n k : ℕ) (j : Option (Kern × QueueType)) → JoinerFits p op k j → All HasWidth (given_decls m n j)
 given_sized p op m n k None e = All-nil HasWidth
 given_sized p op m n k (Some j) e = decls_sized j.1 (each_name m.given n) e.2
 
@@ -98,7 +98,7 @@ outer (d ∷ ds) h = All-cons HasWidth d ds (All-head IsOuter d ds h).0 (outer d
 one_at_most : (w x : Name) → count x (w ∷ []) ≤ 1
 one_at_most w x = ⊎_elim (λ c. let e = ap one_if c.1 in omega (arith, e)) (λ c. let e = ap one_if c.1 in omega (arith, e)) (cases_name w x)
 
-module _ (Good : item.Item → Type 0) (p : PlanForm) (l : Name) (op : OpForm) (m : Made) (n : ℕ) (source : Name) (t : QueueType) (w : Way) (v : IsPlan p)
+module _ (Good : item.Item → Type 0) (p : PlanForm) (l : Name) (op : OpForm) (m : FissionNames) (n : ℕ) (source : Name) (t : QueueType) (w : Way) (v : IsPlan p)
     (here : first_with (named_it l) p.ops ≡ Some op) (y : Splits Good p l op m n source t w) where
   -- the new plan
   abbrev pub p' : PlanForm

@@ -12,7 +12,7 @@ use Rattle.river_plan.specs.Names.{count}
 use Rattle.river_plan.specs.Uses.{named_it}
 use Rattle.rw_fission.specs.Fission.{Way, by_packs, by_blocks, by_adds, split_by}
 use Rattle.plan_edits.specs.Lists.{first_with}
-use Rattle.rw_fission.specs.Made.{Made, made_of, each_name}
+use Rattle.rw_fission.specs.Made.{FissionNames, made_of, each_name}
 use Rattle.rw_fission.specs.May.{is_apart}
 use Rattle.plan_edits.specs.declared.unfit.Unfit.{Unfit}
 use Rattle.plan_edits.specs.declared.unfit.Unfit.TheVariants.{N1, N2, N3, N4, N5, NoMemory}
@@ -20,11 +20,11 @@ use Rattle.plan_edits.specs.declared.unfit.Unfit.TheVariants.{N1, N2, N3, N4, N5
 -- THE FORM
 
 -- no variable, one output, which is flat
-abbrev pub packs_to : PlanForm → OpForm → Made → ℕ → QueueType → Option Way
+abbrev pub packs_to : PlanForm → OpForm → FissionNames → ℕ → QueueType → Option Way
 packs_to p op m n (Flat u) = Some (by_packs p op m n u)
 packs_to p op m n (Pack u) = None
 
-abbrev pub packs_way : PlanForm → OpForm → Made → ℕ → (writes vars : List Name) → Option Way
+abbrev pub packs_way : PlanForm → OpForm → FissionNames → ℕ → (writes vars : List Name) → Option Way
 packs_way p op m n [] vs = None
 packs_way p op m n (out ∷ []) [] = packs_to p op m n (kind_of (all_decls p) out)
 packs_way p op m n (out ∷ []) (v ∷ vs) = None
@@ -35,35 +35,35 @@ is_nil [] = true
 is_nil (x ∷ xs) = false
 
 -- a filter that takes all that it looks at, keeps no slot, pushes something, and whose first run is as the others
-abbrev pub blocks_way : PlanForm → OpForm → Made → ℕ → Kern → Option Way
+abbrev pub blocks_way : PlanForm → OpForm → FissionNames → ℕ → Kern → Option Way
 blocks_way p op m n (filter f) =
     if nat_eq f.peek f.pop && (is_nil f.starts && (is_none f.first && nat_le 1 f.push)) then Some (by_blocks p op m n f.pop f.push) else None
 blocks_way p op m n kernel = None
 
 -- no output, at least one variable, all of them tables
-abbrev pub adds_way : PlanForm → OpForm → Made → (writes vars : List Name) → Option Way
+abbrev pub adds_way : PlanForm → OpForm → FissionNames → (writes vars : List Name) → Option Way
 adds_way p op m [] [] = None
 adds_way p op m [] (v ∷ vs) = if list_all (λ x. nat_lt 0 (count x (table_names p.tables))) (v ∷ vs) then Some (by_adds p op m) else None
 adds_way p op m (q ∷ qs) vs = None
 
-abbrev pub flat_way : PlanForm → OpForm → Made → ℕ → Option Way
+abbrev pub flat_way : PlanForm → OpForm → FissionNames → ℕ → Option Way
 flat_way p op m n = either (packs_way p op m n op.writes op.vars) (either (blocks_way p op m n op.kernel) (adds_way p op m op.writes op.vars))
 
-abbrev pub way_of : PlanForm → OpForm → Made → ℕ → QueueType → Option Way
+abbrev pub way_of : PlanForm → OpForm → FissionNames → ℕ → QueueType → Option Way
 way_of p op m n (Flat t) = flat_way p op m n
 way_of p op m n (Pack t) = None
 
 -- THE ANSWER
 
 -- all names that are made
-abbrev pub all_made : Made → ℕ → List Name
+abbrev pub all_made : FissionNames → ℕ → List Name
 all_made m n = m.splitter ∷ m.joiner ∷ (each_name m.replica n ++ (each_name m.dealt n ++ each_name m.given n))
 
 abbrev pub are_short : List Name → Bool
 are_short ws = list_all (λ w. nat_le (length w) 64) ws
 
 -- the plan, if what is made fits
-abbrev pub fitting : Made → ℕ → PlanForm → Result PlanForm Unfit
+abbrev pub fitting : FissionNames → ℕ → PlanForm → Result PlanForm Unfit
 fitting m n q = if are_short (all_made m n) && is_apart q then Ok q else Err N5
 
 abbrev pub by_way : PlanForm → Name → OpForm → ℕ → QueueType → Option Way → Result PlanForm Unfit

@@ -8,7 +8,7 @@ use Rattle.river_plan.specs.Forms.{Name, OpForm, PlanForm, op_forms}
 use Rattle.river_plan.specs.Uses.{named_it}
 use Rattle.rw_fission.specs.Fission.{Way, split_ops, decls, given_decls, by_packs, by_blocks, by_adds}
 use Rattle.plan_edits.specs.Lists.{first_with, swapped}
-use Rattle.rw_fission.specs.Made.{Made, made_of, each_name, digits}
+use Rattle.rw_fission.specs.Made.{FissionNames, made_of, each_name, digits}
 use Rattle.river_plan.specs.Valid.{IsPlan}
 use Rattle.plan_edits.specs.declared.unfit.Unfit.{Unfit}
 use Rattle.plan_edits.specs.declared.unfit.Unfit.TheVariants.{N5, NoMemory}
@@ -29,19 +29,19 @@ Placed l ops None = first_with (named_it l) ops ≡ None
 Placed l ops (Some i) = IsPlace l ops i
 
 -- the way of a form
-abbrev pub way_by : PlanForm → OpForm → Made → ℕ → Form → Way
+abbrev pub way_by : PlanForm → OpForm → FissionNames → ℕ → Form → Way
 way_by p op m n (Packs u) = by_packs p op m n u
 way_by p op m n (Blocks pop push) = by_blocks p op m n pop push
 way_by p op m n Adds = by_adds p op m
 
 -- the ways of the form that was found
-abbrev pub way_in : PlanForm → OpForm → Made → ℕ → Option Form → Option Way
+abbrev pub way_in : PlanForm → OpForm → FissionNames → ℕ → Option Form → Option Way
 way_in p op m n None = None
 way_in p op m n (Some f) = Some (way_by p op m n f)
 
 -- the form that was found, in a plan and an operator, by this part of the definition
-abbrev pub FormIs : PlanForm → OpForm → (Made → ℕ → Option Way) → Option Form → Type 0
-FormIs p op way o = (m : Made) (n : ℕ) → way m n ≡ way_in p op m n o
+abbrev pub FormIs : PlanForm → OpForm → (FissionNames → ℕ → Option Way) → Option Form → Type 0
+FormIs p op way o = (m : FissionNames) (n : ℕ) → way m n ≡ way_in p op m n o
 
 -- how many bytes are behind a label at most
 abbrev pub longest : ℕ → ℕ
@@ -68,11 +68,11 @@ abbrev pub IsPlaceOf : OpForm → List Op → ℕ → Type 0
 IsPlaceOf op ops i = slice_get (op_forms ops) i ≡ Some op
 
 -- the new operators in its place
-abbrev pub split_at : List OpForm → ℕ → OpForm → Made → ℕ → Way → List OpForm
+abbrev pub split_at : List OpForm → ℕ → OpForm → FissionNames → ℕ → Way → List OpForm
 split_at ops i op m n w = take i ops ++ (split_ops op m n w ++ drop (i + 1) ops)
 
 -- the plan with the new operators in the place of one
-abbrev pub split_plan : PlanForm → ℕ → OpForm → Made → ℕ → QueueType → Way → PlanForm
+abbrev pub split_plan : PlanForm → ℕ → OpForm → FissionNames → ℕ → QueueType → Way → PlanForm
 split_plan p i op m n t w = record p {
   queues = p.queues ++ (decls t (each_name m.dealt n) ++ given_decls m n w.join);
   vars = w.stay ++ w.new;
@@ -80,13 +80,13 @@ split_plan p i op m n t w = record p {
 }
 
 -- the plan, its operators and its queues, where the one at a place is split by a form
-abbrev pub formed_plan : PlanForm → ℕ → OpForm → Made → ℕ → QueueType → Form → PlanForm
+abbrev pub formed_plan : PlanForm → ℕ → OpForm → FissionNames → ℕ → QueueType → Form → PlanForm
 formed_plan p i op m n t f = split_plan p i op m n t (way_by p op m n f)
 
-abbrev pub formed_ops : PlanForm → List OpForm → ℕ → OpForm → Made → ℕ → Form → List OpForm
+abbrev pub formed_ops : PlanForm → List OpForm → ℕ → OpForm → FissionNames → ℕ → Form → List OpForm
 formed_ops p ops i op m n f = split_at ops i op m n (way_by p op m n f)
 
-abbrev pub formed_queues : PlanForm → OpForm → Made → ℕ → QueueType → Form → List Decl
+abbrev pub formed_queues : PlanForm → OpForm → FissionNames → ℕ → QueueType → Form → List Decl
 formed_queues p op m n t f = p.queues ++ (decls t (each_name m.dealt n) ++ given_decls m n (way_by p op m n f).join)
 
 -- the plan of the lists, where they are valid

@@ -8,7 +8,7 @@ use Rattle.river_kernels.specs.Fits.{rows}
 use Rattle.river_plan.specs.declared.plan.Decl.{Decl}
 use Rattle.river_plan.specs.Forms.{Name, OpForm, PlanForm}
 use Rattle.river_plan.specs.Names.{count}
-use Rattle.rw_fission.specs.Made.{Made, each_name}
+use Rattle.rw_fission.specs.Made.{FissionNames, each_name}
 use Rattle.plan_edits.specs.Lists.{swapped}
 
 -- n weights
@@ -26,7 +26,7 @@ pub record Way : Type 0 where
   pub new : List Name
 
 -- each replica packs what it gives for an item
-abbrev pub by_packs : PlanForm → OpForm → Made → ℕ → FlatType → Way
+abbrev pub by_packs : PlanForm → OpForm → FissionNames → ℕ → FlatType → Way
 by_packs p op m n u = record {
   share = 1;
   inner = packed op.kernel;
@@ -41,7 +41,7 @@ abbrev pub names_without : List Name → List Name → List Name
 names_without gone ws = filter (λ w. nat_lt (count w gone) 1) ws
 
 -- each replica is the filter, and gets a block
-abbrev pub by_blocks : PlanForm → OpForm → Made → ℕ → (pop push : ℕ) → Way
+abbrev pub by_blocks : PlanForm → OpForm → FissionNames → ℕ → (pop push : ℕ) → Way
 by_blocks p op m n pop push = record {
   share = pop;
   inner = op.kernel;
@@ -52,7 +52,7 @@ by_blocks p op m n pop push = record {
 }
 
 -- each replica adds to the same tables
-abbrev pub by_adds : PlanForm → OpForm → Made → Way
+abbrev pub by_adds : PlanForm → OpForm → FissionNames → Way
 by_adds p op m = record {
   share = 1;
   inner = op.kernel;
@@ -64,7 +64,7 @@ by_adds p op m = record {
 
 -- THE RESULT
 
-abbrev pub splitter_op : OpForm → Made → ℕ → Way → OpForm
+abbrev pub splitter_op : OpForm → FissionNames → ℕ → Way → OpForm
 splitter_op op m n w = record { label = m.splitter; kernel = deal (equal_weights n w.share); reads = op.reads; writes = each_name m.dealt n; vars = m.splitter ∷ [] }
 
 -- what a replica writes
@@ -72,7 +72,7 @@ abbrev pub outs_of : Option (Kern × QueueType) → Name → List Name
 outs_of None b = []
 outs_of (Some j) b = b ∷ []
 
-abbrev pub replica_op : Way → Made → ℕ → OpForm
+abbrev pub replica_op : Way → FissionNames → ℕ → OpForm
 replica_op w m i = record { label = m.replica i; kernel = w.inner; reads = m.dealt i ∷ []; writes = outs_of w.join (m.given i); vars = w.vars i }
 
 -- the operators that f gives for the numbers below n
@@ -80,11 +80,11 @@ abbrev pub each_op : (ℕ → OpForm) → ℕ → List OpForm
 each_op f zero = []
 each_op f (suc n) = f 0 ∷ each_op (λ i. f (suc i)) n
 
-abbrev pub joiner_ops : OpForm → Made → ℕ → Option (Kern × QueueType) → List OpForm
+abbrev pub joiner_ops : OpForm → FissionNames → ℕ → Option (Kern × QueueType) → List OpForm
 joiner_ops op m n None = []
 joiner_ops op m n (Some j) = record { label = m.joiner; kernel = j.0; reads = each_name m.given n; writes = op.writes; vars = m.joiner ∷ [] } ∷ []
 
-abbrev pub split_ops : OpForm → Made → ℕ → Way → List OpForm
+abbrev pub split_ops : OpForm → FissionNames → ℕ → Way → List OpForm
 split_ops op m n w = splitter_op op m n w ∷ (each_op (replica_op w m) n ++ joiner_ops op m n w.join)
 
 -- declarations of these names, all of one type
@@ -92,11 +92,11 @@ abbrev pub decls : QueueType → List Name → List Decl
 decls t [] = []
 decls t (w ∷ ws) = record { name = w; kind = t } ∷ decls t ws
 
-abbrev pub given_decls : Made → ℕ → Option (Kern × QueueType) → List Decl
+abbrev pub given_decls : FissionNames → ℕ → Option (Kern × QueueType) → List Decl
 given_decls m n None = []
 given_decls m n (Some j) = decls j.1 (each_name m.given n)
 
-abbrev pub split_by : PlanForm → Name → OpForm → Made → ℕ → QueueType → Way → PlanForm
+abbrev pub split_by : PlanForm → Name → OpForm → FissionNames → ℕ → QueueType → Way → PlanForm
 split_by p l op m n t w = record p {
   queues = p.queues ++ (decls t (each_name m.dealt n) ++ given_decls m n w.join);
   vars = w.stay ++ w.new;

@@ -13,7 +13,7 @@ use Rattle.plan_edits.specs.declared.unfit.Unfit.TheVariants.{U1, U2, U3, U4, U5
 use Rattle.plan_edits.specs.Judged.{IsJudgedBy}
 use Rattle.rw_fission.specs.Asked.{fission_of}
 use Rattle.rw_fission.specs.Fission.{Way, by_packs, by_blocks, by_adds, split_ops, decls, given_decls}
-use Rattle.rw_fission.specs.Made.{Made, made_of, each_name}
+use Rattle.rw_fission.specs.Made.{FissionNames, made_of, each_name}
 use Rattle.rw_fission.specs.May.{MayPack, MayBlock, MayAdd}
 use Rattle.rw_fission.specs.Splits.{given_names}
 
@@ -39,8 +39,8 @@ abbrev pub CanAdd : PlanForm → OpForm → Name → Type 0
 CanAdd p op source = (t : FlatType) × MayAdd p op source t × (0 < length op.vars)
 
 -- how the operator is split: by the first of the forms that it has
-abbrev pub Takes : PlanForm → OpForm → Made → ℕ → Name → Way → Type 0
-Takes p op m n source w =
+abbrev pub SplitsBy : PlanForm → OpForm → FissionNames → ℕ → Name → Way → Type 0
+SplitsBy p op m n source w =
     ((out : Name) × (t : FlatType) × (u : FlatType) × MayPack p op source out t u × (w ≡ by_packs p op m n u))
     ⊎ (((CanPack p op source → ⊥) × (f : FilterForm) × MayBlock p op source f × (w ≡ by_blocks p op m n f.pop f.push))
     ⊎ ((CanPack p op source → ⊥) × (CanBlock p op source → ⊥) × CanAdd p op source × (w ≡ by_adds p op m)))
@@ -49,13 +49,13 @@ Takes p op m n source w =
 
 -- p' is the plan in which a splitter, n replicas and, where there is an output, a joiner stand in the operator's place. The
 -- queues that they have between them and their variables are behind those of the plan; all else stays.
-pub record IsSplit (p : PlanForm) (l : Name) (n : ℕ) (p' : PlanForm) : Type 0 where
+pub record IsSplitInto (p : PlanForm) (l : Name) (n : ℕ) (p' : PlanForm) : Type 0 where
   pub op : OpForm
   pub source : Name
   pub way : Way
   pub at : IsLabelled p l op
   pub reads : op.reads ≡ source ∷ []
-  pub takes : Takes p op (made_of l) n source way
+  pub takes : SplitsBy p op (made_of l) n source way
   pub ops : p'.ops ≡ at.before ++ (split_ops op (made_of l) n way ++ at.behind)
   pub queues : p'.queues ≡ p.queues ++ (decls (kind_of (all_decls p) source) (each_name (made_of l).dealt n) ++ given_decls (made_of l) n way.join)
   pub vars : p'.vars ≡ way.stay ++ way.new
@@ -72,8 +72,8 @@ abbrev pub HasTwice : PlanForm → Type 0
 HasTwice r = (x : Name) × ((1 < count x (queue_names r)) ⊎ ((1 < count x (variable_names r)) ⊎ (1 < count x (labels r.ops))))
 
 -- the names that are made: labels, queues, variables
-abbrev pub new_names : OpForm → Made → ℕ → Way → List Name
-new_names op m n w = labels (split_ops op m n w) ++ (each_name m.dealt n ++ (given_names m.given n w.join ++ w.new))
+abbrev pub all_made_names : OpForm → FissionNames → ℕ → Way → List Name
+all_made_names op m n w = labels (split_ops op m n w) ++ (each_name m.dealt n ++ (given_names m.given n w.join ++ w.new))
 
 -- one of them is longer than 64 bytes
 abbrev pub HasLong : List Name → Type 0
@@ -95,7 +95,7 @@ FissionFails p l n N4 =
     × (CanPack p op source → ⊥) × (CanBlock p op source → ⊥) × (CanAdd p op source → ⊥)
 -- the result exceeds a limit, or a name that is made is longer than 64 bytes, or a name stands twice in it
 FissionFails p l n N5 =
-    (p' : PlanForm) × (s : IsSplit p l n p') × (IsOver p' ⊎ (HasLong (new_names s.op (made_of l) n s.way) ⊎ HasTwice p'))
+    (p' : PlanForm) × (s : IsSplitInto p l n p') × (IsOver p' ⊎ (HasLong (all_made_names s.op (made_of l) n s.way) ⊎ HasTwice p'))
 FissionFails p l n U1 = ⊥
 FissionFails p l n U2 = ⊥
 FissionFails p l n U3 = ⊥
@@ -111,4 +111,4 @@ FissionFails p l n NoMemory = ⊥
 abbrev pub FissionIsJudged : Type 0
 FissionIsJudged =
     (p : PlanForm) (l : Name) (n : ℕ) (made : Result PlanForm Unfit) → IsPlan p
-    → (fission_of p l n ≡ made) ↔ IsJudgedBy (FissionFails p l n) (IsSplit p l n) made
+    → (fission_of p l n ≡ made) ↔ IsJudgedBy (FissionFails p l n) (IsSplitInto p l n) made

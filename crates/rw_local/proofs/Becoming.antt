@@ -12,7 +12,7 @@ use Rattle.brooklet_model.proofs.Lists.{if_lt, if_ge}
 use Rattle.plan_edits.specs.declared.unfit.Unfit.{Unfit}
 use Rattle.plan_edits.specs.declared.unfit.Unfit.TheVariants.{H3, H4}
 use Rattle.rw_local.specs.Hoist.{two_terms, one_term, as_input, refielded, plain_field, of_projection, of_first, of_second, at_side, either_side, or_h4, passes}
-use Rattle.rw_local.specs.Hoisting.{ReadsField, Becomes, IsCopy, LetsPass, Stops, Goes}
+use Rattle.rw_local.specs.Hoisting.{ReadsField, Becomes, IsCopy, LetsPass, StopsHoisting, Goes}
 use Rattle.rw_local.proofs.Fields.{one_some, two_some, input_some, plain_is, some_term, first_is, second_is}
 
 -- WHERE A FIELD HAS NONE
@@ -129,9 +129,9 @@ second_sum w i j h = let s = second_is w i j h in let a = s.0 in let b = s.1 in 
 module _ (w : ℕ) (t : Term) where
   -- what is answered of an operator of this kernel
   abbrev pub PassJudged : Kern → Result (ℕ × Term) Unfit → Type 0
-  PassJudged k (Ok x) = LetsPass k × (Stops w k t → ⊥) × Goes w k t x.0 x.1
+  PassJudged k (Ok x) = LetsPass k × (StopsHoisting w k t → ⊥) × Goes w k t x.0 x.1
   PassJudged k (Err H3) = LetsPass k → ⊥
-  PassJudged k (Err H4) = LetsPass k × Stops w k t
+  PassJudged k (Err H4) = LetsPass k × StopsHoisting w k t
   PassJudged k (Err f) = ⊥
 
   projection : (es : List Term) (o : Option Term) → refielded (of_projection es) t ≡ o → PassJudged (project es) (or_h4 (at_side 0 o))

@@ -24,7 +24,7 @@ use Rattle.plan_edits.specs.declared.unfit.Unfit.TheVariants.{U1, U2, U3, U4, U5
 use Rattle.plan_edits.specs.Lists.{place_of_name, first_with, replaced, retyped}
 use Rattle.plan_edits.specs.Answered.{IsAnswered}
 use Rattle.rw_local.specs.HoistCode.{IsPassing}
-use Rattle.rw_local.specs.Hoist.{plain_field, of_projection, width_at, first_width, passes, hoisted_plan, hoist_at, hoist_passed, hoist_past, hoist_between}
+use Rattle.rw_local.specs.Hoist.{plain_field, of_projection, first_side_width, first_width, passes, hoisted_plan, hoist_at, hoist_passed, hoist_past, hoist_between}
 use Rattle.rw_local.specs.Hoist.{hoist_kernel, hoist_found, hoist_of, MayHoist}
 use Rattle.plan_edits.proofs.OpLoops.{forms_next}
 use Rattle.rw_local.proofs.HoistLaw.{hoist_keeps, mid_inner}
@@ -42,9 +42,9 @@ plain_past xs i ge = sym (ap plain_field (slice_get-map term xs i ∙ ap (option
 
 -- the width of the first input
 pub width_first : (kind : Name → QueueType) (rs : List Name) (r : Name) (n : ℕ) → 0 < length rs → ((d : Name) → r ≡ slice_index_or rs 0 d)
-    → n ≡ width_at (kind r) → n ≡ first_width (map kind rs)
+    → n ≡ first_side_width (kind r) → n ≡ first_width (map kind rs)
 width_first kind [] r n lt e h = absurd (omega (arith, lt))
-width_first kind (x ∷ rs) r n lt e h = h ∙ ap (λ m. width_at (kind m)) (e r)
+width_first kind (x ∷ rs) r n lt e h = h ∙ ap (λ m. first_side_width (kind m)) (e r)
 
 -- the first name
 pub got_first : (rs : List Name) (r : Name) → 0 < length rs → ((d : Name) → r ≡ slice_index_or rs 0 d) → Some r ≡ slice_get rs 0

@@ -31,7 +31,7 @@ use Rattle.rw_local.specs.Fusion.{Feeds}
 use Rattle.rw_local.specs.Hoist.{first_width, passes, raised, lowered, hoisted_plan, hoist_at, hoist_passed, hoist_past, hoist_between}
 use Rattle.rw_local.specs.Hoist.{hoist_kernel, hoist_found}
 use Rattle.rw_local.specs.Hoist.{hoist_of}
-use Rattle.rw_local.specs.Hoisting.{Selects, IsFed, HasFirstWidth, LetsPass, Stops, Goes, HoistFails, IsHoisted, HoistingIsJudged}
+use Rattle.rw_local.specs.Hoisting.{SelectsBy, IsFed, HasFirstWidth, LetsPass, StopsHoisting, Goes, HoistFails, IsHoisted, HoistingIsJudged}
 use Rattle.rw_local.proofs.Becoming.{PassJudged, passes_judged, goes_passes, goes_below, passed_reads}
 use Rattle.rw_local.proofs.Cuts.{spliced_cut, declared, retyped_cut}
 use Rattle.rw_local.proofs.FuseCode.{declared_there}
@@ -105,7 +105,7 @@ module _ (p : PlanForm) (l : Name) (v : IsPlan p) where
 
   -- THE SELECTION
 
-  selects_first : (u : OpForm) (t : Term) → Selects p l u t → first_with (named_it l) p.ops ≡ Some u
+  selects_first : (u : OpForm) (t : Term) → SelectsBy p l u t → first_with (named_it l) p.ops ≡ Some u
   selects_first u t s =
       let n : named_it l u ≡ 1 = ap one_if (subst (λ m. name_eq u.label m ≡ true) s.label (name_same u.label)) in
       let a = ap (total (named_it l)) s.ops ∙ total-append (named_it l) s.before (u ∷ s.behind) in
@@ -114,7 +114,7 @@ module _ (p : PlanForm) (l : Name) (v : IsPlan p) where
       ∙ first_past (named_it l) s.before (u ∷ s.behind) (omega (arith, n, a, o))
       ∙ if_lt 0 (named_it l u) (Some u) (first_with (named_it l) s.behind) (omega (arith, n))
 
-  selected : (u : OpForm) (t : Term) → first_with (named_it l) p.ops ≡ Some u → u.kernel ≡ select t → Selects p l u t
+  selected : (u : OpForm) (t : Term) → first_with (named_it l) p.ops ≡ Some u → u.kernel ≡ select t → SelectsBy p l u t
   selected u t h k =
       let f = found (named_it l) p.ops u h in
       let lt = f.has in
@@ -126,7 +126,7 @@ module _ (p : PlanForm) (l : Name) (v : IsPlan p) where
         kernel = k;
       }
 
-  fed_selects : (x u : OpForm) (mid : Name) (t : Term) → IsFed p l x u mid t → Selects p l u t
+  fed_selects : (x u : OpForm) (mid : Name) (t : Term) → IsFed p l x u mid t → SelectsBy p l u t
   fed_selects x u mid t f = record {
     before = f.before ++ x ∷ f.middle;
     behind = f.behind;
@@ -146,7 +146,7 @@ module _ (p : PlanForm) (l : Name) (v : IsPlan p) where
   }
 
   -- there is one selection of the label
-  selects_same : (u w : OpForm) (t s : Term) → Selects p l u t → Selects p l w s → (u ≡ w) × (t ≡ s)
+  selects_same : (u w : OpForm) (t s : Term) → SelectsBy p l u t → SelectsBy p l w s → (u ≡ w) × (t ≡ s)
   selects_same u w t s a b =
       let e = some_op u w (sym (selects_first u t a) ∙ selects_first w s b) in
       (e, same_cond t s (sym a.kernel ∙ ap (λ (o : OpForm). o.kernel) e ∙ b.kernel))
@@ -182,13 +182,13 @@ module _ (p : PlanForm) (l : Name) (v : IsPlan p) where
   nots n a b c d N5 lt h = h
   nots n a b c d NoMemory lt h = h
 
-  unselected : ((u : OpForm) (t : Term) → Selects p l u t → ⊥) → Judged (Err H1)
+  unselected : ((u : OpForm) (t : Term) → SelectsBy p l u t → ⊥) → Judged (Err H1)
   unselected h = record {
     fails = h;
     first = nots 5 (λ m. absurd (omega (arith, m))) (λ m. absurd (omega (arith, m))) (λ m. absurd (omega (arith, m))) (λ m. absurd (omega (arith, m)));
   }
 
-  unfed : (u : OpForm) (t : Term) → Selects p l u t → ((x : OpForm) (mid : Name) → IsFed p l x u mid t → ⊥) → Judged (Err H2)
+  unfed : (u : OpForm) (t : Term) → SelectsBy p l u t → ((x : OpForm) (mid : Name) → IsFed p l x u mid t → ⊥) → Judged (Err H2)
   unfed u t s h = record {
     fails = (u, t, s, h);
     first = nots 6 (λ m z. z u t s) (λ m. absurd (omega (arith, m))) (λ m. absurd (omega (arith, m))) (λ m. absurd (omega (arith, m)));
@@ -214,11 +214,11 @@ module _ (p : PlanForm) (l : Name) (v : IsPlan p) where
     has_width : (w : ℕ) → HasFirstWidth p b w → width ≡ w
     has_width w h = ap (λ rs. first_width (map kind rs)) h.reads ∙ h.width
 
-    no4 : (Stops width b.kernel t → ⊥) → Fails H4 → ⊥
+    no4 : (StopsHoisting width b.kernel t → ⊥) → Fails H4 → ⊥
     no4 g h =
         let e = fed_same b u h.0 h.1 mid h.2 t h.3 f h.5 in
         let w = has_width h.4 (subst (λ x. HasFirstWidth p x h.4) (sym e.0) h.6) in
-        g (subst (λ n. Stops n b.kernel t) (sym w) (subst (λ (x : OpForm). Stops h.4 x.kernel t) (sym e.0) (subst (λ s. Stops h.4 h.0.kernel s) (sym e.3) h.7)))
+        g (subst (λ n. StopsHoisting n b.kernel t) (sym w) (subst (λ (x : OpForm). StopsHoisting h.4 x.kernel t) (sym e.0) (subst (λ s. StopsHoisting h.4 h.0.kernel s) (sym e.3) h.7)))
 
     fit : IsFit p b
     fit = fit_at f.before b (f.middle ++ u ∷ f.behind) f.ops
@@ -277,7 +277,7 @@ module _ (p : PlanForm) (l : Name) (v : IsPlan p) where
           }
 
     -- an operator that is passed
-    source : (out : Name) → u.writes ≡ out ∷ [] → (x : ℕ × Term) → LetsPass b.kernel → (Stops width b.kernel t → ⊥) → Goes width b.kernel t x.0 x.1
+    source : (out : Name) → u.writes ≡ out ∷ [] → (x : ℕ × Term) → LetsPass b.kernel → (StopsHoisting width b.kernel t → ⊥) → Goes width b.kernel t x.0 x.1
         → (o : Option Name)
         → slice_get b.reads x.0 ≡ o
         → Judged (hoist_at p u b mid out x o)
@@ -317,7 +317,7 @@ module _ (p : PlanForm) (l : Name) (v : IsPlan p) where
   -- THE STEP
 
   module _ (u : OpForm) (t : Term) (h : first_with (named_it l) p.ops ≡ Some u) (k : u.kernel ≡ select t) where
-    s : Selects p l u t
+    s : SelectsBy p l u t
     s = selected u t h k
 
     past : (mid out : Name) → u.reads ≡ mid ∷ [] → u.writes ≡ out ∷ [] → (o : Option OpForm) → first_with (writes_it mid) p.ops ≡ o

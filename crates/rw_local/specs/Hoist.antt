@@ -85,13 +85,13 @@ or_h4 None = Err H4
 or_h4 (Some x) = Ok x
 
 -- the width of the rows of the first side
-abbrev pub width_at : QueueType → ℕ
-width_at (Flat t) = width_of t
-width_at (Pack t) = 0
+abbrev pub first_side_width : QueueType → ℕ
+first_side_width (Flat t) = width_of t
+first_side_width (Pack t) = 0
 
 abbrev pub first_width : List QueueType → ℕ
 first_width [] = 0
-first_width (t ∷ ts) = width_at t
+first_width (t ∷ ts) = first_side_width t
 
 -- a selection by this condition passes an operator of this kernel, whose first input has rows of this width: at which of its
 -- inputs it stands then, and with which condition; or H3 or H4

@@ -10,10 +10,10 @@ use Rattle.rw_local.specs.declared.exprs.Fields.{Fields}
 use Rattle.rw_local.specs.declared.exprs.Fields.TheVariants.{Projection, First, Second}
 use Rattle.rw_local.specs.Hoist.{of_projection, of_first, of_second, hoist_kernel}
 
-abbrev pub field_in : Fields → ℕ → Option ℕ
-field_in (Projection es) = of_projection (terms es.now)
-field_in (First width) = of_first width
-field_in (Second width) = of_second width
+abbrev pub field_behind : Fields → ℕ → Option ℕ
+field_behind (Projection es) = of_projection (terms es.now)
+field_behind (First width) = of_first width
+field_behind (Second width) = of_second width
 
 -- what the code may say of where a selection goes
 abbrev pub IsPassing : Result (ℕ × Term) Unfit → Result (ℕ × Expr) Unfit → Type 0

@@ -10,10 +10,10 @@ use Rattle.river_plan.specs.Valid.{IsPlan}
 use Rattle.plan_edits.specs.declared.unfit.Unfit.{Unfit}
 use Rattle.plan_edits.specs.declared.unfit.Unfit.TheVariants.{U1, U2, U3, U4, U5, H1, H2, H3, H4, N1, N2, N3, N4, N5, NoMemory}
 use Rattle.plan_edits.specs.Judged.{IsJudgedBy}
-use Rattle.rw_local.specs.Hoist.{width_at, hoist_of}
+use Rattle.rw_local.specs.Hoist.{first_side_width, hoist_of}
 
 -- u is the plan's operator of this label, and it selects by this condition
-pub record Selects (p : PlanForm) (l : Name) (u : OpForm) (cond : Term) : Type 0 where
+pub record SelectsBy (p : PlanForm) (l : Name) (u : OpForm) (cond : Term) : Type 0 where
   pub before : List OpForm
   pub behind : List OpForm
   pub ops : p.ops ≡ before ++ u ∷ behind
@@ -60,7 +60,7 @@ pub record HasFirstWidth (p : PlanForm) (x : OpForm) (w : ℕ) : Type 0 where
   pub first : Name
   pub others : List Name
   pub reads : x.reads ≡ first ∷ others
-  pub width : width_at (kind_of (all_decls p) first) ≡ w
+  pub width : first_side_width (kind_of (all_decls p) first) ≡ w
 
 -- KERNELS
 
@@ -76,10 +76,10 @@ LetsPass kernel = ⊥
 
 -- a field that the condition reads is no plain input[j] of the projection; of a product, whose first side has rows of this
 -- width, it reads fields of both sides
-abbrev pub Stops : ℕ → Kern → Term → Type 0
-Stops w (project es) cond = (i : ℕ) × ReadsField i cond × ((j : ℕ) → IsCopy es i j → ⊥)
-Stops w cross cond = (i : ℕ) × (j : ℕ) × ReadsField i cond × ReadsField j cond × (i < w) × (w ≤ j)
-Stops w kernel cond = ⊥
+abbrev pub StopsHoisting : ℕ → Kern → Term → Type 0
+StopsHoisting w (project es) cond = (i : ℕ) × ReadsField i cond × ((j : ℕ) → IsCopy es i j → ⊥)
+StopsHoisting w cross cond = (i : ℕ) × (j : ℕ) × ReadsField i cond × ReadsField j cond × (i < w) × (w ≤ j)
+StopsHoisting w kernel cond = ⊥
 
 -- Before an operator of this kernel the selection stands at this of its inputs, by the second condition. Of a projection,
 -- field i becomes j. Of a product it stands at the first side, where all fields that it reads are the first's; or at the
@@ -100,15 +100,15 @@ Goes w kernel cond side moved = ⊥
 -- the hoisting of l is refused by this condition, whichever others refuse it
 abbrev pub HoistFails : PlanForm → Name → Unfit → Type 0
 -- there is no operator l that selects
-HoistFails p l H1 = (u : OpForm) (cond : Term) → Selects p l u cond → ⊥
+HoistFails p l H1 = (u : OpForm) (cond : Term) → SelectsBy p l u cond → ⊥
 -- its input is not the only output of an operator
-HoistFails p l H2 = (u : OpForm) × (cond : Term) × Selects p l u cond × ((x : OpForm) (mid : Name) → IsFed p l x u mid cond → ⊥)
+HoistFails p l H2 = (u : OpForm) × (cond : Term) × SelectsBy p l u cond × ((x : OpForm) (mid : Name) → IsFed p l x u mid cond → ⊥)
 -- that operator's kernel lets no selection pass
 HoistFails p l H3 = (x : OpForm) × (u : OpForm) × (mid : Name) × (cond : Term) × IsFed p l x u mid cond × (LetsPass x.kernel → ⊥)
 -- it stops this condition
 HoistFails p l H4 =
     (x : OpForm) × (u : OpForm) × (mid : Name) × (cond : Term) × (w : ℕ)
-    × IsFed p l x u mid cond × HasFirstWidth p x w × Stops w x.kernel cond
+    × IsFed p l x u mid cond × HasFirstWidth p x w × StopsHoisting w x.kernel cond
 HoistFails p l U1 = ⊥
 HoistFails p l U2 = ⊥
 HoistFails p l U3 = ⊥

@@ -2,7 +2,7 @@
 ghost use Rattle.std.specs.Prelude.{◌≡◌, map};
 ghost use Rattle.river_plan.specs.Forms.{plan_form, all_decls};
 ghost use Rattle.river_plan.specs.Kinds.{kind_of};
-ghost use Rattle.rw_local.specs.Hoist.{width_at, first_width};
+ghost use Rattle.rw_local.specs.Hoist.{first_side_width, first_width};
 
 use plan_edits::kind_of;
 use river_plan::{FlatType, Names, QueueType, RawPlan};
@@ -19,7 +19,7 @@ pub(crate) fn first_width(raw: &RawPlan, queues: &Names) -> u32
 
 // The width of a type; 0 for packs.
 fn width(kind: QueueType) -> u32
-    ensures { result ≡ width_at kind }
+    ensures { result ≡ first_side_width kind }
 {
     match kind {
         QueueType::Flat(

@@ -3,7 +3,7 @@ use Rattle.std.proofs.Common.{◌≡◌, ℕ, List, [], ◌∷◌, ◌++◌, Opt
 use Rattle.std.specs.Prelude.{max}
 use Rattle.saw_text.specs.Tree.{Expression}
 use Rattle.saw_text.specs.Tree.{UnitForm, TableUnit, StatementUnit}
-use Rattle.saw_model.specs.Meaning.{reach, reach_all, reach_parts, listed, parts_of, table_kind, table_decl}
+use Rattle.saw_model.specs.Meaning.{reach, reach_all, reach_parts, listed, emit_row, table_kind, table_decl}
 use Rattle.saw_build.specs.Reach.{reach_part}
 
 max_assoc : (a b c : ℕ) → max (max a b) c ≡ max a (max b c)
@@ -19,7 +19,7 @@ pub reach_all-append : (xs ys : List Expression) → reach_all (xs ++ ys) ≡ ma
 reach_all-append [] ys = sym (zero_max (reach_all ys))
 reach_all-append (x ∷ xs) ys = ap (max (reach x)) (reach_all-append xs ys) ∙ sym (max_assoc (reach x) (reach_all xs) (reach_all ys))
 
-pub reach-emit : (is : List Expression) (v : Expression) (w : Option Expression) → reach_all (parts_of is v w) ≡ max (reach_all is) (max (reach v) (reach_all (listed w)))
+pub reach-emit : (is : List Expression) (v : Expression) (w : Option Expression) → reach_all (emit_row is v w) ≡ max (reach_all is) (max (reach v) (reach_all (listed w)))
 reach-emit is v w = reach_all-append is (v ∷ listed w)
 
 pub ruleset reaches = (reach-emit)

@@ -1,6 +1,6 @@
 // Judges names and numbers, one statement after another.
 ghost use Rattle.std.specs.Prelude.{◌≡◌, ◌<◌};
-ghost use Rattle.saw_model.specs.Elaborate.{counted, find, is_new, slot_of, port_of, nothing_read};
+ghost use Rattle.saw_model.specs.Elaborate.{counted, find, is_new, slot_of, table_port, nothing_read};
 ghost use Rattle.saw_build.specs.View.{Judges};
 ghost use Rattle.saw_build.specs.Judging.{at_of};
 
@@ -76,7 +76,7 @@ impl Judge {
 
     /// The place and the kind of a table.
     pub(crate) fn port_of(&self, name: &Name) -> Result<(u32, TableKind), Fault>
-        ensures { Judges (λ p. p) result (port_of (find (at_of self.now).scope name.now)) }
+        ensures { Judges (λ p. p) result (table_port (find (at_of self.now).scope name.now)) }
     {
         match self.names.find(name) {
             Some(Known::Table { place, kind }) => Ok((place, kind)),

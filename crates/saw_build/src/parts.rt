@@ -1,12 +1,12 @@
 // Units, one after another.
 ghost use Rattle.std.specs.Prelude.{◌≡◌, ◌<◌, length, OnOk};
 ghost use Rattle.work_code.specs.Steps.{Done};
-ghost use Rattle.saw_model.specs.Elaborate.{is_best, table_of, part_of as read_part};
+ghost use Rattle.saw_model.specs.Elaborate.{is_best, table_of, part_judged as read_part};
 ghost use Rattle.saw_model.specs.Judged.{all_parts};
 ghost use Rattle.saw_model.specs.Meaning.{table_kind_of, table_kind};
 ghost use Rattle.saw_text.specs.Tree.{unit_form, unit_forms};
 ghost use Rattle.saw_build.specs.View.{Judges};
-ghost use Rattle.saw_build.specs.Judging.{at_of, fits_of, within, Reads, ReadsTable, JudgesAll};
+ghost use Rattle.saw_build.specs.Judging.{at_of, fits_of, kind_within, Reads, ReadsTable, JudgesAll};
 ghost use Rattle.saw_build.specs.Valued.{IsValuedPart, AreValuedParts};
 
 use crate::fault::Fault;
@@ -40,7 +40,7 @@ fn is_best(kind: TableKind) -> bool
 
 // The kind of a table, which is within its limits.
 fn within(table: &Table) -> Result<TableKind, Fault>
-    ensures { Judges (λ k. k) result (within (table_kind_of table.now.kind (length table.now.indexes.items))) }
+    ensures { Judges (λ k. k) result (kind_within (table_kind_of table.now.kind (length table.now.indexes.items))) }
 {
     let Ok(keys) = u32::try_from(table.indexes.len()) else {
         return Err(Fault::Limit);

@@ -1,7 +1,7 @@
 // The plan of a program whose body was read.
 ghost use Rattle.std.specs.Prelude.{◌≡◌, ◌≤◌, ◌<◌, ◌^◌, IsTrue, IfOk, OnOk, [], ◌∷◌, ◌++◌, map, length, codes};
 ghost use Rattle.river_base.specs.Name.{is_name};
-ghost use Rattle.work_code.specs.Steps.{body_of, steps};
+ghost use Rattle.work_code.specs.Steps.{code_body, steps};
 ghost use Rattle.kern_rows.specs.Forms.{CodeForm};
 ghost use Rattle.river_kernels.specs.Kern.{code as code_of};
 ghost use Rattle.river_kernels.specs.Fits.{rows};
@@ -11,7 +11,7 @@ ghost use Rattle.saw_model.specs.Elaborate.{At, keys_in};
 ghost use Rattle.saw_model.specs.Meaning.{tables_in, width};
 ghost use Rattle.saw_model.specs.Plan.{queue_name, tally_name, queues_of, queue_decls, tally_op, plan_of};
 ghost use Rattle.saw_text.specs.Tree.{unit_form, unit_forms};
-ghost use Rattle.saw_build.specs.Plans.{IsListed, AreListed, widths, tally_ops, map_form, lists_of};
+ghost use Rattle.saw_build.specs.Plans.{IsListed, AreListed, widths, tally_ops, map_form, plan_lists};
 
 use crate::parts::kind_of;
 use crate::reach::reach_units;
@@ -153,7 +153,7 @@ fn one(alloc: Global, name: Name) -> Result<Names, NoMemory>
 
 // The operator that runs the body on each record, by its parts.
 fn map_by(alloc: Global, label: Name, code: Code, outs: Numbers, reads: Names, writes: Names) -> Op
-    ensures { op_form result ≡ record { label = label; kernel = code_of (record { body = body_of code; outs = outs; starts = [] }); reads = reads; writes = writes; vars = [] } }
+    ensures { op_form result ≡ record { label = label; kernel = code_of (record { body = code_body code; outs = outs; starts = [] }); reads = reads; writes = writes; vars = [] } }
 {
     Op {
         label,
@@ -172,7 +172,7 @@ fn map_by(alloc: Global, label: Name, code: Code, outs: Numbers, reads: Names, w
 #[tactic(auto, unfolding(river_base::specs::Name::is_word, river_base::specs::Name::is_letter, river_base::specs::Name::is_digit))]
 fn map_op(alloc: Global, tables: &TableDecls, code: Code) -> Result<Op, NoMemory>
     requires { AreListed tables.now }
-    ensures { IfOk result (λ op. op_form op ≡ map_form tables.now (body_of code)) }
+    ensures { IfOk result (λ op. op_form op ≡ map_form tables.now (code_body code)) }
 {
     let outs = widths(alloc, tables)?;
     let reads = one(alloc, name_of(b"in"))?;
@@ -212,7 +212,7 @@ fn add_tallies(alloc: Global, ops: &mut Ops, tables: &TableDecls) -> Result<(), 
 // All operators.
 fn operators(alloc: Global, tables: &TableDecls, code: Code) -> Result<Ops, NoMemory>
     requires { AreListed tables.now }
-    ensures { IfOk result (λ ops. op_forms ops ≡ map_form tables.now (body_of code) ∷ tally_ops tables.now) }
+    ensures { IfOk result (λ ops. op_forms ops ≡ map_form tables.now (code_body code) ∷ tally_ops tables.now) }
 {
     let mut ops = Ops::new(alloc);
     ops.push(map_op(alloc, tables, code)?)?;
@@ -262,7 +262,7 @@ pub fn lists(alloc: Global, units: &[Unit], body: Stmts, slots: u32) -> Result<R
 // The lists with these tables and operators.
 fn declared(alloc: Global, width: u32, tables: TableDecls, ops: Ops) -> Result<RawPlan, NoMemory>
     requires { AreListed tables }
-    ensures { IfOk result (λ raw. plan_form raw ≡ lists_of width tables (op_forms ops)) }
+    ensures { IfOk result (λ raw. plan_form raw ≡ plan_lists width tables (op_forms ops)) }
 {
     let inputs = inputs(alloc, width)?;
     let queues = queues(alloc, &tables)?;

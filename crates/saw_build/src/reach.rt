@@ -1,6 +1,6 @@
 // How many fields of a record a program reads.
 ghost use Rattle.std.specs.Prelude.{◌≡◌, max};
-ghost use Rattle.saw_model.specs.Meaning.{reach, reach_all, reach_statement, reach_block, reach_optional, reach_parts, listed, parts_of};
+ghost use Rattle.saw_model.specs.Meaning.{reach, reach_all, reach_statement, reach_block, reach_optional, reach_parts, listed, emit_row};
 ghost use Rattle.saw_text.specs.Tree.{expression, option_expression, statement, block, or_unwritten, unit_form, unit_forms};
 ghost use Rattle.saw_text.specs.View.{expressions, option_block};
 ghost use Rattle.saw_build.specs.Reach.{reach_part};
@@ -50,7 +50,7 @@ fn reach_all(es: &[Expr]) -> u64
 // Those that an emit reads.
 #[tactic(auto, using(crate::proofs::Reaching::reaches))]
 fn reach_emit(indexes: &[Expr], value: &Expr, weight: &Option<Expr>) -> u64
-    ensures { result ≡ reach_all (parts_of (expressions indexes.now) (expression value.now) (option_expression weight.now)) }
+    ensures { result ≡ reach_all (emit_row (expressions indexes.now) (expression value.now) (option_expression weight.now)) }
 {
     greater(
         reach_all(indexes),

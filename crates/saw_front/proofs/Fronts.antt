@@ -28,7 +28,7 @@ use Rattle.saw_model.proofs.Valid.{plans_are_valid}
 use Rattle.saw_text.specs.Faults.{StandFor, Refuses}
 use Rattle.saw_text.specs.Grammar.{IsText}
 use Rattle.saw_text.specs.Laws.{IsBadAt}
-use Rattle.saw_text.specs.Reading.{all_units}
+use Rattle.saw_text.specs.Reading.{all_saw_units}
 use Rattle.saw_text.specs.Tree.{UnitForm, unit_forms}
 use Rattle.text_forms.specs.declared.unit_fault.UnitFault.TheVariants.{Syntax as Syntax_at}
 use Rattle.saw_text.specs.declared.tree.Unit as tree
@@ -42,7 +42,7 @@ use Rattle.saw_build.specs.Valued.{AreValuedParts}
 use Rattle.saw_front.proofs.Readable.{units-fine}
 
 abbrev read_of : List Mark → Result (List UnitForm) ℕ
-read_of marks = all_units (cut_units (toks marks))
+read_of marks = all_saw_units (cut_units (toks marks))
 
 -- ---- FROM THE GRAMMAR
 

@@ -20,8 +20,8 @@ use Rattle.river_print.proofs.Spoken.{IsSpoken, spoken-printable}
 use Rattle.saw_text.specs.Tree.{Statement, Declare, Assign, Emit, If, Block, End, Then, Optional, Unwritten, Written, UnitForm, TableUnit, StatementUnit, Program}
 use Rattle.saw_model.specs.Meaning.{tables_in, table_kind, table_decl}
 use Rattle.saw_model.specs.Elaborate.{Fault, Limit, Shape, At, on_ok, demand, both_steps, one_step, counted, is_new, has_slot, first_term, declared, slot_of}
-use Rattle.saw_model.specs.Elaborate.{port_of, indexes_of, term_of, weight_of, keys_in, emitted, is_best, tabled, table_of, find, step_of, steps_of, steps_optional}
-use Rattle.saw_model.specs.Elaborate.{part_of as read_part, nothing_read}
+use Rattle.saw_model.specs.Elaborate.{table_port, indexes_of, term_of, weight_of, keys_in, emitted, is_best, tabled, table_of, find, step_of, steps_of, steps_optional}
+use Rattle.saw_model.specs.Elaborate.{part_judged as read_part, nothing_read}
 use Rattle.saw_model.specs.Judged.{Refusal, on_fine, in_unit, all_parts}
 use Rattle.saw_model.specs.Plan.{tally_op, plan_of}
 use Rattle.saw_model.proofs.Elaborated.{fine, ok_parts, ok_is}
@@ -29,7 +29,7 @@ use Rattle.saw_text.specs.Tree.{in_turn, or_unwritten, UnitForm}
 use Rattle.text_blocks.specs.Statements.{IsRest}
 use Rattle.text_blocks.specs.Parts.{Round}
 use Rattle.text_blocks.proofs.Every.{chosen, IfThere, every-rest}
-use Rattle.saw_text.specs.Blocks.{NamedAfter, IsPlain, style, holes}
+use Rattle.saw_text.specs.Blocks.{NamedAfter, PlainAfter, style, holes}
 use Rattle.saw_text.specs.Expressions.{IsExpression}
 use Rattle.saw_text.specs.Words.{is_user}
 use Rattle.saw_text.specs.Grammar.{TypedAfter, UnitNamed, IsUnit, AreUnits}
@@ -65,7 +65,7 @@ named-nests : (k : ℕ) (w : List ℕ) (n : ℕ) (s : Statement) (ts : List Tok)
 named-nests k w n s ts (inl f) = subst (IsNested k) (sym f.formed.formed.is) (omega arith)
 named-nests k w n s ts (inr f) = subst (IsNested k) (sym f.is) (omega arith)
 
-plain-nests : (k n : ℕ) (w : List ℕ) (s : Statement) (ts : List Tok) → IsPlain n w s ts → IsNested k s
+plain-nests : (k n : ℕ) (w : List ℕ) (s : Statement) (ts : List Tok) → PlainAfter n w s ts → IsNested k s
 plain-nests k n w s ts h =
     chosen (IsNested k s) _ _ (bytes_eq w (codes "emit")) s ts h (λ e f. subst (IsNested k) (sym f.is) (omega arith)) (λ h.
     chosen (IsNested k s) _ _ (is_user w) s ts h (λ e f. named-nests k w n s ts f) (λ h. absurd h))
@@ -156,8 +156,8 @@ mutual
   step-below (Emit t is v w) s0 y h =
       let f3 = λ (s : At) (p : ℕ × TableKind) (us : List Term). emitted s p (length is) us v w in
       let f2 = λ (s : At) (p : ℕ × TableKind). on_ok (indexes_of s.scope 0 is) (f3 s p) in
-      let a = ok_parts (counted s0) (λ s. on_ok (port_of (find s.scope t)) (f2 s)) y h in
-      let b = ok_parts (port_of (find a.0.scope t)) (f2 a.0) y a.2 in
+      let a = ok_parts (counted s0) (λ s. on_ok (table_port (find s.scope t)) (f2 s)) y h in
+      let b = ok_parts (table_port (find a.0.scope t)) (f2 a.0) y a.2 in
       let c = ok_parts (indexes_of a.0.scope 0 is) (f3 a.0 b.0) y b.2 in
       emit-below a.0 b.0 (length is) c.0 v w y c.2
   step-below (If t a b) s0 y h =

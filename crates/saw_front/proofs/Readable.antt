@@ -25,7 +25,7 @@ use Rattle.text_blocks.specs.declared.sign.Sign.TheVariants as sign
 use Rattle.text_blocks.proofs.Every.{chosen, enclosed, IfThere, every-rest}
 use Rattle.text_forms.specs.Levels.{Spells}
 use Rattle.text_forms.specs.Levels as spelled
-use Rattle.saw_text.specs.Blocks.{IsDeclare, IsAssign, IsEmit, NamedAfter, IsPlain, style, holes}
+use Rattle.saw_text.specs.Blocks.{IsDeclare, IsAssign, IsEmit, NamedAfter, PlainAfter, style, holes}
 use Rattle.saw_text.specs.Expressions.{syntax, marked, IsLeaf, IsExpression}
 use Rattle.saw_text.specs.Expressions as rule
 use Rattle.saw_text.specs.Words.{is_plain, is_user}
@@ -67,7 +67,7 @@ term-fine n t ts h = (values n 7 t ts h.0, h.1)
 round-fine : (n : ℕ) (t : Expression) (ts : List Tok) → Round IsExpression n t ts → IsFine t
 round-fine n t ts h = enclosed IsFine _ _ _ n t ts h (λ m us f. term-fine m t us f)
 
-squares-fine : (n : ℕ) (is : List Expression) (ts : List Tok) → form.Each (Square IsExpression n) is ts → AllFine is
+squares-fine : (n : ℕ) (is : List Expression) (ts : List Tok) → form.Many (Square IsExpression n) is ts → AllFine is
 squares-fine n [] ts h = (tt, tt)
 squares-fine n (i ∷ is) ts h =
     let a = enclosed IsFine _ _ _ n i h.0 h.3 (λ m us f. term-fine m i us f) in
@@ -110,7 +110,7 @@ named-fine : (w : List ℕ) (n : ℕ) (s : Statement) (ts : List Tok) → NamedA
 named-fine w n s ts (inl f) = declare-fine w n s f.formed.back f.formed.formed
 named-fine w n s ts (inr f) = assign-fine w n s ts f
 
-plain-fine : (k n : ℕ) (w : List ℕ) (s : Statement) (ts : List Tok) → IsPlain n w s ts → IsFineStep s
+plain-fine : (k n : ℕ) (w : List ℕ) (s : Statement) (ts : List Tok) → PlainAfter n w s ts → IsFineStep s
 plain-fine k n w s ts h =
     chosen (IsFineStep s) _ _ (bytes_eq w (codes "emit")) s ts h (λ e f. emit-fine n s ts f) (λ h.
     chosen (IsFineStep s) _ _ (is_user w) s ts h (λ e f. named-fine w n s ts f) (λ h. absurd h))

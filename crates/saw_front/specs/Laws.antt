@@ -8,7 +8,7 @@ use Rattle.river_print.specs.Printable.{IsPrintable}
 use Rattle.brooklet_model.specs.Meaning.{meaning}
 use Rattle.saw_model.specs.Faults.{IsFaultAt}
 use Rattle.saw_model.specs.Judged.{Refusal, judged}
-use Rattle.saw_model.specs.Plan.{as_items}
+use Rattle.saw_model.specs.Plan.{rows_as_items}
 use Rattle.saw_model.specs.Meaning.{width, program_tables}
 use Rattle.saw_text.specs.Grammar.{IsText}
 use Rattle.saw_text.specs.Laws.{IsBadAt}
@@ -40,7 +40,7 @@ abbrev pub PlansMean : Type 0
 PlansMean =
     (text : List ℕ) (a : Accepted) (records : List (List ℤ)) → compiled text ≡ Ok a
     → IsPlan (plan_in a)
-    × (meaning (plan_in a) (as_items (map (take (width (program_in a))) records) ∷ []) ≡ record { outs = []; tables = program_tables (program_in a) records })
+    × (meaning (plan_in a) (rows_as_items (map (take (width (program_in a))) records) ∷ []) ≡ record { outs = []; tables = program_tables (program_in a) records })
 
 -- the plan of a text's program is within the bounds of River text: what is printed of it stands for it, by the promise of the printer
 abbrev pub PlansArePrintable : Type 0

@@ -21,7 +21,7 @@ use Rattle.brooklet_model.specs.Machine.{at_name}
 use Rattle.saw_text.specs.Tree.{Expression}
 use Rattle.saw_text.specs.Tree as tree
 use Rattle.saw_model.specs.Meaning.{Values, eval, Emitted, State, eval_or, eval_all, listed, reach, reach_all}
-use Rattle.saw_model.specs.Elaborate.{Fault, Limit, on_ok, demand, Known, Var, Port, Scope, find, named, term_of, At, counted, first_term, indexes_of}
+use Rattle.saw_model.specs.Elaborate.{Fault, Limit, on_ok, demand, KnownName, Var, Port, Scope, find, named, term_of, At, counted, first_term, indexes_of}
 use Rattle.saw_model.specs.Elaborate.{weight_of, both_steps, one_step}
 
 -- ANSWERS
@@ -65,11 +65,11 @@ at_other : (n m : Name) (z : ℤ) (env : Values) → name_eq n m ≡ false → a
 at_other n m z env e = ap (λ b. if b then z else env m) e
 
 -- a name is found where it stands first
-pub found_here : (n m : Name) (b : Known) (sc : Scope) → name_eq n m ≡ true → find ((n, b) ∷ sc) m ≡ Some b
+pub found_here : (n m : Name) (b : KnownName) (sc : Scope) → name_eq n m ≡ true → find ((n, b) ∷ sc) m ≡ Some b
 found_here n m b sc e = ap (λ t. if t then Some b else find sc m) e
 
 -- or behind another
-pub found_other : (n m : Name) (b : Known) (sc : Scope) → name_eq n m ≡ false → find ((n, b) ∷ sc) m ≡ find sc m
+pub found_other : (n m : Name) (b : KnownName) (sc : Scope) → name_eq n m ≡ false → find ((n, b) ∷ sc) m ≡ find sc m
 found_other n m b sc e = ap (λ t. if t then Some b else find sc m) e
 
 none_some : {A : Type 0} (o : Option A) (x : A) → o ≡ None → o ≡ Some x → ⊥
@@ -92,7 +92,7 @@ pub record ArePorts (ts : List TableDecl) (sc : Scope) : Type 0 where
 
 -- all that was known is known
 abbrev pub Keeps : Scope → Scope → Type 0
-Keeps sc sc' = (n : Name) (b : Known) → find sc n ≡ Some b → find sc' n ≡ Some b
+Keeps sc sc' = (n : Name) (b : KnownName) → find sc n ≡ Some b → find sc' n ≡ Some b
 
 -- values that agree with more names agree with fewer
 pub agrees_within : (sc sc' : Scope) (env : Values) (mem : List ℤ) → Keeps sc sc' → Agrees sc' env mem → Agrees sc env mem
@@ -103,7 +103,7 @@ pub more_slots : (sc : Scope) (m n : ℕ) → m ≤ n → IsSound sc m → IsSou
 more_slots sc m n le s = record { below = λ x i f. let b = s.below x i f in omega (arith, b, le); apart = s.apart }
 
 -- a new name keeps what was known
-pub keeps_new : (n : Name) (b : Known) (sc : Scope) → find sc n ≡ None → Keeps sc ((n, b) ∷ sc)
+pub keeps_new : (n : Name) (b : KnownName) (sc : Scope) → find sc n ≡ None → Keeps sc ((n, b) ∷ sc)
 keeps_new n b sc new m c f = ⊎_elim
     (λ e. absurd (none_some (find sc m) c (subst (λ x. find sc x ≡ None) e.0 new) f))
     (λ e. found_other n m b sc e.1 ∙ f)
@@ -194,7 +194,7 @@ take_index (suc w) p [] h = refl
 take_index (suc w) zero (x ∷ xs) h = refl
 take_index (suc w) (suc p) (x ∷ xs) h = take_index w p xs (omega (arith, h))
 
-named_is : (o : Option Known) (u : Term) (z : ℤ) (xs mem : List ℤ) → ((i : ℕ) → o ≡ Some (Var i) → slice_index_or mem i (pos 0) ≡ z) → named o ≡ Ok u
+named_is : (o : Option KnownName) (u : Term) (z : ℤ) (xs mem : List ℤ) → ((i : ℕ) → o ≡ Some (Var i) → slice_index_or mem i (pos 0) ≡ z) → named o ≡ Ok u
     → z ≡ val u xs mem
 named_is None u z xs mem h c = absurd (cc c)
 named_is (Some (Var i)) u z xs mem h c = sym (h i refl) ∙ ap (λ t. val t xs mem) (ok_is (term.Slot i) u c)

@@ -19,11 +19,11 @@ use Rattle.river_plan.specs.declared.plan.TableDecl.{TableDecl}
 use Rattle.saw_text.specs.Tree.{Expression}
 use Rattle.saw_text.specs.Tree as tree
 use Rattle.saw_text.specs.Tree.{Statement, Declare, Assign, Emit, If, Block, End, Then, Optional, Unwritten, Written, UnitForm, TableUnit, StatementUnit, Program}
-use Rattle.saw_model.specs.Meaning.{tables_in, listed, parts_of, reach, table_kind, table_decl}
+use Rattle.saw_model.specs.Meaning.{tables_in, listed, emit_row, reach, table_kind, table_decl}
 use Rattle.saw_model.specs.Meaning.{reach_all, reach_statement, reach_block, reach_optional, reach_parts}
 use Rattle.saw_model.specs.Shallow.{IsLow, AreLow, IsShallow, AreShallow, AreShallowOptional, AreShallowParts}
-use Rattle.saw_model.specs.Elaborate.{Limit, on_ok, Known, Var, Port, Scope, find, named, term_of, At, first_term, indexes_of, keys_in, weight_of, both_steps}
-use Rattle.saw_model.specs.Elaborate.{one_step, step_of, steps_of, steps_optional, part_of}
+use Rattle.saw_model.specs.Elaborate.{Limit, on_ok, KnownName, Var, Port, Scope, find, named, term_of, At, first_term, indexes_of, keys_in, weight_of, both_steps}
+use Rattle.saw_model.specs.Elaborate.{one_step, step_of, steps_of, steps_optional, part_judged}
 use Rattle.saw_model.proofs.Elaborated.{fine, ok_is, ok_parts, if_ok, if_both, IsSound, ArePorts, more_slots, sound_port, one_more}
 use Rattle.saw_model.proofs.Statements.{second_at, declared_parts, assigned_parts, sent_parts, forked_parts, followed_parts, grows, grows_all, grows_optional}
 use Rattle.saw_model.proofs.Parts.{parts_read, tabled_parts, split_parts, parts_slots, got_here, ports_new}
@@ -157,7 +157,7 @@ mutual
   optional_counts Unwritten s y h = subst (Counts s) (ok_is (Done, s) y h) (record { size = omega arith; small = λ h. h; few = λ h. h })
   optional_counts (Written b) s y h = steps_count b s y h
 
-part_counts : (c : UnitForm) (s : At) (y : Steps × At) → part_of c s ≡ fine y → Counts s y
+part_counts : (c : UnitForm) (s : At) (y : Steps × At) → part_judged c s ≡ fine y → Counts s y
 part_counts (TableUnit tb) s y h = let d = tabled_parts tb.name (table_kind tb) s y h in subst (Counts s) d.is (record { size = omega arith; small = λ h. h; few = λ h. h })
 part_counts (StatementUnit c) s y h = step_counts c s y h
 
@@ -209,7 +209,7 @@ module _ (w m : ℕ) (ts : List TableDecl) where
   abbrev AreBelow : Scope → Type 0
   AreBelow sc = (n : Name) (i : ℕ) → find sc n ≡ Some (Var i) → i < m
 
-  named_fits : (o : Option Known) (u : Term) → ((i : ℕ) → o ≡ Some (Var i) → i < m) → named o ≡ Ok u → Fits 1 u
+  named_fits : (o : Option KnownName) (u : Term) → ((i : ℕ) → o ≡ Some (Var i) → i < m) → named o ≡ Ok u → Fits 1 u
   named_fits None u h c = absurd (cc c)
   named_fits (Some (Var i)) u h c = subst (Fits 1) (ok_is (term.Slot i) u c) (lt-ltb i m (h i refl), omega arith)
   named_fits (Some (Port p k)) u h c = absurd (cc c)
@@ -291,7 +291,7 @@ module _ (w m : ℕ) (ts : List TableDecl) where
   set_formed : (i : ℕ) (u : Term) → i < m → is_term w m u ≡ true → is_steps w m outs (one_step (steps.Set i u)) ≡ true
   set_formed i u lt h = one_formed (steps.Set i u) (and_from (nat_lt i m) (is_term w m u) (lt-ltb i m lt) h)
 
-  reach_parts_of : (is : List Expression) (v : Expression) (t : Option Expression) → reach_all (parts_of is v t) ≤ w
+  reach_parts_of : (is : List Expression) (v : Expression) (t : Option Expression) → reach_all (emit_row is v t) ≤ w
       → (reach_all is ≤ w) × (reach v ≤ w) × (reach_all (listed t) ≤ w)
   reach_parts_of [] v t h = (omega arith, omega (arith, h), omega (arith, h))
   reach_parts_of (i ∷ is) v t h = let r = reach_parts_of is v t (omega (arith, h)) in let a = r.0 in (omega (arith, h, a), r.1, r.2)

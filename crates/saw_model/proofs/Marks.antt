@@ -7,46 +7,46 @@ use Rattle.river_plan.specs.Names.{one_if}
 use Rattle.saw_text.specs.Tree.{Expression}
 use Rattle.saw_text.specs.Tree as tree
 use Rattle.saw_text.specs.Tree.{Statement, Declare, Assign, Emit, If, Block, End, Then, Optional, Unwritten, Written}
-use Rattle.saw_model.specs.Places.{Mark, Begins, Enters, Leaves, Names, Reads, Declares, Local, Sets, Emits, Index, Indexed, Weighted, Unweighted}
-use Rattle.saw_model.specs.Places.{term_marks, value_marks, index_marks, weight_marks, statement_marks, block_marks, optional_marks, What, gives, Turn, In, Out}
-use Rattle.saw_model.specs.Places.{Along, turn, past}
+use Rattle.saw_model.specs.Places.{ReadMark, Begins, Enters, Leaves, Names, Reads, Declares, Local, Sets, Emits, Index, Indexed, Weighted, Unweighted}
+use Rattle.saw_model.specs.Places.{term_marks, value_marks, index_marks, weight_marks, statement_marks, block_marks, optional_marks, What, known_from_here, BlockEdge, In, Out}
+use Rattle.saw_model.specs.Places.{Along, block_edge, past_edge}
 use Rattle.saw_model.specs.Places.{stays, IsKnownAs, is_statement, is_local, is_table, how_many}
 
 -- HOW MANY
 
 -- how many marks of two lists pass a test
-pub many_append : (t : Mark → Bool) (xs ys : List Mark) → how_many t (xs ++ ys) ≡ how_many t xs + how_many t ys
+pub many_append : (t : ReadMark → Bool) (xs ys : List ReadMark) → how_many t (xs ++ ys) ≡ how_many t xs + how_many t ys
 many_append t [] ys = omega arith
 many_append t (x ∷ xs) ys = let e = many_append t xs ys in omega (arith, e)
 
 -- BLOCKS
 
-past_same : (t : Turn) (k : ℕ) (f g : ℕ → Bool) → ((j : ℕ) → f j ≡ g j) → past t k f ≡ past t k g
+past_same : (t : BlockEdge) (k : ℕ) (f g : ℕ → Bool) → ((j : ℕ) → f j ≡ g j) → past_edge t k f ≡ past_edge t k g
 past_same In k f g h = h (suc k)
 past_same Out zero f g h = refl
 past_same Out (suc k) f g h = h k
 past_same Along k f g h = h k
 
 -- what stays within any blocks says nothing of the text before it
-pub stays_before : (xs ys : List Mark) → ((k : ℕ) → stays k ys ≡ true) → (k : ℕ) → stays k (xs ++ ys) ≡ stays k xs
+pub stays_before : (xs ys : List ReadMark) → ((k : ℕ) → stays k ys ≡ true) → (k : ℕ) → stays k (xs ++ ys) ≡ stays k xs
 stays_before [] ys h k = h k
-stays_before (x ∷ xs) ys h k = past_same (turn x) k (λ j. stays j (xs ++ ys)) (λ j. stays j xs) (λ j. stays_before xs ys h j)
+stays_before (x ∷ xs) ys h k = past_same (block_edge x) k (λ j. stays j (xs ++ ys)) (λ j. stays j xs) (λ j. stays_before xs ys h j)
 
 -- a text that leaves as many blocks as it enters, and none before
-abbrev pub IsSteady : List Mark → Type 0
-IsSteady xs = (k : ℕ) (ys : List Mark) → stays k (xs ++ ys) ≡ stays k ys
+abbrev pub IsSteady : List ReadMark → Type 0
+IsSteady xs = (k : ℕ) (ys : List ReadMark) → stays k (xs ++ ys) ≡ stays k ys
 
 -- steady marks keep what is open
-pub steady_stays : (xs : List Mark) → IsSteady xs → (k : ℕ) → stays k xs ≡ true
+pub steady_stays : (xs : List ReadMark) → IsSteady xs → (k : ℕ) → stays k xs ≡ true
 steady_stays xs h k = ap (stays k) (sym (append-nil xs)) ∙ h k []
 
-pub steady_both : (xs ys : List Mark) → IsSteady xs → IsSteady ys → IsSteady (xs ++ ys)
+pub steady_both : (xs ys : List ReadMark) → IsSteady xs → IsSteady ys → IsSteady (xs ++ ys)
 steady_both xs ys a b k zs = ap (stays k) (append_assoc xs ys zs) ∙ a k (ys ++ zs) ∙ b k zs
 
 -- WHAT IS KNOWN
 
 -- behind two texts a name is known from one of them
-pub known_parts : (xs ys : List Mark) (n : Name) (w : What) → ((k : ℕ) → stays k ys ≡ true) → IsKnownAs (xs ++ ys) n w → IsKnownAs xs n w ⊎ IsKnownAs ys n w
+pub known_parts : (xs ys : List ReadMark) (n : Name) (w : What) → ((k : ℕ) → stays k ys ≡ true) → IsKnownAs (xs ++ ys) n w → IsKnownAs xs n w ⊎ IsKnownAs ys n w
 known_parts [] ys n w h d = inr d
 known_parts (x ∷ xs) ys n w h d = ⊎_elim
     (λ e. inl (inl (e.0, sym (stays_before xs ys h 0) ∙ e.1)))
@@ -54,7 +54,7 @@ known_parts (x ∷ xs) ys n w h d = ⊎_elim
     d
 
 -- what is known by the first marks is known by both
-pub known_first : (xs ys : List Mark) (n : Name) (w : What) → ((k : ℕ) → stays k ys ≡ true) → IsKnownAs xs n w → IsKnownAs (xs ++ ys) n w
+pub known_first : (xs ys : List ReadMark) (n : Name) (w : What) → ((k : ℕ) → stays k ys ≡ true) → IsKnownAs xs n w → IsKnownAs (xs ++ ys) n w
 known_first [] ys n w h d = absurd d
 known_first (x ∷ xs) ys n w h d = ⊎_elim
     (λ e. inl (e.0, stays_before xs ys h 0 ∙ e.1))
@@ -62,7 +62,7 @@ known_first (x ∷ xs) ys n w h d = ⊎_elim
     d
 
 -- and by the second
-pub known_second : (xs ys : List Mark) (n : Name) (w : What) → IsKnownAs ys n w → IsKnownAs (xs ++ ys) n w
+pub known_second : (xs ys : List ReadMark) (n : Name) (w : What) → IsKnownAs ys n w → IsKnownAs (xs ++ ys) n w
 known_second [] ys n w d = d
 known_second (x ∷ xs) ys n w d = inr (known_second xs ys n w d)
 
@@ -70,28 +70,28 @@ none_given : (e : Name × What) → None ≡ Some e → ⊥
 none_given e h = cc h
 
 -- a mark that gives no name
-pub known_behind : (m : Mark) (ms : List Mark) (n : Name) (w : What) → gives m ≡ None → IsKnownAs (m ∷ ms) n w → IsKnownAs ms n w
+pub known_behind : (m : ReadMark) (ms : List ReadMark) (n : Name) (w : What) → known_from_here m ≡ None → IsKnownAs (m ∷ ms) n w → IsKnownAs ms n w
 known_behind m ms n w e d = ⊎_elim (λ a. absurd (none_given (n, w) (sym e ∙ a.0))) (λ a. a) d
 
 -- a text behind which no name of it is known
-abbrev pub IsQuiet : List Mark → Type 0
-IsQuiet xs = (ys : List Mark) (n : Name) (w : What) → IsKnownAs (xs ++ ys) n w → IsKnownAs ys n w
+abbrev pub IsQuiet : List ReadMark → Type 0
+IsQuiet xs = (ys : List ReadMark) (n : Name) (w : What) → IsKnownAs (xs ++ ys) n w → IsKnownAs ys n w
 
 -- a text of which no name is known once its block is left
-abbrev pub IsShut : List Mark → Type 0
-IsShut xs = (ys : List Mark) (n : Name) (w : What) → stays 0 ys ≡ false → IsKnownAs (xs ++ ys) n w → IsKnownAs ys n w
+abbrev pub IsShut : List ReadMark → Type 0
+IsShut xs = (ys : List ReadMark) (n : Name) (w : What) → stays 0 ys ≡ false → IsKnownAs (xs ++ ys) n w → IsKnownAs ys n w
 
-pub quiet_both : (xs ys : List Mark) → IsQuiet xs → IsQuiet ys → IsQuiet (xs ++ ys)
+pub quiet_both : (xs ys : List ReadMark) → IsQuiet xs → IsQuiet ys → IsQuiet (xs ++ ys)
 quiet_both xs ys a b zs n w d = b zs n w (a (ys ++ zs) n w (subst (λ ms. IsKnownAs ms n w) (append_assoc xs ys zs) d))
 
 -- quiet marks make nothing known
-pub quiet_alone : (xs : List Mark) → IsQuiet xs → (n : Name) (w : What) → IsKnownAs xs n w → ⊥
+pub quiet_alone : (xs : List ReadMark) → IsQuiet xs → (n : Name) (w : What) → IsKnownAs xs n w → ⊥
 quiet_alone xs h n w d = h [] n w (subst (λ ms. IsKnownAs ms n w) (sym (append-nil xs)) d)
 
 -- PLAIN TEXTS
 
 -- it enters and leaves no block, declares nothing and begins no statement
-pub record IsPlain (ms : List Mark) : Type 0 where
+pub record IsPlain (ms : List ReadMark) : Type 0 where
   pub steady : IsSteady ms
   pub quiet : IsQuiet ms
   pub statements : how_many is_statement ms ≡ 0
@@ -102,7 +102,7 @@ pub record IsPlain (ms : List Mark) : Type 0 where
 pub plain_none : IsPlain []
 plain_none = record { steady = λ k ys. refl; quiet = λ ys n w d. d; statements = refl; locals = refl; tables = refl }
 
-pub plain_both : (xs ys : List Mark) → IsPlain xs → IsPlain ys → IsPlain (xs ++ ys)
+pub plain_both : (xs ys : List ReadMark) → IsPlain xs → IsPlain ys → IsPlain (xs ++ ys)
 plain_both xs ys a b = record {
   steady = steady_both xs ys a.steady b.steady;
   quiet = quiet_both xs ys a.quiet b.quiet;
@@ -112,16 +112,16 @@ plain_both xs ys a b = record {
 }
 
 -- a mark that only has a place
-pub record IsAlong (m : Mark) : Type 0 where
-  pub turn : turn m ≡ Along
-  pub gives : gives m ≡ None
+pub record IsAlong (m : ReadMark) : Type 0 where
+  pub turn : block_edge m ≡ Along
+  pub gives : known_from_here m ≡ None
   pub statement : is_statement m ≡ false
   pub local : is_local m ≡ false
   pub table : is_table m ≡ false
 
-pub plain_next : (m : Mark) (ms : List Mark) → IsAlong m → IsPlain ms → IsPlain (m ∷ ms)
+pub plain_next : (m : ReadMark) (ms : List ReadMark) → IsAlong m → IsPlain ms → IsPlain (m ∷ ms)
 plain_next m ms a p = record {
-  steady = λ k ys. ap (λ t. past t k (λ j. stays j (ms ++ ys))) a.turn ∙ p.steady k ys;
+  steady = λ k ys. ap (λ t. past_edge t k (λ j. stays j (ms ++ ys))) a.turn ∙ p.steady k ys;
   quiet = λ ys n w d. p.quiet ys n w (known_behind m (ms ++ ys) n w a.gives d);
   statements = let x = ap one_if a.statement in let y = p.statements in omega (arith, x, y);
   locals = let x = ap one_if a.local in let y = p.locals in omega (arith, x, y);
@@ -165,7 +165,7 @@ pub along_unweighted : (n : Name) → IsAlong (Unweighted n)
 along_unweighted n = record { turn = refl; gives = refl; statement = refl; local = refl; table = refl }
 
 -- one such mark is plain
-pub plain_one : (m : Mark) → IsAlong m → IsPlain (m ∷ [])
+pub plain_one : (m : ReadMark) → IsAlong m → IsPlain (m ∷ [])
 plain_one m a = plain_next m [] a plain_none
 
 pub term_plain : (t : Expression) → IsPlain (term_marks t)
@@ -193,16 +193,16 @@ weight_plain n (Some t) = plain_next (Weighted n) (term_marks t) (along_weighted
 -- BLOCKS OF STATEMENTS
 
 -- it leaves what it enters, nothing of it is known once its block is left, and it has no table
-pub record IsBody (ms : List Mark) : Type 0 where
+pub record IsBody (ms : List ReadMark) : Type 0 where
   pub steady : IsSteady ms
   pub shut : IsShut ms
   pub tables : how_many is_table ms ≡ 0
 
 -- a plain text is one
-pub plain_body : (ms : List Mark) → IsPlain ms → IsBody ms
+pub plain_body : (ms : List ReadMark) → IsPlain ms → IsBody ms
 plain_body ms p = record { steady = p.steady; shut = λ ys n w h d. p.quiet ys n w d; tables = p.tables }
 
-body_both : (xs ys : List Mark) → IsBody xs → IsBody ys → IsBody (xs ++ ys)
+body_both : (xs ys : List ReadMark) → IsBody xs → IsBody ys → IsBody (xs ++ ys)
 body_both xs ys a b = record {
   steady = steady_both xs ys a.steady b.steady;
   shut = λ zs n w h d. b.shut zs n w h (a.shut (ys ++ zs) n w (b.steady 0 zs ∙ h) (subst (λ ms. IsKnownAs ms n w) (append_assoc xs ys zs) d));
@@ -210,7 +210,7 @@ body_both xs ys a b = record {
 }
 
 -- a statement that begins
-begun : (ms : List Mark) → IsBody ms → IsBody (Begins ∷ ms)
+begun : (ms : List ReadMark) → IsBody ms → IsBody (Begins ∷ ms)
 begun ms b = record {
   steady = λ k ys. b.steady k ys;
   shut = λ ys n w h d. b.shut ys n w h (known_behind Begins (ms ++ ys) n w refl d);
@@ -225,7 +225,7 @@ local_body n = record {
 }
 
 -- a block that is entered and left
-pub block_whole : (xs rest : List Mark) → IsBody xs → IsBody rest → IsBody (Enters ∷ (xs ++ Leaves ∷ rest))
+pub block_whole : (xs rest : List ReadMark) → IsBody xs → IsBody rest → IsBody (Enters ∷ (xs ++ Leaves ∷ rest))
 block_whole xs rest a r = record {
   steady = λ k ys. ap (stays (suc k)) (append_assoc xs (Leaves ∷ rest) ys) ∙ a.steady (suc k) (Leaves ∷ (rest ++ ys)) ∙ r.steady k ys;
   shut = λ ys n w h d.

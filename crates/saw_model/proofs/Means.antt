@@ -19,7 +19,7 @@ use Rattle.kern_tables.specs.Tables.{tab}
 use Rattle.saw_text.specs.Tree.{Program}
 use Rattle.saw_model.specs.Meaning.{tables_in, width, emits, rows_for, Emitted}
 use Rattle.saw_model.specs.Elaborate.{At, nothing_read}
-use Rattle.saw_model.specs.Plan.{queue_name, queues_of, map_op, body_form, plan_of, as_items}
+use Rattle.saw_model.specs.Plan.{queue_name, queues_of, map_op, body_form, plan_of, rows_as_items}
 use Rattle.saw_model.specs.Laws.{TranslationMeans}
 use Rattle.saw_model.proofs.Elaborated.{fine}
 use Rattle.saw_model.proofs.Fed.{code_fed, tally_fed, written_queue, tallies_write_nothing, tallied, pushed_are}
@@ -38,7 +38,7 @@ module _ (p : Program) (read : Steps × At) (h : parts_read p nothing_read ≡ f
   ts = tables_in p
 
   pushes_of : (i : ℕ) (t : TableDecl) (r : List ℤ) → slice_get ts i ≡ Some t
-      → pushed_to i (run_kept (body_form p read.0 read.1.slots).body [] (take (width p) r)).pushes ≡ as_items (rows_for t.name (emits p r))
+      → pushed_to i (run_kept (body_form p read.0 read.1.slots).body [] (take (width p) r)).pushes ≡ rows_as_items (rows_for t.name (emits p r))
   pushes_of i t r g =
       let slots : read.1.slots - 0 ≡ read.1.slots = omega arith in
       ap (λ n. pushed_to i (ran read.0 (take (width p) r) (replicate n (pos 0))).pushes) slots
@@ -46,20 +46,20 @@ module _ (p : Program) (read : Steps × At) (h : parts_read p nothing_read ≡ f
       (record_met p read (width p) r h (omega arith))
 
   all_pushes : (i : ℕ) (t : TableDecl) (rs : List (List ℤ)) → slice_get ts i ≡ Some t
-      → flat_map (λ r. pushed_to i (run_kept (body_form p read.0 read.1.slots).body [] r).pushes) (map (take (width p)) rs) ≡ as_items (rows_for t.name (flat_map (emits p) rs))
+      → flat_map (λ r. pushed_to i (run_kept (body_form p read.0 read.1.slots).body [] r).pushes) (map (take (width p)) rs) ≡ rows_as_items (rows_for t.name (flat_map (emits p) rs))
   all_pushes i t [] g = refl
   all_pushes i t (r ∷ rs) g =
       (λ k. pushes_of i t r g k ++ all_pushes i t rs g k)
-      ∙ sym (ap as_items (rows_for-append t.name (emits p r) (flat_map (emits p) rs)) ∙ map-append _ (rows_for t.name (emits p r)) (rows_for t.name (flat_map (emits p) rs)))
+      ∙ sym (ap rows_as_items (rows_for-append t.name (emits p r) (flat_map (emits p) rs)) ∙ map-append _ (rows_for t.name (emits p r)) (rows_for t.name (flat_map (emits p) rs)))
 
   abbrev inputs : List (List ℤ) → List (List item.Item)
-  inputs records = as_items (map (take (width p)) records) ∷ []
+  inputs records = rows_as_items (map (take (width p)) records) ∷ []
 
   abbrev first : List (List ℤ) → History
   first records = inputs_of (codes "in" ∷ []) (list_at (inputs records))
 
   queue_has : (records : List (List ℤ)) (i : ℕ) (t : TableDecl) → slice_get ts i ≡ Some t
-      → hist (plan_of p read) (inputs records) (queue_name t.name) ≡ as_items (rows_for t.name (flat_map (emits p) records))
+      → hist (plan_of p read) (inputs records) (queue_name t.name) ≡ rows_as_items (rows_for t.name (flat_map (emits p) records))
   queue_has records i t g =
       let op = map_op p read.0 read.1.slots in
       let given_is = one_input op.kernel (lists_of (first records) op.reads) [] refl in

@@ -13,9 +13,9 @@ use Rattle.river_plan.specs.Names.{count, one_if}
 use Rattle.river_plan.specs.declared.plan.TableDecl.{TableDecl}
 use Rattle.river_plan.proofs.NameLemmas.{name_same, cases_name}
 use Rattle.saw_text.specs.Tree.{UnitForm, TableUnit, StatementUnit, Program}
-use Rattle.saw_model.specs.Meaning.{tables_in, State, exec, exec_units, fresh, emits, reach_statement, reach_parts, table_kind, table_decl}
-use Rattle.saw_model.specs.Elaborate.{Limit, on_ok, demand, Known, Var, Port, Scope, find, At, is_new, keys_in, both_steps, Read, is_best, tabled, table_of}
-use Rattle.saw_model.specs.Elaborate.{part_of, nothing_read}
+use Rattle.saw_model.specs.Meaning.{tables_in, State, exec, exec_units, fresh_state, emits, reach_statement, reach_parts, table_kind, table_decl}
+use Rattle.saw_model.specs.Elaborate.{Limit, on_ok, demand, KnownName, Var, Port, Scope, find, At, is_new, keys_in, both_steps, Read, is_best, tabled, table_of}
+use Rattle.saw_model.specs.Elaborate.{part_judged, nothing_read}
 use Rattle.saw_model.specs.Judged.{Refusal, on_fine, in_unit, all_parts}
 use Rattle.saw_model.proofs.Elaborated.{fine, ok_is, ok_parts, demanded, found_here, found_other, Agrees, ArePorts, Keeps, keeps_new, sound_port, Matches}
 use Rattle.saw_model.proofs.Elaborated.{met_more, none_met}
@@ -24,12 +24,12 @@ use Rattle.saw_model.proofs.Statements.{new_is, grows, met, Ready, MetBy, ready_
 -- what is read of all units, whichever their numbers
 abbrev pub parts_read : Program → At → Read
 parts_read [] s = Ok (Done, s)
-parts_read (c ∷ ps) s = on_ok (part_of c s) (λ p. on_ok (parts_read ps p.1) (λ q. Ok (both_steps p.0 q.0, q.1)))
+parts_read (c ∷ ps) s = on_ok (part_judged c s) (λ p. on_ok (parts_read ps p.1) (λ q. Ok (both_steps p.0 q.0, q.1)))
 
 -- units are read one after another
 pub reads_parts : (k : ℕ) (p : Program) (s : At) (y : Steps × At) → all_parts k p s ≡ Ok y → parts_read p s ≡ Ok y
 reads_parts k [] s y h = cc h
-reads_parts k (c ∷ ps) s y h = first (λ p q e. reads_parts (suc k) ps p.1 q e) (part_of c s) h where
+reads_parts k (c ∷ ps) s y h = first (λ p q e. reads_parts (suc k) ps p.1 q e) (part_judged c s) h where
   more : (p : Steps × At) (r : Result (Steps × At) Refusal) → ((q : Steps × At) → r ≡ Ok q → parts_read ps p.1 ≡ Ok q)
       → on_fine r (λ q. Ok (both_steps p.0 q.0, q.1)) ≡ Ok y
       → on_ok (parts_read ps p.1) (λ q. Ok (both_steps p.0 q.0, q.1)) ≡ Ok y
@@ -69,7 +69,7 @@ tabled_parts n k s y h =
 
 pub record Split (c : UnitForm) (ps : Program) (s : At) (y : Steps × At) : Type 0 where
   pub first : Steps × At
-  pub first_is : part_of c s ≡ Ok first
+  pub first_is : part_judged c s ≡ Ok first
   pub others : Steps × At
   pub others_is : parts_read ps first.1 ≡ Ok others
   pub is : (both_steps first.0 others.0, others.1) ≡ y
@@ -77,12 +77,12 @@ pub record Split (c : UnitForm) (ps : Program) (s : At) (y : Steps × At) : Type
 -- the first unit and the others
 pub split_parts : (c : UnitForm) (ps : Program) (s : At) (y : Steps × At) → parts_read (c ∷ ps) s ≡ fine y → Split c ps s y
 split_parts c ps s y h =
-    let p = ok_parts (part_of c s) (λ p. on_ok (parts_read ps p.1) (λ q. Ok (both_steps p.0 q.0, q.1))) y h in
+    let p = ok_parts (part_judged c s) (λ p. on_ok (parts_read ps p.1) (λ q. Ok (both_steps p.0 q.0, q.1))) y h in
     let q = ok_parts (parts_read ps p.0.1) (λ q. Ok (both_steps p.0.0 q.0, q.1)) y p.2 in
     record { first = p.0; first_is = p.1; others = q.0; others_is = q.1; is = ok_is _ y q.2 }
 
 -- slots are never given back
-pub part_slots : (c : UnitForm) (s : At) (y : Steps × At) → part_of c s ≡ fine y → s.slots ≤ y.1.slots
+pub part_slots : (c : UnitForm) (s : At) (y : Steps × At) → part_judged c s ≡ fine y → s.slots ≤ y.1.slots
 part_slots (TableUnit tb) s y h = let d = tabled_parts tb.name (table_kind tb) s y h in subst (λ (q : Steps × At). s.slots ≤ q.1.slots) d.is (omega arith)
 part_slots (StatementUnit c) s y h = (grows c s y h).slots
 
@@ -96,13 +96,13 @@ parts_slots (c ∷ ps) s y h =
     subst (λ (q : Steps × At). s.slots ≤ q.1.slots) d.is (omega (arith, a, b))
 
 -- what is known stays known
-part_keeps : (c : UnitForm) (s : At) (y : Steps × At) → part_of c s ≡ fine y → Keeps s.scope y.1.scope
+part_keeps : (c : UnitForm) (s : At) (y : Steps × At) → part_judged c s ≡ fine y → Keeps s.scope y.1.scope
 part_keeps (TableUnit tb) s y h =
     let d = tabled_parts tb.name (table_kind tb) s y h in subst (λ (q : Steps × At). Keeps s.scope q.1.scope) d.is (keeps_new tb.name (Port s.tables (table_kind tb)) s.scope d.new)
 part_keeps (StatementUnit c) s y h = (grows c s y h).keeps
 
 -- no table has a known name
-pub not_known : (p : Program) (s : At) (y : Steps × At) (n : Name) (b : Known) → parts_read p s ≡ fine y → find s.scope n ≡ Some b
+pub not_known : (p : Program) (s : At) (y : Steps × At) (n : Name) (b : KnownName) → parts_read p s ≡ fine y → find s.scope n ≡ Some b
     → count n (table_names (tables_in p)) ≡ 0
 not_known [] s y n b h f = refl
 not_known (TableUnit tb ∷ ps) s y n b h f =
@@ -114,7 +114,7 @@ not_known (TableUnit tb ∷ ps) s y n b h f =
     (λ c. let e = ap one_if c.1 in omega (arith, e, more))
     (cases_name tb.name n)
   where
-    clash : (o : Option Known) (b : Known) → o ≡ None → o ≡ Some b → ⊥
+    clash : (o : Option KnownName) (b : KnownName) → o ≡ None → o ≡ Some b → ⊥
     clash o b h g = cc (sym h ∙ g)
 not_known (StatementUnit c ∷ ps) s y n b h f =
     let d = split_parts (StatementUnit c) ps s y h in
@@ -228,14 +228,14 @@ pub record_met : (p : Program) (y : Steps × At) (w : ℕ) (r : List ℤ) → pa
     → Matches (tables_in p) (emits p r) (ran y.0 (take w r) (replicate y.1.slots (pos 0))).pushes
 record_met p y w r h b =
     let mem = replicate y.1.slots (pos 0) in
-    let none_known : (n : Name) (b : Known) → find [] n ≡ Some b → ⊥ = λ n b f. no_none f in
-    let k : Ready w r (tables_in p) nothing_read fresh mem = record {
+    let none_known : (n : Name) (b : KnownName) → find [] n ≡ Some b → ⊥ = λ n b f. no_none f in
+    let k : Ready w r (tables_in p) nothing_read fresh_state mem = record {
       sound = record { below = λ n i f. absurd (none_known n (Var i) f); apart = λ n m i f g. absurd (none_known n (Var i) f) };
       ports = record { port = λ n p k f. absurd (none_known n (Port p k) f) };
       agrees = record { each = λ n i f. absurd (none_known n (Var i) f) };
     } in
-    let m = parts_met w r (tables_in p) p nothing_read y fresh mem [] h b k (let l = length-replicate y.1.slots (pos 0) in omega (arith, l)) refl refl in
+    let m = parts_met w r (tables_in p) p nothing_read y fresh_state mem [] h b k (let l = length-replicate y.1.slots (pos 0) in omega (arith, l)) refl refl in
     subst (λ es. Matches (tables_in p) es (ran y.0 (take w r) mem).pushes) (sym m.emitted_are) m.matches
   where
-    no_none : {b : Known} → None ≡ Some b → ⊥
+    no_none : {b : KnownName} → None ≡ Some b → ⊥
     no_none h = cc h

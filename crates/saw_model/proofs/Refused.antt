@@ -3,58 +3,58 @@ use Rattle.std.proofs.Common.{◌≡◌, ℕ, suc, ◌+◌, ◌⊎◌, inl, inr,
 use Rattle.std.specs.Prelude.{Result, Ok, Err}
 use Rattle.work_code.specs.Steps.{Steps}
 use Rattle.saw_text.specs.Tree.{UnitForm, Program}
-use Rattle.saw_model.specs.Elaborate.{Fault, both_steps, At, part_of, nothing_read}
+use Rattle.saw_model.specs.Elaborate.{Fault, both_steps, At, part_judged, nothing_read}
 use Rattle.saw_model.specs.Judged.{Refusal, on_fine, in_unit, all_parts, judged}
 use Rattle.saw_model.specs.Faults.{IsFirstFault, IsFaultless, IsFaultAt, RefusedAtFirst, AcceptedFaultless}
-use Rattle.saw_model.specs.Places.{Mark, part_marks, program_marks}
+use Rattle.saw_model.specs.Places.{ReadMark, part_marks, program_marks}
 use Rattle.saw_model.proofs.Judging.{IsAt, AtEnd, part_read, nothing_at}
 use Rattle.saw_model.proofs.Verdicts.{AreFine, HasFirst, Verdict, fine_both, not_both, one_fault, first_stands, stands_first, faultless_is, is_faultless}
 
 -- of the units, numbered from k, this is the first that has a fault, and its first
-abbrev FirstIn : List Mark → ℕ → Program → Refusal → Type 0
+abbrev FirstIn : List ReadMark → ℕ → Program → Refusal → Type 0
 FirstIn b k [] r = ⊥
 FirstIn b k (c ∷ ps) r = ((r.unit ≡ k) × HasFirst b (part_marks c) r.fault) ⊎ (AreFine b (part_marks c) × FirstIn (b ++ part_marks c) (suc k) ps r)
 
 -- what is answered of the units
-abbrev Answers : List Mark → ℕ → Program → Result (Steps × At) Refusal → Type 0
+abbrev Answers : List ReadMark → ℕ → Program → Result (Steps × At) Refusal → Type 0
 Answers b k ps (Ok read) = AreFine b (program_marks ps)
 Answers b k ps (Err r) = FirstIn b k ps r
 
-later : (b : List Mark) (k : ℕ) (c : UnitForm) (ps : Program) (p : Steps × At) → AreFine b (part_marks c) → (r : Result (Steps × At) Refusal)
+later : (b : List ReadMark) (k : ℕ) (c : UnitForm) (ps : Program) (p : Steps × At) → AreFine b (part_marks c) → (r : Result (Steps × At) Refusal)
     → Answers (b ++ part_marks c) (suc k) ps r
     → Answers b k (c ∷ ps) (on_fine r (λ q. Ok (both_steps p.0 q.0, q.1)))
 later b k c ps p f (Ok q) a = fine_both b (part_marks c) (program_marks ps) f a
 later b k c ps p f (Err e) a = inr (f, a)
 
-unit_read : (b : List Mark) (k : ℕ) (c : UnitForm) (ps : Program) (r : Result (Steps × At) Fault) → Verdict AtEnd b (part_marks c) r
+unit_read : (b : List ReadMark) (k : ℕ) (c : UnitForm) (ps : Program) (r : Result (Steps × At) Fault) → Verdict AtEnd b (part_marks c) r
     → ((s : At) → IsAt (b ++ part_marks c) s → Answers (b ++ part_marks c) (suc k) ps (all_parts (suc k) ps s))
     → Answers b k (c ∷ ps) (in_unit k r (λ p. on_fine (all_parts (suc k) ps p.1) (λ q. Ok (both_steps p.0 q.0, q.1))))
 unit_read b k c ps (Ok p) v more = later b k c ps p v.0 (all_parts (suc k) ps p.1) (more p.1 v.1)
 unit_read b k c ps (Err e) v more = inl (refl, v)
 
-units_read : (b : List Mark) (k : ℕ) (ps : Program) (s : At) → IsAt b s → Answers b k ps (all_parts k ps s)
+units_read : (b : List ReadMark) (k : ℕ) (ps : Program) (s : At) → IsAt b s → Answers b k ps (all_parts k ps s)
 units_read b k [] s a = tt
-units_read b k (c ∷ ps) s a = unit_read b k c ps (part_of c s) (part_read c b s a) (λ t h. units_read (b ++ part_marks c) (suc k) ps t h)
+units_read b k (c ∷ ps) s a = unit_read b k c ps (part_judged c s) (part_read c b s a) (λ t h. units_read (b ++ part_marks c) (suc k) ps t h)
 
 program_read : (p : Program) → Answers [] 1 p (judged p)
 program_read p = units_read [] 1 p nothing_read nothing_at
 
 -- THE PLACE
 
-record Told (b : List Mark) (k : ℕ) (ps : Program) (r : Refusal) : Type 0 where
+record Told (b : List ReadMark) (k : ℕ) (ps : Program) (r : Refusal) : Type 0 where
   units : Program
   unit : UnitForm
   others : Program
   parts : ps ≡ units ++ unit ∷ others
   counted : r.unit ≡ length units + k
-  read : List Mark
-  here : Mark
-  left : List Mark
+  read : List ReadMark
+  here : ReadMark
+  left : List ReadMark
   marks : part_marks unit ≡ read ++ here ∷ left
   fine : AreFine b (program_marks units ++ read)
   fault : IsFirstFault (b ++ (program_marks units ++ read)) here r.fault
 
-told : (b : List Mark) (k : ℕ) (ps : Program) (r : Refusal) → FirstIn b k ps r → Told b k ps r
+told : (b : List ReadMark) (k : ℕ) (ps : Program) (r : Refusal) → FirstIn b k ps r → Told b k ps r
 told b k [] r h = absurd h
 told b k (c ∷ ps) r h = ⊎_elim
     (λ x.
@@ -95,16 +95,16 @@ told b k (c ∷ ps) r h = ⊎_elim
     })
     h
 
-fine_parts : (b ms ns : List Mark) → AreFine b (ms ++ ns) → AreFine b ms × AreFine (b ++ ms) ns
+fine_parts : (b ms ns : List ReadMark) → AreFine b (ms ++ ns) → AreFine b ms × AreFine (b ++ ms) ns
 fine_parts b [] ns a = (tt, subst (λ x. AreFine x ns) (sym (nil b)) a)
   where
-    nil : (b : List Mark) → b ++ [] ≡ b
+    nil : (b : List ReadMark) → b ++ [] ≡ b
     nil [] = refl
     nil (x ∷ xs) = ap (λ l. x ∷ l) (nil xs)
 fine_parts b (m ∷ ms) ns a =
     let r = fine_parts (b ++ m ∷ []) ms ns a.1 in ((a.0, r.0), subst (λ x. AreFine x ns) (append_assoc b (m ∷ []) ms) r.1)
 
-is_told : (b : List Mark) (k : ℕ) (units : Program) (unit : UnitForm) (others : Program) (read : List Mark) (here : Mark) (left : List Mark) (r : Refusal)
+is_told : (b : List ReadMark) (k : ℕ) (units : Program) (unit : UnitForm) (others : Program) (read : List ReadMark) (here : ReadMark) (left : List ReadMark) (r : Refusal)
     → r.unit ≡ length units + k
     → part_marks unit ≡ read ++ here ∷ left
     → AreFine b (program_marks units ++ read)
@@ -125,7 +125,7 @@ is_told b k (c ∷ cs) unit others read here left r n e f h =
     )
 
 -- there is one
-one_told : (b : List Mark) (k : ℕ) (ps : Program) (r q : Refusal) → FirstIn b k ps r → FirstIn b k ps q → r ≡ q
+one_told : (b : List ReadMark) (k : ℕ) (ps : Program) (r q : Refusal) → FirstIn b k ps r → FirstIn b k ps q → r ≡ q
 one_told b k [] r q x y = absurd x
 one_told b k (c ∷ ps) r q x y = ⊎_elim
     (λ a. ⊎_elim
@@ -140,7 +140,7 @@ one_told b k (c ∷ ps) r q x y = ⊎_elim
     x
 
 -- where no place has a fault, none is told
-none_told : (b : List Mark) (k : ℕ) (ps : Program) (r : Refusal) → AreFine b (program_marks ps) → FirstIn b k ps r → ⊥
+none_told : (b : List ReadMark) (k : ℕ) (ps : Program) (r : Refusal) → AreFine b (program_marks ps) → FirstIn b k ps r → ⊥
 none_told b k [] r f x = x
 none_told b k (c ∷ ps) r f x =
     let s = fine_parts b (part_marks c) (program_marks ps) f in ⊎_elim

@@ -16,9 +16,9 @@ use Rattle.river_plan.proofs.NameLemmas.{name_same}
 use Rattle.brooklet_model.specs.Machine.{at_name}
 use Rattle.saw_text.specs.Tree.{Expression}
 use Rattle.saw_text.specs.Tree.{Statement, Declare, Assign, Emit, If, Block, End, Then, Optional, Unwritten, Written}
-use Rattle.saw_model.specs.Meaning.{eval, State, eval_or, eval_all, listed, parts_of, exec, exec_block, exec_optional, reach}
+use Rattle.saw_model.specs.Meaning.{eval, State, eval_or, eval_all, listed, emit_row, exec, exec_block, exec_optional, reach}
 use Rattle.saw_model.specs.Meaning.{reach_all, reach_statement, reach_block, reach_optional}
-use Rattle.saw_model.specs.Elaborate.{Shape, Limit, on_ok, demand, has_slot, Known, Var, Port, Scope, find, term_of, At, is_new, slot_of, port_of, first_term}
+use Rattle.saw_model.specs.Elaborate.{Shape, Limit, on_ok, demand, has_slot, KnownName, Var, Port, Scope, find, term_of, At, is_new, slot_of, table_port, first_term}
 use Rattle.saw_model.specs.Elaborate.{indexes_of, keys_in, weight_of, both_steps, one_step, Read, declared, emitted, step_of, steps_of, steps_optional}
 use Rattle.saw_model.proofs.Elaborated.{fine, ok_is, ok_parts, demanded, room_for, found_here, found_other, Agrees, IsSound, ArePorts, Keeps, agrees_within}
 use Rattle.saw_model.proofs.Elaborated.{more_slots, keeps_new, sound_var, ports_var, agrees_set, term_is, vals, first_is, indexes_are, weight_is}
@@ -28,16 +28,16 @@ use Rattle.saw_model.proofs.Elaborated.{met_more, one_ran}
 -- THE PARTS OF WHAT IS READ
 
 -- a name that is new is not known
-pub new_is : (o : Option Known) (u : Unit {0}) → is_new o ≡ Ok u → o ≡ None
+pub new_is : (o : Option KnownName) (u : Unit {0}) → is_new o ≡ Ok u → o ≡ None
 new_is None u h = refl
 new_is (Some b) u h = absurd (cc h)
 
-slot_is : (o : Option Known) (i : ℕ) → slot_of o ≡ Ok i → o ≡ Some (Var i)
+slot_is : (o : Option KnownName) (i : ℕ) → slot_of o ≡ Ok i → o ≡ Some (Var i)
 slot_is None i h = absurd (cc h)
 slot_is (Some (Var j)) i h = ap (λ n. Some (Var n)) (ok_is j i h)
 slot_is (Some (Port p k)) i h = absurd (cc h)
 
-port_is_at : (o : Option Known) (t : ℕ × TableKind) → port_of o ≡ Ok t → o ≡ Some (Port t.0 t.1)
+port_is_at : (o : Option KnownName) (t : ℕ × TableKind) → table_port o ≡ Ok t → o ≡ Some (Port t.0 t.1)
 port_is_at None t h = absurd (cc h)
 port_is_at (Some (Var j)) t h = absurd (cc h)
 port_is_at (Some (Port p k)) t h = let e = ok_is (p, k) t h in λ i. Some (Port (e i).0 (e i).1)
@@ -103,10 +103,10 @@ pub record Sent (t : Name) (is : List Expression) (v : Expression) (w : Option E
 pub sent_parts : (t : Name) (is : List Expression) (v : Expression) (w : Option Expression) (s0 : At) (y : Steps × At) → step_of (Emit t is v w) s0 ≡ fine y
     → Sent t is v w s0 y
 sent_parts t is v w s0 y h =
-    let f1 : At → Read = λ s. on_ok (port_of (find s.scope t)) (λ p. on_ok (indexes_of s.scope 0 is) (λ us. emitted s p (length is) us v w)) in
+    let f1 : At → Read = λ s. on_ok (table_port (find s.scope t)) (λ p. on_ok (indexes_of s.scope 0 is) (λ us. emitted s p (length is) us v w)) in
     let c = counted_on s0 f1 y h in
     let s = one_more s0 in
-    let a = ok_parts (port_of (find s0.scope t)) (λ p. on_ok (indexes_of s0.scope 0 is) (λ us. emitted s p (length is) us v w)) y c in
+    let a = ok_parts (table_port (find s0.scope t)) (λ p. on_ok (indexes_of s0.scope 0 is) (λ us. emitted s p (length is) us v w)) y c in
     let b = ok_parts (indexes_of s0.scope 0 is) (λ us. emitted s a.0 (length is) us v w) y a.2 in
     let k : Term → List Term → Read = λ u ws. Ok (one_step (steps.Push a.0.0 (b.0 ++ u ∷ ws)), s) in
     let g : Term → Read = λ u. on_ok (weight_of a.0.1 w s0.scope) (k u) in
@@ -248,7 +248,7 @@ module _ (w : ℕ) (r : List ℤ) (ts : List TableDecl) where
       (subst (λ v. Agrees s.scope (at_name n z now.values) (slice_set mem d.slot v)) value set))
 
   emit_met : (t : Name) (is : List Expression) (v : Expression) (wt : Option Expression) (s : At) (y : Steps × At) (now : State) (mem : List ℤ) → Sent t is v wt s y
-      → reach_all (parts_of is v wt) ≤ w → Ready s now mem → MetBy s now (exec (Emit t is v wt) r now) y mem
+      → reach_all (emit_row is v wt) ≤ w → Ready s now mem → MetBy s now (exec (Emit t is v wt) r now) y mem
   emit_met t is v wt s y now mem d h k =
       let env = now.values in
       let room = reach-append w r is (v ∷ listed wt) h in
@@ -257,11 +257,11 @@ module _ (w : ℕ) (r : List ℤ) (ts : List TableDecl) where
       let us = indexes_are w r s.scope 0 is env mem d.indexes room.0 k.agrees d.indexes_is in
       let u = term_is w r s.scope v env mem d.value b1 k.agrees d.value_is in
       let ws = weight_is w r d.port.1 wt s.scope env mem d.weights b2 k.agrees d.weights_is in
-      let row : eval_all (parts_of is v wt) r env ≡ vals w r (d.indexes ++ d.value ∷ d.weights) mem =
+      let row : eval_all (emit_row is v wt) r env ≡ vals w r (d.indexes ++ d.value ∷ d.weights) mem =
       eval_all-append w r is (v ∷ listed wt) env ∙ (λ i. us i ++ (u i ∷ ws i)) ∙ sym (map-append (λ x. val x (take w r) mem) d.indexes (d.value ∷ d.weights)) in
       subst (λ (q : Steps × At). MetBy s now (exec (Emit t is v wt) r now) q mem) d.made (record {
         agrees = k.agrees;
-        new = (t, eval_all (parts_of is v wt) r env) ∷ [];
+        new = (t, eval_all (emit_row is v wt) r env) ∷ [];
         emitted_are = refl;
         matches = (d.port.1, k.ports.port t d.port.0 d.port.1 d.port_there, row, tt);
       })

@@ -23,7 +23,7 @@ use Rattle.river_plan.specs.declared.plan.TableDecl.{TableDecl}
 use Rattle.river_plan.specs.Forms.{Name, OpForm, decl_names, table_names, queue_names, all_decls}
 use Rattle.river_plan.specs.Names.{one_if, count}
 use Rattle.river_plan.specs.Uses.{Each, total, reads_it, writes_it, vars_it, named_it, and_writes, ReadsBefore}
-use Rattle.river_plan.specs.Faults.{IsOuter, HasWidth, IsTable}
+use Rattle.river_plan.specs.Faults.{IsOuter, HasWidth, IsTableKind}
 use Rattle.river_plan.specs.Kinds.{kind_in, kind_of, table_in, var_kind, FitsAt}
 use Rattle.river_plan.specs.Limits.{most_of, numbers, port_numbers, kernel_numbers, nestings, best_rows}
 use Rattle.river_plan.specs.Valid.{IsPlan}
@@ -32,7 +32,7 @@ use Rattle.saw_text.specs.Tree.{TableUnit, StatementUnit}
 use Rattle.saw_model.specs.Meaning.{table_kind}
 use Rattle.saw_text.specs.Tree.{Program}
 use Rattle.saw_model.specs.Meaning.{tables_in, width}
-use Rattle.saw_model.specs.Elaborate.{At, Known, Var, Port, find, keys_in, is_best, nothing_read}
+use Rattle.saw_model.specs.Elaborate.{At, KnownName, Var, Port, find, keys_in, is_best, nothing_read}
 use Rattle.saw_model.specs.Plan.{queue_name, queues_of, queue_decls, tally_op, map_op, plan_of}
 use Rattle.saw_model.specs.Shallow.{AreShallowParts}
 use Rattle.saw_model.specs.Laws.{PlansAreValid}
@@ -122,7 +122,7 @@ table_there (u ∷ us) (suc i) t o g = ⊎_elim
 -- WHAT READING SEES TO
 
 pub record IsGood (k : TableKind) : Type 0 where
-  pub table : IsTable k
+  pub table : IsTableKind k
   pub width : is_width (table_width k) ≡ true
   pub best : All (λ n. n ≤ 1000000) (best_rows k)
 
@@ -164,9 +164,9 @@ good_there (u ∷ us) zero t h g = subst (λ (x : TableDecl). IsGood x.kind) (sa
     same u t g = cc
 good_there (u ∷ us) (suc i) t h g = good_there us i t h.1 g
 
-good_tables : (ts : List TableDecl) → AreGood ts → All (λ t. IsTable t.kind) ts
-good_tables [] h = All-nil (λ t. IsTable t.kind)
-good_tables (t ∷ ts) h = All-cons (λ t. IsTable t.kind) t ts h.0.table (good_tables ts h.1)
+good_tables : (ts : List TableDecl) → AreGood ts → All (λ t. IsTableKind t.kind) ts
+good_tables [] h = All-nil (λ t. IsTableKind t.kind)
+good_tables (t ∷ ts) h = All-cons (λ t. IsTableKind t.kind) t ts h.0.table (good_tables ts h.1)
 
 good_best : (ts : List TableDecl) → AreGood ts → All (λ n. n ≤ 1000000) (flat_map (λ t. best_rows t.kind) ts)
 good_best [] h = nothing 1000000
@@ -282,7 +282,7 @@ module _ (p : Program) (read : Steps × At) (low : AreShallowParts p) (h : parts
   tally_fits : (i : ℕ) (t : TableDecl) → slice_get ts i ≡ Some t → FitsAt kind var (tally_op t)
   tally_fits i t g = (table_width t.kind, ap (λ k. k ∷ []) (kind_at i t g), refl, ap (λ k. k ∷ []) (var_at i t g), (good_there ts i t good g).width)
 
-  none_known : (n : Name) (b : Known) → find [] n ≡ Some b → ⊥
+  none_known : (n : Name) (b : KnownName) → find [] n ≡ Some b → ⊥
   none_known n b f = absurd (cc f)
 
   sound : IsSound nothing_read.scope nothing_read.slots

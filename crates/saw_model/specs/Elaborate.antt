@@ -31,18 +31,18 @@ abbrev pub demand : Bool → Fault → Result (Unit {0}) Fault
 demand b e = if b then Ok tt else Err e
 
 -- a name that is known: a local in its slot, or a table by its number
-pub data Known : Type 0 where
-  Var : ℕ → Known
-  Port : ℕ → TableKind → Known
+pub data KnownName : Type 0 where
+  Var : ℕ → KnownName
+  Port : ℕ → TableKind → KnownName
 
 abbrev pub Scope : Type 0
-Scope = List (Name × Known)
+Scope = List (Name × KnownName)
 
-abbrev pub find : Scope → Name → Option Known
+abbrev pub find : Scope → Name → Option KnownName
 find [] n = None
 find (e ∷ es) n = if name_eq e.0 n then Some e.1 else find es n
 
-abbrev pub named : Option Known → Result Term Fault
+abbrev pub named : Option KnownName → Result Term Fault
 named None = Err UnknownName
 named (Some (Var i)) = Ok (term.Slot i)
 named (Some (Port p k)) = Err UnknownName
@@ -70,19 +70,19 @@ counted s = if nat_lt s.size 16384 then Ok (record s { size = s.size + 1 }) else
 abbrev pub has_slot : At → Result (Unit {0}) Fault
 has_slot s = demand (nat_lt s.slots 256) Limit
 
-abbrev pub is_new : Option Known → Result (Unit {0}) Fault
+abbrev pub is_new : Option KnownName → Result (Unit {0}) Fault
 is_new None = Ok tt
 is_new (Some b) = Err NameTwice
 
-abbrev pub slot_of : Option Known → Result ℕ Fault
+abbrev pub slot_of : Option KnownName → Result ℕ Fault
 slot_of None = Err UnknownName
 slot_of (Some (Var i)) = Ok i
 slot_of (Some (Port p k)) = Err UnknownName
 
-abbrev pub port_of : Option Known → Result (ℕ × TableKind) Fault
-port_of None = Err UnknownName
-port_of (Some (Var i)) = Err UnknownName
-port_of (Some (Port p k)) = Ok (p, k)
+abbrev pub table_port : Option KnownName → Result (ℕ × TableKind) Fault
+table_port None = Err UnknownName
+table_port (Some (Var i)) = Err UnknownName
+table_port (Some (Port p k)) = Ok (p, k)
 
 abbrev pub first_term : Option Expression → Scope → Result Term Fault
 first_term None sc = Ok (term.Const (pos 0))
@@ -135,7 +135,7 @@ abbrev mutual
   step_of (Assign n t) s0 =
       on_ok (counted s0) (λ s. on_ok (slot_of (find s.scope n)) (λ i. on_ok (term_of s.scope t) (λ v. Ok (one_step (steps.Set i v), s))))
   step_of (Emit t is v w) s0 =
-      on_ok (counted s0) (λ s. on_ok (port_of (find s.scope t)) (λ p. on_ok (indexes_of s.scope 0 is) (λ us. emitted s p (length is) us v w)))
+      on_ok (counted s0) (λ s. on_ok (table_port (find s.scope t)) (λ p. on_ok (indexes_of s.scope 0 is) (λ us. emitted s p (length is) us v w)))
   step_of (If t a b) s0 =
       on_ok (counted s0) (λ s. on_ok (term_of s.scope t) (λ c.
       on_ok (steps_of a s) (λ p.
@@ -166,9 +166,9 @@ table_of n k s =
     on_ok (demand (is_best k) Limit) (λ w.
     on_ok (demand (nat_le (keys_in k) 8) Limit) (λ x. Ok (tabled n k s)))))
 
-abbrev pub part_of : UnitForm → At → Read
-part_of (TableUnit tb) s = table_of tb.name (table_kind tb) s
-part_of (StatementUnit c) s = step_of c s
+abbrev pub part_judged : UnitForm → At → Read
+part_judged (TableUnit tb) s = table_of tb.name (table_kind tb) s
+part_judged (StatementUnit c) s = step_of c s
 
 -- before all units
 abbrev pub nothing_read : At

@@ -5,20 +5,20 @@ use Rattle.kern_tables.specs.declared.kind.TableKind.{TableKind}
 use Rattle.kern_tables.specs.declared.kind.TableKind.TheVariants.{Sum, Collection, Maximum}
 use Rattle.saw_model.specs.Elaborate.{Fault, UnknownName, NameTwice, Shape, Limit, At, keys_in}
 use Rattle.saw_model.specs.Judged.{Refusal, judged}
-use Rattle.saw_model.specs.Places.{Mark, Begins, Names, Reads, Declares, Sets, Emits, Index, Indexed, Weighted, Unweighted, Tables, What}
+use Rattle.saw_model.specs.Places.{ReadMark, Begins, Names, Reads, Declares, Sets, Emits, Index, Indexed, Weighted, Unweighted, Tables, What}
 use Rattle.saw_model.specs.Places.{ALocal, ATable}
 use Rattle.saw_model.specs.Places.{IsKnownAs, is_statement, is_local, is_table, how_many, part_marks, program_marks}
 use Rattle.saw_text.specs.Tree.{UnitForm, Program}
 
 -- a value's name or a name that is set is no known local, or the name behind emit is no table that is declared above
-abbrev pub IsUnknown : List Mark → Mark → Type 0
+abbrev pub IsUnknown : List ReadMark → ReadMark → Type 0
 IsUnknown before (Names n) = IsKnownAs before n ALocal → ⊥
 IsUnknown before (Sets n) = IsKnownAs before n ALocal → ⊥
 IsUnknown before (Emits n) = (k : TableKind) → IsKnownAs before n (ATable k) → ⊥
 IsUnknown before m = ⊥
 
 -- a name that is known there is declared again
-abbrev pub IsTwice : List Mark → Mark → Type 0
+abbrev pub IsTwice : List ReadMark → ReadMark → Type 0
 IsTwice before (Declares n) = (w : What) × IsKnownAs before n w
 IsTwice before (Tables n k) = (w : What) × IsKnownAs before n w
 IsTwice before m = ⊥
@@ -29,7 +29,7 @@ IsMaximum (Collection keys) = ⊥
 IsMaximum (Maximum best keys) = Unit {0}
 
 -- an emit has another number of indexes than its table, or a weight where there is none, or none where there is one
-abbrev pub IsMisshapen : List Mark → Mark → Type 0
+abbrev pub IsMisshapen : List ReadMark → ReadMark → Type 0
 IsMisshapen before (Indexed n i) = (k : TableKind) × IsKnownAs before n (ATable k) × (i ≡ keys_in k → ⊥)
 IsMisshapen before (Weighted n) = (k : TableKind) × IsKnownAs before n (ATable k) × (IsMaximum k → ⊥)
 IsMisshapen before (Unweighted n) = (k : TableKind) × IsKnownAs before n (ATable k) × IsMaximum k
@@ -42,7 +42,7 @@ IsNoBest (Collection keys) = ⊥
 IsNoBest (Maximum best keys) = (best ≡ 0) ⊎ (1000000 < best)
 
 -- input[N] with N above 15, more than 8 indexes, such a maximum, more than 64 tables, 256 locals or 16,384 statements
-abbrev pub IsTooMuch : List Mark → Mark → Type 0
+abbrev pub IsTooMuch : List ReadMark → ReadMark → Type 0
 IsTooMuch before (Reads n) = 15 < n
 IsTooMuch before (Index n) = 8 < n
 IsTooMuch before (Tables n k) = (64 < how_many is_table before + 1) ⊎ (IsNoBest k ⊎ (8 < keys_in k))
@@ -51,7 +51,7 @@ IsTooMuch before Begins = 16384 < how_many is_statement before + 1
 IsTooMuch before m = ⊥
 
 -- behind this text the place has this fault, whichever others it has
-abbrev pub HasFault : List Mark → Mark → Fault → Type 0
+abbrev pub HasFault : List ReadMark → ReadMark → Fault → Type 0
 HasFault before m UnknownName = IsUnknown before m
 HasFault before m NameTwice = IsTwice before m
 HasFault before m Shape = IsMisshapen before m
@@ -65,13 +65,13 @@ rank Shape = 2
 rank Limit = 3
 
 -- it is the first fault of the place
-pub record IsFirstFault (before : List Mark) (m : Mark) (f : Fault) : Type 0 where
+pub record IsFirstFault (before : List ReadMark) (m : ReadMark) (f : Fault) : Type 0 where
   pub has : HasFault before m f
   pub first : (g : Fault) → rank g < rank f → HasFault before m g → ⊥
 
 -- no place of the text has a fault
-abbrev pub IsFaultless : List Mark → Type 0
-IsFaultless text = (before : List Mark) (m : Mark) (after : List Mark) → text ≡ before ++ m ∷ after → (f : Fault) → HasFault before m f → ⊥
+abbrev pub IsFaultless : List ReadMark → Type 0
+IsFaultless text = (before : List ReadMark) (m : ReadMark) (after : List ReadMark) → text ≡ before ++ m ∷ after → (f : Fault) → HasFault before m f → ⊥
 
 -- the first place of the program that has a fault stands in this unit, counted from 1, and this is its first fault
 pub record IsFaultAt (p : Program) (number : ℕ) (f : Fault) : Type 0 where
@@ -80,9 +80,9 @@ pub record IsFaultAt (p : Program) (number : ℕ) (f : Fault) : Type 0 where
   pub others : Program
   pub parts : p ≡ units ++ unit ∷ others
   pub counted : number ≡ length units + 1
-  pub read : List Mark
-  pub here : Mark
-  pub left : List Mark
+  pub read : List ReadMark
+  pub here : ReadMark
+  pub left : List ReadMark
   pub marks : part_marks unit ≡ read ++ here ∷ left
   pub faultless : IsFaultless (program_marks units ++ read)
   pub fault : IsFirstFault (program_marks units ++ read) here f

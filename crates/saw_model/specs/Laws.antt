@@ -7,7 +7,7 @@ use Rattle.saw_text.specs.Tree.{Program}
 use Rattle.saw_model.specs.Meaning.{width, program_tables}
 use Rattle.saw_model.specs.Elaborate.{At}
 use Rattle.saw_model.specs.Judged.{judged}
-use Rattle.saw_model.specs.Plan.{plan_of, as_items}
+use Rattle.saw_model.specs.Plan.{plan_of, rows_as_items}
 use Rattle.saw_model.specs.Shallow.{AreShallowParts}
 
 -- the plan is valid
@@ -18,4 +18,4 @@ PlansAreValid = (p : Program) (read : Steps × At) → AreShallowParts p → jud
 abbrev pub TranslationMeans : Type 0
 TranslationMeans =
     (p : Program) (read : Steps × At) (records : List (List ℤ)) → judged p ≡ Ok read
-    → meaning (plan_of p read) (as_items (map (take (width p)) records) ∷ []) ≡ record { outs = []; tables = program_tables p records }
+    → meaning (plan_of p read) (rows_as_items (map (take (width p)) records) ∷ []) ≡ record { outs = []; tables = program_tables p records }

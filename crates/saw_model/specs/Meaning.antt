@@ -75,14 +75,14 @@ listed None = []
 listed (Some t) = t ∷ []
 
 -- the row of an emit: the indexes, the value, the weight
-abbrev pub parts_of : List Expression → Expression → Option Expression → List Expression
-parts_of is v w = is ++ v ∷ listed w
+abbrev pub emit_row : List Expression → Expression → Option Expression → List Expression
+emit_row is v w = is ++ v ∷ listed w
 
 abbrev mutual
   pub exec : Statement → List ℤ → State → State
   exec (Declare n t) r s = record s { values = at_name n (eval_or (pos 0) t r s.values) s.values }
   exec (Assign n t) r s = record s { values = at_name n (eval t r s.values) s.values }
-  exec (Emit t is v w) r s = record s { emitted = s.emitted ++ (t, eval_all (parts_of is v w) r s.values) ∷ [] }
+  exec (Emit t is v w) r s = record s { emitted = s.emitted ++ (t, eval_all (emit_row is v w) r s.values) ∷ [] }
   exec (If t a b) r s = if is_true (eval t r s.values) then exec_block a r s else exec_optional b r s
 
   pub exec_block : Block → List ℤ → State → State
@@ -99,11 +99,11 @@ exec_units (TableUnit tb ∷ ps) r s = exec_units ps r s
 exec_units (StatementUnit c ∷ ps) r s = exec_units ps r (exec c r s)
 
 -- with fresh locals
-abbrev pub fresh : State
-fresh = record { values = λ n. pos 0; emitted = [] }
+abbrev pub fresh_state : State
+fresh_state = record { values = λ n. pos 0; emitted = [] }
 
 abbrev pub emits : Program → List ℤ → List Emitted
-emits p r = (exec_units p r fresh).emitted
+emits p r = (exec_units p r fresh_state).emitted
 
 -- WHAT A PROGRAM MEANS
 
@@ -134,7 +134,7 @@ abbrev mutual
   pub reach_statement : Statement → ℕ
   reach_statement (Declare n t) = reach_all (listed t)
   reach_statement (Assign n t) = reach t
-  reach_statement (Emit t is v w) = reach_all (parts_of is v w)
+  reach_statement (Emit t is v w) = reach_all (emit_row is v w)
   reach_statement (If t a b) = max (reach t) (max (reach_block a) (reach_optional b))
 
   pub reach_block : Block → ℕ

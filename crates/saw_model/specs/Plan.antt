@@ -49,5 +49,5 @@ plan_of p read = record {
 }
 
 -- rows as items
-abbrev pub as_items : List (List ℤ) → List item.Item
-as_items rs = map (λ r. Flat (One r)) rs
+abbrev pub rows_as_items : List (List ℤ) → List item.Item
+rows_as_items rs = map (λ r. Flat (One r)) rs

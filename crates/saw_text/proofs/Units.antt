@@ -11,7 +11,7 @@ use Rattle.text_forms.proofs.Many.{exact-many}
 use Rattle.text_forms.proofs.Choices.{exact-never, exact-choose, exact-headed}
 use Rattle.saw_text.specs.declared.tree.Kind.TheVariants.{Sum, Collection, Maximum}
 use Rattle.saw_text.specs.Tree.{TableUnit, StatementUnit}
-use Rattle.saw_text.specs.Grammar.{Count, nameless, with_name, IsField, IsKind, is_fitting, made_table, IsTable, TypedAfter, UnitNamed}
+use Rattle.saw_text.specs.Grammar.{Count, nameless, field_named, IsField, IsKind, is_fitting, made_table, IsTable, TypedAfter, UnitNamed}
 use Rattle.saw_text.specs.Grammar.{IsUnit, IsUnitAt}
 use Rattle.saw_text.specs.Reading.{named_field_at, field_after, field_at, column_at, columns_at, best_at, kind_after, kind_at}
 use Rattle.saw_text.specs.Reading.{weight_field_at, in_table_at, table_at, typed_after, typed_at, unit_named, unit_after, unit_at, unit_from}
@@ -24,9 +24,9 @@ use Rattle.saw_text.specs.Words.{is_user}
 use Rattle.saw_text.specs.ExactStatements.{exact-declare, exact-assign, listed-squares, exact-sawzall}
 
 exact-named_field : (w : List ℕ)
-    → Exact (form.Seen (with_name w) (form.After (s.Colon ∷ []) (form.AfterWord (codes "int") (form.Nothing tt)))) (named_field_at w) Any
+    → Exact (form.Seen (field_named w) (form.After (s.Colon ∷ []) (form.AfterWord (codes "int") (form.Nothing tt)))) (named_field_at w) Any
 unfolding named_field_at
-exact-named_field w = exact-seen (with_name w) (exact-after (s.Colon ∷ []) (exact-after_word (codes "int") (exact-nothing tt)))
+exact-named_field w = exact-seen (field_named w) (exact-after (s.Colon ∷ []) (exact-after_word (codes "int") (exact-nothing tt)))
 
 pub exact-field : Exact IsField field_at Any
 unfolding field_at field_after
@@ -37,7 +37,7 @@ pub exact-column : (n : ℕ) → Exact (Square (λ m. IsField) n) (column_at n) 
 unfolding column_at
 exact-column n = exact-square (λ m. exact-field) (λ rest. tt) n
 
-exact-columns : (n : ℕ) → Exact (form.Each (Square (λ m. IsField) n)) (columns_at n) (λ rest. no_bracket rest ≡ true)
+exact-columns : (n : ℕ) → Exact (form.Many (Square (λ m. IsField) n)) (columns_at n) (λ rest. no_bracket rest ≡ true)
 unfolding columns_at
 exact-columns n = exact-less (exact-many no_bracket (exact-column n) (listed-squares (λ m. IsField) n)) (λ rest d. (tt, d))
 

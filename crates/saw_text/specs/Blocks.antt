@@ -4,7 +4,7 @@ use Rattle.std.specs.Prelude.{ℕ, Bool, not, List, [], ◌∷◌, Option, None,
 use Rattle.std.specs.Str.{bytes_eq}
 use Rattle.work_code.specs.Tok.{Tok}
 use Rattle.work_code.specs.declared.sign.Symbol.TheVariants as s
-use Rattle.text_forms.specs.Forms.{Name, Never, Both, After, Before, AfterWord, Tested, Seen, Merged, Maybe, Each, Choose}
+use Rattle.text_forms.specs.Forms.{NameToken, Never, Both, After, Before, AfterWord, Tested, Seen, Merged, Maybe, Many, Choose}
 use Rattle.text_forms.specs.Parse.{Parse, begins_with, is_word_at, name_at, both, after, before, after_word, tested, seen, merged, maybe, many, nowhere}
 use Rattle.text_blocks.specs.Statements.{Style, Holes}
 use Rattle.text_blocks.specs.Parts.{Round, Square, Ended, FirstValue, round_at, square_at, ended_at, first_value_at}
@@ -17,7 +17,7 @@ use Rattle.saw_text.specs.Words.{is_user}
 -- THE GRAMMAR
 
 abbrev pub UserName : List ℕ → List Tok → Type 0
-UserName = Tested is_user Name
+UserName = Tested is_user NameToken
 
 -- ["=" e] ";", behind NAME ":" "int"
 abbrev pub IsDeclare : List ℕ → ℕ → Statement → List Tok → Type 0
@@ -35,15 +35,15 @@ abbrev pub Weighted : ℕ → Option Expression → List Tok → Type 0
 Weighted n = Before (Maybe (AfterWord (codes "weight") (IsExpression n))) (s.Semicolon ∷ [])
 
 abbrev pub IsEmit : ℕ → Statement → List Tok → Type 0
-IsEmit n = Seen made_emit (Both UserName (Both (Each (Square IsExpression n)) (After (s.Less ∷ s.Minus ∷ []) (Both (IsExpression n) (Weighted n)))))
+IsEmit n = Seen made_emit (Both UserName (Both (Many (Square IsExpression n)) (After (s.Less ∷ s.Minus ∷ []) (Both (IsExpression n) (Weighted n)))))
 
 -- what stands behind the name of a local
 abbrev pub NamedAfter : List ℕ → ℕ → Statement → List Tok → Type 0
 NamedAfter w n = Merged (After (s.Colon ∷ []) (AfterWord (codes "int") (IsDeclare w n))) (IsAssign w n)
 
 -- what stands behind the first word of a statement that is no `if`
-abbrev pub IsPlain : ℕ → List ℕ → Statement → List Tok → Type 0
-IsPlain n w = Choose (bytes_eq w (codes "emit")) (IsEmit n) (Choose (is_user w) (NamedAfter w n) Never)
+abbrev pub PlainAfter : ℕ → List ℕ → Statement → List Tok → Type 0
+PlainAfter n w = Choose (bytes_eq w (codes "emit")) (IsEmit n) (Choose (is_user w) (NamedAfter w n) Never)
 
 -- HOW THEY ARE READ
 
@@ -102,4 +102,4 @@ style = record {
 }
 
 abbrev pub holes : Holes Expression Statement Statement
-holes = record { Condition = Round IsExpression; Head = λ n w. Never; Plain = IsPlain }
+holes = record { Condition = Round IsExpression; Head = λ n w. Never; Plain = PlainAfter }

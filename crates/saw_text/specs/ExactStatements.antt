@@ -14,7 +14,7 @@ use Rattle.text_blocks.specs.Exact.{AreExact}
 use Rattle.text_blocks.specs.Parts.{Square, square_at}
 use Rattle.text_blocks.specs.Seven.{Ends}
 use Rattle.text_blocks.proofs.Parts.{exact-round, exact-square, exact-ended, exact-first}
-use Rattle.saw_text.specs.Blocks.{UserName, IsDeclare, IsAssign, made_emit, Weighted, IsEmit, NamedAfter, IsPlain, style, holes}
+use Rattle.saw_text.specs.Blocks.{UserName, IsDeclare, IsAssign, made_emit, Weighted, IsEmit, NamedAfter, PlainAfter, style, holes}
 use Rattle.saw_text.specs.Blocks.{user_name_at, declare_at, assign_at, no_bracket, indexes_at, weight_at, emit_at, named_after, plain_at}
 use Rattle.saw_text.specs.Expressions.{IsExpression, term_at}
 use Rattle.saw_text.specs.Tree.{Expression, Statement, Declare, Assign}
@@ -50,7 +50,7 @@ listed-squares F n = record {
   follows = λ v ts rest h. tt;
 }
 
-pub exact-indexes : (n : ℕ) → Exact (form.Each (Square IsExpression n)) (indexes_at n) (λ rest. no_bracket rest ≡ true)
+pub exact-indexes : (n : ℕ) → Exact (form.Many (Square IsExpression n)) (indexes_at n) (λ rest. no_bracket rest ≡ true)
 unfolding indexes_at
 exact-indexes n = exact-less (exact-many no_bracket (exact-index n) (listed-squares IsExpression n)) (λ rest d. (tt, d))
 
@@ -79,12 +79,12 @@ exact-named w n =
     exact-less (exact-merged (parse.begins_with s.Colon) (exact-after (s.Colon ∷ []) (exact-after_word (codes "int") (exact-declare w n))) (exact-assign w n)
     (λ v ts rest h d. rw h.is refl) (λ v ts rest h d. rw h.formed.is refl)) (λ rest d. (tt, tt))
 
-exact-plain : (n : ℕ) (w : List ℕ) → Exact (IsPlain n w) (plain_at n w) Any
+exact-plain : (n : ℕ) (w : List ℕ) → Exact (PlainAfter n w) (plain_at n w) Any
 unfolding plain_at
 exact-plain n w = exact-choose (bytes_eq w (codes "emit")) (exact-emit n) (exact-choose (is_user w) (exact-named w n) exact-never)
 
 -- `else` is a keyword
-no-else : (n : ℕ) (v : Statement) (ts : List Tok) → IsPlain n (codes "else") v ts → ⊥
+no-else : (n : ℕ) (v : Statement) (ts : List Tok) → PlainAfter n (codes "else") v ts → ⊥
 unfolding is_plain
 no-else n v ts h = h
 

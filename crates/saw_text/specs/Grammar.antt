@@ -8,7 +8,7 @@ use Rattle.work_code.specs.Tok.{Tok, Mark, toks}
 use Rattle.work_code.specs.declared.sign.Symbol.TheVariants as s
 use Rattle.text_forms.specs.Parse.{is_count}
 use Rattle.text_forms.specs.Texts.{AllFormed}
-use Rattle.text_forms.specs.Forms.{Number, Nothing, Never, Both, After, Before, AfterWord, Tested, Seen, Merged, Maybe, Each, Choose, Headed}
+use Rattle.text_forms.specs.Forms.{Number, Nothing, Never, Both, After, Before, AfterWord, Tested, Seen, Merged, Maybe, Many, Choose, Headed}
 use Rattle.saw_text.specs.declared.tree.Kind.{Kind}
 use Rattle.saw_text.specs.declared.tree.Kind.TheVariants.{Sum, Collection, Maximum}
 use Rattle.saw_text.specs.declared.tree.Field.{Field}
@@ -28,13 +28,13 @@ Count = Tested is_count Number
 abbrev pub nameless : Field
 nameless = record { name = None }
 
-abbrev pub with_name : List ℕ → Unit {0} → Field
-with_name w u = record { name = Some w }
+abbrev pub field_named : List ℕ → Unit {0} → Field
+field_named w u = record { name = Some w }
 
 abbrev pub FieldAfter : List ℕ → Field → List Tok → Type 0
 FieldAfter w =
     Choose (bytes_eq w (codes "int")) (Nothing nameless)
-    (Choose (is_user w) (Seen (with_name w) (After (s.Colon ∷ []) (AfterWord (codes "int") (Nothing tt)))) Never)
+    (Choose (is_user w) (Seen (field_named w) (After (s.Colon ∷ []) (AfterWord (codes "int") (Nothing tt)))) Never)
 
 abbrev pub IsField : Field → List Tok → Type 0
 IsField = Headed FieldAfter
@@ -64,7 +64,7 @@ made_table name v = record { name = name; kind = v.0; indexes = v.1.0; value = v
 
 abbrev pub InTable : ℕ → Kind × (List Field × (Field × Option Field)) → List Tok → Type 0
 InTable n =
-    Both (IsKind n) (Both (Each (Square (λ m. IsField) n)) (AfterWord (codes "of") (Both IsField
+    Both (IsKind n) (Both (Many (Square (λ m. IsField) n)) (AfterWord (codes "of") (Both IsField
     (Before (Maybe (AfterWord (codes "weight") IsField)) (s.Semicolon ∷ [])))))
 
 abbrev pub IsTable : List ℕ → ℕ → TableForm → List Tok → Type 0

@@ -14,12 +14,12 @@ use Rattle.text_blocks.specs.Parts.{round_at, square_at}
 use Rattle.saw_text.specs.Blocks.{no_bracket, declare_at, assign_at, style}
 use Rattle.saw_text.specs.Words.{is_user}
 use Rattle.saw_text.specs.Tree.{TableForm, UnitForm, TableUnit, StatementUnit}
-use Rattle.saw_text.specs.Grammar.{nameless, with_name, is_fitting, made_table, next_unit}
+use Rattle.saw_text.specs.Grammar.{nameless, field_named, is_fitting, made_table, next_unit}
 
 -- TABLES
 
 unfoldable pub named_field_at : List ℕ → Parse Field
-named_field_at w ts = seen (with_name w) (after (s.Colon ∷ []) (after_word (codes "int") (nothing_at tt))) ts
+named_field_at w ts = seen (field_named w) (after (s.Colon ∷ []) (after_word (codes "int") (nothing_at tt))) ts
 
 unfoldable pub field_after : List ℕ → Parse Field
 field_after w ts =
@@ -85,5 +85,5 @@ abbrev pub unit_from : Unit {0} → Parse UnitForm
 unit_from u = unit_at
 
 -- the units of a text
-abbrev pub all_units : List (List Tok) → Result (List UnitForm) ℕ
-all_units us = read_units unit_from next_unit tt 1 us
+abbrev pub all_saw_units : List (List Tok) → Result (List UnitForm) ℕ
+all_saw_units us = read_units unit_from next_unit tt 1 us

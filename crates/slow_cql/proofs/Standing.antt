@@ -14,7 +14,7 @@ use Rattle.cql_text.specs.declared.tree.Source.{Source}
 use Rattle.cql_text.specs.Tree.{window_of, source_of, sources_of}
 use Rattle.slow_cql.specs.declared.kept.Kept.{Kept}
 use Rattle.slow_cql.specs.declared.kept.Input.{Input}
-use Rattle.slow_cql.specs.Kept.{timed, is_in_order, latest, fields_or, entries_or, StandsKept, reached, named_input, input_content, IsInput, AreInputsOf}
+use Rattle.slow_cql.specs.Kept.{timed, is_in_order, latest, fields_or, entries_or, StandsKept, reached, named_input, input_content, IsItemInput, AreInputsOf}
 use Rattle.slow_cql.proofs.Timed.{timed-none, reached-timed, timed_in_order}
 
 -- ---- THE LATEST
@@ -67,7 +67,7 @@ inputs_same ts ks xs ys is js a b h = subst (λ (l : List Input). AreInputsOf ts
 
 -- what is kept under an item's name is its input
 pub input_is : (ts : List ℤ) (all : List Kept) (ks : List KnownStream) (x : Source) (i : Input) → Rises ts → StandsKept ts all ks → i.name ≡ alias_or x.alias x.stream
-    → i.fields.now ≡ fields_or (latest x.stream all) → i.window ≡ x.window → i.entries.now ≡ entries_or (latest x.stream all) → IsInput ts ks (source_of x) i
+    → i.fields.now ≡ fields_or (latest x.stream all) → i.window ≡ x.window → i.entries.now ≡ entries_or (latest x.stream all) → IsItemInput ts ks (source_of x) i
 input_is ts all ks x i up s en ef ew ee =
     let rows : i.entries.now ≡ timed ts (rows_named ks x.stream) = ee ∙ s.rows x.stream in
     let fields : i.fields.now ≡ fields_of (named_of ks) x.stream = ef ∙ s.fields x.stream in
@@ -85,7 +85,7 @@ each_push P [] x h p = (p, tt)
 each_push P (y ∷ ys) x h p = (h.0, each_push P ys x h.1 p)
 
 inputs_push : (ts : List ℤ) (ks : List KnownStream) (items : List tree.Source) (item : tree.Source) (is : List Input) (i : Input) → AreInputsOf ts ks items is
-    → IsInput ts ks item i
+    → IsItemInput ts ks item i
     → AreInputsOf ts ks (items ++ item ∷ []) (is ++ i ∷ [])
 inputs_push ts ks items item is i a h = record {
   named = map-append named_input is (i ∷ []) ∙ (λ j. a.named j ++ h.named j ∷ []) ∙ sym (map-append (item_named (named_of ks)) items (item ∷ []));
@@ -99,7 +99,7 @@ sources-push [] x = refl
 sources-push (y ∷ ys) x = ap (λ l. source_of y ∷ l) (sources-push ys x)
 
 pub inputs_more : (ts : List ℤ) (ks : List KnownStream) (xs : List Source) (n : ℕ) (x : Source) (is js : List Input) (i : Input) → n < length xs → x ≡ get_or xs n x
-    → AreInputsOf ts ks (sources_of (take n xs)) is → IsInput ts ks (source_of x) i → js ≡ is ++ i ∷ [] → AreInputsOf ts ks (sources_of (take (n + 1) xs)) js
+    → AreInputsOf ts ks (sources_of (take n xs)) is → IsItemInput ts ks (source_of x) i → js ≡ is ++ i ∷ [] → AreInputsOf ts ks (sources_of (take (n + 1) xs)) js
 inputs_more ts ks xs n x is js i lt e a h pushed =
     let all : sources_of (take (n + 1) xs) ≡ sources_of (take n xs) ++ source_of x ∷ [] =
     ap sources_of (take_more xs n x lt ∙ ap (λ y. take n xs ++ y ∷ []) (sym e)) ∙ sources-push (take n xs) x in

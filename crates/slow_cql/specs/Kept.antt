@@ -65,7 +65,7 @@ abbrev pub input_content : ℤ → Input → List (List ℤ)
 input_content t i = reached (window_of i.window) t i.entries.now
 
 -- the input is the window of this item
-pub record IsInput (ts : List ℤ) (ks : List KnownStream) (item : Source) (i : Input) : Type 0 where
+pub record IsItemInput (ts : List ℤ) (ks : List KnownStream) (item : Source) (i : Input) : Type 0 where
   pub named : named_input i ≡ item_named (named_of ks) item
   pub content : (t : ℤ) → input_content t i ≡ windowed item.window ts (rows_named ks item.stream) t
   pub in_order : is_in_order i.entries.now

@@ -5,7 +5,7 @@ ghost use Rattle.cql_model.specs.Meaning.{KnownStream};
 ghost use Rattle.cql_model.specs.Scopes.{alias_or};
 ghost use Rattle.cql_model.specs.Streams.{Timed, Rises, spread};
 ghost use Rattle.cql_text.specs.Tree.{source_of, sources_of};
-ghost use Rattle.slow_cql.specs.Kept.{entries_at, entries_in, latest, fields_or, entries_or, StandsKept, IsInput, AreInputsOf};
+ghost use Rattle.slow_cql.specs.Kept.{entries_at, entries_in, latest, fields_or, entries_or, StandsKept, IsItemInput, AreInputsOf};
 
 use cql_text::{Source, Window};
 use river_base::{Flat, Item, Items, Listed, Name, NoMemory, Row, TimedRows};
@@ -124,7 +124,7 @@ fn item_name(source: &Source) -> Name
 
 // The input of an item.
 fn input_of<'a>(known: &'a [Kept], source: &Source) -> Input<'a>
-    ensures { (ts : List ℤ) (ks : List KnownStream) → Rises ts → StandsKept ts known.now ks → IsInput ts ks (source_of source.now) result }
+    ensures { (ts : List ℤ) (ks : List KnownStream) → Rises ts → StandsKept ts known.now ks → IsItemInput ts ks (source_of source.now) result }
 {
     Input {
         name: item_name(source),

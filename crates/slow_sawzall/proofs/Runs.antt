@@ -7,7 +7,7 @@ use Rattle.work_code.specs.Value.{is_true}
 use Rattle.saw_text.specs.Tree.{Expression}
 use Rattle.saw_text.specs.Tree.{Statement, Declare, Assign, Emit, If, Block, End, Then, Optional, Unwritten, Written, UnitForm, TableUnit, StatementUnit, Program}
 use Rattle.saw_model.specs.Meaning.{Values, eval, eval_all, Emitted, State, table_kind, table_decl}
-use Rattle.saw_model.specs.Meaning.{parts_of, listed, exec, exec_block, exec_optional, exec_units, fresh, emits}
+use Rattle.saw_model.specs.Meaning.{emit_row, listed, exec, exec_block, exec_optional, exec_units, fresh_state, emits}
 use Rattle.saw_model.proofs.Elaborated.{eval_all-append}
 use Rattle.saw_text.specs.declared.tree.Expr.{Expr}
 use Rattle.saw_text.specs.declared.tree.Statement as tree
@@ -36,7 +36,7 @@ mutual
   exec-behind (Declare n t) r es s = refl
   exec-behind (Assign n t) r es s = refl
   exec-behind (Emit t is v w) r es s =
-      let e = append_assoc es s.emitted ((t, eval_all (parts_of is v w) r s.values) ∷ []) in
+      let e = append_assoc es s.emitted ((t, eval_all (emit_row is v w) r s.values) ∷ []) in
       λ i. record { values = s.values; emitted = e i }
   exec-behind (If t a b) r es s =
       if_behind (is_true (eval t r s.values)) es (exec_block a r (behind es s)) (exec_optional b r (behind es s)) (exec_block a r s) (exec_optional b r s)
@@ -61,8 +61,8 @@ pub record_adds : (p : Program) (r : List ℤ) (old start now : Run) → start.l
 record_adds p r old start now none same is =
     let es = old.emitted.items in
     let a = ap named_values none in let b = same ∙ sym (append-nil es) in
-    let first : run_state start ≡ behind es fresh = (λ i. record { values = a i; emitted = b i }) in
-    ap (λ (s : State). s.emitted) (is ∙ ap (exec_units p r) first ∙ exec_units-behind p r es fresh)
+    let first : run_state start ≡ behind es fresh_state = (λ i. record { values = a i; emitted = b i }) in
+    ap (λ (s : State). s.emitted) (is ∙ ap (exec_units p r) first ∙ exec_units-behind p r es fresh_state)
 
 -- UNITS
 
@@ -147,7 +147,7 @@ values_next es i e r env old now next lt is n h =
 
 -- the values of an emit, part by part
 pub emit_values : (is : List Expression) (v : Expression) (w : Option Expression) (r : List ℤ) (env : Values) (a b c : List ℤ) → a ≡ eval_all is r env
-    → b ≡ a ++ eval v r env ∷ [] → c ≡ b ++ eval_all (listed w) r env → c ≡ eval_all (parts_of is v w) r env
+    → b ≡ a ++ eval v r env ∷ [] → c ≡ b ++ eval_all (listed w) r env → c ≡ eval_all (emit_row is v w) r env
 emit_values is v w r env a b c ea eb ec =
     ec ∙ ap (λ l. l ++ eval_all (listed w) r env) (eb ∙ ap (λ l. l ++ eval v r env ∷ []) ea)
     ∙ append_assoc (eval_all is r env) (eval v r env ∷ []) (eval_all (listed w) r env)
@@ -159,6 +159,6 @@ evals_many [] r env = refl
 evals_many (t ∷ ts) r env = let e = evals_many ts r env in omega (arith, e)
 
 -- the row of an emit is as long as it has parts
-pub row_few : (is : List Expression) (v : Expression) (w : Option Expression) (r : List ℤ) (env : Values) (xs : List ℤ) → xs ≡ eval_all (parts_of is v w) r env
-    → length (parts_of is v w) ≤ 16 → length xs ≤ 16
-row_few is v w r env xs e le = let m = evals_many (parts_of is v w) r env in let l = ap length e in omega (arith, m, l, le)
+pub row_few : (is : List Expression) (v : Expression) (w : Option Expression) (r : List ℤ) (env : Values) (xs : List ℤ) → xs ≡ eval_all (emit_row is v w) r env
+    → length (emit_row is v w) ≤ 16 → length xs ≤ 16
+row_few is v w r env xs e le = let m = evals_many (emit_row is v w) r env in let l = ap length e in omega (arith, m, l, le)

@@ -5,7 +5,7 @@ use Rattle.std.specs.Prelude.{if◌then◌else◌}
 use Rattle.std.proofs.lemmas.List.{take_more, take_all}
 use Rattle.kern_tables.specs.declared.kind.TableKind.{TableKind}
 use Rattle.kern_tables.specs.declared.kept.Kept.{Kept}
-use Rattle.kern_tables.specs.Kept.{kept_of, added, rows_of, kind_of, width_of}
+use Rattle.kern_tables.specs.Kept.{kept_of, with_row, rows_of, kind_of_table, width_of_table}
 use Rattle.kern_tables.specs.Tables.{tab, table_width}
 use Rattle.kern_tables.proofs.Tabs.{tables_keep_adds}
 use Rattle.river_base.specs.Name.{name_eq}
@@ -35,11 +35,11 @@ row_other : (n : Name) (e : Emitted) (es : List Emitted) → name_eq e.0 n ≡ f
 row_other n e es h = ap (λ b. if b then e.1 ∷ rows_for n es else rows_for n es) h
 
 -- a table to which nothing was added has its kind
-pub new_kind : (kind : TableKind) (table : Kept) → table ≡ kept_of kind [] → kind_of table ≡ kind
-new_kind kind table e = ap kind_of e ∙ (tables_keep_adds kind).kind_is []
+pub new_kind : (kind : TableKind) (table : Kept) → table ≡ kept_of kind [] → kind_of_table table ≡ kind
+new_kind kind table e = ap kind_of_table e ∙ (tables_keep_adds kind).kind_is []
 
 -- a table to which nothing was emitted
-pub new_none : (kind : TableKind) (table : Kept) → table ≡ kept_of kind [] → table ≡ kept_of (kind_of table) []
+pub new_none : (kind : TableKind) (table : Kept) → table ≡ kept_of kind [] → table ≡ kept_of (kind_of_table table) []
 new_none kind table e = e ∙ ap (λ k. kept_of k []) (sym (new_kind kind table e))
 
 -- what was added so far, and that what is left is as wide as the table
@@ -67,14 +67,14 @@ module _ (kind : TableKind) (n : Name) (es : List Emitted) (i : ℕ) (e : Emitte
     both = subst (AreAllWide (table_width kind)) (row_here n e (drop (i + 1) es) h) left
 
     -- the row is as wide as the table
-    pub row_fits : length e.1 ≡ width_of table
-    row_fits = both.0 ∙ ap table_width (sym (ap kind_of f.kept ∙ (tables_keep_adds kind).kind_is (rows_for n (take i es))))
+    pub row_fits : length e.1 ≡ width_of_table table
+    row_fits = both.0 ∙ ap table_width (sym (ap kind_of_table f.kept ∙ (tables_keep_adds kind).kind_is (rows_for n (take i es))))
 
     -- it is added
-    pub added_next : (next : Kept) → next ≡ added table e.1 → AddedSoFar kind n es (i + 1) next
+    pub added_next : (next : Kept) → next ≡ with_row table e.1 → AddedSoFar kind n es (i + 1) next
     added_next next a = record {
       kept =
-          a ∙ ap (λ t. added t e.1) f.kept ∙ sym ((tables_keep_adds kind).more (rows_for n (take i es)) e.1)
+          a ∙ ap (λ t. with_row t e.1) f.kept ∙ sym ((tables_keep_adds kind).more (rows_for n (take i es)) e.1)
           ∙ ap (λ l. kept_of kind (rows_for n (take i es) ++ l)) (sym (row_here n e [] h)) ∙ ap (kept_of kind) (sym more);
       wide = both.1;
     }

@@ -16,7 +16,7 @@ use Rattle.river_plan.proofs.NameLemmas.{cases_bool, name_is}
 use Rattle.saw_text.specs.Tree.{Expression}
 use Rattle.saw_text.specs.Tree.{Statement, Declare, Assign, Emit, If, Block, End, Then, Optional, Unwritten, Written, TableUnit, StatementUnit, Program}
 use Rattle.saw_model.specs.Meaning.{tables_in, eval, eval_all, Emitted, State, table_kind, table_decl}
-use Rattle.saw_model.specs.Meaning.{parts_of, listed, exec, exec_block, exec_optional, exec_units, fresh, emits, rows_for}
+use Rattle.saw_model.specs.Meaning.{emit_row, listed, exec, exec_block, exec_optional, exec_units, fresh_state, emits, rows_for}
 use Rattle.saw_model.specs.Elaborate.{Limit, on_ok, Scope, term_of, At, indexes_of, keys_in, weight_of, step_of, steps_of, steps_optional, nothing_read}
 use Rattle.saw_model.proofs.Elaborated.{fine, ok_parts, if_both, some_is, ArePorts, one_more}
 use Rattle.saw_model.proofs.Fed.{AreOnce, one_place}
@@ -59,12 +59,12 @@ weight_wide (Collection keys) (Some t) sc us h = absurd (cc h)
 weight_wide (Maximum best keys) None sc us h = absurd (cc h)
 weight_wide (Maximum best keys) (Some t) sc us h = omega arith
 
-parts_many : (is : List Expression) (v : Expression) (w : Option Expression) → length (parts_of is v w) ≡ length is + suc (length (listed w))
+parts_many : (is : List Expression) (v : Expression) (w : Option Expression) → length (emit_row is v w) ≡ length is + suc (length (listed w))
 parts_many is v w = length-append is (v ∷ listed w)
 
 -- WHAT CAN BE RUN
 
-sent_few : (t : Name) (is : List Expression) (v : Expression) (w : Option Expression) (s : At) (y : Steps × At) → Sent t is v w s y → length (parts_of is v w) ≤ 16
+sent_few : (t : Name) (is : List Expression) (v : Expression) (w : Option Expression) (s : At) (y : Steps × At) → Sent t is v w s y → length (emit_row is v w) ≤ 16
 sent_few t is v w s y d =
     let a = indexes_few s.scope 0 is d.indexes (omega arith) d.indexes_is in
     let b = listed_few w in let c = parts_many is v w in
@@ -111,7 +111,7 @@ module _ (ts : List TableDecl) where
     IsStepWide : Statement → Type 0
     IsStepWide (Declare n t) = Unit {0}
     IsStepWide (Assign n t) = Unit {0}
-    IsStepWide (Emit t is v w) = IsTableWide ts t (length (parts_of is v w))
+    IsStepWide (Emit t is v w) = IsTableWide ts t (length (emit_row is v w))
     IsStepWide (If t a b) = AreStepsWide a × IsOptionalWide b
 
     AreStepsWide : Block → Type 0
@@ -135,7 +135,7 @@ module _ (ts : List TableDecl) where
   got_name (u ∷ us) (suc i) t g = got_name us i t g
 
   sent_wide : AreOnce (table_names ts) → (t : Name) (is : List Expression) (v : Expression) (w : Option Expression) (s : At) (y : Steps × At) → Sent t is v w s y
-      → ArePorts ts s.scope → IsTableWide ts t (length (parts_of is v w))
+      → ArePorts ts s.scope → IsTableWide ts t (length (emit_row is v w))
   sent_wide once t is v w s y d a =
       let p = d.port.0 in let k = d.port.1 in
       let decl : TableDecl = record { name = t; kind = k } in
@@ -147,7 +147,7 @@ module _ (ts : List TableDecl) where
         each = λ i u g e.
             let at : i ≡ p = one_place (table_names ts) i p t once (got_name ts i u g ∙ ap Some e) (got_name ts p decl there) in
             let same : u ≡ decl = some_is u decl (sym g ∙ ap (slice_get ts) at ∙ there) in
-            let full : length (parts_of is v w) ≡ table_width k = omega (arith, many, keys, wide) in
+            let full : length (emit_row is v w) ≡ table_width k = omega (arith, many, keys, wide) in
             full ∙ ap (λ (x : TableDecl). table_width x.kind) (sym same);
       }
 
@@ -205,7 +205,7 @@ module _ (ts : List TableDecl) where
     exec_wide (Declare n t) r s h k = k
     exec_wide (Assign n t) r s h k = k
     exec_wide (Emit t is v w) r s h k =
-        let parts = parts_of is v w in
+        let parts = emit_row is v w in
         let one : IsTableWide ts t (length (eval_all parts r s.values)) = subst (IsTableWide ts t) (sym (evals_many parts r s.values)) h in
         wide-append s.emitted ((t, eval_all parts r s.values) ∷ []) k (one, tt)
     exec_wide (If t a b) r s h k = if_wide (is_true (eval t r s.values)) (exec_block a r s) (exec_optional b r s) (exec_block_wide a r s h.0 k) (exec_optional_wide b r s h.1 k)
@@ -225,7 +225,7 @@ module _ (ts : List TableDecl) where
 
   all_wide : (p : Program) (rows : List (List ℤ)) → ArePartsWide p → AreRowsWide (flat_map (emits p) rows)
   all_wide p [] h = tt
-  all_wide p (r ∷ rs) h = wide-append (emits p r) (flat_map (emits p) rs) (exec_units_wide p r fresh h tt) (all_wide p rs h)
+  all_wide p (r ∷ rs) h = wide-append (emits p r) (flat_map (emits p) rs) (exec_units_wide p r fresh_state h tt) (all_wide p rs h)
 
   -- TABLE BY TABLE
 

@@ -8,7 +8,7 @@ use Rattle.brooklet_model.specs.Machine.{at_name}
 use Rattle.saw_text.specs.Tree.{Expression}
 use Rattle.saw_text.specs.Tree.{Statement, Declare, Assign, Emit, If, Block, End, Then, Optional, Unwritten, Written, UnitForm, TableUnit, StatementUnit, Program}
 use Rattle.saw_model.specs.Meaning.{tables_in, Values, Emitted, State, listed, table_kind, table_decl}
-use Rattle.saw_model.specs.Meaning.{parts_of, exec, rows_for}
+use Rattle.saw_model.specs.Meaning.{emit_row, exec, rows_for}
 use Rattle.saw_model.specs.Elaborate.{At}
 use Rattle.saw_model.specs.Judged.{judged}
 use Rattle.saw_build.specs.Valued.{AreValues, AllValues}
@@ -42,7 +42,7 @@ tables_for p es = map (λ t. tab t.kind (rows_for t.name es)) (tables_in p)
 
 -- the numbers of an emit are values, and it has at most 16 parts
 abbrev pub AreEmitted : List Expression → Expression → Option Expression → Type 0
-AreEmitted is v w = AllValues is × AreValues v × AllValues (listed w) × (length (parts_of is v w) ≤ 16)
+AreEmitted is v w = AllValues is × AreValues v × AllValues (listed w) × (length (emit_row is v w) ≤ 16)
 
 abbrev mutual
   pub IsRunnable : Statement → Type 0

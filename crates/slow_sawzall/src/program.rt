@@ -2,7 +2,7 @@
 ghost use Rattle.std.specs.Prelude.{◌≡◌, [], ◌∷◌, ◌++◌, map, IfOk, OnOk};
 ghost use Rattle.std.specs.List.{AllByRecursion};
 ghost use Rattle.kern_tables.specs.Tables.{tab, table_width};
-ghost use Rattle.kern_tables.specs.Kept.{kept_of, rows_of, width_of, kind_of as kind_kept};
+ghost use Rattle.kern_tables.specs.Kept.{kept_of, rows_of, width_of_table, kind_of_table as kind_kept};
 ghost use Rattle.saw_model.specs.Meaning.{table_kind_of, rows_for, program_tables};
 ghost use Rattle.saw_text.specs.Tree.{unit_form, unit_forms};
 ghost use Rattle.saw_build.specs.Valued.{AreValuedParts};
@@ -124,7 +124,7 @@ fn made_table(
 // Adds what was emitted to it to a table that has no row yet.
 fn add_rows(name: &Name, emitted: &[(Name, Row)], table: &mut Table) -> Result<(), NoMemory>
     requires none { table.old ≡ kept_of (kind_kept table.old) [] }
-    requires wide { AreAllWide (width_of table.old) (rows_for name.now emitted.now) }
+    requires wide { AreAllWide (width_of_table table.old) (rows_for name.now emitted.now) }
     ensures { OnOk result (rows_of table.new ≡ tab (kind_kept table.old) (rows_for name.now emitted.now)) }
 {
     for one in emitted {

@@ -3,7 +3,7 @@ use Rattle.std.proofs.Common.{◌≡◌, ℕ, zero, suc, ◌+◌, ◌-◌, ◌<�
 use Rattle.std.proofs.Common.{◌∙◌, arith, append_assoc, append-nil, drop-cons}
 use Rattle.std.specs.Prelude.{nat_lt, nat_eq}
 use Rattle.std.proofs.lemmas.List.{drop_all}
-use Rattle.brooklet_model.specs.ByIndex.{cycle, part, within, branch, picked, dealt, collected_at, and_more, found_front, size_of}
+use Rattle.brooklet_model.specs.ByIndex.{cycle, part_of_cycle, within, branch, picked, dealt, collected_at, and_more, found_front, size_of}
 
 -- the list from a place on
 pub from_place : {A : Type 0} (xs : List A) (i : ℕ) (x : A) → i < length xs → x ≡ get_or xs i x → drop i xs ≡ x ∷ drop (i + 1) xs
@@ -27,7 +27,7 @@ cycle-none ws i le = ap cycle (drop_all i ws le)
 
 -- the place falls where what is left of it falls among the weights that are left
 pub record SpotSoFar (ws : List ℕ) (place i left : ℕ) : Type 0 where
-  pub part : part ws place ≡ i + part (drop i ws) left
+  pub part : part_of_cycle ws place ≡ i + part_of_cycle (drop i ws) left
   pub within : within ws place ≡ within (drop i ws) left
 
 pub spot_start : (ws : List ℕ) (place : ℕ) → SpotSoFar ws place 0 place
@@ -39,13 +39,13 @@ test_high a b le = grind (arith, le)
 test_low : (a b : ℕ) → a < b → nat_lt a b ≡ true
 test_low a b lt = grind (arith, lt)
 
-part-over : (w : ℕ) (ws : List ℕ) (left : ℕ) → w ≤ left → part (w ∷ ws) left ≡ suc (part ws (left - w))
+part-over : (w : ℕ) (ws : List ℕ) (left : ℕ) → w ≤ left → part_of_cycle (w ∷ ws) left ≡ suc (part_of_cycle ws (left - w))
 part-over w ws left le = rw (test_high left w le)
 
 within-over : (w : ℕ) (ws : List ℕ) (left : ℕ) → w ≤ left → within (w ∷ ws) left ≡ within ws (left - w)
 within-over w ws left le = rw (test_high left w le)
 
-part-here : (w : ℕ) (ws : List ℕ) (left : ℕ) → left < w → part (w ∷ ws) left ≡ 0
+part-here : (w : ℕ) (ws : List ℕ) (left : ℕ) → left < w → part_of_cycle (w ∷ ws) left ≡ 0
 part-here w ws left lt = rw (test_low left w lt)
 
 within-here : (w : ℕ) (ws : List ℕ) (left : ℕ) → left < w → within (w ∷ ws) left ≡ left
@@ -56,26 +56,26 @@ pub spot_next : (ws : List ℕ) (place i left w : ℕ) → i < length ws → w �
 spot_next ws place i left w lt e le f = record {
   part =
       let a = f.part in
-      let b : part (drop i ws) left ≡ suc (part (drop (i + 1) ws) (left - w)) = ap (λ l. part l left) (from_place ws i w lt e)
+      let b : part_of_cycle (drop i ws) left ≡ suc (part_of_cycle (drop (i + 1) ws) (left - w)) = ap (λ l. part_of_cycle l left) (from_place ws i w lt e)
       ∙ part-over w (drop (i + 1) ws) left le in
       omega (arith, a, b);
   within = f.within ∙ ap (λ l. within l left) (from_place ws i w lt e) ∙ within-over w (drop (i + 1) ws) left le;
 }
 
 pub spot_here : (ws : List ℕ) (place i left w : ℕ) → i < length ws → w ≡ get_or ws i w → left < w → SpotSoFar ws place i left
-    → (i ≡ part ws place) × (left ≡ within ws place)
+    → (i ≡ part_of_cycle ws place) × (left ≡ within ws place)
 spot_here ws place i left w lt e low f =
     let a = f.part in
-    let b : part (drop i ws) left ≡ 0 = ap (λ l. part l left) (from_place ws i w lt e) ∙ part-here w (drop (i + 1) ws) left low in (
+    let b : part_of_cycle (drop i ws) left ≡ 0 = ap (λ l. part_of_cycle l left) (from_place ws i w lt e) ∙ part-here w (drop (i + 1) ws) left low in (
       omega (arith, a, b),
       sym (f.within ∙ ap (λ l. within l left) (from_place ws i w lt e) ∙ within-here w (drop (i + 1) ws) left low),
     )
 
-pub spot_end : (ws : List ℕ) (place left : ℕ) → SpotSoFar ws place (length ws) left → (length ws ≡ part ws place) × (0 ≡ within ws place)
+pub spot_end : (ws : List ℕ) (place left : ℕ) → SpotSoFar ws place (length ws) left → (length ws ≡ part_of_cycle ws place) × (0 ≡ within ws place)
 spot_end ws place left f =
     let none : drop (length ws) ws ≡ [] = drop_all (length ws) ws (omega arith) in
     let a = f.part in
-    let b : part (drop (length ws) ws) left ≡ 0 = ap (λ l. part l left) none in (
+    let b : part_of_cycle (drop (length ws) ws) left ≡ 0 = ap (λ l. part_of_cycle l left) none in (
       omega (arith, a, b),
       sym (f.within ∙ ap (λ l. within l left) none),
     )

@@ -5,7 +5,7 @@ use Rattle.std.specs.Prelude.{if◌then◌else◌}
 use Rattle.std.proofs.lemmas.List.{drop_all, take_all, take_more, map-append}
 use Rattle.river_base.specs.Name.{name_eq}
 use Rattle.river_plan.specs.Forms.{Name}
-use Rattle.streamit_model.specs.Meaning.{Works, look, or_same, work_of, piped, branched, body_works, all_work, last_of, program_outputs}
+use Rattle.streamit_model.specs.Meaning.{Works, look, or_same, known_works, piped, branched, body_works, all_work, last_of, program_outputs}
 use Rattle.streamit_text.specs.Program.{Program, Declared, body_of, declared_of, program_of}
 use Rattle.streamit_text.specs.declared.program.Declaration.{Declaration}
 use Rattle.streamit_build.specs.Readable.{IsReadableBody, AreReadable}
@@ -91,22 +91,22 @@ readable-at (u ∷ us) (suc i) d lt e h = readable-at us i d (omega (arith, lt))
 -- one stream after another
 abbrev pub in_line : Env → List Name → List ℤ → List ℤ
 in_line env [] xs = xs
-in_line env (m ∷ ms) xs = in_line env ms (work_of env m xs)
+in_line env (m ∷ ms) xs = in_line env ms (known_works env m xs)
 
-pub piped-line : (env : Env) (n : Name) (ms : List Name) (xs : List ℤ) → piped env n ms xs ≡ in_line env ms (work_of env n xs)
+pub piped-line : (env : Env) (n : Name) (ms : List Name) (xs : List ℤ) → piped env n ms xs ≡ in_line env ms (known_works env n xs)
 piped-line env n [] xs = refl
-piped-line env n (m ∷ ms) xs = piped-line env m ms (work_of env n xs)
+piped-line env n (m ∷ ms) xs = piped-line env m ms (known_works env n xs)
 
 -- the streams that are left give what all give
 abbrev pub LineSoFar : Env → List Name → ℕ → List ℤ → List ℤ → Type 0
 LineSoFar env ms i first now = in_line env (drop i ms) now ≡ in_line env ms first
 
-pub line_next : (env : Env) (ms : List Name) (i : ℕ) (m : Name) (first now next : List ℤ) → i < length ms → m ≡ get_or ms i m → next ≡ work_of env m now
+pub line_next : (env : Env) (ms : List Name) (i : ℕ) (m : Name) (first now next : List ℤ) → i < length ms → m ≡ get_or ms i m → next ≡ known_works env m now
     → LineSoFar env ms i first now → LineSoFar env ms (i + 1) first next
 line_next env ms i m first now next lt e is f = ap (in_line env (drop (i + 1) ms)) is ∙ ap (λ l. in_line env l now) (sym (from_place ms i m lt e)) ∙ f
 
 -- behind the last stream of a line
-pub line_end : (env : Env) (n : Name) (ms : List Name) (i : ℕ) (xs first now : List ℤ) → length ms ≤ i → first ≡ work_of env n xs
+pub line_end : (env : Env) (n : Name) (ms : List Name) (i : ℕ) (xs first now : List ℤ) → length ms ≤ i → first ≡ known_works env n xs
     → LineSoFar env ms i first now → now ≡ piped env n ms xs
 line_end env n ms i xs first now le is f = ap (λ l. in_line env l now) (sym (drop_all i ms le)) ∙ f ∙ ap (in_line env ms) is ∙ sym (piped-line env n ms xs)
 
@@ -115,17 +115,17 @@ line_end env n ms i xs first now le is f = ap (λ l. in_line env l now) (sym (dr
 -- the branches from number p on
 abbrev pub from_branch : Env → (ℕ → List ℤ) → ℕ → List Name → List (List ℤ)
 from_branch env f p [] = []
-from_branch env f p (m ∷ ms) = work_of env m (f p) ∷ from_branch env f (suc p) ms
+from_branch env f p (m ∷ ms) = known_works env m (f p) ∷ from_branch env f (suc p) ms
 
 branched-from : (env : Env) (f : ℕ → List ℤ) (n : Name) (ms : List Name) (p : ℕ) (g : ℕ → List ℤ) → ((q : ℕ) → g q ≡ f (q + p))
     → branched env n ms g ≡ from_branch env f p (n ∷ ms)
-branched-from env f n [] p g e = ap (λ xs. work_of env n xs ∷ []) (e 0 ∙ ap f (let z : 0 + p ≡ p = omega arith in z))
+branched-from env f n [] p g e = ap (λ xs. known_works env n xs ∷ []) (e 0 ∙ ap f (let z : 0 + p ≡ p = omega arith in z))
 branched-from env f n (m ∷ ms) p g e =
-    ap (λ xs. work_of env n xs ∷ branched env m ms (λ q. g (suc q))) (e 0 ∙ ap f (let z : 0 + p ≡ p = omega arith in z))
-    ∙ ap (λ ls. work_of env n (f p) ∷ ls)
+    ap (λ xs. known_works env n xs ∷ branched env m ms (λ q. g (suc q))) (e 0 ∙ ap f (let z : 0 + p ≡ p = omega arith in z))
+    ∙ ap (λ ls. known_works env n (f p) ∷ ls)
     (branched-from env f m ms (suc p) (λ q. g (suc q)) (λ q. e (suc q) ∙ ap f (let z : suc q + p ≡ q + suc p = omega arith in z)))
 
-pub branched-all : (env : Env) (f : ℕ → List ℤ) (n : Name) (ms : List Name) → branched env n ms f ≡ work_of env n (f 0) ∷ from_branch env f 1 ms
+pub branched-all : (env : Env) (f : ℕ → List ℤ) (n : Name) (ms : List Name) → branched env n ms f ≡ known_works env n (f 0) ∷ from_branch env f 1 ms
 branched-all env f n ms = branched-from env f n ms 0 f (λ q. ap f (let z : q ≡ q + 0 = omega arith in z))
 
 -- the lists so far, and those of the branches from place i on behind the first
@@ -134,22 +134,22 @@ BranchesSoFar env f n ms i before lists = lists ++ from_branch env f (i + 1) (dr
 
 -- the first branch
 pub branches_start : (env : Env) (f : ℕ → List ℤ) (n : Name) (ms : List Name) (before lists : List (List ℤ)) (share out : List ℤ) → share ≡ f 0
-    → out ≡ work_of env n share → lists ≡ before ++ out ∷ [] → BranchesSoFar env f n ms 0 before lists
+    → out ≡ known_works env n share → lists ≡ before ++ out ∷ [] → BranchesSoFar env f n ms 0 before lists
 branches_start env f n ms before lists share out es eo el =
     ap (λ l. l ++ from_branch env f 1 ms) el
     ∙ append_assoc before (out ∷ []) (from_branch env f 1 ms)
-    ∙ ap (λ l. before ++ (l ∷ from_branch env f 1 ms)) (eo ∙ ap (work_of env n) es)
+    ∙ ap (λ l. before ++ (l ∷ from_branch env f 1 ms)) (eo ∙ ap (known_works env n) es)
     ∙ ap (λ l. before ++ l) (sym (branched-all env f n ms))
 
 pub branches_next : (env : Env) (f : ℕ → List ℤ) (n : Name) (ms : List Name) (i : ℕ) (m : Name) (before lists lists' : List (List ℤ)) (share out : List ℤ)
-    → i < length ms → m ≡ get_or ms i m → share ≡ f (i + 1) → out ≡ work_of env m share → lists' ≡ lists ++ out ∷ []
+    → i < length ms → m ≡ get_or ms i m → share ≡ f (i + 1) → out ≡ known_works env m share → lists' ≡ lists ++ out ∷ []
     → BranchesSoFar env f n ms i before lists → BranchesSoFar env f n ms (i + 1) before lists'
 branches_next env f n ms i m before lists lists' share out lt em es eo el h =
     let rest = from_branch env f (i + 1 + 1) (drop (i + 1) ms) in
     ap (λ l. l ++ rest) el
     ∙ append_assoc lists (out ∷ []) rest
-    ∙ ap (λ l. lists ++ (l ∷ rest)) (eo ∙ ap (work_of env m) es)
-    ∙ ap (λ p. lists ++ (work_of env m (f (i + 1)) ∷ from_branch env f p (drop (i + 1) ms))) (let z : i + 1 + 1 ≡ suc (i + 1) = omega arith in z)
+    ∙ ap (λ l. lists ++ (l ∷ rest)) (eo ∙ ap (known_works env m) es)
+    ∙ ap (λ p. lists ++ (known_works env m (f (i + 1)) ∷ from_branch env f p (drop (i + 1) ms))) (let z : i + 1 + 1 ≡ suc (i + 1) = omega arith in z)
     ∙ ap (λ l. lists ++ from_branch env f (i + 1) l) (sym (from_place ms i m lt em))
     ∙ h
 

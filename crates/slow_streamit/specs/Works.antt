@@ -14,8 +14,8 @@ abbrev pub branch_works : List Declaration → Dealing → Adds → List ℤ →
 branch_works us d a xs = branched (works_of us) a.first a.others (λ p. share_of d (branch_count a) p xs)
 
 -- where the newest stream of a name stands, and what it does; or there is none
-abbrev pub IsPlace : List Declaration → Name → Option ℕ → Type 0
-IsPlace us n None = look (works_of us) n ≡ None
-IsPlace us n (Some i) =
+abbrev pub IsNewestPlace : List Declaration → Name → Option ℕ → Type 0
+IsNewestPlace us n None = look (works_of us) n ≡ None
+IsNewestPlace us n (Some i) =
     (i < length us)
     × ((d : Declaration) → slice_get us i ≡ Some d → look (works_of us) n ≡ Some (body_works (works_of (take i us)) (body_of d.body)))

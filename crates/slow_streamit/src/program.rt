@@ -2,11 +2,11 @@
 ghost use Rattle.std.specs.Prelude.{◌≡◌, ◌≤◌, ◌+◌, suc, length, [], ◌∷◌, ◌++◌, IfOk, OnOk};
 ghost use Rattle.streamit_model.specs.Laws.{as_items};
 ghost use Rattle.brooklet_model.specs.ByIndex.{collected};
-ghost use Rattle.streamit_model.specs.Meaning.{all_work, work_of, body_works, piped, share_of, weights_for, program_outputs};
+ghost use Rattle.streamit_model.specs.Meaning.{all_work, known_works, body_works, piped, share_of, weights_for, program_outputs};
 ghost use Rattle.streamit_text.specs.Program.{filter_tree, program_of, body_of, adds_of, dealing_of, weights_of};
 ghost use Rattle.streamit_unroll.specs.Filter.{IsReadable};
 ghost use Rattle.streamit_build.specs.Readable.{IsReadableBody, AreReadable};
-ghost use Rattle.slow_streamit.specs.Works.{works_of, branch_works, IsPlace};
+ghost use Rattle.slow_streamit.specs.Works.{works_of, branch_works, IsNewestPlace};
 
 use crate::filter::{add_values, pushed_by};
 use crate::round::{collected, dealt, weights_for};
@@ -99,7 +99,7 @@ fn named(
     items: &[i64],
 ) -> Result<Numbers, NoMemory>
     requires { AreReadable (program_of above.now) }
-    ensures { IfOk result (λ out. out ≡ work_of (works_of above.now) name items.now) }
+    ensures { IfOk result (λ out. out ≡ known_works (works_of above.now) name items.now) }
 {
     match place(above, name) {
         Some(i) => works(alloc, &above[..i], &above[i].body, items),
@@ -109,7 +109,7 @@ fn named(
 
 // Where the newest stream of a name stands.
 fn place(above: &[Declaration], name: Name) -> Option<usize>
-    ensures { IsPlace above.now name result }
+    ensures { IsNewestPlace above.now name result }
 {
     let mut i = above.len();
     while i > 0 {

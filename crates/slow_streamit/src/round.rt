@@ -1,7 +1,7 @@
 // Splitters and joiners, by the numbers of their items.
 ghost use Rattle.std.specs.Prelude.{◌≡◌, ◌+◌, ◌*◌, ◌/◌, ◌%◌, ◌∷◌, [], length, replicate, IfOk, nat_eq, slice_index_or};
 ghost use Rattle.river_base.specs.Places.{list_at};
-ghost use Rattle.brooklet_model.specs.ByIndex.{cycle, part, within, branch, dealt, number_at, collected_at, size_of, collected};
+ghost use Rattle.brooklet_model.specs.ByIndex.{cycle, part_of_cycle, within, branch, dealt, number_in_branch, collected_at, size_of, collected};
 ghost use Rattle.streamit_model.specs.Meaning.{weights_for};
 ghost use Rattle.streamit_text.specs.Program.{weights_of};
 
@@ -90,7 +90,7 @@ struct Spot {
 
 impl Spot {
     fn of(weights: &[u64], place: u64) -> Spot
-        ensures branch { result.branch ≡ part weights.now place }
+        ensures branch { result.branch ≡ part_of_cycle weights.now place }
         ensures within { result.within ≡ within weights.now place }
     {
         let mut left = place;

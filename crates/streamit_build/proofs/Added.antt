@@ -7,7 +7,7 @@ use Rattle.river_plan.specs.Forms.{Name}
 use Rattle.streamit_model.specs.Unrolled.{Stream, Streams, Last, Then, nesting, deepest}
 use Rattle.streamit_model.specs.Build.{ops_in, ops_of}
 use Rattle.streamit_model.specs.Elaborate.{Fault, on_ok}
-use Rattle.streamit_model.specs.Judged.{Streamed, added, streams_of}
+use Rattle.streamit_model.specs.Judged.{Streamed, stream_added, streams_added}
 use Rattle.streamit_unroll.specs.declared.fault.Fault as fault
 use Rattle.streamit_unroll.specs.View.{Tells}
 use Rattle.streamit_unroll.proofs.SoFar.{tells_more}
@@ -33,17 +33,17 @@ onto (s ∷ ss) r = on_ok (onto ss r) (λ x. Ok (Then s x))
 -- what is read from stream number i on, which is this
 abbrev pub going_on : (ℕ → Bool) → Streamed → ℕ → Stream → List Name → Result Streams Fault
 going_on may known i s [] = Ok (Last s)
-going_on may known i s (m ∷ ms) = on_ok (streams_of may known (suc i) m ms) (λ ss. Ok (Then s ss))
+going_on may known i s (m ∷ ms) = on_ok (streams_added may known (suc i) m ms) (λ ss. Ok (Then s ss))
 
-streams_ok : (may : ℕ → Bool) (known : Streamed) (i : ℕ) (n : Name) (ms : List Name) (s : Stream) → added may known i n ≡ Ok s
-    → streams_of may known i n ms ≡ going_on may known i s ms
+streams_ok : (may : ℕ → Bool) (known : Streamed) (i : ℕ) (n : Name) (ms : List Name) (s : Stream) → stream_added may known i n ≡ Ok s
+    → streams_added may known i n ms ≡ going_on may known i s ms
 streams_ok may known i n [] s h = ap (λ r. on_ok r (λ s. fine (Last s))) h
-streams_ok may known i n (m ∷ ms) s h = ap (λ r. on_ok r (λ s. on_ok (streams_of may known (suc i) m ms) (λ ss. fine (Then s ss)))) h
+streams_ok may known i n (m ∷ ms) s h = ap (λ r. on_ok r (λ s. on_ok (streams_added may known (suc i) m ms) (λ ss. fine (Then s ss)))) h
 
-streams_err : (may : ℕ → Bool) (known : Streamed) (i : ℕ) (n : Name) (ms : List Name) (g : Fault) → added may known i n ≡ Err g
-    → streams_of may known i n ms ≡ Err g
+streams_err : (may : ℕ → Bool) (known : Streamed) (i : ℕ) (n : Name) (ms : List Name) (g : Fault) → stream_added may known i n ≡ Err g
+    → streams_added may known i n ms ≡ Err g
 streams_err may known i n [] g h = ap (λ r. on_ok r (λ s. fine (Last s))) h
-streams_err may known i n (m ∷ ms) g h = ap (λ r. on_ok r (λ s. on_ok (streams_of may known (suc i) m ms) (λ ss. fine (Then s ss)))) h
+streams_err may known i n (m ∷ ms) g h = ap (λ r. on_ok r (λ s. on_ok (streams_added may known (suc i) m ms) (λ ss. fine (Then s ss)))) h
 
 onto_more : (ss : List Stream) (s : Stream) (r : Result Streams Fault) → onto (ss ++ s ∷ []) r ≡ onto ss (on_ok r (λ x. Ok (Then s x)))
 onto_more [] s r = refl
@@ -88,8 +88,8 @@ pub record SoFar (us : List UnitForm) (may : ℕ → Bool) (known : Streamed) (w
 
 -- the first stream was added
 pub adds_start : (us : List UnitForm) (may : ℕ → Bool) (known : Streamed) (n : Name) (ms : List Name) (k : Entry) (c : Children)
-    → AddsOne us (Ok k) (added may known 0 n)
-    → c.front.items ≡ [] → c.last ≡ k.number → c.ops ≡ k.ops → c.deepest ≡ k.nesting → SoFar us may known (streams_of may known 0 n ms) 0 ms c
+    → AddsOne us (Ok k) (stream_added may known 0 n)
+    → c.front.items ≡ [] → c.last ≡ k.number → c.ops ≡ k.ops → c.deepest ≡ k.nesting → SoFar us may known (streams_added may known 0 n ms) 0 ms c
 adds_start us may known n ms k c (s, e, h) f l o d = record {
   prior = [];
   last = s;
@@ -105,7 +105,7 @@ adds_start us may known n ms k c (s, e, h) f l o d = record {
 
 -- one stream more
 pub adds_next : (us : List UnitForm) (may : ℕ → Bool) (known : Streamed) (whole : Result Streams Fault) (i : ℕ) (m : Name) (ms : List Name) (c c' : Children) (k : Entry)
-    → SoFar us may known whole i (m ∷ ms) c → AddsOne us (Ok k) (added may known (i + 1) m)
+    → SoFar us may known whole i (m ∷ ms) c → AddsOne us (Ok k) (stream_added may known (i + 1) m)
     → c'.front.items ≡ c.front.items ++ c.last ∷ [] → c'.last ≡ k.number → c'.ops ≡ min (c.ops + k.ops) 257 → c'.deepest ≡ max c.deepest k.nesting
     → SoFar us may known whole (i + 1) ms c'
 adds_next us may known whole i m ms c c' k f (s, e, h) fr la op de =
@@ -123,22 +123,22 @@ adds_next us may known whole i m ms c c' k f (s, e, h) fr la op de =
       };
       whole_is =
           f.whole_is
-          ∙ ap (λ r. onto f.prior (on_ok r (λ ss. fine (Then f.last ss)))) (streams_ok may known (suc i) m ms s (ap (λ j. added may known j m) (sym (add-one i)) ∙ e) ∙ ap (λ j. going_on may known j s ms) (sym (add-one i)))
+          ∙ ap (λ r. onto f.prior (on_ok r (λ ss. fine (Then f.last ss)))) (streams_ok may known (suc i) m ms s (ap (λ j. stream_added may known j m) (sym (add-one i)) ∙ e) ∙ ap (λ j. going_on may known j s ms) (sym (add-one i)))
           ∙ sym (onto_more f.prior f.last (going_on may known (i + 1) s ms));
     }
 
 -- a stream that is refused
 pub adds_fault : (us : List UnitForm) (may : ℕ → Bool) (known : Streamed) (whole : Result Streams Fault) (i : ℕ) (m : Name) (ms : List Name) (c : Children) (f : fault.Fault)
-    → SoFar us may known whole i (m ∷ ms) c → Tells f (added may known (i + 1) m) → Tells f whole
+    → SoFar us may known whole i (m ∷ ms) c → Tells f (stream_added may known (i + 1) m) → Tells f whole
 adds_fault us may known whole i m ms c f s h =
-    tells_more f (added may known (i + 1) m) whole
-    (λ g e. s.whole_is ∙ ap (λ r. onto s.prior (on_ok r (λ ss. fine (Then s.last ss)))) (streams_err may known (suc i) m ms g (ap (λ j. added may known j m) (sym (add-one i)) ∙ e)) ∙ onto_err s.prior g)
+    tells_more f (stream_added may known (i + 1) m) whole
+    (λ g e. s.whole_is ∙ ap (λ r. onto s.prior (on_ok r (λ ss. fine (Then s.last ss)))) (streams_err may known (suc i) m ms g (ap (λ j. stream_added may known j m) (sym (add-one i)) ∙ e)) ∙ onto_err s.prior g)
     h
 
 -- the first one is refused
-pub first_fault : (may : ℕ → Bool) (known : Streamed) (n : Name) (ms : List Name) (f : fault.Fault) → Tells f (added may known 0 n)
-    → Tells f (streams_of may known 0 n ms)
-first_fault may known n ms f h = tells_more f (added may known 0 n) (streams_of may known 0 n ms) (λ g e. streams_err may known 0 n ms g e) h
+pub first_fault : (may : ℕ → Bool) (known : Streamed) (n : Name) (ms : List Name) (f : fault.Fault) → Tells f (stream_added may known 0 n)
+    → Tells f (streams_added may known 0 n ms)
+first_fault may known n ms f h = tells_more f (stream_added may known 0 n) (streams_added may known 0 n ms) (λ g e. streams_err may known 0 n ms g e) h
 
 -- all streams
 pub adds_end : (us : List UnitForm) (may : ℕ → Bool) (known : Streamed) (whole : Result Streams Fault) (i : ℕ) (c : Children) → SoFar us may known whole i [] c

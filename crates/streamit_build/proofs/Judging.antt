@@ -12,7 +12,7 @@ use Rattle.streamit_model.specs.Elaborate.{Fault, on_ok}
 use Rattle.streamit_text.specs.Program.{FilterTree, Dealing, Adds, AFilter, APipeline, ASplitJoin}
 use Rattle.streamit_model.specs.ElaborateFilter.{elaborated}
 use Rattle.streamit_model.specs.Meaning.{branch_count}
-use Rattle.streamit_model.specs.Judged.{Streamed, any, branches, round_of, splitter_of, streams_of, stream_of}
+use Rattle.streamit_model.specs.Judged.{Streamed, any, branches, round_of, splitter_of, streams_added, stream_of}
 use Rattle.streamit_unroll.specs.declared.fault.Fault as fault
 use Rattle.streamit_unroll.specs.View.{Tells}
 use Rattle.streamit_unroll.proofs.SoFar.{tells_more}
@@ -60,7 +60,7 @@ lower_here old js h = subst (λ n. AllByRecursion (λ j. j < n) js) (length-map 
 -- a pipeline is known
 pub pipe_declared : (old new : Known) (d : Declared) (name : Name) (a : Adds) (c : Children) (depth : ℕ) (ss : Streams) (known : Streamed)
     → unit_form d ≡ APipe c.front.items c.last → depth ≡ c.deepest + 1 → Made old new d name c.ops depth → Knows old known
-    → streams_of any known 0 a.first a.others ≡ Ok ss → AreChildren (unit_forms old.declared.items) c ss
+    → streams_added any known 0 a.first a.others ≡ Ok ss → AreChildren (unit_forms old.declared.items) c ss
     → (s : Stream) × (stream_of known name (APipeline a) ≡ Ok s) × Knows new ((name, s) ∷ known)
 pipe_declared old new d name a c depth ss known e dp made k h are =
     let us = unit_forms old.declared.items in
@@ -81,7 +81,7 @@ pipe_declared old new d name a c depth ss known e dp made k h are =
 -- a split-join is known
 pub split_declared : (old new : Known) (d : Declared) (name : Name) (g : Dealing) (a : Adds) (ws : Option (List ℕ)) (vs : List ℕ) (sp : Splitter) (c : Children) (ops depth : ℕ) (ss : Streams) (known : Streamed)
     → unit_form d ≡ ASplit sp c.front.items c.last vs → ops ≡ min (c.ops + 2) 257 → depth ≡ c.deepest + 1
-    → Made old new d name ops depth → Knows old known → splitter_of g (branch_count a) ≡ Ok sp → streams_of branches known 0 a.first a.others ≡ Ok ss
+    → Made old new d name ops depth → Knows old known → splitter_of g (branch_count a) ≡ Ok sp → streams_added branches known 0 a.first a.others ≡ Ok ss
     → round_of ws (branch_count a) ≡ Ok vs → AreChildren (unit_forms old.declared.items) c ss
     → (s : Stream) × (stream_of known name (ASplitJoin g a ws) ≡ Ok s) × Knows new ((name, s) ∷ known)
 split_declared old new d name g a ws vs sp c ops depth ss known e op dp made k hs h hr are =
@@ -93,7 +93,7 @@ split_declared old new d name g a ws vs sp c ops depth ss known e op dp made k h
     let n = branch_count a in
     let len = length-map old.declared.items unit_form in
     let f2 = λ (p : Splitter) (ss : Streams). on_ok (round_of ws n) (λ vs. fine (SplitJoin p ss vs)) in
-    let f1 = λ (p : Splitter). on_ok (streams_of branches known 0 a.first a.others) (f2 p) in (
+    let f1 = λ (p : Splitter). on_ok (streams_added branches known 0 a.first a.others) (f2 p) in (
       SplitJoin sp ss vs,
       ap (λ r. on_ok r f1) hs ∙ ap (λ r. on_ok r (f2 sp)) h ∙ ap (λ r. on_ok r (λ vs. fine (SplitJoin sp ss vs))) hr,
       made known (SplitJoin sp ss vs) k
@@ -108,25 +108,25 @@ split_declared old new d name g a ws vs sp c ops depth ss known e op dp made k h
 pub split_fault : (f : fault.Fault) (known : Streamed) (name : Name) (g : Dealing) (a : Adds) (ws : Option (List ℕ)) → Tells f (splitter_of g (branch_count a))
     → Tells f (stream_of known name (ASplitJoin g a ws))
 split_fault f known name g a ws h =
-    tells_on f (splitter_of g (branch_count a)) (λ p. on_ok (streams_of branches known 0 a.first a.others) (λ ss. on_ok (round_of ws (branch_count a)) (λ vs. fine (SplitJoin p ss vs)))) h
+    tells_on f (splitter_of g (branch_count a)) (λ p. on_ok (streams_added branches known 0 a.first a.others) (λ ss. on_ok (round_of ws (branch_count a)) (λ vs. fine (SplitJoin p ss vs)))) h
 
 -- that of its branches
 pub branch_fault : (f : fault.Fault) (known : Streamed) (name : Name) (g : Dealing) (a : Adds) (ws : Option (List ℕ)) (sp : Splitter)
-    → splitter_of g (branch_count a) ≡ Ok sp → Tells f (streams_of branches known 0 a.first a.others) → Tells f (stream_of known name (ASplitJoin g a ws))
+    → splitter_of g (branch_count a) ≡ Ok sp → Tells f (streams_added branches known 0 a.first a.others) → Tells f (stream_of known name (ASplitJoin g a ws))
 branch_fault f known name g a ws sp hs h =
     let n = branch_count a in
     let f2 = λ (p : Splitter) (ss : Streams). on_ok (round_of ws n) (λ vs. fine (SplitJoin p ss vs)) in
-    let f1 = λ (p : Splitter). on_ok (streams_of branches known 0 a.first a.others) (f2 p) in
-    tells_more f (streams_of branches known 0 a.first a.others) (stream_of known name (ASplitJoin g a ws)) (λ e he. ap (λ r. on_ok r f1) hs ∙ ap (λ r. on_ok r (f2 sp)) he) h
+    let f1 = λ (p : Splitter). on_ok (streams_added branches known 0 a.first a.others) (f2 p) in
+    tells_more f (streams_added branches known 0 a.first a.others) (stream_of known name (ASplitJoin g a ws)) (λ e he. ap (λ r. on_ok r f1) hs ∙ ap (λ r. on_ok r (f2 sp)) he) h
 
 -- that of its joiner
 pub join_fault : (f : fault.Fault) (known : Streamed) (name : Name) (g : Dealing) (a : Adds) (ws : Option (List ℕ)) (sp : Splitter) (ss : Streams)
-    → splitter_of g (branch_count a) ≡ Ok sp → streams_of branches known 0 a.first a.others ≡ Ok ss → Tells f (round_of ws (branch_count a))
+    → splitter_of g (branch_count a) ≡ Ok sp → streams_added branches known 0 a.first a.others ≡ Ok ss → Tells f (round_of ws (branch_count a))
     → Tells f (stream_of known name (ASplitJoin g a ws))
 join_fault f known name g a ws sp ss hs hb h =
     let n = branch_count a in
     let f2 = λ (p : Splitter) (ss : Streams). on_ok (round_of ws n) (λ vs. fine (SplitJoin p ss vs)) in
-    let f1 = λ (p : Splitter). on_ok (streams_of branches known 0 a.first a.others) (f2 p) in
+    let f1 = λ (p : Splitter). on_ok (streams_added branches known 0 a.first a.others) (f2 p) in
     tells_more f (round_of ws n) (stream_of known name (ASplitJoin g a ws)) (λ e he. ap (λ r. on_ok r f1) hs ∙ ap (λ r. on_ok r (f2 sp)) hb ∙ ap (λ r. on_ok r (λ vs. fine (SplitJoin sp ss vs))) he) h
 
 -- the number of branches

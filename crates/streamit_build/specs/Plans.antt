@@ -5,8 +5,8 @@ use Rattle.river_plan.specs.Uses.{all_vars}
 use Rattle.streamit_model.specs.Build.{own_queues, values_in}
 
 -- with these operators
-abbrev pub lists_of : List OpForm → PlanForm
-lists_of ops = record {
+abbrev pub plan_lists : List OpForm → PlanForm
+plan_lists ops = record {
   outputs = values_in (codes "out") ∷ [];
   inputs = values_in (codes "in") ∷ [];
   queues = map values_in (own_queues ops);

@@ -7,7 +7,7 @@ ghost use Rattle.streamit_model.specs.Build.{values_in as queue_of, is_own_queue
 ghost use Rattle.streamit_build.specs.Units.{unit_forms, AreLower, HaveShortFilters, IsTree};
 ghost use Rattle.streamit_model.specs.Judged.{Streamed, judged};
 ghost use Rattle.streamit_build.specs.Knowing.{IsEntry, Knows};
-ghost use Rattle.streamit_build.specs.Plans.{lists_of};
+ghost use Rattle.streamit_build.specs.Plans.{plan_lists};
 ghost use Rattle.streamit_text.specs.Program.{program_of};
 ghost use Rattle.streamit_build.specs.Readable.{AreReadable};
 ghost use Rattle.streamit_build.specs.Told.{KnowsLast, PlansLast, PlansBy};
@@ -112,7 +112,7 @@ impl Known {
 
 // The lists of a plan with these operators.
 fn lists(alloc: Global, ops: Ops) -> Result<RawPlan, NoMemory>
-    ensures { IfOk result (λ raw. plan_form raw ≡ lists_of (op_forms ops)) }
+    ensures { IfOk result (λ raw. plan_form raw ≡ plan_lists (op_forms ops)) }
 {
     let mut raw = RawPlan::new(alloc);
     fill(&mut raw, ops)?;
@@ -122,7 +122,7 @@ fn lists(alloc: Global, ops: Ops) -> Result<RawPlan, NoMemory>
 // Fills lists that are empty.
 fn fill(raw: &mut RawPlan, ops: Ops) -> Result<(), NoMemory>
     requires { plan_form raw.old ≡ empty_form }
-    ensures { OnOk result (plan_form raw.new ≡ lists_of (op_forms ops)) }
+    ensures { OnOk result (plan_form raw.new ≡ plan_lists (op_forms ops)) }
 {
     declare(raw, &ops)?;
     raw.ops = ops;

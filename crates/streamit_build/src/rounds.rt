@@ -4,7 +4,7 @@ ghost use Rattle.std.specs.List.{list_all};
 ghost use Rattle.brooklet_model.specs.ByIndex.{cycle};
 ghost use Rattle.streamit_model.specs.Judged.{round_of, fitting_round};
 ghost use Rattle.streamit_unroll.specs.View.{Judges};
-ghost use Rattle.streamit_text.specs.Program.{items_of, weights_of};
+ghost use Rattle.streamit_text.specs.Program.{numbers_in, weights_of};
 
 use river_base::NoMemory;
 use std::alloc::Global;
@@ -14,7 +14,7 @@ use streamit_unroll::Fault;
 /// The weights of so many branches, where these are written: none stands for 1 each, one for as many each.
 pub fn round(alloc: Global, written: &RoundRobin, branches: usize) -> Result<Vec<u32>, Fault>
     requires { 1 ≤ branches }
-    ensures { Judges items_of result (round_of (weights_of written.now) branches) }
+    ensures { Judges numbers_in result (round_of (weights_of written.now) branches) }
 {
     match &written.weights {
         Some(weights) => listed(alloc, weights.as_slice(), branches),
@@ -25,7 +25,7 @@ pub fn round(alloc: Global, written: &RoundRobin, branches: usize) -> Result<Vec
 // The weights of so many branches, where these stand in the brackets.
 fn listed(alloc: Global, written: &[u64], branches: usize) -> Result<Vec<u32>, Fault>
     requires { 1 ≤ branches }
-    ensures { Judges items_of result (round_of (Some written.now) branches) }
+    ensures { Judges numbers_in result (round_of (Some written.now) branches) }
 {
     match written {
         [] => equal(alloc, 1, branches),
@@ -37,7 +37,7 @@ fn listed(alloc: Global, written: &[u64], branches: usize) -> Result<Vec<u32>, F
 // One weight for each branch.
 fn equal(alloc: Global, weight: u64, branches: usize) -> Result<Vec<u32>, Fault>
     requires { 1 ≤ branches }
-    ensures { Judges items_of result (fitting_round (replicate branches weight) branches) }
+    ensures { Judges numbers_in result (fitting_round (replicate branches weight) branches) }
 {
     if weight == 0 {
         return Err(Fault::Weights);
@@ -67,7 +67,7 @@ fn copies(alloc: Global, weight: u32, count: usize) -> Result<Vec<u32>, NoMemory
 
 // The weights as they are written.
 fn each(alloc: Global, written: &[u64], branches: usize) -> Result<Vec<u32>, Fault>
-    ensures { Judges items_of result (fitting_round written.now branches) }
+    ensures { Judges numbers_in result (fitting_round written.now branches) }
 {
     if written.len() != branches || has_zero(written) {
         return Err(Fault::Weights);

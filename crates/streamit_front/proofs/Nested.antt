@@ -15,7 +15,7 @@ use Rattle.streamit_model.specs.Meaning.{pops, numbers_from, peek_of}
 use Rattle.streamit_model.specs.Elaborate.{At, Read, on_ok, both_steps, one_step, counted, is_new, has_slot, first_term, declared, slot_of, term_of, constant}
 use Rattle.streamit_model.specs.Elaborate.{bound_of, after_arms, unrolled, step_of, steps_of, find, BranchRates, Turn, optional_of}
 use Rattle.streamit_text.specs.Program.{WorkTree, FilterTree}
-use Rattle.streamit_model.specs.ElaborateFilter.{elaborated, slots_for, first_with}
+use Rattle.streamit_model.specs.ElaborateFilter.{elaborated, slots_for, widened_first}
 use Rattle.streamit_model.proofs.FilterMet.{WorkRead, PreworkRead, elaborated_parts}
 use Rattle.streamit_model.proofs.Elaborated.{fine, ok_parts, ok_is}
 use Rattle.streamit_text.specs.Blocks.{IsPlain, Head, IsHead, looped, style, holes}
@@ -193,7 +193,7 @@ nests-first (Some w) = nests w.block
 work-below : (least : ℕ) (w : WorkTree) (s : At) (r : RunForm) → WorkRead least w s r → depths r.body.steps ≤ nests w.block
 work-below least w s r e = subst (λ (r : RunForm). depths r.body.steps ≤ nests w.block) e.is (steps-below (peek_of w) w.block s e.read e.steps_are)
 
-first-below : (o : Option WorkTree) (s : At) (p : Option RunForm) (n : ℕ) → PreworkRead o s p → depths-first (first_with n p) ≤ nests-first o
+first-below : (o : Option WorkTree) (s : At) (p : Option RunForm) (n : ℕ) → PreworkRead o s p → depths-first (widened_first n p) ≤ nests-first o
 first-below None s None n h = omega arith
 first-below None s (Some r) n h = absurd h
 first-below (Some w) s None n h = absurd h

@@ -15,7 +15,7 @@ use Rattle.streamit_model.specs.Build.{numbered, queue, queues, ops_in, ops_of, 
 use Rattle.streamit_model.specs.Elaborate.{Fault, on_ok, demand, Limit}
 use Rattle.streamit_text.specs.Program.{WorkTree, FilterTree, Body, AFilter, APipeline, ASplitJoin, Declared, Program}
 use Rattle.streamit_model.specs.ElaborateFilter.{elaborated}
-use Rattle.streamit_model.specs.Judged.{Refusal, Streamed, on_fine, in_unit, found, added, streams_of, any, branches, round_of, splitter_of, stream_of}
+use Rattle.streamit_model.specs.Judged.{Refusal, Streamed, on_fine, in_unit, found, stream_added, streams_added, any, branches, round_of, splitter_of, stream_of}
 use Rattle.streamit_model.specs.Judged.{not_there, unit_of, all_streams, few_operators, judged}
 use Rattle.streamit_model.specs.Meaning.{look, branch_count}
 use Rattle.streamit_model.specs.Unrolled.{Splitter, Duplicate, RoundRobin, Stream, Filter, Pipeline, SplitJoin, Streams, Last, Then, number_of, nesting}
@@ -111,7 +111,7 @@ found-is : (o : Option Stream) (s : Stream) → found o ≡ fine s → o ≡ Som
 found-is None s h = absurd (cc h)
 found-is (Some t) s h = ap Some (ok_is t s h)
 
-added-low : (may : ℕ → Bool) (known : Streamed) (i : ℕ) (n : Name) (s : Stream) → AllLow known → added may known i n ≡ fine s → IsLowStream s
+added-low : (may : ℕ → Bool) (known : Streamed) (i : ℕ) (n : Name) (s : Stream) → AllLow known → stream_added may known i n ≡ fine s → IsLowStream s
 added-low may known i n s a h =
     let f2 = λ (s : Stream). on_ok (demand (nat_lt (nesting s) 64) Limit) (λ v. fine s) in
     let p = ok_parts (demand (may i) Limit) (λ u. on_ok (found (look known n)) f2) s h in
@@ -120,13 +120,13 @@ added-low may known i n s a h =
     looked-low known n s a (found-is (look known n) s (q.1 ∙ ap fine (ok_is q.0 s r.2)))
 
 streams-low : (may : ℕ → Bool) (known : Streamed) (i : ℕ) (n : Name) (ms : List Name) (ss : Streams) → AllLow known
-    → streams_of may known i n ms ≡ fine ss → AreLowStreams ss
+    → streams_added may known i n ms ≡ fine ss → AreLowStreams ss
 streams-low may known i n [] ss a h =
-    let p = ok_parts (added may known i n) (λ s. fine (Last s)) ss h in
+    let p = ok_parts (stream_added may known i n) (λ s. fine (Last s)) ss h in
     subst AreLowStreams (ok_is (Last p.0) ss p.2) (added-low may known i n p.0 a p.1)
 streams-low may known i n (m ∷ ms) ss a h =
-    let p = ok_parts (added may known i n) (λ s. on_ok (streams_of may known (suc i) m ms) (λ ss. fine (Then s ss))) ss h in
-    let q = ok_parts (streams_of may known (suc i) m ms) (λ ss. fine (Then p.0 ss)) ss p.2 in
+    let p = ok_parts (stream_added may known i n) (λ s. on_ok (streams_added may known (suc i) m ms) (λ ss. fine (Then s ss))) ss h in
+    let q = ok_parts (streams_added may known (suc i) m ms) (λ ss. fine (Then p.0 ss)) ss p.2 in
     subst AreLowStreams (ok_is (Then p.0 q.0) ss q.2) (added-low may known i n p.0 a p.1, streams-low may known (suc i) m ms q.0 a q.1)
 
 stream-low : (known : Streamed) (name : Name) (b : Body) (s : Stream) → AllLow known → IsNestedBody b → stream_of known name b ≡ fine s → IsLowStream s
@@ -139,14 +139,14 @@ stream-low known name (AFilter t) s a low h =
     let low-body = low.1 in
     subst IsLowStream (ok_is (Filter name p.0) s p.2) (omega (arith, body, low-body), shallow-first p.0.first (omega (arith, first, low-first)))
 stream-low known name (APipeline l) s a low h =
-    let p = ok_parts (streams_of any known 0 l.first l.others) (λ ss. fine (Pipeline ss)) s h in
+    let p = ok_parts (streams_added any known 0 l.first l.others) (λ ss. fine (Pipeline ss)) s h in
     subst IsLowStream (ok_is (Pipeline p.0) s p.2) (streams-low any known 0 l.first l.others p.0 a p.1)
 stream-low known name (ASplitJoin d l ws) s a low h =
     let n = branch_count l in
     let f3 = λ (p : Splitter) (ss : Streams). on_ok (round_of ws n) (λ vs. fine (SplitJoin p ss vs)) in
-    let f2 = λ (p : Splitter). on_ok (streams_of branches known 0 l.first l.others) (f3 p) in
+    let f2 = λ (p : Splitter). on_ok (streams_added branches known 0 l.first l.others) (f3 p) in
     let p = ok_parts (splitter_of d n) f2 s h in
-    let q = ok_parts (streams_of branches known 0 l.first l.others) (f3 p.0) s p.2 in
+    let q = ok_parts (streams_added branches known 0 l.first l.others) (f3 p.0) s p.2 in
     let r = ok_parts (round_of ws n) (λ vs. fine (SplitJoin p.0 q.0 vs)) s q.2 in
     subst IsLowStream (ok_is (SplitJoin p.0 q.0 r.0) s r.2) (streams-low branches known 0 l.first l.others q.0 a q.1)
 

@@ -22,7 +22,7 @@ use Rattle.brooklet_model.specs.Machine.{at_name}
 use Rattle.streamit_text.specs.Tree.{Expression, Statement, Declare, Assign, Push, Discard, If, For, Block, End, Then, Optional, Unwritten, Written}
 use Rattle.streamit_text.specs.Tree as tree
 use Rattle.streamit_model.specs.Meaning.{pops, Values, eval, State, numbers_from, turns_between, each_turn, first_value, first_pops, exec, exec_all, exec_optional}
-use Rattle.streamit_model.specs.Elaborate.{Fault, Limit, BranchRates, PeekRange, on_ok, demand, Known, Var, Turn, Scope, find, constant_of, constant}
+use Rattle.streamit_model.specs.Elaborate.{Fault, Limit, BranchRates, PeekRange, on_ok, demand, KnownName, Var, Turn, Scope, find, constant_of, constant}
 use Rattle.streamit_model.specs.Elaborate.{named_term}
 use Rattle.streamit_model.specs.Elaborate.{peeked, term_of, At, counted, has_slot, is_new, slot_of, bound_of, first_term, first_popped, both_steps, one_step, Read}
 use Rattle.streamit_model.specs.Elaborate.{declared, after_arms, unrolled, step_of, steps_of, optional_of}
@@ -60,11 +60,11 @@ pub at_other : (n m : Name) (z : ℤ) (env : Values) → name_eq n m ≡ false �
 at_other n m z env e = ap (λ b. if b then z else env m) e
 
 -- the newest name is found
-pub found_here : (n m : Name) (b : Known) (sc : Scope) → name_eq n m ≡ true → find ((n, b) ∷ sc) m ≡ Some b
+pub found_here : (n m : Name) (b : KnownName) (sc : Scope) → name_eq n m ≡ true → find ((n, b) ∷ sc) m ≡ Some b
 found_here n m b sc e = ap (λ t. if t then Some b else find sc m) e
 
 -- and another name is found as before
-pub found_other : (n m : Name) (b : Known) (sc : Scope) → name_eq n m ≡ false → find ((n, b) ∷ sc) m ≡ find sc m
+pub found_other : (n m : Name) (b : KnownName) (sc : Scope) → name_eq n m ≡ false → find ((n, b) ∷ sc) m ≡ find sc m
 found_other n m b sc e = ap (λ t. if t then Some b else find sc m) e
 
 none_some : {A : Type 0} (o : Option A) (x : A) → o ≡ None → o ≡ Some x → ⊥
@@ -73,12 +73,12 @@ none_some o x h g = cc (sym h ∙ g)
 -- WHAT IS KNOWN
 
 -- what a known name stands for has the name's value
-abbrev pub Holds : Known → ℤ → List ℤ → Type 0
+abbrev pub Holds : KnownName → ℤ → List ℤ → Type 0
 Holds (Var i) z mem = slice_index_or mem i (pos 0) ≡ z
 Holds (Turn v) z mem = pos v ≡ z
 
 pub record Agrees (sc : Scope) (env : Values) (mem : List ℤ) : Type 0 where
-  pub each : (n : Name) (b : Known) → find sc n ≡ Some b → Holds b (env n) mem
+  pub each : (n : Name) (b : KnownName) → find sc n ≡ Some b → Holds b (env n) mem
 
 -- the slots of known names are there, and each is one name's
 pub record IsSound (sc : Scope) (slots : ℕ) : Type 0 where
@@ -87,7 +87,7 @@ pub record IsSound (sc : Scope) (slots : ℕ) : Type 0 where
 
 -- what was known is known
 abbrev pub Keeps : Scope → Scope → Type 0
-Keeps sc sc' = (n : Name) (b : Known) → find sc n ≡ Some b → find sc' n ≡ Some b
+Keeps sc sc' = (n : Name) (b : KnownName) → find sc n ≡ Some b → find sc' n ≡ Some b
 
 agrees_within : (sc sc' : Scope) (env : Values) (mem : List ℤ) → Keeps sc sc' → Agrees sc' env mem → Agrees sc env mem
 agrees_within sc sc' env mem k a = record { each = λ n b f. a.each n b (k n b f) }
@@ -97,7 +97,7 @@ pub more_slots : (sc : Scope) (m n : ℕ) → m ≤ n → IsSound sc m → IsSou
 more_slots sc m n le s = record { below = λ x i f. let b = s.below x i f in omega (arith, b, le); apart = s.apart }
 
 -- a new name hides nothing
-pub keeps_new : (n : Name) (b : Known) (sc : Scope) → find sc n ≡ None → Keeps sc ((n, b) ∷ sc)
+pub keeps_new : (n : Name) (b : KnownName) (sc : Scope) → find sc n ≡ None → Keeps sc ((n, b) ∷ sc)
 keeps_new n b sc new m c f = ⊎_elim
     (λ e. absurd (none_some (find sc m) c (subst (λ x. find sc x ≡ None) e.0 new) f))
     (λ e. found_other n m b sc e.1 ∙ f)
@@ -159,13 +159,13 @@ agrees_turn n v sc env mem a = record {
 }
 
 -- a slot is set to its name's new value; what the other names stand for holds
-holds_set : (b : Known) (z w : ℤ) (i : ℕ) (mem : List ℤ) → ((j : ℕ) → b ≡ Var j → j ≢ i) → Holds b z mem → Holds b z (slice_set mem i w)
+holds_set : (b : KnownName) (z w : ℤ) (i : ℕ) (mem : List ℤ) → ((j : ℕ) → b ≡ Var j → j ≢ i) → Holds b z mem → Holds b z (slice_set mem i w)
 holds_set (Var j) z w i mem ne h = get_or-set_other mem i j w (pos 0) (ne j refl) ∙ h
 holds_set (Turn v) z w i mem ne h = h
 
 agrees_set : (n : Name) (i : ℕ) (z : ℤ) (sc : Scope) (slots : ℕ) (env : Values) (mem : List ℤ) → IsSound sc slots → slots ≤ length mem
     → find sc n ≡ Some (Var i)
-    → ((m : Name) (b : Known) → name_eq n m ≡ false → find sc m ≡ Some b → Holds b (env m) mem) → Agrees sc (at_name n z env) (slice_set mem i z)
+    → ((m : Name) (b : KnownName) → name_eq n m ≡ false → find sc m ≡ Some b → Holds b (env m) mem) → Agrees sc (at_name n z env) (slice_set mem i z)
 agrees_set n i z sc slots env mem s len f others = record {
   each = λ m b g. ⊎_elim
       (λ e.
@@ -180,7 +180,7 @@ agrees_set n i z sc slots env mem s len f others = record {
 
 -- EXPRESSIONS
 
-constant_found : (o : Option Known) (z w : ℤ) (mem : List ℤ) → ((b : Known) → o ≡ Some b → Holds b w mem) → constant_of o ≡ Ok z → w ≡ z
+constant_found : (o : Option KnownName) (z w : ℤ) (mem : List ℤ) → ((b : KnownName) → o ≡ Some b → Holds b w mem) → constant_of o ≡ Ok z → w ≡ z
 constant_found None z w mem h c = absurd (cc c)
 constant_found (Some (Var i)) z w mem h c = absurd (cc c)
 constant_found (Some (Turn v)) z w mem h c = sym (h (Turn v) refl) ∙ ok_is (pos v) z c
@@ -204,7 +204,7 @@ constant_is sc (tree.Bin o l r) xs env mem k z a c =
     ∙ ap (applied o p.0) (constant_is sc r xs env mem (k + pops l) q.0 a q.1)
     ∙ ok_is (applied o p.0 q.0) z q.2
 
-named_is : (o : Option Known) (u : Term) (w : ℤ) (xs mem : List ℤ) → ((b : Known) → o ≡ Some b → Holds b w mem) → named_term o ≡ Ok u → w ≡ val u xs mem
+named_is : (o : Option KnownName) (u : Term) (w : ℤ) (xs mem : List ℤ) → ((b : KnownName) → o ≡ Some b → Holds b w mem) → named_term o ≡ Ok u → w ≡ val u xs mem
 named_is None u w xs mem h c = absurd (cc c)
 named_is (Some (Var i)) u w xs mem h c = sym (h (Var i) refl) ∙ ap (λ t. val t xs mem) (ok_is (term.Slot i) u c)
 named_is (Some (Turn v)) u w xs mem h c = sym (h (Turn v) refl) ∙ ap (λ t. val t xs mem) (ok_is (term.Const (pos v)) u c)
@@ -284,11 +284,11 @@ counted_room s f y h =
     below e = grind (arith, e)
 
 -- a name that is new is not known
-pub new_is : (o : Option Known) (u : Unit {0}) → is_new o ≡ Ok u → o ≡ None
+pub new_is : (o : Option KnownName) (u : Unit {0}) → is_new o ≡ Ok u → o ≡ None
 new_is None u h = refl
 new_is (Some b) u h = absurd (cc h)
 
-slot_found : (o : Option Known) (i : ℕ) → slot_of o ≡ Ok i → o ≡ Some (Var i)
+slot_found : (o : Option KnownName) (i : ℕ) → slot_of o ≡ Ok i → o ≡ Some (Var i)
 slot_found None i h = absurd (cc h)
 slot_found (Some (Var j)) i h = ap (λ k. Some (Var k)) (ok_is j i h)
 slot_found (Some (Turn v)) i h = absurd (cc h)

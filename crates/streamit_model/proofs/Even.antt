@@ -8,7 +8,7 @@ use Rattle.streamit_text.specs.Tree as tree
 use Rattle.brooklet_model.specs.Machine.{at_name}
 use Rattle.std.specs.Prelude.{pos}
 use Rattle.streamit_model.specs.Meaning.{Values, turns_between}
-use Rattle.streamit_model.specs.Words.{Word, Knows, Leaves, Uses, Fixes, Varies, Pops, Peeks, Bounds, Loops, Exits, Pushes, Otherwise, Joins, over, knows}
+use Rattle.streamit_model.specs.Words.{ReadWord, Knows, Leaves, Uses, Fixes, Varies, Pops, Peeks, Bounds, Loops, Exits, Pushes, Otherwise, Joins, over, knows}
 use Rattle.streamit_model.specs.Words.{leaves, enters, exits, popped_in, pushed_in}
 use Rattle.streamit_model.specs.Text.{fixed, fixed_value, spelled, spelled_first, locals_of, with_end, turning, arms, read_of, all_read, optional_read}
 use Rattle.streamit_model.proofs.Standing.{over-append, IsEven, even-append, leaves_nothing}
@@ -17,7 +17,7 @@ pub even_nil : IsEven []
 even_nil n = (refl, refl)
 
 -- a word that says nothing of names
-pub even_cons : (w : Word) (ws : List Word) → ((n : Name) → (knows n w ≡ leaves n w) × (enters n w ≡ exits n w)) → IsEven ws → IsEven (w ∷ ws)
+pub even_cons : (w : ReadWord) (ws : List ReadWord) → ((n : Name) → (knows n w ≡ leaves n w) × (enters n w ≡ exits n w)) → IsEven ws → IsEven (w ∷ ws)
 even_cons w ws h even n = let a = (h n).0 in let b = (h n).1 in let p = (even n).0 in let q = (even n).1 in (omega (arith, a, p), omega (arith, b, q))
 
 pub even_fixed : (t : Expression) → IsEven (fixed t)
@@ -48,11 +48,11 @@ knows_leaves n [] = refl
 knows_leaves n (m ∷ ms) = ap (λ k. one_if (name_eq m n) + k) (knows_leaves n ms)
 
 -- the locals of a block are known at its end
-abbrev pub IsBlockEven : List Word → Block → Type 0
+abbrev pub IsBlockEven : List ReadWord → Block → Type 0
 IsBlockEven ws b = (n : Name) → (over (knows n) ws ≡ over (leaves n) ws + count n (locals_of b)) × (over (enters n) ws ≡ over (exits n) ws)
 
 -- with its end
-pub even_enclosed : (b : Block) (ws : List Word) → IsBlockEven ws b → IsEven (with_end b ws)
+pub even_enclosed : (b : Block) (ws : List ReadWord) → IsBlockEven ws b → IsEven (with_end b ws)
 even_enclosed b ws h n =
     let ns = locals_of b in
     let p = (h n).0 in let q = (h n).1 in
@@ -62,7 +62,7 @@ even_enclosed b ws h n =
     let e0 = leaves_nothing (enters n) ns (λ m. refl) in let x0 = leaves_nothing (exits n) ns (λ m. refl) in
     (omega (arith, p, k, l, k0, l0), omega (arith, q, e, x, e0, x0))
 
-pub even_turns : (n : Name) (block : Values → List Word) (vs : List ℕ) (turns : Values) → ((inner : Values) → IsEven (block inner))
+pub even_turns : (n : Name) (block : Values → List ReadWord) (vs : List ℕ) (turns : Values) → ((inner : Values) → IsEven (block inner))
     → IsEven (turning n block vs turns)
 even_turns n block [] turns h m = (refl, refl)
 even_turns n block (v ∷ vs) turns h m =
@@ -75,12 +75,12 @@ even_turns n block (v ∷ vs) turns h m =
     (omega (arith, p, r, k, l), omega (arith, q, s, e, x))
 
 -- the local that a statement declares is one of its block
-abbrev pub IsStatementEven : List Word → Statement → Type 0
+abbrev pub IsStatementEven : List ReadWord → Statement → Type 0
 IsStatementEven ws c =
     (n : Name) (b : Block) → (over (knows n) ws + count n (locals_of b) ≡ over (leaves n) ws + count n (locals_of (Then c b)))
     × (over (enters n) ws ≡ over (exits n) ws)
 
-even_arms : (xs ys : List Word) → IsEven xs → IsEven ys → IsEven (arms xs ys)
+even_arms : (xs ys : List ReadWord) → IsEven xs → IsEven ys → IsEven (arms xs ys)
 even_arms xs ys a b =
     let p = popped_in xs in let q = pushed_in xs in let p' = popped_in ys in let q' = pushed_in ys in
     even-append xs (Otherwise p q ∷ (ys ++ Joins p q p' q' ∷ [])) a

@@ -21,7 +21,7 @@ use Rattle.streamit_model.specs.Meaning.{or_work, runs_in, start_at, waits_for, 
 use Rattle.streamit_model.specs.Elaborate.{Rates, Limit, on_ok, demand, Var, Scope, find, is_new, has_slot, At, steps_of, optional_of}
 use Rattle.streamit_text.specs.Program.{WorkTree, FilterTree}
 use Rattle.streamit_model.specs.ElaborateFilter.{read_field, read_fields, nothing_read, starts_of, elaborated_form, judged_rates, kept_rates, elaborated}
-use Rattle.streamit_model.specs.ElaborateFilter.{run_of, read_work, read_prework, slots_for, widened, first_with}
+use Rattle.streamit_model.specs.ElaborateFilter.{run_of, read_work, read_prework, slots_for, widened, widened_first}
 use Rattle.streamit_model.specs.UnrolledFilters.{firing, firings_from, filtered}
 use Rattle.streamit_model.proofs.Elaborated.{fine, ok_parts, ok_is, demanded, new_is, found_here, found_other, at_here, at_other, Holds, Agrees}
 use Rattle.streamit_model.proofs.Elaborated.{IsSound, Keeps, keeps_new, sound_var, steps_grow, steps_met}
@@ -291,7 +291,7 @@ work_as fs least n w s r hf k le =
 
 first_as : (fs : List Name) (o : Option WorkTree) (w : WorkTree) (s : At) (p : Option RunForm) (r : RunForm) → read_fields fs nothing_read ≡ Ok s
     → PreworkRead o s p → WorkRead 1 w s r
-    → RunsAs fs (or_work o w) (run_or (widened (slots_for p r.body.slots) r) (first_with (slots_for p r.body.slots) p))
+    → RunsAs fs (or_work o w) (run_or (widened (slots_for p r.body.slots) r) (widened_first (slots_for p r.body.slots) p))
 first_as fs None w s None r hf a b = work_as fs 1 r.body.slots w s r hf b (le_refl r.body.slots)
 first_as fs None w s (Some q) r hf a b = absurd a
 first_as fs (Some v) w s None r hf a b = absurd a

@@ -7,7 +7,7 @@ use Rattle.std.proofs.lemmas.Bool.{cases_lt}
 use Rattle.std.proofs.Math.Nat.{mul-le-mul_right, le-mul_of_pos_right}
 use Rattle.streamit_text.specs.Program.{FilterTree}
 use Rattle.streamit_model.specs.Meaning.{pop_of, peek_of, runs_in, start_at, waits_for, looked_at, fires, fires_from}
-use Rattle.streamit_model.specs.Firings.{TakesPlace, place_in, fields_before, first_pushes, IsFired}
+use Rattle.streamit_model.specs.Firings.{TakesPlace, place_looked_at, fields_before, first_pushes, IsFired}
 use Rattle.streamit_model.specs.Laws.{FiringsAre}
 use Rattle.streamit_model.proofs.FilterMet.{elaborated_parts}
 
@@ -33,7 +33,7 @@ get_dropped (suc k) i [] = refl
 get_dropped (suc k) i (x ∷ xs) = get_dropped k i xs ∙ ap (slice_get (x ∷ xs)) (let e : suc (k + i) ≡ suc k + i = omega arith in e)
 
 module _ (t : FilterTree) (xs : List ℤ) where
-  looks : (j i : ℕ) → i < peek_of (runs_in t j) → slice_get (looked_at t j xs) i ≡ slice_get xs (place_in t j i)
+  looks : (j i : ℕ) → i < peek_of (runs_in t j) → slice_get (looked_at t j xs) i ≡ slice_get xs (place_looked_at t j i)
   looks zero i lt = get_taken (peek_of (runs_in t 0)) i xs lt
   looks (suc j) i lt =
       get_taken (peek_of t.work) i (drop (start_at t (suc j)) xs) lt

@@ -10,7 +10,7 @@ use Rattle.work_code.specs.Steps as steps
 use Rattle.kern_rows.specs.Forms.{FilterForm, RunForm}
 use Rattle.kern_rows.specs.Needs.{CanRun}
 use Rattle.kern_rows.proofs.Lengths.{run_kept_length}
-use Rattle.river_kernels.specs.Formed.{is_sound, is_term, is_step, is_steps, is_first, is_filter, both, same, pushes_once, pushes, is_number}
+use Rattle.river_kernels.specs.Formed.{is_sound, is_term, is_step, is_steps, is_first, is_filter, both_counts, same, pushes_once, pushes, is_number}
 use Rattle.river_kernels.specs.Limits.{size, size_once}
 use Rattle.river_plan.specs.Forms.{Name}
 use Rattle.streamit_text.specs.Tree.{Expression, Statement, Declare, Assign, Push, Discard, If, For, Block, End, Then, Optional, Unwritten, Written}
@@ -19,12 +19,12 @@ use Rattle.streamit_model.specs.Unrolled.{IsSmallRun, IsSmallFirst, IsSmallFilte
 use Rattle.streamit_model.specs.Meaning.{pops, turns_between, push_of, peek_of}
 use Rattle.streamit_model.specs.Shallow.{IsLowFirst, IsShallow, AreShallow, IsItemlessFirst, KeepsItems, KeepAll, AreShallowOptional, KeepAllOptional}
 use Rattle.streamit_model.specs.Shallow.{IsShallowPrework, IsShallowFilter}
-use Rattle.streamit_model.specs.Elaborate.{Limit, PeekRange, on_ok, Known, Var, Turn, Scope, find, constant, named_term, peeked, term_of, At, first_term}
+use Rattle.streamit_model.specs.Elaborate.{Limit, PeekRange, on_ok, KnownName, Var, Turn, Scope, find, constant, named_term, peeked, term_of, At, first_term}
 use Rattle.streamit_model.specs.Elaborate.{first_popped, both_steps, one_step, Read, unrolled, step_of, steps_of, optional_of}
 use Rattle.std.proofs.lemmas.List.{length-replicate}
 use Rattle.std.proofs.Math.Nat.{le_refl}
 use Rattle.streamit_text.specs.Program.{WorkTree, FilterTree}
-use Rattle.streamit_model.specs.ElaborateFilter.{elaborated, read_fields, nothing_read, starts_of, slots_for, first_with}
+use Rattle.streamit_model.specs.ElaborateFilter.{elaborated, read_fields, nothing_read, starts_of, slots_for, widened_first}
 use Rattle.river_kernels.proofs.WellFormed.{steps_within}
 use Rattle.streamit_model.proofs.FilterMet.{fields_few, elaborated_parts, fields_read, sound_nothing, WorkRead, PreworkRead, slots_within}
 use Rattle.streamit_model.proofs.Elaborated.{ok_is, ok_parts, if_ok, IsSound, more_slots, Grown, left, at_arm, at_second, turning, grows_turn, unrolled_grows}
@@ -37,7 +37,7 @@ use Rattle.streamit_model.proofs.Elaborated.{looped_parts, followed_parts}
 abbrev Fits : ℕ → ℕ → ℕ → Term → Type 0
 Fits p m d u = (is_sound p m u ≡ true) × (term.depth_of u ≤ d)
 
-named_fits : (p m : ℕ) (o : Option Known) (u : Term) → ((i : ℕ) → o ≡ Some (Var i) → i < m) → named_term o ≡ Ok u → Fits p m 1 u
+named_fits : (p m : ℕ) (o : Option KnownName) (u : Term) → ((i : ℕ) → o ≡ Some (Var i) → i < m) → named_term o ≡ Ok u → Fits p m 1 u
 named_fits p m None u h c = absurd (cc c)
 named_fits p m (Some (Var i)) u h c = subst (Fits p m 1) (ok_is (term.Slot i) u c) (lt-ltb i m (h i refl), omega arith)
 named_fits p m (Some (Turn v)) u h c = subst (Fits p m 1) (ok_is (term.Const (pos v)) u c) (refl, omega arith)
@@ -79,19 +79,19 @@ is_one p m d u low f = let e = f.1 in and_from (is_sound p m u) (nat_le (term.de
 
 -- STATEMENTS, COUNTED
 
-both-assoc : (a b c : Option ℕ) → both (both a b) c ≡ both a (both b c)
+both-assoc : (a b c : Option ℕ) → both_counts (both_counts a b) c ≡ both_counts a (both_counts b c)
 both-assoc None b c = refl
 both-assoc (Some l) None c = refl
 both-assoc (Some l) (Some m) None = refl
 both-assoc (Some l) (Some m) (Some n) = ap Some (let e : l + m + n ≡ l + (m + n) = omega arith in e)
 
-pushes_joined : (a b : Steps) → pushes (both_steps a b) ≡ both (pushes a) (pushes b)
+pushes_joined : (a b : Steps) → pushes (both_steps a b) ≡ both_counts (pushes a) (pushes b)
 pushes_joined Done b = zero_both (pushes b)
   where
-    zero_both : (o : Option ℕ) → o ≡ both (Some 0) o
+    zero_both : (o : Option ℕ) → o ≡ both_counts (Some 0) o
     zero_both None = refl
     zero_both (Some n) = ap Some (let e : n ≡ 0 + n = omega arith in e)
-pushes_joined (steps.Then c a) b = ap (both (pushes_once c)) (pushes_joined a b) ∙ sym (both-assoc (pushes_once c) (pushes a) (pushes b))
+pushes_joined (steps.Then c a) b = ap (both_counts (pushes_once c)) (pushes_joined a b) ∙ sym (both-assoc (pushes_once c) (pushes a) (pushes b))
 
 size_joined : (a b : Steps) → size (both_steps a b) ≡ size a + size b
 size_joined Done b = omega arith
@@ -116,7 +116,7 @@ counts_both s a b f g =
     record {
       popped = omega (arith, f1, g1);
       more = f.more + g.more;
-      pushes = pushes_joined a.0 b.0 ∙ ap (λ o. both o (pushes b.0)) f.pushes ∙ ap (both (Some f.more)) g.pushes;
+      pushes = pushes_joined a.0 b.0 ∙ ap (λ o. both_counts o (pushes b.0)) f.pushes ∙ ap (both_counts (Some f.more)) g.pushes;
       pushed = omega (arith, f2, g2);
       size = omega (arith, z, f3, g3);
       small = λ h. g.small (f.small h);
@@ -144,7 +144,7 @@ mutual
 one_counts : (s t : At) (c : Step) (m : ℕ) → s.popped ≤ t.popped → pushes_once c ≡ Some m → s.pushed + m ≡ t.pushed → size_once c + s.size ≤ t.size
     → (s.size ≤ 16384 → t.size ≤ 16384) → (s.slots ≤ 256 → t.slots ≤ 256) → Counts s (one_step c, t)
 one_counts s t c m p q r z k w =
-    record { popped = p; more = m; pushes = ap (λ o. both o (Some 0)) q ∙ ap Some (let e : m + 0 ≡ m = omega arith in e); pushed = r; size = omega (arith, z); small = k; few = w }
+    record { popped = p; more = m; pushes = ap (λ o. both_counts o (Some 0)) q ∙ ap Some (let e : m + 0 ≡ m = omega arith in e); pushed = r; size = omega (arith, z); small = k; few = w }
 
 mutual
   unfolding left at_arm at_second
@@ -393,7 +393,7 @@ run_formed fs s least n w r hf low e le =
 
 -- where `prework` is read, it is a first run
 first_formed : (fs : List Name) (s : At) (o : Option WorkTree) (p : Option RunForm) (m : ℕ) → read_fields fs nothing_read ≡ Ok s → IsShallowPrework o → PreworkRead o s p
-    → m ≤ 256 → (is_first (slots_for p m) (first_with (slots_for p m) p) ≡ true) × IsSmallFirst (first_with (slots_for p m) p) × (slots_for p m ≤ 256)
+    → m ≤ 256 → (is_first (slots_for p m) (widened_first (slots_for p m) p) ≡ true) × IsSmallFirst (widened_first (slots_for p m) p) × (slots_for p m ≤ 256)
 first_formed fs s None None m hf low h le = (refl, tt, le)
 first_formed fs s None (Some r) m hf low h le = absurd h
 first_formed fs s (Some w) None m hf low h le = absurd h

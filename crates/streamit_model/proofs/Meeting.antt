@@ -5,7 +5,7 @@ use Rattle.std.specs.Prelude.{if◌then◌else◌, ℤ}
 use Rattle.std.proofs.lemmas.List.{append-nil}
 use Rattle.streamit_model.specs.Elaborate.{Fault, UnknownName, NameTwice, Rates, PeekRange, NotConstant, BranchRates, Limit, Weights, on_ok}
 use Rattle.streamit_text.specs.Program.{Declared}
-use Rattle.streamit_model.specs.Words.{Word}
+use Rattle.streamit_model.specs.Words.{ReadWord}
 use Rattle.streamit_model.specs.Places.{Spot, Reads, each_word}
 use Rattle.streamit_model.specs.Faulty.{IsUnknown, IsTwice, AreRatesApart, IsOutside, IsVariable, AreArmsApart, IsOverLimit, AreWeightsWrong, HasFault, rank}
 use Rattle.streamit_model.specs.Faulty.{IsFirstFault}
@@ -211,27 +211,27 @@ module _ (above : List Declared) where
 
   -- WORDS
 
-  read-append : (e : ℕ) (before xs ys : List Word) → each_word e before (xs ++ ys) ≡ each_word e before xs ++ each_word e (before ++ xs) ys
+  read-append : (e : ℕ) (before xs ys : List ReadWord) → each_word e before (xs ++ ys) ≡ each_word e before xs ++ each_word e (before ++ xs) ys
   read-append e before [] ys = ap (λ b. each_word e b ys) (sym (append-nil before))
   read-append e before (x ∷ xs) ys =
       ap (λ l. Reads e before x ∷ l) (read-append e (before ++ x ∷ []) xs ys ∙ ap (λ b. each_word e (before ++ x ∷ []) xs ++ each_word e b ys)
       (append_assoc before (x ∷ []) xs))
 
   -- the words of one answer, and then those of the next
-  pub next : {A B : Type 0} (e : ℕ) (before xs ys : List Word) (r : Result A Fault) (g : A → Result B Fault) (P : A → Type 0) (Q : B → Type 0)
+  pub next : {A B : Type 0} (e : ℕ) (before xs ys : List ReadWord) (r : Result A Fault) (g : A → Result B Fault) (P : A → Type 0) (Q : B → Type 0)
       → Meets above (each_word e before xs) r P → ((x : A) → P x → Meets above (each_word e (before ++ xs) ys) (g x) Q)
       → Meets above (each_word e before (xs ++ ys)) (on_ok r g) Q
   next e before xs ys r g P Q h k =
       subst (λ ss. Meets above ss (on_ok r g) Q) (sym (read-append e before xs ys)) (chain (each_word e before xs) (each_word e (before ++ xs) ys) r g P Q h k)
 
   -- right words behind those of an answer
-  pub ended : {A : Type 0} (e : ℕ) (before xs ys : List Word) (r : Result A Fault) (P Q : A → Type 0) → Meets above (each_word e before xs) r P
+  pub ended : {A : Type 0} (e : ℕ) (before xs ys : List ReadWord) (r : Result A Fault) (P Q : A → Type 0) → Meets above (each_word e before xs) r P
       → AllFree above (each_word e (before ++ xs) ys) → ((x : A) → P x → Q x) → Meets above (each_word e before (xs ++ ys)) r Q
   ended e before xs ys r P Q h a k =
       subst (λ ss. Meets above ss r Q) (sym (read-append e before xs ys)) (before_free (each_word e before xs) (each_word e (before ++ xs) ys) r P Q h a k)
 
   -- words that are right, and the words behind them
-  pub beyond : {A : Type 0} (e : ℕ) (before xs ys : List Word) (r : Result A Fault) (Q : A → Type 0) → AllFree above (each_word e before xs)
+  pub beyond : {A : Type 0} (e : ℕ) (before xs ys : List ReadWord) (r : Result A Fault) (Q : A → Type 0) → AllFree above (each_word e before xs)
       → Meets above (each_word e (before ++ xs) ys) r Q → Meets above (each_word e before (xs ++ ys)) r Q
   beyond e before xs ys r Q a h =
       subst (λ ss. Meets above ss r Q) (sym (read-append e before xs ys)) (behind (each_word e before xs) (each_word e (before ++ xs) ys) r Q a h)

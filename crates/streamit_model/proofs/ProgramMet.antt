@@ -9,15 +9,15 @@ use Rattle.river_plan.specs.Forms.{Name}
 use Rattle.streamit_model.specs.Unrolled.{Splitter, Duplicate, RoundRobin, Stream, Filter, Pipeline, SplitJoin, Streams, Last, Then, number_of, nesting}
 use Rattle.streamit_model.specs.Unrolled.{IsStream, AreStreams, IsSmall, AreSmall, IsRound, IsSplitter, IsSmallSplitter}
 use Rattle.brooklet_model.specs.ByIndex.{cycle, dealt, collected}
-use Rattle.streamit_model.specs.UnrolledMeans.{split, outputs, in_line, side_by_side}
+use Rattle.streamit_model.specs.UnrolledMeans.{branch_input, outputs, in_line, side_by_side}
 use Rattle.streamit_model.specs.Elaborate.{Fault, Limit, Weights, on_ok, demand}
 use Rattle.streamit_model.specs.ElaborateFilter.{elaborated}
 use Rattle.streamit_model.specs.Build.{ops_in}
 use Rattle.streamit_text.specs.Program.{Dealing, Copies, Turns, Body, AFilter, APipeline, ASplitJoin, Program}
-use Rattle.streamit_model.specs.Meaning.{weights_for, Works, look, or_same, work_of, piped, branched, branch_count, share_of, body_works, all_work, last_of}
+use Rattle.streamit_model.specs.Meaning.{weights_for, Works, look, or_same, known_works, piped, branched, branch_count, share_of, body_works, all_work, last_of}
 use Rattle.streamit_model.specs.Meaning.{program_outputs}
 use Rattle.streamit_model.specs.Shallow.{IsShallowBody, AreShallowUnits}
-use Rattle.streamit_model.specs.Judged.{Refusal, on_fine, in_unit, Streamed, found, added, streams_of, any, branches, round_of, splitter_of, stream_of}
+use Rattle.streamit_model.specs.Judged.{Refusal, on_fine, in_unit, Streamed, found, stream_added, streams_added, any, branches, round_of, splitter_of, stream_of}
 use Rattle.streamit_model.specs.Judged.{not_there, unit_of, all_streams, few_operators, judged}
 use Rattle.streamit_model.proofs.Elaborated.{fine, ok_is, ok_parts, demanded}
 use Rattle.streamit_model.proofs.FilterMet.{filter_met}
@@ -44,7 +44,7 @@ look_by : (b : Bool) (k : Stream) (o : Option Stream) (s : Stream) (e : Works) (
 look_by true k o s e p h f g = subst (λ t. Fits t e) (let q : k ≡ s = cc in q) f
 look_by false k o s e p h f g = g h
 
-looked : (known : Streamed) (env : List (Name × Works)) (n : Name) (s : Stream) → AllFit known env → look known n ≡ Some s → Fits s (work_of env n)
+looked : (known : Streamed) (env : List (Name × Works)) (n : Name) (s : Stream) → AllFit known env → look known n ≡ Some s → Fits s (known_works env n)
 looked [] env n s a h = absurd (cc h)
 looked (k ∷ ks) [] n s a h = absurd a
 looked (k ∷ ks) (e ∷ es) n s a h =
@@ -59,7 +59,7 @@ record AddsFit (ss : Streams) (env : List (Name × Works)) (n : Name) (ms : List
   line : (xs : List ℤ) → in_line ss xs ≡ piped env n ms xs
   side : (f : ℕ → List ℤ) → side_by_side ss f ≡ branched env n ms f
 
-added_is : (may : ℕ → Bool) (known : Streamed) (i : ℕ) (n : Name) (s : Stream) → added may known i n ≡ Ok s → (may i ≡ true) × (look known n ≡ Some s)
+added_is : (may : ℕ → Bool) (known : Streamed) (i : ℕ) (n : Name) (s : Stream) → stream_added may known i n ≡ Ok s → (may i ≡ true) × (look known n ≡ Some s)
 added_is may known i n s h =
     let f2 = λ (s : Stream). on_ok (demand (nat_lt (nesting s) 64) Limit) (λ v. fine s) in
     let f1 = λ (u : Unit {0}). on_ok (found (look known n)) f2 in
@@ -69,33 +69,33 @@ added_is may known i n s h =
     (demanded (may i) Limit p.0 p.1, found_is (look known n) s (q.1 ∙ ap fine (ok_is q.0 s r.2)))
 
 adds_fit : (may : ℕ → Bool) (known : Streamed) (env : List (Name × Works)) (i : ℕ) (n : Name) (ms : List Name) (ss : Streams) → AllFit known env
-    → streams_of may known i n ms ≡ Ok ss → AddsFit ss env n ms
+    → streams_added may known i n ms ≡ Ok ss → AddsFit ss env n ms
 adds_fit may known env i n [] ss a h =
-    let p = ok_parts (added may known i n) (λ s. Ok (Last s)) ss h in
+    let p = ok_parts (stream_added may known i n) (λ s. Ok (Last s)) ss h in
     let f = looked known env n p.0 a (added_is may known i n p.0 p.1).1 in
     subst (λ t. AddsFit t env n []) (ok_is (Last p.0) ss p.2) (record { formed = f.formed; small = f.small; number = refl; line = f.works; side = λ g. ap (λ l. l ∷ []) (f.works (g 0)) })
 adds_fit may known env i n (m ∷ ms) ss a h =
-    let p = ok_parts (added may known i n) (λ s. on_ok (streams_of may known (suc i) m ms) (λ ss. Ok (Then s ss))) ss h in
-    let q = ok_parts (streams_of may known (suc i) m ms) (λ ss. Ok (Then p.0 ss)) ss p.2 in
+    let p = ok_parts (stream_added may known i n) (λ s. on_ok (streams_added may known (suc i) m ms) (λ ss. Ok (Then s ss))) ss h in
+    let q = ok_parts (streams_added may known (suc i) m ms) (λ ss. Ok (Then p.0 ss)) ss p.2 in
     let f = looked known env n p.0 a (added_is may known i n p.0 p.1).1 in
     let r = adds_fit may known env (suc i) m ms q.0 a q.1 in
     subst (λ t. AddsFit t env n (m ∷ ms)) (ok_is (Then p.0 q.0) ss q.2) (record {
       formed = (f.formed, r.formed);
       small = (f.small, r.small);
       number = ap suc r.number;
-      line = λ xs. ap (in_line q.0) (f.works xs) ∙ r.line (work_of env n xs);
-      side = λ g. ap (λ l. l ∷ side_by_side q.0 (λ p. g (suc p))) (f.works (g 0)) ∙ ap (λ l. work_of env n (g 0) ∷ l) (r.side (λ p. g (suc p)));
+      line = λ xs. ap (in_line q.0) (f.works xs) ∙ r.line (known_works env n xs);
+      side = λ g. ap (λ l. l ∷ side_by_side q.0 (λ p. g (suc p))) (f.works (g 0)) ∙ ap (λ l. known_works env n (g 0) ∷ l) (r.side (λ p. g (suc p)));
     })
 
 -- where each of the branches may be there, there are no more than 64
-few_branches : (known : Streamed) (i : ℕ) (n : Name) (ms : List Name) (ss : Streams) → streams_of branches known i n ms ≡ Ok ss → i + number_of ss ≤ 64
+few_branches : (known : Streamed) (i : ℕ) (n : Name) (ms : List Name) (ss : Streams) → streams_added branches known i n ms ≡ Ok ss → i + number_of ss ≤ 64
 few_branches known i n [] ss h =
-    let p = ok_parts (added branches known i n) (λ s. Ok (Last s)) ss h in
+    let p = ok_parts (stream_added branches known i n) (λ s. Ok (Last s)) ss h in
     let lt = ltb-true i 64 (added_is branches known i n p.0 p.1).0 in
     subst (λ t. i + number_of t ≤ 64) (ok_is (Last p.0) ss p.2) (omega (arith, lt))
 few_branches known i n (m ∷ ms) ss h =
-    let p = ok_parts (added branches known i n) (λ s. on_ok (streams_of branches known (suc i) m ms) (λ ss. Ok (Then s ss))) ss h in
-    let q = ok_parts (streams_of branches known (suc i) m ms) (λ ss. Ok (Then p.0 ss)) ss p.2 in
+    let p = ok_parts (stream_added branches known i n) (λ s. on_ok (streams_added branches known (suc i) m ms) (λ ss. Ok (Then s ss))) ss h in
+    let q = ok_parts (streams_added branches known (suc i) m ms) (λ ss. Ok (Then p.0 ss)) ss p.2 in
     let r = few_branches known (suc i) m ms q.0 q.1 in
     subst (λ t. i + number_of t ≤ 64) (ok_is (Then p.0 q.0) ss q.2) (omega (arith, r))
 
@@ -124,7 +124,7 @@ round_parts ws n vs h =
 record Split (d : Dealing) (n : ℕ) (p : Splitter) : Type 0 where
   formed : IsSplitter p n
   small : IsSmallSplitter p
-  works : (b : ℕ) (xs : List ℤ) → split p b xs ≡ share_of d n b xs
+  works : (b : ℕ) (xs : List ℤ) → branch_input p b xs ≡ share_of d n b xs
 
 split_parts : (d : Dealing) (n : ℕ) (p : Splitter) → splitter_of d n ≡ Ok p → Split d n p
 split_parts Copies n p h = subst (Split Copies n) (ok_is Duplicate p h) (record { formed = tt; small = tt; works = λ b xs. refl })
@@ -143,15 +143,15 @@ stream_fits known env name (AFilter t) s a low h =
     let g = filter_formed t p.0 low p.1 in
     subst (λ u. Fits u (body_works env (AFilter t))) (ok_is (Filter name p.0) s p.2) (record { formed = g.0; small = g.1; works = λ xs. sym (filter_met t p.0 xs p.1) })
 stream_fits known env name (APipeline a) s all low h =
-    let p = ok_parts (streams_of any known 0 a.first a.others) (λ ss. Ok (Pipeline ss)) s h in
+    let p = ok_parts (streams_added any known 0 a.first a.others) (λ ss. Ok (Pipeline ss)) s h in
     let i = adds_fit any known env 0 a.first a.others p.0 all p.1 in
     subst (λ u. Fits u (body_works env (APipeline a))) (ok_is (Pipeline p.0) s p.2) (record { formed = i.formed; small = i.small; works = i.line })
 stream_fits known env name (ASplitJoin d a ws) s all low h =
     let n = branch_count a in
     let f3 = λ (p : Splitter) (ss : Streams). on_ok (round_of ws n) (λ vs. fine (SplitJoin p ss vs)) in
-    let f2 = λ (p : Splitter). on_ok (streams_of branches known 0 a.first a.others) (f3 p) in
+    let f2 = λ (p : Splitter). on_ok (streams_added branches known 0 a.first a.others) (f3 p) in
     let q1 = ok_parts (splitter_of d n) f2 s h in
-    let q2 = ok_parts (streams_of branches known 0 a.first a.others) (f3 q1.0) s q1.2 in
+    let q2 = ok_parts (streams_added branches known 0 a.first a.others) (f3 q1.0) s q1.2 in
     let q3 = ok_parts (round_of ws n) (λ vs. fine (SplitJoin q1.0 q2.0 vs)) s q2.2 in
     let sp = split_parts d n q1.0 q1.1 in
     let i = adds_fit branches known env 0 a.first a.others q2.0 all q2.1 in
@@ -161,8 +161,8 @@ stream_fits known env name (ASplitJoin d a ws) s all low h =
       formed = (subst (IsSplitter q1.0) (sym i.number) sp.formed, i.formed, subst (IsRound q3.0) (sym i.number) r.round);
       small = (omega (arith, few), sp.small, r.sum, i.small);
       works = λ xs.
-          ap (λ vs. collected vs (side_by_side q2.0 (λ p. split q1.0 p xs))) (sym r.is)
-          ∙ ap (λ f. collected (weights_for ws n) (side_by_side q2.0 f)) (same_each (λ p. split q1.0 p xs) (λ p. share_of d n p xs) (λ p. sp.works p xs))
+          ap (λ vs. collected vs (side_by_side q2.0 (λ p. branch_input q1.0 p xs))) (sym r.is)
+          ∙ ap (λ f. collected (weights_for ws n) (side_by_side q2.0 f)) (same_each (λ p. branch_input q1.0 p xs) (λ p. share_of d n p xs) (λ p. sp.works p xs))
           ∙ ap (collected (weights_for ws n)) (i.side (λ p. share_of d n p xs));
     })
 

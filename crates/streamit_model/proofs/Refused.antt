@@ -9,7 +9,7 @@ use Rattle.streamit_model.specs.Elaborate.{Fault, UnknownName, NameTwice, Rates,
 use Rattle.streamit_text.specs.Program.{Declared, Program}
 use Rattle.streamit_model.specs.Judged.{Streamed, Refusal, on_fine, in_unit, unit_of, all_streams, few_operators, judged}
 use Rattle.streamit_model.specs.Words.{Peeks}
-use Rattle.streamit_model.specs.Places.{Spot, Reads, Rated, Counts, Finishes, Place, place, places_behind, places_of, unit_spots, last_operators}
+use Rattle.streamit_model.specs.Places.{Spot, Reads, Rated, Counts, Finishes, Place, place_of_spot, places_behind, places_of, unit_spots, last_operators}
 use Rattle.streamit_model.specs.Faulty.{AreRatesApart, IsOutside, HasFault, rank, IsFirstFault, IsRight, RefusalsAre, AcceptedAre}
 use Rattle.streamit_model.proofs.Meeting.{AllFree, FirstIn, Meets, free, first_limit}
 use Rattle.streamit_model.proofs.UnitMet.{LastIs, KnowsAbove, one_more, IsBodyAs, unit_met}
@@ -127,12 +127,12 @@ behind : {A : Type 0} (ps qs : List Place) (r : Result A Refusal) → AllByRecur
 behind ps qs (Ok x) a h = right_join ps qs a h
 behind ps qs (Err r) a h = first_back ps qs r a h
 
-right_map : (k : ℕ) (above : List Declared) (ss : List Spot) → AllFree above ss → AllByRecursion IsRight (map (place k above) ss)
+right_map : (k : ℕ) (above : List Declared) (ss : List Spot) → AllFree above ss → AllByRecursion IsRight (map (place_of_spot k above) ss)
 right_map k above [] h = tt
 right_map k above (s ∷ ss) h = (h.0, right_map k above ss h.1)
 
 first_map : (k : ℕ) (above : List Declared) (ss : List Spot) (f : Fault) → FirstIn above ss f
-    → FirstPlace (map (place k above) ss) (record { unit = k; fault = f })
+    → FirstPlace (map (place_of_spot k above) ss) (record { unit = k; fault = f })
 first_map k above [] f h = absurd h
 first_map k above (s ∷ ss) f (inl h) = inl (h, refl)
 first_map k above (s ∷ ss) f (inr h) = inr (h.0, first_map k above ss f h.1)
@@ -147,7 +147,7 @@ abbrev ends : ℕ → Streamed → Result Streamed Refusal
 ends n known = in_unit n (few_operators known) (λ u. Ok known)
 
 finishes : (k n : ℕ) (above : List Declared) (known : Streamed) → n ≡ k → LastIs known (last_operators above)
-    → Told (place k above Finishes ∷ []) (ends n known)
+    → Told (place_of_spot k above Finishes ∷ []) (ends n known)
 finishes k n above [] same h =
     (free above Finishes (λ h. h) (λ h. h) (λ d c h. h) (λ i r h. h) (λ h. h) (λ h. h) (λ x. omega (arith, h, x)) (λ h. h), tt)
 finishes k n above (e ∷ known) same h = by_test (nat_le (ops_in e.1) 256)
@@ -156,9 +156,9 @@ finishes k n above (e ∷ known) same h = by_test (nat_le (ops_in e.1) 256)
     (λ f. let lt = leb-false (ops_in e.1) 256 f in
     inl (first_limit above Finishes (omega (arith, h, lt)) (λ h. h) (λ h. h) (λ h. h) (λ h. h) (λ i r h. h), same))
   where
-    by_test : (b : Bool) → (b ≡ true → AllByRecursion IsRight (place k above Finishes ∷ []))
-        → (b ≡ false → FirstPlace (place k above Finishes ∷ []) (record { unit = n; fault = Limit }))
-        → Told (place k above Finishes ∷ []) (in_unit n (demand b Limit) (λ u. fine (e ∷ known)))
+    by_test : (b : Bool) → (b ≡ true → AllByRecursion IsRight (place_of_spot k above Finishes ∷ []))
+        → (b ≡ false → FirstPlace (place_of_spot k above Finishes ∷ []) (record { unit = n; fault = Limit }))
+        → Told (place_of_spot k above Finishes ∷ []) (in_unit n (demand b Limit) (λ u. fine (e ∷ known)))
     by_test true good bad = good refl
     by_test false good bad = bad refl
 
@@ -166,14 +166,14 @@ unit_told : (k n : ℕ) (above : List Declared) (known : Streamed) (u : Declared
     → Meets above (unit_spots u) r (IsBodyAs above u.body)
     → ((s : Stream) → IsBodyAs above u.body s
     → Told (places_behind (suc k) (u ∷ above) us) (on_fine (all_streams (suc (suc k)) ((u.name, s) ∷ known) us) (ends n)))
-    → Told (map (place (suc k) above) (unit_spots u) ++ places_behind (suc k) (u ∷ above) us)
+    → Told (map (place_of_spot (suc k) above) (unit_spots u) ++ places_behind (suc k) (u ∷ above) us)
     (on_fine (in_unit (suc k) r (λ s. all_streams (suc (suc k)) ((u.name, s) ∷ known) us)) (ends n))
 unit_told k n above known u us (Ok s) m go =
-    behind (map (place (suc k) above) (unit_spots u)) (places_behind (suc k) (u ∷ above) us)
+    behind (map (place_of_spot (suc k) above) (unit_spots u)) (places_behind (suc k) (u ∷ above) us)
     (on_fine (all_streams (suc (suc k)) ((u.name, s) ∷ known) us) (ends n))
     (right_map (suc k) above (unit_spots u) m.0) (go s m.1)
 unit_told k n above known u us (Err f) m go =
-    first_front (map (place (suc k) above) (unit_spots u)) (places_behind (suc k) (u ∷ above) us) (record { unit = suc k; fault = f })
+    first_front (map (place_of_spot (suc k) above) (unit_spots u)) (places_behind (suc k) (u ∷ above) us) (record { unit = suc k; fault = f })
     (first_map (suc k) above (unit_spots u) f m)
 
 units_told : (us : Program) (k n : ℕ) (above : List Declared) (known : Streamed) → KnowsAbove above known → n ≡ k + length us

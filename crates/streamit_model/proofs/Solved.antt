@@ -9,7 +9,7 @@ use Rattle.brooklet_model.specs.Histories.{History, Lists, Solves, lists_of}
 use Rattle.river_plan.proofs.ShareLemmas.{each_front, each_back}
 use Rattle.streamit_model.specs.Unrolled.{Splitter, Duplicate, RoundRobin, Stream, Filter, Pipeline, SplitJoin, Streams, Last, Then, number_of, IsStream}
 use Rattle.streamit_model.specs.Unrolled.{AreStreams, IsSplitter, IsRound}
-use Rattle.streamit_model.specs.UnrolledMeans.{split, outputs, in_line, side_by_side}
+use Rattle.streamit_model.specs.UnrolledMeans.{branch_input, outputs, in_line, side_by_side}
 use Rattle.streamit_model.specs.Build.{numbered, queue, queues, ops_in, queues_in, splitter, build, build_line, build_branches}
 use Rattle.streamit_model.specs.Laws.{as_items, SolutionsMean}
 use Rattle.streamit_model.proofs.Kernels.{filter_means, duplicate_means, deal_means, collect_means}
@@ -34,7 +34,7 @@ first_at : (a : ℕ) (h : History) (f : ℕ → List ℤ) → h (queue (a + 0)) 
 first_at a h f e = ap (λ j. h (queue j)) (let q : a ≡ a + 0 = omega arith in q) ∙ e
 
 splits : (d : Splitter) (n k i : ℕ) (label from : Name) (h : History) (xs : List ℤ) → IsSplitter d n → Solves h (splitter d n label from (queues k n))
-    → h from ≡ as_items xs → i < n → h (queue (k + i)) ≡ as_items (split d i xs)
+    → h from ≡ as_items xs → i < n → h (queue (k + i)) ≡ as_items (branch_input d i xs)
 splits Duplicate n k i label from h xs ok s e lt = written_at n k i _ h s lt ∙ duplicate_means n i (lists_of h (from ∷ [])) lt ∙ e
 splits (RoundRobin ws) n k i label from h xs ok s e lt = written_at n k i _ h s lt ∙ deal_means ws n i (lists_of h (from ∷ [])) xs ok lt e
 
@@ -52,9 +52,9 @@ mutual
       let n = number_of ss in
       let branches = build_branches ss (suc c) (k + (n + n)) k (k + n) in
       let first = λ (i : ℕ) (lt : i < n). splits d n k i (numbered (codes "split") c) from h xs ok.0 s.0 e lt in
-      let given = side_by_side ss (λ p. split d p xs) in
-      let len = length-side_by_side ss (λ p. split d p xs) in
-      let second = solved_branches ss (suc c) (k + (n + n)) k (k + n) h (λ p. split d p xs) ok.1 (each_front (Solves h) branches _ s.1) (λ i lt. first i lt) in
+      let given = side_by_side ss (λ p. branch_input d p xs) in
+      let len = length-side_by_side ss (λ p. branch_input d p xs) in
+      let second = solved_branches ss (suc c) (k + (n + n)) k (k + n) h (λ p. branch_input d p xs) ok.1 (each_front (Solves h) branches _ s.1) (λ i lt. first i lt) in
       let last = each_back (Solves h) branches _ s.1 in
       last.0.0 ∙ collect_means ws (lists_of h (queues (k + n) n)) given (subst (IsRound ws) (sym len) ok.2) (joins ws n (k + n) h given ok.2 len second)
 

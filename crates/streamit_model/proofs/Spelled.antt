@@ -12,11 +12,11 @@ use Rattle.river_plan.specs.Forms.{Name}
 use Rattle.streamit_text.specs.Tree.{Expression}
 use Rattle.streamit_text.specs.Tree as tree
 use Rattle.streamit_model.specs.Meaning.{Values, eval, pops}
-use Rattle.streamit_model.specs.Elaborate.{NotConstant, PeekRange, Limit, on_ok, Known, Var, Turn, find, constant_of, constant, named_term}
+use Rattle.streamit_model.specs.Elaborate.{NotConstant, PeekRange, Limit, on_ok, KnownName, Var, Turn, find, constant_of, constant, named_term}
 use Rattle.streamit_model.specs.Elaborate.{peeked}
 use Rattle.streamit_model.specs.Elaborate.{term_of, At, first_term, first_popped}
 use Rattle.streamit_text.specs.Program.{Declared}
-use Rattle.streamit_model.specs.Words.{Word, Uses, Fixes, Varies, Pops, Peeks, over, knows, leaves, enters, exits, IsLocal, IsLoopVariable, IsKnown, popped_in}
+use Rattle.streamit_model.specs.Words.{ReadWord, Uses, Fixes, Varies, Pops, Peeks, over, knows, leaves, enters, exits, IsLocal, IsLoopVariable, IsKnown, popped_in}
 use Rattle.streamit_model.specs.Text.{fixed, fixed_value, spelled, spelled_first}
 use Rattle.streamit_model.specs.Places.{Reads, each_word}
 use Rattle.streamit_model.proofs.Meeting.{FirstIn, Meets, free, first_unknown, first_variable, first_peek, first_limit, finish, last_test, next, weaken}
@@ -33,14 +33,14 @@ natural i n h = cc
 -- WHAT A NAME IS
 
 -- what stands for a slot is the name of a local
-pub local_known : (before : List Word) (n : Name) (o : Option Known) (i : ℕ) (z : ℤ) → o ≡ Some (Var i)
+pub local_known : (before : List ReadWord) (n : Name) (o : Option KnownName) (i : ℕ) (z : ℤ) → o ≡ Some (Var i)
     → NameIs o (over (knows n) before) (over (leaves n) before) (over (enters n) before) (over (exits n) before) z → IsLocal before n × (IsLoopVariable before n → ⊥)
 local_known before n o i z f h =
     let d = subst (λ o. NameIs o (over (knows n) before) (over (leaves n) before) (over (enters n) before) (over (exits n) before) z) f h in
     let a = d.0 in let b = d.1 in (omega (arith, a), λ lt. omega (arith, b, lt))
 
 -- what stands for a turn is the variable of a loop
-pub turn_known : (before : List Word) (n : Name) (o : Option Known) (v : ℕ) (z : ℤ) → o ≡ Some (Turn v)
+pub turn_known : (before : List ReadWord) (n : Name) (o : Option KnownName) (v : ℕ) (z : ℤ) → o ≡ Some (Turn v)
     → NameIs o (over (knows n) before) (over (leaves n) before) (over (enters n) before) (over (exits n) before) z
     → IsLoopVariable before n × (IsLocal before n → ⊥) × (z ≡ pos v)
 turn_known before n o v z f h =
@@ -48,7 +48,7 @@ turn_known before n o v z f h =
     let a = d.0 in let b = d.1 in (omega (arith, b), λ lt. omega (arith, a, lt), d.2)
 
 -- some entry stands for the name
-pub some_known : (before : List Word) (n : Name) (o : Option Known) (b : Known) (z : ℤ) → o ≡ Some b
+pub some_known : (before : List ReadWord) (n : Name) (o : Option KnownName) (b : KnownName) (z : ℤ) → o ≡ Some b
     → NameIs o (over (knows n) before) (over (leaves n) before) (over (enters n) before) (over (exits n) before) z → IsKnown before n
 some_known before n o (Var i) z f h = inl (local_known before n o i z f h).0
 some_known before n o (Turn v) z f h = inr (turn_known before n o v z f h).0
@@ -56,7 +56,7 @@ some_known before n o (Turn v) z f h = inr (turn_known before n o v z f h).0
 module _ (above : List Declared) (e : ℕ) where
   -- NAMES AND LEAVES
 
-  fixes : (before : List Word) (n : Name) (o : Option Known) (z : ℤ) → ((o ≡ None) → IsKnown before n → ⊥)
+  fixes : (before : List ReadWord) (n : Name) (o : Option KnownName) (z : ℤ) → ((o ≡ None) → IsKnown before n → ⊥)
       → NameIs o (over (knows n) before) (over (leaves n) before) (over (enters n) before) (over (exits n) before) z
       → Meets above (Reads e before (Fixes n) ∷ []) (constant_of o) (λ w. z ≡ w)
   fixes before n None z new h = inl (first_unknown above (Reads e before (Fixes n)) (new refl) (λ k. k))
@@ -69,10 +69,10 @@ module _ (above : List Declared) (e : ℕ) where
         t.2,
       )
 
-  varies : (before : List Word) → FirstIn above (Reads e before Varies ∷ []) NotConstant
+  varies : (before : List ReadWord) → FirstIn above (Reads e before Varies ∷ []) NotConstant
   varies before = inl (first_variable above (Reads e before Varies) tt (λ k. k) (λ k. k))
 
-  uses : (before : List Word) (n : Name) (o : Option Known) (z : ℤ) (Q : Term → Type 0) → ((o ≡ None) → IsKnown before n → ⊥)
+  uses : (before : List ReadWord) (n : Name) (o : Option KnownName) (z : ℤ) (Q : Term → Type 0) → ((o ≡ None) → IsKnown before n → ⊥)
       → NameIs o (over (knows n) before) (over (leaves n) before) (over (enters n) before) (over (exits n) before) z → ((u : Term) → Q u)
       → Meets above (Reads e before (Uses n) ∷ []) (named_term o) Q
   uses before n None z Q new h q = inl (first_unknown above (Reads e before (Uses n)) (new refl) (λ k. k))
@@ -85,13 +85,13 @@ module _ (above : List Declared) (e : ℕ) where
 
   -- BOUNDS AND INDEXES
 
-  pub record Fixed (before : List Word) (t : Expression) (s : At) (turns : Values) (z : ℤ) : Type 0 where
+  pub record Fixed (before : List ReadWord) (t : Expression) (s : At) (turns : Values) (z : ℤ) : Type 0 where
     pub stands : Stands (before ++ fixed t) s turns
     pub value : (xs : List ℤ) (k : ℕ) → eval t xs turns k ≡ z
     pub none : pops t ≡ 0
 
   -- judging a bound or an index tells the first fault of its words, or its value
-  pub fixed_met : (t : Expression) (before : List Word) (s : At) (turns : Values) → Stands before s turns
+  pub fixed_met : (t : Expression) (before : List ReadWord) (s : At) (turns : Values) → Stands before s turns
       → Meets above (each_word e before (fixed t)) (constant s.scope t) (Fixed before t s turns)
   fixed_met (tree.Number v) before s turns h =
       (tt, record { stands = regrouped before (before ++ []) s turns (sym (append-nil before)) h; value = λ xs k. refl; none = refl })
@@ -123,10 +123,10 @@ module _ (above : List Declared) (e : ℕ) where
 
   -- PEEKS AND POPS
 
-  abbrev After : List Word → List Word → At → Values → ℕ → Type 0
+  abbrev After : List ReadWord → List ReadWord → At → Values → ℕ → Type 0
   After before ws s turns k = Stands (before ++ ws) (record s { popped = s.popped + k }) turns
 
-  peeks_at : (before : List Word) (i : ℕ) (k : ℕ) (Q : Term → Type 0) → e ≤ 65536 → popped_in before ≡ k → ((u : Term) → Q u)
+  peeks_at : (before : List ReadWord) (i : ℕ) (k : ℕ) (Q : Term → Type 0) → e ≤ 65536 → popped_in before ≡ k → ((u : Term) → Q u)
       → Meets above (Reads e before (Peeks (pos i)) ∷ []) (peeked e k (pos i)) Q
   peeks_at before i k Q small is q =
       let s = Reads e before (Peeks (pos i)) in
@@ -145,7 +145,7 @@ module _ (above : List Declared) (e : ℕ) where
       inl (first_peek above s (pos i) e ((λ h. let n = natural i h.0 h.1 in let m = h.2 in omega (arith, le, is, n, m)), refl, refl) (λ h. h) (λ h. h) (λ h. h)
       (λ h. h)))
 
-  peeks : (before : List Word) (i z : ℤ) (k : ℕ) (Q : Term → Type 0) → i ≡ z → e ≤ 65536 → popped_in before ≡ k → ((u : Term) → Q u)
+  peeks : (before : List ReadWord) (i z : ℤ) (k : ℕ) (Q : Term → Type 0) → i ≡ z → e ≤ 65536 → popped_in before ≡ k → ((u : Term) → Q u)
       → Meets above (Reads e before (Peeks i) ∷ []) (peeked e k z) Q
   peeks before i (pos n) k Q same small is q =
       subst (λ j. Meets above (Reads e before (Peeks j) ∷ []) (peeked e k (pos n)) Q) (sym same) (peeks_at before n k Q small is q)
@@ -154,7 +154,7 @@ module _ (above : List Declared) (e : ℕ) where
       subst (λ j. Meets above (Reads e before (Peeks j) ∷ []) (peeked e k (negsuc n)) Q) (sym same)
       (inl (first_peek above s (negsuc n) e ((λ h. negative h.0 n h.1), refl, refl) (λ h. h) (λ h. h) (λ h. h) (λ h. h)))
 
-  pops_here : (before : List Word) (k : ℕ) (Q : Term → Type 0) → popped_in before ≡ k → ((u : Term) → Q u)
+  pops_here : (before : List ReadWord) (k : ℕ) (Q : Term → Type 0) → popped_in before ≡ k → ((u : Term) → Q u)
       → Meets above (Reads e before Pops ∷ []) (term_of e [] tree.Pop k) Q
   pops_here before k Q is q =
       let s = Reads e before Pops in
@@ -169,7 +169,7 @@ module _ (above : List Declared) (e : ℕ) where
   -- EXPRESSIONS
 
   -- judging an expression tells the first fault of its words, or its term
-  pub spelled_met : (t : Expression) (before : List Word) (s : At) (turns : Values) → e ≤ 65536 → Stands before s turns
+  pub spelled_met : (t : Expression) (before : List ReadWord) (s : At) (turns : Values) → e ≤ 65536 → Stands before s turns
       → Meets above (each_word e before (spelled t turns)) (term_of e s.scope t s.popped) (λ u. After before (spelled t turns) s turns (pops t))
   spelled_met (tree.Number v) before s turns small h = (
     tt,
@@ -216,7 +216,7 @@ module _ (above : List Declared) (e : ℕ) where
       (repopped ((before ++ ls) ++ rs) s turns (k + pops r) (s.popped + (pops l + pops r)) (omega arith) g)))
 
   -- the first value of a local
-  pub first_met : (t : Option Expression) (before : List Word) (s : At) (turns : Values) → e ≤ 65536 → Stands before s turns
+  pub first_met : (t : Option Expression) (before : List ReadWord) (s : At) (turns : Values) → e ≤ 65536 → Stands before s turns
       → Meets above (each_word e before (spelled_first t turns)) (first_term e t s) (λ u. After before (spelled_first t turns) s turns (first_popped t))
   first_met None before s turns small h = (
     tt,

@@ -17,8 +17,8 @@ use Rattle.streamit_text.specs.Program.{WorkTree, FilterTree, Dealing, Copies, T
 use Rattle.streamit_model.specs.Meaning.{push_of, pop_of, peek_of, nought, weights_for, look, branch_count}
 use Rattle.streamit_model.specs.ElaborateFilter.{read_field, read_fields, nothing_read, elaborated_form, judged_rates, kept_rates, elaborated}
 use Rattle.streamit_model.specs.ElaborateFilter.{run_of, read_work, read_prework}
-use Rattle.streamit_model.specs.Judged.{Streamed, found, added, streams_of, any, branches, round_of, splitter_of, stream_of, not_there, unit_of}
-use Rattle.streamit_model.specs.Words.{Word, Declares, Knows, pops_one, pushes_one, pops_beside, pushes_beside, popped_in, pushed_in}
+use Rattle.streamit_model.specs.Judged.{Streamed, found, stream_added, streams_added, any, branches, round_of, splitter_of, stream_of, not_there, unit_of}
+use Rattle.streamit_model.specs.Words.{ReadWord, Declares, Knows, pops_one, pushes_one, pops_beside, pushes_beside, popped_in, pushed_in}
 use Rattle.streamit_model.specs.Text.{all_read, optional_read}
 use Rattle.streamit_model.specs.Places.{Names, Rated, Counts, Branch, Added, Weighs, each_word, fields_read, work_spots, prework_spots, filter_spots, branch_spots, split_spots}
 use Rattle.streamit_model.specs.Places.{body_spots, unit_spots, greatest_said, in_all, body_depth, depth_above, body_operators, operators_above, last_operators}
@@ -39,7 +39,7 @@ one_false false b c h = inl refl
 -- FILTERS
 
 module _ (above : List Declared) where
-  field_met : (n : Name) (before : List Word) (s : At) → Stands before s nought
+  field_met : (n : Name) (before : List ReadWord) (s : At) → Stands before s nought
       → Meets above (each_word 0 before (Declares n ∷ Knows n ∷ [])) (read_field n s)
       (λ t. Stands ((before ++ Declares n ∷ []) ++ Knows n ∷ []) t nought × (t.popped ≡ s.popped) × (t.pushed ≡ s.pushed))
   field_met n before s h =
@@ -47,7 +47,7 @@ module _ (above : List Declared) where
       (λ t. Stands ((before ++ Declares n ∷ []) ++ Knows n ∷ []) t nought × (t.popped ≡ s.popped) × (t.pushed ≡ s.pushed)) refl h
       (λ new g. ((knows_free above 0 (before ++ Declares n ∷ []) n, tt), (with_local (before ++ Declares n ∷ []) s nought n new g, refl, refl)))
 
-  fields_met : (ns : List Name) (before : List Word) (s : At) → Stands before s nought
+  fields_met : (ns : List Name) (before : List ReadWord) (s : At) → Stands before s nought
       → Meets above (each_word 0 before (fields_read ns)) (read_fields ns s)
       (λ t. Stands (before ++ fields_read ns) t nought × (t.popped ≡ s.popped) × (t.pushed ≡ s.pushed))
   fields_met [] before s h = (tt, (regrouped before (before ++ []) s nought (sym (append-nil before)) h, refl, refl))
@@ -105,7 +105,7 @@ module _ (above : List Declared) where
       (λ f. inl (first_rates above spot d k ((λ h. eqb-false k d f (omega (arith, h, same))), refl, sym same) (λ h. h) (λ h. h) (λ h. h) (λ h. h) (λ i r h. h)
       (λ h. h)))
 
-  counts_met : (push pop : ℕ) (work : List Word) (s : At) → popped_in work ≡ s.popped → pushed_in work ≡ s.pushed
+  counts_met : (push pop : ℕ) (work : List ReadWord) (s : At) → popped_in work ≡ s.popped → pushed_in work ≡ s.pushed
       → Meets above (Counts pop (popped_in work) ∷ Counts push (pushed_in work) ∷ []) (kept_rates push pop s) (λ u. Unit {0})
   counts_met push pop work s a b =
       chain above (Counts pop (popped_in work) ∷ []) (Counts push (pushed_in work) ∷ []) (demand (nat_eq s.popped pop) (Rates pop s.popped))
@@ -113,13 +113,13 @@ module _ (above : List Declared) where
       (λ u t. count_met push (pushed_in work) s.pushed b)
 
   -- what a block pops, behind fields that pop nothing
-  work_pops : (fields work : List Word) (s w : At) → Stands fields s nought → s.popped ≡ 0 → Stands (fields ++ work) w nought → popped_in work ≡ w.popped
+  work_pops : (fields work : List ReadWord) (s w : At) → Stands fields s nought → s.popped ≡ 0 → Stands (fields ++ work) w nought → popped_in work ≡ w.popped
   work_pops fields work s w h z g =
       let a = h.counts.pops_are in let b = g.counts.pops_are in
       let c = over-append pops_one fields work in let d = over-append pops_beside fields work in
       omega (arith, a, b, c, d, z)
 
-  work_pushes : (fields work : List Word) (s w : At) → Stands fields s nought → s.pushed ≡ 0 → Stands (fields ++ work) w nought → pushed_in work ≡ w.pushed
+  work_pushes : (fields work : List ReadWord) (s w : At) → Stands fields s nought → s.pushed ≡ 0 → Stands (fields ++ work) w nought → pushed_in work ≡ w.pushed
   work_pushes fields work s w h z g =
       let a = h.counts.pushes_are in let b = g.counts.pushes_are in
       let c = over-append pushes_one fields work in let d = over-append pushes_beside fields work in
@@ -132,11 +132,11 @@ module _ (above : List Declared) where
   }
 
   -- what is known behind the fields, at which nothing is popped or pushed
-  abbrev BehindFields : List Word → At → Type 0
+  abbrev BehindFields : List ReadWord → At → Type 0
   BehindFields fields s = Stands fields s nought × (s.popped ≡ 0) × (s.pushed ≡ 0)
 
   -- `prework` or `work`
-  work_met : (least : ℕ) (fields : List Word) (w : WorkTree) (s : At) → BehindFields fields s
+  work_met : (least : ℕ) (fields : List ReadWord) (w : WorkTree) (s : At) → BehindFields fields s
       → Meets above (work_spots least fields w) (read_work least w s) (λ r. Unit {0})
   work_met least fields w s h =
       let push = push_of w in let pop = pop_of w in let peek = peek_of w in
@@ -150,7 +150,7 @@ module _ (above : List Declared) where
       (λ r g. finish above ends (kept_rates push pop r.1) (λ v. run_of w r) (λ u. Unit {0}) (λ r. Unit {0})
       (counts_met push pop block r.1 (work_pops fields block s r.1 h.0 h.1 g.stands) (work_pushes fields block s r.1 h.0 h.2 g.stands)) (λ v x. tt)))
 
-  prework_met : (fields : List Word) (o : Option WorkTree) (s : At) → BehindFields fields s
+  prework_met : (fields : List ReadWord) (o : Option WorkTree) (s : At) → BehindFields fields s
       → Meets above (prework_spots fields o) (read_prework o s) (λ p. Unit {0})
   prework_met fields None s h = (tt, tt)
   prework_met fields (Some w) s h =
@@ -248,11 +248,11 @@ module _ (above : List Declared) (known : Streamed) (k : KnowsAbove above known)
       (λ f. let le = ltb-false (nesting s) 64 f in inl (first_limit above spot (omega (arith, le, deep)) (λ h. h) (λ h. h there) (λ h. h) (λ h. h) (λ i r h. h)))
 
   -- added to a pipeline
-  any_added : (i : ℕ) (n : Name) → Meets above (Added n ∷ []) (added any known i n) (IsAs n)
+  any_added : (i : ℕ) (n : Name) → Meets above (Added n ∷ []) (stream_added any known i n) (IsAs n)
   any_added i n = added_by n (look known n) (k.each n)
 
   -- added to a split-join
-  branch_added : (i : ℕ) (n : Name) → Meets above (Branch i ∷ Added n ∷ []) (added branches known i n) (IsAs n)
+  branch_added : (i : ℕ) (n : Name) → Meets above (Branch i ∷ Added n ∷ []) (stream_added branches known i n) (IsAs n)
   branch_added i n =
       let spot = Branch i in
       test above (spot ∷ Added n ∷ []) (nat_lt i 64) tt Limit (λ u. on_ok (found (look known n))
@@ -272,21 +272,21 @@ module _ (above : List Declared) (known : Streamed) (k : KnowsAbove above known)
       let p = a.1 in let q = b.1 in
       (ap (λ x. max x (deepest ss)) a.0 ∙ ap (max (depth_above above n)) b.0, omega (arith, p, q))
 
-  line_met : (n : Name) (ms : List Name) (i : ℕ) → Meets above (map Added (n ∷ ms)) (streams_of any known i n ms) (AreAs n ms)
-  line_met n [] i = finish above (Added n ∷ []) (added any known i n) Last (IsAs n) (AreAs n []) (any_added i n) (λ s h. h)
+  line_met : (n : Name) (ms : List Name) (i : ℕ) → Meets above (map Added (n ∷ ms)) (streams_added any known i n ms) (AreAs n ms)
+  line_met n [] i = finish above (Added n ∷ []) (stream_added any known i n) Last (IsAs n) (AreAs n []) (any_added i n) (λ s h. h)
   line_met n (m ∷ ms) i =
-      chain above (Added n ∷ []) (map Added (m ∷ ms)) (added any known i n) (λ s. on_ok (streams_of any known (suc i) m ms) (λ ss. Ok (Then s ss))) (IsAs n)
+      chain above (Added n ∷ []) (map Added (m ∷ ms)) (stream_added any known i n) (λ s. on_ok (streams_added any known (suc i) m ms) (λ ss. Ok (Then s ss))) (IsAs n)
       (AreAs n (m ∷ ms)) (any_added i n)
-      (λ s h. finish above (map Added (m ∷ ms)) (streams_of any known (suc i) m ms) (Then s) (AreAs m ms) (AreAs n (m ∷ ms)) (line_met m ms (suc i))
+      (λ s h. finish above (map Added (m ∷ ms)) (streams_added any known (suc i) m ms) (Then s) (AreAs m ms) (AreAs n (m ∷ ms)) (line_met m ms (suc i))
       (λ ss g. both_as n m ms s ss h g))
 
-  branches_met : (n : Name) (ms : List Name) (i : ℕ) → Meets above (branch_spots i (n ∷ ms)) (streams_of branches known i n ms) (AreAs n ms)
-  branches_met n [] i = finish above (Branch i ∷ Added n ∷ []) (added branches known i n) Last (IsAs n) (AreAs n []) (branch_added i n) (λ s h. h)
+  branches_met : (n : Name) (ms : List Name) (i : ℕ) → Meets above (branch_spots i (n ∷ ms)) (streams_added branches known i n ms) (AreAs n ms)
+  branches_met n [] i = finish above (Branch i ∷ Added n ∷ []) (stream_added branches known i n) Last (IsAs n) (AreAs n []) (branch_added i n) (λ s h. h)
   branches_met n (m ∷ ms) i =
-      chain above (Branch i ∷ Added n ∷ []) (branch_spots (suc i) (m ∷ ms)) (added branches known i n)
-      (λ s. on_ok (streams_of branches known (suc i) m ms) (λ ss. Ok (Then s ss)))
+      chain above (Branch i ∷ Added n ∷ []) (branch_spots (suc i) (m ∷ ms)) (stream_added branches known i n)
+      (λ s. on_ok (streams_added branches known (suc i) m ms) (λ ss. Ok (Then s ss)))
       (IsAs n) (AreAs n (m ∷ ms)) (branch_added i n)
-      (λ s h. finish above (branch_spots (suc i) (m ∷ ms)) (streams_of branches known (suc i) m ms) (Then s) (AreAs m ms) (AreAs n (m ∷ ms))
+      (λ s h. finish above (branch_spots (suc i) (m ∷ ms)) (streams_added branches known (suc i) m ms) (Then s) (AreAs m ms) (AreAs n (m ∷ ms))
       (branches_met m ms (suc i)) (λ ss g. both_as n m ms s ss h g))
 
   -- WEIGHTS
@@ -333,7 +333,7 @@ module _ (above : List Declared) (known : Streamed) (k : KnowsAbove above known)
   body_met name (AFilter t) =
       finish above (filter_spots t) (elaborated t) (Filter name) (λ f. Unit {0}) (IsBodyAs above (AFilter t)) (filter_met above t) (λ f h. (refl, refl))
   body_met name (APipeline a) =
-      finish above (map Added (a.first ∷ a.others)) (streams_of any known 0 a.first a.others) Pipeline (AreAs a.first a.others) (IsBodyAs above (APipeline a))
+      finish above (map Added (a.first ∷ a.others)) (streams_added any known 0 a.first a.others) Pipeline (AreAs a.first a.others) (IsBodyAs above (APipeline a))
       (line_met a.first a.others 0)
       (λ ss h. (ap suc h.0, h.1))
   body_met name (ASplitJoin d a ws) =
@@ -341,8 +341,8 @@ module _ (above : List Declared) (known : Streamed) (k : KnowsAbove above known)
       let bs = branch_spots 0 (a.first ∷ a.others) in
       let Q = IsBodyAs above (ASplitJoin d a ws) in
       chain above (split_spots d n) (bs ++ Weighs ws n ∷ []) (splitter_of d n)
-      (λ p. on_ok (streams_of branches known 0 a.first a.others) (λ ss. on_ok (round_of ws n) (λ vs. Ok (SplitJoin p ss vs)))) (λ p. Unit {0}) Q (split_met d n)
-      (λ p u. chain above bs (Weighs ws n ∷ []) (streams_of branches known 0 a.first a.others) (λ ss. on_ok (round_of ws n) (λ vs. Ok (SplitJoin p ss vs)))
+      (λ p. on_ok (streams_added branches known 0 a.first a.others) (λ ss. on_ok (round_of ws n) (λ vs. Ok (SplitJoin p ss vs)))) (λ p. Unit {0}) Q (split_met d n)
+      (λ p u. chain above bs (Weighs ws n ∷ []) (streams_added branches known 0 a.first a.others) (λ ss. on_ok (round_of ws n) (λ vs. Ok (SplitJoin p ss vs)))
       (AreAs a.first a.others) Q
       (branches_met a.first a.others 0)
       (λ ss h. finish above (Weighs ws n ∷ []) (round_of ws n) (λ vs. SplitJoin p ss vs) (λ vs. Unit {0}) Q (weights_met ws n)

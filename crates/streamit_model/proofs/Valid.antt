@@ -11,7 +11,7 @@ use Rattle.river_kernels.specs.declared.types.VarKind.TheVariants.{Private, Tabl
 use Rattle.river_plan.specs.Forms.{Name, OpForm, decl_names, queue_names, all_decls}
 use Rattle.river_plan.specs.Names.{one_if, count}
 use Rattle.river_plan.specs.Uses.{Each, total, reads_it, writes_it, vars_it, named_it, all_writes, all_vars}
-use Rattle.river_plan.specs.Faults.{IsOuter, HasWidth, IsTable}
+use Rattle.river_plan.specs.Faults.{IsOuter, HasWidth, IsTableKind}
 use Rattle.river_plan.specs.Kinds.{kind_in, kind_of, private_in, var_kind}
 use Rattle.river_plan.specs.Limits.{most_of, numbers}
 use Rattle.river_plan.specs.Valid.{IsPlan}
@@ -196,7 +196,7 @@ module _ (s : Stream) (ok : IsStream s) (small : IsSmall s) (few : ops_in s ≤ 
     outputs_typed = All-cons IsOuter (values_in (codes "out")) [] (refl, tt) (All-nil IsOuter);
     inputs_typed = All-cons IsOuter (values_in (codes "in")) [] (refl, tt) (All-nil IsOuter);
     queues_typed = widths ours;
-    tables_typed = All-nil (λ t. IsTable t.kind);
+    tables_typed = All-nil (λ t. IsTableKind t.kind);
     fits = all_fit (kind_of (all_decls (plan_of s))) (var_kind [] (all_vars ops)) ops (each_op IsFitting fits_each s 1 1 (codes "in") (codes "out") ok small)
         (λ q lt. kind_known all q (let r = read q in omega (arith, r, lt)))
         (λ q lt. kind_known all q (let w = written q in omega (arith, w, lt)))

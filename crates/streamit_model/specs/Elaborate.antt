@@ -37,20 +37,20 @@ abbrev pub demand : Bool → Fault → Result (Unit {0}) Fault
 demand b e = if b then Ok tt else Err e
 
 -- a name that is known stands for a slot, or is the variable of a loop in its turn
-pub data Known : Type 0 where
-  Var : ℕ → Known
-  Turn : ℕ → Known
+pub data KnownName : Type 0 where
+  Var : ℕ → KnownName
+  Turn : ℕ → KnownName
 
 abbrev pub Scope : Type 0
-Scope = List (Name × Known)
+Scope = List (Name × KnownName)
 
-abbrev pub find : Scope → Name → Option Known
+abbrev pub find : Scope → Name → Option KnownName
 find [] n = None
 find (e ∷ es) n = if name_eq e.0 n then Some e.1 else find es n
 
 -- CONSTANTS
 
-abbrev pub constant_of : Option Known → Result ℤ Fault
+abbrev pub constant_of : Option KnownName → Result ℤ Fault
 constant_of None = Err UnknownName
 constant_of (Some (Var i)) = Err NotConstant
 constant_of (Some (Turn v)) = Ok (pos v)
@@ -66,7 +66,7 @@ constant sc (tree.Bin o l r) = on_ok (constant sc l) (λ a. on_ok (constant sc r
 
 -- EXPRESSIONS: `e` is the peek rate, and k pops come before
 
-abbrev pub named_term : Option Known → Result Term Fault
+abbrev pub named_term : Option KnownName → Result Term Fault
 named_term None = Err UnknownName
 named_term (Some (Var i)) = Ok (term.Slot i)
 named_term (Some (Turn v)) = Ok (term.Const (pos v))
@@ -102,12 +102,12 @@ counted s = if nat_lt s.size 16384 then Ok (record s { size = s.size + 1 }) else
 abbrev pub has_slot : At → Result (Unit {0}) Fault
 has_slot s = demand (nat_lt s.slots 256) Limit
 
-abbrev pub is_new : Option Known → Result (Unit {0}) Fault
+abbrev pub is_new : Option KnownName → Result (Unit {0}) Fault
 is_new None = Ok tt
 is_new (Some b) = Err NameTwice
 
 -- the slot that an assignment sets
-abbrev pub slot_of : Option Known → Result ℕ Fault
+abbrev pub slot_of : Option KnownName → Result ℕ Fault
 slot_of None = Err UnknownName
 slot_of (Some (Var i)) = Ok i
 slot_of (Some (Turn v)) = Err NotConstant

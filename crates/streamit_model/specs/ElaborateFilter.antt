@@ -1,6 +1,6 @@
 -- The filter of a plan for a filter as it is written, or the first fault in reading order.
 use Rattle.std.specs.Prelude.{ℕ, ℤ, pos, ◌+◌, ◌&&◌, List, [], ◌∷◌, length, replicate, max, Option, Some, None, Result, Ok, nat_le, nat_eq}
-use Rattle.work_code.specs.Steps.{Steps, Body}
+use Rattle.work_code.specs.Steps.{Steps, BodyForm}
 use Rattle.kern_rows.specs.Runs.{run_kept}
 use Rattle.kern_rows.specs.Forms.{FilterForm, RunForm}
 use Rattle.river_plan.specs.Forms.{Name}
@@ -55,21 +55,21 @@ abbrev pub slots_for : Option RunForm → ℕ → ℕ
 slots_for None n = n
 slots_for (Some r) n = max r.body.slots n
 
-abbrev pub with_slots : ℕ → Body → Body
+abbrev pub with_slots : ℕ → BodyForm → BodyForm
 with_slots n b = record { inputs = b.inputs; slots = n; steps = b.steps }
 
 abbrev pub widened : ℕ → RunForm → RunForm
 widened n r = record { peek = r.peek; pop = r.pop; push = r.push; body = with_slots n r.body }
 
-abbrev pub first_with : ℕ → Option RunForm → Option RunForm
-first_with n None = None
-first_with n (Some r) = Some (widened n r)
+abbrev pub widened_first : ℕ → Option RunForm → Option RunForm
+widened_first n None = None
+widened_first n (Some r) = Some (widened n r)
 
 -- what is read of `prework` and `work`, put together
 abbrev pub form_of_runs : List ℤ → Option RunForm → RunForm → FilterForm
 form_of_runs starts p w =
     let n = slots_for p w.body.slots in
-    record { peek = w.peek; pop = w.pop; push = w.push; body = with_slots n w.body; starts = starts; first = first_with n p }
+    record { peek = w.peek; pop = w.pop; push = w.push; body = with_slots n w.body; starts = starts; first = widened_first n p }
 
 -- the fields start as the statements of `init` leave them
 abbrev pub elaborated_form : FilterTree → Steps × At → Option RunForm → RunForm → FilterForm

@@ -11,9 +11,9 @@ TakesPlace t n zero = max (peek_of (runs_in t 0)) 1 ≤ n
 TakesPlace t n (suc j) = (max (peek_of (runs_in t 0)) 1 ≤ n) × (pop_of (runs_in t 0) + j * pop_of t.work + peek_of t.work ≤ n)
 
 -- item i of those that firing j looks at is the item at this place
-abbrev pub place_in : FilterTree → ℕ → ℕ → ℕ
-place_in t zero i = i
-place_in t (suc j) i = pop_of (runs_in t 0) + j * pop_of t.work + i
+abbrev pub place_looked_at : FilterTree → ℕ → ℕ → ℕ
+place_looked_at t zero i = i
+place_looked_at t (suc j) i = pop_of (runs_in t 0) + j * pop_of t.work + i
 
 -- the fields before firing j: as `init` leaves them, and then as each firing leaves them
 abbrev pub fields_before : FilterTree → List ℤ → ℕ → List ℤ
@@ -28,5 +28,5 @@ first_pushes t xs (suc m) = first_pushes t xs m ++ (fires t m (fields_before t x
 -- m firings are all that take place; each looks at the items at its places; and the filter gives what they push
 pub record IsFired (t : FilterTree) (xs : List ℤ) (m : ℕ) : Type 0 where
   pub which : (j : ℕ) → (j < m) ↔ TakesPlace t (length xs) j
-  pub looks : (j i : ℕ) → i < peek_of (runs_in t j) → slice_get (looked_at t j xs) i ≡ slice_get xs (place_in t j i)
+  pub looks : (j i : ℕ) → i < peek_of (runs_in t j) → slice_get (looked_at t j xs) i ≡ slice_get xs (place_looked_at t j i)
   pub pushes : pushed_by t xs ≡ first_pushes t xs m

@@ -34,12 +34,12 @@ found None = Err UnknownName
 found (Some s) = Ok s
 
 -- the stream that is added as number i, from 0: whether there may be so many, then its name, then how deep it is nested
-abbrev pub added : (ℕ → Bool) → Streamed → ℕ → Name → Result Stream Fault
-added may known i n = on_ok (demand (may i) Limit) (λ u. on_ok (found (look known n)) (λ s. on_ok (demand (nat_lt (nesting s) 64) Limit) (λ v. Ok s)))
+abbrev pub stream_added : (ℕ → Bool) → Streamed → ℕ → Name → Result Stream Fault
+stream_added may known i n = on_ok (demand (may i) Limit) (λ u. on_ok (found (look known n)) (λ s. on_ok (demand (nat_lt (nesting s) 64) Limit) (λ v. Ok s)))
 
-abbrev pub streams_of : (ℕ → Bool) → Streamed → ℕ → Name → List Name → Result Streams Fault
-streams_of may known i n [] = on_ok (added may known i n) (λ s. Ok (Last s))
-streams_of may known i n (m ∷ ms) = on_ok (added may known i n) (λ s. on_ok (streams_of may known (suc i) m ms) (λ ss. Ok (Then s ss)))
+abbrev pub streams_added : (ℕ → Bool) → Streamed → ℕ → Name → List Name → Result Streams Fault
+streams_added may known i n [] = on_ok (stream_added may known i n) (λ s. Ok (Last s))
+streams_added may known i n (m ∷ ms) = on_ok (stream_added may known i n) (λ s. on_ok (streams_added may known (suc i) m ms) (λ ss. Ok (Then s ss)))
 
 -- a pipeline may have any number of streams, a split-join 64 branches
 abbrev pub any : ℕ → Bool
@@ -63,10 +63,10 @@ splitter_of (Turns ws) n = on_ok (round_of ws n) (λ vs. Ok (RoundRobin vs))
 -- a split-join is read in the order in which it is written: the splitter, the branches, the joiner
 abbrev pub stream_of : Streamed → Name → Body → Result Stream Fault
 stream_of known name (AFilter t) = on_ok (elaborated t) (λ f. Ok (Filter name f))
-stream_of known name (APipeline a) = on_ok (streams_of any known 0 a.first a.others) (λ ss. Ok (Pipeline ss))
+stream_of known name (APipeline a) = on_ok (streams_added any known 0 a.first a.others) (λ ss. Ok (Pipeline ss))
 stream_of known name (ASplitJoin d a ws) =
     on_ok (splitter_of d (branch_count a)) (λ p.
-    on_ok (streams_of branches known 0 a.first a.others) (λ ss.
+    on_ok (streams_added branches known 0 a.first a.others) (λ ss.
     on_ok (round_of ws (branch_count a)) (λ vs. Ok (SplitJoin p ss vs))))
 
 abbrev pub not_there : Option Stream → Result (Unit {0}) Fault

@@ -188,18 +188,18 @@ abbrev pub or_same : Option Works → Works
 or_same None xs = xs
 or_same (Some f) xs = f xs
 
-abbrev pub work_of : List (Name × Works) → Name → Works
-work_of env n = or_same (look env n)
+abbrev pub known_works : List (Name × Works) → Name → Works
+known_works env n = or_same (look env n)
 
 -- one stream after another
 abbrev pub piped : List (Name × Works) → Name → List Name → Works
-piped env n [] xs = work_of env n xs
-piped env n (m ∷ ms) xs = piped env m ms (work_of env n xs)
+piped env n [] xs = known_works env n xs
+piped env n (m ∷ ms) xs = piped env m ms (known_works env n xs)
 
 -- branch by branch, branch p on what f gives it
 abbrev pub branched : List (Name × Works) → Name → List Name → (ℕ → List ℤ) → List (List ℤ)
-branched env n [] f = work_of env n (f 0) ∷ []
-branched env n (m ∷ ms) f = work_of env n (f 0) ∷ branched env m ms (λ p. f (suc p))
+branched env n [] f = known_works env n (f 0) ∷ []
+branched env n (m ∷ ms) f = known_works env n (f 0) ∷ branched env m ms (λ p. f (suc p))
 
 abbrev pub branch_count : Adds → ℕ
 branch_count a = suc (length a.others)

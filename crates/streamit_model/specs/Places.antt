@@ -4,7 +4,7 @@ use Rattle.river_base.specs.Name.{name_eq}
 use Rattle.river_plan.specs.Forms.{Name}
 use Rattle.streamit_text.specs.Program.{WorkTree, FilterTree, Dealing, Copies, Turns, Body, AFilter, APipeline, ASplitJoin, Declared, Program}
 use Rattle.streamit_model.specs.Meaning.{push_of, pop_of, peek_of, nought, branch_count}
-use Rattle.streamit_model.specs.Words.{Word, Declares, Knows, popped_in, pushed_in}
+use Rattle.streamit_model.specs.Words.{ReadWord, Declares, Knows, popped_in, pushed_in}
 use Rattle.streamit_model.specs.Text.{all_read, optional_read}
 
 -- what stands at a place
@@ -12,7 +12,7 @@ pub data Spot : Type 0 where
   -- the name of the stream that is declared
   Names : Name → Spot
   -- a word of a filter where this is the rate of `peek`, and the words before it
-  Reads : ℕ → List Word → Word → Spot
+  Reads : ℕ → List ReadWord → ReadWord → Spot
   -- the least number of pops, and the rates of pushes, pops and looks
   Rated : ℕ → ℕ → ℕ → ℕ → Spot
   -- the end of `prework` or `work`: a rate as it is declared, and as it is counted
@@ -35,26 +35,26 @@ pub record Place : Type 0 where
 -- WORDS
 
 -- the fields, each of which is known from its declaration on
-abbrev pub fields_read : List Name → List Word
+abbrev pub fields_read : List Name → List ReadWord
 fields_read [] = []
 fields_read (n ∷ ns) = Declares n ∷ Knows n ∷ fields_read ns
 
 -- word for word, where these stand before
-abbrev pub each_word : ℕ → List Word → List Word → List Spot
+abbrev pub each_word : ℕ → List ReadWord → List ReadWord → List Spot
 each_word peek before [] = []
 each_word peek before (w ∷ ws) = Reads peek before w ∷ each_word peek (before ++ w ∷ []) ws
 
 -- UNITS
 
 -- `prework` or `work`, which pops so many items at least: its rates, its block, whose locals come behind the fields, and its end
-abbrev pub work_spots : ℕ → List Word → WorkTree → List Spot
+abbrev pub work_spots : ℕ → List ReadWord → WorkTree → List Spot
 work_spots least fields w =
     let block = all_read w.block nought in
     Rated least (push_of w) (pop_of w) (peek_of w)
     ∷ (each_word (peek_of w) fields block ++ Counts (pop_of w) (popped_in block) ∷ Counts (push_of w) (pushed_in block) ∷ [])
 
 -- `prework` may pop nothing
-abbrev pub prework_spots : List Word → Option WorkTree → List Spot
+abbrev pub prework_spots : List ReadWord → Option WorkTree → List Spot
 prework_spots fields None = []
 prework_spots fields (Some w) = work_spots 0 fields w
 
@@ -86,13 +86,13 @@ unit_spots u = Names u.name ∷ body_spots u.body
 
 -- THE PROGRAM
 
-abbrev pub place : ℕ → List Declared → Spot → Place
-place k above s = record { unit = k; above = above; spot = s }
+abbrev pub place_of_spot : ℕ → List Declared → Spot → Place
+place_of_spot k above s = record { unit = k; above = above; spot = s }
 
 -- the units behind the first k; the end of the program counts for the last
 abbrev pub places_behind : ℕ → List Declared → Program → List Place
-places_behind k above [] = place k above Finishes ∷ []
-places_behind k above (u ∷ us) = map (place (suc k) above) (unit_spots u) ++ places_behind (suc k) (u ∷ above) us
+places_behind k above [] = place_of_spot k above Finishes ∷ []
+places_behind k above (u ∷ us) = map (place_of_spot (suc k) above) (unit_spots u) ++ places_behind (suc k) (u ∷ above) us
 
 abbrev pub places_of : Program → List Place
 places_of p = places_behind 0 [] p

@@ -5,15 +5,15 @@ use Rattle.brooklet_model.specs.ByIndex.{dealt, collected}
 use Rattle.streamit_model.specs.UnrolledFilters.{filtered}
 
 -- what branch p takes
-abbrev pub split : Splitter → ℕ → List ℤ → List ℤ
-split Duplicate p xs = xs
-split (RoundRobin ws) p xs = dealt ws p xs
+abbrev pub branch_input : Splitter → ℕ → List ℤ → List ℤ
+branch_input Duplicate p xs = xs
+branch_input (RoundRobin ws) p xs = dealt ws p xs
 
 abbrev mutual
   pub outputs : Stream → List ℤ → List ℤ
   outputs (Filter name f) xs = filtered f xs
   outputs (Pipeline ss) xs = in_line ss xs
-  outputs (SplitJoin d ss ws) xs = collected ws (side_by_side ss (λ p. split d p xs))
+  outputs (SplitJoin d ss ws) xs = collected ws (side_by_side ss (λ p. branch_input d p xs))
 
   -- one after another
   pub in_line : Streams → List ℤ → List ℤ

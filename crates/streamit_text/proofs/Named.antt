@@ -10,7 +10,7 @@ use Rattle.work_code.specs.Lexis.{first_is}
 use Rattle.work_code.specs.Tok.{Tok, name, var, number, symbol, Mark}
 use Rattle.work_code.proofs.Slices.{tokens_are_slices}
 use Rattle.streamit_text.specs.Words.{is_plain, is_own}
-use Rattle.streamit_text.specs.Laws.{IsOwn, AreOwn, NamesAreNames}
+use Rattle.streamit_text.specs.Laws.{IsOwn, AreOwnMarks, NamesAreNames}
 use Rattle.streamit_text.proofs.Adding.{plain-short}
 
 -- a word of at most 64 bytes is a name
@@ -34,7 +34,7 @@ token-own (var w) bytes h = tt
 token-own (number v) bytes h = tt
 token-own (symbol x) bytes h = tt
 
-spans-own : (text : List ℕ) (ms : List Mark) → AllSpans text ms → AreOwn ms
+spans-own : (text : List ℕ) (ms : List Mark) → AllSpans text ms → AreOwnMarks ms
 spans-own text [] h = tt
 spans-own text (m ∷ ms) h = (token-own m.tok _ h.0.written, spans-own text ms h.1)
 

@@ -59,7 +59,7 @@ listed-fields = record {
   follows = λ v ts rest h. tt;
 }
 
-exact-fields : Exact (form.Each IsField) fields_at (λ rest. no_field rest ≡ true)
+exact-fields : Exact (form.Many IsField) fields_at (λ rest. no_field rest ≡ true)
 unfolding fields_at
 exact-fields = exact-less (exact-many no_field exact-field listed-fields) (λ rest d. (tt, d))
 

@@ -4,7 +4,7 @@ use Rattle.std.specs.Prelude.{ℕ, Bool, true, false, List, [], ◌∷◌, Optio
 use Rattle.std.specs.Str.{bytes_eq}
 use Rattle.work_code.specs.Tok.{Tok}
 use Rattle.work_code.specs.declared.sign.Symbol.TheVariants as s
-use Rattle.text_forms.specs.Forms.{Name, Nothing, Never, Both, After, Before, AfterWord, Tested, Seen, Merged, Choose, Headed}
+use Rattle.text_forms.specs.Forms.{NameToken, Nothing, Never, Both, After, Before, AfterWord, Tested, Seen, Merged, Choose, Headed}
 use Rattle.text_forms.specs.Parse.{Parse, begins_with, name_at, nothing_at, both, after, before, after_word, tested, seen, merged, headed}
 use Rattle.text_blocks.specs.Statements.{Style, Holes}
 use Rattle.text_blocks.specs.Parts.{Round, Ended, FirstValue, round_at, ended_at, first_value_at}
@@ -14,7 +14,7 @@ use Rattle.streamit_text.specs.Tree.{Expression, Statement, Declare, Assign, Pus
 use Rattle.streamit_text.specs.Words.{is_own}
 
 abbrev pub Own : List ℕ → List Tok → Type 0
-Own = Tested is_own Name
+Own = Tested is_own NameToken
 
 unfoldable pub own_at : Parse (List ℕ)
 own_at ts = tested is_own name_at ts

@@ -17,14 +17,14 @@ use Rattle.streamit_text.specs.Tree.{Expression, Number, Name, Pop, depth_of}
 use Rattle.streamit_text.specs.declared.term.Sign.{Sign}
 use Rattle.streamit_text.specs.Words.{is_plain, is_own}
 
-abbrev pub IsPop : ℕ → Expression → List Tok → Type 0
-IsPop n = form.Enclosed s.Open s.Close (λ m. form.Nothing Pop) n
+abbrev pub IsPopLeaf : ℕ → Expression → List Tok → Type 0
+IsPopLeaf n = form.Enclosed s.Open s.Close (λ m. form.Nothing Pop) n
 
-pub exact-pop : (n : ℕ) → Exact (IsPop n) (pop_at n) Any
+pub exact-pop : (n : ℕ) → Exact (IsPopLeaf n) (pop_at n) Any
 unfolding pop_at
 exact-pop n = exact-enclosed s.Open s.Close (λ m. exact-nothing Pop) (λ rest. tt) n
 
-pop-leaf : (n : ℕ) (t : Expression) (text : List ℕ) (ts : List Tok) → text ≡ codes "pop" → IsPop n t ts → IsLeaf n t (name text ∷ ts)
+pop-leaf : (n : ℕ) (t : Expression) (text : List ℕ) (ts : List Tok) → text ≡ codes "pop" → IsPopLeaf n t ts → IsLeaf n t (name text ∷ ts)
 pop-leaf zero t text ts is h = absurd h
 pop-leaf (suc n) t text ts is h =
     let tokens : ts ≡ symbol s.Open ∷ symbol s.Close ∷ [] =

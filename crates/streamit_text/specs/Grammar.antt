@@ -9,7 +9,7 @@ use Rattle.work_code.specs.Tok.{Tok, Mark, toks}
 use Rattle.work_code.specs.declared.sign.Symbol.TheVariants as s
 use Rattle.text_forms.specs.Parse.{is_value}
 use Rattle.text_forms.specs.Texts.{AllFormed}
-use Rattle.text_forms.specs.Forms.{Count, Number, Never, Both, After, Before, AfterWord, Tested, Seen, Known, Maybe, Each, Listing, Choose, Headed, Enclosed}
+use Rattle.text_forms.specs.Forms.{Count, Number, Never, Both, After, Before, AfterWord, Tested, Seen, Known, Maybe, Many, Listing, Choose, Headed, Enclosed}
 use Rattle.text_blocks.specs.Parts.{Round}
 use Rattle.text_blocks.specs.Statements as statements
 use Rattle.streamit_text.specs.Blocks.{Own, Empty, style, holes}
@@ -109,7 +109,7 @@ rates_in r [] = Some r
 rates_in r (x ∷ xs) = on_some (with_rate r x) (λ q. rates_in q xs)
 
 abbrev pub AreRates : Rates → List Tok → Type 0
-AreRates = Known (rates_in unwritten) (Each IsRate)
+AreRates = Known (rates_in unwritten) (Many IsRate)
 
 -- rates block
 abbrev pub made_work : Rates × Block → WorkTree
@@ -130,7 +130,7 @@ abbrev pub made_filter : List (List ℕ) × (Optional × (Option WorkTree × Wor
 made_filter v = record { fields = v.0; init = v.1.0; prework = v.1.1.0; work = v.1.1.1 }
 
 abbrev pub InFilter : ℕ → FilterTree → List Tok → Type 0
-InFilter n = Seen made_filter (Both (Each IsField) (Both (IsInit n) (AreWorks n)))
+InFilter n = Seen made_filter (Both (Many IsField) (Both (IsInit n) (AreWorks n)))
 
 abbrev pub Braces : {A : Type 0} → (ℕ → A → List Tok → Type 0) → ℕ → A → List Tok → Type 0
 Braces F = Enclosed s.OpenBrace s.CloseBrace F
@@ -158,7 +158,7 @@ abbrev pub made_adds : List ℕ × List (List ℕ) → Adds
 made_adds v = record { first = v.0; others = v.1 }
 
 abbrev pub AreAdds : ℕ → Adds → List Tok → Type 0
-AreAdds n = Seen made_adds (Both (IsAdd n) (Each (IsAdd n)))
+AreAdds n = Seen made_adds (Both (IsAdd n) (Many (IsAdd n)))
 
 -- rr = "roundrobin" [ "(" [ N {"," N} ] ")" ]
 abbrev pub Weights : ℕ → Option (List ℕ) → List Tok → Type 0

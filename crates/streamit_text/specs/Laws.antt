@@ -33,13 +33,13 @@ IsOwn (var text) = Unit {0}
 IsOwn (number value) = Unit {0}
 IsOwn (symbol sign) = Unit {0}
 
-abbrev pub AreOwn : List Mark → Type 0
-AreOwn [] = Unit {0}
-AreOwn (m ∷ ms) = IsOwn m.tok × AreOwn ms
+abbrev pub AreOwnMarks : List Mark → Type 0
+AreOwnMarks [] = Unit {0}
+AreOwnMarks (m ∷ ms) = IsOwn m.tok × AreOwnMarks ms
 
 -- so no text is refused for a name that is none of plans
 abbrev pub NamesAreNames : Type 0
-NamesAreNames = (text : List ℕ) (ms : List Mark) → tokens_in text ≡ Ok ms → AreOwn ms
+NamesAreNames = (text : List ℕ) (ms : List Mark) → tokens_in text ≡ Ok ms → AreOwnMarks ms
 
 -- What is read as an expression is one by the grammar; and an expression is read, with the tree that the grammar says,
 -- wherever no operator follows.

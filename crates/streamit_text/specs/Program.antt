@@ -60,12 +60,12 @@ work_tree w = record { push = w.rates.push; pop = w.rates.pop; peek = w.rates.pe
 abbrev pub filter_tree : code.FilterTree → FilterTree
 filter_tree t = record { fields = t.fields.items; init = optional_block t.init; prework = optional work_tree t.prework; work = work_tree t.work }
 
-abbrev pub items_of : Vec ℕ Global → List ℕ
-items_of v = v.items
+abbrev pub numbers_in : Vec ℕ Global → List ℕ
+numbers_in v = v.items
 
 -- the weights in the brackets, where there are brackets
 abbrev pub weights_of : RoundRobin → Option (List ℕ)
-weights_of r = optional items_of r.weights
+weights_of r = optional numbers_in r.weights
 
 abbrev pub dealing_of : Split → Dealing
 dealing_of split.Duplicate = Copies

@@ -2,7 +2,7 @@
 use Rattle.std.specs.Prelude.{◌≡◌, ℕ, ◌+◌, Bool, List, ◌∷◌, ◌++◌, length, map, take, Option, Some, None, Result, Ok, Err, if◌then◌else◌}
 use Rattle.work_code.specs.declared.code.Stmt.{Stmt}
 use Rattle.work_code.specs.declared.code.Stmts.{Stmts}
-use Rattle.work_code.specs.Steps.{Body, step, statements, in_turn}
+use Rattle.work_code.specs.Steps.{BodyForm, step, statements, in_turn}
 use Rattle.streamit_text.specs.Tree.{Expression}
 use Rattle.river_plan.specs.Forms.{Name}
 use Rattle.streamit_model.specs.Elaborate.{At, Read, on_ok, counted, find, is_new, constant, bound_of, steps_of}
@@ -29,7 +29,7 @@ Reads (Ok u) old new at at' r =
 Reads (Err f) old new at at' r = Tells f r
 
 -- the body of `prework` or `work`, where it keeps the rates
-abbrev pub worked : (peek push pop : ℕ) → source.Block → At → Result Body spec.Fault
+abbrev pub worked : (peek push pop : ℕ) → source.Block → At → Result BodyForm spec.Fault
 worked peek push pop b s =
     on_ok (steps_of peek b s) (λ w. on_ok (kept_rates push pop w.1) (λ v. Ok (record { inputs = peek; slots = w.1.slots; steps = w.0 })))
 

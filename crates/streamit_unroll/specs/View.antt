@@ -8,16 +8,16 @@ use Rattle.streamit_unroll.specs.declared.names.Known.TheVariants as code
 use Rattle.streamit_model.specs.Elaborate.{Scope}
 use Rattle.streamit_model.specs.Elaborate as spec
 
-abbrev pub known_of : Known → spec.Known
-known_of (code.Var i) = spec.Var i
-known_of (code.Turn v) = spec.Turn v
+abbrev pub known_form : Known → spec.KnownName
+known_form (code.Var i) = spec.Var i
+known_form (code.Turn v) = spec.Turn v
 
-abbrev pub option_known : Option Known → Option spec.Known
+abbrev pub option_known : Option Known → Option spec.KnownName
 option_known None = None
-option_known (Some k) = Some (known_of k)
+option_known (Some k) = Some (known_form k)
 
-abbrev pub entry_of : Name × Known → Name × spec.Known
-entry_of e = (e.0, known_of e.1)
+abbrev pub entry_of : Name × Known → Name × spec.KnownName
+entry_of e = (e.0, known_form e.1)
 
 -- the newest name is the last in memory
 abbrev pub scope_of : List (Name × Known) → Scope

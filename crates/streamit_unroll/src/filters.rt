@@ -1,6 +1,6 @@
 // Filters: their fields, `init`, `prework` and `work`.
 ghost use Rattle.std.specs.Prelude.{◌≡◌, ◌≤◌, replicate, take, pos, length, [], Ok, IfOk, OnOk};
-ghost use Rattle.work_code.specs.Steps.{steps, body_of};
+ghost use Rattle.work_code.specs.Steps.{steps, code_body};
 ghost use Rattle.work_code.specs.Ran.{IsBodyWithin, ran};
 ghost use Rattle.kern_rows.specs.Forms.{run_form, optional_run, filter_form};
 ghost use Rattle.kern_rows.specs.Needs.{CanRun};
@@ -8,7 +8,7 @@ ghost use Rattle.kern_rows.specs.Runs.{run_kept};
 ghost use Rattle.streamit_model.specs.Elaborate.{on_ok, optional_of};
 ghost use Rattle.streamit_model.specs.Meaning.{rate_or};
 ghost use Rattle.streamit_model.specs.ElaborateFilter.{read_field, read_fields, nothing_read, starts_of, judged_rates, kept_rates, elaborated};
-ghost use Rattle.streamit_model.specs.ElaborateFilter.{read_work, read_prework, slots_for, widened, first_with, form_of_runs};
+ghost use Rattle.streamit_model.specs.ElaborateFilter.{read_work, read_prework, slots_for, widened, widened_first, form_of_runs};
 ghost use Rattle.streamit_text.specs.Program.{work_tree, filter_tree};
 ghost use Rattle.streamit_unroll.specs.Filter.{IsReadable};
 ghost use Rattle.streamit_unroll.specs.Unrolling.{at_of, worked, Reads, KeepsNames, AreWritten, AreWrittenOptional};
@@ -232,7 +232,7 @@ impl Unroller {
     // The body of a block, and whether it keeps the rates.
     fn work(&mut self, alloc: Global, rates: Counts, work: &Block) -> Result<Code, Fault>
         requires { AreWritten (block work.now) }
-        ensures read { Judges body_of result (worked rates.peek rates.push rates.pop (block work.now) (at_of self.old)) }
+        ensures read { Judges code_body result (worked rates.peek rates.push rates.pop (block work.now) (at_of self.old)) }
         ensures names { OnOk result (KeepsNames self.old self.new) }
     {
         let mut body = Stmts::new(alloc);
@@ -283,7 +283,7 @@ fn put_together(starts: Numbers, first: Option<First>, mut work: First) -> Filte
 
 // The first run, where there is one, with so many slots.
 fn first_with(first: Option<First>, slots: u32) -> Option<First>
-    ensures { optional_run result ≡ first_with slots (optional_run first) }
+    ensures { optional_run result ≡ widened_first slots (optional_run first) }
 {
     match first {
         None => None,
@@ -327,8 +327,8 @@ fn after_one_run(alloc: Global, fields: usize, slots: u32, body: Stmts) -> Resul
 
 // One run on no items.
 fn run_once(alloc: Global, code: &Code, all: &mut Numbers) -> Result<(), NoMemory>
-    requires { IsBodyWithin 0 (length all.old) (body_of code.now).steps }
-    ensures { OnOk result (all.new ≡ (ran (body_of code.now).steps [] all.old).slots) }
+    requires { IsBodyWithin 0 (length all.old) (code_body code.now).steps }
+    ensures { OnOk result (all.new ≡ (ran (code_body code.now).steps [] all.old).slots) }
 {
     let mut out = Emitted::new(alloc);
     run_code(code, &[], all.as_mut_slice(), &mut out)

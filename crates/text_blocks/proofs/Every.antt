@@ -37,7 +37,7 @@ module _ {E H S B : Type 0} (Y : Style E H S B) (G : Holes E H S) (P : ℕ → S
     (loop : (k n : ℕ) (w : List ℕ) (h : H) (ts : List Tok) (b : B) → G.Head n w h ts → Q k b → P (suc k) (Y.loop h b))
     (plain : (k n : ℕ) (w : List ℕ) (v : S) (ts : List Tok) → G.Plain n w v ts → P k v)
     (block : (k : ℕ) (vs : List S) → AllByRecursion (P k) vs → Q k (Y.block vs)) where
-  each : (k : ℕ) (stmt : S → List Tok → Type 0) → ((v : S) (ts : List Tok) → stmt v ts → P k v) → (vs : List S) (ts : List Tok) → form.Each stmt vs ts
+  each : (k : ℕ) (stmt : S → List Tok → Type 0) → ((v : S) (ts : List Tok) → stmt v ts → P k v) → (vs : List S) (ts : List Tok) → form.Many stmt vs ts
       → AllByRecursion (P k) vs
   each k stmt one [] ts h = tt
   each k stmt one (v ∷ vs) ts h = (one v h.0 h.3, each k stmt one vs h.1 h.4)

@@ -129,11 +129,11 @@ module _ {T P : Type 0} (m : Marks T P) where
   operator_at-is k (x ∷ ts) = operator-is m.sign k x
 
   -- the sign that comes next, on the tightest level
-  pub sign_at-first : (k : ℕ) (ts : List Tok) → k ≡ 0 → levels.sign_at (with_seven m) k ts ≡ first m.sign ts
+  pub sign_at-first : (k : ℕ) (ts : List Tok) → k ≡ 0 → levels.sign_of_level (with_seven m) k ts ≡ first m.sign ts
   sign_at-first k ts e = rw e refl
 
   -- on any other level none comes
-  pub sign_at-other : (k : ℕ) (ts : List Tok) → k ≢ 0 → levels.sign_at (with_seven m) k ts ≡ None
+  pub sign_at-other : (k : ℕ) (ts : List Tok) → k ≢ 0 → levels.sign_of_level (with_seven m) k ts ≡ None
   sign_at-other k [] some = refl
   sign_at-other k (x ∷ ts) some = sign-other m.sign k x some
 

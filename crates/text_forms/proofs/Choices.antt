@@ -39,7 +39,7 @@ exact-headed {A} {F} {p} {E} x = record { sound = sound; complete = complete } w
 pub exact-known : {A B : Type 0} {F : A → List Tok → Type 0} {p : parse.Parse A} {E : List Tok → Type 0} (f : A → Option B) → Exact F p E
     → Exact (form.Known f F) (parse.known f p) E
 exact-known {A} {B} {F} {p} {E} f x = record { sound = sound; complete = complete } where
-  given-is : (o : Option B) (us : List Tok) (v : B) (rest : List Tok) → parse.given o us ≡ Some (v, rest) → (o ≡ Some v) × (us ≡ rest)
+  given-is : (o : Option B) (us : List Tok) (v : B) (rest : List Tok) → parse.answer_at o us ≡ Some (v, rest) → (o ≡ Some v) × (us ≡ rest)
   given-is None us v rest e = cc
   given-is (Some b) us v rest e = let same = pair_inj e in (ap (λ (c : B). Some c) same.0, same.1)
 
@@ -60,7 +60,7 @@ pub open_at-none : (s : Symbol) (ts : List Tok) → parse.open_at s 0 ts ≡ Non
 unfolding parse.open_at
 open_at-none s ts = refl
 
-pub open_at-some : (s : Symbol) (n : ℕ) (ts : List Tok) → 0 < n → parse.open_at s n ts ≡ parse.run_at (s ∷ []) ts
+pub open_at-some : (s : Symbol) (n : ℕ) (ts : List Tok) → 0 < n → parse.open_at s n ts ≡ parse.symbols_at (s ∷ []) ts
 unfolding parse.open_at
 open_at-some s zero ts h = absurd (omega arith)
 open_at-some s (suc n) ts h = refl
@@ -75,7 +75,7 @@ unfolding parse.open_at
 exact-enclosed left right x follows zero = record { sound = λ ts v rest e. cc; complete = λ v s rest h d. absurd h }
 exact-enclosed {A} {F} {p} {E} left right x follows (suc n) =
     exact-as (exact-after (left ∷ []) (exact-before (right ∷ []) (x n) follows)) (λ v s h. h) (λ v s h. h)
-    (λ ts. ap (λ (k : ℕ). parse.then_rest (parse.run_at (left ∷ []) ts) (parse.before (p k) (right ∷ []))) (less-one n))
+    (λ ts. ap (λ (k : ℕ). parse.then_rest (parse.symbols_at (left ∷ []) ts) (parse.before (p k) (right ∷ []))) (less-one n))
 
 -- with commas between them, or none
 pub exact-listing : {A : Type 0} {F : A → List Tok → Type 0} {p : parse.Parse A} {E : List Tok → Type 0} (close : Symbol) → Exact F p E

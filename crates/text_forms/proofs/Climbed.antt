@@ -5,7 +5,7 @@ use Rattle.work_code.specs.declared.sign.Symbol.TheVariants as s
 use Rattle.text_forms.proofs.Climbs.{ladder-base, once-at, prefix-none, prefix-at, base-none, base-at, within-none, within-at, grown-taken, chained-stop}
 use Rattle.text_forms.specs.Levels.{Syntax}
 use Rattle.text_forms.specs.Parse as parse
-use Rattle.text_forms.specs.ReadLevels.{first, operator_at, sign_at, joined, grown, chained, once_on, once_level, prefix_on, prefix_level, closed, base_on, base, ladder, within}
+use Rattle.text_forms.specs.ReadLevels.{first, operator_at, sign_of_level, joined_read, grown, chained, once_on, once_level, prefix_on, prefix_level, closed, base_on, base, ladder, within}
 use Rattle.text_forms.specs.Tail.{tail}
 
 module _ {T O P : Type 0} (S : Syntax T O P) where
@@ -16,7 +16,7 @@ module _ {T O P : Type 0} (S : Syntax T O P) where
       → operator_at S k us ≡ Some o → vs ≡ tail us → once_level S k b room ts ≡ grown S (b (room - 1)) room o t vs
   once-some k b room ts t us o vs read found is =
       once-at S k b room ts
-      ∙ ap (λ (r : Option (T × List Tok)). parse.then_read r (λ x ws. once_on S (b (room - 1)) room x ws (operator_at S k ws))) read
+      ∙ ap (λ (r : Option (T × List Tok)). parse.then_parsed r (λ x ws. once_on S (b (room - 1)) room x ws (operator_at S k ws))) read
       ∙ ap (λ (q : Option O). once_on S (b (room - 1)) room t us q) found
       ∙ ap (λ (ws : List Tok). grown S (b (room - 1)) room o t ws) (sym is)
 
@@ -24,7 +24,7 @@ module _ {T O P : Type 0} (S : Syntax T O P) where
       → operator_at S k us ≡ None → vs ≡ us → once_level S k b room ts ≡ Some (t, vs)
   once-none k b room ts t us vs read found is =
       once-at S k b room ts
-      ∙ ap (λ (r : Option (T × List Tok)). parse.then_read r (λ x ws. once_on S (b (room - 1)) room x ws (operator_at S k ws))) read
+      ∙ ap (λ (r : Option (T × List Tok)). parse.then_parsed r (λ x ws. once_on S (b (room - 1)) room x ws (operator_at S k ws))) read
       ∙ ap (λ (q : Option O). once_on S (b (room - 1)) room t us q) found
       ∙ ap (λ (ws : List Tok). Some (t, ws)) (sym is)
 
@@ -36,20 +36,20 @@ module _ {T O P : Type 0} (S : Syntax T O P) where
   pub prefix-zero : (k : ℕ) (b : ℕ → parse.Parse T) (room : ℕ) (ts : List Tok) → room ≡ 0 → prefix_level S k b room ts ≡ None
   prefix-zero k b room ts is = ap (λ (r : ℕ). prefix_level S k b r ts) is ∙ prefix-none S k b ts
 
-  pub prefix-below : (k : ℕ) (b : ℕ → parse.Parse T) (room : ℕ) (ts vs : List Tok) → 0 < room → sign_at S k ts ≡ None → vs ≡ ts
+  pub prefix-below : (k : ℕ) (b : ℕ → parse.Parse T) (room : ℕ) (ts vs : List Tok) → 0 < room → sign_of_level S k ts ≡ None → vs ≡ ts
       → prefix_level S k b room ts ≡ b room vs
   prefix-below k b room ts vs h found is =
       prefix-at S k b room ts h
       ∙ ap (λ (q : Option P). prefix_on S (prefix_level S k b (room - 1)) (b room) ts q) found
       ∙ ap (λ (ws : List Tok). b room ws) (sym is)
 
-  pub prefix-marked : (k : ℕ) (b : ℕ → parse.Parse T) (room : ℕ) (ts vs us : List Tok) (p : P) (t w : T) → 0 < room → sign_at S k ts ≡ Some p → vs ≡ tail ts
+  pub prefix-marked : (k : ℕ) (b : ℕ → parse.Parse T) (room : ℕ) (ts vs us : List Tok) (p : P) (t w : T) → 0 < room → sign_of_level S k ts ≡ Some p → vs ≡ tail ts
       → prefix_level S k b (room - 1) vs ≡ Some (t, us) → w ≡ S.mark p t → prefix_level S k b room ts ≡ Some (w, us)
   prefix-marked k b room ts vs us p t w h found is read mark =
       prefix-at S k b room ts h
       ∙ ap (λ (q : Option P). prefix_on S (prefix_level S k b (room - 1)) (b room) ts q) found
       ∙ ap (λ (ws : List Tok). parse.seen (S.mark p) (prefix_level S k b (room - 1)) ws) (sym is)
-      ∙ ap (λ (r : Option (T × List Tok)). parse.then_read r (λ a xs. Some (S.mark p a, xs))) read
+      ∙ ap (λ (r : Option (T × List Tok)). parse.then_parsed r (λ a xs. Some (S.mark p a, xs))) read
       ∙ ap (λ (x : T). Some (x, us)) (sym mark)
 
   pub base-zero : (leaf : parse.Parse T) (i : ℕ → parse.Parse T) (room : ℕ) (ts : List Tok) → room ≡ 0 → base S leaf i room ts ≡ None
@@ -88,18 +88,18 @@ module _ {T O P : Type 0} (S : Syntax T O P) where
       → w ≡ S.join o left r → grown S right room o left ts ≡ Some (w, us)
   grown-joined right room o left ts r w us small read join =
       grown-taken S right room o left ts small
-      ∙ ap (λ (q : Option (T × List Tok)). joined S o left q) read
+      ∙ ap (λ (q : Option (T × List Tok)). joined_read S o left q) read
       ∙ ap (λ (x : T). Some (x, us)) (sym join)
 
   pub closed-zero : (leaf : ℕ → parse.Parse T) (n room : ℕ) (ts : List Tok) → n ≡ 0 → closed (within S leaf n) room ts ≡ None
   closed-zero leaf n room ts is =
       ap (λ (m : ℕ). closed (within S leaf m) room ts) is
-      ∙ ap (λ (r : Option (T × List Tok)). parse.then_read r (λ a ws. parse.then_rest (parse.run_at (s.Close ∷ []) ws) (λ vs. Some (a, vs)))) (within-none S leaf room ts)
+      ∙ ap (λ (r : Option (T × List Tok)). parse.then_parsed r (λ a ws. parse.then_rest (parse.symbols_at (s.Close ∷ []) ws) (λ vs. Some (a, vs)))) (within-none S leaf room ts)
 
   pub closed-all : (leaf : ℕ → parse.Parse T) (n h room : ℕ) (ts us vs : List Tok) (t : T) → 0 < n → h ≡ length S.levels
-      → ladder S (leaf (n - 1)) (within S leaf (n - 1)) h room ts ≡ Some (t, us) → parse.run_at (s.Close ∷ []) us ≡ Some vs
+      → ladder S (leaf (n - 1)) (within S leaf (n - 1)) h room ts ≡ Some (t, us) → parse.symbols_at (s.Close ∷ []) us ≡ Some vs
       → closed (within S leaf n) room ts ≡ Some (t, vs)
   closed-all leaf n h room ts us vs t some is read close =
-      ap (λ (r : Option (T × List Tok)). parse.then_read r (λ a ws. parse.then_rest (parse.run_at (s.Close ∷ []) ws) (λ xs. Some (a, xs))))
+      ap (λ (r : Option (T × List Tok)). parse.then_parsed r (λ a ws. parse.then_rest (parse.symbols_at (s.Close ∷ []) ws) (λ xs. Some (a, xs))))
       (within-at S leaf n room ts some ∙ ap (λ (k : ℕ). ladder S (leaf (n - 1)) (within S leaf (n - 1)) k room ts) (sym is) ∙ read)
       ∙ ap (λ (r : Option (List Tok)). parse.then_rest r (λ xs. Some (t, xs))) close

@@ -7,7 +7,7 @@ use Rattle.text_forms.proofs.Pairs.{pair_inj}
 use Rattle.text_forms.specs.Deep.{IsDeeper}
 use Rattle.text_forms.specs.Levels.{Level, Chain, Once, Prefix, Syntax, level_of, form_of}
 use Rattle.text_forms.specs.Parse as parse
-use Rattle.text_forms.specs.ReadLevels.{first, operator_at, sign_at, joined, grown, turn_of, chain_on, chain_turn, chained, chain_level, once_on, once_level}
+use Rattle.text_forms.specs.ReadLevels.{first, operator_at, sign_of_level, joined_read, grown, turn_read, chain_on, chain_turn, chained, chain_level, once_on, once_level}
 use Rattle.text_forms.specs.ReadLevels.{prefix_on, prefix_level, closed, base_on, base, on_level, ladder, within}
 use Rattle.text_forms.specs.Repeat.{Turn, Stop, Fail, Next, after_turn, turns}
 use Rattle.text_forms.specs.Tail.{tail}
@@ -48,12 +48,12 @@ module _ {T O P : Type 0} (S : Syntax T O P) where
   -- STEPS
 
   pub chain-at : (k : ℕ) (b : ℕ → parse.Parse T) (room : ℕ) (ts : List Tok)
-      → chain_level S k b room ts ≡ parse.then_read (b room ts) (λ t us. chained S k (b (room - 1)) room t us)
+      → chain_level S k b room ts ≡ parse.then_parsed (b room ts) (λ t us. chained S k (b (room - 1)) room t us)
   unfolding chain_level
   chain-at k b room ts = refl
 
   pub once-at : (k : ℕ) (b : ℕ → parse.Parse T) (room : ℕ) (ts : List Tok)
-      → once_level S k b room ts ≡ parse.then_read (b room ts) (λ t us. once_on S (b (room - 1)) room t us (operator_at S k us))
+      → once_level S k b room ts ≡ parse.then_parsed (b room ts) (λ t us. once_on S (b (room - 1)) room t us (operator_at S k us))
   unfolding once_level
   once-at k b room ts = refl
 
@@ -62,10 +62,10 @@ module _ {T O P : Type 0} (S : Syntax T O P) where
   prefix-none k b ts = refl
 
   pub prefix-at : (k : ℕ) (b : ℕ → parse.Parse T) (room : ℕ) (ts : List Tok) → 0 < room
-      → prefix_level S k b room ts ≡ prefix_on S (prefix_level S k b (room - 1)) (b room) ts (sign_at S k ts)
+      → prefix_level S k b room ts ≡ prefix_on S (prefix_level S k b (room - 1)) (b room) ts (sign_of_level S k ts)
   unfolding prefix_level
   prefix-at k b zero ts h = absurd (omega arith)
-  prefix-at k b (suc room) ts h = ap (λ (r : ℕ). prefix_on S (prefix_level S k b r) (b (suc room)) ts (sign_at S k ts)) (sym (less-one room))
+  prefix-at k b (suc room) ts h = ap (λ (r : ℕ). prefix_on S (prefix_level S k b r) (b (suc room)) ts (sign_of_level S k ts)) (sym (less-one room))
 
   pub base-none : (leaf : parse.Parse T) (i : ℕ → parse.Parse T) (ts : List Tok) → base S leaf i 0 ts ≡ None
   unfolding base
@@ -92,15 +92,15 @@ module _ {T O P : Type 0} (S : Syntax T O P) where
 
   pub grown-deep : (right : parse.Parse T) (room : ℕ) (o : O) (left : T) (ts : List Tok) → room ≤ S.depth left → grown S right room o left ts ≡ None
   grown-deep right room o left ts deep = by (nat_lt (S.depth left) room) refl where
-    by : (b : Bool) → nat_lt (S.depth left) room ≡ b → cond b (joined S o left (right ts)) None ≡ None
+    by : (b : Bool) → nat_lt (S.depth left) room ≡ b → cond b (joined_read S o left (right ts)) None ≡ None
     by true is = absurd (grind (arith, is, deep))
     by false is = refl
 
   -- where there is room the right operand is read, and joined to the left one
   pub grown-taken : (right : parse.Parse T) (room : ℕ) (o : O) (left : T) (ts : List Tok) → S.depth left < room
-      → grown S right room o left ts ≡ joined S o left (right ts)
+      → grown S right room o left ts ≡ joined_read S o left (right ts)
   grown-taken right room o left ts small = by (nat_lt (S.depth left) room) refl where
-    by : (b : Bool) → nat_lt (S.depth left) room ≡ b → cond b (joined S o left (right ts)) None ≡ joined S o left (right ts)
+    by : (b : Bool) → nat_lt (S.depth left) room ≡ b → cond b (joined_read S o left (right ts)) None ≡ joined_read S o left (right ts)
     by true is = refl
     by false is = absurd (grind (arith, is, small))
 
@@ -117,7 +117,7 @@ module _ {T O P : Type 0} (S : Syntax T O P) where
   unfolding chained turns chain_turn
   chained-failed k right room left ts o e none =
       ap (λ r. after_turn (turns (chain_turn S k right room) room) left ts (chain_on S right room left ts r)) e
-      ∙ ap (λ r. after_turn (turns (chain_turn S k right room) room) left ts (turn_of r)) none
+      ∙ ap (λ r. after_turn (turns (chain_turn S k right room) room) left ts (turn_read r)) none
 
 -- what falls with each turn is a bound on how many there are
 module _ {A : Type 0} (step : A → List Tok → Turn A) (m : A → ℕ) (falls : (x : A) (ts : List Tok) (y : A) (us : List Tok) → step x ts ≡ Next y us → m y < m x) where
@@ -139,7 +139,7 @@ module _ {T O P : Type 0} (S : Syntax T O P) (deep : IsDeeper S) where
   pub grown-is : (right : parse.Parse T) (room : ℕ) (o : O) (left : T) (ts : List Tok) (t : T) (us : List Tok) → grown S right room o left ts ≡ Some (t, us)
       → (r : T) × (S.depth left < room) × (right ts ≡ Some (r, us)) × (t ≡ S.join o left r)
   grown-is right room o left ts t us e = by (nat_lt (S.depth left) room) refl (right ts) refl e where
-    by : (b : Bool) → nat_lt (S.depth left) room ≡ b → (read : Option (T × List Tok)) → right ts ≡ read → cond b (joined S o left read) None ≡ Some (t, us)
+    by : (b : Bool) → nat_lt (S.depth left) room ≡ b → (read : Option (T × List Tok)) → right ts ≡ read → cond b (joined_read S o left read) None ≡ Some (t, us)
         → (r : T) × (S.depth left < room) × (right ts ≡ Some (r, us)) × (t ≡ S.join o left r)
     by false is read same f = cc
     by true is None same f = cc
@@ -152,7 +152,7 @@ module _ {T O P : Type 0} (S : Syntax T O P) (deep : IsDeeper S) where
       → (o : O) × (operator_at S k ts ≡ Some o) × (grown S right room o left (tail ts) ≡ Some (t, us))
   unfolding chain_turn
   turn-is right room k left ts t us e = by (operator_at S k ts) refl e where
-    next : (o : O) (r : Option (T × List Tok)) → grown S right room o left (tail ts) ≡ r → turn_of r ≡ Next t us
+    next : (o : O) (r : Option (T × List Tok)) → grown S right room o left (tail ts) ≡ r → turn_read r ≡ Next t us
         → grown S right room o left (tail ts) ≡ Some (t, us)
     next o None is f = cc
     next o (Some q) is f = is ∙ ap (λ (x : T). Some (x, q.1)) (first_same q f) ∙ ap (λ (vs : List Tok). Some (t, vs)) (second_same q f) where
@@ -187,7 +187,7 @@ module _ {T O P : Type 0} (S : Syntax T O P) (deep : IsDeeper S) where
       let small = g.1 in
       let step = chain_turn S k right room in
       sym (ap (λ r. after_turn (turns step room) left ts (chain_on S right room left ts r)) e
-      ∙ ap (λ r. after_turn (turns step room) left ts (turn_of r)) more
+      ∙ ap (λ r. after_turn (turns step room) left ts (turn_read r)) more
       ∙ enough step (λ x. room - S.depth x) (λ x vs y ws f. turn-deeper right room k x vs y ws f) room (suc room) t us (omega (arith, size, small)) (omega (arith, size, small)))
 
 pub ruleset levels = (ladder-base, ladder-chain, ladder-once, ladder-prefix)

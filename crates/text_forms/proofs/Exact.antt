@@ -25,9 +25,9 @@ exact-as {A} {F} {G} {p} {q} {E} x to from same = record {
 }
 
 -- a name
-pub exact-name : Exact form.Name parse.name_at Any
+pub exact-name : Exact form.NameToken parse.name_at Any
 exact-name = record { sound = sound; complete = complete } where
-  sound : (ts : List Tok) (v : List ℕ) (rest : List Tok) → parse.name_at ts ≡ Some (v, rest) → Front form.Name v ts rest
+  sound : (ts : List Tok) (v : List ℕ) (rest : List Tok) → parse.name_at ts ≡ Some (v, rest) → Front form.NameToken v ts rest
   sound [] v rest e = cc
   sound (name text ∷ ts) v rest e =
       let same = pair_inj e in
@@ -36,7 +36,7 @@ exact-name = record { sound = sound; complete = complete } where
   sound (number value ∷ ts) v rest e = cc
   sound (symbol t ∷ ts) v rest e = cc
 
-  complete : (v : List ℕ) (s rest : List Tok) → form.Name v s → Any rest → parse.name_at (s ++ rest) ≡ Some (v, rest)
+  complete : (v : List ℕ) (s rest : List Tok) → form.NameToken v s → Any rest → parse.name_at (s ++ rest) ≡ Some (v, rest)
   complete v s rest f any = rw f refl
 
 -- a variable
@@ -80,7 +80,7 @@ exact-nothing {A} x = record { sound = sound; complete = complete } where
 
 -- how a reading that went on began
 pub then_read-some : {A B : Type 0} (r : Option (A × List Tok)) (more : A → List Tok → Option (B × List Tok)) (v : B × List Tok)
-    → parse.then_read r more ≡ Some v → (q : A × List Tok) × (r ≡ Some q) × (more q.0 q.1 ≡ Some v)
+    → parse.then_parsed r more ≡ Some v → (q : A × List Tok) × (r ≡ Some q) × (more q.0 q.1 ≡ Some v)
 then_read-some None more v e = cc
 then_read-some (Some q) more v e = (q, refl, e)
 
@@ -102,16 +102,16 @@ is_word_at-is word (number value ∷ ts) e = cc
 is_word_at-is word (symbol t ∷ ts) e = cc
 
 -- runs of symbols
-pub run_at-sound : (run : List Symbol) (ts us : List Tok) → parse.run_at run ts ≡ Some us → ts ≡ form.symbols run ++ us
+pub run_at-sound : (run : List Symbol) (ts us : List Tok) → parse.symbols_at run ts ≡ Some us → ts ≡ form.symbols run ++ us
 run_at-sound [] ts us e = some_inj e
 run_at-sound (x ∷ run) ts us e =
-    let both = if-some (parse.begins_with x ts) (parse.run_at run (tail ts)) us e in
+    let both = if-some (parse.begins_with x ts) (parse.symbols_at run (tail ts)) us e in
     begins_with-is x ts both.0 ∙ ap (λ (l : List Tok). symbol x ∷ l) (run_at-sound run (tail ts) us both.1)
 
-pub run_at-complete : (run : List Symbol) (rest : List Tok) → parse.run_at run (form.symbols run ++ rest) ≡ Some rest
+pub run_at-complete : (run : List Symbol) (rest : List Tok) → parse.symbols_at run (form.symbols run ++ rest) ≡ Some rest
 run_at-complete [] rest = refl
 run_at-complete (x ∷ run) rest =
-    ap (λ (b : Bool). cond b (parse.run_at run (form.symbols run ++ rest)) None) (begins_with-symbol x (form.symbols run ++ rest)) ∙ run_at-complete run rest
+    ap (λ (b : Bool). cond b (parse.symbols_at run (form.symbols run ++ rest)) None) (begins_with-symbol x (form.symbols run ++ rest)) ∙ run_at-complete run rest
 
 module _ {A B : Type 0} {F : A → List Tok → Type 0} {G : B → List Tok → Type 0} {p : parse.Parse A} {q : parse.Parse B} {E D : List Tok → Type 0} where
   -- one and then the other
@@ -147,7 +147,7 @@ module _ {A : Type 0} {F : A → List Tok → Type 0} {p : parse.Parse A} {E : L
   exact-after run f = record { sound = sound; complete = complete } where
     sound : (ts : List Tok) (v : A) (rest : List Tok) → parse.after run p ts ≡ Some (v, rest) → Front (form.After run F) v ts rest
     sound ts v rest e =
-        let (us, is_us, more) = then_rest-some (parse.run_at run ts) p (v, rest) e in
+        let (us, is_us, more) = then_rest-some (parse.symbols_at run ts) p (v, rest) e in
         let x = f.sound us v rest more in
         record {
           front = form.symbols run ++ x.front;
@@ -166,7 +166,7 @@ module _ {A : Type 0} {F : A → List Tok → Type 0} {p : parse.Parse A} {E : L
     sound : (ts : List Tok) (v : A) (rest : List Tok) → parse.before p run ts ≡ Some (v, rest) → Front (form.Before F run) v ts rest
     sound ts v rest e =
         let (a, is_a, more) = then_read-some (p ts) _ (v, rest) e in
-        let (us, is_us, end) = then_rest-some (parse.run_at run a.1) _ (v, rest) more in
+        let (us, is_us, end) = then_rest-some (parse.symbols_at run a.1) _ (v, rest) more in
         let same = pair_inj end in
         let x = f.sound ts a.0 a.1 is_a in
         record {
@@ -222,7 +222,7 @@ module _ {A : Type 0} {F : A → List Tok → Type 0} {p : parse.Parse A} {E : L
   pub exact-maybe : (test : List Tok → Bool) → Exact F p E → ((v : A) (s rest : List Tok) → F v s → test (s ++ rest) ≡ true)
       → Exact (form.Maybe F) (parse.maybe test p) (λ rest. E rest × (test rest ≡ false))
   exact-maybe test f begins = record { sound = sound; complete = complete } where
-    some : (ts : List Tok) (v : Option A) (rest : List Tok) → parse.then_read (p ts) (λ a us. Some (Some a, us)) ≡ Some (v, rest)
+    some : (ts : List Tok) (v : Option A) (rest : List Tok) → parse.then_parsed (p ts) (λ a us. Some (Some a, us)) ≡ Some (v, rest)
         → Front (form.Maybe F) v ts rest
     some ts v rest e =
         let (a, is_a, end) = then_read-some (p ts) _ (v, rest) e in
@@ -240,7 +240,7 @@ module _ {A : Type 0} {F : A → List Tok → Type 0} {p : parse.Parse A} {E : L
         record { front = []; is = same.1; formed = subst (λ (w : Option A). form.Maybe F w []) same.0 refl }
 
     by : (b : Bool) (ts : List Tok) (v : Option A) (rest : List Tok)
-        → cond b (parse.then_read (p ts) (λ a us. Some (Some a, us))) (parse.nothing_at None ts) ≡ Some (v, rest) → Front (form.Maybe F) v ts rest
+        → cond b (parse.then_parsed (p ts) (λ a us. Some (Some a, us))) (parse.nothing_at None ts) ≡ Some (v, rest) → Front (form.Maybe F) v ts rest
     by true ts v rest e = some ts v rest e
     by false ts v rest e = none ts v rest e
 

@@ -5,10 +5,10 @@ use Rattle.work_code.specs.Tok.{Tok, symbol}
 use Rattle.work_code.specs.declared.sign.Symbol.TheVariants as s
 use Rattle.text_forms.specs.Deep.{IsDeeper}
 use Rattle.text_forms.specs.Forms as form
-use Rattle.text_forms.specs.Levels.{Level, Chain, Once, Prefix, Syntax, level_of, form_of, operator, sign, Spells, IsTerm, IsWhole}
+use Rattle.text_forms.specs.Levels.{Level, Chain, Once, Prefix, Syntax, level_of, form_of, operator, sign, Spells, IsTermWithin, IsWhole}
 use Rattle.text_forms.specs.Levels as rule
 use Rattle.text_forms.specs.Parse as parse
-use Rattle.text_forms.specs.ReadLevels.{first, operator_at, sign_at, joined, grown, chain_turn, chained, chain_level, once_on, once_level, prefix_on, prefix_level}
+use Rattle.text_forms.specs.ReadLevels.{first, operator_at, sign_of_level, joined_read, grown, chain_turn, chained, chain_level, once_on, once_level, prefix_on, prefix_level}
 use Rattle.text_forms.specs.ReadLevels.{closed, base_on, base, on_level, ladder, within, whole_at}
 use Rattle.text_forms.specs.Repeat.{Next}
 use Rattle.text_forms.specs.Tail.{tail}
@@ -28,7 +28,7 @@ pub record IsClear {T O P : Type 0} (S : Syntax T O P) (Leaf : ℕ → T → Lis
   pub shallow : (n : ℕ) (t : T) (ts : List Tok) → Leaf n t ts → S.depth t ≡ 1
   pub no_open : (n : ℕ) (t : T) (ts rest : List Tok) → Leaf n t ts → parse.begins_with s.Open (ts ++ rest) ≡ false
   pub no_call : (n : ℕ) (t : T) (ts rest : List Tok) → Leaf n t ts → first S.call (ts ++ rest) ≡ None
-  pub no_sign : (n k : ℕ) (t : T) (ts rest : List Tok) → Leaf n t ts → sign_at S k (ts ++ rest) ≡ None
+  pub no_sign : (n k : ℕ) (t : T) (ts rest : List Tok) → Leaf n t ts → sign_of_level S k (ts ++ rest) ≡ None
   pub open_call : S.call (symbol s.Open) ≡ None
   pub open_sign : (k : ℕ) → sign (level_of S.levels k) (symbol s.Open) ≡ None
   pub call_sign : (k : ℕ) (x : Tok) (p : P) → S.call x ≡ Some p → sign (level_of S.levels k) x ≡ None
@@ -92,12 +92,12 @@ module _ {T O P : Type 0} (S : Syntax T O P) (Leaf : ℕ → T → List Tok → 
   Spelled n k t ts = Spells S Leaf n k t ts
 
   abbrev Term : (n k room : ℕ) → T → List Tok → Type 0
-  Term n k room t ts = IsTerm S Leaf n k room t ts
+  Term n k room t ts = IsTermWithin S Leaf n k room t ts
 
   -- the tokens of an expression behind one bracket more
   abbrev pub IsWithin : (n room : ℕ) → T → List Tok → Type 0
   IsWithin zero room t ts = ⊥
-  IsWithin (suc n) room t ts = IsTerm S Leaf n (length S.levels) room t ts
+  IsWithin (suc n) room t ts = IsTermWithin S Leaf n (length S.levels) room t ts
 
   ends_less : (j k : ℕ) (rest : List Tok) → j ≤ k → Ends k rest → Ends j rest
   ends_less j k rest le e = ((λ i li. e.0 i (omega (arith, le, li))), e.1)
@@ -240,7 +240,7 @@ module _ {T O P : Type 0} (S : Syntax T O P) (Leaf : ℕ → T → List Tok → 
   -- what was read so far and what is read behind an operator
   grown-there : (k : ℕ) (right : parse.Parse T) (room : ℕ) (o : O) (a b : T) (vs rest : List Tok) → S.depth a < room → right (vs ++ rest) ≡ Some (b, rest)
       → grown S right room o a (vs ++ rest) ≡ Some (S.join o a b, rest)
-  grown-there k right room o a b vs rest small read = grown-taken S right room o a (vs ++ rest) small ∙ ap (joined S o a) read
+  grown-there k right room o a b vs rest small read = grown-taken S right room o a (vs ++ rest) small ∙ ap (joined_read S o a) read
 
   -- CHAINS
 
@@ -341,23 +341,23 @@ module _ {T O P : Type 0} (S : Syntax T O P) (Leaf : ℕ → T → List Tok → 
   -- SIGNS
 
   -- what is on a level below begins with no sign of this level
-  begins_other : (k n m : ℕ) (t : T) (ts : List Tok) → Spelled n m t ts → m ≤ k → (rest : List Tok) → sign_at S k (ts ++ rest) ≡ None
+  begins_other : (k n m : ℕ) (t : T) (ts : List Tok) → Spelled n m t ts → m ≤ k → (rest : List Tok) → sign_of_level S k (ts ++ rest) ≡ None
   begins_other k n m t ts (rule.leaf p u us h) le rest = clear.no_sign p k u us rest h
   begins_other k n m t ts (rule.bracket p u us h) le rest = clear.open_sign k
   begins_other k n m t ts (rule.call p y q u us c h) le rest = clear.call_sign k y q c
   begins_other k n m t ts (rule.tighter p j u us g) le rest = begins_other k p j u us g (omega (arith, le)) rest
   begins_other k n m t ts (rule.chain p j y o a b us vs f c g h) le rest =
-      ap (sign_at S k) (append_assoc us (y ∷ vs) rest) ∙ begins_other k p (suc j) a us g le (y ∷ (vs ++ rest))
+      ap (sign_of_level S k) (append_assoc us (y ∷ vs) rest) ∙ begins_other k p (suc j) a us g le (y ∷ (vs ++ rest))
   begins_other k n m t ts (rule.once p j y o a b us vs f c g h) le rest =
-      ap (sign_at S k) (append_assoc us (y ∷ vs) rest) ∙ begins_other k p j a us g (omega (arith, le)) (y ∷ (vs ++ rest))
+      ap (sign_of_level S k) (append_assoc us (y ∷ vs) rest) ∙ begins_other k p j a us g (omega (arith, le)) (y ∷ (vs ++ rest))
   begins_other k n m t ts (rule.prefix p j y q u us c h) le rest = clear.signs_apart j k y q (omega (arith, le)) c
 
   prefix-sound : (n k : ℕ) (below : ℕ → parse.Parse T) → ((room : ℕ) → Exact (Term n k room) (below room) (Ends k))
       → (room : ℕ) (ts : List Tok) (v : T) (rest : List Tok) → prefix_level S k below room ts ≡ Some (v, rest) → Front (Term n (suc k) room) v ts rest
   unfolding prefix_level
   prefix-sound n k below x zero ts v rest e = cc
-  prefix-sound n k below x (suc room) ts v rest e = by (sign_at S k ts) refl (λ us u vs g. prefix-sound n k below x room us u vs g) e where
-    by : (r : Option P) → sign_at S k ts ≡ r
+  prefix-sound n k below x (suc room) ts v rest e = by (sign_of_level S k ts) refl (λ us u vs g. prefix-sound n k below x room us u vs g) e where
+    by : (r : Option P) → sign_of_level S k ts ≡ r
         → ((us : List Tok) (u : T) (vs : List Tok) → prefix_level S k below room us ≡ Some (u, vs) → Front (Term n (suc k) room) u us vs)
         → prefix_on S (prefix_level S k below room) (below (suc room)) ts r ≡ Some (v, rest) → Front (Term n (suc k) (suc room)) v ts rest
     by None is more f =
@@ -412,7 +412,7 @@ module _ {T O P : Type 0} (S : Syntax T O P) (Leaf : ℕ → T → List Tok → 
 
   -- an expression on a level, where what stands in brackets is read exactly
   pub exact-ladder : (n : ℕ) (i : ℕ → parse.Parse T) → ((room : ℕ) → Exact (IsWithin n room) (i room) (Ends (length S.levels))) → (rank room : ℕ)
-      → Exact (IsTerm S Leaf n rank room) (ladder S (leaf n) i rank room) (Ends rank)
+      → Exact (IsTermWithin S Leaf n rank room) (ladder S (leaf n) i rank room) (Ends rank)
   unfolding ladder
   exact-ladder n i inner zero room = exact-as (exact-less (exact-base n room i inner) (λ rest (d : Ends 0 rest). d.1)) (λ v ts h. h) (λ v ts h. h) (λ ts. refl)
   exact-ladder n i inner (suc k) room =

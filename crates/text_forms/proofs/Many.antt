@@ -20,8 +20,8 @@ pub record Listed {A : Type 0} (stop : List Tok → Bool) (F : A → List Tok �
   pub follows : (v : A) (s rest : List Tok) → F v s → E (s ++ rest)
 
 -- one more item at the end
-pub Each-more : {A : Type 0} (F : A → List Tok → Type 0) (vs : List A) (front : List Tok) (v : A) (s : List Tok) → form.Each F vs front → F v s
-    → form.Each F (vs ++ v ∷ []) (front ++ s)
+pub Each-more : {A : Type 0} (F : A → List Tok → Type 0) (vs : List A) (front : List Tok) (v : A) (s : List Tok) → form.Many F vs front → F v s
+    → form.Many F (vs ++ v ∷ []) (front ++ s)
 Each-more F [] front v s h f = (s, [], ap (λ (l : List Tok). l ++ s) h ∙ sym (append-nil s), f, refl)
 Each-more F (w ∷ ws) front v s h f =
     (h.0, h.1 ++ s, ap (λ (l : List Tok). l ++ s) h.2 ∙ append_assoc h.0 h.1 s, h.3, Each-more F ws h.1 v s h.4 f)
@@ -51,7 +51,7 @@ module _ {A : Type 0} {F : A → List Tok → Type 0} {p : parse.Parse A} {E : L
 
   -- what was read so far
   SoFar : List Tok → List A → List Tok → Type 0
-  SoFar ts done us = (front : List Tok) × (ts ≡ front ++ us) × form.Each F done front
+  SoFar ts done us = (front : List Tok) × (ts ≡ front ++ us) × form.Many F done front
 
   keeps : (ts : List Tok) (done : List A) (us : List Tok) (y : List A) (vs : List Tok) → SoFar ts done us → parse.many_turn stop p done us ≡ Next y vs
       → SoFar ts y vs
@@ -60,7 +60,7 @@ module _ {A : Type 0} {F : A → List Tok → Type 0} {p : parse.Parse A} {E : L
       let t = turned done (stop us) (p us) y vs e in
       let f = x.sound us t.1.0 t.1.1 t.2 in
       let all : ts ≡ (so.0 ++ f.front) ++ vs = so.1 ∙ ap (λ (l : List Tok). so.0 ++ l) (f.is ∙ ap (λ (l : List Tok). f.front ++ l) (sym t.4)) ∙ sym (append_assoc so.0 f.front vs) in
-      (so.0 ++ f.front, all, subst (λ (w : List A). form.Each F w (so.0 ++ f.front)) (sym t.3) (Each-more F done so.0 t.1.0 f.front so.2 f.formed))
+      (so.0 ++ f.front, all, subst (λ (w : List A). form.Many F w (so.0 ++ f.front)) (sym t.3) (Each-more F done so.0 t.1.0 f.front so.2 f.formed))
 
   stopped : (b : Bool) (t : Turn (List A)) → cond b Stop t ≡ Stop → (t ≡ Stop → ⊥) → b ≡ true
   stopped true t e goes = refl
@@ -70,13 +70,13 @@ module _ {A : Type 0} {F : A → List Tok → Type 0} {p : parse.Parse A} {E : L
   goes_on done None e = cc
   goes_on done (Some q) e = cc
 
-  many-sound : (ts : List Tok) (v : List A) (rest : List Tok) → parse.many stop p ts ≡ Some (v, rest) → Front (form.Each F) v ts rest × (stop rest ≡ true)
+  many-sound : (ts : List Tok) (v : List A) (rest : List Tok) → parse.many stop p ts ≡ Some (v, rest) → Front (form.Many F) v ts rest × (stop rest ≡ true)
   unfolding SoFar
   many-sound ts v rest e =
       let end = repeated-keeps (parse.many_turn stop p) (SoFar ts) (keeps ts) [] ts v rest ([], refl, refl) e in
       (record { front = end.0.0; is = end.0.1; formed = end.0.2 }, stopped (stop rest) (parse.item_turn v (p rest)) end.1 (goes_on v (p rest)))
 
-  many-complete : (done vs : List A) (s rest : List Tok) → form.Each F vs s → E rest → stop rest ≡ true
+  many-complete : (done vs : List A) (s rest : List Tok) → form.Many F vs s → E rest → stop rest ≡ true
       → repeated (parse.many_turn stop p) done (s ++ rest) ≡ Some (done ++ vs, rest)
   many-complete done [] s rest h allowed stops =
       rw h (repeated-stop (parse.many_turn stop p) done rest (ap (λ (b : Bool). cond b Stop (parse.item_turn done (p rest))) stops) ∙ ap (λ (l : List A). Some (l, rest)) (sym (append-nil done)))
@@ -88,13 +88,13 @@ module _ {A : Type 0} {F : A → List Tok → Type 0} {p : parse.Parse A} {E : L
       ∙ repeated-next (parse.many_turn stop p) many-shortens done (h.0 ++ (h.1 ++ rest)) (done ++ v ∷ []) (h.1 ++ rest) turn
       ∙ many-complete (done ++ v ∷ []) vs h.1 rest h.4 allowed stops ∙ ap (λ (l : List A). Some (l, rest)) (append_assoc done (v ∷ []) vs)
     where
-      behind : (ws : List A) (back : List Tok) → form.Each F ws back → E (back ++ rest)
+      behind : (ws : List A) (back : List Tok) → form.Many F ws back → E (back ++ rest)
       behind [] back g = subst (λ (l : List Tok). E (l ++ rest)) (sym g) allowed
       behind (w ∷ ws) back g =
           subst (λ (l : List Tok). E l) (sym (ap (λ (l : List Tok). l ++ rest) g.2 ∙ append_assoc g.0 g.1 rest)) (listed.follows w g.0 (g.1 ++ rest) g.3)
 
   -- items until what stops them
-  pub exact-many : Exact (form.Each F) (parse.many stop p) (λ rest. E rest × (stop rest ≡ true))
+  pub exact-many : Exact (form.Many F) (parse.many stop p) (λ rest. E rest × (stop rest ≡ true))
   exact-many = record {
     sound = λ ts v rest e. (many-sound ts v rest e).0;
     complete = λ v s rest h d. many-complete [] v s rest h d.0 d.1;
@@ -125,7 +125,7 @@ module _ {A : Type 0} {F : A → List Tok → Type 0} {p : parse.Parse A} {E : L
     follows = λ v s rest h. subst E (sym (begins_comma v s rest h).1) (comma (begins_comma v s rest h).0);
   }
 
-  behind_first : (vs : List A) (s rest : List Tok) → form.Each (form.After (Comma ∷ []) F) vs s → E rest × (parse.no_comma rest ≡ true) → E (s ++ rest)
+  behind_first : (vs : List A) (s rest : List Tok) → form.Many (form.After (Comma ∷ []) F) vs s → E rest × (parse.no_comma rest ≡ true) → E (s ++ rest)
   behind_first [] s rest h d = subst (λ (l : List Tok). E (l ++ rest)) (sym h) d.0
   behind_first (w ∷ ws) s rest h d =
       subst (λ (l : List Tok). E l) (sym (ap (λ (l : List Tok). l ++ rest) h.2 ∙ append_assoc h.0 h.1 rest)) (listed_commas.follows w h.0 (h.1 ++ rest) h.3)
@@ -169,11 +169,11 @@ module _ {A : Type 0} {F : A → List Tok → Type 0} {p : parse.Parse A} {E : L
     loop a us = same_turns (suc (length us)) a [] us
 
     by : (r : Option (A × List Tok))
-        → parse.then_read r (λ a us. repeated (parse.comma_turn p) (a ∷ []) us) ≡ parse.then_read {A = A × List A} {B = List A} (parse.then_read {A = A} {B = A × List A} r (λ a us. parse.then_read {A = List A} {B = A × List A} (parse.many parse.no_comma (parse.after (Comma ∷ []) p) us) (λ b vs. Some ((a, b), vs)))) (λ v vs. Some (v.0 ∷ v.1, vs))
+        → parse.then_parsed r (λ a us. repeated (parse.comma_turn p) (a ∷ []) us) ≡ parse.then_parsed {A = A × List A} {B = List A} (parse.then_parsed {A = A} {B = A × List A} r (λ a us. parse.then_parsed {A = List A} {B = A × List A} (parse.many parse.no_comma (parse.after (Comma ∷ []) p) us) (λ b vs. Some ((a, b), vs)))) (λ v vs. Some (v.0 ∷ v.1, vs))
     by None = refl
     by (Some q) = loop q.0 q.1 ∙ out (parse.many parse.no_comma (parse.after (Comma ∷ []) p) q.1) where
       out : (r : Option (List A × List Tok))
-          → on_read q.0 r ≡ parse.then_read {A = A × List A} {B = List A} (parse.then_read {A = List A} {B = A × List A} r (λ b vs. Some ((q.0, b), vs))) (λ v vs. Some (v.0 ∷ v.1, vs))
+          → on_read q.0 r ≡ parse.then_parsed {A = A × List A} {B = List A} (parse.then_parsed {A = List A} {B = A × List A} r (λ b vs. Some ((q.0, b), vs))) (λ v vs. Some (v.0 ∷ v.1, vs))
       out None = refl
       out (Some w) = refl
 

@@ -14,8 +14,8 @@ Form A = A → List Tok → Type 0
 abbrev pub symbols : List Symbol → List Tok
 symbols run = map (λ s. symbol s) run
 
-abbrev pub Name : List ℕ → List Tok → Type 0
-Name text ts = ts ≡ name text ∷ []
+abbrev pub NameToken : List ℕ → List Tok → Type 0
+NameToken text ts = ts ≡ name text ∷ []
 
 abbrev pub Var : List ℕ → List Tok → Type 0
 Var text ts = ts ≡ var text ∷ []
@@ -85,13 +85,13 @@ Maybe F None ts = ts ≡ []
 Maybe F (Some v) ts = F v ts
 
 -- one after another
-abbrev pub Each : {A : Type 0} → (A → List Tok → Type 0) → List A → List Tok → Type 0
-Each F [] ts = ts ≡ []
-Each F (v ∷ vs) ts = (front : List Tok) × (back : List Tok) × (ts ≡ front ++ back) × F v front × Each F vs back
+abbrev pub Many : {A : Type 0} → (A → List Tok → Type 0) → List A → List Tok → Type 0
+Many F [] ts = ts ≡ []
+Many F (v ∷ vs) ts = (front : List Tok) × (back : List Tok) × (ts ≡ front ++ back) × F v front × Many F vs back
 
 -- with commas between them, at least one
 abbrev pub Commas : {A : Type 0} → (A → List Tok → Type 0) → List A → List Tok → Type 0
-Commas F = Seen (λ v. v.0 ∷ v.1) (Both F (Each (After (Comma ∷ []) F)))
+Commas F = Seen (λ v. v.0 ∷ v.1) (Both F (Many (After (Comma ∷ []) F)))
 
 -- nothing stands for a value
 abbrev pub Never : {A : Type 0} → A → List Tok → Type 0

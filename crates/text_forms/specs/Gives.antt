@@ -11,10 +11,10 @@ Gives view (Err Syntax) rest read = read ≡ None
 Gives view (Err NoMemory) rest read = Unit {0}
 
 -- the method passes over tokens
-abbrev pub Passes : {X : Type 0} → Result X Fault → List Tok → Option (List Tok) → Type 0
-Passes (Ok x) rest read = read ≡ Some rest
-Passes (Err Syntax) rest read = read ≡ None
-Passes (Err NoMemory) rest read = Unit {0}
+abbrev pub PassesOver : {X : Type 0} → Result X Fault → List Tok → Option (List Tok) → Type 0
+PassesOver (Ok x) rest read = read ≡ Some rest
+PassesOver (Err Syntax) rest read = read ≡ None
+PassesOver (Err NoMemory) rest read = Unit {0}
 
 -- the function gives a value, of which this is the view, exactly where there is one
 abbrev pub Makes : {X A : Type 0} → (X → A) → Result X Fault → Option A → Type 0

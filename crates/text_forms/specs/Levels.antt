@@ -72,9 +72,9 @@ pub data Spells {T O P : Type 0} (S : Syntax T O P) (Leaf : ℕ → T → List T
       → Spells S Leaf n (suc k) (S.mark p t) (x ∷ ts)
 
 -- the tokens stand for the tree, which is at most `room` deep
-abbrev pub IsTerm : {T O P : Type 0} → Syntax T O P → (ℕ → T → List Tok → Type 0) → (n rank room : ℕ) → T → List Tok → Type 0
-IsTerm S Leaf n rank room t ts = Spells S Leaf n rank t ts × (S.depth t ≤ room)
+abbrev pub IsTermWithin : {T O P : Type 0} → Syntax T O P → (ℕ → T → List Tok → Type 0) → (n rank room : ℕ) → T → List Tok → Type 0
+IsTermWithin S Leaf n rank room t ts = Spells S Leaf n rank t ts × (S.depth t ≤ room)
 
 -- an expression of the language, where `n` more brackets may be open: its tree is at most 64 deep
 abbrev pub IsWhole : {T O P : Type 0} → Syntax T O P → (ℕ → T → List Tok → Type 0) → ℕ → T → List Tok → Type 0
-IsWhole S Leaf n t ts = IsTerm S Leaf n (length S.levels) 64 t ts
+IsWhole S Leaf n t ts = IsTermWithin S Leaf n (length S.levels) 64 t ts

@@ -30,14 +30,14 @@ is_word_at word (number value ∷ ts) = false
 is_word_at word (symbol t ∷ ts) = false
 
 -- the tokens behind these symbols
-abbrev pub run_at : List Symbol → List Tok → Option (List Tok)
-run_at [] ts = Some ts
-run_at (s ∷ ss) ts = if begins_with s ts then run_at ss (tail ts) else None
+abbrev pub symbols_at : List Symbol → List Tok → Option (List Tok)
+symbols_at [] ts = Some ts
+symbols_at (s ∷ ss) ts = if begins_with s ts then symbols_at ss (tail ts) else None
 
 -- a reading goes on
-abbrev pub then_read : {A B : Type 0} → Option (A × List Tok) → (A → List Tok → Option (B × List Tok)) → Option (B × List Tok)
-then_read None more = None
-then_read (Some read) more = more read.0 read.1
+abbrev pub then_parsed : {A B : Type 0} → Option (A × List Tok) → (A → List Tok → Option (B × List Tok)) → Option (B × List Tok)
+then_parsed None more = None
+then_parsed (Some read) more = more read.0 read.1
 
 abbrev pub then_rest : {B : Type 0} → Option (List Tok) → (List Tok → Option (B × List Tok)) → Option (B × List Tok)
 then_rest None more = None
@@ -45,7 +45,7 @@ then_rest (Some rest) more = more rest
 
 -- with a condition on the value
 abbrev pub tested : {A : Type 0} → (A → Bool) → Parse A → Parse A
-tested test p ts = then_read (p ts) (λ a us. if test a then Some (a, us) else None)
+tested test p ts = then_parsed (p ts) (λ a us. if test a then Some (a, us) else None)
 
 -- a name, a variable, a number
 abbrev pub name_at : Parse (List ℕ)
@@ -81,7 +81,7 @@ abbrev pub is_value : ℕ → Bool
 is_value n = nat_le n 9223372036854775807
 
 abbrev pub value_at : Parse ℤ
-value_at ts = then_read (tested is_value number_at ts) (λ n us. Some (pos n, us))
+value_at ts = then_parsed (tested is_value number_at ts) (λ n us. Some (pos n, us))
 
 -- a name of at most so many bytes
 abbrev pub is_short : ℕ → List ℕ → Bool
@@ -97,14 +97,14 @@ nothing_at v ts = Some (v, ts)
 
 -- one and then the other
 abbrev pub both : {A B : Type 0} → Parse A → Parse B → Parse (A × B)
-both p q ts = then_read (p ts) (λ a us. then_read (q us) (λ b vs. Some ((a, b), vs)))
+both p q ts = then_parsed (p ts) (λ a us. then_parsed (q us) (λ b vs. Some ((a, b), vs)))
 
 -- behind some symbols; before some
 abbrev pub after : {A : Type 0} → List Symbol → Parse A → Parse A
-after run p ts = then_rest (run_at run ts) p
+after run p ts = then_rest (symbols_at run ts) p
 
 abbrev pub before : {A : Type 0} → Parse A → List Symbol → Parse A
-before p run ts = then_read (p ts) (λ a us. then_rest (run_at run us) (λ vs. Some (a, vs)))
+before p run ts = then_parsed (p ts) (λ a us. then_rest (symbols_at run us) (λ vs. Some (a, vs)))
 
 -- the tokens behind this word
 abbrev pub word_at : List ℕ → List Tok → Option (List Tok)
@@ -116,7 +116,7 @@ after_word word p ts = then_rest (word_at word ts) p
 
 -- seen as another value
 abbrev pub seen : {A B : Type 0} → (A → B) → Parse A → Parse B
-seen f p ts = then_read (p ts) (λ a us. Some (f a, us))
+seen f p ts = then_parsed (p ts) (λ a us. Some (f a, us))
 
 -- one or the other, by a test of what comes
 abbrev pub merged : {A : Type 0} → (List Tok → Bool) → Parse A → Parse A → Parse A
@@ -124,7 +124,7 @@ merged test p q ts = if test ts then p ts else q ts
 
 -- an optional part, by a test of what comes
 abbrev pub maybe : {A : Type 0} → (List Tok → Bool) → Parse A → Parse (Option A)
-maybe test p ts = if test ts then then_read (p ts) (λ a us. Some (Some a, us)) else Some (None, ts)
+maybe test p ts = if test ts then then_parsed (p ts) (λ a us. Some (Some a, us)) else Some (None, ts)
 
 -- one more item of a list that goes on until a test holds
 abbrev pub item_turn : {A : Type 0} → List A → Option (A × List Tok) → Turn (List A)
@@ -148,24 +148,24 @@ comma_turn p done ts = if begins_with Comma ts then item_turn done (p (tail ts))
 
 -- items with commas between them, at least one
 abbrev pub commas : {A : Type 0} → Parse A → Parse (List A)
-commas p ts = then_read (p ts) (λ a us. repeated (comma_turn p) (a ∷ []) us)
+commas p ts = then_parsed (p ts) (λ a us. repeated (comma_turn p) (a ∷ []) us)
 
 -- what a word at the front says
 abbrev pub headed : {A : Type 0} → (List ℕ → Parse A) → Parse A
-headed p ts = then_read (name_at ts) p
+headed p ts = then_parsed (name_at ts) p
 
 -- seen through a function that not every value has an answer of
-abbrev pub given : {B : Type 0} → Option B → List Tok → Option (B × List Tok)
-given None ts = None
-given (Some b) ts = Some (b, ts)
+abbrev pub answer_at : {B : Type 0} → Option B → List Tok → Option (B × List Tok)
+answer_at None ts = None
+answer_at (Some b) ts = Some (b, ts)
 
 abbrev pub known : {A B : Type 0} → (A → Option B) → Parse A → Parse B
-known f p ts = then_read (p ts) (λ a us. given (f a) us)
+known f p ts = then_parsed (p ts) (λ a us. answer_at (f a) us)
 
 -- the tokens behind a bracket, where so many more may be open
 unfoldable pub open_at : Symbol → ℕ → List Tok → Option (List Tok)
 open_at s zero ts = None
-open_at s (suc n) ts = run_at (s ∷ []) ts
+open_at s (suc n) ts = symbols_at (s ∷ []) ts
 
 -- between brackets
 abbrev pub enclosed : {A : Type 0} → Symbol → Symbol → (ℕ → Parse A) → ℕ → Parse A

@@ -3,7 +3,7 @@ use Rattle.std.specs.Prelude.{ℕ, zero, suc, ◌-◌, nat_lt, if◌then◌else�
 use Rattle.work_code.specs.Tok.{Tok}
 use Rattle.work_code.specs.declared.sign.Symbol.TheVariants as s
 use Rattle.text_forms.specs.Levels.{Level, Chain, Once, Prefix, Syntax, level_of, operator, sign}
-use Rattle.text_forms.specs.Parse.{Parse, begins_with, then_read, seen, after, before}
+use Rattle.text_forms.specs.Parse.{Parse, begins_with, then_parsed, seen, after, before}
 use Rattle.text_forms.specs.Repeat.{Turn, Stop, Fail, Next, turns}
 use Rattle.text_forms.specs.Tail.{tail}
 
@@ -16,27 +16,27 @@ first f (x ∷ ts) = f x
 abbrev pub operator_at : {T O P : Type 0} → Syntax T O P → ℕ → List Tok → Option O
 operator_at S k ts = first (operator (level_of S.levels k)) ts
 
-abbrev pub sign_at : {T O P : Type 0} → Syntax T O P → ℕ → List Tok → Option P
-sign_at S k ts = first (sign (level_of S.levels k)) ts
+abbrev pub sign_of_level : {T O P : Type 0} → Syntax T O P → ℕ → List Tok → Option P
+sign_of_level S k ts = first (sign (level_of S.levels k)) ts
 
 -- an expression with an operator and what was read behind it
-abbrev pub joined : {T O P : Type 0} → Syntax T O P → O → T → Option (T × List Tok) → Option (T × List Tok)
-joined S o left None = None
-joined S o left (Some read) = Some (S.join o left read.0, read.1)
+abbrev pub joined_read : {T O P : Type 0} → Syntax T O P → O → T → Option (T × List Tok) → Option (T × List Tok)
+joined_read S o left None = None
+joined_read S o left (Some read) = Some (S.join o left read.0, read.1)
 
 -- an expression with an operator and what follows, where there is room for a deeper tree
 abbrev pub grown : {T O P : Type 0} → Syntax T O P → Parse T → ℕ → O → T → Parse T
-grown S right room o left ts = if nat_lt (S.depth left) room then joined S o left (right ts) else None
+grown S right room o left ts = if nat_lt (S.depth left) room then joined_read S o left (right ts) else None
 
 -- CHAINS
 
-abbrev pub turn_of : {T : Type 0} → Option (T × List Tok) → Turn T
-turn_of None = Fail
-turn_of (Some read) = Next read.0 read.1
+abbrev pub turn_read : {T : Type 0} → Option (T × List Tok) → Turn T
+turn_read None = Fail
+turn_read (Some read) = Next read.0 read.1
 
 abbrev pub chain_on : {T O P : Type 0} → Syntax T O P → Parse T → ℕ → T → List Tok → Option O → Turn T
 chain_on S right room left ts None = Stop
-chain_on S right room left ts (Some o) = turn_of (grown S right room o left (tail ts))
+chain_on S right room left ts (Some o) = turn_read (grown S right room o left (tail ts))
 
 -- one operator more
 unfoldable pub chain_turn : {T O P : Type 0} → Syntax T O P → ℕ → Parse T → ℕ → T → List Tok → Turn T
@@ -48,7 +48,7 @@ chained S k right room left ts = turns (chain_turn S k right room) (suc room) le
 
 -- `below` reads an expression of so much room on the level below
 unfoldable pub chain_level : {T O P : Type 0} → Syntax T O P → ℕ → (ℕ → Parse T) → ℕ → Parse T
-chain_level S k below room ts = then_read (below room ts) (λ t us. chained S k (below (room - 1)) room t us)
+chain_level S k below room ts = then_parsed (below room ts) (λ t us. chained S k (below (room - 1)) room t us)
 
 -- ONE OPERATOR AT MOST
 
@@ -57,7 +57,7 @@ once_on S right room left ts None = Some (left, ts)
 once_on S right room left ts (Some o) = grown S right room o left (tail ts)
 
 unfoldable pub once_level : {T O P : Type 0} → Syntax T O P → ℕ → (ℕ → Parse T) → ℕ → Parse T
-once_level S k below room ts = then_read (below room ts) (λ t us. once_on S (below (room - 1)) room t us (operator_at S k us))
+once_level S k below room ts = then_parsed (below room ts) (λ t us. once_on S (below (room - 1)) room t us (operator_at S k us))
 
 -- SIGNS
 
@@ -67,7 +67,7 @@ prefix_on S more below ts (Some p) = seen (S.mark p) more (tail ts)
 
 unfoldable pub prefix_level : {T O P : Type 0} → Syntax T O P → ℕ → (ℕ → Parse T) → ℕ → Parse T
 prefix_level S k below zero ts = None
-prefix_level S k below (suc room) ts = prefix_on S (prefix_level S k below room) (below (suc room)) ts (sign_at S k ts)
+prefix_level S k below (suc room) ts = prefix_on S (prefix_level S k below room) (below (suc room)) ts (sign_of_level S k ts)
 
 -- BELOW THE FIRST LINE
 

@@ -1,8 +1,8 @@
 // The expressions of any language read, level by level.
 ghost use Rattle.std.specs.Prelude.{◌≡◌, ◌<◌, ◌≤◌, ◌+◌, IfOk, length, ◌-◌, List, [], ◌∷◌};
-ghost use Rattle.text_forms.specs.Gives.{Gives, Passes};
+ghost use Rattle.text_forms.specs.Gives.{Gives, PassesOver};
 ghost use Rattle.text_forms.specs.ReadLevels.{level_at, chain_at, once_at, prefix_at, base_at, grown_at, called_at, closed_at, whole_at};
-ghost use Rattle.text_forms.specs.Parse.{run_at};
+ghost use Rattle.text_forms.specs.Parse.{symbols_at};
 
 use crate::{Dialect, Fault, Form, TokenSource};
 use std::alloc::Global;
@@ -17,7 +17,7 @@ struct Measured<T> {
 
 // Passes over this symbol, which has to come next.
 fn expect<R: TokenSource>(reader: &mut R, symbol: Symbol) -> Result<(), Fault>
-    ensures { Passes result (R.rest reader.new) (run_at (symbol ∷ []) (R.rest reader.old)) }
+    ensures { PassesOver result (R.rest reader.new) (symbols_at (symbol ∷ []) (R.rest reader.old)) }
 {
     if reader.takes(symbol) {
         Ok(())

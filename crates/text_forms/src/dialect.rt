@@ -5,7 +5,7 @@ ghost use Rattle.text_forms.specs.Deep.{IsDeeper};
 ghost use Rattle.text_forms.specs.Gives.{Gives};
 ghost use Rattle.text_forms.specs.Levels.{Syntax, level_of, form_of};
 ghost use Rattle.text_forms.specs.Parse.{Parse, begins_with};
-ghost use Rattle.text_forms.specs.ReadLevels.{first, operator_at, sign_at};
+ghost use Rattle.text_forms.specs.ReadLevels.{first, operator_at, sign_of_level};
 ghost use Rattle.text_forms.specs.Tail.{tail};
 
 use crate::{Fault, Form};
@@ -58,7 +58,7 @@ pub trait Dialect<R: TokenSource> {
 
     /// Passes over the sign of the level that comes next, if one does.
     fn sign(&self, reader: &mut R, level: u32) -> Option<Self::Sign>
-        ensures found { result ≡ sign_at (syntax self.now) level (R.rest reader.old) }
+        ensures found { result ≡ sign_of_level (syntax self.now) level (R.rest reader.old) }
         ensures rest { R.rest reader.new ≡ (if is_some result then tail (R.rest reader.old) else R.rest reader.old) };
 
     /// Passes over what comes next before an expression in brackets, if something does.

@@ -2,7 +2,7 @@
 ghost use Rattle.std.specs.Prelude.{◌≡◌, [], ◌∷◌, Ok, Err, if◌then◌else◌};
 ghost use Rattle.std.specs.Str.{bytes_eq};
 ghost use Rattle.text_forms.specs.Gives.{Keeps};
-ghost use Rattle.text_forms.specs.Parse.{run_at};
+ghost use Rattle.text_forms.specs.Parse.{symbols_at};
 ghost use Rattle.text_forms.specs.declared.fault.Fault.TheVariants as fault;
 
 use crate::{Fault, Reader};
@@ -21,7 +21,7 @@ pub fn is(word: &[u8], name: &[u8]) -> bool
 ///
 /// `Syntax` where another token comes next, or none.
 pub fn closed<T: Drop>(reader: &mut Reader<'_>, value: T, symbol: Symbol) -> Result<T, Fault>
-    ensures { Keeps value result reader.new (run_at (symbol ∷ []) reader.old) }
+    ensures { Keeps value result reader.new (symbols_at (symbol ∷ []) reader.old) }
 {
     reader.expect(&[symbol])?;
     Ok(value)

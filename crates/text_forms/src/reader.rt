@@ -2,8 +2,8 @@
 ghost use Rattle.std.specs.Prelude.{◌≡◌, ◌-◌, ◌<◌, IfOk, OnOk, MatchOption, List, [], ◌∷◌, if◌then◌else◌, IsTrue, ◌↔◌};
 ghost use Rattle.std.specs.Int.{IsNonNegative};
 ghost use Rattle.text_forms.specs.Tail.{tail};
-ghost use Rattle.text_forms.specs.Parse.{begins_with, is_word_at, word_at, run_at, name_at, var_at, number_at, count_at, open_at, value_at};
-ghost use Rattle.text_forms.specs.Gives.{Gives, Passes};
+ghost use Rattle.text_forms.specs.Parse.{begins_with, is_word_at, word_at, symbols_at, name_at, var_at, number_at, count_at, open_at, value_at};
+ghost use Rattle.text_forms.specs.Gives.{Gives, PassesOver};
 
 use crate::{Fault, TokenSource};
 use std::marker::Model;
@@ -81,7 +81,7 @@ impl<'a> Reader<'a> {
 
     /// Passes over these symbols, which have to come next.
     pub fn expect(&mut self, run: &[Symbol]) -> Result<(), Fault>
-        ensures { Passes result self.new (run_at run.now self.old) }
+        ensures { PassesOver result self.new (symbols_at run.now self.old) }
     {
         for symbol in run {
             if !self.takes(*symbol) {
@@ -95,7 +95,7 @@ impl<'a> Reader<'a> {
     /// may be open behind it.
     #[tactic(auto, using(crate::proofs::Choices::opens))]
     pub fn opens(&mut self, symbol: Symbol, brackets: u32) -> Result<u32, Fault>
-        ensures passes { Passes result self.new (open_at symbol brackets self.old) }
+        ensures passes { PassesOver result self.new (open_at symbol brackets self.old) }
         ensures fewer { IfOk result (λ n. n ≡ brackets - 1) }
         ensures some { OnOk result (0 < brackets) }
     {
@@ -118,7 +118,7 @@ impl<'a> Reader<'a> {
 
     /// Passes over this word, which has to come next.
     pub fn word(&mut self, word: &[u8]) -> Result<(), Fault>
-        ensures { Passes result self.new (word_at word.now self.old) }
+        ensures { PassesOver result self.new (word_at word.now self.old) }
     {
         if self.is_at_word(word) {
             self.skip();

@@ -6,17 +6,17 @@ use Rattle.std.proofs.lemmas.List.{drop-drop, length-drop, take-append-drop}
 use Rattle.work_code.specs.Lexis.{Piece, blank, token, bad, big, marks, piece_at}
 use Rattle.work_code.specs.Pieces.{FitsIn}
 use Rattle.work_code.specs.Tok.{Mark}
-use Rattle.work_code.specs.Laws.{IsPassedOver, IsBlank, AreApart, TokensAreApart}
+use Rattle.work_code.specs.Laws.{IsPassedOver, IsBlankBetween, AreApart, TokensAreApart}
 use Rattle.work_code.proofs.Gaps.{Passed, piece-passed}
 use Rattle.work_code.proofs.Rooms.{piece_fits}
 use Rattle.work_code.proofs.Slices.{with-ok, after_piece, next_drop, room_left}
 
 -- no bytes
-nothing : (text : List ℕ) (at : ℕ) → at ≤ length text → IsBlank text at at
+nothing : (text : List ℕ) (at : ℕ) → at ≤ length text → IsBlankBetween text at at
 nothing text at within = record { blanks = []; within = within; is = refl; are = tt }
 
 -- one blank more in front
-one_more : (text : List ℕ) (at len to : ℕ) (s : List ℕ) → s ≡ drop at text → Passed s (blank len) → IsBlank text (at + len) to → IsBlank text at to
+one_more : (text : List ℕ) (at len to : ℕ) (s : List ℕ) → s ≡ drop at text → Passed s (blank len) → IsBlankBetween text (at + len) to → IsBlankBetween text at to
 one_more text at len to s here passed b =
     let behind : drop len s ≡ concat b.blanks ++ drop to text = ap (drop len) here ∙ drop-drop len at text ∙ b.is in
     record {
@@ -52,7 +52,7 @@ apart : (text : List ℕ) (skip at : ℕ) (s : List ℕ) (ms : List Mark) → s 
 unfolding marks
 apart text skip at [] [] here within fits e =
     let end : at + skip ≡ length text = omega (arith, ap length here, length-drop at text) in
-    subst (λ (n : ℕ). IsBlank text n (length text)) (sym end) (nothing text (length text) (omega arith))
+    subst (λ (n : ℕ). IsBlankBetween text n (length text)) (sym end) (nothing text (length text) (omega arith))
 apart text skip at [] (m ∷ ms) here within fits e = cc
 apart text (suc skip) at (c ∷ cs) ms here within fits e =
     let next : at + 1 + skip ≡ at + suc skip = omega arith in

@@ -3,27 +3,27 @@ use Rattle.std.proofs.Common.{◌≡◌, ℕ, ◌<◌, Bool, true, false, List, 
 use Rattle.std.specs.Prelude.{if◌then◌else◌}
 use Rattle.work_code.specs.Cut.{cut, ends_unit, braces_after, to_first}
 use Rattle.work_code.specs.Tok.{Tok}
-use Rattle.work_code.specs.Laws.{open_behind, joined, IsUnit, AreUnits, UnitsAreCut}
+use Rattle.work_code.specs.Laws.{open_behind, joined_units, IsUnitBefore, AreUnitsBefore, UnitsAreCut}
 
 -- ---- NOTHING IS LOST
 
-joined-first : (t : Tok) (us : List (List Tok)) → joined (to_first t us) ≡ t ∷ joined us
+joined-first : (t : Tok) (us : List (List Tok)) → joined_units (to_first t us) ≡ t ∷ joined_units us
 joined-first t [] = refl
 joined-first t (u ∷ us) = refl
 
-joined-cut : (b : ℕ) (ts : List Tok) → joined (cut b ts) ≡ ts
+joined-cut : (b : ℕ) (ts : List Tok) → joined_units (cut b ts) ≡ ts
 unfolding cut
 joined-cut b [] = refl
 joined-cut b (t ∷ ts) = by (ends_unit b t ts) (joined-cut 0 ts) (joined-cut (braces_after b t) ts) where
-  by : (c : Bool) → joined (cut 0 ts) ≡ ts → joined (cut (braces_after b t) ts) ≡ ts
-      → joined (if c then (t ∷ []) ∷ cut 0 ts else to_first t (cut (braces_after b t) ts)) ≡ t ∷ ts
+  by : (c : Bool) → joined_units (cut 0 ts) ≡ ts → joined_units (cut (braces_after b t) ts) ≡ ts
+      → joined_units (if c then (t ∷ []) ∷ cut 0 ts else to_first t (cut (braces_after b t) ts)) ≡ t ∷ ts
   by true here there = ap (λ (l : List Tok). t ∷ l) here
   by false here there = joined-first t (cut (braces_after b t) ts) ∙ ap (λ (l : List Tok). t ∷ l) there
 
 -- ---- A UNIT ENDS AT ITS END
 
 -- one token that ends a unit
-one_unit : (b : ℕ) (t : Tok) (behind : List Tok) → ends_unit b t behind ≡ true → IsUnit b (t ∷ []) behind
+one_unit : (b : ℕ) (t : Tok) (behind : List Tok) → ends_unit b t behind ≡ true → IsUnitBefore b (t ∷ []) behind
 one_unit b t behind end = record {
   some = omega arith;
   goes_on = λ front back x is more. absurd (none front back x is more);
@@ -37,7 +37,7 @@ one_unit b t behind end = record {
     none (z ∷ w ∷ ws) back x is more = cc
 
 -- the last token of a text, which is a unit whether it ends one or not
-last_unit : (b : ℕ) (t : Tok) → IsUnit b (t ∷ []) []
+last_unit : (b : ℕ) (t : Tok) → IsUnitBefore b (t ∷ []) []
 last_unit b t = record {
   some = omega arith;
   goes_on = λ front back x is more. absurd (none front back x is more);
@@ -51,7 +51,7 @@ last_unit b t = record {
     none (z ∷ w ∷ ws) back x is more = cc
 
 -- a token that ends no unit, before a unit
-more_unit : (b : ℕ) (t : Tok) (u behind : List Tok) → ends_unit b t (u ++ behind) ≡ false → IsUnit (braces_after b t) u behind → IsUnit b (t ∷ u) behind
+more_unit : (b : ℕ) (t : Tok) (u behind : List Tok) → ends_unit b t (u ++ behind) ≡ false → IsUnitBefore (braces_after b t) u behind → IsUnitBefore b (t ∷ u) behind
 more_unit b t u behind goes unit = record { some = omega arith; goes_on = on; ends = λ more. last (unit.ends more) } where
   on : (front back : List Tok) (x : Tok) → t ∷ u ≡ front ++ x ∷ back → 0 < length back → ends_unit (open_behind b front) x (back ++ behind) ≡ false
   on [] back x is more =
@@ -66,17 +66,17 @@ more_unit b t u behind goes unit = record { some = omega arith; goes_on = on; en
   last (front, x, is, end) = (t ∷ front, x, ap (λ (l : List Tok). t ∷ l) is, end)
 
 -- a token that ends no unit, before units
-more_units : (b : ℕ) (t : Tok) (us : List (List Tok)) → ends_unit b t (joined us) ≡ false → AreUnits (braces_after b t) us → AreUnits b (to_first t us)
+more_units : (b : ℕ) (t : Tok) (us : List (List Tok)) → ends_unit b t (joined_units us) ≡ false → AreUnitsBefore (braces_after b t) us → AreUnitsBefore b (to_first t us)
 more_units b t [] goes are = (last_unit b t, tt)
-more_units b t (u ∷ us) goes are = (more_unit b t u (joined us) goes are.0, are.1)
+more_units b t (u ∷ us) goes are = (more_unit b t u (joined_units us) goes are.0, are.1)
 
-are-units : (b : ℕ) (ts : List Tok) → AreUnits b (cut b ts)
+are-units : (b : ℕ) (ts : List Tok) → AreUnitsBefore b (cut b ts)
 unfolding cut
 are-units b [] = tt
 are-units b (t ∷ ts) = by (ends_unit b t ts) refl (are-units 0 ts) (are-units (braces_after b t) ts) where
-  by : (c : Bool) → ends_unit b t ts ≡ c → AreUnits 0 (cut 0 ts) → AreUnits (braces_after b t) (cut (braces_after b t) ts)
-      → AreUnits b (if c then (t ∷ []) ∷ cut 0 ts else to_first t (cut (braces_after b t) ts))
-  by true is here there = (one_unit b t (joined (cut 0 ts)) (ap (ends_unit b t) (joined-cut 0 ts) ∙ is), here)
+  by : (c : Bool) → ends_unit b t ts ≡ c → AreUnitsBefore 0 (cut 0 ts) → AreUnitsBefore (braces_after b t) (cut (braces_after b t) ts)
+      → AreUnitsBefore b (if c then (t ∷ []) ∷ cut 0 ts else to_first t (cut (braces_after b t) ts))
+  by true is here there = (one_unit b t (joined_units (cut 0 ts)) (ap (ends_unit b t) (joined-cut 0 ts) ∙ is), here)
   by false is here there = more_units b t (cut (braces_after b t) ts) (ap (ends_unit b t) (joined-cut (braces_after b t) ts) ∙ is) there
 
 -- the law: units joined are the tokens, and each but the last ends at its only end

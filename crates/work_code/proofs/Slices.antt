@@ -14,7 +14,7 @@ use Rattle.work_code.specs.Lexis.{block_end, block_piece, var_piece, number_piec
 use Rattle.work_code.specs.Lexis.{most, tokens_in}
 use Rattle.work_code.specs.Pieces.{FitsIn}
 use Rattle.work_code.specs.Tok.{Tok, Mark, number}
-use Rattle.work_code.specs.Laws.{IsWord, IsWrittenAs, IsSmall, begins_comment, Ascend, AllSpans, TokensAreSlices, FaultsAreThere}
+use Rattle.work_code.specs.Laws.{IsWord, IsWrittenAs, IsSmall, begins_comment, StandInTextOrder, AllSpans, TokensAreSlices, FaultsAreThere}
 use Rattle.work_code.proofs.Gaps.{front-all}
 use Rattle.work_code.proofs.Longest.{longest-piece, no-comment}
 use Rattle.work_code.proofs.Rooms.{piece_fits, letter_word, digits_has}
@@ -177,7 +177,7 @@ with-err m (Err other) fault e = e
 
 -- what is known of the tokens from a place on
 abbrev Known : List ℕ → ℕ → List Mark → Type 0
-Known text at ms = Ascend at ms × AllSpans text ms
+Known text at ms = StandInTextOrder at ms × AllSpans text ms
 
 sooner : (text : List ℕ) (at later : ℕ) (ms : List Mark) → at ≤ later → Known text later ms → Known text at ms
 sooner text at later [] le h = h

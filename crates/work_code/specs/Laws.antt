@@ -31,7 +31,7 @@ begins_comment bytes = begins_with 35 bytes || begins_with 47 bytes && (begins_w
 
 -- the bytes of the text at the token's span are those of the token, and there are some; no comment begins there, and no
 -- token that could stand there has more bytes
-pub record IsSpan (text : List ℕ) (m : Mark) : Type 0 where
+pub record IsTokenSpan (text : List ℕ) (m : Mark) : Type 0 where
   pub some : m.start < m.end
   pub within : m.end ≤ length text
   pub written : IsWrittenAs m.tok (take (m.end - m.start) (drop m.start text))
@@ -40,17 +40,17 @@ pub record IsSpan (text : List ℕ) (m : Mark) : Type 0 where
   pub longest : (t : Tok) (bytes rest : List ℕ) → drop m.start text ≡ bytes ++ rest → IsWrittenAs t bytes → length bytes ≤ m.end - m.start
 
 -- each token begins where the one before it ended, or later
-abbrev pub Ascend : ℕ → List Mark → Type 0
-Ascend at [] = Unit {0}
-Ascend at (m ∷ ms) = (at ≤ m.start) × Ascend m.end ms
+abbrev pub StandInTextOrder : ℕ → List Mark → Type 0
+StandInTextOrder at [] = Unit {0}
+StandInTextOrder at (m ∷ ms) = (at ≤ m.start) × StandInTextOrder m.end ms
 
 abbrev pub AllSpans : List ℕ → List Mark → Type 0
 AllSpans text [] = Unit {0}
-AllSpans text (m ∷ ms) = IsSpan text m × AllSpans text ms
+AllSpans text (m ∷ ms) = IsTokenSpan text m × AllSpans text ms
 
 -- the tokens of a text ascend, and each is written at its span and is the longest there
 abbrev pub TokensAreSlices : Type 0
-TokensAreSlices = (text : List ℕ) (ms : List Mark) → tokens_in text ≡ Ok ms → Ascend 0 ms × AllSpans text ms
+TokensAreSlices = (text : List ℕ) (ms : List Mark) → tokens_in text ≡ Ok ms → StandInTextOrder 0 ms × AllSpans text ms
 
 -- a space, a tab, a carriage return or a line feed
 abbrev pub IsSeparator : List ℕ → Type 0
@@ -78,7 +78,7 @@ AreBlanks [] behind = Unit {0}
 AreBlanks (b ∷ bs) behind = IsPassedOver b (concat bs ++ behind) × AreBlanks bs behind
 
 -- between these places of the text there are separators and comments alone
-pub record IsBlank (text : List ℕ) (from to : ℕ) : Type 0 where
+pub record IsBlankBetween (text : List ℕ) (from to : ℕ) : Type 0 where
   pub blanks : List (List ℕ)
   pub within : to ≤ length text
   pub is : drop from text ≡ concat blanks ++ drop to text
@@ -86,8 +86,8 @@ pub record IsBlank (text : List ℕ) (from to : ℕ) : Type 0 where
 
 -- before the first of these tokens from a place on, between two and behind the last
 abbrev pub AreApart : List ℕ → ℕ → List Mark → Type 0
-AreApart text at [] = IsBlank text at (length text)
-AreApart text at (m ∷ ms) = IsBlank text at m.start × AreApart text m.end ms
+AreApart text at [] = IsBlankBetween text at (length text)
+AreApart text at (m ∷ ms) = IsBlankBetween text at m.start × AreApart text m.end ms
 
 -- what lies outside the spans of the tokens is separators and comments alone
 abbrev pub TokensAreApart : Type 0
@@ -105,22 +105,22 @@ open_behind braces [] = braces
 open_behind braces (t ∷ ts) = open_behind (braces_after braces t) ts
 
 -- the tokens of units, one unit after another
-abbrev pub joined : List (List Tok) → List Tok
-joined [] = []
-joined (u ∷ us) = u ++ joined us
+abbrev pub joined_units : List (List Tok) → List Tok
+joined_units [] = []
+joined_units (u ∷ us) = u ++ joined_units us
 
 -- Tokens are one unit before others, where so many braces are open: it has a token; no token in it but its last ends it; and
 -- its last does, unless there is none behind it.
-pub record IsUnit (braces : ℕ) (unit behind : List Tok) : Type 0 where
+pub record IsUnitBefore (braces : ℕ) (unit behind : List Tok) : Type 0 where
   pub some : 0 < length unit
   pub goes_on : (front back : List Tok) (t : Tok) → unit ≡ front ++ t ∷ back → 0 < length back → ends_unit (open_behind braces front) t (back ++ behind) ≡ false
   pub ends : 0 < length behind → (front : List Tok) × (t : Tok) × (unit ≡ front ++ t ∷ []) × (ends_unit (open_behind braces front) t behind ≡ true)
 
 -- each of these is a unit before those behind it; in the first so many braces are open, in the others none
-abbrev pub AreUnits : ℕ → List (List Tok) → Type 0
-AreUnits braces [] = Unit {0}
-AreUnits braces (u ∷ us) = IsUnit braces u (joined us) × AreUnits 0 us
+abbrev pub AreUnitsBefore : ℕ → List (List Tok) → Type 0
+AreUnitsBefore braces [] = Unit {0}
+AreUnitsBefore braces (u ∷ us) = IsUnitBefore braces u (joined_units us) × AreUnitsBefore 0 us
 
 -- the units of tokens joined are the tokens, and each but the last ends at the first token that ends it
 abbrev pub UnitsAreCut : Type 0
-UnitsAreCut = (ts : List Tok) → (joined (units_of ts) ≡ ts) × AreUnits 0 (units_of ts)
+UnitsAreCut = (ts : List Tok) → (joined_units (units_of ts) ≡ ts) × AreUnitsBefore 0 (units_of ts)

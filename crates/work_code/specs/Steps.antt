@@ -45,10 +45,10 @@ abbrev pub statements : Stmts → List Stmt
 statements all = all.items.items
 
 -- a body, with how many inputs and slots it has
-pub record Body : Type 0 where
+pub record BodyForm : Type 0 where
   pub inputs : ℕ
   pub slots : ℕ
   pub steps : Steps
 
-abbrev pub body_of : Code → Body
-body_of c = record { inputs = c.inputs; slots = c.slots; steps = steps c.body }
+abbrev pub code_body : Code → BodyForm
+code_body c = record { inputs = c.inputs; slots = c.slots; steps = steps c.body }

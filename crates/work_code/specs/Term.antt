@@ -15,25 +15,25 @@ pub data Term : Type 0 where
   Bin : BinOp → Term → Term → Term
 
 -- one layer of an expression, whose parts are trees already
-abbrev pub term_at : Expr-F Term → Term
-term_at (open_expr.Const z) = Const z
-term_at (open_expr.Input place) = Input place
-term_at (open_expr.Slot slot) = Slot slot
-term_at (open_expr.Neg x) = Neg x.value
-term_at (open_expr.Not x) = Not x.value
-term_at (open_expr.Bin op l r) = Bin op l.value r.value
+abbrev pub term_layer : Expr-F Term → Term
+term_layer (open_expr.Const z) = Const z
+term_layer (open_expr.Input place) = Input place
+term_layer (open_expr.Slot slot) = Slot slot
+term_layer (open_expr.Neg x) = Neg x.value
+term_layer (open_expr.Not x) = Not x.value
+term_layer (open_expr.Bin op l r) = Bin op l.value r.value
 
 -- the tree of an expression
 abbrev pub term : Expr → Term
-term e = fold-Expr Term term_at e
+term e = fold-Expr Term term_layer e
 
 -- the expressions of a list
-abbrev pub listed : Exprs → List Expr
-listed es = es.items.items
+abbrev pub all_exprs : Exprs → List Expr
+all_exprs es = es.items.items
 
 -- the trees of a list of expressions
 abbrev pub terms : Exprs → List Term
-terms es = map term (listed es)
+terms es = map term (all_exprs es)
 
 -- how deep a tree is; a leaf is 1 deep
 abbrev pub depth_of : Term → ℕ

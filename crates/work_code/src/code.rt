@@ -4,7 +4,7 @@ ghost use Rattle.std.specs.Slice.Iter.{iter_rest};
 ghost use Rattle.std.specs.Iterator.Adapters.{IterYieldsInOrder};
 ghost use Rattle.std.specs.Borrow.{sem};
 ghost use Rattle.work_code.specs.Lent.{LendsStmt};
-ghost use Rattle.work_code.specs.Steps.{step, steps, statements, in_turn, body_of};
+ghost use Rattle.work_code.specs.Steps.{step, steps, statements, in_turn, code_body};
 
 use crate::{Expr, Exprs};
 use river_base::{Listed, NoMemory, Row};
@@ -155,7 +155,7 @@ impl Stmts {
 impl Code {
     /// A body with the same trees.
     pub fn copy(&self, alloc: Global) -> Result<Code, NoMemory>
-        ensures { IfOk result (λ copy. body_of copy ≡ body_of self.now) }
+        ensures { IfOk result (λ copy. code_body copy ≡ code_body self.now) }
     {
         Ok(Code {
             inputs: self.inputs,

@@ -4,7 +4,7 @@ ghost use Rattle.std.specs.Slice.Iter.{iter_rest};
 ghost use Rattle.std.specs.Iterator.Adapters.{IterYieldsInOrder};
 ghost use Rattle.std.specs.Borrow.{sem};
 ghost use Rattle.work_code.specs.Lent.{LendsExpr};
-ghost use Rattle.work_code.specs.Term.{term, listed, terms};
+ghost use Rattle.work_code.specs.Term.{term, all_exprs, terms};
 
 use river_base::NoMemory;
 use std::alloc::Global;
@@ -89,7 +89,7 @@ pub struct Exprs {
 impl Exprs {
     /// The empty list.
     pub fn new(alloc: Global) -> Exprs
-        ensures { listed result ≡ [] }
+        ensures { all_exprs result ≡ [] }
     {
         Exprs {
             items: Vec::new(alloc),
@@ -98,8 +98,8 @@ impl Exprs {
 
     /// Appends an expression; changes nothing where there is no memory.
     pub fn push(&mut self, x: Expr) -> Result<(), NoMemory>
-        ensures ok { OnOk result (listed self.new ≡ listed self.old ++ x ∷ []) }
-        ensures err { OnErr result (listed self.new ≡ listed self.old) }
+        ensures ok { OnOk result (all_exprs self.new ≡ all_exprs self.old ++ x ∷ []) }
+        ensures err { OnErr result (all_exprs self.new ≡ all_exprs self.old) }
     {
         self.items.push(x)?;
         Ok(())
@@ -107,52 +107,52 @@ impl Exprs {
 
     /// How many expressions there are.
     pub fn len(&self) -> usize
-        ensures { result ≡ length (listed self.now) }
+        ensures { result ≡ length (all_exprs self.now) }
     {
         self.items.len()
     }
 
     /// Whether there is no expression.
     pub fn is_empty(&self) -> bool
-        ensures { IsTrue result ↔ (listed self.now ≡ []) }
+        ensures { IsTrue result ↔ (all_exprs self.now ≡ []) }
     {
         self.items.is_empty()
     }
 
     /// The expression at a place, from 0.
     pub fn at(&self, i: usize) -> &Expr
-        requires { i < length (listed self.now) }
-        ensures { slice_get (listed self.now) i ≡ Some result.now }
+        requires { i < length (all_exprs self.now) }
+        ensures { slice_get (all_exprs self.now) i ≡ Some result.now }
     {
         &self.items[i]
     }
 
     /// The expression at a place, from 0, to be changed.
     pub fn at_mut(&mut self, i: usize) -> &mut Expr
-        requires { i < length (listed self.old) }
+        requires { i < length (all_exprs self.old) }
         ensures* writes_back { sem 𝓛 (LendsExpr self.entry i result) }
-        ensures value { slice_get (listed self.old) i ≡ Some result.now }
+        ensures value { slice_get (all_exprs self.old) i ≡ Some result.now }
     {
         &mut self.items[i]
     }
 
     /// Takes the last expression out; None where there is none.
     pub fn pop(&mut self) -> Option<Expr>
-        ensures { MatchOption result ((listed self.old ≡ []) × (listed self.new ≡ [])) (λ x. listed self.old ≡ listed self.new ++ x ∷ []) }
+        ensures { MatchOption result ((all_exprs self.old ≡ []) × (all_exprs self.new ≡ [])) (λ x. all_exprs self.old ≡ all_exprs self.new ++ x ∷ []) }
     {
         self.items.pop()
     }
 
     /// The expressions.
     pub fn as_slice(&self) -> &[Expr]
-        ensures { result.now ≡ listed self.now }
+        ensures { result.now ≡ all_exprs self.now }
     {
         self.items.as_slice()
     }
 
     /// Goes over the expressions in order.
     pub fn iter(&self) -> slice::Iter<'_, Expr>
-        ensures rest { iter_rest result ≡ listed self.now }
+        ensures rest { iter_rest result ≡ all_exprs self.now }
         ensures bound { length (iter_rest result) < 2 ^ 64 }
         ensures runs { IterYieldsInOrder Expr }
     {

@@ -3,7 +3,7 @@ ghost use Rattle.std.specs.Prelude.{◌≡◌, ◌≤◌, ◌++◌, length, map,
 ghost use Rattle.std.specs.List.{AllByRecursion};
 ghost use Rattle.river_base.specs.Grew.{GrewByPrefix};
 ghost use Rattle.work_code.specs.Term.{terms};
-ghost use Rattle.work_code.specs.Steps.{step, steps, body_of};
+ghost use Rattle.work_code.specs.Steps.{step, steps, code_body};
 ghost use Rattle.work_code.specs.Value.{val, IsWithin};
 ghost use Rattle.work_code.specs.Ran.{ran, ran_once, IsStepWithin, IsBodyWithin};
 
@@ -19,10 +19,10 @@ pub fn run_code(
     slots: &mut [i64],
     out: &mut Emitted,
 ) -> Result<(), NoMemory>
-    requires { IsBodyWithin (length input.now) (length slots.old) (body_of c.now).steps }
-    ensures pushes { OnOk result (out.new ≡ out.old ++ (ran (body_of c.now).steps input.now slots.old).pushes) }
-    ensures slots { OnOk result (slots.new ≡ (ran (body_of c.now).steps input.now slots.old).slots) }
-    ensures err { OnErr result (GrewByPrefix out.old (ran (body_of c.now).steps input.now slots.old).pushes out.new) }
+    requires { IsBodyWithin (length input.now) (length slots.old) (code_body c.now).steps }
+    ensures pushes { OnOk result (out.new ≡ out.old ++ (ran (code_body c.now).steps input.now slots.old).pushes) }
+    ensures slots { OnOk result (slots.new ≡ (ran (code_body c.now).steps input.now slots.old).slots) }
+    ensures err { OnErr result (GrewByPrefix out.old (ran (code_body c.now).steps input.now slots.old).pushes out.new) }
 {
     run_steps(&c.body, input, slots, out)
 }

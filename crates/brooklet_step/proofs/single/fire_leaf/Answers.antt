@@ -2,7 +2,7 @@ use Rattle.std.proofs.Common.{refl, ap, ◌∙◌, get_or, subst}
 use Rattle.kern_rows.specs.Forms.{code_form, filter_form}
 use Rattle.river_kernels.specs.Kern.{kern_of, code, filter, duplicate, deal, collect, unpack, window, select, project, cross, streamer, tally}
 use Rattle.work_code.specs.Term.{term, terms}
-use Rattle.brooklet_step.specs.Took.{HasRoom}
+use Rattle.brooklet_step.specs.Took.{HasLists}
 use Rattle.brooklet_step.proofs.Fires.{kern_of-filter, kern_of-duplicate, on_ok, on_both}
 use Rattle.brooklet_step.proofs.Ones.{zero_can, zero_fires, first_can, first_fires, free_can, free_fires, ports_can, ports_fires}
 use Rattle.brooklet_step.proofs.RowFires.{code_applies, code_does, filter_applies, filter_does, tally_applies, tally_does, duplicate_does}
@@ -123,7 +123,7 @@ returns-in-Duplicate c =
     let e = ap kern_of c.in-Duplicate.is ∙ kern_of-duplicate n in
     on_both _ _ _ c.give_everywhere.result
     (λ o a. zero_fires (kern_of c.args.kernel.now) (duplicate n) c.args.port c.args.item c.args.states.now c.args.states.now c.args.out.now c.give_everywhere.new.self e refl c.requires.can
-    (duplicate_does n c.args.item c.args.states.now c.args.out.now c.give_everywhere.new.self (subst (λ k. HasRoom k c.args.out.now) e c.requires.can.room) o a))
+    (duplicate_does n c.args.item c.args.states.now c.args.out.now c.give_everywhere.new.self (subst (λ k. HasLists k c.args.out.now) e c.requires.can.room) o a))
     c.give_everywhere.ensures.outs c.give_everywhere.ensures.adds
 
 pub fire_tally-requires-clause-row : goal.fire_tally-requires-clause-row

@@ -2,7 +2,7 @@ use Rattle.std.proofs.Common.{◌≡◌, sym, ap, ◌∙◌, subst}
 use Rattle.river_kernels.specs.Kern.{kern_of, fused, packed}
 use Rattle.river_kernels.proofs.KernLemmas.{kern_of-fused}
 use Rattle.brooklet_model.specs.Shapes.{IsFormed}
-use Rattle.brooklet_step.specs.Initial.{IsFirst}
+use Rattle.brooklet_step.specs.Initial.{AreFirstStates}
 use Rattle.brooklet_step.proofs.Fires.{kern_of-packed}
 use Rattle.brooklet_step.proofs.Starts.{packed_first, fused_first}
 use Rattle.brooklet_step.proofs.start.+states_of.Goals as goal
@@ -13,7 +13,7 @@ returns-then-is_leaf t c = c.in_ok-states.ensures
 pub returns-in_ok-states-in-Packed : goal.returns-in_ok-states-in-Packed
 returns-in_ok-states-in-Packed t c =
     let ek : kern_of c.args.kernel.now ≡ packed (kern_of c.deref.result.now) = ap kern_of c.in-Packed.is ∙ kern_of-packed c.in-Packed.inner ∙ ap (λ j. packed (kern_of j)) (sym c.deref.ensures) in
-    subst (λ i. IsFirst i c.in_ok-states-in-Packed.states) (sym ek) (packed_first (kern_of c.deref.result.now) c.in_ok-states-in-Packed.states c.in_ok-states-in-Packed.ensures)
+    subst (λ i. AreFirstStates i c.in_ok-states-in-Packed.states) (sym ek) (packed_first (kern_of c.deref.result.now) c.in_ok-states-in-Packed.states c.in_ok-states-in-Packed.ensures)
 
 pub returns-in_ok-append-in-Fused : goal.returns-in_ok-append-in-Fused
 returns-in_ok-append-in-Fused t c =
@@ -25,5 +25,5 @@ returns-in_ok-append-in-Fused t c =
     let ek : kern_of c.args.kernel.now ≡ fused a b at = ap kern_of c.in-Fused.is ∙ kern_of-fused c.in-Fused.first c.in-Fused.second at ∙ ap (λ i. fused i (kern_of c.in-Fused.second.value) at) (sym ea) ∙ ap (λ i. fused a i at) (sym eb) in
     let st = c.in_ok-states-in-Fused.states in
     let more = c.in_ok-states_of-in-Fused.field-0 in
-    subst (λ i. IsFirst i c.append.new.self) (sym ek)
-    (subst (IsFirst (fused a b at)) (sym c.in_ok-append-in-Fused.ensures.ok) (fused_first a b at st more (subst IsFormed ek c.requires) c.in_ok-states-in-Fused.ensures c.in_ok-states_of-in-Fused.ensures))
+    subst (λ i. AreFirstStates i c.append.new.self) (sym ek)
+    (subst (AreFirstStates (fused a b at)) (sym c.in_ok-append-in-Fused.ensures.ok) (fused_first a b at st more (subst IsFormed ek c.requires) c.in_ok-states-in-Fused.ensures c.in_ok-states_of-in-Fused.ensures))

@@ -1,7 +1,7 @@
 use Rattle.std.proofs.Common.{◌∙◌, [], length, map, subst, ap, arith, refl}
 use Rattle.std.specs.Prelude.{replicate}
 use Rattle.river_plan.specs.ByPlace.{kind_at}
-use Rattle.brooklet_step.specs.Initial.{IsFirst}
+use Rattle.brooklet_step.specs.Initial.{AreFirstStates}
 use Rattle.brooklet_step.specs.Took.{IsBlank}
 use Rattle.brooklet_step.proofs.NextLemmas.{kernel_at}
 use Rattle.brooklet_step.proofs.ReadLemmas.{ops_many}
@@ -34,7 +34,7 @@ returns-clause-task c =
       pending = c.in_ok-pending.ensures ∙ ap (λ l. replicate (length l) []) c.writes_of-count.ensures;
       first = λ op g.
           let e = kernel_at raw p c.args.op d op c.raw.ensures.raw g (c.at.ensures d) in
-          (subst (λ k. IsFirst k c.in_ok-states.states) e c.in_ok-states.ensures.states, subst (λ k. IsBlank k c.in_ok-states.out) e c.in_ok-states.ensures.emit);
+          (subst (λ k. AreFirstStates k c.in_ok-states.states) e c.in_ok-states.ensures.states, subst (λ k. IsBlank k c.in_ok-states.out) e c.in_ok-states.ensures.emit);
       homes = c.in_ok-tables.ensures;
       count = refl;
       bad = refl;

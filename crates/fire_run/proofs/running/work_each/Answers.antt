@@ -1,6 +1,6 @@
 use Rattle.std.proofs.Common.{◌≡◌, rules, List, ap, ◌∙◌, sym, subst, length, slice_index_or, ◌<◌}
 use Rattle.fire_tasks.specs.declared.bundle.Bundle.{Bundle}
-use Rattle.fire_tasks.specs.Bundles.{HasWorked}
+use Rattle.fire_tasks.specs.Bundles.{HasMadeRound}
 use Rattle.fire_run.specs.Frames.{HaveWorked}
 use Rattle.fire_run.proofs.RunLemmas.{written_back}
 use Rattle.fire_run.proofs.running.work_each.Goals as goal
@@ -15,6 +15,6 @@ returns g c =
     let whole : c.args.bundles.now.len ≡ length old = search rules in
     subst (HaveWorked raw old) (sym (written_back new old c.args.bundles.now.len many whole)) (record {
       many = many;
-      each = λ i d lt. subst (λ (l : List Bundle). HasWorked raw (slice_index_or l i d) (slice_index_or new i d)) value
+      each = λ i d lt. subst (λ (l : List Bundle). HasMadeRound raw (slice_index_or l i d) (slice_index_or new i d)) value
           (c.round_of.ensures.each i d (subst (λ (l : List Bundle). i < length l) (sym value) lt));
     })

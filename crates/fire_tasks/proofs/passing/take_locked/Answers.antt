@@ -2,7 +2,7 @@ use Rattle.std.proofs.Common.{◌<◌, ◌%◌, ℕ, List, length, sym, subst}
 use Rattle.std.specs.Prelude.{All}
 use Rattle.river_plan.specs.Forms.{plan_form}
 use Rattle.class_locks.specs.Piles.{HasTaken, FoundTaken}
-use Rattle.class_locks.specs.Views.{Has}
+use Rattle.class_locks.specs.Views.{StandsIn}
 use Rattle.fire_tasks.proofs.SeatLemmas.{grown_pile}
 use Rattle.fire_tasks.proofs.TurnLemmas.{classes_there, cells_of, tried_busy, tried_took}
 use Rattle.fire_tasks.proofs.passing.take_locked.Goals as goal
@@ -25,8 +25,8 @@ put_all-requires g c =
     let u = c.take_all.new.seat.view in
     let h = c.in-Ok.ensures.ok in
     grown_pile u c.args.task.now.op c.take_all.new.pile.items c.take_at-taken.new.pile.items
-    (subst (λ (ps : List ℕ). Has (c.args.task.now.op % u.seats) ps) (sym h.looked.parts)
-    (subst (λ (n : ℕ). Has (c.args.task.now.op % n) c.args.seat.now.view.parts) (sym h.looked.seats) c.requires.seat.part))
+    (subst (λ (ps : List ℕ). StandsIn (c.args.task.now.op % u.seats) ps) (sym h.looked.parts)
+    (subst (λ (n : ℕ). StandsIn (c.args.task.now.op % n) c.args.seat.now.view.parts) (sym h.looked.seats) c.requires.seat.part))
     h.pile c.take_at-taken.ensures.gained
 
 pub returns-in_default-clause-tried : goal.returns-in_default-clause-tried

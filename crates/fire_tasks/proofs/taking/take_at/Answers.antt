@@ -2,7 +2,7 @@ use Rattle.std.proofs.Common.{sym, subst}
 use Rattle.std.specs.List.Sorted.{IsStrictlyIncreasing}
 use Rattle.river_base.specs.Places.{list_at}
 use Rattle.river_plan.specs.Forms.{plan_form}
-use Rattle.fire_tasks.specs.Turns.{AreRowsFor, CanAdd}
+use Rattle.fire_tasks.specs.Turns.{AreRowsFor, HasCells}
 use Rattle.fire_tasks.proofs.AddLemmas.{can_add, none_gained}
 use Rattle.fire_tasks.proofs.TaskLemmas.{taken_at}
 use Rattle.fire_tasks.proofs.taking.take_at.Goals as goal
@@ -22,7 +22,7 @@ add_rows-requires-clause-can g c =
     let f = c.in_ok-fire_at.ensures in
     let t = c.args.task.now in
     let rows = list_at c.fire_at.new.task.out.adds in
-    subst (λ hs. CanAdd hs rows c.args.pile.now.items) (sym f.homes.0)
+    subst (λ hs. HasCells hs rows c.args.pile.now.items) (sym f.homes.0)
     (can_add (plan_form c.args.plan.now) t.op t.tables t.classes rows c.args.pile.now.items c.requires.task.1.homes
     (subst (λ hs. AreRowsFor (plan_form c.args.plan.now) hs rows) f.homes.0 (f.owes c.requires.task.0 c.requires.task.1).rows) c.requires.pile)
 

@@ -1,5 +1,5 @@
 use Rattle.std.proofs.Common.{◌≡◌, ℕ, drop, map}
-use Rattle.params_text.specs.Program.{in_order, step_of}
+use Rattle.params_text.specs.Program.{steps_in_turn, step_of}
 use Rattle.params_model.specs.Judged.{Above, steps_judged}
 use Rattle.params_build.specs.Above.{CountsParameters}
 use Rattle.params_build.proofs.step.+judged.Given as goal
@@ -8,5 +8,5 @@ abbrev pub invariant-steps-items : goal.invariant-steps-items
 invariant-steps-items l = record {
   kept : l.known.items ≡ l.initial.known.items;
   judged : (k : ℕ) (us : Above) → CountsParameters l.above us
-      → steps_judged k us l.initial.known.items (in_order (map step_of (drop l.each-index l.each-items))) ≡ steps_judged k us l.initial.known.items (in_order (map step_of l.each-items));
+      → steps_judged k us l.initial.known.items (steps_in_turn (map step_of (drop l.each-index l.each-items))) ≡ steps_judged k us l.initial.known.items (steps_in_turn (map step_of l.each-items));
 }

@@ -2,7 +2,7 @@ use Rattle.std.proofs.Common.{◌≡◌, ◌+◌, ◌-◌, ◌<◌, length, take
 use Rattle.params_model.specs.Making.{nothing_made, last_made}
 use Rattle.params_print.specs.Heads.{name_written}
 use Rattle.params_make.specs.Standing.{sources}
-use Rattle.params_make.specs.Written.{Makes}
+use Rattle.params_make.specs.Written.{MakesText}
 use Rattle.params_make.proofs.Bodies.{top-made, top-told}
 use Rattle.params_make.proofs.Sources.{values-above, values-at}
 use Rattle.params_make.proofs.make.made.Goals as goal
@@ -23,7 +23,7 @@ returns-in_err-make c =
     let there : length (take (length c.args.units.now - 1) us) ≡ (length c.args.units.now - 1) = search rules in
     let none : c.new.result ≡ [] = search rules in
     let is : c.from_residual.result ≡ Err c.in_err-make.field-0.0 = search rules in
-    subst (λ r. Makes r (last_made (sources us c.args.sizes.now))) (sym is)
+    subst (λ r. MakesText r (last_made (sources us c.args.sizes.now))) (sym is)
     (top-told us i (length (take i us)) c.index-units-last.result c.args.sizes.now c.new.result c.in_err-make.field-0.0 len c.index-units-last.is there none
     (c.in_err-make.ensures nothing_made c.new-making.ensures))
 

@@ -3,7 +3,7 @@ use Rattle.std.proofs.lemmas.Result.{on_ok_weaker}
 use Rattle.streamit_text.specs.Tree.{expression, statement, block, optional_block}
 use Rattle.streamit_text.proofs.Trees.{block-is, statement-if}
 use Rattle.params_text.specs.Toks.{statement_toks, block_toks, else_toks, spaced}
-use Rattle.params_model.specs.Plain.{put, put_once, put_all, put_optional}
+use Rattle.params_model.specs.Plain.{put_in, put_once, put_all, put_optional}
 use Rattle.params_print.specs.Heads.{if_toks}
 use Rattle.params_print.proofs.Blocks.{listed, listed-next, listed-end, part-more, block-closed, three-parts}
 use Rattle.params_print.proofs.statement.+statement.Goals as goal
@@ -35,7 +35,7 @@ statement-returns-in_ok-block-in-If t c =
     let yes = c.in-If.yes in
     let no = c.in-If.no in
     on_ok_weaker c.otherwise.result (λ third.
-    three-parts (if_toks (put env (expression cond))) (block_toks (put_all env (block yes))) (else_toks (put_optional env (optional_block no)))
+    three-parts (if_toks (put_in env (expression cond))) (block_toks (put_all env (block yes))) (else_toks (put_optional env (optional_block no)))
     c.args.to.now c.condition.new.to c.block.new.to c.otherwise.new.to c.in_ok-condition-in-If.ensures c.in_ok-block-in-If.ensures third
     ∙ ap (λ s. c.args.to.now ++ spaced (statement_toks (put_once env s))) (sym (ap statement c.in-If.is ∙ statement-if cond yes no)))
     c.otherwise.ensures

@@ -1,7 +1,7 @@
 use Rattle.std.proofs.Common.{◌+◌, drop, sym, ap, ◌∙◌}
 use Rattle.std.specs.Prelude.{map}
 use Rattle.work_code.specs.Cut.{unit_tokens}
-use Rattle.river_text.specs.Entries.{entry_of, text_form}
+use Rattle.river_text.specs.Entries.{entry_form, text_form}
 use Rattle.river_text.specs.Plans.{next_place}
 use Rattle.river_text.specs.ReadPlans.{read_plan}
 use Rattle.river_text.proofs.Loops.{plan-next, plan-bad, plan-end}
@@ -18,8 +18,8 @@ pub items-preserved : goal.items-preserved
 items-preserved c =
     let parts = c.args.parts.now in
     ap (λ place. read_plan place (c.items.i + 1 + 1) (text_form c.add_to.new.text) (map unit_tokens (drop (c.items.i + 1) parts))) c.next_place-place.ensures
-    ∙ ap (λ text. read_plan (next_place c.items.place (entry_of c.in-Ok.entry)) (c.items.i + 1 + 1) text (map unit_tokens (drop (c.items.i + 1) parts))) c.in_ok-add_to-in-Ok.ensures
-    ∙ plan-next c.items.place (c.items.i + 1) (text_form c.items.text) parts c.items.i _ (entry_of c.in-Ok.entry) c.items-test.true c.in-Ok.ensures
+    ∙ ap (λ text. read_plan (next_place c.items.place (entry_form c.in-Ok.entry)) (c.items.i + 1 + 1) text (map unit_tokens (drop (c.items.i + 1) parts))) c.in_ok-add_to-in-Ok.ensures
+    ∙ plan-next c.items.place (c.items.i + 1) (text_form c.items.text) parts c.items.i _ (entry_form c.in-Ok.entry) c.items-test.true c.in-Ok.ensures
     ∙ c.items.invariant
 
 pub returns : goal.returns

@@ -3,7 +3,7 @@ use Rattle.std.proofs.lemmas.Result.{on_ok_weaker, on_err_weaker}
 use Rattle.std.specs.BTreeMap.{is_at, insert_entry}
 use Rattle.std.specs.Map.{lookup, set_value}
 use Rattle.std.proofs.lemmas.List.{length-take-le}
-use Rattle.river_base.specs.Bags.{place}
+use Rattle.river_base.specs.Bags.{put_in_order}
 use Rattle.river_base.specs.Keyed.{put}
 use Rattle.river_base.specs.Row.{row_cmp, row_total}
 use Rattle.river_base.proofs.Keyed.{put_is_insert}
@@ -26,7 +26,7 @@ returns-in-Some-clause-ok c =
     let there : lookup (is_at (row_cmp c.key_of-key.result)) c.self.inside.maxima.entries ≡ Some c.in-Some.kept.now = search rules in
     on_ok_weaker c.add.result (λ ok.
     (c.get_mut.follows.holds c.add.new.self).0
-    ∙ ap (set_value (is_at (row_cmp k)) c.self.inside.maxima.entries) (ok ∙ ap (λ r. take c.args.best (place ranks_before r c.in-Some.kept.now)) (ranked_there c.values.result.now c.values-2.result.now c.args.row.now c.args.keys c.values.ensures.values c.values-2.ensures.values (search rules) (search rules)))
+    ∙ ap (set_value (is_at (row_cmp k)) c.self.inside.maxima.entries) (ok ∙ ap (λ r. take c.args.best (put_in_order ranks_before r c.in-Some.kept.now)) (ranked_there c.values.result.now c.values-2.result.now c.args.row.now c.args.keys c.values.ensures.values c.values-2.ensures.values (search rules) (search rules)))
     ∙ set_is_put [] (best_more c.args.best) k rest c.self.inside.maxima.entries c.in-Some.kept.now c.get_mut.ensures.ordered there
     ∙ (λ i. put row_cmp [] (best_more c.args.best) (c.self.view_is i) (c.key_of-key.ensures i, rest))) c.add.ensures.ok
 
@@ -50,7 +50,7 @@ returns-clause-ok c =
     let rest = drop c.args.keys c.args.row.now in
     let none : lookup (is_at (row_cmp c.key_of-key.result)) c.self.inside.maxima.entries ≡ None = search rules in
     let same = ap (λ m. m.entries) c.get_mut.follows.holds-at-none in
-    let value = c.in_ok-add.ensures.ok ∙ ap (λ r. take c.args.best (place ranks_before r c.new-first.result)) (ranked_there c.values.result.now c.values-2.result.now c.args.row.now c.args.keys c.values.ensures.values c.values-2.ensures.values (search rules) (search rules)) ∙ ap (λ l. take c.args.best (place ranks_before (ranked_in rest) l)) c.new-first.ensures in
+    let value = c.in_ok-add.ensures.ok ∙ ap (λ r. take c.args.best (put_in_order ranks_before r c.new-first.result)) (ranked_there c.values.result.now c.values-2.result.now c.args.row.now c.args.keys c.values.ensures.values c.values-2.ensures.values (search rules) (search rules)) ∙ ap (λ l. take c.args.best (put_in_order ranks_before (ranked_in rest) l)) c.new-first.ensures in
     c.in_ok-insert.ensures.entries ∙ (λ i. insert_entry row_cmp (same i) c.key_of-key.result (value i))
     ∙ put_is_insert row_cmp row_total exact_rows [] (best_more c.args.best) (maxima_commute c.args.best) c.self.inside.maxima.entries c.key_of-key.result rest None c.get_mut.ensures.ordered none
     ∙ (λ i. put row_cmp [] (best_more c.args.best) (c.self.view_is i) (c.key_of-key.ensures i, rest))

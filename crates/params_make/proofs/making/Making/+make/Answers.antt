@@ -3,7 +3,7 @@ use Rattle.streamit_text.specs.Tree.{expression, is_turn}
 use Rattle.streamit_text.specs.Program as plain
 use Rattle.streamit_text.proofs.Places.{at_place, none_left}
 use Rattle.streamit_model.specs.Meaning.{numbers_from}
-use Rattle.params_text.specs.Program.{in_order, step_of, steps_of, expressions, declared_of, body_of, dealing_of, rounds_of, Step}
+use Rattle.params_text.specs.Program.{steps_in_turn, step_of, steps_of, expressions, declared_of, body_of, dealing_of, rounds_of, Step}
 use Rattle.params_text.proofs.StepTrees.{steps-are, step-loop}
 use Rattle.params_model.specs.Constants.{HaveFitConstants}
 use Rattle.params_model.specs.Environment.{dealing, option_counts}
@@ -23,8 +23,8 @@ use Rattle.params_make.proofs.making.Making.+make.Goals as goal
 
 pub steps-items-init : goal.steps-items-init
 steps-items-init t c = record {
-  far = λ m h. so-start (steps_made (adding c.args.seen.units.now c.args.seen.sizes.now c.args.seen.depth) (suc (length c.args.seen.units.now)) c.args.scope.now.known (in_order (map step_of c.as_slice-each-items.result.now))) c.args.scope.now c.args.self.now m h;
-  fit = subst (λ l. HaveFitConstants (in_order (map step_of l))) (sym c.as_slice-each-items.ensures.value) (subst HaveFitConstants (steps-are c.args.steps.now) c.requires.steps);
+  far = λ m h. so-start (steps_made (adding c.args.seen.units.now c.args.seen.sizes.now c.args.seen.depth) (suc (length c.args.seen.units.now)) c.args.scope.now.known (steps_in_turn (map step_of c.as_slice-each-items.result.now))) c.args.scope.now c.args.self.now m h;
+  fit = subst (λ l. HaveFitConstants (steps_in_turn (map step_of l))) (sym c.as_slice-each-items.ensures.value) (subst HaveFitConstants (steps-are c.args.steps.now) c.requires.steps);
 }
 
 pub steps-items-preserved : goal.steps-items-preserved
@@ -36,13 +36,13 @@ steps-items-preserved t c =
     let env = c.args.scope.now.known in
     let step = c.each-item.result in
     let at = at_place step_of items i step (omega arith) c.each-item.is in
-    let rest = λ (l : List Step). steps_made add k env (in_order l) in
+    let rest = λ (l : List Step). steps_made add k env (steps_in_turn l) in
     record {
       far = λ m h.
           let f = c.items.invariant.far m h in
           so-next (rest (map step_of items) m) (λ e. made_once add k e (step_of step)) (rest (map step_of (drop i items))) (rest (map step_of (drop (i + 1) items)))
           c.args.scope.now c.items.scope c.step.new.scope c.items.self c.step.new.self (λ q. ap (λ l. rest l q) at) f (c.in-Ok.ensures f.made f.stands);
-      fit = (subst (λ l. HaveFitConstants (in_order l)) at c.items.invariant.fit).1;
+      fit = (subst (λ l. HaveFitConstants (steps_in_turn l)) at c.items.invariant.fit).1;
     }
 
 pub steps-returns : goal.steps-returns
@@ -52,8 +52,8 @@ steps-returns t c = λ m h.
     let add = adding c.args.seen.units.now c.args.seen.sizes.now c.args.seen.depth in
     let k = suc (length c.args.seen.units.now) in
     let env = c.args.scope.now.known in
-    let rest = λ (l : List Step). steps_made add k env (in_order l) in
-    let same = ap (λ l. in_order (map step_of l)) c.as_slice-each-items.ensures.value ∙ sym (steps-are c.args.steps.now) in
+    let rest = λ (l : List Step). steps_made add k env (steps_in_turn l) in
+    let same = ap (λ l. steps_in_turn (map step_of l)) c.as_slice-each-items.ensures.value ∙ sym (steps-are c.args.steps.now) in
     subst (λ ss. MakesMore (Ok tt) c.args.scope.now c.items.scope c.items.self (steps_made add k env ss m)) same
     (so-end (rest (map step_of items) m) (rest (map step_of (drop i items))) c.args.scope.now c.items.scope c.items.self
     (λ q. ap (λ l. rest l q) (none_left step_of items i (omega arith))) (c.items.invariant.far m h))
@@ -67,8 +67,8 @@ steps-returns-in-Err t c = λ m h.
     let env = c.args.scope.now.known in
     let step = c.each-item.result in
     let at = at_place step_of items i step (omega arith) c.each-item.is in
-    let rest = λ (l : List Step). steps_made add k env (in_order l) in
-    let same = ap (λ l. in_order (map step_of l)) c.as_slice-each-items.ensures.value ∙ sym (steps-are c.args.steps.now) in
+    let rest = λ (l : List Step). steps_made add k env (steps_in_turn l) in
+    let same = ap (λ l. steps_in_turn (map step_of l)) c.as_slice-each-items.ensures.value ∙ sym (steps-are c.args.steps.now) in
     let e = c.in-Err.refusal in
     let f = c.items.invariant.far m h in
     subst (λ ss. Told e.unit e.fault (steps_made add k env ss m)) same

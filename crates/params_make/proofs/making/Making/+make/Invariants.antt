@@ -1,6 +1,6 @@
 use Rattle.std.proofs.Common.{◌+◌, ◌*◌, ◌-◌, suc, drop, map, length}
 use Rattle.streamit_model.specs.Meaning.{numbers_from}
-use Rattle.params_text.specs.Program.{in_order, step_of, steps_of}
+use Rattle.params_text.specs.Program.{steps_in_turn, step_of, steps_of}
 use Rattle.params_text.specs.declared.program.Steps.{size-Steps}
 use Rattle.params_model.specs.Constants.{HaveFitConstants}
 use Rattle.params_model.specs.Making.{Made, steps_made, turns_made}
@@ -46,10 +46,10 @@ abbrev pub invariant-steps-items : goal.invariant-steps-items
 invariant-steps-items l = record {
   far :
       (m : Made) → Stands l.initial.self m
-      → SoFar (steps_made (adding l.seen.units.now l.seen.sizes.now l.seen.depth) (suc (length l.seen.units.now)) l.initial.scope.known (in_order (map step_of l.each-items)) m)
-      (steps_made (adding l.seen.units.now l.seen.sizes.now l.seen.depth) (suc (length l.seen.units.now)) l.initial.scope.known (in_order (map step_of (drop l.each-index l.each-items))))
+      → SoFar (steps_made (adding l.seen.units.now l.seen.sizes.now l.seen.depth) (suc (length l.seen.units.now)) l.initial.scope.known (steps_in_turn (map step_of l.each-items)) m)
+      (steps_made (adding l.seen.units.now l.seen.sizes.now l.seen.depth) (suc (length l.seen.units.now)) l.initial.scope.known (steps_in_turn (map step_of (drop l.each-index l.each-items))))
       l.initial.scope l.scope l.self;
-  fit : HaveFitConstants (in_order (map step_of (drop l.each-index l.each-items)));
+  fit : HaveFitConstants (steps_in_turn (map step_of (drop l.each-index l.each-items)));
 }
 
 abbrev pub invariant-turns-range : goal.invariant-turns-range

@@ -1,6 +1,6 @@
 use Rattle.std.proofs.Common.{◌≡◌, ◌≤◌, ◌<◌, ◌+◌, Err, length, drop, get_or, rules, sym, subst}
 use Rattle.std.proofs.lemmas.List.{drop_all}
-use Rattle.streamit_model.specs.Judged.{streams_of}
+use Rattle.streamit_model.specs.Judged.{streams_added}
 use Rattle.streamit_build.specs.Units.{unit_forms}
 use Rattle.streamit_build.specs.Knowing.{may, AddsAll}
 use Rattle.streamit_build.proofs.Added.{SoFar, adds_start, adds_next, adds_fault, adds_end, first_fault, name_at}
@@ -10,7 +10,7 @@ pub returns-in_err-first : goal.returns-in_err-first
 returns-in_err-first c = λ known k.
     let adds = c.args.adds.now in
     let is : c.from_residual.result ≡ Err c.in_err-first.field-0.0 = search rules in
-    subst (λ r. AddsAll (unit_forms c.args.self.now.declared.items) r (streams_of (may c.args.branch) known 0 adds.first adds.others.items)) (sym is)
+    subst (λ r. AddsAll (unit_forms c.args.self.now.declared.items) r (streams_added (may c.args.branch) known 0 adds.first adds.others.items)) (sym is)
     (first_fault (may c.args.branch) known adds.first adds.others.items c.in_err-first.field-0.0 (c.in_err-first.ensures known k))
 
 pub loop-i-init : goal.loop-i-init
@@ -24,7 +24,7 @@ loop-i-preserved c = λ known k.
     let adds = c.args.adds.now in
     let us = unit_forms c.args.self.now.declared.items in
     let others = adds.others.items in
-    let whole = streams_of (may c.args.branch) known 0 adds.first others in
+    let whole = streams_added (may c.args.branch) known 0 adds.first others in
     let i = c.loop-i.i in
     let m = c.index.result.now in
     let lt : i < length others = search rules in
@@ -38,7 +38,7 @@ returns-in_err-next c = λ known k.
     let adds = c.args.adds.now in
     let us = unit_forms c.args.self.now.declared.items in
     let others = adds.others.items in
-    let whole = streams_of (may c.args.branch) known 0 adds.first others in
+    let whole = streams_added (may c.args.branch) known 0 adds.first others in
     let i = c.loop-i.i in
     let m = c.index.result.now in
     let lt : i < length others = search rules in
@@ -53,7 +53,7 @@ returns c = λ known k.
     let adds = c.args.adds.now in
     let us = unit_forms c.args.self.now.declared.items in
     let others = adds.others.items in
-    let whole = streams_of (may c.args.branch) known 0 adds.first others in
+    let whole = streams_added (may c.args.branch) known 0 adds.first others in
     let i = c.loop-i.i in
     let le : length others ≤ i = search rules in
     adds_end us (may c.args.branch) known whole i c.loop-i.children (subst (λ l. SoFar us (may c.args.branch) known whole i l c.loop-i.children) (drop_all i others le) (c.loop-i.invariant known k))
