@@ -92,7 +92,8 @@ impl Command {
         ensures { result ≡ lang_of self.now }
     {
         match self {
-            Command::Run { lang, .. } | Command::Plan { lang, .. } | Command::Mean { lang, .. } => *lang,
+            Command::Run { lang, .. } | Command::Plan { lang, .. } | Command::Mean { lang, .. } =>
+                *lang,
             Command::Upgrade { .. } => Lang::River,
             Command::Load { .. } => Lang::Sawzall,
         }

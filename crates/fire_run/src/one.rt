@@ -58,9 +58,7 @@ fn take_for<G: Gate>(
 
 // A move of this task, if it has a pending or an untaken item: where an item is pending the first such goes, and otherwise the next is
 // taken.
-#[tactic(auto, using(fire_tasks::proofs::PassLemmas::looked_task,
-    crate::proofs::MoveLemmas::none_added, crate::proofs::MoveLemmas::so_next, crate::proofs::MoveLemmas::so_idle,
-    crate::proofs::MoveLemmas::so_long, crate::proofs::MoveLemmas::still_ins))]
+#[tactic(auto, using(fire_tasks::proofs::PassLemmas::looked_task, crate::proofs::MoveLemmas::none_added, crate::proofs::MoveLemmas::so_next, crate::proofs::MoveLemmas::so_idle, crate::proofs::MoveLemmas::so_long, crate::proofs::MoveLemmas::still_ins))]
 fn move_one<G: Gate>(
     alloc: Global,
     plan: &RawPlan,

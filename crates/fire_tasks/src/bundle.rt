@@ -58,8 +58,7 @@ fn sweep<G: Gate>(
     Ok(moved)
 }
 
-#[tactic(auto, using(crate::proofs::BundleLemmas::swept_none, crate::proofs::BundleLemmas::swept_more,
-    crate::proofs::BundleLemmas::swept_then, crate::proofs::TurnLemmas::sits_then))]
+#[tactic(auto, using(crate::proofs::BundleLemmas::swept_none, crate::proofs::BundleLemmas::swept_more, crate::proofs::BundleLemmas::swept_then, crate::proofs::TurnLemmas::sits_then))]
 // A pass over these tasks. Where nothing moves it looks again, at most so often, since other workers send and take meanwhile.
 fn pass_all<G: Gate>(
     alloc: Global,

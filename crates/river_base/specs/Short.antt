@@ -22,7 +22,7 @@ rebuilt cap z f len values h =
     let fits : len ≤ length values = omega (arith, h.at_most, h.full) in
     let e : length (take len values) ≡ len = length-take-le _ _ fits in
     let v : padded cap z (take len values) ≡ values = ap (λ n. take len values ++ replicate (cap - n) z) e ∙ ap (λ t. take len values ++ t) (sym h.rest)
-        ∙ take-append-drop len values in
+    ∙ take-append-drop len values in
     λ i. f (e i) (v i)
 
 -- a write to one of the values

@@ -85,7 +85,11 @@ fn answered_in<L: Language, R: Threads + Sync, S: Shelf, G: Gate + Sync>(
             let crew = Crew::new(rt, gate, *workers, *cap);
             run::<L, R, S, G>(alloc, &crew, file, ins, script, *header, *counts, shelf)
         }
-        Command::Plan { lang: _, file, script } => show::<L, S>(alloc, file, script, shelf),
+        Command::Plan {
+            lang: _,
+            file,
+            script,
+        } => show::<L, S>(alloc, file, script, shelf),
         Command::Mean {
             lang: _,
             file,

@@ -159,4 +159,3 @@ pub record IsCql (s : SourceProgram) (p : cql_text.Program) : Type 0 where
   pub columns : HaveColumns [] p
   pub inputs : s.inputs ≡ input_decls p
   pub means : (files : List Content) → s.means files ≡ cql_means p files
-

@@ -4,13 +4,13 @@
 
 mod cql;
 mod params;
+mod plan_text;
 mod records;
-mod river_text;
 mod sawzall;
 mod streamit;
 
 pub use cql::Cql;
 pub use params::Params;
-pub use river_text::RiverText;
+pub use plan_text::RiverText;
 pub use sawzall::Sawzall;
 pub use streamit::Streamit;

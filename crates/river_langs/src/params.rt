@@ -48,6 +48,10 @@ impl Language for Params {
         compiled: &Compiled<StreamitProgram>,
         files: Listed<Content>,
     ) -> Result<Outcome, NoMemory> {
-        mean_streamit(alloc, &compiled.program, &values_of(alloc, rows_of(alloc, files))?)
+        mean_streamit(
+            alloc,
+            &compiled.program,
+            &values_of(alloc, rows_of(alloc, files))?,
+        )
     }
 }

@@ -47,6 +47,10 @@ impl Language for Sawzall {
         compiled: &Compiled<SawProgram>,
         files: Listed<Content>,
     ) -> Result<Outcome, NoMemory> {
-        mean_sawzall(alloc, &compiled.program, &listed(alloc, rows_of(alloc, files))?)
+        mean_sawzall(
+            alloc,
+            &compiled.program,
+            &listed(alloc, rows_of(alloc, files))?,
+        )
     }
 }

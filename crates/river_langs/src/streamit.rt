@@ -47,6 +47,10 @@ impl Language for Streamit {
         compiled: &Compiled<StreamitProgram>,
         files: Listed<Content>,
     ) -> Result<Outcome, NoMemory> {
-        mean_streamit(alloc, &compiled.program, &values_of(alloc, rows_of(alloc, files))?)
+        mean_streamit(
+            alloc,
+            &compiled.program,
+            &values_of(alloc, rows_of(alloc, files))?,
+        )
     }
 }

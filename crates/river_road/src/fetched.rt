@@ -7,8 +7,8 @@ ghost use Rattle.river_road.specs.Inputs.{fetch_each};
 ghost use Rattle.river_road.specs.Limits.{most_input};
 ghost use Rattle.river_road.specs.Text.{large_input};
 
-use command_line::InWord;
 use crate::text;
+use command_line::InWord;
 use river_base::{Bytes, Listed};
 use river_order::{Stop, fetch_turn};
 use river_outside::Shelf;

@@ -8,12 +8,12 @@ ghost use Rattle.river_plan.specs.Names.{count};
 ghost use Rattle.river_road.specs.Contents.{AreContents};
 ghost use Rattle.river_road.specs.Inputs.{of_inputs};
 
-use crate::layout::Layout;
-use command_line::InWord;
 use crate::content::Content;
 use crate::fetched::fetch_all;
+use crate::layout::Layout;
 use crate::names::check_names;
 use crate::rows::read_inputs;
+use command_line::InWord;
 use river_base::Listed;
 use river_order::Stop;
 use river_outside::Shelf;

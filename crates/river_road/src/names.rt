@@ -5,8 +5,8 @@ ghost use Rattle.river_plan.specs.Forms.{decl_names};
 ghost use Rattle.river_plan.specs.Names.{count};
 ghost use Rattle.river_road.specs.Inputs.{names, unknown, missing, names_fit};
 
-use command_line::InWord;
 use crate::text;
+use command_line::InWord;
 use river_order::Stop;
 use river_plan::Decl;
 use std::alloc::Global;

@@ -13,10 +13,10 @@ ghost use Rattle.river_plan.specs.Names.{count};
 ghost use Rattle.river_road.specs.Inputs.{width_named, file_read, read_as, file_content, content_reader, all_read, content_named, contents_in_order, NamesNone, NamesPlace};
 ghost use Rattle.river_road.specs.declared.content.Content.TheVariants.{Rows as Plain, Timed};
 
-use crate::layout::Layout;
-use command_line::InWord;
 use crate::content::Content;
+use crate::layout::Layout;
 use crate::text;
+use command_line::InWord;
 use csv_streams::{InFault, read_even, read_timed};
 use kern_rows::EvenRows;
 use river_base::{Bytes, FlatType, Listed, NoMemory, QueueType};

@@ -31,7 +31,7 @@ pop-leaf (suc n) t text ts is h =
     h.is ∙ ap (λ (l : List Tok). symbol s.Open ∷ l) (h.formed.is ∙ ap (λ (l : List Tok). l ++ symbol s.Close ∷ []) h.formed.formed.1) in
     subst (λ (u : Expression). IsLeaf (suc n) u (name text ∷ ts)) (sym h.formed.formed.0)
     (subst (λ (us : List Tok). IsLeaf (suc n) Pop us)
-              (ap (λ (w : List ℕ). name w ∷ symbol s.Open ∷ symbol s.Close ∷ []) (sym is) ∙ ap (λ (us : List Tok). name text ∷ us) (sym tokens)) (rule.pop n))
+    (ap (λ (w : List ℕ). name w ∷ symbol s.Open ∷ symbol s.Close ∷ []) (sym is) ∙ ap (λ (us : List Tok). name text ∷ us) (sym tokens)) (rule.pop n))
 
 leaf-sound : (n : ℕ) (ts : List Tok) (t : Expression) (rest : List Tok) → leaf_at n ts ≡ Some (t, rest) → Front (IsLeaf n) t ts rest
 unfolding named_leaf

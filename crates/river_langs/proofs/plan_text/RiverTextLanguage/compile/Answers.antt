@@ -1,7 +1,7 @@
 use Rattle.river_text.specs.Meaning.{plan_in}
 use Rattle.river_langs.proofs.Compiled.{river-compiled}
 use Rattle.river_langs.specs.Sources.{river_in}
-use Rattle.river_langs.proofs.river_text.RiverTextLanguage.compile.Goals as goal
+use Rattle.river_langs.proofs.plan_text.RiverTextLanguage.compile.Goals as goal
 
 pub returns-in-Ok : goal.returns-in-Ok
 unfolding river_in

@@ -2,7 +2,7 @@ use Rattle.std.proofs.Common.{List, sym, subst}
 use Rattle.river_base.specs.declared.item.Item as item
 use Rattle.brooklet_model.specs.Fit.{Fit}
 use Rattle.river_road.proofs.Items.{contents-fit}
-use Rattle.river_langs.proofs.river_text.RiverTextLanguage.mean.Goals as goal
+use Rattle.river_langs.proofs.plan_text.RiverTextLanguage.mean.Goals as goal
 
 pub run_lines-requires : goal.run_lines-requires
 run_lines-requires c = record {
