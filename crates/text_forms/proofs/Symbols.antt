@@ -6,6 +6,9 @@ use Rattle.work_code.specs.Tok.{Tok, name, var, number, symbol}
 use Rattle.work_code.specs.Symbols.{code_of}
 use Rattle.work_code.specs.declared.sign.Symbol.{Symbol}
 use Rattle.work_code.specs.declared.sign.Symbol.TheVariants as s
+use Rattle.work_code.specs.contracts.sign.Symbol.{the_type}
+use denote.Enum.Bare.{sameb}
+use denote.Enum.Declared.{tag_of}
 use Rattle.text_forms.specs.Tail.{tail}
 use Rattle.text_forms.specs.Parse.{begins_with}
 
@@ -86,3 +89,37 @@ begins_with-is x (symbol y ∷ ts) e = ap (λ (z : Symbol). symbol z ∷ ts) (sa
 -- tokens begin with the symbol that is first
 pub begins_with-symbol : (x : Symbol) (ts : List Tok) → begins_with x (symbol x ∷ ts) ≡ true
 begins_with-symbol x ts = eq-eqb (code_of x) (code_of x) refl
+
+-- the code that tests whether symbols are the same goes by their numbers
+tag_of-is : (x : Symbol) → tag_of the_type x ≡ code_of x
+tag_of-is s.Plus = refl
+tag_of-is s.Minus = refl
+tag_of-is s.Star = refl
+tag_of-is s.Slash = refl
+tag_of-is s.Percent = refl
+tag_of-is s.Open = refl
+tag_of-is s.Close = refl
+tag_of-is s.OpenBracket = refl
+tag_of-is s.CloseBracket = refl
+tag_of-is s.OpenBrace = refl
+tag_of-is s.CloseBrace = refl
+tag_of-is s.Comma = refl
+tag_of-is s.Semicolon = refl
+tag_of-is s.Colon = refl
+tag_of-is s.Dot = refl
+tag_of-is s.Assign = refl
+tag_of-is s.Equal = refl
+tag_of-is s.NotEqual = refl
+tag_of-is s.Different = refl
+tag_of-is s.Less = refl
+tag_of-is s.LessEqual = refl
+tag_of-is s.Greater = refl
+tag_of-is s.GreaterEqual = refl
+tag_of-is s.And = refl
+tag_of-is s.Or = refl
+tag_of-is s.Not = refl
+tag_of-is s.Increment = refl
+tag_of-is s.Arrow = refl
+
+pub same_code : (x y : Symbol) → sameb the_type x y ≡ (code_of x == code_of y)
+same_code x y = ap (λ (n : ℕ). n == tag_of the_type y) (tag_of-is x) ∙ ap (λ (n : ℕ). code_of x == n) (tag_of-is y)

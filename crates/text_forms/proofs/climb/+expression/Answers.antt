@@ -2,7 +2,7 @@ use Rattle.std.proofs.Common.{◌∙◌, ◌-◌, sym, arith}
 use Rattle.text_forms.specs.ReadLevels.{ladder, within}
 use Rattle.text_forms.proofs.Climbs.{ladder-chain, ladder-once, ladder-prefix, chain-at, once-at, prefix-at, within-at, chained-grown, chained-failed, grown-deep, grown-taken}
 use Rattle.text_forms.proofs.Climbed.{ladder-zero, once-some, once-none, chain-end, prefix-zero, prefix-below, prefix-marked, base-zero, base-open, base-call, base-leaf}
-use Rattle.text_forms.proofs.Climbed.{grown-joined, closed-zero, closed-all}
+use Rattle.text_forms.proofs.Climbed.{grown-joined, closed-zero, closed-all, called-all}
 use Rattle.text_forms.proofs.climb.+expression.Goals as goal
 
 -- one operator more
@@ -185,3 +185,11 @@ grown-returns-in_err-right-clause-reads g t c = grind (arith, grown-taken)
 
 pub chain-returns-in_err-left-2-clause-reads : goal.chain-returns-in_err-left-2-clause-reads
 chain-returns-in_err-left-2-clause-reads g t c = grind (arith, chained-failed)
+
+-- a word before brackets
+pub called-returns-clause-reads : goal.called-returns-clause-reads
+called-returns-clause-reads g t c =
+    let S = g.D.Dialect.syntax c.args.dialect.now in
+    let leaf = g.D.Dialect.leaf c.args.dialect.now in
+    let ts = g.R.TokenSource.rest c.args.reader.now in
+    called-all S (within S leaf c.args.brackets) c.args.room ts _ _ c.args.sign _ _ c.in_ok-expect.ensures c.in_ok-inner.ensures.reads c.in_ok-tree.ensures
