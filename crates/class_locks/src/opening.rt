@@ -126,7 +126,8 @@ fn deal(top: &Top, place: &mut Place) -> Place
     ensures seated { IsSeated top.now.table_id top.now.key place.new }
     ensures other { IsSeated top.now.table_id top.now.key result }
     ensures views { (k m : ℕ) → place.old.me.0 ≡ with_parts top.now.key.seats top.now.key.cells.value (count_up k (m + 2)) []
-        → (place.new.me.0 ≡ with_parts top.now.key.seats top.now.key.cells.value (count_up (k + 1) (m + 1)) []) × (result.me.0 ≡ with_parts top.now.key.seats top.now.key.cells.value (k ∷ []) []) }
+        → (place.new.me.0 ≡ with_parts top.now.key.seats top.now.key.cells.value (count_up (k + 1) (m + 1)) [])
+        × (result.me.0 ≡ with_parts top.now.key.seats top.now.key.cells.value (k ∷ []) []) }
 {
     top.split_seat::<Cut>(place)
 }

@@ -22,4 +22,14 @@ pub record Still : Type 0 where
   pub count : ℕ
 
 abbrev pub still : Task → Still
-still t = record { ends = ends_of t; seen = seen_task t; kinds = t.kinds; states = t.states; pending = t.pending; out = t.out; tables = t.tables; classes = t.classes; count = t.count }
+still t = record {
+  ends = ends_of t;
+  seen = seen_task t;
+  kinds = t.kinds;
+  states = t.states;
+  pending = t.pending;
+  out = t.out;
+  tables = t.tables;
+  classes = t.classes;
+  count = t.count;
+}
