@@ -4,7 +4,7 @@ use Rattle.river_base.specs.declared.item.Item as item
 use Rattle.river_base.specs.Places.{only, append_at}
 use Rattle.kern_rows.specs.Turns.{Turns, front_in, rest_in, front_at, rest_at, front_of, passed, put, waiting, joins}
 use Rattle.kern_bags.specs.Steps.{Pairing, front_pair, front_of_pair, without_first, rest_of_pair, put_pair, crosses}
-use Rattle.brooklet_model.specs.Firings.{Kept, Slots, Buffered, Turn, Joining, Received, Crossing, Fired, and_then}
+use Rattle.brooklet_model.specs.Firings.{Kept, Joining, Crossing, Fired, and_then}
 use Rattle.brooklet_model.specs.Fire.{join_one, cross_one}
 use Rattle.brooklet_model.specs.Shapes.{IsOne, IsJoining, IsCrossing}
 use Rattle.brooklet_model.specs.Words.{Alike}

@@ -13,6 +13,7 @@ pub mod Flatness
 pub mod FormJudged
 pub mod Instances
 pub mod MadeNames
+pub mod OtherKernels
 pub mod Packs
 pub mod Pushes
 pub mod Sized

@@ -70,19 +70,7 @@ fn blocks(kernel: &Kernel) -> Option<Form>
 {
     match kernel {
         Kernel::Filter(filter) => whole_blocks(filter),
-        Kernel::Code(_) => None,
-        Kernel::Duplicate(_) => None,
-        Kernel::Deal(_) => None,
-        Kernel::Collect(_) => None,
-        Kernel::Packed(_) => None,
-        Kernel::Unpack(_) => None,
-        Kernel::Window(_) => None,
-        Kernel::Select(_) => None,
-        Kernel::Project(_) => None,
-        Kernel::Cross => None,
-        Kernel::Streamer(_) => None,
-        Kernel::Tally => None,
-        Kernel::Fused { .. } => None,
+        _ => None,
     }
 }
 

@@ -14,6 +14,7 @@ pub mod HoistLemmas
 pub mod HoistSteps
 pub mod Instances
 pub mod OpLemmas
+pub mod OtherKernels
 pub mod PassCases
 pub mod Passing
 pub mod Selected

@@ -230,18 +230,6 @@ fn condition(kernel: &Kernel) -> Option<&Expr>
 {
     match kernel {
         Kernel::Select(cond) => Some(cond),
-        Kernel::Code(_) => None,
-        Kernel::Filter(_) => None,
-        Kernel::Duplicate(_) => None,
-        Kernel::Deal(_) => None,
-        Kernel::Collect(_) => None,
-        Kernel::Packed(_) => None,
-        Kernel::Unpack(_) => None,
-        Kernel::Window(_) => None,
-        Kernel::Project(_) => None,
-        Kernel::Cross => None,
-        Kernel::Streamer(_) => None,
-        Kernel::Tally => None,
-        Kernel::Fused { .. } => None,
+        _ => None,
     }
 }

@@ -26,16 +26,7 @@ pub(crate) fn passes(
         Kernel::Window(_) | Kernel::Streamer(_) => Ok((0, cond.copy(alloc)?)),
         Kernel::Project(exprs) => past_projection(alloc, exprs, cond),
         Kernel::Cross => past_cross(alloc, width, cond),
-        Kernel::Code(_) => Err(Unfit::H3),
-        Kernel::Filter(_) => Err(Unfit::H3),
-        Kernel::Duplicate(_) => Err(Unfit::H3),
-        Kernel::Deal(_) => Err(Unfit::H3),
-        Kernel::Collect(_) => Err(Unfit::H3),
-        Kernel::Packed(_) => Err(Unfit::H3),
-        Kernel::Unpack(_) => Err(Unfit::H3),
-        Kernel::Select(_) => Err(Unfit::H3),
-        Kernel::Tally => Err(Unfit::H3),
-        Kernel::Fused { .. } => Err(Unfit::H3),
+        _ => Err(Unfit::H3),
     }
 }
 
