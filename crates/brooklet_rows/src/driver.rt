@@ -13,7 +13,7 @@ use std::alloc::Global;
 const CHOICES: u32 = 5_000;
 
 /// Why a plan did not come to what is printed of it.
-#[derive(Clone, Copy)]
+#[derive(Clone, Copy, Debug)]
 pub enum Broken {
     /// There was no memory.
     NoMemory,

@@ -16,7 +16,7 @@ use std::thread::Threads;
 const CAPS: [u32; 3] = [1, 2, 64];
 
 /// Why a plan does not give the same by workers.
-#[derive(Clone, Copy)]
+#[derive(Clone, Copy, Debug)]
 pub enum Broken {
     /// There was no memory.
     NoMemory,

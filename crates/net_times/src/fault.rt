@@ -1,7 +1,7 @@
 // Why a run that is asked for gives nothing.
 use river_base::NoMemory;
 
-#[derive(Clone, Copy)]
+#[derive(Clone, Copy, Debug)]
 pub enum Fault {
     /// There is no memory.
     NoMemory,

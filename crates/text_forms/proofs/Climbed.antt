@@ -9,9 +9,11 @@ use Rattle.text_forms.specs.ReadLevels.{first, operator_at, sign_of_level, joine
 use Rattle.text_forms.specs.Tail.{tail}
 
 module _ {T O P : Type 0} (S : Syntax T O P) where
+  -- the step at the foot
   pub ladder-zero : (leaf : parse.Parse T) (i : ℕ → parse.Parse T) (rank room : ℕ) (ts : List Tok) → rank ≡ 0 → ladder S leaf i rank room ts ≡ base S leaf i room ts
   ladder-zero leaf i rank room ts is = ap (λ (r : ℕ). ladder S leaf i r room ts) is ∙ ladder-base S leaf i room ts
 
+  -- an operator came, and its right operand
   pub once-some : (k : ℕ) (b : ℕ → parse.Parse T) (room : ℕ) (ts : List Tok) (t : T) (us : List Tok) (o : O) (vs : List Tok) → b room ts ≡ Some (t, us)
       → operator_at S k us ≡ Some o → vs ≡ tail us → once_level S k b room ts ≡ grown S (b (room - 1)) room o t vs
   once-some k b room ts t us o vs read found is =
@@ -20,6 +22,7 @@ module _ {T O P : Type 0} (S : Syntax T O P) where
       ∙ ap (λ (q : Option O). once_on S (b (room - 1)) room t us q) found
       ∙ ap (λ (ws : List Tok). grown S (b (room - 1)) room o t ws) (sym is)
 
+  -- no operator came
   pub once-none : (k : ℕ) (b : ℕ → parse.Parse T) (room : ℕ) (ts : List Tok) (t : T) (us vs : List Tok) → b room ts ≡ Some (t, us)
       → operator_at S k us ≡ None → vs ≡ us → once_level S k b room ts ≡ Some (t, vs)
   once-none k b room ts t us vs read found is =
@@ -28,14 +31,17 @@ module _ {T O P : Type 0} (S : Syntax T O P) where
       ∙ ap (λ (q : Option O). once_on S (b (room - 1)) room t us q) found
       ∙ ap (λ (ws : List Tok). Some (t, ws)) (sym is)
 
+  -- no further operator came
   pub chain-end : (k : ℕ) (right : parse.Parse T) (room : ℕ) (left : T) (us vs : List Tok) (all : Option (T × List Tok)) → chained S k right room left us ≡ all
       → operator_at S k us ≡ None → vs ≡ us → all ≡ Some (left, vs)
   chain-end k right room left us vs all same found is =
       sym same ∙ chained-stop S k right room left us found ∙ ap (λ (ws : List Tok). Some (left, ws)) (sym is)
 
+  -- there was no room for a sign
   pub prefix-zero : (k : ℕ) (b : ℕ → parse.Parse T) (room : ℕ) (ts : List Tok) → room ≡ 0 → prefix_level S k b room ts ≡ None
   prefix-zero k b room ts is = ap (λ (r : ℕ). prefix_level S k b r ts) is ∙ prefix-none S k b ts
 
+  -- no sign came
   pub prefix-below : (k : ℕ) (b : ℕ → parse.Parse T) (room : ℕ) (ts vs : List Tok) → 0 < room → sign_of_level S k ts ≡ None → vs ≡ ts
       → prefix_level S k b room ts ≡ b room vs
   prefix-below k b room ts vs h found is =
@@ -43,6 +49,7 @@ module _ {T O P : Type 0} (S : Syntax T O P) where
       ∙ ap (λ (q : Option P). prefix_on S (prefix_level S k b (room - 1)) (b room) ts q) found
       ∙ ap (λ (ws : List Tok). b room ws) (sym is)
 
+  -- a sign came, and what it marks
   pub prefix-marked : (k : ℕ) (b : ℕ → parse.Parse T) (room : ℕ) (ts vs us : List Tok) (p : P) (t w : T) → 0 < room → sign_of_level S k ts ≡ Some p → vs ≡ tail ts
       → prefix_level S k b (room - 1) vs ≡ Some (t, us) → w ≡ S.mark p t → prefix_level S k b room ts ≡ Some (w, us)
   prefix-marked k b room ts vs us p t w h found is read mark =
@@ -52,9 +59,11 @@ module _ {T O P : Type 0} (S : Syntax T O P) where
       ∙ ap (λ (r : Option (T × List Tok)). parse.then_parsed r (λ a xs. Some (S.mark p a, xs))) read
       ∙ ap (λ (x : T). Some (x, us)) (sym mark)
 
+  -- there was no room for anything
   pub base-zero : (leaf : parse.Parse T) (i : ℕ → parse.Parse T) (room : ℕ) (ts : List Tok) → room ≡ 0 → base S leaf i room ts ≡ None
   base-zero leaf i room ts is = ap (λ (r : ℕ). base S leaf i r ts) is ∙ base-none S leaf i ts
 
+  -- a bracket came
   pub base-open : (leaf : parse.Parse T) (i : ℕ → parse.Parse T) (room : ℕ) (ts us : List Tok) → 0 < room → parse.begins_with s.Open ts ≡ true → us ≡ tail ts
       → base S leaf i room ts ≡ closed i room us
   base-open leaf i room ts us h opens is =
@@ -67,6 +76,7 @@ module _ {T O P : Type 0} (S : Syntax T O P) where
   base-other leaf i room ts h opens =
       base-at S leaf i room ts h ∙ ap (λ b. cond b (closed i room (tail ts)) (base_on S leaf i (room - 1) ts (first S.call ts))) opens
 
+  -- a call came
   pub base-call : (leaf : parse.Parse T) (i : ℕ → parse.Parse T) (room : ℕ) (ts vs us : List Tok) (p : P) → 0 < room → parse.begins_with s.Open ts ≡ false
       → vs ≡ ts → first S.call vs ≡ Some p → us ≡ tail vs
       → base S leaf i room ts ≡ parse.seen (S.mark p) (parse.after (s.Open ∷ []) (closed i (room - 1))) us
@@ -76,6 +86,7 @@ module _ {T O P : Type 0} (S : Syntax T O P) where
       ∙ ap (λ (q : Option P). base_on S leaf i (room - 1) vs q) found
       ∙ ap (λ (ws : List Tok). parse.seen (S.mark p) (parse.after (s.Open ∷ []) (closed i (room - 1))) ws) (sym is)
 
+  -- a leaf came
   pub base-leaf : (leaf : parse.Parse T) (i : ℕ → parse.Parse T) (room : ℕ) (ts vs us : List Tok) → 0 < room → parse.begins_with s.Open ts ≡ false → vs ≡ ts
       → first S.call vs ≡ None → us ≡ vs → base S leaf i room ts ≡ leaf us
   base-leaf leaf i room ts vs us h opens same found is =
@@ -84,6 +95,7 @@ module _ {T O P : Type 0} (S : Syntax T O P) where
       ∙ ap (λ (q : Option P). base_on S leaf i (room - 1) vs q) found
       ∙ ap leaf (sym is)
 
+  -- the right operand came, and was joined
   pub grown-joined : (right : parse.Parse T) (room : ℕ) (o : O) (left : T) (ts : List Tok) (r w : T) (us : List Tok) → S.depth left < room → right ts ≡ Some (r, us)
       → w ≡ S.join o left r → grown S right room o left ts ≡ Some (w, us)
   grown-joined right room o left ts r w us small read join =
@@ -91,11 +103,13 @@ module _ {T O P : Type 0} (S : Syntax T O P) where
       ∙ ap (λ (q : Option (T × List Tok)). joined_read S o left q) read
       ∙ ap (λ (x : T). Some (x, us)) (sym join)
 
+  -- no further bracket may be open
   pub closed-zero : (leaf : ℕ → parse.Parse T) (n room : ℕ) (ts : List Tok) → n ≡ 0 → closed (within S leaf n) room ts ≡ None
   closed-zero leaf n room ts is =
       ap (λ (m : ℕ). closed (within S leaf m) room ts) is
       ∙ ap (λ (r : Option (T × List Tok)). parse.then_parsed r (λ a ws. parse.then_rest (parse.symbols_at (s.Close ∷ []) ws) (λ vs. Some (a, vs)))) (within-none S leaf room ts)
 
+  -- an expression came, and the bracket that closes it
   pub closed-all : (leaf : ℕ → parse.Parse T) (n h room : ℕ) (ts us vs : List Tok) (t : T) → 0 < n → h ≡ length S.levels
       → ladder S (leaf (n - 1)) (within S leaf (n - 1)) h room ts ≡ Some (t, us) → parse.symbols_at (s.Close ∷ []) us ≡ Some vs
       → closed (within S leaf n) room ts ≡ Some (t, vs)
@@ -104,7 +118,8 @@ module _ {T O P : Type 0} (S : Syntax T O P) where
       (within-at S leaf n room ts some ∙ ap (λ (k : ℕ). ladder S (leaf (n - 1)) (within S leaf (n - 1)) k room ts) (sym is) ∙ read)
       ∙ ap (λ (r : Option (List Tok)). parse.then_rest r (λ xs. Some (t, xs))) close
 
-  pub called-all : (i : ℕ → parse.Parse T) (room : ℕ) (ts us vs : List Tok) (p : P) (t w : T) → parse.run_at (s.Open ∷ []) ts ≡ Some us → closed i room us ≡ Some (t, vs)
+  -- a bracket came behind the call, and what is in it
+  pub called-all : (i : ℕ → parse.Parse T) (room : ℕ) (ts us vs : List Tok) (p : P) (t w : T) → parse.symbols_at (s.Open ∷ []) ts ≡ Some us → closed i room us ≡ Some (t, vs)
       → w ≡ S.mark p t → parse.seen (S.mark p) (parse.after (s.Open ∷ []) (closed i room)) ts ≡ Some (w, vs)
   called-all i room ts us vs p t w opens read mark =
       ap (λ (r : Option (List Tok)). parse.then_read (parse.then_rest r (closed i room)) (λ a xs. Some (S.mark p a, xs))) opens

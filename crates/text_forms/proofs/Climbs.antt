@@ -19,6 +19,7 @@ less-one n = omega arith
 module _ {T O P : Type 0} (S : Syntax T O P) where
   -- LEVELS
 
+  -- at the foot of a ladder stands what is tightest
   pub ladder-base : (leaf : parse.Parse T) (i : ℕ → parse.Parse T) (room : ℕ) (ts : List Tok) → ladder S leaf i 0 room ts ≡ base S leaf i room ts
   unfolding ladder
   ladder-base leaf i room ts = refl
@@ -30,16 +31,19 @@ module _ {T O P : Type 0} (S : Syntax T O P) where
   by-form (Once op) k b room ts = ((λ e. cc), ((λ e. refl), (λ e. cc)))
   by-form (Prefix p) k b room ts = ((λ e. cc), ((λ e. cc), (λ e. refl)))
 
+  -- a level of chains
   pub ladder-chain : (leaf : parse.Parse T) (i : ℕ → parse.Parse T) (rank k room : ℕ) (ts : List Tok) → rank ≡ suc k → form_of (level_of S.levels k) ≡ form.Chain
       → ladder S leaf i rank room ts ≡ chain_level S k (ladder S leaf i k) room ts
   unfolding ladder
   ladder-chain leaf i rank k room ts is e = rw is ((by-form (level_of S.levels k) k (ladder S leaf i k) room ts).0 e)
 
+  -- a level with at most one operator
   pub ladder-once : (leaf : parse.Parse T) (i : ℕ → parse.Parse T) (rank k room : ℕ) (ts : List Tok) → rank ≡ suc k → form_of (level_of S.levels k) ≡ form.Once
       → ladder S leaf i rank room ts ≡ once_level S k (ladder S leaf i k) room ts
   unfolding ladder
   ladder-once leaf i rank k room ts is e = rw is ((by-form (level_of S.levels k) k (ladder S leaf i k) room ts).1.0 e)
 
+  -- a level of signs
   pub ladder-prefix : (leaf : parse.Parse T) (i : ℕ → parse.Parse T) (rank k room : ℕ) (ts : List Tok) → rank ≡ suc k
       → form_of (level_of S.levels k) ≡ form.Prefix → ladder S leaf i rank room ts ≡ prefix_level S k (ladder S leaf i k) room ts
   unfolding ladder
@@ -47,30 +51,36 @@ module _ {T O P : Type 0} (S : Syntax T O P) where
 
   -- STEPS
 
+  -- a chain is its first operand, and what is behind it
   pub chain-at : (k : ℕ) (b : ℕ → parse.Parse T) (room : ℕ) (ts : List Tok)
       → chain_level S k b room ts ≡ parse.then_parsed (b room ts) (λ t us. chained S k (b (room - 1)) room t us)
   unfolding chain_level
   chain-at k b room ts = refl
 
+  -- a level with one operator is its operand, and what is behind it
   pub once-at : (k : ℕ) (b : ℕ → parse.Parse T) (room : ℕ) (ts : List Tok)
       → once_level S k b room ts ≡ parse.then_parsed (b room ts) (λ t us. once_on S (b (room - 1)) room t us (operator_at S k us))
   unfolding once_level
   once-at k b room ts = refl
 
+  -- without room no sign is read
   pub prefix-none : (k : ℕ) (b : ℕ → parse.Parse T) (ts : List Tok) → prefix_level S k b 0 ts ≡ None
   unfolding prefix_level
   prefix-none k b ts = refl
 
+  -- with room a sign is read, or the level below
   pub prefix-at : (k : ℕ) (b : ℕ → parse.Parse T) (room : ℕ) (ts : List Tok) → 0 < room
       → prefix_level S k b room ts ≡ prefix_on S (prefix_level S k b (room - 1)) (b room) ts (sign_of_level S k ts)
   unfolding prefix_level
   prefix-at k b zero ts h = absurd (omega arith)
   prefix-at k b (suc room) ts h = ap (λ (r : ℕ). prefix_on S (prefix_level S k b r) (b (suc room)) ts (sign_of_level S k ts)) (sym (less-one room))
 
+  -- without room nothing is read
   pub base-none : (leaf : parse.Parse T) (i : ℕ → parse.Parse T) (ts : List Tok) → base S leaf i 0 ts ≡ None
   unfolding base
   base-none leaf i ts = refl
 
+  -- with room it is an expression in brackets, a call or a leaf
   pub base-at : (leaf : parse.Parse T) (i : ℕ → parse.Parse T) (room : ℕ) (ts : List Tok) → 0 < room
       → base S leaf i room ts ≡ cond (parse.begins_with s.Open ts) (closed i room (tail ts)) (base_on S leaf i (room - 1) ts (first S.call ts))
   unfolding base
@@ -78,10 +88,12 @@ module _ {T O P : Type 0} (S : Syntax T O P) where
   base-at leaf i (suc room) ts h =
       ap (λ (r : ℕ). cond (parse.begins_with s.Open ts) (closed i (suc room) (tail ts)) (base_on S leaf i r ts (first S.call ts))) (sym (less-one room))
 
+  -- where no bracket may be open any more none is read
   pub within-none : (leaf : ℕ → parse.Parse T) (room : ℕ) (ts : List Tok) → within S leaf 0 room ts ≡ None
   unfolding within
   within-none leaf room ts = refl
 
+  -- where one more may be open, the expression in it is read by the whole ladder
   pub within-at : (leaf : ℕ → parse.Parse T) (n room : ℕ) (ts : List Tok) → 0 < n
       → within S leaf n room ts ≡ ladder S (leaf (n - 1)) (within S leaf (n - 1)) (length S.levels) room ts
   unfolding within
@@ -90,6 +102,7 @@ module _ {T O P : Type 0} (S : Syntax T O P) where
 
   -- GROWTHS
 
+  -- a left operand that is too deep is not grown
   pub grown-deep : (right : parse.Parse T) (room : ℕ) (o : O) (left : T) (ts : List Tok) → room ≤ S.depth left → grown S right room o left ts ≡ None
   grown-deep right room o left ts deep = by (nat_lt (S.depth left) room) refl where
     by : (b : Bool) → nat_lt (S.depth left) room ≡ b → cond b (joined_read S o left (right ts)) None ≡ None
@@ -112,6 +125,7 @@ module _ {T O P : Type 0} (S : Syntax T O P) where
   unfolding chained turns chain_turn
   chained-stop k right room left ts e = ap (λ o. after_turn (turns (chain_turn S k right room) room) left ts (chain_on S right room left ts o)) e
 
+  -- where the right operand is not read the chain fails
   pub chained-failed : (k : ℕ) (right : parse.Parse T) (room : ℕ) (left : T) (ts : List Tok) (o : O) → operator_at S k ts ≡ Some o
       → grown S right room o left (tail ts) ≡ None → chained S k right room left ts ≡ None
   unfolding chained turns chain_turn

@@ -121,5 +121,6 @@ tag_of-is s.Not = refl
 tag_of-is s.Increment = refl
 tag_of-is s.Arrow = refl
 
+-- two symbols are equal where their codes are
 pub same_code : (x y : Symbol) → sameb the_type x y ≡ (code_of x == code_of y)
 same_code x y = ap (λ (n : ℕ). n == tag_of the_type y) (tag_of-is x) ∙ ap (λ (n : ℕ). code_of x == n) (tag_of-is y)
