@@ -12,7 +12,7 @@ use crate::crew::Crew;
 use crate::gather::gather;
 use crate::language::{Compiled, Language};
 use crate::layout::Layout;
-use crate::mean::mean_text;
+use crate::meant::mean_text;
 use crate::output::output;
 use crate::script::applied;
 use crate::text;

@@ -2,7 +2,7 @@ use Rattle.std.proofs.Common.{◌≡◌, ℤ, List, [], ◌∷◌, ◌++◌, sym
 use Rattle.river_base.specs.Held.{HaveWidth}
 use Rattle.river_road.specs.Load.{load_records}
 use Rattle.river_road.proofs.Loaded.{load_records-none, load_records-more, load_records-wide}
-use Rattle.river_road.proofs.load.records.Goals as goal
+use Rattle.river_road.proofs.loading.records.Goals as goal
 
 pub loop-before-init : goal.loop-before-init
 loop-before-init c = c.new-rows.ensures ∙ sym load_records-none

@@ -2,7 +2,7 @@ use Rattle.std.proofs.Common.{◌≡◌, ap, ◌∙◌}
 use Rattle.std.proofs.lemmas.Result.{err_from_is_err_and}
 use Rattle.river_plan.specs.Forms.{PlanForm}
 use Rattle.river_road.proofs.Loaded.{load-refused, files-refused, files-printed}
-use Rattle.river_road.proofs.load.load.Goals as goal
+use Rattle.river_road.proofs.loading.load.Goals as goal
 
 pub returns-in_err-plan : goal.returns-in_err-plan
 returns-in_err-plan g c =

@@ -1,6 +1,6 @@
 use Rattle.std.proofs.lemmas.Result.{err_from_is_err_and}
 use Rattle.river_road.proofs.Loaded.{program-refused, script-answers}
-use Rattle.river_road.proofs.load.load_plan.Goals as goal
+use Rattle.river_road.proofs.loading.load_plan.Goals as goal
 
 pub returns-in_err-compiled : goal.returns-in_err-compiled
 returns-in_err-compiled g c =

@@ -1,5 +1,5 @@
 use Rattle.river_road.proofs.Means.{mean-says, given-outs, given-tables}
-use Rattle.river_road.proofs.mean.mean_text.Goals as goal
+use Rattle.river_road.proofs.meant.mean_text.Goals as goal
 
 pub print_outcome-requires-clause-outs : goal.print_outcome-requires-clause-outs
 print_outcome-requires-clause-outs g c =

@@ -2,7 +2,7 @@ use Rattle.std.proofs.Common.{rules, ◌≡◌, true, List, ℤ, [], ◌∷◌, 
 use Rattle.river_road.specs.Load.{load_records, takes_pairs}
 use Rattle.river_road.specs.declared.content.Content.TheVariants.{Rows as Plain}
 use Rattle.river_road.proofs.Loaded.{load_records-wide, pairs-fit}
-use Rattle.river_road.proofs.load.files_for.Goals as goal
+use Rattle.river_road.proofs.loading.files_for.Goals as goal
 
 pub returns-clause-contents : goal.returns-clause-contents
 returns-clause-contents c =
