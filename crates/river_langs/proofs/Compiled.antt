@@ -57,7 +57,7 @@ use Rattle.river_road.specs.declared.content.Content.TheVariants.{Rows as Plain,
 pub river-compiled : (meant : Result TextForm RiverFault) (p : PlanForm) (caps : List Cap) → meant ≡ Ok (record { plan = p; caps = caps }) → AreCaps caps
     → StandsFor (IsCompiled (λ (s : SourceProgram) (t : Unit {0}). Unit {0})) (source_or_refused river_source river_words meant) (record { plan = p; caps = caps; program = tt })
 river-compiled meant p caps is fit =
-    rw is (record { planned = record { plan = record { plan = refl; inputs = refl; outputs = refl; tables = refl; means = λ rows t. refl }; caps = refl; fit = fit }; program = tt })
+    rw is (record { planned = record { plan = record { plan = refl; inputs = refl; outputs = refl; tables = refl; means = λ rows t. refl }; caps_are = refl; fit = fit }; program = tt })
 
 -- ---- A STREAMIT PROGRAM
 
@@ -92,7 +92,7 @@ streamit-compiled text t plan (s, is, made) =
     let a : Accepted = record { program = streamit_tree.program_of t.units.items; stream = s } in
     subst (λ (r : Result Accepted StreamitFault). StandsFor (IsCompiled (λ s t. IsStreamit s (streamit_tree.program_of t.units.items))) (source_or_refused streamit_source streamit_words r) (record { plan = plan; caps = []; program = t })) (sym is)
     (record {
-      planned = record { plan = subst (IsPlanOf (streamit_source a)) (sym made) (program_plan text a is); caps = refl; fit = All-nil (λ (c : Cap). IsCap c.most) };
+      planned = record { plan = subst (IsPlanOf (streamit_source a)) (sym made) (program_plan text a is); caps_are = refl; fit = All-nil (λ (c : Cap). IsCap c.most) };
       program = record { readable = compiled-readable text a is; means = λ files. refl };
     })
 
@@ -114,7 +114,7 @@ params-compiled text tree t plan (s, is, made) =
     let a : params.Accepted = record { tree = tree; program = streamit_tree.program_of t.units.items; stream = s } in
     subst (λ (r : Result params.Accepted ParamFault). StandsFor (IsCompiled (λ s t. IsStreamit s (streamit_tree.program_of t.units.items))) (source_or_refused params_source params_words r) (record { plan = plan; caps = []; program = t })) (sym is)
     (record {
-      planned = record { plan = subst (IsPlanOf (params_source a)) (sym made) (record { plan = refl; inputs = refl; outputs = refl; tables = refl; means = params_mean text a is }); caps = refl; fit = All-nil (λ (c : Cap). IsCap c.most) };
+      planned = record { plan = subst (IsPlanOf (params_source a)) (sym made) (record { plan = refl; inputs = refl; outputs = refl; tables = refl; means = params_mean text a is }); caps_are = refl; fit = All-nil (λ (c : Cap). IsCap c.most) };
       program = record {
         readable = params-readable text a is;
         means = λ files. ap (λ (ys : List ℤ). record { outs = as_items ys ∷ []; tables = [] }) (sym (plain_means text a (values files) is));
@@ -149,6 +149,6 @@ saw-compiled text t plan (read, is, made) =
     subst (λ (r : Result saw.Accepted SawFault). StandsFor (IsCompiled (λ s t. IsSawzall s (unit_forms t.units.items))) (source_or_refused saw_source saw_words r) (record { plan = plan; caps = []; program = t }))
     (sym is)
     (record {
-      planned = record { plan = subst (IsPlanOf (saw_source a)) (sym made) (record { plan = refl; inputs = refl; outputs = refl; tables = refl; means = plan_means text a is }); caps = refl; fit = All-nil (λ (c : Cap). IsCap c.most) };
+      planned = record { plan = subst (IsPlanOf (saw_source a)) (sym made) (record { plan = refl; inputs = refl; outputs = refl; tables = refl; means = plan_means text a is }); caps_are = refl; fit = All-nil (λ (c : Cap). IsCap c.most) };
       program = record { accepted = (read, compiled-judged text a is); valued = compiled-valued text a is; means = λ files. refl };
     })

@@ -80,6 +80,6 @@ cql-compiled text t plan h =
     subst (λ (r : Result (List Part) CqlFault). StandsFor (IsCompiled (λ s t. IsCql s (program_of t))) (source_or_refused cql_source cql_words r) (record { plan = plan; caps = []; program = t }))
     (sym h.accepted)
     (record {
-      planned = record { plan = subst (IsPlanOf (cql_source (program_of t))) (sym h.planned) (program_plan text (program_of t) h.accepted); caps = refl; fit = All-nil (λ (c : Cap). IsCap c.most) };
+      planned = record { plan = subst (IsPlanOf (cql_source (program_of t))) (sym h.planned) (program_plan text (program_of t) h.accepted); caps_are = refl; fit = All-nil (λ (c : Cap). IsCap c.most) };
       program = record { columns = accepted_columns text (program_of t) h.accepted; inputs = refl; means = λ files. refl };
     })

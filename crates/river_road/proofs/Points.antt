@@ -117,7 +117,7 @@ module _ (source_of : List ℕ → Result SourceProgram (List ℕ)) (more : Bool
     show-last mid half rose c plan text here scripted says =
         as-then IsPlannedAs (of_program source_of file) show_after held mid rose rose (λ r. r) c (Ok text) here (λ source is.
         as-then (IsPlanned c.1) (of_script script source) (λ (later : SourceProgram) (next : List ℕ → Order). next (plan_as_shown later.caps later.plan)) held half rose rose (λ r. r) plan (Ok text) (scripted source is) (λ later of next.
-        let same : text ≡ plan_as_shown later.caps later.plan = says ∙ (λ i. plan_as_shown (of.caps i) (of.plan.plan i)) in
+        let same : text ≡ plan_as_shown later.caps later.plan = says ∙ (λ i. plan_as_shown (of.caps_are i) (of.plan.plan i)) in
         subst (λ t. Comes (next (plan_as_shown later.caps later.plan)) held (next t)) (sym same) (Comes-same (next (plan_as_shown later.caps later.plan)) held)))
 
   module _ (ins : List InWord) (header : Bool) where
@@ -150,7 +150,7 @@ module _ (source_of : List ℕ → Result SourceProgram (List ℕ)) (file : List
   unfolding of_upgrade
   upgrade-last mid rose c text here says =
       as-then IsPlannedAs (of_program source_of file) (λ (source : SourceProgram) (next : List ℕ → Order). next (plan_text (first_cap source.caps) source.plan)) held mid rose rose (λ r. r) c (Ok text) here (λ source of next.
-      let same : text ≡ plan_text (first_cap source.caps) source.plan = says ∙ (λ i. plan_text (first_cap (of.caps i)) (of.plan.plan i)) in
+      let same : text ≡ plan_text (first_cap source.caps) source.plan = says ∙ (λ i. plan_text (first_cap (of.caps_are i)) (of.plan.plan i)) in
       subst (λ t. Comes (next (plan_text (first_cap source.caps) source.plan)) held (next t)) (sym same) (Comes-same (next (plan_text (first_cap source.caps) source.plan)) held))
 
 -- a text with a line for each class

@@ -39,7 +39,7 @@ made-stands caps source p made text v of e =
         means =
             λ files a. let b = subst (λ ds. AreContents ds files) k.1.inputs a in k.2 (all_items files) (contents-typed p.inputs files b) ∙ is.means files b;
       };
-      caps = of.caps;
+      caps_are = of.caps_are;
       fit = of.fit;
     })
 

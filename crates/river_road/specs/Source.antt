@@ -37,7 +37,7 @@ pub record IsPlanOf (s : SourceProgram) (p : PlanForm) : Type 0 where
 -- such a plan, and the capacities that the program gives to its queues
 pub record IsPlanned (caps : List Cap) (s : SourceProgram) (p : PlanForm) : Type 0 where
   pub plan : IsPlanOf s p
-  pub caps : caps ≡ s.caps
+  pub caps_are : caps ≡ s.caps
   pub fit : AreCaps caps
 
 -- the same of both together
