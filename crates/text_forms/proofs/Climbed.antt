@@ -122,6 +122,6 @@ module _ {T O P : Type 0} (S : Syntax T O P) where
   pub called-all : (i : ℕ → parse.Parse T) (room : ℕ) (ts us vs : List Tok) (p : P) (t w : T) → parse.symbols_at (s.Open ∷ []) ts ≡ Some us → closed i room us ≡ Some (t, vs)
       → w ≡ S.mark p t → parse.seen (S.mark p) (parse.after (s.Open ∷ []) (closed i room)) ts ≡ Some (w, vs)
   called-all i room ts us vs p t w opens read mark =
-      ap (λ (r : Option (List Tok)). parse.then_read (parse.then_rest r (closed i room)) (λ a xs. Some (S.mark p a, xs))) opens
-      ∙ ap (λ (r : Option (T × List Tok)). parse.then_read r (λ a xs. Some (S.mark p a, xs))) read
+      ap (λ (r : Option (List Tok)). parse.then_parsed (parse.then_rest r (closed i room)) (λ a xs. Some (S.mark p a, xs))) opens
+      ∙ ap (λ (r : Option (T × List Tok)). parse.then_parsed r (λ a xs. Some (S.mark p a, xs))) read
       ∙ ap (λ (x : T). Some (x, vs)) (sym mark)
