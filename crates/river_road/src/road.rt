@@ -45,8 +45,8 @@ pub fn run<L: Language, R: Threads + Sync, S: Shelf, G: Gate + Sync>(
     ensures passes { Passes (of_run L.source L.more file.now ins.now name.now header counts)
         (S.held shelf.old) (Rose S.stays_at_last (S.faults shelf.old) (S.faults shelf.new)) result }
 {
-    let (plan, caps) = planned::<L, S>(alloc, file, shelf)?;
-    let plan = script(alloc, name, plan, shelf)?;
+    let (found, caps) = planned::<L, S>(alloc, file, shelf)?;
+    let plan = script(alloc, name, found, shelf)?;
     let layout = layout::<L>(header);
     run_over(alloc, crew, ins, layout, counts, &plan, &caps, shelf)
 }
@@ -61,8 +61,8 @@ pub fn show<L: Language, S: Shelf>(
     ensures later { S.faults shelf.old ≤ S.faults shelf.new }
     ensures passes { Passes (of_show L.source file.now name.now) (S.held shelf.old) (Rose S.stays_at_last (S.faults shelf.old) (S.faults shelf.new)) result }
 {
-    let (plan, caps) = planned::<L, S>(alloc, file, shelf)?;
-    let plan = script(alloc, name, plan, shelf)?;
+    let (found, caps) = planned::<L, S>(alloc, file, shelf)?;
+    let plan = script(alloc, name, found, shelf)?;
     Ok(shown(alloc, &plan, &caps)?)
 }
 

@@ -1,17 +1,14 @@
-use Rattle.std.proofs.Common.{sym, ap, ◌∙◌, subst}
-use Rattle.river_plan.specs.Caps.{AreCaps}
-use Rattle.river_road.specs.Points.{plan_as_shown as shown_text}
 use Rattle.std.proofs.lemmas.Result.{err_from_is_err_and}
 use Rattle.river_outside.proofs.Counts.{rose_before}
 use Rattle.river_outside.specs.Causes.{Rose}
 use Rattle.river_road.proofs.Points.{show-first, show-script, show-last}
 use Rattle.river_road.proofs.road.show.Goals as goal
 
-pub returns-in_err-planned-clause-passes : goal.returns-in_err-planned-clause-passes
-returns-in_err-planned-clause-passes g c =
+pub returns-in_err-found-clause-passes : goal.returns-in_err-found-clause-passes
+returns-in_err-found-clause-passes g c =
     let p = err_from_is_err_and c.from_residual.result c.from_residual.ensures.1 in
     let rose = Rose g.S.Shelf.stays_at_last (g.S.Shelf.faults c.args.shelf.now) (g.S.Shelf.faults c.planned.new.shelf) in
-    rw (p.1, p.2) (show-first g.L.Language.source g.L.Language.more c.args.file.now (g.S.Shelf.held c.args.shelf.now) c.args.name.now rose c.in_err-planned.field-0.0 c.in_err-planned.ensures.passes)
+    rw (p.1, p.2) (show-first g.L.Language.source g.L.Language.more c.args.file.now (g.S.Shelf.held c.args.shelf.now) c.args.name.now rose c.in_err-found.field-0.0 c.in_err-found.ensures.passes)
 
 pub returns-in_err-plan-clause-passes : goal.returns-in_err-plan-clause-passes
 returns-in_err-plan-clause-passes g c =
@@ -20,17 +17,17 @@ returns-in_err-plan-clause-passes g c =
     let early = Rose g.S.Shelf.stays_at_last (g.S.Shelf.faults c.args.shelf.now) (g.S.Shelf.faults c.script.new.shelf) in
     let late = Rose g.S.Shelf.stays_at_last (g.S.Shelf.faults c.planned.new.shelf) (g.S.Shelf.faults c.script.new.shelf) in
     let stops = rw c.planned.ensures.stays at c.in_err-plan.ensures.passes in
-    rw (p.1, p.2) (show-script g.L.Language.source g.L.Language.more c.args.file.now (g.S.Shelf.held c.args.shelf.now) c.args.name.now mid early late (rose_before g.S.Shelf.stays_at_last _ _ _ c.planned.ensures.later) c.in_ok-planned.planned c.in_err-plan.field-0.0 c.in_ok-planned.ensures.passes
-    (λ source is. stops c.in_ok-planned.planned.1 source is))
+    rw (p.1, p.2) (show-script g.L.Language.source g.L.Language.more c.args.file.now (g.S.Shelf.held c.args.shelf.now) c.args.name.now mid early late (rose_before g.S.Shelf.stays_at_last _ _ _ c.planned.ensures.later) (c.in_ok-found.found, c.in_ok-found.caps) c.in_err-plan.field-0.0 c.in_ok-found.ensures.passes
+    (λ source is. stops c.in_ok-found.caps source is))
 
 pub returns-clause-passes : goal.returns-clause-passes
 returns-clause-passes g c =
     let mid = Rose g.S.Shelf.stays_at_last (g.S.Shelf.faults c.args.shelf.now) (g.S.Shelf.faults c.planned.new.shelf) in
     let half = Rose g.S.Shelf.stays_at_last (g.S.Shelf.faults c.planned.new.shelf) (g.S.Shelf.faults c.script.new.shelf) in
     let scripted = rw c.planned.ensures.stays at c.in_ok-plan.ensures.passes in
-    show-last g.L.Language.source g.L.Language.more c.args.file.now (g.S.Shelf.held c.args.shelf.now) c.args.name.now mid half half c.in_ok-planned.planned c.in_ok-plan.plan c.in_ok-shown.field-0 c.in_ok-planned.ensures.passes
-    (λ source is. scripted c.in_ok-planned.planned.1 source is)
+    show-last g.L.Language.source g.L.Language.more c.args.file.now (g.S.Shelf.held c.args.shelf.now) c.args.name.now mid half half (c.in_ok-found.found, c.in_ok-found.caps) c.in_ok-plan.plan c.in_ok-shown.field-0 c.in_ok-found.ensures.passes
+    (λ source is. scripted c.in_ok-found.caps source is)
     c.in_ok-shown.ensures
 
 pub shown-requires : goal.shown-requires
-shown-requires g c = c.in_ok-planned.ensures.passes.1.fit
+shown-requires g c = c.in_ok-found.ensures.passes.1.fit

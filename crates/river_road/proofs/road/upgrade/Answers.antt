@@ -1,22 +1,19 @@
-use Rattle.std.proofs.Common.{sym, ap, ◌∙◌, subst}
 use Rattle.std.proofs.lemmas.Result.{err_from_is_err_and}
 use Rattle.river_outside.specs.Causes.{Rose}
-use Rattle.river_plan.specs.Caps.{AreCaps, first_cap}
-use Rattle.river_print.specs.Printed.{plan_text}
 use Rattle.river_road.proofs.Points.{upgrade-first, upgrade-last}
 use Rattle.river_road.proofs.road.upgrade.Goals as goal
 
 pub print_river-requires : goal.print_river-requires
-print_river-requires g c = c.in_ok-planned.ensures.passes.1.fit
+print_river-requires g c = c.in_ok-plan.ensures.passes.1.fit
 
-pub returns-in_err-planned-clause-passes : goal.returns-in_err-planned-clause-passes
-returns-in_err-planned-clause-passes g c =
+pub returns-in_err-plan-clause-passes : goal.returns-in_err-plan-clause-passes
+returns-in_err-plan-clause-passes g c =
     let p = err_from_is_err_and c.from_residual.result c.from_residual.ensures.1 in
     let rose = Rose g.S.Shelf.stays_at_last (g.S.Shelf.faults c.args.shelf.now) (g.S.Shelf.faults c.planned.new.shelf) in
-    rw (p.1, p.2) (upgrade-first g.L.Language.source c.args.file.now (g.S.Shelf.held c.args.shelf.now) rose c.in_err-planned.field-0.0 c.in_err-planned.ensures.passes)
+    rw (p.1, p.2) (upgrade-first g.L.Language.source c.args.file.now (g.S.Shelf.held c.args.shelf.now) rose c.in_err-plan.field-0.0 c.in_err-plan.ensures.passes)
 
 pub returns-clause-passes : goal.returns-clause-passes
 returns-clause-passes g c =
     let mid = Rose g.S.Shelf.stays_at_last (g.S.Shelf.faults c.args.shelf.now) (g.S.Shelf.faults c.planned.new.shelf) in
-    upgrade-last g.L.Language.source c.args.file.now (g.S.Shelf.held c.args.shelf.now) mid mid c.in_ok-planned.planned c.in_ok-print_river.field-0 c.in_ok-planned.ensures.passes
+    upgrade-last g.L.Language.source c.args.file.now (g.S.Shelf.held c.args.shelf.now) mid mid (c.in_ok-plan.plan, c.in_ok-plan.caps) c.in_ok-print_river.field-0 c.in_ok-plan.ensures.passes
     c.in_ok-print_river.ensures.text
