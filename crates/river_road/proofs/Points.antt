@@ -1,18 +1,17 @@
 -- The points of what a command does, and the calls that do them.
 use Rattle.std.proofs.Common.{◌≡◌, ℕ, ℤ, List, ◌++◌, Bool, false, refl, sym, ap, ◌∙◌, subst}
-use Rattle.std.specs.Prelude.{Option, Some, None, Result, Ok, Err, IfOk, IsErrOf, pos, map}
+use Rattle.std.specs.Prelude.{Option, Some, Result, Ok, Err, IfOk, pos, map}
 use Rattle.csv_streams.specs.Outcome.{outputs_text, tables_text, firings_text, asked_counts, printed_outcome}
 use Rattle.river_base.specs.declared.item.Item as item
 use Rattle.river_base.specs.declared.memory.NoMemory.{NoMemory}
 use Rattle.river_outside.specs.Held.{Held}
-use Rattle.river_order.specs.Order.{Order, Ends, Done, Fetch, Comes}
-use Rattle.river_order.specs.Decides.{Decides, Stops}
+use Rattle.river_order.specs.Order.{Order, Fetch, Comes}
+use Rattle.river_order.specs.Decides.{Stops}
 use Rattle.river_order.specs.Passes.{past, AnswersAs, Passes, PassesAs}
 use Rattle.river_order.specs.declared.stop.Stop.{Stop}
-use Rattle.river_order.specs.declared.stop.Stop.TheVariants as stop
 use Rattle.river_order.proofs.Comes.{Comes-same, Comes-on}
 use Rattle.river_order.proofs.Turns.{Stops-later}
-use Rattle.river_order.proofs.Passes.{past-refused, then-passes, passed-decides}
+use Rattle.river_order.proofs.Passes.{past-refused, then-passes}
 use Rattle.river_plan.specs.Caps.{first_cap}
 use Rattle.river_plan.specs.declared.caps.Cap.{Cap}
 use Rattle.river_plan.specs.Forms.{PlanForm, table_names, labels}
