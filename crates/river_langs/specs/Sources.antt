@@ -128,19 +128,19 @@ cql_source p = record {
 -- WHAT A TEXT IS
 
 -- the program of a text in each language, or the text that refuses it
-unfoldable pub river_in : List ℕ → Result SourceProgram (List ℕ)
+abbrev pub river_in : List ℕ → Result SourceProgram (List ℕ)
 river_in text = source_or_refused river_source river_words (plan_in text)
 
-unfoldable pub streamit_in : List ℕ → Result SourceProgram (List ℕ)
+abbrev pub streamit_in : List ℕ → Result SourceProgram (List ℕ)
 streamit_in text = source_or_refused streamit_source streamit_words (compiled text)
 
-unfoldable pub params_in : List ℕ → Result SourceProgram (List ℕ)
+abbrev pub params_in : List ℕ → Result SourceProgram (List ℕ)
 params_in text = source_or_refused params_source params_words (params_front.compiled text)
 
-unfoldable pub saw_in : List ℕ → Result SourceProgram (List ℕ)
+abbrev pub saw_in : List ℕ → Result SourceProgram (List ℕ)
 saw_in text = source_or_refused saw_source saw_words (saw.compiled text)
 
-unfoldable pub cql_in : List ℕ → Result SourceProgram (List ℕ)
+abbrev pub cql_in : List ℕ → Result SourceProgram (List ℕ)
 cql_in text = source_or_refused cql_source cql_words (cql_front.compiled text)
 
 -- WHAT STANDS FOR A PROGRAM

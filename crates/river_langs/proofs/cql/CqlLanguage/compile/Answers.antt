@@ -1,7 +1,5 @@
 use Rattle.river_langs.proofs.CqlCompiled.{cql-compiled}
-use Rattle.river_langs.specs.Sources.{cql_in}
 use Rattle.river_langs.proofs.cql.CqlLanguage.compile.Goals as goal
 
 pub returns-in-Ok : goal.returns-in-Ok
-unfolding cql_in
-returns-in-Ok c = cql-compiled c.args.text.now c.in-Ok.program c.in-Ok.plan c.in-Ok.ensures.plan
+returns-in-Ok c = rw c.new.ensures (cql-compiled c.args.text.now c.in-Ok.program c.in-Ok.plan c.in-Ok.ensures.plan)

@@ -1,7 +1,5 @@
 use Rattle.river_langs.proofs.Compiled.{params-compiled}
-use Rattle.river_langs.specs.Sources.{params_in}
 use Rattle.river_langs.proofs.params.ParamsLanguage.compile.Goals as goal
 
 pub returns-in-Ok : goal.returns-in-Ok
-unfolding params_in
-returns-in-Ok c = params-compiled c.args.text.now _ c.in-Ok.program c.in-Ok.plan c.in-Ok.ensures.plan
+returns-in-Ok c = rw c.new.ensures (params-compiled c.args.text.now _ c.in-Ok.program c.in-Ok.plan c.in-Ok.ensures.plan)

@@ -1,7 +1,5 @@
 use Rattle.river_langs.proofs.Compiled.{saw-compiled}
-use Rattle.river_langs.specs.Sources.{saw_in}
 use Rattle.river_langs.proofs.sawzall.SawzallLanguage.compile.Goals as goal
 
 pub returns-in-Ok : goal.returns-in-Ok
-unfolding saw_in
-returns-in-Ok c = saw-compiled c.args.text.now c.in-Ok.program c.in-Ok.plan c.in-Ok.ensures.plan
+returns-in-Ok c = rw c.new.ensures (saw-compiled c.args.text.now c.in-Ok.program c.in-Ok.plan c.in-Ok.ensures.plan)

@@ -1,7 +1,5 @@
 use Rattle.river_langs.proofs.Compiled.{streamit-compiled}
-use Rattle.river_langs.specs.Sources.{streamit_in}
 use Rattle.river_langs.proofs.streamit.StreamitLanguage.compile.Goals as goal
 
 pub returns-in-Ok : goal.returns-in-Ok
-unfolding streamit_in
-returns-in-Ok c = streamit-compiled c.args.text.now c.in-Ok.program c.in-Ok.plan c.in-Ok.ensures.plan
+returns-in-Ok c = rw c.new.ensures (streamit-compiled c.args.text.now c.in-Ok.program c.in-Ok.plan c.in-Ok.ensures.plan)
