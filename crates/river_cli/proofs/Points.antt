@@ -13,7 +13,8 @@ use Rattle.river_order.specs.Passes.{Answers, Passes}
 use Rattle.river_order.specs.declared.stop.Stop.{Stop}
 use Rattle.river_order.specs.declared.stop.Stop.TheVariants as stop
 use Rattle.river_order.proofs.Passes.{past-passes, passed-decides}
-use Rattle.river_road.specs.Points.{of_run, of_show, of_mean, of_upgrade, loaded}
+use Rattle.plan_runs.specs.Points.{of_run, loaded}
+use Rattle.river_road.specs.Points.{of_show, of_mean, of_upgrade}
 use Rattle.river_road.specs.Source.{SourceProgram}
 use Rattle.river_cli.specs.Points.{source_of, takes_more, of_command_in, of_command, ended}
 

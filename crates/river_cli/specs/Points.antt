@@ -9,7 +9,8 @@ use Rattle.command_line.specs.declared.command.Lang.TheVariants.{River, Streamit
 use Rattle.river_langs.specs.Sources.{river_in, streamit_in, params_in, saw_in, cql_in}
 use Rattle.river_order.specs.Order.{Order, Ends, Done}
 use Rattle.river_order.specs.Passes.{past}
-use Rattle.river_road.specs.Points.{of_run, of_show, of_mean, of_upgrade, loaded}
+use Rattle.plan_runs.specs.Points.{of_run, loaded}
+use Rattle.river_road.specs.Points.{of_show, of_mean, of_upgrade}
 use Rattle.river_road.specs.Source.{SourceProgram}
 
 -- the program of a text in a language, or the text that refuses it

@@ -11,7 +11,8 @@ use river_base::{Bytes, Gate, Text};
 use river_langs::{Cql, Params, RiverText, Sawzall, Streamit};
 use river_order::Stop;
 use river_outside::Shelf;
-use river_road::{Crew, Language, load, mean, run, show, upgrade};
+use plan_runs::{Crew, load, run};
+use river_road::{Language, mean, show, upgrade};
 use std::alloc::Global;
 use std::thread::Threads;
 

@@ -3,7 +3,6 @@ pub mod Contents
 pub mod Fetches
 pub mod Inputs
 pub mod Items
-pub mod Loaded
 pub mod Means
 pub mod Points
 pub mod Scripts

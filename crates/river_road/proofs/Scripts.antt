@@ -4,7 +4,7 @@ use Rattle.std.specs.Prelude.{Option, Some, None, Result, Ok, Err}
 use Rattle.river_outside.specs.Held.{Held}
 use Rattle.river_order.specs.Order.{Order, Fetch, Comes}
 use Rattle.river_order.specs.Decides.{Stops}
-use Rattle.river_order.specs.Passes.{past, RefusesPoint, StandsFor, AnswersAs, PassesAs}
+use Rattle.river_order.specs.Passes.{past, RefusesPoint, StandsFor, AnswersAs, Passes, PassesAs}
 use Rattle.river_order.specs.declared.stop.Stop.{Stop}
 use Rattle.river_order.proofs.Comes.{Comes-same, Comes-on}
 use Rattle.river_order.proofs.Passes.{past-refused}
@@ -82,8 +82,9 @@ pub fetch-stops : (file : List ℕ) (source : SourceProgram) (held : Option Held
 unfolding of_script
 fetch-stops file source held rose s stops next = stops (λ t. past (with_plan source (rewritten source.plan t)) next)
 
--- there is none
-pub no-script : (caps : List Cap) (source : SourceProgram) (plan : PlanForm) (held : Option Held) → IsPlanned caps source plan
-    → (later : SourceProgram) × IsPlanned caps later plan × ((next : SourceProgram → Order) → Comes (of_script None source next) held (next later))
+-- there is none, so that what comes after it comes at once
+pub none-passes : {C : Type 0} (second : SourceProgram → (C → Order) → Order) (source : SourceProgram) (held : Option Held) (rose : Type 0) (result : Result C Stop)
+    → Passes (second source) held rose result → Passes (λ next. of_script None source (λ later. second later next)) held rose result
 unfolding of_script
-no-script caps source plan held is = (source, is, λ next. Comes-same (next source) held)
+none-passes second source held rose (Ok x) passed = passed
+none-passes second source held rose (Err s) passed = passed

@@ -2,7 +2,6 @@ pub mod Contents
 pub mod Inputs
 pub mod Layouts
 pub mod Limits
-pub mod Load
 pub mod Points
 pub mod Source
 pub mod Text

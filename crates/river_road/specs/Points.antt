@@ -11,7 +11,6 @@ use Rattle.river_print.specs.Printed.{plan_text}
 use Rattle.river_road.specs.Inputs.{of_inputs}
 use Rattle.river_road.specs.Layouts.{layout_of}
 use Rattle.river_road.specs.Limits.{most_program, most_script}
-use Rattle.river_road.specs.Load.{load_program, load_script, load_files}
 use Rattle.river_road.specs.Source.{SourceProgram, printed}
 use Rattle.river_road.specs.Text.{large_program, large_script, script_refused}
 use Rattle.river_script.specs.Meaning.{rewritten}
@@ -42,19 +41,13 @@ of_inputs_run ins layout counted source next = of_inputs source.inputs ins layou
 abbrev pub plan_as_shown : List Cap → PlanForm → List ℕ
 plan_as_shown caps p = plan_text (first_cap caps) p ++ classes_text p
 
--- what is made of what was found; the first refusal stands
-abbrev pub then_made : {A B : Type 0} → Result A (List ℕ) → (A → Result B (List ℕ)) → Result B (List ℕ)
-then_made (Ok x) make = make x
-then_made (Err text) make = Err text
+-- the plan of a program is rewritten, and shown
+abbrev pub of_scripted_show : Option (List ℕ) → SourceProgram → (List ℕ → Order) → Order
+of_scripted_show script source next = of_script script source (λ later. next (plan_as_shown later.caps later.plan))
 
 -- a language, and whether records may have further fields in it
 module _ (source_of : List ℕ → Result SourceProgram (List ℕ)) (more : Bool) where
-  -- `run`: the program is compiled, its plan is rewritten, and it is run over its inputs
-  unfoldable pub of_run : List ℕ → List InWord → Option (List ℕ) → Bool → Bool → (List ℕ → Order) → Order
-  of_run file ins script header counts next =
-      of_program source_of file (λ source. of_script script source (λ later. of_inputs_run ins (layout_of more header) counts later next))
-
-  -- `mean`: it is compiled, and what it means over its inputs is printed
+  -- `mean`: the program is compiled, and what it means over its inputs is printed
   unfoldable pub of_mean : List ℕ → List InWord → Bool → (List ℕ → Order) → Order
   of_mean file ins header next = of_program source_of file (λ source. of_inputs_run ins (layout_of more header) false source next)
 
@@ -62,16 +55,8 @@ module _ (source_of : List ℕ → Result SourceProgram (List ℕ)) (more : Bool
 module _ (source_of : List ℕ → Result SourceProgram (List ℕ)) where
   -- `plan`: it is compiled, its plan is rewritten and shown
   unfoldable pub of_show : List ℕ → Option (List ℕ) → (List ℕ → Order) → Order
-  of_show file script next = of_program source_of file (λ source. of_script script source (λ later. next (plan_as_shown later.caps later.plan)))
+  of_show file script next = of_program source_of file (λ source. of_scripted_show script source next)
 
   -- `upgrade`: it is compiled, and its plan is printed with its capacities
   unfoldable pub of_upgrade : List ℕ → (List ℕ → Order) → Order
   of_upgrade file next = of_program source_of file (λ source. next (plan_text (first_cap source.caps) source.plan))
-
-  -- the program of `load`, with the plan that its script makes
-  unfoldable pub load_source : Result SourceProgram (List ℕ)
-  load_source = then_made (source_of load_program) (λ source. with_plan source (rewritten source.plan load_script))
-
-  -- what this program means over the first n records
-  unfoldable pub loaded : ℕ → Result (List ℕ) (List ℕ)
-  loaded n = then_made load_source (λ source. then_made (load_files n source.inputs) (λ files. Ok (printed source false files)))

@@ -40,10 +40,6 @@ pub record IsPlanned (caps : List Cap) (s : SourceProgram) (p : PlanForm) : Type
   pub caps_are : caps ≡ s.caps
   pub fit : AreCaps caps
 
--- the same of both together
-abbrev pub IsPlannedAs : SourceProgram → PlanForm × List Cap → Type 0
-IsPlannedAs s c = IsPlanned c.1 s c.0
-
 -- what was compiled: such a plan, its capacities, and the program as it was read, of which the language says that it has this meaning
 pub record IsCompiled {P : Type 0} (stands : SourceProgram → P → Type 0) (s : SourceProgram) (c : Compiled P) : Type 0 where
   pub planned : IsPlanned c.caps s c.plan

@@ -1,29 +1,27 @@
-//! From the file of a program to the text that is written, over any source language: the points of each command, the files of a
-//! program's inputs, its script, its run and its meaning.
+//! From the file of a program to the text that is written, over any source language: the points of the commands that run no plan,
+//! the files of a program's inputs, its script and its meaning.
 //!
 //! No language is named here. A language is a type that implements [`Language`].
 #![tactic(auto)]
 
 mod content;
-mod crew;
 mod fetched;
 mod gather;
+mod items;
 mod language;
 mod layout;
-mod loading;
 mod meant;
 mod names;
-mod output;
 mod road;
 mod rows;
 mod script;
 mod text;
 
 pub use content::Content;
-pub use crew::Crew;
 pub use language::{Compiled, Language};
 pub use layout::Layout;
-pub use loading::load;
-pub use output::inputs_of;
-pub use road::{mean, run, show, upgrade};
-pub use text::program as refused_program;
+pub use gather::gather as gather_contents;
+pub use items::inputs_of;
+pub use road::{compiled, mean, rewritten, show, upgrade};
+pub use script::applied;
+pub use text::{missing as missing_input, program as refused_program};

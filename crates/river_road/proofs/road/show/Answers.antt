@@ -1,33 +1,22 @@
 use Rattle.std.proofs.lemmas.Result.{err_from_is_err_and}
 use Rattle.river_outside.proofs.Counts.{rose_before}
 use Rattle.river_outside.specs.Causes.{Rose}
-use Rattle.river_road.proofs.Points.{show-first, show-script, show-last}
+use Rattle.river_road.proofs.Points.{show-first, show-last}
 use Rattle.river_road.proofs.road.show.Goals as goal
 
-pub returns-in_err-found-clause-passes : goal.returns-in_err-found-clause-passes
-returns-in_err-found-clause-passes g c =
-    let p = err_from_is_err_and c.from_residual.result c.from_residual.ensures.1 in
-    let rose = Rose g.S.Shelf.stays_at_last (g.S.Shelf.faults c.args.shelf.now) (g.S.Shelf.faults c.planned.new.shelf) in
-    rw (p.1, p.2) (show-first g.L.Language.source g.L.Language.more c.args.file.now (g.S.Shelf.held c.args.shelf.now) c.args.name.now rose c.in_err-found.field-0.0 c.in_err-found.ensures.passes)
+pub show_scripted-requires : goal.show_scripted-requires
+show_scripted-requires g c = c.in_ok-compiled.ensures.passes.1.planned.fit
 
-pub returns-in_err-plan-clause-passes : goal.returns-in_err-plan-clause-passes
-returns-in_err-plan-clause-passes g c =
-    let p = err_from_is_err_and c.from_residual-in_err-plan.result c.from_residual-in_err-plan.ensures.1 in
-    let mid = Rose g.S.Shelf.stays_at_last (g.S.Shelf.faults c.args.shelf.now) (g.S.Shelf.faults c.planned.new.shelf) in
-    let early = Rose g.S.Shelf.stays_at_last (g.S.Shelf.faults c.args.shelf.now) (g.S.Shelf.faults c.script.new.shelf) in
-    let late = Rose g.S.Shelf.stays_at_last (g.S.Shelf.faults c.planned.new.shelf) (g.S.Shelf.faults c.script.new.shelf) in
-    let stops = rw c.planned.ensures.stays at c.in_err-plan.ensures.passes in
-    rw (p.1, p.2) (show-script g.L.Language.source g.L.Language.more c.args.file.now (g.S.Shelf.held c.args.shelf.now) c.args.name.now mid early late (rose_before g.S.Shelf.stays_at_last _ _ _ c.planned.ensures.later) (c.in_ok-found.found, c.in_ok-found.caps) c.in_err-plan.field-0.0 c.in_ok-found.ensures.passes
-    (λ source is. stops c.in_ok-found.caps source is))
+pub returns-in_err-compiled-clause-passes : goal.returns-in_err-compiled-clause-passes
+returns-in_err-compiled-clause-passes g c =
+    let p = err_from_is_err_and c.from_residual.result c.from_residual.ensures.1 in
+    let rose = Rose g.S.Shelf.stays_at_last (g.S.Shelf.faults c.args.shelf.now) (g.S.Shelf.faults c.compiled.new.shelf) in
+    rw (p.1, p.2) (show-first g.L.Language.source c.args.file.now (g.S.Shelf.held c.args.shelf.now) c.args.name.now rose c.in_err-compiled.field-0.0 c.in_err-compiled.ensures.passes)
 
 pub returns-clause-passes : goal.returns-clause-passes
 returns-clause-passes g c =
-    let mid = Rose g.S.Shelf.stays_at_last (g.S.Shelf.faults c.args.shelf.now) (g.S.Shelf.faults c.planned.new.shelf) in
-    let half = Rose g.S.Shelf.stays_at_last (g.S.Shelf.faults c.planned.new.shelf) (g.S.Shelf.faults c.script.new.shelf) in
-    let scripted = rw c.planned.ensures.stays at c.in_ok-plan.ensures.passes in
-    show-last g.L.Language.source g.L.Language.more c.args.file.now (g.S.Shelf.held c.args.shelf.now) c.args.name.now mid half half (c.in_ok-found.found, c.in_ok-found.caps) c.in_ok-plan.plan c.in_ok-shown.field-0 c.in_ok-found.ensures.passes
-    (λ source is. scripted c.in_ok-found.caps source is)
-    c.in_ok-shown.ensures
-
-pub shown-requires : goal.shown-requires
-shown-requires g c = c.in_ok-found.ensures.passes.1.fit
+    let mid = Rose g.S.Shelf.stays_at_last (g.S.Shelf.faults c.args.shelf.now) (g.S.Shelf.faults c.compiled.new.shelf) in
+    let early = Rose g.S.Shelf.stays_at_last (g.S.Shelf.faults c.args.shelf.now) (g.S.Shelf.faults c.show_scripted.new.shelf) in
+    let late = Rose g.S.Shelf.stays_at_last (g.S.Shelf.faults c.compiled.new.shelf) (g.S.Shelf.faults c.show_scripted.new.shelf) in
+    let shows = rw c.compiled.ensures.stays at c.show_scripted.ensures.passes in
+    show-last g.L.Language.source c.args.file.now (g.S.Shelf.held c.args.shelf.now) g.L.Language.stands c.in_ok-compiled.compiled c.show_scripted.result c.args.name.now mid early late (rose_before g.S.Shelf.stays_at_last _ _ _ c.compiled.ensures.later) c.in_ok-compiled.ensures.passes shows
