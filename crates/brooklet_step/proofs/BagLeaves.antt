@@ -21,7 +21,7 @@ use Rattle.kern_bags.specs.Needs.{CanRead, CanProject}
 use Rattle.kern_bags.specs.Takes.{CanReadBoth, CanReadFlat, CanProjectBoth, CanProjectFlat, CanCrossChanges, CanCrossFlat}
 use Rattle.kern_bags.specs.declared.kernel.Streamer.{Streamer}
 use Rattle.kern_bags.specs.declared.kernel.Window.{Window}
-use Rattle.kern_rows.specs.Dealing.{IsChanged}
+use Rattle.river_base.specs.Changes.{IsChanged}
 use Rattle.river_kernels.specs.Fits.{stream, relation, is_sized, is_bag, width_of}
 use Rattle.river_kernels.specs.Formed.{is_width, is_sound, is_term}
 use Rattle.river_kernels.specs.Kern.{window, select, project, cross, streamer}

@@ -11,7 +11,7 @@ use Rattle.river_base.specs.declared.item.Item as item
 use Rattle.river_base.specs.declared.item.Item.TheVariants.{Flat}
 use Rattle.river_base.specs.declared.item.Flat.TheVariants.{Batch as Batched, Change as Changed}
 use Rattle.river_base.specs.declared.kind.QueueType.{QueueType}
-use Rattle.river_base.specs.Changes.{change_to, changes, last_content, IsWideChange, IsChangeOf}
+use Rattle.river_base.specs.Changes.{change_to, changes, last_content, IsWideChange, IsChangeOf, IsChanged}
 use Rattle.river_base.specs.Held.{held, held_from, content_from, IsHeld}
 use Rattle.river_base.proofs.HeldLemmas.{held-relation, content-append}
 use Rattle.kern_bags.specs.Contents.{product}
@@ -20,7 +20,6 @@ use Rattle.kern_bags.proofs.Pairs.{zipped, crossed_is}
 use Rattle.kern_bags.specs.Following.{stamped_as, CrossKept, Crossing, crossing, passing, passed_pairs, cross_start, put_change, StandsForCrossing}
 use Rattle.kern_bags.specs.Following.{Crosses, IsCrossOf, CrossFits, CrossesFlat, as_changes}
 use Rattle.kern_changes.proofs.Leading.{changes-append, last_content-append}
-use Rattle.kern_rows.specs.Dealing.{IsChanged}
 use Rattle.river_kernels.specs.declared.types.VarKind.{VarKind}
 use Rattle.river_kernels.specs.declared.types.VarKind.TheVariants.{Private}
 use Rattle.river_kernels.specs.Fits.{Fits, relation}

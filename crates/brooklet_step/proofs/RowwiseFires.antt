@@ -9,14 +9,13 @@ use Rattle.river_base.specs.declared.item.Item.TheVariants.{Flat, Pack}
 use Rattle.river_base.specs.declared.item.Flat.TheVariants.{One, Batch as Batched, Change as Changed}
 use Rattle.river_base.specs.declared.kind.FlatType.TheVariants.{Stream}
 use Rattle.river_base.specs.declared.kind.QueueType.TheVariants.{Flat as FlatOf}
-use Rattle.river_base.specs.Changes.{change_to, IsChangeOf}
+use Rattle.river_base.specs.Changes.{change_to, IsChangeOf, IsChanged}
 use Rattle.river_base.specs.Held.{held, content_from, HaveWidth, HasType, with_rows}
 use Rattle.river_base.proofs.HeldLemmas.{held-plain, held-relation}
 use Rattle.work_code.specs.Term.{Term}
 use Rattle.kern_bags.specs.Contents.{selected, projected}
 use Rattle.kern_bags.specs.Steps.{select_one, project_one}
 use Rattle.kern_bags.specs.Following.{stamped_as, FollowsContent, SelectsFlat, ProjectsFlat}
-use Rattle.kern_rows.specs.Dealing.{IsChanged}
 use Rattle.river_kernels.specs.Fits.{stream, relation}
 use Rattle.river_kernels.specs.Kern.{select, project}
 use Rattle.brooklet_model.specs.Firings.{Kept, Fired, gives}

@@ -8,7 +8,7 @@ use Rattle.river_base.specs.declared.item.Item as item
 use Rattle.river_base.specs.declared.item.Item.TheVariants.{Flat}
 use Rattle.river_base.specs.declared.item.Flat.TheVariants.{Batch as Batched, Change as Changed}
 use Rattle.river_base.specs.declared.kind.QueueType.{QueueType}
-use Rattle.river_base.specs.Changes.{change_to, IsChangeOf}
+use Rattle.river_base.specs.Changes.{change_to, IsChangeOf, IsChanged}
 use Rattle.river_base.specs.Held.{held, content_from, batches, HaveWidth, IsAscending}
 use Rattle.river_base.proofs.HeldLemmas.{held-plain, content-append}
 use Rattle.kern_bags.specs.Steps.{last_rows, streamed, streamer_one}
@@ -16,7 +16,6 @@ use Rattle.kern_bags.specs.declared.kernel.Streamer.{Streamer}
 use Rattle.kern_bags.specs.declared.kernel.Streamer.TheVariants.{Istream, Dstream, Rstream}
 use Rattle.kern_bags.proofs.KeptWindows.{batches_more}
 use Rattle.kern_bags.specs.Following.{stamped_as, KeepsContent, StreamsChange, StreamFits, StreamsFlat}
-use Rattle.kern_rows.specs.Dealing.{IsChanged}
 use Rattle.river_kernels.specs.declared.types.VarKind.{VarKind}
 use Rattle.river_kernels.specs.declared.types.VarKind.TheVariants.{Private}
 use Rattle.river_kernels.specs.Fits.{Fits, stream, relation}

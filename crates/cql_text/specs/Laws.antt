@@ -1,8 +1,8 @@
 -- What is true of all texts.
 use Rattle.std.specs.Prelude.{◌≡◌, ◌↔◌, ℕ, List, Some, Ok}
-use Rattle.work_code.specs.Cut.{units_of}
-use Rattle.work_code.specs.Lexis.{tokens_in}
-use Rattle.work_code.specs.Tok.{Tok, Mark, toks}
+use Rattle.work_text.specs.Cut.{units_of}
+use Rattle.work_text.specs.Lexis.{tokens_in}
+use Rattle.work_text.specs.Tok.{Tok, Mark, toks}
 use Rattle.text_forms.specs.Texts.{IsFirstBad, whole}
 use Rattle.cql_text.specs.Grammar.{IsText, IsPart, IsPartAt, next_part}
 use Rattle.cql_text.specs.Reading.{part_at}

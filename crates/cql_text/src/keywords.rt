@@ -9,7 +9,7 @@ ghost use Rattle.cql_text.specs.Words.{is_keyword, is_keyword_at, keyword_at, ke
 
 use river_base::Name;
 use text_forms::{Fault, Reader, is_free};
-use work_code::Token;
+use work_text::Token;
 
 const WORDS: &[&[u8]] = &[
     b"register",

@@ -14,7 +14,7 @@ use crate::{Columns, Kind, Part, Query, Scalar, Source, Stream};
 use river_base::Name;
 use std::alloc::Global;
 use text_forms::{Fault, Reader, Units};
-use work_code::Symbol;
+use work_text::Symbol;
 
 // The kind of this word.
 fn kind_of(text: &[u8]) -> Option<Kind>

@@ -10,7 +10,7 @@ use crate::{Numeral, Operator, Scalar};
 use river_base::NoMemory;
 use std::alloc::Global;
 use text_forms::{Dialect, Fault, Form, Reader, TokenSource, read};
-use work_code::{Symbol, Token};
+use work_text::{Symbol, Token};
 
 /// A number of at most 63 bits.
 #[tactic(auto, unfolding(crate::specs::ValueReading::numeral_at))]

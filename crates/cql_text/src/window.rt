@@ -11,7 +11,7 @@ use crate::{Source, TimeUnit, Window};
 use river_base::Name;
 use std::alloc::Global;
 use text_forms::{Fault, Reader};
-use work_code::{Symbol, Token};
+use work_text::{Symbol, Token};
 
 // The unit of time of this word.
 fn unit_of(text: &[u8]) -> Option<TimeUnit>

@@ -1,8 +1,7 @@
 // A product of two relations that come as changes.
 ghost use Rattle.std.specs.Prelude.{◌≡◌, ◌++◌, IfOk, OnOk, OnErr, MatchOption};
-ghost use Rattle.river_base.specs.Changes.{all_pairs};
+ghost use Rattle.river_base.specs.Changes.{all_pairs, IsChanged};
 ghost use Rattle.kern_changes.specs.Counted.{Changed};
-ghost use Rattle.kern_rows.specs.Dealing.{IsChanged};
 ghost use Rattle.kern_bags.specs.Following.{cross_start, put_change, Crosses, CrossFits, CrossesFlat, CrossesPart};
 ghost use Rattle.kern_bags.specs.Needs.{CanJoin};
 ghost use Rattle.kern_bags.specs.Takes.{CanCrossChanges, CanCrossFlat, CanJoinBoth, CanMake, CanMeet, TakesChanges, HasNoChanges, JoinsChanges};

@@ -4,7 +4,7 @@ ghost use Rattle.river_base.specs.Grew.{GrewByPrefix};
 ghost use Rattle.river_base.specs.declared.item.Item.TheVariants.{Flat as flat_item};
 ghost use Rattle.river_base.specs.declared.item.Flat.TheVariants.{Batch as batched, Change as changed};
 ghost use Rattle.kern_bags.specs.Following.{as_changes};
-ghost use Rattle.kern_rows.specs.Dealing.{IsChanged};
+ghost use Rattle.river_base.specs.Changes.{IsChanged};
 
 use crate::line::Changes;
 use river_base::{Batch, Change, Flat, Item, Items, NoMemory};

@@ -7,7 +7,7 @@ ghost use Rattle.kern_bags.specs.Contents.{selected};
 ghost use Rattle.kern_bags.specs.Following.{Selects, SelectsFlat, Projects, ProjectsFlat};
 ghost use Rattle.kern_bags.specs.Needs.{CanRead, CanProject};
 ghost use Rattle.kern_bags.specs.Takes.{CanReadBoth, CanReadFlat, CanProjectBoth, CanProjectFlat};
-ghost use Rattle.kern_rows.specs.Dealing.{IsChanged};
+ghost use Rattle.river_base.specs.Changes.{IsChanged};
 
 use crate::given::{change_of, give_batch, give_change};
 use kern_changes::settle;

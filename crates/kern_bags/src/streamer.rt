@@ -1,10 +1,9 @@
 // Streamers of changes, and what they keep.
 ghost use Rattle.std.specs.Prelude.{◌≡◌, [], ℕ, IfOk, OnOk, OnErr};
-ghost use Rattle.river_base.specs.Changes.{IsWideChange};
+ghost use Rattle.river_base.specs.Changes.{IsWideChange, IsChanged};
 ghost use Rattle.river_base.specs.Held.{HaveWidth};
 ghost use Rattle.kern_bags.specs.declared.kernel.Streamer.TheVariants.{Istream, Dstream};
 ghost use Rattle.kern_bags.specs.Following.{StreamsFree, StreamsAll, StreamSteps, StreamsFlat};
-ghost use Rattle.kern_rows.specs.Dealing.{IsChanged};
 
 use crate::Streamer;
 use crate::given::{change_of, give_batch};

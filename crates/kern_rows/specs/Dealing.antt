@@ -31,11 +31,6 @@ pub record TurnsOn (ws : List ℕ) (old new : PortInTurn) : Type 0 where
   pub had : new.had ≡ next_had ws old.port old.had
   pub turn : IsPortInTurn ws new
 
--- the item is a change
-pub record IsChanged (x : flat.Flat) : Type 0 where
-  pub change : Change
-  pub is : x ≡ Changed change
-
 -- a change came in the turn of the list at a place: what is given is the change of this list, and what each list owes is kept
 pub record DealsChange (place : ℕ) (c : Change) (old new : List Debt) (g : flat.Flat) : Type 0 where
   pub given : Change

@@ -1,7 +1,8 @@
 // Ports that take turns.
 ghost use Rattle.std.specs.Prelude.{◌≡◌, ◌+◌, ◌<◌, ◌^◌, length, slice_index_or, nat_lt, if◌then◌else◌, IfOk, OnOk};
 ghost use Rattle.river_base.specs.Number.{count_of};
-ghost use Rattle.kern_rows.specs.Dealing.{dealt_start, IsPortInTurn, TurnsOn, IsChanged, DealsFlat};
+ghost use Rattle.river_base.specs.Changes.{IsChanged};
+ghost use Rattle.kern_rows.specs.Dealing.{dealt_start, IsPortInTurn, TurnsOn, DealsFlat};
 ghost use Rattle.kern_rows.specs.Needs.{HaveShares};
 ghost use Rattle.kern_rows.specs.Turns.{shares};
 

@@ -1,13 +1,13 @@
 -- What is made of a text is made of the program that it has in the grammar, and is what the front answers.
 use Rattle.std.proofs.Common.{◌≡◌, ◌⊎◌, ℕ, ℤ, suc, ◌≤◌, List, [], ◌∷◌, length, Result, Ok, Err, refl, sym, ap, ◌∙◌, subst, inl, inr, arith}
 use Rattle.std.proofs.lemmas.List.{length-map}
-use Rattle.work_code.specs.Cut.{units_of as cut_units}
-use Rattle.work_code.specs.Lexis.{tokens_in}
-use Rattle.work_code.specs.Tok.{Tok, Mark, toks}
-use Rattle.work_code.specs.declared.fault.LexFault.{LexFault}
-use Rattle.work_code.specs.declared.fault.LexFault.TheVariants as lex
-use Rattle.work_code.proofs.Slices.{no_want}
-use Rattle.work_code.proofs.Counts.{units-few}
+use Rattle.work_text.specs.Cut.{units_of as cut_units}
+use Rattle.work_text.specs.Lexis.{tokens_in}
+use Rattle.work_text.specs.Tok.{Tok, Mark, toks}
+use Rattle.work_text.specs.declared.fault.LexFault.{LexFault}
+use Rattle.work_text.specs.declared.fault.LexFault.TheVariants as lex
+use Rattle.work_text.proofs.Slices.{no_want}
+use Rattle.work_text.proofs.Counts.{units-few}
 use Rattle.text_forms.specs.Refusals.{of_lexer}
 use Rattle.text_forms.specs.Texts.{read_units, IsFirstBad}
 use Rattle.text_forms.specs.declared.refusal.Refusal.TheVariants.{BadByte, BigNumber, Syntax}

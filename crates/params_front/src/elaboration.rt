@@ -20,7 +20,7 @@ use params_text::{ParamUnit, read_params};
 use river_base::Bytes;
 use std::alloc::Global;
 use text_forms::{Refusal as TextRefusal, UnitFault};
-use work_code::{LexFault, Tokens, lex};
+use work_text::{LexFault, Tokens, lex};
 
 /// The program of a text, and the text of the plain program that is made of it: an instance of its last
 /// stream, and one for each `add` that is met, children before their parent. It means what the program
@@ -32,7 +32,7 @@ use work_code::{LexFault, Tokens, lex};
 /// unit, from 1, that is not in the grammar; otherwise the first fault of the program in the order in which
 /// it is read, with its unit; otherwise `Top`; otherwise the first fault in the order in which instances are
 /// made, with the unit of which one was to be made; `NoMemory` where there is no memory.
-#[tactic(auto, unfolding(crate::specs::Meaning::elaboration), using(work_code::proofs::Counts::counts))]
+#[tactic(auto, unfolding(crate::specs::Meaning::elaboration), using(work_text::proofs::Counts::counts))]
 pub fn elaborate(alloc: Global, text: &Bytes) -> Result<Elaborated, ParamFault>
     requires { length text.now < 2 ^ 32 }
     ensures made { IfOk result (Elaborates (elaboration text.now)) }

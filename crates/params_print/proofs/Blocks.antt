@@ -1,8 +1,8 @@
 -- Texts of statements one after another, and of their parts.
 use Rattle.std.proofs.Common.{◌≡◌, ℕ, ◌+◌, ◌<◌, ◌≤◌, List, [], ◌∷◌, ◌++◌, length, drop, map, get_or, sym, ap, ◌∙◌, append_assoc}
 use Rattle.std.proofs.lemmas.List.{append-nil}
-use Rattle.work_code.specs.Tok.{Tok, symbol}
-use Rattle.work_code.specs.declared.sign.Symbol.TheVariants as s
+use Rattle.work_text.specs.Tok.{Tok, symbol}
+use Rattle.work_text.specs.declared.sign.Symbol.TheVariants as s
 use Rattle.streamit_text.specs.Tree.{Statement, statement, in_turn}
 use Rattle.streamit_text.specs.declared.tree.Statement as written
 use Rattle.streamit_text.proofs.Places.{at_place, none_left}

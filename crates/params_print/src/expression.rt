@@ -1,7 +1,7 @@
 // Expressions under values: each parameter is written as its value.
 ghost use Rattle.std.specs.Prelude.{◌≡◌, ◌++◌, map, OnOk};
 ghost use Rattle.river_base.specs.Number.{least_value};
-ghost use Rattle.work_code.specs.Tok.{token_of};
+ghost use Rattle.work_text.specs.Tok.{token_of};
 ghost use Rattle.text_blocks.specs.Seven.{sign_of};
 ghost use Rattle.streamit_text.specs.Tree.{Bin, expression};
 ghost use Rattle.streamit_model.specs.Meaning.{look};
@@ -13,7 +13,8 @@ use crate::token::tokens;
 use river_base::{Bytes, Name, NoMemory};
 use std::alloc::Global;
 use streamit_text::Expr;
-use work_code::{BinOp, Symbol, Token};
+use work_code::BinOp;
+use work_text::{Symbol, Token};
 
 // The symbol of an operator.
 fn sign_of(op: BinOp) -> Symbol

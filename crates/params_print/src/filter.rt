@@ -16,7 +16,7 @@ use params_text::{ParamFilter, ParamRates, ParamWork};
 use river_base::{Bytes, Name, NoMemory};
 use std::alloc::Global;
 use streamit_text::{Block, Expr};
-use work_code::{Symbol, Token};
+use work_text::{Symbol, Token};
 
 // Appends the fields.
 #[tactic(auto, using(crate::proofs::Texts::texts))]

@@ -13,7 +13,7 @@ use params_text::{ParamSplit, Rounds};
 use river_base::{Bytes, NoMemory};
 use std::alloc::Global;
 use streamit_text::Expr;
-use work_code::{Symbol, Token};
+use work_text::{Symbol, Token};
 
 // Appends the value of each weight behind a comma.
 #[tactic(auto, using(crate::proofs::Texts::texts))]

@@ -11,7 +11,7 @@ use crate::token::tokens;
 use river_base::{Bytes, Name, NoMemory};
 use std::alloc::Global;
 use streamit_text::{Block, Expr, Statement, Until};
-use work_code::{Symbol, Token};
+use work_text::{Symbol, Token};
 
 // The symbol between a loop's variable and its upper bound.
 fn below(until: Until) -> Symbol

@@ -1,13 +1,13 @@
 // Tokens written out, each with a blank behind it.
 ghost use Rattle.std.specs.Prelude.{◌≡◌, ◌++◌, map, OnOk};
 ghost use Rattle.std.specs.Fmt.{decimal};
-ghost use Rattle.work_code.specs.Symbols.{symbol_bytes};
-ghost use Rattle.work_code.specs.Tok.{token_of};
+ghost use Rattle.work_text.specs.Symbols.{symbol_bytes};
+ghost use Rattle.work_text.specs.Tok.{token_of};
 ghost use Rattle.params_text.specs.Toks.{token_bytes, spaced};
 
 use river_base::{Bytes, NoMemory};
 use std::alloc::Global;
-use work_code::{Symbol, Token};
+use work_text::{Symbol, Token};
 
 // The bytes of a symbol.
 fn bytes_of(symbol: Symbol) -> &'static [u8]

@@ -5,11 +5,11 @@ use Rattle.std.specs.List.{list_all}
 use Rattle.std.proofs.lemmas.Bool.{and_parts}
 use Rattle.work_code.specs.declared.expr.BinOp.{BinOp}
 use Rattle.work_code.specs.declared.expr.BinOp.TheVariants as op
-use Rattle.work_code.specs.declared.sign.Symbol.{Symbol}
-use Rattle.work_code.specs.declared.sign.Symbol.TheVariants as s
-use Rattle.work_code.specs.Tok.{Tok, name, symbol}
-use Rattle.work_code.specs.Lexis as lexis
-use Rattle.work_code.proofs.Spelled.{is_name_text}
+use Rattle.work_text.specs.declared.sign.Symbol.{Symbol}
+use Rattle.work_text.specs.declared.sign.Symbol.TheVariants as s
+use Rattle.work_text.specs.Tok.{Tok, name, symbol}
+use Rattle.work_text.specs.Lexis as lexis
+use Rattle.work_text.proofs.Spelled.{is_name_text}
 use Rattle.river_base.specs.Name.{is_name}
 use Rattle.river_base.specs.Name as river
 use Rattle.streamit_text.specs.Tree.{Expression, depth_of}

@@ -1,11 +1,11 @@
 -- Tokens that are spelled by their bytes, and that end no unit within braces.
 use Rattle.std.proofs.Common.{◌≡◌, ℕ, ◌≤◌, true, List, [], ◌∷◌, ◌++◌, refl}
-use Rattle.work_code.specs.Lexis.{most, first_is, is_word, is_letter, is_digit, is_blank}
-use Rattle.work_code.specs.Symbols.{symbol_bytes}
-use Rattle.work_code.specs.Tok.{Tok, name, var, number, symbol}
-use Rattle.work_code.specs.declared.sign.Symbol.{Symbol}
-use Rattle.work_code.specs.declared.sign.Symbol.TheVariants as s
-use Rattle.work_code.proofs.Spelled.{Spells, Anything, NoWord, is_name_text, spells-nothing, spells-then, spells-name, spells-var, spells-number, spells-symbol, spells-blank, blank_follows}
+use Rattle.work_text.specs.Lexis.{most, first_is, is_word, is_letter, is_digit, is_blank}
+use Rattle.work_text.specs.Symbols.{symbol_bytes}
+use Rattle.work_text.specs.Tok.{Tok, name, var, number, symbol}
+use Rattle.work_text.specs.declared.sign.Symbol.{Symbol}
+use Rattle.work_text.specs.declared.sign.Symbol.TheVariants as s
+use Rattle.work_text.proofs.Spelled.{Spells, Anything, NoWord, is_name_text, spells-nothing, spells-then, spells-name, spells-var, spells-number, spells-symbol, spells-blank, blank_follows}
 use Rattle.params_text.proofs.Insides.{Inside, inside-nothing, inside-then, inside-symbol, inside-name, inside-number, inside-braces, IsPlain}
 use Rattle.params_text.specs.Toks.{token_bytes, spaced}
 

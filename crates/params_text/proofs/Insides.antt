@@ -3,11 +3,11 @@ use Rattle.std.proofs.Common.{◌≡◌, ℕ, suc, Bool, true, false, List, [], 
 use Rattle.std.specs.Prelude.{◌==◌, ◌&&◌, ◌||◌, not}
 use Rattle.std.proofs.Math.Dec.{eqb-suc-zero}
 use Rattle.std.proofs.lemmas.Bool.{ne_eqb}
-use Rattle.work_code.specs.Cut.{cut, to_first, ends_unit, braces_after, is_else}
-use Rattle.work_code.specs.Symbols.{code_of}
-use Rattle.work_code.specs.Tok.{Tok, name, number, symbol}
-use Rattle.work_code.specs.declared.sign.Symbol.{Symbol}
-use Rattle.work_code.specs.declared.sign.Symbol.TheVariants as s
+use Rattle.work_text.specs.Cut.{cut, to_first, ends_unit, braces_after, is_else}
+use Rattle.work_text.specs.Symbols.{code_of}
+use Rattle.work_text.specs.Tok.{Tok, name, number, symbol}
+use Rattle.work_text.specs.declared.sign.Symbol.{Symbol}
+use Rattle.work_text.specs.declared.sign.Symbol.TheVariants as s
 
 -- tokens put before the first of the units
 abbrev pub all_first : List Tok → List (List Tok) → List (List Tok)

@@ -2,9 +2,9 @@
 use Rattle.std.proofs.Common.{◌≡◌, ℕ, suc, ◌<◌, ◌≤◌, ◌+◌, Bool, true, false, cond, List, [], ◌∷◌, ◌++◌, length, map, Some, None, refl, sym, ap, ◌∙◌, arith, length-append, nat_le}
 use Rattle.std.proofs.lemmas.Bool.Decides.{nat_tests}
 use Rattle.std.proofs.lemmas.List.{map-append}
-use Rattle.work_code.specs.Tok.{Tok}
-use Rattle.work_code.specs.declared.sign.Symbol.{Symbol}
-use Rattle.work_code.specs.declared.sign.Symbol.TheVariants as s
+use Rattle.work_text.specs.Tok.{Tok}
+use Rattle.work_text.specs.declared.sign.Symbol.{Symbol}
+use Rattle.work_text.specs.declared.sign.Symbol.TheVariants as s
 use Rattle.text_forms.specs.Parse as parse
 use Rattle.text_forms.specs.Repeat.{repeated}
 use Rattle.text_forms.specs.Tail.{tail}

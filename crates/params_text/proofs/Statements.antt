@@ -4,10 +4,10 @@ use Rattle.std.specs.Prelude.{codes, ◌&&◌}
 use Rattle.std.specs.Str.{bytes_eq}
 use Rattle.std.specs.List.{list_any, list_all}
 use Rattle.std.proofs.lemmas.Bool.{and_parts}
-use Rattle.work_code.specs.declared.sign.Symbol.TheVariants as s
-use Rattle.work_code.specs.Tok.{Tok, name, symbol}
-use Rattle.work_code.specs.Lexis as lexis
-use Rattle.work_code.proofs.Spelled.{is_name_text}
+use Rattle.work_text.specs.declared.sign.Symbol.TheVariants as s
+use Rattle.work_text.specs.Tok.{Tok, name, symbol}
+use Rattle.work_text.specs.Lexis as lexis
+use Rattle.work_text.proofs.Spelled.{is_name_text}
 use Rattle.text_forms.specs.Parse.{is_short}
 use Rattle.text_forms.specs.Forms.{After, Before, AfterWord, Maybe, Many, Choose, Never}
 use Rattle.text_blocks.specs.Parts.{Round}

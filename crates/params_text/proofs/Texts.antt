@@ -1,11 +1,11 @@
 -- The text of a program stands for it and for no other.
 use Rattle.std.proofs.Common.{◌≡◌, ℕ, true, false, List, [], ◌∷◌, ◌++◌, map, refl, sym, ap, ◌∙◌, subst, append_assoc}
 use Rattle.std.specs.Prelude.{codes}
-use Rattle.work_code.specs.Cut.{cut, to_first, ends_unit, braces_after, is_else, units_of}
-use Rattle.work_code.specs.Lexis as lexis
-use Rattle.work_code.specs.Tok.{Tok, name, symbol}
-use Rattle.work_code.specs.declared.sign.Symbol.TheVariants as s
-use Rattle.work_code.proofs.Spelled.{is_name_text, spells-whole}
+use Rattle.work_text.specs.Cut.{cut, to_first, ends_unit, braces_after, is_else, units_of}
+use Rattle.work_text.specs.Lexis as lexis
+use Rattle.work_text.specs.Tok.{Tok, name, symbol}
+use Rattle.work_text.specs.declared.sign.Symbol.TheVariants as s
+use Rattle.work_text.proofs.Spelled.{is_name_text, spells-whole}
 use Rattle.params_text.proofs.Insides.{Inside, all_first}
 use Rattle.streamit_text.specs.Program.{Body, AFilter, APipeline, ASplitJoin, Declared, Program}
 use Rattle.streamit_text.specs.Grammar.{IsText, IsSome, AreUnits}

@@ -1,10 +1,10 @@
 -- Units that are written out are read as themselves.
 use Rattle.std.proofs.Common.{◌≡◌, ℕ, zero, suc, ◌≤◌, Option, Some, None, true, List, [], ◌∷◌, ◌++◌, refl, ap, ◌∙◌, arith, inl, inr, append_assoc}
 use Rattle.std.specs.Prelude.{codes}
-use Rattle.work_code.specs.declared.sign.Symbol.TheVariants as s
-use Rattle.work_code.specs.Tok.{Tok, name, number, symbol}
-use Rattle.work_code.specs.Lexis as lexis
-use Rattle.work_code.proofs.Spelled.{is_name_text}
+use Rattle.work_text.specs.declared.sign.Symbol.TheVariants as s
+use Rattle.work_text.specs.Tok.{Tok, name, number, symbol}
+use Rattle.work_text.specs.Lexis as lexis
+use Rattle.work_text.proofs.Spelled.{is_name_text}
 use Rattle.text_forms.specs.Parse.{is_count}
 use Rattle.text_forms.specs.Forms.{After, Many, Listing, Headed}
 use Rattle.streamit_text.specs.Tree.{Optional, Unwritten, Written}

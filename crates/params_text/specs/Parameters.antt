@@ -1,9 +1,9 @@
 -- The leaves of a language with parameters: those of StreamIt, where a NAME that is a parameter counts as one open bracket.
 use Rattle.std.specs.Prelude.{◌≡◌, ℕ, zero, suc, true, false, List, [], ◌∷◌, None, Some, codes, if◌then◌else◌}
 use Rattle.std.specs.Str.{bytes_eq}
-use Rattle.work_code.specs.Tok.{Tok}
-use Rattle.work_code.specs.Tok as tok
-use Rattle.work_code.specs.declared.sign.Symbol.TheVariants as s
+use Rattle.work_text.specs.Tok.{Tok}
+use Rattle.work_text.specs.Tok as tok
+use Rattle.work_text.specs.declared.sign.Symbol.TheVariants as s
 use Rattle.text_forms.specs.Parse.{Parse, is_value}
 use Rattle.streamit_text.specs.Leaves.{pop_at}
 use Rattle.streamit_text.specs.Tree.{Expression, Number, Name, Pop}

@@ -2,10 +2,10 @@
 -- its own.
 use Rattle.std.specs.Prelude.{ℕ, Bool, true, false, List, [], ◌∷◌, ◌++◌, Option, Some, None, codes}
 use Rattle.std.specs.Fmt.{decimal}
-use Rattle.work_code.specs.Symbols.{symbol_bytes}
-use Rattle.work_code.specs.Tok.{Tok, name, var, number, symbol}
-use Rattle.work_code.specs.declared.sign.Symbol.{Symbol}
-use Rattle.work_code.specs.declared.sign.Symbol.TheVariants as s
+use Rattle.work_text.specs.Symbols.{symbol_bytes}
+use Rattle.work_text.specs.Tok.{Tok, name, var, number, symbol}
+use Rattle.work_text.specs.declared.sign.Symbol.{Symbol}
+use Rattle.work_text.specs.declared.sign.Symbol.TheVariants as s
 use Rattle.text_blocks.specs.Seven.{sign_of}
 use Rattle.streamit_text.specs.Tree.{Expression}
 use Rattle.streamit_text.specs.Tree as tree

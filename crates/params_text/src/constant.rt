@@ -12,7 +12,7 @@ use std::alloc::Global;
 use streamit_text::{Expr, Plain, Streamit, is_still, name};
 use text_blocks::term;
 use text_forms::{Fault, Reader};
-use work_code::Symbol;
+use work_text::Symbol;
 
 /// An expression without `push`, `pop` and `peek`.
 #[tactic(auto, unfolding(crate::specs::Steps::constant_at))]

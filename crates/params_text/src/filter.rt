@@ -17,7 +17,7 @@ use river_base::Name;
 use std::alloc::Global;
 use streamit_text::{Block, Expr, Streamit, fields, stay};
 use text_forms::{Fault, Reader, closed};
-use work_code::Symbol;
+use work_text::Symbol;
 
 // A rate that is written.
 #[derive(Drop)]

@@ -15,7 +15,7 @@ use std::alloc::Global;
 use streamit_text::{Expr, ForHead, Plain, Streamit, is_still, round_head};
 use text_blocks::{Blocks, Opening, rest};
 use text_forms::{Fault, Reader};
-use work_code::Symbol;
+use work_text::Symbol;
 
 /// Steps, for the reader of the statements of any language.
 pub struct StepWords;

@@ -12,7 +12,7 @@ use crate::{ParamBody, ParamUnit};
 use river_base::Name;
 use std::alloc::Global;
 use text_forms::{Fault, Reader, Units};
-use work_code::Symbol;
+use work_text::Symbol;
 
 // What stands behind the name and the parameters of a stream of this kind.
 #[tactic(auto, unfolding(crate::specs::Reading::body_after))]

@@ -3,6 +3,8 @@ use Rattle.std.specs.Prelude.{◌≡◌, ◌≤◌, ◌+◌, ℕ, ℤ, List, [],
 use Rattle.river_base.specs.Row.{row_eq, copies, in_order, HaveWidth, IsAscending}
 use Rattle.river_base.specs.declared.item.Batch.{Batch}
 use Rattle.river_base.specs.declared.item.Change.{Change}
+use Rattle.river_base.specs.declared.item.Flat as flat
+use Rattle.river_base.specs.declared.item.Flat.TheVariants.{Change as Changed}
 
 -- the bag difference: each row of the second bag takes one such row away, where there is one
 abbrev pub take_out : List ℤ → List (List ℤ) → List (List ℤ)
@@ -100,3 +102,8 @@ pub record LeadsTo (before after plus minus : List (List ℤ)) : Type 0 where
 -- all pairs of rows, joined
 abbrev pub all_pairs : List (List ℤ) → List (List ℤ) → List (List ℤ)
 all_pairs xs ys = flat_map (λ x. map (λ y. x ++ y) ys) xs
+
+-- an item that is a change
+pub record IsChanged (x : flat.Flat) : Type 0 where
+  pub change : Change
+  pub is : x ≡ Changed change

@@ -4,10 +4,10 @@ use Rattle.std.specs.Prelude.{codes, map, ℤ, pos, negsuc}
 use Rattle.std.specs.Ordering.{int_eq}
 use Rattle.std.specs.Fmt.{decimal, signed_decimal}
 use Rattle.std.proofs.lemmas.Bool.Decides.{Decides-int_eq}
-use Rattle.work_code.specs.Lexis.{most, is_letter, is_word, is_digit}
-use Rattle.work_code.specs.Tok.{Tok, name, number, symbol}
-use Rattle.work_code.specs.declared.sign.Symbol.TheVariants as s
-use Rattle.work_code.proofs.Spelled.{is_name_text, spells-name, spells-number, minus_follows, decimal-first}
+use Rattle.work_text.specs.Lexis.{most, is_letter, is_word, is_digit}
+use Rattle.work_text.specs.Tok.{Tok, name, number, symbol}
+use Rattle.work_text.specs.declared.sign.Symbol.TheVariants as s
+use Rattle.work_text.proofs.Spelled.{is_name_text, spells-name, spells-number, minus_follows, decimal-first}
 use Rattle.text_forms.specs.Forms as form
 use Rattle.river_print.specs.Printed.{start_text}
 use Rattle.river_text.specs.Kernels as g

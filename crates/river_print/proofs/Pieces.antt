@@ -4,15 +4,15 @@ use Rattle.std.specs.Prelude.{codes, ◌==◌, ◌&&◌, ◌||◌, not}
 use Rattle.std.specs.Fmt.{decimal}
 use Rattle.std.proofs.Math.Dec.{eqb-suc-zero}
 use Rattle.std.proofs.lemmas.Bool.{ne_eqb}
-use Rattle.work_code.specs.Cut.{cut, to_first, ends_unit, braces_after, is_else}
-use Rattle.work_code.specs.Lexis.{most, first_is, is_word, is_letter, is_digit, is_blank}
+use Rattle.work_text.specs.Cut.{cut, to_first, ends_unit, braces_after, is_else}
+use Rattle.work_text.specs.Lexis.{most, first_is, is_word, is_letter, is_digit, is_blank}
 use Rattle.work_code.specs.Printed.{items_text, more_items}
-use Rattle.work_code.specs.Symbols.{symbol_bytes, code_of}
-use Rattle.work_code.specs.Tok.{Tok, name, var, number, symbol}
-use Rattle.work_code.specs.declared.sign.Symbol.{Symbol}
-use Rattle.work_code.specs.declared.sign.Symbol.TheVariants as s
-use Rattle.work_code.proofs.Spelled.{Spells, NoWord, MayFollow, is_name_text, spells-nothing, spells-then, spells-less, spells-blank, spells-symbol}
-use Rattle.work_code.proofs.Spelled.{spells-name, spells-var, spells-number}
+use Rattle.work_text.specs.Symbols.{symbol_bytes, code_of}
+use Rattle.work_text.specs.Tok.{Tok, name, var, number, symbol}
+use Rattle.work_text.specs.declared.sign.Symbol.{Symbol}
+use Rattle.work_text.specs.declared.sign.Symbol.TheVariants as s
+use Rattle.work_text.proofs.Spelled.{Spells, NoWord, MayFollow, is_name_text, spells-nothing, spells-then, spells-less, spells-blank, spells-symbol}
+use Rattle.work_text.proofs.Spelled.{spells-name, spells-var, spells-number}
 use Rattle.river_print.specs.Printed.{list_text}
 use Rattle.river_print.proofs.PrintedExpr.{blank-then}
 

@@ -2,11 +2,11 @@
 use Rattle.std.proofs.Common.{◌≡◌, ℕ, suc, ◌≤◌, Bool, true, false, List, [], ◌∷◌, ◌++◌, Option, Some, None, refl, sym, ap, ◌∙◌, subst, arith, append_assoc, append-nil}
 use Rattle.std.specs.Prelude.{codes, map, nat_le, ◌&&◌, ◌==◌, if◌then◌else◌}
 use Rattle.std.proofs.lemmas.Bool.Decides.{nat_tests}
-use Rattle.work_code.specs.Laws.{joined_units}
-use Rattle.work_code.specs.Cut.{cut, units_of, is_else}
-use Rattle.work_code.specs.Lexis.{is_letter, is_word, is_digit}
-use Rattle.work_code.specs.Tok.{Tok, toks}
-use Rattle.work_code.proofs.Spelled.{Spells, Anything, is_name_text, spells-nothing, spells-then, spells-whole}
+use Rattle.work_text.specs.Laws.{joined_units}
+use Rattle.work_text.specs.Cut.{cut, units_of, is_else}
+use Rattle.work_text.specs.Lexis.{is_letter, is_word, is_digit}
+use Rattle.work_text.specs.Tok.{Tok, toks}
+use Rattle.work_text.proofs.Spelled.{Spells, Anything, is_name_text, spells-nothing, spells-then, spells-whole}
 use Rattle.river_plan.specs.Caps.{OwnCaps, IsOwnCap, cap_of, caps_of}
 use Rattle.river_plan.specs.Forms.{Name, OpForm, PlanForm, empty_form}
 use Rattle.river_plan.specs.declared.caps.Cap.{Cap}

@@ -2,15 +2,15 @@
 use Rattle.std.proofs.Common.{◌≡◌, ℕ, zero, suc, ◌+◌, ◌<◌, ◌≤◌, true, List, [], ◌∷◌, ◌++◌, length, refl, sym, ap, subst, arith, append_assoc}
 use Rattle.std.specs.Prelude.{codes, map, Option, Some, None}
 use Rattle.std.specs.Fmt.{decimal}
-use Rattle.work_code.specs.Lexis.{is_letter, is_word, is_digit}
+use Rattle.work_text.specs.Lexis.{is_letter, is_word, is_digit}
 use Rattle.work_code.specs.Printed.{text_of, items_text, step_text, body_text, more_text, else_text}
 use Rattle.work_code.specs.Steps.{Step, Steps, Set, Push, If, Done, Then, in_turn}
 use Rattle.work_code.specs.Term.{Term, Const, Input, Slot, Neg, Not, Bin}
-use Rattle.work_code.specs.Tok.{Tok, name, number, symbol}
+use Rattle.work_text.specs.Tok.{Tok, name, number, symbol}
 use Rattle.work_code.specs.declared.expr.BinOp.{BinOp}
 use Rattle.work_code.specs.declared.expr.BinOp.TheVariants as op
-use Rattle.work_code.specs.declared.sign.Symbol.TheVariants as s
-use Rattle.work_code.proofs.Spelled.{is_name_text, blank_follows}
+use Rattle.work_text.specs.declared.sign.Symbol.TheVariants as s
+use Rattle.work_text.proofs.Spelled.{is_name_text, blank_follows}
 use Rattle.text_forms.specs.Forms as form
 use Rattle.text_blocks.specs.Parts.{Round}
 use Rattle.text_blocks.specs.Seven.{sign_of}

@@ -6,14 +6,14 @@ use Rattle.std.specs.List.{list_all}
 use Rattle.std.specs.Fmt.{decimal}
 use Rattle.std.specs.Cmp.Lexicographic.{pointwise}
 use Rattle.std.proofs.lemmas.Slice.Eq.{bytes_eq-Decides}
-use Rattle.work_code.specs.Cut.{cut, to_first, ends_unit, braces_after, is_else}
-use Rattle.work_code.specs.Lexis.{first_is, is_letter, is_word, is_digit}
-use Rattle.work_code.specs.Tok.{Tok, name, var, number, symbol}
-use Rattle.work_code.specs.declared.sign.Symbol.{Symbol}
-use Rattle.work_code.specs.declared.sign.Symbol.TheVariants as s
-use Rattle.work_code.proofs.Spelled.{Spells, Anything, NoWord, MayFollow, is_name_text, spells-then, spells-blank, spells-symbol, spells-name, spells-var}
-use Rattle.work_code.proofs.Spelled.{blank_follows}
-use Rattle.work_code.specs.Symbols.{symbol_bytes, long_symbol}
+use Rattle.work_text.specs.Cut.{cut, to_first, ends_unit, braces_after, is_else}
+use Rattle.work_text.specs.Lexis.{first_is, is_letter, is_word, is_digit}
+use Rattle.work_text.specs.Tok.{Tok, name, var, number, symbol}
+use Rattle.work_text.specs.declared.sign.Symbol.{Symbol}
+use Rattle.work_text.specs.declared.sign.Symbol.TheVariants as s
+use Rattle.work_text.proofs.Spelled.{Spells, Anything, NoWord, MayFollow, is_name_text, spells-then, spells-blank, spells-symbol, spells-name, spells-var}
+use Rattle.work_text.proofs.Spelled.{blank_follows}
+use Rattle.work_text.specs.Symbols.{symbol_bytes, long_symbol}
 use Rattle.std.specs.Str.{bytes_eq}
 use Rattle.river_base.specs.Name.{is_name, name_eq}
 use Rattle.river_base.specs.declared.kind.FlatType.{FlatType}

@@ -16,7 +16,8 @@ use kern_rows::{CodeKernel, Filter, First};
 use river_base::{Bytes, NoMemory};
 use river_kernels::Kernel;
 use std::alloc::Global;
-use work_code::{Code, Expr, Exprs, print_code, print_expr};
+use work_code::{Code, Expr, Exprs};
+use work_text::{print_code, print_expr};
 
 /// Appends the text of a kernel; where there is no memory, maybe a part of it.
 #[tactic(auto, using(crate::proofs::Joined::joins))]

@@ -3,11 +3,11 @@ use Rattle.std.proofs.Common.{◌≡◌, ℕ, ◌+◌, List, [], ◌∷◌, ◌+
 use Rattle.std.proofs.Common.{append-nil}
 use Rattle.std.specs.Prelude.{codes}
 use Rattle.std.specs.Str.{bytes_eq}
-use Rattle.work_code.specs.Cut.{units_of}
-use Rattle.work_code.specs.Lexis.{tokens_in}
-use Rattle.work_code.specs.Tok.{Tok, Mark, toks}
-use Rattle.work_code.specs.declared.fault.LexFault.{LexFault}
-use Rattle.work_code.specs.declared.sign.Symbol.TheVariants as s
+use Rattle.work_text.specs.Cut.{units_of}
+use Rattle.work_text.specs.Lexis.{tokens_in}
+use Rattle.work_text.specs.Tok.{Tok, Mark, toks}
+use Rattle.work_text.specs.declared.fault.LexFault.{LexFault}
+use Rattle.work_text.specs.declared.sign.Symbol.TheVariants as s
 use Rattle.river_base.specs.Name.{is_name}
 use Rattle.text_forms.specs.Parse.{Parse, is_count}
 use Rattle.text_forms.specs.Texts.{whole, after_unit, put_first, read_units}

@@ -3,7 +3,7 @@ use Rattle.std.proofs.Common.{◌≡◌, ℕ, ◌≤◌, Bool, true, false, List
 use Rattle.std.specs.Prelude.{All, nat_le, ◌&&◌}
 use Rattle.std.proofs.lemmas.List.Elements.{All-nil, All-cons, All-append}
 use Rattle.std.proofs.lemmas.Bool.Decides.{nat_tests}
-use Rattle.work_code.specs.Tok.{Tok}
+use Rattle.work_text.specs.Tok.{Tok}
 use Rattle.river_plan.specs.Caps.{IsCap, AreCaps, cap_of}
 use Rattle.river_plan.specs.Forms.{Name}
 use Rattle.river_plan.specs.declared.caps.Cap.{Cap}

@@ -2,7 +2,7 @@
 use Rattle.std.proofs.Common.{◌≡◌, ℕ, ◌<◌, ◌≤◌, ◌+◌, List, [], ◌∷◌, ◌++◌, length, drop, get_or, Some, None, refl, sym, ap, ◌∙◌}
 use Rattle.std.specs.Prelude.{map}
 use Rattle.std.proofs.lemmas.List.{drop_more, drop_all}
-use Rattle.work_code.specs.Tok.{Tok}
+use Rattle.work_text.specs.Tok.{Tok}
 use Rattle.text_forms.proofs.Many.{comma-stop, comma-bad}
 use Rattle.river_text.specs.declared.port.Port as read
 use Rattle.river_text.specs.declared.port.Port.TheVariants as kind

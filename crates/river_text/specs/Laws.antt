@@ -1,9 +1,9 @@
 -- Laws of River text, over the definitions alone.
 use Rattle.std.specs.Prelude.{◌≡◌, ◌↔◌, ℕ, List, Result, Ok, Err, Some}
-use Rattle.work_code.specs.Cut.{units_of}
-use Rattle.work_code.specs.Lexis.{tokens_in}
-use Rattle.work_code.specs.Tok.{Mark, toks}
-use Rattle.work_code.specs.declared.fault.LexFault.TheVariants as lex
+use Rattle.work_text.specs.Cut.{units_of}
+use Rattle.work_text.specs.Lexis.{tokens_in}
+use Rattle.work_text.specs.Tok.{Mark, toks}
+use Rattle.work_text.specs.declared.fault.LexFault.TheVariants as lex
 use Rattle.river_plan.specs.Caps.{AreCaps}
 use Rattle.river_plan.specs.Valid.{IsPlan, FirstFault}
 use Rattle.text_forms.specs.Texts.{IsFirstBad}

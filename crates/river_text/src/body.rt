@@ -11,7 +11,8 @@ use river_base::NoMemory;
 use std::alloc::Global;
 use text_blocks::{Blocks, Opening, ended, place, round};
 use text_forms::{Fault, Reader, closed, is};
-use work_code::{Expr, Stmt, Stmts, Symbol};
+use work_code::{Expr, Stmt, Stmts};
+use work_text::Symbol;
 
 // What stands behind `slot`.
 #[tactic(auto, unfolding(crate::specs::Bodies::set_at))]

@@ -17,7 +17,8 @@ use river_kernels::Kernel;
 use std::alloc::Global;
 use text_blocks::round;
 use text_forms::{Fault, Reader, closed, is};
-use work_code::{Code, Stmts, Symbol};
+use work_code::{Code, Stmts};
+use work_text::Symbol;
 
 // What stands behind `code`.
 #[tactic(auto, unfolding(crate::specs::ReadKernels::code_at))]

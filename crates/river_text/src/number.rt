@@ -2,14 +2,14 @@
 ghost use Rattle.std.specs.Prelude.{◌≡◌};
 ghost use Rattle.text_forms.specs.Gives.{Gives};
 ghost use Rattle.text_forms.specs.Parse.{commas, count_at, listing};
-ghost use Rattle.work_code.specs.declared.sign.Symbol.TheVariants as s;
+ghost use Rattle.work_text.specs.declared.sign.Symbol.TheVariants as s;
 ghost use Rattle.river_text.specs.ReadKernels.{kind_number_at, signed_at, width_at, round, starts_at};
 ghost use Rattle.river_text.specs.ReadKernels.{widths_at, weights_at, number_at, two_at, pair_at, three_at, triple_at, rates_at};
 
 use river_base::Numbers;
 use std::alloc::Global;
 use text_forms::{Fault, Reader, closed};
-use work_code::Symbol;
+use work_text::Symbol;
 
 /// What a number in a list is.
 #[derive(Clone, Copy)]

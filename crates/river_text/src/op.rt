@@ -12,7 +12,7 @@ use river_base::Name;
 use river_plan::Op;
 use std::alloc::Global;
 use text_forms::{Fault, Reader, kept};
-use work_code::Symbol;
+use work_text::Symbol;
 
 /// An operator, behind its first word.
 #[tactic(auto, unfolding(crate::specs::ReadPlans::op_at))]

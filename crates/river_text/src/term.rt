@@ -9,7 +9,8 @@ use river_base::NoMemory;
 use std::alloc::Global;
 use text_blocks::{Sign, Terms, place, take_sign, term};
 use text_forms::{Fault, Reader, closed, is};
-use work_code::{BinOp, Expr, Exprs, Symbol, Token};
+use work_code::{BinOp, Expr, Exprs};
+use work_text::{Symbol, Token};
 
 // A number as it is written.
 #[tactic(auto, unfolding(crate::specs::Expressions::constant_at))]

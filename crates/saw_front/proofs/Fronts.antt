@@ -1,12 +1,12 @@
 -- What a text of Sawzall means is what it has in the grammar, and what the front answers.
 use Rattle.std.proofs.Common.{◌≡◌, ℕ, List, Option, Some, None, Result, Ok, Err, refl, sym, ap, ◌∙◌, subst}
-use Rattle.work_code.specs.Cut.{units_of as cut_units}
-use Rattle.work_code.specs.Lexis.{tokens_in}
+use Rattle.work_text.specs.Cut.{units_of as cut_units}
+use Rattle.work_text.specs.Lexis.{tokens_in}
 use Rattle.work_code.specs.Steps.{Steps}
-use Rattle.work_code.specs.Tok.{Mark, toks}
-use Rattle.work_code.specs.declared.fault.LexFault.{LexFault}
-use Rattle.work_code.specs.declared.fault.LexFault.TheVariants as lex
-use Rattle.work_code.proofs.Slices.{no_want}
+use Rattle.work_text.specs.Tok.{Mark, toks}
+use Rattle.work_text.specs.declared.fault.LexFault.{LexFault}
+use Rattle.work_text.specs.declared.fault.LexFault.TheVariants as lex
+use Rattle.work_text.proofs.Slices.{no_want}
 use Rattle.text_forms.specs.Refusals.{of_lexer}
 use Rattle.text_forms.specs.declared.refusal.Refusal.TheVariants.{BadByte, BigNumber, Syntax}
 use Rattle.river_plan.specs.Forms.{PlanForm, plan_form}

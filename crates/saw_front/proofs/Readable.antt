@@ -6,9 +6,9 @@ use Rattle.std.specs.Prelude.{◌&&◌, codes, length, nat_le}
 use Rattle.std.specs.List.{AllByRecursion}
 use Rattle.std.specs.Str.{bytes_eq}
 use Rattle.river_base.specs.Name.{is_name}
-use Rattle.work_code.specs.Tok.{Tok}
-use Rattle.work_code.specs.declared.sign.Symbol.{Symbol}
-use Rattle.work_code.specs.declared.sign.Symbol.TheVariants as s
+use Rattle.work_text.specs.Tok.{Tok}
+use Rattle.work_text.specs.declared.sign.Symbol.{Symbol}
+use Rattle.work_text.specs.declared.sign.Symbol.TheVariants as s
 use Rattle.text_forms.specs.Forms as form
 use Rattle.text_forms.specs.Parse.{is_value}
 use Rattle.saw_text.specs.Tree.{Expression}

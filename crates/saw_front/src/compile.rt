@@ -19,7 +19,7 @@ use saw_build::{Fault, Refusal, raw_plan};
 use saw_text::{Unit, read_sawzall};
 use std::alloc::Global;
 use text_forms::{Refusal as TextRefusal, UnitFault};
-use work_code::{LexFault, Tokens, lex};
+use work_text::{LexFault, Tokens, lex};
 
 /// The program of a text, and its plan.
 ///
@@ -28,7 +28,7 @@ use work_code::{LexFault, Tokens, lex};
 /// `Text` with the first fault of the bytes where they have no tokens; otherwise with `Syntax` and the first unit, from
 /// 1, that is not in the grammar; otherwise the first fault of the program in the order in which it is read, with its
 /// unit; `NoMemory` where there is no memory.
-#[tactic(auto, unfolding(crate::specs::Meaning::compiled), using(work_code::proofs::Counts::counts))]
+#[tactic(auto, unfolding(crate::specs::Meaning::compiled), using(work_text::proofs::Counts::counts))]
 pub fn compile_sawzall(alloc: Global, text: &Bytes) -> Result<(SawProgram, Plan), SawFault>
     requires { length text.now < 2 ^ 32 }
     ensures plan { IfOk result (λ made. Plans (compiled text.now) (unit_forms made.0.units.items) made.1) }

@@ -10,7 +10,7 @@ use crate::{Field, Kind, Table};
 use river_base::Name;
 use std::alloc::Global;
 use text_forms::{Fault, Reader, closed, is};
-use work_code::Symbol;
+use work_text::Symbol;
 
 // What stands behind the name of a field.
 #[tactic(auto, unfolding(crate::specs::Reading::named_field_at))]

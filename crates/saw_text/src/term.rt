@@ -10,7 +10,8 @@ use river_base::NoMemory;
 use std::alloc::Global;
 use text_blocks::{Sign, Terms, place, take_sign};
 use text_forms::{Fault, Reader, is};
-use work_code::{BinOp, Token};
+use work_code::BinOp;
+use work_text::Token;
 
 // A leaf that begins with this name.
 #[tactic(auto, unfolding(crate::specs::Expressions::named))]

@@ -15,7 +15,7 @@ use crate::{Block, FilterTree, Rates, WorkTree};
 use river_base::Name;
 use std::alloc::Global;
 use text_forms::{Fault, Reader};
-use work_code::Symbol;
+use work_text::Symbol;
 
 // `int NAME;`
 #[tactic(auto, unfolding(crate::specs::Reading::field_at))]

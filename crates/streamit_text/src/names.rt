@@ -12,7 +12,7 @@ use crate::statement::empty;
 use river_base::Name;
 use std::alloc::Global;
 use text_forms::{Fault, Reader, is_free};
-use work_code::Symbol;
+use work_text::Symbol;
 
 const KEYWORDS: &[&[u8]] = &[
     b"int",

@@ -1,7 +1,7 @@
 // From the tokens of a text to its program.
 ghost use Rattle.std.specs.Prelude.{◌≡◌, ◌<◌, ◌^◌, length, map, IfOk, IfErr};
-ghost use Rattle.work_code.specs.Cut.{unit_tokens};
-ghost use Rattle.work_code.specs.Tok.{toks};
+ghost use Rattle.work_text.specs.Cut.{unit_tokens};
+ghost use Rattle.work_text.specs.Tok.{toks};
 ghost use Rattle.text_forms.specs.AllUnits.{GivesUnits};
 ghost use Rattle.streamit_text.specs.Faults.{StandFor, Refuses};
 ghost use Rattle.streamit_text.specs.Program.{declared_of, program_of};
@@ -10,7 +10,7 @@ ghost use Rattle.streamit_text.specs.Reading.{some_units};
 use crate::{Declaration, Plain, Streamit};
 use std::alloc::Global;
 use text_forms::{UnitFault, read_units};
-use work_code::{Lexeme, Tokens, units};
+use work_text::{Lexeme, Tokens, units};
 
 /// The program that the units of these tokens stand for (the StreamIt language of Thies,
 /// Karczmarek and Amarasinghe, cut to filters on whole numbers, pipelines and split-joins).
@@ -19,7 +19,7 @@ use work_code::{Lexeme, Tokens, units};
 ///
 /// `Syntax` with the first unit, from 1, that is not in the grammar, which is 1 where there is no
 /// unit; `NoMemory` where there is no memory.
-#[tactic(auto, using(crate::proofs::Programs::programs, work_code::proofs::Counts::counts))]
+#[tactic(auto, using(crate::proofs::Programs::programs, work_text::proofs::Counts::counts))]
 pub fn read_streamit(alloc: Global, tokens: &Tokens<'_>) -> Result<Vec<Declaration>, UnitFault>
     requires { length tokens.now < 2 ^ 32 }
     ensures read { IfOk result (λ units. StandFor tokens.now (program_of units.items)) }

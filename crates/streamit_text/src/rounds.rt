@@ -9,7 +9,7 @@ use crate::names::{adds, parens};
 use crate::{RoundRobin, Split, SplitJoin};
 use std::alloc::Global;
 use text_forms::{Fault, Reader};
-use work_code::Symbol;
+use work_text::Symbol;
 
 // A weight.
 #[tactic(auto, unfolding(crate::specs::Reading::weight_at))]

@@ -10,7 +10,8 @@ use river_base::NoMemory;
 use std::alloc::Global;
 use text_blocks::{Terms, take_sign};
 use text_forms::{Fault, Reader};
-use work_code::{BinOp, Token};
+use work_code::BinOp;
+use work_text::Token;
 
 /// What stands before an expression.
 #[derive(Clone, Copy)]

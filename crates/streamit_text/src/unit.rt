@@ -10,7 +10,7 @@ use crate::rounds::both;
 use crate::{Body, Declaration, Plain, Streamit};
 use std::alloc::Global;
 use text_forms::{Fault, Reader, Units};
-use work_code::Symbol;
+use work_text::Symbol;
 
 // What stands behind the name of a stream of this kind.
 #[tactic(auto, unfolding(crate::specs::Reading::body_after))]

@@ -1,7 +1,7 @@
 -- The steps by which code reads statements and blocks.
 use Rattle.std.proofs.Common.{◌≡◌, ℕ, zero, suc, ◌<◌, ◌+◌, ◌-◌, List, [], ◌∷◌, ◌++◌, length, true, false, Some, None, refl, sym, ap, ◌∙◌, arith}
 use Rattle.std.proofs.Common.{length-append}
-use Rattle.work_code.specs.Tok.{Tok}
+use Rattle.work_text.specs.Tok.{Tok}
 use Rattle.text_forms.specs.Parse as parse
 use Rattle.text_forms.specs.Parse.{Parse}
 use Rattle.text_forms.specs.Repeat.{repeated}

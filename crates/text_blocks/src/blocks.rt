@@ -1,6 +1,6 @@
 // The statements of any language read, and its blocks.
 ghost use Rattle.std.specs.Prelude.{◌≡◌, ℕ, List, map, IfOk};
-ghost use Rattle.work_code.specs.Tok.{Tok};
+ghost use Rattle.work_text.specs.Tok.{Tok};
 ghost use Rattle.text_forms.specs.Gives.{Gives};
 ghost use Rattle.text_blocks.specs.Exact.{AreExact};
 ghost use Rattle.text_blocks.specs.Reading.{rest_at, stmt_at, stmts_at, block_at, else_at, branch_at, loop_at};
@@ -11,7 +11,7 @@ use crate::Opening;
 use river_base::NoMemory;
 use std::alloc::Global;
 use text_forms::{Fault, Reader, closed};
-use work_code::Symbol;
+use work_text::Symbol;
 
 /// A language's statements and blocks: what it hands in for them to be read.
 pub trait Blocks {

@@ -1,7 +1,7 @@
 -- What the expressions of a ladder are, by the steps that code took.
 use Rattle.std.proofs.Common.{◌≡◌, ℕ, suc, ◌<◌, ◌-◌, List, [], ◌∷◌, length, true, false, cond, Option, Some, None, refl, sym, ap, ◌∙◌}
-use Rattle.work_code.specs.Tok.{Tok}
-use Rattle.work_code.specs.declared.sign.Symbol.TheVariants as s
+use Rattle.work_text.specs.Tok.{Tok}
+use Rattle.work_text.specs.declared.sign.Symbol.TheVariants as s
 use Rattle.text_forms.proofs.Climbs.{ladder-base, once-at, prefix-none, prefix-at, base-none, base-at, within-none, within-at, grown-taken, chained-stop}
 use Rattle.text_forms.specs.Levels.{Syntax}
 use Rattle.text_forms.specs.Parse as parse

@@ -1,8 +1,8 @@
 -- The steps by which code reads the expressions of a ladder.
 use Rattle.std.proofs.Common.{◌≡◌, ℕ, zero, suc, ◌<◌, ◌≤◌, ◌-◌, List, length, Bool, true, false, cond, Option, Some, None, refl, sym, ap, ◌∙◌, arith}
 use Rattle.std.specs.Prelude.{nat_lt, max}
-use Rattle.work_code.specs.Tok.{Tok}
-use Rattle.work_code.specs.declared.sign.Symbol.TheVariants as s
+use Rattle.work_text.specs.Tok.{Tok}
+use Rattle.work_text.specs.declared.sign.Symbol.TheVariants as s
 use Rattle.text_forms.proofs.Pairs.{pair_inj}
 use Rattle.text_forms.specs.Deep.{IsDeeper}
 use Rattle.text_forms.specs.Levels.{Level, Chain, Once, Prefix, Syntax, level_of, form_of}

@@ -2,8 +2,8 @@
 use Rattle.std.proofs.Common.{◌≡◌, ℕ, List, [], ◌∷◌, ◌++◌, Bool, true, false, cond, Option, Some, None, refl, sym, ap, ◌∙◌, subst, inl, inr, append_assoc}
 use Rattle.std.specs.Prelude.{ℤ, pos}
 use Rattle.std.proofs.lemmas.Slice.Eq.{bytes_eq-Decides}
-use Rattle.work_code.specs.Tok.{Tok, name, var, number, symbol}
-use Rattle.work_code.specs.declared.sign.Symbol.{Symbol}
+use Rattle.work_text.specs.Tok.{Tok, name, var, number, symbol}
+use Rattle.work_text.specs.declared.sign.Symbol.{Symbol}
 use Rattle.text_forms.specs.Tail.{tail}
 use Rattle.text_forms.specs.Parse as parse
 use Rattle.text_forms.specs.Forms as form

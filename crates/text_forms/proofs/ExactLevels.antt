@@ -1,8 +1,8 @@
 -- The reading of the expressions of a ladder is exact, whatever its levels and its leaves are.
 use Rattle.std.proofs.Common.{◌≡◌, ℕ, zero, suc, ◌<◌, ◌≤◌, ◌-◌, List, [], ◌∷◌, ◌++◌, length, Bool, true, false, Option, Some, None, refl, sym, ap, ◌∙◌}
 use Rattle.std.proofs.Common.{subst, arith, append_assoc}
-use Rattle.work_code.specs.Tok.{Tok, symbol}
-use Rattle.work_code.specs.declared.sign.Symbol.TheVariants as s
+use Rattle.work_text.specs.Tok.{Tok, symbol}
+use Rattle.work_text.specs.declared.sign.Symbol.TheVariants as s
 use Rattle.text_forms.specs.Deep.{IsDeeper}
 use Rattle.text_forms.specs.Forms as form
 use Rattle.text_forms.specs.Levels.{Level, Chain, Once, Prefix, Syntax, level_of, form_of, operator, sign, Spells, IsTermWithin, IsWhole}

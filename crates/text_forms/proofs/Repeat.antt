@@ -1,6 +1,6 @@
 -- Loops of a reader: how many turns are enough, what each turn comes to, and what it keeps.
 use Rattle.std.proofs.Common.{◌≡◌, ℕ, zero, suc, ◌<◌, List, length, Some, None, refl, ap, ◌∙◌, subst, arith}
-use Rattle.work_code.specs.Tok.{Tok}
+use Rattle.work_text.specs.Tok.{Tok}
 use Rattle.text_forms.proofs.Pairs.{some_inj}
 use Rattle.text_forms.specs.Repeat.{Turn, Stop, Fail, Next, after_turn, turns, repeated}
 

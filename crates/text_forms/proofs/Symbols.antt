@@ -2,11 +2,11 @@
 use Rattle.std.proofs.Common.{◌≡◌, ℕ, List, ◌∷◌, [], true, refl, sym, ap, ◌∙◌}
 use Rattle.std.specs.Prelude.{◌==◌, if◌then◌else◌}
 use Rattle.std.proofs.lemmas.Bool.{eqb-true, eq-eqb}
-use Rattle.work_code.specs.Tok.{Tok, name, var, number, symbol}
-use Rattle.work_code.specs.Symbols.{code_of}
-use Rattle.work_code.specs.declared.sign.Symbol.{Symbol}
-use Rattle.work_code.specs.declared.sign.Symbol.TheVariants as s
-use Rattle.work_code.specs.contracts.sign.Symbol.{the_type}
+use Rattle.work_text.specs.Tok.{Tok, name, var, number, symbol}
+use Rattle.work_text.specs.Symbols.{code_of}
+use Rattle.work_text.specs.declared.sign.Symbol.{Symbol}
+use Rattle.work_text.specs.declared.sign.Symbol.TheVariants as s
+use Rattle.work_text.specs.contracts.sign.Symbol.{the_type}
 use denote.Enum.Bare.{sameb}
 use denote.Enum.Declared.{tag_of}
 use Rattle.text_forms.specs.Tail.{tail}

@@ -1,6 +1,6 @@
 -- How code that reads stands to a reading function.
 use Rattle.std.specs.Prelude.{◌≡◌, List, Option, None, Some, Result, Ok, Err}
-use Rattle.work_code.specs.Tok.{Tok}
+use Rattle.work_text.specs.Tok.{Tok}
 use Rattle.text_forms.specs.declared.fault.Fault.{Fault}
 use Rattle.text_forms.specs.declared.fault.Fault.TheVariants.{Syntax, NoMemory}
 

@@ -6,7 +6,7 @@ ghost use Rattle.text_forms.specs.Parse.{symbols_at};
 
 use crate::{Dialect, Fault, Form, TokenSource};
 use std::alloc::Global;
-use work_code::Symbol;
+use work_text::Symbol;
 
 // A tree and how deep it is.
 #[derive(Drop)]

@@ -6,7 +6,7 @@ ghost use Rattle.text_forms.specs.Parse.{symbols_at};
 ghost use Rattle.text_forms.specs.declared.fault.Fault.TheVariants as fault;
 
 use crate::{Fault, Reader};
-use work_code::Symbol;
+use work_text::Symbol;
 
 /// Whether a word is this one.
 pub fn is(word: &[u8], name: &[u8]) -> bool

@@ -1,15 +1,3 @@
-pub mod Apart
-pub mod Counts
-pub mod Cuts
-pub mod Ends
-pub mod Gaps
-pub mod Joined
 pub mod Lists
-pub mod Longest
-pub mod Marks
-pub mod Pieces
-pub mod Rooms
 pub mod Running
-pub mod Slices
-pub mod Spelled
 pub mod Texts

@@ -1,13 +1,6 @@
-pub mod Classes
-pub mod Cut
-pub mod Laws
 pub mod Lent
-pub mod Lexis
-pub mod Pieces
 pub mod Printed
 pub mod Ran
 pub mod Steps
-pub mod Symbols
 pub mod Term
-pub mod Tok
 pub mod Value

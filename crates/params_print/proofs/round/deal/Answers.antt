@@ -1,7 +1,7 @@
 use Rattle.std.proofs.Common.{◌∷◌, [], ◌++◌, sym, ap, ◌∙◌}
 use Rattle.std.specs.Prelude.{codes}
 use Rattle.std.proofs.lemmas.Result.{on_ok_weaker}
-use Rattle.work_code.specs.Tok.{name}
+use Rattle.work_text.specs.Tok.{name}
 use Rattle.params_text.specs.Program.{dealing_of, rounds_of}
 use Rattle.params_text.specs.Toks.{weights_toks, dealing_toks, spaced}
 use Rattle.params_model.specs.Environment.{option_counts, dealing}

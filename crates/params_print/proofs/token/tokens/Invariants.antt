@@ -1,5 +1,5 @@
 use Rattle.std.proofs.Common.{◌≡◌, ◌++◌, drop, map}
-use Rattle.work_code.specs.Tok.{token_of}
+use Rattle.work_text.specs.Tok.{token_of}
 use Rattle.params_text.specs.Toks.{spaced}
 use Rattle.params_print.proofs.token.tokens.Given as goal
 

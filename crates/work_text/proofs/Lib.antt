@@ -1,0 +1,12 @@
+pub mod Apart
+pub mod Counts
+pub mod Cuts
+pub mod Ends
+pub mod Gaps
+pub mod Joined
+pub mod Longest
+pub mod Marks
+pub mod Pieces
+pub mod Rooms
+pub mod Slices
+pub mod Spelled

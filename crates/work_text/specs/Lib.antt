@@ -1,0 +1,7 @@
+pub mod Classes
+pub mod Cut
+pub mod Laws
+pub mod Lexis
+pub mod Pieces
+pub mod Symbols
+pub mod Tok

@@ -1,0 +1,20 @@
+-- The pieces that the lexer finds.
+use Rattle.std.specs.Prelude.{ℕ, ◌<◌, ◌≤◌}
+use Rattle.work_text.specs.declared.piece.Piece.{Piece}
+use Rattle.work_text.specs.declared.piece.Piece.TheVariants.{Blank, Token, Bad, Big}
+use Rattle.work_text.specs.Lexis as lexis
+use Rattle.work_text.specs.Tok.{token_of}
+
+-- the piece without memory
+abbrev pub piece_of : Piece → lexis.Piece
+piece_of (Blank len) = lexis.blank len
+piece_of (Token t len) = lexis.token (token_of t) len
+piece_of Bad = lexis.bad
+piece_of Big = lexis.big
+
+-- a piece has a byte and is no longer than the text
+abbrev pub FitsIn : ℕ → lexis.Piece → Type 0
+FitsIn room (lexis.blank len) = (0 < len) × (len ≤ room)
+FitsIn room (lexis.token t len) = (0 < len) × (len ≤ room)
+FitsIn room lexis.bad = Unit {0}
+FitsIn room lexis.big = Unit {0}
