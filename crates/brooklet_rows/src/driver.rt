@@ -2,7 +2,8 @@
 ghost use Rattle.std.specs.Prelude.{◌≡◌, false, OnOk};
 
 use crate::plans::Lists;
-use brooklet_step::{Inputs, Machine, Outcome, fits};
+use brooklet_step::Outcome;
+use brooklet_run::{Inputs, Machine, fits};
 use csv_streams::print_outcome;
 use river_base::{Bytes, Flat, Item, Items, NoMemory, Row};
 use river_plan::Plan;

@@ -1,11 +1,9 @@
-pub mod Adding
 pub mod BagLeaves
 pub mod Counted
 pub mod CrossFires
 pub mod DealFires
 pub mod Edges
 pub mod Fires
-pub mod FitLemmas
 pub mod FitsLemmas
 pub mod Fused
 pub mod GivenCode

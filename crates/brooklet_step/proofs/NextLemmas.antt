@@ -21,7 +21,7 @@ use Rattle.brooklet_model.proofs.Ports.{counts}
 use Rattle.brooklet_model.proofs.Traces.{some_is, got_count, read_of}
 use Rattle.brooklet_model.proofs.TypedPlan.{op_fits}
 use Rattle.brooklet_step.specs.declared.emit.Emit.{Emit}
-use Rattle.brooklet_step.specs.declared.machine.Parts.{Parts}
+use Rattle.brooklet_step.specs.declared.parts.Parts.{Parts}
 use Rattle.brooklet_step.specs.declared.state.State.{State}
 use Rattle.river_plan.specs.Places.{place, places, read_places, write_places, var_places}
 use Rattle.brooklet_step.specs.ByPlace.{joined_at}

@@ -13,7 +13,7 @@ use Rattle.river_plan.specs.Places.{place, places, read_places}
 use Rattle.river_plan.proofs.PlaceLemmas.{place_below}
 use Rattle.brooklet_model.specs.Machine.{Machine}
 use Rattle.brooklet_model.proofs.Traces.{some_is, read_of}
-use Rattle.brooklet_step.specs.declared.machine.Parts.{Parts}
+use Rattle.brooklet_step.specs.declared.parts.Parts.{Parts}
 use Rattle.brooklet_step.specs.Reading.{IsQueuePlace}
 use Rattle.brooklet_step.specs.Laws.{EnabledIsItem}
 use Rattle.brooklet_step.specs.Works.{queue_of, kinds_of, StandsForMachine, ReadsAt, IsEnabled, GoesOn}

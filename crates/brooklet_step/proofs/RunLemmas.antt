@@ -31,7 +31,7 @@ use Rattle.brooklet_model.proofs.Complete.{runs_law}
 use Rattle.brooklet_model.proofs.Lists.{if_true, if_false}
 use Rattle.brooklet_model.proofs.RunMeaning.{outs_are, firings_are}
 use Rattle.brooklet_model.proofs.Traces.{some_is, at_most, got_count, joined_out}
-use Rattle.brooklet_step.specs.declared.machine.Parts.{Parts}
+use Rattle.brooklet_step.specs.declared.parts.Parts.{Parts}
 use Rattle.brooklet_step.specs.Drained.{IsDrained, read_in, left_at, Follows, RunsOn, DrainedBefore, HasPorts, HasRun}
 use Rattle.brooklet_step.specs.Works.{queue_of, kinds_of, StandsForMachine, ReadsAt, IsEnabled, StandsAfterRun, GoesOn, Starts, Steps, AreCounts}
 use Rattle.brooklet_step.specs.Tables.{defined_tables}

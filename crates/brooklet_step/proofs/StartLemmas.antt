@@ -30,7 +30,7 @@ use Rattle.brooklet_model.proofs.Solutions.{written_out}
 use Rattle.brooklet_model.proofs.Traces.{some_is}
 use Rattle.brooklet_model.proofs.TypedPlan.{op_fits, inputs_typed}
 use Rattle.brooklet_model.proofs.Complete.{traced_start, nothing_given}
-use Rattle.brooklet_step.specs.declared.machine.Parts.{Parts}
+use Rattle.brooklet_step.specs.declared.parts.Parts.{Parts}
 use Rattle.brooklet_step.specs.declared.state.State.{State}
 use Rattle.brooklet_model.specs.Fit.{Fit}
 use Rattle.brooklet_step.specs.Initial.{AreFirstStates, CanStart, AreFirst}

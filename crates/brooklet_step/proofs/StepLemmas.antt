@@ -33,7 +33,7 @@ use Rattle.brooklet_model.proofs.Ports.{shaped, counts}
 use Rattle.brooklet_model.proofs.Traces.{some_is, at_most, got_count, joined_out, at_key_same, at_key_other, at_same}
 use Rattle.brooklet_model.proofs.TypedPlan.{at_append, op_fits, kind_got, got_all, joined_all}
 use Rattle.brooklet_step.specs.declared.emit.Emit.{Emit}
-use Rattle.brooklet_step.specs.declared.machine.Parts.{Parts}
+use Rattle.brooklet_step.specs.declared.parts.Parts.{Parts}
 use Rattle.brooklet_step.specs.declared.state.State.{State}
 use Rattle.brooklet_step.specs.ByPlace.{joined_at}
 use Rattle.brooklet_step.specs.Given.{held_by, held_at, IsHeldBy, IsHeldOf, FitState, StandsAfter, ran_from, TookHeld, Does, FiresAt, CanTake}

@@ -2,7 +2,7 @@
 use Rattle.std.specs.Prelude.{◌≡◌, ℕ, ◌<◌, ◌≤◌, false, List, [], length, Option, Some, None, unwrap_or, slice_get}
 use Rattle.river_base.specs.declared.item.Item as item
 use Rattle.river_plan.specs.Forms.{Name, OpForm, PlanForm}
-use Rattle.brooklet_step.specs.declared.machine.Parts.{Parts}
+use Rattle.brooklet_step.specs.declared.parts.Parts.{Parts}
 use Rattle.brooklet_step.specs.Works.{queue_of, ReadsAt, StandsAfterRun}
 
 -- nothing is left at this port

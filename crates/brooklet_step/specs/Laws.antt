@@ -21,7 +21,7 @@ use Rattle.brooklet_model.specs.Fire.{fire}
 use Rattle.brooklet_model.specs.Machine.{Machine, HasItem}
 use Rattle.brooklet_model.specs.Typed.{IsOf, IsStart, between}
 use Rattle.brooklet_step.specs.declared.emit.Emit.{Emit}
-use Rattle.brooklet_step.specs.declared.machine.Parts.{Parts}
+use Rattle.brooklet_step.specs.declared.parts.Parts.{Parts}
 use Rattle.brooklet_step.specs.declared.state.State.{State}
 use Rattle.brooklet_step.specs.Given.{held_at, IsHeldOf, IsPlainBy, FitState, StandsAfter, FiresAt, CanTake}
 use Rattle.brooklet_step.specs.Works.{StandsForMachine, IsEnabled}

@@ -17,7 +17,7 @@ use Rattle.brooklet_model.specs.Traced.{Traced}
 use Rattle.brooklet_model.specs.Fire.{first_kept}
 use Rattle.brooklet_model.specs.Typed.{IsWordOf, AreInputs}
 use Rattle.brooklet_model.specs.Words.{Word}
-use Rattle.brooklet_step.specs.declared.machine.Parts.{Parts}
+use Rattle.brooklet_step.specs.declared.parts.Parts.{Parts}
 use Rattle.brooklet_step.specs.declared.state.State.{State}
 use Rattle.brooklet_step.specs.Given.{FitState, StandsAfter}
 use Rattle.brooklet_step.specs.Tables.{kept_tables}

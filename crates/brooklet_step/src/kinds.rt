@@ -83,7 +83,7 @@ fn is_missing(row: &Row, rows: &Rows) -> bool
 }
 
 /// Whether an item has this type.
-pub(crate) fn has_type(kind: &QueueType, item: &Item) -> bool
+pub fn has_type(kind: &QueueType, item: &Item) -> bool
     ensures { IsTrue result ↔ HasType kind.now item.now }
 {
     match kind {

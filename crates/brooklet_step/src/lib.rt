@@ -1,31 +1,27 @@
-//! Firings of kernels, and Brooklet's machine.
+//! Firings of kernels and of operators, what they keep, and the laws of Brooklet's machine.
 #![tactic(auto)]
 
-mod add;
 mod bag;
 mod emit;
-mod ending;
 mod firing;
 mod initial;
-mod inputs;
 mod joining;
 mod kinds;
 pub mod laws;
 mod leaf;
-mod machine;
-mod run;
+mod outcome;
+mod parts;
 mod single;
 mod start;
 mod state;
 mod step;
 
 pub use emit::{Emit, ItemLists, RowLists, Spare, clear_all};
-pub use firing::fire;
+pub use firing::{blank_for, fire};
 pub use initial::{first_queues, first_tables};
-pub use inputs::{Inputs, fits};
-pub use kinds::item_fits;
-pub use machine::{Lines, Machine, Parts, Sizes, Tables};
-pub use run::{Outcome, run_lines, run_one};
-pub use start::first_states;
+pub use kinds::{has_type, item_fits};
+pub use outcome::Outcome;
+pub use parts::{Lines, Parts, Sizes, Tables};
+pub use start::{first_states, states_of};
 pub use state::{State, States};
 pub use step::fire_op;

@@ -126,7 +126,7 @@ fn leaf_states(alloc: Global, kernel: &Kernel) -> Result<States, NoMemory>
 }
 
 /// The states of a kernel before its first firing.
-pub(crate) fn states_of(alloc: Global, kernel: &Kernel) -> Result<States, NoMemory>
+pub fn states_of(alloc: Global, kernel: &Kernel) -> Result<States, NoMemory>
     requires { IsFormed (kern_of kernel.now) }
     ensures { IfOk result (AreFirstStates (kern_of kernel.now)) }
 {

@@ -22,7 +22,8 @@ use crate::uses::Uses;
 use cql_model::{Fault, Refusal};
 use cql_text::Part;
 use river_base::NoMemory;
-use river_plan::{Decl, Decls, Names, Ops, Plan, PlanFault, RawPlan, check};
+use river_plan::{Decl, Decls, Names, Ops, Plan, PlanFault, RawPlan};
+use plan_check::check;
 use std::alloc::Global;
 
 /// Why a program has no plan.

@@ -2,10 +2,7 @@ pub mod CapLemmas
 pub mod JudgeLemmas
 pub mod NameLemmas
 pub mod OneFirst
-pub mod OverLemmas
 pub mod PlaceLemmas
-pub mod PlacedFaults
-pub mod Remains
 pub mod Searches
 pub mod ShareLemmas
 pub mod Shared

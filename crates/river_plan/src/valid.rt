@@ -104,8 +104,8 @@ impl Plan {
         self.wiring.vars.by_place.at(variable).as_slice()
     }
 
-    // The plan of lists that are valid, with their wiring.
-    pub(crate) fn of_valid(raw: RawPlan, wiring: Wiring) -> Plan
+    /// The plan of lists that are valid, with their wiring.
+    pub fn of_valid(raw: RawPlan, wiring: Wiring) -> Plan
         requires valid { IsPlan (plan_form raw) }
         requires wired { IsWired (plan_form raw) wiring }
         ensures { result ≡ plan_form raw }

@@ -1,21 +1,15 @@
-// The names of a plan as places, looked up once.
-ghost use Rattle.std.specs.Prelude.{◌≡◌, [], ◌∷◌, length, IfOk, OnOk, map as mapped};
-ghost use Rattle.river_base.specs.Places.{only, each_grew};
-ghost use Rattle.river_plan.specs.Forms.{plan_form, op_form, op_forms, queue_names, variable_names};
-ghost use Rattle.river_plan.specs.Places.{names_of, places, as_often, users};
-ghost use Rattle.river_plan.specs.Wired.{AreUses, IsWired};
+// The names of a plan as places.
+ghost use Rattle.std.specs.Prelude.{◌≡◌, IfOk};
 
-use crate::name_set::NameSet;
-use crate::{Names, Op, Ops, RawPlan};
 use river_base::{Listed, NoMemory};
 use std::alloc::Global;
 
 /// Places among the queues, or among the variables, of a plan.
-pub(crate) type Places = Listed<usize>;
+pub type Places = Listed<usize>;
 
 /// A part of an operator's names: the queues that it reads or writes, or its variables.
 #[derive(Clone, Copy)]
-pub(crate) enum Part {
+pub enum Part {
     Reads,
     Writes,
     Vars,
@@ -23,17 +17,17 @@ pub(crate) enum Part {
 
 /// What operators use, both ways: the places that each operator uses, and the operators that use each place.
 #[derive(Drop)]
-pub(crate) struct Uses {
-    pub(crate) by_op: Listed<Places>,
-    pub(crate) by_place: Listed<Places>,
+pub struct Uses {
+    pub by_op: Listed<Places>,
+    pub by_place: Listed<Places>,
 }
 
 /// The queues that operators read and write, port by port, and their variables.
 #[derive(Drop)]
-pub(crate) struct Wiring {
-    pub(crate) reads: Uses,
-    pub(crate) writes: Uses,
-    pub(crate) vars: Uses,
+pub struct Wiring {
+    pub reads: Uses,
+    pub writes: Uses,
+    pub vars: Uses,
 }
 
 impl Uses {
@@ -50,7 +44,7 @@ impl Uses {
 
 impl Wiring {
     /// An equal wiring.
-    pub(crate) fn copy(&self, alloc: Global) -> Result<Wiring, NoMemory>
+    pub fn copy(&self, alloc: Global) -> Result<Wiring, NoMemory>
         ensures { IfOk result (λ copy. copy ≡ self.now) }
     {
         Ok(Wiring {
@@ -81,105 +75,4 @@ fn copy_places(alloc: Global, places: &Places) -> Result<Places, NoMemory>
         copy.push(*place)?;
     }
     Ok(copy)
-}
-
-/// The wiring of these lists, of which the names are in sets.
-pub(crate) fn wiring_by(
-    alloc: Global,
-    raw: &RawPlan,
-    queues: &NameSet,
-    variables: &NameSet,
-) -> Result<Wiring, NoMemory>
-    requires queues { queues.now ≡ queue_names (plan_form raw.now) }
-    requires variables { variables.now ≡ variable_names (plan_form raw.now) }
-    ensures { IfOk result (IsWired (plan_form raw.now)) }
-{
-    let reads = uses_of(alloc, &raw.ops, queues, Part::Reads)?;
-    let writes = uses_of(alloc, &raw.ops, queues, Part::Writes)?;
-    let vars = uses_of(alloc, &raw.ops, variables, Part::Vars)?;
-    Ok(Wiring {
-        reads,
-        writes,
-        vars,
-    })
-}
-
-// What operators use by a part of their names, both ways.
-fn uses_of(alloc: Global, ops: &Ops, set: &NameSet, part: Part) -> Result<Uses, NoMemory>
-    ensures { IfOk result (AreUses (length set.now) (mapped (λ op. places set.now (names_of part op)) (op_forms ops.now))) }
-{
-    let by_op = op_places(alloc, ops, set, part)?;
-    let by_place = users(alloc, &by_op, set.len())?;
-    Ok(Uses { by_op, by_place })
-}
-
-// For each of so many places the numbers of the lists in which it stands, as often as it stands there.
-fn users(alloc: Global, lists: &Listed<Places>, count: usize) -> Result<Listed<Places>, NoMemory>
-    ensures { IfOk result (λ all. all ≡ users count lists.now) }
-{
-    let mut all = Listed::blanks(alloc, count)?;
-    for number in 0..lists.len() {
-        add_user(&mut all, lists.at(number), number)?;
-    }
-    Ok(all)
-}
-
-// The number comes to the lists at these places.
-fn add_user(all: &mut Listed<Places>, places: &Places, number: usize) -> Result<(), NoMemory>
-    ensures { OnOk result (all.new ≡ each_grew all.old (as_often places.now number)) }
-{
-    for port in 0..places.len() {
-        add_at(all, *places.at(port), number)?;
-    }
-    Ok(())
-}
-
-// The number comes to the list at this place, where there is one.
-fn add_at(all: &mut Listed<Places>, place: usize, number: usize) -> Result<(), NoMemory>
-    ensures { OnOk result (all.new ≡ each_grew all.old (only place (number ∷ []))) }
-{
-    if place < all.len() {
-        all.push_at(place, number)?;
-    }
-    Ok(())
-}
-
-// The places of a part of each operator's names, one after another.
-#[tactic(auto, using(work_code::proofs::Lists::copies))]
-fn op_places(
-    alloc: Global,
-    ops: &Ops,
-    set: &NameSet,
-    part: Part,
-) -> Result<Listed<Places>, NoMemory>
-    ensures { IfOk result (λ all. all ≡ mapped (λ op. places set.now (names_of part op)) (op_forms ops.now)) }
-{
-    let mut all = Listed::new(alloc);
-    for op in ops.as_slice() {
-        all.push(places_in(alloc, set, names_of(op, part))?)?;
-    }
-    Ok(all)
-}
-
-// A part of an operator's names.
-fn names_of(op: &Op, part: Part) -> &Names
-    ensures { result.now ≡ names_of part (op_form op.now) }
-{
-    match part {
-        Part::Reads => &op.reads,
-        Part::Writes => &op.writes,
-        Part::Vars => &op.vars,
-    }
-}
-
-// The places of these names.
-#[tactic(auto, using(work_code::proofs::Lists::copies))]
-fn places_in(alloc: Global, set: &NameSet, names: &Names) -> Result<Places, NoMemory>
-    ensures { IfOk result (λ all. all ≡ places set.now names.now) }
-{
-    let mut all = Places::new(alloc);
-    for name in names.as_slice() {
-        all.push(set.place(*name))?;
-    }
-    Ok(all)
 }

@@ -7,7 +7,7 @@ use Rattle.csv_streams.specs.Outcome.{outputs_text, tables_text, firings_text, a
 use Rattle.river_plan.specs.Forms.{PlanForm, decl_names, labels}
 use Rattle.brooklet_model.specs.Histories.{hist, all_adds}
 use Rattle.brooklet_model.specs.Meaning.{Results, meaning}
-use Rattle.brooklet_step.specs.declared.run.Outcome.{Outcome}
+use Rattle.brooklet_step.specs.declared.outcome.Outcome.{Outcome}
 use Rattle.river_road.specs.Contents.{AreContents}
 use Rattle.river_road.specs.Inputs.{all_items}
 use Rattle.river_road.specs.Source.{SourceProgram, IsPlanOf, IsCompiled, IsKnown, GivesResults, printed}

@@ -1,7 +1,7 @@
 -- What a program means, in its own language.
 use Rattle.std.specs.Prelude.{◌≡◌, ℕ, pos, List, ◌++◌, map, Bool, Result, Ok, Err}
 use Rattle.kern_tables.specs.Kept.{rows_of as table_rows}
-use Rattle.brooklet_step.specs.declared.run.Outcome.{Outcome}
+use Rattle.brooklet_step.specs.declared.outcome.Outcome.{Outcome}
 use Rattle.csv_streams.specs.Outcome.{outputs_text, tables_text, firings_text, asked_counts}
 use Rattle.river_plan.specs.Caps.{AreCaps}
 use Rattle.river_plan.specs.declared.caps.Cap.{Cap}

@@ -15,7 +15,8 @@ use crate::lists::split_lists;
 use crate::made::{are_short, made_names};
 use plan_edits::{Unfit, kind_of};
 use river_base::{Name, QueueType};
-use river_plan::{Ops, Plan, PlanFault, RawPlan, check};
+use river_plan::{Ops, Plan, PlanFault, RawPlan};
+use plan_check::check;
 use std::alloc::Global;
 
 // The place of the first operator of a label.

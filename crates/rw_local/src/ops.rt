@@ -9,7 +9,7 @@ ghost use Rattle.rw_local.specs.Fuse.{fused_op, is_large};
 
 use crate::names::{contains, joined, place, spliced};
 use river_base::{Duplicate, Name, NoMemory};
-use river_kernels::nesting;
+use kernel_check::nesting;
 use river_plan::{Kernel, Op, Ops};
 use std::alloc::Global;
 

@@ -5,7 +5,7 @@ use Rattle.kern_tables.specs.Kept.{kept_of, rows_of}
 use Rattle.river_plan.specs.Forms.{decl_names}
 use Rattle.brooklet_model.specs.Histories.{hist, all_adds}
 use Rattle.brooklet_model.specs.Fit.{Fit}
-use Rattle.brooklet_step.specs.declared.run.Outcome.{Outcome}
+use Rattle.brooklet_step.specs.declared.outcome.Outcome.{Outcome}
 use Rattle.river_road.specs.Inputs.{all_items}
 use Rattle.river_road.proofs.Items.{contents-fit}
 use Rattle.plan_runs.proofs.Outputs.{output-says}

@@ -1,9 +1,0 @@
-use Rattle.std.proofs.Common.{◌≡◌, ℕ, ◌<◌, Some}
-use Rattle.std.specs.Prelude.{All, slice_get}
-use Rattle.river_base.specs.Held.{HasType}
-use Rattle.river_base.specs.Places.{list_at}
-use Rattle.river_plan.specs.declared.plan.Decl.{Decl}
-use Rattle.brooklet_step.proofs.inputs.are_typed.Given as goal
-
-abbrev pub invariant-loop-place : goal.invariant-loop-place
-invariant-loop-place l = (i : ℕ) → i < l.place → (d : Decl) → slice_get l.decls i ≡ Some d → All (HasType d.kind) (list_at l.inputs i)

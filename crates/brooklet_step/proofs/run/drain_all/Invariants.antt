@@ -1,5 +1,0 @@
-use Rattle.brooklet_step.specs.Drained.{DrainedBefore}
-use Rattle.brooklet_step.proofs.run.drain_all.Given as goal
-
-abbrev pub invariant-loop-op : goal.invariant-loop-op
-invariant-loop-op l = DrainedBefore l.initial.machine l.machine l.op

@@ -1,0 +1,11 @@
+//! Whether a kernel fits its ports and its variables, and which of its numbers are above a limit.
+#![tactic(auto)]
+
+mod above;
+mod fitting;
+mod formed;
+mod inference;
+mod ports;
+
+pub use above::{first_above, nesting};
+pub use fitting::fits;

@@ -1,0 +1,3 @@
+pub mod OverLemmas
+pub mod PlacedFaults
+pub mod Remains

@@ -1,0 +1,18 @@
+//! The check of a plan: a valid one from its lists, or the first fault of these.
+#![tactic(auto)]
+
+mod declared;
+mod judge;
+mod kinds;
+mod limit;
+mod lists;
+mod misfit;
+mod name_set;
+mod once;
+mod order;
+mod search;
+mod types;
+mod wired;
+
+pub use judge::check;
+pub use kinds::queue_kinds;

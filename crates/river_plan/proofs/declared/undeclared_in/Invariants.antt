@@ -1,7 +1,0 @@
-use Rattle.river_plan.specs.Forms.{op_form}
-use Rattle.river_plan.specs.Faults.{UndeclaredAt}
-use Rattle.river_plan.proofs.Remains.{RemainsBy}
-use Rattle.river_plan.proofs.declared.undeclared_in.Given as goal
-
-abbrev pub invariant-loop-op : goal.invariant-loop-op
-invariant-loop-op l = RemainsBy op_form (λ before op. UndeclaredAt l.queues l.variables op) l.op-items l.op-index

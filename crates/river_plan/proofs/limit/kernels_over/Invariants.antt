@@ -1,9 +1,0 @@
-use Rattle.std.proofs.Common.{◌≡◌, drop}
-use Rattle.river_kernels.specs.Limits.{first_above}
-use Rattle.river_plan.specs.Forms.{op_forms}
-use Rattle.river_plan.specs.Limits.{kernel_numbers}
-use Rattle.river_plan.proofs.limit.kernels_over.Given as goal
-
-abbrev pub invariant-loop-op : goal.invariant-loop-op
-invariant-loop-op l =
-    first_above l.most (kernel_numbers l.limit (op_forms (drop l.op-index l.op-items))) ≡ first_above l.most (kernel_numbers l.limit (op_forms (l.op-items)))

@@ -1,6 +1,0 @@
-use Rattle.std.proofs.Common.{◌≡◌, ◌++◌, take}
-use Rattle.river_plan.specs.Forms.{decl_names}
-use Rattle.river_plan.proofs.lists.add_decls.Given as goal
-
-abbrev pub invariant-loop-decl : goal.invariant-loop-decl
-invariant-loop-decl l = l.names ≡ l.initial.names ++ decl_names (take l.decl-index l.decl-items)

@@ -1,7 +1,0 @@
-use Rattle.river_plan.proofs.Remains.{Remains}
-use Rattle.river_plan.specs.First.{Unless}
-use Rattle.river_plan.specs.Faults.{IsIn}
-use Rattle.river_plan.proofs.search.first_missing.Given as goal
-
-abbrev pub invariant-loop-name : goal.invariant-loop-name
-invariant-loop-name l = Remains (λ before y. Unless (IsIn l.set before y) y) l.name-items l.name-index

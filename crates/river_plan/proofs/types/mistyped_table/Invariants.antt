@@ -1,7 +1,0 @@
-use Rattle.river_plan.specs.First.{Unless}
-use Rattle.river_plan.specs.Faults.{IsTableKind}
-use Rattle.river_plan.proofs.Remains.{Remains}
-use Rattle.river_plan.proofs.types.mistyped_table.Given as goal
-
-abbrev pub invariant-loop-table : goal.invariant-loop-table
-invariant-loop-table l = Remains (λ before d. Unless (IsTableKind d.kind) d) l.table-items l.table-index
