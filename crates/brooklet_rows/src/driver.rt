@@ -2,8 +2,8 @@
 ghost use Rattle.std.specs.Prelude.{◌≡◌, false, OnOk};
 
 use crate::plans::Lists;
-use brooklet_step::Outcome;
 use brooklet_run::{Inputs, Machine, fits};
+use brooklet_step::Outcome;
 use csv_streams::print_outcome;
 use river_base::{Bytes, Flat, Item, Items, NoMemory, Row};
 use river_plan::Plan;

@@ -5,11 +5,11 @@ ghost use Rattle.brooklet_step.specs.Drained.{RunsOn};
 ghost use Rattle.brooklet_model.specs.Fit.{Fit};
 ghost use Rattle.brooklet_step.specs.Works.{IsEnabled, Starts, Steps, AreCounts, queue_of};
 
+use crate::Inputs;
 use crate::ending::outcome_of;
 use crate::opening::{first_parts, lines_of};
 use crate::turn::{fire_next, fire_turn, is_enabled};
 use brooklet_step::{Lines, Outcome, Parts};
-use crate::Inputs;
 use river_base::NoMemory;
 use river_plan::Plan;
 use std::alloc::Global;

@@ -9,8 +9,8 @@ ghost use Rattle.brooklet_model.specs.Fit.{Fit};
 ghost use Rattle.brooklet_step.specs.Tables.{defined_tables};
 
 use crate::opening::lines_of;
-use brooklet_step::Lines;
 use crate::{Inputs, Machine};
+use brooklet_step::{Lines, Outcome};
 use river_base::NoMemory;
 use river_plan::Plan;
 use std::alloc::Global;

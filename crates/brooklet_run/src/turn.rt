@@ -8,7 +8,9 @@ ghost use Rattle.brooklet_step.specs.Drained.{RunsOn};
 ghost use Rattle.brooklet_step.specs.Reading.{IsPlaceRead, IsFrontItem, CanFire, IsBlankOf, FiredOp};
 
 use crate::add::add_all;
-use brooklet_step::{Emit, ItemLists, Lines, Parts, Sizes, Spare, States, blank_for, clear_all, fire_op};
+use brooklet_step::{
+    Emit, ItemLists, Lines, Parts, Sizes, Spare, States, blank_for, clear_all, fire_op,
+};
 use kern_rows::Line;
 use river_base::{Item, Items, NoMemory};
 use river_plan::Plan;

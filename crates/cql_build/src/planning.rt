@@ -21,9 +21,9 @@ use crate::queries::queries;
 use crate::uses::Uses;
 use cql_model::{Fault, Refusal};
 use cql_text::Part;
+use plan_check::check;
 use river_base::NoMemory;
 use river_plan::{Decl, Decls, Names, Ops, Plan, PlanFault, RawPlan};
-use plan_check::check;
 use std::alloc::Global;
 
 /// Why a program has no plan.

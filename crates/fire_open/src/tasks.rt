@@ -15,9 +15,9 @@ use crate::homes::{Places, homes_of, table_classes};
 use brooklet_step::{Lines, Spare, first_queues, first_states};
 use fire_tasks::{Inlet, Kept, Outlet, Task};
 use kern_rows::Line;
+use plan_check::queue_kinds;
 use river_base::{Listed, NoMemory, QueueType};
 use river_plan::Plan;
-use plan_check::queue_kinds;
 use std::alloc::Global;
 use std::mem::replace;
 

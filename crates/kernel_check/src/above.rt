@@ -7,10 +7,10 @@ ghost use Rattle.river_kernels.specs.Kern.{kern_of};
 ghost use Rattle.river_kernels.specs.Limits.{told, either, first_above, size_once, size, weight_sum, nesting};
 ghost use Rattle.river_kernels.specs.Limits.{body_numbers, rate_numbers, run_numbers, first_numbers, filter_numbers, weight_numbers, window_numbers, part_numbers};
 
-use river_kernels::{Kernel, Limit};
 use kern_bags::Window;
 use kern_rows::{Filter, First};
 use river_base::Numbers;
+use river_kernels::{Kernel, Limit};
 use work_code::{Code, Stmt, Stmts};
 
 /// The first number in the parts of a kernel that is above the most; 2^128 - 1 stands for what is greater. `Nesting`

@@ -4,13 +4,13 @@ ghost use Rattle.river_kernels.specs.Kern.{kern_of};
 ghost use Rattle.river_kernels.specs.Fits.{Fits};
 ghost use Rattle.river_kernels.specs.Types.{types_of, packed_of, joined_types, MayAnswer};
 
-use river_kernels::{Kernel, Types, VarKind};
 use crate::inference::{
     of_code, of_collect, of_cross, of_deal, of_duplicate, of_filter, of_project, of_select,
     of_streamer, of_tally, of_unpack, of_window, one_pack, only_flat, splice,
 };
 use crate::ports::{are_same_types, are_same_vars};
 use river_base::{NoMemory, QueueType};
+use river_kernels::{Kernel, Types, VarKind};
 use std::alloc::Global;
 
 // The types of the kernel's output ports and its variables, where it is well formed, may read queues of these types, and has at

@@ -15,10 +15,10 @@ use crate::formed::{
     is_formed_filter, is_formed_window, is_row_width,
 };
 use crate::ports::{are_all, body_ports, is_row_type, repeated, width};
-use river_kernels::{Types, VarKind};
 use kern_bags::{Streamer, Window};
 use kern_rows::{CodeKernel, Filter};
 use river_base::{FlatType, Listed, NoMemory, QueueType};
+use river_kernels::{Types, VarKind};
 use std::alloc::Global;
 use work_code::{Expr, Exprs};
 

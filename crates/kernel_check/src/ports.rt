@@ -8,8 +8,8 @@ ghost use Rattle.river_kernels.specs.Fits.{Fits, rows, width_of, is_sized, are_w
 ghost use Rattle.river_kernels.specs.Types.{same_flat, same_type};
 
 use crate::formed::{count, is_row_width};
-use river_kernels::types::VarKind;
 use river_base::{FlatType, Listed, NoMemory, Numbers, QueueType};
+use river_kernels::VarKind;
 use std::alloc::Global;
 
 fn is_same_flat(a: FlatType, b: FlatType) -> bool

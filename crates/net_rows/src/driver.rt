@@ -2,8 +2,8 @@
 ghost use Rattle.std.specs.Prelude.{◌≡◌, IfOk};
 ghost use Rattle.brooklet_model.specs.Fit.{Fit};
 
-use brooklet_step::{Lines, Outcome};
 use brooklet_run::{Inputs, fits, run_lines};
+use brooklet_step::{Lines, Outcome};
 use csv_streams::print_outcome;
 use fire_run::{Ran, run_plan};
 use kern_rows::Line;

@@ -3,8 +3,8 @@ ghost use Rattle.std.specs.Prelude.{◌≡◌, IfOk};
 ghost use Rattle.brooklet_model.specs.Fit.{Fit};
 
 use crate::fault::Fault;
-use brooklet_step::Lines;
 use brooklet_run::{Inputs, fits};
+use brooklet_step::Lines;
 use kern_rows::Line;
 use river_base::{Flat, FlatType, Item, Items, NoMemory, QueueType, Row};
 use river_plan::Plan;

@@ -11,8 +11,8 @@ mod made;
 mod told;
 
 use asked::{Asked, asked_by};
-use brooklet_step::Lines;
 use brooklet_run::run_lines;
+use brooklet_step::Lines;
 use fault::Fault;
 use fire_run::run_plan;
 use made::made_lines;

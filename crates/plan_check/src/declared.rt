@@ -10,8 +10,8 @@ use crate::lists::{labels, queue_names, variable_names};
 use crate::name_set::NameSet;
 use crate::search::{add_new, first_missing};
 use crate::wired::wiring_by;
-use river_plan::{Named, Op, Ops, PlanFault, RawPlan, Wiring};
 use river_base::{Name, NoMemory};
+use river_plan::{Named, Op, Ops, PlanFault, RawPlan, Wiring};
 use std::alloc::Global;
 
 /// The wiring of lists of which no name stands twice and all that operators name are declared; otherwise the first

@@ -11,8 +11,8 @@ use crate::misfit::misfit;
 use crate::once::{read_twice, shared, written_twice};
 use crate::order::read_too_early;
 use crate::types::mistyped;
-use river_plan::{Plan, PlanFault, RawPlan, Wiring};
 use river_base::NoMemory;
+use river_plan::{Plan, PlanFault, RawPlan, Wiring};
 use std::alloc::Global;
 
 /// The plan of these lists, exactly where they have no fault; otherwise their first fault: the first kind from `P1` to

@@ -4,10 +4,10 @@ ghost use Rattle.river_plan.specs.Forms.{plan_form};
 ghost use Rattle.river_plan.specs.Kinds.{table_width};
 ghost use Rattle.river_plan.specs.ByPlace.{decl_kinds, table_kinds, private_kinds, queue_kinds, var_kinds};
 
-use river_plan::{Decls, Names, RawPlan, TableDecls};
 use kern_tables::TableKind;
 use river_base::{Listed, NoMemory, QueueType};
 use river_kernels::VarKind;
+use river_plan::{Decls, Names, RawPlan, TableDecls};
 use std::alloc::Global;
 
 /// The types of the queues: the outputs, the inputs, the others.

@@ -6,10 +6,10 @@ ghost use Rattle.river_plan.specs.Forms.{plan_form, op_forms};
 ghost use Rattle.river_plan.specs.First.{Along};
 ghost use Rattle.river_plan.specs.Limits.{most_of, numbers, port_numbers, kernel_numbers, nestings, best_rows, OverLimit, OverLimitAt};
 
-use river_plan::{Op, Ops, PlanFault, RawPlan, TableDecls};
 use kern_tables::TableKind;
-use river_kernels::{Kernel, Limit};
 use kernel_check::{first_above, nesting};
+use river_kernels::{Kernel, Limit};
+use river_plan::{Op, Ops, PlanFault, RawPlan, TableDecls};
 
 /// The limits in the order in which they are told.
 const LIMITS: [Limit; 12] = [

@@ -2,8 +2,8 @@
 ghost use Rattle.std.specs.Prelude.{◌≡◌, ◌++◌, ◌∷◌, [], IfOk, OnOk, map};
 ghost use Rattle.river_plan.specs.Forms.{plan_form, op_forms, decl_names, table_names, labels, queue_names, variable_names};
 
-use river_plan::{Decls, Names, Ops, RawPlan, TableDecls};
 use river_base::NoMemory;
+use river_plan::{Decls, Names, Ops, RawPlan, TableDecls};
 use std::alloc::Global;
 
 /// The names of the queues: the outputs, the inputs, the others.

@@ -8,10 +8,10 @@ ghost use Rattle.river_plan.specs.ByPlace.{kind_at, var_kind_at, queue_kinds, va
 ghost use Rattle.river_plan.specs.Wired.{IsWired};
 
 use crate::kinds::{queue_kinds, var_kinds};
-use river_plan::{Named, Places, RawPlan, Wiring};
+use kernel_check::fits;
 use river_base::{FlatType, Listed, NoMemory, QueueType};
 use river_kernels::{Kernel, VarKind};
-use kernel_check::fits;
+use river_plan::{Named, Places, RawPlan, Wiring};
 use std::alloc::Global;
 
 /// The label of the first operator whose kernel does not fit its queues and variables, or is badly formed.

@@ -10,8 +10,8 @@ ghost use Rattle.river_plan.specs.Wired.{AreNamed, IsWired};
 
 use crate::lists::{queue_names, variable_names};
 use crate::search::{as_queue, as_variable};
-use river_plan::{Named, Names, Places, RawPlan, Wiring};
 use river_base::{Listed, Name, NoMemory};
+use river_plan::{Named, Names, Places, RawPlan, Wiring};
 use std::alloc::Global;
 
 /// The first queue that is written twice, or that is an input and written.

@@ -7,8 +7,8 @@ ghost use Rattle.river_plan.specs.First.{IsFirst};
 ghost use Rattle.river_plan.specs.Forms.{plan_form};
 ghost use Rattle.river_plan.specs.Wired.{AreNamed, IsWired};
 
-use river_plan::{Named, Names, Places, RawPlan, Wiring};
 use river_base::{Listed, Name};
+use river_plan::{Named, Names, Places, RawPlan, Wiring};
 
 /// The first queue that an operator reads, and that is neither an input nor written by an operator listed before.
 pub(crate) fn read_too_early(raw: &RawPlan, wiring: &Wiring) -> Option<Named>

@@ -6,8 +6,8 @@ ghost use Rattle.river_plan.specs.First.{IsFirst};
 ghost use Rattle.river_plan.specs.Faults.{IsNew, IsIn};
 
 use crate::name_set::NameSet;
-use river_plan::{Named, Names};
 use river_base::{Name, NoMemory};
+use river_plan::{Named, Names};
 use std::alloc::Global;
 
 /// Adds these names to the empty set; answers the first that stood before.

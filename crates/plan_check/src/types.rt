@@ -4,9 +4,9 @@ ghost use Rattle.river_kernels.specs.Fits as fits;
 ghost use Rattle.river_plan.specs.Forms.{plan_form};
 ghost use Rattle.river_plan.specs.Faults.{Mistyped, MistypedQueue, MistypedTable, IsOuter, HasWidth, IsTableKind, IsRowsOrStream, type_width};
 
-use river_plan::{Decl, Decls, Named, RawPlan, TableDecls};
 use kern_tables::TableKind;
 use river_base::{FlatType, QueueType};
+use river_plan::{Decl, Decls, Named, RawPlan, TableDecls};
 
 /// The first queue or table with a type that it may not have.
 pub(crate) fn mistyped(raw: &RawPlan) -> Option<Named>

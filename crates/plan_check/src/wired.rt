@@ -6,8 +6,8 @@ ghost use Rattle.river_plan.specs.Places.{names_of, places, as_often, users};
 ghost use Rattle.river_plan.specs.Wired.{AreUses, IsWired};
 
 use crate::name_set::NameSet;
-use river_plan::{Names, Op, Ops, Part, Places, RawPlan, Uses, Wiring};
 use river_base::{Listed, NoMemory};
+use river_plan::{Names, Op, Ops, Part, Places, RawPlan, Uses, Wiring};
 use std::alloc::Global;
 
 /// The wiring of these lists, of which the names are in sets.

@@ -3,9 +3,9 @@ ghost use Rattle.std.specs.Prelude.{◌≡◌, IfOk};
 ghost use Rattle.river_plan.specs.Forms.{plan_form};
 ghost use Rattle.river_plan.specs.Valid.{IsPlan};
 
+use plan_check::check;
 use river_base::NoMemory;
 use river_plan::{Plan, RawPlan};
-use plan_check::check;
 use std::alloc::Global;
 
 /// The plan of lists that are valid. Its check finds no fault in them: what it may want is memory.

@@ -35,7 +35,17 @@ pub fn run<L: Language, R: Threads + Sync, S: Shelf, G: Gate + Sync>(
 {
     let compiled = compiled::<L, S>(alloc, file, shelf)?;
     let layout = Layout::of::<L>(header);
-    run_scripted(alloc, crew, name, ins, layout, counts, &compiled.plan, &compiled.caps, shelf)
+    run_scripted(
+        alloc,
+        crew,
+        name,
+        ins,
+        layout,
+        counts,
+        &compiled.plan,
+        &compiled.caps,
+        shelf,
+    )
 }
 
 // A plan is rewritten, where a script is given, and run.

@@ -7,11 +7,11 @@ ghost use Rattle.river_order.specs.Passes.{Passes};
 ghost use Rattle.river_cli.specs.Points.{points_of, of_command, of_command_in};
 
 use command_line::{Command, Lang, WordFault, read_words};
+use plan_runs::{Crew, load, run};
 use river_base::{Bytes, Gate, Text};
 use river_langs::{Cql, Params, RiverText, Sawzall, Streamit};
 use river_order::Stop;
 use river_outside::Shelf;
-use plan_runs::{Crew, load, run};
 use river_road::{Language, mean, show, upgrade};
 use std::alloc::Global;
 use std::thread::Threads;

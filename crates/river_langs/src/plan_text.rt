@@ -2,8 +2,8 @@
 ghost use Rattle.std.specs.Prelude.{false};
 ghost use Rattle.river_langs.specs.Sources.{river_in};
 
-use brooklet_step::Outcome;
 use brooklet_run::run_lines;
+use brooklet_step::Outcome;
 use river_base::{Bytes, Listed, NoMemory};
 use river_order::Stop;
 use river_road::{Compiled, Content, Language, inputs_of, refused_program};

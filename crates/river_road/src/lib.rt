@@ -18,10 +18,10 @@ mod script;
 mod text;
 
 pub use content::Content;
-pub use language::{Compiled, Language};
-pub use layout::Layout;
 pub use gather::gather as gather_contents;
 pub use items::inputs_of;
+pub use language::{Compiled, Language};
+pub use layout::Layout;
 pub use road::{compiled, mean, rewritten, show, upgrade};
 pub use script::applied;
 pub use text::{missing as missing_input, program as refused_program};

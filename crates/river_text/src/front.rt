@@ -5,9 +5,9 @@ ghost use Rattle.river_text.specs.Checked.{text_form_of};
 ghost use Rattle.river_text.specs.Meaning.{plan_in, Refused};
 
 use crate::{RiverFault, RiverText, read_river};
+use plan_check::check;
 use river_base::Bytes;
 use river_plan::{Caps, Plan};
-use plan_check::check;
 use std::alloc::Global;
 
 /// The plan of a River text and the capacities that the text gives to its queues.

@@ -13,10 +13,10 @@ ghost use Rattle.river_plan.specs.declared.fault.PlanFault.TheVariants as fault_
 use crate::form::{Form, form_of};
 use crate::lists::split_lists;
 use crate::made::{are_short, made_names};
+use plan_check::check;
 use plan_edits::{Unfit, kind_of};
 use river_base::{Name, QueueType};
 use river_plan::{Ops, Plan, PlanFault, RawPlan};
-use plan_check::check;
 use std::alloc::Global;
 
 // The place of the first operator of a label.

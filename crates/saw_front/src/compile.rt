@@ -13,9 +13,9 @@ ghost use Rattle.saw_front.specs.Meaning.{accepted, or_fault, of_tokens, compile
 ghost use Rattle.saw_build.specs.Valued.{AreValuedParts};
 
 use crate::{SawFault, SawProgram};
+use plan_check::check;
 use river_base::{Bytes, NoMemory};
 use river_plan::{Plan, PlanFault, RawPlan};
-use plan_check::check;
 use saw_build::{Fault, Refusal, raw_plan};
 use saw_text::{Unit, read_sawzall};
 use std::alloc::Global;

@@ -13,9 +13,9 @@ ghost use Rattle.streamit_front.specs.Meaning.{accepted, or_fault, of_tokens, co
 
 use crate::StreamitProgram;
 use crate::fault::StreamitFault;
+use plan_check::check;
 use river_base::{Bytes, NoMemory};
 use river_plan::{Plan, PlanFault, RawPlan};
-use plan_check::check;
 use std::alloc::Global;
 use streamit_build::{Refusal, plan};
 use streamit_text::{Declaration, read_streamit};

@@ -4,9 +4,9 @@ ghost use Rattle.std.specs.Fmt.{decimal, signed_decimal};
 ghost use Rattle.work_code.specs.Term.{term};
 ghost use Rattle.work_code.specs.Printed.{text_of, sign_text};
 
-use work_code::{BinOp, Expr};
 use river_base::{Bytes, NoMemory};
 use std::alloc::Global;
+use work_code::{BinOp, Expr};
 
 /// Appends the text of an expression; nothing where there is no memory.
 pub fn print_expr(alloc: Global, e: &Expr, to: &mut Bytes) -> Result<(), NoMemory>

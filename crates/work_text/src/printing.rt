@@ -6,9 +6,9 @@ ghost use Rattle.work_code.specs.Steps.{step, steps};
 ghost use Rattle.work_code.specs.Printed.{text_of, items_text, more_items, step_text, body_text, more_text, else_text};
 
 use crate::print::{write_between, write_expr, write_number};
-use work_code::{Code, Expr, Exprs, Stmt, Stmts};
 use river_base::{Bytes, NoMemory};
 use std::alloc::Global;
+use work_code::{Code, Expr, Exprs, Stmt, Stmts};
 
 /// Appends the text of a body; nothing where there is no memory.
 pub fn print_code(alloc: Global, c: &Code, to: &mut Bytes) -> Result<(), NoMemory>
