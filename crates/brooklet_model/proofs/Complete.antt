@@ -24,6 +24,7 @@ use Rattle.brooklet_model.specs.Laws.{given_to, RunsAgree}
 use Rattle.brooklet_model.specs.Machine.{Machine, at_key, fired, Run, IsComplete, first_kept_of, times}
 use Rattle.brooklet_model.specs.Traced.{ran, Traced}
 use Rattle.river_base.specs.Bags.{SameBag}
+use Rattle.river_base.proofs.Options.{some_is}
 use Rattle.brooklet_model.specs.Words.{Word, run, at_port, PortsBelow, Alike}
 use Rattle.brooklet_model.proofs.Free.{order_is_free, at_port-append, below-append}
 use Rattle.brooklet_model.proofs.Lists.{if_true, if_false, if_eq, if_ne, funext}
@@ -31,7 +32,7 @@ use Rattle.brooklet_model.proofs.Ports.{counts, shaped, got_below}
 use Rattle.brooklet_model.proofs.Shapes.{first_shape}
 use Rattle.brooklet_model.proofs.Solutions.{count_here, written_out, plan_unique}
 use Rattle.brooklet_model.proofs.Swaps.{count_by-append, at_port_here, at_port_past}
-use Rattle.brooklet_model.proofs.Traces.{some_is, at_most, one_place, got_count, place_once, each_at, each_of, got_read, read_of, joined_out, lists_more}
+use Rattle.brooklet_model.proofs.Traces.{at_most, one_place, got_count, place_once, each_at, each_of, got_read, read_of, joined_out, lists_more}
 use Rattle.brooklet_model.proofs.Traces.{joined-append, joined_none, joined_bag, joined_cong, lists_cong, lists_agree, at_key_same, at_key_other, run_more}
 use Rattle.brooklet_model.proofs.Traces.{at_same, take_next, numbered_same, numbered_more, numbered_total, adds_it, adds_total, word_lengths}
 

@@ -7,6 +7,7 @@ use Rattle.std.proofs.lemmas.List.{append-nil, take-append-drop, length-take}
 use Rattle.river_base.specs.declared.item.Item as item
 use Rattle.river_base.specs.Name.{name_eq}
 use Rattle.river_base.specs.Places.{list_at}
+use Rattle.river_base.proofs.Options.{some_is}
 use Rattle.river_plan.specs.Forms.{Name, OpForm, PlanForm, decl_names, table_names}
 use Rattle.river_plan.specs.Names.{count}
 use Rattle.river_plan.specs.Uses.{total, reads_it, writes_it}
@@ -23,7 +24,7 @@ use Rattle.brooklet_model.specs.Traced.{ran, Traced}
 use Rattle.brooklet_model.proofs.Lists.{if_true, if_false, funext}
 use Rattle.brooklet_model.proofs.Swaps.{count_by-append, at_port_here, at_port_past}
 use Rattle.brooklet_model.proofs.Free.{at_port-append}
-use Rattle.brooklet_model.proofs.Traces.{some_is, at_most, joined_out, one_place, got_count, place_once, at_same, at_key_same, at_key_other}
+use Rattle.brooklet_model.proofs.Traces.{at_most, joined_out, one_place, got_count, place_once, at_same, at_key_same, at_key_other}
 use Rattle.brooklet_model.specs.Bounded.{Bounded, Capacities, history, sent, at_first, IsWithinCapacities, IsBusy, after_taking, Send, Take}
 use Rattle.brooklet_model.specs.NetLaws.{NetsAreKept}
 use Rattle.brooklet_model.specs.Nets.{IsNet, Leads, and_took, sent_count_in}

@@ -2,6 +2,7 @@
 use Rattle.std.proofs.Common.{◌≡◌, ℕ, zero, suc, ◌+◌, ◌<◌, ◌≤◌, Some, List, [], ◌∷◌, ◌++◌, length, refl, sym, ◌∙◌, subst, arith, ⊎_elim, ◌⊎◌, inl, inr}
 use Rattle.std.specs.Prelude.{slice_get}
 use Rattle.river_base.specs.declared.item.Item as item
+use Rattle.river_base.proofs.Options.{some_is}
 use Rattle.river_plan.specs.Forms.{Name, OpForm, PlanForm}
 use Rattle.river_plan.specs.Names.{count}
 use Rattle.river_plan.specs.Uses.{total, writes_it, and_writes, ReadsBefore}
@@ -11,7 +12,6 @@ use Rattle.brooklet_model.specs.Histories.{History, written, Lists}
 use Rattle.brooklet_model.specs.Laws.{given_to}
 use Rattle.brooklet_model.specs.Words.{Word}
 use Rattle.brooklet_model.proofs.Solutions.{written_out, lists_written, lists_one}
-use Rattle.brooklet_model.proofs.Traces.{some_is}
 use Rattle.brooklet_model.specs.Traced.{ran}
 use Rattle.brooklet_model.specs.Received.{hist_from, hist_by}
 

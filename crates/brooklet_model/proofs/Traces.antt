@@ -17,6 +17,7 @@ use Rattle.brooklet_model.specs.Histories.{History, lists_of, given_on, joined, 
 use Rattle.brooklet_model.specs.Machine.{at_key}
 use Rattle.brooklet_model.specs.Traced.{sum_numbered}
 use Rattle.river_base.specs.Bags.{SameBag}
+use Rattle.river_base.proofs.Options.{some_is}
 use Rattle.brooklet_model.specs.Words.{Word, run, at_port, PortsBelow}
 use Rattle.brooklet_model.proofs.Lists.{if_true, if_false, if_eq, if_ne}
 use Rattle.brooklet_model.proofs.Ports.{got_below}
@@ -24,10 +25,6 @@ use Rattle.brooklet_model.proofs.Solutions.{count_here, one_of}
 use Rattle.brooklet_model.proofs.Swaps.{count_by-append, at_port_here, at_port_past}
 
 -- BY NUMBER AND BY SUM
-
--- what stands in equal options is equal
-pub some_is : {A : Type 0} (a b : A) → Some a ≡ Some b → a ≡ b
-some_is a b e = cc
 
 -- an operator's number is at most the sum
 pub at_most : (f : OpForm → ℕ) (ops : List OpForm) (o : ℕ) (op : OpForm) → slice_get ops o ≡ Some op → f op ≤ total f ops

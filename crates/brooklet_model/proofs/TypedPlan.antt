@@ -9,6 +9,7 @@ use Rattle.river_base.specs.declared.kind.QueueType.{QueueType}
 use Rattle.river_base.specs.Held.{HasType}
 use Rattle.river_base.specs.Name.{name_eq}
 use Rattle.river_base.specs.Places.{list_at}
+use Rattle.river_base.proofs.Options.{some_is}
 use Rattle.river_kernels.specs.declared.types.VarKind.{VarKind}
 use Rattle.river_kernels.specs.Fits.{Fits, rows}
 use Rattle.river_kernels.specs.Kern.{Kern}
@@ -31,7 +32,7 @@ use Rattle.brooklet_model.proofs.Lists.{if_true, if_false}
 use Rattle.brooklet_model.proofs.Ports.{shaped}
 use Rattle.brooklet_model.proofs.Shapes.{fire_shape, first_shape}
 use Rattle.brooklet_model.proofs.Solutions.{count_here, written_out, stays, plan_solves}
-use Rattle.brooklet_model.proofs.Traces.{some_is, each_at, each_of, at_key_same, at_key_other, at_same}
+use Rattle.brooklet_model.proofs.Traces.{each_at, each_of, at_key_same, at_key_other, at_same}
 use Rattle.brooklet_model.proofs.Typing.{fire_typed, first_holds}
 
 -- what holds of the inputs, and passes from what an operator reads to what it writes, holds of all that is written

@@ -1,7 +1,6 @@
 // Which inputs fit a plan.
-ghost use Rattle.std.specs.Prelude.{◌≡◌, ◌↔◌, ◌<◌, ◌<ℤ◌, IsTrue, All, Some, length, slice_get};
+ghost use Rattle.std.specs.Prelude.{◌≡◌, ◌↔◌, ◌<◌, ◌<ℤ◌, IsTrue, All, Some, length};
 ghost use Rattle.river_base.specs.Held.{HasType};
-ghost use Rattle.river_plan.specs.Forms.{plan_form};
 ghost use Rattle.brooklet_model.specs.Typed.{AreInputs};
 ghost use Rattle.brooklet_model.specs.Fit.{Fit, instant_of, instants_in, Rises, HasInstants, AreInstants};
 ghost use Rattle.brooklet_step.specs.Fit.{IsStream, IsStreamAt};

@@ -79,7 +79,8 @@ impl Machine {
     }
 
     /// One firing of an operator on the front item of the queue at one of its ports, which leaves the queue; what the operator adds
-    /// goes to its tables. From every state of the definition that the machine stands for, the machine then stands for one after a step there, and it goes on: it can be
+    /// goes to its tables. From every state of the definition that the machine stands for, the machine then stands for one
+    /// after a step there, and it goes on: it can be
     /// fired again wherever an item waits. Where it is refused for want of memory the machine is stopped, and nothing is enabled
     /// any more.
     pub fn step(&mut self, alloc: Global, op: u32, port: u32) -> Result<(), NoMemory>

@@ -5,6 +5,7 @@ use Rattle.std.proofs.lemmas.List.{append-nil}
 use Rattle.river_base.specs.declared.item.Item as item
 use Rattle.river_base.specs.Bags.{SameBag}
 use Rattle.river_base.specs.Places.{list_at}
+use Rattle.river_base.proofs.Options.{some_is}
 use Rattle.kern_tables.specs.declared.kind.TableKind.{TableKind}
 use Rattle.kern_tables.specs.declared.kept.Kept.{Kept}
 use Rattle.kern_tables.specs.Kept.{kept_of, with_row, rows_of, width_of_table}
@@ -16,7 +17,7 @@ use Rattle.river_plan.specs.Names.{count}
 use Rattle.river_plan.specs.Places.{place, places}
 use Rattle.brooklet_model.specs.Histories.{joined, all_adds}
 use Rattle.brooklet_model.specs.Meaning.{meaning}
-use Rattle.brooklet_model.proofs.Traces.{some_is, got_count}
+use Rattle.brooklet_model.proofs.Traces.{got_count}
 use Rattle.brooklet_step.specs.ByPlace.{joined_at}
 use Rattle.brooklet_step.specs.Tables.{kept_tables, defined_tables, each_added}
 use Rattle.brooklet_step.proofs.QueuePlaces.{place_is, joined_places, joined_cong_below}

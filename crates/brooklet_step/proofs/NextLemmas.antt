@@ -7,6 +7,7 @@ use Rattle.std.proofs.lemmas.Option.{slice_get_within, slice_get-get_or}
 use Rattle.river_base.specs.declared.item.Item as item
 use Rattle.river_base.specs.Places.{list_at, each_grew}
 use Rattle.river_base.proofs.PlaceLemmas.{each_grew-blanks}
+use Rattle.river_base.proofs.Options.{some_is}
 use Rattle.kern_tables.specs.declared.kept.Kept.{Kept}
 use Rattle.kern_tables.specs.Kept.{kept_of, width_of_table}
 use Rattle.river_kernels.specs.Kern.{Kern, kern_of}
@@ -18,7 +19,7 @@ use Rattle.brooklet_model.specs.Fire.{outs, tabs}
 use Rattle.brooklet_model.specs.Histories.{most_firings, tables_of}
 use Rattle.brooklet_model.specs.Typed.{widths_in, IsWide}
 use Rattle.brooklet_model.proofs.Ports.{counts}
-use Rattle.brooklet_model.proofs.Traces.{some_is, got_count, read_of}
+use Rattle.brooklet_model.proofs.Traces.{got_count, read_of}
 use Rattle.brooklet_model.proofs.TypedPlan.{op_fits}
 use Rattle.brooklet_step.specs.declared.emit.Emit.{Emit}
 use Rattle.brooklet_step.specs.declared.parts.Parts.{Parts}

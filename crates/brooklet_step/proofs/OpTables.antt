@@ -5,6 +5,7 @@ use Rattle.std.specs.Prelude.{if◌then◌else◌, slice_get, unwrap_or}
 use Rattle.std.proofs.lemmas.Bool.{cases_lt}
 use Rattle.std.proofs.lemmas.List.{length-map}
 use Rattle.river_base.specs.Name.{name_eq}
+use Rattle.river_base.proofs.Options.{some_is}
 use Rattle.kern_tables.specs.Tables.{table_width}
 use Rattle.river_kernels.specs.declared.types.VarKind.{VarKind}
 use Rattle.river_kernels.specs.declared.types.VarKind.TheVariants.{Private, Table}
@@ -23,7 +24,7 @@ use Rattle.brooklet_model.specs.Histories.{tables_of}
 use Rattle.brooklet_model.specs.Typed.{widths_in}
 use Rattle.brooklet_model.proofs.Lists.{if_true, if_false, if_lt, if_ge}
 use Rattle.brooklet_model.proofs.Ports.{tables_in, counts}
-use Rattle.brooklet_model.proofs.Traces.{some_is, at_most}
+use Rattle.brooklet_model.proofs.Traces.{at_most}
 use Rattle.brooklet_model.proofs.TypedPlan.{op_fits}
 use Rattle.brooklet_step.specs.Tables.{table_places}
 

@@ -6,13 +6,14 @@ use Rattle.std.proofs.lemmas.Option.{slice_get_within, get_or_from_slice_get}
 use Rattle.river_base.specs.Held.{held}
 use Rattle.river_base.specs.Places.{list_at}
 use Rattle.river_base.proofs.HeldLemmas.{length-held}
+use Rattle.river_base.proofs.Options.{some_is}
 use Rattle.river_plan.specs.declared.plan.RawPlan.{RawPlan}
 use Rattle.river_plan.specs.Forms.{Name, OpForm, PlanForm, plan_form, op_form, queue_names}
 use Rattle.river_plan.specs.Names.{count}
 use Rattle.river_plan.specs.Places.{place, places, read_places}
 use Rattle.river_plan.proofs.PlaceLemmas.{place_below}
 use Rattle.brooklet_model.specs.Machine.{Machine}
-use Rattle.brooklet_model.proofs.Traces.{some_is, read_of}
+use Rattle.brooklet_model.proofs.Traces.{read_of}
 use Rattle.brooklet_step.specs.declared.parts.Parts.{Parts}
 use Rattle.brooklet_step.specs.Reading.{IsQueuePlace}
 use Rattle.brooklet_step.specs.Laws.{EnabledIsItem}

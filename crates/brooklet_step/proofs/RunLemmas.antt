@@ -10,6 +10,7 @@ use Rattle.river_base.specs.declared.item.Item as item
 use Rattle.river_base.specs.Name.{name_eq}
 use Rattle.river_base.specs.Held.{held}
 use Rattle.river_base.proofs.HeldLemmas.{length-held}
+use Rattle.river_base.proofs.Options.{some_is}
 use Rattle.river_plan.specs.declared.plan.Decl.{Decl}
 use Rattle.river_kernels.specs.declared.limit.Limit.TheVariants.{Operators, Ports}
 use Rattle.river_plan.specs.declared.op.Op.{Op}
@@ -30,7 +31,7 @@ use Rattle.brooklet_model.specs.Meaning.{meaning}
 use Rattle.brooklet_model.proofs.Complete.{runs_law}
 use Rattle.brooklet_model.proofs.Lists.{if_true, if_false}
 use Rattle.brooklet_model.proofs.RunMeaning.{outs_are, firings_are}
-use Rattle.brooklet_model.proofs.Traces.{some_is, at_most, got_count, joined_out}
+use Rattle.brooklet_model.proofs.Traces.{at_most, got_count, joined_out}
 use Rattle.brooklet_step.specs.declared.parts.Parts.{Parts}
 use Rattle.brooklet_step.specs.Drained.{IsDrained, read_in, left_at, Follows, RunsOn, DrainedBefore, HasPorts, HasRun}
 use Rattle.brooklet_step.specs.Works.{queue_of, kinds_of, StandsForMachine, ReadsAt, IsEnabled, StandsAfterRun, GoesOn, Starts, Steps, AreCounts}

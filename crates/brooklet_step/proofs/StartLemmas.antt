@@ -9,6 +9,7 @@ use Rattle.std.proofs.lemmas.Option.{slice_get_within, slice_get-get_or}
 use Rattle.river_base.specs.declared.item.Item as item
 use Rattle.river_base.specs.Held.{IsHeld}
 use Rattle.river_base.specs.Places.{list_at}
+use Rattle.river_base.proofs.Options.{some_is}
 use Rattle.kern_tables.specs.declared.kept.Kept.{Kept}
 use Rattle.river_kernels.specs.Kern.{kern_of}
 use Rattle.river_plan.specs.declared.op.Op.{Op}
@@ -27,7 +28,6 @@ use Rattle.brooklet_model.specs.Laws.{given_to}
 use Rattle.brooklet_model.specs.Shapes.{IsFormed}
 use Rattle.brooklet_model.specs.Typed.{AreInputs}
 use Rattle.brooklet_model.proofs.Solutions.{written_out}
-use Rattle.brooklet_model.proofs.Traces.{some_is}
 use Rattle.brooklet_model.proofs.TypedPlan.{op_fits, inputs_typed}
 use Rattle.brooklet_model.proofs.Complete.{traced_start, nothing_given}
 use Rattle.brooklet_step.specs.declared.parts.Parts.{Parts}

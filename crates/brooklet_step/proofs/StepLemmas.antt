@@ -13,6 +13,7 @@ use Rattle.river_base.proofs.HeldLemmas.{held-nil, held-append, length-held}
 use Rattle.river_base.specs.Name.{name_eq}
 use Rattle.river_base.specs.Places.{list_at, each_grew}
 use Rattle.river_base.proofs.PlaceLemmas.{length-each_grew, get_or-each_grew, each_grew-blanks}
+use Rattle.river_base.proofs.Options.{some_is}
 use Rattle.kern_tables.specs.declared.kept.Kept.{Kept}
 use Rattle.river_plan.specs.Forms.{Name, OpForm, PlanForm, decl_names, table_names, queue_names}
 use Rattle.river_plan.specs.Kinds.{var_kind}
@@ -30,7 +31,7 @@ use Rattle.brooklet_model.specs.Words.{Word, at_port}
 use Rattle.brooklet_model.proofs.Lists.{if_true, if_false, if_eq, if_ne}
 use Rattle.brooklet_model.proofs.Complete.{traced_fired, nothing_given}
 use Rattle.brooklet_model.proofs.Ports.{shaped, counts}
-use Rattle.brooklet_model.proofs.Traces.{some_is, at_most, got_count, joined_out, at_key_same, at_key_other, at_same}
+use Rattle.brooklet_model.proofs.Traces.{at_most, got_count, joined_out, at_key_same, at_key_other, at_same}
 use Rattle.brooklet_model.proofs.TypedPlan.{at_append, op_fits, kind_got, got_all, joined_all}
 use Rattle.brooklet_step.specs.declared.emit.Emit.{Emit}
 use Rattle.brooklet_step.specs.declared.parts.Parts.{Parts}

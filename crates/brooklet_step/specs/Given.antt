@@ -235,7 +235,8 @@ StandsAfter cross reads start st w = CrossStands start st w
 StandsAfter (streamer s) reads start st w = StreamerStands s start st w
 StandsAfter (fused a b at) reads start st w =
     StandsAfter a reads (take (privates a) start) (take (privates a) st) w
-    × StandsAfter b (between at (types_of a reads)) (drop (privates a) start) (drop (privates a) st) (word_of 0 ((ran_from a (take (privates a) start) w).outs at))
+    × StandsAfter b (between at (types_of a reads)) (drop (privates a) start) (drop (privates a) st)
+    (word_of 0 ((ran_from a (take (privates a) start) w).outs at))
 StandsAfter kernel reads start st w = StandsForKept kernel st (ran_from kernel start w).states
 
 -- FIRINGS
@@ -264,7 +265,8 @@ pub record CameAsHeld (k : Kern) (reads writes : List QueueType) (vars : List Va
   pub wide : AreWide (widths_in vars) adds
   pub again : FitState k reads st'
 
-pub record Does (k : Kern) (reads writes : List QueueType) (vars : List VarKind) (port : ℕ) (i : item.Item) (out new : Emit) (st st' : List State) : Type 0 where
+pub record Does (k : Kern) (reads writes : List QueueType) (vars : List VarKind) (port : ℕ)
+    (i : item.Item) (out new : Emit) (st st' : List State) : Type 0 where
   pub gives : GivesAsDefined k reads writes port i out new st st'
   pub came : CameAsHeld k reads writes vars out new st'
 

@@ -27,4 +27,5 @@ each_added (t ∷ ts) f = fold with_row t (f 0) ∷ each_added ts (λ p. f (suc 
 
 -- each list of rows is for the table at its place, and has the width of that table
 abbrev pub AreFor : List Kept → List ℕ → List (List (List ℤ)) → Type 0
-AreFor tables to adds = (j p : ℕ) (t : Kept) → slice_get to j ≡ Some p → slice_get tables p ≡ Some t → All (λ row. length row ≡ width_of_table t) (list_at adds j)
+AreFor tables to adds = (j p : ℕ) (t : Kept) → slice_get to j ≡ Some p → slice_get tables p ≡ Some t
+    → All (λ row. length row ≡ width_of_table t) (list_at adds j)

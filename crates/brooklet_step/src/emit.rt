@@ -143,8 +143,10 @@ impl Emit {
         requires place { at < length first.old.outs }
         requires ports { length self.old.outs + 1 ≡ length first.old.outs + length second.old.outs }
         requires tables { length self.old.adds ≡ length first.old.adds + length second.old.adds }
-        ensures outs { OnOk result (self.new.outs ≡ each_grew self.old.outs (splice_lem at (length second.old.outs) (list_at first.old.outs) (list_at second.old.outs))) }
-        ensures adds { OnOk result (self.new.adds ≡ each_grew self.old.adds (beside (length first.old.adds) (list_at first.old.adds) (list_at second.old.adds))) }
+        ensures outs { OnOk result (self.new.outs
+            ≡ each_grew self.old.outs (splice_lem at (length second.old.outs) (list_at first.old.outs) (list_at second.old.outs))) }
+        ensures adds { OnOk result (self.new.adds
+            ≡ each_grew self.old.adds (beside (length first.old.adds) (list_at first.old.adds) (list_at second.old.adds))) }
     {
         splice_items(alloc, &mut self.outs, &mut first.outs, &mut second.outs, at)?;
         join_rows(alloc, &mut self.adds, &mut first.adds, &mut second.adds)

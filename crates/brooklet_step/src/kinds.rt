@@ -1,5 +1,5 @@
 // Which items have a type, and which a queue may hold.
-ghost use Rattle.std.specs.Prelude.{◌≡◌, ◌↔◌, ◌⊎◌, ℤ, List, IsTrue, All, length};
+ghost use Rattle.std.specs.Prelude.{◌≡◌, ◌↔◌, ◌⊎◌, ℤ, List, IsTrue};
 ghost use Rattle.river_base.specs.Held.{HasType, IsHeld, MayHold, HasFlatType, HaveWidth, IsAscending};
 ghost use Rattle.river_base.specs.Row.{copies};
 ghost use Rattle.river_base.specs.Changes.{IsNormal, IsWideChange, IsChangeOf};

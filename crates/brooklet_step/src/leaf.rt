@@ -100,7 +100,8 @@ pub fn fire_code(
     spare: &mut Spare,
 ) -> Result<(), NoMemory>
     requires { Applies (code_kern (code_form kernel.now)) 0 item states.old out.old }
-    ensures { OnOk result (Fires (code_kern (code_form kernel.now)) out.old out.new states.old states.new (fire_lem (code_kern (code_form kernel.now)) 0 item)) }
+    ensures { OnOk result (Fires (code_kern (code_form kernel.now)) out.old out.new states.old states.new
+        (fire_lem (code_kern (code_form kernel.now)) 0 item)) }
 {
     let mut pushes = spare.take_pushes(alloc);
     push_all(alloc, kernel, &item, states, &mut pushes)?;

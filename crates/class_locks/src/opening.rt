@@ -1,7 +1,6 @@
 // The beginning of a round.
 ghost use Rattle.std.specs.Prelude.{◌≡◌, ◌<◌, ◌≤◌, ◌+◌, ◌^◌, ◌++◌, ◌∷◌, [], ℕ, List, All, length, replicate, IfOk, OnErr, vec_len, vec_capacity};
 ghost use Rattle.std.specs.Arc.{arc_value};
-ghost use Rattle.class_locks.specs.Logs.{Holding};
 ghost use Rattle.class_locks.specs.Views.{count_up, held_at_classes};
 ghost use Rattle.class_locks.specs.Seats.{TableId, IsSeated, IsLaid, seats_from, with_parts};
 
@@ -94,7 +93,8 @@ fn arrive(top: &Top) -> Result<Place, Late>
     requires some { 0 < top.now.key.seats }
     requires few { length top.now.key.cells.value < 2 ^ 31 }
     ensures seated { IfOk result (λ p. IsSeated top.now.table_id top.now.key p) }
-    ensures view { IfOk result (λ p. p.me.0 ≡ with_parts top.now.key.seats top.now.key.cells.value (count_up 0 top.now.key.seats) (held_at_classes 0 top.now.key.cells.value)) }
+    ensures view { IfOk result (λ p. p.me.0 ≡ with_parts top.now.key.seats top.now.key.cells.value
+        (count_up 0 top.now.key.seats) (held_at_classes 0 top.now.key.cells.value)) }
 {
     let (found, place) = top.swap_new_seat::<Arrive>(0, 1);
     if found == 0 {
@@ -136,13 +136,16 @@ fn deal(top: &Top, place: &mut Place) -> Place
 fn deal_all(locks: &Handle, place: &mut Place, mut handles: Vec<Handle>, all: &mut Vec<Seat>)
     requires seated { IsSeated (arc_value locks.now).shared.table_id (arc_value locks.now).shared.key place.old }
     requires same { All (λ a. arc_value a ≡ arc_value locks.now) handles.items }
-    requires view { place.old.me.0 ≡ with_parts (arc_value locks.now).shared.key.seats (arc_value locks.now).shared.key.cells.value (count_up 0 (length handles.items + 1)) [] }
+    requires view { place.old.me.0 ≡ with_parts (arc_value locks.now).shared.key.seats
+        (arc_value locks.now).shared.key.cells.value (count_up 0 (length handles.items + 1)) [] }
     requires none { all.old.items ≡ [] }
     requires room { length handles.items + 1 ≤ vec_capacity all.old }
     ensures seated { IsSeated (arc_value locks.now).shared.table_id (arc_value locks.now).shared.key place.new }
-    ensures view { place.new.me.0 ≡ with_parts (arc_value locks.now).shared.key.seats (arc_value locks.now).shared.key.cells.value (length handles.items ∷ []) [] }
+    ensures view { place.new.me.0 ≡ with_parts (arc_value locks.now).shared.key.seats
+        (arc_value locks.now).shared.key.cells.value (length handles.items ∷ []) [] }
     ensures seats { all.new.items
-        ≡ seats_from (arc_value locks.now).shared.table_id (arc_value locks.now).shared.key.seats (arc_value locks.now).shared.key.cells.value 0 (length handles.items) }
+        ≡ seats_from (arc_value locks.now).shared.table_id (arc_value locks.now).shared.key.seats
+        (arc_value locks.now).shared.key.cells.value 0 (length handles.items) }
     ensures room { (vec_len all.new ≡ length handles.items) × (vec_capacity all.new ≡ vec_capacity all.old) }
 {
     while let Some(handle) = handles.pop() {

@@ -1,5 +1,5 @@
 // What stands behind a program's file: options and words NAME=FILE, in any order.
-ghost use Rattle.std.specs.Prelude.{◌≡◌, ◌≤◌, ◌<◌, ◌+◌, ◌-◌, ◌^◌, [], ◌∷◌, length, take, drop, Bool, Some, None, IfOk, OnOk, IsErrOf, IsSome};
+ghost use Rattle.std.specs.Prelude.{◌≡◌, ◌≤◌, ◌<◌, ◌+◌, ◌-◌, ◌^◌, [], ◌∷◌, length, take, drop, Some, None, IfOk, OnOk, IsErrOf, IsSome};
 ghost use Rattle.command_line.specs.Limits.{most_cap};
 ghost use Rattle.command_line.specs.Words.{name_part, rest_part, in_word_of};
 ghost use Rattle.command_line.specs.Commands.{with_header, with_counts, with_workers, with_cap};
@@ -72,7 +72,8 @@ fn read_phrase(
 ) -> Result<usize, WordFault>
     ensures few { IfOk result (λ takes. takes ≤ 1) }
     ensures within { IfOk result (λ takes. takes + 1 ≤ length words.now) }
-    ensures ok { IfOk result (λ takes. with_phrase (phrase_of words.now) said.old command.old ≡ Some (record { takes = takes; said = said.new; command = command.new })) }
+    ensures ok { IfOk result (λ takes. with_phrase (phrase_of words.now) said.old command.old
+        ≡ Some (record { takes = takes; said = said.new; command = command.new })) }
     ensures usage { IsErrOf result WordFault.Usage → with_phrase (phrase_of words.now) said.old command.old ≡ None }
 {
     let [word, behind @ ..] = words else {
@@ -110,7 +111,8 @@ fn add_header(
     command: &mut Command,
     said: &mut WordSet,
 ) -> Result<(), WordFault>
-    ensures ok { OnOk result (with_phrase (option word.now with_header) said.old command.old ≡ Some (record { takes = 0; said = said.new; command = command.new })) }
+    ensures ok { OnOk result (with_phrase (option word.now with_header) said.old command.old
+        ≡ Some (record { takes = 0; said = said.new; command = command.new })) }
     ensures usage { IsErrOf result WordFault.Usage → with_phrase (option word.now with_header) said.old command.old ≡ None }
 {
     let fits = command.set_header();
@@ -125,7 +127,8 @@ fn add_counts(
     command: &mut Command,
     said: &mut WordSet,
 ) -> Result<(), WordFault>
-    ensures ok { OnOk result (with_phrase (option word.now with_counts) said.old command.old ≡ Some (record { takes = 0; said = said.new; command = command.new })) }
+    ensures ok { OnOk result (with_phrase (option word.now with_counts) said.old command.old
+        ≡ Some (record { takes = 0; said = said.new; command = command.new })) }
     ensures usage { IsErrOf result WordFault.Usage → with_phrase (option word.now with_counts) said.old command.old ≡ None }
 {
     let fits = command.set_counts();
@@ -141,7 +144,8 @@ fn add_script(
     said: &mut WordSet,
 ) -> Result<(), WordFault>
     ensures within { OnOk result (1 ≤ length behind.now) }
-    ensures ok { OnOk result (with_phrase (script_phrase behind.now) said.old command.old ≡ Some (record { takes = 1; said = said.new; command = command.new })) }
+    ensures ok { OnOk result (with_phrase (script_phrase behind.now) said.old command.old
+        ≡ Some (record { takes = 1; said = said.new; command = command.new })) }
     ensures usage { IsErrOf result WordFault.Usage → with_phrase (script_phrase behind.now) said.old command.old ≡ None }
 {
     let [file, ..] = behind else {
@@ -187,7 +191,8 @@ fn add_cap(
     ensures within { OnOk result (1 ≤ length behind.now) }
     ensures ok { OnOk result (with_phrase (with_number word.now with_cap (number_ahead most_cap behind.now)) said.old command.old
         ≡ Some (record { takes = 1; said = said.new; command = command.new })) }
-    ensures usage { IsErrOf result WordFault.Usage → with_phrase (with_number word.now with_cap (number_ahead most_cap behind.now)) said.old command.old ≡ None }
+    ensures usage { IsErrOf result WordFault.Usage
+        → with_phrase (with_number word.now with_cap (number_ahead most_cap behind.now)) said.old command.old ≡ None }
 {
     let Some(number) = number_ahead(behind, MOST_CAP) else {
         return Err(WordFault::Usage);
@@ -216,7 +221,8 @@ fn add_input(
     command: &mut Command,
     said: &mut WordSet,
 ) -> Result<(), WordFault>
-    ensures ok { OnOk result (with_phrase (input_phrase (in_word_of word.now)) said.old command.old ≡ Some (record { takes = 0; said = said.new; command = command.new })) }
+    ensures ok { OnOk result (with_phrase (input_phrase (in_word_of word.now)) said.old command.old
+        ≡ Some (record { takes = 0; said = said.new; command = command.new })) }
     ensures usage { IsErrOf result WordFault.Usage → with_phrase (input_phrase (in_word_of word.now)) said.old command.old ≡ None }
 {
     let Some(input) = read_in_word(alloc, word)? else {

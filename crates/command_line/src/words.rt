@@ -1,7 +1,7 @@
 // The words of the command line.
 ghost use Rattle.std.specs.Prelude.{◌≡◌, Some, None, IfOk, IsErrOf};
 ghost use Rattle.command_line.specs.Words.{lang_named, is_file};
-ghost use Rattle.command_line.specs.Sentences.{plain, with_words, asked, asked_load, asked_two, asked_upgrade, command_of};
+ghost use Rattle.command_line.specs.Sentences.{plain, with_words, asked_load, asked_two, asked_upgrade, command_of};
 
 use crate::command::{Command, InWords, Lang, WordFault};
 use crate::number::read_number;

@@ -1,6 +1,6 @@
 -- Items that are judged one after another.
 use Rattle.std.proofs.Common.{◌≡◌, ℕ, zero, suc, ◌+◌, ◌-◌, ◌<◌, ◌≤◌, Bool, true, false, List, [], ◌∷◌, ◌++◌, length, take, drop, map, get_or, Option, Some}
-use Rattle.std.proofs.Common.{None, refl, sym, ap, ◌∙◌, subst, arith, add-one}
+use Rattle.std.proofs.Common.{None, refl, sym, ap, ◌∙◌, subst, arith}
 use Rattle.std.specs.Prelude.{nat_lt, nat_eq, if◌then◌else◌}
 use Rattle.std.specs.Borrow.{Bor}
 use Rattle.std.specs.Option.{option_copied}
@@ -8,7 +8,6 @@ use Rattle.std.proofs.lemmas.List.{map-append}
 use Rattle.river_base.specs.Name.{name_eq}
 use Rattle.river_plan.specs.Forms.{Name}
 use Rattle.river_plan.specs.Names.{one_if, count}
-use Rattle.river_plan.proofs.NameLemmas.{cases_bool}
 use Rattle.cql_model.specs.Faults.{then_fault, fault_if, is_rows_fault, item_fault, items_fault}
 use Rattle.cql_model.specs.Laws.{known_names}
 use Rattle.cql_text.specs.Tree as tree

@@ -1,12 +1,12 @@
 -- The names that are made are names.
-use Rattle.std.proofs.Common.{◌≡◌, ℕ, ◌+◌, ◌%◌, ◌^◌, ◌<◌, ◌≤◌, Bool, true, List, [], ◌∷◌, ◌++◌, length, refl, sym, ap, ◌∙◌, subst, arith, length-append}
+use Rattle.std.proofs.Common.{◌≡◌, ℕ, ◌+◌, ◌%◌, ◌^◌, ◌<◌, ◌≤◌, true, List, [], ◌∷◌, ◌++◌, length, refl, sym, ap, ◌∙◌, subst, arith, length-append}
 use Rattle.std.specs.Prelude.{codes, ◌&&◌, nat_le}
 use Rattle.std.specs.List.{list_all}
 use Rattle.std.specs.Fmt.{decimal}
 use Rattle.std.proofs.lemmas.Fmt.{decimal_by_steps, length-decimal-le}
 use Rattle.std.proofs.lemmas.List.Folds.{list_all-append}
 use Rattle.std.proofs.lemmas.Nat.{mod_below}
-use Rattle.std.proofs.lemmas.Bool.{and_parts, true≢false}
+use Rattle.std.proofs.lemmas.Bool.{and_from, and_parts, true≢false}
 use Rattle.std.proofs.lemmas.Bool.Decides.{nat_tests}
 use Rattle.river_base.specs.Name.{is_letter, is_digit, is_word, is_name}
 use Rattle.river_plan.specs.Forms.{Name}
@@ -16,9 +16,6 @@ use Rattle.cql_model.proofs.Numerals.{numeral_decimal}
 use Rattle.cql_build.specs.Marks.{word, name_marked, IsLowMark}
 use Rattle.cql_build.specs.declared.names.Mark.{Mark}
 use Rattle.cql_build.specs.declared.names.Mark.TheVariants.{Window, Cross, Copy, Select, Project, Stream, Output, Copies}
-
-both_true : (a b : Bool) → a ≡ true → b ≡ true → a && b ≡ true
-both_true a b h k = rw h k
 
 le_true : (a b : ℕ) → a ≤ b → nat_le a b ≡ true
 le_true a b h = grind arith
@@ -33,8 +30,8 @@ digit_goes d lt = one_digit (48 + d) (omega arith) (omega (arith, lt))
 -- the digits of a number may stand behind the first letter of a name
 decimal_goes : (n : ℕ) → n < 2 ^ 64 → list_all is_word (decimal n) ≡ true
 decimal_goes n lt = decimal_by_steps (λ k ds. list_all is_word ds ≡ true)
-    (λ k small. both_true (is_word (48 + k)) true (digit_goes k small) refl)
-    (λ k ds le e. list_all-append is_word ds ((48 + k % 10) ∷ []) ∙ both_true (list_all is_word ds) (list_all is_word ((48 + k % 10) ∷ [])) e (both_true (is_word (48 + k % 10)) true (digit_goes (k % 10) (mod_below k 10 (omega arith))) refl))
+    (λ k small. and_from (is_word (48 + k)) true (digit_goes k small) refl)
+    (λ k ds le e. list_all-append is_word ds ((48 + k % 10) ∷ []) ∙ and_from (list_all is_word ds) (list_all is_word ((48 + k % 10) ∷ [])) e (and_from (is_word (48 + k % 10)) true (digit_goes (k % 10) (mod_below k 10 (omega arith))) refl))
     n lt
 
 -- a name of at most 40 bytes with an `@` and a word of at most 23 bytes behind it
@@ -44,9 +41,9 @@ word_behind [] w h len g few = absurd (true≢false (sym h))
 word_behind (b ∷ bs) w h len g few =
     let p = and_parts (is_letter b) (list_all is_word bs && nat_le (length bs) 63) h in
     let q = and_parts (list_all is_word bs) (nat_le (length bs) 63) p.1 in
-    let all : list_all is_word (bs ++ (codes "@" ++ w)) ≡ true = list_all-append is_word bs (codes "@" ++ w) ∙ both_true (list_all is_word bs) (list_all is_word w) q.0 g in
+    let all : list_all is_word (bs ++ (codes "@" ++ w)) ≡ true = list_all-append is_word bs (codes "@" ++ w) ∙ and_from (list_all is_word bs) (list_all is_word w) q.0 g in
     let low : length (bs ++ (codes "@" ++ w)) ≤ 63 = (let a = length-append bs (codes "@" ++ w) in omega (arith, a, few, len)) in
-    both_true (is_letter b) _ p.0 (both_true (list_all is_word (bs ++ (codes "@" ++ w))) _ all (le_true (length (bs ++ (codes "@" ++ w))) 63 low))
+    and_from (is_letter b) _ p.0 (and_from (list_all is_word (bs ++ (codes "@" ++ w))) _ all (le_true (length (bs ++ (codes "@" ++ w))) 63 low))
 
 digits_few : (k : ℕ) → k < 2 ^ 64 → length (decimal k) ≤ 20
 digits_few k lt = length-decimal-le 20 k (omega arith) (omega (arith, lt)) lt
@@ -78,4 +75,4 @@ pub place_is_name : (k : ℕ) → k < 2 ^ 64 → is_name (codes "c" ++ decimal k
 unfolding is_word is_letter is_digit
 place_is_name k lt =
     let l = length-decimal-le 20 k (omega arith) (omega (arith, lt)) lt in
-    both_true (list_all is_word (decimal k)) _ (decimal_goes k lt) (le_true (length (decimal k)) 63 (omega (arith, l)))
+    and_from (list_all is_word (decimal k)) _ (decimal_goes k lt) (le_true (length (decimal k)) 63 (omega (arith, l)))

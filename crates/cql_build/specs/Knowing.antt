@@ -1,5 +1,5 @@
 -- The streams and queries that are known, by their names.
-use Rattle.std.specs.Prelude.{◌≡◌, ◌<◌, ℕ, List, Option, Some, None}
+use Rattle.std.specs.Prelude.{◌≡◌, ◌<◌, List, Option, Some, None}
 use Rattle.indexmap.specs.IndexMap.{get}
 use Rattle.river_base.specs.Name.{name_eq}
 use Rattle.river_plan.specs.Forms.{Name}

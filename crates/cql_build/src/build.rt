@@ -100,7 +100,8 @@ pub(crate) fn crosses(
     requires each { length items.now ≡ length sources.now }
     requires short { length query ≤ 40 }
     requires narrow { widths_of (scope items.now) ≤ 16 }
-    ensures grew { OnOk result (Grew raw.old raw.new [] (product_decls query (scope items.now)) (cross_ops query (w_name query 1) 2 (drop 1 (sources_of sources.now)))) }
+    ensures grew { OnOk result (Grew raw.old raw.new [] (product_decls query (scope items.now))
+        (cross_ops query (w_name query 1) 2 (drop 1 (sources_of sources.now)))) }
     ensures last { IfOk result (λ name. name ≡ cross_last query (w_name query 1) 2 (drop 1 (sources_of sources.now))) }
 {
     let mut last = marked(alloc, query, Mark::Window(1))?;
@@ -180,7 +181,8 @@ pub(crate) fn project(
     requires short { length query ≤ 40 }
     requires narrow { widths_of (scope items.now) ≤ 16 }
     requires few { columns_width (scope items.now) (columns_of columns.now) < 2 ^ 32 }
-    ensures grew { OnOk result (Grew raw.old raw.new [] (project_decls query (columns_of columns.now)) (project_ops query (scope items.now) last (columns_of columns.now))) }
+    ensures grew { OnOk result (Grew raw.old raw.new [] (project_decls query (columns_of columns.now))
+        (project_ops query (scope items.now) last (columns_of columns.now))) }
     ensures last { IfOk result (λ name. name ≡ project_last query last (columns_of columns.now)) }
 {
     match columns {

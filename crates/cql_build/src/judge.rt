@@ -88,7 +88,8 @@ impl Known {
 
     // The names of a query's columns.
     fn columns(&self, alloc: Global, query: &Query) -> Result<Names, NoMemory>
-        ensures { (ks : List Named) → Knows self.now ks → IfOk result (λ names. names ≡ column_names (scope_of ks (query_of query.now).items) (query_of query.now).columns) }
+        ensures { (ks : List Named) → Knows self.now ks
+            → IfOk result (λ names. names ≡ column_names (scope_of ks (query_of query.now).items) (query_of query.now).columns) }
     {
         let items = self.scope(alloc, query.items.as_slice())?;
         column_names(alloc, items.as_slice(), &query.columns)

@@ -1,5 +1,5 @@
 // The names that a plan makes: of a stream or query and behind it, after an `@`, what they are for.
-ghost use Rattle.std.specs.Prelude.{◌≡◌, ◌≤◌, ◌<◌, ◌^◌, ◌++◌, codes, IsTrue, IfOk, OnOk, length};
+ghost use Rattle.std.specs.Prelude.{◌≡◌, ◌≤◌, ◌<◌, ◌^◌, ◌++◌, IsTrue, IfOk, OnOk, length};
 ghost use Rattle.std.specs.Fmt.{decimal};
 ghost use Rattle.river_base.specs.Name.{is_name};
 ghost use Rattle.cql_build.specs.Marks.{word, name_marked, IsLowMark};

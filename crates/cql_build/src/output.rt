@@ -66,7 +66,8 @@ fn stream_to(
     to: Name,
 ) -> Result<(), NoMemory>
     requires { length query ≤ 40 }
-    ensures { OnOk result (Grew raw.old raw.new [] [] (op (at_word query (codes "i")) (streamer (streamer_of kind)) (last ∷ []) (to ∷ []) (at_word query (codes "i") ∷ []) ∷ [])) }
+    ensures { OnOk result (Grew raw.old raw.new [] []
+        (op (at_word query (codes "i")) (streamer (streamer_of kind)) (last ∷ []) (to ∷ []) (at_word query (codes "i") ∷ []) ∷ [])) }
 {
     let name = marked(alloc, query, Mark::Stream)?;
     let op = stream_op(alloc, name, kind, last, to)?;

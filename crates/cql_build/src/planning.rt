@@ -1,8 +1,8 @@
 // The plan of a program.
-ghost use Rattle.std.specs.Prelude.{◌≡◌, ◌≤◌, ◌++◌, [], List, Option, Some, None, false, IfOk, IfErr, OnOk, length};
+ghost use Rattle.std.specs.Prelude.{◌≡◌, ◌≤◌, ◌++◌, [], Option, Some, None, false, IfOk, IfErr, OnOk, length};
 ghost use Rattle.std.specs.List.{AllByRecursion};
 ghost use Rattle.std.specs.Option.{is_some};
-ghost use Rattle.river_plan.specs.Forms.{PlanForm, plan_form, op_forms, empty_form};
+ghost use Rattle.river_plan.specs.Forms.{plan_form, op_forms, empty_form};
 ghost use Rattle.river_plan.specs.Uses.{all_vars};
 ghost use Rattle.river_plan.specs.Valid.{FirstFault};
 ghost use Rattle.river_plan.specs.declared.fault.PlanFault as plan_fault;

@@ -113,7 +113,8 @@ fn query_on(
     requires short { length query.now.name ≤ 40 }
     requires streams { AllByRecursion IsShortName (streams_of (query_of query.now).items) }
     requires few { length uses.old.all ≤ 256 }
-    ensures grew { (ks : List Named) → scope items.now ≡ scope_of ks (query_of query.now).items → OnOk result (AddsQuery uses.old ks (query_of query.now) raw.old raw.new) }
+    ensures grew { (ks : List Named) → scope items.now ≡ scope_of ks (query_of query.now).items
+        → OnOk result (AddsQuery uses.old ks (query_of query.now) raw.old raw.new) }
     ensures used { OnOk result (Used uses.old uses.new (streams_of (query_of query.now).items)) }
 {
     let used = uses.count(query.name);

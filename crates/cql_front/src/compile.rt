@@ -1,5 +1,5 @@
 // From the text of a program to its tree and its plan.
-ghost use Rattle.std.specs.Prelude.{◌≡◌, ◌<◌, ◌^◌, length, map, List, Some, IfOk, IfErr};
+ghost use Rattle.std.specs.Prelude.{◌≡◌, ◌<◌, ◌^◌, length, List, Some, IfOk, IfErr};
 ghost use Rattle.cql_front.specs.Meaning.{accepted, of_tokens, compiled, Plans, Refused};
 ghost use Rattle.cql_model.specs.Faults.{AreSpoken, HaveShortNames, refusal_of};
 ghost use Rattle.cql_text.specs.Faults.{StandFor};

@@ -1,5 +1,5 @@
 -- Programs of which a plan can be made: what plans need of the names, the queries and the values of a program.
-use Rattle.std.specs.Prelude.{All, ℕ, suc, ◌<◌, ◌≤◌, Bool, not, nat_eq, nat_lt, ◌≡◌, List, [], ◌∷◌, length, max, Option, Some, None, IsTrue, ◌+◌}
+use Rattle.std.specs.Prelude.{All, ◌<◌, ◌≤◌, Bool, not, nat_eq, nat_lt, ◌≡◌, List, [], ◌∷◌, length, Option, Some, None, IsTrue, ◌+◌}
 use Rattle.std.specs.List.{list_all, list_any, AllByRecursion}
 use Rattle.std.specs.Option.{is_some}
 use Rattle.river_kernels.specs.Formed.{is_width, is_window}

@@ -5,7 +5,7 @@ ghost use Rattle.std.specs.Option.{SomeIff};
 ghost use Rattle.text_forms.specs.Gives.{Gives, PassesOver};
 ghost use Rattle.text_forms.specs.Tail.{tail};
 ghost use Rattle.cql_text.specs.Reading.{is_alias_at};
-ghost use Rattle.cql_text.specs.Words.{is_keyword, is_keyword_at, keyword_at, keywords, is_plain, plain_at};
+ghost use Rattle.cql_text.specs.Words.{is_keyword, is_keyword_at, keyword_at, is_plain, plain_at};
 
 use river_base::Name;
 use text_forms::{Fault, Reader, is_free};

@@ -2,7 +2,7 @@
 ghost use Rattle.std.specs.Prelude.{◌≡◌, map};
 ghost use Rattle.text_forms.specs.Gives.{Gives};
 ghost use Rattle.cql_text.specs.Grammar.{time_named};
-ghost use Rattle.cql_text.specs.Reading.{is_time_at, time_at, span_at, range_at, rows_at, window_after, window_at, in_brackets_at, alias_at, called_at, source_at, sources_at};
+ghost use Rattle.cql_text.specs.Reading.{time_at, span_at, range_at, rows_at, window_after, window_at, in_brackets_at, alias_at, called_at, source_at, sources_at};
 ghost use Rattle.cql_text.specs.Tree.{window_of, source_of};
 
 use crate::keywords::{is_at_alias, is_keyword, plain_name, takes_keyword};

@@ -1,5 +1,5 @@
 // The printed text of what a plan gave.
-ghost use Rattle.std.specs.Prelude.{◌≡◌, ◌++◌, ◌∷◌, [], true, length, map, codes, Some, IfOk, OnOk};
+ghost use Rattle.std.specs.Prelude.{◌≡◌, ◌++◌, ◌∷◌, [], true, length, map, Some, IfOk, OnOk};
 ghost use Rattle.std.specs.Fmt.{signed_decimal};
 ghost use Rattle.river_base.specs.Held.{IsAscending};
 ghost use Rattle.river_base.specs.Row.{in_order};
@@ -31,7 +31,8 @@ pub fn print_outcome(
     requires outs { length outcome.now.outs ≡ length plan.now.outputs }
     requires tables { length outcome.now.tables ≡ length plan.now.tables }
     requires counts { counts ≡ true → length outcome.now.counts ≡ length plan.now.ops }
-    ensures { IfOk result (λ all. all ≡ text.printed_outcome plan.now outcome.now.outs (map rows_of outcome.now.tables) (text.asked_counts counts outcome.now.counts)) }
+    ensures { IfOk result (λ all. all ≡ text.printed_outcome plan.now outcome.now.outs
+        (map rows_of outcome.now.tables) (text.asked_counts counts outcome.now.counts)) }
 {
     let raw = plan.raw();
     let mut all = Bytes::new(alloc);

@@ -10,6 +10,7 @@ use Rattle.river_base.specs.declared.kind.QueueType.{QueueType}
 use Rattle.river_base.specs.Held.{held, HasType, IsHeld}
 use Rattle.river_base.specs.Places.{list_at}
 use Rattle.river_base.proofs.HeldLemmas.{length-held}
+use Rattle.river_base.proofs.Options.{some_is}
 use Rattle.river_plan.specs.Forms.{Name, OpForm, PlanForm, all_decls, decl_names}
 use Rattle.river_plan.specs.Kinds.{kind_of, var_kind}
 use Rattle.river_plan.specs.Names.{one_if, count}
@@ -29,7 +30,7 @@ use Rattle.brooklet_model.proofs.BoundedMoves.{reader_of}
 use Rattle.brooklet_model.proofs.Ports.{got_below, shaped}
 use Rattle.brooklet_model.proofs.Received.{writer_of, writer_before, by_words, unwritten_by}
 use Rattle.brooklet_model.proofs.Solutions.{written_out, lists_written, lists_one}
-use Rattle.brooklet_model.proofs.Traces.{some_is, read_of, got_read, got_count, at_key_same, at_key_other, at_same}
+use Rattle.brooklet_model.proofs.Traces.{read_of, got_read, got_count, at_key_same, at_key_other, at_same}
 use Rattle.brooklet_model.proofs.TypedPlan.{op_fits, inputs_typed}
 use Rattle.brooklet_step.specs.Given.{held_at, held_by, IsHeldBy, IsHeldOf}
 use Rattle.brooklet_step.proofs.GivenLemmas.{at-nil, at-length, ran_typed, first_is_start}

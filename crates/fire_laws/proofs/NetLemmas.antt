@@ -4,6 +4,7 @@ use Rattle.std.specs.Prelude.{slice_get, min}
 use Rattle.std.proofs.lemmas.List.{take-append-drop, append-nil}
 use Rattle.river_base.specs.declared.item.Item as item
 use Rattle.river_base.specs.Places.{list_at}
+use Rattle.river_base.proofs.Options.{some_is}
 use Rattle.river_plan.specs.Forms.{Name, OpForm, PlanForm}
 use Rattle.river_plan.specs.Uses.{total, reads_it}
 use Rattle.river_plan.specs.Valid.{IsPlan}
@@ -13,7 +14,6 @@ use Rattle.brooklet_model.specs.Laws.{given_to}
 use Rattle.brooklet_model.specs.Typed.{AreInputs}
 use Rattle.brooklet_model.specs.Words.{Word, at_port}
 use Rattle.brooklet_model.proofs.Ports.{got_below}
-use Rattle.brooklet_model.proofs.Traces.{some_is}
 use Rattle.fire_tasks.specs.Fired.{SeenTask, HasFired, bad_at, ports_of}
 use Rattle.fire_laws.specs.Facts.{SettledIsNet}
 use Rattle.fire_laws.specs.Joins.{Joins, AreBeside, lists_by_name}

@@ -3,10 +3,10 @@ use Rattle.std.proofs.Common.{◌≡◌, Bool, true, false, ℕ, zero, suc, ◌+
 use Rattle.std.specs.Prelude.{All, slice_get, slice_index_or, if◌then◌else◌}
 use Rattle.std.proofs.lemmas.Bool.{cases_eq, cases_lt}
 use Rattle.std.proofs.lemmas.Option.{slice_get_within, slice_get-get_or, get_or_from_slice_get}
+use Rattle.river_base.proofs.Options.{some_is}
 use Rattle.kern_tables.specs.declared.kind.TableKind.{TableKind}
 use Rattle.river_plan.specs.declared.plan.TableDecl.{TableDecl}
 use Rattle.river_plan.specs.Forms.{PlanForm}
-use Rattle.brooklet_model.proofs.Traces.{some_is}
 use Rattle.class_locks.specs.Logs.{Holding, AreDistinct}
 use Rattle.fire_tasks.specs.Adds.{table_class}
 use Rattle.fire_open.specs.Homes.{AreByFirst, AreTableClasses, AreClassCells, IsClassCount, kinds_from, class_kinds}

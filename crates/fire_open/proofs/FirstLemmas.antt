@@ -8,6 +8,7 @@ use Rattle.river_base.specs.declared.item.Item as item
 use Rattle.river_base.specs.declared.kind.QueueType.{QueueType}
 use Rattle.river_base.specs.Places.{list_at}
 use Rattle.river_base.proofs.HeldLemmas.{held-nil}
+use Rattle.river_base.proofs.Options.{some_is}
 use Rattle.river_plan.specs.declared.plan.Decl.{Decl}
 use Rattle.river_plan.specs.ByPlace.{decl_kinds, queue_kinds, kind_at}
 use Rattle.river_plan.specs.Forms.{Name, OpForm, PlanForm, all_decls, queue_names, decl_names}
@@ -22,7 +23,7 @@ use Rattle.brooklet_model.specs.Fire.{first_kept}
 use Rattle.brooklet_model.specs.Laws.{given_to}
 use Rattle.brooklet_model.specs.Traced.{ran}
 use Rattle.brooklet_model.specs.Words.{Word}
-use Rattle.brooklet_model.proofs.Traces.{some_is, got_count, at_most}
+use Rattle.brooklet_model.proofs.Traces.{got_count, at_most}
 use Rattle.brooklet_model.proofs.TypedPlan.{op_fits}
 use Rattle.brooklet_model.specs.Fit.{Fit}
 use Rattle.brooklet_step.specs.Given.{held_at, held_by, IsHeldOf, StandsAfter}

@@ -6,6 +6,7 @@ use Rattle.std.proofs.lemmas.Bool.{cases_lt}
 use Rattle.std.proofs.lemmas.List.{map-append, length-map}
 use Rattle.std.proofs.lemmas.Option.{slice_get_within, slice_get-get_or, get_or_from_slice_get}
 use Rattle.river_base.specs.Places.{list_at}
+use Rattle.river_base.proofs.Options.{some_is}
 use Rattle.river_plan.specs.declared.plan.TableDecl.{TableDecl}
 use Rattle.river_plan.specs.Forms.{PlanForm, table_names, variable_names}
 use Rattle.river_plan.specs.Places.{place, places, var_places}
@@ -15,7 +16,7 @@ use Rattle.lock_assign.specs.Numbered.{class_numbers}
 use Rattle.lock_assign.proofs.Numbers.{are_numbers}
 use Rattle.plan_classes.specs.Users.{having, table_users}
 use Rattle.brooklet_model.specs.Histories.{tables_of}
-use Rattle.brooklet_model.proofs.Traces.{some_is, got_count}
+use Rattle.brooklet_model.proofs.Traces.{got_count}
 use Rattle.brooklet_step.specs.Tables.{table_places}
 use Rattle.brooklet_step.proofs.OpTables.{among_known, table_places_are}
 use Rattle.brooklet_step.proofs.ReadLemmas.{got_map, op_at, places_at}

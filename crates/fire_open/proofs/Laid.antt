@@ -3,11 +3,12 @@ use Rattle.std.proofs.Common.{◌≡◌, ℕ, ℤ, ◌<◌, ⊎_elim, Some, List
 use Rattle.std.specs.Prelude.{slice_get}
 use Rattle.std.proofs.lemmas.Option.{get_or_from_slice_get, slice_get_within}
 use Rattle.river_base.specs.declared.item.Item as item
+use Rattle.river_base.proofs.Options.{some_is}
 use Rattle.river_plan.specs.Forms.{OpForm, PlanForm}
 use Rattle.river_plan.specs.Uses.{reads_it, writes_it}
 use Rattle.river_plan.specs.Valid.{IsPlan}
 use Rattle.brooklet_model.proofs.Ports.{got_below}
-use Rattle.brooklet_model.proofs.Traces.{some_is, one_place, place_once, got_count, at_most}
+use Rattle.brooklet_model.proofs.Traces.{one_place, place_once, got_count, at_most}
 use Rattle.brooklet_model.specs.Bounded.{Capacities}
 use Rattle.brooklet_model.proofs.BoundedMoves.{reader_behind}
 use Rattle.fire_tasks.specs.declared.ports.Inlet as inlet

@@ -2,10 +2,11 @@
 use Rattle.std.proofs.Common.{◌≡◌, ℕ, ℤ, suc, Some, List, [], ◌∷◌, length, refl, sym, ap, ◌∙◌, arith, subst}
 use Rattle.std.specs.Prelude.{slice_get}
 use Rattle.river_base.specs.declared.item.Item as item
+use Rattle.river_base.proofs.Options.{some_is}
 use Rattle.river_plan.specs.Forms.{OpForm, PlanForm}
 use Rattle.river_plan.specs.Valid.{IsPlan}
 use Rattle.brooklet_model.proofs.Ports.{got_below}
-use Rattle.brooklet_model.proofs.Traces.{some_is, got_count}
+use Rattle.brooklet_model.proofs.Traces.{got_count}
 use Rattle.brooklet_model.specs.Fire.{first_kept}
 use Rattle.brooklet_step.specs.Given.{FitState, StandsAfter}
 use Rattle.brooklet_step.specs.Took.{IsBlank}

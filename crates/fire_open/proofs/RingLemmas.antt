@@ -4,7 +4,7 @@ use Rattle.std.specs.Prelude.{slice_get}
 use Rattle.std.proofs.lemmas.Bool.{cases_lt}
 use Rattle.std.proofs.lemmas.Option.{get_or_from_slice_get, slice_get_within}
 use Rattle.river_base.specs.Places.{list_at}
-use Rattle.brooklet_model.proofs.Traces.{some_is}
+use Rattle.river_base.proofs.Options.{some_is}
 use Rattle.fire_tasks.specs.declared.ports.Inlet as inlet
 use Rattle.fire_tasks.specs.declared.ports.Inlet.TheVariants.{Ring as TakesFrom}
 use Rattle.fire_tasks.specs.declared.ports.Outlet as outlet

@@ -1,7 +1,8 @@
 -- The queue of a link, as the code finds it.
-use Rattle.std.proofs.Common.{◌≡◌, ℕ, ◌<◌, Some, List, [], length, get_or, sym, ap, ◌∙◌, subst, arith}
+use Rattle.std.proofs.Common.{◌≡◌, ℕ, ◌<◌, Some, [], length, get_or, sym, ap, ◌∙◌, subst}
 use Rattle.std.specs.Prelude.{slice_get}
 use Rattle.std.proofs.lemmas.Option.{get_or_from_slice_get, slice_get-get_or, slice_get_within}
+use Rattle.river_base.proofs.Options.{some_is}
 use Rattle.river_plan.specs.Forms.{Name, OpForm, PlanForm, plan_form, op_form, op_forms}
 use Rattle.river_plan.specs.declared.op.Op.{Op}
 use Rattle.river_plan.specs.declared.plan.RawPlan.{RawPlan}
@@ -9,7 +10,6 @@ use Rattle.brooklet_step.proofs.NextLemmas.{op_there}
 use Rattle.brooklet_step.proofs.ReadLemmas.{got_map}
 use Rattle.fire_open.specs.Links.{IsLinkOf, link_queue, writes_in}
 use Rattle.fire_open.specs.declared.settling.Link.{Link}
-use Rattle.brooklet_model.proofs.Traces.{some_is}
 
 -- the operator at a place of the lists
 writer_at : (raw : RawPlan) (p : PlanForm) (i : ℕ) (d : Op) (op : OpForm) → plan_form raw ≡ p → slice_get p.ops i ≡ Some op → d ≡ get_or raw.ops i d

@@ -5,6 +5,7 @@ use Rattle.std.proofs.lemmas.Bool.{cases_eq, cases_lt}
 use Rattle.std.proofs.lemmas.List.{length-map, length-replicate, length-set}
 use Rattle.std.proofs.lemmas.Option.{get_or_from_slice_get, slice_get_within}
 use Rattle.river_base.specs.Places.{list_at}
+use Rattle.river_base.proofs.Options.{some_is}
 use Rattle.river_plan.specs.declared.plan.Decl.{Decl}
 use Rattle.river_plan.specs.Forms.{Name, OpForm, PlanForm, queue_names, decl_names}
 use Rattle.river_plan.specs.Names.{count}
@@ -13,7 +14,7 @@ use Rattle.river_plan.specs.Uses.{reads_it, writes_it}
 use Rattle.river_plan.specs.Valid.{IsPlan}
 use Rattle.river_plan.proofs.PlaceLemmas.{place_below, place_apart}
 use Rattle.brooklet_model.proofs.Ports.{got_below}
-use Rattle.brooklet_model.proofs.Traces.{some_is, got_count, at_most}
+use Rattle.brooklet_model.proofs.Traces.{got_count, at_most}
 use Rattle.brooklet_step.proofs.ReadLemmas.{got_map, op_at, places_at}
 use Rattle.fire_open.specs.declared.settling.Link.{Link}
 use Rattle.fire_laws.proofs.NetLemmas.{there_is}

@@ -5,12 +5,13 @@ use Rattle.std.proofs.lemmas.Option.{slice_get-get_or, slice_get_within, get_or_
 use Rattle.river_base.specs.declared.item.Item as item
 use Rattle.river_base.specs.declared.kind.QueueType.{QueueType}
 use Rattle.river_base.specs.Places.{list_at}
+use Rattle.river_base.proofs.Options.{some_is}
 use Rattle.river_plan.specs.Forms.{OpForm, PlanForm, queue_names}
 use Rattle.river_plan.specs.Places.{place, read_places}
 use Rattle.river_plan.specs.Uses.{reads_it}
 use Rattle.river_plan.specs.Valid.{IsPlan}
 use Rattle.river_plan.proofs.PlaceLemmas.{place_apart}
-use Rattle.brooklet_model.proofs.Traces.{some_is, one_place, place_once, got_count, at_most}
+use Rattle.brooklet_model.proofs.Traces.{one_place, place_once, got_count, at_most}
 use Rattle.brooklet_step.proofs.ReadLemmas.{op_at, places_at}
 use Rattle.fire_tasks.specs.declared.ports.Inlet as inlet
 use Rattle.fire_tasks.specs.declared.task.Task.{Task}

@@ -39,7 +39,18 @@ pub record TaskBody : Type 0 where
   pub count : ℕ
 
 abbrev pub body : Task → TaskBody
-body t = record { op = t.op; seen = seen_task t; kinds = t.kinds; states = t.states; pending = t.pending; out = t.out; tables = t.tables; classes = t.classes; count = t.count }
+body t =
+    record {
+      op = t.op;
+      seen = seen_task t;
+      kinds = t.kinds;
+      states = t.states;
+      pending = t.pending;
+      out = t.out;
+      tables = t.tables;
+      classes = t.classes;
+      count = t.count;
+    }
 
 -- the end is that of none of the first n links
 abbrev pub NoReader : List Link → ℕ → ℕ → ℕ → Type 0
@@ -51,7 +62,8 @@ NoWriter ls n o j = (m : ℕ) (l : Link) → m < n → slice_get ls m ≡ Some l
 -- the first n links have rings that hold so many items, which are settled; the other ends and all else are as they were
 pub record AreRung (room : Link → ℕ) (ts0 ts : List Task) (ls : List Link) (n : ℕ) : Type 0 where
   pub bodies : map body ts ≡ map body ts0
-  pub rung : (m : ℕ) (l : Link) (f : outlet.Outlet) (i : inlet.Inlet) → m < n → slice_get ls m ≡ Some l → LinkEnds ts l f i → IsLink (room l) f i × IsSettled f i
+  pub rung : (m : ℕ) (l : Link) (f : outlet.Outlet) (i : inlet.Inlet) → m < n → slice_get ls m ≡ Some l
+      → LinkEnds ts l f i → IsLink (room l) f i × IsSettled f i
   pub ins : (o port : ℕ) (t t0 : Task) → slice_get ts o ≡ Some t → slice_get ts0 o ≡ Some t0 → NoReader ls n o port
       → slice_get t.ins port ≡ slice_get t0.ins port
   pub outs : (o j : ℕ) (t t0 : Task) → slice_get ts o ≡ Some t → slice_get ts0 o ≡ Some t0 → NoWriter ls n o j → slice_get t.outs j ≡ slice_get t0.outs j

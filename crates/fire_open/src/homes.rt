@@ -125,7 +125,8 @@ fn ports_of(
     requires there { All (λ m. m < length classes.now) tables.now }
     requires own { All (λ m. (i : ℕ) × (slice_get own.now i ≡ Some (slice_index_or classes.now m 0))) tables.now }
     ensures tables { IfOk result (λ ports. map (λ h. h.table) ports ≡ tables.now) }
-    ensures places { IfOk result (λ ports. (j : ℕ) (h : _) → slice_get ports j ≡ Some h → slice_get own.now h.place ≡ Some (slice_index_or classes.now h.table 0)) }
+    ensures places { IfOk result (λ ports. (j : ℕ) (h : _) → slice_get ports j ≡ Some h
+        → slice_get own.now h.place ≡ Some (slice_index_or classes.now h.table 0)) }
 {
     let mut ports = Listed::new(alloc);
     for table in tables.as_slice() {

@@ -1,8 +1,5 @@
 // The queues between two operators.
-ghost use Rattle.std.specs.Prelude.{◌≡◌, ◌+◌, ◌++◌, ◌<◌, ℕ, None, length, replicate, IfOk, OnOk};
-ghost use Rattle.river_base.specs.Places.{list_at};
-ghost use Rattle.river_plan.specs.Forms.{queue_names};
-ghost use Rattle.river_plan.specs.Places.{read_places, write_places};
+ghost use Rattle.std.specs.Prelude.{◌≡◌, ◌+◌, ◌++◌, ◌<◌, None, length, replicate, IfOk, OnOk};
 ghost use Rattle.river_plan.specs.Valid.{IsPlan};
 ghost use Rattle.fire_open.specs.Links.{AreLinks};
 ghost use Rattle.fire_open.specs.Sources.{KnowWriters, LinkReaders};

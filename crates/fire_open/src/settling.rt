@@ -42,7 +42,8 @@ pub fn settle_one(tasks: &mut Listed<Task>, link: Link)
     requires out { (d : _) → link.out < length (slice_index_or tasks.old link.writer d).outs }
     requires port { (d : _) → link.port < length (slice_index_or tasks.old link.reader d).ins }
     requires pair { (t t' : _) (f : _) (i : _)
-        → IsPair (slice_index_or (slice_index_or tasks.old link.writer t).outs link.out f) (slice_index_or (slice_index_or tasks.old link.reader t').ins link.port i) }
+        → IsPair (slice_index_or (slice_index_or tasks.old link.writer t).outs link.out f)
+        (slice_index_or (slice_index_or tasks.old link.reader t').ins link.port i) }
     ensures { Met tasks.old tasks.new link }
 {
     let (before, after) = tasks.as_mut_slice().split_at_mut(link.reader);

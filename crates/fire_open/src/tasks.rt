@@ -1,5 +1,5 @@
 // The tasks of a net, before anything moves.
-ghost use Rattle.std.specs.Prelude.{◌≡◌, ◌<◌, ℕ, [], Some, length, map, replicate, All, AllPairs, IfOk, OnOk, slice_get, slice_set};
+ghost use Rattle.std.specs.Prelude.{◌≡◌, ◌<◌, [], length, map, replicate, All, AllPairs, IfOk, OnOk, slice_set};
 ghost use Rattle.river_plan.specs.ByPlace.{kind_at};
 ghost use Rattle.river_plan.specs.Forms.{queue_names};
 ghost use Rattle.river_plan.specs.Places.{read_places};
@@ -7,7 +7,7 @@ ghost use Rattle.river_plan.specs.Valid.{IsPlan};
 ghost use Rattle.river_base.specs.Places.{list_at};
 ghost use Rattle.brooklet_model.specs.Fit.{Fit};
 ghost use Rattle.fire_tasks.specs.declared.ports.Outlet.TheVariants.{Kept as Stored};
-ghost use Rattle.fire_open.specs.First.{whole_list, IsFirstTask, AreFirstTasks, HasLeft, AreUnread};
+ghost use Rattle.fire_open.specs.First.{whole_list, IsFirstTask, AreFirstTasks, HasLeft};
 ghost use Rattle.fire_open.specs.Fresh.{AreFresh};
 ghost use Rattle.fire_open.specs.Homes.{AreTableClasses};
 

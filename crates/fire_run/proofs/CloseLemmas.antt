@@ -6,6 +6,7 @@ use Rattle.std.proofs.lemmas.Option.{slice_get_within}
 use Rattle.river_base.specs.Bags.{SameBag}
 use Rattle.river_base.specs.Places.{list_at}
 use Rattle.river_base.specs.declared.item.Item as item
+use Rattle.river_base.proofs.Options.{some_is}
 use Rattle.kern_tables.specs.Kept.{kept_of, rows_of}
 use Rattle.kern_tables.proofs.Tabs.{kept_of_bag}
 use Rattle.river_plan.specs.declared.plan.TableDecl.{TableDecl}
@@ -13,7 +14,6 @@ use Rattle.river_plan.specs.Forms.{PlanForm}
 use Rattle.river_plan.specs.Valid.{IsPlan}
 use Rattle.brooklet_model.specs.Bounded.{Capacities}
 use Rattle.brooklet_model.specs.Histories.{hist, given_on, all_adds}
-use Rattle.brooklet_model.proofs.Traces.{some_is}
 use Rattle.brooklet_step.specs.Tables.{defined_tables, kept_tables}
 use Rattle.brooklet_step.proofs.KeptTables.{defined_rows}
 use Rattle.class_locks.specs.declared.log.LogEntry.{LogEntry}

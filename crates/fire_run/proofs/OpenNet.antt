@@ -11,7 +11,7 @@ use Rattle.fire_laws.specs.Layout.{IsLink}
 use Rattle.river_plan.specs.Uses.{total, reads_it, writes_it}
 use Rattle.river_plan.specs.Valid.{IsPlan}
 use Rattle.brooklet_model.specs.Typed.{AreInputs}
-use Rattle.brooklet_model.proofs.Traces.{some_is, got_count, at_most}
+use Rattle.brooklet_model.proofs.Traces.{got_count, at_most}
 use Rattle.fire_open.specs.declared.settling.Link.{Link}
 use Rattle.fire_tasks.specs.declared.task.Task.{Task}
 use Rattle.fire_open.specs.Fresh.{AreFresh}
@@ -19,6 +19,7 @@ use Rattle.fire_open.specs.Links.{AreLinks, room_of}
 use Rattle.fire_open.specs.Rings.{TaskBody, body, NoReader, NoWriter, AreRung}
 use Rattle.fire_open.proofs.Lists.{same_got, map_long}
 use Rattle.std.proofs.lemmas.List.Elements.{All-nil, All-head, All-tail}
+use Rattle.river_base.proofs.Options.{some_is}
 use Rattle.class_locks.specs.Logs.{Holding}
 use Rattle.fire_tasks.specs.Adds.{IsEntryOf, added, logs_of, rows_by, table_at, table_class}
 use Rattle.fire_open.specs.Homes.{AreClassCells}

@@ -7,6 +7,7 @@ use Rattle.std.proofs.lemmas.List.{length-map, length-replicate, length-set, get
 use Rattle.std.proofs.lemmas.Option.{get_or_from_slice_get, slice_get-get_or, slice_get_within}
 use Rattle.river_base.specs.declared.item.Item as item
 use Rattle.river_base.specs.Places.{list_at}
+use Rattle.river_base.proofs.Options.{some_is}
 use Rattle.river_plan.specs.declared.plan.Decl.{Decl}
 use Rattle.river_plan.specs.Forms.{Name, OpForm, PlanForm, queue_names, decl_names}
 use Rattle.river_plan.specs.Names.{count}
@@ -22,7 +23,7 @@ use Rattle.brooklet_model.proofs.Complete.{nothing_given}
 use Rattle.brooklet_model.proofs.Ports.{got_below}
 use Rattle.brooklet_model.proofs.Received.{writer_of}
 use Rattle.brooklet_model.proofs.Solutions.{stays}
-use Rattle.brooklet_model.proofs.Traces.{some_is, got_count, at_most}
+use Rattle.brooklet_model.proofs.Traces.{got_count, at_most}
 use Rattle.brooklet_step.proofs.Edges.{output_held}
 use Rattle.brooklet_step.proofs.QueuePlaces.{place_is}
 use Rattle.brooklet_step.proofs.ReadLemmas.{got_map, op_at, places_at}

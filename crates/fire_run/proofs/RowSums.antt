@@ -8,6 +8,7 @@ use Rattle.std.proofs.lemmas.List.{append-nil}
 use Rattle.std.proofs.lemmas.Option.{get_or_from_slice_get, slice_get_within}
 use Rattle.river_base.specs.Bags.{SameBag}
 use Rattle.river_base.specs.declared.item.Item as item
+use Rattle.river_base.proofs.Options.{some_is}
 use Rattle.river_plan.specs.declared.plan.TableDecl.{TableDecl}
 use Rattle.river_plan.specs.Forms.{Name, OpForm, PlanForm, table_names}
 use Rattle.river_plan.specs.Names.{count, one_if}
@@ -20,7 +21,7 @@ use Rattle.brooklet_model.specs.Fire.{tabs}
 use Rattle.brooklet_model.specs.Histories.{given_on, hist, joined, own_adds, all_adds, tables_of}
 use Rattle.brooklet_model.proofs.Lists.{if_lt, if_ge}
 use Rattle.brooklet_model.proofs.Swaps.{bag_append, count_by-append}
-use Rattle.brooklet_model.proofs.Traces.{some_is, got_count, each_at, joined_out}
+use Rattle.brooklet_model.proofs.Traces.{got_count, each_at, joined_out}
 use Rattle.brooklet_step.proofs.NextLemmas.{got_place}
 use Rattle.brooklet_step.proofs.OpTables.{among_known, mine_many}
 use Rattle.brooklet_step.proofs.QueuePlaces.{place_is}

@@ -5,11 +5,11 @@ use Rattle.std.proofs.lemmas.Bool.{cases_eq}
 use Rattle.std.proofs.lemmas.List.{append-nil, length-map, length-set, map-append, take_all}
 use Rattle.std.proofs.lemmas.Option.{get_or_from_slice_get, slice_get_within}
 use Rattle.river_base.specs.Places.{list_at}
+use Rattle.river_base.proofs.Options.{some_is}
 use Rattle.kern_tables.specs.declared.kind.TableKind.{TableKind}
 use Rattle.kern_tables.specs.declared.kept.Kept.{Kept}
 use Rattle.river_plan.specs.declared.plan.TableDecl.{TableDecl}
 use Rattle.river_plan.specs.Forms.{PlanForm}
-use Rattle.brooklet_model.proofs.Traces.{some_is}
 use Rattle.brooklet_step.proofs.ReadLemmas.{got_map}
 use Rattle.class_locks.specs.declared.log.LogEntry.{LogEntry}
 use Rattle.class_locks.specs.Logs.{Holding, replay}

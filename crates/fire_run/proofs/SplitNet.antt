@@ -6,11 +6,11 @@ use Rattle.std.proofs.lemmas.List.Elements.{All-nil}
 use mathlib.Core.Option.{some}
 use lib.ListN.{get_elem?}
 use Rattle.river_base.specs.declared.item.Item as item
+use Rattle.river_base.proofs.Options.{some_is}
 use Rattle.river_kernels.specs.declared.limit.Limit.TheVariants.{Variables}
 use Rattle.river_plan.specs.Forms.{PlanForm}
 use Rattle.river_plan.specs.Valid.{IsPlan}
 use Rattle.brooklet_model.specs.Bounded.{Capacities}
-use Rattle.brooklet_model.proofs.Traces.{some_is}
 use Rattle.class_locks.specs.declared.view.Claim.{Claim}
 use Rattle.class_locks.specs.declared.view.View.{View}
 use Rattle.class_locks.specs.Logs.{Holding}

@@ -1,8 +1,8 @@
 // The rows of a firing go to the cells of a net.
-ghost use Rattle.std.specs.Prelude.{◌≡◌, ◌<◌, ℕ, [], Some, OnOk, length, replicate, slice_get, slice_index_or};
+ghost use Rattle.std.specs.Prelude.{◌≡◌, ◌<◌, [], OnOk, length, replicate, slice_index_or};
 ghost use Rattle.river_base.specs.Places.{list_at};
 ghost use Rattle.class_locks.specs.Logs.{Holding, TakesRows};
-ghost use Rattle.fire_tasks.specs.Turns.{logged, entries_for};
+ghost use Rattle.fire_tasks.specs.Turns.{logged};
 ghost use Rattle.fire_run.specs.Cells.{cells_grown};
 ghost use Rattle.fire_run.specs.Rows.{CanAddTo, cells_with_rows};
 

@@ -1,5 +1,5 @@
 // The bundles of a frame come together again.
-ghost use Rattle.std.specs.Prelude.{◌≡◌, ◌<◌, ℕ, All, length};
+ghost use Rattle.std.specs.Prelude.{◌≡◌, ◌<◌, All, length};
 ghost use Rattle.river_plan.specs.Forms.{PlanForm};
 ghost use Rattle.fire_tasks.specs.Tasks.{all_ends, all_moves};
 ghost use Rattle.fire_run.specs.Frames.{AreBundlesOf, AreSeatedIn, AreTasksOf, HaveGrownBy, bundle_moves};

@@ -1,10 +1,10 @@
 // The tables and the logs of the cells of a net.
-ghost use Rattle.std.specs.Prelude.{◌≡◌, ◌≢◌, ◌∷◌, ◌++◌, ◌<◌, ℕ, [], length, map, slice_index_or, IfOk, OnOk};
+ghost use Rattle.std.specs.Prelude.{◌≡◌, ◌≢◌, ◌∷◌, ◌++◌, ◌<◌, ℕ, [], length, map, slice_index_or, IfOk};
 ghost use Rattle.river_plan.specs.Valid.{IsPlan};
 ghost use Rattle.class_locks.specs.Logs.{replay};
 ghost use Rattle.fire_tasks.specs.Adds.{logs_of, table_class};
 ghost use Rattle.fire_open.specs.Homes.{AreClassCells};
-ghost use Rattle.fire_run.specs.Closed.{AreSorted, ArePlaced, log_at, tables_at};
+ghost use Rattle.fire_run.specs.Closed.{AreSorted, ArePlaced, tables_at};
 
 use crate::closing::Logs;
 use brooklet_step::{Tables, first_tables};
@@ -52,7 +52,8 @@ fn place_all(decls: &TableDecls, classes: &Places, lists: &mut TableLists, table
     requires many { length tables.old ≡ length decls.now }
     requires classes { length classes.now ≡ length decls.now }
     requires sorted { (logs : _) × AreSorted (λ n. slice_index_or classes.now n 0) logs decls.now lists.old }
-    ensures { (logs : _) → AreSorted (λ n. slice_index_or classes.now n 0) logs decls.now lists.old → ArePlaced (λ n. slice_index_or classes.now n 0) logs 0 decls.now tables.new }
+    ensures { (logs : _) → AreSorted (λ n. slice_index_or classes.now n 0) logs decls.now lists.old
+        → ArePlaced (λ n. slice_index_or classes.now n 0) logs 0 decls.now tables.new }
 {
     let count = decls.len();
     for back in 0..count {
@@ -71,7 +72,8 @@ fn in_order(
 ) -> Result<Tables, NoMemory>
     requires decls { decls.now ≡ plan.now.tables }
     requires sorted { (logs : _) × AreSorted (table_class plan.now) logs plan.now.tables lists.old }
-    ensures { (logs : _) → AreSorted (table_class plan.now) logs plan.now.tables lists.old → IfOk result (ArePlaced (table_class plan.now) logs 0 plan.now.tables) }
+    ensures { (logs : _) → AreSorted (table_class plan.now) logs plan.now.tables lists.old
+        → IfOk result (ArePlaced (table_class plan.now) logs 0 plan.now.tables) }
 {
     let classes = table_classes(alloc, plan)?;
     let mut tables = first_tables(alloc, decls)?;

@@ -1,9 +1,8 @@
 // A net is split.
-ghost use Rattle.std.specs.Prelude.{◌≡◌, ◌<◌, ◌≤◌, [], ℕ, length, IfOk, IfErr, OnOk};
+ghost use Rattle.std.specs.Prelude.{◌≡◌, ◌<◌, ◌≤◌, [], length, IfOk, IfErr, OnOk};
 ghost use mathlib.Core.List.{reverse};
 ghost use Rattle.river_plan.specs.Forms.{PlanForm};
 ghost use Rattle.river_plan.specs.Valid.{IsPlan};
-ghost use Rattle.class_locks.specs.Seats.{Chair};
 ghost use Rattle.fire_tasks.specs.Tasks.{all_moves};
 ghost use Rattle.fire_run.specs.Frames.{AreBundlesOf, AreDealt, GivesBack, bundle_moves, tasks_of_part};
 ghost use Rattle.fire_run.specs.NetOf.{HasNet};

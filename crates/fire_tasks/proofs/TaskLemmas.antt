@@ -9,6 +9,7 @@ use Rattle.std.proofs.lemmas.Option.{slice_get_within}
 use Rattle.river_base.specs.declared.item.Item as item
 use Rattle.river_base.specs.Places.{list_at, append_at, each_grew}
 use Rattle.river_base.proofs.PlaceLemmas.{each_grew-blanks, length-each_grew}
+use Rattle.river_base.proofs.Options.{some_is}
 use Rattle.kern_tables.specs.Tables.{table_width}
 use Rattle.river_plan.specs.declared.plan.TableDecl.{TableDecl}
 use Rattle.river_plan.specs.Forms.{PlanForm, OpForm, all_decls, table_names}
@@ -25,7 +26,7 @@ use Rattle.brooklet_model.proofs.Free.{at_port-append, below-append}
 use Rattle.brooklet_model.proofs.Lists.{if_eq, if_ne}
 use Rattle.brooklet_model.proofs.Ports.{counts, shaped}
 use Rattle.brooklet_model.proofs.Swaps.{at_port_here, at_port_past}
-use Rattle.brooklet_model.proofs.Traces.{some_is, got_count}
+use Rattle.brooklet_model.proofs.Traces.{got_count}
 use Rattle.brooklet_model.proofs.TypedPlan.{op_fits}
 use Rattle.brooklet_step.specs.declared.emit.Emit.{Emit}
 use Rattle.brooklet_step.specs.declared.emit.Spare.{Spare}

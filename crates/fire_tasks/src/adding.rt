@@ -1,5 +1,5 @@
 // The rows of a firing go to the cells of their tables.
-ghost use Rattle.std.specs.Prelude.{◌≡◌, ◌<◌, ◌++◌, [], length, map, replicate, Some, OnOk, OnErr, slice_get, slice_set};
+ghost use Rattle.std.specs.Prelude.{◌≡◌, ◌<◌, ◌++◌, [], length, replicate, Some, OnOk, OnErr, slice_get, slice_set};
 ghost use Rattle.std.specs.List.Sorted.{IsStrictlyIncreasing};
 ghost use Rattle.river_base.specs.Places.{list_at};
 ghost use Rattle.class_locks.specs.Logs.{TakesRows};
@@ -60,7 +60,8 @@ fn add_at(
 fn put_entry(op: u32, to: TablePort, rows: Rows, pile: &mut Pile) -> Result<(), NoMemory>
     requires some { rows ≡ [] → ⊥ }
     requires takes { (x : Piled) × (slice_get pile.old.items to.place ≡ Some x) × TakesRows x.1.kinds to.table rows }
-    ensures ok { (x : Piled) → slice_get pile.old.items to.place ≡ Some x → OnOk result (pile.new.items ≡ slice_set pile.old.items to.place (cell_with_rows op to.table rows x)) }
+    ensures ok { (x : Piled) → slice_get pile.old.items to.place ≡ Some x
+        → OnOk result (pile.new.items ≡ slice_set pile.old.items to.place (cell_with_rows op to.table rows x)) }
     ensures err { OnErr result (pile.new.items ≡ pile.old.items) }
 {
     let at = &mut pile[to.place];

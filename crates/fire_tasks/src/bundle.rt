@@ -1,9 +1,9 @@
 // The tasks of one worker, at their seat.
-ghost use Rattle.std.specs.Prelude.{◌≡◌, ◌<◌, ◌↔◌, ℕ, [], length, IfOk, OnOk, OnErr, IsTrue, IsFalse, true, false};
-ghost use Rattle.river_plan.specs.Forms.{PlanForm, plan_form};
+ghost use Rattle.std.specs.Prelude.{◌≡◌, ◌<◌, ◌↔◌, [], IfOk, OnOk, OnErr, IsTrue, IsFalse, true, false};
+ghost use Rattle.river_plan.specs.Forms.{plan_form};
 ghost use Rattle.river_plan.specs.Valid.{IsPlan};
 ghost use Rattle.fire_tasks.specs.Bundles.{IsBundle, AreTasksAt, AreStuck, AllDone, AllLooked, SameSeat, HasGone, HasSwept, HaveLooked};
-ghost use Rattle.fire_tasks.specs.Tasks.{IsDone, HaveFewPorts, all_ends};
+ghost use Rattle.fire_tasks.specs.Tasks.{IsDone};
 ghost use Rattle.fire_tasks.specs.Turns.{StillSits, LooksSame};
 
 use crate::Task;

@@ -2,7 +2,7 @@
 ghost use Rattle.std.specs.Prelude.{◌≡◌, ◌<◌, ◌^◌, None, [], length, slice_index_or, IsTrue, IsFalse, ◌↔◌, IfOk};
 ghost use Rattle.river_plan.specs.Forms.{plan_form};
 ghost use Rattle.river_plan.specs.Valid.{IsPlan};
-ghost use Rattle.fire_tasks.specs.Ports.{IsIdle, RefusedAll, Sent, SentAt, AllReceived, known_of};
+ghost use Rattle.fire_tasks.specs.Ports.{IsIdle, RefusedAll, Sent, SentAt, known_of};
 ghost use Rattle.fire_tasks.specs.Tasks.{IsTaskAt};
 ghost use Rattle.fire_tasks.specs.Turns.{IsSeatOf, HasTurned, HasTried, StillSits};
 

@@ -1,7 +1,7 @@
 // The ends of an operator's queues.
 ghost use Rattle.std.specs.Prelude.{◌≡◌, ◌+◌, ◌<◌, ◌≤◌, ℕ, [], ◌∷◌, ◌++◌, length, take, IsTrue, IsFalse, IfOk, OnErr, IsNone, slice_index_or, MatchOption};
 ghost use Rattle.river_base.specs.Places.{append_at, list_at};
-ghost use Rattle.fire_tasks.specs.Ports.{received_of, known_of, in_end, in_ends, sent_of, sent_count, IsFull, HasRoom, out_end, out_ends, received_in, SentAt};
+ghost use Rattle.fire_tasks.specs.Ports.{received_of, known_of, in_end, in_ends, sent_of, sent_count, IsFull, HasRoom, out_end, received_in, SentAt};
 
 use kern_rows::Line;
 use river_base::{Item, Items, Listed, NoMemory};

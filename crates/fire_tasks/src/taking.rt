@@ -1,5 +1,5 @@
 // Taking an item, and firing on it.
-ghost use Rattle.std.specs.Prelude.{◌≡◌, ◌+◌, ◌<◌, min, ℕ, ℤ, List, [], ◌++◌, length, map, IfOk, OnOk, IfSome, IfNone, slice_index_or, None};
+ghost use Rattle.std.specs.Prelude.{◌≡◌, ◌+◌, ◌<◌, min, ℕ, ℤ, List, ◌++◌, length, map, IfOk, OnOk, IfSome, IfNone, slice_index_or, None};
 ghost use mathlib.Core.List.{reverse};
 ghost use Rattle.brooklet_model.specs.Histories.{most_firings};
 ghost use Rattle.river_plan.specs.Forms.{plan_form};

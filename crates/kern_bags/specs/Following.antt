@@ -168,7 +168,8 @@ pub record StandsForCrossing (kept : CrossKept) (m : Crossing) : Type 0 where
 -- as long as both ports had a change, pairs passed: whatever contents the changes stand for, the changes of the products came, and
 -- what is kept stands for what is left
 pub record Crosses (old new : CrossKept) (out out' : List Change) : Type 0 where
-  pub each : (m : Crossing) → StandsForCrossing old m → (out' ≡ out ++ changes (product m.lefts m.rights) (passed_pairs m).0) × StandsForCrossing new (passed_pairs m).1
+  pub each : (m : Crossing) → StandsForCrossing old m
+      → (out' ≡ out ++ changes (product m.lefts m.rights) (passed_pairs m).0) × StandsForCrossing new (passed_pairs m).1
 
 -- a change comes to a port, the first or the second
 abbrev pub put_change : ℕ → Change → CrossKept → CrossKept

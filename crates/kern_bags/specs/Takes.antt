@@ -84,4 +84,5 @@ pub record JoinsChanges (c d : Change) (old new : CrossKept) (out out' : List Ch
   pub right : new.right ≡ old.right
   pub lefts : counted.Changed c old.lefts new.lefts
   pub rights : counted.Changed d old.rights new.rights
-  pub gave : out' ≡ out ++ cancelled c.at (all_pairs c.plus old.rights ++ all_pairs new.lefts d.plus) (all_pairs c.minus old.rights ++ all_pairs new.lefts d.minus) ∷ []
+  pub gave : out' ≡ out ++ cancelled c.at (all_pairs c.plus old.rights ++ all_pairs new.lefts d.plus)
+      (all_pairs c.minus old.rights ++ all_pairs new.lefts d.minus) ∷ []

@@ -28,7 +28,12 @@ owing_more plus minus d = record { plus = d.plus ++ plus; minus = d.minus ++ min
 
 -- rows that came and went are left out
 abbrev pub netted : Debt → Debt
-netted d = record { plus = difference d.plus d.minus; minus = difference d.minus d.plus; left = length (difference d.plus d.minus) + length (difference d.minus d.plus) }
+netted d =
+    record {
+      plus = difference d.plus d.minus;
+      minus = difference d.minus d.plus;
+      left = length (difference d.plus d.minus) + length (difference d.minus d.plus);
+    }
 
 -- they are, once there are more than twice as many rows as were left the last time
 abbrev pub tidied : Debt → Debt

@@ -1,5 +1,5 @@
 // What the lists of a splitter or a joiner owe.
-ghost use Rattle.std.specs.Prelude.{◌≡◌, ◌<◌, ◌+◌, ◌++◌, [], length, map, set, IfOk, OnOk};
+ghost use Rattle.std.specs.Prelude.{◌≡◌, ◌<◌, ◌+◌, ◌++◌, length, map, set, IfOk, OnOk};
 ghost use Rattle.river_base.specs.Changes.{cancelled};
 ghost use Rattle.kern_changes.specs.Owed.{no_debt, debt_at, owing_more, netted, owing, owed_start, DealsOwed, JoinsOwed, KeepsOwed};
 

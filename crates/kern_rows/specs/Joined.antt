@@ -153,7 +153,8 @@ pub record FlatJoined (port : ℕ) (last : List (List ℤ)) (now : ℕ → List 
   pub gave : given ≡ held_flat last f
 
 -- the same of the items of a pack
-pub record FlatsJoined (port : ℕ) (last : List (List ℤ)) (now : ℕ → List (List ℤ)) (fs : List flat.Flat) (s : List Debt) (out out' : List item.Item) : Type 0 where
+pub record FlatsJoined (port : ℕ) (last : List (List ℤ)) (now : ℕ → List (List ℤ)) (fs : List flat.Flat)
+    (s : List Debt) (out out' : List item.Item) : Type 0 where
   pub next : ℕ → List (List ℤ)
   pub here : next port ≡ after_flats (now port) fs
   pub others : (q : ℕ) → port ≢ q → next q ≡ now q

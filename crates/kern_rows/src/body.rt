@@ -1,8 +1,7 @@
 // Runs of bodies whose first slots are kept.
-ghost use Rattle.std.specs.Prelude.{◌≡◌, ◌-◌, ◌≤◌, ◌++◌, length, replicate, pos, OnOk, OnErr};
+ghost use Rattle.std.specs.Prelude.{◌≡◌, ◌-◌, ◌≤◌, ◌++◌, length, OnOk, OnErr};
 ghost use Rattle.river_base.specs.Grew.{GrewByPrefix};
 ghost use Rattle.work_code.specs.Steps.{code_body};
-ghost use Rattle.work_code.specs.Ran.{IsBodyWithin};
 ghost use Rattle.kern_rows.specs.Needs.{CanRun};
 ghost use Rattle.kern_rows.specs.Runs.{slots_from, run_kept as kept_run};
 

@@ -1,5 +1,5 @@
 // What a filter does with a value.
-ghost use Rattle.std.specs.Prelude.{◌≡◌, ◌≤◌, [], ◌++◌, length, take, IfOk, OnOk, OnErr};
+ghost use Rattle.std.specs.Prelude.{◌≡◌, ◌≤◌, ◌++◌, length, take, IfOk, OnOk, OnErr};
 ghost use Rattle.river_base.specs.Grew.{GrewByPrefix};
 ghost use Rattle.work_code.specs.Steps.{code_body};
 ghost use Rattle.kern_rows.specs.Forms.{filter_form};
@@ -61,7 +61,8 @@ fn run_body(
     requires takes { pop ≤ peek }
     ensures ran { OnOk result (RunIs peek pop (code_body code.now) state.old state.new out.old out.new) }
     ensures shape { OnOk result (length state.new.kept ≡ length state.old.kept) }
-    ensures err { OnErr result (GrewByPrefix out.old (first_values (kept_run (code_body code.now) state.old.kept (take peek state.old.buffer)).pushes) out.new) }
+    ensures err { OnErr result (GrewByPrefix out.old
+        (first_values (kept_run (code_body code.now) state.old.kept (take peek state.old.buffer)).pushes) out.new) }
 {
     state.pushes.truncate(0);
     let input = state.buffer.first(peek as usize);
@@ -75,7 +76,8 @@ fn run_body(
 impl Filter {
     /// The state before the first value.
     pub fn start(&self, alloc: Global) -> Result<FilterState, NoMemory>
-        ensures stands { IfOk result (λ state. CanFilter (filter_form self.now) → StandsForFiltering (filter_form self.now) state (filter_start (filter_form self.now))) }
+        ensures stands { IfOk result (λ state. CanFilter (filter_form self.now)
+            → StandsForFiltering (filter_form self.now) state (filter_start (filter_form self.now))) }
         ensures shape { IfOk result (λ state. length state.kept ≡ length (filter_form self.now).starts) }
     {
         Ok(FilterState {

@@ -1,7 +1,6 @@
 // Items in a line.
 ghost use Rattle.std.specs.Prelude.{◌≡◌, ◌↔◌, ◌<◌, [], ◌∷◌, ◌++◌, length, take, slice_index_or, IsTrue, IfOk, OnOk, OnErr, MatchOption};
 ghost use Rattle.river_base.specs.declared.item.Flat.TheVariants.{One};
-ghost use Rattle.river_base.specs.declared.item.Item.TheVariants.{Flat as FlatItem};
 ghost use Rattle.kern_rows.specs.Even.{row_items};
 
 use crate::even::EvenRows;

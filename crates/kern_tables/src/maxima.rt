@@ -1,5 +1,5 @@
 // The best for each key.
-ghost use Rattle.std.specs.Prelude.{◌≡◌, ◌≤◌, ◌<◌, ◌+◌, ◌++◌, map, pos, [], length, IfOk, OnOk, OnErr};
+ghost use Rattle.std.specs.Prelude.{◌≡◌, ◌≤◌, ◌<◌, ◌+◌, ◌++◌, map, [], length, IfOk, OnOk, OnErr};
 ghost use Rattle.river_base.specs.Keyed.{put};
 ghost use Rattle.river_base.specs.Row.{row_cmp};
 ghost use Rattle.kern_tables.specs.Tables.{ranked_row};

@@ -1,5 +1,5 @@
 // When bodies and expressions are well formed.
-ghost use Rattle.std.specs.Prelude.{◌≡◌, ◌&&◌, nat_le, nat_eq};
+ghost use Rattle.std.specs.Prelude.{◌≡◌, ◌&&◌, nat_le};
 ghost use Rattle.std.specs.List.{list_all};
 ghost use Rattle.work_code.specs.Term.{term, terms, depth_of};
 ghost use Rattle.work_code.specs.Steps.{step, steps};

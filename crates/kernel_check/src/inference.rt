@@ -1,13 +1,12 @@
 // The types of what a kernel writes, from the types of what it reads.
-ghost use Rattle.std.specs.Prelude.{◌≡◌, ◌<◌, IfOk, OnOk, IsTrue, ◌↔◌, Option, Some, None, length, List, [], ◌∷◌, ◌++◌, ◌+◌, ◌&&◌, replicate, nat_eq, nat_le, slice_get};
-ghost use Rattle.std.specs.List.{list_all};
+ghost use Rattle.std.specs.Prelude.{◌≡◌, ◌<◌, IfOk, OnOk, ◌↔◌, Option, Some, None, length, [], ◌∷◌, ◌++◌, ◌+◌, ◌&&◌, nat_eq};
 ghost use Rattle.work_code.specs.Term.{term, terms};
 ghost use Rattle.kern_rows.specs.Forms.{code_form, filter_form};
-ghost use Rattle.river_kernels.specs.Formed.{is_width, is_term, is_code, is_filter, are_weights, is_window};
-ghost use Rattle.river_kernels.specs.Kern.{kern_of, code, filter, duplicate, deal, collect, packed, unpack, window, select, project, cross, streamer, tally, fused};
-ghost use Rattle.river_kernels.specs.Fits.{rows, stream, relation, width_of, is_sized, is_bag, ports, are_widths, kept, spliced};
+ghost use Rattle.river_kernels.specs.Formed.{is_width, is_code};
+ghost use Rattle.river_kernels.specs.Kern.{code, filter, duplicate, deal, collect, unpack, window, select, project, cross, streamer, tally};
+ghost use Rattle.river_kernels.specs.Fits.{is_bag, ports, are_widths, kept, spliced};
 ghost use Rattle.river_kernels.specs.Types.{given_if, only_type, rows_width, stream_width, relation_width, all_flat, all_packs};
-ghost use Rattle.river_kernels.specs.Types.{two_relations, types_of, packed_of, packed_outs, joined_types, MayAnswer, same_type};
+ghost use Rattle.river_kernels.specs.Types.{two_relations, types_of, packed_outs, MayAnswer};
 ghost use Rattle.river_kernels.specs.declared.types.VarKind.TheVariants.{Private, Table};
 
 use crate::formed::{

@@ -1,10 +1,9 @@
 // The types of ports, compared and made.
-ghost use Rattle.std.specs.Prelude.{◌≡◌, IfOk, IsTrue, ◌↔◌, Some, length, List, [], ◌∷◌, ◌++◌, replicate, map, OnOk};
+ghost use Rattle.std.specs.Prelude.{◌≡◌, IfOk, IsTrue, ◌↔◌, ◌∷◌, ◌++◌, replicate};
 ghost use Rattle.std.specs.List.{list_all};
 ghost use Rattle.river_base.specs.Number.{count_of};
 ghost use Rattle.river_kernels.specs.Formed.{is_width};
-ghost use Rattle.river_kernels.specs.Kern.{kern_of};
-ghost use Rattle.river_kernels.specs.Fits.{Fits, rows, width_of, is_sized, are_widths, ports, kept, spliced};
+ghost use Rattle.river_kernels.specs.Fits.{rows, width_of, is_sized, are_widths, ports};
 ghost use Rattle.river_kernels.specs.Types.{same_flat, same_type};
 
 use crate::formed::{count, is_row_width};

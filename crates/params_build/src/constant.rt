@@ -1,7 +1,7 @@
 // Constants judged: whether their names are known.
 ghost use Rattle.std.specs.Prelude.{◌≡◌};
 ghost use Rattle.text_blocks.specs.Parts.{optional};
-ghost use Rattle.streamit_text.specs.Tree.{expression, option_expression};
+ghost use Rattle.streamit_text.specs.Tree.{expression};
 ghost use Rattle.params_text.specs.Program.{expressions, rounds_of};
 ghost use Rattle.params_model.specs.Judged.{are_known, all_known, known_option, all_known_option};
 

@@ -4,7 +4,7 @@ ghost use Rattle.std.specs.Prelude.{◌≡◌, ℕ, not, ◌&&◌};
 ghost use Rattle.text_blocks.specs.Parts.{optional};
 ghost use Rattle.streamit_text.specs.Tree.{expression, statement, block, optional_block};
 ghost use Rattle.params_text.specs.Program.{work_of, filter_of};
-ghost use Rattle.params_model.specs.Judged.{judged_then, known_option, other_names, statement_judged, block_judged, optional_judged, rates_judged, work_judged, prework_judged};
+ghost use Rattle.params_model.specs.Judged.{judged_then, known_option, other_names, statement_judged, block_judged, optional_judged, work_judged, prework_judged};
 ghost use Rattle.params_model.specs.Judged.{filter_judged};
 ghost use Rattle.params_text.specs.Params.{is_one_of};
 ghost use Rattle.params_model.specs.Making.{NameTwice, demand};
@@ -124,7 +124,8 @@ fn prework(params: &[Name], prework: &Option<ParamWork>) -> Result<(), Fault>
 
 // `prework`, which may be left out, and `work`.
 fn works(params: &[Name], tree: &ParamFilter) -> Result<(), Fault>
-    ensures { (k : ℕ) → Judges k result (judged_then (prework_judged k params.now (optional work_of tree.now.prework)) (work_judged k params.now (work_of tree.now.work))) }
+    ensures { (k : ℕ) → Judges k result (judged_then (prework_judged k params.now (optional work_of tree.now.prework))
+        (work_judged k params.now (work_of tree.now.work))) }
 {
     prework(params, &tree.prework)?;
     work(params, &tree.work)

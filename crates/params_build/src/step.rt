@@ -33,7 +33,8 @@ fn given(above: &StreamsAbove, known: &[Name], name: &Name, args: &Vec<Expr>) ->
 fn add(above: &StreamsAbove, known: &[Name], name: &Name, args: &Vec<Expr>) -> Result<(), Fault>
     ensures { (k : ℕ) (us : Above) → CountsParameters above.now us
         → Judges k result (judged_then (demand (is_there (look us name.now)) k UnknownName)
-        (judged_then (demand (all_known known.now (expressions args.now)) k UnknownName) (demand (has_arity (look us name.now) (length args.now.items)) k Arity))) }
+        (judged_then (demand (all_known known.now (expressions args.now)) k UnknownName)
+        (demand (has_arity (look us name.now) (length args.now.items)) k Arity))) }
 {
     above.has(name)?;
     given(above, known, name, args)
@@ -88,7 +89,8 @@ fn step(above: &StreamsAbove, known: &mut Vec<Name>, one: &Step) -> Result<(), F
 // The steps of a loop with this variable.
 #[cycle(judged)]
 fn turn(above: &StreamsAbove, known: &mut Vec<Name>, name: &Name, body: &Steps) -> Result<(), Fault>
-    ensures judged { (k : ℕ) (us : Above) → CountsParameters above.now us → Judges k result (steps_judged k us (known.old.items ++ name.now ∷ []) (steps_of body.now)) }
+    ensures judged { (k : ℕ) (us : Above) → CountsParameters above.now us
+        → Judges k result (steps_judged k us (known.old.items ++ name.now ∷ []) (steps_of body.now)) }
     ensures kept { OnOk result (known.new.items ≡ known.old.items) }
 {
     more(known, *name)?;

@@ -1,5 +1,5 @@
 // Units judged: the name of the stream, its parameters, and what is declared.
-ghost use Rattle.std.specs.Prelude.{◌≡◌, ℕ, [], ◌∷◌, length, IfOk};
+ghost use Rattle.std.specs.Prelude.{◌≡◌, ℕ, [], ◌∷◌, IfOk};
 ghost use Rattle.params_text.specs.Program.{body_of, dealing_of, declared_of, rounds_of, steps_of};
 ghost use Rattle.params_model.specs.Judged.{Above, judged_then, all_known_option, body_judged, dealing_judged, new_names, steps_judged, unit_judged};
 ghost use Rattle.params_model.specs.Making.{UnknownName, demand};

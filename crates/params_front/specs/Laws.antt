@@ -33,7 +33,8 @@ use Rattle.params_front.specs.Meaning.{Elaboration, Accepted, fault_at, unit_in,
 abbrev pub IsProgramFault : ParamProgram → List ℕ → ℕ → model.Fault → Type 0
 IsProgramFault p sizes unit f =
     IsFaultOf p unit f
-    ⊎ (AllByRecursion IsRight (places_of p) × (on_fine (top_judged (source_units p sizes)) (λ x. last_made (source_units p sizes)) ≡ Err (record { unit = unit; fault = f })))
+    ⊎ (AllByRecursion IsRight (places_of p)
+    × (on_fine (top_judged (source_units p sizes)) (λ x. last_made (source_units p sizes)) ≡ Err (record { unit = unit; fault = f })))
 
 -- the grammar has the text for a program whose first fault this is
 pub record HasFault (text : List ℕ) (fault : ParamFault) : Type 0 where

@@ -1,5 +1,5 @@
 // From the text of a program to its plan.
-ghost use Rattle.std.specs.Prelude.{◌≡◌, ◌<◌, ◌^◌, ◌-◌, ℕ, ℤ, List, length, map, pos, IfOk, IfErr, slice_index_or};
+ghost use Rattle.std.specs.Prelude.{◌≡◌, ◌<◌, ◌^◌, ◌-◌, ℕ, ℤ, List, length, map, pos, IfOk, IfErr};
 ghost use Rattle.streamit_text.specs.Program as plain;
 ghost use Rattle.streamit_model.specs.Meaning.{program_outputs};
 ghost use Rattle.streamit_front.specs.Meaning as streamit;
@@ -30,7 +30,8 @@ pub fn compile_params(
 ) -> Result<(ParamProgram, StreamitProgram, Plan), ParamFault>
     requires { length text.now < 2 ^ 32 }
     ensures plan { IfOk result (λ made. Plans (compiled text.now) (program_of made.0.units.items) (plain.program_of made.1.units.items) made.2) }
-    ensures means { IfOk result (λ made. (xs : List ℤ) → program_outputs (plain.program_of made.1.units.items) xs ≡ params_outputs (program_of made.0.units.items) xs) }
+    ensures means { IfOk result (λ made. (xs : List ℤ)
+        → program_outputs (plain.program_of made.1.units.items) xs ≡ params_outputs (program_of made.0.units.items) xs) }
     ensures refused { IfErr result (Refused (compiled text.now)) }
 {
     let Elaborated { tree, plain, from } = elaborate(alloc, text)?;

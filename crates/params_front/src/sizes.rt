@@ -1,5 +1,5 @@
 // How many bytes the units of a text have.
-ghost use Rattle.std.specs.Prelude.{◌≡◌, map, IfOk, OnOk, ◌∷◌, [], ◌++◌};
+ghost use Rattle.std.specs.Prelude.{◌≡◌, map, IfOk, ◌∷◌, ◌++◌};
 ghost use Rattle.work_text.specs.Cut.{unit_tokens};
 ghost use Rattle.work_text.specs.Tok.{mark_of};
 ghost use Rattle.params_front.specs.Sizes.{bytes_of, bytes_of_each, sizes_of};

@@ -8,7 +8,7 @@ use Rattle.streamit_model.specs.Meaning.{numbers_from, turns_between}
 use Rattle.params_text.specs.Program.{Add, Loop, Steps, declared_of}
 use Rattle.params_text.specs.declared.program.ParamUnit.{ParamUnit}
 use Rattle.params_model.specs.Environment.{Environment, value}
-use Rattle.params_model.specs.Making.{SourceUnit, Made, nothing_made, Adding, Range, Empty, on_fine, demand, begin, turn, is_ranged, made_once, steps_made, turns_made, some_adds, children_made, make, last_made}
+use Rattle.params_model.specs.Making.{SourceUnit, Made, nothing_made, Adding, Range, Empty, on_fine, demand, begin, turn, made_once, steps_made, turns_made, some_adds, children_made, make, last_made}
 use Rattle.params_model.specs.Making as model
 use Rattle.params_build.specs.declared.fault.Refusal.{Refusal}
 use Rattle.params_build.specs.Told.{Told}

@@ -10,7 +10,7 @@ use Rattle.params_text.specs.Toks.{spaced, unit_toks, units_toks, plain_text}
 use Rattle.params_text.proofs.Spacing.{spaced-append}
 use Rattle.params_model.specs.Environment.{Environment, dealing, option_counts}
 use Rattle.params_model.specs.Plain.{instance_name, plain_filter}
-use Rattle.params_model.specs.Making.{Made, Adding, Range, Budget, Empty, on_fine, demand, begin, turn, steps_made, some_adds, children_made, is_ranged_filter, is_ranged_dealing, are_ranged_option}
+use Rattle.params_model.specs.Making.{Made, Adding, Range, Budget, on_fine, demand, begin, turn, children_made, is_ranged_filter, is_ranged_dealing, are_ranged_option}
 use Rattle.params_model.specs.Making as model
 use Rattle.params_build.specs.declared.fault.Refusal.{Refusal}
 use Rattle.params_build.specs.Told.{Told}

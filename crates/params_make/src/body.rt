@@ -54,7 +54,8 @@ impl Making {
         values: &[i64],
     ) -> Result<Instance, Refusal>
         requires { AreFitUnits (program_of seen.units.now) }
-        ensures { (m : Made) → Stands self.old m → MakesOne result self.new (adding seen.entry.units.now seen.entry.sizes.now seen.entry.depth stream values.now m) }
+        ensures { (m : Made) → Stands self.old m
+            → MakesOne result self.new (adding seen.entry.units.now seen.entry.sizes.now seen.entry.depth stream values.now m) }
     {
         let units = seen.units;
         let Some(i) = find(units, &stream) else {
@@ -134,7 +135,8 @@ impl Making {
         tree: &ParamFilter,
     ) -> Result<Instance, Refusal>
         requires { IsFitFilter (filter_of tree.now) }
-        ensures { (m : Made) (add : Adding) → Stands self.old m → MakesOne result self.new (bodied add (suc (length above.now)) name known.now (AFilter (filter_of tree.now)) m) }
+        ensures { (m : Made) (add : Adding) → Stands self.old m
+            → MakesOne result self.new (bodied add (suc (length above.now)) name known.now (AFilter (filter_of tree.now)) m) }
     {
         demand(above, is_ranged_filter(known, tree), Fault::Range)?;
         let instance = self.write_filter(alloc, above, name, known, tree)?;

@@ -27,7 +27,8 @@ impl Making {
         tree: &ParamFilter,
     ) -> Result<Instance, NoMemory>
         requires { IsFitFilter (filter_of tree.now) }
-        ensures { (m : Made) → Stands self.old m → WritesInstance result self.new (suc (length above.now)) stream (plain.AFilter (plain_filter known.now (filter_of tree.now))) m }
+        ensures { (m : Made) → Stands self.old m
+            → WritesInstance result self.new (suc (length above.now)) stream (plain.AFilter (plain_filter known.now (filter_of tree.now))) m }
     {
         let instance = self.next(stream)?;
         print_filter(alloc, &instance, known, tree, &mut self.text)?;

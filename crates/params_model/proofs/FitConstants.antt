@@ -14,7 +14,7 @@ use Rattle.streamit_text.specs.Tree.{Expression}
 use Rattle.streamit_text.specs.Words.{is_own}
 use Rattle.params_text.specs.Grammar.{Rate, push, pop, peek, IsRate, Rates, unwritten, fresh, with_rate, rates_in, AreRates, IsWork, IsPrework, InFilter, IsStep, IsPipe, SplitAfter, InBoth, BodyAfter, IsUnit, AreUnits}
 use Rattle.params_text.specs.Program.{ParamWork, ParamFilter, Step, Steps, steps_in_turn, Dealing, Body, Declared, ParamProgram}
-use Rattle.params_text.specs.Steps.{or_none, Constants, StepHead, StepAfter, style, holes}
+use Rattle.params_text.specs.Steps.{or_none, StepHead, StepAfter, style, holes}
 use Rattle.params_text.specs.Steps as step
 use Rattle.params_model.specs.Laws.{HasValues, AreFit}
 use Rattle.params_model.specs.Constants.{IsFitOption, AreFitOption, IsFitDealing, IsFitWork, IsFitPrework, IsFitFilter, HasFitConstants, HaveFitConstants, IsFitUnit, AreFitUnits, ConstantsAreFit}

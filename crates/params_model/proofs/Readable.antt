@@ -30,7 +30,7 @@ use Rattle.params_text.specs.Parameters.{IsLeafWith, leaf_with}
 use Rattle.params_text.specs.Parameters as rule
 use Rattle.params_text.specs.Params.{low, lows, low_optional, is_low, is_low_first, param_depth}
 use Rattle.params_text.specs.Program.{ParamWork, ParamFilter, Step, Steps, steps_in_turn, Body, Declared, ParamProgram}
-use Rattle.params_text.specs.Steps.{Constant, StreamName, or_none, Constants, IsAdd, StepHead, StepAfter, style, holes}
+use Rattle.params_text.specs.Steps.{Constant, or_none, Constants, StepHead, StepAfter, style, holes}
 use Rattle.params_text.specs.Steps as step
 use Rattle.params_text.specs.Told.{IsOwnName, AreOwnNames, IsToldTree, FirstBy, OnceBy, AllBy, OptionalBy}
 use Rattle.params_model.specs.Laws.{HasValues, AreFit, IsFitStep, AreFitSteps, IsFitBody, IsFitProgram, TextsAreWritten}

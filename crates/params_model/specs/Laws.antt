@@ -91,7 +91,8 @@ unit_streams us = map (λ u. u.stream) us
 
 -- the plain program that is made means what the program with parameters means
 abbrev pub ElaborationMeans : Type 0
-ElaborationMeans = (us : List SourceUnit) (m : Made) (xs : List ℤ) → AreFine us → last_made us ≡ Ok m → program_outputs m.units xs ≡ last_works (unit_streams us) xs
+ElaborationMeans = (us : List SourceUnit) (m : Made) (xs : List ℤ) → AreFine us → last_made us ≡ Ok m
+    → program_outputs m.units xs ≡ last_works (unit_streams us) xs
 
 -- each number of an argument of a program is a value, as the grammar has it
 abbrev pub IsFitBody : Body → Type 0
@@ -106,7 +107,8 @@ IsFitProgram (u ∷ us) = IsFitBody u.body × IsFitProgram us
 -- so does that of a program that is accepted
 abbrev pub ElaboratedMeans : Type 0
 ElaboratedMeans =
-    (p : ParamProgram) (sizes : List ℕ) (m : Made) (xs : List ℤ) → IsFitProgram p → elaborated_program p sizes ≡ Ok m → program_outputs m.units xs ≡ params_outputs p xs
+    (p : ParamProgram) (sizes : List ℕ) (m : Made) (xs : List ℤ) → IsFitProgram p → elaborated_program p sizes ≡ Ok m
+    → program_outputs m.units xs ≡ params_outputs p xs
 
 -- THE TEXT OF WHAT IS MADE
 

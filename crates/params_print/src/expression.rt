@@ -152,7 +152,8 @@ pub fn between(
     behind: &[Token<'_>],
     to: &mut Bytes,
 ) -> Result<(), NoMemory>
-    ensures { OnOk result (to.new ≡ to.old ++ spaced (map token_of before.now ++ (expr_toks (put_in known.now (expression e.now)) ++ map token_of behind.now))) }
+    ensures { OnOk result (to.new ≡ to.old
+        ++ spaced (map token_of before.now ++ (expr_toks (put_in known.now (expression e.now)) ++ map token_of behind.now))) }
 {
     tokens(alloc, before, to)?;
     expression(alloc, known, e, to)?;

@@ -72,7 +72,8 @@ fn head(
     high: &Expr,
     to: &mut Bytes,
 ) -> Result<(), NoMemory>
-    ensures { OnOk result (to.new ≡ to.old ++ spaced (for_toks name.now (put_in known.now (expression low.now)) (is_turn until) (put_in known.now (expression high.now)))) }
+    ensures { OnOk result (to.new ≡ to.old
+        ++ spaced (for_toks name.now (put_in known.now (expression low.now)) (is_turn until) (put_in known.now (expression high.now)))) }
 {
     let before = [
         Token::Name(b"for"),

@@ -26,7 +26,8 @@ pub fn print_filter(
     to: &mut Bytes,
 ) -> Result<(), NoMemory>
     requires { IsFitFilter (filter_of tree.now) }
-    ensures { OnOk result (to.new ≡ to.old ++ spaced (unit_toks (record { name = name_written instance.now; body = AFilter (plain_filter known.now (filter_of tree.now)) }))) }
+    ensures { OnOk result (to.new ≡ to.old
+        ++ spaced (unit_toks (record { name = name_written instance.now; body = AFilter (plain_filter known.now (filter_of tree.now)) }))) }
 {
     head(alloc, b"filter", instance, to)?;
     filter(alloc, known, tree, to)?;
@@ -63,7 +64,11 @@ pub fn print_split_join(
     requires join { AreFitOption (rounds_of tree.now.join) }
     ensures { (a : Adds) → names_written children.now ≡ a.first ∷ a.others
         → OnOk result (to.new ≡ to.old ++ spaced (unit_toks
-        (record { name = name_written instance.now; body = ASplitJoin (dealing known.now (dealing_of tree.now.split)) a (option_counts known.now (rounds_of tree.now.join)) }))) }
+        (record {
+          name = name_written instance.now;
+          body = ASplitJoin (dealing known.now (dealing_of tree.now.split)) a
+              (option_counts known.now (rounds_of tree.now.join));
+        }))) }
 {
     head(alloc, b"splitjoin", instance, to)?;
     split(alloc, known, &tree.split, to)?;

@@ -41,14 +41,16 @@ exact-round_params : (n : ℕ) → Exact (Round (λ m. form.Listing IsParam) n) 
 unfolding round_params_at
 exact-round_params n = exact-round (λ m. exact-listing s.Close exact-param (λ rest. tt) (λ v ts rest h. rw h.is refl)) (λ rest. (refl, (tt, refl))) n
 
-pub round-begins : {A : Type 0} (F : ℕ → A → List Tok → Type 0) (n : ℕ) (v : A) (ts rest : List Tok) → Round F n v ts → parse.begins_with s.Open (ts ++ rest) ≡ true
+pub round-begins : {A : Type 0} (F : ℕ → A → List Tok → Type 0) (n : ℕ) (v : A) (ts rest : List Tok)
+    → Round F n v ts → parse.begins_with s.Open (ts ++ rest) ≡ true
 round-begins F zero v ts rest h = absurd h
 round-begins F (suc n) v ts rest h = rw h.is refl
 
 pub exact-params : (n : ℕ) → Exact (Params n) (params_at n) NoOpen
 unfolding params_at
 exact-params n =
-    exact-less (exact-seen or_none (exact-maybe (parse.begins_with s.Open) (exact-round_params n) (λ v ts rest h. round-begins (λ m. form.Listing IsParam) n v ts rest h)))
+    exact-less (exact-seen or_none (exact-maybe (parse.begins_with s.Open) (exact-round_params n)
+    (λ v ts rest h. round-begins (λ m. form.Listing IsParam) n v ts rest h)))
     (λ rest d. (tt, d))
 
 exact-round_constants : (n : ℕ) → Exact (Round (λ m. form.Listing (Constant m)) n) (round_constants_at n) Any

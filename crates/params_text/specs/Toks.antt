@@ -61,7 +61,8 @@ abbrev mutual
   statement_toks Discard = name (codes "pop") ∷ symbol s.Open ∷ symbol s.Close ∷ symbol s.Semicolon ∷ []
   statement_toks (If t a b) = name (codes "if") ∷ ((symbol s.Open ∷ (expr_toks t ++ symbol s.Close ∷ [])) ++ (braces_toks (statements_toks a) ++ else_toks b))
   statement_toks (For n low upto high b) =
-      name (codes "for") ∷ ((symbol s.Open ∷ ((name (codes "int") ∷ name n ∷ head_toks n low upto high) ++ symbol s.Close ∷ [])) ++ braces_toks (statements_toks b))
+      name (codes "for") ∷ ((symbol s.Open ∷ ((name (codes "int") ∷ name n ∷ head_toks n low upto high) ++ symbol s.Close ∷ []))
+      ++ braces_toks (statements_toks b))
 
   pub statements_toks : Block → List Tok
   statements_toks End = []

@@ -1,5 +1,5 @@
 // Split-joins read.
-ghost use Rattle.std.specs.Prelude.{◌≡◌, map};
+ghost use Rattle.std.specs.Prelude.{◌≡◌};
 ghost use Rattle.text_forms.specs.Gives.{Gives};
 ghost use Rattle.params_text.specs.Program.{dealing_of, rounds_of};
 ghost use Rattle.params_text.specs.Reading.{split_after, split_at, join_at, in_both_at, both_at};

@@ -2,7 +2,6 @@
 ghost use Rattle.std.specs.Prelude.{◌≡◌, IfOk, map};
 ghost use Rattle.text_blocks.specs.Parts.{optional};
 ghost use Rattle.text_forms.specs.Gives.{Gives};
-ghost use Rattle.streamit_text.specs.Tree.{expression};
 ghost use Rattle.streamit_text.specs.View.{head_of};
 ghost use Rattle.params_text.specs.Program.{expressions, step_of, steps_of, steps_in_turn};
 ghost use Rattle.params_text.specs.Steps.{made_add, add_at, step_head_at, step_after, opening, looped, style};

@@ -2,7 +2,7 @@
 ghost use Rattle.std.specs.Prelude.{◌≡◌, [], None, Err, IfOk, OnOk, IfErr};
 ghost use Rattle.river_plan.specs.First.{Along, IsFirst};
 ghost use Rattle.river_plan.specs.Forms.{plan_form, op_form, op_forms, queue_names, variable_names, labels as labels_of};
-ghost use Rattle.river_plan.specs.Faults.{IsNew, Undeclared, UndeclaredAt};
+ghost use Rattle.river_plan.specs.Faults.{IsNew, UndeclaredAt};
 ghost use Rattle.river_plan.specs.Valid.{IsJudged};
 ghost use Rattle.river_plan.specs.Wired.{IsWired, AreNamed};
 

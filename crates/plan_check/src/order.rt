@@ -36,7 +36,8 @@ fn first_early(
     places: &Places,
 ) -> Option<Name>
     requires { length places.now ≡ length reads.now }
-    ensures { IsFirst (λ before name. IsKnownAt (length raw.now.outputs) (length raw.now.inputs) op writers.now (slice_index places.now (length before))) reads.now result }
+    ensures { IsFirst (λ before name. IsKnownAt (length raw.now.outputs) (length raw.now.inputs) op writers.now
+        (slice_index places.now (length before))) reads.now result }
 {
     for port in 0..reads.len() {
         let place = *places.at(port);

@@ -3,13 +3,13 @@ use Rattle.std.proofs.Common.{◌≡◌, ℕ, zero, suc, ◌+◌, ◌<◌, ◌�
 use Rattle.std.specs.Prelude.{nat_lt, slice_get}
 use Rattle.std.specs.List.{AllByRecursion}
 use Rattle.std.proofs.lemmas.List.{map-append}
+use Rattle.river_base.proofs.Options.{some_is}
 use Rattle.river_kernels.specs.declared.limit.Limit.TheVariants.{Operators, Variables}
 use Rattle.river_plan.specs.Forms.{Name, OpForm, PlanForm, table_names, variable_names}
 use Rattle.river_plan.specs.Names.{count}
 use Rattle.river_plan.specs.Places.{place, places, as_often, users_from, var_places}
 use Rattle.river_plan.specs.Valid.{IsPlan}
 use Rattle.river_plan.specs.declared.plan.TableDecl.{TableDecl}
-use Rattle.river_plan.proofs.PlaceLemmas.{some_is}
 use Rattle.river_plan.specs.Uses.{Each, vars_it}
 use Rattle.river_plan.proofs.UserCounts.{often-count, often-one, all-append, all-weaker, name_at}
 use Rattle.plan_classes.specs.Users.{having}

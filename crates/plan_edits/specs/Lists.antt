@@ -26,7 +26,8 @@ first_with f (op ∷ ops) = if nat_lt 0 (f op) then Some op else first_with f op
 abbrev pub replaced : Name → List OpForm → List OpForm → List OpForm
 replaced q news [] = []
 replaced q news (op ∷ ops) =
-    if nat_lt 0 (count q op.writes) then news ++ replaced q news ops else (if nat_lt 0 (count q op.reads) then replaced q news ops else op ∷ replaced q news ops)
+    if nat_lt 0 (count q op.writes) then news ++ replaced q news ops
+    else (if nat_lt 0 (count q op.reads) then replaced q news ops else op ∷ replaced q news ops)
 
 -- the declarations, the first of this name with another type
 abbrev pub retyped : Name → QueueType → List Decl → List Decl

@@ -63,7 +63,8 @@ fn run_scripted<R: Threads + Sync, S: Shelf, G: Gate + Sync>(
     requires caps { AreCaps caps.now }
     ensures later { S.faults shelf.old ≤ S.faults shelf.new }
     ensures passes { (source : SourceProgram) → IsPlanned caps.now source plan.now
-        → Passes (of_scripted_run name.now ins.now layout counts source) (S.held shelf.old) (Rose S.stays_at_last (S.faults shelf.old) (S.faults shelf.new)) result }
+        → Passes (of_scripted_run name.now ins.now layout counts source) (S.held shelf.old)
+        (Rose S.stays_at_last (S.faults shelf.old) (S.faults shelf.new)) result }
 {
     match name {
         None => run_over(alloc, crew, ins, layout, counts, plan, caps, shelf),

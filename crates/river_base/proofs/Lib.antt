@@ -9,6 +9,7 @@ pub mod KeyedLookups
 pub mod LoopLemmas
 pub mod NameLemmas
 pub mod NumberLemmas
+pub mod Options
 pub mod OrderLemmas
 pub mod PlaceLemmas
 pub mod RowLemmas

@@ -16,7 +16,7 @@ use Rattle.river_order.proofs.Passes.{past-passes, passed-decides}
 use Rattle.plan_runs.specs.Points.{of_run, loaded}
 use Rattle.river_road.specs.Points.{of_show, of_mean, of_upgrade}
 use Rattle.river_road.specs.Source.{SourceProgram}
-use Rattle.river_cli.specs.Points.{source_of, takes_more, of_command_in, of_command, ended}
+use Rattle.river_cli.specs.Points.{source_in, takes_more, of_command_in, of_command, ended}
 
 -- what a command answers decides
 pub command-decides : (command : Command) (held : Option Held) (rose : Type 0) (result : Result (List ℕ) Stop) → Passes (of_command command) held rose result
@@ -75,7 +75,7 @@ module _ (source_of : List ℕ → Result SourceProgram (List ℕ)) (more : Bool
 
 -- what is answered in the language of a command is what the command asks for
 pub lang-answers : (command : Command) (lang : Lang) (held : Option Held) (rose : Type 0) (result : Result (List ℕ) Stop) → lang ≡ lang_of command
-    → Passes (of_command_in (source_of lang) (takes_more lang) command) held rose result → Passes (of_command command) held rose result
+    → Passes (of_command_in (source_in lang) (takes_more lang) command) held rose result → Passes (of_command command) held rose result
 unfolding of_command
 lang-answers command lang held rose (Ok text) is passed = rw (sym is) passed
 lang-answers command lang held rose (Err s) is passed = rw (sym is) passed

@@ -14,12 +14,12 @@ use Rattle.river_road.specs.Points.{of_show, of_mean, of_upgrade}
 use Rattle.river_road.specs.Source.{SourceProgram}
 
 -- the program of a text in a language, or the text that refuses it
-abbrev pub source_of : Lang → List ℕ → Result SourceProgram (List ℕ)
-source_of River = river_in
-source_of Streamit = streamit_in
-source_of Params = params_in
-source_of Sawzall = saw_in
-source_of Cql = cql_in
+abbrev pub source_in : Lang → List ℕ → Result SourceProgram (List ℕ)
+source_in River = river_in
+source_in Streamit = streamit_in
+source_in Params = params_in
+source_in Sawzall = saw_in
+source_in Cql = cql_in
 
 -- a record may have further fields, which are not looked at
 abbrev pub takes_more : Lang → Bool
@@ -40,7 +40,7 @@ of_command_in source more (Load number) next = past (loaded source number) next
 
 -- the points of a command
 unfoldable pub of_command : Command → (List ℕ → Order) → Order
-of_command command = of_command_in (source_of (lang_of command)) (takes_more (lang_of command)) command
+of_command command = of_command_in (source_in (lang_of command)) (takes_more (lang_of command)) command
 
 -- at last the text is the output
 unfoldable pub ended : Command → Order

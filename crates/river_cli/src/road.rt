@@ -70,7 +70,8 @@ fn answered_in<L: Language, R: Threads + Sync, S: Shelf, G: Gate + Sync>(
 ) -> Result<Bytes, Stop>
     requires manned { IsManned command.now }
     ensures later { S.faults shelf.old ≤ S.faults shelf.new }
-    ensures passes { Passes (of_command_in L.source L.more command.now) (S.held shelf.old) (Rose S.stays_at_last (S.faults shelf.old) (S.faults shelf.new)) result }
+    ensures passes { Passes (of_command_in L.source L.more command.now) (S.held shelf.old)
+        (Rose S.stays_at_last (S.faults shelf.old) (S.faults shelf.new)) result }
 {
     match command {
         Command::Run {

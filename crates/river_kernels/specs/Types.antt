@@ -133,7 +133,8 @@ fused_types at (Some p) f = behind at p (slice_get p.outs at) f
 
 abbrev pub types_of : Kern → List QueueType → Option Types
 types_of (code k) is =
-    on_only_type is (λ t. on_rows_width t (λ n. given_if (nat_eq n k.body.inputs && (is_width k.body.inputs && (are_widths k.outs && is_code k))) (ports k.outs) (kept k.starts)))
+    on_only_type is (λ t. on_rows_width t (λ n. given_if (nat_eq n k.body.inputs && (is_width k.body.inputs && (are_widths k.outs && is_code k)))
+    (ports k.outs) (kept k.starts)))
 types_of (filter f) is = on_only_type is (λ t. on_rows_width t (λ n. given_if (nat_eq n 1 && is_filter f) (rows 1 ∷ []) (Private ∷ [])))
 types_of (duplicate n) is = on_only_type is (λ t. given_if (is_sized t && nat_le 1 n) (replicate n (Flat t)) [])
 types_of (deal ws) is = on_only_type is (λ t. given_if (is_sized t && are_weights ws) (replicate (length ws) (Flat t)) (Private ∷ []))

@@ -1,6 +1,6 @@
 -- What was compiled stands for what its text means.
 use Rattle.std.proofs.Common.{◌≡◌, ℕ, ℤ, List, [], ◌∷◌, length, refl, sym, ap, ◌∙◌, subst, arith}
-use Rattle.std.specs.Prelude.{map, take, Result, Ok, Err}
+use Rattle.std.specs.Prelude.{map, take, Result, Ok}
 use Rattle.std.proofs.lemmas.List.Elements.{All-nil, All-head, All-tail}
 use Rattle.river_base.specs.declared.item.Flat.TheVariants.{One}
 use Rattle.river_base.specs.declared.item.Item.TheVariants.{Flat}
@@ -17,7 +17,7 @@ use Rattle.river_text.specs.declared.river_fault.RiverFault.TheVariants as river
 use Rattle.brooklet_model.specs.Meaning.{meaning}
 use Rattle.streamit_model.specs.Build.{plan_of}
 use Rattle.streamit_model.specs.Laws.{as_items}
-use Rattle.streamit_front.specs.Meaning.{Accepted, compiled, Plans, Refused}
+use Rattle.streamit_front.specs.Meaning.{Accepted, compiled, Plans}
 use Rattle.streamit_front.specs.Words.{streamit_words}
 use Rattle.streamit_front.specs.declared.fault.StreamitFault.{StreamitFault}
 use Rattle.streamit_front.specs.declared.fault.StreamitFault.TheVariants as streamit_fault
@@ -26,7 +26,6 @@ use Rattle.kern_rows.specs.Even.{row_items}
 use Rattle.streamit_front.specs.declared.program.StreamitProgram.{StreamitProgram}
 use Rattle.streamit_front.proofs.Fronts.{compiled-readable, plans_mean}
 use Rattle.params_text.specs.Program as params_tree
-use Rattle.params_model.specs.Meaning.{params_outputs}
 use Rattle.params_front.specs.Meaning as params
 use Rattle.params_front.specs.Words.{params_words}
 use Rattle.params_front.specs.declared.fault.ParamFault.{ParamFault}
@@ -35,7 +34,7 @@ use Rattle.params_front.proofs.Compiling.{compiled-readable as params-readable, 
 use Rattle.river_road.specs.Contents.{AreContents}
 use Rattle.river_road.specs.Inputs.{all_items}
 use Rattle.river_road.specs.Source.{SourceProgram, source_or_refused, IsPlanOf, IsCompiled}
-use Rattle.river_langs.specs.Sources.{river_source, streamit_source, params_source, saw_source, values, river_in, streamit_in, params_in, saw_in, IsStreamit, IsSawzall}
+use Rattle.river_langs.specs.Sources.{river_source, streamit_source, params_source, saw_source, values, IsStreamit, IsSawzall}
 use Rattle.std.proofs.lemmas.List.{take_all}
 use Rattle.saw_model.specs.Plan.{rows_as_items as saw_items}
 use Rattle.saw_model.specs.Meaning.{width}
@@ -46,8 +45,6 @@ use Rattle.saw_front.specs.declared.fault.SawFault.TheVariants as saw_fault
 use Rattle.saw_front.specs.declared.program.SawProgram.{SawProgram}
 use Rattle.saw_front.proofs.Fronts.{compiled-valued, compiled-judged, plans_mean as saw_plans_mean}
 use Rattle.saw_text.specs.Tree.{unit_forms}
-use Rattle.river_road.specs.Text.{program_refused}
-use Rattle.river_road.specs.declared.language.Compiled.{Compiled}
 use Rattle.river_road.specs.declared.content.Content.{Content}
 use Rattle.river_road.specs.declared.content.Content.TheVariants.{Rows as Plain, Timed}
 

@@ -1,6 +1,6 @@
 -- What was compiled of a CQL text stands for what the text means.
 use Rattle.std.proofs.Common.{◌≡◌, ℕ, ℤ, List, [], ◌∷◌, length, refl, sym, ap, ◌∙◌, subst}
-use Rattle.std.specs.Prelude.{map, Result, Ok, Err, All}
+use Rattle.std.specs.Prelude.{map, Result, Ok, All}
 use Rattle.std.proofs.lemmas.List.Elements.{All-nil, All-cons, All-head, All-tail}
 use Rattle.river_base.specs.Instants as base
 use Rattle.river_base.specs.Held.{HaveWidth}
@@ -17,7 +17,7 @@ use Rattle.cql_model.specs.Scopes.{Named}
 use Rattle.cql_model.specs.Translation.{input_decls, output_decls, query_named, plan_of}
 use Rattle.cql_text.specs.Tree.{Part, program_of}
 use Rattle.cql_text.specs.declared.tree.CqlProgram.{CqlProgram}
-use Rattle.cql_front.specs.Meaning.{compiled, Plans, Refused}
+use Rattle.cql_front.specs.Meaning.{compiled, Plans}
 use Rattle.cql_front.specs.Words.{cql_words}
 use Rattle.cql_front.specs.declared.fault.CqlFault.{CqlFault}
 use Rattle.cql_front.specs.declared.fault.CqlFault.TheVariants as cql_fault
@@ -26,7 +26,6 @@ use Rattle.slow_cql.proofs.Accepted.{accepted_columns}
 use Rattle.river_road.specs.Contents.{AreContents}
 use Rattle.river_road.specs.Inputs.{timed_files, items_at, all_items}
 use Rattle.river_road.specs.Source.{source_or_refused, IsPlanOf, IsCompiled}
-use Rattle.river_road.specs.Text.{program_refused}
 use Rattle.river_langs.specs.Sources.{asked_names, cql_source, IsCql}
 use Rattle.river_road.specs.declared.content.Content.{Content}
 use Rattle.river_road.specs.declared.content.Content.TheVariants.{Rows as Plain, Timed}

@@ -5,7 +5,7 @@ use Rattle.cql_text.specs.Tree.{program_of}
 use Rattle.cql_text.specs.declared.tree.CqlProgram.{CqlProgram}
 use Rattle.river_road.specs.Contents.{AreContents}
 use Rattle.river_road.specs.Inputs.{timed_files}
-use Rattle.river_road.specs.Source.{IsKnown}
+use Rattle.river_road.specs.Source.{HasSource}
 use Rattle.river_road.specs.declared.content.Content.{Content}
 use Rattle.river_road.specs.declared.content.Content.TheVariants.{Rows as Plain, Timed}
 use Rattle.river_road.specs.declared.language.Compiled.{Compiled}
@@ -13,7 +13,7 @@ use Rattle.river_langs.specs.Sources.{IsCql}
 use Rattle.river_langs.proofs.CqlCompiled.{files-are}
 
 -- the files of a CQL program fit its registered streams
-pub known-files : (c : Compiled CqlProgram) (all : List Content) → IsKnown (λ s t. IsCql s (program_of t)) c → AreContents c.plan.inputs all
+pub known-files : (c : Compiled CqlProgram) (all : List Content) → HasSource (λ s t. IsCql s (program_of t)) c → AreContents c.plan.inputs all
     → AreFiles (program_of c.program) (timed_files all)
 known-files c all (source, is) typed =
     files-are (program_of c.program) all (subst (λ ds. AreContents ds all) (is.planned.plan.inputs ∙ is.program.inputs) typed)

@@ -17,4 +17,5 @@ VerdictUntold = (points : Option Order) (h : Held) (v : Verdict) → IsVerdict p
 
 -- no file matters but those whose turn comes
 abbrev pub OnlyTurnsMatter : Type 0
-OnlyTurnsMatter = (points : Option Order) (h k : Held) → ((file : List ℕ) → IsFetchTurn points (Some h) file → h file ≡ k file) → verdict points h ≡ verdict points k
+OnlyTurnsMatter = (points : Option Order) (h k : Held) → ((file : List ℕ) → IsFetchTurn points (Some h) file → h file ≡ k file)
+    → verdict points h ≡ verdict points k

@@ -1,6 +1,5 @@
 // A shelf and a sink in memory, which tell what they hold and took, and whose calls fail where it is asked.
-ghost use Rattle.std.specs.Prelude.{◌≡◌, ◌≤◌, ◌<◌, ◌+◌, ◌-◌, ◌++◌, min, List, [], ℕ, Bool, true, false, length, take, drop, Option, Some, None, IfSome, IfOk, OnErr, MatchOption, IsErrOf, IsTrue};
-ghost use Rattle.std.specs.Io.KnownBytes.{append_known};
+ghost use Rattle.std.specs.Prelude.{◌≡◌, ◌≤◌, ◌<◌, ◌+◌, ◌-◌, ◌++◌, min, [], true, false, length, take, drop, Option, Some, None, IfOk, OnErr, MatchOption, IsErrOf, IsTrue};
 ghost use Rattle.river_outside.specs.Causes.{Rose};
 ghost use Rattle.river_outside.specs.Held.{ReadsHeld, EndsBy};
 ghost use Rattle.river_outside.specs.Files.{lookup};

@@ -6,6 +6,7 @@ use Rattle.std.specs.List.{position_or_len}
 use Rattle.std.proofs.lemmas.List.Recursion.{is_position_or_len}
 use Rattle.std.proofs.lemmas.Option.{slice_get_within}
 use Rattle.river_base.specs.Name.{name_eq}
+use Rattle.river_base.proofs.Options.{some_is}
 use Rattle.river_plan.specs.Forms.{Name}
 use Rattle.river_plan.specs.Names.{count, one_if}
 use Rattle.river_plan.specs.Places.{place}
@@ -66,10 +67,6 @@ place_at (w ∷ ws) q lt = ⊎_elim
 -- a name that stands in the list has a place below its length
 pub place_below : (names : List Name) (q : Name) → 0 < count q names → place names q < length names
 place_below names q lt = slice_get_within names (place names q) q (place_at names q lt)
-
--- what stands in equal options is equal
-pub some_is : (a b : Name) → Some a ≡ Some b → a ≡ b
-some_is a b e = cc e
 
 -- two names that stand there have two places
 pub place_apart : (names : List Name) (w q : Name) → 0 < count w names → 0 < count q names → place names w ≡ place names q → w ≡ q

@@ -7,6 +7,7 @@ use Rattle.std.specs.List.Sorted.{IsStrictlyIncreasing}
 use Rattle.river_base.specs.Name.{name_eq}
 use Rattle.river_base.specs.Places.{only}
 use Rattle.river_base.proofs.PlaceLemmas.{only_same, only_other}
+use Rattle.river_base.proofs.Options.{some_is}
 use Rattle.river_plan.specs.Forms.{Name, OpForm}
 use Rattle.river_plan.specs.Names.{count, one_if}
 use Rattle.river_plan.specs.Uses.{Each, total, vars_it}
@@ -14,7 +15,7 @@ use Rattle.river_plan.specs.Places.{place, places, as_often, users_from}
 use Rattle.river_plan.specs.ByUsers.{IsBefore}
 use Rattle.river_plan.specs.First.{Unless, Along, IsFirst}
 use Rattle.river_plan.proofs.NameLemmas.{cases_name, count-append, name_same, one_same, more_or_zero}
-use Rattle.river_plan.proofs.PlaceLemmas.{place-here, place-past, place_at, place_below, place_front, place_back, some_is}
+use Rattle.river_plan.proofs.PlaceLemmas.{place-here, place-past, place_at, place_below, place_front, place_back}
 use Rattle.river_plan.proofs.Searches.{or_else-cong, unless-cong}
 
 -- A SEARCH BY PLACES IS ONE BY ELEMENTS

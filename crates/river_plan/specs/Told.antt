@@ -77,7 +77,8 @@ once_found given uses ws = first_found Queue (λ before q. IsUsedOnce (count q g
 
 early_found : (p : PlanForm) → Found (ReadTooEarly p)
 early_found p = along_found (ReadTooEarlyAt (decl_names p.inputs))
-    (λ b op. first_found Queue (λ c r. IsWritten (decl_names p.inputs) b r) (λ c r. less_decided 0 (count r (decl_names p.inputs) + total (writes_it r) b)) op.reads) [] p.ops
+    (λ b op. first_found Queue (λ c r. IsWritten (decl_names p.inputs) b r)
+    (λ c r. less_decided 0 (count r (decl_names p.inputs) + total (writes_it r) b)) op.reads) [] p.ops
 
 queue_found : (good : Decl → Type 0) → ((d : Decl) → Decided (good d)) → (ds : List Decl) → Found (MistypedQueue good ds)
 queue_found good d ds = first_found (λ e. Queue e.name) (λ before e. good e) (λ b e. d e) ds

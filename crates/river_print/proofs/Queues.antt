@@ -1,9 +1,9 @@
 -- The header, and queues with capacities, printed and read.
-use Rattle.std.proofs.Common.{◌≡◌, ℕ, ◌+◌, ◌≤◌, ◌<◌, true, false, List, [], ◌∷◌, ◌++◌, Option, Some, None, Result, Ok, Err, refl, sym, ap, ◌∙◌, subst, arith, append_assoc}
+use Rattle.std.proofs.Common.{◌≡◌, ℕ, ◌+◌, ◌≤◌, ◌<◌, true, List, [], ◌∷◌, ◌++◌, Option, Some, None, Result, Ok, Err, refl, sym, ap, ◌∙◌, subst, arith, append_assoc}
 use Rattle.std.specs.Prelude.{codes}
 use Rattle.std.specs.Fmt.{decimal}
 use Rattle.std.proofs.lemmas.Fmt.{decimal-digits_of}
-use Rattle.work_text.specs.Cut.{cut, ends_unit, braces_after, is_else}
+use Rattle.work_text.specs.Cut.{cut, ends_unit, braces_after}
 use Rattle.work_text.specs.Lexis.{is_letter, is_word, is_digit, is_blank, first_is, begins_with, piece_at, number_piece, decimal_from, symbol_piece, marks, tokens_in, with_mark}
 use Rattle.work_text.specs.Symbols.{long_symbol, short_symbol}
 use Rattle.work_text.specs.Tok.{Tok, Mark, name, number, symbol}

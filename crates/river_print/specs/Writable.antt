@@ -91,7 +91,8 @@ IsWritableFirst slots (Some r) = IsWritableRun slots r
 
 abbrev pub IsWritableFilter : FilterForm → Type 0
 IsWritableFilter f =
-    IsCount f.peek × IsCount f.pop × IsCount f.push × IsCount f.body.slots × Every IsWritableStart f.starts × IsWritableBody f.body.steps × (f.body.inputs ≡ f.peek)
+    IsCount f.peek × IsCount f.pop × IsCount f.push × IsCount f.body.slots × Every IsWritableStart f.starts
+    × IsWritableBody f.body.steps × (f.body.inputs ≡ f.peek)
     × IsWritableFirst f.body.slots f.first
 
 abbrev pub IsWritableWindow : Window → Type 0
@@ -136,7 +137,8 @@ IsWritableTable t = IsNamed t.name × IsWritableKind t.kind
 
 -- an operator: kernels nest at most 32 deep
 abbrev pub IsWritableOp : OpForm → Type 0
-IsWritableOp op = IsNamed op.label × IsWritableKernel op.kernel × (nesting op.kernel ≤ 32) × Every IsNamed op.reads × Every IsNamed op.writes × Every IsNamed op.vars
+IsWritableOp op = IsNamed op.label × IsWritableKernel op.kernel × (nesting op.kernel ≤ 32)
+    × Every IsNamed op.reads × Every IsNamed op.writes × Every IsNamed op.vars
 
 pub record IsWritable (p : PlanForm) : Type 0 where
   pub outputs : Every IsWritableDecl p.outputs

@@ -1,5 +1,5 @@
 // Prints kernels.
-ghost use Rattle.std.specs.Prelude.{◌≡◌, ◌++◌, [], ◌∷◌, codes, OnOk, OnErr};
+ghost use Rattle.std.specs.Prelude.{◌≡◌, ◌++◌, [], ◌∷◌, codes, OnOk};
 ghost use Rattle.std.specs.Fmt.{decimal};
 ghost use Rattle.work_code.specs.Term.{term, terms};
 ghost use Rattle.kern_rows.specs.Forms.{code_form, filter_form, optional_run, run_form};

@@ -1,7 +1,7 @@
 // The ranges of a plan's numbers. That a number behind a reference lies in the range of its type, and that a name is one, is known
 // where it is read: these functions read each of a plan once, change nothing and give nothing.
 ghost use Rattle.std.specs.Prelude.{map};
-ghost use Rattle.work_code.specs.Term.{term, terms};
+ghost use Rattle.work_code.specs.Term.{term};
 ghost use Rattle.work_code.specs.Steps.{step, steps, code_body};
 ghost use Rattle.kern_rows.specs.Forms.{code_form, filter_form, optional_run, run_form};
 ghost use Rattle.river_kernels.specs.Kern.{kern_of};

@@ -10,7 +10,7 @@ use Rattle.brooklet_model.specs.Meaning.{Results, meaning}
 use Rattle.brooklet_step.specs.declared.outcome.Outcome.{Outcome}
 use Rattle.river_road.specs.Contents.{AreContents}
 use Rattle.river_road.specs.Inputs.{all_items}
-use Rattle.river_road.specs.Source.{SourceProgram, IsPlanOf, IsCompiled, IsKnown, GivesResults, printed}
+use Rattle.river_road.specs.Source.{SourceProgram, IsPlanOf, IsCompiled, HasSource, GivesResults, printed}
 use Rattle.river_road.specs.declared.content.Content.{Content}
 use Rattle.river_road.specs.declared.language.Compiled.{Compiled}
 use Rattle.std.specs.Prelude.{Result, Ok, Err, IfOk}
@@ -31,7 +31,7 @@ mean-says stands c all o (Ok text) says gives = λ source is. says ∙ mean-prin
 mean-says stands c all o (Err e) says gives = tt
 
 module _ {P : Type 0} (stands : SourceProgram → P → Type 0) (c : Compiled P) (all : List Content) (o : Outcome) (typed : AreContents c.plan.inputs all)
-    (known : IsKnown stands c) (gives : (source : SourceProgram) → IsCompiled stands source c → GivesResults o (source.means all)) where
+    (known : HasSource stands c) (gives : (source : SourceProgram) → IsCompiled stands source c → GivesResults o (source.means all)) where
   same : (known.0).means all ≡ meaning c.plan (all_items all)
   same = sym (known.1.planned.plan.means all typed)
 

@@ -1,5 +1,5 @@
 -- The points of what a command does, and the calls that do them.
-use Rattle.std.proofs.Common.{◌≡◌, ℕ, List, ◌++◌, Bool, false, refl, sym, ap, ◌∙◌, subst}
+use Rattle.std.proofs.Common.{◌≡◌, ℕ, List, ◌++◌, Bool, false, refl, sym, ◌∙◌, subst}
 use Rattle.std.specs.Prelude.{Option, Some, Result, Ok, Err}
 use Rattle.river_outside.specs.Held.{Held}
 use Rattle.river_order.specs.Order.{Order, Fetch, Comes}
@@ -15,7 +15,6 @@ use Rattle.river_plan.specs.Forms.{PlanForm}
 use Rattle.river_print.specs.Printed.{plan_text}
 use Rattle.river_road.specs.Layouts.{layout_of}
 use Rattle.river_road.specs.Inputs.{of_inputs}
-use Rattle.plan_classes.specs.Lines.{classes_text}
 use Rattle.river_road.specs.Limits.{most_program}
 use Rattle.river_road.specs.Points.{of_program, of_inputs_run, of_show, of_scripted_show, of_mean, of_upgrade, plan_as_shown}
 use Rattle.river_road.specs.Source.{SourceProgram, IsPlanOf, IsPlanned, IsCompiled, printed}

@@ -46,8 +46,8 @@ pub record IsCompiled {P : Type 0} (stands : SourceProgram → P → Type 0) (s 
   pub program : stands s c.program
 
 -- there is such a program
-abbrev pub IsKnown : {P : Type 0} → (SourceProgram → P → Type 0) → Compiled P → Type 0
-IsKnown stands c = (s : SourceProgram) × IsCompiled stands s c
+abbrev pub HasSource : {P : Type 0} → (SourceProgram → P → Type 0) → Compiled P → Type 0
+HasSource stands c = (s : SourceProgram) × IsCompiled stands s c
 
 -- the program of what was read, or the text that refuses it
 abbrev pub source_or_refused : {A F : Type 0} → (A → SourceProgram) → (F → List ℕ) → Result A F → Result SourceProgram (List ℕ)

@@ -4,7 +4,7 @@ ghost use Rattle.river_order.specs.Passes.{AnswersAs};
 ghost use Rattle.river_plan.specs.Valid.{IsPlan};
 ghost use Rattle.river_road.specs.Contents.{AreContents};
 ghost use Rattle.river_road.specs.Limits.{most_program};
-ghost use Rattle.river_road.specs.Source.{SourceProgram, IsCompiled, IsKnown, GivesResults};
+ghost use Rattle.river_road.specs.Source.{SourceProgram, IsCompiled, HasSource, GivesResults};
 
 use crate::content::Content;
 use brooklet_step::Outcome;
@@ -54,7 +54,7 @@ pub trait Language {
         files: Listed<Content>,
     ) -> Result<Outcome, NoMemory>
         requires valid { IsPlan compiled.now.plan }
-        requires known { IsKnown stands compiled.now }
+        requires known { HasSource stands compiled.now }
         requires contents { AreContents compiled.now.plan.inputs files }
         ensures { IfOk result (λ outcome. (s : SourceProgram) → IsCompiled stands s compiled.now → GivesResults outcome (s.means files)) };
 }

@@ -2,7 +2,7 @@
 ghost use Rattle.std.specs.Prelude.{◌≡◌, false, IfOk};
 ghost use Rattle.river_plan.specs.Valid.{IsPlan};
 ghost use Rattle.river_road.specs.Contents.{AreContents};
-ghost use Rattle.river_road.specs.Source.{SourceProgram, IsCompiled, IsKnown, printed};
+ghost use Rattle.river_road.specs.Source.{SourceProgram, IsCompiled, HasSource, printed};
 
 use crate::content::Content;
 use crate::language::{Compiled, Language};
@@ -17,7 +17,7 @@ pub fn mean_text<L: Language>(
     files: Listed<Content>,
 ) -> Result<Bytes, NoMemory>
     requires valid { IsPlan compiled.now.plan }
-    requires known { IsKnown L.stands compiled.now }
+    requires known { HasSource L.stands compiled.now }
     requires contents { AreContents compiled.now.plan.inputs files }
     ensures { IfOk result (λ text. (source : SourceProgram) → IsCompiled L.stands source compiled.now → text ≡ printed source false files) }
 {

@@ -5,9 +5,8 @@ ghost use Rattle.river_order.specs.Passes.{Answers, Passes, PassesAs};
 ghost use Rattle.river_plan.specs.Caps.{AreCaps, first_cap};
 ghost use Rattle.river_plan.specs.declared.caps.Cap.{Cap};
 ghost use Rattle.river_print.specs.Printed.{plan_text};
-ghost use Rattle.river_road.specs.Layouts.{layout_of};
 ghost use Rattle.river_road.specs.Points.{of_show, of_scripted_show, of_mean, of_upgrade, of_program, of_script, of_inputs_run, plan_as_shown};
-ghost use Rattle.river_road.specs.Source.{SourceProgram, IsPlanned, IsCompiled, IsKnown};
+ghost use Rattle.river_road.specs.Source.{SourceProgram, IsPlanned, IsCompiled, HasSource};
 
 use crate::gather::gather;
 use crate::language::{Compiled, Language};
@@ -64,7 +63,8 @@ pub fn mean<L: Language, S: Shelf>(
     shelf: &mut S,
 ) -> Result<Bytes, Stop>
     ensures later { S.faults shelf.old ≤ S.faults shelf.new }
-    ensures passes { Passes (of_mean L.source L.more file.now ins.now header) (S.held shelf.old) (Rose S.stays_at_last (S.faults shelf.old) (S.faults shelf.new)) result }
+    ensures passes { Passes (of_mean L.source L.more file.now ins.now header) (S.held shelf.old)
+        (Rose S.stays_at_last (S.faults shelf.old) (S.faults shelf.new)) result }
 {
     let compiled = compiled::<L, S>(alloc, file, shelf)?;
     mean_over::<L, S>(alloc, ins, Layout::of::<L>(header), &compiled, shelf)
@@ -78,7 +78,8 @@ pub fn compiled<L: Language, S: Shelf>(
 ) -> Result<Compiled<L::Program>, Stop>
     ensures stays { S.held shelf.new ≡ S.held shelf.old }
     ensures later { S.faults shelf.old ≤ S.faults shelf.new }
-    ensures passes { PassesAs (IsCompiled L.stands) (of_program L.source file.now) (S.held shelf.old) (Rose S.stays_at_last (S.faults shelf.old) (S.faults shelf.new)) result }
+    ensures passes { PassesAs (IsCompiled L.stands) (of_program L.source file.now) (S.held shelf.old)
+        (Rose S.stays_at_last (S.faults shelf.old) (S.faults shelf.new)) result }
 {
     let file = file.as_slice();
     let text = fetch_turn(alloc, shelf, file, MOST_PROGRAM, text::LARGE_PROGRAM)?;
@@ -117,7 +118,8 @@ pub fn rewritten<S: Shelf>(
     ensures stays { S.held shelf.new ≡ S.held shelf.old }
     ensures later { S.faults shelf.old ≤ S.faults shelf.new }
     ensures passes { (caps : List Cap) (source : SourceProgram) → IsPlanned caps source plan.now
-        → PassesAs (IsPlanned caps) (of_script (Some file.now) source) (S.held shelf.old) (Rose S.stays_at_last (S.faults shelf.old) (S.faults shelf.new)) result }
+        → PassesAs (IsPlanned caps) (of_script (Some file.now) source) (S.held shelf.old)
+        (Rose S.stays_at_last (S.faults shelf.old) (S.faults shelf.new)) result }
 {
     let text = fetch_turn(alloc, shelf, file, MOST_SCRIPT, text::LARGE_SCRIPT)?;
     applied(alloc, plan, &text)
@@ -149,7 +151,7 @@ fn mean_over<L: Language, S: Shelf>(
     compiled: &Compiled<L::Program>,
     shelf: &mut S,
 ) -> Result<Bytes, Stop>
-    requires { IsKnown L.stands compiled.now }
+    requires { HasSource L.stands compiled.now }
     ensures later { S.faults shelf.old ≤ S.faults shelf.new }
     ensures passes { (source : SourceProgram) → IsCompiled L.stands source compiled.now
         → Passes (of_inputs_run ins.now layout false source) (S.held shelf.old) (Rose S.stays_at_last (S.faults shelf.old) (S.faults shelf.new)) result }

@@ -1,7 +1,8 @@
 -- The capacities that a text gives are in their bounds.
-use Rattle.std.proofs.Common.{◌≡◌, ℕ, ◌≤◌, Bool, true, false, List, [], ◌∷◌, ◌++◌, Option, Some, None, refl, ap, sym, subst, arith}
-use Rattle.std.specs.Prelude.{All, nat_le, ◌&&◌}
+use Rattle.std.proofs.Common.{◌≡◌, ℕ, ◌≤◌, Bool, true, false, List, [], ◌∷◌, ◌++◌, Option, Some, None, refl, sym, subst, arith}
+use Rattle.std.specs.Prelude.{nat_le, ◌&&◌}
 use Rattle.std.proofs.lemmas.List.Elements.{All-nil, All-cons, All-append}
+use Rattle.std.proofs.lemmas.Bool.{and_parts}
 use Rattle.std.proofs.lemmas.Bool.Decides.{nat_tests}
 use Rattle.work_text.specs.Tok.{Tok}
 use Rattle.river_plan.specs.Caps.{IsCap, AreCaps, cap_of}
@@ -9,13 +10,9 @@ use Rattle.river_plan.specs.Forms.{Name}
 use Rattle.river_plan.specs.declared.caps.Cap.{Cap}
 use Rattle.text_forms.specs.Texts.{AllFormed}
 use Rattle.river_text.specs.Laws.{CapsFit}
-use Rattle.river_text.specs.Plans.{EntryForm, header, output, input, inner, table, private, operator, TextForm, IsText, IsUnitAt, next_place, add_entry, add_all}
-use Rattle.river_text.specs.Plans.{cap_stands, is_cap, may_stand, entry_cap, stage_of, empty_text, first_place}
+use Rattle.river_text.specs.Plans.{EntryForm, header, output, input, inner, table, private, operator, TextForm, IsUnitAt, next_place, add_entry, add_all}
+use Rattle.river_text.specs.Plans.{cap_stands, is_cap, may_stand, empty_text, first_place}
 use Rattle.river_text.specs.declared.entry.Place.{Place}
-
-both_true : (a b : Bool) → a && b ≡ true → b ≡ true
-both_true true b h = h
-both_true false b h = cc
 
 fits : (n : ℕ) → is_cap n ≡ true → IsCap n
 fits n h = by (nat_le 1 n) (nat_le n 65536) refl refl h where
@@ -27,7 +24,7 @@ fits n h = by (nat_le 1 n) (nat_le n 65536) refl refl h where
 one : (headed : Bool) (q : Name) (most : Option ℕ) → cap_stands headed most ≡ true → AreCaps (cap_of q most)
 one headed q None h = All-nil (λ (c : Cap). IsCap c.most)
 one headed q (Some n) h =
-    All-cons (λ (c : Cap). IsCap c.most) (record { queue = q; most = n }) [] (fits n (both_true headed (is_cap n) h)) (All-nil (λ (c : Cap). IsCap c.most))
+    All-cons (λ (c : Cap). IsCap c.most) (record { queue = q; most = n }) [] (fits n (and_parts headed (is_cap n) h).1) (All-nil (λ (c : Cap). IsCap c.most))
 
 -- with one entry more they still are
 more : (at : Place) (t : TextForm) (e : EntryForm) → may_stand at e ≡ true → AreCaps t.caps → AreCaps (add_entry t e).caps
@@ -35,7 +32,7 @@ more at t header h all = all
 more at t (output d) h all = all
 more at t (input d) h all = all
 more at t (inner q) h all =
-    All-append (λ (c : Cap). IsCap c.most) t.caps (cap_of q.decl.name q.most) all (one at.headed q.decl.name q.most (both_true (nat_le at.stage 3) (cap_stands at.headed q.most) h))
+    All-append (λ (c : Cap). IsCap c.most) t.caps (cap_of q.decl.name q.most) all (one at.headed q.decl.name q.most (and_parts (nat_le at.stage 3) (cap_stands at.headed q.most) h).1)
 more at t (table d) h all = all
 more at t (private v) h all = all
 more at t (operator o) h all = all

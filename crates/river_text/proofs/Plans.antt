@@ -9,7 +9,6 @@ use Rattle.river_base.specs.declared.kind.FlatType.TheVariants.{Rows, Stream, Re
 use Rattle.river_base.specs.declared.kind.QueueType.TheVariants.{Flat, Pack}
 use Rattle.kern_tables.specs.declared.kind.TableKind.TheVariants.{Sum, Collection}
 use Rattle.text_forms.specs.Parse as parse
-use Rattle.text_forms.specs.Parse.{Parse}
 use Rattle.text_forms.specs.Forms as form
 use Rattle.text_forms.proofs.Exact.{Exact, Any, exact-as, exact-less, exact-both, exact-after, exact-before, exact-tested, exact-seen, exact-merged, exact-name}
 use Rattle.text_forms.proofs.Exact.{exact-var, exact-number, exact-maybe, exact-after_word}

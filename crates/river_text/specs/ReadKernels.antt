@@ -20,7 +20,8 @@ width_at = seen (λ n. pos n) count_at
 
 unfoldable pub signed_at : Parse ℤ
 signed_at ts =
-    merged (begins_with s.Minus) (after (s.Minus ∷ []) (seen neg_ℤ value_at)) (merged (is_word_at (codes "min")) (after_word (codes "min") (nothing_at least)) value_at) ts
+    merged (begins_with s.Minus) (after (s.Minus ∷ []) (seen neg_ℤ value_at))
+    (merged (is_word_at (codes "min")) (after_word (codes "min") (nothing_at least)) value_at) ts
 
 -- the kinds of numbers in lists
 abbrev pub kind_number_at : Kind → Parse ℤ

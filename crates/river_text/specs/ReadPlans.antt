@@ -112,7 +112,8 @@ op_from_at label outs ts =
 
 unfoldable pub op_at : Parse OpForm
 op_at ts =
-    then_parsed (river_name_at ts) (λ label us. then_rest (symbols_at (s.Colon ∷ []) us) (λ vs. then_parsed (ports_at vs) (λ outs ws. op_from_at label outs ws)))
+    then_parsed (river_name_at ts) (λ label us. then_rest (symbols_at (s.Colon ∷ []) us)
+    (λ vs. then_parsed (ports_at vs) (λ outs ws. op_from_at label outs ws)))
 
 unfoldable pub private_at : Parse (List ℕ)
 private_at ts = before river_var_at (s.Semicolon ∷ []) ts

@@ -1,7 +1,7 @@
 // Numbers read.
 ghost use Rattle.std.specs.Prelude.{◌≡◌};
 ghost use Rattle.text_forms.specs.Gives.{Gives};
-ghost use Rattle.text_forms.specs.Parse.{commas, count_at, listing};
+ghost use Rattle.text_forms.specs.Parse.{commas, listing};
 ghost use Rattle.work_text.specs.declared.sign.Symbol.TheVariants as s;
 ghost use Rattle.river_text.specs.ReadKernels.{kind_number_at, signed_at, width_at, round, starts_at};
 ghost use Rattle.river_text.specs.ReadKernels.{widths_at, weights_at, number_at, two_at, pair_at, three_at, triple_at, rates_at};

@@ -6,6 +6,7 @@ use Rattle.std.proofs.lemmas.Bool.{and_parts}
 use Rattle.river_base.specs.declared.kind.FlatType.{FlatType}
 use Rattle.river_base.specs.declared.kind.QueueType.{QueueType}
 use Rattle.river_base.specs.declared.kind.QueueType.TheVariants.{Flat, Pack}
+use Rattle.river_base.proofs.Options.{some_is}
 use Rattle.kern_rows.specs.Forms.{FilterForm}
 use Rattle.river_kernels.specs.Kern.{Kern, filter}
 use Rattle.river_kernels.specs.Limits.{either}
@@ -42,9 +43,6 @@ some_ok p q h = cc h
 -- what is none is not some
 pub no_some : {A : Type 0} (a : A) → None ≡ Some a → ⊥
 no_some a h = absurd (cc h)
-
-some_is : {A : Type 0} (a b : A) → Some a ≡ Some b → a ≡ b
-some_is a b h = cc h
 
 -- what is known of an accepted step
 pub record Accepted (p : PlanForm) (l : Name) (n : ℕ) (p' : PlanForm) : Type 0 where

@@ -133,9 +133,6 @@ pub step_no_way : (p : PlanForm) (l : Name) (op : OpForm) (n : ℕ) (source : Na
     → t ≡ kind_of (all_decls p) source → way_of p op (made_of l) n t ≡ None → no N4 ≡ by_op p l n (Some op)
 step_no_way p l op n source t a b r e h = sym (step_way p l op n source t None a b r e h)
 
-some_same : (a b : OpForm) → Some a ≡ Some b → a ≡ b
-some_same a b e = cc
-
 module _ (p : PlanForm) (l : Name) (i : ℕ) (op : OpForm) (n : ℕ) (source : Name) (t : QueueType) (w : Way) (place : IsPlace l p.ops i) (g : slice_get p.ops i ≡ Some op) (few : n ≤ 16) (many : 2 ≤ n)
     (r : op.reads ≡ source ∷ []) (e : t ≡ kind_of (all_decls p) source) (h : way_of p op (made_of l) n t ≡ Some w) where
   split_is : split_by p l op (made_of l) n t w ≡ split_plan p i op (made_of l) n t w

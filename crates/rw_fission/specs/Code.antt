@@ -68,15 +68,15 @@ abbrev pub IsPlaceOf : OpForm → List Op → ℕ → Type 0
 IsPlaceOf op ops i = slice_get (op_forms ops) i ≡ Some op
 
 -- the new operators in its place
-abbrev pub split_at : List OpForm → ℕ → OpForm → FissionNames → ℕ → Way → List OpForm
-split_at ops i op m n w = take i ops ++ (split_ops op m n w ++ drop (i + 1) ops)
+abbrev pub with_split : List OpForm → ℕ → OpForm → FissionNames → ℕ → Way → List OpForm
+with_split ops i op m n w = take i ops ++ (split_ops op m n w ++ drop (i + 1) ops)
 
 -- the plan with the new operators in the place of one
 abbrev pub split_plan : PlanForm → ℕ → OpForm → FissionNames → ℕ → QueueType → Way → PlanForm
 split_plan p i op m n t w = record p {
   queues = p.queues ++ (decls t (each_name m.dealt n) ++ given_decls m n w.join);
   vars = w.stay ++ w.new;
-  ops = split_at p.ops i op m n w;
+  ops = with_split p.ops i op m n w;
 }
 
 -- the plan, its operators and its queues, where the one at a place is split by a form
@@ -84,7 +84,7 @@ abbrev pub formed_plan : PlanForm → ℕ → OpForm → FissionNames → ℕ �
 formed_plan p i op m n t f = split_plan p i op m n t (way_by p op m n f)
 
 abbrev pub formed_ops : PlanForm → List OpForm → ℕ → OpForm → FissionNames → ℕ → Form → List OpForm
-formed_ops p ops i op m n f = split_at ops i op m n (way_by p op m n f)
+formed_ops p ops i op m n f = with_split ops i op m n (way_by p op m n f)
 
 abbrev pub formed_queues : PlanForm → OpForm → FissionNames → ℕ → QueueType → Form → List Decl
 formed_queues p op m n t f = p.queues ++ (decls t (each_name m.dealt n) ++ given_decls m n (way_by p op m n f).join)

@@ -65,7 +65,14 @@ by_adds p op m = record {
 -- THE RESULT
 
 abbrev pub splitter_op : OpForm → FissionNames → ℕ → Way → OpForm
-splitter_op op m n w = record { label = m.splitter; kernel = deal (equal_weights n w.share); reads = op.reads; writes = each_name m.dealt n; vars = m.splitter ∷ [] }
+splitter_op op m n w =
+    record {
+      label = m.splitter;
+      kernel = deal (equal_weights n w.share);
+      reads = op.reads;
+      writes = each_name m.dealt n;
+      vars = m.splitter ∷ [];
+    }
 
 -- what a replica writes
 abbrev pub outs_of : Option (Kern × QueueType) → Name → List Name

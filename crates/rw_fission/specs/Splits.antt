@@ -53,7 +53,8 @@ JoinerGives Good op n w (Some j) =
     → ((i : ℕ) → i < n → h i ≡ (feed (fire w.inner 0) (dealt_to n w.share xs i) (first_kept w.inner)).outs 0)
     → (feed_all j.0 h (first_kept j.0)).outs 0 ≡ (feed (fire op.kernel 0) xs (first_kept op.kernel)).outs 0
 
-pub record Splits (Good : item.Item → Type 0) (p : PlanForm) (l : Name) (op : OpForm) (m : FissionNames) (n : ℕ) (source : Name) (t : QueueType) (w : Way) : Type 0 where
+pub record Splits (Good : item.Item → Type 0) (p : PlanForm) (l : Name) (op : OpForm) (m : FissionNames)
+    (n : ℕ) (source : Name) (t : QueueType) (w : Way) : Type 0 where
   -- the operator, its only input and its outputs
   pub some : 0 < n
   pub reads : op.reads ≡ source ∷ []

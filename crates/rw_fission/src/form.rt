@@ -1,5 +1,5 @@
 // The three forms of operators that may be split.
-ghost use Rattle.std.specs.Prelude.{◌≡◌, ℕ, nat_lt};
+ghost use Rattle.std.specs.Prelude.{◌≡◌, nat_lt};
 ghost use Rattle.std.specs.List.{list_all};
 ghost use Rattle.kern_rows.specs.Forms.{filter_form};
 ghost use Rattle.river_kernels.specs.Kern.{kern_of, filter as filter_kern};

@@ -4,7 +4,7 @@ use Rattle.std.specs.Prelude.{Option, Result, Ok, Err, slice_get}
 use Rattle.std.proofs.lemmas.Bool.{cases_lt}
 use Rattle.river_base.specs.declared.kind.QueueType.{QueueType}
 use Rattle.work_code.specs.Term.{Term, Const, Input, Slot, Neg, Not, Bin}
-use Rattle.kern_bags.specs.declared.kernel.Window.TheVariants.{Now, Range, Unbounded, Latest}
+use Rattle.kern_bags.specs.declared.kernel.Window.TheVariants.{Now, Range, Unbounded}
 use Rattle.river_kernels.specs.Kern.{Kern, window, project, cross, streamer}
 use Rattle.river_kernels.specs.Fits.{Fits}
 use Rattle.river_kernels.specs.declared.types.VarKind.{VarKind}

@@ -40,7 +40,9 @@ is_large op = nat_lt 32 (nesting op.kernel) || nat_lt 64 (length op.writes)
 
 abbrev pub fuse_two : PlanForm → Name → OpForm → OpForm → Result PlanForm Unfit
 fuse_two p q w r =
-    if nat_eq (length r.reads) 1 then (if is_large (fused_op q w r) then Err U4 else (if share w.vars r.vars then Err U5 else Ok (fused_plan p q w r))) else Err U3
+    if nat_eq (length r.reads) 1
+    then (if is_large (fused_op q w r) then Err U4 else (if share w.vars r.vars then Err U5 else Ok (fused_plan p q w r)))
+    else Err U3
 
 abbrev pub fuse_found : PlanForm → Name → Option OpForm → Option OpForm → Result PlanForm Unfit
 fuse_found p q None o = Err U2

@@ -1,7 +1,7 @@
 -- Which selections are hoisted, and what that makes, without a word of how it is found: each condition, and the result.
 use Rattle.std.specs.Prelude.{◌≡◌, ◌↔◌, ◌⊎◌, ℕ, ◌+◌, ◌<◌, ◌≤◌, Result, Some, List, [], ◌∷◌, ◌++◌, length, slice_get}
 use Rattle.work_code.specs.Term.{Term, Const, Input, Slot, Neg, Not, Bin}
-use Rattle.kern_bags.specs.declared.kernel.Window.TheVariants.{Now, Range, Unbounded, Latest}
+use Rattle.kern_bags.specs.declared.kernel.Window.TheVariants.{Now, Range, Unbounded}
 use Rattle.river_kernels.specs.Kern.{Kern, window, select, project, cross, streamer}
 use Rattle.river_plan.specs.declared.plan.Decl.{Decl}
 use Rattle.river_plan.specs.Forms.{Name, OpForm, PlanForm, all_decls}
@@ -162,4 +162,5 @@ pub record IsHoisted (p : PlanForm) (l : Name) (p' : PlanForm) : Type 0 where
 
 -- a hoisting is refused by the first condition that fails, and gives that plan exactly where none fails
 abbrev pub HoistingIsJudged : Type 0
-HoistingIsJudged = (p : PlanForm) (l : Name) (made : Result PlanForm Unfit) → IsPlan p → (hoist_of p l ≡ made) ↔ IsJudgedBy (HoistFails p l) (IsHoisted p l) made
+HoistingIsJudged = (p : PlanForm) (l : Name) (made : Result PlanForm Unfit) → IsPlan p
+    → (hoist_of p l ≡ made) ↔ IsJudgedBy (HoistFails p l) (IsHoisted p l) made

@@ -1,6 +1,6 @@
 // Fusion of the writer and the reader of a queue.
 ghost use Rattle.std.specs.Prelude.{◌≡◌, ◌<◌, ◌^◌, IfOk, OnOk, ◌++◌, IsTrue, ◌↔◌, length, take, drop, ◌+◌};
-ghost use Rattle.river_plan.specs.Forms.{plan_form, op_form, op_forms, decl_names, queue_names};
+ghost use Rattle.river_plan.specs.Forms.{plan_form, op_form, decl_names, queue_names};
 ghost use Rattle.river_plan.specs.Names.{count};
 ghost use Rattle.plan_edits.specs.Lists.{place_of_name, undeclared};
 ghost use Rattle.rw_local.specs.Fuse.{fuse_of, fused_plan};

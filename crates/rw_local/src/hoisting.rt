@@ -3,7 +3,7 @@ ghost use Rattle.std.specs.Prelude.{◌≡◌, ◌<◌, IfOk, OnOk, MatchOption,
 ghost use Rattle.work_code.specs.Term.{term};
 ghost use Rattle.river_kernels.specs.Kern.{kern_of, select};
 ghost use Rattle.plan_edits.specs.declared.unfit.Unfit.TheVariants.{H1};
-ghost use Rattle.river_plan.specs.Forms.{PlanForm, OpForm, plan_form, op_form, op_forms, decl_names, all_decls};
+ghost use Rattle.river_plan.specs.Forms.{PlanForm, OpForm, plan_form, op_form, op_forms, decl_names};
 ghost use Rattle.river_plan.specs.Names.{count};
 ghost use Rattle.river_plan.specs.Kinds.{kind_of};
 ghost use Rattle.river_plan.specs.Uses.{named_it};
@@ -80,7 +80,8 @@ fn hoisted_lists(
 ) -> Result<RawPlan, NoMemory>
     requires there { 0 < count mid (decl_names raw.now.queues) }
     requires side { side < length below.now.reads }
-    ensures { IfOk result (λ lists. plan_form lists ≡ hoisted_plan (plan_form raw.now) (op_form above.now) (op_form below.now) side (term cond.now) src mid out) }
+    ensures { IfOk result (λ lists. plan_form lists
+        ≡ hoisted_plan (plan_form raw.now) (op_form above.now) (op_form below.now) side (term cond.now) src mid out) }
 {
     let kind = kind_of(raw, &src);
     let queues = retyped(alloc, &raw.queues, mid, kind)?;
@@ -193,7 +194,8 @@ fn first(names: &Names) -> Option<Name>
 
 // The first operator of this label.
 fn labelled(ops: &Ops, label: Name) -> Option<&Op>
-    ensures { MatchOption result (first_with (named_it label) (op_forms ops.now) ≡ None) (λ op. first_with (named_it label) (op_forms ops.now) ≡ Some (op_form op.now)) }
+    ensures { MatchOption result (first_with (named_it label) (op_forms ops.now) ≡ None)
+        (λ op. first_with (named_it label) (op_forms ops.now) ≡ Some (op_form op.now)) }
 {
     for op in ops.as_slice() {
         if op.label == label {
@@ -226,7 +228,8 @@ fn with_at(alloc: Global, decls: &Decls, at: usize, decl: Decl) -> Result<Decls,
 
 // The condition of a selection.
 fn condition(kernel: &Kernel) -> Option<&Expr>
-    ensures { MatchOption result ((p : PlanForm) (u : OpForm) → hoist_kernel p u (kern_of kernel.now) ≡ Err H1) (λ e. kern_of kernel.now ≡ select (term e.now)) }
+    ensures { MatchOption result ((p : PlanForm) (u : OpForm) → hoist_kernel p u (kern_of kernel.now) ≡ Err H1)
+        (λ e. kern_of kernel.now ≡ select (term e.now)) }
 {
     match kernel {
         Kernel::Select(cond) => Some(cond),

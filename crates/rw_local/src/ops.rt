@@ -15,7 +15,8 @@ use std::alloc::Global;
 
 /// The first operator that writes the queue.
 pub(crate) fn writer(ops: &Ops, queue: Name) -> Option<&Op>
-    ensures { MatchOption result (first_with (writes_it queue) (op_forms ops.now) ≡ None) (λ op. first_with (writes_it queue) (op_forms ops.now) ≡ Some (op_form op.now)) }
+    ensures { MatchOption result (first_with (writes_it queue) (op_forms ops.now) ≡ None)
+        (λ op. first_with (writes_it queue) (op_forms ops.now) ≡ Some (op_form op.now)) }
 {
     for op in ops.as_slice() {
         if contains(&op.writes, queue) {
@@ -27,7 +28,8 @@ pub(crate) fn writer(ops: &Ops, queue: Name) -> Option<&Op>
 
 /// The first operator that reads the queue.
 pub(crate) fn reader(ops: &Ops, queue: Name) -> Option<&Op>
-    ensures { MatchOption result (first_with (reads_it queue) (op_forms ops.now) ≡ None) (λ op. first_with (reads_it queue) (op_forms ops.now) ≡ Some (op_form op.now)) }
+    ensures { MatchOption result (first_with (reads_it queue) (op_forms ops.now) ≡ None)
+        (λ op. first_with (reads_it queue) (op_forms ops.now) ≡ Some (op_form op.now)) }
 {
     for op in ops.as_slice() {
         if contains(&op.reads, queue) {
@@ -106,7 +108,8 @@ fn add(
 ) -> Result<(), NoMemory>
     requires there { 0 < count queue writer.now.writes }
     requires few { length writer.now.writes < 2 ^ 32 }
-    ensures { OnOk result (op_forms all.new ≡ op_forms all.old ++ replaced queue (fused_op queue (op_form writer.now) (op_form reader.now) ∷ []) (op_form op.now ∷ [])) }
+    ensures { OnOk result (op_forms all.new ≡ op_forms all.old
+        ++ replaced queue (fused_op queue (op_form writer.now) (op_form reader.now) ∷ []) (op_form op.now ∷ [])) }
 {
     if contains(&op.writes, queue) {
         all.push(whole(alloc, writer, reader, queue)?)?;

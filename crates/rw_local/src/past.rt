@@ -1,8 +1,8 @@
 // Which operators a selection passes.
-ghost use Rattle.std.specs.Prelude.{◌≡◌, IfOk, map};
+ghost use Rattle.std.specs.Prelude.{◌≡◌};
 ghost use Rattle.work_code.specs.Term.{term, terms};
 ghost use Rattle.river_kernels.specs.Kern.{kern_of};
-ghost use Rattle.rw_local.specs.Hoist.{passes, past_window, refielded, of_projection, of_first, of_second, at_side, either_side, or_h4};
+ghost use Rattle.rw_local.specs.Hoist.{passes, refielded, of_projection, of_first, of_second, at_side, either_side, or_h4};
 ghost use Rattle.rw_local.specs.HoistCode.{IsPassing};
 
 use crate::exprs::{Fields, refielded};
@@ -40,7 +40,8 @@ fn past_projection(alloc: Global, exprs: &Exprs, cond: &Expr) -> Result<(usize, 
 }
 
 fn past_cross(alloc: Global, width: u32, cond: &Expr) -> Result<(usize, Expr), Unfit>
-    ensures { IsPassing (or_h4 (either_side (at_side 0 (refielded (of_first width) (term cond.now))) (at_side 1 (refielded (of_second width) (term cond.now))))) result }
+    ensures { IsPassing (or_h4 (either_side (at_side 0 (refielded (of_first width) (term cond.now)))
+        (at_side 1 (refielded (of_second width) (term cond.now))))) result }
 {
     if let Some(moved) = refielded(alloc, cond, Fields::First(width))? {
         return Ok((0, moved));

@@ -3,7 +3,7 @@ use Rattle.std.proofs.Common.{◌≡◌, ℕ, List, [], ◌∷◌, ◌++◌, Opt
 use Rattle.std.specs.Prelude.{max}
 use Rattle.saw_text.specs.Tree.{Expression}
 use Rattle.saw_text.specs.Tree.{UnitForm, TableUnit, StatementUnit}
-use Rattle.saw_model.specs.Meaning.{reach, reach_all, reach_parts, listed, emit_row, table_kind, table_decl}
+use Rattle.saw_model.specs.Meaning.{reach, reach_all, reach_parts, listed, emit_row}
 use Rattle.saw_build.specs.Reach.{reach_part}
 
 max_assoc : (a b c : ℕ) → max (max a b) c ≡ max a (max b c)

@@ -3,7 +3,7 @@ use Rattle.std.specs.Prelude.{◌<◌, ◌≤◌, ◌^◌, List, [], ◌∷◌, 
 use Rattle.saw_text.specs.Tree.{Expression}
 use Rattle.saw_text.specs.Tree as tree
 use Rattle.saw_text.specs.Tree.{Statement, Declare, Assign, Emit, If, Block, End, Then, Optional, Unwritten, Written, UnitForm, TableUnit, StatementUnit, Program}
-use Rattle.saw_model.specs.Meaning.{listed, table_kind, table_decl}
+use Rattle.saw_model.specs.Meaning.{listed}
 
 -- each number of an expression is below 2^63
 abbrev pub AreValues : Expression → Type 0

@@ -1,9 +1,8 @@
 // Units, one after another.
 ghost use Rattle.std.specs.Prelude.{◌≡◌, ◌<◌, length, OnOk};
-ghost use Rattle.work_code.specs.Steps.{Done};
 ghost use Rattle.saw_model.specs.Elaborate.{is_best, table_of, part_judged as read_part};
 ghost use Rattle.saw_model.specs.Judged.{all_parts};
-ghost use Rattle.saw_model.specs.Meaning.{table_kind_of, table_kind};
+ghost use Rattle.saw_model.specs.Meaning.{table_kind_of};
 ghost use Rattle.saw_text.specs.Tree.{unit_form, unit_forms};
 ghost use Rattle.saw_build.specs.View.{Judges};
 ghost use Rattle.saw_build.specs.Judging.{at_of, fits_of, kind_within, Reads, ReadsTable, JudgesAll};
@@ -83,7 +82,8 @@ impl Judge {
 
     // A table, which is known from here on.
     fn table(&mut self, table: &Table) -> Result<(), Fault>
-        ensures { ReadsTable result self.old self.new (table_of table.now.name (table_kind_of table.now.kind (length table.now.indexes.items)) (at_of self.old)) }
+        ensures { ReadsTable result self.old self.new
+            (table_of table.now.name (table_kind_of table.now.kind (length table.now.indexes.items)) (at_of self.old)) }
     {
         let kind = self.fits(table)?;
         let place = self.tables;

@@ -2,7 +2,6 @@
 ghost use Rattle.std.specs.Prelude.{◌≡◌, ◌≤◌, ◌<◌, ◌^◌, IsTrue, IfOk, OnOk, [], ◌∷◌, ◌++◌, map, length, codes};
 ghost use Rattle.river_base.specs.Name.{is_name};
 ghost use Rattle.work_code.specs.Steps.{code_body, steps};
-ghost use Rattle.kern_rows.specs.Forms.{CodeForm};
 ghost use Rattle.river_kernels.specs.Kern.{code as code_of};
 ghost use Rattle.river_kernels.specs.Fits.{rows};
 ghost use Rattle.river_plan.specs.Forms.{plan_form, op_form, op_forms};
@@ -153,7 +152,8 @@ fn one(alloc: Global, name: Name) -> Result<Names, NoMemory>
 
 // The operator that runs the body on each record, by its parts.
 fn map_by(alloc: Global, label: Name, code: Code, outs: Numbers, reads: Names, writes: Names) -> Op
-    ensures { op_form result ≡ record { label = label; kernel = code_of (record { body = code_body code; outs = outs; starts = [] }); reads = reads; writes = writes; vars = [] } }
+    ensures { op_form result
+        ≡ record { label = label; kernel = code_of (record { body = code_body code; outs = outs; starts = [] }); reads = reads; writes = writes; vars = [] } }
 {
     Op {
         label,

@@ -1,12 +1,12 @@
 // Statements that hold no block.
-ghost use Rattle.std.specs.Prelude.{◌≡◌, ◌<◌, OnOk};
+ghost use Rattle.std.specs.Prelude.{◌≡◌, ◌<◌};
 ghost use Rattle.work_code.specs.Term.{term, terms};
 ghost use Rattle.saw_model.specs.Elaborate.{first_term, indexes_of, keys_in, weight_of, step_of};
 ghost use Rattle.saw_text.specs.Tree.{Declare, Assign, Emit};
 ghost use Rattle.saw_model.specs.Meaning.{listed};
 ghost use Rattle.saw_text.specs.Tree.{expression, option_expression};
 ghost use Rattle.saw_text.specs.View.{expressions};
-ghost use Rattle.saw_build.specs.View.{scope_of, option_terms, Judges};
+ghost use Rattle.saw_build.specs.View.{option_terms, Judges};
 ghost use Rattle.saw_build.specs.Judging.{at_of, Reads, row_of};
 ghost use Rattle.saw_build.specs.Valued.{AreValues, AllValues};
 

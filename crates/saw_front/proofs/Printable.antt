@@ -1,11 +1,11 @@
 -- The plan of a program that a text stands for can be written as River text: the grammar lets `if` nest at most 16 deep, no `if` of
 -- the plan nests deeper than it does in the program, and no window is there.
-use Rattle.std.proofs.Common.{◌≡◌, ℕ, zero, suc, ◌≤◌, List, [], ◌∷◌, ◌++◌, Option, Some, None, Result, Ok, Err, inl, inr, refl, sym, subst, arith}
+use Rattle.std.proofs.Common.{◌≡◌, ℕ, suc, ◌≤◌, List, [], ◌∷◌, ◌++◌, Option, Some, None, Result, Ok, Err, inl, inr, refl, sym, subst, arith}
 use Rattle.std.specs.Prelude.{max, codes, map, nat_eq, nat_lt, nat_le, length}
 use Rattle.std.specs.List.{AllByRecursion}
 use Rattle.std.specs.Str.{bytes_eq}
 use Rattle.work_text.specs.Cut.{units_of as cut_units}
-use Rattle.work_code.specs.Steps.{Step, Steps, Done}
+use Rattle.work_code.specs.Steps.{Steps, Done}
 use Rattle.work_code.specs.Steps as steps
 use Rattle.work_code.specs.Term.{Term}
 use Rattle.work_text.specs.Tok.{Tok, toks}
@@ -18,7 +18,7 @@ use Rattle.river_print.specs.Printable.{IsPrintable}
 use Rattle.river_print.specs.Writable.{Every, depths}
 use Rattle.river_print.proofs.Spoken.{IsSpoken, spoken-printable}
 use Rattle.saw_text.specs.Tree.{Statement, Declare, Assign, Emit, If, Block, End, Then, Optional, Unwritten, Written, UnitForm, TableUnit, StatementUnit, Program}
-use Rattle.saw_model.specs.Meaning.{tables_in, table_kind, table_decl}
+use Rattle.saw_model.specs.Meaning.{tables_in, table_kind}
 use Rattle.saw_model.specs.Elaborate.{Fault, Limit, Shape, At, on_ok, demand, both_steps, one_step, counted, is_new, has_slot, first_term, declared, slot_of}
 use Rattle.saw_model.specs.Elaborate.{table_port, indexes_of, term_of, weight_of, keys_in, emitted, is_best, tabled, table_of, find, step_of, steps_of, steps_optional}
 use Rattle.saw_model.specs.Elaborate.{part_judged as read_part, nothing_read}

@@ -40,7 +40,8 @@ abbrev pub PlansMean : Type 0
 PlansMean =
     (text : List ℕ) (a : Accepted) (records : List (List ℤ)) → compiled text ≡ Ok a
     → IsPlan (plan_in a)
-    × (meaning (plan_in a) (rows_as_items (map (take (width (program_in a))) records) ∷ []) ≡ record { outs = []; tables = program_tables (program_in a) records })
+    × (meaning (plan_in a) (rows_as_items (map (take (width (program_in a))) records) ∷ [])
+    ≡ record { outs = []; tables = program_tables (program_in a) records })
 
 -- the plan of a text's program is within the bounds of River text: what is printed of it stands for it, by the promise of the printer
 abbrev pub PlansArePrintable : Type 0

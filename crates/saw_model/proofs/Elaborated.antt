@@ -54,10 +54,6 @@ pub demanded : (b : Bool) (e : Fault) (u : Unit {0}) → demand b e ≡ fine u �
 demanded true e u h = refl
 demanded false e u h = absurd (cc h)
 
--- what stands in equal options is equal
-pub some_is : {A : Type 0} (x y : A) → Some x ≡ Some y → x ≡ y
-some_is x y h = cc
-
 at_here : (n m : Name) (z : ℤ) (env : Values) → name_eq n m ≡ true → at_name n z env m ≡ z
 at_here n m z env e = ap (λ b. if b then z else env m) e
 

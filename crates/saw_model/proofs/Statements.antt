@@ -4,7 +4,7 @@ use Rattle.std.proofs.Common.{arith, nat_lt, nat_eq}
 use Rattle.std.specs.Prelude.{if◌then◌else◌, slice_set}
 use Rattle.std.proofs.lemmas.List.{map-append}
 use Rattle.work_code.specs.Term.{Term}
-use Rattle.work_code.specs.Steps.{Step, Steps, Done}
+use Rattle.work_code.specs.Steps.{Steps, Done}
 use Rattle.work_code.specs.Steps as steps
 use Rattle.work_code.specs.Ran.{Ran, ran, ran_once}
 use Rattle.work_code.specs.Value.{val, is_true}

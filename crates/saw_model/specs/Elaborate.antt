@@ -12,7 +12,7 @@ use Rattle.river_plan.specs.Forms.{Name}
 use Rattle.saw_text.specs.Tree.{Expression}
 use Rattle.saw_text.specs.Tree as tree
 use Rattle.saw_text.specs.Tree.{Statement, Declare, Assign, Emit, If, Block, End, Then, Optional, Unwritten, Written, UnitForm, TableUnit, StatementUnit}
-use Rattle.saw_model.specs.Meaning.{table_kind, table_decl}
+use Rattle.saw_model.specs.Meaning.{table_kind}
 
 -- why a program is refused
 pub data Fault : Type 0 where

@@ -14,7 +14,7 @@ use Rattle.river_plan.specs.declared.plan.TableDecl.{TableDecl}
 use Rattle.river_plan.specs.Forms.{Name}
 use Rattle.brooklet_model.specs.Machine.{at_name}
 use Rattle.saw_text.specs.Tree.{Expression, Statement, Declare, Assign, Emit, If, Block, End, Then}
-use Rattle.saw_text.specs.Tree.{Optional, Unwritten, Written, TableForm, UnitForm, TableUnit, StatementUnit, Program}
+use Rattle.saw_text.specs.Tree.{Optional, Unwritten, Written, TableForm, TableUnit, StatementUnit, Program}
 use Rattle.saw_text.specs.Tree as tree
 use Rattle.saw_text.specs.declared.tree.Kind.{Kind}
 use Rattle.saw_text.specs.declared.tree.Kind.TheVariants as code

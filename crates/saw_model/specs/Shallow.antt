@@ -2,7 +2,7 @@
 use Rattle.std.specs.Prelude.{◌≤◌, List, [], ◌∷◌}
 use Rattle.saw_text.specs.Tree.{Expression, depth_of}
 use Rattle.saw_text.specs.Tree.{Statement, Declare, Assign, Emit, If, Block, End, Then, Optional, Unwritten, Written, UnitForm, TableUnit, StatementUnit, Program}
-use Rattle.saw_model.specs.Meaning.{listed, table_kind, table_decl}
+use Rattle.saw_model.specs.Meaning.{listed}
 
 abbrev pub IsLow : Expression → Type 0
 IsLow t = depth_of t ≤ 64

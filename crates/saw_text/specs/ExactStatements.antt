@@ -55,7 +55,8 @@ unfolding indexes_at
 exact-indexes n = exact-less (exact-many no_bracket (exact-index n) (listed-squares IsExpression n)) (λ rest d. (tt, d))
 
 exact-weight : (n : ℕ)
-    → Exact (form.Maybe (form.AfterWord (codes "weight") (IsExpression n))) (weight_at n) (λ rest. Ends 6 rest × (parse.is_word_at (codes "weight") rest ≡ false))
+    → Exact (form.Maybe (form.AfterWord (codes "weight") (IsExpression n))) (weight_at n)
+    (λ rest. Ends 6 rest × (parse.is_word_at (codes "weight") rest ≡ false))
 unfolding weight_at
 exact-weight n = exact-maybe (parse.is_word_at (codes "weight")) (exact-after_word (codes "weight") (exact-term n)) (λ v ts rest h. rw h.is refl)
 

@@ -2,7 +2,6 @@
 ghost use Rattle.std.specs.Prelude.{◌≡◌, IfOk, map};
 ghost use Rattle.text_forms.specs.Gives.{Gives};
 ghost use Rattle.text_blocks.specs.Parts.{optional};
-ghost use Rattle.saw_text.specs.Expressions.{term_at};
 ghost use Rattle.saw_text.specs.Blocks.{declare_at, assign_at, indexes_at, weight_at, emit_at, named_after, plain_at};
 ghost use Rattle.saw_text.specs.Tree.{expression, statement, block, in_turn};
 ghost use Rattle.saw_text.specs.View.{expressions};

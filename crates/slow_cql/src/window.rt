@@ -1,5 +1,5 @@
 // The windows on the rows of a stream.
-ghost use Rattle.std.specs.Prelude.{◌≡◌, ◌-◌, ◌&&◌, not, ℤ, List, length, map, filter, drop, int_le, int_lt, None};
+ghost use Rattle.std.specs.Prelude.{◌≡◌, ◌-◌, ◌&&◌, not, ℤ, length, map, filter, drop, int_le, int_lt, None};
 ghost use Rattle.cql_model.specs.Streams.{in_reach};
 ghost use Rattle.cql_text.specs.Tree.{window_of};
 ghost use Rattle.cql_text.specs.declared.tree.Window.TheVariants.{Range};

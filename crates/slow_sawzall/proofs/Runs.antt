@@ -6,7 +6,7 @@ use Rattle.std.specs.Prelude.{if◌then◌else◌}
 use Rattle.work_code.specs.Value.{is_true}
 use Rattle.saw_text.specs.Tree.{Expression}
 use Rattle.saw_text.specs.Tree.{Statement, Declare, Assign, Emit, If, Block, End, Then, Optional, Unwritten, Written, UnitForm, TableUnit, StatementUnit, Program}
-use Rattle.saw_model.specs.Meaning.{Values, eval, eval_all, Emitted, State, table_kind, table_decl}
+use Rattle.saw_model.specs.Meaning.{Values, eval, eval_all, Emitted, State}
 use Rattle.saw_model.specs.Meaning.{emit_row, listed, exec, exec_block, exec_optional, exec_units, fresh_state, emits}
 use Rattle.saw_model.proofs.Elaborated.{eval_all-append}
 use Rattle.saw_text.specs.declared.tree.Expr.{Expr}

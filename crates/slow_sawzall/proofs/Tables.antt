@@ -11,7 +11,7 @@ use Rattle.kern_tables.proofs.Tabs.{tables_keep_adds}
 use Rattle.river_base.specs.Name.{name_eq}
 use Rattle.river_plan.specs.Forms.{Name}
 use Rattle.saw_text.specs.Tree.{UnitForm, TableUnit, StatementUnit, Program}
-use Rattle.saw_model.specs.Meaning.{Emitted, rows_for, table_kind, table_decl}
+use Rattle.saw_model.specs.Meaning.{Emitted, rows_for}
 use Rattle.saw_text.specs.declared.tree.Unit as unit
 use Rattle.saw_text.specs.Tree.{unit_form, unit_forms}
 use Rattle.saw_build.proofs.Units.{parts_at, parts_none}

@@ -10,6 +10,7 @@ use Rattle.kern_tables.specs.declared.kind.TableKind.{TableKind}
 use Rattle.kern_tables.specs.declared.kind.TableKind.TheVariants.{Sum, Collection, Maximum}
 use Rattle.kern_tables.specs.Tables.{table_width}
 use Rattle.river_base.specs.Name.{name_eq}
+use Rattle.river_base.proofs.Options.{some_is}
 use Rattle.river_plan.specs.Forms.{Name, table_names}
 use Rattle.river_plan.specs.declared.plan.TableDecl.{TableDecl}
 use Rattle.river_plan.proofs.NameLemmas.{cases_bool, name_is}
@@ -18,7 +19,7 @@ use Rattle.saw_text.specs.Tree.{Statement, Declare, Assign, Emit, If, Block, End
 use Rattle.saw_model.specs.Meaning.{tables_in, eval, eval_all, Emitted, State, table_kind, table_decl}
 use Rattle.saw_model.specs.Meaning.{emit_row, listed, exec, exec_block, exec_optional, exec_units, fresh_state, emits, rows_for}
 use Rattle.saw_model.specs.Elaborate.{Limit, on_ok, Scope, term_of, At, indexes_of, keys_in, weight_of, step_of, steps_of, steps_optional, nothing_read}
-use Rattle.saw_model.proofs.Elaborated.{fine, ok_parts, if_both, some_is, ArePorts, one_more}
+use Rattle.saw_model.proofs.Elaborated.{fine, ok_parts, if_both, ArePorts, one_more}
 use Rattle.saw_model.proofs.Fed.{AreOnce, one_place}
 use Rattle.saw_model.proofs.Parts.{parts_read, reads_parts, tabled_parts, split_parts, tables_once, got_here, ports_new}
 use Rattle.saw_model.proofs.Statements.{second_at, Sent, sent_parts, forked_parts, followed_parts, grows}

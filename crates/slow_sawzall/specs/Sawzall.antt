@@ -7,7 +7,7 @@ use Rattle.river_plan.specs.Forms.{Name}
 use Rattle.brooklet_model.specs.Machine.{at_name}
 use Rattle.saw_text.specs.Tree.{Expression}
 use Rattle.saw_text.specs.Tree.{Statement, Declare, Assign, Emit, If, Block, End, Then, Optional, Unwritten, Written, UnitForm, TableUnit, StatementUnit, Program}
-use Rattle.saw_model.specs.Meaning.{tables_in, Values, Emitted, State, listed, table_kind, table_decl}
+use Rattle.saw_model.specs.Meaning.{tables_in, Values, Emitted, State, listed, table_kind}
 use Rattle.saw_model.specs.Meaning.{emit_row, exec, rows_for}
 use Rattle.saw_model.specs.Elaborate.{At}
 use Rattle.saw_model.specs.Judged.{judged}

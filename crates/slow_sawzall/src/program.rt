@@ -1,6 +1,5 @@
 // What a Sawzall program means: what all records emit, and what each table makes of it.
 ghost use Rattle.std.specs.Prelude.{◌≡◌, [], ◌∷◌, ◌++◌, map, IfOk, OnOk};
-ghost use Rattle.std.specs.List.{AllByRecursion};
 ghost use Rattle.kern_tables.specs.Tables.{tab, table_width};
 ghost use Rattle.kern_tables.specs.Kept.{kept_of, rows_of, width_of_table, kind_of_table as kind_kept};
 ghost use Rattle.saw_model.specs.Meaning.{table_kind_of, rows_for, program_tables};

@@ -1,5 +1,5 @@
 // What a Sawzall program does for a record, statement by statement.
-ghost use Rattle.std.specs.Prelude.{◌≡◌, [], ◌++◌, flat_map, length, IfOk, OnOk};
+ghost use Rattle.std.specs.Prelude.{◌≡◌, [], ◌++◌, flat_map, IfOk, OnOk};
 ghost use Rattle.saw_text.specs.Tree.{Declare, Assign, Emit};
 ghost use Rattle.saw_model.specs.Meaning.{eval_all, emit_row, listed, exec, exec_block, exec_optional, exec_units, emits};
 ghost use Rattle.saw_text.specs.Tree.{expression, option_expression, statement, block, or_unwritten, unit_form, unit_forms};
@@ -170,7 +170,8 @@ fn emitted_row(
     locals: &[(Name, i64)],
 ) -> Result<Row, NoMemory>
     requires { AreEmitted (expressions indexes.now) (expression first.now) (option_expression weight.now) }
-    ensures { IfOk result (λ made. made ≡ eval_all (emit_row (expressions indexes.now) (expression first.now) (option_expression weight.now)) row.now (named_values locals.now)) }
+    ensures { IfOk result (λ made. made
+        ≡ eval_all (emit_row (expressions indexes.now) (expression first.now) (option_expression weight.now)) row.now (named_values locals.now)) }
 {
     let mut values = Vec::new(alloc);
     add_values(&mut values, indexes, row, locals)?;

@@ -1,5 +1,5 @@
 // The values of Sawzall's expressions, for the fields of a record and the values of its locals.
-ghost use Rattle.std.specs.Prelude.{◌≡◌, pos, List, OnOk, slice_index_or};
+ghost use Rattle.std.specs.Prelude.{◌≡◌, pos, OnOk, slice_index_or};
 ghost use Rattle.brooklet_model.specs.Machine.{at_name};
 ghost use Rattle.saw_model.specs.Meaning.{eval as value_said, eval_or, listed};
 ghost use Rattle.saw_text.specs.Tree.{expression, option_expression};

@@ -277,7 +277,8 @@ impl Firing {
         requires low { AreValues (expression low.now) }
         requires high { AreValues (expression high.now) }
         requires body { AreWritten (block body.now) }
-        ensures { OnOk result (state_of self.new ≡ exec (For name (expression low.now) (is_turn until) (expression high.now) (block body.now)) items.now (state_of self.old)) }
+        ensures { OnOk result (state_of self.new
+            ≡ exec (For name (expression low.now) (is_turn until) (expression high.now) (block body.now)) items.now (state_of self.old)) }
     {
         let low = self.bound(low, items)?;
         let high = self.bound(high, items)?;

@@ -2,9 +2,8 @@
 ghost use Rattle.std.specs.Prelude.{◌≡◌, ◌≤◌, ◌+◌, suc, length, [], ◌∷◌, ◌++◌, IfOk, OnOk};
 ghost use Rattle.streamit_model.specs.Laws.{as_items};
 ghost use Rattle.brooklet_model.specs.ByIndex.{collected};
-ghost use Rattle.streamit_model.specs.Meaning.{all_work, known_works, body_works, piped, share_of, weights_for, program_outputs};
-ghost use Rattle.streamit_text.specs.Program.{filter_tree, program_of, body_of, adds_of, dealing_of, weights_of};
-ghost use Rattle.streamit_unroll.specs.Filter.{IsReadable};
+ghost use Rattle.streamit_model.specs.Meaning.{known_works, body_works, piped, share_of, weights_for, program_outputs};
+ghost use Rattle.streamit_text.specs.Program.{program_of, body_of, adds_of, dealing_of, weights_of};
 ghost use Rattle.streamit_build.specs.Readable.{IsReadableBody, AreReadable};
 ghost use Rattle.slow_streamit.specs.Works.{works_of, branch_works, IsNewestPlace};
 

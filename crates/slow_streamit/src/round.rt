@@ -1,7 +1,6 @@
 // Splitters and joiners, by the numbers of their items.
-ghost use Rattle.std.specs.Prelude.{◌≡◌, ◌+◌, ◌*◌, ◌/◌, ◌%◌, ◌∷◌, [], length, replicate, IfOk, nat_eq, slice_index_or};
-ghost use Rattle.river_base.specs.Places.{list_at};
-ghost use Rattle.brooklet_model.specs.ByIndex.{cycle, part_of_cycle, within, branch, dealt, number_in_branch, collected_at, size_of, collected};
+ghost use Rattle.std.specs.Prelude.{◌≡◌, ◌+◌, ◌*◌, ◌/◌, ◌%◌, ◌∷◌, [], replicate, IfOk, nat_eq, slice_index_or};
+ghost use Rattle.brooklet_model.specs.ByIndex.{cycle, part_of_cycle, within, branch, dealt, collected_at, size_of, collected};
 ghost use Rattle.streamit_model.specs.Meaning.{weights_for};
 ghost use Rattle.streamit_text.specs.Program.{weights_of};
 

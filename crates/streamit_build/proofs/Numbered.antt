@@ -1,10 +1,10 @@
 -- Names with numbers behind them.
-use Rattle.std.proofs.Common.{◌≡◌, ℕ, zero, suc, ◌+◌, ◌^◌, ◌<◌, ◌≤◌, Bool, true, List, [], ◌∷◌, ◌++◌, length, sym, ap, ◌∙◌, arith, length-append, add-one}
+use Rattle.std.proofs.Common.{◌≡◌, ℕ, zero, suc, ◌+◌, ◌^◌, ◌<◌, ◌≤◌, true, List, [], ◌∷◌, ◌++◌, length, sym, ap, ◌∙◌, arith, length-append, add-one}
 use Rattle.std.proofs.Common.{get_or, take, pos}
 use Rattle.std.specs.Prelude.{◌&&◌, codes, nat_le}
 use Rattle.std.specs.List.{list_all}
 use Rattle.std.specs.Fmt.{decimal}
-use Rattle.std.proofs.lemmas.Bool.{and_parts, true≢false}
+use Rattle.std.proofs.lemmas.Bool.{and_from, and_parts, true≢false}
 use Rattle.std.proofs.lemmas.Fmt.{length-decimal-le}
 use Rattle.std.proofs.lemmas.List.{take_more, map-append}
 use Rattle.std.proofs.lemmas.List.Folds.{list_all-append}
@@ -26,9 +26,6 @@ queues-more k n = ap (queues k) (add-one n) ∙ queues-suc k n
 pub weights-more : (ws : List ℕ) (i w : ℕ) → i < length ws → w ≡ get_or ws i w → weights (take (i + 1) ws) ≡ weights (take i ws) ++ pos w ∷ []
 weights-more ws i w lt e = ap weights (take_more ws i w lt ∙ ap (λ x. take i ws ++ x ∷ []) (sym e)) ∙ map-append pos (take i ws) (w ∷ [])
 
-both_true : (a b : Bool) → a ≡ true → b ≡ true → a && b ≡ true
-both_true a b h k = rw h k
-
 -- a name of at most 40 bytes with a number behind it is a name
 pub numbered_is_name : (name : Name) (k : ℕ) → is_name name ≡ true → length name ≤ 40 → k < 2 ^ 32 → is_name (numbered name k) ≡ true
 unfolding is_word is_letter is_digit
@@ -38,9 +35,9 @@ numbered_is_name (b ∷ bs) k h len lt =
     let q = and_parts (list_all is_word bs) (nat_le (length bs) 63) p.1 in
     let d = decimal_goes k (omega (arith, lt)) in
     let l = length-decimal-le 10 k (omega arith) (omega (arith, lt)) (omega (arith, lt)) in
-    let all : list_all is_word (bs ++ (codes "@" ++ decimal k)) ≡ true = list_all-append is_word bs (codes "@" ++ decimal k) ∙ both_true (list_all is_word bs) (list_all is_word (decimal k)) q.0 d in
+    let all : list_all is_word (bs ++ (codes "@" ++ decimal k)) ≡ true = list_all-append is_word bs (codes "@" ++ decimal k) ∙ and_from (list_all is_word bs) (list_all is_word (decimal k)) q.0 d in
     let few : length (bs ++ (codes "@" ++ decimal k)) ≤ 63 = (let a = length-append bs (codes "@" ++ decimal k) in omega (arith, a, l, len)) in
-    both_true (is_letter b) _ p.0 (both_true (list_all is_word (bs ++ (codes "@" ++ decimal k))) _ all (le_true (length (bs ++ (codes "@" ++ decimal k))) 63 few))
+    and_from (is_letter b) _ p.0 (and_from (list_all is_word (bs ++ (codes "@" ++ decimal k))) _ all (le_true (length (bs ++ (codes "@" ++ decimal k))) 63 few))
   where
     le_true : (a b : ℕ) → a ≤ b → nat_le a b ≡ true
     le_true a b h = grind arith

@@ -1,4 +1,5 @@
 -- Weights that fit, and those that do not.
+use Rattle.std.proofs.lemmas.Bool.{and_from}
 use Rattle.std.proofs.Common.{◌≡◌, ◌≢◌, ℕ, zero, suc, ◌+◌, ◌*◌, ◌<◌, ◌≤◌, Bool, true, false, List, [], ◌∷◌, ◌++◌, length, take, get_or, replicate, Ok, Err}
 use Rattle.std.proofs.Common.{refl, ap, ◌∙◌, arith, nat_eq, nat_le}
 use Rattle.std.specs.Prelude.{◌&&◌}
@@ -8,9 +9,6 @@ use Rattle.std.proofs.lemmas.List.Folds.{list_all-append}
 use Rattle.brooklet_model.specs.ByIndex.{cycle}
 use Rattle.streamit_model.specs.Elaborate.{Limit, Weights, on_ok, demand}
 use Rattle.streamit_model.specs.Judged.{fitting_round}
-
-both_true : (a b : Bool) → a ≡ true → b ≡ true → a && b ≡ true
-both_true a b h k = rw h k
 
 first_false : (a b : Bool) → a ≡ false → a && b ≡ false
 first_false a b h = rw h refl
@@ -44,13 +42,13 @@ round_zero vs n h =
 -- a sum that is too high
 pub round_high : (vs : List ℕ) (n : ℕ) → length vs ≡ n → list_all (λ w. nat_le 1 w) vs ≡ true → 65536 < cycle vs → fitting_round vs n ≡ Err Limit
 round_high vs n e h lt =
-    ap (λ b. on_ok (demand b Weights) (λ u. on_ok (demand (nat_le (cycle vs) 65536) Limit) (λ v. Ok vs))) (both_true (nat_eq (length vs) n) (list_all (λ w. nat_le 1 w) vs) (eq_true (length vs) n e) h)
+    ap (λ b. on_ok (demand b Weights) (λ u. on_ok (demand (nat_le (cycle vs) 65536) Limit) (λ v. Ok vs))) (and_from (nat_eq (length vs) n) (list_all (λ w. nat_le 1 w) vs) (eq_true (length vs) n e) h)
     ∙ ap (λ b. on_ok (demand b Limit) (λ v. Ok vs)) (le_false (cycle vs) 65536 lt)
 
 -- weights that fit
 pub round_fits : (vs : List ℕ) (n : ℕ) → length vs ≡ n → list_all (λ w. nat_le 1 w) vs ≡ true → cycle vs ≤ 65536 → fitting_round vs n ≡ Ok vs
 round_fits vs n e h le =
-    ap (λ b. on_ok (demand b Weights) (λ u. on_ok (demand (nat_le (cycle vs) 65536) Limit) (λ v. Ok vs))) (both_true (nat_eq (length vs) n) (list_all (λ w. nat_le 1 w) vs) (eq_true (length vs) n e) h)
+    ap (λ b. on_ok (demand b Weights) (λ u. on_ok (demand (nat_le (cycle vs) 65536) Limit) (λ v. Ok vs))) (and_from (nat_eq (length vs) n) (list_all (λ w. nat_le 1 w) vs) (eq_true (length vs) n e) h)
     ∙ ap (λ b. on_ok (demand b Limit) (λ v. Ok vs)) (le_true (cycle vs) 65536 le)
 
 -- ONE WEIGHT FOR EACH
@@ -64,7 +62,7 @@ cycle-replicate (suc n) w = ap (λ k. w + k) (cycle-replicate n w) ∙ more n w
 
 ones-replicate : (n w : ℕ) → 1 ≤ w → list_all (λ w. nat_le 1 w) (replicate n w) ≡ true
 ones-replicate zero w h = refl
-ones-replicate (suc n) w h = both_true (nat_le 1 w) (list_all (λ w. nat_le 1 w) (replicate n w)) (le_true 1 w h) (ones-replicate n w h)
+ones-replicate (suc n) w h = and_from (nat_le 1 w) (list_all (λ w. nat_le 1 w) (replicate n w)) (le_true 1 w h) (ones-replicate n w h)
 
 none-replicate : (n w : ℕ) → 1 ≤ n → w ≡ 0 → list_all (λ w. nat_le 1 w) (replicate n w) ≡ false
 none-replicate zero w h e = absurd (omega (arith, h))
@@ -114,7 +112,7 @@ pub ones-more : (ws : List ℕ) (i : ℕ) → i < length ws → list_all (λ w. 
     → list_all (λ w. nat_le 1 w) (take (i + 1) ws) ≡ true
 ones-more ws i lt h le =
     ap (list_all (λ w. nat_le 1 w)) (take_more ws i 0 lt) ∙ list_all-append (λ w. nat_le 1 w) (take i ws) (get_or ws i 0 ∷ [])
-    ∙ both_true (list_all (λ w. nat_le 1 w) (take i ws)) _ h (both_true (nat_le 1 (get_or ws i 0)) true (le_true 1 (get_or ws i 0) le) refl)
+    ∙ and_from (list_all (λ w. nat_le 1 w) (take i ws)) _ h (and_from (nat_le 1 (get_or ws i 0)) true (le_true 1 (get_or ws i 0) le) refl)
 
 -- a weight that is 0
 pub ones_stop : (ws : List ℕ) (i : ℕ) → i < length ws → get_or ws i 0 ≡ 0 → list_all (λ w. nat_le 1 w) ws ≡ false

@@ -222,7 +222,8 @@ fn line(
     requires below { AreBelow i parts.front.now parts.last }
     requires lower { AreLower (unit_forms units.now) }
     requires named { HaveShortFilters (unit_forms units.now) }
-    ensures { (ss : Streams) → AreTrees (unit_forms units.now) parts.entry.front.now parts.entry.last ss → OnOk result (BuiltLine ss from to made.old made.new) }
+    ensures { (ss : Streams) → AreTrees (unit_forms units.now) parts.entry.front.now parts.entry.last ss
+        → OnOk result (BuiltLine ss from to made.old made.new) }
 {
     let mut start = from;
     for child in parts.front {

@@ -1,7 +1,7 @@
 // The operators of filters, splitters and joiners.
 ghost use Rattle.std.specs.Prelude.{◌≡◌, ◌≤◌, IfOk, [], ◌∷◌, codes, length};
 ghost use Rattle.kern_rows.specs.Forms.{filter_form};
-ghost use Rattle.river_kernels.specs.Kern.{kern_of, filter, duplicate, deal};
+ghost use Rattle.river_kernels.specs.Kern.{filter, duplicate, deal};
 ghost use Rattle.river_plan.specs.Forms.{op_form};
 ghost use Rattle.streamit_model.specs.Build.{numbered, queues, with_own, weights, splitter, joiner};
 ghost use Rattle.streamit_build.specs.Units.{splitter_form};

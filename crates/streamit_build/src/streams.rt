@@ -100,7 +100,8 @@ impl Known {
         ops: u32,
         depth: u32,
     ) -> Result<(), NoMemory>
-        ensures { (known : Streamed) (s : Stream) → Knows self.old known → IfNext self.old.declared.items stream s ops depth (OnOk result (Knows self.new ((name, s) ∷ known))) }
+        ensures { (known : Streamed) (s : Stream) → Knows self.old known
+            → IfNext self.old.declared.items stream s ops depth (OnOk result (Knows self.new ((name, s) ∷ known))) }
     {
         let Ok(number) = u32::try_from(self.declared.len()) else {
             return Err(NoMemory);

@@ -161,7 +161,8 @@ abbrev mutual
       on_ok (counted s0) (λ s. on_ok (slot_of (find s.scope n)) (λ i. on_ok (term_of e s.scope t s.popped)
       (λ v. Ok (one_step (steps.Set i v), record s { popped = s.popped + pops t }))))
   step_of e (Push t) s0 =
-      on_ok (counted s0) (λ s. on_ok (term_of e s.scope t s.popped) (λ v. Ok (one_step (steps.Push 0 (v ∷ [])), record s { popped = s.popped + pops t; pushed = s.pushed + 1 })))
+      on_ok (counted s0) (λ s. on_ok (term_of e s.scope t s.popped)
+      (λ v. Ok (one_step (steps.Push 0 (v ∷ [])), record s { popped = s.popped + pops t; pushed = s.pushed + 1 })))
   step_of e Discard s = Ok (Done, record s { popped = s.popped + 1 })
   step_of e (If t a b) s0 =
       on_ok (counted s0) (λ s. on_ok (term_of e s.scope t s.popped) (λ c.

@@ -5,7 +5,6 @@ use Rattle.std.specs.Str.{bytes_eq}
 use Rattle.work_text.specs.Tok.{Tok}
 use Rattle.work_text.specs.declared.sign.Symbol.TheVariants as s
 use Rattle.text_forms.specs.Parse as parse
-use Rattle.text_forms.specs.Parse.{Parse}
 use Rattle.text_forms.specs.Forms as form
 use Rattle.text_forms.proofs.Exact.{Exact, Any, exact-less, exact-both, exact-after, exact-before, exact-after_word, exact-tested, exact-seen, exact-maybe}
 use Rattle.text_forms.proofs.Exact.{exact-number}

@@ -68,7 +68,8 @@ module _ {F : ℕ → Expression → List Tok → Type 0} {e : ℕ → Parse Exp
   exact-head_after n w =
       let ended = exact-ended x (λ rest j h. refl) in
       exact-seen (made_head w) (exact-after (s.Assign ∷ []) (exact-both (ended n) (exact-after_word w (exact-both exact-upto
-      (exact-both (ended n) (exact-after_word w (exact-after (s.Increment ∷ []) (exact-nothing tt))) (λ y ts rest g d. tt)) (λ y ts rest g d. tt))) (λ y ts rest g d. tt)))
+      (exact-both (ended n) (exact-after_word w (exact-after (s.Increment ∷ []) (exact-nothing tt))) (λ y ts rest g d. tt)) (λ y ts rest g d. tt)))
+      (λ y ts rest g d. tt)))
 
   exact-head : (n : ℕ) → Exact (IsHead F n) (head_at e n) Any
   unfolding head_at named_head_at

@@ -1,5 +1,5 @@
 // Names read, and what is added by the names of streams.
-ghost use Rattle.std.specs.Prelude.{◌≡◌, ◌≤◌, length, map, IfOk, IsTrue};
+ghost use Rattle.std.specs.Prelude.{◌≡◌, ◌≤◌, length, IfOk, IsTrue};
 ghost use Rattle.std.specs.Option.{SomeIff};
 ghost use Rattle.text_forms.specs.Gives.{Gives};
 ghost use Rattle.streamit_text.specs.Program.{adds_of};

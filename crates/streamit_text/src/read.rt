@@ -1,7 +1,6 @@
 // From the tokens of a text to its program.
 ghost use Rattle.std.specs.Prelude.{◌≡◌, ◌<◌, ◌^◌, length, map, IfOk, IfErr};
 ghost use Rattle.work_text.specs.Cut.{unit_tokens};
-ghost use Rattle.work_text.specs.Tok.{toks};
 ghost use Rattle.text_forms.specs.AllUnits.{GivesUnits};
 ghost use Rattle.streamit_text.specs.Faults.{StandFor, Refuses};
 ghost use Rattle.streamit_text.specs.Program.{declared_of, program_of};

@@ -1,5 +1,5 @@
 // Splitters and joiners read.
-ghost use Rattle.std.specs.Prelude.{◌≡◌, map};
+ghost use Rattle.std.specs.Prelude.{◌≡◌};
 ghost use Rattle.text_forms.specs.Gives.{Gives};
 ghost use Rattle.streamit_text.specs.Program.{weights_of, dealing_of};
 ghost use Rattle.streamit_text.specs.Reading.{weight_at, some_weights_at, listed_at, weights_at, split_after, split_at, join_at, in_both_at, both_at};

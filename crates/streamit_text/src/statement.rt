@@ -6,7 +6,7 @@ ghost use Rattle.streamit_text.specs.Blocks.{empty_at, declare_at, assign_at, pu
 ghost use Rattle.streamit_text.specs.Blocks.{named_head_at, head_at, round_head_at, opening, style};
 ghost use Rattle.streamit_text.specs.Expressions.{expr_at};
 ghost use Rattle.streamit_text.specs.Reading.{block_at};
-ghost use Rattle.streamit_text.specs.Tree.{expression, is_turn, statement, block, in_turn, or_unwritten};
+ghost use Rattle.streamit_text.specs.Tree.{expression, is_turn, statement, block, in_turn};
 ghost use Rattle.streamit_text.specs.View.{head_of, upper_of};
 
 use crate::names::{name, own};

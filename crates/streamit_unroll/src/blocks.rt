@@ -78,7 +78,8 @@ impl Unroller {
         requires cond { AreValues (expression cond.now) }
         requires yes { AreWritten (block yes.now) }
         requires no { AreWrittenOptional (optional_block no.now) }
-        ensures { Reads result out.old out.new self.old self.new (step_of peek (If (expression cond.now) (block yes.now) (optional_block no.now)) (at_of self.old)) }
+        ensures { Reads result out.old out.new self.old self.new
+            (step_of peek (If (expression cond.now) (block yes.now) (optional_block no.now)) (at_of self.old)) }
     {
         self.counted()?;
         let cond = term(alloc, &self.names, peek, cond, &mut self.popped)?;
@@ -154,7 +155,8 @@ impl Unroller {
         out: &mut Stmts,
     ) -> Result<(), Fault>
         requires { AreWritten (block b.now) }
-        ensures { Reads result out.old out.new self.old self.new (unrolled (steps_of peek (block b.now)) name (numbers_from span.low (span.end - span.low)) (at_of self.old)) }
+        ensures { Reads result out.old out.new self.old self.new
+            (unrolled (steps_of peek (block b.now)) name (numbers_from span.low (span.end - span.low)) (at_of self.old)) }
     {
         for v in span.low..span.end {
             self.turn(alloc, peek, name, v, b, out)?;

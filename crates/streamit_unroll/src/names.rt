@@ -1,5 +1,5 @@
 // Names that are known.
-ghost use Rattle.std.specs.Prelude.{◌≡◌, [], ◌∷◌};
+ghost use Rattle.std.specs.Prelude.{◌≡◌, ◌∷◌};
 ghost use Rattle.streamit_model.specs.Elaborate.{find};
 ghost use Rattle.streamit_unroll.specs.View.{scope_of, option_known};
 

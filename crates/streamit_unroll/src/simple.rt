@@ -1,9 +1,9 @@
 // Statements that hold no block.
-ghost use Rattle.std.specs.Prelude.{◌≡◌, ◌<◌, ◌≤◌, ◌+◌, ◌^◌, OnOk, IfOk, length, take};
+ghost use Rattle.std.specs.Prelude.{◌≡◌, ◌<◌, ◌≤◌, ◌+◌, ◌^◌, OnOk, IfOk};
 ghost use Rattle.work_code.specs.Term.{term};
-ghost use Rattle.streamit_model.specs.Elaborate.{At, find, is_new, slot_of, step_of, constant, bound_of, on_ok, first_term, first_popped};
+ghost use Rattle.streamit_model.specs.Elaborate.{find, is_new, slot_of, step_of, constant, bound_of, on_ok, first_term, first_popped};
 ghost use Rattle.streamit_text.specs.Tree.{Declare, Assign, Push, Discard, expression, option_expression};
-ghost use Rattle.streamit_unroll.specs.View.{scope_of, Judges};
+ghost use Rattle.streamit_unroll.specs.View.{Judges};
 ghost use Rattle.streamit_unroll.specs.Unrolling.{at_of, Reads, AreOptional};
 ghost use Rattle.streamit_unroll.specs.Numbers.{AreValues};
 

@@ -3,7 +3,6 @@ use Rattle.std.proofs.Common.{◌≡◌, ℕ, zero, suc, ◌<◌, ◌+◌, ◌-�
 use Rattle.std.proofs.Common.{length-append}
 use Rattle.work_text.specs.Tok.{Tok}
 use Rattle.text_forms.specs.Parse as parse
-use Rattle.text_forms.specs.Parse.{Parse}
 use Rattle.text_forms.specs.Repeat.{repeated}
 use Rattle.text_forms.proofs.Many.{many-shortens}
 use Rattle.text_forms.proofs.Repeat.{repeated-next, repeated-stop, repeated-fail}

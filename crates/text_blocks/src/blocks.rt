@@ -1,6 +1,5 @@
 // The statements of any language read, and its blocks.
-ghost use Rattle.std.specs.Prelude.{◌≡◌, ℕ, List, map, IfOk};
-ghost use Rattle.work_text.specs.Tok.{Tok};
+ghost use Rattle.std.specs.Prelude.{◌≡◌, map, IfOk};
 ghost use Rattle.text_forms.specs.Gives.{Gives};
 ghost use Rattle.text_blocks.specs.Exact.{AreExact};
 ghost use Rattle.text_blocks.specs.Reading.{rest_at, stmt_at, stmts_at, block_at, else_at, branch_at, loop_at};

@@ -1,5 +1,5 @@
 // The expressions of any language read, level by level.
-ghost use Rattle.std.specs.Prelude.{◌≡◌, ◌<◌, ◌≤◌, ◌+◌, IfOk, length, ◌-◌, List, [], ◌∷◌};
+ghost use Rattle.std.specs.Prelude.{◌≡◌, ◌<◌, ◌≤◌, ◌+◌, IfOk, ◌-◌, [], ◌∷◌};
 ghost use Rattle.text_forms.specs.Gives.{Gives, PassesOver};
 ghost use Rattle.text_forms.specs.ReadLevels.{level_at, chain_at, once_at, prefix_at, base_at, grown_at, called_at, closed_at, whole_at};
 ghost use Rattle.text_forms.specs.Parse.{symbols_at};
@@ -39,7 +39,8 @@ fn ladder<R: TokenSource, D: Dialect<R>>(
 ) -> Result<Measured<D::Tree>, Fault>
     requires room { room ≤ 64 }
     requires rank { rank ≤ 16 }
-    ensures reads { Gives (λ m. D.view m.tree) result (R.rest reader.new) (level_at (D.syntax dialect.now) (D.leaf dialect.now) brackets rank room (R.rest reader.old)) }
+    ensures reads { Gives (λ m. D.view m.tree) result (R.rest reader.new)
+        (level_at (D.syntax dialect.now) (D.leaf dialect.now) brackets rank room (R.rest reader.old)) }
     ensures small { IfOk result (λ m. m.depth ≤ room) }
     ensures depth { IfOk result (λ m. m.depth ≡ (D.syntax dialect.now).depth (D.view m.tree)) }
 {
@@ -67,7 +68,8 @@ fn chain<R: TokenSource, D: Dialect<R>>(
 ) -> Result<Measured<D::Tree>, Fault>
     requires room { room ≤ 64 }
     requires level { level < 16 }
-    ensures reads { Gives (λ m. D.view m.tree) result (R.rest reader.new) (chain_at (D.syntax dialect.now) (D.leaf dialect.now) brackets level room (R.rest reader.old)) }
+    ensures reads { Gives (λ m. D.view m.tree) result (R.rest reader.new)
+        (chain_at (D.syntax dialect.now) (D.leaf dialect.now) brackets level room (R.rest reader.old)) }
     ensures small { IfOk result (λ m. m.depth ≤ room) }
     ensures depth { IfOk result (λ m. m.depth ≡ (D.syntax dialect.now).depth (D.view m.tree)) }
 {
@@ -122,7 +124,8 @@ fn once<R: TokenSource, D: Dialect<R>>(
 ) -> Result<Measured<D::Tree>, Fault>
     requires room { room ≤ 64 }
     requires level { level < 16 }
-    ensures reads { Gives (λ m. D.view m.tree) result (R.rest reader.new) (once_at (D.syntax dialect.now) (D.leaf dialect.now) brackets level room (R.rest reader.old)) }
+    ensures reads { Gives (λ m. D.view m.tree) result (R.rest reader.new)
+        (once_at (D.syntax dialect.now) (D.leaf dialect.now) brackets level room (R.rest reader.old)) }
     ensures small { IfOk result (λ m. m.depth ≤ room) }
     ensures depth { IfOk result (λ m. m.depth ≡ (D.syntax dialect.now).depth (D.view m.tree)) }
 {
@@ -146,7 +149,8 @@ fn prefix<R: TokenSource, D: Dialect<R>>(
 ) -> Result<Measured<D::Tree>, Fault>
     requires room { room ≤ 64 }
     requires level { level < 16 }
-    ensures reads { Gives (λ m. D.view m.tree) result (R.rest reader.new) (prefix_at (D.syntax dialect.now) (D.leaf dialect.now) brackets level room (R.rest reader.old)) }
+    ensures reads { Gives (λ m. D.view m.tree) result (R.rest reader.new)
+        (prefix_at (D.syntax dialect.now) (D.leaf dialect.now) brackets level room (R.rest reader.old)) }
     ensures small { IfOk result (λ m. m.depth ≤ room) }
     ensures depth { IfOk result (λ m. m.depth ≡ (D.syntax dialect.now).depth (D.view m.tree)) }
 {
@@ -175,7 +179,8 @@ fn base<R: TokenSource, D: Dialect<R>>(
     room: u32,
 ) -> Result<Measured<D::Tree>, Fault>
     requires room { room ≤ 64 }
-    ensures reads { Gives (λ m. D.view m.tree) result (R.rest reader.new) (base_at (D.syntax dialect.now) (D.leaf dialect.now) brackets room (R.rest reader.old)) }
+    ensures reads { Gives (λ m. D.view m.tree) result (R.rest reader.new)
+        (base_at (D.syntax dialect.now) (D.leaf dialect.now) brackets room (R.rest reader.old)) }
     ensures small { IfOk result (λ m. m.depth ≤ room) }
     ensures depth { IfOk result (λ m. m.depth ≡ (D.syntax dialect.now).depth (D.view m.tree)) }
 {
@@ -216,7 +221,8 @@ fn called<R: TokenSource, D: Dialect<R>>(
     sign: D::Sign,
 ) -> Result<Measured<D::Tree>, Fault>
     requires room { room < 64 }
-    ensures reads { Gives (λ m. D.view m.tree) result (R.rest reader.new) (called_at (D.syntax dialect.now) (D.leaf dialect.now) brackets room sign (R.rest reader.old)) }
+    ensures reads { Gives (λ m. D.view m.tree) result (R.rest reader.new)
+        (called_at (D.syntax dialect.now) (D.leaf dialect.now) brackets room sign (R.rest reader.old)) }
     ensures small { IfOk result (λ m. m.depth ≤ room + 1) }
     ensures depth { IfOk result (λ m. m.depth ≡ (D.syntax dialect.now).depth (D.view m.tree)) }
 {
@@ -240,7 +246,8 @@ fn enclosed<R: TokenSource, D: Dialect<R>>(
     room: u32,
 ) -> Result<Measured<D::Tree>, Fault>
     requires room { room ≤ 64 }
-    ensures reads { Gives (λ m. D.view m.tree) result (R.rest reader.new) (closed_at (D.syntax dialect.now) (D.leaf dialect.now) brackets room (R.rest reader.old)) }
+    ensures reads { Gives (λ m. D.view m.tree) result (R.rest reader.new)
+        (closed_at (D.syntax dialect.now) (D.leaf dialect.now) brackets room (R.rest reader.old)) }
     ensures small { IfOk result (λ m. m.depth ≤ room) }
     ensures depth { IfOk result (λ m. m.depth ≡ (D.syntax dialect.now).depth (D.view m.tree)) }
 {

@@ -1,10 +1,10 @@
 // Statements of work code.
-ghost use Rattle.std.specs.Prelude.{◌≡◌, ◌<◌, ◌^◌, [], ◌∷◌, ◌++◌, length, take, IfOk, OnOk, OnErr, MatchOption, slice_get, Some, IsTrue, ◌↔◌, map};
+ghost use Rattle.std.specs.Prelude.{◌≡◌, ◌<◌, ◌^◌, [], ◌∷◌, ◌++◌, length, IfOk, OnOk, OnErr, MatchOption, slice_get, Some, IsTrue, ◌↔◌};
 ghost use Rattle.std.specs.Slice.Iter.{iter_rest};
 ghost use Rattle.std.specs.Iterator.Adapters.{IterYieldsInOrder};
 ghost use Rattle.std.specs.Borrow.{sem};
 ghost use Rattle.work_code.specs.Lent.{LendsStmt};
-ghost use Rattle.work_code.specs.Steps.{step, steps, statements, in_turn, code_body};
+ghost use Rattle.work_code.specs.Steps.{step, steps, statements, code_body};
 
 use crate::{Expr, Exprs};
 use river_base::{Listed, NoMemory, Row};

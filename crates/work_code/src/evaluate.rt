@@ -1,7 +1,7 @@
 // The values of expressions.
 ghost use Rattle.std.specs.Prelude.{◌≡◌, length};
 ghost use Rattle.work_code.specs.Term.{term};
-ghost use Rattle.work_code.specs.Value.{val, applied, truth, is_true, IsWithin};
+ghost use Rattle.work_code.specs.Value.{val, applied, truth, IsWithin};
 ghost use Rattle.river_base.specs.Number as number;
 
 use crate::{BinOp, Expr};

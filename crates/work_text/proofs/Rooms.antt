@@ -2,6 +2,7 @@
 use Rattle.std.proofs.Common.{◌≡◌, ℕ, ◌+◌, ◌<◌, ◌≤◌, Bool, true, false, List, [], ◌∷◌, length, drop, refl, sym, subst, arith}
 use Rattle.std.proofs.Common.{length-drop}
 use Rattle.std.specs.Prelude.{Option, Some, None, if◌then◌else◌, nat_lt, ◌==◌, ◌&&◌}
+use Rattle.std.proofs.lemmas.Bool.{and_parts}
 use Rattle.std.proofs.lemmas.List.Sums.{prefix_len-le-length}
 use Rattle.std.specs.List.{prefix_len}
 use Rattle.work_text.specs.declared.sign.Symbol.{Symbol}
@@ -56,12 +57,6 @@ unfolding begins_with
 has_byte d [] h = cc
 has_byte d (c ∷ cs) h = omega arith
 
-both_true : (a b : Bool) → (a && b) ≡ true → (a ≡ true) × (b ≡ true)
-both_true true true h = (refl, refl)
-both_true true false h = cc
-both_true false true h = cc
-both_true false false h = cc
-
 -- what a comment's end is
 pub record Ends (n room : ℕ) (end : Option ℕ) : Type 0 where
   pub within : (m : ℕ) → end ≡ Some m → (n < m) × (m ≤ n + room)
@@ -79,7 +74,7 @@ block_ends n [] = record { within = λ m e. cc }
 block_ends n (c ∷ cs) =
     let more : Ends (n + 1) (length cs) (block_end (n + 1) cs) = block_ends (n + 1) cs in
     ends_if n (length (c ∷ cs)) (c == 42 && begins_with 47 cs) (Some (n + 2)) (block_end (n + 1) cs)
-    (λ h. let slash : 0 < length cs = has_byte 47 cs (both_true (c == 42) (begins_with 47 cs) h).1 in
+    (λ h. let slash : 0 < length cs = has_byte 47 cs (and_parts (c == 42) (begins_with 47 cs) h).1 in
     record { within = λ m e. at_end n (length (c ∷ cs)) (n + 2) m (omega arith) (omega arith) e })
     (record { within = λ m e. let w = more.within m e in (omega arith, omega arith) })
 
@@ -121,9 +116,9 @@ piece_fits s pos =
     let digits : prefix_len is_digit s ≤ length s = prefix_len-le-length is_digit s in
     choose room (first_is is_blank s) _ _ (λ _. (omega arith, omega arith)) (λ _.
     choose room (begins_with 35 s) _ _ (λ h. (line_has 35 s in_line_hash h, in_line)) (λ _.
-    choose room (begins_with 47 s && begins_with 47 (drop 1 s)) _ _ (λ h. (line_has 47 s in_line_slash (both_true _ _ h).0, in_line)) (λ _.
+    choose room (begins_with 47 s && begins_with 47 (drop 1 s)) _ _ (λ h. (line_has 47 s in_line_slash (and_parts _ _ h).0, in_line)) (λ _.
     choose room (begins_with 47 s && begins_with 42 (drop 1 s)) _ _
-    (λ h. let after : 0 < length (drop 1 s) = has_byte 42 (drop 1 s) (both_true _ _ h).1 in
+    (λ h. let after : 0 < length (drop 1 s) = has_byte 42 (drop 1 s) (and_parts _ _ h).1 in
     block_fits room (block_end 2 (drop 2 s)) (drop 2 s) (block_ends 2 (drop 2 s)) (omega (arith, length-drop 1 s, length-drop 2 s))) (λ _.
     choose room (first_is is_letter s) _ _ (λ h. (name_has s h, words)) (λ _.
     choose room (begins_with 36 s) _ _ (λ h. var_fits room (drop 1 s) (omega (arith, length-drop 1 s))) (λ _.

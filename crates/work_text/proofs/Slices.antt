@@ -3,7 +3,7 @@ use Rattle.std.proofs.Common.{◌≡◌, ℕ, zero, suc, ◌+◌, ◌-◌, ◌<�
 use Rattle.std.proofs.lemmas.List.{length-drop}
 use Rattle.std.specs.Prelude.{Option, Some, None, Result, Ok, Err, ◌==◌, ◌&&◌, if◌then◌else◌, nat_lt}
 use Rattle.std.specs.List.{prefix_len, list_all}
-use Rattle.std.proofs.lemmas.Bool.{eqb-true}
+use Rattle.std.proofs.lemmas.Bool.{and_parts, eqb-true}
 use Rattle.work_text.specs.declared.sign.Symbol.{Symbol}
 use Rattle.work_text.specs.declared.sign.Symbol.TheVariants as sign
 use Rattle.work_text.specs.declared.fault.LexFault.{LexFault}
@@ -61,12 +61,8 @@ short-bytes c y e =
 
 pair : (c d k l : ℕ) (x : Symbol) → k ∷ (l ∷ []) ≡ symbol_bytes x → c == k && d == l ≡ true → c ∷ (d ∷ []) ≡ symbol_bytes x
 pair c d k l x is e =
-    let both = both_true (c == k) (d == l) e in
+    let both = and_parts (c == k) (d == l) e in
     ap (λ (n : ℕ). n ∷ (d ∷ [])) (eqb-true c k both.0) ∙ ap (λ (n : ℕ). k ∷ (n ∷ [])) (eqb-true d l both.1) ∙ is
-  where
-    both_true : (a b : Bool) → a && b ≡ true → (a ≡ true) × (b ≡ true)
-    both_true true b f = (refl, f)
-    both_true false b f = cc
 
 pub long-bytes : (c d : ℕ) (y : Symbol) → long_symbol c d ≡ Some y → c ∷ (d ∷ []) ≡ symbol_bytes y
 unfolding long_symbol

@@ -7,7 +7,7 @@ use Rattle.std.specs.Fmt.{decimal}
 use Rattle.std.specs.Str.Parse.{AllDigits, digits_value_after}
 use Rattle.std.specs.Char.{digit_value}
 use Rattle.std.proofs.lemmas.Fmt.{decimal_is_IsNumeral}
-use Rattle.std.proofs.lemmas.Bool.{ne_eqb}
+use Rattle.std.proofs.lemmas.Bool.{and_parts, ne_eqb}
 use Rattle.std.proofs.lemmas.Bool.Decides.{nat_tests}
 use Rattle.std.proofs.Math.Seq.{drop-append_seam, take-append_seam}
 use Rattle.work_text.specs.Lexis.{blank, token, marks, with_mark, piece_at, is_blank, is_letter, is_digit, is_word, first_is}
@@ -222,15 +222,11 @@ var_piece_is c cs rest first all next =
     let len : prefix_len is_word (c ∷ (cs ++ rest)) ≡ length (c ∷ cs) = word_len is_word (c ∷ cs) rest (name_all c cs first all) next in
     rw (first, len) (ap (λ (l : List ℕ). token (var l) (length (c ∷ cs) + 1)) (take-append_seam (c ∷ cs) rest) ∙ ap (λ (n : ℕ). token (var (c ∷ cs)) n) (omega arith))
 
-both_true : (a b : Bool) → a && b ≡ true → (a ≡ true) × (b ≡ true)
-both_true true b e = (refl, e)
-both_true false b e = cc
-
 -- a word behind a dollar sign is a variable
 pub spells-var : (text : List ℕ) → is_name_text text ≡ true → Spells (36 ∷ text) (var text ∷ []) NoWord
 spells-var [] is = cc
 spells-var (c ∷ cs) is =
-    let parts = both_true (is_letter c) (list_all is_word cs) is in
+    let parts = and_parts (is_letter c) (list_all is_word cs) is in
     from_piece (36 ∷ (c ∷ cs)) (var (c ∷ cs)) (omega arith) (λ rest next. var_piece_is c cs rest parts.0 parts.1 next)
 
 -- a number, as it is printed

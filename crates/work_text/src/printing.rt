@@ -73,7 +73,8 @@ fn write_set(alloc: Global, slot: u32, value: &Expr, to: &mut Bytes) -> Result<(
 // Appends the push of a row.
 #[tactic(auto, using(crate::proofs::Joined::joins))]
 fn write_push(alloc: Global, port: u32, values: &Exprs, to: &mut Bytes) -> Result<(), NoMemory>
-    ensures { OnOk result (to.new ≡ to.old ++ (codes "push " ++ (decimal port ++ (codes " (" ++ (items_text (map text_of (terms values.now)) ++ codes ");"))))) }
+    ensures { OnOk result (to.new ≡ to.old
+        ++ (codes "push " ++ (decimal port ++ (codes " (" ++ (items_text (map text_of (terms values.now)) ++ codes ");"))))) }
 {
     to.extend(b"push ")?;
     write_number(alloc, port, to)?;

@@ -1,5 +1,5 @@
 // The cut of a text into units.
-ghost use Rattle.std.specs.Prelude.{◌≡◌, ◌<◌, ◌+◌, ◌^◌, length, drop, IfOk};
+ghost use Rattle.std.specs.Prelude.{◌≡◌, ◌<◌, ◌+◌, ◌^◌, IfOk};
 ghost use Rattle.work_text.specs.Tok.{token_of, tokens_of, toks};
 ghost use Rattle.work_text.specs.Cut.{braces_after, ends_unit, is_else, unit_len, units_of};
 

@@ -1,4 +1,4 @@
-use Rattle.std.proofs.Common.{◌≡◌, ◌+◌, ◌++◌, drop, map}
+use Rattle.std.proofs.Common.{◌≡◌, ◌+◌, ◌++◌, drop}
 use Rattle.cql_model.specs.Scopes.{names_from}
 use Rattle.cql_text.specs.Tree.{chosen_of}
 use Rattle.cql_build.proofs.columns.chosen_names.Given as goal

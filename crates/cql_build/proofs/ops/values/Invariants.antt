@@ -1,4 +1,4 @@
-use Rattle.std.proofs.Common.{◌≡◌, take, map}
+use Rattle.std.proofs.Common.{◌≡◌, take}
 use Rattle.work_code.specs.Term.{terms}
 use Rattle.cql_model.specs.Translation.{terms_of}
 use Rattle.cql_text.specs.Tree.{chosen_of}

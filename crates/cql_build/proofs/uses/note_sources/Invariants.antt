@@ -1,4 +1,4 @@
-use Rattle.std.proofs.Common.{◌≡◌, ◌++◌, take, drop}
+use Rattle.std.proofs.Common.{◌≡◌, ◌++◌, drop}
 use Rattle.cql_model.specs.Program.{streams_of}
 use Rattle.cql_text.specs.Tree.{sources_of}
 use Rattle.cql_build.proofs.uses.note_sources.Given as goal

@@ -1,9 +1,6 @@
-use Rattle.std.proofs.Common.{◌≡◌, ◌≤◌, take, drop, List, []}
-use Rattle.cql_model.specs.Faults.{items_fault}
-use Rattle.cql_model.specs.Scopes.{Named, scope_of}
-use Rattle.cql_model.specs.Translation.{widths_of}
+use Rattle.std.proofs.Common.{◌≡◌, ◌≤◌, List}
+use Rattle.cql_model.specs.Scopes.{Named}
 use Rattle.cql_build.specs.Knowing.{Knows}
-use Rattle.cql_text.specs.Tree.{sources_of}
 use Rattle.cql_build.proofs.Judging.{SoFar}
 use Rattle.cql_build.proofs.known.Known.items_fault.Given as goal
 

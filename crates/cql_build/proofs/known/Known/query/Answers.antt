@@ -1,4 +1,4 @@
-use Rattle.std.proofs.Common.{◌≡◌, List, ap, ◌∙◌}
+use Rattle.std.proofs.Common.{◌≡◌, ap, ◌∙◌}
 use Rattle.cql_model.specs.Scopes.{scope_of}
 use Rattle.cql_text.specs.Tree.{sources_of}
 use Rattle.cql_build.specs.Views.{scope}
