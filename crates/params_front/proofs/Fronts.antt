@@ -9,7 +9,7 @@ use Rattle.work_text.specs.declared.fault.LexFault.TheVariants as lex
 use Rattle.work_text.proofs.Slices.{no_want}
 use Rattle.work_text.proofs.Counts.{units-few}
 use Rattle.text_forms.specs.Refusals.{of_lexer}
-use Rattle.text_forms.specs.Texts.{read_units, IsFirstBad}
+use Rattle.text_forms.specs.Texts.{read_units, IsFirstBad, IsEmpty}
 use Rattle.text_forms.specs.declared.refusal.Refusal.TheVariants.{BadByte, BigNumber, Syntax}
 use Rattle.text_forms.specs.declared.unit_fault.UnitFault.TheVariants.{Syntax as Syntax_at}
 use Rattle.text_forms.proofs.Texts.{bad-read}
@@ -18,7 +18,7 @@ use Rattle.streamit_text.specs.Program as plain
 use Rattle.streamit_text.proofs.Texts.{one_program}
 use Rattle.params_text.specs.Faults.{StandFor, Refuses}
 use Rattle.params_text.specs.Grammar.{AreUnits, IsText, IsUnitAt, next_unit}
-use Rattle.params_text.specs.Laws.{IsBadAt, IsEmpty}
+use Rattle.params_text.specs.Laws.{IsBadAt}
 use Rattle.params_text.specs.Program.{ParamProgram, declared_of, program_of}
 use Rattle.params_text.specs.Reading.{some_units, unit_from}
 use Rattle.params_text.specs.Toks.{plain_text}

@@ -4,11 +4,11 @@ use Rattle.work_text.specs.Cut.{units_of}
 use Rattle.work_text.specs.Lexis.{tokens_in}
 use Rattle.work_text.specs.Tok.{Tok, Mark, toks}
 use Rattle.work_text.specs.declared.fault.LexFault.{LexFault}
-use Rattle.text_forms.specs.Texts.{IsFirstBad}
+use Rattle.text_forms.specs.Texts.{IsFirstBad, IsEmpty}
 use Rattle.text_forms.proofs.Texts.{all-formed, formed-read, first-bad}
 use Rattle.params_text.specs.Program.{ParamProgram}
 use Rattle.params_text.specs.Grammar.{AreUnits, IsSome, IsText, IsUnitAt, next_unit}
-use Rattle.params_text.specs.Laws.{OneParamProgram, IsEmpty}
+use Rattle.params_text.specs.Laws.{OneParamProgram}
 use Rattle.params_text.specs.Reading.{some_units}
 use Rattle.params_text.proofs.UnitReads.{exact-unit_from}
 

@@ -2,12 +2,11 @@
 use Rattle.std.specs.Prelude.{◌⊎◌, ℕ, List}
 use Rattle.work_text.specs.Cut.{units_of}
 use Rattle.work_text.specs.Tok.{Tok, Mark, toks}
-use Rattle.text_forms.specs.Texts.{IsFirstBad}
+use Rattle.text_forms.specs.Texts.{IsFirstBad, IsEmpty}
 use Rattle.text_forms.specs.declared.unit_fault.UnitFault.{UnitFault}
 use Rattle.text_forms.specs.declared.unit_fault.UnitFault.TheVariants.{Syntax, NoMemory}
 use Rattle.params_text.specs.Program.{ParamProgram}
 use Rattle.params_text.specs.Grammar.{AreUnits, IsSome, IsUnitAt, next_unit}
-use Rattle.params_text.specs.Laws.{IsEmpty}
 
 -- the units of the tokens, of which there are some, stand for the program
 abbrev pub StandFor : List Mark → ParamProgram → Type 0

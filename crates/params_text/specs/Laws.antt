@@ -1,9 +1,9 @@
 -- What is true of all texts of programs with parameters, and of the texts of plain programs.
-use Rattle.std.specs.Prelude.{◌≡◌, ◌⊎◌, ℕ, List, [], Ok}
+use Rattle.std.specs.Prelude.{◌≡◌, ◌⊎◌, ℕ, List, Ok}
 use Rattle.work_text.specs.Cut.{units_of}
 use Rattle.work_text.specs.Lexis.{tokens_in}
-use Rattle.work_text.specs.Tok.{Tok, Mark, toks}
-use Rattle.text_forms.specs.Texts.{IsFirstBad}
+use Rattle.work_text.specs.Tok.{Mark, toks}
+use Rattle.text_forms.specs.Texts.{IsFirstBad, IsEmpty}
 use Rattle.streamit_text.specs.Grammar as plain
 use Rattle.streamit_text.specs.Program.{Program}
 use Rattle.params_text.specs.Grammar.{IsText, IsUnitAt, next_unit}
@@ -14,10 +14,6 @@ use Rattle.params_text.specs.Toks.{plain_text}
 -- a text stands for one program with parameters at most
 abbrev pub OneParamProgram : Type 0
 OneParamProgram = (text : List ℕ) (p q : ParamProgram) → IsText text p → IsText text q → p ≡ q
-
--- there is no unit, and the first is told
-abbrev pub IsEmpty : List (List Tok) → ℕ → Type 0
-IsEmpty units n = (units ≡ []) × (n ≡ 1)
 
 -- the text has tokens, and the unit with this number, from 1, is the first that is
 -- not in the grammar; of a text without a unit it is the first

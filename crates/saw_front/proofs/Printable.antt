@@ -5,7 +5,7 @@ use Rattle.std.specs.Prelude.{max, codes, map, nat_eq, nat_lt, nat_le, length}
 use Rattle.std.specs.List.{AllByRecursion}
 use Rattle.std.specs.Str.{bytes_eq}
 use Rattle.work_text.specs.Cut.{units_of as cut_units}
-use Rattle.work_code.specs.Steps.{Steps, Done}
+use Rattle.work_code.specs.Steps.{Steps, Done, both_steps, one_step}
 use Rattle.work_code.specs.Steps as steps
 use Rattle.work_code.specs.Term.{Term}
 use Rattle.work_text.specs.Tok.{Tok, toks}
@@ -19,7 +19,7 @@ use Rattle.river_print.specs.Writable.{Every, depths}
 use Rattle.river_print.proofs.Spoken.{IsSpoken, spoken-printable}
 use Rattle.saw_text.specs.Tree.{Statement, Declare, Assign, Emit, If, Block, End, Then, Optional, Unwritten, Written, UnitForm, TableUnit, StatementUnit, Program}
 use Rattle.saw_model.specs.Meaning.{tables_in, table_kind}
-use Rattle.saw_model.specs.Elaborate.{Fault, Limit, Shape, At, on_ok, demand, both_steps, one_step, counted, is_new, has_slot, first_term, declared, slot_of}
+use Rattle.saw_model.specs.Elaborate.{Fault, Limit, Shape, At, on_ok, demand, counted, is_new, has_slot, first_term, declared, slot_of}
 use Rattle.saw_model.specs.Elaborate.{table_port, indexes_of, term_of, weight_of, keys_in, emitted, is_best, tabled, table_of, find, step_of, steps_of, steps_optional}
 use Rattle.saw_model.specs.Elaborate.{part_judged as read_part, nothing_read}
 use Rattle.saw_model.specs.Judged.{Refusal, on_fine, in_unit, all_parts}

@@ -8,7 +8,7 @@ use Rattle.river_base.specs.Name.{name_eq}
 use Rattle.river_base.specs.Number.{negate}
 use Rattle.work_code.specs.Term.{Term}
 use Rattle.work_code.specs.Term as term
-use Rattle.work_code.specs.Steps.{Step, Steps, Done}
+use Rattle.work_code.specs.Steps.{Step, Steps, Done, both_steps, one_step}
 use Rattle.work_code.specs.Steps as steps
 use Rattle.work_code.specs.Ran.{Ran, ran, ran_once}
 use Rattle.work_code.specs.Value.{val, applied, truth}
@@ -22,7 +22,7 @@ use Rattle.saw_text.specs.Tree.{Expression}
 use Rattle.saw_text.specs.Tree as tree
 use Rattle.saw_model.specs.Meaning.{Values, eval, Emitted, State, eval_or, eval_all, listed, reach, reach_all}
 use Rattle.saw_model.specs.Elaborate.{Fault, Limit, on_ok, demand, KnownName, Var, Port, Scope, find, named, term_of, At, counted, first_term, indexes_of}
-use Rattle.saw_model.specs.Elaborate.{weight_of, both_steps, one_step}
+use Rattle.saw_model.specs.Elaborate.{weight_of}
 
 -- ANSWERS
 

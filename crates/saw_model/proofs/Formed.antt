@@ -7,7 +7,7 @@ use Rattle.std.proofs.lemmas.Bool.{and_parts, and_from, lt-ltb, le-leb, eq-eqb, 
 use Rattle.std.proofs.lemmas.List.Folds.{list_all-append}
 use Rattle.work_code.specs.Term.{Term}
 use Rattle.work_code.specs.Term as term
-use Rattle.work_code.specs.Steps.{Step, Steps, Done}
+use Rattle.work_code.specs.Steps.{Step, Steps, Done, both_steps, one_step}
 use Rattle.work_code.specs.Steps as steps
 use Rattle.kern_tables.specs.declared.kind.TableKind.{TableKind}
 use Rattle.kern_tables.specs.declared.kind.TableKind.TheVariants.{Sum, Collection, Maximum}
@@ -22,8 +22,8 @@ use Rattle.saw_text.specs.Tree.{Statement, Declare, Assign, Emit, If, Block, End
 use Rattle.saw_model.specs.Meaning.{tables_in, listed, emit_row, reach, table_kind, table_decl}
 use Rattle.saw_model.specs.Meaning.{reach_all, reach_statement, reach_block, reach_optional, reach_parts}
 use Rattle.saw_model.specs.Shallow.{IsLow, AreLow, IsShallow, AreShallow, AreShallowOptional, AreShallowParts}
-use Rattle.saw_model.specs.Elaborate.{Limit, on_ok, KnownName, Var, Port, Scope, find, named, term_of, At, first_term, indexes_of, keys_in, weight_of, both_steps}
-use Rattle.saw_model.specs.Elaborate.{one_step, step_of, steps_of, steps_optional, part_judged}
+use Rattle.saw_model.specs.Elaborate.{Limit, on_ok, KnownName, Var, Port, Scope, find, named, term_of, At, first_term, indexes_of, keys_in, weight_of}
+use Rattle.saw_model.specs.Elaborate.{step_of, steps_of, steps_optional, part_judged}
 use Rattle.saw_model.proofs.Elaborated.{fine, ok_is, ok_parts, if_ok, if_both, IsSound, ArePorts, more_slots, sound_port, one_more}
 use Rattle.saw_model.proofs.Statements.{second_at, declared_parts, assigned_parts, sent_parts, forked_parts, followed_parts, grows, grows_all, grows_optional}
 use Rattle.saw_model.proofs.Parts.{parts_read, tabled_parts, split_parts, parts_slots, got_here, ports_new}

@@ -8,7 +8,7 @@ use Rattle.kern_tables.specs.declared.kind.TableKind.{TableKind}
 use Rattle.kern_tables.specs.declared.kind.TableKind.TheVariants.{Sum, Collection, Maximum}
 use Rattle.river_plan.specs.Forms.{Name}
 use Rattle.river_plan.proofs.NameLemmas.{cases_name}
-use Rattle.work_code.specs.Steps.{Steps}
+use Rattle.work_code.specs.Steps.{Steps, both_steps, one_step}
 use Rattle.work_code.specs.Steps as steps
 use Rattle.work_code.specs.Term.{Term}
 use Rattle.work_code.specs.Term as term
@@ -19,7 +19,7 @@ use Rattle.saw_text.specs.Tree.{Statement, Declare, Assign, Emit, If, Block, End
 use Rattle.saw_model.specs.Meaning.{table_kind}
 use Rattle.saw_model.specs.Elaborate.{Fault, UnknownName, NameTwice, Shape, Limit, on_ok, KnownName as Entry, Var, Port, Scope, find, named, term_of, At}
 use Rattle.saw_model.specs.Elaborate.{counted, has_slot, is_new}
-use Rattle.saw_model.specs.Elaborate.{slot_of, table_port, first_term, indexes_of, keys_in, weight_of, both_steps, one_step, declared, emitted, step_of}
+use Rattle.saw_model.specs.Elaborate.{slot_of, table_port, first_term, indexes_of, keys_in, weight_of, declared, emitted, step_of}
 use Rattle.saw_model.specs.Elaborate.{steps_of, steps_optional, is_best, tabled}
 use Rattle.saw_model.specs.Elaborate.{part_judged}
 use Rattle.saw_model.specs.Faults.{IsTwice, IsMaximum, IsNoBest}

@@ -4,7 +4,7 @@ use Rattle.std.proofs.Common.{◌∙◌, subst, arith, nat_lt, nat_le, replicate
 use Rattle.std.specs.Prelude.{slice_get}
 use Rattle.std.proofs.lemmas.List.{length-replicate}
 use Rattle.std.proofs.lemmas.Bool.{ltb-true, leb-true}
-use Rattle.work_code.specs.Steps.{Steps, Done}
+use Rattle.work_code.specs.Steps.{Steps, Done, both_steps}
 use Rattle.work_code.specs.Ran.{ran}
 use Rattle.kern_rows.proofs.Lengths.{ran_length}
 use Rattle.kern_tables.specs.declared.kind.TableKind.{TableKind}
@@ -14,7 +14,7 @@ use Rattle.river_plan.specs.declared.plan.TableDecl.{TableDecl}
 use Rattle.river_plan.proofs.NameLemmas.{name_same, cases_name}
 use Rattle.saw_text.specs.Tree.{UnitForm, TableUnit, StatementUnit, Program}
 use Rattle.saw_model.specs.Meaning.{tables_in, State, exec, exec_units, fresh_state, emits, reach_statement, reach_parts, table_kind, table_decl}
-use Rattle.saw_model.specs.Elaborate.{Limit, on_ok, demand, KnownName, Var, Port, Scope, find, At, is_new, keys_in, both_steps, Read, is_best, tabled, table_of}
+use Rattle.saw_model.specs.Elaborate.{Limit, on_ok, demand, KnownName, Var, Port, Scope, find, At, is_new, keys_in, Read, is_best, tabled, table_of}
 use Rattle.saw_model.specs.Elaborate.{part_judged, nothing_read}
 use Rattle.saw_model.specs.Judged.{Refusal, on_fine, in_unit, all_parts}
 use Rattle.saw_model.proofs.Elaborated.{fine, ok_is, ok_parts, demanded, found_here, found_other, Agrees, ArePorts, Keeps, keeps_new, sound_port, Matches}

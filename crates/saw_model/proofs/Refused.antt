@@ -1,9 +1,9 @@
 -- The first fault of a program and its unit.
 use Rattle.std.proofs.Common.{◌≡◌, ℕ, suc, ◌+◌, ◌⊎◌, inl, inr, List, [], ◌∷◌, ◌++◌, length, refl, sym, ap, ◌∙◌, subst, arith, ⊎_elim, append_assoc}
 use Rattle.std.specs.Prelude.{Result, Ok, Err}
-use Rattle.work_code.specs.Steps.{Steps}
+use Rattle.work_code.specs.Steps.{Steps, both_steps}
 use Rattle.saw_text.specs.Tree.{UnitForm, Program}
-use Rattle.saw_model.specs.Elaborate.{Fault, both_steps, At, part_judged, nothing_read}
+use Rattle.saw_model.specs.Elaborate.{Fault, At, part_judged, nothing_read}
 use Rattle.saw_model.specs.Judged.{Refusal, on_fine, in_unit, all_parts, judged}
 use Rattle.saw_model.specs.Faults.{IsFirstFault, IsFaultless, IsFaultAt, RefusedAtFirst, AcceptedFaultless}
 use Rattle.saw_model.specs.Places.{ReadMark, part_marks, program_marks}

@@ -4,7 +4,7 @@ use Rattle.std.proofs.Common.{arith, nat_lt, nat_eq}
 use Rattle.std.specs.Prelude.{if◌then◌else◌, slice_set}
 use Rattle.std.proofs.lemmas.List.{map-append}
 use Rattle.work_code.specs.Term.{Term}
-use Rattle.work_code.specs.Steps.{Steps, Done}
+use Rattle.work_code.specs.Steps.{Steps, Done, both_steps, one_step}
 use Rattle.work_code.specs.Steps as steps
 use Rattle.work_code.specs.Ran.{Ran, ran, ran_once}
 use Rattle.work_code.specs.Value.{val, is_true}
@@ -19,7 +19,7 @@ use Rattle.saw_text.specs.Tree.{Statement, Declare, Assign, Emit, If, Block, End
 use Rattle.saw_model.specs.Meaning.{eval, State, eval_or, eval_all, listed, emit_row, exec, exec_block, exec_optional, reach}
 use Rattle.saw_model.specs.Meaning.{reach_all, reach_statement, reach_block, reach_optional}
 use Rattle.saw_model.specs.Elaborate.{Shape, Limit, on_ok, demand, has_slot, KnownName, Var, Port, Scope, find, term_of, At, is_new, slot_of, table_port, first_term}
-use Rattle.saw_model.specs.Elaborate.{indexes_of, keys_in, weight_of, both_steps, one_step, Read, declared, emitted, step_of, steps_of, steps_optional}
+use Rattle.saw_model.specs.Elaborate.{indexes_of, keys_in, weight_of, Read, declared, emitted, step_of, steps_of, steps_optional}
 use Rattle.saw_model.proofs.Elaborated.{fine, ok_is, ok_parts, demanded, room_for, found_here, found_other, Agrees, IsSound, ArePorts, Keeps, agrees_within}
 use Rattle.saw_model.proofs.Elaborated.{more_slots, keeps_new, sound_var, ports_var, agrees_set, term_is, vals, first_is, indexes_are, weight_is}
 use Rattle.saw_model.proofs.Elaborated.{eval_all-append, reach-append, Grows, grows_same, grows_trans, grows_back, one_more, counted_on, Met, none_met}

@@ -4,7 +4,7 @@ use Rattle.std.specs.Prelude.{nat_eq}
 use Rattle.river_base.specs.Name.{name_eq}
 use Rattle.work_code.specs.Term.{Term}
 use Rattle.work_code.specs.Term as term
-use Rattle.work_code.specs.Steps.{Step, Steps, Done}
+use Rattle.work_code.specs.Steps.{Steps, Done, both_steps, one_step}
 use Rattle.work_code.specs.Steps as steps
 use Rattle.kern_tables.specs.declared.kind.TableKind.{TableKind}
 use Rattle.kern_tables.specs.declared.kind.TableKind.TheVariants.{Sum, Collection, Maximum}
@@ -106,13 +106,6 @@ weight_of (Sum keys) None sc = Ok []
 weight_of (Sum keys) (Some t) sc = Err Shape
 weight_of (Collection keys) None sc = Ok []
 weight_of (Collection keys) (Some t) sc = Err Shape
-
-abbrev pub both_steps : Steps → Steps → Steps
-both_steps Done ts = ts
-both_steps (steps.Then s ss) ts = steps.Then s (both_steps ss ts)
-
-abbrev pub one_step : Step → Steps
-one_step s = steps.Then s Done
 
 abbrev pub Read : Type 0
 Read = Result (Steps × At) Fault

@@ -2,6 +2,7 @@
 use Rattle.std.proofs.Common.{◌≡◌, ℕ, List, [], ◌∷◌, true, false, refl}
 use Rattle.std.specs.Prelude.{codes}
 use Rattle.std.specs.Str.{bytes_eq}
+use Rattle.text_forms.specs.Forms.{Count}
 use Rattle.work_text.specs.declared.sign.Symbol.TheVariants as s
 use Rattle.text_forms.specs.Parse as parse
 use Rattle.text_forms.specs.Forms as form
@@ -11,7 +12,7 @@ use Rattle.text_forms.proofs.Many.{exact-many}
 use Rattle.text_forms.proofs.Choices.{exact-never, exact-choose, exact-headed}
 use Rattle.saw_text.specs.declared.tree.Kind.TheVariants.{Sum, Collection, Maximum}
 use Rattle.saw_text.specs.Tree.{TableUnit, StatementUnit}
-use Rattle.saw_text.specs.Grammar.{Count, nameless, field_named, IsField, IsKind, is_fitting, made_table, IsTable, TypedAfter, UnitNamed}
+use Rattle.saw_text.specs.Grammar.{nameless, field_named, IsField, IsKind, is_fitting, made_table, IsTable, TypedAfter, UnitNamed}
 use Rattle.saw_text.specs.Grammar.{IsUnit, IsUnitAt}
 use Rattle.saw_text.specs.Reading.{named_field_at, field_after, field_at, column_at, columns_at, best_at, kind_after, kind_at}
 use Rattle.saw_text.specs.Reading.{weight_field_at, in_table_at, table_at, typed_after, typed_at, unit_named, unit_after, unit_at, unit_from}

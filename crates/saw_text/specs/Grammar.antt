@@ -6,9 +6,8 @@ use Rattle.work_text.specs.Cut.{units_of}
 use Rattle.work_text.specs.Lexis.{tokens_in}
 use Rattle.work_text.specs.Tok.{Tok, Mark, toks}
 use Rattle.work_text.specs.declared.sign.Symbol.TheVariants as s
-use Rattle.text_forms.specs.Parse.{is_count}
 use Rattle.text_forms.specs.Texts.{AllFormed}
-use Rattle.text_forms.specs.Forms.{Number, Nothing, Never, Both, After, Before, AfterWord, Tested, Seen, Merged, Maybe, Many, Choose, Headed}
+use Rattle.text_forms.specs.Forms.{Nothing, Never, Both, After, Before, AfterWord, Tested, Seen, Merged, Maybe, Many, Choose, Headed, Count}
 use Rattle.saw_text.specs.declared.tree.Kind.{Kind}
 use Rattle.saw_text.specs.declared.tree.Kind.TheVariants.{Sum, Collection, Maximum}
 use Rattle.saw_text.specs.declared.tree.Field.{Field}
@@ -17,10 +16,6 @@ use Rattle.text_blocks.specs.Parts.{Round, Square}
 use Rattle.saw_text.specs.Blocks.{IsDeclare, IsAssign, style, holes}
 use Rattle.saw_text.specs.Words.{is_user}
 use Rattle.saw_text.specs.Tree.{TableForm, UnitForm, TableUnit, StatementUnit}
-
--- N that counts something: at most 4294967295
-abbrev pub Count : ℕ → List Tok → Type 0
-Count = Tested is_count Number
 
 -- TABLES
 

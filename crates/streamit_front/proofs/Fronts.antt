@@ -9,7 +9,7 @@ use Rattle.work_text.specs.declared.fault.LexFault.{LexFault}
 use Rattle.work_text.specs.declared.fault.LexFault.TheVariants as lex
 use Rattle.work_text.proofs.Slices.{no_want}
 use Rattle.text_forms.specs.Refusals.{of_lexer}
-use Rattle.text_forms.specs.Texts.{read_units, IsFirstBad}
+use Rattle.text_forms.specs.Texts.{read_units, IsFirstBad, IsEmpty}
 use Rattle.text_forms.specs.declared.refusal.Refusal.TheVariants.{BadByte, BigNumber, Syntax}
 use Rattle.text_forms.proofs.Texts.{bad-read}
 use Rattle.river_plan.specs.Forms.{PlanForm, plan_form}
@@ -32,7 +32,7 @@ use Rattle.streamit_text.specs.declared.program.Declaration.{Declaration}
 use Rattle.streamit_build.specs.Readable.{AreReadable}
 use Rattle.streamit_build.specs.Told.{PlansBy}
 use Rattle.streamit_text.specs.Grammar.{AreUnits, IsText, IsSome, IsUnitAt, next_unit}
-use Rattle.streamit_text.specs.Laws.{IsBadAt, IsEmpty}
+use Rattle.streamit_text.specs.Laws.{IsBadAt}
 use Rattle.streamit_text.specs.Reading.{some_units, unit_from}
 use Rattle.streamit_text.specs.Faults.{StandFor, Refuses}
 use Rattle.text_forms.specs.declared.unit_fault.UnitFault.TheVariants.{Syntax as Syntax_at}

@@ -3,7 +3,7 @@ use Rattle.std.proofs.Common.{◌≡◌, ℕ, suc, ◌≤◌, ◌+◌, ◌-◌, 
 use Rattle.std.specs.Prelude.{max, codes, if◌then◌else◌, nat_eq, ◌&&◌}
 use Rattle.std.specs.List.{AllByRecursion}
 use Rattle.std.specs.Str.{bytes_eq}
-use Rattle.work_code.specs.Steps.{Steps, Done}
+use Rattle.work_code.specs.Steps.{Steps, Done, both_steps, one_step}
 use Rattle.work_code.specs.Steps as steps
 use Rattle.work_code.specs.Term.{Term}
 use Rattle.work_text.specs.Tok.{Tok}
@@ -12,7 +12,7 @@ use Rattle.river_plan.specs.Forms.{Name}
 use Rattle.streamit_text.specs.Tree.{Statement, Declare, Assign, Push, Discard, If, For, Block, End, Then, Optional, Unwritten, Written, in_turn, or_unwritten}
 use Rattle.streamit_text.specs.Tree.{Expression}
 use Rattle.streamit_model.specs.Meaning.{pops, numbers_from, peek_of}
-use Rattle.streamit_model.specs.Elaborate.{At, Read, on_ok, both_steps, one_step, counted, is_new, has_slot, first_term, declared, slot_of, term_of, constant}
+use Rattle.streamit_model.specs.Elaborate.{At, Read, on_ok, counted, is_new, has_slot, first_term, declared, slot_of, term_of, constant}
 use Rattle.streamit_model.specs.Elaborate.{bound_of, after_arms, unrolled, step_of, steps_of, find, BranchRates, Turn, optional_of}
 use Rattle.streamit_text.specs.Program.{WorkTree, FilterTree}
 use Rattle.streamit_model.specs.ElaborateFilter.{elaborated, slots_for, widened_first}

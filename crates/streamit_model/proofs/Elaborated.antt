@@ -10,7 +10,7 @@ use Rattle.river_base.specs.Name.{name_eq}
 use Rattle.river_base.specs.Number.{count_of, negate}
 use Rattle.work_code.specs.Term.{Term}
 use Rattle.work_code.specs.Term as term
-use Rattle.work_code.specs.Steps.{Step, Steps, Done}
+use Rattle.work_code.specs.Steps.{Step, Steps, Done, both_steps, one_step}
 use Rattle.work_code.specs.Steps as steps
 use Rattle.work_code.specs.Ran.{Ran, ran, ran_once}
 use Rattle.work_code.specs.Value.{val, applied, truth, is_true}
@@ -24,7 +24,7 @@ use Rattle.streamit_text.specs.Tree as tree
 use Rattle.streamit_model.specs.Meaning.{pops, Values, eval, State, numbers_from, turns_between, each_turn, first_value, first_pops, exec, exec_all, exec_optional}
 use Rattle.streamit_model.specs.Elaborate.{Fault, Limit, BranchRates, PeekRange, on_ok, demand, KnownName, Var, Turn, Scope, find, constant_of, constant}
 use Rattle.streamit_model.specs.Elaborate.{named_term}
-use Rattle.streamit_model.specs.Elaborate.{peeked, term_of, At, counted, has_slot, is_new, slot_of, bound_of, first_term, first_popped, both_steps, one_step, Read}
+use Rattle.streamit_model.specs.Elaborate.{peeked, term_of, At, counted, has_slot, is_new, slot_of, bound_of, first_term, first_popped, Read}
 use Rattle.streamit_model.specs.Elaborate.{declared, after_arms, unrolled, step_of, steps_of, optional_of}
 
 -- ANSWERS

@@ -5,7 +5,7 @@ use Rattle.std.specs.Prelude.{if◌then◌else◌, ◌&&◌, max}
 use Rattle.std.proofs.lemmas.Bool.{and_parts, and_from, lt-ltb, le-leb, eq-eqb, ltb-true}
 use Rattle.work_code.specs.Term.{Term}
 use Rattle.work_code.specs.Term as term
-use Rattle.work_code.specs.Steps.{Step, Steps, Done}
+use Rattle.work_code.specs.Steps.{Step, Steps, Done, both_steps, one_step}
 use Rattle.work_code.specs.Steps as steps
 use Rattle.kern_rows.specs.Forms.{FilterForm, RunForm}
 use Rattle.kern_rows.specs.Needs.{CanRun}
@@ -20,7 +20,7 @@ use Rattle.streamit_model.specs.Meaning.{pops, turns_between, push_of, peek_of}
 use Rattle.streamit_model.specs.Shallow.{IsLowFirst, IsShallow, AreShallow, IsItemlessFirst, KeepsItems, KeepAll, AreShallowOptional, KeepAllOptional}
 use Rattle.streamit_model.specs.Shallow.{IsShallowPrework, IsShallowFilter}
 use Rattle.streamit_model.specs.Elaborate.{Limit, PeekRange, on_ok, KnownName, Var, Turn, Scope, find, constant, named_term, peeked, term_of, At, first_term}
-use Rattle.streamit_model.specs.Elaborate.{first_popped, both_steps, one_step, Read, unrolled, step_of, steps_of, optional_of}
+use Rattle.streamit_model.specs.Elaborate.{first_popped, Read, unrolled, step_of, steps_of, optional_of}
 use Rattle.std.proofs.lemmas.List.{length-replicate}
 use Rattle.std.proofs.Math.Nat.{le_refl}
 use Rattle.streamit_text.specs.Program.{WorkTree, FilterTree}

@@ -5,14 +5,14 @@ use Rattle.std.specs.Prelude.{if◌then◌else◌, ◌&&◌}
 use Rattle.std.proofs.lemmas.List.{append-nil}
 use Rattle.std.proofs.lemmas.Bool.{and_parts, ltb-true, ltb-false, leb-true, leb-false}
 use Rattle.work_code.specs.Term.{Term}
-use Rattle.work_code.specs.Steps.{Steps}
+use Rattle.work_code.specs.Steps.{Steps, both_steps, one_step}
 use Rattle.work_code.specs.Steps as steps
 use Rattle.river_plan.specs.Forms.{Name}
 use Rattle.streamit_text.specs.Tree.{Expression, Statement, Declare, Assign, Push, Discard, If, For, Block, End, Then, Optional, Unwritten, Written}
 use Rattle.brooklet_model.specs.Machine.{at_name}
 use Rattle.streamit_model.specs.Meaning.{Values, pops, numbers_from, turns_between}
 use Rattle.streamit_model.specs.Elaborate.{Fault, BranchRates, Limit, on_ok, KnownName, Var, Turn, find, constant, term_of, At, counted, has_slot, is_new, slot_of}
-use Rattle.streamit_model.specs.Elaborate.{bound_of, first_term, first_popped, both_steps, one_step, Read, declared, after_arms, unrolled, step_of, steps_of}
+use Rattle.streamit_model.specs.Elaborate.{bound_of, first_term, first_popped, Read, declared, after_arms, unrolled, step_of, steps_of}
 use Rattle.streamit_model.specs.Elaborate.{optional_of}
 use Rattle.streamit_text.specs.Program.{Declared}
 use Rattle.streamit_model.specs.Words.{ReadWord, Begins, Declares, Knows, Leaves, Sets, Drops, Bounds, Loops, Enters, Exits, Pushes, Otherwise, Joins, knows}

@@ -6,7 +6,7 @@ use Rattle.river_base.specs.Name.{name_eq}
 use Rattle.river_base.specs.Number.{negate}
 use Rattle.work_code.specs.Term.{Term}
 use Rattle.work_code.specs.Term as term
-use Rattle.work_code.specs.Steps.{Step, Steps, Done}
+use Rattle.work_code.specs.Steps.{Steps, Done, both_steps, one_step}
 use Rattle.work_code.specs.Steps as steps
 use Rattle.work_code.specs.Value.{applied, truth}
 use Rattle.river_plan.specs.Forms.{Name}
@@ -123,14 +123,6 @@ first_term e (Some t) s = term_of e s.scope t s.popped
 abbrev pub first_popped : Option Expression → ℕ
 first_popped None = 0
 first_popped (Some t) = pops t
-
--- the statements of both, one after another
-abbrev pub both_steps : Steps → Steps → Steps
-both_steps Done ts = ts
-both_steps (steps.Then s ss) ts = steps.Then s (both_steps ss ts)
-
-abbrev pub one_step : Step → Steps
-one_step s = steps.Then s Done
 
 abbrev pub Read : Type 0
 Read = Result (Steps × At) Fault

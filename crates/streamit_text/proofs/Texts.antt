@@ -4,11 +4,11 @@ use Rattle.work_text.specs.Cut.{units_of}
 use Rattle.work_text.specs.Lexis.{tokens_in}
 use Rattle.work_text.specs.Tok.{Tok, Mark, toks}
 use Rattle.work_text.specs.declared.fault.LexFault.{LexFault}
-use Rattle.text_forms.specs.Texts.{IsFirstBad}
+use Rattle.text_forms.specs.Texts.{IsFirstBad, IsEmpty}
 use Rattle.text_forms.proofs.Texts.{all-formed, formed-read, first-bad}
 use Rattle.streamit_text.specs.Program.{Program}
 use Rattle.streamit_text.specs.Grammar.{AreUnits, IsSome, IsText, IsUnitAt, next_unit}
-use Rattle.streamit_text.specs.Laws.{OneProgram, IsEmpty}
+use Rattle.streamit_text.specs.Laws.{OneProgram}
 use Rattle.streamit_text.specs.Reading.{some_units}
 use Rattle.streamit_text.proofs.Units.{exact-unit_from}
 

@@ -3,7 +3,7 @@ use Rattle.std.specs.Prelude.{◌≡◌, ◌⊎◌, ℕ, true, List, [], ◌∷�
 use Rattle.work_text.specs.Cut.{units_of}
 use Rattle.work_text.specs.Lexis.{tokens_in}
 use Rattle.work_text.specs.Tok.{Tok, name, var, number, symbol, Mark, toks}
-use Rattle.text_forms.specs.Texts.{IsFirstBad}
+use Rattle.text_forms.specs.Texts.{IsFirstBad, IsEmpty}
 use Rattle.streamit_text.specs.Program.{Program}
 use Rattle.streamit_text.specs.Grammar.{IsText, IsUnitAt, next_unit}
 use Rattle.streamit_text.specs.Words.{is_plain, is_own}
@@ -15,10 +15,6 @@ use Rattle.streamit_text.specs.Leaves.{IsLeaf, leaf_at}
 -- a text stands for one program at most
 abbrev pub OneProgram : Type 0
 OneProgram = (text : List ℕ) (p q : Program) → IsText text p → IsText text q → p ≡ q
-
--- there is no unit, and the first is told
-abbrev pub IsEmpty : List (List Tok) → ℕ → Type 0
-IsEmpty units n = (units ≡ []) × (n ≡ 1)
 
 -- the text has tokens, and the unit with this number, from 1, is the first that is not in the grammar; of a text without a unit it is the first
 pub record IsBadAt (text : List ℕ) (n : ℕ) : Type 0 where

@@ -3,13 +3,13 @@ use Rattle.std.proofs.Common.{◌≡◌, ℕ, suc, ◌+◌, ◌-◌, ◌<◌, �
 use Rattle.std.proofs.Common.{◌∙◌, subst, arith, append_assoc, append-nil}
 use Rattle.work_code.specs.declared.code.Stmt.{Stmt}
 use Rattle.work_code.specs.declared.code.Stmts.{Stmts}
-use Rattle.work_code.specs.Steps.{Step, Steps, Done, step, statements, in_turn}
+use Rattle.work_code.specs.Steps.{Step, Steps, Done, step, statements, in_turn, both_steps, one_step}
 use Rattle.work_code.specs.Steps as steps
 use Rattle.streamit_text.specs.Tree as source
 use Rattle.river_plan.specs.Forms.{Name}
 use Rattle.streamit_model.specs.Meaning.{numbers_from, pops}
-use Rattle.streamit_model.specs.Elaborate.{Fault, At, Read, on_ok, both_steps, step_of, steps_of, unrolled, counted, is_new, find, constant, bound_of, term_of}
-use Rattle.streamit_model.specs.Elaborate.{one_step, after_arms, optional_of}
+use Rattle.streamit_model.specs.Elaborate.{Fault, At, Read, on_ok, step_of, steps_of, unrolled, counted, is_new, find, constant, bound_of, term_of}
+use Rattle.streamit_model.specs.Elaborate.{after_arms, optional_of}
 use Rattle.streamit_text.specs.Tree.{Expression}
 use Rattle.work_code.specs.Term.{Term}
 use Rattle.std.specs.Prelude.{if◌then◌else◌, nat_eq}

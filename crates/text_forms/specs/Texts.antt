@@ -51,3 +51,7 @@ pub record IsFirstBad {S A : Type 0} (F : S → A → List Tok → Type 0) (next
   pub formed : AllFormed F next s values before
   pub not_formed : (v : A) → F (state_after next s values) v bad → ⊥
   pub number : n ≡ length before + 1
+
+-- there is no unit, and the first is told
+abbrev pub IsEmpty : List (List Tok) → ℕ → Type 0
+IsEmpty units n = (units ≡ []) × (n ≡ 1)

@@ -22,6 +22,15 @@ abbrev pub in_turn : List Step → Steps
 in_turn [] = Done
 in_turn (s ∷ ss) = Then s (in_turn ss)
 
+-- the statements of both, one after another
+abbrev pub both_steps : Steps → Steps → Steps
+both_steps Done ts = ts
+both_steps (Then s ss) ts = Then s (both_steps ss ts)
+
+-- a body of one statement
+abbrev pub one_step : Step → Steps
+one_step s = Then s Done
+
 -- one layer of a statement, whose parts are trees already
 abbrev pub step_at : Stmt-F Step Steps → Step
 step_at (open_stmt.Set slot value) = Set slot (term value)
