@@ -1,5 +1,5 @@
 // The road of `run`: each function is a point, or hands on to those of the next.
-ghost use Rattle.std.specs.Prelude.{◌≡◌, ◌≤◌};
+ghost use Rattle.std.specs.Prelude.{◌≡◌, ◌≤◌, Some};
 ghost use Rattle.river_outside.specs.Causes.{Rose};
 ghost use Rattle.river_order.specs.Passes.{Passes};
 ghost use Rattle.river_plan.specs.Caps.{AreCaps};
@@ -69,10 +69,32 @@ fn run_scripted<R: Threads + Sync, S: Shelf, G: Gate + Sync>(
     match name {
         None => run_over(alloc, crew, ins, layout, counts, plan, caps, shelf),
         Some(script) => {
-            let made = rewritten(alloc, script.as_slice(), plan, shelf)?;
-            run_over(alloc, crew, ins, layout, counts, &made, caps, shelf)
+            let script = script.as_slice();
+            run_rewritten(alloc, crew, script, ins, layout, counts, plan, caps, shelf)
         }
     }
+}
+
+// A plan is rewritten and run.
+fn run_rewritten<R: Threads + Sync, S: Shelf, G: Gate + Sync>(
+    alloc: Global,
+    crew: &Crew<'_, R, G>,
+    script: &[u8],
+    ins: &InWords,
+    layout: Layout,
+    counts: bool,
+    plan: &Plan,
+    caps: &Caps,
+    shelf: &mut S,
+) -> Result<Bytes, Stop>
+    requires caps { AreCaps caps.now }
+    ensures later { S.faults shelf.old ≤ S.faults shelf.new }
+    ensures passes { (source : SourceProgram) → IsPlanned caps.now source plan.now
+        → Passes (of_scripted_run (Some script.now) ins.now layout counts source) (S.held shelf.old)
+        (Rose S.stays_at_last (S.faults shelf.old) (S.faults shelf.new)) result }
+{
+    let made = rewritten(alloc, script, plan, shelf)?;
+    run_over(alloc, crew, ins, layout, counts, &made, caps, shelf)
 }
 
 // A plan is run over its inputs, and what this gives is printed.

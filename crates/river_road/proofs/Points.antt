@@ -16,7 +16,7 @@ use Rattle.river_print.specs.Printed.{plan_text}
 use Rattle.river_road.specs.Layouts.{layout_of}
 use Rattle.river_road.specs.Inputs.{of_inputs}
 use Rattle.river_road.specs.Limits.{most_program}
-use Rattle.river_road.specs.Points.{of_program, of_inputs_run, of_show, of_scripted_show, of_mean, of_upgrade, plan_as_shown}
+use Rattle.river_road.specs.Points.{of_program, of_inputs_run, of_show, of_shown, of_scripted_show, of_mean, of_upgrade, plan_as_shown}
 use Rattle.river_road.specs.Source.{SourceProgram, IsPlanOf, IsPlanned, IsCompiled, printed}
 use Rattle.river_road.specs.declared.language.Compiled.{Compiled}
 use Rattle.river_road.specs.Text.{large_program}
@@ -89,7 +89,7 @@ module _ (source_of : List ℕ → Result SourceProgram (List ℕ)) (file : List
 
 -- a plan is shown in place of that of the program
 pub shown-passes : (caps : List Cap) (source : SourceProgram) (plan : PlanForm) (held : Option Held) (rose : Type 0) (result : Result (List ℕ) Stop) → IsPlanned caps source plan
-    → Answers (Ok (plan_as_shown caps plan)) result → Passes (λ next. next (plan_as_shown source.caps source.plan)) held rose result
+    → Answers (Ok (plan_as_shown caps plan)) result → Passes (of_shown source) held rose result
 shown-passes caps source plan held rose result is told =
     text-passes (plan_as_shown caps plan) (plan_as_shown source.caps source.plan) held rose result (λ i. plan_as_shown (is.caps_are i) (is.plan.plan i)) told
 

@@ -41,9 +41,13 @@ of_inputs_run ins layout counted source next = of_inputs source.inputs ins layou
 abbrev pub plan_as_shown : List Cap → PlanForm → List ℕ
 plan_as_shown caps p = plan_text (first_cap caps) p ++ classes_text p
 
--- the plan of a program is rewritten, and shown
+-- the plan of a program is shown, with the capacities that the program gives
+abbrev pub of_shown : SourceProgram → (List ℕ → Order) → Order
+of_shown source next = next (plan_as_shown source.caps source.plan)
+
+-- it is rewritten before
 abbrev pub of_scripted_show : Option (List ℕ) → SourceProgram → (List ℕ → Order) → Order
-of_scripted_show script source next = of_script script source (λ later. next (plan_as_shown later.caps later.plan))
+of_scripted_show script source next = of_script script source (λ later. of_shown later next)
 
 -- a language, and whether records may have further fields in it
 module _ (source_of : List ℕ → Result SourceProgram (List ℕ)) (more : Bool) where

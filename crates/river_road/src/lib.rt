@@ -7,7 +7,7 @@
 mod content;
 mod fetched;
 mod gather;
-mod items;
+mod item_lists;
 mod language;
 mod layout;
 mod meant;
@@ -19,7 +19,7 @@ mod text;
 
 pub use content::Content;
 pub use gather::gather as gather_contents;
-pub use items::inputs_of;
+pub use item_lists::inputs_of;
 pub use language::{Compiled, Language};
 pub use layout::Layout;
 pub use road::{compiled, mean, rewritten, show, upgrade};

@@ -101,11 +101,25 @@ fn show_scripted<S: Shelf>(
 {
     match name {
         None => shown(alloc, plan, caps),
-        Some(script) => {
-            let made = rewritten(alloc, script.as_slice(), plan, shelf)?;
-            shown(alloc, &made, caps)
-        }
+        Some(script) => show_rewritten(alloc, script.as_slice(), plan, caps, shelf),
     }
+}
+
+// A plan is rewritten and shown.
+fn show_rewritten<S: Shelf>(
+    alloc: Global,
+    script: &[u8],
+    plan: &Plan,
+    caps: &Caps,
+    shelf: &mut S,
+) -> Result<Bytes, Stop>
+    requires { AreCaps caps.now }
+    ensures later { S.faults shelf.old ≤ S.faults shelf.new }
+    ensures passes { (source : SourceProgram) → IsPlanned caps.now source plan.now
+        → Passes (of_scripted_show (Some script.now) source) (S.held shelf.old) (Rose S.stays_at_last (S.faults shelf.old) (S.faults shelf.new)) result }
+{
+    let made = rewritten(alloc, script, plan, shelf)?;
+    shown(alloc, &made, caps)
 }
 
 /// The script is fetched and applied.

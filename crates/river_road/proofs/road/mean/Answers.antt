@@ -19,5 +19,5 @@ returns-clause-passes g c =
     let mid = Rose g.S.Shelf.stays_at_last (g.S.Shelf.faults c.args.shelf.now) (g.S.Shelf.faults c.compiled.new.shelf) in
     let early = Rose g.S.Shelf.stays_at_last (g.S.Shelf.faults c.args.shelf.now) (g.S.Shelf.faults c.mean_over.new.shelf) in
     let late = Rose g.S.Shelf.stays_at_last (g.S.Shelf.faults c.compiled.new.shelf) (g.S.Shelf.faults c.mean_over.new.shelf) in
-    let over = rw (c.compiled.ensures.stays, c.layout.ensures) at c.mean_over.ensures.passes in
+    let over = rw (c.compiled.ensures.stays, c.of.ensures) at c.mean_over.ensures.passes in
     mean-last g.L.Language.source g.L.Language.more c.args.file.now (g.S.Shelf.held c.args.shelf.now) c.args.ins.now c.args.header (IsCompiled g.L.Language.stands) mid early late (rose_before g.S.Shelf.stays_at_last _ _ _ c.compiled.ensures.later) c.in_ok-compiled.compiled c.mean_over.result c.in_ok-compiled.ensures.passes over

@@ -3,7 +3,7 @@ use Rattle.std.proofs.lemmas.List.{drop_more}
 use Rattle.river_base.specs.Instants.{stamps}
 use Rattle.river_road.specs.Inputs.{timed_files}
 use Rattle.river_road.proofs.Items.{stamps-more}
-use Rattle.river_road.proofs.items.instants_of.Goals as goal
+use Rattle.river_road.proofs.item_lists.instants_of.Goals as goal
 
 pub loop-place-preserved : goal.loop-place-preserved
 loop-place-preserved c =

@@ -1,0 +1,25 @@
+use Rattle.std.proofs.lemmas.Result.{err_from_is_err_and}
+use Rattle.std.specs.Prelude.{Some}
+use Rattle.river_outside.proofs.Counts.{rose_before}
+use Rattle.river_outside.specs.Causes.{Rose}
+use Rattle.river_road.specs.Points.{of_script, of_inputs_run}
+use Rattle.river_road.specs.Source.{IsPlanned}
+use Rattle.river_road.proofs.Points.{as-then}
+use Rattle.plan_runs.proofs.road.run_rewritten.Goals as goal
+
+pub returns-in_err-made-clause-passes : goal.returns-in_err-made-clause-passes
+returns-in_err-made-clause-passes g c source is =
+    let p = err_from_is_err_and c.from_residual.result c.from_residual.ensures.1 in
+    let stops = c.in_err-made.ensures.passes c.args.caps.now source is in
+    rw (p.1, p.2) (λ next. stops (λ later. of_inputs_run c.args.ins.now c.args.layout c.args.counts later next))
+
+pub returns-clause-passes : goal.returns-clause-passes
+returns-clause-passes g c source is =
+    let held = g.S.Shelf.held c.args.shelf.now in
+    let mid = Rose g.S.Shelf.stays_at_last (g.S.Shelf.faults c.args.shelf.now) (g.S.Shelf.faults c.rewritten.new.shelf) in
+    let early = Rose g.S.Shelf.stays_at_last (g.S.Shelf.faults c.args.shelf.now) (g.S.Shelf.faults c.run_over.new.shelf) in
+    let late = Rose g.S.Shelf.stays_at_last (g.S.Shelf.faults c.rewritten.new.shelf) (g.S.Shelf.faults c.run_over.new.shelf) in
+    let over = rw c.rewritten.ensures.stays at c.run_over.ensures.passes in
+    as-then (IsPlanned c.args.caps.now) (of_script (Some c.args.script.now) source) (of_inputs_run c.args.ins.now c.args.layout c.args.counts) held mid early late
+    (rose_before g.S.Shelf.stays_at_last _ _ _ c.rewritten.ensures.later) c.in_ok-made.made c.run_over.result (c.in_ok-made.ensures.passes c.args.caps.now source is)
+    (λ later of. over later of.plan)
