@@ -18,5 +18,5 @@ returns-clause-passes g c =
     let mid = Rose g.S.Shelf.stays_at_last (g.S.Shelf.faults c.args.shelf.now) (g.S.Shelf.faults c.compiled.new.shelf) in
     let early = Rose g.S.Shelf.stays_at_last (g.S.Shelf.faults c.args.shelf.now) (g.S.Shelf.faults c.run_scripted.new.shelf) in
     let late = Rose g.S.Shelf.stays_at_last (g.S.Shelf.faults c.compiled.new.shelf) (g.S.Shelf.faults c.run_scripted.new.shelf) in
-    let runs = rw (c.compiled.ensures.stays, c.of.ensures) at c.run_scripted.ensures.passes in
+    let runs = rw (c.compiled.ensures.stays, c.of-layout.ensures) at c.run_scripted.ensures.passes in
     run-last g.L.Language.source g.L.Language.more c.args.file.now (g.S.Shelf.held c.args.shelf.now) c.args.ins.now c.args.name.now c.args.header c.args.counts g.L.Language.stands mid early late (rose_before g.S.Shelf.stays_at_last _ _ _ c.compiled.ensures.later) c.in_ok-compiled.compiled c.run_scripted.result c.in_ok-compiled.ensures.passes runs

@@ -6,20 +6,20 @@ use Rattle.river_road.proofs.Contents.{inputs-apart}
 use Rattle.river_road.proofs.Points.{run-stops, run-comes}
 use Rattle.plan_runs.proofs.road.run_over.Goals as goal
 
-pub gather_contents-requires-clause-outer : goal.gather_contents-requires-clause-outer
-gather_contents-requires-clause-outer g c =
+pub gather-requires-clause-outer : goal.gather-requires-clause-outer
+gather-requires-clause-outer g c =
     let decls : c.as_slice-decls.result.now ≡ c.args.plan.now.inputs = c.as_slice-decls.ensures ∙ ap (λ (q : PlanForm). q.inputs) c.raw.ensures.raw in
     rw decls c.raw.ensures.valid.inputs_typed
 
-pub gather_contents-requires-clause-apart : goal.gather_contents-requires-clause-apart
-gather_contents-requires-clause-apart g c =
+pub gather-requires-clause-apart : goal.gather-requires-clause-apart
+gather-requires-clause-apart g c =
     let decls : c.as_slice-decls.result.now ≡ c.args.plan.now.inputs = c.as_slice-decls.ensures ∙ ap (λ (q : PlanForm). q.inputs) c.raw.ensures.raw in
     rw decls (inputs-apart c.args.plan.now c.raw.ensures.valid)
 
 pub returns-in_err-files-clause-passes : goal.returns-in_err-files-clause-passes
 returns-in_err-files-clause-passes g c source is =
     let p = err_from_is_err_and c.from_residual.result c.from_residual.ensures.1 in
-    let rose = Rose g.S.Shelf.stays_at_last (g.S.Shelf.faults c.args.shelf.now) (g.S.Shelf.faults c.gather_contents.new.shelf) in
+    let rose = Rose g.S.Shelf.stays_at_last (g.S.Shelf.faults c.args.shelf.now) (g.S.Shelf.faults c.gather.new.shelf) in
     let decls : c.as_slice-decls.result.now ≡ c.args.plan.now.inputs = c.as_slice-decls.ensures ∙ ap (λ (q : PlanForm). q.inputs) c.raw.ensures.raw in
     let stops = rw (decls, c.as_slice.ensures) at c.in_err-files.ensures.passes in
     rw (p.1, p.2) (run-stops c.args.ins.now c.args.layout c.args.counts source c.args.plan.now (g.S.Shelf.held c.args.shelf.now) is rose c.in_err-files.field-0.0 stops)

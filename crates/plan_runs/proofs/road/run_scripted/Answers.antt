@@ -9,4 +9,4 @@ returns-in-None-clause-passes g c source is =
     rw c.in-None.is (none-passes (of_inputs_run c.args.ins.now c.args.layout c.args.counts) source (g.S.Shelf.held c.args.shelf.now) rose c.run_over.result (c.run_over.ensures.passes source is.plan))
 
 pub returns-in-Some-clause-passes : goal.returns-in-Some-clause-passes
-returns-in-Some-clause-passes g c source is = rw c.in-Some.is ((rw c.as_slice.ensures at c.run_rewritten.ensures.passes) source is)
+returns-in-Some-clause-passes g c source is = rw c.in-Some.is ((rw c.as_slice-script.ensures at c.run_rewritten.ensures.passes) source is)
