@@ -22,7 +22,7 @@ pub fn check(alloc: Global, raw: RawPlan) -> Result<Plan, PlanFault>
     ensures told { IsTold (plan_form raw) result }
 {
     match checked(alloc, &raw) {
-        Ok(wiring) => Ok(Plan::of_valid(raw, wiring)),
+        Ok(wiring) => Ok(Plan::of_valid(alloc, raw, wiring)?),
         Err(fault) => Err(fault),
     }
 }

@@ -17,8 +17,8 @@ use std::marker::Model;
 /// 2010): queues with one writer and one reader, and operators in an order in which each reads what is written before.
 #[derive(Drop)]
 pub struct Plan {
-    raw: RawPlan,
-    wiring: Wiring,
+    raw: Box<RawPlan>,
+    wiring: Box<Wiring>,
 }
 
 impl Model for Plan {
@@ -31,9 +31,9 @@ impl Model for Plan {
 
     ghost coded = { plan_code };
 
-    ghost view = { λ p. plan_form p.raw };
+    ghost view = { λ p. plan_form p.raw.value };
 
-    ghost invariant = { λ p. IsPlan (plan_form p.raw) × IsWired (plan_form p.raw) p.wiring };
+    ghost invariant = { λ p. IsPlan (plan_form p.raw.value) × IsWired (plan_form p.raw.value) p.wiring.value };
 }
 
 impl Plan {
@@ -49,10 +49,9 @@ impl Plan {
     pub fn copy(&self, alloc: Global) -> Result<Plan, NoMemory>
         ensures { IfOk result (λ copy. copy ≡ self.now) }
     {
-        Ok(Plan {
-            raw: self.raw.copy(alloc)?,
-            wiring: self.wiring.copy(alloc)?,
-        })
+        let raw = Box::new(alloc, self.raw.copy(alloc)?)?;
+        let wiring = Box::new(alloc, self.wiring.copy(alloc)?)?;
+        Ok(Plan { raw, wiring })
     }
 
     /// The places, among the names of the queues, of those that the operator of this number reads, port by port.
@@ -105,11 +104,13 @@ impl Plan {
     }
 
     /// The plan of lists that are valid, with their wiring.
-    pub fn of_valid(raw: RawPlan, wiring: Wiring) -> Plan
+    pub fn of_valid(alloc: Global, raw: RawPlan, wiring: Wiring) -> Result<Plan, NoMemory>
         requires valid { IsPlan (plan_form raw) }
         requires wired { IsWired (plan_form raw) wiring }
-        ensures { result ≡ plan_form raw }
+        ensures { IfOk result (λ plan. plan ≡ plan_form raw) }
     {
-        Plan { raw, wiring }
+        let wiring = Box::new(alloc, wiring)?;
+        let raw = Box::new(alloc, raw)?;
+        Ok(Plan { raw, wiring })
     }
 }
