@@ -4,6 +4,3 @@
 mod ends;
 
 pub use ends::{Feed, Take, beside, ring};
-
-#[cfg(test)]
-mod tests;

@@ -1,8 +1,16 @@
-//! What the cases of `river_cases` cannot say: what no contract says of the files and the streams of the system, and a call
-//! that no run makes so far. There is no code here besides the tests.
+//! What the cases of `river_cases` cannot say: what no contract says of the files, the streams and the threads of the system, and a
+//! call that no run makes so far. There is no code here besides the tests.
 #![tactic(auto)]
 
 #[cfg(test)]
+mod classes;
+#[cfg(test)]
+mod counting;
+#[cfg(test)]
 mod lists;
+#[cfg(test)]
+mod meeting;
+#[cfg(test)]
+mod rings;
 #[cfg(test)]
 mod system;

@@ -1,7 +1,7 @@
 // A ring between two threads.
 
-use super::{Feed, Take, ring};
 use river_base::{Flat, Item, Row};
+use river_rings::{Feed, Take, ring};
 use std::sync::Wait;
 use std::test::Fail;
 use std::thread;
