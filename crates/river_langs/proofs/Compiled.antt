@@ -9,18 +9,15 @@ use Rattle.river_order.specs.Passes.{StandsFor}
 use Rattle.river_plan.specs.Caps.{IsCap, AreCaps}
 use Rattle.river_plan.specs.Forms.{PlanForm}
 use Rattle.river_plan.specs.declared.caps.Cap.{Cap}
-use Rattle.river_text.specs.Meaning as river
 use Rattle.river_text.specs.Plans.{TextForm}
 use Rattle.river_text.specs.Words.{river_words}
 use Rattle.river_text.specs.declared.river_fault.RiverFault.{RiverFault}
-use Rattle.river_text.specs.declared.river_fault.RiverFault.TheVariants as river_fault
 use Rattle.brooklet_model.specs.Meaning.{meaning}
 use Rattle.streamit_model.specs.Build.{plan_of}
 use Rattle.streamit_model.specs.Laws.{as_items}
 use Rattle.streamit_front.specs.Meaning.{Accepted, compiled, Plans}
 use Rattle.streamit_front.specs.Words.{streamit_words}
 use Rattle.streamit_front.specs.declared.fault.StreamitFault.{StreamitFault}
-use Rattle.streamit_front.specs.declared.fault.StreamitFault.TheVariants as streamit_fault
 use Rattle.streamit_text.specs.Program as streamit_tree
 use Rattle.kern_rows.specs.Even.{row_items}
 use Rattle.streamit_front.specs.declared.program.StreamitProgram.{StreamitProgram}
@@ -29,7 +26,6 @@ use Rattle.params_text.specs.Program as params_tree
 use Rattle.params_front.specs.Meaning as params
 use Rattle.params_front.specs.Words.{params_words}
 use Rattle.params_front.specs.declared.fault.ParamFault.{ParamFault}
-use Rattle.params_front.specs.declared.fault.ParamFault.TheVariants as params_fault
 use Rattle.params_front.proofs.Compiling.{compiled-readable as params-readable, plain_means, plans_mean as params_plans_mean}
 use Rattle.river_road.specs.Contents.{AreContents}
 use Rattle.river_road.specs.Inputs.{all_items}
@@ -41,7 +37,6 @@ use Rattle.saw_model.specs.Meaning.{width}
 use Rattle.saw_front.specs.Meaning as saw
 use Rattle.saw_front.specs.Words.{saw_words}
 use Rattle.saw_front.specs.declared.fault.SawFault.{SawFault}
-use Rattle.saw_front.specs.declared.fault.SawFault.TheVariants as saw_fault
 use Rattle.saw_front.specs.declared.program.SawProgram.{SawProgram}
 use Rattle.saw_front.proofs.Fronts.{compiled-valued, compiled-judged, plans_mean as saw_plans_mean}
 use Rattle.saw_text.specs.Tree.{unit_forms}

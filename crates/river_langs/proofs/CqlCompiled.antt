@@ -20,7 +20,6 @@ use Rattle.cql_text.specs.declared.tree.CqlProgram.{CqlProgram}
 use Rattle.cql_front.specs.Meaning.{compiled, Plans}
 use Rattle.cql_front.specs.Words.{cql_words}
 use Rattle.cql_front.specs.declared.fault.CqlFault.{CqlFault}
-use Rattle.cql_front.specs.declared.fault.CqlFault.TheVariants as cql_fault
 use Rattle.cql_front.proofs.Fronts.{plans_mean}
 use Rattle.slow_cql.proofs.Accepted.{accepted_columns}
 use Rattle.river_road.specs.Contents.{AreContents}

@@ -231,8 +231,8 @@ firsts n = record { give = give }
 
 ranged-first : (slots : ℕ) (o : Option g.FirstParts) → w.IsCount slots → AreFirsts o
     → ranges.IsRangedFirst (optional (g.made_first slots) o) × r.IsShallowFirst (optional (g.made_first slots) o)
-ranged-first slots None count h = (tt, tt)
-ranged-first slots (Some v) count h = ((h.0.0, h.0.1.0, h.0.1.1, (h.0.0, count, h.1.0)), h.1.1)
+ranged-first slots None few h = (tt, tt)
+ranged-first slots (Some v) few h = ((h.0.0, h.0.1.0, h.0.1.1, (h.0.0, few, h.1.0)), h.1.1)
 
 filter : (n : ℕ) → Gives (g.IsFilter n) IsKernel
 filter n = gives-seen g.made_filter IsKernel
