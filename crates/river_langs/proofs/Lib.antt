@@ -1,3 +1,7 @@
-pub mod Compiled
 pub mod CqlCompiled
 pub mod Files
+pub mod ParamsCompiled
+pub mod RiverCompiled
+pub mod SawCompiled
+pub mod Single
+pub mod StreamitCompiled

@@ -1,4 +1,4 @@
-use Rattle.river_langs.proofs.Compiled.{params-compiled}
+use Rattle.river_langs.proofs.ParamsCompiled.{params-compiled}
 use Rattle.river_langs.proofs.params.ParamsLanguage.compile.Goals as goal
 
 pub returns-in-Ok : goal.returns-in-Ok

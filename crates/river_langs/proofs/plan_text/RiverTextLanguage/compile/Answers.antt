@@ -1,5 +1,5 @@
 use Rattle.river_text.specs.Meaning.{plan_in}
-use Rattle.river_langs.proofs.Compiled.{river-compiled}
+use Rattle.river_langs.proofs.RiverCompiled.{river-compiled}
 use Rattle.river_langs.proofs.plan_text.RiverTextLanguage.compile.Goals as goal
 
 pub returns-in-Ok : goal.returns-in-Ok

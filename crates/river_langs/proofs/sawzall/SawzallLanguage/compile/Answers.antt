@@ -1,4 +1,4 @@
-use Rattle.river_langs.proofs.Compiled.{saw-compiled}
+use Rattle.river_langs.proofs.SawCompiled.{saw-compiled}
 use Rattle.river_langs.proofs.sawzall.SawzallLanguage.compile.Goals as goal
 
 pub returns-in-Ok : goal.returns-in-Ok

@@ -1,4 +1,4 @@
-use Rattle.river_langs.proofs.Compiled.{streamit-compiled}
+use Rattle.river_langs.proofs.StreamitCompiled.{streamit-compiled}
 use Rattle.river_langs.proofs.streamit.StreamitLanguage.compile.Goals as goal
 
 pub returns-in-Ok : goal.returns-in-Ok
