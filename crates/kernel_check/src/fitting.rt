@@ -1,8 +1,9 @@
 // Whether a kernel fits the types of its ports and its variables.
-ghost use Rattle.std.specs.Prelude.{◌≡◌, ◌<◌, length, slice_get, IfOk, IsTrue, ◌↔◌};
-ghost use Rattle.river_kernels.specs.Kern.{kern_of};
+ghost use Rattle.std.specs.Prelude.{◌≡◌, ◌<◌, ℕ, Option, Some, length, slice_get, IfOk, IsTrue, ◌↔◌};
+ghost use Rattle.river_kernels.specs.Kern.{kern_of, packed};
 ghost use Rattle.river_kernels.specs.Fits.{Fits};
-ghost use Rattle.river_kernels.specs.Types.{types_of, packed_of, joined_types, MayAnswer};
+ghost use Rattle.river_kernels.specs.declared.types.Types.{Types as TypesFound};
+ghost use Rattle.river_kernels.specs.Types.{types_of, packed_of, joined_types, fused_types, MayAnswer};
 
 use crate::inference::{
     of_code, of_collect, of_cross, of_deal, of_duplicate, of_filter, of_project, of_select,
@@ -15,6 +16,7 @@ use std::alloc::Global;
 
 // The types of the kernel's output ports and its variables, where it is well formed, may read queues of these types, and has at
 // most so many output ports.
+#[cycle(types)]
 fn types(
     alloc: Global,
     kernel: &Kernel,
@@ -29,12 +31,7 @@ fn types(
         Kernel::Duplicate(ports) => of_duplicate(alloc, *ports, reads, most),
         Kernel::Deal(weights) => of_deal(alloc, weights.as_slice(), reads),
         Kernel::Collect(weights) => of_collect(alloc, weights.as_slice(), reads),
-        Kernel::Packed(inner) => {
-            let Some(t) = only_flat(reads) else {
-                return Ok(None)
-            };
-            pack_of(alloc, types(alloc, inner, &[QueueType::Flat(t)], 1)?)
-        }
+        Kernel::Packed(inner) => packed_types(alloc, inner, reads),
         Kernel::Unpack(ports) => of_unpack(alloc, *ports, reads),
         Kernel::Window(w) => of_window(alloc, w, reads),
         Kernel::Select(cond) => of_select(alloc, cond, reads),
@@ -50,13 +47,43 @@ fn types(
             let Some(one) = types(alloc, first, reads, most + 1)? else {
                 return Ok(None)
             };
-            let Some(middle) = port_type(&one, *at) else {
-                return Ok(None)
-            };
-            let two = types(alloc, second, &[middle], most)?;
-            both(alloc, &one, two, *at)
+            types_behind(alloc, &one, second, *at, most)
         }
     }
+}
+
+// The types of a kernel that packs what this one gives.
+#[cycle(types)]
+fn packed_types(
+    alloc: Global,
+    inner: &Kernel,
+    reads: &[QueueType],
+) -> Result<Option<Types>, NoMemory>
+    ensures { IfOk result (λ found. found ≡ types_of (packed (kern_of inner.now)) reads.now) }
+{
+    let Some(t) = only_flat(reads) else {
+        return Ok(None)
+    };
+    pack_of(alloc, types(alloc, inner, &[QueueType::Flat(t)], 1)?)
+}
+
+// The types of a kernel behind a port of another, where that one's types were found.
+#[cycle(types)]
+fn types_behind(
+    alloc: Global,
+    one: &Types,
+    second: &Kernel,
+    at: u32,
+    most: usize,
+) -> Result<Option<Types>, NoMemory>
+    ensures { IfOk result (λ found. (told : Option TypesFound) (room : ℕ) → MayAnswer room told (Some one.now)
+        → MayAnswer most (fused_types at told (types_of (kern_of second.now))) found) }
+{
+    let Some(middle) = port_type(one, at) else {
+        return Ok(None)
+    };
+    let two = types(alloc, second, &[middle], most)?;
+    both(alloc, one, two, at)
 }
 
 // One pack of what the kernel inside gives, where it has types.

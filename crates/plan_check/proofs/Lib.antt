@@ -1,3 +1,4 @@
+pub mod MapLoops
 pub mod OverLemmas
 pub mod PlacedFaults
 pub mod Remains

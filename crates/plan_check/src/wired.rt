@@ -72,7 +72,6 @@ fn add_at(all: &mut Listed<Places>, place: usize, number: usize) -> Result<(), N
 }
 
 // The places of a part of each operator's names, one after another.
-#[tactic(auto, using(work_code::proofs::Lists::copies))]
 fn op_places(
     alloc: Global,
     ops: &Ops,
@@ -100,7 +99,6 @@ fn names_of(op: &Op, part: Part) -> &Names
 }
 
 // The places of these names.
-#[tactic(auto, using(work_code::proofs::Lists::copies))]
 fn places_in(alloc: Global, set: &NameSet, names: &Names) -> Result<Places, NoMemory>
     ensures { IfOk result (λ all. all ≡ places set.now names.now) }
 {

@@ -1,7 +1,8 @@
 -- Loops that look for names.
 use Rattle.std.proofs.Common.{◌≡◌, ℕ, zero, suc, ◌+◌, ◌<◌, ◌≤◌, Bool, true, false, Some, None, List, [], ◌∷◌, ◌++◌, length, take, drop, get_or, refl, sym, ap}
 use Rattle.std.proofs.Common.{◌∙◌, subst, arith, append_assoc, pos}
-use Rattle.std.specs.Prelude.{if◌then◌else◌, nat_lt, slice_index_or, slice_get}
+use Rattle.std.specs.Prelude.{if◌then◌else◌, nat_lt, slice_index_or, slice_get, Result, OnOk}
+use Rattle.std.proofs.lemmas.Result.{on_ok_weaker}
 use Rattle.std.proofs.lemmas.List.{at_drop_more, take_more, replicate_more, take_all, length-map, map-append}
 use Rattle.rw_fission.specs.Fission.{decls, names_without, equal_weights, each_op}
 use Rattle.river_base.specs.Name.{name_eq}
@@ -12,7 +13,7 @@ use Rattle.river_plan.specs.Forms.{Name, OpForm, PlanForm, table_names, all_decl
 use Rattle.river_plan.specs.Kinds.{kind_of}
 use Rattle.river_plan.specs.Names.{count, one_if}
 use Rattle.rw_fission.specs.Asked.{packs_way, packs_to}
-use Rattle.river_kernels.specs.Kern.{Kern}
+use Rattle.river_kernels.specs.Kern.{Kern, kern_of}
 use Rattle.river_plan.specs.declared.op.Op.{Op}
 use Rattle.brooklet_model.proofs.Lists.{if_lt, if_ge}
 use Rattle.river_plan.specs.Uses.{total, named_it}
@@ -142,6 +143,13 @@ each_op_more g (suc n) = let e : suc n + 1 ≡ suc (n + 1) = omega arith in ap (
 -- one more operator
 pub op_pushed : (ops ops' : List Op) (x : Op) → ops' ≡ ops ++ x ∷ [] → op_forms ops' ≡ op_forms ops ++ op_form x ∷ []
 op_pushed ops ops' x e = ap op_forms e ∙ map-append op_form ops (x ∷ [])
+
+-- an operator that was appended, by its parts
+pub pushed_as : {T E : Type 0} (r : Result T E) (ops ops' : List Op) (x : Op) (o : OpForm) → OnOk r (ops' ≡ ops ++ x ∷ [])
+    → x.label ≡ o.label → kern_of x.kernel ≡ o.kernel → x.reads ≡ o.reads → x.writes ≡ o.writes → x.vars ≡ o.vars
+    → OnOk r (op_forms ops' ≡ op_forms ops ++ o ∷ [])
+pushed_as r ops ops' x o h a b c d e = on_ok_weaker r
+    (λ p. op_pushed ops ops' x p ∙ ap (λ y. op_forms ops ++ y ∷ []) (op_by x.label o.label (kern_of x.kernel) o.kernel x.reads o.reads x.writes o.writes x.vars o.vars a b c d e)) h
 
 -- one replica more
 pub copies_next : (g : ℕ → OpForm) (i : ℕ) (start : List OpForm) (ops ops' : List Op) (x : Op) → ops' ≡ ops ++ x ∷ [] → op_form x ≡ g i

@@ -3,7 +3,9 @@ use Rattle.std.proofs.Common.{◌≡◌, ℕ, suc, ◌+◌, ◌<◌, ◌≤◌, 
 use Rattle.std.proofs.Common.{map}
 use Rattle.std.specs.Prelude.{Option, slice_get, slice_index_or, Ok, Err, Result}
 use Rattle.std.specs.Option.{option_map}
+use Rattle.std.proofs.Common.{append_assoc}
 use Rattle.std.proofs.lemmas.Bool.{cases_lt}
+use Rattle.std.proofs.lemmas.List.{append-nil, map-append}
 use Rattle.std.proofs.lemmas.Option.{slice_get-map, slice_get_past, slice_get_read}
 use Rattle.river_base.specs.Name.{name_eq}
 use Rattle.river_base.specs.declared.kind.QueueType.{QueueType}
@@ -23,8 +25,8 @@ use Rattle.plan_edits.specs.declared.unfit.Unfit.{Unfit}
 use Rattle.plan_edits.specs.declared.unfit.Unfit.TheVariants.{U1, U2, U3, U4, U5, H1, H2, H3, H4, N1, N2, N3, N4, N5, NoMemory}
 use Rattle.plan_edits.specs.Lists.{place_of_name, first_with, replaced, retyped}
 use Rattle.plan_edits.specs.Answered.{IsAnswered}
-use Rattle.rw_local.specs.HoistCode.{IsPassing}
-use Rattle.rw_local.specs.Hoist.{plain_field, of_projection, first_side_width, first_width, passes, hoisted_plan, hoist_at, hoist_passed, hoist_past, hoist_between}
+use Rattle.rw_local.specs.HoistCode.{IsPassing, Selects}
+use Rattle.rw_local.specs.Hoist.{plain_field, of_projection, first_side_width, first_width, passes, hoisted_plan, hoist_passed, hoist_past, hoist_between}
 use Rattle.rw_local.specs.Hoist.{hoist_kernel, hoist_found, hoist_of, MayHoist}
 use Rattle.plan_edits.proofs.OpLoops.{forms_next}
 use Rattle.rw_local.proofs.HoistLaw.{hoist_keeps, mid_inner}
@@ -99,6 +101,29 @@ pub replaced_next : (q : Name) (news : List OpForm) (xs : List Op) (i : ℕ) (x 
 replaced_next q news xs i x now new lt e h s =
     s ∙ ap (λ l. l ++ replaced q news (op_form x ∷ [])) h ∙ sym (ap (replaced q news) (forms_next xs i x lt e) ∙ replaced-append q news (op_forms (take i xs)) (op_form x ∷ []))
 
+-- one operator more
+pub pushed : (old new : List Op) (x : Op) (o : OpForm) → new ≡ old ++ x ∷ [] → op_form x ≡ o → op_forms new ≡ op_forms old ++ o ∷ []
+pushed old new x o e h = ap op_forms e ∙ map-append op_form old (x ∷ []) ∙ ap (λ y. op_forms old ++ y ∷ []) h
+
+-- two operators more
+pub two_pushed : (old one new : List Op) (x y : Op) (o p : OpForm) → one ≡ old ++ x ∷ [] → op_form x ≡ o → new ≡ one ++ y ∷ [] → op_form y ≡ p
+    → op_forms new ≡ op_forms old ++ o ∷ p ∷ []
+two_pushed old one new x y o p e h d k =
+    pushed one new y p d k ∙ ap (λ l. l ++ p ∷ []) (pushed old one x o e h) ∙ append_assoc (op_forms old) (o ∷ []) (p ∷ [])
+
+-- what stands for an operator that writes the queue, for one that reads it, and for any other
+pub for_writer : (q : Name) (news : List OpForm) (op : OpForm) (now new : List OpForm) → 0 < count q op.writes → new ≡ now ++ news → new ≡ now ++ replaced q news (op ∷ [])
+for_writer q news op now new lt e = e ∙ ap (λ l. now ++ l) (sym (if_lt 0 (count q op.writes) _ _ lt ∙ append-nil news))
+
+pub for_reader : (q : Name) (news : List OpForm) (op : OpForm) (now : List OpForm) → count q op.writes ≡ 0 → 0 < count q op.reads → now ≡ now ++ replaced q news (op ∷ [])
+for_reader q news op now z lt =
+    sym (ap (λ l. now ++ l) (if_ge 0 (count q op.writes) _ _ (omega (arith, z)) ∙ if_lt 0 (count q op.reads) _ _ lt) ∙ append-nil now)
+
+pub for_other : (q : Name) (news : List OpForm) (op : OpForm) (now new : List OpForm) → count q op.writes ≡ 0 → count q op.reads ≡ 0 → new ≡ now ++ op ∷ []
+    → new ≡ now ++ replaced q news (op ∷ [])
+for_other q news op now new y z e =
+    e ∙ ap (λ l. now ++ l) (sym (if_ge 0 (count q op.writes) _ _ (omega (arith, y)) ∙ if_ge 0 (count q op.reads) _ _ (omega (arith, z))))
+
 -- THE STEP
 
 between_is : (p : PlanForm) (u : OpForm) (t : Term) (rs ws : List Name) (mid out : Name) → Some mid ≡ slice_get rs 0 → Some out ≡ slice_get ws 0
@@ -137,27 +162,36 @@ passing_err told whole N4 g h = g N4 h
 passing_err told whole N5 g h = g N5 h
 passing_err told whole NoMemory g h = tt
 
--- the operator below is passed
-module _ (p : PlanForm) (l : Name) (u b : OpForm) (t : Term) (mid out : Name) (width side : ℕ) (t' : Term) (src : Name) (v : IsPlan p)
-    (a : first_with (named_it l) p.ops ≡ Some u) (k : u.kernel ≡ select t) (r : Some mid ≡ slice_get u.reads 0) (w : Some out ≡ slice_get u.writes 0)
-    (below : first_with (writes_it mid) p.ops ≡ Some b) (one : length b.writes ≡ 1) (e : width ≡ first_width (map (kind_of (all_decls p)) b.reads)) (ps : passes width b.kernel t ≡ Ok (side, t'))
-    (lt : side < length b.reads) (so : (d : Name) → src ≡ slice_index_or b.reads side d)
-  where
-    source : slice_get b.reads side ≡ Some src
-    source = slice_get_read b.reads (length b.reads) side src refl lt (so src)
+-- a selection is hoisted by what its queue's writer allows
+pub hoist_selects : (p : PlanForm) (l : Name) (u : OpForm) (t : Term) (mid out : Name) → Selects p l u t mid out
+    → hoist_of p l ≡ hoist_past p u t mid out (first_with (writes_it mid) p.ops)
+hoist_selects p l u t mid out s =
+    ap (hoist_found p) s.here ∙ ap (hoist_kernel p u) s.kernel ∙ between_is p u t u.reads u.writes mid out (sym s.reads) (sym s.writes)
 
-    may : MayHoist p l u b t side t' src mid out
-    may =
-        record { here = a; selects = k; reads = sym r; writes = sym w; below = below; only = one; passes = subst (λ n. passes n b.kernel t ≡ Ok (side, t')) e ps; source = source }
+-- the operator below lets it pass, or not
+pub hoist_below : (p : PlanForm) (u b : OpForm) (t : Term) (mid out : Name) (width : ℕ) (o : Option OpForm) → o ≡ Some b → length b.writes ≡ 1
+    → width ≡ first_width (map (kind_of (all_decls p)) b.reads) → hoist_past p u t mid out o ≡ hoist_passed p u b mid out (passes width b.kernel t)
+hoist_below p u b t mid out width o below one e =
+    ap (hoist_past p u t mid out) below ∙ if_eq (length b.writes) 1 _ _ one ∙ ap (λ n. hoist_passed p u b mid out (passes n b.kernel t)) (sym e)
 
-    -- the queue between is neither an input nor an output
-    pub mid_there : 0 < count mid (decl_names p.queues)
-    mid_there = (mid_inner p l u b t side t' src mid out v may).2
+-- the operator below is passed: the queue between the two is neither an input nor an output, and the new lists are valid
+pub hoist_may : (p : PlanForm) (l : Name) (u b : OpForm) (t : Term) (mid out : Name) (width side : ℕ) (t' : Term) → IsPlan p → Selects p l u t mid out
+    → first_with (writes_it mid) p.ops ≡ Some b → length b.writes ≡ 1 → width ≡ first_width (map (kind_of (all_decls p)) b.reads)
+    → passes width b.kernel t ≡ Ok (side, t') → (src : Name) → slice_get b.reads side ≡ Some src
+    → (0 < count mid (decl_names p.queues)) × IsPlan (hoisted_plan p u b side t' src mid out)
+hoist_may p l u b t mid out width side t' v s below one e ps src source =
+    let may : MayHoist p l u b t side t' src mid out = record {
+      here = s.here;
+      selects = s.kernel;
+      reads = s.reads;
+      writes = s.writes;
+      below = below;
+      only = one;
+      passes = subst (λ n. passes n b.kernel t ≡ Ok (side, t')) e ps;
+      source = source;
+    } in
+    ((mid_inner p l u b t side t' src mid out v may).2, (hoist_keeps p l u b t side t' src mid out v may).0)
 
-    -- the new lists are valid
-    pub hoisted_valid : IsPlan (hoisted_plan p u b side t' src mid out)
-    hoisted_valid = (hoist_keeps p l u b t side t' src mid out v may).0
-
-    -- the step is accepted
-    pub hoist_ok : hoist_of p l ≡ Ok (hoisted_plan p u b side t' src mid out)
-    hoist_ok = hoist_upto p l u b t mid out width a k r w below one e ∙ ap (hoist_passed p u b mid out) ps ∙ ap (hoist_at p u b mid out (side, t')) source
+-- the queue that the selection reads then
+pub read_at : (rs : List Name) (side n : ℕ) (src : Name) → n ≡ length rs → side < n → ((d : Name) → src ≡ slice_index_or rs side d) → slice_get rs side ≡ Some src
+read_at rs side n src e lt so = slice_get_read rs (length rs) side src refl (subst (λ k. side < k) e lt) (so src)

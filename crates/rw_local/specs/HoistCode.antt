@@ -1,9 +1,11 @@
 -- What the code of hoisting speaks of.
-use Rattle.std.specs.Prelude.{◌≡◌, ℕ, Option, Some, None, Result, Ok, Err}
+use Rattle.std.specs.Prelude.{◌≡◌, ℕ, Option, Some, None, Result, Ok, Err, slice_get}
 use Rattle.work_code.specs.declared.expr.Expr.{Expr}
 use Rattle.work_code.specs.Term.{Term, term, terms}
 use Rattle.river_kernels.specs.Kern.{Kern, select}
-use Rattle.river_plan.specs.Forms.{OpForm, PlanForm}
+use Rattle.river_plan.specs.Forms.{Name, OpForm, PlanForm}
+use Rattle.river_plan.specs.Uses.{named_it}
+use Rattle.plan_edits.specs.Lists.{first_with}
 use Rattle.plan_edits.specs.declared.unfit.Unfit.{Unfit}
 use Rattle.plan_edits.specs.declared.unfit.Unfit.TheVariants.{NoMemory, H1}
 use Rattle.rw_local.specs.declared.exprs.Fields.{Fields}
@@ -25,3 +27,10 @@ IsPassing told (Err f) = told ≡ Err f
 abbrev pub IsCondition : Kern → Option Expr → Type 0
 IsCondition k (Some e) = k ≡ select (term e)
 IsCondition k None = (p : PlanForm) (u : OpForm) → hoist_kernel p u k ≡ Err H1
+
+-- the first operator of this label selects by this condition, and these are the first queues that it reads and writes
+pub record Selects (p : PlanForm) (l : Name) (u : OpForm) (t : Term) (mid out : Name) : Type 0 where
+  pub here : first_with (named_it l) p.ops ≡ Some u
+  pub kernel : u.kernel ≡ select t
+  pub reads : slice_get u.reads 0 ≡ Some mid
+  pub writes : slice_get u.writes 0 ≡ Some out

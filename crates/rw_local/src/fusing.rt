@@ -1,6 +1,6 @@
 // Fusion of the writer and the reader of a queue.
 ghost use Rattle.std.specs.Prelude.{◌≡◌, ◌<◌, ◌^◌, IfOk, OnOk, ◌++◌, IsTrue, ◌↔◌, length, take, drop, ◌+◌};
-ghost use Rattle.river_plan.specs.Forms.{plan_form, op_form, decl_names, queue_names};
+ghost use Rattle.river_plan.specs.Forms.{plan_form, op_form, op_forms, decl_names, queue_names};
 ghost use Rattle.river_plan.specs.Names.{count};
 ghost use Rattle.plan_edits.specs.Lists.{place_of_name, undeclared};
 ghost use Rattle.rw_local.specs.Fuse.{fuse_of, fused_plan};
@@ -8,9 +8,9 @@ ghost use Rattle.plan_edits.specs.Answered.{IsAnswered};
 
 use crate::names::share;
 use crate::ops::{fused_ops, is_large, reader, writer};
-use plan_edits::{Unfit, plan_of};
+use plan_edits::{Unfit, outer_lists, plan_of};
 use river_base::{Duplicate, Name, NoMemory};
-use river_plan::{Decl, Decls, Op, Plan, RawPlan};
+use river_plan::{Decl, Decls, Op, Ops, Plan, RawPlan};
 use std::alloc::Global;
 
 /// Operator fusion (DEBS 2012): the plan with the writer and the reader of a queue as one operator, or the first
@@ -61,13 +61,29 @@ fn fused_lists(
     requires few { length writer.now.writes < 2 ^ 32 }
     ensures { IfOk result (λ lists. plan_form lists ≡ fused_plan (plan_form raw.now) queue (op_form writer.now) (op_form reader.now)) }
 {
+    let queues = undeclared(alloc, &raw.queues, queue)?;
+    let ops = fused_ops(alloc, &raw.ops, writer, reader, queue)?;
+    with_lists(alloc, raw, queues, ops)
+}
+
+/// The lists with these queues and operators; the others stay.
+pub(crate) fn with_lists(
+    alloc: Global,
+    raw: &RawPlan,
+    queues: Decls,
+    ops: Ops,
+) -> Result<RawPlan, NoMemory>
+    ensures { IfOk result (λ lists. plan_form lists ≡ record (plan_form raw.now) { queues = queues; ops = op_forms ops }) }
+{
+    let vars = raw.vars.copy(alloc)?;
+    let (outputs, inputs, tables) = outer_lists(alloc, raw)?;
     Ok(RawPlan {
-        outputs: raw.outputs.copy(alloc)?,
-        inputs: raw.inputs.copy(alloc)?,
-        queues: undeclared(alloc, &raw.queues, queue)?,
-        tables: raw.tables.copy(alloc)?,
-        vars: raw.vars.copy(alloc)?,
-        ops: fused_ops(alloc, &raw.ops, writer, reader, queue)?,
+        outputs,
+        inputs,
+        queues,
+        tables,
+        vars,
+        ops,
     })
 }
 

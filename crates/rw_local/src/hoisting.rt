@@ -1,17 +1,19 @@
 // A selection changes places with the operator that feeds it.
-ghost use Rattle.std.specs.Prelude.{◌≡◌, ◌<◌, IfOk, OnOk, MatchOption, Some, None, Err, [], ◌∷◌, ◌++◌, ◌+◌, take, drop, length, slice_get};
+ghost use Rattle.std.specs.Prelude.{◌≡◌, ◌<◌, ℕ, List, IfOk, OnOk, MatchOption, Some, None, Err, [], ◌∷◌, ◌++◌, ◌+◌, take, drop, length, slice_get};
 ghost use Rattle.work_code.specs.Term.{term};
 ghost use Rattle.river_kernels.specs.Kern.{kern_of, select};
 ghost use Rattle.plan_edits.specs.declared.unfit.Unfit.TheVariants.{H1};
 ghost use Rattle.river_plan.specs.Forms.{PlanForm, OpForm, plan_form, op_form, op_forms, decl_names};
 ghost use Rattle.river_plan.specs.Names.{count};
 ghost use Rattle.river_plan.specs.Kinds.{kind_of};
-ghost use Rattle.river_plan.specs.Uses.{named_it};
+ghost use Rattle.river_plan.specs.Uses.{named_it, writes_it};
+ghost use Rattle.river_plan.specs.Valid.{IsPlan};
 ghost use Rattle.plan_edits.specs.Lists.{first_with, replaced, retyped};
-ghost use Rattle.rw_local.specs.Hoist.{hoist_kernel, raised, lowered, hoisted_ops, hoisted_plan, hoist_of};
+ghost use Rattle.rw_local.specs.Hoist.{hoist_kernel, raised, lowered, hoisted_ops, hoisted_plan, hoist_at, hoist_past, hoist_of};
+ghost use Rattle.rw_local.specs.HoistCode.{Selects};
 ghost use Rattle.plan_edits.specs.Answered.{IsAnswered};
 
-use crate::fusing::{add_decls, decl_place};
+use crate::fusing::{add_decls, decl_place, with_lists};
 use crate::kinds::first_width;
 use crate::names::{contains, spliced};
 use crate::ops::writer;
@@ -22,152 +24,190 @@ use river_plan::{Decl, Decls, Kernel, Names, Op, Ops, Plan, QueueType, RawPlan};
 use std::alloc::Global;
 use work_code::Expr;
 
+/// A selection, with its condition, its input and its output.
+#[derive(Clone, Copy)]
+struct Selection<'a> {
+    op: &'a Op,
+    cond: &'a Expr,
+    mid: Name,
+    out: Name,
+}
+
+/// A selection and the operator that fed it, as they stand after the step.
+#[derive(Clone, Copy)]
+struct Pair<'a> {
+    /// The selection.
+    above: &'a Op,
+    /// The operator that fed it.
+    below: &'a Op,
+    /// At which input of the operator the selection stands.
+    side: usize,
+    /// The condition of the selection there.
+    cond: &'a Expr,
+    /// What the selection reads.
+    src: Name,
+    /// What the selection writes, and the operator reads.
+    mid: Name,
+    /// What the operator writes.
+    out: Name,
+}
+
 /// A selection that is pushed down (the CQL paper): the plan with the selection of this label before the operator that
 /// fed it, or the first condition that fails.
 pub fn hoist(alloc: Global, plan: &Plan, label: &Name) -> Result<Plan, Unfit>
     ensures { IsAnswered (hoist_of plan.now label.now) result }
 {
-    hoist_at(alloc, plan, *label)
+    let raw = plan.raw();
+    match selected(raw, *label) {
+        Some(above) => hoist_past(alloc, raw, &above),
+        None => Err(Unfit::H1),
+    }
 }
 
-// The same, for the name of a selection.
-fn hoist_at(alloc: Global, plan: &Plan, label: Name) -> Result<Plan, Unfit>
-    ensures { IsAnswered (hoist_of plan.now label) result }
+// The operator of this label, where it selects.
+fn selected(raw: &RawPlan, label: Name) -> Option<Selection<'_>>
+    ensures { MatchOption result (hoist_of (plan_form raw.now) label ≡ Err H1)
+        (λ s. Selects (plan_form raw.now) label (op_form s.op.now) (term s.cond.now) s.mid s.out) }
 {
-    let raw = plan.raw();
-    let Some(above) = labelled(&raw.ops, label) else {
-        return Err(Unfit::H1);
+    let Some(op) = labelled(&raw.ops, label) else {
+        return None;
     };
-    let Some(cond) = condition(&above.kernel) else {
-        return Err(Unfit::H1);
+    let Some(cond) = condition(&op.kernel) else {
+        return None;
     };
-    let Some(mid) = first(&above.reads) else {
-        return Err(Unfit::H1);
+    let Some(mid) = first(&op.reads) else {
+        return None;
     };
-    let Some(out) = first(&above.writes) else {
-        return Err(Unfit::H1);
+    let Some(out) = first(&op.writes) else {
+        return None;
     };
-    let Some(below) = writer(&raw.ops, mid) else {
+    Some(Selection { op, cond, mid, out })
+}
+
+// The plan with the selection before the operator that feeds it.
+fn hoist_past(alloc: Global, raw: &RawPlan, above: &Selection<'_>) -> Result<Plan, Unfit>
+    requires valid { IsPlan (plan_form raw.now) }
+    requires selects { (l : List ℕ) × Selects (plan_form raw.now) l (op_form above.now.op.now) (term above.now.cond.now) above.now.mid above.now.out }
+    ensures { let p = plan_form raw.now in let a = above.now in
+        IsAnswered (hoist_past p (op_form a.op.now) (term a.cond.now) a.mid a.out (first_with (writes_it a.mid) p.ops)) result }
+{
+    let Some(below) = writer(&raw.ops, above.mid) else {
         return Err(Unfit::H2);
     };
     if below.writes.len() != 1 {
         return Err(Unfit::H2);
     }
     let width = first_width(raw, &below.reads);
-    let (side, moved) = match passes(alloc, width, &below.kernel, cond) {
-        Ok(found) => found,
-        Err(fault) => return Err(fault),
-    };
+    match passes(alloc, width, &below.kernel, above.cond) {
+        Ok((side, moved)) => hoist_to(alloc, raw, above, below, side, &moved),
+        Err(fault) => Err(fault),
+    }
+}
+
+// The plan with the selection at this input of the operator below, by this condition.
+fn hoist_to(
+    alloc: Global,
+    raw: &RawPlan,
+    above: &Selection<'_>,
+    below: &Op,
+    side: usize,
+    cond: &Expr,
+) -> Result<Plan, Unfit>
+    requires { let p = plan_form raw.now in let a = above.now in (src : List ℕ) → slice_get below.now.reads side ≡ Some src
+        → (0 < count a.mid (decl_names p.queues)) × IsPlan (hoisted_plan p (op_form a.op.now) (op_form below.now) side (term cond.now) src a.mid a.out) }
+    ensures { let p = plan_form raw.now in let a = above.now in
+        IsAnswered (hoist_at p (op_form a.op.now) (op_form below.now) a.mid a.out (side, term cond.now) (slice_get below.now.reads side)) result }
+{
     if side >= below.reads.len() {
         return Err(Unfit::H2);
     }
-    let src = *below.reads.at(side);
-    let lists = hoisted_lists(alloc, raw, above, below, side, &moved, src, mid, out)?;
+    let pair = Pair {
+        above: above.op,
+        below,
+        side,
+        cond,
+        src: *below.reads.at(side),
+        mid: above.mid,
+        out: above.out,
+    };
+    let lists = hoisted_lists(alloc, raw, &pair)?;
     Ok(plan_of(alloc, lists)?)
 }
 
 // The lists after the step.
-fn hoisted_lists(
-    alloc: Global,
-    raw: &RawPlan,
-    above: &Op,
-    below: &Op,
-    side: usize,
-    cond: &Expr,
-    src: Name,
-    mid: Name,
-    out: Name,
-) -> Result<RawPlan, NoMemory>
-    requires there { 0 < count mid (decl_names raw.now.queues) }
-    requires side { side < length below.now.reads }
-    ensures { IfOk result (λ lists. plan_form lists
-        ≡ hoisted_plan (plan_form raw.now) (op_form above.now) (op_form below.now) side (term cond.now) src mid out) }
+fn hoisted_lists(alloc: Global, raw: &RawPlan, pair: &Pair<'_>) -> Result<RawPlan, NoMemory>
+    requires there { 0 < count pair.now.mid (decl_names raw.now.queues) }
+    requires side { pair.now.side < length pair.now.below.now.reads }
+    ensures { let x = pair.now in IfOk result (λ lists. plan_form lists
+        ≡ hoisted_plan (plan_form raw.now) (op_form x.above.now) (op_form x.below.now) x.side (term x.cond.now) x.src x.mid x.out) }
 {
-    let kind = kind_of(raw, &src);
-    let queues = retyped(alloc, &raw.queues, mid, kind)?;
-    let ops = replaced(alloc, &raw.ops, above, below, side, cond, src, mid, out)?;
-    Ok(RawPlan {
-        outputs: raw.outputs.copy(alloc)?,
-        inputs: raw.inputs.copy(alloc)?,
-        queues,
-        tables: raw.tables.copy(alloc)?,
-        vars: raw.vars.copy(alloc)?,
-        ops,
-    })
+    let kind = kind_of(raw, &pair.src);
+    let queues = retyped(alloc, &raw.queues, pair.mid, kind)?;
+    let ops = replaced(alloc, &raw.ops, pair)?;
+    with_lists(alloc, raw, queues, ops)
 }
 
 // In the place of what writes the queue the two, and nothing in the place of what reads it.
-fn replaced(
-    alloc: Global,
-    ops: &Ops,
-    above: &Op,
-    below: &Op,
-    side: usize,
-    cond: &Expr,
-    src: Name,
-    mid: Name,
-    out: Name,
-) -> Result<Ops, NoMemory>
-    requires { side < length below.now.reads }
-    ensures { IfOk result (λ all. op_forms all
-        ≡ replaced mid (raised (op_form above.now) (term cond.now) src mid ∷ lowered (op_form below.now) side mid out ∷ []) (op_forms ops.now)) }
+fn replaced(alloc: Global, ops: &Ops, pair: &Pair<'_>) -> Result<Ops, NoMemory>
+    requires { pair.now.side < length pair.now.below.now.reads }
+    ensures { let x = pair.now in IfOk result (λ all. op_forms all
+        ≡ replaced x.mid (hoisted_ops (op_form x.above.now) (op_form x.below.now) x.side (term x.cond.now) x.src x.mid x.out) (op_forms ops.now)) }
 {
     let mut all = Ops::new(alloc);
     for op in ops.as_slice() {
-        add(alloc, &mut all, op, above, below, side, cond, src, mid, out)?;
+        add(alloc, &mut all, op, pair)?;
     }
     Ok(all)
 }
 
 // Appends what stands for the operator.
-fn add(
-    alloc: Global,
-    all: &mut Ops,
-    op: &Op,
-    above: &Op,
-    below: &Op,
-    side: usize,
-    cond: &Expr,
-    src: Name,
-    mid: Name,
-    out: Name,
-) -> Result<(), NoMemory>
-    requires { side < length below.now.reads }
-    ensures { OnOk result (op_forms all.new
-        ≡ op_forms all.old ++ replaced mid (hoisted_ops (op_form above.now) (op_form below.now) side (term cond.now) src mid out) (op_form op.now ∷ [])) }
+fn add(alloc: Global, all: &mut Ops, op: &Op, pair: &Pair<'_>) -> Result<(), NoMemory>
+    requires { pair.now.side < length pair.now.below.now.reads }
+    ensures { let x = pair.now in OnOk result (op_forms all.new ≡ op_forms all.old
+        ++ replaced x.mid (hoisted_ops (op_form x.above.now) (op_form x.below.now) x.side (term x.cond.now) x.src x.mid x.out) (op_form op.now ∷ [])) }
 {
-    if contains(&op.writes, mid) {
-        all.push(raised(alloc, above, cond, src, mid)?)?;
-        all.push(lowered(alloc, below, side, mid, out)?)?;
-    } else if !contains(&op.reads, mid) {
-        all.push(op.copy(alloc)?)?;
+    if contains(&op.writes, pair.mid) {
+        return add_pair(alloc, all, pair);
     }
-    Ok(())
+    if contains(&op.reads, pair.mid) {
+        return Ok(());
+    }
+    all.push(op.copy(alloc)?)
 }
 
-// The selection, with this condition and these queues.
-fn raised(alloc: Global, above: &Op, cond: &Expr, src: Name, mid: Name) -> Result<Op, NoMemory>
-    ensures { IfOk result (λ op. op_form op ≡ raised (op_form above.now) (term cond.now) src mid) }
+// Appends the two.
+fn add_pair(alloc: Global, all: &mut Ops, pair: &Pair<'_>) -> Result<(), NoMemory>
+    requires { pair.now.side < length pair.now.below.now.reads }
+    ensures { let x = pair.now in OnOk result (op_forms all.new ≡ op_forms all.old
+        ++ hoisted_ops (op_form x.above.now) (op_form x.below.now) x.side (term x.cond.now) x.src x.mid x.out) }
+{
+    all.push(raised(alloc, pair)?)?;
+    all.push(lowered(alloc, pair)?)
+}
+
+// The selection, with its new condition and queues.
+fn raised(alloc: Global, pair: &Pair<'_>) -> Result<Op, NoMemory>
+    ensures { let x = pair.now in IfOk result (λ op. op_form op ≡ raised (op_form x.above.now) (term x.cond.now) x.src x.mid) }
 {
     Ok(Op {
-        label: above.label,
-        reads: one(alloc, src)?,
-        writes: one(alloc, mid)?,
-        vars: above.vars.copy(alloc)?,
-        kernel: Kernel::Select(cond.copy(alloc)?),
+        label: pair.above.label,
+        reads: one(alloc, pair.src)?,
+        writes: one(alloc, pair.mid)?,
+        vars: pair.above.vars.copy(alloc)?,
+        kernel: Kernel::Select(pair.cond.copy(alloc)?),
     })
 }
 
 // The operator that it has passed.
-fn lowered(alloc: Global, below: &Op, side: usize, mid: Name, out: Name) -> Result<Op, NoMemory>
-    requires { side < length below.now.reads }
-    ensures { IfOk result (λ op. op_form op ≡ lowered (op_form below.now) side mid out) }
+fn lowered(alloc: Global, pair: &Pair<'_>) -> Result<Op, NoMemory>
+    requires { pair.now.side < length pair.now.below.now.reads }
+    ensures { let x = pair.now in IfOk result (λ op. op_form op ≡ lowered (op_form x.below.now) x.side x.mid x.out) }
 {
-    let mid = one(alloc, mid)?;
+    let below = pair.below;
     Ok(Op {
         label: below.label,
-        reads: spliced(alloc, side, &below.reads, &mid)?,
-        writes: one(alloc, out)?,
+        reads: spliced(alloc, pair.side, &below.reads, &[pair.mid])?,
+        writes: one(alloc, pair.out)?,
         vars: below.vars.copy(alloc)?,
         kernel: below.kernel.copy(alloc)?,
     })

@@ -52,14 +52,14 @@ pub(crate) fn spliced(
     alloc: Global,
     at: usize,
     firsts: &Names,
-    seconds: &Names,
+    seconds: &[Name],
 ) -> Result<Names, NoMemory>
     requires { at < length firsts.now }
     ensures { IfOk result (λ all. all ≡ spliced at firsts.now seconds.now) }
 {
     let mut all = Names::new(alloc);
     add(&mut all, &firsts.as_slice()[..at])?;
-    add(&mut all, seconds.as_slice())?;
+    add(&mut all, seconds)?;
     add(&mut all, &firsts.as_slice()[at + 1..])?;
     Ok(all)
 }

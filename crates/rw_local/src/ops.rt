@@ -61,7 +61,7 @@ pub(crate) fn whole(alloc: Global, writer: &Op, reader: &Op, queue: Name) -> Res
     Ok(Op {
         label: writer.label,
         reads: writer.reads.copy(alloc)?,
-        writes: spliced(alloc, at, &writer.writes, &reader.writes)?,
+        writes: spliced(alloc, at, &writer.writes, reader.writes.as_slice())?,
         vars: joined(alloc, &writer.vars, &reader.vars)?,
         kernel: fused_kernel(alloc, &writer.kernel, &reader.kernel, at as u32)?,
     })
@@ -111,10 +111,13 @@ fn add(
     ensures { OnOk result (op_forms all.new ≡ op_forms all.old
         ++ replaced queue (fused_op queue (op_form writer.now) (op_form reader.now) ∷ []) (op_form op.now ∷ [])) }
 {
-    if contains(&op.writes, queue) {
-        all.push(whole(alloc, writer, reader, queue)?)?;
-    } else if !contains(&op.reads, queue) {
-        all.push(op.copy(alloc)?)?;
+    let is_writer = contains(&op.writes, queue);
+    if is_writer {
+        return all.push(whole(alloc, writer, reader, queue)?);
     }
-    Ok(())
+    let is_reader = contains(&op.reads, queue);
+    if is_reader {
+        return Ok(());
+    }
+    all.push(op.copy(alloc)?)
 }
