@@ -85,8 +85,7 @@ fn print_head(name: &Name, to: &mut Bytes) -> Result<(), NoMemory>
 {
     to.extend(b"# ")?;
     to.extend(name.as_slice())?;
-    to.push(b'\n')?;
-    Ok(())
+    to.push(b'\n')
 }
 
 #[tactic(auto, using(crate::proofs::Texts::joins))]
@@ -129,8 +128,7 @@ fn print_items(alloc: Global, items: &Line, to: &mut Bytes) -> Result<(), NoMemo
 {
     let (rows, others) = items.parts();
     print_even(rows, to)?;
-    print_others(alloc, others, to)?;
-    Ok(())
+    print_others(alloc, others, to)
 }
 
 #[tactic(auto, using(crate::proofs::Texts::joins))]
@@ -172,8 +170,7 @@ fn print_values(values: &[i64], to: &mut Bytes) -> Result<(), NoMemory>
         print_value(*first, to)?;
         print_more(rest, to)?;
     }
-    to.extend(b"\n")?;
-    Ok(())
+    to.extend(b"\n")
 }
 
 fn print_batch(alloc: Global, batch: &Batch, to: &mut Bytes) -> Result<(), NoMemory>
@@ -219,8 +216,7 @@ fn print_timed(at: i64, row: &Row, to: &mut Bytes) -> Result<(), NoMemory>
 {
     print_value(at, to)?;
     print_more(row.values(), to)?;
-    to.extend(b"\n")?;
-    Ok(())
+    to.extend(b"\n")
 }
 
 // Each value behind a comma.
@@ -239,8 +235,7 @@ fn print_value(value: i64, to: &mut Bytes) -> Result<(), NoMemory>
     ensures { OnOk result (to.new ≡ to.old ++ signed_decimal value) }
 {
     let mut digits = Buffer::new();
-    to.extend(digits.format(value).as_bytes())?;
-    Ok(())
+    to.extend(digits.format(value).as_bytes())
 }
 
 fn print_firings(ops: &[Op], counts: &[i64], to: &mut Bytes) -> Result<(), NoMemory>
@@ -248,8 +243,7 @@ fn print_firings(ops: &[Op], counts: &[i64], to: &mut Bytes) -> Result<(), NoMem
     ensures { OnOk result (to.new ≡ to.old ++ text.firings_text (labels (op_forms ops.now)) (Some counts.now)) }
 {
     to.extend(b"## firings\n")?;
-    print_counts(ops, counts, to)?;
-    Ok(())
+    print_counts(ops, counts, to)
 }
 
 #[tactic(auto, using(crate::proofs::Texts::joins))]
@@ -270,6 +264,5 @@ fn print_count(label: &Name, count: i64, to: &mut Bytes) -> Result<(), NoMemory>
     to.extend(label.as_slice())?;
     to.extend(b",")?;
     print_value(count, to)?;
-    to.extend(b"\n")?;
-    Ok(())
+    to.extend(b"\n")
 }

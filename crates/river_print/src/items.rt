@@ -76,6 +76,16 @@ pub fn counted(alloc: Global, word: &[u8], count: u32, to: &mut Bytes) -> Result
     in_brackets(alloc, count, to)
 }
 
+/// Appends a word, a name and a colon.
+#[tactic(auto, using(crate::proofs::Joined::joins))]
+pub fn titled(word: &[u8], name: &Name, to: &mut Bytes) -> Result<(), NoMemory>
+    ensures { OnOk result (to.new ≡ to.old ++ (word.now ++ (name.now ++ codes ": "))) }
+{
+    to.extend(word)?;
+    to.extend(name.as_slice())?;
+    to.extend(b": ")
+}
+
 /// How the numbers of a list are written.
 #[derive(Clone, Copy)]
 pub enum Style {

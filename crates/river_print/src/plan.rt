@@ -8,8 +8,8 @@ ghost use Rattle.river_print.specs.Printable.{IsPrintable};
 ghost use Rattle.river_print.specs.Printed.{flat_text, type_text, table_text, cap_text, decl_line, capped_line};
 ghost use Rattle.river_print.specs.Printed.{queue_line, table_line, var_line, op_line, head_text, lines, queues_text, plan_text};
 
-use crate::items::{counted, ports, two_in_brackets, var};
-use crate::kernel::print_kernel;
+use crate::items::{counted, ports, titled, two_in_brackets, var};
+use crate::kernel::print_between;
 use crate::ranges::read_plan;
 use kern_tables::TableKind;
 use river_base::{Bytes, FlatType, Name, NoMemory, QueueType};
@@ -95,9 +95,7 @@ fn print_queue(
 ) -> Result<(), NoMemory>
     ensures { OnOk result (to.new ≡ to.old ++ capped_line decl.now most) }
 {
-    to.extend(b"queue ")?;
-    to.extend(decl.name.as_slice())?;
-    to.extend(b": ")?;
+    titled(b"queue ", &decl.name, to)?;
     print_type(alloc, decl.kind, to)?;
     print_cap(alloc, most, to)?;
     to.extend(b";\n")
@@ -128,9 +126,7 @@ fn print_decl(alloc: Global, word: &[u8], decl: &Decl, to: &mut Bytes) -> Result
     ensures { OnOk result (to.new ≡ to.old ++ decl_line word.now decl.now) }
 {
     to.extend(word)?;
-    to.extend(b" ")?;
-    to.extend(decl.name.as_slice())?;
-    to.extend(b": ")?;
+    titled(b" ", &decl.name, to)?;
     print_type(alloc, decl.kind, to)?;
     to.extend(b";\n")
 }
@@ -232,9 +228,7 @@ fn print_op(alloc: Global, op: &Op, to: &mut Bytes) -> Result<(), NoMemory>
     ensures { OnOk result (to.new ≡ to.old ++ op_line (op_form op.now)) }
 {
     print_head(op, to)?;
-    to.extend(b" { ")?;
-    print_kernel(alloc, &op.kernel, to)?;
-    to.extend(b" }\n")
+    print_between(alloc, b" { ", &op.kernel, b" }\n", to)
 }
 
 // The operator's name and ports.
@@ -242,9 +236,7 @@ fn print_op(alloc: Global, op: &Op, to: &mut Bytes) -> Result<(), NoMemory>
 fn print_head(op: &Op, to: &mut Bytes) -> Result<(), NoMemory>
     ensures { OnOk result (to.new ≡ to.old ++ head_text (op_form op.now)) }
 {
-    to.extend(b"op ")?;
-    to.extend(op.label.as_slice())?;
-    to.extend(b": ")?;
+    titled(b"op ", &op.label, to)?;
     ports(op.writes.as_slice(), op.vars.as_slice(), to)?;
     to.extend(b" <- ")?;
     ports(op.reads.as_slice(), op.vars.as_slice(), to)
