@@ -115,14 +115,19 @@ packed_after braced n w ts =
     else if bytes_eq w (codes "fused") then fused_at braced n ts
     else bag_after n w ts
 
+-- that, or behind the word of a kernel that copies, deals or collects
+abbrev pub ports_after : Parse Kern → ℕ → List ℕ → Parse Kern
+ports_after braced n w ts =
+    if bytes_eq w (codes "duplicate") then seen kern.duplicate (number_at n) ts
+    else if bytes_eq w (codes "deal") then seen kern.deal (weights_at n) ts
+    else if bytes_eq w (codes "collect") then seen kern.collect (weights_at n) ts
+    else packed_after braced n w ts
+
 unfoldable pub kernel_after : Parse Kern → ℕ → List ℕ → Parse Kern
 kernel_after braced n w ts =
     if bytes_eq w (codes "code") then code_at n ts
     else if bytes_eq w (codes "filter") then filter_at n ts
-    else if bytes_eq w (codes "duplicate") then seen kern.duplicate (number_at n) ts
-    else if bytes_eq w (codes "deal") then seen kern.deal (weights_at n) ts
-    else if bytes_eq w (codes "collect") then seen kern.collect (weights_at n) ts
-    else packed_after braced n w ts
+    else ports_after braced n w ts
 
 unfoldable pub braced_at : ℕ → Parse Kern
 braced_at zero ts = None
