@@ -67,6 +67,17 @@ pub fn two_in_brackets(alloc: Global, a: u32, b: u32, to: &mut Bytes) -> Result<
     to.extend(b")")
 }
 
+/// Appends an opening bracket and three numbers.
+#[tactic(auto, using(crate::proofs::Joined::joins))]
+pub fn begin_three(alloc: Global, a: u32, b: u32, c: u32, to: &mut Bytes) -> Result<(), NoMemory>
+    ensures { OnOk result (to.new ≡ to.old ++ (codes "(" ++ (decimal a ++ (codes ", " ++ (decimal b ++ (codes ", " ++ decimal c)))))) }
+{
+    to.extend(b"(")?;
+    number(alloc, a, to)?;
+    next_number(alloc, b, to)?;
+    next_number(alloc, c, to)
+}
+
 /// Appends a word and one number in brackets.
 #[tactic(auto, using(crate::proofs::Joined::joins))]
 pub fn counted(alloc: Global, word: &[u8], count: u32, to: &mut Bytes) -> Result<(), NoMemory>

@@ -9,7 +9,7 @@ ghost use Rattle.river_kernels.specs.Kern.{kern_of, select, project, fused};
 ghost use Rattle.river_print.specs.Printed.{kernel_text, list_text, values_text, code_text, filter_text, first_text, firsts_text, rates_text, run_text, window_text, streamer_text};
 
 use crate::items::{
-    Style, counted, exprs, in_brackets, next_number, number, numbers, two_in_brackets, value,
+    Style, begin_three, counted, exprs, in_brackets, next_number, numbers, two_in_brackets, value,
 };
 use kern_bags::{Streamer, Window};
 use kern_rows::{CodeKernel, Filter, First};
@@ -164,10 +164,7 @@ fn print_first(alloc: Global, run: &First, to: &mut Bytes) -> Result<(), NoMemor
 fn print_first_rates(alloc: Global, run: &First, to: &mut Bytes) -> Result<(), NoMemory>
     ensures { OnOk result (to.new ≡ to.old ++ list_text (decimal run.now.peek ∷ decimal run.now.pop ∷ decimal run.now.push ∷ [])) }
 {
-    to.extend(b"(")?;
-    number(alloc, run.peek, to)?;
-    next_number(alloc, run.pop, to)?;
-    next_number(alloc, run.push, to)?;
+    begin_three(alloc, run.peek, run.pop, run.push, to)?;
     to.extend(b")")
 }
 
@@ -187,10 +184,7 @@ fn print_run(alloc: Global, kept: &[i64], code: &Code, to: &mut Bytes) -> Result
 fn print_rates(alloc: Global, filter: &Filter, to: &mut Bytes) -> Result<(), NoMemory>
     ensures { OnOk result (to.new ≡ to.old ++ rates_text (filter_form filter.now)) }
 {
-    to.extend(b"(")?;
-    number(alloc, filter.peek, to)?;
-    next_number(alloc, filter.pop, to)?;
-    next_number(alloc, filter.push, to)?;
+    begin_three(alloc, filter.peek, filter.pop, filter.push, to)?;
     next_number(alloc, filter.code.slots, to)?;
     to.extend(b")")
 }

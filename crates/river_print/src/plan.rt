@@ -35,8 +35,15 @@ pub fn print_raw(alloc: Global, plan: &RawPlan, caps: &Caps) -> Result<Bytes, No
     ensures { IfOk result (λ text. text ≡ plan_text (first_cap caps.now) (plan_form plan.now)) }
 {
     let own = CapsByName::new(alloc, caps)?;
+    print_with(alloc, plan, &own)
+}
+
+// The same, with capacities that are found by name.
+fn print_with(alloc: Global, plan: &RawPlan, own: &CapsByName) -> Result<Bytes, NoMemory>
+    ensures { IfOk result (λ text. text ≡ plan_text (own_of own.now) (plan_form plan.now)) }
+{
     let mut text = Bytes::new(alloc);
-    plan_lines(alloc, plan, &own, &mut text)?;
+    plan_lines(alloc, plan, own, &mut text)?;
     Ok(text)
 }
 
