@@ -108,7 +108,7 @@ bag_after n w ts =
     else relation_after n w ts
 
 -- that, or behind the word of a kernel of packs or of two kernels
-abbrev pub packed_after : Parse Kern → ℕ → List ℕ → Parse Kern
+unfoldable pub packed_after : Parse Kern → ℕ → List ℕ → Parse Kern
 packed_after braced n w ts =
     if bytes_eq w (codes "packed") then seen kern.packed braced ts
     else if bytes_eq w (codes "unpack") then seen kern.unpack (number_at n) ts
@@ -116,7 +116,7 @@ packed_after braced n w ts =
     else bag_after n w ts
 
 -- that, or behind the word of a kernel that copies, deals or collects
-abbrev pub ports_after : Parse Kern → ℕ → List ℕ → Parse Kern
+unfoldable pub ports_after : Parse Kern → ℕ → List ℕ → Parse Kern
 ports_after braced n w ts =
     if bytes_eq w (codes "duplicate") then seen kern.duplicate (number_at n) ts
     else if bytes_eq w (codes "deal") then seen kern.deal (weights_at n) ts

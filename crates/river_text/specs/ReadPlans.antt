@@ -119,7 +119,7 @@ unfoldable pub private_at : Parse (List ℕ)
 private_at ts = before river_var_at (s.Semicolon ∷ []) ts
 
 -- what stands behind the first word of a unit that declares no queue
-abbrev pub other_after : List ℕ → Parse EntryForm
+unfoldable pub other_after : List ℕ → Parse EntryForm
 other_after w ts =
     if bytes_eq w (codes "table") then seen table table_at ts
     else if bytes_eq w (codes "var") then seen private private_at ts

@@ -149,6 +149,7 @@ fn unit(reader: &mut Reader<'_>, alloc: Global) -> Result<Entry, Fault>
 }
 
 // What stands behind the first word of a unit that declares no queue.
+#[tactic(auto, unfolding(crate::specs::ReadPlans::other_after))]
 fn other_after(reader: &mut Reader<'_>, alloc: Global, word: &[u8]) -> Result<Entry, Fault>
     ensures { Gives entry_form result reader.new (other_after word.now reader.old) }
 {

@@ -195,6 +195,7 @@ fn fused(reader: &mut Reader<'_>, alloc: Global, brackets: u32) -> Result<Kernel
 
 // What stands behind the word of a kernel of packs, of two kernels or on bags.
 #[cycle(kernel)]
+#[tactic(auto, unfolding(crate::specs::ReadKernels::packed_after))]
 fn packed_after(
     reader: &mut Reader<'_>,
     alloc: Global,
@@ -217,6 +218,7 @@ fn packed_after(
 
 // That, or behind the word of a kernel that copies, deals or collects.
 #[cycle(kernel)]
+#[tactic(auto, unfolding(crate::specs::ReadKernels::ports_after))]
 fn ports_after(
     reader: &mut Reader<'_>,
     alloc: Global,
