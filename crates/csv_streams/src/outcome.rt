@@ -21,7 +21,6 @@ use std::collections::VecDeque;
 /// the line `## firings` and a line `LABEL,COUNT` for each operator in order. A batch prints its rows in ascending order, each
 /// behind its instant. A table prints its rows in ascending order, a maximum by key, and the rows of one key by rank. `outcome`
 /// has the items of each output, each table and, where `counts` is true, a number for each operator.
-#[tactic(auto, using(crate::proofs::Texts::joins))]
 pub fn print_outcome(
     alloc: Global,
     plan: &Plan,
@@ -34,24 +33,33 @@ pub fn print_outcome(
     ensures { IfOk result (λ all. all ≡ text.printed_outcome plan.now outcome.now.outs
         (map rows_of outcome.now.tables) (text.asked_counts counts outcome.now.counts)) }
 {
-    let raw = plan.raw();
     let mut all = Bytes::new(alloc);
-    print_outputs(
-        alloc,
-        raw.outputs.as_slice(),
-        outcome.outs.as_slice(),
-        &mut all,
-    )?;
-    print_tables(
-        alloc,
-        raw.tables.as_slice(),
-        outcome.tables.as_slice(),
-        &mut all,
-    )?;
-    if counts {
-        print_firings(raw.ops.as_slice(), outcome.counts.as_slice(), &mut all)?;
-    }
+    print_all(alloc, plan, outcome, counts, &mut all)?;
     Ok(all)
+}
+
+// The outputs, the tables and, where they are asked for, the counts.
+#[tactic(auto, using(crate::proofs::Texts::joins))]
+fn print_all(
+    alloc: Global,
+    plan: &Plan,
+    outcome: &Outcome,
+    counts: bool,
+    to: &mut Bytes,
+) -> Result<(), NoMemory>
+    requires outs { length outcome.now.outs ≡ length plan.now.outputs }
+    requires tables { length outcome.now.tables ≡ length plan.now.tables }
+    requires counts { counts ≡ true → length outcome.now.counts ≡ length plan.now.ops }
+    ensures { OnOk result (to.new ≡ to.old ++ text.printed_outcome plan.now outcome.now.outs
+        (map rows_of outcome.now.tables) (text.asked_counts counts outcome.now.counts)) }
+{
+    let raw = plan.raw();
+    print_outputs(alloc, raw.outputs.as_slice(), outcome.outs.as_slice(), to)?;
+    print_tables(alloc, raw.tables.as_slice(), outcome.tables.as_slice(), to)?;
+    if counts {
+        return print_firings(raw.ops.as_slice(), outcome.counts.as_slice(), to);
+    }
+    Ok(())
 }
 
 #[tactic(auto, using(crate::proofs::Texts::joins))]
