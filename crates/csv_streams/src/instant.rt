@@ -103,8 +103,7 @@ fn add_batch(alloc: Global, at: i64, rows: &[(i64, Row)], items: &mut Items) -> 
     ensures { OnOk result (items.new ≡ items.old ++ time.item_at at (map (λ (e : ℤ × List ℤ). e.1) rows.now) ∷ []) }
 {
     let rows = rows_of(alloc, rows)?;
-    items.push(Item::Flat(Flat::Batch(Batch { at, rows })))?;
-    Ok(())
+    items.push(Item::Flat(Flat::Batch(Batch { at, rows })))
 }
 
 // The rows without their timestamps.

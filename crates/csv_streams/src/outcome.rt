@@ -21,7 +21,6 @@ use std::collections::VecDeque;
 /// the line `## firings` and a line `LABEL,COUNT` for each operator in order. A batch prints its rows in ascending order, each
 /// behind its instant. A table prints its rows in ascending order, a maximum by key, and the rows of one key by rank. `outcome`
 /// has the items of each output, each table and, where `counts` is true, a number for each operator.
-#[tactic(auto, using(crate::proofs::Texts::joins))]
 pub fn print_outcome(
     alloc: Global,
     plan: &Plan,
@@ -34,24 +33,33 @@ pub fn print_outcome(
     ensures { IfOk result (λ all. all ≡ text.printed_outcome plan.now outcome.now.outs
         (map rows_of outcome.now.tables) (text.asked_counts counts outcome.now.counts)) }
 {
-    let raw = plan.raw();
     let mut all = Bytes::new(alloc);
-    print_outputs(
-        alloc,
-        raw.outputs.as_slice(),
-        outcome.outs.as_slice(),
-        &mut all,
-    )?;
-    print_tables(
-        alloc,
-        raw.tables.as_slice(),
-        outcome.tables.as_slice(),
-        &mut all,
-    )?;
-    if counts {
-        print_firings(raw.ops.as_slice(), outcome.counts.as_slice(), &mut all)?;
-    }
+    print_all(alloc, plan, outcome, counts, &mut all)?;
     Ok(all)
+}
+
+// The outputs, the tables and, where they are asked for, the counts.
+#[tactic(auto, using(crate::proofs::Texts::joins))]
+fn print_all(
+    alloc: Global,
+    plan: &Plan,
+    outcome: &Outcome,
+    counts: bool,
+    to: &mut Bytes,
+) -> Result<(), NoMemory>
+    requires outs { length outcome.now.outs ≡ length plan.now.outputs }
+    requires tables { length outcome.now.tables ≡ length plan.now.tables }
+    requires counts { counts ≡ true → length outcome.now.counts ≡ length plan.now.ops }
+    ensures { OnOk result (to.new ≡ to.old ++ text.printed_outcome plan.now outcome.now.outs
+        (map rows_of outcome.now.tables) (text.asked_counts counts outcome.now.counts)) }
+{
+    let raw = plan.raw();
+    print_outputs(alloc, raw.outputs.as_slice(), outcome.outs.as_slice(), to)?;
+    print_tables(alloc, raw.tables.as_slice(), outcome.tables.as_slice(), to)?;
+    if counts {
+        return print_firings(raw.ops.as_slice(), outcome.counts.as_slice(), to);
+    }
+    Ok(())
 }
 
 #[tactic(auto, using(crate::proofs::Texts::joins))]
@@ -85,8 +93,7 @@ fn print_head(name: &Name, to: &mut Bytes) -> Result<(), NoMemory>
 {
     to.extend(b"# ")?;
     to.extend(name.as_slice())?;
-    to.push(b'\n')?;
-    Ok(())
+    to.push(b'\n')
 }
 
 #[tactic(auto, using(crate::proofs::Texts::joins))]
@@ -129,8 +136,7 @@ fn print_items(alloc: Global, items: &Line, to: &mut Bytes) -> Result<(), NoMemo
 {
     let (rows, others) = items.parts();
     print_even(rows, to)?;
-    print_others(alloc, others, to)?;
-    Ok(())
+    print_others(alloc, others, to)
 }
 
 #[tactic(auto, using(crate::proofs::Texts::joins))]
@@ -172,8 +178,7 @@ fn print_values(values: &[i64], to: &mut Bytes) -> Result<(), NoMemory>
         print_value(*first, to)?;
         print_more(rest, to)?;
     }
-    to.extend(b"\n")?;
-    Ok(())
+    to.extend(b"\n")
 }
 
 fn print_batch(alloc: Global, batch: &Batch, to: &mut Bytes) -> Result<(), NoMemory>
@@ -219,8 +224,7 @@ fn print_timed(at: i64, row: &Row, to: &mut Bytes) -> Result<(), NoMemory>
 {
     print_value(at, to)?;
     print_more(row.values(), to)?;
-    to.extend(b"\n")?;
-    Ok(())
+    to.extend(b"\n")
 }
 
 // Each value behind a comma.
@@ -239,8 +243,7 @@ fn print_value(value: i64, to: &mut Bytes) -> Result<(), NoMemory>
     ensures { OnOk result (to.new ≡ to.old ++ signed_decimal value) }
 {
     let mut digits = Buffer::new();
-    to.extend(digits.format(value).as_bytes())?;
-    Ok(())
+    to.extend(digits.format(value).as_bytes())
 }
 
 fn print_firings(ops: &[Op], counts: &[i64], to: &mut Bytes) -> Result<(), NoMemory>
@@ -248,8 +251,7 @@ fn print_firings(ops: &[Op], counts: &[i64], to: &mut Bytes) -> Result<(), NoMem
     ensures { OnOk result (to.new ≡ to.old ++ text.firings_text (labels (op_forms ops.now)) (Some counts.now)) }
 {
     to.extend(b"## firings\n")?;
-    print_counts(ops, counts, to)?;
-    Ok(())
+    print_counts(ops, counts, to)
 }
 
 #[tactic(auto, using(crate::proofs::Texts::joins))]
@@ -270,6 +272,5 @@ fn print_count(label: &Name, count: i64, to: &mut Bytes) -> Result<(), NoMemory>
     to.extend(label.as_slice())?;
     to.extend(b",")?;
     print_value(count, to)?;
-    to.extend(b"\n")?;
-    Ok(())
+    to.extend(b"\n")
 }

@@ -1,12 +1,13 @@
 // A file as rows.
-ghost use Rattle.std.specs.Prelude.{◌≡◌, ◌≤◌, [], Ok, IfOk, OnOk, IfErr};
+ghost use Rattle.std.specs.Prelude.{◌≡◌, ◌≤◌, ℕ, List, [], Ok, IfOk, OnOk, IfErr};
 ghost use Rattle.river_base.specs.Held.{HaveWidth};
 ghost use Rattle.csv.specs.Records.{fields_of};
+ghost use Rattle.csv_streams.specs.Records.{IsBehind};
 ghost use Rattle.csv_streams.specs.Rows.{row_in, rows_of_file, Appends, IsFaultTold, IsAnswer};
 
 use crate::InFault;
 use crate::record::{headers, read_record, reader_of, values_in};
-use csv::ByteRecord;
+use csv::{ByteRecord, Reader};
 use kern_rows::EvenRows;
 use river_base::{Bytes, NoMemory, Row, Rows};
 use std::alloc::Global;
@@ -77,13 +78,32 @@ fn add_rows(
 {
     let mut rdr = reader_of(alloc, bytes);
     let mut record = ByteRecord::new(alloc);
+    add_records(&mut rdr, &mut record, width, skip_first, more, rows)
+}
+
+// Reads the rows of all records into a list that has none.
+fn add_records(
+    rdr: &mut Reader<&[u8]>,
+    record: &mut ByteRecord,
+    width: u32,
+    skip_first: bool,
+    more: bool,
+    rows: &mut EvenRows,
+) -> Result<(), InFault>
+    requires some { 1 ≤ width }
+    requires at_most { width ≤ 16 }
+    requires none { rows.old ≡ [] }
+    requires first { (bytes : List ℕ) × IsBehind bytes [] rdr.old }
+    ensures ok { OnOk result ((bytes : List ℕ) → IsBehind bytes [] rdr.old → rows_of_file bytes width skip_first more ≡ Ok rows.new) }
+    ensures fault { IfErr result (λ f. (bytes : List ℕ) → IsBehind bytes [] rdr.old → IsFaultTold (rows_of_file bytes width skip_first more) f) }
+{
     let header = headers(skip_first);
     let last = header + MAX_ROWS;
     let mut rec = 0u32;
-    while read_record(&mut rdr, &mut record)? {
+    while read_record(rdr, record)? {
         rec += 1;
         if rec > header {
-            add_row(&record, rec, last, width as usize, more, rows)?;
+            add_row(record, rec, last, width as usize, more, rows)?;
         }
     }
     Ok(())

@@ -1,12 +1,13 @@
 // A file as rows with timestamps.
-ghost use Rattle.std.specs.Prelude.{◌≡◌, ◌≤◌, ◌+◌, pos, [], Ok, OnOk, IfErr};
+ghost use Rattle.std.specs.Prelude.{◌≡◌, ◌≤◌, ◌+◌, ℕ, List, pos, [], Ok, OnOk, IfErr};
 ghost use Rattle.csv.specs.Records.{fields_of};
+ghost use Rattle.csv_streams.specs.Records.{IsBehind};
 ghost use Rattle.csv_streams.specs.Rows.{Appends, IsFaultTold, IsAnswer};
 ghost use Rattle.csv_streams.specs.Timed.{timed_in, timed_of, stamp_after, in_time};
 
 use crate::record::{headers, read_record, reader_of, values_in};
 use crate::{InFault, MAX_ROWS};
-use csv::ByteRecord;
+use csv::{ByteRecord, Reader};
 use river_base::{Bytes, Row, TimedRows};
 use std::alloc::Global;
 
@@ -44,13 +45,31 @@ fn add_timed_rows(
 {
     let mut rdr = reader_of(alloc, bytes);
     let mut record = ByteRecord::new(alloc);
+    add_timed_records(&mut rdr, &mut record, width, skip_first, rows)
+}
+
+// Reads the timed rows of all records into a list that has none.
+fn add_timed_records(
+    rdr: &mut Reader<&[u8]>,
+    record: &mut ByteRecord,
+    width: u32,
+    skip_first: bool,
+    rows: &mut TimedRows,
+) -> Result<(), InFault>
+    requires some { 1 ≤ width }
+    requires at_most { width ≤ 16 }
+    requires none { rows.old ≡ [] }
+    requires first { (bytes : List ℕ) × IsBehind bytes [] rdr.old }
+    ensures ok { OnOk result ((bytes : List ℕ) → IsBehind bytes [] rdr.old → timed_of bytes width skip_first ≡ Ok rows.new) }
+    ensures fault { IfErr result (λ f. (bytes : List ℕ) → IsBehind bytes [] rdr.old → IsFaultTold (timed_of bytes width skip_first) f) }
+{
     let header = headers(skip_first);
     let last = header + MAX_ROWS;
     let mut rec = 0u32;
-    while read_record(&mut rdr, &mut record)? {
+    while read_record(rdr, record)? {
         rec += 1;
         if rec > header {
-            add_timed_row(&record, rec, last, width as usize, rows)?;
+            add_timed_row(record, rec, last, width as usize, rows)?;
         }
     }
     Ok(())

@@ -67,6 +67,17 @@ pub fn two_in_brackets(alloc: Global, a: u32, b: u32, to: &mut Bytes) -> Result<
     to.extend(b")")
 }
 
+/// Appends an opening bracket and three numbers.
+#[tactic(auto, using(crate::proofs::Joined::joins))]
+pub fn begin_three(alloc: Global, a: u32, b: u32, c: u32, to: &mut Bytes) -> Result<(), NoMemory>
+    ensures { OnOk result (to.new ≡ to.old ++ (codes "(" ++ (decimal a ++ (codes ", " ++ (decimal b ++ (codes ", " ++ decimal c)))))) }
+{
+    to.extend(b"(")?;
+    number(alloc, a, to)?;
+    next_number(alloc, b, to)?;
+    next_number(alloc, c, to)
+}
+
 /// Appends a word and one number in brackets.
 #[tactic(auto, using(crate::proofs::Joined::joins))]
 pub fn counted(alloc: Global, word: &[u8], count: u32, to: &mut Bytes) -> Result<(), NoMemory>
@@ -74,6 +85,16 @@ pub fn counted(alloc: Global, word: &[u8], count: u32, to: &mut Bytes) -> Result
 {
     to.extend(word)?;
     in_brackets(alloc, count, to)
+}
+
+/// Appends a word, a name and a colon.
+#[tactic(auto, using(crate::proofs::Joined::joins))]
+pub fn titled(word: &[u8], name: &Name, to: &mut Bytes) -> Result<(), NoMemory>
+    ensures { OnOk result (to.new ≡ to.old ++ (word.now ++ (name.now ++ codes ": "))) }
+{
+    to.extend(word)?;
+    to.extend(name.as_slice())?;
+    to.extend(b": ")
 }
 
 /// How the numbers of a list are written.

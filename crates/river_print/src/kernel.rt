@@ -5,11 +5,11 @@ ghost use Rattle.work_code.specs.Term.{term, terms};
 ghost use Rattle.kern_rows.specs.Forms.{code_form, filter_form, optional_run, run_form};
 ghost use Rattle.work_code.specs.Steps.{steps};
 ghost use Rattle.kern_bags.specs.declared.kernel.Window.TheVariants as window_kind;
-ghost use Rattle.river_kernels.specs.Kern.{kern_of, select, project};
+ghost use Rattle.river_kernels.specs.Kern.{kern_of, select, project, fused};
 ghost use Rattle.river_print.specs.Printed.{kernel_text, list_text, values_text, code_text, filter_text, first_text, firsts_text, rates_text, run_text, window_text, streamer_text};
 
 use crate::items::{
-    Style, counted, exprs, in_brackets, next_number, number, numbers, two_in_brackets, value,
+    Style, begin_three, counted, exprs, in_brackets, next_number, numbers, two_in_brackets, value,
 };
 use kern_bags::{Streamer, Window};
 use kern_rows::{CodeKernel, Filter, First};
@@ -20,6 +20,7 @@ use work_code::{Code, Expr, Exprs};
 use work_text::{print_code, print_expr};
 
 /// Appends the text of a kernel; where there is no memory, maybe a part of it.
+#[cycle(print_kernel)]
 #[tactic(auto, using(crate::proofs::Joined::joins))]
 pub fn print_kernel(alloc: Global, kernel: &Kernel, to: &mut Bytes) -> Result<(), NoMemory>
     ensures { OnOk result (to.new ≡ to.old ++ kernel_text (kern_of kernel.now)) }
@@ -30,11 +31,7 @@ pub fn print_kernel(alloc: Global, kernel: &Kernel, to: &mut Bytes) -> Result<()
         Kernel::Duplicate(ports) => counted(alloc, b"duplicate", *ports, to),
         Kernel::Deal(weights) => print_weights(alloc, b"deal", weights.as_slice(), to),
         Kernel::Collect(weights) => print_weights(alloc, b"collect", weights.as_slice(), to),
-        Kernel::Packed(inner) => {
-            to.extend(b"packed { ")?;
-            print_kernel(alloc, inner, to)?;
-            to.extend(b" }")
-        }
+        Kernel::Packed(inner) => print_between(alloc, b"packed { ", inner, b" }", to),
         Kernel::Unpack(ports) => counted(alloc, b"unpack", *ports, to),
         Kernel::Window(window) => print_window(alloc, *window, to),
         Kernel::Select(cond) => print_select(alloc, cond, to),
@@ -42,14 +39,41 @@ pub fn print_kernel(alloc: Global, kernel: &Kernel, to: &mut Bytes) -> Result<()
         Kernel::Cross => to.extend(b"cross"),
         Kernel::Streamer(streamer) => print_streamer(*streamer, to),
         Kernel::Tally => to.extend(b"tally"),
-        Kernel::Fused { first, second, at } => {
-            begin_fused(alloc, *at, to)?;
-            print_kernel(alloc, first, to)?;
-            to.extend(b" } { ")?;
-            print_kernel(alloc, second, to)?;
-            to.extend(b" }")
-        }
+        Kernel::Fused { first, second, at } => print_fused(alloc, first, second, *at, to),
     }
+}
+
+/// Appends the text of a kernel between two texts; where there is no memory, maybe a part of them.
+#[cycle(print_kernel)]
+#[tactic(auto, using(crate::proofs::Joined::joins))]
+pub fn print_between(
+    alloc: Global,
+    before: &[u8],
+    kernel: &Kernel,
+    after: &[u8],
+    to: &mut Bytes,
+) -> Result<(), NoMemory>
+    ensures { OnOk result (to.new ≡ to.old ++ (before.now ++ (kernel_text (kern_of kernel.now) ++ after.now))) }
+{
+    to.extend(before)?;
+    print_kernel(alloc, kernel, to)?;
+    to.extend(after)
+}
+
+#[cycle(print_kernel)]
+#[tactic(auto, using(crate::proofs::Joined::joins))]
+fn print_fused(
+    alloc: Global,
+    first: &Kernel,
+    second: &Kernel,
+    at: u32,
+    to: &mut Bytes,
+) -> Result<(), NoMemory>
+    ensures { OnOk result (to.new ≡ to.old ++ kernel_text (fused (kern_of first.now) (kern_of second.now) at)) }
+{
+    begin_fused(alloc, at, to)?;
+    print_kernel(alloc, first, to)?;
+    print_between(alloc, b" } { ", second, b" }", to)
 }
 
 // A word and values in brackets.
@@ -140,10 +164,7 @@ fn print_first(alloc: Global, run: &First, to: &mut Bytes) -> Result<(), NoMemor
 fn print_first_rates(alloc: Global, run: &First, to: &mut Bytes) -> Result<(), NoMemory>
     ensures { OnOk result (to.new ≡ to.old ++ list_text (decimal run.now.peek ∷ decimal run.now.pop ∷ decimal run.now.push ∷ [])) }
 {
-    to.extend(b"(")?;
-    number(alloc, run.peek, to)?;
-    next_number(alloc, run.pop, to)?;
-    next_number(alloc, run.push, to)?;
+    begin_three(alloc, run.peek, run.pop, run.push, to)?;
     to.extend(b")")
 }
 
@@ -163,10 +184,7 @@ fn print_run(alloc: Global, kept: &[i64], code: &Code, to: &mut Bytes) -> Result
 fn print_rates(alloc: Global, filter: &Filter, to: &mut Bytes) -> Result<(), NoMemory>
     ensures { OnOk result (to.new ≡ to.old ++ rates_text (filter_form filter.now)) }
 {
-    to.extend(b"(")?;
-    number(alloc, filter.peek, to)?;
-    next_number(alloc, filter.pop, to)?;
-    next_number(alloc, filter.push, to)?;
+    begin_three(alloc, filter.peek, filter.pop, filter.push, to)?;
     next_number(alloc, filter.code.slots, to)?;
     to.extend(b")")
 }

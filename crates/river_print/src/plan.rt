@@ -8,8 +8,8 @@ ghost use Rattle.river_print.specs.Printable.{IsPrintable};
 ghost use Rattle.river_print.specs.Printed.{flat_text, type_text, table_text, cap_text, decl_line, capped_line};
 ghost use Rattle.river_print.specs.Printed.{queue_line, table_line, var_line, op_line, head_text, lines, queues_text, plan_text};
 
-use crate::items::{counted, ports, two_in_brackets, var};
-use crate::kernel::print_kernel;
+use crate::items::{counted, ports, titled, two_in_brackets, var};
+use crate::kernel::print_between;
 use crate::ranges::read_plan;
 use kern_tables::TableKind;
 use river_base::{Bytes, FlatType, Name, NoMemory, QueueType};
@@ -35,8 +35,15 @@ pub fn print_raw(alloc: Global, plan: &RawPlan, caps: &Caps) -> Result<Bytes, No
     ensures { IfOk result (λ text. text ≡ plan_text (first_cap caps.now) (plan_form plan.now)) }
 {
     let own = CapsByName::new(alloc, caps)?;
+    print_with(alloc, plan, &own)
+}
+
+// The same, with capacities that are found by name.
+fn print_with(alloc: Global, plan: &RawPlan, own: &CapsByName) -> Result<Bytes, NoMemory>
+    ensures { IfOk result (λ text. text ≡ plan_text (own_of own.now) (plan_form plan.now)) }
+{
     let mut text = Bytes::new(alloc);
-    plan_lines(alloc, plan, &own, &mut text)?;
+    plan_lines(alloc, plan, own, &mut text)?;
     Ok(text)
 }
 
@@ -95,9 +102,7 @@ fn print_queue(
 ) -> Result<(), NoMemory>
     ensures { OnOk result (to.new ≡ to.old ++ capped_line decl.now most) }
 {
-    to.extend(b"queue ")?;
-    to.extend(decl.name.as_slice())?;
-    to.extend(b": ")?;
+    titled(b"queue ", &decl.name, to)?;
     print_type(alloc, decl.kind, to)?;
     print_cap(alloc, most, to)?;
     to.extend(b";\n")
@@ -128,9 +133,7 @@ fn print_decl(alloc: Global, word: &[u8], decl: &Decl, to: &mut Bytes) -> Result
     ensures { OnOk result (to.new ≡ to.old ++ decl_line word.now decl.now) }
 {
     to.extend(word)?;
-    to.extend(b" ")?;
-    to.extend(decl.name.as_slice())?;
-    to.extend(b": ")?;
+    titled(b" ", &decl.name, to)?;
     print_type(alloc, decl.kind, to)?;
     to.extend(b";\n")
 }
@@ -232,9 +235,7 @@ fn print_op(alloc: Global, op: &Op, to: &mut Bytes) -> Result<(), NoMemory>
     ensures { OnOk result (to.new ≡ to.old ++ op_line (op_form op.now)) }
 {
     print_head(op, to)?;
-    to.extend(b" { ")?;
-    print_kernel(alloc, &op.kernel, to)?;
-    to.extend(b" }\n")
+    print_between(alloc, b" { ", &op.kernel, b" }\n", to)
 }
 
 // The operator's name and ports.
@@ -242,9 +243,7 @@ fn print_op(alloc: Global, op: &Op, to: &mut Bytes) -> Result<(), NoMemory>
 fn print_head(op: &Op, to: &mut Bytes) -> Result<(), NoMemory>
     ensures { OnOk result (to.new ≡ to.old ++ head_text (op_form op.now)) }
 {
-    to.extend(b"op ")?;
-    to.extend(op.label.as_slice())?;
-    to.extend(b": ")?;
+    titled(b"op ", &op.label, to)?;
     ports(op.writes.as_slice(), op.vars.as_slice(), to)?;
     to.extend(b" <- ")?;
     ports(op.reads.as_slice(), op.vars.as_slice(), to)

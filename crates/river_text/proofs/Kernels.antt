@@ -25,7 +25,7 @@ use Rattle.river_text.specs.Expressions.{IsTerm, term_at}
 use Rattle.river_text.specs.Kernels.{least, made_code, made_filter, made_fused, Width, Signed, IsStarts, IsCode, IsFilter, IsFusedKernel, BagAfter, KernelAfter, IsBraced}
 use Rattle.river_text.specs.Kernels.{FirstParts, AreFirstParts, IsKernel}
 use Rattle.river_text.specs.ReadKernels.{width_at, signed_at, round, starts_at, widths_at, weights_at, number_at, two_at, pair_at, rates_at, code_at, filter_at}
-use Rattle.river_text.specs.ReadKernels.{three_at, triple_at, first_at, fused_at, range_at, stream_after, relation_after, bag_after, kernel_after, braced_at, kernel_at}
+use Rattle.river_text.specs.ReadKernels.{three_at, triple_at, first_at, fused_at, range_at, stream_after, relation_after, bag_after, packed_after, ports_after, kernel_after, braced_at, kernel_at}
 use Rattle.river_text.proofs.Regroup.{rates-same}
 
 exact-count : Exact form.Count parse.count_at Any
@@ -160,7 +160,7 @@ exact-bag n w =
 
 exact-after_kernel : {braced : Kern → List Tok → Type 0} {p : Parse Kern} → Exact braced p Any → (n : ℕ) (w : List ℕ)
     → Exact (KernelAfter braced n w) (kernel_after p n w) NoFirst
-unfolding kernel_after
+unfolding kernel_after ports_after packed_after
 exact-after_kernel x n w =
     exact-choose (bytes_eq w (codes "code")) (any (exact-code n))
     (exact-choose (bytes_eq w (codes "filter")) (exact-filter n)

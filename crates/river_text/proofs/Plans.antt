@@ -22,7 +22,7 @@ use Rattle.text_blocks.specs.Parts.{Round}
 use Rattle.river_text.specs.declared.entry.Place.{Place}
 use Rattle.river_text.specs.Plans.{IsUnitAt}
 use Rattle.river_text.specs.ReadPlans.{river_name_at, river_var_at, flat_after, flat_at, packed_at, type_after, type_at, decl_at, cap_at, queue_at, header_at, kind_after, kind_at, table_at}
-use Rattle.river_text.specs.ReadPlans.{is_var_at, port_at, split_from, port_list_at, ports_at, op_at, private_at, unit_after, unit_at, unit_from}
+use Rattle.river_text.specs.ReadPlans.{is_var_at, port_at, split_from, port_list_at, ports_at, op_at, private_at, other_after, unit_after, unit_at, unit_from}
 use Rattle.river_text.proofs.Kernels.{exact-counted, exact-pair, exact-round, exact-braced}
 use Rattle.river_text.proofs.Regroup.{op-same}
 
@@ -155,7 +155,7 @@ unfolding private_at
 exact-private = exact-before (s.Semicolon ∷ []) exact-river_var (λ rest. tt)
 
 pub exact-unit : Exact IsUnit unit_at Any
-unfolding unit_at unit_after
+unfolding unit_at unit_after other_after
 exact-unit =
     exact-headed (λ w. exact-choose (bytes_eq w (codes "output")) (exact-seen output exact-decl)
     (exact-choose (bytes_eq w (codes "input")) (exact-seen input exact-decl)

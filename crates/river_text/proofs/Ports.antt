@@ -1,8 +1,10 @@
 -- The steps by which code reads what operators read and write.
-use Rattle.std.proofs.Common.{◌≡◌, ℕ, ◌<◌, ◌≤◌, ◌+◌, List, [], ◌∷◌, ◌++◌, length, drop, get_or, Some, None, refl, sym, ap, ◌∙◌}
+use Rattle.std.proofs.Common.{◌≡◌, ℕ, ◌<◌, ◌≤◌, ◌+◌, List, [], ◌∷◌, ◌++◌, length, drop, get_or, Option, Some, None, refl, sym, ap, ◌∙◌}
 use Rattle.std.specs.Prelude.{map}
 use Rattle.std.proofs.lemmas.List.{drop_more, drop_all}
 use Rattle.work_text.specs.Tok.{Tok}
+use Rattle.work_text.specs.declared.sign.Symbol.{Symbol}
+use Rattle.text_forms.specs.Parse.{Parse, symbols_at, then_rest, then_parsed, after}
 use Rattle.text_forms.proofs.Many.{comma-stop, comma-bad}
 use Rattle.river_text.specs.declared.port.Port as read
 use Rattle.river_text.specs.declared.port.Port.TheVariants as kind
@@ -48,4 +50,14 @@ pub split-end : (qs vs : List (List ℕ)) (ps : List read.Port) (i : ℕ) → le
 unfolding split_from
 split-end qs vs ps i h = ap (λ (l : List read.Port). split_from qs vs (map port_of l)) (drop_all i ps h)
 
+-- what goes on behind what stands behind symbols
+pub after-then : {A B : Type 0} (run : List Symbol) (p : Parse A) (more : A → List Tok → Option (B × List Tok)) (ts : List Tok)
+    → then_rest (symbols_at run ts) (λ us. then_parsed (p us) more) ≡ then_parsed (after run p ts) more
+after-then run p more ts = by (symbols_at run ts) where
+  by : (o : Option (List Tok)) → then_rest o (λ us. then_parsed (p us) more) ≡ then_parsed (then_rest o p) more
+  by None = refl
+  by (Some us) = refl
+
 pub ruleset splits = (split-end, split-var, split-queue, split-late)
+
+pub ruleset steps = (after-then)

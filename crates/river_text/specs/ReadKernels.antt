@@ -107,17 +107,27 @@ bag_after n w ts =
     else if bytes_eq w (codes "latest") then seen (λ k. kern.window (Latest k)) (number_at n) ts
     else relation_after n w ts
 
+-- that, or behind the word of a kernel of packs or of two kernels
+unfoldable pub packed_after : Parse Kern → ℕ → List ℕ → Parse Kern
+packed_after braced n w ts =
+    if bytes_eq w (codes "packed") then seen kern.packed braced ts
+    else if bytes_eq w (codes "unpack") then seen kern.unpack (number_at n) ts
+    else if bytes_eq w (codes "fused") then fused_at braced n ts
+    else bag_after n w ts
+
+-- that, or behind the word of a kernel that copies, deals or collects
+unfoldable pub ports_after : Parse Kern → ℕ → List ℕ → Parse Kern
+ports_after braced n w ts =
+    if bytes_eq w (codes "duplicate") then seen kern.duplicate (number_at n) ts
+    else if bytes_eq w (codes "deal") then seen kern.deal (weights_at n) ts
+    else if bytes_eq w (codes "collect") then seen kern.collect (weights_at n) ts
+    else packed_after braced n w ts
+
 unfoldable pub kernel_after : Parse Kern → ℕ → List ℕ → Parse Kern
 kernel_after braced n w ts =
     if bytes_eq w (codes "code") then code_at n ts
     else if bytes_eq w (codes "filter") then filter_at n ts
-    else if bytes_eq w (codes "duplicate") then seen kern.duplicate (number_at n) ts
-    else if bytes_eq w (codes "deal") then seen kern.deal (weights_at n) ts
-    else if bytes_eq w (codes "collect") then seen kern.collect (weights_at n) ts
-    else if bytes_eq w (codes "packed") then seen kern.packed braced ts
-    else if bytes_eq w (codes "unpack") then seen kern.unpack (number_at n) ts
-    else if bytes_eq w (codes "fused") then fused_at braced n ts
-    else bag_after n w ts
+    else ports_after braced n w ts
 
 unfoldable pub braced_at : ℕ → Parse Kern
 braced_at zero ts = None

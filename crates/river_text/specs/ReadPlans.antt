@@ -118,16 +118,21 @@ op_at ts =
 unfoldable pub private_at : Parse (List ℕ)
 private_at ts = before river_var_at (s.Semicolon ∷ []) ts
 
+-- what stands behind the first word of a unit that declares no queue
+unfoldable pub other_after : List ℕ → Parse EntryForm
+other_after w ts =
+    if bytes_eq w (codes "table") then seen table table_at ts
+    else if bytes_eq w (codes "var") then seen private private_at ts
+    else if bytes_eq w (codes "op") then seen operator op_at ts
+    else if bytes_eq w (codes "river") then seen as_header header_at ts
+    else None
+
 unfoldable pub unit_after : List ℕ → Parse EntryForm
 unit_after w ts =
     if bytes_eq w (codes "output") then seen output decl_at ts
     else if bytes_eq w (codes "input") then seen input decl_at ts
     else if bytes_eq w (codes "queue") then seen inner queue_at ts
-    else if bytes_eq w (codes "table") then seen table table_at ts
-    else if bytes_eq w (codes "var") then seen private private_at ts
-    else if bytes_eq w (codes "op") then seen operator op_at ts
-    else if bytes_eq w (codes "river") then seen as_header header_at ts
-    else None
+    else other_after w ts
 
 unfoldable pub unit_at : Parse EntryForm
 unit_at ts = headed unit_after ts

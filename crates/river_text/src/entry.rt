@@ -4,7 +4,7 @@ ghost use Rattle.text_forms.specs.Gives.{Gives};
 ghost use Rattle.text_forms.specs.Texts.{whole};
 ghost use Rattle.work_text.specs.Tok.{tokens_of};
 ghost use Rattle.river_text.specs.Plans.{add_entry, cap_stands, inner, may_stand, entry_cap, next_place, stage_of};
-ghost use Rattle.river_text.specs.ReadPlans.{unit_at, unit_from};
+ghost use Rattle.river_text.specs.ReadPlans.{other_after, unit_at, unit_from};
 ghost use Rattle.river_text.specs.Entries.{entry_form, text_form};
 ghost use Rattle.text_forms.specs.Gives.{Makes};
 
@@ -145,6 +145,14 @@ fn unit(reader: &mut Reader<'_>, alloc: Global) -> Result<Entry, Fault>
     if is(word, b"queue") {
         return Ok(Entry::Queue(queue(reader)?));
     }
+    other_after(reader, alloc, word)
+}
+
+// What stands behind the first word of a unit that declares no queue.
+#[tactic(auto, unfolding(crate::specs::ReadPlans::other_after))]
+fn other_after(reader: &mut Reader<'_>, alloc: Global, word: &[u8]) -> Result<Entry, Fault>
+    ensures { Gives entry_form result reader.new (other_after word.now reader.old) }
+{
     if is(word, b"table") {
         return Ok(Entry::Table(table(reader)?));
     }

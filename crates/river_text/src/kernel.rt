@@ -6,7 +6,7 @@ ghost use Rattle.river_kernels.specs.Kern.{kern_of};
 ghost use Rattle.text_blocks.specs.Parts.{optional};
 ghost use Rattle.work_code.specs.Steps.{steps};
 ghost use Rattle.river_text.specs.Kernels.{made_first};
-ghost use Rattle.river_text.specs.ReadKernels.{code_at, first_at, filter_at, fused_at, stream_after, relation_after, bag_after, range_at, braced_at, kernel_at};
+ghost use Rattle.river_text.specs.ReadKernels.{code_at, first_at, filter_at, fused_at, stream_after, relation_after, bag_after, range_at, packed_after, ports_after, braced_at, kernel_at};
 
 use crate::body::body;
 use crate::number::{number, pair, rates, starts, triple, weights, widths};
@@ -193,6 +193,52 @@ fn fused(reader: &mut Reader<'_>, alloc: Global, brackets: u32) -> Result<Kernel
     Ok(Kernel::Fused { first, second, at })
 }
 
+// What stands behind the word of a kernel of packs, of two kernels or on bags.
+#[cycle(kernel)]
+#[tactic(auto, unfolding(crate::specs::ReadKernels::packed_after))]
+fn packed_after(
+    reader: &mut Reader<'_>,
+    alloc: Global,
+    brackets: u32,
+    word: &[u8],
+) -> Result<Kernel, Fault>
+    ensures { Gives kern_of result reader.new (packed_after (braced_at brackets) brackets word.now reader.old) }
+{
+    if is(word, b"packed") {
+        return Ok(Kernel::Packed(boxed(reader, alloc, brackets)?));
+    }
+    if is(word, b"unpack") {
+        return Ok(Kernel::Unpack(number(reader, brackets)?));
+    }
+    if is(word, b"fused") {
+        return fused(reader, alloc, brackets);
+    }
+    bag_after(reader, alloc, brackets, word)
+}
+
+// That, or behind the word of a kernel that copies, deals or collects.
+#[cycle(kernel)]
+#[tactic(auto, unfolding(crate::specs::ReadKernels::ports_after))]
+fn ports_after(
+    reader: &mut Reader<'_>,
+    alloc: Global,
+    brackets: u32,
+    word: &[u8],
+) -> Result<Kernel, Fault>
+    ensures { Gives kern_of result reader.new (ports_after (braced_at brackets) brackets word.now reader.old) }
+{
+    if is(word, b"duplicate") {
+        return Ok(Kernel::Duplicate(number(reader, brackets)?));
+    }
+    if is(word, b"deal") {
+        return Ok(Kernel::Deal(weights(reader, alloc, brackets)?));
+    }
+    if is(word, b"collect") {
+        return Ok(Kernel::Collect(weights(reader, alloc, brackets)?));
+    }
+    packed_after(reader, alloc, brackets, word)
+}
+
 /// `{` kernel `}`, where so many more brackets may be open.
 #[cycle(kernel)]
 #[tactic(auto, using(crate::proofs::Braces::braces))]
@@ -217,23 +263,5 @@ fn kernel(reader: &mut Reader<'_>, alloc: Global, brackets: u32) -> Result<Kerne
     if is(word, b"filter") {
         return filter(reader, alloc, brackets);
     }
-    if is(word, b"duplicate") {
-        return Ok(Kernel::Duplicate(number(reader, brackets)?));
-    }
-    if is(word, b"deal") {
-        return Ok(Kernel::Deal(weights(reader, alloc, brackets)?));
-    }
-    if is(word, b"collect") {
-        return Ok(Kernel::Collect(weights(reader, alloc, brackets)?));
-    }
-    if is(word, b"packed") {
-        return Ok(Kernel::Packed(boxed(reader, alloc, brackets)?));
-    }
-    if is(word, b"unpack") {
-        return Ok(Kernel::Unpack(number(reader, brackets)?));
-    }
-    if is(word, b"fused") {
-        return fused(reader, alloc, brackets);
-    }
-    bag_after(reader, alloc, brackets, word)
+    ports_after(reader, alloc, brackets, word)
 }

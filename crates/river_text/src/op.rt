@@ -1,14 +1,18 @@
 // Operators read.
-ghost use Rattle.std.specs.Prelude.{◌≡◌};
-ghost use Rattle.text_forms.specs.Gives.{Gives};
+ghost use Rattle.std.specs.Prelude.{◌≡◌, [], ◌∷◌};
+ghost use Rattle.work_text.specs.declared.sign.Symbol.TheVariants as s;
+ghost use Rattle.text_forms.specs.Gives.{Gives, Makes};
+ghost use Rattle.text_forms.specs.Parse.{after};
+ghost use Rattle.river_kernels.specs.Kern.{kern_of};
 ghost use Rattle.river_plan.specs.Forms.{op_form};
 ghost use Rattle.river_text.specs.Listed.{pair_of};
-ghost use Rattle.river_text.specs.ReadPlans.{op_from_at, op_at};
+ghost use Rattle.river_text.specs.ReadPlans.{ports_at, op_of_parts, op_from_at, op_at};
 
 use crate::decl::{BRACKETS, river_name};
 use crate::kernel::braced;
 use crate::port::{Ports, both_lists};
 use river_base::Name;
+use river_kernels::Kernel;
 use river_plan::Op;
 use std::alloc::Global;
 use text_forms::{Fault, Reader, kept};
@@ -26,13 +30,27 @@ pub fn operator(reader: &mut Reader<'_>, alloc: Global) -> Result<Op, Fault>
 }
 
 // The operator, behind what it writes.
-#[tactic(auto, unfolding(crate::specs::ReadPlans::op_from_at))]
+#[tactic(auto, unfolding(crate::specs::ReadPlans::op_from_at), using(crate::proofs::Ports::steps))]
 fn op_from(reader: &mut Reader<'_>, alloc: Global, label: Name, outs: Ports) -> Result<Op, Fault>
     ensures { Gives op_form result reader.new (op_from_at label (pair_of outs) reader.old) }
 {
-    reader.expect(&[Symbol::Less, Symbol::Minus])?;
-    let ins = both_lists(reader, alloc)?;
+    let ins = sources(reader, alloc)?;
     let kernel = braced(reader, alloc, BRACKETS)?;
+    made_op(label, outs, ins, kernel)
+}
+
+// `<-` and what an operator reads.
+fn sources(reader: &mut Reader<'_>, alloc: Global) -> Result<Ports, Fault>
+    ensures { Gives pair_of result reader.new (after (s.Less ∷ s.Minus ∷ []) ports_at reader.old) }
+{
+    reader.expect(&[Symbol::Less, Symbol::Minus])?;
+    both_lists(reader, alloc)
+}
+
+// An operator, where it reads and writes the same variables.
+fn made_op(label: Name, outs: Ports, ins: Ports, kernel: Kernel) -> Result<Op, Fault>
+    ensures { Makes op_form result (op_of_parts label (pair_of outs) (pair_of ins) (kern_of kernel)) }
+{
     let same = outs.vars.as_slice() == ins.vars.as_slice();
     let op = Op {
         label,

@@ -1,6 +1,6 @@
 // The statements of any language read, and its blocks.
-ghost use Rattle.std.specs.Prelude.{◌≡◌, map, IfOk};
-ghost use Rattle.text_forms.specs.Gives.{Gives};
+ghost use Rattle.std.specs.Prelude.{◌≡◌, map, Some, IfOk};
+ghost use Rattle.text_forms.specs.Gives.{Gives, Makes};
 ghost use Rattle.text_blocks.specs.Exact.{AreExact};
 ghost use Rattle.text_blocks.specs.Reading.{rest_at, stmt_at, stmts_at, block_at, else_at, branch_at, loop_at};
 ghost use Rattle.text_blocks.specs.Statements.{Style, Holes};
@@ -108,6 +108,42 @@ pub trait Blocks {
     ghost exact: { (l : Self) → AreExact (style l) (holes l) };
 }
 
+// A branch of these parts.
+fn made_branch<L: Blocks>(
+    language: &L,
+    alloc: Global,
+    cond: L::Condition,
+    yes: L::Block,
+    no: Option<L::Block>,
+) -> Result<L::Statement, Fault>
+    ensures { Makes L.statement result (Some ((L.style language.now).branch (L.condition_tree cond) (L.block yes) (optional L.block no))) }
+{
+    Ok(language.branch(alloc, cond, yes, no)?)
+}
+
+// A loop of these parts.
+fn made_loop<L: Blocks>(
+    language: &L,
+    alloc: Global,
+    head: L::Head,
+    body: L::Block,
+) -> Result<L::Statement, Fault>
+    ensures { Makes L.statement result (Some ((L.style language.now).loop (L.head_tree head) (L.block body))) }
+{
+    Ok(language.repeat(alloc, head, body)?)
+}
+
+// A block of these statements.
+fn made_block<L: Blocks>(
+    language: &L,
+    alloc: Global,
+    statements: Vec<L::Statement>,
+) -> Result<L::Block, Fault>
+    ensures { Makes L.block result (Some ((L.style language.now).block (map L.statement statements.items))) }
+{
+    Ok(language.block(alloc, statements)?)
+}
+
 // A statement, in which branches and loops together may nest so deep.
 #[cycle(block)]
 #[tactic(auto, unfolding(crate::specs::Reading::stmt_at))]
@@ -167,7 +203,7 @@ fn branch<L: Blocks>(
     let cond = language.condition(reader, alloc, brackets)?;
     let yes = block(language, reader, alloc, nest - 1, brackets)?;
     let no = otherwise(language, reader, alloc, nest - 1, brackets)?;
-    Ok(language.branch(alloc, cond, yes, no)?)
+    made_branch(language, alloc, cond, yes, no)
 }
 
 // What stands behind the word of a loop.
@@ -188,7 +224,7 @@ fn repeat<L: Blocks>(
     }
     let head = language.head(reader, alloc, brackets, word)?;
     let body = block(language, reader, alloc, nest - 1, brackets)?;
-    Ok(language.repeat(alloc, head, body)?)
+    made_loop(language, alloc, head, body)
 }
 
 // `else` and a block, or nothing.
@@ -248,5 +284,5 @@ fn statements<L: Blocks>(
     'items: while !reader.is_at(Symbol::CloseBrace) {
         list.push(statement(language, reader, alloc, nest, brackets)?)?;
     }
-    Ok(language.block(alloc, list)?)
+    made_block(language, alloc, list)
 }

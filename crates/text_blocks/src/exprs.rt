@@ -63,10 +63,9 @@ pub fn first_value<T: Terms>(
 ) -> Result<Option<T::Tree>, Fault>
     ensures { Gives (optional T.view) result reader.new (first_value_at (term_at (T.marks language.now) (T.leaf language.now)) brackets reader.old) }
 {
-    if !reader.is_at(Symbol::Assign) {
+    if !reader.takes(Symbol::Assign) {
         return Ok(None);
     }
-    reader.expect(&[Symbol::Assign])?;
     Ok(Some(term(language, reader, alloc, brackets)?))
 }
 

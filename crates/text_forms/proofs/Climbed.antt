@@ -1,12 +1,22 @@
 -- What the expressions of a ladder are, by the steps that code took.
-use Rattle.std.proofs.Common.{◌≡◌, ℕ, ◌<◌, ◌-◌, List, [], ◌∷◌, length, true, false, cond, Option, Some, None, sym, ap, ◌∙◌}
+use Rattle.std.proofs.Common.{◌≡◌, ℕ, ◌<◌, ◌-◌, List, [], ◌∷◌, length, true, false, cond, Option, Some, None, Result, Ok, Err, sym, ap, ◌∙◌}
 use Rattle.work_text.specs.Tok.{Tok}
 use Rattle.work_text.specs.declared.sign.Symbol.TheVariants as s
 use Rattle.text_forms.proofs.Climbs.{ladder-base, once-at, prefix-none, prefix-at, base-none, base-at, within-none, within-at, grown-taken, chained-stop}
+use Rattle.text_forms.specs.declared.fault.Fault.{Fault}
+use Rattle.text_forms.specs.declared.fault.Fault.TheVariants.{Syntax as NoSyntax, NoMemory}
+use Rattle.text_forms.specs.Gives.{Gives, Keeps, Makes}
 use Rattle.text_forms.specs.Levels.{Syntax}
 use Rattle.text_forms.specs.Parse as parse
 use Rattle.text_forms.specs.ReadLevels.{first, operator_at, sign_of_level, joined_read, grown, chained, once_on, once_level, prefix_on, prefix_level, closed, base_on, base, ladder, within}
 use Rattle.text_forms.specs.Tail.{tail}
+
+-- what was made of what came is given
+pub made-gives : {X A : Type 0} (view : X → A) (a : A) (r : Result X Fault) {rest : List Tok} {read : Option (A × List Tok)} → Makes view r (Some a)
+    → read ≡ Some (a, rest) → Gives view r rest read
+made-gives view a (Ok x) made is = cc
+made-gives view a (Err NoSyntax) made is = absurd cc
+made-gives view a (Err NoMemory) made is = tt
 
 module _ {T O P : Type 0} (S : Syntax T O P) where
   -- the step at the foot
@@ -109,14 +119,25 @@ module _ {T O P : Type 0} (S : Syntax T O P) where
       ap (λ (m : ℕ). closed (within S leaf m) room ts) is
       ∙ ap (λ (r : Option (T × List Tok)). parse.then_parsed r (λ a ws. parse.then_rest (parse.symbols_at (s.Close ∷ []) ws) (λ vs. Some (a, vs)))) (within-none S leaf room ts)
 
-  -- an expression came, and the bracket that closes it
-  pub closed-all : (leaf : ℕ → parse.Parse T) (n h room : ℕ) (ts us vs : List Tok) (t : T) → 0 < n → h ≡ length S.levels
-      → ladder S (leaf (n - 1)) (within S leaf (n - 1)) h room ts ≡ Some (t, us) → parse.symbols_at (s.Close ∷ []) us ≡ Some vs
-      → closed (within S leaf n) room ts ≡ Some (t, vs)
-  closed-all leaf n h room ts us vs t some is read close =
+  -- an expression came; the bracket that closes it has to come next
+  closed-read : (leaf : ℕ → parse.Parse T) (n h room : ℕ) (ts us : List Tok) (t : T) → 0 < n → h ≡ length S.levels
+      → ladder S (leaf (n - 1)) (within S leaf (n - 1)) h room ts ≡ Some (t, us)
+      → closed (within S leaf n) room ts ≡ parse.then_rest (parse.symbols_at (s.Close ∷ []) us) (λ xs. Some (t, xs))
+  closed-read leaf n h room ts us t some is read =
       ap (λ (r : Option (T × List Tok)). parse.then_parsed r (λ a ws. parse.then_rest (parse.symbols_at (s.Close ∷ []) ws) (λ xs. Some (a, xs))))
       (within-at S leaf n room ts some ∙ ap (λ (k : ℕ). ladder S (leaf (n - 1)) (within S leaf (n - 1)) k room ts) (sym is) ∙ read)
-      ∙ ap (λ (r : Option (List Tok)). parse.then_rest r (λ xs. Some (t, xs))) close
+
+  -- an expression came, and is kept where the bracket that closes it comes
+  pub closed-gives : {X : Type 0} (view : X → T) (x : X) (r : Result X Fault) (leaf : ℕ → parse.Parse T) (n h room : ℕ) (ts us vs : List Tok) → 0 < n → h ≡ length S.levels
+      → ladder S (leaf (n - 1)) (within S leaf (n - 1)) h room ts ≡ Some (view x, us) → Keeps x r vs (parse.symbols_at (s.Close ∷ []) us)
+      → Gives view r vs (closed (within S leaf n) room ts)
+  closed-gives view x (Ok y) leaf n h room ts us vs some is read kept =
+      closed-read leaf n h room ts us (view x) some is read
+      ∙ ap (λ (o : Option (List Tok)). parse.then_rest o (λ xs. Some (view x, xs))) kept.1
+      ∙ ap (λ z. Some (view z, vs)) (sym kept.0)
+  closed-gives view x (Err NoSyntax) leaf n h room ts us vs some is read kept =
+      closed-read leaf n h room ts us (view x) some is read ∙ ap (λ (o : Option (List Tok)). parse.then_rest o (λ xs. Some (view x, xs))) kept
+  closed-gives view x (Err NoMemory) leaf n h room ts us vs some is read kept = tt
 
   -- a bracket came behind the call, and what is in it
   pub called-all : (i : ℕ → parse.Parse T) (room : ℕ) (ts us vs : List Tok) (p : P) (t w : T) → parse.symbols_at (s.Open ∷ []) ts ≡ Some us → closed i room us ≡ Some (t, vs)

@@ -1,6 +1,7 @@
 // The expressions of any language read, level by level.
-ghost use Rattle.std.specs.Prelude.{◌≡◌, ◌<◌, ◌≤◌, ◌+◌, IfOk, ◌-◌, [], ◌∷◌};
-ghost use Rattle.text_forms.specs.Gives.{Gives, PassesOver};
+ghost use Rattle.std.specs.Prelude.{◌≡◌, ◌<◌, ◌≤◌, ◌+◌, max, Some, IfOk, ◌-◌, [], ◌∷◌};
+ghost use Rattle.text_forms.specs.Gives.{Gives, Keeps, Makes, PassesOver};
+ghost use Rattle.work_text.specs.declared.sign.Symbol.TheVariants as s;
 ghost use Rattle.text_forms.specs.ReadLevels.{level_at, chain_at, once_at, prefix_at, base_at, grown_at, called_at, closed_at, whole_at};
 ghost use Rattle.text_forms.specs.Parse.{symbols_at};
 
@@ -24,6 +25,55 @@ fn expect<R: TokenSource>(reader: &mut R, symbol: Symbol) -> Result<(), Fault>
     } else {
         Err(Fault::Syntax)
     }
+}
+
+// A value, where the closing bracket stands behind it.
+fn closing<R: TokenSource, T: Drop>(reader: &mut R, value: T) -> Result<T, Fault>
+    ensures { Keeps value result (R.rest reader.new) (symbols_at (s.Close ∷ []) (R.rest reader.old)) }
+{
+    expect(reader, Symbol::Close)?;
+    Ok(value)
+}
+
+// A tree behind a sign.
+fn marked<R: TokenSource, D: Dialect<R>>(
+    dialect: &D,
+    alloc: Global,
+    sign: D::Sign,
+    inner: Measured<D::Tree>,
+) -> Result<Measured<D::Tree>, Fault>
+    requires room { inner.depth ≤ 64 }
+    requires exact { inner.depth ≡ (D.syntax dialect.now).depth (D.view inner.tree) }
+    ensures reads { Makes (λ m. D.view m.tree) result (Some ((D.syntax dialect.now).mark sign (D.view inner.tree))) }
+    ensures more { IfOk result (λ m. m.depth ≡ inner.depth + 1) }
+    ensures depth { IfOk result (λ m. m.depth ≡ (D.syntax dialect.now).depth (D.view m.tree)) }
+{
+    let tree = dialect.mark(alloc, sign, inner.tree)?;
+    Ok(Measured {
+        tree,
+        depth: inner.depth + 1,
+    })
+}
+
+// Two trees with an operator between them.
+fn joined<R: TokenSource, D: Dialect<R>>(
+    dialect: &D,
+    alloc: Global,
+    op: D::Operator,
+    left: Measured<D::Tree>,
+    right: Measured<D::Tree>,
+) -> Result<Measured<D::Tree>, Fault>
+    requires left_room { left.depth ≤ 64 }
+    requires right_room { right.depth ≤ 64 }
+    requires left { left.depth ≡ (D.syntax dialect.now).depth (D.view left.tree) }
+    requires right { right.depth ≡ (D.syntax dialect.now).depth (D.view right.tree) }
+    ensures reads { Makes (λ m. D.view m.tree) result (Some ((D.syntax dialect.now).join op (D.view left.tree) (D.view right.tree))) }
+    ensures more { IfOk result (λ m. m.depth ≡ max left.depth right.depth + 1) }
+    ensures depth { IfOk result (λ m. m.depth ≡ (D.syntax dialect.now).depth (D.view m.tree)) }
+{
+    let depth = left.depth.max(right.depth) + 1;
+    let tree = dialect.join(alloc, op, left.tree, right.tree)?;
+    Ok(Measured { tree, depth })
 }
 
 // An expression on the level above `rank` others; `brackets` more may be open, and it may be `room` deep.
@@ -106,9 +156,7 @@ fn grown<R: TokenSource, D: Dialect<R>>(
         return Err(Fault::Syntax);
     }
     let right = ladder(dialect, reader, alloc, brackets, level, room - 1)?;
-    let depth = left.depth.max(right.depth) + 1;
-    let tree = dialect.join(alloc, op, left.tree, right.tree)?;
-    Ok(Measured { tree, depth })
+    joined(dialect, alloc, op, left, right)
 }
 
 // An expression of the level below, and one operator of this level at most.
@@ -161,11 +209,7 @@ fn prefix<R: TokenSource, D: Dialect<R>>(
         return ladder(dialect, reader, alloc, brackets, level, room);
     };
     let inner = prefix(dialect, reader, alloc, brackets, level, room - 1)?;
-    let tree = dialect.mark(alloc, sign, inner.tree)?;
-    Ok(Measured {
-        tree,
-        depth: inner.depth + 1,
-    })
+    marked(dialect, alloc, sign, inner)
 }
 
 // Brackets, a call or a leaf.
@@ -228,11 +272,7 @@ fn called<R: TokenSource, D: Dialect<R>>(
 {
     expect(reader, Symbol::Open)?;
     let inner = enclosed(dialect, reader, alloc, brackets, room)?;
-    let tree = dialect.mark(alloc, sign, inner.tree)?;
-    Ok(Measured {
-        tree,
-        depth: inner.depth + 1,
-    })
+    marked(dialect, alloc, sign, inner)
 }
 
 // An expression behind one bracket more, and the closing bracket.
@@ -255,8 +295,7 @@ fn enclosed<R: TokenSource, D: Dialect<R>>(
         return Err(Fault::Syntax);
     }
     let inner = ladder(dialect, reader, alloc, brackets - 1, dialect.height(), room)?;
-    expect(reader, Symbol::Close)?;
-    Ok(inner)
+    closing(reader, inner)
 }
 
 /// An expression of a language, at most 64 deep, where `brackets` more brackets may be open. What stands behind it is

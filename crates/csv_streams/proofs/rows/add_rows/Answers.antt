@@ -1,87 +1,12 @@
-use Rattle.std.proofs.Common.{List, ℕ, ◌≡◌, ◌+◌, ◌<◌, ◌≤◌, ◌∙◌, sym, subst, refl, rules, arith, ap, ◌∷◌, [], ◌++◌, length, length-append, append_assoc}
-use Rattle.std.specs.Prelude.{ℤ, Err}
-use Rattle.std.proofs.lemmas.Result.{err_from_is_err_and}
-use Rattle.std.proofs.lemmas.List.Elements.{All-nil}
-use Rattle.river_base.specs.Held.{HaveWidth}
-use Rattle.csv.specs.Records.{fields_of}
-use Rattle.csv_streams.specs.Rows.{row_in, rows_of_records, rows_of_file, headers, Appends, IsFaultTold}
-use Rattle.csv_streams.proofs.Records.{behind-first}
-use Rattle.csv_streams.proofs.RowsIn.{told, rows-none, rows-header, rows-push, rows-fault, row_within, fault_passes}
+use Rattle.std.proofs.lemmas.Result.{IfErr-weaker, on_ok_weaker}
 use Rattle.csv_streams.proofs.rows.add_rows.Goals as goal
 
-pub read_record-requires : goal.read_record-requires
-read_record-requires c = let read = c.loop-record.invariant.read in (c.args.bytes.now, read.0, read.1)
-
-pub loop-record-init : goal.loop-record-init
-loop-record-init c = record {
-  header = c.headers-header.ensures;
-  last = ap (λ (n : ℕ). n + 100000) c.headers-header.ensures;
-  few = omega arith;
-  wide = subst (HaveWidth c.args.width) (sym c.requires.none) (All-nil (λ row. length row ≡ c.args.width));
-  read = ([], c.reader_of-rdr.ensures, rows-none c.args.width c.args.skip_first c.args.more ∙ ap (λ (l : List (List ℤ)). told l) (sym c.requires.none), refl);
-}
-
--- a row
-pub loop-record-preserved-in-Continue-branch-2 : goal.loop-record-preserved-in-Continue-branch-2
-loop-record-preserved-in-Continue-branch-2 c =
-    let inv = c.loop-record.invariant in
-    let (recs, behind, so_far, count) = inv.read in
-    let fields = fields_of c.read_record.new.raw in
-    let next = (rw c.if-branch.true at c.in_ok-read_record.ensures.ok) c.args.bytes.now recs behind in
-    let one : Appends (row_in c.args.width c.args.more (c.headers-header.result + 100000) (c.loop-record.rec + 1) fields) c.loop-record.rows c.add_row.new.rows = c.in_ok-add_row.ensures.ok in
-    let past : c.headers-header.result < c.loop-record.rec + 1 = c.if-rec-header.true in
-    let le : headers c.args.skip_first ≤ length recs = omega (arith, past, count, inv.header) in
-    record {
-      header = inv.header;
-      last = inv.last;
-      few = row_within c.args.width c.args.more (c.headers-header.result + 100000) (c.loop-record.rec + 1) fields one.row one.is;
-      wide = c.in_ok-add_row.ensures.wide;
-      read = (
-        recs ++ fields ∷ [],
-        next,
-        rows-push c.args.width c.args.skip_first c.args.more recs fields c.loop-record.rows one.row le so_far (rw (sym inv.last, count) one.is)
-            ∙ ap (λ (l : List (List ℤ)). told l) (sym one.grown),
-        omega (arith, length-append recs (fields ∷ []), count),
-      );
-    }
-
--- a header
-pub loop-record-preserved : goal.loop-record-preserved
-loop-record-preserved c =
-    let inv = c.loop-record.invariant in
-    let (recs, behind, so_far, count) = inv.read in
-    let fields = fields_of c.read_record.new.raw in
-    let next = (rw c.if-branch.true at c.in_ok-read_record.ensures.ok) c.args.bytes.now recs behind in
-    let header : c.loop-record.rec + 1 ≤ c.headers-header.result = c.if-rec-header.false in
-    let le : length recs + 1 ≤ headers c.args.skip_first = omega (arith, header, count, inv.header) in
-    record {
-      header = inv.header;
-      last = inv.last;
-      few = omega (arith, header);
-      wide = inv.wide;
-      read = (recs ++ fields ∷ [], next, rows-header c.args.width c.args.skip_first c.args.more recs fields le ∙ so_far, omega (arith, length-append recs (fields ∷ []), count));
-    }
-
-pub returns-in_err-add_row-clause-fault : goal.returns-in_err-add_row-clause-fault
-returns-in_err-add_row-clause-fault c =
-    let inv = c.loop-record.invariant in
-    let (recs, behind, so_far, count) = inv.read in
-    let fields = fields_of c.read_record.new.raw in
-    let next = (rw c.if-branch.true at c.in_ok-read_record.ensures.ok) c.args.bytes.now recs behind in
-    let all = behind-first c.args.bytes.now (recs ++ fields ∷ []) c.read_record.new.rdr next in
-    let f = c.in_err-add_row.field-0.0 in
-    let one = row_in c.args.width c.args.more (c.headers-header.result + 100000) (c.loop-record.rec + 1) fields in
-    let past : c.headers-header.result < c.loop-record.rec + 1 = c.if-rec-header.true in
-    let is_told : IsFaultTold one f = search rules in
-    let le : headers c.args.skip_first ≤ length recs = omega (arith, past, count, inv.header) in
-    let faulty : one ≡ Err f → rows_of_file c.args.bytes.now c.args.width c.args.skip_first c.args.more ≡ Err f = λ is.
-    ap (rows_of_records c.args.width c.args.skip_first c.args.more) (all.1 ∙ append_assoc recs (fields ∷ []) all.0)
-    ∙ rows-fault c.args.width c.args.skip_first c.args.more recs fields all.0 c.loop-record.rows f le so_far (rw (sym inv.last, count) is) in
-    let p = err_from_is_err_and c.from_residual-in_err-add_row.result c.from_residual-in_err-add_row.ensures.1 in
-    rw (p.1, p.2) (fault_passes one (rows_of_file c.args.bytes.now c.args.width c.args.skip_first c.args.more) f is_told faulty)
+-- the reader stands before the first record of these bytes
+pub add_records-requires-clause-first : goal.add_records-requires-clause-first
+add_records-requires-clause-first c = (c.args.bytes.now, c.reader_of-rdr.ensures)
 
 pub returns-clause-ok : goal.returns-clause-ok
-returns-clause-ok c =
-    let (recs, behind, so_far, count) = c.loop-record.invariant.read in
-    let all = (rw c.if-branch.false at c.in_ok-read_record.ensures.ok) c.args.bytes.now recs behind in
-    ap (rows_of_records c.args.width c.args.skip_first c.args.more) all ∙ so_far
+returns-clause-ok c = on_ok_weaker c.add_records.result (λ all. all c.args.bytes.now c.reader_of-rdr.ensures) c.add_records.ensures.ok
+
+pub returns-clause-fault : goal.returns-clause-fault
+returns-clause-fault c = IfErr-weaker c.add_records.result _ _ (λ f told. told c.args.bytes.now c.reader_of-rdr.ensures) c.add_records.ensures.fault

@@ -1,84 +1,12 @@
-use Rattle.std.proofs.Common.{List, ℕ, ◌≡◌, ◌+◌, ◌<◌, ◌≤◌, ◌∙◌, sym, refl, rules, arith, ap, ◌∷◌, [], ◌++◌, length, length-append, append_assoc}
-use Rattle.std.specs.Prelude.{pos, Err}
-use Rattle.std.proofs.lemmas.Result.{err_from_is_err_and}
-use Rattle.csv.specs.Records.{fields_of}
-use Rattle.csv_streams.specs.Rows.{headers, Appends, IsFaultTold}
-use Rattle.csv_streams.specs.Timed.{Entry, timed_in, timed_rows_in, timed_of, stamp_after}
-use Rattle.csv_streams.proofs.Records.{behind-first}
-use Rattle.csv_streams.proofs.RowsIn.{fault_passes}
-use Rattle.csv_streams.proofs.TimedIn.{all_told, timed-none, timed-header, timed-push, timed-fault, timed_within}
+use Rattle.std.proofs.lemmas.Result.{IfErr-weaker, on_ok_weaker}
 use Rattle.csv_streams.proofs.timed.add_timed_rows.Goals as goal
 
-pub read_record-requires : goal.read_record-requires
-read_record-requires c = let read = c.loop-record.invariant.read in (c.args.bytes.now, read.0, read.1)
-
-pub loop-record-init : goal.loop-record-init
-loop-record-init c = record {
-  header = c.headers-header.ensures;
-  last = ap (λ (n : ℕ). n + 100000) c.headers-header.ensures;
-  few = omega arith;
-  read = ([], c.reader_of-rdr.ensures, timed-none c.args.width c.args.skip_first ∙ ap (λ (l : List Entry). all_told l) (sym c.requires.none), refl);
-}
-
--- a row
-pub loop-record-preserved-in-Continue-branch-2 : goal.loop-record-preserved-in-Continue-branch-2
-loop-record-preserved-in-Continue-branch-2 c =
-    let inv = c.loop-record.invariant in
-    let (recs, behind, so_far, count) = inv.read in
-    let fields = fields_of c.read_record.new.raw in
-    let next = (rw c.if-branch.true at c.in_ok-read_record.ensures.ok) c.args.bytes.now recs behind in
-    let one : Appends (timed_in c.args.width (c.headers-header.result + 100000) (stamp_after (pos 0) c.loop-record.rows) (c.loop-record.rec + 1) fields) c.loop-record.rows c.add_timed_row.new.rows = search rules in
-    let past : c.headers-header.result < c.loop-record.rec + 1 = c.if-rec-header.true in
-    let le : headers c.args.skip_first ≤ length recs = omega (arith, past, count, inv.header) in
-    record {
-      header = inv.header;
-      last = inv.last;
-      few = timed_within c.args.width (c.headers-header.result + 100000) (stamp_after (pos 0) c.loop-record.rows) (c.loop-record.rec + 1) fields one.row one.is;
-      read = (
-        recs ++ fields ∷ [],
-        next,
-        timed-push c.args.width c.args.skip_first recs fields c.loop-record.rows one.row le so_far (rw (sym inv.last, count) one.is)
-            ∙ ap (λ (l : List Entry). all_told l) (sym one.grown),
-        omega (arith, length-append recs (fields ∷ []), count),
-      );
-    }
-
--- a header
-pub loop-record-preserved : goal.loop-record-preserved
-loop-record-preserved c =
-    let inv = c.loop-record.invariant in
-    let (recs, behind, so_far, count) = inv.read in
-    let fields = fields_of c.read_record.new.raw in
-    let next = (rw c.if-branch.true at c.in_ok-read_record.ensures.ok) c.args.bytes.now recs behind in
-    let header : c.loop-record.rec + 1 ≤ c.headers-header.result = c.if-rec-header.false in
-    let le : length recs + 1 ≤ headers c.args.skip_first = omega (arith, header, count, inv.header) in
-    record {
-      header = inv.header;
-      last = inv.last;
-      few = omega (arith, header);
-      read = (recs ++ fields ∷ [], next, timed-header c.args.width c.args.skip_first recs fields le ∙ so_far, omega (arith, length-append recs (fields ∷ []), count));
-    }
-
-pub returns-in_err-add_timed_row-clause-fault : goal.returns-in_err-add_timed_row-clause-fault
-returns-in_err-add_timed_row-clause-fault c =
-    let inv = c.loop-record.invariant in
-    let (recs, behind, so_far, count) = inv.read in
-    let fields = fields_of c.read_record.new.raw in
-    let next = (rw c.if-branch.true at c.in_ok-read_record.ensures.ok) c.args.bytes.now recs behind in
-    let all = behind-first c.args.bytes.now (recs ++ fields ∷ []) c.read_record.new.rdr next in
-    let f = c.in_err-add_timed_row.field-0.0 in
-    let one = timed_in c.args.width (c.headers-header.result + 100000) (stamp_after (pos 0) c.loop-record.rows) (c.loop-record.rec + 1) fields in
-    let past : c.headers-header.result < c.loop-record.rec + 1 = c.if-rec-header.true in
-    let is_told : IsFaultTold one f = search rules in
-    let le : headers c.args.skip_first ≤ length recs = omega (arith, past, count, inv.header) in
-    let faulty : one ≡ Err f → timed_of c.args.bytes.now c.args.width c.args.skip_first ≡ Err f = λ is.
-    ap (timed_rows_in c.args.width c.args.skip_first) (all.1 ∙ append_assoc recs (fields ∷ []) all.0)
-    ∙ timed-fault c.args.width c.args.skip_first recs fields all.0 c.loop-record.rows f le so_far (rw (sym inv.last, count) is) in
-    let p = err_from_is_err_and c.from_residual-in_err-add_timed_row.result c.from_residual-in_err-add_timed_row.ensures.1 in
-    rw (p.1, p.2) (fault_passes one (timed_of c.args.bytes.now c.args.width c.args.skip_first) f is_told faulty)
+-- the reader stands before the first record of these bytes
+pub add_timed_records-requires-clause-first : goal.add_timed_records-requires-clause-first
+add_timed_records-requires-clause-first c = (c.args.bytes.now, c.reader_of-rdr.ensures)
 
 pub returns-clause-ok : goal.returns-clause-ok
-returns-clause-ok c =
-    let (recs, behind, so_far, count) = c.loop-record.invariant.read in
-    let all = (rw c.if-branch.false at c.in_ok-read_record.ensures.ok) c.args.bytes.now recs behind in
-    ap (timed_rows_in c.args.width c.args.skip_first) all ∙ so_far
+returns-clause-ok c = on_ok_weaker c.add_timed_records.result (λ all. all c.args.bytes.now c.reader_of-rdr.ensures) c.add_timed_records.ensures.ok
+
+pub returns-clause-fault : goal.returns-clause-fault
+returns-clause-fault c = IfErr-weaker c.add_timed_records.result _ _ (λ f told. told c.args.bytes.now c.reader_of-rdr.ensures) c.add_timed_records.ensures.fault

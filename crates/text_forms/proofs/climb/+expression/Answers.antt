@@ -1,8 +1,8 @@
-use Rattle.std.proofs.Common.{◌∙◌, ◌-◌, sym, arith}
+use Rattle.std.proofs.Common.{◌∙◌, ◌-◌, refl, sym, arith}
 use Rattle.text_forms.specs.ReadLevels.{ladder, within}
 use Rattle.text_forms.proofs.Climbs.{ladder-chain, ladder-once, ladder-prefix, chain-at, once-at, prefix-at, within-at, chained-grown, chained-failed, grown-deep, grown-taken}
 use Rattle.text_forms.proofs.Climbed.{ladder-zero, once-some, once-none, chain-end, prefix-zero, prefix-below, prefix-marked, base-zero, base-open, base-call, base-leaf}
-use Rattle.text_forms.proofs.Climbed.{grown-joined, closed-zero, closed-all, called-all}
+use Rattle.text_forms.proofs.Climbed.{grown-joined, closed-zero, closed-gives, called-all, made-gives}
 use Rattle.text_forms.proofs.climb.+expression.Goals as goal
 
 -- one operator more
@@ -76,7 +76,8 @@ prefix-returns-clause-reads g t c =
     let S = g.D.Dialect.syntax c.args.dialect.now in
     let leaf = g.D.Dialect.leaf c.args.dialect.now in
     let ts = g.R.TokenSource.rest c.args.reader.now in
-    prefix-marked S c.args.level (ladder S (leaf c.args.brackets) (within S leaf c.args.brackets) c.args.level) c.args.room ts _ _ _ _ _ (omega arith) (sym c.in-Some.ensures.found) c.in-Some.ensures.rest c.in_ok-inner.ensures.reads c.in_ok-tree.ensures
+    made-gives (λ m. g.D.Dialect.view m.tree) (S.mark c.in-Some.sign (g.D.Dialect.view c.in_ok-inner.inner.tree)) c.marked.result c.marked.ensures.reads
+    (prefix-marked S c.args.level (ladder S (leaf c.args.brackets) (within S leaf c.args.brackets) c.args.level) c.args.room ts _ _ _ _ _ (omega arith) (sym c.in-Some.ensures.found) c.in-Some.ensures.rest c.in_ok-inner.ensures.reads refl)
 
 -- below the first level
 pub base-returns-then-room-eq0-clause-reads : goal.base-returns-then-room-eq0-clause-reads
@@ -126,7 +127,8 @@ grown-returns-clause-reads g t c =
     let S = g.D.Dialect.syntax c.args.dialect.now in
     let leaf = g.D.Dialect.leaf c.args.dialect.now in
     let ts = g.R.TokenSource.rest c.args.reader.now in
-    grown-joined S (ladder S (leaf c.args.brackets) (within S leaf c.args.brackets) c.args.level (c.args.room - 1)) c.args.room c.args.op _ ts _ _ _ (omega arith) c.in_ok-right.ensures.reads c.in_ok-tree.ensures
+    made-gives (λ m. g.D.Dialect.view m.tree) (S.join c.args.op (g.D.Dialect.view c.args.left.tree) (g.D.Dialect.view c.in_ok-right.right.tree)) c.joined.result c.joined.ensures.reads
+    (grown-joined S (ladder S (leaf c.args.brackets) (within S leaf c.args.brackets) c.args.level (c.args.room - 1)) c.args.room c.args.op _ ts _ _ _ (omega arith) c.in_ok-right.ensures.reads refl)
 
 -- brackets
 pub enclosed-returns-then-brackets-eq0-clause-reads : goal.enclosed-returns-then-brackets-eq0-clause-reads
@@ -141,7 +143,7 @@ enclosed-returns-clause-reads g t c =
     let S = g.D.Dialect.syntax c.args.dialect.now in
     let leaf = g.D.Dialect.leaf c.args.dialect.now in
     let ts = g.R.TokenSource.rest c.args.reader.now in
-    closed-all S leaf c.args.brackets _ c.args.room ts _ _ _ (omega arith) c.height.ensures.all c.in_ok-inner.ensures.reads c.in_ok-expect.ensures
+    closed-gives S (λ m. g.D.Dialect.view m.tree) c.in_ok-inner.inner c.closing.result leaf c.args.brackets _ c.args.room ts _ _ (omega arith) c.height.ensures.all c.in_ok-inner.ensures.reads c.closing.ensures
 
 pub ladder-returns-in-Chain-clause-reads : goal.ladder-returns-in-Chain-clause-reads
 ladder-returns-in-Chain-clause-reads g t c =
@@ -177,9 +179,6 @@ prefix-returns-in_err-inner-clause-reads g t c = grind (arith, prefix-at)
 pub enclosed-returns-in_err-inner-clause-reads : goal.enclosed-returns-in_err-inner-clause-reads
 enclosed-returns-in_err-inner-clause-reads g t c = grind (arith, within-at)
 
-pub enclosed-returns-in_err-expect-clause-reads : goal.enclosed-returns-in_err-expect-clause-reads
-enclosed-returns-in_err-expect-clause-reads g t c = grind (arith, within-at)
-
 pub grown-returns-in_err-right-clause-reads : goal.grown-returns-in_err-right-clause-reads
 grown-returns-in_err-right-clause-reads g t c = grind (arith, grown-taken)
 
@@ -192,4 +191,5 @@ called-returns-clause-reads g t c =
     let S = g.D.Dialect.syntax c.args.dialect.now in
     let leaf = g.D.Dialect.leaf c.args.dialect.now in
     let ts = g.R.TokenSource.rest c.args.reader.now in
-    called-all S (within S leaf c.args.brackets) c.args.room ts _ _ c.args.sign _ _ c.in_ok-expect.ensures c.in_ok-inner.ensures.reads c.in_ok-tree.ensures
+    made-gives (λ m. g.D.Dialect.view m.tree) (S.mark c.args.sign (g.D.Dialect.view c.in_ok-inner.inner.tree)) c.marked.result c.marked.ensures.reads
+    (called-all S (within S leaf c.args.brackets) c.args.room ts _ _ c.args.sign _ _ c.in_ok-expect.ensures c.in_ok-inner.ensures.reads refl)
