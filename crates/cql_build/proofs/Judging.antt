@@ -18,7 +18,7 @@ use Rattle.cql_model.specs.declared.fault.Fault.TheVariants.{UnknownStream, Name
 use Rattle.cql_text.specs.declared.tree.Source.{Source}
 use Rattle.cql_build.specs.Knowing.{IsFound}
 use Rattle.cql_text.specs.Tree.{source_of, sources_of}
-use Rattle.cql_build.specs.Views.{named_item}
+use Rattle.cql_build.specs.Views.{named_item, scope}
 use Rattle.cql_build.specs.declared.item.Item.{Item}
 use Rattle.cql_build.proofs.Lists.{take_next, drop_next}
 
@@ -102,19 +102,22 @@ pub record IsGood (ks : List Named) (scope : List Named) (i : tree.Source) : Typ
   pub rows : is_rows_fault i.window ≡ false
   pub new : nat_lt 0 (count (item_named ks i).name (known_names scope)) ≡ false
 
+passes_not : (b : Bool) (f : Fault) (rest : Option Fault) → b ≡ true → then_fault (fault_if b f) rest ≡ Some f
+passes_not b f rest e = ap (λ c. then_fault (fault_if c f) rest) e
+
+known_some : (n : ℕ) → 0 < n → nat_eq n 0 ≡ false
+known_some n lt = grind (arith, lt)
+
+few_left : (n : ℕ) → n < 4 → nat_lt 3 n ≡ false
+few_left n lt = grind (arith, lt)
+
 product_left : (ks scope : List Named) (i : tree.Source) → IsGood ks scope i
     → item_fault ks scope i ≡ fault_if (nat_lt 16 (widths_of (scope ++ item_named ks i ∷ []))) Limit
 product_left ks scope i g =
-    passes (nat_eq (count i.stream (known_names ks)) 0) UnknownStream _ (some (count i.stream (known_names ks)) g.known)
-    ∙ passes (nat_lt 3 (length scope)) Limit _ (small (length scope) g.few)
+    passes (nat_eq (count i.stream (known_names ks)) 0) UnknownStream _ (known_some (count i.stream (known_names ks)) g.known)
+    ∙ passes (nat_lt 3 (length scope)) Limit _ (few_left (length scope) g.few)
     ∙ passes (is_rows_fault i.window) Limit _ g.rows
     ∙ passes (nat_lt 0 (count (item_named ks i).name (known_names scope))) NameTwice _ g.new
-  where
-    some : (n : ℕ) → 0 < n → nat_eq n 0 ≡ false
-    some n lt = grind (arith, lt)
-
-    small : (n : ℕ) → n < 4 → nat_lt 3 n ≡ false
-    small n lt = grind (arith, lt)
 
 -- the product with it is not too wide
 pub item_good : (ks scope : List Named) (i : tree.Source) (width : ℕ) (fields : List Name) → IsGood ks scope i → width ≡ widths_of scope → width ≤ 16
@@ -141,6 +144,39 @@ item_wide ks scope i width fields g w low f lt =
     wide : (n : ℕ) → 16 < n → nat_lt 16 n ≡ true
     wide n lt = grind (arith, lt)
 
+-- an item of a stream that is not known
+pub item_unknown : (ks scope : List Named) (i : tree.Source) → count i.stream (known_names ks) ≡ 0 → item_fault ks scope i ≡ Some UnknownStream
+item_unknown ks scope i h = passes_not (nat_eq (count i.stream (known_names ks)) 0) UnknownStream _ (none (count i.stream (known_names ks)) h) where
+  none : (n : ℕ) → n ≡ 0 → nat_eq n 0 ≡ true
+  none n e = grind (arith, e)
+
+-- a fifth item
+pub item_fifth : (ks scope : List Named) (i : tree.Source) → 0 < count i.stream (known_names ks) → 4 ≤ length scope → item_fault ks scope i ≡ Some Limit
+item_fifth ks scope i known four =
+    passes (nat_eq (count i.stream (known_names ks)) 0) UnknownStream _ (known_some (count i.stream (known_names ks)) known)
+    ∙ passes_not (nat_lt 3 (length scope)) Limit _ (none_left (length scope) four)
+  where
+    none_left : (n : ℕ) → 4 ≤ n → nat_lt 3 n ≡ true
+    none_left n le = grind (arith, le)
+
+-- one of too few or too many rows
+pub item_rows : (ks scope : List Named) (i : tree.Source) → 0 < count i.stream (known_names ks) → length scope < 4 → is_rows_fault i.window ≡ true
+    → item_fault ks scope i ≡ Some Limit
+item_rows ks scope i known few rows =
+    passes (nat_eq (count i.stream (known_names ks)) 0) UnknownStream _ (known_some (count i.stream (known_names ks)) known)
+    ∙ passes (nat_lt 3 (length scope)) Limit _ (few_left (length scope) few)
+    ∙ passes_not (is_rows_fault i.window) Limit _ rows
+
+-- one of a name that is given already
+pub item_twice : (ks scope : List Named) (i : tree.Source) → 0 < count i.stream (known_names ks) → length scope < 4 → is_rows_fault i.window ≡ false
+    → nat_lt 0 (count (item_named ks i).name (known_names scope)) ≡ true
+    → item_fault ks scope i ≡ Some NameTwice
+item_twice ks scope i known few rows twice =
+    passes (nat_eq (count i.stream (known_names ks)) 0) UnknownStream _ (known_some (count i.stream (known_names ks)) known)
+    ∙ passes (nat_lt 3 (length scope)) Limit _ (few_left (length scope) few)
+    ∙ passes (is_rows_fault i.window) Limit _ rows
+    ∙ passes_not (nat_lt 0 (count (item_named ks i).name (known_names scope))) NameTwice _ twice
+
 -- as many items as there are sources
 pub scope_length : (ks : List Named) (xs : List Source) → length (scope_of ks (sources_of xs)) ≡ length xs
 scope_length ks [] = refl
@@ -165,6 +201,21 @@ scope_next ks all i x lt e =
     ap (λ l. scope_of ks (sources_of l)) (take_next all i x lt e)
     ∙ ap (scope_of ks) (sources-append (take i all) x)
     ∙ map-append (item_named ks) (sources_of (take i all)) (source_of x ∷ [])
+
+-- the item of one source more
+pub items_next : (ks : List Named) (all : List Source) (i : ℕ) (x : Source) (items items' : List Item) (m : Item) → i < length all → x ≡ get_or all i x
+    → scope items ≡ scope_of ks (sources_of (take i all)) → items' ≡ items ++ m ∷ [] → named_item m ≡ item_named ks (source_of x)
+    → scope items' ≡ scope_of ks (sources_of (take (i + 1) all))
+items_next ks all i x items items' m lt e s p n =
+    ap scope p
+    ∙ map-append named_item items (m ∷ [])
+    ∙ ap (λ l. l ++ named_item m ∷ []) s
+    ∙ ap (λ y. scope_of ks (sources_of (take i all)) ++ y ∷ []) n
+    ∙ sym (scope_next ks all i x lt e)
+
+-- before the first item
+pub items_start : (ks : List Named) (all : List Source) → SoFar ks all 0 0
+items_start ks all = record { whole = refl; width = refl }
 
 -- one item more, without a fault
 pub item_next : (ks : List Named) (all : List Source) (i wide wider : ℕ) (x : Source) → SoFar ks all i wide → i < length all → x ≡ get_or all i x

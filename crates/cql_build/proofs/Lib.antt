@@ -6,3 +6,5 @@ pub mod MadeNames
 pub mod FieldPlaces
 pub mod Units
 pub mod Filled
+pub mod Kernels
+pub mod Noting

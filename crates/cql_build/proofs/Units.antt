@@ -1,5 +1,5 @@
 -- Units that are judged one after another.
-use Rattle.std.proofs.Common.{◌≡◌, ℕ, ◌+◌, ◌<◌, List, [], ◌∷◌, length, drop, get_or, Some, None, refl, sym, ap, ◌∙◌, arith}
+use Rattle.std.proofs.Common.{◌≡◌, ℕ, ◌+◌, ◌<◌, ◌≤◌, List, [], ◌∷◌, length, drop, get_or, Some, None, refl, sym, ap, ◌∙◌, arith}
 use Rattle.cql_model.specs.Faults.{in_unit, query_fault, first_fault}
 use Rattle.cql_text.specs.Tree as tree
 use Rattle.cql_text.specs.Tree.{Register, AQuery, Program}
@@ -54,3 +54,8 @@ pub judging_fault : (parts : List Part) (i many : ℕ) (k : Known) (p : Part) (f
     → Some f ≡ unit_fault j.ks many (part_of p) → Some (record { unit = i + 1; fault = f }) ≡ first_fault [] 0 1 (parts_of parts)
 judging_fault parts i many k p f j lt e some =
     sym (at_unit parts i many k p j lt e ∙ ap (λ o. in_unit (i + 1) o (first_fault (declares j.ks (part_of p) ∷ j.ks) (many + registers (part_of p)) (i + 1 + 1) (parts_of (drop (i + 1) parts)))) (sym some))
+
+-- a unit registers one stream at most
+pub registers_few : (p : tree.Part) → registers p ≤ 1
+registers_few (Register name fields) = omega arith
+registers_few (AQuery q) = omega arith

@@ -64,10 +64,11 @@ pub(crate) fn windows(
     ensures used { OnOk result (Used uses.old uses.new (streams_of (sources_of sources.now))) }
 {
     for i in 0..sources.len() {
+        let source = &sources[i];
         let name = marked(alloc, query, Mark::Window(i + 1))?;
         let kind = relation(items[i].fields.len());
-        let from = uses.source(alloc, sources[i].stream)?;
-        window(alloc, raw, name, kind, &sources[i], from)?;
+        let from = uses.source(alloc, source.stream)?;
+        window(alloc, raw, name, kind, source, from)?;
     }
     Ok(())
 }

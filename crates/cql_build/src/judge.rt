@@ -35,11 +35,12 @@ fn fault_among(
 {
     let mut many = 0;
     for i in 0..parts.len() {
-        if let Some(fault) = known.unit_fault(alloc, many, &parts[i])? {
+        let part = &parts[i];
+        if let Some(fault) = known.unit_fault(alloc, many, part)? {
             return Ok(Some(Refusal { unit: i + 1, fault }));
         }
-        many += registers(&parts[i]);
-        known.add(alloc, &parts[i])?;
+        many += registers(part);
+        known.add(alloc, part)?;
     }
     Ok(None)
 }

@@ -71,7 +71,17 @@ fn at_place(place: Option<usize>) -> Expr
     }
 }
 
+// A value over the joined row of these items, in a box.
+#[cycle(resolve)]
+fn boxed(alloc: Global, items: &[Item<'_>], value: &Scalar) -> Result<Box<Expr>, NoMemory>
+    requires { widths_of (scope items.now) ≤ 16 }
+    ensures { IfOk result (λ boxed. term boxed.value ≡ resolved (scope items.now) (scalar value.now)) }
+{
+    Ok(Box::new(alloc, resolve(alloc, items, value)?)?)
+}
+
 /// A value over the joined row of these items.
+#[cycle(resolve)]
 pub(crate) fn resolve(alloc: Global, items: &[Item<'_>], value: &Scalar) -> Result<Expr, NoMemory>
     requires { widths_of (scope items.now) ≤ 16 }
     ensures { IfOk result (λ e. term e ≡ resolved (scope items.now) (scalar value.now)) }
@@ -80,19 +90,11 @@ pub(crate) fn resolve(alloc: Global, items: &[Item<'_>], value: &Scalar) -> Resu
         Scalar::Number(number) => Ok(Expr::Const(number.value as i64)),
         Scalar::Field(field) => Ok(at_place(field_place(items, *field))),
         Scalar::ItemField(item, field) => Ok(at_place(item_place(items, *item, *field))),
-        Scalar::Neg(inner) => {
-            let inner = resolve(alloc, items, inner)?;
-            Ok(Expr::Neg(Box::new(alloc, inner)?))
-        }
-        Scalar::Not(inner) => {
-            let inner = resolve(alloc, items, inner)?;
-            Ok(Expr::Not(Box::new(alloc, inner)?))
-        }
+        Scalar::Neg(inner) => Ok(Expr::Neg(boxed(alloc, items, inner)?)),
+        Scalar::Not(inner) => Ok(Expr::Not(boxed(alloc, items, inner)?)),
         Scalar::Bin { op, left, right } => {
-            let left = resolve(alloc, items, left)?;
-            let left = Box::new(alloc, left)?;
-            let right = resolve(alloc, items, right)?;
-            let right = Box::new(alloc, right)?;
+            let left = boxed(alloc, items, left)?;
+            let right = boxed(alloc, items, right)?;
             Ok(Expr::Bin {
                 op: oper_of(*op),
                 left,

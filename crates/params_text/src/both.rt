@@ -10,7 +10,7 @@ use crate::step::steps;
 use crate::{ParamSplit, ParamSplitJoin, Rounds, Steps};
 use std::alloc::Global;
 use streamit_text::parens;
-use text_forms::{Fault, Reader, closed};
+use text_forms::{Fault, Reader, closed, is};
 use work_text::Symbol;
 
 // What stands behind `split`.
@@ -23,11 +23,11 @@ fn split_after(
 ) -> Result<ParamSplit, Fault>
     ensures { Gives dealing_of result reader.new (split_after brackets word.now reader.old) }
 {
-    if word == b"duplicate".as_slice() {
+    if is(word, b"duplicate") {
         parens(reader, brackets)?;
         return Ok(ParamSplit::Duplicate);
     }
-    if word == b"roundrobin".as_slice() {
+    if is(word, b"roundrobin") {
         let weights = constants(reader, alloc, brackets)?;
         return Ok(ParamSplit::RoundRobin(Rounds { weights }));
     }
@@ -42,8 +42,7 @@ fn split(reader: &mut Reader<'_>, alloc: Global, brackets: u32) -> Result<ParamS
     reader.word(b"split")?;
     let word = reader.name()?;
     let split = split_after(reader, alloc, brackets, word)?;
-    reader.expect(&[Symbol::Semicolon])?;
-    Ok(split)
+    closed(reader, split, Symbol::Semicolon)
 }
 
 // `join roundrobin ..;`
@@ -54,8 +53,7 @@ fn join(reader: &mut Reader<'_>, alloc: Global, brackets: u32) -> Result<Rounds,
     reader.word(b"join")?;
     reader.word(b"roundrobin")?;
     let weights = constants(reader, alloc, brackets)?;
-    reader.expect(&[Symbol::Semicolon])?;
-    Ok(Rounds { weights })
+    closed(reader, Rounds { weights }, Symbol::Semicolon)
 }
 
 // The splitter, the steps, and the joiner.

@@ -11,7 +11,7 @@ use river_base::Name;
 use std::alloc::Global;
 use streamit_text::{Expr, Plain, Streamit, is_still, name};
 use text_blocks::term;
-use text_forms::{Fault, Reader};
+use text_forms::{Fault, Reader, closed};
 use work_text::Symbol;
 
 /// An expression without `push`, `pop` and `peek`.
@@ -74,8 +74,7 @@ fn round_params(reader: &mut Reader<'_>, alloc: Global, brackets: u32) -> Result
     } else {
         some_params(reader, alloc)?
     };
-    reader.expect(&[Symbol::Close])?;
-    Ok(list)
+    closed(reader, list, Symbol::Close)
 }
 
 /// Parameters in brackets, or no brackets.
@@ -118,8 +117,7 @@ fn round_constants(
     } else {
         some_constants(reader, alloc, inner)?
     };
-    reader.expect(&[Symbol::Close])?;
-    Ok(list)
+    closed(reader, list, Symbol::Close)
 }
 
 /// Constants in brackets, or no brackets.

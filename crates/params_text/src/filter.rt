@@ -1,13 +1,14 @@
 // Filters read.
-ghost use Rattle.std.specs.Prelude.{◌≡◌, Some};
+ghost use Rattle.std.specs.Prelude.{◌≡◌, Some, codes};
 ghost use Rattle.text_blocks.specs.Parts.{optional};
-ghost use Rattle.text_forms.specs.Gives.{Gives};
+ghost use Rattle.text_forms.specs.Gives.{Gives, Makes};
+ghost use Rattle.text_forms.specs.Parse.{after_word};
 ghost use Rattle.streamit_text.specs.Tree.{expression, option_expression, block, optional_block};
-ghost use Rattle.params_text.specs.Grammar.{fresh, with_rate};
+ghost use Rattle.params_text.specs.Grammar.{fresh, unwritten, with_rate};
 ghost use Rattle.params_text.specs.Program.{work_of, filter_of};
 ghost use Rattle.params_text.specs.Reading.{rate_after, rate_at, rates_at, statements_at, block_at, still_at, init_at, work_at, prework_at, works_at};
 ghost use Rattle.params_text.specs.Reading.{in_filter_at, filter_at};
-ghost use Rattle.params_text.specs.View.{rate_of, rates_of, option_rates, both_works};
+ghost use Rattle.params_text.specs.View.{rate_of, rates_of, both_works};
 
 use crate::constant::constant;
 use crate::low::low;
@@ -16,7 +17,7 @@ use crate::{ParamFilter, ParamRates, ParamWork};
 use river_base::Name;
 use std::alloc::Global;
 use streamit_text::{Block, Expr, Streamit, fields, stay};
-use text_forms::{Fault, Reader, closed};
+use text_forms::{Fault, Reader, closed, is};
 use work_text::Symbol;
 
 // A rate that is written.
@@ -37,13 +38,13 @@ fn rate_after(
 ) -> Result<Rate, Fault>
     ensures { Gives rate_of result reader.new (rate_after brackets word.now reader.old) }
 {
-    if word == b"push".as_slice() {
+    if is(word, b"push") {
         return Ok(Rate::Push(constant(reader, alloc, brackets)?));
     }
-    if word == b"pop".as_slice() {
+    if is(word, b"pop") {
         return Ok(Rate::Pop(constant(reader, alloc, brackets)?));
     }
-    if word == b"peek".as_slice() {
+    if is(word, b"peek") {
         return Ok(Rate::Peek(constant(reader, alloc, brackets)?));
     }
     Err(Fault::Syntax)
@@ -58,39 +59,47 @@ fn one_rate(reader: &mut Reader<'_>, alloc: Global, brackets: u32) -> Result<Rat
     rate_after(reader, alloc, brackets, word)
 }
 
-// A rate that is not written yet, as it is written now.
-fn fresh(old: Option<Expr>, new: Expr) -> Option<Option<Expr>>
-    ensures { optional option_expression result ≡ fresh (option_expression old) (Some (expression new)) }
+// A rate that is written now, and may not be written yet.
+fn write(place: &mut Option<Expr>, new: Expr) -> Result<(), Fault>
+    ensures { Makes (λ _. option_expression place.new) result (fresh (option_expression place.old) (Some (expression new))) }
 {
-    match old {
-        None => Some(Some(new)),
-        Some(_) => None,
+    if place.is_some() {
+        return Err(Fault::Syntax);
+    }
+    *place = Some(new);
+    Ok(())
+}
+
+// One rate more, which may not be among them yet.
+fn note(rates: &mut ParamRates, rate: Rate) -> Result<(), Fault>
+    ensures { Makes (λ _. rates_of rates.new) result (with_rate (rates_of rates.old) (rate_of rate)) }
+{
+    match rate {
+        Rate::Push(c) => write(&mut rates.push, c),
+        Rate::Pop(c) => write(&mut rates.pop, c),
+        Rate::Peek(c) => write(&mut rates.peek, c),
     }
 }
 
-// The rates with one more, which may not be among them yet.
-fn with_rate(rates: ParamRates, rate: Rate) -> Option<ParamRates>
-    ensures { option_rates result ≡ with_rate (rates_of rates) (rate_of rate) }
+// The rates, each of them once at most, where none is written yet.
+#[tactic(auto, using(crate::proofs::RateSteps::rates))]
+fn all_rates(
+    reader: &mut Reader<'_>,
+    alloc: Global,
+    brackets: u32,
+    rates: &mut ParamRates,
+) -> Result<(), Fault>
+    requires { rates_of rates.old ≡ unwritten }
+    ensures { Gives (λ _. rates_of rates.new) result reader.new (rates_at brackets reader.old) }
 {
-    let ParamRates { push, pop, peek } = rates;
-    match rate {
-        Rate::Push(c) => {
-            let push = fresh(push, c)?;
-            Some(ParamRates { push, pop, peek })
-        }
-        Rate::Pop(c) => {
-            let pop = fresh(pop, c)?;
-            Some(ParamRates { push, pop, peek })
-        }
-        Rate::Peek(c) => {
-            let peek = fresh(peek, c)?;
-            Some(ParamRates { push, pop, peek })
-        }
+    'items: while !reader.is_at(Symbol::OpenBrace) {
+        let rate = one_rate(reader, alloc, brackets)?;
+        note(rates, rate)?;
     }
+    Ok(())
 }
 
 // The rates, each of them once at most.
-#[tactic(auto, using(crate::proofs::RateSteps::rates))]
 fn rates(reader: &mut Reader<'_>, alloc: Global, brackets: u32) -> Result<ParamRates, Fault>
     ensures { Gives rates_of result reader.new (rates_at brackets reader.old) }
 {
@@ -99,13 +108,7 @@ fn rates(reader: &mut Reader<'_>, alloc: Global, brackets: u32) -> Result<ParamR
         pop: None,
         peek: None,
     };
-    'items: while !reader.is_at(Symbol::OpenBrace) {
-        let rate = one_rate(reader, alloc, brackets)?;
-        match with_rate(rates, rate) {
-            Some(more) => rates = more,
-            None => return Err(Fault::Syntax),
-        }
-    }
+    all_rates(reader, alloc, brackets, &mut rates)?;
     Ok(rates)
 }
 
@@ -212,6 +215,19 @@ fn prework(
     Ok(Some(work(reader, alloc, params, brackets)?))
 }
 
+// `work`, its rates and its block.
+fn main_work(
+    reader: &mut Reader<'_>,
+    alloc: Global,
+    params: &[Name],
+    brackets: u32,
+) -> Result<ParamWork, Fault>
+    ensures { Gives work_of result reader.new (after_word (codes "work") (work_at params.now brackets) reader.old) }
+{
+    reader.word(b"work")?;
+    work(reader, alloc, params, brackets)
+}
+
 // `prework`, which may be left out, and `work`.
 #[tactic(auto, unfolding(crate::specs::Reading::works_at))]
 fn works(
@@ -223,8 +239,7 @@ fn works(
     ensures { Gives both_works result reader.new (works_at params.now brackets reader.old) }
 {
     let prework = prework(reader, alloc, params, brackets)?;
-    reader.word(b"work")?;
-    let work = work(reader, alloc, params, brackets)?;
+    let work = main_work(reader, alloc, params, brackets)?;
     Ok((prework, work))
 }
 

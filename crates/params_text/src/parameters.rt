@@ -8,7 +8,7 @@ ghost use Rattle.params_text.specs.Params.{is_one_of};
 
 use river_base::Name;
 use streamit_text::{Expr, Leaves, own, pop};
-use text_forms::{Fault, Reader};
+use text_forms::{Fault, Reader, is};
 use work_text::Token;
 
 /// StreamIt's leaves, where a name that is one of these parameters counts as one open bracket.
@@ -65,7 +65,7 @@ fn named_with(
     ensures reads { Gives expression result reader.new (named_with names.now brackets text.now reader.old) }
     ensures depth { IfOk result (λ e. depth_of (expression e) ≡ 1) }
 {
-    if text == b"pop".as_slice() {
+    if is(text, b"pop") {
         return pop(reader, brackets);
     }
     match own(text) {

@@ -13,7 +13,7 @@ use river_base::{Name, NoMemory};
 use std::alloc::Global;
 use streamit_text::{Expr, ForHead, Plain, Streamit, is_still, round_head};
 use text_blocks::{Blocks, Opening, rest};
-use text_forms::{Fault, Reader};
+use text_forms::{Fault, Reader, closed, is};
 use work_text::Symbol;
 
 /// Steps, for the reader of the statements of any language.
@@ -40,8 +40,7 @@ fn add(reader: &mut Reader<'_>, alloc: Global, brackets: u32) -> Result<Step, Fa
 {
     let name = stream_name(reader)?;
     let args = constants(reader, alloc, brackets)?;
-    reader.expect(&[Symbol::Semicolon])?;
-    Ok(added(alloc, name, args))
+    closed(reader, added(alloc, name, args), Symbol::Semicolon)
 }
 
 // The head of a loop of steps, behind `for`.
@@ -98,7 +97,7 @@ impl Blocks for StepWords {
     fn opening(&self, word: &[u8]) -> Opening
         ensures { result ≡ opening word.now }
     {
-        if word == b"for".as_slice() {
+        if is(word, b"for") {
             Opening::Loop
         } else {
             Opening::Plain
@@ -136,7 +135,7 @@ impl Blocks for StepWords {
     ) -> Result<Step, Fault>
         ensures { Gives step_of result reader.new (step_after brackets word.now reader.old) }
     {
-        if word == b"add".as_slice() {
+        if is(word, b"add") {
             add(reader, alloc, brackets)
         } else {
             Err(Fault::Syntax)

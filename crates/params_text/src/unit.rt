@@ -11,7 +11,7 @@ use crate::step::pipe;
 use crate::{ParamBody, ParamUnit};
 use river_base::Name;
 use std::alloc::Global;
-use text_forms::{Fault, Reader, Units};
+use text_forms::{Fault, Reader, Units, is};
 use work_text::Symbol;
 
 // What stands behind the name and the parameters of a stream of this kind.
@@ -25,13 +25,13 @@ fn body_after(
 ) -> Result<ParamBody, Fault>
     ensures { Gives body_of result reader.new (body_after brackets word.now params.now reader.old) }
 {
-    if word == b"filter".as_slice() {
+    if is(word, b"filter") {
         return Ok(ParamBody::Filter(filter(reader, alloc, params, brackets)?));
     }
-    if word == b"pipeline".as_slice() {
+    if is(word, b"pipeline") {
         return Ok(ParamBody::Pipeline(pipe(reader, alloc, brackets)?));
     }
-    if word == b"splitjoin".as_slice() {
+    if is(word, b"splitjoin") {
         return Ok(ParamBody::SplitJoin(both(reader, alloc, brackets)?));
     }
     Err(Fault::Syntax)

@@ -1,7 +1,7 @@
 // The operators of filters, splitters and joiners.
 ghost use Rattle.std.specs.Prelude.{◌≡◌, ◌≤◌, IfOk, [], ◌∷◌, codes, length};
 ghost use Rattle.kern_rows.specs.Forms.{filter_form};
-ghost use Rattle.river_kernels.specs.Kern.{filter, duplicate, deal};
+ghost use Rattle.river_kernels.specs.Kern.{filter, duplicate, deal, collect};
 ghost use Rattle.river_plan.specs.Forms.{op_form};
 ghost use Rattle.streamit_model.specs.Build.{numbered, queues, with_own, weights, splitter, joiner};
 ghost use Rattle.streamit_build.specs.Units.{splitter_form};
@@ -28,10 +28,24 @@ pub fn filter_op(
     let label = numbered(alloc, name.as_slice(), number)?;
     let reads = one(alloc, from)?;
     let writes = one(alloc, to)?;
+    filtering(alloc, label, body, reads, writes)
+}
+
+// The operator that runs this filter.
+fn filtering(
+    alloc: Global,
+    label: Name,
+    body: &Filter,
+    reads: Names,
+    writes: Names,
+) -> Result<Op, NoMemory>
+    ensures { IfOk result (λ op. op_form op ≡ with_own label (filter (filter_form body.now)) reads writes) }
+{
     let vars = one(alloc, label)?;
+    let copy = body.copy(alloc)?;
     Ok(Op {
         label,
-        kernel: Kernel::Filter(body.copy(alloc)?),
+        kernel: Kernel::Filter(copy),
         reads,
         writes,
         vars,
@@ -108,8 +122,21 @@ pub fn join_op(
     let label = numbered(alloc, b"join", number)?;
     let reads = queues(alloc, k, n)?;
     let writes = one(alloc, to)?;
+    collecting(alloc, label, join.as_slice(), reads, writes)
+}
+
+// The operator that collects items from queues by weights.
+fn collecting(
+    alloc: Global,
+    label: Name,
+    shares: &[u32],
+    reads: Names,
+    writes: Names,
+) -> Result<Op, NoMemory>
+    ensures { IfOk result (λ op. op_form op ≡ with_own label (collect (weights shares.now)) reads writes) }
+{
     let vars = one(alloc, label)?;
-    let weights = weights(alloc, join.as_slice())?;
+    let weights = weights(alloc, shares)?;
     Ok(Op {
         label,
         kernel: Kernel::Collect(weights),

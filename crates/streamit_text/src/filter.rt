@@ -1,6 +1,7 @@
 // Filters read.
-ghost use Rattle.std.specs.Prelude.{◌≡◌};
+ghost use Rattle.std.specs.Prelude.{◌≡◌, codes};
 ghost use Rattle.text_forms.specs.Gives.{Gives};
+ghost use Rattle.text_forms.specs.Parse.{after_word};
 ghost use Rattle.streamit_text.specs.Grammar.{with_rate};
 ghost use Rattle.text_blocks.specs.Parts.{optional};
 ghost use Rattle.streamit_text.specs.Program.{work_tree, filter_tree};
@@ -14,7 +15,7 @@ use crate::still::stay;
 use crate::{Block, FilterTree, Rates, WorkTree};
 use river_base::Name;
 use std::alloc::Global;
-use text_forms::{Fault, Reader};
+use text_forms::{Fault, Reader, closed, is};
 use work_text::Symbol;
 
 // `int NAME;`
@@ -24,8 +25,7 @@ fn field(reader: &mut Reader<'_>) -> Result<Name, Fault>
 {
     reader.word(b"int")?;
     let name = name(reader)?;
-    reader.expect(&[Symbol::Semicolon])?;
-    Ok(name)
+    closed(reader, name, Symbol::Semicolon)
 }
 
 /// The fields of a filter: `int NAME;` as often as it comes.
@@ -53,13 +53,13 @@ enum Rate {
 fn rate_after(reader: &mut Reader<'_>, word: &[u8]) -> Result<Rate, Fault>
     ensures { Gives rate_of result reader.new (rate_after word.now reader.old) }
 {
-    if word == b"push".as_slice() {
+    if is(word, b"push") {
         return Ok(Rate::Push(reader.count()?));
     }
-    if word == b"pop".as_slice() {
+    if is(word, b"pop") {
         return Ok(Rate::Pop(reader.count()?));
     }
-    if word == b"peek".as_slice() {
+    if is(word, b"peek") {
         return Ok(Rate::Peek(reader.count()?));
     }
     Err(Fault::Syntax)
@@ -162,6 +162,14 @@ fn prework(reader: &mut Reader<'_>, alloc: Global, brackets: u32) -> Result<Opti
     Ok(Some(work(reader, alloc, brackets)?))
 }
 
+// `work`, its rates and its block.
+fn main_work(reader: &mut Reader<'_>, alloc: Global, brackets: u32) -> Result<WorkTree, Fault>
+    ensures { Gives work_tree result reader.new (after_word (codes "work") (work_at brackets) reader.old) }
+{
+    reader.word(b"work")?;
+    work(reader, alloc, brackets)
+}
+
 // `prework`, which may be left out, and `work`.
 #[tactic(auto, unfolding(crate::specs::Reading::works_at))]
 fn works(
@@ -172,8 +180,7 @@ fn works(
     ensures { Gives works_tree result reader.new (works_at brackets reader.old) }
 {
     let prework = prework(reader, alloc, brackets)?;
-    reader.word(b"work")?;
-    let work = work(reader, alloc, brackets)?;
+    let work = main_work(reader, alloc, brackets)?;
     Ok((prework, work))
 }
 
@@ -200,6 +207,5 @@ pub fn filter(reader: &mut Reader<'_>, alloc: Global, brackets: u32) -> Result<F
 {
     let inner = reader.opens(Symbol::OpenBrace, brackets)?;
     let filter = in_filter(reader, alloc, inner)?;
-    reader.expect(&[Symbol::CloseBrace])?;
-    Ok(filter)
+    closed(reader, filter, Symbol::CloseBrace)
 }

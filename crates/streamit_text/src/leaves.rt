@@ -9,7 +9,7 @@ ghost use Rattle.streamit_text.specs.Tree.{Expression, expression, depth_of};
 
 use crate::Expr;
 use crate::names::own;
-use text_forms::{Fault, Reader};
+use text_forms::{Fault, Reader, is};
 use work_text::{Symbol, Token};
 
 /// The leaves of StreamIt's expressions, or of those of a language that has others.
@@ -48,7 +48,7 @@ fn named_leaf(reader: &mut Reader<'_>, brackets: u32, text: &[u8]) -> Result<Exp
     ensures reads { Gives expression result reader.new (named_leaf brackets text.now reader.old) }
     ensures depth { IfOk result (λ e. depth_of (expression e) ≡ 1) }
 {
-    if text == b"pop".as_slice() {
+    if is(text, b"pop") {
         return pop(reader, brackets);
     }
     match own(text) {

@@ -11,7 +11,7 @@ use crate::Adds;
 use crate::statement::empty;
 use river_base::Name;
 use std::alloc::Global;
-use text_forms::{Fault, Reader, is_free};
+use text_forms::{Fault, Reader, closed, is_free};
 use work_text::Symbol;
 
 const KEYWORDS: &[&[u8]] = &[
@@ -96,8 +96,7 @@ fn add(reader: &mut Reader<'_>, brackets: u32) -> Result<Name, Fault>
 {
     reader.word(b"add")?;
     let name = called(reader, brackets)?;
-    reader.expect(&[Symbol::Semicolon])?;
-    Ok(name)
+    closed(reader, name, Symbol::Semicolon)
 }
 
 // As often as `add` comes.
@@ -129,6 +128,5 @@ pub fn pipe(reader: &mut Reader<'_>, alloc: Global, brackets: u32) -> Result<Add
 {
     let inner = reader.opens(Symbol::OpenBrace, brackets)?;
     let adds = adds(reader, alloc, inner)?;
-    reader.expect(&[Symbol::CloseBrace])?;
-    Ok(adds)
+    closed(reader, adds, Symbol::CloseBrace)
 }

@@ -8,7 +8,7 @@ ghost use Rattle.streamit_text.specs.View.{split_join_of};
 use crate::names::{adds, parens};
 use crate::{RoundRobin, Split, SplitJoin};
 use std::alloc::Global;
-use text_forms::{Fault, Reader};
+use text_forms::{Fault, Reader, closed, is};
 use work_text::Symbol;
 
 // A weight.
@@ -48,8 +48,7 @@ fn listed(reader: &mut Reader<'_>, alloc: Global, brackets: u32) -> Result<Vec<u
     } else {
         some_weights(reader, alloc)?
     };
-    reader.expect(&[Symbol::Close])?;
-    Ok(list)
+    closed(reader, list, Symbol::Close)
 }
 
 // Weights in brackets, or no brackets.
@@ -76,11 +75,11 @@ fn split_after(
 ) -> Result<Split, Fault>
     ensures { Gives dealing_of result reader.new (split_after brackets word.now reader.old) }
 {
-    if word == b"duplicate".as_slice() {
+    if is(word, b"duplicate") {
         parens(reader, brackets)?;
         return Ok(Split::Duplicate);
     }
-    if word == b"roundrobin".as_slice() {
+    if is(word, b"roundrobin") {
         return Ok(Split::RoundRobin(weights(reader, alloc, brackets)?));
     }
     Err(Fault::Syntax)
@@ -94,8 +93,7 @@ fn split(reader: &mut Reader<'_>, alloc: Global, brackets: u32) -> Result<Split,
     reader.word(b"split")?;
     let word = reader.name()?;
     let split = split_after(reader, alloc, brackets, word)?;
-    reader.expect(&[Symbol::Semicolon])?;
-    Ok(split)
+    closed(reader, split, Symbol::Semicolon)
 }
 
 // `join roundrobin ..;`
@@ -106,8 +104,7 @@ fn join(reader: &mut Reader<'_>, alloc: Global, brackets: u32) -> Result<RoundRo
     reader.word(b"join")?;
     reader.word(b"roundrobin")?;
     let join = weights(reader, alloc, brackets)?;
-    reader.expect(&[Symbol::Semicolon])?;
-    Ok(join)
+    closed(reader, join, Symbol::Semicolon)
 }
 
 // The splitter, what is added, and the joiner.
@@ -128,6 +125,5 @@ pub fn both(reader: &mut Reader<'_>, alloc: Global, brackets: u32) -> Result<Spl
 {
     let inner = reader.opens(Symbol::OpenBrace, brackets)?;
     let all = in_both(reader, alloc, inner)?;
-    reader.expect(&[Symbol::CloseBrace])?;
-    Ok(all)
+    closed(reader, all, Symbol::CloseBrace)
 }

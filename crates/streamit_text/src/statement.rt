@@ -15,7 +15,7 @@ use crate::{Block, Expr, Leaves, Plain, Statement, Until};
 use river_base::{Name, NoMemory};
 use std::alloc::Global;
 use text_blocks::{Blocks, Opening, ended, first_value, round};
-use text_forms::{Fault, Reader, closed};
+use text_forms::{Fault, Reader, closed, is};
 use work_text::Symbol;
 
 /// `()`
@@ -97,13 +97,13 @@ fn plain<L: Leaves>(
 ) -> Result<Statement, Fault>
     ensures { Gives statement result reader.new (plain_at (expr_at (L.leaf language.now.leaves)) brackets word.now reader.old) }
 {
-    if word == b"int".as_slice() {
+    if is(word, b"int") {
         return declare(language, reader, alloc, brackets);
     }
-    if word == b"push".as_slice() {
+    if is(word, b"push") {
         return push(language, reader, alloc, brackets);
     }
-    if word == b"pop".as_slice() {
+    if is(word, b"pop") {
         return discard(reader, brackets);
     }
     match own(word) {
@@ -257,9 +257,9 @@ impl<L: Leaves> Blocks for Streamit<L> {
     fn opening(&self, word: &[u8]) -> Opening
         ensures { result ≡ opening word.now }
     {
-        if word == b"if".as_slice() {
+        if is(word, b"if") {
             Opening::Branch
-        } else if word == b"for".as_slice() {
+        } else if is(word, b"for") {
             Opening::Loop
         } else {
             Opening::Plain

@@ -9,7 +9,7 @@ use crate::{Expr, Leaves};
 use river_base::NoMemory;
 use std::alloc::Global;
 use text_blocks::{Terms, take_sign};
-use text_forms::{Fault, Reader};
+use text_forms::{Fault, Reader, is};
 use work_code::BinOp;
 use work_text::Token;
 
@@ -44,7 +44,7 @@ fn own_call(reader: &mut Reader<'_>) -> Option<Sign>
     let Some(Token::Name(text)) = reader.peek() else {
         return None;
     };
-    if text == b"peek".as_slice() {
+    if is(text, b"peek") {
         reader.skip();
         Some(Sign::Peek)
     } else {

@@ -9,7 +9,7 @@ use crate::names::{called, pipe};
 use crate::rounds::both;
 use crate::{Body, Declaration, Plain, Streamit};
 use std::alloc::Global;
-use text_forms::{Fault, Reader, Units};
+use text_forms::{Fault, Reader, Units, is};
 use work_text::Symbol;
 
 // What stands behind the name of a stream of this kind.
@@ -22,13 +22,13 @@ fn body_after(
 ) -> Result<Body, Fault>
     ensures { Gives body_of result reader.new (body_after brackets word.now reader.old) }
 {
-    if word == b"filter".as_slice() {
+    if is(word, b"filter") {
         return Ok(Body::Filter(filter(reader, alloc, brackets)?));
     }
-    if word == b"pipeline".as_slice() {
+    if is(word, b"pipeline") {
         return Ok(Body::Pipeline(pipe(reader, alloc, brackets)?));
     }
-    if word == b"splitjoin".as_slice() {
+    if is(word, b"splitjoin") {
         return Ok(Body::SplitJoin(both(reader, alloc, brackets)?));
     }
     Err(Fault::Syntax)
