@@ -1,8 +1,11 @@
 -- The ports and variables of a kernel, as its shape tells them.
-use Rattle.std.proofs.Common.{◌≡◌, ℕ, ◌+◌, ◌-◌, ℤ, List, [], ◌∷◌, refl, ap, ◌∙◌}
+use Rattle.std.proofs.Common.{◌≡◌, ℕ, ◌+◌, ◌-◌, ℤ, List, [], ◌∷◌, replicate, refl, ap, ◌∙◌}
+use Rattle.river_kernels.specs.declared.shape.Shape.{Shape}
 use Rattle.river_kernels.specs.Kern.{Kern, code, packed, fused}
 use Rattle.river_kernels.specs.Shape.{shape, kept_vars as kept_told}
 use Rattle.brooklet_model.specs.Fire.{outs, tabs, privates, kept_vars}
+use Rattle.brooklet_step.specs.declared.emit.Emit.{Emit}
+use Rattle.brooklet_step.specs.Took.{IsBlank}
 
 both : (f : ℕ → ℕ → ℕ) (a b c d : ℕ) → a ≡ c → b ≡ d → f a b ≡ f c d
 both f a b c d e g = ap (λ n. f n b) e ∙ ap (f c) g
@@ -27,3 +30,14 @@ privates_told (code k) = kept_same k.starts
 privates_told (packed k) = privates_told k
 privates_told (fused a b at) = both (λ m n. m + n) _ _ _ _ (privates_told a) (privates_told b)
 privates_told kernel = refl
+
+-- what is counted is the number of private variables
+pub privates_counted : (k : Kern) (s : Shape) → s ≡ shape k → s.privates ≡ privates k
+privates_counted k s e = ap (λ (t : Shape). t.privates) e ∙ privates_told k
+
+-- empty lists for the ports and tables that are counted are those of the kernel
+pub blank_counted : (k : Kern) (s : Shape) (e : Emit) → s ≡ shape k → e.outs ≡ replicate s.outs [] → e.adds ≡ replicate s.tables [] → IsBlank k e
+blank_counted k s e told o a = record {
+  outs = o ∙ ap (λ n. replicate n []) (ap (λ (t : Shape). t.outs) told ∙ outs_told k);
+  adds = a ∙ ap (λ n. replicate n []) (ap (λ (t : Shape). t.tables) told ∙ tabs_told k);
+}

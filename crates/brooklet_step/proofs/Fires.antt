@@ -1,5 +1,5 @@
 -- What firings give, and the plain forms of kernels.
-use Rattle.std.proofs.Common.{◌≡◌, ℕ, ◌<◌, Ok, Err, List, [], ◌∷◌, ◌++◌, length, replicate, refl, sym, ap, ◌∙◌, subst, arith, get_or, nat_lt, append_assoc}
+use Rattle.std.proofs.Common.{◌≡◌, ℕ, zero, suc, ◌<◌, ◌≤◌, Ok, Err, List, [], ◌∷◌, ◌++◌, length, replicate, refl, sym, ap, ◌∙◌, subst, arith, get_or, nat_lt, append_assoc}
 use Rattle.std.proofs.Common.{Global, Box}
 use Rattle.std.specs.Prelude.{if◌then◌else◌}
 use Rattle.std.specs.Result.{OnOk}
@@ -11,7 +11,7 @@ use Rattle.river_base.specs.declared.item.Flat as flat
 use Rattle.river_base.specs.declared.item.Item as item
 use Rattle.river_base.specs.declared.item.Item.TheVariants.{Flat, Pack}
 use Rattle.river_base.specs.Held.{flats}
-use Rattle.river_base.specs.Places.{each_grew, list_at}
+use Rattle.river_base.specs.Places.{append_at, each_grew, list_at}
 use Rattle.river_base.proofs.PlaceLemmas.{if_lt, each_grew_cong, each_grew-none, each_grew-blanks}
 use Rattle.river_kernels.specs.declared.kernel.Kernel.{Kernel, fold-roll-Kernel}
 use Rattle.river_kernels.specs.declared.kernel.Kernel.TheVariants as kernel
@@ -87,6 +87,12 @@ filter_whole k f port x st d s s' out out' ek t g h =
     let e : st ≡ s ∷ [] = a.code ∙ ap (λ (u : State). u ∷ []) (sym same) in
     let whole : Fires (filter f) out out' st (set st 0 s') (fire (filter f) port x) = subst (λ (l : List State). Fires (filter f) out out' l (set l 0 s') (fire (filter f) port x)) (sym e) h in
     subst (λ (j : Kern). Fires j out out' st (set st 0 s') (fire j port x)) (sym ek) whole
+
+-- where no list is, none grows
+pub append_past : {A : Type 0} (ls : List (List A)) (n : ℕ) (xs : List A) → length ls ≤ n → append_at ls n xs ≡ ls
+append_past [] n xs h = refl
+append_past (l ∷ ls) zero xs h = absurd (omega arith)
+append_past (l ∷ ls) (suc n) xs h = ap (λ t. l ∷ t) (append_past ls n xs (omega arith))
 
 -- giving an item at each port is the firing of a kernel that copies
 pub duplicate_fires : (k : Kern) (n port : ℕ) (x : item.Item) (st : List State) (out out' : Emit) → k ≡ duplicate n → HasLists k out

@@ -104,10 +104,7 @@ impl Emit {
     {
         let last = self.outs.len().saturating_sub(1);
         copy_below(alloc, &mut self.outs, last, &item)?;
-        if last < self.outs.len() {
-            self.outs.push_at(last, item)?;
-        }
-        Ok(())
+        give_last(&mut self.outs, last, item)
     }
 
     /// The rows that a body pushed, each at its port. Their list is spare.
@@ -116,9 +113,9 @@ impl Emit {
         ensures outs { OnOk result (self.new.outs ≡ each_grew self.old.outs (λ port. pushed_to port pushes)) }
         ensures adds { OnOk result (self.new.adds ≡ self.old.adds) }
     {
-        add_pushes(&mut self.outs, &pushes)?;
+        let given = add_pushes(&mut self.outs, &pushes);
         spare.pushes = pushes;
-        Ok(())
+        given
     }
 
     /// What was given at a port, in a line; nothing is left there.
@@ -211,6 +208,17 @@ fn copy_below(
         outs.push_at(port, item.copy(alloc)?)?;
     }
     Ok(())
+}
+
+// The item at a port, if it is there.
+fn give_last(outs: &mut ItemLists, port: usize, item: Item) -> Result<(), NoMemory>
+    ensures { OnOk result (outs.new ≡ append_at outs.old port (item ∷ [])) }
+{
+    if port < outs.len() {
+        outs.push_at(port, item)
+    } else {
+        Ok(())
+    }
 }
 
 // The list at a place; nothing is left there.

@@ -1,11 +1,11 @@
 // One firing of a kernel.
-ghost use Rattle.std.specs.Prelude.{◌≡◌, ◌<◌, ◌∷◌, [], ◌++◌, length, IfOk, OnOk};
+ghost use Rattle.std.specs.Prelude.{◌≡◌, ◌<◌, ◌∷◌, [], ◌++◌, length, replicate, IfOk, OnOk};
 ghost use Rattle.river_base.specs.declared.item.Item.TheVariants.{Pack};
 ghost use Rattle.river_base.specs.Held.{flats as flats_in};
 ghost use Rattle.river_base.specs.Places.{list_at};
 ghost use Rattle.river_kernels.specs.Kern.{kern_of, packed, fused};
-ghost use Rattle.brooklet_model.specs.Fire.{privates};
 ghost use Rattle.brooklet_model.specs.Firings.{gives};
+ghost use Rattle.brooklet_step.specs.declared.emit.Emit.{Emit};
 ghost use Rattle.brooklet_step.specs.Took.{IsBlank, Took};
 ghost use Rattle.brooklet_step.specs.Given.{CanTake, CanTakeAll, CanTakeOn, FiresAt, FiresEach, TookOn};
 
@@ -26,15 +26,6 @@ pub fn blank_for(alloc: Global, kernel: &Kernel) -> Result<Emit, NoMemory>
     Emit::blank(alloc, shape.outs, shape.tables)
 }
 
-// How many private variables a kernel has.
-#[tactic(auto, using(crate::proofs::Counted::privates_told))]
-fn privates_of(kernel: &Kernel) -> Result<usize, NoMemory>
-    ensures { IfOk result (λ count. count ≡ privates (kern_of kernel.now)) }
-{
-    let shape = kernel.shape()?;
-    Ok(shape.privates)
-}
-
 // The items that are no packs; none is left in the line.
 fn flats_of(alloc: Global, items: &mut Line) -> Result<Flats, NoMemory>
     ensures { IfOk result (λ all. all ≡ flats_in items.old) }
@@ -51,10 +42,7 @@ fn add_flat(item: Item, all: &mut Flats) -> Result<(), NoMemory>
     ensures { OnOk result (all.new ≡ all.old ++ flats_in (item ∷ [])) }
 {
     match item {
-        Item::Flat(flat) => {
-            all.push(flat)?;
-            Ok(())
-        }
+        Item::Flat(flat) => all.push(flat),
         Item::Pack(_) => Ok(()),
     }
 }
@@ -110,8 +98,7 @@ fn fire_on(
     ensures { OnOk result (FiresAt (kern_of kernel.now) port item out.old out.new states.old states.new) }
 {
     if is_leaf(kernel) {
-        fire_leaf(alloc, kernel, port, item, states, out, spare)?;
-        return Ok(());
+        return fire_leaf(alloc, kernel, port, item, states, out, spare);
     }
     match kernel {
         Kernel::Packed(inner) => fire_packed(alloc, inner, port, item, states, out, spare),
@@ -136,9 +123,29 @@ fn fire_packed(
     requires { CanTake (packed (kern_of inner.now)) port item states.old out.old }
     ensures { OnOk result (FiresAt (packed (kern_of inner.now)) port item out.old out.new states.old states.new) }
 {
-    let mut given = Emit::blank(alloc, 1, 0)?;
-    fire_on(alloc, inner, port, item, states, &mut given, spare)?;
+    let mut given = fire_blank(alloc, inner, port, item, states, 1, 0, spare)?;
     give_pack(alloc, &mut given, out)
+}
+
+// What a firing of a kernel gives, in lists for so many ports and tables.
+#[cycle(fire_on)]
+fn fire_blank(
+    alloc: Global,
+    kernel: &Kernel,
+    port: u32,
+    item: Item,
+    states: &mut [State],
+    ports: usize,
+    tables: usize,
+    spare: &mut Spare,
+) -> Result<Emit, NoMemory>
+    requires { (blank : Emit) → blank.outs ≡ replicate ports [] → blank.adds ≡ replicate tables [] → CanTake (kern_of kernel.now) port item states.old blank }
+    ensures { IfOk result (λ given. (blank : Emit) × (blank.outs ≡ replicate ports []) × (blank.adds ≡ replicate tables [])
+        × FiresAt (kern_of kernel.now) port item blank given states.old states.new) }
+{
+    let mut given = Emit::blank(alloc, ports, tables)?;
+    fire_on(alloc, kernel, port, item, states, &mut given, spare)?;
+    Ok(given)
 }
 
 // The items of the first port, as one pack.
@@ -149,8 +156,7 @@ fn give_pack(alloc: Global, given: &mut Emit, out: &mut Emit) -> Result<(), NoMe
 {
     let mut line = given.take_port(alloc, 0);
     let pack = flats_of(alloc, &mut line)?;
-    out.give(0, Item::Pack(pack))?;
-    Ok(())
+    out.give(0, Item::Pack(pack))
 }
 
 // A firing of two kernels, the second behind port `at` of the first.
@@ -169,10 +175,18 @@ fn fire_fused(
     requires { CanTake (fused (kern_of first.now) (kern_of second.now) at) port item states.old out.old }
     ensures { OnOk result (FiresAt (fused (kern_of first.now) (kern_of second.now) at) port item out.old out.new states.old states.new) }
 {
-    let count = privates_of(first)?;
-    let (mine, rest) = states.split_at_mut(count);
-    let mut mid = blank_for(alloc, first)?;
-    fire_on(alloc, first, port, item, mine, &mut mid, spare)?;
+    let shape = first.shape()?;
+    let (mine, rest) = states.split_at_mut(shape.privates);
+    let mut mid = fire_blank(
+        alloc,
+        first,
+        port,
+        item,
+        mine,
+        shape.outs,
+        shape.tables,
+        spare,
+    )?;
     fire_second(alloc, second, at, rest, &mut mid, out, spare)
 }
 

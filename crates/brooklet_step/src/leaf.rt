@@ -48,8 +48,7 @@ fn push_once(
     ensures { OnOk result (pushes.new ≡ (run_kept (code_form kernel.now).body [] row.now).pushes) }
 {
     let mut none = Numbers::new(alloc);
-    kernel.step(&mut none, row, pushes)?;
-    Ok(())
+    kernel.step(&mut none, row, pushes)
 }
 
 // What a body with kept slots pushes comes to an empty list.
@@ -103,10 +102,25 @@ pub fn fire_code(
     ensures { OnOk result (Fires (code_kern (code_form kernel.now)) out.old out.new states.old states.new
         (fire_lem (code_kern (code_form kernel.now)) 0 item)) }
 {
+    run_row(alloc, kernel, &item, states, out, spare)
+}
+
+// The same, where the item stays.
+fn run_row(
+    alloc: Global,
+    kernel: &CodeKernel,
+    item: &Item,
+    states: &mut [State],
+    out: &mut Emit,
+    spare: &mut Spare,
+) -> Result<(), NoMemory>
+    requires { Applies (code_kern (code_form kernel.now)) 0 item.now states.old out.old }
+    ensures { OnOk result (Fires (code_kern (code_form kernel.now)) out.old out.new states.old states.new
+        (fire_lem (code_kern (code_form kernel.now)) 0 item.now)) }
+{
     let mut pushes = spare.take_pushes(alloc);
-    push_all(alloc, kernel, &item, states, &mut pushes)?;
-    out.give_pushes(pushes, spare)?;
-    Ok(())
+    push_all(alloc, kernel, item, states, &mut pushes)?;
+    out.give_pushes(pushes, spare)
 }
 
 // Each value as an item comes to an empty list.
@@ -149,9 +163,25 @@ pub fn fire_filter(
     ensures { OnOk result (Fires (filter_kern (filter_form filter.now)) out.old out.new
         (state.old ∷ []) (state.new ∷ []) (fire_lem (filter_kern (filter_form filter.now)) 0 item)) }
 {
+    filter_row(alloc, filter, &item, state, out, spare)
+}
+
+// The same, where the item stays.
+fn filter_row(
+    alloc: Global,
+    filter: &Filter,
+    item: &Item,
+    state: &mut State,
+    out: &mut Emit,
+    spare: &mut Spare,
+) -> Result<(), NoMemory>
+    requires { Applies (filter_kern (filter_form filter.now)) 0 item.now (state.old ∷ []) out.old }
+    ensures { OnOk result (Fires (filter_kern (filter_form filter.now)) out.old out.new
+        (state.old ∷ []) (state.new ∷ []) (fire_lem (filter_kern (filter_form filter.now)) 0 item.now)) }
+{
     match state {
         State::Filter(state) => {
-            let value = row_of(&item).values()[0];
+            let value = row_of(item).values()[0];
             let mut values = Numbers::new(alloc);
             filter.step(state, value, &mut values)?;
             give_values(alloc, &values, out, spare)

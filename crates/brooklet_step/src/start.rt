@@ -51,56 +51,49 @@ fn filter_states(alloc: Global, filter: &Filter) -> Result<States, NoMemory>
     ensures { IfOk result (λ states. StandsForFilter (filter_form filter.now) states (Buffered (filter_start (filter_form filter.now)) ∷ [])) }
 {
     let state = filter.start(alloc)?;
-    let states = only(alloc, State::Filter(state))?;
-    Ok(states)
+    only(alloc, State::Filter(state))
 }
 
 fn deal_states(alloc: Global, weights: &Numbers) -> Result<States, NoMemory>
     ensures { IfOk result (λ states. states ≡ variant.Deal (dealt_start (length weights.now)) ∷ []) }
 {
     let state = Deal::start(alloc, weights)?;
-    let states = only(alloc, State::Deal(state))?;
-    Ok(states)
+    only(alloc, State::Deal(state))
 }
 
 fn collect_states(alloc: Global, weights: &Numbers) -> Result<States, NoMemory>
     ensures { IfOk result (λ states. states ≡ variant.Join (join_start (length weights.now)) ∷ []) }
 {
     let state = Collect::start(alloc, weights)?;
-    let states = only(alloc, State::Join(state))?;
-    Ok(states)
+    only(alloc, State::Join(state))
 }
 
 fn unpack_states(alloc: Global, ports: u32) -> Result<States, NoMemory>
     ensures { IfOk result (λ states. states ≡ variant.Join (join_start ports) ∷ []) }
 {
     let state = Unpack::start(alloc, ports)?;
-    let states = only(alloc, State::Join(state))?;
-    Ok(states)
+    only(alloc, State::Join(state))
 }
 
 fn window_states(alloc: Global, window: &Window) -> Result<States, NoMemory>
     ensures { IfOk result (λ states. states ≡ variant.Window window_start ∷ []) }
 {
     let state = window.start(alloc)?;
-    let states = only(alloc, State::Window(state))?;
-    Ok(states)
+    only(alloc, State::Window(state))
 }
 
 fn cross_states(alloc: Global) -> Result<States, NoMemory>
     ensures { IfOk result (λ states. states ≡ variant.Cross cross_start ∷ []) }
 {
     let state = Cross::start(alloc)?;
-    let states = only(alloc, State::Cross(state))?;
-    Ok(states)
+    only(alloc, State::Cross(state))
 }
 
 fn streamer_states(alloc: Global, streamer: &Streamer) -> Result<States, NoMemory>
     ensures { IfOk result (λ states. states ≡ variant.Streamer [] ∷ []) }
 {
     let state = streamer.start(alloc)?;
-    let states = only(alloc, State::Streamer(state))?;
-    Ok(states)
+    only(alloc, State::Streamer(state))
 }
 
 // The first states of a kernel without a kernel inside.
@@ -131,14 +124,10 @@ pub fn states_of(alloc: Global, kernel: &Kernel) -> Result<States, NoMemory>
     ensures { IfOk result (AreFirstStates (kern_of kernel.now)) }
 {
     if is_leaf(kernel) {
-        let states = leaf_states(alloc, kernel)?;
-        return Ok(states);
+        return leaf_states(alloc, kernel);
     }
     match kernel {
-        Kernel::Packed(inner) => {
-            let states = states_of(alloc, inner)?;
-            Ok(states)
-        }
+        Kernel::Packed(inner) => states_of(alloc, inner),
         Kernel::Fused { first, second, .. } => {
             let mut states = states_of(alloc, first)?;
             states.append(states_of(alloc, second)?)?;

@@ -66,6 +66,21 @@ fn add_kind(
     Ok(())
 }
 
+// An empty cell with the tables of a class.
+fn empty_cell(
+    alloc: Global,
+    tables: &TableDecls,
+    classes: &Places,
+    class: u32,
+) -> Result<Cell, NoMemory>
+    requires many { length classes.now ≡ length tables.now }
+    requires few { length tables.now ≤ 256 }
+    ensures { IfOk result (λ cell. cell ≡ record { kinds = kinds_from (λ n. slice_index_or classes.now n 0) class 0 tables.now; log = [] }) }
+{
+    let kinds = kinds_of(alloc, tables, classes, class)?;
+    Cell::empty(alloc, &kinds)
+}
+
 /// An empty cell for each lock class of a plan, in order.
 pub fn cells_of(alloc: Global, plan: &Plan, classes: &Places) -> Result<Cells, NoMemory>
     requires valid { IsPlan plan.now }
@@ -76,8 +91,7 @@ pub fn cells_of(alloc: Global, plan: &Plan, classes: &Places) -> Result<Cells, N
     let tables = &plan.raw().tables;
     let mut cells = Cells::new(alloc);
     for class in 0..class_count(classes) {
-        let kinds = kinds_of(alloc, tables, classes, class)?;
-        cells.push(Cell::empty(alloc, &kinds)?)?;
+        cells.push(empty_cell(alloc, tables, classes, class)?)?;
     }
     Ok(cells)
 }

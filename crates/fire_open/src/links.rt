@@ -42,7 +42,6 @@ fn add_writes(plan: &Plan, sources: &mut Sources, writer: usize)
     }
 }
 
-#[tactic(auto, using(crate::proofs::SourceLemmas::know_first))]
 // Where each queue is written.
 fn sources_of(alloc: Global, plan: &Plan) -> Result<Sources, NoMemory>
     ensures { IfOk result (KnowWriters plan.now (length plan.now.ops) 0) }
@@ -86,7 +85,6 @@ fn add_links(
     Ok(())
 }
 
-#[tactic(auto, using(crate::proofs::SourceLemmas::links_first, crate::proofs::SourceLemmas::links_all))]
 /// A link for each queue between two operators.
 pub fn links_of(alloc: Global, plan: &Plan) -> Result<Listed<Link>, NoMemory>
     ensures valid { IsPlan plan.now }

@@ -1,15 +1,18 @@
 // The rings of a net.
-ghost use Rattle.std.specs.Prelude.{◌≡◌, ◌<◌, ◌≤◌, length, OnOk, slice_index_or};
+ghost use Rattle.std.specs.Prelude.{◌≡◌, ◌<◌, ◌≤◌, length, OnOk, slice_index_or, slice_set};
 ghost use Rattle.river_plan.specs.Caps.{IsCap, AreCaps, IsOwnCap, first_cap, own_of};
 ghost use Rattle.river_plan.specs.Forms.{Name};
 ghost use Rattle.fire_open.specs.Links.{AreLinks, IsLinkOf, Put, room_of};
 ghost use Rattle.fire_open.specs.Rings.{AreThere, AreRung};
+ghost use Rattle.fire_open.specs.Settling.{with_in, with_out};
+ghost use Rattle.fire_tasks.specs.declared.ports.Inlet.TheVariants.{Ring as TakesFrom};
+ghost use Rattle.fire_tasks.specs.declared.ports.Outlet.TheVariants.{Ring as SendsTo};
 
 use crate::Link;
 use fire_tasks::{Inlet, Outlet, Task};
 use river_base::{Listed, NoMemory};
 use river_plan::{Caps, CapsByName, Plan};
-use river_rings::ring;
+use river_rings::{Feed, Take, ring};
 use std::alloc::Global;
 
 // An empty ring for a link.
@@ -22,9 +25,27 @@ fn put_ring(alloc: Global, tasks: &mut Listed<Task>, link: Link, cap: u32) -> Re
     ensures { OnOk result (Put cap tasks.old tasks.new link) }
 {
     let (feed, take) = ring(alloc, cap)?;
-    *tasks.at_mut(link.writer).outs.at_mut(link.out) = Outlet::Ring(feed);
-    *tasks.at_mut(link.reader).ins.at_mut(link.port) = Inlet::Ring(take);
+    put_feed(tasks, link, feed);
+    put_take(tasks, link, take);
     Ok(())
+}
+
+// The end of a ring that the writer of a link has.
+fn put_feed(tasks: &mut Listed<Task>, link: Link, feed: Feed)
+    requires writer { link.writer < length tasks.old }
+    requires out { (d : _) → link.out < length (slice_index_or tasks.old link.writer d).outs }
+    ensures { (w : _) × (w ≡ slice_index_or tasks.old link.writer w) × (tasks.new ≡ slice_set tasks.old link.writer (with_out w link.out (SendsTo feed))) }
+{
+    *tasks.at_mut(link.writer).outs.at_mut(link.out) = Outlet::Ring(feed);
+}
+
+// The end of a ring that the reader of a link has.
+fn put_take(tasks: &mut Listed<Task>, link: Link, take: Take)
+    requires reader { link.reader < length tasks.old }
+    requires port { (d : _) → link.port < length (slice_index_or tasks.old link.reader d).ins }
+    ensures { (r : _) × (r ≡ slice_index_or tasks.old link.reader r) × (tasks.new ≡ slice_set tasks.old link.reader (with_in r link.port (TakesFrom take))) }
+{
+    *tasks.at_mut(link.reader).ins.at_mut(link.port) = Inlet::Ring(take);
 }
 
 /// An empty ring for each link, which holds as many items as its queue has room for: `cap`, where

@@ -1,19 +1,22 @@
 // The tasks of a net, before anything moves.
-ghost use Rattle.std.specs.Prelude.{◌≡◌, ◌<◌, [], length, map, replicate, All, AllPairs, IfOk, OnOk, slice_set};
+ghost use Rattle.std.specs.Prelude.{◌≡◌, ◌<◌, [], Some, length, map, replicate, All, AllPairs, IfOk, OnOk, slice_get, slice_set};
 ghost use Rattle.river_plan.specs.ByPlace.{kind_at};
-ghost use Rattle.river_plan.specs.Forms.{queue_names};
+ghost use Rattle.river_plan.specs.Forms.{OpForm, queue_names};
 ghost use Rattle.river_plan.specs.Places.{read_places};
 ghost use Rattle.river_plan.specs.Valid.{IsPlan};
 ghost use Rattle.river_base.specs.Places.{list_at};
 ghost use Rattle.brooklet_model.specs.Fit.{Fit};
+ghost use Rattle.brooklet_step.specs.Initial.{AreFirstStates};
+ghost use Rattle.brooklet_step.specs.Took.{IsBlank};
+ghost use Rattle.fire_tasks.specs.Adds.{AreHomes};
 ghost use Rattle.fire_tasks.specs.declared.ports.Outlet.TheVariants.{Kept as Stored};
 ghost use Rattle.fire_open.specs.First.{whole_list, IsFirstTask, AreFirstTasks, HasLeft};
 ghost use Rattle.fire_open.specs.Fresh.{AreFresh};
 ghost use Rattle.fire_open.specs.Homes.{AreTableClasses};
 
 use crate::homes::{Places, homes_of, table_classes};
-use brooklet_step::{Lines, Spare, first_queues, first_states};
-use fire_tasks::{Inlet, Kept, Outlet, Task};
+use brooklet_step::{Emit, ItemLists, Lines, Spare, States, first_queues, first_states};
+use fire_tasks::{Inlet, Kept, Outlet, TablePort, Task};
 use kern_rows::Line;
 use plan_check::queue_kinds;
 use river_base::{Listed, NoMemory, QueueType};
@@ -91,28 +94,71 @@ fn task_of(
     ensures task { IfOk result (IsFirstTask plan.now queues.old kinds.now op) }
     ensures left { OnOk result (HasLeft (list_at (read_places plan.now) op) queues.old queues.new) }
 {
-    let reads = plan.reads_of(op as usize);
-    let ins = ins_of(alloc, reads, queues)?;
-    let kinds = kinds_of(alloc, reads, kinds)?;
-    let count = plan.writes_of(op as usize).len();
-    let outs = outs_of(alloc, count)?;
-    let pending = Listed::blanks(alloc, count)?;
-    let (states, out) = first_states(alloc, &plan.raw().ops.at(op as usize).kernel)?;
-    let (tables, own) = homes_of(alloc, plan, op as usize, classes)?;
+    let (ins, kinds) = taken_from(alloc, plan.reads_of(op as usize), queues, kinds)?;
+    let (outs, pending) = sent_to(alloc, plan.writes_of(op as usize).len())?;
+    let (first, homes) = kept_of(alloc, plan, op, classes)?;
     Ok(Task {
         op,
         ins,
         kinds,
-        states,
+        states: first.0,
         outs,
         pending,
-        out,
+        out: first.1,
         spare: Spare::new(alloc),
-        tables,
-        classes: own,
+        tables: homes.0,
+        classes: homes.1,
         count: 0,
         bad: None,
     })
+}
+
+// Where an operator takes from, which are kept lists at first, and the types of these queues.
+fn taken_from(
+    alloc: Global,
+    places: &[usize],
+    queues: &mut Lines,
+    kinds: &Listed<QueueType>,
+) -> Result<(Listed<Inlet>, Listed<QueueType>), NoMemory>
+    requires queues { All (λ n. n < length queues.old) places.now }
+    requires kinds { All (λ n. n < length kinds.now) places.now }
+    requires apart { AllPairs (λ m n. m ≡ n → ⊥) places.now }
+    ensures ins { IfOk result (λ both. both.0 ≡ map (whole_list queues.old) places.now) }
+    ensures kinds { IfOk result (λ both. both.1 ≡ map (kind_at kinds.now) places.now) }
+    ensures left { OnOk result (HasLeft places.now queues.old queues.new) }
+{
+    let ins = ins_of(alloc, places, queues)?;
+    let kinds = kinds_of(alloc, places, kinds)?;
+    Ok((ins, kinds))
+}
+
+// Where an operator sends to, which are kept lists at first, and what is pending there.
+fn sent_to(alloc: Global, count: usize) -> Result<(Listed<Outlet>, ItemLists), NoMemory>
+    ensures outs { IfOk result (λ both. both.0 ≡ replicate count (Stored [])) }
+    ensures pending { IfOk result (λ both. both.1 ≡ replicate count []) }
+{
+    let outs = outs_of(alloc, count)?;
+    let pending = Listed::blanks(alloc, count)?;
+    Ok((outs, pending))
+}
+
+// What an operator's kernel keeps at first, with lists for what it gives, and where its rows go.
+fn kept_of(
+    alloc: Global,
+    plan: &Plan,
+    op: u32,
+    classes: &Places,
+) -> Result<((States, Emit), (Listed<TablePort>, Places)), NoMemory>
+    requires there { op < length plan.now.ops }
+    requires valid { IsPlan plan.now }
+    requires classes { AreTableClasses plan.now classes.now }
+    ensures states { IfOk result (λ both. (o : OpForm) → slice_get plan.now.ops op ≡ Some o → AreFirstStates o.kernel both.0.0) }
+    ensures emit { IfOk result (λ both. (o : OpForm) → slice_get plan.now.ops op ≡ Some o → IsBlank o.kernel both.0.1) }
+    ensures homes { IfOk result (λ both. AreHomes plan.now op both.1.0 both.1.1) }
+{
+    let first = first_states(alloc, &plan.raw().ops.at(op as usize).kernel)?;
+    let homes = homes_of(alloc, plan, op as usize, classes)?;
+    Ok((first, homes))
 }
 
 // A task for each operator.

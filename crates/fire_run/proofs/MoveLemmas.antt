@@ -10,7 +10,7 @@ use Rattle.river_plan.specs.Forms.{PlanForm}
 use Rattle.fire_tasks.specs.declared.ports.Inlet as inlet
 use Rattle.fire_tasks.specs.declared.task.Task.{Task}
 use Rattle.fire_tasks.specs.Adds.{added, logs_of}
-use Rattle.fire_tasks.specs.Ports.{IsIdle, in_ends, received_in}
+use Rattle.fire_tasks.specs.Ports.{in_ends, received_in}
 use Rattle.fire_tasks.specs.Tasks.{IsTask, IsDone, TaskEnds, ends_of, all_ends, moves, all_moves}
 use Rattle.fire_laws.specs.Layout.{AreTasks}
 use Rattle.class_locks.specs.Logs.{Holding}
@@ -23,37 +23,11 @@ use Rattle.fire_open.proofs.StillLemmas.{still_all_moves, still_ends, still_task
 use Rattle.fire_open.proofs.SettleLemmas.{still_by}
 use Rattle.fire_tasks.proofs.PassLemmas.{with_ins}
 
--- the first ports have nothing pending
-pub record SoFar (t0 : Task) (port : ℕ) (t : Task) : Type 0 where
-  pub same : t ≡ t0
-  pub empty : (j : ℕ) → j < port → list_at t0.pending j ≡ []
-
--- before the first port nothing was seen
-pub so_first : (t : Task) → SoFar t 0 t
-so_first t = record { same = refl; empty = λ j lt. absurd (omega (arith, lt)) }
-
--- one port more has nothing pending
-pub so_next : (t0 t : Task) (port : ℕ) → SoFar t0 port t → list_at t.pending port ≡ [] → SoFar t0 (port + 1) t
-so_next t0 t port h z = record {
-  same = h.same;
-  empty = λ j lt. ⊎_elim
-      (λ l. h.empty j l)
-      (λ ge. let e : port ≡ j = omega (arith, lt, ge) in subst (λ n. list_at t0.pending n ≡ []) e (ap (λ (x : Task). list_at x.pending port) (sym h.same) ∙ z))
-      (cases_lt j port);
-}
-
-beyond : (ls : List (List item.Item)) (j : ℕ) → length ls ≤ j → list_at ls j ≡ []
+-- beyond the lists nothing is pending
+pub beyond : (ls : List (List item.Item)) (j : ℕ) → length ls ≤ j → list_at ls j ≡ []
 beyond [] j le = refl
 beyond (l ∷ ls) zero le = absurd (omega (arith, le))
 beyond (l ∷ ls) (suc j) le = beyond ls j (omega (arith, le))
-
--- once all ports were seen, nothing is pending
-pub so_idle : (t0 t : Task) (port : ℕ) → SoFar t0 port t → length t0.pending ≤ port → IsIdle t0.pending
-so_idle t0 t port h le j = ⊎_elim (λ l. h.empty j (omega (arith, l, le))) (λ ge. beyond t0.pending j ge) (cases_lt j (length t0.pending))
-
--- there are as many ports as before
-pub so_long : (t0 t : Task) (port : ℕ) → SoFar t0 port t → length t.pending ≡ length t0.pending
-so_long t0 t port h = ap (λ (x : Task). length x.pending) h.same
 
 -- a look changes nothing else
 pub still_ins : (t : Task) (ins : List inlet.Inlet) → in_ends ins ≡ in_ends t.ins → received_in ins ≡ received_in t.ins → still (with_ins t ins) ≡ still t

@@ -1,5 +1,5 @@
 // The bundles of a frame come together again.
-ghost use Rattle.std.specs.Prelude.{◌≡◌, ◌<◌, All, length};
+ghost use Rattle.std.specs.Prelude.{◌≡◌, ◌<◌, All, length, slice_set};
 ghost use Rattle.river_plan.specs.Forms.{PlanForm};
 ghost use Rattle.fire_tasks.specs.Tasks.{all_ends, all_moves};
 ghost use Rattle.fire_run.specs.Frames.{AreBundlesOf, AreSeatedIn, AreTasksOf, HaveGrownBy, bundle_moves};
@@ -12,6 +12,7 @@ use class_locks::{Seat, close};
 use fire_open::settle_all;
 use fire_tasks::Task;
 use river_base::Listed;
+use std::mem::replace;
 
 // Puts tasks at the places of their operators; none is left in the list.
 fn put_back(tasks: &mut Listed<Task>, own: &mut Listed<Task>)
@@ -19,9 +20,17 @@ fn put_back(tasks: &mut Listed<Task>, own: &mut Listed<Task>)
     ensures { tasks.new ≡ put_each own.old tasks.old }
 {
     while let Some(task) = own.pop() {
-        let place = task.op as usize;
-        *tasks.at_mut(place) = task;
+        put_task(tasks, task);
     }
+}
+
+// Puts a task at the place of its operator.
+fn put_task(tasks: &mut Listed<Task>, task: Task)
+    requires { task.op < length tasks.old }
+    ensures { tasks.new ≡ slice_set tasks.old task.op task }
+{
+    let place = task.op as usize;
+    drop(replace(tasks.at_mut(place), task));
 }
 
 // Puts the tasks of all bundles at their places.

@@ -1,5 +1,5 @@
 // One move.
-ghost use Rattle.std.specs.Prelude.{◌≡◌, ◌+◌, ◌<◌, ◌^◌, ℕ, ℤ, None, List, [], length, map, false, true, IfOk, OnOk, OnErr, IsFalse, slice_index_or};
+ghost use Rattle.std.specs.Prelude.{◌≡◌, ◌+◌, ◌<◌, ◌^◌, ℕ, ℤ, None, List, [], length, map, false, true, IfOk, OnOk, OnErr, IfSome, IfNone, IsFalse, slice_index_or};
 ghost use Rattle.river_base.specs.Places.{list_at};
 ghost use Rattle.river_plan.specs.Forms.{plan_form};
 ghost use Rattle.river_plan.specs.Valid.{IsPlan};
@@ -15,6 +15,7 @@ ghost use Rattle.fire_run.specs.NetOf.{HasNet, Stays, AreIdle, OneMore};
 
 use crate::adding::add_to_cells;
 use crate::net::Net;
+use brooklet_step::ItemLists;
 use class_locks::Cells;
 use fire_open::settle_all;
 use fire_tasks::{Task, fire_at, first_ready, send_at};
@@ -56,9 +57,21 @@ fn take_for<G: Gate>(
     Ok(())
 }
 
+// The first port at which an item is pending.
+fn first_pending(pending: &ItemLists) -> Option<usize>
+    ensures some { IfSome result (λ port. (port < length pending.now) × (list_at pending.now port ≡ [] → ⊥)) }
+    ensures none { IfNone result (IsIdle pending.now) }
+{
+    for port in 0..pending.len() {
+        if !pending.at(port).is_empty() {
+            return Some(port);
+        }
+    }
+    None
+}
+
 // A move of this task, if it has a pending or an untaken item: where an item is pending the first such goes, and otherwise the next is
 // taken.
-#[tactic(auto, using(fire_tasks::proofs::PassLemmas::looked_task, crate::proofs::MoveLemmas::none_added, crate::proofs::MoveLemmas::so_next, crate::proofs::MoveLemmas::so_idle, crate::proofs::MoveLemmas::so_long, crate::proofs::MoveLemmas::still_ins))]
 fn move_one<G: Gate>(
     alloc: Global,
     plan: &RawPlan,
@@ -80,12 +93,37 @@ fn move_one<G: Gate>(
     ensures stay { IfOk result (λ moved. IsFalse moved → cells.new ≡ cells.old) }
     ensures done { IfOk result (λ moved. IsFalse moved → IsDone task.old) }
 {
-    for port in 0..task.pending.len() {
-        if !task.pending.at(port).is_empty() {
+    match first_pending(&task.pending) {
+        Some(port) => {
             send_first(task, port)?;
-            return Ok(true);
+            Ok(true)
         }
+        None => take_next(alloc, plan, task, cells, gate),
     }
+}
+
+// Takes the next item of a task that has none pending, if there is one.
+fn take_next<G: Gate>(
+    alloc: Global,
+    plan: &RawPlan,
+    task: &mut Task,
+    cells: &mut Cells,
+    gate: &G,
+) -> Result<bool, NoMemory>
+    requires valid { IsPlan (plan_form plan.now) }
+    requires task { IsTask (plan_form plan.now) (added (plan_form plan.now) (logs_of cells.old) task.old.op) task.old }
+    requires cells { AreClassCells (plan_form plan.now) cells.old }
+    requires fine { task.old.bad ≡ None }
+    requires few { length task.old.ins < 2 ^ 32 }
+    requires idle { IsIdle task.old.pending }
+    ensures task { OnOk result (IsTask (plan_form plan.now) (added (plan_form plan.now) (logs_of cells.new) task.old.op) task.new) }
+    ensures same { OnOk result (ends_of task.new ≡ ends_of task.old) }
+    ensures moved { IfOk result (OneMore (moves task.old) (moves task.new)) }
+    ensures cells { OnOk result (HaveAdded (plan_form plan.now) task.old.op cells.old cells.new) }
+    ensures still { IfOk result (λ moved. IsFalse moved → still task.new ≡ still task.old) }
+    ensures stay { IfOk result (λ moved. IsFalse moved → cells.new ≡ cells.old) }
+    ensures done { IfOk result (λ moved. IsFalse moved → IsDone task.old) }
+{
     match first_ready(&mut task.ins) {
         Some(port) => {
             take_for(alloc, plan, task, port as u32, cells, gate)?;

@@ -30,7 +30,6 @@ pub struct Bundle {
     pub refused: bool,
 }
 
-#[tactic(auto, using(crate::proofs::BundleLemmas::passed_first, crate::proofs::BundleLemmas::passed_all, crate::proofs::TurnLemmas::sits_then))]
 // A look at these tasks, one after another: each moves what it can.
 fn sweep<G: Gate>(
     alloc: Global,
@@ -58,7 +57,6 @@ fn sweep<G: Gate>(
     Ok(moved)
 }
 
-#[tactic(auto, using(crate::proofs::BundleLemmas::swept_none, crate::proofs::BundleLemmas::swept_more, crate::proofs::BundleLemmas::swept_then, crate::proofs::TurnLemmas::sits_then))]
 // A pass over these tasks. Where nothing moves it looks again, at most so often, since other workers send and take meanwhile.
 fn pass_all<G: Gate>(
     alloc: Global,
@@ -83,8 +81,7 @@ fn pass_all<G: Gate>(
             return Ok(true);
         }
     }
-    let moved = sweep(alloc, plan, tasks, seat, pile, gate)?;
-    Ok(moved)
+    sweep(alloc, plan, tasks, seat, pile, gate)
 }
 
 // Whether a task has nothing pending and received every item known to be there. It looks at its rings.

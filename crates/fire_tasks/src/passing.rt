@@ -35,7 +35,6 @@ pub fn send_all(outs: &mut Listed<Outlet>, pending: &mut ItemLists) -> Result<bo
 }
 
 // Sends what is pending at a port, as far as there is room.
-#[tactic(auto, using(crate::proofs::PassLemmas::goes_first, crate::proofs::PassLemmas::goes_next, crate::proofs::PassLemmas::goes_after))]
 fn send_port(
     outs: &mut Listed<Outlet>,
     pending: &mut ItemLists,

@@ -1,5 +1,5 @@
 // Taking an item, and firing on it.
-ghost use Rattle.std.specs.Prelude.{◌≡◌, ◌+◌, ◌<◌, min, ℕ, ℤ, List, ◌++◌, length, map, IfOk, OnOk, IfSome, IfNone, slice_index_or, None};
+ghost use Rattle.std.specs.Prelude.{◌≡◌, ◌+◌, ◌<◌, min, ℕ, ℤ, List, ◌++◌, length, map, IfOk, OnOk, IfSome, IfNone, slice_index_or, Some, None};
 ghost use mathlib.Core.List.{reverse};
 ghost use Rattle.brooklet_model.specs.Histories.{most_firings};
 ghost use Rattle.river_plan.specs.Forms.{plan_form};
@@ -107,7 +107,7 @@ pub fn fire_at<G: Gate>(
 {
     match take_item(alloc, &mut task.ins, &task.kinds, port as usize)? {
         Pop::Bad(item) => {
-            task.bad = Some((port, item));
+            keep_bad(&mut task.bad, port, item);
             Ok(())
         }
         Pop::Good(item) => {
@@ -128,6 +128,13 @@ pub fn fire_at<G: Gate>(
             Ok(())
         }
     }
+}
+
+// An item that its port's queue may not hold is kept, with the port.
+fn keep_bad(bad: &mut Option<(u32, Item)>, port: u32, item: Item)
+    ensures { bad.new ≡ Some (port, item) }
+{
+    *bad = Some((port, item));
 }
 
 /// Takes the item at a port, fires on it, and adds the rows of the firing to the cells of the task's classes. Where there is no memory

@@ -1,5 +1,5 @@
 // The texts that are written besides the output of a program.
-ghost use Rattle.std.specs.Prelude.{◌≡◌, IfOk};
+ghost use Rattle.std.specs.Prelude.{◌≡◌, ◌++◌, codes, IfOk, OnOk};
 ghost use Rattle.csv_streams.specs.FaultWords.{in_words};
 ghost use Rattle.river_road.specs.Text.{program_refused, script_refused, input_refused, large_input, unknown_input, missing_input};
 
@@ -19,10 +19,7 @@ pub fn program<F: Told>(alloc: Global, fault: F) -> Result<Bytes, NoMemory>
     ensures { IfOk result (λ text. text ≡ program_refused (F.told fault)) }
 {
     let words = words(alloc, fault)?;
-    let mut text = Bytes::from_slice(alloc, b"refused: program: ")?;
-    text.extend(words.as_slice())?;
-    text.push(b'\n')?;
-    Ok(text)
+    refusal(alloc, b"refused: program: ", words.as_slice())
 }
 
 /// What refuses a script.
@@ -30,10 +27,24 @@ pub fn script<F: Told>(alloc: Global, fault: F) -> Result<Bytes, NoMemory>
     ensures { IfOk result (λ text. text ≡ script_refused (F.told fault)) }
 {
     let words = words(alloc, fault)?;
-    let mut text = Bytes::from_slice(alloc, b"refused: ")?;
-    text.extend(words.as_slice())?;
-    text.push(b'\n')?;
+    refusal(alloc, b"refused: ", words.as_slice())
+}
+
+// What is refused, and why, in a line.
+fn refusal(alloc: Global, what: &[u8], words: &[u8]) -> Result<Bytes, NoMemory>
+    ensures { IfOk result (λ text. text ≡ what.now ++ (words.now ++ codes "\n")) }
+{
+    let mut text = Bytes::from_slice(alloc, what)?;
+    end_with(&mut text, words)?;
     Ok(text)
+}
+
+// The words come to the text, and end its line.
+fn end_with(text: &mut Bytes, words: &[u8]) -> Result<(), NoMemory>
+    ensures { OnOk result (text.new ≡ text.old ++ (words.now ++ codes "\n")) }
+{
+    text.extend(words)?;
+    text.push(b'\n')
 }
 
 // An input is refused, and why.
@@ -43,8 +54,7 @@ fn input(alloc: Global, name: &[u8], words: &[u8]) -> Result<Bytes, NoMemory>
     let mut text = Bytes::from_slice(alloc, b"refused: input ")?;
     text.extend(name)?;
     text.extend(b": ")?;
-    text.extend(words)?;
-    text.push(b'\n')?;
+    end_with(&mut text, words)?;
     Ok(text)
 }
 

@@ -8,6 +8,7 @@ use Rattle.river_kernels.specs.Kern.{kern_of, fused, packed}
 use Rattle.river_kernels.proofs.KernLemmas.{kern_of-fused}
 use Rattle.brooklet_model.specs.Firings.{beside}
 use Rattle.brooklet_step.specs.Given.{CanTake, CanTakeAll, FiresAt, FiresEach}
+use Rattle.brooklet_step.proofs.Counted.{privates_counted, blank_counted}
 use Rattle.brooklet_step.proofs.Fires.{kern_of-packed}
 use Rattle.brooklet_step.proofs.Size.{size}
 use Rattle.brooklet_step.proofs.Fused.{Parts, spliced_taken, result_both}
@@ -62,22 +63,31 @@ fire_on-returns-in-Fused t c =
     let ek : kern_of c.args.kernel.now ≡ fused a b at = ap kern_of c.in-Fused.is ∙ kern_of-fused c.in-Fused.first c.in-Fused.second at ∙ ap (λ i. fused i (kern_of c.in-Fused.second.value) at) (sym ea) ∙ ap (λ i. fused a i at) (sym eb) in
     subst (λ i. OnOk c.fire_fused.result (FiresAt i c.args.port c.args.item c.args.out.now c.fire_fused.new.out c.args.states.now c.fire_fused.new.states)) (sym ek) c.fire_fused.ensures
 
-pub fire_packed-fire_on-requires : goal.fire_packed-fire_on-requires
-fire_packed-fire_on-requires t c =
+pub fire_blank-fire_on-requires : goal.fire_blank-fire_on-requires
+fire_blank-fire_on-requires t c = (omega (arith, c.decreases), c.requires c.in_ok-given.given c.in_ok-given.ensures.outs c.in_ok-given.ensures.adds)
+
+pub fire_blank-returns : goal.fire_blank-returns
+fire_blank-returns t c = (c.in_ok-given.given, c.in_ok-given.ensures.outs, c.in_ok-given.ensures.adds, c.in_ok-fire_on.ensures)
+
+pub fire_packed-fire_blank-requires : goal.fire_packed-fire_blank-requires
+fire_packed-fire_blank-requires t c =
     let j = kern_of c.args.inner.now in
-    (omega (arith, c.decreases), packed_taken (packed j) j j c.args.port c.args.item c.args.states.now c.args.out.now c.in_ok-given.given refl refl c.requires c.in_ok-given.ensures.outs c.in_ok-given.ensures.adds)
+    (omega (arith, c.decreases), λ e o a. packed_taken (packed j) j j c.args.port c.args.item c.args.states.now c.args.out.now e refl refl c.requires o a)
 
 pub fire_packed-give_pack-requires-clause-given : goal.fire_packed-give_pack-requires-clause-given
 fire_packed-give_pack-requires-clause-given t c =
     let j = kern_of c.args.inner.now in
-    let u = packed_taken (packed j) j j c.args.port c.args.item c.args.states.now c.args.out.now c.in_ok-given.given refl refl c.requires c.in_ok-given.ensures.outs c.in_ok-given.ensures.adds in
-    packed_port j c.args.port c.args.item c.args.states.now c.fire_on.new.states c.args.out.now c.in_ok-given.given c.fire_on.new.out c.requires u c.in_ok-fire_on.ensures
+    let g = c.in_ok-given.ensures in
+    let u = packed_taken (packed j) j j c.args.port c.args.item c.args.states.now c.args.out.now g.0 refl refl c.requires g.1 g.2 in
+    packed_port j c.args.port c.args.item c.args.states.now c.fire_blank.new.states c.args.out.now g.0 c.in_ok-given.given c.requires u g.3
 
 pub fire_packed-returns : goal.fire_packed-returns
 fire_packed-returns t c =
     let j = kern_of c.args.inner.now in
+    let g = c.in_ok-given.ensures in
+    let given = c.in_ok-given.given in
     on_ok_weaker c.give_pack.result
-    (λ took. packed_whole (packed j) j j c.args.port c.args.item c.args.states.now c.fire_on.new.states c.args.out.now c.give_pack.new.out c.in_ok-given.given c.fire_on.new.out (list_at c.fire_on.new.out.outs 0) _ refl refl c.requires c.in_ok-given.ensures.outs c.in_ok-fire_on.ensures refl refl took)
+    (λ took. packed_whole (packed j) j j c.args.port c.args.item c.args.states.now c.fire_blank.new.states c.args.out.now c.give_pack.new.out g.0 given (list_at given.outs 0) _ refl refl c.requires g.1 g.3 refl refl took)
     c.give_pack.ensures
 
 pub fire_fused-split_at_mut-mine-requires : goal.fire_fused-split_at_mut-mine-requires
@@ -85,44 +95,50 @@ fire_fused-split_at_mut-mine-requires t c =
     let a = kern_of c.args.first.now in
     let b = kern_of c.args.second.now in
     let k = fused a b c.args.at in
-    count_fits k a b c.args.at c.in_ok-count.count c.args.port c.args.item c.args.states.now c.args.out.now refl c.in_ok-count.ensures c.requires
+    let shape = c.in_ok-shape.shape in
+    count_fits k a b c.args.at shape.privates c.args.port c.args.item c.args.states.now c.args.out.now refl (privates_counted a shape c.in_ok-shape.ensures) c.requires
 
-pub fire_fused-fire_on-requires : goal.fire_fused-fire_on-requires
-fire_fused-fire_on-requires t c =
+pub fire_fused-fire_blank-requires : goal.fire_fused-fire_blank-requires
+fire_fused-fire_blank-requires t c =
     let a = kern_of c.args.first.now in
     let b = kern_of c.args.second.now in
     let k = fused a b c.args.at in
-    let count = c.in_ok-count.count in
+    let shape = c.in_ok-shape.shape in
+    let count = shape.privates in
     let st = c.args.states.now in
     let mine = c.split_at_mut-mine.result.0.now in
     let rest = c.split_at_mut-mine.result.1.now in
-    let p : Parts k a b c.args.at count st mine rest = record { kernel = refl; counted = c.in_ok-count.ensures; front = c.split_at_mut-mine.ensures.front; back = c.split_at_mut-mine.ensures.back } in
-    (omega (arith, c.decreases), first_taken k a b c.args.at count c.args.port c.args.item st mine rest c.args.out.now c.in_ok-mid.mid p c.requires c.in_ok-mid.ensures)
+    let p : Parts k a b c.args.at count st mine rest = record { kernel = refl; counted = privates_counted a shape c.in_ok-shape.ensures; front = c.split_at_mut-mine.ensures.front; back = c.split_at_mut-mine.ensures.back } in
+    (omega (arith, c.decreases), λ e o n. first_taken k a b c.args.at count c.args.port c.args.item st mine rest c.args.out.now e p c.requires (blank_counted a shape e c.in_ok-shape.ensures o n))
 
 pub fire_fused-fire_second-requires : goal.fire_fused-fire_second-requires
 fire_fused-fire_second-requires t c =
     let a = kern_of c.args.first.now in
     let b = kern_of c.args.second.now in
     let k = fused a b c.args.at in
-    let count = c.in_ok-count.count in
+    let shape = c.in_ok-shape.shape in
+    let count = shape.privates in
     let st = c.args.states.now in
     let mine = c.split_at_mut-mine.result.0.now in
     let rest = c.split_at_mut-mine.result.1.now in
-    let p : Parts k a b c.args.at count st mine rest = record { kernel = refl; counted = c.in_ok-count.ensures; front = c.split_at_mut-mine.ensures.front; back = c.split_at_mut-mine.ensures.back } in
-    (omega (arith, c.decreases), takes_on k a b c.args.at count c.args.port c.args.item st mine rest c.fire_on.new.states c.args.out.now c.in_ok-mid.mid c.fire_on.new.out p c.requires c.in_ok-mid.ensures c.in_ok-fire_on.ensures)
+    let m = c.in_ok-mid.ensures in
+    let p : Parts k a b c.args.at count st mine rest = record { kernel = refl; counted = privates_counted a shape c.in_ok-shape.ensures; front = c.split_at_mut-mine.ensures.front; back = c.split_at_mut-mine.ensures.back } in
+    (omega (arith, c.decreases), takes_on k a b c.args.at count c.args.port c.args.item st mine rest c.fire_blank.new.states c.args.out.now m.0 c.in_ok-mid.mid p c.requires (blank_counted a shape m.0 c.in_ok-shape.ensures m.1 m.2) m.3)
 
 pub fire_fused-returns : goal.fire_fused-returns
 fire_fused-returns t c =
     let a = kern_of c.args.first.now in
     let b = kern_of c.args.second.now in
     let k = fused a b c.args.at in
-    let count = c.in_ok-count.count in
+    let shape = c.in_ok-shape.shape in
+    let count = shape.privates in
     let st = c.args.states.now in
     let mine = c.split_at_mut-mine.result.0.now in
     let rest = c.split_at_mut-mine.result.1.now in
-    let p : Parts k a b c.args.at count st mine rest = record { kernel = refl; counted = c.in_ok-count.ensures; front = c.split_at_mut-mine.ensures.front; back = c.split_at_mut-mine.ensures.back } in
+    let m = c.in_ok-mid.ensures in
+    let p : Parts k a b c.args.at count st mine rest = record { kernel = refl; counted = privates_counted a shape c.in_ok-shape.ensures; front = c.split_at_mut-mine.ensures.front; back = c.split_at_mut-mine.ensures.back } in
     on_ok_weaker c.fire_second.result
-    (λ r. both_fire k a b c.args.at count c.args.port c.args.item st mine rest c.fire_on.new.states c.fire_second.new.states c.args.out.now c.fire_second.new.out c.in_ok-mid.mid c.fire_on.new.out p c.requires c.in_ok-mid.ensures c.in_ok-fire_on.ensures r)
+    (λ r. both_fire k a b c.args.at count c.args.port c.args.item st mine rest c.fire_blank.new.states c.fire_second.new.states c.args.out.now c.fire_second.new.out m.0 c.in_ok-mid.mid p c.requires (blank_counted a shape m.0 c.in_ok-shape.ensures m.1 m.2) m.3 r)
     c.fire_second.ensures
 
 pub fire_second-take_port-between-requires : goal.fire_second-take_port-between-requires

@@ -10,6 +10,9 @@ decreases-fire_on l = 4 * size (kern_of l.kernel.now)
 abbrev pub decreases-fire_each : goal.decreases-fire_each
 decreases-fire_each l = 4 * size (kern_of l.kernel.now) + 1
 
+abbrev pub decreases-fire_blank : goal.decreases-fire_blank
+decreases-fire_blank l = 4 * size (kern_of l.kernel.now) + 1
+
 abbrev pub decreases-fire_packed : goal.decreases-fire_packed
 decreases-fire_packed l = 4 * size (kern_of l.inner.now) + 2
 

@@ -4,16 +4,14 @@ use Rattle.river_kernels.proofs.KernLemmas.{kern_of-fused}
 use Rattle.brooklet_model.specs.Shapes.{IsFormed}
 use Rattle.brooklet_step.specs.Initial.{AreFirstStates}
 use Rattle.brooklet_step.proofs.Fires.{kern_of-packed}
-use Rattle.brooklet_step.proofs.Starts.{packed_first, fused_first}
+use Rattle.brooklet_step.proofs.Starts.{if_ok, first_at, packed_first, fused_first}
 use Rattle.brooklet_step.proofs.start.+states_of.Goals as goal
 
-pub returns-then-is_leaf : goal.returns-then-is_leaf
-returns-then-is_leaf t c = c.in_ok-states.ensures
-
-pub returns-in_ok-states-in-Packed : goal.returns-in_ok-states-in-Packed
-returns-in_ok-states-in-Packed t c =
-    let ek : kern_of c.args.kernel.now ≡ packed (kern_of c.deref.result.now) = ap kern_of c.in-Packed.is ∙ kern_of-packed c.in-Packed.inner ∙ ap (λ j. packed (kern_of j)) (sym c.deref.ensures) in
-    subst (λ i. AreFirstStates i c.in_ok-states-in-Packed.states) (sym ek) (packed_first (kern_of c.deref.result.now) c.in_ok-states-in-Packed.states c.in_ok-states-in-Packed.ensures)
+pub returns-in-Packed : goal.returns-in-Packed
+returns-in-Packed t c =
+    let k = kern_of c.deref.result.now in
+    let ek : kern_of c.args.kernel.now ≡ packed k = ap kern_of c.in-Packed.is ∙ kern_of-packed c.in-Packed.inner ∙ ap (λ j. packed (kern_of j)) (sym c.deref.ensures) in
+    if_ok _ _ c.states_of.result (λ st h. first_at (kern_of c.args.kernel.now) (packed k) st ek (packed_first k st h)) c.states_of.ensures
 
 pub returns-in_ok-append-in-Fused : goal.returns-in_ok-append-in-Fused
 returns-in_ok-append-in-Fused t c =

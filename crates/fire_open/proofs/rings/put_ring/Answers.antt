@@ -1,20 +1,31 @@
-use Rattle.std.proofs.Common.{◌<◌, ◌∙◌, length, subst, sym, arith, get_or-set_other}
+use Rattle.std.proofs.Common.{◌<◌, ◌∙◌, length, get_or, subst, ap, sym, arith, get_or-set_other}
+use Rattle.std.specs.Prelude.{slice_set}
+use Rattle.std.proofs.lemmas.List.{length-set}
 use Rattle.fire_tasks.specs.declared.task.Task.{Task}
+use Rattle.fire_tasks.specs.declared.ports.Inlet.TheVariants.{Ring as TakesFrom}
+use Rattle.fire_open.specs.Links.{Put}
+use Rattle.fire_open.specs.Settling.{with_in}
 use Rattle.fire_open.proofs.RingLemmas.{put_is}
 use Rattle.fire_open.proofs.rings.put_ring.Goals as goal
 
-pub at_mut-requires-2 : goal.at_mut-requires-2
-at_mut-requires-2 c =
-    let t = c.at_mut.result.now in
-    subst (λ (y : Task). c.args.link.out < length y.outs) (sym (c.at_mut.ensures.value t)) (c.requires.out t)
+pub put_take-requires-clause-reader : goal.put_take-requires-clause-reader
+put_take-requires-clause-reader c =
+    let l = ap length c.put_feed.ensures.2 ∙ length-set c.args.tasks.now c.args.link.writer _ in
+    let r = c.requires.reader in
+    omega (arith, l, r)
 
-pub at_mut-requires-4 : goal.at_mut-requires-4
-at_mut-requires-4 c =
-    let t = c.at_mut-3.result.now in
+pub put_take-requires-clause-port : goal.put_take-requires-clause-port
+put_take-requires-clause-port c = λ d.
     let o = c.requires.order in
-    subst (λ (y : Task). c.args.link.port < length y.ins) (sym (c.at_mut-3.ensures.value t ∙ get_or-set_other c.args.tasks.now c.args.link.writer c.args.link.reader _ t (λ e. omega (arith, e, o)))) (c.requires.port t)
+    subst (λ (y : Task). c.args.link.port < length y.ins)
+    (sym (get_or-set_other c.args.tasks.now c.args.link.writer c.args.link.reader _ d (λ e. omega (arith, e, o))) ∙ sym (ap (λ ts. get_or ts c.args.link.reader d) c.put_feed.ensures.2))
+    (c.requires.port d)
 
 pub returns : goal.returns
 returns c =
-    put_is c.args.cap c.args.tasks.now c.args.link c.in_ok-feed.feed c.in_ok-feed.take c.at_mut.result.now c.at_mut-3.result.now (c.at_mut.ensures.value c.at_mut.result.now) (c.at_mut-3.ensures.value c.at_mut-3.result.now)
-    c.requires.order c.requires.reader c.in_ok-feed.ensures.ends c.in_ok-feed.ensures.feed c.in_ok-feed.ensures.take
+    let w = c.put_feed.ensures in
+    let r = c.put_take.ensures in
+    subst (λ ts. Put c.args.cap c.args.tasks.now ts c.args.link)
+    (sym (r.2 ∙ ap (λ ts. slice_set ts c.args.link.reader (with_in r.0 c.args.link.port (TakesFrom c.in_ok-feed.take))) w.2))
+    (put_is c.args.cap c.args.tasks.now c.args.link c.in_ok-feed.feed c.in_ok-feed.take w.0 r.0 w.1 (r.1 ∙ ap (λ ts. get_or ts c.args.link.reader r.0) w.2)
+    c.requires.order c.requires.reader c.in_ok-feed.ensures.ends c.in_ok-feed.ensures.feed c.in_ok-feed.ensures.take)

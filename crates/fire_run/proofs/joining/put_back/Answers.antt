@@ -1,9 +1,9 @@
-use Rattle.std.proofs.Common.{◌∷◌, [], length, length-append, arith, ap}
-use Rattle.fire_run.proofs.GatherLemmas.{putting_next, putting_within}
+use Rattle.std.proofs.Common.{◌∷◌, [], length, length-append, arith, ap, sym, subst}
+use Rattle.fire_run.proofs.GatherLemmas.{Putting, putting_next, putting_within}
 use Rattle.fire_run.proofs.joining.put_back.Goals as goal
 
-pub at_mut-requires : goal.at_mut-requires
-at_mut-requires c =
+pub put_task-requires : goal.put_task-requires
+put_task-requires c =
     putting_within c.args.own.now c.args.tasks.now c.loop-task.own c.loop-task.tasks c.pop.new.self c.in-Some.task c.loop-task.invariant c.in-Some.ensures c.requires
 
 pub loop-task-smaller : goal.loop-task-smaller
@@ -14,4 +14,5 @@ loop-task-smaller c =
 
 pub loop-task-preserved : goal.loop-task-preserved
 loop-task-preserved c =
-    putting_next c.args.own.now c.args.tasks.now c.loop-task.own c.loop-task.tasks c.pop.new.self c.in-Some.task c.loop-task.invariant c.in-Some.ensures
+    subst (Putting c.args.own.now c.args.tasks.now c.pop.new.self) (sym c.put_task.ensures)
+    (putting_next c.args.own.now c.args.tasks.now c.loop-task.own c.loop-task.tasks c.pop.new.self c.in-Some.task c.loop-task.invariant c.in-Some.ensures)

@@ -1,7 +1,8 @@
-use Rattle.std.proofs.Common.{◌+◌, ◌<◌, ◌^◌, length, subst, sym, ◌∙◌, set, arith}
+use Rattle.std.proofs.Common.{◌+◌, ◌<◌, ◌^◌, length, refl, subst, sym, ◌∙◌, set, arith}
 use Rattle.river_plan.specs.Forms.{plan_form}
 use Rattle.fire_tasks.specs.Tasks.{IsTaskAt}
-use Rattle.fire_tasks.proofs.BundleLemmas.{HavePassed, passed_moved, passed_still, passed_all, ends_many, seat_for}
+use Rattle.fire_tasks.proofs.TurnLemmas.{sits_then}
+use Rattle.fire_tasks.proofs.BundleLemmas.{HavePassed, passed_first, passed_moved, passed_still, passed_all, ends_many, seat_for}
 use Rattle.fire_tasks.proofs.bundle.sweep.Goals as goal
 use Rattle.fire_tasks.proofs.bundle.sweep.Goals.{then-branch, else-branch}
 
@@ -50,3 +51,12 @@ loop-place-preserved g c =
 pub returns-clause-swept : goal.returns-clause-swept
 returns-clause-swept g c = passed_all (plan_form c.args.plan.now) c.args.seat.now.view c.loop-place.seat.view c.loop-place.place c.args.tasks.now c.loop-place.tasks c.loop-place.moved
     c.loop-place.invariant.passed (omega arith)
+
+pub loop-place-init : goal.loop-place-init
+loop-place-init g c = record { lot = refl; blank = c.requires.blank; passed = passed_first (plan_form c.args.plan.now) c.args.seat.now.view c.args.tasks.now c.requires.tasks c.requires.rests }
+
+pub returns-in_err-pass_task-clause-lot : goal.returns-in_err-pass_task-clause-lot
+returns-in_err-pass_task-clause-lot g c = c.pass_task.ensures.lot ∙ c.loop-place.invariant.lot
+
+pub returns-in_err-pass_task-clause-sits : goal.returns-in_err-pass_task-clause-sits
+returns-in_err-pass_task-clause-sits g c = sits_then c.args.seat.now.view c.loop-place.seat.view c.pass_task.new.seat.view c.loop-place.invariant.passed.sits c.pass_task.ensures.sits

@@ -1,6 +1,6 @@
 use Rattle.std.proofs.Common.{◌≡◌, true}
 use Rattle.river_plan.specs.Forms.{plan_form}
-use Rattle.fire_tasks.proofs.TurnLemmas.{turned_sent, turned_none, turned_took, turned_busy, looked_at}
+use Rattle.fire_tasks.proofs.TurnLemmas.{turned_sent, turned_none, turned_took, turned_busy, looked_at, sits_none}
 use Rattle.fire_tasks.proofs.passing.take_turn.Goals as goal
 
 pub returns-then-not-is_idle-clause-turned : goal.returns-then-not-is_idle-clause-turned
@@ -30,3 +30,9 @@ pub returns-in-None-clause-turned : goal.returns-in-None-clause-turned
 returns-in-None-clause-turned g c =
     turned_none (plan_form c.args.plan.now) c.args.seat.now.view c.args.task.now c.send_all.new.outs c.send_all.new.pending c.in_ok-sent.sent c.first_ready.new.ins c.requires.task c.requires.seat.rests
     c.in_ok-sent.ensures.sent c.in_ok-sent.ensures.stuck c.first_ready.ensures.same c.first_ready.ensures.received c.in-None.ensures.none
+
+pub returns-then-not-is_idle-clause-sits : goal.returns-then-not-is_idle-clause-sits
+returns-then-not-is_idle-clause-sits g c = sits_none c.args.seat.now.view c.requires.seat.rests
+
+pub returns-in-None-clause-sits : goal.returns-in-None-clause-sits
+returns-in-None-clause-sits g c = sits_none c.args.seat.now.view c.requires.seat.rests
