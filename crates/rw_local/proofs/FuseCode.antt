@@ -1,7 +1,7 @@
 -- What the code of fusion stands on.
 use Rattle.std.proofs.Common.{◌≡◌, ℕ, zero, suc, ◌+◌, ◌<◌, ◌≤◌, ◌^◌, true, false, Some, List, [], ◌∷◌, ◌++◌, length, take, drop, get_or, sym, ap, ◌∙◌, subst}
 use Rattle.std.proofs.Common.{arith, ⊎_elim, nat_lt}
-use Rattle.std.specs.Prelude.{All, Ok}
+use Rattle.std.specs.Prelude.{All, Ok, Err, None}
 use Rattle.std.proofs.lemmas.Bool.{or_parts, ltb-false}
 use Rattle.river_base.specs.Name.{name_eq}
 use Rattle.river_kernels.specs.Limits.{nesting}
@@ -15,7 +15,8 @@ use Rattle.river_plan.proofs.NameLemmas.{cases_bool}
 use Rattle.river_plan.proofs.ShareLemmas.{each_back}
 use Rattle.brooklet_model.proofs.Lists.{if_true, if_false, if_lt, if_eq}
 use Rattle.plan_edits.specs.Lists.{place_of_name, undeclared, first_with}
-use Rattle.rw_local.specs.Fuse.{fused_op, fused_plan, share, is_large, fuse_found, fuse_of}
+use Rattle.rw_local.specs.Fuse.{fused_op, fused_plan, share, is_large, fuse_two, fuse_found, fuse_of}
+use Rattle.plan_edits.specs.declared.unfit.Unfit.TheVariants.{U2}
 use Rattle.plan_edits.proofs.Surgery.{total-append, found}
 use Rattle.plan_edits.proofs.Types.{flat_each}
 use Rattle.rw_local.proofs.FuseLaw.{names_of, fuse_keeps}
@@ -145,11 +146,19 @@ in_any p q =
     ((λ lt. omega (arith, a, lt)), (λ lt. omega (arith, a, lt)))
 
 -- where all conditions hold, the step is accepted
-pub fuse_ok : (p : PlanForm) (q : Name) (w r : OpForm) → 0 < count q (queue_names p) → first_with (writes_it q) p.ops ≡ Some w
-    → first_with (reads_it q) p.ops ≡ Some r → length r.reads ≡ 1 → is_large (fused_op q w r) ≡ false → share w.vars r.vars ≡ false
-    → fuse_of p q ≡ Ok (fused_plan p q w r)
-fuse_ok p q w r lt hw hr one small none =
-    if_lt 0 (count q (queue_names p)) _ _ lt
-    ∙ ap (λ o. fuse_found p q o (first_with (reads_it q) p.ops)) hw
-    ∙ ap (fuse_found p q (Some w)) hr
-    ∙ if_eq (length r.reads) 1 _ _ one ∙ if_false (is_large (fused_op q w r)) _ _ small ∙ if_false (share w.vars r.vars) _ _ none
+pub two_ok : (p : PlanForm) (q : Name) (w r : OpForm) → length r.reads ≡ 1 → is_large (fused_op q w r) ≡ false → share w.vars r.vars ≡ false
+    → fuse_two p q w r ≡ Ok (fused_plan p q w r)
+two_ok p q w r one small none = if_eq (length r.reads) 1 _ _ one ∙ if_false (is_large (fused_op q w r)) _ _ small ∙ if_false (share w.vars r.vars) _ _ none
+
+-- the step at a queue is that of its writer and its reader
+pub fuse_found_two : (p : PlanForm) (q : Name) (w r : OpForm) → 0 < count q (queue_names p) → first_with (writes_it q) p.ops ≡ Some w
+    → first_with (reads_it q) p.ops ≡ Some r → fuse_of p q ≡ fuse_two p q w r
+fuse_found_two p q w r lt hw hr = if_lt 0 (count q (queue_names p)) _ _ lt ∙ ap (λ o. fuse_found p q o (first_with (reads_it q) p.ops)) hw ∙ ap (fuse_found p q (Some w)) hr
+
+-- its writer or its reader is not there
+pub no_writer : (p : PlanForm) (q : Name) → 0 < count q (queue_names p) → first_with (writes_it q) p.ops ≡ None → fuse_of p q ≡ Err U2
+no_writer p q lt hw = if_lt 0 (count q (queue_names p)) _ _ lt ∙ ap (λ o. fuse_found p q o (first_with (reads_it q) p.ops)) hw
+
+pub no_reader : (p : PlanForm) (q : Name) (w : OpForm) → 0 < count q (queue_names p) → first_with (writes_it q) p.ops ≡ Some w
+    → first_with (reads_it q) p.ops ≡ None → fuse_of p q ≡ Err U2
+no_reader p q w lt hw hr = if_lt 0 (count q (queue_names p)) _ _ lt ∙ ap (λ o. fuse_found p q o (first_with (reads_it q) p.ops)) hw ∙ ap (fuse_found p q (Some w)) hr

@@ -1,9 +1,11 @@
 // Fusion of the writer and the reader of a queue.
-ghost use Rattle.std.specs.Prelude.{◌≡◌, ◌<◌, ◌^◌, IfOk, OnOk, ◌++◌, IsTrue, ◌↔◌, length, take, drop, ◌+◌};
+ghost use Rattle.std.specs.Prelude.{◌≡◌, ◌<◌, ◌^◌, Some, IfOk, OnOk, ◌++◌, IsTrue, ◌↔◌, length, take, drop, ◌+◌};
 ghost use Rattle.river_plan.specs.Forms.{plan_form, op_form, op_forms, decl_names, queue_names};
 ghost use Rattle.river_plan.specs.Names.{count};
-ghost use Rattle.plan_edits.specs.Lists.{place_of_name, undeclared};
-ghost use Rattle.rw_local.specs.Fuse.{fuse_of, fused_plan};
+ghost use Rattle.river_plan.specs.Uses.{writes_it, reads_it};
+ghost use Rattle.river_plan.specs.Valid.{IsPlan};
+ghost use Rattle.plan_edits.specs.Lists.{place_of_name, undeclared, first_with};
+ghost use Rattle.rw_local.specs.Fuse.{fuse_of, fuse_two, fused_plan};
 ghost use Rattle.plan_edits.specs.Answered.{IsAnswered};
 
 use crate::names::share;
@@ -18,23 +20,32 @@ use std::alloc::Global;
 pub fn fuse(alloc: Global, plan: &Plan, queue: &Name) -> Result<Plan, Unfit>
     ensures { IsAnswered (fuse_of plan.now queue.now) result }
 {
-    fuse_at(alloc, plan, *queue)
-}
-
-// The same, for the name of a queue.
-fn fuse_at(alloc: Global, plan: &Plan, queue: Name) -> Result<Plan, Unfit>
-    ensures { IsAnswered (fuse_of plan.now queue) result }
-{
     let raw = plan.raw();
-    if !is_queue(raw, queue) {
+    if !is_queue(raw, *queue) {
         return Err(Unfit::U1);
     }
-    let Some(writer) = writer(&raw.ops, queue) else {
+    let Some(writer) = writer(&raw.ops, *queue) else {
         return Err(Unfit::U2);
     };
-    let Some(reader) = reader(&raw.ops, queue) else {
+    let Some(reader) = reader(&raw.ops, *queue) else {
         return Err(Unfit::U2);
     };
+    fuse_two(alloc, raw, writer, reader, *queue)
+}
+
+// The plan with these two as one, where they may be.
+fn fuse_two(
+    alloc: Global,
+    raw: &RawPlan,
+    writer: &Op,
+    reader: &Op,
+    queue: Name,
+) -> Result<Plan, Unfit>
+    requires valid { IsPlan (plan_form raw.now) }
+    requires written { first_with (writes_it queue) (op_forms raw.now.ops) ≡ Some (op_form writer.now) }
+    requires read { first_with (reads_it queue) (op_forms raw.now.ops) ≡ Some (op_form reader.now) }
+    ensures { IsAnswered (fuse_two (plan_form raw.now) queue (op_form writer.now) (op_form reader.now)) result }
+{
     if reader.reads.len() != 1 {
         return Err(Unfit::U3);
     }

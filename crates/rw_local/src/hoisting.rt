@@ -24,7 +24,7 @@ use river_plan::{Decl, Decls, Kernel, Names, Op, Ops, Plan, QueueType, RawPlan};
 use std::alloc::Global;
 use work_code::Expr;
 
-/// A selection, with its condition, its input and its output.
+// A selection, with its condition, its input and its output.
 #[derive(Clone, Copy)]
 struct Selection<'a> {
     op: &'a Op,
@@ -33,7 +33,7 @@ struct Selection<'a> {
     out: Name,
 }
 
-/// A selection and the operator that fed it, as they stand after the step.
+// A selection and the operator that fed it, as they stand after the step.
 #[derive(Clone, Copy)]
 struct Pair<'a> {
     /// The selection.
