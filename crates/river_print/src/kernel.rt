@@ -19,10 +19,10 @@ use std::alloc::Global;
 use work_code::{Code, Expr, Exprs};
 use work_text::{print_code, print_expr};
 
-/// Appends the text of a kernel; where there is no memory, maybe a part of it.
+// Appends the text of a kernel; where there is no memory, maybe a part of it.
 #[cycle(print_kernel)]
 #[tactic(auto, using(crate::proofs::Joined::joins))]
-pub fn print_kernel(alloc: Global, kernel: &Kernel, to: &mut Bytes) -> Result<(), NoMemory>
+fn print_kernel(alloc: Global, kernel: &Kernel, to: &mut Bytes) -> Result<(), NoMemory>
     ensures { OnOk result (to.new ≡ to.old ++ kernel_text (kern_of kernel.now)) }
 {
     match kernel {
@@ -60,6 +60,7 @@ pub fn print_between(
     to.extend(after)
 }
 
+// The text of two kernels as one.
 #[cycle(print_kernel)]
 #[tactic(auto, using(crate::proofs::Joined::joins))]
 fn print_fused(

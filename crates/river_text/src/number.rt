@@ -1,7 +1,7 @@
 // Numbers read.
-ghost use Rattle.std.specs.Prelude.{◌≡◌};
+ghost use Rattle.std.specs.Prelude.{◌≡◌, ◌++◌, [], ◌∷◌};
 ghost use Rattle.text_forms.specs.Gives.{Gives};
-ghost use Rattle.text_forms.specs.Parse.{commas, listing};
+ghost use Rattle.text_forms.specs.Parse.{commas, listing, seen};
 ghost use Rattle.work_text.specs.declared.sign.Symbol.TheVariants as s;
 ghost use Rattle.river_text.specs.ReadKernels.{kind_number_at, signed_at, width_at, round, starts_at};
 ghost use Rattle.river_text.specs.ReadKernels.{widths_at, weights_at, number_at, two_at, pair_at, three_at, triple_at, rates_at};
@@ -55,15 +55,23 @@ fn signed(reader: &mut Reader<'_>) -> Result<i64, Fault>
     reader.value()
 }
 
+// Puts a number of this kind at the end of a list.
+fn add_number(reader: &mut Reader<'_>, kind: Kind, to: &mut Numbers) -> Result<(), Fault>
+    ensures { Gives (λ _. to.new) result reader.new (seen (λ v. to.old ++ v ∷ []) (kind_number_at kind) reader.old) }
+{
+    let number = number_of(reader, kind)?;
+    Ok(to.push(number)?)
+}
+
 // Numbers of this kind with commas between them, at least one.
 #[tactic(auto, using(crate::proofs::Steps::numbers))]
 fn some_numbers(reader: &mut Reader<'_>, alloc: Global, kind: Kind) -> Result<Numbers, Fault>
     ensures { Gives (λ list. list) result reader.new (commas (kind_number_at kind) reader.old) }
 {
     let mut list = Numbers::new(alloc);
-    list.push(number_of(reader, kind)?)?;
+    add_number(reader, kind, &mut list)?;
     'items: while reader.takes(Symbol::Comma) {
-        list.push(number_of(reader, kind)?)?;
+        add_number(reader, kind, &mut list)?;
     }
     Ok(list)
 }
