@@ -1,5 +1,5 @@
 -- The plain forms of kernels.
-use Rattle.std.proofs.Common.{◌≡◌, List, sym, ap, ◌∙◌}
+use Rattle.std.proofs.Common.{◌≡◌, sym, ap, ◌∙◌}
 use Rattle.work_code.specs.Term.{term, terms}
 use Rattle.work_code.specs.declared.expr.Expr.{Expr}
 use Rattle.work_code.specs.declared.expr.Exprs.{Exprs}

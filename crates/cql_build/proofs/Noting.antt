@@ -1,5 +1,5 @@
 -- The streams of units, noted one unit after another.
-use Rattle.std.proofs.Common.{◌≡◌, ℕ, ◌+◌, ◌<◌, ◌≤◌, List, [], ◌∷◌, ◌++◌, length, drop, get_or, refl, sym, ap, ◌∙◌, append_assoc, append-nil}
+use Rattle.std.proofs.Common.{◌≡◌, ℕ, ◌+◌, ◌<◌, ◌≤◌, List, [], ◌∷◌, ◌++◌, length, drop, get_or, sym, ap, ◌∙◌, append_assoc, append-nil}
 use Rattle.cql_model.specs.Program.{registered, all_uses, streams_of}
 use Rattle.cql_text.specs.Tree as tree
 use Rattle.cql_text.specs.Tree.{Program, Register, AQuery, part_of, parts_of}

@@ -1,5 +1,5 @@
 -- What the code's values stand for.
-use Rattle.std.specs.Prelude.{Option, None, Some}
+use Rattle.std.specs.Prelude.{Option}
 use Rattle.text_blocks.specs.Parts.{optional}
 use Rattle.streamit_text.specs.Tree.{expression}
 use Rattle.params_text.specs.Grammar as grammar
@@ -17,10 +17,6 @@ rate_of (code_rate.Peek c) = grammar.peek (expression c)
 
 abbrev pub rates_of : ParamRates → grammar.Rates
 rates_of r = record { push = optional expression r.push; pop = optional expression r.pop; peek = optional expression r.peek }
-
-abbrev pub option_rates : Option ParamRates → Option grammar.Rates
-option_rates None = None
-option_rates (Some r) = Some (rates_of r)
 
 abbrev pub both_works : Option code_work.ParamWork × code_work.ParamWork → Option ParamWork × ParamWork
 both_works w = (optional work_of w.0, work_of w.1)

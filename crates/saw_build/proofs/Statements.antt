@@ -1,5 +1,5 @@
 -- Statements that hold no block, read part by part.
-use Rattle.std.proofs.Common.{◌≡◌, ℕ, ◌<◌, ◌≤◌, List, [], ◌∷◌, ◌++◌, length, take, Option, Result, Ok, Err, refl, sym, ap, ◌∙◌}
+use Rattle.std.proofs.Common.{◌≡◌, ℕ, ◌<◌, ◌≤◌, List, [], ◌∷◌, ◌++◌, length, take, Option, Result, Ok, Err, refl, ap, ◌∙◌}
 use Rattle.std.specs.Prelude.{nat_eq}
 use Rattle.std.proofs.lemmas.Bool.{lt-ltb, le-ltb}
 use Rattle.work_code.specs.Steps.{one_step}
@@ -9,7 +9,7 @@ use Rattle.river_plan.specs.Forms.{Name}
 use Rattle.kern_tables.specs.declared.kind.TableKind.{TableKind}
 use Rattle.saw_text.specs.Tree.{Expression}
 use Rattle.saw_text.specs.Tree as source
-use Rattle.saw_model.specs.Elaborate.{Fault, Limit, Shape, At, Read, on_ok, demand, counted, find, is_new, slot_of, table_port, has_slot, first_term, term_of, indexes_of, weight_of, keys_in, emitted, declared, step_of}
+use Rattle.saw_model.specs.Elaborate.{Fault, Limit, Shape, At, Read, on_ok, demand, counted, find, is_new, slot_of, table_port, has_slot, first_term, term_of, indexes_of, weight_of, keys_in, declared, step_of}
 use Rattle.saw_build.specs.declared.fault.Fault as fault
 use Rattle.saw_build.specs.Judging.{row_of}
 use Rattle.saw_build.specs.View.{Tells}

@@ -7,4 +7,5 @@ pub mod Knowing
 pub mod LastUnit
 pub mod Lines
 pub mod Numbered
+pub mod Owning
 pub mod Weights

@@ -1,4 +1,4 @@
-use Rattle.std.proofs.Common.{◌≡◌, ◌+◌, ◌<◌, ◌≤◌, length, sym, ap, arith}
+use Rattle.std.proofs.Common.{◌+◌, ◌≤◌, length, sym, ap, arith}
 use Rattle.cql_build.specs.declared.item.Item.{Item}
 use Rattle.cql_build.proofs.Growing.{crosses_start, crosses_next, crosses_end}
 use Rattle.cql_build.proofs.build.crosses.Goals as goal

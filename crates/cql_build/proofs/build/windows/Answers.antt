@@ -1,4 +1,4 @@
-use Rattle.std.proofs.Common.{◌≡◌, ◌<◌, ◌≤◌, length, sym, ap, ◌∙◌, arith}
+use Rattle.std.proofs.Common.{◌<◌, ◌≤◌, length, sym, ap, ◌∙◌, arith}
 use Rattle.river_kernels.specs.Fits.{relation}
 use Rattle.cql_build.specs.declared.item.Item.{Item}
 use Rattle.cql_build.proofs.Growing.{width_at, windows_start, windows_short, windows_next, windows_end}

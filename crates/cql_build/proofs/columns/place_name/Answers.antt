@@ -1,4 +1,3 @@
-use Rattle.std.proofs.Common.{◌≡◌}
 use Rattle.cql_build.proofs.MadeNames.{place_is_name}
 use Rattle.cql_build.proofs.columns.place_name.Goals as goal
 

@@ -1,4 +1,4 @@
-use Rattle.std.proofs.Common.{◌≡◌, true, false, sym, ap, ◌∙◌, take_all}
+use Rattle.std.proofs.Common.{sym, ap, ◌∙◌, take_all}
 use Rattle.std.specs.Prelude.{nat_lt}
 use Rattle.river_base.specs.Name.{name_eq}
 use Rattle.river_plan.specs.Names.{count}

@@ -1,4 +1,4 @@
-use Rattle.std.proofs.Common.{◌≡◌, ◌≤◌, ◌+◌, sym, ◌∙◌, subst, arith}
+use Rattle.std.proofs.Common.{◌+◌, sym, ◌∙◌, subst, arith}
 use Rattle.cql_text.specs.Tree.{part_of}
 use Rattle.cql_build.proofs.Units.{Judging, judging_start, judging_next, judging_fault, registers_few}
 use Rattle.cql_build.proofs.judge.fault_among.Goals as goal

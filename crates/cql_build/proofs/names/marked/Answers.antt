@@ -1,4 +1,3 @@
-use Rattle.std.proofs.Common.{◌≡◌}
 use Rattle.cql_build.proofs.MadeNames.{marked_is_name}
 use Rattle.cql_build.proofs.names.marked.Goals as goal
 

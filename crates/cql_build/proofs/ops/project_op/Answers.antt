@@ -1,4 +1,4 @@
-use Rattle.std.proofs.Common.{◌≡◌, ap, ◌∙◌}
+use Rattle.std.proofs.Common.{ap, ◌∙◌}
 use Rattle.river_kernels.specs.Kern.{project}
 use Rattle.cql_model.specs.Translation.{op}
 use Rattle.cql_build.proofs.Kernels.{kern_of-project}

@@ -1,4 +1,4 @@
-use Rattle.std.proofs.Common.{◌≡◌, ◌+◌, ◌-◌, [], ◌∷◌, ◌++◌, sym, ap, ◌∙◌, append_assoc}
+use Rattle.std.proofs.Common.{◌+◌, ◌-◌, [], ◌∷◌, ◌++◌, sym, ap, ◌∙◌, append_assoc}
 use Rattle.cql_model.specs.Translation.{copy_names}
 use Rattle.cql_build.proofs.Growing.{copies_next}
 use Rattle.cql_build.proofs.output.copies.Goals as goal

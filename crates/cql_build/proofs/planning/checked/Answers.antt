@@ -1,4 +1,4 @@
-use Rattle.std.proofs.Common.{◌≡◌, None, sym, subst}
+use Rattle.std.proofs.Common.{None, sym, subst}
 use Rattle.river_plan.specs.Forms.{plan_form}
 use Rattle.cql_build.specs.Planned.{IsLimited}
 use Rattle.cql_build.proofs.Filled.{refused_is}

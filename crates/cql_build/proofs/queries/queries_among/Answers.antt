@@ -1,4 +1,3 @@
-use Rattle.std.proofs.Common.{◌≡◌}
 use Rattle.cql_build.proofs.Querying.{querying_good, querying_next}
 use Rattle.cql_build.proofs.queries.queries_among.Goals as goal
 

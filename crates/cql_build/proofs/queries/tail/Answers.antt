@@ -1,4 +1,3 @@
-use Rattle.std.proofs.Common.{◌≡◌}
 use Rattle.cql_text.specs.Tree.{query_of}
 use Rattle.cql_build.specs.Views.{scope}
 use Rattle.cql_build.proofs.Growing.{on_ok_then}

@@ -1,4 +1,4 @@
-use Rattle.std.proofs.Common.{◌≡◌, sym, ◌∙◌}
+use Rattle.std.proofs.Common.{sym, ◌∙◌}
 use Rattle.cql_build.specs.Views.{scope}
 use Rattle.cql_build.proofs.Lists.{too_many}
 use Rattle.cql_build.proofs.values.chosen_fault.Goals as goal

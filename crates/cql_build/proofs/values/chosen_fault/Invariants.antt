@@ -1,4 +1,4 @@
-use Rattle.std.proofs.Common.{◌≡◌, ◌≤◌, drop}
+use Rattle.std.proofs.Common.{◌≡◌, drop}
 use Rattle.cql_model.specs.Faults.{chosen_fault}
 use Rattle.cql_text.specs.Tree.{chosen_of}
 use Rattle.cql_build.specs.Views.{scope}

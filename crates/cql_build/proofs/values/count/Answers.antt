@@ -1,4 +1,4 @@
-use Rattle.std.proofs.Common.{◌≡◌, ap, sym, ◌∙◌, arith}
+use Rattle.std.proofs.Common.{ap, sym, ◌∙◌, arith}
 use Rattle.river_plan.specs.Names.{one_if}
 use Rattle.cql_build.proofs.Lists.{count_next}
 use Rattle.cql_build.proofs.values.count.Goals as goal

@@ -1,4 +1,4 @@
-use Rattle.std.proofs.Common.{◌≡◌, true, false, sym, ◌∙◌, arith}
+use Rattle.std.proofs.Common.{true, false, sym, ◌∙◌, arith}
 use Rattle.cql_build.proofs.Lists.{item_places_next}
 use Rattle.cql_build.proofs.values.item_places.Goals as goal
 use Rattle.cql_build.proofs.values.item_places.Goals.{then-eq, else-eq}

@@ -1,4 +1,4 @@
-use Rattle.std.proofs.Common.{◌≡◌, arith}
+use Rattle.std.proofs.Common.{arith}
 use Rattle.cql_build.proofs.Lists.{places_next}
 use Rattle.cql_build.proofs.values.places.Goals as goal
 

@@ -1,4 +1,4 @@
-use Rattle.std.proofs.Common.{◌≡◌, ◌∷◌, [], ap, ◌∙◌}
+use Rattle.std.proofs.Common.{◌∷◌, [], ap, ◌∙◌}
 use Rattle.work_code.specs.Steps.{code_body}
 use Rattle.river_kernels.specs.Kern.{code as code_of}
 use Rattle.saw_build.proofs.plan.map_op.Goals as goal

@@ -1,4 +1,4 @@
-use Rattle.std.proofs.Common.{◌≡◌, ◌∷◌, [], ap, ◌∙◌}
+use Rattle.std.proofs.Common.{◌∷◌, [], ap, ◌∙◌}
 use Rattle.saw_build.proofs.Kernels.{kern_of-tally}
 use Rattle.saw_build.proofs.plan.tally.Goals as goal
 

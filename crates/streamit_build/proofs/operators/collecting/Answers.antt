@@ -1,4 +1,4 @@
-use Rattle.std.proofs.Common.{◌≡◌, ap, ◌∙◌}
+use Rattle.std.proofs.Common.{ap, ◌∙◌}
 use Rattle.river_kernels.specs.Kern.{collect}
 use Rattle.streamit_build.proofs.Kernels.{kern_of-collect}
 use Rattle.streamit_build.proofs.operators.collecting.Goals as goal

@@ -1,4 +1,4 @@
-use Rattle.std.proofs.Common.{◌≡◌, ap, ◌∙◌}
+use Rattle.std.proofs.Common.{ap, ◌∙◌}
 use Rattle.river_kernels.specs.Kern.{deal}
 use Rattle.streamit_build.proofs.Kernels.{kern_of-deal}
 use Rattle.streamit_build.proofs.operators.dealing.Goals as goal

@@ -1,4 +1,4 @@
-use Rattle.std.proofs.Common.{◌≡◌, ap, ◌∙◌}
+use Rattle.std.proofs.Common.{ap, ◌∙◌}
 use Rattle.river_kernels.specs.Kern.{filter}
 use Rattle.streamit_build.proofs.Kernels.{kern_of-filter}
 use Rattle.streamit_build.proofs.operators.filtering.Goals as goal

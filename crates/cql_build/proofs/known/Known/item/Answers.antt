@@ -1,4 +1,4 @@
-use Rattle.std.proofs.Common.{◌≡◌, ap, ◌∙◌}
+use Rattle.std.proofs.Common.{ap}
 use Rattle.cql_build.specs.declared.item.Item.{Item}
 use Rattle.cql_build.proofs.Judging.{item_found, item_lost}
 use Rattle.cql_build.proofs.known.Known.item.Goals as goal

@@ -1,4 +1,4 @@
-use Rattle.std.proofs.Common.{◌≡◌, ◌≤◌, arith}
+use Rattle.std.proofs.Common.{arith}
 use Rattle.cql_build.proofs.Judging.{items_start, item_next, item_refused}
 use Rattle.cql_build.proofs.known.Known.items_fault.Goals as goal
 

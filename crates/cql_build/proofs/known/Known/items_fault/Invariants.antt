@@ -1,4 +1,4 @@
-use Rattle.std.proofs.Common.{◌≡◌, ◌≤◌, List}
+use Rattle.std.proofs.Common.{◌≤◌, List}
 use Rattle.cql_model.specs.Scopes.{Named}
 use Rattle.cql_build.specs.Knowing.{Knows}
 use Rattle.cql_build.proofs.Judging.{SoFar}

@@ -1,4 +1,4 @@
-use Rattle.std.proofs.Common.{◌≡◌, ◌<◌, ◌≤◌, length, sym, ap, ◌∙◌, subst, arith}
+use Rattle.std.proofs.Common.{◌≤◌, sym, ap, ◌∙◌, subst, arith}
 use Rattle.cql_model.specs.Scopes.{scope_of}
 use Rattle.cql_model.specs.Translation.{widths_of}
 use Rattle.cql_text.specs.Tree.{sources_of}

@@ -1,4 +1,4 @@
-use Rattle.std.proofs.Common.{◌≡◌, rules, ap, ◌∙◌, take_all}
+use Rattle.std.proofs.Common.{rules, ap, ◌∙◌, take_all}
 use Rattle.cql_model.specs.Scopes.{scope_of}
 use Rattle.cql_text.specs.Tree.{sources_of}
 use Rattle.cql_build.proofs.Judging.{items_next}

@@ -1,4 +1,4 @@
-use Rattle.std.proofs.Common.{◌≡◌, subst, sym}
+use Rattle.std.proofs.Common.{subst, sym}
 use Rattle.std.specs.Prelude.{OnOk}
 use Rattle.cql_text.specs.Tree.{part_of}
 use Rattle.cql_build.specs.Grown.{AddsUnit, Used, IsPlannableUnit, IsShortUnit, unit_uses}

@@ -1,4 +1,4 @@
-use Rattle.std.proofs.Common.{◌≡◌, ◌+◌, List, Ok, Err, ◌∷◌, ◌++◌, [], sym, ap, ◌∙◌, rules}
+use Rattle.std.proofs.Common.{◌≡◌, ◌+◌, List, ◌∷◌, ◌++◌, [], sym, ap, ◌∙◌, rules}
 use Rattle.work_code.specs.Steps as tree
 use Rattle.work_code.specs.Term.{term}
 use Rattle.work_code.specs.declared.code.Stmt as built
@@ -7,7 +7,6 @@ use Rattle.river_plan.specs.Forms.{Name}
 use Rattle.saw_model.specs.Elaborate.{Var, step_of}
 use Rattle.saw_text.specs.Tree as source
 use Rattle.saw_text.specs.Tree.{expression, option_expression}
-use Rattle.saw_text.specs.View.{expressions}
 use Rattle.saw_build.specs.Judging.{at_of}
 use Rattle.saw_build.specs.View.{scope_of}
 use Rattle.saw_build.specs.declared.names.Known.{Known}

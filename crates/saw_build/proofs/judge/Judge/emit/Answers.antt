@@ -1,4 +1,4 @@
-use Rattle.std.proofs.Common.{◌≡◌, Ok, Err, ◌∷◌, [], sym, ap, ◌∙◌, rules}
+use Rattle.std.proofs.Common.{◌∷◌, [], sym, ap, ◌∙◌, rules}
 use Rattle.work_code.specs.Steps as tree
 use Rattle.work_code.specs.Term.{terms}
 use Rattle.work_code.specs.declared.code.Stmt as built
