@@ -88,8 +88,7 @@ impl Machine {
         ensures fired { OnOk result (Steps self.old self.new op port) }
         ensures refused { OnErr result (self.new.stopped ≡ true) }
     {
-        fire_next(alloc, &mut self.parts, op, port)?;
-        Ok(())
+        fire_next(alloc, &mut self.parts, op, port)
     }
 
     /// Firings of an operator on the items at one of its ports, one after another, at most so many: whether there are any. The
@@ -105,8 +104,7 @@ impl Machine {
         ensures ran { OnOk result (RunsOn self.old self.new) }
         ensures refused { OnErr result (self.new.stopped ≡ true) }
     {
-        let fired = fire_turn(alloc, &mut self.parts, op, port, most)?;
-        Ok(fired)
+        fire_turn(alloc, &mut self.parts, op, port, most)
     }
 
     /// What the machine gave so far: the histories of the outputs, which nobody took from, the tables, and how often each operator

@@ -55,8 +55,7 @@ fn run_all(alloc: Global, plan: &Plan, machine: &mut Machine) -> Result<(), NoMe
 {
     let ops = op_count(plan);
     run_rounds(alloc, plan, machine, ops)?;
-    drain_all(alloc, plan, machine, ops)?;
-    Ok(())
+    drain_all(alloc, plan, machine, ops)
 }
 
 // Rounds of turns, to the first in which none fires.

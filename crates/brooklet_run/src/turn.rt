@@ -1,15 +1,16 @@
 // Firings of an operator of a machine.
-ghost use Rattle.std.specs.Prelude.{◌≡◌, ◌↔◌, ℕ, ◌+◌, ◌<◌, [], ◌++◌, Err, true, false, min, length, replicate, reverse, IsTrue, IfOk, OnOk, OnErr, slice_index_or, slice_set};
+ghost use Rattle.std.specs.Prelude.{◌≡◌, ◌↔◌, ℕ, ◌+◌, ◌<◌, ◌≤◌, [], ◌++◌, Err, true, false, min, length, replicate, reverse, IsTrue, IfOk, OnOk, OnErr, slice_index_or, slice_set};
 ghost use Rattle.river_base.specs.Places.{append_at, each_grew, list_at};
 ghost use Rattle.brooklet_model.specs.Histories.{most_firings};
 ghost use Rattle.brooklet_step.specs.ByPlace.{joined_at};
+ghost use Rattle.brooklet_step.specs.Tables.{each_added, table_places, AreFor};
 ghost use Rattle.brooklet_step.specs.Works.{GoesOn, IsEnabled, Steps};
 ghost use Rattle.brooklet_step.specs.Drained.{RunsOn};
 ghost use Rattle.brooklet_step.specs.Reading.{IsPlaceRead, IsFrontItem, CanFire, IsBlankOf, FiredOp};
 
 use crate::add::add_all;
 use brooklet_step::{
-    Emit, ItemLists, Lines, Parts, Sizes, Spare, States, blank_for, clear_all, fire_op,
+    Emit, ItemLists, Lines, Parts, Sizes, Spare, States, Tables, blank_for, clear_all, fire_op,
 };
 use kern_rows::Line;
 use river_base::{Item, Items, NoMemory};
@@ -187,17 +188,13 @@ fn fire_with(
         out,
         spare,
     )?;
-    send(
+    deliver(
         &mut parts.queues,
         parts.plan.writes_of(op as usize),
-        &mut out.outs,
-    )?;
-    add_all(
         &mut parts.tables,
         parts.plan.vars_of(op as usize),
-        &out.adds,
+        out,
     )?;
-    clear_all(&mut out.adds);
     count_one(&mut parts.counts, op as usize);
     parts.stopped = false;
     Ok(())
@@ -233,6 +230,29 @@ fn fire_of(
     fire_op(alloc, plan.raw(), op, port, item, states, out, spare)
 }
 
+// What a firing gave goes to its queues and tables; none is left in the lists.
+fn deliver(
+    queues: &mut Lines,
+    to: &[usize],
+    tables: &mut Tables,
+    vars: &[usize],
+    out: &mut Emit,
+) -> Result<(), NoMemory>
+    requires ports { length to.now ≡ length out.old.outs }
+    requires places { (j : ℕ) → j < length to.now → slice_index_or to.now j 0 < length queues.old }
+    requires many { length (table_places (length tables.old) vars.now) ≤ length out.old.adds }
+    requires wide { AreFor tables.old (table_places (length tables.old) vars.now) out.old.adds }
+    ensures queues { OnOk result (queues.new ≡ each_grew queues.old (joined_at to.now (list_at out.old.outs))) }
+    ensures tables { OnOk result (tables.new ≡ each_added tables.old (joined_at (table_places (length tables.old) vars.now) (list_at out.old.adds))) }
+    ensures outs { OnOk result (out.new.outs ≡ replicate (length out.old.outs) []) }
+    ensures adds { OnOk result (out.new.adds ≡ replicate (length out.old.adds) []) }
+{
+    send(queues, to, &mut out.outs)?;
+    add_all(tables, vars, &out.adds)?;
+    clear_all(&mut out.adds);
+    Ok(())
+}
+
 // Each port's items move to the end of its queue; none is left.
 fn send(queues: &mut Lines, to: &[usize], outs: &mut ItemLists) -> Result<(), NoMemory>
     requires ports { length to.now ≡ length outs.old }
@@ -258,8 +278,7 @@ fn send_port(
     ensures queues { OnOk result (queues.new ≡ append_at queues.old queue (list_at outs.old port)) }
     ensures outs { OnOk result (outs.new ≡ slice_set outs.old port []) }
 {
-    put(queues, queue, outs.at_mut(port))?;
-    Ok(())
+    put(queues, queue, outs.at_mut(port))
 }
 
 // Items move to the end of a queue.
@@ -268,8 +287,7 @@ fn put(queues: &mut Lines, queue: usize, items: &mut Items) -> Result<(), NoMemo
     ensures queues { OnOk result (queues.new ≡ append_at queues.old queue items.old) }
     ensures items { OnOk result (items.new ≡ []) }
 {
-    move_items(items, queues.at_mut(queue))?;
-    Ok(())
+    move_items(items, queues.at_mut(queue))
 }
 
 // Items move to the end of a line. The list keeps its memory.

@@ -14,6 +14,7 @@ use river_base::{Listed, NoMemory};
 use river_plan::{Caps, CapsByName, Plan};
 use river_rings::{Feed, Take, ring};
 use std::alloc::Global;
+use std::mem::replace;
 
 // An empty ring for a link.
 fn put_ring(alloc: Global, tasks: &mut Listed<Task>, link: Link, cap: u32) -> Result<(), NoMemory>
@@ -36,7 +37,8 @@ fn put_feed(tasks: &mut Listed<Task>, link: Link, feed: Feed)
     requires out { (d : _) → link.out < length (slice_index_or tasks.old link.writer d).outs }
     ensures { (w : _) × (w ≡ slice_index_or tasks.old link.writer w) × (tasks.new ≡ slice_set tasks.old link.writer (with_out w link.out (SendsTo feed))) }
 {
-    *tasks.at_mut(link.writer).outs.at_mut(link.out) = Outlet::Ring(feed);
+    let outlet = tasks.at_mut(link.writer).outs.at_mut(link.out);
+    drop(replace(outlet, Outlet::Ring(feed)));
 }
 
 // The end of a ring that the reader of a link has.
@@ -45,7 +47,8 @@ fn put_take(tasks: &mut Listed<Task>, link: Link, take: Take)
     requires port { (d : _) → link.port < length (slice_index_or tasks.old link.reader d).ins }
     ensures { (r : _) × (r ≡ slice_index_or tasks.old link.reader r) × (tasks.new ≡ slice_set tasks.old link.reader (with_in r link.port (TakesFrom take))) }
 {
-    *tasks.at_mut(link.reader).ins.at_mut(link.port) = Inlet::Ring(take);
+    let inlet = tasks.at_mut(link.reader).ins.at_mut(link.port);
+    drop(replace(inlet, Inlet::Ring(take)));
 }
 
 /// An empty ring for each link, which holds as many items as its queue has room for: `cap`, where

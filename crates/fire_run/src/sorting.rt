@@ -1,5 +1,5 @@
 // The tables and the logs of the cells of a net.
-ghost use Rattle.std.specs.Prelude.{◌≡◌, ◌≢◌, ◌∷◌, ◌++◌, ◌<◌, ℕ, [], length, map, slice_index_or, IfOk};
+ghost use Rattle.std.specs.Prelude.{◌≡◌, ◌≢◌, ◌∷◌, ◌++◌, ◌<◌, ℕ, [], length, map, slice_index_or, IfOk, OnOk};
 ghost use Rattle.river_plan.specs.Valid.{IsPlan};
 ghost use Rattle.class_locks.specs.Logs.{replay};
 ghost use Rattle.fire_tasks.specs.Adds.{logs_of, table_class};
@@ -8,7 +8,7 @@ ghost use Rattle.fire_run.specs.Closed.{AreSorted, ArePlaced, tables_at};
 
 use crate::closing::Logs;
 use brooklet_step::{Tables, first_tables};
-use class_locks::Cells;
+use class_locks::{Cell, Cells};
 use fire_open::{Places, table_classes};
 use kern_tables::Table;
 use river_base::{Listed, NoMemory};
@@ -26,11 +26,20 @@ fn opened(alloc: Global, cells: Cells) -> Result<(TableLists, Logs), NoMemory>
     let mut tables = TableLists::new(alloc);
     let mut logs = Logs::new(alloc);
     for cell in cells.into_vec() {
-        let (own, log) = cell.into_parts();
-        tables.push(own)?;
-        logs.push(log)?;
+        add_parts(cell, &mut tables, &mut logs)?;
     }
     Ok((tables, logs))
+}
+
+// The tables of a cell and its log come to those of the others.
+fn add_parts(cell: Cell, tables: &mut TableLists, logs: &mut Logs) -> Result<(), NoMemory>
+    ensures tables { OnOk result (map (λ l. l.items) tables.new ≡ map (λ l. l.items) tables.old ++ map (replay cell.log) cell.kinds ∷ []) }
+    ensures logs { OnOk result (map (λ l. l.items) logs.new ≡ map (λ l. l.items) logs.old ++ cell.log ∷ []) }
+{
+    let (own, log) = cell.into_parts();
+    tables.push(own)?;
+    logs.push(log)?;
+    Ok(())
 }
 
 // The last table of a class; it is taken out.

@@ -96,7 +96,7 @@ fn script(alloc: Global) -> Result<Bytes, NoMemory>
     ensures short { IfOk result (λ text. length text ≤ most_script) }
     ensures text { IfOk result (λ text. text ≡ load_script) }
 {
-    Ok(Bytes::from_slice(alloc, SCRIPT)?)
+    Bytes::from_slice(alloc, SCRIPT)
 }
 
 // The records, as what the one input of a program has.

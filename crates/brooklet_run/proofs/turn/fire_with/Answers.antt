@@ -29,25 +29,25 @@ fire_of-requires-clause-can c =
 pub writes_of-requires : goal.writes_of-requires
 writes_of-requires c = (op_in c.args.parts.now c.args.op c.args.port c.requires.goes_on c.requires.enabled).1
 
-pub send-requires-clause-ports : goal.send-requires-clause-ports
-send-requires-clause-ports c =
+pub deliver-requires-clause-ports : goal.deliver-requires-clause-ports
+deliver-requires-clause-ports c =
     (send_there c.args.parts.now c.args.op c.args.port (slice_index_or c.reads_of.result.now c.args.port 0) c.front-item.result c.front-item.new.queues c.at_mut.result.now c.fire_of.new.states c.fire_of.new.out c.writes_of.result.now c.requires.goes_on c.requires.enabled c.front-item.ensures (c.at_mut.ensures.value []) c.in_ok-fire_of.ensures c.writes_of.ensures).0
 
-pub send-requires-clause-places : goal.send-requires-clause-places
-send-requires-clause-places c =
+pub deliver-requires-clause-places : goal.deliver-requires-clause-places
+deliver-requires-clause-places c =
     (send_there c.args.parts.now c.args.op c.args.port (slice_index_or c.reads_of.result.now c.args.port 0) c.front-item.result c.front-item.new.queues c.at_mut.result.now c.fire_of.new.states c.fire_of.new.out c.writes_of.result.now c.requires.goes_on c.requires.enabled c.front-item.ensures (c.at_mut.ensures.value []) c.in_ok-fire_of.ensures c.writes_of.ensures).1
 
 pub vars_of-requires : goal.vars_of-requires
 vars_of-requires c = (op_in c.args.parts.now c.args.op c.args.port c.requires.goes_on c.requires.enabled).1
 
-pub add_all-requires-clause-many : goal.add_all-requires-clause-many
-add_all-requires-clause-many c =
+pub deliver-requires-clause-many : goal.deliver-requires-clause-many
+deliver-requires-clause-many c =
     (add_there c.args.parts.now c.args.op c.args.port (slice_index_or c.reads_of.result.now c.args.port 0) c.front-item.result c.front-item.new.queues c.at_mut.result.now c.fire_of.new.states c.fire_of.new.out c.vars_of.result.now c.requires.goes_on c.requires.enabled
     (enabled_place c.args.parts.now c.args.op c.args.port (slice_index_or c.reads_of.result.now c.args.port 0) c.reads_of.result.now c.requires.enabled c.reads_of.ensures refl)
     c.front-item.ensures (c.at_mut.ensures.value []) c.in_ok-fire_of.ensures c.vars_of.ensures).0
 
-pub add_all-requires-clause-wide : goal.add_all-requires-clause-wide
-add_all-requires-clause-wide c =
+pub deliver-requires-clause-wide : goal.deliver-requires-clause-wide
+deliver-requires-clause-wide c =
     (add_there c.args.parts.now c.args.op c.args.port (slice_index_or c.reads_of.result.now c.args.port 0) c.front-item.result c.front-item.new.queues c.at_mut.result.now c.fire_of.new.states c.fire_of.new.out c.vars_of.result.now c.requires.goes_on c.requires.enabled
     (enabled_place c.args.parts.now c.args.op c.args.port (slice_index_or c.reads_of.result.now c.args.port 0) c.reads_of.result.now c.requires.enabled c.reads_of.ensures refl)
     c.front-item.ensures (c.at_mut.ensures.value []) c.in_ok-fire_of.ensures c.vars_of.ensures).1
@@ -57,17 +57,17 @@ count_one-requires c = (op_in c.args.parts.now c.args.op c.args.port c.requires.
 
 pub returns-clause-fired : goal.returns-clause-fired
 returns-clause-fired c =
-    (next c.args.parts.now c.args.op c.args.port (slice_index_or c.reads_of.result.now c.args.port 0) c.front-item.result c.at_mut.result.now c.fire_of.new.states c.fire_of.new.out c.writes_of.result.now c.front-item.new.queues c.send.new.queues c.vars_of.result.now c.count_one.new.counts c.add_all.new.tables c.requires.goes_on c.requires.enabled
+    (next c.args.parts.now c.args.op c.args.port (slice_index_or c.reads_of.result.now c.args.port 0) c.front-item.result c.at_mut.result.now c.fire_of.new.states c.fire_of.new.out c.writes_of.result.now c.front-item.new.queues c.deliver.new.queues c.vars_of.result.now c.count_one.new.counts c.deliver.new.tables c.requires.goes_on c.requires.enabled
     (enabled_place c.args.parts.now c.args.op c.args.port (slice_index_or c.reads_of.result.now c.args.port 0) c.reads_of.result.now c.requires.enabled c.reads_of.ensures refl)
-    c.front-item.ensures (c.at_mut.ensures.value []) c.in_ok-fire_of.ensures c.writes_of.ensures c.in_ok-send.ensures.queues c.count_one.ensures c.vars_of.ensures c.in_ok-add_all.ensures).steps
+    c.front-item.ensures (c.at_mut.ensures.value []) c.in_ok-fire_of.ensures c.writes_of.ensures c.in_ok-deliver.ensures.queues c.count_one.ensures c.vars_of.ensures c.in_ok-deliver.ensures.tables).steps
 
 pub returns-clause-goes_on : goal.returns-clause-goes_on
 returns-clause-goes_on c =
-    (next c.args.parts.now c.args.op c.args.port (slice_index_or c.reads_of.result.now c.args.port 0) c.front-item.result c.at_mut.result.now c.fire_of.new.states c.fire_of.new.out c.writes_of.result.now c.front-item.new.queues c.send.new.queues c.vars_of.result.now c.count_one.new.counts c.add_all.new.tables c.requires.goes_on c.requires.enabled
+    (next c.args.parts.now c.args.op c.args.port (slice_index_or c.reads_of.result.now c.args.port 0) c.front-item.result c.at_mut.result.now c.fire_of.new.states c.fire_of.new.out c.writes_of.result.now c.front-item.new.queues c.deliver.new.queues c.vars_of.result.now c.count_one.new.counts c.deliver.new.tables c.requires.goes_on c.requires.enabled
     (enabled_place c.args.parts.now c.args.op c.args.port (slice_index_or c.reads_of.result.now c.args.port 0) c.reads_of.result.now c.requires.enabled c.reads_of.ensures refl)
-    c.front-item.ensures (c.at_mut.ensures.value []) c.in_ok-fire_of.ensures c.writes_of.ensures c.in_ok-send.ensures.queues c.count_one.ensures c.vars_of.ensures c.in_ok-add_all.ensures).goes_on
+    c.front-item.ensures (c.at_mut.ensures.value []) c.in_ok-fire_of.ensures c.writes_of.ensures c.in_ok-deliver.ensures.queues c.count_one.ensures c.vars_of.ensures c.in_ok-deliver.ensures.tables).goes_on
 
 pub returns-clause-blank : goal.returns-clause-blank
 returns-clause-blank c =
     blank_again c.args.parts.now.plan c.args.op c.args.port c.front-item.result c.at_mut.result.now c.fire_of.new.states c.fire_of.new.out _ c.in_ok-fire_of.ensures
-    c.in_ok-send.ensures.blank c.clear_all.ensures
+    c.in_ok-deliver.ensures.outs c.in_ok-deliver.ensures.adds

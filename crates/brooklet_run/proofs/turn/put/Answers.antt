@@ -1,7 +1,10 @@
 use Rattle.std.proofs.Common.{refl}
+use Rattle.std.proofs.lemmas.Result.{on_ok_weaker}
 use Rattle.river_base.proofs.PlaceLemmas.{append_at_by}
 use Rattle.brooklet_run.proofs.turn.put.Goals as goal
 
 pub returns-clause-queues : goal.returns-clause-queues
 returns-clause-queues c =
-    append_at_by c.args.queues.now c.args.queues.now c.args.queue c.at_mut.result.now c.args.items.now c.move_items.new.line refl c.requires (c.at_mut.ensures.value c.at_mut.result.now) c.in_ok-move_items.ensures.line
+    on_ok_weaker c.move_items.result
+    (λ e. append_at_by c.args.queues.now c.args.queues.now c.args.queue c.at_mut.result.now c.args.items.now c.move_items.new.line refl c.requires (c.at_mut.ensures.value c.at_mut.result.now) e)
+    c.move_items.ensures.line
