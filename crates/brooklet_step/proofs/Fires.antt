@@ -38,7 +38,8 @@ flats-append (Pack fs ∷ xs) ys = flats-append xs ys
 pub flats_next : (all all' : List flat.Flat) (whole items rest : List item.Item) (x : item.Item) → all ++ flats items ≡ flats whole → items ≡ x ∷ rest
     → all' ≡ all ++ flats (x ∷ []) → all' ++ flats rest ≡ flats whole
 flats_next all all' whole items rest x h e n =
-    ap (λ l. l ++ flats rest) n ∙ append_assoc all (flats (x ∷ [])) (flats rest) ∙ ap (λ l. all ++ l) (sym (flats-append (x ∷ []) rest)) ∙ ap (λ l. all ++ flats l) (sym e) ∙ h
+    ap (λ l. l ++ flats rest) n ∙ append_assoc all (flats (x ∷ [])) (flats rest) ∙ ap (λ l. all ++ l) (sym (flats-append (x ∷ []) rest))
+    ∙ ap (λ l. all ++ flats l) (sym e) ∙ h
 
 -- a packed kernel as plain data
 pub kern_of-packed : (a : Box Kernel Global) → kern_of (kernel.Packed a) ≡ packed (kern_of a.value)
@@ -85,7 +86,8 @@ filter_whole k f port x st d s s' out out' ek t g h =
     let a = subst (λ (j : Kern). StandsForKept j st t.fitted.keeps.kept) ek t.fitted.keeps.stands in
     let same : s ≡ state.Filter a.now = g ∙ ap (λ (l : List State). get_or l 0 d) a.code in
     let e : st ≡ s ∷ [] = a.code ∙ ap (λ (u : State). u ∷ []) (sym same) in
-    let whole : Fires (filter f) out out' st (set st 0 s') (fire (filter f) port x) = subst (λ (l : List State). Fires (filter f) out out' l (set l 0 s') (fire (filter f) port x)) (sym e) h in
+    let whole : Fires (filter f) out out' st (set st 0 s') (fire (filter f) port x) =
+    subst (λ (l : List State). Fires (filter f) out out' l (set l 0 s') (fire (filter f) port x)) (sym e) h in
     subst (λ (j : Kern). Fires j out out' st (set st 0 s') (fire j port x)) (sym ek) whole
 
 -- where no list is, none grows

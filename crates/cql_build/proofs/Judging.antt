@@ -50,7 +50,8 @@ pub name_next : (ks : List Named) (q : Name) (xs : List Source) (i : ℕ) (x : S
     → name_eq (alias_or x.alias x.stream) q ≡ false
     → count q (known_names (scope_of ks (sources_of (take i xs)))) ≡ 0 → count q (known_names (scope_of ks (sources_of (take (i + 1) xs)))) ≡ 0
 name_next ks q xs i x lt e f z =
-    ap (count q) (names_are ks (take (i + 1) xs) ∙ ap (map name_of) (take_next xs i x lt e)) ∙ more (take i xs) (sym (ap (count q) (names_are ks (take i xs))) ∙ z)
+    ap (count q) (names_are ks (take (i + 1) xs) ∙ ap (map name_of) (take_next xs i x lt e))
+    ∙ more (take i xs) (sym (ap (count q) (names_are ks (take i xs))) ∙ z)
   where
     more : (ys : List Source) → count q (map name_of ys) ≡ 0 → count q (map name_of (ys ++ x ∷ [])) ≡ 0
     more [] z = let o = ap one_if f in omega (arith, o)
@@ -188,7 +189,8 @@ pub record SoFar (ks : List Named) (all : List Source) (i wide : ℕ) : Type 0 w
   pub width : wide ≡ widths_of (scope_of ks (sources_of (take i all)))
 
 at_item : (ks : List Named) (all : List Source) (i wide : ℕ) (x : Source) → SoFar ks all i wide → i < length all → x ≡ get_or all i x
-    → items_fault ks [] (sources_of all) ≡ then_fault (item_fault ks (scope_of ks (sources_of (take i all))) (source_of x)) (items_fault ks (scope_of ks (sources_of (take i all)) ++ item_named ks (source_of x) ∷ []) (sources_of (drop (i + 1) all)))
+    → items_fault ks [] (sources_of all) ≡ then_fault (item_fault ks (scope_of ks (sources_of (take i all))) (source_of x))
+    (items_fault ks (scope_of ks (sources_of (take i all)) ++ item_named ks (source_of x) ∷ []) (sources_of (drop (i + 1) all)))
 at_item ks all i wide x s lt e = s.whole ∙ ap (λ l. items_fault ks (scope_of ks (sources_of (take i all))) (sources_of l)) (drop_next all i x lt e)
 
 sources-append : (xs : List Source) (x : Source) → sources_of (xs ++ x ∷ []) ≡ sources_of xs ++ source_of x ∷ []
@@ -234,4 +236,5 @@ item_next ks all i wide wider x s lt e g = record {
 pub item_refused : (ks : List Named) (all : List Source) (i wide : ℕ) (x : Source) (f : Fault) → SoFar ks all i wide → i < length all → x ≡ get_or all i x
     → item_fault ks (scope_of ks (sources_of (take i all))) (source_of x) ≡ Some f → Some f ≡ items_fault ks [] (sources_of all)
 item_refused ks all i wide x f s lt e g =
-    sym (at_item ks all i wide x s lt e ∙ ap (λ o. then_fault o (items_fault ks (scope_of ks (sources_of (take i all)) ++ item_named ks (source_of x) ∷ []) (sources_of (drop (i + 1) all)))) g)
+    sym (at_item ks all i wide x s lt e ∙ ap
+    (λ o. then_fault o (items_fault ks (scope_of ks (sources_of (take i all)) ++ item_named ks (source_of x) ∷ []) (sources_of (drop (i + 1) all)))) g)

@@ -32,7 +32,8 @@ one_unit ks many unit (AQuery q) ps =
 
 at_unit : (parts : List Part) (i many : ℕ) (k : Known) (p : Part) (j : Judging parts i many k) → i < length parts → p ≡ get_or parts i p
     → first_fault [] 0 1 (parts_of parts)
-    ≡ in_unit (i + 1) (unit_fault j.ks many (part_of p)) (first_fault (declares j.ks (part_of p) ∷ j.ks) (many + registers (part_of p)) (i + 1 + 1) (parts_of (drop (i + 1) parts)))
+    ≡ in_unit (i + 1) (unit_fault j.ks many (part_of p))
+    (first_fault (declares j.ks (part_of p) ∷ j.ks) (many + registers (part_of p)) (i + 1 + 1) (parts_of (drop (i + 1) parts)))
 at_unit parts i many k p j lt e =
     j.whole
     ∙ ap (λ l. first_fault j.ks many (i + 1) (parts_of l)) (drop_next parts i p lt e)
@@ -46,14 +47,17 @@ judging_next parts i many k k' p j lt e none knows = record {
   knows = knows;
   whole =
       at_unit parts i many k p j lt e
-      ∙ ap (λ o. in_unit (i + 1) o (first_fault (declares j.ks (part_of p) ∷ j.ks) (many + registers (part_of p)) (i + 1 + 1) (parts_of (drop (i + 1) parts)))) (sym none);
+      ∙ ap (λ o. in_unit (i + 1) o (first_fault (declares j.ks (part_of p) ∷ j.ks) (many + registers (part_of p)) (i + 1 + 1)
+      (parts_of (drop (i + 1) parts)))) (sym none);
 }
 
 -- a unit that has a fault
 pub judging_fault : (parts : List Part) (i many : ℕ) (k : Known) (p : Part) (f : Fault) (j : Judging parts i many k) → i < length parts → p ≡ get_or parts i p
     → Some f ≡ unit_fault j.ks many (part_of p) → Some (record { unit = i + 1; fault = f }) ≡ first_fault [] 0 1 (parts_of parts)
 judging_fault parts i many k p f j lt e some =
-    sym (at_unit parts i many k p j lt e ∙ ap (λ o. in_unit (i + 1) o (first_fault (declares j.ks (part_of p) ∷ j.ks) (many + registers (part_of p)) (i + 1 + 1) (parts_of (drop (i + 1) parts)))) (sym some))
+    sym (at_unit parts i many k p j lt e ∙ ap
+    (λ o. in_unit (i + 1) o (first_fault (declares j.ks (part_of p) ∷ j.ks) (many + registers (part_of p)) (i + 1 + 1)
+    (parts_of (drop (i + 1) parts)))) (sym some))
 
 -- a unit registers one stream at most
 pub registers_few : (p : tree.Part) → registers p ≤ 1

@@ -93,7 +93,8 @@ walked_next ts0 ts back o old new h e is s d =
       same = map_set still ts o new (s ∙ ap still (is ∙ default_same ts o old new lt)) ∙ h.same;
       rest = λ i c li. get_or-set_other ts o i new c (λ z. omega (arith, z, li, e)) ∙ h.rest i c (omega (arith, li));
       done = λ i c li le. ⊎_elim
-          (λ b. let z : o ≡ i = omega (arith, le, e, b) in subst (λ n. IsDone (get_or ts0 n c)) z (subst IsDone (q ∙ default_same ts0 o old c (omega (arith, e))) d))
+          (λ b. let z : o ≡ i = omega (arith, le, e, b) in subst (λ n. IsDone (get_or ts0 n c)) z
+          (subst IsDone (q ∙ default_same ts0 o old c (omega (arith, e))) d))
           (λ ge. h.done i c li ge)
           (cases_lt (i + back) (length ts0));
     }
@@ -158,7 +159,8 @@ moved_one p cells0 cells ts0 ts back o old new m k ap0 h e is t s a n mt =
             (sym (still_op ts0 ts i d h.same lti) ∙ y ∙ ap (λ (x : Task). x.op) (is ∙ default_same ts o old d lt) ∙ still_op ts0 ts o d h.same lt) in
             ne (sym w)) in
             subst (λ (x : Task). IsTask p (added p (logs_of cells) x.op) x) (sym there)
-            (with_adds p (added p (logs_of cells0) (get_or ts i d).op) (added p (logs_of cells) (get_or ts i d).op) (get_or ts i d) (a.others (get_or ts i d).op other) (kt.each i d lti)))
+            (with_adds p (added p (logs_of cells0) (get_or ts i d).op) (added p (logs_of cells) (get_or ts i d).op) (get_or ts i d)
+            (a.others (get_or ts i d).op other) (kt.each i d lti)))
             (cases_eq o i);
       };
       same = map_set ends_of ts o new (s ∙ ap ends_of q) ∙ still_ends ts0 ts h.same;

@@ -42,7 +42,8 @@ next_is : {X : Type 0} (xs : List X) (i : ℕ) (x : X) → i < length xs → x �
 next_is xs i x lt e = drop_more xs i x lt ∙ ap (λ y. y ∷ drop (i + 1) xs) (sym e)
 
 -- what the statements behind leave
-pub pushes_next : (xs : List Stmt) (i : ℕ) (x : Stmt) (room left : ℕ) (told : Option ℕ) → i < length xs → x ≡ get_or xs i x → left_of (pushes_once (step x)) room ≡ Some left
+pub pushes_next : (xs : List Stmt) (i : ℕ) (x : Stmt) (room left : ℕ) (told : Option ℕ) → i < length xs → x ≡ get_or xs i x
+    → left_of (pushes_once (step x)) room ≡ Some left
     → left_of (pushes (in_turn (map step (drop i xs)))) room ≡ told → left_of (pushes (in_turn (map step (drop (i + 1) xs)))) left ≡ told
 pushes_next xs i x room left told lt e h g =
     left_of_both (pushes_once (step x)) (pushes (in_turn (map step (drop (i + 1) xs)))) room left h

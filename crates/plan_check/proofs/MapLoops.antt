@@ -5,7 +5,8 @@ use Rattle.river_plan.specs.declared.op.Op.{Op}
 use Rattle.river_plan.specs.Forms.{OpForm, op_form, op_forms}
 
 -- one element more
-pub map_next : {A B : Type 0} (f : A → B) (now new : List B) (xs : List A) (i : ℕ) (x : A) (y : B) → i < length xs → x ≡ get_or xs i x → y ≡ f x → new ≡ now ++ y ∷ []
+pub map_next : {A B : Type 0} (f : A → B) (now new : List B) (xs : List A) (i : ℕ) (x : A) (y : B) → i < length xs → x ≡ get_or xs i x → y ≡ f x
+    → new ≡ now ++ y ∷ []
     → now ≡ map f (take i xs) → new ≡ map f (take (i + 1) xs)
 map_next f now new xs i x y lt e made h inv =
     h ∙ ap (λ l. l ++ y ∷ []) inv ∙ ap (λ z. map f (take i xs) ++ z ∷ []) (made ∙ ap f e) ∙ sym (map_more f xs i x lt)

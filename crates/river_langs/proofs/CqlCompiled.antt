@@ -73,11 +73,18 @@ program_plan text p e = record { plan = refl; inputs = refl; outputs = outputs-a
 
 -- the program and the plan that were compiled stand for what the text means
 pub cql-compiled : (text : List ℕ) (t : CqlProgram) (plan : PlanForm) → Plans (compiled text) (program_of t) plan
-    → StandsFor (IsCompiled (λ s t. IsCql s (program_of t))) (source_or_refused cql_source cql_words (compiled text)) (record { plan = plan; caps = []; program = t })
+    → StandsFor (IsCompiled (λ s t. IsCql s (program_of t))) (source_or_refused cql_source cql_words (compiled text))
+    (record { plan = plan; caps = []; program = t })
 cql-compiled text t plan h =
-    subst (λ (r : Result (List Part) CqlFault). StandsFor (IsCompiled (λ s t. IsCql s (program_of t))) (source_or_refused cql_source cql_words r) (record { plan = plan; caps = []; program = t }))
+    subst (λ (r : Result (List Part) CqlFault). StandsFor (IsCompiled (λ s t. IsCql s (program_of t))) (source_or_refused cql_source cql_words r)
+    (record { plan = plan; caps = []; program = t }))
     (sym h.accepted)
     (record {
-      planned = record { plan = subst (IsPlanOf (cql_source (program_of t))) (sym h.planned) (program_plan text (program_of t) h.accepted); caps_are = refl; fit = All-nil (λ (c : Cap). IsCap c.most) };
+      planned = record {
+        plan = subst (IsPlanOf (cql_source (program_of t))) (sym h.planned) (program_plan text (program_of t) h.accepted);
+        caps_are
+            = refl;
+        fit = All-nil (λ (c : Cap). IsCap c.most);
+      };
       program = record { columns = accepted_columns text (program_of t) h.accepted; inputs = refl; means = λ files. refl };
     })

@@ -35,12 +35,20 @@ params_mean text a e (Plain r ∷ []) t =
 -- the plan that was compiled is the program's, and the plain program means what the program means
 pub params-compiled : (text : List ℕ) (tree : params_tree.ParamProgram) (t : StreamitProgram) (plan : PlanForm)
     → params.Plans (params.compiled text) tree (streamit_tree.program_of t.units.items) plan
-    → StandsFor (IsCompiled (λ s t. IsStreamit s (streamit_tree.program_of t.units.items))) (source_or_refused params_source params_words (params.compiled text)) (record { plan = plan; caps = []; program = t })
+    → StandsFor (IsCompiled (λ s t. IsStreamit s (streamit_tree.program_of t.units.items)))
+    (source_or_refused params_source params_words (params.compiled text)) (record { plan = plan; caps = []; program = t })
 params-compiled text tree t plan (s, is, made) =
     let a : params.Accepted = record { tree = tree; program = streamit_tree.program_of t.units.items; stream = s } in
-    subst (λ (r : Result params.Accepted ParamFault). StandsFor (IsCompiled (λ s t. IsStreamit s (streamit_tree.program_of t.units.items))) (source_or_refused params_source params_words r) (record { plan = plan; caps = []; program = t })) (sym is)
+    subst (λ (r : Result params.Accepted ParamFault). StandsFor (IsCompiled (λ s t. IsStreamit s (streamit_tree.program_of t.units.items)))
+    (source_or_refused params_source params_words r) (record { plan = plan; caps = []; program = t })) (sym is)
     (record {
-      planned = record { plan = subst (IsPlanOf (params_source a)) (sym made) (record { plan = refl; inputs = refl; outputs = refl; tables = refl; means = params_mean text a is }); caps_are = refl; fit = All-nil (λ (c : Cap). IsCap c.most) };
+      planned = record {
+        plan = subst (IsPlanOf (params_source a)) (sym made)
+            (record { plan = refl; inputs = refl; outputs = refl; tables = refl; means = params_mean text a is });
+        caps_are = refl;
+        fit =
+            All-nil (λ (c : Cap). IsCap c.most);
+      };
       program = record {
         readable = params-readable text a is;
         means = λ files. ap (λ (ys : List ℤ). record { outs = as_items ys ∷ []; tables = [] }) (sym (plain_means text a (values files) is));

@@ -13,6 +13,15 @@ use Rattle.river_langs.specs.Sources.{river_source}
 
 -- the plan that was read of a River text, and its capacities, stand for what the text means
 pub river-compiled : (meant : Result TextForm RiverFault) (p : PlanForm) (caps : List Cap) → meant ≡ Ok (record { plan = p; caps = caps }) → AreCaps caps
-    → StandsFor (IsCompiled (λ (s : SourceProgram) (t : Unit {0}). Unit {0})) (source_or_refused river_source river_words meant) (record { plan = p; caps = caps; program = tt })
+    → StandsFor (IsCompiled (λ (s : SourceProgram) (t : Unit {0}). Unit {0})) (source_or_refused river_source river_words meant)
+    (record { plan = p; caps = caps; program = tt })
 river-compiled meant p caps is fit =
-    rw is (record { planned = record { plan = record { plan = refl; inputs = refl; outputs = refl; tables = refl; means = λ rows t. refl }; caps_are = refl; fit = fit }; program = tt })
+    rw is (record {
+      planned = record {
+        plan =
+            record { plan = refl; inputs = refl; outputs = refl; tables = refl; means = λ rows t. refl };
+        caps_are = refl;
+        fit = fit;
+      };
+      program = tt;
+    })

@@ -47,12 +47,20 @@ plan_means text a e (Plain r ∷ []) t = ap (λ l. meaning (saw.plan_in a) (l �
 
 -- and so does what was compiled of a Sawzall text
 pub saw-compiled : (text : List ℕ) (t : SawProgram) (plan : PlanForm) → saw.Plans (saw.compiled text) (unit_forms t.units.items) plan
-    → StandsFor (IsCompiled (λ s t. IsSawzall s (unit_forms t.units.items))) (source_or_refused saw_source saw_words (saw.compiled text)) (record { plan = plan; caps = []; program = t })
+    → StandsFor (IsCompiled (λ s t. IsSawzall s (unit_forms t.units.items))) (source_or_refused saw_source saw_words (saw.compiled text))
+    (record { plan = plan; caps = []; program = t })
 saw-compiled text t plan (read, is, made) =
     let a : saw.Accepted = record { units = unit_forms t.units.items; read = read } in
-    subst (λ (r : Result saw.Accepted SawFault). StandsFor (IsCompiled (λ s t. IsSawzall s (unit_forms t.units.items))) (source_or_refused saw_source saw_words r) (record { plan = plan; caps = []; program = t }))
+    subst (λ (r : Result saw.Accepted SawFault). StandsFor (IsCompiled (λ s t. IsSawzall s (unit_forms t.units.items)))
+    (source_or_refused saw_source saw_words r) (record { plan = plan; caps = []; program = t }))
     (sym is)
     (record {
-      planned = record { plan = subst (IsPlanOf (saw_source a)) (sym made) (record { plan = refl; inputs = refl; outputs = refl; tables = refl; means = plan_means text a is }); caps_are = refl; fit = All-nil (λ (c : Cap). IsCap c.most) };
+      planned = record {
+        plan = subst (IsPlanOf (saw_source a)) (sym made)
+            (record { plan = refl; inputs = refl; outputs = refl; tables = refl; means = plan_means text a is });
+        caps_are = refl;
+        fit =
+            All-nil (λ (c : Cap). IsCap c.most);
+      };
       program = record { accepted = (read, compiled-judged text a is); valued = compiled-valued text a is; means = λ files. refl };
     })

@@ -34,11 +34,18 @@ program_plan text a e = record { plan = refl; inputs = refl; outputs = refl; tab
 
 -- the plan that was compiled is the program's, and so is the tree
 pub streamit-compiled : (text : List ℕ) (t : StreamitProgram) (plan : PlanForm) → Plans (compiled text) (streamit_tree.program_of t.units.items) plan
-    → StandsFor (IsCompiled (λ s t. IsStreamit s (streamit_tree.program_of t.units.items))) (source_or_refused streamit_source streamit_words (compiled text)) (record { plan = plan; caps = []; program = t })
+    → StandsFor (IsCompiled (λ s t. IsStreamit s (streamit_tree.program_of t.units.items)))
+    (source_or_refused streamit_source streamit_words (compiled text)) (record { plan = plan; caps = []; program = t })
 streamit-compiled text t plan (s, is, made) =
     let a : Accepted = record { program = streamit_tree.program_of t.units.items; stream = s } in
-    subst (λ (r : Result Accepted StreamitFault). StandsFor (IsCompiled (λ s t. IsStreamit s (streamit_tree.program_of t.units.items))) (source_or_refused streamit_source streamit_words r) (record { plan = plan; caps = []; program = t })) (sym is)
+    subst (λ (r : Result Accepted StreamitFault). StandsFor (IsCompiled (λ s t. IsStreamit s (streamit_tree.program_of t.units.items)))
+    (source_or_refused streamit_source streamit_words r) (record { plan = plan; caps = []; program = t })) (sym is)
     (record {
-      planned = record { plan = subst (IsPlanOf (streamit_source a)) (sym made) (program_plan text a is); caps_are = refl; fit = All-nil (λ (c : Cap). IsCap c.most) };
+      planned = record {
+        plan = subst (IsPlanOf (streamit_source a)) (sym made) (program_plan text a is);
+        caps_are = refl;
+        fit =
+            All-nil (λ (c : Cap). IsCap c.most);
+      };
       program = record { readable = compiled-readable text a is; means = λ files. refl };
     })

@@ -131,7 +131,8 @@ neg-start z h = subst (λ y. w.IsWritableStart (neg_ℤ y)) (sym h.1) (of_pos h.
 
 signed : Gives g.Signed w.IsWritableStart
 signed =
-    gives-merged (gives-after _ (gives-seen neg_ℤ w.IsWritableStart value neg-start)) (gives-merged (gives-after_word (codes "min") (gives-nothing w.IsWritableStart g.least (omega arith))) value-start)
+    gives-merged (gives-after _ (gives-seen neg_ℤ w.IsWritableStart value neg-start))
+    (gives-merged (gives-after_word (codes "min") (gives-nothing w.IsWritableStart g.least (omega arith))) value-start)
 
 starts : (n : ℕ) → Gives (g.IsStarts n) (w.Every w.IsWritableStart)
 starts n = gives-enclosed _ _ (λ m. gives-listing signed) n
@@ -263,7 +264,8 @@ bag n word =
     (gives-choose (bytes_eq word (codes "unbounded")) (gives-nothing IsKernel _ (tt, tt, tt))
     (gives-choose (bytes_eq word (codes "latest")) (counted _ (λ k h. (h, tt, tt)) n)
     (gives-choose (bytes_eq word (codes "select")) (gives-seen kern.select IsKernel (gives-enclosed _ _ term_ranged n) (λ e h. (h, tt, tt)))
-    (gives-choose (bytes_eq word (codes "project")) (gives-seen kern.project IsKernel (gives-enclosed _ _ (λ m. gives-commas (term_ranged m)) n) (λ es h. (h, tt, tt)))
+    (gives-choose (bytes_eq word (codes "project"))
+    (gives-seen kern.project IsKernel (gives-enclosed _ _ (λ m. gives-commas (term_ranged m)) n) (λ es h. (h, tt, tt)))
     (gives-choose (bytes_eq word (codes "cross")) (gives-nothing IsKernel _ (tt, tt, tt))
     (gives-choose (bytes_eq word (codes "istream")) (gives-nothing IsKernel _ (tt, tt, tt))
     (gives-choose (bytes_eq word (codes "dstream")) (gives-nothing IsKernel _ (tt, tt, tt))
@@ -315,7 +317,9 @@ kind : (word : List ℕ) → Gives (t.KindAfter word) w.IsWritableKind
 kind word =
     gives-choose (bytes_eq word (codes "sum")) (gives-seen Sum w.IsWritableKind (gives-enclosed _ _ (λ m. count) t.brackets) (λ k h. h))
     (gives-choose (bytes_eq word (codes "collection")) (gives-seen Collection w.IsWritableKind (gives-enclosed _ _ (λ m. count) t.brackets) (λ k h. h))
-    (gives-choose (bytes_eq word (codes "maximum")) (gives-seen t.made_maximum w.IsWritableKind (gives-enclosed s.Open s.Close (λ m. gives-both count (gives-after (s.Comma ∷ []) count)) t.brackets) (λ k h. h))
+    (gives-choose (bytes_eq word (codes "maximum"))
+    (gives-seen t.made_maximum w.IsWritableKind
+    (gives-enclosed s.Open s.Close (λ m. gives-both count (gives-after (s.Comma ∷ []) count)) t.brackets) (λ k h. h))
     (gives-never w.IsWritableKind)))
 
 table : Gives t.IsTable w.IsWritableTable
@@ -344,7 +348,8 @@ operator : Gives t.IsOp IsOp
 operator = gives-seen t.made_op IsOp
     (record {
       give = λ v ts h.
-          let f = gives-both named (gives-after _ (gives-both (gives-enclosed _ _ (λ m. ports) t.brackets) (gives-after _ (gives-both (gives-enclosed _ _ (λ m. ports) t.brackets) (kernel t.brackets))))) in
+          let f = gives-both named (gives-after _ (gives-both (gives-enclosed _ _ (λ m. ports) t.brackets)
+          (gives-after _ (gives-both (gives-enclosed _ _ (λ m. ports) t.brackets) (kernel t.brackets))))) in
           f.give v ts h.formed;
     })
     (λ v h. ((h.0, h.1.1.1.0, h.1.1.0.0, h.1.0.0, h.1.0.1), h.1.1.1.1, h.1.1.1.2))
@@ -404,19 +409,88 @@ said-empty = record { ranged = record { outputs = tt; inputs = tt; queues = tt; 
 said-add : (x : t.TextForm) (e : t.EntryForm) → IsSaid x.plan → IsEntry e → IsSaid (t.add_entry x e).plan
 said-add x t.header s h = s
 said-add x (t.output d) s h = let k = s.ranged in
-    record { ranged = record { outputs = every-append w.IsWritableDecl x.plan.outputs d k.outputs h; inputs = k.inputs; queues = k.queues; tables = k.tables; vars = k.vars; ops = k.ops }; shallow = s.shallow; forward = s.forward }
+    record {
+      ranged = record {
+        outputs = every-append w.IsWritableDecl x.plan.outputs d k.outputs h;
+        inputs = k.inputs;
+        queues = k.queues;
+        tables =
+            k.tables;
+        vars = k.vars;
+        ops = k.ops;
+      };
+      shallow = s.shallow;
+      forward = s.forward;
+    }
 said-add x (t.input d) s h = let k = s.ranged in
-    record { ranged = record { outputs = k.outputs; inputs = every-append w.IsWritableDecl x.plan.inputs d k.inputs h; queues = k.queues; tables = k.tables; vars = k.vars; ops = k.ops }; shallow = s.shallow; forward = s.forward }
+    record {
+      ranged = record {
+        outputs = k.outputs;
+        inputs = every-append w.IsWritableDecl x.plan.inputs d k.inputs h;
+        queues = k.queues;
+        tables =
+            k.tables;
+        vars = k.vars;
+        ops = k.ops;
+      };
+      shallow = s.shallow;
+      forward = s.forward;
+    }
 said-add x (t.inner q) s h = let k = s.ranged in
-    record { ranged = record { outputs = k.outputs; inputs = k.inputs; queues = every-append w.IsWritableDecl x.plan.queues q.decl k.queues h; tables = k.tables; vars = k.vars; ops = k.ops }; shallow = s.shallow; forward = s.forward }
+    record {
+      ranged = record {
+        outputs = k.outputs;
+        inputs = k.inputs;
+        queues =
+            every-append w.IsWritableDecl x.plan.queues q.decl k.queues h;
+        tables = k.tables;
+        vars = k.vars;
+        ops = k.ops;
+      };
+      shallow =
+          s.shallow;
+      forward = s.forward;
+    }
 said-add x (t.table y) s h = let k = s.ranged in
-    record { ranged = record { outputs = k.outputs; inputs = k.inputs; queues = k.queues; tables = every-append w.IsWritableTable x.plan.tables y k.tables h; vars = k.vars; ops = k.ops }; shallow = s.shallow; forward = s.forward }
+    record {
+      ranged = record {
+        outputs = k.outputs;
+        inputs = k.inputs;
+        queues = k.queues;
+        tables =
+            every-append w.IsWritableTable x.plan.tables y k.tables h;
+        vars = k.vars;
+        ops = k.ops;
+      };
+      shallow = s.shallow;
+      forward = s.forward;
+    }
 said-add x (t.private v) s h = let k = s.ranged in
-    record { ranged = record { outputs = k.outputs; inputs = k.inputs; queues = k.queues; tables = k.tables; vars = every-append w.IsNamed x.plan.vars v k.vars h; ops = k.ops }; shallow = s.shallow; forward = s.forward }
+    record {
+      ranged = record {
+        outputs = k.outputs;
+        inputs = k.inputs;
+        queues = k.queues;
+        tables = k.tables;
+        vars =
+            every-append w.IsNamed x.plan.vars v k.vars h;
+        ops = k.ops;
+      };
+      shallow = s.shallow;
+      forward = s.forward;
+    }
 said-add x (t.operator o) s h = let k = s.ranged in
     record {
       ranged =
-          record { outputs = k.outputs; inputs = k.inputs; queues = k.queues; tables = k.tables; vars = k.vars; ops = every-append ranges.IsRangedOp x.plan.ops o k.ops h.0 };
+          record {
+            outputs = k.outputs;
+            inputs = k.inputs;
+            queues = k.queues;
+            tables = k.tables;
+            vars = k.vars;
+            ops =
+                every-append ranges.IsRangedOp x.plan.ops o k.ops h.0;
+          };
       shallow = every-append (λ op. r.IsShallow op.kernel) x.plan.ops o s.shallow h.1;
       forward = every-append (λ op. r.HasForward op.kernel) x.plan.ops o s.forward h.2;
     }
@@ -428,5 +502,6 @@ said-all x (e ∷ es) s h = said-all (t.add_entry x e) es (said-add x e s h.0) h
 -- lists that a text stands for have the ranges of their types and keep the grammar's bounds
 pub read-printable : (text : List ℕ) (x : t.TextForm) → t.IsText text x → ranges.IsRanged x.plan × r.IsPrintable x.plan
 read-printable text x h =
-    let s = subst (λ (y : t.TextForm). IsSaid y.plan) (sym h.is) (said-all t.empty_text h.entries said-empty (entries (t.first_place h.marks) h.entries _ h.formed)) in
+    let s = subst (λ (y : t.TextForm). IsSaid y.plan) (sym h.is)
+    (said-all t.empty_text h.entries said-empty (entries (t.first_place h.marks) h.entries _ h.formed)) in
     (s.ranged, record { shallow = s.shallow; forward = s.forward })

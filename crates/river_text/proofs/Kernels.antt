@@ -45,7 +45,8 @@ pub exact-signed : Exact Signed signed_at Any
 unfolding signed_at
 exact-signed =
     exact-less (exact-merged (parse.begins_with s.Minus) (exact-after (s.Minus ∷ []) (exact-seen neg_ℤ exact-value))
-    (exact-merged (parse.is_word_at (codes "min")) (exact-after_word (codes "min") (exact-nothing least)) exact-value min_comes (λ v ts rest h d. rw h.formed refl))
+    (exact-merged (parse.is_word_at (codes "min")) (exact-after_word (codes "min") (exact-nothing least)) exact-value min_comes
+    (λ v ts rest h d. rw h.formed refl))
     (λ v ts rest h d. rw h.is refl) other) (λ rest d. (tt, (tt, tt)))
   where
     min_comes : (v : ℤ) (ts rest : List Tok) → form.AfterWord (codes "min") (form.Nothing least) v ts → Any rest
@@ -95,7 +96,9 @@ unfolding pair_at two_at
 exact-pair n = exact-round (λ m. exact-both exact-count (exact-after (s.Comma ∷ []) exact-count) (λ y ts rest g d. tt)) (λ rest. tt) n
 
 exact-rates : (n : ℕ)
-    → Exact (Round (λ m. form.Both form.Count (form.After (s.Comma ∷ []) (form.Both form.Count (form.After (s.Comma ∷ []) (form.Both form.Count (form.After (s.Comma ∷ []) form.Count)))))) n) (rates_at n) Any
+    → Exact (Round (λ m. form.Both form.Count
+    (form.After (s.Comma ∷ []) (form.Both form.Count (form.After (s.Comma ∷ []) (form.Both form.Count (form.After (s.Comma ∷ []) form.Count))))))
+    n) (rates_at n) Any
 unfolding rates_at
 exact-rates n =
     exact-round (λ m. exact-as (exact-both exact-count (exact-after (s.Comma ∷ []) (exact-both exact-count (exact-after (s.Comma ∷ [])
@@ -122,7 +125,8 @@ NoFirst rest = parse.is_word_at (codes "first") rest ≡ false
 exact-first : (n : ℕ) → Exact (form.Maybe (form.AfterWord (codes "first") (AreFirstParts n))) (first_at n) NoFirst
 unfolding first_at
 exact-first n =
-    exact-less (exact-maybe (parse.is_word_at (codes "first")) (exact-after_word (codes "first") (exact-both (exact-triple n) (exact-body n) (λ y ts rest g d. tt))) comes)
+    exact-less (exact-maybe (parse.is_word_at (codes "first"))
+    (exact-after_word (codes "first") (exact-both (exact-triple n) (exact-body n) (λ y ts rest g d. tt))) comes)
     (λ rest d. (tt, d))
   where
     comes : (v : FirstParts) (ts rest : List Tok) → form.AfterWord (codes "first") (AreFirstParts n) v ts → parse.is_word_at (codes "first") (ts ++ rest) ≡ true

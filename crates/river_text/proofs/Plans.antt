@@ -48,12 +48,14 @@ exact-flat n = exact-headed (exact-flat_after n)
 exact-type : Exact IsType type_at Any
 unfolding type_at type_after packed_at
 exact-type =
-    exact-headed (λ w. exact-choose (bytes_eq w (codes "pack")) (exact-seen Pack (exact-round exact-flat (λ rest. tt) brackets)) (exact-seen Flat (exact-flat_after brackets w)))
+    exact-headed (λ w. exact-choose (bytes_eq w (codes "pack")) (exact-seen Pack (exact-round exact-flat (λ rest. tt) brackets))
+    (exact-seen Flat (exact-flat_after brackets w)))
 
 exact-decl : Exact IsDecl decl_at Any
 unfolding decl_at
 exact-decl =
-    exact-seen made_decl (exact-both exact-river_name (exact-after (s.Colon ∷ []) (exact-before (s.Semicolon ∷ []) exact-type (λ rest. tt))) (λ y ts rest g d. tt))
+    exact-seen made_decl (exact-both exact-river_name (exact-after (s.Colon ∷ []) (exact-before (s.Semicolon ∷ []) exact-type (λ rest. tt)))
+    (λ y ts rest g d. tt))
 
 -- a capacity does not come next
 abbrev NoCap : List Tok → Type 0
@@ -64,13 +66,16 @@ unfolding cap_at
 exact-cap =
     exact-less (exact-maybe (parse.is_word_at (codes "cap")) (exact-after_word (codes "cap") (exact-counted brackets)) comes) (λ rest d. (tt, d))
   where
-    comes : (v : ℕ) (ts rest : List Tok) → form.AfterWord (codes "cap") (Round (λ m. form.Count) brackets) v ts → parse.is_word_at (codes "cap") (ts ++ rest) ≡ true
+    comes : (v : ℕ) (ts rest : List Tok) → form.AfterWord (codes "cap") (Round (λ m. form.Count) brackets) v ts
+        → parse.is_word_at (codes "cap") (ts ++ rest) ≡ true
     comes v ts rest h = rw h.is refl
 
 exact-queue : Exact IsQueue queue_at Any
 unfolding queue_at
 exact-queue =
-    exact-seen made_queue (exact-both exact-river_name (exact-after (s.Colon ∷ []) (exact-before (s.Semicolon ∷ []) (exact-both exact-type exact-cap (λ y ts rest g d. tt)) (λ rest. refl))) (λ y ts rest g d. tt))
+    exact-seen made_queue (exact-both exact-river_name
+    (exact-after (s.Colon ∷ []) (exact-before (s.Semicolon ∷ []) (exact-both exact-type exact-cap (λ y ts rest g d. tt)) (λ rest. refl)))
+    (λ y ts rest g d. tt))
 
 exact-header : Exact IsHeader header_at Any
 unfolding header_at
@@ -122,7 +127,8 @@ split-is os [] (queue q ∷ ps) v e =
 split-is os (w ∷ vs) (queue q ∷ ps) v e = cc
 split-is os [] (variable w ∷ ps) v e = split-is os (w ∷ []) ps v e
 split-is os (x ∷ vs) (variable w ∷ ps) v e =
-    ap (λ (l : List Port). map queue os ++ l) (sym (ap (λ (l : List Port). l ++ ps) (map-append variable (x ∷ vs) (w ∷ [])) ∙ append_assoc (map variable (x ∷ vs)) (variable w ∷ []) ps))
+    ap (λ (l : List Port). map queue os ++ l)
+    (sym (ap (λ (l : List Port). l ++ ps) (map-append variable (x ∷ vs) (w ∷ [])) ∙ append_assoc (map variable (x ∷ vs)) (variable w ∷ []) ps))
     ∙ split-is os (x ∷ vs ++ w ∷ []) ps v e
 
 AtClose : List Tok → Type 0
@@ -147,7 +153,8 @@ exact-ports = exact-round (λ m. exact-ports_inside) (λ rest. (refl, (tt, refl)
 exact-op : Exact IsOp op_at Any
 exact-op =
     exact-as (exact-seen made_op (exact-tested same_vars (exact-both exact-river_name (exact-after (s.Colon ∷ []) (exact-both exact-ports
-    (exact-after (s.Less ∷ s.Minus ∷ []) (exact-both exact-ports (exact-braced brackets) (λ y ts rest g d. tt))) (λ y ts rest g d. tt))) (λ y ts rest g d. tt))))
+    (exact-after (s.Less ∷ s.Minus ∷ []) (exact-both exact-ports (exact-braced brackets) (λ y ts rest g d. tt))) (λ y ts rest g d. tt)))
+    (λ y ts rest g d. tt))))
     (λ v ts h. h) (λ v ts h. h) op-same
 
 exact-private : Exact (form.Before IsVar (s.Semicolon ∷ [])) private_at Any

@@ -32,19 +32,23 @@ split-too_late qs w ps (v ∷ vs) some = refl
 pub split-var : (qs vs : List (List ℕ)) (ps : List read.Port) (i : ℕ) (d : read.Port) (w : List ℕ) → i < length ps → get_or ps i d ≡ kind.Variable w
     → split_from qs (vs ++ w ∷ []) (map port_of (drop (i + 1) ps)) ≡ split_from qs vs (map port_of (drop i ps))
 split-var qs vs ps i d w h is =
-    sym (ap (λ (l : List read.Port). split_from qs vs (map port_of l)) (drop_more ps i d h) ∙ ap (λ (p : read.Port). split_from qs vs (port_of p ∷ map port_of (drop (i + 1) ps))) is ∙ split-variable qs w (map port_of (drop (i + 1) ps)) vs)
+    sym (ap (λ (l : List read.Port). split_from qs vs (map port_of l)) (drop_more ps i d h)
+    ∙ ap (λ (p : read.Port). split_from qs vs (port_of p ∷ map port_of (drop (i + 1) ps))) is ∙ split-variable qs w (map port_of (drop (i + 1) ps)) vs)
 
 pub split-queue : (qs vs : List (List ℕ)) (ps : List read.Port) (i : ℕ) (d : read.Port) (w : List ℕ) → i < length ps → get_or ps i d ≡ kind.Queue w → vs ≡ []
     → split_from (qs ++ w ∷ []) vs (map port_of (drop (i + 1) ps)) ≡ split_from qs vs (map port_of (drop i ps))
 unfolding split_from
 split-queue qs vs ps i d w h is none =
     ap (λ (l : List (List ℕ)). split_from (qs ++ w ∷ []) l (map port_of (drop (i + 1) ps))) none
-    ∙ sym (ap (λ (l : List read.Port). split_from qs vs (map port_of l)) (drop_more ps i d h) ∙ ap (λ (p : read.Port). split_from qs vs (port_of p ∷ map port_of (drop (i + 1) ps))) is ∙ ap (λ (l : List (List ℕ)). split_from qs l (queue w ∷ map port_of (drop (i + 1) ps))) none)
+    ∙ sym (ap (λ (l : List read.Port). split_from qs vs (map port_of l)) (drop_more ps i d h)
+    ∙ ap (λ (p : read.Port). split_from qs vs (port_of p ∷ map port_of (drop (i + 1) ps))) is
+    ∙ ap (λ (l : List (List ℕ)). split_from qs l (queue w ∷ map port_of (drop (i + 1) ps))) none)
 
 pub split-late : (qs vs : List (List ℕ)) (ps : List read.Port) (i : ℕ) (d : read.Port) (w : List ℕ) → i < length ps → get_or ps i d ≡ kind.Queue w
     → (vs ≡ [] → ⊥) → split_from qs vs (map port_of (drop i ps)) ≡ None
 split-late qs vs ps i d w h is some =
-    ap (λ (l : List read.Port). split_from qs vs (map port_of l)) (drop_more ps i d h) ∙ ap (λ (p : read.Port). split_from qs vs (port_of p ∷ map port_of (drop (i + 1) ps))) is ∙ split-too_late qs w (map port_of (drop (i + 1) ps)) vs some
+    ap (λ (l : List read.Port). split_from qs vs (map port_of l)) (drop_more ps i d h)
+    ∙ ap (λ (p : read.Port). split_from qs vs (port_of p ∷ map port_of (drop (i + 1) ps))) is ∙ split-too_late qs w (map port_of (drop (i + 1) ps)) vs some
 
 pub split-end : (qs vs : List (List ℕ)) (ps : List read.Port) (i : ℕ) → length ps ≤ i → split_from qs vs (map port_of (drop i ps)) ≡ Some (qs, vs)
 unfolding split_from

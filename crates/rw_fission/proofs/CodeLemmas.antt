@@ -74,14 +74,16 @@ has_name x ws = nat_lt 0 (count x ws)
 pub name_next : (x : Name) (ws : List Name) (i : ℕ) (w : Name) → i < length ws → w ≡ get_or ws i w → name_eq w x ≡ false
     → has_name x (drop i ws) ≡ has_name x ws → has_name x (drop (i + 1) ws) ≡ has_name x ws
 name_next x ws i w lt e n h =
-    sym (ap (λ b. nat_lt 0 (one_if b + count x (drop (i + 1) ws))) n ∙ (let z : 0 + count x (drop (i + 1) ws) ≡ count x (drop (i + 1) ws) = omega arith in ap (nat_lt 0) z))
+    sym (ap (λ b. nat_lt 0 (one_if b + count x (drop (i + 1) ws))) n
+    ∙ (let z : 0 + count x (drop (i + 1) ws) ≡ count x (drop (i + 1) ws) = omega arith in ap (nat_lt 0) z))
     ∙ ap (λ u. has_name x (u ∷ drop (i + 1) ws)) e ∙ sym (at_drop_more (has_name x) ws i w lt) ∙ h
 
 -- the name is there
 pub name_found : (x : Name) (ws : List Name) (i : ℕ) (w : Name) → i < length ws → w ≡ get_or ws i w → name_eq w x ≡ true
     → has_name x (drop i ws) ≡ has_name x ws → has_name x ws ≡ true
 name_found x ws i w lt e n h =
-    sym h ∙ at_drop_more (has_name x) ws i w lt ∙ ap (λ u. has_name x (u ∷ drop (i + 1) ws)) (sym e) ∙ ap (λ b. nat_lt 0 (one_if b + count x (drop (i + 1) ws))) n ∙ some (count x (drop (i + 1) ws))
+    sym h ∙ at_drop_more (has_name x) ws i w lt ∙ ap (λ u. has_name x (u ∷ drop (i + 1) ws)) (sym e)
+    ∙ ap (λ b. nat_lt 0 (one_if b + count x (drop (i + 1) ws))) n ∙ some (count x (drop (i + 1) ws))
   where
     some : (k : ℕ) → nat_lt 0 (1 + k) ≡ true
     some k = grind arith
@@ -132,7 +134,8 @@ made_at f n i ws x e lt h = h x ∙ ap (λ l. slice_index_or l i x) e ∙ each_a
 
 -- an operator by its parts
 pub op_by : (l l' : Name) (k k' : Kern) (r r' w w' v v' : List Name) → l ≡ l' → k ≡ k' → r ≡ r' → w ≡ w' → v ≡ v'
-    → ◌≡◌ {A = OpForm} (record { label = l; kernel = k; reads = r; writes = w; vars = v }) (record { label = l'; kernel = k'; reads = r'; writes = w'; vars = v' })
+    → ◌≡◌ {A = OpForm} (record { label = l; kernel = k; reads = r; writes = w; vars = v })
+    (record { label = l'; kernel = k'; reads = r'; writes = w'; vars = v' })
 op_by l l' k k' r r' w w' v v' a b c d e = λ i. record { label = a i; kernel = b i; reads = c i; writes = d i; vars = e i }
 
 -- one operator more
@@ -149,19 +152,22 @@ pub pushed_as : {T E : Type 0} (r : Result T E) (ops ops' : List Op) (x : Op) (o
     → x.label ≡ o.label → kern_of x.kernel ≡ o.kernel → x.reads ≡ o.reads → x.writes ≡ o.writes → x.vars ≡ o.vars
     → OnOk r (op_forms ops' ≡ op_forms ops ++ o ∷ [])
 pushed_as r ops ops' x o h a b c d e = on_ok_weaker r
-    (λ p. op_pushed ops ops' x p ∙ ap (λ y. op_forms ops ++ y ∷ []) (op_by x.label o.label (kern_of x.kernel) o.kernel x.reads o.reads x.writes o.writes x.vars o.vars a b c d e)) h
+    (λ p. op_pushed ops ops' x p ∙ ap (λ y. op_forms ops ++ y ∷ [])
+    (op_by x.label o.label (kern_of x.kernel) o.kernel x.reads o.reads x.writes o.writes x.vars o.vars a b c d e)) h
 
 -- one replica more
 pub copies_next : (g : ℕ → OpForm) (i : ℕ) (start : List OpForm) (ops ops' : List Op) (x : Op) → ops' ≡ ops ++ x ∷ [] → op_form x ≡ g i
     → op_forms ops ≡ start ++ each_op g i → op_forms ops' ≡ start ++ each_op g (i + 1)
 copies_next g i start ops ops' x e h k =
-    op_pushed ops ops' x e ∙ ap (λ l. l ++ op_form x ∷ []) k ∙ append_assoc start (each_op g i) (op_form x ∷ []) ∙ ap (λ o. start ++ (each_op g i ++ o ∷ [])) h ∙ ap (λ l. start ++ l) (sym (each_op_more g i))
+    op_pushed ops ops' x e ∙ ap (λ l. l ++ op_form x ∷ []) k ∙ append_assoc start (each_op g i) (op_form x ∷ [])
+    ∙ ap (λ o. start ++ (each_op g i ++ o ∷ [])) h ∙ ap (λ l. start ++ l) (sym (each_op_more g i))
 
 -- the operators that were appended
 pub split_pushed : (start : List OpForm) (x : Op) (s : OpForm) (news joins a b c : List OpForm) → a ≡ start ++ op_form x ∷ [] → op_form x ≡ s → b ≡ a ++ news
     → c ≡ b ++ joins → c ≡ start ++ s ∷ (news ++ joins)
 split_pushed start x s news joins a b c ea ex eb ec =
-    ec ∙ ap (λ l. l ++ joins) (eb ∙ ap (λ l. l ++ news) (ea ∙ ap (λ o. start ++ o ∷ []) ex)) ∙ append_assoc (start ++ s ∷ []) news joins ∙ append_assoc start (s ∷ []) (news ++ joins)
+    ec ∙ ap (λ l. l ++ joins) (eb ∙ ap (λ l. l ++ news) (ea ∙ ap (λ o. start ++ o ∷ []) ex)) ∙ append_assoc (start ++ s ∷ []) news joins
+    ∙ append_assoc start (s ∷ []) (news ++ joins)
 
 -- one operator gives way to others
 form_at : (ops : List Op) (i : ℕ) (d : Op) → i < length ops → slice_get (op_forms ops) i ≡ Some (op_form (slice_index_or ops i d))
@@ -260,5 +266,6 @@ no_place l ops i le z =
 -- a plan by its lists
 pub plan_by : (os os' is is' qs qs' : List Decl) (ts ts' : List TableDecl) (vs vs' : List Name) (ops ops' : List OpForm) → os ≡ os' → is ≡ is' → qs ≡ qs'
     → ts ≡ ts' → vs ≡ vs' → ops ≡ ops'
-    → ◌≡◌ {A = PlanForm} (record { outputs = os; inputs = is; queues = qs; tables = ts; vars = vs; ops = ops }) (record { outputs = os'; inputs = is'; queues = qs'; tables = ts'; vars = vs'; ops = ops' })
+    → ◌≡◌ {A = PlanForm} (record { outputs = os; inputs = is; queues = qs; tables = ts; vars = vs; ops = ops })
+    (record { outputs = os'; inputs = is'; queues = qs'; tables = ts'; vars = vs'; ops = ops' })
 plan_by os os' is is' qs qs' ts ts' vs vs' ops ops' a b c d e f = λ i. record { outputs = a i; inputs = b i; queues = c i; tables = d i; vars = e i; ops = f i }

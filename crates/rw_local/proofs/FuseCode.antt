@@ -70,7 +70,8 @@ pub decl_below : (q : Name) (ds : List Decl) → 0 < count q (decl_names ds) →
 decl_below q [] lt = absurd (omega (arith, lt))
 decl_below q (x ∷ ds) lt = ⊎_elim
     (λ c. let e = if_true (name_eq x.name q) 0 (suc (place_of_name q (decl_names ds))) c in omega (arith, e))
-    (λ c. let e = if_false (name_eq x.name q) 0 (suc (place_of_name q (decl_names ds))) c in let z = ap one_if c in let i = decl_below q ds (omega (arith, z, lt)) in omega (arith, e, i))
+    (λ c. let e = if_false (name_eq x.name q) 0 (suc (place_of_name q (decl_names ds))) c in let z = ap one_if c in let i =
+    decl_below q ds (omega (arith, z, lt)) in omega (arith, e, i))
     (cases_bool (name_eq x.name q))
 
 -- the declarations without one
@@ -78,10 +79,12 @@ pub undeclared_is : (q : Name) (ds : List Decl) (n : ℕ) → 0 < count q (decl_
     → take n ds ++ drop (n + 1) ds ≡ undeclared q ds
 undeclared_is q ds n lt e = ap (λ m. take m ds ++ drop (m + 1) ds) e ∙ go ds lt
   where
-    go : (xs : List Decl) → 0 < count q (decl_names xs) → take (place_of_name q (decl_names xs)) xs ++ drop (place_of_name q (decl_names xs) + 1) xs ≡ undeclared q xs
+    go : (xs : List Decl) → 0 < count q (decl_names xs)
+        → take (place_of_name q (decl_names xs)) xs ++ drop (place_of_name q (decl_names xs) + 1) xs ≡ undeclared q xs
     go [] l = absurd (omega (arith, l))
     go (x ∷ xs) l = ⊎_elim
-        (λ c. ap (λ m. take m (x ∷ xs) ++ drop (m + 1) (x ∷ xs)) (if_true (name_eq x.name q) 0 (suc (place_of_name q (decl_names xs))) c) ∙ sym (if_true (name_eq x.name q) xs (x ∷ undeclared q xs) c))
+        (λ c. ap (λ m. take m (x ∷ xs) ++ drop (m + 1) (x ∷ xs)) (if_true (name_eq x.name q) 0 (suc (place_of_name q (decl_names xs))) c)
+        ∙ sym (if_true (name_eq x.name q) xs (x ∷ undeclared q xs) c))
         (λ c.
         let k : suc (place_of_name q (decl_names xs)) + 1 ≡ suc (place_of_name q (decl_names xs) + 1) = omega arith in
         ap (λ m. take m (x ∷ xs) ++ drop (m + 1) (x ∷ xs)) (if_false (name_eq x.name q) 0 (suc (place_of_name q (decl_names xs))) c)
@@ -91,7 +94,8 @@ undeclared_is q ds n lt e = ap (λ m. take m ds ++ drop (m + 1) ds) e ∙ go ds 
 
 -- OPERATORS
 
-module _ (p : PlanForm) (q : Name) (w r : OpForm) (v : IsPlan p) (hw : first_with (writes_it q) p.ops ≡ Some w) (hr : first_with (reads_it q) p.ops ≡ Some r) where
+module _ (p : PlanForm) (q : Name) (w r : OpForm) (v : IsPlan p) (hw : first_with (writes_it q) p.ops ≡ Some w)
+    (hr : first_with (reads_it q) p.ops ≡ Some r) where
   -- the writer writes the queue
   pub writes_there : 0 < count q w.writes
   writes_there = (found (writes_it q) p.ops w hw).has
@@ -121,7 +125,9 @@ module _ (p : PlanForm) (q : Name) (w r : OpForm) (v : IsPlan p) (hw : first_wit
   pub few : length w.writes < 2 ^ 32
   few =
       let f = found (writes_it q) p.ops w hw in
-      let a = each_back (λ op. All (λ n. n ≤ 64) (length op.reads ∷ length op.writes ∷ [])) f.before (w ∷ f.behind) (subst (Each (λ op. All (λ n. n ≤ 64) (length op.reads ∷ length op.writes ∷ []))) f.is (flat_each (λ op. length op.reads ∷ length op.writes ∷ []) (λ n. n ≤ 64) p.ops (v.within Ports))) in
+      let a = each_back (λ op. All (λ n. n ≤ 64) (length op.reads ∷ length op.writes ∷ [])) f.before (w ∷ f.behind)
+      (subst (Each (λ op. All (λ n. n ≤ 64) (length op.reads ∷ length op.writes ∷ []))) f.is
+      (flat_each (λ op. length op.reads ∷ length op.writes ∷ []) (λ n. n ≤ 64) p.ops (v.within Ports))) in
       let b = a.0 1 0 (omega arith) in
       omega (arith, b)
 
@@ -140,7 +146,8 @@ module _ (p : PlanForm) (q : Name) (w r : OpForm) (v : IsPlan p) (hw : first_wit
 
 -- a name among the queues of a plan
 pub in_any : (p : PlanForm) (q : Name)
-    → (0 < count q (decl_names p.outputs) + (count q (decl_names p.inputs) + count q (decl_names p.queues)) → 0 < count q (queue_names p)) × (0 < count q (queue_names p) → 0 < count q (decl_names p.outputs) + (count q (decl_names p.inputs) + count q (decl_names p.queues)))
+    → (0 < count q (decl_names p.outputs) + (count q (decl_names p.inputs) + count q (decl_names p.queues)) → 0 < count q (queue_names p))
+    × (0 < count q (queue_names p) → 0 < count q (decl_names p.outputs) + (count q (decl_names p.inputs) + count q (decl_names p.queues)))
 in_any p q =
     let a = names_of (decl_names p.outputs) (decl_names p.inputs) (decl_names p.queues) q in
     ((λ lt. omega (arith, a, lt)), (λ lt. omega (arith, a, lt)))
@@ -153,7 +160,8 @@ two_ok p q w r one small none = if_eq (length r.reads) 1 _ _ one ∙ if_false (i
 -- the step at a queue is that of its writer and its reader
 pub fuse_found_two : (p : PlanForm) (q : Name) (w r : OpForm) → 0 < count q (queue_names p) → first_with (writes_it q) p.ops ≡ Some w
     → first_with (reads_it q) p.ops ≡ Some r → fuse_of p q ≡ fuse_two p q w r
-fuse_found_two p q w r lt hw hr = if_lt 0 (count q (queue_names p)) _ _ lt ∙ ap (λ o. fuse_found p q o (first_with (reads_it q) p.ops)) hw ∙ ap (fuse_found p q (Some w)) hr
+fuse_found_two p q w r lt hw hr =
+    if_lt 0 (count q (queue_names p)) _ _ lt ∙ ap (λ o. fuse_found p q o (first_with (reads_it q) p.ops)) hw ∙ ap (fuse_found p q (Some w)) hr
 
 -- its writer or its reader is not there
 pub no_writer : (p : PlanForm) (q : Name) → 0 < count q (queue_names p) → first_with (writes_it q) p.ops ≡ None → fuse_of p q ≡ Err U2
@@ -161,4 +169,5 @@ no_writer p q lt hw = if_lt 0 (count q (queue_names p)) _ _ lt ∙ ap (λ o. fus
 
 pub no_reader : (p : PlanForm) (q : Name) (w : OpForm) → 0 < count q (queue_names p) → first_with (writes_it q) p.ops ≡ Some w
     → first_with (reads_it q) p.ops ≡ None → fuse_of p q ≡ Err U2
-no_reader p q w lt hw hr = if_lt 0 (count q (queue_names p)) _ _ lt ∙ ap (λ o. fuse_found p q o (first_with (reads_it q) p.ops)) hw ∙ ap (fuse_found p q (Some w)) hr
+no_reader p q w lt hw hr =
+    if_lt 0 (count q (queue_names p)) _ _ lt ∙ ap (λ o. fuse_found p q o (first_with (reads_it q) p.ops)) hw ∙ ap (fuse_found p q (Some w)) hr

@@ -68,12 +68,14 @@ retyped_is q k ds n lt e = ap (λ m. take m ds ++ (record { name = q; kind = k }
     go [] l = absurd (omega (arith, l))
     go (x ∷ xs) l = ⊎_elim
         (λ c.
-        ap (λ m. take m (x ∷ xs) ++ (record { name = q; kind = k } ∷ drop (m + 1) (x ∷ xs))) (if_true (name_eq x.name q) 0 (suc (place_of_name q (decl_names xs))) c)
+        ap (λ m. take m (x ∷ xs) ++ (record { name = q; kind = k } ∷ drop (m + 1) (x ∷ xs)))
+        (if_true (name_eq x.name q) 0 (suc (place_of_name q (decl_names xs))) c)
         ∙ ap (λ m. record { name = m; kind = k } ∷ xs) (sym (name_is x.name q c))
         ∙ sym (if_true (name_eq x.name q) (record x { kind = k } ∷ xs) (x ∷ retyped q k xs) c))
         (λ c.
         let s : suc (place_of_name q (decl_names xs)) + 1 ≡ suc (place_of_name q (decl_names xs) + 1) = omega arith in
-        ap (λ m. take m (x ∷ xs) ++ (record { name = q; kind = k } ∷ drop (m + 1) (x ∷ xs))) (if_false (name_eq x.name q) 0 (suc (place_of_name q (decl_names xs))) c)
+        ap (λ m. take m (x ∷ xs) ++ (record { name = q; kind = k } ∷ drop (m + 1) (x ∷ xs)))
+        (if_false (name_eq x.name q) 0 (suc (place_of_name q (decl_names xs))) c)
         ∙ ap (λ m. x ∷ (take (place_of_name q (decl_names xs)) xs ++ (record { name = q; kind = k } ∷ drop m (x ∷ xs)))) s
         ∙ ap (λ m. x ∷ m) (go xs (let z = ap one_if c in omega (arith, z, l)))
         ∙ sym (if_false (name_eq x.name q) (record x { kind = k } ∷ xs) (x ∷ retyped q k xs) c))
@@ -84,10 +86,13 @@ retyped_is q k ds n lt e = ap (λ m. take m ds ++ (record { name = q; kind = k }
 replaced-append : (q : Name) (news xs ys : List OpForm) → replaced q news (xs ++ ys) ≡ replaced q news xs ++ replaced q news ys
 replaced-append q news [] ys = refl
 replaced-append q news (x ∷ xs) ys = ⊎_elim
-    (λ lt. if_lt 0 (count q x.writes) _ _ lt ∙ ap (λ l. news ++ l) (replaced-append q news xs ys) ∙ sym (assoc news (replaced q news xs) (replaced q news ys)) ∙ sym (ap (λ l. l ++ replaced q news ys) (if_lt 0 (count q x.writes) _ _ lt)))
+    (λ lt. if_lt 0 (count q x.writes) _ _ lt ∙ ap (λ l. news ++ l) (replaced-append q news xs ys)
+    ∙ sym (assoc news (replaced q news xs) (replaced q news ys)) ∙ sym (ap (λ l. l ++ replaced q news ys) (if_lt 0 (count q x.writes) _ _ lt)))
     (λ ge. if_ge 0 (count q x.writes) _ _ ge ∙ ⊎_elim
-    (λ lt. if_lt 0 (count q x.reads) _ _ lt ∙ replaced-append q news xs ys ∙ sym (ap (λ l. l ++ replaced q news ys) (if_ge 0 (count q x.writes) _ _ ge ∙ if_lt 0 (count q x.reads) _ _ lt)))
-    (λ g. if_ge 0 (count q x.reads) _ _ g ∙ ap (λ l. x ∷ l) (replaced-append q news xs ys) ∙ sym (ap (λ l. l ++ replaced q news ys) (if_ge 0 (count q x.writes) _ _ ge ∙ if_ge 0 (count q x.reads) _ _ g)))
+    (λ lt. if_lt 0 (count q x.reads) _ _ lt ∙ replaced-append q news xs ys
+    ∙ sym (ap (λ l. l ++ replaced q news ys) (if_ge 0 (count q x.writes) _ _ ge ∙ if_lt 0 (count q x.reads) _ _ lt)))
+    (λ g. if_ge 0 (count q x.reads) _ _ g ∙ ap (λ l. x ∷ l) (replaced-append q news xs ys)
+    ∙ sym (ap (λ l. l ++ replaced q news ys) (if_ge 0 (count q x.writes) _ _ ge ∙ if_ge 0 (count q x.reads) _ _ g)))
     (cases_lt 0 (count q x.reads)))
     (cases_lt 0 (count q x.writes))
   where
@@ -99,7 +104,8 @@ replaced-append q news (x ∷ xs) ys = ⊎_elim
 pub replaced_next : (q : Name) (news : List OpForm) (xs : List Op) (i : ℕ) (x : Op) (now new : List OpForm) → i < length xs → x ≡ get_or xs i x
     → now ≡ replaced q news (op_forms (take i xs)) → new ≡ now ++ replaced q news (op_form x ∷ []) → new ≡ replaced q news (op_forms (take (i + 1) xs))
 replaced_next q news xs i x now new lt e h s =
-    s ∙ ap (λ l. l ++ replaced q news (op_form x ∷ [])) h ∙ sym (ap (replaced q news) (forms_next xs i x lt e) ∙ replaced-append q news (op_forms (take i xs)) (op_form x ∷ []))
+    s ∙ ap (λ l. l ++ replaced q news (op_form x ∷ [])) h
+    ∙ sym (ap (replaced q news) (forms_next xs i x lt e) ∙ replaced-append q news (op_forms (take i xs)) (op_form x ∷ []))
 
 -- one operator more
 pub pushed : (old new : List Op) (x : Op) (o : OpForm) → new ≡ old ++ x ∷ [] → op_form x ≡ o → op_forms new ≡ op_forms old ++ o ∷ []
@@ -112,10 +118,12 @@ two_pushed old one new x y o p e h d k =
     pushed one new y p d k ∙ ap (λ l. l ++ p ∷ []) (pushed old one x o e h) ∙ append_assoc (op_forms old) (o ∷ []) (p ∷ [])
 
 -- what stands for an operator that writes the queue, for one that reads it, and for any other
-pub for_writer : (q : Name) (news : List OpForm) (op : OpForm) (now new : List OpForm) → 0 < count q op.writes → new ≡ now ++ news → new ≡ now ++ replaced q news (op ∷ [])
+pub for_writer : (q : Name) (news : List OpForm) (op : OpForm) (now new : List OpForm) → 0 < count q op.writes → new ≡ now ++ news
+    → new ≡ now ++ replaced q news (op ∷ [])
 for_writer q news op now new lt e = e ∙ ap (λ l. now ++ l) (sym (if_lt 0 (count q op.writes) _ _ lt ∙ append-nil news))
 
-pub for_reader : (q : Name) (news : List OpForm) (op : OpForm) (now : List OpForm) → count q op.writes ≡ 0 → 0 < count q op.reads → now ≡ now ++ replaced q news (op ∷ [])
+pub for_reader : (q : Name) (news : List OpForm) (op : OpForm) (now : List OpForm) → count q op.writes ≡ 0 → 0 < count q op.reads
+    → now ≡ now ++ replaced q news (op ∷ [])
 for_reader q news op now z lt =
     sym (ap (λ l. now ++ l) (if_ge 0 (count q op.writes) _ _ (omega (arith, z)) ∙ if_lt 0 (count q op.reads) _ _ lt) ∙ append-nil now)
 
@@ -140,7 +148,8 @@ pub hoist_upto : (p : PlanForm) (l : Name) (u b : OpForm) (t : Term) (mid out : 
     → first_with (writes_it mid) p.ops ≡ Some b → length b.writes ≡ 1 → width ≡ first_width (map (kind_of (all_decls p)) b.reads)
     → hoist_of p l ≡ hoist_passed p u b mid out (passes width b.kernel t)
 hoist_upto p l u b t mid out width a k r w below one e =
-    ap (hoist_found p) a ∙ ap (hoist_kernel p u) k ∙ between_is p u t u.reads u.writes mid out r w ∙ ap (hoist_past p u t mid out) below ∙ if_eq (length b.writes) 1 _ _ one
+    ap (hoist_found p) a ∙ ap (hoist_kernel p u) k ∙ between_is p u t u.reads u.writes mid out r w ∙ ap (hoist_past p u t mid out) below
+    ∙ if_eq (length b.writes) 1 _ _ one
     ∙ ap (λ n. hoist_passed p u b mid out (passes n b.kernel t)) (sym e)
 
 -- a refusal of the operator below is that of the step
@@ -193,5 +202,6 @@ hoist_may p l u b t mid out width side t' v s below one e ps src source =
     ((mid_inner p l u b t side t' src mid out v may).2, (hoist_keeps p l u b t side t' src mid out v may).0)
 
 -- the queue that the selection reads then
-pub read_at : (rs : List Name) (side n : ℕ) (src : Name) → n ≡ length rs → side < n → ((d : Name) → src ≡ slice_index_or rs side d) → slice_get rs side ≡ Some src
+pub read_at : (rs : List Name) (side n : ℕ) (src : Name) → n ≡ length rs → side < n → ((d : Name) → src ≡ slice_index_or rs side d)
+    → slice_get rs side ≡ Some src
 read_at rs side n src e lt so = slice_get_read rs (length rs) side src refl (subst (λ k. side < k) e lt) (so src)

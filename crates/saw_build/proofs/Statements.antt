@@ -34,7 +34,8 @@ module _ (n : Name) (t : Expression) (s s1 : At) (hc : counted s ≡ Ok s1) wher
   pub assign_slot_fault : (f : fault.Fault) → Tells f (slot_of (find s1.scope n)) → Tells f (step_of (source.Assign n t) s)
   assign_slot_fault f h = tells_more f (slot_of (find s1.scope n)) (step_of (source.Assign n t) s) (λ g e. rw (hc, e) refl) h
 
-  pub assign_value_fault : (i : ℕ) → slot_of (find s1.scope n) ≡ Ok i → (f : fault.Fault) → Tells f (term_of s1.scope t) → Tells f (step_of (source.Assign n t) s)
+  pub assign_value_fault : (i : ℕ) → slot_of (find s1.scope n) ≡ Ok i → (f : fault.Fault) → Tells f (term_of s1.scope t)
+      → Tells f (step_of (source.Assign n t) s)
   assign_value_fault i hs f h = tells_more f (term_of s1.scope t) (step_of (source.Assign n t) s) (λ g e. rw (hc, hs, e) refl) h
 
   pub assign_read : (i : ℕ) (v : Term) → slot_of (find s1.scope n) ≡ Ok i → term_of s1.scope t ≡ Ok v
@@ -86,7 +87,8 @@ module _ (t : Name) (is : List Expression) (v : Expression) (w : Option Expressi
 
   module _ (port : ℕ) (k : TableKind) (hp : table_port (find s1.scope t) ≡ Ok (port, k)) where
     row_on : step_of (source.Emit t is v w) s ≡ on_ok (row_of s1.scope k is v w) (pushed s1 port)
-    row_on = rw (hc, hp) (row_then s1 port (indexes_of s1.scope 0 is) (demand (nat_eq (length is) (keys_in k)) Shape) (term_of s1.scope v) (weight_of k w s1.scope))
+    row_on =
+        rw (hc, hp) (row_then s1 port (indexes_of s1.scope 0 is) (demand (nat_eq (length is) (keys_in k)) Shape) (term_of s1.scope v) (weight_of k w s1.scope))
 
     pub emit_row_fault : (f : fault.Fault) → Tells f (row_of s1.scope k is v w) → Tells f (step_of (source.Emit t is v w) s)
     emit_row_fault f h =

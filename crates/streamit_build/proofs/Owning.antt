@@ -33,6 +33,7 @@ pub own_next : (ops : List Op) (i : ℕ) (x : Op) → i < length ops → x ≡ g
 own_next ops i x lt e =
     ap (λ l. map values_in (own_queues (map op_form l))) (take_more ops i x lt ∙ ap (λ y. take i ops ++ y ∷ []) (sym e))
     ∙ ap (λ l. map values_in (own_queues l)) (map-append op_form (take i ops) (x ∷ []))
-    ∙ ap (λ l. map values_in (own l)) (writes-append (map op_form (take i ops)) (op_form x ∷ []) ∙ ap (λ l. all_writes (map op_form (take i ops)) ++ l) (append-nil x.writes))
+    ∙ ap (λ l. map values_in (own l)) (writes-append (map op_form (take i ops)) (op_form x ∷ [])
+    ∙ ap (λ l. all_writes (map op_form (take i ops)) ++ l) (append-nil x.writes))
     ∙ ap (map values_in) (own-append (all_writes (map op_form (take i ops))) x.writes)
     ∙ map-append values_in (own_queues (map op_form (take i ops))) (own x.writes)

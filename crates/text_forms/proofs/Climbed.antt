@@ -20,7 +20,8 @@ made-gives view a (Err NoMemory) made is = tt
 
 module _ {T O P : Type 0} (S : Syntax T O P) where
   -- the step at the foot
-  pub ladder-zero : (leaf : parse.Parse T) (i : ℕ → parse.Parse T) (rank room : ℕ) (ts : List Tok) → rank ≡ 0 → ladder S leaf i rank room ts ≡ base S leaf i room ts
+  pub ladder-zero : (leaf : parse.Parse T) (i : ℕ → parse.Parse T) (rank room : ℕ) (ts : List Tok) → rank ≡ 0
+      → ladder S leaf i rank room ts ≡ base S leaf i room ts
   ladder-zero leaf i rank room ts is = ap (λ (r : ℕ). ladder S leaf i r room ts) is ∙ ladder-base S leaf i room ts
 
   -- an operator came, and its right operand
@@ -60,7 +61,8 @@ module _ {T O P : Type 0} (S : Syntax T O P) where
       ∙ ap (λ (ws : List Tok). b room ws) (sym is)
 
   -- a sign came, and what it marks
-  pub prefix-marked : (k : ℕ) (b : ℕ → parse.Parse T) (room : ℕ) (ts vs us : List Tok) (p : P) (t w : T) → 0 < room → sign_of_level S k ts ≡ Some p → vs ≡ tail ts
+  pub prefix-marked : (k : ℕ) (b : ℕ → parse.Parse T) (room : ℕ) (ts vs us : List Tok) (p : P) (t w : T) → 0 < room → sign_of_level S k ts ≡ Some p
+      → vs ≡ tail ts
       → prefix_level S k b (room - 1) vs ≡ Some (t, us) → w ≡ S.mark p t → prefix_level S k b room ts ≡ Some (w, us)
   prefix-marked k b room ts vs us p t w h found is read mark =
       prefix-at S k b room ts h
@@ -106,7 +108,8 @@ module _ {T O P : Type 0} (S : Syntax T O P) where
       ∙ ap leaf (sym is)
 
   -- the right operand came, and was joined
-  pub grown-joined : (right : parse.Parse T) (room : ℕ) (o : O) (left : T) (ts : List Tok) (r w : T) (us : List Tok) → S.depth left < room → right ts ≡ Some (r, us)
+  pub grown-joined : (right : parse.Parse T) (room : ℕ) (o : O) (left : T) (ts : List Tok) (r w : T) (us : List Tok) → S.depth left < room
+      → right ts ≡ Some (r, us)
       → w ≡ S.join o left r → grown S right room o left ts ≡ Some (w, us)
   grown-joined right room o left ts r w us small read join =
       grown-taken S right room o left ts small
@@ -117,7 +120,8 @@ module _ {T O P : Type 0} (S : Syntax T O P) where
   pub closed-zero : (leaf : ℕ → parse.Parse T) (n room : ℕ) (ts : List Tok) → n ≡ 0 → closed (within S leaf n) room ts ≡ None
   closed-zero leaf n room ts is =
       ap (λ (m : ℕ). closed (within S leaf m) room ts) is
-      ∙ ap (λ (r : Option (T × List Tok)). parse.then_parsed r (λ a ws. parse.then_rest (parse.symbols_at (s.Close ∷ []) ws) (λ vs. Some (a, vs)))) (within-none S leaf room ts)
+      ∙ ap (λ (r : Option (T × List Tok)). parse.then_parsed r (λ a ws. parse.then_rest (parse.symbols_at (s.Close ∷ []) ws) (λ vs. Some (a, vs))))
+      (within-none S leaf room ts)
 
   -- an expression came; the bracket that closes it has to come next
   closed-read : (leaf : ℕ → parse.Parse T) (n h room : ℕ) (ts us : List Tok) (t : T) → 0 < n → h ≡ length S.levels
@@ -128,7 +132,8 @@ module _ {T O P : Type 0} (S : Syntax T O P) where
       (within-at S leaf n room ts some ∙ ap (λ (k : ℕ). ladder S (leaf (n - 1)) (within S leaf (n - 1)) k room ts) (sym is) ∙ read)
 
   -- an expression came, and is kept where the bracket that closes it comes
-  pub closed-gives : {X : Type 0} (view : X → T) (x : X) (r : Result X Fault) (leaf : ℕ → parse.Parse T) (n h room : ℕ) (ts us vs : List Tok) → 0 < n → h ≡ length S.levels
+  pub closed-gives : {X : Type 0} (view : X → T) (x : X) (r : Result X Fault) (leaf : ℕ → parse.Parse T) (n h room : ℕ) (ts us vs : List Tok) → 0 < n
+      → h ≡ length S.levels
       → ladder S (leaf (n - 1)) (within S leaf (n - 1)) h room ts ≡ Some (view x, us) → Keeps x r vs (parse.symbols_at (s.Close ∷ []) us)
       → Gives view r vs (closed (within S leaf n) room ts)
   closed-gives view x (Ok y) leaf n h room ts us vs some is read kept =
@@ -140,7 +145,8 @@ module _ {T O P : Type 0} (S : Syntax T O P) where
   closed-gives view x (Err NoMemory) leaf n h room ts us vs some is read kept = tt
 
   -- a bracket came behind the call, and what is in it
-  pub called-all : (i : ℕ → parse.Parse T) (room : ℕ) (ts us vs : List Tok) (p : P) (t w : T) → parse.symbols_at (s.Open ∷ []) ts ≡ Some us → closed i room us ≡ Some (t, vs)
+  pub called-all : (i : ℕ → parse.Parse T) (room : ℕ) (ts us vs : List Tok) (p : P) (t w : T) → parse.symbols_at (s.Open ∷ []) ts ≡ Some us
+      → closed i room us ≡ Some (t, vs)
       → w ≡ S.mark p t → parse.seen (S.mark p) (parse.after (s.Open ∷ []) (closed i room)) ts ≡ Some (w, vs)
   called-all i room ts us vs p t w opens read mark =
       ap (λ (r : Option (List Tok)). parse.then_parsed (parse.then_rest r (closed i room)) (λ a xs. Some (S.mark p a, xs))) opens

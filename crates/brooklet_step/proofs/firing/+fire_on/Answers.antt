@@ -20,22 +20,28 @@ pub fire_each-loop-item-init : goal.fire_each-loop-item-init
 fire_each-loop-item-init t c = so_far_start (kern_of c.args.kernel.now) c.args.items.now c.args.out.now c.args.states.now c.requires
 
 pub fire_each-fire_on-requires : goal.fire_each-fire_on-requires
-fire_each-fire_on-requires t c =
-    (omega (arith, c.decreases), so_far_takes (kern_of c.args.kernel.now) c.args.items.now c.loop-item.items c.pop.new.self c.in-Some.item c.args.out.now c.loop-item.out c.args.states.now c.loop-item.states c.in-Some.ensures c.loop-item.invariant)
+fire_each-fire_on-requires t c = (
+  omega (arith, c.decreases),
+  so_far_takes (kern_of c.args.kernel.now) c.args.items.now c.loop-item.items c.pop.new.self c.in-Some.item
+      c.args.out.now c.loop-item.out c.args.states.now c.loop-item.states c.in-Some.ensures c.loop-item.invariant,
+)
 
 pub fire_each-loop-item-smaller : goal.fire_each-loop-item-smaller
 fire_each-loop-item-smaller t c = let e = ap length c.in-Some.ensures in omega (arith, e)
 
 pub fire_each-loop-item-preserved : goal.fire_each-loop-item-preserved
 fire_each-loop-item-preserved t c =
-    so_far_step (kern_of c.args.kernel.now) c.args.items.now c.loop-item.items c.pop.new.self c.in-Some.item c.args.out.now c.loop-item.out c.fire_on.new.out c.args.states.now c.loop-item.states c.fire_on.new.states c.in-Some.ensures c.loop-item.invariant c.in_ok-fire_on.ensures
+    so_far_step (kern_of c.args.kernel.now) c.args.items.now c.loop-item.items c.pop.new.self c.in-Some.item c.args.out.now c.loop-item.out
+    c.fire_on.new.out c.args.states.now c.loop-item.states c.fire_on.new.states c.in-Some.ensures c.loop-item.invariant c.in_ok-fire_on.ensures
 
 pub fire_on-fire_packed-requires : goal.fire_on-fire_packed-requires
 fire_on-fire_packed-requires t c =
     let k = kern_of c.args.kernel.now in
     let ek : k ≡ packed (kern_of c.in-Packed.inner.value) = ap kern_of c.in-Packed.is ∙ kern_of-packed c.in-Packed.inner in
-    let ej = ap kern_of c.deref.ensures in
-    (omega (arith, c.decreases, ap size ek, ap size ej), subst (λ i. CanTake i c.args.port c.args.item c.args.states.now c.args.out.now) (ek ∙ ap packed (sym ej)) c.requires)
+    let ej = ap kern_of c.deref.ensures in (
+      omega (arith, c.decreases, ap size ek, ap size ej),
+      subst (λ i. CanTake i c.args.port c.args.item c.args.states.now c.args.out.now) (ek ∙ ap packed (sym ej)) c.requires,
+    )
 
 pub fire_on-fire_fused-requires : goal.fire_on-fire_fused-requires
 fire_on-fire_fused-requires t c =
@@ -45,13 +51,16 @@ fire_on-fire_fused-requires t c =
     let b = kern_of c.deref-in-Fused-2.result.now in
     let ea = ap kern_of c.deref-in-Fused.ensures in
     let eb = ap kern_of c.deref-in-Fused-2.ensures in
-    let ek : k ≡ fused a b at = ap kern_of c.in-Fused.is ∙ kern_of-fused c.in-Fused.first c.in-Fused.second at ∙ ap (λ i. fused i (kern_of c.in-Fused.second.value) at) (sym ea) ∙ ap (λ i. fused a i at) (sym eb) in
+    let ek : k ≡ fused a b at = ap kern_of c.in-Fused.is ∙ kern_of-fused c.in-Fused.first c.in-Fused.second at
+    ∙ ap (λ i. fused i (kern_of c.in-Fused.second.value) at) (sym ea) ∙ ap (λ i. fused a i at) (sym eb) in
     (omega (arith, c.decreases, ap size ek), subst (λ i. CanTake i c.args.port c.args.item c.args.states.now c.args.out.now) ek c.requires)
 
 pub fire_on-returns-in-Packed : goal.fire_on-returns-in-Packed
 fire_on-returns-in-Packed t c =
-    let ek : kern_of c.args.kernel.now ≡ packed (kern_of c.deref.result.now) = ap kern_of c.in-Packed.is ∙ kern_of-packed c.in-Packed.inner ∙ ap (λ j. packed (kern_of j)) (sym c.deref.ensures) in
-    subst (λ i. OnOk c.fire_packed.result (FiresAt i c.args.port c.args.item c.args.out.now c.fire_packed.new.out c.args.states.now c.fire_packed.new.states)) (sym ek) c.fire_packed.ensures
+    let ek : kern_of c.args.kernel.now ≡ packed (kern_of c.deref.result.now) = ap kern_of c.in-Packed.is ∙ kern_of-packed c.in-Packed.inner
+    ∙ ap (λ j. packed (kern_of j)) (sym c.deref.ensures) in
+    subst (λ i. OnOk c.fire_packed.result (FiresAt i c.args.port c.args.item c.args.out.now c.fire_packed.new.out c.args.states.now
+    c.fire_packed.new.states)) (sym ek) c.fire_packed.ensures
 
 pub fire_on-returns-in-Fused : goal.fire_on-returns-in-Fused
 fire_on-returns-in-Fused t c =
@@ -60,8 +69,10 @@ fire_on-returns-in-Fused t c =
     let b = kern_of c.deref-in-Fused-2.result.now in
     let ea = ap kern_of c.deref-in-Fused.ensures in
     let eb = ap kern_of c.deref-in-Fused-2.ensures in
-    let ek : kern_of c.args.kernel.now ≡ fused a b at = ap kern_of c.in-Fused.is ∙ kern_of-fused c.in-Fused.first c.in-Fused.second at ∙ ap (λ i. fused i (kern_of c.in-Fused.second.value) at) (sym ea) ∙ ap (λ i. fused a i at) (sym eb) in
-    subst (λ i. OnOk c.fire_fused.result (FiresAt i c.args.port c.args.item c.args.out.now c.fire_fused.new.out c.args.states.now c.fire_fused.new.states)) (sym ek) c.fire_fused.ensures
+    let ek : kern_of c.args.kernel.now ≡ fused a b at = ap kern_of c.in-Fused.is ∙ kern_of-fused c.in-Fused.first c.in-Fused.second at
+    ∙ ap (λ i. fused i (kern_of c.in-Fused.second.value) at) (sym ea) ∙ ap (λ i. fused a i at) (sym eb) in
+    subst (λ i. OnOk c.fire_fused.result (FiresAt i c.args.port c.args.item c.args.out.now c.fire_fused.new.out c.args.states.now
+    c.fire_fused.new.states)) (sym ek) c.fire_fused.ensures
 
 pub fire_blank-fire_on-requires : goal.fire_blank-fire_on-requires
 fire_blank-fire_on-requires t c = (omega (arith, c.decreases), c.requires c.in_ok-given.given c.in_ok-given.ensures.outs c.in_ok-given.ensures.adds)
@@ -87,7 +98,8 @@ fire_packed-returns t c =
     let g = c.in_ok-given.ensures in
     let given = c.in_ok-given.given in
     on_ok_weaker c.give_pack.result
-    (λ took. packed_whole (packed j) j j c.args.port c.args.item c.args.states.now c.fire_blank.new.states c.args.out.now c.give_pack.new.out g.0 given (list_at given.outs 0) _ refl refl c.requires g.1 g.3 refl refl took)
+    (λ took. packed_whole (packed j) j j c.args.port c.args.item c.args.states.now c.fire_blank.new.states c.args.out.now c.give_pack.new.out g.0
+    given (list_at given.outs 0) _ refl refl c.requires g.1 g.3 refl refl took)
     c.give_pack.ensures
 
 pub fire_fused-split_at_mut-mine-requires : goal.fire_fused-split_at_mut-mine-requires
@@ -96,7 +108,8 @@ fire_fused-split_at_mut-mine-requires t c =
     let b = kern_of c.args.second.now in
     let k = fused a b c.args.at in
     let shape = c.in_ok-shape.shape in
-    count_fits k a b c.args.at shape.privates c.args.port c.args.item c.args.states.now c.args.out.now refl (privates_counted a shape c.in_ok-shape.ensures) c.requires
+    count_fits k a b c.args.at shape.privates c.args.port c.args.item c.args.states.now c.args.out.now refl
+    (privates_counted a shape c.in_ok-shape.ensures) c.requires
 
 pub fire_fused-fire_blank-requires : goal.fire_fused-fire_blank-requires
 fire_fused-fire_blank-requires t c =
@@ -108,8 +121,18 @@ fire_fused-fire_blank-requires t c =
     let st = c.args.states.now in
     let mine = c.split_at_mut-mine.result.0.now in
     let rest = c.split_at_mut-mine.result.1.now in
-    let p : Parts k a b c.args.at count st mine rest = record { kernel = refl; counted = privates_counted a shape c.in_ok-shape.ensures; front = c.split_at_mut-mine.ensures.front; back = c.split_at_mut-mine.ensures.back } in
-    (omega (arith, c.decreases), λ e o n. first_taken k a b c.args.at count c.args.port c.args.item st mine rest c.args.out.now e p c.requires (blank_counted a shape e c.in_ok-shape.ensures o n))
+    let p : Parts k a b c.args.at count st mine rest =
+    record {
+      kernel = refl;
+      counted = privates_counted a shape c.in_ok-shape.ensures;
+      front = c.split_at_mut-mine.ensures.front;
+      back =
+          c.split_at_mut-mine.ensures.back;
+    } in (
+      omega (arith, c.decreases),
+      λ e o n. first_taken k a b c.args.at count c.args.port c.args.item st mine rest c.args.out.now e p c.requires
+          (blank_counted a shape e c.in_ok-shape.ensures o n),
+    )
 
 pub fire_fused-fire_second-requires : goal.fire_fused-fire_second-requires
 fire_fused-fire_second-requires t c =
@@ -122,8 +145,18 @@ fire_fused-fire_second-requires t c =
     let mine = c.split_at_mut-mine.result.0.now in
     let rest = c.split_at_mut-mine.result.1.now in
     let m = c.in_ok-mid.ensures in
-    let p : Parts k a b c.args.at count st mine rest = record { kernel = refl; counted = privates_counted a shape c.in_ok-shape.ensures; front = c.split_at_mut-mine.ensures.front; back = c.split_at_mut-mine.ensures.back } in
-    (omega (arith, c.decreases), takes_on k a b c.args.at count c.args.port c.args.item st mine rest c.fire_blank.new.states c.args.out.now m.0 c.in_ok-mid.mid p c.requires (blank_counted a shape m.0 c.in_ok-shape.ensures m.1 m.2) m.3)
+    let p : Parts k a b c.args.at count st mine rest =
+    record {
+      kernel = refl;
+      counted = privates_counted a shape c.in_ok-shape.ensures;
+      front = c.split_at_mut-mine.ensures.front;
+      back =
+          c.split_at_mut-mine.ensures.back;
+    } in (
+      omega (arith, c.decreases),
+      takes_on k a b c.args.at count c.args.port c.args.item st mine rest c.fire_blank.new.states c.args.out.now m.0
+          c.in_ok-mid.mid p c.requires (blank_counted a shape m.0 c.in_ok-shape.ensures m.1 m.2) m.3,
+    )
 
 pub fire_fused-returns : goal.fire_fused-returns
 fire_fused-returns t c =
@@ -136,17 +169,28 @@ fire_fused-returns t c =
     let mine = c.split_at_mut-mine.result.0.now in
     let rest = c.split_at_mut-mine.result.1.now in
     let m = c.in_ok-mid.ensures in
-    let p : Parts k a b c.args.at count st mine rest = record { kernel = refl; counted = privates_counted a shape c.in_ok-shape.ensures; front = c.split_at_mut-mine.ensures.front; back = c.split_at_mut-mine.ensures.back } in
+    let p : Parts k a b c.args.at count st mine rest =
+    record {
+      kernel = refl;
+      counted = privates_counted a shape c.in_ok-shape.ensures;
+      front = c.split_at_mut-mine.ensures.front;
+      back =
+          c.split_at_mut-mine.ensures.back;
+    } in
     on_ok_weaker c.fire_second.result
-    (λ r. both_fire k a b c.args.at count c.args.port c.args.item st mine rest c.fire_blank.new.states c.fire_second.new.states c.args.out.now c.fire_second.new.out m.0 c.in_ok-mid.mid p c.requires (blank_counted a shape m.0 c.in_ok-shape.ensures m.1 m.2) m.3 r)
+    (λ r. both_fire k a b c.args.at count c.args.port c.args.item st mine rest c.fire_blank.new.states c.fire_second.new.states c.args.out.now
+    c.fire_second.new.out m.0 c.in_ok-mid.mid p c.requires (blank_counted a shape m.0 c.in_ok-shape.ensures m.1 m.2) m.3 r)
     c.fire_second.ensures
 
 pub fire_second-take_port-between-requires : goal.fire_second-take_port-between-requires
 fire_second-take_port-between-requires t c = c.requires.place
 
 pub fire_second-fire_each-requires : goal.fire_second-fire_each-requires
-fire_second-fire_each-requires t c =
-    (omega (arith, c.decreases), subst (λ (l : List item.Item). CanTakeAll (kern_of c.args.second.now) l c.args.states.now c.in_ok-last.last) (sym c.take_port-between.ensures.taken) (c.requires.takes c.in_ok-last.last c.in_ok-last.ensures))
+fire_second-fire_each-requires t c = (
+  omega (arith, c.decreases),
+  subst (λ (l : List item.Item). CanTakeAll (kern_of c.args.second.now) l c.args.states.now c.in_ok-last.last)
+      (sym c.take_port-between.ensures.taken) (c.requires.takes c.in_ok-last.last c.in_ok-last.ensures),
+)
 
 pub fire_second-splice-requires-clause-place : goal.fire_second-splice-requires-clause-place
 fire_second-splice-requires-clause-place t c =
@@ -157,14 +201,18 @@ fire_second-splice-requires-clause-place t c =
 pub fire_second-splice-requires-clause-ports : goal.fire_second-splice-requires-clause-ports
 fire_second-splice-requires-clause-ports t c =
     let r = c.requires.outs in
-    let l = (second_room (kern_of c.args.second.now) c.args.at c.args.states.now c.fire_each.new.states c.args.mid.now c.args.out.now c.in_ok-last.last c.fire_each.new.out c.take_port-between.result c.requires c.in_ok-last.ensures c.take_port-between.ensures.taken c.in_ok-fire_each.ensures).outs in
+    let l = (second_room (kern_of c.args.second.now) c.args.at c.args.states.now c.fire_each.new.states c.args.mid.now c.args.out.now
+    c.in_ok-last.last c.fire_each.new.out c.take_port-between.result c.requires c.in_ok-last.ensures c.take_port-between.ensures.taken
+    c.in_ok-fire_each.ensures).outs in
     let m = ap length c.take_port-between.ensures.outs ∙ length-set c.args.mid.now.outs c.args.at [] in
     omega (arith, r, l, m)
 
 pub fire_second-splice-requires-clause-tables : goal.fire_second-splice-requires-clause-tables
 fire_second-splice-requires-clause-tables t c =
     let r = c.requires.adds in
-    let l = (second_room (kern_of c.args.second.now) c.args.at c.args.states.now c.fire_each.new.states c.args.mid.now c.args.out.now c.in_ok-last.last c.fire_each.new.out c.take_port-between.result c.requires c.in_ok-last.ensures c.take_port-between.ensures.taken c.in_ok-fire_each.ensures).adds in
+    let l = (second_room (kern_of c.args.second.now) c.args.at c.args.states.now c.fire_each.new.states c.args.mid.now c.args.out.now
+    c.in_ok-last.last c.fire_each.new.out c.take_port-between.result c.requires c.in_ok-last.ensures c.take_port-between.ensures.taken
+    c.in_ok-fire_each.ensures).adds in
     let m = ap length c.take_port-between.ensures.adds in
     omega (arith, r, l, m)
 
@@ -178,11 +226,14 @@ fire_second-returns t c =
       last = last;
       is_blank = c.in_ok-last.ensures;
       fires =
-          subst (λ (l : List item.Item). FiresEach (kern_of c.args.second.now) l c.in_ok-last.last last c.args.states.now c.fire_each.new.states) c.take_port-between.ensures.taken c.in_ok-fire_each.ensures;
+          subst (λ (l : List item.Item). FiresEach (kern_of c.args.second.now) l c.in_ok-last.last last c.args.states.now c.fire_each.new.states)
+          c.take_port-between.ensures.taken c.in_ok-fire_each.ensures;
       outs =
-          spliced_taken c.args.at (length last.outs) c.args.out.now.outs c.splice.new.self.outs mid.outs c.take_port-between.new.self.outs (list_at last.outs) c.take_port-between.ensures.outs eo;
+          spliced_taken c.args.at (length last.outs) c.args.out.now.outs c.splice.new.self.outs mid.outs c.take_port-between.new.self.outs
+          (list_at last.outs) c.take_port-between.ensures.outs eo;
       adds =
           ea
-          ∙ ap (λ (l : List (List (List ℤ))). each_grew c.args.out.now.adds (beside (length l) (list_at l) (list_at last.adds))) c.take_port-between.ensures.adds;
+          ∙ ap (λ (l : List (List (List ℤ))). each_grew c.args.out.now.adds (beside (length l) (list_at l) (list_at last.adds)))
+          c.take_port-between.ensures.adds;
     })
     c.splice.ensures.outs c.splice.ensures.adds

@@ -13,8 +13,12 @@ pub returns : goal.returns
 returns c =
     let one = c.in_ok-step-in-Filter.ensures in
     on_ok_weaker c.give_values.result
-    (λ took. filter_fires (filter_form c.args.filter.now) c.args.item.now c.args.state.now _ c.in-Filter.state c.step.new.state (to_z w64 (of_z w64 (slice_index_or c.values.result.now 0 (pos 0)))) c.step.new.out _ c.args.out.now c.give_values.new.out (filter_can (filter_form c.args.filter.now) 0 c.args.item.now _ c.requires.takes) c.requires.room c.in-Filter.is refl
-    (number_is _ c.values.result.now c.row_of.result.now c.args.item.now c.values.ensures.in_range c.values.ensures.some c.values.ensures.values c.row_of.ensures refl)
-    (subst (λ (l : List ℤ). Filters (filter_form c.args.filter.now) (to_z w64 (of_z w64 (slice_index_or c.values.result.now 0 (pos 0)))) c.in-Filter.state c.step.new.state l c.step.new.out) c.new-values.ensures one.given)
+    (λ took. filter_fires (filter_form c.args.filter.now) c.args.item.now c.args.state.now _ c.in-Filter.state c.step.new.state
+    (to_z w64 (of_z w64 (slice_index_or c.values.result.now 0 (pos 0)))) c.step.new.out _ c.args.out.now c.give_values.new.out
+    (filter_can (filter_form c.args.filter.now) 0 c.args.item.now _ c.requires.takes) c.requires.room c.in-Filter.is refl
+    (number_is _ c.values.result.now c.row_of.result.now c.args.item.now c.values.ensures.in_range c.values.ensures.some c.values.ensures.values
+    c.row_of.ensures refl)
+    (subst (λ (l : List ℤ). Filters (filter_form c.args.filter.now) (to_z w64 (of_z w64 (slice_index_or c.values.result.now 0 (pos 0))))
+    c.in-Filter.state c.step.new.state l c.step.new.out) c.new-values.ensures one.given)
     one.shape refl took)
     c.give_values.ensures

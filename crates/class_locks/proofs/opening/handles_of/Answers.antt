@@ -10,5 +10,6 @@ loop-i-preserved c =
     let items = c.in_ok-push.ensures.items in
     record {
       len = ap length items ∙ length_push c.loop-i.handles.items c.in_ok-handle.handle ∙ ap (λ n. n + 1) inv.len;
-      same = subst (All (λ a. arc_value a ≡ arc_value c.args.locks.now)) (sym items) (All-push (λ a. arc_value a ≡ arc_value c.args.locks.now) c.loop-i.handles.items c.in_ok-handle.handle inv.same c.in_ok-handle.ensures);
+      same = subst (All (λ a. arc_value a ≡ arc_value c.args.locks.now)) (sym items)
+          (All-push (λ a. arc_value a ≡ arc_value c.args.locks.now) c.loop-i.handles.items c.in_ok-handle.handle inv.same c.in_ok-handle.ensures);
     }

@@ -19,5 +19,6 @@ loop-source-preserved c =
 
 pub returns : goal.returns
 returns c = λ ks.
-    let e = ap (λ l. count c.args.name (known_names (scope_of ks (sources_of l)))) (sym (take_all c.loop-source.source-index c.args.sources.now c.loop-source-test.false)) ∙ c.loop-source.invariant ks in
+    let e = ap (λ l. count c.args.name (known_names (scope_of ks (sources_of l))))
+    (sym (take_all c.loop-source.source-index c.args.sources.now c.loop-source-test.false)) ∙ c.loop-source.invariant ks in
     ap (nat_lt 0) (sym e)

@@ -18,6 +18,11 @@ loop-i-preserved c =
     let few = registers_few (part_of c.index-parts-i.result) in
     let one = c.registers-many.ensures in
     let low = c.loop-i.invariant.low in
-    let next = judging_next c.args.parts.now c.loop-i.i c.loop-i.many c.loop-i.known c.add.new.self c.index-parts-i.result j c.loop-i-test.true c.index-parts-i.is
+    let next = judging_next c.args.parts.now c.loop-i.i c.loop-i.many c.loop-i.known c.add.new.self c.index-parts-i.result j c.loop-i-test.true
+    c.index-parts-i.is
     (sym c.in_default.is ∙ c.in_ok-fault.ensures {u = tt} j.ks j.knows) (c.in_ok-add.ensures {u = tt} j.ks j.knows) in
-    record { low = omega (arith, low, few, one); judging = subst (λ n. Judging c.args.parts.now (c.loop-i.i + 1) (c.loop-i.many + n) c.add.new.self) (sym one) next }
+    record {
+      low = omega (arith, low, few, one);
+      judging =
+          subst (λ n. Judging c.args.parts.now (c.loop-i.i + 1) (c.loop-i.many + n) c.add.new.self) (sym one) next;
+    }

@@ -10,4 +10,8 @@ returns-in-Ok-clause-plan c = let j = c.in-Ok.ensures.judged in (c.requires None
 pub returns-in-Err : goal.returns-in-Err
 returns-in-Err c =
     let form = plan_form c.args.raw in
-    record { plan = tt; refused = subst (IsLimited form c.args.unit) (sym c.told.ensures) (refused_is form c.in-Err.fault c.args.unit c.requires c.in-Err.ensures.judged) }
+    record {
+      plan = tt;
+      refused = subst (IsLimited form c.args.unit) (sym c.told.ensures)
+          (refused_is form c.in-Err.fault c.args.unit c.requires c.in-Err.ensures.judged);
+    }

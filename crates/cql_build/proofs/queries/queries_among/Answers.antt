@@ -8,5 +8,6 @@ unit-requires-clause-short c =
 
 pub loop-part-preserved : goal.loop-part-preserved
 loop-part-preserved c =
-    querying_next c.args.raw.now c.loop-part.raw c.unit.new.raw c.args.uses.now c.loop-part.uses c.unit.new.uses c.args.parts.now c.loop-part.part-index c.loop-part.known c.add.new.self c.part-item.result
+    querying_next c.args.raw.now c.loop-part.raw c.unit.new.raw c.args.uses.now c.loop-part.uses c.unit.new.uses c.args.parts.now
+    c.loop-part.part-index c.loop-part.known c.add.new.self c.part-item.result
     c.loop-part.invariant c.loop-part-test.true c.part-item.is c.in_ok-unit.ensures.grew c.in_ok-unit.ensures.used c.in_ok-add.ensures

@@ -7,6 +7,8 @@ use Rattle.cql_build.proofs.queries.tail.Goals as goal
 pub returns : goal.returns
 returns c =
     on_ok_then c.output.result
-    (tail_made c.args.raw.now c.select.new.raw c.project.new.raw c.output.new.raw (query_of c.args.query.now) (scope c.args.items.now) c.args.used c.args.last c.in_ok-last.last c.in_ok-last-2.last
-    c.columns_width-width.result c.in_ok-last.ensures.last c.in_ok-last-2.ensures.last c.columns_width-width.ensures c.in_ok-last.ensures.grew c.in_ok-last-2.ensures.grew)
+    (tail_made c.args.raw.now c.select.new.raw c.project.new.raw c.output.new.raw (query_of c.args.query.now) (scope c.args.items.now) c.args.used
+    c.args.last c.in_ok-last.last c.in_ok-last-2.last
+    c.columns_width-width.result c.in_ok-last.ensures.last c.in_ok-last-2.ensures.last c.columns_width-width.ensures c.in_ok-last.ensures.grew
+    c.in_ok-last-2.ensures.grew)
     c.output.ensures

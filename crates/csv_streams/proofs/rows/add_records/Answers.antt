@@ -26,7 +26,8 @@ pub loop-rec-preserved-in-Continue-branch-2 : goal.loop-rec-preserved-in-Continu
 loop-rec-preserved-in-Continue-branch-2 c =
     let inv = c.loop-rec.invariant in
     let fields = fields_of c.read_record.new.raw in
-    let one : Appends (row_in c.args.width c.args.more (c.headers-header.result + 100000) (c.loop-rec.rec + 1) fields) c.loop-rec.rows c.add_row.new.rows = c.in_ok-add_row.ensures.ok in
+    let one : Appends (row_in c.args.width c.args.more (c.headers-header.result + 100000) (c.loop-rec.rec + 1) fields) c.loop-rec.rows
+    c.add_row.new.rows = c.in_ok-add_row.ensures.ok in
     let past : c.headers-header.result < c.loop-rec.rec + 1 = c.if-rec-header.true in
     record {
       header = inv.header;
@@ -59,8 +60,12 @@ loop-rec-preserved c =
       read = λ bytes h.
           let (recs, behind, so_far, count) = inv.read bytes h in
           let next = (rw c.if-branch.true at c.in_ok-read_record.ensures.ok) bytes recs behind in
-          let le : length recs + 1 ≤ headers c.args.skip_first = omega (arith, header, count, inv.header) in
-          (recs ++ fields ∷ [], next, rows-header c.args.width c.args.skip_first c.args.more recs fields le ∙ so_far, omega (arith, length-append recs (fields ∷ []), count));
+          let le : length recs + 1 ≤ headers c.args.skip_first = omega (arith, header, count, inv.header) in (
+            recs ++ fields ∷ [],
+            next,
+            rows-header c.args.width c.args.skip_first c.args.more recs fields le ∙ so_far,
+            omega (arith, length-append recs (fields ∷ []), count),
+          );
     }
 
 pub returns-in_err-add_row-clause-fault : goal.returns-in_err-add_row-clause-fault

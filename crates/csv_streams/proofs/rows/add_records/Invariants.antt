@@ -11,7 +11,8 @@ invariant-loop-rec l = record {
   last : l.last ≡ headers l.skip_first + most_rows;
   few : l.rec ≤ l.last;
   wide : HaveWidth l.width l.rows;
-  read : (bytes : List ℕ) → IsBehind bytes [] l.fn.rdr → (recs : List (List (List ℕ))) × IsBehind bytes recs l.rdr × (rows_of_records l.width l.skip_first l.more recs ≡ Ok l.rows) × (length recs ≡ l.rec);
+  read : (bytes : List ℕ) → IsBehind bytes [] l.fn.rdr → (recs : List (List (List ℕ))) × IsBehind bytes recs l.rdr
+      × (rows_of_records l.width l.skip_first l.more recs ≡ Ok l.rows) × (length recs ≡ l.rec);
 }
 
 abbrev pub decreases-loop-rec : goal.decreases-loop-rec

@@ -25,7 +25,8 @@ pub loop-rec-preserved-in-Continue-branch-2 : goal.loop-rec-preserved-in-Continu
 loop-rec-preserved-in-Continue-branch-2 c =
     let inv = c.loop-rec.invariant in
     let fields = fields_of c.read_record.new.raw in
-    let one : Appends (timed_in c.args.width (c.headers-header.result + 100000) (stamp_after (pos 0) c.loop-rec.rows) (c.loop-rec.rec + 1) fields) c.loop-rec.rows c.add_timed_row.new.rows = search rules in
+    let one : Appends (timed_in c.args.width (c.headers-header.result + 100000) (stamp_after (pos 0) c.loop-rec.rows) (c.loop-rec.rec + 1) fields)
+    c.loop-rec.rows c.add_timed_row.new.rows = search rules in
     let past : c.headers-header.result < c.loop-rec.rec + 1 = c.if-rec-header.true in
     record {
       header = inv.header;
@@ -56,8 +57,12 @@ loop-rec-preserved c =
       read = λ bytes h.
           let (recs, behind, so_far, count) = inv.read bytes h in
           let next = (rw c.if-branch.true at c.in_ok-read_record.ensures.ok) bytes recs behind in
-          let le : length recs + 1 ≤ headers c.args.skip_first = omega (arith, header, count, inv.header) in
-          (recs ++ fields ∷ [], next, timed-header c.args.width c.args.skip_first recs fields le ∙ so_far, omega (arith, length-append recs (fields ∷ []), count));
+          let le : length recs + 1 ≤ headers c.args.skip_first = omega (arith, header, count, inv.header) in (
+            recs ++ fields ∷ [],
+            next,
+            timed-header c.args.width c.args.skip_first recs fields le ∙ so_far,
+            omega (arith, length-append recs (fields ∷ []), count),
+          );
     }
 
 pub returns-in_err-add_timed_row-clause-fault : goal.returns-in_err-add_timed_row-clause-fault

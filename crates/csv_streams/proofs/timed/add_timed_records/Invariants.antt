@@ -10,7 +10,8 @@ invariant-loop-rec l = record {
   header : l.header ≡ headers l.skip_first;
   last : l.last ≡ headers l.skip_first + most_rows;
   few : l.rec ≤ l.last;
-  read : (bytes : List ℕ) → IsBehind bytes [] l.fn.rdr → (recs : List (List (List ℕ))) × IsBehind bytes recs l.rdr × (timed_rows_in l.width l.skip_first recs ≡ Ok l.rows) × (length recs ≡ l.rec);
+  read : (bytes : List ℕ) → IsBehind bytes [] l.fn.rdr → (recs : List (List (List ℕ))) × IsBehind bytes recs l.rdr
+      × (timed_rows_in l.width l.skip_first recs ≡ Ok l.rows) × (length recs ≡ l.rec);
 }
 
 abbrev pub decreases-loop-rec : goal.decreases-loop-rec

@@ -8,7 +8,8 @@ use Rattle.fire_open.proofs.links.sources_of.Goals as goal
 pub loop-writer-init : goal.loop-writer-init
 loop-writer-init c =
     let e = c.raw-raw.ensures.raw in
-    know_first c.args.plan.now c.len.result c.len-2.result c.len-3.result c.new-sources.result c.add_unknown.new.sources c.add_unknown-2.new.sources c.add_unknown-3.new.sources
+    know_first c.args.plan.now c.len.result c.len-2.result c.len-3.result c.new-sources.result c.add_unknown.new.sources c.add_unknown-2.new.sources
+    c.add_unknown-3.new.sources
     c.new-sources.ensures c.in_ok-add_unknown.ensures c.in_ok-add_unknown-2.ensures c.in_ok-add_unknown-3.ensures
     (c.len.ensures ∙ ap (λ (p : PlanForm). length p.outputs) e)
     (c.len-2.ensures ∙ ap (λ (p : PlanForm). length p.inputs) e)

@@ -12,5 +12,9 @@ at_mut-outlet-requires c =
 
 pub returns : goal.returns
 returns c =
-    let t = c.at_mut.result.now in
-    (t, c.at_mut.ensures.value t, ap (λ (x : outlet.Outlet). slice_set c.args.tasks.now c.args.link.writer (with_out t c.args.link.out x)) c.replace.ensures.after)
+    let t = c.at_mut.result.now in (
+      t,
+      c.at_mut.ensures.value t,
+      ap (λ (x : outlet.Outlet). slice_set c.args.tasks.now c.args.link.writer (with_out t c.args.link.out x))
+          c.replace.ensures.after,
+    )

@@ -18,7 +18,8 @@ pub put_take-requires-clause-port : goal.put_take-requires-clause-port
 put_take-requires-clause-port c = λ d.
     let o = c.requires.order in
     subst (λ (y : Task). c.args.link.port < length y.ins)
-    (sym (get_or-set_other c.args.tasks.now c.args.link.writer c.args.link.reader _ d (λ e. omega (arith, e, o))) ∙ sym (ap (λ ts. get_or ts c.args.link.reader d) c.put_feed.ensures.2))
+    (sym (get_or-set_other c.args.tasks.now c.args.link.writer c.args.link.reader _ d (λ e. omega (arith, e, o)))
+    ∙ sym (ap (λ ts. get_or ts c.args.link.reader d) c.put_feed.ensures.2))
     (c.requires.port d)
 
 pub returns : goal.returns

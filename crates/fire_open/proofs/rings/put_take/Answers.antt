@@ -12,5 +12,9 @@ at_mut-inlet-requires c =
 
 pub returns : goal.returns
 returns c =
-    let t = c.at_mut.result.now in
-    (t, c.at_mut.ensures.value t, ap (λ (x : inlet.Inlet). slice_set c.args.tasks.now c.args.link.reader (with_in t c.args.link.port x)) c.replace.ensures.after)
+    let t = c.at_mut.result.now in (
+      t,
+      c.at_mut.ensures.value t,
+      ap (λ (x : inlet.Inlet). slice_set c.args.tasks.now c.args.link.reader (with_in t c.args.link.port x))
+          c.replace.ensures.after,
+    )

@@ -18,9 +18,11 @@ first_states-requires c =
 pub returns-clause-states : goal.returns-clause-states
 returns-clause-states c = λ op g.
     let d = c.at.result.now in
-    subst (λ k. AreFirstStates k c.in_ok-first.first.0) (kernel_at c.raw.result.now c.args.plan.now c.args.op d op c.raw.ensures.raw g (c.at.ensures d)) c.in_ok-first.ensures.states
+    subst (λ k. AreFirstStates k c.in_ok-first.first.0)
+    (kernel_at c.raw.result.now c.args.plan.now c.args.op d op c.raw.ensures.raw g (c.at.ensures d)) c.in_ok-first.ensures.states
 
 pub returns-clause-emit : goal.returns-clause-emit
 returns-clause-emit c = λ op g.
     let d = c.at.result.now in
-    subst (λ k. IsBlank k c.in_ok-first.first.1) (kernel_at c.raw.result.now c.args.plan.now c.args.op d op c.raw.ensures.raw g (c.at.ensures d)) c.in_ok-first.ensures.emit
+    subst (λ k. IsBlank k c.in_ok-first.first.1) (kernel_at c.raw.result.now c.args.plan.now c.args.op d op c.raw.ensures.raw g (c.at.ensures d))
+    c.in_ok-first.ensures.emit

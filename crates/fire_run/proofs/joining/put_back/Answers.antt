@@ -4,7 +4,8 @@ use Rattle.fire_run.proofs.joining.put_back.Goals as goal
 
 pub put_task-requires : goal.put_task-requires
 put_task-requires c =
-    putting_within c.args.own.now c.args.tasks.now c.loop-task.own c.loop-task.tasks c.pop.new.self c.in-Some.task c.loop-task.invariant c.in-Some.ensures c.requires
+    putting_within c.args.own.now c.args.tasks.now c.loop-task.own c.loop-task.tasks c.pop.new.self c.in-Some.task c.loop-task.invariant
+    c.in-Some.ensures c.requires
 
 pub loop-task-smaller : goal.loop-task-smaller
 loop-task-smaller c =

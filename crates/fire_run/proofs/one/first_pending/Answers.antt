@@ -12,7 +12,8 @@ loop-port-preserved c = λ j lt.
     let port = c.loop-port.port in
     ⊎_elim
     (λ l. c.loop-port.invariant j l)
-    (λ ge. let e : port ≡ j = omega (arith, lt, ge) in subst (λ n. list_at c.args.pending.now n ≡ []) e (sym (c.at.ensures []) ∙ c.is_empty.ensures.0 c.if-not-is_empty.false))
+    (λ ge. let e : port ≡ j = omega (arith, lt, ge) in subst (λ n. list_at c.args.pending.now n ≡ []) e
+    (sym (c.at.ensures []) ∙ c.is_empty.ensures.0 c.if-not-is_empty.false))
     (cases_lt j port)
 
 pub returns-then-not-is_empty-clause-some : goal.returns-then-not-is_empty-clause-some

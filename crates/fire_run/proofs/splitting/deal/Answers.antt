@@ -14,7 +14,8 @@ loop-seat-preserved c =
     let rest = c.pop.new.self.items in
     let e : c.len-part.result ≡ length rest = search rules in
     subst (λ (bs : List Bundle). Dealing n c.args.tasks.now c.share_of.new.tasks c.args.seats.now.items rest bs) (sym c.in_ok-push.ensures.items)
-    (dealing_next n c.args.tasks.now ts c.share_of.new.tasks c.args.seats.now.items c.loop-seat.seats.items rest c.loop-seat.bundles.items c.in-Some.seat c.in_ok-share.share
+    (dealing_next n c.args.tasks.now ts c.share_of.new.tasks c.args.seats.now.items c.loop-seat.seats.items rest c.loop-seat.bundles.items
+    c.in-Some.seat c.in_ok-share.share
     c.loop-seat.invariant c.in-Some.ensures.items
     (subst (λ (k : ℕ). IsShare n ts k c.in-Some.seat c.in_ok-share.share) e c.in_ok-share.ensures.share)
     (subst (λ (k : ℕ). OthersStay n k ts c.share_of.new.tasks) e c.in_ok-share.ensures.left))

@@ -26,6 +26,7 @@ returns-clause-ok c = λ x g.
     let at = c.index_mut-at.result.now in
     let same : at ≡ x = c.index_mut-at.ensures.value ∙ get_or_from_slice_get items to.place x at g in
     on_ok_weaker c.add.result
-    (λ e. ap (λ (h : Holding). slice_set items to.place (at.0, h)) (e ∙ ap (λ (es : List LogEntry). record at.1 { log = at.1.log ++ es }) (entry_for c.args.op to.table c.args.rows c.requires.some))
+    (λ e. ap (λ (h : Holding). slice_set items to.place (at.0, h))
+    (e ∙ ap (λ (es : List LogEntry). record at.1 { log = at.1.log ++ es }) (entry_for c.args.op to.table c.args.rows c.requires.some))
     ∙ ap (λ (y : Piled). slice_set items to.place (cell_with_rows c.args.op to.table c.args.rows y)) same)
     c.add.ensures.ok

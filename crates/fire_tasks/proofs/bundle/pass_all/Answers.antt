@@ -7,19 +7,26 @@ use Rattle.fire_tasks.proofs.BundleLemmas.{swept_none, swept_more, swept_then}
 use Rattle.fire_tasks.proofs.bundle.pass_all.Goals as goal
 
 pub loop-look-init : goal.loop-look-init
-loop-look-init g c = record { lot = refl; blank = c.requires.blank; swept = swept_none (plan_form c.args.plan.now) c.args.seat.now.view c.args.tasks.now c.requires.tasks c.requires.rests }
+loop-look-init g c = record {
+  lot = refl;
+  blank = c.requires.blank;
+  swept =
+      swept_none (plan_form c.args.plan.now) c.args.seat.now.view c.args.tasks.now c.requires.tasks c.requires.rests;
+}
 
 pub returns-in_err-sweep-clause-lot : goal.returns-in_err-sweep-clause-lot
 returns-in_err-sweep-clause-lot g c = c.sweep.ensures.lot ∙ c.loop-look.invariant.lot
 
 pub returns-in_err-sweep-clause-sits : goal.returns-in_err-sweep-clause-sits
-returns-in_err-sweep-clause-sits g c = sits_then c.args.seat.now.view c.loop-look.seat.view c.sweep.new.seat.view c.loop-look.invariant.swept.sits c.sweep.ensures.sits
+returns-in_err-sweep-clause-sits g c =
+    sits_then c.args.seat.now.view c.loop-look.seat.view c.sweep.new.seat.view c.loop-look.invariant.swept.sits c.sweep.ensures.sits
 
 pub returns-then-branch-clause-lot : goal.returns-then-branch-clause-lot
 returns-then-branch-clause-lot g c = c.sweep.ensures.lot ∙ c.loop-look.invariant.lot
 
 pub returns-then-branch-clause-sits : goal.returns-then-branch-clause-sits
-returns-then-branch-clause-sits g c = sits_then c.args.seat.now.view c.loop-look.seat.view c.sweep.new.seat.view c.loop-look.invariant.swept.sits c.sweep.ensures.sits
+returns-then-branch-clause-sits g c =
+    sits_then c.args.seat.now.view c.loop-look.seat.view c.sweep.new.seat.view c.loop-look.invariant.swept.sits c.sweep.ensures.sits
 
 pub returns-then-branch-clause-swept : goal.returns-then-branch-clause-swept
 returns-then-branch-clause-swept g c =
@@ -32,7 +39,8 @@ pub loop-look-preserved : goal.loop-look-preserved
 loop-look-preserved g c = record {
   lot = c.sweep.ensures.lot ∙ c.loop-look.invariant.lot;
   blank = c.sweep.ensures.blank;
-  swept = swept_more (plan_form c.args.plan.now) c.args.seat.now.view c.loop-look.seat.view c.sweep.new.seat.view c.args.tasks.now c.loop-look.tasks c.sweep.new.tasks
+  swept = swept_more (plan_form c.args.plan.now) c.args.seat.now.view c.loop-look.seat.view c.sweep.new.seat.view c.args.tasks.now c.loop-look.tasks
+      c.sweep.new.tasks
       c.in_ok-sweep.field-0 c.loop-look.invariant.swept c.sweep.ensures.sits c.in_ok-sweep.ensures.swept c.if-branch.false;
 }
 
@@ -45,6 +53,7 @@ returns-clause-sits g c = sits_then c.args.seat.now.view c.loop-look.seat.view c
 pub returns-clause-swept : goal.returns-clause-swept
 returns-clause-swept g c =
     IfOk-weaker c.sweep-2.result _ _
-    (λ moved h. swept_then (plan_form c.args.plan.now) c.args.seat.now.view c.loop-look.seat.view c.sweep-2.new.seat.view c.args.tasks.now c.loop-look.tasks c.sweep-2.new.tasks
+    (λ moved h. swept_then (plan_form c.args.plan.now) c.args.seat.now.view c.loop-look.seat.view c.sweep-2.new.seat.view c.args.tasks.now
+    c.loop-look.tasks c.sweep-2.new.tasks
     moved c.loop-look.invariant.swept h)
     c.sweep-2.ensures.swept

@@ -4,21 +4,25 @@ use Rattle.fire_tasks.proofs.PassLemmas.{goes_first, goes_next, goes_after}
 use Rattle.fire_tasks.proofs.passing.send_port.Goals as goal
 
 pub returns-then-not-branch : goal.returns-then-not-branch
-returns-then-not-branch c = subst (SentAt c.args.port c.args.outs.now c.args.pending.now c.send_at.new.outs c.send_at.new.pending) c.if-not-branch.true c.in_ok-send_at.ensures.sent
+returns-then-not-branch c =
+    subst (SentAt c.args.port c.args.outs.now c.args.pending.now c.send_at.new.outs c.send_at.new.pending) c.if-not-branch.true c.in_ok-send_at.ensures.sent
 
 pub loop-more-init : goal.loop-more-init
 loop-more-init c = goes_first c.args.port c.send_at.new.outs c.send_at.new.pending
 
 pub loop-more-preserved : goal.loop-more-preserved
 loop-more-preserved c =
-    goes_next c.args.port c.send_at.new.outs c.send_at.new.pending c.loop-more.outs c.loop-more.pending c.send_at-in-loop-more.new.outs c.send_at-in-loop-more.new.pending
+    goes_next c.args.port c.send_at.new.outs c.send_at.new.pending c.loop-more.outs c.loop-more.pending c.send_at-in-loop-more.new.outs
+    c.send_at-in-loop-more.new.pending
     c.in_ok-send_at-2.field-0 c.loop-more.invariant c.in_ok-send_at-2.ensures.sent
 
 pub returns-then-not-branch-2 : goal.returns-then-not-branch-2
 returns-then-not-branch-2 c =
-    goes_after c.args.port c.args.outs.now c.args.pending.now c.send_at.new.outs c.send_at.new.pending c.send_at-in-loop-more.new.outs c.send_at-in-loop-more.new.pending
+    goes_after c.args.port c.args.outs.now c.args.pending.now c.send_at.new.outs c.send_at.new.pending c.send_at-in-loop-more.new.outs
+    c.send_at-in-loop-more.new.pending
     c.in_ok-send_at.field-0 c.in_ok-send_at.ensures.sent c.if-not-branch.false
-    (goes_next c.args.port c.send_at.new.outs c.send_at.new.pending c.loop-more.outs c.loop-more.pending c.send_at-in-loop-more.new.outs c.send_at-in-loop-more.new.pending
+    (goes_next c.args.port c.send_at.new.outs c.send_at.new.pending c.loop-more.outs c.loop-more.pending c.send_at-in-loop-more.new.outs
+    c.send_at-in-loop-more.new.pending
     c.in_ok-send_at-2.field-0 c.loop-more.invariant c.in_ok-send_at-2.ensures.sent)
 
 pub returns : goal.returns

@@ -33,7 +33,8 @@ pub returns-in_default-clause-tried : goal.returns-in_default-clause-tried
 returns-in_default-clause-tried g c =
     let v = c.args.seat.now.view in
     let w = c.take_all.new.seat.view in
-    tried_busy (plan_form c.args.plan.now) v w c.args.task.now c.requires.task c.in_default.ensures.busy.0 c.in_default.ensures.busy.1 c.in_default.ensures.tries
+    tried_busy (plan_form c.args.plan.now) v w c.args.task.now c.requires.task c.in_default.ensures.busy.0 c.in_default.ensures.busy.1
+    c.in_default.ensures.tries
     (subst (λ (cs : List ℕ). FoundTaken cs v w) c.as_slice.ensures c.in_default.ensures.found)
 
 pub returns-clause-tried : goal.returns-clause-tried
@@ -41,14 +42,16 @@ returns-clause-tried g c =
     let v = c.args.seat.now.view in
     let u = c.take_all.new.seat.view in
     let h = subst (λ (cs : List ℕ). HasTaken cs v u c.take_all.new.pile.items) c.as_slice.ensures c.in-Ok.ensures.ok in
-    tried_took (plan_form c.args.plan.now) c.requires.valid v u c.put_all.new.seat.view c.args.task.now c.take_at-taken.new.task c.take_all.new.pile.items c.take_at-taken.new.pile.items
+    tried_took (plan_form c.args.plan.now) c.requires.valid v u c.put_all.new.seat.view c.args.task.now c.take_at-taken.new.task
+    c.take_all.new.pile.items c.take_at-taken.new.pile.items
     c.requires.task c.requires.seat.part h c.in_ok-taken.ensures.taken c.put_all.ensures.put c.take_all.ensures.tries c.put_all.ensures.takes
 
 pub returns-in_default-clause-sits : goal.returns-in_default-clause-sits
 returns-in_default-clause-sits g c =
     let v = c.args.seat.now.view in
     let w = c.take_all.new.seat.view in
-    let h = tried_busy (plan_form c.args.plan.now) v w c.args.task.now c.requires.task c.in_default.ensures.busy.0 c.in_default.ensures.busy.1 c.in_default.ensures.tries
+    let h = tried_busy (plan_form c.args.plan.now) v w c.args.task.now c.requires.task c.in_default.ensures.busy.0 c.in_default.ensures.busy.1
+    c.in_default.ensures.tries
     (subst (λ (cs : List ℕ). FoundTaken cs v w) c.as_slice.ensures c.in_default.ensures.found) in
     record { round = h.sat.round; rests = h.sat.rests }
 
@@ -57,6 +60,7 @@ returns-clause-sits g c =
     let v = c.args.seat.now.view in
     let u = c.take_all.new.seat.view in
     let t = subst (λ (cs : List ℕ). HasTaken cs v u c.take_all.new.pile.items) c.as_slice.ensures c.in-Ok.ensures.ok in
-    let h = tried_took (plan_form c.args.plan.now) c.requires.valid v u c.put_all.new.seat.view c.args.task.now c.take_at-taken.new.task c.take_all.new.pile.items c.take_at-taken.new.pile.items
+    let h = tried_took (plan_form c.args.plan.now) c.requires.valid v u c.put_all.new.seat.view c.args.task.now c.take_at-taken.new.task
+    c.take_all.new.pile.items c.take_at-taken.new.pile.items
     c.requires.task c.requires.seat.part t c.in_ok-taken.ensures.taken c.put_all.ensures.put c.take_all.ensures.tries c.put_all.ensures.takes in
     record { round = h.sat.round; rests = h.sat.rests }

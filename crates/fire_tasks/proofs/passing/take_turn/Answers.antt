@@ -5,30 +5,35 @@ use Rattle.fire_tasks.proofs.passing.take_turn.Goals as goal
 
 pub returns-then-not-is_idle-clause-turned : goal.returns-then-not-is_idle-clause-turned
 returns-then-not-is_idle-clause-turned g c =
-    turned_sent (plan_form c.args.plan.now) c.args.seat.now.view c.args.task.now c.send_all.new.outs c.send_all.new.pending c.in_ok-sent.sent c.requires.task c.requires.seat.rests
+    turned_sent (plan_form c.args.plan.now) c.args.seat.now.view c.args.task.now c.send_all.new.outs c.send_all.new.pending c.in_ok-sent.sent
+    c.requires.task c.requires.seat.rests
     c.in_ok-sent.ensures.sent c.in_ok-sent.ensures.stuck
     (λ idle. let t : c.is_idle.result ≡ true = c.is_idle.ensures.1 idle in let f = c.if-not-is_idle.true in absurd (cc (t, f)))
 
 pub take_locked-requires-clause-task : goal.take_locked-requires-clause-task
 take_locked-requires-clause-task g c =
-    looked_at (plan_form c.args.plan.now) c.args.seat.now.view c.args.task.now c.send_all.new.outs c.send_all.new.pending c.in_ok-sent.sent c.first_ready.new.ins c.requires.task
+    looked_at (plan_form c.args.plan.now) c.args.seat.now.view c.args.task.now c.send_all.new.outs c.send_all.new.pending c.in_ok-sent.sent
+    c.first_ready.new.ins c.requires.task
     c.in_ok-sent.ensures.sent c.first_ready.ensures.same c.first_ready.ensures.received
 
 pub returns-then-branch-clause-turned : goal.returns-then-branch-clause-turned
 returns-then-branch-clause-turned g c =
-    turned_took (plan_form c.args.plan.now) c.args.seat.now.view c.take_locked.new.seat.view c.args.task.now c.take_locked.new.task c.send_all.new.outs c.send_all.new.pending c.in_ok-sent.sent
+    turned_took (plan_form c.args.plan.now) c.args.seat.now.view c.take_locked.new.seat.view c.args.task.now c.take_locked.new.task
+    c.send_all.new.outs c.send_all.new.pending c.in_ok-sent.sent
     c.in_ok-take_locked-in-Some.field-0 c.first_ready.new.ins c.in_ok-sent.ensures.sent c.first_ready.ensures.same c.first_ready.ensures.received
     c.in_ok-take_locked-in-Some.ensures.tried c.if-branch.true
 
 pub returns-else-branch-clause-turned : goal.returns-else-branch-clause-turned
 returns-else-branch-clause-turned g c =
-    turned_busy (plan_form c.args.plan.now) c.args.seat.now.view c.take_locked.new.seat.view c.args.task.now c.take_locked.new.task c.send_all.new.outs c.send_all.new.pending c.in_ok-sent.sent
+    turned_busy (plan_form c.args.plan.now) c.args.seat.now.view c.take_locked.new.seat.view c.args.task.now c.take_locked.new.task
+    c.send_all.new.outs c.send_all.new.pending c.in_ok-sent.sent
     c.in_ok-take_locked-in-Some.field-0 c.first_ready.new.ins c.in_ok-sent.ensures.sent c.first_ready.ensures.same c.first_ready.ensures.received
     c.in_ok-take_locked-in-Some.ensures.tried c.if-branch.false
 
 pub returns-in-None-clause-turned : goal.returns-in-None-clause-turned
 returns-in-None-clause-turned g c =
-    turned_none (plan_form c.args.plan.now) c.args.seat.now.view c.args.task.now c.send_all.new.outs c.send_all.new.pending c.in_ok-sent.sent c.first_ready.new.ins c.requires.task c.requires.seat.rests
+    turned_none (plan_form c.args.plan.now) c.args.seat.now.view c.args.task.now c.send_all.new.outs c.send_all.new.pending c.in_ok-sent.sent
+    c.first_ready.new.ins c.requires.task c.requires.seat.rests
     c.in_ok-sent.ensures.sent c.in_ok-sent.ensures.stuck c.first_ready.ensures.same c.first_ready.ensures.received c.in-None.ensures.none
 
 pub returns-then-not-is_idle-clause-sits : goal.returns-then-not-is_idle-clause-sits

@@ -20,11 +20,14 @@ returns-in-Bad g c =
     let t = c.args.task.now in
     let i = subst (IsPop t.kinds c.args.port (received_in t.ins) (received_in c.take_item.new.ins)) c.in-Bad.is c.in_ok-item.ensures.pop in
     subst (λ b. HasFiredAt (plan_form c.args.plan.now) t (record t { ins = c.take_item.new.ins; bad = b })) (sym c.keep_bad.ensures)
-    (bad_fired (plan_form c.args.plan.now) c.requires.valid t c.requires.fine c.take_item.new.ins c.args.port c.in-Bad.item c.in_ok-item.ensures.same i.0 c.requires.port i.1)
+    (bad_fired (plan_form c.args.plan.now) c.requires.valid t c.requires.fine c.take_item.new.ins c.args.port c.in-Bad.item c.in_ok-item.ensures.same
+    i.0 c.requires.port i.1)
 
 pub returns-in_ok-fire_op-in-Good : goal.returns-in_ok-fire_op-in-Good
 returns-in_ok-fire_op-in-Good g c =
     let t = c.args.task.now in
     let i = subst (IsPop t.kinds c.args.port (received_in t.ins) (received_in c.take_item.new.ins)) c.in-Good.is c.in_ok-item.ensures.pop in
-    took_fired (plan_form c.args.plan.now) c.requires.valid t c.requires.fine c.take_item.new.ins c.args.port c.in-Good.item c.fire_op.new.states c.fire_op.new.out _ _ _ c.next_count-task.result
-    c.in_ok-item.ensures.same i.0 c.requires.port i.1 c.requires.idle c.in_ok-fire_op-in-Good.ensures (c.swap.ensures.x_after ∙ c.turn_all.ensures) c.swap.ensures.y_after c.next_count-task.ensures
+    took_fired (plan_form c.args.plan.now) c.requires.valid t c.requires.fine c.take_item.new.ins c.args.port c.in-Good.item c.fire_op.new.states
+    c.fire_op.new.out _ _ _ c.next_count-task.result
+    c.in_ok-item.ensures.same i.0 c.requires.port i.1 c.requires.idle c.in_ok-fire_op-in-Good.ensures (c.swap.ensures.x_after ∙ c.turn_all.ensures)
+    c.swap.ensures.y_after c.next_count-task.ensures

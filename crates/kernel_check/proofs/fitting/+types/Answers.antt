@@ -10,15 +10,20 @@ pub types-returns-in_default : goal.types-returns-in_default
 types-returns-in_default t c =
     let e = ap kern_of c.in-Fused.is ∙ kern_of-fused c.in-Fused.first c.in-Fused.second c.in-Fused.at in
     let a = types_of (kern_of c.in-Fused.first.value) c.args.reads.now in
-    let one : MayAnswer (c.args.most + 1) a c.in_ok-one-in-Fused.field-0 = subst (λ k. MayAnswer (c.args.most + 1) (types_of (kern_of k) c.args.reads.now) c.in_ok-one-in-Fused.field-0) c.deref-in-Fused.ensures c.in_ok-one-in-Fused.ensures in
+    let one : MayAnswer (c.args.most + 1) a c.in_ok-one-in-Fused.field-0 =
+    subst (λ k. MayAnswer (c.args.most + 1) (types_of (kern_of k) c.args.reads.now) c.in_ok-one-in-Fused.field-0) c.deref-in-Fused.ensures
+    c.in_ok-one-in-Fused.ensures in
     let none : MayAnswer (c.args.most + 1) a None = subst (MayAnswer (c.args.most + 1) a) c.in_default.is one in
-    subst (λ k. MayAnswer c.args.most (types_of k c.args.reads.now) None) (sym e) (fused_none c.args.most c.in-Fused.at a (types_of (kern_of c.in-Fused.second.value)) none)
+    subst (λ k. MayAnswer c.args.most (types_of k c.args.reads.now) None) (sym e)
+    (fused_none c.args.most c.in-Fused.at a (types_of (kern_of c.in-Fused.second.value)) none)
 
 pub types-returns-in-Some : goal.types-returns-in-Some
 types-returns-in-Some t c =
     let e = ap kern_of c.in-Fused.is ∙ kern_of-fused c.in-Fused.first c.in-Fused.second c.in-Fused.at in
     let a = types_of (kern_of c.in-Fused.first.value) c.args.reads.now in
-    let one : MayAnswer (c.args.most + 1) a c.in_ok-one-in-Fused.field-0 = subst (λ k. MayAnswer (c.args.most + 1) (types_of (kern_of k) c.args.reads.now) c.in_ok-one-in-Fused.field-0) c.deref-in-Fused.ensures c.in_ok-one-in-Fused.ensures in
+    let one : MayAnswer (c.args.most + 1) a c.in_ok-one-in-Fused.field-0 =
+    subst (λ k. MayAnswer (c.args.most + 1) (types_of (kern_of k) c.args.reads.now) c.in_ok-one-in-Fused.field-0) c.deref-in-Fused.ensures
+    c.in_ok-one-in-Fused.ensures in
     let some : MayAnswer (c.args.most + 1) a (Some c.in-Some.one) = subst (MayAnswer (c.args.most + 1) a) c.in-Some.is one in
     IfOk-weaker c.types_behind.result _ _
     (λ r h. subst (λ k. MayAnswer c.args.most (types_of k c.args.reads.now) r) (sym e)
@@ -35,5 +40,6 @@ types_behind-both-requires t c = get_below c.args.one.now.outs c.args.at c.in-So
 pub types_behind-returns : goal.types_behind-returns
 types_behind-returns t c =
     IfOk-weaker c.both.result (λ r. r ≡ joined_types c.args.at c.args.one.now c.in_ok-two.two) _
-    (λ r h told room some. fused_joined c.args.most room c.args.at told (types_of (kern_of c.args.second.now)) c.args.one.now c.in-Some.middle c.in_ok-two.two r some (sym c.port_type.ensures ∙ c.in-Some.is) c.in_ok-two.ensures h)
+    (λ r h told room some. fused_joined c.args.most room c.args.at told (types_of (kern_of c.args.second.now)) c.args.one.now c.in-Some.middle
+    c.in_ok-two.two r some (sym c.port_type.ensures ∙ c.in-Some.is) c.in_ok-two.ensures h)
     c.both.ensures

@@ -8,7 +8,8 @@ items-init c = ap (λ r. rates_from c.args.brackets r c.args.reader.now) c.requi
 
 pub items-preserved : goal.items-preserved
 items-preserved c =
-    rates-next c.args.brackets (rates_of c.items.rates) (rates_of c.note.new.rates) c.items.reader c.one_rate.new.reader (rate_of c.in_ok-rate.rate) (search rules) c.in_ok-rate.ensures c.in_ok-note.ensures
+    rates-next c.args.brackets (rates_of c.items.rates) (rates_of c.note.new.rates) c.items.reader c.one_rate.new.reader (rate_of c.in_ok-rate.rate)
+    (search rules) c.in_ok-rate.ensures c.in_ok-note.ensures
     ∙ c.items.invariant
 
 pub items-smaller : goal.items-smaller

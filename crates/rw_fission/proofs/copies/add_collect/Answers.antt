@@ -10,4 +10,6 @@ use Rattle.rw_fission.proofs.copies.add_collect.Goals as goal
 pub returns : goal.returns
 returns c =
     let parts = c.in_ok-reads.ensures in
-    pushed_as c.push.result c.args.ops.now c.push.new.self _ (joiner_of c.args.names.now (op_form c.args.op.now) (collect (equal_weights c.args.n c.args.push))) c.push.ensures.ok refl (kern_collect c.in_ok-weights.weights ∙ ap collect c.in_ok-weights.ensures) parts.0 parts.1.0 parts.1.1
+    pushed_as c.push.result c.args.ops.now c.push.new.self _
+    (joiner_of c.args.names.now (op_form c.args.op.now) (collect (equal_weights c.args.n c.args.push))) c.push.ensures.ok refl
+    (kern_collect c.in_ok-weights.weights ∙ ap collect c.in_ok-weights.ensures) parts.0 parts.1.0 parts.1.1

@@ -9,12 +9,14 @@ use Rattle.rw_fission.proofs.made.numbered.Goals as goal
 
 pub name_with-requires-clause-going : goal.name_with-requires-clause-going
 name_with-requires-clause-going c =
-    subst (λ (l : List ℕ). IsTrue (list_all is_word l)) (sym (c.as_slice.ensures ∙ tail_is _ _ _ c.args.letter.now c.args.i c.in_ok-tail.ensures c.in_ok-extend.ensures.ok c.in_ok-add_number.ensures))
+    subst (λ (l : List ℕ). IsTrue (list_all is_word l))
+    (sym (c.as_slice.ensures ∙ tail_is _ _ _ c.args.letter.now c.args.i c.in_ok-tail.ensures c.in_ok-extend.ensures.ok c.in_ok-add_number.ensures))
     (tail_goes_on c.args.letter.now c.args.i c.requires.going c.requires.some c.requires.few)
 
 pub name_with-requires-clause-short : goal.name_with-requires-clause-short
 name_with-requires-clause-short c =
-    let e = ap length (c.as_slice.ensures ∙ tail_is _ _ _ c.args.letter.now c.args.i c.in_ok-tail.ensures c.in_ok-extend.ensures.ok c.in_ok-add_number.ensures) in
+    let e = ap length (c.as_slice.ensures ∙ tail_is _ _ _ c.args.letter.now c.args.i c.in_ok-tail.ensures c.in_ok-extend.ensures.ok
+    c.in_ok-add_number.ensures) in
     let a = length-append c.args.letter.now (digits c.args.i) in
     let s = c.requires.short in
     omega (arith, e, a, s)
@@ -22,5 +24,6 @@ name_with-requires-clause-short c =
 pub returns : goal.returns
 returns c =
     IfOk-weaker c.name_with.result _ _
-    (λ name h. h ∙ ap (λ (l : List ℕ). c.args.label.now ++ l) (c.as_slice.ensures ∙ tail_is _ _ _ c.args.letter.now c.args.i c.in_ok-tail.ensures c.in_ok-extend.ensures.ok c.in_ok-add_number.ensures))
+    (λ name h. h ∙ ap (λ (l : List ℕ). c.args.label.now ++ l)
+    (c.as_slice.ensures ∙ tail_is _ _ _ c.args.letter.now c.args.i c.in_ok-tail.ensures c.in_ok-extend.ensures.ok c.in_ok-add_number.ensures))
     c.name_with.ensures

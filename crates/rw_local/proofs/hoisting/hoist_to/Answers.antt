@@ -13,7 +13,8 @@ hoisted_lists-requires-clause-there c =
 
 pub plan_of-requires : goal.plan_of-requires
 plan_of-requires c =
-    subst IsPlan (sym c.in_ok-lists.ensures) (c.requires c.at.result.now (read_at c.args.below.now.reads c.args.side _ c.at.result.now c.len.ensures c.if-side-len.false (λ d. c.at.ensures d))).1
+    subst IsPlan (sym c.in_ok-lists.ensures)
+    (c.requires c.at.result.now (read_at c.args.below.now.reads c.args.side _ c.at.result.now c.len.ensures c.if-side-len.false (λ d. c.at.ensures d))).1
 
 pub returns : goal.returns
 returns c =

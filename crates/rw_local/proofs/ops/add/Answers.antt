@@ -17,12 +17,15 @@ returns-then-is_writer c =
 pub returns-then-is_reader : goal.returns-then-is_reader
 returns-then-is_reader c =
     let two = fused_op c.args.queue (op_form c.args.writer.now) (op_form c.args.reader.now) in
-    for_reader c.args.queue (two ∷ []) (op_form c.args.op.now) (op_forms c.args.all.now) (nat_zero (λ lt. not_false (sym c.if-is_writer.false ∙ c.contains-is_writer.ensures.1 lt))) (c.contains-is_reader.ensures.0 c.if-is_reader.true)
+    for_reader c.args.queue (two ∷ []) (op_form c.args.op.now) (op_forms c.args.all.now)
+    (nat_zero (λ lt. not_false (sym c.if-is_writer.false ∙ c.contains-is_writer.ensures.1 lt))) (c.contains-is_reader.ensures.0 c.if-is_reader.true)
 
 pub returns : goal.returns
 returns c =
     let two = fused_op c.args.queue (op_form c.args.writer.now) (op_form c.args.reader.now) in
     on_ok_weaker c.push-2.result
-    (λ e. for_other c.args.queue (two ∷ []) (op_form c.args.op.now) (op_forms c.args.all.now) _ (nat_zero (λ lt. not_false (sym c.if-is_writer.false ∙ c.contains-is_writer.ensures.1 lt))) (nat_zero (λ lt. not_false (sym c.if-is_reader.false ∙ c.contains-is_reader.ensures.1 lt)))
+    (λ e. for_other c.args.queue (two ∷ []) (op_form c.args.op.now) (op_forms c.args.all.now) _
+    (nat_zero (λ lt. not_false (sym c.if-is_writer.false ∙ c.contains-is_writer.ensures.1 lt)))
+    (nat_zero (λ lt. not_false (sym c.if-is_reader.false ∙ c.contains-is_reader.ensures.1 lt)))
     (pushed c.args.all.now c.push-2.new.self c.in_ok-copy.field-0 (op_form c.args.op.now) e c.in_ok-copy.ensures))
     c.push-2.ensures.ok

@@ -17,4 +17,6 @@ pub returns-in-Some : goal.returns-in-Some
 returns-in-Some c =
     let a = c.args in
     let whole = ap (λ o. splitter (splitter_form o) a.n (numbered (codes "split") a.number) a.from (queues a.k a.n)) (sym c.in-Some.is) in
-    if_ok_then c.dealing.result (λ op e. e ∙ (λ i. with_own (c.in_ok-label.ensures i) (deal (weights (c.as_slice.ensures.value i))) (c.in_ok-reads.ensures i) (c.in_ok-writes.ensures i)) ∙ whole) c.dealing.ensures
+    if_ok_then c.dealing.result (λ op e. e ∙
+    (λ i. with_own (c.in_ok-label.ensures i) (deal (weights (c.as_slice.ensures.value i))) (c.in_ok-reads.ensures i) (c.in_ok-writes.ensures i))
+    ∙ whole) c.dealing.ensures

@@ -20,4 +20,5 @@ loop-weight-preserved c =
     let i = c.loop-weight.weight-index in
     let lt : i < length ws = search rules in
     let is : slice_index_or ws i 0 ≡ get_or ws i 0 = search rules in
-    c.in_ok-push.ensures.items ∙ ap (λ l. l ++ slice_index_or ws i 0 ∷ []) c.loop-weight.invariant ∙ ap (λ x. take i ws ++ x ∷ []) is ∙ sym (take_more ws i 0 lt)
+    c.in_ok-push.ensures.items ∙ ap (λ l. l ++ slice_index_or ws i 0 ∷ []) c.loop-weight.invariant ∙ ap (λ x. take i ws ++ x ∷ []) is
+    ∙ sym (take_more ws i 0 lt)

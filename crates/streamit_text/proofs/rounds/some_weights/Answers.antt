@@ -12,7 +12,8 @@ items-preserved c =
     let ts = c.items.reader in
     let rest = c.takes.ensures.rest ∙ ap (λ b. cond b (tail ts) ts) c.items-test.true in
     ap (λ l. repeated (comma_turn weight_at) l c.weight-in-items.new.reader) c.in_ok-push-2.ensures.items
-    ∙ weights-next c.items.list.items ts c.weight-in-items.new.reader c.in_ok-weight-2.field-0 (sym c.takes.ensures.taken ∙ c.items-test.true) (sym (ap weight_at rest) ∙ c.in_ok-weight-2.ensures)
+    ∙ weights-next c.items.list.items ts c.weight-in-items.new.reader c.in_ok-weight-2.field-0 (sym c.takes.ensures.taken ∙ c.items-test.true)
+    (sym (ap weight_at rest) ∙ c.in_ok-weight-2.ensures)
     ∙ c.items.invariant
 
 pub items-smaller : goal.items-smaller

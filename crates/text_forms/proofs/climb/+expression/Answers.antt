@@ -14,7 +14,8 @@ chain-items-preserved g t c =
     let more = rw c.in-Some.ensures.rest at c.in_ok-left-2.ensures.reads in
     record {
       same =
-          chained-grown S (g.met.D.Dialect.deeper c.args.dialect.now) c.args.level below c.args.room (g.D.Dialect.view c.items.left.tree) (g.D.Dialect.view c.in_ok-left-2.left.tree) (g.R.TokenSource.rest c.items.reader) (g.R.TokenSource.rest c.grown.new.reader) c.in-Some.op
+          chained-grown S (g.met.D.Dialect.deeper c.args.dialect.now) c.args.level below c.args.room (g.D.Dialect.view c.items.left.tree)
+          (g.D.Dialect.view c.in_ok-left-2.left.tree) (g.R.TokenSource.rest c.items.reader) (g.R.TokenSource.rest c.grown.new.reader) c.in-Some.op
           (sym c.in-Some.ensures.found) more
           ∙ c.items.invariant.same;
       small = c.in_ok-left-2.ensures.small;
@@ -35,14 +36,16 @@ once-returns-in-Some-clause-reads g t c =
     let S = g.D.Dialect.syntax c.args.dialect.now in
     let leaf = g.D.Dialect.leaf c.args.dialect.now in
     let ts = g.R.TokenSource.rest c.args.reader.now in
-    rw (once-some S c.args.level (ladder S (leaf c.args.brackets) (within S leaf c.args.brackets) c.args.level) c.args.room ts _ _ _ _ c.in_ok-left.ensures.reads (sym c.in-Some.ensures.found) c.in-Some.ensures.rest) c.grown.ensures.reads
+    rw (once-some S c.args.level (ladder S (leaf c.args.brackets) (within S leaf c.args.brackets) c.args.level) c.args.room ts _ _ _ _
+    c.in_ok-left.ensures.reads (sym c.in-Some.ensures.found) c.in-Some.ensures.rest) c.grown.ensures.reads
 
 pub once-returns-in-None-clause-reads : goal.once-returns-in-None-clause-reads
 once-returns-in-None-clause-reads g t c =
     let S = g.D.Dialect.syntax c.args.dialect.now in
     let leaf = g.D.Dialect.leaf c.args.dialect.now in
     let ts = g.R.TokenSource.rest c.args.reader.now in
-    once-none S c.args.level (ladder S (leaf c.args.brackets) (within S leaf c.args.brackets) c.args.level) c.args.room ts _ _ _ c.in_ok-left.ensures.reads (sym c.in-None.ensures.found) c.in-None.ensures.rest
+    once-none S c.args.level (ladder S (leaf c.args.brackets) (within S leaf c.args.brackets) c.args.level) c.args.room ts _ _ _
+    c.in_ok-left.ensures.reads (sym c.in-None.ensures.found) c.in-None.ensures.rest
 
 -- the end of a chain
 pub chain-returns-clause-reads : goal.chain-returns-clause-reads
@@ -52,7 +55,8 @@ chain-returns-clause-reads g t c =
     let ts = g.R.TokenSource.rest c.args.reader.now in
     let found = sym c.operator.ensures.found ∙ c.in_default.is in
     let moved = rw c.in_default.is at c.operator.ensures.rest in
-    chain-end S c.args.level (ladder S (leaf c.args.brackets) (within S leaf c.args.brackets) c.args.level (c.args.room - 1)) c.args.room _ _ _ _ c.items.invariant.same found moved
+    chain-end S c.args.level (ladder S (leaf c.args.brackets) (within S leaf c.args.brackets) c.args.level (c.args.room - 1)) c.args.room _ _ _ _
+    c.items.invariant.same found moved
 
 -- signs
 pub prefix-returns-then-room-eq0-clause-reads : goal.prefix-returns-then-room-eq0-clause-reads
@@ -69,7 +73,8 @@ prefix-returns-in_default-clause-reads g t c =
     let ts = g.R.TokenSource.rest c.args.reader.now in
     let found = sym c.sign.ensures.found ∙ c.in_default.is in
     let moved = rw c.in_default.is at c.sign.ensures.rest in
-    rw (prefix-below S c.args.level (ladder S (leaf c.args.brackets) (within S leaf c.args.brackets) c.args.level) c.args.room ts _ (omega arith) found moved) c.ladder.ensures.reads
+    rw (prefix-below S c.args.level (ladder S (leaf c.args.brackets) (within S leaf c.args.brackets) c.args.level) c.args.room ts _ (omega arith)
+    found moved) c.ladder.ensures.reads
 
 pub prefix-returns-clause-reads : goal.prefix-returns-clause-reads
 prefix-returns-clause-reads g t c =
@@ -77,7 +82,8 @@ prefix-returns-clause-reads g t c =
     let leaf = g.D.Dialect.leaf c.args.dialect.now in
     let ts = g.R.TokenSource.rest c.args.reader.now in
     made-gives (λ m. g.D.Dialect.view m.tree) (S.mark c.in-Some.sign (g.D.Dialect.view c.in_ok-inner.inner.tree)) c.marked.result c.marked.ensures.reads
-    (prefix-marked S c.args.level (ladder S (leaf c.args.brackets) (within S leaf c.args.brackets) c.args.level) c.args.room ts _ _ _ _ _ (omega arith) (sym c.in-Some.ensures.found) c.in-Some.ensures.rest c.in_ok-inner.ensures.reads refl)
+    (prefix-marked S c.args.level (ladder S (leaf c.args.brackets) (within S leaf c.args.brackets) c.args.level) c.args.room ts _ _ _ _ _
+    (omega arith) (sym c.in-Some.ensures.found) c.in-Some.ensures.rest c.in_ok-inner.ensures.reads refl)
 
 -- below the first level
 pub base-returns-then-room-eq0-clause-reads : goal.base-returns-then-room-eq0-clause-reads
@@ -103,7 +109,8 @@ base-returns-in-Some-clause-reads g t c =
     let ts = g.R.TokenSource.rest c.args.reader.now in
     let opens = sym c.takes.ensures.taken ∙ c.if-takes.false in
     let same = rw c.if-takes.false at c.takes.ensures.rest in
-    rw (base-call S (leaf c.args.brackets) (within S leaf c.args.brackets) c.args.room ts _ _ _ (omega arith) opens same (sym c.in-Some.ensures.found) c.in-Some.ensures.rest) c.called.ensures.reads
+    rw (base-call S (leaf c.args.brackets) (within S leaf c.args.brackets) c.args.room ts _ _ _ (omega arith) opens same
+    (sym c.in-Some.ensures.found) c.in-Some.ensures.rest) c.called.ensures.reads
 
 pub base-returns-in-None-clause-reads : goal.base-returns-in-None-clause-reads
 base-returns-in-None-clause-reads g t c =
@@ -112,7 +119,8 @@ base-returns-in-None-clause-reads g t c =
     let ts = g.R.TokenSource.rest c.args.reader.now in
     let opens = sym c.takes.ensures.taken ∙ c.if-takes.false in
     let same = rw c.if-takes.false at c.takes.ensures.rest in
-    rw (base-leaf S (leaf c.args.brackets) (within S leaf c.args.brackets) c.args.room ts _ _ (omega arith) opens same (sym c.in-None.ensures.found) c.in-None.ensures.rest) c.leaf.ensures.reads
+    rw (base-leaf S (leaf c.args.brackets) (within S leaf c.args.brackets) c.args.room ts _ _ (omega arith) opens same (sym c.in-None.ensures.found)
+    c.in-None.ensures.rest) c.leaf.ensures.reads
 
 -- growths
 pub grown-returns-then-left-room-clause-reads : goal.grown-returns-then-left-room-clause-reads
@@ -127,8 +135,10 @@ grown-returns-clause-reads g t c =
     let S = g.D.Dialect.syntax c.args.dialect.now in
     let leaf = g.D.Dialect.leaf c.args.dialect.now in
     let ts = g.R.TokenSource.rest c.args.reader.now in
-    made-gives (λ m. g.D.Dialect.view m.tree) (S.join c.args.op (g.D.Dialect.view c.args.left.tree) (g.D.Dialect.view c.in_ok-right.right.tree)) c.joined.result c.joined.ensures.reads
-    (grown-joined S (ladder S (leaf c.args.brackets) (within S leaf c.args.brackets) c.args.level (c.args.room - 1)) c.args.room c.args.op _ ts _ _ _ (omega arith) c.in_ok-right.ensures.reads refl)
+    made-gives (λ m. g.D.Dialect.view m.tree) (S.join c.args.op (g.D.Dialect.view c.args.left.tree) (g.D.Dialect.view c.in_ok-right.right.tree))
+    c.joined.result c.joined.ensures.reads
+    (grown-joined S (ladder S (leaf c.args.brackets) (within S leaf c.args.brackets) c.args.level (c.args.room - 1)) c.args.room c.args.op _ ts _ _ _
+    (omega arith) c.in_ok-right.ensures.reads refl)
 
 -- brackets
 pub enclosed-returns-then-brackets-eq0-clause-reads : goal.enclosed-returns-then-brackets-eq0-clause-reads
@@ -143,28 +153,32 @@ enclosed-returns-clause-reads g t c =
     let S = g.D.Dialect.syntax c.args.dialect.now in
     let leaf = g.D.Dialect.leaf c.args.dialect.now in
     let ts = g.R.TokenSource.rest c.args.reader.now in
-    closed-gives S (λ m. g.D.Dialect.view m.tree) c.in_ok-inner.inner c.closing.result leaf c.args.brackets _ c.args.room ts _ _ (omega arith) c.height.ensures.all c.in_ok-inner.ensures.reads c.closing.ensures
+    closed-gives S (λ m. g.D.Dialect.view m.tree) c.in_ok-inner.inner c.closing.result leaf c.args.brackets _ c.args.room ts _ _ (omega arith)
+    c.height.ensures.all c.in_ok-inner.ensures.reads c.closing.ensures
 
 pub ladder-returns-in-Chain-clause-reads : goal.ladder-returns-in-Chain-clause-reads
 ladder-returns-in-Chain-clause-reads g t c =
     let S = g.D.Dialect.syntax c.args.dialect.now in
     let leaf = g.D.Dialect.leaf c.args.dialect.now in
     let ts = g.R.TokenSource.rest c.args.reader.now in
-    rw (ladder-chain S (leaf c.args.brackets) (within S leaf c.args.brackets) c.args.rank (c.args.rank - 1) c.args.room ts (omega arith) (sym c.in-Chain.ensures)) c.chain.ensures.reads
+    rw (ladder-chain S (leaf c.args.brackets) (within S leaf c.args.brackets) c.args.rank (c.args.rank - 1) c.args.room ts (omega arith)
+    (sym c.in-Chain.ensures)) c.chain.ensures.reads
 
 pub ladder-returns-in-Once-clause-reads : goal.ladder-returns-in-Once-clause-reads
 ladder-returns-in-Once-clause-reads g t c =
     let S = g.D.Dialect.syntax c.args.dialect.now in
     let leaf = g.D.Dialect.leaf c.args.dialect.now in
     let ts = g.R.TokenSource.rest c.args.reader.now in
-    rw (ladder-once S (leaf c.args.brackets) (within S leaf c.args.brackets) c.args.rank (c.args.rank - 1) c.args.room ts (omega arith) (sym c.in-Once.ensures)) c.once.ensures.reads
+    rw (ladder-once S (leaf c.args.brackets) (within S leaf c.args.brackets) c.args.rank (c.args.rank - 1) c.args.room ts (omega arith)
+    (sym c.in-Once.ensures)) c.once.ensures.reads
 
 pub ladder-returns-in-Prefix-clause-reads : goal.ladder-returns-in-Prefix-clause-reads
 ladder-returns-in-Prefix-clause-reads g t c =
     let S = g.D.Dialect.syntax c.args.dialect.now in
     let leaf = g.D.Dialect.leaf c.args.dialect.now in
     let ts = g.R.TokenSource.rest c.args.reader.now in
-    rw (ladder-prefix S (leaf c.args.brackets) (within S leaf c.args.brackets) c.args.rank (c.args.rank - 1) c.args.room ts (omega arith) (sym c.in-Prefix.ensures)) c.prefix.ensures.reads
+    rw (ladder-prefix S (leaf c.args.brackets) (within S leaf c.args.brackets) c.args.rank (c.args.rank - 1) c.args.room ts (omega arith)
+    (sym c.in-Prefix.ensures)) c.prefix.ensures.reads
 
 -- where a part fails
 pub chain-returns-in_err-left-clause-reads : goal.chain-returns-in_err-left-clause-reads

@@ -30,4 +30,5 @@ query_on-requires-clause-narrow c =
 
 pub returns-clause-grew : goal.returns-clause-grew
 returns-clause-grew c = λ ks k.
-    c.query_on.ensures.grew ks (ap scope c.as_slice-2.ensures.value ∙ c.in_ok-items.ensures ks k ∙ ap (λ l. scope_of ks (sources_of l)) c.as_slice.ensures.value)
+    c.query_on.ensures.grew ks (ap scope c.as_slice-2.ensures.value ∙ c.in_ok-items.ensures ks k
+    ∙ ap (λ l. scope_of ks (sources_of l)) c.as_slice.ensures.value)

@@ -20,4 +20,5 @@ returns-in-Query-clause-grew c = λ ks k.
     subst (λ p. OnOk c.query.result (AddsUnit c.args.uses.now ks (part_of p) c.args.raw.now c.query.new.raw)) (sym c.in-Query.is) (c.query.ensures.grew ks k)
 
 pub returns-in-Query-clause-used : goal.returns-in-Query-clause-used
-returns-in-Query-clause-used c = subst (λ p. OnOk c.query.result (Used c.args.uses.now c.query.new.uses (unit_uses (part_of p)))) (sym c.in-Query.is) c.query.ensures.used
+returns-in-Query-clause-used c =
+    subst (λ p. OnOk c.query.result (Used c.args.uses.now c.query.new.uses (unit_uses (part_of p)))) (sym c.in-Query.is) c.query.ensures.used

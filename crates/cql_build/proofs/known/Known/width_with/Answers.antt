@@ -32,23 +32,29 @@ pub returns-then-is_named-clause-bad : goal.returns-then-is_named-clause-bad
 returns-then-is_named-clause-bad c = λ ks k w.
     let f = subst (λ (r : Option (Bor (List Name))). IsFound (option_copied r) ks c.args.source.now.stream) c.in-Some.is (c.fields.ensures ks k) in
     let s = scope_length ks c.args.before.now in
-    let twice = ap (λ n. nat_lt 0 (count n (known_names (scope_of ks (sources_of c.args.before.now))))) (sym c.item_name.ensures) ∙ sym (c.is_named.ensures ks) ∙ c.if-is_named.true in
-    item_twice ks (scope_of ks (sources_of c.args.before.now)) (source_of c.args.source.now) f.0 (omega (arith, s, c.if-before-ge4.false)) (sym c.is_rows_fault.ensures ∙ c.if-is_rows_fault.false) twice
+    let twice = ap (λ n. nat_lt 0 (count n (known_names (scope_of ks (sources_of c.args.before.now))))) (sym c.item_name.ensures)
+    ∙ sym (c.is_named.ensures ks) ∙ c.if-is_named.true in
+    item_twice ks (scope_of ks (sources_of c.args.before.now)) (source_of c.args.source.now) f.0 (omega (arith, s, c.if-before-ge4.false))
+    (sym c.is_rows_fault.ensures ∙ c.if-is_rows_fault.false) twice
 
 pub returns-then-fields-width-clause-bad : goal.returns-then-fields-width-clause-bad
 returns-then-fields-width-clause-bad c = λ ks k w.
     let f = subst (λ (r : Option (Bor (List Name))). IsFound (option_copied r) ks c.args.source.now.stream) c.in-Some.is (c.fields.ensures ks k) in
     let s = scope_length ks c.args.before.now in
-    let new = ap (λ n. nat_lt 0 (count n (known_names (scope_of ks (sources_of c.args.before.now))))) (sym c.item_name.ensures) ∙ sym (c.is_named.ensures ks) ∙ c.if-is_named.false in
+    let new = ap (λ n. nat_lt 0 (count n (known_names (scope_of ks (sources_of c.args.before.now))))) (sym c.item_name.ensures)
+    ∙ sym (c.is_named.ensures ks) ∙ c.if-is_named.false in
     let good : IsGood ks (scope_of ks (sources_of c.args.before.now)) (source_of c.args.source.now) =
     record { known = f.0; few = omega (arith, s, c.if-before-ge4.false); rows = sym c.is_rows_fault.ensures ∙ c.if-is_rows_fault.false; new = new } in
-    item_wide ks (scope_of ks (sources_of c.args.before.now)) (source_of c.args.source.now) c.args.width c.in-Some.fields.now good w c.requires f.1 c.if-fields-width.true
+    item_wide ks (scope_of ks (sources_of c.args.before.now)) (source_of c.args.source.now) c.args.width c.in-Some.fields.now good w c.requires f.1
+    c.if-fields-width.true
 
 pub returns-clause-good : goal.returns-clause-good
 returns-clause-good c = λ ks k w.
     let f = subst (λ (r : Option (Bor (List Name))). IsFound (option_copied r) ks c.args.source.now.stream) c.in-Some.is (c.fields.ensures ks k) in
     let s = scope_length ks c.args.before.now in
-    let new = ap (λ n. nat_lt 0 (count n (known_names (scope_of ks (sources_of c.args.before.now))))) (sym c.item_name.ensures) ∙ sym (c.is_named.ensures ks) ∙ c.if-is_named.false in
+    let new = ap (λ n. nat_lt 0 (count n (known_names (scope_of ks (sources_of c.args.before.now))))) (sym c.item_name.ensures)
+    ∙ sym (c.is_named.ensures ks) ∙ c.if-is_named.false in
     let good : IsGood ks (scope_of ks (sources_of c.args.before.now)) (source_of c.args.source.now) =
     record { known = f.0; few = omega (arith, s, c.if-before-ge4.false); rows = sym c.is_rows_fault.ensures ∙ c.if-is_rows_fault.false; new = new } in
-    item_good ks (scope_of ks (sources_of c.args.before.now)) (source_of c.args.source.now) c.args.width c.in-Some.fields.now good w c.requires f.1 c.if-fields-width.false
+    item_good ks (scope_of ks (sources_of c.args.before.now)) (source_of c.args.source.now) c.args.width c.in-Some.fields.now good w c.requires f.1
+    c.if-fields-width.false

@@ -6,7 +6,8 @@ loop-part-init c = noted_start c.args.parts.now _ c.new.ensures c.new-2.ensures 
 
 pub loop-part-preserved : goal.loop-part-preserved
 loop-part-preserved c =
-    noted_next c.args.parts.now c.loop-part.part-index c.part-item.result c.loop-part.uses c.note.new.self c.loop-part.invariant c.loop-part-test.true c.part-item.is (c.in_ok-note.ensures {u = tt})
+    noted_next c.args.parts.now c.loop-part.part-index c.part-item.result c.loop-part.uses c.note.new.self c.loop-part.invariant
+    c.loop-part-test.true c.part-item.is (c.in_ok-note.ensures {u = tt})
 
 pub returns-clause-inputs : goal.returns-clause-inputs
 returns-clause-inputs c = noted_inputs c.args.parts.now c.loop-part.part-index c.loop-part.uses c.loop-part.invariant c.loop-part-test.false

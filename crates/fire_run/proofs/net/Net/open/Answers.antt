@@ -10,7 +10,8 @@ returns-clause-net c =
     let t = c.in_ok-tasks.ensures in
     record {
       fine = refl;
-      is = opened c.args.plan.now c.args.inputs c.args.cap c.args.caps.now t.0 c.in_ok-tasks.tasks c.in_ok-links.links c.in_ok-cells.cells c.links_of.ensures.valid c.requires.fits.typed
+      is = opened c.args.plan.now c.args.inputs c.args.cap c.args.caps.now t.0 c.in_ok-tasks.tasks c.in_ok-links.links c.in_ok-cells.cells
+          c.links_of.ensures.valid c.requires.fits.typed
           c.requires.cap c.requires.caps t.1 c.in_ok-links.ensures.links t.2 c.in_ok-cells.ensures.cells c.in_ok-cells.ensures.empty;
     }
 
