@@ -293,3 +293,8 @@ kept_by xs ys e = ap (take (length xs)) e ∙ take_all (length xs) xs (omega ari
 pub reads_err : (result : Result (Unit {0}) fault.Fault) (f : fault.Fault) (o n : Stmts) (x y : Unroller) (r : Read) → result ≡ Err f → Tells f r
     → Reads result o n x y r
 reads_err result f o n x y r is t = subst (λ q. Reads q o n x y r) (sym is) t
+
+-- an answer about a statement that is the same one
+pub reads_as : (result : Result (Unit {0}) fault.Fault) (o n : Stmts) (x y : Unroller) (e : ℕ) (s : At) {c d : source.Statement} → c ≡ d
+    → Reads result o n x y (step_of e d s) → Reads result o n x y (step_of e c s)
+reads_as result o n x y e s is h = subst (λ c. Reads result o n x y (step_of e c s)) (sym is) h

@@ -8,7 +8,7 @@ use Rattle.river_plan.specs.Forms.{Name}
 use Rattle.streamit_text.specs.Tree.{Expression}
 use Rattle.streamit_text.specs.Tree as source
 use Rattle.streamit_model.specs.Meaning.{pops}
-use Rattle.streamit_model.specs.Elaborate.{Fault, Limit, At, Read, on_ok, demand, counted, find, is_new, slot_of, has_slot, first_term, term_of, declared, step_of}
+use Rattle.streamit_model.specs.Elaborate.{Limit, At, Read, on_ok, demand, counted, find, is_new, slot_of, has_slot, first_term, term_of, declared, step_of}
 use Rattle.streamit_unroll.specs.declared.fault.Fault as fault
 use Rattle.streamit_unroll.specs.View.{Tells}
 use Rattle.streamit_unroll.proofs.SoFar.{good, tells_more}
