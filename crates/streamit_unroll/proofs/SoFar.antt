@@ -137,7 +137,7 @@ block_end e all first now out out' f = (f.added, f.grew, f.all_is ∙ behind_don
 
 -- TURNS
 
-on_ok-assoc : {A B C : Type 0} (r : Result A Fault) (f : A → Result B Fault) (g : B → Result C Fault) → on_ok (on_ok r f) g ≡ on_ok r (λ x. on_ok (f x) g)
+pub on_ok-assoc : {A B C : Type 0} (r : Result A Fault) (f : A → Result B Fault) (g : B → Result C Fault) → on_ok (on_ok r f) g ≡ on_ok r (λ x. on_ok (f x) g)
 on_ok-assoc (Ok x) f g = refl
 on_ok-assoc (Err e) f g = refl
 
@@ -288,3 +288,13 @@ if_read e t a b s s1 m1 m2 la lb cond k f g hc ht hk ha em1 hb em2 p q =
 -- a list that did not change keeps its front
 pub kept_by : {A : Type 0} (xs ys : List A) → ys ≡ xs → take (length xs) ys ≡ xs
 kept_by xs ys e = ap (take (length xs)) e ∙ take_all (length xs) xs (omega arith)
+
+-- an answer that is a fault
+pub reads_err : (result : Result (Unit {0}) fault.Fault) (f : fault.Fault) (o n : Stmts) (x y : Unroller) (r : Read) → result ≡ Err f → Tells f r
+    → Reads result o n x y r
+reads_err result f o n x y r is t = subst (λ q. Reads q o n x y r) (sym is) t
+
+-- an answer about a statement that is the same one
+pub reads_as : (result : Result (Unit {0}) fault.Fault) (o n : Stmts) (x y : Unroller) (e : ℕ) (s : At) {c d : source.Statement} → c ≡ d
+    → Reads result o n x y (step_of e d s) → Reads result o n x y (step_of e c s)
+reads_as result o n x y e s is h = subst (λ c. Reads result o n x y (step_of e c s)) (sym is) h

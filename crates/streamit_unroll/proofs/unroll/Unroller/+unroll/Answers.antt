@@ -9,9 +9,11 @@ use Rattle.work_code.specs.Steps as tree
 use Rattle.work_code.proofs.Running.{step-if}
 use Rattle.work_code.proofs.Texts.{steps-is}
 use Rattle.work_code.specs.declared.code.Stmt as built
-use Rattle.streamit_text.proofs.Trees.{block-is, statement-for}
+use Rattle.streamit_text.specs.Tree as source
+use Rattle.streamit_text.proofs.Trees.{block-is, statement-declare, statement-assign, statement-push, statement-pop, statement-if, statement-for}
 use Rattle.streamit_unroll.proofs.SoFar.{BlockSoFar, block_next, block_err, block_end, turns_start, turns_next, turns_fault, turns_end, for_turns, for_fault}
-use Rattle.streamit_unroll.proofs.SoFar.{good as answered, if_read, turn_is, kept_by}
+use Rattle.streamit_unroll.proofs.SoFar.{good as answered, if_read, turn_is, kept_by, reads_as, reads_err}
+use Rattle.streamit_unroll.proofs.Branches.{if_count_fault, if_cond_fault, if_first_fault, if_second_fault}
 use Rattle.streamit_text.proofs.Places.{at_place, none_left}
 use Rattle.std.proofs.Common.{subst, sym, ap, ◌∙◌, arith, refl, rules, ◌≡◌, ◌+◌, ◌-◌, Err, [], ◌∷◌, drop, map}
 use Rattle.streamit_unroll.proofs.unroll.Unroller.+unroll.Goals as goal
@@ -104,3 +106,69 @@ statement-returns-in_err-span-in-For t c =
     let w = ap (λ x. step_of c.args.peek x at) (ap statement c.in-For.is ∙ statement-for c.in-For.name c.in-For.low c.in-For.until c.in-For.high c.in-For.body) in
     subst (λ r. Reads r c.args.out.now c.args.out.now c.args.self.now c.args.self.now (step_of c.args.peek (statement c.args.s.now) at)) (sym is)
     (subst (Tells f) (sym w) (for_fault c.args.peek c.in-For.name (expression c.in-For.low) (expression c.in-For.high) (is_turn c.in-For.until) (block c.in-For.body) at f (c.in_err-span-in-For.ensures {u = tt})))
+
+pub statement-returns-in-Push : goal.statement-returns-in-Push
+statement-returns-in-Push t c =
+    reads_as c.push.result c.args.out.now c.push.new.out c.args.self.now c.push.new.self c.args.peek (at_of c.args.self.now) (ap statement c.in-Push.is ∙ statement-push c.in-Push.value) c.push.ensures
+
+pub statement-returns-in-Pop : goal.statement-returns-in-Pop
+statement-returns-in-Pop t c =
+    reads_as c.pop.result c.args.out.now c.pop.new.out c.args.self.now c.pop.new.self c.args.peek (at_of c.args.self.now) (ap statement c.in-Pop.is ∙ statement-pop) c.pop.ensures
+
+pub statement-returns-in-Declare : goal.statement-returns-in-Declare
+statement-returns-in-Declare t c =
+    reads_as c.declare.result c.args.out.now c.declare.new.out c.args.self.now c.declare.new.self c.args.peek (at_of c.args.self.now)
+    (ap statement c.in-Declare.is ∙ statement-declare c.in-Declare.name c.in-Declare.value) c.declare.ensures
+
+pub statement-returns-in-Assign : goal.statement-returns-in-Assign
+statement-returns-in-Assign t c =
+    reads_as c.assign.result c.args.out.now c.assign.new.out c.args.self.now c.assign.new.self c.args.peek (at_of c.args.self.now)
+    (ap statement c.in-Assign.is ∙ statement-assign c.in-Assign.name c.in-Assign.value) c.assign.ensures
+
+pub statement-returns-in-If : goal.statement-returns-in-If
+statement-returns-in-If t c =
+    reads_as c.branch-self.result c.args.out.now c.branch-self.new.out c.args.self.now c.branch-self.new.self c.args.peek (at_of c.args.self.now)
+    (ap statement c.in-If.is ∙ statement-if c.in-If.cond c.in-If.yes c.in-If.no) c.branch-self.ensures
+
+pub branch-returns-in_err-counted : goal.branch-returns-in_err-counted
+branch-returns-in_err-counted t c =
+    let f = c.in_err-counted.field-0.0 in
+    let s = at_of c.args.self.now in
+    let cond = expression c.args.cond.now in
+    let yes = block c.args.yes.now in
+    let no = optional_block c.args.no.now in
+    reads_err c.from_residual.result f c.args.out.now c.args.out.now c.args.self.now c.counted.new.self (step_of c.args.peek (source.If cond yes no) s) (search rules)
+    (if_count_fault c.args.peek cond yes no s f c.in_err-counted.ensures.judged)
+
+pub branch-returns-in_err-cond : goal.branch-returns-in_err-cond
+branch-returns-in_err-cond t c =
+    let f = c.in_err-cond.field-0.0 in
+    let s = at_of c.args.self.now in
+    let cond = expression c.args.cond.now in
+    let yes = block c.args.yes.now in
+    let no = optional_block c.args.no.now in
+    reads_err c.from_residual-in_err-cond.result f c.args.out.now c.args.out.now c.args.self.now (record c.counted.new.self { popped = c.term.new.popped }) (step_of c.args.peek (source.If cond yes no) s) (search rules)
+    (if_cond_fault c.args.peek cond yes no s (at_of c.counted.new.self) c.in_ok-counted.ensures.judged f c.in_err-cond.ensures.judged)
+
+pub branch-returns-in_err-first : goal.branch-returns-in_err-first
+branch-returns-in_err-first t c =
+    let f = c.in_err-first.field-0.0 in
+    let s = at_of c.args.self.now in
+    let cond = expression c.args.cond.now in
+    let yes = block c.args.yes.now in
+    let no = optional_block c.args.no.now in
+    reads_err c.from_residual-in_err-first.result f c.args.out.now c.args.out.now c.args.self.now c.arm.new.self (step_of c.args.peek (source.If cond yes no) s) (search rules)
+    (if_first_fault c.args.peek cond yes no s (at_of c.counted.new.self) c.in_ok-counted.ensures.judged (term c.in_ok-cond.cond) c.term.new.popped c.in_ok-cond.ensures.judged c.in_ok-cond.ensures.popped f
+    (c.in_err-first.ensures {u = tt}))
+
+pub branch-returns-in_err-second : goal.branch-returns-in_err-second
+branch-returns-in_err-second t c =
+    let f = c.in_err-second.field-0.0 in
+    let s = at_of c.args.self.now in
+    let cond = expression c.args.cond.now in
+    let yes = block c.args.yes.now in
+    let no = optional_block c.args.no.now in
+    let one = c.in_ok-first.ensures {u = tt} in
+    reads_err c.from_residual-in_err-second.result f c.args.out.now c.args.out.now c.args.self.now c.otherwise.new.self (step_of c.args.peek (source.If cond yes no) s) (search rules)
+    (if_second_fault c.args.peek cond yes no s (at_of c.counted.new.self) c.in_ok-counted.ensures.judged (term c.in_ok-cond.cond) c.term.new.popped c.in_ok-cond.ensures.judged c.in_ok-cond.ensures.popped
+    (in_turn (map step (statements c.in_ok-first.first))) one.0 (at_of c.arm.new.self) one.1 one.2 f (c.in_err-second.ensures {u = tt}))
