@@ -21,7 +21,8 @@ module _ {A B : Type 0} {F : A → List Tok → Type 0} {G : A → B → List To
         record {
           front = x.front ++ y.front;
           is = x.is ∙ ap (λ (l : List Tok). x.front ++ l) (y.is ∙ ap (λ (l : List Tok). y.front ++ l) same.1) ∙ sym (append_assoc x.front y.front rest);
-          formed = subst (λ (w : A × B). Chained F G w (x.front ++ y.front)) same.0 (record { front = x.front; back = y.front; is = refl; first = x.formed; second = y.formed });
+          formed = subst (λ (w : A × B). Chained F G w (x.front ++ y.front)) same.0
+              (record { front = x.front; back = y.front; is = refl; first = x.formed; second = y.formed });
         }
 
     complete : (v : A × B) (s rest : List Tok) → Chained F G v s → D rest → chained p q (s ++ rest) ≡ Some (v, rest)

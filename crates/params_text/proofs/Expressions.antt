@@ -25,7 +25,7 @@ use Rattle.streamit_text.specs.Leaves as rule
 use Rattle.streamit_text.specs.Words.{is_plain}
 use Rattle.streamit_text.specs.declared.term.Sign.{Sign}
 use Rattle.streamit_text.specs.declared.term.Sign.TheVariants as sign
-use Rattle.params_text.proofs.Insides.{IsPlain, plain-Open, plain-Close, plain-Minus, plain-Not}
+use Rattle.work_text.proofs.Insides.{IsPlain, plain-Open, plain-Close, plain-Minus, plain-Not}
 use Rattle.params_text.specs.Toks.{expr_toks}
 use Rattle.params_text.specs.Told.{IsOwnName, IsToldTree, IsToldExpr}
 use Rattle.params_text.proofs.Good.{IsPiece, piece-nothing, piece-then, piece-symbol, piece-name, piece-number, piece-last}
@@ -90,7 +90,8 @@ told-piece (tree.Neg t) h = round (symbol s.Minus ∷ expr_toks t) (piece-symbol
 told-piece (tree.Not t) h = round (symbol s.Not ∷ expr_toks t) (piece-symbol s.Not plain-Not (expr_toks t) (told-piece t h))
 told-piece (tree.Bin o a b) h =
     round (expr_toks a ++ symbol (grammar.sign_of o) ∷ expr_toks b)
-    (piece-then (expr_toks a) (symbol (grammar.sign_of o) ∷ expr_toks b) (told-piece a h.0) (piece-symbol (grammar.sign_of o) (plain-sign o) (expr_toks b) (told-piece b h.1)))
+    (piece-then (expr_toks a) (symbol (grammar.sign_of o) ∷ expr_toks b) (told-piece a h.0)
+    (piece-symbol (grammar.sign_of o) (plain-sign o) (expr_toks b) (told-piece b h.1)))
 
 -- IT IS IN THE GRAMMAR
 
@@ -151,7 +152,8 @@ told-says : (t : Expression) (n : ℕ) → IsToldTree t → depth_of t ≤ n →
 told-says t zero h d = absurd (let e = some_depth t in omega arith)
 told-says (tree.Number v) (suc n) h d = levels.leaf (suc n) (tree.Number v) (expr_toks (tree.Number v)) (rule.number (suc n) v (value-true v h))
 told-says (tree.Name w) (suc n) h d = levels.leaf (suc n) (tree.Name w) (expr_toks (tree.Name w)) (rule.name (suc n) w h)
-told-says (tree.Peek t) (suc n) h d = levels.call n (name (codes "peek")) sign.Peek t (expr_toks t) refl (looser n t (expr_toks t) (told-says t n h (omega arith)) 7)
+told-says (tree.Peek t) (suc n) h d =
+    levels.call n (name (codes "peek")) sign.Peek t (expr_toks t) refl (looser n t (expr_toks t) (told-says t n h (omega arith)) 7)
 told-says tree.Pop (suc n) h d = levels.leaf (suc n) tree.Pop (expr_toks tree.Pop) (rule.pop n)
 told-says (tree.Neg t) (suc n) h d =
     levels.bracket n (tree.Neg t) (symbol s.Minus ∷ expr_toks t) (signed n s.Minus sign.Neg t (expr_toks t) refl (told-says t n h (omega arith)))

@@ -6,7 +6,7 @@ use Rattle.work_text.specs.Tok.{Tok, name, var, number, symbol}
 use Rattle.work_text.specs.declared.sign.Symbol.{Symbol}
 use Rattle.work_text.specs.declared.sign.Symbol.TheVariants as s
 use Rattle.work_text.proofs.Spelled.{Spells, Anything, NoWord, is_name_text, spells-nothing, spells-then, spells-name, spells-var, spells-number, spells-symbol, spells-blank, blank_follows}
-use Rattle.params_text.proofs.Insides.{Inside, inside-nothing, inside-then, inside-symbol, inside-name, inside-number, inside-braces, IsPlain}
+use Rattle.work_text.proofs.Insides.{Inside, inside-nothing, inside-then, inside-symbol, inside-name, inside-number, inside-braces, IsPlain}
 use Rattle.params_text.specs.Toks.{token_bytes, spaced}
 
 abbrev pub IsGood : Tok → Type 0
@@ -41,11 +41,14 @@ blank_word u rest = refl
 pub spaced-spells : (ts : List Tok) → AreGood ts → Spells (spaced ts) ts Anything
 spaced-spells [] h = spells-nothing Anything
 spaced-spells (name text ∷ ts) h =
-    spells-then text (name text ∷ []) (32 ∷ spaced ts) ts (spells-name text h.0) (blank-then (spaced ts) ts (spaced-spells ts h.1)) (λ rest any. blank_word (spaced ts) rest)
+    spells-then text (name text ∷ []) (32 ∷ spaced ts) ts (spells-name text h.0) (blank-then (spaced ts) ts (spaced-spells ts h.1))
+    (λ rest any. blank_word (spaced ts) rest)
 spaced-spells (var text ∷ ts) h =
-    spells-then (36 ∷ text) (var text ∷ []) (32 ∷ spaced ts) ts (spells-var text h.0) (blank-then (spaced ts) ts (spaced-spells ts h.1)) (λ rest any. blank_word (spaced ts) rest)
+    spells-then (36 ∷ text) (var text ∷ []) (32 ∷ spaced ts) ts (spells-var text h.0) (blank-then (spaced ts) ts (spaced-spells ts h.1))
+    (λ rest any. blank_word (spaced ts) rest)
 spaced-spells (number n ∷ ts) h =
-    spells-then (token_bytes (number n)) (number n ∷ []) (32 ∷ spaced ts) ts (spells-number n h.0) (blank-then (spaced ts) ts (spaced-spells ts h.1)) (λ rest any. blank_word (spaced ts) rest)
+    spells-then (token_bytes (number n)) (number n ∷ []) (32 ∷ spaced ts) ts (spells-number n h.0) (blank-then (spaced ts) ts (spaced-spells ts h.1))
+    (λ rest any. blank_word (spaced ts) rest)
 spaced-spells (symbol x ∷ ts) h =
     spells-then (symbol_bytes x) (symbol x ∷ []) (32 ∷ spaced ts) ts (spells-symbol x) (blank-then (spaced ts) ts (spaced-spells ts h.1))
     (λ rest any. blank_follows x (spaced ts ++ rest))

@@ -1,7 +1,6 @@
 pub mod Chains
 pub mod Expressions
 pub mod Good
-pub mod Insides
 pub mod Lists
 pub mod Lows
 pub mod ParamTexts

@@ -56,7 +56,8 @@ pub ruleset params = (params-next, param-shorter, taken-shorter, comma-stop, com
 -- CONSTANTS
 
 -- the loop over constants goes on: `b` says whether a comma was taken
-pub constants-next : (n : ℕ) (old new : List Expr) (i : Expr) (ts mid us : List Tok) (b : Bool) → new ≡ old ++ i ∷ [] → b ≡ true → b ≡ parse.begins_with s.Comma ts
+pub constants-next : (n : ℕ) (old new : List Expr) (i : Expr) (ts mid us : List Tok) (b : Bool) → new ≡ old ++ i ∷ [] → b ≡ true
+    → b ≡ parse.begins_with s.Comma ts
     → mid ≡ cond b (tail ts) ts → constant_at n mid ≡ Some (expression i, us)
     → repeated (parse.comma_turn (constant_at n)) (map expression new) us ≡ repeated (parse.comma_turn (constant_at n)) (map expression old) ts
 constants-next n = comma-more (exact-constant n) (λ rest j h. refl) expression
@@ -71,15 +72,18 @@ pub ruleset constants = (constants-next, constant-shorter, taken-shorter, comma-
 pub steps-stop : (n : ℕ) (done : List Step) (ts : List Tok) → at_join ts ≡ true → repeated (parse.many_turn at_join (step_at n)) done ts ≡ Some (done, ts)
 steps-stop n done ts e = repeated-stop (parse.many_turn at_join (step_at n)) done ts (rw e refl)
 
-pub steps-bad : (n : ℕ) (done : List Step) (ts : List Tok) → at_join ts ≡ false → step_at n ts ≡ None → repeated (parse.many_turn at_join (step_at n)) done ts ≡ None
+pub steps-bad : (n : ℕ) (done : List Step) (ts : List Tok) → at_join ts ≡ false → step_at n ts ≡ None
+    → repeated (parse.many_turn at_join (step_at n)) done ts ≡ None
 steps-bad n done ts e bad = repeated-fail (parse.many_turn at_join (step_at n)) done ts (rw (e, bad) refl)
 
 -- one step more
-pub steps-next : (n : ℕ) (old new : List made.Step) (i : made.Step) (ts us : List Tok) → new ≡ old ++ i ∷ [] → at_join ts ≡ false → step_at n ts ≡ Some (step_of i, us)
+pub steps-next : (n : ℕ) (old new : List made.Step) (i : made.Step) (ts us : List Tok) → new ≡ old ++ i ∷ [] → at_join ts ≡ false
+    → step_at n ts ≡ Some (step_of i, us)
     → repeated (parse.many_turn at_join (step_at n)) (map step_of new) us ≡ repeated (parse.many_turn at_join (step_at n)) (map step_of old) ts
 steps-next n old new i ts us is e read =
     ap (λ (l : List Step). repeated (parse.many_turn at_join (step_at n)) l us) (ap (map step_of) is ∙ map-append step_of old (i ∷ []))
-    ∙ sym (repeated-next (parse.many_turn at_join (step_at n)) (many-shortens at_join (exact-step n) (listed-steps n)) (map step_of old) ts (map step_of old ++ step_of i ∷ []) us (rw (e, read) refl))
+    ∙ sym (repeated-next (parse.many_turn at_join (step_at n)) (many-shortens at_join (exact-step n) (listed-steps n)) (map step_of old) ts
+    (map step_of old ++ step_of i ∷ []) us (rw (e, read) refl))
 
 pub step-shortens : (n : ℕ) (ts us : List Tok) (v : Step) → step_at n ts ≡ Some (v, us) → length us < length ts
 step-shortens n ts us v e =

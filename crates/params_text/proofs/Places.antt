@@ -22,7 +22,8 @@ unfolding place_at
 place-none ps text ts h = rw h refl
 
 -- a name that is none of these parameters is a name alone
-pub place-other : (ps : List (List ℕ)) (text : List ℕ) (ts : List Tok) → is_one_of ps text ≡ false → place_at ps 0 text ts ≡ Some (expression (written.Name text), ts)
+pub place-other : (ps : List (List ℕ)) (text : List ℕ) (ts : List Tok) → is_one_of ps text ≡ false
+    → place_at ps 0 text ts ≡ Some (expression (written.Name text), ts)
 unfolding place_at
 place-other ps text ts h = rw h (seen text ts)
 

@@ -21,8 +21,8 @@ use Rattle.streamit_text.specs.Grammar.{IsBlock}
 use Rattle.streamit_text.specs.Leaves.{IsLeaf, leaf_at}
 use Rattle.streamit_text.specs.Tree.{Expression, Statement, Declare, Assign, Push, Discard, If, For, Block, End, Then, Optional, Unwritten, Written, in_turn, or_unwritten}
 use Rattle.streamit_text.specs.Words.{is_plain, is_own, keywords}
-use Rattle.params_text.proofs.Insides as inside
-use Rattle.params_text.proofs.Insides.{plain-Open, plain-Close, plain-Semicolon, plain-Assign, plain-Less, plain-LessEqual, plain-Increment}
+use Rattle.work_text.proofs.Insides as inside
+use Rattle.work_text.proofs.Insides.{plain-Open, plain-Close, plain-Semicolon, plain-Assign, plain-Less, plain-LessEqual, plain-Increment}
 use Rattle.params_text.specs.Toks.{expr_toks, first_toks, below, head_toks, statement_toks, statements_toks, block_toks, else_toks}
 use Rattle.params_text.specs.Told.{IsOwnName, IsToldExpr, IsToldFirst, IsToldOnce, IsToldAll, IsToldOptional}
 use Rattle.params_text.proofs.Good.{IsPiece, piece-nothing, piece-then, piece-symbol, piece-name, piece-braces, piece-last}
@@ -119,10 +119,12 @@ first-piece : (t : Option Expression) → IsToldFirst t → IsPiece (first_toks 
 first-piece None h = piece-nothing
 first-piece (Some t) h = piece-symbol s.Assign plain-Assign (expr_toks t) (told-piece t h.0)
 
-head-piece : (n : List ℕ) (low : Expression) (upto : Bool) (high : Expression) → IsOwnName n → IsToldExpr low → IsToldExpr high → IsPiece (head_toks n low upto high)
+head-piece : (n : List ℕ) (low : Expression) (upto : Bool) (high : Expression) → IsOwnName n → IsToldExpr low → IsToldExpr high
+    → IsPiece (head_toks n low upto high)
 head-piece n low upto high h a b =
     piece-symbol s.Assign plain-Assign _ (piece-then (expr_toks low ++ symbol s.Semicolon ∷ []) _ (ended-piece low a)
-    (piece-name n (own_text n h) _ (piece-symbol (below upto) (plain-below upto) _ (piece-then (expr_toks high ++ symbol s.Semicolon ∷ []) _ (ended-piece high b)
+    (piece-name n (own_text n h) _
+    (piece-symbol (below upto) (plain-below upto) _ (piece-then (expr_toks high ++ symbol s.Semicolon ∷ []) _ (ended-piece high b)
     (piece-name n (own_text n h) _ (piece-symbol s.Increment plain-Increment [] piece-nothing))))))
 
 mutual
@@ -132,7 +134,8 @@ mutual
   statement-piece nest (Assign n t) h = piece-name n (own_text n h.0) _ (piece-symbol s.Assign plain-Assign _ (ended-piece t h.1))
   statement-piece nest (Push t) h = piece-name (codes "push") push_is _ (piece-last s.Semicolon plain-Semicolon _ (round (expr_toks t) (told-piece t h.0)))
   statement-piece nest Discard h =
-      piece-name (codes "pop") pop_is _ (piece-symbol s.Open plain-Open _ (piece-symbol s.Close plain-Close _ (piece-symbol s.Semicolon plain-Semicolon [] piece-nothing)))
+      piece-name (codes "pop") pop_is _
+      (piece-symbol s.Open plain-Open _ (piece-symbol s.Close plain-Close _ (piece-symbol s.Semicolon plain-Semicolon [] piece-nothing)))
   statement-piece zero (If t a b) h = absurd h
   statement-piece (suc nest) (If t a b) h =
       piece-name (codes "if") if_is _ (piece-then (symbol s.Open ∷ (expr_toks t ++ symbol s.Close ∷ [])) _ (round (expr_toks t) (told-piece t h.0.0))
@@ -140,7 +143,8 @@ mutual
   statement-piece zero (For n low upto high b) h = absurd h
   statement-piece (suc nest) (For n low upto high b) h =
       piece-name (codes "for") for_is _ (piece-then (symbol s.Open ∷ ((name (codes "int") ∷ name n ∷ head_toks n low upto high) ++ symbol s.Close ∷ [])) _
-      (round (name (codes "int") ∷ name n ∷ head_toks n low upto high) (piece-name (codes "int") int_is _ (piece-name n (own_text n h.0) _ (head-piece n low upto high h.0 h.1 h.2))))
+      (round (name (codes "int") ∷ name n ∷ head_toks n low upto high)
+      (piece-name (codes "int") int_is _ (piece-name n (own_text n h.0) _ (head-piece n low upto high h.0 h.1 h.2))))
       (piece-braces (statements_toks b) (statements-piece nest b h.3)))
 
   statements-piece : (nest : ℕ) (b : Block) → IsToldAll nest b → IsPiece (statements_toks b)
@@ -184,13 +188,19 @@ plain-formed n h = record { passes = h; formed = refl }
 round-formed : (n : ℕ) (t : Expression) → 65 ≤ n → IsToldExpr t → Round Expr n t (symbol s.Open ∷ (expr_toks t ++ symbol s.Close ∷ []))
 round-formed zero t room h = absurd (omega (arith, room))
 round-formed (suc n) t room h =
-    record { back = expr_toks t ++ symbol s.Close ∷ []; is = refl; formed = record { front = expr_toks t; is = refl; formed = told-formed n t (omega (arith, room)) h } }
+    record {
+      back = expr_toks t ++ symbol s.Close ∷ [];
+      is = refl;
+      formed =
+          record { front = expr_toks t; is = refl; formed = told-formed n t (omega (arith, room)) h };
+    }
 
 first-formed : (n : ℕ) (t : Option Expression) → 64 ≤ n → IsToldFirst t → Maybe (After (s.Assign ∷ []) (Expr n)) t (first_toks t)
 first-formed n None room h = refl
 first-formed n (Some t) room h = record { back = expr_toks t; is = refl; formed = told-formed n t room h }
 
-declare-formed : (n : ℕ) (w : List ℕ) (t : Option Expression) → 64 ≤ n → IsOwnName w → IsToldFirst t → IsDeclare Expr n (Declare w t) (name w ∷ (first_toks t ++ symbol s.Semicolon ∷ []))
+declare-formed : (n : ℕ) (w : List ℕ) (t : Option Expression) → 64 ≤ n → IsOwnName w → IsToldFirst t
+    → IsDeclare Expr n (Declare w t) (name w ∷ (first_toks t ++ symbol s.Semicolon ∷ []))
 declare-formed n w t room h k = record {
   value = (w, t);
   is = refl;
@@ -206,10 +216,13 @@ declare-formed n w t room h k = record {
 before-formed : (n : ℕ) (t : Expression) → 64 ≤ n → IsToldExpr t → Before (Expr n) (s.Semicolon ∷ []) t (expr_toks t ++ symbol s.Semicolon ∷ [])
 before-formed n t room h = record { front = expr_toks t; is = refl; formed = told-formed n t room h }
 
-assign-formed : (n : ℕ) (w : List ℕ) (t : Expression) → 64 ≤ n → IsToldExpr t → IsAssign Expr w n (Assign w t) (symbol s.Assign ∷ (expr_toks t ++ symbol s.Semicolon ∷ []))
-assign-formed n w t room h = record { value = t; is = refl; formed = record { back = expr_toks t ++ symbol s.Semicolon ∷ []; is = refl; formed = before-formed n t room h } }
+assign-formed : (n : ℕ) (w : List ℕ) (t : Expression) → 64 ≤ n → IsToldExpr t
+    → IsAssign Expr w n (Assign w t) (symbol s.Assign ∷ (expr_toks t ++ symbol s.Semicolon ∷ []))
+assign-formed n w t room h =
+    record { value = t; is = refl; formed = record { back = expr_toks t ++ symbol s.Semicolon ∷ []; is = refl; formed = before-formed n t room h } }
 
-push-formed : (n : ℕ) (t : Expression) → 65 ≤ n → IsToldExpr t → IsPush Expr n (Push t) ((symbol s.Open ∷ (expr_toks t ++ symbol s.Close ∷ [])) ++ symbol s.Semicolon ∷ [])
+push-formed : (n : ℕ) (t : Expression) → 65 ≤ n → IsToldExpr t
+    → IsPush Expr n (Push t) ((symbol s.Open ∷ (expr_toks t ++ symbol s.Close ∷ [])) ++ symbol s.Semicolon ∷ [])
 push-formed n t room h = record {
   value = t;
   is = refl;
@@ -289,7 +302,8 @@ head-formed (suc n) w low upto high room h a b = record {
         word = w;
         back = head_toks w low upto high;
         is = refl;
-        formed = choose_true (is_own w) (HeadAfter Expr n w) Never (the_head w low upto high) (head_toks w low upto high) h (after-formed n w low upto high (omega (arith, room)) a b);
+        formed = choose_true (is_own w) (HeadAfter Expr n w) Never (the_head w low upto high) (head_toks w low upto high) h
+            (after-formed n w low upto high (omega (arith, room)) a b);
       };
     };
   };
@@ -341,7 +355,8 @@ mutual
 
   statement-formed : (nest n : ℕ) (c : Statement) → nest + 65 ≤ n → IsToldOnce nest c → IsStatement nest n c (statement_toks c)
   statement-formed nest n (Declare w t) room h = simple nest n (codes "int") (Declare w t) _ refl (declare-formed n w t (omega (arith, room)) h.0 h.1)
-  statement-formed nest n (Assign w t) room h = simple nest n w (Assign w t) _ (own-opens w (own_no_word w h.0)) (assign-plain n w t (omega (arith, room)) h.0 h.1)
+  statement-formed nest n (Assign w t) room h =
+      simple nest n w (Assign w t) _ (own-opens w (own_no_word w h.0)) (assign-plain n w t (omega (arith, room)) h.0 h.1)
   statement-formed nest n (Push t) room h = simple nest n (codes "push") (Push t) _ refl (push-formed n t (omega (arith, room)) h)
   statement-formed nest n Discard room h = simple nest n (codes "pop") Discard _ refl (pop-formed n (omega (arith, room)))
   statement-formed zero n (If t a b) room h = absurd h
@@ -389,7 +404,8 @@ mutual
   each-formed nest n End room h = refl
   each-formed nest n (Then c b) room h = (statement_toks c, statements_toks b, refl, statement-formed nest n c room h.0, each-formed nest n b room h.1)
 
-  else-formed : (nest n : ℕ) (b : Optional) → nest + 66 ≤ n → IsToldOptional nest b → Maybe (AfterWord (codes "else") (IsBlockIn nest n)) (option_of b) (else_toks b)
+  else-formed : (nest n : ℕ) (b : Optional) → nest + 66 ≤ n → IsToldOptional nest b
+      → Maybe (AfterWord (codes "else") (IsBlockIn nest n)) (option_of b) (else_toks b)
   else-formed nest n Unwritten room h = refl
   else-formed nest n (Written b) room h = record { back = block_toks b; is = refl; formed = block-of nest n b room (λ m le. each-formed nest m b le h) }
 

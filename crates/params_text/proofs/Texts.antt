@@ -6,7 +6,7 @@ use Rattle.work_text.specs.Lexis as lexis
 use Rattle.work_text.specs.Tok.{Tok, name, symbol}
 use Rattle.work_text.specs.declared.sign.Symbol.TheVariants as s
 use Rattle.work_text.proofs.Spelled.{is_name_text, spells-whole}
-use Rattle.params_text.proofs.Insides.{Inside, all_first}
+use Rattle.work_text.proofs.Insides.{Inside, all_first}
 use Rattle.streamit_text.specs.Program.{Body, AFilter, APipeline, ASplitJoin, Declared, Program}
 use Rattle.streamit_text.specs.Grammar.{IsText, IsSome, AreUnits}
 use Rattle.streamit_text.proofs.Texts.{one_program}
@@ -36,7 +36,9 @@ braces-whole : (k rest : List Tok) → Inside k → is_else rest ≡ false
     → cut 0 (symbol s.OpenBrace ∷ ((k ++ symbol s.CloseBrace ∷ []) ++ rest)) ≡ (symbol s.OpenBrace ∷ (k ++ symbol s.CloseBrace ∷ [])) ∷ cut 0 rest
 braces-whole k rest x none =
     opens ((k ++ symbol s.CloseBrace ∷ []) ++ rest)
-    ∙ ap (to_first (symbol s.OpenBrace)) (ap (cut 1) (append_assoc k (symbol s.CloseBrace ∷ []) rest) ∙ x.goes 0 (symbol s.CloseBrace ∷ rest) ∙ ap (all_first k) (closes rest none) ∙ all_first-one k (symbol s.CloseBrace ∷ []) (cut 0 rest))
+    ∙ ap (to_first (symbol s.OpenBrace))
+    (ap (cut 1) (append_assoc k (symbol s.CloseBrace ∷ []) rest) ∙ x.goes 0 (symbol s.CloseBrace ∷ rest) ∙ ap (all_first k) (closes rest none)
+    ∙ all_first-one k (symbol s.CloseBrace ∷ []) (cut 0 rest))
 
 head-cut : (kind n : List ℕ) (ts : List Tok) → cut 0 (name (codes "int") ∷ symbol s.Arrow ∷ name (codes "int") ∷ name kind ∷ name n ∷ ts)
     ≡ to_first (name (codes "int")) (to_first (symbol s.Arrow) (to_first (name (codes "int")) (to_first (name kind) (to_first (name n) (cut 0 ts)))))
@@ -46,7 +48,8 @@ head-cut kind n ts = refl
 unit-whole : (u : Declared) (rest : List Tok) → IsToldUnit u → is_else rest ≡ false → cut 0 (unit_toks u ++ rest) ≡ unit_toks u ∷ cut 0 rest
 unit-whole u rest h none =
     head-cut (kind_word u.body) u.name (symbol s.OpenBrace ∷ ((inner_toks u.body ++ symbol s.CloseBrace ∷ []) ++ rest))
-    ∙ ap (λ l. to_first (name (codes "int")) (to_first (symbol s.Arrow) (to_first (name (codes "int")) (to_first (name (kind_word u.body)) (to_first (name u.name) l)))))
+    ∙ ap (λ l. to_first (name (codes "int"))
+    (to_first (symbol s.Arrow) (to_first (name (codes "int")) (to_first (name (kind_word u.body)) (to_first (name u.name) l)))))
     (braces-whole (inner_toks u.body) rest (inner-piece u.body h.1).inside none)
 
 no_else : (p : Program) → is_else (units_toks p) ≡ false

@@ -91,7 +91,8 @@ exact-still ps n = exact-tested stay (exact-block ps n)
 exact-init : (ps : List (List ℕ)) (n : ℕ) → Exact (IsInit ps n) (init_at ps n) (No (codes "init"))
 unfolding init_at
 exact-init ps n =
-    exact-less (exact-seen or_unwritten (exact-maybe (parse.is_word_at (codes "init")) (exact-after_word (codes "init") (exact-still ps n)) (λ v ts rest h. rw h.is refl)))
+    exact-less (exact-seen or_unwritten
+    (exact-maybe (parse.is_word_at (codes "init")) (exact-after_word (codes "init") (exact-still ps n)) (λ v ts rest h. rw h.is refl)))
     (λ rest d. (tt, d))
 
 -- a block begins with a brace
@@ -106,7 +107,8 @@ exact-work ps n = exact-seen made_work (exact-both (exact-rates n) (exact-block 
 exact-prework : (ps : List (List ℕ)) (n : ℕ) → Exact (IsPrework ps n) (prework_at ps n) (No (codes "prework"))
 unfolding prework_at
 exact-prework ps n =
-    exact-less (exact-maybe (parse.is_word_at (codes "prework")) (exact-after_word (codes "prework") (exact-work ps n)) (λ v ts rest h. rw h.is refl)) (λ rest d. (tt, d))
+    exact-less (exact-maybe (parse.is_word_at (codes "prework")) (exact-after_word (codes "prework") (exact-work ps n)) (λ v ts rest h. rw h.is refl))
+    (λ rest d. (tt, d))
 
 exact-works : (ps : List (List ℕ)) (n : ℕ) → Exact (AreWorks ps n) (works_at ps n) Any
 unfolding works_at
@@ -147,12 +149,14 @@ exact-filter ps n = exact-enclosed s.OpenBrace s.CloseBrace (exact-in_filter ps)
 exact-parens : (n : ℕ) → Exact (Parens n) (parens_at n) NoOpen
 unfolding parens_at
 exact-parens n =
-    exact-less (exact-seen none_there (exact-maybe (parse.begins_with s.Open) (exact-empty n) (λ v ts rest h. round-begins (λ m. form.Nothing tt) n v ts rest h))) (λ rest d. (tt, d))
+    exact-less (exact-seen none_there
+    (exact-maybe (parse.begins_with s.Open) (exact-empty n) (λ v ts rest h. round-begins (λ m. form.Nothing tt) n v ts rest h))) (λ rest d. (tt, d))
 
 exact-split : (n : ℕ) → Exact (IsSplit n) (split_at n) Any
 unfolding split_at split_after
 exact-split n =
-    exact-after_word (codes "split") (exact-before (s.Semicolon ∷ []) (exact-headed (λ w. exact-choose (bytes_eq w (codes "duplicate")) (exact-seen copying (exact-parens n))
+    exact-after_word (codes "split")
+    (exact-before (s.Semicolon ∷ []) (exact-headed (λ w. exact-choose (bytes_eq w (codes "duplicate")) (exact-seen copying (exact-parens n))
     (exact-choose (bytes_eq w (codes "roundrobin")) (exact-seen Turns (exact-constants n)) exact-never))) (λ rest. refl))
 
 exact-join : (n : ℕ) → Exact (IsJoin n) (join_at n) Any
@@ -168,7 +172,8 @@ no-else : (n : ℕ) (v : Step) (ts : List Tok) → IsRest style holes 16 n (code
 unfolding IsRest
 no-else n v ts h = h
 
-other-word : (n : ℕ) (w word : List ℕ) (v : Step) (ts : List Tok) → IsRest style holes 16 n w v ts → (IsRest style holes 16 n word v ts → ⊥) → bytes_eq w word ≡ false
+other-word : (n : ℕ) (w word : List ℕ) (v : Step) (ts : List Tok) → IsRest style holes 16 n w v ts → (IsRest style holes 16 n word v ts → ⊥)
+    → bytes_eq w word ≡ false
 other-word n w word v ts h never = by (bytes_eq w word) refl where
   by : (b : Bool) → bytes_eq w word ≡ b → b ≡ false
   by false e = refl
@@ -224,7 +229,9 @@ body-begins n w ps v ts rest h = filters (bytes_eq w (codes "filter")) h where
   lines false g = joins (bytes_eq w (codes "splitjoin")) g
 
   filters : (b : Bool)
-      → form.Choose b (form.Seen AFilter (Braces (InFilter ps) n)) (form.Choose (bytes_eq w (codes "pipeline")) (form.Seen APipeline (IsPipe n)) (form.Choose (bytes_eq w (codes "splitjoin")) (Braces InBoth n) form.Never)) v ts
+      → form.Choose b (form.Seen AFilter (Braces (InFilter ps) n))
+      (form.Choose (bytes_eq w (codes "pipeline")) (form.Seen APipeline (IsPipe n))
+      (form.Choose (bytes_eq w (codes "splitjoin")) (Braces InBoth n) form.Never)) v ts
       → NoOpen (ts ++ rest)
   filters true g = braces-begin (InFilter ps) n g.value ts rest g.formed
   filters false g = lines (bytes_eq w (codes "pipeline")) g

@@ -10,7 +10,7 @@ use Rattle.text_forms.specs.Forms.{After, Many, Listing, Headed}
 use Rattle.streamit_text.specs.Tree.{Optional, Unwritten, Written}
 use Rattle.streamit_text.specs.Program.{WorkTree, FilterTree, Dealing, Copies, Turns, Adds, Body, AFilter, APipeline, ASplitJoin, Declared}
 use Rattle.streamit_text.specs.Grammar.{Weight, IsWork, IsPrework, IsInit, IsField, Rate, push, pop, peek, IsRate, Rates, unwritten, rates_in, AreRates, InFilter, Braces, Called, IsAdd, AreAdds, Weights, SplitAfter, IsSplit, IsJoin, InBoth, BodyAfter, IsUnit, stay_optional}
-use Rattle.params_text.proofs.Insides.{plain-Semicolon, plain-Comma}
+use Rattle.work_text.proofs.Insides.{plain-Semicolon, plain-Comma}
 use Rattle.params_text.specs.Toks.{block_toks, field_toks, fields_toks, init_toks, rate_toks, rates_toks, work_toks, prework_toks, filter_toks, add_toks, other_toks, adds_toks, more_numbers, numbers_toks, weights_toks, dealing_toks, split_toks, join_toks, kind_word, inner_toks, unit_toks}
 use Rattle.params_text.specs.Told.{IsOwnName, AreOwnNames, IsToldRate, IsToldOptional, IsToldWork, IsToldPrework, IsToldFilter, AreToldAdds, AreToldNumbers, AreToldWeights, IsToldDealing, IsToldBody, IsToldUnit}
 use Rattle.params_text.proofs.Good.{IsPiece, piece-nothing, piece-then, piece-symbol, piece-name, piece-number, piece-last}
@@ -65,7 +65,8 @@ work-piece : (w : WorkTree) → IsToldWork w → IsPiece (work_toks w)
 work-piece w h =
     piece-then (rates_toks w) (block_toks w.block)
     (piece-then (rate_toks (codes "push") w.push) _ (rate-piece (codes "push") w.push push_is h.push)
-    (piece-then (rate_toks (codes "pop") w.pop) (rate_toks (codes "peek") w.peek) (rate-piece (codes "pop") w.pop pop_is h.pop) (rate-piece (codes "peek") w.peek peek_is h.peek)))
+    (piece-then (rate_toks (codes "pop") w.pop) (rate_toks (codes "peek") w.peek) (rate-piece (codes "pop") w.pop pop_is h.pop)
+    (rate-piece (codes "peek") w.peek peek_is h.peek)))
     (block-piece 16 w.block h.block)
 
 prework-piece : (o : Option WorkTree) → IsToldPrework o → IsPiece (prework_toks o)
@@ -76,7 +77,8 @@ filter-piece : (t : FilterTree) → IsToldFilter t → IsPiece (filter_toks t)
 filter-piece t h =
     piece-then (fields_toks t.fields) _ (fields-piece t.fields h.fields)
     (piece-then (init_toks t.init) _ (init t.init h.init)
-    (piece-then (prework_toks t.prework) _ (prework-piece t.prework h.prework) (piece-name (codes "work") work_is (work_toks t.work) (work-piece t.work h.work))))
+    (piece-then (prework_toks t.prework) _ (prework-piece t.prework h.prework)
+    (piece-name (codes "work") work_is (work_toks t.work) (work-piece t.work h.work))))
   where
     init : (b : Optional) → IsToldOptional 16 b → IsPiece (init_toks b)
     init Unwritten h = piece-nothing
@@ -116,7 +118,8 @@ inner-piece (APipeline a) h = adds-piece a h
 inner-piece (ASplitJoin d a ws) h =
     piece-then (split_toks d) _ (piece-name (codes "split") split_is _ (piece-last s.Semicolon plain-Semicolon (dealing_toks d) (dealing-piece d h.0)))
     (piece-then (adds_toks a) (join_toks ws) (adds-piece a h.1)
-    (piece-name (codes "join") join_is _ (piece-name (codes "roundrobin") roundrobin_is _ (piece-last s.Semicolon plain-Semicolon (weights_toks ws) (weights-piece ws h.2)))))
+    (piece-name (codes "join") join_is _
+    (piece-name (codes "roundrobin") roundrobin_is _ (piece-last s.Semicolon plain-Semicolon (weights_toks ws) (weights-piece ws h.2)))))
 
 -- THEY ARE IN THE GRAMMAR
 
@@ -137,7 +140,12 @@ fields-formed (f ∷ fs) h = (
 init-formed : (n : ℕ) (b : Optional) → 82 ≤ n → IsToldOptional 16 b → stay_optional b ≡ true → IsInit n b (init_toks b)
 init-formed n Unwritten room h k = record { value = None; is = refl; formed = refl }
 init-formed n (Written b) room h k =
-    record { value = Some b; is = refl; formed = record { back = block_toks b; is = refl; formed = record { passes = k; formed = block-formed n b (omega (arith, room)) h } } }
+    record {
+      value = Some b;
+      is = refl;
+      formed =
+          record { back = block_toks b; is = refl; formed = record { passes = k; formed = block-formed n b (omega (arith, room)) h } };
+    }
 
 count-true : (n : ℕ) → n ≤ 4294967295 → is_count n ≡ true
 count-true n h = grind arith
@@ -152,7 +160,13 @@ push-formed (Some n) h = (
   name (codes "push") ∷ number n ∷ [],
   [],
   refl,
-  record { word = codes "push"; back = number n ∷ []; is = refl; formed = record { value = n; is = refl; formed = record { passes = count-true n h; formed = refl } } },
+  record {
+    word = codes "push";
+    back = number n ∷ [];
+    is = refl;
+    formed =
+        record { value = n; is = refl; formed = record { passes = count-true n h; formed = refl } };
+  },
   refl,
 )
 
@@ -162,7 +176,13 @@ pop-formed (Some n) h = (
   name (codes "pop") ∷ number n ∷ [],
   [],
   refl,
-  record { word = codes "pop"; back = number n ∷ []; is = refl; formed = record { value = n; is = refl; formed = record { passes = count-true n h; formed = refl } } },
+  record {
+    word = codes "pop";
+    back = number n ∷ [];
+    is = refl;
+    formed =
+        record { value = n; is = refl; formed = record { passes = count-true n h; formed = refl } };
+  },
   refl,
 )
 
@@ -172,7 +192,13 @@ peek-formed (Some n) h = (
   name (codes "peek") ∷ number n ∷ [],
   [],
   refl,
-  record { word = codes "peek"; back = number n ∷ []; is = refl; formed = record { value = n; is = refl; formed = record { passes = count-true n h; formed = refl } } },
+  record {
+    word = codes "peek";
+    back = number n ∷ [];
+    is = refl;
+    formed =
+        record { value = n; is = refl; formed = record { passes = count-true n h; formed = refl } };
+  },
   refl,
 )
 
@@ -195,7 +221,8 @@ rates-formed t h = record {
   is = all-rates t.push t.pop t.peek;
   formed =
       each-append IsRate (rate_list push t.push) _ (rate_toks (codes "push") t.push) _ (push-formed t.push h.push)
-      (each-append IsRate (rate_list pop t.pop) (rate_list peek t.peek) (rate_toks (codes "pop") t.pop) (rate_toks (codes "peek") t.peek) (pop-formed t.pop h.pop) (peek-formed t.peek h.peek));
+      (each-append IsRate (rate_list pop t.pop) (rate_list peek t.peek) (rate_toks (codes "pop") t.pop) (rate_toks (codes "peek") t.peek)
+      (pop-formed t.pop h.pop) (peek-formed t.peek h.peek));
 }
 
 work-formed : (n : ℕ) (w : WorkTree) → 82 ≤ n → IsToldWork w → IsWork n w (work_toks w)

@@ -4,6 +4,8 @@ ghost use Rattle.std.specs.Borrow.{sem};
 ghost use Rattle.std.specs.Slice.Iter.{iter_rest};
 ghost use Rattle.std.specs.Iterator.Adapters.{IterYieldsInOrder, IterYieldsInReverse};
 ghost use Rattle.std.specs.Cmp.Lexicographic.{pointwise, lists_per};
+ghost use Rattle.std.specs.Hash as fed;
+ghost use Rattle.std.specs.Hash.{items_Alike};
 ghost use Rattle.std.specs.List.Sorted.{IsPermutation, IsSorted};
 ghost use Rattle.std.proofs.lemmas.Cmp.{lists_equiv};
 ghost use Rattle.river_base.specs.Row.{row_cmp, in_order};
@@ -11,6 +13,7 @@ ghost use Rattle.river_base.specs.Instants.{each_once};
 
 use crate::{NoMemory, Row};
 use std::alloc::Global;
+use std::hash::{Hash, Hasher};
 use std::marker::Model;
 use std::slice;
 
@@ -251,4 +254,14 @@ impl<T: PartialEq> PartialEq for Listed<T> {
 
 impl<T: Eq> Eq for Listed<T> {
     ghost laws = { lists_equiv T.Eq.laws };
+}
+
+impl<T: Hash> Hash for Listed<T> {
+    ghost hash_input = { λ list. fed.slice T.hash_input list };
+
+    ghost respects_eq = { (items_Alike (record { fed = T.respects_eq })).fed };
+
+    fn hash<H: Hasher>(&self, state: &mut H) {
+        self.items.hash(state);
+    }
 }

@@ -34,7 +34,8 @@ use Rattle.river_print.proofs.Terms.{term-item, body_toks, body-piece, body-form
 -- items in round brackets at the end
 pub list-last : (bs : List (List ℕ)) (ts : List (List Tok)) → AllPieces bs ts → Piece (list_text bs) (symbol s.Open ∷ (items_toks ts ++ symbol s.Close ∷ []))
 list-last bs ts h =
-    subst (λ (l : List ℕ). Piece l (symbol s.Open ∷ (items_toks ts ++ symbol s.Close ∷ []))) (append-nil (list_text bs)) (list-first bs ts [] [] h piece-nothing)
+    subst (λ (l : List ℕ). Piece l (symbol s.Open ∷ (items_toks ts ++ symbol s.Close ∷ []))) (append-nil (list_text bs))
+    (list-first bs ts [] [] h piece-nothing)
 
 -- the tokens of a list, before others
 abbrev pub listed : List (List Tok) → List Tok → List Tok
@@ -49,10 +50,12 @@ counts-pieces ns h = pieces form.Count decimal count_tok w.IsCount count-item ns
 abbrev run_toks : List ℤ → Steps → List Tok
 run_toks starts steps = listed (map start_tok starts) (body_toks steps)
 
-run-piece : (starts : List ℤ) (steps : Steps) → w.Every w.IsWritableStart starts → w.AreWritableSteps steps → Piece (run_text starts steps) (run_toks starts steps)
+run-piece : (starts : List ℤ) (steps : Steps) → w.Every w.IsWritableStart starts → w.AreWritableSteps steps
+    → Piece (run_text starts steps) (run_toks starts steps)
 run-piece starts steps h b =
     blank-first (starts_text starts ++ (codes " " ++ body_text steps)) (run_toks starts steps)
-    (list-first (map start_text starts) (map start_tok starts) (codes " " ++ body_text steps) (body_toks steps) (pieces g.Signed start_text start_tok w.IsWritableStart start-item starts h)
+    (list-first (map start_text starts) (map start_tok starts) (codes " " ++ body_text steps) (body_toks steps)
+    (pieces g.Signed start_text start_tok w.IsWritableStart start-item starts h)
     (blank-first (body_text steps) (body_toks steps) (body-piece steps b)))
 
 -- a first run of its own, or none
@@ -95,7 +98,8 @@ kernel_toks kern.cross = name (codes "cross") ∷ []
 kernel_toks (kern.streamer x) = streamer_toks x
 kernel_toks kern.tally = name (codes "tally") ∷ []
 kernel_toks (kern.fused a b at) =
-    name (codes "fused") ∷ listed (count_tok at ∷ []) ((symbol s.OpenBrace ∷ (kernel_toks a ++ symbol s.CloseBrace ∷ [])) ++ symbol s.OpenBrace ∷ (kernel_toks b ++ symbol s.CloseBrace ∷ []))
+    name (codes "fused") ∷ listed (count_tok at ∷ [])
+    ((symbol s.OpenBrace ∷ (kernel_toks a ++ symbol s.CloseBrace ∷ [])) ++ symbol s.OpenBrace ∷ (kernel_toks b ++ symbol s.CloseBrace ∷ []))
 
 -- ---- the text has these tokens
 
@@ -214,11 +218,17 @@ code-piece c h =
     let outs = map value_tok c.outs in
     let run : Piece (run_text c.starts c.body.steps) (run_toks c.starts c.body.steps) = run-piece c.starts c.body.steps h.3 h.4.0 in
     let widths : Piece (values_text c.outs ++ run_text c.starts c.body.steps) (listed outs (run_toks c.starts c.body.steps)) =
-    list-first (map signed_decimal c.outs) outs (run_text c.starts c.body.steps) (run_toks c.starts c.body.steps) (pieces g.Width signed_decimal value_tok w.IsWidth width-item c.outs h.2) run in
-    let sizes : Piece (list_text (decimal c.body.inputs ∷ decimal c.body.slots ∷ []) ++ (codes " " ++ (values_text c.outs ++ run_text c.starts c.body.steps))) (listed (counts (c.body.inputs ∷ c.body.slots ∷ [])) (listed outs (run_toks c.starts c.body.steps))) =
-    list-first (decimal c.body.inputs ∷ decimal c.body.slots ∷ []) (counts (c.body.inputs ∷ c.body.slots ∷ [])) (codes " " ++ (values_text c.outs ++ run_text c.starts c.body.steps)) (listed outs (run_toks c.starts c.body.steps))
-    (counts-pieces (c.body.inputs ∷ c.body.slots ∷ []) (h.0, (h.1, tt))) (blank-first (values_text c.outs ++ run_text c.starts c.body.steps) (listed outs (run_toks c.starts c.body.steps)) widths) in
-    word-first (codes "code") (list_text (decimal c.body.inputs ∷ decimal c.body.slots ∷ []) ++ (codes " " ++ (values_text c.outs ++ run_text c.starts c.body.steps))) (listed (counts (c.body.inputs ∷ c.body.slots ∷ [])) (listed outs (run_toks c.starts c.body.steps))) is_code sizes
+    list-first (map signed_decimal c.outs) outs (run_text c.starts c.body.steps) (run_toks c.starts c.body.steps)
+    (pieces g.Width signed_decimal value_tok w.IsWidth width-item c.outs h.2) run in
+    let sizes : Piece (list_text (decimal c.body.inputs ∷ decimal c.body.slots ∷ []) ++ (codes " " ++ (values_text c.outs ++ run_text c.starts c.body.steps)))
+    (listed (counts (c.body.inputs ∷ c.body.slots ∷ [])) (listed outs (run_toks c.starts c.body.steps))) =
+    list-first (decimal c.body.inputs ∷ decimal c.body.slots ∷ []) (counts (c.body.inputs ∷ c.body.slots ∷ []))
+    (codes " " ++ (values_text c.outs ++ run_text c.starts c.body.steps)) (listed outs (run_toks c.starts c.body.steps))
+    (counts-pieces (c.body.inputs ∷ c.body.slots ∷ []) (h.0, (h.1, tt)))
+    (blank-first (values_text c.outs ++ run_text c.starts c.body.steps) (listed outs (run_toks c.starts c.body.steps)) widths) in
+    word-first (codes "code")
+    (list_text (decimal c.body.inputs ∷ decimal c.body.slots ∷ []) ++ (codes " " ++ (values_text c.outs ++ run_text c.starts c.body.steps)))
+    (listed (counts (c.body.inputs ∷ c.body.slots ∷ [])) (listed outs (run_toks c.starts c.body.steps))) is_code sizes
     (ends-open _)
 
 first-piece : (slots : ℕ) (r : RunForm) → w.IsWritableRun slots r → Piece (first_text r) (first_toks r)
@@ -228,7 +238,8 @@ first-piece slots r h =
     list-first (map decimal ns) (counts ns) (codes " " ++ body_text r.body.steps) (body_toks r.body.steps) (counts-pieces ns (h.0, (h.1, (h.2, tt))))
     (blank-first (body_text r.body.steps) (body_toks r.body.steps) (body-piece r.body.steps h.3.0)) in
     blank-first (codes "first" ++ (list_text (map decimal ns) ++ (codes " " ++ body_text r.body.steps))) (first_toks r)
-    (word-first (codes "first") (list_text (map decimal ns) ++ (codes " " ++ body_text r.body.steps)) (listed (counts ns) (body_toks r.body.steps)) is_first rates
+    (word-first (codes "first") (list_text (map decimal ns) ++ (codes " " ++ body_text r.body.steps))
+    (listed (counts ns) (body_toks r.body.steps)) is_first rates
     (ends-open _))
 
 firsts-piece : (slots : ℕ) (o : Option RunForm) → w.IsWritableFirst slots o → Piece (firsts_text o) (firsts_toks o)
@@ -246,7 +257,8 @@ filter-piece f h =
     let text : List ℕ = run_text f.starts f.body.steps ++ firsts_text f.first in
     let toks : List Tok = run_toks f.starts f.body.steps ++ firsts_toks f.first in
     let runs : Piece text toks =
-    piece-then (run_text f.starts f.body.steps) (run_toks f.starts f.body.steps) (firsts_text f.first) (firsts_toks f.first) (run-piece f.starts f.body.steps h.4 h.5.0)
+    piece-then (run_text f.starts f.body.steps) (run_toks f.starts f.body.steps) (firsts_text f.first) (firsts_toks f.first)
+    (run-piece f.starts f.body.steps h.4 h.5.0)
     (firsts-piece f.body.slots f.first h.7) (firsts-ends f.first) in
     word-first (codes "filter") (list_text (map decimal ns) ++ text) (listed (counts ns) toks) is_filter
     (list-first (map decimal ns) (counts ns) text toks (counts-pieces ns (h.0, (h.1, (h.2, (h.3, tt))))) runs)
@@ -255,8 +267,10 @@ filter-piece f h =
 packed-piece : (k : Kern) → Piece (kernel_text k) (kernel_toks k) → Piece (kernel_text (kern.packed k)) (kernel_toks (kern.packed k))
 unfolding kernel_toks
 packed-piece k p =
-    word-first (codes "packed") (codes " " ++ (codes "{ " ++ (kernel_text k ++ codes " }"))) (symbol s.OpenBrace ∷ (kernel_toks k ++ symbol s.CloseBrace ∷ [])) is_packed
-    (blank-first (codes "{ " ++ (kernel_text k ++ codes " }")) (symbol s.OpenBrace ∷ (kernel_toks k ++ symbol s.CloseBrace ∷ [])) (braced (kernel_text k) (kernel_toks k) p))
+    word-first (codes "packed") (codes " " ++ (codes "{ " ++ (kernel_text k ++ codes " }")))
+    (symbol s.OpenBrace ∷ (kernel_toks k ++ symbol s.CloseBrace ∷ [])) is_packed
+    (blank-first (codes "{ " ++ (kernel_text k ++ codes " }")) (symbol s.OpenBrace ∷ (kernel_toks k ++ symbol s.CloseBrace ∷ []))
+    (braced (kernel_text k) (kernel_toks k) p))
     (ends-blank (codes "{ " ++ (kernel_text k ++ codes " }")))
 
 fused-piece : (a b : Kern) (at : ℕ) → w.IsCount at → Piece (kernel_text a) (kernel_toks a) → Piece (kernel_text b) (kernel_toks b)
@@ -268,13 +282,16 @@ fused-piece a b at count p q =
     let first_toks : List Tok = symbol s.OpenBrace ∷ (kernel_toks a ++ symbol s.CloseBrace ∷ []) in
     let second_toks : List Tok = symbol s.OpenBrace ∷ (kernel_toks b ++ symbol s.CloseBrace ∷ []) in
     let both : Piece (first ++ (codes " " ++ second)) (first_toks ++ second_toks) =
-    piece-then first first_toks (codes " " ++ second) second_toks (braced (kernel_text a) (kernel_toks a) p) (blank-first second second_toks (braced (kernel_text b) (kernel_toks b) q)) (ends-blank second) in
+    piece-then first first_toks (codes " " ++ second) second_toks (braced (kernel_text a) (kernel_toks a) p)
+    (blank-first second second_toks (braced (kernel_text b) (kernel_toks b) q)) (ends-blank second) in
     let regroup : codes " " ++ (first ++ (codes " " ++ second)) ≡ codes " { " ++ (kernel_text a ++ (codes " } { " ++ (kernel_text b ++ codes " }"))) =
     ap (λ (l : List ℕ). codes " { " ++ l) (append_assoc (kernel_text a) (codes " }") (codes " " ++ second)) in
     let behind : Piece (codes " { " ++ (kernel_text a ++ (codes " } { " ++ (kernel_text b ++ codes " }")))) (first_toks ++ second_toks) =
     subst (λ (l : List ℕ). Piece l (first_toks ++ second_toks)) regroup (blank-first (first ++ (codes " " ++ second)) (first_toks ++ second_toks) both) in
-    word-first (codes "fused") (list_text (decimal at ∷ []) ++ (codes " { " ++ (kernel_text a ++ (codes " } { " ++ (kernel_text b ++ codes " }"))))) (listed (count_tok at ∷ []) (first_toks ++ second_toks)) is_fused
-    (list-first (decimal at ∷ []) (count_tok at ∷ []) (codes " { " ++ (kernel_text a ++ (codes " } { " ++ (kernel_text b ++ codes " }")))) (first_toks ++ second_toks) (one_count at count) behind)
+    word-first (codes "fused") (list_text (decimal at ∷ []) ++ (codes " { " ++ (kernel_text a ++ (codes " } { " ++ (kernel_text b ++ codes " }")))))
+    (listed (count_tok at ∷ []) (first_toks ++ second_toks)) is_fused
+    (list-first (decimal at ∷ []) (count_tok at ∷ []) (codes " { " ++ (kernel_text a ++ (codes " } { " ++ (kernel_text b ++ codes " }"))))
+    (first_toks ++ second_toks) (one_count at count) behind)
     (ends-open _)
 
 -- the text of a kernel spells its tokens
@@ -292,7 +309,8 @@ kernel-piece (kern.unpack n) h = worded (codes "unpack") (decimal n ∷ []) (cou
 kernel-piece (kern.window x) h = window-piece x h
 kernel-piece (kern.select e) h = worded (codes "select") (text_of e ∷ []) (printed e ∷ []) is_select ((term-item 64 (omega arith) e h).piece, tt)
 kernel-piece (kern.project es) h =
-    worded (codes "project") (map text_of es) (map printed es) is_project (pieces (exprs.IsTerm 64) text_of printed w.IsWritableTerm (term-item 64 (omega arith)) es h.1)
+    worded (codes "project") (map text_of es) (map printed es) is_project
+    (pieces (exprs.IsTerm 64) text_of printed w.IsWritableTerm (term-item 64 (omega arith)) es h.1)
 kernel-piece kern.cross h = lone (codes "cross") is_cross
 kernel-piece (kern.streamer x) h = streamer-piece x
 kernel-piece kern.tally h = lone (codes "tally") is_tally
@@ -300,12 +318,22 @@ kernel-piece (kern.fused a b at) h = fused-piece a b at h.0 (kernel-piece a h.1)
 
 -- ---- these tokens stand for the kernel
 
-pair-formed : (a b : ℕ) → w.IsCount a → w.IsCount b → form.Both form.Count (form.After (s.Comma ∷ []) form.Count) (a, b) (number a ∷ symbol s.Comma ∷ number b ∷ [])
+pair-formed : (a b : ℕ) → w.IsCount a → w.IsCount b
+    → form.Both form.Count (form.After (s.Comma ∷ []) form.Count) (a, b) (number a ∷ symbol s.Comma ∷ number b ∷ [])
 pair-formed a b x y =
-    record { front = number a ∷ []; back = symbol s.Comma ∷ number b ∷ []; is = refl; first = count-formed a x; second = record { back = number b ∷ []; is = refl; formed = count-formed b y } }
+    record {
+      front = number a ∷ [];
+      back = symbol s.Comma ∷ number b ∷ [];
+      is = refl;
+      first = count-formed a x;
+      second =
+          record { back = number b ∷ []; is = refl; formed = count-formed b y };
+    }
 
 four-formed : (a b c d : ℕ) → w.IsCount a → w.IsCount b → w.IsCount c → w.IsCount d
-    → form.Both form.Count (form.After (s.Comma ∷ []) (form.Both form.Count (form.After (s.Comma ∷ []) (form.Both form.Count (form.After (s.Comma ∷ []) form.Count))))) (a, (b, (c, d))) (number a ∷ symbol s.Comma ∷ number b ∷ symbol s.Comma ∷ number c ∷ symbol s.Comma ∷ number d ∷ [])
+    → form.Both form.Count
+    (form.After (s.Comma ∷ []) (form.Both form.Count (form.After (s.Comma ∷ []) (form.Both form.Count (form.After (s.Comma ∷ []) form.Count)))))
+    (a, (b, (c, d))) (number a ∷ symbol s.Comma ∷ number b ∷ symbol s.Comma ∷ number c ∷ symbol s.Comma ∷ number d ∷ [])
 four-formed a b c d x y z u = record {
   front = number a ∷ [];
   back = symbol s.Comma ∷ number b ∷ symbol s.Comma ∷ number c ∷ symbol s.Comma ∷ number d ∷ [];
@@ -336,7 +364,8 @@ runs n = form.Both (g.IsStarts n) (bodies.IsBody 16 n)
 run-formed : (m : ℕ) (starts : List ℤ) (steps : Steps) → w.Every w.IsWritableStart starts → w.IsWritableBody steps → 81 ≤ m
     → runs (suc m) (starts, steps) (run_toks starts steps)
 run-formed m starts steps h b room =
-    list-then (λ k. form.Listing g.Signed) (bodies.IsBody 16 (suc m)) m starts steps (items_toks (map start_tok starts)) (body_toks steps) (items-listing g.Signed start_text start_tok w.IsWritableStart start-item starts h) (body-formed 16 (suc m) steps b.0 b.1 (omega arith))
+    list-then (λ k. form.Listing g.Signed) (bodies.IsBody 16 (suc m)) m starts steps (items_toks (map start_tok starts)) (body_toks steps)
+    (items-listing g.Signed start_text start_tok w.IsWritableStart start-item starts h) (body-formed 16 (suc m) steps b.0 b.1 (omega arith))
 
 code-formed : (m : ℕ) (c : CodeForm) → w.IsWritableCode c → 81 ≤ m
     → g.IsCode (suc m) (kern.code c) (listed (counts (c.body.inputs ∷ c.body.slots ∷ [])) (listed (map value_tok c.outs) (run_toks c.starts c.body.steps)))
@@ -344,14 +373,18 @@ code-formed m c h room = record {
   value = ((c.body.inputs, c.body.slots), (c.outs, (c.starts, c.body.steps)));
   is = refl;
   formed =
-      list-then (λ k. form.Both form.Count (form.After (s.Comma ∷ []) form.Count)) (form.Both (Round (λ k. form.Listing g.Width) (suc m)) (runs (suc m))) m (c.body.inputs, c.body.slots) (c.outs, (c.starts, c.body.steps))
-      (number c.body.inputs ∷ symbol s.Comma ∷ number c.body.slots ∷ []) (listed (map value_tok c.outs) (run_toks c.starts c.body.steps)) (pair-formed c.body.inputs c.body.slots h.0 h.1)
-      (list-then (λ k. form.Listing g.Width) (runs (suc m)) m c.outs (c.starts, c.body.steps) (items_toks (map value_tok c.outs)) (run_toks c.starts c.body.steps)
+      list-then (λ k. form.Both form.Count (form.After (s.Comma ∷ []) form.Count)) (form.Both (Round (λ k. form.Listing g.Width) (suc m)) (runs (suc m))) m
+      (c.body.inputs, c.body.slots) (c.outs, (c.starts, c.body.steps))
+      (number c.body.inputs ∷ symbol s.Comma ∷ number c.body.slots ∷ []) (listed (map value_tok c.outs) (run_toks c.starts c.body.steps))
+      (pair-formed c.body.inputs c.body.slots h.0 h.1)
+      (list-then (λ k. form.Listing g.Width) (runs (suc m)) m c.outs (c.starts, c.body.steps) (items_toks (map value_tok c.outs))
+      (run_toks c.starts c.body.steps)
       (items-listing g.Width signed_decimal value_tok w.IsWidth width-item c.outs h.2) (run-formed m c.starts c.body.steps h.3 h.4 room));
 }
 
 three-formed : (a b c : ℕ) → w.IsCount a → w.IsCount b → w.IsCount c
-    → form.Both form.Count (form.After (s.Comma ∷ []) (form.Both form.Count (form.After (s.Comma ∷ []) form.Count))) (a, (b, c)) (number a ∷ symbol s.Comma ∷ number b ∷ symbol s.Comma ∷ number c ∷ [])
+    → form.Both form.Count (form.After (s.Comma ∷ []) (form.Both form.Count (form.After (s.Comma ∷ []) form.Count))) (a, (b, c))
+    (number a ∷ symbol s.Comma ∷ number b ∷ symbol s.Comma ∷ number c ∷ [])
 three-formed a b c x y z = record {
   front = number a ∷ [];
   back = symbol s.Comma ∷ number b ∷ symbol s.Comma ∷ number c ∷ [];
@@ -364,13 +397,16 @@ three-formed a b c x y z = record {
 abbrev parts_of : RunForm → g.FirstParts
 parts_of r = ((r.peek, (r.pop, r.push)), r.body.steps)
 
-first-formed : (m slots : ℕ) (r : RunForm) → w.IsWritableRun slots r → 81 ≤ m → form.AfterWord (codes "first") (g.AreFirstParts (suc m)) (parts_of r) (first_toks r)
+first-formed : (m slots : ℕ) (r : RunForm) → w.IsWritableRun slots r → 81 ≤ m
+    → form.AfterWord (codes "first") (g.AreFirstParts (suc m)) (parts_of r) (first_toks r)
 first-formed m slots r h room = record {
   back = listed (counts (r.peek ∷ r.pop ∷ r.push ∷ [])) (body_toks r.body.steps);
   is = refl;
   formed =
-      list-then (λ k. form.Both form.Count (form.After (s.Comma ∷ []) (form.Both form.Count (form.After (s.Comma ∷ []) form.Count)))) (bodies.IsBody 16 (suc m)) m (r.peek, (r.pop, r.push)) r.body.steps
-      (number r.peek ∷ symbol s.Comma ∷ number r.pop ∷ symbol s.Comma ∷ number r.push ∷ []) (body_toks r.body.steps) (three-formed r.peek r.pop r.push h.0 h.1 h.2)
+      list-then (λ k. form.Both form.Count (form.After (s.Comma ∷ []) (form.Both form.Count (form.After (s.Comma ∷ []) form.Count))))
+      (bodies.IsBody 16 (suc m)) m (r.peek, (r.pop, r.push)) r.body.steps
+      (number r.peek ∷ symbol s.Comma ∷ number r.pop ∷ symbol s.Comma ∷ number r.push ∷ []) (body_toks r.body.steps)
+      (three-formed r.peek r.pop r.push h.0 h.1 h.2)
       (body-formed 16 (suc m) r.body.steps h.3.0 h.3.1 (omega arith));
 }
 
@@ -401,8 +437,10 @@ runs-formed m slots starts steps o h b f room =
     record {
       front = ts;
       back = body_toks steps ++ firsts_toks o;
-      is = ap (λ (l : List Tok). l ++ firsts_toks o) (behind_round (items_toks (map start_tok starts)) (body_toks steps)) ∙ append_assoc ts (body_toks steps) (firsts_toks o);
-      first = round-formed (λ k. form.Listing g.Signed) m starts (items_toks (map start_tok starts)) (items-listing g.Signed start_text start_tok w.IsWritableStart start-item starts h);
+      is = ap (λ (l : List Tok). l ++ firsts_toks o) (behind_round (items_toks (map start_tok starts)) (body_toks steps))
+          ∙ append_assoc ts (body_toks steps) (firsts_toks o);
+      first = round-formed (λ k. form.Listing g.Signed) m starts (items_toks (map start_tok starts))
+          (items-listing g.Signed start_text start_tok w.IsWritableStart start-item starts h);
       second = record {
         front = body_toks steps;
         back = firsts_toks o;
@@ -416,11 +454,32 @@ filter-formed : (m : ℕ) (f : FilterForm) → w.IsWritableFilter f → 81 ≤ m
 filter-formed m f h room = record {
   value = ((f.peek, (f.pop, (f.push, f.body.slots))), (f.starts, (f.body.steps, optional parts_of f.first)));
   is =
-      ap (λ (k : ℕ). kern.filter (record { peek = f.peek; pop = f.pop; push = f.push; body = record { inputs = k; slots = f.body.slots; steps = f.body.steps }; starts = f.starts; first = f.first })) h.6
-      ∙ ap (λ (o : Option RunForm). kern.filter (record { peek = f.peek; pop = f.pop; push = f.push; body = record { inputs = f.peek; slots = f.body.slots; steps = f.body.steps }; starts = f.starts; first = o })) (runs-are f.body.slots f.first h.7);
+      ap (λ (k : ℕ). kern.filter
+      (record {
+        peek = f.peek;
+        pop = f.pop;
+        push = f.push;
+        body = record { inputs = k; slots = f.body.slots; steps = f.body.steps };
+        starts =
+            f.starts;
+        first = f.first;
+      })) h.6
+      ∙ ap (λ (o : Option RunForm). kern.filter
+      (record {
+        peek = f.peek;
+        pop = f.pop;
+        push = f.push;
+        body = record { inputs = f.peek; slots = f.body.slots; steps = f.body.steps };
+        starts =
+            f.starts;
+        first = o;
+      })) (runs-are f.body.slots f.first h.7);
   formed =
-      list-then (λ k. form.Both form.Count (form.After (s.Comma ∷ []) (form.Both form.Count (form.After (s.Comma ∷ []) (form.Both form.Count (form.After (s.Comma ∷ []) form.Count)))))) (filter_runs (suc m)) m (f.peek, (f.pop, (f.push, f.body.slots))) (f.starts, (f.body.steps, optional parts_of f.first))
-      (number f.peek ∷ symbol s.Comma ∷ number f.pop ∷ symbol s.Comma ∷ number f.push ∷ symbol s.Comma ∷ number f.body.slots ∷ []) (run_toks f.starts f.body.steps ++ firsts_toks f.first) (four-formed f.peek f.pop f.push f.body.slots h.0 h.1 h.2 h.3)
+      list-then (λ k. form.Both form.Count
+      (form.After (s.Comma ∷ []) (form.Both form.Count (form.After (s.Comma ∷ []) (form.Both form.Count (form.After (s.Comma ∷ []) form.Count))))))
+      (filter_runs (suc m)) m (f.peek, (f.pop, (f.push, f.body.slots))) (f.starts, (f.body.steps, optional parts_of f.first))
+      (number f.peek ∷ symbol s.Comma ∷ number f.pop ∷ symbol s.Comma ∷ number f.push ∷ symbol s.Comma ∷ number f.body.slots ∷ [])
+      (run_toks f.starts f.body.steps ++ firsts_toks f.first) (four-formed f.peek f.pop f.push f.body.slots h.0 h.1 h.2 h.3)
       (runs-formed m f.body.slots f.starts f.body.steps f.first h.4 h.5 h.7 room);
 }
 
@@ -428,10 +487,22 @@ window-formed : (m : ℕ) (x : Window) → w.IsWritableWindow x → g.IsKernel (
 unfolding window_toks
 window-formed m Now h = record { word = codes "now"; back = []; is = refl; formed = (refl, refl) }
 window-formed m (Range t) h =
-    record { word = codes "range"; back = listed (value_tok t ∷ []) []; is = refl; formed = record { value = t; is = refl; formed = round-formed (λ k. form.Value) m t (value_tok t) ((value-item t h).formed) } }
+    record {
+      word = codes "range";
+      back = listed (value_tok t ∷ []) [];
+      is = refl;
+      formed =
+          record { value = t; is = refl; formed = round-formed (λ k. form.Value) m t (value_tok t) ((value-item t h).formed) };
+    }
 window-formed m Unbounded h = record { word = codes "unbounded"; back = []; is = refl; formed = (refl, refl) }
 window-formed m (Latest n) h =
-    record { word = codes "latest"; back = listed (count_tok n ∷ []) []; is = refl; formed = record { value = n; is = refl; formed = round-formed (λ k. form.Count) m n (count_tok n) (count-formed n h) } }
+    record {
+      word = codes "latest";
+      back = listed (count_tok n ∷ []) [];
+      is = refl;
+      formed =
+          record { value = n; is = refl; formed = round-formed (λ k. form.Count) m n (count_tok n) (count-formed n h) };
+    }
 
 streamer-formed : (m : ℕ) (x : Streamer) → g.IsKernel (suc m) (kern.streamer x) (streamer_toks x)
 unfolding streamer_toks
@@ -448,38 +519,122 @@ pub kernel-formed : (n : ℕ) (k : Kern) → w.IsWritableKernel k → nesting k 
 unfolding kernel_toks
 kernel-formed zero k h room = absurd (omega arith)
 kernel-formed (suc m) (kern.code c) h room =
-    record { word = codes "code"; back = listed (counts (c.body.inputs ∷ c.body.slots ∷ [])) (listed (map value_tok c.outs) (run_toks c.starts c.body.steps)); is = refl; formed = code-formed m c h (omega arith) }
+    record {
+      word = codes "code";
+      back =
+          listed (counts (c.body.inputs ∷ c.body.slots ∷ [])) (listed (map value_tok c.outs) (run_toks c.starts c.body.steps));
+      is = refl;
+      formed =
+          code-formed m c h (omega arith);
+    }
 kernel-formed (suc m) (kern.filter f) h room =
     record { word = codes "filter"; back = filter_toks f; is = refl; formed = filter-formed m f h (omega arith) }
 kernel-formed (suc m) (kern.duplicate n) h room =
-    record { word = codes "duplicate"; back = listed (count_tok n ∷ []) []; is = refl; formed = record { value = n; is = refl; formed = round-formed (λ k. form.Count) m n (count_tok n) (count-formed n h) } }
+    record {
+      word = codes "duplicate";
+      back = listed (count_tok n ∷ []) [];
+      is = refl;
+      formed =
+          record { value = n; is = refl; formed = round-formed (λ k. form.Count) m n (count_tok n) (count-formed n h) };
+    }
 kernel-formed (suc m) (kern.deal ws) h room =
-    record { word = codes "deal"; back = listed (map value_tok ws) []; is = refl; formed = record { value = ws; is = refl; formed = round-formed (λ k. form.Commas form.Value) m ws (items_toks (map value_tok ws)) (items-commas form.Value signed_decimal value_tok w.IsNatural value-item ws h.0 h.1) } }
+    record {
+      word = codes "deal";
+      back = listed (map value_tok ws) [];
+      is = refl;
+      formed =
+          record {
+            value = ws;
+            is = refl;
+            formed =
+                round-formed (λ k. form.Commas form.Value) m ws (items_toks (map value_tok ws))
+                (items-commas form.Value signed_decimal value_tok w.IsNatural value-item ws h.0 h.1);
+          };
+    }
 kernel-formed (suc m) (kern.collect ws) h room =
-    record { word = codes "collect"; back = listed (map value_tok ws) []; is = refl; formed = record { value = ws; is = refl; formed = round-formed (λ k. form.Commas form.Value) m ws (items_toks (map value_tok ws)) (items-commas form.Value signed_decimal value_tok w.IsNatural value-item ws h.0 h.1) } }
+    record {
+      word = codes "collect";
+      back = listed (map value_tok ws) [];
+      is = refl;
+      formed =
+          record {
+            value = ws;
+            is = refl;
+            formed =
+                round-formed (λ k. form.Commas form.Value) m ws (items_toks (map value_tok ws))
+                (items-commas form.Value signed_decimal value_tok w.IsNatural value-item ws h.0 h.1);
+          };
+    }
 kernel-formed (suc m) (kern.packed k) h room =
-    record { word = codes "packed"; back = symbol s.OpenBrace ∷ (kernel_toks k ++ symbol s.CloseBrace ∷ []); is = refl; formed = record { value = k; is = refl; formed = in_braces m k (kernel-formed m k h (omega arith)) } }
+    record {
+      word = codes "packed";
+      back = symbol s.OpenBrace ∷ (kernel_toks k ++ symbol s.CloseBrace ∷ []);
+      is = refl;
+      formed =
+          record { value = k; is = refl; formed = in_braces m k (kernel-formed m k h (omega arith)) };
+    }
 kernel-formed (suc m) (kern.unpack n) h room =
-    record { word = codes "unpack"; back = listed (count_tok n ∷ []) []; is = refl; formed = record { value = n; is = refl; formed = round-formed (λ k. form.Count) m n (count_tok n) (count-formed n h) } }
+    record {
+      word = codes "unpack";
+      back = listed (count_tok n ∷ []) [];
+      is = refl;
+      formed =
+          record { value = n; is = refl; formed = round-formed (λ k. form.Count) m n (count_tok n) (count-formed n h) };
+    }
 kernel-formed (suc m) (kern.window x) h room = window-formed m x h
 kernel-formed (suc m) (kern.select e) h room =
-    record { word = codes "select"; back = listed (printed e ∷ []) []; is = refl; formed = record { value = e; is = refl; formed = subst (λ (l : List Tok). Round exprs.IsTerm (suc m) e (symbol s.Open ∷ (l ++ symbol s.Close ∷ []))) (sym (append-nil (printed e))) (round-formed exprs.IsTerm m e (printed e) ((term-item m (omega arith) e h).formed)) } }
+    record {
+      word = codes "select";
+      back = listed (printed e ∷ []) [];
+      is = refl;
+      formed =
+          record {
+            value = e;
+            is = refl;
+            formed =
+                subst (λ (l : List Tok). Round exprs.IsTerm (suc m) e (symbol s.Open ∷ (l ++ symbol s.Close ∷ []))) (sym (append-nil (printed e)))
+                (round-formed exprs.IsTerm m e (printed e) ((term-item m (omega arith) e h).formed));
+          };
+    }
 kernel-formed (suc m) (kern.project es) h room =
-    record { word = codes "project"; back = listed (map printed es) []; is = refl; formed = record { value = es; is = refl; formed = round-formed (λ k. form.Commas (exprs.IsTerm k)) m es (items_toks (map printed es)) (items-commas (exprs.IsTerm m) text_of printed w.IsWritableTerm (term-item m (omega arith)) es h.0 h.1) } }
+    record {
+      word = codes "project";
+      back = listed (map printed es) [];
+      is = refl;
+      formed =
+          record {
+            value = es;
+            is = refl;
+            formed =
+                round-formed (λ k. form.Commas (exprs.IsTerm k)) m es (items_toks (map printed es))
+                (items-commas (exprs.IsTerm m) text_of printed w.IsWritableTerm (term-item m (omega arith)) es h.0 h.1);
+          };
+    }
 kernel-formed (suc m) kern.cross h room = record { word = codes "cross"; back = []; is = refl; formed = (refl, refl) }
 kernel-formed (suc m) (kern.streamer x) h room = streamer-formed m x
 kernel-formed (suc m) kern.tally h room = record { word = codes "tally"; back = []; is = refl; formed = (refl, refl) }
 kernel-formed (suc m) (kern.fused a b at) h room = record {
   word = codes "fused";
   back =
-      listed (count_tok at ∷ []) ((symbol s.OpenBrace ∷ (kernel_toks a ++ symbol s.CloseBrace ∷ [])) ++ symbol s.OpenBrace ∷ (kernel_toks b ++ symbol s.CloseBrace ∷ []));
+      listed (count_tok at ∷ [])
+      ((symbol s.OpenBrace ∷ (kernel_toks a ++ symbol s.CloseBrace ∷ [])) ++ symbol s.OpenBrace ∷ (kernel_toks b ++ symbol s.CloseBrace ∷ []));
   is = refl;
   formed = record {
     value = (at, (a, b));
     is = refl;
     formed =
-        list-then (λ k. form.Count) (form.Both (IsBraced (suc m)) (IsBraced (suc m))) m at (a, b) (number at ∷ []) ((symbol s.OpenBrace ∷ (kernel_toks a ++ symbol s.CloseBrace ∷ [])) ++ symbol s.OpenBrace ∷ (kernel_toks b ++ symbol s.CloseBrace ∷ [])) (count-formed at h.0)
-        (record { front = symbol s.OpenBrace ∷ (kernel_toks a ++ symbol s.CloseBrace ∷ []); back = symbol s.OpenBrace ∷ (kernel_toks b ++ symbol s.CloseBrace ∷ []); is = refl; first = in_braces m a (kernel-formed m a h.1 (omega arith)); second = in_braces m b (kernel-formed m b h.2 (omega arith)) });
+        list-then (λ k. form.Count) (form.Both (IsBraced (suc m)) (IsBraced (suc m))) m at (a, b) (number at ∷ [])
+        ((symbol s.OpenBrace ∷ (kernel_toks a ++ symbol s.CloseBrace ∷ [])) ++ symbol s.OpenBrace ∷ (kernel_toks b ++ symbol s.CloseBrace ∷ []))
+        (count-formed at h.0)
+        (record {
+          front = symbol s.OpenBrace ∷ (kernel_toks a ++ symbol s.CloseBrace ∷ []);
+          back =
+              symbol s.OpenBrace ∷ (kernel_toks b ++ symbol s.CloseBrace ∷ []);
+          is = refl;
+          first = in_braces m a (kernel-formed m a h.1 (omega arith));
+          second =
+              in_braces m b (kernel-formed m b h.2 (omega arith));
+        });
   };
 }
 

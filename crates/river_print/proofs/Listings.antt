@@ -13,7 +13,8 @@ use Rattle.river_print.specs.Printed.{start_text}
 use Rattle.river_text.specs.Kernels as g
 use Rattle.river_print.specs.Writable as w
 use Rattle.river_print.proofs.PrintedExpr.{natural, is_count-below, is_value-below}
-use Rattle.river_print.proofs.Pieces.{Piece, AllPieces, more_toks, items_toks, symbol-first, inside-name, inside-number, plain-Minus}
+use Rattle.work_text.proofs.Insides.{inside-name, inside-number, plain-Minus}
+use Rattle.river_print.proofs.Pieces.{Piece, AllPieces, more_toks, items_toks, symbol-first}
 
 -- a value whose printed text has tokens that stand for it
 pub record Item {A : Type 0} (F : A → List Tok → Type 0) (text : A → List ℕ) (tok : A → List Tok) (v : A) : Type 0 where
@@ -109,7 +110,8 @@ start-item z h = by (int_eq z (negsuc 9223372036854775807)) refl where
   signed (pos n) k other = (number-piece n k, inr (inr (value-formed n k)))
   signed (negsuc n) k other =
       let below : suc n ≤ most = small n k other in (
-        symbol-first s.Minus (decimal (suc n)) (number (suc n) ∷ []) plain-Minus (number-piece (suc n) below) (λ rest no. minus_follows (decimal (suc n) ++ rest) (decimal-first (suc n) rest below)),
+        symbol-first s.Minus (decimal (suc n)) (number (suc n) ∷ []) plain-Minus (number-piece (suc n) below)
+            (λ rest no. minus_follows (decimal (suc n) ++ rest) (decimal-first (suc n) rest below)),
         inl (record { back = number (suc n) ∷ []; is = refl; formed = record { value = pos (suc n); is = refl; formed = value-formed (suc n) below } }),
       )
     where
@@ -119,7 +121,8 @@ start-item z h = by (int_eq z (negsuc 9223372036854775807)) refl where
   by : (b : Bool) → int_eq z (negsuc 9223372036854775807) ≡ b → Item g.Signed start_text start_tok z
   by true e =
       let is : z ≡ negsuc 9223372036854775807 = (Decides-int_eq z (negsuc 9223372036854775807)).0 e in
-      subst (λ (y : ℤ). Item g.Signed start_text start_tok y) (sym is) (record { piece = min-piece; formed = inr (inl (record { back = []; is = refl; formed = (refl, refl) })) })
+      subst (λ (y : ℤ). Item g.Signed start_text start_tok y) (sym is)
+      (record { piece = min-piece; formed = inr (inl (record { back = []; is = refl; formed = (refl, refl) })) })
   by false e =
       let parts = signed z h (λ same. no_yes (sym e ∙ (Decides-int_eq z (negsuc 9223372036854775807)).1 same)) in
       record {

@@ -142,15 +142,18 @@ blank_is_no_word u rest = refl
 -- a text in brackets
 in_brackets : (u : List ℕ) (us : List Tok) → Spells u us NoWord → Spells (codes "(" ++ (u ++ codes ")")) (symbol s.Open ∷ (us ++ symbol s.Close ∷ [])) Anything
 in_brackets u us h =
-    symbol-then s.Open (u ++ codes ")") (us ++ symbol s.Close ∷ []) (spells-then u us (codes ")") (symbol s.Close ∷ []) h (spells-symbol s.Close) close_is_no_word) (λ rest any. tt)
+    symbol-then s.Open (u ++ codes ")") (us ++ symbol s.Close ∷ [])
+    (spells-then u us (codes ")") (symbol s.Close ∷ []) h (spells-symbol s.Close) close_is_no_word) (λ rest any. tt)
 
 -- a word before a number in square brackets
 indexed : (word : List ℕ) (n : ℕ) → is_name_text word ≡ true → n < 4294967296
     → Spells (word ++ (codes "[" ++ (decimal n ++ codes "]"))) (name word ∷ symbol s.OpenBracket ∷ number n ∷ symbol s.CloseBracket ∷ []) Anything
 indexed word n is fits =
-    spells-then word (name word ∷ []) (codes "[" ++ (decimal n ++ codes "]")) (symbol s.OpenBracket ∷ number n ∷ symbol s.CloseBracket ∷ []) (spells-name word is)
+    spells-then word (name word ∷ []) (codes "[" ++ (decimal n ++ codes "]")) (symbol s.OpenBracket ∷ number n ∷ symbol s.CloseBracket ∷ [])
+    (spells-name word is)
     (symbol-then s.OpenBracket (decimal n ++ codes "]") (number n ∷ symbol s.CloseBracket ∷ [])
-    (spells-then (decimal n) (number n ∷ []) (codes "]") (symbol s.CloseBracket ∷ []) (spells-number n (omega arith)) (spells-symbol s.CloseBracket) square_is_no_word) (λ rest any. tt))
+    (spells-then (decimal n) (number n ∷ []) (codes "]") (symbol s.CloseBracket ∷ []) (spells-number n (omega arith))
+    (spells-symbol s.CloseBracket) square_is_no_word) (λ rest any. tt))
     (λ rest any. square_open_is_no_word (decimal n ++ codes "]") rest)
 
 input_is : is_name_text (codes "input") ≡ true
@@ -211,16 +214,21 @@ spells-term (Input place) w = spells-less (text_of (Input place)) (printed (Inpu
 spells-term (Slot slot) w = spells-less (text_of (Slot slot)) (printed (Slot slot)) (indexed (codes "slot") slot slot_is w) (λ rest no. tt)
 spells-term (Neg t) w =
     spells-less (text_of (Neg t)) (printed (Neg t))
-    (in_brackets (codes "-" ++ text_of t) (symbol s.Minus ∷ printed t) (symbol-then s.Minus (text_of t) (printed t) (spells-term t w) (λ rest no. minus_follows (text_of t ++ rest) (begins t rest w)))) (λ rest no. tt)
+    (in_brackets (codes "-" ++ text_of t) (symbol s.Minus ∷ printed t)
+    (symbol-then s.Minus (text_of t) (printed t) (spells-term t w) (λ rest no. minus_follows (text_of t ++ rest) (begins t rest w)))) (λ rest no. tt)
 spells-term (Not t) w =
     spells-less (text_of (Not t)) (printed (Not t))
-    (in_brackets (codes "!" ++ text_of t) (symbol s.Not ∷ printed t) (symbol-then s.Not (text_of t) (printed t) (spells-term t w) (λ rest no. not_follows (text_of t ++ rest) (begins t rest w)))) (λ rest no. tt)
+    (in_brackets (codes "!" ++ text_of t) (symbol s.Not ∷ printed t)
+    (symbol-then s.Not (text_of t) (printed t) (spells-term t w) (λ rest no. not_follows (text_of t ++ rest) (begins t rest w)))) (λ rest no. tt)
 spells-term (Bin o l r) w =
     let inner : List ℕ = codes " " ++ (sign_text o ++ (codes " " ++ text_of r)) in
     let regroup : codes "(" ++ ((text_of l ++ inner) ++ codes ")") ≡ text_of (Bin o l r) =
-    ap (λ (x : List ℕ). codes "(" ++ x) (append_assoc (text_of l) inner (codes ")") ∙ ap (λ (x : List ℕ). text_of l ++ (codes " " ++ x)) (append_assoc (sign_text o) (codes " " ++ text_of r) (codes ")"))) in
+    ap (λ (x : List ℕ). codes "(" ++ x)
+    (append_assoc (text_of l) inner (codes ")")
+    ∙ ap (λ (x : List ℕ). text_of l ++ (codes " " ++ x)) (append_assoc (sign_text o) (codes " " ++ text_of r) (codes ")"))) in
     bracketed (codes "(" ++ ((text_of l ++ inner) ++ codes ")")) (text_of (Bin o l r)) (printed (Bin o l r)) regroup
     (spells-less (codes "(" ++ ((text_of l ++ inner) ++ codes ")")) (printed (Bin o l r))
     (in_brackets (text_of l ++ inner) (printed l ++ symbol (grammar.sign_of o) ∷ printed r)
-    (spells-then (text_of l) (printed l) inner (symbol (grammar.sign_of o) ∷ printed r) (spells-term l w.0) (operator-then o (text_of r) (printed r) (spells-term r w.1)) (λ rest no. blank_is_no_word (sign_text o ++ (codes " " ++ text_of r)) rest)))
+    (spells-then (text_of l) (printed l) inner (symbol (grammar.sign_of o) ∷ printed r) (spells-term l w.0)
+    (operator-then o (text_of r) (printed r) (spells-term r w.1)) (λ rest no. blank_is_no_word (sign_text o ++ (codes " " ++ text_of r)) rest)))
     (λ rest no. tt))

@@ -1,5 +1,5 @@
 -- The header, and queues with capacities, printed and read.
-use Rattle.std.proofs.Common.{◌≡◌, ℕ, ◌+◌, ◌≤◌, ◌<◌, true, List, [], ◌∷◌, ◌++◌, Option, Some, None, Result, Ok, Err, refl, sym, ap, ◌∙◌, subst, arith, append_assoc}
+use Rattle.std.proofs.Common.{◌≡◌, ℕ, ◌<◌, true, List, [], ◌∷◌, ◌++◌, Option, Some, None, Result, Ok, Err, refl, sym, ap, ◌∙◌, subst, arith, append_assoc}
 use Rattle.std.specs.Prelude.{codes}
 use Rattle.std.specs.Fmt.{decimal}
 use Rattle.std.proofs.lemmas.Fmt.{decimal-digits_of}
@@ -15,7 +15,6 @@ use Rattle.river_base.specs.declared.kind.QueueType.{QueueType}
 use Rattle.river_base.specs.declared.kind.QueueType.TheVariants.{Flat, Pack}
 use Rattle.river_plan.specs.Caps.{IsCap, IsOwnCap}
 use Rattle.river_plan.specs.declared.plan.Decl.{Decl}
-use Rattle.text_forms.specs.Forms as form
 use Rattle.river_print.specs.Printed.{list_text, type_text, cap_text, capped_line, header_line}
 use Rattle.river_text.specs.Plans as p
 use Rattle.river_print.specs.Writable as w
@@ -88,7 +87,13 @@ pub header-short : (rest : List ℕ) (ms : List Mark) → tokens_in (header_line
 header-short rest ms lexed = by (marks 0 8 (codes "\n" ++ rest)) (sym (header-marks rest) ∙ lexed) where
   by : (r : Result (List Mark) LexFault) → headed r ≡ Ok ms → p.is_second_short ms ≡ true
   by (Ok ns) e = sym (ap p.is_second_short (same e)) where
-    same : headed (Ok ns) ≡ Ok ms → (record { tok = name (codes "river"); start = 0; end = 5 } ∷ record { tok = number 2; start = 6; end = 7 } ∷ record { tok = symbol s.Semicolon; start = 7; end = 8 } ∷ ns) ≡ ms
+    same : headed (Ok ns) ≡ Ok ms
+        → (record { tok = name (codes "river"); start = 0; end = 5 } ∷ record { tok = number 2; start = 6; end = 7 } ∷ record {
+          tok = symbol s.Semicolon;
+          start =
+              7;
+          end = 8;
+        } ∷ ns) ≡ ms
     same f = cc
   by (Err fault) e = cc
 
@@ -120,7 +125,8 @@ typed t (Some n) h k =
     let toks = (name (codes "cap") ∷ listed (count_tok n ∷ []) []) ++ symbol s.Semicolon ∷ [] in
     line-then (type_text t) (type_toks t) (codes " " ++ cap_line) toks (type-piece t h)
     (line-blank cap_line toks
-    (line-then (codes "cap" ++ list_text (decimal n ∷ [])) (name (codes "cap") ∷ listed (count_tok n ∷ []) []) (codes ";\n") (symbol s.Semicolon ∷ []) (worded (codes "cap") (decimal n ∷ []) (count_tok n ∷ []) is_capped (one_count n (counts n k))) semicolon-end (now-semicolon (codes "\n"))))
+    (line-then (codes "cap" ++ list_text (decimal n ∷ [])) (name (codes "cap") ∷ listed (count_tok n ∷ []) []) (codes ";\n") (symbol s.Semicolon ∷ [])
+    (worded (codes "cap") (decimal n ∷ []) (count_tok n ∷ []) is_capped (one_count n (counts n k))) semicolon-end (now-semicolon (codes "\n"))))
     (now-blank cap_line)
 
 queue-spells : (d : Decl) (most : Option ℕ) → w.IsWritableDecl d → IsOwnCap most → Line (capped_line d most) (queue_toks d most)
@@ -128,14 +134,16 @@ unfolding queue_toks
 queue-spells d most h k =
     let line = type_text d.kind ++ (cap_text most ++ codes ";\n") in
     let toks = type_toks d.kind ++ (cap_toks most ++ symbol s.Semicolon ∷ []) in
-    line-then (codes "queue") (name (codes "queue") ∷ []) (codes " " ++ (d.name ++ (codes ": " ++ line))) (name d.name ∷ symbol s.Colon ∷ toks) (name-piece (codes "queue") is_queue)
+    line-then (codes "queue") (name (codes "queue") ∷ []) (codes " " ++ (d.name ++ (codes ": " ++ line))) (name d.name ∷ symbol s.Colon ∷ toks)
+    (name-piece (codes "queue") is_queue)
     (line-blank (d.name ++ (codes ": " ++ line)) (name d.name ∷ symbol s.Colon ∷ toks)
     (line-then d.name (name d.name ∷ []) (codes ": " ++ line) (symbol s.Colon ∷ toks) (name-piece d.name (name-text d.name h.0))
     (colon-line line toks (typed d.kind most h.1 k)) (now-colon (codes " " ++ line))))
     (now-blank (d.name ++ (codes ": " ++ line)))
 
 queue-whole : (n : List ℕ) (t : QueueType) (most : Option ℕ) (rest : List Tok)
-    → cut 0 (name (codes "queue") ∷ name n ∷ symbol s.Colon ∷ ((type_toks t ++ (cap_toks most ++ symbol s.Semicolon ∷ [])) ++ rest)) ≡ (name (codes "queue") ∷ name n ∷ symbol s.Colon ∷ (type_toks t ++ (cap_toks most ++ symbol s.Semicolon ∷ []))) ∷ cut 0 rest
+    → cut 0 (name (codes "queue") ∷ name n ∷ symbol s.Colon ∷ ((type_toks t ++ (cap_toks most ++ symbol s.Semicolon ∷ [])) ++ rest)) ≡
+    (name (codes "queue") ∷ name n ∷ symbol s.Colon ∷ (type_toks t ++ (cap_toks most ++ symbol s.Semicolon ∷ []))) ∷ cut 0 rest
 unfolding cut ends_unit braces_after type_toks flat_toks cap_toks
 queue-whole n (Flat (Rows k)) None rest = refl
 queue-whole n (Flat (Stream k)) None rest = refl

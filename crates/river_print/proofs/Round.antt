@@ -42,7 +42,8 @@ chunk-then : (a : List ℕ) (us : List (List Tok)) (b : List ℕ) (vs : List (Li
 chunk-then a us b vs x y = record { spells = spells; begins = begins; whole = whole } where
   spells : Spells (a ++ b) (joined_units (us ++ vs)) Anything
   spells =
-      subst (λ (l : List Tok). Spells (a ++ b) l Anything) (sym (joined-append us vs)) (spells-then a (joined_units us) b (joined_units vs) x.spells y.spells (λ rest any. tt))
+      subst (λ (l : List Tok). Spells (a ++ b) l Anything) (sym (joined-append us vs))
+      (spells-then a (joined_units us) b (joined_units vs) x.spells y.spells (λ rest any. tt))
 
   regroup : (rest : List Tok) → joined_units (us ++ vs) ++ rest ≡ joined_units us ++ (joined_units vs ++ rest)
   regroup rest = ap (λ (l : List Tok). l ++ rest) (joined-append us vs) ∙ append_assoc (joined_units us) (joined_units vs) rest
@@ -52,7 +53,8 @@ chunk-then a us b vs x y = record { spells = spells; begins = begins; whole = wh
 
   whole : (rest : List Tok) → is_else rest ≡ false → cut 0 (joined_units (us ++ vs) ++ rest) ≡ (us ++ vs) ++ cut 0 rest
   whole rest none =
-      ap (cut 0) (regroup rest) ∙ x.whole (joined_units vs ++ rest) (y.begins rest none) ∙ ap (λ (l : List (List Tok)). us ++ l) (y.whole rest none) ∙ sym (append_assoc us vs (cut 0 rest))
+      ap (cut 0) (regroup rest) ∙ x.whole (joined_units vs ++ rest) (y.begins rest none) ∙ ap (λ (l : List (List Tok)). us ++ l) (y.whole rest none)
+      ∙ sym (append_assoc us vs (cut 0 rest))
 
 chunk-unit : (b : List ℕ) (ts : List Tok) → UnitPiece b ts → Chunk b (ts ∷ [])
 chunk-unit b ts x = record {
@@ -149,15 +151,19 @@ add-then t (e ∷ es) fs = add-then (add_entry t e) es fs
 abbrev text_with : PlanForm → List Cap → TextForm
 text_with p caps = record { plan = p; caps = caps }
 
-adds-outputs : (p : PlanForm) (caps : List Cap) (ds : List Decl) → add_all (text_with p caps) (map output ds) ≡ text_with (record p { outputs = p.outputs ++ ds }) caps
+adds-outputs : (p : PlanForm) (caps : List Cap) (ds : List Decl)
+    → add_all (text_with p caps) (map output ds) ≡ text_with (record p { outputs = p.outputs ++ ds }) caps
 adds-outputs p caps [] = ap (λ (l : List Decl). text_with (record p { outputs = l }) caps) (sym (append-nil p.outputs))
 adds-outputs p caps (d ∷ ds) =
-    adds-outputs (record p { outputs = p.outputs ++ d ∷ [] }) caps ds ∙ ap (λ (l : List Decl). text_with (record p { outputs = l }) caps) (append_assoc p.outputs (d ∷ []) ds)
+    adds-outputs (record p { outputs = p.outputs ++ d ∷ [] }) caps ds
+    ∙ ap (λ (l : List Decl). text_with (record p { outputs = l }) caps) (append_assoc p.outputs (d ∷ []) ds)
 
-adds-inputs : (p : PlanForm) (caps : List Cap) (ds : List Decl) → add_all (text_with p caps) (map input ds) ≡ text_with (record p { inputs = p.inputs ++ ds }) caps
+adds-inputs : (p : PlanForm) (caps : List Cap) (ds : List Decl)
+    → add_all (text_with p caps) (map input ds) ≡ text_with (record p { inputs = p.inputs ++ ds }) caps
 adds-inputs p caps [] = ap (λ (l : List Decl). text_with (record p { inputs = l }) caps) (sym (append-nil p.inputs))
 adds-inputs p caps (d ∷ ds) =
-    adds-inputs (record p { inputs = p.inputs ++ d ∷ [] }) caps ds ∙ ap (λ (l : List Decl). text_with (record p { inputs = l }) caps) (append_assoc p.inputs (d ∷ []) ds)
+    adds-inputs (record p { inputs = p.inputs ++ d ∷ [] }) caps ds
+    ∙ ap (λ (l : List Decl). text_with (record p { inputs = l }) caps) (append_assoc p.inputs (d ∷ []) ds)
 
 adds-queues : (own : OwnCaps) (p : PlanForm) (caps : List Cap) (ds : List Decl)
     → add_all (text_with p caps) (map (capped own) ds) ≡ text_with (record p { queues = p.queues ++ ds }) (caps ++ caps_of own ds)
@@ -166,10 +172,12 @@ adds-queues own p caps (d ∷ ds) =
     adds-queues own (record p { queues = p.queues ++ d ∷ [] }) (caps ++ cap_of d.name (own d.name)) ds
     ∙ (λ i. text_with (record p { queues = append_assoc p.queues (d ∷ []) ds i }) (append_assoc caps (cap_of d.name (own d.name)) (caps_of own ds) i))
 
-adds-tables : (p : PlanForm) (caps : List Cap) (ds : List TableDecl) → add_all (text_with p caps) (map table ds) ≡ text_with (record p { tables = p.tables ++ ds }) caps
+adds-tables : (p : PlanForm) (caps : List Cap) (ds : List TableDecl)
+    → add_all (text_with p caps) (map table ds) ≡ text_with (record p { tables = p.tables ++ ds }) caps
 adds-tables p caps [] = ap (λ (l : List TableDecl). text_with (record p { tables = l }) caps) (sym (append-nil p.tables))
 adds-tables p caps (d ∷ ds) =
-    adds-tables (record p { tables = p.tables ++ d ∷ [] }) caps ds ∙ ap (λ (l : List TableDecl). text_with (record p { tables = l }) caps) (append_assoc p.tables (d ∷ []) ds)
+    adds-tables (record p { tables = p.tables ++ d ∷ [] }) caps ds
+    ∙ ap (λ (l : List TableDecl). text_with (record p { tables = l }) caps) (append_assoc p.tables (d ∷ []) ds)
 
 adds-vars : (p : PlanForm) (caps : List Cap) (ds : List Name) → add_all (text_with p caps) (map private ds) ≡ text_with (record p { vars = p.vars ++ ds }) caps
 adds-vars p caps [] = ap (λ (l : List Name). text_with (record p { vars = l }) caps) (sym (append-nil p.vars))
@@ -187,11 +195,22 @@ entries_of own p =
 
 made : (own : OwnCaps) (p : PlanForm) → add_all empty_text (header ∷ entries_of own p) ≡ stood own p
 made own p =
-    add-then empty_text (map output p.outputs) _ ∙ ap (λ (q : TextForm). add_all q (map input p.inputs ++ (map (capped own) p.queues ++ (map table p.tables ++ (map private p.vars ++ map operator p.ops))))) (adds-outputs empty_form [] p.outputs)
-    ∙ add-then _ (map input p.inputs) _ ∙ ap (λ (q : TextForm). add_all q (map (capped own) p.queues ++ (map table p.tables ++ (map private p.vars ++ map operator p.ops)))) (adds-inputs (record empty_form { outputs = p.outputs }) [] p.inputs)
-    ∙ add-then _ (map (capped own) p.queues) _ ∙ ap (λ (q : TextForm). add_all q (map table p.tables ++ (map private p.vars ++ map operator p.ops))) (adds-queues own (record empty_form { outputs = p.outputs; inputs = p.inputs }) [] p.queues)
-    ∙ add-then _ (map table p.tables) _ ∙ ap (λ (q : TextForm). add_all q (map private p.vars ++ map operator p.ops)) (adds-tables (record empty_form { outputs = p.outputs; inputs = p.inputs; queues = p.queues }) (caps_of own p.queues) p.tables)
-    ∙ add-then _ (map private p.vars) _ ∙ ap (λ (q : TextForm). add_all q (map operator p.ops)) (adds-vars (record empty_form { outputs = p.outputs; inputs = p.inputs; queues = p.queues; tables = p.tables }) (caps_of own p.queues) p.vars)
+    add-then empty_text (map output p.outputs) _
+    ∙ ap (λ (q : TextForm). add_all q
+    (map input p.inputs ++ (map (capped own) p.queues ++ (map table p.tables ++ (map private p.vars ++ map operator p.ops)))))
+    (adds-outputs empty_form [] p.outputs)
+    ∙ add-then _ (map input p.inputs) _
+    ∙ ap (λ (q : TextForm). add_all q (map (capped own) p.queues ++ (map table p.tables ++ (map private p.vars ++ map operator p.ops))))
+    (adds-inputs (record empty_form { outputs = p.outputs }) [] p.inputs)
+    ∙ add-then _ (map (capped own) p.queues) _
+    ∙ ap (λ (q : TextForm). add_all q (map table p.tables ++ (map private p.vars ++ map operator p.ops)))
+    (adds-queues own (record empty_form { outputs = p.outputs; inputs = p.inputs }) [] p.queues)
+    ∙ add-then _ (map table p.tables) _
+    ∙ ap (λ (q : TextForm). add_all q (map private p.vars ++ map operator p.ops))
+    (adds-tables (record empty_form { outputs = p.outputs; inputs = p.inputs; queues = p.queues }) (caps_of own p.queues) p.tables)
+    ∙ add-then _ (map private p.vars) _
+    ∙ ap (λ (q : TextForm). add_all q (map operator p.ops))
+    (adds-vars (record empty_form { outputs = p.outputs; inputs = p.inputs; queues = p.queues; tables = p.tables }) (caps_of own p.queues) p.vars)
     ∙ adds-ops (record empty_form { outputs = p.outputs; inputs = p.inputs; queues = p.queues; tables = p.tables; vars = p.vars }) (caps_of own p.queues) p.ops
 
 -- ---- the text
@@ -217,9 +236,14 @@ unit_lines own p =
 
 plan-chunk : (own : OwnCaps) (p : PlanForm) → HaveOwnCaps own → w.IsWritable p → Chunk (unit_lines own p) (units own p)
 plan-chunk own p fit h =
-    chunk-then (lines (decl_line (codes "output")) p.outputs) (map (decl_toks (codes "output")) p.outputs) _ _ (chunk-lines (decl_line (codes "output")) (decl_toks (codes "output")) w.IsWritableDecl (λ d k. decl-unit (codes "output") d is_output refl k) p.outputs h.outputs)
-    (chunk-then (lines (decl_line (codes "input")) p.inputs) (map (decl_toks (codes "input")) p.inputs) _ _ (chunk-lines (decl_line (codes "input")) (decl_toks (codes "input")) w.IsWritableDecl (λ d k. decl-unit (codes "input") d is_input refl k) p.inputs h.inputs)
-    (chunk-then (lines (queue_line own) p.queues) (map (λ d. queue_toks d (own d.name)) p.queues) _ _ (chunk-lines (queue_line own) (λ d. queue_toks d (own d.name)) w.IsWritableDecl (λ d k. queue-unit d (own d.name) k (fit d.name)) p.queues h.queues)
+    chunk-then (lines (decl_line (codes "output")) p.outputs) (map (decl_toks (codes "output")) p.outputs) _ _
+    (chunk-lines (decl_line (codes "output")) (decl_toks (codes "output")) w.IsWritableDecl
+    (λ d k. decl-unit (codes "output") d is_output refl k) p.outputs h.outputs)
+    (chunk-then (lines (decl_line (codes "input")) p.inputs) (map (decl_toks (codes "input")) p.inputs) _ _
+    (chunk-lines (decl_line (codes "input")) (decl_toks (codes "input")) w.IsWritableDecl
+    (λ d k. decl-unit (codes "input") d is_input refl k) p.inputs h.inputs)
+    (chunk-then (lines (queue_line own) p.queues) (map (λ d. queue_toks d (own d.name)) p.queues) _ _
+    (chunk-lines (queue_line own) (λ d. queue_toks d (own d.name)) w.IsWritableDecl (λ d k. queue-unit d (own d.name) k (fit d.name)) p.queues h.queues)
     (chunk-then (lines table_line p.tables) (map table_toks p.tables) _ _ (chunk-lines table_line table_toks w.IsWritableTable table-unit p.tables h.tables)
     (chunk-then (lines var_line p.vars) (map var_toks p.vars) _ _ (chunk-lines var_line var_toks w.IsNamed var-unit p.vars h.vars)
     (chunk-lines op_line op_toks w.IsWritableOp op-unit p.ops h.ops)))))
@@ -232,15 +256,22 @@ last_stage : (p : PlanForm) → w.IsWritable p → (b : ℕ) → b ≤ 6 → All
 last_stage p h b le =
     subst (λ (es : List EntryForm). AllFormed IsUnitAt next_place (behind b) es (map op_toks p.ops)) (append-nil (map operator p.ops))
     (subst (λ (us : List (List Tok)). AllFormed IsUnitAt next_place (behind b) (map operator p.ops ++ []) us) (append-nil (map op_toks p.ops))
-    (stage-then 5 b (map operator p.ops) [] (map op_toks p.ops) [] le (stage_lines 5 operator op_toks w.IsWritableOp (λ x. refl) (λ x k. refl) op_formed p.ops h.ops) (λ c k. tt)))
+    (stage-then 5 b (map operator p.ops) [] (map op_toks p.ops) [] le
+    (stage_lines 5 operator op_toks w.IsWritableOp (λ x. refl) (λ x k. refl) op_formed p.ops h.ops) (λ c k. tt)))
 
 plan-formed : (own : OwnCaps) (p : PlanForm) → HaveOwnCaps own → w.IsWritable p → AreUnits (behind 1) (entries_of own p) (units own p)
 plan-formed own p fit h =
-    stage-then 0 1 (map output p.outputs) _ (map (decl_toks (codes "output")) p.outputs) _ (omega arith) (stage_lines 0 output (decl_toks (codes "output")) w.IsWritableDecl (λ x. refl) (λ x k. refl) output-formed p.outputs h.outputs) (λ a la.
-    stage-then 1 a (map input p.inputs) _ (map (decl_toks (codes "input")) p.inputs) _ (omega arith) (stage_lines 1 input (decl_toks (codes "input")) w.IsWritableDecl (λ x. refl) (λ x k. refl) input-formed p.inputs h.inputs) (λ b lb.
-    stage-then 2 b (map (capped own) p.queues) _ (map (λ d. queue_toks d (own d.name)) p.queues) _ (omega arith) (stage_lines 2 (capped own) (λ d. queue_toks d (own d.name)) w.IsWritableDecl (λ x. refl) (λ d k. stands_behind (own d.name) (fit d.name)) (λ d k. queue-formed d (own d.name) k (fit d.name)) p.queues h.queues) (λ c lc.
-    stage-then 3 c (map table p.tables) _ (map table_toks p.tables) _ (omega arith) (stage_lines 3 table table_toks w.IsWritableTable (λ x. refl) (λ x k. refl) table_formed p.tables h.tables) (λ d ld.
-    stage-then 4 d (map private p.vars) _ (map var_toks p.vars) _ (omega arith) (stage_lines 4 private var_toks w.IsNamed (λ x. refl) (λ x k. refl) var_formed p.vars h.vars) (λ e le.
+    stage-then 0 1 (map output p.outputs) _ (map (decl_toks (codes "output")) p.outputs) _ (omega arith)
+    (stage_lines 0 output (decl_toks (codes "output")) w.IsWritableDecl (λ x. refl) (λ x k. refl) output-formed p.outputs h.outputs) (λ a la.
+    stage-then 1 a (map input p.inputs) _ (map (decl_toks (codes "input")) p.inputs) _ (omega arith)
+    (stage_lines 1 input (decl_toks (codes "input")) w.IsWritableDecl (λ x. refl) (λ x k. refl) input-formed p.inputs h.inputs) (λ b lb.
+    stage-then 2 b (map (capped own) p.queues) _ (map (λ d. queue_toks d (own d.name)) p.queues) _ (omega arith)
+    (stage_lines 2 (capped own) (λ d. queue_toks d (own d.name)) w.IsWritableDecl (λ x. refl) (λ d k. stands_behind (own d.name) (fit d.name))
+    (λ d k. queue-formed d (own d.name) k (fit d.name)) p.queues h.queues) (λ c lc.
+    stage-then 3 c (map table p.tables) _ (map table_toks p.tables) _ (omega arith)
+    (stage_lines 3 table table_toks w.IsWritableTable (λ x. refl) (λ x k. refl) table_formed p.tables h.tables) (λ d ld.
+    stage-then 4 d (map private p.vars) _ (map var_toks p.vars) _ (omega arith)
+    (stage_lines 4 private var_toks w.IsNamed (λ x. refl) (λ x k. refl) var_formed p.vars h.vars) (λ e le.
     last_stage p h e (omega arith))))))
 
 cut-nothing : cut 0 [] ≡ []
@@ -267,7 +298,8 @@ stands own p fit h =
       entries = header ∷ entries_of own p;
       formed =
           subst (λ (at : Place). AreUnits at (header ∷ entries_of own p) (units_of (toks ms))) (sym first)
-          (subst (λ (us : List (List Tok)). AreUnits (record { stage = 0; headed = false }) (header ∷ entries_of own p) us) (sym (ap units_of same ∙ whole)) (text-formed own p fit h));
+          (subst (λ (us : List (List Tok)). AreUnits (record { stage = 0; headed = false }) (header ∷ entries_of own p) us) (sym (ap units_of same ∙ whole))
+          (text-formed own p fit h));
       is = sym (made own p);
     }
 

@@ -21,8 +21,9 @@ use Rattle.river_text.specs.Expressions as exprs
 use Rattle.river_print.specs.Writable as w
 use Rattle.river_print.proofs.Listings.{Item, pieces, items-commas, count-formed}
 use Rattle.river_print.proofs.PrintedExpr.{printed, printed-is, spells-term}
-use Rattle.river_print.proofs.Pieces.{Inside, inside-then, inside-name, inside-number, inside-symbol, IsPlain, plain-Open, plain-Close, plain-OpenBracket}
-use Rattle.river_print.proofs.Pieces.{plain-CloseBracket, plain-Minus, plain-Assign, Piece, EndsWord, piece-nothing, ends-nothing, piece-then, symbol-first}
+use Rattle.work_text.proofs.Insides.{Inside, inside-then, inside-name, inside-number, inside-symbol, IsPlain, plain-Open, plain-Close, plain-OpenBracket}
+use Rattle.work_text.proofs.Insides.{plain-CloseBracket, plain-Minus, plain-Assign}
+use Rattle.river_print.proofs.Pieces.{Piece, EndsWord, piece-nothing, ends-nothing, piece-then, symbol-first}
 use Rattle.river_print.proofs.Pieces.{word-first, number-first, blank-first, open-first, close-first, semicolon-first, square-first, square_close-first, braced}
 use Rattle.river_print.proofs.Pieces.{braced-nothing, ends-blank, ends-close, ends-square, ends-square_close, ends-semicolon, items_toks, pieces-items}
 
@@ -46,7 +47,8 @@ plain-Not = record { no_open = refl; no_close = refl }
 
 in_round : (ts : List Tok) → Inside ts → Inside (symbol s.Open ∷ (ts ++ symbol s.Close ∷ []))
 in_round ts x =
-    inside-then (symbol s.Open ∷ []) (ts ++ symbol s.Close ∷ []) (inside-symbol s.Open plain-Open) (inside-then ts (symbol s.Close ∷ []) x (inside-symbol s.Close plain-Close))
+    inside-then (symbol s.Open ∷ []) (ts ++ symbol s.Close ∷ []) (inside-symbol s.Open plain-Open)
+    (inside-then ts (symbol s.Close ∷ []) x (inside-symbol s.Close plain-Close))
 
 in_square : (word : List ℕ) (n : ℕ) → Inside (name word ∷ symbol s.OpenBracket ∷ number n ∷ symbol s.CloseBracket ∷ [])
 in_square word n =
@@ -122,40 +124,62 @@ ends-else (Then x xs) = ends-blank (codes "else { " ++ (step_text x ++ (more_tex
 
 set-piece : (k : ℕ) (t : Term) → w.IsCount k → w.IsWritableTerm t → Piece (step_text (Set k t)) (step_toks (Set k t))
 set-piece k t count term =
-    let last : Piece (text_of t ++ codes ";") (printed t ++ symbol s.Semicolon ∷ []) = piece-then (text_of t) (printed t) (codes ";") (symbol s.Semicolon ∷ []) (term-piece t term) (semicolon-first [] [] piece-nothing) (ends-semicolon []) in
+    let last : Piece (text_of t ++ codes ";") (printed t ++ symbol s.Semicolon ∷ []) =
+    piece-then (text_of t) (printed t) (codes ";") (symbol s.Semicolon ∷ []) (term-piece t term) (semicolon-first [] [] piece-nothing) (ends-semicolon []) in
     let value : Piece (codes "= " ++ (text_of t ++ codes ";")) (symbol s.Assign ∷ (printed t ++ symbol s.Semicolon ∷ [])) =
-    symbol-first s.Assign (codes " " ++ (text_of t ++ codes ";")) (printed t ++ symbol s.Semicolon ∷ []) plain-Assign (blank-first (text_of t ++ codes ";") (printed t ++ symbol s.Semicolon ∷ []) last) (λ rest no. blank_follows s.Assign ((text_of t ++ codes ";") ++ rest)) in
+    symbol-first s.Assign (codes " " ++ (text_of t ++ codes ";")) (printed t ++ symbol s.Semicolon ∷ []) plain-Assign
+    (blank-first (text_of t ++ codes ";") (printed t ++ symbol s.Semicolon ∷ []) last)
+    (λ rest no. blank_follows s.Assign ((text_of t ++ codes ";") ++ rest)) in
     let closed : Piece (codes "] = " ++ (text_of t ++ codes ";")) (symbol s.CloseBracket ∷ symbol s.Assign ∷ (printed t ++ symbol s.Semicolon ∷ [])) =
-    square_close-first (codes " = " ++ (text_of t ++ codes ";")) (symbol s.Assign ∷ (printed t ++ symbol s.Semicolon ∷ [])) (blank-first (codes "= " ++ (text_of t ++ codes ";")) (symbol s.Assign ∷ (printed t ++ symbol s.Semicolon ∷ [])) value) in
-    let counted : Piece (decimal k ++ (codes "] = " ++ (text_of t ++ codes ";"))) (number k ∷ symbol s.CloseBracket ∷ symbol s.Assign ∷ (printed t ++ symbol s.Semicolon ∷ [])) =
-    number-first k (codes "] = " ++ (text_of t ++ codes ";")) (symbol s.CloseBracket ∷ symbol s.Assign ∷ (printed t ++ symbol s.Semicolon ∷ [])) (omega arith) closed (ends-square_close (codes " = " ++ (text_of t ++ codes ";"))) in
-    word-first (codes "slot") (codes "[" ++ (decimal k ++ (codes "] = " ++ (text_of t ++ codes ";")))) (symbol s.OpenBracket ∷ number k ∷ symbol s.CloseBracket ∷ symbol s.Assign ∷ (printed t ++ symbol s.Semicolon ∷ [])) slot_is
-    (square-first (decimal k ++ (codes "] = " ++ (text_of t ++ codes ";"))) (number k ∷ symbol s.CloseBracket ∷ symbol s.Assign ∷ (printed t ++ symbol s.Semicolon ∷ [])) counted) (ends-square (decimal k ++ (codes "] = " ++ (text_of t ++ codes ";"))))
+    square_close-first (codes " = " ++ (text_of t ++ codes ";")) (symbol s.Assign ∷ (printed t ++ symbol s.Semicolon ∷ []))
+    (blank-first (codes "= " ++ (text_of t ++ codes ";")) (symbol s.Assign ∷ (printed t ++ symbol s.Semicolon ∷ [])) value) in
+    let counted : Piece (decimal k ++ (codes "] = " ++ (text_of t ++ codes ";")))
+    (number k ∷ symbol s.CloseBracket ∷ symbol s.Assign ∷ (printed t ++ symbol s.Semicolon ∷ [])) =
+    number-first k (codes "] = " ++ (text_of t ++ codes ";")) (symbol s.CloseBracket ∷ symbol s.Assign ∷ (printed t ++ symbol s.Semicolon ∷ []))
+    (omega arith) closed (ends-square_close (codes " = " ++ (text_of t ++ codes ";"))) in
+    word-first (codes "slot") (codes "[" ++ (decimal k ++ (codes "] = " ++ (text_of t ++ codes ";"))))
+    (symbol s.OpenBracket ∷ number k ∷ symbol s.CloseBracket ∷ symbol s.Assign ∷ (printed t ++ symbol s.Semicolon ∷ [])) slot_is
+    (square-first (decimal k ++ (codes "] = " ++ (text_of t ++ codes ";")))
+    (number k ∷ symbol s.CloseBracket ∷ symbol s.Assign ∷ (printed t ++ symbol s.Semicolon ∷ [])) counted)
+    (ends-square (decimal k ++ (codes "] = " ++ (text_of t ++ codes ";"))))
 
 push-piece : (p : ℕ) (ts : List Term) → w.IsCount p → w.Every w.IsWritableTerm ts → Piece (step_text (Push p ts)) (step_toks (Push p ts))
 push-piece p ts count terms =
     let items = items_toks (map printed ts) in
     let text = items_text (map text_of ts) in
-    let last : Piece (codes ");") (symbol s.Close ∷ symbol s.Semicolon ∷ []) = close-first (codes ";") (symbol s.Semicolon ∷ []) (semicolon-first [] [] piece-nothing) in
+    let last : Piece (codes ");") (symbol s.Close ∷ symbol s.Semicolon ∷ []) =
+    close-first (codes ";") (symbol s.Semicolon ∷ []) (semicolon-first [] [] piece-nothing) in
     let values : Piece (text ++ codes ");") (items ++ symbol s.Close ∷ symbol s.Semicolon ∷ []) =
-    piece-then text items (codes ");") (symbol s.Close ∷ symbol s.Semicolon ∷ []) (pieces-items (map text_of ts) (map printed ts) (pieces (exprs.IsTerm 64) text_of printed w.IsWritableTerm (term-item 64 (omega arith)) ts terms)) last (ends-close (codes ";")) in
+    piece-then text items (codes ");") (symbol s.Close ∷ symbol s.Semicolon ∷ [])
+    (pieces-items (map text_of ts) (map printed ts) (pieces (exprs.IsTerm 64) text_of printed w.IsWritableTerm (term-item 64 (omega arith)) ts terms)) last
+    (ends-close (codes ";")) in
     let opened : Piece (codes " (" ++ (text ++ codes ");")) (symbol s.Open ∷ (items ++ symbol s.Close ∷ symbol s.Semicolon ∷ [])) =
-    blank-first (codes "(" ++ (text ++ codes ");")) (symbol s.Open ∷ (items ++ symbol s.Close ∷ symbol s.Semicolon ∷ [])) (open-first (text ++ codes ");") (items ++ symbol s.Close ∷ symbol s.Semicolon ∷ []) values) in
+    blank-first (codes "(" ++ (text ++ codes ");")) (symbol s.Open ∷ (items ++ symbol s.Close ∷ symbol s.Semicolon ∷ []))
+    (open-first (text ++ codes ");") (items ++ symbol s.Close ∷ symbol s.Semicolon ∷ []) values) in
     let counted : Piece (decimal p ++ (codes " (" ++ (text ++ codes ");"))) (number p ∷ symbol s.Open ∷ (items ++ symbol s.Close ∷ symbol s.Semicolon ∷ [])) =
-    number-first p (codes " (" ++ (text ++ codes ");")) (symbol s.Open ∷ (items ++ symbol s.Close ∷ symbol s.Semicolon ∷ [])) (omega arith) opened (ends-blank (codes "(" ++ (text ++ codes ");"))) in
-    word-first (codes "push") (codes " " ++ (decimal p ++ (codes " (" ++ (text ++ codes ");")))) (number p ∷ symbol s.Open ∷ (items ++ symbol s.Close ∷ symbol s.Semicolon ∷ [])) push_is
-    (blank-first (decimal p ++ (codes " (" ++ (text ++ codes ");"))) (number p ∷ symbol s.Open ∷ (items ++ symbol s.Close ∷ symbol s.Semicolon ∷ [])) counted) (ends-blank (decimal p ++ (codes " (" ++ (text ++ codes ");"))))
+    number-first p (codes " (" ++ (text ++ codes ");")) (symbol s.Open ∷ (items ++ symbol s.Close ∷ symbol s.Semicolon ∷ [])) (omega arith) opened
+    (ends-blank (codes "(" ++ (text ++ codes ");"))) in
+    word-first (codes "push") (codes " " ++ (decimal p ++ (codes " (" ++ (text ++ codes ");"))))
+    (number p ∷ symbol s.Open ∷ (items ++ symbol s.Close ∷ symbol s.Semicolon ∷ [])) push_is
+    (blank-first (decimal p ++ (codes " (" ++ (text ++ codes ");"))) (number p ∷ symbol s.Open ∷ (items ++ symbol s.Close ∷ symbol s.Semicolon ∷ [])) counted)
+    (ends-blank (decimal p ++ (codes " (" ++ (text ++ codes ");"))))
 
 if-piece : (c : Term) (a b : Steps) → w.IsWritableTerm c → Piece (body_text a) (body_toks a) → Piece (else_text b) (else_toks b)
     → Piece (step_text (If c a b)) (step_toks (If c a b))
 if-piece c a b term when otherwise =
-    let arms : Piece (body_text a ++ else_text b) (body_toks a ++ else_toks b) = piece-then (body_text a) (body_toks a) (else_text b) (else_toks b) when otherwise (ends-else b) in
+    let arms : Piece (body_text a ++ else_text b) (body_toks a ++ else_toks b) =
+    piece-then (body_text a) (body_toks a) (else_text b) (else_toks b) when otherwise (ends-else b) in
     let closed : Piece (codes ") " ++ (body_text a ++ else_text b)) (symbol s.Close ∷ (body_toks a ++ else_toks b)) =
-    close-first (codes " " ++ (body_text a ++ else_text b)) (body_toks a ++ else_toks b) (blank-first (body_text a ++ else_text b) (body_toks a ++ else_toks b) arms) in
+    close-first (codes " " ++ (body_text a ++ else_text b)) (body_toks a ++ else_toks b)
+    (blank-first (body_text a ++ else_text b) (body_toks a ++ else_toks b) arms) in
     let cond_piece : Piece (text_of c ++ (codes ") " ++ (body_text a ++ else_text b))) (printed c ++ symbol s.Close ∷ (body_toks a ++ else_toks b)) =
-    piece-then (text_of c) (printed c) (codes ") " ++ (body_text a ++ else_text b)) (symbol s.Close ∷ (body_toks a ++ else_toks b)) (term-piece c term) closed (ends-close (codes " " ++ (body_text a ++ else_text b))) in
-    word-first (codes "if") (codes " (" ++ (text_of c ++ (codes ") " ++ (body_text a ++ else_text b)))) (symbol s.Open ∷ (printed c ++ symbol s.Close ∷ (body_toks a ++ else_toks b))) if_is
-    (blank-first (codes "(" ++ (text_of c ++ (codes ") " ++ (body_text a ++ else_text b)))) (symbol s.Open ∷ (printed c ++ symbol s.Close ∷ (body_toks a ++ else_toks b))) (open-first (text_of c ++ (codes ") " ++ (body_text a ++ else_text b))) (printed c ++ symbol s.Close ∷ (body_toks a ++ else_toks b)) cond_piece))
+    piece-then (text_of c) (printed c) (codes ") " ++ (body_text a ++ else_text b)) (symbol s.Close ∷ (body_toks a ++ else_toks b)) (term-piece c term) closed
+    (ends-close (codes " " ++ (body_text a ++ else_text b))) in
+    word-first (codes "if") (codes " (" ++ (text_of c ++ (codes ") " ++ (body_text a ++ else_text b))))
+    (symbol s.Open ∷ (printed c ++ symbol s.Close ∷ (body_toks a ++ else_toks b))) if_is
+    (blank-first (codes "(" ++ (text_of c ++ (codes ") " ++ (body_text a ++ else_text b))))
+    (symbol s.Open ∷ (printed c ++ symbol s.Close ∷ (body_toks a ++ else_toks b)))
+    (open-first (text_of c ++ (codes ") " ++ (body_text a ++ else_text b))) (printed c ++ symbol s.Close ∷ (body_toks a ++ else_toks b)) cond_piece))
     (ends-blank (codes "(" ++ (text_of c ++ (codes ") " ++ (body_text a ++ else_text b)))))
 
 -- statements in braces
@@ -163,7 +187,8 @@ in_braces : (x : Step) (xs : Steps) → Piece (step_text x) (step_toks x) → Pi
     → Piece (body_text (Then x xs)) (body_toks (Then x xs))
 in_braces x xs p q =
     subst (λ (l : List ℕ). Piece l (body_toks (Then x xs))) (ap (λ (l : List ℕ). codes "{ " ++ l) (append_assoc (step_text x) (more_text xs) (codes " }")))
-    (braced (step_text x ++ more_text xs) (step_toks x ++ rest_toks xs) (piece-then (step_text x) (step_toks x) (more_text xs) (rest_toks xs) p q (ends-rest xs)))
+    (braced (step_text x ++ more_text xs) (step_toks x ++ rest_toks xs)
+    (piece-then (step_text x) (step_toks x) (more_text xs) (rest_toks xs) p q (ends-rest xs)))
 
 mutual
   step-piece : (x : Step) → w.IsWritableStep x → Piece (step_text x) (step_toks x)
@@ -179,13 +204,16 @@ mutual
   rest-piece : (xs : Steps) → w.AreWritableSteps xs → Piece (more_text xs) (rest_toks xs)
   rest-piece Done h = piece-nothing
   rest-piece (Then x xs) h =
-      blank-first (step_text x ++ more_text xs) (step_toks x ++ rest_toks xs) (piece-then (step_text x) (step_toks x) (more_text xs) (rest_toks xs) (step-piece x h.0) (rest-piece xs h.1) (ends-rest xs))
+      blank-first (step_text x ++ more_text xs) (step_toks x ++ rest_toks xs)
+      (piece-then (step_text x) (step_toks x) (more_text xs) (rest_toks xs) (step-piece x h.0) (rest-piece xs h.1) (ends-rest xs))
 
   else-piece : (xs : Steps) → w.AreWritableSteps xs → Piece (else_text xs) (else_toks xs)
   else-piece Done h = piece-nothing
   else-piece (Then x xs) h =
-      blank-first (codes "else " ++ body_text (Then x xs)) (else_toks (Then x xs)) (word-first (codes "else") (codes " " ++ body_text (Then x xs)) (body_toks (Then x xs)) else_is
-      (blank-first (body_text (Then x xs)) (body_toks (Then x xs)) (in_braces x xs (step-piece x h.0) (rest-piece xs h.1))) (ends-blank (body_text (Then x xs))))
+      blank-first (codes "else " ++ body_text (Then x xs)) (else_toks (Then x xs))
+      (word-first (codes "else") (codes " " ++ body_text (Then x xs)) (body_toks (Then x xs)) else_is
+      (blank-first (body_text (Then x xs)) (body_toks (Then x xs)) (in_braces x xs (step-piece x h.0) (rest-piece xs h.1)))
+      (ends-blank (body_text (Then x xs))))
 
 -- the statements as a list
 abbrev list_of : Steps → List Step
@@ -217,7 +245,12 @@ set-formed m k t count term room = record {
     first =
         record { back = number k ∷ symbol s.CloseBracket ∷ []; is = refl; formed = record { front = number k ∷ []; is = refl; formed = count-formed k count } };
     second =
-        record { back = printed t ++ symbol s.Semicolon ∷ []; is = refl; formed = record { front = printed t; is = refl; formed = term-formed (suc m) t (omega arith) term } };
+        record {
+          back = printed t ++ symbol s.Semicolon ∷ [];
+          is = refl;
+          formed =
+              record { front = printed t; is = refl; formed = term-formed (suc m) t (omega arith) term };
+        };
   };
 }
 
@@ -287,20 +320,47 @@ mutual
   stmt-formed zero zero x h d room = absurd (omega arith)
   stmt-formed (suc nest) zero x h d room = absurd (omega arith)
   stmt-formed zero (suc m) (Set k t) h d room =
-      record { word = codes "slot"; back = symbol s.OpenBracket ∷ number k ∷ symbol s.CloseBracket ∷ symbol s.Assign ∷ (printed t ++ symbol s.Semicolon ∷ []); is = refl; formed = set-formed m k t h.0 h.1 (omega arith) }
+      record {
+        word = codes "slot";
+        back =
+            symbol s.OpenBracket ∷ number k ∷ symbol s.CloseBracket ∷ symbol s.Assign ∷ (printed t ++ symbol s.Semicolon ∷ []);
+        is = refl;
+        formed =
+            set-formed m k t h.0 h.1 (omega arith);
+      }
   stmt-formed (suc nest) (suc m) (Set k t) h d room =
-      record { word = codes "slot"; back = symbol s.OpenBracket ∷ number k ∷ symbol s.CloseBracket ∷ symbol s.Assign ∷ (printed t ++ symbol s.Semicolon ∷ []); is = refl; formed = set-formed m k t h.0 h.1 (omega arith) }
+      record {
+        word = codes "slot";
+        back =
+            symbol s.OpenBracket ∷ number k ∷ symbol s.CloseBracket ∷ symbol s.Assign ∷ (printed t ++ symbol s.Semicolon ∷ []);
+        is = refl;
+        formed =
+            set-formed m k t h.0 h.1 (omega arith);
+      }
   stmt-formed zero (suc m) (Push p ts) h d room =
-      record { word = codes "push"; back = number p ∷ symbol s.Open ∷ (items_toks (map printed ts) ++ symbol s.Close ∷ symbol s.Semicolon ∷ []); is = refl; formed = push-formed m p ts h.0 h.1 h.2 (omega arith) }
+      record {
+        word = codes "push";
+        back = number p ∷ symbol s.Open ∷ (items_toks (map printed ts) ++ symbol s.Close ∷ symbol s.Semicolon ∷ []);
+        is =
+            refl;
+        formed = push-formed m p ts h.0 h.1 h.2 (omega arith);
+      }
   stmt-formed (suc nest) (suc m) (Push p ts) h d room =
-      record { word = codes "push"; back = number p ∷ symbol s.Open ∷ (items_toks (map printed ts) ++ symbol s.Close ∷ symbol s.Semicolon ∷ []); is = refl; formed = push-formed m p ts h.0 h.1 h.2 (omega arith) }
+      record {
+        word = codes "push";
+        back = number p ∷ symbol s.Open ∷ (items_toks (map printed ts) ++ symbol s.Close ∷ symbol s.Semicolon ∷ []);
+        is =
+            refl;
+        formed = push-formed m p ts h.0 h.1 h.2 (omega arith);
+      }
   stmt-formed zero (suc m) (If c a b) h d room = absurd (omega arith)
   stmt-formed (suc nest) (suc m) (If c a b) h d room = record {
     word = codes "if";
     back = symbol s.Open ∷ (printed c ++ symbol s.Close ∷ (body_toks a ++ else_toks b));
     is = refl;
     formed =
-        if-formed (bodies.IsBody nest) m c a b h.0 (omega arith) (body-formed nest (suc m) a h.1 (omega arith) (omega arith)) (else-formed nest (suc m) b h.2 (omega arith) (omega arith));
+        if-formed (bodies.IsBody nest) m c a b h.0 (omega arith) (body-formed nest (suc m) a h.1 (omega arith) (omega arith))
+        (else-formed nest (suc m) b h.2 (omega arith) (omega arith));
   }
 
   -- a body that can be written is in the grammar, by its tokens, where there is room for its nesting

@@ -32,7 +32,8 @@ use Rattle.river_print.specs.Printed.{list_text, flat_text, type_text, table_tex
 use Rattle.river_text.specs.Plans as p
 use Rattle.river_print.specs.Writable as w
 use Rattle.river_print.proofs.Listings.{Item, pieces, items-listing, count_tok, count-formed, count-item}
-use Rattle.river_print.proofs.Pieces.{line_is, all_first, all_first-append, Inside, inside-name, inside-var, Piece, AllPieces, braced, more_toks, items_toks}
+use Rattle.work_text.proofs.Insides.{all_first, all_first-append, Inside, inside-name, inside-var}
+use Rattle.river_print.proofs.Pieces.{line_is, Piece, AllPieces, braced, more_toks, items_toks}
 use Rattle.river_print.proofs.Kernels.{listed, list-last, worded, kernel_toks, kernel-piece, braced-formed}
 use Rattle.river_print.proofs.Terms.{round-formed, behind_round}
 use Rattle.river_print.proofs.PrintedExpr.{blank-then}
@@ -178,17 +179,41 @@ flat-formed (Relation n) h =
 pub type-formed : (t : QueueType) → w.IsWritableType t → p.IsType t (type_toks t)
 unfolding type_toks flat_toks
 type-formed (Flat (Rows n)) h =
-    record { word = codes "rows"; back = listed (count_tok n ∷ []) []; is = refl; formed = record { value = Rows n; is = refl; formed = record { value = n; is = refl; formed = count-round n h } } }
+    record {
+      word = codes "rows";
+      back = listed (count_tok n ∷ []) [];
+      is = refl;
+      formed =
+          record { value = Rows n; is = refl; formed = record { value = n; is = refl; formed = count-round n h } };
+    }
 type-formed (Flat (Stream n)) h =
-    record { word = codes "stream"; back = listed (count_tok n ∷ []) []; is = refl; formed = record { value = Stream n; is = refl; formed = record { value = n; is = refl; formed = count-round n h } } }
+    record {
+      word = codes "stream";
+      back = listed (count_tok n ∷ []) [];
+      is = refl;
+      formed =
+          record { value = Stream n; is = refl; formed = record { value = n; is = refl; formed = count-round n h } };
+    }
 type-formed (Flat (Relation n)) h =
-    record { word = codes "relation"; back = listed (count_tok n ∷ []) []; is = refl; formed = record { value = Relation n; is = refl; formed = record { value = n; is = refl; formed = count-round n h } } }
+    record {
+      word = codes "relation";
+      back = listed (count_tok n ∷ []) [];
+      is = refl;
+      formed =
+          record { value = Relation n; is = refl; formed = record { value = n; is = refl; formed = count-round n h } };
+    }
 type-formed (Pack t) h = record {
   word = codes "pack";
   back = listed (flat_toks t ∷ []) [];
   is = refl;
   formed =
-      record { value = t; is = refl; formed = subst (λ (l : List Tok). Round p.IsFlatType 128 t (symbol s.Open ∷ (l ++ symbol s.Close ∷ []))) (sym (append-nil (flat_toks t))) (round-formed p.IsFlatType 127 t (flat_toks t) (flat-formed t h)) };
+      record {
+        value = t;
+        is = refl;
+        formed =
+            subst (λ (l : List Tok). Round p.IsFlatType 128 t (symbol s.Open ∷ (l ++ symbol s.Close ∷ []))) (sym (append-nil (flat_toks t)))
+            (round-formed p.IsFlatType 127 t (flat_toks t) (flat-formed t h));
+      };
 }
 
 -- ---- declarations
@@ -205,12 +230,15 @@ decl-spells word d is h =
     line-then word (name word ∷ []) (codes " " ++ (d.name ++ (codes ": " ++ typed))) (name d.name ∷ symbol s.Colon ∷ typed_toks) (name-piece word is)
     (line-blank (d.name ++ (codes ": " ++ typed)) (name d.name ∷ symbol s.Colon ∷ typed_toks)
     (line-then d.name (name d.name ∷ []) (codes ": " ++ typed) (symbol s.Colon ∷ typed_toks) (name-piece d.name (name-text d.name h.0))
-    (colon-line typed typed_toks (line-then (type_text d.kind) (type_toks d.kind) (codes ";\n") (symbol s.Semicolon ∷ []) (type-piece d.kind h.1) semicolon-end (now-semicolon (codes "\n"))))
+    (colon-line typed typed_toks
+    (line-then (type_text d.kind) (type_toks d.kind) (codes ";\n") (symbol s.Semicolon ∷ []) (type-piece d.kind h.1) semicolon-end
+    (now-semicolon (codes "\n"))))
     (now-colon (codes " " ++ typed))))
     (now-blank (d.name ++ (codes ": " ++ typed)))
 
 decl-whole : (word : List ℕ) (n : List ℕ) (t : QueueType) (rest : List Tok)
-    → cut 0 (name word ∷ name n ∷ symbol s.Colon ∷ ((type_toks t ++ symbol s.Semicolon ∷ []) ++ rest)) ≡ (name word ∷ name n ∷ symbol s.Colon ∷ (type_toks t ++ symbol s.Semicolon ∷ [])) ∷ cut 0 rest
+    → cut 0 (name word ∷ name n ∷ symbol s.Colon ∷ ((type_toks t ++ symbol s.Semicolon ∷ []) ++ rest)) ≡
+    (name word ∷ name n ∷ symbol s.Colon ∷ (type_toks t ++ symbol s.Semicolon ∷ [])) ∷ cut 0 rest
 unfolding cut ends_unit braces_after type_toks flat_toks
 decl-whole word n (Flat (Rows k)) rest = refl
 decl-whole word n (Flat (Stream k)) rest = refl
@@ -237,7 +265,12 @@ decl-formed d h = record {
     is = refl;
     first = named-formed d.name h.0;
     second =
-        record { back = type_toks d.kind ++ symbol s.Semicolon ∷ []; is = refl; formed = record { front = type_toks d.kind; is = refl; formed = type-formed d.kind h.1 } };
+        record {
+          back = type_toks d.kind ++ symbol s.Semicolon ∷ [];
+          is = refl;
+          formed =
+              record { front = type_toks d.kind; is = refl; formed = type-formed d.kind h.1 };
+        };
   };
 }
 
@@ -283,7 +316,8 @@ unfolding kind_toks
 kind-piece (Sum k) h = worded (codes "sum") (decimal k ∷ []) (count_tok k ∷ []) is_sum (one_count k h)
 kind-piece (Collection k) h = worded (codes "collection") (decimal k ∷ []) (count_tok k ∷ []) is_collection (one_count k h)
 kind-piece (Maximum best k) h =
-    worded (codes "maximum") (decimal best ∷ decimal k ∷ []) (count_tok best ∷ count_tok k ∷ []) is_maximum (pieces form.Count decimal count_tok w.IsCount count-item (best ∷ k ∷ []) (h.0, (h.1, tt)))
+    worded (codes "maximum") (decimal best ∷ decimal k ∷ []) (count_tok best ∷ count_tok k ∷ []) is_maximum
+    (pieces form.Count decimal count_tok w.IsCount count-item (best ∷ k ∷ []) (h.0, (h.1, tt)))
 
 kind-formed : (t : TableKind) → w.IsWritableKind t → form.Headed p.KindAfter t (kind_toks t)
 unfolding kind_toks
@@ -299,7 +333,14 @@ kind-formed (Maximum best k) h = record {
     value = (best, k);
     is = refl;
     formed = round-formed (λ k. form.Both form.Count (form.After (s.Comma ∷ []) form.Count)) 127 (best, k) (number best ∷ symbol s.Comma ∷ number k ∷ [])
-        (record { front = number best ∷ []; back = symbol s.Comma ∷ number k ∷ []; is = refl; first = count-formed best h.0; second = record { back = number k ∷ []; is = refl; formed = count-formed k h.1 } });
+        (record {
+          front = number best ∷ [];
+          back = symbol s.Comma ∷ number k ∷ [];
+          is = refl;
+          first = count-formed best h.0;
+          second =
+              record { back = number k ∷ []; is = refl; formed = count-formed k h.1 };
+        });
   };
 }
 
@@ -308,7 +349,8 @@ unfoldable pub table_toks : TableDecl → List Tok
 table_toks t = name (codes "table") ∷ var t.name ∷ symbol s.Colon ∷ (kind_toks t.kind ++ symbol s.Semicolon ∷ [])
 
 table-whole : (n : List ℕ) (t : TableKind) (rest : List Tok)
-    → cut 0 (name (codes "table") ∷ var n ∷ symbol s.Colon ∷ ((kind_toks t ++ symbol s.Semicolon ∷ []) ++ rest)) ≡ (name (codes "table") ∷ var n ∷ symbol s.Colon ∷ (kind_toks t ++ symbol s.Semicolon ∷ [])) ∷ cut 0 rest
+    → cut 0 (name (codes "table") ∷ var n ∷ symbol s.Colon ∷ ((kind_toks t ++ symbol s.Semicolon ∷ []) ++ rest)) ≡
+    (name (codes "table") ∷ var n ∷ symbol s.Colon ∷ (kind_toks t ++ symbol s.Semicolon ∷ [])) ∷ cut 0 rest
 unfolding cut ends_unit braces_after kind_toks
 table-whole n (Sum k) rest = refl
 table-whole n (Collection k) rest = refl
@@ -319,10 +361,13 @@ unfolding table_toks
 table-spells t h =
     let kind = table_text t.kind ++ codes ";\n" in
     let toks = kind_toks t.kind ++ symbol s.Semicolon ∷ [] in
-    line-then (codes "table") (name (codes "table") ∷ []) (codes " " ++ (var_text t.name ++ (codes ": " ++ kind))) (var t.name ∷ symbol s.Colon ∷ toks) (name-piece (codes "table") is_table)
+    line-then (codes "table") (name (codes "table") ∷ []) (codes " " ++ (var_text t.name ++ (codes ": " ++ kind))) (var t.name ∷ symbol s.Colon ∷ toks)
+    (name-piece (codes "table") is_table)
     (line-blank (var_text t.name ++ (codes ": " ++ kind)) (var t.name ∷ symbol s.Colon ∷ toks)
     (line-then (var_text t.name) (var t.name ∷ []) (codes ": " ++ kind) (symbol s.Colon ∷ toks) (var-piece t.name (name-text t.name h.0))
-    (colon-line kind toks (line-then (table_text t.kind) (kind_toks t.kind) (codes ";\n") (symbol s.Semicolon ∷ []) (kind-piece t.kind h.1) semicolon-end (now-semicolon (codes "\n"))))
+    (colon-line kind toks
+    (line-then (table_text t.kind) (kind_toks t.kind) (codes ";\n") (symbol s.Semicolon ∷ []) (kind-piece t.kind h.1) semicolon-end
+    (now-semicolon (codes "\n"))))
     (now-colon (codes " " ++ kind))))
     (now-blank (var_text t.name ++ (codes ": " ++ kind)))
 
@@ -342,7 +387,12 @@ table-formed t h = record {
     is = refl;
     first = variable-formed t.name h.0;
     second =
-        record { back = kind_toks t.kind ++ symbol s.Semicolon ∷ []; is = refl; formed = record { front = kind_toks t.kind; is = refl; formed = kind-formed t.kind h.1 } };
+        record {
+          back = kind_toks t.kind ++ symbol s.Semicolon ∷ [];
+          is = refl;
+          formed =
+              record { front = kind_toks t.kind; is = refl; formed = kind-formed t.kind h.1 };
+        };
   };
 }
 
@@ -360,8 +410,11 @@ pub var-unit : (v : List ℕ) → w.IsNamed v → UnitPiece (var_line v) (var_to
 unfolding var_toks
 var-unit v h = record {
   spells =
-      line-then (codes "var") (name (codes "var") ∷ []) (codes " " ++ (var_text v ++ codes ";\n")) (var v ∷ symbol s.Semicolon ∷ []) (name-piece (codes "var") is_var)
-      (line-blank (var_text v ++ codes ";\n") (var v ∷ symbol s.Semicolon ∷ []) (line-then (var_text v) (var v ∷ []) (codes ";\n") (symbol s.Semicolon ∷ []) (var-piece v (name-text v h)) semicolon-end (now-semicolon (codes "\n")))) (now-blank (var_text v ++ codes ";\n"));
+      line-then (codes "var") (name (codes "var") ∷ []) (codes " " ++ (var_text v ++ codes ";\n")) (var v ∷ symbol s.Semicolon ∷ [])
+      (name-piece (codes "var") is_var)
+      (line-blank (var_text v ++ codes ";\n") (var v ∷ symbol s.Semicolon ∷ [])
+      (line-then (var_text v) (var v ∷ []) (codes ";\n") (symbol s.Semicolon ∷ []) (var-piece v (name-text v h)) semicolon-end (now-semicolon (codes "\n"))))
+      (now-blank (var_text v ++ codes ";\n"));
   begins = λ rest. refl;
   whole = λ rest none. var-whole v rest;
 }
@@ -427,7 +480,8 @@ kernel_braced op = symbol s.OpenBrace ∷ (kernel_toks op.kernel ++ symbol s.Clo
 -- the tokens of an operator: what it writes, what it reads, and its kernel in braces
 unfoldable pub op_toks : OpForm → List Tok
 op_toks op =
-    name (codes "op") ∷ name op.label ∷ symbol s.Colon ∷ listed (port_toks op.writes op.vars) (symbol s.Less ∷ symbol s.Minus ∷ listed (port_toks op.reads op.vars) (kernel_braced op))
+    name (codes "op") ∷ name op.label ∷ symbol s.Colon ∷ listed (port_toks op.writes op.vars)
+    (symbol s.Less ∷ symbol s.Minus ∷ listed (port_toks op.reads op.vars) (kernel_braced op))
 
 less_minus : (rest : List ℕ) → MayFollow s.Less (codes "-" ++ rest)
 unfolding long_symbol
@@ -443,23 +497,36 @@ op-spells op h =
     let kernel : Line (codes "{ " ++ (k ++ codes " }\n")) toks =
     subst (λ (l : List Tok). Line (codes "{ " ++ (k ++ codes " }\n")) l) (append-nil toks)
     (subst (λ (l : List ℕ). Line (codes "{ " ++ l) (toks ++ [])) (append_assoc k (codes " }") (codes "\n"))
-    (line-then (codes "{ " ++ (k ++ codes " }")) toks (codes "\n") [] (braced k (kernel_toks op.kernel) (kernel-piece op.kernel h.1)) line-end (now-line []))) in
+    (line-then (codes "{ " ++ (k ++ codes " }")) toks (codes "\n") [] (braced k (kernel_toks op.kernel) (kernel-piece op.kernel h.1)) line-end
+    (now-line []))) in
     let tail : List ℕ = codes " { " ++ (k ++ codes " }\n") in
-    let second : Line (p2 ++ tail) (listed (port_toks op.reads op.vars) toks) = ports-line op.reads op.vars tail toks h.3 h.5 (line-blank (codes "{ " ++ (k ++ codes " }\n")) toks kernel) (now-blank (codes "{ " ++ (k ++ codes " }\n"))) in
+    let second : Line (p2 ++ tail) (listed (port_toks op.reads op.vars) toks) =
+    ports-line op.reads op.vars tail toks h.3 h.5 (line-blank (codes "{ " ++ (k ++ codes " }\n")) toks kernel)
+    (now-blank (codes "{ " ++ (k ++ codes " }\n"))) in
     let second_toks : List Tok = listed (port_toks op.reads op.vars) toks in
     let arrow : Line (codes " <- " ++ (p2 ++ tail)) (symbol s.Less ∷ symbol s.Minus ∷ second_toks) =
-    line-blank (codes "<- " ++ (p2 ++ tail)) (symbol s.Less ∷ symbol s.Minus ∷ second_toks) (line-symbol s.Less (codes "- " ++ (p2 ++ tail)) (symbol s.Minus ∷ second_toks)
-    (line-symbol s.Minus (codes " " ++ (p2 ++ tail)) second_toks (line-blank (p2 ++ tail) second_toks second) (λ rest. blank_follows s.Minus ((p2 ++ tail) ++ rest))) (λ rest. less_minus (codes " " ++ ((p2 ++ tail) ++ rest)))) in
+    line-blank (codes "<- " ++ (p2 ++ tail)) (symbol s.Less ∷ symbol s.Minus ∷ second_toks)
+    (line-symbol s.Less (codes "- " ++ (p2 ++ tail)) (symbol s.Minus ∷ second_toks)
+    (line-symbol s.Minus (codes " " ++ (p2 ++ tail)) second_toks (line-blank (p2 ++ tail) second_toks second)
+    (λ rest. blank_follows s.Minus ((p2 ++ tail) ++ rest))) (λ rest. less_minus (codes " " ++ ((p2 ++ tail) ++ rest)))) in
     let first : Line (p1 ++ (codes " <- " ++ (p2 ++ tail))) (listed (port_toks op.writes op.vars) (symbol s.Less ∷ symbol s.Minus ∷ second_toks)) =
-    ports-line op.writes op.vars (codes " <- " ++ (p2 ++ tail)) (symbol s.Less ∷ symbol s.Minus ∷ second_toks) h.4 h.5 arrow (now-blank (codes "<- " ++ (p2 ++ tail))) in
+    ports-line op.writes op.vars (codes " <- " ++ (p2 ++ tail)) (symbol s.Less ∷ symbol s.Minus ∷ second_toks) h.4 h.5 arrow
+    (now-blank (codes "<- " ++ (p2 ++ tail))) in
     let first_toks : List Tok = listed (port_toks op.writes op.vars) (symbol s.Less ∷ symbol s.Minus ∷ second_toks) in
     let labelled : Line (op.label ++ (codes ": " ++ (p1 ++ (codes " <- " ++ (p2 ++ tail))))) (name op.label ∷ symbol s.Colon ∷ first_toks) =
-    line-then op.label (name op.label ∷ []) (codes ": " ++ (p1 ++ (codes " <- " ++ (p2 ++ tail)))) (symbol s.Colon ∷ first_toks) (name-piece op.label (name-text op.label h.0)) (colon-line (p1 ++ (codes " <- " ++ (p2 ++ tail))) first_toks first) (now-colon (codes " " ++ (p1 ++ (codes " <- " ++ (p2 ++ tail))))) in
-    let whole : Line (codes "op " ++ (op.label ++ (codes ": " ++ (p1 ++ (codes " <- " ++ (p2 ++ tail)))))) (name (codes "op") ∷ name op.label ∷ symbol s.Colon ∷ first_toks) =
-    line-then (codes "op") (name (codes "op") ∷ []) (codes " " ++ (op.label ++ (codes ": " ++ (p1 ++ (codes " <- " ++ (p2 ++ tail)))))) (name op.label ∷ symbol s.Colon ∷ first_toks) (name-piece (codes "op") is_op)
-    (line-blank (op.label ++ (codes ": " ++ (p1 ++ (codes " <- " ++ (p2 ++ tail))))) (name op.label ∷ symbol s.Colon ∷ first_toks) labelled) (now-blank (op.label ++ (codes ": " ++ (p1 ++ (codes " <- " ++ (p2 ++ tail)))))) in
+    line-then op.label (name op.label ∷ []) (codes ": " ++ (p1 ++ (codes " <- " ++ (p2 ++ tail)))) (symbol s.Colon ∷ first_toks)
+    (name-piece op.label (name-text op.label h.0)) (colon-line (p1 ++ (codes " <- " ++ (p2 ++ tail))) first_toks first)
+    (now-colon (codes " " ++ (p1 ++ (codes " <- " ++ (p2 ++ tail))))) in
+    let whole : Line (codes "op " ++ (op.label ++ (codes ": " ++ (p1 ++ (codes " <- " ++ (p2 ++ tail))))))
+    (name (codes "op") ∷ name op.label ∷ symbol s.Colon ∷ first_toks) =
+    line-then (codes "op") (name (codes "op") ∷ []) (codes " " ++ (op.label ++ (codes ": " ++ (p1 ++ (codes " <- " ++ (p2 ++ tail))))))
+    (name op.label ∷ symbol s.Colon ∷ first_toks) (name-piece (codes "op") is_op)
+    (line-blank (op.label ++ (codes ": " ++ (p1 ++ (codes " <- " ++ (p2 ++ tail))))) (name op.label ∷ symbol s.Colon ∷ first_toks) labelled)
+    (now-blank (op.label ++ (codes ": " ++ (p1 ++ (codes " <- " ++ (p2 ++ tail)))))) in
     let regroup : op_line op ≡ codes "op " ++ (op.label ++ (codes ": " ++ (p1 ++ (codes " <- " ++ (p2 ++ tail))))) =
-    ap (λ (l : List ℕ). codes "op " ++ l) (append_assoc op.label (codes ": " ++ (p1 ++ (codes " <- " ++ p2))) tail ∙ ap (λ (l : List ℕ). op.label ++ (codes ": " ++ l)) (append_assoc p1 (codes " <- " ++ p2) tail)) in
+    ap (λ (l : List ℕ). codes "op " ++ l)
+    (append_assoc op.label (codes ": " ++ (p1 ++ (codes " <- " ++ p2))) tail
+    ∙ ap (λ (l : List ℕ). op.label ++ (codes ": " ++ l)) (append_assoc p1 (codes " <- " ++ p2) tail)) in
     subst (λ (l : List ℕ). Line l (name (codes "op") ∷ name op.label ∷ symbol s.Colon ∷ first_toks)) (sym regroup) whole
 
 -- outside braces these tokens end no unit
@@ -468,7 +535,10 @@ record Loose (ts : List Tok) : Type 0 where
 
 flat-then : (ts us : List Tok) → Loose ts → Loose us → Loose (ts ++ us)
 flat-then ts us x y =
-    record { goes = λ rest. ap (cut 0) (append_assoc ts us rest) ∙ x.goes (us ++ rest) ∙ ap (all_first ts) (y.goes rest) ∙ sym (all_first-append ts us (cut 0 rest)) }
+    record {
+      goes = λ rest. ap (cut 0) (append_assoc ts us rest) ∙ x.goes (us ++ rest) ∙ ap (all_first ts) (y.goes rest)
+          ∙ sym (all_first-append ts us (cut 0 rest));
+    }
 
 flat-nothing : Loose []
 flat-nothing = record { goes = λ rest. refl }
@@ -508,7 +578,8 @@ flat-port (p.variable v) = flat-var v
 flat-more : (xs : List p.Port) → Loose (more_toks (map port_tok xs))
 flat-more [] = flat-nothing
 flat-more (x ∷ xs) =
-    flat-then (symbol s.Comma ∷ []) (port_tok x ++ more_toks (map port_tok xs)) flat-comma (flat-then (port_tok x) (more_toks (map port_tok xs)) (flat-port x) (flat-more xs))
+    flat-then (symbol s.Comma ∷ []) (port_tok x ++ more_toks (map port_tok xs)) flat-comma
+    (flat-then (port_tok x) (more_toks (map port_tok xs)) (flat-port x) (flat-more xs))
 
 flat-items : (xs : List p.Port) → Loose (items_toks (map port_tok xs))
 flat-items [] = flat-nothing
@@ -535,11 +606,14 @@ braces-whole : (k rest : List Tok) → Inside k → is_else rest ≡ false
     → cut 0 ((symbol s.OpenBrace ∷ (k ++ symbol s.CloseBrace ∷ [])) ++ rest) ≡ (symbol s.OpenBrace ∷ (k ++ symbol s.CloseBrace ∷ [])) ∷ cut 0 rest
 braces-whole k rest x none =
     opens ((k ++ symbol s.CloseBrace ∷ []) ++ rest)
-    ∙ ap (to_first (symbol s.OpenBrace)) (ap (cut 1) (append_assoc k (symbol s.CloseBrace ∷ []) rest) ∙ x.goes 0 (symbol s.CloseBrace ∷ rest) ∙ ap (all_first k) (closes rest none) ∙ all_first-one k (symbol s.CloseBrace ∷ []) (cut 0 rest))
+    ∙ ap (to_first (symbol s.OpenBrace))
+    (ap (cut 1) (append_assoc k (symbol s.CloseBrace ∷ []) rest) ∙ x.goes 0 (symbol s.CloseBrace ∷ rest) ∙ ap (all_first k) (closes rest none)
+    ∙ all_first-one k (symbol s.CloseBrace ∷ []) (cut 0 rest))
 
 abbrev op_front : OpForm → List Tok
 op_front op =
-    name (codes "op") ∷ name op.label ∷ symbol s.Colon ∷ listed (port_toks op.writes op.vars) (symbol s.Less ∷ symbol s.Minus ∷ listed (port_toks op.reads op.vars) [])
+    name (codes "op") ∷ name op.label ∷ symbol s.Colon ∷ listed (port_toks op.writes op.vars)
+    (symbol s.Less ∷ symbol s.Minus ∷ listed (port_toks op.reads op.vars) [])
 
 op-split : (op : OpForm) → op_toks op ≡ op_front op ++ kernel_braced op
 unfolding op_toks
@@ -547,15 +621,21 @@ op-split op =
     let i1 = items_toks (port_toks op.writes op.vars) in
     let i2 = items_toks (port_toks op.reads op.vars) in
     ap (λ (l : List Tok). name (codes "op") ∷ name op.label ∷ symbol s.Colon ∷ symbol s.Open ∷ l)
-    (ap (λ (l : List Tok). i1 ++ symbol s.Close ∷ symbol s.Less ∷ symbol s.Minus ∷ symbol s.Open ∷ l) (sym (append_assoc i2 (symbol s.Close ∷ []) (kernel_braced op)))
+    (ap (λ (l : List Tok). i1 ++ symbol s.Close ∷ symbol s.Less ∷ symbol s.Minus ∷ symbol s.Open ∷ l)
+    (sym (append_assoc i2 (symbol s.Close ∷ []) (kernel_braced op)))
     ∙ sym (append_assoc i1 (symbol s.Close ∷ symbol s.Less ∷ symbol s.Minus ∷ symbol s.Open ∷ (i2 ++ symbol s.Close ∷ [])) (kernel_braced op)))
 
 flat-front : (op : OpForm) → Loose (op_front op)
 flat-front op =
-    flat-then (name (codes "op") ∷ []) (name op.label ∷ symbol s.Colon ∷ listed (port_toks op.writes op.vars) (symbol s.Less ∷ symbol s.Minus ∷ listed (port_toks op.reads op.vars) [])) (flat-name (codes "op"))
-    (flat-then (name op.label ∷ []) (symbol s.Colon ∷ listed (port_toks op.writes op.vars) (symbol s.Less ∷ symbol s.Minus ∷ listed (port_toks op.reads op.vars) [])) (flat-name op.label)
+    flat-then (name (codes "op") ∷ [])
+    (name op.label ∷ symbol s.Colon ∷ listed (port_toks op.writes op.vars) (symbol s.Less ∷ symbol s.Minus ∷ listed (port_toks op.reads op.vars) []))
+    (flat-name (codes "op"))
+    (flat-then (name op.label ∷ [])
+    (symbol s.Colon ∷ listed (port_toks op.writes op.vars) (symbol s.Less ∷ symbol s.Minus ∷ listed (port_toks op.reads op.vars) [])) (flat-name op.label)
     (flat-then (symbol s.Colon ∷ []) (listed (port_toks op.writes op.vars) (symbol s.Less ∷ symbol s.Minus ∷ listed (port_toks op.reads op.vars) [])) flat-colon
-    (flat-listed (ports op.writes op.vars) (symbol s.Less ∷ symbol s.Minus ∷ listed (port_toks op.reads op.vars) []) (flat-then (symbol s.Less ∷ symbol s.Minus ∷ []) (listed (port_toks op.reads op.vars) []) flat-arrow (flat-listed (ports op.reads op.vars) [] flat-nothing)))))
+    (flat-listed (ports op.writes op.vars) (symbol s.Less ∷ symbol s.Minus ∷ listed (port_toks op.reads op.vars) [])
+    (flat-then (symbol s.Less ∷ symbol s.Minus ∷ []) (listed (port_toks op.reads op.vars) []) flat-arrow
+    (flat-listed (ports op.reads op.vars) [] flat-nothing)))))
 
 op-whole : (op : OpForm) → w.IsWritableOp op → (rest : List Tok) → is_else rest ≡ false → cut 0 (op_toks op ++ rest) ≡ op_toks op ∷ cut 0 rest
 op-whole op h rest none =
@@ -578,11 +658,13 @@ same-names (v ∷ vs) = rw ((bytes_eq-Decides v v).1 refl, same-names vs) refl
 
 abbrev op_back : OpForm → List Tok
 op_back op =
-    name op.label ∷ symbol s.Colon ∷ listed (port_toks op.writes op.vars) (symbol s.Less ∷ symbol s.Minus ∷ listed (port_toks op.reads op.vars) (kernel_braced op))
+    name op.label ∷ symbol s.Colon ∷ listed (port_toks op.writes op.vars)
+    (symbol s.Less ∷ symbol s.Minus ∷ listed (port_toks op.reads op.vars) (kernel_braced op))
 
 ports-formed : (qs vs : List Name) → w.Every w.IsNamed qs → w.Every w.IsNamed vs → Round (λ m. p.IsPorts) 128 (qs, vs) (listed (port_toks qs vs) [])
 ports-formed qs vs h k =
-    round-formed (λ k. p.IsPorts) 127 (qs, vs) (items_toks (port_toks qs vs)) (items-listing p.IsPort port_text port_tok IsPortNamed port-item (ports qs vs) (ports-named qs vs h k))
+    round-formed (λ k. p.IsPorts) 127 (qs, vs) (items_toks (port_toks qs vs))
+    (items-listing p.IsPort port_text port_tok IsPortNamed port-item (ports qs vs) (ports-named qs vs h k))
 
 -- an operator is in the grammar
 pub op-formed : (op : OpForm) → w.IsWritableOp op → p.IsOp op (op_back op)

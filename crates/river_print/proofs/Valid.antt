@@ -77,7 +77,8 @@ some_values outs port n h k = of_port (slice_get outs port) (there outs port h) 
     of_port (Some z) h k = let e : count_of z ≡ n = grind (arith, nat_tests, k) in omega (arith, e, h)
 
 mutual
-  step : (inputs slots : ℕ) (outs : List ℤ) (x : Step) → are_widths outs ≡ true → is_step inputs slots outs x ≡ true → ranges.IsRangedStep x → w.IsWritableStep x
+  step : (inputs slots : ℕ) (outs : List ℤ) (x : Step) → are_widths outs ≡ true → is_step inputs slots outs x ≡ true → ranges.IsRangedStep x
+      → w.IsWritableStep x
   step i s outs (Set slot t) wide h k = let a = and_parts (nat_lt slot s) (is_term i s t) h in (k.0, term i s t a.1 k.1)
   step i s outs (Push port ts) wide h k =
       let a = and_parts (has_port outs port (length ts)) (list_all (is_term i s) ts) h in
@@ -133,7 +134,8 @@ code c wide h k s =
 run : (slots : ℕ) (x : RunForm) → is_run slots x ≡ true → ranges.IsRangedRun x → depths x.body.steps ≤ 16 → w.IsWritableRun slots x
 run slots x h k d =
     let body = is_steps x.peek slots (pos 1 ∷ []) x.body.steps in
-    let a = and_parts (nat_eq x.body.inputs x.peek) (nat_eq x.body.slots slots && (nat_le x.pop x.peek && (body && is_number (pushes x.body.steps) x.push))) h in
+    let a = and_parts (nat_eq x.body.inputs x.peek)
+    (nat_eq x.body.slots slots && (nat_le x.pop x.peek && (body && is_number (pushes x.body.steps) x.push))) h in
     let b = and_parts (nat_eq x.body.slots slots) (nat_le x.pop x.peek && (body && is_number (pushes x.body.steps) x.push)) a.1 in
     let c = and_parts (nat_le x.pop x.peek) (body && is_number (pushes x.body.steps) x.push) b.1 in
     let e = and_parts body (is_number (pushes x.body.steps) x.push) c.1 in
@@ -147,12 +149,23 @@ filter : (f : FilterForm) → is_filter f ≡ true → ranges.IsRangedFilter f �
 filter f h0 k s =
     let z = and_parts (is_usual f) (is_first f.body.slots f.first) h0 in
     let h = z.0 in
-    let a = and_parts (has_rates f) (is_steps f.peek f.body.slots (pos 1 ∷ []) f.body.steps && (nat_le (length f.starts) f.body.slots && is_number (pushes f.body.steps) f.push)) h in
-    let b = and_parts (is_steps f.peek f.body.slots (pos 1 ∷ []) f.body.steps) (nat_le (length f.starts) f.body.slots && is_number (pushes f.body.steps) f.push) a.1 in
-    let c = and_parts (nat_eq f.body.inputs f.peek) (nat_le 1 f.pop && nat_le f.pop f.peek) a.0 in
-    (k.0, k.1, k.2, k.3.1, k.4, (steps f.peek f.body.slots (pos 1 ∷ []) f.body.steps refl b.0 k.3.2, s.0), same_eq f.body.inputs f.peek c.0, first f.body.slots f.first z.1 k.5 s.1)
+    let a = and_parts (has_rates f)
+    (is_steps f.peek f.body.slots (pos 1 ∷ []) f.body.steps && (nat_le (length f.starts) f.body.slots && is_number (pushes f.body.steps) f.push)) h in
+    let b = and_parts (is_steps f.peek f.body.slots (pos 1 ∷ []) f.body.steps)
+    (nat_le (length f.starts) f.body.slots && is_number (pushes f.body.steps) f.push) a.1 in
+    let c = and_parts (nat_eq f.body.inputs f.peek) (nat_le 1 f.pop && nat_le f.pop f.peek) a.0 in (
+      k.0,
+      k.1,
+      k.2,
+      k.3.1,
+      k.4,
+      (steps f.peek f.body.slots (pos 1 ∷ []) f.body.steps refl b.0 k.3.2, s.0),
+      same_eq f.body.inputs f.peek c.0,
+      first f.body.slots f.first z.1 k.5 s.1,
+    )
 
-kernel : (k : Kern) (is os : List QueueType) (vs : List VarKind) → Fits k is os vs → ranges.IsRangedKernel k → r.IsShallow k → r.HasForward k → w.IsWritableKernel k
+kernel : (k : Kern) (is os : List QueueType) (vs : List VarKind) → Fits k is os vs → ranges.IsRangedKernel k → r.IsShallow k → r.HasForward k
+    → w.IsWritableKernel k
 kernel (kern.code c) is os vs f k s d =
     let a = and_parts (is_width c.body.inputs) (are_widths c.outs && is_code c) f.3 in
     let b = and_parts (are_widths c.outs) (is_code c) a.1 in

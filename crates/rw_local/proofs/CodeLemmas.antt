@@ -15,7 +15,8 @@ share-append (v ∷ vs) ws us a b =
 pub share_next : (us xs : List Name) (i : ℕ) (x : Name) → i < length xs → x ≡ get_or xs i x → count x us ≡ 0 → share (take i xs) us ≡ false
     → share (take (i + 1) xs) us ≡ false
 share_next us xs i x lt e z h =
-    ap (λ l. share l us) (next_take xs i x lt e) ∙ share-append (take i xs) (x ∷ []) us h (or_from (nat_lt 0 (count x us)) false (le-ltb 0 (count x us) (omega (arith, z))) refl)
+    ap (λ l. share l us) (next_take xs i x lt e)
+    ∙ share-append (take i xs) (x ∷ []) us h (or_from (nat_lt 0 (count x us)) false (le-ltb 0 (count x us) (omega (arith, z))) refl)
 
 -- a name that both lists have
 pub share_at : (us xs : List Name) (i : ℕ) (x : Name) → i < length xs → x ≡ get_or xs i x → 0 < count x us → share xs us ≡ true

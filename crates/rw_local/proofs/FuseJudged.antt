@@ -128,7 +128,8 @@ module _ (p : PlanForm) (q : Name) (v : IsPlan p) where
     -- the two as one are one operator
     pub whole_is : (op : OpForm) → IsBothAsOne q w r op → op ≡ fused_op q w r
     whole_is op k =
-        let kern : op.kernel ≡ fused w.kernel r.kernel (place_of_name q w.writes) = k.kernel ∙ ap (fused w.kernel r.kernel) (sym (outs_cut k.left k.right k.outs)) in
+        let kern : op.kernel ≡ fused w.kernel r.kernel (place_of_name q w.writes) = k.kernel
+        ∙ ap (fused w.kernel r.kernel) (sym (outs_cut k.left k.right k.outs)) in
         let outs : op.writes ≡ spliced (place_of_name q w.writes) w.writes r.writes = k.writes ∙ sym (outs_spliced k.left k.right k.outs) in
         λ i. record { label = k.label i; kernel = kern i; reads = k.reads i; writes = outs i; vars = k.vars i }
 

@@ -110,7 +110,8 @@ module _ (p : PlanForm) (q : Name) (w r : OpForm) (v : IsPlan p) (m : MayFuse p 
   -- q is used nowhere in the new plan
   apart : (x : Name) → 0 < total (reads_it x) p'.ops + total (writes_it x) p'.ops → name_eq q x ≡ false
   apart x lt = ⊎_elim
-      (λ d. absurd (let k = ap one_if d.1 in let a = reads_fewer x in let b = writes_fewer x in let o = v.read_once x in let o' = v.written_once x in omega (arith, a, b, o, o', k, lt)))
+      (λ d. absurd (let k = ap one_if d.1 in let a = reads_fewer x in let b = writes_fewer x in let o = v.read_once x in let o' =
+      v.written_once x in omega (arith, a, b, o, o', k, lt)))
       (λ d. d.1)
       (cases_name q x)
 
@@ -178,8 +179,11 @@ module _ (p : PlanForm) (q : Name) (w r : OpForm) (v : IsPlan p) (m : MayFuse p 
       let P : ℕ → Type 0 = λ n. n ≤ 64 in
       let f : OpForm → List ℕ = λ op. length op.reads ∷ length op.writes ∷ [] in
       let a = old (λ op. All P (f op)) (flat_each f P p.ops (v.within Ports)) in
-      each_flat f P p'.ops (together p.ops p'.ops e (λ op. All P (f op)) a.front
-      (All-append P (length w.reads ∷ []) (length new.writes ∷ []) (all_here P (length w.reads ∷ []) (length w.writes ∷ []) a.one.0) (all_one P (length new.writes) m.ports), tt)
+      each_flat f P p'.ops (together p.ops p'.ops e (λ op. All P (f op)) a.front (
+        All-append P (length w.reads ∷ []) (length new.writes ∷ []) (all_here P (length w.reads ∷ []) (length w.writes ∷ []) a.one.0)
+            (all_one P (length new.writes) m.ports),
+        tt,
+      )
       a.mid a.back)
 
   nested_within : All (λ n. n ≤ 32) (numbers Nesting p')
@@ -241,9 +245,11 @@ module _ (p : PlanForm) (q : Name) (w r : OpForm) (v : IsPlan p) (m : MayFuse p 
     variables_once = v.variables_once;
     labels_once = λ l. let a = v.labels_once l in let b = sums (named_it l) in omega (arith, a, b);
     reads_declared =
-        λ x lt. let a = v.reads_declared x in let b = names_fewer x in let d = reads_fewer x in let o = v.read_once x in let k = a (omega (arith, d, lt)) in omega (arith, b, d, o, k, lt);
+        λ x lt. let a = v.reads_declared x in let b = names_fewer x in let d = reads_fewer x in let o = v.read_once x in let k =
+        a (omega (arith, d, lt)) in omega (arith, b, d, o, k, lt);
     writes_declared =
-        λ x lt. let a = v.writes_declared x in let b = names_fewer x in let d = writes_fewer x in let o = v.written_once x in let k = a (omega (arith, d, lt)) in omega (arith, b, d, o, k, lt);
+        λ x lt. let a = v.writes_declared x in let b = names_fewer x in let d = writes_fewer x in let o = v.written_once x in let k =
+        a (omega (arith, d, lt)) in omega (arith, b, d, o, k, lt);
     vars_declared = λ t lt. let a = vars_same t in v.vars_declared t (omega (arith, a, lt));
     written_once = λ x. let a = v.written_once x in let b = writes_fewer x in omega (arith, a, b);
     read_once = λ x. let a = v.read_once x in let b = reads_fewer x in omega (arith, a, b);
@@ -348,7 +354,9 @@ module _ (p : PlanForm) (q : Name) (w r : OpForm) (v : IsPlan p) (m : MayFuse p 
     same = record {
       hist =
           λ x lt. sym (is_hist x)
-          ∙ else_same x (⊎_elim (λ d. absurd (let k = ap (λ n. count n (decl_names p.outputs)) d.0 in let a = q_read in let o = v.read_once q in omega (arith, a, o, k, lt))) (λ d. ap one_if d.1) (cases_name q x));
+          ∙ else_same x (⊎_elim
+          (λ d. absurd (let k = ap (λ n. count n (decl_names p.outputs)) d.0 in let a = q_read in let o = v.read_once q in omega (arith, a, o, k, lt)))
+          (λ d. ap one_if d.1) (cases_name q x));
       adds = same_adds;
     }
 

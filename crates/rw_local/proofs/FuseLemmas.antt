@@ -76,7 +76,8 @@ pub place_of : {A : Type 0} (f : Name → A) (ws : List Name) (q : Name) → 0 <
 place_of f [] q lt = absurd (omega (arith, lt))
 place_of f (w ∷ ws) q lt = ⊎_elim
     (λ c. ap (slice_get (map f (w ∷ ws))) (if_true (name_eq w q) 0 (suc (place_of_name q ws)) c.1) ∙ ap (λ n. Some (f n)) c.0)
-    (λ c. ap (slice_get (map f (w ∷ ws))) (if_false (name_eq w q) 0 (suc (place_of_name q ws)) c.1) ∙ place_of f ws q (let z = ap one_if c.1 in omega (arith, z, lt)))
+    (λ c. ap (slice_get (map f (w ∷ ws))) (if_false (name_eq w q) 0 (suc (place_of_name q ws)) c.1)
+    ∙ place_of f ws q (let z = ap one_if c.1 in omega (arith, z, lt)))
     (cases_name w q)
 
 -- the list at the place of a name
@@ -89,7 +90,8 @@ list_at_place (w ∷ ws) q f h lt l = ⊎_elim
     (cases_name w q)
 
 -- how often a name stands in spliced lists
-pub count_spliced : (ws vs : List Name) (q x : Name) → 0 < count q ws → count x (spliced (place_of_name q ws) ws vs) + one_if (name_eq q x) ≡ count x ws + count x vs
+pub count_spliced : (ws vs : List Name) (q x : Name) → 0 < count q ws
+    → count x (spliced (place_of_name q ws) ws vs) + one_if (name_eq q x) ≡ count x ws + count x vs
 count_spliced [] vs q x lt = absurd (omega (arith, lt))
 count_spliced (w ∷ ws) vs q x lt = ⊎_elim
     (λ c.
@@ -110,7 +112,8 @@ count_spliced (w ∷ ws) vs q x lt = ⊎_elim
 beside_next : {A : Type 0} (n : ℕ) (f g : ℕ → A) (p : ℕ) → beside n (λ j. f (suc j)) g p ≡ beside (suc n) f g (suc p)
 beside_next n f g p = ⊎_elim
     (λ lt. if_lt p n (f (suc p)) (g (p - n)) lt ∙ sym (if_lt (suc p) (suc n) (f (suc p)) (g (suc p - suc n)) (omega (arith, lt))))
-    (λ ge. let e : p - n ≡ suc p - suc n = omega (arith, ge) in if_ge p n (f (suc p)) (g (p - n)) ge ∙ ap g e ∙ sym (if_ge (suc p) (suc n) (f (suc p)) (g (suc p - suc n)) (omega (arith, ge))))
+    (λ ge. let e : p - n ≡ suc p - suc n = omega (arith, ge) in if_ge p n (f (suc p)) (g (p - n)) ge ∙ ap g e
+    ∙ sym (if_ge (suc p) (suc n) (f (suc p)) (g (suc p - suc n)) (omega (arith, ge))))
     (cases_lt p n)
 
 -- the rows of two operators in one
@@ -118,8 +121,10 @@ pub joined_beside : {A : Type 0} (ts us : List Name) (f g : ℕ → List A) (t :
     → joined (ts ++ us) (beside (length ts) f g) t ≡ joined ts f t ++ joined us g t
 joined_beside [] us f g t = joined_cong us (beside 0 f g) g t (λ j. let e : j - 0 ≡ j = omega arith in if_ge j 0 (f j) (g (j - 0)) (omega arith) ∙ ap g e)
 joined_beside (w ∷ ts) us f g t =
-    ap (λ l. (if name_eq w t then l else []) ++ joined (ts ++ us) (λ j. beside (suc (length ts)) f g (suc j)) t) (if_lt 0 (suc (length ts)) (f 0) (g (0 - suc (length ts))) (omega arith))
-    ∙ ap (λ l. (if name_eq w t then f 0 else []) ++ l) (joined_cong (ts ++ us) _ _ t (λ j. sym (beside_next (length ts) f g j)) ∙ joined_beside ts us (λ j. f (suc j)) g t)
+    ap (λ l. (if name_eq w t then l else []) ++ joined (ts ++ us) (λ j. beside (suc (length ts)) f g (suc j)) t)
+    (if_lt 0 (suc (length ts)) (f 0) (g (0 - suc (length ts))) (omega arith))
+    ∙ ap (λ l. (if name_eq w t then f 0 else []) ++ l)
+    (joined_cong (ts ++ us) _ _ t (λ j. sym (beside_next (length ts) f g j)) ∙ joined_beside ts us (λ j. f (suc j)) g t)
     ∙ sym (append_assoc (if name_eq w t then f 0 else []) (joined ts (λ j. f (suc j)) t) (joined us g t))
 
 -- THE WHOLE
@@ -142,7 +147,8 @@ fused_given q w r h f reads eq =
     ap (λ xs. feed (fire b 0) xs fb) (sym eq) ∙ sym (one_input b (lists_of h (q ∷ [])) fb f.3) ∙ ap (λ rs. feed_all b (lists_of h rs) fb) (sym reads) in
     let l9' : Same (given_on (fused_op q w r) h) (fused_of at (outs b) (tabs a) W (λ xs. feed (fire b 0) xs fb)) =
     subst (λ us. Same (given_on (fused_op q w r) h) (fused_of at (outs b) (tabs a) W (λ xs. feed (fire b 0) xs us))) e2
-    (subst (λ us. Same (given_on (fused_op q w r) h) (fused_of at (outs b) (tabs a) (run (fire a) word us) (λ xs. feed (fire b 0) xs (drop (privates a) (fa ++ fb))))) e1 l9) in
+    (subst (λ us. Same (given_on (fused_op q w r) h)
+    (fused_of at (outs b) (tabs a) (run (fire a) word us) (λ xs. feed (fire b 0) xs (drop (privates a) (fa ++ fb))))) e1 l9) in
     subst (λ s. Same (given_on (fused_op q w r) h) (fused_of at (outs b) (tabs a) W (λ xs. s))) second l9'
 
 -- a list of one name

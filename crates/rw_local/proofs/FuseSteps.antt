@@ -50,7 +50,8 @@ module _ (p : PlanForm) (q : Name) (p' : PlanForm) where
       (λ one. ⊎_elim
       (λ large. absurd (not_ok U4 p' (sym (if_eq (length r.reads) 1 _ _ one ∙ if_true (is_large (fused_op q w r)) _ _ large) ∙ h)))
       (λ small. ⊎_elim
-      (λ s. absurd (not_ok U5 p' (sym (if_eq (length r.reads) 1 _ _ one ∙ if_false (is_large (fused_op q w r)) _ _ small ∙ if_true (share w.vars r.vars) _ _ s) ∙ h)))
+      (λ s. absurd (not_ok U5 p'
+      (sym (if_eq (length r.reads) 1 _ _ one ∙ if_false (is_large (fused_op q w r)) _ _ small ∙ if_true (share w.vars r.vars) _ _ s) ∙ h)))
       (λ s.
       let l = or_parts (nat_lt 32 (nesting (fused_op q w r).kernel)) (nat_lt 64 (length (fused_op q w r).writes)) small in
       record {
@@ -65,7 +66,8 @@ module _ (p : PlanForm) (q : Name) (p' : PlanForm) where
           apart = shares_none w.vars r.vars s;
         };
         is =
-            ok_same (fuse_two p q w r) (fused_plan p q w r) p' (if_eq (length r.reads) 1 _ _ one ∙ if_false (is_large (fused_op q w r)) _ _ small ∙ if_false (share w.vars r.vars) _ _ s) h;
+            ok_same (fuse_two p q w r) (fused_plan p q w r) p'
+            (if_eq (length r.reads) 1 _ _ one ∙ if_false (is_large (fused_op q w r)) _ _ small ∙ if_false (share w.vars r.vars) _ _ s) h;
       })
       (cases_bool (share w.vars r.vars)))
       (cases_bool (is_large (fused_op q w r))))

@@ -25,7 +25,7 @@ use Rattle.plan_edits.specs.declared.unfit.Unfit.{Unfit}
 use Rattle.plan_edits.specs.declared.unfit.Unfit.TheVariants.{U1, U2, U3, U4, U5, H1, H2, H3, H4, N1, N2, N3, N4, N5, NoMemory}
 use Rattle.plan_edits.specs.Lists.{place_of_name, first_with, replaced, retyped}
 use Rattle.plan_edits.specs.Answered.{IsAnswered}
-use Rattle.rw_local.specs.HoistCode.{IsPassing, Selects}
+use Rattle.rw_local.specs.HoistCode.{IsPassing, SelectsAt}
 use Rattle.rw_local.specs.Hoist.{plain_field, of_projection, first_side_width, first_width, passes, hoisted_plan, hoist_passed, hoist_past, hoist_between}
 use Rattle.rw_local.specs.Hoist.{hoist_kernel, hoist_found, hoist_of, MayHoist}
 use Rattle.plan_edits.proofs.OpLoops.{forms_next}
@@ -172,7 +172,7 @@ passing_err told whole N5 g h = g N5 h
 passing_err told whole NoMemory g h = tt
 
 -- a selection is hoisted by what its queue's writer allows
-pub hoist_selects : (p : PlanForm) (l : Name) (u : OpForm) (t : Term) (mid out : Name) → Selects p l u t mid out
+pub hoist_selects : (p : PlanForm) (l : Name) (u : OpForm) (t : Term) (mid out : Name) → SelectsAt p l u t mid out
     → hoist_of p l ≡ hoist_past p u t mid out (first_with (writes_it mid) p.ops)
 hoist_selects p l u t mid out s =
     ap (hoist_found p) s.here ∙ ap (hoist_kernel p u) s.kernel ∙ between_is p u t u.reads u.writes mid out (sym s.reads) (sym s.writes)
@@ -184,7 +184,7 @@ hoist_below p u b t mid out width o below one e =
     ap (hoist_past p u t mid out) below ∙ if_eq (length b.writes) 1 _ _ one ∙ ap (λ n. hoist_passed p u b mid out (passes n b.kernel t)) (sym e)
 
 -- the operator below is passed: the queue between the two is neither an input nor an output, and the new lists are valid
-pub hoist_may : (p : PlanForm) (l : Name) (u b : OpForm) (t : Term) (mid out : Name) (width side : ℕ) (t' : Term) → IsPlan p → Selects p l u t mid out
+pub hoist_may : (p : PlanForm) (l : Name) (u b : OpForm) (t : Term) (mid out : Name) (width side : ℕ) (t' : Term) → IsPlan p → SelectsAt p l u t mid out
     → first_with (writes_it mid) p.ops ≡ Some b → length b.writes ≡ 1 → width ≡ first_width (map (kind_of (all_decls p)) b.reads)
     → passes width b.kernel t ≡ Ok (side, t') → (src : Name) → slice_get b.reads side ≡ Some src
     → (0 < count mid (decl_names p.queues)) × IsPlan (hoisted_plan p u b side t' src mid out)

@@ -218,7 +218,8 @@ module _ (p : PlanForm) (l : Name) (v : IsPlan p) where
     no4 g h =
         let e = fed_same b u h.0 h.1 mid h.2 t h.3 f h.5 in
         let w = has_width h.4 (subst (λ x. HasFirstWidth p x h.4) (sym e.0) h.6) in
-        g (subst (λ n. StopsHoisting n b.kernel t) (sym w) (subst (λ (x : OpForm). StopsHoisting h.4 x.kernel t) (sym e.0) (subst (λ s. StopsHoisting h.4 h.0.kernel s) (sym e.3) h.7)))
+        g (subst (λ n. StopsHoisting n b.kernel t) (sym w)
+        (subst (λ (x : OpForm). StopsHoisting h.4 x.kernel t) (sym e.0) (subst (λ s. StopsHoisting h.4 h.0.kernel s) (sym e.3) h.7)))
 
     fit : IsFit p b
     fit = fit_at f.before b (f.middle ++ u ∷ f.behind) f.ops
@@ -404,7 +405,15 @@ module _ (p : PlanForm) (l : Name) (v : IsPlan p) where
       k.queues' ∙ sym (retyped_cut k.ahead k.after k.decl k.mid (kind k.src) k.named (omega (arith, a, c, d, one, o, n)))
       ∙ sym (ap (retyped k.mid (kind k.src)) k.queues) in
       let same : hoisted_plan p u b side k.moved k.src k.mid k.out ≡ p' =
-      λ i. record { outputs = sym k.outputs i; inputs = sym k.inputs i; queues = sym queues i; tables = sym k.tables i; vars = sym k.vars i; ops = sym ops i } in
+      λ i. record {
+        outputs = sym k.outputs i;
+        inputs = sym k.inputs i;
+        queues = sym queues i;
+        tables = sym k.tables i;
+        vars = sym k.vars i;
+        ops =
+            sym ops i;
+      } in
       hoist_upto p l u b k.cond k.mid k.out width (selects_first u k.cond (fed_selects b u k.mid k.cond f)) f.kernel
       (sym (ap (λ rs. slice_get rs 0) f.reads)) (sym (ap (λ rs. slice_get rs 0) k.wrote)) (written_first p k.mid v b u feed) (ap length f.writes) refl
       ∙ ap (hoist_passed p u b k.mid k.out) goes

@@ -62,7 +62,8 @@ two_heads a b t ms bs h g = cc
 selection : (kind : Name → QueueType) (var : Name → VarKind) (u : OpForm) (t : Term) (mid out : Name) → FitsAt kind var u → u.kernel ≡ select t
     → slice_get u.reads 0 ≡ Some mid → slice_get u.writes 0 ≡ Some out → IsSelection kind var u mid out
 selection kind var u t mid out f k r w =
-    let g : Fits (select t) (map kind u.reads) (map kind u.writes) (map var u.vars) = subst (λ x. Fits x (map kind u.reads) (map kind u.writes) (map var u.vars)) k f in
+    let g : Fits (select t) (map kind u.reads) (map kind u.writes) (map var u.vars) =
+    subst (λ x. Fits x (map kind u.reads) (map kind u.writes) (map var u.vars)) k f in
     let rs = only_one u.reads mid (sym (length-map u.reads kind) ∙ ap length g.1) r in
     let ws = only_one u.writes out (sym (length-map u.writes kind) ∙ ap length g.2) w in
     record {
@@ -91,7 +92,8 @@ sized t s us f =
     head : (u : QueueType) → s ∷ [] ≡ u ∷ [] → s ≡ u
     head u h = cc h
 
-module _ (p : PlanForm) (l : Name) (u b : OpForm) (t : Term) (side : ℕ) (t' : Term) (src mid out : Name) (v : IsPlan p) (m : MayHoist p l u b t side t' src mid out) where
+module _ (p : PlanForm) (l : Name) (u b : OpForm) (t : Term) (side : ℕ) (t' : Term) (src mid out : Name) (v : IsPlan p)
+    (m : MayHoist p l u b t side t' src mid out) where
   abbrev p' : PlanForm
   p' = hoisted_plan p u b side t' src mid out
 
@@ -197,11 +199,13 @@ module _ (p : PlanForm) (l : Name) (u b : OpForm) (t : Term) (side : ℕ) (t' : 
 
   u_types : Fits (select t) (kind mid ∷ []) (map kind u.writes) (map var u.vars)
   u_types =
-      subst (λ k. Fits k (kind mid ∷ []) (map kind u.writes) (map var u.vars)) m.selects (subst (λ rs. Fits u.kernel (map kind rs) (map kind u.writes) (map var u.vars)) is.reads u_fit)
+      subst (λ k. Fits k (kind mid ∷ []) (map kind u.writes) (map var u.vars)) m.selects
+      (subst (λ rs. Fits u.kernel (map kind rs) (map kind u.writes) (map var u.vars)) is.reads u_fit)
 
   raised_types : Fits (select t') (kind src ∷ []) (kind src ∷ []) []
   raised_types =
-      passed_fits b.kernel (map kind b.reads) (kind mid) (map var b.vars) t (map kind u.writes) (map var u.vars) side t' (kind src) b_types u_types is_passed (got_mapped kind b.reads side src m.source)
+      passed_fits b.kernel (map kind b.reads) (kind mid) (map var b.vars) t (map kind u.writes) (map var u.vars) side t' (kind src) b_types u_types is_passed
+      (got_mapped kind b.reads side src m.source)
 
   u_new : FitsAt kind' var u'
   u_new =
@@ -224,7 +228,8 @@ module _ (p : PlanForm) (l : Name) (u b : OpForm) (t : Term) (side : ℕ) (t' : 
   -- mid is written and read by the two alone
   apart : (q : Name) → 0 < Stays p.ops p'.ops e (reads_it q) + Stays p.ops p'.ops e (writes_it q) → name_eq mid q ≡ false
   apart q lt = not_mid (λ y. Stays p.ops p'.ops e (reads_it y) + Stays p.ops p'.ops e (writes_it y))
-      (let a1 = c.before_w in let a2 = c.before_r in let a3 = c.middle_w in let a4 = c.middle_r in let a5 = c.behind_w in let a6 = c.behind_r in omega (arith, a1, a2, a3, a4, a5, a6)) q lt
+      (let a1 = c.before_w in let a2 = c.before_r in let a3 = c.middle_w in let a4 = c.middle_r in let a5 = c.behind_w in let a6 =
+      c.behind_r in omega (arith, a1, a2, a3, a4, a5, a6)) q lt
 
   fits : Each (IsFit p') p'.ops
   fits =
@@ -388,7 +393,8 @@ module _ (p : PlanForm) (l : Name) (u b : OpForm) (t : Term) (side : ℕ) (t' : 
 
     commutes : Commutes b.kernel t side t' (lists_of h b.reads)
     commutes =
-        passed_commutes b.kernel (map kind b.reads) (map kind b.writes) (map var b.vars) t side t' b_fit is_passed (lists_of h b.reads) (reads_of kind h b.reads typed)
+        passed_commutes b.kernel (map kind b.reads) (map kind b.writes) (map var b.vars) t side t' b_fit is_passed (lists_of h b.reads)
+        (reads_of kind h b.reads typed)
 
     lowered_lists : with_at side (sift t' (lists_of h b.reads side)) (lists_of h b.reads) ≡ lists_of h' b'.reads
     lowered_lists = funext _ _ (λ j.
@@ -446,5 +452,6 @@ module _ (p : PlanForm) (l : Name) (u b : OpForm) (t : Term) (side : ℕ) (t' : 
 -- hoisting keeps a plan valid, and what it means
 pub hoist_keeps : (p : PlanForm) (l : Name) (u b : OpForm) (t : Term) (side : ℕ) (t' : Term) (src mid out : Name) → IsPlan p
     → MayHoist p l u b t side t' src mid out
-    → IsPlan (hoisted_plan p u b side t' src mid out) × ((inputs : List (List item.Item)) → AreTypedHistories p inputs → SameMeaning p (hoisted_plan p u b side t' src mid out) inputs)
+    → IsPlan (hoisted_plan p u b side t' src mid out) ×
+    ((inputs : List (List item.Item)) → AreTypedHistories p inputs → SameMeaning p (hoisted_plan p u b side t' src mid out) inputs)
 hoist_keeps p l u b t side t' src mid out v m = (valid p l u b t side t' src mid out v m, same p l u b t side t' src mid out v m)

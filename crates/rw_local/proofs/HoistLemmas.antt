@@ -75,13 +75,15 @@ lists_moved h h' (r ∷ rs) zero mid lt e zero = sym (if_eq 0 0 (h' mid) (h r) r
 lists_moved h h' (r ∷ rs) zero mid lt e (suc p) =
     lists_by_place h' h rs (λ x lx. e x (omega (arith, lx))) p ∙ sym (if_ne (suc p) 0 (h' mid) (lists_of h rs p) (let n : suc p ≢ 0 = omega arith in n))
 lists_moved h h' (r ∷ rs) (suc side) mid lt e zero =
-    ap (λ l. lists_of h' l 0) (spliced_next side r rs (mid ∷ [])) ∙ e r (count_here r rs) ∙ sym (if_ne 0 (suc side) (h' mid) (h r) (let n : 0 ≢ suc side = omega arith in n))
+    ap (λ l. lists_of h' l 0) (spliced_next side r rs (mid ∷ [])) ∙ e r (count_here r rs)
+    ∙ sym (if_ne 0 (suc side) (h' mid) (h r) (let n : 0 ≢ suc side = omega arith in n))
 lists_moved h h' (r ∷ rs) (suc side) mid lt e (suc p) =
     ap (λ l. lists_of h' l (suc p)) (spliced_next side r rs (mid ∷ []))
     ∙ lists_moved h h' rs side mid (omega (arith, lt)) (λ x lx. e x (omega (arith, lx))) p
     ∙ ⊎_elim
     (λ k. if_eq p side (h' mid) (lists_of h rs p) k ∙ sym (if_eq (suc p) (suc side) (h' mid) (lists_of h rs p) (ap suc k)))
-    (λ k. if_ne p side (h' mid) (lists_of h rs p) k ∙ sym (if_ne (suc p) (suc side) (h' mid) (lists_of h rs p) (λ d. k (let u : p ≡ side = omega (arith, d) in u))))
+    (λ k. if_ne p side (h' mid) (lists_of h rs p) k
+    ∙ sym (if_ne (suc p) (suc side) (h' mid) (lists_of h rs p) (λ d. k (let u : p ≡ side = omega (arith, d) in u))))
     (cases_eq p side)
 
 -- all items that are read are of their queues' types
@@ -127,15 +129,18 @@ retyped_other q t (d ∷ ds) x n = ⊎_elim
     let z : name_eq d.name x ≡ false = ap (λ m. name_eq m x) c.0 ∙ n in
     ap (λ l. kind_in l x) (if_true (name_eq d.name q) (record d { kind = t } ∷ ds) (d ∷ retyped q t ds) c.1)
     ∙ if_false (name_eq d.name x) (Some t) (kind_in ds x) z ∙ sym (if_false (name_eq d.name x) (Some d.kind) (kind_in ds x) z))
-    (λ c. ap (λ l. kind_in l x) (if_false (name_eq d.name q) (record d { kind = t } ∷ ds) (d ∷ retyped q t ds) c.1) ∙ ap (λ o. if name_eq d.name x then Some d.kind else o) (retyped_other q t ds x n))
+    (λ c. ap (λ l. kind_in l x) (if_false (name_eq d.name q) (record d { kind = t } ∷ ds) (d ∷ retyped q t ds) c.1)
+    ∙ ap (λ o. if name_eq d.name x then Some d.kind else o) (retyped_other q t ds x n))
     (cases_name d.name q)
 
 -- the type of the name
 pub retyped_here : (q : Name) (t : QueueType) (ds : List Decl) → 0 < count q (decl_names ds) → kind_in (retyped q t ds) q ≡ Some t
 retyped_here q t [] lt = absurd (omega (arith, lt))
 retyped_here q t (d ∷ ds) lt = ⊎_elim
-    (λ c. ap (λ l. kind_in l q) (if_true (name_eq d.name q) (record d { kind = t } ∷ ds) (d ∷ retyped q t ds) c.1) ∙ if_true (name_eq d.name q) (Some t) (kind_in ds q) c.1)
-    (λ c. ap (λ l. kind_in l q) (if_false (name_eq d.name q) (record d { kind = t } ∷ ds) (d ∷ retyped q t ds) c.1) ∙ if_false (name_eq d.name q) (Some d.kind) (kind_in (retyped q t ds) q) c.1
+    (λ c. ap (λ l. kind_in l q) (if_true (name_eq d.name q) (record d { kind = t } ∷ ds) (d ∷ retyped q t ds) c.1)
+    ∙ if_true (name_eq d.name q) (Some t) (kind_in ds q) c.1)
+    (λ c. ap (λ l. kind_in l q) (if_false (name_eq d.name q) (record d { kind = t } ∷ ds) (d ∷ retyped q t ds) c.1)
+    ∙ if_false (name_eq d.name q) (Some d.kind) (kind_in (retyped q t ds) q) c.1
     ∙ retyped_here q t ds (let z = ap one_if c.1 in omega (arith, z, lt)))
     (cases_name d.name q)
 
@@ -165,6 +170,8 @@ retyped_length q t (d ∷ ds) = ⊎_elim
 pub all_retyped : (P : Decl → Type 0) (q : Name) (t : QueueType) (ds : List Decl) → ((d : Decl) → P (record d { kind = t })) → All P ds → All P (retyped q t ds)
 all_retyped P q t [] n h = h
 all_retyped P q t (d ∷ ds) n h = ⊎_elim
-    (λ c. subst (All P) (sym (if_true (name_eq d.name q) (record d { kind = t } ∷ ds) (d ∷ retyped q t ds) c.1)) (All-cons P (record d { kind = t }) ds (n d) (All-tail P d ds h)))
-    (λ c. subst (All P) (sym (if_false (name_eq d.name q) (record d { kind = t } ∷ ds) (d ∷ retyped q t ds) c.1)) (All-cons P d (retyped q t ds) (All-head P d ds h) (all_retyped P q t ds n (All-tail P d ds h))))
+    (λ c. subst (All P) (sym (if_true (name_eq d.name q) (record d { kind = t } ∷ ds) (d ∷ retyped q t ds) c.1))
+    (All-cons P (record d { kind = t }) ds (n d) (All-tail P d ds h)))
+    (λ c. subst (All P) (sym (if_false (name_eq d.name q) (record d { kind = t } ∷ ds) (d ∷ retyped q t ds) c.1))
+    (All-cons P d (retyped q t ds) (All-head P d ds h) (all_retyped P q t ds n (All-tail P d ds h))))
     (cases_name d.name q)

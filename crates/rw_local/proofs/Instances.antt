@@ -90,7 +90,8 @@ fused_two = record {
   ops = o 11 (duplicate 2) (n 1 ∷ []) (n 2 ∷ n 3 ∷ []) [] ∷ o 12 (duplicate 2) (n 2 ∷ []) (n 4 ∷ n 5 ∷ []) [] ∷ [];
 }
 
-two_fuse : fuse_of fused_two (n 2) ≡ Ok (record fused_two { queues = []; ops = o 11 (fused (duplicate 2) (duplicate 2) 0) (n 1 ∷ []) (n 4 ∷ n 5 ∷ n 3 ∷ []) [] ∷ [] })
+two_fuse : fuse_of fused_two (n 2) ≡ Ok
+    (record fused_two { queues = []; ops = o 11 (fused (duplicate 2) (duplicate 2) 0) (n 1 ∷ []) (n 4 ∷ n 5 ∷ n 3 ∷ []) [] ∷ [] })
 two_fuse = refl
 
 unknown : fuse_of fused_two (n 8) ≡ Err U1

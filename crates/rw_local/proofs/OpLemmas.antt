@@ -18,8 +18,12 @@ large_is q w r a b m x y there ex ey ea eb em small =
     let n : 1 + max (nesting w.kernel) (nesting r.kernel) ≤ 32 = omega (arith, ea, eb, em, small) in
     let s = length-spliced (place_of_name q w.writes) w.writes r.writes (place_below w.writes q there) in
     ⊎_elim
-    (λ lt. lt-ltb 65 (x + y) lt ∙ sym (or_right (nat_lt 32 (nesting (fused_op q w r).kernel)) (nat_lt 64 (length (fused_op q w r).writes)) (lt-ltb 64 (length (fused_op q w r).writes) (omega (arith, s, lt, ex, ey)))))
-    (λ ge. le-ltb 65 (x + y) ge ∙ sym (or_from (nat_lt 32 (nesting (fused_op q w r).kernel)) (nat_lt 64 (length (fused_op q w r).writes)) (le-ltb 32 (nesting (fused_op q w r).kernel) n) (le-ltb 64 (length (fused_op q w r).writes) (omega (arith, s, ge, ex, ey)))))
+    (λ lt. lt-ltb 65 (x + y) lt
+    ∙ sym (or_right (nat_lt 32 (nesting (fused_op q w r).kernel)) (nat_lt 64 (length (fused_op q w r).writes))
+    (lt-ltb 64 (length (fused_op q w r).writes) (omega (arith, s, lt, ex, ey)))))
+    (λ ge. le-ltb 65 (x + y) ge
+    ∙ sym (or_from (nat_lt 32 (nesting (fused_op q w r).kernel)) (nat_lt 64 (length (fused_op q w r).writes)) (le-ltb 32 (nesting (fused_op q w r).kernel) n)
+    (le-ltb 64 (length (fused_op q w r).writes) (omega (arith, s, ge, ex, ey)))))
     (cases_lt 65 (x + y))
 
 -- the place of a queue among the outputs

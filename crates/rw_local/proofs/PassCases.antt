@@ -84,20 +84,20 @@ passed_tables width kernel t side t' h = absurd h
 -- TYPES
 
 -- a selection of rows of this width
-abbrev pub Selects : ℕ → Term → Type 0
-Selects n t = (is_width n ≡ true) × (is_term n 0 t ≡ true)
+abbrev pub SelectsAt : ℕ → Term → Type 0
+SelectsAt n t = (is_width n ≡ true) × (is_term n 0 t ≡ true)
 
 flat_is : (t u : FlatType) (os : List QueueType) → Flat t ∷ [] ≡ Flat u ∷ os → t ≡ u
 flat_is t u os h = cc h
 
 selects : (t : Term) (m : QueueType) (os : List QueueType) (vs : List VarKind) (u : FlatType) → Fits (select t) (m ∷ []) os vs → m ≡ Flat u
-    → Selects (width_of u) t
+    → SelectsAt (width_of u) t
 selects t m os vs u h e =
     let f : u ≡ h.0 = flat_is u h.0 [] (ap (λ n. n ∷ []) (sym e) ∙ h.1) in
     let g = and_parts (is_sized h.0) (is_bag h.0 && is_term (width_of h.0) 0 t) h.4 in
-    subst (λ n. Selects (width_of n) t) (sym f) (g.0, (and_parts (is_bag h.0) (is_term (width_of h.0) 0 t) g.1).1)
+    subst (λ n. SelectsAt (width_of n) t) (sym f) (g.0, (and_parts (is_bag h.0) (is_term (width_of h.0) 0 t) g.1).1)
 
-fits_select : (t : Term) (u : FlatType) → is_bag u ≡ true → Selects (width_of u) t → Fits (select t) (Flat u ∷ []) (Flat u ∷ []) []
+fits_select : (t : Term) (u : FlatType) → is_bag u ≡ true → SelectsAt (width_of u) t → Fits (select t) (Flat u ∷ []) (Flat u ∷ []) []
 fits_select t u b s =
     (u, refl, refl, refl, and_from (is_sized u) (is_bag u && is_term (width_of u) 0 t) s.0 (and_from (is_bag u) (is_term (width_of u) 0 t) b s.1))
 
@@ -109,13 +109,14 @@ got_type : (is : List QueueType) (js : List QueueType) (side n : ℕ) (s u : Que
 got_type is js side n s u e f h g = cc (sym g ∙ sym (ap (slice_get js) f) ∙ sym (ap (λ l. slice_get l side) e) ∙ h)
 
 -- at its new place the selection fits the type of the queue there, on both sides of it
-pub passed_fits : (k : Kern) (is : List QueueType) (m : QueueType) (vs : List VarKind) (t : Term) (os : List QueueType) (us : List VarKind) (side : ℕ) (t' : Term) (s : QueueType)
+pub passed_fits : (k : Kern) (is : List QueueType) (m : QueueType) (vs : List VarKind) (t : Term) (os : List QueueType) (us : List VarKind) (side : ℕ)
+    (t' : Term) (s : QueueType)
     → Fits k is (m ∷ []) vs → Fits (select t) (m ∷ []) os us → Passed (first_width is) k t side t' → slice_get is side ≡ Some s
     → Fits (select t') (s ∷ []) (s ∷ []) []
 passed_fits (window w) is m vs t os us side t' s f g h e =
     let z = selects t m os us (Relation f.0) g (head_is m (relation f.0) [] [] f.2) in
     subst (λ q. Fits (select t') (q ∷ []) (q ∷ []) []) (got_type is (stream f.0 ∷ []) side 0 s (stream f.0) f.1 h.0 e refl)
-    (fits_select t' (Stream f.0) refl (subst (Selects f.0) h.1 z))
+    (fits_select t' (Stream f.0) refl (subst (SelectsAt f.0) h.1 z))
 passed_fits (project es) is m vs t os us side t' s f g h e =
     let z = selects t m os us (Relation (length es)) g (head_is m (relation (length es)) [] [] f.2) in
     let w = and_parts (is_width f.0) (is_width (length es) && list_all (is_term f.0 0) es) f.4 in
@@ -132,16 +133,20 @@ passed_fits cross is m vs t os us side t' s f g h e =
     (λ c.
     let r = subst (λ n. refielded (of_first n) t ≡ Some t') w c.1 in
     subst (λ q. Fits (select t') (q ∷ []) (q ∷ []) []) (got_type is (relation a ∷ relation b ∷ []) side 0 s (relation a) f.2 c.0 e refl)
-    (fits_select t' (Relation a) refl (k.0, term_refielded (of_first a) (a + b) a t t' (λ i j lt o. let n = first_is a i j o in let x = n.0 in let y = n.1 in omega (arith, x, y)) z.1 r)))
+    (fits_select t' (Relation a) refl
+    (k.0, term_refielded (of_first a) (a + b) a t t' (λ i j lt o. let n = first_is a i j o in let x = n.0 in let y = n.1 in omega (arith, x, y)) z.1 r)))
     (λ c.
     let r = subst (λ n. refielded (of_second n) t ≡ Some t') w c.1 in
     subst (λ q. Fits (select t') (q ∷ []) (q ∷ []) []) (got_type is (relation a ∷ relation b ∷ []) side 1 s (relation b) f.2 c.0 e refl)
-    (fits_select t' (Relation b) refl ((and_parts (is_width b) (is_width (a + b)) k.1).0, term_refielded (of_second a) (a + b) b t t' (λ i j lt o. let n = second_is a i j o in let x = n.0 in let y = n.1 in omega (arith, x, y, lt)) z.1 r)))
+    (fits_select t' (Relation b) refl (
+      (and_parts (is_width b) (is_width (a + b)) k.1).0,
+      term_refielded (of_second a) (a + b) b t t' (λ i j lt o. let n = second_is a i j o in let x = n.0 in let y = n.1 in omega (arith, x, y, lt)) z.1 r,
+    )))
     h
 passed_fits (streamer c) is m vs t os us side t' s f g h e =
     let z = selects t m os us (Stream f.0) g (head_is m (stream f.0) [] [] f.2) in
     subst (λ q. Fits (select t') (q ∷ []) (q ∷ []) []) (got_type is (relation f.0 ∷ []) side 0 s (relation f.0) f.1 h.0 e refl)
-    (fits_select t' (Relation f.0) refl (subst (Selects f.0) h.1 z))
+    (fits_select t' (Relation f.0) refl (subst (SelectsAt f.0) h.1 z))
 passed_fits kernel is m vs t os us side t' s f g h e = absurd h
 
 -- EFFECT

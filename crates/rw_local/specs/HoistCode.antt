@@ -29,7 +29,7 @@ IsCondition k (Some e) = k ≡ select (term e)
 IsCondition k None = (p : PlanForm) (u : OpForm) → hoist_kernel p u k ≡ Err H1
 
 -- the first operator of this label selects by this condition, and these are the first queues that it reads and writes
-pub record Selects (p : PlanForm) (l : Name) (u : OpForm) (t : Term) (mid out : Name) : Type 0 where
+pub record SelectsAt (p : PlanForm) (l : Name) (u : OpForm) (t : Term) (mid out : Name) : Type 0 where
   pub here : first_with (named_it l) p.ops ≡ Some u
   pub kernel : u.kernel ≡ select t
   pub reads : slice_get u.reads 0 ≡ Some mid

@@ -10,7 +10,7 @@ ghost use Rattle.river_plan.specs.Uses.{named_it, writes_it};
 ghost use Rattle.river_plan.specs.Valid.{IsPlan};
 ghost use Rattle.plan_edits.specs.Lists.{first_with, replaced, retyped};
 ghost use Rattle.rw_local.specs.Hoist.{hoist_kernel, raised, lowered, hoisted_ops, hoisted_plan, hoist_at, hoist_past, hoist_of};
-ghost use Rattle.rw_local.specs.HoistCode.{Selects};
+ghost use Rattle.rw_local.specs.HoistCode.{SelectsAt};
 ghost use Rattle.plan_edits.specs.Answered.{IsAnswered};
 
 use crate::fusing::{add_decls, decl_place, with_lists};
@@ -67,7 +67,7 @@ pub fn hoist(alloc: Global, plan: &Plan, label: &Name) -> Result<Plan, Unfit>
 // The operator of this label, where it selects.
 fn selected(raw: &RawPlan, label: Name) -> Option<Selection<'_>>
     ensures { MatchOption result (hoist_of (plan_form raw.now) label ≡ Err H1)
-        (λ s. Selects (plan_form raw.now) label (op_form s.op.now) (term s.cond.now) s.mid s.out) }
+        (λ s. SelectsAt (plan_form raw.now) label (op_form s.op.now) (term s.cond.now) s.mid s.out) }
 {
     let Some(op) = labelled(&raw.ops, label) else {
         return None;
@@ -87,7 +87,7 @@ fn selected(raw: &RawPlan, label: Name) -> Option<Selection<'_>>
 // The plan with the selection before the operator that feeds it.
 fn hoist_past(alloc: Global, raw: &RawPlan, above: &Selection<'_>) -> Result<Plan, Unfit>
     requires valid { IsPlan (plan_form raw.now) }
-    requires selects { (l : List ℕ) × Selects (plan_form raw.now) l (op_form above.now.op.now) (term above.now.cond.now) above.now.mid above.now.out }
+    requires selects { (l : List ℕ) × SelectsAt (plan_form raw.now) l (op_form above.now.op.now) (term above.now.cond.now) above.now.mid above.now.out }
     ensures { let p = plan_form raw.now in let a = above.now in
         IsAnswered (hoist_past p (op_form a.op.now) (term a.cond.now) a.mid a.out (first_with (writes_it a.mid) p.ops)) result }
 {

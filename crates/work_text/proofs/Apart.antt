@@ -16,7 +16,8 @@ nothing : (text : List ℕ) (at : ℕ) → at ≤ length text → IsBlankBetween
 nothing text at within = record { blanks = []; within = within; is = refl; are = tt }
 
 -- one blank more in front
-one_more : (text : List ℕ) (at len to : ℕ) (s : List ℕ) → s ≡ drop at text → Passed s (blank len) → IsBlankBetween text (at + len) to → IsBlankBetween text at to
+one_more : (text : List ℕ) (at len to : ℕ) (s : List ℕ) → s ≡ drop at text → Passed s (blank len) → IsBlankBetween text (at + len) to
+    → IsBlankBetween text at to
 one_more text at len to s here passed b =
     let behind : drop len s ≡ concat b.blanks ++ drop to text = ap (drop len) here ∙ drop-drop len at text ∙ b.is in
     record {
@@ -43,7 +44,8 @@ from_piece text at c cs (token t len) ms here fits passed later e =
     let w = with-ok (record { tok = t; start = at; end = at + len }) (marks (len - 1) (at + 1) cs) ms e in
     let next : at + 1 + (len - 1) ≡ at + len = omega (arith, fits.0) in
     let a = later (len - 1) w.0 (omega (arith, fits.1)) w.1 in
-    subst (λ (l : List Mark). AreApart text at l) (sym w.2) (nothing text at (omega (arith, room_left text at (c ∷ cs) here (omega arith))), subst (λ (n : ℕ). AreApart text n w.0) next a)
+    subst (λ (l : List Mark). AreApart text at l) (sym w.2)
+    (nothing text at (omega (arith, room_left text at (c ∷ cs) here (omega arith))), subst (λ (n : ℕ). AreApart text n w.0) next a)
 from_piece text at c cs bad ms here fits passed later e = cc
 from_piece text at c cs big ms here fits passed later e = cc
 
@@ -56,7 +58,8 @@ apart text skip at [] [] here within fits e =
 apart text skip at [] (m ∷ ms) here within fits e = cc
 apart text (suc skip) at (c ∷ cs) ms here within fits e =
     let next : at + 1 + skip ≡ at + suc skip = omega arith in
-    subst (λ (n : ℕ). AreApart text n ms) next (apart text skip (at + 1) cs ms (next_drop text at c cs here) (omega (arith, room_left text at (c ∷ cs) here (omega arith))) (omega arith) e)
+    subst (λ (n : ℕ). AreApart text n ms) next
+    (apart text skip (at + 1) cs ms (next_drop text at c cs here) (omega (arith, room_left text at (c ∷ cs) here (omega arith))) (omega arith) e)
 apart text zero at (c ∷ cs) ms here within fits e =
     let same : at ≡ at + zero = omega arith in
     subst (λ (n : ℕ). AreApart text n ms) same

@@ -32,7 +32,8 @@ cut-is b [] h = absurd (omega arith)
 cut-is b (t ∷ ts) h = by_end (ends_unit b t ts) ts (braces_after b t) (λ more. cut-is (braces_after b t) ts more)
   where
     by_end : (c : Bool) (ts : List Tok) (k : ℕ) → (0 < length ts → cut k ts ≡ take (unit_len k ts) ts ∷ cut 0 (drop (unit_len k ts) ts))
-        → (if c then (t ∷ []) ∷ cut 0 ts else to_first t (cut k ts)) ≡ take (if c then 1 else suc (unit_len k ts)) (t ∷ ts) ∷ cut 0 (drop (if c then 1 else suc (unit_len k ts)) (t ∷ ts))
+        → (if c then (t ∷ []) ∷ cut 0 ts else to_first t (cut k ts)) ≡ take (if c then 1 else suc (unit_len k ts)) (t ∷ ts) ∷ cut 0
+        (drop (if c then 1 else suc (unit_len k ts)) (t ∷ ts))
     by_end true ts k more = refl
     by_end false [] k more = refl
     by_end false (u ∷ us) k more = ap (to_first t) (more (omega arith))
@@ -54,7 +55,8 @@ pub length-next : (b n : ℕ) (ls rest : List Lexeme) (d : Lexeme) → n < lengt
     → n + 1 + unit_len (braces_after b (token_of (get_or ls n d).token)) (tokens_of (drop (n + 1) ls)) ≡ n + unit_len b (tokens_of (drop n ls))
 length-next b n ls rest d h is_rest goes =
     let t = token_of (get_or ls n d).token in
-    let here : unit_len b (tokens_of (drop n ls)) ≡ suc (unit_len (braces_after b t) (tokens_of (drop (n + 1) ls))) = ap (unit_len b) (at n ls d h) ∙ next b t (tokens_of (drop (n + 1) ls)) (sym (ap (λ r. ends_unit b t (tokens_of r)) is_rest) ∙ goes) in
+    let here : unit_len b (tokens_of (drop n ls)) ≡ suc (unit_len (braces_after b t) (tokens_of (drop (n + 1) ls))) = ap (unit_len b) (at n ls d h)
+    ∙ next b t (tokens_of (drop (n + 1) ls)) (sym (ap (λ r. ends_unit b t (tokens_of r)) is_rest) ∙ goes) in
     omega arith
 
 -- a token that ends the unit
@@ -82,12 +84,14 @@ pub ruleset lengths = (length-end, braces-few)
 
 -- a unit more
 pub cut-next : (at : ℕ) (ls : List Lexeme) → at < length ls
-    → take (unit_len 0 (tokens_of (drop at ls))) (tokens_of (drop at ls)) ∷ units_of (tokens_of (drop (at + unit_len 0 (tokens_of (drop at ls))) ls)) ≡ units_of (tokens_of (drop at ls))
+    → take (unit_len 0 (tokens_of (drop at ls))) (tokens_of (drop at ls)) ∷ units_of
+    (tokens_of (drop (at + unit_len 0 (tokens_of (drop at ls))) ls)) ≡ units_of (tokens_of (drop at ls))
 cut-next at ls h =
     let ts = tokens_of (drop at ls) in
     let some : 0 < length ts = omega (arith, length-map (drop at ls) (λ (l : Lexeme). token_of l.token), length-drop at ls) in
     sym (cut-is 0 ts some ∙ ap (λ rest. take (unit_len 0 ts) ts ∷ cut 0 rest)
-    (drop-map (λ (l : Lexeme). token_of l.token) (unit_len 0 ts) (drop at ls) ∙ ap tokens_of (drop-drop (unit_len 0 ts) at ls ∙ ap (λ k. drop k ls) (omega arith))))
+    (drop-map (λ (l : Lexeme). token_of l.token) (unit_len 0 ts) (drop at ls)
+    ∙ ap tokens_of (drop-drop (unit_len 0 ts) at ls ∙ ap (λ k. drop k ls) (omega arith))))
 
 -- behind the last token there is no unit
 pub cut-end : (at : ℕ) (ls : List Lexeme) → length ls ≤ at → units_of (tokens_of (drop at ls)) ≡ []

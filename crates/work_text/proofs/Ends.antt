@@ -51,7 +51,8 @@ last_unit b t = record {
     none (z ∷ w ∷ ws) back x is more = cc
 
 -- a token that ends no unit, before a unit
-more_unit : (b : ℕ) (t : Tok) (u behind : List Tok) → ends_unit b t (u ++ behind) ≡ false → IsUnitBefore (braces_after b t) u behind → IsUnitBefore b (t ∷ u) behind
+more_unit : (b : ℕ) (t : Tok) (u behind : List Tok) → ends_unit b t (u ++ behind) ≡ false → IsUnitBefore (braces_after b t) u behind
+    → IsUnitBefore b (t ∷ u) behind
 more_unit b t u behind goes unit = record { some = omega arith; goes_on = on; ends = λ more. last (unit.ends more) } where
   on : (front back : List Tok) (x : Tok) → t ∷ u ≡ front ++ x ∷ back → 0 < length back → ends_unit (open_behind b front) x (back ++ behind) ≡ false
   on [] back x is more =
@@ -66,7 +67,8 @@ more_unit b t u behind goes unit = record { some = omega arith; goes_on = on; en
   last (front, x, is, end) = (t ∷ front, x, ap (λ (l : List Tok). t ∷ l) is, end)
 
 -- a token that ends no unit, before units
-more_units : (b : ℕ) (t : Tok) (us : List (List Tok)) → ends_unit b t (joined_units us) ≡ false → AreUnitsBefore (braces_after b t) us → AreUnitsBefore b (to_first t us)
+more_units : (b : ℕ) (t : Tok) (us : List (List Tok)) → ends_unit b t (joined_units us) ≡ false → AreUnitsBefore (braces_after b t) us
+    → AreUnitsBefore b (to_first t us)
 more_units b t [] goes are = (last_unit b t, tt)
 more_units b t (u ∷ us) goes are = (more_unit b t u (joined_units us) goes are.0, are.1)
 

@@ -96,7 +96,8 @@ or_left true b e = refl
 or_left false b e = cc
 
 line : (s : List ℕ)
-    → (begins_with 35 (take (prefix_len is_in_line s) s) || begins_with 47 (take (prefix_len is_in_line s) s) && begins_with 47 (drop 1 (take (prefix_len is_in_line s) s))) ≡ true
+    → (begins_with 35 (take (prefix_len is_in_line s) s) || begins_with 47 (take (prefix_len is_in_line s) s) && begins_with 47
+    (drop 1 (take (prefix_len is_in_line s) s))) ≡ true
     → Passed s (blank (prefix_len is_in_line s))
 line s h = inr (inl (record { begins = h; in_line = front-all is_in_line s; ends = front-ends is_in_line s }))
 

@@ -3,6 +3,7 @@ pub mod Counts
 pub mod Cuts
 pub mod Ends
 pub mod Gaps
+pub mod Insides
 pub mod Joined
 pub mod Longest
 pub mod Marks

@@ -44,7 +44,8 @@ unfolding first_is
 name-most [] rest t len w e = cc
 name-most (c ∷ cs) rest t len w e =
     let front = name-front c (cs ++ rest) w.0 in
-    let is : prefix_len is_word (c ∷ (cs ++ rest)) ≡ len = same_len (name (take (prefix_len is_word (c ∷ (cs ++ rest))) (c ∷ (cs ++ rest)))) t (prefix_len is_word (c ∷ (cs ++ rest))) len (sym front ∙ e) in
+    let is : prefix_len is_word (c ∷ (cs ++ rest)) ≡ len =
+    same_len (name (take (prefix_len is_word (c ∷ (cs ++ rest))) (c ∷ (cs ++ rest)))) t (prefix_len is_word (c ∷ (cs ++ rest))) len (sym front ∙ e) in
     subst (λ (n : ℕ). length (c ∷ cs) ≤ n) is (prefix-most is_word (c ∷ cs) rest w.1)
 
 -- ---- A VARIABLE
@@ -159,7 +160,9 @@ unfolding piece_at
 no-comment s t len e =
     by (first_is is_blank s) (begins_with 35 s) (begins_with 47 s) (begins_with 47 (drop 1 s)) (begins_with 42 (drop 1 s)) (block_end 2 (drop 2 s)) _ e where
       by : (b hash slash line block : Bool) (end : Option ℕ) (more : Piece)
-          → (if b then blank 1 else (if hash then blank (prefix_len is_in_line s) else (if slash && line then blank (prefix_len is_in_line s) else (if slash && block then block_piece end else more)))) ≡ token t len
+          → (if b then blank 1 else
+          (if hash then blank (prefix_len is_in_line s) else
+          (if slash && line then blank (prefix_len is_in_line s) else (if slash && block then block_piece end else more)))) ≡ token t len
           → hash || slash && (line || block) ≡ false
       by true hash slash line block end more f = cc
       by false true slash line block end more f = cc

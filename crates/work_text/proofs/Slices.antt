@@ -128,7 +128,8 @@ number_right s value len some all is = choose s (nat_lt most value) big (token (
 
 digits_right : (s : List ℕ) → first_is is_digit s ≡ true → Right s (number_piece (decimal_from 0 (take (prefix_len is_digit s) s)) (prefix_len is_digit s))
 digits_right s h =
-    number_right s (decimal_from 0 (take (prefix_len is_digit s) s)) (prefix_len is_digit s) (omega (arith, digits_has s h, length-prefix_len is_digit s)) (front-all is_digit s) refl
+    number_right s (decimal_from 0 (take (prefix_len is_digit s) s)) (prefix_len is_digit s) (omega (arith, digits_has s h, length-prefix_len is_digit s))
+    (front-all is_digit s) refl
 
 short_right : (c : ℕ) (cs : List ℕ) → Right (c ∷ cs) (short_piece (short_symbol c))
 short_right c cs = by (short_symbol c) refl where
@@ -229,7 +230,8 @@ from_piece text at c cs (blank len) ms here is fits right more e = sooner text a
 from_piece text at c cs (token t len) ms here is fits right more e =
     let w = with-ok (record { tok = t; start = at; end = at + len }) (marks (len - 1) (at + 1) cs) ms e in
     let next : at + 1 + (len - 1) ≡ at + len = omega (arith, fits.0) in
-    subst (λ (l : List Mark). Known text at l) (sym w.2) (one_known text at len t (c ∷ cs) w.0 here fits.0 fits.1 is right (subst (λ (n : ℕ). Known text n w.0) next (more (len - 1) w.0 w.1)))
+    subst (λ (l : List Mark). Known text at l) (sym w.2)
+    (one_known text at len t (c ∷ cs) w.0 here fits.0 fits.1 is right (subst (λ (n : ℕ). Known text n w.0) next (more (len - 1) w.0 w.1)))
 from_piece text at c cs bad ms here is fits right more e = cc
 from_piece text at c cs big ms here is fits right more e = cc
 
@@ -241,7 +243,8 @@ slices text (suc skip) at (c ∷ cs) ms here e =
     sooner text (at + suc skip) (at + 1 + skip) ms (omega arith) (slices text skip (at + 1) cs ms (next_drop text at c cs here) e)
 slices text zero at (c ∷ cs) ms here e =
     sooner text (at + zero) at ms (omega arith)
-    (from_piece text at c cs (piece_at (c ∷ cs)) ms here refl (piece_fits (c ∷ cs) (omega arith)) (piece_right (c ∷ cs)) (λ skip ks f. slices text skip (at + 1) cs ks (next_drop text at c cs here) f) e)
+    (from_piece text at c cs (piece_at (c ∷ cs)) ms here refl (piece_fits (c ∷ cs) (omega arith)) (piece_right (c ∷ cs))
+    (λ skip ks f. slices text skip (at + 1) cs ks (next_drop text at c cs here) f) e)
 
 -- the law: tokens ascend, and each is the slice at its span and the longest there
 pub tokens_are_slices : TokensAreSlices

@@ -74,7 +74,8 @@ spells-less s ts x fewer = record { reads = λ at rest h. x.reads at rest (fewer
 pub spells-whole : {ok : List ℕ → Type 0} (s : List ℕ) (ts : List Tok) → Spells s ts ok → ok [] → (ms : List Mark) × (marks 0 0 s ≡ Ok ms) × (toks ms ≡ ts)
 unfolding marks
 spells-whole s ts x allowed =
-    by (marks 0 0 s) refl (ap (λ (l : List ℕ). tokens_from 0 l) (sym (append-nil s)) ∙ x.reads 0 [] allowed ∙ ap (λ (l : List Tok). Some l) (append-nil ts)) where
+    by (marks 0 0 s) refl
+    (ap (λ (l : List ℕ). tokens_from 0 l) (sym (append-nil s)) ∙ x.reads 0 [] allowed ∙ ap (λ (l : List Tok). Some l) (append-nil ts)) where
       by : (r : Result (List Mark) LexFault) → marks 0 0 s ≡ r → spoken r ≡ Some ts → (ms : List Mark) × (marks 0 0 s ≡ Ok ms) × (toks ms ≡ ts)
       by (Ok ms) is e = (ms, is, same e) where
         same : Some (toks ms) ≡ Some ts → toks ms ≡ ts
@@ -209,7 +210,8 @@ name_piece_is c cs rest first all next =
 pub spells-name : (text : List ℕ) → is_name_text text ≡ true → Spells text (name text ∷ []) NoWord
 spells-name [] is = cc
 spells-name (c ∷ cs) is =
-    from_piece (c ∷ cs) (name (c ∷ cs)) (omega arith) (λ rest next. name_piece_is c cs rest (parts (is_letter c) (list_all is_word cs) is).0 (parts (is_letter c) (list_all is_word cs) is).1 next) where
+    from_piece (c ∷ cs) (name (c ∷ cs)) (omega arith)
+    (λ rest next. name_piece_is c cs rest (parts (is_letter c) (list_all is_word cs) is).0 (parts (is_letter c) (list_all is_word cs) is).1 next) where
       parts : (a b : Bool) → a && b ≡ true → (a ≡ true) × (b ≡ true)
       parts true b e = (refl, e)
       parts false b e = cc
@@ -220,7 +222,8 @@ var_piece_is : (c : ℕ) (cs rest : List ℕ) → is_letter c ≡ true → list_
 unfolding piece_at first_is begins_with var_piece is_blank is_letter
 var_piece_is c cs rest first all next =
     let len : prefix_len is_word (c ∷ (cs ++ rest)) ≡ length (c ∷ cs) = word_len is_word (c ∷ cs) rest (name_all c cs first all) next in
-    rw (first, len) (ap (λ (l : List ℕ). token (var l) (length (c ∷ cs) + 1)) (take-append_seam (c ∷ cs) rest) ∙ ap (λ (n : ℕ). token (var (c ∷ cs)) n) (omega arith))
+    rw (first, len) (ap (λ (l : List ℕ). token (var l) (length (c ∷ cs) + 1)) (take-append_seam (c ∷ cs) rest)
+    ∙ ap (λ (n : ℕ). token (var (c ∷ cs)) n) (omega arith))
 
 -- a word behind a dollar sign is a variable
 pub spells-var : (text : List ℕ) → is_name_text text ≡ true → Spells (36 ∷ text) (var text ∷ []) NoWord
@@ -273,7 +276,9 @@ number_piece_is c cs rest n low high all value fits next =
     let f : c == 36 ≡ false = ne_eqb c 36 (λ e. absurd (omega arith)) in
     let len : prefix_len is_digit (c ∷ (cs ++ rest)) ≡ length (c ∷ cs) = word_len is_digit (c ∷ cs) rest all next in
     let front : take (length (c ∷ cs)) (c ∷ (cs ++ rest)) ≡ c ∷ cs = take-append_seam (c ∷ cs) rest in
-    rw (a, b, d, low_no_letter c low high, f, len, digit_test c low high) (ap (λ (l : List ℕ). number_piece (decimal_from 0 l) (length (c ∷ cs))) front ∙ ap (λ (v : ℕ). number_piece v (length (c ∷ cs))) value ∙ within n (length (c ∷ cs)) fits)
+    rw (a, b, d, low_no_letter c low high, f, len, digit_test c low high)
+    (ap (λ (l : List ℕ). number_piece (decimal_from 0 l) (length (c ∷ cs))) front ∙ ap (λ (v : ℕ). number_piece v (length (c ∷ cs))) value
+    ∙ within n (length (c ∷ cs)) fits)
 
 word_digit : (rest : List ℕ) → first_is is_word rest ≡ false → first_is is_digit rest ≡ false
 unfolding first_is is_word

@@ -22,5 +22,6 @@ low-returns t c =
     let ps = c.args.names.now in
     let items = c.as_slice-each-items.result.now in
     let i = c.items.each-index in
-    let all : low ps (in_turn (map statement items)) ≡ true = sym c.items.invariant ∙ ap (λ l. low ps (in_turn l)) (none_left statement items i (omega arith)) in
+    let all : low ps (in_turn (map statement items)) ≡ true = sym c.items.invariant
+    ∙ ap (λ l. low ps (in_turn l)) (none_left statement items i (omega arith)) in
     rw (block-is c.args.all.now, ← c.as_slice-each-items.ensures.value) (sym all)

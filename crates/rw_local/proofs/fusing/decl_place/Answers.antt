@@ -10,8 +10,10 @@ returns-then-eq c =
     ∙ ap (λ l. place_of_name c.args.queue (decl_names l)) c.as_slice-decl-items.ensures
 
 pub loop-decl-preserved : goal.loop-decl-preserved
-loop-decl-preserved c =
-    (decl_next_at c.args.queue _ _ c.decl-item.result c.loop-decl-test.true c.decl-item.is (sym c.if-eq.ensures) c.loop-decl.invariant.0, ap (λ n. n + 1) c.loop-decl.invariant.1)
+loop-decl-preserved c = (
+  decl_next_at c.args.queue _ _ c.decl-item.result c.loop-decl-test.true c.decl-item.is (sym c.if-eq.ensures) c.loop-decl.invariant.0,
+  ap (λ n. n + 1) c.loop-decl.invariant.1,
+)
 
 pub returns : goal.returns
 returns c =

@@ -6,7 +6,8 @@ use Rattle.rw_local.proofs.hoisting.labelled.Goals as goal
 
 pub returns-then-eq : goal.returns-then-eq
 returns-then-eq c =
-    found_at (named_it c.args.label) _ _ _ c.op-item.result c.loop-op-test.true c.op-item.is c.as_slice-op-items.ensures (let e = ap one_if c.if-eq.ensures in omega (arith, e)) c.loop-op.invariant
+    found_at (named_it c.args.label) _ _ _ c.op-item.result c.loop-op-test.true c.op-item.is c.as_slice-op-items.ensures
+    (let e = ap one_if c.if-eq.ensures in omega (arith, e)) c.loop-op.invariant
 
 pub loop-op-preserved : goal.loop-op-preserved
 loop-op-preserved c =

@@ -8,4 +8,5 @@ use Rattle.rw_local.proofs.kinds.first_width.Goals as goal
 
 pub returns : goal.returns
 returns c =
-    width_first (kind_of (all_decls (plan_form c.args.raw.now))) c.args.queues.now c.at.result.now c.width.result (not_empty c.args.queues.now (λ e. not_false (c.if-is_empty.ensures.1 e))) (λ d. c.at.ensures d) (c.width.ensures ∙ ap first_side_width c.kind_of.ensures)
+    width_first (kind_of (all_decls (plan_form c.args.raw.now))) c.args.queues.now c.at.result.now c.width.result
+    (not_empty c.args.queues.now (λ e. not_false (c.if-is_empty.ensures.1 e))) (λ d. c.at.ensures d) (c.width.ensures ∙ ap first_side_width c.kind_of.ensures)

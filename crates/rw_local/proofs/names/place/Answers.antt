@@ -10,8 +10,10 @@ returns-then-eq c =
     ∙ ap (place_of_name c.args.name) c.as_slice-other-items.ensures
 
 pub loop-other-preserved : goal.loop-other-preserved
-loop-other-preserved c =
-    (none_next c.args.name _ _ c.other-item.result c.loop-other-test.true c.other-item.is (sym c.if-eq.ensures) c.loop-other.invariant.0, ap (λ n. n + 1) c.loop-other.invariant.1)
+loop-other-preserved c = (
+  none_next c.args.name _ _ c.other-item.result c.loop-other-test.true c.other-item.is (sym c.if-eq.ensures) c.loop-other.invariant.0,
+  ap (λ n. n + 1) c.loop-other.invariant.1,
+)
 
 pub returns : goal.returns
 returns c =

@@ -6,11 +6,13 @@ use Rattle.rw_local.proofs.ops.writer.Goals as goal
 
 pub returns-then-contains : goal.returns-then-contains
 returns-then-contains c =
-    found_at (writes_it c.args.queue) _ _ _ c.op-item.result c.loop-op-test.true c.op-item.is c.as_slice-op-items.ensures (c.if-contains.ensures.0 refl) c.loop-op.invariant
+    found_at (writes_it c.args.queue) _ _ _ c.op-item.result c.loop-op-test.true c.op-item.is c.as_slice-op-items.ensures
+    (c.if-contains.ensures.0 refl) c.loop-op.invariant
 
 pub loop-op-preserved : goal.loop-op-preserved
 loop-op-preserved c =
-    total_next (writes_it c.args.queue) _ _ c.op-item.result c.loop-op-test.true c.op-item.is (nat_zero (λ lt. not_false (c.if-contains.ensures.1 lt))) c.loop-op.invariant
+    total_next (writes_it c.args.queue) _ _ c.op-item.result c.loop-op-test.true c.op-item.is
+    (nat_zero (λ lt. not_false (c.if-contains.ensures.1 lt))) c.loop-op.invariant
 
 pub returns : goal.returns
 returns c = found_none (writes_it c.args.queue) _ _ _ c.loop-op-test.false c.as_slice-op-items.ensures c.loop-op.invariant

@@ -10,7 +10,8 @@ loop-n-preserved c =
     let ls = c.args.lexemes.now in
     record {
       same = ap (λ b. c.loop-n.n + 1 + unit_len b (tokens_of (drop (c.loop-n.n + 1) ls))) c.braces_after-braces.ensures
-          ∙ length-next c.loop-n.braces c.loop-n.n ls c.split_at.result.1.now _ c.loop-n-test.true c.split_at.ensures.back (sym c.ends_unit.ensures ∙ c.if-ends_unit.false)
+          ∙ length-next c.loop-n.braces c.loop-n.n ls c.split_at.result.1.now _ c.loop-n-test.true c.split_at.ensures.back
+          (sym c.ends_unit.ensures ∙ c.if-ends_unit.false)
           ∙ c.loop-n.invariant.same;
       few = omega (arith, c.braces_after-braces.ensures, c.loop-n.invariant.few, braces-few);
     }
@@ -19,5 +20,7 @@ loop-n-preserved c =
 pub returns-then-ends_unit : goal.returns-then-ends_unit
 returns-then-ends_unit c =
     let ls = c.args.lexemes.now in
-    ap (λ k. c.loop-n.n + k) (sym (length-last c.loop-n.braces c.loop-n.n ls c.split_at.result.1.now _ c.loop-n-test.true c.split_at.ensures.back (sym c.ends_unit.ensures ∙ c.if-ends_unit.true)))
+    ap (λ k. c.loop-n.n + k)
+    (sym (length-last c.loop-n.braces c.loop-n.n ls c.split_at.result.1.now _ c.loop-n-test.true c.split_at.ensures.back
+    (sym c.ends_unit.ensures ∙ c.if-ends_unit.true)))
     ∙ c.loop-n.invariant.same

@@ -11,7 +11,8 @@ loop-at-preserved c =
     let n = c.unit_len-len.result in
     record {
       same = ap (λ units. units ++ units_of (tokens_of (drop (c.loop-at.at + n) ls))) c.in_ok-push.ensures.ok
-          ∙ units-next c.loop-at.units c.loop-at.at n ls c.split_at.result.1.now c.split_at-in-loop-at.result.0.now c.loop-at-test.true c.split_at.ensures.back c.unit_len-len.ensures c.split_at-in-loop-at.ensures.front
+          ∙ units-next c.loop-at.units c.loop-at.at n ls c.split_at.result.1.now c.split_at-in-loop-at.result.0.now c.loop-at-test.true c.split_at.ensures.back
+          c.unit_len-len.ensures c.split_at-in-loop-at.ensures.front
           ∙ c.loop-at.invariant.same;
       in_text = omega (arith, c.split_at-in-loop-at.ensures.back_len, c.split_at.ensures.back_len);
     }

@@ -5,7 +5,7 @@ use Rattle.std.proofs.Math.Dec.{eqb-suc-zero}
 use Rattle.std.proofs.lemmas.Bool.{ne_eqb}
 use Rattle.work_text.specs.Cut.{cut, to_first, ends_unit, braces_after, is_else}
 use Rattle.work_text.specs.Symbols.{code_of}
-use Rattle.work_text.specs.Tok.{Tok, name, number, symbol}
+use Rattle.work_text.specs.Tok.{Tok, name, var, number, symbol}
 use Rattle.work_text.specs.declared.sign.Symbol.{Symbol}
 use Rattle.work_text.specs.declared.sign.Symbol.TheVariants as s
 
@@ -19,6 +19,7 @@ pub all_first-append : (ts us : List Tok) (vs : List (List Tok)) → all_first (
 all_first-append [] us vs = refl
 all_first-append (t ∷ ts) us vs = ap (to_first t) (all_first-append ts us vs)
 
+-- tokens in which no unit ends, within braces
 pub record Inside (ts : List Tok) : Type 0 where
   pub goes : (b : ℕ) (rest : List Tok) → cut (suc b) (ts ++ rest) ≡ all_first ts (cut (suc b) rest)
 
@@ -62,12 +63,20 @@ same_braces b x p = rw (p.no_open, p.no_close) refl
 -- a symbol that is no brace and no semicolon stays inside a unit
 pub inside-symbol : (x : Symbol) → IsPlain x → Inside (symbol x ∷ [])
 inside-symbol x p =
-    record { goes = λ b rest. on (suc b) (symbol x) rest (no_end b x rest p.no_close) ∙ ap (λ (k : ℕ). to_first (symbol x) (cut k rest)) (same_braces (suc b) x p) }
+    record {
+      goes = λ b rest. on (suc b) (symbol x) rest (no_end b x rest p.no_close)
+          ∙ ap (λ (k : ℕ). to_first (symbol x) (cut k rest)) (same_braces (suc b) x p);
+    }
 
 -- so does a name
 pub inside-name : (text : List ℕ) → Inside (name text ∷ [])
 unfolding ends_unit braces_after
 inside-name text = record { goes = λ b rest. on (suc b) (name text) rest refl }
+
+-- so does a variable
+pub inside-var : (text : List ℕ) → Inside (var text ∷ [])
+unfolding ends_unit braces_after
+inside-var text = record { goes = λ b rest. on (suc b) (var text) rest refl }
 
 -- so does a number
 pub inside-number : (n : ℕ) → Inside (number n ∷ [])
@@ -93,13 +102,15 @@ inner_close b rest =
 pub inside-braces : (ts : List Tok) → Inside ts → Inside (symbol s.OpenBrace ∷ (ts ++ symbol s.CloseBrace ∷ []))
 inside-braces ts x = record { goes = goes } where
   goes : (b : ℕ) (rest : List Tok)
-      → cut (suc b) (symbol s.OpenBrace ∷ ((ts ++ symbol s.CloseBrace ∷ []) ++ rest)) ≡ to_first (symbol s.OpenBrace) (all_first (ts ++ symbol s.CloseBrace ∷ []) (cut (suc b) rest))
+      → cut (suc b) (symbol s.OpenBrace ∷ ((ts ++ symbol s.CloseBrace ∷ []) ++ rest)) ≡ to_first (symbol s.OpenBrace)
+      (all_first (ts ++ symbol s.CloseBrace ∷ []) (cut (suc b) rest))
   goes b rest =
       on (suc b) (symbol s.OpenBrace) ((ts ++ symbol s.CloseBrace ∷ []) ++ rest) (no_end b s.OpenBrace ((ts ++ symbol s.CloseBrace ∷ []) ++ rest) refl)
       ∙ ap (λ (k : ℕ). to_first (symbol s.OpenBrace) (cut k ((ts ++ symbol s.CloseBrace ∷ []) ++ rest))) (open_up b)
       ∙ ap (λ (l : List Tok). to_first (symbol s.OpenBrace) (cut (suc (suc b)) l)) (append_assoc ts (symbol s.CloseBrace ∷ []) rest)
       ∙ ap (to_first (symbol s.OpenBrace)) (x.goes (suc b) (symbol s.CloseBrace ∷ rest)
-      ∙ ap (all_first ts) (on (suc (suc b)) (symbol s.CloseBrace) rest (inner_close b rest) ∙ ap (λ (k : ℕ). to_first (symbol s.CloseBrace) (cut k rest)) (close_down b))
+      ∙ ap (all_first ts) (on (suc (suc b)) (symbol s.CloseBrace) rest (inner_close b rest)
+      ∙ ap (λ (k : ℕ). to_first (symbol s.CloseBrace) (cut k rest)) (close_down b))
       ∙ sym (all_first-append ts (symbol s.CloseBrace ∷ []) (cut (suc b) rest)))
 
 -- symbols that are no braces
@@ -110,6 +121,14 @@ plain-Open = record { no_open = refl; no_close = refl }
 pub plain-Close : IsPlain s.Close
 plain-Close = record { no_open = refl; no_close = refl }
 
+-- `[` is no brace
+pub plain-OpenBracket : IsPlain s.OpenBracket
+plain-OpenBracket = record { no_open = refl; no_close = refl }
+
+-- `]` is no brace
+pub plain-CloseBracket : IsPlain s.CloseBracket
+plain-CloseBracket = record { no_open = refl; no_close = refl }
+
 -- `,` is no brace
 pub plain-Comma : IsPlain s.Comma
 plain-Comma = record { no_open = refl; no_close = refl }
@@ -117,6 +136,10 @@ plain-Comma = record { no_open = refl; no_close = refl }
 -- `;` is no brace
 pub plain-Semicolon : IsPlain s.Semicolon
 plain-Semicolon = record { no_open = refl; no_close = refl }
+
+-- `:` is no brace
+pub plain-Colon : IsPlain s.Colon
+plain-Colon = record { no_open = refl; no_close = refl }
 
 -- `=` is no brace
 pub plain-Assign : IsPlain s.Assign
