@@ -79,7 +79,8 @@ one_of t x h = All-cons (HasType t) x [] h (All-nil (HasType t))
 pub stream_batches : (n : ℕ) (xs : List item.Item) → All (HasType (stream n)) xs → All (WideBatch n) (batches xs)
 stream_batches n [] h = All-nil (WideBatch n)
 stream_batches n (Flat (Batched b) ∷ xs) h =
-    All-cons (WideBatch n) b (batches xs) (All-head (HasType (stream n)) (Flat (Batched b)) xs h) (stream_batches n xs (All-tail (HasType (stream n)) (Flat (Batched b)) xs h))
+    All-cons (WideBatch n) b (batches xs) (All-head (HasType (stream n)) (Flat (Batched b)) xs h)
+    (stream_batches n xs (All-tail (HasType (stream n)) (Flat (Batched b)) xs h))
 stream_batches n (Flat (One row) ∷ xs) h = stream_batches n xs (All-tail (HasType (stream n)) (Flat (One row)) xs h)
 stream_batches n (Flat (Changed c) ∷ xs) h = stream_batches n xs (All-tail (HasType (stream n)) (Flat (Changed c)) xs h)
 stream_batches n (Pack fs ∷ xs) h = stream_batches n xs (All-tail (HasType (stream n)) (Pack fs) xs h)
@@ -87,7 +88,8 @@ stream_batches n (Pack fs ∷ xs) h = stream_batches n xs (All-tail (HasType (st
 pub relation_batches : (n : ℕ) (xs : List item.Item) → All (HasType (relation n)) xs → All (WideBatch n) (batches xs)
 relation_batches n [] h = All-nil (WideBatch n)
 relation_batches n (Flat (Batched b) ∷ xs) h =
-    All-cons (WideBatch n) b (batches xs) (All-head (HasType (relation n)) (Flat (Batched b)) xs h).0 (relation_batches n xs (All-tail (HasType (relation n)) (Flat (Batched b)) xs h))
+    All-cons (WideBatch n) b (batches xs) (All-head (HasType (relation n)) (Flat (Batched b)) xs h).0
+    (relation_batches n xs (All-tail (HasType (relation n)) (Flat (Batched b)) xs h))
 relation_batches n (Flat (One row) ∷ xs) h = relation_batches n xs (All-tail (HasType (relation n)) (Flat (One row)) xs h)
 relation_batches n (Flat (Changed c) ∷ xs) h = relation_batches n xs (All-tail (HasType (relation n)) (Flat (Changed c)) xs h)
 relation_batches n (Pack fs ∷ xs) h = relation_batches n xs (All-tail (HasType (relation n)) (Pack fs) xs h)
@@ -137,8 +139,10 @@ pub window_typed : (n : ℕ) (w : Window) (past : List item.Item) (x : item.Item
     → All (HasType (relation n)) (window_one w past x)
 window_typed n w past (Flat (Batched b)) h i =
     let bs = batches (past ++ Flat (Batched b) ∷ []) in
-    let wide = stream_batches n (past ++ Flat (Batched b) ∷ []) (All-append (HasType (stream n)) past (Flat (Batched b) ∷ []) h (one_of (stream n) (Flat (Batched b)) i)) in
-    one_of (relation n) (Flat (Batched (record { at = b.at; rows = content_of w bs }))) (content n (in_window w (greatest bs) bs) (in_window_wide n w (greatest bs) bs wide))
+    let wide = stream_batches n (past ++ Flat (Batched b) ∷ [])
+    (All-append (HasType (stream n)) past (Flat (Batched b) ∷ []) h (one_of (stream n) (Flat (Batched b)) i)) in
+    one_of (relation n) (Flat (Batched (record { at = b.at; rows = content_of w bs })))
+    (content n (in_window w (greatest bs) bs) (in_window_wide n w (greatest bs) bs wide))
 window_typed n w past (Flat (One row)) h i = absurd i
 window_typed n w past (Flat (Changed c)) h i = absurd i
 window_typed n w past (Pack fs) h i = absurd i
@@ -173,7 +177,8 @@ images_wide es (r ∷ rs) =
 -- a projection gives a relation's content, of one value for each term
 pub project_typed : (n : ℕ) (es : List Term) (x : item.Item) → HasType (relation n) x → All (HasType (relation (length es))) (project_one es x)
 project_typed n es (Flat (Batched b)) i =
-    one_of (relation (length es)) (Flat (Batched (record { at = b.at; rows = projected es b.rows }))) (content (length es) (map (λ row. map (λ t. val t row []) es) b.rows) (images_wide es b.rows))
+    one_of (relation (length es)) (Flat (Batched (record { at = b.at; rows = projected es b.rows })))
+    (content (length es) (map (λ row. map (λ t. val t row []) es) b.rows) (images_wide es b.rows))
 project_typed n es (Flat (One row)) i = absurd i
 project_typed n es (Flat (Changed c)) i = absurd i
 project_typed n es (Pack fs) i = absurd i
@@ -214,16 +219,19 @@ rows_wide n (Pack fs) i = absurd i
 joined_rows : (a b : ℕ) (x : List ℤ) (ys : List (List ℤ)) → length x ≡ a → HaveWidth b ys → HaveWidth (a + b) (map (λ y. x ++ y) ys)
 joined_rows a b x [] e h = All-nil (IsWide (a + b))
 joined_rows a b x (y ∷ ys) e h =
-    All-cons (IsWide (a + b)) (x ++ y) (map (λ z. x ++ z) ys) (let l = length-append x y in let f = All-head (IsWide b) y ys h in omega (arith, l, e, f)) (joined_rows a b x ys e (All-tail (IsWide b) y ys h))
+    All-cons (IsWide (a + b)) (x ++ y) (map (λ z. x ++ z) ys) (let l = length-append x y in let f = All-head (IsWide b) y ys h in omega (arith, l, e, f))
+    (joined_rows a b x ys e (All-tail (IsWide b) y ys h))
 
 pairs_wide : (a b : ℕ) (xs ys : List (List ℤ)) → HaveWidth a xs → HaveWidth b ys → HaveWidth (a + b) (flat_map (λ x. map (λ y. x ++ y) ys) xs)
 pairs_wide a b [] ys h g = All-nil (IsWide (a + b))
 pairs_wide a b (x ∷ xs) ys h g =
-    All-append (IsWide (a + b)) (map (λ y. x ++ y) ys) (flat_map (λ z. map (λ y. z ++ y) ys) xs) (joined_rows a b x ys (All-head (IsWide a) x xs h) g) (pairs_wide a b xs ys (All-tail (IsWide a) x xs h) g)
+    All-append (IsWide (a + b)) (map (λ y. x ++ y) ys) (flat_map (λ z. map (λ y. z ++ y) ys) xs) (joined_rows a b x ys (All-head (IsWide a) x xs h) g)
+    (pairs_wide a b xs ys (All-tail (IsWide a) x xs h) g)
 
 batch_typed : (a b : ℕ) (x y : item.Item) → HasType (relation a) x → HasType (relation b) y → All (HasType (relation (a + b))) (joined_batch x y)
 batch_typed a b (Flat (Batched c)) y i j =
-    one_of (relation (a + b)) (Flat (Batched (record { at = c.at; rows = product c.rows (rows_in_item y) }))) (content (a + b) (flat_map (λ x. map (λ z. x ++ z) (rows_in_item y)) c.rows) (pairs_wide a b c.rows (rows_in_item y) i.0 (rows_wide b y j)))
+    one_of (relation (a + b)) (Flat (Batched (record { at = c.at; rows = product c.rows (rows_in_item y) })))
+    (content (a + b) (flat_map (λ x. map (λ z. x ++ z) (rows_in_item y)) c.rows) (pairs_wide a b c.rows (rows_in_item y) i.0 (rows_wide b y j)))
 batch_typed a b (Flat (One row)) y i j = absurd i
 batch_typed a b (Flat (Changed c)) y i j = absurd i
 batch_typed a b (Pack fs) y i j = absurd i
@@ -258,17 +266,21 @@ drain_typed a b (suc n) s h =
           → All (HasType (relation (a + b))) (pass_on rest_of_pair s (drain front_of_pair rest_of_pair n) o).0
           × PairTyped a b (pass_on rest_of_pair s (drain front_of_pair rest_of_pair n) o).1
       go None e r = (All-nil (HasType (relation (a + b))), h)
-      go (Some o) e r =
-          (All-append (HasType (relation (a + b))) o (drain front_of_pair rest_of_pair n (rest_of_pair s)).0 (front_typed a b s.left s.right o h.0 h.1 e) r.0, r.1)
+      go (Some o) e r = (
+        All-append (HasType (relation (a + b))) o (drain front_of_pair rest_of_pair n (rest_of_pair s)).0 (front_typed a b s.left s.right o h.0 h.1 e) r.0,
+        r.1,
+      )
 
 -- a product gives a relation's content of both widths together, and what waits stays of its types: an item at the left
 pub cross_typed_left : (a b : ℕ) (x : item.Item) (s : Pairing) → PairTyped a b s → HasType (relation a) x
     → All (HasType (relation (a + b))) (crosses 0 x s).0 × PairTyped a b (crosses 0 x s).1
 cross_typed_left a b x s h i =
-    drain_typed a b (length (s.left ++ x ∷ []) + length s.right) (put_pair 0 x s) (All-append (HasType (relation a)) s.left (x ∷ []) h.0 (one_of (relation a) x i), h.1)
+    drain_typed a b (length (s.left ++ x ∷ []) + length s.right) (put_pair 0 x s)
+    (All-append (HasType (relation a)) s.left (x ∷ []) h.0 (one_of (relation a) x i), h.1)
 
 -- and one at the right
 pub cross_typed_right : (a b p : ℕ) (x : item.Item) (s : Pairing) → PairTyped a b s → HasType (relation b) x
     → All (HasType (relation (a + b))) (crosses (suc p) x s).0 × PairTyped a b (crosses (suc p) x s).1
 cross_typed_right a b p x s h i =
-    drain_typed a b (length s.left + length (s.right ++ x ∷ [])) (put_pair (suc p) x s) (h.0, All-append (HasType (relation b)) s.right (x ∷ []) h.1 (one_of (relation b) x i))
+    drain_typed a b (length s.left + length (s.right ++ x ∷ [])) (put_pair (suc p) x s)
+    (h.0, All-append (HasType (relation b)) s.right (x ∷ []) h.1 (one_of (relation b) x i))

@@ -35,7 +35,9 @@ runs_settle ws (e ∷ es) s =
     let u = (settle ws s).1 in
     let d = joins itself ws e.0 e.1 u in
     let after = λ (t : Turns). (run (join_one itself ws) es (Joining t ∷ [])).outs 0 in
-    let agree = put_drain (length ws) Turns (front_of itself) (passed ws) put (λ t. waiting t.lists) (join_keeps itself ws (length ws)) (waiting s.lists) (waiting (put e.0 e.1 u).lists) (waiting (put e.0 e.1 s).lists) s e.0 e.1 (le_refl (waiting s.lists)) (le_refl (waiting (put e.0 e.1 u).lists)) (le_refl (waiting (put e.0 e.1 s).lists)) in
+    let agree = put_drain (length ws) Turns (front_of itself) (passed ws) put (λ t. waiting t.lists) (join_keeps itself ws (length ws)) (waiting s.lists)
+    (waiting (put e.0 e.1 u).lists) (waiting (put e.0 e.1 s).lists) s e.0 e.1 (le_refl (waiting s.lists)) (le_refl (waiting (put e.0 e.1 u).lists))
+    (le_refl (waiting (put e.0 e.1 s).lists)) in
     sym (append_assoc (settle ws s).0 d.0 (after d.1))
     ∙ ap (λ l. l ++ after d.1) agree.0
     ∙ ap (λ t. (settle ws (put e.0 e.1 s)).0 ++ after t) agree.1
@@ -62,7 +64,8 @@ put_order : (n q : ℕ) (g : ℕ → List item.Item) (base : List (List item.Ite
     → put_all (port_by_port n q g) s ≡ with_lists s (each_grew base (upto (q + n) g))
 put_order zero q g base s e = ap (with_lists s) e ∙ ap (λ k. with_lists s (each_grew base (upto k g))) (let z : q ≡ q + 0 = omega arith in z)
 put_order (suc n) q g base s e =
-    let grown : append_at s.lists q (g q) ≡ each_grew base (upto (suc q) g) = ap (λ l. append_at l q (g q)) e ∙ append_at-upto base g q ∙ ap (λ k. each_grew base (upto k g)) (let z : q + 1 ≡ suc q = omega arith in z) in
+    let grown : append_at s.lists q (g q) ≡ each_grew base (upto (suc q) g) = ap (λ l. append_at l q (g q)) e ∙ append_at-upto base g q
+    ∙ ap (λ k. each_grew base (upto k g)) (let z : q + 1 ≡ suc q = omega arith in z) in
     put_word q (g q) (port_by_port n (suc q) g) s
     ∙ put_order n (suc q) g base (with_lists s (append_at s.lists q (g q))) grown
     ∙ ap (λ k. with_lists s (each_grew base (upto k g))) (let z : suc q + n ≡ q + suc n = omega arith in z)
@@ -79,7 +82,8 @@ blanks_few n = let l = length-replicate n no_items in omega (arith, l)
 
 -- fed in the order of the ports, a joiner gives what passes when all lists are there
 pub fed_joins : (ws : List ℕ) (n : ℕ) (g : ℕ → List item.Item)
-    → (run (join_one itself ws) (port_by_port n 0 g) (Joining (turns_start n) ∷ [])).outs 0 ≡ (settle ws (with_lists (turns_start n) (each_grew (replicate n []) g))).0
+    → (run (join_one itself ws) (port_by_port n 0 g) (Joining (turns_start n) ∷ [])).outs 0 ≡
+    (settle ws (with_lists (turns_start n) (each_grew (replicate n []) g))).0
 fed_joins ws n g =
     let s = turns_start n in
     let empty : settle ws s ≡ ([], s) = ap (λ k. drain (front_of itself) (passed ws) k s) (no_waiting n) in
@@ -147,7 +151,8 @@ left_next ws ls rs x y ys lt left e = record {
       (λ h.
       subst (λ q. list_at (rest_at rs (branch ws x)) q ≡ drop (taken ws q (suc x)) (list_at ls q)) h
       (rest_here rs (branch ws x) ∙ ap rest_in e
-      ∙ sym (ap (λ k. drop k (list_at ls (branch ws x))) (taken_same ws (branch ws x) x lt refl) ∙ dropped_one (list_at ls (branch ws x)) (taken ws (branch ws x) x) y ys (sym (left.each (branch ws x)) ∙ e))))
+      ∙ sym (ap (λ k. drop k (list_at ls (branch ws x))) (taken_same ws (branch ws x) x lt refl)
+      ∙ dropped_one (list_at ls (branch ws x)) (taken ws (branch ws x) x) y ys (sym (left.each (branch ws x)) ∙ e))))
       (λ ne. rest_other rs (branch ws x) p ne ∙ left.each p ∙ ap (λ k. drop k (list_at ls p)) (sym (taken_other ws p x lt ne)))
       (cases_eq (branch ws x) p);
 }

@@ -81,7 +81,8 @@ module _ (pl : PlanForm) (inputs : History) (v : IsPlan pl) (empty : (q : Name) 
   traced_start = record {
     kept = λ o op g. ap first_kept_of g;
     written_by =
-        λ o op g. lists_none op.writes inputs (λ q lt. empty q (let m = at_most (writes_it q) ops o op g in let w = v.written_once q in omega (arith, m, w, lt)));
+        λ o op g. lists_none op.writes inputs
+        (λ q lt. empty q (let m = at_most (writes_it q) ops o op g in let w = v.written_once q in omega (arith, m, w, lt)));
     unwritten = λ q z. refl;
     below = λ o op g. tt;
     taken = λ o op g p q is. (refl, omega arith);
@@ -110,13 +111,16 @@ module _ (pl : PlanForm) (inputs : History) (v : IsPlan pl) (empty : (q : Name) 
         (λ e. at_same ops (λ i j. Lists j.writes (ran j (ws' i)).outs s'.hist) o o' op op' g g' e written_here)
         (λ n. subst (λ w. Lists op'.writes (ran op' w).outs s'.hist) (sym (there o' n))
         (lists_agree op'.writes (ran op' (ws o')).outs s.hist s'.hist
-        (λ n' lt. sym (not_here n' (⊎_elim (λ h. absurd (n (one_place (writes_it n') ops o o' op op' (let w = v.written_once n' in omega (arith, w)) g g' h lt))) (λ z. z) (more_or_zero (count n' op.writes)))))
+        (λ n' lt. sym (not_here n'
+        (⊎_elim (λ h. absurd (n (one_place (writes_it n') ops o o' op op' (let w = v.written_once n' in omega (arith, w)) g g' h lt))) (λ z. z)
+        (more_or_zero (count n' op.writes)))))
         (t.written_by o' op' g')))
         (cases_eq o o');
     unwritten = λ n z. not_here n (let m = at_most (writes_it n) ops o op g in omega (arith, m, z)) ∙ t.unwritten n z;
     below = λ o' op' g'. ⊎_elim
         (λ e. at_same ops (λ i j. PortsBelow (length j.reads) (ws' i)) o o' op op' g g' e
-        (subst (PortsBelow (length op.reads)) (sym here) (below-append (length op.reads) (ws o) ((p, x) ∷ []) (t.below o op g) (got_below op.reads p q pq, tt))))
+        (subst (PortsBelow (length op.reads)) (sym here)
+        (below-append (length op.reads) (ws o) ((p, x) ∷ []) (t.below o op g) (got_below op.reads p q pq, tt))))
         (λ n. subst (PortsBelow (length op'.reads)) (sym (there o' n)) (t.below o' op' g'))
         (cases_eq o o');
     taken = λ o' op' g' p' q' pq'. ⊎_elim
@@ -127,17 +131,20 @@ module _ (pl : PlanForm) (inputs : History) (v : IsPlan pl) (empty : (q : Name) 
         let eo = one_place (reads_it q) ops o o' op op' (let w = v.read_once q in omega (arith, w)) g g' lt lt' in
         subst (λ n. Taken o' op' p' n) c.0
         (at_same ops (λ i j. slice_get j.reads p' ≡ Some q → Taken i j p' q) o o' op op' g g' eo
-        (λ h. subst (λ k. Taken o op k q) (place_once op.reads p p' q (let m = at_most (reads_it q) ops o op g in let w = v.read_once q in omega (arith, m, w)) pq h) taken_here) pq2))
+        (λ h. subst (λ k. Taken o op k q)
+        (place_once op.reads p p' q (let m = at_most (reads_it q) ops o op g in let w = v.read_once q in omega (arith, m, w)) pq h) taken_here) pq2))
         (λ c. taken_there o' op' g' p' q' pq' c.0 c.1)
         (cases_name q q');
     rows = λ u test.
         let a = count_by-append test (s.rows u) (joined (tabs op) r.adds u) in
         let b = t.rows u test in
         let k = ap (λ us. count_by test (joined (tabs op) (f p x us).adds u)) (t.kept o op g) in
-        let d = numbered_more (λ i j. count_by test (joined (tabs j) (ran j (ws i)).adds u)) (λ i j. count_by test (joined (tabs j) (ran j (ws' i)).adds u)) ops 0 o
+        let d = numbered_more (λ i j. count_by test (joined (tabs j) (ran j (ws i)).adds u))
+        (λ i j. count_by test (joined (tabs j) (ran j (ws' i)).adds u)) ops 0 o
         (count_by test (joined (tabs op) (f p x before.states).adds u)) op g
         (let z : 0 + o ≡ o = omega arith in
-        subst (λ i. count_by test (joined (tabs op) (ran op (ws' i)).adds u) ≡ count_by test (joined (tabs op) (ran op (ws i)).adds u) + count_by test (joined (tabs op) (f p x before.states).adds u)) (sym z)
+        subst (λ i. count_by test (joined (tabs op) (ran op (ws' i)).adds u) ≡ count_by test (joined (tabs op) (ran op (ws i)).adds u) + count_by test
+        (joined (tabs op) (f p x before.states).adds u)) (sym z)
         (ap (λ w. count_by test (joined (tabs op) (ran op w).adds u)) here
         ∙ ap (count_by test) (joined_cong (tabs op) (ran op (ws o ++ (p, x) ∷ [])).adds (λ j. before.adds j ++ (f p x before.states).adds j) u more.adds)
         ∙ joined-append test (tabs op) before.adds (f p x before.states).adds u))
@@ -193,7 +200,8 @@ module _ (pl : PlanForm) (inputs : History) (v : IsPlan pl) (empty : (q : Name) 
       taken_here =
           let g1 = joined op.writes r.outs q in
           let lt = got_below (s.hist q) (s.taken q) x is in (
-            ap (at_port p) here ∙ at_port-append p (ws o) ((p, x) ∷ []) ∙ ap (λ l. at_port p (ws o) ++ l) (at_port_here p (p, x) [] refl) ∙ ap (λ l. l ++ x ∷ []) (t.taken o op g p q pq).0
+            ap (at_port p) here ∙ at_port-append p (ws o) ((p, x) ∷ []) ∙ ap (λ l. at_port p (ws o) ++ l) (at_port_here p (p, x) [] refl)
+                ∙ ap (λ l. l ++ x ∷ []) (t.taken o op g p q pq).0
                 ∙ sym (take_next (s.hist q) g1 (s.taken q) x is) ∙ ap (λ n. take n (s.hist q ++ g1)) (sym n_is),
             omega (arith, n_is, lt, length-append (s.hist q) g1),
           )
@@ -209,7 +217,8 @@ module _ (pl : PlanForm) (inputs : History) (v : IsPlan pl) (empty : (q : Name) 
           at_same ops (λ i j. slice_get j.reads p' ≡ Some q' → at_port p' (ws' i) ≡ at_port p' (ws i)) o o' op op' g g' e
           (λ h.
           let np : p ≢ p' = λ ep. n (some_is q q' (sym pq ∙ ap (slice_get op.reads) ep ∙ h)) in
-          ap (at_port p') here ∙ at_port-append p' (ws o) ((p, x) ∷ []) ∙ ap (λ l. at_port p' (ws o) ++ l) (at_port_past p' (p, x) [] np) ∙ append-nil (at_port p' (ws o))) pq')
+          ap (at_port p') here ∙ at_port-append p' (ws o) ((p, x) ∷ []) ∙ ap (λ l. at_port p' (ws o) ++ l) (at_port_past p' (p, x) [] np)
+          ∙ append-nil (at_port p' (ws o))) pq')
           (λ ne. ap (at_port p') (there o' ne))
           (cases_eq o o') in (
             w_is ∙ old.0 ∙ sym (take-append-le (s.taken q') (s.hist q') g1 old.1) ∙ ap (λ k. take k (s.hist q' ++ g1)) (sym m_is),
@@ -254,7 +263,8 @@ module _ (pl : PlanForm) (inputs : History) (v : IsPlan pl) (empty : (q : Name) 
       let w = traced_run es (started pl inputs) s (λ o. []) traced_start r in
       let t = w.1 in
       let all = plan_unique pl v inputs s.hist t.unwritten
-      (each_of (Solves s.hist) ops (λ o op g. lists_cong op.writes (ran op (w.0 o)).outs (given_on op s.hist).outs s.hist (operator_is s w.0 o op t done g).outs (t.written_by o op g))) in
+      (each_of (Solves s.hist) ops
+      (λ o op g. lists_cong op.writes (ran op (w.0 o)).outs (given_on op s.hist).outs s.hist (operator_is s w.0 o op t done g).outs (t.written_by o op g))) in
       let same : s.hist ≡ histories ops inputs = funext s.hist (histories ops inputs) all in (
         all,
         λ u test.
@@ -289,6 +299,7 @@ runs_law p inputs es s v r done =
       queues = a.0;
       tables = a.1;
       printed =
-          ap (λ (f : TableDecl → List (List ℤ)). map f p.tables) (funext (λ t. tab t.kind (s.rows t.name)) (λ t. tab t.kind (all_adds p inputs t.name)) printed);
+          ap (λ (f : TableDecl → List (List ℤ)). map f p.tables)
+          (funext (λ t. tab t.kind (s.rows t.name)) (λ t. tab t.kind (all_adds p inputs t.name)) printed);
       firings = a.2;
     }

@@ -68,7 +68,8 @@ next_place (w ∷ ws) m pos lt = ⊎_elim
     (λ b.
     let z : m + 1 - w ≡ 0 = omega (arith, a, b) in
     let s = starts ws pos.1 (omega (arith, lt, a, b)) in
-    next_by _ w _ 0 _ 1 _ m _ 0 share p (part_other w ws (m + 1) b ∙ ap (λ k. suc (part_of_cycle ws k)) z ∙ ap suc s.0) d (within_other w ws (m + 1) b ∙ ap (within ws) z ∙ s.1) (inr (b, refl, refl)))
+    next_by _ w _ 0 _ 1 _ m _ 0 share p (part_other w ws (m + 1) b ∙ ap (λ k. suc (part_of_cycle ws k)) z ∙ ap suc s.0) d
+    (within_other w ws (m + 1) b ∙ ap (within ws) z ∙ s.1) (inr (b, refl, refl)))
     (cases_lt (m + 1) w))
     (λ b.
     let p = part_other w ws m b in
@@ -77,13 +78,15 @@ next_place (w ∷ ws) m pos lt = ⊎_elim
     let i = next_place ws (m - w) pos.1 (omega (arith, lt, b)) in
     let p' = part_other w ws (m + 1) (omega (arith, b)) ∙ ap (λ k. suc (part_of_cycle ws k)) z in
     let d' = within_other w ws (m + 1) (omega (arith, b)) ∙ ap (within ws) z in
-    next_by _ (slice_index_or ws (part_of_cycle ws (m - w)) 0) _ (suc (part_of_cycle ws (m - w))) _ (suc (part_of_cycle ws ((m - w) + 1))) _ (within ws (m - w)) _ (within ws ((m - w) + 1))
+    next_by _ (slice_index_or ws (part_of_cycle ws (m - w)) 0) _ (suc (part_of_cycle ws (m - w))) _ (suc (part_of_cycle ws ((m - w) + 1))) _
+    (within ws (m - w)) _ (within ws ((m - w) + 1))
     (ap (λ k. slice_index_or (w ∷ ws) k 0) p) p p' d d'
     (⊎_elim (λ h. inl (h.0, ap suc h.1, h.2)) (λ h. inr (h.0, (let e = h.1 in omega (arith, e)), h.2)) i))
     (cases_lt m w)
 
 -- the last place of the cycle is the last of the last part
-last_place : (ws : List ℕ) (m : ℕ) → Positive ws → m + 1 ≡ cycle ws → (slice_index_or ws (part_of_cycle ws m) 0 ≤ within ws m + 1) × (part_of_cycle ws m + 1 ≡ length ws)
+last_place : (ws : List ℕ) (m : ℕ) → Positive ws → m + 1 ≡ cycle ws
+    → (slice_index_or ws (part_of_cycle ws m) 0 ≤ within ws m + 1) × (part_of_cycle ws m + 1 ≡ length ws)
 last_place [] m pos e = absurd (omega (arith, e))
 last_place (w ∷ []) m pos e =
     let a : m < w = omega (arith, e) in
@@ -97,7 +100,8 @@ last_place (w ∷ v ∷ vs) m pos e =
     let p = part_other w (v ∷ vs) m b in
     let d = within_other w (v ∷ vs) m b in
     let i = last_place (v ∷ vs) (m - w) pos.1 (omega (arith, e, b)) in
-    let share : slice_index_or (w ∷ v ∷ vs) (part_of_cycle (w ∷ v ∷ vs) m) 0 ≡ slice_index_or (v ∷ vs) (part_of_cycle (v ∷ vs) (m - w)) 0 = ap (λ k. slice_index_or (w ∷ v ∷ vs) k 0) p in
+    let share : slice_index_or (w ∷ v ∷ vs) (part_of_cycle (w ∷ v ∷ vs) m) 0 ≡ slice_index_or (v ∷ vs) (part_of_cycle (v ∷ vs) (m - w)) 0 =
+    ap (λ k. slice_index_or (w ∷ v ∷ vs) k 0) p in
     let i0 = i.0 in let i1 = i.1 in
     (omega (arith, share, d, i0), omega (arith, p, i1))
 
@@ -136,7 +140,11 @@ next_turn ws x pos lt =
     (λ h.
     let s = stays_in w x h in
     ⊎_elim
-    (λ n. (if_lt (d + 1) share (part_of_cycle ws m) other n.0 ∙ sym n.1 ∙ ap (part_of_cycle ws) (sym s.0), if_lt (d + 1) share (d + 1) 0 n.0 ∙ sym n.2 ∙ ap (within ws) (sym s.0)))
+    (λ n. (
+      if_lt (d + 1) share (part_of_cycle ws m) other n.0 ∙ sym n.1 ∙ ap (part_of_cycle ws) (sym s.0),
+      if_lt (d + 1) share (d + 1) 0 n.0 ∙ sym n.2
+          ∙ ap (within ws) (sym s.0),
+    ))
     (λ n. (
       if_ge (d + 1) share (part_of_cycle ws m) other n.0
           ∙ if_lt (part_of_cycle ws m + 1) (length ws) (part_of_cycle ws m + 1) 0 (let b = part_below ws (m + 1) h in let e = n.1 in omega (arith, b, e))
@@ -225,7 +233,8 @@ pub taken_none : (ws : List ℕ) (p : ℕ) → 0 < cycle ws → taken ws p 0 ≡
 taken_none ws p lt =
     let d = (zero_is (cycle ws) lt).1 in
     let m = (zero_is (cycle ws) lt).0 in
-    ap (λ k. k * slice_index_or ws p 0 + before ws p (0 % cycle ws)) d ∙ ap (λ k. 0 * slice_index_or ws p 0 + before ws p k) m ∙ (let b = before_none ws p in omega (arith, b))
+    ap (λ k. k * slice_index_or ws p 0 + before ws p (0 % cycle ws)) d ∙ ap (λ k. 0 * slice_index_or ws p 0 + before ws p k) m
+    ∙ (let b = before_none ws p in omega (arith, b))
 
 -- of the items before number x, port `branch ws x` was given as many as x has before it there
 pub taken_here : (ws : List ℕ) (x : ℕ) → 0 < cycle ws → taken ws (branch ws x) x ≡ number_in_branch ws x
@@ -250,7 +259,8 @@ taken_next ws p x n lt e = cases_cycle (cycle ws) x lt
 -- item x goes to its port
 pub taken_same : (ws : List ℕ) (p x : ℕ) → 0 < cycle ws → branch ws x ≡ p → taken ws p (suc x) ≡ taken ws p x + 1
 taken_same ws p x lt e =
-    taken_next ws p x 1 lt (subst (λ k. before ws k (x % cycle ws + 1) ≡ before ws k (x % cycle ws) + 1) e (before_same ws (x % cycle ws) (mod_below x (cycle ws) lt)))
+    taken_next ws p x 1 lt
+    (subst (λ k. before ws k (x % cycle ws + 1) ≡ before ws k (x % cycle ws) + 1) e (before_same ws (x % cycle ws) (mod_below x (cycle ws) lt)))
 
 -- item x goes to no other port
 pub taken_other : (ws : List ℕ) (p x : ℕ) → 0 < cycle ws → branch ws x ≢ p → taken ws p (suc x) ≡ taken ws p x

@@ -20,8 +20,10 @@ dealt_from ws p x [] pos lt = refl
 dealt_from ws p x (y ∷ ys) pos lt =
     let n = next_turn ws x pos lt in
     let rest = λ (a b : ℕ). (feed (deal_one ws) ys (Turn a b ∷ [])).outs p in
-    let after : rest (next_port ws (branch ws x) (within ws (x % cycle ws))) (next_had ws (branch ws x) (within ws (x % cycle ws))) ≡ picked (λ y. nat_eq (branch ws y) p) (suc x) ys =
-    ap (λ a. rest a (next_had ws (branch ws x) (within ws (x % cycle ws)))) n.0 ∙ ap (λ b. rest (branch ws (suc x)) b) n.1 ∙ dealt_from ws p (suc x) ys pos lt in
+    let after : rest (next_port ws (branch ws x) (within ws (x % cycle ws))) (next_had ws (branch ws x) (within ws (x % cycle ws))) ≡ picked
+    (λ y. nat_eq (branch ws y) p) (suc x) ys =
+    ap (λ a. rest a (next_had ws (branch ws x) (within ws (x % cycle ws)))) n.0 ∙ ap (λ b. rest (branch ws (suc x)) b) n.1
+    ∙ dealt_from ws p (suc x) ys pos lt in
     ap (λ l. only (branch ws x) (y ∷ []) p ++ l) after
     ∙ ⊎_elim
     (λ e.

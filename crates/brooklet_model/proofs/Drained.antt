@@ -12,7 +12,8 @@ pub record Keeps (n : ℕ) (S : Type 0) (front : S → Option (List item.Item)) 
   pub moves : (s : S) (o : List item.Item) (q : ℕ) (y : item.Item) → front s ≡ Some o → rest (put q y s) ≡ put q y (rest s)
   pub swaps : (s : S) (p q : ℕ) (x y : item.Item) → p < n → q < n → p ≢ q → put q y (put p x s) ≡ put p x (put q y s)
 
-module _ (ports : ℕ) (S : Type 0) (front : S → Option (List item.Item)) (rest : S → S) (put : ℕ → item.Item → S → S) (size : S → ℕ) (k : Keeps ports S front rest put size) where
+module _ (ports : ℕ) (S : Type 0) (front : S → Option (List item.Item)) (rest : S → S) (put : ℕ → item.Item → S → S) (size : S → ℕ)
+    (k : Keeps ports S front rest put size) where
   pub drain_none : (n : ℕ) (s : S) → front s ≡ None → drain front rest n s ≡ ([], s)
   drain_none zero s e = refl
   drain_none (suc n) s e = ap (pass_on rest s (drain front rest n)) e
@@ -69,7 +70,8 @@ module _ (ports : ℕ) (S : Type 0) (front : S → Option (List item.Item)) (res
       (λ e. agree_done (drain front rest (suc n) s) m 0 s q y (drain_none (suc n) s e) hm hl)
       (λ o e. absurd (let b = k.less (put q y s) o (k.stays s o q y e) in omega (arith, b, hl)))
   put_drain (suc n) m (suc l) s q y hn hm hl =
-      let ih = λ (h : size (rest s) ≤ n) (h2 : size (put q y (drain front rest n (rest s)).1) ≤ m) (h3 : size (put q y (rest s)) ≤ l). put_drain n m l (rest s) q y h h2 h3 in
+      let ih = λ (h : size (rest s) ≤ n) (h2 : size (put q y (drain front rest n (rest s)).1) ≤ m) (h3 : size (put q y (rest s)) ≤ l). put_drain n m l
+      (rest s) q y h h2 h3 in
       front_cases s
       (λ e. agree_done (drain front rest (suc n) s) m (suc l) s q y (drain_none (suc n) s e) hm hl)
       (λ o e.
@@ -84,10 +86,14 @@ module _ (ports : ℕ) (S : Type 0) (front : S → Option (List item.Item)) (res
   settle s = drain front rest (size s) s
 
   -- two items at different ports, in either order
-  pub two_puts : (s : S) (p q : ℕ) (x y : item.Item) → p < ports → q < ports → p ≢ q → let d = settle (put p x s) in let e = settle (put q y d.1) in let d' = settle (put q y s) in let e' = settle (put p x d'.1) in (d.0 ++ e.0 ≡ d'.0 ++ e'.0) × (e.1 ≡ e'.1)
+  pub two_puts : (s : S) (p q : ℕ) (x y : item.Item) → p < ports → q < ports → p ≢ q
+      → let d = settle (put p x s) in let e = settle (put q y d.1) in let d' = settle (put q y s) in let e' =
+      settle (put p x d'.1) in (d.0 ++ e.0 ≡ d'.0 ++ e'.0) × (e.1 ≡ e'.1)
   two_puts s p q x y hp hq ne =
       let u = put p x s in let v = put q y s in
-      let a = put_drain (size u) (size (put q y (drain front rest (size u) u).1)) (size (put q y u)) u q y (le_refl (size u)) (le_refl (size (put q y (drain front rest (size u) u).1))) (le_refl (size (put q y u))) in
-      let b = put_drain (size v) (size (put p x (drain front rest (size v) v).1)) (size (put p x v)) v p x (le_refl (size v)) (le_refl (size (put p x (drain front rest (size v) v).1))) (le_refl (size (put p x v))) in
+      let a = put_drain (size u) (size (put q y (drain front rest (size u) u).1)) (size (put q y u)) u q y (le_refl (size u))
+      (le_refl (size (put q y (drain front rest (size u) u).1))) (le_refl (size (put q y u))) in
+      let b = put_drain (size v) (size (put p x (drain front rest (size v) v).1)) (size (put p x v)) v p x (le_refl (size v))
+      (le_refl (size (put p x (drain front rest (size v) v).1))) (le_refl (size (put p x v))) in
       let same = ap (λ w. drain front rest (size w) w) (k.swaps s p q x y hp hq ne) in
       (a.0 ∙ ap (λ r. r.0) same ∙ sym b.0, a.1 ∙ ap (λ r. r.1) same ∙ sym b.1)

@@ -64,7 +64,8 @@ alike_fused : (at n t : ℕ) (r s : Fired) (second : List item.Item → Fired) �
 alike_fused at n t r s second a = record {
   outs = λ p. splice_first at n r.outs s.outs (second (r.outs at)).outs a.outs p ∙ ap (λ l. splice at n s.outs (second l).outs p) (a.outs at);
   adds =
-      λ u. beside_bag t r.adds s.adds (second (r.outs at)).adds (second (s.outs at)).adds a.adds (λ q test. ap (λ l. count_by test ((second l).adds q)) (a.outs at)) u;
+      λ u. beside_bag t r.adds s.adds (second (r.outs at)).adds (second (s.outs at)).adds a.adds
+      (λ q test. ap (λ l. count_by test ((second l).adds q)) (a.outs at)) u;
   states = ap (λ us. us ++ (second (r.outs at)).states) a.states ∙ ap (λ l. s.states ++ (second l).states) (a.outs at);
 }
 

@@ -19,9 +19,12 @@ pub splice-append : {A : Type 0} (at n : ℕ) (f f' g g' : ℕ → List A) (p : 
     → splice at n f g p ++ splice at n f' g' p ≡ splice at n (λ q. f q ++ f' q) (λ q. g q ++ g' q) p
 splice-append at n f f' g g' p = ⊎_elim
     (λ lt. ap (λ t. t ++ splice at n f' g' p) (if_lt p at (f p) _ lt) ∙ ap (λ t. f p ++ t) (if_lt p at (f' p) _ lt) ∙ sym (if_lt p at (f p ++ f' p) _ lt))
-    (λ ge. ap (λ t. t ++ splice at n f' g' p) (if_ge p at (f p) _ ge) ∙ ap (λ t. (if nat_lt (p - at) n then g (p - at) else f (p - n + 1)) ++ t) (if_ge p at (f' p) _ ge) ∙ ⊎_elim
-    (λ lt. ap (λ t. t ++ (if nat_lt (p - at) n then g' (p - at) else f' (p - n + 1))) (if_lt (p - at) n (g (p - at)) _ lt) ∙ ap (λ t. g (p - at) ++ t) (if_lt (p - at) n (g' (p - at)) _ lt) ∙ sym (if_lt (p - at) n (g (p - at) ++ g' (p - at)) _ lt))
-    (λ le. ap (λ t. t ++ (if nat_lt (p - at) n then g' (p - at) else f' (p - n + 1))) (if_ge (p - at) n _ (f (p - n + 1)) le) ∙ ap (λ t. f (p - n + 1) ++ t) (if_ge (p - at) n _ (f' (p - n + 1)) le) ∙ sym (if_ge (p - at) n _ (f (p - n + 1) ++ f' (p - n + 1)) le))
+    (λ ge. ap (λ t. t ++ splice at n f' g' p) (if_ge p at (f p) _ ge)
+    ∙ ap (λ t. (if nat_lt (p - at) n then g (p - at) else f (p - n + 1)) ++ t) (if_ge p at (f' p) _ ge) ∙ ⊎_elim
+    (λ lt. ap (λ t. t ++ (if nat_lt (p - at) n then g' (p - at) else f' (p - n + 1))) (if_lt (p - at) n (g (p - at)) _ lt)
+    ∙ ap (λ t. g (p - at) ++ t) (if_lt (p - at) n (g' (p - at)) _ lt) ∙ sym (if_lt (p - at) n (g (p - at) ++ g' (p - at)) _ lt))
+    (λ le. ap (λ t. t ++ (if nat_lt (p - at) n then g' (p - at) else f' (p - n + 1))) (if_ge (p - at) n _ (f (p - n + 1)) le)
+    ∙ ap (λ t. f (p - n + 1) ++ t) (if_ge (p - at) n _ (f' (p - n + 1)) le) ∙ sym (if_ge (p - at) n _ (f (p - n + 1) ++ f' (p - n + 1)) le))
     (cases_lt (p - at) n)
     ∙ sym (if_ge p at (f p ++ f' p) _ ge))
     (cases_lt p at)
@@ -30,7 +33,8 @@ pub beside-append : {A : Type 0} (n : ℕ) (f f' g g' : ℕ → List A) (p : ℕ
     → beside n f g p ++ beside n f' g' p ≡ beside n (λ q. f q ++ f' q) (λ q. g q ++ g' q) p
 beside-append n f f' g g' p = ⊎_elim
     (λ lt. ap (λ t. t ++ beside n f' g' p) (if_lt p n (f p) _ lt) ∙ ap (λ t. f p ++ t) (if_lt p n (f' p) _ lt) ∙ sym (if_lt p n (f p ++ f' p) _ lt))
-    (λ ge. ap (λ t. t ++ beside n f' g' p) (if_ge p n _ (g (p - n)) ge) ∙ ap (λ t. g (p - n) ++ t) (if_ge p n _ (g' (p - n)) ge) ∙ sym (if_ge p n _ (g (p - n) ++ g' (p - n)) ge))
+    (λ ge. ap (λ t. t ++ beside n f' g' p) (if_ge p n _ (g (p - n)) ge) ∙ ap (λ t. g (p - n) ++ t) (if_ge p n _ (g' (p - n)) ge)
+    ∙ sym (if_ge p n _ (g (p - n) ++ g' (p - n)) ge))
     (cases_lt p n)
 
 splice-none : (at n : ℕ) (p : ℕ) → [] ≡ splice {A = List item.Item} at n none none p
@@ -53,7 +57,8 @@ beside_same n f g g' h p = ap (λ l. if nat_lt p n then f p else l) (h (p - n))
 
 -- a run of a fused kernel is one of its first part, and its second part fed with what that gave
 pub fused_runs : (a b : Kern) (at : ℕ) (w : Word) (ss : List Kept) → IsShaped (fused a b at) → HasShape (fused a b at) ss
-    → Same (run (fire (fused a b at)) w ss) (fused_of at (outs b) (tabs a) (run (fire a) w (take (privates a) ss)) (λ xs. feed (fire b 0) xs (drop (privates a) ss)))
+    → Same (run (fire (fused a b at)) w ss)
+    (fused_of at (outs b) (tabs a) (run (fire a) w (take (privates a) ss)) (λ xs. feed (fire b 0) xs (drop (privates a) ss)))
 fused_runs a b at [] ss f h = record {
   outs = splice-none at (outs b);
   adds = beside-none (tabs a);
@@ -67,8 +72,11 @@ fused_runs a b at (e ∷ es) ss f h =
     let la = shape_length a ra.states (fire_shape a e.0 e.1 (take (privates a) ss) f.0 h.0) in
     let ih = fused_runs a b at es (ra.states ++ rb.states) f h' in
     let ih' : Same (run (fire k) es (ra.states ++ rb.states)) (fused_of at (outs b) (tabs a) (run (fire a) es ra.states) (λ xs. feed (fire b 0) xs rb.states)) =
-    subst (λ us. Same (run (fire k) es (ra.states ++ rb.states)) (fused_of at (outs b) (tabs a) (run (fire a) es us) (λ xs. feed (fire b 0) xs rb.states))) (take_front ra.states rb.states (privates a) la)
-    (subst (λ us. Same (run (fire k) es (ra.states ++ rb.states)) (fused_of at (outs b) (tabs a) (run (fire a) es (take (privates a) (ra.states ++ rb.states))) (λ xs. feed (fire b 0) xs us))) (drop_front ra.states rb.states (privates a) la) ih) in
+    subst (λ us. Same (run (fire k) es (ra.states ++ rb.states)) (fused_of at (outs b) (tabs a) (run (fire a) es us) (λ xs. feed (fire b 0) xs rb.states)))
+    (take_front ra.states rb.states (privates a) la)
+    (subst (λ us. Same (run (fire k) es (ra.states ++ rb.states))
+    (fused_of at (outs b) (tabs a) (run (fire a) es (take (privates a) (ra.states ++ rb.states))) (λ xs. feed (fire b 0) xs us)))
+    (drop_front ra.states rb.states (privates a) la) ih) in
     let sa = run (fire a) es ra.states in
     let sb = feed (fire b 0) (sa.outs at) rb.states in
     let fa = feed-append (fire b 0) (ra.outs at) (sa.outs at) (drop (privates a) ss) in

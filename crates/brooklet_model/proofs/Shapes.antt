@@ -70,7 +70,8 @@ pub next_turn : (ws : List ℕ) (port had : ℕ) → HaveShares ws → IsTurn ws
 next_turn ws port had all h =
     let other : ℕ = if nat_lt (port + 1) (length ws) then port + 1 else 0 in
     ⊎_elim
-    (λ lt. turn_by ws _ _ port (had + 1) (if_lt (had + 1) (slice_index_or ws port 0) port other lt) (if_lt (had + 1) (slice_index_or ws port 0) (had + 1) 0 lt) (h.0, lt))
+    (λ lt. turn_by ws _ _ port (had + 1) (if_lt (had + 1) (slice_index_or ws port 0) port other lt) (if_lt (had + 1) (slice_index_or ws port 0) (had + 1) 0 lt)
+    (h.0, lt))
     (λ ge. turn_by ws _ _ other 0 (if_ge (had + 1) (slice_index_or ws port 0) port other ge) (if_ge (had + 1) (slice_index_or ws port 0) (had + 1) 0 ge) (⊎_elim
     (λ lt. turn_by ws other 0 (port + 1) 0 (if_lt (port + 1) (length ws) (port + 1) 0 lt) refl (lt, weight_at ws (port + 1) all.1 lt))
     (λ le. turn_by ws other 0 0 0 (if_ge (port + 1) (length ws) (port + 1) 0 le) refl (all.0, weight_at ws 0 all.1 all.0))
@@ -98,7 +99,8 @@ drain_joined give ws zero s all j = j
 drain_joined give ws (suc n) s all j =
     elim (front_of give s) as (λ o. IsJoiner ws (pass_on (passed ws) s (drain (front_of give) (passed ws) n) o).1) [
       | None ↦ j
-      | Some x ↦ drain_joined give ws n (passed ws s) all (record { turn = next_turn ws s.port s.had all j.turn; lists = length-rest_at s.lists s.port ∙ j.lists })
+      | Some x ↦ drain_joined give ws n (passed ws s) all
+          (record { turn = next_turn ws s.port s.had all j.turn; lists = length-rest_at s.lists s.port ∙ j.lists })
     ]
 
 -- a joiner that an item comes to keeps its shape
@@ -192,6 +194,8 @@ first_shape (unpack n) f = record { turn = first_turn (ones n) f; lists = length
 first_shape (fused a b at) f =
     let ha = first_shape a f.0 in
     let hb = first_shape b f.1 in
-    let la = shape_length a (first_kept a) ha in
-    (subst (HasShape a) (sym (take_front (first_kept a) (first_kept b) (privates a) la)) ha, subst (HasShape b) (sym (drop_front (first_kept a) (first_kept b) (privates a) la)) hb)
+    let la = shape_length a (first_kept a) ha in (
+      subst (HasShape a) (sym (take_front (first_kept a) (first_kept b) (privates a) la)) ha,
+      subst (HasShape b) (sym (drop_front (first_kept a) (first_kept b) (privates a) la)) hb,
+    )
 first_shape kernel f = tt

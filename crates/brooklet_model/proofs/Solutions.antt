@@ -63,7 +63,8 @@ written_out (w ∷ ws) f h q z = ⊎_elim
 -- a queue that no operator writes keeps its history
 pub stays : (ops : List OpForm) (h : History) (q : Name) → total (writes_it q) ops ≡ 0 → histories ops h q ≡ h q
 stays [] h q z = refl
-stays (op ∷ ops) h q z = stays ops (written op.writes (given_on op h).outs h) q (omega (arith, z)) ∙ written_out op.writes (given_on op h).outs h q (omega (arith, z))
+stays (op ∷ ops) h q z = stays ops (written op.writes (given_on op h).outs h) q (omega (arith, z))
+    ∙ written_out op.writes (given_on op h).outs h q (omega (arith, z))
 
 -- a list whose names stand once each is written place by place
 pub lists_written : (ws : List Name) (f : ℕ → List item.Item) (h g : History) → ((q : Name) → count q ws ≤ 1)

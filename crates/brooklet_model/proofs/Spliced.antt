@@ -61,9 +61,11 @@ spliced_got (m ∷ ms) bs zero p lt = ⊎_elim
     ∙ sym (splice_last 0 (length bs) (slice_get (m ∷ ms)) (slice_get bs) p (omega arith) (omega (arith, ge))))
     (cases_lt p (length bs))
 spliced_got (m ∷ ms) bs (suc at) zero lt =
-    ap (λ (l : List QueueType). slice_get l 0) (spliced_next at m ms bs) ∙ sym (splice_first (suc at) (length bs) (slice_get (m ∷ ms)) (slice_get bs) 0 (omega arith))
+    ap (λ (l : List QueueType). slice_get l 0) (spliced_next at m ms bs)
+    ∙ sym (splice_first (suc at) (length bs) (slice_get (m ∷ ms)) (slice_get bs) 0 (omega arith))
 spliced_got (m ∷ ms) bs (suc at) (suc p) lt =
-    ap (λ (l : List QueueType). slice_get l (suc p)) (spliced_next at m ms bs) ∙ spliced_got ms bs at p (omega (arith, lt)) ∙ splice_next at (length bs) (slice_get (m ∷ ms)) (slice_get bs) p
+    ap (λ (l : List QueueType). slice_get l (suc p)) (spliced_next at m ms bs) ∙ spliced_got ms bs at p (omega (arith, lt))
+    ∙ splice_next at (length bs) (slice_get (m ∷ ms)) (slice_get bs) p
 
 -- whatever is said of the items at a port by its type, said of both kernels' ports it is said of the ports of the two as one
 pub spliced_all : (B : Option QueueType → item.Item → Type 0) (ms bs : List QueueType) (at p : ℕ) (f g : ℕ → List item.Item) → at < length ms

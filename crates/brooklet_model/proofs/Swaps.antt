@@ -45,7 +45,8 @@ pub alike_first : (r r' : Fired) (g : List Kept → Fired) → Alike r r' → Al
 alike_first r r' g a = record {
   outs = λ p. ap (λ l. l ++ (g r.states).outs p) (a.outs p) ∙ ap (λ ss. r'.outs p ++ (g ss).outs p) a.states;
   adds =
-      λ t. bag_append (r.adds t) (r'.adds t) ((g r.states).adds t) ((g r'.states).adds t) (a.adds t) (λ test. ap (λ ss. count_by test ((g ss).adds t)) a.states);
+      λ t. bag_append (r.adds t) (r'.adds t) ((g r.states).adds t) ((g r'.states).adds t) (a.adds t)
+      (λ test. ap (λ ss. count_by test ((g ss).adds t)) a.states);
   states = ap (λ ss. (g ss).states) a.states;
 }
 
@@ -124,7 +125,8 @@ module _ (n : ℕ) (f : ℕ → item.Item → List Kept → Fired) (P : List Kep
   move p x xs (e ∷ es) ss hp hb h is = ⊎_elim
       (λ eq.
       let e1 : e.1 ≡ x = head_is e.1 x (at_port p es) xs (sym (at_port_here p e es eq) ∙ is) in
-      let a : Alike (run f (e ∷ es) ss) (run f ((p, e.1) ∷ es) ss) = subst (λ o. Alike (run f (e ∷ es) ss) (run f ((o, e.1) ∷ es) ss)) eq (alike_refl (run f (e ∷ es) ss)) in
+      let a : Alike (run f (e ∷ es) ss) (run f ((p, e.1) ∷ es) ss) =
+      subst (λ o. Alike (run f (e ∷ es) ss) (run f ((o, e.1) ∷ es) ss)) eq (alike_refl (run f (e ∷ es) ss)) in
       let b : Alike (run f (e ∷ es) ss) (run f ((p, x) ∷ es) ss) = subst (λ o. Alike (run f (e ∷ es) ss) (run f ((p, o) ∷ es) ss)) e1 a in
       subst (λ o. Alike (run f (e ∷ es) ss) (run f ((p, x) ∷ o) ss)) (sym (pull_here p e es eq)) b)
       (λ ne.

@@ -22,7 +22,8 @@ some_cycle ws h = positive_cycle ws (length ws) 0 h.1 refl h.0
 pub deals_by_index : DealsByIndex
 deals_by_index weights xs p formed =
     let shares_are = formed_shaped (deal weights) formed in
-    ap (λ r. r.outs p) (one_input (deal weights) (λ _. xs) (first_kept (deal weights)) refl) ∙ deals (shares weights) p xs shares_are.1 (some_cycle (shares weights) shares_are)
+    ap (λ r. r.outs p) (one_input (deal weights) (λ _. xs) (first_kept (deal weights)) refl)
+    ∙ deals (shares weights) p xs shares_are.1 (some_cycle (shares weights) shares_are)
 
 pub collects_by_index : CollectsByIndex
 collects_by_index weights ls formed many =

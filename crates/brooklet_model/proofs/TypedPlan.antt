@@ -122,7 +122,8 @@ pub kind_front : (xs ys : List Decl) (q : Name) → 0 < count q (decl_names xs) 
 kind_front [] ys q lt = absurd (omega (arith, lt))
 kind_front (x ∷ xs) ys q lt = ⊎_elim
     (λ c. if_true (name_eq x.name q) (Some x.kind) (kind_in (xs ++ ys) q) c.1 ∙ sym (if_true (name_eq x.name q) (Some x.kind) (kind_in xs q) c.1))
-    (λ c. if_false (name_eq x.name q) (Some x.kind) (kind_in (xs ++ ys) q) c.1 ∙ kind_front xs ys q (let e = ap one_if c.1 in omega (arith, e, lt)) ∙ sym (if_false (name_eq x.name q) (Some x.kind) (kind_in xs q) c.1))
+    (λ c. if_false (name_eq x.name q) (Some x.kind) (kind_in (xs ++ ys) q) c.1 ∙ kind_front xs ys q (let e = ap one_if c.1 in omega (arith, e, lt))
+    ∙ sym (if_false (name_eq x.name q) (Some x.kind) (kind_in xs q) c.1))
     (cases_name x.name q)
 
 -- and of what they do not declare behind them
@@ -138,9 +139,11 @@ inputs_found : (ds : List Decl) (ls : List (List item.Item)) → AreInputs ds ls
 inputs_found [] ls a q lt = absurd (omega (arith, lt))
 inputs_found (d ∷ ds) [] a q lt = absurd a
 inputs_found (d ∷ ds) (xs ∷ ls) a q lt = ⊎_elim
-    (λ c. subst (λ o. All (HasType (unwrap_or o (rows 0))) (inputs_of (decl_names (d ∷ ds)) (list_at (xs ∷ ls)) q)) (sym (if_true (name_eq d.name q) (Some d.kind) (kind_in ds q) c.1))
+    (λ c. subst (λ o. All (HasType (unwrap_or o (rows 0))) (inputs_of (decl_names (d ∷ ds)) (list_at (xs ∷ ls)) q))
+    (sym (if_true (name_eq d.name q) (Some d.kind) (kind_in ds q) c.1))
     (subst (All (HasType d.kind)) (sym (if_true (name_eq d.name q) xs (inputs_of (decl_names ds) (list_at ls) q) c.1)) a.0))
-    (λ c. subst (λ o. All (HasType (unwrap_or o (rows 0))) (inputs_of (decl_names (d ∷ ds)) (list_at (xs ∷ ls)) q)) (sym (if_false (name_eq d.name q) (Some d.kind) (kind_in ds q) c.1))
+    (λ c. subst (λ o. All (HasType (unwrap_or o (rows 0))) (inputs_of (decl_names (d ∷ ds)) (list_at (xs ∷ ls)) q))
+    (sym (if_false (name_eq d.name q) (Some d.kind) (kind_in ds q) c.1))
     (subst (All (HasType (kind_of ds q))) (sym (if_false (name_eq d.name q) xs (inputs_of (decl_names ds) (list_at ls) q) c.1))
     (inputs_found ds ls a.1 q (let e = ap one_if c.1 in omega (arith, e, lt)))))
     (cases_name d.name q)
@@ -155,7 +158,8 @@ inputs_typed p v inputs a q = ⊎_elim
     let t = count-append q (decl_names p.inputs) (decl_names p.queues) in
     let is = kind_back p.outputs (p.inputs ++ p.queues) q (omega (arith, o, s, t, lt)) ∙ kind_front p.inputs p.queues q lt in
     subst (λ k. All (HasType (unwrap_or k (rows 0))) (inputs_of (decl_names p.inputs) (list_at inputs) q)) (sym is) (inputs_found p.inputs inputs a q lt))
-    (λ z. subst (All (HasType (kind_of (all_decls p) q))) (sym (written_out (decl_names p.inputs) (list_at inputs) (λ n. []) q z)) (All-nil (HasType (kind_of (all_decls p) q))))
+    (λ z. subst (All (HasType (kind_of (all_decls p) q))) (sym (written_out (decl_names p.inputs) (list_at inputs) (λ n. []) q z))
+    (All-nil (HasType (kind_of (all_decls p) q))))
     (more_or_zero (count q (decl_names p.inputs)))
 
 -- HISTORIES
@@ -170,19 +174,22 @@ module _ (p : PlanForm) (v : IsPlan p) where
   given_typed o op h g e =
       let f = op_fits p v o op g in
       let s = shaped op.kernel _ _ _ f in
-      run_typed op.kernel (map kinds op.reads) (map kinds op.writes) (map (var_kind p.tables p.vars) op.vars) (port_by_port (ins op.kernel) 0 (lists_of h op.reads)) (first_kept op.kernel)
+      run_typed op.kernel (map kinds op.reads) (map kinds op.writes) (map (var_kind p.tables p.vars) op.vars)
+      (port_by_port (ins op.kernel) 0 (lists_of h op.reads)) (first_kept op.kernel)
       f (first_shape op.kernel s) (first_holds op.kernel (map kinds op.reads) s)
       (at_order (map kinds op.reads) (ins op.kernel) 0 (lists_of h op.reads) (reads_of kinds h op.reads e))
 
   pub histories_typed : (inputs : List (List item.Item)) → AreInputs p.inputs inputs → EachQueue kinds (hist p inputs)
   histories_typed inputs a q =
       let g = inputs_of (decl_names p.inputs) (list_at inputs) in
-      let old : (x : Name) → total (writes_it x) p.ops ≡ 0 → All (HasType (kinds x)) (hist p inputs x) = λ x z. subst (All (HasType (kinds x))) (sym (stays p.ops g x z)) (inputs_typed p v inputs a x) in
+      let old : (x : Name) → total (writes_it x) p.ops ≡ 0
+      → All (HasType (kinds x)) (hist p inputs x) = λ x z. subst (All (HasType (kinds x))) (sym (stays p.ops g x z)) (inputs_typed p v inputs a x) in
       ⊎_elim
       (λ lt.
       by_order (λ x. All (HasType (kinds x)) (hist p inputs x)) p.ops (λ x. count x (decl_names p.inputs)) v.in_order
       (λ x lx. old x (let w = v.written_once x in omega (arith, w, lx)))
-      (each_of _ p.ops (λ o op s e x lx. writes_of kinds op.writes (given_on op (hist p inputs)).outs (hist p inputs) (given_typed o op (hist p inputs) s e) (each_at (Solves (hist p inputs)) p.ops o op (plan_solves p v g) s) x lx))
+      (each_of _ p.ops (λ o op s e x lx. writes_of kinds op.writes (given_on op (hist p inputs)).outs (hist p inputs) (given_typed o op (hist p inputs) s e)
+      (each_at (Solves (hist p inputs)) p.ops o op (plan_solves p v g) s) x lx))
       q (omega (arith, lt)))
       (λ z. old q z)
       (more_or_zero (total (writes_it q) p.ops))
@@ -212,11 +219,13 @@ module _ (p : PlanForm) (v : IsPlan p) where
       record {
         queues = λ n. All-append (HasType (kinds n)) (s.hist n) (joined op.writes r.outs n) (t.queues n) (joined_all IsTyped kinds op.writes r.outs one.0 n);
         shapes = λ o' op' g'. ⊎_elim
-            (λ e. at_same p.ops (λ j k. HasShape k.kernel (at_key o r.states s.kept j)) o o' op op' g g' e (subst (HasShape op.kernel) (sym (at_key_same o r.states s.kept)) shape))
+            (λ e. at_same p.ops (λ j k. HasShape k.kernel (at_key o r.states s.kept j)) o o' op op' g g' e
+            (subst (HasShape op.kernel) (sym (at_key_same o r.states s.kept)) shape))
             (λ n. subst (HasShape op'.kernel) (sym (at_key_other o r.states s.kept o' n)) (t.shapes o' op' g'))
             (cases_eq o o');
         holds = λ o' op' g'. ⊎_elim
-            (λ e. at_same p.ops (λ j k. Holds k.kernel (map kinds k.reads) (at_key o r.states s.kept j)) o o' op op' g g' e (subst (Holds op.kernel (map kinds op.reads)) (sym (at_key_same o r.states s.kept)) one.1))
+            (λ e. at_same p.ops (λ j k. Holds k.kernel (map kinds k.reads) (at_key o r.states s.kept j)) o o' op op' g g' e
+            (subst (Holds op.kernel (map kinds op.reads)) (sym (at_key_same o r.states s.kept)) one.1))
             (λ n. subst (Holds op'.kernel (map kinds op'.reads)) (sym (at_key_other o r.states s.kept o' n)) (t.holds o' op' g'))
             (cases_eq o o');
       }

@@ -105,7 +105,8 @@ mutual
   once_well inputs slots outs (If cond when otherwise) input kept h =
       let p = and_parts (is_term inputs slots cond) (is_steps inputs slots outs when && is_steps inputs slots outs otherwise) h in
       let q = and_parts (is_steps inputs slots outs when) (is_steps inputs slots outs otherwise) p.1 in
-      either_well outs (is_true (val cond input kept)) (ran when input kept) (ran otherwise input kept) (ran_well inputs slots outs when input kept q.0) (ran_well inputs slots outs otherwise input kept q.1)
+      either_well outs (is_true (val cond input kept)) (ran when input kept) (ran otherwise input kept) (ran_well inputs slots outs when input kept q.0)
+      (ran_well inputs slots outs otherwise input kept q.1)
 
   ran_well : (inputs slots : ℕ) (outs : List ℤ) (ss : Steps) (input kept : List ℤ) → is_steps inputs slots outs ss ≡ true
       → All (IsPushed outs) (ran ss input kept).pushes
@@ -113,7 +114,8 @@ mutual
   ran_well inputs slots outs (Then s ss) input kept h =
       let p = and_parts (is_step inputs slots outs s) (is_steps inputs slots outs ss) h in
       let first = ran_once s input kept in
-      All-append (IsPushed outs) first.pushes (ran ss input first.slots).pushes (once_well inputs slots outs s input kept p.0) (ran_well inputs slots outs ss input first.slots p.1)
+      All-append (IsPushed outs) first.pushes (ran ss input first.slots).pushes (once_well inputs slots outs s input kept p.0)
+      (ran_well inputs slots outs ss input first.slots p.1)
 
 port_of : (outs : List ℤ) (port : ℕ) (row : List ℤ) → has_port outs port (length row) ≡ true → IsOf (ports outs) port (Flat (One row))
 port_of [] port row h = absurd (true≢false (sym h))
@@ -127,7 +129,8 @@ pushes_of outs (e ∷ es) h q =
     let rest = pushes_of outs es (All-tail (IsPushed outs) e es h) q in
     ⊎_elim
     (λ eq. subst (All P) (sym (if_eq e.0 q (Flat (One e.1) ∷ pushed_to q es) (pushed_to q es) eq))
-    (All-cons P (Flat (One e.1)) (pushed_to q es) (subst (λ j. IsOf (ports outs) j (Flat (One e.1))) eq (port_of outs e.0 e.1 (All-head (IsPushed outs) e es h))) rest))
+    (All-cons P (Flat (One e.1)) (pushed_to q es)
+    (subst (λ j. IsOf (ports outs) j (Flat (One e.1))) eq (port_of outs e.0 e.1 (All-head (IsPushed outs) e es h))) rest))
     (λ ne. subst (All P) (sym (if_ne e.0 q (Flat (One e.1) ∷ pushed_to q es) (pushed_to q es) ne)) rest)
     (cases_eq e.0 q)
 
@@ -153,7 +156,8 @@ first_well : (f : FilterForm) (o : Option RunForm) → is_steps f.peek f.body.sl
 first_well f None h g = h
 first_well f (Some r) h g =
     let steps = is_steps r.peek f.body.slots (pos 1 ∷ []) r.body.steps in
-    let a = and_parts (nat_eq r.body.inputs r.peek) (nat_eq r.body.slots f.body.slots && (nat_le r.pop r.peek && (steps && is_number (pushes r.body.steps) r.push))) g in
+    let a = and_parts (nat_eq r.body.inputs r.peek)
+    (nat_eq r.body.slots f.body.slots && (nat_le r.pop r.peek && (steps && is_number (pushes r.body.steps) r.push))) g in
     let b = and_parts (nat_eq r.body.slots f.body.slots) (nat_le r.pop r.peek && (steps && is_number (pushes r.body.steps) r.push)) a.1 in
     let c = and_parts (nat_le r.pop r.peek) (steps && is_number (pushes r.body.steps) r.push) b.1 in
     let d = and_parts steps (is_number (pushes r.body.steps) r.push) c.1 in
@@ -168,8 +172,10 @@ runs_well f h k = go k
     usual : is_steps f.peek f.body.slots (pos 1 ∷ []) f.body.steps ≡ true
     usual =
         let a = and_parts (is_usual f) (is_first f.body.slots f.first) h in
-        let c = and_parts (has_rates f) (is_steps f.peek f.body.slots (pos 1 ∷ []) f.body.steps && (nat_le (length f.starts) f.body.slots && is_number (pushes f.body.steps) f.push)) a.0 in
-        (and_parts (is_steps f.peek f.body.slots (pos 1 ∷ []) f.body.steps) (nat_le (length f.starts) f.body.slots && is_number (pushes f.body.steps) f.push) c.1).0
+        let c = and_parts (has_rates f)
+        (is_steps f.peek f.body.slots (pos 1 ∷ []) f.body.steps && (nat_le (length f.starts) f.body.slots && is_number (pushes f.body.steps) f.push)) a.0 in
+        (and_parts (is_steps f.peek f.body.slots (pos 1 ∷ []) f.body.steps)
+        (nat_le (length f.starts) f.body.slots && is_number (pushes f.body.steps) f.push) c.1).0
 
     go : (k : ℕ) → is_steps (run_at f k).peek (run_at f k).body.slots (pos 1 ∷ []) (run_at f k).body.steps ≡ true
     go zero = first_well f f.first usual (and_parts (is_usual f) (is_first f.body.slots f.first) h).1
@@ -299,8 +305,10 @@ received_of : (i o : QueueType) (one : List item.Item → item.Item → List ite
 received_of i o one is os p x (s ∷ u ∷ us) e g f h t k = absurd h
 received_of i o one is os p x (Received past ∷ []) e g f h t k =
     let typed : HasType i x = of_one i is p x e k in
-    let all : All (HasType i) past = subst (λ (l : List QueueType). All (IsOf l 0) past) e t in
-    (one_of o os (one past x) g (f past x all typed), subst (λ (l : List QueueType). All (IsOf l 0) (past ++ x ∷ [])) (sym e) (All-append (HasType i) past (x ∷ []) all (one_item (HasType i) x typed)))
+    let all : All (HasType i) past = subst (λ (l : List QueueType). All (IsOf l 0) past) e t in (
+      one_of o os (one past x) g (f past x all typed),
+      subst (λ (l : List QueueType). All (IsOf l 0) (past ++ x ∷ [])) (sym e) (All-append (HasType i) past (x ∷ []) all (one_item (HasType i) x typed)),
+    )
 received_of i o one is os p x ss e g f h t k = absurd h
 
 pair_of : (a b p : ℕ) (x : item.Item) (s : Pairing) → PairTyped a b s → IsOf (relation a ∷ relation b ∷ []) p x
@@ -313,8 +321,11 @@ cross_of : (a b : ℕ) (is os : List QueueType) (p : ℕ) (x : item.Item) (ss : 
     → IsOne IsCrossing ss → WaitAsTyped is ss → IsOf is p x → AreOf os (cross_one p x ss).outs × WaitAsTyped is (cross_one p x ss).states
 cross_of a b is os p x (s ∷ u ∷ us) e g h t k = absurd h
 cross_of a b is os p x (Crossing s ∷ []) e g h t k =
-    let d = pair_of a b p x s (subst (λ (l : List QueueType). All (IsOf l 0) s.left × All (IsOf l 1) s.right) e t) (subst (λ (l : List QueueType). IsOf l p x) e k) in
-    (one_of (relation (a + b)) os (crosses p x s).0 g d.0, subst (λ (l : List QueueType). All (IsOf l 0) (crosses p x s).1.left × All (IsOf l 1) (crosses p x s).1.right) (sym e) d.1)
+    let d = pair_of a b p x s (subst (λ (l : List QueueType). All (IsOf l 0) s.left × All (IsOf l 1) s.right) e t)
+    (subst (λ (l : List QueueType). IsOf l p x) e k) in (
+      one_of (relation (a + b)) os (crosses p x s).0 g d.0,
+      subst (λ (l : List QueueType). All (IsOf l 0) (crosses p x s).1.left × All (IsOf l 1) (crosses p x s).1.right) (sym e) d.1,
+    )
 cross_of a b is os p x ss e g h t k = absurd h
 
 -- a firing of a kernel on an item of its port's type gives items of its ports' types, and so are those that its states keep
@@ -382,7 +393,8 @@ fire_typed (fused a b at) is os vs p x ss f h t i =
     let la = shape_length a ra.states (fire_shape a p x sa here h.0) in
     let cb = numbers b (m ∷ []) bs ws fb in (
       subst (λ (l : List QueueType). AreOf l (splice at (outs b) ra.outs rb.outs)) (sym f.8)
-          (subst (λ n. AreOf (spliced at ms bs) (splice at n ra.outs rb.outs)) cb.outs (λ q. spliced_all IsTyped ms bs at q ra.outs rb.outs (got_below ms at m f.6) ia.0 ib.0)),
+          (subst (λ n. AreOf (spliced at ms bs) (splice at n ra.outs rb.outs)) cb.outs
+          (λ q. spliced_all IsTyped ms bs at q ra.outs rb.outs (got_below ms at m f.6) ia.0 ib.0)),
       (
         subst (Holds a is) (sym (take_front ra.states rb.states (privates a) la)) ia.1,
         subst (λ (l : List QueueType). Holds b l (drop (privates a) (ra.states ++ rb.states))) (sym mid)
@@ -412,6 +424,7 @@ first_holds (streamer s) is f = All-nil (IsOf is 0)
 first_holds (fused a b at) is f =
     let la = shape_length a (first_kept a) (first_shape a f.0) in (
       subst (Holds a is) (sym (take_front (first_kept a) (first_kept b) (privates a) la)) (first_holds a is f.0),
-      subst (Holds b (between at (types_of a is))) (sym (drop_front (first_kept a) (first_kept b) (privates a) la)) (first_holds b (between at (types_of a is)) f.1),
+      subst (Holds b (between at (types_of a is))) (sym (drop_front (first_kept a) (first_kept b) (privates a) la))
+          (first_holds b (between at (types_of a is)) f.1),
     )
 first_holds kernel is f = tt

@@ -85,7 +85,8 @@ one_wide n row e (suc j) = All-nil (IsWide None)
 next_beside : {A : Type 0} (n : ℕ) (f g : ℕ → A) (p : ℕ) → beside (suc n) f g (suc p) ≡ beside n (λ j. f (suc j)) g p
 next_beside n f g p = ⊎_elim
     (λ lt. if_lt (suc p) (suc n) (f (suc p)) (g (suc p - suc n)) (omega (arith, lt)) ∙ sym (if_lt p n (f (suc p)) (g (p - n)) lt))
-    (λ ge. let e : suc p - suc n ≡ p - n = omega (arith, ge) in if_ge (suc p) (suc n) (f (suc p)) (g (suc p - suc n)) (omega (arith, ge)) ∙ ap g e ∙ sym (if_ge p n (f (suc p)) (g (p - n)) ge))
+    (λ ge. let e : suc p - suc n ≡ p - n = omega (arith, ge) in if_ge (suc p) (suc n) (f (suc p)) (g (suc p - suc n)) (omega (arith, ge)) ∙ ap g e
+    ∙ sym (if_ge p n (f (suc p)) (g (p - n)) ge))
     (cases_lt p n)
 
 beside_wide : (ns ms : List ℕ) (f g : ℕ → List (List ℤ)) → AreWide ns f → AreWide ms g → AreWide (ns ++ ms) (beside (length ns) f g)
@@ -100,7 +101,8 @@ pub fused_wide : (a : Kern) (is ms : List QueueType) (us ws : List VarKind) (f g
     → AreWide (widths_in ws) g → AreWide (widths_in (us ++ ws)) (beside (tabs a) f g)
 fused_wide a is ms us ws f g fa x y =
     let n : length (widths_in us) ≡ tabs a = widths_length us ∙ (numbers a is ms us fa).tables in
-    subst (λ ns. AreWide ns (beside (tabs a) f g)) (sym (widths-append us ws)) (subst (λ k. AreWide (widths_in us ++ widths_in ws) (beside k f g)) n (beside_wide (widths_in us) (widths_in ws) f g x y))
+    subst (λ ns. AreWide ns (beside (tabs a) f g)) (sym (widths-append us ws))
+    (subst (λ k. AreWide (widths_in us ++ widths_in ws) (beside k f g)) n (beside_wide (widths_in us) (widths_in ws) f g x y))
 
 feed_wide : (P : List Kept → Type 0) (m : QueueType) (ns : List ℕ) (f : item.Item → List Kept → Fired)
     → ((x : item.Item) (ss : List Kept) → HasType m x → P ss → AreWide ns (f x ss).adds × P (f x ss).states)

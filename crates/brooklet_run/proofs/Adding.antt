@@ -24,7 +24,8 @@ all_width t [] = refl
 all_width t (r ∷ rs) = all_width (with_row t r) rs ∙ ap table_width (added_kind t r)
 
 -- one row more
-pub added_step : (t now new : Kept) (rows : List (List ℤ)) (i : ℕ) (row : List ℤ) → i < length rows → row ≡ get_or rows i row → now ≡ fold with_row t (take i rows)
+pub added_step : (t now new : Kept) (rows : List (List ℤ)) (i : ℕ) (row : List ℤ) → i < length rows → row ≡ get_or rows i row
+    → now ≡ fold with_row t (take i rows)
     → new ≡ with_row now row → new ≡ fold with_row t (take (i + 1) rows)
 added_step t now new rows i row lt e h a =
     a ∙ ap (λ k. with_row k row) h ∙ sym (fold-append with_row t (take i rows) (row ∷ []))
@@ -104,7 +105,9 @@ module _ (n : ℕ) (vars : List ℕ) (i w : ℕ) (lt : i < length vars) (e : w �
   pub place_here : w < n → slice_get (table_places n vars) (length before) ≡ Some w
   place_here below =
       ap (λ l. slice_get (table_places n l) (length before)) (sym (take-append-drop (i + 1) vars))
-      ∙ ap (λ l. slice_get l (length before)) (filter-append (λ v. nat_lt v n) (take (i + 1) vars) (drop (i + 1) vars) ∙ ap (λ l. l ++ table_places n (drop (i + 1) vars)) (places_more below) ∙ append_assoc before (w ∷ []) (table_places n (drop (i + 1) vars)))
+      ∙ ap (λ l. slice_get l (length before))
+      (filter-append (λ v. nat_lt v n) (take (i + 1) vars) (drop (i + 1) vars) ∙ ap (λ l. l ++ table_places n (drop (i + 1) vars)) (places_more below)
+      ∙ append_assoc before (w ∷ []) (table_places n (drop (i + 1) vars)))
       ∙ got_mid before w (table_places n (drop (i + 1) vars))
 
 -- the rows for one table more were added
@@ -117,7 +120,8 @@ added_next ts now vars f i w number old new lt we below h c o n =
     let before = table_places (length ts) (take i vars) in
     let rows = f (length before) in
     let more = places_more (length ts) vars i w lt we below in
-    ap (slice_set now w) (n ∙ ap (λ t. fold with_row t (f number)) o ∙ ap (λ k. fold with_row (get_or now w old) (f k)) c) ∙ ap (λ l. slice_set l w (fold with_row (get_or l w old) rows)) h
+    ap (slice_set now w) (n ∙ ap (λ t. fold with_row t (f number)) o ∙ ap (λ k. fold with_row (get_or now w old) (f k)) c)
+    ∙ ap (λ l. slice_set l w (fold with_row (get_or l w old) rows)) h
     ∙ set_added ts (joined_at before f) w rows old below
     ∙ each_added-cong ts (λ p. joined_at before f p ++ only w rows p) (joined_at (table_places (length ts) (take (i + 1) vars)) f) (λ p.
     sym (ap (λ l. joined_at l f p) more ∙ joined_at-more before w f p))
@@ -134,12 +138,14 @@ rows_wide ts now vars adds i w number old lt we below h c o wide =
     let r = added_there ts f w old below in
     let same : old ≡ fold with_row r.0 (f w) = o ∙ ap (λ l. get_or l w old) h ∙ r.2 in
     let width : width_of_table old ≡ width_of_table r.0 = ap width_of_table same ∙ all_width r.0 (f w) in
-    let here : slice_get (table_places (length ts) vars) number ≡ Some w = ap (slice_get (table_places (length ts) vars)) c ∙ place_here (length ts) vars i w lt we below in
+    let here : slice_get (table_places (length ts) vars) number ≡ Some w = ap (slice_get (table_places (length ts) vars)) c
+    ∙ place_here (length ts) vars i w lt we below in
     subst (λ k. All (λ row. length row ≡ k) (list_at adds number)) (sym width) (wide number w r.0 here r.1)
 
 -- and are there
 pub rows_there : (ts : List Kept) (vars : List ℕ) (i w number many : ℕ) → i < length vars → w ≡ get_or vars i 0 → w < length ts
     → number ≡ length (table_places (length ts) (take i vars)) → length (table_places (length ts) vars) ≤ many → number < many
 rows_there ts vars i w number many lt we below c le =
-    let b = slice_get_within (table_places (length ts) vars) (length (table_places (length ts) (take i vars))) w (place_here (length ts) vars i w lt we below) in
+    let b = slice_get_within (table_places (length ts) vars) (length (table_places (length ts) (take i vars))) w
+    (place_here (length ts) vars i w lt we below) in
     omega (arith, b, c, le)

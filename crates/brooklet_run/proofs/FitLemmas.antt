@@ -224,7 +224,8 @@ pub later_next : (xs : List item.Item) (n m : ℕ) (a b : item.Item) → n + 1 <
     → (i : ℕ) → i + 1 < m + 1 → (x y : item.Item) → slice_get xs i ≡ Some x → slice_get xs (suc i) ≡ Some y → instant_of x <ℤ instant_of y
 later_next xs n m a b lt ae be me l h i li = ⊎_elim
     (λ below. h i below)
-    (λ ge. subst (λ k. (x y : item.Item) → slice_get xs k ≡ Some x → slice_get xs (suc k) ≡ Some y → instant_of x <ℤ instant_of y) (let e : n ≡ i = omega (arith, me, ge, li) in e) (later_here xs n m a b lt ae be me l))
+    (λ ge. subst (λ k. (x y : item.Item) → slice_get xs k ≡ Some x → slice_get xs (suc k) ≡ Some y → instant_of x <ℤ instant_of y)
+    (let e : n ≡ i = omega (arith, me, ge, li) in e) (later_here xs n m a b lt ae be me l))
     (cases_lt (i + 1) m)
 
 -- THE WHOLE TEST

@@ -185,7 +185,8 @@ module _ (es : List Term) (i : item.Item) (st : List State) (out : Emit) (t : Ca
   project_can : (c : Change) → Flat (Changed c) ≡ i → CanProjectBoth es c
   project_can c e =
       let f = t.fitting.fits in
-      let at : IsHeldOf (relation f.0 ∷ []) 0 (Flat (Changed c)) = subst (λ x. IsHeldOf (relation f.0 ∷ []) 0 x) (sym e) (subst (λ l. IsHeldOf l 0 i) f.1 t.item) in
+      let at : IsHeldOf (relation f.0 ∷ []) 0 (Flat (Changed c)) =
+      subst (λ x. IsHeldOf (relation f.0 ∷ []) 0 x) (sym e) (subst (λ l. IsHeldOf l 0 i) f.1 t.item) in
       let w = (held_change f.0 c (held_first (relation f.0) 0 (Flat (Changed c)) at)).wide in
       record { plus = can_project f.0 es c.plus f.4 w.plus; minus = can_project f.0 es c.minus f.4 w.minus }
 

@@ -85,7 +85,8 @@ of_types : (a b c d : ℕ) (s : CrossKept) → relation a ∷ relation b ∷ [] 
 of_types a b c d s e h = let p = same_relations a b c d e in subst (λ i. IsCrossOf i d s) p.0 (subst (λ j. IsCrossOf a j s) p.1 h)
 
 -- the first state of a product fits it
-pub cross_first_fits : (reads writes : List QueueType) (vars : List VarKind) → Fits cross reads writes vars → FitState cross reads (state.Cross cross_start ∷ [])
+pub cross_first_fits : (reads writes : List QueueType) (vars : List VarKind) → Fits cross reads writes vars
+    → FitState cross reads (state.Cross cross_start ∷ [])
 cross_first_fits reads writes vars f = record {
   now = cross_start;
   code = refl;
@@ -166,7 +167,8 @@ module _ (n k : ℕ) (out out' : Emit) (ds : List Change) (now now' : CrossKept)
       ap (fire cross p x) a.defined ∙ ap (λ (d : List item.Item × Pairing). gives 0 d.0 (Paired d.1 ∷ [])) crossed_to in
       let content : content_from [] prev ≡ product m.lefts m.rights = a.given ∙ (λ i. product (sym el i) (sym er i)) in
       let holds : held (relation (n + k)) prev (as_batches gs) ≡ as_changes ds =
-      held-relation (n + k) prev (as_batches gs) ∙ ap (λ l. held_from l (as_batches gs)) content ∙ held_batches (product m.lefts m.rights) gs ∙ ap as_changes (sym c.0) in
+      held-relation (n + k) prev (as_batches gs) ∙ ap (λ l. held_from l (as_batches gs)) content ∙ held_batches (product m.lefts m.rights) gs
+      ∙ ap as_changes (sym c.0) in
       let more = ran_more cross start w p x in (
         subst (λ (q : Fired). TookHeld (relation (n + k) ∷ []) before out out' q) (sym fired)
             (took_first (relation (n + k)) before [] (Paired left_over ∷ []) out out' (as_changes ds) (as_batches gs) took holds),
@@ -286,7 +288,8 @@ cross_does port c ds now now' out out' f fits took = record {
       let was : IsCrossOf n k now = subst (IsCrossOf n k) (same_crossing fit.now now (sym fit.code)) (fit.wide n k refl) in
       let r = fits.each n k (put_wide n k port c now item was) in
       let all : All (IsChangeOf (n + k)) ds = subst (All (IsChangeOf (n + k))) (sym r.0.grew) r.0.each in
-      let again : FitCross (relation n ∷ relation k ∷ []) (state.Cross now' ∷ []) = record { now = now'; code = refl; wide = λ a b e. of_types n k a b now' e r.1 } in
+      let again : FitCross (relation n ∷ relation k ∷ []) (state.Cross now' ∷ []) =
+      record { now = now'; code = refl; wide = λ a b e. of_types n k a b now' e r.1 } in
       let reads' = relation n ∷ relation k ∷ [] in
       let st' = state.Cross now' ∷ [] in
       does_at cross port (Flat (Changed c)) out out' (state.Cross now ∷ []) st' reads reads' writes (relation (n + k) ∷ []) vars (Private ∷ []) t.2 t.3 t.4 (
@@ -299,7 +302,8 @@ cross_does port c ds now now' out out' f fits took = record {
 }
 
 -- so is what it gives
-pub cross_flat_does : (p : ℕ) (x : flat.Flat) (items : List item.Item) (now now' : CrossKept) (out out' : Emit) → IsChanged x → CrossesFlat p x now now' [] items
+pub cross_flat_does : (p : ℕ) (x : flat.Flat) (items : List item.Item) (now now' : CrossKept) (out out' : Emit) → IsChanged x
+    → CrossesFlat p x now now' [] items
     → Took out out' (gives 0 items []) → FiresAt cross p (Flat x) out out' (state.Cross now ∷ []) (state.Cross now' ∷ [])
 cross_flat_does p x items now now' out out' k h took =
     let g = h.each k.change k.is in

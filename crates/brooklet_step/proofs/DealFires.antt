@@ -1,5 +1,5 @@
 -- Firings of splitters, on items as they are and on changes.
-use Rattle.std.proofs.Common.{◌≡◌, ℕ, ℤ, zero, suc, ◌+◌, ◌<◌, Some, List, [], ◌∷◌, ◌++◌, length, replicate, refl, sym, ap, ◌∙◌, subst, arith, ⊎_elim}
+use Rattle.std.proofs.Common.{◌≡◌, ℕ, ℤ, zero, suc, ◌<◌, Some, List, [], ◌∷◌, ◌++◌, length, replicate, refl, sym, ap, ◌∙◌, subst, arith, ⊎_elim}
 use Rattle.std.specs.Prelude.{All, slice_get}
 use Rattle.std.proofs.lemmas.Bool.{cases_eq}
 use Rattle.std.proofs.lemmas.List.{length-replicate, length-map}
@@ -230,7 +230,8 @@ module _ (ws : List ℤ) (i g : item.Item) (s s' : State) (old new : Dealt) (out
           held = λ q. held_only T (length ws) place g q (let b = (dealt_turn ws (T ∷ []) old f).0 in let l = length-map ws count_of in omega (arith, b, l))
               (subst (IsHeld T) (sym (gave like)) (change_held n d (record { normal = one.keeps.normal; wide = wide.0 })));
           wide = λ j. All-nil (IsWide (slice_get (widths_in vars) j));
-          again = next_fits (T ∷ []) some f len (one.keeps.few (dealt_few ws (T ∷ []) old f)) (λ m e. subst (λ k. AreDebtsOf k new.owed) (same_columns n m e) wide.1);
+          again = next_fits (T ∷ []) some f len (one.keeps.few (dealt_few ws (T ∷ []) old f))
+              (λ m e. subst (λ k. AreDebtsOf k new.owed) (same_columns n m e) wide.1);
         };
       }
     where
@@ -257,7 +258,8 @@ module _ (ws : List ℤ) (i g : item.Item) (s s' : State) (old new : Dealt) (out
           let xs : List item.Item = Flat (Batched b) ∷ [] in
           let fired =
           fired_is (T ∷ []) start w sa x
-          ∙ ap (λ (y : item.Item). gives place (y ∷ []) (Turn (next_port (shares ws) place old.turn.had) (next_had (shares ws) place old.turn.had) ∷ [])) xb.is in
+          ∙ ap (λ (y : item.Item). gives place (y ∷ [])
+          (Turn (next_port (shares ws) place old.turn.had) (next_had (shares ws) place old.turn.had) ∷ [])) xb.is in
           let at_is : (p : ℕ) → only place (g ∷ []) p ≡ held T (prev p) (only place xs p) = λ p. ⊎_elim
           (λ q. subst (λ j. only place (g ∷ []) j ≡ held T (prev j) (only place xs j)) q
           (only_same place (g ∷ []) ∙ ap (λ (y : item.Item). y ∷ []) (gave like) ∙ sym (content_held n (prev place) b d r.0)
@@ -276,7 +278,8 @@ module _ (ws : List ℤ) (i g : item.Item) (s s' : State) (old new : Dealt) (out
           ap (content_from []) (at_next 0 w x ∙ ap (λ (y : item.Item). at_port 0 w ++ y ∷ []) xb.is) ∙ content-append [] (at_port 0 w) xs in (
             record {
               outs = took.outs
-                  ∙ each_grew_cong out.outs (only place (g ∷ [])) (λ q. held_at (replicate (length ws) T) q (prev q) ((fire (deal ws) 0 x before.states).outs q))
+                  ∙ each_grew_cong out.outs (only place (g ∷ []))
+                  (λ q. held_at (replicate (length ws) T) q (prev q) ((fire (deal ws) 0 x before.states).outs q))
                   (λ q lt. at_is q
                   ∙ ap (λ o. held_by o (prev q) (only place xs q)) (sym (got_many T (length ws) q (omega (arith, lt, many))))
                   ∙ ap (λ (u : Fired). held_at (replicate (length ws) T) q (prev q) (u.outs q)) (sym fired));

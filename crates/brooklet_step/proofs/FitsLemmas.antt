@@ -22,14 +22,16 @@ gt_back Greater h = refl
 pub ascends_by : (rows : List (List ℤ)) (r : Bool) → IsAllAdjacentAnswer (λ x y b. partial_le (λ (p q : List ℤ). Some (row_cmp p q)) x y ≡ b) rows r
     → (IsTrue r → IsAscending rows) × (IsAscending rows → IsTrue r)
 ascends_by rows true h = (
-  (λ t k d z lt. ap is_lt (row_total.antisymm (get_or rows (k + 1) d) (get_or rows k d)) ∙ le_back (row_cmp (get_or rows k d) (get_or rows (k + 1) d)) (h k d lt)),
+  (λ t k d z lt. ap is_lt (row_total.antisymm (get_or rows (k + 1) d) (get_or rows k d))
+      ∙ le_back (row_cmp (get_or rows k d) (get_or rows (k + 1) d)) (h k d lt)),
   (λ a. refl),
 )
 ascends_by rows false h = (
   (λ t. absurd (cc t)),
   (λ a.
       let k = h.0 in
-      let up : is_lt (row_cmp (get_or rows (k + 1) []) (get_or rows k [])) ≡ true = ap is_lt (row_total.antisymm (get_or rows (k + 1) []) (get_or rows k [])) ∙ gt_back (row_cmp (get_or rows k []) (get_or rows (k + 1) [])) (h.2 []) in
+      let up : is_lt (row_cmp (get_or rows (k + 1) []) (get_or rows k [])) ≡ true = ap is_lt (row_total.antisymm (get_or rows (k + 1) []) (get_or rows k []))
+      ∙ gt_back (row_cmp (get_or rows k []) (get_or rows (k + 1) [])) (h.2 []) in
       let down : is_lt (row_cmp (get_or rows (k + 1) []) (get_or rows k [])) ≡ false = a k [] (omega arith) h.1 in
       absurd (let e : false ≡ true = sym down ∙ up in cc e)),
 )

@@ -83,7 +83,8 @@ apart_second at port first second second' ge lt e = record {
     by_place n q ne = ⊎_elim
         (λ l. if_lt q at (list_at first q) _ l ∙ sym (if_lt q at (list_at first q) _ l))
         (λ gq. if_ge q at (list_at first q) _ gq ∙ ⊎_elim
-        (λ l. if_lt (q - at) n (list_at second' (q - at)) _ l ∙ set_same second second' (port - at) (q - at) e (λ d. ne (omega (arith, d, ge, gq))) ∙ sym (if_lt (q - at) n (list_at second (q - at)) _ l))
+        (λ l. if_lt (q - at) n (list_at second' (q - at)) _ l ∙ set_same second second' (port - at) (q - at) e (λ d. ne (omega (arith, d, ge, gq)))
+        ∙ sym (if_lt (q - at) n (list_at second (q - at)) _ l))
         (λ le. if_ge (q - at) n _ (list_at first (q - n + 1)) le ∙ sym (if_ge (q - at) n _ (list_at first (q - n + 1)) le))
         (cases_lt (q - at) n)
         ∙ sym (if_ge q at (list_at first q) _ gq))
@@ -100,10 +101,13 @@ apart_back at port first first' second ge ln e = record {
     by_place : (n : ℕ) → n ≡ length second → (q : ℕ) → (q ≡ port → ⊥)
         → splice at n (list_at first') (list_at second) q ≡ splice at n (list_at first) (list_at second) q
     by_place n en q ne = ⊎_elim
-        (λ l. if_lt q at (list_at first' q) _ l ∙ set_same first first' (port - length second + 1) q e (λ d. omega (arith, d, ge, ln, l)) ∙ sym (if_lt q at (list_at first q) _ l))
+        (λ l. if_lt q at (list_at first' q) _ l ∙ set_same first first' (port - length second + 1) q e (λ d. omega (arith, d, ge, ln, l))
+        ∙ sym (if_lt q at (list_at first q) _ l))
         (λ gq. if_ge q at (list_at first' q) _ gq ∙ ⊎_elim
         (λ l. if_lt (q - at) n (list_at second (q - at)) _ l ∙ sym (if_lt (q - at) n (list_at second (q - at)) _ l))
-        (λ le. if_ge (q - at) n _ (list_at first' (q - n + 1)) le ∙ set_same first first' (port - length second + 1) (q - n + 1) e (λ d. ne (omega (arith, d, ge, gq, ln, le, en))) ∙ sym (if_ge (q - at) n _ (list_at first (q - n + 1)) le))
+        (λ le. if_ge (q - at) n _ (list_at first' (q - n + 1)) le
+        ∙ set_same first first' (port - length second + 1) (q - n + 1) e (λ d. ne (omega (arith, d, ge, gq, ln, le, en)))
+        ∙ sym (if_ge (q - at) n _ (list_at first (q - n + 1)) le))
         (cases_lt (q - at) n)
         ∙ sym (if_ge q at (list_at first q) _ gq))
         (cases_lt q at)
@@ -128,7 +132,8 @@ beside_back table first second second' ge e =
         → beside n (list_at first) (list_at second') q ≡ beside n (list_at first) (list_at second) q
     by_place n en q ne = ⊎_elim
         (λ l. if_lt q n (list_at first q) _ l ∙ sym (if_lt q n (list_at first q) _ l))
-        (λ gq. if_ge q n (list_at first q) _ gq ∙ set_same second second' (table - length first) (q - n) e (λ d. ne (omega (arith, d, ge, gq, en))) ∙ sym (if_ge q n (list_at first q) _ gq))
+        (λ gq. if_ge q n (list_at first q) _ gq ∙ set_same second second' (table - length first) (q - n) e (λ d. ne (omega (arith, d, ge, gq, en)))
+        ∙ sym (if_ge q n (list_at first q) _ gq))
         (cases_lt q n)
 
 -- what is left of the lists of two kernels, of which the first places were put together already

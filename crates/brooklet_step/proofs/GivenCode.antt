@@ -49,7 +49,13 @@ so_far_start k all e st t = record { done = []; is = refl; fires = each_start k 
 pub so_far_takes : (k : Kern) (all left rest : List item.Item) (x : item.Item) (e e' : Emit) (st st' : List State) → left ≡ x ∷ rest
     → SoFar k all left e e' st st' → CanTake k 0 x st' e'
 so_far_takes k all left rest x e e' st st' is s =
-    record { reads = s.takes.reads; fitting = s.takes.fitting; item = All-head (IsHeldOf s.takes.reads 0) x rest (subst (All (IsHeldOf s.takes.reads 0)) is s.takes.items); room = s.takes.room }
+    record {
+      reads = s.takes.reads;
+      fitting = s.takes.fitting;
+      item =
+          All-head (IsHeldOf s.takes.reads 0) x rest (subst (All (IsHeldOf s.takes.reads 0)) is s.takes.items);
+      room = s.takes.room;
+    }
 
 -- after a firing on the front one the others are left
 pub so_far_step : (k : Kern) (all left rest : List item.Item) (x : item.Item) (e e' e'' : Emit) (st st1 st2 : List State) → left ≡ x ∷ rest
@@ -88,7 +94,13 @@ packed_taken k j j1 port x st out e ek ej t o a =
     subst (λ (i : Kern). CanTake i port x st e) (sym ej) (record {
       reads = t'.reads;
       fitting =
-          record { writes = FlatOf f.1 ∷ []; vars = []; fits = subst (λ (l : List QueueType). Fits j l (FlatOf f.1 ∷ []) []) (sym f.2) f.5; state = t'.fitting.state };
+          record {
+            writes = FlatOf f.1 ∷ [];
+            vars = [];
+            fits = subst (λ (l : List QueueType). Fits j l (FlatOf f.1 ∷ []) []) (sym f.2) f.5;
+            state =
+                t'.fitting.state;
+          };
       item = t'.item;
       room = record { outs = ap length o ∙ sym s.2; adds = ap length a ∙ sym s.3 };
     })
@@ -108,7 +120,8 @@ pub packed_whole : (k j j1 : Kern) (port : ℕ) (x : item.Item) (st st' : List S
     → Took out out' (gives 0 (Pack fs ∷ []) []) → FiresAt k port x out out' st st'
 packed_whole k j j1 port x st st' out out' e e' items fs ek ej t b f ei ef took =
     let t' = subst (λ (i : Kern). CanTake i port x st out) ek t in
-    subst (λ (i : Kern). FiresAt i port x out out' st st') (sym ek) (packed_does j port x st st' out out' e e' items fs b (subst (λ (i : Kern). FiresAt i port x e e' st st') ej f) ei ef took)
+    subst (λ (i : Kern). FiresAt i port x out out' st st') (sym ek)
+    (packed_does j port x st st' out out' e e' items fs b (subst (λ (i : Kern). FiresAt i port x e e' st st') ej f) ei ef took)
 
 -- TWO KERNELS
 
@@ -119,7 +132,8 @@ count_fits k a b at count port x st out ek ec t =
     let l = fit_length k t.reads st t.fitting.state ∙ ap privates ek in
     omega (arith, l, ec)
 
-module _ (k a b : Kern) (at count port : ℕ) (x : item.Item) (st mine rest : List State) (out mid0 : Emit) (p : Parts k a b at count st mine rest) (t0 : CanTake k port x st out) (bm : IsBlank a mid0) where
+module _ (k a b : Kern) (at count port : ℕ) (x : item.Item) (st mine rest : List State) (out mid0 : Emit) (p : Parts k a b at count st mine rest)
+    (t0 : CanTake k port x st out) (bm : IsBlank a mid0) where
   abbrev t : CanTake (fused a b at) port x st out
   t = subst (λ (j : Kern). CanTake j port x st out) p.kernel t0
 
@@ -153,12 +167,14 @@ module _ (k a b : Kern) (at count port : ℕ) (x : item.Item) (st mine rest : Li
 
       second_state : FitState b (m ∷ []) rest
       second_state = subst (FitState b (m ∷ [])) (sym (rest_is k a b at count st mine rest p))
-          (subst (λ (l : List QueueType). FitState b l (drop (privates a) st)) (between_is a t.reads t.fitting.fits.0 m t.fitting.fits.3 at t.fitting.fits.5 t.fitting.fits.6) t.fitting.state.1)
+          (subst (λ (l : List QueueType). FitState b l (drop (privates a) st))
+          (between_is a t.reads t.fitting.fits.0 m t.fitting.fits.3 at t.fitting.fits.5 t.fitting.fits.6) t.fitting.state.1)
 
       items_held : All (IsHeldOf (m ∷ []) 0) items
       items_held =
           let e : items ≡ da.came.outs at = is ∙ grown_list (outs a) mid0.outs mid.outs da.came.outs at bm.outs da.came.outs_are is_shaped.2 in
-          subst (λ (l : List item.Item). All (IsHeldOf (m ∷ []) 0) l) (sym e) (subst (λ o. All (IsHeldBy o) (da.came.outs at)) t.fitting.fits.6 (da.came.held at))
+          subst (λ (l : List item.Item). All (IsHeldOf (m ∷ []) 0) l) (sym e)
+          (subst (λ o. All (IsHeldBy o) (da.came.outs at)) t.fitting.fits.6 (da.came.held at))
 
       pub second_of : CanTakeAll b items rest last0
       second_of = record {
@@ -176,7 +192,13 @@ module _ (k a b : Kern) (at count port : ℕ) (x : item.Item) (st mine rest : Li
         let ro = t.room.outs in
         let ra = t.room.adds in
         let lt = is_shaped.2 in
-        record { place = at_below; outs = omega (arith, fo, ro, lt); adds = omega (arith, fa, ra); takes = λ blank bl. second_of blank (list_at mid.outs at) refl bl }
+        record {
+          place = at_below;
+          outs = omega (arith, fo, ro, lt);
+          adds = omega (arith, fa, ra);
+          takes =
+              λ blank bl. second_of blank (list_at mid.outs at) refl bl;
+        }
 
 -- what a fused kernel can take, its first part can take
 pub first_taken : (k a b : Kern) (at count port : ℕ) (x : item.Item) (st mine rest : List State) (out mid0 : Emit) → Parts k a b at count st mine rest
@@ -194,7 +216,8 @@ each_room k is e e' st st' t f =
     let d = f.each t.reads t.fitting.writes t.fitting.vars t.fitting.fits t.fitting.state t.items in
     came_room k t.reads t.fitting.writes t.fitting.vars e e' st' t.room d.came
 
-parts_fire : (k a b : Kern) (at count port : ℕ) (x : item.Item) (st mine rest mine' rest' : List State) (out new mid0 mid last0 last : Emit) (items : List item.Item)
+parts_fire : (k a b : Kern) (at count port : ℕ) (x : item.Item) (st mine rest mine' rest' : List State) (out new mid0 mid last0 last : Emit)
+    (items : List item.Item)
     → Parts k a b at count st mine rest → CanTake k port x st out → IsBlank a mid0 → FiresAt a port x mid0 mid mine mine' → IsBlank b last0
     → items ≡ list_at mid.outs at → FiresEach b items last0 last rest rest'
     → new.outs ≡ each_grew out.outs (splice at (length last.outs) (list_at mid.outs) (list_at last.outs))
@@ -203,7 +226,8 @@ parts_fire k a b at count port x st mine rest mine' rest' out new mid0 mid last0
     let fm' = subst (λ (l : List State). FiresAt a port x mid0 mid l mine') (mine_is k a b at count st mine rest p) fm in
     let fl' = subst (λ (l : List State). FiresEach b items last0 last l rest') (rest_is k a b at count st mine rest p) fl in
     let t' = subst (λ (j : Kern). CanTake j port x st out) p.kernel t in
-    subst (λ (j : Kern). FiresAt j port x out new st (mine' ++ rest')) (sym p.kernel) (fused_does a b at port x st mine' rest' out new mid0 mid last0 last items t'.room bm fm' bl is fl' eo ea)
+    subst (λ (j : Kern). FiresAt j port x out new st (mine' ++ rest')) (sym p.kernel)
+    (fused_does a b at port x st mine' rest' out new mid0 mid last0 last items t'.room bm fm' bl is fl' eo ea)
 
 -- after all firings of the second part there is still a place for each port
 pub second_room : (b : Kern) (at : ℕ) (st st' : List State) (mid out last0 last : Emit) (items : List item.Item) → CanTakeOn b at st mid out → IsBlank b last0
@@ -217,7 +241,8 @@ pub both_fire : (k a b : Kern) (at count port : ℕ) (x : item.Item) (st mine re
     → Parts k a b at count st mine rest → CanTake k port x st out → IsBlank a mid0 → FiresAt a port x mid0 mid mine mine' → TookOn b at mid out new rest rest'
     → FiresAt k port x out new st (mine' ++ rest')
 both_fire k a b at count port x st mine rest mine' rest' out new mid0 mid p t bm fm r =
-    parts_fire k a b at count port x st mine rest mine' rest' out new mid0 mid r.blank r.last (list_at mid.outs at) p t bm fm r.is_blank refl r.fires r.outs r.adds
+    parts_fire k a b at count port x st mine rest mine' rest' out new mid0 mid r.blank r.last
+    (list_at mid.outs at) p t bm fm r.is_blank refl r.fires r.outs r.adds
 
 -- a kernel that fired can take another item of the same types
 pub takes_again : (k : Kern) (p q : ℕ) (i j : item.Item) (e e' : Emit) (st st' : List State) (t : CanTake k p i st e) → FiresAt k p i e e' st st'

@@ -75,12 +75,14 @@ plain_does k port i out out' st st' l f reads writes vars fits fs hi pr pw =
             let before = ran_from k start w in
             let ss = before.states in
             let one : Took out out' (fire k port x ss) × StandsForKept k st' (fire k port x ss).states =
-            subst (λ y. Took out out' (fire k port y ss) × StandsForKept k st' (fire k port y ss).states) (sym e) (f.given ss (simple_to k reads start st w l sa)) in
+            subst (λ y. Took out out' (fire k port y ss) × StandsForKept k st' (fire k port y ss).states) (sym e)
+            (f.given ss (simple_to k reads start st w l sa)) in
             let r = fire k port x ss in (
               record {
                 outs =
                     one.0.outs
-                    ∙ each_grew_cong out.outs r.outs (λ p. held_at writes p (before.outs p) (r.outs p)) (λ p lt. sym (at-plain writes p (before.outs p) (r.outs p) (pw p)));
+                    ∙ each_grew_cong out.outs r.outs (λ p. held_at writes p (before.outs p) (r.outs p))
+                    (λ p lt. sym (at-plain writes p (before.outs p) (r.outs p) (pw p)));
                 adds = one.0.adds;
               },
               simple_from k reads start st' (w ++ (port, x) ∷ []) l (subst (StandsForKept k st') (sym (ran_more k start w port x).states) one.1),
@@ -115,7 +117,8 @@ run-append f (e ∷ u) v ss =
 pub ran_feed : (k : Kern) (ss : List Kept) (u : Word) (zs : List item.Item)
     → Same (ran_from k ss (u ++ word_of 0 zs)) (and_then (ran_from k ss u) (feed (fire k 0) zs (ran_from k ss u).states))
 ran_feed k ss u zs =
-    subst (λ (r : Fired). Same (ran_from k ss (u ++ word_of 0 zs)) (and_then (ran_from k ss u) r)) (feed_word (fire k) 0 zs (ran_from k ss u).states) (run-append (fire k) u (word_of 0 zs) ss)
+    subst (λ (r : Fired). Same (ran_from k ss (u ++ word_of 0 zs)) (and_then (ran_from k ss u) r)) (feed_word (fire k) 0 zs (ran_from k ss u).states)
+    (run-append (fire k) u (word_of 0 zs) ss)
 
 -- before the first item nothing was fired
 pub each_start : (k : Kern) (out : Emit) (st : List State) → FiresEach k [] out out st st
@@ -123,7 +126,16 @@ each_start k out st = record {
   each = λ reads writes vars fits fs hs. record {
     gives = record { given = λ start w xs s tw txs sa h. nothing reads writes start w xs sa (len reads w xs h) };
     came =
-        record { outs = none; adds = none; outs_are = sym (each_grew-none out.outs); adds_are = sym (each_grew-none out.adds); held = λ p. All-nil (IsHeldOf writes p); wide = λ t. All-nil (IsWide (slice_get (widths_in vars) t)); again = fs };
+        record {
+          outs = none;
+          adds = none;
+          outs_are = sym (each_grew-none out.outs);
+          adds_are = sym (each_grew-none out.adds);
+          held =
+              λ p. All-nil (IsHeldOf writes p);
+          wide = λ t. All-nil (IsWide (slice_get (widths_in vars) t));
+          again = fs;
+        };
   };
 }
   where
@@ -180,8 +192,10 @@ each_step k is i st st1 st2 e e' e'' f u = record {
           given = λ start w xs is_start tw txs sa h.
               let n : length xs ≡ length is + 1 = sym (at-length reads 0 (at_port 0 w) xs) ∙ ap length h ∙ length-append is (i ∷ []) in
               let s = last_split xs (length is) n in
-              subst (λ (l : List item.Item). TookHeld writes (ran_from k start w) e e'' (feed (fire k 0) l (ran_from k start w).states) × StandsAfter k reads start st2 (w ++ word_of 0 l)) (sym s.2)
-              (more reads writes start is_start w s.0 s.1 tw (subst (All (IsOf reads 0)) s.2 txs) sa (ap (held_at reads 0 (at_port 0 w)) (sym s.2) ∙ h) s.3 a.gives b.gives);
+              subst (λ (l : List item.Item). TookHeld writes (ran_from k start w) e e''
+              (feed (fire k 0) l (ran_from k start w).states) × StandsAfter k reads start st2 (w ++ word_of 0 l)) (sym s.2)
+              (more reads writes start is_start w s.0 s.1 tw (subst (All (IsOf reads 0)) s.2 txs) sa
+              (ap (held_at reads 0 (at_port 0 w)) (sym s.2) ∙ h) s.3 a.gives b.gives);
         };
         came = record {
           outs = λ p. a.came.outs p ++ b.came.outs p;
@@ -196,18 +210,21 @@ each_step k is i st st1 st2 e e' e'' f u = record {
 }
   where
     more : (reads writes : List QueueType) (start : List Kept) → IsStart k reads start → (w : Word) (ys : List item.Item) (y : item.Item) → IsWordOf reads w
-        → All (IsOf reads 0) (ys ++ y ∷ []) → StandsAfter k reads start st w → held_at reads 0 (at_port 0 w) (ys ++ y ∷ []) ≡ is ++ i ∷ [] → length ys ≡ length is
+        → All (IsOf reads 0) (ys ++ y ∷ []) → StandsAfter k reads start st w → held_at reads 0 (at_port 0 w) (ys ++ y ∷ []) ≡ is ++ i ∷ []
+        → length ys ≡ length is
         → GivesAll k reads writes is e e' st st1 → GivesAsDefined k reads writes 0 i e' e'' st1 st2
         → TookHeld writes (ran_from k start w) e e'' (feed (fire k 0) (ys ++ y ∷ []) (ran_from k start w).states)
         × StandsAfter k reads start st2 (w ++ word_of 0 (ys ++ y ∷ []))
     more reads writes start is_start w ys y tw txs sa h l ga gb =
         let past = at_port 0 w in
         let before = ran_from k start w in
-        let parts = split_same (held_at reads 0 past ys) (held_at reads 0 (past ++ ys) (y ∷ [])) is (i ∷ []) (at-length reads 0 past ys ∙ l) (sym (at-append reads 0 past ys (y ∷ [])) ∙ h) in
+        let parts = split_same (held_at reads 0 past ys) (held_at reads 0 (past ++ ys) (y ∷ [])) is (i ∷ []) (at-length reads 0 past ys ∙ l)
+        (sym (at-append reads 0 past ys (y ∷ [])) ∙ h) in
         let one = ga.given start w ys is_start tw (all_left (IsOf reads 0) ys (y ∷ []) txs) sa parts.0 in
         let w1 = w ++ word_of 0 ys in
         let port_is : at_port 0 w1 ≡ past ++ ys = at_port-append 0 w (word_of 0 ys) ∙ ap (λ m. past ++ m) (at_word 0 ys) in
-        let two = gb.given start w1 y is_start (at_append reads w (word_of 0 ys) tw (word_typed reads 0 ys (all_left (IsOf reads 0) ys (y ∷ []) txs))) (all_last (IsOf reads 0) ys y txs) one.1 (ap (λ m. held_at reads 0 m (y ∷ [])) port_is ∙ parts.1) in
+        let two = gb.given start w1 y is_start (at_append reads w (word_of 0 ys) tw (word_typed reads 0 ys (all_left (IsOf reads 0) ys (y ∷ []) txs)))
+        (all_last (IsOf reads 0) ys y txs) one.1 (ap (λ m. held_at reads 0 m (y ∷ [])) port_is ∙ parts.1) in
         let r = feed (fire k 0) ys before.states in
         let after = ran_from k start w1 in
         let mid : Same after (and_then before r) = ran_feed k start w ys in
@@ -219,7 +236,8 @@ each_step k is i st st1 st2 e e' e'' f u = record {
           record {
             outs = two'.outs ∙ ap (λ m. each_grew m (λ p. held_at writes p (after.outs p) (last.outs p))) one.0.outs
                 ∙ each_grew-each_grew e.outs (λ p. held_at writes p (before.outs p) (r.outs p)) (λ p. held_at writes p (after.outs p) (last.outs p))
-                ∙ each_grew_cong e.outs (λ p. held_at writes p (before.outs p) (r.outs p) ++ held_at writes p (after.outs p) (last.outs p)) (λ p. held_at writes p (before.outs p) (whole.outs p))
+                ∙ each_grew_cong e.outs (λ p. held_at writes p (before.outs p) (r.outs p) ++ held_at writes p (after.outs p) (last.outs p))
+                (λ p. held_at writes p (before.outs p) (whole.outs p))
                 (λ p lt. ap (λ m. held_at writes p (before.outs p) (r.outs p) ++ held_at writes p m (last.outs p)) (mid.outs p)
                 ∙ sym (at-append writes p (before.outs p) (r.outs p) (last.outs p))
                 ∙ ap (held_at writes p (before.outs p)) (ap (λ m. r.outs p ++ m) (sym (fone.outs p)) ∙ sym (all.outs p)));

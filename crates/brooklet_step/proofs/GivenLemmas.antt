@@ -265,8 +265,10 @@ fit_length kernel is st h = ap length h.code
 pub parts_fit : (a b : Kern) (at : ℕ) (is : List QueueType) (st st' : List State) → FitState a is st → FitState b (between at (types_of a is)) st'
     → FitState (fused a b at) is (st ++ st')
 parts_fit a b at is st st' h h' =
-    let l = fit_length a is st h in
-    (subst (FitState a is) (sym (take_front st st' (privates a) l)) h, subst (FitState b (between at (types_of a is))) (sym (drop_front st st' (privates a) l)) h')
+    let l = fit_length a is st h in (
+      subst (FitState a is) (sym (take_front st st' (privates a) l)) h,
+      subst (FitState b (between at (types_of a is))) (sym (drop_front st st' (privates a) l)) h',
+    )
 
 -- states of two parts stand after a word, where each part's do
 pub parts_after : (a b : Kern) (at : ℕ) (is : List QueueType) (ss : List Kept) (st st' : List State) (w : Word) → length st ≡ privates a
@@ -276,7 +278,8 @@ pub parts_after : (a b : Kern) (at : ℕ) (is : List QueueType) (ss : List Kept)
 parts_after a b at is ss st st' w l h h' =
     let n = privates a in (
       subst (λ (u : List State). StandsAfter a is (take n ss) u w) (sym (take_front st st' n l)) h,
-      subst (λ (u : List State). StandsAfter b (between at (types_of a is)) (drop n ss) u (word_of 0 ((ran_from a (take n ss) w).outs at))) (sym (drop_front st st' n l)) h',
+      subst (λ (u : List State). StandsAfter b (between at (types_of a is)) (drop n ss) u (word_of 0 ((ran_from a (take n ss) w).outs at)))
+          (sym (drop_front st st' n l)) h',
     )
 
 -- KERNELS THAT KEEP NO ITEMS

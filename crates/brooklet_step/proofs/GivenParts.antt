@@ -61,7 +61,8 @@ items-flats t (Pack fs ∷ xs) h = absurd (All-head (HasType (FlatOf t)) (Pack f
 flats_held : (t : FlatType) (xs : List item.Item) → All (IsHeld (FlatOf t)) xs → All (λ f. IsHeld (FlatOf t) (Flat f)) (flats xs)
 flats_held t [] h = All-nil (λ f. IsHeld (FlatOf t) (Flat f))
 flats_held t (Flat f ∷ xs) h =
-    All-cons (λ g. IsHeld (FlatOf t) (Flat g)) f (flats xs) (All-head (IsHeld (FlatOf t)) (Flat f) xs h) (flats_held t xs (All-tail (IsHeld (FlatOf t)) (Flat f) xs h))
+    All-cons (λ g. IsHeld (FlatOf t) (Flat g)) f (flats xs) (All-head (IsHeld (FlatOf t)) (Flat f) xs h)
+    (flats_held t xs (All-tail (IsHeld (FlatOf t)) (Flat f) xs h))
 flats_held t (Pack fs ∷ xs) h = flats_held t xs (All-tail (IsHeld (FlatOf t)) (Pack fs) xs h)
 
 -- a kernel in a pack has the states of the kernel, and gives its items in packs
@@ -101,7 +102,8 @@ packed_does j port i st st' out out' e e' items fs b f ei ef took = record {
               let xs = r.outs 0 in
               let typed_past : All (HasType (FlatOf u)) past = ran_typed j reads (FlatOf u ∷ []) [] start w fj s tw 0 in
               let typed_xs : All (HasType (FlatOf u)) xs = fired_typed j reads (FlatOf u ∷ []) [] start w port x fj s tw tx 0 in
-              let came : items ≡ held (FlatOf u) past xs = ei ∙ grown_list 1 e.outs e'.outs (λ p. held_at (FlatOf u ∷ []) p (before.outs p) (r.outs p)) 0 b g.0.outs (omega arith) in
+              let came : items ≡ held (FlatOf u) past xs = ei
+              ∙ grown_list 1 e.outs e'.outs (λ p. held_at (FlatOf u ∷ []) p (before.outs p) (r.outs p)) 0 b g.0.outs (omega arith) in
               let whole = ran_from (packed j) start w in
               let states : whole.states ≡ sj = packed_states j w start in
               let opens : opened (whole.outs 0) ≡ past = packed_items j w start ∙ items-flats u past typed_past in
@@ -114,7 +116,8 @@ packed_does j port i st st' out out' e e' items fs b f ei ef took = record {
               let now : TookHeld (PackOf u ∷ []) whole out out' (fire (packed j) port x sj) = record {
                 outs =
                     took.outs
-                    ∙ each_grew_cong out.outs (only 0 (Pack fs ∷ [])) (λ p. held_at (PackOf u ∷ []) p (whole.outs p) (only 0 (Pack (flats xs) ∷ []) p)) (λ p lt. at_pack u fs xs whole pack p);
+                    ∙ each_grew_cong out.outs (only 0 (Pack fs ∷ [])) (λ p. held_at (PackOf u ∷ []) p (whole.outs p) (only 0 (Pack (flats xs) ∷ []) p))
+                    (λ p lt. at_pack u fs xs whole pack p);
                 adds = took.adds;
               } in
               (subst (λ (us : List Kept). TookHeld (PackOf u ∷ []) whole out out' (fire (packed j) port x us)) (sym states) now, g.1);
@@ -133,7 +136,9 @@ packed_does j port i st st' out out' e e' items fs b f ei ef took = record {
   where
     held_pack : (u : FlatType) → All (IsHeld (FlatOf u)) items → (p : ℕ) → All (IsHeldOf (PackOf u ∷ []) p) (only 0 (Pack fs ∷ []) p)
     held_pack u h zero =
-        All-cons (IsHeldOf (PackOf u ∷ []) 0) (Pack fs) [] (subst (λ (l : List flat.Flat). IsHeld (PackOf u) (Pack l)) (sym ef) (is_held-pack u (flats items) (flats_held u items h))) (All-nil (IsHeldOf (PackOf u ∷ []) 0))
+        All-cons (IsHeldOf (PackOf u ∷ []) 0) (Pack fs) []
+        (subst (λ (l : List flat.Flat). IsHeld (PackOf u) (Pack l)) (sym ef) (is_held-pack u (flats items) (flats_held u items h)))
+        (All-nil (IsHeldOf (PackOf u ∷ []) 0))
     held_pack u h (suc p) = All-nil (IsHeldOf (PackOf u ∷ []) (suc p))
 
     at_pack : (u : FlatType) (fs : List flat.Flat) (xs : List item.Item) (whole : Fired) → held (PackOf u) (whole.outs 0) (Pack (flats xs) ∷ []) ≡ Pack fs ∷ []
@@ -145,12 +150,14 @@ packed_does j port i st st' out out' e e' items fs b f ei ef took = record {
 
 -- what the queues of both kernels hold is what the queues of the two as one hold
 splice_held : (ms bs : List QueueType) (at p : ℕ) (P R Q S : ℕ → List item.Item) → at < length ms
-    → splice at (length bs) (λ q. held_at ms q (P q) (R q)) (λ q. held_at bs q (Q q) (S q)) p ≡ held_at (spliced at ms bs) p (splice at (length bs) P Q p) (splice at (length bs) R S p)
+    → splice at (length bs) (λ q. held_at ms q (P q) (R q)) (λ q. held_at bs q (Q q) (S q)) p ≡ held_at (spliced at ms bs) p (splice at (length bs) P Q p)
+    (splice at (length bs) R S p)
 splice_held ms bs at p P R Q S lt =
     by_place (length bs) ∙ ap (λ o. held_by o (splice at (length bs) P Q p) (splice at (length bs) R S p)) (sym (spliced_got ms bs at p lt))
   where
     by_place : (n : ℕ)
-        → splice at n (λ q. held_at ms q (P q) (R q)) (λ q. held_at bs q (Q q) (S q)) p ≡ held_by (splice at n (slice_get ms) (slice_get bs) p) (splice at n P Q p) (splice at n R S p)
+        → splice at n (λ q. held_at ms q (P q) (R q)) (λ q. held_at bs q (Q q) (S q)) p ≡ held_by (splice at n (slice_get ms) (slice_get bs) p)
+        (splice at n P Q p) (splice at n R S p)
     by_place n = ⊎_elim
         (λ l. splice_first at n (λ q. held_at ms q (P q) (R q)) (λ q. held_at bs q (Q q) (S q)) p l
         ∙ sym (ap (λ o. held_by o (splice at n P Q p) (splice at n R S p)) (splice_first at n (slice_get ms) (slice_get bs) p l)
@@ -170,12 +177,14 @@ splice_held ms bs at p P R Q S lt =
 
 -- all that two kernels as one gave, part by part
 pub fused_ran : (a b : Kern) (at : ℕ) (ss : List Kept) (w : Word) → IsShaped (fused a b at) → HasShape (fused a b at) ss
-    → Same (ran_from (fused a b at) ss w) (fused_of at (outs b) (tabs a) (ran_from a (take (privates a) ss) w) (λ xs. ran_from b (drop (privates a) ss) (word_of 0 xs)))
+    → Same (ran_from (fused a b at) ss w)
+    (fused_of at (outs b) (tabs a) (ran_from a (take (privates a) ss) w) (λ xs. ran_from b (drop (privates a) ss) (word_of 0 xs)))
 fused_ran a b at ss w s h =
     let k = fused a b at in
     let ra = ran_from a (take (privates a) ss) w in
     let sb = drop (privates a) ss in
-    subst (λ (r : Fired). Same (ran_from k ss w) (fused_of at (outs b) (tabs a) ra (λ xs. r))) (sym (feed_word (fire b) 0 (ra.outs at) sb)) (fused_runs a b at w ss s h)
+    subst (λ (r : Fired). Same (ran_from k ss w) (fused_of at (outs b) (tabs a) ra (λ xs. r))) (sym (feed_word (fire b) 0 (ra.outs at) sb))
+    (fused_runs a b at w ss s h)
 
 -- what two parts do, one behind the other, is what the fused kernel does
 pub fused_does : (a b : Kern) (at port : ℕ) (i : item.Item) (st mine' rest' : List State) (out new mid0 mid last0 last : Emit) (items : List item.Item)
@@ -187,7 +196,8 @@ pub fused_does : (a b : Kern) (at port : ℕ) (i : item.Item) (st mine' rest' : 
 fused_does a b at port i st mine' rest' out new mid0 mid last0 last items room bm fm bl is fl eo ea = record {
   each = λ reads writes vars f fs hi.
       subst (λ (vs : List VarKind). Does (fused a b at) reads writes vs port i out new st (mine' ++ rest')) (sym f.9)
-      (subst (λ (os : List QueueType). Does (fused a b at) reads os (f.3 ++ f.4) port i out new st (mine' ++ rest')) (sym f.8) (both reads f.0 f.1 f.2 f.3 f.4 f.5 f.6 f.7 (shaped (fused a b at) reads writes vars f) fs hi));
+      (subst (λ (os : List QueueType). Does (fused a b at) reads os (f.3 ++ f.4) port i out new st (mine' ++ rest')) (sym f.8)
+      (both reads f.0 f.1 f.2 f.3 f.4 f.5 f.6 f.7 (shaped (fused a b at) reads writes vars f) fs hi));
 }
   where
     both : (reads ms : List QueueType) (m : QueueType) (bs : List QueueType) (us ws : List VarKind) → Fits a reads ms us → slice_get ms at ≡ Some m
@@ -201,19 +211,24 @@ fused_does a b at port i st mine' rest' out new mid0 mid last0 last items room b
         let da = fm.each reads ms us fa fs.0 hi in
         let mid_is : between at (types_of a reads) ≡ m ∷ [] = between_is a reads ms m us at fa g in
         let items_are : items ≡ da.came.outs at = is ∙ grown_list (outs a) mid0.outs mid.outs da.came.outs at bm.outs da.came.outs_are s.2 in
-        let items_held : All (IsHeldOf (m ∷ []) 0) items = subst (λ (l : List item.Item). All (IsHeldOf (m ∷ []) 0) l) (sym items_are) (subst (λ o. All (IsHeldBy o) (da.came.outs at)) g (da.came.held at)) in
+        let items_held : All (IsHeldOf (m ∷ []) 0) items =
+        subst (λ (l : List item.Item). All (IsHeldOf (m ∷ []) 0) l) (sym items_are) (subst (λ o. All (IsHeldBy o) (da.came.outs at)) g (da.came.held at)) in
         let db = fl.each (m ∷ []) bs ws fb (subst (λ (l : List QueueType). FitState b l (drop (privates a) st)) mid_is fs.1) items_held in
         let mid_room : HasLists a mid = came_room a reads ms us mid0 mid mine' (blank_room a mid0 bm) da.came in
         let last_room : HasLists b last = came_room b (m ∷ []) bs ws last0 last rest' (blank_room b last0 bl) db.came in
-        let cut : (fa fb : ℕ → List item.Item) → mid.outs ≡ each_grew mid0.outs fa → last.outs ≡ each_grew last0.outs fb → new.outs ≡ each_grew out.outs (splice at (length bs) fa fb) = λ ga gb ema emb.
+        let cut : (fa fb : ℕ → List item.Item) → mid.outs ≡ each_grew mid0.outs fa → last.outs ≡ each_grew last0.outs fb
+        → new.outs ≡ each_grew out.outs (splice at (length bs) fa fb) = λ ga gb ema emb.
         eo ∙ ap (λ n. each_grew out.outs (splice at n (list_at mid.outs) (list_at last.outs))) (last_room.outs ∙ sym cb.outs)
-        ∙ each_grew_cong out.outs (splice at (length bs) (list_at mid.outs) (list_at last.outs)) (splice at (length bs) ga gb) (λ p h. splice_cong at (length bs) (outs a) (list_at mid.outs) ga (list_at last.outs) gb p s.2
+        ∙ each_grew_cong out.outs (splice at (length bs) (list_at mid.outs) (list_at last.outs)) (splice at (length bs) ga gb)
+        (λ p h. splice_cong at (length bs) (outs a) (list_at mid.outs) ga (list_at last.outs) gb p s.2
         (let e = room.outs in let e2 = cb.outs in omega (arith, h, s.2, e, e2))
         (λ q hq. grown_list (outs a) mid0.outs mid.outs ga q bm.outs ema hq)
         (λ q hq. grown_list (outs b) last0.outs last.outs gb q bl.outs emb (let e2 = cb.outs in omega (arith, hq, e2)))) in
-        let cut_adds : (fa fb : ℕ → List (List _)) → mid.adds ≡ each_grew mid0.adds fa → last.adds ≡ each_grew last0.adds fb → new.adds ≡ each_grew out.adds (beside (tabs a) fa fb) = λ ga gb ema emb.
+        let cut_adds : (fa fb : ℕ → List (List _)) → mid.adds ≡ each_grew mid0.adds fa → last.adds ≡ each_grew last0.adds fb
+        → new.adds ≡ each_grew out.adds (beside (tabs a) fa fb) = λ ga gb ema emb.
         ea ∙ ap (λ n. each_grew out.adds (beside n (list_at mid.adds) (list_at last.adds))) mid_room.adds
-        ∙ each_grew_cong out.adds (beside (tabs a) (list_at mid.adds) (list_at last.adds)) (beside (tabs a) ga gb) (λ p h. beside_cong (tabs b) (tabs a) (list_at mid.adds) ga (list_at last.adds) gb p
+        ∙ each_grew_cong out.adds (beside (tabs a) (list_at mid.adds) (list_at last.adds)) (beside (tabs a) ga gb)
+        (λ p h. beside_cong (tabs b) (tabs a) (list_at mid.adds) ga (list_at last.adds) gb p
         (let e = room.adds in omega (arith, h, e))
         (λ q hq. grown_list (tabs a) mid0.adds mid.adds ga q bm.adds ema hq)
         (λ q hq. grown_list (tabs b) last0.adds last.adds gb q bl.adds emb hq)) in
@@ -223,7 +238,8 @@ fused_does a b at port i st mine' rest' out new mid0 mid last0 last items room b
                 let start_a = take (privates a) start in
                 let start_b = drop (privates a) start in
                 let is_a : IsStart a reads start_a = record { shape = is_start.shape.0; holds = is_start.holds.0 } in
-                let is_b : IsStart b (m ∷ []) start_b = record { shape = is_start.shape.1; holds = subst (λ (l : List QueueType). Holds b l start_b) mid_is is_start.holds.1 } in
+                let is_b : IsStart b (m ∷ []) start_b =
+                record { shape = is_start.shape.1; holds = subst (λ (l : List QueueType). Holds b l start_b) mid_is is_start.holds.1 } in
                 let one = da.gives.given start_a w x is_a tw tx sa.0 h in
                 let wa = ran_from a start_a w in
                 let past = wa.outs at in
@@ -232,22 +248,29 @@ fused_does a b at port i st mine' rest' out new mid0 mid last0 last items room b
                 let wb = word_of 0 past in
                 let typed_past : All (HasType m) past = subst (λ o. All (IsTyped o) past) g (ran_typed a reads ms us start_a w fa is_a tw at) in
                 let typed_xs : All (HasType m) xs = subst (λ o. All (IsTyped o) xs) g (fired_typed a reads ms us start_a w port x fa is_a tw tx at) in
-                let came : items ≡ held m past xs = is ∙ grown_list (outs a) mid0.outs mid.outs (λ p. held_at ms p (wa.outs p) (ra.outs p)) at bm.outs one.0.outs s.2 ∙ ap (λ o. held_by o past xs) g in
+                let came : items ≡ held m past xs = is
+                ∙ grown_list (outs a) mid0.outs mid.outs (λ p. held_at ms p (wa.outs p) (ra.outs p)) at bm.outs one.0.outs s.2
+                ∙ ap (λ o. held_by o past xs) g in
                 let before_b = ran_from b start_b wb in
-                let stands_b : StandsAfter b (m ∷ []) start_b (drop (privates a) st) wb = subst (λ (l : List QueueType). StandsAfter b l start_b (drop (privates a) st) wb) mid_is sa.1 in
-                let two = db.gives.given start_b wb xs is_b (word_typed (m ∷ []) 0 past typed_past) typed_xs stands_b (ap (λ l. held m l xs) (at_word 0 past) ∙ sym came) in
+                let stands_b : StandsAfter b (m ∷ []) start_b (drop (privates a) st) wb =
+                subst (λ (l : List QueueType). StandsAfter b l start_b (drop (privates a) st) wb) mid_is sa.1 in
+                let two = db.gives.given start_b wb xs is_b (word_typed (m ∷ []) 0 past typed_past) typed_xs stands_b
+                (ap (λ l. held m l xs) (at_word 0 past) ∙ sym came) in
                 let rb = feed (fire b 0) xs before_b.states in
                 let whole = ran_from k start w in
                 let parts = fused_ran a b at start w s is_start.shape in
                 let la : length wa.states ≡ privates a = ran_length a start_a w s.0 is_start.shape.0 in
-                let ta : take (privates a) whole.states ≡ wa.states = ap (take (privates a)) parts.states ∙ take_front wa.states before_b.states (privates a) la in
-                let tb : drop (privates a) whole.states ≡ before_b.states = ap (drop (privates a)) parts.states ∙ drop_front wa.states before_b.states (privates a) la in
+                let ta : take (privates a) whole.states ≡ wa.states = ap (take (privates a)) parts.states
+                ∙ take_front wa.states before_b.states (privates a) la in
+                let tb : drop (privates a) whole.states ≡ before_b.states = ap (drop (privates a)) parts.states
+                ∙ drop_front wa.states before_b.states (privates a) la in
                 let r_is : fused_of at (outs b) (tabs a) ra (λ l. feed (fire b 0) l before_b.states) ≡ fire k port x whole.states =
                 ap (λ us. fused_of at (outs b) (tabs a) (fire a port x us) (λ l. feed (fire b 0) l before_b.states)) (sym ta)
                 ∙ ap (λ us. fused_of at (outs b) (tabs a) (fire a port x (take (privates a) whole.states)) (λ l. feed (fire b 0) l us)) (sym tb) in
                 let now : TookHeld (spliced at ms bs) whole out new (fused_of at (outs b) (tabs a) ra (λ l. feed (fire b 0) l before_b.states)) = record {
                   outs = cut (λ p. held_at ms p (wa.outs p) (ra.outs p)) (λ p. held_at bs p (before_b.outs p) (rb.outs p)) one.0.outs two.0.outs
-                      ∙ each_grew_cong out.outs (splice at (length bs) (λ p. held_at ms p (wa.outs p) (ra.outs p)) (λ p. held_at bs p (before_b.outs p) (rb.outs p)))
+                      ∙ each_grew_cong out.outs
+                      (splice at (length bs) (λ p. held_at ms p (wa.outs p) (ra.outs p)) (λ p. held_at bs p (before_b.outs p) (rb.outs p)))
                       (λ p. held_at (spliced at ms bs) p (whole.outs p) (splice at (outs b) ra.outs rb.outs p))
                       (λ p lt. splice_held ms bs at p wa.outs ra.outs before_b.outs rb.outs at_ms
                       ∙ ap (λ n. held_at (spliced at ms bs) p (splice at n wa.outs before_b.outs p) (splice at n ra.outs rb.outs p)) cb.outs

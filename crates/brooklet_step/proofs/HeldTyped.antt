@@ -40,14 +40,16 @@ wide_pack w before (Pack fs) h t = wide_flats w before fs h t
 wide_items : (t : QueueType) (w : ℕ) → ((b : Bag) (x : item.Item) → HaveWidth w b → HasType t x → HaveWidth w (after_item b x)) → (before : Bag)
     (xs : List item.Item) → HaveWidth w before → All (HasType t) xs → HaveWidth w (content_from before xs)
 wide_items t w one before [] h a = h
-wide_items t w one before (x ∷ xs) h a = wide_items t w one (after_item before x) xs (one before x h (All-head (HasType t) x xs a)) (All-tail (HasType t) x xs a)
+wide_items t w one before (x ∷ xs) h a =
+    wide_items t w one (after_item before x) xs (one before x h (All-head (HasType t) x xs a)) (All-tail (HasType t) x xs a)
 
 may_flat : (w : ℕ) (before : Bag) (f : flat.Flat) → HaveWidth w before → HasFlatType (Relation w) f → MayHold (Relation w) (held_flat before f)
 may_flat w before (One row) h t = absurd t
 may_flat w before (Batched b) h t = cancelled_of w b.at b.rows before t.0 h
 may_flat w before (Changed c) h t = absurd t
 
-may_flats : (w : ℕ) (before : Bag) (fs : List flat.Flat) → HaveWidth w before → All (HasFlatType (Relation w)) fs → All (MayHold (Relation w)) (held_flats before fs)
+may_flats : (w : ℕ) (before : Bag) (fs : List flat.Flat) → HaveWidth w before → All (HasFlatType (Relation w)) fs
+    → All (MayHold (Relation w)) (held_flats before fs)
 may_flats w before [] h t = All-nil (MayHold (Relation w))
 may_flats w before (f ∷ fs) h t =
     let head = All-head (HasFlatType (Relation w)) f fs t in

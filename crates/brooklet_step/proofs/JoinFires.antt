@@ -135,7 +135,8 @@ pack_opens t (Flat f) h = absurd h
 pack_opens t (Pack fs) h = record { opened = refl; same = All-weaker (HasFlatType t) IsUnchanged (typed_unchanged t) fs h }
 
 -- what a joiner keeps after a word is of its ports' types
-run_holds : (k : Kern) (is os : List QueueType) (vs : List VarKind) (w : Word) (ss : List Kept) → Fits k is os vs → HasShape k ss → Holds k is ss → IsWordOf is w
+run_holds : (k : Kern) (is os : List QueueType) (vs : List VarKind) (w : Word) (ss : List Kept) → Fits k is os vs → HasShape k ss → Holds k is ss
+    → IsWordOf is w
     → Holds k is (run (fire k) w ss).states
 run_holds k is os vs [] ss f h t a = t
 run_holds k is os vs (e ∷ es) ss f h t a =
@@ -193,7 +194,8 @@ module _ (k : Kern) (wl : List ℕ) (give : item.Item → List item.Item) (m : �
     (fires : (p : ℕ) (x : item.Item) (ss : List Kept) → fire k p x ss ≡ join_one give wl p x ss)
     (waits : (ss : List Kept) → Holds k (replicate m t) ss → AreWaiting (replicate m t) ss)
     (opens : (x : item.Item) → HasType t x → PassesOpened give x)
-    (i : item.Item) (port : ℕ) (s s' : State) (old new : JoinKept) (items : List item.Item) (out out' : Emit) (es : s ≡ state.Join old) (es' : s' ≡ state.Join new)
+    (i : item.Item) (port : ℕ) (s s' : State) (old new : JoinKept) (items : List item.Item) (out out' : Emit) (es : s ≡ state.Join old)
+    (es' : s' ≡ state.Join new)
     (took : Took out out' (gives 0 items [])) (contents : JoinsItems wl (put_item port i old) new [] items)
     (plain : JoinsPlainly wl (put_item port i old) new [] items) (keeps : KeepsJoin wl (put_item port i old) new [] items) where
   abbrev types : List QueueType
@@ -217,11 +219,13 @@ module _ (k : Kern) (wl : List ℕ) (give : item.Item → List item.Item) (m : �
   -- what waits by the definition, with one more item
   put_opens : (turns : Turns) (x : item.Item) → AreOf types (list_at turns.lists) → IsOf types port x → AreOpened give (put port x turns)
   put_opens turns x h tx =
-      all_put (PassesOpened give) turns.lists port x (λ p. All-weaker (IsOf types p) (PassesOpened give) (λ y g. opens y (of_type p y g).1) (list_at turns.lists p) (h p))
+      all_put (PassesOpened give) turns.lists port x
+      (λ p. All-weaker (IsOf types p) (PassesOpened give) (λ y g. opens y (of_type p y g).1) (list_at turns.lists p) (h p))
       (opens x (of_type port x tx).1)
 
   module _ (vars : List VarKind) (fits : Fits k types (given ∷ []) vars) (start : List Kept) (w : Word) (x : item.Item) (is_start : IsStart k types start)
-      (tw : IsWordOf types w) (tx : IsOf types port x) (sa : JoinStands k wl types start (s ∷ []) w) (h : held_at types port (at_port port w) (x ∷ []) ≡ i ∷ []) where
+      (tw : IsWordOf types w) (tx : IsOf types port x) (sa : JoinStands k wl types start (s ∷ []) w)
+      (h : held_at types port (at_port port w) (x ∷ []) ≡ i ∷ []) where
     abbrev before : Fired
     before = ran_from k start w
 
@@ -306,7 +310,8 @@ module _ (k : Kern) (wl : List ℕ) (give : item.Item → List item.Item) (m : �
         lists = length-append_at old.turns.lists port (i ∷ []) ∙ ja.stands.lists ∙ sym (length-append_at c.turns.lists port (x ∷ []));
         lines = λ p lt.
             ⊎_elim
-            (λ e. subst (λ q. list_at (append_at old.turns.lists port (i ∷ [])) q ≡ held_from (c.now q) (list_at (append_at c.turns.lists port (x ∷ [])) q)) e line_is)
+            (λ e. subst (λ q. list_at (append_at old.turns.lists port (i ∷ [])) q ≡ held_from (c.now q)
+            (list_at (append_at c.turns.lists port (x ∷ [])) q)) e line_is)
             (λ ne. append_else old.turns.lists port p (i ∷ []) ne ∙ ja.stands.lines p (subst (λ n. p < n) (length-append_at c.turns.lists port (x ∷ [])) lt)
             ∙ ap (held_from (c.now p)) (sym (append_else c.turns.lists port p (x ∷ []) ne)))
             (cases_eq port p);
@@ -335,7 +340,8 @@ module _ (k : Kern) (wl : List ℕ) (give : item.Item → List item.Item) (m : �
           (λ e. subst (λ q. content_from (c.now q) (list_at (append_at c.turns.lists port (x ∷ [])) q) ≡ content_from [] (at_port q (w ++ (port, x) ∷ []))) e
           (ap (content_from (c.now port)) (append_here c.turns.lists port (x ∷ []) here) ∙ content-append (c.now port) line (x ∷ [])
           ∙ ap (λ b. content_from b (x ∷ [])) content_is ∙ sym (content-append [] (at_port port w) (x ∷ [])) ∙ ap (content_from []) (sym (at_next port w x))))
-          (λ ne. ap (content_from (c.now p)) (append_else c.turns.lists port p (x ∷ []) ne) ∙ ja.received p lt ∙ ap (content_from []) (sym (at_other port p w x ne)))
+          (λ ne. ap (content_from (c.now p)) (append_else c.turns.lists port p (x ∷ []) ne) ∙ ja.received p lt
+          ∙ ap (content_from []) (sym (at_other port p w x ne)))
           (cases_eq port p)
 
       next_below : (p : ℕ) → p < length left.lists → p < length c.turns.lists
@@ -349,7 +355,8 @@ module _ (k : Kern) (wl : List ℕ) (give : item.Item → List item.Item) (m : �
         given =
             ap (λ b. content_from b passed) ja.given ∙ sym (content-append [] (before.outs 0) passed)
             ∙ ap (content_from []) (ap (λ (u : Fired). before.outs 0 ++ u.outs 0) (sym fired) ∙ sym ((ran_more k start w port x).outs 0));
-        received = λ p lt. result.ends p (subst (λ n. p < n) (sym (length-append_at c.turns.lists port (x ∷ []))) (next_below p lt)) ∙ received_is p (next_below p lt);
+        received = λ p lt. result.ends p (subst (λ n. p < n) (sym (length-append_at c.turns.lists port (x ∷ []))) (next_below p lt))
+            ∙ received_is p (next_below p lt);
       }
 
       changes_given : TookHeld (given ∷ []) before out out' (fire k port x before.states)
@@ -396,7 +403,8 @@ module _ (k : Kern) (wl : List ℕ) (give : item.Item → List item.Item) (m : �
     join_of : IsJoinOf t (put_item port i old)
     join_of = record {
       lines =
-          all_put (IsHeld t) old.turns.lists port i (λ p. All-weaker (IsHeldOf types p) (IsHeld t) (λ y g. (of_held p y g).1) (list_at old.turns.lists p) (fit_items p))
+          all_put (IsHeld t) old.turns.lists port i
+          (λ p. All-weaker (IsHeldOf types p) (IsHeld t) (λ y g. (of_held p y g).1) (list_at old.turns.lists p) (fit_items p))
           (of_held port i hi).1;
       owed = may_owe t old.owed fit_wide;
     }
@@ -410,7 +418,8 @@ module _ (k : Kern) (wl : List ℕ) (give : item.Item → List item.Item) (m : �
     lines_held : (p : ℕ) → All (IsHeldOf types p) (list_at new.turns.lists p)
     lines_held p =
         ⊎_elim
-        (λ lt. All-weaker (IsHeld t) (IsHeldOf types p) (λ y g. subst (λ o. IsHeldBy o y) (sym (got_many t m p lt)) g) (list_at new.turns.lists p) (next_of.lines p))
+        (λ lt. All-weaker (IsHeld t) (IsHeldOf types p) (λ y g. subst (λ o. IsHeldBy o y) (sym (got_many t m p lt)) g) (list_at new.turns.lists p)
+        (next_of.lines p))
         (λ ge. subst (All (IsHeldOf types p)) (sym (list_past new.turns.lists p (subst (λ n. n ≤ p) (many ∙ sym keeps.shape.joined.lists) ge)))
         (All-nil (IsHeldOf types p)))
         (cases_lt p m)
@@ -426,7 +435,8 @@ module _ (k : Kern) (wl : List ℕ) (give : item.Item → List item.Item) (m : �
     }
 
 -- a joiner fires, under each type
-pub collect_does : (ws : List ℤ) (i : item.Item) (port : ℕ) (s s' : State) (old new : JoinKept) (items : List item.Item) (out out' : Emit) → HaveShares (shares ws)
+pub collect_does : (ws : List ℤ) (i : item.Item) (port : ℕ) (s s' : State) (old new : JoinKept) (items : List item.Item) (out out' : Emit)
+    → HaveShares (shares ws)
     → s ≡ state.Join old → s' ≡ state.Join new → Took out out' (gives 0 items []) → JoinsItems (shares ws) (put_item port i old) new [] items
     → JoinsPlainly (shares ws) (put_item port i old) new [] items → KeepsJoin (shares ws) (put_item port i old) new [] items
     → FiresAt (collect ws) port i out out' (s ∷ []) (s' ∷ [])
@@ -455,10 +465,12 @@ collect_does ws i port s s' old new items out out' some es es' took contents pla
         adds = none;
         outs_are = took.outs;
         adds_are = took.adds;
-        held = λ q. only_all (FlatOf t) items q (items_held (collect ws) (shares ws) itself (length ws) (FlatOf t) many some (λ p y ss. refl) (λ ss g. g) (alone_opens t)
+        held = λ q. only_all (FlatOf t) items q
+            (items_held (collect ws) (shares ws) itself (length ws) (FlatOf t) many some (λ p y ss. refl) (λ ss g. g) (alone_opens t)
             i port s s' old new items out out' es es' took contents plain keeps f hi);
         wide = λ j. All-nil (IsWide (slice_get (widths_in vars) j));
-        again = fit_again (collect ws) (shares ws) itself (length ws) (FlatOf t) many some (λ p y ss. refl) (λ ss g. g) (alone_opens t) i port s s' old new items out out'
+        again = fit_again (collect ws) (shares ws) itself (length ws) (FlatOf t) many some (λ p y ss. refl) (λ ss g. g)
+            (alone_opens t) i port s s' old new items out out'
             es es' took contents plain keeps f hi;
       };
     }
@@ -479,7 +491,8 @@ unpack_does n i port s s' old new items out out' some es es' took contents plain
     many : n ≡ length (ones n)
     many = sym (length-replicate n 1)
 
-    by : (t : FlatType) (vars : List VarKind) → Fits (unpack n) (replicate n (PackOf t)) (FlatOf t ∷ []) vars → FitJoiner (ones n) (replicate n (PackOf t)) (s ∷ [])
+    by : (t : FlatType) (vars : List VarKind) → Fits (unpack n) (replicate n (PackOf t)) (FlatOf t ∷ []) vars
+        → FitJoiner (ones n) (replicate n (PackOf t)) (s ∷ [])
         → IsHeldOf (replicate n (PackOf t)) port i → Does (unpack n) (replicate n (PackOf t)) (FlatOf t ∷ []) vars port i out out' (s ∷ []) (s' ∷ [])
     by t vars fits f hi = record {
       gives = record {
@@ -503,7 +516,8 @@ unpack_does n i port s s' old new items out out' some es es' took contents plain
 -- WHAT A FIRING NEEDS
 
 -- the shape of a joiner, its port, and a list for what it gives
-pub collect_needs : (ws : List ℤ) (i : item.Item) (port : ℕ) (s : State) (old : JoinKept) (out : Emit) → s ≡ state.Join old → CanTake (collect ws) port i (s ∷ []) out
+pub collect_needs : (ws : List ℤ) (i : item.Item) (port : ℕ) (s : State) (old : JoinKept) (out : Emit) → s ≡ state.Join old
+    → CanTake (collect ws) port i (s ∷ []) out
     → HaveShares (shares ws) × HasJoinShape (shares ws) old × (port < length ws) × (0 < length out.outs)
 collect_needs ws i port s old out e t =
     let f = t.fitting.fits in

@@ -52,7 +52,8 @@ each_next : (ts : List TableDecl) (rows rows' : Name → List (List ℤ)) (f : �
     → ((i : ℕ) (t : TableDecl) → slice_get ts i ≡ Some t → rows t.name ++ f i ≡ rows' t.name) → each_added (kept_tables ts rows) f ≡ kept_tables ts rows'
 each_next [] rows rows' f h = refl
 each_next (t ∷ ts) rows rows' f h =
-    let a : fold with_row (kept_of t.kind (rows t.name)) (f 0) ≡ kept_of t.kind (rows' t.name) = all_added t.kind (rows t.name) (f 0) ∙ ap (kept_of t.kind) (h 0 t refl) in
+    let a : fold with_row (kept_of t.kind (rows t.name)) (f 0) ≡ kept_of t.kind (rows' t.name) = all_added t.kind (rows t.name) (f 0)
+    ∙ ap (kept_of t.kind) (h 0 t refl) in
     let b = each_next ts rows rows' (λ p. f (suc p)) (λ i u g. h (suc i) u g) in
     λ i. a i ∷ b i
 
@@ -68,7 +69,9 @@ kept_next tables mine rows f adds once declared same =
     let n : slice_get names i ≡ Some t.name = got_name tables i t g in
     let there : 0 < count t.name names = got_count names i t.name n in
     let at : place names t.name ≡ i = place_is names i t.name (once t.name) there n in
-    ap (λ l. rows t.name ++ l) (ap (joined_at (places names mine) (list_at adds)) (sym at) ∙ joined_places names mine (list_at adds) t.name declared there ∙ joined_cong_below mine (list_at adds) f t.name same))
+    ap (λ l. rows t.name ++ l)
+    (ap (joined_at (places names mine) (list_at adds)) (sym at) ∙ joined_places names mine (list_at adds) t.name declared there
+    ∙ joined_cong_below mine (list_at adds) f t.name same))
 
 -- THE END OF A RUN
 

@@ -49,7 +49,8 @@ all_unlike x (y ∷ ys) h = step (row_eq x y) refl (all_unlike x ys) where
   step false e more = All-cons (λ z. row_eq x z ≡ false) y ys e (more (sym (count_fail (row_eq x) y ys e) ∙ h))
 
 -- a row is not there exactly where the search in the ascending list fails
-pub missing_by : (x : List ℤ) (ys : List (List ℤ)) (r : Result ℕ ℕ) → IsAscending ys → IsSearchInRange r (length ys) → IsBinarySearchResult (λ y. row_cmp y x) ys r
+pub missing_by : (x : List ℤ) (ys : List (List ℤ)) (r : Result ℕ ℕ) → IsAscending ys → IsSearchInRange r (length ys)
+    → IsBinarySearchResult (λ y. row_cmp y x) ys r
     → (IsTrue (is_err r) → copies x ys ≡ 0) × (copies x ys ≡ 0 → IsTrue (is_err r))
 missing_by x ys (Ok k) up low found = (
   (λ t. absurd (cc t)),
@@ -88,5 +89,6 @@ not_apart xs ys i x b lt is h fails apart =
     true≢false (sym (h z) ∙ fails)
 
 -- no row is there
-pub apart_at_end : (xs ys : List (List ℤ)) (i : ℕ) → length xs ≤ i → All (λ z. copies z ys ≡ 0) (take i xs) → (row : List ℤ) → (copies row xs ≡ 0) ⊎ (copies row ys ≡ 0)
+pub apart_at_end : (xs ys : List (List ℤ)) (i : ℕ) → length xs ≤ i → All (λ z. copies z ys ≡ 0) (take i xs) → (row : List ℤ)
+    → (copies row xs ≡ 0) ⊎ (copies row ys ≡ 0)
 apart_at_end xs ys i le h = apart_from_all xs ys (subst (All (λ z. copies z ys ≡ 0)) (take_all i xs le) h)

@@ -89,7 +89,8 @@ pushed_once k x st row pushes e r p = record {
       let n : AreNone st ks = subst (λ (zs : List ℤ). StandsForSlots zs st ks) e h in
       let after : AreNone st [] = record { code = n.code; defined = refl } in
       let q : pushes ≡ (run_kept k.body [] (values_of x)).pushes = p ∙ ap (λ v. (run_kept k.body [] v).pushes) r in
-      subst (λ (us : List Kept). ((code_one k x us).outs ≡ (λ i. pushed_to i pushes)) × ((code_one k x us).adds ≡ none) × StandsForSlots k.starts st (code_one k x us).states) (sym n.defined)
+      subst (λ (us : List Kept). ((code_one k x us).outs ≡ (λ i. pushed_to i pushes)) × ((code_one k x us).adds ≡ none) × StandsForSlots k.starts st
+      (code_one k x us).states) (sym n.defined)
       (ap (λ (ps : List (ℕ × List ℤ)). λ i. pushed_to i ps) (sym q), refl, subst (λ (zs : List ℤ). StandsForSlots zs st []) (sym e) after);
 }
 
@@ -102,8 +103,10 @@ pushed_kept k x st st' s s' row pushes n e e' r ran = record {
       let R = run_kept k.body a.slots (values_of x) in
       let q : pushes ≡ R.pushes = one.0 ∙ ap (λ v. (run_kept k.body a.slots v).pushes) r in
       let w : st' ≡ state.Slots R.slots ∷ [] = e' ∙ ap (λ (u : State). u ∷ []) (one.1 ∙ ap (λ v. state.Slots (run_kept k.body a.slots v).slots) r) in
-      let after : AreKeptSlots (length k.starts) st' (Slots R.slots ∷ []) = record { slots = R.slots; code = w; defined = refl; count = run_kept_length k.body a.slots (values_of x) ∙ a.count } in
-      subst (λ (us : List Kept). ((code_one k x us).outs ≡ (λ i. pushed_to i pushes)) × ((code_one k x us).adds ≡ none) × StandsForSlots k.starts st' (code_one k x us).states) (sym a.defined)
+      let after : AreKeptSlots (length k.starts) st' (Slots R.slots ∷ []) =
+      record { slots = R.slots; code = w; defined = refl; count = run_kept_length k.body a.slots (values_of x) ∙ a.count } in
+      subst (λ (us : List Kept). ((code_one k x us).outs ≡ (λ i. pushed_to i pushes)) × ((code_one k x us).adds ≡ none) × StandsForSlots k.starts st'
+      (code_one k x us).states) (sym a.defined)
       (ap (λ (ps : List (ℕ × List ℤ)). λ i. pushed_to i ps) (sym q), refl, are_slots k.starts st' (Slots R.slots ∷ []) n after);
 }
 
@@ -131,7 +134,8 @@ ports_below os (e ∷ es) h =
     All-cons (λ e. e.0 < length os) e es
     (is_below os e.0 (Flat (One e.1)) (All-head (IsOf os e.0) (Flat (One e.1)) (pushed_to e.0 es) here))
     (ports_below os es (λ q. ⊎_elim
-    (λ eq. All-tail (IsOf os q) (Flat (One e.1)) (pushed_to q es) (subst (All (IsOf os q)) (if_eq e.0 q (Flat (One e.1) ∷ pushed_to q es) (pushed_to q es) eq) (h q)))
+    (λ eq. All-tail (IsOf os q) (Flat (One e.1)) (pushed_to q es)
+    (subst (All (IsOf os q)) (if_eq e.0 q (Flat (One e.1) ∷ pushed_to q es) (pushed_to q es) eq) (h q)))
     (λ ne. subst (All (IsOf os q)) (if_ne e.0 q (Flat (One e.1) ∷ pushed_to q es) (pushed_to q es) ne) (h q))
     (cases_eq e.0 q)))
 
@@ -147,8 +151,10 @@ pushed_more p (d ∷ es) e =
     let more = only e.0 (Flat (One e.1) ∷ []) p in
     let r = pushed_more p es e in
     ⊎_elim
-    (λ eq. ap (λ t. t ++ more) (if_eq d.0 p (Flat (One d.1) ∷ pushed_to p es) (pushed_to p es) eq) ∙ ap (λ t. Flat (One d.1) ∷ t) r ∙ sym (if_eq d.0 p (Flat (One d.1) ∷ pushed_to p (es ++ e ∷ [])) (pushed_to p (es ++ e ∷ [])) eq))
-    (λ ne. ap (λ t. t ++ more) (if_ne d.0 p (Flat (One d.1) ∷ pushed_to p es) (pushed_to p es) ne) ∙ r ∙ sym (if_ne d.0 p (Flat (One d.1) ∷ pushed_to p (es ++ e ∷ [])) (pushed_to p (es ++ e ∷ [])) ne))
+    (λ eq. ap (λ t. t ++ more) (if_eq d.0 p (Flat (One d.1) ∷ pushed_to p es) (pushed_to p es) eq) ∙ ap (λ t. Flat (One d.1) ∷ t) r
+    ∙ sym (if_eq d.0 p (Flat (One d.1) ∷ pushed_to p (es ++ e ∷ [])) (pushed_to p (es ++ e ∷ [])) eq))
+    (λ ne. ap (λ t. t ++ more) (if_ne d.0 p (Flat (One d.1) ∷ pushed_to p es) (pushed_to p es) ne) ∙ r
+    ∙ sym (if_ne d.0 p (Flat (One d.1) ∷ pushed_to p (es ++ e ∷ [])) (pushed_to p (es ++ e ∷ [])) ne))
     (cases_eq d.0 p)
 
 -- one more push is given
@@ -159,7 +165,8 @@ push_step start now new es i e lt is en ea =
     let xs : List item.Item = Flat (One e.1) ∷ [] in
     let more : take i es ++ e ∷ [] ≡ take (i + 1) es = ap (λ d. take i es ++ d ∷ []) is ∙ sym (take_more es i e lt) in
     ea ∙ ap (λ t. append_at t e.0 xs) en ∙ append_at-each_grew start (λ p. pushed_to p (take i es)) e.0 xs
-    ∙ each_grew_cong start (λ p. pushed_to p (take i es) ++ only e.0 xs p) (λ p. pushed_to p (take (i + 1) es)) (λ p h. pushed_more p (take i es) e ∙ ap (pushed_to p) more)
+    ∙ each_grew_cong start (λ p. pushed_to p (take i es) ++ only e.0 xs p) (λ p. pushed_to p (take (i + 1) es))
+    (λ p h. pushed_more p (take i es) e ∙ ap (pushed_to p) more)
 
 -- the pushes go to ports that are there
 pub code_below : (k : CodeForm) (x : item.Item) (st st' : List State) (out : Emit) (pushes : List (ℕ × List ℤ)) → Applies (code k) 0 x st out
@@ -215,7 +222,8 @@ pub number_is : (v : ℤ) (vals row : List ℤ) (x : item.Item) → All IsValue 
     → v ≡ to_z w64 (of_z w64 (slice_index_or vals 0 (pos 0))) → v ≡ value_of x
 number_is v vals row x all some ew e ev =
     let z : ℤ = slice_index_or row 0 (pos 0) in
-    ev ∙ ap (λ (r : List ℤ). to_z w64 (of_z w64 (slice_index_or r 0 (pos 0)))) ew ∙ to_z-of_z w64 z (all 0 (pos 0) (omega (arith, some))) ∙ ap (λ (r : List ℤ). slice_index_or r 0 (pos 0)) e
+    ev ∙ ap (λ (r : List ℤ). to_z w64 (of_z w64 (slice_index_or r 0 (pos 0)))) ew ∙ to_z-of_z w64 z (all 0 (pos 0) (omega (arith, some)))
+    ∙ ap (λ (r : List ℤ). slice_index_or r 0 (pos 0)) e
 
 -- a filter's step is its firing
 pub filter_fires : (f : FilterForm) (x : item.Item) (s s' : State) (old new : Waiting) (v : ℤ) (values : List ℤ) (items : List item.Item) (out out' : Emit)
@@ -229,7 +237,8 @@ filter_fires f x s s' old new v values items out out' can room e e' ev ran len e
       let one = ran.each h.seen stands in
       let F = filter_one f (value_of x) h.seen in
       let is : filter_one f v h.seen ≡ F = ap (λ (z : ℤ). filter_one f z h.seen) ev in
-      let given : items ≡ pushed_to 0 F.pushes = ei ∙ ap (map (λ z. Flat (One (z ∷ [])))) (one.0 ∙ ap (λ g. first_values g.pushes) is) ∙ sym (given_items F.pushes (filter_values f (value_of x) h.seen can)) in
+      let given : items ≡ pushed_to 0 F.pushes = ei ∙ ap (map (λ z. Flat (One (z ∷ [])))) (one.0 ∙ ap (λ g. first_values g.pushes) is)
+      ∙ sym (given_items F.pushes (filter_values f (value_of x) h.seen can)) in
       let after : StandsForFilter f (s' ∷ []) (Buffered F.after ∷ []) = record {
         now = new;
         seen = F.after;
@@ -241,10 +250,12 @@ filter_fires f x s s' old new v values items out out' can room e e' ev ran len e
       let grew : Took out out' (fire (filter f) 0 x (Buffered h.seen ∷ [])) = record {
         outs =
             took.outs
-            ∙ each_grew_cong out.outs (only 0 items) (λ p. pushed_to p F.pushes) (λ p lt. at_0 p F.pushes items (let l = room.outs in omega (arith, l, lt)) given);
+            ∙ each_grew_cong out.outs (only 0 items) (λ p. pushed_to p F.pushes)
+            (λ p lt. at_0 p F.pushes items (let l = room.outs in omega (arith, l, lt)) given);
         adds = took.adds;
       } in
-      subst (λ (us : List Kept). Took out out' (fire (filter f) 0 x us) × StandsForFilter f (s' ∷ []) (fire (filter f) 0 x us).states) (sym h.defined) (grew, after);
+      subst (λ (us : List Kept). Took out out' (fire (filter f) 0 x us) × StandsForFilter f (s' ∷ []) (fire (filter f) 0 x us).states) (sym h.defined)
+      (grew, after);
 }
   where
     at_0 : (p : ℕ) (es : List (ℕ × List ℤ)) (items : List item.Item) → p < 1 → items ≡ pushed_to 0 es → only 0 items p ≡ pushed_to p es

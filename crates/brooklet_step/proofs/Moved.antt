@@ -85,7 +85,8 @@ alike is t n e h =
 packed_stand : (k : Kern) (is : List QueueType) (st : List State) → StandForSome k is st → StandForSome (packed k) is st
 packed_stand k is st r = record { start = r.start; is_start = record { shape = r.is_start.shape; holds = r.is_start.holds }; stands = r.stands }
 
-fused_stand : (a b : Kern) (at : ℕ) (is inner : List QueueType) (st : List State) → inner ≡ between at (types_of a is) → StandForSome a is (take (privates a) st)
+fused_stand : (a b : Kern) (at : ℕ) (is inner : List QueueType) (st : List State) → inner ≡ between at (types_of a is)
+    → StandForSome a is (take (privates a) st)
     → StandForSome b inner (drop (privates a) st) → StandForSome (fused a b at) is st
 fused_stand a b at is inner st e ra rb =
     let n = privates a in
@@ -124,7 +125,8 @@ fit_law (fused a b at) is os vs st f n h =
     let mid = between_is a is f.0 f.1 f.3 at f.5 f.6 in
     fused_stand a b at is (f.1 ∷ []) st (sym mid)
     (fit_law a is f.0 f.3 (take (privates a) st) f.5 n.0 h.0)
-    (fit_law b (f.1 ∷ []) f.2 f.4 (drop (privates a) st) f.7 (subst (PassesNone b) mid n.1) (subst (λ (l : List QueueType). FitState b l (drop (privates a) st)) mid h.1))
+    (fit_law b (f.1 ∷ []) f.2 f.4 (drop (privates a) st) f.7 (subst (PassesNone b) mid n.1)
+    (subst (λ (l : List QueueType). FitState b l (drop (privates a) st)) mid h.1))
 fit_law kernel is os vs st f n h = simple_stand kernel is st tt h
 
 -- THE STATES AFTER A WORD AS A START
@@ -143,7 +145,8 @@ join_moved k ws is ss st w p h =
     record { now = h.now; code = h.code; shape = h.shape; plain = h.plain; relation = λ rel. absurd (not_both (slice_get is 0) p rel) }
 
 -- where no relation passes, what stands for the states after a word stands for them as a start
-pub moved : (k : Kern) (is : List QueueType) (ss : List Kept) (st : List State) (w : Word) → IsShaped k → HasShape k ss → PassesNone k is → StandsAfter k is ss st w
+pub moved : (k : Kern) (is : List QueueType) (ss : List Kept) (st : List State) (w : Word) → IsShaped k → HasShape k ss → PassesNone k is
+    → StandsAfter k is ss st w
     → StandsAfter k is (ran_from k ss w).states st []
 moved (deal ws) is ss st w s c n h = deal_moved ws is ss st w n h
 moved (collect ws) is ss st w s c n h = join_moved (collect ws) (shares ws) is ss st w n h

@@ -56,7 +56,8 @@ emptied_next done first now next u lt e = record {
   left = untouched_next done first now next [] u.left e;
   nothing = λ q below. ap (λ l. list_at l q) e ∙ ⊎_elim
       (λ b. let apart : (q ≡ done → ⊥) = λ same. omega (arith, same, b) in get_or-set_other now done q [] [] apart ∙ u.nothing q b)
-      (λ ge. let same : q ≡ done = omega (arith, below, ge) in let m = u.left.many in ap (λ n. list_at (slice_set now done []) n) same ∙ get_or-set_same now done [] [] (omega (arith, m, lt)))
+      (λ ge. let same : q ≡ done = omega (arith, below, ge) in let m = u.left.many in ap (λ n. list_at (slice_set now done []) n) same
+      ∙ get_or-set_same now done [] [] (omega (arith, m, lt)))
       (cases_lt q done);
 }
 

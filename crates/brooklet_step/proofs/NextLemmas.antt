@@ -68,7 +68,8 @@ fired_op p o port x st st' blank out k c e b f = record {
   fired = λ op g.
       let same : c.op ≡ op = some_is c.op op (sym c.op_is ∙ g) in
       let f' = subst (λ j. FiresAt j port x blank out st st') e f in
-      subst (λ (d : OpForm). CameOf d.kernel port x st st' out) same (record { blank = blank; is_blank = b; room = (fires_again c.op.kernel port x blank out st st' (c.applies blank b) f').1; fires = f' });
+      subst (λ (d : OpForm). CameOf d.kernel port x st st' out) same
+      (record { blank = blank; is_blank = b; room = (fires_again c.op.kernel port x blank out st st' (c.applies blank b) f').1; fires = f' });
 }
 
 -- the lists are for the kernel that is found in the lists of a plan
@@ -119,7 +120,8 @@ can_fire m o port n x queues st g e at hx es = record {
 }
 
 -- there are as many lists as queues to write, and the queues are there
-pub send_there : (m : Parts) (o port n : ℕ) (x : item.Item) (queues : List (List item.Item)) (st st' : List State) (out : Emit) (ws : List ℕ) (g : GoesOn m) (e : IsEnabled m o port)
+pub send_there : (m : Parts) (o port n : ℕ) (x : item.Item) (queues : List (List item.Item)) (st st' : List State) (out : Emit) (ws : List ℕ) (g : GoesOn m)
+    (e : IsEnabled m o port)
     → IsFrontItem m.queues n x queues → st ≡ list_at m.states o → FiredOp m.plan o port x st st' out → ws ≡ list_at (write_places m.plan) o
     → (length ws ≡ length out.outs) × ((j : ℕ) → j < length ws → slice_index_or ws j 0 < length queues)
 send_there m o port n x queues st st' out ws g e hx es f we =
@@ -129,7 +131,8 @@ send_there m o port n x queues st st' out ws g e hx es f we =
     let lo : length out.outs ≡ outs op.kernel = c.room.outs in
     let is : ws ≡ places names op.writes = we ∙ places_at (λ d. d.writes) names m.plan.ops o op e.reads.op_is in
     let lw : length ws ≡ length op.writes = ap length is ∙ length-map op.writes (place names) in
-    let wo : length op.writes ≡ outs op.kernel = sym (length-map op.writes (kind_of (all_decls m.plan))) ∙ (counts op.kernel _ _ _ (op_fits m.plan g.valid o op e.reads.op_is)).outs in (
+    let wo : length op.writes ≡ outs op.kernel = sym (length-map op.writes (kind_of (all_decls m.plan)))
+    ∙ (counts op.kernel _ _ _ (op_fits m.plan g.valid o op e.reads.op_is)).outs in (
       omega (arith, lo, lw, wo),
       (λ j lt.
           let w = read_of op.writes j (omega (arith, lt, lw)) in
@@ -155,7 +158,8 @@ rows_wide : (o : Option ℕ) (n : ℕ) (rows : List (List ℤ)) → o ≡ Some n
 rows_wide o n rows e a = subst (λ w. All (IsWide w) rows) e a
 
 -- there are as many lists of rows as tables among the operator's variables, and each has the width of its table
-pub add_there : (m : Parts) (o port n : ℕ) (x : item.Item) (less : List (List item.Item)) (st st' : List State) (out : Emit) (vs : List ℕ) (g : GoesOn m) (e : IsEnabled m o port)
+pub add_there : (m : Parts) (o port n : ℕ) (x : item.Item) (less : List (List item.Item)) (st st' : List State) (out : Emit) (vs : List ℕ) (g : GoesOn m)
+    (e : IsEnabled m o port)
     → n ≡ place (queue_names m.plan) e.queue → IsFrontItem m.queues n x less
     → st ≡ list_at m.states o → FiredOp m.plan o port x st st' out → vs ≡ list_at (var_places m.plan) o
     → (length (table_places (length m.tables) vs) ≤ length out.adds) × AreFor m.tables (table_places (length m.tables) vs) out.adds
@@ -176,7 +180,8 @@ add_there m o port n x less st st' out vs g e at hx es f ve =
     let lu : length (table_places (length m.tables) vs) ≡ length mine = ap length is ∙ length-map mine (place names) in
     let hq : queue_of m e.queue ≡ x ∷ hx.rest = ap (list_at m.queues) (sym at) ∙ hx.here in
     let fs : FiresAt op.kernel port x c.blank out (states_of m o) st' = subst (λ u. FiresAt op.kernel port x c.blank out u st') es c.fires in
-    let does = fs.each (map (kinds_of m) op.reads) (map (kinds_of m) op.writes) vars (op_fits m.plan g.valid o op e.reads.op_is) (g.fit o op e.reads.op_is) (item_held m o port e.queue x hx.rest g e.reads hq) in
+    let does = fs.each (map (kinds_of m) op.reads) (map (kinds_of m) op.writes) vars (op_fits m.plan g.valid o op e.reads.op_is) (g.fit o op e.reads.op_is)
+    (item_held m o port e.queue x hx.rest g e.reads hq) in
     let came = does.came in (
       omega (arith, la, lm, lu),
       (λ j p t gj gt.
@@ -185,9 +190,13 @@ add_there m o port n x less st st' out vs g e at hx es f ve =
           let width : width_at tables q.0 ≡ width_of_table t =
           width_there tables q.0 d.0 (ap (slice_get tables) q.2 ∙ d.1) ∙ sym (ap width_of_table d.2 ∙ kept_width d.0.kind (s.rows d.0.name)) in
           let lt = slice_get_within mine j q.0 q.1 in
-          let given : list_at out.adds j ≡ came.adds j = ap (λ (l : List (List (List ℤ))). list_at l j) (came.adds_are ∙ ap (λ l. each_grew l came.adds) c.is_blank.adds) ∙ each_grew-blanks (tabs op.kernel) came.adds j [] (omega (arith, lt, lm)) in
-          let got : slice_get (widths_in vars) j ≡ Some (width_of_table t) = ap (λ (l : List ℕ). slice_get l j) (widths_of m.plan g.valid o op e.reads.op_is) ∙ got_map (width_at tables) mine j q.0 q.1 ∙ ap Some width in
-          subst (λ (l : List (List ℤ)). All (λ row. length row ≡ width_of_table t) l) (sym given) (rows_wide (slice_get (widths_in vars) j) (width_of_table t) (came.adds j) got (came.wide j))),
+          let given : list_at out.adds j ≡ came.adds j =
+          ap (λ (l : List (List (List ℤ))). list_at l j) (came.adds_are ∙ ap (λ l. each_grew l came.adds) c.is_blank.adds)
+          ∙ each_grew-blanks (tabs op.kernel) came.adds j [] (omega (arith, lt, lm)) in
+          let got : slice_get (widths_in vars) j ≡ Some (width_of_table t) = ap (λ (l : List ℕ). slice_get l j) (widths_of m.plan g.valid o op e.reads.op_is)
+          ∙ got_map (width_at tables) mine j q.0 q.1 ∙ ap Some width in
+          subst (λ (l : List (List ℤ)). All (λ row. length row ≡ width_of_table t) l) (sym given)
+          (rows_wide (slice_get (widths_in vars) j) (width_of_table t) (came.adds j) got (came.wide j))),
     )
 
 -- THE END
@@ -197,7 +206,8 @@ pub record Next (m m' : Parts) (o port : ℕ) : Type 0 where
   pub goes_on : GoesOn m'
 
 -- one firing more: the machine goes on
-pub next : (m : Parts) (o port n : ℕ) (x : item.Item) (st st' : List State) (out : Emit) (ws : List ℕ) (less queues : List (List item.Item)) (vs cs : List ℕ) (ts : List Kept) (g : GoesOn m) (e : IsEnabled m o port)
+pub next : (m : Parts) (o port n : ℕ) (x : item.Item) (st st' : List State) (out : Emit) (ws : List ℕ) (less queues : List (List item.Item)) (vs cs : List ℕ)
+    (ts : List Kept) (g : GoesOn m) (e : IsEnabled m o port)
     → n ≡ place (queue_names m.plan) e.queue → IsFrontItem m.queues n x less
     → st ≡ list_at m.states o → FiredOp m.plan o port x st st' out → ws ≡ list_at (write_places m.plan) o
     → queues ≡ each_grew less (joined_at ws (list_at out.outs)) → cs ≡ slice_set m.counts o (min most_firings (slice_index_or m.counts o 0 + 1))
@@ -212,12 +222,15 @@ next m o port n x st st' out ws less queues vs cs ts g e at hx es f we eq ec ve 
     let is : ws ≡ places names op.writes = we ∙ places_at (λ d. d.writes) names m.plan.ops o op e.reads.op_is in
     let qs : queues ≡ each_grew (slice_set m.queues (place names e.queue) hx.rest) (joined_at (places names op.writes) (list_at out.outs)) =
     eq ∙ ap (λ (l : List ℕ). each_grew less (joined_at l (list_at out.outs))) is
-    ∙ ap (λ (l : List (List item.Item)). each_grew l (joined_at (places names op.writes) (list_at out.outs))) (hx.left ∙ ap (λ k. slice_set m.queues k hx.rest) at) in
+    ∙ ap (λ (l : List (List item.Item)). each_grew l (joined_at (places names op.writes) (list_at out.outs)))
+    (hx.left ∙ ap (λ k. slice_set m.queues k hx.rest) at) in
     let places_is : table_places (length m.tables) vs ≡ places (table_names m.plan.tables) (tables_of (table_names m.plan.tables) op) =
     ap (table_places (length m.tables)) (ve ∙ places_at (λ d. d.vars) (variable_names m.plan) m.plan.ops o op e.reads.op_is)
     ∙ table_places_are m.plan op (length m.tables) (ap length g.ran.stands.tables ∙ length-map m.plan.tables (λ t. kept_of t.kind (g.ran.state.rows t.name))) in
-    let us : ts ≡ each_added m.tables (joined_at (places (table_names m.plan.tables) (tables_of (table_names m.plan.tables) op)) (list_at out.adds)) = et ∙ ap (λ (l : List ℕ). each_added m.tables (joined_at l (list_at out.adds))) places_is in
-    let end : next_parts m o queues st' ts ≡ (record { plan = m.plan; queues = queues; tables = ts; states = slice_set m.states o st'; counts = cs; stopped = false }) =
+    let us : ts ≡ each_added m.tables (joined_at (places (table_names m.plan.tables) (tables_of (table_names m.plan.tables) op)) (list_at out.adds)) = et
+    ∙ ap (λ (l : List ℕ). each_added m.tables (joined_at l (list_at out.adds))) places_is in
+    let end : next_parts m o queues st' ts ≡
+    (record { plan = m.plan; queues = queues; tables = ts; states = slice_set m.states o st'; counts = cs; stopped = false }) =
     λ i. record { plan = m.plan; queues = queues; tables = ts; states = slice_set m.states o st'; counts = sym ec i; stopped = false } in
     subst (λ (u : Parts). Next m u o port) end (record {
       steps = steps m o port e.queue x hx.rest c.blank out st' queues ts g e.reads hq c.is_blank fs qs us;

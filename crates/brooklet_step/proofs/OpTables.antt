@@ -40,7 +40,8 @@ among_known names [] n h = absurd (omega (arith, h))
 among_known names (v ∷ vs) n h = ⊎_elim
     (λ lt. ⊎_elim
     (λ c. subst (λ x. 0 < count x names) c.0 lt)
-    (λ c. among_known names vs n (let e = ap (count n) (if_lt 0 (count v names) (v ∷ among names vs) (among names vs) lt) in let o = ap one_if c.1 in omega (arith, e, o, h)))
+    (λ c. among_known names vs n
+    (let e = ap (count n) (if_lt 0 (count v names) (v ∷ among names vs) (among names vs) lt) in let o = ap one_if c.1 in omega (arith, e, o, h)))
     (cases_name v n))
     (λ ge. among_known names vs n (let e = ap (count n) (if_ge 0 (count v names) (v ∷ among names vs) (among names vs) ge) in omega (arith, e, h)))
     (cases_lt 0 (count v names))
@@ -88,7 +89,9 @@ width_at (t ∷ ts) v = if name_eq t.name v then table_width t.kind else width_a
 pub width_there : (ts : List TableDecl) (v : Name) (t : TableDecl) → slice_get ts (place (table_names ts) v) ≡ Some t → width_at ts v ≡ table_width t.kind
 width_there [] v t g = absurd (cc g)
 width_there (u ∷ us) v t g =
-    let at : (b : Bool) → name_eq u.name v ≡ b → slice_get (u ∷ us) (if b then 0 else suc (place (table_names us) v)) ≡ Some t = λ b e. ap (λ c. slice_get (u ∷ us) (if c then 0 else suc (place (table_names us) v))) (sym e) ∙ g in
+    let at : (b : Bool) → name_eq u.name v ≡ b
+    → slice_get (u ∷ us) (if b then 0 else suc (place (table_names us) v)) ≡ Some t =
+    λ b e. ap (λ c. slice_get (u ∷ us) (if c then 0 else suc (place (table_names us) v))) (sym e) ∙ g in
     ⊎_elim
     (λ c. if_true (name_eq u.name v) (table_width u.kind) (width_at us v) c.1 ∙ ap (λ (x : TableDecl). table_width x.kind) (some_is u t (at true c.1)))
     (λ c. if_false (name_eq u.name v) (table_width u.kind) (width_at us v) c.1 ∙ width_there us v t (at false c.1))
@@ -97,7 +100,8 @@ width_there (u ∷ us) v t g =
 table_there : (ts : List TableDecl) (v : Name) → 0 < count v (table_names ts) → table_in ts v ≡ Some (Table (width_at ts v))
 table_there [] v h = absurd (omega (arith, h))
 table_there (t ∷ ts) v h = ⊎_elim
-    (λ c. if_true (name_eq t.name v) (Some (Table (table_width t.kind))) (table_in ts v) c.1 ∙ ap (λ n. Some (Table n)) (sym (if_true (name_eq t.name v) (table_width t.kind) (width_at ts v) c.1)))
+    (λ c. if_true (name_eq t.name v) (Some (Table (table_width t.kind))) (table_in ts v) c.1
+    ∙ ap (λ n. Some (Table n)) (sym (if_true (name_eq t.name v) (table_width t.kind) (width_at ts v) c.1)))
     (λ c.
     if_false (name_eq t.name v) (Some (Table (table_width t.kind))) (table_in ts v) c.1 ∙ table_there ts v (let o = ap one_if c.1 in omega (arith, o, h))
     ∙ ap (λ n. Some (Table n)) (sym (if_false (name_eq t.name v) (table_width t.kind) (width_at ts v) c.1)))
@@ -107,7 +111,8 @@ table_absent : (ts : List TableDecl) (v : Name) → count v (table_names ts) ≡
 table_absent [] v h = refl
 table_absent (t ∷ ts) v h = ⊎_elim
     (λ c. absurd (let o = ap one_if c.1 in omega (arith, o, h)))
-    (λ c. if_false (name_eq t.name v) (Some (Table (table_width t.kind))) (table_in ts v) c.1 ∙ table_absent ts v (let o = ap one_if c.1 in omega (arith, o, h)))
+    (λ c. if_false (name_eq t.name v) (Some (Table (table_width t.kind))) (table_in ts v) c.1
+    ∙ table_absent ts v (let o = ap one_if c.1 in omega (arith, o, h)))
     (cases_name t.name v)
 
 private_there : (ws : List Name) (v : Name) → 0 < count v ws → private_in ws v ≡ Some Private
@@ -132,7 +137,8 @@ widths_are ts vars (v ∷ vs) d =
     (λ ge.
     let here : 0 < count v (v ∷ vs) = (let e = ap one_if (name_same v) in omega (arith, e)) in
     let p : 0 < count v vars = (let a = d v here in omega (arith, a, ge)) in
-    let kind : var_kind ts vars v ≡ Private = ap (λ o. unwrap_or (either o (private_in vars v)) (Table 0)) (table_absent ts v (omega (arith, ge))) ∙ ap (λ o. unwrap_or o (Table 0)) (private_there vars v p) in
+    let kind : var_kind ts vars v ≡ Private = ap (λ o. unwrap_or (either o (private_in vars v)) (Table 0)) (table_absent ts v (omega (arith, ge)))
+    ∙ ap (λ o. unwrap_or o (Table 0)) (private_there vars v p) in
     ap (λ k. widths_in (k ∷ map (var_kind ts vars) vs)) kind ∙ more
     ∙ ap (map (width_at ts)) (sym (if_ge 0 n (v ∷ among names vs) (among names vs) ge)))
     (cases_lt 0 n)
@@ -152,5 +158,6 @@ module _ (p : PlanForm) (v : IsPlan p) (o : ℕ) (op : OpForm) (g : slice_get p.
   -- and how many there are
   pub mine_many : length (tables_of (table_names p.tables) op) ≡ tabs op.kernel
   mine_many =
-      sym (length-map (tables_of (table_names p.tables) op) (width_at p.tables)) ∙ ap length (sym widths_of) ∙ widths_many (map (var_kind p.tables p.vars) op.vars)
+      sym (length-map (tables_of (table_names p.tables) op) (width_at p.tables)) ∙ ap length (sym widths_of)
+      ∙ widths_many (map (var_kind p.tables p.vars) op.vars)
       ∙ (counts op.kernel _ _ _ (op_fits p v o op g)).tables

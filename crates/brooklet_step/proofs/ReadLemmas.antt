@@ -114,7 +114,8 @@ not_enabled m o port h on = h on.queue on.reads
 -- WHAT WAITS IN THE STATE OF THE DEFINITION
 
 -- as many items are left of a queue as its history is longer than what was taken
-left_many : (m : Parts) (s : Machine) (q : Name) → StandsForMachine m s → 0 < count q (queue_names m.plan) → length (queue_of m q) ≡ length (s.hist q) - s.taken q
+left_many : (m : Parts) (s : Machine) (q : Name) → StandsForMachine m s → 0 < count q (queue_names m.plan)
+    → length (queue_of m q) ≡ length (s.hist q) - s.taken q
 left_many m s q h lt =
     let all = held (kinds_of m q) [] (s.hist q) in
     ap length (h.left q lt) ∙ length-drop (s.taken q) all ∙ ap (λ n. n - s.taken q) (length-held (kinds_of m q) [] (s.hist q))

@@ -1,5 +1,5 @@
 -- Firings of bodies, filters, tallies and copies.
-use Rattle.std.proofs.Common.{◌≡◌, ℕ, zero, suc, ◌+◌, ◌<◌, ℤ, List, [], ◌∷◌, ◌++◌, length, replicate, refl, sym, ap, ◌∙◌, subst, arith, ⊎_elim}
+use Rattle.std.proofs.Common.{◌≡◌, ℕ, zero, suc, ◌<◌, ℤ, List, [], ◌∷◌, ◌++◌, length, replicate, refl, sym, ap, ◌∙◌, subst, arith, ⊎_elim}
 use Rattle.std.specs.Prelude.{All, Some, slice_get, nat_lt, if◌then◌else◌}
 use Rattle.std.proofs.lemmas.Bool.{cases_lt}
 use Rattle.std.proofs.lemmas.List.Elements.{All-cons, All-nil}
@@ -14,7 +14,7 @@ use Rattle.river_kernels.specs.declared.types.VarKind.{VarKind}
 use Rattle.river_kernels.specs.Fits.{rows, ports}
 use Rattle.river_kernels.specs.Kern.{Kern, code, filter, duplicate, tally}
 use Rattle.brooklet_model.specs.Firings.{Kept}
-use Rattle.brooklet_model.specs.Fire.{fire, outs, ins}
+use Rattle.brooklet_model.specs.Fire.{fire, ins}
 use Rattle.brooklet_model.specs.Typed.{IsWordOf, widths_in, IsWide}
 use Rattle.brooklet_model.specs.Words.{Word, at_port}
 use Rattle.brooklet_model.proofs.Ports.{counts}
@@ -53,18 +53,21 @@ port_zero k port i st out one t =
 -- what a body, a filter or a tally needs
 pub code_applies : (k : CodeForm) (port : ℕ) (i : item.Item) (st : List State) (out : Emit) → CanTake (code k) port i st out → Applies (code k) port i st out
 code_applies k port i st out t =
-    simple_applies (code k) port i st out tt t (subst (λ (l : List QueueType). IsPlainBy (slice_get l port)) (sym t.fitting.fits.0) (one_plain (rows k.body.inputs) tt port))
+    simple_applies (code k) port i st out tt t
+    (subst (λ (l : List QueueType). IsPlainBy (slice_get l port)) (sym t.fitting.fits.0) (one_plain (rows k.body.inputs) tt port))
 
 -- where a filter can take an item, it applies to it
 pub filter_applies : (f : FilterForm) (port : ℕ) (i : item.Item) (st : List State) (out : Emit) → CanTake (filter f) port i st out
     → Applies (filter f) port i st out
 filter_applies f port i st out t =
-    simple_applies (filter f) port i st out tt t (subst (λ (l : List QueueType). IsPlainBy (slice_get l port)) (sym t.fitting.fits.0) (one_plain (rows 1) tt port))
+    simple_applies (filter f) port i st out tt t
+    (subst (λ (l : List QueueType). IsPlainBy (slice_get l port)) (sym t.fitting.fits.0) (one_plain (rows 1) tt port))
 
 -- where a tally can take an item, it applies to it
 pub tally_applies : (port : ℕ) (i : item.Item) (st : List State) (out : Emit) → CanTake tally port i st out → Applies tally port i st out
 tally_applies port i st out t =
-    simple_applies tally port i st out tt t (subst (λ (l : List QueueType). IsPlainBy (slice_get l port)) (sym t.fitting.fits.1) (one_plain (rows t.fitting.fits.0) tt port))
+    simple_applies tally port i st out tt t
+    (subst (λ (l : List QueueType). IsPlainBy (slice_get l port)) (sym t.fitting.fits.1) (one_plain (rows t.fitting.fits.0) tt port))
 
 -- and what they do
 pub code_does : (k : CodeForm) (port : ℕ) (i : item.Item) (out out' : Emit) (st st' : List State) → Fires (code k) out out' st st' (fire (code k) port i)
@@ -140,7 +143,8 @@ duplicate_does n i st out out' room eo ea = record {
             sym h ∙ ap (λ l. held T l (x ∷ [])) (sym (copies_are n T start w p lt tw)) ∙ ap (held T (before.outs p)) (sym (if_lt p n (x ∷ []) [] lt))
             ∙ ap (λ o. held_by o (before.outs p) (r.outs p)) (sym (got_many T n p lt)) in (
               record {
-                outs = eo ∙ each_grew_cong out.outs (λ p. i ∷ []) (λ p. held_at (replicate n T) p (before.outs p) (r.outs p)) (λ p lt. at_is p (omega (arith, lt, many)));
+                outs = eo ∙ each_grew_cong out.outs (λ p. i ∷ []) (λ p. held_at (replicate n T) p (before.outs p) (r.outs p))
+                    (λ p lt. at_is p (omega (arith, lt, many)));
                 adds = ea ∙ sym (each_grew-none out.adds);
               },
               subst (λ (us : List Kept). AreNone st us) (sym (ran_more (duplicate n) start w 0 x).states) sa,
@@ -149,7 +153,8 @@ duplicate_does n i st out out' room eo ea = record {
       came = record {
         outs = λ p. if nat_lt p n then i ∷ [] else [];
         adds = none;
-        outs_are = eo ∙ each_grew_cong out.outs (λ p. i ∷ []) (λ p. if nat_lt p n then i ∷ [] else []) (λ p lt. sym (if_lt p n (i ∷ []) [] (omega (arith, lt, many))));
+        outs_are = eo ∙ each_grew_cong out.outs (λ p. i ∷ []) (λ p. if nat_lt p n then i ∷ [] else [])
+            (λ p lt. sym (if_lt p n (i ∷ []) [] (omega (arith, lt, many))));
         adds_are = ea ∙ sym (each_grew-none out.adds);
         held = λ p. held_many T n p i hi;
         wide = λ t. All-nil (IsWide (slice_get (widths_in vars) t));

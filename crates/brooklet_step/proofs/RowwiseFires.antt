@@ -110,7 +110,8 @@ select_gives : (e : Term) (n : ℕ) (c d : Change) (out out' : Emit) → Follows
 select_gives e n c d out out' f took = record {
   given = λ start w x is_start tw tx a h.
       let before = ran_from (select e) start w in (
-        took_first (relation n) before [] before.states out out' (Flat (Changed d) ∷ []) (select_one e x) took (image_held (selected e) n n c d refl f w start x tw tx h),
+        took_first (relation n) before [] before.states out out' (Flat (Changed d) ∷ []) (select_one e x) took
+            (image_held (selected e) n n c d refl f w start x tw tx h),
         record { code = refl; defined = (ran_more (select e) start w 0 x).states ∙ a.defined },
       );
 }
@@ -143,7 +144,8 @@ select_flat_does e (Changed c) items out out' t s took =
 
 -- PROJECTIONS
 
-project_gives : (es : List Term) (n : ℕ) (c d : Change) (out out' : Emit) → FollowsContent (projected es) c d → Took out out' (gives 0 (Flat (Changed d) ∷ []) [])
+project_gives : (es : List Term) (n : ℕ) (c d : Change) (out out' : Emit) → FollowsContent (projected es) c d
+    → Took out out' (gives 0 (Flat (Changed d) ∷ []) [])
     → GivesAsDefined (project es) (relation n ∷ []) (relation (length es) ∷ []) 0 (Flat (Changed c)) out out' [] []
 project_gives es n c d out out' f took = record {
   given = λ start w x is_start tw tx a h.

@@ -60,7 +60,8 @@ no_later q (a ∷ ops) known (suc o') (suc o) op' op r once g' g le lt =
 -- WHAT A STEP LEAVES
 
 -- as many items are left as were put and not taken
-left_length : (m : Parts) (s : Machine) → StandsForMachine m s → (q : Name) → 0 < count q (queue_names m.plan) → length (queue_of m q) ≡ length (s.hist q) - s.taken q
+left_length : (m : Parts) (s : Machine) → StandsForMachine m s → (q : Name) → 0 < count q (queue_names m.plan)
+    → length (queue_of m q) ≡ length (s.hist q) - s.taken q
 left_length m s h q lt =
     ap length (h.left q lt) ∙ length-drop (s.taken q) (held (kinds_of m q) [] (s.hist q)) ∙ ap (λ n. n - s.taken q) (length-held (kinds_of m q) [] (s.hist q))
 
@@ -74,7 +75,8 @@ taken_more k q f = ⊎_elim
 hist_stays : (p : PlanForm) → IsPlan p → (s s' : Machine) (o port o' port' : ℕ) (q : Name) → Step p s o port s' → ReadsAt p o' port' q → o' ≤ o
     → s'.hist q ≡ s.hist q
 hist_stays p v s s' o port o' port' q st r le =
-    let w = no_later q p.ops (λ n. count n (decl_names p.inputs)) o' o r.op st.op v.in_order (v.written_once q) r.op_is st.op_is le (got_count r.op.reads port' q r.queue_is) in
+    let w = no_later q p.ops (λ n. count n (decl_names p.inputs)) o' o r.op st.op v.in_order (v.written_once q) r.op_is st.op_is le
+    (got_count r.op.reads port' q r.queue_is) in
     ap (λ (x : Machine). x.hist q) st.after
     ∙ ap (λ l. s.hist q ++ l) (joined_out st.op.writes (fire st.op.kernel port st.item (s.kept o)).outs q w)
     ∙ append-nil (s.hist q)
@@ -102,7 +104,8 @@ follows_step m m' o port v st = record {
         events = r.events ++ (o, port) ∷ [];
         state = a.state;
         run =
-            subst (λ (x : PlanForm). Run x (start x inputs) (r.events ++ (o, port) ∷ []) a.state) (sym st.plan) (run_next m.plan (start m.plan inputs) r.state a.state r.events o port r.run a.step);
+            subst (λ (x : PlanForm). Run x (start x inputs) (r.events ++ (o, port) ∷ []) a.state) (sym st.plan)
+            (run_next m.plan (start m.plan inputs) r.state a.state r.events o port r.run a.step);
         stands = a.stands;
         counts = st.counts r.events r.counts;
       };
@@ -264,7 +267,8 @@ ports_few [] o op a g = absurd (cc g)
 ports_few (d ∷ ops) zero op a g =
     subst (λ (x : OpForm). length x.reads ≤ 64) (some_is d op g) (All-head (λ n. n ≤ 64) (length d.reads) (length d.writes ∷ port_numbers ops) a)
 ports_few (d ∷ ops) (suc o) op a g =
-    ports_few ops o op (All-tail (λ n. n ≤ 64) (length d.writes) (port_numbers ops) (All-tail (λ n. n ≤ 64) (length d.reads) (length d.writes ∷ port_numbers ops) a)) g
+    ports_few ops o op (All-tail (λ n. n ≤ 64) (length d.writes) (port_numbers ops)
+    (All-tail (λ n. n ≤ 64) (length d.reads) (length d.writes ∷ port_numbers ops) a)) g
 
 pub record PortsAt (p : PlanForm) (o n : ℕ) : Type 0 where
   pub ports : HasPorts p o n
@@ -319,7 +323,8 @@ outs_taken m raw n outs g e ne t =
     let q = g.laid_out.queues in
     t ∙ ap (λ k. take k m.queues) (sym many)
     ∙ sym (lists_in_order (queue_names m.plan) m.queues ws 0
-    (λ i w h. place_is (queue_names m.plan) i w (g.valid.queues_once w) (output_there m.plan i w h) (got_front ws rest i (slice_get_within ws i w h) ∙ h) ∙ omega arith)
+    (λ i w h. place_is (queue_names m.plan) i w (g.valid.queues_once w) (output_there m.plan i w h) (got_front ws rest i (slice_get_within ws i w h) ∙ h)
+    ∙ omega arith)
     (omega (arith, l, q)))
 
 -- and they are there
@@ -354,7 +359,9 @@ module _ (p : PlanForm) (inputs : List (List item.Item)) (m0 m : Parts) (v : IsP
   pub run_outs : (outs : List (List item.Item)) → outs ≡ map (queue_of m) (decl_names m.plan.outputs) → outs ≡ (meaning p inputs).outs
   run_outs outs e =
       e ∙ map_on (queue_of m) ran.state.hist (decl_names m.plan.outputs)
-      (λ i q g. ran.stands.left q (output_there m.plan i q g) ∙ ap (λ n. drop n (held (kinds_of m q) [] (ran.state.hist q))) (ran.stands.unread q (output_unread m.plan valid i q g)) ∙ output_held m.plan valid q (got_count (decl_names m.plan.outputs) i q g) [] (ran.state.hist q))
+      (λ i q g. ran.stands.left q (output_there m.plan i q g)
+      ∙ ap (λ n. drop n (held (kinds_of m q) [] (ran.state.hist q))) (ran.stands.unread q (output_unread m.plan valid i q g))
+      ∙ output_held m.plan valid q (got_count (decl_names m.plan.outputs) i q g) [] (ran.state.hist q))
       ∙ outs_are m.plan inputs ran.events ran.state defined ∙ ap (λ (x : PlanForm). (meaning x inputs).outs) plan_is
 
   -- the counts are the plan's firings

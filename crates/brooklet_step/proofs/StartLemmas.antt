@@ -88,7 +88,8 @@ map_more f xs i x lt e = ap (map f) (take_more xs i x lt ∙ ap (λ y. take i xs
 
 -- a step of the loop that makes them
 pub first_next : (ops : List Op) (i : ℕ) (d : Op) (states states' : List (List State)) (st : List State) → i < length ops → d ≡ get_or ops i d
-    → AreFirst (op_forms (take i ops)) states → AreFirstStates (kern_of d.kernel) st → states' ≡ states ++ st ∷ [] → AreFirst (op_forms (take (i + 1) ops)) states'
+    → AreFirst (op_forms (take i ops)) states → AreFirstStates (kern_of d.kernel) st → states' ≡ states ++ st ∷ []
+    → AreFirst (op_forms (take (i + 1) ops)) states'
 first_next ops i d states states' st lt e f h n =
     subst (λ (l : List OpForm). AreFirst l states') (sym (map_more op_form ops i d lt e))
     (subst (AreFirst (op_forms (take i ops) ++ op_form d ∷ [])) (sym n) (first_more (op_forms (take i ops)) (op_form d) states st f h))
@@ -103,7 +104,13 @@ can_start_at ops i d c lt e =
 pub can_start : (p : PlanForm) → IsPlan p → CanStart p.ops
 can_start p v = record {
   formed =
-      λ o op g. record { reads = map (kind_of (all_decls p)) op.reads; writes = map (kind_of (all_decls p)) op.writes; vars = map (var_kind p.tables p.vars) op.vars; fits = op_fits p v o op g };
+      λ o op g. record {
+        reads = map (kind_of (all_decls p)) op.reads;
+        writes = map (kind_of (all_decls p)) op.writes;
+        vars =
+            map (var_kind p.tables p.vars) op.vars;
+        fits = op_fits p v o op g;
+      };
 }
 
 -- THE FIRST QUEUES
@@ -174,7 +181,8 @@ module _ (p : PlanForm) (v : IsPlan p) (inputs : List (List item.Item)) (fit : F
       let pb = place_below outs_n q lo in
       written_out ins_n (list_at inputs) (λ n. []) q (omega (arith, a, b, o, lo))
       ∙ sym (ap (list_at first_queues) (place_front outs_n (ins_n ++ others_n) q lo)
-      ∙ get_or-append (replicate {A = List item.Item} (length p.outputs) []) (inputs ++ replicate (length p.queues) []) [] (place outs_n q) (omega (arith, pb, before))
+      ∙ get_or-append (replicate {A = List item.Item} (length p.outputs) []) (inputs ++ replicate (length p.queues) []) [] (place outs_n q)
+      (omega (arith, pb, before))
       ∙ blank_at (length p.outputs) (place outs_n q)))
       (λ (zo : count q outs_n ≡ 0). ⊎_elim
       (λ (li : 0 < count q ins_n).
@@ -184,7 +192,8 @@ module _ (p : PlanForm) (v : IsPlan p) (inputs : List (List item.Item)) (fit : F
       ∙ get_or-append inputs (replicate (length p.queues) []) [] (place ins_n q) (omega (arith, pb, many))))
       (λ (zi : count q ins_n ≡ 0).
       written_out ins_n (list_at inputs) (λ n. []) q zi
-      ∙ sym (past q (length ins_n + place others_n q) zo (place_back outs_n (ins_n ++ others_n) q zo ∙ ap (λ k. length outs_n + k) (place_back ins_n others_n q zi))
+      ∙ sym (past q (length ins_n + place others_n q) zo
+      (place_back outs_n (ins_n ++ others_n) q zo ∙ ap (λ k. length outs_n + k) (place_back ins_n others_n q zi))
       ∙ ap (λ k. list_at (inputs ++ replicate (length p.queues) []) (k + place others_n q)) (sym many)
       ∙ get_or-append-add inputs (replicate (length p.queues) []) (place others_n q) []
       ∙ blank_at (length p.queues) (place others_n q)))
@@ -222,7 +231,8 @@ first p pl inputs queues cs states tables v fit pe qe f ce te =
       kept = λ o op g. (f.stand o op g).after (map kinds op.reads);
     } in
     let cs_are : Counts m [] = λ o lt. ap (λ (l : List ℕ). slice_index_or l o 0) ce ∙ zero_at (length p.ops) o ∙ sym (min_zero most_firings) in
-    subst (λ (x : PlanForm). First p inputs (record { plan = x; queues = queues; tables = tables; states = states; counts = cs; stopped = false })) (sym pe) (record {
+    subst (λ (x : PlanForm). First p inputs (record { plan = x; queues = queues; tables = tables; states = states; counts = cs; stopped = false })) (sym pe)
+    (record {
       starts = record { plan = refl; running = refl; stands = stands; counts = cs_are };
       goes_on = record {
         valid = v;

@@ -1,5 +1,5 @@
 -- The first states of kernels.
-use Rattle.std.proofs.Common.{◌≡◌, ℕ, ◌-◌, ℤ, Ok, Err, List, [], ◌∷◌, ◌++◌, length, refl, sym, ap, ◌∙◌, subst, IfOk}
+use Rattle.std.proofs.Common.{◌≡◌, ℕ, ℤ, Ok, Err, List, [], ◌∷◌, ◌++◌, length, refl, sym, ap, ◌∙◌, subst, IfOk}
 use Rattle.std.specs.declared.result.Result.{Result}
 use Rattle.river_base.specs.declared.memory.NoMemory.{NoMemory}
 use Rattle.river_base.specs.declared.kind.QueueType.{QueueType}
@@ -107,7 +107,8 @@ joiner_first ws st f e =
 pub unpacker_first : (n : ℕ) (st : List State) → IsFormed (unpack n) → st ≡ state.Join (join_start n) ∷ [] → AreFirstStates (unpack n) st
 unpacker_first n st f e =
     first_of (unpack n) st f
-    (λ reads. subst (λ (l : List State). StandsAfter (unpack n) reads (first_kept (unpack n)) l []) (sym e) (unpack_first_after n reads (formed_shaped (unpack n) f)))
+    (λ reads. subst (λ (l : List State). StandsAfter (unpack n) reads (first_kept (unpack n)) l []) (sym e)
+    (unpack_first_after n reads (formed_shaped (unpack n) f)))
     (λ reads writes vars fits. subst (FitState (unpack n) reads) (sym e) (unpack_first_fits n reads (formed_shaped (unpack n) f)))
 
 -- a window
@@ -145,7 +146,8 @@ packed_first k st h = record {
 }
 
 -- two kernels keep what the first keeps and then what the second keeps
-pub fused_first : (a b : Kern) (at : ℕ) (st st' : List State) → IsFormed (fused a b at) → AreFirstStates a st → AreFirstStates b st' → AreFirstStates (fused a b at) (st ++ st')
+pub fused_first : (a b : Kern) (at : ℕ) (st st' : List State) → IsFormed (fused a b at) → AreFirstStates a st → AreFirstStates b st'
+    → AreFirstStates (fused a b at) (st ++ st')
 fused_first a b at st st' f h g = record {
   start = λ reads. first_is_start (fused a b at) reads (formed_shaped (fused a b at) f);
   after = λ reads.
@@ -159,7 +161,8 @@ fused_first a b at st st' f h g = record {
       (subst (λ ss. StandsAfter b inner ss st' []) (sym rest) (g.after inner));
   again = λ reads writes vars fits.
       parts_fit a b at reads st st' (h.again reads fits.0 fits.3 fits.5)
-      (subst (λ (l : List QueueType). FitState b l st') (sym (between_is a reads fits.0 fits.1 fits.3 at fits.5 fits.6)) (g.again (fits.1 ∷ []) fits.2 fits.4 fits.7));
+      (subst (λ (l : List QueueType). FitState b l st') (sym (between_is a reads fits.0 fits.1 fits.3 at fits.5 fits.6))
+      (g.again (fits.1 ∷ []) fits.2 fits.4 fits.7));
 }
 
 -- THE PLAIN FORM OF EACH KERNEL

@@ -134,7 +134,8 @@ found t h hs n i e g =
     let b = one_of (held t (take n h) (x ∷ [])) (length-held t (take n h) (x ∷ [])) in
     let c = held t (take n h ++ x ∷ []) s.1 in
     let la : length a ≡ n = length-held t [] (take n h) ∙ (let k = length-take n h in omega (arith, k, lt)) in
-    let all : hs ≡ a ++ b.0 ∷ c = e ∙ ap (held t []) s.2 ∙ held-append t [] (take n h) (x ∷ s.1) ∙ ap (λ l. a ++ l) (held-append t (take n h) (x ∷ []) s.1 ∙ ap (λ l. l ++ c) b.1) in
+    let all : hs ≡ a ++ b.0 ∷ c = e ∙ ap (held t []) s.2 ∙ held-append t [] (take n h) (x ∷ s.1)
+    ∙ ap (λ l. a ++ l) (held-append t (take n h) (x ∷ []) s.1 ∙ ap (λ l. l ++ c) b.1) in
     let is : Some i ≡ Some b.0 = sym g ∙ ap (λ l. slice_get l n) all ∙ got_at a b.0 c n la in
     record { item = x; item_is = s.3; held_is = b.1 ∙ ap (λ y. y ∷ []) (sym (some_is i b.0 is)) }
 
@@ -191,7 +192,8 @@ next_parts m o queues st ts = record {
   stopped = false;
 }
 
-module _ (m : Parts) (o port : ℕ) (q : Name) (i : item.Item) (rest : List item.Item) (blank out : Emit) (st : List State) (queues : List (List item.Item)) (ts : List Kept) (g : GoesOn m) (r : ReadsAt m.plan o port q)
+module _ (m : Parts) (o port : ℕ) (q : Name) (i : item.Item) (rest : List item.Item) (blank out : Emit) (st : List State) (queues : List (List item.Item))
+    (ts : List Kept) (g : GoesOn m) (r : ReadsAt m.plan o port q)
     (hx : queue_of m q ≡ i ∷ rest) (b : IsBlank r.op.kernel blank)
     (f : FiresAt r.op.kernel port i blank out (states_of m o) st)
     (eq : queues ≡ each_grew (slice_set m.queues (place (queue_names m.plan) q) rest) (joined_at (places (queue_names m.plan) r.op.writes) (list_at out.outs)))
@@ -265,15 +267,18 @@ module _ (m : Parts) (o port : ℕ) (q : Name) (i : item.Item) (rest : List item
   abbrev taken_next : Machine → Name → ℕ
   taken_next s = at_name q (s.taken q + 1) s.taken
 
-  left_next : (s : Machine) → StandsForMachine m s → (n : Name) → 0 < count n names → list_at base (place names n) ≡ drop (taken_next s n) (held (kinds n) [] (s.hist n))
+  left_next : (s : Machine) → StandsForMachine m s → (n : Name) → 0 < count n names
+      → list_at base (place names n) ≡ drop (taken_next s n) (held (kinds n) [] (s.hist n))
   left_next s h n lt = ⊎_elim
       (λ c.
-      let d : drop (s.taken q + 1) (held (kinds q) [] (s.hist q)) ≡ rest = drop_next (held (kinds q) [] (s.hist q)) (s.taken q) i rest (sym (h.left q q_there) ∙ hx) in
+      let d : drop (s.taken q + 1) (held (kinds q) [] (s.hist q)) ≡ rest =
+      drop_next (held (kinds q) [] (s.hist q)) (s.taken q) i rest (sym (h.left q q_there) ∙ hx) in
       ap (λ (w : Name). list_at base (place names w)) (sym c.0) ∙ base_here ∙ sym d
       ∙ ap (λ (w : Name). drop (s.taken q + 1) (held (kinds w) [] (s.hist w))) c.0
       ∙ ap (λ k. drop k (held (kinds n) [] (s.hist n))) (sym (if_true (name_eq q n) (s.taken q + 1) (s.taken n) c.1)))
       (λ c.
-      base_other n lt (λ e. c.0 (sym e)) ∙ h.left n lt ∙ ap (λ k. drop k (held (kinds n) [] (s.hist n))) (sym (if_false (name_eq q n) (s.taken q + 1) (s.taken n) c.1)))
+      base_other n lt (λ e. c.0 (sym e)) ∙ h.left n lt
+      ∙ ap (λ k. drop k (held (kinds n) [] (s.hist n))) (sym (if_false (name_eq q n) (s.taken q + 1) (s.taken n) c.1)))
       (cases_name q n)
 
   within_next : (s : Machine) → StandsForMachine m s → s.taken q < length (s.hist q) → (n : Name) → taken_next s n ≤ length (s.hist n)
@@ -309,7 +314,8 @@ module _ (m : Parts) (o port : ℕ) (q : Name) (i : item.Item) (rest : List item
       ∙ kept_next m.plan.tables mine s.rows f_s out.adds
       (λ n. let u = g.valid.variables_once n in let a = count-append n names_t m.plan.vars in omega (arith, u, a))
       (λ n lt. among_known names_t r.op.vars n lt)
-      (λ j lt. ap (λ (l : List (List (List ℤ))). list_at l j) (t ∙ ap (λ l. each_grew l f_s) b.adds) ∙ each_grew-blanks (tabs r.op.kernel) f_s j [] (omega (arith, lt, many)))
+      (λ j lt. ap (λ (l : List (List (List ℤ))). list_at l j) (t ∙ ap (λ l. each_grew l f_s) b.adds)
+      ∙ each_grew-blanks (tabs r.op.kernel) f_s j [] (omega (arith, lt, many)))
 
   -- what holds of the operator that fired by its new word and states, and of the others by their old ones, holds of all
   at_each : (P : (op : OpForm) → List State → Word → Type 0) (w : Word) (ws : ℕ → Word)
@@ -319,8 +325,10 @@ module _ (m : Parts) (o port : ℕ) (q : Name) (i : item.Item) (rest : List item
       let below : o < length m.states = let l = g.laid_out.states in omega (arith, o_below, l) in
       ⊎_elim
       (λ e. at_same m.plan.ops (λ j d. P d (list_at (slice_set m.states o st) j) (at_key o w ws j)) o o' r.op op' r.op_is g' e
-      (subst (λ (u : List State). P r.op u (at_key o w ws o)) (sym (get_or-set_same m.states o st [] below)) (subst (P r.op st) (sym (at_key_same o w ws)) new)))
-      (λ n. subst (λ (u : List State). P op' u (at_key o w ws o')) (sym (get_or-set_other m.states o o' st [] (λ e. n (sym e)))) (subst (P op' (list_at m.states o')) (sym (at_key_other o w ws o' n)) (old o' op' g')))
+      (subst (λ (u : List State). P r.op u (at_key o w ws o)) (sym (get_or-set_same m.states o st [] below))
+      (subst (P r.op st) (sym (at_key_same o w ws)) new)))
+      (λ n. subst (λ (u : List State). P op' u (at_key o w ws o')) (sym (get_or-set_other m.states o o' st [] (λ e. n (sym e))))
+      (subst (P op' (list_at m.states o')) (sym (at_key_other o w ws o' n)) (old o' op' g')))
       (cases_eq o o')
 
   after : (s : Machine) → StandsForMachine m s → StandsAfterFiring m m' o port s
@@ -334,7 +342,9 @@ module _ (m : Parts) (o port : ℕ) (q : Name) (i : item.Item) (rest : List item
       let is_start = first_is_start r.op.kernel reads (shaped r.op.kernel reads writes _ fits) in
       let before = ran_from r.op.kernel first w in
       let typed_w = h.received o r.op r.op_is in
-      let typed_x : IsOf reads port x = subst (λ t. IsTyped t x) (sym (kind_got kinds r.op.reads port q r.queue_is)) (got_all (HasType (kinds q)) (s.hist q) (s.taken q) x (h.typed q) it.item_is) in
+      let typed_x : IsOf reads port x =
+      subst (λ t. IsTyped t x) (sym (kind_got kinds r.op.reads port q r.queue_is))
+      (got_all (HasType (kinds q)) (s.hist q) (s.taken q) x (h.typed q) it.item_is) in
       let held_x : held_at reads port (at_port port w) (x ∷ []) ≡ i ∷ [] =
       ap (λ t. held_by t (at_port port w) (x ∷ [])) (kind_got kinds r.op.reads port q r.queue_is)
       ∙ ap (λ l. held (kinds q) l (x ∷ [])) (h.traced.taken o r.op r.op_is port q r.queue_is).0 ∙ it.held_is in
@@ -342,7 +352,9 @@ module _ (m : Parts) (o port : ℕ) (q : Name) (i : item.Item) (rest : List item
       let kept_is : before.states ≡ s.kept o = sym (h.traced.kept o r.op r.op_is) in
       let res = fire r.op.kernel port x (s.kept o) in
       let took : TookHeld writes before blank out res = subst (λ us. TookHeld writes before blank out (fire r.op.kernel port x us)) kept_is gave.0 in
-      let typed_out : AreOf writes res.outs = subst (λ us. AreOf writes (fire r.op.kernel port x us).outs) kept_is (fired_typed r.op.kernel reads writes _ first w port x fits is_start typed_w typed_x) in
+      let typed_out : AreOf writes res.outs =
+      subst (λ us. AreOf writes (fire r.op.kernel port x us).outs) kept_is
+      (fired_typed r.op.kernel reads writes _ first w port x fits is_start typed_w typed_x) in
       let next = w ++ (port, x) ∷ [] in
       record {
         state = fired (table_names m.plan.tables) o r.op port q x s;
@@ -353,18 +365,21 @@ module _ (m : Parts) (o port : ℕ) (q : Name) (i : item.Item) (rest : List item
               let k : taken_next s n ≤ length before_n = let l = length-held (kinds n) [] (s.hist n) in let d = more n in omega (arith, l, d) in
               queue_is (λ j. held_at writes j (before.outs j) (res.outs j)) took.outs n lt
               ∙ ap (λ l. l ++ joined r.op.writes (λ j. held_at writes j (before.outs j) (res.outs j)) n) (left_next s h n lt)
-              ∙ ap (λ l. drop (taken_next s n) before_n ++ l) (joined_held kinds r.op.writes before.outs res.outs s.hist n (once n) (h.traced.written_by o r.op r.op_is))
+              ∙ ap (λ l. drop (taken_next s n) before_n ++ l)
+              (joined_held kinds r.op.writes before.outs res.outs s.hist n (once n) (h.traced.written_by o r.op r.op_is))
               ∙ sym (drop-append-le (taken_next s n) before_n (held (kinds n) (s.hist n) (joined r.op.writes res.outs n)) k)
               ∙ ap (drop (taken_next s n)) (sym (held-append (kinds n) [] (s.hist n) (joined r.op.writes res.outs n)));
           within = λ n. let l = length-append (s.hist n) (joined r.op.writes res.outs n) in let d = more n in omega (arith, l, d);
           unread = unread_next s h;
           typed =
-              λ n. All-append (HasType (kinds n)) (s.hist n) (joined r.op.writes res.outs n) (h.typed n) (joined_all IsTyped kinds r.op.writes res.outs typed_out n);
+              λ n. All-append (HasType (kinds n)) (s.hist n) (joined r.op.writes res.outs n) (h.typed n)
+              (joined_all IsTyped kinds r.op.writes res.outs typed_out n);
           tables = tables_next s res.adds h took.adds;
           inputs = h.inputs;
           words = at_key o next h.words;
           traced =
-              traced_fired m.plan (given_to m.plan h.inputs) g.valid (λ n z. nothing_given (decl_names m.plan.inputs) (list_at h.inputs) n z) s h.words o port r.op q x h.traced r.op_is r.queue_is it.item_is;
+              traced_fired m.plan (given_to m.plan h.inputs) g.valid
+              (λ n z. nothing_given (decl_names m.plan.inputs) (list_at h.inputs) n z) s h.words o port r.op q x h.traced r.op_is r.queue_is it.item_is;
           received =
               at_each (λ op u v. IsWordOf (map (kinds_of m) op.reads) v) next h.words h.received (at_append reads w ((port, x) ∷ []) typed_w (typed_x, tt));
           kept = at_each (λ op u v. StandsAfter op.kernel (map (kinds_of m) op.reads) (first_kept op.kernel) u v) next h.words h.kept gave.1;
@@ -386,12 +401,14 @@ module _ (m : Parts) (o port : ℕ) (q : Name) (i : item.Item) (rest : List item
       (λ e.
       let c = h n lt in
       let one : (if nat_eq o n then 1 else 0) ≡ 1 = if_eq o n 1 0 e in
-      ap (λ k. slice_index_or (slice_set m.counts k (min most_firings (firing_count m k + 1))) n 0) e ∙ get_or-set_same m.counts n (min most_firings (firing_count m n + 1)) 0 below
+      ap (λ k. slice_index_or (slice_set m.counts k (min most_firings (firing_count m k + 1))) n 0) e
+      ∙ get_or-set_same m.counts n (min most_firings (firing_count m n + 1)) 0 below
       ∙ ap (λ k. min most_firings (k + 1)) c ∙ sum_min most_firings (times n es) ∙ ap (min most_firings) (sym (t ∙ ap (λ k. times n es + k) one)))
       (λ ne.
       let c = h n lt in
       let none : (if nat_eq o n then 1 else 0) ≡ 0 = if_ne o n 1 0 ne in
-      get_or-set_other m.counts o n (min most_firings (firing_count m o + 1)) 0 (λ e. ne (sym e)) ∙ c ∙ ap (min most_firings) (sym (t ∙ ap (λ k. times n es + k) none ∙ omega arith)))
+      get_or-set_other m.counts o n (min most_firings (firing_count m o + 1)) 0 (λ e. ne (sym e)) ∙ c
+      ∙ ap (min most_firings) (sym (t ∙ ap (λ k. times n es + k) none ∙ omega arith)))
       (cases_eq o n)
 
   -- the machine made one step of the definition
@@ -412,7 +429,8 @@ module _ (m : Parts) (o port : ℕ) (q : Name) (i : item.Item) (rest : List item
         };
         fit = at_each (λ op u v. FitState op.kernel (map (kinds_of m) op.reads) u) [] (λ j. []) g.fit does.came.again;
         items = λ n lt. subst (λ (l : List item.Item). All (IsHeld (kinds n)) l) (sym (queue_is does.came.outs does.came.outs_are n lt))
-            (All-append (IsHeld (kinds n)) (list_at base (place names n)) (joined r.op.writes does.came.outs n) (base_held n lt) (joined_all IsHeldBy kinds r.op.writes does.came.outs does.came.held n));
+            (All-append (IsHeld (kinds n)) (list_at base (place names n)) (joined r.op.writes does.came.outs n) (base_held n lt)
+            (joined_all IsHeldBy kinds r.op.writes does.came.outs does.came.held n));
         inputs = g.inputs;
         typed = g.typed;
         ran = record {

@@ -66,7 +66,8 @@ module _ (s : Streamer) (n : ℕ) (c : Change) (g : Batch) (now now' : List (Lis
   GivesFor start w x = TookHeld (stream n ∷ []) (ran_from (streamer s) start w) out out' (fire (streamer s) 0 x (ran_from (streamer s) start w).states)
       × StreamerStands s start (state.Streamer now' ∷ []) (w ++ (0, x) ∷ [])
 
-  streamer_step : StreamsChange s c now now' g → Took out out' (gives 0 (Flat (Batched g) ∷ []) []) → (start : List Kept) (w : Word) (b : Batch) → IsAscending b.rows
+  streamer_step : StreamsChange s c now now' g → Took out out' (gives 0 (Flat (Batched g) ∷ []) []) → (start : List Kept) (w : Word) (b : Batch)
+      → IsAscending b.rows
       → StreamerStands s start (state.Streamer now ∷ []) w → c ≡ change_to (content_from [] (at_port 0 w)) b → GivesFor start w (Flat (Batched b))
   streamer_step f took start w b up a is =
       let x : item.Item = Flat (Batched b) in
@@ -118,7 +119,8 @@ streamer_does s c g now now' out out' f fits took = record {
       let again : FitStreamer (relation n ∷ []) (state.Streamer now' ∷ []) =
       record { now = now'; code = refl; wide = λ m e. subst (λ k. HaveWidth k now') (same_relation n m e) r.0 } in
       let st' = state.Streamer now' ∷ [] in
-      does_at (streamer s) 0 (Flat (Changed c)) out out' (state.Streamer now ∷ []) st' reads (relation n ∷ []) writes (stream n ∷ []) vars (Private ∷ []) t.1 t.2 t.3 (
+      does_at (streamer s) 0 (Flat (Changed c)) out out' (state.Streamer now ∷ []) st' reads (relation n ∷ []) writes (stream n ∷ []) vars
+      (Private ∷ []) t.1 t.2 t.3 (
       record {
         gives = streamer_gives s n c g now now' out out' f took;
         came = came_first (streamer s) (relation n ∷ []) (stream n) (Private ∷ []) [] out out' (state.Streamer now' ∷ []) (Flat (Batched g) ∷ []) took

@@ -30,5 +30,6 @@ tally_room k out ek r = let e = r.adds ∙ ap tabs ek in omega (arith, e)
 pub tally_fires : (k : Kern) (port : ℕ) (x : item.Item) (st : List State) (out out' : Emit) → k ≡ tally → out'.outs ≡ out.outs
     → out'.adds ≡ each_grew out.adds (only 0 (values_of x ∷ [])) → Fires k out out' st st (fire k port x)
 tally_fires k port x st out out' ek eo ea =
-    let whole : Fires tally out out' st st (fire tally port x) = record { given = λ ks h. (record { outs = eo ∙ sym (each_grew-none out.outs); adds = ea }, h) } in
+    let whole : Fires tally out out' st st (fire tally port x) =
+    record { given = λ ks h. (record { outs = eo ∙ sym (each_grew-none out.outs); adds = ea }, h) } in
     subst (λ (j : Kern). Fires j out out' st st (fire j port x)) (sym ek) whole

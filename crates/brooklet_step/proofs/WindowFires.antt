@@ -133,7 +133,8 @@ window_does v b c now now' out out' f fits took = record {
         wide = λ m e. subst (λ k. HaveWidth k (map (λ (s : Stamped). s.1) now'.rows)) (same_stream n m e) r.1;
       } in
       let st' = state.Window now' ∷ [] in
-      does_at (window v) 0 (Flat (Batched b)) out out' (state.Window now ∷ []) st' reads (stream n ∷ []) writes (relation n ∷ []) vars (Private ∷ []) t.1 t.2 t.3 (
+      does_at (window v) 0 (Flat (Batched b)) out out' (state.Window now ∷ []) st' reads (stream n ∷ []) writes (relation n ∷ []) vars
+      (Private ∷ []) t.1 t.2 t.3 (
       record {
         gives = window_gives v n b c now now' out out' f took;
         came = came_first (window v) (stream n ∷ []) (relation n) (Private ∷ []) [] out out' (state.Window now' ∷ []) (Flat (Changed c) ∷ []) took
@@ -143,7 +144,8 @@ window_does v b c now now' out out' f fits took = record {
 }
 
 -- so is what it gives
-pub window_step_does : (v : Window) (b : Batch) (items : List item.Item) (now now' : WindowKept) (out out' : Emit) → GaveChange (WindowSteps v b now now') [] items
+pub window_step_does : (v : Window) (b : Batch) (items : List item.Item) (now now' : WindowKept) (out out' : Emit)
+    → GaveChange (WindowSteps v b now now') [] items
     → Took out out' (gives 0 items []) → FiresAt (window v) 0 (Flat (Batched b)) out out' (state.Window now ∷ []) (state.Window now' ∷ [])
 window_step_does v b items now now' out out' g took =
     window_does v b g.change now now' out out' g.is.contents g.is.fits (subst (λ l. Took out out' (gives 0 l [])) g.grew took)

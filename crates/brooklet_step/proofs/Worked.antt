@@ -20,7 +20,8 @@ slots_law z v reads writes vars out out' st' f hi b fires =
     let x = single_row v in
     let g = step_law give_slot reads writes vars 0 x x (state.Slots (z ∷ []) ∷ []) st' out out' now f
     (record { slots = z ∷ []; code = refl; count = refl }) hi fires (record { shape = refl; holds = tt })
-    (record { slots = z ∷ []; code = refl; defined = refl; count = refl }) (of_plain reads 0 x (plain reads 0 f.0) hi) (at-plain reads 0 [] (x ∷ []) (plain reads 0 f.0)) in
+    (record { slots = z ∷ []; code = refl; defined = refl; count = refl }) (of_plain reads 0 x (plain reads 0 f.0) hi)
+    (at-plain reads 0 [] (x ∷ []) (plain reads 0 f.0)) in
     grown_list 1 out.outs out'.outs (λ p. held_at writes p [] ((fire give_slot 0 x now).outs p)) 0 b.outs g.outs (omega arith)
     ∙ at-plain writes 0 [] ((fire give_slot 0 x now).outs 0) (plain writes 0 f.1)
   where

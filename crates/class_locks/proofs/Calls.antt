@@ -37,7 +37,8 @@ module _ (z : TableId) (about : About) where
   Rule = IsKept about.seats about.cells.value
 
   -- a place that sits as before
-  pub resits : (p p' : Place) (w : View) → IsSeated z about p → p'.table_id ≡ p.table_id → p'.me ≡ (w, []) → w.parts ≡ p.me.0.parts → w.seats ≡ p.me.0.seats → w.starts ≡ p.me.0.starts → w.hand ≡ []
+  pub resits : (p p' : Place) (w : View) → IsSeated z about p → p'.table_id ≡ p.table_id → p'.me ≡ (w, []) → w.parts ≡ p.me.0.parts → w.seats ≡ p.me.0.seats
+      → w.starts ≡ p.me.0.starts → w.hand ≡ []
       → ((c : ℕ) (x : Holding) → TookAt c x w.held → c < length about.cells.value) → IsSeated z about p'
   resits p p' w h table me parts seats starts hand within = record {
     table = table ∙ h.table;
@@ -66,11 +67,13 @@ module _ (z : TableId) (about : About) where
         h.table,
         inside p c h lt',
         subst (λ k. Allows Rule z.slots p.id p.me k (λ w. either (eqb w 0) 1 w) (took (step z.slots k 0 1 none) p.me)) word
-            (subst (λ (m : List (ℕ × Option Holding)). Allows Rule z.slots p.id (p.me.0, m) (suc c) (λ w. either (eqb w 0) 1 w) (took (step z.slots (suc c) 0 1 none) (p.me.0, m))) (sym h.empty) ok),
+            (subst (λ (m : List (ℕ × Option Holding)). Allows Rule z.slots p.id (p.me.0, m) (suc c) (λ w. either (eqb w 0) 1 w)
+            (took (step z.slots (suc c) 0 1 none) (p.me.0, m))) (sym h.empty) ok),
       )
 
   -- what parking the empty slot asks of the table
-  pub park_asks : (p p' : Place) (c : ℕ) (v : View) (x : Holding) → IsSeated z about p → c < length p.me.0.starts → p'.table_id ≡ z → p'.me ≡ (v, (c, None) ∷ []) → v.parts ≡ p.me.0.parts → v.hand ≡ record { class = c; taken = x } ∷ []
+  pub park_asks : (p p' : Place) (c : ℕ) (v : View) (x : Holding) → IsSeated z about p → c < length p.me.0.starts → p'.table_id ≡ z
+      → p'.me ≡ (v, (c, None) ∷ []) → v.parts ≡ p.me.0.parts → v.hand ≡ record { class = c; taken = x } ∷ []
       → (p'.table_id ≡ z) × (c + 1 < z.words) × Allows Rule z.slots p'.id p'.me (c + 1) (λ w. w) (parks (step z.slots (c + 1) 0 0 none) p'.me)
   park_asks p p' c v x h lt table me parts hand =
       let lt' : c < length about.cells.value = subst (λ (s : List Holding). c < length s) h.starts lt in
@@ -91,15 +94,19 @@ module _ (z : TableId) (about : About) where
         h.table,
         inside p c h (h.within c x (find_took c p.me.0.held x found)),
         subst (λ k. Allows Rule z.slots p.id p.me k (λ w. w) (fetches (step z.slots k 0 0 none) p.me)) word
-            (subst (λ (m : List (ℕ × Option Holding)). Allows Rule z.slots p.id (p.me.0, m) (suc c) (λ w. w) (fetches (step z.slots (suc c) 0 0 none) (p.me.0, m))) (sym h.empty) ok),
+            (subst (λ (m : List (ℕ × Option Holding)). Allows Rule z.slots p.id (p.me.0, m) (suc c) (λ w. w)
+            (fetches (step z.slots (suc c) 0 0 none) (p.me.0, m))) (sym h.empty) ok),
       )
 
   -- what freeing a class asks of the table
-  pub free_asks : (p p' : Place) (c : ℕ) (x y : Holding) → IsSeated z about p → p'.table_id ≡ z → p'.me ≡ (fetched c x p.me.0, (c, Some y) ∷ []) → find_held c p.me.0.held ≡ Some x → MayPut c y p.me.0
+  pub free_asks : (p p' : Place) (c : ℕ) (x y : Holding) → IsSeated z about p → p'.table_id ≡ z → p'.me ≡ (fetched c x p.me.0, (c, Some y) ∷ [])
+      → find_held c p.me.0.held ≡ Some x → MayPut c y p.me.0
       → (p'.table_id ≡ z) × (c + 1 < z.words) × Allows Rule z.slots p'.id p'.me (c + 1) (λ _. 0) (λ _. frees (step z.slots (c + 1) 0 0 none) p'.me 0)
   free_asks p p' c x y h table me found may =
       let same : may.taken ≡ x = ap (λ o. unwrap_or o x) (sym may.held ∙ found) in
-      let ok = frees_ok about.seats about.cells.value z.slots p'.id c (fetched c x p.me.0) x y may.more h.one h.has refl (may.kinds ∙ ap (λ (t : Holding). t.kinds) same) (may.log ∙ ap (λ (t : Holding). t.log ++ may.more) same) (subst (λ n. Belong n p.me.0.parts may.more) h.seats may.belong) in
+      let ok = frees_ok about.seats about.cells.value z.slots p'.id c (fetched c x p.me.0) x y may.more h.one h.has refl
+      (may.kinds ∙ ap (λ (t : Holding). t.kinds) same) (may.log ∙ ap (λ (t : Holding). t.log ++ may.more) same)
+      (subst (λ n. Belong n p.me.0.parts may.more) h.seats may.belong) in
       let word : suc c ≡ c + 1 = omega arith in (
         table,
         inside p c h (h.within c x (find_took c p.me.0.held x found)),
@@ -110,7 +117,13 @@ module _ (z : TableId) (about : About) where
   -- what joining two seats asks of the table
   pub join_asks : (p q : Place) → IsSeated z about p → q.table_id ≡ z → q.me.0.hand ≡ [] → q.me.0.held ≡ [] → q.me.1 ≡ []
       → (p.table_id ≡ z) × (q.table_id ≡ z) × (q.me.1 ≡ []) × (0 < z.words) × Joins Rule p.id p.me.0 q.id q.me.0 (both_views p.me.0 q.me.0) spent
-  join_asks p q h table hand held empty = (h.table, table, empty, subst (λ n. 0 < n) (sym h.wide) (omega arith), joins_ok about.seats about.cells.value p.id p.me.0 q.id q.me.0 h.one h.has hand held)
+  join_asks p q h table hand held empty = (
+    h.table,
+    table,
+    empty,
+    subst (λ n. 0 < n) (sym h.wide) (omega arith),
+    joins_ok about.seats about.cells.value p.id p.me.0 q.id q.me.0 h.one h.has hand held,
+  )
 
   -- after a seat that takes over another's parts
   pub rejoined : (p p' : Place) (w : View) → IsSeated z about p → p'.table_id ≡ p.table_id → p'.me ≡ (both_views p.me.0 w, p.me.1) → IsSeated z about p'
@@ -129,17 +142,22 @@ module _ (z : TableId) (about : About) where
   }
 
 -- what a put leaves
-pub put_view : (c : ℕ) (x y : Holding) (v : View) → find_held c v.held ≡ Some x → record (fetched c x v) { hand = []; claims = v.claims ++ beyond (record { class = c; taken = x } ∷ []) ((c, Some y) ∷ []) } ≡ after_put c y v
+pub put_view : (c : ℕ) (x y : Holding) (v : View) → find_held c v.held ≡ Some x
+    → record (fetched c x v) { hand = []; claims = v.claims ++ beyond (record { class = c; taken = x } ∷ []) ((c, Some y) ∷ []) } ≡ after_put c y v
 put_view c x y v found = λ i. record v { hand = []; held = without_class c v.held; claims = v.claims ++ claims_of c (drop (log_length (sym found i)) y.log) }
 
 -- the value of the slot in hand is exchanged
-pub exchanged_me : (k : ℕ) (w : View) (a b : Option Holding) (m m' : Mine) (l : List (ℕ × Option Holding)) → m ≡ (w, (k, a) ∷ l) → l ≡ [] → m' ≡ (m.0, (k, b) ∷ rest m.1) → m' ≡ (w, (k, b) ∷ [])
+pub exchanged_me : (k : ℕ) (w : View) (a b : Option Holding) (m m' : Mine) (l : List (ℕ × Option Holding)) → m ≡ (w, (k, a) ∷ l) → l ≡ []
+    → m' ≡ (m.0, (k, b) ∷ rest m.1) → m' ≡ (w, (k, b) ∷ [])
 exchanged_me k w a b m m' l e nil x = x ∙ (ap (λ (q : Mine). (q.0, (k, b) ∷ rest q.1)) e ∙ (λ i. (w, (k, b) ∷ nil i)))
 
 -- and after the store
-pub stored_me : (k : ℕ) (x y : Holding) (v : View) (m m' : Mine) → find_held k v.held ≡ Some x → m ≡ (fetched k x v, (k, Some y) ∷ []) → m' ≡ (record m.0 { hand = []; claims = m.0.claims ++ beyond m.0.hand m.1 }, []) → m' ≡ (after_put k y v, [])
-stored_me k x y v m m' found e s = s ∙ (ap (λ (q : Mine). (record q.0 { hand = []; claims = q.0.claims ++ beyond q.0.hand q.1 }, [])) e ∙ ap (λ (w : View). (w, [])) (put_view k x y v found))
+pub stored_me : (k : ℕ) (x y : Holding) (v : View) (m m' : Mine) → find_held k v.held ≡ Some x → m ≡ (fetched k x v, (k, Some y) ∷ [])
+    → m' ≡ (record m.0 { hand = []; claims = m.0.claims ++ beyond m.0.hand m.1 }, []) → m' ≡ (after_put k y v, [])
+stored_me k x y v m m' found e s = s
+    ∙ (ap (λ (q : Mine). (record q.0 { hand = []; claims = q.0.claims ++ beyond q.0.hand q.1 }, [])) e ∙ ap (λ (w : View). (w, [])) (put_view k x y v found))
 
 -- one class more is held, and all are below n
-pub took_more : (k n : ℕ) (x : Holding) (hs : List Held) → k < n → ((c : ℕ) (y : Holding) → TookAt c y hs → c < n) → (c : ℕ) (y : Holding) → TookAt c y (record { class = k; taken = x } ∷ hs) → c < n
+pub took_more : (k n : ℕ) (x : Holding) (hs : List Held) → k < n → ((c : ℕ) (y : Holding) → TookAt c y hs → c < n) → (c : ℕ) (y : Holding)
+    → TookAt c y (record { class = k; taken = x } ∷ hs) → c < n
 took_more k n x hs lt f c y t = ⊎_elim (λ h. subst (λ m. m < n) h.0 lt) (λ h. f c y h) t

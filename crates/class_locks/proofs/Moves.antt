@@ -32,7 +32,8 @@ module _ (n : ℕ) (starts : List Holding) where
     kinds = l.kinds;
     log = l.log;
     owns = λ i u e k h. ⊎_elim
-        (λ t. let g = same k (subst (λ (z : View). StandsIn k z.parts) (sym t.1) h) in l.owns j v at k g.0 ∙ (sym g.1 ∙ ap (λ (z : View). own n k c z.claims) t.1))
+        (λ t. let g = same k (subst (λ (z : View). StandsIn k z.parts) (sym t.1) h) in l.owns j v at k g.0
+        ∙ (sym g.1 ∙ ap (λ (z : View). own n k c z.claims) t.1))
         (λ t. l.owns i u t.1 k h)
         (at_set views j i w u e);
   }
@@ -53,8 +54,10 @@ module _ (n : ℕ) (starts : List Holding) where
   }
 
   -- what one seat knows of it
-  pub is_logged : (views : List View) (j : ℕ) (v : View) (c : ℕ) (x : Holding) → get_elem? views j ≡ some v → (v.seats ≡ n) × (v.starts ≡ starts) → Logged n starts views c x → IsLogged v c x
-  is_logged views j v c x at same l = subst (λ m. Logged m v.starts (v ∷ []) c x) (sym same.0) (subst (λ (ss : List Holding). Logged n ss (v ∷ []) c x) (sym same.1) alone)
+  pub is_logged : (views : List View) (j : ℕ) (v : View) (c : ℕ) (x : Holding) → get_elem? views j ≡ some v → (v.seats ≡ n) × (v.starts ≡ starts)
+      → Logged n starts views c x → IsLogged v c x
+  is_logged views j v c x at same l =
+      subst (λ m. Logged m v.starts (v ∷ []) c x) (sym same.0) (subst (λ (ss : List Holding). Logged n ss (v ∷ []) c x) (sym same.1) alone)
     where
       alone : Logged n starts (v ∷ []) c x
       alone = record {
@@ -63,17 +66,33 @@ module _ (n : ℕ) (starts : List Holding) where
         given = l.given;
         kinds = l.kinds;
         log = l.log;
-        owns = λ i u e k h. let t = at_one v u i e in l.owns j v at k (subst (λ (z : View). StandsIn k z.parts) (sym t.1) h) ∙ ap (λ (z : View). own n k c z.claims) t.1;
+        owns = λ i u e k h. let t = at_one v u i e in l.owns j v at k (subst (λ (z : View). StandsIn k z.parts) (sym t.1) h)
+            ∙ ap (λ (z : View). own n k c z.claims) t.1;
       }
 
   -- a seat with a part knows that the locks are open
   pub opened : (s : Locks) (j : ℕ) (v : View) (k : ℕ) → IsKept n starts s → get_elem? s.views j ≡ some v → StandsIn k v.parts → IsOpen n starts s
-  opened s j v k kept at has = ⊎_elim (λ (shut : IsShut n starts s). absurd (subst (λ (z : View). StandsIn k z.parts) (shut.seats j v at) has)) (λ o. o) kept.state
+  opened s j v k kept at has =
+      ⊎_elim (λ (shut : IsShut n starts s). absurd (subst (λ (z : View). StandsIn k z.parts) (shut.seats j v at) has)) (λ o. o) kept.state
 
-  module _ (s : Locks) (wide : length s.words ≡ suc (length starts)) (deep : length s.homes ≡ length starts) (o : IsOpen n starts s) (j : ℕ) (v : View) (at : get_elem? s.views j ≡ some v) where
+  module _ (s : Locks) (wide : length s.words ≡ suc (length starts)) (deep : length s.homes ≡ length starts) (o : IsOpen n starts s) (j : ℕ) (v : View)
+      (at : get_elem? s.views j ≡ some v) where
     -- a seat tells that it tried
     pub looks : (ts : List Tried) → IsKept n starts (record { words = s.words; homes = s.homes; views = set s.views j (record v { takes = ts }) })
-    looks ts = record { wide = wide; deep = deep; state = inr (record { owner = o.owner; holder = o.holder; open_word = o.open_word; classes = classes; owners = λ k kn. longer (o.owner k) (o.owners k kn); seats = seats }) }
+    looks ts = record {
+      wide = wide;
+      deep = deep;
+      state =
+          inr (record {
+            owner = o.owner;
+            holder = o.holder;
+            open_word = o.open_word;
+            classes = classes;
+            owners =
+                λ k kn. longer (o.owner k) (o.owners k kn);
+            seats = seats;
+          });
+    }
       where
         w : View
         w = record v { takes = ts }
@@ -94,7 +113,8 @@ module _ (n : ℕ) (starts : List Holding) where
           taken = λ z. longer (o.holder d) (q.taken z);
         }
 
-        keeps_seat : (i : ℕ) (u u' : View) → u'.parts ≡ u.parts → u'.seats ≡ u.seats → u'.starts ≡ u.starts → u'.hand ≡ u.hand → u'.held ≡ u.held → u'.claims ≡ u.claims → SeatOk n starts s o.owner o.holder i u → SeatOk n starts s' o.owner o.holder i u
+        keeps_seat : (i : ℕ) (u u' : View) → u'.parts ≡ u.parts → u'.seats ≡ u.seats → u'.starts ≡ u.starts → u'.hand ≡ u.hand → u'.held ≡ u.held
+            → u'.claims ≡ u.claims → SeatOk n starts s o.owner o.holder i u → SeatOk n starts s' o.owner o.holder i u
         keeps_seat i u u' _ _ _ _ _ _ q = record {
           same = q.same;
           parts_in = q.parts_in;
@@ -110,7 +130,8 @@ module _ (n : ℕ) (starts : List Holding) where
           same = q.same;
           parts_in = q.parts_in;
           parts_all = q.parts_all;
-          grips = λ g d x r. let y = q.grips g d x (same_grip g d x r) in (record { there = y.0.there; word = y.0.word; mine = y.0.mine; logged = logs d x y.0.logged }, y.1);
+          grips = λ g d x r. let y =
+              q.grips g d x (same_grip g d x r) in (record { there = y.0.there; word = y.0.word; mine = y.0.mine; logged = logs d x y.0.logged }, y.1);
           holds = λ d lt z m. let r = q.holds d lt z m in (r.0, r.1, grip_same r.0 d r.1 r.2);
           claimed = q.claimed;
           idle = q.idle;
@@ -138,7 +159,8 @@ module _ (n : ℕ) (starts : List Holding) where
       pub moves : (p : ℕ) → StandsIn p v.parts → (c : ℕ) → c < length starts → (b : ℕ) → b < 2 → (h : maybe.Option (Option Holding))
           → (class_word s.words c ≡ 1 → o.holder c ≡ j)
           → (b ≡ 0 → (x : Holding) × (h ≡ some (Some x)) × Logged n starts (set s.views j w) c x)
-          → ((g : Bool) (d : ℕ) (x : Holding) → Grip g d x w → ((d ≢ c) × Grip g d x v) ⊎ ((d ≡ c) × (h ≡ lies g) × (b ≡ 1) × Logged n starts (set s.views j w) d x))
+          → ((g : Bool) (d : ℕ) (x : Holding) → Grip g d x w
+          → ((d ≢ c) × Grip g d x v) ⊎ ((d ≡ c) × (h ≡ lies g) × (b ≡ 1) × Logged n starts (set s.views j w) d x))
           → ((g : Bool) (d : ℕ) (x : Holding) → d ≢ c → Grip g d x v → Grip g d x w)
           → (b ≡ 1 → (g : Bool) × (x : Holding) × Grip g c x w)
           → Belong n v.parts (entries_of claims)
@@ -188,7 +210,8 @@ module _ (n : ℕ) (starts : List Holding) where
               (λ ne. let q = o.classes d dl in record {
                 small = subst (λ m. m < 2) (sym (word_else d ne)) q.small;
                 free = λ z. let f = q.free (sym (word_else d ne) ∙ z) in (f.0, home_else d ne ∙ f.1, others d f.0 ne f.2);
-                taken = λ z. subst (λ m. m < length (set s.views j w)) (sym (put_else o.holder c j d ne)) (longer (o.holder d) (q.taken (sym (word_else d ne) ∙ z)));
+                taken = λ z. subst (λ m. m < length (set s.views j w)) (sym (put_else o.holder c j d ne))
+                    (longer (o.holder d) (q.taken (sym (word_else d ne) ∙ z)));
               })
 
           there : (i : ℕ) (u : View) → i ≢ j → get_elem? s.views i ≡ some u → SeatOk n starts s' o.owner (put o.holder c j) i u
@@ -198,8 +221,16 @@ module _ (n : ℕ) (starts : List Holding) where
             parts_all = q.parts_all;
             grips = λ g d x r.
                 let y = q.grips g d x r in
-                let ne : d ≢ c = λ z. ni (sym y.0.mine ∙ (ap o.holder z ∙ mine (subst (λ m. class_word s.words m ≡ 1) z y.0.word))) in
-                (record { there = y.0.there; word = word_else d ne ∙ y.0.word; mine = put_else o.holder c j d ne ∙ y.0.mine; logged = others d x ne y.0.logged }, home_else d ne ∙ y.1);
+                let ne : d ≢ c = λ z. ni (sym y.0.mine ∙ (ap o.holder z ∙ mine (subst (λ m. class_word s.words m ≡ 1) z y.0.word))) in (
+                  record {
+                    there = y.0.there;
+                    word = word_else d ne ∙ y.0.word;
+                    mine = put_else o.holder c j d ne
+                        ∙ y.0.mine;
+                    logged = others d x ne y.0.logged;
+                  },
+                  home_else d ne ∙ y.1,
+                );
             holds = λ d dl z m.
                 let ne : d ≢ c = λ r. ni (sym m ∙ (ap (put o.holder c j) r ∙ put_here o.holder c j)) in
                 q.holds d dl (sym (word_else d ne) ∙ z) (sym (put_else o.holder c j d ne) ∙ m);
@@ -213,8 +244,16 @@ module _ (n : ℕ) (starts : List Holding) where
             parts_in = q.parts_in;
             parts_all = q.parts_all;
             grips = λ g d x r. ⊎_elim
-                (λ t. let y = q.grips g d x t.1 in
-                (record { there = y.0.there; word = word_else d t.0 ∙ y.0.word; mine = put_else o.holder c j d t.0 ∙ y.0.mine; logged = others d x t.0 y.0.logged }, home_else d t.0 ∙ y.1))
+                (λ t. let y = q.grips g d x t.1 in (
+                  record {
+                    there = y.0.there;
+                    word = word_else d t.0 ∙ y.0.word;
+                    mine = put_else o.holder c j d t.0
+                        ∙ y.0.mine;
+                    logged = others d x t.0 y.0.logged;
+                  },
+                  home_else d t.0 ∙ y.1,
+                ))
                 (λ t. (
                   record {
                     there = subst (λ m. m < length starts) (sym t.0) lt;
@@ -226,7 +265,8 @@ module _ (n : ℕ) (starts : List Holding) where
                 ))
                 (grip g d x r);
             holds = λ d dl z m. dite (ℕ_discrete d c)
-                (λ e. let r = hold (sym word_here ∙ (ap (class_word (set s.words (suc c) b)) (sym e) ∙ z)) in (r.0, r.1, subst (λ k. Grip r.0 k r.1 w) (sym e) r.2))
+                (λ e. let r = hold (sym word_here ∙ (ap (class_word (set s.words (suc c) b)) (sym e) ∙ z)) in
+                (r.0, r.1, subst (λ k. Grip r.0 k r.1 w) (sym e) r.2))
                 (λ ne. let r = q.holds d dl (sym (word_else d ne) ∙ z) (sym (put_else o.holder c j d ne) ∙ m) in (r.0, r.1, keep r.0 d r.1 ne r.2));
             claimed = claimed;
             idle = λ e. absurd (subst (StandsIn p) e has);
@@ -239,7 +279,8 @@ module _ (n : ℕ) (starts : List Holding) where
               (at_set s.views j i w u e)
 
     -- the cell goes home with entries of this seat's parts
-    pub logged_with : (w : View) (c : ℕ) (x y : Holding) (es : List LogEntry) → w.parts ≡ v.parts → w.claims ≡ v.claims ++ claims_of c es → y.kinds ≡ x.kinds → y.log ≡ x.log ++ es
+    pub logged_with : (w : View) (c : ℕ) (x y : Holding) (es : List LogEntry) → w.parts ≡ v.parts → w.claims ≡ v.claims ++ claims_of c es → y.kinds ≡ x.kinds
+        → y.log ≡ x.log ++ es
         → Belong n v.parts es → Logged n starts s.views c x → Logged n starts (set s.views j w) c y
     logged_with w c x y es same claims kinds log belong l = record {
       start = l.start;
@@ -255,6 +296,8 @@ module _ (n : ℕ) (starts : List Holding) where
           ∙ (sym (own-append n k c v.claims (claims_of c es)) ∙ (ap (own n k c) (sym claims) ∙ ap (λ (z : View). own n k c z.claims) t.1)))))
           (λ t.
           let apart : StandsIn k v.parts → ⊥ = λ r. t.0 (sym ((o.seats i u t.1).parts_in k h).1 ∙ ((o.seats j v at).parts_in k r).1) in
-          part-append n k l.growth es ∙ (ap (λ (a : List LogEntry). part n k l.growth ++ a) (part_none n k v.parts es belong apart) ∙ (append-nil (part n k l.growth) ∙ l.owns i u t.1 k h)))
+          part-append n k l.growth es
+          ∙ (ap (λ (a : List LogEntry). part n k l.growth ++ a) (part_none n k v.parts es belong apart)
+          ∙ (append-nil (part n k l.growth) ∙ l.owns i u t.1 k h)))
           (at_set s.views j i w u e);
     }

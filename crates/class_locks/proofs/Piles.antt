@@ -59,7 +59,8 @@ puts_held v items c x (h ∷ hs) e m b =
       may = record { taken = h.taken; more = m.1.more; held = found; kinds = m.1.kinds; log = m.1.log; belong = m.1.belong };
       pile = record {
         matches = subst (λ (l : List Held). Matches v.seats v.parts (reverse items) l) (sym left) m.2;
-        descend = subst (λ (l : List Held). AllBelow (length v.starts) l) (sym left) (below_more h.class (length v.starts) hs (let lt = b.0 in omega (arith, lt)) b.1);
+        descend = subst (λ (l : List Held). AllBelow (length v.starts) l) (sym left)
+            (below_more h.class (length v.starts) hs (let lt = b.0 in omega (arith, lt)) b.1);
       };
       claims =
           ap (λ (o : ℕ). (v.claims ++ claims_of c (drop o x.log)) ++ gained (reverse items) (without_class c v.held)) (ap log_length found)
@@ -76,7 +77,8 @@ puts v items all c x e p =
     puts_held v items c x v.held refl (subst (λ (l : List Piled). Matches v.seats v.parts l v.held) (ap reverse e ∙ turned items (c, x)) p.matches) p.descend
 
 -- what a pile gained, the last cell first
-pub gained_turned : (items all : List Piled) (c : ℕ) (x : Holding) (hs : List Held) → all ≡ items ++ (c, x) ∷ [] → gained (reverse all) hs ≡ gained ((c, x) ∷ reverse items) hs
+pub gained_turned : (items all : List Piled) (c : ℕ) (x : Holding) (hs : List Held) → all ≡ items ++ (c, x) ∷ []
+    → gained (reverse all) hs ≡ gained ((c, x) ∷ reverse items) hs
 gained_turned items all c x hs e = ap (λ (l : List Piled). gained l hs) (ap reverse e ∙ turned items (c, x))
 
 -- an empty pile holds nothing
@@ -101,7 +103,9 @@ logged_before v w c x same l = record {
       let at = at_one v u j e in
       let there = subst (λ (ps : List ℕ). StandsIn k ps) (sym same.parts) (subst (λ (y : View). StandsIn k y.parts) (sym at.1) h) in
       let own_w = l.owns 0 w refl k there in
-      ap (λ n. part n k l.growth) (sym same.seats) ∙ (own_w ∙ (ap (λ (n : ℕ). own n k c w.claims) same.seats ∙ (ap (λ (q : List Claim). own v.seats k c q) same.claims ∙ ap (λ (y : View). own v.seats k c y.claims) at.1)));
+      ap (λ n. part n k l.growth) (sym same.seats)
+      ∙ (own_w ∙ (ap (λ (n : ℕ). own n k c w.claims) same.seats
+      ∙ (ap (λ (q : List Claim). own v.seats k c q) same.claims ∙ ap (λ (y : View). own v.seats k c y.claims) at.1)));
 }
 
 -- nothing was taken
@@ -122,7 +126,8 @@ module _ (v w : View) (done : List ℕ) (items : List Piled) (t : HasTaken done 
   pub taken_more : (x : Holding) (w' : View) (all : List Piled) → AllBelow c w.held → c < length w.starts → w' ≡ with_class c x w → IsLogged w c x
       → all ≡ items ++ (c, x) ∷ [] → HasTaken (done ++ c ∷ []) v w' all
   taken_more x w' all below there e l a =
-      subst (λ (u : View). HasTaken (done ++ c ∷ []) v u all) (sym e) (subst (λ (ps : List Piled). HasTaken (done ++ c ∷ []) v (with_class c x w) ps) (sym a) (record {
+      subst (λ (u : View). HasTaken (done ++ c ∷ []) v u all) (sym e)
+      (subst (λ (ps : List Piled). HasTaken (done ++ c ∷ []) v (with_class c x w) ps) (sym a) (record {
         looked = record { seats = t.looked.seats; starts = t.looked.starts; parts = t.looked.parts; claims = t.looked.claims };
         pile = record {
           matches = subst (λ (l : List Piled). Matches w.seats w.parts l (with_class c x w).held) (sym (turned items (c, x)))
@@ -132,7 +137,8 @@ module _ (v w : View) (done : List ℕ) (items : List Piled) (t : HasTaken done 
         named = map-append (λ (p : Piled). p.0) items ((c, x) ∷ []) ∙ ap (λ (l : List ℕ). l ++ c ∷ []) t.named;
         as_taken = ap (λ (l : List Piled). gained l (with_class c x w).held) (turned items (c, x))
             ∙ (ap (λ (l : List LogEntry). claims_of c l ++ gained (reverse items) w.held) (drop_all (length x.log) x.log (omega arith)) ∙ t.as_taken);
-        logged = All-append (λ p. IsLogged v p.0 p.1) items ((c, x) ∷ []) t.logged (All-cons (λ p. IsLogged v p.0 p.1) (c, x) [] (logged_before v w c x t.looked l) (All-nil (λ p. IsLogged v p.0 p.1)));
+        logged = All-append (λ p. IsLogged v p.0 p.1) items ((c, x) ∷ []) t.logged
+            (All-cons (λ p. IsLogged v p.0 p.1) (c, x) [] (logged_before v w c x t.looked l) (All-nil (λ p. IsLogged v p.0 p.1)));
       }))
 
   -- a class that was found taken leaves the pile, which may be put
@@ -145,7 +151,8 @@ module _ (v w : View) (done : List ℕ) (items : List Piled) (t : HasTaken done 
     seats = p.seats ∙ (ap (λ (y : View). y.seats) e ∙ t.looked.seats);
     starts = p.starts ∙ (ap (λ (y : View). y.starts) e ∙ t.looked.starts);
     parts = p.parts ∙ (ap (λ (y : View). y.parts) e ∙ t.looked.parts);
-    claims = p.claims ∙ (ap (λ (y : View). y.claims ++ gained (reverse items) y.held) e ∙ (ap (λ (l : List Claim). w.claims ++ l) t.as_taken ∙ (append-nil w.claims ∙ t.looked.claims)));
+    claims = p.claims ∙ (ap (λ (y : View). y.claims ++ gained (reverse items) y.held) e
+        ∙ (ap (λ (l : List Claim). w.claims ++ l) t.as_taken ∙ (append-nil w.claims ∙ t.looked.claims)));
   }
 
 -- TRIES
@@ -165,7 +172,8 @@ took_tried v u w c x m e =
     record { more = m.more ++ t ∷ []; takes = one_tried v u w t m (ap (λ (y : View). y.takes) e) }
 
 -- a try that found its class taken, and puts after it
-busy_takes : (v u w z : View) (c : ℕ) → (m : HasMoreTries v u) → w ≡ tried c 1 u → z.takes ≡ w.takes → z.takes ≡ v.takes ++ (m.more ++ record { class = c; found = 1 } ∷ [])
+busy_takes : (v u w z : View) (c : ℕ) → (m : HasMoreTries v u) → w ≡ tried c 1 u → z.takes ≡ w.takes
+    → z.takes ≡ v.takes ++ (m.more ++ record { class = c; found = 1 } ∷ [])
 busy_takes v u w z c m e p = p ∙ one_tried v u w (record { class = c; found = 1 }) m (ap (λ (y : View). y.takes) e)
 
 -- a try that found its lock busy is one more of the tries

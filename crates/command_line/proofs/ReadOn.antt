@@ -46,7 +46,8 @@ still_apart w (v ∷ vs) a z = by (name_eq v w) refl (still_apart w vs)
 
 -- the command takes the phrase, which was not said before
 pub noted : (fits : Bool) (takes : ℕ) (made : Option Command) (command : Command) (key : List ℕ) (said said' : List (List ℕ)) → MayMake fits made command
-    → said_fitting fits key said ≡ Some said' → grown_if_taken takes made (said_once key said) ≡ Some (record { takes = takes; said = said'; command = command })
+    → said_fitting fits key said ≡ Some said'
+    → grown_if_taken takes made (said_once key said) ≡ Some (record { takes = takes; said = said'; command = command })
 noted true takes made command key said said' m e = rw (m, e) refl
 noted false takes made command key said said' m e = cc
 
@@ -112,7 +113,8 @@ module _ (behind said : List (List ℕ)) (command : Command) where
           → on_by said command (one_more p (phrases p.takes behind)) ≡ on_by g.said g.command (phrases 0 (drop g.takes behind))
       by (Some next) true m fresh e =
           let is : record { takes = p.takes; said = said ++ p.once ∷ []; command = next } ≡ g = cc in
-          one_phrase p next (phrases p.takes behind) m ∙ ap (on_by (said ++ p.once ∷ []) next) (taken p.takes behind) ∙ ap (λ (h : Grown). on_by h.said h.command (phrases 0 (drop h.takes behind))) is
+          one_phrase p next (phrases p.takes behind) m ∙ ap (on_by (said ++ p.once ∷ []) next) (taken p.takes behind)
+          ∙ ap (λ (h : Grown). on_by h.said h.command (phrases 0 (drop h.takes behind))) is
       by (Some next) false m fresh e = cc
       by None fresh m _ e = cc
 

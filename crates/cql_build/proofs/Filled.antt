@@ -121,7 +121,8 @@ pub inputs_next : (parts : List Part) (i : ℕ) (p : Part) (start now later : Li
     → later ≡ now ++ unit_inputs (part_of p) → start ++ input_decls (parts_of parts) ≡ later ++ input_decls (parts_of (drop (i + 1) parts))
 inputs_next parts i p start now later h lt e g =
     h ∙ ap (λ l. now ++ input_decls (parts_of l)) (drop_next parts i p lt e) ∙ ap (λ l. now ++ l) (one (part_of p) (parts_of (drop (i + 1) parts)))
-    ∙ sym (append_assoc now (unit_inputs (part_of p)) (input_decls (parts_of (drop (i + 1) parts)))) ∙ ap (λ l. l ++ input_decls (parts_of (drop (i + 1) parts))) (sym g)
+    ∙ sym (append_assoc now (unit_inputs (part_of p)) (input_decls (parts_of (drop (i + 1) parts))))
+    ∙ ap (λ l. l ++ input_decls (parts_of (drop (i + 1) parts))) (sym g)
   where
     one : (p : tree.Part) (ps : Program) → input_decls (p ∷ ps) ≡ unit_inputs p ++ input_decls ps
     one (Register name fields) ps = refl
@@ -130,20 +131,23 @@ inputs_next parts i p start now later h lt e g =
 -- COPIES
 
 pub record Copying (old now : RawPlan) (all : List Name) (parts : List Part) (i : ℕ) : Type 0 where
-  pub left : Left old now [] [] (input_copies all (parts_of parts)) (input_copies all (parts_of (drop i parts))) (input_ops all (parts_of parts)) (input_ops all (parts_of (drop i parts)))
+  pub left : Left old now [] [] (input_copies all (parts_of parts)) (input_copies all (parts_of (drop i parts))) (input_ops all (parts_of parts))
+      (input_ops all (parts_of (drop i parts)))
   pub names : AllByRecursion IsShortName (declared_names (parts_of (drop i parts)))
 
 pub copying_start : (raw : RawPlan) (all : List Name) (parts : List Part) → HaveShortNames (parts_of parts) → Copying raw raw all parts 0
 copying_start raw all parts s = record { left = left_start raw _ _ _; names = s.names }
 
-short_one : (p : tree.Part) (ps : Program) → AllByRecursion IsShortName (declared_names (p ∷ ps)) → IsShortRegistered p × AllByRecursion IsShortName (declared_names ps)
+short_one : (p : tree.Part) (ps : Program) → AllByRecursion IsShortName (declared_names (p ∷ ps))
+    → IsShortRegistered p × AllByRecursion IsShortName (declared_names ps)
 short_one (Register name fields) ps h = (h.0, h.1)
 short_one (AQuery q) ps h = (tt, h.1)
 
 pub copying_short : (old now : RawPlan) (all : List Name) (parts : List Part) (i : ℕ) (p : Part) → Copying old now all parts i → i < length parts
     → p ≡ get_or parts i p → IsShortRegistered (part_of p)
 copying_short old now all parts i p c lt e =
-    (short_one (part_of p) (parts_of (drop (i + 1) parts)) (subst (λ (l : List Part). AllByRecursion IsShortName (declared_names (parts_of l))) (drop_next parts i p lt e) c.names)).0
+    (short_one (part_of p) (parts_of (drop (i + 1) parts))
+    (subst (λ (l : List Part). AllByRecursion IsShortName (declared_names (parts_of l))) (drop_next parts i p lt e) c.names)).0
 
 pub copying_next : (old now next : RawPlan) (all : List Name) (parts : List Part) (i : ℕ) (p : Part) → Copying old now all parts i → i < length parts
     → p ≡ get_or parts i p
@@ -153,7 +157,8 @@ copying_next old now next all parts i p c lt e g =
     let rest = parts_of (drop (i + 1) parts) in
     record {
       left = left_next old now next _ [] _ _ (unit_copies all (part_of p)) _ _ (unit_copying all (part_of p)) _
-          (left_is old now _ _ [] _ _ (unit_copies all (part_of p) ++ input_copies all rest) _ _ (unit_copying all (part_of p) ++ input_ops all rest) c.left refl
+          (left_is old now _ _ [] _ _ (unit_copies all (part_of p) ++ input_copies all rest) _ _
+          (unit_copying all (part_of p) ++ input_ops all rest) c.left refl
           (ap (λ l. input_copies all (parts_of l)) d ∙ copies_one (part_of p) rest) (ap (λ l. input_ops all (parts_of l)) d ∙ ops_one (part_of p) rest)) g;
       names = (short_one (part_of p) rest (subst (λ (l : List Part). AllByRecursion IsShortName (declared_names (parts_of l))) d c.names)).1;
     }
@@ -170,7 +175,8 @@ pub copying_end : (old now : RawPlan) (all : List Name) (parts : List Part) (i :
     → Grew old now [] (input_copies all (parts_of parts)) (input_ops all (parts_of parts))
 copying_end old now all parts i c le =
     let d = drop_all parts i le in
-    left_end old now _ _ _ (left_is old now _ _ [] _ _ [] _ _ [] c.left refl (ap (λ l. input_copies all (parts_of l)) d) (ap (λ l. input_ops all (parts_of l)) d))
+    left_end old now _ _ _
+    (left_is old now _ _ [] _ _ [] _ _ [] c.left refl (ap (λ l. input_copies all (parts_of l)) d) (ap (λ l. input_ops all (parts_of l)) d))
 
 -- ALL LISTS
 
@@ -179,11 +185,13 @@ pub all_filled : (parts : List Part) (raw copied asked : RawPlan) (inputs : List
     → uses.inputs ≡ registered (parts_of parts) → uses.all ≡ all_uses (parts_of parts) → uses.past ≡ []
     → inputs ≡ raw.inputs ++ input_decls (parts_of parts)
     → Grew (record raw { inputs = inputs }) copied [] (input_copies uses.all (parts_of parts)) (input_ops uses.all (parts_of parts))
-    → Grew copied asked (output_decls [] (parts_of parts)) (queries_decls uses.all [] (parts_of parts)) (queries_ops uses.inputs uses.all [] uses.past (parts_of parts))
+    → Grew copied asked (output_decls [] (parts_of parts)) (queries_decls uses.all [] (parts_of parts))
+    (queries_ops uses.inputs uses.all [] uses.past (parts_of parts))
     → vars ≡ asked.vars ++ all_vars (op_forms asked.ops) → plan_form (record asked { vars = vars }) ≡ plan_of (parts_of parts)
 all_filled parts raw copied asked inputs vars uses em ui ua up ei g h ev =
     let p = parts_of parts in
-    let outs : asked.outputs ≡ output_decls [] p = h.outputs ∙ ap (λ l. l ++ output_decls [] p) (g.outputs ∙ append-nil raw.outputs ∙ ap (λ (x : PlanForm). x.outputs) em) in
+    let outs : asked.outputs ≡ output_decls [] p = h.outputs
+    ∙ ap (λ l. l ++ output_decls [] p) (g.outputs ∙ append-nil raw.outputs ∙ ap (λ (x : PlanForm). x.outputs) em) in
     let ins : asked.inputs ≡ input_decls p = h.inputs ∙ g.inputs ∙ ei ∙ ap (λ l. l ++ input_decls p) (ap (λ (x : PlanForm). x.inputs) em) in
     let qs : asked.queues ≡ input_copies (all_uses p) p ++ queries_decls (all_uses p) [] p =
     h.queues ∙ ap (λ l. l ++ queries_decls uses.all [] p) (g.queues ∙ ap (λ l. l ++ input_copies uses.all p) (ap (λ (x : PlanForm). x.queues) em))
@@ -194,5 +202,6 @@ all_filled parts raw copied asked inputs vars uses em ui ua up ei g h ev =
     ∙ ap (λ n. input_ops (all_uses p) p ++ queries_ops n (all_uses p) [] uses.past p) ui
     ∙ ap (λ n. input_ops (all_uses p) p ++ queries_ops (registered p) (all_uses p) [] n p) up in
     let ts : asked.tables ≡ [] = h.tables ∙ g.tables ∙ ap (λ (x : PlanForm). x.tables) em in
-    let vs : vars ≡ all_vars (ops_of p) = ev ∙ ap (λ l. l ++ all_vars (op_forms asked.ops)) (h.vars ∙ g.vars ∙ ap (λ (x : PlanForm). x.vars) em) ∙ ap all_vars os in
+    let vs : vars ≡ all_vars (ops_of p) = ev ∙ ap (λ l. l ++ all_vars (op_forms asked.ops)) (h.vars ∙ g.vars ∙ ap (λ (x : PlanForm). x.vars) em)
+    ∙ ap all_vars os in
     λ i. record { outputs = outs i; inputs = ins i; queues = qs i; tables = ts i; vars = vs i; ops = os i }

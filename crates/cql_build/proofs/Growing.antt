@@ -129,7 +129,8 @@ width_at xs i x lt e low = let m = at_most xs i lt e in omega (arith, m, low) wh
   at_most (y ∷ ys) (suc i) lt e = let m = at_most ys i (omega (arith, lt)) e in omega (arith, m)
 
 -- one window more
-pub windows_next : (old now next : RawPlan) (before after later : Uses) (q name from : Name) (kind : QueueType) (all : List Source) (items : List Item) (i : ℕ) (x : Source) (y : Item)
+pub windows_next : (old now next : RawPlan) (before after later : Uses) (q name from : Name) (kind : QueueType) (all : List Source) (items : List Item) (i : ℕ)
+    (x : Source) (y : Item)
     → WindowsLeft old now before after q all items i → i < length all → x ≡ get_or all i x → i < length items → y ≡ get_or items i y
     → name ≡ w_name q (i + 1) → kind ≡ relation (length y.fields.now) → from ≡ queue_of_use after.inputs after.all x.stream (count x.stream after.past)
     → later.past ≡ after.past ++ x.stream ∷ [] → later.inputs ≡ after.inputs → later.all ≡ after.all
@@ -139,22 +140,29 @@ windows_next old now next before after later q name from kind all items i x y w 
     let rest = drop (i + 1) all in
     let srcs = queues_of_uses before.inputs before.all in
     let now_src : from ≡ queue_of_use before.inputs before.all x.stream (count x.stream after.past) =
-    f ∙ ap (λ l. queue_of_use l after.all x.stream (count x.stream after.past)) w.inputs ∙ ap (λ l. queue_of_use before.inputs l x.stream (count x.stream after.past)) w.uses in
+    f ∙ ap (λ l. queue_of_use l after.all x.stream (count x.stream after.past)) w.inputs
+    ∙ ap (λ l. queue_of_use before.inputs l x.stream (count x.stream after.past)) w.uses in
     let ds : window_decls q (i + 1) (scope (drop i items)) ≡ decl name kind ∷ window_decls q (i + 1 + 1) (scope (drop (i + 1) items)) =
     ap (λ l. window_decls q (i + 1) (scope l)) (drop_next items i y lt' e')
     ∙ ap (λ m. decl m (relation (length y.fields.now)) ∷ window_decls q (i + 1 + 1) (scope (drop (i + 1) items))) (sym n)
     ∙ ap (λ m. decl name m ∷ window_decls q (i + 1 + 1) (scope (drop (i + 1) items))) (sym k) in
     let os : window_ops q (i + 1) (sources_of (drop i all)) (srcs after.past (streams_of (sources_of (drop i all))))
-    ≡ op name (window (kernel_window (window_of x.window))) (from ∷ []) (name ∷ []) (name ∷ []) ∷ window_ops q (i + 1 + 1) (sources_of rest) (srcs later.past (streams_of (sources_of rest))) =
+    ≡ op name (window (kernel_window (window_of x.window))) (from ∷ []) (name ∷ []) (name ∷ []) ∷ window_ops q (i + 1 + 1) (sources_of rest)
+    (srcs later.past (streams_of (sources_of rest))) =
     ap (λ l. window_ops q (i + 1) (sources_of l) (srcs after.past (streams_of (sources_of l)))) (drop_next all i x lt e)
-    ∙ ap (λ m. op m (window (kernel_window (window_of x.window))) (queue_of_use before.inputs before.all x.stream (count x.stream after.past) ∷ []) (m ∷ []) (m ∷ []) ∷ window_ops q (i + 1 + 1) (sources_of rest) (srcs (after.past ++ x.stream ∷ []) (streams_of (sources_of rest)))) (sym n)
-    ∙ ap (λ m. op name (window (kernel_window (window_of x.window))) (m ∷ []) (name ∷ []) (name ∷ []) ∷ window_ops q (i + 1 + 1) (sources_of rest) (srcs (after.past ++ x.stream ∷ []) (streams_of (sources_of rest)))) (sym now_src)
-    ∙ ap (λ l. op name (window (kernel_window (window_of x.window))) (from ∷ []) (name ∷ []) (name ∷ []) ∷ window_ops q (i + 1 + 1) (sources_of rest) (srcs l (streams_of (sources_of rest)))) (sym p) in
+    ∙ ap (λ m. op m (window (kernel_window (window_of x.window))) (queue_of_use before.inputs before.all x.stream (count x.stream after.past) ∷ []) (m ∷ [])
+    (m ∷ []) ∷ window_ops q (i + 1 + 1) (sources_of rest) (srcs (after.past ++ x.stream ∷ []) (streams_of (sources_of rest)))) (sym n)
+    ∙ ap (λ m. op name (window (kernel_window (window_of x.window))) (m ∷ []) (name ∷ []) (name ∷ []) ∷ window_ops q (i + 1 + 1) (sources_of rest)
+    (srcs (after.past ++ x.stream ∷ []) (streams_of (sources_of rest)))) (sym now_src)
+    ∙ ap (λ l. op name (window (kernel_window (window_of x.window))) (from ∷ []) (name ∷ []) (name ∷ []) ∷ window_ops q (i + 1 + 1) (sources_of rest)
+    (srcs l (streams_of (sources_of rest)))) (sym p) in
     record {
       left = left_next old now next [] [] [] (window_decls q 1 (scope items)) (decl name kind ∷ []) (window_decls q (i + 1 + 1) (scope (drop (i + 1) items)))
-          (window_ops q 1 (sources_of all) (srcs before.past (streams_of (sources_of all)))) (op name (window (kernel_window (window_of x.window))) (from ∷ []) (name ∷ []) (name ∷ []) ∷ [])
+          (window_ops q 1 (sources_of all) (srcs before.past (streams_of (sources_of all))))
+          (op name (window (kernel_window (window_of x.window))) (from ∷ []) (name ∷ []) (name ∷ []) ∷ [])
           (window_ops q (i + 1 + 1) (sources_of rest) (srcs later.past (streams_of (sources_of rest))))
-          (left_is old now [] [] [] (window_decls q 1 (scope items)) _ _ (window_ops q 1 (sources_of all) (srcs before.past (streams_of (sources_of all)))) _ _ w.left refl ds os) g;
+          (left_is old now [] [] [] (window_decls q 1 (scope items)) _ _
+          (window_ops q 1 (sources_of all) (srcs before.past (streams_of (sources_of all)))) _ _ w.left refl ds os) g;
       past =
           w.past ∙ ap (λ l. after.past ++ streams_of (sources_of l)) (drop_next all i x lt e)
           ∙ sym (append_assoc after.past (x.stream ∷ []) (streams_of (sources_of rest))) ∙ ap (λ l. l ++ streams_of (sources_of rest)) (sym p);
@@ -167,13 +175,16 @@ windows_next old now next before after later q name from kind all items i x y w 
 pub windows_end : (old now : RawPlan) (before after : Uses) (q : Name) (all : List Source) (items : List Item) (i : ℕ)
     → WindowsLeft old now before after q all items i
     → length all ≤ i → length items ≤ i
-    → Grew old now [] (window_decls q 1 (scope items)) (window_ops q 1 (sources_of all) (queues_of_uses before.inputs before.all before.past (streams_of (sources_of all))))
+    → Grew old now [] (window_decls q 1 (scope items))
+    (window_ops q 1 (sources_of all) (queues_of_uses before.inputs before.all before.past (streams_of (sources_of all))))
     × Used before after (streams_of (sources_of all))
 windows_end old now before after q all items i w le le' =
     let none = drop_all all i le in
     let none' = drop_all items i le' in
-    let l = left_is old now [] [] [] (window_decls q 1 (scope items)) _ [] (window_ops q 1 (sources_of all) (queues_of_uses before.inputs before.all before.past (streams_of (sources_of all)))) _ [] w.left refl
-    (ap (λ xs. window_decls q (i + 1) (scope xs)) none') (ap (λ xs. window_ops q (i + 1) (sources_of xs) (queues_of_uses before.inputs before.all after.past (streams_of (sources_of xs)))) none) in (
+    let l = left_is old now [] [] [] (window_decls q 1 (scope items)) _ []
+    (window_ops q 1 (sources_of all) (queues_of_uses before.inputs before.all before.past (streams_of (sources_of all)))) _ [] w.left refl
+    (ap (λ xs. window_decls q (i + 1) (scope xs)) none')
+    (ap (λ xs. window_ops q (i + 1) (sources_of xs) (queues_of_uses before.inputs before.all after.past (streams_of (sources_of xs)))) none) in (
       left_end old now [] (window_decls q 1 (scope items)) _ l,
       record { past = sym (w.past ∙ ap (λ xs. after.past ++ streams_of (sources_of xs)) none ∙ append-nil after.past); inputs = w.inputs; all = w.uses },
     )
@@ -215,15 +226,18 @@ crosses_next old now next q all items last name right wide wider i y c lt lt' e'
     ap (λ l. cross_decls q wide (i + 1) (scope l)) (drop_next items i y lt' e')
     ∙ ap (λ m. decl m (relation (wide + length y.fields.now)) ∷ cross_decls q (wide + length y.fields.now) (i + 1 + 1) (scope (drop (i + 1) items))) (sym n)
     ∙ ap (λ m. decl name (relation m) ∷ cross_decls q m (i + 1 + 1) (scope (drop (i + 1) items))) (sym w) in
-    let os : cross_ops q last (i + 1) (sources_of (drop i all)) ≡ op name cross (last ∷ right ∷ []) (name ∷ []) (name ∷ []) ∷ cross_ops q name (i + 1 + 1) (sources_of (drop (i + 1) all)) =
+    let os : cross_ops q last (i + 1) (sources_of (drop i all)) ≡ op name cross (last ∷ right ∷ []) (name ∷ []) (name ∷ []) ∷ cross_ops q name (i + 1 + 1)
+    (sources_of (drop (i + 1) all)) =
     ap (λ l. cross_ops q last (i + 1) (sources_of l)) some.1
     ∙ ap (λ m. op m cross (last ∷ w_name q (i + 1) ∷ []) (m ∷ []) (m ∷ []) ∷ cross_ops q m (i + 1 + 1) (sources_of (drop (i + 1) all))) (sym n)
     ∙ ap (λ m. op name cross (last ∷ m ∷ []) (name ∷ []) (name ∷ []) ∷ cross_ops q name (i + 1 + 1) (sources_of (drop (i + 1) all))) (sym r) in
     let d = ap (λ l. widths_of (scope l)) (drop_next items i y lt' e') in
     record {
       left =
-          left_next old now next [] [] [] (product_decls q (scope items)) (decl name (relation wider) ∷ []) (cross_decls q wider (i + 1 + 1) (scope (drop (i + 1) items)))
-          (cross_ops q (w_name q 1) 2 (drop 1 (sources_of all))) (op name cross (last ∷ right ∷ []) (name ∷ []) (name ∷ []) ∷ []) (cross_ops q name (i + 1 + 1) (sources_of (drop (i + 1) all)))
+          left_next old now next [] [] [] (product_decls q (scope items)) (decl name (relation wider) ∷ [])
+          (cross_decls q wider (i + 1 + 1) (scope (drop (i + 1) items)))
+          (cross_ops q (w_name q 1) 2 (drop 1 (sources_of all))) (op name cross (last ∷ right ∷ []) (name ∷ []) (name ∷ []) ∷ [])
+          (cross_ops q name (i + 1 + 1) (sources_of (drop (i + 1) all)))
           (left_is old now [] [] [] (product_decls q (scope items)) _ _ (cross_ops q (w_name q 1) 2 (drop 1 (sources_of all))) _ _ c.left refl ds os) g;
       last_is =
           c.last_is ∙ ap (λ l. cross_last q last (i + 1) (sources_of l)) some.1 ∙ ap (λ m. cross_last q m (i + 1 + 1) (sources_of (drop (i + 1) all))) (sym n);
@@ -291,7 +305,8 @@ copied_input raw new queues name wide (suc (suc u)) kind writes e k w two g =
     let n : length writes ≡ suc (suc u) = ap (λ (l : List Name). length l) w ∙ length-copies name 0 (suc (suc u)) in
     record {
       outputs = g.outputs;
-      queues = g.queues ∙ append-nil queues ∙ e ∙ ap (λ l. raw.queues ++ decls_of l kind) w ∙ ap (λ t. raw.queues ++ decls_of (copy_names name 0 (suc (suc u))) t) k;
+      queues = g.queues ∙ append-nil queues ∙ e ∙ ap (λ l. raw.queues ++ decls_of l kind) w
+          ∙ ap (λ t. raw.queues ++ decls_of (copy_names name 0 (suc (suc u))) t) k;
       ops = g.ops ∙ ap (λ m. op_forms raw.ops ++ op (at_word name (codes "d")) (duplicate m) (name ∷ []) writes [] ∷ []) n
           ∙ ap (λ l. op_forms raw.ops ++ op (at_word name (codes "d")) (duplicate (suc (suc u))) (name ∷ []) l [] ∷ []) w;
       inputs = g.inputs;
@@ -304,7 +319,8 @@ pub copied_output : (raw new : RawPlan) (first queues : List Decl) (q from : Nam
     → first ≡ raw.queues ++ decl from kind ∷ []
     → queues ≡ first ++ decls_of made kind → own ≡ q ∷ [] → writes ≡ own ++ made → made ≡ copy_names q 0 n
     → Grew (record raw { queues = queues }) new [] [] (op (at_word q (codes "d")) (duplicate (length writes)) (from ∷ []) writes [] ∷ [])
-    → Grew raw new [] (decl from kind ∷ decls_of (copy_names q 0 n) kind) (op (at_word q (codes "d")) (duplicate (suc n)) (from ∷ []) (q ∷ copy_names q 0 n) [] ∷ [])
+    → Grew raw new [] (decl from kind ∷ decls_of (copy_names q 0 n) kind)
+    (op (at_word q (codes "d")) (duplicate (suc n)) (from ∷ []) (q ∷ copy_names q 0 n) [] ∷ [])
 copied_output raw new first queues q from n kind own made writes e f o w m g =
     let all : writes ≡ q ∷ copy_names q 0 n = w ∙ ap (λ l. l ++ made) o ∙ ap (λ l. q ∷ l) m in
     let many : length writes ≡ suc n = ap (λ (l : List Name). length l) all ∙ ap suc (length-copies q 0 n) in
@@ -324,16 +340,21 @@ pub output_used : (raw mid new : RawPlan) (outs : List Decl) (q last to : Name) 
     → t ≡ stream wide
     → Grew raw mid [] [] (op (at_word q (codes "i")) (streamer (streamer_of kind)) (last ∷ []) (to ∷ []) (at_word q (codes "i") ∷ []) ∷ [])
     → outs ≡ mid.outputs ++ decl q t ∷ []
-    → Grew (record mid { outputs = outs }) new [] (decl to t ∷ decls_of (copy_names q 0 n) t) (op (at_word q (codes "d")) (duplicate (suc n)) (to ∷ []) (q ∷ copy_names q 0 n) [] ∷ [])
+    → Grew (record mid { outputs = outs }) new [] (decl to t ∷ decls_of (copy_names q 0 n) t)
+    (op (at_word q (codes "d")) (duplicate (suc n)) (to ∷ []) (q ∷ copy_names q 0 n) [] ∷ [])
     → Grew raw new (decl q (stream wide) ∷ []) (out_decls q wide n) (stream_ops q kind last n)
 output_used raw mid new outs q last to kind wide zero t some e k g o h = absurd (omega (arith, some))
 output_used raw mid new outs q last to kind wide (suc u) t some e k g o h = record {
   outputs = h.outputs ∙ append-nil outs ∙ o ∙ ap (λ l. l ++ decl q t ∷ []) (g.outputs ∙ append-nil raw.outputs) ∙ ap (λ x. raw.outputs ++ decl q x ∷ []) k;
   queues = h.queues ∙ ap (λ l. l ++ (decl to t ∷ decls_of (copy_names q 0 (suc u)) t)) (g.queues ∙ append-nil raw.queues)
-      ∙ ap (λ x. raw.queues ++ (decl x t ∷ decls_of (copy_names q 0 (suc u)) t)) e ∙ ap (λ x. raw.queues ++ (decl (at_word q (codes "o")) x ∷ decls_of (copy_names q 0 (suc u)) x)) k;
+      ∙ ap (λ x. raw.queues ++ (decl x t ∷ decls_of (copy_names q 0 (suc u)) t)) e
+      ∙ ap (λ x. raw.queues ++ (decl (at_word q (codes "o")) x ∷ decls_of (copy_names q 0 (suc u)) x)) k;
   ops = h.ops ∙ ap (λ l. l ++ op (at_word q (codes "d")) (duplicate (suc (suc u))) (to ∷ []) (q ∷ copy_names q 0 (suc u)) [] ∷ []) g.ops
-      ∙ append_assoc (op_forms raw.ops) (op (at_word q (codes "i")) (streamer (streamer_of kind)) (last ∷ []) (to ∷ []) (at_word q (codes "i") ∷ []) ∷ []) (op (at_word q (codes "d")) (duplicate (suc (suc u))) (to ∷ []) (q ∷ copy_names q 0 (suc u)) [] ∷ [])
-      ∙ ap (λ x. op_forms raw.ops ++ (op (at_word q (codes "i")) (streamer (streamer_of kind)) (last ∷ []) (x ∷ []) (at_word q (codes "i") ∷ []) ∷ op (at_word q (codes "d")) (duplicate (suc (suc u))) (x ∷ []) (q ∷ copy_names q 0 (suc u)) [] ∷ [])) e;
+      ∙ append_assoc (op_forms raw.ops) (op (at_word q (codes "i")) (streamer (streamer_of kind)) (last ∷ []) (to ∷ []) (at_word q (codes "i") ∷ []) ∷ [])
+      (op (at_word q (codes "d")) (duplicate (suc (suc u))) (to ∷ []) (q ∷ copy_names q 0 (suc u)) [] ∷ [])
+      ∙ ap (λ x. op_forms raw.ops ++
+      (op (at_word q (codes "i")) (streamer (streamer_of kind)) (last ∷ []) (x ∷ []) (at_word q (codes "i") ∷ []) ∷ op (at_word q (codes "d"))
+      (duplicate (suc (suc u))) (x ∷ []) (q ∷ copy_names q 0 (suc u)) [] ∷ [])) e;
   inputs = h.inputs ∙ g.inputs;
   tables = h.tables ∙ g.tables;
   vars = h.vars ∙ g.vars;

@@ -41,7 +41,8 @@ places-append f (x ∷ xs) k = let m = places-append f xs k in omega (arith, m)
 pub places_next : (f : Name) (xs : List Item) (i : ℕ) (x : Item) → i < length xs → x ≡ get_or xs i x
     → field_places f (scope (take (i + 1) xs)) ≡ field_places f (scope (take i xs)) + count f x.fields.now
 places_next f xs i x lt e =
-    ap (λ l. field_places f (scope l)) (take_next xs i x lt e) ∙ ap (field_places f) (map-append named_item (take i xs) (x ∷ [])) ∙ places-append f (scope (take i xs)) (named_item x)
+    ap (λ l. field_places f (scope l)) (take_next xs i x lt e) ∙ ap (field_places f) (map-append named_item (take i xs) (x ∷ []))
+    ∙ places-append f (scope (take i xs)) (named_item x)
 
 item_places-append : (a f : Name) (xs : List Named) (k : Named) (b : Bool) → name_eq k.name a ≡ b
     → item_places a f (xs ++ k ∷ []) ≡ item_places a f xs + (if b then count f k.fields else 0)

@@ -31,7 +31,9 @@ digit_goes d lt = one_digit (48 + d) (omega arith) (omega (arith, lt))
 decimal_goes : (n : ℕ) → n < 2 ^ 64 → list_all is_word (decimal n) ≡ true
 decimal_goes n lt = decimal_by_steps (λ k ds. list_all is_word ds ≡ true)
     (λ k small. and_from (is_word (48 + k)) true (digit_goes k small) refl)
-    (λ k ds le e. list_all-append is_word ds ((48 + k % 10) ∷ []) ∙ and_from (list_all is_word ds) (list_all is_word ((48 + k % 10) ∷ [])) e (and_from (is_word (48 + k % 10)) true (digit_goes (k % 10) (mod_below k 10 (omega arith))) refl))
+    (λ k ds le e. list_all-append is_word ds ((48 + k % 10) ∷ [])
+    ∙ and_from (list_all is_word ds) (list_all is_word ((48 + k % 10) ∷ [])) e
+    (and_from (is_word (48 + k % 10)) true (digit_goes (k % 10) (mod_below k 10 (omega arith))) refl))
     n lt
 
 -- a name of at most 40 bytes with an `@` and a word of at most 23 bytes behind it
@@ -41,7 +43,8 @@ word_behind [] w h len g few = absurd (true≢false (sym h))
 word_behind (b ∷ bs) w h len g few =
     let p = and_parts (is_letter b) (list_all is_word bs && nat_le (length bs) 63) h in
     let q = and_parts (list_all is_word bs) (nat_le (length bs) 63) p.1 in
-    let all : list_all is_word (bs ++ (codes "@" ++ w)) ≡ true = list_all-append is_word bs (codes "@" ++ w) ∙ and_from (list_all is_word bs) (list_all is_word w) q.0 g in
+    let all : list_all is_word (bs ++ (codes "@" ++ w)) ≡ true = list_all-append is_word bs (codes "@" ++ w)
+    ∙ and_from (list_all is_word bs) (list_all is_word w) q.0 g in
     let low : length (bs ++ (codes "@" ++ w)) ≤ 63 = (let a = length-append bs (codes "@" ++ w) in omega (arith, a, few, len)) in
     and_from (is_letter b) _ p.0 (and_from (list_all is_word (bs ++ (codes "@" ++ w))) _ all (le_true (length (bs ++ (codes "@" ++ w))) 63 low))
 

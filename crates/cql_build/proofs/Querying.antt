@@ -43,29 +43,35 @@ tail_made a b c d q is uses last s p w es ep ew g h k =
     let h1 = subst (λ (x : Name). Grew b c [] (project_decls q.name q.columns) (project_ops q.name is x q.columns)) es h in
     let e2 : p ≡ project_last q.name (select_last q.name last q.condition) q.columns = ep ∙ ap (λ x. project_last q.name x q.columns) es in
     let k1 = subst (λ (x : Name). Grew c d (decl q.name (stream w) ∷ []) (out_decls q.name w uses) (stream_ops q.name q.kind x uses)) e2 k in
-    let k2 = subst (λ (x : ℕ). Grew c d (decl q.name (stream x) ∷ []) (out_decls q.name x uses) (stream_ops q.name q.kind (project_last q.name (select_last q.name last q.condition) q.columns) uses)) ew k1 in
+    let k2 = subst (λ (x : ℕ). Grew c d (decl q.name (stream x) ∷ []) (out_decls q.name x uses)
+    (stream_ops q.name q.kind (project_last q.name (select_last q.name last q.condition) q.columns) uses)) ew k1 in
     grew_then a b d [] _ _ _ _ _ g (grew_then b c d [] _ _ _ _ _ h1 k2)
 
 -- A QUERY
 
 -- windows, products and the rest make the operators of a query
-pub query_made : (a b c d : RawPlan) (name : Name) (kind : Kind) (columns : Columns) (items : List tree.Source) (condition : Option Scalar) (ks : List Named) (inputs all past : List Name) (is : List Named) (last : Name) (used : ℕ)
+pub query_made : (a b c d : RawPlan) (name : Name) (kind : Kind) (columns : Columns) (items : List tree.Source) (condition : Option Scalar) (ks : List Named)
+    (inputs all past : List Name) (is : List Named) (last : Name) (used : ℕ)
     → is ≡ scope_of ks items → 0 < length items → used ≡ count name all → last ≡ cross_last name (w_name name 1) 2 (drop 1 items)
     → Grew a b [] (window_decls name 1 is) (window_ops name 1 items (queues_of_uses inputs all past (streams_of items)))
     → Grew b c [] (product_decls name is) (cross_ops name (w_name name 1) 2 (drop 1 items))
-    → Grew c d (decl name (stream (columns_width is columns)) ∷ []) (tail_decls (record { name = name; kind = kind; columns = columns; items = items; condition = condition }) is used)
+    → Grew c d (decl name (stream (columns_width is columns)) ∷ [])
+    (tail_decls (record { name = name; kind = kind; columns = columns; items = items; condition = condition }) is used)
     (tail_ops (record { name = name; kind = kind; columns = columns; items = items; condition = condition }) is used last)
-    → Grew a d (decl name (stream (columns_width (scope_of ks items) columns)) ∷ []) (query_decls all ks (record { name = name; kind = kind; columns = columns; items = items; condition = condition }))
+    → Grew a d (decl name (stream (columns_width (scope_of ks items) columns)) ∷ [])
+    (query_decls all ks (record { name = name; kind = kind; columns = columns; items = items; condition = condition }))
     (query_ops inputs all ks past (record { name = name; kind = kind; columns = columns; items = items; condition = condition }))
 query_made a b c d name kind columns [] condition ks inputs all past is last used e some u l g h t = absurd (omega (arith, some))
 query_made a b c d name kind columns (i ∷ items) condition ks inputs all past is last used e some u l g h t =
     let q : Query = record { name = name; kind = kind; columns = columns; items = i ∷ items; condition = condition } in
     let sc = scope_of ks (i ∷ items) in
-    let g1 = subst (λ (x : List Named). Grew a b [] (window_decls name 1 x) (window_ops name 1 (i ∷ items) (queues_of_uses inputs all past (streams_of (i ∷ items))))) e g in
+    let g1 = subst (λ (x : List Named). Grew a b [] (window_decls name 1 x)
+    (window_ops name 1 (i ∷ items) (queues_of_uses inputs all past (streams_of (i ∷ items))))) e g in
     let h1 = subst (λ (x : List Named). Grew b c [] (product_decls name x) (cross_ops name (w_name name 1) 2 items)) e h in
     let t1 = subst (λ (x : List Named). Grew c d (decl name (stream (columns_width x columns)) ∷ []) (tail_decls q x used) (tail_ops q x used last)) e t in
     let t2 = subst (λ (x : ℕ). Grew c d (decl name (stream (columns_width sc columns)) ∷ []) (tail_decls q sc x) (tail_ops q sc x last)) u t1 in
-    let t3 = subst (λ (x : Name). Grew c d (decl name (stream (columns_width sc columns)) ∷ []) (tail_decls q sc (count name all)) (tail_ops q sc (count name all) x)) l t2 in
+    let t3 = subst (λ (x : Name). Grew c d (decl name (stream (columns_width sc columns)) ∷ []) (tail_decls q sc (count name all))
+    (tail_ops q sc (count name all) x)) l t2 in
     grew_then a c d [] _ _ _ _ _ (grew_then a b c [] [] _ _ _ _ g1 h1) t3
 
 -- the items of a query that is accepted
@@ -82,10 +88,12 @@ pub record Querying (old now : RawPlan) (before after : Uses) (parts : List Part
   pub uses : AllByRecursion IsShortName (all_uses (parts_of (drop i parts)))
   pub inputs : after.inputs ≡ before.inputs
   pub all : after.all ≡ before.all
-  pub left : Left old now (output_decls [] (parts_of parts)) (output_decls ks (parts_of (drop i parts))) (queries_decls before.all [] (parts_of parts)) (queries_decls before.all ks (parts_of (drop i parts)))
+  pub left : Left old now (output_decls [] (parts_of parts)) (output_decls ks (parts_of (drop i parts))) (queries_decls before.all [] (parts_of parts))
+      (queries_decls before.all ks (parts_of (drop i parts)))
       (queries_ops before.inputs before.all [] before.past (parts_of parts)) (queries_ops before.inputs before.all ks after.past (parts_of (drop i parts)))
 
-pub querying_start : (raw : RawPlan) (uses : Uses) (parts : List Part) (k : Known) → Knows k [] → AreQueries [] (parts_of parts) → HaveShortNames (parts_of parts)
+pub querying_start : (raw : RawPlan) (uses : Uses) (parts : List Part) (k : Known) → Knows k [] → AreQueries [] (parts_of parts)
+    → HaveShortNames (parts_of parts)
     → Querying raw raw uses uses parts 0 k
 querying_start raw uses parts k n g s =
     record { ks = []; knows = n; good = g; names = s.names; uses = s.uses; inputs = refl; all = refl; left = left_start raw _ _ _ }
@@ -117,12 +125,14 @@ apart ks (AQuery q) ps g n u = record {
   uses = each_back IsShortName (streams_of q.items) (all_uses ps) u;
 }
 
-at : (old now : RawPlan) (before after : Uses) (parts : List Part) (i : ℕ) (k : Known) (p : Part) (a : Querying old now before after parts i k) → i < length parts
+at : (old now : RawPlan) (before after : Uses) (parts : List Part) (i : ℕ) (k : Known) (p : Part) (a : Querying old now before after parts i k)
+    → i < length parts
     → p ≡ get_or parts i p
     → Apart a.ks (part_of p) (parts_of (drop (i + 1) parts))
 at old now before after parts i k p a lt e =
     let d : parts_of (drop i parts) ≡ part_of p ∷ parts_of (drop (i + 1) parts) = ap parts_of (drop_next parts i p lt e) in
-    apart a.ks (part_of p) (parts_of (drop (i + 1) parts)) (subst (AreQueries a.ks) d a.good) (subst (λ (l : Program). AllByRecursion IsShortName (declared_names l)) d a.names)
+    apart a.ks (part_of p) (parts_of (drop (i + 1) parts)) (subst (AreQueries a.ks) d a.good)
+    (subst (λ (l : Program). AllByRecursion IsShortName (declared_names l)) d a.names)
     (subst (λ (l : Program). AllByRecursion IsShortName (all_uses l)) d a.uses)
 
 -- the next unit is as the whole program asks
@@ -150,17 +160,21 @@ ops_one inputs all past later ks (Register name fields) ps e =
 ops_one inputs all past later ks (AQuery q) ps e = ap (λ l. query_ops inputs all ks past q ++ queries_ops inputs all (query_named ks q ∷ ks) l ps) (sym e)
 
 -- one unit more is made
-pub querying_next : (old now next : RawPlan) (before after later : Uses) (parts : List Part) (i : ℕ) (k k' : Known) (p : Part) (a : Querying old now before after parts i k)
+pub querying_next : (old now next : RawPlan) (before after later : Uses) (parts : List Part) (i : ℕ) (k k' : Known) (p : Part)
+    (a : Querying old now before after parts i k)
     → i < length parts → p ≡ get_or parts i p
-    → ((ks : List Named) → Knows k ks → Grew now next (unit_outputs ks (part_of p)) (unit_decls after.all ks (part_of p)) (unit_ops after.inputs after.all ks after.past (part_of p)))
+    → ((ks : List Named) → Knows k ks
+    → Grew now next (unit_outputs ks (part_of p)) (unit_decls after.all ks (part_of p)) (unit_ops after.inputs after.all ks after.past (part_of p)))
     → Used after later (unit_uses (part_of p))
     → ((ks : List Named) → Knows k ks → Knows k' (declares ks (part_of p) ∷ ks)) → Querying old next before later parts (i + 1) k'
 querying_next old now next before after later parts i k k' p a lt e g u n =
     let s = at old now before after parts i k p a lt e in
     let d : parts_of (drop i parts) ≡ part_of p ∷ parts_of (drop (i + 1) parts) = ap parts_of (drop_next parts i p lt e) in
     let rest = parts_of (drop (i + 1) parts) in
-    let g1 = subst (λ (l : List Name). Grew now next (unit_outputs a.ks (part_of p)) (unit_decls l a.ks (part_of p)) (unit_ops after.inputs l a.ks after.past (part_of p))) a.all (g a.ks a.knows) in
-    let g2 = subst (λ (l : List Name). Grew now next (unit_outputs a.ks (part_of p)) (unit_decls before.all a.ks (part_of p)) (unit_ops l before.all a.ks after.past (part_of p))) a.inputs g1 in
+    let g1 = subst (λ (l : List Name). Grew now next (unit_outputs a.ks (part_of p)) (unit_decls l a.ks (part_of p))
+    (unit_ops after.inputs l a.ks after.past (part_of p))) a.all (g a.ks a.knows) in
+    let g2 = subst (λ (l : List Name). Grew now next (unit_outputs a.ks (part_of p)) (unit_decls before.all a.ks (part_of p))
+    (unit_ops l before.all a.ks after.past (part_of p))) a.inputs g1 in
     record {
       ks = declares a.ks (part_of p) ∷ a.ks;
       knows = n a.ks a.knows;
@@ -170,20 +184,27 @@ querying_next old now next before after later parts i k k' p a lt e g u n =
       inputs = u.inputs ∙ a.inputs;
       all = u.all ∙ a.all;
       left =
-          left_next old now next _ (unit_outputs a.ks (part_of p)) _ _ (unit_decls before.all a.ks (part_of p)) _ _ (unit_ops before.inputs before.all a.ks after.past (part_of p)) _
-          (left_is old now _ _ (unit_outputs a.ks (part_of p) ++ output_decls (declares a.ks (part_of p) ∷ a.ks) rest) _ _ (unit_decls before.all a.ks (part_of p) ++ queries_decls before.all (declares a.ks (part_of p) ∷ a.ks) rest) _ _
-          (unit_ops before.inputs before.all a.ks after.past (part_of p) ++ queries_ops before.inputs before.all (declares a.ks (part_of p) ∷ a.ks) later.past rest) a.left
+          left_next old now next _ (unit_outputs a.ks (part_of p)) _ _ (unit_decls before.all a.ks (part_of p)) _ _
+          (unit_ops before.inputs before.all a.ks after.past (part_of p)) _
+          (left_is old now _ _ (unit_outputs a.ks (part_of p) ++ output_decls (declares a.ks (part_of p) ∷ a.ks) rest) _ _
+          (unit_decls before.all a.ks (part_of p) ++ queries_decls before.all (declares a.ks (part_of p) ∷ a.ks) rest) _ _
+          (unit_ops before.inputs before.all a.ks after.past (part_of p) ++ queries_ops before.inputs before.all
+          (declares a.ks (part_of p) ∷ a.ks) later.past rest) a.left
           (ap (output_decls a.ks) d ∙ outputs_one a.ks (part_of p) rest)
           (ap (queries_decls before.all a.ks) d ∙ decls_one before.all a.ks (part_of p) rest)
-          (ap (queries_ops before.inputs before.all a.ks after.past) d ∙ ops_one before.inputs before.all after.past later.past a.ks (part_of p) rest u.past)) g2;
+          (ap (queries_ops before.inputs before.all a.ks after.past) d
+          ∙ ops_one before.inputs before.all after.past later.past a.ks (part_of p) rest u.past)) g2;
     }
 
-pub querying_end : (old now : RawPlan) (before after : Uses) (parts : List Part) (i : ℕ) (k : Known) → Querying old now before after parts i k → length parts ≤ i
-    → Grew old now (output_decls [] (parts_of parts)) (queries_decls before.all [] (parts_of parts)) (queries_ops before.inputs before.all [] before.past (parts_of parts))
+pub querying_end : (old now : RawPlan) (before after : Uses) (parts : List Part) (i : ℕ) (k : Known) → Querying old now before after parts i k
+    → length parts ≤ i
+    → Grew old now (output_decls [] (parts_of parts)) (queries_decls before.all [] (parts_of parts))
+    (queries_ops before.inputs before.all [] before.past (parts_of parts))
 querying_end old now before after parts i k a le =
     let d : parts_of (drop i parts) ≡ [] = ap parts_of (drop_all parts i le) in
     left_end old now _ _ _
-    (left_is old now _ _ [] _ _ [] _ _ [] a.left (ap (output_decls a.ks) d) (ap (queries_decls before.all a.ks) d) (ap (queries_ops before.inputs before.all a.ks after.past) d))
+    (left_is old now _ _ [] _ _ [] _ _ [] a.left (ap (output_decls a.ks) d) (ap (queries_decls before.all a.ks) d)
+    (ap (queries_ops before.inputs before.all a.ks after.past) d))
 
 -- as many sources as are written
 pub sources_length : (xs : List Source) → length (sources_of xs) ≡ length xs

@@ -140,7 +140,12 @@ join_short : (p : Part) (ps : Program) → AllByRecursion IsShortName (declared_
     → HaveShortNames ps → HaveShortNames (p ∷ ps)
 join_short (Register name fields) ps a b s = record { names = (a.0, s.names); uses = s.uses }
 join_short (AQuery q) ps a b s =
-    record { names = (a.0, s.names); uses = both_all IsShortName (streams_of q.items) (all_uses ps) (subst (λ (l : List Name). AllByRecursion IsShortName l) (append-nil (streams_of q.items)) b) s.uses }
+    record {
+      names = (a.0, s.names);
+      uses =
+          both_all IsShortName (streams_of q.items) (all_uses ps)
+          (subst (λ (l : List Name). AllByRecursion IsShortName l) (append-nil (streams_of q.items)) b) s.uses;
+    }
 
 -- its names are short
 pub shortened : (p : List Part) (units : List (List Tok)) → AreParts p units → HaveShortNames p

@@ -58,8 +58,10 @@ module _ (kind : Name → QueueType) (var : Name → VarKind) (inputs all : List
   kind_one : (ks : List Named) (n : Name) → ServeKinds ks → 0 < count n (known_names ks) → ServesKind n (length (fields_of ks n))
   kind_one [] n s lt j lj = absurd (omega (arith, lt))
   kind_one (k ∷ ks) n s lt j lj = ⊎_elim
-      (λ c. ap (λ m. kind (queue_of_use inputs all m j)) (sym c.0) ∙ s.0 j (subst (λ m. j < count m all) (sym c.0) lj) ∙ ap (λ b. stream (length (if b then k.fields else fields_of ks n))) (sym c.1))
-      (λ c. kind_one ks n s.1 (let e = ap one_if c.1 in omega (arith, lt, e)) j lj ∙ ap (λ b. stream (length (if b then k.fields else fields_of ks n))) (sym c.1))
+      (λ c. ap (λ m. kind (queue_of_use inputs all m j)) (sym c.0) ∙ s.0 j (subst (λ m. j < count m all) (sym c.0) lj)
+      ∙ ap (λ b. stream (length (if b then k.fields else fields_of ks n))) (sym c.1))
+      (λ c. kind_one ks n s.1 (let e = ap one_if c.1 in omega (arith, lt, e)) j lj
+      ∙ ap (λ b. stream (length (if b then k.fields else fields_of ks n))) (sym c.1))
       (cases_name k.name n)
 
   sized_one : (ks : List Named) (n : Name) → Sized ks → 0 < count n (known_names ks) → is_width (length (fields_of ks n)) ≡ true
@@ -130,9 +132,13 @@ module _ (kind : Name → QueueType) (var : Name → VarKind) (inputs all : List
       let vs = each-append (one.Own kind var) block rest v in
       let many = columns_many scope q.columns in
       each_append (one.Fit kind var) block rest
-      (one.block_fits kind var all ks q srcs a.0 (source_kinds ks past q.items (all_uses ps) s a.0.streams r) (sized_scope ks q.items z a.0.streams) ds.0 t.0 vs.0)
-      (queries_fit (query_named ks q ∷ ks) (past ++ streams_of q.items) ps
-      ((λ j lt. ap kind (query_source inputs all q.name j o.0) ∙ out_kind q.name (columns_width scope q.columns) (count q.name all) (query_kind ks q ds.0) j lt ∙ ap stream (sym many)), s)
+      (one.block_fits kind var all ks q srcs a.0 (source_kinds ks past q.items (all_uses ps) s a.0.streams r)
+      (sized_scope ks q.items z a.0.streams) ds.0 t.0 vs.0)
+      (queries_fit (query_named ks q ∷ ks) (past ++ streams_of q.items) ps (
+        (λ j lt. ap kind (query_source inputs all q.name j o.0) ∙ out_kind q.name (columns_width scope q.columns) (count q.name all) (query_kind ks q ds.0) j lt
+            ∙ ap stream (sym many)),
+        s,
+      )
       (ap is_width many ∙ a.0.columns, z) i a.1 o.1 (fit_next inputs all past (streams_of q.items) (all_uses ps) r) ds.1 t.1 vs.1)
 
   -- THE COPIES OF THE INPUTS
@@ -145,7 +151,8 @@ module _ (kind : Name → QueueType) (var : Name → VarKind) (inputs all : List
     (
       Stream width,
       ap (λ (x : QueueType). x ∷ []) k,
-      one.copies_kinds kind var (copy_names n 0 (suc (suc u))) (stream width) d ∙ ap (λ m. replicate m (stream width)) (one.length-copies kind var n 0 (suc (suc u))),
+      one.copies_kinds kind var (copy_names n 0 (suc (suc u))) (stream width) d
+          ∙ ap (λ m. replicate m (stream width)) (one.length-copies kind var n 0 (suc (suc u))),
       refl,
       and_from (is_width width) (nat_le 1 (suc (suc u))) w (le-leb 1 (suc (suc u)) (omega arith)),
     ),

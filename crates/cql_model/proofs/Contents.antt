@@ -30,7 +30,8 @@ sum-with : (f : List ℤ → ℕ) (tuples : List Tuple) (ys : List (List ℤ)) �
 sum-with f tuples ys =
     sum-map f all_values (with_each tuples ys)
     ∙ sum-flat_map (λ t. f (all_values t)) (λ tuple. map (λ row. tuple ++ row ∷ []) ys) tuples
-    ∙ sum-cong (λ tuple. sum_by (λ t. f (all_values t)) (map (λ row. tuple ++ row ∷ []) ys)) (λ tuple. sum_by (λ y. f (all_values tuple ++ y)) ys) tuples (λ tuple.
+    ∙ sum-cong (λ tuple. sum_by (λ t. f (all_values t)) (map (λ row. tuple ++ row ∷ []) ys)) (λ tuple. sum_by (λ y. f (all_values tuple ++ y)) ys) tuples
+    (λ tuple.
     sum-map (λ t. f (all_values t)) (λ row. tuple ++ row ∷ []) ys
     ∙ sum-cong (λ row. f (all_values (tuple ++ row ∷ []))) (λ y. f (all_values tuple ++ y)) ys (λ row. ap f (joined_more tuple row)))
     ∙ sym (sum-pairs f (rows tuples) ys ∙ sum-map (λ x. sum_by (λ y. f (x ++ y)) ys) all_values tuples)

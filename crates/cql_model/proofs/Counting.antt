@@ -115,7 +115,8 @@ project_from q last = select_last q.name last q.condition
 
 tail_total : (f : OpForm → ℕ) (q : Query) (scope : List Named) (u : ℕ) (last : Name)
     → total f (tail_ops q scope u last) ≡ total f (select_ops q.name scope last q.condition)
-    + (total f (project_ops q.name scope (project_from q last) q.columns) + (f (stream_op q u (project_last q.name (project_from q last) q.columns)) + total f (out_ops q.name u)))
+    + (total f (project_ops q.name scope (project_from q last) q.columns) +
+    (f (stream_op q u (project_last q.name (project_from q last) q.columns)) + total f (out_ops q.name u)))
 tail_total f q scope u last =
     let so = select_ops q.name scope last q.condition in
     let po = project_ops q.name scope (project_from q last) q.columns in
@@ -123,11 +124,13 @@ tail_total f q scope u last =
     total-append f so (po ++ rest) ∙ ap (λ n. total f so + n) (total-append f po rest)
 
 inner_split : (z b : Name) (u : ℕ) (q : Query)
-    → among z b (inner_tags u q) ≡ among z b (o_tags u) + (among z b (p_tags q.columns) + (among z b (s_tags q.condition) + (among z b (w_tags 1 q.items) + among z b (x_tags 2 (rest_of q.items)))))
+    → among z b (inner_tags u q) ≡ among z b (o_tags u) +
+    (among z b (p_tags q.columns) + (among z b (s_tags q.condition) + (among z b (w_tags 1 q.items) + among z b (x_tags 2 (rest_of q.items)))))
 inner_split z b u q =
     let w = w_tags 1 q.items in let x = x_tags 2 (rest_of q.items) in let s = s_tags q.condition in let p = p_tags q.columns in
     among-append z b (o_tags u) (p ++ (s ++ (w ++ x)))
-    ∙ ap (λ n. among z b (o_tags u) + n) (among-append z b p (s ++ (w ++ x)) ∙ ap (λ n. among z b p + n) (among-append z b s (w ++ x) ∙ ap (λ n. among z b s + n) (among-append z b w x)))
+    ∙ ap (λ n. among z b (o_tags u) + n)
+    (among-append z b p (s ++ (w ++ x)) ∙ ap (λ n. among z b p + n) (among-append z b s (w ++ x) ∙ ap (λ n. among z b s + n) (among-append z b w x)))
 
 -- the operators of a query
 abbrev pub block_ops : Query → List Named → ℕ → List Name → List OpForm
@@ -160,12 +163,14 @@ windows_read z b k (i ∷ is) [] e = absurd (omega (arith, e))
 windows_read z b k (i ∷ is) (s ∷ srcs) e = let m = windows_read z b (k + 1) is srcs (omega (arith, e)) in omega (arith, m)
 
 crosses_read : (z b last : Name) (k : ℕ) (items : List Source)
-    → total (reads_it z) (cross_ops b last k items) + one_if (name_eq (cross_last b last k items) z) ≡ one_if (name_eq last z) + (among z b (w_tags k items) + among z b (x_tags k items))
+    → total (reads_it z) (cross_ops b last k items) + one_if (name_eq (cross_last b last k items) z) ≡ one_if (name_eq last z) +
+    (among z b (w_tags k items) + among z b (x_tags k items))
 crosses_read z b last k [] = omega arith
 crosses_read z b last k (i ∷ is) = let m = crosses_read z b (x_name b k) (k + 1) is in omega (arith, m)
 
 items_read : (z b : Name) (items : List Source) (srcs : List Name) → 0 < length items → length srcs ≡ length items
-    → total (reads_it z) (item_ops b items srcs) + one_if (name_eq (item_last b items) z) ≡ count z srcs + (among z b (w_tags 1 items) + among z b (x_tags 2 (rest_of items)))
+    → total (reads_it z) (item_ops b items srcs) + one_if (name_eq (item_last b items) z) ≡ count z srcs +
+    (among z b (w_tags 1 items) + among z b (x_tags 2 (rest_of items)))
 items_read z b [] srcs some e = absurd (omega (arith, some))
 items_read z b (i ∷ is) srcs some e =
     let a = total-append (reads_it z) (window_ops b 1 (i ∷ is) srcs) (cross_ops b (w_name b 1) 2 is) in
@@ -411,4 +416,5 @@ vars_from q h =
 -- the tags of its labels are apart
 pub labels_from : (u : ℕ) (q : Query) → length q.items ≤ 4 → From 100 (label_tags u q)
 labels_from u q h =
-    d_from u _ (from_more 105 112 (word (codes "i")) _ (omega arith) (of_one (Some (codes "i"))) (p_from q.columns _ (s_from q.condition _ (items_from q.items h))))
+    d_from u _ (from_more 105 112 (word (codes "i")) _ (omega arith) (of_one (Some (codes "i")))
+    (p_from q.columns _ (s_from q.condition _ (items_from q.items h))))

@@ -35,7 +35,14 @@ all_at ts p files = map (λ (s : Timed). map s ts) (answers ts [] p files)
 -- Select Istream(a) From S [Range 2]
 istream_range : Program
 istream_range =
-    s_of_a (AQuery (record { name = codes "q"; kind = Istream; columns = Chosen (column (codes "a") ∷ []); items = record { stream = codes "S"; window = Range 2 None; alias = None } ∷ []; condition = None }) ∷ [])
+    s_of_a (AQuery (record {
+      name = codes "q";
+      kind = Istream;
+      columns = Chosen (column (codes "a") ∷ []);
+      items =
+          record { stream = codes "S"; window = Range 2 None; alias = None } ∷ [];
+      condition = None;
+    }) ∷ [])
 
 abbrev s_file : List (ℤ × List ℤ)
 s_file = entry 1 10 ∷ entry 2 20 ∷ entry 4 10 ∷ []
@@ -47,7 +54,14 @@ range_case = refl
 -- Select Istream(a) From S [Range 2] Where a > 15
 where_range : Program
 where_range =
-    s_of_a (AQuery (record { name = codes "q"; kind = Istream; columns = Chosen (column (codes "a") ∷ []); items = record { stream = codes "S"; window = Range 2 None; alias = None } ∷ []; condition = Some (Bin o.Greater (Field (codes "a")) (Number 15)) }) ∷ [])
+    s_of_a (AQuery (record {
+      name = codes "q";
+      kind = Istream;
+      columns = Chosen (column (codes "a") ∷ []);
+      items =
+          record { stream = codes "S"; window = Range 2 None; alias = None } ∷ [];
+      condition = Some (Bin o.Greater (Field (codes "a")) (Number 15));
+    }) ∷ [])
 
 where_case : all_at (pos 1 ∷ pos 2 ∷ pos 4 ∷ []) where_range (s_file ∷ []) ≡ ([] ∷ (row 20 ∷ []) ∷ [] ∷ []) ∷ []
 unfolding where_range
@@ -68,7 +82,14 @@ where_ops = refl
 -- Select Rstream(a) From S [Rows 1], on two rows of one instant
 last_row : Program
 last_row =
-    s_of_a (AQuery (record { name = codes "q"; kind = Rstream; columns = Chosen (column (codes "a") ∷ []); items = record { stream = codes "S"; window = Latest 1; alias = None } ∷ []; condition = None }) ∷ [])
+    s_of_a (AQuery (record {
+      name = codes "q";
+      kind = Rstream;
+      columns = Chosen (column (codes "a") ∷ []);
+      items =
+          record { stream = codes "S"; window = Latest 1; alias = None } ∷ [];
+      condition = None;
+    }) ∷ [])
 
 last_case : all_at (pos 5 ∷ []) last_row ((entry 5 1 ∷ entry 5 2 ∷ []) ∷ []) ≡ ((row 2 ∷ []) ∷ []) ∷ []
 unfolding last_row
@@ -77,7 +98,19 @@ last_case = refl
 -- Select Rstream(*) From S [Now] x, S [Now] y
 pairs_of_s : Program
 pairs_of_s =
-    s_of_a (AQuery (record { name = codes "q"; kind = Rstream; columns = Star; items = record { stream = codes "S"; window = Now; alias = Some (codes "x") } ∷ record { stream = codes "S"; window = Now; alias = Some (codes "y") } ∷ []; condition = None }) ∷ [])
+    s_of_a (AQuery (record {
+      name = codes "q";
+      kind = Rstream;
+      columns = Star;
+      items =
+          record { stream = codes "S"; window = Now; alias = Some (codes "x") } ∷ record {
+            stream = codes "S";
+            window = Now;
+            alias =
+                Some (codes "y");
+          } ∷ [];
+      condition = None;
+    }) ∷ [])
 
 abbrev two : ℕ → ℕ → List ℤ
 two a b = pos a ∷ pos b ∷ []
@@ -98,7 +131,15 @@ pairs_ops = refl
 -- Select Dstream(a) From S [Now], with another stream's instant between
 went : Program
 went =
-    s_of_a (Register (codes "T") (codes "b" ∷ []) ∷ AQuery (record { name = codes "q"; kind = Dstream; columns = Chosen (column (codes "a") ∷ []); items = record { stream = codes "S"; window = Now; alias = None } ∷ []; condition = None }) ∷ [])
+    s_of_a (Register (codes "T") (codes "b" ∷ []) ∷ AQuery
+    (record {
+      name = codes "q";
+      kind = Dstream;
+      columns = Chosen (column (codes "a") ∷ []);
+      items =
+          record { stream = codes "S"; window = Now; alias = None } ∷ [];
+      condition = None;
+    }) ∷ [])
 
 went_case : all_at (pos 1 ∷ pos 2 ∷ pos 3 ∷ []) went ((entry 1 10 ∷ entry 3 30 ∷ []) ∷ (entry 2 5 ∷ []) ∷ []) ≡ ([] ∷ (row 10 ∷ []) ∷ [] ∷ []) ∷ []
 unfolding went
@@ -107,8 +148,22 @@ went_case = refl
 -- Query p: Select Istream(a) From S [Rows 1]; Query r: Select Rstream(a) From p [Now]
 chained : Program
 chained = s_of_a (
-    AQuery (record { name = codes "p"; kind = Istream; columns = Chosen (column (codes "a") ∷ []); items = record { stream = codes "S"; window = Latest 1; alias = None } ∷ []; condition = None })
-    ∷ AQuery (record { name = codes "r"; kind = Rstream; columns = Chosen (column (codes "a") ∷ []); items = record { stream = codes "p"; window = Now; alias = None } ∷ []; condition = None }) ∷ [])
+    AQuery (record {
+      name = codes "p";
+      kind = Istream;
+      columns = Chosen (column (codes "a") ∷ []);
+      items =
+          record { stream = codes "S"; window = Latest 1; alias = None } ∷ [];
+      condition = None;
+    })
+    ∷ AQuery (record {
+      name = codes "r";
+      kind = Rstream;
+      columns = Chosen (column (codes "a") ∷ []);
+      items =
+          record { stream = codes "p"; window = Now; alias = None } ∷ [];
+      condition = None;
+    }) ∷ [])
 
 chained_case : all_at (pos 5 ∷ pos 6 ∷ []) chained ((entry 5 2 ∷ entry 5 1 ∷ entry 6 1 ∷ []) ∷ []) ≡ ((row 1 ∷ []) ∷ [] ∷ []) ∷ ((row 1 ∷ []) ∷ [] ∷ []) ∷ []
 unfolding chained

@@ -81,8 +81,12 @@ items_good known scope (i ∷ is) few narrow h =
     let more = items_good known (scope ++ named ∷ []) is (omega (arith, longer, short)) slim rest in
     record {
       few = (let m = more.few in omega (arith, m, longer));
-      streams =
-          (eq_no (count i.stream (known_names known)) (if_none (nat_eq (count i.stream (known_names known)) 0) UnknownStream (first_none a (then_fault b (then_fault c (then_fault d e))) one)), more.streams);
+      streams = (
+        eq_no (count i.stream (known_names known))
+            (if_none (nat_eq (count i.stream (known_names known)) 0) UnknownStream
+            (first_none a (then_fault b (then_fault c (then_fault d e))) one)),
+        more.streams,
+      );
       windows = (window_good i.window (if_none (is_rows_fault i.window) Limit (first_none c (then_fault d e) one_c)), more.windows);
       product = subst (λ (l : List Named). widths_of l ≤ 16) (append_assoc scope (named ∷ []) (scope_of known is)) more.product;
     }
@@ -149,7 +153,8 @@ names_good (AQuery q ∷ ps) s = (s.0, names_good ps s.2)
 new_name : (known : List Named) (n : Name) (rest : Option Fault) → then_fault (fault_if (nat_lt 0 (count n (known_names known))) NameTwice) rest ≡ None
     → count n (known_names known) ≤ 0
 new_name known n rest h =
-    ltb-false 0 (count n (known_names known)) (if_none (nat_lt 0 (count n (known_names known))) NameTwice (first_none (fault_if (nat_lt 0 (count n (known_names known))) NameTwice) rest h))
+    ltb-false 0 (count n (known_names known))
+    (if_none (nat_lt 0 (count n (known_names known))) NameTwice (first_none (fault_if (nat_lt 0 (count n (known_names known))) NameTwice) rest h))
 
 abbrev Distinct : List Named → Type 0
 Distinct ks = (n : Name) → count n (known_names ks) ≤ 1

@@ -63,12 +63,16 @@ streamer_step : (k : Kind) (ts : List ℤ) (r c : Timed) → Ascends ts → ((t 
     → streamer_one (streamer_of k) (spread us r) (item_at t (r t)) ≡ item_at t (in_order (changed k (content_before ts c t) (c t))) ∷ []
 streamer_step k ts r c up h us vs t e =
     let front : filter (λ u. int_lt u t) ts ≡ us = ap (filter (λ u. int_lt u t)) e ∙ below_front us vs t (subst Ascends e up) in
-    let old : steps.last_rows (batches (spread us r)) ≡ in_order (content_before ts c t) = rows_last r us ∙ last_in_order r c us h ∙ ap (λ l. in_order (at_last c (last_instant l))) (sym front) in
-    ap (λ l. item_at t l ∷ []) (ap (λ l. steps.streamed (streamer_of k) l (r t)) old ∙ ap (steps.streamed (streamer_of k) (in_order (content_before ts c t))) (h t) ∙ streamed_is k (content_before ts c t) (c t))
+    let old : steps.last_rows (batches (spread us r)) ≡ in_order (content_before ts c t) = rows_last r us ∙ last_in_order r c us h
+    ∙ ap (λ l. in_order (at_last c (last_instant l))) (sym front) in
+    ap (λ l. item_at t l ∷ [])
+    (ap (λ l. steps.streamed (streamer_of k) l (r t)) old ∙ ap (steps.streamed (streamer_of k) (in_order (content_before ts c t))) (h t)
+    ∙ streamed_is k (content_before ts c t) (c t))
 
 -- a streamer gives what came, what went, or all
 pub streamer_fed : (k : Kind) (ts : List ℤ) (r c : Timed) → Ascends ts → ((t : ℤ) → r t ≡ in_order (c t))
-    → (feed (fire (streamer (streamer_of k)) 0) (spread ts r) (first_kept (streamer (streamer_of k)))).outs 0 ≡ spread ts (λ t. in_order (changed k (content_before ts c t) (c t)))
+    → (feed (fire (streamer (streamer_of k)) 0) (spread ts r) (first_kept (streamer (streamer_of k)))).outs 0 ≡ spread ts
+    (λ t. in_order (changed k (content_before ts c t) (c t)))
 streamer_fed k ts r c up h =
     received_fed (streamer_one (streamer_of k)) [] (spread ts r)
     ∙ given_spread ts r (λ t. in_order (changed k (content_before ts c t) (c t))) (streamer_one (streamer_of k)) (streamer_step k ts r c up h) [] ts refl
@@ -123,7 +127,9 @@ right_one x y xs = pair_passes (length (x ∷ xs) + length (y ∷ [])) (length (
 right_fed : (ts : List ℤ) (a b : Timed) → (feed (fire cross 1) (spread ts b) (waiting (spread ts a))).outs 0 ≡ spread ts (λ t. product (a t) (b t))
 right_fed [] a b = refl
 right_fed (t ∷ ts) a b =
-    let one : fire cross 1 (item_at t (b t)) (waiting (spread (t ∷ ts) a)) ≡ crossed_fired (item_at t (product (a t) (b t)) ∷ [], pairing (spread ts a) []) [] = ap (λ d. crossed_fired d []) (right_one (item_at t (a t)) (item_at t (b t)) (spread ts a)) in
+    let one : fire cross 1 (item_at t (b t)) (waiting (spread (t ∷ ts) a)) ≡ crossed_fired
+    (item_at t (product (a t) (b t)) ∷ [], pairing (spread ts a) []) [] =
+    ap (λ d. crossed_fired d []) (right_one (item_at t (a t)) (item_at t (b t)) (spread ts a)) in
     ap (λ (r : Fired). r.outs 0 ++ (feed (fire cross 1) (spread ts b) r.states).outs 0) one
     ∙ ap (λ l. item_at t (product (a t) (b t)) ∷ l) (right_fed ts a b)
 

@@ -66,7 +66,8 @@ field_below f (i ∷ is) =
 pub item_below : (a f : Name) (scope : List Named) → Below (item_place a f scope) (widths_of scope)
 item_below a f [] = tt
 item_below a f (i ∷ is) =
-    step (name_eq i.name a) (widen (place_among f i.fields) (length i.fields) (length i.fields + widths_of is) (omega arith) (in_below f i.fields)) (plus_below (item_place a f is) (length i.fields) (widths_of is) (item_below a f is)) where
+    step (name_eq i.name a) (widen (place_among f i.fields) (length i.fields) (length i.fields + widths_of is) (omega arith) (in_below f i.fields))
+    (plus_below (item_place a f is) (length i.fields) (widths_of is) (item_below a f is)) where
       step : (b : Bool) → Below (place_among f i.fields) (length i.fields + widths_of is)
           → Below (plus (length i.fields) (item_place a f is)) (length i.fields + widths_of is)
           → Below (if b then place_among f i.fields else plus (length i.fields) (item_place a f is)) (length i.fields + widths_of is)
@@ -96,17 +97,20 @@ same_depth scope (Field f) = place_depth (field_place f scope)
 same_depth scope (ItemField a f) = place_depth (item_place a f scope)
 same_depth scope (Neg e) = ap suc (same_depth scope e)
 same_depth scope (Not e) = ap suc (same_depth scope e)
-same_depth scope (Bin o l r) = ap (λ n. suc (max n (depth_of (resolved scope r)))) (same_depth scope l) ∙ ap (λ n. suc (max (scalar_depth l) n)) (same_depth scope r)
+same_depth scope (Bin o l r) = ap (λ n. suc (max n (depth_of (resolved scope r)))) (same_depth scope l)
+    ∙ ap (λ n. suc (max (scalar_depth l) n)) (same_depth scope r)
 
 pub is_value : (scope : List Named) (e : Scalar) → scalar_depth e ≤ 64 → is_term (widths_of scope) 0 (resolved scope e) ≡ true
 is_value scope e h =
-    and_from (is_sound (widths_of scope) 0 (resolved scope e)) (nat_le (depth_of (resolved scope e)) 64) (sound scope e) (le-leb (depth_of (resolved scope e)) 64 (let d = same_depth scope e in omega (arith, d, h)))
+    and_from (is_sound (widths_of scope) 0 (resolved scope e)) (nat_le (depth_of (resolved scope e)) 64) (sound scope e)
+    (le-leb (depth_of (resolved scope e)) 64 (let d = same_depth scope e in omega (arith, d, h)))
 
 are_values : (scope : List Named) (cs : List Column) → AllByRecursion (λ (c : Column). scalar_depth c.value ≤ 64) cs
     → list_all (is_term (widths_of scope) 0) (terms_of scope cs) ≡ true
 are_values scope [] h = refl
 are_values scope (c ∷ cs) h =
-    and_from (is_term (widths_of scope) 0 (resolved scope c.value)) (list_all (is_term (widths_of scope) 0) (terms_of scope cs)) (is_value scope c.value h.0) (are_values scope cs h.1)
+    and_from (is_term (widths_of scope) 0 (resolved scope c.value)) (list_all (is_term (widths_of scope) 0) (terms_of scope cs)) (is_value scope c.value h.0)
+    (are_values scope cs h.1)
 
 -- a number from 1 to 16 is a width
 pub wide : (n : ℕ) → 1 ≤ n → n ≤ 16 → is_width n ≡ true
@@ -148,11 +152,19 @@ module _ (kind : Name → QueueType) (var : Name → VarKind) where
 
   windows_fit : (known : List Named) (b : Name) (k : ℕ) (items : List Source) (srcs : List Name) → SourceKinds (scope_of known items) srcs
       → AreKinds (window_decls b k (scope_of known items)) → Sized (scope_of known items)
-      → AllByRecursion (λ (i : Source). IsTrue (is_window (kernel_window i.window))) items → Each Own (window_ops b k items srcs) → Each Fit (window_ops b k items srcs)
+      → AllByRecursion (λ (i : Source). IsTrue (is_window (kernel_window i.window))) items → Each Own (window_ops b k items srcs)
+      → Each Fit (window_ops b k items srcs)
   windows_fit known b k [] srcs s d z w o = tt
   windows_fit known b k (i ∷ is) [] s d z w o = tt
   windows_fit known b k (i ∷ is) (src ∷ srcs) s d z w o = (
-    (length (fields_of known i.stream), ap (λ (x : QueueType). x ∷ []) s.0, ap (λ (x : QueueType). x ∷ []) d.0, ap (λ (x : VarKind). x ∷ []) (o.0 (w_name b k) (count_first (w_name b k) [])), and_from (is_width (length (fields_of known i.stream))) (is_window (kernel_window i.window)) z.0 w.0),
+    (
+      length (fields_of known i.stream),
+      ap (λ (x : QueueType). x ∷ []) s.0,
+      ap (λ (x : QueueType). x ∷ []) d.0,
+      ap (λ (x : VarKind). x ∷ []) (o.0 (w_name b k) (count_first (w_name b k) [])),
+      and_from (is_width (length (fields_of known i.stream)))
+          (is_window (kernel_window i.window)) z.0 w.0,
+    ),
     windows_fit known b (k + 1) is srcs s.1 d.1 z.1 w.1 o.1,
   )
 
@@ -171,13 +183,26 @@ module _ (kind : Name → QueueType) (var : Name → VarKind) where
       let rest = crosses_fit known b (x_name b k) (width + n) (k + 1) is d.0 (omega (arith, some)) (omega (arith, few)) w.1 d.1 z.1 o.1 in
       let fits = and_from (is_width width) (is_width n && is_width (width + n)) (wide width some (omega (arith, few)))
       (and_from (is_width n) (is_width (width + n)) z.0 (wide (width + n) (omega (arith, some)) (omega (arith, few)))) in (
-        ((width, n, ap (λ x. two x (kind (w_name b k))) l ∙ ap (λ y. two (relation width) y) w.0, ap (λ (x : QueueType). x ∷ []) d.0, ap (λ (x : VarKind). x ∷ []) (o.0 (x_name b k) (count_first (x_name b k) [])), fits), rest.0),
+        (
+          (
+            width,
+            n,
+            ap (λ x. two x (kind (w_name b k))) l
+                ∙ ap (λ y. two (relation width) y) w.0,
+            ap (λ (x : QueueType). x ∷ []) d.0,
+            ap (λ (x : VarKind). x ∷ [])
+                (o.0 (x_name b k) (count_first (x_name b k) [])),
+            fits,
+          ),
+          rest.0,
+        ),
         rest.1 ∙ ap relation (omega arith),
       )
 
   items_fit : (known : List Named) (b : Name) (items : List Source) (srcs : List Name) → 0 < length items → SourceKinds (scope_of known items) srcs
       → AreKinds (item_decls b (scope_of known items)) → Sized (scope_of known items)
-      → AllByRecursion (λ (i : Source). IsTrue (is_window (kernel_window i.window))) items → widths_of (scope_of known items) ≤ 16 → Each Own (item_ops b items srcs)
+      → AllByRecursion (λ (i : Source). IsTrue (is_window (kernel_window i.window))) items → widths_of (scope_of known items) ≤ 16
+      → Each Own (item_ops b items srcs)
       → Each Fit (item_ops b items srcs) × (kind (item_last b items) ≡ relation (widths_of (scope_of known items)))
   items_fit known b [] srcs some s d z w few o = absurd (omega (arith, some))
   items_fit known b (i ∷ is) srcs some s d z w few o =
@@ -192,7 +217,16 @@ module _ (kind : Name → QueueType) (var : Name → VarKind) where
       → Each Fit (select_ops b scope last o) × (kind (select_last b last o) ≡ relation (widths_of scope))
   select_fits b scope last None l n h d = (tt, l)
   select_fits b scope last (Some e) l n h d = (
-    ((Relation (widths_of scope), ap (λ (x : QueueType). x ∷ []) l, ap (λ (x : QueueType). x ∷ []) d.0, refl, and_from (is_width (widths_of scope)) (is_term (widths_of scope) 0 (resolved scope e)) n (is_value scope e h)), tt),
+    (
+      (
+        Relation (widths_of scope),
+        ap (λ (x : QueueType). x ∷ []) l,
+        ap (λ (x : QueueType). x ∷ []) d.0,
+        refl,
+        and_from (is_width (widths_of scope)) (is_term (widths_of scope) 0 (resolved scope e)) n (is_value scope e h),
+      ),
+      tt,
+    ),
     d.0,
   )
 
@@ -235,7 +269,9 @@ module _ (kind : Name → QueueType) (var : Name → VarKind) where
       (
         Stream width,
         ap (λ (x : QueueType). x ∷ []) d.0,
-        ap (λ x. x ∷ map kind (copy_names b 0 (suc u))) o ∙ ap (λ l. stream width ∷ l) (copies_kinds (copy_names b 0 (suc u)) (stream width) d.1 ∙ ap (λ m. replicate m (stream width)) (length-copies b 0 (suc u))),
+        ap (λ x. x ∷ map kind (copy_names b 0 (suc u))) o
+            ∙ ap (λ l. stream width ∷ l)
+            (copies_kinds (copy_names b 0 (suc u)) (stream width) d.1 ∙ ap (λ m. replicate m (stream width)) (length-copies b 0 (suc u))),
         refl,
         and_from (is_width width) (nat_le 1 (suc (suc u))) n (le-leb 1 (suc (suc u)) (omega arith)),
       ),
@@ -282,5 +318,13 @@ module _ (kind : Name → QueueType) (var : Name → VarKind) where
       let out = out_fits b width u a.columns k d3.1 in
       each_append Fit io (tail_ops q scope u last) is.0
       (each_append Fit so (po ++ (st ∷ out_ops b u)) se.0
-      (each_append Fit po (st ∷ out_ops b u) pr.0
-      ((width, ap (λ (x : QueueType). x ∷ []) pr.1, ap (λ (x : QueueType). x ∷ []) out.1, ap (λ (x : VarKind). x ∷ []) (o3.1.0 (at_word b (codes "i")) (count_first (at_word b (codes "i")) [])), a.columns), out.0)))
+      (each_append Fit po (st ∷ out_ops b u) pr.0 (
+        (
+          width,
+          ap (λ (x : QueueType). x ∷ []) pr.1,
+          ap (λ (x : QueueType). x ∷ []) out.1,
+          ap (λ (x : VarKind). x ∷ []) (o3.1.0 (at_word b (codes "i")) (count_first (at_word b (codes "i")) [])),
+          a.columns,
+        ),
+        out.0,
+      )))

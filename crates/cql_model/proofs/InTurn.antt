@@ -147,7 +147,8 @@ module _ (f : Name → Bool) where
   windows_kept b known k [] srcs e h = refl
   windows_kept b known k (i ∷ is) [] e h = absurd (omega (arith, e))
   windows_kept b known k (i ∷ is) (s ∷ srcs) e h =
-      keep (w_name b k) (all_writes (window_ops b (k + 1) is srcs)) (h (codes "w" ++ numeral k)) ∙ ap (λ l. w_name b k ∷ l) (windows_kept b known (k + 1) is srcs (omega (arith, e)) h)
+      keep (w_name b k) (all_writes (window_ops b (k + 1) is srcs)) (h (codes "w" ++ numeral k))
+      ∙ ap (λ l. w_name b k ∷ l) (windows_kept b known (k + 1) is srcs (omega (arith, e)) h)
 
   crosses_kept : (b last : Name) (known : List Named) (width k : ℕ) (items : List Source) → Keeps b
       → kept (cross_ops b last k items) ≡ decl_names (cross_decls b width k (scope_of known items))
@@ -160,7 +161,8 @@ module _ (f : Name → Bool) where
       → kept (item_ops b items srcs) ≡ decl_names (item_decls b (scope_of known items))
   items_kept b known [] srcs e h = refl
   items_kept b known (i ∷ is) srcs e h =
-      join (window_ops b 1 (i ∷ is) srcs) (cross_ops b (w_name b 1) 2 is) (window_decls b 1 (scope_of known (i ∷ is))) (cross_decls b (length (item_named known i).fields) 2 (scope_of known is))
+      join (window_ops b 1 (i ∷ is) srcs) (cross_ops b (w_name b 1) 2 is) (window_decls b 1 (scope_of known (i ∷ is)))
+      (cross_decls b (length (item_named known i).fields) 2 (scope_of known is))
       (windows_kept b known 1 (i ∷ is) srcs e h) (crosses_kept b (w_name b 1) known (length (item_named known i).fields) 2 is h)
 
   select_kept : (b : Name) (scope : List Named) (last : Name) (width : ℕ) (o : Option Scalar) → Keeps b
@@ -177,12 +179,15 @@ module _ (f : Name → Bool) where
   copies_kept b k (suc u) h = keep (copy_name b k) (copy_names b (k + 1) u) (h (numeral (k + 1))) ∙ ap (λ l. copy_name b k ∷ l) (copies_kept b (k + 1) u h)
 
   out_kept : (q : Query) (p : Name) (width u : ℕ) → Keeps q.name → f q.name ≡ false
-      → kept (op (at_word q.name (codes "i")) (streamer (streamer_of q.kind)) (p ∷ []) (out_name q.name u ∷ []) (at_word q.name (codes "i") ∷ []) ∷ out_ops q.name u) ≡ decl_names (out_decls q.name width u)
+      → kept (op (at_word q.name (codes "i")) (streamer (streamer_of q.kind)) (p ∷ []) (out_name q.name u ∷ [])
+      (at_word q.name (codes "i") ∷ []) ∷ out_ops q.name u) ≡ decl_names (out_decls q.name width u)
   out_kept q p width zero h n = leave q.name [] n
   out_kept q p width (suc u) h n =
       let b = q.name in
       keep (at_word b (codes "o")) (b ∷ copy_names b 0 (suc u) ++ []) (h (codes "o"))
-      ∙ ap (λ l. at_word b (codes "o") ∷ l) (ap (λ l. filter f (b ∷ l)) (append-nil (copy_names b 0 (suc u))) ∙ leave b (copy_names b 0 (suc u)) n ∙ copies_kept b 0 (suc u) h ∙ sym (names_decls (copy_names b 0 (suc u)) (stream width)))
+      ∙ ap (λ l. at_word b (codes "o") ∷ l)
+      (ap (λ l. filter f (b ∷ l)) (append-nil (copy_names b 0 (suc u))) ∙ leave b (copy_names b 0 (suc u)) n ∙ copies_kept b 0 (suc u) h
+      ∙ sym (names_decls (copy_names b 0 (suc u)) (stream width)))
 
   query_kept : (inputs all past : List Name) (known : List Named) (q : Query) → Keeps q.name → f q.name ≡ false
       → kept (query_ops inputs all known past q) ≡ decl_names (query_decls all known q)
@@ -198,7 +203,8 @@ module _ (f : Name → Bool) where
       let sd = select_decls b (widths_of scope) q.condition in
       let pd = project_decls b q.columns in
       let od = out_decls b (columns_width scope q.columns) u in
-      join (item_ops b q.items srcs) (so ++ (po ++ oo)) (item_decls b scope) (sd ++ (pd ++ od)) (items_kept b known q.items srcs (as_many inputs all past q.items) h)
+      join (item_ops b q.items srcs) (so ++ (po ++ oo)) (item_decls b scope) (sd ++ (pd ++ od))
+      (items_kept b known q.items srcs (as_many inputs all past q.items) h)
       (join so (po ++ oo) sd (pd ++ od) (select_kept b scope last (widths_of scope) q.condition h)
       (join po oo pd od (project_kept b scope s q.columns h) (out_kept q p (columns_width scope q.columns) u h n)))
 
@@ -212,19 +218,22 @@ module _ (f : Name → Bool) where
   queries_kept inputs all past known [] h = refl
   queries_kept inputs all past known (Register name fields ∷ ps) h = queries_kept inputs all past (record { name = name; fields = fields } ∷ known) ps h.1
   queries_kept inputs all past known (AQuery q ∷ ps) h =
-      join (query_ops inputs all known past q) (queries_ops inputs all (query_named known q ∷ known) (past ++ streams_of q.items) ps) (query_decls all known q) (queries_decls all (query_named known q ∷ known) ps)
+      join (query_ops inputs all known past q) (queries_ops inputs all (query_named known q ∷ known) (past ++ streams_of q.items) ps) (query_decls all known q)
+      (queries_decls all (query_named known q ∷ known) ps)
       (query_kept inputs all past known q h.0 h.1) (queries_kept inputs all (past ++ streams_of q.items) (query_named known q ∷ known) ps h.2)
 
   copy_kept : (n : Name) (width u : ℕ) → Keeps n → kept (copy_ops n u) ≡ decl_names (copy_decls n width u)
   copy_kept n width zero h = refl
   copy_kept n width (suc zero) h = refl
   copy_kept n width (suc (suc u)) h =
-      ap (filter f) (append-nil (copy_names n 0 (suc (suc u)))) ∙ copies_kept n 0 (suc (suc u)) h ∙ sym (names_decls (copy_names n 0 (suc (suc u))) (stream width))
+      ap (filter f) (append-nil (copy_names n 0 (suc (suc u)))) ∙ copies_kept n 0 (suc (suc u)) h
+      ∙ sym (names_decls (copy_names n 0 (suc (suc u))) (stream width))
 
   inputs_kept : (all : List Name) (ps : Program) → AreKept ps → kept (input_ops all ps) ≡ decl_names (input_copies all ps)
   inputs_kept all [] h = refl
   inputs_kept all (Register name fields ∷ ps) h =
-      join (copy_ops name (count name all)) (input_ops all ps) (copy_decls name (length fields) (count name all)) (input_copies all ps) (copy_kept name (length fields) (count name all) h.0) (inputs_kept all ps h.1)
+      join (copy_ops name (count name all)) (input_ops all ps) (copy_decls name (length fields) (count name all)) (input_copies all ps)
+      (copy_kept name (length fields) (count name all) h.0) (inputs_kept all ps h.1)
   inputs_kept all (AQuery q ∷ ps) h = inputs_kept all ps h.2
 
 -- NAMES WITH A WORD ARE NO OUTPUTS
@@ -267,12 +276,17 @@ plans_in_turn p a =
     let inputs = decl_names (input_decls p) in
     let k = plans_keep p a in
     let are = outputs_are [] p in
-    let good : AreKept (other outs) p = all_kept outs p (subst Plain (sym are) (plain_asked p a.names)) a.names (λ z lt. subst (λ l. 0 < count z l) (sym are) lt) in
+    let good : AreKept (other outs) p =
+    all_kept outs p (subst Plain (sym are) (plain_asked p a.names)) a.names (λ z lt. subst (λ l. 0 < count z l) (sym are) lt) in
     let io = input_ops all p in let ao = queries_ops ins all [] [] p in (
       first_named outs (outs ++ inputs) (λ z. count z inputs) (ops_of p) k.in_order
           (λ z lt. let c = count-append z outs inputs in omega (arith, c, lt))
           (λ z lt. let c = count-append z outs inputs in omega (arith, c, lt))
           (λ z n. let c = count-append z outs inputs in let w = k.written_once z in omega (arith, c, n, w))
-          ∙ ap (λ l. (outs ++ inputs) ++ l) (join (other outs) io ao (input_copies all p) (queries_decls all [] p) (inputs_kept (other outs) all p good) (queries_kept (other outs) ins all [] [] p good)),
-      all_new [] (all_vars (ops_of p)) (λ v. ⊎_elim (λ lt. let o = k.private_once v lt in let t = total-vars v (ops_of p) in omega (arith, o, t)) (λ z. omega (arith, z)) (more_or_zero (count v (all_vars (ops_of p))))),
+          ∙ ap (λ l. (outs ++ inputs) ++ l)
+          (join (other outs) io ao (input_copies all p) (queries_decls all [] p) (inputs_kept (other outs) all p good)
+          (queries_kept (other outs) ins all [] [] p good)),
+      all_new [] (all_vars (ops_of p))
+          (λ v. ⊎_elim (λ lt. let o = k.private_once v lt in let t = total-vars v (ops_of p) in omega (arith, o, t)) (λ z. omega (arith, z))
+          (more_or_zero (count v (all_vars (ops_of p))))),
     )

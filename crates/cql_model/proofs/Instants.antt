@@ -79,9 +79,11 @@ each-map P Q f [] h = tt
 each-map P Q f (u ∷ us) h = (f u h.0, each-map P Q f us h.1)
 
 -- what is in reach at t stands up to t
-pub reach_front : (w : Window) (us vs : List ℤ) (t : ℤ) → Ascends (us ++ (t ∷ vs)) → filter (in_reach w t) (us ++ (t ∷ vs)) ≡ filter (in_reach w t) (us ++ t ∷ [])
+pub reach_front : (w : Window) (us vs : List ℤ) (t : ℤ) → Ascends (us ++ (t ∷ vs))
+    → filter (in_reach w t) (us ++ (t ∷ vs)) ≡ filter (in_reach w t) (us ++ t ∷ [])
 reach_front w us vs t h =
-    let gone : filter (in_reach w t) vs ≡ [] = filter-none (in_reach w t) vs (each-map (λ u. int_lt t u ≡ true) (λ u. in_reach w t u ≡ false) (out_of_reach w t) vs (ascends_above us vs t h)) in
+    let gone : filter (in_reach w t) vs ≡ [] =
+    filter-none (in_reach w t) vs (each-map (λ u. int_lt t u ≡ true) (λ u. in_reach w t u ≡ false) (out_of_reach w t) vs (ascends_above us vs t h)) in
     filter-append (in_reach w t) us (t ∷ vs)
     ∙ ap (λ l. filter (in_reach w t) us ++ cond (in_reach w t t) (t ∷ l) l) gone
     ∙ sym (filter-append (in_reach w t) us (t ∷ []))
@@ -102,7 +104,8 @@ lt_not_back t u h = grind (arith, h)
 pub below_front : (us vs : List ℤ) (t : ℤ) → Ascends (us ++ (t ∷ vs)) → filter (λ u. int_lt u t) (us ++ (t ∷ vs)) ≡ us
 below_front us vs t h =
     let P = λ (u : ℤ). int_lt u t in
-    let gone : filter P (t ∷ vs) ≡ [] = filter-none P (t ∷ vs) (lt_self t, each-map (λ u. int_lt t u ≡ true) (λ u. P u ≡ false) (λ u. lt_not_back t u) vs (ascends_above us vs t h)) in
+    let gone : filter P (t ∷ vs) ≡ [] =
+    filter-none P (t ∷ vs) (lt_self t, each-map (λ u. int_lt t u ≡ true) (λ u. P u ≡ false) (λ u. lt_not_back t u) vs (ascends_above us vs t h)) in
     filter-append P us (t ∷ vs) ∙ ap (λ l. filter P us ++ l) gone ∙ ap (λ l. l ++ []) (filter-all P us (ascends_below us vs t h)) ∙ nil us
   where
     nil : (l : List ℤ) → l ++ [] ≡ l

@@ -145,7 +145,8 @@ none_faulty p e = finds_none IsFaultless Tells (program_places p) (subst (Judged
 
 faulty_none : (p : Program) → AllByRecursion IsFaultless (program_places p) → first_fault [] 0 1 p ≡ None
 faulty_none p a =
-    finds_same IsFaultless Tells silent_tells one_refusal (program_places p) (first_fault [] 0 1 p) None (judged p) (none_finds IsFaultless Tells (program_places p) a)
+    finds_same IsFaultless Tells silent_tells one_refusal (program_places p) (first_fault [] 0 1 p) None (judged p)
+    (none_finds IsFaultless Tells (program_places p) a)
 
 -- whether it exceeds a limit
 over : (p : Program) (b : Bool) → exceeds (plan_of p) ≡ b → (r : Refusal) → or_limit b p ≡ Some r → (KeepsLimits (plan_of p) → ⊥) × (r ≡ last_limit p)

@@ -64,9 +64,11 @@ last_more (p ∷ q ∷ qs) b = last_more (q ∷ qs) b
 streams_from : (s : Streamer) (past bs : List Batch) → given_after (streamer_one s) (items past) (items bs) ≡ items (streamed_from s (last_rows past) bs)
 streams_from s past [] = refl
 streams_from s past (b ∷ bs) =
-    ap (λ l. batch_item (same_instant b (streamed s (last_rows l) b.rows)) ∷ given_after (streamer_one s) (items past ++ batch_item b ∷ []) (items bs)) (batches_items past)
+    ap (λ l. batch_item (same_instant b (streamed s (last_rows l) b.rows)) ∷ given_after (streamer_one s) (items past ++ batch_item b ∷ []) (items bs))
+    (batches_items past)
     ∙ ap (λ l. batch_item (same_instant b (streamed s (last_rows past) b.rows)) ∷ given_after (streamer_one s) l (items bs)) (sym (items-append past (b ∷ [])))
-    ∙ ap (λ l. batch_item (same_instant b (streamed s (last_rows past) b.rows)) ∷ l) (streams_from s (past ++ b ∷ []) bs ∙ ap (λ r. items (streamed_from s r bs)) (last_more past b))
+    ∙ ap (λ l. batch_item (same_instant b (streamed s (last_rows past) b.rows)) ∷ l)
+    (streams_from s (past ++ b ∷ []) bs ∙ ap (λ r. items (streamed_from s r bs)) (last_more past b))
 
 -- the law of streamers
 pub streamers_are : StreamersAre
@@ -89,7 +91,8 @@ rights_from : (xs bs : List Batch) → (feed (fire cross 1) (items bs) (waiting 
 rights_from [] bs = right_alone (items bs) []
 rights_from (a ∷ xs) [] = refl
 rights_from (a ∷ xs) (b ∷ bs) =
-    ap (λ (d : List item.Item × Pairing). d.0 ++ (feed (fire cross 1) (items bs) (Crossing d.1 ∷ [])).outs 0) (right_one (batch_item a) (batch_item b) (items xs))
+    ap (λ (d : List item.Item × Pairing). d.0 ++ (feed (fire cross 1) (items bs) (Crossing d.1 ∷ [])).outs 0)
+    (right_one (batch_item a) (batch_item b) (items xs))
     ∙ ap (λ l. batch_item (same_instant a (product a.rows b.rows)) ∷ l) (rights_from xs bs)
 
 -- the law of products

@@ -45,8 +45,10 @@ module _ (h : History) (ts : List ℤ) (up : Ascends ts) (inputs all : List Name
   served : (ks : List KnownStream) (n : Name) → Served ks → 0 < count n (known_names (named_of ks)) → ServedBy n (rows_named ks n)
   served [] n s lt j lj = absurd (omega (arith, lt))
   served (k ∷ ks) n s lt j lj = ⊎_elim
-      (λ c. ap (λ m. h (queue_of_use inputs all m j)) (sym c.0) ∙ s.0 j (subst (λ m. j < count m all) (sym c.0) lj) ∙ ap (λ b. spread ts (λ t. if b then k.rows t else rows_named ks n t)) (sym c.1))
-      (λ c. served ks n s.1 (let e = ap one_if c.1 in omega (arith, lt, e)) j lj ∙ ap (λ b. spread ts (λ t. if b then k.rows t else rows_named ks n t)) (sym c.1))
+      (λ c. ap (λ m. h (queue_of_use inputs all m j)) (sym c.0) ∙ s.0 j (subst (λ m. j < count m all) (sym c.0) lj)
+      ∙ ap (λ b. spread ts (λ t. if b then k.rows t else rows_named ks n t)) (sym c.1))
+      (λ c. served ks n s.1 (let e = ap one_if c.1 in omega (arith, lt, e)) j lj
+      ∙ ap (λ b. spread ts (λ t. if b then k.rows t else rows_named ks n t)) (sym c.1))
       (cases_name k.named.name n)
 
   -- uses are counted
@@ -74,7 +76,8 @@ module _ (h : History) (ts : List ℤ) (up : Ascends ts) (inputs all : List Name
       let srcs = queues_of_uses inputs all past (streams_of q.items) in
       let last = item_last q.name q.items in
       let parts = each-append (Solves h) (item_ops q.name q.items srcs) (tail_ops q (scope_of (named_of ks) q.items) (count q.name all) last) e in
-      tail_has h ts up ks q (count q.name all) last wide parts.1 (items_have h ts up ks q.name q.items srcs a.some parts.0 (reads_all ks past q.items rest s a.streams r))
+      tail_has h ts up ks q (count q.name all) last wide parts.1
+      (items_have h ts up ks q.name q.items srcs a.some parts.0 (reads_all ks past q.items rest s a.streams r))
 
   query_serves : (ks : List KnownStream) (q : Query) (r : Timed) → count q.name inputs ≡ 0 → Gives h ts up q.name (count q.name all) r → ServedBy q.name r
   query_serves ks q r z g j lt = ap h (source_query inputs all q.name j z) ∙ g.copy j lt
@@ -98,11 +101,14 @@ module _ (h : History) (ts : List ℤ) (up : Ascends ts) (inputs all : List Name
       → map h (decl_names (output_decls (named_of ks) ps)) ≡ map (spread ts) (answers ts ks ps files)
   queries_give ks past [] files wide s i f a r e = refl
   queries_give ks past (Register name fields ∷ ps) files wide s i f a r e =
-      queries_give (stream_known name fields files ∷ ks) past ps (other_files files) ((λ t. file_wide (length fields) (first_file files) t f.0), wide) (i.0, s) i.1 f.1 a r e
+      queries_give (stream_known name fields files ∷ ks) past ps (other_files files) ((λ t. file_wide (length fields) (first_file files) t f.0), wide)
+      (i.0, s) i.1 f.1 a r e
   queries_give ks past (AQuery q ∷ ps) files wide s i f a r e =
-      let parts = each-append (Solves h) (query_ops inputs all (named_of ks) past q) (queries_ops inputs all (query_named (named_of ks) q ∷ named_of ks) (past ++ streams_of q.items) ps) e in
+      let parts = each-append (Solves h) (query_ops inputs all (named_of ks) past q)
+      (queries_ops inputs all (query_named (named_of ks) q ∷ named_of ks) (past ++ streams_of q.items) ps) e in
       let g = query_gives ks past (all_uses ps) q wide s a.0 r parts.0 in
-      let more = queries_give (query_known ts ks q ∷ ks) (past ++ streams_of q.items) ps files ((λ t. answer_wide ts ks q t wide), wide) (query_serves ks q (answer ts ks q) a.0.apart g, s) i f a.1
+      let more = queries_give (query_known ts ks q ∷ ks) (past ++ streams_of q.items) ps files ((λ t. answer_wide ts ks q t wide), wide)
+      (query_serves ks q (answer ts ks q) a.0.apart g, s) i f a.1
       (room_next past (streams_of q.items) (all_uses ps) r) parts.1 in
       ap (λ x. x ∷ map h (decl_names (output_decls (query_named (named_of ks) q ∷ named_of ks) ps))) g.own
       ∙ ap (λ l. spread ts (answer ts ks q) ∷ l) more

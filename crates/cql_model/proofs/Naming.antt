@@ -38,7 +38,8 @@ split_tagged (c ∷ cs) None h =
 split_tagged (c ∷ cs) (Some w) h =
     let p = and_parts (not (nat_eq c 64)) (has_no_at cs) h in
     let e : nat_eq c 64 ≡ false = grind (arith, p.0) in
-    ap (λ x. if x then ([], Some (at_word cs w)) else (c ∷ (split (at_word cs w)).0, (split (at_word cs w)).1)) e ∙ ap (λ (s : Name × Tag). (c ∷ s.0, s.1)) (split_tagged cs (Some w) p.1)
+    ap (λ x. if x then ([], Some (at_word cs w)) else (c ∷ (split (at_word cs w)).0, (split (at_word cs w)).1)) e
+    ∙ ap (λ (s : Name × Tag). (c ∷ s.0, s.1)) (split_tagged cs (Some w) p.1)
 
 -- the same tag
 abbrev pub tag_eq : Tag → Tag → Bool
@@ -116,7 +117,8 @@ from_nil low = record { once = λ t. omega arith; above = λ t lt. absurd (omega
 pub from_more : (n low : ℕ) (xs ys : List Tag) → n < low → Of n xs → From low ys → From n (xs ++ ys)
 from_more n low xs ys lt a b = record {
   once = λ t. let s = tags-append t xs ys in let k = a.once t in let m = b.once t in ⊎_elim
-      (λ here. let c = a.only t here in ⊎_elim (λ there. let d = b.above t there in absurd (omega (arith, c, d, lt))) (λ z. omega (arith, s, k, z)) (more_or_zero (tags t ys)))
+      (λ here. let c = a.only t here in ⊎_elim (λ there. let d = b.above t there in absurd (omega (arith, c, d, lt))) (λ z. omega (arith, s, k, z))
+      (more_or_zero (tags t ys)))
       (λ z. omega (arith, s, m, z))
       (more_or_zero (tags t xs));
   above = λ t some. let s = tags-append t xs ys in ⊎_elim

@@ -74,21 +74,27 @@ module _ (p : PlanForm) (v : KeepsRules p) where
 
   no_written_twice : Empty (WrittenTwice p)
   no_written_twice =
-      first Queue _ (queue_names p) (names-along (λ w. IsUsedOnce (count w (decl_names p.inputs)) (total (writes_it w) p.ops)) [] (queue_names p) (λ q lt. let o = v.written_once q in ((omega (arith, o)), λ g. omega (arith, o, g))))
+      first Queue _ (queue_names p)
+      (names-along (λ w. IsUsedOnce (count w (decl_names p.inputs)) (total (writes_it w) p.ops)) [] (queue_names p)
+      (λ q lt. let o = v.written_once q in ((omega (arith, o)), λ g. omega (arith, o, g))))
 
   no_read_twice : Empty (ReadTwice p)
   no_read_twice =
-      first Queue _ (queue_names p) (names-along (λ w. IsUsedOnce (count w (decl_names p.outputs)) (total (reads_it w) p.ops)) [] (queue_names p) (λ q lt. let o = v.read_once q in ((omega (arith, o)), λ g. omega (arith, o, g))))
+      first Queue _ (queue_names p)
+      (names-along (λ w. IsUsedOnce (count w (decl_names p.outputs)) (total (reads_it w) p.ops)) [] (queue_names p)
+      (λ q lt. let o = v.read_once q in ((omega (arith, o)), λ g. omega (arith, o, g))))
 
   no_early : Empty (ReadTooEarly p)
   no_early =
-      each-empty (ReadTooEarlyAt (decl_names p.inputs)) [] p.ops (λ b op h. first Queue _ op.reads h) (reads-order (decl_names p.inputs) (λ q. count q (decl_names p.inputs)) [] p.ops (λ q. omega arith) v.in_order)
+      each-empty (ReadTooEarlyAt (decl_names p.inputs)) [] p.ops (λ b op h. first Queue _ op.reads h)
+      (reads-order (decl_names p.inputs) (λ q. count q (decl_names p.inputs)) [] p.ops (λ q. omega arith) v.in_order)
 
   no_mistyped : Empty (Mistyped p)
   no_mistyped =
       or-empty _ _ (first _ _ p.outputs (all-along IsOuter [] p.outputs v.outputs_typed))
       (or-empty _ _ (first _ _ p.inputs (all-along IsOuter [] p.inputs v.inputs_typed))
-      (or-empty _ _ (first _ _ p.queues (all-along HasWidth [] p.queues v.queues_typed)) (first _ _ p.tables (all-along (λ t. IsTableKind t.kind) [] p.tables v.tables_typed))))
+      (or-empty _ _ (first _ _ p.queues (all-along HasWidth [] p.queues v.queues_typed))
+      (first _ _ p.tables (all-along (λ t. IsTableKind t.kind) [] p.tables v.tables_typed))))
 
   no_misfit : Empty (Misfit p)
   no_misfit = first _ _ p.ops (each-along (IsFit p) [] p.ops v.fits)
@@ -173,7 +179,8 @@ within_where p h l =
 -- a plan within the limits exceeds none
 pub where_within : (p : PlanForm) → Within p → exceeds p ≡ false
 where_within p h =
-    none_any (is_over p) limits (each_limit (λ k. is_over p k ≡ false) (λ l. none_any (nat_lt (most_of l)) (numbers l p) (low_all (most_of l) (numbers l p) (h l))) limits)
+    none_any (is_over p) limits
+    (each_limit (λ k. is_over p k ≡ false) (λ l. none_any (nat_lt (most_of l)) (numbers l p) (low_all (most_of l) (numbers l p) (h l))) limits)
 
 -- ACCEPTED PROGRAMS
 

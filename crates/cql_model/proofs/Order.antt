@@ -25,7 +25,8 @@ pub reads_more : (ops : List OpForm) (known known' : Name → ℕ) → ((z : Nam
 reads_more [] known known' h r = tt
 reads_more (op ∷ ops) known known' h r = (
   (λ z lt. h z (r.0 z lt)),
-  reads_more ops (and_writes known op) (and_writes known' op) (λ z lt. ⊎_elim (λ k. let m = h z k in omega (arith, m)) (λ n. omega (arith, n, lt)) (more_or_zero (known z))) r.1,
+  reads_more ops (and_writes known op) (and_writes known' op)
+      (λ z lt. ⊎_elim (λ k. let m = h z k in omega (arith, m)) (λ n. omega (arith, n, lt)) (more_or_zero (known z))) r.1,
 )
 
 -- what is known behind these operators
@@ -84,7 +85,8 @@ windows_known known b k (i ∷ is) (s ∷ srcs) e =
     let rest = window_ops b (k + 1) is srcs in
     let o = op (w_name b k) (window (kernel_window i.window)) (s ∷ []) (w_name b k ∷ []) (w_name b k ∷ []) in (
       (let f = one_same (w_name b k) in omega (arith, f)),
-      windows_more (behind known rest) (behind known (o ∷ rest)) b (k + 1) is (λ z lt. omega (arith, lt)) (windows_known known b (k + 1) is srcs (omega (arith, e))),
+      windows_more (behind known rest) (behind known (o ∷ rest)) b (k + 1) is (λ z lt. omega (arith, lt))
+          (windows_known known b (k + 1) is srcs (omega (arith, e))),
     )
 
 crosses_read : (known : Name → ℕ) (b last : Name) (k : ℕ) (items : List Source) → 0 < known last → WindowsKnown known b k items
@@ -93,7 +95,8 @@ crosses_read known b last k [] l w = tt
 crosses_read known b last k (i ∷ is) l w =
     let o = op (x_name b k) cross (last ∷ w_name b k ∷ []) (x_name b k ∷ []) (x_name b k ∷ []) in (
       two_known known last (w_name b k) l w.0,
-      crosses_read (and_writes known o) b (x_name b k) (k + 1) is (let f = one_same (x_name b k) in omega (arith, f)) (windows_more known (and_writes known o) b (k + 1) is (λ z lt. omega (arith, lt)) w.1),
+      crosses_read (and_writes known o) b (x_name b k) (k + 1) is (let f = one_same (x_name b k) in omega (arith, f))
+          (windows_more known (and_writes known o) b (k + 1) is (λ z lt. omega (arith, lt)) w.1),
     )
 
 cross_known : (known : Name → ℕ) (b last : Name) (k : ℕ) (items : List Source) → 0 < known last
@@ -271,8 +274,10 @@ module _ (inputs all : List Name) where
       let more : (z : Name) → 0 < known z → 0 < later z = λ z lt. omega (arith, lt) in
       reads_append block (queries_ops inputs all (query_named ks q ∷ ks) (past ++ streams_of q.items) ps) known
       (block_in_order known q scope u srcs a.0.some (as_many inputs all past q.items) (sources_known known ks past q.items (all_uses ps) s a.0.streams r))
-      (queries_in_order later (query_named ks q ∷ ks) (past ++ streams_of q.items) ps
-      ((λ j lt. subst (λ x. 0 < later x) (sym (query_source q.name j o.0)) (let w = block_writes_copy q scope u srcs j lt in omega (arith, w))), serves_more known later ks more s)
+      (queries_in_order later (query_named ks q ∷ ks) (past ++ streams_of q.items) ps (
+        (λ j lt. subst (λ x. 0 < later x) (sym (query_source q.name j o.0)) (let w = block_writes_copy q scope u srcs j lt in omega (arith, w))),
+        serves_more known later ks more s,
+      )
       (inputs_more known later ps more i) a.1 o.1 (fit_next past (streams_of q.items) (all_uses ps) r))
 
   -- the copies of the inputs
@@ -297,7 +302,8 @@ module _ (inputs all : List Name) where
   inputs_in_order known [] k = tt
   inputs_in_order known (Register name fields ∷ ps) k =
       let c = copy_ops name (count name all) in
-      reads_append c (input_ops all ps) known (copy_in_order known name (count name all) k.0) (inputs_in_order (behind known c) ps (known_more known (behind known c) ps (λ z lt. omega (arith, lt)) k.1))
+      reads_append c (input_ops all ps) known (copy_in_order known name (count name all) k.0)
+      (inputs_in_order (behind known c) ps (known_more known (behind known c) ps (λ z lt. omega (arith, lt)) k.1))
   inputs_in_order known (AQuery q ∷ ps) k = inputs_in_order known ps k
 
   one_serves : (known : Name → ℕ) (n : Name) → 0 < count n inputs → 0 < known n → Serves (behind known (copy_ops n (count n all))) n
@@ -305,7 +311,8 @@ module _ (inputs all : List Name) where
       (λ o. subst (λ x. 0 < behind known (copy_ops n (count n all)) x) (sym o.is) (omega (arith, k)))
       (λ c. ⊎_elim
       (λ more. subst (λ x. 0 < behind known (copy_ops n (count n all)) x) (sym c.is) (let w = input_writes_copy n (count n all) j more lt in omega (arith, w)))
-      (λ le. let e : queue_of_use inputs all n j ≡ n = grind (arith, i, le) in subst (λ x. 0 < behind known (copy_ops n (count n all)) x) (sym e) (omega (arith, k)))
+      (λ le. let e : queue_of_use inputs all n j ≡ n =
+      grind (arith, i, le) in subst (λ x. 0 < behind known (copy_ops n (count n all)) x) (sym e) (omega (arith, k)))
       (cases_lt 1 (count n all)))
       (which inputs all n j)
 
@@ -321,8 +328,10 @@ module _ (inputs all : List Name) where
   inputs_serve known (Register name fields ∷ ps) t k =
       let c = copy_ops name (count name all) in
       let all_ops = behind known (c ++ input_ops all ps) in (
-        (λ j lt. let m = one_serves known name t.0 k.0 j lt in let a = total-append (writes_it (queue_of_use inputs all name j)) c (input_ops all ps) in omega (arith, m, a)),
-        inputs_more (behind known (input_ops all ps)) all_ops ps (λ z lt. let a = total-append (writes_it z) c (input_ops all ps) in omega (arith, lt, a)) (inputs_serve known ps t.1 k.1),
+        (λ j lt. let m = one_serves known name t.0 k.0 j lt in let a =
+            total-append (writes_it (queue_of_use inputs all name j)) c (input_ops all ps) in omega (arith, m, a)),
+        inputs_more (behind known (input_ops all ps)) all_ops ps (λ z lt. let a = total-append (writes_it z) c (input_ops all ps) in omega (arith, lt, a))
+            (inputs_serve known ps t.1 k.1),
       )
   inputs_serve known (AQuery q ∷ ps) t k = inputs_serve known ps t k
 

@@ -74,7 +74,8 @@ sums_base : (f : Part → List Tag) (z : Name) (ps : Program) → AllByRecursion
 sums_base f z [] names once = omega arith
 sums_base f z (Register name fields ∷ ps) names once =
     let a = own_once name z (f (Register name fields)) names.0 once.0 in let m = sums_base f z ps names.1 once.1 in omega (arith, a, m)
-sums_base f z (AQuery q ∷ ps) names once = let a = own_once q.name z (f (AQuery q)) names.0 once.0 in let m = sums_base f z ps names.1 once.1 in omega (arith, a, m)
+sums_base f z (AQuery q ∷ ps) names once = let a = own_once q.name z (f (AQuery q)) names.0 once.0 in let m =
+    sums_base f z ps names.1 once.1 in omega (arith, a, m)
 
 -- tags that are once in each unit are once in a program whose names are once
 pub sums_once : (f : Part → List Tag) (z : Name) (ps : Program) → AllByRecursion (λ n. IsTrue (has_no_at n)) (declared_names ps)
@@ -164,7 +165,8 @@ copy_labels z n (suc (suc u)) = refl
 
 -- how often the operators of all queries write a queue
 pub all_writes : (z : Name) (inputs all past : List Name) (known : List Named) (ps : Program)
-    → count z (registered ps) + (total (writes_it z) (input_ops all ps) + total (writes_it z) (queries_ops inputs all known past ps)) ≡ sums (queues_of all) z ps
+    → count z (registered ps) + (total (writes_it z) (input_ops all ps) + total (writes_it z) (queries_ops inputs all known past ps)) ≡ sums
+    (queues_of all) z ps
 all_writes z inputs all past known [] = refl
 all_writes z inputs all past known (Register name fields ∷ ps) =
     let a = total-append (writes_it z) (copy_ops name (count name all)) (input_ops all ps) in
@@ -174,7 +176,8 @@ all_writes z inputs all past known (Register name fields ∷ ps) =
     omega (arith, a, c, b, m)
 all_writes z inputs all past known (AQuery q ∷ ps) =
     let srcs = queues_of_uses inputs all past (streams_of q.items) in
-    let a = total-append (writes_it z) (query_ops inputs all known past q) (queries_ops inputs all (query_named known q ∷ known) (past ++ streams_of q.items) ps) in
+    let a = total-append (writes_it z) (query_ops inputs all known past q)
+    (queries_ops inputs all (query_named known q ∷ known) (past ++ streams_of q.items) ps) in
     let b = block_writes z q (scope_of known q.items) (count q.name all) srcs (as_many inputs all past q.items) in
     let m = all_writes z inputs all (past ++ streams_of q.items) (query_named known q ∷ known) ps in
     omega (arith, a, b, m)
@@ -190,7 +193,8 @@ all_vars_sum z inputs all past known (Register name fields ∷ ps) =
     omega (arith, a, c, m)
 all_vars_sum z inputs all past known (AQuery q ∷ ps) =
     let srcs = queues_of_uses inputs all past (streams_of q.items) in
-    let a = total-append (vars_it z) (query_ops inputs all known past q) (queries_ops inputs all (query_named known q ∷ known) (past ++ streams_of q.items) ps) in
+    let a = total-append (vars_it z) (query_ops inputs all known past q)
+    (queries_ops inputs all (query_named known q ∷ known) (past ++ streams_of q.items) ps) in
     let b = block_vars z q (scope_of known q.items) (count q.name all) srcs (as_many inputs all past q.items) in
     let m = all_vars_sum z inputs all (past ++ streams_of q.items) (query_named known q ∷ known) ps in
     omega (arith, a, b, m)
@@ -206,7 +210,8 @@ all_labels z inputs all past known (Register name fields ∷ ps) =
     omega (arith, a, c, m)
 all_labels z inputs all past known (AQuery q ∷ ps) =
     let srcs = queues_of_uses inputs all past (streams_of q.items) in
-    let a = total-append (named_it z) (query_ops inputs all known past q) (queries_ops inputs all (query_named known q ∷ known) (past ++ streams_of q.items) ps) in
+    let a = total-append (named_it z) (query_ops inputs all known past q)
+    (queries_ops inputs all (query_named known q ∷ known) (past ++ streams_of q.items) ps) in
     let b = block_labels z q (scope_of known q.items) (count q.name all) srcs (as_many inputs all past q.items) in
     let m = all_labels z inputs all (past ++ streams_of q.items) (query_named known q ∷ known) ps in
     omega (arith, a, b, m)
@@ -218,7 +223,9 @@ copied_decls z n width (suc (suc u)) = ap (count z) (names_decls (copy_names n 0
 
 -- how often their queues are declared
 pub all_decls_sum : (z : Name) (all : List Name) (known : List Named) (ps : Program)
-    → count z (decl_names (output_decls known ps)) + (count z (decl_names (input_decls ps)) + (count z (decl_names (input_copies all ps)) + count z (decl_names (queries_decls all known ps)))) ≡ sums (queues_of all) z ps
+    → count z (decl_names (output_decls known ps)) +
+    (count z (decl_names (input_decls ps)) + (count z (decl_names (input_copies all ps)) + count z (decl_names (queries_decls all known ps)))) ≡ sums
+    (queues_of all) z ps
 all_decls_sum z all known [] = refl
 all_decls_sum z all known (Register name fields ∷ ps) =
     let a = names-append z (copy_decls name (length fields) (count name all)) (input_copies all ps) in
@@ -240,17 +247,21 @@ inputs_declared z (AQuery q ∷ ps) = inputs_declared z ps
 
 -- SOURCES
 
-sources-append : (inputs all past xs ys : List Name) → queues_of_uses inputs all past (xs ++ ys) ≡ queues_of_uses inputs all past xs ++ queues_of_uses inputs all (past ++ xs) ys
+sources-append : (inputs all past xs ys : List Name)
+    → queues_of_uses inputs all past (xs ++ ys) ≡ queues_of_uses inputs all past xs ++ queues_of_uses inputs all (past ++ xs) ys
 sources-append inputs all past [] ys = ap (λ l. queues_of_uses inputs all l ys) (sym (nil past)) where
   nil : (l : List Name) → l ++ [] ≡ l
   nil [] = refl
   nil (x ∷ xs) = ap (λ l. x ∷ l) (nil xs)
 sources-append inputs all past (x ∷ xs) ys =
-    ap (λ l. queue_of_use inputs all x (count x past) ∷ l) (sources-append inputs all (past ++ x ∷ []) xs ys ∙ ap (λ l. queues_of_uses inputs all (past ++ x ∷ []) xs ++ queues_of_uses inputs all l ys) (append_assoc past (x ∷ []) xs))
+    ap (λ l. queue_of_use inputs all x (count x past) ∷ l)
+    (sources-append inputs all (past ++ x ∷ []) xs ys
+    ∙ ap (λ l. queues_of_uses inputs all (past ++ x ∷ []) xs ++ queues_of_uses inputs all l ys) (append_assoc past (x ∷ []) xs))
 
 -- how often they read a queue
 pub all_reads : (z : Name) (inputs all past : List Name) (known : List Named) (ps : Program) → FewItems ps
-    → count z (decl_names (output_decls known ps)) + (total (reads_it z) (input_ops all ps) + total (reads_it z) (queries_ops inputs all known past ps)) ≡ sums (taken_of all) z ps + count z (queues_of_uses inputs all past (all_uses ps))
+    → count z (decl_names (output_decls known ps)) + (total (reads_it z) (input_ops all ps) + total (reads_it z) (queries_ops inputs all known past ps)) ≡ sums
+    (taken_of all) z ps + count z (queues_of_uses inputs all past (all_uses ps))
 all_reads z inputs all past known [] h = refl
 all_reads z inputs all past known (Register name fields ∷ ps) h =
     let a = total-append (reads_it z) (copy_ops name (count name all)) (input_ops all ps) in
@@ -259,7 +270,8 @@ all_reads z inputs all past known (Register name fields ∷ ps) h =
     omega (arith, a, c, m)
 all_reads z inputs all past known (AQuery q ∷ ps) h =
     let srcs = queues_of_uses inputs all past (streams_of q.items) in
-    let a = total-append (reads_it z) (query_ops inputs all known past q) (queries_ops inputs all (query_named known q ∷ known) (past ++ streams_of q.items) ps) in
+    let a = total-append (reads_it z) (query_ops inputs all known past q)
+    (queries_ops inputs all (query_named known q ∷ known) (past ++ streams_of q.items) ps) in
     let b = block_reads z q (scope_of known q.items) (count q.name all) srcs h.0 (as_many inputs all past q.items) in
     let m = all_reads z inputs all (past ++ streams_of q.items) (query_named known q ∷ known) ps h.2 in
     let s = ap (count z) (sources-append inputs all past (streams_of q.items) (all_uses ps)) in

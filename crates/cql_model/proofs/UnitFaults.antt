@@ -44,7 +44,8 @@ both before xs ys a b c e f g = subst (Found before (xs ++ ys)) e (finds_both (S
 -- WHAT IS KNOWN
 
 pub known-names : (n : Name) (ks : List Named) (ps : Program)
-    → count n (known_names (fold (λ (known : List Named) (unit : Part). declares known unit ∷ known) ks ps)) ≡ count n (known_names ks) + count n (declared_names ps)
+    → count n (known_names (fold (λ (known : List Named) (unit : Part). declares known unit ∷ known) ks ps)) ≡ count n (known_names ks) + count n
+    (declared_names ps)
 known-names n ks [] = omega arith
 known-names n ks (Register name fields ∷ ps) = let m = known-names n (record { name = name; fields = fields } ∷ ks) ps in omega (arith, m)
 known-names n ks (AQuery q ∷ ps) = let m = known-names n (declares ks (AQuery q) ∷ ks) ps in omega (arith, m)
@@ -85,7 +86,8 @@ item_places_are a f (i ∷ is) = step (name_eq i.name a) (item_places_are a f is
 
 value : (before : Program) (items : List Source) (e : Scalar) → Found before (value_spots items e) (scalar_fault (scope_of (known_by before) items) e)
 value before items (Number n) = refl
-value before items (Field f) = field_use before items (Alone f) (field_places f (scope_of (known_by before) items)) (places_are f (scope_of (known_by before) items))
+value before items (Field f) =
+    field_use before items (Alone f) (field_places f (scope_of (known_by before) items)) (places_are f (scope_of (known_by before) items))
 value before items (ItemField a f) =
     field_use before items (OfItem a f) (item_places a f (scope_of (known_by before) items)) (item_places_are a f (scope_of (known_by before) items))
 value before items (Neg e) = value before items e

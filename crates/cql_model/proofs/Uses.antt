@@ -44,11 +44,14 @@ module _ (inputs all : List Name) where
   one_use n m k j hn hm e = ⊎_elim
       (λ a. ⊎_elim
       (λ b. let s = pair (tagged n None) (tagged m None) None None (sym a.is ∙ e ∙ b.is) (split_tagged n None hn) (split_tagged m None hm) in (s.0, inr a.few))
-      (λ b. let s = pair (tagged n None) (tagged m (Some (numeral (j + 1)))) None (Some (numeral (j + 1))) (sym a.is ∙ e ∙ b.is) (split_tagged n None hn) (split_tagged m (Some (numeral (j + 1))) hm) in absurd (none-some (numeral (j + 1)) s.1))
+      (λ b. let s = pair (tagged n None) (tagged m (Some (numeral (j + 1)))) None (Some (numeral (j + 1))) (sym a.is ∙ e ∙ b.is) (split_tagged n None hn)
+      (split_tagged m (Some (numeral (j + 1))) hm) in absurd (none-some (numeral (j + 1)) s.1))
       (which inputs all m j))
       (λ a. ⊎_elim
-      (λ b. let s = pair (tagged n (Some (numeral (k + 1)))) (tagged m None) (Some (numeral (k + 1))) None (sym a.is ∙ e ∙ b.is) (split_tagged n (Some (numeral (k + 1))) hn) (split_tagged m None hm) in absurd (none-some (numeral (k + 1)) (sym s.1)))
-      (λ b. let s = pair (tagged n (Some (numeral (k + 1)))) (tagged m (Some (numeral (j + 1)))) (Some (numeral (k + 1))) (Some (numeral (j + 1))) (sym a.is ∙ e ∙ b.is) (split_tagged n (Some (numeral (k + 1))) hn) (split_tagged m (Some (numeral (j + 1))) hm) in
+      (λ b. let s = pair (tagged n (Some (numeral (k + 1)))) (tagged m None) (Some (numeral (k + 1))) None (sym a.is ∙ e ∙ b.is)
+      (split_tagged n (Some (numeral (k + 1))) hn) (split_tagged m None hm) in absurd (none-some (numeral (k + 1)) (sym s.1)))
+      (λ b. let s = pair (tagged n (Some (numeral (k + 1)))) (tagged m (Some (numeral (j + 1)))) (Some (numeral (k + 1))) (Some (numeral (j + 1)))
+      (sym a.is ∙ e ∙ b.is) (split_tagged n (Some (numeral (k + 1))) hn) (split_tagged m (Some (numeral (j + 1))) hm) in
       let d = numeral_injective (k + 1) (j + 1) (same_Some (numeral (k + 1)) (numeral (j + 1)) s.1) in (s.0, inl (omega (arith, d))))
       (which inputs all m j))
       (which inputs all n k)
@@ -85,8 +88,10 @@ module _ (inputs all : List Name) where
   pub read_once : (z : Name) (past ns : List Name) → Plain ns → Room past ns → count z (queues_of_uses inputs all past ns) ≤ 1
   read_once z past [] hs r = omega arith
   read_once z past (m ∷ ms) hs r = ⊎_elim
-      (λ c. let rest = not_again m (count m past) (past ++ m ∷ []) ms hs.0 hs.1 (next_room past m ms r) (let a = count-append m past (m ∷ []) in let o = one_same m in omega (arith, a, o)) in
-      let rest2 : count z (queues_of_uses inputs all (past ++ m ∷ []) ms) ≡ 0 = subst (λ x. count x (queues_of_uses inputs all (past ++ m ∷ []) ms) ≡ 0) c.0 rest in
+      (λ c. let rest = not_again m (count m past) (past ++ m ∷ []) ms hs.0 hs.1 (next_room past m ms r)
+      (let a = count-append m past (m ∷ []) in let o = one_same m in omega (arith, a, o)) in
+      let rest2 : count z (queues_of_uses inputs all (past ++ m ∷ []) ms) ≡ 0 =
+      subst (λ x. count x (queues_of_uses inputs all (past ++ m ∷ []) ms) ≡ 0) c.0 rest in
       let f = ap one_if c.1 in omega (arith, f, rest2))
       (λ c. let f = ap one_if c.1 in let m2 = read_once z (past ++ m ∷ []) ms hs.1 (next_room past m ms r) in omega (arith, f, m2))
       (cases_name (queue_of_use inputs all m (count m past)) z)
@@ -173,6 +178,7 @@ module _ (inputs all : List Name) where
   hit_apart z ps g a h = ⊎_elim
       (λ o. subst (λ x. sums (taken_of all) x ps ≡ 0) (sym o.is ∙ g.is) (own_apart g.stream ps g.plain o.input o.few a h))
       (λ c. let k = g.number in
-      let s : (split z).1 ≡ Some (numeral (k + 1)) = ap (λ x. (split x).1) (sym g.is ∙ c.is) ∙ ap (λ (x : Name × Tag). x.1) (split_tagged g.stream (Some (numeral (k + 1))) g.plain) in
+      let s : (split z).1 ≡ Some (numeral (k + 1)) = ap (λ x. (split x).1) (sym g.is ∙ c.is)
+      ∙ ap (λ (x : Name × Tag). x.1) (split_tagged g.stream (Some (numeral (k + 1))) g.plain) in
       copy_apart z (numeral (k + 1)) ps s (low_class (numeral (k + 1)) (starts_low (k + 1))) a h)
       (which inputs all g.stream g.number)

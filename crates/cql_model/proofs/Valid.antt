@@ -192,7 +192,8 @@ Sized ks = AllByRecursion (λ (i : Named). is_width (length i.fields) ≡ true) 
 items_wide : (b : Name) (ks : List Named) → Sized ks → widths_of ks ≤ 16 → All HasWidth (item_decls b ks)
 items_wide b [] z few = All-nil HasWidth
 items_wide b (i ∷ is) z few =
-    All-append HasWidth (window_decls b 1 (i ∷ is)) (cross_decls b (length i.fields) 2 is) (windows_wide b 1 (i ∷ is) z) (crosses_wide b (length i.fields) 2 is (one.narrow (length i.fields) z.0).0 few)
+    All-append HasWidth (window_decls b 1 (i ∷ is)) (cross_decls b (length i.fields) 2 is) (windows_wide b 1 (i ∷ is) z)
+    (crosses_wide b (length i.fields) 2 is (one.narrow (length i.fields) z.0).0 few)
 
 select_wide : (b : Name) (width : ℕ) (o : Option Scalar) → is_width width ≡ true → All HasWidth (select_decls b width o)
 select_wide b width None w = All-nil HasWidth
@@ -205,7 +206,8 @@ project_wide b scope (Chosen cs) w = All-cons HasWidth (decl (at_word b (codes "
 out_wide : (b : Name) (width u : ℕ) → is_width width ≡ true → All HasWidth (out_decls b width u)
 out_wide b width zero w = All-nil HasWidth
 out_wide b width (suc u) w =
-    All-cons HasWidth (decl (at_word b (codes "o")) (stream width)) (decls_of (copy_names b 0 (suc u)) (stream width)) w (all-decls HasWidth (copy_names b 0 (suc u)) (stream width) (λ n. w))
+    All-cons HasWidth (decl (at_word b (codes "o")) (stream width)) (decls_of (copy_names b 0 (suc u)) (stream width)) w
+    (all-decls HasWidth (copy_names b 0 (suc u)) (stream width) (λ n. w))
 
 -- items are there, so their product has a value
 pub sized_some : (ks : List Named) → 0 < length ks → Sized ks → 1 ≤ widths_of ks
@@ -240,7 +242,8 @@ copy_wide n width (suc (suc u)) w = all-decls HasWidth (copy_names n 0 (suc (suc
 copies_wide : (all : List Name) (ks : List Named) (ps : Program) → AreQueries ks ps → All HasWidth (input_copies all ps)
 copies_wide all ks [] a = All-nil HasWidth
 copies_wide all ks (Register name fields ∷ ps) a =
-    All-append HasWidth (copy_decls name (length fields) (count name all)) (input_copies all ps) (copy_wide name (length fields) (count name all) a.0) (copies_wide all (record { name = name; fields = fields } ∷ ks) ps a.1)
+    All-append HasWidth (copy_decls name (length fields) (count name all)) (input_copies all ps) (copy_wide name (length fields) (count name all) a.0)
+    (copies_wide all (record { name = name; fields = fields } ∷ ks) ps a.1)
 copies_wide all ks (AQuery q ∷ ps) a = copies_wide all (query_named ks q ∷ ks) ps a.1
 
 outer_inputs : (ks : List Named) (ps : Program) → AreQueries ks ps → All IsOuter (input_decls ps)
@@ -253,7 +256,8 @@ outer_outputs : (ks : List Named) (ps : Program) → AreQueries ks ps → All Is
 outer_outputs ks [] a = All-nil IsOuter
 outer_outputs ks (Register name fields ∷ ps) a = outer_outputs (record { name = name; fields = fields } ∷ ks) ps a.1
 outer_outputs ks (AQuery q ∷ ps) a =
-    All-cons IsOuter (decl q.name (stream (columns_width (scope_of ks q.items) q.columns))) (output_decls (query_named ks q ∷ ks) ps) (a.0.columns, tt) (outer_outputs (query_named ks q ∷ ks) ps a.1)
+    All-cons IsOuter (decl q.name (stream (columns_width (scope_of ks q.items) q.columns))) (output_decls (query_named ks q ∷ ks) ps) (a.0.columns, tt)
+    (outer_outputs (query_named ks q ∷ ks) ps a.1)
 
 -- VARIABLES: one at most in each operator
 
@@ -276,7 +280,8 @@ plans_keep p a =
     let items = few_items [] p a.queries in
     let plain = uses_plain [] p tt a.names a.queries in
     let room : Room ins all [] all = λ n. omega arith in
-    let queries_apart : (n : Name) → 0 < count n (asked p) → count n ins ≡ 0 = λ n lt. (let s = declared_split n p in let o = a.once n in omega (arith, s, o, lt)) in
+    let queries_apart : (n : Name) → 0 < count n (asked p)
+    → count n ins ≡ 0 = λ n lt. (let s = declared_split n p in let o = a.once n in omega (arith, s, o, lt)) in
     let apart = apart_in ins all p a.names queries_apart in
     let others = others_in ins all p queries_apart in
     let there = inputs_there ins all p (λ n lt. lt) in
@@ -290,10 +295,12 @@ plans_keep p a =
     let d = all_decls_sum z all [] p in omega (arith, a1, a2, a3, d)) in
     let writes_are : (z : Name) → count z (decl_names (input_decls p)) + total (writes_it z) (ops_of p) ≡ sums (queues_of all) z p = λ z.
     (let s = split_ops (writes_it z) in let i = inputs_declared z p in let w = all_writes z ins all [] [] p in omega (arith, s, i, w)) in
-    let reads_are : (z : Name) → count z (decl_names (output_decls [] p)) + total (reads_it z) (ops_of p) ≡ sums (taken_of all) z p + count z (queues_of_uses ins all [] all) = λ z.
+    let reads_are : (z : Name)
+    → count z (decl_names (output_decls [] p)) + total (reads_it z) (ops_of p) ≡ sums (taken_of all) z p + count z (queues_of_uses ins all [] all) = λ z.
     (let s = split_ops (reads_it z) in let r = all_reads z ins all [] [] p items in omega (arith, s, r)) in
     let vars : (v : Name) → total (vars_it v) (ops_of p) ≤ 1 = λ v.
-    (let s = split_ops (vars_it v) in let e = all_vars_sum v ins all [] [] p in let o = sums_once vars_of v p a.names a.once (vars_once p items) in omega (arith, s, e, o)) in
+    (let s = split_ops (vars_it v) in let e = all_vars_sum v ins all [] [] p in let o =
+    sums_once vars_of v p a.names a.once (vars_once p items) in omega (arith, s, e, o)) in
     let read_by_one : (z : Name) → sums (taken_of all) z p + count z (queues_of_uses ins all [] all) ≤ 1 = λ z.
     (let o = sums_once (taken_of all) z p a.names a.once (taken_once all p items) in let r = read_once ins all z [] all plain room in
     ⊎_elim
@@ -329,7 +336,8 @@ plans_keep p a =
       variables_once = λ v. let t = total-vars v (ops_of p) in let o = vars v in omega (arith, t, o);
       labels_once =
           λ l. let s =
-          split_ops (named_it l) in let e = all_labels l ins all [] [] p in let o = sums_once (labels_of all) l p a.names a.once (labels_once all p items) in omega (arith, s, e, o);
+          split_ops (named_it l) in let e = all_labels l ins all [] [] p in let o =
+          sums_once (labels_of all) l p a.names a.once (labels_once all p items) in omega (arith, s, e, o);
       reads_declared = λ q lt. let t = reads_there (ops_of p) known order q lt in let e = names_are q in let w = writes_are q in omega (arith, t, e, w);
       writes_declared = λ q lt. let e = names_are q in let w = writes_are q in omega (arith, e, w, lt);
       vars_declared = λ v lt. let t = total-vars v (ops_of p) in omega (arith, t, lt);
@@ -338,7 +346,8 @@ plans_keep p a =
       in_order = order;
       outputs_typed = outer_outputs [] p a.queries;
       inputs_typed = outer_inputs [] p a.queries;
-      queues_typed = All-append HasWidth (input_copies all p) (queries_decls all [] p) (copies_wide all [] p a.queries) (queries_wide ins all [] p tt a.queries);
+      queues_typed = All-append HasWidth (input_copies all p) (queries_decls all [] p) (copies_wide all [] p a.queries)
+          (queries_wide ins all [] p tt a.queries);
       tables_typed = All-nil (λ t. IsTableKind t.kind);
       fits = fit;
       vars_apart = single_from (ops_of p) vars;

@@ -32,11 +32,12 @@ at_plus row rest n (Some k) e = ap Some (ap (λ m. slice_index_or (row ++ rest) 
 place_is : (f : Name) (fields : List Name) (row rest : List ℤ) → length row ≡ length fields → at (place_among f fields) (row ++ rest) ≡ field_in f fields row
 place_is f [] row rest e = refl
 place_is f (g ∷ gs) [] rest e = absurd (omega (arith, e))
-place_is f (g ∷ gs) (z ∷ zs) rest e = step (name_eq g f) (at_plus (z ∷ []) (zs ++ rest) 1 (place_among f gs) refl ∙ place_is f gs zs rest (omega (arith, e))) where
-  step : (b : Bool) → at (plus 1 (place_among f gs)) (z ∷ (zs ++ rest)) ≡ field_in f gs zs
-      → at (if b then Some 0 else plus 1 (place_among f gs)) (z ∷ (zs ++ rest)) ≡ (if b then Some z else field_in f gs zs)
-  step true h = refl
-  step false h = h
+place_is f (g ∷ gs) (z ∷ zs) rest e =
+    step (name_eq g f) (at_plus (z ∷ []) (zs ++ rest) 1 (place_among f gs) refl ∙ place_is f gs zs rest (omega (arith, e))) where
+      step : (b : Bool) → at (plus 1 (place_among f gs)) (z ∷ (zs ++ rest)) ≡ field_in f gs zs
+          → at (if b then Some 0 else plus 1 (place_among f gs)) (z ∷ (zs ++ rest)) ≡ (if b then Some z else field_in f gs zs)
+      step true h = refl
+      step false h = h
 
 at_or : (o p : Option ℕ) (row : List ℤ) → at (or_place o p) row ≡ or_else (at o row) (at p row)
 at_or None p row = refl
@@ -54,10 +55,12 @@ item_is : (a f : Name) (scope : List Named) (tuple : Tuple) → Fits scope tuple
 item_is a f [] tuple h = refl
 item_is a f (i ∷ is) [] h = absurd h
 item_is a f (i ∷ is) (row ∷ rows) h =
-    step (name_eq i.name a) (place_is f i.fields row (all_values rows) h.0) (at_plus row (all_values rows) (length i.fields) (item_place a f is) h.0 ∙ item_is a f is rows h.1) where
+    step (name_eq i.name a) (place_is f i.fields row (all_values rows) h.0)
+    (at_plus row (all_values rows) (length i.fields) (item_place a f is) h.0 ∙ item_is a f is rows h.1) where
       step : (b : Bool) → at (place_among f i.fields) (row ++ all_values rows) ≡ field_in f i.fields row
           → at (plus (length i.fields) (item_place a f is)) (row ++ all_values rows) ≡ item_value a f is rows
-          → at (if b then place_among f i.fields else plus (length i.fields) (item_place a f is)) (row ++ all_values rows) ≡ (if b then field_in f i.fields row else item_value a f is rows)
+          → at (if b then place_among f i.fields else plus (length i.fields) (item_place a f is)) (row ++ all_values rows) ≡
+          (if b then field_in f i.fields row else item_value a f is rows)
       step true p q = p
       step false p q = q
 

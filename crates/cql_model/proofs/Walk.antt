@@ -76,14 +76,16 @@ module _ (h : History) (ts : List ℤ) (up : Ascends ts) where
   windows_have ks q k [] srcs s r = tt
   windows_have ks q k (i ∷ is) [] s r = absurd r
   windows_have ks q k (i ∷ is) (src ∷ srcs) s r = (
-    s.0.0 ∙ one_solved (window (kernel_window i.window)) h src 0 refl ∙ ap (λ l. (feed (fire (window (kernel_window i.window)) 0) l (first_kept (window (kernel_window i.window)))).outs 0) r.0
+    s.0.0 ∙ one_solved (window (kernel_window i.window)) h src 0 refl
+        ∙ ap (λ l. (feed (fire (window (kernel_window i.window)) 0) l (first_kept (window (kernel_window i.window)))).outs 0) r.0
         ∙ window_fed i.window ts (rows_named ks i.stream) up,
     windows_have ks q (k + 1) is srcs s.1 r.1,
   )
 
   -- PRODUCTS
 
-  pub crosses_have : (ks : List KnownStream) (q last : Name) (k : ℕ) (items : List Source) (tuples : ℤ → List Tuple) → Each (Solves h) (cross_ops q last k items)
+  pub crosses_have : (ks : List KnownStream) (q last : Name) (k : ℕ) (items : List Source) (tuples : ℤ → List Tuple)
+      → Each (Solves h) (cross_ops q last k items)
       → WindowsHave ks q k items
       → Has last (λ t. in_order (rows (tuples t)))
       → Has (cross_last q last k items) (λ t. in_order (rows (fold with_each (tuples t) (windows_at ts ks items t))))
@@ -101,7 +103,8 @@ module _ (h : History) (ts : List ℤ) (up : Ascends ts) where
   items_have ks q (i ∷ is) srcs some s r =
       let parts = each-append (Solves h) (window_ops q 1 (i ∷ is) srcs) (cross_ops q (w_name q 1) 2 is) s in
       let w = windows_have ks q 1 (i ∷ is) srcs parts.0 r in
-      crosses_have ks q (w_name q 1) 2 is (λ t. product_of (window_rows ks i t ∷ [])) parts.1 w.1 (w.0 ∙ same_spread ts _ _ (λ t. one_item (window_rows ks i t)))
+      crosses_have ks q (w_name q 1) 2 is (λ t. product_of (window_rows ks i t ∷ [])) parts.1 w.1
+      (w.0 ∙ same_spread ts _ _ (λ t. one_item (window_rows ks i t)))
 
   -- CONDITION AND COLUMNS
 
@@ -142,7 +145,8 @@ module _ (h : History) (ts : List ℤ) (up : Ascends ts) where
       }
 
   -- the queues of a query's stream have its answer
-  pub tail_has : (ks : List KnownStream) (q : Query) (uses : ℕ) (last : Name) → AllWide ks → Each (Solves h) (tail_ops q (scope_of (named_of ks) q.items) uses last)
+  pub tail_has : (ks : List KnownStream) (q : Query) (uses : ℕ) (last : Name) → AllWide ks
+      → Each (Solves h) (tail_ops q (scope_of (named_of ks) q.items) uses last)
       → Has last (λ t. in_order (rows (product_of (windows_at ts ks q.items t)))) → Gives q.name uses (answer ts ks q)
   tail_has ks q uses last wide s l =
       let scope = scope_of (named_of ks) q.items in
@@ -150,11 +154,15 @@ module _ (h : History) (ts : List ℤ) (up : Ascends ts) where
       let fit : (t : ℤ) → All (Fits scope) (tuples t) = λ t. tuples_fit ts ks q.items t wide in
       let sel = select_last q.name last q.condition in
       let pro = project_last q.name sel q.columns in
-      let stream_op = op (at_word q.name (codes "i")) (streamer (streamer_of q.kind)) (pro ∷ []) (out_name q.name uses ∷ []) (at_word q.name (codes "i") ∷ []) in
-      let a = each-append (Solves h) (select_ops q.name scope last q.condition) (project_ops q.name scope sel q.columns ++ (stream_op ∷ out_ops q.name uses)) s in
+      let stream_op = op (at_word q.name (codes "i")) (streamer (streamer_of q.kind)) (pro ∷ []) (out_name q.name uses ∷ [])
+      (at_word q.name (codes "i") ∷ []) in
+      let a = each-append (Solves h) (select_ops q.name scope last q.condition)
+      (project_ops q.name scope sel q.columns ++ (stream_op ∷ out_ops q.name uses)) s in
       let b = each-append (Solves h) (project_ops q.name scope sel q.columns) (stream_op ∷ out_ops q.name uses) a.1 in
       let chosen = select_has q.name scope last q.condition tuples fit a.0 l in
-      let rows_are = project_has q.name scope sel q.columns (λ t. where_true scope q.condition (tuples t)) (λ t. where_fits scope q.condition (tuples t) (fit t)) b.0 chosen in
+      let rows_are = project_has q.name scope sel q.columns (λ t. where_true scope q.condition (tuples t))
+      (λ t. where_fits scope q.condition (tuples t) (fit t)) b.0 chosen in
       out_has q.name uses (answer ts ks q) b.1.1
-      (b.1.0.0 ∙ one_solved (streamer (streamer_of q.kind)) h pro 0 refl ∙ ap (λ x. (feed (fire (streamer (streamer_of q.kind)) 0) x (first_kept (streamer (streamer_of q.kind)))).outs 0) rows_are
+      (b.1.0.0 ∙ one_solved (streamer (streamer_of q.kind)) h pro 0 refl
+      ∙ ap (λ x. (feed (fire (streamer (streamer_of q.kind)) 0) x (first_kept (streamer (streamer_of q.kind)))).outs 0) rows_are
       ∙ streamer_fed q.kind ts (λ t. in_order (content ts ks q t)) (content ts ks q) up (λ t. refl))

@@ -90,7 +90,8 @@ changed_wide P Rstream old new a b = b
 
 streamed_wide : (P : List ℤ → Type 0) (k : Kind) (ts : List ℤ) (r : Timed) (t : ℤ) → ((u : ℤ) → All P (r u)) → All P (as_stream k ts r t)
 streamed_wide P k ts r t h =
-    all-in_order P (changed k (content_before ts r t) (r t)) (changed_wide P k (content_before ts r t) (r t) (last_wide P r (last_instant (filter (λ u. int_lt u t) ts)) h) (h t))
+    all-in_order P (changed k (content_before ts r t) (r t))
+    (changed_wide P k (content_before ts r t) (r t) (last_wide P r (last_instant (filter (λ u. int_lt u t) ts)) h) (h t))
 
 -- WHAT IS KNOWN
 
@@ -151,11 +152,13 @@ content_wide : (ts : List ℤ) (ks : List KnownStream) (q : Query) (t : ℤ) →
     → HaveWidth (length (column_names (scope_of (named_of ks) q.items) q.columns)) (content ts ks q t)
 content_wide ts ks q t h =
     let scope = scope_of (named_of ks) q.items in
-    rows_of_all (length (column_names scope q.columns)) (selected_row scope q.columns) (Fits scope) (where_true scope q.condition (product_of (windows_at ts ks q.items t)))
+    rows_of_all (length (column_names scope q.columns)) (selected_row scope q.columns) (Fits scope)
+    (where_true scope q.condition (product_of (windows_at ts ks q.items t)))
     (where_fits scope q.condition (product_of (windows_at ts ks q.items t)) (tuples_fit ts ks q.items t h)) (λ x k. row_wide scope q.columns x k)
 
 -- the rows of an answer have as many values as the query has columns
 pub answer_wide : (ts : List ℤ) (ks : List KnownStream) (q : Query) (t : ℤ) → AllWide ks
     → HaveWidth (length (column_names (scope_of (named_of ks) q.items) q.columns)) (answer ts ks q t)
 answer_wide ts ks q t h =
-    streamed_wide (λ row. length row ≡ length (column_names (scope_of (named_of ks) q.items) q.columns)) q.kind ts (content ts ks q) t (λ u. content_wide ts ks q u h)
+    streamed_wide (λ row. length row ≡ length (column_names (scope_of (named_of ks) q.items) q.columns)) q.kind ts (content ts ks q) t
+    (λ u. content_wide ts ks q u h)

@@ -49,7 +49,9 @@ rows_where_is : (p : ℤ → Bool) (us : List ℤ) (s : Timed) → rows_where p 
 rows_where_is p [] s = refl
 rows_where_is p (u ∷ us) s = step (p u) (rows_where_is p us s) where
   step : (b : Bool) → rows_where p (batched us s) ≡ flat_map s (filter p us)
-      → flat_map (λ (c : Batch). c.rows) (cond b (batch_at s u ∷ filter (λ (c : Batch). p c.at) (batched us s)) (filter (λ (c : Batch). p c.at) (batched us s))) ≡ flat_map s (cond b (u ∷ filter p us) (filter p us))
+      → flat_map (λ (c : Batch). c.rows)
+      (cond b (batch_at s u ∷ filter (λ (c : Batch). p c.at) (batched us s)) (filter (λ (c : Batch). p c.at) (batched us s))) ≡ flat_map s
+      (cond b (u ∷ filter p us) (filter p us))
   step true h = ap (λ l. s u ++ l) h
   step false h = h
 
@@ -89,14 +91,16 @@ filter-same p q [] h = refl
 filter-same p q (u ∷ us) h = ap (λ b. cond b (u ∷ filter p us) (filter p us)) (h u) ∙ ap (λ l. cond (q u) (u ∷ l) l) (filter-same p q us h)
 
 -- a window on batches has the rows of the instants in reach
-window_rows : (w : Window) (t : ℤ) (us : List ℤ) (s : Timed) → Ascends us → in_window (kernel_window w) t (batched us s) ≡ kept_rows w (flat_map s (filter (in_reach w t) us))
+window_rows : (w : Window) (t : ℤ) (us : List ℤ) (s : Timed) → Ascends us
+    → in_window (kernel_window w) t (batched us s) ≡ kept_rows w (flat_map s (filter (in_reach w t) us))
 window_rows Now t us s r = rows_where_is (λ u. int_eq u t) us s
 window_rows (Range n unit) t us s r =
     rows_where_is (λ u. int_le u t && int_le (later (pos 0) (t -ℤ pos n)) u) us s
     ∙ ap (flat_map s) (filter-same _ (in_reach (Range n unit) t) us (same_range (pos n) t))
 window_rows Unbounded t us s r = rows_where_is (λ u. int_le u t) us s
 window_rows (Latest n) t us s r =
-    ap (λ l. contents.last_of_rows n (rows_where (λ u. int_le u t) l)) (by_instant_is us s r) ∙ ap (contents.last_of_rows n) (rows_where_is (λ u. int_le u t) us s)
+    ap (λ l. contents.last_of_rows n (rows_where (λ u. int_le u t) l)) (by_instant_is us s r)
+    ∙ ap (contents.last_of_rows n) (rows_where_is (λ u. int_le u t) us s)
 
 ascends_front : (us vs : List ℤ) → Ascends (us ++ vs) → Ascends us
 ascends_front [] vs r = tt
@@ -110,7 +114,8 @@ window_step : (w : Window) (ts : List ℤ) (s : Timed) → Ascends ts → (us vs
 window_step w ts s r us vs t e =
     let all : Ascends (us ++ (t ∷ vs)) = subst Ascends e r in
     let here : Ascends (us ++ t ∷ []) = ascends_front (us ++ t ∷ []) vs (subst Ascends (sym (append_assoc us (t ∷ []) vs)) all) in
-    let bs : batches (spread us s ++ item_at t (s t) ∷ []) ≡ batched (us ++ t ∷ []) s = ap batches (sym (spread-append us (t ∷ []) s)) ∙ batches_spread (us ++ t ∷ []) s in
+    let bs : batches (spread us s ++ item_at t (s t) ∷ []) ≡ batched (us ++ t ∷ []) s = ap batches (sym (spread-append us (t ∷ []) s))
+    ∙ batches_spread (us ++ t ∷ []) s in
     let rows : content_of (kernel_window w) (batches (spread us s ++ item_at t (s t) ∷ [])) ≡ in_order (windowed w ts s t) =
     ap (content_of (kernel_window w)) bs
     ∙ ap (λ g. in_order (in_window (kernel_window w) g (batched (us ++ t ∷ []) s))) (greatest_last s us t here)
@@ -123,4 +128,5 @@ window_step w ts s r us vs t e =
 pub window_fed : (w : Window) (ts : List ℤ) (s : Timed) → Ascends ts
     → (feed (fire (window (kernel_window w)) 0) (spread ts s) (first_kept (window (kernel_window w)))).outs 0 ≡ spread ts (λ t. in_order (windowed w ts s t))
 window_fed w ts s r =
-    received_fed (window_one (kernel_window w)) [] (spread ts s) ∙ given_spread ts s (λ t. in_order (windowed w ts s t)) (window_one (kernel_window w)) (window_step w ts s r) [] ts refl
+    received_fed (window_one (kernel_window w)) [] (spread ts s)
+    ∙ given_spread ts s (λ t. in_order (windowed w ts s t)) (window_one (kernel_window w)) (window_step w ts s r) [] ts refl

@@ -135,7 +135,8 @@ NoAs rest = is_keyword_at (codes "as") rest ≡ false
 exact-as_name : Exact (form.Maybe (Keyword (codes "as") Plain)) as_at NoAs
 unfolding as_at
 exact-as_name =
-    exact-less (exact-maybe (is_keyword_at (codes "as")) (exact-keyword (codes "as") exact-plain) (λ v ts rest h. keyword-at Plain (codes "as") v ts rest h)) (λ rest d. (tt, d))
+    exact-less (exact-maybe (is_keyword_at (codes "as")) (exact-keyword (codes "as") exact-plain) (λ v ts rest h. keyword-at Plain (codes "as") v ts rest h))
+    (λ rest d. (tt, d))
 
 -- behind a column comes no operator, no dot and no `As`
 abbrev pub AfterColumn : List Tok → Type 0
@@ -181,12 +182,14 @@ no_star n k t ts (levels.prefix p j y q u us c h) rest = sign-no_star j y q (us 
 column-star : (v : Column) (us rest : List Tok) → IsColumn v us → parse.begins_with s.Star (us ++ rest) ≡ false
 column-star v us rest h =
     let b = h.formed in
-    ap (parse.begins_with s.Star) (ap (λ (l : List Tok). l ++ rest) b.is ∙ append_assoc b.front b.back rest) ∙ no_star 127 7 h.value.0 b.front b.first.0 (b.back ++ rest)
+    ap (parse.begins_with s.Star) (ap (λ (l : List Tok). l ++ rest) b.is ∙ append_assoc b.front b.back rest)
+    ∙ no_star 127 7 h.value.0 b.front b.first.0 (b.back ++ rest)
 
 columns-star : (v : Columns) (us rest : List Tok) → form.Seen Chosen (form.Commas IsColumn) v us → parse.begins_with s.Star (us ++ rest) ≡ false
 columns-star v us rest h =
     let b = h.formed.formed in
-    ap (parse.begins_with s.Star) (ap (λ (l : List Tok). l ++ rest) b.is ∙ append_assoc b.front b.back rest) ∙ column-star h.formed.value.0 b.front (b.back ++ rest) b.first
+    ap (parse.begins_with s.Star) (ap (λ (l : List Tok). l ++ rest) b.is ∙ append_assoc b.front b.back rest)
+    ∙ column-star h.formed.value.0 b.front (b.back ++ rest) b.first
 
 star-begins : (v : Columns) (us rest : List Tok) → form.After (s.Star ∷ []) (form.Nothing Star) v us → parse.begins_with s.Star (us ++ rest) ≡ true
 star-begins v us rest h = rw h.is refl
@@ -209,19 +212,22 @@ AfterWhere rest = Ends 6 rest × (is_keyword_at (codes "where") rest ≡ false)
 exact-where : Exact IsWhere where_at AfterWhere
 unfolding where_at
 exact-where =
-    exact-maybe (is_keyword_at (codes "where")) (exact-keyword (codes "where") (exact-scalar 128)) (λ v ts rest h. keyword-at (IsScalar 128) (codes "where") v ts rest h)
+    exact-maybe (is_keyword_at (codes "where")) (exact-keyword (codes "where") (exact-scalar 128))
+    (λ v ts rest h. keyword-at (IsScalar 128) (codes "where") v ts rest h)
 
 abbrev IsEnd : Option Scalar → List Tok → Type 0
 IsEnd = form.Before IsWhere (s.Semicolon ∷ [])
 
 end-follows : (y : Option Scalar) (us rest : List Tok) → IsEnd y us → Any rest → AfterSources (us ++ rest)
 end-follows None us rest h d =
-    subst (λ (l : List Tok). (is_alias_at (l ++ rest) ≡ false) × (parse.no_comma (l ++ rest) ≡ true)) (sym (h.is ∙ ap (λ (l : List Tok). l ++ symbol s.Semicolon ∷ []) h.formed)) (refl, refl)
+    subst (λ (l : List Tok). (is_alias_at (l ++ rest) ≡ false) × (parse.no_comma (l ++ rest) ≡ true))
+    (sym (h.is ∙ ap (λ (l : List Tok). l ++ symbol s.Semicolon ∷ []) h.formed)) (refl, refl)
 end-follows (Some v) us rest h d =
     let w = h.formed in
     let not_as : is_keyword (codes "as") w.spelled ≡ false = other_word (codes "where") (codes "as") w.spelled w.same refl in
     let none : (is_keyword (codes "as") w.spelled || is_plain w.spelled) ≡ false = rw (not_as, where-not_plain w.spelled w.same) refl in
-    subst (λ (l : List Tok). (is_alias_at (l ++ rest) ≡ false) × (parse.no_comma (l ++ rest) ≡ true)) (sym (h.is ∙ ap (λ (l : List Tok). l ++ symbol s.Semicolon ∷ []) w.is)) (none, refl)
+    subst (λ (l : List Tok). (is_alias_at (l ++ rest) ≡ false) × (parse.no_comma (l ++ rest) ≡ true))
+    (sym (h.is ∙ ap (λ (l : List Tok). l ++ symbol s.Semicolon ∷ []) w.is)) (none, refl)
 
 exact-behind : Exact IsBehindColumns behind_at Any
 unfolding behind_at
@@ -234,7 +240,8 @@ exact-selected = exact-both exact-kind (exact-both exact-in_round (exact-keyword
 exact-query : Exact IsQueryUnit query_at Any
 unfolding query_at
 exact-query =
-    exact-keyword (codes "query") (exact-seen made_query (exact-both exact-plain (exact-after (s.Colon ∷ []) (exact-keyword (codes "select") exact-selected)) (λ y ts rest h d. tt)))
+    exact-keyword (codes "query")
+    (exact-seen made_query (exact-both exact-plain (exact-after (s.Colon ∷ []) (exact-keyword (codes "select") exact-selected)) (λ y ts rest h d. tt)))
 
 -- STREAMS
 

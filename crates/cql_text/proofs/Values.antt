@@ -49,7 +49,8 @@ field-sound n text ts t rest plain dot e =
     record {
       front = name text ∷ symbol s.Dot ∷ name v ∷ [];
       is =
-          ap (λ (us : List Tok). name text ∷ us) (begins_with-is s.Dot ts dot ∙ ap (λ (us : List Tok). symbol s.Dot ∷ us) (f.is ∙ ap (λ (us : List Tok). us ++ rest) tokens));
+          ap (λ (us : List Tok). name text ∷ us)
+          (begins_with-is s.Dot ts dot ∙ ap (λ (us : List Tok). symbol s.Dot ∷ us) (f.is ∙ ap (λ (us : List Tok). us ++ rest) tokens));
       formed =
           subst (λ (u : Scalar). IsLeaf n u (name text ∷ symbol s.Dot ∷ name v ∷ [])) (sym f.formed.is) (rule.of_item n text v plain f.formed.formed.passes);
     }
@@ -84,7 +85,8 @@ named-field : (f : List ℕ) (rest : List Tok) → is_plain f ≡ true → parse
 unfolding field_after
 named-field f rest plain dot = rw (plain, dot) refl
 
-named-item : (a f : List ℕ) (rest : List Tok) → is_plain a ≡ true → is_plain f ≡ true → field_after a (symbol s.Dot ∷ name f ∷ rest) ≡ Some (ItemField a f, rest)
+named-item : (a f : List ℕ) (rest : List Tok) → is_plain a ≡ true → is_plain f ≡ true
+    → field_after a (symbol s.Dot ∷ name f ∷ rest) ≡ Some (ItemField a f, rest)
 unfolding field_after
 named-item a f rest pa pf = rw (pa, exact-plain.complete f (name f ∷ []) rest (record { passes = pf; formed = refl }) tt) refl
 
@@ -180,5 +182,6 @@ clear = record {
 pub exact-scalar : (n : ℕ) → Exact (IsScalar n) (scalar_at n) (Ends 6)
 unfolding scalar_at
 exact-scalar n =
-    exact-as (exact-less (exact-whole syntax IsLeaf leaf_in NoDot clear n) (λ rest (d : Ends 6 rest). ((λ j less. operator_at-is j rest ∙ d.0 j (omega (arith, less))), d.1)))
+    exact-as (exact-less (exact-whole syntax IsLeaf leaf_in NoDot clear n)
+    (λ rest (d : Ends 6 rest). ((λ j less. operator_at-is j rest ∙ d.0 j (omega (arith, less))), d.1)))
     (λ v s h. h) (λ v s h. h) (λ ts. refl)

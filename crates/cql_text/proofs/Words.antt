@@ -39,7 +39,8 @@ pub plain-words : (text : List ℕ) → is_plain text ≡ true → AllFalse (λ 
 unfolding is_plain
 plain-words text h =
     let a = and_parts (is_name text) (is_free [] text && not (list_any (λ word. is_keyword word text) keywords)) h in
-    among_none (λ word. is_keyword word text) keywords (not-true (list_any (λ word. is_keyword word text) keywords) (and_parts (is_free [] text) (not (list_any (λ word. is_keyword word text) keywords)) a.1).1)
+    among_none (λ word. is_keyword word text) keywords
+    (not-true (list_any (λ word. is_keyword word text) keywords) (and_parts (is_free [] text) (not (list_any (λ word. is_keyword word text) keywords)) a.1).1)
 
 -- the name of a user is not the word `Not`
 pub plain-not : (text : List ℕ) → is_plain text ≡ true → is_keyword (codes "not") text ≡ false
@@ -84,7 +85,12 @@ exact-keyword {A} {F} {p} {E} word x = record { sound = sound; complete = comple
       let both = if-some (is_keyword_at word ts) (p (tail ts)) (v, rest) e in
       let w = keyword-found word ts both.0 in
       let f = x.sound (tail ts) v rest both.1 in
-      record { front = name w.0 ∷ f.front; is = w.1 ∙ ap (λ (l : List Tok). name w.0 ∷ l) f.is; formed = record { spelled = w.0; back = f.front; is = refl; same = w.2; formed = f.formed } }
+      record {
+        front = name w.0 ∷ f.front;
+        is = w.1
+            ∙ ap (λ (l : List Tok). name w.0 ∷ l) f.is;
+        formed = record { spelled = w.0; back = f.front; is = refl; same = w.2; formed = f.formed };
+      }
 
   complete : (v : A) (s rest : List Tok) → Keyword word F v s → E rest → keyword word p (s ++ rest) ≡ Some (v, rest)
   complete v s rest h d = rw (h.is, h.same) (x.complete v h.back rest h.formed d)

@@ -15,5 +15,6 @@ not_after a Greater e h = cc
 -- where no row is above the next, they ascend
 pub ascend_from : (xs : List (List ℤ)) (r : Bool) → IsAllAdjacentAnswer (λ x y b. is_le (row_cmp x y) ≡ b) xs r → r ≡ true → IsSorted row_cmp xs
 ascend_from xs true all e k d low high =
-    not_after (row_cmp (get_or xs (k + 1) d) (get_or xs k d)) (row_cmp (get_or xs k d) (get_or xs (k + 1) d)) (row_total.antisymm (get_or xs (k + 1) d) (get_or xs k d)) (all k d high)
+    not_after (row_cmp (get_or xs (k + 1) d) (get_or xs k d)) (row_cmp (get_or xs k d) (get_or xs (k + 1) d))
+    (row_total.antisymm (get_or xs (k + 1) d) (get_or xs k d)) (all k d high)
 ascend_from xs false all e k d low high = cc

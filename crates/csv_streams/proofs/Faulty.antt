@@ -45,7 +45,8 @@ first_at {A} {B} {F} g n (x ∷ xs) f e = step (g n x) refl (numbered_results g 
   told : (h : F) → failed {B = B} {F = F} h ≡ failed f → h ≡ f
   told h k = cc
 
-  step : (r : Result B F) → g n x ≡ r → (rs : Result (List B) F) → numbered_results g (n + 1) xs ≡ rs → before_later (g n x) (numbered_results g (n + 1) xs) ≡ Err f
+  step : (r : Result B F) → g n x ≡ r → (rs : Result (List B) F) → numbered_results g (n + 1) xs ≡ rs
+      → before_later (g n x) (numbered_results g (n + 1) xs) ≡ Err f
       → (numbered_results g (n + 1) xs ≡ Err f → FirstAt g (n + 1) xs f) → FirstAt g n (x ∷ xs) f
   step (Err h) p rs q e more =
       let same : h ≡ f = same_fault (g n x) (numbered_results g (n + 1) xs) h f p e in
@@ -102,7 +103,8 @@ unread_none field (Some z) e h = absurd (h z (read-is_written field z e))
 pub fault_field : (rec k : ℕ) (fields : List (List ℕ)) → IsFirstUnread k fields → numbered_results (value_of_field rec) 1 fields ≡ Err (fault.NotNumber rec k)
 fault_field rec k fields h =
     ap (numbered_results (value_of_field rec) 1) h.parts
-    ∙ numbered-fault (value_of_field rec) 1 k h.read h.field h.others h.values (fault.NotNumber rec k) (values_written rec 1 h.read h.values h.written) (omega (arith, h.number))
+    ∙ numbered-fault (value_of_field rec) 1 k h.read h.field h.others h.values (fault.NotNumber rec k) (values_written rec 1 h.read h.values h.written)
+    (omega (arith, h.number))
     (ap (value_or rec k) (unread_none h.field (number_in h.field) refl h.unread))
 
 -- A RECORD
@@ -193,7 +195,8 @@ module _ (w : ℕ) (more : Bool) (last rec : ℕ) (fields : List (List ℕ)) whe
   pub fault_row : (f : InFault) → Is f → row_in w more last rec fields ≡ Err f
   fault_row fault.TooMany h = ap (λ b. read b (has_width w more (length fields))) (late_in h.has)
   fault_row (fault.Width r) h =
-      ap (λ b. read b (has_width w more (length fields))) (in_time (h.first fault.TooMany (omega arith))) ∙ ap (read false) (narrow_in h.has.1) ∙ ap (λ n. Err (fault.Width n)) (sym h.has.0)
+      ap (λ b. read b (has_width w more (length fields))) (in_time (h.first fault.TooMany (omega arith))) ∙ ap (read false) (narrow_in h.has.1)
+      ∙ ap (λ n. Err (fault.Width n)) (sym h.has.0)
   fault_row (fault.NotNumber r k) h =
       ap (λ b. read b (has_width w more (length fields))) (in_time (h.first fault.TooMany (omega arith)))
       ∙ ap (read false) (fits_in (λ narrow. h.first (fault.Width rec) (omega arith) (refl, narrow)))

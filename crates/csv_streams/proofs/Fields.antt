@@ -37,8 +37,10 @@ abbrev read_at : ℕ → ℕ → Option (List ℕ) → Result ℤ InFault
 read_at rec field o = value_or rec field (option_and_then number_in o)
 
 -- one field more has a value
-pub fields-push : (rec w i : ℕ) (fields : List (List ℕ)) (xs : List ℤ) (x : ℤ) → i < w → w ≤ length fields → numbered_results (value_of_field rec) 1 (take i fields) ≡ Ok xs
-    → value_or rec (i + 1) (option_and_then number_in (field_at fields i)) ≡ Ok x → numbered_results (value_of_field rec) 1 (take (i + 1) fields) ≡ Ok (xs ++ x ∷ [])
+pub fields-push : (rec w i : ℕ) (fields : List (List ℕ)) (xs : List ℤ) (x : ℤ) → i < w → w ≤ length fields
+    → numbered_results (value_of_field rec) 1 (take i fields) ≡ Ok xs
+    → value_or rec (i + 1) (option_and_then number_in (field_at fields i)) ≡ Ok x
+    → numbered_results (value_of_field rec) 1 (take (i + 1) fields) ≡ Ok (xs ++ x ∷ [])
 fields-push rec w i fields xs x lt le so_far is =
     let p = place_of w i fields lt le in
     let one_more : i + 1 ≡ suc i = omega arith in
@@ -52,4 +54,5 @@ pub fields-fault : (rec w i : ℕ) (fields : List (List ℕ)) (xs : List ℤ) (f
 fields-fault rec w i fields xs fault lt le so_far is =
     let p = place_of w i fields lt le in
     ap (numbered_results (value_of_field rec) 1) p.parts
-    ∙ numbered-fault (value_of_field rec) 1 (i + 1) (take i fields) p.text p.more xs fault so_far (omega (arith, p.size)) (sym (ap (read_at rec (i + 1)) p.here) ∙ is)
+    ∙ numbered-fault (value_of_field rec) 1 (i + 1) (take i fields) p.text p.more xs fault so_far (omega (arith, p.size))
+    (sym (ap (read_at rec (i + 1)) p.here) ∙ is)

@@ -45,13 +45,16 @@ no_longer : (cfg : Config) (s : State) (fields : List (List ℕ)) (field xs : Li
 unfolding next_record
 no_longer cfg s fields field [] p e = omega (arith, ap length (at_end (ends_at_end s) (fields ++ (field ∷ [])) p e).1)
 no_longer cfg s fields field (c ∷ rest) p e =
-    let le : length p.2 ≤ length rest = one_byte (is_end (step cfg s c).1) (fields_after (step cfg s c).1 fields field, (step cfg s c).0, rest) _ rest p refl (no_longer cfg (step cfg s c).0 (fields_after (step cfg s c).1 fields field) (field_after (step cfg s c).1 c field) rest p) e in
+    let le : length p.2 ≤ length rest =
+    one_byte (is_end (step cfg s c).1) (fields_after (step cfg s c).1 fields field, (step cfg s c).0, rest) _ rest p refl
+    (no_longer cfg (step cfg s c).0 (fields_after (step cfg s c).1 fields field) (field_after (step cfg s c).1 c field) rest p) e in
     omega arith
 
 shorter : (cfg : Config) (s : State) (c : ℕ) (rest : List ℕ) (p : Read) → next_record cfg s [] [] (c ∷ rest) ≡ Some p → length p.2 ≤ length rest
 unfolding next_record
 shorter cfg s c rest p e =
-    one_byte (is_end (step cfg s c).1) (fields_after (step cfg s c).1 [] [], (step cfg s c).0, rest) _ rest p refl (no_longer cfg (step cfg s c).0 (fields_after (step cfg s c).1 [] []) (field_after (step cfg s c).1 c []) rest p) e
+    one_byte (is_end (step cfg s c).1) (fields_after (step cfg s c).1 [] [], (step cfg s c).0, rest) _ rest p refl
+    (no_longer cfg (step cfg s c).0 (fields_after (step cfg s c).1 [] []) (field_after (step cfg s c).1 c []) rest p) e
 
 -- there is no record at the end of a text that has ended one
 nothing : (cfg : Config) (p : Read) → next_record cfg st.StartRecord [] [] [] ≡ Some p → ⊥
@@ -104,7 +107,8 @@ all-from_reached text rows s2 ys r =
     let few = reached-length default_config st.StartRecord xs rows s2 ys r in
     let size : length xs + 1 ≡ length rows + (length xs + 1 - length rows) = omega arith in (
       records_from default_config (length xs + 1 - length rows) s2 ys,
-      ap (λ (n : ℕ). records_from default_config n st.StartRecord xs) size ∙ reached-records default_config st.StartRecord xs rows s2 ys (length xs + 1 - length rows) r,
+      ap (λ (n : ℕ). records_from default_config n st.StartRecord xs) size
+          ∙ reached-records default_config st.StartRecord xs rows s2 ys (length xs + 1 - length rows) r,
       omega (arith, strip-length text),
     )
 
@@ -130,7 +134,8 @@ all-records text rows s2 ys r none =
 pub reads-next : (bytes : List ℕ) (recs : List (List (List ℕ))) (a b : Reader (Bor (List ℕ))) (fields : List (List ℕ)) (found : Bool) → IsBehind bytes recs a
     → ReadRecord (λ s. Some s.now) a b found fields → b.first ≡ true → ReadsRecord bytes recs fields b found
 reads-next bytes recs a b fields true h s first =
-    let (z, at_z, more) = rows-more (λ (s : Bor (List ℕ)). Some s.now) a b fields default_config st.StartRecord (strip_bom bytes) h.left recs h.config h.source h.reached s in
+    let (z, at_z, more) =
+    rows-more (λ (s : Bor (List ℕ)). Some s.now) a b fields default_config st.StartRecord (strip_bom bytes) h.left recs h.config h.source h.reached s in
     record { trims = s.3 ∙ h.trims; ready = inl first; config = s.2 ∙ h.config; left = z; source = at_z; reached = more }
 reads-next bytes recs a b fields false h s first =
     let none = rows-end (λ (s : Bor (List ℕ)). Some s.now) a b fields default_config h.left h.config h.source s in

@@ -20,7 +20,8 @@ behind w more h recs = numbered_results (row_in w more (h + most_rows)) (h + 1) 
 behind-header : (w : ℕ) (more : Bool) (h : ℕ) (recs : List (List (List ℕ))) (fields : List (List ℕ)) → length recs + 1 ≤ h
     → behind w more h (recs ++ fields ∷ []) ≡ behind w more h recs
 behind-header w more h recs fields le =
-    ap (numbered_results (row_in w more (h + most_rows)) (h + 1)) (drop_all h (recs ++ fields ∷ []) (omega (arith, length-append recs (fields ∷ []), le)) ∙ sym (drop_all h recs (omega (arith, le))))
+    ap (numbered_results (row_in w more (h + most_rows)) (h + 1))
+    (drop_all h (recs ++ fields ∷ []) (omega (arith, length-append recs (fields ∷ []), le)) ∙ sym (drop_all h recs (omega (arith, le))))
 
 behind-push : (w : ℕ) (more : Bool) (h : ℕ) (recs : List (List (List ℕ))) (fields : List (List ℕ)) (rows : List (List ℤ)) (row : List ℤ) → h ≤ length recs
     → behind w more h recs ≡ Ok rows → row_in w more (h + most_rows) (length recs + 1) fields ≡ Ok row
@@ -29,12 +30,14 @@ behind-push w more h recs fields rows row le so_far is =
     ap (numbered_results (row_in w more (h + most_rows)) (h + 1)) (drop-append-le h recs (fields ∷ []) le)
     ∙ numbered-push (row_in w more (h + most_rows)) (h + 1) (length recs + 1) (drop h recs) fields rows row so_far (omega (arith, length-drop h recs, le)) is
 
-behind-fault : (w : ℕ) (more : Bool) (h : ℕ) (recs : List (List (List ℕ))) (fields : List (List ℕ)) (others : List (List (List ℕ))) (rows : List (List ℤ)) (f : InFault)
+behind-fault : (w : ℕ) (more : Bool) (h : ℕ) (recs : List (List (List ℕ))) (fields : List (List ℕ)) (others : List (List (List ℕ))) (rows : List (List ℤ))
+    (f : InFault)
     → h ≤ length recs → behind w more h recs ≡ Ok rows → row_in w more (h + most_rows) (length recs + 1) fields ≡ Err f
     → behind w more h (recs ++ fields ∷ others) ≡ Err f
 behind-fault w more h recs fields others rows f le so_far is =
     ap (numbered_results (row_in w more (h + most_rows)) (h + 1)) (drop-append-le h recs (fields ∷ others) le)
-    ∙ numbered-fault (row_in w more (h + most_rows)) (h + 1) (length recs + 1) (drop h recs) fields others rows f so_far (omega (arith, length-drop h recs, le)) is
+    ∙ numbered-fault (row_in w more (h + most_rows)) (h + 1) (length recs + 1) (drop h recs) fields others rows f so_far
+    (omega (arith, length-drop h recs, le)) is
 
 -- nothing is read at first
 pub rows-none : (w : ℕ) (skip more : Bool) → rows_of_records w skip more [] ≡ Ok []
@@ -53,7 +56,8 @@ pub rows-push : (w : ℕ) (skip more : Bool) (recs : List (List (List ℕ))) (fi
 rows-push w skip more recs fields rows row le so_far is = behind-push w more (headers skip) recs fields rows row le so_far is
 
 -- the first fault
-pub rows-fault : (w : ℕ) (skip more : Bool) (recs : List (List (List ℕ))) (fields : List (List ℕ)) (others : List (List (List ℕ))) (rows : List (List ℤ)) (f : InFault)
+pub rows-fault : (w : ℕ) (skip more : Bool) (recs : List (List (List ℕ))) (fields : List (List ℕ)) (others : List (List (List ℕ))) (rows : List (List ℤ))
+    (f : InFault)
     → headers skip ≤ length recs → rows_of_records w skip more recs ≡ Ok rows → row_in w more (headers skip + most_rows) (length recs + 1) fields ≡ Err f
     → rows_of_records w skip more (recs ++ fields ∷ others) ≡ Err f
 rows-fault w skip more recs fields others rows f le so_far is = behind-fault w more (headers skip) recs fields others rows f le so_far is

@@ -99,7 +99,8 @@ first_in (t ∷ us) e es up in_ts low = step (int_eq e.0 t) refl (first_in us e 
   later h more =
       let there = Contains-tail t us e.0 (λ q. true≢false (sym (same_back t e.0 q) ∙ h)) in_ts in
       let lt : t <ℤ e.0 = member (λ u. t <ℤ u) us e.0 (each (λ u. int_cmp t u ≡ Less) (λ u. t <ℤ u) (less t) us up.0) there.0 there.1 there.2 in
-      let none = none_at t es (each (λ (d : Entry). e.0 ≤ℤ d.0) (λ (d : Entry). int_eq d.0 t ≡ false) (λ d l. differs_back t d.0 (beyond t e.0 d.0 lt l)) es low) in
+      let none = none_at t es
+      (each (λ (d : Entry). e.0 ≤ℤ d.0) (λ (d : Entry). int_eq d.0 t ≡ false) (λ d l. differs_back t d.0 (beyond t e.0 d.0 lt l)) es low) in
       ap (λ l. behind t l ++ given us (e ∷ es)) (passed e es t h ∙ none)
       ∙ more there low
       ∙ ap (λ l. e ∷ (behind t l ++ given us es)) (sym none)

@@ -54,13 +54,15 @@ module _ {X : Type 0} (p : X → Bool) where
   passes_between (x ∷ xs) zero (suc m) h g low mid high =
       let size : suc (m - 0) ≡ suc m - 0 = omega arith in
       here x xs (first true x xs (suc m) (omega arith) mid)
-      ∙ ap (λ l. x ∷ l) (passes_between xs zero m (omega arith) (omega (arith, g)) (λ k d a b. absurd (omega (arith, b))) (from_nought true x xs m mid) (later false x xs m (length xs) high))
+      ∙ ap (λ l. x ∷ l) (passes_between xs zero m (omega arith) (omega (arith, g)) (λ k d a b. absurd (omega (arith, b))) (from_nought true x xs m mid)
+      (later false x xs m (length xs) high))
       ∙ ap (λ n. take n (x ∷ xs)) size
   passes_between (x ∷ xs) (suc n) zero h g low mid high = absurd (omega (arith, h))
   passes_between (x ∷ xs) (suc n) (suc m) h g low mid high =
       let size : m - n ≡ suc m - suc n = omega arith in
       past x xs (first false x xs (suc n) (omega arith) low)
-      ∙ passes_between xs n m (omega (arith, h)) (omega (arith, g)) (from_nought false x xs n low) (later true x xs n m mid) (later false x xs m (length xs) high)
+      ∙ passes_between xs n m (omega (arith, h)) (omega (arith, g)) (from_nought false x xs n low) (later true x xs n m mid)
+      (later false x xs m (length xs) high)
       ∙ ap (λ k. take k (drop n xs)) size
 
 -- timestamps below t stand before the others, and so do those up to t

@@ -50,7 +50,8 @@ from-push w last t n k (f ∷ recs) fields es e so_far at is =
     ∙ ap (λ (l : List Entry). all_told (l ++ e ∷ [])) (sym parts)
 
 -- the first fault, whatever follows
-pub from-fault : (w last : ℕ) (t : ℤ) (n k : ℕ) (recs : List (List (List ℕ))) (fields : List (List ℕ)) (others : List (List (List ℕ))) (es : List Entry) (f : InFault)
+pub from-fault : (w last : ℕ) (t : ℤ) (n k : ℕ) (recs : List (List (List ℕ))) (fields : List (List ℕ)) (others : List (List (List ℕ))) (es : List Entry)
+    (f : InFault)
     → timed_from w last t n recs ≡ Ok es → n + length recs ≡ k → timed_in w last (stamp_after t es) k fields ≡ Err f
     → timed_from w last t n (recs ++ fields ∷ others) ≡ Err f
 from-fault w last t n k [] fields others es f so_far at is =
@@ -71,7 +72,8 @@ behind w h recs = timed_from w (h + most_rows) (pos 0) (h + 1) (drop h recs)
 
 behind-header : (w h : ℕ) (recs : List (List (List ℕ))) (fields : List (List ℕ)) → length recs + 1 ≤ h → behind w h (recs ++ fields ∷ []) ≡ behind w h recs
 behind-header w h recs fields le =
-    ap (timed_from w (h + most_rows) (pos 0) (h + 1)) (drop_all h (recs ++ fields ∷ []) (omega (arith, length-append recs (fields ∷ []), le)) ∙ sym (drop_all h recs (omega (arith, le))))
+    ap (timed_from w (h + most_rows) (pos 0) (h + 1))
+    (drop_all h (recs ++ fields ∷ []) (omega (arith, length-append recs (fields ∷ []), le)) ∙ sym (drop_all h recs (omega (arith, le))))
 
 behind-push : (w h : ℕ) (recs : List (List (List ℕ))) (fields : List (List ℕ)) (es : List Entry) (e : Entry) → h ≤ length recs → behind w h recs ≡ Ok es
     → timed_in w (h + most_rows) (stamp_after (pos 0) es) (length recs + 1) fields ≡ Ok e → behind w h (recs ++ fields ∷ []) ≡ Ok (es ++ e ∷ [])

@@ -45,7 +45,8 @@ timed_written : (w last : ℕ) (t : ℤ) (rec : ℕ) (fields : List (List ℕ)) 
     → timed_in w last t rec fields ≡ Ok e
 timed_written w last t rec fields e le writes =
     ap (with_stamp rec t) (row_written (w + 1) false last rec fields (e.0 ∷ e.1) le writes.written)
-    ∙ ap (λ (b : Bool). if_in_time e (cond b (Err (fault.NegativeTime rec)) (cond (int_lt e.0 t) (Err (fault.Backwards rec)) (Ok tt)))) (below_not (pos 0) e.0 writes.from_nought)
+    ∙ ap (λ (b : Bool). if_in_time e (cond b (Err (fault.NegativeTime rec)) (cond (int_lt e.0 t) (Err (fault.Backwards rec)) (Ok tt))))
+    (below_not (pos 0) e.0 writes.from_nought)
     ∙ ap (λ (b : Bool). if_in_time e (cond b (Err (fault.Backwards rec)) (Ok tt))) (below_not t e.0 writes.in_turn)
 
 all_read : (w last : ℕ) (t : ℤ) (k : ℕ) (recs : List (List (List ℕ))) (es : List Entry) → timed_from w last t k recs ≡ Ok es
@@ -188,9 +189,11 @@ module _ (w last : ℕ) (t : ℤ) (rec : ℕ) (fields : List (List ℕ)) where
     in_time_told : (b c : Bool) → int_lt at (pos 0) ≡ b → int_lt at t ≡ c → (f : InFault)
         → if_in_time (at, row) (cond b (Err (fault.NegativeTime rec)) (cond c (Err (fault.Backwards rec)) (Ok tt))) ≡ Err f → Told f
     in_time_told true c p q f e =
-        subst Told (one_fault (fault.NegativeTime rec) f e) (record { has = (refl, first_writes fields all_write (pos 0) (is_below (pos 0) p)); first = λ g l h. no_plain g l h })
+        subst Told (one_fault (fault.NegativeTime rec) f e)
+        (record { has = (refl, first_writes fields all_write (pos 0) (is_below (pos 0) p)); first = λ g l h. no_plain g l h })
     in_time_told false true p q f e =
-        subst Told (one_fault (fault.Backwards rec) f e) (record { has = (refl, first_writes fields all_write t (is_below t q)); first = λ g l h. up_to_time g l p h })
+        subst Told (one_fault (fault.Backwards rec) f e)
+        (record { has = (refl, first_writes fields all_write t (is_below t q)); first = λ g l h. up_to_time g l p h })
     in_time_told false false p q f e = cc e
 
     below_is : (z : ℤ) → at <ℤ z → int_lt at z ≡ true
@@ -279,9 +282,19 @@ first_timed w last t n (fields ∷ recs) f e = step (timed_in w last t n fields)
   step (Err g) is more =
       let same : g ≡ f = only_fault g (sym (ap (λ (r : Result Entry InFault). and_later r (λ y. timed_from w last y.0 (n + 1) recs)) is) ∙ e) in
       let at : n + 0 ≡ n = omega arith in
-      record { front = []; here = fields; others = recs; given = []; parts = refl; good = refl; bad = ap (λ m. timed_in w last t m fields) at ∙ is ∙ ap (λ k. Err k) same }
+      record {
+        front = [];
+        here = fields;
+        others = recs;
+        given = [];
+        parts = refl;
+        good = refl;
+        bad = ap (λ m. timed_in w last t m fields) at ∙ is
+            ∙ ap (λ k. Err k) same;
+      }
   step (Ok y) is more =
-      let m = more y (later_fault y (timed_from w last y.0 (n + 1) recs) (sym (ap (λ (r : Result Entry InFault). and_later r (λ z. timed_from w last z.0 (n + 1) recs)) is) ∙ e)) in
+      let m = more y (later_fault y (timed_from w last y.0 (n + 1) recs)
+      (sym (ap (λ (r : Result Entry InFault). and_later r (λ z. timed_from w last z.0 (n + 1) recs)) is) ∙ e)) in
       let at : n + suc (length m.front) ≡ n + 1 + length m.front = omega arith in
       record {
         front = fields ∷ m.front;

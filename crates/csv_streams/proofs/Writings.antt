@@ -121,17 +121,41 @@ record IsNumber (text : List ℕ) (z : ℤ) : Type 0 where
 minus_is : (cs : List ℕ) (z : ℤ) → option_and_then negative (whole_number cs) ≡ Some z → IsNumber (45 ∷ cs) z
 minus_is cs z e =
     let (n, is, got) = then_is negative (whole_number cs) z e in
-    record { sign = 45 ∷ []; rest = cs; n = n; parts = refl; number = whole-is cs n is; value = inl (let p = negative-by n z (nat_le n (2 ^ 63)) refl got in (refl, p.0, p.1)) }
+    record {
+      sign = 45 ∷ [];
+      rest = cs;
+      n = n;
+      parts = refl;
+      number = whole-is cs n is;
+      value =
+          inl (let p = negative-by n z (nat_le n (2 ^ 63)) refl got in (refl, p.0, p.1));
+    }
 
 plus_is : (cs : List ℕ) (z : ℤ) → option_and_then positive (whole_number cs) ≡ Some z → IsNumber (43 ∷ cs) z
 plus_is cs z e =
     let (n, is, got) = then_is positive (whole_number cs) z e in
-    record { sign = 43 ∷ []; rest = cs; n = n; parts = refl; number = whole-is cs n is; value = inr (let p = positive-by n z (nat_lt n (2 ^ 63)) refl got in (inr refl, p.0, p.1)) }
+    record {
+      sign = 43 ∷ [];
+      rest = cs;
+      n = n;
+      parts = refl;
+      number = whole-is cs n is;
+      value =
+          inr (let p = positive-by n z (nat_lt n (2 ^ 63)) refl got in (inr refl, p.0, p.1));
+    }
 
 bare_is : (text : List ℕ) (z : ℤ) → option_and_then positive (whole_number text) ≡ Some z → IsNumber text z
 bare_is text z e =
     let (n, is, got) = then_is positive (whole_number text) z e in
-    record { sign = []; rest = text; n = n; parts = refl; number = whole-is text n is; value = inr (let p = positive-by n z (nat_lt n (2 ^ 63)) refl got in (inl refl, p.0, p.1)) }
+    record {
+      sign = [];
+      rest = text;
+      n = n;
+      parts = refl;
+      number = whole-is text n is;
+      value =
+          inr (let p = positive-by n z (nat_lt n (2 ^ 63)) refl got in (inl refl, p.0, p.1));
+    }
 
 same-byte : (c d : ℕ) → (c == d) ≡ true → d ≡ c
 same-byte c d e = grind (arith, nat_tests)
@@ -142,7 +166,8 @@ plus_by c cs z true is e = subst (λ (k : ℕ). IsNumber (k ∷ cs) z) (same-byt
 plus_by c cs z false is e = bare_is (c ∷ cs) z e
 
 minus_by : (c : ℕ) (cs : List ℕ) (z : ℤ) (b : Bool) → (c == 45) ≡ b
-    → cond b (option_and_then negative (whole_number cs)) (cond (c == 43) (option_and_then positive (whole_number cs)) (option_and_then positive (whole_number (c ∷ cs)))) ≡ Some z
+    → cond b (option_and_then negative (whole_number cs))
+    (cond (c == 43) (option_and_then positive (whole_number cs)) (option_and_then positive (whole_number (c ∷ cs)))) ≡ Some z
     → IsNumber (c ∷ cs) z
 minus_by c cs z true is e = subst (λ (k : ℕ). IsNumber (k ∷ cs) z) (same-byte c 45 is) (minus_is cs z e)
 minus_by c cs z false is e = plus_by c cs z (c == 43) refl e
@@ -208,7 +233,8 @@ other-byte : (d k : ℕ) → k < d → (d == k) ≡ false
 other-byte d k lt = grind (arith, nat_tests)
 
 -- no sign: the first byte is a digit
-bare-from : (digits after : List ℕ) → 0 < length digits → AllDigits digits → signed_number (digits ++ after) ≡ option_and_then positive (whole_number (digits ++ after))
+bare-from : (digits after : List ℕ) → 0 < length digits → AllDigits digits
+    → signed_number (digits ++ after) ≡ option_and_then positive (whole_number (digits ++ after))
 bare-from [] after some all = absurd (omega arith)
 bare-from (d ∷ ds) after some all =
     let minus : (d == 45) ≡ false = other-byte d 45 (omega (arith, all.0)) in
@@ -224,7 +250,8 @@ signed-from : (sign digits after : List ℕ) (z : ℤ) → 0 < length digits →
 signed-from sign digits after z some all blank (inl minus) =
     rw (minus.0, minus.2) (ap (option_and_then negative) (whole-from digits after some all blank) ∙ negative-from (value_after 0 digits) minus.1)
 signed-from sign digits after z some all blank (inr (inl none, lt, is)) =
-    rw (none, is) (ap signed_number (bare-stays digits after some all) ∙ bare-from digits after some all ∙ ap (option_and_then positive) (whole-from digits after some all blank) ∙ positive-from (value_after 0 digits) lt)
+    rw (none, is) (ap signed_number (bare-stays digits after some all) ∙ bare-from digits after some all
+    ∙ ap (option_and_then positive) (whole-from digits after some all blank) ∙ positive-from (value_after 0 digits) lt)
 signed-from sign digits after z some all blank (inr (inr plus, lt, is)) =
     rw (plus, is) (ap (option_and_then positive) (whole-from digits after some all blank) ∙ positive-from (value_after 0 digits) lt)
 

@@ -56,7 +56,8 @@ pub row_written : (w : ℕ) (more : Bool) (last rec : ℕ) (fields : List (List 
     → row_in w more last rec fields ≡ Ok row
 row_written w more last rec fields row le writes =
     let early : nat_lt last rec ≡ false = grind (arith, nat_tests) in
-    ap (λ (b : Bool). cond b (Err fault.TooMany) (cond (has_width w more (length fields)) (numbered_results (value_of_field rec) 1 (take w fields)) (Err (fault.Width rec)))) early
+    ap (λ (b : Bool). cond b (Err fault.TooMany)
+    (cond (has_width w more (length fields)) (numbered_results (value_of_field rec) 1 (take w fields)) (Err (fault.Width rec)))) early
     ∙ ap (λ (b : Bool). cond b (numbered_results (value_of_field rec) 1 (take w fields)) (Err (fault.Width rec))) writes.0
     ∙ values_written rec 1 (take w fields) row writes.1
 
@@ -78,7 +79,8 @@ rows_written w more last k [] [] all few = refl
 rows_written w more last k [] (row ∷ rows) all few = absurd all
 rows_written w more last k (fields ∷ recs) [] all few = absurd all
 rows_written w more last k (fields ∷ recs) (row ∷ rows) all few =
-    ap (λ (r : Result (List ℤ) InFault). before_later r (numbered_results (row_in w more last) (k + 1) recs)) (row_written w more last k fields row (omega (arith, few)) all.0)
+    ap (λ (r : Result (List ℤ) InFault). before_later r (numbered_results (row_in w more last) (k + 1) recs))
+    (row_written w more last k fields row (omega (arith, few)) all.0)
     ∙ ap (λ (r : Result (List (List ℤ)) InFault). before_later (Ok row) r) (rows_written w more last (k + 1) recs rows all.1 (omega (arith, few)))
 
 -- the law: what is read is written

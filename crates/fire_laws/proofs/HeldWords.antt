@@ -93,13 +93,15 @@ relabel_at (e ∷ es) l h port =
     let l' = at_key e.0 (drop 1 (l e.0)) l in
     let here : length (l e.0) ≡ suc (length (at_port e.0 es)) = h e.0 ∙ ap length (at_port_here e.0 e es refl) in
     let rest = relabel_at es l' (λ i. ⊎_elim
-    (λ q. subst (λ j. length (l' j) ≡ length (at_port j es)) q (ap length (at_key_same e.0 (drop 1 (l e.0)) l) ∙ length_rest (l e.0) (length (at_port e.0 es)) here))
+    (λ q. subst (λ j. length (l' j) ≡ length (at_port j es)) q
+    (ap length (at_key_same e.0 (drop 1 (l e.0)) l) ∙ length_rest (l e.0) (length (at_port e.0 es)) here))
     (λ n. ap length (at_key_other e.0 (drop 1 (l e.0)) l i n) ∙ h i ∙ ap length (at_port_past i e es n))
     (cases_eq e.0 i)) in
     ⊎_elim
     (λ q.
     subst (λ j. at_port j (relabel (e ∷ es) l) ≡ l j) q
-    (at_port_here e.0 (e.0, x) (relabel es l') refl ∙ ap (λ t. x ∷ t) (rest e.0 ∙ at_key_same e.0 (drop 1 (l e.0)) l) ∙ put_back e.1 (l e.0) (length (at_port e.0 es)) here))
+    (at_port_here e.0 (e.0, x) (relabel es l') refl ∙ ap (λ t. x ∷ t) (rest e.0 ∙ at_key_same e.0 (drop 1 (l e.0)) l)
+    ∙ put_back e.1 (l e.0) (length (at_port e.0 es)) here))
     (λ n. at_port_past port (e.0, x) (relabel es l') n ∙ rest port ∙ at_key_other e.0 (drop 1 (l e.0)) l port n)
     (cases_eq e.0 port)
 
@@ -111,7 +113,8 @@ typed_ports types [] h = tt
 typed_ports types (e ∷ es) h = (
   All-head (IsOf types e.0) e.1 (at_port e.0 es) (subst (All (IsOf types e.0)) (at_port_here e.0 e es refl) (h e.0)),
   typed_ports types es (λ i. ⊎_elim
-      (λ q. subst (λ j. All (IsOf types j) (at_port j es)) q (All-tail (IsOf types e.0) e.1 (at_port e.0 es) (subst (All (IsOf types e.0)) (at_port_here e.0 e es refl) (h e.0))))
+      (λ q. subst (λ j. All (IsOf types j) (at_port j es)) q
+      (All-tail (IsOf types e.0) e.1 (at_port e.0 es) (subst (All (IsOf types e.0)) (at_port_here e.0 e es refl) (h e.0))))
       (λ n. subst (All (IsOf types i)) (at_port_past i e es n) (h i))
       (cases_eq e.0 i)),
 )
@@ -119,7 +122,8 @@ typed_ports types (e ∷ es) h = (
 pub ports_typed : (types : List QueueType) (w : Word) → IsWordOf types w → (port : ℕ) → All (IsOf types port) (at_port port w)
 ports_typed types [] a port = All-nil (IsOf types port)
 ports_typed types (e ∷ es) a port = ⊎_elim
-    (λ q. subst (All (IsOf types port)) (sym (at_port_here port e es q)) (All-cons (IsOf types port) e.1 (at_port port es) (subst (λ j. IsOf types j e.1) q a.0) (ports_typed types es a.1 port)))
+    (λ q. subst (All (IsOf types port)) (sym (at_port_here port e es q))
+    (All-cons (IsOf types port) e.1 (at_port port es) (subst (λ j. IsOf types j e.1) q a.0) (ports_typed types es a.1 port)))
     (λ n. subst (All (IsOf types port)) (sym (at_port_past port e es n)) (ports_typed types es a.1 port))
     (cases_eq e.0 port)
 

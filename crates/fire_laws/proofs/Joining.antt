@@ -43,7 +43,8 @@ use Rattle.fire_laws.proofs.HeldWords.{held_front, held_fewer, all_left, all_mid
 pub spread_out : (names : OpForm → List Name) (f : ℕ → ℕ → List item.Item) (ops : List OpForm) (o : ℕ) (h : History) (q : Name)
     → total (λ op. count q (names op)) ops ≡ 0 → lists_by_name names f o ops h q ≡ h q
 spread_out names f [] o h q z = refl
-spread_out names f (op ∷ ops) o h q z = spread_out names f ops (suc o) (written (names op) (f o) h) q (omega (arith, z)) ∙ written_out (names op) (f o) h q (omega (arith, z))
+spread_out names f (op ∷ ops) o h q z = spread_out names f ops (suc o) (written (names op) (f o) h) q (omega (arith, z))
+    ∙ written_out (names op) (f o) h q (omega (arith, z))
 
 -- each operator's lists are found under the names of its queues
 pub spread_lists : (names : OpForm → List Name) (f : ℕ → ℕ → List item.Item) (ops : List OpForm) (o : ℕ) (h : History)
@@ -98,7 +99,8 @@ none_behind (suc n) [] le = refl
 none_behind zero (x ∷ xs) le = absurd (omega (arith, le))
 none_behind (suc n) (x ∷ xs) le = none_behind n xs (omega (arith, le))
 
-module _ (p : PlanForm) (inputs : List (List item.Item)) (caps : Capacities) (adds : ℕ → ℕ → List (List ℤ)) (ts : ℕ → SeenTask) (left : History) (is : ℕ → Word) (v : IsPlan p) (typed : AreInputs p.inputs inputs)
+module _ (p : PlanForm) (inputs : List (List item.Item)) (caps : Capacities) (adds : ℕ → ℕ → List (List ℤ)) (ts : ℕ → SeenTask) (left : History)
+    (is : ℕ → Word) (v : IsPlan p) (typed : AreInputs p.inputs inputs)
     (fired : (o : ℕ) (op : OpForm) → slice_get p.ops o ≡ Some op → HasFired p op (adds o) (ts o) (is o)) (beside : AreBeside p inputs caps ts left) where
   abbrev kind : Name → QueueType
   kind = kind_of (all_decls p)
@@ -132,7 +134,8 @@ module _ (p : PlanForm) (inputs : List (List item.Item)) (caps : Capacities) (ad
       let q = read_of op.reads e.0 (omega (arith, l, lt)) in
       let src = source_held o op g e.0 q.0 q.1 in
       let here : list_at (ts o).received e.0 ++ left q.0 ≡ at_port e.0 (is o) ++ e.1 ∷ left q.0 =
-      ap (λ x. x ++ left q.0) (f.received e.0 ∙ ap (λ x. at_port e.0 (is o) ++ bad_at e.0 x) at ∙ ap (λ x. at_port e.0 (is o) ++ x) (if_eq e.0 e.0 (e.1 ∷ []) [] refl))
+      ap (λ x. x ++ left q.0)
+      (f.received e.0 ∙ ap (λ x. at_port e.0 (is o) ++ bad_at e.0 x) at ∙ ap (λ x. at_port e.0 (is o) ++ x) (if_eq e.0 e.0 (e.1 ∷ []) [] refl))
       ∙ append_assoc (at_port e.0 (is o)) (e.1 ∷ []) (left q.0) in
       let ok = all_mid (IsHeld (kind q.0)) (at_port e.0 (is o)) (left q.0) e.1 (subst (All (IsHeld (kind q.0))) here src) in
       no (subst (λ (k : Option QueueType). IsHeldBy k e.1) (sym (got_map kind op.reads e.0 q.0 q.1)) ok))
@@ -160,7 +163,8 @@ module _ (p : PlanForm) (inputs : List (List item.Item)) (caps : Capacities) (ad
   hist_before : (ws ws' : ℕ → Word) (n : ℕ) (op : OpForm) → slice_get p.ops n ≡ Some op → ((i : ℕ) → i < n → ws i ≡ ws' i) → (q : Name) → 0 < count q op.reads
       → hist_by p inputs ws q ≡ hist_by p inputs ws' q
   hist_before ws ws' n op g same q lt = ⊎_elim
-      (λ k. let z : total (writes_it q) p.ops ≡ 0 = (let w = v.written_once q in omega (arith, k, w)) in unwritten_by p inputs ws q z ∙ sym (unwritten_by p inputs ws' q z))
+      (λ k. let z : total (writes_it q) p.ops ≡ 0 = (let w = v.written_once q in omega (arith, k, w)) in unwritten_by p inputs ws q z
+      ∙ sym (unwritten_by p inputs ws' q z))
       (λ w. lists_one w.1.writes (ran w.1 (ws w.0)).outs (hist_by p inputs ws) (hist_by p inputs ws')
       (by_words p inputs ws v w.0 w.1 w.3)
       (subst (λ y. Lists w.1.writes (ran w.1 y).outs (hist_by p inputs ws')) (sym (same w.0 w.2)) (by_words p inputs ws' v w.0 w.1 w.3)) q w.4)
@@ -177,15 +181,21 @@ module _ (p : PlanForm) (inputs : List (List item.Item)) (caps : Capacities) (ad
       (λ k.
       let z : total (writes_it q) p.ops ≡ 0 = (let w = v.written_once q in omega (arith, k, w)) in
       record {
-        front = (left q, ap (λ x. x ++ left q) (sym (received_is n op g port)) ∙ beside.input n op port q g at z ∙ sym (inputs_held p v inputs q) ∙ ap (held (kind q) []) (sym (unwritten_by p inputs ws q z)));
+        front = (
+          left q,
+          ap (λ x. x ++ left q) (sym (received_is n op g port)) ∙ beside.input n op port q g at z ∙ sym (inputs_held p v inputs q)
+              ∙ ap (held (kind q) []) (sym (unwritten_by p inputs ws q z)),
+        );
         kinds = subst (All (HasType (kind q))) (sym (unwritten_by p inputs ws q z)) (inputs_typed p v inputs typed q);
       })
       (λ w.
       let j = place_of w.1.writes q w.4 in
       let good = all w.0 w.1 w.2 w.3 in
       let pend = list_at (ts w.0).pending j.0 in
-      let t = ran_typed w.1.kernel (kinds_in p w.1) (kinds_out p w.1) (map (var_kind p.tables p.vars) w.1.vars) (first_kept w.1.kernel) (ws w.0) (op_fits p v w.0 w.1 w.3)
-      (first_is_start w.1.kernel (kinds_in p w.1) (shaped w.1.kernel (kinds_in p w.1) (kinds_out p w.1) (map (var_kind p.tables p.vars) w.1.vars) (op_fits p v w.0 w.1 w.3))) good.types j.0 in
+      let t = ran_typed w.1.kernel (kinds_in p w.1) (kinds_out p w.1) (map (var_kind p.tables p.vars) w.1.vars) (first_kept w.1.kernel) (ws w.0)
+      (op_fits p v w.0 w.1 w.3)
+      (first_is_start w.1.kernel (kinds_in p w.1)
+      (shaped w.1.kernel (kinds_in p w.1) (kinds_out p w.1) (map (var_kind p.tables p.vars) w.1.vars) (op_fits p v w.0 w.1 w.3))) good.types j.0 in
       record {
         front = (
           left q ++ pend,
@@ -194,12 +204,14 @@ module _ (p : PlanForm) (inputs : List (List item.Item)) (caps : Capacities) (ad
               ∙ ap (λ x. x ++ pend) (beside.inner n w.0 op w.1 port j.0 q g at w.3 j.1)
               ∙ gave_is ws w.0 w.1 w.3 good j.0 q j.1,
         );
-        kinds = subst (All (HasType (kind q))) (sym (lists_at w.1.writes (ran w.1 (ws w.0)).outs (hist_by p inputs ws) (by_words p inputs ws v w.0 w.1 w.3) j.0 q j.1))
+        kinds = subst (All (HasType (kind q)))
+            (sym (lists_at w.1.writes (ran w.1 (ws w.0)).outs (hist_by p inputs ws) (by_words p inputs ws v w.0 w.1 w.3) j.0 q j.1))
             (subst (λ (k : Option QueueType). All (IsTyped k) ((ran w.1 (ws w.0)).outs j.0)) (got_map kind w.1.writes j.0 q j.1) t);
       })
       (writer_before p.ops (λ n. count n (decl_names p.inputs)) n op q g (got_count op.reads port q at) v.in_order)
 
-  module _ (n : ℕ) (op : OpForm) (g : slice_get p.ops n ≡ Some op) (ws : ℕ → Word) (all : (o : ℕ) (a : OpForm) → o < n → slice_get p.ops o ≡ Some a → Good ws o a) where
+  module _ (n : ℕ) (op : OpForm) (g : slice_get p.ops n ≡ Some op) (ws : ℕ → Word)
+      (all : (o : ℕ) (a : OpForm) → o < n → slice_get p.ops o ≡ Some a → Good ws o a) where
     -- of each history that it reads as many items as came
     abbrev chosen : ℕ → List item.Item
     chosen port = take (length (at_port port (is n))) (lists_of (hist_by p inputs ws) op.reads port)
@@ -235,14 +247,16 @@ module _ (p : PlanForm) (inputs : List (List item.Item)) (caps : Capacities) (ad
 
     good_here : Good with_it n op
     good_here = record {
-      types = subst (IsWordOf (kinds_in p op)) (sym (at_key_same n word ws)) (typed_ports (kinds_in p op) word (λ port. subst (All (IsOf (kinds_in p op) port)) (sym (word_at port)) (⊎_elim
+      types = subst (IsWordOf (kinds_in p op)) (sym (at_key_same n word ws))
+          (typed_ports (kinds_in p op) word (λ port. subst (All (IsOf (kinds_in p op) port)) (sym (word_at port)) (⊎_elim
           (λ lt.
           let q = read_of op.reads port lt in
           let k = length (at_port port (is n)) in
           let h = hist_by p inputs ws q.0 in
           subst (λ (t : Option QueueType). All (IsTyped t) (chosen port)) (sym (got_map kind op.reads port q.0 q.1))
           (subst (All (HasType (kind q.0))) (sym (chosen_is port q.0 q.1))
-          (all_left (HasType (kind q.0)) (take k h) (drop k h) (subst (All (HasType (kind q.0))) (sym (take-append-drop k h)) (source ws n op g all port q.0 q.1).kinds))))
+          (all_left (HasType (kind q.0)) (take k h) (drop k h)
+          (subst (All (HasType (kind q.0))) (sym (take-append-drop k h)) (source ws n op g all port q.0 q.1).kinds))))
           (λ ge. subst (All (IsOf (kinds_in p op) port)) (sym (no_choice port ge)) (All-nil (IsOf (kinds_in p op) port)))
           (cases_lt port (length op.reads)))));
       stands = subst (λ w. IsHeldAs (kinds_in p op) w (is n)) (sym (at_key_same n word ws)) (record {
@@ -261,7 +275,8 @@ module _ (p : PlanForm) (inputs : List (List item.Item)) (caps : Capacities) (ad
           let h = hist_by p inputs ws q in (
             drop k h,
             ap (λ w. at_port port w ++ drop k h) (at_key_same n word ws) ∙ ap (λ l. l ++ drop k h) (word_at port ∙ chosen_is port q at) ∙ take-append-drop k h
-                ∙ hist_before ws with_it n op g (λ i lt. let ne : n ≢ i = omega (arith, lt) in sym (at_key_other n word ws i ne)) q (got_count op.reads port q at),
+                ∙ hist_before ws with_it n op g (λ i lt. let ne : n ≢ i = omega (arith, lt) in sym (at_key_other n word ws i ne)) q
+                (got_count op.reads port q at),
           );
     }
 
@@ -277,7 +292,8 @@ module _ (p : PlanForm) (inputs : List (List item.Item)) (caps : Capacities) (ad
               let f = old.fronts port q at in (
                 f.0,
                 ap (λ w. at_port port w ++ f.0) (sym e) ∙ f.1
-                    ∙ hist_before ws with_it o a h (λ i li. let no : n ≢ i = omega (arith, li, lt) in sym (at_key_other n word ws i no)) q (got_count a.reads port q at),
+                    ∙ hist_before ws with_it o a h (λ i li. let no : n ≢ i = omega (arith, li, lt) in sym (at_key_other n word ws i no)) q
+                    (got_count a.reads port q at),
               );
         }
 
@@ -366,7 +382,8 @@ module _ (p : PlanForm) (inputs : List (List item.Item)) (caps : Capacities) (ad
       let c = length-append (list_at (ts r.0).received i.0) (left q) in
       let d = ap length (unwritten_by p inputs ws q zw) in
       omega (arith, a, b, c, d))
-      (λ z. let a = ap length (unread q z) in let b = ap length (beside.unused q z zw) in let d = ap length (unwritten_by p inputs ws q zw) in omega (arith, a, b, d))
+      (λ z. let a = ap length (unread q z) in let b = ap length (beside.unused q z zw) in let d =
+      ap length (unwritten_by p inputs ws q zw) in omega (arith, a, b, d))
       (more_or_zero (total (reads_it q) p.ops))
 
   -- and how many were given to it

@@ -92,7 +92,8 @@ works_at p adds [] h o t g = absurd (cc g)
 works_at p adds (x ∷ ts) h zero t g =
     let e : x ≡ t = cc g in
     let k = h 0 x (omega arith) in
-    subst (λ y. Works p adds y k.word) e (record { op = k.op; op_is = k.op_is; ins = k.ins; outs = k.outs; fired = k.fired; stands = k.stands; count = k.count })
+    subst (λ y. Works p adds y k.word) e
+    (record { op = k.op; op_is = k.op_is; ins = k.ins; outs = k.outs; fired = k.fired; stands = k.stands; count = k.count })
 works_at p adds (x ∷ ts) h (suc o) t g = works_at p adds ts (λ n d lt. h (suc n) d (omega (arith, lt))) o t g
 
 -- of a settled ring, what was received, then what is known, is what was sent
@@ -118,7 +119,8 @@ ports_long (e ∷ w) = ap suc (ports_long w)
 as_long : (w is : Word) → ports_of w ≡ ports_of is → length w ≡ length is
 as_long w is e = sym (ports_long w) ∙ ap length e ∙ ports_long is
 
-module _ (p : PlanForm) (inputs : List (List item.Item)) (caps : Capacities) (adds : ℕ → ℕ → List (List ℤ)) (ts : List Task) (v : IsPlan p) (laid : AreLaid p inputs caps ts) (tasks : AreTasks p adds ts) (settled : AreSettled p ts) where
+module _ (p : PlanForm) (inputs : List (List item.Item)) (caps : Capacities) (adds : ℕ → ℕ → List (List ℤ)) (ts : List Task) (v : IsPlan p)
+    (laid : AreLaid p inputs caps ts) (tasks : AreTasks p adds ts) (settled : AreSettled p ts) where
   abbrev pub words : ℕ → Word
   words = word_at p adds ts tasks.each
 
@@ -143,7 +145,16 @@ module _ (p : PlanForm) (inputs : List (List item.Item)) (caps : Capacities) (ad
       let w = works_at p adds ts tasks.each o t gt in
       let n = laid.numbers o t gt in
       let e : w.op ≡ op = some_is w.op op (sym w.op_is ∙ ap (slice_get p.ops) n ∙ g) in
-      subst (λ (y : OpForm). At o y t) e (record { there = gt; ins = w.ins; outs = w.outs; fired = subst (λ i. HasFired p w.op (adds i) (seen_task t) (word_at p adds ts tasks.each o)) n w.fired; stands = w.stands; count = w.count })
+      subst (λ (y : OpForm). At o y t) e
+      (record {
+        there = gt;
+        ins = w.ins;
+        outs = w.outs;
+        fired =
+            subst (λ i. HasFired p w.op (adds i) (seen_task t) (word_at p adds ts tasks.each o)) n w.fired;
+        stands = w.stands;
+        count = w.count;
+      })
 
   fired : (o : ℕ) (op : OpForm) → slice_get p.ops o ≡ Some op → HasFired p op (adds o) (seen_at ts o) (words o)
   fired o op g =
@@ -166,7 +177,8 @@ module _ (p : PlanForm) (inputs : List (List item.Item)) (caps : Capacities) (ad
       let z : 0 + o ≡ o = omega arith in
       let base = lists_by_name (λ a. a.writes) (sent_at ts) 0 p.ops (given_to p inputs) in
       lists_at op.reads (known_in ts o) left
-      (subst (λ n. Lists op.reads (known_in ts n) left) z (spread_lists (λ a. a.reads) (known_in ts) p.ops 0 base (λ n. let w = v.read_once n in omega (arith, w)) o op g)) port q r
+      (subst (λ n. Lists op.reads (known_in ts n) left) z
+      (spread_lists (λ a. a.reads) (known_in ts) p.ops 0 base (λ n. let w = v.read_once n in omega (arith, w)) o op g)) port q r
       ∙ known_there ts o port t gt ∙ known_here t.ins port i gi
 
   -- what lies where nobody reads
@@ -176,7 +188,8 @@ module _ (p : PlanForm) (inputs : List (List item.Item)) (caps : Capacities) (ad
   pub ends : (o o' port j : ℕ) (op op' : OpForm) (q : Name) (t t' : Task) (f : outlet.Outlet) (i : inlet.Inlet) → slice_get p.ops o ≡ Some op
       → slice_get op.reads port ≡ Some q → slice_get p.ops o' ≡ Some op' → slice_get op'.writes j ≡ Some q
       → slice_get ts o ≡ Some t → slice_get ts o' ≡ Some t' → slice_get t.ins port ≡ Some i → slice_get t'.outs j ≡ Some f → HasEnds p ts o o' port j q f i
-  ends o o' port j op op' q t t' f i g r g' r' gt gt' gi gf = record { op = op; op' = op'; op_is = g; reads = r; op_is' = g'; writes = r'; t = t; t' = t'; t_is = gt; t_is' = gt'; in_is = gi; out_is = gf }
+  ends o o' port j op op' q t t' f i g r g' r' gt gt' gi gf =
+      record { op = op; op' = op'; op_is = g; reads = r; op_is' = g'; writes = r'; t = t; t' = t'; t_is = gt; t_is' = gt'; in_is = gi; out_is = gf }
 
   -- what the rings tell of these tasks
   pub beside : AreBeside p inputs caps (seen_at ts) left
@@ -204,7 +217,8 @@ module _ (p : PlanForm) (inputs : List (List item.Item)) (caps : Capacities) (ad
         let base = lists_by_name (λ a. a.writes) (sent_at ts) 0 p.ops (given_to p inputs) in
         left_unread q z
         ∙ lists_at op'.writes (sent_at ts o') base
-        (subst (λ n. Lists op'.writes (sent_at ts n) base) y (spread_lists (λ a. a.writes) (sent_at ts) p.ops 0 (given_to p inputs) (λ n. let w = v.written_once n in omega (arith, w)) o' op' g')) j q r'
+        (subst (λ n. Lists op'.writes (sent_at ts n) base) y
+        (spread_lists (λ a. a.writes) (sent_at ts) p.ops 0 (given_to p inputs) (λ n. let w = v.written_once n in omega (arith, w)) o' op' g')) j q r'
         ∙ sent_there ts o' j t'.0 t'.1 ∙ sym (ap (λ (s : SeenTask). list_at s.sent j) (seen_here ts o' t'.0 t'.1));
     unused = λ q z zw. left_unread q z ∙ spread_out (λ a. a.writes) (sent_at ts) p.ops 0 (given_to p inputs) q zw;
     within = λ q lw lr.

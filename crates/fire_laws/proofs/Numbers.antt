@@ -31,14 +31,16 @@ ports_length : (op : OpForm) (w : Word) → ((q : Name) → count q op.reads ≤
 ports_length op w once b =
     let h : History = written op.reads (λ port. at_port port w) (λ q. []) in
     let l : Lists op.reads (λ port. at_port port w) h = lists_written op.reads (λ port. at_port port w) (λ q. []) h once (λ q lt. refl) in
-    word_lengths op.reads h w b (λ port q g. sym (lists_at op.reads (λ i. at_port i w) h l port q g)) ∙ sym (lists_lengths op.reads (λ port. at_port port w) h l)
+    word_lengths op.reads h w b (λ port q g. sym (lists_at op.reads (λ i. at_port i w) h l port q g))
+    ∙ sym (lists_lengths op.reads (λ port. at_port port w) h l)
 
 received_counts : (ins : List inlet.Inlet) (rs : List Name) (f : ℕ → List item.Item) → length ins ≡ length rs
     → ((port : ℕ) → list_at (received_in ins) port ≡ f port) → received_count ins ≡ lengths_at rs f
 received_counts [] [] f e h = refl
 received_counts [] (r ∷ rs) f e h = absurd (omega (arith, e))
 received_counts (i ∷ ins) [] f e h = absurd (omega (arith, e))
-received_counts (i ∷ ins) (r ∷ rs) f e h = let a = ap length (h 0) in let b = received_counts ins rs (λ port. f (suc port)) (omega (arith, e)) (λ port. h (suc port)) in omega (arith, a, b)
+received_counts (i ∷ ins) (r ∷ rs) f e h = let a = ap length (h 0) in let b =
+    received_counts ins rs (λ port. f (suc port)) (omega (arith, e)) (λ port. h (suc port)) in omega (arith, a, b)
 
 sent_counts : (outs : List outlet.Outlet) (ws : List Name) (f : ℕ → List item.Item) (pending : ℕ → List item.Item) → length outs ≡ length ws
     → ((j : ℕ) → j < length ws → length (list_at (sent_in outs) j) + length (pending j) ≡ length (f j)) → sent_count outs ≤ lengths_at ws f
@@ -71,8 +73,11 @@ moves_are [] all (op ∷ ops) o ws e h = absurd (omega (arith, e))
 moves_are (t ∷ ts) all [] o ws e h = absurd (omega (arith, e))
 moves_are (t ∷ ts) all (op ∷ ops) o ws e h =
     let z : o + 0 ≡ o = omega arith in
-    let a : (received_count t.ins ≡ length (ws o)) × (sent_by all o ≡ sent_count t.outs) = subst (λ n. (received_count t.ins ≡ length (ws n)) × (sent_by all n ≡ sent_count t.outs)) z (h 0 t refl) in
-    let b = moves_are ts all ops (suc o) ws (omega (arith, e)) (λ i u g. let y : o + suc i ≡ suc o + i = omega arith in subst (λ n. (received_count u.ins ≡ length (ws n)) × (sent_by all n ≡ sent_count u.outs)) y (h (suc i) u g)) in
+    let a : (received_count t.ins ≡ length (ws o)) × (sent_by all o ≡ sent_count t.outs) =
+    subst (λ n. (received_count t.ins ≡ length (ws n)) × (sent_by all n ≡ sent_count t.outs)) z (h 0 t refl) in
+    let b = moves_are ts all ops (suc o) ws (omega (arith, e))
+    (λ i u g. let y : o + suc i ≡ suc o + i =
+    omega arith in subst (λ n. (received_count u.ins ≡ length (ws n)) × (sent_by all n ≡ sent_count u.outs)) y (h (suc i) u g)) in
     let a0 = a.0 in
     let a1 = a.1 in
     omega (arith, a0, a1, b)
@@ -108,8 +113,11 @@ numbers_law p inputs caps adds ts v laid tasks settled typed =
     (let m = laid.many in
     let op = there_is p.ops i (let l = got_below ts i t g in omega (arith, l, m)) in
     let a = at_op p inputs caps adds ts v laid tasks settled i op.0 t op.1 g in (
-      received_counts t.ins op.0.reads (λ port. at_port port (items i)) a.ins (λ port. received_by p inputs caps adds ts v laid tasks settled typed i op.0 t op.1 g port)
-          ∙ sym (ports_length op.0 (items i) (λ q. let x = at_most (reads_it q) p.ops i op.0 op.1 in let y = v.read_once q in omega (arith, x, y)) a.fired.below) ∙ sym (same_length (words i) (items i) (n.held i op.0 op.1).ports),
+      received_counts t.ins op.0.reads (λ port. at_port port (items i)) a.ins
+          (λ port. received_by p inputs caps adds ts v laid tasks settled typed i op.0 t op.1 g port)
+          ∙ sym (ports_length op.0 (items i)
+          (λ q. let x = at_most (reads_it q) p.ops i op.0 op.1 in let y = v.read_once q in omega (arith, x, y)) a.fired.below)
+          ∙ sym (same_length (words i) (items i) (n.held i op.0 op.1).ports),
       sent_by_is ts i t g,
     ))) in
     omega (arith, few, e)

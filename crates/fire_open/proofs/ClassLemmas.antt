@@ -128,7 +128,8 @@ kinds_same f g c n (t ∷ ts) h =
 pub class_kinds_are : (p : PlanForm) (classes : List ℕ) (c : ℕ) → AreTableClasses p classes
     → kinds_from (λ n. slice_index_or classes n 0) c 0 p.tables ≡ class_kinds p c
 class_kinds_are p classes c h =
-    kinds_same (λ n. slice_index_or classes n 0) (table_class p) c 0 p.tables (λ m le lt. get_or_from_slice_get classes m (table_class p m) 0 (h.each m (omega (arith, lt))))
+    kinds_same (λ n. slice_index_or classes n 0) (table_class p) c 0 p.tables
+    (λ m le lt. get_or_from_slice_get classes m (table_class p m) 0 (h.each m (omega (arith, lt))))
 
 -- no table stands twice
 all_behind : (f : ℕ → ℕ) (c n k : ℕ) (ts : List TableDecl) → n < k → (i : ℕ) (x : ℕ × TableKind) → slice_get (kinds_from f c k ts) i ≡ Some x → n < x.0
@@ -167,7 +168,8 @@ pub cells_none : (p : PlanForm) (cells : List Holding) → cells ≡ [] → Cell
 cells_none p cells e = subst (CellsSoFar p 0) (sym e) (record { many = refl; kinds = λ c x g. absurd (cc g); blank = λ c x g. absurd (cc g) })
 
 -- one cell more
-pub cells_more : (p : PlanForm) (n : ℕ) (cells cells' : List Holding) (x : Holding) → CellsSoFar p n cells → x ≡ record { kinds = class_kinds p n; log = [] } → cells' ≡ cells ++ x ∷ []
+pub cells_more : (p : PlanForm) (n : ℕ) (cells cells' : List Holding) (x : Holding) → CellsSoFar p n cells → x ≡ record { kinds = class_kinds p n; log = [] }
+    → cells' ≡ cells ++ x ∷ []
     → CellsSoFar p (n + 1) cells'
 cells_more p n cells cells' x h ex e = subst (CellsSoFar p (n + 1)) (sym e) (record {
   many = (let l = length-append cells (x ∷ []) in let m = h.many in omega (arith, l, m));

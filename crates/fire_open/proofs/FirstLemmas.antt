@@ -68,7 +68,8 @@ kinds_placed p (q ∷ qs) = λ i. kind_place p q i ∷ kinds_placed p qs i
 -- there is a type for each queue
 pub kinds_many : (p : PlanForm) → length (queue_kinds p) ≡ length (queue_names p)
 kinds_many p =
-    ap length (sym (all_kinds p)) ∙ length-map (all_decls p) (λ (d : Decl). d.kind) ∙ sym (length-map (all_decls p) (λ (d : Decl). d.name)) ∙ ap length (all_names p)
+    ap length (sym (all_kinds p)) ∙ length-map (all_decls p) (λ (d : Decl). d.kind) ∙ sym (length-map (all_decls p) (λ (d : Decl). d.name))
+    ∙ ap length (all_names p)
 
 -- PLACES THAT ARE THERE
 
@@ -87,7 +88,8 @@ pub places_there : (p : PlanForm) (o n : ℕ) (ps : List ℕ) → IsPlan p → o
 places_there p o n ps v lt e en =
     let op = op_at p.ops o lt in
     subst (All (λ k. k < n)) (sym (e ∙ places_at (λ d. d.reads) (queue_names p) p.ops o op.0 op.1))
-    (all_below (queue_names p) op.0.reads n (λ j q g. let b = place_below (queue_names p) q (reads_there p v o op.0 op.1 q (got_count op.0.reads j q g)) in omega (arith, b, en)))
+    (all_below (queue_names p) op.0.reads n
+    (λ j q g. let b = place_below (queue_names p) q (reads_there p v o op.0 op.1 q (got_count op.0.reads j q g)) in omega (arith, b, en)))
 
 -- NOTHING MOVED
 
@@ -127,10 +129,16 @@ module _ (p : PlanForm) (v : IsPlan p) (inputs : List (List item.Item)) (fit : F
       let wp = places_at (λ d. d.writes) (queue_names p) p.ops o op g in
       let nr : length (list_at (read_places p) o) ≡ length op.reads = ap length rp ∙ length-map op.reads (place (queue_names p)) in
       let nw : length (list_at (write_places p) o) ≡ length op.writes = ap length wp ∙ length-map op.writes (place (queue_names p)) in
-      let ins_are : (port : ℕ) → list_at (received_in t.ins) port ≡ [] = (λ port. ap (λ is. list_at (received_in is) port) f.ins ∙ none_in (first_lines p inputs) (list_at (read_places p) o) port) in
-      let sent_are : (j : ℕ) → list_at (sent_in t.outs) j ≡ [] = (λ j. ap (λ os. list_at (sent_in os) j) f.outs ∙ none_out (length (list_at (write_places p) o)) j) in
-      let pend_are : (j : ℕ) → list_at (pending_in t.pending) j ≡ [] = (λ j. ap (λ ls. list_at (pending_in ls) j) f.pending ∙ none_pending (length (list_at (write_places p) o)) j) in
-      let both : (j : ℕ) → list_at (sent_in t.outs) j ++ list_at (pending_in t.pending) j ≡ [] = (λ j. ap (λ l. l ++ list_at (pending_in t.pending) j) (sent_are j) ∙ pend_are j) in
+      let ins_are : (port : ℕ)
+      → list_at (received_in t.ins) port ≡ [] =
+      (λ port. ap (λ is. list_at (received_in is) port) f.ins ∙ none_in (first_lines p inputs) (list_at (read_places p) o) port) in
+      let sent_are : (j : ℕ)
+      → list_at (sent_in t.outs) j ≡ [] = (λ j. ap (λ os. list_at (sent_in os) j) f.outs ∙ none_out (length (list_at (write_places p) o)) j) in
+      let pend_are : (j : ℕ)
+      → list_at (pending_in t.pending) j ≡ [] =
+      (λ j. ap (λ ls. list_at (pending_in ls) j) f.pending ∙ none_pending (length (list_at (write_places p) o)) j) in
+      let both : (j : ℕ) → list_at (sent_in t.outs) j ++ list_at (pending_in t.pending) j ≡ [] =
+      (λ j. ap (λ l. l ++ list_at (pending_in t.pending) j) (sent_are j) ∙ pend_are j) in
       record {
         task = record {
           op = op;
@@ -157,7 +165,8 @@ module _ (p : PlanForm) (v : IsPlan p) (inputs : List (List item.Item)) (fit : F
           };
           stands = record {
             fit = (f.first op g).0.again (kinds_in p op) (kinds_out p op) (map (var_kind p.tables p.vars) op.vars) (op_fits p v o op g);
-            after = λ w a h. subst (StandsAfter op.kernel (kinds_in p op) (first_kept op.kernel) t.states) (sym (no_word w h.ports)) ((f.first op g).0.after (kinds_in p op));
+            after = λ w a h. subst (StandsAfter op.kernel (kinds_in p op) (first_kept op.kernel) t.states) (sym (no_word w h.ports))
+                ((f.first op g).0.after (kinds_in p op));
           };
         };
         number = f.number;
@@ -167,10 +176,12 @@ module _ (p : PlanForm) (v : IsPlan p) (inputs : List (List item.Item)) (fit : F
         inputs_are = λ port op' q i g' r gi.
             let e : op ≡ op' = some_is op op' (sym g ∙ g') in
             let there = slice_get_within op'.reads port q r in
-            let here : slice_get (list_at (read_places p) o) port ≡ Some (place (queue_names p) q) = ap (λ l. slice_get l port) (rp ∙ ap (λ (d : OpForm). places (queue_names p) d.reads) e) ∙ got_map (place (queue_names p)) op'.reads port q r in
+            let here : slice_get (list_at (read_places p) o) port ≡ Some (place (queue_names p) q) =
+            ap (λ l. slice_get l port) (rp ∙ ap (λ (d : OpForm). places (queue_names p) d.reads) e) ∙ got_map (place (queue_names p)) op'.reads port q r in
             let y = map_got (whole_list (first_lines p inputs)) (list_at (read_places p) o) port i (ap (λ is. slice_get is port) (sym f.ins) ∙ gi) in
             let n : y.0 ≡ place (queue_names p) q = some_is y.0 (place (queue_names p) q) (sym y.1 ∙ here) in
-            subst (IsInput (given_to p inputs q)) y.2 (ap (list_at (first_lines p inputs)) n ∙ sym (first_hist p v inputs fit q (reads_there p v o op' g' q (got_count op'.reads port q r))));
+            subst (IsInput (given_to p inputs q)) y.2
+            (ap (list_at (first_lines p inputs)) n ∙ sym (first_hist p v inputs fit q (reads_there p v o op' g' q (got_count op'.reads port q r))));
         outs = λ j x' gf.
             let e : Stored [] ≡ x' = same_got_in (length (list_at (write_places p) o)) (Stored []) x' j (ap (λ os. slice_get os j) (sym f.outs) ∙ gf) in
             subst (λ z. IsStored z × (sent_of z ≡ [])) e (tt, refl);

@@ -176,8 +176,12 @@ table_classes_are p users numbers places eu h en =
           let li = slice_get_within places i c g in
           let at : class_of numbers i ≡ pos c = ap (λ l. class_of l i) (sym en) ∙ index_map places i ∙ ap pos (index_got places i c g) in
           let s = h.by_first i c d (omega (arith, li, many, long)) at lt in
-          let ls = s.1 in
-          (s.0, s.1, got_index places s.0 (omega (arith, ls, li)) ∙ ap Some (pos_is (slice_index_or places s.0 0) d (sym (index_map places s.0) ∙ ap (λ l. class_of l s.0) en ∙ s.2)));
+          let ls = s.1 in (
+            s.0,
+            s.1,
+            got_index places s.0 (omega (arith, ls, li))
+                ∙ ap Some (pos_is (slice_index_or places s.0 0) d (sym (index_map places s.0) ∙ ap (λ l. class_of l s.0) en ∙ s.2)),
+          );
     }
 
 -- THE TABLES OF AN OPERATOR
@@ -250,7 +254,8 @@ homes_are p o classes tables own n ports lt h e a em g = record {
     below : (j : ℕ) (x : TablePort) → slice_get ports j ≡ Some x → x.table < length p.tables
     below j x gx =
         let gt : slice_get tables j ≡ Some x.table = ap (λ l. slice_get l j) (sym em) ∙ got_map (λ (y : TablePort). y.table) ports j x gx in
-        subst (λ m. m < length p.tables) (get_or_from_slice_get tables j x.table 0 gt) (numbers_below p o tables lt e j 0 (slice_get_within tables j x.table gt))
+        subst (λ m. m < length p.tables) (get_or_from_slice_get tables j x.table 0 gt)
+        (numbers_below p o tables lt e j 0 (slice_get_within tables j x.table gt))
 
     class_is : {m : ℕ} → m < length p.tables → slice_index_or classes m 0 ≡ table_class p m
     class_is {m} l = index_got classes m (table_class p m) (h.each m l)

@@ -42,7 +42,23 @@ laid_same p inputs caps ts ts' e h = record {
       let w = same_got ends_of ts' ts e o' x.t' x.t_is' in
       let i0 = same_got in_end x.t.ins r.0.ins (ap (λ (s : TaskEnds). s.ins) r.2) port i x.in_is in
       let f0 = same_got out_end x.t'.outs w.0.outs (ap (λ (s : TaskEnds). s.outs) w.2) j f x.out_is in
-      link_same (caps q) f0.0 f i0.0 i f0.2 i0.2 (h.rings o o' port j q f0.0 i0.0 (record { op = x.op; op' = x.op'; op_is = x.op_is; reads = x.reads; op_is' = x.op_is'; writes = x.writes; t = r.0; t' = w.0; t_is = r.1; t_is' = w.1; in_is = i0.1; out_is = f0.1 }));
+      link_same (caps q) f0.0 f i0.0 i f0.2 i0.2
+      (h.rings o o' port j q f0.0 i0.0
+      (record {
+        op = x.op;
+        op' = x.op';
+        op_is = x.op_is;
+        reads = x.reads;
+        op_is' = x.op_is';
+        writes = x.writes;
+        t = r.0;
+        t' = w.0;
+        t_is = r.1;
+        t_is' =
+            w.1;
+        in_is = i0.1;
+        out_is = f0.1;
+      }));
   inputs_are = λ o port op q t i g r z gt gi.
       let s = same_got ends_of ts' ts e o t gt in
       let i0 = same_got in_end t.ins s.0.ins (ap (λ (x : TaskEnds). x.ins) s.2) port i gi in
@@ -78,14 +94,20 @@ apart_links p v l l' a b s = ⊎_elim
         let wo = v.written_once a.queue in
         let r' : slice_get b.read.reads l'.port ≡ Some a.queue = b.reads ∙ ap Some (sym q) in
         let w' : slice_get b.write.writes l'.out ≡ Some a.queue = b.writes ∙ ap Some (sym q) in
-        let er : l.reader ≡ l'.reader = one_place (reads_it a.queue) p.ops l.reader l'.reader a.read b.read (omega (arith, ro)) a.read_is b.read_is (got_count a.read.reads l.port a.queue a.reads) (got_count b.read.reads l'.port a.queue r') in
-        let ew : l.writer ≡ l'.writer = one_place (writes_it a.queue) p.ops l.writer l'.writer a.write b.write (omega (arith, wo)) a.write_is b.write_is (got_count a.write.writes l.out a.queue a.writes) (got_count b.write.writes l'.out a.queue w') in
+        let er : l.reader ≡ l'.reader =
+        one_place (reads_it a.queue) p.ops l.reader l'.reader a.read b.read (omega (arith, ro)) a.read_is b.read_is
+        (got_count a.read.reads l.port a.queue a.reads) (got_count b.read.reads l'.port a.queue r') in
+        let ew : l.writer ≡ l'.writer =
+        one_place (writes_it a.queue) p.ops l.writer l'.writer a.write b.write (omega (arith, wo)) a.write_is b.write_is
+        (got_count a.write.writes l.out a.queue a.writes) (got_count b.write.writes l'.out a.queue w') in
         let or : a.read ≡ b.read = some_is a.read b.read (sym a.read_is ∙ ap (slice_get p.ops) er ∙ b.read_is) in
         let ow : a.write ≡ b.write = some_is a.write b.write (sym a.write_is ∙ ap (slice_get p.ops) ew ∙ b.write_is) in
         let mr = at_most (reads_it a.queue) p.ops l.reader a.read a.read_is in
         let mw = at_most (writes_it a.queue) p.ops l.writer a.write a.write_is in
-        let ep : l.port ≡ l'.port = place_once a.read.reads l.port l'.port a.queue (omega (arith, ro, mr)) a.reads (ap (λ (x : OpForm). slice_get x.reads l'.port) or ∙ r') in
-        let ej : l.out ≡ l'.out = place_once a.write.writes l.out l'.out a.queue (omega (arith, wo, mw)) a.writes (ap (λ (x : OpForm). slice_get x.writes l'.out) ow ∙ w') in
+        let ep : l.port ≡ l'.port =
+        place_once a.read.reads l.port l'.port a.queue (omega (arith, ro, mr)) a.reads (ap (λ (x : OpForm). slice_get x.reads l'.port) or ∙ r') in
+        let ej : l.out ≡ l'.out =
+        place_once a.write.writes l.out l'.out a.queue (omega (arith, wo, mw)) a.writes (ap (λ (x : OpForm). slice_get x.writes l'.out) ow ∙ w') in
         λ i. record { writer = ew i; out = ej i; reader = er i; port = ep i }
 
 -- no two links of a plan share an end
@@ -114,7 +136,22 @@ task_at p inputs caps adds ts laid tasks o op g =
 
 pub ends_of_link : (p : PlanForm) (inputs : List (List item.Item)) (caps : Capacities) (adds : ℕ → ℕ → List (List ℤ)) (ts : List Task) (l : Link)
     (k : IsLinkOf p l) (f : outlet.Outlet) (i : inlet.Inlet) → LinkEnds ts l f i → HasEnds p ts l.reader l.writer l.port l.out k.queue f i
-ends_of_link p inputs caps adds ts l k f i x = record { op = k.read; op' = k.write; op_is = k.read_is; reads = k.reads; op_is' = k.write_is; writes = k.writes; t = x.t; t' = x.t'; t_is = x.t_is; t_is' = x.t_is'; in_is = x.in_is; out_is = x.out_is }
+ends_of_link p inputs caps adds ts l k f i x =
+    record {
+      op = k.read;
+      op' = k.write;
+      op_is = k.read_is;
+      reads = k.reads;
+      op_is' = k.write_is;
+      writes = k.writes;
+      t = x.t;
+      t' = x.t';
+      t_is = x.t_is;
+      t_is' =
+          x.t_is';
+      in_is = x.in_is;
+      out_is = x.out_is;
+    }
 
 pub paired_link : (p : PlanForm) (inputs : List (List item.Item)) (caps : Capacities) (adds : ℕ → ℕ → List (List ℤ)) (ts : List Task) → IsPlan p
     → AreLaid p inputs caps ts → AreTasks p adds ts → (l : Link) → IsLinkOf p l → IsPaired ts l
@@ -125,7 +162,8 @@ paired_link p inputs caps adds ts v laid tasks l k =
     let f = there_is w.t.outs l.out (let a = w.outs in let b = got_below k.write.writes l.out k.queue k.writes in omega (arith, a, b)) in
     let ends : LinkEnds ts l f.0 i.0 = record { t = r.t; t' = w.t; t_is = r.t_is; t_is' = w.t_is; in_is = i.1; out_is = f.1 } in
     record {
-      order = reader_behind p v l.writer l.reader k.write k.read k.queue k.write_is (got_count k.write.writes l.out k.queue k.writes) k.read_is (got_count k.read.reads l.port k.queue k.reads);
+      order = reader_behind p v l.writer l.reader k.write k.read k.queue k.write_is (got_count k.write.writes l.out k.queue k.writes) k.read_is
+          (got_count k.read.reads l.port k.queue k.reads);
       out = f.0;
       in_ = i.0;
       ends = ends;

@@ -47,11 +47,16 @@ body_task p adds t t' e k =
       outs = map_long sent_of t'.outs t.outs (ap (λ (x : SeenTask). x.sent) s) ∙ k.outs;
       pending = ap length pe ∙ k.pending;
       blank = subst (IsBlank k.op.kernel) (sym ou) k.blank;
-      homes = subst (λ c. AreHomes p t'.op t'.tables c) (sym cl) (subst (λ a. AreHomes p t'.op a t.classes) (sym ta) (subst (λ i. AreHomes p i t.tables t.classes) (sym o) k.homes));
+      homes = subst (λ c. AreHomes p t'.op t'.tables c) (sym cl)
+          (subst (λ a. AreHomes p t'.op a t.classes) (sym ta) (subst (λ i. AreHomes p i t.tables t.classes) (sym o) k.homes));
       word = k.word;
       count = co ∙ k.count;
       fired = subst (λ x. HasFired p k.op adds x k.word) (sym s) k.fired;
-      stands = record { fit = subst (FitState k.op.kernel (kinds_in p k.op)) (sym st) k.stands.fit; after = λ w a h. subst (λ x. StandsAfter k.op.kernel (kinds_in p k.op) (first_kept k.op.kernel) x w) (sym st) (k.stands.after w a h) };
+      stands = record {
+        fit = subst (FitState k.op.kernel (kinds_in p k.op)) (sym st) k.stands.fit;
+        after =
+            λ w a h. subst (λ x. StandsAfter k.op.kernel (kinds_in p k.op) (first_kept k.op.kernel) x w) (sym st) (k.stands.after w a h);
+      };
     }
 
 -- fresh tasks have the ends of all links, and nothing moved
@@ -78,7 +83,8 @@ fresh_there p inputs ts ls v h k = record {
         let i = there_is r.0.ins l.port (let a = r.2 in let b = got_below x.read.reads l.port x.queue x.reads in omega (arith, a, b)) in
         let f = there_is w.0.outs l.out (let a = w.3 in let b = got_below x.write.writes l.out x.queue x.writes in omega (arith, a, b)) in
         record {
-          order = reader_behind p v l.writer l.reader x.write x.read x.queue x.write_is (got_count x.write.writes l.out x.queue x.writes) x.read_is (got_count x.read.reads l.port x.queue x.reads);
+          order = reader_behind p v l.writer l.reader x.write x.read x.queue x.write_is (got_count x.write.writes l.out x.queue x.writes) x.read_is
+              (got_count x.read.reads l.port x.queue x.reads);
           out = f.0;
           in_ = i.0;
           ends = record { t = r.0; t' = w.0; t_is = r.1; t_is' = w.1; in_is = i.1; out_is = f.1 };

@@ -55,8 +55,10 @@ pub rung_there : (ts0 ts : List Task) (l : Link) → map body ts ≡ map body ts
 rung_there ts0 ts l e h =
     let r = same_got body ts0 ts (sym e) l.reader h.ends.t h.ends.t_is in
     let w = same_got body ts0 ts (sym e) l.writer h.ends.t' h.ends.t_is' in
-    let i = there_is r.0.ins l.port (let a = ins_long h.ends.t r.0 r.2 in let b = slice_get_within h.ends.t.ins l.port h.in_ h.ends.in_is in omega (arith, a, b)) in
-    let f = there_is w.0.outs l.out (let a = outs_long h.ends.t' w.0 w.2 in let b = slice_get_within h.ends.t'.outs l.out h.out h.ends.out_is in omega (arith, a, b)) in
+    let i = there_is r.0.ins l.port
+    (let a = ins_long h.ends.t r.0 r.2 in let b = slice_get_within h.ends.t.ins l.port h.in_ h.ends.in_is in omega (arith, a, b)) in
+    let f = there_is w.0.outs l.out
+    (let a = outs_long h.ends.t' w.0 w.2 in let b = slice_get_within h.ends.t'.outs l.out h.out h.ends.out_is in omega (arith, a, b)) in
     record { order = h.order; out = f.0; in_ = i.0; ends = record { t = r.0; t' = w.0; t_is = r.1; t_is' = w.1; in_is = i.1; out_is = f.1 } }
 
 -- what is asked where a ring is put
@@ -75,8 +77,10 @@ asks_there room ts0 ts ls n l th h g =
     record {
       order = p.order;
       reader = slice_get_within ts l.reader x.t x.t_is;
-      out = λ d. subst (λ (y : Task). l.out < length y.outs) (sym (get_or_from_slice_get ts l.writer x.t' d x.t_is')) (slice_get_within x.t'.outs l.out p.out x.out_is);
-      port = λ d. subst (λ (y : Task). l.port < length y.ins) (sym (get_or_from_slice_get ts l.reader x.t d x.t_is)) (slice_get_within x.t.ins l.port p.in_ x.in_is);
+      out = λ d. subst (λ (y : Task). l.out < length y.outs) (sym (get_or_from_slice_get ts l.writer x.t' d x.t_is'))
+          (slice_get_within x.t'.outs l.out p.out x.out_is);
+      port = λ d. subst (λ (y : Task). l.port < length y.ins) (sym (get_or_from_slice_get ts l.reader x.t d x.t_is))
+          (slice_get_within x.t.ins l.port p.in_ x.in_is);
     }
 
 -- one link more has its ring
@@ -100,11 +104,13 @@ rung_next room ts0 ts ts' ls n l th g h put = record {
     unmoved = bodies_unmoved ts0 ts h.bodies th.unmoved
 
     old_out : sent_of (get_or put.swapped.writer.outs l.out put.out) ≡ []
-    old_out = ap (λ (y : Task). sent_of (get_or y.outs l.out put.out)) (writer_is ts ts' l put.out put.in_ there put.swapped) ∙ ap sent_of (get_or_from_slice_get there.ends.t'.outs l.out there.out put.out there.ends.out_is)
+    old_out = ap (λ (y : Task). sent_of (get_or y.outs l.out put.out)) (writer_is ts ts' l put.out put.in_ there put.swapped)
+        ∙ ap sent_of (get_or_from_slice_get there.ends.t'.outs l.out there.out put.out there.ends.out_is)
         ∙ unmoved.outs l.writer l.out there.ends.t' there.out there.ends.t_is' there.ends.out_is
 
     old_in : received_of (get_or put.swapped.reader.ins l.port put.in_) ≡ []
-    old_in = ap (λ (y : Task). received_of (get_or y.ins l.port put.in_)) (reader_is ts ts' l put.out put.in_ there put.swapped) ∙ ap received_of (get_or_from_slice_get there.ends.t.ins l.port there.in_ put.in_ there.ends.in_is)
+    old_in = ap (λ (y : Task). received_of (get_or y.ins l.port put.in_)) (reader_is ts ts' l put.out put.in_ there put.swapped)
+        ∙ ap received_of (get_or_from_slice_get there.ends.t.ins l.port there.in_ put.in_ there.ends.in_is)
         ∙ unmoved.ins l.reader l.port there.ends.t there.in_ there.ends.t_is there.ends.in_is
 
     bodies_stay : map body ts' ≡ map body ts
@@ -114,14 +120,37 @@ rung_next room ts0 ts ts' ls n l th g h put = record {
         let es = sent_stays w.outs l.out put.out (put.sent ∙ sym old_out) in
         let er = received_same r.ins l.port put.in_ (put.received ∙ sym old_in) in
         view_stays ts ts' l put.out put.in_ there put.swapped body
-        (λ j. record { op = w.op; seen = record { received = received_in w.ins; sent = es j; pending = pending_in w.pending; bad = w.bad }; kinds = w.kinds; states = w.states; pending = w.pending; out = w.out; tables = w.tables; classes = w.classes; count = w.count })
-        (λ j. record { op = r.op; seen = record { received = er j; sent = sent_in r.outs; pending = pending_in r.pending; bad = r.bad }; kinds = r.kinds; states = r.states; pending = r.pending; out = r.out; tables = r.tables; classes = r.classes; count = r.count })
+        (λ j. record {
+          op = w.op;
+          seen = record { received = received_in w.ins; sent = es j; pending = pending_in w.pending; bad = w.bad };
+          kinds =
+              w.kinds;
+          states = w.states;
+          pending = w.pending;
+          out = w.out;
+          tables = w.tables;
+          classes = w.classes;
+          count = w.count;
+        })
+        (λ j. record {
+          op = r.op;
+          seen = record { received = er j; sent = sent_in r.outs; pending = pending_in r.pending; bad = r.bad };
+          kinds =
+              r.kinds;
+          states = r.states;
+          pending = r.pending;
+          out = r.out;
+          tables = r.tables;
+          classes = r.classes;
+          count = r.count;
+        })
 
     itself : (f : outlet.Outlet) (i : inlet.Inlet) → LinkEnds ts' l f i → IsLink (room l) f i × IsSettled f i
     itself f i x =
         let ar = after_task ts ts' l put.out put.in_ there put.swapped l.reader x.t x.t_is in
         let aw = after_task ts ts' l put.out put.in_ there put.swapped l.writer x.t' x.t_is' in
-        subst (λ z. IsLink (room l) z i × IsSettled z i) (sym (aw.new_out refl f x.out_is)) (subst (λ z. IsLink (room l) put.out z × IsSettled put.out z) (sym (ar.new_in refl i x.in_is)) (put.link, put.settled))
+        subst (λ z. IsLink (room l) z i × IsSettled z i) (sym (aw.new_out refl f x.out_is))
+        (subst (λ z. IsLink (room l) put.out z × IsSettled put.out z) (sym (ar.new_in refl i x.in_is)) (put.link, put.settled))
 
     same_one : (k : ℕ) (l2 : Link) (f : outlet.Outlet) (i : inlet.Inlet) → slice_get ls k ≡ Some l2 → LinkEnds ts' l2 f i → ShareAnEnd l l2
         → IsLink (room l2) f i × IsSettled f i
@@ -138,7 +167,8 @@ rung_next room ts0 ts ts' ls n l th g h put = record {
         (λ nw.
         let ar = after_task ts ts' l put.out put.in_ there put.swapped l2.reader x.t x.t_is in
         let aw = after_task ts ts' l put.out put.in_ there put.swapped l2.writer x.t' x.t_is' in
-        let other : n ≡ k → ⊥ = (λ e. nr (let q : l ≡ l2 = some_is l l2 (sym g ∙ ap (slice_get ls) e ∙ g2) in (ap (λ (y : Link). y.reader) q, ap (λ (y : Link). y.port) q))) in
+        let other : n ≡ k → ⊥ =
+        (λ e. nr (let q : l ≡ l2 = some_is l l2 (sym g ∙ ap (slice_get ls) e ∙ g2) in (ap (λ (y : Link). y.reader) q, ap (λ (y : Link). y.port) q))) in
         h.rung k l2 f i (⊎_elim (λ z. z) (λ ge. absurd (other (omega (arith, ge, lt)))) (cases_lt k n)) g2 (record {
           t = ar.t;
           t' = aw.t;
@@ -167,7 +197,8 @@ put_is cap ts l feed take w r wi ri lt lr id f t = record {
     writer = w;
     reader = r;
     writer_is = λ d. sym (wi ∙ same_default ts l.writer w d (omega (arith, lt, lr)));
-    reader_is = λ d. sym (ri ∙ get_or-set_other ts l.writer l.reader (with_out w l.out (SendsTo feed)) r (λ e. omega (arith, e, lt)) ∙ same_default ts l.reader r d lr);
+    reader_is = λ d. sym
+        (ri ∙ get_or-set_other ts l.writer l.reader (with_out w l.out (SendsTo feed)) r (λ e. omega (arith, e, lt)) ∙ same_default ts l.reader r d lr);
     after = refl;
   };
   link = (id, t.0, f.0);

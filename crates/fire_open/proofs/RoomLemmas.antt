@@ -23,10 +23,12 @@ writer_at raw p i d op v g at =
 -- it has the port that the link has
 pub port_there : (raw : RawPlan) (p : PlanForm) (l : Link) (d : Op) → plan_form raw ≡ p → IsLinkOf p l → d ≡ get_or raw.ops l.writer d → l.out < length d.writes
 port_there raw p l d v k at =
-    subst (λ (op : OpForm). l.out < length op.writes) (sym (writer_at raw p l.writer d k.write v k.write_is at)) (slice_get_within k.write.writes l.out k.queue k.writes)
+    subst (λ (op : OpForm). l.out < length op.writes) (sym (writer_at raw p l.writer d k.write v k.write_is at))
+    (slice_get_within k.write.writes l.out k.queue k.writes)
 
 -- a link has the queue that its writer writes
-pub queue_here : (p : PlanForm) (l : Link) (op : OpForm) (q : Name) → slice_get p.ops l.writer ≡ Some op → slice_get op.writes l.out ≡ Some q → link_queue p l ≡ q
+pub queue_here : (p : PlanForm) (l : Link) (op : OpForm) (q : Name) → slice_get p.ops l.writer ≡ Some op → slice_get op.writes l.out ≡ Some q
+    → link_queue p l ≡ q
 queue_here p l op q g w = ap (λ o. get_or (writes_in o) l.out []) g ∙ get_or_from_slice_get op.writes l.out q [] w
 
 -- and that is found there

@@ -46,7 +46,18 @@ pub still_by : (t u : Task) → t.op ≡ u.op → in_ends t.ins ≡ in_ends u.in
     → sent_in t.outs ≡ sent_in u.outs → pending_in t.pending ≡ pending_in u.pending → t.bad ≡ u.bad → t.kinds ≡ u.kinds → t.states ≡ u.states
     → t.pending ≡ u.pending → t.out ≡ u.out → t.tables ≡ u.tables → t.classes ≡ u.classes → t.count ≡ u.count → still t ≡ still u
 still_by t u o i os r s p b k st pe ou ta cl c =
-    λ j. record { ends = record { op = o j; ins = i j; outs = os j }; seen = record { received = r j; sent = s j; pending = p j; bad = b j }; kinds = k j; states = st j; pending = pe j; out = ou j; tables = ta j; classes = cl j; count = c j }
+    λ j. record {
+      ends = record { op = o j; ins = i j; outs = os j };
+      seen = record { received = r j; sent = s j; pending = p j; bad = b j };
+      kinds =
+          k j;
+      states = st j;
+      pending = pe j;
+      out = ou j;
+      tables = ta j;
+      classes = cl j;
+      count = c j;
+    }
 
 -- a task after the two ends of a link were put there
 pub record After (ts : List Task) (l : Link) (out : outlet.Outlet) (in_ : inlet.Inlet) (k : ℕ) (t' : Task) : Type 0 where
@@ -77,7 +88,8 @@ module _ (ts ts' : List Task) (l : Link) (out : outlet.Outlet) (in_ : inlet.Inle
 
   here_reader : (k : ℕ) (t' : Task) → l.reader ≡ k → slice_get (set (set ts l.writer new_writer) l.reader new_reader) k ≡ Some t' → After ts l out in_ k t'
   here_reader k t' e g =
-      let x : t' ≡ new_reader = set_got_is (set ts l.writer new_writer) l.reader t' new_reader (ap (slice_get (set (set ts l.writer new_writer) l.reader new_reader)) e ∙ g) in
+      let x : t' ≡ new_reader =
+      set_got_is (set ts l.writer new_writer) l.reader t' new_reader (ap (slice_get (set (set ts l.writer new_writer) l.reader new_reader)) e ∙ g) in
       subst (After ts l out in_ k) (sym x) (record {
         t = m.reader;
         t_is = ap (slice_get ts) (sym e) ∙ there.ends.t_is ∙ ap Some (sym reader_is);
@@ -122,7 +134,8 @@ module _ (ts ts' : List Task) (l : Link) (out : outlet.Outlet) (in_ : inlet.Inle
   pub view_stays : {B : Type 0} (g : Task → B) → g new_writer ≡ g m.writer → g new_reader ≡ g m.reader → map g ts' ≡ map g ts
   view_stays {B} g sw sr =
       ap (map g) m.after
-      ∙ map_set g (set ts l.writer new_writer) l.reader new_reader (sr ∙ ap g (sym (m.reader_is new_reader) ∙ sym (get_or-set_other ts l.writer l.reader new_writer new_reader (λ e. ne (sym e)))))
+      ∙ map_set g (set ts l.writer new_writer) l.reader new_reader
+      (sr ∙ ap g (sym (m.reader_is new_reader) ∙ sym (get_or-set_other ts l.writer l.reader new_writer new_reader (λ e. ne (sym e)))))
       ∙ map_set g ts l.writer new_writer (sw ∙ ap g (sym (m.writer_is new_writer)))
 
 pub there_of : (ts : List Task) (l : Link) → IsPaired ts l → IsThere ts l
@@ -188,7 +201,8 @@ settling_next ts0 ls n ts ts' l paired apart g h m =
         (λ nw.
         let ar = after_task ts ts' l m.out m.in_ (there_of ts l pl) (swapped_of ts ts' l m) l2.reader x.t x.t_is in
         let aw = after_task ts ts' l m.out m.in_ (there_of ts l pl) (swapped_of ts ts' l m) l2.writer x.t' x.t_is' in
-        let other : n ≡ k → ⊥ = (λ e. nr (let q : l ≡ l2 = some_is l l2 (sym g ∙ ap (slice_get ls) e ∙ g2) in (ap (λ (y : Link). y.reader) q, ap (λ (y : Link). y.port) q))) in
+        let other : n ≡ k → ⊥ =
+        (λ e. nr (let q : l ≡ l2 = some_is l l2 (sym g ∙ ap (slice_get ls) e ∙ g2) in (ap (λ (y : Link). y.reader) q, ap (λ (y : Link). y.port) q))) in
         h.met.each k l2 f i (⊎_elim (λ z. z) (λ ge. absurd (other (omega (arith, ge, lt)))) (cases_lt k n)) g2 (record {
           t = ar.t;
           t' = aw.t;

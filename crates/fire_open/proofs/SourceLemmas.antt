@@ -46,7 +46,8 @@ port_at p qs o j n d ps lt e lj en =
       queue = q.0;
       op_is = x.1;
       queue_is = q.1;
-      place_is = en ∙ ap (λ (l : List ℕ). get_or l j d) ep ∙ get_or_from_slice_get (places (queue_names p) (qs x.0)) j (place (queue_names p) q.0) d (got_map (place (queue_names p)) (qs x.0) j q.0 q.1);
+      place_is = en ∙ ap (λ (l : List ℕ). get_or l j d) ep
+          ∙ get_or_from_slice_get (places (queue_names p) (qs x.0)) j (place (queue_names p) q.0) d (got_map (place (queue_names p)) (qs x.0) j q.0 q.1);
     }
 
 write_declared : (p : PlanForm) → IsPlan p → (o j : ℕ) (op : OpForm) (q : Name) → slice_get p.ops o ≡ Some op → slice_get op.writes j ≡ Some q
@@ -59,11 +60,13 @@ read_declared p v o j op q g w = v.reads_declared q (let a = at_most (reads_it q
 
 -- a place that is written is one of a queue
 pub write_below : (p : PlanForm) (o j n m : ℕ) → IsPlan p → PortAt p (λ op. op.writes) o j n → m ≡ length (queue_names p) → n < m
-write_below p o j n m v a e = let b = place_below (queue_names p) a.queue (write_declared p v o j a.op a.queue a.op_is a.queue_is) in let q = a.place_is in omega (arith, b, q, e)
+write_below p o j n m v a e = let b = place_below (queue_names p) a.queue (write_declared p v o j a.op a.queue a.op_is a.queue_is) in let q =
+    a.place_is in omega (arith, b, q, e)
 
 -- a place that is read is one of a queue
 pub read_below : (p : PlanForm) (o j n m : ℕ) → IsPlan p → PortAt p (λ op. op.reads) o j n → m ≡ length (queue_names p) → n < m
-read_below p o j n m v a e = let b = place_below (queue_names p) a.queue (read_declared p v o j a.op a.queue a.op_is a.queue_is) in let q = a.place_is in omega (arith, b, q, e)
+read_below p o j n m v a e = let b = place_below (queue_names p) a.queue (read_declared p v o j a.op a.queue a.op_is a.queue_is) in let q =
+    a.place_is in omega (arith, b, q, e)
 
 -- WHERE QUEUES ARE WRITTEN
 
@@ -82,9 +85,13 @@ none_in_both (x ∷ xs) ys h k (suc i) s g = none_in_both xs ys (λ n t e. h (su
 pub know_first : (p : PlanForm) (a b c : ℕ) (s0 s1 s2 s3 : List (Option Source)) → s0 ≡ [] → s1 ≡ s0 ++ replicate a None → s2 ≡ s1 ++ replicate b None
     → s3 ≡ s2 ++ replicate c None → a ≡ length p.outputs → b ≡ length p.inputs → c ≡ length p.queues → KnowWriters p 0 0 s3
 know_first p a b c s0 s1 s2 s3 e0 e1 e2 e3 ea eb ec =
-    let n1 = λ (i : ℕ) (s : Source) (g : slice_get s1 i ≡ Some (Some s)). none_in_both s0 (replicate a None) (λ n t h. let z : slice_get [] n ≡ Some (Some t) = ap (λ l. slice_get l n) (sym e0) ∙ h in cc z) (λ n t h. none_there a n t h) i s (ap (λ l. slice_get l i) (sym e1) ∙ g) in
-    let n2 = λ (i : ℕ) (s : Source) (g : slice_get s2 i ≡ Some (Some s)). none_in_both s1 (replicate b None) n1 (λ n t h. none_there b n t h) i s (ap (λ l. slice_get l i) (sym e2) ∙ g) in
-    let n3 = λ (i : ℕ) (s : Source) (g : slice_get s3 i ≡ Some (Some s)). none_in_both s2 (replicate c None) n2 (λ n t h. none_there c n t h) i s (ap (λ l. slice_get l i) (sym e3) ∙ g) in
+    let n1 = λ (i : ℕ) (s : Source) (g : slice_get s1 i ≡ Some (Some s)). none_in_both s0 (replicate a None)
+    (λ n t h. let z : slice_get [] n ≡ Some (Some t) = ap (λ l. slice_get l n) (sym e0) ∙ h in cc z) (λ n t h. none_there a n t h) i s
+    (ap (λ l. slice_get l i) (sym e1) ∙ g) in
+    let n2 = λ (i : ℕ) (s : Source) (g : slice_get s2 i ≡ Some (Some s)). none_in_both s1 (replicate b None) n1 (λ n t h. none_there b n t h) i s
+    (ap (λ l. slice_get l i) (sym e2) ∙ g) in
+    let n3 = λ (i : ℕ) (s : Source) (g : slice_get s3 i ≡ Some (Some s)). none_in_both s2 (replicate c None) n2 (λ n t h. none_there c n t h) i s
+    (ap (λ l. slice_get l i) (sym e3) ∙ g) in
     record {
       many =
           let l0 = ap length e0 in
@@ -111,7 +118,8 @@ before_next o j o' j' b = ⊎_elim
     b
 
 -- one port more is known to write its queue
-pub know_next : (p : PlanForm) (o j n : ℕ) (ss : List (Option Source)) → PortAt p (λ op. op.writes) o j n → n < length ss → KnowWriters p o j ss → KnowWriters p o (j + 1) (set ss n (Some (record { writer = o; out = j })))
+pub know_next : (p : PlanForm) (o j n : ℕ) (ss : List (Option Source)) → PortAt p (λ op. op.writes) o j n → n < length ss → KnowWriters p o j ss
+    → KnowWriters p o (j + 1) (set ss n (Some (record { writer = o; out = j })))
 know_next p o j n ss a lt k =
     let new : Source = record { writer = o; out = j } in
     record {
@@ -119,7 +127,8 @@ know_next p o j n ss a lt k =
       right = λ m s g. ⊎_elim
           (λ e.
           let x : Some s ≡ Some new = set_got_is ss n (Some s) (Some new) (ap (slice_get (set ss n (Some new))) e ∙ g) in
-          subst (WritesAt p m) (sym (some_is s new x)) (record { queue = a.queue; write = a.op; write_is = a.op_is; writes = a.queue_is; place_is = sym e ∙ a.place_is }))
+          subst (WritesAt p m) (sym (some_is s new x))
+          (record { queue = a.queue; write = a.op; write_is = a.op_is; writes = a.queue_is; place_is = sym e ∙ a.place_is }))
           (λ ne. k.right m s (sym (set_got_other ss n m (Some new) ne) ∙ g))
           (cases_eq n m);
       all = λ o' j' op q b g w. ⊎_elim
@@ -139,7 +148,8 @@ pub know_op : (p : PlanForm) (o n : ℕ) (ss : List (Option Source)) (ps : List 
     → KnowWriters p o n ss → KnowWriters p (o + 1) 0 ss
 know_op p o n ss ps lt e le k =
     let x = op_at p.ops o lt in
-    let long : length ps ≡ length x.0.writes = ap length (e ∙ places_at (λ d. d.writes) (queue_names p) p.ops o x.0 x.1) ∙ length-map x.0.writes (place (queue_names p)) in
+    let long : length ps ≡ length x.0.writes = ap length (e ∙ places_at (λ d. d.writes) (queue_names p) p.ops o x.0 x.1)
+    ∙ length-map x.0.writes (place (queue_names p)) in
     record {
       many = k.many;
       right = k.right;
@@ -182,24 +192,38 @@ each_snoc P [] x h k (suc n) l g = absurd (cc g)
 each_snoc P (y ∷ xs) x h k zero l g = h 0 l g
 each_snoc P (y ∷ xs) x h k (suc n) l g = each_snoc P xs x (λ m z e. h (suc m) z e) k n l g
 
-module _ (p : PlanForm) (v : IsPlan p) (ss : List (Option Source)) (k : KnowWriters p (length p.ops) 0 ss) (o port n : ℕ) (a : PortAt p (λ op. op.reads) o port n) (ls : List Link) (h : LinkReaders p o port ls) where
+module _ (p : PlanForm) (v : IsPlan p) (ss : List (Option Source)) (k : KnowWriters p (length p.ops) 0 ss) (o port n : ℕ)
+    (a : PortAt p (λ op. op.reads) o port n) (ls : List Link) (h : LinkReaders p o port ls) where
   -- the port that reads is written there
   link_here : (s : Source) → slice_get ss n ≡ Some (Some s) → IsLinkOf p (record { writer = s.writer; out = s.out; reader = o; port = port })
   link_here s g =
       let w = k.right n s g in
-      let e : w.queue ≡ a.queue = place_apart (queue_names p) w.queue a.queue (write_declared p v s.writer s.out w.write w.queue w.write_is w.writes) (read_declared p v o port a.op a.queue a.op_is a.queue_is) (sym w.place_is ∙ a.place_is) in
-      record { queue = w.queue; read = a.op; write = w.write; read_is = a.op_is; reads = a.queue_is ∙ ap Some (sym e); write_is = w.write_is; writes = w.writes }
+      let e : w.queue ≡ a.queue =
+      place_apart (queue_names p) w.queue a.queue (write_declared p v s.writer s.out w.write w.queue w.write_is w.writes)
+      (read_declared p v o port a.op a.queue a.op_is a.queue_is) (sym w.place_is ∙ a.place_is) in
+      record {
+        queue = w.queue;
+        read = a.op;
+        write = w.write;
+        read_is = a.op_is;
+        reads = a.queue_is
+            ∙ ap Some (sym e);
+        write_is = w.write_is;
+        writes = w.writes;
+      }
 
   -- a link of this port
   source_here : (l : Link) → IsLinkOf p l → (o ≡ l.reader) × (port ≡ l.port) → (s : Source) × (slice_get ss n ≡ Some (Some s))
   source_here l x e =
       let eo : a.op ≡ x.read = some_is a.op x.read (sym a.op_is ∙ ap (slice_get p.ops) e.0 ∙ x.read_is) in
-      let eq : a.queue ≡ x.queue = some_is a.queue x.queue (sym a.queue_is ∙ ap (λ (y : OpForm). slice_get y.reads port) eo ∙ ap (slice_get x.read.reads) e.1 ∙ x.reads) in
+      let eq : a.queue ≡ x.queue =
+      some_is a.queue x.queue (sym a.queue_is ∙ ap (λ (y : OpForm). slice_get y.reads port) eo ∙ ap (slice_get x.read.reads) e.1 ∙ x.reads) in
       let s = k.all l.writer l.out x.write x.queue (inl (slice_get_within p.ops l.writer x.write x.write_is)) x.write_is x.writes in
       (s.0, ap (slice_get ss) (a.place_is ∙ ap (place (queue_names p)) eq) ∙ s.1)
 
   -- one link more
-  pub link_more : (s : Source) (ls' : List Link) → slice_get ss n ≡ Some (Some s) → ls' ≡ ls ++ (record { writer = s.writer; out = s.out; reader = o; port = port }) ∷ [] → LinkReaders p o (port + 1) ls'
+  pub link_more : (s : Source) (ls' : List Link) → slice_get ss n ≡ Some (Some s)
+      → ls' ≡ ls ++ (record { writer = s.writer; out = s.out; reader = o; port = port }) ∷ [] → LinkReaders p o (port + 1) ls'
   link_more s ls' g e =
       let l0 : Link = record { writer = s.writer; out = s.out; reader = o; port = port } in
       subst (LinkReaders p o (port + 1)) (sym e) (record {
@@ -230,7 +254,8 @@ pub links_op : (p : PlanForm) (o n : ℕ) (ls : List Link) (ps : List ℕ) → o
     → LinkReaders p o n ls → LinkReaders p (o + 1) 0 ls
 links_op p o n ls ps lt e le k =
     let y = op_at p.ops o lt in
-    let long : length ps ≡ length y.0.reads = ap length (e ∙ places_at (λ d. d.reads) (queue_names p) p.ops o y.0 y.1) ∙ length-map y.0.reads (place (queue_names p)) in
+    let long : length ps ≡ length y.0.reads = ap length (e ∙ places_at (λ d. d.reads) (queue_names p) p.ops o y.0 y.1)
+    ∙ length-map y.0.reads (place (queue_names p)) in
     record {
       right = k.right;
       all = λ l x b. k.all l x (⊎_elim

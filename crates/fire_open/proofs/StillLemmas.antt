@@ -44,11 +44,16 @@ still_task p adds t t' e k =
       outs = map_long out_end t'.outs t.outs u ∙ k.outs;
       pending = ap length pe ∙ k.pending;
       blank = subst (IsBlank k.op.kernel) (sym ou) k.blank;
-      homes = subst (λ c. AreHomes p t'.op t'.tables c) (sym cl) (subst (λ a. AreHomes p t'.op a t.classes) (sym ta) (subst (λ i. AreHomes p i t.tables t.classes) (sym o) k.homes));
+      homes = subst (λ c. AreHomes p t'.op t'.tables c) (sym cl)
+          (subst (λ a. AreHomes p t'.op a t.classes) (sym ta) (subst (λ i. AreHomes p i t.tables t.classes) (sym o) k.homes));
       word = k.word;
       count = co ∙ k.count;
       fired = subst (λ x. HasFired p k.op adds x k.word) (sym s) k.fired;
-      stands = record { fit = subst (FitState k.op.kernel (kinds_in p k.op)) (sym st) k.stands.fit; after = λ w a h. subst (λ x. StandsAfter k.op.kernel (kinds_in p k.op) (first_kept k.op.kernel) x w) (sym st) (k.stands.after w a h) };
+      stands = record {
+        fit = subst (FitState k.op.kernel (kinds_in p k.op)) (sym st) k.stands.fit;
+        after =
+            λ w a h. subst (λ x. StandsAfter k.op.kernel (kinds_in p k.op) (first_kept k.op.kernel) x w) (sym st) (k.stands.after w a h);
+      };
     }
 
 -- and keep their facts
@@ -59,7 +64,8 @@ still_tasks p adds ts ts' e k = record {
       let l = map_long still ts' ts e in
       let o : (get_or ts' i d).op ≡ g.0.op = ap (λ (s : Still). s.ends.op) g.2 in
       subst (λ n. IsTask p (adds n) (get_or ts' i d)) (sym o)
-      (still_task p (adds g.0.op) g.0 (get_or ts' i d) g.2 (subst (λ (x : Task). IsTask p (adds x.op) x) (get_or_from_slice_get ts i g.0 d g.1) (k.each i d (omega (arith, lt, l)))));
+      (still_task p (adds g.0.op) g.0 (get_or ts' i d) g.2
+      (subst (λ (x : Task). IsTask p (adds x.op) x) (get_or_from_slice_get ts i g.0 d g.1) (k.each i d (omega (arith, lt, l)))));
 }
 
 -- and the same ends

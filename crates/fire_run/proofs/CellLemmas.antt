@@ -25,7 +25,8 @@ pub grown_log : (more : ℕ → List LogEntry) (c : ℕ) (xs : List Holding) (i 
     → logs_of (cells_grown more c xs) i ≡ logs_of xs i ++ more (c + i)
 grown_log more c [] i lt = absurd (omega (arith, lt))
 grown_log more c (x ∷ xs) zero lt = let z : c ≡ c + 0 = omega arith in ap (λ n. x.log ++ more n) z
-grown_log more c (x ∷ xs) (suc i) lt = let z : suc c + i ≡ c + suc i = omega arith in grown_log more (suc c) xs i (omega (arith, lt)) ∙ ap (λ n. logs_of xs i ++ more n) z
+grown_log more c (x ∷ xs) (suc i) lt = let z : suc c + i ≡ c + suc i = omega arith in grown_log more (suc c) xs i (omega (arith, lt))
+    ∙ ap (λ n. logs_of xs i ++ more n) z
 
 -- they are still the cells of the classes
 pub cells_again : (p : PlanForm) (more : ℕ → List LogEntry) (cells : List Holding) → AreClassCells p cells → AreClassCells p (cells_grown more 0 cells)

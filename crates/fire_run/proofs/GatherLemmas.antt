@@ -261,7 +261,8 @@ pub merged_parts : (m : ℕ) (ss : List Chair) → ((i : ℕ) (d : Chair) → i 
 merged_parts m [] h i lt = absurd (omega (arith, lt))
 merged_parts m (s ∷ []) h zero lt = subst (StandsIn (m + 0)) (sym (h 0 s (omega arith))) (inl refl)
 merged_parts m (s ∷ []) h (suc i) lt = absurd (omega (arith, lt))
-merged_parts m (s ∷ (r ∷ rest)) h zero lt = has_back (m + 0) (merged_view (r ∷ rest)).parts s.view.parts (subst (StandsIn (m + 0)) (sym (h 0 s (omega arith))) (inl refl))
+merged_parts m (s ∷ (r ∷ rest)) h zero lt =
+    has_back (m + 0) (merged_view (r ∷ rest)).parts s.view.parts (subst (StandsIn (m + 0)) (sym (h 0 s (omega arith))) (inl refl))
 merged_parts m (s ∷ (r ∷ rest)) h (suc i) lt =
     let z : suc m + i ≡ m + suc i = omega arith in
     has_front (m + suc i) (merged_view (r ∷ rest)).parts s.view.parts
@@ -291,7 +292,8 @@ OwnAlone n m ss = (i : ℕ) (d : Chair) (j c : ℕ) → i < length ss → (j ≡
 alone_rest : (n m : ℕ) (s : Chair) (ss : List Chair) → OwnAlone n m (s ∷ ss) → OwnAlone n (suc m) ss
 alone_rest n m s ss h i d j c lt ne = h (suc i) d j c (omega (arith, lt)) (λ z. ne (omega (arith, z)))
 
-merged_none : (n m j c : ℕ) (ss : List Chair) → 0 < length ss → OwnAlone n m ss → ((i : ℕ) → i < length ss → j ≡ m + i → ⊥) → own n j c (merged_view ss).claims ≡ []
+merged_none : (n m j c : ℕ) (ss : List Chair) → 0 < length ss → OwnAlone n m ss → ((i : ℕ) → i < length ss → j ≡ m + i → ⊥)
+    → own n j c (merged_view ss).claims ≡ []
 merged_none n m j c [] lt h ne = absurd (omega (arith, lt))
 merged_none n m j c (s ∷ []) lt h ne = h 0 s j c (omega arith) (ne 0 (omega arith))
 merged_none n m j c (s ∷ (r ∷ rest)) lt h ne =

@@ -1,5 +1,5 @@
 -- Fresh tasks with rings between them, and empty cells, are a net.
-use Rattle.std.proofs.Common.{◌≡◌, ℕ, zero, suc, ◌<◌, Some, List, [], ◌∷◌, length, refl, sym, ap, ◌∙◌, arith, subst, get_or}
+use Rattle.std.proofs.Common.{◌≡◌, ℕ, zero, suc, Some, List, [], ◌∷◌, length, refl, sym, ap, ◌∙◌, arith, subst, get_or}
 use Rattle.std.specs.Prelude.{slice_get, false, All}
 use Rattle.std.proofs.lemmas.Option.{slice_get-get_or, slice_get_within}
 use Rattle.river_base.specs.declared.item.Item as item
@@ -40,7 +40,8 @@ none_added_yet p cells h o j = ap (rows_by o (table_at p o j)) (blank_log cells 
 -- fresh tasks with rings and empty cells are a net
 pub opened : (p : PlanForm) (inputs : List (List item.Item)) (cap : ℕ) (caps : List Cap) (ts0 ts : List Task) (ls : List Link) (cells : List Holding) → IsPlan p
     → AreInputs p.inputs inputs → IsCap cap → AreCaps caps
-    → AreFresh p inputs ts0 → AreLinks p ls → AreRung (room_of p cap (first_cap caps)) ts0 ts ls (length ls) → AreClassCells p cells → All (λ (x : Holding). x.log ≡ []) cells
+    → AreFresh p inputs ts0 → AreLinks p ls → AreRung (room_of p cap (first_cap caps)) ts0 ts ls (length ls) → AreClassCells p cells
+    → All (λ (x : Holding). x.log ≡ []) cells
     → IsNetOf p inputs (capacity cap (first_cap caps)) (record { tasks = ts; links = ls; cells = cells; refused = false })
 opened p inputs cap caps ts0 ts ls cells v typed one all h k r cs blank = record {
   typed = typed;
@@ -52,7 +53,8 @@ opened p inputs cap caps ts0 ts ls cells v typed one all h k r cs blank = record
         let l : Link = record { writer = o'; out = j; reader = o; port = port } in
         let a = k.all l (record { queue = q; read = x.op; write = x.op'; read_is = x.op_is; reads = x.reads; write_is = x.op_is'; writes = x.writes }) in
         subst (λ n. IsLink (capacity cap (first_cap caps) n) f i) (queue_here p l x.op' q x.op_is' x.writes)
-        (r.rung a.0 l f i (slice_get_within ls a.0 l a.1) a.1 (record { t = x.t; t' = x.t'; t_is = x.t_is; t_is' = x.t_is'; in_is = x.in_is; out_is = x.out_is })).0;
+        (r.rung a.0 l f i (slice_get_within ls a.0 l a.1) a.1
+        (record { t = x.t; t' = x.t'; t_is = x.t_is; t_is' = x.t_is'; in_is = x.in_is; out_is = x.out_is })).0;
     inputs_are = λ o port op q t i g w z gt gi.
         let x = same_got body ts ts0 r.bodies o t gt in
         (h.each o x.0 x.1).inputs_are port op q i g w (sym (r.ins o port t x.0 gt x.1 (no_reader o port op q g w z)) ∙ gi);
@@ -71,7 +73,8 @@ opened p inputs cap caps ts0 ts ls cells v typed one all h k r cs blank = record
     each = λ o o' port j q f i x.
         let l : Link = record { writer = o'; out = j; reader = o; port = port } in
         let a = k.all l (record { queue = q; read = x.op; write = x.op'; read_is = x.op_is; reads = x.reads; write_is = x.op_is'; writes = x.writes }) in
-        (r.rung a.0 l f i (slice_get_within ls a.0 l a.1) a.1 (record { t = x.t; t' = x.t'; t_is = x.t_is; t_is' = x.t_is'; in_is = x.in_is; out_is = x.out_is })).1;
+        (r.rung a.0 l f i (slice_get_within ls a.0 l a.1) a.1
+        (record { t = x.t; t' = x.t'; t_is = x.t_is; t_is' = x.t_is'; in_is = x.in_is; out_is = x.out_is })).1;
   };
   links = k;
   cells = cs;

@@ -84,10 +84,12 @@ module _ (p : PlanForm) (v : IsPlan p) (h : History) (o j n : ℕ) (a : PortAt p
     many = length-set lines n xs ∙ k.many;
     each = λ o' j' op q b g w below. ⊎_elim
         (λ e.
-        let same : a.queue ≡ q = place_apart (queue_names p) a.queue q (declared p v o j a.op a.queue a.op_is a.queue_is) (declared p v o' j' op q g w) (sym a.place_is ∙ e) in
+        let same : a.queue ≡ q =
+        place_apart (queue_names p) a.queue q (declared p v o j a.op a.queue a.op_is a.queue_is) (declared p v o' j' op q g w) (sym a.place_is ∙ e) in
         ap (list_at (set lines n xs)) (sym e) ∙ get_or-set_same lines n xs [] lt ∙ ex ∙ ap h same)
         (λ ne. ⊎_elim
-        (λ old. get_or-set_other lines n (place (queue_names p) q) xs [] (λ d. ne (sym d)) ∙ k.each o' j' op q old g w (let l = length-set lines n xs in omega (arith, l, below)))
+        (λ old. get_or-set_other lines n (place (queue_names p) q) xs [] (λ d. ne (sym d))
+        ∙ k.each o' j' op q old g w (let l = length-set lines n xs in omega (arith, l, below)))
         (λ here. absurd (ne (a.place_is ∙ ap (place (queue_names p)) (here_is o' j' op q g w here))))
         (before_next o j o' j' b))
         (cases_eq n (place (queue_names p) q));
@@ -113,7 +115,8 @@ pub outs_op : (p : PlanForm) (h : History) (o n : ℕ) (lines : List (List item.
     → ps ≡ list_at (write_places p) o → length ps ≤ n → AreOuts p h o n lines → AreOuts p h (o + 1) 0 lines
 outs_op p h o n lines ps lt e le k =
     let x = op_at p.ops o lt in
-    let long : length ps ≡ length x.0.writes = ap length (e ∙ places_at (λ d. d.writes) (queue_names p) p.ops o x.0 x.1) ∙ length-map x.0.writes (place (queue_names p)) in
+    let long : length ps ≡ length x.0.writes = ap length (e ∙ places_at (λ d. d.writes) (queue_names p) p.ops o x.0 x.1)
+    ∙ length-map x.0.writes (place (queue_names p)) in
     record {
       many = k.many;
       each = λ o' j' op q b g w. k.each o' j' op q (⊎_elim
@@ -152,7 +155,8 @@ same_lists (x ∷ xs) (y ∷ ys) e h =
     ap (λ z. z ∷ xs) (sym a) ∙ ap (λ zs. y ∷ zs) r
 
 -- once all operators were seen the lines are those of the outputs
-pub outs_end : (p : PlanForm) (inputs : List (List item.Item)) (lines : List (List item.Item)) → IsPlan p → AreOuts p (sent_hist p inputs) (length p.ops) 0 lines
+pub outs_end : (p : PlanForm) (inputs : List (List item.Item)) (lines : List (List item.Item)) → IsPlan p
+    → AreOuts p (sent_hist p inputs) (length p.ops) 0 lines
     → lines ≡ (meaning p inputs).outs
 outs_end p inputs lines v k =
     let ws = decl_names p.outputs in
@@ -258,7 +262,8 @@ module _ (p : PlanForm) (inputs : List (List item.Item)) (caps : Capacities) (ne
       unread q there below =
           let ws = decl_names p.outputs in
           let long : length ws ≡ length p.outputs = length-map p.outputs (λ (d : Decl). d.name) in
-          let g = first_got ws (decl_names p.inputs ++ decl_names p.queues) (place (queue_names p) q) q (omega (arith, below, long)) (place_at (queue_names p) q there) in
+          let g = first_got ws (decl_names p.inputs ++ decl_names p.queues) (place (queue_names p) q) q (omega (arith, below, long))
+          (place_at (queue_names p) q there) in
           let c = got_count ws (place (queue_names p) q) q g in
           let o = v.read_once q in
           omega (arith, c, o)

@@ -39,14 +39,16 @@ grown_put : (f g : ℕ → List LogEntry) (o table c k : ℕ) (rows : List (List
 grown_put f g o table c k rows [] lt here other = absurd (omega (arith, lt))
 grown_put f g o table c zero rows (x ∷ xs) lt here other =
     let z : c + 0 ≡ c = omega arith in
-    let e : x.log ++ g c ≡ (x.log ++ f c) ++ entries_for o table rows = ap (λ l. x.log ++ l) (ap g (sym z) ∙ here ∙ ap (λ n. f n ++ entries_for o table rows) z) ∙ sym (append_assoc x.log (f c) (entries_for o table rows)) in
+    let e : x.log ++ g c ≡ (x.log ++ f c) ++ entries_for o table rows =
+    ap (λ l. x.log ++ l) (ap g (sym z) ∙ here ∙ ap (λ n. f n ++ entries_for o table rows) z) ∙ sym (append_assoc x.log (f c) (entries_for o table rows)) in
     ap (λ l. record x { log = l } ∷ cells_grown f (suc c) xs) (sym e)
     ∙ ap (λ ys. record x { log = x.log ++ g c } ∷ ys) (grown_same f g (suc c) xs (λ n le. sym (other n (λ q. omega (arith, le, q)))))
 grown_put f g o table c (suc k) rows (x ∷ xs) lt here other =
     let z : suc c + k ≡ c + suc k = omega arith in
     ap (λ l. record x { log = x.log ++ l } ∷ cells_with_rows o table k rows (cells_grown f (suc c) xs)) (sym (other c (λ q. omega (arith, q))))
     ∙ ap (λ ys. record x { log = x.log ++ g c } ∷ ys)
-    (grown_put f g o table (suc c) k rows xs (omega (arith, lt)) (ap g z ∙ here ∙ ap (λ n. f n ++ entries_for o table rows) (sym z)) (λ n ne. other n (λ q. ne (q ∙ sym z))))
+    (grown_put f g o table (suc c) k rows xs (omega (arith, lt)) (ap g z ∙ here ∙ ap (λ n. f n ++ entries_for o table rows) (sym z))
+    (λ n ne. other n (λ q. ne (q ∙ sym z))))
 
 -- nothing was added where there are no rows
 pub no_rows : (o table c : ℕ) (rows : List (List ℤ)) (cells : List Holding) → rows ≡ [] → cells ≡ cells_with_rows o table c rows cells
@@ -87,20 +89,23 @@ pub added_step : (o : ℕ) (classes : List ℕ) (tables : List TablePort) (rows 
 added_step o classes tables rows j cells0 cells cells' h gh lc a e =
     let lt = slice_get_within tables j h gh in
     let next : suc j ≡ j + 1 = omega arith in
-    let taken : take (j + 1) tables ≡ take j tables ++ h ∷ [] = ap (λ k. take k tables) (sym next) ∙ take-suc tables j h lt ∙ ap (λ x. take j tables ++ x ∷ []) (get_or_from_slice_get tables j h h gh) in
+    let taken : take (j + 1) tables ≡ take j tables ++ h ∷ [] = ap (λ k. take k tables) (sym next) ∙ take-suc tables j h lt
+    ∙ ap (λ x. take j tables ++ x ∷ []) (get_or_from_slice_get tables j h h gh) in
     let long : length (take j tables) ≡ j = taken_long tables j lt in
     let more : (c : ℕ) → logged o classes (take (j + 1) tables) rows c
     ≡ logged o classes (take j tables) rows c ++ (if nat_eq (slice_index_or classes h.place 0) c then entries_for o h.table (rows j) else [])
     = (λ c. ap (λ l. logged o classes l rows c) taken ∙ logged_more o classes (take j tables) h rows c
     ∙ ap (λ n. logged o classes (take j tables) rows c ++ (if nat_eq (slice_index_or classes h.place 0) c then entries_for o h.table (rows n) else [])) long) in
     e ∙ ap (cells_with_rows o h.table (slice_index_or classes h.place 0) (rows j)) a
-    ∙ grown_put (logged o classes (take j tables) rows) (logged o classes (take (j + 1) tables) rows) o h.table 0 (slice_index_or classes h.place 0) (rows j) cells0 lc
+    ∙ grown_put (logged o classes (take j tables) rows) (logged o classes (take (j + 1) tables) rows) o h.table 0 (slice_index_or classes h.place 0)
+    (rows j) cells0 lc
     (let z : 0 + slice_index_or classes h.place 0 ≡ slice_index_or classes h.place 0 = omega arith in
     more (0 + slice_index_or classes h.place 0)
     ∙ ap (λ l. logged o classes (take j tables) rows (0 + slice_index_or classes h.place 0) ++ l)
     (if_eq (slice_index_or classes h.place 0) (0 + slice_index_or classes h.place 0) (entries_for o h.table (rows j)) [] (sym z)))
     (λ n ne. more n ∙ ap (λ l. logged o classes (take j tables) rows n ++ l)
-    (if_ne (slice_index_or classes h.place 0) n (entries_for o h.table (rows j)) [] (λ q. let z : 0 + slice_index_or classes h.place 0 ≡ slice_index_or classes h.place 0 = omega arith in ne (sym q ∙ sym z)))
+    (if_ne (slice_index_or classes h.place 0) n (entries_for o h.table (rows j)) []
+    (λ q. let z : 0 + slice_index_or classes h.place 0 ≡ slice_index_or classes h.place 0 = omega arith in ne (sym q ∙ sym z)))
     ∙ append-nil (logged o classes (take j tables) rows n))
   where
     taken_long : (us : List TablePort) (k : ℕ) → k < length us → length (take k us) ≡ k
@@ -126,7 +131,8 @@ cell_now o classes tables rows j cells0 cells h can gh a =
     record {
       there = lc;
       takes = λ d.
-          let y = grown_got (logged o classes (take j tables) rows) 0 cells0 c (slice_index_or cells c d) (ap (λ l. slice_get l c) (sym a) ∙ slice_get-get_or cells c d lc) in
+          let y = grown_got (logged o classes (take j tables) rows) 0 cells0 c (slice_index_or cells c d)
+          (ap (λ l. slice_get l c) (sym a) ∙ slice_get-get_or cells c d lc) in
           let same : y.0 ≡ x.0 = some_is y.0 x.0 (sym y.1 ∙ x.1) in
           subst (λ ks. TakesRows ks h.table (rows j)) (sym (y.2 ∙ ap (λ (z : Holding). z.kinds) same)) x.2;
     }
@@ -201,9 +207,11 @@ logs_now : (p : PlanForm) (o : ℕ) (tables : List TablePort) (classes : List �
     → CanAddTo tables classes rows cells0
     → cells ≡ cells_grown (logged o classes tables rows) 0 cells0 → (c : ℕ) → logs_of cells c ≡ logs_of cells0 c ++ logged o classes tables rows c
 logs_now p o tables classes rows cells0 cells can e c = ap (λ l. logs_of l c) e ∙ ⊎_elim
-    (λ lt. let z : 0 + c ≡ c = omega arith in grown_log (logged o classes tables rows) 0 cells0 c lt ∙ ap (λ n. logs_of cells0 c ++ logged o classes tables rows n) z)
+    (λ lt. let z : 0 + c ≡ c = omega arith in grown_log (logged o classes tables rows) 0 cells0 c lt
+    ∙ ap (λ n. logs_of cells0 c ++ logged o classes tables rows n) z)
     (λ ge.
-    let none = logged_none o classes tables rows c (λ j h g q. let x = can.each j h g in let w = slice_get_within cells0 (slice_index_or classes h.place 0) x.0 x.1 in omega (arith, w, q, ge)) in
+    let none = logged_none o classes tables rows c
+    (λ j h g q. let x = can.each j h g in let w = slice_get_within cells0 (slice_index_or classes h.place 0) x.0 x.1 in omega (arith, w, q, ge)) in
     beyond (cells_grown (logged o classes tables rows) 0 cells0) c (let l = grown_long (logged o classes tables rows) 0 cells0 in omega (arith, l, ge))
     ∙ sym (ap (λ l. l ++ logged o classes tables rows c) (beyond cells0 c ge) ∙ none))
     (cases_lt c (length cells0))
@@ -214,7 +222,8 @@ logs_now p o tables classes rows cells0 cells can e c = ap (λ l. logs_of l c) e
     beyond (x ∷ xs) (suc i) le = beyond xs i (omega (arith, le))
 
 module _ (p : PlanForm) (v : IsPlan p) (t t1 : Task) (cells0 cells : List Holding) (k : IsTask p (added p (logs_of cells0) t.op) t) (f : HasFiredAt p t t1)
-    (can : CanAddTo t1.tables t1.classes (list_at t1.out.adds) cells0) (e : cells ≡ cells_grown (logged t.op t1.classes t1.tables (list_at t1.out.adds)) 0 cells0) where
+    (can : CanAddTo t1.tables t1.classes (list_at t1.out.adds) cells0)
+    (e : cells ≡ cells_grown (logged t.op t1.classes t1.tables (list_at t1.out.adds)) 0 cells0) where
   owes : Owes p (added p (logs_of cells0) t.op) t1
   owes = f.owes (added p (logs_of cells0) t.op) k
 
@@ -241,7 +250,9 @@ module _ (p : PlanForm) (v : IsPlan p) (t t1 : Task) (cells0 cells : List Holdin
   added_after = record {
     more = logged t.op t1.classes t1.tables (list_at t1.out.adds);
     is = e;
-    others = λ n ne j. added_else p (logs_of cells0) (logs_of cells) (logged t.op t1.classes t1.tables (list_at t1.out.adds)) t.op n logs (logged_own t.op t1.classes t1.tables (list_at t1.out.adds)) ne j;
-    entries = λ old c. subst (All (IsEntryOf p c)) (sym (logs c)) (All-append (IsEntryOf p c) (logs_of cells0 c) (logged t.op t1.classes t1.tables (list_at t1.out.adds) c) (old c)
+    others = λ n ne j. added_else p (logs_of cells0) (logs_of cells) (logged t.op t1.classes t1.tables (list_at t1.out.adds)) t.op n logs
+        (logged_own t.op t1.classes t1.tables (list_at t1.out.adds)) ne j;
+    entries = λ old c. subst (All (IsEntryOf p c)) (sym (logs c))
+        (All-append (IsEntryOf p c) (logs_of cells0 c) (logged t.op t1.classes t1.tables (list_at t1.out.adds) c) (old c)
         (entries_logged p v t.op k.op k.op_is t1.tables t1.classes homes (list_at t1.out.adds) c));
   }

@@ -94,7 +94,8 @@ by_ops table log f (op ∷ ops) o h =
     let z : o + 0 ≡ o = omega arith in
     bag_append (rows_by o table log) (f op) (rows_of_all table log (suc o) (length ops)) (flat_map f ops)
     (subst (λ n. SameBag (rows_by n table log) (f op)) z (h 0 op refl))
-    (by_ops table log f ops (suc o) (λ k a g. let s : o + suc k ≡ suc o + k = omega arith in subst (λ n. SameBag (rows_by n table log) (f a)) s (h (suc k) a g)))
+    (by_ops table log f ops (suc o)
+    (λ k a g. let s : o + suc k ≡ suc o + k = omega arith in subst (λ n. SameBag (rows_by n table log) (f a)) s (h (suc k) a g)))
 
 rows_none : (o table : ℕ) (log : List LogEntry) → All (λ (e : LogEntry). e.op ≡ o → e.table ≢ table) log → rows_by o table log ≡ []
 rows_none o table [] h = refl
@@ -112,12 +113,14 @@ joined_one [] f t j once g = absurd (cc g)
 joined_one (w ∷ ws) f t zero once g = ⊎_elim
     (λ c.
     let e = ap one_if c.1 in
-    ap (λ b. (if b then f 0 else []) ++ joined ws (λ i. f (suc i)) t) c.1 ∙ ap (λ l. f 0 ++ l) (joined_out ws (λ i. f (suc i)) t (omega (arith, e, once))) ∙ append-nil (f 0))
+    ap (λ b. (if b then f 0 else []) ++ joined ws (λ i. f (suc i)) t) c.1 ∙ ap (λ l. f 0 ++ l) (joined_out ws (λ i. f (suc i)) t (omega (arith, e, once)))
+    ∙ append-nil (f 0))
     (λ c. absurd (c.0 (some_is w t g)))
     (cases_name w t)
 joined_one (w ∷ ws) f t (suc j) once g = ⊎_elim
     (λ c. absurd (let e = ap one_if c.1 in let k = got_count ws j t g in omega (arith, e, k, once)))
-    (λ c. let e = ap one_if c.1 in ap (λ b. (if b then f 0 else []) ++ joined ws (λ i. f (suc i)) t) c.1 ∙ joined_one ws (λ i. f (suc i)) t j (omega (arith, once)) g)
+    (λ c. let e = ap one_if c.1 in ap (λ b. (if b then f 0 else []) ++ joined ws (λ i. f (suc i)) t) c.1
+    ∙ joined_one ws (λ i. f (suc i)) t j (omega (arith, once)) g)
     (cases_name w t)
 
 -- THE ROWS OF A TABLE
@@ -158,7 +161,8 @@ module _ (p : PlanForm) (inputs : List (List item.Item)) (logs : ℕ → List Lo
       → e.op ≡ o → e.table ≢ n
   others o op go z e x eo en =
       let is : x.op ≡ op = some_is x.op op (sym x.op_is ∙ ap (slice_get p.ops) eo ∙ go) in
-      let q = got_place names (tables_of names op) x.port n (ap (λ (y : OpForm). slice_get (places names (tables_of names y)) x.port) (sym is) ∙ x.table ∙ ap Some en) in
+      let q = got_place names (tables_of names op) x.port n
+      (ap (λ (y : OpForm). slice_get (places names (tables_of names y)) x.port) (sym is) ∙ x.table ∙ ap Some en) in
       let there = among_known names op.vars q.0 (got_count (tables_of names op) x.port q.0 q.1) in
       let same : q.0 ≡ t.name = place_apart names q.0 t.name there known (q.2 ∙ sym (place_is names n t.name once known name_here)) in
       let c = got_count (tables_of names op) x.port t.name (q.1 ∙ ap Some same) in
@@ -196,4 +200,5 @@ module _ (p : PlanForm) (inputs : List (List item.Item)) (logs : ℕ → List Lo
   table_rows test =
       log_rows n log (length p.ops) known_ops test
       ∙ by_ops n log (own_adds names (hist p inputs) t.name) p.ops 0
-      (λ o op go. let z : o ≡ 0 + o = omega arith in subst (λ m. SameBag (rows_by m n log) (own_adds names (hist p inputs) t.name op)) z (own_rows o op go)) test
+      (λ o op go. let z : o ≡ 0 + o =
+      omega arith in subst (λ m. SameBag (rows_by m n log) (own_adds names (hist p inputs) t.name op)) z (own_rows o op go)) test

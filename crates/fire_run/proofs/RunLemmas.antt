@@ -96,7 +96,8 @@ goes_then p a b c first second g h = record {
 -- a move, or none
 pub goes_move : (p : PlanForm) (net net' : Net) (moved : Bool) (round : Round) → Stays p net net' → OneMore (all_moves net.tasks) (all_moves net'.tasks) moved
     → (round ≡ Moved → IsTrue moved) → NetGoesOn p net net' round
-goes_move p net net' true round s o g = record { stays = s; never_falls = let a = o.one refl in omega (arith, a); grew = λ t. let a = o.one refl in omega (arith, a) }
+goes_move p net net' true round s o g =
+    record { stays = s; never_falls = let a = o.one refl in omega (arith, a); grew = λ t. let a = o.one refl in omega (arith, a) }
 goes_move p net net' false round s o g = record { stays = s; never_falls = let a = o.none refl in omega (arith, a); grew = λ t. absurd (let x = g t in cc) }
 
 -- ROUNDS

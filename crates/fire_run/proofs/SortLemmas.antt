@@ -95,7 +95,8 @@ module _ (class : ℕ → ℕ) (logs : ℕ → List LogEntry) (k : ℕ) (decls :
       → kinds_from class c 0 (take (k + 1) decls) ≡ kinds_from class c 0 (take k decls) ++ (if class k == c then (k, t.kind) ∷ [] else [])
   step c t gt =
       sym (kinds_next class c k (class k) (class k == c) decls t (kinds_from class c 0 (take k decls))
-      (kinds_from class c 0 (take k decls) ++ (if class k == c then (k, t.kind) ∷ [] else [])) lt refl (sym (get_or_from_slice_get decls k t t gt)) refl refl refl)
+      (kinds_from class c 0 (take k decls) ++ (if class k == c then (k, t.kind) ∷ [] else [])) lt refl
+      (sym (get_or_from_slice_get decls k t t gt)) refl refl refl)
 
   -- the class of the table is there
   pub class_there : class k < length lists
@@ -106,7 +107,8 @@ module _ (class : ℕ → ℕ) (logs : ℕ → List LogEntry) (k : ℕ) (decls :
   last_is t gt =
       let r = replay (logs (class k)) in
       g.sorted.each (class k) class_there
-      ∙ ap (map r) (step (class k) t gt ∙ ap (λ b. kinds_from class (class k) 0 (take k decls) ++ (if b then (k, t.kind) ∷ [] else [])) (eq-eqb (class k) (class k) refl))
+      ∙ ap (map r) (step (class k) t gt
+      ∙ ap (λ b. kinds_from class (class k) 0 (take k decls) ++ (if b then (k, t.kind) ∷ [] else [])) (eq-eqb (class k) (class k) refl))
       ∙ map-append r (kinds_from class (class k) 0 (take k decls)) ((k, t.kind) ∷ [])
 
   -- and has a table
@@ -115,9 +117,11 @@ module _ (class : ℕ → ℕ) (logs : ℕ → List LogEntry) (k : ℕ) (decls :
 
   -- one table more comes to its place
   pub going_next : (lists' : List (Vec Kept Global)) (x : Kept) → length lists' ≡ length lists
-      → tables_at lists (class k) ≡ tables_at lists' (class k) ++ x ∷ [] → ((c : ℕ) → c ≢ class k → tables_at lists' c ≡ tables_at lists c) → Going class logs k decls lists' (set tables k x)
+      → tables_at lists (class k) ≡ tables_at lists' (class k) ++ x ∷ [] → ((c : ℕ) → c ≢ class k → tables_at lists' c ≡ tables_at lists c)
+      → Going class logs k decls lists' (set tables k x)
   going_next lists' x long last others =
-      let parts = snoc_parts (tables_at lists' (class k)) (map (replay (logs (class k))) (kinds_from class (class k) 0 (take k decls))) x (replay (logs (class k)) (k, decl.0.kind)) (sym last ∙ last_is decl.0 decl.1) in
+      let parts = snoc_parts (tables_at lists' (class k)) (map (replay (logs (class k))) (kinds_from class (class k) 0 (take k decls))) x
+      (replay (logs (class k)) (k, decl.0.kind)) (sym last ∙ last_is decl.0 decl.1) in
       let l0 = take_long decls k (omega (arith, lt)) in
       let l1 = take_long decls (k + 1) (omega (arith, lt)) in
       let many = g.placed.many in
@@ -177,13 +181,16 @@ pub cells_sorted : (p : PlanForm) (cells : List Holding) (lists : List (Vec Kept
     → map (λ (l : Vec Kept Global). l.items) lists ≡ map (λ (x : Holding). map (replay x.log) x.kinds) cells
     → AreSorted (table_class p) (logs_of cells) p.tables lists
 cells_sorted p cells lists h e =
-    let long : length lists ≡ length cells = sym (length-map lists (λ (l : Vec Kept Global). l.items)) ∙ ap length e ∙ length-map cells (λ (x : Holding). map (replay x.log) x.kinds) in
+    let long : length lists ≡ length cells = sym (length-map lists (λ (l : Vec Kept Global). l.items)) ∙ ap length e
+    ∙ length-map cells (λ (x : Holding). map (replay x.log) x.kinds) in
     record {
       there = λ m lm. let a = h.all m lm in omega (arith, a, long);
       each = λ c lc.
           let x = there_is cells c (omega (arith, lc, long)) in
           ap (λ l. list_at l c) e
-          ∙ get_or_from_slice_get (map (λ (y : Holding). map (replay y.log) y.kinds) cells) c (map (replay x.0.log) x.0.kinds) [] (got_map (λ (y : Holding). map (replay y.log) y.kinds) cells c x.0 x.1)
+          ∙ get_or_from_slice_get (map (λ (y : Holding). map (replay y.log) y.kinds) cells) c (map (replay x.0.log) x.0.kinds) []
+          (got_map (λ (y : Holding). map (replay y.log) y.kinds) cells c x.0 x.1)
           ∙ ap (λ ks. map (replay x.0.log) ks) (h.kinds c x.0 x.1)
-          ∙ ap (λ l. map (replay l) (class_kinds p c)) (sym (get_or_from_slice_get (map (λ (y : Holding). y.log) cells) c x.0.log [] (got_map (λ (y : Holding). y.log) cells c x.0 x.1)));
+          ∙ ap (λ l. map (replay l) (class_kinds p c))
+          (sym (get_or_from_slice_get (map (λ (y : Holding). y.log) cells) c x.0.log [] (got_map (λ (y : Holding). y.log) cells c x.0 x.1)));
     }

@@ -84,7 +84,8 @@ module _ (p : PlanForm) (inputs : List (List item.Item)) (caps : Capacities) (ne
   pub none_bad : (o : ℕ) (d : Task) → o < length net.tasks → (get_or net.tasks o d).bad ≡ None
   none_bad o d lt =
       let m = make_net p inputs caps adds net.tasks v n.laid n.tasks n.settled n.typed in
-      ap (λ (s : SeenTask). s.bad) (sym (seen_here net.tasks o (get_or net.tasks o d) (slice_get-get_or net.tasks o d lt))) ∙ m.joins.none_bad o (is_task o d lt).op (op_at o d lt)
+      ap (λ (s : SeenTask). s.bad) (sym (seen_here net.tasks o (get_or net.tasks o d) (slice_get-get_or net.tasks o d lt)))
+      ∙ m.joins.none_bad o (is_task o d lt).op (op_at o d lt)
 
   room_at : (o : ℕ) (d : Task) → o < length net.tasks → ((m : ℕ) (e : Task) → o < m → m < length net.tasks → IsDone (get_or net.tasks m e))
       → (j : ℕ) (x : outlet.Outlet) → (list_at (get_or net.tasks o d).pending j ≡ [] → ⊥)
@@ -93,7 +94,8 @@ module _ (p : PlanForm) (inputs : List (List item.Item)) (caps : Capacities) (ne
   room_at o d lt behind j x some =
       let t = get_or net.tasks o d in
       let k = is_task o d lt in
-      let there : j < length k.op.writes = ⊎_elim (λ l. l) (λ ge. absurd (some (beyond t.pending j (let e = k.pending in omega (arith, e, ge))))) (cases_lt j (length k.op.writes)) in
+      let there : j < length k.op.writes =
+      ⊎_elim (λ l. l) (λ ge. absurd (some (beyond t.pending j (let e = k.pending in omega (arith, e, ge))))) (cases_lt j (length k.op.writes)) in
       let q = there_is k.op.writes j there in
       let f = there_is t.outs j (let e = k.outs in omega (arith, e, there)) in
       let gt = slice_get-get_or net.tasks o d lt in
@@ -103,11 +105,27 @@ module _ (p : PlanForm) (inputs : List (List item.Item)) (caps : Capacities) (ne
       let port = place_of r.1.reads q.0 r.3 in
       let a = task_at p inputs caps adds net.tasks n.laid n.tasks r.0 r.1 r.2 in
       let i = there_is a.t.ins port.0 (let e = a.ins in let b = got_below r.1.reads port.0 q.0 port.1 in omega (arith, e, b)) in
-      let ends : HasEnds p net.tasks r.0 o port.0 j q.0 f.0 i.0 = record { op = r.1; op' = k.op; op_is = r.2; reads = port.1; op_is' = op_at o d lt; writes = q.1; t = a.t; t' = t; t_is = a.t_is; t_is' = gt; in_is = i.1; out_is = f.1 } in
+      let ends : HasEnds p net.tasks r.0 o port.0 j q.0 f.0 i.0 =
+      record {
+        op = r.1;
+        op' = k.op;
+        op_is = r.2;
+        reads = port.1;
+        op_is' = op_at o d lt;
+        writes = q.1;
+        t = a.t;
+        t' = t;
+        t_is = a.t_is;
+        t_is' = gt;
+        in_is =
+            i.1;
+        out_is = f.1;
+      } in
       let after = reader_behind p v o r.0 k.op r.1 q.0 (op_at o d lt) (got_count k.op.writes j q.0 q.1) r.2 r.3 in
       let done = behind r.0 a.t after (slice_get_within net.tasks r.0 a.t a.t_is) in
       let done1 : IsDone a.t = subst IsDone (get_or_from_slice_get net.tasks r.0 a.t a.t a.t_is) done in
-      let z : known_of i.0 ≡ [] = ap known_of (sym (get_or_from_slice_get a.t.ins port.0 i.0 i.0 i.1)) ∙ done1.received port.0 i.0 (slice_get_within a.t.ins port.0 i.0 i.1) in
+      let z : known_of i.0 ≡ [] = ap known_of (sym (get_or_from_slice_get a.t.ins port.0 i.0 i.0 i.1))
+      ∙ done1.received port.0 i.0 (slice_get_within a.t.ins port.0 i.0 i.1) in
       ring_free (caps q.0) f.0 i.0 (n.room q.0) (n.laid.rings r.0 o port.0 j q.0 f.0 i.0 ends) (n.settled.each r.0 o port.0 j q.0 f.0 i.0 ends) z)
       (λ none. stored_free f.0 (n.laid.outputs_are o j k.op q.0 t f.0 (op_at o d lt) q.1 none gt f.1))
       (more_or_none (total (reads_it q.0) p.ops)))
@@ -157,12 +175,14 @@ none_more xs xs' ys ys' e x y =
 
 ring_left : (f f' : outlet.Outlet) (i i' : inlet.Inlet) → IsSettled f i → IsSettled f' i' → sent_of f' ≡ sent_of f → received_of i' ≡ received_of i
     → known_of i ≡ [] → known_of i' ≡ []
-ring_left f f' i i' s s' es er z = none_more (received_of i) (received_of i') (known_of i) (known_of i') (settled_ring f i s ∙ sym es ∙ sym (settled_ring f' i' s')) (sym er) z
+ring_left f f' i i' s s' es er z =
+    none_more (received_of i) (received_of i') (known_of i) (known_of i') (settled_ring f i s ∙ sym es ∙ sym (settled_ring f' i' s')) (sym er) z
 
 input_left : (xs : List item.Item) (i i' : inlet.Inlet) → IsInput xs i → IsInput xs i' → received_of i' ≡ received_of i → known_of i ≡ [] → known_of i' ≡ []
 input_left xs i i' h h' er z = none_more (received_of i) (received_of i') (known_of i) (known_of i') (kept_input xs i h ∙ sym (kept_input xs i' h')) (sym er) z
 
-module _ (p : PlanForm) (inputs : List (List item.Item)) (caps : Capacities) (net net' : Net) (v : IsPlan p) (n : IsNetOf p inputs caps net) (n' : IsNetOf p inputs caps net') (same : map still net'.tasks ≡ map still net.tasks) where
+module _ (p : PlanForm) (inputs : List (List item.Item)) (caps : Capacities) (net net' : Net) (v : IsPlan p) (n : IsNetOf p inputs caps net)
+    (n' : IsNetOf p inputs caps net') (same : map still net'.tasks ≡ map still net.tasks) where
   done_again : (o : ℕ) (t t' : Task) → slice_get net.tasks o ≡ Some t → slice_get net'.tasks o ≡ Some t' → still t' ≡ still t → IsDone t → IsDone t'
   done_again o t t' g g' s d = record {
     idle = λ j. ap (λ (x : Still). list_at x.pending j) s ∙ d.idle j;
@@ -170,16 +190,19 @@ module _ (p : PlanForm) (inputs : List (List item.Item)) (caps : Capacities) (ne
         let i' = there_is t'.ins port lt in
         let lt0 : port < length t.ins = (let e = map_long in_end t'.ins t.ins (ap (λ (x : Still). x.ends.ins) s) in omega (arith, lt, e)) in
         let i = there_is t.ins port lt0 in
-        let er : received_of i'.0 ≡ received_of i.0 = sym (received_here t'.ins port i'.0 i'.1) ∙ ap (λ (x : Still). list_at x.seen.received port) s ∙ received_here t.ins port i.0 i.1 in
+        let er : received_of i'.0 ≡ received_of i.0 = sym (received_here t'.ins port i'.0 i'.1) ∙ ap (λ (x : Still). list_at x.seen.received port) s
+        ∙ received_here t.ins port i.0 i.1 in
         let z : known_of i.0 ≡ [] = ap known_of (sym (get_or_from_slice_get t.ins port i.0 x i.1)) ∙ d.received port x lt0 in
         let k = n.tasks.each o t (slice_get_within net.tasks o t g) in
-        let k1 : IsTask p (added p (logs_of net.cells) t.op) t = subst (λ (y : Task). IsTask p (added p (logs_of net.cells) y.op) y) (get_or_from_slice_get net.tasks o t t g) k in
+        let k1 : IsTask p (added p (logs_of net.cells) t.op) t =
+        subst (λ (y : Task). IsTask p (added p (logs_of net.cells) y.op) y) (get_or_from_slice_get net.tasks o t t g) k in
         let op_is : slice_get p.ops o ≡ Some k1.op = ap (slice_get p.ops) (sym (n.laid.numbers o t g)) ∙ k1.op_is in
         let q = there_is k1.op.reads port (let e = k1.ins in omega (arith, e, lt0)) in
         ap known_of (get_or_from_slice_get t'.ins port i'.0 x i'.1)
         ∙ ⊎_elim
         (λ w. by_ring o port k1.op q.0 t t' i.0 i'.0 op_is q.1 g g' i.1 i'.1 w er z)
-        (λ none. input_left (given_to p inputs q.0) i.0 i'.0 (n.laid.inputs_are o port k1.op q.0 t i.0 op_is q.1 none g i.1) (n'.laid.inputs_are o port k1.op q.0 t' i'.0 op_is q.1 none g' i'.1) er z)
+        (λ none. input_left (given_to p inputs q.0) i.0 i'.0 (n.laid.inputs_are o port k1.op q.0 t i.0 op_is q.1 none g i.1)
+        (n'.laid.inputs_are o port k1.op q.0 t' i'.0 op_is q.1 none g' i'.1) er z)
         (more_or_none (total (writes_it q.0) p.ops));
   }
     where
@@ -197,10 +220,41 @@ module _ (p : PlanForm) (inputs : List (List item.Item)) (caps : Capacities) (ne
           let x = same_got still net'.tasks net.tasks same wr.0 b.t b.t_is in
           let u : x.0 ≡ a.t = some_is x.0 a.t (sym x.1 ∙ a.t_is) in
           let st : still b.t ≡ still a.t = x.2 ∙ ap still u in
-          let es : sent_of f'.0 ≡ sent_of f.0 = sym (sent_here b.t.outs j.0 f'.0 f'.1) ∙ ap (λ (y : Still). list_at y.seen.sent j.0) st ∙ sent_here a.t.outs j.0 f.0 f.1 in
+          let es : sent_of f'.0 ≡ sent_of f.0 = sym (sent_here b.t.outs j.0 f'.0 f'.1) ∙ ap (λ (y : Still). list_at y.seen.sent j.0) st
+          ∙ sent_here a.t.outs j.0 f.0 f.1 in
           ring_left f.0 f'.0 i i'
-          (n.settled.each o wr.0 port j.0 q f.0 i (record { op = op; op' = wr.1; op_is = op_is; reads = r; op_is' = wr.2; writes = j.1; t = t; t' = a.t; t_is = g; t_is' = a.t_is; in_is = gi; out_is = f.1 }))
-          (n'.settled.each o wr.0 port j.0 q f'.0 i' (record { op = op; op' = wr.1; op_is = op_is; reads = r; op_is' = wr.2; writes = j.1; t = t'; t' = b.t; t_is = g'; t_is' = b.t_is; in_is = gi'; out_is = f'.1 }))
+          (n.settled.each o wr.0 port j.0 q f.0 i
+          (record {
+            op = op;
+            op' = wr.1;
+            op_is = op_is;
+            reads = r;
+            op_is' = wr.2;
+            writes = j.1;
+            t = t;
+            t' = a.t;
+            t_is = g;
+            t_is' = a.t_is;
+            in_is =
+                gi;
+            out_is = f.1;
+          }))
+          (n'.settled.each o wr.0 port j.0 q f'.0 i'
+          (record {
+            op = op;
+            op' = wr.1;
+            op_is = op_is;
+            reads = r;
+            op_is' = wr.2;
+            writes = j.1;
+            t = t';
+            t' = b.t;
+            t_is = g';
+            t_is' = b.t_is;
+            in_is =
+                gi';
+            out_is = f'.1;
+          }))
           es er z
 
   -- a net that looked at its rings is still idle

@@ -54,7 +54,8 @@ whole_front xs ys f e =
     nothing [] z = refl
     nothing (r ∷ rs) z = absurd (omega (arith, z))
 
-module _ (p : PlanForm) (inputs : List (List item.Item)) (caps : Capacities) (net : Net) (v : IsPlan p) (n : IsNetOf p inputs caps net) (idle : AreIdle net.tasks) where
+module _ (p : PlanForm) (inputs : List (List item.Item)) (caps : Capacities) (net : Net) (v : IsPlan p) (n : IsNetOf p inputs caps net)
+    (idle : AreIdle net.tasks) where
   abbrev adds : ℕ → ℕ → List (List ℤ)
   adds = added p (logs_of net.cells)
 
@@ -116,7 +117,8 @@ module _ (p : PlanForm) (inputs : List (List item.Item)) (caps : Capacities) (ne
 
   are_done : AreDone p inputs ws
   unfolding ws make
-  are_done o op g port q r = whole_front (at_port port (ws o)) (hist_by p inputs ws q) (make.joins.net.words.fronts o op g port q r) (received_all o port op q g r)
+  are_done o op g port q r =
+      whole_front (at_port port (ws o)) (hist_by p inputs ws q) (make.joins.net.words.fronts o op g port q r) (received_all o port op q g r)
 
   whole : IsWholeRun p inputs ws
   unfolding ws make

@@ -31,7 +31,8 @@ use Rattle.fire_tasks.specs.Turns.{AreCellsOf, AreRowsFor, HasCells, HaveGained,
 
 -- a test that holds of each entry that a firing can make at a class
 pub logged_all : (P : LogEntry → Type 0) (o : ℕ) (classes : List ℕ) (hs : List TablePort) (rows : ℕ → List (List ℤ)) (c : ℕ)
-    → ((j : ℕ) (h : TablePort) (rs : List (List ℤ)) → slice_get hs j ≡ Some h → slice_index_or classes h.place 0 ≡ c → P (record { op = o; table = h.table; rows = rs }))
+    → ((j : ℕ) (h : TablePort) (rs : List (List ℤ)) → slice_get hs j ≡ Some h → slice_index_or classes h.place 0 ≡ c
+    → P (record { op = o; table = h.table; rows = rs }))
     → All P (logged o classes hs rows c)
 logged_all P o classes [] rows c each = All-nil P
 logged_all P o classes (h ∷ hs) rows c each =
@@ -60,7 +61,8 @@ logged_more o classes [] h rows c = append-nil (if nat_eq (slice_index_or classe
 logged_more o classes (k ∷ hs) h rows c =
     let first = if nat_eq (slice_index_or classes k.place 0) c then entries_for o k.table (rows 0) else [] in
     ap (λ l. first ++ l) (logged_more o classes hs h (λ j. rows (suc j)) c)
-    ∙ sym (append_assoc first (logged o classes hs (λ j. rows (suc j)) c) (if nat_eq (slice_index_or classes h.place 0) c then entries_for o h.table (rows (suc (length hs))) else []))
+    ∙ sym (append_assoc first (logged o classes hs (λ j. rows (suc j)) c)
+    (if nat_eq (slice_index_or classes h.place 0) c then entries_for o h.table (rows (suc (length hs))) else []))
 
 -- a class at which no port has its table has none
 pub logged_none : (o : ℕ) (classes : List ℕ) (hs : List TablePort) (rows : ℕ → List (List ℤ)) (c : ℕ)
@@ -90,7 +92,8 @@ rows_absent o classes (h ∷ hs) rows c table ne =
     let rest = logged o classes hs (λ j. rows (suc j)) c in
     flat_map-append (rows_in table) first rest
     ∙ ap (λ l. l ++ rows_to table rest) (⊎_elim
-    (λ e. ap (rows_to table) (if_eq (slice_index_or classes h.place 0) c (entries_for o h.table (rows 0)) [] e) ∙ rows_other o table h.table (rows 0) (ne 0 h refl))
+    (λ e. ap (rows_to table) (if_eq (slice_index_or classes h.place 0) c (entries_for o h.table (rows 0)) [] e)
+    ∙ rows_other o table h.table (rows 0) (ne 0 h refl))
     (λ e. ap (rows_to table) (if_ne (slice_index_or classes h.place 0) c (entries_for o h.table (rows 0)) [] e))
     (cases_eq (slice_index_or classes h.place 0) c))
     ∙ rows_absent o classes hs (λ j. rows (suc j)) c table (λ j k g. ne (suc j) k g)
@@ -105,9 +108,13 @@ rows_present o classes (k ∷ hs) rows c zero h once g e =
     let first = if nat_eq (slice_index_or classes k.place 0) c then entries_for o k.table (rows 0) else [] in
     let rest = logged o classes hs (λ j. rows (suc j)) c in
     flat_map-append (rows_in h.table) first rest
-    ∙ ap (λ l. rows_to h.table first ++ l) (rows_absent o classes hs (λ j. rows (suc j)) c h.table (λ i a ga same. absurd (let q = once (suc i) 0 a k ga refl (same ∙ sym (ap (λ (y : TablePort). y.table) is)) in omega (arith, q))))
+    ∙ ap (λ l. rows_to h.table first ++ l)
+    (rows_absent o classes hs (λ j. rows (suc j)) c h.table
+    (λ i a ga same. absurd (let q = once (suc i) 0 a k ga refl (same ∙ sym (ap (λ (y : TablePort). y.table) is)) in omega (arith, q))))
     ∙ append-nil (rows_to h.table first)
-    ∙ ap (rows_to h.table) (if_eq (slice_index_or classes k.place 0) c (entries_for o k.table (rows 0)) [] (ap (λ (y : TablePort). slice_index_or classes y.place 0) is ∙ e) ∙ ap (λ (y : TablePort). entries_for o y.table (rows 0)) is)
+    ∙ ap (rows_to h.table)
+    (if_eq (slice_index_or classes k.place 0) c (entries_for o k.table (rows 0)) [] (ap (λ (y : TablePort). slice_index_or classes y.place 0) is ∙ e)
+    ∙ ap (λ (y : TablePort). entries_for o y.table (rows 0)) is)
     ∙ rows_one o h.table (rows 0)
   where
     some_eq : (a b : TablePort) → Some a ≡ Some b → a ≡ b
@@ -149,7 +156,8 @@ rows_by-append o table xs ys = ap (rows_to table) (filter-append (λ e. e.op == 
 -- WHAT LOGS THAT GROW ADD
 
 -- more entries of operator o change nothing of what another added
-pub added_else : (p : PlanForm) (logs logs' more : ℕ → List LogEntry) (o n : ℕ) → ((c : ℕ) → logs' c ≡ logs c ++ more c) → ((c : ℕ) → All (λ e. e.op ≡ o) (more c)) → n ≢ o
+pub added_else : (p : PlanForm) (logs logs' more : ℕ → List LogEntry) (o n : ℕ) → ((c : ℕ) → logs' c ≡ logs c ++ more c)
+    → ((c : ℕ) → All (λ e. e.op ≡ o) (more c)) → n ≢ o
     → (j : ℕ) → added p logs' n j ≡ added p logs n j
 added_else p logs logs' more o n e own ne j =
     let t = table_at p n j in
@@ -157,7 +165,8 @@ added_else p logs logs' more o n e own ne j =
     ap (rows_by n t) (e c) ∙ rows_by-append n t (logs c) (more c)
     ∙ ap (λ l. rows_by n t (logs c) ++ rows_to t l) (part_none o n (more c) (own c) ne) ∙ append-nil (rows_by n t (logs c))
 
-module _ (p : PlanForm) (v : IsPlan p) (o : ℕ) (op : OpForm) (g : slice_get p.ops o ≡ Some op) (tables : List TablePort) (classes : List ℕ) (homes : AreHomes p o tables classes) where
+module _ (p : PlanForm) (v : IsPlan p) (o : ℕ) (op : OpForm) (g : slice_get p.ops o ≡ Some op) (tables : List TablePort) (classes : List ℕ)
+    (homes : AreHomes p o tables classes) where
   abbrev names : List Name
   names = table_names p.tables
 
@@ -208,7 +217,8 @@ module _ (p : PlanForm) (v : IsPlan p) (o : ℕ) (op : OpForm) (g : slice_get p.
   -- the number of the table at a port
   pub table_is : (j : ℕ) (h : TablePort) → slice_get tables j ≡ Some h → table_at p o j ≡ h.table
   table_is j h gh =
-      ap (λ (l : List ℕ). slice_index_or l j 0) (sym homes.numbers) ∙ got_or (map (λ (y : TablePort). y.table) tables) j h.table (got_map (λ (y : TablePort). y.table) tables j h gh)
+      ap (λ (l : List ℕ). slice_index_or l j 0) (sym homes.numbers)
+      ∙ got_or (map (λ (y : TablePort). y.table) tables) j h.table (got_map (λ (y : TablePort). y.table) tables j h gh)
     where
       got_or : (xs : List ℕ) (i x : ℕ) → slice_get xs i ≡ Some x → slice_index_or xs i 0 ≡ x
       got_or [] i x e = absurd (cc e)
@@ -264,7 +274,8 @@ pub classes_grown : (f : ℕ → List LogEntry) (pile : List Piled) → classes_
 classes_grown f [] = refl
 classes_grown f (x ∷ xs) = ap (λ (l : List ℕ). x.0 ∷ l) (classes_grown f xs)
 
-grown_at : (f : ℕ → List LogEntry) (pile : List Piled) (i : ℕ) (x : Piled) → slice_get pile i ≡ Some x → slice_get (pile_grown f pile) i ≡ Some (x.0, record x.1 { log = x.1.log ++ f x.0 })
+grown_at : (f : ℕ → List LogEntry) (pile : List Piled) (i : ℕ) (x : Piled) → slice_get pile i ≡ Some x
+    → slice_get (pile_grown f pile) i ≡ Some (x.0, record x.1 { log = x.1.log ++ f x.0 })
 grown_at f pile i x g = got_map (λ (y : Piled). (y.0, record y.1 { log = y.1.log ++ f y.0 })) pile i x g
 
 piled_is : (a b : Piled) → Some a ≡ Some b → a ≡ b
@@ -293,7 +304,9 @@ set_grown [] i x e g up = absurd (cc g)
 set_grown (y ∷ ys) zero x e g up =
     let is : y ≡ x = piled_is y x g in
     let long = length-map ys (λ (z : Piled). z.0) in
-    let ne : (k d : ℕ) → k < length ys → x.0 ≢ get_or (classes_of ys) k d = λ k d lt q. let h = up 0 (suc k) d (omega arith) (omega (arith, long, lt)) in let m = ap (λ (z : Piled). z.0) is in omega (arith, h, m, q) in
+    let ne : (k d : ℕ) → k < length ys
+    → x.0 ≢ get_or (classes_of ys) k d = λ k d lt q. let h = up 0 (suc k) d (omega arith) (omega (arith, long, lt)) in let m =
+    ap (λ (z : Piled). z.0) is in omega (arith, h, m, q) in
     ap (λ (l : List Piled). (x.0, record x.1 { log = x.1.log ++ e }) ∷ l) (sym (none_grown x.0 e ys ne))
     ∙ ap (λ (l : List LogEntry). (x.0, record x.1 { log = x.1.log ++ l }) ∷ pile_grown (only_at x.0 e) ys) (sym (if_eq x.0 x.0 e [] refl))
     ∙ ap (λ (z : Piled). (z.0, record z.1 { log = z.1.log ++ only_at x.0 e z.0 }) ∷ pile_grown (only_at x.0 e) ys) (sym is)
@@ -304,12 +317,15 @@ set_grown (y ∷ ys) (suc i) x e g up =
     let lt : y.0 < x.0 = (let h = up 0 (suc i) 0 (omega arith) (omega (arith, long, there)) in omega (arith, h, at)) in
     ap (λ (l : List Piled). y ∷ l) (set_grown ys i x e g (λ a b d la lb. up (suc a) (suc b) d (omega (arith, la)) (omega (arith, lb))))
     ∙ ap (λ (l : List LogEntry). (y.0, record y.1 { log = l }) ∷ pile_grown (only_at x.0 e) ys) (sym (append-nil y.1.log))
-    ∙ ap (λ (l : List LogEntry). (y.0, record y.1 { log = y.1.log ++ l }) ∷ pile_grown (only_at x.0 e) ys) (sym (if_ne x.0 y.0 e [] (λ q. omega (arith, q, lt))))
+    ∙ ap (λ (l : List LogEntry). (y.0, record y.1 { log = y.1.log ++ l }) ∷ pile_grown (only_at x.0 e) ys)
+    (sym (if_ne x.0 y.0 e [] (λ q. omega (arith, q, lt))))
 
 -- where there are no rows nothing changes
-pub set_none : (o table : ℕ) (rows : List (List ℤ)) (pile : List Piled) (i : ℕ) (x : Piled) → slice_get pile i ≡ Some x → rows ≡ [] → pile ≡ set pile i (cell_with_rows o table rows x)
+pub set_none : (o table : ℕ) (rows : List (List ℤ)) (pile : List Piled) (i : ℕ) (x : Piled) → slice_get pile i ≡ Some x → rows ≡ []
+    → pile ≡ set pile i (cell_with_rows o table rows x)
 set_none o table rows pile i x g e =
-    sym (at pile i g) ∙ ap (set pile i) (ap (λ (l : List LogEntry). (x.0, record x.1 { log = l })) (sym (append-nil x.1.log)) ∙ ap (λ (r : List (List ℤ)). cell_with_rows o table r x) (sym e))
+    sym (at pile i g) ∙ ap (set pile i)
+    (ap (λ (l : List LogEntry). (x.0, record x.1 { log = l })) (sym (append-nil x.1.log)) ∙ ap (λ (r : List (List ℤ)). cell_with_rows o table r x) (sym e))
   where
     at : (ps : List Piled) (n : ℕ) → slice_get ps n ≡ Some x → set ps n x ≡ ps
     at [] n h = refl
@@ -351,8 +367,10 @@ cell_now o tables rows j pile now h e can g =
     ((x.0.0, record x.0.1 { log = x.0.1.log ++ more x.0.0 }), ap (λ l. slice_get l h.place) e ∙ grown_at more pile h.place x.0 x.1, x.2)
 
 -- one port more
-pub added_next : (o : ℕ) (tables : List TablePort) (rows : ℕ → List (List ℤ)) (j : ℕ) (pile now new : List Piled) (h : TablePort) (x : Piled) → IsStrictlyIncreasing (classes_of pile)
-    → AddedTo o tables rows j pile now → slice_get tables j ≡ Some h → slice_get now h.place ≡ Some x → new ≡ set now h.place (cell_with_rows o h.table (rows j) x)
+pub added_next : (o : ℕ) (tables : List TablePort) (rows : ℕ → List (List ℤ)) (j : ℕ) (pile now new : List Piled) (h : TablePort) (x : Piled)
+    → IsStrictlyIncreasing (classes_of pile)
+    → AddedTo o tables rows j pile now → slice_get tables j ≡ Some h → slice_get now h.place ≡ Some x
+    → new ≡ set now h.place (cell_with_rows o h.table (rows j) x)
     → AddedTo o tables rows (j + 1) pile new
 added_next o tables rows j pile now new h x up e g gx n =
     let cs = classes_of pile in
@@ -364,12 +382,14 @@ added_next o tables rows j pile now new h x up e g gx n =
     n ∙ set_grown now h.place x en gx rises ∙ ap (pile_grown (only_at x.0 en)) e ∙ grown_twice f (only_at x.0 en) pile
     ∙ grown_same (λ c. f c ++ only_at x.0 en c) (logged o cs (take (j + 1) tables) rows) pile (λ c.
     ap (λ m. f c ++ only_at m en c) (sym at)
-    ∙ ap (λ m. f c ++ (if nat_eq (slice_index_or cs h.place 0) c then entries_for o h.table (rows m) else [])) (sym (take_length tables j (slice_get_within tables j h g)))
+    ∙ ap (λ m. f c ++ (if nat_eq (slice_index_or cs h.place 0) c then entries_for o h.table (rows m) else []))
+    (sym (take_length tables j (slice_get_within tables j h g)))
     ∙ sym (logged_more o cs (take j tables) h rows c)
     ∙ ap (λ l. logged o cs l rows c) (sym (take_next tables j h g)))
 
 -- behind the last port
-pub added_whole : (o : ℕ) (tables : List TablePort) (rows : ℕ → List (List ℤ)) (j : ℕ) (pile now : List Piled) → AddedTo o tables rows j pile now → length tables ≤ j
+pub added_whole : (o : ℕ) (tables : List TablePort) (rows : ℕ → List (List ℤ)) (j : ℕ) (pile now : List Piled) → AddedTo o tables rows j pile now
+    → length tables ≤ j
     → now ≡ pile_grown (logged o (classes_of pile) tables rows) pile
 added_whole o tables rows j pile now e le = e ∙ ap (λ l. pile_grown (logged o (classes_of pile) l rows) pile) (whole tables j le)
   where
@@ -380,7 +400,8 @@ added_whole o tables rows j pile now e le = e ∙ ap (λ l. pile_grown (logged o
     whole (x ∷ xs) (suc n) l = ap (λ ys. x ∷ ys) (whole xs n (omega (arith, l)))
 
 -- what came is of this operator
-pub added_gained : (o : ℕ) (tables : List TablePort) (rows : ℕ → List (List ℤ)) (j : ℕ) (pile now : List Piled) → AddedTo o tables rows j pile now → HaveGained o pile now
+pub added_gained : (o : ℕ) (tables : List TablePort) (rows : ℕ → List (List ℤ)) (j : ℕ) (pile now : List Piled) → AddedTo o tables rows j pile now
+    → HaveGained o pile now
 added_gained o tables rows j pile now e = record {
   more = logged o (classes_of pile) (take j tables) rows;
   is = e;

@@ -28,7 +28,8 @@ set_many (x ∷ ts) zero t = refl
 set_many (x ∷ ts) (suc i) t = ap suc (set_many ts i t)
 
 -- what holds of each task and of the new one
-set_each : (P : Task → Type 0) (ts : List Task) (i : ℕ) (t : Task) → ((n : ℕ) (d : Task) → n < length ts → P (get_or ts n d)) → P t → (n : ℕ) (d : Task) → n < length ts → P (get_or (set ts i t) n d)
+set_each : (P : Task → Type 0) (ts : List Task) (i : ℕ) (t : Task) → ((n : ℕ) (d : Task) → n < length ts → P (get_or ts n d)) → P t → (n : ℕ) (d : Task)
+    → n < length ts → P (get_or (set ts i t) n d)
 set_each P [] i t h x n d lt = absurd (omega (arith, lt))
 set_each P (y ∷ ts) zero t h x zero d lt = x
 set_each P (y ∷ ts) zero t h x (suc n) d lt = h (suc n) d lt
@@ -44,12 +45,24 @@ set_ends (y ∷ ts) (suc i) t e = ap (λ ns. ends_of y ∷ ns) (set_ends ts i t 
 pub ends_many : (ts ts' : List Task) → all_ends ts' ≡ all_ends ts → length ts' ≡ length ts
 ends_many ts ts' e = sym (length-map ts' ends_of) ∙ ap length e ∙ length-map ts ends_of
 
-set_moved : (ts : List Task) (i : ℕ) (t : Task) (m : Bool) → i < length ts → HasMoved (moves (get_or ts i t)) (moves t) m → HasMoved (all_moves ts) (all_moves (set ts i t)) m
+set_moved : (ts : List Task) (i : ℕ) (t : Task) (m : Bool) → i < length ts → HasMoved (moves (get_or ts i t)) (moves t) m
+    → HasMoved (all_moves ts) (all_moves (set ts i t)) m
 set_moved [] i t m lt h = absurd (omega (arith, lt))
-set_moved (y ∷ ts) zero t m lt h = record { never_falls = (let n = h.never_falls in omega (arith, n)); grew = λ x. (let n = h.grew x in omega (arith, n)); stayed = λ x. (let n = h.stayed x in omega (arith, n)) }
+set_moved (y ∷ ts) zero t m lt h =
+    record {
+      never_falls = (let n = h.never_falls in omega (arith, n));
+      grew = λ x. (let n = h.grew x in omega (arith, n));
+      stayed =
+          λ x. (let n = h.stayed x in omega (arith, n));
+    }
 set_moved (y ∷ ts) (suc i) t m lt h =
     let r = set_moved ts i t m (omega (arith, lt)) h in
-    record { never_falls = (let n = r.never_falls in omega (arith, n)); grew = λ x. (let n = r.grew x in omega (arith, n)); stayed = λ x. (let n = r.stayed x in omega (arith, n)) }
+    record {
+      never_falls = (let n = r.never_falls in omega (arith, n));
+      grew = λ x. (let n = r.grew x in omega (arith, n));
+      stayed =
+          λ x. (let n = r.stayed x in omega (arith, n));
+    }
 
 there : (xs : List Task) (j : ℕ) (c d : Task) → j < length xs → get_or xs j c ≡ get_or xs j d
 there [] j c d l = absurd (omega (arith, l))
@@ -82,7 +95,8 @@ passed_first p v ts k h = record {
 }
 
 -- the seat is that of each of the tasks
-pub seat_for : (p : PlanForm) (v : View) (ts : List Task) (i : ℕ) (t : Task) → AreTasksAt p v ts → v.held ≡ [] → i < length ts → t ≡ get_or ts i t → IsSeatOf p t.op v
+pub seat_for : (p : PlanForm) (v : View) (ts : List Task) (i : ℕ) (t : Task) → AreTasksAt p v ts → v.held ≡ [] → i < length ts → t ≡ get_or ts i t
+    → IsSeatOf p t.op v
 seat_for p v ts i t k h lt e = record {
   rests = h;
   part = subst (λ (x : Task). StandsIn (x.op % v.seats) v.parts) (sym e) (k.parts i t lt);
@@ -109,7 +123,8 @@ after_turn p v w now i old new n k lt e h = record {
   apart = λ j m d lj lm q. k.apart j m d (long j lj) (long m lm) (sym (ops j d) ∙ q ∙ ops m d);
   narrow = record {
     each = λ j d lj. set_each (λ x. length x.ins < 2 ^ 32) now i new k.narrow.each
-        (let z = ins_many old.ins new.ins (ap (λ (x : TaskEnds). x.ins) h.ends) in let y = subst (λ x. length x.ins < 2 ^ 32) (sym e) (k.narrow.each i old lt) in omega (arith, z, y)) j d (long j lj);
+        (let z = ins_many old.ins new.ins (ap (λ (x : TaskEnds). x.ins) h.ends) in let y =
+        subst (λ x. length x.ins < 2 ^ 32) (sym e) (k.narrow.each i old lt) in omega (arith, z, y)) j d (long j lj);
   };
   cells = subst (AreCells p) (sym h.sat.round.starts) k.cells;
   claims = h.sat.claims k.claims;
@@ -149,7 +164,8 @@ passed_turn p v0 v w ts now i old new m n k h lt e t c f =
           (λ l.
           let ne : (j ≡ i → ⊥) = λ q. omega (arith, l, q) in
           let q = set_many now i new in
-          subst (IsStuckSince v0 w) (sym (get_or-set_other now i j new d ne)) (stuck_still v0 v w (get_or now j d) tries (h.stuck (f z).0 j d l (omega (arith, ll, q)))))
+          subst (IsStuckSince v0 w) (sym (get_or-set_other now i j new d ne))
+          (stuck_still v0 v w (get_or now j d) tries (h.stuck (f z).0 j d l (omega (arith, ll, q)))))
           (λ ge.
           let q : i ≡ j = omega (arith, lj, ge) in
           subst (λ (y : ℕ). IsStuckSince v0 w (get_or (set now i new) y d)) q
@@ -174,7 +190,8 @@ passed_still p v0 v w ts now i old new m n h lt e t is =
     (moved_first (all_moves ts) (all_moves now) (all_moves (set now i new)) m h.number (one_is now i old new false lt e mv)) (λ f. (f, is))
 
 -- all had their turns
-pub passed_all : (p : PlanForm) (v w : View) (place : ℕ) (ts ts' : List Task) (moved : Bool) → HavePassed p v w place ts ts' moved → length ts ≤ place → HasSwept p v w ts ts' moved
+pub passed_all : (p : PlanForm) (v w : View) (place : ℕ) (ts ts' : List Task) (moved : Bool) → HavePassed p v w place ts ts' moved → length ts ≤ place
+    → HasSwept p v w ts ts' moved
 passed_all p v w place ts ts' moved h le = record {
   tasks = h.tasks;
   ends = h.same;
@@ -237,7 +254,8 @@ looked_none ts = record {
   done = λ i d lt l. absurd (omega (arith, lt));
 }
 
-module _ (place : ℕ) (ts now : List Task) (old new : Task) (h : LookedTo place ts now) (lt : place < length now) (e : old ≡ get_or now place old) (l : LooksSame old new) where
+module _ (place : ℕ) (ts now : List Task) (old new : Task) (h : LookedTo place ts now) (lt : place < length now) (e : old ≡ get_or now place old)
+    (l : LooksSame old new) where
   many_now : length (set now place new) ≡ length now
   many_now = set_many now place new
 
@@ -247,8 +265,10 @@ module _ (place : ℕ) (ts now : List Task) (old new : Task) (h : LookedTo place
     many = many_now ∙ h.looked.many;
     each = λ i d li. let m = many_now in ⊎_elim
         (λ q.
-        let at : get_or ts i d ≡ old = sym (h.rest i d (omega (arith, q)) (omega (arith, li, m))) ∙ ap (λ k. get_or now k d) (sym q) ∙ there now place d old lt ∙ sym e in
-        subst (LooksSame (get_or ts i d)) (sym (ap (λ k. get_or (set now place new) k d) (sym q) ∙ get_or-set_same now place new d lt)) (subst (λ x. LooksSame x new) (sym at) l))
+        let at : get_or ts i d ≡ old = sym (h.rest i d (omega (arith, q)) (omega (arith, li, m))) ∙ ap (λ k. get_or now k d) (sym q) ∙ there now place d old lt
+        ∙ sym e in
+        subst (LooksSame (get_or ts i d)) (sym (ap (λ k. get_or (set now place new) k d) (sym q) ∙ get_or-set_same now place new d lt))
+        (subst (λ x. LooksSame x new) (sym at) l))
         (λ ne. subst (LooksSame (get_or ts i d)) (sym (get_or-set_other now place i new d (λ q. ne (sym q)))) (h.looked.each i d (omega (arith, li, m))))
         (cases_eq place i);
   }
@@ -257,10 +277,12 @@ module _ (place : ℕ) (ts now : List Task) (old new : Task) (h : LookedTo place
   pub looked_done : IsDone new → LookedTo (place + 1) ts (set now place new)
   looked_done fine = record {
     looked = looked_one;
-    rest = λ i d le li. get_or-set_other now place i new d (λ q. omega (arith, le, q)) ∙ h.rest i d (omega (arith, le)) (let m = many_now in omega (arith, li, m));
+    rest = λ i d le li. get_or-set_other now place i new d (λ q. omega (arith, le, q))
+        ∙ h.rest i d (omega (arith, le)) (let m = many_now in omega (arith, li, m));
     done = λ i d li ll. ⊎_elim
         (λ q. subst IsDone (sym (ap (λ k. get_or (set now place new) k d) (sym q) ∙ get_or-set_same now place new d lt)) fine)
-        (λ ne. subst IsDone (sym (get_or-set_other now place i new d (λ q. ne (sym q)))) (h.done i d (omega (arith, li, ne)) (let m = many_now in omega (arith, ll, m))))
+        (λ ne. subst IsDone (sym (get_or-set_other now place i new d (λ q. ne (sym q))))
+        (h.done i d (omega (arith, li, ne)) (let m = many_now in omega (arith, ll, m))))
         (cases_eq place i);
   }
 

@@ -48,7 +48,8 @@ rows-append o table xs ys = ap (rows_to table) (filter-append (λ e. e.op == o) 
 
 -- Let v be what the seat of operator o knew, and w what the seat that closed the round knows: it has o's part, and of this part claims
 -- what v does. Then the cells' logs have of o, at a table whose class is there, what v knew.
-pub joined_adds : (p : PlanForm) (v w : View) (cells : List Holding) (o j : ℕ) → HasGrown w cells → w.seats ≡ v.seats → w.starts ≡ v.starts → StandsIn (o % v.seats) w.parts
+pub joined_adds : (p : PlanForm) (v w : View) (cells : List Holding) (o j : ℕ) → HasGrown w cells → w.seats ≡ v.seats → w.starts ≡ v.starts
+    → StandsIn (o % v.seats) w.parts
     → ((c : ℕ) → own v.seats (o % v.seats) c w.claims ≡ own v.seats (o % v.seats) c v.claims)
     → (x : Holding) → get_elem? cells (table_class p (table_at p o j)) ≡ some x → added p (logs_of cells) o j ≡ added p (logs_at v o) o j
 joined_adds p v w cells o j grown seats starts has claims x g =
@@ -71,7 +72,8 @@ all_parts : (P : LogEntry → Type 0) (n : ℕ) → 0 < n → (es : List LogEntr
 all_parts P n lt [] h = All-nil P
 all_parts P n lt (e ∷ es) h =
     let k = e.op % n in
-    let here : All P (e ∷ part n k es) = subst (All P) (ap (λ (b : Bool). cond b (e ∷ part n k es) (part n k es)) (eq-eqb k k refl)) (h k (mod_below e.op n lt)) in
+    let here : All P (e ∷ part n k es) =
+    subst (All P) (ap (λ (b : Bool). cond b (e ∷ part n k es) (part n k es)) (eq-eqb k k refl)) (h k (mod_below e.op n lt)) in
     All-cons P e es (All-head P e (part n k es) here) (all_parts P n lt es (λ m lm. rest ((e.op % n) == m) m (h m lm)))
   where
     rest : (b : Bool) (m : ℕ) → All P (cond b (e ∷ part n m es) (part n m es)) → All P (part n m es)
@@ -87,23 +89,27 @@ own_right P n k c (q ∷ qs) a =
     let f = filter (is_claim_of n k c) qs in
     let t = (q.entry.op % n) == k in
     ⊎_elim
-    (λ e. subst (λ (b : Bool). All (P c) (entries_of (cond (b && t) (q ∷ f) f))) (sym (eq-eqb q.class c e)) (taken t (subst (λ (d : ℕ). P d q.entry) e here) more))
+    (λ e. subst (λ (b : Bool). All (P c) (entries_of (cond (b && t) (q ∷ f) f))) (sym (eq-eqb q.class c e))
+    (taken t (subst (λ (d : ℕ). P d q.entry) e here) more))
     (λ ne. subst (λ (b : Bool). All (P c) (entries_of (cond (b && t) (q ∷ f) f))) (sym (ne_eqb q.class c ne)) more)
     (cases_eq q.class c)
   where
-    taken : (b : Bool) → P c q.entry → All (P c) (entries_of (filter (is_claim_of n k c) qs)) → All (P c) (entries_of (cond b (q ∷ filter (is_claim_of n k c) qs) (filter (is_claim_of n k c) qs)))
+    taken : (b : Bool) → P c q.entry → All (P c) (entries_of (filter (is_claim_of n k c) qs))
+        → All (P c) (entries_of (cond b (q ∷ filter (is_claim_of n k c) qs) (filter (is_claim_of n k c) qs)))
     taken true x r = All-cons (P c) q.entry (entries_of (filter (is_claim_of n k c) qs)) x r
     taken false x r = r
 
 -- what holds of the log of each cell
-each_log : (P : ℕ → LogEntry → Type 0) (cells : List Holding) → ((c : ℕ) (x : Holding) → get_elem? cells c ≡ some x → All (P c) x.log) → (c : ℕ) → All (P c) (logs_of cells c)
+each_log : (P : ℕ → LogEntry → Type 0) (cells : List Holding) → ((c : ℕ) (x : Holding) → get_elem? cells c ≡ some x → All (P c) x.log) → (c : ℕ)
+    → All (P c) (logs_of cells c)
 each_log P [] h c = All-nil (P c)
 each_log P (y ∷ ys) h zero = h 0 y refl
 each_log P (y ∷ ys) h (suc c) = each_log (λ (k : ℕ). P (suc k)) ys (λ k x g. h (suc k) x g) c
 
 -- at the end of a round, closed by a seat with every part, the logs have right entries where they had such at its beginning and the
 -- claims are right
-pub joined_entries : (p : PlanForm) (w : View) (cells : List Holding) → HasGrown w cells → 0 < w.seats → HasAll w → AreEntries p (logs_of w.starts) → AreClaims p w.claims
+pub joined_entries : (p : PlanForm) (w : View) (cells : List Holding) → HasGrown w cells → 0 < w.seats → HasAll w → AreEntries p (logs_of w.starts)
+    → AreClaims p w.claims
     → AreEntries p (logs_of cells)
 joined_entries p w cells grown lt all starts claims = each_log (IsEntryOf p) cells (λ c x g.
     let l = grown.each c x g in

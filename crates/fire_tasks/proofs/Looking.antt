@@ -15,11 +15,21 @@ pub record LookedTo (port : ℕ) (ins ins' : List inlet.Inlet) : Type 0 where
 
 -- before the first port
 pub looked_first : (ins : List inlet.Inlet) → LookedTo 0 ins ins
-looked_first ins = record { same = refl; received = refl; many = refl; none = λ i d lt. absurd (omega (arith, lt)); before = λ i d lt. absurd (omega (arith, lt)); rest = λ i d le. refl }
+looked_first ins = record {
+  same = refl;
+  received = refl;
+  many = refl;
+  none = λ i d lt. absurd (omega (arith, lt));
+  before =
+      λ i d lt. absurd (omega (arith, lt));
+  rest = λ i d le. refl;
+}
 
 -- one port more, with no item
-pub looked_next : (port : ℕ) (ins ins' ins'' : List inlet.Inlet) → LookedTo port ins ins' → in_ends ins'' ≡ in_ends ins' → received_in ins'' ≡ received_in ins' → length ins'' ≡ length ins'
-    → ((i : ℕ) (d : inlet.Inlet) → (port ≡ i → ⊥) → get_or ins'' i d ≡ get_or ins' i d) → ((d : inlet.Inlet) → known_of (get_or ins'' port d) ≡ []) → ((d : inlet.Inlet) → known_of (get_or ins' port d) ≡ []) → LookedTo (port + 1) ins ins''
+pub looked_next : (port : ℕ) (ins ins' ins'' : List inlet.Inlet) → LookedTo port ins ins' → in_ends ins'' ≡ in_ends ins' → received_in ins'' ≡ received_in ins'
+    → length ins'' ≡ length ins'
+    → ((i : ℕ) (d : inlet.Inlet) → (port ≡ i → ⊥) → get_or ins'' i d ≡ get_or ins' i d) → ((d : inlet.Inlet) → known_of (get_or ins'' port d) ≡ [])
+    → ((d : inlet.Inlet) → known_of (get_or ins' port d) ≡ []) → LookedTo (port + 1) ins ins''
 looked_next port ins ins' ins'' h s r m o z b = record {
   same = s ∙ h.same;
   received = r ∙ h.received;

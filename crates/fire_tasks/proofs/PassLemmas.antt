@@ -33,7 +33,12 @@ moved_second a b c m x y = let h = x.never_falls in let k = y.grew refl in moved
 pub moved_first : (a b c : ℕ) (m : Bool) → HasMoved a b m → HasMoved b c false → HasMoved a c m
 moved_first a b c m x y =
     let s = y.stayed refl in
-    record { never_falls = (let n = x.never_falls in omega (arith, n, s)); grew = λ t. (let n = x.grew t in omega (arith, n, s)); stayed = λ u. (let n = x.stayed u in omega (arith, n, s)) }
+    record {
+      never_falls = (let n = x.never_falls in omega (arith, n, s));
+      grew = λ t. (let n = x.grew t in omega (arith, n, s));
+      stayed =
+          λ u. (let n = x.stayed u in omega (arith, n, s));
+    }
 
 -- once it grew, whatever follows
 pub moved_more : (a b c : ℕ) → HasMoved a b true → (m : Bool) → HasMoved b c m → HasMoved a c true
@@ -45,18 +50,26 @@ other : {A : Type 0} (ls : List A) (i j : ℕ) (l d : A) → (i ≡ j → ⊥) �
 other ls i j l d ne = get_or-set_other ls i j l d (λ e. ne (sym e))
 
 -- nothing was pending
-pub none_sent : (os : List outlet.Outlet) (ls : List (List item.Item)) (port : ℕ) (l : List item.Item) → l ≡ get_or ls port l → l ≡ [] → port < length ls → SentAt port os ls os (set ls port l) false
+pub none_sent : (os : List outlet.Outlet) (ls : List (List item.Item)) (port : ℕ) (l : List item.Item) → l ≡ get_or ls port l → l ≡ [] → port < length ls
+    → SentAt port os ls os (set ls port l) false
 none_sent os ls port l e z lt =
     let same : set ls port l ≡ ls = set_same ls port l e in
     record {
-      sent = record { ends = refl; many = ap length same; given = λ j. ap (λ y. given_at os y j) same; number = moved_false (sent_count os) (sent_count os) refl };
+      sent = record {
+        ends = refl;
+        many = ap length same;
+        given = λ j. ap (λ y. given_at os y j) same;
+        number =
+            moved_false (sent_count os) (sent_count os) refl;
+      };
       lists = λ j ne. ap (λ y. list_at y j) same;
       others = λ j d ne. refl;
       stuck = λ f. inl (get_or-set_same ls port l [] lt ∙ z);
     }
 
 -- the front went
-pub one_sent : (os : List outlet.Outlet) (ls : List (List item.Item)) (port : ℕ) (x : outlet.Outlet) (l : List item.Item) (y : item.Item) → port < length os → port < length ls → out_ends (set os port x) ≡ out_ends os
+pub one_sent : (os : List outlet.Outlet) (ls : List (List item.Item)) (port : ℕ) (x : outlet.Outlet) (l : List item.Item) (y : item.Item) → port < length os
+    → port < length ls → out_ends (set os port x) ≡ out_ends os
     → get_or ls port l ≡ l ++ y ∷ [] → sent_of x ≡ sent_of (get_or os port x) ++ y ∷ [] → SentAt port os ls (set os port x) (set ls port l) true
 one_sent os ls port x l y lo ll e g s = record {
   sent = record {
@@ -71,7 +84,8 @@ one_sent os ls port x l y lo ll e g s = record {
 }
 
 -- the ring refused it
-pub refused_sent : (os : List outlet.Outlet) (ls : List (List item.Item)) (port : ℕ) (x : outlet.Outlet) (l back : List item.Item) → port < length os → out_ends (set os port x) ≡ out_ends os
+pub refused_sent : (os : List outlet.Outlet) (ls : List (List item.Item)) (port : ℕ) (x : outlet.Outlet) (l back : List item.Item) → port < length os
+    → out_ends (set os port x) ≡ out_ends os
     → back ≡ get_or ls port back → sent_of x ≡ sent_of (get_or os port x) → IsFull x → SentAt port os ls (set os port x) (set (set ls port l) port back) false
 refused_sent os ls port x l back lo e b s full =
     let same : set (set ls port l) port back ≡ ls = set_back ls port l back b in
@@ -91,12 +105,14 @@ refused_sent os ls port x l back lo e b s full =
 pub sent_first : (os : List outlet.Outlet) (ls : List (List item.Item)) → Sent os ls os ls false
 sent_first os ls = record { ends = refl; many = refl; given = λ j. refl; number = moved_false (sent_count os) (sent_count os) refl }
 
-sent_then : (os : List outlet.Outlet) (ls : List (List item.Item)) (os1 : List outlet.Outlet) (ls1 : List (List item.Item)) (os2 : List outlet.Outlet) (ls2 : List (List item.Item)) (m n k : Bool)
+sent_then : (os : List outlet.Outlet) (ls : List (List item.Item)) (os1 : List outlet.Outlet) (ls1 : List (List item.Item)) (os2 : List outlet.Outlet)
+    (ls2 : List (List item.Item)) (m n k : Bool)
     → Sent os ls os1 ls1 m → Sent os1 ls1 os2 ls2 n → HasMoved (sent_count os) (sent_count os2) k → Sent os ls os2 ls2 k
 sent_then os ls os1 ls1 os2 ls2 m n k a b h = record { ends = b.ends ∙ a.ends; many = b.many ∙ a.many; given = λ j. b.given j ∙ a.given j; number = h }
 
 -- the answer by its value
-pub at_is : (port : ℕ) (os : List outlet.Outlet) (ls : List (List item.Item)) (os1 : List outlet.Outlet) (ls1 : List (List item.Item)) (n : Bool) → SentAt port os ls os1 ls1 n → n ≡ true → SentAt port os ls os1 ls1 true
+pub at_is : (port : ℕ) (os : List outlet.Outlet) (ls : List (List item.Item)) (os1 : List outlet.Outlet) (ls1 : List (List item.Item)) (n : Bool)
+    → SentAt port os ls os1 ls1 n → n ≡ true → SentAt port os ls os1 ls1 true
 at_is port os ls os1 ls1 n a e = subst (λ k. SentAt port os ls os1 ls1 k) e a
 
 -- at one port, any number
@@ -113,7 +129,8 @@ pub goes_first : (port : ℕ) (os : List outlet.Outlet) (ls : List (List item.It
 goes_first port os ls = record { ends = refl; many = refl; given = λ j. refl; grows = omega arith; lists = λ j ne. refl; others = λ j d ne. refl }
 
 -- one item more, or none
-pub goes_next : (port : ℕ) (os : List outlet.Outlet) (ls : List (List item.Item)) (os1 : List outlet.Outlet) (ls1 : List (List item.Item)) (os2 : List outlet.Outlet) (ls2 : List (List item.Item)) (n : Bool)
+pub goes_next : (port : ℕ) (os : List outlet.Outlet) (ls : List (List item.Item)) (os1 : List outlet.Outlet) (ls1 : List (List item.Item))
+    (os2 : List outlet.Outlet) (ls2 : List (List item.Item)) (n : Bool)
     → Goes port os ls os1 ls1 → SentAt port os1 ls1 os2 ls2 n → Goes port os ls os2 ls2
 goes_next port os ls os1 ls1 os2 ls2 n a b = record {
   ends = b.sent.ends ∙ a.ends;
@@ -125,19 +142,27 @@ goes_next port os ls os1 ls1 os2 ls2 n a b = record {
 }
 
 -- behind the first item
-pub goes_after : (port : ℕ) (os : List outlet.Outlet) (ls : List (List item.Item)) (os1 : List outlet.Outlet) (ls1 : List (List item.Item)) (os2 : List outlet.Outlet) (ls2 : List (List item.Item)) (n : Bool)
+pub goes_after : (port : ℕ) (os : List outlet.Outlet) (ls : List (List item.Item)) (os1 : List outlet.Outlet) (ls1 : List (List item.Item))
+    (os2 : List outlet.Outlet) (ls2 : List (List item.Item)) (n : Bool)
     → SentAt port os ls os1 ls1 n → n ≡ true → Goes port os1 ls1 os2 ls2 → SentAt port os ls os2 ls2 true
 goes_after port os ls os1 ls1 os2 ls2 n a e b =
     let f = at_is port os ls os1 ls1 n a e in
     record {
-      sent = record { ends = b.ends ∙ f.sent.ends; many = b.many ∙ f.sent.many; given = λ j. b.given j ∙ f.sent.given j; number = let g = b.grows in let h = f.sent.number.grew refl in moved_true (sent_count os) (sent_count os2) (omega (arith, g, h)) };
+      sent = record {
+        ends = b.ends ∙ f.sent.ends;
+        many = b.many ∙ f.sent.many;
+        given = λ j. b.given j
+            ∙ f.sent.given j;
+        number = let g = b.grows in let h = f.sent.number.grew refl in moved_true (sent_count os) (sent_count os2) (omega (arith, g, h));
+      };
       lists = λ j ne. b.lists j ne ∙ f.lists j ne;
       others = λ j d ne. b.others j d ne ∙ f.others j d ne;
       stuck = λ u. absurd (cc u);
     }
 
 -- port by port
-pub record SentTo (port : ℕ) (os : List outlet.Outlet) (ls : List (List item.Item)) (os' : List outlet.Outlet) (ls' : List (List item.Item)) (moved : Bool) : Type 0 where
+pub record SentTo (port : ℕ) (os : List outlet.Outlet) (ls : List (List item.Item)) (os' : List outlet.Outlet) (ls' : List (List item.Item))
+    (moved : Bool) : Type 0 where
   pub sent : Sent os ls os' ls' moved
   pub stuck : IsFalse moved → (j : ℕ) → j < port → IsHeldBack j os' ls'
 
@@ -146,18 +171,22 @@ pub to_first : (os : List outlet.Outlet) (ls : List (List item.Item)) → SentTo
 to_first os ls = record { sent = sent_first os ls; stuck = λ f j lt. absurd (omega (arith, lt)) }
 
 -- a port that sent
-pub to_moved : (port : ℕ) (os : List outlet.Outlet) (ls : List (List item.Item)) (os1 : List outlet.Outlet) (ls1 : List (List item.Item)) (os2 : List outlet.Outlet) (ls2 : List (List item.Item)) (m n : Bool)
+pub to_moved : (port : ℕ) (os : List outlet.Outlet) (ls : List (List item.Item)) (os1 : List outlet.Outlet) (ls1 : List (List item.Item))
+    (os2 : List outlet.Outlet) (ls2 : List (List item.Item)) (m n : Bool)
     → SentTo port os ls os1 ls1 m → SentAt port os1 ls1 os2 ls2 n → n ≡ true → SentTo (port + 1) os ls os2 ls2 true
 to_moved port os ls os1 ls1 os2 ls2 m n a b e = record {
-  sent = sent_then os ls os1 ls1 os2 ls2 m n true a.sent b.sent (moved_second (sent_count os) (sent_count os1) (sent_count os2) m a.sent.number (subst (HasMoved (sent_count os1) (sent_count os2)) e b.sent.number));
+  sent = sent_then os ls os1 ls1 os2 ls2 m n true a.sent b.sent
+      (moved_second (sent_count os) (sent_count os1) (sent_count os2) m a.sent.number (subst (HasMoved (sent_count os1) (sent_count os2)) e b.sent.number));
   stuck = λ f. absurd (cc f);
 }
 
 -- a port that did not
-pub to_still : (port : ℕ) (os : List outlet.Outlet) (ls : List (List item.Item)) (os1 : List outlet.Outlet) (ls1 : List (List item.Item)) (os2 : List outlet.Outlet) (ls2 : List (List item.Item)) (m n : Bool)
+pub to_still : (port : ℕ) (os : List outlet.Outlet) (ls : List (List item.Item)) (os1 : List outlet.Outlet) (ls1 : List (List item.Item))
+    (os2 : List outlet.Outlet) (ls2 : List (List item.Item)) (m n : Bool)
     → SentTo port os ls os1 ls1 m → SentAt port os1 ls1 os2 ls2 n → n ≡ false → SentTo (port + 1) os ls os2 ls2 m
 to_still port os ls os1 ls1 os2 ls2 m n a b e = record {
-  sent = sent_then os ls os1 ls1 os2 ls2 m n m a.sent b.sent (moved_first (sent_count os) (sent_count os1) (sent_count os2) m a.sent.number (subst (HasMoved (sent_count os1) (sent_count os2)) e b.sent.number));
+  sent = sent_then os ls os1 ls1 os2 ls2 m n m a.sent b.sent
+      (moved_first (sent_count os) (sent_count os1) (sent_count os2) m a.sent.number (subst (HasMoved (sent_count os1) (sent_count os2)) e b.sent.number));
   stuck = λ f j lt. ⊎_elim
       (λ l.
       let ne : (port ≡ j → ⊥) = λ q. omega (arith, l, q) in
@@ -175,7 +204,8 @@ beyond_none (l ∷ ls) zero le = absurd (omega (arith, le))
 beyond_none (l ∷ ls) (suc j) le = beyond_none ls j (omega (arith, le))
 
 -- all ports
-pub to_all : (port : ℕ) (os : List outlet.Outlet) (ls : List (List item.Item)) (os' : List outlet.Outlet) (ls' : List (List item.Item)) (moved : Bool) → SentTo port os ls os' ls' moved → length ls ≤ port
+pub to_all : (port : ℕ) (os : List outlet.Outlet) (ls : List (List item.Item)) (os' : List outlet.Outlet) (ls' : List (List item.Item)) (moved : Bool)
+    → SentTo port os ls os' ls' moved → length ls ≤ port
     → IsFalse moved → RefusedAll os' ls'
 to_all port os ls os' ls' moved a le f j = ⊎_elim
     (λ lt. a.stuck f j lt)
@@ -246,4 +276,9 @@ pub turn_sent : (t : Task) (os : List outlet.Outlet) (ls : List (List item.Item)
 turn_sent t os ls m ins s r =
     let e = count_same ins t.ins r in
     let h = s.number in
-    record { never_falls = (let n = h.never_falls in omega (arith, e, n)); grew = λ x. (let n = h.grew x in omega (arith, e, n)); stayed = λ x. (let n = h.stayed x in omega (arith, e, n)) }
+    record {
+      never_falls = (let n = h.never_falls in omega (arith, e, n));
+      grew = λ x. (let n = h.grew x in omega (arith, e, n));
+      stayed =
+          λ x. (let n = h.stayed x in omega (arith, e, n));
+    }

@@ -37,19 +37,22 @@ received_same (y ∷ ys) zero x e = ap (λ l. l ∷ received_in ys) e
 received_same (y ∷ ys) (suc i) x e = ap (λ l. received_of y ∷ l) (received_same ys i x e)
 
 -- an end that received more
-pub received_more : (xs : List inlet.Inlet) (i : ℕ) (x : inlet.Inlet) (more : List item.Item) → i < length xs → received_of x ≡ received_of (get_or xs i x) ++ more → received_in (set xs i x) ≡ append_at (received_in xs) i more
+pub received_more : (xs : List inlet.Inlet) (i : ℕ) (x : inlet.Inlet) (more : List item.Item) → i < length xs
+    → received_of x ≡ received_of (get_or xs i x) ++ more → received_in (set xs i x) ≡ append_at (received_in xs) i more
 received_more [] i x more lt e = refl
 received_more (y ∷ ys) zero x more lt e = ap (λ l. l ∷ received_in ys) e
 received_more (y ∷ ys) (suc i) x more lt e = ap (λ l. received_of y ∷ l) (received_more ys i x more (omega (arith, lt)) e)
 
 -- where one outlet has sent one item more, one more was sent in all
-pub sent_more : (xs : List outlet.Outlet) (i : ℕ) (x : outlet.Outlet) (y : item.Item) → i < length xs → sent_of x ≡ sent_of (get_or xs i x) ++ y ∷ [] → sent_count (set xs i x) ≡ sent_count xs + 1
+pub sent_more : (xs : List outlet.Outlet) (i : ℕ) (x : outlet.Outlet) (y : item.Item) → i < length xs → sent_of x ≡ sent_of (get_or xs i x) ++ y ∷ []
+    → sent_count (set xs i x) ≡ sent_count xs + 1
 sent_more [] i x y lt e = absurd (omega (arith, lt))
 sent_more (o ∷ os) zero x y lt e = let a = ap length e in let b = length-append (sent_of o) (y ∷ []) in omega (arith, a, b)
 sent_more (o ∷ os) (suc i) x y lt e = let h = sent_more os i x y (omega (arith, lt)) e in omega (arith, h)
 
 -- the front of what is pending moved
-pub given_moved : (xs : List outlet.Outlet) (ls : List (List item.Item)) (i : ℕ) (x : outlet.Outlet) (l : List item.Item) (y : item.Item) → i < length xs → i < length ls → get_or ls i l ≡ l ++ y ∷ [] → sent_of x ≡ sent_of (get_or xs i x) ++ y ∷ []
+pub given_moved : (xs : List outlet.Outlet) (ls : List (List item.Item)) (i : ℕ) (x : outlet.Outlet) (l : List item.Item) (y : item.Item) → i < length xs
+    → i < length ls → get_or ls i l ≡ l ++ y ∷ [] → sent_of x ≡ sent_of (get_or xs i x) ++ y ∷ []
     → (j : ℕ) → given_at (set xs i x) (set ls i l) j ≡ given_at xs ls j
 given_moved [] ls i x l y lt lt' e s j = absurd (omega (arith, lt))
 given_moved (o ∷ os) [] i x l y lt lt' e s j = absurd (omega (arith, lt'))
@@ -60,7 +63,8 @@ given_moved (o ∷ os) (m ∷ ls) (suc i) x l y lt lt' e s zero = refl
 given_moved (o ∷ os) (m ∷ ls) (suc i) x l y lt lt' e s (suc j) = given_moved os ls i x l y (omega (arith, lt)) (omega (arith, lt')) e s j
 
 -- nothing moved
-pub given_stays : (xs : List outlet.Outlet) (ls : List (List item.Item)) (i : ℕ) (x : outlet.Outlet) (l : List item.Item) → i < length xs → i < length ls → l ≡ get_or ls i l → sent_of x ≡ sent_of (get_or xs i x)
+pub given_stays : (xs : List outlet.Outlet) (ls : List (List item.Item)) (i : ℕ) (x : outlet.Outlet) (l : List item.Item) → i < length xs → i < length ls
+    → l ≡ get_or ls i l → sent_of x ≡ sent_of (get_or xs i x)
     → (j : ℕ) → given_at (set xs i x) (set ls i l) j ≡ given_at xs ls j
 given_stays [] ls i x l lt lt' e s j = absurd (omega (arith, lt))
 given_stays (o ∷ os) [] i x l lt lt' e s j = absurd (omega (arith, lt'))
@@ -115,7 +119,8 @@ count_same (x ∷ xs) (y ∷ ys) e =
     omega (arith, a, i)
 
 -- one more was received
-pub count_more : (xs ys : List inlet.Inlet) (port : ℕ) (x : item.Item) → port < length xs → received_in ys ≡ append_at (received_in xs) port (x ∷ []) → received_count ys ≡ received_count xs + 1
+pub count_more : (xs ys : List inlet.Inlet) (port : ℕ) (x : item.Item) → port < length xs → received_in ys ≡ append_at (received_in xs) port (x ∷ [])
+    → received_count ys ≡ received_count xs + 1
 count_more [] ys port x lt e = absurd (omega (arith, lt))
 count_more (a ∷ xs) [] zero x lt e = absurd (cc e)
 count_more (a ∷ xs) [] (suc port) x lt e = absurd (cc e)

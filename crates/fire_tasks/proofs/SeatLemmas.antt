@@ -33,8 +33,10 @@ turned more (x ∷ xs) =
 -- entries of an operator whose part the seat has belong to it
 pub own_belongs : (n o : ℕ) (parts : List ℕ) (es : List LogEntry) → StandsIn (o % n) parts → All (λ e. e.op ≡ o) es → Belong n parts es
 own_belongs n o parts [] h a = tt
-own_belongs n o parts (e ∷ es) h a =
-    (subst (λ k. StandsIn (k % n) parts) (sym (All-head (λ (x : LogEntry). x.op ≡ o) e es a)) h, own_belongs n o parts es h (All-tail (λ (x : LogEntry). x.op ≡ o) e es a))
+own_belongs n o parts (e ∷ es) h a = (
+  subst (λ k. StandsIn (k % n) parts) (sym (All-head (λ (x : LogEntry). x.op ≡ o) e es a)) h,
+  own_belongs n o parts es h (All-tail (λ (x : LogEntry). x.op ≡ o) e es a),
+)
 
 belongs-append : (n : ℕ) (parts : List ℕ) (xs ys : List LogEntry) → Belong n parts xs → Belong n parts ys → Belong n parts (xs ++ ys)
 belongs-append n parts [] ys h g = g
@@ -80,12 +82,14 @@ module _ (n : ℕ) (parts : List ℕ) (more : ℕ → List LogEntry) where
   claimed_one : (p : Piled) (ps : List Piled) (h : Held) (hs : List Held) → HasGained n parts h.taken p.1 → gained (p ∷ ps) (h ∷ hs) ≡ []
       → drop (length h.taken.log) (p.1.log ++ more p.0) ≡ more p.0
   claimed_one p ps h hs g e =
-      let none : g.more ≡ [] = sym (drop_front h.taken.log g.more) ∙ ap (drop (length h.taken.log)) (sym g.log) ∙ (no_claims p.0 (drop (length h.taken.log) p.1.log) (gained ps hs) e).0 in
+      let none : g.more ≡ [] = sym (drop_front h.taken.log g.more) ∙ ap (drop (length h.taken.log)) (sym g.log)
+      ∙ (no_claims p.0 (drop (length h.taken.log) p.1.log) (gained ps hs) e).0 in
       let log : p.1.log ≡ h.taken.log = g.log ∙ ap (λ (l : List LogEntry). h.taken.log ++ l) none ∙ append-nil h.taken.log in
       ap (λ (l : List LogEntry). drop (length h.taken.log) (l ++ more p.0)) log ∙ drop_front h.taken.log (more p.0)
 
   -- all classes are below c: nothing is claimed there
-  claimed_past : (k c m : ℕ) (ps : List Piled) (hs : List Held) → m ≤ c → AllBelow m hs → Matches n parts ps hs → own n k c (gained (pile_grown more ps) hs) ≡ []
+  claimed_past : (k c m : ℕ) (ps : List Piled) (hs : List Held) → m ≤ c → AllBelow m hs → Matches n parts ps hs
+      → own n k c (gained (pile_grown more ps) hs) ≡ []
   claimed_past k c m [] hs le b ma = refl
   claimed_past k c m (p ∷ ps) [] le b ma = refl
   claimed_past k c m (p ∷ ps) (h ∷ hs) le b ma =
@@ -122,7 +126,8 @@ module _ (n : ℕ) (parts : List ℕ) (more : ℕ → List LogEntry) where
       (cases_eq p.0 c)
 
 -- the same of each claim
-claims_right : (P : ℕ → LogEntry → Type 0) (more : ℕ → List LogEntry) (n : ℕ) (parts : List ℕ) (ps : List Piled) (hs : List Held) → Matches n parts ps hs → gained ps hs ≡ []
+claims_right : (P : ℕ → LogEntry → Type 0) (more : ℕ → List LogEntry) (n : ℕ) (parts : List ℕ) (ps : List Piled) (hs : List Held) → Matches n parts ps hs
+    → gained ps hs ≡ []
     → ((c : ℕ) → All (P c) (more c)) → All (λ (q : Claim). P q.class q.entry) (gained (pile_grown more ps) hs)
 claims_right P more n parts [] hs ma g a = All-nil (λ (q : Claim). P q.class q.entry)
 claims_right P more n parts (p ∷ ps) [] ma g a = absurd ma
@@ -134,7 +139,9 @@ claims_right P more n parts (p ∷ ps) (h ∷ hs) ma g a =
   where
     as_claims : (c : ℕ) (es : List LogEntry) → All (P c) es → All (λ (q : Claim). P q.class q.entry) (claims_of c es)
     as_claims c [] x = All-nil (λ (q : Claim). P q.class q.entry)
-    as_claims c (e ∷ es) x = All-cons (λ (q : Claim). P q.class q.entry) (record { class = c; entry = e }) (claims_of c es) (All-head (P c) e es x) (as_claims c es (All-tail (P c) e es x))
+    as_claims c (e ∷ es) x =
+        All-cons (λ (q : Claim). P q.class q.entry) (record { class = c; entry = e }) (claims_of c es) (All-head (P c) e es x)
+        (as_claims c es (All-tail (P c) e es x))
 
 -- THROUGH A TAKE AND A PUT OF ALL CLASSES
 
@@ -144,15 +151,18 @@ turned_all P xs h = subst (All P) (reverse-reverse xs) (turn (reverse xs) h)
   where
     turn : (ys : List Piled) → All P ys → All P (reverse ys)
     turn [] a = All-nil P
-    turn (y ∷ ys) a = subst (All P) (sym (reverse-append (y ∷ []) ys)) (All-append P (reverse ys) (y ∷ []) (turn ys (All-tail P y ys a)) (All-cons P y [] (All-head P y ys a) (All-nil P)))
+    turn (y ∷ ys) a = subst (All P) (sym (reverse-append (y ∷ []) ys))
+        (All-append P (reverse ys) (y ∷ []) (turn ys (All-tail P y ys a)) (All-cons P y [] (All-head P y ys a) (All-nil P)))
 
-module _ (v u w : View) (classes : List ℕ) (pile pile' : List Piled) (more : ℕ → List LogEntry) (t : HasTaken classes v u pile) (e : pile' ≡ pile_grown more pile) (put : HasPut u w pile') where
+module _ (v u w : View) (classes : List ℕ) (pile pile' : List Piled) (more : ℕ → List LogEntry) (t : HasTaken classes v u pile)
+    (e : pile' ≡ pile_grown more pile) (put : HasPut u w pile') where
   -- where the classes were taken and put, the seat is of the same round
   pub same_round : SameRound v w
   same_round = record { seats = put.seats ∙ t.looked.seats; starts = put.starts ∙ t.looked.starts; parts = put.parts ∙ t.looked.parts }
 
   came : w.claims ≡ v.claims ++ gained (pile_grown more (reverse pile)) u.held
-  came = put.claims ∙ ap (λ (l : List Claim). l ++ gained (reverse pile') u.held) t.looked.claims ∙ ap (λ (l : List Piled). v.claims ++ gained l u.held) (ap reverse e ∙ turned more pile)
+  came = put.claims ∙ ap (λ (l : List Claim). l ++ gained (reverse pile') u.held) t.looked.claims
+      ∙ ap (λ (l : List Piled). v.claims ++ gained l u.held) (ap reverse e ∙ turned more pile)
 
   -- each own list has the part of what the cell of its class has more
   pub own_grew : ((c : ℕ) → ((i : ℕ) (x : Piled) → slice_get pile i ≡ Some x → x.0 ≢ c) → more c ≡ []) → (k c : ℕ)
@@ -192,7 +202,8 @@ module _ (v u w : View) (classes : List ℕ) (pile pile' : List Piled) (more : �
 pub part_own : (n o : ℕ) (es : List LogEntry) → All (λ e. e.op ≡ o) es → part n (o % n) es ≡ es
 part_own n o [] h = refl
 part_own n o (e ∷ es) h =
-    ap (λ (b : Bool). cond b (e ∷ part n (o % n) es) (part n (o % n) es)) (eq-eqb (e.op % n) (o % n) (ap (λ (k : ℕ). k % n) (All-head (λ (x : LogEntry). x.op ≡ o) e es h)))
+    ap (λ (b : Bool). cond b (e ∷ part n (o % n) es) (part n (o % n) es))
+    (eq-eqb (e.op % n) (o % n) (ap (λ (k : ℕ). k % n) (All-head (λ (x : LogEntry). x.op ≡ o) e es h)))
     ∙ ap (λ (l : List LogEntry). e ∷ l) (part_own n o es (All-tail (λ (x : LogEntry). x.op ≡ o) e es h))
 
 -- the part of some entries has only what they have

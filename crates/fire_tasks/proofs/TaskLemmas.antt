@@ -120,7 +120,8 @@ module _ (p : PlanForm) (v : IsPlan p) (t : Task) (adds : ℕ → List (List ℤ
 
   -- the declaration of the table at a port
   pub table_there : (j : ℕ) (h : TablePort) → slice_get t.tables j ≡ Some h
-      → (d : TableDecl) × (slice_get p.tables h.table ≡ Some d) × (slice_get (widths_in (map (var_kind p.tables p.vars) k.op.vars)) j ≡ Some (table_width d.kind))
+      → (d : TableDecl) × (slice_get p.tables h.table ≡ Some d) ×
+      (slice_get (widths_in (map (var_kind p.tables p.vars) k.op.vars)) j ≡ Some (table_width d.kind))
   table_there j h g =
       let names = table_names p.tables in
       let mine = tables_of names k.op in
@@ -136,9 +137,11 @@ module _ (p : PlanForm) (v : IsPlan p) (t : Task) (adds : ℕ → List (List ℤ
   pub owes_none : Owes p adds t
   owes_none =
       let none : (j : ℕ) → list_at t.out.adds j ≡ [] = λ j. ap (λ l. list_at l j) k.blank.adds ∙ blank_at (tabs k.op.kernel) j in
-      let same : replicate (length t.out.adds) [] ≡ t.out.adds = ap (λ n. replicate n []) (ap length k.blank.adds ∙ length-replicate (tabs k.op.kernel) []) ∙ sym k.blank.adds in
+      let same : replicate (length t.out.adds) [] ≡ t.out.adds = ap (λ n. replicate n []) (ap length k.blank.adds ∙ length-replicate (tabs k.op.kernel) [])
+      ∙ sym k.blank.adds in
       record {
-        task = subst (λ (a : List (List (List ℤ))). IsTask p (λ j. adds j ++ list_at t.out.adds j) (record t { out = record { outs = t.out.outs; adds = a } })) (sym same)
+        task = subst (λ (a : List (List (List ℤ))). IsTask p (λ j. adds j ++ list_at t.out.adds j) (record t { out = record { outs = t.out.outs; adds = a } }))
+            (sym same)
             (with_adds p adds (λ j. adds j ++ list_at t.out.adds j) t k (λ j lt. ap (λ l. adds j ++ l) (none j) ∙ append-nil (adds j)));
         many = ap length k.blank.adds ∙ length-replicate (tabs k.op.kernel) [] ∙ sym tables_many;
         rows = record {
@@ -180,7 +183,8 @@ module _ (p : PlanForm) (v : IsPlan p) (t : Task) (adds : ℕ → List (List ℤ
   old_received i = k.fired.received i ∙ ap (λ o. at_port i k.word ++ bad_at i o) fine ∙ append-nil (at_port i k.word)
 
   -- with a word that is longer by a firing
-  longer : (ins : List inlet.Inlet) (port : ℕ) (x : item.Item) → received ins port x → port < length t.ins → (i : ℕ) → list_at (received_in ins) i ≡ at_port i (k.word ++ (port, x) ∷ [])
+  longer : (ins : List inlet.Inlet) (port : ℕ) (x : item.Item) → received ins port x → port < length t.ins → (i : ℕ)
+      → list_at (received_in ins) i ≡ at_port i (k.word ++ (port, x) ∷ [])
   longer ins port x e lt i = ap (λ l. list_at l i) e ∙ ⊎_elim
       (λ h. subst (λ n. list_at (append_at (received_in t.ins) port (x ∷ [])) n ≡ at_port n (k.word ++ (port, x) ∷ [])) h
       (append_there (received_in t.ins) port (x ∷ []) (let l = length-map t.ins received_of in omega (arith, l, lt))
@@ -209,7 +213,11 @@ module _ (p : PlanForm) (v : IsPlan p) (t : Task) (adds : ℕ → List (List ℤ
           (λ h. at_port_here i (port, x) [] h ∙ sym (if_eq port i (x ∷ []) [] h))
           (λ ne. at_port_past i (port, x) [] ne ∙ sym (if_ne port i (x ∷ []) [] ne))
           (cases_eq port i));
-      bad = (let i = k.ins in let m = length-map k.op.reads (kind_of (all_decls p)) in omega (arith, i, m, lt), λ h. misfit (subst (λ l. IsHeldOf l port x) (sym k.kinds) h));
+      bad = (
+        let i = k.ins in let m =
+            length-map k.op.reads (kind_of (all_decls p)) in omega (arith, i, m, lt),
+        λ h. misfit (subst (λ l. IsHeldOf l port x) (sym k.kinds) h),
+      );
       held = k.fired.held;
       given = λ w a h. let g = k.fired.given w a h in record { outs = g.outs; adds_are = g.adds_are };
     };
@@ -218,7 +226,8 @@ module _ (p : PlanForm) (v : IsPlan p) (t : Task) (adds : ℕ → List (List ℤ
 
   -- a firing: the task owes the rows that came
   pub took_task : (ins : List inlet.Inlet) (port : ℕ) (x : item.Item) (st : List State) (out blank : Emit) (pending : List (List item.Item)) (n : ℕ)
-      → received ins port x → length ins ≡ length t.ins → port < length t.ins → IsHeldOf t.kinds port x → IsIdle t.pending → FiredOp p t.op port x t.states st out
+      → received ins port x → length ins ≡ length t.ins → port < length t.ins → IsHeldOf t.kinds port x → IsIdle t.pending
+      → FiredOp p t.op port x t.states st out
       → pending ≡ map reverse out.outs → blank.outs ≡ t.pending → blank.adds ≡ replicate (length out.adds) [] → n ≡ min most_firings (t.count + 1)
       → IsTask p (λ j. adds j ++ list_at out.adds j) (record t { ins = ins; states = st; pending = pending; out = blank; count = n })
   took_task ins port x st out blank pending n e l lt i idle f ep eb ebr en =
@@ -231,11 +240,17 @@ module _ (p : PlanForm) (v : IsPlan p) (t : Task) (adds : ℕ → List (List ℤ
       let c = counts op.kernel _ _ _ fits in
       let nw = length-map op.writes (kind_of (all_decls p)) in
       let is_start : IsStart op.kernel (kinds_in p op) (first_kept op.kernel) = first_is_start op.kernel (kinds_in p op) (shaped op.kernel _ _ _ fits) in
-      let outs_are : out.outs ≡ each_grew (replicate (outs op.kernel) []) came.outs = came.outs_are ∙ ap (λ ls. each_grew ls came.outs) fired_is.is_blank.outs in
-      let adds_are : out.adds ≡ each_grew (replicate (tabs op.kernel) []) came.adds = came.adds_are ∙ ap (λ ls. each_grew ls came.adds) fired_is.is_blank.adds in
-      let outs_many : length out.outs ≡ outs op.kernel = ap length outs_are ∙ length-each_grew (replicate (outs op.kernel) []) came.outs ∙ length-replicate (outs op.kernel) [] in
-      let adds_many : length out.adds ≡ tabs op.kernel = ap length adds_are ∙ length-each_grew (replicate (tabs op.kernel) []) came.adds ∙ length-replicate (tabs op.kernel) [] in
-      let pending_is : (j : ℕ) → list_at (pending_in pending) j ≡ list_at out.outs j = (λ j. ap (λ ls. list_at (map reverse ls) j) ep ∙ ap (λ ls. list_at ls j) (turn_twice out.outs)) in
+      let outs_are : out.outs ≡ each_grew (replicate (outs op.kernel) []) came.outs = came.outs_are
+      ∙ ap (λ ls. each_grew ls came.outs) fired_is.is_blank.outs in
+      let adds_are : out.adds ≡ each_grew (replicate (tabs op.kernel) []) came.adds = came.adds_are
+      ∙ ap (λ ls. each_grew ls came.adds) fired_is.is_blank.adds in
+      let outs_many : length out.outs ≡ outs op.kernel = ap length outs_are ∙ length-each_grew (replicate (outs op.kernel) []) came.outs
+      ∙ length-replicate (outs op.kernel) [] in
+      let adds_many : length out.adds ≡ tabs op.kernel = ap length adds_are ∙ length-each_grew (replicate (tabs op.kernel) []) came.adds
+      ∙ length-replicate (tabs op.kernel) [] in
+      let pending_is : (j : ℕ)
+      → list_at (pending_in pending) j ≡ list_at out.outs j =
+      (λ j. ap (λ ls. list_at (map reverse ls) j) ep ∙ ap (λ ls. list_at ls j) (turn_twice out.outs)) in
       let old_idle : (j : ℕ) → list_at (pending_in t.pending) j ≡ [] = (λ j. turned_idle t.pending idle j) in
       record {
         op = op;
@@ -253,10 +268,13 @@ module _ (p : PlanForm) (v : IsPlan p) (t : Task) (adds : ℕ → List (List ℤ
         count = one_count most_firings n t.count (length k.word) (length (k.word ++ (port, x) ∷ [])) en k.count (length-append k.word ((port, x) ∷ []));
         fired = record {
           below = below-append (length op.reads) k.word ((port, x) ∷ []) k.fired.below (let n = k.ins in omega (arith, n, lt), tt);
-          received = λ n. longer ins port x e lt n ∙ sym (ap (λ o. at_port n (k.word ++ (port, x) ∷ []) ++ bad_at n o) fine ∙ append-nil (at_port n (k.word ++ (port, x) ∷ [])));
+          received = λ n. longer ins port x e lt n
+              ∙ sym (ap (λ o. at_port n (k.word ++ (port, x) ∷ []) ++ bad_at n o) fine ∙ append-nil (at_port n (k.word ++ (port, x) ∷ [])));
           bad = k.fired.bad;
           held = λ j.
-              let was : All (IsHeldOf (kinds_out p op) j) (list_at (sent_in t.outs) j) = subst (All (IsHeldOf (kinds_out p op) j)) (ap (λ y. list_at (sent_in t.outs) j ++ y) (old_idle j) ∙ append-nil (list_at (sent_in t.outs) j)) (k.fired.held j) in
+              let was : All (IsHeldOf (kinds_out p op) j) (list_at (sent_in t.outs) j) =
+              subst (All (IsHeldOf (kinds_out p op) j)) (ap (λ y. list_at (sent_in t.outs) j ++ y) (old_idle j) ∙ append-nil (list_at (sent_in t.outs) j))
+              (k.fired.held j) in
               All-append (IsHeldOf (kinds_out p op) j) (list_at (sent_in t.outs) j) (list_at (pending_in pending) j) was
               (subst (All (IsHeldOf (kinds_out p op) j)) (sym (pending_is j)) (grown_held (outs op.kernel) came.outs out.outs j outs_are (came.held j)));
           given = λ w a h.
@@ -266,15 +284,19 @@ module _ (p : PlanForm) (v : IsPlan p) (t : Task) (adds : ℕ → List (List ℤ
               let r = fire op.kernel port n.item before.states in
               let more = ran_more op.kernel (first_kept op.kernel) n.before port n.item in
               let gave = k.fired.given n.before n.typed n.held in
-              let new_outs : out.outs ≡ each_grew (replicate (outs op.kernel) []) (λ j. held_at (kinds_out p op) j (before.outs j) (r.outs j)) = g.0.outs ∙ ap (λ ls. each_grew ls (λ j. held_at (kinds_out p op) j (before.outs j) (r.outs j))) fired_is.is_blank.outs in
+              let new_outs : out.outs ≡ each_grew (replicate (outs op.kernel) []) (λ j. held_at (kinds_out p op) j (before.outs j) (r.outs j)) = g.0.outs
+              ∙ ap (λ ls. each_grew ls (λ j. held_at (kinds_out p op) j (before.outs j) (r.outs j))) fired_is.is_blank.outs in
               let new_adds : out.adds ≡ each_grew (replicate (tabs op.kernel) []) r.adds = g.0.adds ∙ ap (λ ls. each_grew ls r.adds) fired_is.is_blank.adds in
               record {
                 outs = λ j lj.
                     let co = c.outs in
                     let lj' : j < outs op.kernel = omega (arith, lj, co, nw) in
-                    let old : list_at (sent_in t.outs) j ≡ held_at (kinds_out p op) j [] (before.outs j) = sym (append-nil (list_at (sent_in t.outs) j)) ∙ ap (λ y. list_at (sent_in t.outs) j ++ y) (sym (old_idle j)) ∙ gave.outs j lj in
+                    let old : list_at (sent_in t.outs) j ≡ held_at (kinds_out p op) j [] (before.outs j) = sym (append-nil (list_at (sent_in t.outs) j))
+                    ∙ ap (λ y. list_at (sent_in t.outs) j ++ y) (sym (old_idle j)) ∙ gave.outs j lj in
                     ap (λ y. y ++ list_at (pending_in pending) j) old
-                    ∙ ap (λ y. held_at (kinds_out p op) j [] (before.outs j) ++ y) (pending_is j ∙ ap (λ ls. list_at ls j) new_outs ∙ each_grew-blanks (outs op.kernel) (λ m. held_at (kinds_out p op) m (before.outs m) (r.outs m)) j [] lj')
+                    ∙ ap (λ y. held_at (kinds_out p op) j [] (before.outs j) ++ y)
+                    (pending_is j ∙ ap (λ ls. list_at ls j) new_outs
+                    ∙ each_grew-blanks (outs op.kernel) (λ m. held_at (kinds_out p op) m (before.outs m) (r.outs m)) j [] lj')
                     ∙ sym (at-append (kinds_out p op) j [] (before.outs j) (r.outs j))
                     ∙ ap (held_at (kinds_out p op) j []) (sym (more.outs j) ∙ ap (λ u. (ran op u).outs j) (sym n.splits));
                 adds_are = λ j lj.
@@ -302,10 +324,12 @@ module _ (p : PlanForm) (v : IsPlan p) (t : Task) (adds : ℕ → List (List ℤ
       all_empty [] h = refl
       all_empty (m ∷ ls) h = ap (λ y. y ∷ ls) (h 0) ∙ ap (λ ys. [] ∷ ys) (all_empty ls (λ n. h (suc n)))
 
-      grown_held : (n : ℕ) (f : ℕ → List item.Item) (ls : List (List item.Item)) (j : ℕ) → ls ≡ each_grew (replicate n []) f → All (IsHeldOf (kinds_out p k.op) j) (f j) → All (IsHeldOf (kinds_out p k.op) j) (list_at ls j)
+      grown_held : (n : ℕ) (f : ℕ → List item.Item) (ls : List (List item.Item)) (j : ℕ) → ls ≡ each_grew (replicate n []) f
+          → All (IsHeldOf (kinds_out p k.op) j) (f j) → All (IsHeldOf (kinds_out p k.op) j) (list_at ls j)
       grown_held n f ls j e h = ⊎_elim
           (λ lj. subst (All (IsHeldOf (kinds_out p k.op) j)) (sym (ap (λ l. list_at l j) e ∙ each_grew-blanks n f j [] lj)) h)
-          (λ ge. subst (All (IsHeldOf (kinds_out p k.op) j)) (sym (ap (λ l. list_at l j) e ∙ beyond_blank n f j (omega (arith, ge)))) (All-nil (IsHeldOf (kinds_out p k.op) j)))
+          (λ ge. subst (All (IsHeldOf (kinds_out p k.op) j)) (sym (ap (λ l. list_at l j) e ∙ beyond_blank n f j (omega (arith, ge))))
+          (All-nil (IsHeldOf (kinds_out p k.op) j)))
           (cases_lt j n)
 
 -- the rows of a firing are for the operator's tables
@@ -328,7 +352,9 @@ module _ (p : PlanForm) (v : IsPlan p) (t : Task) (adds : ℕ → List (List ℤ
             let d = table_there p v t adds k j h g in
             let lt = slice_get_within t.tables j h g in
             let m = tables_many p v t adds k in
-            let given : list_at out.adds j ≡ came.adds j = ap (λ (l : List (List (List ℤ))). list_at l j) (came.adds_are ∙ ap (λ l. each_grew l came.adds) c.is_blank.adds) ∙ each_grew-blanks (tabs op.kernel) came.adds j [] (omega (arith, lt, m)) in (
+            let given : list_at out.adds j ≡ came.adds j =
+            ap (λ (l : List (List (List ℤ))). list_at l j) (came.adds_are ∙ ap (λ l. each_grew l came.adds) c.is_blank.adds)
+            ∙ each_grew-blanks (tabs op.kernel) came.adds j [] (omega (arith, lt, m)) in (
               d.0,
               d.1,
               subst (λ (l : List (List ℤ)). All (λ row. length row ≡ table_width d.0.kind) l) (sym given)
@@ -355,13 +381,16 @@ bad_fired p v t fine ins port x e r lt misfit = record {
 -- a firing, whose outputs are pending and whose rows are owed
 pub took_fired : (p : PlanForm) → IsPlan p → (t : Task) → t.bad ≡ None → (ins : List inlet.Inlet) (port : ℕ) (x : item.Item) (st : List State) (out : Emit)
     (pending blanks : List (List item.Item)) (spare : Spare) (n : ℕ) → in_ends ins ≡ in_ends t.ins
-    → received_in ins ≡ append_at (received_in t.ins) port (x ∷ []) → port < length t.ins → IsHeldOf t.kinds port x → IsIdle t.pending → FiredOp p t.op port x t.states st out
+    → received_in ins ≡ append_at (received_in t.ins) port (x ∷ []) → port < length t.ins → IsHeldOf t.kinds port x → IsIdle t.pending
+    → FiredOp p t.op port x t.states st out
     → pending ≡ map reverse out.outs → blanks ≡ t.pending → n ≡ min most_firings (t.count + 1)
     → HasFiredAt p t (record t { ins = ins; states = st; pending = pending; out = record { outs = blanks; adds = out.adds }; spare = spare; count = n })
 took_fired p v t fine ins port x st out pending blanks spare n e r lt i idle f ep eb en = record {
   owes = λ adds k. record {
-    task = spared p (λ j. adds j ++ list_at out.adds j) (record t { ins = ins; states = st; pending = pending; out = record { outs = blanks; adds = replicate (length out.adds) [] }; count = n }) spare
-        (took_task p v t adds k fine ins port x st out (record { outs = blanks; adds = replicate (length out.adds) [] }) pending n r (ins_many t.ins ins e) lt i idle f ep eb refl en);
+    task = spared p (λ j. adds j ++ list_at out.adds j)
+        (record t { ins = ins; states = st; pending = pending; out = record { outs = blanks; adds = replicate (length out.adds) [] }; count = n }) spare
+        (took_task p v t adds k fine ins port x st out (record { outs = blanks; adds = replicate (length out.adds) [] }) pending n r
+        (ins_many t.ins ins e) lt i idle f ep eb refl en);
     many = came_many p v t adds k port x st out i f;
     rows = came_wide p v t adds k port x st out i f;
   };
@@ -389,13 +418,16 @@ took_fired p v t fine ins port x st out pending blanks spare n e r lt i idle f e
 
 -- the rows that a task owed were added
 pub taken_at : (p : PlanForm) (t t1 : Task) (pile pile' : List Piled) (adds' : List (List (List ℤ))) → HasFiredAt p t t1
-    → pile' ≡ pile_grown (logged t.op (classes_of pile) t1.tables (list_at t1.out.adds)) pile → classes_of pile ≡ t.classes → adds' ≡ replicate (length t1.out.adds) []
+    → pile' ≡ pile_grown (logged t.op (classes_of pile) t1.tables (list_at t1.out.adds)) pile → classes_of pile ≡ t.classes
+    → adds' ≡ replicate (length t1.out.adds) []
     → HasTakenAt p t (record t1 { out = record { outs = t1.out.outs; adds = adds' } }) pile pile'
 taken_at p t t1 pile pile' adds' f e cs b = record {
   rows = list_at t1.out.adds;
   logs = e ∙ ap (λ c. pile_grown (logged t.op c t1.tables (list_at t1.out.adds)) pile) cs
       ∙ ap (λ hs. pile_grown (logged t.op t.classes hs (list_at t1.out.adds)) pile) f.homes.0;
-  task = λ adds k. subst (λ (a : List (List (List ℤ))). IsTask p (λ j. adds j ++ list_at t1.out.adds j) (record t1 { out = record { outs = t1.out.outs; adds = a } })) (sym b) (f.owes adds k).task;
+  task = λ adds k. subst
+      (λ (a : List (List (List ℤ))). IsTask p (λ j. adds j ++ list_at t1.out.adds j) (record t1 { out = record { outs = t1.out.outs; adds = a } })) (sym b)
+      (f.owes adds k).task;
   ends = f.ends;
   one = f.one;
   homes = f.homes;

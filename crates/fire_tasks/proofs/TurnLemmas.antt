@@ -102,7 +102,16 @@ pub tries_of : (p : PlanForm) (o : ℕ) (v w : View) → HasSat p o v w → HasM
 tries_of p o v w h = record { more = h.more; takes = h.takes }
 
 pub sat_none : (p : PlanForm) (o : ℕ) (v : View) → v.held ≡ [] → HasSat p o v v
-sat_none p o v h = record { round = same_here v; rests = h; others = λ n ne j. refl; claims = λ c. c; own = λ c. c; more = []; takes = sym (append-nil v.takes) }
+sat_none p o v h = record {
+  round = same_here v;
+  rests = h;
+  others = λ n ne j. refl;
+  claims = λ c. c;
+  own = λ c. c;
+  more = [];
+  takes =
+      sym (append-nil v.takes);
+}
 
 pub sat_then : (p : PlanForm) (o : ℕ) (v u w : View) → HasSat p o v u → HasSat p o u w → HasSat p o v w
 sat_then p o v u w a b =
@@ -139,7 +148,8 @@ logs_same v w n s q o c =
     ∙ ap (λ (l : List Claim). logs_of v.starts c ++ own v.seats (o % v.seats) c l) q
 
 -- a class was found taken, and all is as it was
-pub tried_busy : (p : PlanForm) (v w : View) (t : Task) → IsTaskAt p v t → HasLooked v w → w.held ≡ [] → HasMoreTries v w → FoundTaken t.classes v w → HasTried p v w t t false
+pub tried_busy : (p : PlanForm) (v w : View) (t : Task) → IsTaskAt p v t → HasLooked v w → w.held ≡ [] → HasMoreTries v w → FoundTaken t.classes v w
+    → HasTried p v w t t false
 tried_busy p v w t k l h m f =
     let same : (o j : ℕ) → added p (logs_at w o) o j ≡ added p (logs_at v o) o j = λ o j. added_same o j in
     record {
@@ -150,7 +160,8 @@ tried_busy p v w t k l h m f =
         rests = h;
         others = λ n ne j. same n j;
         claims = λ c. subst (AreClaims p) (sym l.claims) c;
-        own = λ c. own_same_round v w (record { seats = l.seats; starts = l.starts; parts = l.parts }) w.claims (subst (λ (qs : List Claim). All (λ (q : Claim). StandsIn (q.entry.op % v.seats) v.parts) qs) (sym l.claims) c);
+        own = λ c. own_same_round v w (record { seats = l.seats; starts = l.starts; parts = l.parts }) w.claims
+            (subst (λ (qs : List Claim). All (λ (q : Claim). StandsIn (q.entry.op % v.seats) v.parts) qs) (sym l.claims) c);
         more = m.more;
         takes = m.takes;
       };
@@ -160,7 +171,8 @@ tried_busy p v w t k l h m f =
     }
   where
     added_same : (o j : ℕ) → added p (logs_at w o) o j ≡ added p (logs_at v o) o j
-    added_same o j = added_else p (logs_at v o) (logs_at w o) (λ c. []) (suc o) o (λ c. logs_same v w l.seats l.starts l.claims o c ∙ sym (append-nil (logs_at v o c))) (λ c. none) (λ e. omega (arith, e)) j
+    added_same o j = added_else p (logs_at v o) (logs_at w o) (λ c. []) (suc o) o
+        (λ c. logs_same v w l.seats l.starts l.claims o c ∙ sym (append-nil (logs_at v o c))) (λ c. none) (λ e. omega (arith, e)) j
       where
         none : All (λ (e : LogEntry). e.op ≡ suc o) []
         none k d lt = absurd (omega (arith, lt))
@@ -207,7 +219,8 @@ classes_there p valid v t k a i d lt =
     is_at (y ∷ ys) (suc i) x d g = is_at ys i x d g
 
 -- the task took an item, and its rows were put
-pub tried_took : (p : PlanForm) → IsPlan p → (v u w : View) (t t' : Task) (pile pile' : List Piled) → IsTaskAt p v t → StandsIn (t.op % v.seats) v.parts → HasTaken t.classes v u pile
+pub tried_took : (p : PlanForm) → IsPlan p → (v u w : View) (t t' : Task) (pile pile' : List Piled) → IsTaskAt p v t → StandsIn (t.op % v.seats) v.parts
+    → HasTaken t.classes v u pile
     → HasTakenAt p t t' pile pile' → HasPut u w pile' → HasMoreTries v u → w.takes ≡ u.takes → HasTried p v w t t' true
 tried_took p valid v u w t t' pile pile' k mine ht at put m q =
     let ends = at.ends in
@@ -274,11 +287,13 @@ tried_took p valid v u w t t' pile pile' k mine ht at put m q =
     logs_grew n c =
         let r = same_round v u w t.classes pile pile' more ht at.logs put in
         ap (λ (l : List Holding). logs_of l c ++ own w.seats (n % w.seats) c w.claims) r.starts
-        ∙ ap (λ (l : List LogEntry). logs_of v.starts c ++ l) (ap (λ (d : ℕ). own w.seats (n % d) c w.claims) r.seats ∙ own_grew v u w t.classes pile pile' more ht at.logs put absent (n % v.seats) c)
+        ∙ ap (λ (l : List LogEntry). logs_of v.starts c ++ l)
+        (ap (λ (d : ℕ). own w.seats (n % d) c w.claims) r.seats ∙ own_grew v u w t.classes pile pile' more ht at.logs put absent (n % v.seats) c)
         ∙ sym (append_assoc (logs_of v.starts c) (own v.seats (n % v.seats) c v.claims) (part v.seats (n % v.seats) (more c)))
 
     own_logs : (c : ℕ) → logs_at w t.op c ≡ logs_at v t.op c ++ more c
-    own_logs c = logs_grew t.op c ∙ ap (λ (l : List LogEntry). logs_at v t.op c ++ l) (part_own v.seats t.op (more c) (logged_own t.op t.classes t.tables at.rows c))
+    own_logs c = logs_grew t.op c
+        ∙ ap (λ (l : List LogEntry). logs_at v t.op c ++ l) (part_own v.seats t.op (more c) (logged_own t.op t.classes t.tables at.rows c))
 
 -- ONE TURN
 
@@ -310,7 +325,8 @@ looked_ends t os ls m ins s e =
     ∙ ap (λ (i : List InEnd). record { op = t.op; ins = i; outs = out_ends t.outs }) e
 
 -- no item is there
-pub turned_none : (p : PlanForm) (v : View) (t : Task) (os : List outlet.Outlet) (ls : List (List item.Item)) (m : Bool) (ins : List inlet.Inlet) → IsTaskAt p v t → v.held ≡ []
+pub turned_none : (p : PlanForm) (v : View) (t : Task) (os : List outlet.Outlet) (ls : List (List item.Item)) (m : Bool) (ins : List inlet.Inlet)
+    → IsTaskAt p v t → v.held ≡ []
     → Sent t.outs t.pending os ls m → (IsFalse m → RefusedAll os ls) → in_ends ins ≡ in_ends t.ins → received_in ins ≡ received_in t.ins → AllReceived ins
     → HasTurned p v v t (looked t os ls ins) m
 turned_none p v t os ls m ins k h s r e c a = record {
@@ -372,7 +388,8 @@ passed_on p v u w t t1 t2 m a b = record {
 }
 
 -- after one that moved
-pub passed_after : (p : PlanForm) (v u w : View) (t t1 t2 : Task) (m : Bool) → HasTurned p v u t t1 m → m ≡ true → Passed p u w t1 t2 → HasTurned p v w t t2 true
+pub passed_after : (p : PlanForm) (v u w : View) (t t1 t2 : Task) (m : Bool) → HasTurned p v u t t1 m → m ≡ true → Passed p u w t1 t2
+    → HasTurned p v w t t2 true
 passed_after p v u w t t1 t2 m a e b = record {
   task = b.task;
   ends = b.ends ∙ a.ends;

@@ -81,7 +81,8 @@ pub record Longer (types : List QueueType) (w is : Word) (port : ℕ) (i : item.
   pub next : held_at types port (at_port port before) (item ∷ []) ≡ i ∷ []
 
 -- a word of these types that is held as one item more is a longer word
-pub longer_word : (types : List QueueType) (w is : Word) (port : ℕ) (i : item.Item) → IsWordOf types w → IsHeldAs types w (is ++ (port, i) ∷ []) → Longer types w is port i
+pub longer_word : (types : List QueueType) (w is : Word) (port : ℕ) (i : item.Item) → IsWordOf types w → IsHeldAs types w (is ++ (port, i) ∷ [])
+    → Longer types w is port i
 longer_word types [] is port i a h =
     let l = ap length (h.ports ∙ ports-append is ((port, i) ∷ [])) in
     let m = length-append (ports_of is) (port ∷ []) in
@@ -115,7 +116,8 @@ longer_word types (e ∷ es) is port i a h = record {
     typed2 = subst (IsWordOf types) split a
 
     here : at_port port is ++ i ∷ [] ≡ held_at types port [] (at_port port l.front) ++ held_at types port (at_port port l.front) (l.last.1 ∷ [])
-    here = sym (at_next port is i) ∙ h.items port ∙ ap (λ w. held_at types port [] (at_port port w)) split ∙ ap (held_at types port []) (at_next port l.front l.last.1)
+    here = sym (at_next port is i) ∙ h.items port ∙ ap (λ w. held_at types port [] (at_port port w)) split
+        ∙ ap (held_at types port []) (at_next port l.front l.last.1)
         ∙ at-append types port [] (at_port port l.front) (l.last.1 ∷ [])
 
     long : length (at_port port is) ≡ length (held_at types port [] (at_port port l.front))
@@ -137,6 +139,7 @@ longer_word types (e ∷ es) is port i a h = record {
     items p = ⊎_elim
         (λ q. subst (λ n. at_port n is ≡ held_at types n [] (at_port n l.front)) q fronts)
         (λ ne.
-        let none = λ (u : Word) (x : item.Item). at_port-append p u ((port, x) ∷ []) ∙ ap (λ t. at_port p u ++ t) (at_port_past p (port, x) [] ne) ∙ append-nil (at_port p u) in
+        let none = λ (u : Word) (x : item.Item). at_port-append p u ((port, x) ∷ []) ∙ ap (λ t. at_port p u ++ t) (at_port_past p (port, x) [] ne)
+        ∙ append-nil (at_port p u) in
         sym (none is i) ∙ h.items p ∙ ap (λ w. held_at types p [] (at_port p w)) split ∙ ap (held_at types p []) (none l.front l.last.1))
         (cases_eq port p)

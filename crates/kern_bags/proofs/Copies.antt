@@ -33,7 +33,8 @@ copies-filter p row (x ∷ xs) = step (p x) refl (row_eq row x) refl (copies-fil
       → copies row (cond b (x ∷ filter p xs) (filter p xs)) ≡ cond (p row) (copies row (x ∷ xs)) 0
   step true e true g h =
       let t : p row ≡ true = ap p (same_row row x g) ∙ e in
-      count_pass (row_eq row) x (filter p xs) g ∙ ap suc (h ∙ ap (λ b. cond b (copies row xs) 0) t) ∙ sym (ap (λ b. cond b (copies row (x ∷ xs)) 0) t ∙ count_pass (row_eq row) x xs g)
+      count_pass (row_eq row) x (filter p xs) g ∙ ap suc (h ∙ ap (λ b. cond b (copies row xs) 0) t)
+      ∙ sym (ap (λ b. cond b (copies row (x ∷ xs)) 0) t ∙ count_pass (row_eq row) x xs g)
   step true e false g h = count_fail (row_eq row) x (filter p xs) g ∙ h ∙ ap (λ n. cond (p row) n 0) (sym (count_fail (row_eq row) x xs g))
   step false e true g h =
       let t : p row ≡ false = ap p (same_row row x g) ∙ e in
@@ -56,7 +57,8 @@ pub pairs_are : (xs ys : List (List ℤ)) (row : List ℤ) → copies row (produ
 pairs_are xs ys row =
     copies-in_order row (flat_map (λ x. map (λ y. x ++ y) ys) xs)
     ∙ count-flat_map (row_eq row) (λ x. map (λ y. x ++ y) ys) xs
-    ∙ sum-cong (λ x. count_by (row_eq row) (map (λ y. x ++ y) ys)) (λ x. count_by (λ y. row_eq row (x ++ y)) ys) xs (λ x. count-map (row_eq row) (λ y. x ++ y) ys)
+    ∙ sum-cong (λ x. count_by (row_eq row) (map (λ y. x ++ y) ys)) (λ x. count_by (λ y. row_eq row (x ++ y)) ys) xs
+    (λ x. count-map (row_eq row) (λ y. x ++ y) ys)
 
 -- joins of rows of one width are one only where their parts are
 joins_apart : (x y u v : List ℤ) → length u ≡ length x → x ++ y ≡ u ++ v → (x ≡ u) × (y ≡ v)
@@ -83,7 +85,8 @@ count-joined : (x y u : List ℤ) (ys : List (List ℤ)) → length u ≡ length
 count-joined x y u ys h = step (row_eq x u) refl where
   step : (b : Bool) → row_eq x u ≡ b → count_by (λ v. row_eq (x ++ y) (u ++ v)) ys ≡ cond b (copies y ys) 0
   step true e =
-      sum-cong (λ v. cond (row_eq (x ++ y) (u ++ v)) 1 0) (λ v. cond (row_eq y v) 1 0) ys (λ v. ap (λ b. cond b 1 0) (joined_eq x y u v h ∙ ap (λ b. cond b (row_eq y v) false) e))
+      sum-cong (λ v. cond (row_eq (x ++ y) (u ++ v)) 1 0) (λ v. cond (row_eq y v) 1 0) ys
+      (λ v. ap (λ b. cond b 1 0) (joined_eq x y u v h ∙ ap (λ b. cond b (row_eq y v) false) e))
   step false e = none ys where
     none : (vs : List (List ℤ)) → count_by (λ v. row_eq (x ++ y) (u ++ v)) vs ≡ 0
     none [] = refl
@@ -97,7 +100,8 @@ times_are x y (u ∷ us) ys w =
     let more = times_are x y us ys (All-tail P u us w) in
     let first = count-joined x y u ys (All-head P u us w) in
     let c = count-cons (row_eq x) u us in
-    sum_by-cons (λ z. count_by (λ v. row_eq (x ++ y) (z ++ v)) ys) u us ∙ (λ i. first i + more i) ∙ spread (row_eq x u) (copies x us) (copies y ys) ∙ ap (λ n. n * copies y ys) (sym c)
+    sum_by-cons (λ z. count_by (λ v. row_eq (x ++ y) (z ++ v)) ys) u us ∙ (λ i. first i + more i) ∙ spread (row_eq x u) (copies x us) (copies y ys)
+    ∙ ap (λ n. n * copies y ys) (sym c)
   where
     spread : (b : Bool) (m n : ℕ) → cond b n 0 + m * n ≡ (cond b 1 0 + m) * n
     spread true m n = grind arith

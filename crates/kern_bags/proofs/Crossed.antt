@@ -27,7 +27,8 @@ sum-same f xs ys h = sym (sum_by-IsPermutation f xs ys (permutation_from_copies 
 
 sum-pairs_right : (f : List ℤ → ℕ) (xs ys zs : List (List ℤ)) → AreSame ys zs → sum_by f (all_pairs xs ys) ≡ sum_by f (all_pairs xs zs)
 sum-pairs_right f xs ys zs h =
-    sum-pairs f xs ys ∙ sum-cong (λ x. sum_by (λ y. f (x ++ y)) ys) (λ x. sum_by (λ y. f (x ++ y)) zs) xs (λ x. sum-same (λ y. f (x ++ y)) ys zs h) ∙ sym (sum-pairs f xs zs)
+    sum-pairs f xs ys ∙ sum-cong (λ x. sum_by (λ y. f (x ++ y)) ys) (λ x. sum_by (λ y. f (x ++ y)) zs) xs (λ x. sum-same (λ y. f (x ++ y)) ys zs h)
+    ∙ sym (sum-pairs f xs zs)
 
 sum-pairs_left : (f : List ℤ → ℕ) (xs ys zs : List (List ℤ)) → AreSame xs ys → sum_by f (all_pairs xs zs) ≡ sum_by f (all_pairs ys zs)
 sum-pairs_left f xs ys zs h = sum-pairs f xs zs ∙ sum-same (λ x. sum_by (λ y. f (x ++ y)) zs) xs ys h ∙ sym (sum-pairs f ys zs)
@@ -35,15 +36,18 @@ sum-pairs_left f xs ys zs h = sum-pairs f xs zs ∙ sum-same (λ x. sum_by (λ y
 -- what comes and goes at the left meets a bag of the right side as it was, what comes and goes at the right meets one of the left side
 -- as it will be
 joined_change : (at : ℤ) (left left' right right' rights lefts : List (List ℤ)) → AreSame rights right → AreSame lefts left'
-    → cancelled at (all_pairs (difference left' left) rights ++ all_pairs lefts (difference right' right)) (all_pairs (difference left left') rights ++ all_pairs lefts
+    → cancelled at (all_pairs (difference left' left) rights ++ all_pairs lefts (difference right' right))
+    (all_pairs (difference left left') rights ++ all_pairs lefts
     (difference right right'))
     ≡ change_to (product left right) (record { at = at; rows = product left' right' })
 joined_change at left left' right right' rights lefts hr hl =
     let p = difference left' left in let m = difference left left' in let q = difference right' right in let n = difference right right' in
     let exact : LeadsTo (all_pairs left right) (all_pairs left' right') (all_pairs p right ++ all_pairs left' q) (all_pairs m right ++ all_pairs left' n) =
-    leads_both (all_pairs left right) (all_pairs left' right) (all_pairs left' right') (all_pairs p right) (all_pairs m right) (all_pairs left' q) (all_pairs left' n)
+    leads_both (all_pairs left right) (all_pairs left' right) (all_pairs left' right') (all_pairs p right) (all_pairs m right) (all_pairs left' q)
+    (all_pairs left' n)
     (leads_left left left' p m right (change_leads left left')) (leads_right left' right right' q n (change_leads right right')) in
-    let l : LeadsTo (all_pairs left right) (all_pairs left' right') (all_pairs p rights ++ all_pairs lefts q) (all_pairs m rights ++ all_pairs lefts n) = record {
+    let l : LeadsTo (all_pairs left right) (all_pairs left' right') (all_pairs p rights ++ all_pairs lefts q) (all_pairs m rights ++ all_pairs lefts n) =
+    record {
       each = λ f.
           let e = exact.each f in
           let a = sum_by-append f (all_pairs p right) (all_pairs left' q) in let b = sum_by-append f (all_pairs m right) (all_pairs left' n) in
@@ -57,7 +61,8 @@ joined_change at left left' right right' rights lefts hr hl =
 
 -- ONE PAIR
 
-first_is : (c : Change) (rest : List Change) (before : List (List ℤ)) (b : Batch) (bs : List Batch) → c ∷ rest ≡ changes before (b ∷ bs) → (c ≡ change_to before b)
+first_is : (c : Change) (rest : List Change) (before : List (List ℤ)) (b : Batch) (bs : List Batch) → c ∷ rest ≡ changes before (b ∷ bs)
+    → (c ≡ change_to before b)
     × (rest ≡ changes b.rows bs)
 first_is c rest before b bs e = (cc e, cc e)
 
@@ -92,7 +97,8 @@ pair_passes s0 s1 s2 c d out out' t j lefts rights (l ∷ ls) (r ∷ rs) s =
       right = rs;
       left_is = refl;
       right_is = refl;
-      gave = j.gave ∙ ap (λ x. out ++ x ∷ []) ((λ i. C (a.0 i) (b.0 i)) ∙ joined_change l.at lefts l.rows rights r.rows s1.rights s2.lefts same_right next_left);
+      gave = j.gave ∙ ap (λ x. out ++ x ∷ [])
+          ((λ i. C (a.0 i) (b.0 i)) ∙ joined_change l.at lefts l.rows rights r.rows s1.rights s2.lefts same_right next_left);
       stands = record {
         lefts = next_left;
         rights = next_right;
@@ -124,7 +130,8 @@ record PairFits (l r : ℕ) (s2 : CrossKept) (out out' : List Change) : Type 0 w
   gave : GaveChanges (l + r) out out'
   kept : IsCrossOf l r s2
 
-pair_fits : (l r : ℕ) (s0 s1 s2 : CrossKept) (c d : Change) (out out' : List Change) → IsCrossOf l r s0 → TakesChanges s0 s1 c d → JoinsChanges c d s1 s2 out out'
+pair_fits : (l r : ℕ) (s0 s1 s2 : CrossKept) (c d : Change) (out out' : List Change) → IsCrossOf l r s0 → TakesChanges s0 s1 c d
+    → JoinsChanges c d s1 s2 out out'
     → PairFits l r s2 out out'
 pair_fits l r s0 s1 s2 c d out out' of t j =
     let lefts : HaveWidth l s1.lefts = subst (HaveWidth l) (sym t.lefts) of.lefts in
@@ -150,8 +157,10 @@ pair_fits l r s0 s1 s2 c d out out' of t j =
       };
     }
 
-can_more : (s0 s1 s2 : CrossKept) (c d : Change) (out out' : List Change) → CanCrossChanges s0 → TakesChanges s0 s1 c d → JoinsChanges c d s1 s2 out out' → CanCrossChanges s2
-can_more s0 s1 s2 c d out out' can t j = record { left = can.left; right = can.right; wide = (pair_fits can.left can.right s0 s1 s2 c d out out' can.wide t j).kept }
+can_more : (s0 s1 s2 : CrossKept) (c d : Change) (out out' : List Change) → CanCrossChanges s0 → TakesChanges s0 s1 c d → JoinsChanges c d s1 s2 out out'
+    → CanCrossChanges s2
+can_more s0 s1 s2 c d out out' can t j =
+    record { left = can.left; right = can.right; wide = (pair_fits can.left can.right s0 s1 s2 c d out out' can.wide t j).kept }
 
 -- ALL PAIRS
 
@@ -200,7 +209,8 @@ pairs_step start s0 s1 s2 c d out out' out'' f t j = record {
         let x : Batch = stamped_as p.l (product p.l.rows p.r.rows) in
         let before = product m.lefts m.rights in
         let e : passed_pairs n
-        ≡ (x ∷ (passing p.l.rows p.r.rows p.left p.right).0, (passing p.l.rows p.r.rows p.left p.right).1) = (λ i. passing n.lefts n.rights (p.left_is i) (p.right_is i)) in
+        ≡ (x ∷ (passing p.l.rows p.r.rows p.left p.right).0, (passing p.l.rows p.r.rows p.left p.right).1) =
+        (λ i. passing n.lefts n.rights (p.left_is i) (p.right_is i)) in
         record {
           next = crossing p.l.rows p.r.rows p.left p.right;
           stands = p.stands;
@@ -243,5 +253,6 @@ pub pairs_fit : (start now next : CrossKept) (out out' : List Change) → PairsS
 pairs_fit start now next out out' f stop = subst (λ s. CrossFits start s out out') (sym stop.same) f.fits
 
 -- one that passes does not wait any more
-pub pairs_less : (s0 s1 s2 : CrossKept) (c d : Change) (out out' : List Change) → TakesChanges s0 s1 c d → JoinsChanges c d s1 s2 out out' → length s2.left < length s0.left
+pub pairs_less : (s0 s1 s2 : CrossKept) (c d : Change) (out out' : List Change) → TakesChanges s0 s1 c d → JoinsChanges c d s1 s2 out out'
+    → length s2.left < length s0.left
 pairs_less s0 s1 s2 c d out out' t j = let a = ap length t.left in let b = ap length j.left in omega (arith, a, b)

@@ -29,7 +29,8 @@ streams_flat s x c b old new out out' is p g =
 
 -- PRODUCTS
 
-module _ (port : ℕ) (x : flat.Flat) (c : Change) (old mid : CrossKept) (out out' : List item.Item) (is : Changed c ≡ x) (came : mid ≡ put_change port c old) where
+module _ (port : ℕ) (x : flat.Flat) (c : Change) (old mid : CrossKept) (out out' : List item.Item) (is : Changed c ≡ x)
+    (came : mid ≡ put_change port c old) where
   same_put : (e : Change) → x ≡ Changed e → mid ≡ put_change port e old
   same_put e same = came ∙ (λ i. put_change port (same_change c e (is ∙ same) i) old)
 

@@ -44,7 +44,8 @@ change_selected t before b =
     ∙ cancelled_none c (selected_normal t (change_to before b) (cancelled_normal b.at b.rows before))
 
 -- the images, without those that come and go
-pub change_projected : (ts : List Term) (before : List (List ℤ)) (b : Batch) → change_to (projected ts before) (record { at = b.at; rows = projected ts b.rows })
+pub change_projected : (ts : List Term) (before : List (List ℤ)) (b : Batch)
+    → change_to (projected ts before) (record { at = b.at; rows = projected ts b.rows })
     ≡ cancelled b.at (map (λ row. map (λ t. val t row []) ts) (difference b.rows before)) (map (λ row. map (λ t. val t row []) ts) (difference before b.rows))
 change_projected ts before b =
     let g : List ℤ → List ℤ = λ row. map (λ t. val t row []) ts in

@@ -85,8 +85,12 @@ pub parts_before : (at : ℤ) (n : ℕ) (es : List Stamped) → AllByRecursion (
 parts_before at n es h g =
     ap (filter (λ (e : Stamped). int_le e.0 at)) (sym (take-append-drop n es))
     ∙ filter-append (λ (e : Stamped). int_le e.0 at) (take n es) (drop n es)
-    ∙ ap (λ l. l ++ filter (λ (e : Stamped). int_le e.0 at) (drop n es)) (filter_all (λ (e : Stamped). int_le e.0 at) (take n es) (all_as (λ (e : Stamped). e.0 ≤ℤ at) (λ (e : Stamped). int_le e.0 at ≡ true) (take n es) (λ e k. le_true e.0 at k) h))
-    ∙ ap (λ l. take n es ++ l) (filter_none (λ (e : Stamped). int_le e.0 at) (drop n es) (all_as (λ (e : Stamped). at <ℤ e.0) (λ (e : Stamped). int_le e.0 at ≡ false) (drop n es) (λ e k. le_false e.0 at k) g))
+    ∙ ap (λ l. l ++ filter (λ (e : Stamped). int_le e.0 at) (drop n es))
+    (filter_all (λ (e : Stamped). int_le e.0 at) (take n es)
+    (all_as (λ (e : Stamped). e.0 ≤ℤ at) (λ (e : Stamped). int_le e.0 at ≡ true) (take n es) (λ e k. le_true e.0 at k) h))
+    ∙ ap (λ l. take n es ++ l)
+    (filter_none (λ (e : Stamped). int_le e.0 at) (drop n es)
+    (all_as (λ (e : Stamped). at <ℤ e.0) (λ (e : Stamped). int_le e.0 at ≡ false) (drop n es) (λ e k. le_false e.0 at k) g))
     ∙ append-nil (take n es)
 
 pub parts_behind : (at : ℤ) (n : ℕ) (es : List Stamped) → AllByRecursion (λ (e : Stamped). e.0 ≤ℤ at) (take n es)
@@ -94,8 +98,11 @@ pub parts_behind : (at : ℤ) (n : ℕ) (es : List Stamped) → AllByRecursion (
 parts_behind at n es h g =
     ap (filter (λ (e : Stamped). int_lt at e.0)) (sym (take-append-drop n es))
     ∙ filter-append (λ (e : Stamped). int_lt at e.0) (take n es) (drop n es)
-    ∙ ap (λ l. l ++ filter (λ (e : Stamped). int_lt at e.0) (drop n es)) (filter_none (λ (e : Stamped). int_lt at e.0) (take n es) (all_as (λ (e : Stamped). e.0 ≤ℤ at) (λ (e : Stamped). int_lt at e.0 ≡ false) (take n es) (λ e k. lt_false at e.0 k) h))
-    ∙ filter_all (λ (e : Stamped). int_lt at e.0) (drop n es) (all_as (λ (e : Stamped). at <ℤ e.0) (λ (e : Stamped). int_lt at e.0 ≡ true) (drop n es) (λ e k. lt_true at e.0 k) g)
+    ∙ ap (λ l. l ++ filter (λ (e : Stamped). int_lt at e.0) (drop n es))
+    (filter_none (λ (e : Stamped). int_lt at e.0) (take n es)
+    (all_as (λ (e : Stamped). e.0 ≤ℤ at) (λ (e : Stamped). int_lt at e.0 ≡ false) (take n es) (λ e k. lt_false at e.0 k) h))
+    ∙ filter_all (λ (e : Stamped). int_lt at e.0) (drop n es)
+    (all_as (λ (e : Stamped). at <ℤ e.0) (λ (e : Stamped). int_lt at e.0 ≡ true) (drop n es) (λ e k. lt_true at e.0 k) g)
 
 -- so what is put between them is inserted
 pub inserted_by : (at : ℤ) (rows : List (List ℤ)) (n : ℕ) (es before : List Stamped) → AllByRecursion (λ (e : Stamped). e.0 ≤ℤ at) (take n es)
@@ -117,7 +124,10 @@ pub since_all : (low : ℤ) (es : List Stamped) (e : Stamped) → AreInTurn es �
 since_all low [] e t is l = refl
 since_all low (x ∷ xs) e t is l =
     let first = subst (λ (y : Stamped). low ≤ℤ y.0) is l in
-    filter_all (λ (f : Stamped). int_le low f.0) (x ∷ xs) (le_true low x.0 first, all_as (λ (f : Stamped). x.0 ≤ℤ f.0) (λ (f : Stamped). int_le low f.0 ≡ true) xs (λ f k. le_true low f.0 (omega (arith, ints, first, k))) t.0)
+    filter_all (λ (f : Stamped). int_le low f.0) (x ∷ xs) (
+      le_true low x.0 first,
+      all_as (λ (f : Stamped). x.0 ≤ℤ f.0) (λ (f : Stamped). int_le low f.0 ≡ true) xs (λ f k. le_true low f.0 (omega (arith, ints, first, k))) t.0,
+    )
 
 -- rows in order of instants without the first
 pub rest_in_turn : (es : List Stamped) → AreInTurn es → AreInTurn (drop 1 es)

@@ -97,14 +97,18 @@ rows_put b (c ∷ cs) r = step (int_lt b.at c.at) refl (rows_put b cs r.1) where
       let l = is_before b.at c.at e in
       let later_all : AllByRecursion (λ (f : Stamped). b.at <ℤ f.0) all =
       all_rows (λ t. b.at <ℤ t) (c ∷ cs) (l, all_as (λ (d : Batch). c.at ≤ℤ d.at) (λ (d : Batch). b.at <ℤ d.at) cs (λ d h. omega (arith, ints, l, h)) r.0) in
-      let none = filter_none (λ (f : Stamped). int_le f.0 b.at) all (all_as (λ (f : Stamped). b.at <ℤ f.0) (λ (f : Stamped). int_le f.0 b.at ≡ false) all (λ f h. le_false f.0 b.at h) later_all) in
-      let whole = filter_all (λ (f : Stamped). int_lt b.at f.0) all (all_as (λ (f : Stamped). b.at <ℤ f.0) (λ (f : Stamped). int_lt b.at f.0 ≡ true) all (λ f h. lt_true b.at f.0 h) later_all) in
+      let none = filter_none (λ (f : Stamped). int_le f.0 b.at) all
+      (all_as (λ (f : Stamped). b.at <ℤ f.0) (λ (f : Stamped). int_le f.0 b.at ≡ false) all (λ f h. le_false f.0 b.at h) later_all) in
+      let whole = filter_all (λ (f : Stamped). int_lt b.at f.0) all
+      (all_as (λ (f : Stamped). b.at <ℤ f.0) (λ (f : Stamped). int_lt b.at f.0 ≡ true) all (λ f h. lt_true b.at f.0 h) later_all) in
       λ i. sym none i ++ (rows_with b ++ sym whole i)
   step false e more =
       let l = not_before b.at c.at e in
       let first : AllByRecursion (λ (f : Stamped). f.0 ≤ℤ b.at) (rows_with c) = all_stamped (λ t. t ≤ℤ b.at) c.at c.rows l in
-      let whole = filter_all (λ (f : Stamped). int_le f.0 b.at) (rows_with c) (all_as (λ (f : Stamped). f.0 ≤ℤ b.at) (λ (f : Stamped). int_le f.0 b.at ≡ true) (rows_with c) (λ f h. le_true f.0 b.at h) first) in
-      let none = filter_none (λ (f : Stamped). int_lt b.at f.0) (rows_with c) (all_as (λ (f : Stamped). f.0 ≤ℤ b.at) (λ (f : Stamped). int_lt b.at f.0 ≡ false) (rows_with c) (λ f h. lt_false b.at f.0 h) first) in
+      let whole = filter_all (λ (f : Stamped). int_le f.0 b.at) (rows_with c)
+      (all_as (λ (f : Stamped). f.0 ≤ℤ b.at) (λ (f : Stamped). int_le f.0 b.at ≡ true) (rows_with c) (λ f h. le_true f.0 b.at h) first) in
+      let none = filter_none (λ (f : Stamped). int_lt b.at f.0) (rows_with c)
+      (all_as (λ (f : Stamped). f.0 ≤ℤ b.at) (λ (f : Stamped). int_lt b.at f.0 ≡ false) (rows_with c) (λ f h. lt_false b.at f.0 h) first) in
       let front : filter (λ (f : Stamped). int_le f.0 b.at) all ≡ rows_with c ++ filter (λ (f : Stamped). int_le f.0 b.at) rest =
       filter-append (λ (f : Stamped). int_le f.0 b.at) (rows_with c) rest ∙ ap (λ t. t ++ filter (λ (f : Stamped). int_le f.0 b.at) rest) whole in
       let back : filter (λ (f : Stamped). int_lt b.at f.0) all ≡ filter (λ (f : Stamped). int_lt b.at f.0) rest =

@@ -115,7 +115,8 @@ since_inserted low low' at rows es le =
     filter-append P (filter F (filter R es)) (stamped at rows ++ filter G (filter R es))
     ∙ ap (λ l. filter P (filter F (filter R es)) ++ l) (filter-append P (stamped at rows) (filter G (filter R es)))
     ∙ (λ i. absorbed P F R weaker es i ++ (filter P (stamped at rows) ++ absorbed P G R weaker es i))
-    ∙ sym (filter-append P (filter F es) (stamped at rows ++ filter G es) ∙ ap (λ l. filter P (filter F es) ++ l) (filter-append P (stamped at rows) (filter G es)))
+    ∙ sym (filter-append P (filter F es) (stamped at rows ++ filter G es)
+    ∙ ap (λ l. filter P (filter F es) ++ l) (filter-append P (stamped at rows) (filter G es)))
   where
     low_too : (u : ℤ) → int_le low' u ≡ true → int_le low u ≡ true
     low_too u h = grind (arith, h, le)
@@ -142,7 +143,8 @@ parts_are at (x ∷ xs) t = step (int_le x.0 at) (int_lt at x.0) refl refl (part
   step true false e f more = ap (λ l. x ∷ l) more
   step false true e f more =
       let l = both e in
-      let later_all : AllByRecursion (λ (f : Stamped). at <ℤ f.0) xs = all_as (λ (f : Stamped). x.0 ≤ℤ f.0) (λ (f : Stamped). at <ℤ f.0) xs (λ f h. omega (arith, ints, l, h)) t.0 in
+      let later_all : AllByRecursion (λ (f : Stamped). at <ℤ f.0) xs =
+      all_as (λ (f : Stamped). x.0 ≤ℤ f.0) (λ (f : Stamped). at <ℤ f.0) xs (λ f h. omega (arith, ints, l, h)) t.0 in
       let none = filter_none F xs (all_as (λ (f : Stamped). at <ℤ f.0) (λ (f : Stamped). F f ≡ false) xs (λ f h. le_false f.0 at h) later_all) in
       let whole = filter_all G xs (all_as (λ (f : Stamped). at <ℤ f.0) (λ (f : Stamped). G f ≡ true) xs (λ f h. lt_true at f.0 h) later_all) in
       λ i. sym none i ++ x ∷ sym whole i
@@ -169,16 +171,21 @@ last_inserted n at rows es t =
     let in_a : AllByRecursion (λ (e : Stamped). F e ≡ true) a' = all_from (λ (e : Stamped). F e ≡ true) (length a - (n - length b)) a (passes_all F es) in
     let in_b : AllByRecursion (λ (e : Stamped). G e ≡ true) b' = all_from (λ (e : Stamped). G e ≡ true) (length b - n) b (passes_all G es) in
     let front : filter F (last_few n es) ≡ a' =
-    ap (filter F) kept ∙ filter-append F a' b' ∙ (λ i. filter_all F a' in_a i ++ filter_none F b' (all_as (λ (e : Stamped). G e ≡ true) (λ (e : Stamped). F e ≡ false) b' (λ e h. not_le e.0 h) in_b) i) ∙ append-nil a' in
+    ap (filter F) kept ∙ filter-append F a' b'
+    ∙ (λ i. filter_all F a' in_a i ++ filter_none F b' (all_as (λ (e : Stamped). G e ≡ true) (λ (e : Stamped). F e ≡ false) b' (λ e h. not_le e.0 h) in_b) i)
+    ∙ append-nil a' in
     let back : filter G (last_few n es) ≡ b' =
-    ap (filter G) kept ∙ filter-append G a' b' ∙ (λ i. filter_none G a' (all_as (λ (e : Stamped). F e ≡ true) (λ (e : Stamped). G e ≡ false) a' (λ e h. not_lt e.0 h) in_a) i ++ filter_all G b' in_b i) in
+    ap (filter G) kept ∙ filter-append G a' b'
+    ∙ (λ i. filter_none G a'
+    (all_as (λ (e : Stamped). F e ≡ true) (λ (e : Stamped). G e ≡ false) a' (λ e h. not_lt e.0 h) in_a) i ++ filter_all G b' in_b i) in
     let lb = length_last n b in
     let la = length-append s b' in
     let lc = length-append s b in
     ap (last_few n) (λ i. front i ++ (s ++ back i))
     ∙ last_append n a' (s ++ b')
     ∙ (λ i. last_last (n - length (s ++ b')) (n - length b) a (omega (arith, lb, la)) i ++ last_append n s b' i)
-    ∙ (λ i. last_few ((let e : n - length (s ++ b') ≡ n - length (s ++ b) = omega (arith, lb, la, lc) in e) i) a ++ (last_few ((let e : n - length b' ≡ n - length b = omega (arith, lb) in e) i) s ++ last_last n n b (omega arith) i))
+    ∙ (λ i. last_few ((let e : n - length (s ++ b') ≡ n - length (s ++ b) = omega (arith, lb, la, lc) in e) i) a ++
+    (last_few ((let e : n - length b' ≡ n - length b = omega (arith, lb) in e) i) s ++ last_last n n b (omega arith) i))
     ∙ sym (last_append n a (s ++ b) ∙ ap (λ l. last_few (n - length (s ++ b)) a ++ l) (last_append n s b))
   where
     not_le : (u : ℤ) → int_lt at u ≡ true → int_le u at ≡ false
@@ -210,7 +217,8 @@ still_none (Latest n) t = last_of_none n
 
 -- what was let go stays away
 pub kept_more : (w : Window) (bs : List Batch) (b : Batch)
-    → still_in w (greatest (bs ++ b ∷ [])) (inserted b.at b.rows (still_in w (greatest bs) (stamped_in_order bs))) ≡ still_in w (greatest (bs ++ b ∷ [])) (stamped_in_order (bs ++ b ∷ []))
+    → still_in w (greatest (bs ++ b ∷ [])) (inserted b.at b.rows (still_in w (greatest bs) (stamped_in_order bs))) ≡ still_in w (greatest (bs ++ b ∷ []))
+    (stamped_in_order (bs ++ b ∷ []))
 kept_more w [] b =
     ap (λ l. still_in w (greatest (b ∷ [])) (inserted b.at b.rows l)) (still_none w (pos 0)) ∙ ap (still_in w (greatest (b ∷ []))) (sym (in_turn_more [] b))
 kept_more w (c ∷ cs) b =
@@ -246,8 +254,11 @@ join_in_turn : (at : ℤ) (xs ys : List Stamped) → AllByRecursion (λ (e : Sta
     → AreInTurn ys → AreInTurn (xs ++ ys)
 join_in_turn at [] ys a b t u = u
 join_in_turn at (x ∷ xs) ys a b t u =
-    let l = a.0 in
-    (all_join (λ (f : Stamped). x.0 ≤ℤ f.0) xs ys t.0 (all_as (λ (f : Stamped). at ≤ℤ f.0) (λ (f : Stamped). x.0 ≤ℤ f.0) ys (λ f h. omega (arith, ints, l, h)) b), join_in_turn at xs ys a.1 b t.1 u)
+    let l = a.0 in (
+      all_join (λ (f : Stamped). x.0 ≤ℤ f.0) xs ys t.0
+          (all_as (λ (f : Stamped). at ≤ℤ f.0) (λ (f : Stamped). x.0 ≤ℤ f.0) ys (λ f h. omega (arith, ints, l, h)) b),
+      join_in_turn at xs ys a.1 b t.1 u,
+    )
 
 same_in_turn : (at : ℤ) (rows : List (List ℤ)) → AreInTurn (stamped at rows)
 same_in_turn at [] = tt
@@ -262,7 +273,8 @@ inserted_in_turn at rows es t =
     (all_as (λ (e : Stamped). F e ≡ true) (λ (e : Stamped). e.0 ≤ℤ at) (filter F es) (λ e h. is_le e.0 h) (passes_all F es))
     (all_join (λ (e : Stamped). at ≤ℤ e.0) (stamped at rows) (filter G es) (all_stamped (λ t. at ≤ℤ t) at rows (omega (arith, ints))) later_all)
     (filter_in_turn F es t)
-    (join_in_turn at (stamped at rows) (filter G es) (all_stamped (λ t. t ≤ℤ at) at rows (omega (arith, ints))) later_all (same_in_turn at rows) (filter_in_turn G es t))
+    (join_in_turn at (stamped at rows) (filter G es) (all_stamped (λ t. t ≤ℤ at) at rows (omega (arith, ints))) later_all (same_in_turn at rows)
+    (filter_in_turn G es t))
   where
     is_le : (u : ℤ) → int_le u at ≡ true → u ≤ℤ at
     is_le u h = grind (arith, h)
@@ -272,7 +284,8 @@ inserted_in_turn at rows es t =
 
     later_all : AllByRecursion (λ (e : Stamped). at ≤ℤ e.0) (filter (λ (e : Stamped). int_lt at e.0) es)
     later_all =
-        all_as (λ (e : Stamped). int_lt at e.0 ≡ true) (λ (e : Stamped). at ≤ℤ e.0) (filter (λ (e : Stamped). int_lt at e.0) es) (λ e h. is_ge e.0 h) (passes_all (λ (e : Stamped). int_lt at e.0) es)
+        all_as (λ (e : Stamped). int_lt at e.0 ≡ true) (λ (e : Stamped). at ≤ℤ e.0) (filter (λ (e : Stamped). int_lt at e.0) es) (λ e h. is_ge e.0 h)
+        (passes_all (λ (e : Stamped). int_lt at e.0) es)
 
 -- CONTENTS
 
@@ -293,7 +306,8 @@ where_rows p (b ∷ bs) = step (p b.at) refl (where_rows p bs) where
   all = filter-append Q (rows_with b) (rows_of_all bs)
 
   step : (q : Bool) → p b.at ≡ q → rows_where p bs ≡ map row_in (filter Q (rows_of_all bs))
-      → flat_map (λ (c : Batch). c.rows) (cond q (b ∷ filter (λ (c : Batch). p c.at) bs) (filter (λ (c : Batch). p c.at) bs)) ≡ map row_in (filter Q (rows_with b ++ rows_of_all bs))
+      → flat_map (λ (c : Batch). c.rows) (cond q (b ∷ filter (λ (c : Batch). p c.at) bs) (filter (λ (c : Batch). p c.at) bs)) ≡ map row_in
+      (filter Q (rows_with b ++ rows_of_all bs))
   step true e more =
       let whole = filter_all Q (rows_with b) (all_stamped (λ t. p t ≡ true) b.at b.rows e) in
       (λ i. sym (rows_back b.at b.rows) i ++ more i) ∙ sym (map-append row_in (rows_with b) (filter Q (rows_of_all bs)))
@@ -315,21 +329,30 @@ content_by : (w : Window) (t : ℤ) (bs : List Batch) → AllByRecursion (λ (e 
     → in_order (in_window w t bs) ≡ in_order (map row_in (still_in w t (stamped_in_order bs)))
 content_by Now t bs h =
     where_bag (λ u. int_eq u t) bs
-    ∙ ap (λ l. in_order (map row_in l)) (filter_same (λ (e : Stamped). int_eq e.0 t) (λ (e : Stamped). int_le t e.0) (stamped_in_order bs) (all_as (λ (e : Stamped). e.0 ≤ℤ t) (λ (e : Stamped). int_eq e.0 t ≡ int_le t e.0) (stamped_in_order bs) (λ e k. same e.0 k) h))
+    ∙ ap (λ l. in_order (map row_in l))
+    (filter_same (λ (e : Stamped). int_eq e.0 t) (λ (e : Stamped). int_le t e.0) (stamped_in_order bs)
+    (all_as (λ (e : Stamped). e.0 ≤ℤ t) (λ (e : Stamped). int_eq e.0 t ≡ int_le t e.0) (stamped_in_order bs) (λ e k. same e.0 k) h))
   where
     same : (u : ℤ) → u ≤ℤ t → int_eq u t ≡ int_le t u
     same u k = grind (arith, ints, k)
 content_by (Range span) t bs h =
     where_bag (λ u. int_le u t && int_le (later (pos 0) (t -ℤ span)) u) bs
-    ∙ ap (λ l. in_order (map row_in l)) (filter_same (λ (e : Stamped). int_le e.0 t && int_le (later (pos 0) (t -ℤ span)) e.0) (λ (e : Stamped). int_le (later (pos 0) (t -ℤ span)) e.0) (stamped_in_order bs)
-    (all_as (λ (e : Stamped). e.0 ≤ℤ t) (λ (e : Stamped). (int_le e.0 t && int_le (later (pos 0) (t -ℤ span)) e.0) ≡ int_le (later (pos 0) (t -ℤ span)) e.0) (stamped_in_order bs) (λ e k. ap (λ b. b && int_le (later (pos 0) (t -ℤ span)) e.0) (le_true e.0 t k)) h))
+    ∙ ap (λ l. in_order (map row_in l))
+    (filter_same (λ (e : Stamped). int_le e.0 t && int_le (later (pos 0) (t -ℤ span)) e.0) (λ (e : Stamped). int_le (later (pos 0) (t -ℤ span)) e.0)
+    (stamped_in_order bs)
+    (all_as (λ (e : Stamped). e.0 ≤ℤ t) (λ (e : Stamped). (int_le e.0 t && int_le (later (pos 0) (t -ℤ span)) e.0) ≡ int_le (later (pos 0) (t -ℤ span)) e.0)
+    (stamped_in_order bs) (λ e k. ap (λ b. b && int_le (later (pos 0) (t -ℤ span)) e.0) (le_true e.0 t k)) h))
 content_by Unbounded t bs h =
     where_bag (λ u. int_le u t) bs
-    ∙ ap (λ l. in_order (map row_in l)) (filter_all (λ (e : Stamped). int_le e.0 t) (stamped_in_order bs) (all_as (λ (e : Stamped). e.0 ≤ℤ t) (λ (e : Stamped). int_le e.0 t ≡ true) (stamped_in_order bs) (λ e k. le_true e.0 t k) h))
+    ∙ ap (λ l. in_order (map row_in l))
+    (filter_all (λ (e : Stamped). int_le e.0 t) (stamped_in_order bs)
+    (all_as (λ (e : Stamped). e.0 ≤ℤ t) (λ (e : Stamped). int_le e.0 t ≡ true) (stamped_in_order bs) (λ e k. le_true e.0 t k) h))
 content_by (Latest n) t bs h =
     let es = stamped_in_order bs in
     let all : rows_where (λ u. int_le u t) (by_instant bs) ≡ map row_in es =
-    where_rows (λ u. int_le u t) (by_instant bs) ∙ ap (map row_in) (filter_all (λ (e : Stamped). int_le e.0 t) es (all_as (λ (e : Stamped). e.0 ≤ℤ t) (λ (e : Stamped). int_le e.0 t ≡ true) es (λ e k. le_true e.0 t k) h)) in
+    where_rows (λ u. int_le u t) (by_instant bs)
+    ∙ ap (map row_in) (filter_all (λ (e : Stamped). int_le e.0 t) es
+    (all_as (λ (e : Stamped). e.0 ≤ℤ t) (λ (e : Stamped). int_le e.0 t ≡ true) es (λ e k. le_true e.0 t k) h)) in
     ap in_order (ap (last_of_rows n) all ∙ ap (λ m. drop (m - n) (map row_in es)) (length-map es row_in) ∙ drop-map row_in (length es - n) es)
 
 -- a window's content is what is kept, without instants
@@ -354,7 +377,8 @@ window_stands w b old new past now rows h =
     let bs = batches past in
     let more = batches_more past b in
     let t : now_after old.now b.at ≡ greatest (bs ++ b ∷ []) = ap (λ n. now_after n b.at) h.now ∙ sym (greatest_more bs b) in
-    let are : new.rows ≡ still_in w (greatest (bs ++ b ∷ [])) (stamped_in_order (bs ++ b ∷ [])) = rows ∙ (λ i. still_in w (t i) (inserted b.at b.rows (h.rows i))) ∙ kept_more w bs b in
+    let are : new.rows ≡ still_in w (greatest (bs ++ b ∷ [])) (stamped_in_order (bs ++ b ∷ [])) = rows
+    ∙ (λ i. still_in w (t i) (inserted b.at b.rows (h.rows i))) ∙ kept_more w bs b in
     record {
       now = now ∙ ap (λ n. Some (now_after n b.at)) h.now ∙ sym (now_more bs b) ∙ ap now_of (sym more);
       rows = are ∙ ap (λ l. still_in w (greatest l) (stamped_in_order l)) (sym more);

@@ -13,7 +13,8 @@ first_and_rest [] e lt is = absurd (omega (arith, lt))
 first_and_rest (x ∷ xs) e lt is = ap (λ y. y ∷ xs) (sym is)
 
 -- the first row has
-pub first_left : (es rest : List Stamped) (g g' : List (List ℤ)) (e : Stamped) → 0 < length es → e ≡ get_or es 0 e → rest ≡ drop 1 es → g' ≡ g ++ e.1 ∷ [] → LetGo es rest g g'
+pub first_left : (es rest : List Stamped) (g g' : List (List ℤ)) (e : Stamped) → 0 < length es → e ≡ get_or es 0 e → rest ≡ drop 1 es → g' ≡ g ++ e.1 ∷ []
+    → LetGo es rest g g'
 first_left es rest g g' e lt is r h = record { left = e ∷ []; parts = first_and_rest es e lt is ∙ ap (λ l. e ∷ l) (sym r); rows = h }
 
 -- some have, and then others

@@ -26,7 +26,8 @@ abbrev row_in : Stamped → List ℤ
 row_in e = e.1
 
 -- a bag with rows inserted
-sum-inserted : (f : List ℤ → ℕ) (at : ℤ) (rows : List (List ℤ)) (es : List Stamped) → sum_by f (map row_in (inserted at rows es)) ≡ sum_by f (map row_in es) + sum_by f rows
+sum-inserted : (f : List ℤ → ℕ) (at : ℤ) (rows : List (List ℤ)) (es : List Stamped)
+    → sum_by f (map row_in (inserted at rows es)) ≡ sum_by f (map row_in es) + sum_by f rows
 sum-inserted f at rows es =
     let h : Stamped → ℕ = λ e. f e.1 in
     let F : Stamped → Bool = λ e. int_le e.0 at in
@@ -50,24 +51,28 @@ slides w b old new gone c now rows went is = record {
   each = λ past h.
       let x : item.Item = Flat (Batched b) in
       let s = window_stands w b old new past now rows h in
-      let before : content_of w (batches past) ≡ in_order (map row_in old.rows) = content_is w (batches past) ∙ ap (λ l. in_order (map row_in l)) (sym h.rows) in
+      let before : content_of w (batches past) ≡ in_order (map row_in old.rows) = content_is w (batches past)
+      ∙ ap (λ l. in_order (map row_in l)) (sym h.rows) in
       let after : content_of w (batches (past ++ x ∷ [])) ≡ in_order (map row_in new.rows) = content_is w (batches (past ++ x ∷ []))
       ∙ ap (λ l. in_order (map row_in l)) (sym s.rows) in
       let l : LeadsTo (map row_in old.rows) (map row_in new.rows) b.rows gone = record {
         each = λ f.
             let i = sum-inserted f b.at b.rows old.rows in
             let p : sum_by f (map row_in (inserted b.at b.rows old.rows)) ≡ sum_by f (map row_in went.left) + sum_by f (map row_in new.rows) =
-            ap (λ k. sum_by f (map row_in k)) went.parts ∙ ap (sum_by f) (map-append row_in went.left new.rows) ∙ sum_by-append f (map row_in went.left) (map row_in new.rows) in
+            ap (λ k. sum_by f (map row_in k)) went.parts ∙ ap (sum_by f) (map-append row_in went.left new.rows)
+            ∙ sum_by-append f (map row_in went.left) (map row_in new.rows) in
             let g : sum_by f gone ≡ sum_by f (map row_in went.left) = ap (sum_by f) went.rows in
             omega (arith, i, p, g);
       } in
       let change : change_to (in_order (map row_in old.rows)) (stamped_as b (in_order (map row_in new.rows))) ≡ cancelled b.at b.rows gone =
-      cancelled_is b.at (in_order (map row_in old.rows)) (in_order (map row_in new.rows)) b.rows gone (leads_in_order (map row_in old.rows) (map row_in new.rows) b.rows gone l) in
+      cancelled_is b.at (in_order (map row_in old.rows)) (in_order (map row_in new.rows)) b.rows gone
+      (leads_in_order (map row_in old.rows) (map row_in new.rows) b.rows gone l) in
       (is ∙ sym change ∙ (λ i. change_to (sym before i) (stamped_as b (sym after i))), s);
 }
 
 -- rows so wide, among which others so wide are inserted
-wide_inserted : (w : ℕ) (at : ℤ) (rows : List (List ℤ)) (es : List Stamped) → HaveWidth w rows → HaveWidth w (map row_in es) → HaveWidth w (map row_in (inserted at rows es))
+wide_inserted : (w : ℕ) (at : ℤ) (rows : List (List ℤ)) (es : List Stamped) → HaveWidth w rows → HaveWidth w (map row_in es)
+    → HaveWidth w (map row_in (inserted at rows es))
 wide_inserted w at rows es h g =
     let same : map row_in (stamped at rows) ≡ rows = back_again rows in
     let front = filter (λ (e : Stamped). int_le e.0 at) es in
@@ -84,14 +89,16 @@ wide_inserted w at rows es h g =
     some p [] k = k
     some p (x ∷ xs) k = step (p x) (some p xs (All-tail (λ row. length row ≡ w) (row_in x) (map row_in xs) k)) where
       step : (b : Bool) → HaveWidth w (map row_in (filter p xs)) → HaveWidth w (map row_in (cond b (x ∷ filter p xs) (filter p xs)))
-      step true more = All-cons (λ row. length row ≡ w) (row_in x) (map row_in (filter p xs)) (All-head (λ row. length row ≡ w) (row_in x) (map row_in xs) k) more
+      step true more = All-cons (λ row. length row ≡ w) (row_in x) (map row_in (filter p xs))
+          (All-head (λ row. length row ≡ w) (row_in x) (map row_in xs) k) more
       step false more = more
 
 -- the parts of rows so wide
 wide_front : (w : ℕ) (xs ys : List (List ℤ)) → HaveWidth w (xs ++ ys) → HaveWidth w xs
 wide_front w [] ys h = All-nil (λ row. length row ≡ w)
 wide_front w (x ∷ xs) ys h =
-    All-cons (λ row. length row ≡ w) x xs (All-head (λ row. length row ≡ w) x (xs ++ ys) h) (wide_front w xs ys (All-tail (λ row. length row ≡ w) x (xs ++ ys) h))
+    All-cons (λ row. length row ≡ w) x xs (All-head (λ row. length row ≡ w) x (xs ++ ys) h)
+    (wide_front w xs ys (All-tail (λ row. length row ≡ w) x (xs ++ ys) h))
 
 wide_back : (w : ℕ) (xs ys : List (List ℤ)) → HaveWidth w (xs ++ ys) → HaveWidth w ys
 wide_back w [] ys h = h

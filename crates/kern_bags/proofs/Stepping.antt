@@ -16,7 +16,8 @@ use Rattle.kern_bags.proofs.Wide.{wide_projected}
 -- PAIRS
 
 -- the pairs of one row more
-pub pairs_more : (lefts rights start old new : List (List ℤ)) (i : ℕ) (x : List ℤ) → i < length lefts → x ≡ get_or lefts i x → old ≡ start ++ all_pairs (take i lefts) rights
+pub pairs_more : (lefts rights start old new : List (List ℤ)) (i : ℕ) (x : List ℤ) → i < length lefts → x ≡ get_or lefts i x
+    → old ≡ start ++ all_pairs (take i lefts) rights
     → new ≡ old ++ map (λ y. x ++ y) rights → new ≡ start ++ all_pairs (take (i + 1) lefts) rights
 pairs_more lefts rights start old new i x lt is o e =
     let f : List ℤ → List (List ℤ) = λ z. map (λ y. z ++ y) rights in
@@ -47,7 +48,8 @@ projects ts c d e = record { each = λ before b is. e ∙ ap (λ (k : Change). b
   both k = cancelled k.at (map (λ row. map (λ t. val t row []) ts) k.plus) (map (λ row. map (λ t. val t row []) ts) k.minus)
 
 -- a selection of a normalised change is one
-pub select_fits : (w : ℕ) (t : Term) (c d : Change) → d ≡ record { at = c.at; plus = selected t c.plus; minus = selected t c.minus } → IsChangeOf w c → IsChangeOf w d
+pub select_fits : (w : ℕ) (t : Term) (c d : Change) → d ≡ record { at = c.at; plus = selected t c.plus; minus = selected t c.minus } → IsChangeOf w c
+    → IsChangeOf w d
 select_fits w t c d e h = subst (IsChangeOf w) (sym e) (record {
   normal = selected_normal t c h.normal;
   wide = record {
@@ -61,7 +63,8 @@ pub project_fits : (ts : List Term) (at : ℤ) (plus minus : List (List ℤ)) (d
     → d ≡ cancelled at (map (λ row. map (λ t. val t row []) ts) plus) (map (λ row. map (λ t. val t row []) ts) minus) → IsChangeOf (length ts) d
 project_fits ts at plus minus d e =
     subst (IsChangeOf (length ts)) (sym e)
-    (cancelled_of (length ts) at (map (λ row. map (λ t. val t row []) ts) plus) (map (λ row. map (λ t. val t row []) ts) minus) (wide_projected ts plus) (wide_projected ts minus))
+    (cancelled_of (length ts) at (map (λ row. map (λ t. val t row []) ts) plus) (map (λ row. map (λ t. val t row []) ts) minus) (wide_projected ts plus)
+    (wide_projected ts minus))
 
 -- where nothing comes, no pair does
 pub nothing_meets : (old lefts rights : List (List ℤ)) → rights ≡ [] → old ≡ old ++ all_pairs lefts rights

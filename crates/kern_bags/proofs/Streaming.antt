@@ -16,7 +16,8 @@ use Rattle.kern_changes.proofs.Leading.{same_order}
 use Rattle.kern_changes.proofs.Widths.{wide_changed, wide_in_order}
 
 -- a change made on the bag of the content gives the next one
-pub changed_same : (c : Change) (old new before : List (List ℤ)) (b : Batch) → AreSame old before → c ≡ change_to before b → Changed c old new → AreSame new b.rows
+pub changed_same : (c : Change) (old new before : List (List ℤ)) (b : Batch) → AreSame old before → c ≡ change_to before b → Changed c old new
+    → AreSame new b.rows
 changed_same c old new before b same is made = record {
   each = λ row.
       let m : copies row c.minus ≡ copies row (difference before b.rows) = ap (λ (d : Change). copies row d.minus) is in
@@ -29,7 +30,8 @@ changed_same c old new before b same is made = record {
 }
 
 -- the next content, in order, is what Rstream gives
-pub all_streams : (c : Change) (old new : List (List ℤ)) (g : Batch) → Changed c old new → g ≡ record { at = c.at; rows = in_order new } → StreamsAll c old new g
+pub all_streams : (c : Change) (old new : List (List ℤ)) (g : Batch) → Changed c old new → g ≡ record { at = c.at; rows = in_order new }
+    → StreamsAll c old new g
 all_streams c old new g made e = record {
   each = λ before b up same is.
       let s = changed_same c old new before b same is made in
@@ -37,7 +39,8 @@ all_streams c old new g made e = record {
 }
 
 -- the content and what is given are as wide as what came
-pub all_fit : (w : ℕ) (c : Change) (old new rows : List (List ℤ)) → Changed c old new → rows ≡ in_order new → HaveWidth w old → IsWideChange w c → HaveWidth w new
+pub all_fit : (w : ℕ) (c : Change) (old new rows : List (List ℤ)) → Changed c old new → rows ≡ in_order new → HaveWidth w old → IsWideChange w c
+    → HaveWidth w new
     × HaveWidth w rows
 all_fit w c old new rows made e h k =
     let n = wide_changed w c old new h k.plus made in

@@ -14,7 +14,8 @@ use Rattle.kern_changes.proofs.Widths.{wide_append}
 pub wide_projected : (ts : List Term) (rows : List (List ℤ)) → HaveWidth (length ts) (map (λ row. map (λ t. val t row []) ts) rows)
 wide_projected ts [] = All-nil (λ row. length row ≡ length ts)
 wide_projected ts (row ∷ rows) =
-    All-cons (λ r. length r ≡ length ts) (map (λ t. val t row []) ts) (map (λ r. map (λ t. val t r []) ts) rows) (length-map ts (λ t. val t row [])) (wide_projected ts rows)
+    All-cons (λ r. length r ≡ length ts) (map (λ t. val t row []) ts) (map (λ r. map (λ t. val t r []) ts) rows) (length-map ts (λ t. val t row []))
+    (wide_projected ts rows)
 
 -- joined rows are as wide as both together
 pub wide_pairs : (l r : ℕ) (xs ys : List (List ℤ)) → HaveWidth l xs → HaveWidth r ys → HaveWidth (l + r) (all_pairs xs ys)

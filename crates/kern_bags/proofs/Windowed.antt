@@ -60,7 +60,8 @@ contents_are (Range span) bs row y =
     let now = greatest bs in
     copies-in_order row (in_window (Range span) now bs)
     ∙ copies-where row (λ u. int_le u now && int_le (later (pos 0) (now -ℤ span)) u) bs
-    ∙ sum-cong (λ (b : Batch). cond (int_le b.at now && int_le (later (pos 0) (now -ℤ span)) b.at) (copies row b.rows) 0) (λ (b : Batch). cond (lets_pass (Range span) now b.at) (copies row b.rows) 0) bs
+    ∙ sum-cong (λ (b : Batch). cond (int_le b.at now && int_le (later (pos 0) (now -ℤ span)) b.at) (copies row b.rows) 0)
+    (λ (b : Batch). cond (lets_pass (Range span) now b.at) (copies row b.rows) 0) bs
     (λ b. ap (λ q. cond q (copies row b.rows) 0) (later_of span now b.at))
 contents_are Unbounded bs row y = copies-in_order row (in_window Unbounded (greatest bs) bs) ∙ copies-where row (λ u. int_le u (greatest bs)) bs
 contents_are (Latest n) bs row y = absurd y
@@ -218,7 +219,8 @@ climbs_all : (done : List Placed) (k : ℕ) (bs : List Batch) → AllByRecursion
 climbs_all done k [] a h = h
 climbs_all done k (b ∷ bs) a h =
     let p : Placed = record { start = k; batch = b } in
-    climbs_all (put p done) (k + length b.rows) bs (all_put (λ q. end_of q ≤ k + length b.rows) p done (omega arith) (ended k (length b.rows) done a)) (climbs_put p done a h)
+    climbs_all (put p done) (k + length b.rows) bs (all_put (λ q. end_of q ≤ k + length b.rows) p done (omega arith) (ended k (length b.rows) done a))
+    (climbs_put p done a h)
 
 -- ROWS THAT CAME
 
@@ -270,7 +272,9 @@ where_all : (t : ℤ) (ps : List Placed) → AllByRecursion (λ (p : Placed). p.
     → rows_where (λ u. int_le u t) (map batch_of ps) ≡ map row_of (all_rows ps)
 where_all t [] a = refl
 where_all t (p ∷ ps) a =
-    ap (λ q. flat_map (λ (c : Batch). c.rows) (cond q (p.batch ∷ filter (λ (c : Batch). int_le c.at t) (map batch_of ps)) (filter (λ (c : Batch). int_le c.at t) (map batch_of ps)))) (up_to p.batch.at t a.0)
+    ap (λ q. flat_map (λ (c : Batch). c.rows)
+    (cond q (p.batch ∷ filter (λ (c : Batch). int_le c.at t) (map batch_of ps)) (filter (λ (c : Batch). int_le c.at t) (map batch_of ps))))
+    (up_to p.batch.at t a.0)
     ∙ (λ i. sym (rows_came p.start p.batch.at p.batch.rows) i ++ where_all t ps a.1 i) ∙ sym (map-append row_of (rows_of p) (all_rows ps))
 
 -- at a later instant, or at the same and at place n or behind
@@ -346,7 +350,8 @@ latest_are n bs =
     let passed = rows_where (λ u. int_le u (greatest bs)) (by_instant bs) in
     let rows : passed ≡ map row_of es =
     ap (rows_where (λ u. int_le u (greatest bs))) (sym (batches_sorted bs))
-    ∙ where_all (greatest bs) (sorted bs) (all_put_all (λ (p : Placed). p.batch.at ≤ℤ greatest bs) [] (placed 0 bs) tt (all_placed (greatest bs) 0 bs (bounded bs))) in
+    ∙ where_all (greatest bs) (sorted bs)
+    (all_put_all (λ (p : Placed). p.batch.at ≤ℤ greatest bs) [] (placed 0 bs) tt (all_placed (greatest bs) 0 bs (bounded bs))) in
     let last : last_of_rows n passed ≡ map row_of (drop more es) =
     ap (last_of_rows n) rows ∙ ap (λ m. drop (m - n) (map row_of es)) (length-map es row_of) ∙ drop-map row_of more es in
     let many : length (came 0 bs) ≡ length es = sym (count_each (came 0 bs)) ∙ count_sorted (λ e. true) bs ∙ count_each es in
@@ -360,7 +365,8 @@ latest_are n bs =
           let d = count-append test (drop more es) (take more es) in
           omega (arith, a, b, c, d);
       content_is =
-          λ test. sym (bag_from_permutation (last_of_rows n passed) (content_of (Latest n) bs) (in_order_bag (last_of_rows n passed)) test) ∙ ap (count_by test) last;
+          λ test. sym (bag_from_permutation (last_of_rows n passed) (content_of (Latest n) bs) (in_order_bag (last_of_rows n passed)) test)
+          ∙ ap (count_by test) last;
       number = let l = length-drop more es in omega (arith, l, many);
       later = later_than more es (climb_all (sorted bs) (climbs_all [] 0 bs tt tt));
     }

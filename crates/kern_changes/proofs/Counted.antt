@@ -72,7 +72,8 @@ count_set k n [] s r = let c = counted-cons r (k, n) [] in omega (arith, c)
 count_set k n (e ∷ es) s r = step (row_cmp k e.0) refl (count_set k n es s.1 r) where
   step : (q : Ordering) → row_cmp k e.0 ≡ q → copies r (rows_counted (insert_entry row_cmp es k n)) + copies k (rows_counted es) * one r k
       ≡ copies r (rows_counted es) + n * one r k
-      → copies r (rows_counted (match_ordering q ((k, n) ∷ (e ∷ es)) ((e.0, n) ∷ es) (e ∷ insert_entry row_cmp es k n))) + copies k (rows_counted (e ∷ es)) * one r k
+      → copies r (rows_counted (match_ordering q ((k, n) ∷ (e ∷ es)) ((e.0, n) ∷ es) (e ∷ insert_entry row_cmp es k n))) + copies k
+      (rows_counted (e ∷ es)) * one r k
       ≡ copies r (rows_counted (e ∷ es)) + n * one r k
   step Less h more =
       let c = counted-cons r (k, n) (e ∷ es) in

@@ -7,7 +7,8 @@ use Rattle.std.proofs.lemmas.List.Elements.{filter-append}
 -- the element that comes next is still as it was
 pub as_it_was : {A : Type 0} (xs old : List A) (n : ℕ) (d : A) → drop n xs ≡ drop n old → get_or xs n d ≡ get_or old n d
 as_it_was xs old n d back =
-    ap (λ i. get_or xs i d) (omega arith) ∙ sym (get_or-drop n xs 0 d) ∙ ap (λ l. get_or l 0 d) back ∙ get_or-drop n old 0 d ∙ ap (λ i. get_or old i d) (omega arith)
+    ap (λ i. get_or xs i d) (omega arith) ∙ sym (get_or-drop n xs 0 d) ∙ ap (λ l. get_or l 0 d) back ∙ get_or-drop n old 0 d
+    ∙ ap (λ i. get_or old i d) (omega arith)
 
 -- what is behind the next place is as it was
 pub rest_as_it_was : {A : Type 0} (xs old : List A) (n : ℕ) → drop n xs ≡ drop n old → drop (n + 1) xs ≡ drop (n + 1) old

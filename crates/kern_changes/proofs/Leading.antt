@@ -41,7 +41,8 @@ sum-flat_map f g (x ∷ xs) =
 pub sum-plus : {K : Type 0} (f g : K → ℕ) (xs : List K) → sum_by (λ x. f x + g x) xs ≡ sum_by f xs + sum_by g xs
 sum-plus f g [] = refl
 sum-plus f g (x ∷ xs) =
-    let a = sum_by-cons (λ y. f y + g y) x xs in let b = sum_by-cons f x xs in let c = sum_by-cons g x xs in let d = sum-plus f g xs in omega (arith, a, b, c, d)
+    let a = sum_by-cons (λ y. f y + g y) x xs in let b = sum_by-cons f x xs in let c = sum_by-cons g x xs in let d =
+    sum-plus f g xs in omega (arith, a, b, c, d)
 
 -- the order is nothing to a sum
 pub sum-in_order : (f : List ℤ → ℕ) (xs : List (List ℤ)) → sum_by f (in_order xs) ≡ sum_by f xs
@@ -62,12 +63,14 @@ pub difference_ascends : (xs ys : List (List ℤ)) → IsAscending (difference x
 difference_ascends xs ys = in_order_ascends (without xs ys)
 
 -- a difference is a function of the bags
-pub same_difference : (xs ys us vs : List (List ℤ)) → ((row : List ℤ) → copies row xs - copies row ys ≡ copies row us - copies row vs) → difference xs ys ≡ difference us vs
+pub same_difference : (xs ys us vs : List (List ℤ)) → ((row : List ℤ) → copies row xs - copies row ys ≡ copies row us - copies row vs)
+    → difference xs ys ≡ difference us vs
 same_difference xs ys us vs h = same_order (without xs ys) (without us vs) (λ row. copies-without row xs ys ∙ h row ∙ sym (copies-without row us vs))
 
 -- the order is nothing to a difference
 pub difference-in_order : (xs ys : List (List ℤ)) → difference (in_order xs) (in_order ys) ≡ difference xs ys
-difference-in_order xs ys = same_difference (in_order xs) (in_order ys) xs ys (λ row. let a = copies-in_order row xs in let b = copies-in_order row ys in omega (arith, a, b))
+difference-in_order xs ys =
+    same_difference (in_order xs) (in_order ys) xs ys (λ row. let a = copies-in_order row xs in let b = copies-in_order row ys in omega (arith, a, b))
 
 -- LEADING
 
@@ -98,7 +101,8 @@ cancelled_is at before after plus minus h =
 
 -- the rows of the change lead from one content to the other
 pub change_leads : (before after : List (List ℤ)) → LeadsTo before after (difference after before) (difference before after)
-change_leads before after = leads_from_copies before after (difference after before) (difference before after) (λ row. let a = differences_are after before row in
+change_leads before after =
+    leads_from_copies before after (difference after before) (difference before after) (λ row. let a = differences_are after before row in
     let b = differences_are before after row in omega (arith, a, b))
 
 -- by any rows that lead there the content is made
@@ -115,7 +119,8 @@ pub cancelled_normal : (at : ℤ) (plus minus : List (List ℤ)) → IsNormal (c
 cancelled_normal at plus minus = record {
   plus = difference_ascends plus minus;
   minus = difference_ascends minus plus;
-  apart = λ row. ⊎_elim (λ lt. inl (differences_are plus minus row ∙ omega (arith, lt))) (λ ge. inr (differences_are minus plus row ∙ omega (arith, ge))) (cases_lt
+  apart = λ row. ⊎_elim (λ lt. inl (differences_are plus minus row ∙ omega (arith, lt))) (λ ge. inr (differences_are minus plus row ∙ omega (arith, ge)))
+      (cases_lt
       (copies row plus) (copies row minus));
 }
 
@@ -123,10 +128,12 @@ cancelled_normal at plus minus = record {
 pub cancelled_none : (c : Change) → IsNormal c → cancelled c.at c.plus c.minus ≡ c
 cancelled_none c n =
     let p : difference c.plus c.minus
-    ≡ c.plus = same_ascending (difference c.plus c.minus) c.plus (difference_ascends c.plus c.minus) n.plus (λ row. let d = differences_are c.plus c.minus row in
+    ≡ c.plus = same_ascending (difference c.plus c.minus) c.plus (difference_ascends c.plus c.minus) n.plus
+    (λ row. let d = differences_are c.plus c.minus row in
     ⊎_elim (λ e. omega (arith, e, d)) (λ e. omega (arith, e, d)) (n.apart row)) in
     let m : difference c.minus c.plus
-    ≡ c.minus = same_ascending (difference c.minus c.plus) c.minus (difference_ascends c.minus c.plus) n.minus (λ row. let d = differences_are c.minus c.plus row in
+    ≡ c.minus = same_ascending (difference c.minus c.plus) c.minus (difference_ascends c.minus c.plus) n.minus
+    (λ row. let d = differences_are c.minus c.plus row in
     ⊎_elim (λ e. omega (arith, e, d)) (λ e. omega (arith, e, d)) (n.apart row)) in
     λ i. record { at = c.at; plus = p i; minus = m i }
 
@@ -135,7 +142,8 @@ pub change_becomes : (before : List (List ℤ)) (b : Batch) → IsAscending b.ro
 change_becomes before b a = record {
   at = refl;
   within = record { each = λ row. let e = differences_are before b.rows row in omega (arith, e) };
-  rows = sym (leads_makes before b.rows (change_to before b) a (change_leads before b.rows) (λ row. let e = differences_are before b.rows row in omega (arith, e)));
+  rows = sym (leads_makes before b.rows (change_to before b) a (change_leads before b.rows)
+      (λ row. let e = differences_are before b.rows row in omega (arith, e)));
 }
 
 -- the change between two contents makes the second
@@ -157,7 +165,8 @@ change_is before c b h n =
     λ i. record { at = h.at i; plus = p i; minus = m i }
 
 -- the changes of a list of contents stand for it, and are normalised
-pub changes_stand : (before : List (List ℤ)) (bs : List Batch) → AllAscending bs → StandForContents before (changes before bs) bs × AllNormal (changes before bs)
+pub changes_stand : (before : List (List ℤ)) (bs : List Batch) → AllAscending bs
+    → StandForContents before (changes before bs) bs × AllNormal (changes before bs)
 changes_stand before [] a = (tt, tt)
 changes_stand before (b ∷ bs) a =
     let more = changes_stand b.rows bs a.1 in
@@ -213,12 +222,14 @@ pub leads_filter : (p : List ℤ → Bool) (before after plus minus : List (List
     → LeadsTo (filter p before) (filter p after) (filter p plus) (filter p minus)
 leads_filter p before after plus minus h = record {
   each = λ f.
-      let a = sum-filter f p after in let b = sum-filter f p before in let c = sum-filter f p plus in let d = sum-filter f p minus in let e = h.each (λ x. cond (p x) (f x) 0) in
+      let a = sum-filter f p after in let b = sum-filter f p before in let c = sum-filter f p plus in let d = sum-filter f p minus in let e =
+      h.each (λ x. cond (p x) (f x) 0) in
       omega (arith, a, b, c, d, e);
 }
 
 -- images lead from images to images
-pub leads_map : (g : List ℤ → List ℤ) (before after plus minus : List (List ℤ)) → LeadsTo before after plus minus → LeadsTo (map g before) (map g after) (map g plus) (map g minus)
+pub leads_map : (g : List ℤ → List ℤ) (before after plus minus : List (List ℤ)) → LeadsTo before after plus minus
+    → LeadsTo (map g before) (map g after) (map g plus) (map g minus)
 leads_map g before after plus minus h = record {
   each = λ f.
       let a = sum-map f g after in let b = sum-map f g before in let c = sum-map f g plus in let d = sum-map f g minus in let e = h.each (λ x. f (g x)) in
@@ -228,7 +239,8 @@ leads_map g before after plus minus h = record {
 -- a sum over pairs
 pub sum-pairs : (f : List ℤ → ℕ) (xs ys : List (List ℤ)) → sum_by f (all_pairs xs ys) ≡ sum_by (λ x. sum_by (λ y. f (x ++ y)) ys) xs
 sum-pairs f xs ys =
-    sum-flat_map f (λ x. map (λ y. x ++ y) ys) xs ∙ sum-cong (λ x. sum_by f (map (λ y. x ++ y) ys)) (λ x. sum_by (λ y. f (x ++ y)) ys) xs (λ x. sum-map f (λ y. x ++ y) ys)
+    sum-flat_map f (λ x. map (λ y. x ++ y) ys) xs
+    ∙ sum-cong (λ x. sum_by f (map (λ y. x ++ y) ys)) (λ x. sum_by (λ y. f (x ++ y)) ys) xs (λ x. sum-map f (λ y. x ++ y) ys)
 
 -- pairs, where the left or the right side changes
 pub leads_left : (before after plus minus ys : List (List ℤ)) → LeadsTo before after plus minus
@@ -248,7 +260,8 @@ leads_right xs before after plus minus h = record {
       let over : List (List ℤ) → List ℤ → ℕ = λ ys x. sum_by (λ y. f (x ++ y)) ys in
       let a = sum-pairs f xs after in let b = sum-pairs f xs before in let c = sum-pairs f xs plus in let d = sum-pairs f xs minus in
       let e : sum_by (λ x. over after x + over minus x) xs
-      ≡ sum_by (λ x. over before x + over plus x) xs = sum-cong (λ x. over after x + over minus x) (λ x. over before x + over plus x) xs (λ x. h.each (λ y. f (x ++ y))) in
+      ≡ sum_by (λ x. over before x + over plus x) xs =
+      sum-cong (λ x. over after x + over minus x) (λ x. over before x + over plus x) xs (λ x. h.each (λ y. f (x ++ y))) in
       let l = sum-plus (over after) (over minus) xs in let r = sum-plus (over before) (over plus) xs in
       omega (arith, a, b, c, d, e, l, r);
 }

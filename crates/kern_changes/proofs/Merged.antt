@@ -61,7 +61,8 @@ past_lower x xs (y ∷ ys) u = step (row_lt y x) refl (past_lower x xs ys u) whe
   step : (b : Bool) → row_lt y x ≡ b → without (x ∷ xs) ys ≡ without (x ∷ xs) (rows_from x ys)
       → without (x ∷ xs) (y ∷ ys) ≡ without (x ∷ xs) (cond b (rows_from x ys) (y ∷ ys))
   step true e more =
-      let rest : AllByRecursion (λ z. row_eq z y ≡ false) xs = all_as (λ z. row_lt z x ≡ false) (λ z. row_eq z y ≡ false) xs (λ z g. not_same z y (lower z g)) u.0 in
+      let rest : AllByRecursion (λ z. row_eq z y ≡ false) xs =
+      all_as (λ z. row_lt z x ≡ false) (λ z. row_eq z y ≡ false) xs (λ z g. not_same z y (lower z g)) u.0 in
       ap (λ l. without l ys) (none_taken y (x ∷ xs) (not_same x y e, rest)) ∙ more
     where
       lower : (z : List ℤ) → row_lt z x ≡ false → row_lt y z ≡ true
@@ -161,7 +162,8 @@ at_end (x ∷ xs) (suc n) h = at_end xs n (omega (arith, h))
 abbrev pub IsMerged : List (List ℤ) → List (List ℤ) → ℕ → ℕ → List (List ℤ) → Type 0
 IsMerged rows others n p left = left ++ without (drop n rows) (drop p others) ≡ without rows others
 
-module _ (rows others : List (List ℤ)) (u : Up rows) (v : Up others) (n p q : ℕ) (x : List ℤ) (left : List (List ℤ)) (lt : n < length rows) (is : x ≡ get_or rows n x) (from : drop q others ≡ rows_from x (drop p others)) (so_far : IsMerged rows others n p left) where
+module _ (rows others : List (List ℤ)) (u : Up rows) (v : Up others) (n p q : ℕ) (x : List ℤ) (left : List (List ℤ)) (lt : n < length rows)
+    (is : x ≡ get_or rows n x) (from : drop q others ≡ rows_from x (drop p others)) (so_far : IsMerged rows others n p left) where
   here : drop n rows ≡ x ∷ drop (n + 1) rows
   here = at_front rows n x lt is
 
@@ -170,13 +172,15 @@ module _ (rows others : List (List ℤ)) (u : Up rows) (v : Up others) (n p q : 
 
   moved : left ++ without (x ∷ drop (n + 1) rows) (drop q others) ≡ without rows others
   moved =
-      ap (λ l. left ++ l) (ap (without (x ∷ drop (n + 1) rows)) from ∙ sym (past_lower x (drop (n + 1) rows) (drop p others) up) ∙ ap (λ l. without l (drop p others)) (sym here))
+      ap (λ l. left ++ l) (ap (without (x ∷ drop (n + 1) rows)) from ∙ sym (past_lower x (drop (n + 1) rows) (drop p others) up)
+      ∙ ap (λ l. without l (drop p others)) (sym here))
       ∙ so_far
 
   -- the same row stands there: both are done
   pub row_taken : (y : List ℤ) → q < length others → y ≡ get_or others q y → row_eq y x ≡ true → IsMerged rows others (n + 1) (q + 1) left
   row_taken y ql at e =
-      ap (λ l. left ++ l) (sym (same_taken x y (drop (n + 1) rows) (drop (q + 1) others) e) ∙ ap (without (x ∷ drop (n + 1) rows)) (sym (at_front others q y ql at)))
+      ap (λ l. left ++ l) (sym (same_taken x y (drop (n + 1) rows) (drop (q + 1) others) e)
+      ∙ ap (without (x ∷ drop (n + 1) rows)) (sym (at_front others q y ql at)))
       ∙ moved
 
   -- another row stands there: the row is left
@@ -219,7 +223,8 @@ place_next row y rows n lt is l =
 pub place_found : (row y : List ℤ) (rows : List (List ℤ)) (n : ℕ) → n < length rows → y ≡ get_or rows n y → row_lt y row ≡ false
     → drop n rows ≡ rows_from row (drop n rows)
 place_found row y rows n lt is l =
-    sym (ap (rows_from row) (at_front rows n y lt is) ∙ ap (λ b. cond b (rows_from row (drop (n + 1) rows)) (y ∷ drop (n + 1) rows)) l ∙ sym (at_front rows n y lt is))
+    sym (ap (rows_from row) (at_front rows n y lt is) ∙ ap (λ b. cond b (rows_from row (drop (n + 1) rows)) (y ∷ drop (n + 1) rows)) l
+    ∙ sym (at_front rows n y lt is))
 
 pub place_none : (row : List ℤ) (rows : List (List ℤ)) (n : ℕ) → length rows ≤ n → drop n rows ≡ rows_from row (drop n rows)
 place_none row rows n ge = let e = at_end rows n ge in e ∙ sym (ap (rows_from row) e)

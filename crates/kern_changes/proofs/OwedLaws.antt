@@ -71,7 +71,8 @@ netted_little d = record {
 
 owing_little : (plus minus : List (List ℤ)) (d : Debt) → OwesLittle d → OwesLittle (owing plus minus d)
 owing_little plus minus d h =
-    by_tidied OwesLittle (owing_more plus minus d) (λ few. record { begins = begins_more plus minus d h.begins; few = few }) (netted_little (owing_more plus minus d))
+    by_tidied OwesLittle (owing_more plus minus d) (λ few. record { begins = begins_more plus minus d h.begins; few = few })
+    (netted_little (owing_more plus minus d))
 
 nothing_little : OwesLittle no_debt
 nothing_little = record {
@@ -129,16 +130,19 @@ dealt_here : (plus minus : List (List ℤ)) (place : ℕ) (s : List Debt) → pl
 dealt_here plus minus place s lt =
     set_here (map (owing plus minus) s) place no_debt (subst (λ n. place < n) (sym (length-map s (owing plus minus))) lt)
 
-dealt_else : (plus minus : List (List ℤ)) (place q : ℕ) (s : List Debt) → place ≢ q → q < length s → debt_at (dealt plus minus place s) q ≡ owing plus minus (debt_at s q)
+dealt_else : (plus minus : List (List ℤ)) (place q : ℕ) (s : List Debt) → place ≢ q → q < length s
+    → debt_at (dealt plus minus place s) q ≡ owing plus minus (debt_at s q)
 dealt_else plus minus place q s ne lt = set_else (map (owing plus minus) s) place q no_debt ne ∙ each_at plus minus s q lt
 
 -- what holds at the place and elsewhere holds of all
 by_dealt : (P : ℕ → Debt → Type 0) (plus minus : List (List ℤ)) (place : ℕ) (s : List Debt) → place < length s → P place no_debt
-    → ((q : ℕ) → place ≢ q → q < length s → P q (owing plus minus (debt_at s q))) → (q : ℕ) → q < length (dealt plus minus place s) → P q (debt_at (dealt plus minus place s) q)
+    → ((q : ℕ) → place ≢ q → q < length s → P q (owing plus minus (debt_at s q))) → (q : ℕ) → q < length (dealt plus minus place s)
+    → P q (debt_at (dealt plus minus place s) q)
 by_dealt P plus minus place s lt here there q l =
     ⊎_elim
     (λ e. subst (λ k. P k (debt_at (dealt plus minus place s) k)) e (subst (P place) (sym (dealt_here plus minus place s lt)) here))
-    (λ ne. let k : q < length s = subst (λ n. q < n) (length-dealt plus minus place s) l in subst (P q) (sym (dealt_else plus minus place q s ne k)) (there q ne k))
+    (λ ne. let k : q < length s =
+    subst (λ n. q < n) (length-dealt plus minus place s) l in subst (P q) (sym (dealt_else plus minus place q s ne k)) (there q ne k))
     (cases_eq place q)
 
 dealt_little : (plus minus : List (List ℤ)) (place : ℕ) (s : List Debt) → place < length s → OweLittle s → OweLittle (dealt plus minus place s)
@@ -160,7 +164,8 @@ module _ (place : ℕ) (c : Change) (old : List Debt) (given : Change) (lt : pla
   each_owes = map (owing c.plus c.minus) old
 
   -- all lists owe the change, and the one in turn gives what it owes
-  pub deals : given ≡ cancelled c.at (debt_at each_owes place).plus (debt_at each_owes place).minus → DealsOwed place c old (dealt c.plus c.minus place old) given
+  pub deals : given ≡ cancelled c.at (debt_at each_owes place).plus (debt_at each_owes place).minus
+      → DealsOwed place c old (dealt c.plus c.minus place old) given
   deals g = record {
     each = λ now last b owed is.
         let at : c.at ≡ b.at = ap (λ (d : Change). d.at) is in
@@ -178,7 +183,8 @@ module _ (place : ℕ) (c : Change) (old : List Debt) (given : Change) (lt : pla
   }
 
   -- what it gives is normalised, and no list owes much
-  pub deals_keep : given ≡ cancelled c.at (debt_at each_owes place).plus (debt_at each_owes place).minus → KeepsOwed c old (dealt c.plus c.minus place old) given
+  pub deals_keep : given ≡ cancelled c.at (debt_at each_owes place).plus (debt_at each_owes place).minus
+      → KeepsOwed c old (dealt c.plus c.minus place old) given
   deals_keep g = record {
     lists = length-dealt c.plus c.minus place old;
     normal = subst IsNormal (sym g) (cancelled_normal c.at (debt_at each_owes place).plus (debt_at each_owes place).minus);
@@ -226,8 +232,10 @@ module _ (place : ℕ) (c : Change) (old : List Debt) (given : Change) (lt : pla
   joins g = record {
     each = λ last now b owed is.
         let at : c.at ≡ b.at = ap (λ (d : Change). d.at) is in
-        let came : LeadsTo (now place) b.rows c.plus c.minus = subst (λ (d : Change). LeadsTo (now place) b.rows d.plus d.minus) (sym is) (change_leads (now place) b.rows) in
-        let led : LeadsTo last b.rows port_owes.plus port_owes.minus = owing_leads last (now place) b.rows (debt_at old place) c.plus c.minus (owed place lt) came in
+        let came : LeadsTo (now place) b.rows c.plus c.minus =
+        subst (λ (d : Change). LeadsTo (now place) b.rows d.plus d.minus) (sym is) (change_leads (now place) b.rows) in
+        let led : LeadsTo last b.rows port_owes.plus port_owes.minus =
+        owing_leads last (now place) b.rows (debt_at old place) c.plus c.minus (owed place lt) came in
         let gave : given ≡ change_to last b =
         g ∙ ap (λ t. cancelled t port_owes.plus port_owes.minus) at ∙ sym (cancelled_is b.at last b.rows port_owes.plus port_owes.minus led) in
         let back : LeadsTo b.rows last given.minus given.plus =
@@ -238,9 +246,11 @@ module _ (place : ℕ) (c : Change) (old : List Debt) (given : Change) (lt : pla
               (subst (λ r. LeadsTo b.rows r [] []) (sym (but_same place b.rows now)) (leads_none b.rows))
               (λ q ne l.
               let l' : q < length old = subst (λ n. q < n) length-port_paid l in
-              let o : LeadsTo last (now q) (debt_at port_paid q).plus (debt_at port_paid q).minus = subst (λ (e : Debt). LeadsTo last (now q) e.plus e.minus) (sym
+              let o : LeadsTo last (now q) (debt_at port_paid q).plus (debt_at port_paid q).minus =
+              subst (λ (e : Debt). LeadsTo last (now q) e.plus e.minus) (sym
               (paid_else q ne)) (owed q l') in
-              subst (λ r. LeadsTo b.rows r (owing given.minus given.plus (debt_at port_paid q)).plus (owing given.minus given.plus (debt_at port_paid q)).minus) (sym
+              subst (λ r. LeadsTo b.rows r (owing given.minus given.plus (debt_at port_paid q)).plus
+              (owing given.minus given.plus (debt_at port_paid q)).minus) (sym
               (but_other place q b.rows now ne))
               (owing_leads_first b.rows last (now q) (debt_at port_paid q) given.minus given.plus o back)),
         );
@@ -270,7 +280,8 @@ module _ (place : ℕ) (c : Change) (old : List Debt) (given : Change) (lt : pla
     lists = length-dealt given.minus given.plus place port_paid ∙ length-port_paid;
     normal = subst IsNormal (sym g) (cancelled_normal c.at port_owes.plus port_owes.minus);
     wide = λ w h k.
-        let e : IsDebtOf w port_owes = owing_wide w c.plus c.minus (debt_at old place) k.plus k.minus (record { plus = h.plus place lt; minus = h.minus place lt }) in
+        let e : IsDebtOf w port_owes =
+        owing_wide w c.plus c.minus (debt_at old place) k.plus k.minus (record { plus = h.plus place lt; minus = h.minus place lt }) in
         let wide : IsWideChange w given = subst (IsWideChange w) (sym g) (record {
           plus = wide_difference w port_owes.plus port_owes.minus e.plus;
           minus = wide_difference w port_owes.minus port_owes.plus e.minus;

@@ -48,7 +48,8 @@ cancelled_of w at plus minus p m = record {
 pub wide_changed : (w : ℕ) (c : Change) (old new : List (List ℤ)) → HaveWidth w old → HaveWidth w c.plus → Changed c old new → HaveWidth w new
 wide_changed w c old new h g made =
     let p : IsPermutation (without old c.minus ++ c.plus) new = permutation_from_copies (without old c.minus ++ c.plus) new (λ row.
-    let a = count-append (row_eq row) (without old c.minus) c.plus in let b = copies-without row old c.minus in let n = made.each row in omega (arith, a, b, n)) in
+    let a = count-append (row_eq row) (without old c.minus) c.plus in let b = copies-without row old c.minus in let n =
+    made.each row in omega (arith, a, b, n)) in
     All-permutation (λ row. length row ≡ w) (without old c.minus ++ c.plus) new p (wide_append w (without old c.minus) c.plus (wide_without w old c.minus h) g)
 
 -- CHANGES THAT WERE GIVEN

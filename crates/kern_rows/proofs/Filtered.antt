@@ -132,11 +132,13 @@ module _ (f : FilterForm) (can : CanFilter f) where
   needed now s h = ap (needs_now f) h.fresh ∙ needs_is s.fired
 
   -- a run leaves less to do
-  pub run_less : (now new : Waiting) (out out' : List ℤ) → needs_now f now.fresh ≤ length now.buffer → RunsOnce f now new out out' → runs_left new < runs_left now
+  pub run_less : (now new : Waiting) (out out' : List ℤ) → needs_now f now.fresh ≤ length now.buffer → RunsOnce f now new out out'
+      → runs_left new < runs_left now
   run_less now new out out' enough r = go now.fresh refl
     where
       new_is : runs_left new ≡ (length now.buffer - (run_now f now.fresh).pop) + 0
-      new_is = ap (λ b. length new.buffer + (if b then 1 else 0)) r.fresh ∙ ap (λ l. length l + 0) r.buffer ∙ ap (λ k. k + 0) (length-drop (run_now f now.fresh).pop now.buffer)
+      new_is = ap (λ b. length new.buffer + (if b then 1 else 0)) r.fresh ∙ ap (λ l. length l + 0) r.buffer
+          ∙ ap (λ k. k + 0) (length-drop (run_now f now.fresh).pop now.buffer)
 
       go : (b : Bool) → now.fresh ≡ b → runs_left new < runs_left now
       go true e =
@@ -175,7 +177,8 @@ module _ (f : FilterForm) (can : CanFilter f) where
       };
     }
 
-    ran_at : (now new : Waiting) (out out' : List ℤ) (s : Filtering) → RunsOnce f now new out out' → KeepsFor f now s → needs_now f now.fresh ≤ length now.buffer
+    ran_at : (now new : Waiting) (out out' : List ℤ) (s : Filtering) → RunsOnce f now new out out' → KeepsFor f now s
+        → needs_now f now.fresh ≤ length now.buffer
         → KeepsFor f new (after_run s (next_run f s))
     ran_at now new out out' s r h enough =
         let p : (run_now f now.fresh).pop ≡ (run_at f s.fired).pop = ap (λ r. r.pop) (ap (run_now f) h.fresh ∙ run_is f s.fired) in
@@ -227,7 +230,8 @@ module _ (f : FilterForm) (can : CanFilter f) where
     pub between_end : (now : Waiting) (s : Filtering) (out out' : List ℤ) → IsBetween f v now s out out' → length now.buffer < needs_now f now.fresh
         → (out' ≡ out ++ first_values (filter_one f v s).pushes) × StandsForFiltering f now (filter_one f v s).after
     between_end now start out out' b few =
-        let lt : length (buffer_of f b.s) < needs f b.s.fired = (let n = needed now b.s b.keeps in let l = ap length b.keeps.buffer in omega (arith, few, n, l)) in
+        let lt : length (buffer_of f b.s) < needs f b.s.fired =
+        (let n = needed now b.s b.keeps in let l = ap length b.keeps.buffer in omega (arith, few, n, l)) in
         let all : filter_one f v start ≡ record { pushes = b.given; after = b.s } =
         b.reached.all ∙ ap (with_pushes b.given) (turns_stop b.n b.s lt) ∙ ap (λ l. record { pushes = l; after = b.s }) (append-nil b.given) in (
           b.grew ∙ ap (λ r. out ++ first_values r.pushes) (sym all),
@@ -270,7 +274,9 @@ module _ (f : FilterForm) (can : CanFilter f) where
                   g.is
                   ∙ ap (λ o. o ++ take g.n (first_values one)) b.grew
                   ∙ append_assoc out (first_values b.given) (take g.n (first_values one))
-                  ∙ ap (λ t. out ++ t) (sym (prefix_of (first_values b.given) (first_values one ++ first_values rest) (length (take g.n (first_values one))) ∙ ap (λ t. first_values b.given ++ t) (prefix_is (first_values one) (first_values rest) g.n)))
+                  ∙ ap (λ t. out ++ t)
+                  (sym (prefix_of (first_values b.given) (first_values one ++ first_values rest) (length (take g.n (first_values one)))
+                  ∙ ap (λ t. first_values b.given ++ t) (prefix_is (first_values one) (first_values rest) g.n)))
                   ∙ ap (λ t. out ++ take (length (first_values b.given) + length (take g.n (first_values one))) t) (sym firsts);
             }
 

@@ -32,13 +32,15 @@ mutual
   once_values (Set slot t) input slots h = tt
   once_values (Push port ts) input slots h = ((h.0, length-map ts (λ t. val t input slots) ∙ h.1), tt)
   once_values (If cond when otherwise) input slots h =
-      either (is_true (val cond input slots)) (ran when input slots) (ran otherwise input slots) (ran_values when input slots h.0) (ran_values otherwise input slots h.1)
+      either (is_true (val cond input slots)) (ran when input slots) (ran otherwise input slots) (ran_values when input slots h.0)
+      (ran_values otherwise input slots h.1)
 
   -- what a body pushes are values of 64 bits
   pub ran_values : (ss : Steps) (input slots : List ℤ) → GivesValues ss → AreValues (ran ss input slots).pushes
   ran_values Done input slots h = tt
   ran_values (Then s ss) input slots h =
-      both (ran_once s input slots).pushes (ran ss input (ran_once s input slots).slots).pushes (once_values s input slots h.0) (ran_values ss input (ran_once s input slots).slots h.1)
+      both (ran_once s input slots).pushes (ran ss input (ran_once s input slots).slots).pushes (once_values s input slots h.0)
+      (ran_values ss input (ran_once s input slots).slots h.1)
 
 -- a filter pushes such rows
 either_turn : (b : Bool) (x y : Filtered) → AreValues x.pushes → AreValues y.pushes → AreValues (if b then x else y).pushes

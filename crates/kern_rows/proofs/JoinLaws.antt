@@ -35,7 +35,8 @@ use Rattle.kern_changes.proofs.OwedLaws.{but_same, but_other}
 -- CONTENTS
 
 -- a list is held part by part
-pub held_from-append : (before : List (List ℤ)) (xs ys : List item.Item) → held_from before (xs ++ ys) ≡ held_from before xs ++ held_from (content_from before xs) ys
+pub held_from-append : (before : List (List ℤ)) (xs ys : List item.Item)
+    → held_from before (xs ++ ys) ≡ held_from before xs ++ held_from (content_from before xs) ys
 held_from-append before [] ys = refl
 held_from-append before (x ∷ xs) ys = ap (λ l. held_item before x ∷ l) (held_from-append (after_item before x) xs ys)
 
@@ -167,7 +168,8 @@ held_one t out out' f e h = record {
 
 -- ONE ITEM THAT IS NO PACK
 
-row_joined : (place : ℕ) (row : List ℤ) (s : List Debt) (last : List (List ℤ)) (now : ℕ → List (List ℤ)) (g : flat.Flat) → IsUnchanged g → AreOwed s (λ p. last) now
+row_joined : (place : ℕ) (row : List ℤ) (s : List Debt) (last : List (List ℤ)) (now : ℕ → List (List ℤ)) (g : flat.Flat) → IsUnchanged g
+    → AreOwed s (λ p. last) now
     → One row ≡ held_flat (now place) g → FlatJoined place last now g s (One row)
 row_joined place row s last now (One r) same owed is = record { next = now; here = refl; others = λ q ne. refl; owed = owed; gave = is }
 row_joined place row s last now (Batched b) same owed is = absurd (cc is)
@@ -199,7 +201,8 @@ batch_passes place b s = record {
   wide = λ t h o. (h, o);
 }
 
-change_joined : (place : ℕ) (c given : Change) (s s' : List Debt) → JoinsOwed place c s s' given → (last : List (List ℤ)) (now : ℕ → List (List ℤ)) (g : flat.Flat)
+change_joined : (place : ℕ) (c given : Change) (s s' : List Debt) → JoinsOwed place c s s' given
+    → (last : List (List ℤ)) (now : ℕ → List (List ℤ)) (g : flat.Flat)
     → IsUnchanged g → AreOwed s (λ p. last) now → Changed c ≡ held_flat (now place) g → FlatJoined place last now g s' (Changed given)
 change_joined place c given s s' j last now (One r) same owed is = absurd (cc is)
 change_joined place c given s s' j last now (Changed d) same owed is = absurd same
@@ -232,7 +235,8 @@ change_passes place c given s s' j k = record {
 
 -- THE ITEMS OF A PACK
 
-none_joined : (place : ℕ) (s : List Debt) (out : List item.Item) (last : List (List ℤ)) (now : ℕ → List (List ℤ)) (gs : List flat.Flat) → AreOwed s (λ p. last) now
+none_joined : (place : ℕ) (s : List Debt) (out : List item.Item) (last : List (List ℤ)) (now : ℕ → List (List ℤ)) (gs : List flat.Flat)
+    → AreOwed s (λ p. last) now
     → [] ≡ held_flats (now place) gs → FlatsJoined place last now gs s out out
 none_joined place s out last now [] owed is = record { next = now; here = refl; others = λ q ne. refl; owed = owed; gave = sym (append-nil out) }
 none_joined place s out last now (g ∷ gs) owed is = absurd (cc is)
@@ -248,7 +252,8 @@ flats_start place s out = record {
 }
 
 -- one more has
-pub flats_step : (place : ℕ) (fs : List flat.Flat) (f given : flat.Flat) (start s s' : List Debt) (out out' out'' : List item.Item) → JoinsFlats place fs start s out out'
+pub flats_step : (place : ℕ) (fs : List flat.Flat) (f given : flat.Flat) (start s s' : List Debt) (out out' out'' : List item.Item)
+    → JoinsFlats place fs start s out out'
     → JoinsFlat place f s s' given → out'' ≡ out' ++ Flat given ∷ [] → JoinsFlats place (fs ++ f ∷ []) start s' out out''
 flats_step place fs f given start s s' out out' out'' j k e = record {
   each = λ last now gs same owed is. step last now gs same owed (held_last fs f (now place) gs is);
@@ -264,7 +269,8 @@ flats_step place fs f given start s s' out out' out'' j k e = record {
       (held_on t out out' out'' a.0 (held_one t out' out'' given e b.0), b.1);
 }
   where
-    step : (last : List (List ℤ)) (now : ℕ → List (List ℤ)) (gs : List flat.Flat) → All IsUnchanged gs → AreOwed start (λ p. last) now → HeldLast fs f (now place) gs
+    step : (last : List (List ℤ)) (now : ℕ → List (List ℤ)) (gs : List flat.Flat) → All IsUnchanged gs → AreOwed start (λ p. last) now
+        → HeldLast fs f (now place) gs
         → FlatsJoined place last now gs s' out out''
     step last now gs same owed l =
         let all : All IsUnchanged (l.front ++ l.g ∷ []) = subst (All IsUnchanged) l.is same in
@@ -276,12 +282,14 @@ flats_step place fs f given start s s' out out' out'' j k e = record {
           others = λ r ne. q.others r ne ∙ p.others r ne;
           owed = subst (λ b. AreOwed s' (λ r. b) q.next) (sym (after-more last l.front l.g)) q.owed;
           gave =
-              e ∙ (λ i. p.gave i ++ Flat (q.gave i) ∷ []) ∙ append_assoc out (flats_as_items (held_flats last l.front)) (Flat (held_flat (after_flats last l.front) l.g) ∷ [])
+              e ∙ (λ i. p.gave i ++ Flat (q.gave i) ∷ [])
+              ∙ append_assoc out (flats_as_items (held_flats last l.front)) (Flat (held_flat (after_flats last l.front) l.g) ∷ [])
               ∙ ap (λ r. out ++ r) (sym (held-more last l.front l.g));
         })
 
 -- there was no memory for more
-pub flats_part : (place n : ℕ) (done fs : List flat.Flat) (s s' : List Debt) (out out' out'' : List item.Item) → JoinsFlats place done s s' out out' → done ≡ take n fs
+pub flats_part : (place n : ℕ) (done fs : List flat.Flat) (s s' : List Debt) (out out' out'' : List item.Item) → JoinsFlats place done s s' out out'
+    → done ≡ take n fs
     → out'' ≡ out' → JoinsFlatsPart place fs s out out''
 flats_part place n done fs s s' out out' out'' j e f = record {
   each = λ last now gs same owed is.
@@ -440,7 +448,8 @@ pub record Took (ws : List ℕ) (s s' : JoinKept) (place : ℕ) (x : item.Item) 
   pub owed : s'.owed ≡ s.owed
 
 -- an item that was put to the list of its port is taken
-pub took : (ws : List ℕ) (share place : ℕ) (x : item.Item) (s s' : JoinKept) → share ≡ slice_index_or ws s.turns.port 0 → TakesItem share s.turns s'.turns (place, x)
+pub took : (ws : List ℕ) (share place : ℕ) (x : item.Item) (s s' : JoinKept) → share ≡ slice_index_or ws s.turns.port 0
+    → TakesItem share s.turns s'.turns (place, x)
     → s'.owed ≡ s.owed → Took ws s s' place x
 took ws share place x s s' e h owed = record { port = h.port; passes = subst (λ n. PassesFront n s.turns s'.turns x) e h.passes; owed = owed }
 
@@ -507,7 +516,8 @@ module _ (ws : List ℕ) (s s' : JoinKept) (x : item.Item) (t : PassesFront (sli
             ⊎_elim
             (λ e. subst (λ r. list_at s'.turns.lists r ≡ held_from (joined.next r) (list_at (rest_at n.turns.lists q) r)) e
             (ap (λ r. list_at s'.turns.lists r) (sym h.port) ∙ line_here ∙ held.rest ∙ (λ i. held_from (sym joined.here i) (sym rest_front i))))
-            (λ ne. line_else p (λ e. ne (sym h.port ∙ e)) ∙ h.lines p l' ∙ (λ i. held_from (sym (joined.others p ne) i) (sym (rest_else n.turns.lists q p ne) i)))
+            (λ ne. line_else p (λ e. ne (sym h.port ∙ e)) ∙ h.lines p l'
+            ∙ (λ i. held_from (sym (joined.others p ne) i) (sym (rest_else n.turns.lists q p ne) i)))
             (cases_eq q p);
         owed = joined.owed;
       }
@@ -536,7 +546,8 @@ module _ (ws : List ℕ) (s s' : JoinKept) (x : item.Item) (t : PassesFront (sli
         let o : PassesOpened give h.y = opens give n g.stands g.left jn in
         let more : List item.Item = (settled give ws (passed ws n.turns)).0 in
         let all : (settled give ws m.turns).0 ≡ g.items ++ (items_of h.y ++ more) =
-        sym (so_far_next give ws m.turns n.turns (passed_by (slice_index_or ws n.turns.port 0) n.turns) [] g.items h.y g.passed (passes give n g.stands g.left jn))
+        sym (so_far_next give ws m.turns n.turns (passed_by (slice_index_or ws n.turns.port 0) n.turns) [] g.items h.y g.passed
+        (passes give n g.stands g.left jn))
         ∙ (λ i. sym g.passed.grew i ++ (o.opened i ++ more)) in
         let p = (subst (λ q. JoinsItemPart q x s.owed out' out'') g.stands.port part).each n.last n.now h.y o.same g.stands.owed h.front in
         grew_on out (held_from m.last g.items) (held_from n.last (items_of h.y)) (held_from (content_from n.last (items_of h.y)) more)
@@ -549,7 +560,8 @@ module _ (ws : List ℕ) (s s' : JoinKept) (x : item.Item) (t : PassesFront (sli
         let o : PassesOpened give x = of_front (PassesOpened give) g.left in
         let more : List item.Item = (settled give ws (passed ws s.turns)).0 in
         grew_on out g.passed.given (give x) more (settled give ws start.turns).0 out' out'' g.passed.grew
-        (sym (so_far_next give ws start.turns s.turns s'.turns out out' x g.passed t)) (subst (λ l. GrewByPrefix out' l out'') (sym o.opened) (part.plain o.same))
+        (sym (so_far_next give ws start.turns s.turns s'.turns out out' x g.passed t))
+        (subst (λ l. GrewByPrefix out' l out'') (sym o.opened) (part.plain o.same))
 
   module _ (start : JoinKept) (out out' out'' : List item.Item) (shares : HaveShares ws) (j : JoinsItem port x s.owed s'.owed out' out'') where
     next_shape : HasJoinShape ws s → HasJoinShape ws s'
@@ -611,7 +623,8 @@ module _ (ws : List ℕ) (s s' : JoinKept) (x : item.Item) (t : PassesFront (sli
     }
 
 -- the item that was taken is given
-pub given_step : (ws : List ℕ) (start s u s' : JoinKept) (place : ℕ) (x : item.Item) (out out' out'' : List item.Item) → HaveShares ws → JoinedSoFar ws start s out out'
+pub given_step : (ws : List ℕ) (start s u s' : JoinKept) (place : ℕ) (x : item.Item) (out out' out'' : List item.Item) → HaveShares ws
+    → JoinedSoFar ws start s out out'
     → Took ws s u place x → s'.turns ≡ u.turns → JoinsItem place x u.owed s'.owed out' out'' → JoinedSoFar ws start s' out out''
 given_step ws start s u s' place x out out' out'' shares f t e j =
     joined_step ws s s' x (subst (λ v. PassesFront (slice_index_or ws s.turns.port 0) s.turns v x) (sym e) t.passes) start out out' out'' shares
@@ -635,7 +648,8 @@ same_kept : (s s' : JoinKept) → s'.turns ≡ s.turns → s'.owed ≡ s.owed �
 same_kept s s' e f i = record { turns = sym e i; owed = sym f i }
 
 -- no more can pass
-pub joined_end : (ws : List ℕ) (start s s' : JoinKept) (out out' : List item.Item) → JoinedSoFar ws start s out out' → IsStuck s.turns s'.turns → s'.owed ≡ s.owed
+pub joined_end : (ws : List ℕ) (start s s' : JoinKept) (out out' : List item.Item) → JoinedSoFar ws start s out out' → IsStuck s.turns s'.turns
+    → s'.owed ≡ s.owed
     → JoinsItems ws start s' out out'
 joined_end ws start s s' out out' f gone same = record { each = λ give m opened h. step give m (f.each give m opened h) } where
   step : (give : item.Item → List item.Item) (m : Joining) → JoinedIn give ws m s out out' → JoinedItems give ws m s' out out'
@@ -653,13 +667,15 @@ joined_end ws start s s' out out' f gone same = record { each = λ give m opened
         now = n.now;
         gave = g.gave ∙ ap (λ l. out ++ held_from m.last l) e.0;
         stands = subst (λ k. StandsForJoining k
-            (record { turns = (settled give ws m.turns).1; last = content_from m.last (settled give ws m.turns).0; now = n.now })) (same_kept s s' gone.same same)
+            (record { turns = (settled give ws m.turns).1; last = content_from m.last (settled give ws m.turns).0; now = n.now }))
+            (same_kept s s' gone.same same)
             (subst (StandsForJoining s) (λ i. record { turns = e.1 i; last = last i; now = n.now }) g.stands);
         ends = λ p l. ap (λ (u : Turns). content_from (n.now p) (list_at u.lists p)) (sym e.1) ∙ g.ends p l;
       }
 
 -- where no change waited, all passed as it is
-pub plain_end : (ws : List ℕ) (start s s' : JoinKept) (out out' : List item.Item) → JoinedSoFar ws start s out out' → IsStuck s.turns s'.turns → s'.owed ≡ s.owed
+pub plain_end : (ws : List ℕ) (start s s' : JoinKept) (out out' : List item.Item) → JoinedSoFar ws start s out out' → IsStuck s.turns s'.turns
+    → s'.owed ≡ s.owed
     → JoinsPlainly ws start s' out out'
 plain_end ws start s s' out out' f gone same = record {
   each = λ give opened.

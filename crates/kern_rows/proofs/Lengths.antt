@@ -16,7 +16,8 @@ mutual
   once_length (Set slot t) input slots = length-set slots slot (val t input slots)
   once_length (Push port ts) input slots = refl
   once_length (If cond when otherwise) input slots =
-      either_length (is_true (val cond input slots)) (ran when input slots) (ran otherwise input slots) (length slots) (ran_length when input slots) (ran_length otherwise input slots)
+      either_length (is_true (val cond input slots)) (ran when input slots) (ran otherwise input slots) (length slots) (ran_length when input slots)
+      (ran_length otherwise input slots)
 
   -- a run keeps the number of slots
   pub ran_length : (ss : Steps) (input slots : List ℤ) → length (ran ss input slots).slots ≡ length slots

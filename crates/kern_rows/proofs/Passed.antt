@@ -68,7 +68,8 @@ pub next_turn : (ws : List ℕ) (port had : ℕ) → HaveShares ws → IsTurn ws
 next_turn ws port had all h =
     let other : ℕ = if nat_lt (port + 1) (length ws) then port + 1 else 0 in
     ⊎_elim
-    (λ lt. turn_by ws _ _ port (had + 1) (if_lt (had + 1) (slice_index_or ws port 0) port other lt) (if_lt (had + 1) (slice_index_or ws port 0) (had + 1) 0 lt) (h.0, lt))
+    (λ lt. turn_by ws _ _ port (had + 1) (if_lt (had + 1) (slice_index_or ws port 0) port other lt) (if_lt (had + 1) (slice_index_or ws port 0) (had + 1) 0 lt)
+    (h.0, lt))
     (λ ge. turn_by ws _ _ other 0 (if_ge (had + 1) (slice_index_or ws port 0) port other ge) (if_ge (had + 1) (slice_index_or ws port 0) (had + 1) 0 ge) (⊎_elim
     (λ lt. turn_by ws other 0 (port + 1) 0 (if_lt (port + 1) (length ws) (port + 1) 0 lt) refl (lt, share_at ws (port + 1) all.1 lt))
     (λ le. turn_by ws other 0 0 0 (if_ge (port + 1) (length ws) (port + 1) 0 le) refl (all.0, share_at ws 0 all.1 all.0))
@@ -77,7 +78,10 @@ next_turn ws port had all h =
 
 passed_is : (ws : List ℕ) (s : Turns) → length s.lists ≡ length ws → passed_by (slice_index_or ws s.port 0) s ≡ passed ws s
 passed_is ws s e =
-    ap (λ n. record (passed ws s) { port = if nat_lt (s.had + 1) (slice_index_or ws s.port 0) then s.port else (if nat_lt (s.port + 1) n then s.port + 1 else 0) }) e
+    ap (λ n. record (passed ws s) {
+      port =
+          if nat_lt (s.had + 1) (slice_index_or ws s.port 0) then s.port else (if nat_lt (s.port + 1) n then s.port + 1 else 0);
+    }) e
 
 -- a joiner that an item comes to keeps its shape
 pub joined_put : (ws : List ℕ) (p : ℕ) (x : item.Item) (s : Turns) → IsJoiner ws s → IsJoiner ws (put p x s)
@@ -91,7 +95,8 @@ module _ (give : item.Item → List item.Item) (ws : List ℕ) where
   drain_none (suc n) s e = ap (pass_on (passed ws) s (drain (front_of give) (passed ws) n)) e
 
   drain_some : (n : ℕ) (s : Turns) (o : List item.Item) → front_of give s ≡ Some o
-      → drain (front_of give) (passed ws) (suc n) s ≡ (o ++ (drain (front_of give) (passed ws) n (passed ws s)).0, (drain (front_of give) (passed ws) n (passed ws s)).1)
+      → drain (front_of give) (passed ws) (suc n) s ≡
+      (o ++ (drain (front_of give) (passed ws) n (passed ws s)).0, (drain (front_of give) (passed ws) n (passed ws s)).1)
   drain_some n s o e = ap (pass_on (passed ws) s (drain (front_of give) (passed ws) n)) e
 
   front_cases : {B : Type 0} (s : Turns) → (front_of give s ≡ None → B) → ((o : List item.Item) → front_of give s ≡ Some o → B) → B
@@ -118,7 +123,8 @@ module _ (give : item.Item → List item.Item) (ws : List ℕ) where
       let l = less_at give s.lists s.port o h in
       enough (waiting s.lists) (suc (waiting s.lists)) s (le_refl (waiting s.lists)) (omega arith)
       ∙ drain_some (waiting s.lists) s o h
-      ∙ ap (λ d. (o ++ d.0, d.1)) (enough (waiting s.lists) (waiting (rest_at s.lists s.port)) (passed ws s) (omega (arith, l)) (le_refl (waiting (rest_at s.lists s.port))))
+      ∙ ap (λ d. (o ++ d.0, d.1))
+      (enough (waiting s.lists) (waiting (rest_at s.lists s.port)) (passed ws s) (omega (arith, l)) (le_refl (waiting (rest_at s.lists s.port))))
 
   -- at the start nothing has passed
   pub so_far_start : (s : Turns) (out : List item.Item) → IsJoiner ws s → SoFar give ws s s out out

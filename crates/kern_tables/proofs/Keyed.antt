@@ -71,7 +71,8 @@ front k z zs Greater h g = absurd (true≢false g)
 placed_after : (y k : List ℤ) (ys : List (List ℤ)) → row_cmp y k ≡ Less → once_after y (put_in_order row_lt k ys) ≡ add_key k (once_after y ys)
 placed_after y k [] h = keep y k [] (apart_less y k h)
 placed_after y k (z ∷ zs) h = step (row_cmp k z) refl (row_eq y z) refl (λ e. placed_after y k zs h) (placed_after z k zs) where
-  step : (r : Ordering) → row_cmp k z ≡ r → (b : Bool) → row_eq y z ≡ b → (row_eq y z ≡ true → once_after y (put_in_order row_lt k zs) ≡ add_key k (once_after y zs))
+  step : (r : Ordering) → row_cmp k z ≡ r → (b : Bool) → row_eq y z ≡ b
+      → (row_eq y z ≡ true → once_after y (put_in_order row_lt k zs) ≡ add_key k (once_after y zs))
       → (row_cmp z k ≡ Less → once_after z (put_in_order row_lt k zs) ≡ add_key k (once_after z zs))
       → once_after y (put_in_order row_lt k (z ∷ zs)) ≡ add_key k (once_after y (z ∷ zs))
   step Greater g true q same other =
@@ -79,18 +80,21 @@ placed_after y k (z ∷ zs) h = step (row_cmp k z) refl (row_eq y z) refl (λ e.
       ap (once_after y) (past k z zs l) ∙ skip y z (put_in_order row_lt k zs) q ∙ same q ∙ ap (add_key k) (sym (skip y z zs q))
   step Greater g false q same other =
       let l : row_cmp z k ≡ Less = turned k z Greater g in
-      ap (once_after y) (past k z zs l) ∙ keep y z (put_in_order row_lt k zs) q ∙ ap (λ t. z ∷ t) (other l) ∙ sym (at_greater k z (once_after z zs) g) ∙ ap (add_key k) (sym (keep y z zs q))
+      ap (once_after y) (past k z zs l) ∙ keep y z (put_in_order row_lt k zs) q ∙ ap (λ t. z ∷ t) (other l) ∙ sym (at_greater k z (once_after z zs) g)
+      ∙ ap (add_key k) (sym (keep y z zs q))
   step Less g b q same other = before Less g refl
     where
       before : (r : Ordering) → row_cmp k z ≡ r → is_lt (ordering_reverse r) ≡ false
           → once_after y (put_in_order row_lt k (z ∷ zs)) ≡ add_key k (once_after y (z ∷ zs))
       before r g' l =
           let apart : row_eq y z ≡ false = apart_less y z (row_total.trans y k z h g) in
-          ap (once_after y) (here k z zs (ap is_lt (turned k z r g') ∙ l)) ∙ keep y k (z ∷ zs) (apart_less y k h) ∙ front k z zs r g' l ∙ ap (add_key k) (sym (keep y z zs apart))
+          ap (once_after y) (here k z zs (ap is_lt (turned k z r g') ∙ l)) ∙ keep y k (z ∷ zs) (apart_less y k h) ∙ front k z zs r g' l
+          ∙ ap (add_key k) (sym (keep y z zs apart))
   step Equal g b q same other =
       let e : k ≡ z = exact_rows k z g in
       let apart : row_eq y z ≡ false = apart_less y z (subst (λ u. row_cmp y u ≡ Less) e h) in
-      ap (once_after y) (here k z zs (ap is_lt (turned k z Equal g))) ∙ keep y k (z ∷ zs) (apart_less y k h) ∙ front k z zs Equal g refl ∙ ap (add_key k) (sym (keep y z zs apart))
+      ap (once_after y) (here k z zs (ap is_lt (turned k z Equal g))) ∙ keep y k (z ∷ zs) (apart_less y k h) ∙ front k z zs Equal g refl
+      ∙ ap (add_key k) (sym (keep y z zs apart))
 
 -- one more key among those that occur
 pub placed_once : (k : List ℤ) (ks : List (List ℤ)) → each_row_once (put_in_order row_lt k ks) ≡ add_key k (each_row_once ks)
@@ -230,7 +234,8 @@ module _ {V : Type 0} (start : V) (merge : V → List ℤ → V) where
         ∙ sym (put_less k w (old e) (map old es) h)
     step Equal h more =
         let same : k ≡ e = exact_rows k e h in
-        let all : AllByRecursion (λ y. row_eq k y ≡ false) es = subst (λ u. AllByRecursion (λ y. row_eq u y ≡ false) es) (sym same) (above e es (sorted_head row_cmp e es s)) in
+        let all : AllByRecursion (λ y. row_eq k y ≡ false) es =
+        subst (λ u. AllByRecursion (λ y. row_eq u y ≡ false) es) (sym same) (above e es (sorted_head row_cmp e es s)) in
         ap (map now) (at_equal k e es h)
         ∙ (λ i. (e, value_here keys done x e (row_ties k e ∙ ap is_eq h) i) ∷ others keys done x es all i)
         ∙ sym (put_equal k w (old e) (map old es) h)
@@ -254,7 +259,8 @@ module _ {V : Type 0} (start : V) (merge : V → List ℤ → V) where
         → grouped keys (done ++ x ∷ []) ≡ put row_cmp start merge (grouped keys done) (split keys x)
     grouped_more keys done x s =
         ap (map (with_value keys (done ++ x ∷ []))) (keys_more keys done x)
-        ∙ put_key keys done x (keys_of keys done) s (λ a. ap (fold merge start) (none_under keys (take keys x) done (all_keys (λ e. row_eq (take keys x) e ≡ false) keys done a)))
+        ∙ put_key keys done x (keys_of keys done) s
+        (λ a. ap (fold merge start) (none_under keys (take keys x) done (all_keys (λ e. row_eq (take keys x) e ≡ false) keys done a)))
 
     grouped_from : (keys : ℕ) (done adds : List (List ℤ)) → grouped keys done ≡ keyed row_cmp start merge (splits keys done)
         → grouped keys (done ++ adds) ≡ keyed row_cmp start merge (splits keys (done ++ adds))
@@ -266,7 +272,8 @@ module _ {V : Type 0} (start : V) (merge : V → List ℤ → V) where
     grouped_from keys done (x ∷ xs) h =
         let more : grouped keys (done ++ x ∷ []) ≡ keyed row_cmp start merge (splits keys (done ++ x ∷ [])) =
         grouped_more keys done x (sorted_keys keys done h) ∙ ap (λ t. put row_cmp start merge t (split keys x)) h
-        ∙ sym (ap (keyed row_cmp start merge) (map-append (split keys) done (x ∷ [])) ∙ fold-append (put row_cmp start merge) [] (splits keys done) (split keys x ∷ []))
+        ∙ sym (ap (keyed row_cmp start merge) (map-append (split keys) done (x ∷ []))
+        ∙ fold-append (put row_cmp start merge) [] (splits keys done) (split keys x ∷ []))
         in
         subst (λ l. grouped keys l ≡ keyed row_cmp start merge (splits keys l)) (append_assoc done (x ∷ []) xs) (grouped_from keys (done ++ x ∷ []) xs more)
 

@@ -125,7 +125,8 @@ sums_are keys adds =
       rise = subst (IsStrictlySortedBy row_cmp) (sym (keys_paired f (keys_of keys adds))) (keys_rise (pos 0) add_value sums_commute keys adds);
       at =
           λ key. stands_at f keys key adds
-          ∙ ap (λ v. cond (list_any (has_key keys key) adds) (Some v) None) (ap (λ z. fold add_value z (under_key keys key adds)) (sym wrap_zero) ∙ wrapped_sum (pos 0) (under_key keys key adds));
+          ∙ ap (λ v. cond (list_any (has_key keys key) adds) (Some v) None)
+          (ap (λ z. fold add_value z (under_key keys key adds)) (sym wrap_zero) ∙ wrapped_sum (pos 0) (under_key keys key adds));
     }
 
 -- THE BEST

@@ -50,7 +50,8 @@ place_last x (z ∷ zs) (More low r) a = step (ranks_before z x) refl (place_las
   step true h more = ap (λ b. cond b (z ∷ put_in_order ranks_before x zs) (x ∷ (z ∷ zs))) h ∙ ap (λ l. z ∷ l) more
   step false h more =
       let e : z ≡ x = apart_ranks z x h a.0 in
-      first_stays x z zs h ∙ (λ i. sym e i ∷ (e i ∷ zs)) ∙ ap (λ l. z ∷ l) (sym (stays x zs (subst (λ u. AllByRecursion (λ w. ranks_before w u ≡ false) zs) e low)) ∙ more)
+      first_stays x z zs h ∙ (λ i. sym e i ∷ (e i ∷ zs))
+      ∙ ap (λ l. z ∷ l) (sym (stays x zs (subst (λ u. AllByRecursion (λ w. ranks_before w u ≡ false) zs) e low)) ∙ more)
 
 all_placed : (P : Ranked → Type 0) (x : Ranked) (zs : List Ranked) → P x → AllByRecursion P zs → AllByRecursion P (put_in_order ranks_before x zs)
 all_placed P x [] p a = (p, tt)
@@ -86,7 +87,8 @@ pub popped : (x : Ranked) (xs ys : List Ranked) → IsPermutation xs (x ∷ ys) 
 popped x xs ys h up =
     let bound : AllByRecursion (λ w. ranks_before x w ≡ false) (by_rank ys) =
     by_recursion (λ w. ranks_before x w ≡ false) (by_rank ys)
-    (All-permutation (λ w. ranks_before x w ≡ false) ys (by_rank ys) (order.ascending_bag ranks_before ranked_weakly apart_ranks ys) (each_from (λ w. ranks_before x w ≡ false) ys up))
+    (All-permutation (λ w. ranks_before x w ≡ false) ys (by_rank ys) (order.ascending_bag ranks_before ranked_weakly apart_ranks ys)
+    (each_from (λ w. ranks_before x w ≡ false) ys up))
     in
     order.ascending-IsPermutation ranks_before ranked_weakly apart_ranks xs (x ∷ ys) h
     ∙ order.ascending-cons ranks_before ranked_weakly apart_ranks x ys
@@ -132,6 +134,8 @@ stays_out best r top xs n up h =
     let m : length (by_rank xs) ≡ length xs = length_permutation xs (by_rank xs) (order.ascending_bag ranks_before ranked_weakly apart_ranks xs) in
     let bound : AllByRecursion (λ w. ranks_before r w ≡ false) (by_rank xs) =
     by_recursion (λ w. ranks_before r w ≡ false) (by_rank xs)
-    (All-permutation (λ w. ranks_before r w ≡ false) xs (by_rank xs) (order.ascending_bag ranks_before ranked_weakly apart_ranks xs) (each_from (λ w. ranks_before r w ≡ false) xs (behind_top r top xs h up)))
+    (All-permutation (λ w. ranks_before r w ≡ false) xs (by_rank xs) (order.ascending_bag ranks_before ranked_weakly apart_ranks xs)
+    (each_from (λ w. ranks_before r w ≡ false) xs (behind_top r top xs h up)))
     in
-    ap (take best) (place_last r (by_rank xs) (rises xs) bound) ∙ take_front best (by_rank xs) (r ∷ []) (omega (arith, m, n)) ∙ take_all best (by_rank xs) (omega (arith, m, n))
+    ap (take best) (place_last r (by_rank xs) (rises xs) bound) ∙ take_front best (by_rank xs) (r ∷ []) (omega (arith, m, n))
+    ∙ take_all best (by_rank xs) (omega (arith, m, n))

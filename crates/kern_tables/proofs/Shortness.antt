@@ -43,9 +43,11 @@ made r = r
 -- what is read of a row is what follows its key
 pub ranked_there : (a b row : List ℤ) (n : ℕ) → a ≡ row → b ≡ row → FitsSigned w64 (slice_index_or a (n + 1) (pos 0))
     → FitsSigned w64 (slice_index_or b n (pos 0))
-    → made (record { weight = to_z w64 (of_z w64 (slice_index_or a (n + 1) (pos 0))); value = to_z w64 (of_z w64 (slice_index_or b n (pos 0))) }) ≡ ranked_in (drop n row)
+    → made (record { weight = to_z w64 (of_z w64 (slice_index_or a (n + 1) (pos 0))); value = to_z w64 (of_z w64 (slice_index_or b n (pos 0))) }) ≡ ranked_in
+    (drop n row)
 ranked_there a b row n ea eb fa fb =
-    let w = to_z-of_z w64 (slice_index_or a (n + 1) (pos 0)) fa ∙ ap (λ l. slice_index_or l (n + 1) (pos 0)) ea ∙ ap (λ k. slice_index_or row k (pos 0)) (let e : n + 1 ≡ suc n = omega arith in e) ∙ second_of_rest n row in
+    let w = to_z-of_z w64 (slice_index_or a (n + 1) (pos 0)) fa ∙ ap (λ l. slice_index_or l (n + 1) (pos 0)) ea
+    ∙ ap (λ k. slice_index_or row k (pos 0)) (let e : n + 1 ≡ suc n = omega arith in e) ∙ second_of_rest n row in
     let v = to_z-of_z w64 (slice_index_or b n (pos 0)) fb ∙ ap (λ l. slice_index_or l n (pos 0)) eb ∙ first_of_rest n row in
     λ i. record { weight = w i; value = v i }
 

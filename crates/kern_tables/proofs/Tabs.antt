@@ -153,12 +153,14 @@ maxima_keyed best keys adds =
 tab-IsPermutation : (kind : TableKind) (xs ys : List (List ℤ)) → IsPermutation xs ys → tab kind xs ≡ tab kind ys
 tab-IsPermutation (Sum keys) xs ys h =
     sym (sums_keyed keys xs)
-    ∙ ap sum_rows (tables.keyed-IsPermutation row_cmp row_total exact_rows (pos 0) add_value sums_commute (splits keys xs) (splits keys ys) (IsPermutation-map (split keys) xs ys h))
+    ∙ ap sum_rows (tables.keyed-IsPermutation row_cmp row_total exact_rows (pos 0) add_value sums_commute (splits keys xs) (splits keys ys)
+    (IsPermutation-map (split keys) xs ys h))
     ∙ sums_keyed keys ys
 tab-IsPermutation (Collection keys) xs ys h = in_order-IsPermutation xs ys h
 tab-IsPermutation (Maximum best keys) xs ys h =
     sym (maxima_keyed best keys xs)
-    ∙ ap maximum_rows (tables.keyed-IsPermutation row_cmp row_total exact_rows [] (best_more best) (maxima_commute best) (splits keys xs) (splits keys ys) (IsPermutation-map (split keys) xs ys h))
+    ∙ ap maximum_rows (tables.keyed-IsPermutation row_cmp row_total exact_rows [] (best_more best) (maxima_commute best) (splits keys xs) (splits keys ys)
+    (IsPermutation-map (split keys) xs ys h))
     ∙ maxima_keyed best keys ys
 
 -- what a table keeps is a function of the bag of its rows
@@ -178,10 +180,13 @@ in_order_more rows row = fold-append (λ done x. put_in_order row_lt x done) [] 
 -- one more row
 pub kept_more : (kind : TableKind) (adds : List (List ℤ)) (row : List ℤ) → kept_of kind (adds ++ row ∷ []) ≡ with_row (kept_of kind adds) row
 kept_more (Sum keys) adds row =
-    ap (Sums keys) (ap (keyed row_cmp (pos 0) add_value) (map-append (split keys) adds (row ∷ [])) ∙ fold-append (put row_cmp (pos 0) add_value) [] (splits keys adds) (split keys row ∷ []))
+    ap (Sums keys) (ap (keyed row_cmp (pos 0) add_value) (map-append (split keys) adds (row ∷ []))
+    ∙ fold-append (put row_cmp (pos 0) add_value) [] (splits keys adds) (split keys row ∷ []))
 kept_more (Collection keys) adds row = ap (Rows keys) (in_order_more adds row)
 kept_more (Maximum best keys) adds row =
-    ap (Maxima best keys) (ap (keyed row_cmp [] (best_more best)) (map-append (split keys) adds (row ∷ [])) ∙ fold-append (put row_cmp [] (best_more best)) [] (splits keys adds) (split keys row ∷ []))
+    ap (Maxima best keys)
+    (ap (keyed row_cmp [] (best_more best)) (map-append (split keys) adds (row ∷ []))
+    ∙ fold-append (put row_cmp [] (best_more best)) [] (splits keys adds) (split keys row ∷ []))
 
 -- its rows are the table's
 pub kept_rows : (kind : TableKind) (adds : List (List ℤ)) → rows_of (kept_of kind adds) ≡ tab kind adds
@@ -192,10 +197,13 @@ kept_rows (Maximum best keys) adds = maxima_keyed best keys adds
 -- it is a function of the bag
 pub kept_of_bag : (kind : TableKind) (xs ys : List (List ℤ)) → SameBag xs ys → kept_of kind xs ≡ kept_of kind ys
 kept_of_bag (Sum keys) xs ys h =
-    ap (Sums keys) (tables.keyed-IsPermutation row_cmp row_total exact_rows (pos 0) add_value sums_commute (splits keys xs) (splits keys ys) (IsPermutation-map (split keys) xs ys (permutation_from_bag xs ys h)))
+    ap (Sums keys) (tables.keyed-IsPermutation row_cmp row_total exact_rows (pos 0) add_value sums_commute (splits keys xs) (splits keys ys)
+    (IsPermutation-map (split keys) xs ys (permutation_from_bag xs ys h)))
 kept_of_bag (Collection keys) xs ys h = ap (Rows keys) (in_order-IsPermutation xs ys (permutation_from_bag xs ys h))
 kept_of_bag (Maximum best keys) xs ys h =
-    ap (Maxima best keys) (tables.keyed-IsPermutation row_cmp row_total exact_rows [] (best_more best) (maxima_commute best) (splits keys xs) (splits keys ys) (IsPermutation-map (split keys) xs ys (permutation_from_bag xs ys h)))
+    ap (Maxima best keys)
+    (tables.keyed-IsPermutation row_cmp row_total exact_rows [] (best_more best) (maxima_commute best) (splits keys xs) (splits keys ys)
+    (IsPermutation-map (split keys) xs ys (permutation_from_bag xs ys h)))
 
 -- the kind stays
 pub kept_kind : (kind : TableKind) (adds : List (List ℤ)) → kind_of_table (kept_of kind adds) ≡ kind
@@ -219,7 +227,8 @@ added_more t rows row = fold-append with_row t rows (row ∷ [])
 
 -- the first rows, and then the others
 pub added_in_two : (t u : Kept) (n : ℕ) (rows : List (List ℤ)) → u ≡ added_all t (take n rows) → added_all u (drop n rows) ≡ added_all t rows
-added_in_two t u n rows e = ap (λ (k : Kept). added_all k (drop n rows)) e ∙ (sym (fold-append with_row t (take n rows) (drop n rows)) ∙ ap (added_all t) (take-append-drop n rows))
+added_in_two t u n rows e = ap (λ (k : Kept). added_all k (drop n rows)) e
+    ∙ (sym (fold-append with_row t (take n rows) (drop n rows)) ∙ ap (added_all t) (take-append-drop n rows))
 
 -- adding rows keeps the kind
 pub added_all_kind : (t : Kept) (rows : List (List ℤ)) → kind_of_table (added_all t rows) ≡ kind_of_table t

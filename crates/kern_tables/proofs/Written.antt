@@ -48,13 +48,15 @@ module _ {V : Type 0} where
     set_is_put k w [] v s h = absurd (cc h)
     set_is_put k w (e ∷ es) v s h = step (row_cmp k e.0) refl (set_is_put k w es v (sorted_tail row_cmp e.0 (keys_of es) s)) where
       put_is : (r : Ordering) → row_cmp k e.0 ≡ r
-          → put row_cmp start merge (e ∷ es) (k, w) ≡ match_ordering r ((k, merge start w) ∷ (e ∷ es)) ((e.0, merge e.1 w) ∷ es) (e ∷ put row_cmp start merge es (k, w))
+          → put row_cmp start merge (e ∷ es) (k, w) ≡ match_ordering r ((k, merge start w) ∷ (e ∷ es)) ((e.0, merge e.1 w) ∷ es)
+          (e ∷ put row_cmp start merge es (k, w))
       put_is r g = ap (λ r. match_ordering r ((k, merge start w) ∷ (e ∷ es)) ((e.0, merge e.1 w) ∷ es) (e ∷ put row_cmp start merge es (k, w))) g
 
       step : (r : Ordering) → row_cmp k e.0 ≡ r → (lookup (here k) es ≡ Some v → set_value (here k) es (merge v w) ≡ put row_cmp start merge es (k, w))
           → set_value (here k) (e ∷ es) (merge v w) ≡ put row_cmp start merge (e ∷ es) (k, w)
       step Less g more =
-          let none : lookup (here k) (e ∷ es) ≡ None = lookup_at_gap row_total k (e ∷ es) 0 s (λ j f l u. absurd (omega arith)) (λ f u. let same : e ≡ f = cc in ap (λ x. row_cmp k x.0) (sym same) ∙ g) in
+          let none : lookup (here k) (e ∷ es) ≡ None =
+          lookup_at_gap row_total k (e ∷ es) 0 s (λ j f l u. absurd (omega arith)) (λ f u. let same : e ≡ f = cc in ap (λ x. row_cmp k x.0) (sym same) ∙ g) in
           absurd (clash (sym none ∙ h))
         where
           clash : None ≡ Some v → ⊥

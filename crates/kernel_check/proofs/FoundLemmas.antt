@@ -93,10 +93,12 @@ fused_both most room at (Some p) f one m two r h e g u v =
 
 -- the first was found, and what was found of the second is put behind its port
 pub fused_joined : (most room at : ℕ) (o : Option Types) (f : List QueueType → Option Types) (one : Types) (m : QueueType) (two r : Option Types)
-    → MayAnswer room o (Some one) → slice_get one.outs at ≡ Some m → MayAnswer most (f (m ∷ [])) two → r ≡ joined_types at one two → MayAnswer most (fused_types at o f) r
+    → MayAnswer room o (Some one) → slice_get one.outs at ≡ Some m → MayAnswer most (f (m ∷ [])) two → r ≡ joined_types at one two
+    → MayAnswer most (fused_types at o f) r
 fused_joined most room at o f one m None r h e g j = subst (MayAnswer most (fused_types at o f)) (sym j) (fused_second most room at o f one m h e g)
 fused_joined most room at o f one m (Some two) r h e g j =
-    subst (MayAnswer most (fused_types at o f)) (sym j) (fused_both most room at o f one m two (given (spliced at one.outs two.outs) (one.vars ++ two.vars)) h e g refl refl)
+    subst (MayAnswer most (fused_types at o f)) (sym j)
+    (fused_both most room at o f one m two (given (spliced at one.outs two.outs) (one.vars ++ two.vars)) h e g refl refl)
 
 -- what was found decides whether the kernel fits
 decided : (k : Kern) (is os : List QueueType) (vs : List VarKind) (o r : Option Types) → types_of k is ≡ o → MayAnswer (length os) o r → Fits k is os vs
@@ -120,7 +122,8 @@ fits_found k is os vs r g f =
     let e : r ≡ given os vs = some_same (decided k is os vs (types_of k is) (Some r) refl g f) in
     (ap (λ (t : Types). t.outs) e, ap (λ (t : Types). t.vars) e)
 
-found_some : (k : Kern) (is : List QueueType) (most : ℕ) (o : Option Types) (r : Types) → types_of k is ≡ o → MayAnswer most o (Some r) → Fits k is r.outs r.vars
+found_some : (k : Kern) (is : List QueueType) (most : ℕ) (o : Option Types) (r : Types) → types_of k is ≡ o → MayAnswer most o (Some r)
+    → Fits k is r.outs r.vars
 found_some k is most None r h g = absurd g
 found_some k is most (Some q) r h g = types_fits k is r (h ∙ ap (λ t. Some t) (sym g))
 

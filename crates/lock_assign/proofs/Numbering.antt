@@ -59,7 +59,12 @@ sorted x (y ∷ ys) = by (row_eq x y) refl (sorted x ys)
         → Stands x (y ∷ ys) (place_in (y ∷ ys) x) (with_list (y ∷ ys) x) ⊎ Comes x (y ∷ ys) (place_in (y ∷ ys) x) (with_list (y ∷ ys) x)
     by true e h = inl (first e)
     by false e h = ⊎_elim
-        (λ s. inl (record { below = (let p = behind e in let lt = s.below in omega arith); here = ap (λ m. get_or (y ∷ ys) m Empty) (behind e) ∙ s.here; same = after e ∙ ap (λ l. y ∷ l) s.same }))
+        (λ s. inl (record {
+          below = (let p = behind e in let lt = s.below in omega arith);
+          here = ap (λ m. get_or (y ∷ ys) m Empty) (behind e)
+              ∙ s.here;
+          same = after e ∙ ap (λ l. y ∷ l) s.same;
+        }))
         (λ c. inr (record { last = behind e ∙ ap suc c.last; grown = after e ∙ ap (λ l. y ∷ l) c.grown; other = others e c.other }))
         h
 
@@ -101,7 +106,8 @@ module _ (users lists : List (List ℤ)) (classes : List ℤ) (x : List ℤ) (n 
   is_number : (t k : ℕ) → t ≡ length users → class_of (classes ++ pos n ∷ []) t ≡ pos k → n ≡ k
   is_number t k e c = ap nat_abs (sym new_class ∙ (ap (class_of (classes ++ pos n ∷ [])) (sym e) ∙ c))
 
-  earlier : (t k m : ℕ) → n ≤ length lists → t < length (users ++ x ∷ []) → class_of (classes ++ pos n ∷ []) t ≡ pos k → m < k → (s : ℕ) × (s < t) × (class_of (classes ++ pos n ∷ []) s ≡ pos m)
+  earlier : (t k m : ℕ) → n ≤ length lists → t < length (users ++ x ∷ []) → class_of (classes ++ pos n ∷ []) t ≡ pos k → m < k
+      → (s : ℕ) × (s < t) × (class_of (classes ++ pos n ∷ []) s ≡ pos m)
   earlier t k m within lt c q = dite (ℕ_discrete t (length users))
       (λ e. let g = r.known m (let i = is_number t k e c in omega arith) in (g.0, (let z = g.1 in omega arith), old_class g.0 g.1 ∙ g.2))
       (λ ne. let low : t < length users = (let z = more in omega arith) in let g = r.by_first t k m low (sym (old_class t low) ∙ c) q in
@@ -112,18 +118,27 @@ module _ (users lists : List (List ℤ)) (classes : List ℤ) (x : List ℤ) (n 
     as_many = length-append classes (pos n ∷ []) ∙ (ap (λ k. k + 1) r.as_many ∙ sym more);
     placed = λ t lt. dite (ℕ_discrete t (length users))
         (λ e. (n, ap (class_of (classes ++ pos n ∷ [])) e ∙ new_class, below, here ∙ (sym new_users ∙ ap (users_of (users ++ x ∷ [])) (sym e))))
-        (λ ne. let low : t < length users = (let z = more in omega arith) in let g = r.placed t low in (g.0, old_class t low ∙ g.1, g.2, g.3 ∙ sym (old_users t low)));
+        (λ ne. let low : t < length users = (let z = more in omega arith) in let g =
+        r.placed t low in (g.0, old_class t low ∙ g.1, g.2, g.3 ∙ sym (old_users t low)));
     apart = r.apart;
     known = λ m lt. let g = r.known m lt in (g.0, (let z = more in let y = g.1 in omega arith), old_class g.0 g.1 ∙ g.2);
     by_first = λ t k m lt c q. earlier t k m (omega arith) lt c q;
   }
 
-  comes : n ≡ length lists → ((m : ℕ) → m < length lists → get_or lists m Empty ≡ x → ⊥) → IsNumbered (users ++ x ∷ []) (lists ++ x ∷ []) (classes ++ pos n ∷ [])
+  comes : n ≡ length lists → ((m : ℕ) → m < length lists → get_or lists m Empty ≡ x → ⊥)
+      → IsNumbered (users ++ x ∷ []) (lists ++ x ∷ []) (classes ++ pos n ∷ [])
   comes last other = record {
     as_many = length-append classes (pos n ∷ []) ∙ (ap (λ k. k + 1) r.as_many ∙ sym more);
     placed = λ t lt. dite (ℕ_discrete t (length users))
-        (λ e. (n, ap (class_of (classes ++ pos n ∷ [])) e ∙ new_class, (let z = longer in omega arith), new_list n last ∙ (sym new_users ∙ ap (users_of (users ++ x ∷ [])) (sym e))))
-        (λ ne. let low : t < length users = (let z = more in omega arith) in let g = r.placed t low in (g.0, old_class t low ∙ g.1, (let z = longer in let y = g.2 in omega arith), old_list g.0 g.2 ∙ (g.3 ∙ sym (old_users t low))));
+        (λ e. (
+          n,
+          ap (class_of (classes ++ pos n ∷ [])) e ∙ new_class,
+          (let z = longer in omega arith),
+          new_list n last
+              ∙ (sym new_users ∙ ap (users_of (users ++ x ∷ [])) (sym e)),
+        ))
+        (λ ne. let low : t < length users = (let z = more in omega arith) in let g =
+        r.placed t low in (g.0, old_class t low ∙ g.1, (let z = longer in let y = g.2 in omega arith), old_list g.0 g.2 ∙ (g.3 ∙ sym (old_users t low))));
     apart = λ a b la lb e. dite (ℕ_discrete a (length lists))
         (λ ea. dite (ℕ_discrete b (length lists))
         (λ eb. ea ∙ sym eb)
@@ -147,10 +162,13 @@ module _ (users lists : List (List ℤ)) (classes : List ℤ) (x : List ℤ) (n 
       new_list m e = ap (λ k. get_or (lists ++ x ∷ []) k Empty) e ∙ get_or-append_seam lists x [] Empty
 
 -- one list more
-pub one_more : (users lists : List (List ℤ)) (classes : List ℤ) (x : List ℤ) → IsNumbered users lists classes → IsNumbered (users ++ x ∷ []) (with_list lists x) (classes ++ pos (place_in lists x) ∷ [])
+pub one_more : (users lists : List (List ℤ)) (classes : List ℤ) (x : List ℤ) → IsNumbered users lists classes
+    → IsNumbered (users ++ x ∷ []) (with_list lists x) (classes ++ pos (place_in lists x) ∷ [])
 one_more users lists classes x r = ⊎_elim
-    (λ s. subst (λ l. IsNumbered (users ++ x ∷ []) l (classes ++ pos (place_in lists x) ∷ [])) (sym s.same) (stays users lists classes x (place_in lists x) r s.below s.here))
-    (λ c. subst (λ l. IsNumbered (users ++ x ∷ []) l (classes ++ pos (place_in lists x) ∷ [])) (sym c.grown) (comes users lists classes x (place_in lists x) r c.last c.other))
+    (λ s. subst (λ l. IsNumbered (users ++ x ∷ []) l (classes ++ pos (place_in lists x) ∷ [])) (sym s.same)
+    (stays users lists classes x (place_in lists x) r s.below s.here))
+    (λ c. subst (λ l. IsNumbered (users ++ x ∷ []) l (classes ++ pos (place_in lists x) ∷ [])) (sym c.grown)
+    (comes users lists classes x (place_in lists x) r c.last c.other))
     (sorted x lists)
 
 -- lists that are numbered so are classes

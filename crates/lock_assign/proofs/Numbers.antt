@@ -10,10 +10,13 @@ use Rattle.lock_assign.proofs.Unique.{classes_are_unique}
 numbered_on : (done seen : List (List ℤ)) (classes : List ℤ) (users : List (List ℤ)) → IsNumbered done seen classes
     → IsNumbered (done ++ users) (fold with_list seen users) (classes ++ numbered_classes seen users)
 numbered_on done seen classes [] r =
-    subst (λ (d : List (List ℤ)). IsNumbered d seen (classes ++ [])) (sym (append-nil done)) (subst (λ (c : List ℤ). IsNumbered done seen c) (sym (append-nil classes)) r)
+    subst (λ (d : List (List ℤ)). IsNumbered d seen (classes ++ [])) (sym (append-nil done))
+    (subst (λ (c : List ℤ). IsNumbered done seen c) (sym (append-nil classes)) r)
 numbered_on done seen classes (ops ∷ users) r =
-    subst (λ (d : List (List ℤ)). IsNumbered d (fold with_list (with_list seen ops) users) (classes ++ numbered_classes seen (ops ∷ users))) (append_assoc done (ops ∷ []) users)
-    (subst (λ (c : List ℤ). IsNumbered ((done ++ ops ∷ []) ++ users) (fold with_list (with_list seen ops) users) c) (append_assoc classes (pos (place_in seen ops) ∷ []) (numbered_classes (with_list seen ops) users))
+    subst (λ (d : List (List ℤ)). IsNumbered d (fold with_list (with_list seen ops) users) (classes ++ numbered_classes seen (ops ∷ users)))
+    (append_assoc done (ops ∷ []) users)
+    (subst (λ (c : List ℤ). IsNumbered ((done ++ ops ∷ []) ++ users) (fold with_list (with_list seen ops) users) c)
+    (append_assoc classes (pos (place_in seen ops) ∷ []) (numbered_classes (with_list seen ops) users))
     (numbered_on (done ++ ops ∷ []) (with_list seen ops) (classes ++ pos (place_in seen ops) ∷ []) users (one_more done seen classes ops r)))
 
 -- the law: each table has the place of its operators as its class

@@ -8,10 +8,12 @@ use Rattle.lock_uses.specs.Uses.{HasWorked}
 use Rattle.lock_uses.specs.Crews.{AreSeated, HasTakenTurn, HaveTurned, first_view}
 
 -- a worker that sat with its first view
-one_turned : (k : ℕ) (z : TableId) (old new : Worker) → old.seat ≡ record { lot = z; view = first_view k } → old.op ≡ k → old.refused ≡ false → HasTakenTurn old new
+one_turned : (k : ℕ) (z : TableId) (old new : Worker) → old.seat ≡ record { lot = z; view = first_view k } → old.op ≡ k → old.refused ≡ false
+    → HasTakenTurn old new
     → new.refused ≡ false → HasWorked k new.added (first_view k) new.seat.view
 one_turned k z old new seat op calm h now =
-    subst (λ (n : ℕ). HasWorked n new.added (first_view k) new.seat.view) op (subst (λ (v : View). HasWorked old.op new.added v new.seat.view) (ap (λ (c : Chair). c.view) seat) (h.worked calm now))
+    subst (λ (n : ℕ). HasWorked n new.added (first_view k) new.seat.view) op
+    (subst (λ (v : View). HasWorked old.op new.added v new.seat.view) (ap (λ (c : Chair). c.view) seat) (h.worked calm now))
 
 -- where each worker of a crew has turned, the crew has
 pub turned : (old new : List Worker) → AreSeated old → length new ≡ length old

@@ -20,15 +20,18 @@ once : ℕ → List Claim
 once op = claims_of 1 (entry op 1 ∷ []) ++ claims_of 0 (entry op 0 ∷ [])
 
 module _ (k c op : ℕ) where
-  own_more : (n : ℕ) → own 2 k c (visits op (suc n)) ≡ own 2 k c (visits op n) ++ (own 2 k c (claims_of 1 (entry op 1 ∷ [])) ++ own 2 k c (claims_of 0 (entry op 0 ∷ [])))
+  own_more : (n : ℕ) → own 2 k c (visits op (suc n)) ≡ own 2 k c (visits op n) ++
+      (own 2 k c (claims_of 1 (entry op 1 ∷ [])) ++ own 2 k c (claims_of 0 (entry op 0 ∷ [])))
   own_more n =
       own-append 2 k c (visits op n ++ claims_of 1 (entry op 1 ∷ [])) (claims_of 0 (entry op 0 ∷ []))
       ∙ (ap (λ (l : List LogEntry). l ++ own 2 k c (claims_of 0 (entry op 0 ∷ []))) (own-append 2 k c (visits op n) (claims_of 1 (entry op 1 ∷ [])))
       ∙ append_assoc (own 2 k c (visits op n)) (own 2 k c (claims_of 1 (entry op 1 ∷ []))) (own 2 k c (claims_of 0 (entry op 0 ∷ []))))
 
-  own_visits : own 2 k c (claims_of 1 (entry op 1 ∷ [])) ++ own 2 k c (claims_of 0 (entry op 0 ∷ [])) ≡ entry op c ∷ [] → (n : ℕ) → own 2 k c (visits op n) ≡ entry_times n (entry op c)
+  own_visits : own 2 k c (claims_of 1 (entry op 1 ∷ [])) ++ own 2 k c (claims_of 0 (entry op 0 ∷ [])) ≡ entry op c ∷ [] → (n : ℕ)
+      → own 2 k c (visits op n) ≡ entry_times n (entry op c)
   own_visits h zero = refl
-  own_visits h (suc n) = own_more n ∙ (ap (λ (l : List LogEntry). own 2 k c (visits op n) ++ l) h ∙ ap (λ (l : List LogEntry). l ++ entry op c ∷ []) (own_visits h n))
+  own_visits h (suc n) = own_more n
+      ∙ (ap (λ (l : List LogEntry). own 2 k c (visits op n) ++ l) h ∙ ap (λ (l : List LogEntry). l ++ entry op c ∷ []) (own_visits h n))
 
   no_visits : own 2 k c (claims_of 1 (entry op 1 ∷ [])) ++ own 2 k c (claims_of 0 (entry op 0 ∷ [])) ≡ [] → (n : ℕ) → own 2 k c (visits op n) ≡ []
   no_visits h zero = refl
@@ -36,13 +39,17 @@ module _ (k c op : ℕ) where
 
 -- what both claim, for each worker and class
 own_first : (a b c : ℕ) → c < 2 → own 2 0 c (visits 0 a ++ visits 1 b) ≡ entry_times a (entry 0 c)
-own_first a b zero lt = own-append 2 0 0 (visits 0 a) (visits 1 b) ∙ (ap (λ (l : List LogEntry). own 2 0 0 (visits 0 a) ++ l) (no_visits 0 0 1 refl b) ∙ (append-nil (own 2 0 0 (visits 0 a)) ∙ own_visits 0 0 0 refl a))
-own_first a b (suc zero) lt = own-append 2 0 1 (visits 0 a) (visits 1 b) ∙ (ap (λ (l : List LogEntry). own 2 0 1 (visits 0 a) ++ l) (no_visits 0 1 1 refl b) ∙ (append-nil (own 2 0 1 (visits 0 a)) ∙ own_visits 0 1 0 refl a))
+own_first a b zero lt = own-append 2 0 0 (visits 0 a) (visits 1 b)
+    ∙ (ap (λ (l : List LogEntry). own 2 0 0 (visits 0 a) ++ l) (no_visits 0 0 1 refl b) ∙ (append-nil (own 2 0 0 (visits 0 a)) ∙ own_visits 0 0 0 refl a))
+own_first a b (suc zero) lt = own-append 2 0 1 (visits 0 a) (visits 1 b)
+    ∙ (ap (λ (l : List LogEntry). own 2 0 1 (visits 0 a) ++ l) (no_visits 0 1 1 refl b) ∙ (append-nil (own 2 0 1 (visits 0 a)) ∙ own_visits 0 1 0 refl a))
 own_first a b (suc (suc c)) lt = absurd (omega (arith, lt))
 
 own_second : (a b c : ℕ) → c < 2 → own 2 1 c (visits 0 a ++ visits 1 b) ≡ entry_times b (entry 1 c)
-own_second a b zero lt = own-append 2 1 0 (visits 0 a) (visits 1 b) ∙ (ap (λ (l : List LogEntry). l ++ own 2 1 0 (visits 1 b)) (no_visits 1 0 0 refl a) ∙ own_visits 1 0 1 refl b)
-own_second a b (suc zero) lt = own-append 2 1 1 (visits 0 a) (visits 1 b) ∙ (ap (λ (l : List LogEntry). l ++ own 2 1 1 (visits 1 b)) (no_visits 1 1 0 refl a) ∙ own_visits 1 1 1 refl b)
+own_second a b zero lt = own-append 2 1 0 (visits 0 a) (visits 1 b)
+    ∙ (ap (λ (l : List LogEntry). l ++ own 2 1 0 (visits 1 b)) (no_visits 1 0 0 refl a) ∙ own_visits 1 0 1 refl b)
+own_second a b (suc zero) lt = own-append 2 1 1 (visits 0 a) (visits 1 b)
+    ∙ (ap (λ (l : List LogEntry). l ++ own 2 1 1 (visits 1 b)) (no_visits 1 1 0 refl a) ∙ own_visits 1 1 1 refl b)
 own_second a b (suc (suc c)) lt = absurd (omega (arith, lt))
 
 blank_there : (c : ℕ) (x : Holding) → get_elem? two_blank c ≡ some x → (x.kinds ≡ (c, Sum 0) ∷ []) × (x.log ≡ [])

@@ -41,5 +41,6 @@ worked_more op n v w u h t =
       seats = t.seats ∙ h.seats;
       parts = t.parts ∙ h.parts;
       claims = t.put refl ∙ (ap (λ (q : List Claim). (q ++ high) ++ low) h.claims
-          ∙ (ap (λ (q : List Claim). q ++ low) (append_assoc v.claims (visits op n) high) ∙ (append_assoc v.claims (visits op n ++ high) low ∙ ap (λ (m : ℕ). v.claims ++ visits op m) next)));
+          ∙ (ap (λ (q : List Claim). q ++ low) (append_assoc v.claims (visits op n) high)
+          ∙ (append_assoc v.claims (visits op n ++ high) low ∙ ap (λ (m : ℕ). v.claims ++ visits op m) next)));
     }

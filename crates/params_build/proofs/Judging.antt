@@ -40,7 +40,8 @@ pub from-place : (k : ℕ) (ps : List (List ℕ)) (items : List written.Statemen
 from-place k ps items i c lt is = ap (λ l. block_judged k ps (in_turn l)) (at_place statement items i c lt is)
 
 -- behind the last statement nothing is left to judge
-pub at-end : (k : ℕ) (ps : List (List ℕ)) (items : List written.Statement) (i : ℕ) → length items ≤ i → block_judged k ps (in_turn (map statement (drop i items))) ≡ no_fault
+pub at-end : (k : ℕ) (ps : List (List ℕ)) (items : List written.Statement) (i : ℕ) → length items ≤ i
+    → block_judged k ps (in_turn (map statement (drop i items))) ≡ no_fault
 at-end k ps items i h = ap (λ l. block_judged k ps (in_turn l)) (none_left statement items i h)
 
 -- the steps from a place on
@@ -79,7 +80,8 @@ pub record Judging (whole : Judgement) (i : ℕ) (rest : ParamProgram) (streams 
 -- one unit more is judged
 pub judging-next : (whole : Judgement) (i : ℕ) (units : List ParamUnit) (u : ParamUnit) (old new : StreamsAbove) → i < length units → u ≡ get_or units i u
     → Judging whole i (program_of (drop i units)) old → ((us : Above) → CountsParameters old us → unit_judged (suc i) us (declared_of u) ≡ no_fault)
-    → ((us : Above) → CountsParameters old us → CountsParameters new ((u.name, length u.params.items) ∷ us)) → Judging whole (i + 1) (program_of (drop (i + 1) units)) new
+    → ((us : Above) → CountsParameters old us → CountsParameters new ((u.name, length u.params.items) ∷ us))
+    → Judging whole (i + 1) (program_of (drop (i + 1) units)) new
 judging-next whole i units u old new lt is j passed known =
     let above : Above = (u.name, length u.params.items) ∷ j.above in
     let rest = program_of (drop (i + 1) units) in

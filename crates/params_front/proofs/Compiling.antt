@@ -68,7 +68,8 @@ plain_means text a xs h =
     let m : HasMade text (Ok p.made) = (elaboration_has text (Ok p.made)).0 p.is in
     let w = texts_are_written text p.made.tree m.0 in
     let s = elaborated_stands p.made.tree (sizes_of m.0.marks) p.made.made w.0 w.1 m.1 in
-    let t : HasPlain (plain_text p.made.made.units) (Ok (plain_accepted a)) = (plain_means_what_it_has (plain_text p.made.made.units) (Ok (plain_accepted a))).0 p.plain in
+    let t : HasPlain (plain_text p.made.made.units) (Ok (plain_accepted a)) =
+    (plain_means_what_it_has (plain_text p.made.made.units) (Ok (plain_accepted a))).0 p.plain in
     s.1 a.program xs t.2 ∙ ap (λ (q : ParamProgram). params_outputs q xs) p.tree
 
 -- the law: plans mean what their programs mean
@@ -109,7 +110,8 @@ nothing-has text NoMemory h = h
 means-has : (text : List ℕ) → Has text (compiled text)
 unfolding compiled
 means-has text = by (elaboration text) refl where
-  inner-has : (e : Elaboration) → HasMade text (Ok e) → (r : Result streamit.Accepted StreamitFault) → HasPlain (plain_text e.made.units) r → Has text (or_inner e r)
+  inner-has : (e : Elaboration) → HasMade text (Ok e) → (r : Result streamit.Accepted StreamitFault) → HasPlain (plain_text e.made.units) r
+      → Has text (or_inner e r)
   inner-has e m (Ok a) h = (e.made, m, h)
   inner-has e m (Err f) h = (e, m, h, refl)
 
@@ -152,18 +154,19 @@ means_what_it_has text meant = (λ e. subst (Has text) e (means-has text), has-m
 pub inner-refused : (r : Result streamit.Accepted StreamitFault) (fault : StreamitFault) (unit : ℕ) (from : List ℤ) → (fault ≡ inner.NoMemory → ⊥)
     → streamit.Refused r fault → ((units : List ℕ) → from ≡ map pos units → unit ≡ source_unit units (unit_in fault))
     → (e : Elaboration) → from ≡ map pos e.made.from → Refused (or_inner e r) (Inner unit fault)
-inner-refused r fault unit from some told source e are = ap (or_inner e) (by fault some told) ∙ ap (λ k. Err (Inner k fault)) (sym (source e.made.from are)) where
-  by : (f : StreamitFault) → (f ≡ inner.NoMemory → ⊥) → streamit.Refused r f → r ≡ Err f
-  by (inner.Text refusal) s h = h
-  by (inner.UnknownName n) s h = h
-  by (inner.NameTwice n) s h = h
-  by (inner.Rates n declared counted) s h = h
-  by (inner.PeekRange n index peek) s h = h
-  by (inner.NotConstant n) s h = h
-  by (inner.BranchRates n) s h = h
-  by (inner.Limit n) s h = h
-  by (inner.Weights n) s h = h
-  by inner.NoMemory s h = absurd (s refl)
+inner-refused r fault unit from some told source e are = ap (or_inner e) (by fault some told)
+    ∙ ap (λ k. Err (Inner k fault)) (sym (source e.made.from are)) where
+      by : (f : StreamitFault) → (f ≡ inner.NoMemory → ⊥) → streamit.Refused r f → r ≡ Err f
+      by (inner.Text refusal) s h = h
+      by (inner.UnknownName n) s h = h
+      by (inner.NameTwice n) s h = h
+      by (inner.Rates n declared counted) s h = h
+      by (inner.PeekRange n index peek) s h = h
+      by (inner.NotConstant n) s h = h
+      by (inner.BranchRates n) s h = h
+      by (inner.Limit n) s h = h
+      by (inner.Weights n) s h = h
+      by inner.NoMemory s h = absurd (s refl)
 
 pub ruleset inners = (inner-refused)
 

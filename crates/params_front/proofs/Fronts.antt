@@ -209,8 +209,13 @@ read-few marks ds e =
 -- what was made of the units is made of the tokens
 pub read-written : (marks : List Mark) (ds : List ParamUnit) (sizes : List ℕ) (w : Written) → StandFor marks (program_of ds) → sizes ≡ sizes_of marks
     → MakesText (Ok w) (elaborated_program (program_of ds) sizes) → WritesPlainText (of_tokens marks) (program_of ds) w.plain w.from
-read-written marks ds sizes w h are made =
-    (made.0, tokens-made marks (program_of ds) h ∙ ap (λ l. or_fault (program_of ds) (elaborated_program (program_of ds) l)) (sym are) ∙ ap (or_fault (program_of ds)) made.1, made.2, made.3)
+read-written marks ds sizes w h are made = (
+  made.0,
+  tokens-made marks (program_of ds) h ∙ ap (λ l. or_fault (program_of ds) (elaborated_program (program_of ds) l)) (sym are)
+      ∙ ap (or_fault (program_of ds)) made.1,
+  made.2,
+  made.3,
+)
 
 -- the fault of a program is the fault of the tokens that stand for it
 pub read-refused : (marks : List Mark) (ds : List ParamUnit) (sizes : List ℕ) (fault : ParamFault) → StandFor marks (program_of ds) → sizes ≡ sizes_of marks
@@ -233,19 +238,22 @@ told-fine k told.Empty r g h = ap (λ x. on_fine x g) h
 told-fine k told.Budget r g h = ap (λ x. on_fine x g) h
 told-fine k told.NoMemory r g h = tt
 
-pub judged-refused : (p : ParamProgram) (sizes : List ℕ) (e : code.Refusal) → JudgesAll (Err e) (units_judged 1 [] p) → MakesText (Err e) (elaborated_program p sizes)
+pub judged-refused : (p : ParamProgram) (sizes : List ℕ) (e : code.Refusal) → JudgesAll (Err e) (units_judged 1 [] p)
+    → MakesText (Err e) (elaborated_program p sizes)
 judged-refused p sizes e h = told-fine e.unit e.fault (units_judged 1 [] p) (λ x. behind p sizes) h
 
 after-judged : (p : ParamProgram) (sizes : List ℕ) → units_judged 1 [] p ≡ no_fault → elaborated_program p sizes ≡ behind p sizes
 after-judged p sizes h = ap (λ r. on_fine r (λ x. behind p sizes)) h
 
-pub top-refused : (p : ParamProgram) (sizes : List ℕ) (e : code.Refusal) → units_judged 1 [] p ≡ no_fault → JudgesAll (Err e) (top_judged (source_units p sizes))
+pub top-refused : (p : ParamProgram) (sizes : List ℕ) (e : code.Refusal) → units_judged 1 [] p ≡ no_fault
+    → JudgesAll (Err e) (top_judged (source_units p sizes))
     → MakesText (Err e) (elaborated_program p sizes)
 top-refused p sizes e j h =
     subst (λ (r : Result Made Refusal). Told e.unit e.fault r) (sym (after-judged p sizes j))
     (told-fine e.unit e.fault (top_judged (source_units p sizes)) (λ y. last_made (source_units p sizes)) h)
 
-pub judged-made : (p : ParamProgram) (sizes : List ℕ) (r : Result Written code.Refusal) → units_judged 1 [] p ≡ no_fault → top_judged (source_units p sizes) ≡ no_fault
+pub judged-made : (p : ParamProgram) (sizes : List ℕ) (r : Result Written code.Refusal) → units_judged 1 [] p ≡ no_fault
+    → top_judged (source_units p sizes) ≡ no_fault
     → MakesText r (last_made (source_units p sizes)) → MakesText r (elaborated_program p sizes)
 judged-made p sizes r j t h =
     subst (MakesText r) (sym (after-judged p sizes j ∙ ap (λ x. on_fine x (λ y. last_made (source_units p sizes))) t)) h

@@ -28,7 +28,8 @@ abbrev one_name : Name × Made → Result (List Name × Made) model.Refusal
 one_name x = fine (x.0 ∷ [], x.1)
 
 -- where an `add` makes an instance, the child stands behind the others, and the same names are known
-pub add-made : (add : Adding) (k : ℕ) (env : Environment) (n : Name) (cs : List Expression) (zs : List ℤ) (m m' : Made) (i : Instance) (old new : Scope) (s : Making)
+pub add-made : (add : Adding) (k : ℕ) (env : Environment) (n : Name) (cs : List Expression) (zs : List ℤ) (m m' : Made) (i : Instance) (old new : Scope)
+    (s : Making)
     → zs ≡ map (value env) cs → add n zs m ≡ Ok (name_written i, m') → Stands s m' → new.children ≡ old.children ++ i ∷ [] → new.known ≡ old.known
     → MakesMore (Ok tt) old new s (made_once add k env (Add n cs) m)
 add-made add k env n cs zs m m' i old new s z h st e kn = (
@@ -138,7 +139,8 @@ top-is us i u sizes len e =
     ap (λ l. last_made (sources l sizes)) (sym all) ∙ ap last_made (sources-more us i u sizes (omega (arith, len)) e)
 
 -- what the last stream makes without arguments is what the units make
-pub top-made : (us : List ParamUnit) (i j : ℕ) (u : ParamUnit) (sizes : List ℕ) (env : Environment) (name : Name) (m : Made) → i + 1 ≡ length us → u ≡ get_or us i u
+pub top-made : (us : List ParamUnit) (i j : ℕ) (u : ParamUnit) (sizes : List ℕ) (env : Environment) (name : Name) (m : Made) → i + 1 ≡ length us
+    → u ≡ get_or us i u
     → j ≡ i → env ≡ [] → make (adding (take i us) sizes 2) (source_at j sizes (declared_of u)) 1 env nothing_made ≡ Ok (name, m)
     → last_made (sources us sizes) ≡ Ok m
 top-made us i j u sizes env name m len is e none h =

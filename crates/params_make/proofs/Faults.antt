@@ -30,7 +30,8 @@ pub told-on : {A B : Type 0} (k : ℕ) (f : Fault) (r : Result A model.Refusal) 
 told-on k f r g h = told-more k f r (on_fine r g) (λ e q. ap (λ x. on_fine x g) q) h
 
 -- so is that of the part behind it
-pub told-behind : {A B : Type 0} (k : ℕ) (f : Fault) (r : Result A model.Refusal) (x : A) (g : A → Result B model.Refusal) → r ≡ Ok x → Told k f (g x) → Told k f (on_fine r g)
+pub told-behind : {A B : Type 0} (k : ℕ) (f : Fault) (r : Result A model.Refusal) (x : A) (g : A → Result B model.Refusal) → r ≡ Ok x → Told k f (g x)
+    → Told k f (on_fine r g)
 told-behind k f r x g is h = told-more k f (g x) (on_fine r g) (λ e q. ap (λ y. on_fine y g) is ∙ q) h
 
 -- of want of memory nothing is told

@@ -91,7 +91,8 @@ text-more us u =
     ∙ spaced-append (units_toks us) (unit_toks u)
 
 -- an instance whose unit was written
-pub written-stands : (s mid new : Making) (m : Made) (k : ℕ) (stream : Name) (b : plain.Body) (i : Instance) → Stands s m → i.stream ≡ stream → i.number ≡ suc s.number
+pub written-stands : (s mid new : Making) (m : Made) (k : ℕ) (stream : Name) (b : plain.Body) (i : Instance) → Stands s m → i.stream ≡ stream
+    → i.number ≡ suc s.number
     → mid ≡ record s { text = s.text ++ spaced (unit_toks (record { name = name_written i; body = b })) } → Wrote mid new k i.number
     → (name_written i ≡ (finished k stream (b, m)).0) × Stands new (finished k stream (b, m)).1
 written-stands s mid new m k stream b i h one two is w =
@@ -143,7 +144,8 @@ pub pipeline-made : (add : Adding) (k : ℕ) (name : Name) (env : Environment) (
 pipeline-made add k name env ss m m1 a i new h w =
     let b = plain.APipeline a in (
       (finished k name (b, m1)).1,
-      ap (λ r. on_fine (on_fine r (λ x. fine (plain.APipeline x.0, x.1))) (λ r. fine (finished k name r))) h ∙ ap (λ n. fine (n, (finished k name (b, m1)).1)) (sym w.0),
+      ap (λ r. on_fine (on_fine r (λ x. fine (plain.APipeline x.0, x.1))) (λ r. fine (finished k name r))) h
+          ∙ ap (λ n. fine (n, (finished k name (b, m1)).1)) (sym w.0),
       w.1,
     )
 
@@ -162,7 +164,8 @@ module _ (add : Adding) (k : ℕ) (name : Name) (env : Environment) (d : Dealing
   abbrev split : Result (plain.Body × Made) model.Refusal
   split = on_fine (demand (is_ranged_dealing env d) k Range) (λ x. on_fine (children_made add k env ss m) joined)
 
-  pub split-told : (e : Refusal) → Told e.unit e.fault (demand (is_ranged_dealing env d) k Range) → Told e.unit e.fault (bodied add k name env (ASplitJoin d ss ws) m)
+  pub split-told : (e : Refusal) → Told e.unit e.fault (demand (is_ranged_dealing env d) k Range)
+      → Told e.unit e.fault (bodied add k name env (ASplitJoin d ss ws) m)
   split-told e h =
       told-on e.unit e.fault split (λ r. fine (finished k name r))
       (told-on e.unit e.fault (demand (is_ranged_dealing env d) k Range) (λ x. on_fine (children_made add k env ss m) joined) h)

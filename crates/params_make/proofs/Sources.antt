@@ -34,7 +34,8 @@ numbered-more k (u ∷ p) d sizes =
     ap (λ l. record { unit = k; bytes = head_or sizes; stream = u } ∷ l)
     (numbered-more (suc k) p d (tail_of sizes)
     ∙ ap (λ n. numbered_from (suc k) p (tail_of sizes) ++ record { unit = suc k + length p; bytes = n; stream = d } ∷ []) (later-size sizes (length p))
-    ∙ ap (λ n. numbered_from (suc k) p (tail_of sizes) ++ record { unit = n; bytes = get_or sizes (suc (length p)) 0; stream = d } ∷ []) (let e : suc k + length p ≡ k + suc (length p) = omega arith in e))
+    ∙ ap (λ n. numbered_from (suc k) p (tail_of sizes) ++ record { unit = n; bytes = get_or sizes (suc (length p)) 0; stream = d } ∷ [])
+    (let e : suc k + length p ≡ k + suc (length p) = omega arith in e))
 
 -- the streams of one unit more
 pub sources-more : (us : List ParamUnit) (i : ℕ) (u : ParamUnit) (sizes : List ℕ) → i < length us → u ≡ get_or us i u
@@ -47,13 +48,16 @@ sources-more us i u sizes lt e =
     ∙ ap (λ q. source_units q sizes) (map-append declared_of (take i us) (u ∷ []))
     ∙ ap reverse (numbered-more 1 p d sizes)
     ∙ reverse-append (numbered_from 1 p sizes) (record { unit = 1 + length p; bytes = get_or sizes (length p) 0; stream = d } ∷ [])
-    ∙ ap (λ n. record { unit = n; bytes = get_or sizes (length p) 0; stream = d } ∷ sources (take i us) sizes) (let e : 1 + length p ≡ suc (length p) = omega arith in e)
+    ∙ ap (λ n. record { unit = n; bytes = get_or sizes (length p) 0; stream = d } ∷ sources (take i us) sizes)
+    (let e : 1 + length p ≡ suc (length p) = omega arith in e)
     ∙ ap (λ n. source_at n sizes d ∷ sources (take i us) sizes) len
 
 -- an instance of a stream of these is one of the last unit, or of a unit above it
-pub adding-more : (us : List ParamUnit) (i : ℕ) (u : ParamUnit) (sizes : List ℕ) (depth : ℕ) (n : Name) (zs : List ℤ) (m : Made) → i < length us → u ≡ get_or us i u
+pub adding-more : (us : List ParamUnit) (i : ℕ) (u : ParamUnit) (sizes : List ℕ) (depth : ℕ) (n : Name) (zs : List ℤ) (m : Made) → i < length us
+    → u ≡ get_or us i u
     → adding (take (i + 1) us) sizes depth n zs m
-    ≡ (if name_eq u.name n then make (adding (take i us) sizes (suc depth)) (source_at i sizes (declared_of u)) depth (bound u.params.items zs) m else adding (take i us) sizes depth n zs m)
+    ≡ (if name_eq u.name n then make (adding (take i us) sizes (suc depth)) (source_at i sizes (declared_of u)) depth (bound u.params.items zs) m else adding
+    (take i us) sizes depth n zs m)
 adding-more us i u sizes depth n zs m lt e = ap (λ l. instance l depth n zs m) (sources-more us i u sizes lt e)
 
 same-default : (us : List ParamUnit) (i : ℕ) (u v : ParamUnit) → i < length us → get_or us i u ≡ get_or us i v
@@ -62,7 +66,8 @@ same-default (x ∷ us) zero u v lt = refl
 same-default (x ∷ us) (suc i) u v lt = same-default us i u v (omega (arith, lt))
 
 -- where the last unit has the name
-pub found-at : (us : List ParamUnit) (i : ℕ) (u v : ParamUnit) (sizes : List ℕ) (depth : ℕ) (n : Name) (zs : List ℤ) (m : Made) → i < length us → v ≡ get_or us i v
+pub found-at : (us : List ParamUnit) (i : ℕ) (u v : ParamUnit) (sizes : List ℕ) (depth : ℕ) (n : Name) (zs : List ℤ) (m : Made) → i < length us
+    → v ≡ get_or us i v
     → name_eq v.name n ≡ true → u ≡ get_or us i u
     → adding (take (i + 1) us) sizes depth n zs m
     ≡ make (adding (take i us) sizes (suc depth)) (source_at i sizes (declared_of u)) depth (bound u.params.items zs) m
@@ -70,14 +75,17 @@ found-at us i u v sizes depth n zs m lt vis same_name uis =
     let same : v ≡ u = vis ∙ same-default us i v u lt ∙ sym uis in
     let named : name_eq u.name n ≡ true = sym (ap (λ (w : ParamUnit). name_eq w.name n) same) ∙ same_name in
     adding-more us i u sizes depth n zs m lt uis
-    ∙ ap (λ b. if b then make (adding (take i us) sizes (suc depth)) (source_at i sizes (declared_of u)) depth (bound u.params.items zs) m else adding (take i us) sizes depth n zs m) named
+    ∙ ap (λ b. if b then make (adding (take i us) sizes (suc depth)) (source_at i sizes (declared_of u)) depth (bound u.params.items zs) m else adding
+    (take i us) sizes depth n zs m) named
 
 -- where it has another
-pub passed-at : (us : List ParamUnit) (i : ℕ) (v : ParamUnit) (sizes : List ℕ) (depth : ℕ) (n : Name) (zs : List ℤ) (m : Made) → i < length us → v ≡ get_or us i v
+pub passed-at : (us : List ParamUnit) (i : ℕ) (v : ParamUnit) (sizes : List ℕ) (depth : ℕ) (n : Name) (zs : List ℤ) (m : Made) → i < length us
+    → v ≡ get_or us i v
     → name_eq v.name n ≡ false → adding (take (i + 1) us) sizes depth n zs m ≡ adding (take i us) sizes depth n zs m
 passed-at us i v sizes depth n zs m lt vis other =
     adding-more us i v sizes depth n zs m lt vis
-    ∙ ap (λ b. if b then make (adding (take i us) sizes (suc depth)) (source_at i sizes (declared_of v)) depth (bound v.params.items zs) m else adding (take i us) sizes depth n zs m) other
+    ∙ ap (λ b. if b then make (adding (take i us) sizes (suc depth)) (source_at i sizes (declared_of v)) depth (bound v.params.items zs) m else adding
+    (take i us) sizes depth n zs m) other
 
 -- VALUES
 

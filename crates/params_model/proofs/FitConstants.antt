@@ -147,8 +147,11 @@ both-fit n b ts h =
     let split = h.formed.first.formed.formed in
     let rest = h.formed.second in
     let join = rest.second.formed.formed in
-    subst IsFitUnit (sym h.is)
-    (split-fit n split.word v.0 split.back split.formed, each-has n v.1.0 rest.front rest.first, weights-fit v.1.1 (constants-fit n v.1.1 join.front join.formed))
+    subst IsFitUnit (sym h.is) (
+      split-fit n split.word v.0 split.back split.formed,
+      each-has n v.1.0 rest.front rest.first,
+      weights-fit v.1.1 (constants-fit n v.1.1 join.front join.formed),
+    )
 
 -- UNITS
 

@@ -70,7 +70,8 @@ look_here : {A : Type 0} (e : Name × A) (es : List (Name × A)) (n : Name) → 
 look_here e es n h = ap (λ b. if b then Some e.1 else look es n) h
 
 -- later units change nothing for earlier names
-work_kept : (us : plain.Program) (k : ℕ) (env : List (Name × Works)) (n : Name) → Numbered k us → number_in n ≤ k → known_works (all_work env us) n ≡ known_works env n
+work_kept : (us : plain.Program) (k : ℕ) (env : List (Name × Works)) (n : Name) → Numbered k us → number_in n ≤ k
+    → known_works (all_work env us) n ≡ known_works env n
 work_kept [] k env n h le = refl
 work_kept (u ∷ us) k env n h le =
     work_kept us (suc k) ((u.name, body_works env u.body) ∷ env) n h.1 (omega (arith, le))
@@ -117,7 +118,8 @@ grew_then : (s t r : Made) → Grew s t → Grew t r → Grew s r
 grew_then s t r g h = record {
   more = g.more ++ h.more;
   units = h.units ∙ ap (λ l. l ++ h.more) g.units ∙ append_assoc s.units g.more h.more;
-  numbered = numbered-append (length s.units) g.more h.more g.numbered (subst (λ l. Numbered l h.more) (ap length g.units ∙ length-append s.units g.more) h.numbered);
+  numbered = numbered-append (length s.units) g.more h.more g.numbered
+      (subst (λ l. Numbered l h.more) (ap length g.units ∙ length-append s.units g.more) h.numbered);
   begun = let a = g.begun in let b = h.begun in omega (arith, a, b, length-append g.more h.more);
   few = λ e. h.few (g.few e);
 }
@@ -241,7 +243,8 @@ module _ (all : Streams) (add : Adding) (unit : ℕ) (right : Right all add) whe
 
   turns_right : (f : ℕ → Made → Added) (g : ℕ → List Child) (m : ℕ)
       → ((v : ℕ) (s : Made) (r : List Name × Made) → v ≤ m → IsSmall s → f v s ≡ fine r → ChildrenBy all (g v) s r)
-      → (vs : List ℕ) (s : Made) (r : List Name × Made) → AllAtMost m vs → IsSmall s → turns_made unit f vs s ≡ fine r → ChildrenBy all (children_each_turn g vs) s r
+      → (vs : List ℕ) (s : Made) (r : List Name × Made) → AllAtMost m vs → IsSmall s → turns_made unit f vs s ≡ fine r
+      → ChildrenBy all (children_each_turn g vs) s r
   turns_right f g m one [] s r le small h = subst (ChildrenBy all [] s) (ok_is ([], s) r h) (children_none all s)
   turns_right f g m one (v ∷ vs) s r le small h =
       let p = ok_parts (turn unit s) (λ t. also (f v t) (turns_made unit f vs)) r h in
@@ -263,13 +266,15 @@ module _ (all : Streams) (add : Adding) (unit : ℕ) (right : Right all add) whe
         subst (ChildrenBy all ((n, map (value env) cs) ∷ []) s) (ok_is (p.0.0 ∷ [], p.0.1) r p.2) (record { grew = a.grew; all_do = (a.does, tt) })
     once_right env (Loop n low upto high ss) s r fits fit few h =
         let f = λ (v : ℕ). steps_made add unit ((n, pos v) ∷ env) ss in
-        let p = ok_parts (demand (is_ranged (value env low) && is_ranged (value env high)) unit Range) (λ x. turns_made unit f (turns_between (value env low) upto (value env high)) s) r h in
+        let p = ok_parts (demand (is_ranged (value env low) && is_ranged (value env high)) unit Range)
+        (λ x. turns_made unit f (turns_between (value env low) upto (value env high)) s) r h in
         let b = and_parts (is_ranged (value env low)) (is_ranged (value env high)) (demanded _ unit Range p.0 p.1) in
         turns_right f (λ v. children ((n, pos v) ∷ env) ss) 65536
         (λ v t y le ok e. steps_right ((n, pos v) ∷ env) ss t y (small v (omega (arith, le)), fits) fit ok e)
         (turns_between (value env low) upto (value env high)) s r (turns_small (value env low) (value env high) upto b.1 b.0) few p.2
 
-    pub steps_right : (env : Environment) (ss : Steps) (s : Made) (r : List Name × Made) → Fits env → AreFitSteps ss → IsSmall s → steps_made add unit env ss s ≡ fine r
+    pub steps_right : (env : Environment) (ss : Steps) (s : Made) (r : List Name × Made) → Fits env → AreFitSteps ss → IsSmall s
+        → steps_made add unit env ss s ≡ fine r
         → ChildrenBy all (children env ss) s r
     steps_right env End s r fits fit small h = subst (ChildrenBy all [] s) (ok_is ([], s) r h) (children_none all s)
     steps_right env (Then c ss) s r fits fit small h =
@@ -311,11 +316,13 @@ module _ (all : Streams) (add : Adding) (unit : ℕ) (right : Right all add) whe
     grew : Grew s r.1
     all_do : AllDo all r.1.units (r.0.first ∷ r.0.others) cs
 
-  names_do : (m : plain.Program) (cs : List Child) (ns : List Name) (a : plain.Adds) → some_adds unit ns ≡ fine a → AllDo all m ns cs → AllDo all m (a.first ∷ a.others) cs
+  names_do : (m : plain.Program) (cs : List Child) (ns : List Name) (a : plain.Adds) → some_adds unit ns ≡ fine a → AllDo all m ns cs
+      → AllDo all m (a.first ∷ a.others) cs
   names_do m cs [] a h d = absurd (cc h)
   names_do m cs (n ∷ ns) a h d = subst (λ (b : plain.Adds). AllDo all m (b.first ∷ b.others) cs) (ok_is (record { first = n; others = ns }) a h) d
 
-  some_children : (env : Environment) (ss : Steps) (s : Made) (r : plain.Adds × Made) → Fits env → AreFitSteps ss → IsSmall s → children_made add unit env ss s ≡ fine r
+  some_children : (env : Environment) (ss : Steps) (s : Made) (r : plain.Adds × Made) → Fits env → AreFitSteps ss → IsSmall s
+      → children_made add unit env ss s ≡ fine r
       → SomeChildren (children env ss) s r
   some_children env ss s r fits fit small h =
       let p = ok_parts (steps_made add unit env ss s) (λ x. on_fine (some_adds unit x.0) (λ a. fine (a, x.1))) r h in
@@ -327,8 +334,10 @@ module _ (all : Streams) (add : Adding) (unit : ℕ) (right : Right all add) whe
         all_do = names_do p.0.1.units (children env ss) p.0.0 q.0 q.1 c.all_do;
       })
 
-  split_is : (d : plain.Dealing) (ws : Option (List ℕ)) (units : plain.Program) (a : plain.Adds) (cs : List Child) (xs : List ℤ) → AllDo all units (a.first ∷ a.others) cs
-      → body_works (all_work [] units) (plain.ASplitJoin d a ws) xs ≡ collected (weights_for ws (length cs)) (side_by_side all cs (λ p. share_of d (length cs) p xs))
+  split_is : (d : plain.Dealing) (ws : Option (List ℕ)) (units : plain.Program) (a : plain.Adds) (cs : List Child) (xs : List ℤ)
+      → AllDo all units (a.first ∷ a.others) cs
+      → body_works (all_work [] units) (plain.ASplitJoin d a ws) xs ≡ collected (weights_for ws (length cs))
+      (side_by_side all cs (λ p. share_of d (length cs) p xs))
   split_is d ws units a cs xs h =
       let n = branch_count a in
       let e : n ≡ length cs = count_is units (a.first ∷ a.others) cs h in
@@ -391,7 +400,8 @@ pub record MadeBy (f : Works) (s : Made) (x : Name × Made) : Type 0 where
   pub grew : Grew s x.1
   pub number : number_in x.0 ≡ suc (length before)
 
-pub all_last : (before : plain.Program) (u : plain.Declared) → all_work [] (before ++ u ∷ []) ≡ (u.name, body_works (all_work [] before) u.body) ∷ all_work [] before
+pub all_last : (before : plain.Program) (u : plain.Declared)
+    → all_work [] (before ++ u ∷ []) ≡ (u.name, body_works (all_work [] before) u.body) ∷ all_work [] before
 all_last before u = all_work-append before (u ∷ []) []
 
 made_does : (f : Works) (s : Made) (x : Name × Made) → MadeBy f s x → Does x.1.units x.0 f
@@ -436,13 +446,15 @@ module _ (all : Streams) (add : Adding) (right : Right all add) where
         grew = record {
           more = c.grew.more ++ new ∷ [];
           units = ap (λ l. l ++ new ∷ []) all_units ∙ append_assoc s.units c.grew.more (new ∷ []);
-          numbered = numbered-append (length s.units) c.grew.more (new ∷ []) (subst (λ l. Numbered l c.grew.more) (sym (ap length g.1)) c.grew.numbered) (number ∙ ap suc count, tt);
+          numbered = numbered-append (length s.units) c.grew.more (new ∷ []) (subst (λ l. Numbered l c.grew.more) (sym (ap length g.1)) c.grew.numbered)
+              (number ∙ ap suc count, tt);
           begun = let a = c.grew.begun in omega (arith, a, g.2, length-append c.grew.more (new ∷ []));
           few = λ e. c.grew.few ok_t.few;
         };
       })
 
-either_right : (u : SourceUnit) (us : List SourceUnit) (depth : ℕ) (n : Name) (zs : List ℤ) (s : Made) (x : Name × Made) → AllFit zs → IsFine u.stream.params u.stream.body → IsSmall s
+either_right : (u : SourceUnit) (us : List SourceUnit) (depth : ℕ) (n : Name) (zs : List ℤ) (s : Made) (x : Name × Made) → AllFit zs
+    → IsFine u.stream.params u.stream.body → IsSmall s
     → Right (stream_works (unit_streams us)) (instance us (suc depth)) → Right (stream_works (unit_streams us)) (instance us depth)
     → (b : Bool) → name_eq u.stream.name n ≡ b → instance (u ∷ us) depth n zs s ≡ fine x → AddsBy (stream_works (unit_streams (u ∷ us))) n zs s x
 either_right u us depth n zs s x fits ok small below beside b e h = go b e
@@ -455,7 +467,8 @@ either_right u us depth n zs s x fits ok small below beside b e h = go b e
 
     go : (b : Bool) → name_eq u.stream.name n ≡ b → AddsBy (stream_works (unit_streams (u ∷ us))) n zs s x
     go true e =
-        let m = make_right (stream_works (unit_streams us)) (instance us (suc depth)) below u depth u.stream.params zs s x fits ok small (sym (ap here e) ∙ h) in
+        let m = make_right (stream_works (unit_streams us)) (instance us (suc depth)) below u depth u.stream.params zs s x fits ok small
+        (sym (ap here e) ∙ h) in
         let d = made_does (works_under (stream_works (unit_streams us)) (bound u.stream.params zs) u.stream.body) s x m in
         record { grew = m.grew; does = record { number = d.number; same = λ xs. d.same xs ∙ sym (ap (λ b. does b xs) e) } }
     go false e =
@@ -501,7 +514,8 @@ elaboration_means [] m xs ok h = absurd (cc h)
 elaboration_means (u ∷ us) m xs ok h =
     let all = stream_works (unit_streams us) in
     let p = ok_parts (make (instance us 2) u 1 [] nothing_made) (λ x. fine x.1) m h in
-    let b = make_right all (instance us 2) (instance_right us 2 ok.1) u 1 [] [] nothing_made p.0 tt (top u.stream.body ok.0) (record { made = omega arith; few = omega arith }) p.1 in
+    let b = make_right all (instance us 2) (instance_right us 2 ok.1) u 1 [] [] nothing_made p.0 tt (top u.stream.body ok.0)
+    (record { made = omega arith; few = omega arith }) p.1 in
     let new : plain.Declared = record { name = p.0.0; body = b.body } in
     ap (λ (r : Made). program_outputs r.units xs) (sym (ok_is p.0.1 m p.2))
     ∙ ap (λ l. program_outputs l xs) b.units

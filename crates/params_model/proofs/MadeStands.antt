@@ -76,23 +76,27 @@ module _ (add : Adding) (unit : ℕ) (fitting : Fitting add) where
       also_fit (f v p.0) (turns_made unit f vs) r (λ x e. one v p.0 x le.0 k e) (λ t y w e. turns_fit f m one vs t y le.1 w e) p.2
 
   mutual
-    once_fit : (env : Environment) (c : Step) (s : Made) (r : List Name × Made) → Fits env → IsFitStep c → IsFit s → made_once add unit env c s ≡ fine r → NamesFit r
+    once_fit : (env : Environment) (c : Step) (s : Made) (r : List Name × Made) → Fits env → IsFitStep c → IsFit s → made_once add unit env c s ≡ fine r
+        → NamesFit r
     once_fit env (Add n cs) s r fits fit g h =
         let p = ok_parts (add n (map (value env) cs) s) (λ x. fine (x.0 ∷ [], x.1)) r h in
         let a = fitting n (map (value env) cs) s p.0 (values_fit env cs fits fit) g p.1 in
         subst NamesFit (ok_is (p.0.0 ∷ [], p.0.1) r p.2) (record { own = (a.own, tt); fit = a.fit })
     once_fit env (Loop n low upto high ss) s r fits fit g h =
         let f = λ (v : ℕ). steps_made add unit ((n, pos v) ∷ env) ss in
-        let p = ok_parts (demand (is_ranged (value env low) && is_ranged (value env high)) unit Range) (λ x. turns_made unit f (turns_between (value env low) upto (value env high)) s) r h in
+        let p = ok_parts (demand (is_ranged (value env low) && is_ranged (value env high)) unit Range)
+        (λ x. turns_made unit f (turns_between (value env low) upto (value env high)) s) r h in
         let b = and_parts (is_ranged (value env low)) (is_ranged (value env high)) (demanded _ unit Range p.0 p.1) in
         turns_fit f 65536
         (λ v t y le ok e. steps_fit ((n, pos v) ∷ env) ss t y (small v (omega (arith, le)), fits) fit ok e)
         (turns_between (value env low) upto (value env high)) s r (turns_small (value env low) (value env high) upto b.1 b.0) g p.2
 
-    steps_fit : (env : Environment) (ss : Steps) (s : Made) (r : List Name × Made) → Fits env → AreFitSteps ss → IsFit s → steps_made add unit env ss s ≡ fine r → NamesFit r
+    steps_fit : (env : Environment) (ss : Steps) (s : Made) (r : List Name × Made) → Fits env → AreFitSteps ss → IsFit s
+        → steps_made add unit env ss s ≡ fine r → NamesFit r
     steps_fit env End s r fits fit g h = subst NamesFit (ok_is ([], s) r h) (record { own = tt; fit = g })
     steps_fit env (Then c ss) s r fits fit g h =
-        also_fit (made_once add unit env c s) (steps_made add unit env ss) r (λ x e. once_fit env c s x fits fit.0 g e) (λ t y k e. steps_fit env ss t y fits fit.1 k e) h
+        also_fit (made_once add unit env c s) (steps_made add unit env ss) r (λ x e. once_fit env c s x fits fit.0 g e)
+        (λ t y k e. steps_fit env ss t y fits fit.1 k e) h
 
   record AddsFit (r : plain.Adds × Made) : Type 0 where
     told : AreToldAdds r.0
@@ -102,7 +106,8 @@ module _ (add : Adding) (unit : ℕ) (fitting : Fitting add) where
   adds_told [] a h g = absurd (cc h)
   adds_told (n ∷ ns) a h g = subst AreToldAdds (ok_is (record { first = n; others = ns }) a h) g
 
-  children_fit : (env : Environment) (ss : Steps) (s : Made) (r : plain.Adds × Made) → Fits env → AreFitSteps ss → IsFit s → children_made add unit env ss s ≡ fine r → AddsFit r
+  children_fit : (env : Environment) (ss : Steps) (s : Made) (r : plain.Adds × Made) → Fits env → AreFitSteps ss → IsFit s
+      → children_made add unit env ss s ≡ fine r → AddsFit r
   children_fit env ss s r fits fit g h =
       let p = ok_parts (steps_made add unit env ss s) (λ x. on_fine (some_adds unit x.0) (λ a. fine (a, x.1))) r h in
       let q = ok_parts (some_adds unit p.0.0) (λ a. fine (a, p.0.1)) r p.2 in
@@ -148,14 +153,19 @@ module _ (add : Adding) (unit : ℕ) (fitting : Fitting add) where
       let v = ok_parts (demand (are_ranged_option env ws) unit Range) (λ y. fine (made q.0)) r q.2 in
       let c = children_fit env ss s q.0 (bound_fits ps zs fits) ok g q.1 in
       subst BodyFit (ok_is (made q.0) r v.2) (record {
-        told = (dealing_told env d (demanded (is_ranged_dealing env d) unit Range p.0 p.1), c.told, weights_told env ws (demanded (are_ranged_option env ws) unit Range v.0 v.1));
+        told = (
+          dealing_told env d (demanded (is_ranged_dealing env d) unit Range p.0 p.1),
+          c.told,
+          weights_told env ws (demanded (are_ranged_option env ws) unit Range v.0 v.1),
+        );
         fit = c.fit;
       })
 
 -- AN INSTANCE
 
 module _ (all : Streams) (add : Adding) (right : Right all add) (fitting : Fitting add) where
-  make_fit : (u : SourceUnit) (depth : ℕ) (ps : List Name) (zs : List ℤ) (s : Made) (x : Name × Made) → AllFit zs → IsFine ps u.stream.body → IsWrittenUnit u.stream
+  make_fit : (u : SourceUnit) (depth : ℕ) (ps : List Name) (zs : List ℤ) (s : Made) (x : Name × Made) → AllFit zs → IsFine ps u.stream.body
+      → IsWrittenUnit u.stream
       → IsWrittenBody ps u.stream.body → IsFit s → make add u depth (bound ps zs) s ≡ fine x → NameFit x
   make_fit u depth ps zs s x fits ok w wb g h =
       let env = bound ps zs in
@@ -182,7 +192,8 @@ module _ (all : Streams) (add : Adding) (right : Right all add) (fitting : Fitti
         };
       }
 
-either_fit : (u : SourceUnit) (us : List SourceUnit) (depth : ℕ) (n : Name) (zs : List ℤ) (s : Made) (x : Name × Made) → AllFit zs → IsFine u.stream.params u.stream.body
+either_fit : (u : SourceUnit) (us : List SourceUnit) (depth : ℕ) (n : Name) (zs : List ℤ) (s : Made) (x : Name × Made) → AllFit zs
+    → IsFine u.stream.params u.stream.body
     → IsWrittenUnit u.stream → IsFit s → Right (stream_works (unit_streams us)) (instance us (suc depth)) → Fitting (instance us (suc depth))
     → Fitting (instance us depth)
     → (b : Bool) → name_eq u.stream.name n ≡ b → instance (u ∷ us) depth n zs s ≡ fine x → NameFit x
@@ -215,7 +226,8 @@ made_told (u ∷ us) m ok w h =
     let p = ok_parts (make (instance us 2) u 1 [] nothing_made) (λ x. fine x.1) m h in
     let few : IsSmall nothing_made = record { made = omega arith; few = omega arith } in
     let e = ok_is p.0.1 m p.2 in
-    let f = make_fit all (instance us 2) (instance_right us 2 ok.1) (instance_fit us 2 ok.1 w.1) u 1 u.stream.params [] nothing_made p.0 tt ok.0 w.0 w.0.body (record { told = tt; few = few }) (top u.stream.params p.1) in
+    let f = make_fit all (instance us 2) (instance_right us 2 ok.1) (instance_fit us 2 ok.1 w.1) u 1 u.stream.params [] nothing_made p.0 tt ok.0 w.0 w.0.body
+    (record { told = tt; few = few }) (top u.stream.params p.1) in
     let b = make_right all (instance us 2) (instance_right us 2 ok.1) u 1 u.stream.params [] nothing_made p.0 tt ok.0 few (top u.stream.params p.1) in (
       subst (λ (r : Made). IsSome r.units) e (subst IsSome (sym b.units) (some_append b.before (record { name = p.0.0; body = b.body }))),
       subst (λ (r : Made). IsToldProgram r.units) e f.fit.told,
@@ -253,7 +265,8 @@ elaborated_stands p sizes m fit w h =
     let us = source_units p sizes in
     let a = ok_parts (units_judged 1 [] p) (λ x. on_fine (top_judged us) (λ y. last_made us)) m h in
     let b = ok_parts (top_judged us) (λ y. last_made us) m a.2 in
-    let s = made_stands us m (fine_reverse (numbered_from 1 p sizes) (units_fine 1 [] p sizes a.0 fit a.1)) (written_reverse (numbered_from 1 p sizes) (units_written 1 p sizes w)) b.2 in (
+    let s = made_stands us m (fine_reverse (numbered_from 1 p sizes) (units_fine 1 [] p sizes a.0 fit a.1))
+    (written_reverse (numbered_from 1 p sizes) (units_written 1 p sizes w)) b.2 in (
       s.0,
       λ q xs k. s.1 q xs k ∙ ap (λ l. last_works l xs) (map-reverse (numbered_from 1 p sizes) ∙ ap reverse (streams_are 1 p sizes)),
     )

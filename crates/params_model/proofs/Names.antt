@@ -48,7 +48,8 @@ no_at c = not (c == 64)
 digits_no_at : (n : ℕ) → n < 2 ^ 64 → list_all (λ c. not (c == 64)) (decimal n) ≡ true
 digits_no_at n lt = decimal_by_steps (λ k ds. list_all (λ c. not (c == 64)) ds ≡ true)
     (λ k small. and_from (not ((48 + k) == 64)) true (one k small) refl)
-    (λ k ds le e. list_all-append (λ c. not (c == 64)) ds ((48 + k % 10) ∷ []) ∙ and_from (list_all (λ c. not (c == 64)) ds) _ e (and_from (not ((48 + k % 10) == 64)) true (one (k % 10) (mod_below k 10 (omega arith))) refl))
+    (λ k ds le e. list_all-append (λ c. not (c == 64)) ds ((48 + k % 10) ∷ [])
+    ∙ and_from (list_all (λ c. not (c == 64)) ds) _ e (and_from (not ((48 + k % 10) == 64)) true (one (k % 10) (mod_below k 10 (omega arith))) refl))
     n lt
   where
     one : (d : ℕ) → d < 10 → not ((48 + d) == 64) ≡ true
@@ -67,7 +68,8 @@ instance_plain name k h short lt =
     let q = and_parts (list_all (λ c. not (c == 64)) name) (not (list_any (λ word. bytes_eq name word) keywords)) p.1 in
     and_from (is_short 40 (name ++ tail)) _ (le-leb (length (name ++ tail)) 40 (omega (arith, a, l, short)))
     (and_from (list_all (λ c. not (c == 64)) (name ++ tail)) _
-    (list_all-append (λ c. not (c == 64)) name tail ∙ and_from (list_all (λ c. not (c == 64)) name) (list_all (λ c. not (c == 64)) tail) q.0 (digits_no_at k (omega (arith, lt))))
+    (list_all-append (λ c. not (c == 64)) name tail
+    ∙ and_from (list_all (λ c. not (c == 64)) name) (list_all (λ c. not (c == 64)) tail) q.0 (digits_no_at k (omega (arith, lt))))
     (ap not (none_of (name ++ tail) keywords (line_there name (decimal k)) keywords_plain)))
 
 instance_named : (name : List ℕ) (k : ℕ) → is_name name ≡ true → length name ≤ 32 → k < 10000 → is_name (instance_name name k) ≡ true
@@ -87,4 +89,5 @@ instance_named (b ∷ bs) k h short lt =
 -- the name of an instance of a short name that a program may give is one too
 pub instance_own : (name : List ℕ) (k : ℕ) → IsOwnName name → length name ≤ 32 → k < 10000 → IsOwnName (instance_name name k)
 instance_own name k h short lt =
-    and_from (is_plain (instance_name name k)) (is_name (instance_name name k)) (instance_plain name k h short lt) (instance_named name k (own_name name h) short lt)
+    and_from (is_plain (instance_name name k)) (is_name (instance_name name k)) (instance_plain name k h short lt)
+    (instance_named name k (own_name name h) short lt)

@@ -40,7 +40,8 @@ look_rest e env n h = ⊎_elim
     some_none h = cc h
 
 -- what is set under an environment that exec not give it
-pub under_set : (env : Environment) (vs : Values) (n : Name) (z : ℤ) (m : Name) → look env n ≡ None → under env (at_name n z vs) m ≡ at_name n z (under env vs) m
+pub under_set : (env : Environment) (vs : Values) (n : Name) (z : ℤ) (m : Name) → look env n ≡ None
+    → under env (at_name n z vs) m ≡ at_name n z (under env vs) m
 under_set [] vs n z m h = refl
 under_set (e ∷ env) vs n z m h =
     let r = look_rest e env n h in
@@ -62,7 +63,8 @@ under_set (e ∷ env) vs n z m h =
 abbrev pub Sees : Environment → Values → Values → Type 0
 Sees env plain source = (n : Name) → source n ≡ under env plain n
 
-either_pops : (b : Bool) (n : ℕ) → pops (if b then tree.Bin op.Sub (tree.Neg (tree.Number 9223372036854775807)) (tree.Number 1) else tree.Neg (tree.Number (suc n))) ≡ 0
+either_pops : (b : Bool) (n : ℕ)
+    → pops (if b then tree.Bin op.Sub (tree.Neg (tree.Number 9223372036854775807)) (tree.Number 1) else tree.Neg (tree.Number (suc n))) ≡ 0
 either_pops true n = refl
 either_pops false n = refl
 
@@ -106,7 +108,8 @@ module _ (env : Environment) (fits : Fits env) where
   said_alike : (t : Expression) (xs : List ℤ) (p s : State) → Alike p s → eval (put_in env t) xs p.values p.popped ≡ eval t xs s.values s.popped
   said_alike t xs p s h = put_said t xs p.values s.values p.popped h.values ∙ ap (eval t xs s.values) h.popped
 
-  set_sees : (n : Name) (y z : ℤ) (plain source : Values) → look env n ≡ None → y ≡ z → Sees env plain source → Sees env (at_name n y plain) (at_name n z source)
+  set_sees : (n : Name) (y z : ℤ) (plain source : Values) → look env n ≡ None → y ≡ z → Sees env plain source
+      → Sees env (at_name n y plain) (at_name n z source)
   set_sees n y z plain source free e h =
       λ m. ap (λ w. if name_eq n m then z else w) (h m) ∙ ap (λ w. if name_eq n m then w else under env plain m) (sym e) ∙ sym (under_set env plain n y m free)
 
@@ -158,19 +161,24 @@ module _ (env : Environment) (fits : Fits env) where
       }
       once_alike Discard xs p s d h = record { values = h.values; popped = ap (λ j. j + 1) h.popped; pushed = h.pushed }
       once_alike (If t a b) xs p s d h =
-          let on : Alike (record p { popped = p.popped + pops (put_in env t) }) (record s { popped = s.popped + pops t }) = record { values = h.values; popped = popping t p s h; pushed = h.pushed } in
+          let on : Alike (record p { popped = p.popped + pops (put_in env t) }) (record s { popped = s.popped + pops t }) =
+          record { values = h.values; popped = popping t p s h; pushed = h.pushed } in
           either_alike (is_true (eval (put_in env t) xs p.values p.popped)) (is_true (eval t xs s.values s.popped)) _ _ _ _ (ap is_true (said_alike t xs p s h))
           (all_alike a xs _ _ d.0 on) (optional_alike b xs _ _ d.1 on)
       once_alike (For n low upto high b) xs p s d h =
-          subst (λ vs. Alike (each_turn (exec_all (put_all env b) xs) n vs p) (each_turn (exec_all b xs) n (turns_between (eval low xs s.values s.popped) upto (eval high xs s.values s.popped)) s))
-          (sym (ap (λ l. turns_between l upto (eval (put_in env high) xs p.values p.popped)) (said_alike low xs p s h) ∙ ap (λ k. turns_between (eval low xs s.values s.popped) upto k) (said_alike high xs p s h)))
-          (turns_alike (exec_all (put_all env b) xs) (exec_all b xs) n d.0 (λ q t g. all_alike b xs q t d.1 g) (turns_between (eval low xs s.values s.popped) upto (eval high xs s.values s.popped)) p s h)
+          subst (λ vs. Alike (each_turn (exec_all (put_all env b) xs) n vs p)
+          (each_turn (exec_all b xs) n (turns_between (eval low xs s.values s.popped) upto (eval high xs s.values s.popped)) s))
+          (sym (ap (λ l. turns_between l upto (eval (put_in env high) xs p.values p.popped)) (said_alike low xs p s h)
+          ∙ ap (λ k. turns_between (eval low xs s.values s.popped) upto k) (said_alike high xs p s h)))
+          (turns_alike (exec_all (put_all env b) xs) (exec_all b xs) n d.0 (λ q t g. all_alike b xs q t d.1 g)
+          (turns_between (eval low xs s.values s.popped) upto (eval high xs s.values s.popped)) p s h)
 
       pub all_alike : (b : Block) (xs : List ℤ) (p s : State) → SparesAll ps b → Alike p s → Alike (exec_all (put_all env b) xs p) (exec_all b xs s)
       all_alike End xs p s d h = h
       all_alike (Then c b) xs p s d h = all_alike b xs _ _ d.1 (once_alike c xs p s d.0 h)
 
-      pub optional_alike : (b : Optional) (xs : List ℤ) (p s : State) → SparesOptional ps b → Alike p s → Alike (exec_optional (put_optional env b) xs p) (exec_optional b xs s)
+      pub optional_alike : (b : Optional) (xs : List ℤ) (p s : State) → SparesOptional ps b → Alike p s
+          → Alike (exec_optional (put_optional env b) xs p) (exec_optional b xs s)
       optional_alike Unwritten xs p s d h = h
       optional_alike (Written b) xs p s d h = all_alike b xs p s d h
 
@@ -204,9 +212,11 @@ module _ (env : Environment) (fits : Fits env) where
       waits_put (suc j) = refl
 
       looked_put : (j : ℕ) (xs : List ℤ) → looked_at (put_filter env t) j xs ≡ looked_at t j xs
-      looked_put j xs = ap (λ w. take (peek_of w) (drop (start_at (put_filter env t) j) xs)) (runs_put j) ∙ ap (λ k. take (peek_of (runs_in t j)) (drop k xs)) (starts_put j)
+      looked_put j xs = ap (λ w. take (peek_of w) (drop (start_at (put_filter env t) j) xs)) (runs_put j)
+          ∙ ap (λ k. take (peek_of (runs_in t j)) (drop k xs)) (starts_put j)
 
-      fires_put : (j : ℕ) (kept xs : List ℤ) → fires (put_filter env t) j kept xs ≡ exec_all (put_all env (runs_in t j).block) (looked_at t j xs) (at_start t.fields kept)
+      fires_put : (j : ℕ) (kept xs : List ℤ)
+          → fires (put_filter env t) j kept xs ≡ exec_all (put_all env (runs_in t j).block) (looked_at t j xs) (at_start t.fields kept)
       fires_put j kept xs =
           ap (λ w. exec_all w.block (looked_at (put_filter env t) j xs) (at_start t.fields kept)) (runs_put j)
           ∙ ap (λ l. exec_all (put_all env (runs_in t j).block) l (at_start t.fields kept)) (looked_put j xs)
@@ -216,7 +226,8 @@ module _ (env : Environment) (fits : Fits env) where
       firings_same (suc n) j kept xs =
           let s = fires_under env t j kept xs in
           let p = fires (put_filter env t) j kept xs in
-          let h : Alike p s = subst (λ (q : State). Alike q s) (sym (fires_put j kept xs)) (all_alike (runs_in t j).block (looked_at t j xs) _ _ (runs j) (start_alike t.fields kept)) in
+          let h : Alike p s = subst (λ (q : State). Alike q s) (sym (fires_put j kept xs))
+          (all_alike (runs_in t j).block (looked_at t j xs) _ _ (runs j) (start_alike t.fields kept)) in
           ap (λ k. if nat_le k (length xs) then p.pushed ++ fires_from (put_filter env t) n (suc j) (map p.values t.fields) xs else [])
           (ap (λ k. k + waits_for (put_filter env t) j) (starts_put j) ∙ ap (λ k. start_at t j + k) (waits_put j))
           ∙ ap (λ l. if nat_le (start_at t j + waits_for t j) (length xs) then l else []) (
@@ -229,5 +240,7 @@ module _ (env : Environment) (fits : Fits env) where
       filter_same xs =
           let zeros = replicate (length t.fields) (pos 0) in
           let h = optional_alike t.init [] _ _ init (start_alike t.fields zeros) in
-          ap (λ k. fires_from (put_filter env t) (suc (length xs)) 0 k xs) (fields_same t.fields (exec_optional (put_optional env t.init) [] (at_start t.fields zeros)).values (exec_optional t.init [] (started env t.fields zeros)).values fields h.values)
+          ap (λ k. fires_from (put_filter env t) (suc (length xs)) 0 k xs)
+          (fields_same t.fields (exec_optional (put_optional env t.init) [] (at_start t.fields zeros)).values
+          (exec_optional t.init [] (started env t.fields zeros)).values fields h.values)
           ∙ firings_same (suc (length xs)) 0 (initial_under env t) xs

@@ -37,7 +37,8 @@ literal_told : (z : ℤ) → IsValue z → IsToldTree (literal z)
 literal_told (pos n) h = value_small n h
 literal_told (negsuc n) h = either_told (nat_eq n 9223372036854775807) n refl h
 
-either_depth : (b : Bool) (n : ℕ) → depth_of (if b then tree.Bin op.Sub (tree.Neg (tree.Number 9223372036854775807)) (tree.Number 1) else tree.Neg (tree.Number (suc n))) ≤ 3
+either_depth : (b : Bool) (n : ℕ)
+    → depth_of (if b then tree.Bin op.Sub (tree.Neg (tree.Number 9223372036854775807)) (tree.Number 1) else tree.Neg (tree.Number (suc n))) ≤ 3
 either_depth true n = omega arith
 either_depth false n = omega arith
 
@@ -128,7 +129,8 @@ module _ (ps : List Name) (zs : List ℤ) (fits : AllFit zs) where
 
   -- `init` pushes, pops and looks at nothing still
 
-  either_still : (b : Bool) (n : ℕ) → is_still (if b then tree.Bin op.Sub (tree.Neg (tree.Number 9223372036854775807)) (tree.Number 1) else tree.Neg (tree.Number (suc n))) ≡ true
+  either_still : (b : Bool) (n : ℕ)
+      → is_still (if b then tree.Bin op.Sub (tree.Neg (tree.Number 9223372036854775807)) (tree.Number 1) else tree.Neg (tree.Number (suc n))) ≡ true
   either_still true n = refl
   either_still false n = refl
 

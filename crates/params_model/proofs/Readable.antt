@@ -299,7 +299,8 @@ both-written ps n b ts h = subst (BodyWritten ps) (sym h.is) (tt, each-fit n h.v
 body-written : (n : ℕ) (w : List ℕ) (ps : List (List ℕ)) (b : Body) (ts : List Tok) → BodyAfter n w ps b ts → BodyWritten ps b
 body-written n w ps b ts h =
     chosen (BodyWritten ps b) _ _ (bytes_eq w (codes "filter")) b ts h
-    (λ e f. subst (BodyWritten ps) (sym f.is) (enclosed (IsWrittenFilter ps) _ _ _ n f.value ts f.formed (λ m us g. filter-written ps m f.value us g), tt)) (λ h.
+    (λ e f. subst (BodyWritten ps) (sym f.is) (enclosed (IsWrittenFilter ps) _ _ _ n f.value ts f.formed (λ m us g. filter-written ps m f.value us g), tt))
+    (λ h.
     chosen (BodyWritten ps b) _ _ (bytes_eq w (codes "pipeline")) b ts h
     (λ e f. subst (BodyWritten ps) (sym f.is) (tt, pipe-fit n f.value ts f.formed)) (λ h.
     chosen (BodyWritten ps b) _ _ (bytes_eq w (codes "splitjoin")) b ts h

@@ -111,7 +111,8 @@ tested k (s ∷ ss) = judged_then (demand (test s) k (spot_fault s)) (tested k s
 
 tested-append : (k : ℕ) (ss ts : List Spot) → tested k (ss ++ ts) ≡ judged_then (tested k ss) (tested k ts)
 tested-append k [] ts = refl
-tested-append k (s ∷ ss) ts = ap (judged_then (demand (test s) k (spot_fault s))) (tested-append k ss ts) ∙ sym (then-assoc (demand (test s) k (spot_fault s)) (tested k ss) (tested k ts))
+tested-append k (s ∷ ss) ts = ap (judged_then (demand (test s) k (spot_fault s))) (tested-append k ss ts)
+    ∙ sym (then-assoc (demand (test s) k (spot_fault s)) (tested k ss) (tested k ts))
 
 -- two parts, each of which is judged as its places are tested
 parts : (k : ℕ) (ss ts : List Spot) (a b : Judgement) → tested k ss ≡ a → tested k ts ≡ b → tested k (ss ++ ts) ≡ judged_then a b
@@ -237,7 +238,8 @@ all_tested (p ∷ ps) = judged_then (demand (test p.spot) p.unit (spot_fault p.s
 in_unit-tested : (k : ℕ) (ss : List Spot) (ps : List Place) → all_tested (spots_in_unit k ss ++ ps) ≡ judged_then (tested k ss) (all_tested ps)
 in_unit-tested k [] ps = refl
 in_unit-tested k (s ∷ ss) ps =
-    ap (judged_then (demand (test s) k (spot_fault s))) (in_unit-tested k ss ps) ∙ sym (then-assoc (demand (test s) k (spot_fault s)) (tested k ss) (all_tested ps))
+    ap (judged_then (demand (test s) k (spot_fault s))) (in_unit-tested k ss ps)
+    ∙ sym (then-assoc (demand (test s) k (spot_fault s)) (tested k ss) (all_tested ps))
 
 units-are : (k : ℕ) (above : Above) (p : ParamProgram) → all_tested (places_from k above p) ≡ units_judged k above p
 units-are k above [] = refl

@@ -132,10 +132,12 @@ said_literal (negsuc n) xs vs k h = negative (nat_eq n 9223372036854775807) refl
     negative : (b : Bool) → nat_eq n 9223372036854775807 ≡ b → eval (literal (negsuc n)) xs vs k ≡ negsuc n
     negative true e =
         let is : n ≡ 9223372036854775807 = eqb-true n 9223372036854775807 e in
-        ap (λ (b : Bool). eval (if b then tree.Bin op.Sub (tree.Neg (tree.Number 9223372036854775807)) (tree.Number 1) else tree.Neg (tree.Number (suc n))) xs vs k) e
+        ap (λ (b : Bool). eval
+        (if b then tree.Bin op.Sub (tree.Neg (tree.Number 9223372036854775807)) (tree.Number 1) else tree.Neg (tree.Number (suc n))) xs vs k) e
         ∙ least ∙ ap negsuc (sym is)
     negative false e =
-        ap (λ (b : Bool). eval (if b then tree.Bin op.Sub (tree.Neg (tree.Number 9223372036854775807)) (tree.Number 1) else tree.Neg (tree.Number (suc n))) xs vs k) e
+        ap (λ (b : Bool). eval
+        (if b then tree.Bin op.Sub (tree.Neg (tree.Number 9223372036854775807)) (tree.Number 1) else tree.Neg (tree.Number (suc n))) xs vs k) e
         ∙ int_wrap_fits w64 (negsuc n) h
 
 -- the literal of a name's value, or the name, says what the name does under the environment

@@ -33,7 +33,8 @@ once-first : (us bs cs : List Name) (f : OpForm → List Name) (ops : List OpFor
     → (o : Option Name) → IsFirst (λ b q. IsOnceAt (length us) (length bs) (length b) (length (list_at all (length b)))) (us ++ (bs ++ cs)) o
     → IsFirst (λ b q. IsUsedOnce (count q bs) (total (λ op. count q (f op)) ops)) (us ++ (bs ++ cs)) o
 once-first us bs cs f ops all once e o h =
-    placed_names names (λ i. IsOnceAt (length us) (length bs) i (length (list_at all i))) (λ q. IsUsedOnce (count q bs) (total (λ op. count q (f op)) ops)) once there back o h
+    placed_names names (λ i. IsOnceAt (length us) (length bs) i (length (list_at all i)))
+    (λ q. IsUsedOnce (count q bs) (total (λ op. count q (f op)) ops)) once there back o h
   where
     names : List Name
     names = us ++ (bs ++ cs)
@@ -56,9 +57,12 @@ pub written_first : (p : PlanForm) (w : Wiring) (names : List Name) (outputs inp
     → (o : Option Name) → IsFirst (λ b q. IsOnceAt outputs inputs (length b) (length (list_at w.writes.by_place (length b)))) names o
     → IsFirst (λ b q. IsUsedOnce (count q (decl_names p.inputs)) (total (writes_it q) p.ops)) (queue_names p) o
 written_first p w names outputs inputs n h e a b o g =
-    once-first (decl_names p.outputs) (decl_names p.inputs) (decl_names p.queues) (λ op. op.writes) p.ops w.writes.by_place (names-once (queue_names p) n.0.0) h.writes.by_place o
-    (subst (λ i. IsFirst (λ b q. IsOnceAt i (length (decl_names p.inputs)) (length b) (length (list_at w.writes.by_place (length b)))) (queue_names p) o) (a ∙ sym (length-map p.outputs (λ d. d.name)))
-    (subst (λ i. IsFirst (λ b q. IsOnceAt outputs i (length b) (length (list_at w.writes.by_place (length b)))) (queue_names p) o) (b ∙ sym (length-map p.inputs (λ d. d.name)))
+    once-first (decl_names p.outputs) (decl_names p.inputs) (decl_names p.queues) (λ op. op.writes) p.ops w.writes.by_place
+    (names-once (queue_names p) n.0.0) h.writes.by_place o
+    (subst (λ i. IsFirst (λ b q. IsOnceAt i (length (decl_names p.inputs)) (length b) (length (list_at w.writes.by_place (length b)))) (queue_names p) o)
+    (a ∙ sym (length-map p.outputs (λ d. d.name)))
+    (subst (λ i. IsFirst (λ b q. IsOnceAt outputs i (length b) (length (list_at w.writes.by_place (length b)))) (queue_names p) o)
+    (b ∙ sym (length-map p.inputs (λ d. d.name)))
     (subst (λ l. IsFirst (λ b q. IsOnceAt outputs inputs (length b) (length (list_at w.writes.by_place (length b)))) l o) e g)))
 
 -- the first queue that is read twice, or that is an output and read
@@ -66,8 +70,10 @@ pub read_first : (p : PlanForm) (w : Wiring) (names : List Name) (outputs : ℕ)
     → (o : Option Name) → IsFirst (λ b q. IsOnceAt 0 outputs (length b) (length (list_at w.reads.by_place (length b)))) names o
     → IsFirst (λ b q. IsUsedOnce (count q (decl_names p.outputs)) (total (reads_it q) p.ops)) (queue_names p) o
 read_first p w names outputs n h e a o g =
-    once-first [] (decl_names p.outputs) (decl_names p.inputs ++ decl_names p.queues) (λ op. op.reads) p.ops w.reads.by_place (names-once (queue_names p) n.0.0) h.reads.by_place o
-    (subst (λ i. IsFirst (λ b q. IsOnceAt 0 i (length b) (length (list_at w.reads.by_place (length b)))) (queue_names p) o) (a ∙ sym (length-map p.outputs (λ d. d.name)))
+    once-first [] (decl_names p.outputs) (decl_names p.inputs ++ decl_names p.queues) (λ op. op.reads) p.ops w.reads.by_place
+    (names-once (queue_names p) n.0.0) h.reads.by_place o
+    (subst (λ i. IsFirst (λ b q. IsOnceAt 0 i (length b) (length (list_at w.reads.by_place (length b)))) (queue_names p) o)
+    (a ∙ sym (length-map p.outputs (λ d. d.name)))
     (subst (λ l. IsFirst (λ b q. IsOnceAt 0 outputs (length b) (length (list_at w.reads.by_place (length b)))) l o) e g))
 
 -- the first variable that stands twice in one operator, or that is private and stands in two
@@ -76,7 +82,8 @@ pub shared_first : (p : PlanForm) (w : Wiring) (names : List Name) (tables : ℕ
     → IsFirst (λ b v. IsApart p v) (variable_names p) o
 shared_first p w names tables n h e a o g =
     placed_names (variable_names p) (λ i. IsApartAt (length ts) i (list_at w.vars.by_place i)) (IsApart p) once there back o
-    (subst (λ i. IsFirst (λ b v. IsApartAt i (length b) (list_at w.vars.by_place (length b))) (variable_names p) o) (a ∙ sym (length-map p.tables (λ t. t.name)))
+    (subst (λ i. IsFirst (λ b v. IsApartAt i (length b) (list_at w.vars.by_place (length b))) (variable_names p) o)
+    (a ∙ sym (length-map p.tables (λ t. t.name)))
     (subst (λ l. IsFirst (λ b v. IsApartAt tables (length b) (list_at w.vars.by_place (length b))) l o) e g))
   where
     ts : List Name
@@ -99,7 +106,8 @@ shared_first p w names tables n h e a o g =
     there v lt k = (
       rising-each (variable_names p) v lt p.ops 0 (subst IsStrictlyIncreasing (at v lt) k.0),
       λ i. let u =
-          uses v lt in let c = count-append v ts p.vars in let l = once v in let b = place_back ts p.vars v (omega (arith, c, l, i)) in let m = k.1 (omega (arith, b)) in omega (arith, u, m),
+          uses v lt in let c = count-append v ts p.vars in let l = once v in let b = place_back ts p.vars v (omega (arith, c, l, i)) in let m =
+          k.1 (omega (arith, b)) in omega (arith, u, m),
     )
 
     back : (v : Name) → 0 < count v (variable_names p) → IsApart p v
@@ -113,7 +121,8 @@ shared_first p w names tables n h e a o g =
     )
 
 -- the first queue that an operator reads, and that is neither an input nor written by an operator before
-module _ (p : PlanForm) (w : Wiring) (named : AreNamed p) (wired : IsWired p w) (before after : List OpForm) (op : OpForm) (ops : p.ops ≡ before ++ op ∷ after) where
+module _ (p : PlanForm) (w : Wiring) (named : AreNamed p) (wired : IsWired p w) (before after : List OpForm) (op : OpForm)
+    (ops : p.ops ≡ before ++ op ∷ after) where
   abbrev pub names : List Name
   names = queue_names p
 
@@ -137,9 +146,11 @@ module _ (p : PlanForm) (w : Wiring) (named : AreNamed p) (wired : IsWired p w) 
     known-written : (r : Name) → 0 < count r names → IsKnownAt outputs inputs n w.writes.by_place (place names r) → IsWritten (decl_names p.inputs) before r
     known-written r lt k = ⊎_elim
         (λ m. let a = length-map p.outputs (λ d. d.name) in let b = length-map p.inputs (λ d. d.name) in
-        let i = place_middle (decl_names p.outputs) (decl_names p.inputs) (decl_names p.queues) r lt (let l = m.0 in omega (arith, a, os, l)) (let l = m.1 in omega (arith, a, b, os, is, l)) in
+        let i = place_middle (decl_names p.outputs) (decl_names p.inputs) (decl_names p.queues) r lt (let l = m.0 in omega (arith, a, os, l))
+        (let l = m.1 in omega (arith, a, b, os, is, l)) in
         omega (arith, i))
-        (λ b. let u = before-written names r lt (λ o. o.writes) (op ∷ after) before 0 n (omega (arith, at)) (subst (IsBefore n) (users_of r lt) b) in omega (arith, u))
+        (λ b. let u = before-written names r lt (λ o. o.writes) (op ∷ after) before 0 n (omega (arith, at)) (subst (IsBefore n) (users_of r lt) b) in omega
+        (arith, u))
         k
 
     written-known : (r : Name) → 0 < count r names → IsWritten (decl_names p.inputs) before r → IsKnownAt outputs inputs n w.writes.by_place (place names r)
@@ -148,7 +159,8 @@ module _ (p : PlanForm) (w : Wiring) (named : AreNamed p) (wired : IsWired p w) 
         let m = middle_place (decl_names p.outputs) (decl_names p.inputs) (decl_names p.queues) r (names-once names named.0.0 r) i in let l = m.0 in
         let g = m.1 in
         (omega (arith, a, os, l), omega (arith, a, b, os, is, g))))
-        (λ z. inr (subst (IsBefore n) (sym (users_of r lt)) (written-before names r lt (λ o. o.writes) (op ∷ after) before 0 n (omega (arith, at)) (omega (arith, h, z)))))
+        (λ z. inr (subst (IsBefore n) (sym (users_of r lt))
+        (written-before names r lt (λ o. o.writes) (op ∷ after) before 0 n (omega (arith, at)) (omega (arith, h, z)))))
         (more_or_zero (count r (decl_names p.inputs)))
 
     pub early_first : (ps : List ℕ) → ps ≡ places names op.reads → (o : Option Name)
@@ -162,15 +174,19 @@ module _ (p : PlanForm) (w : Wiring) (named : AreNamed p) (wired : IsWired p w) 
             × (IsWritten (decl_names p.inputs) before r → IsKnownAt outputs inputs n w.writes.by_place (slice_index ps (length b)))
         same b xs r d =
             let lt = declared b xs r d in
-            let i : slice_index ps (length b) ≡ place names r = ap (λ l. slice_index l (length b)) (e ∙ ap (places names) (sym d)) ∙ place_there names b xs r in
-            ((λ k. known-written r lt (subst (IsKnownAt outputs inputs n w.writes.by_place) i k)), (λ h. subst (IsKnownAt outputs inputs n w.writes.by_place) (sym i) (written-known r lt h)))
+            let i : slice_index ps (length b) ≡ place names r = ap (λ l. slice_index l (length b)) (e ∙ ap (places names) (sym d))
+            ∙ place_there names b xs r in (
+              (λ k. known-written r lt (subst (IsKnownAt outputs inputs n w.writes.by_place) i k)),
+              (λ h. subst (IsKnownAt outputs inputs n w.writes.by_place) (sym i) (written-known r lt h)),
+            )
 
 -- a queue is known at equal places alike
 pub same_known : (a a' b b' n i i' : ℕ) (us : List (List ℕ)) → a ≡ a' → b ≡ b' → i ≡ i' → IsKnownAt a b n us i → IsKnownAt a' b' n us i'
 same_known a a' b b' n i i' us d e f h = subst (λ k. IsKnownAt k b' n us i') d (subst (λ k. IsKnownAt a k n us i') e (subst (IsKnownAt a b n us) f h))
 
 -- the same at an operator of the lists
-module _ (p : PlanForm) (w : Wiring) (ops : List Op) (i : ℕ) (op : Op) (are : p.ops ≡ op_forms ops) (wired : IsWired p w) (lt : i < length ops) (e : op ≡ get_or ops i op) where
+module _ (p : PlanForm) (w : Wiring) (ops : List Op) (i : ℕ) (op : Op) (are : p.ops ≡ op_forms ops) (wired : IsWired p w) (lt : i < length ops)
+    (e : op ≡ get_or ops i op) where
   -- the places that an operator reads
   pub read_there : (ps : List ℕ) → ps ≡ list_at w.reads.by_op i → ps ≡ places (queue_names p) op.reads
   read_there ps h =
@@ -182,7 +198,8 @@ module _ (p : PlanForm) (w : Wiring) (ops : List Op) (i : ℕ) (op : Op) (are : 
       → (o : Option Name) → IsFirst (λ b r. IsKnownAt outputs inputs i w.writes.by_place (slice_index ps (length b))) op.reads o
       → IsFirst (λ b r. IsWritten (decl_names p.inputs) (op_forms (take i ops)) r) op.reads o
   early_at ps outputs inputs named h os is o g =
-      early_first p w named wired (op_forms (take i ops)) (op_forms (drop (i + 1) ops)) (op_form op) split outputs inputs i os is (sym (length-map (take i ops) op_form ∙ length-take-le i ops (omega (arith, lt)))) ps (read_there ps h) o g
+      early_first p w named wired (op_forms (take i ops)) (op_forms (drop (i + 1) ops)) (op_form op) split outputs inputs i os is
+      (sym (length-map (take i ops) op_form ∙ length-take-le i ops (omega (arith, lt)))) ps (read_there ps h) o g
     where
       split : p.ops ≡ op_forms (take i ops) ++ op_form op ∷ op_forms (drop (i + 1) ops)
       split =

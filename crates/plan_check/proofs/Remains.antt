@@ -38,7 +38,8 @@ remains-end s xs i le r = r.rest None (subst (λ l. Along s (take i xs) l None) 
 pub remains_at-next : {A : Type 0} (P : ℕ → Type 0) (xs : List A) (i : ℕ) (x : A) → i < length xs → P i
     → Remains (λ before y. Unless (P (length before)) y) xs i → Remains (λ before y. Unless (P (length before)) y) xs (i + 1)
 remains_at-next P xs i x lt p r =
-    remains-next (λ before y. Unless (P (length before)) y) xs i (get_or xs i x) lt (get_or_default xs i x (get_or xs i x) lt) (subst P (sym (length-take-le i xs (omega (arith, lt)))) p) r
+    remains-next (λ before y. Unless (P (length before)) y) xs i (get_or xs i x) lt (get_or_default xs i x (get_or xs i x) lt)
+    (subst P (sym (length-take-le i xs (omega (arith, lt)))) p) r
 
 -- what is found is the first of its kind
 pub remains_at-found : {A : Type 0} (P : ℕ → Type 0) (xs : List A) (i : ℕ) (x : A) → i < length xs → x ≡ get_or xs i x → (P i → ⊥)

@@ -74,11 +74,13 @@ module _ (ops ops' : List OpForm) (e : Edit ops ops') where
   -- what holds of the parts that stay, and of what is put, holds of all new operators
   pub together : (P : OpForm → Type 0) → Each P e.before → Each P e.put → Each P e.middle → Each P e.behind → Each P ops'
   together P a n b c =
-      subst (Each P) (sym e.is') (each_append P e.before (e.put ++ (e.middle ++ e.behind)) a (each_append P e.put (e.middle ++ e.behind) n (each_append P e.middle e.behind b c)))
+      subst (Each P) (sym e.is')
+      (each_append P e.before (e.put ++ (e.middle ++ e.behind)) a (each_append P e.put (e.middle ++ e.behind) n (each_append P e.middle e.behind b c)))
 
   -- what is put reads what was known, and writes all that is still read
   pub reordered : (k : Name → ℕ) → ReadsBefore k ops → (ReadsBefore (after k e.before) e.first → ReadsBefore (after k e.before) e.put)
-      → ((q : Name) → 0 < total (reads_it q) e.middle + total (reads_it q) e.behind → total (writes_it q) e.first + total (writes_it q) e.second ≤ total (writes_it q) e.put)
+      → ((q : Name) → 0 < total (reads_it q) e.middle + total (reads_it q) e.behind
+      → total (writes_it q) e.first + total (writes_it q) e.second ≤ total (writes_it q) e.put)
       → ReadsBefore k ops'
   reordered k h new more =
       let kb = after k e.before in
@@ -93,8 +95,10 @@ module _ (ops ops' : List OpForm) (e : Edit ops ops') where
       (before_append e.before (e.put ++ (e.middle ++ e.behind)) k (before_front e.before (e.first ++ rest1) k h1)
       (before_append e.put (e.middle ++ e.behind) kb (new (before_front e.first rest1 kb h2))
       (before_append e.middle e.behind (after kb e.put)
-      (before_more e.middle (after kb e.first) (after kb e.put) (λ q lr lt. let m = more q (omega (arith, lr)) in omega (arith, m, lt)) (before_front e.middle rest2 (after kb e.first) h3))
-      (before_more e.behind (after (after (after kb e.first) e.middle) e.second) (after (after kb e.put) e.middle) (λ q lr lt. let m = more q (omega (arith, lr)) in omega (arith, m, lt)) h5))))
+      (before_more e.middle (after kb e.first) (after kb e.put) (λ q lr lt. let m = more q (omega (arith, lr)) in omega (arith, m, lt))
+      (before_front e.middle rest2 (after kb e.first) h3))
+      (before_more e.behind (after (after (after kb e.first) e.middle) e.second) (after (after kb e.put) e.middle)
+      (λ q lr lt. let m = more q (omega (arith, lr)) in omega (arith, m, lt)) h5))))
 
 module _ (p p' : PlanForm) (v : IsPlan p) (v' : IsPlan p') (e : Edit p.ops p'.ops) (g h' : History)
     (s : Each (Solves h') e.put)
@@ -106,14 +110,18 @@ module _ (p p' : PlanForm) (v : IsPlan p) (v' : IsPlan p') (e : Edit p.ops p'.op
     edited q =
         let h = histories p.ops g in
         let a = parts p.ops p'.ops e (Solves h) (plan_solves p v g) in
-        let go = λ (xs : List OpForm) (le : (q : Name) → 0 < total (reads_it q) xs + total (writes_it q) xs → 0 < Stays p.ops p'.ops e (reads_it q) + Stays p.ops p'.ops e (writes_it q)) (hs : Each (Solves h) xs). all_agree xs h h' (λ q lt. same q (le q lt)) hs in
+        let go = λ (xs : List OpForm)
+        (le : (q : Name) → 0 < total (reads_it q) xs + total (writes_it q) xs → 0 < Stays p.ops p'.ops e (reads_it q) + Stays p.ops p'.ops e (writes_it q))
+        (hs : Each (Solves h) xs). all_agree xs h h' (λ q lt. same q (le q lt)) hs in
         plan_unique p' v' g h' in_put
         (together p.ops p'.ops e (Solves h')
         (go e.before (λ q lt. omega (arith, lt)) a.front) s (go e.middle (λ q lt. omega (arith, lt)) a.mid) (go e.behind (λ q lt. omega (arith, lt)) a.back)) q
 
     -- the rows, but for those of what was taken and put
     pub edited_adds : (tables : List Name) (t : Name) (test : List ℤ → Bool)
-        → count_by test (adds tables p'.ops (histories p'.ops g) t) + (total (adds_it tables (histories p.ops g) t test) e.first + total (adds_it tables (histories p.ops g) t test) e.second) ≡ count_by test (adds tables p.ops (histories p.ops g) t) + total (adds_it tables h' t test) e.put
+        → count_by test (adds tables p'.ops (histories p'.ops g) t) +
+        (total (adds_it tables (histories p.ops g) t test) e.first + total (adds_it tables (histories p.ops g) t test) e.second) ≡ count_by test
+        (adds tables p.ops (histories p.ops g) t) + total (adds_it tables h' t test) e.put
     edited_adds tables t test =
         let h = histories p.ops g in
         let a = ap (λ u. count_by test (adds tables p'.ops u t)) (funext (histories p'.ops g) h' (λ q. sym (edited q))) in
@@ -216,4 +224,14 @@ replaced_is ops q w r news c =
 -- the replacing as an edit
 abbrev pub edit_of : (ops : List OpForm) (q : Name) (w r : OpForm) (news : List OpForm) → Cut ops q w r → Edit ops (replaced q news ops)
 edit_of ops q w r news c =
-    record { before = c.before; first = w ∷ []; middle = c.middle; second = r ∷ []; behind = c.behind; put = news; is = c.is; is' = replaced_is ops q w r news c }
+    record {
+      before = c.before;
+      first = w ∷ [];
+      middle = c.middle;
+      second = r ∷ [];
+      behind = c.behind;
+      put = news;
+      is = c.is;
+      is' =
+          replaced_is ops q w r news c;
+    }

@@ -20,7 +20,8 @@ kind_next q ds i d lt e n h =
 pub kind_found : (q : Name) (ds : List Decl) (i : ℕ) (d : Decl) → i < length ds → d ≡ get_or ds i d → name_eq d.name q ≡ true
     → kind_in (drop i ds) q ≡ kind_in ds q → Some d.kind ≡ kind_in ds q
 kind_found q ds i d lt e n h =
-    sym (sym h ∙ at_drop_more (λ l. kind_in l q) ds i d lt ∙ ap (λ u. kind_in (u ∷ drop (i + 1) ds) q) (sym e) ∙ ap (λ b. if b then Some d.kind else kind_in (drop (i + 1) ds) q) n)
+    sym (sym h ∙ at_drop_more (λ l. kind_in l q) ds i d lt ∙ ap (λ u. kind_in (u ∷ drop (i + 1) ds) q) (sym e)
+    ∙ ap (λ b. if b then Some d.kind else kind_in (drop (i + 1) ds) q) n)
 
 -- the first of two look-ups that finds something
 abbrev pub kind_or : Option QueueType → Option QueueType → Option QueueType
@@ -50,10 +51,12 @@ kind_first p q k e = sym (kind_is p q ∙ ap (λ o. unwrap_or (kind_or o (kind_o
 -- found among the inputs
 pub kind_second : (p : PlanForm) (q : Name) (k : QueueType) → kind_in p.outputs q ≡ None → kind_in p.inputs q ≡ Some k → k ≡ kind_of (all_decls p) q
 kind_second p q k n e =
-    sym (kind_is p q ∙ ap (λ o. unwrap_or (kind_or o (kind_or (kind_in p.inputs q) (kind_in p.queues q))) (rows 0)) n ∙ ap (λ o. unwrap_or (kind_or o (kind_in p.queues q)) (rows 0)) e)
+    sym (kind_is p q ∙ ap (λ o. unwrap_or (kind_or o (kind_or (kind_in p.inputs q) (kind_in p.queues q))) (rows 0)) n
+    ∙ ap (λ o. unwrap_or (kind_or o (kind_in p.queues q)) (rows 0)) e)
 
 -- found among the other queues, or nowhere
 pub kind_third : (p : PlanForm) (q : Name) (o : Option QueueType) → kind_in p.outputs q ≡ None → kind_in p.inputs q ≡ None → kind_in p.queues q ≡ o
     → unwrap_or o (rows 0) ≡ kind_of (all_decls p) q
 kind_third p q o n m e =
-    sym (kind_is p q ∙ ap (λ x. unwrap_or (kind_or x (kind_or (kind_in p.inputs q) (kind_in p.queues q))) (rows 0)) n ∙ ap (λ x. unwrap_or (kind_or x (kind_in p.queues q)) (rows 0)) m ∙ ap (λ x. unwrap_or x (rows 0)) e)
+    sym (kind_is p q ∙ ap (λ x. unwrap_or (kind_or x (kind_or (kind_in p.inputs q) (kind_in p.queues q))) (rows 0)) n
+    ∙ ap (λ x. unwrap_or (kind_or x (kind_in p.queues q)) (rows 0)) m ∙ ap (λ x. unwrap_or x (rows 0)) e)

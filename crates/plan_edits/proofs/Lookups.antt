@@ -38,7 +38,8 @@ pub table_there : (ts : List TableDecl) (v : Name) → 0 < count v (table_names 
 table_there [] v lt = absurd (omega (arith, lt))
 table_there (t ∷ ts) v lt = ⊎_elim
     (λ c. (table_width t.kind, if_true (name_eq t.name v) (Some (Table (table_width t.kind))) (table_in ts v) c.1))
-    (λ c. let i = table_there ts v (let z = ap one_if c.1 in omega (arith, z, lt)) in (i.0, if_false (name_eq t.name v) (Some (Table (table_width t.kind))) (table_in ts v) c.1 ∙ i.1))
+    (λ c. let i = table_there ts v (let z = ap one_if c.1 in omega (arith, z, lt)) in
+    (i.0, if_false (name_eq t.name v) (Some (Table (table_width t.kind))) (table_in ts v) c.1 ∙ i.1))
     (cases_name t.name v)
 
 -- a name that is not among the tables is none
@@ -66,7 +67,8 @@ pub kind_front : (xs ys : List Decl) (q : Name) → 0 < count q (decl_names xs) 
 kind_front [] ys q lt = absurd (omega (arith, lt))
 kind_front (x ∷ xs) ys q lt = ⊎_elim
     (λ c. if_true (name_eq x.name q) (Some x.kind) (kind_in (xs ++ ys) q) c.1 ∙ sym (if_true (name_eq x.name q) (Some x.kind) (kind_in xs q) c.1))
-    (λ c. if_false (name_eq x.name q) (Some x.kind) (kind_in (xs ++ ys) q) c.1 ∙ kind_front xs ys q (let e = ap one_if c.1 in omega (arith, e, lt)) ∙ sym (if_false (name_eq x.name q) (Some x.kind) (kind_in xs q) c.1))
+    (λ c. if_false (name_eq x.name q) (Some x.kind) (kind_in (xs ++ ys) q) c.1 ∙ kind_front xs ys q (let e = ap one_if c.1 in omega (arith, e, lt))
+    ∙ sym (if_false (name_eq x.name q) (Some x.kind) (kind_in xs q) c.1))
     (cases_name x.name q)
 
 -- a name that is not declared sees the later declarations alone
@@ -81,8 +83,10 @@ kind_back (x ∷ xs) ys q z = ⊎_elim
 pub kind_sized : (ds : List Decl) (q : Name) → All HasWidth ds → 0 < count q (decl_names ds) → IsTrue (is_width (type_width (kind_of ds q)))
 kind_sized [] q h lt = absurd (omega (arith, lt))
 kind_sized (d ∷ ds) q h lt = ⊎_elim
-    (λ c. subst (λ o. IsTrue (is_width (type_width (unwrap_or o (rows 0))))) (sym (if_true (name_eq d.name q) (Some d.kind) (kind_in ds q) c.1)) (All-head HasWidth d ds h))
-    (λ c. subst (λ o. IsTrue (is_width (type_width (unwrap_or o (rows 0))))) (sym (if_false (name_eq d.name q) (Some d.kind) (kind_in ds q) c.1)) (kind_sized ds q (All-tail HasWidth d ds h) (let e = ap one_if c.1 in omega (arith, e, lt))))
+    (λ c. subst (λ o. IsTrue (is_width (type_width (unwrap_or o (rows 0))))) (sym (if_true (name_eq d.name q) (Some d.kind) (kind_in ds q) c.1))
+    (All-head HasWidth d ds h))
+    (λ c. subst (λ o. IsTrue (is_width (type_width (unwrap_or o (rows 0))))) (sym (if_false (name_eq d.name q) (Some d.kind) (kind_in ds q) c.1))
+    (kind_sized ds q (All-tail HasWidth d ds h) (let e = ap one_if c.1 in omega (arith, e, lt))))
     (cases_name d.name q)
 
 -- a variable that is no table, and is declared, is private

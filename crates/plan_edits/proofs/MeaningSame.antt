@@ -23,6 +23,7 @@ pub meaning_same : (p p' : PlanForm) (inputs : List (List item.Item)) → SameOu
 meaning_same p p' inputs o s =
     let outs : map (hist p' inputs) (decl_names p'.outputs) ≡ map (hist p inputs) (decl_names p.outputs) =
     ap (λ ds. map (hist p' inputs) (decl_names ds)) o.outputs ∙ map_agree (hist p' inputs) (hist p inputs) (decl_names p.outputs) s.hist in
-    let tabs : map (λ (t : TableDecl). tab t.kind (all_adds p' inputs t.name)) p'.tables ≡ map (λ (t : TableDecl). tab t.kind (all_adds p inputs t.name)) p.tables =
+    let tabs : map (λ (t : TableDecl). tab t.kind (all_adds p' inputs t.name)) p'.tables ≡ map
+    (λ (t : TableDecl). tab t.kind (all_adds p inputs t.name)) p.tables =
     ap (map (λ (t : TableDecl). tab t.kind (all_adds p' inputs t.name))) o.tables ∙ tables_same (all_adds p' inputs) (all_adds p inputs) p.tables s.adds in
     λ i. record { outs = outs i; tables = tabs i }

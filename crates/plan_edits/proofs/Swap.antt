@@ -88,7 +88,8 @@ module _ (p p' : PlanForm) (v : IsPlan p) (v' : IsPlan p') (op : OpForm) (put : 
 
     -- the rows added, but for those of what was taken and put
     pub swapped_adds : (tables : List Name) (t : Name) (test : List ℤ → Bool)
-        → count_by test (adds tables p'.ops (histories p'.ops g) t) + adds_it tables (histories p.ops g) t test op ≡ count_by test (adds tables p.ops (histories p.ops g) t) + total (adds_it tables h' t test) put
+        → count_by test (adds tables p'.ops (histories p'.ops g) t) + adds_it tables (histories p.ops g) t test op ≡ count_by test
+        (adds tables p.ops (histories p.ops g) t) + total (adds_it tables h' t test) put
     swapped_adds tables t test =
         let h = histories p.ops g in
         let a = ap (λ u. count_by test (adds tables p'.ops u t)) (funext (histories p'.ops g) h' (λ q. sym (swapped_hist q))) in

@@ -42,7 +42,8 @@ pub undeclared_count : (q x : Name) (ds : List Decl) → 0 < count q (decl_names
     → count x (decl_names (undeclared q ds)) + one_if (name_eq q x) ≡ count x (decl_names ds)
 undeclared_count q x [] lt = absurd (omega (arith, lt))
 undeclared_count q x (d ∷ ds) lt = ⊎_elim
-    (λ c. let e = ap (λ l. count x (decl_names l)) (if_true (name_eq d.name q) ds (d ∷ undeclared q ds) c.1) in let f = ap (λ n. one_if (name_eq n x)) c.0 in omega (arith, e, f))
+    (λ c. let e = ap (λ l. count x (decl_names l)) (if_true (name_eq d.name q) ds (d ∷ undeclared q ds) c.1) in let f =
+    ap (λ n. one_if (name_eq n x)) c.0 in omega (arith, e, f))
     (λ c.
     let e = ap (λ l. count x (decl_names l)) (if_false (name_eq d.name q) ds (d ∷ undeclared q ds) c.1) in
     let z = ap one_if c.1 in
@@ -54,8 +55,10 @@ undeclared_count q x (d ∷ ds) lt = ⊎_elim
 pub undeclared_kind : (q x : Name) (ds : List Decl) → name_eq q x ≡ false → kind_in (undeclared q ds) x ≡ kind_in ds x
 undeclared_kind q x [] n = refl
 undeclared_kind q x (d ∷ ds) n = ⊎_elim
-    (λ c. ap (λ l. kind_in l x) (if_true (name_eq d.name q) ds (d ∷ undeclared q ds) c.1) ∙ sym (if_false (name_eq d.name x) (Some d.kind) (kind_in ds x) (ap (λ m. name_eq m x) c.0 ∙ n)))
-    (λ c. ap (λ l. kind_in l x) (if_false (name_eq d.name q) ds (d ∷ undeclared q ds) c.1) ∙ ap (λ o. if name_eq d.name x then Some d.kind else o) (undeclared_kind q x ds n))
+    (λ c. ap (λ l. kind_in l x) (if_true (name_eq d.name q) ds (d ∷ undeclared q ds) c.1)
+    ∙ sym (if_false (name_eq d.name x) (Some d.kind) (kind_in ds x) (ap (λ m. name_eq m x) c.0 ∙ n)))
+    (λ c. ap (λ l. kind_in l x) (if_false (name_eq d.name q) ds (d ∷ undeclared q ds) c.1)
+    ∙ ap (λ o. if name_eq d.name x then Some d.kind else o) (undeclared_kind q x ds n))
     (cases_name d.name q)
 
 -- the type of a name in three lists, of which the last changes
@@ -70,7 +73,8 @@ pub all_undeclared : (P : Decl → Type 0) (q : Name) (ds : List Decl) → All P
 all_undeclared P q [] h = h
 all_undeclared P q (d ∷ ds) h = ⊎_elim
     (λ c. subst (All P) (sym (if_true (name_eq d.name q) ds (d ∷ undeclared q ds) c.1)) (All-tail P d ds h))
-    (λ c. subst (All P) (sym (if_false (name_eq d.name q) ds (d ∷ undeclared q ds) c.1)) (All-cons P d (undeclared q ds) (All-head P d ds h) (all_undeclared P q ds (All-tail P d ds h))))
+    (λ c. subst (All P) (sym (if_false (name_eq d.name q) ds (d ∷ undeclared q ds) c.1))
+    (All-cons P d (undeclared q ds) (All-head P d ds h) (all_undeclared P q ds (All-tail P d ds h))))
     (cases_name d.name q)
 
 -- no more declarations than before
@@ -92,11 +96,14 @@ tables_length ts ps (v ∷ vs) d =
     (λ lt.
     let t = table_there ts v lt in
     let k : var_kind ts ps v ≡ Table t.0 = ap (λ o. unwrap_or (either o (private_in ps v)) (Table 0)) t.1 in
-    ap length (if_lt 0 (count v (table_names ts)) (v ∷ rest) rest lt) ∙ ap suc i ∙ sym (ap (λ m. tables_in (m ∷ map (var_kind ts ps) vs)) k ∙ (let e : 1 + tables_in (map (var_kind ts ps) vs) ≡ suc (tables_in (map (var_kind ts ps) vs)) = omega arith in e)))
+    ap length (if_lt 0 (count v (table_names ts)) (v ∷ rest) rest lt) ∙ ap suc i
+    ∙ sym (ap (λ m. tables_in (m ∷ map (var_kind ts ps) vs)) k
+    ∙ (let e : 1 + tables_in (map (var_kind ts ps) vs) ≡ suc (tables_in (map (var_kind ts ps) vs)) = omega arith in e)))
     (λ ge.
     let z : count v (table_names ts) ≡ 0 = omega (arith, ge) in
     let p : 0 < count v ps = (let a = count-append v (table_names ts) ps in let b = d v (count_here v vs) in omega (arith, a, b, z)) in
-    let k : var_kind ts ps v ≡ Private = ap (λ o. unwrap_or (either o (private_in ps v)) (Table 0)) (no_table ts v z) ∙ ap (λ o. unwrap_or o (Table 0)) (private_there ps v p) in
+    let k : var_kind ts ps v ≡ Private = ap (λ o. unwrap_or (either o (private_in ps v)) (Table 0)) (no_table ts v z)
+    ∙ ap (λ o. unwrap_or o (Table 0)) (private_there ps v p) in
     ap length (if_ge 0 (count v (table_names ts)) (v ∷ rest) rest ge) ∙ i ∙ sym (ap (λ m. tables_in (m ∷ map (var_kind ts ps) vs)) k))
     (cases_lt 0 (count v (table_names ts)))
 

@@ -55,7 +55,8 @@ pairs-fit (d ∷ []) rows is wide = (fits d.kind is, tt)
 -- ---- THE PROGRAM
 
 -- what refuses the first refuses the whole
-refused_first : {A B : Type 0} (found : Result A (List ℕ)) (make : A → Result B (List ℕ)) (s : Stop) → RefusesPoint found s → RefusesPoint (then_made found make) s
+refused_first : {A B : Type 0} (found : Result A (List ℕ)) (make : A → Result B (List ℕ)) (s : Stop) → RefusesPoint found s
+    → RefusesPoint (then_made found make) s
 refused_first found make stop.Usage told = absurd told
 refused_first found make (stop.Refused text) told = rw told refl
 refused_first found make (stop.Failed text) told = absurd told
@@ -63,12 +64,14 @@ refused_first found make (stop.Absent text) told = absurd told
 refused_first found make stop.NoMemory told = tt
 
 -- the program is refused
-pub program-refused : (source_of : List ℕ → Result SourceProgram (List ℕ)) (s : Stop) → RefusesPoint (source_of load_program) s → RefusesPoint (load_source source_of) s
+pub program-refused : (source_of : List ℕ → Result SourceProgram (List ℕ)) (s : Stop) → RefusesPoint (source_of load_program) s
+    → RefusesPoint (load_source source_of) s
 unfolding load_source
 program-refused source_of s told = refused_first (source_of load_program) (λ source. with_plan source (rewritten source.plan load_script)) s told
 
 -- its script was applied, or refused
-pub script-answers : {P : Type 0} (source_of : List ℕ → Result SourceProgram (List ℕ)) (stands : SourceProgram → P → Type 0) (c : Compiled P) (result : Result PlanForm Stop) → StandsFor (IsCompiled stands) (source_of load_program) c
+pub script-answers : {P : Type 0} (source_of : List ℕ → Result SourceProgram (List ℕ)) (stands : SourceProgram → P → Type 0) (c : Compiled P)
+    (result : Result PlanForm Stop) → StandsFor (IsCompiled stands) (source_of load_program) c
     → ((source : SourceProgram) → IsPlanned c.caps source c.plan → AnswersAs (IsPlanned c.caps) (with_plan source (rewritten source.plan load_script)) result)
     → AnswersAs IsPlanOf (load_source source_of) result
 unfolding load_source
@@ -89,12 +92,14 @@ script-answers source_of stands c result told later = by (source_of load_program
 -- ---- WHAT IS PRINTED
 
 -- there is no plan
-pub load-refused : (source_of : List ℕ → Result SourceProgram (List ℕ)) (n : ℕ) (s : Stop) → RefusesPoint (load_source source_of) s → RefusesPoint (loaded source_of n) s
+pub load-refused : (source_of : List ℕ → Result SourceProgram (List ℕ)) (n : ℕ) (s : Stop) → RefusesPoint (load_source source_of) s
+    → RefusesPoint (loaded source_of n) s
 unfolding loaded
 load-refused source_of n s told = refused_first (load_source source_of) (loaded_by n) s told
 
 -- there is one, over which the records are run
-pub load-answers : (source_of : List ℕ → Result SourceProgram (List ℕ)) (n : ℕ) (plan : PlanForm) (result : Result (List ℕ) Stop) → StandsFor IsPlanOf (load_source source_of) plan
+pub load-answers : (source_of : List ℕ → Result SourceProgram (List ℕ)) (n : ℕ) (plan : PlanForm) (result : Result (List ℕ) Stop)
+    → StandsFor IsPlanOf (load_source source_of) plan
     → ((source : SourceProgram) → IsPlanOf source plan → Answers (loaded_by n source) result) → Answers (loaded source_of n) result
 unfolding loaded
 load-answers source_of n plan result is over = by (load_source source_of) result is over
@@ -109,10 +114,12 @@ module _ (n : ℕ) (plan : PlanForm) (source : SourceProgram) (of : IsPlanOf sou
   -- the records are not those of its inputs
   pub files-refused : (s : Stop) → RefusesPoint (load_files n plan.inputs) s → RefusesPoint (loaded_by n source) s
   files-refused s told =
-      refused_first (load_files n source.inputs) (λ files. Ok (printed source false files)) s (subst (λ (ds : List Decl). RefusesPoint (load_files n ds) s) of.inputs told)
+      refused_first (load_files n source.inputs) (λ files. Ok (printed source false files)) s
+      (subst (λ (ds : List Decl). RefusesPoint (load_files n ds) s) of.inputs told)
 
   -- they are, and the program's meaning is printed
-  pub files-printed : (files : List Content) (text : List ℕ) → load_files n plan.inputs ≡ Ok files → text ≡ printed source false files → loaded_by n source ≡ Ok text
+  pub files-printed : (files : List Content) (text : List ℕ) → load_files n plan.inputs ≡ Ok files → text ≡ printed source false files
+      → loaded_by n source ≡ Ok text
   files-printed files text told says =
       let same : load_files n source.inputs ≡ Ok files = subst (λ (ds : List Decl). load_files n ds ≡ Ok files) of.inputs told in
       ap (λ (r : Result (List Content) (List ℕ)). then_made r (λ files. Ok (printed source false files))) same

@@ -26,7 +26,8 @@ module _ {K : Type 0} (lt : K → K → Bool) (o : IsStrictWeakOrder lt) (exact 
   here : (x z : K) (zs : List K) → lt z x ≡ false → put_in_order lt x (z ∷ zs) ≡ x ∷ (z ∷ zs)
   here x z zs h = ap (λ b. cond b (z ∷ put_in_order lt x zs) (x ∷ (z ∷ zs))) h
 
-  mixed : (x y z : K) (zs : List K) → lt z y ≡ true → lt z x ≡ false → put_in_order lt x (put_in_order lt y (z ∷ zs)) ≡ put_in_order lt y (put_in_order lt x (z ∷ zs))
+  mixed : (x y z : K) (zs : List K) → lt z y ≡ true → lt z x ≡ false
+      → put_in_order lt x (put_in_order lt y (z ∷ zs)) ≡ put_in_order lt y (put_in_order lt x (z ∷ zs))
   mixed x y z zs h g =
       ap (put_in_order lt x) (past y z zs h) ∙ here x z (put_in_order lt y zs) g
       ∙ sym (ap (put_in_order lt y) (here x z zs g) ∙ past y x (z ∷ zs) (above y x z (lt x y) refl h g) ∙ ap (λ l. x ∷ l) (past y z zs h))
@@ -118,4 +119,5 @@ module _ {K : Type 0} (lt : K → K → Bool) (o : IsStrictWeakOrder lt) (exact 
   ascending_bag [] = IsPermutation-refl []
   ascending_bag (x ∷ xs) =
       subst (IsPermutation (x ∷ xs)) (sym (ascending-cons x xs))
-      (IsPermutation-trans (x ∷ xs) (x ∷ ascending lt xs) (put_in_order lt x (ascending lt xs)) (IsPermutation-cons x xs (ascending lt xs) (ascending_bag xs)) (place_bag x (ascending lt xs)))
+      (IsPermutation-trans (x ∷ xs) (x ∷ ascending lt xs) (put_in_order lt x (ascending lt xs)) (IsPermutation-cons x xs (ascending lt xs) (ascending_bag xs))
+      (place_bag x (ascending lt xs)))

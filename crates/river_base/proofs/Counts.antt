@@ -78,8 +78,11 @@ permutation_from_copies (x ∷ xs) ys h =
     let a : copies x ys ≡ suc (copies x xs) = sym (h x) ∙ count_pass (row_eq x) x xs (row_itself x) in
     let s : Stands x ys = found x ys (omega (arith, a)) in
     let rest = s.before ++ s.behind in
-    let p : IsPermutation xs rest = permutation_from_copies xs rest (λ row. less_by_one (row_eq row) x xs rest (h row ∙ ap (copies row) s.is ∙ count_middle (row_eq row) x s.before s.behind)) in
-    let q : IsPermutation (x ∷ rest) ys = IsPermutation-sym ys (x ∷ rest) (subst (λ l. IsPermutation l (x ∷ rest)) (sym s.is) (IsPermutation-middle s.before x s.behind)) in
+    let p : IsPermutation xs rest =
+    permutation_from_copies xs rest
+    (λ row. less_by_one (row_eq row) x xs rest (h row ∙ ap (copies row) s.is ∙ count_middle (row_eq row) x s.before s.behind)) in
+    let q : IsPermutation (x ∷ rest) ys =
+    IsPermutation-sym ys (x ∷ rest) (subst (λ l. IsPermutation l (x ∷ rest)) (sym s.is) (IsPermutation-middle s.before x s.behind)) in
     IsPermutation-trans (x ∷ xs) (x ∷ rest) ys (IsPermutation-cons x xs rest p) q
 
 -- a bag by tests is one by the order of its elements

@@ -30,7 +30,8 @@ type-nil (Rows w) past = refl
 type-nil (Stream w) past = refl
 
 type-append : (t : flat_type.FlatType) (past xs ys : List item.Item) → held_by_type t past (xs ++ ys) ≡ held_by_type t past xs ++ held_by_type t (past ++ xs) ys
-type-append (Relation w) past xs ys = from-append (content_from [] past) xs ys ∙ ap (λ c. held_from (content_from [] past) xs ++ held_from c ys) (sym (content-append [] past xs))
+type-append (Relation w) past xs ys = from-append (content_from [] past) xs ys
+    ∙ ap (λ c. held_from (content_from [] past) xs ++ held_from c ys) (sym (content-append [] past xs))
 type-append (Rows w) past xs ys = refl
 type-append (Stream w) past xs ys = refl
 
@@ -85,7 +86,8 @@ flats_from : (before : List (List ℤ)) (fs : List flat.Flat) → flats (held_fr
 flats_from before [] = refl
 flats_from before (f ∷ fs) = ap (λ l. held_flat before f ∷ l) (flats_from (after_flat before f) fs)
 
-content_pack : (before : List (List ℤ)) (fs : List flat.Flat) (is : List item.Item) → content_from before (flats_as_items fs ++ is) ≡ content_from (after_flats before fs) is
+content_pack : (before : List (List ℤ)) (fs : List flat.Flat) (is : List item.Item)
+    → content_from before (flats_as_items fs ++ is) ≡ content_from (after_flats before fs) is
 content_pack before [] is = refl
 content_pack before (f ∷ fs) is = content_pack (after_flat before f) fs is
 
@@ -99,7 +101,8 @@ content_opened before (Pack fs ∷ ps) = content_pack before fs (opened ps) ∙ 
 pub held-pack : (t : flat_type.FlatType) (past : List item.Item) (fs : List flat.Flat)
     → held (PackOf t) past (Pack fs ∷ []) ≡ Pack (flats (held (FlatOf t) (opened past) (flats_as_items fs))) ∷ []
 unfolding held
-held-pack (Relation w) past fs = ap (λ l. Pack l ∷ []) (sym (ap (λ b. flats (held_from b (flats_as_items fs))) (content_opened [] past) ∙ flats_from (content_from [] past) fs))
+held-pack (Relation w) past fs =
+    ap (λ l. Pack l ∷ []) (sym (ap (λ b. flats (held_from b (flats_as_items fs))) (content_opened [] past) ∙ flats_from (content_from [] past) fs))
 held-pack (Rows w) past fs = ap (λ l. Pack l ∷ []) (sym (flats-as_items fs))
 held-pack (Stream w) past fs = ap (λ l. Pack l ∷ []) (sym (flats-as_items fs))
 

@@ -29,7 +29,8 @@ once_rises ts = IsStrictlySortedBy-dedup int_cmp_total (λ x y. refl) (ascending
 -- and they are the values
 pub once_has : (ts : List ℤ) (t : ℤ) → Contains ts t → Contains (each_once ts) t
 once_has ts t h =
-    Contains-dedup int_eq_equiv same (ascending earlier ts) t (Contains-permutation ts (ascending earlier ts) t (order.ascending_bag earlier earlier_ranked apart ts) h)
+    Contains-dedup int_eq_equiv same (ascending earlier ts) t
+    (Contains-permutation ts (ascending earlier ts) t (order.ascending_bag earlier earlier_ranked apart ts) h)
 
 -- an instant of the list is one of those that are kept once
 pub has_once : (ts : List ℤ) (t : ℤ) → Contains (each_once ts) t → Contains ts t

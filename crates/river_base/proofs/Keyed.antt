@@ -15,7 +15,8 @@ use Rattle.std.proofs.lemmas.Map.Entries.{lookup_at_gap, lookup_head, lookup_tai
 use Rattle.river_base.proofs.Bags.{fold-IsPermutation}
 use Rattle.river_base.specs.Keyed as table
 
-module _ {K V W : Type 0} (R : K → K → Ordering) (o : IsTotalOrder R) (exact : CmpEqualImpliesEq R) (start : V) (merge : V → W → V) (commutes : (v : V) (w u : W) → merge (merge v w) u ≡ merge (merge v u) w) where
+module _ {K V W : Type 0} (R : K → K → Ordering) (o : IsTotalOrder R) (exact : CmpEqualImpliesEq R) (start : V) (merge : V → W → V)
+    (commutes : (v : V) (w u : W) → merge (merge v w) u ≡ merge (merge v u) w) where
   pub first : (e : K × V) (es : List (K × V)) (a : K × W) → R a.0 e.0 ≡ Less → table.put R start merge (e ∷ es) a ≡ (a.0, merge start a.1) ∷ (e ∷ es)
   first e es a h = ap (λ r. match_ordering r ((a.0, merge start a.1) ∷ (e ∷ es)) ((e.0, merge e.1 a.1) ∷ es) (e ∷ table.put R start merge es a)) h
 
@@ -39,7 +40,8 @@ module _ {K V W : Type 0} (R : K → K → Ordering) (o : IsTotalOrder R) (exact
         first (b.0, merge start b.1) rest a h ∙ sym (passes (a.0, merge start a.1) rest b (turned a.0 b.0 Less h) ∙ ap (λ l. (a.0, merge start a.1) ∷ l) pb)
     step Equal h =
         let same : a.0 ≡ b.0 = exact a.0 b.0 h in
-        joins (b.0, merge start b.1) rest a h ∙ (λ i. (sym same i, commutes start b.1 a.1 i) ∷ rest) ∙ sym (joins (a.0, merge start a.1) rest b (turned a.0 b.0 Equal h))
+        joins (b.0, merge start b.1) rest a h ∙ (λ i. (sym same i, commutes start b.1 a.1 i) ∷ rest)
+        ∙ sym (joins (a.0, merge start a.1) rest b (turned a.0 b.0 Equal h))
     step Greater h =
         passes (b.0, merge start b.1) rest a h ∙ ap (λ l. (b.0, merge start b.1) ∷ l) pa ∙ sym (first (a.0, merge start a.1) rest b (turned a.0 b.0 Greater h))
 
@@ -103,16 +105,20 @@ module _ {K V W : Type 0} (R : K → K → Ordering) (o : IsTotalOrder R) (exact
         → (lookup (is_at (R k)) es ≡ old → insert_entry R es k (merge (unwrap_or old start) w) ≡ table.put R start merge es (k, w))
         → insert_entry R (e ∷ es) k (merge (unwrap_or old start) w) ≡ table.put R start merge (e ∷ es) (k, w)
     step Less p more =
-        let none : lookup (is_at (R k)) (e ∷ es) ≡ None = lookup_at_gap o k (e ∷ es) 0 s (λ j f l g. absurd (omega arith)) (λ f g. let same : e ≡ f = cc in ap (λ x. R k x.0) (sym same) ∙ p) in
+        let none : lookup (is_at (R k)) (e ∷ es) ≡ None =
+        lookup_at_gap o k (e ∷ es) 0 s (λ j f l g. absurd (omega arith)) (λ f g. let same : e ≡ f = cc in ap (λ x. R k x.0) (sym same) ∙ p) in
         let absent : old ≡ None = sym h ∙ none in
-        ap (λ r. match_ordering r ((k, merge (unwrap_or old start) w) ∷ (e ∷ es)) ((e.0, merge (unwrap_or old start) w) ∷ es) (e ∷ insert_entry R es k (merge (unwrap_or old start) w))) p
+        ap (λ r. match_ordering r ((k, merge (unwrap_or old start) w) ∷ (e ∷ es)) ((e.0, merge (unwrap_or old start) w) ∷ es)
+        (e ∷ insert_entry R es k (merge (unwrap_or old start) w))) p
         ∙ ap (λ q. (k, merge (unwrap_or q start) w) ∷ (e ∷ es)) absent ∙ sym (first e es (k, w) p)
     step Equal p more =
         let found : lookup (is_at (R k)) (e ∷ es) ≡ Some e.1 = lookup_head (is_at (R k)) e es (ap is_eq p) in
         let there : old ≡ Some e.1 = sym h ∙ found in
-        ap (λ r. match_ordering r ((k, merge (unwrap_or old start) w) ∷ (e ∷ es)) ((e.0, merge (unwrap_or old start) w) ∷ es) (e ∷ insert_entry R es k (merge (unwrap_or old start) w))) p
+        ap (λ r. match_ordering r ((k, merge (unwrap_or old start) w) ∷ (e ∷ es)) ((e.0, merge (unwrap_or old start) w) ∷ es)
+        (e ∷ insert_entry R es k (merge (unwrap_or old start) w))) p
         ∙ ap (λ q. (e.0, merge (unwrap_or q start) w) ∷ es) there ∙ sym (joins e es (k, w) p)
     step Greater p more =
         let behind : lookup (is_at (R k)) es ≡ old = sym (lookup_tail (is_at (R k)) e es (ap is_eq p)) ∙ h in
-        ap (λ r. match_ordering r ((k, merge (unwrap_or old start) w) ∷ (e ∷ es)) ((e.0, merge (unwrap_or old start) w) ∷ es) (e ∷ insert_entry R es k (merge (unwrap_or old start) w))) p
+        ap (λ r. match_ordering r ((k, merge (unwrap_or old start) w) ∷ (e ∷ es)) ((e.0, merge (unwrap_or old start) w) ∷ es)
+        (e ∷ insert_entry R es k (merge (unwrap_or old start) w))) p
         ∙ ap (λ l. e ∷ l) (more behind) ∙ sym (passes e es (k, w) p)

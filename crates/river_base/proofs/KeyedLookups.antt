@@ -14,7 +14,8 @@ use Rattle.std.proofs.lemmas.Map.Lookups.{CmpEqualImpliesEq}
 use Rattle.river_base.specs.Keyed as table
 use Rattle.river_base.proofs.Keyed as keyed
 
-module _ {K V W : Type 0} (R : K → K → Ordering) (o : IsTotalOrder R) (exact : CmpEqualImpliesEq R) (start : V) (merge : V → W → V) (commutes : (v : V) (w u : W) → merge (merge v w) u ≡ merge (merge v u) w) where
+module _ {K V W : Type 0} (R : K → K → Ordering) (o : IsTotalOrder R) (exact : CmpEqualImpliesEq R) (start : V) (merge : V → W → V)
+    (commutes : (v : V) (w u : W) → merge (merge v w) u ≡ merge (merge v u) w) where
   rises : (x y : K) (ks : List K) → R x y ≡ Less → AllByRecursion (λ z. R y z ≡ Less) ks → AllByRecursion (λ z. R x z ≡ Less) ks
   rises x y [] h a = tt
   rises x y (k ∷ ks) h a = (o.trans x y k h a.0, rises x y ks h a.1)
@@ -65,17 +66,22 @@ module _ {K V W : Type 0} (R : K → K → Ordering) (o : IsTotalOrder R) (exact
   module _ (k : K) where
     -- what is at k once a is put
     lookup_put : (es : List (K × V)) (a : K × W) → IsStrictlySortedBy R (keys_of es)
-        → lookup (is_at (R k)) (table.put R start merge es a) ≡ cond (is_eq (R k a.0)) (Some (merge (unwrap_or (lookup (is_at (R k)) es) start) a.1)) (lookup (is_at (R k)) es)
+        → lookup (is_at (R k)) (table.put R start merge es a) ≡ cond (is_eq (R k a.0)) (Some (merge (unwrap_or (lookup (is_at (R k)) es) start) a.1))
+        (lookup (is_at (R k)) es)
     lookup_put [] a s = refl
     lookup_put (e ∷ es) a s = step (R a.0 e.0) (is_eq (R k a.0)) (is_eq (R k e.0)) refl refl refl (lookup_put es a (sorted_tail R e.0 (keys_of es) s)) where
       old : Option V
       old = lookup (is_at (R k)) (e ∷ es)
 
       step : (r : Ordering) (b t : Bool) → R a.0 e.0 ≡ r → is_eq (R k a.0) ≡ b → is_eq (R k e.0) ≡ t
-          → lookup (is_at (R k)) (table.put R start merge es a) ≡ cond (is_eq (R k a.0)) (Some (merge (unwrap_or (lookup (is_at (R k)) es) start) a.1)) (lookup (is_at (R k)) es)
-          → lookup (is_at (R k)) (table.put R start merge (e ∷ es) a) ≡ cond b (Some (merge (unwrap_or (lookup (is_at (R k)) (e ∷ es)) start) a.1)) (lookup (is_at (R k)) (e ∷ es))
+          → lookup (is_at (R k)) (table.put R start merge es a) ≡ cond (is_eq (R k a.0)) (Some (merge (unwrap_or (lookup (is_at (R k)) es) start) a.1))
+          (lookup (is_at (R k)) es)
+          → lookup (is_at (R k)) (table.put R start merge (e ∷ es) a) ≡ cond b (Some (merge (unwrap_or (lookup (is_at (R k)) (e ∷ es)) start) a.1))
+          (lookup (is_at (R k)) (e ∷ es))
       step Less true t p q w more =
-          let none : lookup (is_at (R k)) (e ∷ es) ≡ None = lookup_at_gap o k (e ∷ es) 0 s (λ j f l g. absurd (omega arith)) (λ f g. let same : e ≡ f = cc in o.congr k a.0 f.0 (equal (R k a.0) q) ∙ ap (λ x. R a.0 x.0) (sym same) ∙ p) in
+          let none : lookup (is_at (R k)) (e ∷ es) ≡ None =
+          lookup_at_gap o k (e ∷ es) 0 s (λ j f l g. absurd (omega arith))
+          (λ f g. let same : e ≡ f = cc in o.congr k a.0 f.0 (equal (R k a.0) q) ∙ ap (λ x. R a.0 x.0) (sym same) ∙ p) in
           ap (lookup (is_at (R k))) (keyed.first R o exact start merge commutes e es a p) ∙ lookup_head (is_at (R k)) (a.0, merge start a.1) (e ∷ es) q
           ∙ ap (λ x. Some (merge (unwrap_or x start) a.1)) (sym none)
       step Less false t p q w more =
@@ -86,20 +92,23 @@ module _ {K V W : Type 0} (R : K → K → Ordering) (o : IsTotalOrder R) (exact
           ∙ ap (λ x. Some (merge (unwrap_or x start) a.1)) (sym (lookup_head (is_at (R k)) e es there))
       step Equal false t p q w more =
           let other : is_eq (R k e.0) ≡ false = ap (λ x. is_eq (R k x)) (sym (exact a.0 e.0 p)) ∙ q in
-          ap (lookup (is_at (R k))) (keyed.joins R o exact start merge commutes e es a p) ∙ lookup_tail (is_at (R k)) (e.0, merge e.1 a.1) es other ∙ sym (lookup_tail (is_at (R k)) e es other)
+          ap (lookup (is_at (R k))) (keyed.joins R o exact start merge commutes e es a p) ∙ lookup_tail (is_at (R k)) (e.0, merge e.1 a.1) es other
+          ∙ sym (lookup_tail (is_at (R k)) e es other)
       step Greater true true p q w more =
           let same : a.0 ≡ e.0 = sym (exact k a.0 (equal (R k a.0) q)) ∙ exact k e.0 (equal (R k e.0) w) in
           let tied : R a.0 e.0 ≡ Equal = ap (λ x. R x e.0) (sym (exact k a.0 (equal (R k a.0) q))) ∙ equal (R k e.0) w in
           let clash : Greater ≡ Equal = sym p ∙ tied in cc
       step Greater false true p q w more =
-          ap (lookup (is_at (R k))) (keyed.passes R o exact start merge commutes e es a p) ∙ lookup_head (is_at (R k)) e (table.put R start merge es a) w ∙ sym (lookup_head (is_at (R k)) e es w)
+          ap (lookup (is_at (R k))) (keyed.passes R o exact start merge commutes e es a p) ∙ lookup_head (is_at (R k)) e (table.put R start merge es a) w
+          ∙ sym (lookup_head (is_at (R k)) e es w)
       step Greater b false p q w more =
           ap (lookup (is_at (R k))) (keyed.passes R o exact start merge commutes e es a p) ∙ lookup_tail (is_at (R k)) e (table.put R start merge es a) w ∙ more
           ∙ ap (λ c. cond c (Some (merge (unwrap_or (lookup (is_at (R k)) es) start) a.1)) (lookup (is_at (R k)) es)) q
           ∙ ap (λ x. cond b (Some (merge (unwrap_or x start) a.1)) x) (sym (lookup_tail (is_at (R k)) e es w))
 
     lookup_fold : (es : List (K × V)) (adds : List (K × W)) → IsStrictlySortedBy R (keys_of es)
-        → lookup (is_at (R k)) (fold (table.put R start merge) es adds) ≡ fold (λ so_far a. cond (is_eq (R k a.0)) (Some (merge (unwrap_or so_far start) a.1)) so_far) (lookup (is_at (R k)) es) adds
+        → lookup (is_at (R k)) (fold (table.put R start merge) es adds) ≡ fold
+        (λ so_far a. cond (is_eq (R k a.0)) (Some (merge (unwrap_or so_far start) a.1)) so_far) (lookup (is_at (R k)) es) adds
     lookup_fold es [] s = refl
     lookup_fold es (a ∷ adds) s =
         lookup_fold (table.put R start merge es a) adds (sorted_put es a s)

@@ -38,7 +38,9 @@ int_div_wraps a b f = cast_is_wrap (int_div a b) (omega (arith, int_div_small a 
 -- the two readings of a number below 2^64
 signed : (r : ℕ) → r < 2 ^ 64 → (cast_signed w64 r ≡ pos r) ⊎ (cast_signed w64 r +ℤ pos (2 ^ 64) ≡ pos r)
 signed r h =
-    elim (ltb r (2 ^ 63)) as (λ b. (cond b (pos r) (negsuc (2 ^ 64 - suc r)) ≡ pos r) ⊎ (cond b (pos r) (negsuc (2 ^ 64 - suc r)) +ℤ pos (2 ^ 64) ≡ pos r)) [ true ↦ inl refl | false ↦ inr (omega (arith, ints)) ]
+    elim (ltb r (2 ^ 63)) as
+    (λ b. (cond b (pos r) (negsuc (2 ^ 64 - suc r)) ≡ pos r) ⊎
+    (cond b (pos r) (negsuc (2 ^ 64 - suc r)) +ℤ pos (2 ^ 64) ≡ pos r)) [ true ↦ inl refl | false ↦ inr (omega (arith, ints)) ]
 
 -- an integer is what is left of it and a multiple of 2^64
 pub wrap_modulo : (z : ℤ) → (k : ℤ) × (z ≡ int_wrap w64 z +ℤ k *ℤ pos (2 ^ 64))

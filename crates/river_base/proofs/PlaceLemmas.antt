@@ -106,7 +106,8 @@ if_ge a b x y h = grind arith
 
 upto_more : {A : Type 0} (n : ℕ) (f : ℕ → List A) (q : ℕ) → upto n f q ++ only n (f n) q ≡ upto (n + 1) f q
 upto_more n f q = ⊎_elim
-    (λ lt. ap (λ t. t ++ only n (f n) q) (if_lt q n (f q) [] lt) ∙ ap (λ t. f q ++ t) (only_other n q (f n) (omega arith)) ∙ append-nil (f q) ∙ sym (if_lt q (n + 1) (f q) [] (omega arith)))
+    (λ lt. ap (λ t. t ++ only n (f n) q) (if_lt q n (f q) [] lt) ∙ ap (λ t. f q ++ t) (only_other n q (f n) (omega arith)) ∙ append-nil (f q)
+    ∙ sym (if_lt q (n + 1) (f q) [] (omega arith)))
     (λ ge. ap (λ t. t ++ only n (f n) q) (if_ge q n (f q) [] ge) ∙ ⊎_elim
     (λ eq. let e : q ≡ n = omega arith in ap (only n (f n)) e ∙ only_same n (f n) ∙ ap f (sym e) ∙ sym (if_lt q (n + 1) (f q) [] (omega arith)))
     (λ gt. only_other n q (f n) (omega arith) ∙ sym (if_ge q (n + 1) (f q) [] gt))

@@ -35,7 +35,8 @@ short most z vs all i b h g e = subst (λ l. IsShort most z (length vs) l) (sym 
 pub IsShort-pushed : {X : Type 0} (most : ℕ) (z : X) (len : ℕ) (values : List X) (x : X) → IsShort most z len values → len < most
     → IsShort most z (len + 1) (set values len x)
 IsShort-pushed most z len values x h g =
-    let rest : drop (len + 1) values ≡ replicate (most - (len + 1)) z = sym (drop-drop 1 len values) ∙ ap (drop 1) h.rest ∙ drop-replicate 1 (most - len) z ∙ ap (λ n. replicate n z) (omega arith) in
+    let rest : drop (len + 1) values ≡ replicate (most - (len + 1)) z = sym (drop-drop 1 len values) ∙ ap (drop 1) h.rest ∙ drop-replicate 1 (most - len) z
+    ∙ ap (λ n. replicate n z) (omega arith) in
     record {
       at_most = omega arith;
       full = length-set values len x ∙ h.full;

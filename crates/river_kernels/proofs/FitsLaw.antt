@@ -24,7 +24,8 @@ weighed b ws h = grind arith
 pub fits_types : (k : Kern) (is os : List QueueType) (vs : List VarKind) → Fits k is os vs → types_of k is ≡ Some (given os vs)
 fits_types (code k) is os vs h =
     ap (types_of (code k)) h.0
-    ∙ gives_if (nat_eq k.body.inputs k.body.inputs && (is_width k.body.inputs && (are_widths k.outs && is_code k))) (ports k.outs) os (kept k.starts) vs (and_from (nat_eq k.body.inputs k.body.inputs) (is_width k.body.inputs && (are_widths k.outs && is_code k)) (eq_same k.body.inputs) h.3) h.1 h.2
+    ∙ gives_if (nat_eq k.body.inputs k.body.inputs && (is_width k.body.inputs && (are_widths k.outs && is_code k))) (ports k.outs) os (kept k.starts) vs
+    (and_from (nat_eq k.body.inputs k.body.inputs) (is_width k.body.inputs && (are_widths k.outs && is_code k)) (eq_same k.body.inputs) h.3) h.1 h.2
 fits_types (filter f) is os vs h = ap (types_of (filter f)) h.0 ∙ gives_if (nat_eq 1 1 && is_filter f) (rows 1 ∷ []) os (Private ∷ []) vs h.3 h.1 h.2
 fits_types (duplicate n) is os vs h = ap (types_of (duplicate n)) h.1 ∙ gives_if (is_sized h.0 && nat_le 1 n) (replicate n (Flat h.0)) os [] vs h.4 h.2 h.3
 fits_types (deal ws) is os vs h =
@@ -43,7 +44,8 @@ fits_types (window w) is os vs h = ap (types_of (window w)) h.1 ∙ gives_if (is
 fits_types (select e) is os vs h =
     ap (types_of (select e)) h.1 ∙ gives_if (is_sized h.0 && (is_bag h.0 && is_term (width_of h.0) 0 e)) (Flat h.0 ∷ []) os [] vs h.4 h.2 h.3
 fits_types (project es) is os vs h =
-    ap (types_of (project es)) h.1 ∙ gives_if (is_width h.0 && (is_width (length es) && list_all (is_term h.0 0) es)) (relation (length es) ∷ []) os [] vs h.4 h.2 h.3
+    ap (types_of (project es)) h.1
+    ∙ gives_if (is_width h.0 && (is_width (length es) && list_all (is_term h.0 0) es)) (relation (length es) ∷ []) os [] vs h.4 h.2 h.3
 fits_types cross is os vs h =
     ap (types_of cross) h.2 ∙ gives_if (is_width h.0 && (is_width h.1 && is_width (h.0 + h.1))) (relation (h.0 + h.1) ∷ []) os (Private ∷ []) vs h.5 h.3 h.4
 fits_types (streamer s) is os vs h = ap (types_of (streamer s)) h.1 ∙ gives_if (is_width h.0) (stream h.0 ∷ []) os (Private ∷ []) vs h.4 h.2 h.3
@@ -120,8 +122,11 @@ two_parts at (Some q) f p h = behind_middle at q (slice_get q.outs at) f p refl 
 -- what is inferred fits
 pub types_fits : (k : Kern) (is : List QueueType) (p : Types) → types_of k is ≡ Some p → Fits k is p.outs p.vars
 types_fits (code k) is p h =
-    let a = flat_some is (λ t. on_rows_width t (λ n. given_if (nat_eq n k.body.inputs && (is_width k.body.inputs && (are_widths k.outs && is_code k))) (ports k.outs) (kept k.starts))) p h in
-    let b = rows_some a.type (λ n. given_if (nat_eq n k.body.inputs && (is_width k.body.inputs && (are_widths k.outs && is_code k))) (ports k.outs) (kept k.starts)) p a.some in
+    let a = flat_some is
+    (λ t. on_rows_width t
+    (λ n. given_if (nat_eq n k.body.inputs && (is_width k.body.inputs && (are_widths k.outs && is_code k))) (ports k.outs) (kept k.starts))) p h in
+    let b = rows_some a.type
+    (λ n. given_if (nat_eq n k.body.inputs && (is_width k.body.inputs && (are_widths k.outs && is_code k))) (ports k.outs) (kept k.starts)) p a.some in
     let g = gives_some (nat_eq b.width k.body.inputs && (is_width k.body.inputs && (are_widths k.outs && is_code k))) (ports k.outs) (kept k.starts) p b.some in
     let c = and_parts (nat_eq b.width k.body.inputs) (is_width k.body.inputs && (are_widths k.outs && is_code k)) g.holds in
     (a.reads ∙ ap (λ t. Flat t ∷ []) b.is ∙ ap (λ n. rows n ∷ []) (same_eq b.width k.body.inputs c.0), g.outs, g.vars, c.1)
@@ -146,8 +151,14 @@ types_fits (collect ws) is p h =
 types_fits (packed k) is p h =
     let a = flat_some is (λ t. packed_of (types_of k (Flat t ∷ []))) p h in
     let c = inside (types_of k (Flat a.type ∷ [])) p a.some in
-    let f : Fits k (Flat a.type ∷ []) c.within.outs c.within.vars = types_fits k (Flat a.type ∷ []) c.within c.some in
-    (a.type, c.type, a.reads, c.pack, c.none, subst (Fits k (Flat a.type ∷ []) (Flat c.type ∷ [])) c.vars (subst (λ os. Fits k (Flat a.type ∷ []) os c.within.vars) c.outs f))
+    let f : Fits k (Flat a.type ∷ []) c.within.outs c.within.vars = types_fits k (Flat a.type ∷ []) c.within c.some in (
+      a.type,
+      c.type,
+      a.reads,
+      c.pack,
+      c.none,
+      subst (Fits k (Flat a.type ∷ []) (Flat c.type ∷ [])) c.vars (subst (λ os. Fits k (Flat a.type ∷ []) os c.within.vars) c.outs f),
+    )
 types_fits (unpack n) is p h =
     let a = packs_some n is (λ t. given_if (is_sized t && nat_le 1 n) (Flat t ∷ []) (Private ∷ [])) p h in
     let g = gives_some (is_sized a.type && nat_le 1 n) (Flat a.type ∷ []) (Private ∷ []) p a.some in
@@ -162,7 +173,8 @@ types_fits (select e) is p h =
     let g = gives_some (is_sized a.type && (is_bag a.type && is_term (width_of a.type) 0 e)) (Flat a.type ∷ []) [] p a.some in
     (a.type, a.reads, g.outs, g.vars, g.holds)
 types_fits (project es) is p h =
-    let a = flat_some is (λ t. relation_in t (λ n. given_if (is_width n && (is_width (length es) && list_all (is_term n 0) es)) (relation (length es) ∷ []) [])) p h in
+    let a = flat_some is
+    (λ t. relation_in t (λ n. given_if (is_width n && (is_width (length es) && list_all (is_term n 0) es)) (relation (length es) ∷ []) [])) p h in
     let b = relation_some a.type (λ n. given_if (is_width n && (is_width (length es) && list_all (is_term n 0) es)) (relation (length es) ∷ []) []) p a.some in
     let g = gives_some (is_width b.width && (is_width (length es) && list_all (is_term b.width 0) es)) (relation (length es) ∷ []) [] p b.some in
     (b.width, a.reads ∙ ap (λ t. Flat t ∷ []) b.is, g.outs, g.vars, g.holds)
@@ -181,5 +193,15 @@ types_fits tally is p h =
     let g = gives_some (is_width b.width) [] (Table b.width ∷ []) p b.some in
     (b.width, a.reads ∙ ap (λ t. Flat t ∷ []) b.is, g.outs, g.vars, g.holds)
 types_fits (fused a b at) is p h =
-    let c = two_parts at (types_of a is) (types_of b) p h in
-    (c.first.outs, c.middle, c.second.outs, c.first.vars, c.second.vars, types_fits a is c.first c.first_some, c.middle_is, types_fits b (c.middle ∷ []) c.second c.second_some, c.outs, c.vars)
+    let c = two_parts at (types_of a is) (types_of b) p h in (
+      c.first.outs,
+      c.middle,
+      c.second.outs,
+      c.first.vars,
+      c.second.vars,
+      types_fits a is c.first c.first_some,
+      c.middle_is,
+      types_fits b (c.middle ∷ []) c.second c.second_some,
+      c.outs,
+      c.vars,
+    )

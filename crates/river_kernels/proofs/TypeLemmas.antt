@@ -164,19 +164,22 @@ if_true false x y h = absurd (true≢false (sym h))
 many_test : (m : ℕ) (t : QueueType) → (nat_eq (length (replicate m t) + 1) (suc m) && list_all (same_type t) (replicate m t)) ≡ true
 many_test m t =
     let e : length (replicate m t) + 1 ≡ suc m = omega (arith, length-replicate m t) in
-    and_from (nat_eq (length (replicate m t) + 1) (suc m)) (list_all (same_type t) (replicate m t)) (ap (λ k. nat_eq k (suc m)) e ∙ eq_same (suc m)) (all_same t m)
+    and_from (nat_eq (length (replicate m t) + 1) (suc m)) (list_all (same_type t) (replicate m t)) (ap (λ k. nat_eq k (suc m)) e ∙ eq_same (suc m))
+    (all_same t m)
 
 -- ports that read one flat type
 pub flats_all : (n : ℕ) (t : FlatType) (f : FlatType → Option Types) → 1 ≤ n → flats_in n (replicate n (Flat t)) f ≡ f t
 flats_all zero t f h = absurd (omega arith)
 flats_all (suc m) t f h =
-    ap (λ o. bind o f) (if_true (nat_eq (length (replicate m (Flat t)) + 1) (suc m) && list_all (same_type (Flat t)) (replicate m (Flat t))) (Some t) None (many_test m (Flat t)))
+    ap (λ o. bind o f) (if_true (nat_eq (length (replicate m (Flat t)) + 1) (suc m) && list_all (same_type (Flat t)) (replicate m (Flat t))) (Some t) None
+    (many_test m (Flat t)))
 
 -- ports that read one packed type
 pub packs_all : (n : ℕ) (t : FlatType) (f : FlatType → Option Types) → 1 ≤ n → packs_in n (replicate n (Pack t)) f ≡ f t
 packs_all zero t f h = absurd (omega arith)
 packs_all (suc m) t f h =
-    ap (λ o. bind o f) (if_true (nat_eq (length (replicate m (Pack t)) + 1) (suc m) && list_all (same_type (Pack t)) (replicate m (Pack t))) (Some t) None (many_test m (Pack t)))
+    ap (λ o. bind o f) (if_true (nat_eq (length (replicate m (Pack t)) + 1) (suc m) && list_all (same_type (Pack t)) (replicate m (Pack t))) (Some t) None
+    (many_test m (Pack t)))
 
 -- two relations
 pub record Two (is : List QueueType) (f : ℕ × ℕ → Option Types) (p : Types) : Type 0 where

@@ -24,7 +24,8 @@ EndsIn-later (Fetch n l g k) later held v (inr far) end =
     (Some far.0, far.1, rw far.2 (EndsIn-later (k far.0) later held v far.3 end))
 
 -- what is reached later is reached
-pub Reaches-later : (from later : Order) (held : Option Held) (file : List ℕ) → Comes from held later → ReachesFetch later held file → ReachesFetch from held file
+pub Reaches-later : (from later : Order) (held : Option Held) (file : List ℕ) → Comes from held later → ReachesFetch later held file
+    → ReachesFetch from held file
 Reaches-later (Ends w) later held file far turn = subst (λ (o : Order). ReachesFetch o held file) (sym far) turn
 Reaches-later (Fetch n l g k) later held file (inl here) turn = subst (λ (o : Order). ReachesFetch o held file) (sym here) turn
 Reaches-later (Fetch n l g k) later held file (inr far) turn =

@@ -54,7 +54,8 @@ passed-decides point held rose (Ok text) passed =
 passed-decides point held rose (Err s) passed = passed (λ t. Ends (Done t))
 
 -- what stands for a value that was found, where the points after it pass for all that it stands for
-pub past-as : {A B C : Type 0} (stands : A → B → Type 0) (found : Result A (List ℕ)) (y : B) (second : A → (C → Order) → Order) (held : Option Held) (rose : Type 0) (result : Result C Stop)
+pub past-as : {A B C : Type 0} (stands : A → B → Type 0) (found : Result A (List ℕ)) (y : B) (second : A → (C → Order) → Order) (held : Option Held)
+    (rose : Type 0) (result : Result C Stop)
     → StandsFor stands found y → ((x : A) → stands x y → Passes (second x) held rose result) → Passes (λ next. past found (λ x. second x next)) held rose result
 past-as stands (Ok x) y second held rose (Ok z) told later = later x told
 past-as stands (Ok x) y second held rose (Err s) told later = later x told

@@ -33,7 +33,8 @@ ended h name limit large next None is later = (None, is, rw (is, end_of) refl)
 ended h name limit large next (Some bytes) is later = (Some bytes, is, rw (is, end_of) (within (nat_lt limit (length bytes))))
   where
     within : (b : Bool)
-        → MatchBool b (cond b (Refused large) (end_of (next bytes) h) ≡ Refused large) (EndsIn (next bytes) (Some h) (cond b (Refused large) (end_of (next bytes) h)))
+        → MatchBool b (cond b (Refused large) (end_of (next bytes) h) ≡ Refused large)
+        (EndsIn (next bytes) (Some h) (cond b (Refused large) (end_of (next bytes) h)))
     within true = refl
     within false = later bytes
 
@@ -82,7 +83,8 @@ same_fetch h k name limit large next (Some bytes) is also later = rw (is, also, 
 end-same : (order : Order) (h k : Held) → ((file : List ℕ) → ReachesFetch order (Some h) file → h file ≡ k file) → end_of order h ≡ end_of order k
 end-same (Ends v) h k same = refl
 end-same (Fetch name limit large next) h k same =
-    same_fetch h k name limit large next (h name) refl (sym (same name (inl refl))) (λ bytes is le. end-same (next bytes) h k (λ file turn. same file (inr (bytes, is, le, turn))))
+    same_fetch h k name limit large next (h name) refl (sym (same name (inl refl)))
+    (λ bytes is le. end-same (next bytes) h k (λ file turn. same file (inr (bytes, is, le, turn))))
 
 -- only files whose turn comes matter
 pub verdict-same : (points : Option Order) (h k : Held) → ((file : List ℕ) → IsFetchTurn points (Some h) file → h file ≡ k file)

@@ -47,7 +47,14 @@ Stops-later from later held early late sooner (stop.Refused text) far here = End
 Stops-later from later held early late sooner (stop.Failed text) far here =
     record { file = here.file; says = here.says; turn = Reaches-later from later held here.file far here.turn; counted = sooner here.counted }
 Stops-later from later held early late sooner (stop.Absent text) far here =
-    record { file = here.file; says = here.says; turn = Reaches-later from later held here.file far here.turn; end = EndsIn-later from later held (Unread here.file) far here.end; cause = cause-sooner held early late sooner here.cause }
+    record {
+      file = here.file;
+      says = here.says;
+      turn = Reaches-later from later held here.file far here.turn;
+      end =
+          EndsIn-later from later held (Unread here.file) far here.end;
+      cause = cause-sooner held early late sooner here.cause;
+    }
 Stops-later from later held early late sooner stop.NoMemory far here = tt
 
 -- the fetch found too many bytes

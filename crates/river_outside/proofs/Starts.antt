@@ -10,7 +10,8 @@ grown : (held got piece : List ℕ) (n : ℕ) → take (length got) held ≡ got
 grown held got piece n front fits is room =
     let size : length piece ≡ n = ap length is ∙ length-take-le n (drop (length got) held) (omega (arith, length-drop (length got) held)) in
     let all : length (got ++ piece) ≡ length got + n = omega (arith, length-append got piece) in (
-      ap (λ (k : ℕ). take k held) all ∙ take-add (length got) n held ∙ ap (λ (l : List ℕ). l ++ take n (drop (length got) held)) front ∙ ap (λ (l : List ℕ). got ++ l) (sym is),
+      ap (λ (k : ℕ). take k held) all ∙ take-add (length got) n held ∙ ap (λ (l : List ℕ). l ++ take n (drop (length got) held)) front
+          ∙ ap (λ (l : List ℕ). got ++ l) (sym is),
       omega arith,
     )
 

@@ -14,7 +14,8 @@ chosen true x y = refl
 chosen false x y = refl
 
 -- with the entry before them
-pub known_more : {S : Type 0} (known known' : IndexMap Name ℕ S) (caps : List Cap) (i j k : ℕ) (c : Cap) → i < length caps → j ≡ i + 1 → k ≡ i → c ≡ get_or caps k c
+pub known_more : {S : Type 0} (known known' : IndexMap Name ℕ S) (caps : List Cap) (i j k : ℕ) (c : Cap) → i < length caps → j ≡ i + 1 → k ≡ i
+    → c ≡ get_or caps k c
     → KnowsCaps known (drop j caps) → Updates name_eq known known' c.queue (Some c.most) → KnowsCaps known' (drop i caps)
 known_more known known' caps i j k c lt next same at known_j u = record { each = each } where
   h : KnowsCaps known (drop (i + 1) caps)

@@ -47,7 +47,8 @@ names-once p q v l = (q, (v, l))
 pub undeclared-among : (p : PlanForm) (queues variables : List Name) → queues ≡ queue_names p → variables ≡ variable_names p → (o : Option Named)
     → Along (λ before op. UndeclaredAt queues variables op) [] p.ops o → Undeclared p o
 undeclared-among p queues variables q v o h =
-    subst (λ (l : List Name). Along (λ before op. UndeclaredAt (queue_names p) l op) [] p.ops o) v (subst (λ (l : List Name). Along (λ before op. UndeclaredAt l variables op) [] p.ops o) q h)
+    subst (λ (l : List Name). Along (λ before op. UndeclaredAt (queue_names p) l op) [] p.ops o) v
+    (subst (λ (l : List Name). Along (λ before op. UndeclaredAt l variables op) [] p.ops o) q h)
 
 -- the first name that is not declared is the fault, where no name stands twice
 pub undeclared-first : (p : PlanForm) (n : Named) → Repeated p None → Undeclared p (Some n) → FirstFault p (Some (P2 n))

@@ -54,14 +54,16 @@ repeated-one p =
 
 undeclared-one : (p : PlanForm) → IsOne (Undeclared p)
 undeclared-one p = along-one (λ b op. UndeclaredAt (queue_names p) (variable_names p) op)
-    (λ b op. or_else-one _ _ (as_first-one Queue (IsIn (queue_names p)) op.reads) (or_else-one _ _ (as_first-one Queue (IsIn (queue_names p)) op.writes) (as_first-one Variable (IsIn (variable_names p)) op.vars))) [] p.ops
+    (λ b op. or_else-one _ _ (as_first-one Queue (IsIn (queue_names p)) op.reads)
+    (or_else-one _ _ (as_first-one Queue (IsIn (queue_names p)) op.writes) (as_first-one Variable (IsIn (variable_names p)) op.vars))) [] p.ops
 
 early-one : (p : PlanForm) → IsOne (ReadTooEarly p)
 early-one p = along-one (ReadTooEarlyAt (decl_names p.inputs)) (λ b op. as_first-one Queue (λ c r. IsWritten (decl_names p.inputs) b r) op.reads) [] p.ops
 
 mistyped-one : (p : PlanForm) → IsOne (Mistyped p)
 mistyped-one p =
-    or_else-one _ _ (as_first-one _ _ p.outputs) (or_else-one _ _ (as_first-one _ _ p.inputs) (or_else-one _ _ (as_first-one _ _ p.queues) (as_first-one _ _ p.tables)))
+    or_else-one _ _ (as_first-one _ _ p.outputs)
+    (or_else-one _ _ (as_first-one _ _ p.inputs) (or_else-one _ _ (as_first-one _ _ p.queues) (as_first-one _ _ p.tables)))
 
 over-one : (p : PlanForm) → IsOne (OverLimit p)
 over-one p =

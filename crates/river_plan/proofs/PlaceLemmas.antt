@@ -21,7 +21,8 @@ place-step false n = omega arith
 -- the place is what std calls the first position, or the length
 pub place-position : (names : List Name) (q : Name) → place names q ≡ position_or_len (name_eq q) names
 place-position names q =
-    is_position_or_len (λ ws. place ws q) (name_eq q) refl (λ w ws. ap (λ b. if b then 0 else suc (place ws q)) (name_sym w q) ∙ place-step (name_eq q w) (place ws q)) names
+    is_position_or_len (λ ws. place ws q) (name_eq q) refl
+    (λ w ws. ap (λ b. if b then 0 else suc (place ws q)) (name_sym w q) ∙ place-step (name_eq q w) (place ws q)) names
 
 place-most : (names : List Name) (q : Name) → place names q ≤ length names
 place-most [] q = omega arith

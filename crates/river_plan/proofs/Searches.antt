@@ -23,7 +23,8 @@ pub along-cong : {A B : Type 0} (s s' : List A → A → Option B → Type 0) �
 along-cong s s' f before [] None h = tt
 along-cong s s' f before [] (Some b) h = h
 along-cong s s' f before (y ∷ ys) o h =
-    or_else-cong (s before y) (s' before y) (Along s (before ++ y ∷ []) ys) (Along s' (before ++ y ∷ []) ys) (f before y) (along-cong s s' f (before ++ y ∷ []) ys) o h
+    or_else-cong (s before y) (s' before y) (Along s (before ++ y ∷ []) ys) (Along s' (before ++ y ∷ []) ys) (f before y)
+    (along-cong s s' f (before ++ y ∷ []) ys) o h
 
 pub first-cong : {A : Type 0} (P Q : List A → A → Type 0) → ((b : List A) (y : A) → P b y → Q b y) → ((b : List A) (y : A) → Q b y → P b y)
     → (xs : List A) (o : Option A) → IsFirst P xs o → IsFirst Q xs o

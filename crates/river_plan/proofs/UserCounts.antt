@@ -28,7 +28,8 @@ placed zs P Q same before [] e None h = tt
 placed zs P Q same before [] e (Some q) h = h
 placed zs P Q same before (x ∷ xs) e o h =
     let s = same before xs x e in
-    or_else-cong (Unless (P (length before)) x) (Unless (Q x) x) (Along (λ b y. Unless (P (length b)) y) (before ++ x ∷ []) xs) (Along (λ b y. Unless (Q y) y) (before ++ x ∷ []) xs)
+    or_else-cong (Unless (P (length before)) x) (Unless (Q x) x) (Along (λ b y. Unless (P (length b)) y) (before ++ x ∷ []) xs)
+    (Along (λ b y. Unless (Q y) y) (before ++ x ∷ []) xs)
     (unless-cong (P (length before)) (Q x) x s.0 s.1)
     (placed zs P Q same (before ++ x ∷ []) xs (append_assoc before (x ∷ []) xs ∙ e))
     o h
@@ -82,7 +83,8 @@ module _ (names : List Name) (q : Name) (lt : 0 < count q names) where
   one_used : (w : Name) (n : ℕ) → length (only (place names w) (n ∷ []) (place names q)) ≡ one_if (name_eq w q)
   one_used w n = ⊎_elim
       (λ c. ap (λ y. length (only (place names y) (n ∷ []) (place names q))) c.0 ∙ ap length (only_same (place names q) (n ∷ [])) ∙ sym (ap one_if c.1))
-      (λ c. ap length (only_other (place names w) (place names q) (n ∷ []) (λ e. c.0 (place_is names w q (ap (slice_get names) (sym e) ∙ place_at names q lt)))) ∙ sym (ap one_if c.1))
+      (λ c. ap length (only_other (place names w) (place names q) (n ∷ [])
+      (λ e. c.0 (place_is names w q (ap (slice_get names) (sym e) ∙ place_at names q lt)))) ∙ sym (ap one_if c.1))
       (cases_name w q)
 
   -- a place is listed as often as its name stands
@@ -138,8 +140,11 @@ users-least n (l ∷ ls) i = all-append (λ y. n ≤ y) (as_often l n i) (users_
 module _ (n : ℕ) (rest : List ℕ) where
   rising-parts : (xs : List ℕ) → AllByRecursion (λ y. y ≡ n) xs → IsStrictlyIncreasing (xs ++ rest) → (length xs ≤ 1) × IsStrictlyIncreasing rest
   rising-parts [] a h = (omega arith, h)
-  rising-parts (x ∷ []) a h =
-      (omega arith, λ k lt. subst (λ m. slice_index rest k < slice_index (x ∷ rest) m) (let e : suc k + 1 ≡ suc (k + 1) = omega arith in e) (h (suc k) (omega (arith, lt))))
+  rising-parts (x ∷ []) a h = (
+    omega arith,
+    λ k lt. subst (λ m. slice_index rest k < slice_index (x ∷ rest) m) (let e : suc k + 1 ≡ suc (k + 1) = omega arith in e)
+        (h (suc k) (omega (arith, lt))),
+  )
   rising-parts (x ∷ y ∷ ys) a h = absurd (let lt = h 0 (omega arith) in omega (arith, lt, a.0, a.1.0))
 
   parts-rising : (xs : List ℕ) → AllByRecursion (λ y. y ≡ n) xs → AllByRecursion (λ y. suc n ≤ y) rest → length xs ≤ 1 → IsStrictlyIncreasing rest
@@ -163,7 +168,8 @@ module _ (names : List Name) (v : Name) (lt : 0 < count v names) where
   rising-each [] n h = tt
   rising-each (op ∷ ops) n h =
       let us = as_often (places names op.vars) n (place names v) in
-      let p = rising-parts n (users_from (suc n) (map (λ o. places names o.vars) ops) (place names v)) us (often-one (places names op.vars) n (place names v)) h in
+      let p = rising-parts n (users_from (suc n) (map (λ o. places names o.vars) ops) (place names v)) us
+      (often-one (places names op.vars) n (place names v)) h in
       let c = often-count names v lt op.vars n in
       let le = p.0 in
       (omega (arith, c, le), rising-each ops (suc n) p.1)
@@ -206,17 +212,20 @@ module _ (names : List Name) (q : Name) (lt : 0 < count q names) (f : OpForm →
   written-before [] n m e u = absurd (omega (arith, u))
   written-before (op ∷ ops) n m e u =
       let c = often-count names q lt (f op) n in
-      used-before n m (total (λ o. count q (f o)) ops) (uses_from (suc n) (ops ++ after)) (as_often (places names (f op)) n (place names q)) (often-one (places names (f op)) n (place names q))
+      used-before n m (total (λ o. count q (f o)) ops) (uses_from (suc n) (ops ++ after)) (as_often (places names (f op)) n (place names q))
+      (often-one (places names (f op)) n (place names q))
       (omega (arith, e)) (written-before ops (suc n) m (omega (arith, e))) (omega (arith, c, u))
 
   -- the first writer is before, so an operator before this one writes it
   pub before-written : (before : List OpForm) (n m : ℕ) → m ≡ n + length before → IsBefore m (uses_from n (before ++ after))
       → 0 < total (λ op. count q (f op)) before
   before-written [] n m e b = absurd (none-before m (uses_from n after)
-      (all-weaker (λ y. n ≤ y) (λ y. m ≤ y) (λ y h. omega (arith, e, h)) (uses_from n after) (users-least n (map (λ op. places names (f op)) after) (place names q))) b)
+      (all-weaker (λ y. n ≤ y) (λ y. m ≤ y) (λ y h. omega (arith, e, h)) (uses_from n after)
+      (users-least n (map (λ op. places names (f op)) after) (place names q))) b)
   before-written (op ∷ ops) n m e b =
       let c = often-count names q lt (f op) n in
-      let u = before-used m (total (λ o. count q (f o)) ops) (uses_from (suc n) (ops ++ after)) (as_often (places names (f op)) n (place names q)) (before-written ops (suc n) m (omega (arith, e))) b in
+      let u = before-used m (total (λ o. count q (f o)) ops) (uses_from (suc n) (ops ++ after)) (as_often (places names (f op)) n (place names q))
+      (before-written ops (suc n) m (omega (arith, e))) b in
       omega (arith, c, u)
 
 -- NAMES BETWEEN OTHERS

@@ -46,7 +46,8 @@ pub users-next : (m k : ℕ) (now new ls : List (List ℕ)) (l : List ℕ) → k
 users-next m k now new ls l lt e h a =
     let len : k ≡ 0 + length (take k ls) = (let t = length-take-le k ls (omega (arith, lt)) in omega (arith, t)) in
     a ∙ ap (λ x. each_grew x (as_often l k)) h ∙ each_grew-each_grew (replicate m []) (users_from 0 (take k ls)) (as_often l k)
-    ∙ each_grew_cong (replicate m []) (λ i. users_from 0 (take k ls) i ++ as_often l k i) (users_from 0 (take k ls ++ l ∷ [])) (λ i _. ap (λ n. users_from 0 (take k ls) i ++ as_often l n i) len ∙ sym (users-more 0 (take k ls) l i))
+    ∙ each_grew_cong (replicate m []) (λ i. users_from 0 (take k ls) i ++ as_often l k i) (users_from 0 (take k ls ++ l ∷ []))
+    (λ i _. ap (λ n. users_from 0 (take k ls) i ++ as_often l n i) len ∙ sym (users-more 0 (take k ls) l i))
     ∙ ap (users m) (ap (λ y. take k ls ++ y ∷ []) e ∙ sym (take_more ls k l lt))
 
 -- there is a list for each place

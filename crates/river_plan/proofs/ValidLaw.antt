@@ -94,8 +94,10 @@ declared-all queues variables before [] h = ((λ q lt. absurd (omega (arith, lt)
 declared-all queues variables before (op ∷ ops) h =
     let i = declared-all queues variables (before ++ op ∷ []) ops h.1 in (
       (λ q lt. ⊎_elim (λ o. along-names (λ w. 0 < count w queues) [] op.reads h.0.0 q o) (λ z. i.0 q (omega (arith, lt, z))) (more_or_zero (count q op.reads))),
-      (λ q lt. ⊎_elim (λ o. along-names (λ w. 0 < count w queues) [] op.writes h.0.1.0 q o) (λ z. i.1 q (omega (arith, lt, z))) (more_or_zero (count q op.writes))),
-      (λ v lt. ⊎_elim (λ o. along-names (λ w. 0 < count w variables) [] op.vars h.0.1.1 v o) (λ z. i.2 v (omega (arith, lt, z))) (more_or_zero (count v op.vars))),
+      (λ q lt. ⊎_elim (λ o. along-names (λ w. 0 < count w queues) [] op.writes h.0.1.0 q o) (λ z. i.1 q (omega (arith, lt, z)))
+          (more_or_zero (count q op.writes))),
+      (λ v lt. ⊎_elim (λ o. along-names (λ w. 0 < count w variables) [] op.vars h.0.1.1 v o) (λ z. i.2 v (omega (arith, lt, z)))
+          (more_or_zero (count v op.vars))),
     )
 
 -- where all that operators read, write and use is declared, no operator names something else
@@ -127,7 +129,8 @@ order-reads : (inputs : List Name) (k : Name → ℕ) (before ops : List OpForm)
 order-reads inputs k before [] e h = tt
 order-reads inputs k before (op ∷ ops) e h = (
   (λ q lt. let a = along-names (λ r. IsWritten inputs before r) [] op.reads h.0 q lt in let b = e q in omega (arith, a, b)),
-  order-reads inputs (λ q. k q + count q op.writes) (before ++ op ∷ []) ops (λ q. let b = e q in let a = total-append (writes_it q) before (op ∷ []) in omega (arith, a, b)) h.1,
+  order-reads inputs (λ q. k q + count q op.writes) (before ++ op ∷ []) ops
+      (λ q. let b = e q in let a = total-append (writes_it q) before (op ∷ []) in omega (arith, a, b)) h.1,
 )
 
 -- where operators read what is known, none reads too early
@@ -136,7 +139,8 @@ pub reads-order : (inputs : List Name) (k : Name → ℕ) (before ops : List OpF
 reads-order inputs k before [] e h = tt
 reads-order inputs k before (op ∷ ops) e h = (
   names-along (λ r. IsWritten inputs before r) [] op.reads (λ q lt. let a = h.0 q lt in let b = e q in omega (arith, a, b)),
-  reads-order inputs (λ q. k q + count q op.writes) (before ++ op ∷ []) ops (λ q. let b = e q in let a = total-append (writes_it q) before (op ∷ []) in omega (arith, a, b)) h.1,
+  reads-order inputs (λ q. k q + count q op.writes) (before ++ op ∷ []) ops
+      (λ q. let b = e q in let a = total-append (writes_it q) before (op ∷ []) in omega (arith, a, b)) h.1,
 )
 
 -- VARIABLES
@@ -223,17 +227,31 @@ no_fault-valid p h =
 -- a valid plan has no fault
 pub valid-no_fault : (p : PlanForm) → IsPlan p → FirstFault p None
 valid-no_fault p v = (
-  (once-names (queue_names p) v.queues_once, (once-names (variable_names p) v.variables_once, once-names (labels p.ops) (λ l. let a = v.labels_once l in let e = total-labels l p.ops in omega (arith, a, e)))),
+  (
+    once-names (queue_names p) v.queues_once,
+    (
+      once-names (variable_names p) v.variables_once,
+      once-names (labels p.ops) (λ l. let a = v.labels_once l in let e = total-labels l p.ops in omega (arith, a, e)),
+    ),
+  ),
   (
     all-declared (queue_names p) (variable_names p) [] p.ops v.reads_declared v.writes_declared v.vars_declared,
     (
-      names-along (λ w. IsUsedOnce (count w (decl_names p.inputs)) (total (writes_it w) p.ops)) [] (queue_names p) (λ q lt. let o = v.written_once q in ((omega (arith, o)), λ g. omega (arith, o, g))),
+      names-along (λ w. IsUsedOnce (count w (decl_names p.inputs)) (total (writes_it w) p.ops)) [] (queue_names p)
+          (λ q lt. let o = v.written_once q in ((omega (arith, o)), λ g. omega (arith, o, g))),
       (
-        names-along (λ w. IsUsedOnce (count w (decl_names p.outputs)) (total (reads_it w) p.ops)) [] (queue_names p) (λ q lt. let o = v.read_once q in ((omega (arith, o)), λ g. omega (arith, o, g))),
+        names-along (λ w. IsUsedOnce (count w (decl_names p.outputs)) (total (reads_it w) p.ops)) [] (queue_names p)
+            (λ q lt. let o = v.read_once q in ((omega (arith, o)), λ g. omega (arith, o, g))),
         (
           reads-order (decl_names p.inputs) (λ q. count q (decl_names p.inputs)) [] p.ops (λ q. omega arith) v.in_order,
           (
-            (all-along IsOuter [] p.outputs v.outputs_typed, (all-along IsOuter [] p.inputs v.inputs_typed, (all-along HasWidth [] p.queues v.queues_typed, all-along (λ t. IsTableKind t.kind) [] p.tables v.tables_typed))),
+            (
+              all-along IsOuter [] p.outputs v.outputs_typed,
+              (
+                all-along IsOuter [] p.inputs v.inputs_typed,
+                (all-along HasWidth [] p.queues v.queues_typed, all-along (λ t. IsTableKind t.kind) [] p.tables v.tables_typed),
+              ),
+            ),
             (
               each-along (IsFit p) [] p.ops v.fits,
               (
@@ -253,5 +271,22 @@ valid-no_fault p v = (
     bounded p limit h = all-along (λ n. n ≤ most_of limit) [] (numbers limit p) (h limit)
 
     limits : (p : PlanForm) → ((limit : Limit) → All (λ n. n ≤ most_of limit) (numbers limit p)) → OverLimit p None
-    limits p h =
-        (bounded p Inputs h, (bounded p Operators h, (bounded p Queues h, (bounded p Variables h, (bounded p Ports h, (bounded p Statements h, (bounded p Slots h, (bounded p Rates h, (bounded p Weights h, (bounded p Nesting h, (bounded p Latest h, (bounded p Best h, tt))))))))))))
+    limits p h = (
+      bounded p Inputs h,
+      (
+        bounded p Operators h,
+        (
+          bounded p Queues h,
+          (
+            bounded p Variables h,
+            (
+              bounded p Ports h,
+              (
+                bounded p Statements h,
+                (bounded p Slots h, (bounded p Rates h, (bounded p Weights h, (bounded p Nesting h, (bounded p Latest h, (bounded p Best h, tt)))))),
+              ),
+            ),
+          ),
+        ),
+      ),
+    )

@@ -34,7 +34,8 @@ kinds_in (d ∷ ds) q = found (name_eq d.name q) (rows 0) d.kind (decl_kinds ds)
 -- the type at the place of a name is the type of its queue
 pub kind_place : (p : PlanForm) (q : Name) → kind_at (queue_kinds p) (place (queue_names p) q) ≡ kind_of (all_decls p) q
 kind_place p q =
-    ap (λ ks. slice_index_or ks (place (queue_names p) q) (rows 0)) (sym kinds) ∙ ap (λ ws. slice_index_or (decl_kinds (all_decls p)) (place ws q) (rows 0)) (sym names) ∙ kinds_in (all_decls p) q
+    ap (λ ks. slice_index_or ks (place (queue_names p) q) (rows 0)) (sym kinds)
+    ∙ ap (λ ws. slice_index_or (decl_kinds (all_decls p)) (place ws q) (rows 0)) (sym names) ∙ kinds_in (all_decls p) q
   where
     kinds : decl_kinds (all_decls p) ≡ queue_kinds p
     kinds =
@@ -59,7 +60,8 @@ var_place : (ts : List TableDecl) (vs : List Name) (v : Name)
     → slice_index_or (table_kinds ts ++ private_kinds vs) (place (table_names ts ++ vs) v) (Table 0) ≡ unwrap_or (var_in ts vs v) (Table 0)
 var_place [] vs v = privates_in vs v
 var_place (t ∷ ts) vs v =
-    found (name_eq t.name v) (Table 0) (Table (table_width t.kind)) (table_kinds ts ++ private_kinds vs) (place (table_names ts ++ vs) v) (var_in ts vs v) (var_place ts vs v)
+    found (name_eq t.name v) (Table 0) (Table (table_width t.kind)) (table_kinds ts ++ private_kinds vs) (place (table_names ts ++ vs) v) (var_in ts vs v)
+    (var_place ts vs v)
     ∙ ap (λ (o : Option VarKind). unwrap_or o (Table 0)) (if_either (name_eq t.name v) (Table (table_width t.kind)) (table_in ts v) (private_in vs v))
 
 mapped_places : {A : Type 0} (names : List Name) (at : ℕ → A) (by : Name → A) → ((q : Name) → at (place names q) ≡ by q) → (ws : List Name)
@@ -74,7 +76,8 @@ at_op f (x ∷ xs) zero op lt e = ap (λ y. f (op_form y)) (sym e)
 at_op f (x ∷ xs) (suc i) op lt e = at_op f xs i op (omega (arith, lt)) e
 
 -- an operator fits by places exactly where it fits by names
-module _ (p : PlanForm) (w : Wiring) (queues : List QueueType) (kinds : List VarKind) (i : ℕ) (op : Op) (wired : IsWired p w) (qs : queues ≡ queue_kinds p) (vs : kinds ≡ var_kinds p) where
+module _ (p : PlanForm) (w : Wiring) (queues : List QueueType) (kinds : List VarKind) (i : ℕ) (op : Op) (wired : IsWired p w) (qs : queues ≡ queue_kinds p)
+    (vs : kinds ≡ var_kinds p) where
   at_places : (ops : List Op) → op_forms ops ≡ p.ops → i < length ops → op ≡ get_or ops i op → (f : OpForm → List ℕ) (ls : List (List ℕ)) → ls ≡ map f p.ops
       → list_at ls i ≡ f (op_form op)
   at_places ops are lt e f ls h = ap (λ l. list_at l i) (h ∙ ap (map f) (sym are)) ∙ at_op f ops i op lt e

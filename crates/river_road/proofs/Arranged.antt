@@ -53,7 +53,8 @@ no_name false n e = (refl, omega (arith, e))
 
 -- inputs of other names have what they had
 others-kept : (ds : List Decl) (ins : List InWord) (all all' : List Content) (name : List ℕ) → count name (decl_names ds) ≡ 0
-    → ((q : List ℕ) → name_eq name q ≡ false → content_named ins all' q ≡ content_named ins all q) → contents_in_order ds ins all' ≡ contents_in_order ds ins all
+    → ((q : List ℕ) → name_eq name q ≡ false → content_named ins all' q ≡ content_named ins all q)
+    → contents_in_order ds ins all' ≡ contents_in_order ds ins all
 others-kept [] ins all all' name none same = refl
 others-kept (d ∷ ds) ins all all' name none same =
     let p = no_name (name_eq d.name name) (count name (decl_names ds)) none in
@@ -97,7 +98,8 @@ arranged-next ds ins all all' files files' whole i d x lt is apart taken others 
     ∙ so_far
 
 -- all inputs have it
-pub arranged-all : (ds : List Decl) (ins : List InWord) (all files whole : List Content) (i : ℕ) → length ds ≤ i → files ++ contents_in_order (drop i ds) ins all ≡ whole
+pub arranged-all : (ds : List Decl) (ins : List InWord) (all files whole : List Content) (i : ℕ) → length ds ≤ i
+    → files ++ contents_in_order (drop i ds) ins all ≡ whole
     → files ≡ whole
 arranged-all ds ins all files whole i le so_far =
     sym (append-nil files) ∙ ap (λ l. files ++ contents_in_order l ins all) (sym (drop_all i ds le)) ∙ so_far

@@ -62,7 +62,8 @@ module _ (decls : List Decl) (layout : Layout) where
   named_content [] files all name same e lt o = absurd (omega (arith, lt))
   named_content (w ∷ ins) [] all name same e lt o = absurd (omega (arith, same))
   named_content (w ∷ ins) (b ∷ files) all name same e lt o =
-      let (x, others, first, later, parts) = first_and_others (file_read (content_reader decls layout) w b) (all_read (content_reader decls layout) ins files) all e in
+      let (x, others, first, later, parts) =
+      first_and_others (file_read (content_reader decls layout) w b) (all_read (content_reader decls layout) ins files) all e in
       let read : file_content (kind_of decls w.name) layout b ≡ Ok x = told_content w.name (file_content (kind_of decls w.name) layout b) x first in
       subst (λ l. IsContent (kind_of decls name) (content_named (w ∷ ins) l name)) (sym parts)
       (⊎_elim
@@ -86,7 +87,8 @@ known_more : (d : Decl) (all ds : List Decl) → ((q : Name) → 0 < count q (de
 unfolding kind_if
 known_more d all [] other k = tt
 known_more d all (e ∷ ds) other k =
-    let here : 0 < count e.name (decl_names (e ∷ ds)) = ⊎_elim (λ c. let t = ap one_if c.1 in omega (arith, t)) (λ c. absurd (c.0 refl)) (cases_name e.name e.name) in
+    let here : 0 < count e.name (decl_names (e ∷ ds)) =
+    ⊎_elim (λ c. let t = ap one_if c.1 in omega (arith, t)) (λ c. absurd (c.0 refl)) (cases_name e.name e.name) in
     (ap (kind_if d all e.name) (other e.name here) ∙ k.0, known_more d all ds (λ q lt. other q (omega (arith, lt))) k.1)
 
 known_all : (ds : List Decl) → ((q : Name) → count q (decl_names ds) ≤ 1) → Known (kind_of ds) ds
@@ -94,7 +96,8 @@ unfolding kind_if
 known_all [] apart = tt
 known_all (d ∷ ds) apart =
     let here = ⊎_elim (λ c. ap (kind_if d ds d.name) c.1) (λ c. absurd (c.0 refl)) (cases_name d.name d.name) in
-    let other : (q : Name) → 0 < count q (decl_names ds) → name_eq d.name q ≡ false = λ q lt. ⊎_elim (λ c. absurd (let t = ap one_if c.1 in omega (arith, t, lt, apart q))) (λ c. c.1) (cases_name d.name q) in
+    let other : (q : Name) → 0 < count q (decl_names ds)
+    → name_eq d.name q ≡ false = λ q lt. ⊎_elim (λ c. absurd (let t = ap one_if c.1 in omega (arith, t, lt, apart q))) (λ c. c.1) (cases_name d.name q) in
     (here, known_more d ds ds other (known_all ds (λ q. omega (arith, apart q))))
 
 -- the inputs of a valid plan have names of their own

@@ -32,8 +32,10 @@ pub comes-more : (ins : List InWord) (held : Option Held) (files : List (List �
     → ComesTo ins held (files ++ bytes ∷ []) left
 unfolding fetch_each
 comes-more ins held files w left bytes far one next =
-    let same : after (files ++ bytes ∷ []) next ≡ (λ rest. next (files ++ bytes ∷ rest)) = funext (after (files ++ bytes ∷ []) next) (λ rest. next (files ++ bytes ∷ rest)) (λ rest. ap next (append_assoc files (bytes ∷ []) rest)) in
-    let on = Comes-on (fetch_each ins next) (fetch_each (w ∷ left) (after files next)) (fetch_each left (λ rest. next (files ++ bytes ∷ rest))) held (far next) (one (λ b. fetch_each left (λ rest. next (files ++ b ∷ rest)))) in
+    let same : after (files ++ bytes ∷ []) next ≡ (λ rest. next (files ++ bytes ∷ rest)) =
+    funext (after (files ++ bytes ∷ []) next) (λ rest. next (files ++ bytes ∷ rest)) (λ rest. ap next (append_assoc files (bytes ∷ []) rest)) in
+    let on = Comes-on (fetch_each ins next) (fetch_each (w ∷ left) (after files next)) (fetch_each left (λ rest. next (files ++ bytes ∷ rest))) held (far next)
+    (one (λ b. fetch_each left (λ rest. next (files ++ b ∷ rest)))) in
     subst (λ (k : List (List ℕ) → Order). Comes (fetch_each ins next) held (fetch_each left k)) (sym same) on
 
 -- all files
@@ -49,4 +51,5 @@ pub stops-more : (ins : List InWord) (held : Option Held) (early late : Type 0) 
     → (next : List (List ℕ) → Order) → Stops (Some (fetch_each ins next)) held early s
 unfolding fetch_each
 stops-more ins held early late sooner files w left s far one next =
-    Stops-later (fetch_each ins next) (fetch_each (w ∷ left) (after files next)) held early late sooner s (far next) (one (λ b. fetch_each left (λ rest. next (files ++ b ∷ rest))))
+    Stops-later (fetch_each ins next) (fetch_each (w ∷ left) (after files next)) held early late sooner s (far next)
+    (one (λ b. fetch_each left (λ rest. next (files ++ b ∷ rest))))

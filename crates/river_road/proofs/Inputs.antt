@@ -206,7 +206,8 @@ module _ (decls : List Decl) (ins : List InWord) (layout : Layout) (held : Optio
   pub fetch-stop : (rose : Type 0) (s : Stop) → names_fit decls ins ≡ Ok tt → ((next : List (List ℕ) → Order) → Stops (Some (fetch_each ins next)) held rose s)
       → (next : List Content → Order) → Stops (Some (of_inputs decls ins layout next)) held rose s
   fetch-stop rose s fit stops next =
-      subst (λ (o : Order). Stops (Some o) held rose s) (sym (past_names next fit)) (stops (λ files. past (all_read reader ins files) (λ all. next (contents_in_order decls ins all))))
+      subst (λ (o : Order). Stops (Some o) held rose s) (sym (past_names next fit))
+      (stops (λ files. past (all_read reader ins files) (λ all. next (contents_in_order decls ins all))))
 
   -- the files are read
   read_passes : (rose : Type 0) (files : List (List ℕ)) (result : Result (List Content) Stop)
@@ -226,6 +227,10 @@ module _ (decls : List Decl) (ins : List InWord) (layout : Layout) (held : Optio
       → ((next : List (List ℕ) → Order) → Comes (fetch_each ins next) held (next files))
       → AnswersAs (λ all rows. rows ≡ contents_in_order decls ins all) (all_read reader ins files) result → Passes (of_inputs decls ins layout) held rose result
   files-pass rose files (Ok rows) fit far told = λ next.
-      subst (λ (o : Order). Comes o held (next rows)) (sym (past_names next fit)) (then-passes (fetch_each ins) (λ f next. past (all_read reader ins f) (λ all. next (contents_in_order decls ins all))) held rose rose (λ r. r) files (Ok rows) far (read_passes rose files (Ok rows) told) next)
+      subst (λ (o : Order). Comes o held (next rows)) (sym (past_names next fit))
+      (then-passes (fetch_each ins) (λ f next. past (all_read reader ins f) (λ all. next (contents_in_order decls ins all))) held rose rose (λ r. r) files
+      (Ok rows) far (read_passes rose files (Ok rows) told) next)
   files-pass rose files (Err s) fit far told = λ next.
-      subst (λ (o : Order). Stops (Some o) held rose s) (sym (past_names next fit)) (then-passes (fetch_each ins) (λ f next. past (all_read reader ins f) (λ all. next (contents_in_order decls ins all))) held rose rose (λ r. r) files (Err s) far (read_passes rose files (Err s) told) next)
+      subst (λ (o : Order). Stops (Some o) held rose s) (sym (past_names next fit))
+      (then-passes (fetch_each ins) (λ f next. past (all_read reader ins f) (λ all. next (contents_in_order decls ins all))) held rose rose (λ r. r) files
+      (Err s) far (read_passes rose files (Err s) told) next)

@@ -20,7 +20,8 @@ use Rattle.river_base.specs.declared.memory.NoMemory.{NoMemory}
 pub mean-printed : (source : SourceProgram) (p : PlanForm) (all : List Content) (o : Outcome) → IsPlanOf source p → GivesResults o (source.means all)
     → printed_outcome p o.outs (map rows_of o.tables) (asked_counts false o.counts) ≡ printed source false all
 mean-printed source p all o is gives = λ i.
-    outputs_text (is.outputs i) (gives.outs i) ++ (tables_text (is.tables i) (gives.tables i) ++ firings_text (labels (is.plan i).ops) (asked_counts false o.counts))
+    outputs_text (is.outputs i) (gives.outs i) ++
+    (tables_text (is.tables i) (gives.tables i) ++ firings_text (labels (is.plan i).ops) (asked_counts false o.counts))
 
 -- what is printed is what the program means
 pub mean-says : {P : Type 0} (stands : SourceProgram → P → Type 0) (c : Compiled P) (all : List Content) (o : Outcome) (result : Result (List ℕ) NoMemory)

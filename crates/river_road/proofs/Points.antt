@@ -1,5 +1,5 @@
 -- The points of what a command does, and the calls that do them.
-use Rattle.std.proofs.Common.{◌≡◌, ℕ, List, ◌++◌, Bool, false, refl, sym, ◌∙◌, subst}
+use Rattle.std.proofs.Common.{◌≡◌, ℕ, List, Bool, false, refl, sym, subst}
 use Rattle.std.specs.Prelude.{Option, Some, Result, Ok, Err}
 use Rattle.river_outside.specs.Held.{Held}
 use Rattle.river_order.specs.Order.{Order, Fetch, Comes}
@@ -26,23 +26,31 @@ use Rattle.river_road.specs.declared.layout.Layout.{Layout}
 use Rattle.river_road.proofs.Scripts.{as_passed}
 
 -- a point whose value stands for something, and the points after it
-pub as-then : {A B C : Type 0} (stands : A → B → Type 0) (first : (A → Order) → Order) (second : A → (C → Order) → Order) (held : Option Held) (mid early late : Type 0)
+pub as-then : {A B C : Type 0} (stands : A → B → Type 0) (first : (A → Order) → Order) (second : A → (C → Order) → Order) (held : Option Held)
+    (mid early late : Type 0)
     → (late → early) → (y : B) (result : Result C Stop) → PassesAs stands first held mid (Ok y) → ((x : A) → stands x y → Passes (second x) held late result)
     → Passes (λ next. first (λ x. second x next)) held early result
-as-then stands first second held mid early late sooner y result here later = then-passes first second held early late sooner here.0 result here.2 (later here.0 here.1)
+as-then stands first second held mid early late sooner y result here later =
+    then-passes first second held early late sooner here.0 result here.2 (later here.0 here.1)
 
 -- THE PROGRAM
 
 module _ (source_of : List ℕ → Result SourceProgram (List ℕ)) (file text : List ℕ) (held : Option Held) (rose : Type 0) where
   -- it was fetched, and compiled or refused
-  pub program-passes : {C : Type 0} (stands : SourceProgram → C → Type 0) (result : Result C Stop) → ((next : List ℕ → Order) → Comes (Fetch file most_program large_program next) held (next text))
+  pub program-passes : {C : Type 0} (stands : SourceProgram → C → Type 0) (result : Result C Stop)
+      → ((next : List ℕ → Order) → Comes (Fetch file most_program large_program next) held (next text))
       → AnswersAs stands (source_of text) result → PassesAs stands (of_program source_of file) held rose result
   unfolding of_program
   program-passes stands (Ok c) here told =
-      let s = as_passed stands (source_of text) c held told in
-      (s.0, s.1, λ next. Comes-on (Fetch file most_program large_program (λ t. past (source_of t) next)) (past (source_of text) next) (next s.0) held (here (λ t. past (source_of t) next)) (s.2 next))
+      let s = as_passed stands (source_of text) c held told in (
+        s.0,
+        s.1,
+        λ next. Comes-on (Fetch file most_program large_program (λ t. past (source_of t) next)) (past (source_of text) next) (next s.0) held
+            (here (λ t. past (source_of t) next)) (s.2 next),
+      )
   program-passes stands (Err s) here told = λ next.
-      Stops-later (Fetch file most_program large_program (λ t. past (source_of t) next)) (past (source_of text) next) held rose rose (λ r. r) s (here (λ t. past (source_of t) next))
+      Stops-later (Fetch file most_program large_program (λ t. past (source_of t) next)) (past (source_of text) next) held rose rose (λ r. r) s
+      (here (λ t. past (source_of t) next))
       (past-refused (source_of text) s held rose told next)
 
   -- it cannot be fetched
@@ -54,12 +62,14 @@ module _ (source_of : List ℕ → Result SourceProgram (List ℕ)) (file text :
 -- THE COMMANDS
 
 -- a text that was found is handed on
-pub text-passes : (a b : List ℕ) (held : Option Held) (rose : Type 0) (result : Result (List ℕ) Stop) → a ≡ b → Answers (Ok a) result → Passes (λ next. next b) held rose result
+pub text-passes : (a b : List ℕ) (held : Option Held) (rose : Type 0) (result : Result (List ℕ) Stop) → a ≡ b → Answers (Ok a) result
+    → Passes (λ next. next b) held rose result
 text-passes a b held rose result same told = past-passes (Ok b) result held rose (subst (λ (t : List ℕ). Answers (Ok t) result) same told)
 
 module _ (source_of : List ℕ → Result SourceProgram (List ℕ)) (file : List ℕ) (held : Option Held) where
   -- `plan` stops where its program does
-  pub show-first : (script : Option (List ℕ)) (rose : Type 0) (s : Stop) → ((next : SourceProgram → Order) → Stops (Some (of_program source_of file next)) held rose s)
+  pub show-first : (script : Option (List ℕ)) (rose : Type 0) (s : Stop)
+      → ((next : SourceProgram → Order) → Stops (Some (of_program source_of file next)) held rose s)
       → (next : List ℕ → Order) → Stops (Some (of_show source_of file script next)) held rose s
   unfolding of_show
   show-first script rose s stops next = stops (λ source. of_scripted_show script source next)
@@ -72,23 +82,29 @@ module _ (source_of : List ℕ → Result SourceProgram (List ℕ)) (file : List
 
   module _ {P : Type 0} (stands : SourceProgram → P → Type 0) (c : Compiled P) (result : Result (List ℕ) Stop) where
     -- the program of `plan` was compiled
-    pub show-last : (script : Option (List ℕ)) (mid early late : Type 0) → (late → early) → PassesAs (IsCompiled stands) (of_program source_of file) held mid (Ok c)
+    pub show-last : (script : Option (List ℕ)) (mid early late : Type 0) → (late → early)
+        → PassesAs (IsCompiled stands) (of_program source_of file) held mid (Ok c)
         → ((source : SourceProgram) → IsPlanned c.caps source c.plan → Passes (of_scripted_show script source) held late result)
         → Passes (of_show source_of file script) held early result
     unfolding of_show
     show-last script mid early late sooner here shows =
-        as-then (IsCompiled stands) (of_program source_of file) (of_scripted_show script) held mid early late sooner c result here (λ source is. shows source is.planned)
+        as-then (IsCompiled stands) (of_program source_of file) (of_scripted_show script) held mid early late sooner c result here
+        (λ source is. shows source is.planned)
 
     -- that of `upgrade` was
     pub upgrade-last : (rose : Type 0) → PassesAs (IsCompiled stands) (of_program source_of file) held rose (Ok c)
         → Answers (Ok (plan_text (first_cap c.caps) c.plan)) result → Passes (of_upgrade source_of file) held rose result
     unfolding of_upgrade
     upgrade-last rose here told =
-        as-then (IsCompiled stands) (of_program source_of file) (λ (source : SourceProgram) (next : List ℕ → Order). next (plan_text (first_cap source.caps) source.plan)) held rose rose rose (λ r. r) c result here (λ source is.
-        text-passes (plan_text (first_cap c.caps) c.plan) (plan_text (first_cap source.caps) source.plan) held rose result (λ i. plan_text (first_cap (is.planned.caps_are i)) (is.planned.plan.plan i)) told)
+        as-then (IsCompiled stands) (of_program source_of file)
+        (λ (source : SourceProgram) (next : List ℕ → Order). next (plan_text (first_cap source.caps) source.plan)) held rose rose rose (λ r. r) c result here
+        (λ source is.
+        text-passes (plan_text (first_cap c.caps) c.plan) (plan_text (first_cap source.caps) source.plan) held rose result
+        (λ i. plan_text (first_cap (is.planned.caps_are i)) (is.planned.plan.plan i)) told)
 
 -- a plan is shown in place of that of the program
-pub shown-passes : (caps : List Cap) (source : SourceProgram) (plan : PlanForm) (held : Option Held) (rose : Type 0) (result : Result (List ℕ) Stop) → IsPlanned caps source plan
+pub shown-passes : (caps : List Cap) (source : SourceProgram) (plan : PlanForm) (held : Option Held) (rose : Type 0) (result : Result (List ℕ) Stop)
+    → IsPlanned caps source plan
     → Answers (Ok (plan_as_shown caps plan)) result → Passes (of_shown source) held rose result
 shown-passes caps source plan held rose result is told =
     text-passes (plan_as_shown caps plan) (plan_as_shown source.caps source.plan) held rose result (λ i. plan_as_shown (is.caps_are i) (is.plan.plan i)) told
@@ -109,7 +125,8 @@ module _ (source_of : List ℕ → Result SourceProgram (List ℕ)) (more : Bool
   mean-last stands mid early late sooner c result here over =
       as-then stands (of_program source_of file) (of_inputs_run ins (layout_of more header) false) held mid early late sooner c result here over
 
-module _ (ins : List InWord) (layout : Layout) (counted : Bool) (source : SourceProgram) (plan : PlanForm) (held : Option Held) (is : IsPlanOf source plan) where
+module _ (ins : List InWord) (layout : Layout) (counted : Bool) (source : SourceProgram) (plan : PlanForm) (held : Option Held)
+    (is : IsPlanOf source plan) where
   abbrev from_inputs : (List ℕ → Order) → Order
   from_inputs next = of_inputs source.inputs ins layout (λ rows. next (printed source counted rows))
 
@@ -121,7 +138,8 @@ module _ (ins : List InWord) (layout : Layout) (counted : Bool) (source : Source
   pub run-stops : (rose : Type 0) (s : Stop) → ((next : List Content → Order) → Stops (Some (of_inputs plan.inputs ins layout next)) held rose s)
       → (next : List ℕ → Order) → Stops (Some (of_inputs_run ins layout counted source next)) held rose s
   run-stops rose s stops next =
-      let here = subst (λ d. Stops (Some (of_inputs d ins layout (λ rows. next (printed source counted rows)))) held rose s) is.inputs (stops (λ rows. next (printed source counted rows))) in
+      let here = subst (λ d. Stops (Some (of_inputs d ins layout (λ rows. next (printed source counted rows)))) held rose s) is.inputs
+      (stops (λ rows. next (printed source counted rows))) in
       subst (λ o. Stops (Some o) held rose s) (sym (run_is next)) here
 
   -- it is run
@@ -129,6 +147,7 @@ module _ (ins : List InWord) (layout : Layout) (counted : Bool) (source : Source
       → ((next : List Content → Order) → Comes (of_inputs plan.inputs ins layout next) held (next all))
       → text ≡ printed source counted all → (next : List ℕ → Order) → Comes (of_inputs_run ins layout counted source next) held (next text)
   run-comes all text comes says next =
-      let here = subst (λ d. Comes (of_inputs d ins layout (λ rows. next (printed source counted rows))) held (next (printed source counted all))) is.inputs (comes (λ rows. next (printed source counted rows))) in
+      let here = subst (λ d. Comes (of_inputs d ins layout (λ rows. next (printed source counted rows))) held (next (printed source counted all))) is.inputs
+      (comes (λ rows. next (printed source counted rows))) in
       let there = subst (λ t. Comes (from_inputs next) held (next t)) (sym says) here in
       subst (λ o. Comes o held (next text)) (sym (run_is next)) there

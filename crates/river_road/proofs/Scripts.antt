@@ -24,7 +24,8 @@ use Rattle.river_road.specs.Text.{large_script}
 use Rattle.river_road.proofs.Items.{contents-typed}
 
 -- the plan that a script makes means what the program means
-pub made-stands : (caps : List Cap) (source : SourceProgram) (p made : PlanForm) (text : List ℕ) → IsPlan p → IsPlanned caps source p → rewritten p text ≡ Ok made
+pub made-stands : (caps : List Cap) (source : SourceProgram) (p made : PlanForm) (text : List ℕ) → IsPlan p → IsPlanned caps source p
+    → rewritten p text ≡ Ok made
     → StandsFor (IsPlanned caps) (with_plan source (rewritten source.plan text)) made
 made-stands caps source p made text v of e =
     let h = (makes_what_it_has p text (Ok made)).0 e in
@@ -56,20 +57,29 @@ module _ (caps : List Cap) (file : List ℕ) (source : SourceProgram) (text : Li
       → (later : SourceProgram) × IsPlanned caps later plan × ((next : SourceProgram → Order) → Comes (of_script (Some file) source next) held (next later))
   unfolding of_script
   script-comes plan here told =
-      let s = as_passed (IsPlanned caps) (with_plan source (rewritten source.plan text)) plan held told in
-      (s.0, s.1, λ next. Comes-on (Fetch file most_script large_script (λ t. past (with_plan source (rewritten source.plan t)) next)) (past (with_plan source (rewritten source.plan text)) next) (next s.0) held (here (λ t. past (with_plan source (rewritten source.plan t)) next)) (s.2 next))
+      let s = as_passed (IsPlanned caps) (with_plan source (rewritten source.plan text)) plan held told in (
+        s.0,
+        s.1,
+        λ next. Comes-on (Fetch file most_script large_script (λ t. past (with_plan source (rewritten source.plan t)) next))
+            (past (with_plan source (rewritten source.plan text)) next) (next s.0) held (here (λ t. past (with_plan source (rewritten source.plan t)) next))
+            (s.2 next),
+      )
 
   -- it is refused
   pub script-refused : (early late : Type 0) → (late → early) → (s : Stop)
-      → ((next : List ℕ → Order) → Comes (Fetch file most_script large_script next) held (next text)) → RefusesPoint (with_plan source (rewritten source.plan text)) s
+      → ((next : List ℕ → Order) → Comes (Fetch file most_script large_script next) held (next text))
+      → RefusesPoint (with_plan source (rewritten source.plan text)) s
       → (next : SourceProgram → Order) → Stops (Some (of_script (Some file) source next)) held early s
   unfolding of_script
   script-refused early late sooner s here told next =
-      Stops-later (Fetch file most_script large_script (λ t. past (with_plan source (rewritten source.plan t)) next)) (past (with_plan source (rewritten source.plan text)) next) held early late sooner s (here (λ t. past (with_plan source (rewritten source.plan t)) next))
+      Stops-later (Fetch file most_script large_script (λ t. past (with_plan source (rewritten source.plan t)) next))
+      (past (with_plan source (rewritten source.plan text)) next) held early late sooner s
+      (here (λ t. past (with_plan source (rewritten source.plan t)) next))
       (past-refused (with_plan source (rewritten source.plan text)) s held late told next)
 
   -- it was fetched, and applied or refused
-  pub script-passes : (rose : Type 0) (result : Result PlanForm Stop) → ((next : List ℕ → Order) → Comes (Fetch file most_script large_script next) held (next text))
+  pub script-passes : (rose : Type 0) (result : Result PlanForm Stop)
+      → ((next : List ℕ → Order) → Comes (Fetch file most_script large_script next) held (next text))
       → AnswersAs (IsPlanned caps) (with_plan source (rewritten source.plan text)) result
       → PassesAs (IsPlanned caps) (of_script (Some file) source) held rose result
   script-passes rose (Ok plan) here told = script-comes plan here told
@@ -83,7 +93,8 @@ unfolding of_script
 fetch-stops file source held rose s stops next = stops (λ t. past (with_plan source (rewritten source.plan t)) next)
 
 -- there is none, so that what comes after it comes at once
-pub none-passes : {C : Type 0} (second : SourceProgram → (C → Order) → Order) (source : SourceProgram) (held : Option Held) (rose : Type 0) (result : Result C Stop)
+pub none-passes : {C : Type 0} (second : SourceProgram → (C → Order) → Order) (source : SourceProgram) (held : Option Held) (rose : Type 0)
+    (result : Result C Stop)
     → Passes (second source) held rose result → Passes (λ next. of_script None source (λ later. second later next)) held rose result
 unfolding of_script
 none-passes second source held rose (Ok x) passed = passed

@@ -47,7 +47,8 @@ in_a_row = record {
   ops = made (codes "a") negated (codes "in" ∷ []) (codes "q" ∷ []) [] ∷ made (codes "b") one_more (codes "q" ∷ []) (codes "out" ∷ []) [] ∷ [];
 }
 
-row_fused : script_of in_a_row (fusing (codes "q") ∷ []) ≡ Ok (record in_a_row { queues = []; ops = made (codes "a") (fused negated one_more 0) (codes "in" ∷ []) (codes "out" ∷ []) [] ∷ [] })
+row_fused : script_of in_a_row (fusing (codes "q") ∷ []) ≡ Ok
+    (record in_a_row { queues = []; ops = made (codes "a") (fused negated one_more 0) (codes "in" ∷ []) (codes "out" ∷ []) [] ∷ [] })
 row_fused = refl
 
 no_queue : script_of in_a_row (fusing (codes "z") ∷ []) ≡ Err (1, U1)
@@ -64,7 +65,12 @@ second_step = refl
 
 abbrev map_kernel : Kern
 map_kernel =
-    code (record { body = record { inputs = 2; slots = 0; steps = Then (Push 0 (Const (pos 1) ∷ [])) (Then (Push 1 (Input 0 ∷ Input 1 ∷ [])) Done) }; outs = pos 1 ∷ pos 2 ∷ []; starts = [] })
+    code (record {
+      body = record { inputs = 2; slots = 0; steps = Then (Push 0 (Const (pos 1) ∷ [])) (Then (Push 1 (Input 0 ∷ Input 1 ∷ [])) Done) };
+      outs =
+          pos 1 ∷ pos 2 ∷ [];
+      starts = [];
+    })
 
 abbrev counted : PlanForm
 counted = record {
@@ -143,7 +149,16 @@ summed = record {
   tables = [];
   vars = codes "Sum@1" ∷ [];
   ops =
-      made (codes "Sum@1") (filter (record { peek = 3; pop = 1; push = 1; body = record { inputs = 3; slots = 0; steps = Then (Push 0 (Bin op.Add (Bin op.Add (Input 0) (Input 1)) (Input 2) ∷ [])) Done }; starts = []; first = None }))
+      made (codes "Sum@1")
+      (filter (record {
+        peek = 3;
+        pop = 1;
+        push = 1;
+        body =
+            record { inputs = 3; slots = 0; steps = Then (Push 0 (Bin op.Add (Bin op.Add (Input 0) (Input 1)) (Input 2) ∷ [])) Done };
+        starts = [];
+        first = None;
+      }))
       (codes "in" ∷ []) (codes "out" ∷ []) (codes "Sum@1" ∷ []) ∷ [];
 }
 

@@ -12,7 +12,8 @@ use Rattle.river_script.specs.Judged.{StepFails, StepMakes, Accepts, StepsLeadTo
 use Rattle.river_script.specs.Script.{StepForm, fusing, hoisting, splitting, after_step, then_all, script_from}
 use Rattle.river_script.proofs.Steps.{step_keeps}
 
-step_judged : (p : PlanForm) (s : StepForm) (made : Result PlanForm Unfit) → IsPlan p → (after_step p s ≡ made) ↔ IsJudgedBy (StepFails p s) (StepMakes p s) made
+step_judged : (p : PlanForm) (s : StepForm) (made : Result PlanForm Unfit) → IsPlan p
+    → (after_step p s ≡ made) ↔ IsJudgedBy (StepFails p s) (StepMakes p s) made
 step_judged p (fusing q) made v = fusion_is_judged p q made v
 step_judged p (hoisting l) made v = hoisting_is_judged p l made v
 step_judged p (splitting l n) made v = fission_is_judged p l n made v

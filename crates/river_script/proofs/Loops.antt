@@ -28,7 +28,8 @@ past_end (x ∷ xs) zero ge = absurd (omega (arith, ge))
 past_end (x ∷ xs) (suc i) ge = past_end xs i (omega (arith, ge))
 
 one_step : (p : PlanForm) (steps : List Step) (i : ℕ) (now : PlanForm) (s : Step) → i < length steps → s ≡ get_or steps i s → SoFar p steps i now
-    → script_of p (map step_form steps) ≡ then_all (i + 1) (after_step now (step_form s)) (λ q. script_from (suc (i + 1)) q (map step_form (drop (i + 1) steps)))
+    → script_of p (map step_form steps) ≡ then_all (i + 1) (after_step now (step_form s))
+    (λ q. script_from (suc (i + 1)) q (map step_form (drop (i + 1) steps)))
 one_step p steps i now s lt e h = h ∙ ap (λ l. script_from (i + 1) now (map step_form l)) (drop_here steps i s lt e)
 
 -- one step more
@@ -36,7 +37,8 @@ pub script_next : (p : PlanForm) (steps : List Step) (i : ℕ) (now next : PlanF
     → after_step now (step_form s) ≡ Ok next → SoFar p steps (i + 1) next
 script_next p steps i now next s lt e h k =
     let n : suc (i + 1) ≡ i + 1 + 1 = omega arith in
-    one_step p steps i now s lt e h ∙ ap (λ r. then_all (i + 1) r (λ q. script_from (suc (i + 1)) q (map step_form (drop (i + 1) steps)))) k ∙ ap (λ m. script_from m next (map step_form (drop (i + 1) steps))) n
+    one_step p steps i now s lt e h ∙ ap (λ r. then_all (i + 1) r (λ q. script_from (suc (i + 1)) q (map step_form (drop (i + 1) steps)))) k
+    ∙ ap (λ m. script_from m next (map step_form (drop (i + 1) steps))) n
 
 -- no step is left
 pub script_end : (p : PlanForm) (steps : List Step) (i : ℕ) (now : PlanForm) → length steps ≤ i → SoFar p steps i now

@@ -96,7 +96,12 @@ script-few ss units e = let k = steps-many 1 [] ss units e in omega (arith, k)
 pub script-read : (text : List ℕ) (marks : List Mark) (ss : List StepForm) → tokens_in text ≡ Ok marks → read_steps 1 [] (units_of (toks marks)) ≡ Ok ss
     → IsScript text ss
 script-read text marks ss lexed read =
-    record { marks = marks; lexed = lexed; formed = all-formed tt go_on exact-in tt 1 (units_of (toks marks)) ss (sym (units-read (units_of (toks marks))) ∙ read) }
+    record {
+      marks = marks;
+      lexed = lexed;
+      formed =
+          all-formed tt go_on exact-in tt 1 (units_of (toks marks)) ss (sym (units-read (units_of (toks marks))) ∙ read);
+    }
 
 -- the unit that is told is the first that is no step
 pub script-bad : (text : List ℕ) (marks : List Mark) (m : ℕ) → tokens_in text ≡ Ok marks → read_steps 1 [] (units_of (toks marks)) ≡ Err m → IsBadAt text m
@@ -115,6 +120,7 @@ same_marks text ms ns e f = same (sym e ∙ f) where
 -- a text stands for one script at most
 pub one_script : OneScript
 one_script text ss ts t u =
-    same (sym (script-reads text ss t) ∙ ap (λ (ms : List Mark). read_steps 1 [] (units_of (toks ms))) (same_marks text t.marks u.marks t.lexed u.lexed) ∙ script-reads text ts u) where
+    same (sym (script-reads text ss t) ∙ ap (λ (ms : List Mark). read_steps 1 [] (units_of (toks ms))) (same_marks text t.marks u.marks t.lexed u.lexed)
+    ∙ script-reads text ts u) where
       same : ◌≡◌ {A = Result (List StepForm) ℕ} (Ok ss) (Ok ts) → ss ≡ ts
       same e = cc

@@ -10,7 +10,8 @@ use Rattle.river_script.specs.Script.{StepForm}
 use Rattle.river_script.specs.Reading.{step_at, with_step, read_steps}
 
 at : (n : ℕ) (done : List StepForm) (parts : List (Bor (List Lexeme))) (i : ℕ) (d : Bor (List Lexeme)) → i < length parts
-    → read_steps n done (map unit_tokens (drop i parts)) ≡ with_step n (λ e. read_steps (n + 1) (done ++ e ∷ []) (map unit_tokens (drop (i + 1) parts))) (whole step_at (unit_tokens (get_or parts i d)))
+    → read_steps n done (map unit_tokens (drop i parts)) ≡ with_step n (λ e. read_steps (n + 1) (done ++ e ∷ []) (map unit_tokens (drop (i + 1) parts)))
+    (whole step_at (unit_tokens (get_or parts i d)))
 unfolding read_steps
 at n done parts i d h = ap (λ (l : List (Bor (List Lexeme))). read_steps n done (map unit_tokens l)) (drop_more parts i d h)
 

@@ -13,7 +13,8 @@ pub braced-at : (n : ℕ) (ts : List Tok)
 unfolding braced_at kernel_at parse.open_at
 braced-at zero ts = refl
 braced-at (suc n) ts =
-    ap (λ (k : ℕ). parse.then_rest (parse.symbols_at (s.OpenBrace ∷ []) ts) (parse.before (parse.headed (kernel_after (braced_at k) k)) (s.CloseBrace ∷ []))) (sym (less-one n))
+    ap (λ (k : ℕ). parse.then_rest (parse.symbols_at (s.OpenBrace ∷ []) ts) (parse.before (parse.headed (kernel_after (braced_at k) k)) (s.CloseBrace ∷ [])))
+    (sym (less-one n))
 
 pub braced-none : (ts : List Tok) → braced_at 0 ts ≡ None
 unfolding braced_at

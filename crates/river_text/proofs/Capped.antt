@@ -1,5 +1,5 @@
 -- The capacities that a text gives are in their bounds.
-use Rattle.std.proofs.Common.{◌≡◌, ℕ, ◌≤◌, Bool, true, false, List, [], ◌∷◌, ◌++◌, Option, Some, None, refl, sym, subst, arith}
+use Rattle.std.proofs.Common.{◌≡◌, ℕ, Bool, true, false, List, [], ◌∷◌, Option, Some, None, refl, sym, subst, arith}
 use Rattle.std.specs.Prelude.{nat_le, ◌&&◌}
 use Rattle.std.proofs.lemmas.List.Elements.{All-nil, All-cons, All-append}
 use Rattle.std.proofs.lemmas.Bool.{and_parts}
@@ -32,7 +32,8 @@ more at t header h all = all
 more at t (output d) h all = all
 more at t (input d) h all = all
 more at t (inner q) h all =
-    All-append (λ (c : Cap). IsCap c.most) t.caps (cap_of q.decl.name q.most) all (one at.headed q.decl.name q.most (and_parts (nat_le at.stage 3) (cap_stands at.headed q.most) h).1)
+    All-append (λ (c : Cap). IsCap c.most) t.caps (cap_of q.decl.name q.most) all
+    (one at.headed q.decl.name q.most (and_parts (nat_le at.stage 3) (cap_stands at.headed q.most) h).1)
 more at t (table d) h all = all
 more at t (private v) h all = all
 more at t (operator o) h all = all
@@ -46,4 +47,5 @@ all_fit at t (e ∷ es) (u ∷ us) h all = all_fit (next_place at e) (add_entry 
 -- the law
 pub caps_fit : CapsFit
 caps_fit text t is =
-    subst (λ (x : TextForm). AreCaps x.caps) (sym is.is) (all_fit (first_place is.marks) empty_text is.entries _ is.formed (All-nil (λ (c : Cap). IsCap c.most)))
+    subst (λ (x : TextForm). AreCaps x.caps) (sym is.is)
+    (all_fit (first_place is.marks) empty_text is.entries _ is.formed (All-nil (λ (c : Cap). IsCap c.most)))

@@ -43,7 +43,8 @@ pub bad-means : (text : List ℕ) (unit : ℕ) → IsBadAt text unit → plan_in
 unfolding plan_in
 bad-means text unit b =
     let units = units_of (toks b.marks) in
-    let read : lists b.marks ≡ Err unit = plan-read (first_place b.marks) 1 empty_text units ∙ ap (added empty_text) (bad-read tt next_place exact-unit_from (first_place b.marks) units unit b.first) in
+    let read : lists b.marks ≡ Err unit = plan-read (first_place b.marks) 1 empty_text units
+    ∙ ap (added empty_text) (bad-read tt next_place exact-unit_from (first_place b.marks) units unit b.first) in
     ap then_read b.lexed ∙ ap then_checked read
 
 -- one with a fault of its bytes means this fault

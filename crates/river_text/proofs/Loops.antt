@@ -11,7 +11,9 @@ use Rattle.river_text.specs.declared.entry.Place.{Place}
 use Rattle.river_text.specs.ReadPlans.{unit_from, with_entry, read_plan}
 
 step : (place : Place) (n : ℕ) (t : TextForm) (parts : List (Bor (List Lexeme))) (i : ℕ) (d : Bor (List Lexeme)) → i < length parts
-    → read_plan place n t (map unit_tokens (drop i parts)) ≡ with_entry n (λ e. read_plan (next_place place e) (n + 1) (add_entry t e) (map unit_tokens (drop (i + 1) parts))) (whole (unit_from place) (unit_tokens (get_or parts i d)))
+    → read_plan place n t (map unit_tokens (drop i parts)) ≡ with_entry n
+    (λ e. read_plan (next_place place e) (n + 1) (add_entry t e) (map unit_tokens (drop (i + 1) parts)))
+    (whole (unit_from place) (unit_tokens (get_or parts i d)))
 unfolding read_plan
 step place n t parts i d h = ap (λ (l : List (Bor (List Lexeme))). read_plan place n t (map unit_tokens l)) (drop_more parts i d h)
 
@@ -20,7 +22,8 @@ pub plan-next : (place : Place) (n : ℕ) (t : TextForm) (parts : List (Bor (Lis
     → whole (unit_from place) (unit_tokens (get_or parts i d)) ≡ Some e
     → read_plan (next_place place e) (n + 1) (add_entry t e) (map unit_tokens (drop (i + 1) parts)) ≡ read_plan place n t (map unit_tokens (drop i parts))
 plan-next place n t parts i d e h read =
-    sym (step place n t parts i d h ∙ ap (with_entry n (λ f. read_plan (next_place place f) (n + 1) (add_entry t f) (map unit_tokens (drop (i + 1) parts)))) read)
+    sym (step place n t parts i d h
+    ∙ ap (with_entry n (λ f. read_plan (next_place place f) (n + 1) (add_entry t f) (map unit_tokens (drop (i + 1) parts)))) read)
 
 -- a unit that is none is told by its number
 pub plan-bad : (place : Place) (n : ℕ) (t : TextForm) (parts : List (Bor (List Lexeme))) (i : ℕ) (d : Bor (List Lexeme)) → i < length parts

@@ -35,6 +35,7 @@ rates-same ts = simp (read-read, read-rest)
 
 -- an operator, part by part or as a whole
 pub op-same : (ts : List Tok) → op_at ts
-    ≡ seen made_op (tested same_vars (both river_name_at (after (s.Colon ∷ []) (both ports_at (after (s.Less ∷ s.Minus ∷ []) (both ports_at (braced_at brackets))))))) ts
+    ≡ seen made_op (tested same_vars
+    (both river_name_at (after (s.Colon ∷ []) (both ports_at (after (s.Less ∷ s.Minus ∷ []) (both ports_at (braced_at brackets))))))) ts
 unfolding op_at op_from_at
 op-same ts = simp (read-read, read-rest, read-if, given-if)

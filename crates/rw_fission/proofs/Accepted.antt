@@ -181,7 +181,13 @@ adds_is p op m source t w [] (v ∷ vs) r ki ew ev h = ⊎_elim
     (λ a.
     record {
       may =
-          record { reads = r; writes = ew; kind_in = ki; tables = subst (λ ys. (x : Name) → 0 < count x ys → 0 < count x (table_names p.tables)) (sym ev) (each_table (table_names p.tables) (v ∷ vs) a) };
+          record {
+            reads = r;
+            writes = ew;
+            kind_in = ki;
+            tables =
+                subst (λ ys. (x : Name) → 0 < count x ys → 0 < count x (table_names p.tables)) (sym ev) (each_table (table_names p.tables) (v ∷ vs) a);
+          };
       is = sym (some_is _ _ (sym (ap (λ c. if c then Some (by_adds p op m) else None) a) ∙ h));
     })
     (λ a. absurd (no_some w (sym (ap (λ c. if c then Some (by_adds p op m) else None) a) ∙ h)))
@@ -194,7 +200,8 @@ pub record IsWay (p : PlanForm) (op : OpForm) (m : FissionNames) (n : ℕ) (sour
   pub kind : kind_of (all_decls p) source ≡ Flat type
   pub one : IsPacks p op m n source type w ⊎ (IsBlocks p op m n source w ⊎ IsAdds p op m source type w)
 
-way_by : (p : PlanForm) (op : OpForm) (m : FissionNames) (n : ℕ) (source : Name) (w : Way) (k : QueueType) → op.reads ≡ source ∷ [] → kind_of (all_decls p) source ≡ k
+way_by : (p : PlanForm) (op : OpForm) (m : FissionNames) (n : ℕ) (source : Name) (w : Way) (k : QueueType) → op.reads ≡ source ∷ []
+    → kind_of (all_decls p) source ≡ k
     → way_of p op m n k ≡ Some w → IsWay p op m n source w
 way_by p op m n source w (Pack t) r e h = absurd (no_some w h)
 way_by p op m n source w (Flat t) r e h = record {

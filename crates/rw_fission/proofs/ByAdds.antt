@@ -50,7 +50,8 @@ module _ (p : PlanForm) (l : Name) (op : OpForm) (m : FissionNames) (n : ℕ) (s
 
   fit : Fits op.kernel (Flat t ∷ []) [] (map var op.vars)
   fit =
-      let h : IsFit p op = it_is p.ops _ op (split_ops op m n w) (swap_of l p.ops op (split_ops op m n w) (found (named_it l) p.ops op here)) (IsFit p) v.fits in
+      let h : IsFit p op =
+      it_is p.ops _ op (split_ops op m n w) (swap_of l p.ops op (split_ops op m n w) (found (named_it l) p.ops op here)) (IsFit p) v.fits in
       let a = ap (map (kind_of (all_decls p))) y.reads ∙ ap (λ k. k ∷ []) y.kind_in in
       let b = ap (map (kind_of (all_decls p))) y.writes in
       subst (λ ts. Fits op.kernel (Flat t ∷ []) ts (map var op.vars)) b
@@ -67,13 +68,17 @@ module _ (p : PlanForm) (l : Name) (op : OpForm) (m : FissionNames) (n : ℕ) (s
 
   t_sized : is_sized t ≡ true
   t_sized =
-      subst (λ k. IsTrue (is_width (type_width k))) y.kind_in (named_sized p v source (v.reads_declared source (let a = at_most_all l (reads_it source) p.ops op here in let b = ap (count source) y.reads in let c = count_here source [] in omega (arith, a, b, c))))
+      subst (λ k. IsTrue (is_width (type_width k))) y.kind_in
+      (named_sized p v source
+      (v.reads_declared source
+      (let a = at_most_all l (reads_it source) p.ops op here in let b = ap (count source) y.reads in let c = count_here source [] in omega (arith, a, b, c))))
 
   abbrev tabs : List Name
   tabs = tables_of (table_names p.tables) op
 
   same_adds : (xs : List item.Item) (x : Name) (test : List ℤ → Bool)
-      → sum_below n (λ i. count_by test (joined tabs (feed (fire op.kernel 0) (dealt_to n 1 xs i) (first_kept op.kernel)).adds x)) ≡ count_by test (joined tabs (feed (fire op.kernel 0) xs (first_kept op.kernel)).adds x)
+      → sum_below n (λ i. count_by test (joined tabs (feed (fire op.kernel 0) (dealt_to n 1 xs i) (first_kept op.kernel)).adds x)) ≡ count_by test
+      (joined tabs (feed (fire op.kernel 0) xs (first_kept op.kernel)).adds x)
   same_adds xs x test =
       let k = op.kernel in
       let one = one_adds k tabs x test in
@@ -81,7 +86,8 @@ module _ (p : PlanForm) (l : Name) (op : OpForm) (m : FissionNames) (n : ℕ) (s
       let u : Word = in_turns ws 0 0 xs in
       let sh = are_shares n 1 some (omega arith) in
       let lw : length ws ≡ n = length-replicate n 1 in
-      let fed = λ (ys : List item.Item). ap (λ ss. count_by test (joined tabs (feed (fire k 0) ys ss).adds x)) no_state ∙ fed_adds k tabs x test ys shape no_privates in
+      let fed = λ (ys : List item.Item). ap (λ ss. count_by test (joined tabs (feed (fire k 0) ys ss).adds x)) no_state
+      ∙ fed_adds k tabs x test ys shape no_privates in
       sum_same n (λ i. count_by test (joined tabs (feed (fire k 0) (dealt_to n 1 xs i) (first_kept k)).adds x)) (λ i. weigh one (at_port i u))
       (λ i lt. fed (dealt_to n 1 xs i) ∙ ap (weigh one) (ap (λ ls. (feed (deal_one ls) xs (Turn 0 0 ∷ [])).outs i) (shares_are n 1) ∙ dealt_is ws 0 0 xs i))
       ∙ weigh_ports one n u (subst (λ j. PortsBelow j u) lw (turns_below ws 0 0 xs sh (first_turn ws sh)))
@@ -97,7 +103,8 @@ module _ (p : PlanForm) (l : Name) (op : OpForm) (m : FissionNames) (n : ℕ) (s
     ends = y.writes;
     queues_once = apart.queues_once;
     variables_once =
-        λ x. let a = apart.variables_once x in let b = count-append x (table_names p.tables) (w.stay ++ w.new) in let c = count-append x w.stay w.new in omega (arith, a, b, c);
+        λ x. let a = apart.variables_once x in let b = count-append x (table_names p.tables) (w.stay ++ w.new) in let c =
+        count-append x w.stay w.new in omega (arith, a, b, c);
     labels_once = apart.labels_once;
     within = apart.within;
     deals = deal_fits n 1 t some (omega arith) t_sized;
@@ -112,7 +119,8 @@ module _ (p : PlanForm) (l : Name) (op : OpForm) (m : FissionNames) (n : ℕ) (s
         let b = copies_none x (replica_op w m) n (λ i. none) in
         omega (arith, a, b);
     apart =
-        λ i x lt. it_is p.ops _ op (split_ops op m n w) (swap_of l p.ops op (split_ops op m n w) (found (named_it l) p.ops op here)) (λ o. (z : Name) → vars_it z o ≤ 1) v.vars_apart x;
+        λ i x lt. it_is p.ops _ op (split_ops op m n w) (swap_of l p.ops op (split_ops op m n w) (found (named_it l) p.ops op here))
+        (λ o. (z : Name) → vars_it z o ≤ 1) v.vars_apart x;
     joins = tt;
     adds = same_adds;
   }

@@ -58,7 +58,8 @@ module _ (p : PlanForm) (l : Name) (op : OpForm) (m : FissionNames) (n : ℕ) (s
   rates : (1 ≤ f.pop) × (f.pop ≤ f.peek)
   rates =
       let z = and_parts (is_usual f) (is_first f.body.slots f.first) fit.3 in
-      let a = and_parts (has_rates f) (is_steps f.peek f.body.slots (pos 1 ∷ []) f.body.steps && (nat_le (length f.starts) f.body.slots && is_number (pushes f.body.steps) f.push)) z.0 in
+      let a = and_parts (has_rates f)
+      (is_steps f.peek f.body.slots (pos 1 ∷ []) f.body.steps && (nat_le (length f.starts) f.body.slots && is_number (pushes f.body.steps) f.push)) z.0 in
       let b = and_parts (nat_eq f.body.inputs f.peek) (nat_le 1 f.pop && nat_le f.pop f.peek) a.0 in
       let c = and_parts (nat_le 1 f.pop) (nat_le f.pop f.peek) b.1 in
       (grind (arith, c.0), grind (arith, c.1))
@@ -92,18 +93,26 @@ module _ (p : PlanForm) (l : Name) (op : OpForm) (m : FissionNames) (n : ℕ) (s
       some = some;
       reads = y.reads;
       kind = kind_in;
-      ends =
-          (out.0, out.1, refl, subst (λ k. Fits (collect (equal_weights n f.push)) (replicate n (rows 1)) (k ∷ []) (Private ∷ [])) (sym out.2) (collect_fits n f.push (Rows 1) some y.gives refl));
+      ends = (
+        out.0,
+        out.1,
+        refl,
+        subst (λ k. Fits (collect (equal_weights n f.push)) (replicate n (rows 1)) (k ∷ []) (Private ∷ [])) (sym out.2)
+            (collect_fits n f.push (Rows 1) some y.gives refl),
+      );
       queues_once = apart.queues_once;
       variables_once = variables;
       labels_once = apart.labels_once;
       within = apart.within;
       deals = deal_fits n f.pop (Rows 1) some rates.0 refl;
       inner = λ kind a b i lt.
-          let new : kind (m.replica i) ≡ Private = b (m.replica i) (let c = count_each m.replica n i lt in let d = count-append (m.replica i) (each_name m.replica n) (m.joiner ∷ []) in omega (arith, c, d)) in
+          let new : kind (m.replica i) ≡ Private =
+          b (m.replica i) (let c = count_each m.replica n i lt in let d =
+          count-append (m.replica i) (each_name m.replica n) (m.joiner ∷ []) in omega (arith, c, d)) in
           subst (λ k. Fits k (rows 1 ∷ []) (rows 1 ∷ []) (kind (m.replica i) ∷ [])) (sym y.kernel) (refl, refl, ap (λ k. k ∷ []) new, fit.3);
       stay_in =
-          λ x. let c = count-without x op.vars p.vars in ⊎_elim (λ lt. let e = c.1 lt in omega (arith, e)) (λ z. let e = c.0 z in omega (arith, e)) (more_or_zero (count x op.vars));
+          λ x. let c = count-without x op.vars p.vars in ⊎_elim (λ lt. let e = c.1 lt in omega (arith, e)) (λ z. let e = c.0 z in omega (arith, e))
+          (more_or_zero (count x op.vars));
       stay_but = λ x z. (count-without x op.vars p.vars).0 z;
       splitter_new = count_here m.splitter (each_name m.replica n ++ m.joiner ∷ []);
       joiner_new = λ j e. let a = count_here m.joiner [] in let d = count-append m.joiner (each_name m.replica n) (m.joiner ∷ []) in omega (arith, a, d);
@@ -116,8 +125,10 @@ module _ (p : PlanForm) (l : Name) (op : OpForm) (m : FissionNames) (n : ℕ) (s
       joins = joins_blocks;
       adds = λ xs x test.
           let tables = table_names p.tables in
-          let a = sum_zero n (λ i. count_by test (joined (tables_of tables (replica_op w m i)) (feed (fire w.inner 0) (dealt_to n w.share xs i) (first_kept w.inner)).adds x))
-          (λ i lt. ap (λ ts. count_by test (joined ts (feed (fire w.inner 0) (dealt_to n w.share xs i) (first_kept w.inner)).adds x)) (no_tables tables (m.replica i ∷ []) (m.replica i) refl (replica_new i lt))) in
+          let a = sum_zero n (λ i. count_by test
+          (joined (tables_of tables (replica_op w m i)) (feed (fire w.inner 0) (dealt_to n w.share xs i) (first_kept w.inner)).adds x))
+          (λ i lt. ap (λ ts. count_by test (joined ts (feed (fire w.inner 0) (dealt_to n w.share xs i) (first_kept w.inner)).adds x))
+          (no_tables tables (m.replica i ∷ []) (m.replica i) refl (replica_new i lt))) in
           let none = no_tables tables op.vars variable.0 variable.1 (no_table p.tables p.vars variable.0 variable.2) in
           a ∙ ap (λ ts. count_by test (joined ts (feed (fire op.kernel 0) xs (first_kept op.kernel)).adds x)) (sym none);
     }

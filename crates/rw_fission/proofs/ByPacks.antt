@@ -41,7 +41,8 @@ module _ (p : PlanForm) (l : Name) (op : OpForm) (m : FissionNames) (n : ℕ) (s
   -- the kernel fits
   pub fit : Fits op.kernel (Flat t ∷ []) (Flat u ∷ []) []
   fit =
-      let h : IsFit p op = it_is p.ops _ op (split_ops op m n w) (swap_of l p.ops op (split_ops op m n w) (found (named_it l) p.ops op here)) (IsFit p) v.fits in
+      let h : IsFit p op =
+      it_is p.ops _ op (split_ops op m n w) (swap_of l p.ops op (split_ops op m n w) (found (named_it l) p.ops op here)) (IsFit p) v.fits in
       let a = ap (map (kind_of (all_decls p))) y.reads ∙ ap (λ k. k ∷ []) y.kind_in in
       let b = ap (map (kind_of (all_decls p))) y.writes ∙ ap (λ k. k ∷ []) y.kind_out in
       let c = ap (map (var_kind p.tables p.vars)) y.vars in
@@ -61,11 +62,17 @@ module _ (p : PlanForm) (l : Name) (op : OpForm) (m : FissionNames) (n : ℕ) (s
 
   t_sized : is_sized t ≡ true
   t_sized =
-      subst (λ k. IsTrue (is_width (type_width k))) y.kind_in (named_sized p v source (v.reads_declared source (let a = at_most_all l (reads_it source) p.ops op here in let b = ap (count source) y.reads in let c = count_here source [] in omega (arith, a, b, c))))
+      subst (λ k. IsTrue (is_width (type_width k))) y.kind_in
+      (named_sized p v source
+      (v.reads_declared source
+      (let a = at_most_all l (reads_it source) p.ops op here in let b = ap (count source) y.reads in let c = count_here source [] in omega (arith, a, b, c))))
 
   u_sized : is_sized u ≡ true
   u_sized =
-      subst (λ k. IsTrue (is_width (type_width k))) y.kind_out (named_sized p v out (v.writes_declared out (let a = at_most_all l (writes_it out) p.ops op here in let b = ap (count out) y.writes in let c = count_here out [] in omega (arith, a, b, c))))
+      subst (λ k. IsTrue (is_width (type_width k))) y.kind_out
+      (named_sized p v out
+      (v.writes_declared out
+      (let a = at_most_all l (writes_it out) p.ops op here in let b = ap (count out) y.writes in let c = count_here out [] in omega (arith, a, b, c))))
 
   joins_packs : JoinerGives (GivesFlat op.kernel) op n w w.join
   joins_packs xs h good e =
@@ -83,11 +90,17 @@ module _ (p : PlanForm) (l : Name) (op : OpForm) (m : FissionNames) (n : ℕ) (s
     some = some;
     reads = y.reads;
     kind = y.kind_in;
-    ends =
-        (out, y.writes, u_sized, subst (λ k. Fits (unpack n) (replicate n (Pack u)) (k ∷ []) (Private ∷ [])) (sym y.kind_out) (u, refl, refl, refl, and_from (is_sized u) (nat_le 1 n) u_sized (grind (arith, some))));
+    ends = (
+      out,
+      y.writes,
+      u_sized,
+      subst (λ k. Fits (unpack n) (replicate n (Pack u)) (k ∷ []) (Private ∷ [])) (sym y.kind_out)
+          (u, refl, refl, refl, and_from (is_sized u) (nat_le 1 n) u_sized (grind (arith, some))),
+    );
     queues_once = apart.queues_once;
     variables_once =
-        λ x. let a = apart.variables_once x in let b = count-append x (table_names p.tables) (w.stay ++ w.new) in let c = count-append x w.stay w.new in omega (arith, a, b, c);
+        λ x. let a = apart.variables_once x in let b = count-append x (table_names p.tables) (w.stay ++ w.new) in let c =
+        count-append x w.stay w.new in omega (arith, a, b, c);
     labels_once = apart.labels_once;
     within = apart.within;
     deals = deal_fits n 1 t some (omega arith) t_sized;
@@ -103,6 +116,9 @@ module _ (p : PlanForm) (l : Name) (op : OpForm) (m : FissionNames) (n : ℕ) (s
     apart = λ i x lt. omega arith;
     joins = joins_packs;
     adds = λ xs x test.
-        let a = sum_zero n (λ i. count_by test (joined (tables_of (table_names p.tables) (replica_op w m i)) (feed (fire w.inner 0) (dealt_to n 1 xs i) (first_kept w.inner)).adds x)) (λ i lt. refl) in
-        a ∙ ap (λ vs. count_by test (joined (filter (λ v. nat_lt 0 (count v (table_names p.tables))) vs) (feed (fire op.kernel 0) xs (first_kept op.kernel)).adds x)) (sym y.vars);
+        let a = sum_zero n (λ i. count_by test
+        (joined (tables_of (table_names p.tables) (replica_op w m i)) (feed (fire w.inner 0) (dealt_to n 1 xs i) (first_kept w.inner)).adds x))
+        (λ i lt. refl) in
+        a ∙ ap (λ vs. count_by test
+        (joined (filter (λ v. nat_lt 0 (count v (table_names p.tables))) vs) (feed (fire op.kernel 0) xs (first_kept op.kernel)).adds x)) (sym y.vars);
   }

@@ -174,7 +174,8 @@ module _ (l : Name) (n : ℕ) (op : OpForm) (w : Way) (some : 1 ≤ n) where
       omega (arith, le, lt)
 
 -- the new variables have names that can be made
-new_short : (p : PlanForm) (l : Name) (op : OpForm) (n : ℕ) (source : Name) (w : Way) → SplitsBy p op (made_of l) n source w → fits_64 (made_of l).splitter ≡ true
+new_short : (p : PlanForm) (l : Name) (op : OpForm) (n : ℕ) (source : Name) (w : Way) → SplitsBy p op (made_of l) n source w
+    → fits_64 (made_of l).splitter ≡ true
     → fits_64 (made_of l).joiner ≡ true
     → list_all fits_64 (each_name (made_of l).replica n) ≡ true
     → list_all fits_64 w.new ≡ true

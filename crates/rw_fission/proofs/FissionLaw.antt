@@ -70,7 +70,8 @@ all_below m (k ∷ ks) h =
 below_all : (m : ℕ) (ks : List ℕ) → All (λ k. k ≤ m) ks → list_all (λ k. nat_le k m) ks ≡ true
 below_all m [] h = refl
 below_all m (k ∷ ks) h =
-    and_from (nat_le k m) (list_all (λ j. nat_le j m) ks) (let a = All-head (λ j. j ≤ m) k ks h in grind (arith, a)) (below_all m ks (All-tail (λ j. j ≤ m) k ks h))
+    and_from (nat_le k m) (list_all (λ j. nat_le j m) ks) (let a = All-head (λ j. j ≤ m) k ks h in grind (arith, a))
+    (below_all m ks (All-tail (λ j. j ≤ m) k ks h))
 
 -- each limit is in the list of all
 pub limit_in : (t : Limit → Bool) → list_all t limits ≡ true → (limit : Limit) → t limit ≡ true
@@ -111,7 +112,8 @@ is_apart_of p v =
     let rest2 = stand_once (labels p.ops) && list_all (is_within p) limits in
     and_from (stand_once (queue_names p)) (stand_once (variable_names p) && rest2) (once_all (queue_names p) (queue_names p) v.queues_once)
     (and_from (stand_once (variable_names p)) rest2 (once_all (variable_names p) (variable_names p) v.variables_once)
-    (and_from (stand_once (labels p.ops)) (list_all (is_within p) limits) (once_all (labels p.ops) (labels p.ops) (λ k. let i = v.labels_once k in let e = total_labels k p.ops in omega (arith, i, e)))
+    (and_from (stand_once (labels p.ops)) (list_all (is_within p) limits)
+    (once_all (labels p.ops) (labels p.ops) (λ k. let i = v.labels_once k in let e = total_labels k p.ops in omega (arith, i, e)))
     (all_limits (is_within p) limits (λ limit. below_all (most_of limit) (numbers limit p) (v.within limit)))))
 
 -- ITEMS
@@ -133,7 +135,8 @@ module _ (p : PlanForm) (l : Name) (op : OpForm) (n : ℕ) (source : Name) (v : 
   abbrev m : FissionNames
   m = made_of l
 
-  by_packs_keeps : (t : FlatType) (w : Way) → IsPacks p op m n source t w → IsApartPlan (split_by p l op m n (Flat t) w) → Keeps p (split_by p l op m n (Flat t) w)
+  by_packs_keeps : (t : FlatType) (w : Way) → IsPacks p op m n source t w → IsApartPlan (split_by p l op m n (Flat t) w)
+      → Keeps p (split_by p l op m n (Flat t) w)
   by_packs_keeps t w k =
       subst (λ x. IsApartPlan (split_by p l op m n (Flat t) x) → Keeps p (split_by p l op m n (Flat t) x)) (sym k.is) (λ a.
       let s = packing.splits_packs p l op m n source k.out t k.type v here some k.may a in
@@ -153,7 +156,8 @@ module _ (p : PlanForm) (l : Name) (op : OpForm) (n : ℕ) (source : Name) (v : 
       let s = blocking.splits_blocks p l op m n source k.form v here some k.may a in (
         split.valid (λ x. Unit {0}) p l op m n source (rows 1) (by_blocks p op m n k.form.pop k.form.push) v here s,
         record { outputs = refl; inputs = refl; tables = refl },
-        λ inputs i. law.same_meaning (λ x. Unit {0}) p l op m n source (rows 1) (by_blocks p op m n k.form.pop k.form.push) v here s inputs (any_good (hist p inputs source)),
+        λ inputs i. law.same_meaning (λ x. Unit {0}) p l op m n source (rows 1) (by_blocks p op m n k.form.pop k.form.push) v here s inputs
+            (any_good (hist p inputs source)),
       ))
 
   by_adds_keeps : (t : FlatType) (w : Way) → IsAdds p op m source t w → IsApartPlan (split_by p l op m n (Flat t) w) → Keeps p (split_by p l op m n (Flat t) w)
@@ -184,7 +188,8 @@ pub fission_same : (p p' : PlanForm) (l : Name) (n : ℕ) → IsPlan p → fissi
 fission_same p p' l n v h =
     let c = accepted p l n p' h in
     let some : 0 < n = (let a = c.many in omega (arith, a)) in
-    subst (Keeps p) (sym c.is) (way_keeps p l c.op n c.source v c.here some c.way (way_is p c.op (made_of l) n c.source c.way c.reads c.way_is) (apart_is _ c.apart))
+    subst (Keeps p) (sym c.is)
+    (way_keeps p l c.op n c.source v c.here some c.way (way_is p c.op (made_of l) n c.source c.way c.reads c.way_is) (apart_is _ c.apart))
 
 -- the law of fission
 pub fission_keeps : FissionKeeps

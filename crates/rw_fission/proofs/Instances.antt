@@ -32,7 +32,15 @@ filters peek pop = record {
   ops = record {
     label = F;
     kernel =
-        filter (record { peek = peek; pop = pop; push = 1; body = record { inputs = peek; slots = 0; steps = Then (Push 0 (Input 0 ∷ [])) Done }; starts = []; first = None });
+        filter (record {
+          peek = peek;
+          pop = pop;
+          push = 1;
+          body = record { inputs = peek; slots = 0; steps = Then (Push 0 (Input 0 ∷ [])) Done };
+          starts =
+              [];
+          first = None;
+        });
     reads = in_name ∷ [];
     writes = out_name ∷ [];
     vars = F ∷ [];
@@ -114,7 +122,13 @@ map_name = 109 ∷ 97 ∷ 112 ∷ []
 
 abbrev k_map : Kern
 k_map =
-    fused (fused (code (record { body = record { inputs = 2; slots = 0; steps = Then (Push 0 (Const (pos 1) ∷ [])) (Then (Push 1 (Input 0 ∷ Input 1 ∷ [])) Done) }; outs = pos 1 ∷ pos 2 ∷ []; starts = [] })) tally 0) tally 0
+    fused (fused (code (record {
+      body =
+          record { inputs = 2; slots = 0; steps = Then (Push 0 (Const (pos 1) ∷ [])) (Then (Push 1 (Input 0 ∷ Input 1 ∷ [])) Done) };
+      outs =
+          pos 1 ∷ pos 2 ∷ [];
+      starts = [];
+    })) tally 0) tally 0
 
 abbrev map_plan : PlanForm
 map_plan = record {
@@ -134,7 +148,11 @@ map_copy d = record { label = map_at (d ∷ []); kernel = k_map; reads = map_at 
 
 map_step : fission_of map_plan map_name 3 ≡ Ok (record map_plan {
   queues =
-      record { name = map_at (97 ∷ 49 ∷ []); kind = rows 2 } ∷ record { name = map_at (97 ∷ 50 ∷ []); kind = rows 2 } ∷ record { name = map_at (97 ∷ 51 ∷ []); kind = rows 2 } ∷ [];
+      record { name = map_at (97 ∷ 49 ∷ []); kind = rows 2 } ∷ record { name = map_at (97 ∷ 50 ∷ []); kind = rows 2 } ∷ record {
+        name =
+            map_at (97 ∷ 51 ∷ []);
+        kind = rows 2;
+      } ∷ [];
   vars = map_at (100 ∷ []) ∷ [];
   ops =
       record {

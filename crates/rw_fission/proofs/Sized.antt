@@ -23,5 +23,6 @@ all_named r = names_append r.outputs (r.inputs ++ r.queues) ∙ ap (λ l. decl_n
 pub named_sized : (p : PlanForm) → IsPlan p → (q : Name) → 0 < count q (queue_names p) → IsTrue (is_width (type_width (kind_of (all_decls p) q)))
 named_sized p v q lt =
     kind_sized (all_decls p) q
-    (All-append HasWidth p.outputs (p.inputs ++ p.queues) (outer p.outputs v.outputs_typed) (All-append HasWidth p.inputs p.queues (outer p.inputs v.inputs_typed) v.queues_typed))
+    (All-append HasWidth p.outputs (p.inputs ++ p.queues) (outer p.outputs v.outputs_typed)
+    (All-append HasWidth p.inputs p.queues (outer p.inputs v.inputs_typed) v.queues_typed))
     (let a = ap (count q) (all_named p) in omega (arith, a, lt))

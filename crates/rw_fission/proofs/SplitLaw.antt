@@ -84,7 +84,9 @@ module _ (Good : item.Item → Type 0) (p : PlanForm) (l : Name) (op : OpForm) (
 
   inner_in : ins w.inner ≡ 1
   inner_in =
-      sym (counts w.inner _ _ _ (y.inner (λ x. var_kind p.tables (w.stay ++ w.new) x) (λ x lt. sym (split.var_tables Good p l op m n source t w v here y x lt)) (λ x lt. split.var_private Good p l op m n source t w v here y x lt) 0 y.some)).ins
+      sym (counts w.inner _ _ _
+      (y.inner (λ x. var_kind p.tables (w.stay ++ w.new) x) (λ x lt. sym (split.var_tables Good p l op m n source t w v here y x lt))
+      (λ x lt. split.var_private Good p l op m n source t w v here y x lt) 0 y.some)).ins
 
   module _ (g : History) where
     abbrev h : History
@@ -112,11 +114,14 @@ module _ (Good : item.Item → Type 0) (p : PlanForm) (l : Name) (op : OpForm) (
 
     outs_lists : Lists pa outs h'
     outs_lists =
-        lists_written pa outs h h' (λ q. let o = made_once q in omega (arith, o)) (λ q lt. written_out da dealt (written pa outs h) q (let o = made_once q in omega (arith, o, lt)))
+        lists_written pa outs h h' (λ q. let o = made_once q in omega (arith, o))
+        (λ q lt. written_out da dealt (written pa outs h) q (let o = made_once q in omega (arith, o, lt)))
 
     source_old : h' source ≡ h source
     source_old =
-        old source (split.old_read Good p l op m n source t w v here y source (let a = split.reads_old Good p l op m n source t w v here y source in let b = ap (count source) y.reads in let c = count_here source [] in omega (arith, a, b, c)))
+        old source (split.old_read Good p l op m n source t w v here y source
+        (let a = split.reads_old Good p l op m n source t w v here y source in let b = ap (count source) y.reads in let c =
+        count_here source [] in omega (arith, a, b, c)))
 
     splitter_solves : Solves h' (splitter_op op m n w)
     splitter_solves =
@@ -145,8 +150,12 @@ module _ (Good : item.Item → Type 0) (p : PlanForm) (l : Name) (op : OpForm) (
           let en : JoinerFits p op n (Some j) = subst (JoinerFits p op n) e y.ends in
           let law : JoinerGives Good op n w (Some j) = subst (JoinerGives Good op n w) e y.joins in
           let lists = subst (λ k. Lists (given_names m.given n k) outs h') e outs_lists in
-          let s : Lists (en.0 ∷ []) (given_on op h).outs h = subst (λ ws. Lists ws (given_on op h).outs h) en.1 (it_is p.ops p'.ops op put (split.e Good p l op m n source t w v here y) (Solves h) (plan_solves p v g)) in
-          let named = split.old_write Good p l op m n source t w v here y en.0 (let a = split.writes_old Good p l op m n source t w v here y en.0 in let b = ap (count en.0) en.1 in let c = count_here en.0 [] in omega (arith, a, b, c)) in
+          let s : Lists (en.0 ∷ []) (given_on op h).outs h =
+          subst (λ ws. Lists ws (given_on op h).outs h) en.1
+          (it_is p.ops p'.ops op put (split.e Good p l op m n source t w v here y) (Solves h) (plan_solves p v g)) in
+          let named = split.old_write Good p l op m n source t w v here y en.0
+          (let a = split.writes_old Good p l op m n source t w v here y en.0 in let b = ap (count en.0) en.1 in let c =
+          count_here en.0 [] in omega (arith, a, b, c)) in
           subst (λ ws. Lists ws (given_on o h').outs h') (sym en.1) (
             old en.0 named ∙ s.0
                 ∙ ap (λ r. r.outs 0) (fed_one op source h y.reads one_in)
@@ -158,11 +167,13 @@ module _ (Good : item.Item → Type 0) (p : PlanForm) (l : Name) (op : OpForm) (
       put_solves = split.put_all Good p l op m n source t w v here y (Solves h') splitter_solves (λ i lt. given_at w.join refl i lt) joiner_solves
 
       same_h : (q : Name)
-          → 0 < stay p.ops p'.ops op put (split.e Good p l op m n source t w v here y) (reads_it q) + stay p.ops p'.ops op put (split.e Good p l op m n source t w v here y) (writes_it q)
+          → 0 < stay p.ops p'.ops op put (split.e Good p l op m n source t w v here y) (reads_it q) + stay p.ops p'.ops op put
+          (split.e Good p l op m n source t w v here y) (writes_it q)
           → h q ≡ h' q
       same_h q lt =
           let a = split.reads_old Good p l op m n source t w v here y q in let b = split.writes_old Good p l op m n source t w v here y q in
-          sym (old q (⊎_elim (λ k. split.old_read Good p l op m n source t w v here y q k) (λ z. split.old_write Good p l op m n source t w v here y q (omega (arith, a, b, z, lt))) (more_or_zero (total (reads_it q) p.ops))))
+          sym (old q (⊎_elim (λ k. split.old_read Good p l op m n source t w v here y q k)
+          (λ z. split.old_write Good p l op m n source t w v here y q (omega (arith, a, b, z, lt))) (more_or_zero (total (reads_it q) p.ops))))
 
       in_put : (q : Name) → total (writes_it q) p'.ops ≡ 0 → h' q ≡ g q
       in_put q z = let a = split.writes_more Good p l op m n source t w v here y q in old q (omega (arith, a, z)) ∙ stays p.ops g q (omega (arith, a, z))
@@ -170,13 +181,15 @@ module _ (Good : item.Item → Type 0) (p : PlanForm) (l : Name) (op : OpForm) (
       -- these are the histories of the new plan
       pub is_hist : (q : Name) → h' q ≡ histories p'.ops g q
       is_hist q =
-          swapped_hist p p' v (split.valid Good p l op m n source t w v here y) op put (split.e Good p l op m n source t w v here y) g h' put_solves same_h in_put q
+          swapped_hist p p' v (split.valid Good p l op m n source t w v here y) op put
+          (split.e Good p l op m n source t w v here y) g h' put_solves same_h in_put q
 
       -- the outputs are the same
       pub out_same : (q : Name) → 0 < count q (decl_names p.outputs) → histories p'.ops g q ≡ h q
       out_same q lt =
           sym (is_hist q)
-          ∙ old q (split.old_named Good p l op m n source t w v here y q (let i = split.ends_named Good p l op m n source t w v here y q in omega (arith, i, lt)))
+          ∙ old q (split.old_named Good p l op m n source t w v here y q
+          (let i = split.ends_named Good p l op m n source t w v here y q in omega (arith, i, lt)))
 
       abbrev tables : List Name
       tables = table_names p.tables
@@ -187,18 +200,22 @@ module _ (Good : item.Item → Type 0) (p : PlanForm) (l : Name) (op : OpForm) (
       joiner_adds : (x : Name) (test : List ℤ → Bool) (j : Option (Kern × QueueType)) → w.join ≡ j → total (adds_it tables h' x test) (joiner_ops op m n j) ≡ 0
       joiner_adds x test None e = refl
       joiner_adds x test (Some j) e =
-          let k = no_adds tables h' x test (record { label = m.joiner; kernel = j.0; reads = each_name m.given n; writes = op.writes; vars = m.joiner ∷ [] }) m.joiner refl (no_table m.joiner (y.joiner_new j e)) in
+          let k = no_adds tables h' x test
+          (record { label = m.joiner; kernel = j.0; reads = each_name m.given n; writes = op.writes; vars = m.joiner ∷ [] }) m.joiner refl
+          (no_table m.joiner (y.joiner_new j e)) in
           omega (arith, k)
 
       -- the bags of rows are the same
       pub adds_same : (x : Name) (test : List ℤ → Bool) → count_by test (adds tables p'.ops (histories p'.ops g) x) ≡ count_by test (adds tables p.ops h x)
       adds_same x test =
-          let a = swapped_adds p p' v (split.valid Good p l op m n source t w v here y) op put (split.e Good p l op m n source t w v here y) g h' put_solves same_h in_put tables x test in
+          let a = swapped_adds p p' v (split.valid Good p l op m n source t w v here y) op put
+          (split.e Good p l op m n source t w v here y) g h' put_solves same_h in_put tables x test in
           let b = split.put_sum Good p l op m n source t w v here y (adds_it tables h' x test) in
           let c = no_adds tables h' x test (splitter_op op m n w) m.splitter refl (no_table m.splitter y.splitter_new) in
           let d = joiner_adds x test w.join refl in
           let e = total_copies (adds_it tables h' x test) (replica_op w m) n in
-          let f = sum_same n (λ i. adds_it tables h' x test (replica_op w m i)) (λ i. count_by test (joined (tables_of tables (replica_op w m i)) (feed (fire w.inner 0) (dealt i) (first_kept w.inner)).adds x))
+          let f = sum_same n (λ i. adds_it tables h' x test (replica_op w m i))
+          (λ i. count_by test (joined (tables_of tables (replica_op w m i)) (feed (fire w.inner 0) (dealt i) (first_kept w.inner)).adds x))
           (λ i lt. ap (λ r. count_by test (joined (tables_of tables (replica_op w m i)) r.adds x)) (copy_is i lt)) in
           let k = y.adds (h source) x test in
           let o = ap (λ r. count_by test (joined (tables_of tables op) r.adds x)) (fed_one op source h y.reads one_in) in

@@ -78,7 +78,8 @@ joins_before op m n (Some j) known h = (h, tt)
 
 -- what holds of the joiner
 pub each_join : (P : OpForm → Type 0) (op : OpForm) (m : FissionNames) (n : ℕ) (j : Option (Kern × QueueType))
-    → ((k : Kern × QueueType) → j ≡ Some k → P (record { label = m.joiner; kernel = k.0; reads = each_name m.given n; writes = op.writes; vars = m.joiner ∷ [] }))
+    → ((k : Kern × QueueType) → j ≡ Some k
+    → P (record { label = m.joiner; kernel = k.0; reads = each_name m.given n; writes = op.writes; vars = m.joiner ∷ [] }))
     → Each P (joiner_ops op m n j)
 each_join P op m n None h = tt
 each_join P op m n (Some j) h = (h j refl, tt)
@@ -235,14 +236,16 @@ module _ (Good : item.Item → Type 0) (p : PlanForm) (l : Name) (op : OpForm) (
   kind_dealt q lt =
       let b = names_more q in let o = y.queues_once q in
       kind_new q (omega (arith, b, o, lt))
-      ∙ ap (λ o. unwrap_or o (rows 0)) (kind_front (decls t da) (given_decls m n w.join) q (let a = ap (count q) (names_of_decls t da) in omega (arith, a, lt)) ∙ kind_decls t da q lt)
+      ∙ ap (λ o. unwrap_or o (rows 0))
+      (kind_front (decls t da) (given_decls m n w.join) q (let a = ap (count q) (names_of_decls t da) in omega (arith, a, lt)) ∙ kind_decls t da q lt)
 
   kind_given : (j : Kern × QueueType) → w.join ≡ Some j → (q : Name) → 0 < count q (each_name m.given n) → kind' q ≡ j.1
   kind_given j ej q lt =
       let b = names_more q in let o = y.queues_once q in
       let c = ap (λ k. count q (given_names m.given n k)) ej in
       kind_new q (omega (arith, b, o, c, lt))
-      ∙ ap (λ o. unwrap_or o (rows 0)) (kind_back (decls t da) (given_decls m n w.join) q (let a = ap (count q) (names_of_decls t da) in omega (arith, a, b, o, c, lt))
+      ∙ ap (λ o. unwrap_or o (rows 0))
+      (kind_back (decls t da) (given_decls m n w.join) q (let a = ap (count q) (names_of_decls t da) in omega (arith, a, b, o, c, lt))
       ∙ ap (λ k. kind_in (given_decls m n k) q) ej ∙ kind_decls j.1 (each_name m.given n) q lt)
 
   -- VARIABLES
@@ -302,8 +305,10 @@ module _ (Good : item.Item → Type 0) (p : PlanForm) (l : Name) (op : OpForm) (
   kept_fit [] le h = tt
   kept_fit (x ∷ xs) le h = (
     (
-        let a = map_agree kind kind' x.reads (λ q lt. sym (kind_old q (v.reads_declared q (let b = le (reads_it q) in let c = reads_old q in omega (arith, b, c, lt))))) in
-        let b = map_agree kind kind' x.writes (λ q lt. sym (kind_old q (v.writes_declared q (let b = le (writes_it q) in let c = writes_old q in omega (arith, b, c, lt))))) in
+        let a = map_agree kind kind' x.reads
+        (λ q lt. sym (kind_old q (v.reads_declared q (let b = le (reads_it q) in let c = reads_old q in omega (arith, b, c, lt))))) in
+        let b = map_agree kind kind' x.writes
+        (λ q lt. sym (kind_old q (v.writes_declared q (let b = le (writes_it q) in let c = writes_old q in omega (arith, b, c, lt))))) in
         let c = map_agree var var' x.vars (λ q lt. sym (var_old q (let b = le (vars_it q) in omega (arith, b, lt)))) in
         subst (λ ts. Fits x.kernel ts (map kind' x.writes) (map var' x.vars)) a
         (subst (λ ts. Fits x.kernel (map kind x.reads) ts (map var' x.vars)) b
@@ -344,7 +349,8 @@ module _ (Good : item.Item → Type 0) (p : PlanForm) (l : Name) (op : OpForm) (
   joiner_fit j ej =
       let en : JoinerFits p op n (Some j) = subst (JoinerFits p op n) ej y.ends in
       let out = en.0 in
-      let named : 0 < count out (queue_names p) = v.writes_declared out (let a = writes_old out in let b = ap (count out) en.1 in let c = count_here out [] in omega (arith, a, b, c)) in
+      let named : 0 < count out (queue_names p) =
+      v.writes_declared out (let a = writes_old out in let b = ap (count out) en.1 in let c = count_here out [] in omega (arith, a, b, c)) in
       let a = map_each kind' m.given n j.1 (kind_given j ej) in
       let b = ap (map kind') en.1 ∙ ap (λ k. k ∷ []) (kind_old out named) in
       let c = ap (λ k. k ∷ []) (var_new m.joiner (y.joiner_new j ej)) in
@@ -354,7 +360,8 @@ module _ (Good : item.Item → Type 0) (p : PlanForm) (l : Name) (op : OpForm) (
 
   -- what holds of splitter, replicas and joiner
   pub put_all : (P : OpForm → Type 0) → P (splitter_op op m n w) → ((i : ℕ) → i < n → P (replica_op w m i))
-      → ((j : Kern × QueueType) → w.join ≡ Some j → P (record { label = m.joiner; kernel = j.0; reads = each_name m.given n; writes = op.writes; vars = m.joiner ∷ [] }))
+      → ((j : Kern × QueueType) → w.join ≡ Some j
+      → P (record { label = m.joiner; kernel = j.0; reads = each_name m.given n; writes = op.writes; vars = m.joiner ∷ [] }))
       → Each P put
   put_all P s c j = (s, each_append P copies (joiner_ops op m n w.join) (each_copy P (replica_op w m) n c) (each_join P op m n w.join j))
 
@@ -375,11 +382,13 @@ module _ (Good : item.Item → Type 0) (p : PlanForm) (l : Name) (op : OpForm) (
 
   all_sized : All HasWidth (all_decls p)
   all_sized =
-      All-append HasWidth p.outputs (p.inputs ++ p.queues) (outer p.outputs v.outputs_typed) (All-append HasWidth p.inputs p.queues (outer p.inputs v.inputs_typed) v.queues_typed)
+      All-append HasWidth p.outputs (p.inputs ++ p.queues) (outer p.outputs v.outputs_typed)
+      (All-append HasWidth p.inputs p.queues (outer p.inputs v.inputs_typed) v.queues_typed)
 
   t_sized : IsTrue (is_width (type_width t))
   t_sized =
-      subst (λ k. IsTrue (is_width (type_width k))) y.kind (kind_sized (all_decls p) source all_sized (let a = ap (count source) (all_named p) in let b = source_named in omega (arith, a, b)))
+      subst (λ k. IsTrue (is_width (type_width k))) y.kind
+      (kind_sized (all_decls p) source all_sized (let a = ap (count source) (all_named p) in let b = source_named in omega (arith, a, b)))
 
   -- the new plan is valid
   pub valid : IsPlan p'
@@ -388,9 +397,13 @@ module _ (Good : item.Item → Type 0) (p : PlanForm) (l : Name) (op : OpForm) (
     variables_once = λ x. let a = names_of_vars p' x in let b = vars_named x in let o = y.variables_once x in omega (arith, a, b, o);
     labels_once = y.labels_once;
     reads_declared =
-        λ x lt. let a = names_more x in let b = reads_more x in ⊎_elim (λ h. let k = v.reads_declared x h in omega (arith, a, k)) (λ h. omega (arith, a, b, h, lt)) (more_or_zero (total (reads_it x) p.ops));
+        λ x lt. let a = names_more x in let b =
+        reads_more x in ⊎_elim (λ h. let k = v.reads_declared x h in omega (arith, a, k)) (λ h. omega (arith, a, b, h, lt))
+        (more_or_zero (total (reads_it x) p.ops));
     writes_declared =
-        λ x lt. let a = names_more x in let b = writes_more x in ⊎_elim (λ h. let k = v.writes_declared x h in omega (arith, a, k)) (λ h. omega (arith, a, b, h, lt)) (more_or_zero (total (writes_it x) p.ops));
+        λ x lt. let a = names_more x in let b =
+        writes_more x in ⊎_elim (λ h. let k = v.writes_declared x h in omega (arith, a, k)) (λ h. omega (arith, a, b, h, lt))
+        (more_or_zero (total (writes_it x) p.ops));
     vars_declared = λ x lt.
         let a = vars_put x in let b = names_of_vars p' x in let c = vars_named x in
         ⊎_elim (λ h. omega (arith, b, h))
@@ -411,7 +424,8 @@ module _ (Good : item.Item → Type 0) (p : PlanForm) (l : Name) (op : OpForm) (
     outputs_typed = v.outputs_typed;
     inputs_typed = v.inputs_typed;
     queues_typed =
-        All-append HasWidth p.queues new_decls v.queues_typed (All-append HasWidth (decls t da) (given_decls m n w.join) (decls_sized t da t_sized) (given_sized p op m n n w.join y.ends));
+        All-append HasWidth p.queues new_decls v.queues_typed
+        (All-append HasWidth (decls t da) (given_decls m n w.join) (decls_sized t da t_sized) (given_sized p op m n n w.join y.ends));
     tables_typed = v.tables_typed;
     fits = together p.ops p'.ops op put e (IsFit p) (IsFit p') v.fits kept_fit (put_all (IsFit p') splitter_fit copy_fit joiner_fit);
     within = y.within;

@@ -133,7 +133,8 @@ pub step_no_way : (p : PlanForm) (l : Name) (op : OpForm) (n : ℕ) (source : Na
     → t ≡ kind_of (all_decls p) source → way_of p op (made_of l) n t ≡ None → no N4 ≡ by_op p l n (Some op)
 step_no_way p l op n source t a b r e h = sym (step_way p l op n source t None a b r e h)
 
-module _ (p : PlanForm) (l : Name) (i : ℕ) (op : OpForm) (n : ℕ) (source : Name) (t : QueueType) (w : Way) (place : IsPlace l p.ops i) (g : slice_get p.ops i ≡ Some op) (few : n ≤ 16) (many : 2 ≤ n)
+module _ (p : PlanForm) (l : Name) (i : ℕ) (op : OpForm) (n : ℕ) (source : Name) (t : QueueType) (w : Way) (place : IsPlace l p.ops i)
+    (g : slice_get p.ops i ≡ Some op) (few : n ≤ 16) (many : 2 ≤ n)
     (r : op.reads ≡ source ∷ []) (e : t ≡ kind_of (all_decls p) source) (h : way_of p op (made_of l) n t ≡ Some w) where
   split_is : split_by p l op (made_of l) n t w ≡ split_plan p i op (made_of l) n t w
   split_is = ap (λ ops. record (split_by p l op (made_of l) n t w) { ops = ops }) (place.swap (split_ops op (made_of l) n w))
@@ -143,16 +144,19 @@ module _ (p : PlanForm) (l : Name) (i : ℕ) (op : OpForm) (n : ℕ) (source : N
   apart_valid v =
       let here : first_with (named_it l) p.ops ≡ Some op = place.first ∙ sym place.at ∙ g in
       subst (λ (q : PlanForm). (is_apart q ≡ true → IsPlan q) × (IsPlan q → is_apart q ≡ true)) split_is
-      (subst (λ k. (is_apart (split_by p l op (made_of l) n k w) ≡ true → IsPlan (split_by p l op (made_of l) n k w)) × (IsPlan (split_by p l op (made_of l) n k w) → is_apart (split_by p l op (made_of l) n k w) ≡ true)) (sym e)
+      (subst (λ k. (is_apart (split_by p l op (made_of l) n k w) ≡ true → IsPlan (split_by p l op (made_of l) n k w)) ×
+      (IsPlan (split_by p l op (made_of l) n k w) → is_apart (split_by p l op (made_of l) n k w) ≡ true)) (sym e)
       (fission_apart p l n op source w v here r (omega (arith, many)) (subst (λ k. way_of p op (made_of l) n k ≡ Some w) e h)))
 
   -- the layers one under the other
   pub step_ends : (u : Answer)
-      → HoldsOfAnswer (λ x. x ≡ (if are_short (all_made (made_of l) n) && is_apart (split_plan p i op (made_of l) n t w) then yes (split_plan p i op (made_of l) n t w) else no N5)) u
+      → HoldsOfAnswer (λ x. x ≡
+      (if are_short (all_made (made_of l) n) && is_apart (split_plan p i op (made_of l) n t w) then yes (split_plan p i op (made_of l) n t w) else no N5)) u
       → HoldsOfAnswer (λ x. x ≡ by_op p l n (Some op)) u
   step_ends u s =
       subst (λ y. HoldsOfAnswer (λ x. x ≡ y) u)
-      (ap (λ q. if are_short (all_made (made_of l) n) && is_apart q then yes q else no N5) (sym split_is) ∙ sym (step_way p l op n source t (Some w) many few r e h)) s
+      (ap (λ q. if are_short (all_made (made_of l) n) && is_apart q then yes q else no N5) (sym split_is)
+      ∙ sym (step_way p l op n source t (Some w) many few r e h)) s
 
 -- the answer of the whole
 pub step_answered : (told : Answer) (u : Answer) → HoldsOfAnswer (λ x. x ≡ told) u → IsAnswered told u

@@ -19,7 +19,8 @@ pub reach_all-append : (xs ys : List Expression) → reach_all (xs ++ ys) ≡ ma
 reach_all-append [] ys = sym (zero_max (reach_all ys))
 reach_all-append (x ∷ xs) ys = ap (max (reach x)) (reach_all-append xs ys) ∙ sym (max_assoc (reach x) (reach_all xs) (reach_all ys))
 
-pub reach-emit : (is : List Expression) (v : Expression) (w : Option Expression) → reach_all (emit_row is v w) ≡ max (reach_all is) (max (reach v) (reach_all (listed w)))
+pub reach-emit : (is : List Expression) (v : Expression) (w : Option Expression)
+    → reach_all (emit_row is v w) ≡ max (reach_all is) (max (reach v) (reach_all (listed w)))
 reach-emit is v w = reach_all-append is (v ∷ listed w)
 
 pub ruleset reaches = (reach-emit)

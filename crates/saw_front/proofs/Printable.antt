@@ -9,7 +9,6 @@ use Rattle.work_code.specs.Steps.{Steps, Done, both_steps, one_step}
 use Rattle.work_code.specs.Steps as steps
 use Rattle.work_code.specs.Term.{Term}
 use Rattle.work_text.specs.Tok.{Tok, toks}
-use Rattle.text_forms.specs.Forms as form
 use Rattle.saw_text.specs.Tree.{Expression}
 use Rattle.kern_tables.specs.declared.kind.TableKind.{TableKind}
 use Rattle.river_plan.specs.declared.plan.TableDecl.{TableDecl}

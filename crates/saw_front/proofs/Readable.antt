@@ -11,7 +11,6 @@ use Rattle.work_text.specs.declared.sign.Symbol.TheVariants as s
 use Rattle.text_forms.specs.Forms as form
 use Rattle.text_forms.specs.Parse.{is_value}
 use Rattle.saw_text.specs.Tree.{Expression}
-use Rattle.saw_text.specs.Tree as tree
 use Rattle.saw_text.specs.Tree.{Statement, If, Block, UnitForm}
 use Rattle.saw_model.specs.Meaning.{listed}
 use Rattle.saw_model.specs.Shallow.{IsLow, AreLow, IsShallow, AreShallow, IsShallowPart, AreShallowParts}

@@ -177,7 +177,8 @@ agrees_set n i z sc slots env mem s len f others = record {
       (λ e.
       let is : i ≡ j = var_is i j (sym f ∙ ap (find sc) e.0 ∙ g) in
       let lt = s.below n i f in
-      subst (λ c. slice_index_or (slice_set mem i z) c (pos 0) ≡ at_name n z env m) is (get_or-set_same mem i z (pos 0) (omega (arith, lt, len)) ∙ sym (at_here n m z env e.1)))
+      subst (λ c. slice_index_or (slice_set mem i z) c (pos 0) ≡ at_name n z env m) is
+      (get_or-set_same mem i z (pos 0) (omega (arith, lt, len)) ∙ sym (at_here n m z env e.1)))
       (λ e. get_or-set_other mem i j z (pos 0) (λ q. e.0 (s.apart n m i f (g ∙ ap (λ c. Some (Var c)) q))) ∙ others m j e.1 g ∙ sym (at_other n m z env e.1))
       (cases_name n m);
 }
@@ -243,7 +244,8 @@ module _ (w : ℕ) (r : List ℤ) where
       (λ i. one i ∷ more i) ∙ ap (λ l. vals l mem) (ok_is (p.0 ∷ q.0) us q.2)
 
   -- the value of a weight
-  pub weight_is : (k : TableKind) (t : Option Expression) (sc : Scope) (env : Values) (mem : List ℤ) (us : List Term) → reach_all (listed t) ≤ w → Agrees sc env mem
+  pub weight_is : (k : TableKind) (t : Option Expression) (sc : Scope) (env : Values) (mem : List ℤ) (us : List Term) → reach_all (listed t) ≤ w
+      → Agrees sc env mem
       → weight_of k t sc ≡ Ok us → eval_all (listed t) r env ≡ vals us mem
   weight_is (Sum keys) None sc env mem us h a c = ap (λ l. vals l mem) (ok_is [] us c)
   weight_is (Sum keys) (Some t) sc env mem us h a c = absurd (cc c)
@@ -338,12 +340,21 @@ pub record Met (ts : List TableDecl) (now now' : State) (sc' : Scope) (run : Ran
   pub matches : Matches ts new run.pushes
 
 pub ran_joined : (a b : Steps) (xs mem : List ℤ)
-    → ran (both_steps a b) xs mem ≡ record { pushes = (ran a xs mem).pushes ++ (ran b xs (ran a xs mem).slots).pushes; slots = (ran b xs (ran a xs mem).slots).slots }
+    → ran (both_steps a b) xs mem ≡ record {
+      pushes = (ran a xs mem).pushes ++ (ran b xs (ran a xs mem).slots).pushes;
+      slots =
+          (ran b xs (ran a xs mem).slots).slots;
+    }
 ran_joined Done b xs mem = refl
 ran_joined (steps.Then s ss) b xs mem =
     let first = ran_once s xs mem in
     let more = ran_joined ss b xs first.slots in
-    λ i. record { pushes = (ap (λ q. first.pushes ++ q.pushes) more ∙ sym (append_assoc first.pushes (ran ss xs first.slots).pushes (ran b xs (ran ss xs first.slots).slots).pushes)) i; slots = (more i).slots }
+    λ i. record {
+      pushes =
+          (ap (λ q. first.pushes ++ q.pushes) more
+          ∙ sym (append_assoc first.pushes (ran ss xs first.slots).pushes (ran b xs (ran ss xs first.slots).slots).pushes)) i;
+      slots = (more i).slots;
+    }
 
 module _ (w : ℕ) (r : List ℤ) (ts : List TableDecl) where
   -- steps that push nothing and leave the slots

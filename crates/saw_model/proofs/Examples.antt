@@ -26,9 +26,11 @@ tallies =
 
 -- big: table maximum(2) of v: int weight w: int; emit big <- input[0] weight input[1];
 abbrev greatest : Program
-greatest = TableUnit (table (codes "big") (Maximum 2) [] (named (codes "v")) (Some (named (codes "w")))) ∷ StatementUnit (Emit (codes "big") [] (tree.Input 0) (Some (tree.Input 1))) ∷ []
+greatest = TableUnit (table (codes "big") (Maximum 2) [] (named (codes "v")) (Some (named (codes "w")))) ∷ StatementUnit
+    (Emit (codes "big") [] (tree.Input 0) (Some (tree.Input 1))) ∷ []
 
-three : program_tables tallies ((pos 1 ∷ pos 5 ∷ []) ∷ (pos 2 ∷ pos 7 ∷ []) ∷ (pos 1 ∷ negsuc 4 ∷ []) ∷ []) ≡ ((pos 3 ∷ []) ∷ []) ∷ ((pos 1 ∷ pos 0 ∷ []) ∷ (pos 2 ∷ pos 7 ∷ []) ∷ []) ∷ []
+three : program_tables tallies ((pos 1 ∷ pos 5 ∷ []) ∷ (pos 2 ∷ pos 7 ∷ []) ∷ (pos 1 ∷ negsuc 4 ∷ []) ∷ []) ≡ ((pos 3 ∷ []) ∷ []) ∷
+    ((pos 1 ∷ pos 0 ∷ []) ∷ (pos 2 ∷ pos 7 ∷ []) ∷ []) ∷ []
 unfolding int_wrap
 three = refl
 
@@ -36,7 +38,8 @@ nothing : program_tables tallies [] ≡ [] ∷ [] ∷ []
 nothing = refl
 
 -- equal pairs are kept as often as they came
-twice : program_tables greatest ((pos 9 ∷ pos 4 ∷ []) ∷ (pos 3 ∷ pos 4 ∷ []) ∷ (pos 3 ∷ pos 4 ∷ []) ∷ (pos 1 ∷ pos 1 ∷ []) ∷ []) ≡ ((pos 3 ∷ pos 4 ∷ []) ∷ (pos 3 ∷ pos 4 ∷ []) ∷ []) ∷ []
+twice : program_tables greatest ((pos 9 ∷ pos 4 ∷ []) ∷ (pos 3 ∷ pos 4 ∷ []) ∷ (pos 3 ∷ pos 4 ∷ []) ∷ (pos 1 ∷ pos 1 ∷ []) ∷ []) ≡
+    ((pos 3 ∷ pos 4 ∷ []) ∷ (pos 3 ∷ pos 4 ∷ []) ∷ []) ∷ []
 twice = refl
 
 wide : width tallies ≡ 2

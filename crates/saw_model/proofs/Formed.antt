@@ -158,7 +158,8 @@ mutual
   optional_counts (Written b) s y h = steps_count b s y h
 
 part_counts : (c : UnitForm) (s : At) (y : Steps × At) → part_judged c s ≡ fine y → Counts s y
-part_counts (TableUnit tb) s y h = let d = tabled_parts tb.name (table_kind tb) s y h in subst (Counts s) d.is (record { size = omega arith; small = λ h. h; few = λ h. h })
+part_counts (TableUnit tb) s y h = let d =
+    tabled_parts tb.name (table_kind tb) s y h in subst (Counts s) d.is (record { size = omega arith; small = λ h. h; few = λ h. h })
 part_counts (StatementUnit c) s y h = step_counts c s y h
 
 -- and has at most 16,384 statements
@@ -257,7 +258,8 @@ module _ (w m : ℕ) (ts : List TableDecl) where
       let p = ok_parts (term_of sc t) (λ u. on_ok (indexes_of sc (n + 1) is) (λ us. Ok (u ∷ us))) us c in
       let q = ok_parts (indexes_of sc (n + 1) is) (λ us. Ok (p.0 ∷ us)) us p.2 in
       ap (list_all (is_term w m)) (sym (ok_is (p.0 ∷ q.0) us q.2))
-      ∙ and_from (is_term w m p.0) (list_all (is_term w m) q.0) (one_fits sc t p.0 low.0 (omega (arith, le)) b p.1) (indexes_fit sc (n + 1) is q.0 low.1 (omega (arith, le)) b q.1)
+      ∙ and_from (is_term w m p.0) (list_all (is_term w m) q.0) (one_fits sc t p.0 low.0 (omega (arith, le)) b p.1)
+      (indexes_fit sc (n + 1) is q.0 low.1 (omega (arith, le)) b q.1)
 
   weight_fits : (k : TableKind) (t : Option Expression) (sc : Scope) (us : List Term) → AreLow (listed t) → reach_all (listed t) ≤ w → AreBelow sc
       → weight_of k t sc ≡ Ok us → list_all (is_term w m) us ≡ true
@@ -302,7 +304,8 @@ module _ (w m : ℕ) (ts : List TableDecl) where
     step_formed (Declare n t) s y low le h ok ports sl =
         let d = declared_parts n t s y h in
         let room : s.slots + 1 ≤ m = subst (λ (q : Steps × At). q.1.slots ≤ m) (sym d.is) sl in
-        subst Formed d.is (set_formed s.slots d.value (omega (arith, room)) (first_fits s.scope t d.value low le (below_of s ok (omega (arith, room))) d.value_is))
+        subst Formed d.is (set_formed s.slots d.value (omega (arith, room))
+        (first_fits s.scope t d.value low le (below_of s ok (omega (arith, room))) d.value_is))
     step_formed (Assign n t) s y low le h ok ports sl =
         let d = assigned_parts n t s y h in
         let room : s.slots ≤ m = subst (λ (q : Steps × At). q.1.slots ≤ m) (sym d.is) sl in
@@ -317,11 +320,13 @@ module _ (w m : ℕ) (ts : List TableDecl) where
         let there = width_got ts d.port.0 (record { name = t; kind = d.port.1 }) (ports.port t d.port.0 d.port.1 d.port_there) in
         let many : length all ≡ table_width d.port.1 =
         (let a = length-append d.indexes (d.value ∷ d.weights) in let c = indexes_many s.scope 0 is d.indexes d.indexes_is in
-        let e = eqb-true (length is) (keys_in d.port.1) d.shape in let f = weight_many d.port.1 wt s.scope d.weights d.weights_is in omega (arith, a, c, e, f)) in
+        let e = eqb-true (length is) (keys_in d.port.1) d.shape in let f =
+        weight_many d.port.1 wt s.scope d.weights d.weights_is in omega (arith, a, c, e, f)) in
         let port : has_port outs d.port.0 (length all) ≡ true = ap (λ o. counts o (length all)) there ∙ eq-eqb (table_width d.port.1) (length all) (sym many) in
         let terms : list_all (is_term w m) all ≡ true =
         list_all-append (is_term w m) d.indexes (d.value ∷ d.weights)
-        ∙ and_from (list_all (is_term w m) d.indexes) (list_all (is_term w m) (d.value ∷ d.weights)) (indexes_fit s.scope 0 is d.indexes low.0 r.0 b d.indexes_is)
+        ∙ and_from (list_all (is_term w m) d.indexes) (list_all (is_term w m) (d.value ∷ d.weights))
+        (indexes_fit s.scope 0 is d.indexes low.0 r.0 b d.indexes_is)
         (and_from (is_term w m d.value) (list_all (is_term w m) d.weights) (one_fits s.scope v d.value low.1 r.1 b d.value_is)
         (weight_fits d.port.1 wt s.scope d.weights low.2 r.2 b d.weights_is)) in
         subst Formed d.made (one_formed (steps.Push d.port.0 all) (and_from (has_port outs d.port.0 (length all)) (list_all (is_term w m) all) port terms))
@@ -334,9 +339,11 @@ module _ (w m : ℕ) (ts : List TableDecl) where
         let gs = g.slots in
         let cond = one_fits s.scope t d.cond low.0 (omega (arith, le)) (below_of s ok (omega (arith, gs, l1))) d.cond_is in
         let x = steps_formed a (one_more s) d.first low.1 (omega (arith, le)) d.first_is ok ports l1 in
-        let z = optional_formed b (second_at s d.first) d.second low.2 (omega (arith, le)) d.second_is (more_slots s.scope s.slots d.first.1.slots gs ok) ports last in
+        let z = optional_formed b (second_at s d.first) d.second low.2 (omega (arith, le)) d.second_is
+        (more_slots s.scope s.slots d.first.1.slots gs ok) ports last in
         subst Formed d.is (one_formed (steps.If d.cond d.first.0 d.second.0)
-        (and_from (is_term w m d.cond) (is_steps w m outs d.first.0 && is_steps w m outs d.second.0) cond (and_from (is_steps w m outs d.first.0) (is_steps w m outs d.second.0) x z)))
+        (and_from (is_term w m d.cond) (is_steps w m outs d.first.0 && is_steps w m outs d.second.0) cond
+        (and_from (is_steps w m outs d.first.0) (is_steps w m outs d.second.0) x z)))
 
     steps_formed : (b : Block) (s : At) (y : Steps × At) → AreShallow b → reach_block b ≤ w → steps_of b s ≡ fine y → IsSound s.scope s.slots
         → ArePorts ts s.scope → y.1.slots ≤ m → Formed y
@@ -366,9 +373,12 @@ module _ (w m : ℕ) (ts : List TableDecl) where
       let here = tabled_parts tb.name (table_kind tb) s d.first d.first_is in
       let decl : TableDecl = table_decl tb in
       let got : slice_get ts s.tables ≡ Some decl = ap (slice_get ts) e ∙ ap (λ l. slice_get l (length done)) t ∙ got_here done (tables_in ps) decl in
-      let ok2 : IsSound d.first.1.scope d.first.1.slots = subst (λ (q : Steps × At). IsSound q.1.scope q.1.slots) here.is (sound_port tb.name s.tables (table_kind tb) s.scope s.slots ok) in
-      let ports2 : ArePorts ts d.first.1.scope = subst (λ (q : Steps × At). ArePorts ts q.1.scope) here.is (ports_new ts tb.name s.tables (table_kind tb) s.scope got ports) in
-      let e2 : d.first.1.tables ≡ length (done ++ decl ∷ []) = ap (λ (q : Steps × At). q.1.tables) (sym here.is) ∙ (let l = length-append done (decl ∷ []) in omega (arith, l, e)) in
+      let ok2 : IsSound d.first.1.scope d.first.1.slots =
+      subst (λ (q : Steps × At). IsSound q.1.scope q.1.slots) here.is (sound_port tb.name s.tables (table_kind tb) s.scope s.slots ok) in
+      let ports2 : ArePorts ts d.first.1.scope =
+      subst (λ (q : Steps × At). ArePorts ts q.1.scope) here.is (ports_new ts tb.name s.tables (table_kind tb) s.scope got ports) in
+      let e2 : d.first.1.tables ≡ length (done ++ decl ∷ []) = ap (λ (q : Steps × At). q.1.tables) (sym here.is)
+      ∙ (let l = length-append done (decl ∷ []) in omega (arith, l, e)) in
       let t2 : ts ≡ (done ++ decl ∷ []) ++ tables_in ps = t ∙ sym (append_assoc done (decl ∷ []) (tables_in ps)) in
       let last : d.others.1.slots ≤ m = subst (λ (q : Steps × At). q.1.slots ≤ m) (sym d.is) sl in
       let x : Formed d.first = subst Formed here.is refl in

@@ -81,7 +81,8 @@ given_is : (a c : Name × What) → Some a ≡ Some c → (a.0 ≡ c.0) × (a.1 
 given_is a c h = let e : a ≡ c = cc h in (ap (λ x. x.0) e, ap (λ x. x.1) e)
 
 -- a name that was not known
-scope_named : (b : List ReadMark) (m : ReadMark) (sc : Scope) (n : Name) (e : Entry) → known_from_here m ≡ Some (n, what_of e) → ((k : ℕ) → stays k (m ∷ []) ≡ true)
+scope_named : (b : List ReadMark) (m : ReadMark) (sc : Scope) (n : Name) (e : Entry) → known_from_here m ≡ Some (n, what_of e)
+    → ((k : ℕ) → stays k (m ∷ []) ≡ true)
     → find sc n ≡ None
     → IsScope b sc
     → IsScope (b ++ m ∷ []) ((n, e) ∷ sc)
@@ -213,7 +214,8 @@ on_test : {A B : Type 0} (Q : List ReadMark → B → Type 0) (b ms : List ReadM
 on_test Q b ms true x f g y n = y refl
 on_test Q b ms false x f g y n = n refl
 
-on_new : {B : Type 0} (Q : List ReadMark → B → Type 0) (b ms : List ReadMark) (o : Option Entry) (g : Unit {0} → Result B Fault) → (o ≡ None → Verdict Q b ms (g tt))
+on_new : {B : Type 0} (Q : List ReadMark → B → Type 0) (b ms : List ReadMark) (o : Option Entry) (g : Unit {0} → Result B Fault)
+    → (o ≡ None → Verdict Q b ms (g tt))
     → ((e : Entry) → o ≡ Some e → HasFirst b ms NameTwice)
     → Verdict Q b ms (on_ok (is_new o) g)
 on_new Q b ms None g y n = y refl
@@ -336,7 +338,8 @@ begins b ms s g a more = on_test AtEnd b (Begins ∷ ms) (nat_lt s.size 16384) (
     (more (begun_at b s a)))
     (λ f. inl (first_limit b Begins (λ h. h) (λ h. h) (λ h. h) (let ge = ltb-false s.size 16384 f in let e = a.size in omega (arith, ge, e))))
 
-declare_read : (n : Name) (t : Option Expression) (b : List ReadMark) (s : At) → IsAt b s → Verdict AtEnd b (statement_marks (Declare n t)) (step_of (Declare n t) s)
+declare_read : (n : Name) (t : Option Expression) (b : List ReadMark) (s : At) → IsAt b s
+    → Verdict AtEnd b (statement_marks (Declare n t)) (step_of (Declare n t) s)
 declare_read n t b s0 a0 =
     let ms = value_marks t ++ Local n ∷ [] in
     let s = record s0 { size = s0.size + 1 } in

@@ -46,11 +46,13 @@ module _ (p : Program) (read : Steps × At) (h : parts_read p nothing_read ≡ f
       (record_met p read (width p) r h (omega arith))
 
   all_pushes : (i : ℕ) (t : TableDecl) (rs : List (List ℤ)) → slice_get ts i ≡ Some t
-      → flat_map (λ r. pushed_to i (run_kept (body_form p read.0 read.1.slots).body [] r).pushes) (map (take (width p)) rs) ≡ rows_as_items (rows_for t.name (flat_map (emits p) rs))
+      → flat_map (λ r. pushed_to i (run_kept (body_form p read.0 read.1.slots).body [] r).pushes) (map (take (width p)) rs) ≡ rows_as_items
+      (rows_for t.name (flat_map (emits p) rs))
   all_pushes i t [] g = refl
   all_pushes i t (r ∷ rs) g =
       (λ k. pushes_of i t r g k ++ all_pushes i t rs g k)
-      ∙ sym (ap rows_as_items (rows_for-append t.name (emits p r) (flat_map (emits p) rs)) ∙ map-append _ (rows_for t.name (emits p r)) (rows_for t.name (flat_map (emits p) rs)))
+      ∙ sym (ap rows_as_items (rows_for-append t.name (emits p r) (flat_map (emits p) rs))
+      ∙ map-append _ (rows_for t.name (emits p r)) (rows_for t.name (flat_map (emits p) rs)))
 
   abbrev inputs : List (List ℤ) → List (List item.Item)
   inputs records = rows_as_items (map (take (width p)) records) ∷ []
@@ -87,5 +89,6 @@ map_places f g (x ∷ xs) e = let a = e 0 x refl in let b = map_places f g xs (�
 pub translation_means : TranslationMeans
 translation_means p read records h =
     let g = reads_parts 1 p nothing_read read h in
-    let tables = map_places (λ t. tab t.kind (all_adds (plan_of p read) (inputs p read g records) t.name)) _ (tables_in p) (λ i t there. ap (tab t.kind) (added p read g records i t there)) in
+    let tables = map_places (λ t. tab t.kind (all_adds (plan_of p read) (inputs p read g records) t.name)) _ (tables_in p)
+    (λ i t there. ap (tab t.kind) (added p read g records i t there)) in
     ap (λ ts. record { outs = []; tables = ts }) tables

@@ -98,7 +98,8 @@ parts_slots (c ∷ ps) s y h =
 -- what is known stays known
 part_keeps : (c : UnitForm) (s : At) (y : Steps × At) → part_judged c s ≡ fine y → Keeps s.scope y.1.scope
 part_keeps (TableUnit tb) s y h =
-    let d = tabled_parts tb.name (table_kind tb) s y h in subst (λ (q : Steps × At). Keeps s.scope q.1.scope) d.is (keeps_new tb.name (Port s.tables (table_kind tb)) s.scope d.new)
+    let d = tabled_parts tb.name (table_kind tb) s y h in subst (λ (q : Steps × At). Keeps s.scope q.1.scope) d.is
+    (keeps_new tb.name (Port s.tables (table_kind tb)) s.scope d.new)
 part_keeps (StatementUnit c) s y h = (grows c s y h).keeps
 
 -- no table has a known name
@@ -127,10 +128,13 @@ tables_once (TableUnit tb ∷ ps) s y h n =
     let d = split_parts (TableUnit tb) ps s y h in
     let t = tabled_parts tb.name (table_kind tb) s d.first d.first_is in
     let more = tables_once ps d.first.1 d.others d.others_is n in
-    let there : find d.first.1.scope tb.name ≡ Some (Port s.tables (table_kind tb)) = subst (λ (q : Steps × At). find q.1.scope tb.name ≡ Some (Port s.tables (table_kind tb))) t.is (found_here tb.name tb.name (Port s.tables (table_kind tb)) s.scope (name_same tb.name)) in
+    let there : find d.first.1.scope tb.name ≡ Some (Port s.tables (table_kind tb)) =
+    subst (λ (q : Steps × At). find q.1.scope tb.name ≡ Some (Port s.tables (table_kind tb))) t.is
+    (found_here tb.name tb.name (Port s.tables (table_kind tb)) s.scope (name_same tb.name)) in
     ⊎_elim
     (λ c.
-    let z : count n (table_names (tables_in ps)) ≡ 0 = subst (λ x. count x (table_names (tables_in ps)) ≡ 0) c.0 (not_known ps d.first.1 d.others tb.name (Port s.tables (table_kind tb)) d.others_is there) in
+    let z : count n (table_names (tables_in ps)) ≡ 0 =
+    subst (λ x. count x (table_names (tables_in ps)) ≡ 0) c.0 (not_known ps d.first.1 d.others tb.name (Port s.tables (table_kind tb)) d.others_is there) in
     let e = ap one_if c.1 in omega (arith, z, e))
     (λ c. let e = ap one_if c.1 in omega (arith, e, more))
     (cases_name tb.name n)
@@ -197,18 +201,29 @@ module _ (w : ℕ) (r : List ℤ) (ts : List TableDecl) where
       let decl : TableDecl = table_decl tb in
       let sc : Scope = (tb.name, Port s.tables (table_kind tb)) ∷ s.scope in
       let got : slice_get ts s.tables ≡ Some decl = ap (slice_get ts) e ∙ ap (λ l. slice_get l (length done)) t ∙ got_here done (tables_in ps) decl in
-      let m : MetBy w r ts s now now d.first mem = subst (λ (q : Steps × At). MetBy w r ts s now now q mem) here.is (none_met w r ts now now sc mem refl (agrees_port tb.name s.tables (table_kind tb) s.scope now.values mem k.agrees)) in
+      let m : MetBy w r ts s now now d.first mem =
+      subst (λ (q : Steps × At). MetBy w r ts s now now q mem) here.is
+      (none_met w r ts now now sc mem refl (agrees_port tb.name s.tables (table_kind tb) s.scope now.values mem k.agrees)) in
       let made : At = record s { scope = sc; tables = s.tables + 1 } in
-      let k1 : Ready w r ts made now mem = record { sound = sound_port tb.name s.tables (table_kind tb) s.scope s.slots k.sound; ports = ports_new ts tb.name s.tables (table_kind tb) s.scope got k.ports; agrees = agrees_port tb.name s.tables (table_kind tb) s.scope now.values mem k.agrees } in
+      let k1 : Ready w r ts made now mem =
+      record {
+        sound = sound_port tb.name s.tables (table_kind tb) s.scope s.slots k.sound;
+        ports =
+            ports_new ts tb.name s.tables (table_kind tb) s.scope got k.ports;
+        agrees =
+            agrees_port tb.name s.tables (table_kind tb) s.scope now.values mem k.agrees;
+      } in
       let k2 : Ready w r ts d.first.1 now mem = subst (λ (q : Steps × At). Ready w r ts q.1 now mem) here.is k1 in
-      let e2 : d.first.1.tables ≡ length (done ++ decl ∷ []) = ap (λ (q : Steps × At). q.1.tables) (sym here.is) ∙ (let l = length-append done (decl ∷ []) in omega (arith, l, e)) in
+      let e2 : d.first.1.tables ≡ length (done ++ decl ∷ []) = ap (λ (q : Steps × At). q.1.tables) (sym here.is)
+      ∙ (let l = length-append done (decl ∷ []) in omega (arith, l, e)) in
       let t2 : ts ≡ (done ++ decl ∷ []) ++ tables_in ps = t ∙ sym (append_assoc done (decl ∷ []) (tables_in ps)) in
       let last : d.others.1.slots ≤ length mem = subst (λ (q : Steps × At). q.1.slots ≤ length mem) (sym d.is) len in
       let mem' = (ran d.first.0 (take w r) mem).slots in
       let nothing : mem' ≡ mem = ap (λ (q : Steps × At). (ran q.0 (take w r) mem).slots) (sym here.is) in
       let n' = parts_met ps d.first.1 d.others now mem (done ++ decl ∷ []) d.others_is b k2 last t2 e2 in
       subst (λ (q : Steps × At). MetBy w r ts s now (exec_units ps r now) q mem) d.is
-      (met_more w r ts now now (exec_units ps r now) d.first.1.scope d.others.1.scope d.first.0 d.others.0 mem m (subst (λ l. MetBy w r ts d.first.1 now (exec_units ps r now) d.others l) (sym nothing) n'))
+      (met_more w r ts now now (exec_units ps r now) d.first.1.scope d.others.1.scope d.first.0 d.others.0 mem m
+      (subst (λ l. MetBy w r ts d.first.1 now (exec_units ps r now) d.others l) (sym nothing) n'))
   parts_met (StatementUnit c ∷ ps) s y now mem done h b k len t e =
       let d = split_parts (StatementUnit c) ps s y h in
       let g = grows c s d.first d.first_is in
@@ -219,7 +234,8 @@ module _ (w : ℕ) (r : List ℤ) (ts : List TableDecl) where
       let m = met w r ts c s d.first now mem d.first_is b1 k (omega (arith, more, last)) in
       let mem' = (ran d.first.0 (take w r) mem).slots in
       let size : length mem' ≡ length mem = ran_length d.first.0 (take w r) mem in
-      let n = parts_met ps d.first.1 d.others (exec c r now) mem' done d.others_is b2 (ready_after w r ts s now (exec c r now) d.first mem k g m) (omega (arith, last, size)) t (g.tables ∙ e) in
+      let n = parts_met ps d.first.1 d.others (exec c r now) mem' done d.others_is b2 (ready_after w r ts s now (exec c r now) d.first mem k g m)
+      (omega (arith, last, size)) t (g.tables ∙ e) in
       subst (λ (q : Steps × At). MetBy w r ts s now (exec_units (StatementUnit c ∷ ps) r now) q mem) d.is
       (met_more w r ts now (exec c r now) (exec_units ps r (exec c r now)) d.first.1.scope d.others.1.scope d.first.0 d.others.0 mem m n)
 

@@ -104,7 +104,8 @@ fine_parts b [] ns a = (tt, subst (λ x. AreFine x ns) (sym (nil b)) a)
 fine_parts b (m ∷ ms) ns a =
     let r = fine_parts (b ++ m ∷ []) ms ns a.1 in ((a.0, r.0), subst (λ x. AreFine x ns) (append_assoc b (m ∷ []) ms) r.1)
 
-is_told : (b : List ReadMark) (k : ℕ) (units : Program) (unit : UnitForm) (others : Program) (read : List ReadMark) (here : ReadMark) (left : List ReadMark) (r : Refusal)
+is_told : (b : List ReadMark) (k : ℕ) (units : Program) (unit : UnitForm) (others : Program) (read : List ReadMark) (here : ReadMark) (left : List ReadMark)
+    (r : Refusal)
     → r.unit ≡ length units + k
     → part_marks unit ≡ read ++ here ∷ left
     → AreFine b (program_marks units ++ read)

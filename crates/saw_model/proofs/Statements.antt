@@ -196,7 +196,8 @@ mutual
   grows_all End s y h = subst (λ (q : Steps × At). Grows s q.1) (ok_is (Done, s) y h) (grows_same s s refl refl refl)
   grows_all (Then c b) s y h =
       let d = followed_parts c b s y h in
-      subst (λ (q : Steps × At). Grows s q.1) d.is (grows_trans s d.first.1 d.others.1 (grows c s d.first d.first_is) (grows_all b d.first.1 d.others d.others_is))
+      subst (λ (q : Steps × At). Grows s q.1) d.is
+      (grows_trans s d.first.1 d.others.1 (grows c s d.first d.first_is) (grows_all b d.first.1 d.others d.others_is))
 
   -- so does an `else`, or none
   pub grows_optional : (o : Optional) (s : At) (y : Steps × At) → steps_optional o s ≡ fine y → Grows s y.1
@@ -247,7 +248,8 @@ module _ (w : ℕ) (r : List ℤ) (ts : List TableDecl) where
       (none_met w r ts now (exec (Assign n t) r now) s.scope (slice_set mem d.slot (val d.value (take w r) mem)) refl
       (subst (λ v. Agrees s.scope (at_name n z now.values) (slice_set mem d.slot v)) value set))
 
-  emit_met : (t : Name) (is : List Expression) (v : Expression) (wt : Option Expression) (s : At) (y : Steps × At) (now : State) (mem : List ℤ) → Sent t is v wt s y
+  emit_met : (t : Name) (is : List Expression) (v : Expression) (wt : Option Expression) (s : At) (y : Steps × At) (now : State) (mem : List ℤ)
+      → Sent t is v wt s y
       → reach_all (emit_row is v wt) ≤ w → Ready s now mem → MetBy s now (exec (Emit t is v wt) r now) y mem
   emit_met t is v wt s y now mem d h k =
       let env = now.values in
@@ -295,11 +297,15 @@ module _ (w : ℕ) (r : List ℤ) (ts : List TableDecl) where
         let b3 : reach_optional o ≤ w = omega (arith, b) in
         let cond = term_is w r s.scope t now.values mem d.cond b1 k.agrees d.cond_is in
         let k1 : Ready (one_more s) now mem = record { sound = k.sound; ports = k.ports; agrees = k.agrees } in
-        let k2 : Ready (second_at s d.first) now mem = record { sound = more_slots s.scope s.slots d.first.1.slots g.slots k.sound; ports = k.ports; agrees = k.agrees } in
-        let m1 = within now (exec_block a r now) s.scope d.first.1.scope (ran d.first.0 (take w r) mem) g.keeps (met_all a (one_more s) d.first now mem d.first_is b2 k1 l1) in
-        let m2 = within now (exec_optional o r now) s.scope d.second.1.scope (ran d.second.0 (take w r) mem) e.keeps (met_optional o (second_at s d.first) d.second now mem d.second_is b3 k2 last) in
+        let k2 : Ready (second_at s d.first) now mem =
+        record { sound = more_slots s.scope s.slots d.first.1.slots g.slots k.sound; ports = k.ports; agrees = k.agrees } in
+        let m1 = within now (exec_block a r now) s.scope d.first.1.scope (ran d.first.0 (take w r) mem) g.keeps
+        (met_all a (one_more s) d.first now mem d.first_is b2 k1 l1) in
+        let m2 = within now (exec_optional o r now) s.scope d.second.1.scope (ran d.second.0 (take w r) mem) e.keeps
+        (met_optional o (second_at s d.first) d.second now mem d.second_is b3 k2 last) in
         let both : Met ts now (exec (If t a o) r now) s.scope (ran_once (steps.If d.cond d.first.0 d.second.0) (take w r) mem) =
-        if_met (λ n q. Met ts now n s.scope q) (is_true (eval t r now.values)) (is_true (val d.cond (take w r) mem)) (exec_block a r now) (exec_optional o r now) (ran d.first.0 (take w r) mem) (ran d.second.0 (take w r) mem) (ap is_true cond) m1 m2
+        if_met (λ n q. Met ts now n s.scope q) (is_true (eval t r now.values)) (is_true (val d.cond (take w r) mem)) (exec_block a r now)
+        (exec_optional o r now) (ran d.first.0 (take w r) mem) (ran d.second.0 (take w r) mem) (ap is_true cond) m1 m2
         in
         subst (λ (q : Steps × At). MetBy s now (exec (If t a o) r now) q mem) d.is
         (subst (Met ts now (exec (If t a o) r now) s.scope) (one_ran (steps.If d.cond d.first.0 d.second.0) (take w r) mem) both)
@@ -319,11 +325,13 @@ module _ (w : ℕ) (r : List ℤ) (ts : List TableDecl) where
         let m = met c s d.first now mem d.first_is b1 k l1 in
         let mem' = (ran d.first.0 (take w r) mem).slots in
         let size : length mem' ≡ length mem = ran_length d.first.0 (take w r) mem in
-        let n = met_all o d.first.1 d.others (exec c r now) mem' d.others_is b2 (ready_after s now (exec c r now) d.first mem k g m) (omega (arith, last, size)) in
+        let n = met_all o d.first.1 d.others (exec c r now) mem' d.others_is b2 (ready_after s now (exec c r now) d.first mem k g m)
+        (omega (arith, last, size)) in
         subst (λ (q : Steps × At). MetBy s now (exec_block (Then c o) r now) q mem) d.is
         (met_more w r ts now (exec c r now) (exec_block o r (exec c r now)) d.first.1.scope d.others.1.scope d.first.0 d.others.0 mem m n)
 
-    pub met_optional : (o : Optional) (s : At) (y : Steps × At) (now : State) (mem : List ℤ) → steps_optional o s ≡ fine y → reach_optional o ≤ w → Ready s now mem
+    pub met_optional : (o : Optional) (s : At) (y : Steps × At) (now : State) (mem : List ℤ) → steps_optional o s ≡ fine y → reach_optional o ≤ w
+        → Ready s now mem
         → y.1.slots ≤ length mem → MetBy s now (exec_optional o r now) y mem
     met_optional Unwritten s y now mem h b k len =
         subst (λ (q : Steps × At). MetBy s now now q mem) (ok_is (Done, s) y h) (none_met w r ts now now s.scope mem refl k.agrees)

@@ -92,7 +92,8 @@ kind_there : (ts : List TableDecl) (i : ℕ) (t : TableDecl) → AreOnce (queues
 kind_there [] i t o g = absurd (cc g)
 kind_there (u ∷ us) zero t o g =
     let e = same u t g in
-    if_known (name_eq (queue_name u.name) (queue_name t.name)) (rows (table_width u.kind)) (kind_in (queue_decls us) (queue_name t.name)) (ap (λ (x : TableDecl). name_eq (queue_name x.name) (queue_name t.name)) e ∙ name_same (queue_name t.name))
+    if_known (name_eq (queue_name u.name) (queue_name t.name)) (rows (table_width u.kind)) (kind_in (queue_decls us) (queue_name t.name))
+    (ap (λ (x : TableDecl). name_eq (queue_name x.name) (queue_name t.name)) e ∙ name_same (queue_name t.name))
     ∙ ap (λ (x : TableDecl). Some (rows (table_width x.kind))) e
   where
     same : (u t : TableDecl) → Some u ≡ Some t → u ≡ t
@@ -110,7 +111,8 @@ table_there : (ts : List TableDecl) (i : ℕ) (t : TableDecl) → AreOnce (table
 table_there [] i t o g = absurd (cc g)
 table_there (u ∷ us) zero t o g =
     let e = same u t g in
-    if_known (name_eq u.name t.name) (Table (table_width u.kind)) (table_in us t.name) (ap (λ (x : TableDecl). name_eq x.name t.name) e ∙ name_same t.name) ∙ ap (λ (x : TableDecl). Some (Table (table_width x.kind))) e
+    if_known (name_eq u.name t.name) (Table (table_width u.kind)) (table_in us t.name) (ap (λ (x : TableDecl). name_eq x.name t.name) e ∙ name_same t.name)
+    ∙ ap (λ (x : TableDecl). Some (Table (table_width x.kind))) e
   where
     same : (u t : TableDecl) → Some u ≡ Some t → u ≡ t
     same u t g = cc
@@ -146,7 +148,12 @@ good_kind (Sum keys) b h = record { table = h; width = width_true (keys + 1) (om
 good_kind (Collection keys) b h = record { table = h; width = width_true (keys + 1) (omega arith) (omega (arith, h)); best = nothing 1000000 }
 good_kind (Maximum best keys) b h =
     let p = and_parts (nat_le 1 best) (nat_le best 1000000) b in
-    record { table = (h, leb-true 1 best p.0); width = width_true (keys + 2) (omega arith) (omega (arith, h)); best = one 1000000 best (leb-true best 1000000 p.1) }
+    record {
+      table = (h, leb-true 1 best p.0);
+      width = width_true (keys + 2) (omega arith) (omega (arith, h));
+      best =
+          one 1000000 best (leb-true best 1000000 p.1);
+    }
 
 goods : (p : Program) (s : At) (y : Steps × At) → parts_read p s ≡ fine y → AreGood (tables_in p)
 goods [] s y h = tt
@@ -259,7 +266,8 @@ module _ (p : Program) (read : Steps × At) (low : AreShallowParts p) (h : parts
   labels l = let t = tallies_named l ts in ⊎_elim
       (λ c.
       let e = ap one_if c.1 in
-      let n : count l (with_end (codes "@tally") ts) ≡ 0 = subst (λ x. count x (with_end (codes "@tally") ts) ≡ 0) c.0 (end_none (codes "@tally") (codes "map") not_map ts) in
+      let n : count l (with_end (codes "@tally") ts) ≡ 0 =
+      subst (λ x. count x (with_end (codes "@tally") ts) ≡ 0) c.0 (end_none (codes "@tally") (codes "map") not_map ts) in
       omega (arith, t, e, n))
       (λ c. let e = ap one_if c.1 in let n = end_once (codes "@tally") ts once l in omega (arith, t, e, n))
       (cases_name (codes "map") l)
@@ -270,7 +278,9 @@ module _ (p : Program) (read : Steps × At) (low : AreShallowParts p) (h : parts
   kind_at : (i : ℕ) (t : TableDecl) → slice_get ts i ≡ Some t → kind (queue_name t.name) ≡ rows (table_width t.kind)
   kind_at i t g = ⊎_elim
       (λ c. absurd (not_in t.name (sym c.0)))
-      (λ c. ap (λ o. unwrap_or o (rows 0)) (if_other (name_eq (codes "in") (queue_name t.name)) (rows (width p)) (kind_in (queue_decls ts) (queue_name t.name)) c.1 ∙ kind_there ts i t queues_once g))
+      (λ c. ap (λ o. unwrap_or o (rows 0))
+      (if_other (name_eq (codes "in") (queue_name t.name)) (rows (width p)) (kind_in (queue_decls ts) (queue_name t.name)) c.1
+      ∙ kind_there ts i t queues_once g))
       (cases_name (codes "in") (queue_name t.name))
 
   abbrev var : Name → VarKind
@@ -299,7 +309,9 @@ module _ (p : Program) (read : Steps × At) (low : AreShallowParts p) (h : parts
     refl,
     kinds_of kind ts kind_at,
     refl,
-    and_from (is_width (width p)) _ wide (and_from (are_widths (widths_of ts)) _ (good_widths ts good) (and_from (is_steps (width p) read.1.slots (widths_of ts) read.0) (nat_le 0 read.1.slots) body (le-leb 0 read.1.slots (omega arith)))),
+    and_from (is_width (width p)) _ wide
+        (and_from (are_widths (widths_of ts)) _ (good_widths ts good)
+        (and_from (is_steps (width p) read.1.slots (widths_of ts) read.0) (nat_le 0 read.1.slots) body (le-leb 0 read.1.slots (omega arith)))),
   )
 
   limited : (l : Limit) → All (λ n. n ≤ most_of l) (numbers l (plan_of p read))
@@ -312,7 +324,8 @@ module _ (p : Program) (read : Steps × At) (low : AreShallowParts p) (h : parts
       (more 64 (length (queues_of ts)) (port_numbers (tallies ts)) (let e = length-map ts (λ t. queue_name t.name) in omega (arith, e, few)) (few_ports ts))
   limited limit.Statements =
       let c = parts_count p nothing_read read h in let s = c.size in let m = c.small (omega arith) in
-      more 16384 (size read.0) (kernel_numbers limit.Statements (tallies ts)) (omega (arith, s, m)) (subst (All (λ n. n ≤ 16384)) (sym (no_numbers limit.Statements ts)) (nothing 16384))
+      more 16384 (size read.0) (kernel_numbers limit.Statements (tallies ts)) (omega (arith, s, m))
+      (subst (All (λ n. n ≤ 16384)) (sym (no_numbers limit.Statements ts)) (nothing 16384))
   limited limit.Slots =
       let c = parts_count p nothing_read read h in let m = c.few (omega arith) in
       more 256 read.1.slots (kernel_numbers limit.Slots (tallies ts)) m (subst (All (λ n. n ≤ 256)) (sym (no_numbers limit.Slots ts)) (nothing 256))

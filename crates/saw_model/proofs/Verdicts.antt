@@ -154,7 +154,8 @@ same_head : (x y : ReadMark) (xs ys : List ReadMark) → x ∷ xs ≡ y ∷ ys �
 same_head x y xs ys h = ((let e : x ≡ y = cc h in e), (let e : xs ≡ ys = cc h in e))
 
 -- no place of the text has a fault, one by one or wherever it is cut
-pub fine_all : (b ms : List ReadMark) → AreFine b ms → (before : List ReadMark) (m : ReadMark) (after : List ReadMark) → ms ≡ before ++ m ∷ after → IsFine (b ++ before) m
+pub fine_all : (b ms : List ReadMark) → AreFine b ms → (before : List ReadMark) (m : ReadMark) (after : List ReadMark) → ms ≡ before ++ m ∷ after
+    → IsFine (b ++ before) m
 fine_all b [] a [] m after e = absurd (cc e)
 fine_all b [] a (x ∷ before) m after e = absurd (cc e)
 fine_all b (y ∷ ms) a [] m after e =
@@ -164,7 +165,8 @@ fine_all b (y ∷ ms) a (x ∷ before) m after e =
     subst (λ z. IsFine z m) (append_assoc b (x ∷ []) before)
     (subst (λ z. IsFine ((b ++ z ∷ []) ++ before) m) s.0 (fine_all (b ++ y ∷ []) ms a.1 before m after s.1))
 
-pub all_fine : (b ms : List ReadMark) → ((before : List ReadMark) (m : ReadMark) (after : List ReadMark) → ms ≡ before ++ m ∷ after → IsFine (b ++ before) m) → AreFine b ms
+pub all_fine : (b ms : List ReadMark) → ((before : List ReadMark) (m : ReadMark) (after : List ReadMark) → ms ≡ before ++ m ∷ after → IsFine (b ++ before) m)
+    → AreFine b ms
 all_fine b [] h = tt
 all_fine b (m ∷ ms) h = (
   subst (λ z. IsFine z m) (append-nil b) (h [] m ms refl),
@@ -192,7 +194,8 @@ behind Q b ms ns (Ok a) f v = (fine_both b ms ns f v.0, subst (λ x. Q x a) (app
 behind Q b ms ns (Err e) f v = first_behind b ms ns e f v
 
 -- one text, and then another
-pub then_read : {A B : Type 0} (Q : List ReadMark → A → Type 0) (R : List ReadMark → B → Type 0) (b ms ns : List ReadMark) (r : Result A Fault) (g : A → Result B Fault)
+pub then_read : {A B : Type 0} (Q : List ReadMark → A → Type 0) (R : List ReadMark → B → Type 0) (b ms ns : List ReadMark) (r : Result A Fault)
+    (g : A → Result B Fault)
     → Verdict Q b ms r
     → ((a : A) → Q (b ++ ms) a → Verdict R (b ++ ms) ns (g a))
     → Verdict R b (ms ++ ns) (on_ok r g)
@@ -200,7 +203,8 @@ then_read Q R b ms ns (Ok a) g v h = behind R b ms ns (g a) v.0 (h a v.1)
 then_read Q R b ms ns (Err e) g v h = first_front b ms ns e v
 
 -- the value of a text
-pub then_is : {A B : Type 0} (Q : List ReadMark → A → Type 0) (R : List ReadMark → B → Type 0) (b ms : List ReadMark) (r : Result A Fault) (g : A → B) → Verdict Q b ms r
+pub then_is : {A B : Type 0} (Q : List ReadMark → A → Type 0) (R : List ReadMark → B → Type 0) (b ms : List ReadMark) (r : Result A Fault) (g : A → B)
+    → Verdict Q b ms r
     → ((a : A) → Q (b ++ ms) a → R (b ++ ms) (g a))
     → Verdict R b ms (on_ok r (λ a. Ok (g a)))
 then_is Q R b ms (Ok a) g v h = (v.0, h a v.1)

@@ -27,7 +27,8 @@ indexes-bad n done ts e bad = repeated-fail (parse.many_turn no_bracket (square_
 pub indexes-next : (n : ℕ) (done : List Expression) (ts us : List Tok) (v : Expression) → no_bracket ts ≡ false → square_at term_at n ts ≡ Some (v, us)
     → repeated (parse.many_turn no_bracket (square_at term_at n)) (done ++ v ∷ []) us ≡ repeated (parse.many_turn no_bracket (square_at term_at n)) done ts
 indexes-next n done ts us v e read =
-    sym (repeated-next (parse.many_turn no_bracket (square_at term_at n)) (many-shortens no_bracket (exact-index n) (listed-squares IsExpression n)) done ts (done ++ v ∷ []) us (rw (e, read) refl))
+    sym (repeated-next (parse.many_turn no_bracket (square_at term_at n)) (many-shortens no_bracket (exact-index n) (listed-squares IsExpression n)) done ts
+    (done ++ v ∷ []) us (rw (e, read) refl))
 
 pub index-shortens : (n : ℕ) (ts us : List Tok) (v : Expression) → square_at term_at n ts ≡ Some (v, us) → length us < length ts
 index-shortens n ts us v e =
@@ -50,7 +51,8 @@ columns-bad n done ts e bad = repeated-fail (parse.many_turn no_bracket (column_
 pub columns-next : (n : ℕ) (done : List Field) (ts us : List Tok) (v : Field) → no_bracket ts ≡ false → column_at n ts ≡ Some (v, us)
     → repeated (parse.many_turn no_bracket (column_at n)) (done ++ v ∷ []) us ≡ repeated (parse.many_turn no_bracket (column_at n)) done ts
 columns-next n done ts us v e read =
-    sym (repeated-next (parse.many_turn no_bracket (column_at n)) (many-shortens no_bracket (exact-column n) (listed-squares (λ m. IsField) n)) done ts (done ++ v ∷ []) us (rw (e, read) refl))
+    sym (repeated-next (parse.many_turn no_bracket (column_at n)) (many-shortens no_bracket (exact-column n) (listed-squares (λ m. IsField) n)) done ts
+    (done ++ v ∷ []) us (rw (e, read) refl))
 
 pub column-shortens : (n : ℕ) (ts us : List Tok) (v : Field) → column_at n ts ≡ Some (v, us) → length us < length ts
 column-shortens n ts us v e =

@@ -56,13 +56,15 @@ exact-kind n =
 exact-weight_field : Exact (form.Maybe (form.AfterWord (codes "weight") IsField)) weight_field_at (λ rest. parse.is_word_at (codes "weight") rest ≡ false)
 unfolding weight_field_at
 exact-weight_field =
-    exact-less (exact-maybe (parse.is_word_at (codes "weight")) (exact-after_word (codes "weight") exact-field) (λ v ts rest h. rw h.is refl)) (λ rest d. (tt, d))
+    exact-less (exact-maybe (parse.is_word_at (codes "weight")) (exact-after_word (codes "weight") exact-field) (λ v ts rest h. rw h.is refl))
+    (λ rest d. (tt, d))
 
 pub exact-table : (w : List ℕ) (n : ℕ) → Exact (IsTable w n) (table_at w n) Any
 unfolding table_at in_table_at
 exact-table w n =
     exact-tested is_fitting (exact-seen (made_table w) (exact-both (exact-kind n) (exact-both (exact-columns n) (exact-after_word (codes "of")
-    (exact-both exact-field (exact-before (s.Semicolon ∷ []) exact-weight_field (λ rest. refl)) (λ y ts rest g d. tt))) (λ y ts rest g d. rw g.is refl)) (λ y ts rest g d. tt)))
+    (exact-both exact-field (exact-before (s.Semicolon ∷ []) exact-weight_field (λ rest. refl)) (λ y ts rest g d. tt))) (λ y ts rest g d. rw g.is refl))
+    (λ y ts rest g d. tt)))
 
 exact-typed : (w : List ℕ) (n : ℕ) → Exact (form.Headed (TypedAfter w n)) (typed_at w n) Any
 unfolding typed_at typed_after

@@ -23,7 +23,8 @@ pub last_more : (ts : List ℤ) (r : Timed) (n : ℕ) (t : ℤ) (new : List (Lis
 last_more ts r n t new lt e is = is ∙ sym (ap (λ l. at_last r (last_instant l)) (one_more ts n t lt e) ∙ ap (at_last r) (last_push (take n ts) t))
 
 -- is the content before that of the next
-before_is : (ts : List ℤ) (r : Timed) (n : ℕ) (t : ℤ) → Rises ts → n < length ts → t ≡ get_or ts n t → content_before ts r t ≡ at_last r (last_instant (take n ts))
+before_is : (ts : List ℤ) (r : Timed) (n : ℕ) (t : ℤ) → Rises ts → n < length ts → t ≡ get_or ts n t
+    → content_before ts r t ≡ at_last r (last_instant (take n ts))
 before_is ts r n t up lt e =
     let split : ts ≡ take n ts ++ (t ∷ drop (n + 1) ts) = sym (take-append-drop n ts) ∙ ap (λ l. take n ts ++ l) (left_at ts n t lt e) in
     ap (λ l. at_last r (last_instant (filter (λ u. int_lt u t) l))) split
@@ -32,7 +33,8 @@ before_is ts r n t up lt e =
 -- one batch more of a query's stream
 pub batch_more : (k : Kind) (ts : List ℤ) (r : Timed) (n : ℕ) (t : ℤ) (old : List (List ℤ)) (items more : List item.Item) → Rises ts → n < length ts
     → t ≡ get_or ts n t
-    → old ≡ at_last r (last_instant (take n ts)) → items ≡ spread (take n ts) (as_stream k ts r) → more ≡ items ++ item_at t (in_order (changed k old (r t))) ∷ []
+    → old ≡ at_last r (last_instant (take n ts)) → items ≡ spread (take n ts) (as_stream k ts r)
+    → more ≡ items ++ item_at t (in_order (changed k old (r t))) ∷ []
     → more ≡ spread (take (n + 1) ts) (as_stream k ts r)
 batch_more k ts r n t old items more up lt e is so pushed =
     pushed ∙ ap (λ l. l ++ item_at t (in_order (changed k old (r t))) ∷ []) so

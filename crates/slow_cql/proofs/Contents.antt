@@ -28,18 +28,21 @@ where_true-append names (Some e) xs ys = filter-append _ xs ys
 
 where_more : (names : List Named) (o : Option Scalar) (cs : Columns) (xs : List Tuple) (n : ℕ) (x : Tuple) (b : Bool) → n < length xs → x ≡ get_or xs n x
     → condition_holds names o x ≡ b
-    → map (selected_row names cs) (where_true names o (take (n + 1) xs)) ≡ map (selected_row names cs) (where_true names o (take n xs)) ++ map (selected_row names cs)
+    → map (selected_row names cs) (where_true names o (take (n + 1) xs)) ≡ map (selected_row names cs) (where_true names o (take n xs)) ++ map
+    (selected_row names cs)
     (cond b (x ∷ []) [])
 where_more names o cs xs n x b lt e h =
     ap (λ l. map (selected_row names cs) (where_true names o l)) (take_more xs n x lt ∙ ap (λ y. take n xs ++ y ∷ []) (sym e))
-    ∙ ap (map (selected_row names cs)) (where_true-append names o (take n xs) (x ∷ []) ∙ ap (λ l. where_true names o (take n xs) ++ l) (one_passes names o x b h))
+    ∙ ap (map (selected_row names cs))
+    (where_true-append names o (take n xs) (x ∷ []) ∙ ap (λ l. where_true names o (take n xs) ++ l) (one_passes names o x b h))
     ∙ map-append (selected_row names cs) (where_true names o (take n xs)) (cond b (x ∷ []) [])
 
 pub where_passed : (names : List Named) (o : Option Scalar) (cs : Columns) (xs : List Tuple) (n : ℕ) (x : Tuple) (old new : List (List ℤ)) → n < length xs
     → x ≡ get_or xs n x → condition_holds names o x ≡ true
     → old ≡ map (selected_row names cs) (where_true names o (take n xs)) → new ≡ old ++ selected_row names cs x ∷ []
     → new ≡ map (selected_row names cs) (where_true names o (take (n + 1) xs))
-where_passed names o cs xs n x old new lt e h is pushed = pushed ∙ ap (λ l. l ++ selected_row names cs x ∷ []) is ∙ sym (where_more names o cs xs n x true lt e h)
+where_passed names o cs xs n x old new lt e h is pushed = pushed ∙ ap (λ l. l ++ selected_row names cs x ∷ []) is
+    ∙ sym (where_more names o cs xs n x true lt e h)
 
 pub where_stopped : (names : List Named) (o : Option Scalar) (cs : Columns) (xs : List Tuple) (n : ℕ) (x : Tuple) (old : List (List ℤ)) → n < length xs
     → x ≡ get_or xs n x → condition_holds names o x ≡ false

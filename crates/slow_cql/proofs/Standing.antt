@@ -66,8 +66,10 @@ inputs_same ts ks xs ys is js a b h = subst (λ (l : List Input). AreInputsOf ts
 -- ---- INPUTS
 
 -- what is kept under an item's name is its input
-pub input_is : (ts : List ℤ) (all : List Kept) (ks : List KnownStream) (x : Source) (i : Input) → Rises ts → StandsKept ts all ks → i.name ≡ alias_or x.alias x.stream
-    → i.fields.now ≡ fields_or (latest x.stream all) → i.window ≡ x.window → i.entries.now ≡ entries_or (latest x.stream all) → IsItemInput ts ks (source_of x) i
+pub input_is : (ts : List ℤ) (all : List Kept) (ks : List KnownStream) (x : Source) (i : Input) → Rises ts → StandsKept ts all ks
+    → i.name ≡ alias_or x.alias x.stream
+    → i.fields.now ≡ fields_or (latest x.stream all) → i.window ≡ x.window → i.entries.now ≡ entries_or (latest x.stream all)
+    → IsItemInput ts ks (source_of x) i
 input_is ts all ks x i up s en ef ew ee =
     let rows : i.entries.now ≡ timed ts (rows_named ks x.stream) = ee ∙ s.rows x.stream in
     let fields : i.fields.now ≡ fields_of (named_of ks) x.stream = ef ∙ s.fields x.stream in
@@ -98,8 +100,10 @@ sources-push : (xs : List Source) (x : Source) → sources_of (xs ++ x ∷ []) �
 sources-push [] x = refl
 sources-push (y ∷ ys) x = ap (λ l. source_of y ∷ l) (sources-push ys x)
 
-pub inputs_more : (ts : List ℤ) (ks : List KnownStream) (xs : List Source) (n : ℕ) (x : Source) (is js : List Input) (i : Input) → n < length xs → x ≡ get_or xs n x
-    → AreInputsOf ts ks (sources_of (take n xs)) is → IsItemInput ts ks (source_of x) i → js ≡ is ++ i ∷ [] → AreInputsOf ts ks (sources_of (take (n + 1) xs)) js
+pub inputs_more : (ts : List ℤ) (ks : List KnownStream) (xs : List Source) (n : ℕ) (x : Source) (is js : List Input) (i : Input) → n < length xs
+    → x ≡ get_or xs n x
+    → AreInputsOf ts ks (sources_of (take n xs)) is → IsItemInput ts ks (source_of x) i → js ≡ is ++ i ∷ []
+    → AreInputsOf ts ks (sources_of (take (n + 1) xs)) js
 inputs_more ts ks xs n x is js i lt e a h pushed =
     let all : sources_of (take (n + 1) xs) ≡ sources_of (take n xs) ++ source_of x ∷ [] =
     ap sources_of (take_more xs n x lt ∙ ap (λ y. take n xs ++ y ∷ []) (sym e)) ∙ sources-push (take n xs) x in

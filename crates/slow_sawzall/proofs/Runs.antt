@@ -139,7 +139,8 @@ pushed_value a b z y f h e = h ∙ ap (λ x. a ++ x ∷ []) (to_z-of_z w64 z f �
 
 -- one value more
 pub values_next : (es : List Expr) (i : ℕ) (e : Expr) (r : List ℤ) (env : Values) (old now next : List ℤ) → i < length es → e ≡ get_or es i e
-    → next ≡ now ++ eval (spoken e) r env ∷ [] → now ≡ old ++ eval_all (expressions (take i es)) r env → next ≡ old ++ eval_all (expressions (take (i + 1) es)) r env
+    → next ≡ now ++ eval (spoken e) r env ∷ [] → now ≡ old ++ eval_all (expressions (take i es)) r env
+    → next ≡ old ++ eval_all (expressions (take (i + 1) es)) r env
 values_next es i e r env old now next lt is n h =
     n ∙ ap (λ l. l ++ eval (spoken e) r env ∷ []) h
     ∙ append_assoc old (eval_all (expressions (take i es)) r env) (eval (spoken e) r env ∷ [])

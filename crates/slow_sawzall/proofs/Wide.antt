@@ -65,7 +65,8 @@ parts_many is v w = length-append is (v ∷ listed w)
 
 -- WHAT CAN BE RUN
 
-sent_few : (t : Name) (is : List Expression) (v : Expression) (w : Option Expression) (s : At) (y : Steps × At) → Sent t is v w s y → length (emit_row is v w) ≤ 16
+sent_few : (t : Name) (is : List Expression) (v : Expression) (w : Option Expression) (s : At) (y : Steps × At) → Sent t is v w s y
+    → length (emit_row is v w) ≤ 16
 sent_few t is v w s y d =
     let a = indexes_few s.scope 0 is d.indexes (omega arith) d.indexes_is in
     let b = listed_few w in let c = parts_many is v w in
@@ -135,7 +136,8 @@ module _ (ts : List TableDecl) where
   got_name (u ∷ us) zero t g = ap (λ (x : TableDecl). Some x.name) (some_is u t g)
   got_name (u ∷ us) (suc i) t g = got_name us i t g
 
-  sent_wide : AreOnce (table_names ts) → (t : Name) (is : List Expression) (v : Expression) (w : Option Expression) (s : At) (y : Steps × At) → Sent t is v w s y
+  sent_wide : AreOnce (table_names ts) → (t : Name) (is : List Expression) (v : Expression) (w : Option Expression) (s : At) (y : Steps × At)
+      → Sent t is v w s y
       → ArePorts ts s.scope → IsTableWide ts t (length (emit_row is v w))
   sent_wide once t is v w s y d a =
       let p = d.port.0 in let k = d.port.1 in
@@ -179,7 +181,8 @@ module _ (ts : List TableDecl) where
       let here = tabled_parts tb.name (table_kind tb) s d.first d.first_is in
       let decl : TableDecl = table_decl tb in
       let got : slice_get ts s.tables ≡ Some decl = ap (slice_get ts) e ∙ ap (λ l. slice_get l (length done)) t ∙ got_here done (tables_in ps) decl in
-      let more : ArePorts ts d.first.1.scope = subst (λ (q : Steps × At). ArePorts ts q.1.scope) here.is (ports_new ts tb.name s.tables (table_kind tb) s.scope got a) in
+      let more : ArePorts ts d.first.1.scope =
+      subst (λ (q : Steps × At). ArePorts ts q.1.scope) here.is (ports_new ts tb.name s.tables (table_kind tb) s.scope got a) in
       let e2 : d.first.1.tables ≡ length (done ++ decl ∷ []) = ap (λ (q : Steps × At). q.1.tables) (sym here.is)
       ∙ (let l = length-append done (decl ∷ []) in omega (arith, l, e)) in
       parts_wide once ps d.first.1 d.others (done ++ decl ∷ []) d.others_is more (t ∙ sym (append_assoc done (decl ∷ []) (tables_in ps))) e2
@@ -209,7 +212,8 @@ module _ (ts : List TableDecl) where
         let parts = emit_row is v w in
         let one : IsTableWide ts t (length (eval_all parts r s.values)) = subst (IsTableWide ts t) (sym (evals_many parts r s.values)) h in
         wide-append s.emitted ((t, eval_all parts r s.values) ∷ []) k (one, tt)
-    exec_wide (If t a b) r s h k = if_wide (is_true (eval t r s.values)) (exec_block a r s) (exec_optional b r s) (exec_block_wide a r s h.0 k) (exec_optional_wide b r s h.1 k)
+    exec_wide (If t a b) r s h k =
+        if_wide (is_true (eval t r s.values)) (exec_block a r s) (exec_optional b r s) (exec_block_wide a r s h.0 k) (exec_optional_wide b r s h.1 k)
 
     exec_block_wide : (b : Block) (r : List ℤ) (s : State) → AreStepsWide b → AreRowsWide s.emitted → AreRowsWide (exec_block b r s).emitted
     exec_block_wide End r s h k = k

@@ -51,7 +51,8 @@ all_fired t xs before kept kept' out out' le ek eo e =
     ∙ ap (λ l. before ++ l) (sym (fires-there t (length xs) 0 kept xs (omega (arith, le))))
 
 -- no firing
-pub none_fired : (t : FilterTree) (xs before kept : List ℤ) → length xs < max (peek_of (runs_in t 0)) 1 → before ≡ before ++ fires_from t (suc (length xs)) 0 kept xs
+pub none_fired : (t : FilterTree) (xs before kept : List ℤ) → length xs < max (peek_of (runs_in t 0)) 1
+    → before ≡ before ++ fires_from t (suc (length xs)) 0 kept xs
 none_fired t xs before kept lt = sym (append-nil before) ∙ ap (λ l. before ++ l) (sym (fires-none t (length xs) 0 kept xs (omega (arith, lt))))
 
 -- what was pushed behind the first firing, and what the firings behind those push; the next starts there

@@ -80,7 +80,8 @@ lower_more n [] j h lt = (lt, tt)
 lower_more n (i ∷ js) j h lt = (h.0, lower_more n js j h.1 lt)
 
 -- so far: what was added, and that the whole is what is read from the last one on
-pub record SoFar (us : List UnitForm) (may : ℕ → Bool) (known : Streamed) (whole : Result Streams Fault) (i : ℕ) (rest : List Name) (c : Children) : Type 0 where
+pub record SoFar (us : List UnitForm) (may : ℕ → Bool) (known : Streamed) (whole : Result Streams Fault) (i : ℕ) (rest : List Name)
+    (c : Children) : Type 0 where
   pub prior : List Stream
   pub last : Stream
   pub are : AreChildren us c (chain prior last)
@@ -104,7 +105,8 @@ adds_start us may known n ms k c (s, e, h) f l o d = record {
 }
 
 -- one stream more
-pub adds_next : (us : List UnitForm) (may : ℕ → Bool) (known : Streamed) (whole : Result Streams Fault) (i : ℕ) (m : Name) (ms : List Name) (c c' : Children) (k : Entry)
+pub adds_next : (us : List UnitForm) (may : ℕ → Bool) (known : Streamed) (whole : Result Streams Fault) (i : ℕ) (m : Name) (ms : List Name) (c c' : Children)
+    (k : Entry)
     → SoFar us may known whole i (m ∷ ms) c → AddsOne us (Ok k) (stream_added may known (i + 1) m)
     → c'.front.items ≡ c.front.items ++ c.last ∷ [] → c'.last ≡ k.number → c'.ops ≡ min (c.ops + k.ops) 257 → c'.deepest ≡ max c.deepest k.nesting
     → SoFar us may known whole (i + 1) ms c'
@@ -115,7 +117,9 @@ adds_next us may known whole i m ms c c' k f (s, e, h) fr la op de =
       last = s;
       are = record {
         trees =
-            subst (λ js. AreTrees us js c'.last (chain (f.prior ++ f.last ∷ []) s)) (sym fr) (subst (λ j. AreTrees us (c.front.items ++ c.last ∷ []) j (chain (f.prior ++ f.last ∷ []) s)) (sym la) (trees_more us c.front.items c.last k.number f.prior f.last s a.trees h.tree));
+            subst (λ js. AreTrees us js c'.last (chain (f.prior ++ f.last ∷ []) s)) (sym fr)
+            (subst (λ j. AreTrees us (c.front.items ++ c.last ∷ []) j (chain (f.prior ++ f.last ∷ []) s)) (sym la)
+            (trees_more us c.front.items c.last k.number f.prior f.last s a.trees h.tree));
         front = subst (AllByRecursion (λ j. j < length us)) (sym fr) (lower_more (length us) c.front.items c.last a.front a.last);
         last = subst (λ j. j < length us) (sym la) h.there;
         ops = (let p = a.ops in let q = h.ops in let r = ops_more f.prior f.last s in omega (arith, op, p, q, r));
@@ -123,16 +127,20 @@ adds_next us may known whole i m ms c c' k f (s, e, h) fr la op de =
       };
       whole_is =
           f.whole_is
-          ∙ ap (λ r. onto f.prior (on_ok r (λ ss. fine (Then f.last ss)))) (streams_ok may known (suc i) m ms s (ap (λ j. stream_added may known j m) (sym (add-one i)) ∙ e) ∙ ap (λ j. going_on may known j s ms) (sym (add-one i)))
+          ∙ ap (λ r. onto f.prior (on_ok r (λ ss. fine (Then f.last ss))))
+          (streams_ok may known (suc i) m ms s (ap (λ j. stream_added may known j m) (sym (add-one i)) ∙ e)
+          ∙ ap (λ j. going_on may known j s ms) (sym (add-one i)))
           ∙ sym (onto_more f.prior f.last (going_on may known (i + 1) s ms));
     }
 
 -- a stream that is refused
-pub adds_fault : (us : List UnitForm) (may : ℕ → Bool) (known : Streamed) (whole : Result Streams Fault) (i : ℕ) (m : Name) (ms : List Name) (c : Children) (f : fault.Fault)
+pub adds_fault : (us : List UnitForm) (may : ℕ → Bool) (known : Streamed) (whole : Result Streams Fault) (i : ℕ) (m : Name) (ms : List Name) (c : Children)
+    (f : fault.Fault)
     → SoFar us may known whole i (m ∷ ms) c → Tells f (stream_added may known (i + 1) m) → Tells f whole
 adds_fault us may known whole i m ms c f s h =
     tells_more f (stream_added may known (i + 1) m) whole
-    (λ g e. s.whole_is ∙ ap (λ r. onto s.prior (on_ok r (λ ss. fine (Then s.last ss)))) (streams_err may known (suc i) m ms g (ap (λ j. stream_added may known j m) (sym (add-one i)) ∙ e)) ∙ onto_err s.prior g)
+    (λ g e. s.whole_is ∙ ap (λ r. onto s.prior (on_ok r (λ ss. fine (Then s.last ss))))
+    (streams_err may known (suc i) m ms g (ap (λ j. stream_added may known j m) (sym (add-one i)) ∙ e)) ∙ onto_err s.prior g)
     h
 
 -- the first one is refused

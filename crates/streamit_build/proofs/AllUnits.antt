@@ -48,10 +48,12 @@ judging_next whole i u us now next j (s, e, k) = record {
 }
 
 -- a unit that is refused
-pub judging_fault : (whole : Result Streamed Refusal) (i : ℕ) (u : Declared) (us : Program) (now next : Known) (f : fault.Fault) (j : Judging whole (i + 1) (u ∷ us) now)
+pub judging_fault : (whole : Result Streamed Refusal) (i : ℕ) (u : Declared) (us : Program) (now next : Known) (f : fault.Fault)
+    (j : Judging whole (i + 1) (u ∷ us) now)
     → Tells f (unit_of j.known u) → Told (i + 1) f whole
 judging_fault whole i u us now next f j h =
-    told_more (i + 1) f (unit_of j.known u) whole (λ g e. j.whole_is ∙ ap (λ r. in_unit (i + 1) r (λ s. all_streams (suc (i + 1)) ((u.name, s) ∷ j.known) us)) e) h
+    told_more (i + 1) f (unit_of j.known u) whole
+    (λ g e. j.whole_is ∙ ap (λ r. in_unit (i + 1) r (λ s. all_streams (suc (i + 1)) ((u.name, s) ∷ j.known) us)) e) h
 
 -- all units
 pub judging_end : (whole : Result Streamed Refusal) (k : ℕ) (now : Known) → Judging whole k [] now → JudgesAll (Ok tt) now whole

@@ -32,7 +32,8 @@ rest_start us front last i old a b low = record {
   branches = λ ss t. record { left = ss; trees = t; added = []; grew = sym (append-nil (op_forms old.ops)); all = refl; ops = refl; queues = refl };
 }
 
-go_on : (us : List UnitForm) (j : ℕ) (js : List ℕ) (last : ℕ) (ss : Streams) (old now next : Made) (a0 b0 a b a' b' : ℕ) (start end : Name) (left : Streams) (added : List OpForm)
+go_on : (us : List UnitForm) (j : ℕ) (js : List ℕ) (last : ℕ) (ss : Streams) (old now next : Made) (a0 b0 a b a' b' : ℕ) (start end : Name) (left : Streams)
+    (added : List OpForm)
     → AreTrees us (j ∷ js) last left → op_forms now.ops ≡ op_forms old.ops ++ added
     → build_branches ss old.next_op old.next_queue a0 b0 ≡ added ++ build_branches left now.next_op now.next_queue a b
     → now.next_op + ops_of left ≡ old.next_op + ops_of ss → now.next_queue + queues_within left ≡ old.next_queue + queues_within ss
@@ -52,8 +53,10 @@ go_on us j js last ss old now next a0 b0 a b a' b' start end (Then s left) added
       grew = d.ops ∙ ap (λ l. l ++ here) g ∙ append_assoc (op_forms old.ops) added here;
       all =
           al
-          ∙ ap (λ x. added ++ (build s now.next_op now.next_queue x (queue b) ++ build_branches left (now.next_op + ops_in s) (now.next_queue + queues_in s) (suc a) (suc b))) (sym e1)
-          ∙ ap (λ x. added ++ (build s now.next_op now.next_queue start x ++ build_branches left (now.next_op + ops_in s) (now.next_queue + queues_in s) (suc a) (suc b))) (sym e2)
+          ∙ ap (λ x. added ++ (build s now.next_op now.next_queue x (queue b) ++ build_branches left (now.next_op + ops_in s) (now.next_queue + queues_in s)
+          (suc a) (suc b))) (sym e1)
+          ∙ ap (λ x. added ++ (build s now.next_op now.next_queue start x ++ build_branches left (now.next_op + ops_in s) (now.next_queue + queues_in s)
+          (suc a) (suc b))) (sym e2)
           ∙ ap (λ n. added ++ (here ++ build_branches left n (now.next_queue + queues_in s) (suc a) (suc b))) (sym n1)
           ∙ ap (λ n. added ++ (here ++ build_branches left next.next_op n (suc a) (suc b))) (sym n2)
           ∙ ap (λ n. added ++ (here ++ build_branches left next.next_op next.next_queue n (suc b))) (let z : suc a ≡ a' = omega (arith, e3) in z)
@@ -86,7 +89,8 @@ end_on us last ss old now next a0 b0 a b start end (Last s) added t g al o q e1 
     let d = bu s t in
     let n1 = d.next_op in
     let n2 = d.next_queue in
-    let same : build s now.next_op now.next_queue start end ≡ build s now.next_op now.next_queue (queue a) (queue b) = ap (λ x. build s now.next_op now.next_queue x end) e1 ∙ ap (build s now.next_op now.next_queue (queue a)) e2 in
+    let same : build s now.next_op now.next_queue start end ≡ build s now.next_op now.next_queue (queue a) (queue b) =
+    ap (λ x. build s now.next_op now.next_queue x end) e1 ∙ ap (build s now.next_op now.next_queue (queue a)) e2 in
     record {
       ops =
           d.ops ∙ ap (λ l. op_forms now.ops ++ l) same ∙ ap (λ l. l ++ build s now.next_op now.next_queue (queue a) (queue b)) g
@@ -121,11 +125,13 @@ pipe_split : (f : List ℕ) (l : ℕ) (d : Splitter) (g : List ℕ) (m : ℕ) (w
 pipe_split f l d g m ws h = cc h
 
 -- a splitter, the branches, a joiner
-pub split_built : {E : Type 0} (us : List UnitForm) (i : ℕ) (d : Splitter) (front : List ℕ) (last : ℕ) (ws : List ℕ) (old first mid new : Made) (from to : Name) (n : ℕ) (sop jop : OpForm) (r : Result (Unit {0}) E)
+pub split_built : {E : Type 0} (us : List UnitForm) (i : ℕ) (d : Splitter) (front : List ℕ) (last : ℕ) (ws : List ℕ) (old first mid new : Made)
+    (from to : Name) (n : ℕ) (sop jop : OpForm) (r : Result (Unit {0}) E)
     → slice_get us i ≡ Some (ASplit d front last ws) → n ≡ suc (length front)
     → sop ≡ splitter d n (numbered (codes "split") old.next_op) from (queues old.next_queue n)
     → op_forms first.ops ≡ op_forms old.ops ++ sop ∷ [] → first.next_op ≡ old.next_op + 1 → first.next_queue ≡ (old.next_queue + n) + n
-    → ((ss : Streams) → AreTrees us front last ss → Built first mid (build_branches ss first.next_op first.next_queue old.next_queue (old.next_queue + n)) (ops_of ss) (queues_within ss))
+    → ((ss : Streams) → AreTrees us front last ss
+    → Built first mid (build_branches ss first.next_op first.next_queue old.next_queue (old.next_queue + n)) (ops_of ss) (queues_within ss))
     → jop ≡ joiner ws (numbered (codes "join") mid.next_op) (queues (old.next_queue + n) n) to
     → OnOk r (op_forms new.ops ≡ op_forms mid.ops ++ jop ∷ []) → OnOk r (new.next_op ≡ mid.next_op + 1) → new.next_queue ≡ mid.next_queue
     → (s : Stream) → IsTree us i s → OnOk r (Built old new (build s old.next_op old.next_queue from to) (ops_in s) (queues_in s))
@@ -142,7 +148,8 @@ split_built us i d front last ws old first mid new from to n sop jop (Ok x) u en
     let c = old.next_op in
     let k = old.next_queue in
     let branches = build_branches ss first.next_op first.next_queue k (k + n) in
-    let whole = λ (m : ℕ) (v : Splitter) (w : List ℕ) (f q l : ℕ). splitter v m (numbered (codes "split") c) from (queues k m) ∷ (build_branches ss f q k (k + m) ++ joiner w (numbered (codes "join") l) (queues (k + m) m) to ∷ []) in
+    let whole = λ (m : ℕ) (v : Splitter) (w : List ℕ) (f q l : ℕ). splitter v m (numbered (codes "split") c) from (queues k m) ∷
+    (build_branches ss f q k (k + m) ++ joiner w (numbered (codes "join") l) (queues (k + m) m) to ∷ []) in
     let n1 = bb.next_op in
     let n2 = bb.next_queue in
     let q' : first.next_queue ≡ k + (number_of ss + number_of ss) = omega (arith, q1, number) in

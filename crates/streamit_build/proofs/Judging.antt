@@ -73,13 +73,15 @@ pipe_declared old new d name a c depth ss known e dp made k h are =
       made known (Pipeline ss) k
           (subst (λ u. IsLower (length old.declared.items) (Some u)) (sym e) (lower_here old c.front.items are.front, omega (arith, low, len)))
           (subst (λ u. HasShortFilters (Some u)) (sym e) tt)
-          (at_last old v (λ i. IsTree (us ++ v ∷ []) i (Pipeline ss)) (c.front.items, c.last, get_last us v ∙ ap Some e, trees_kept us (v ∷ []) c.front.items c.last ss are.trees))
+          (at_last old v (λ i. IsTree (us ++ v ∷ []) i (Pipeline ss))
+          (c.front.items, c.last, get_last us v ∙ ap Some e, trees_kept us (v ∷ []) c.front.items c.last ss are.trees))
           are.ops
           (omega (arith, dp, deep)),
     )
 
 -- a split-join is known
-pub split_declared : (old new : Known) (d : Declared) (name : Name) (g : Dealing) (a : Adds) (ws : Option (List ℕ)) (vs : List ℕ) (sp : Splitter) (c : Children) (ops depth : ℕ) (ss : Streams) (known : Streamed)
+pub split_declared : (old new : Known) (d : Declared) (name : Name) (g : Dealing) (a : Adds) (ws : Option (List ℕ)) (vs : List ℕ) (sp : Splitter)
+    (c : Children) (ops depth : ℕ) (ss : Streams) (known : Streamed)
     → unit_form d ≡ ASplit sp c.front.items c.last vs → ops ≡ min (c.ops + 2) 257 → depth ≡ c.deepest + 1
     → Made old new d name ops depth → Knows old known → splitter_of g (branch_count a) ≡ Ok sp → streams_added branches known 0 a.first a.others ≡ Ok ss
     → round_of ws (branch_count a) ≡ Ok vs → AreChildren (unit_forms old.declared.items) c ss
@@ -99,7 +101,8 @@ split_declared old new d name g a ws vs sp c ops depth ss known e op dp made k h
       made known (SplitJoin sp ss vs) k
           (subst (λ u. IsLower (length old.declared.items) (Some u)) (sym e) (lower_here old c.front.items are.front, omega (arith, low, len)))
           (subst (λ u. HasShortFilters (Some u)) (sym e) tt)
-          (at_last old v (λ i. IsTree (us ++ v ∷ []) i (SplitJoin sp ss vs)) (c.front.items, c.last, get_last us v ∙ ap Some e, trees_kept us (v ∷ []) c.front.items c.last ss are.trees))
+          (at_last old v (λ i. IsTree (us ++ v ∷ []) i (SplitJoin sp ss vs))
+          (c.front.items, c.last, get_last us v ∙ ap Some e, trees_kept us (v ∷ []) c.front.items c.last ss are.trees))
           (omega (arith, op, many))
           (omega (arith, dp, deep)),
     )
@@ -108,7 +111,8 @@ split_declared old new d name g a ws vs sp c ops depth ss known e op dp made k h
 pub split_fault : (f : fault.Fault) (known : Streamed) (name : Name) (g : Dealing) (a : Adds) (ws : Option (List ℕ)) → Tells f (splitter_of g (branch_count a))
     → Tells f (stream_of known name (ASplitJoin g a ws))
 split_fault f known name g a ws h =
-    tells_on f (splitter_of g (branch_count a)) (λ p. on_ok (streams_added branches known 0 a.first a.others) (λ ss. on_ok (round_of ws (branch_count a)) (λ vs. fine (SplitJoin p ss vs)))) h
+    tells_on f (splitter_of g (branch_count a))
+    (λ p. on_ok (streams_added branches known 0 a.first a.others) (λ ss. on_ok (round_of ws (branch_count a)) (λ vs. fine (SplitJoin p ss vs)))) h
 
 -- that of its branches
 pub branch_fault : (f : fault.Fault) (known : Streamed) (name : Name) (g : Dealing) (a : Adds) (ws : Option (List ℕ)) (sp : Splitter)
@@ -117,7 +121,8 @@ branch_fault f known name g a ws sp hs h =
     let n = branch_count a in
     let f2 = λ (p : Splitter) (ss : Streams). on_ok (round_of ws n) (λ vs. fine (SplitJoin p ss vs)) in
     let f1 = λ (p : Splitter). on_ok (streams_added branches known 0 a.first a.others) (f2 p) in
-    tells_more f (streams_added branches known 0 a.first a.others) (stream_of known name (ASplitJoin g a ws)) (λ e he. ap (λ r. on_ok r f1) hs ∙ ap (λ r. on_ok r (f2 sp)) he) h
+    tells_more f (streams_added branches known 0 a.first a.others) (stream_of known name (ASplitJoin g a ws))
+    (λ e he. ap (λ r. on_ok r f1) hs ∙ ap (λ r. on_ok r (f2 sp)) he) h
 
 -- that of its joiner
 pub join_fault : (f : fault.Fault) (known : Streamed) (name : Name) (g : Dealing) (a : Adds) (ws : Option (List ℕ)) (sp : Splitter) (ss : Streams)
@@ -127,7 +132,8 @@ join_fault f known name g a ws sp ss hs hb h =
     let n = branch_count a in
     let f2 = λ (p : Splitter) (ss : Streams). on_ok (round_of ws n) (λ vs. fine (SplitJoin p ss vs)) in
     let f1 = λ (p : Splitter). on_ok (streams_added branches known 0 a.first a.others) (f2 p) in
-    tells_more f (round_of ws n) (stream_of known name (ASplitJoin g a ws)) (λ e he. ap (λ r. on_ok r f1) hs ∙ ap (λ r. on_ok r (f2 sp)) hb ∙ ap (λ r. on_ok r (λ vs. fine (SplitJoin sp ss vs))) he) h
+    tells_more f (round_of ws n) (stream_of known name (ASplitJoin g a ws))
+    (λ e he. ap (λ r. on_ok r f1) hs ∙ ap (λ r. on_ok r (f2 sp)) hb ∙ ap (λ r. on_ok r (λ vs. fine (SplitJoin sp ss vs))) he) h
 
 -- the number of branches
 pub branch_count_is : (n : ℕ) (others : Vec Name Global) (first : Name) → n ≡ vec_len others

@@ -110,7 +110,8 @@ declares (Ok u) old new d k name s known g it lo sh nu kn t o n =
     record {
       entries = λ q. subst (λ ws. IsFound ws (get name_eq new.entries q) (look ((name, s) ∷ known) q)) (sym all)
           (subst (λ x. IsFound (us ++ v ∷ []) x (look ((name, s) ∷ known) q)) (sym (g q))
-          (found_more (us ++ v ∷ []) (name_eq name q) k s (get name_eq old.entries q) (look known q) e (found_kept us (v ∷ []) (get name_eq old.entries q) (look known q) (kn.entries q))));
+          (found_more (us ++ v ∷ []) (name_eq name q) k s (get name_eq old.entries q) (look known q) e
+          (found_kept us (v ∷ []) (get name_eq old.entries q) (look known q) (kn.entries q))));
       lower = subst AreLower (sym all) (lower_more us v kn.lower (subst (λ i. IsLower i (Some v)) (sym len) lo));
       short = subst HaveShortFilters (sym all) (short_more us v kn.short sh);
     }

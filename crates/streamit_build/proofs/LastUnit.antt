@@ -72,7 +72,8 @@ last_known (u ∷ us) d known lt h =
     let e : length (u ∷ us) - 1 ≡ length us = omega arith in (
       n.stream,
       n.others,
-      n.is ∙ ap (λ (x : Declared). (x.name, n.stream) ∷ n.others) (sym (last_at declared_of u us d)) ∙ ap (λ i. ((slice_index_or (u ∷ us) i d).name, n.stream) ∷ n.others) (sym e),
+      n.is ∙ ap (λ (x : Declared). (x.name, n.stream) ∷ n.others) (sym (last_at declared_of u us d))
+          ∙ ap (λ i. ((slice_index_or (u ∷ us) i d).name, n.stream) ∷ n.others) (sym e),
     )
 
 -- THE LIMIT OF ITS PLAN

@@ -36,7 +36,8 @@ line_start us front last i old from to low = record {
   line = λ ss t. record { left = ss; trees = t; added = []; grew = sym (append-nil (op_forms old.ops)); all = refl; ops = refl; queues = refl };
 }
 
-go_on : (us : List UnitForm) (j : ℕ) (js : List ℕ) (last : ℕ) (ss : Streams) (old now mid next : Made) (from start to end : Name) (left : Streams) (added : List OpForm)
+go_on : (us : List UnitForm) (j : ℕ) (js : List ℕ) (last : ℕ) (ss : Streams) (old now mid next : Made) (from start to end : Name) (left : Streams)
+    (added : List OpForm)
     → AreTrees us (j ∷ js) last left → op_forms now.ops ≡ op_forms old.ops ++ added
     → build_line ss old.next_op old.next_queue from to ≡ added ++ build_line left now.next_op now.next_queue start to
     → now.next_op + ops_of left ≡ old.next_op + ops_of ss → now.next_queue + queues_between left ≡ old.next_queue + queues_between ss
@@ -57,11 +58,16 @@ go_on us j js last ss old now mid next from start to end (Then s left) added t g
       grew = d.ops ∙ ap (λ l. op_forms l ++ here) e4 ∙ ap (λ l. l ++ here) g ∙ append_assoc (op_forms old.ops) added here;
       all =
           a
-          ∙ ap (λ f. added ++ (build s f (suc now.next_queue) start (queue now.next_queue) ++ build_line left (now.next_op + ops_in s) (suc now.next_queue + queues_in s) (queue now.next_queue) to)) (sym e3)
-          ∙ ap (λ m. added ++ (build s mid.next_op m start (queue now.next_queue) ++ build_line left (now.next_op + ops_in s) (suc now.next_queue + queues_in s) (queue now.next_queue) to)) (sym k)
-          ∙ ap (λ x. added ++ (build s mid.next_op mid.next_queue start x ++ build_line left (now.next_op + ops_in s) (suc now.next_queue + queues_in s) x to)) (sym e1)
-          ∙ ap (λ n. added ++ (here ++ build_line left n (suc now.next_queue + queues_in s) end to)) (let z : now.next_op + ops_in s ≡ next.next_op = omega (arith, n1, e3) in z)
-          ∙ ap (λ n. added ++ (here ++ build_line left next.next_op n end to)) (let z : suc now.next_queue + queues_in s ≡ next.next_queue = omega (arith, n2, k) in z)
+          ∙ ap (λ f. added ++ (build s f (suc now.next_queue) start (queue now.next_queue) ++ build_line left (now.next_op + ops_in s)
+          (suc now.next_queue + queues_in s) (queue now.next_queue) to)) (sym e3)
+          ∙ ap (λ m. added ++ (build s mid.next_op m start (queue now.next_queue) ++ build_line left (now.next_op + ops_in s)
+          (suc now.next_queue + queues_in s) (queue now.next_queue) to)) (sym k)
+          ∙ ap (λ x. added ++ (build s mid.next_op mid.next_queue start x ++ build_line left (now.next_op + ops_in s) (suc now.next_queue + queues_in s) x to))
+          (sym e1)
+          ∙ ap (λ n. added ++ (here ++ build_line left n (suc now.next_queue + queues_in s) end to))
+          (let z : now.next_op + ops_in s ≡ next.next_op = omega (arith, n1, e3) in z)
+          ∙ ap (λ n. added ++ (here ++ build_line left next.next_op n end to))
+          (let z : suc now.next_queue + queues_in s ≡ next.next_queue = omega (arith, n2, k) in z)
           ∙ sym (append_assoc added here (build_line left next.next_op next.next_queue end to));
       ops = omega (arith, o, n1, e3);
       queues = omega (arith, q, n2, k);
@@ -171,7 +177,8 @@ last_returns us front last i old now next from start to (Ok x) f b ss t = line_e
 last_returns us front last i old now next from start to (Err x) f b ss t = tt
 
 -- a filter was built
-pub filter_returns : {E : Type 0} (us : List UnitForm) (i : ℕ) (name : Name) (f : FilterForm) (old new : Made) (op : OpForm) (from to : Name) (r : Result (Unit {0}) E)
+pub filter_returns : {E : Type 0} (us : List UnitForm) (i : ℕ) (name : Name) (f : FilterForm) (old new : Made) (op : OpForm) (from to : Name)
+    (r : Result (Unit {0}) E)
     → slice_get us i ≡ Some (AFilter name f)
     → op ≡ with_own (numbered name old.next_op) (filter f) (from ∷ []) (to ∷ []) → OnOk r (op_forms new.ops ≡ op_forms old.ops ++ op ∷ [])
     → OnOk r (new.next_op ≡ old.next_op + 1) → new.next_queue ≡ old.next_queue
@@ -182,7 +189,9 @@ filter_returns us i name f old new op from to (Ok x) u e o n q (Filter name' f')
     record {
       ops =
           o
-          ∙ ap (λ x. op_forms old.ops ++ x ∷ []) (e ∙ ap (λ m. with_own (numbered m old.next_op) (filter f) (from ∷ []) (to ∷ [])) (sym same.0) ∙ ap (λ g. with_own (numbered name' old.next_op) (filter g) (from ∷ []) (to ∷ [])) (sym same.1));
+          ∙ ap (λ x. op_forms old.ops ++ x ∷ [])
+          (e ∙ ap (λ m. with_own (numbered m old.next_op) (filter f) (from ∷ []) (to ∷ [])) (sym same.0)
+          ∙ ap (λ g. with_own (numbered name' old.next_op) (filter g) (from ∷ []) (to ∷ [])) (sym same.1));
       next_op = n;
       next_queue = omega (arith, q);
     }

@@ -35,7 +35,8 @@ numbered_is_name (b ∷ bs) k h len lt =
     let q = and_parts (list_all is_word bs) (nat_le (length bs) 63) p.1 in
     let d = decimal_goes k (omega (arith, lt)) in
     let l = length-decimal-le 10 k (omega arith) (omega (arith, lt)) (omega (arith, lt)) in
-    let all : list_all is_word (bs ++ (codes "@" ++ decimal k)) ≡ true = list_all-append is_word bs (codes "@" ++ decimal k) ∙ and_from (list_all is_word bs) (list_all is_word (decimal k)) q.0 d in
+    let all : list_all is_word (bs ++ (codes "@" ++ decimal k)) ≡ true = list_all-append is_word bs (codes "@" ++ decimal k)
+    ∙ and_from (list_all is_word bs) (list_all is_word (decimal k)) q.0 d in
     let few : length (bs ++ (codes "@" ++ decimal k)) ≤ 63 = (let a = length-append bs (codes "@" ++ decimal k) in omega (arith, a, l, len)) in
     and_from (is_letter b) _ p.0 (and_from (list_all is_word (bs ++ (codes "@" ++ decimal k))) _ all (le_true (length (bs ++ (codes "@" ++ decimal k))) 63 few))
   where

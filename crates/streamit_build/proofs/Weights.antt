@@ -32,23 +32,27 @@ le_false a b h = grind arith
 -- another number of weights
 pub round_other : (vs : List ℕ) (n : ℕ) → length vs ≢ n → fitting_round vs n ≡ Err Weights
 round_other vs n h =
-    ap (λ b. on_ok (demand (b && list_all (λ w. nat_le 1 w) vs) Weights) (λ u. on_ok (demand (nat_le (cycle vs) 65536) Limit) (λ v. Ok vs))) (eq_false (length vs) n h)
+    ap (λ b. on_ok (demand (b && list_all (λ w. nat_le 1 w) vs) Weights) (λ u. on_ok (demand (nat_le (cycle vs) 65536) Limit) (λ v. Ok vs)))
+    (eq_false (length vs) n h)
 
 -- a weight that is 0
 pub round_zero : (vs : List ℕ) (n : ℕ) → list_all (λ w. nat_le 1 w) vs ≡ false → fitting_round vs n ≡ Err Weights
 round_zero vs n h =
-    ap (λ b. on_ok (demand b Weights) (λ u. on_ok (demand (nat_le (cycle vs) 65536) Limit) (λ v. Ok vs))) (second_false (nat_eq (length vs) n) (list_all (λ w. nat_le 1 w) vs) h)
+    ap (λ b. on_ok (demand b Weights) (λ u. on_ok (demand (nat_le (cycle vs) 65536) Limit) (λ v. Ok vs)))
+    (second_false (nat_eq (length vs) n) (list_all (λ w. nat_le 1 w) vs) h)
 
 -- a sum that is too high
 pub round_high : (vs : List ℕ) (n : ℕ) → length vs ≡ n → list_all (λ w. nat_le 1 w) vs ≡ true → 65536 < cycle vs → fitting_round vs n ≡ Err Limit
 round_high vs n e h lt =
-    ap (λ b. on_ok (demand b Weights) (λ u. on_ok (demand (nat_le (cycle vs) 65536) Limit) (λ v. Ok vs))) (and_from (nat_eq (length vs) n) (list_all (λ w. nat_le 1 w) vs) (eq_true (length vs) n e) h)
+    ap (λ b. on_ok (demand b Weights) (λ u. on_ok (demand (nat_le (cycle vs) 65536) Limit) (λ v. Ok vs)))
+    (and_from (nat_eq (length vs) n) (list_all (λ w. nat_le 1 w) vs) (eq_true (length vs) n e) h)
     ∙ ap (λ b. on_ok (demand b Limit) (λ v. Ok vs)) (le_false (cycle vs) 65536 lt)
 
 -- weights that fit
 pub round_fits : (vs : List ℕ) (n : ℕ) → length vs ≡ n → list_all (λ w. nat_le 1 w) vs ≡ true → cycle vs ≤ 65536 → fitting_round vs n ≡ Ok vs
 round_fits vs n e h le =
-    ap (λ b. on_ok (demand b Weights) (λ u. on_ok (demand (nat_le (cycle vs) 65536) Limit) (λ v. Ok vs))) (and_from (nat_eq (length vs) n) (list_all (λ w. nat_le 1 w) vs) (eq_true (length vs) n e) h)
+    ap (λ b. on_ok (demand b Weights) (λ u. on_ok (demand (nat_le (cycle vs) 65536) Limit) (λ v. Ok vs)))
+    (and_from (nat_eq (length vs) n) (list_all (λ w. nat_le 1 w) vs) (eq_true (length vs) n e) h)
     ∙ ap (λ b. on_ok (demand b Limit) (λ v. Ok vs)) (le_true (cycle vs) 65536 le)
 
 -- ONE WEIGHT FOR EACH

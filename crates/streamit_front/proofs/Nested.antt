@@ -200,7 +200,8 @@ first-below (Some w) s None n h = absurd h
 first-below (Some w) s (Some r) n h = work-below 0 w s r h
 
 -- the runs of an elaborated filter nest no deeper than its `prework` and its `work`
-pub filter-below : (t : FilterTree) (f : FilterForm) → elaborated t ≡ Ok f → (depths-first f.first ≤ nests-first t.prework) × (depths f.body.steps ≤ nests t.work.block)
+pub filter-below : (t : FilterTree) (f : FilterForm) → elaborated t ≡ Ok f
+    → (depths-first f.first ≤ nests-first t.prework) × (depths f.body.steps ≤ nests t.work.block)
 filter-below t f h =
     let e = elaborated_parts t f h in
     subst (λ (g : FilterForm). (depths-first g.first ≤ nests-first t.prework) × (depths g.body.steps ≤ nests t.work.block)) e.is

@@ -190,7 +190,8 @@ mutual
   built-spoken (SplitJoin d ss ws) c k from to low =
       let n = number_of ss in (
         splitter-spoken d n (numbered (codes "split") c) from (queues k n),
-        every-joined IsSpoken (build_branches ss (suc c) (k + (n + n)) k (k + n)) (joiner ws (numbered (codes "join") (suc c + ops_of ss)) (queues (k + n) n) to ∷ [])
+        every-joined IsSpoken (build_branches ss (suc c) (k + (n + n)) k (k + n))
+            (joiner ws (numbered (codes "join") (suc c + ops_of ss)) (queues (k + n) n) to ∷ [])
             (branches-spoken ss (suc c) (k + (n + n)) k (k + n) low) ((tt, tt), tt),
       )
 

@@ -211,9 +211,11 @@ IsFineBody b = IsReadableBody b × IsShallowBody b
 
 body-fine : (n : ℕ) (w : List ℕ) (b : Body) (ts : List Tok) → BodyAfter n w b ts → IsFineBody b
 body-fine n w b ts h =
-    chosen (IsFineBody b) _ _ (bytes_eq w (codes "filter")) b ts h (λ e f. subst IsFineBody (sym f.is) (enclosed IsFineFilter _ _ _ n f.value ts f.formed (λ m us g. filter-fine m f.value us g))) (λ h.
+    chosen (IsFineBody b) _ _ (bytes_eq w (codes "filter")) b ts h
+    (λ e f. subst IsFineBody (sym f.is) (enclosed IsFineFilter _ _ _ n f.value ts f.formed (λ m us g. filter-fine m f.value us g))) (λ h.
     chosen (IsFineBody b) _ _ (bytes_eq w (codes "pipeline")) b ts h (λ e f. subst IsFineBody (sym f.is) (tt, tt)) (λ h.
-    chosen (IsFineBody b) _ _ (bytes_eq w (codes "splitjoin")) b ts h (λ e f. enclosed IsFineBody _ _ _ n b ts f (λ m us g. subst IsFineBody (sym g.is) (tt, tt))) (λ h. absurd h)))
+    chosen (IsFineBody b) _ _ (bytes_eq w (codes "splitjoin")) b ts h
+    (λ e f. enclosed IsFineBody _ _ _ n b ts f (λ m us g. subst IsFineBody (sym g.is) (tt, tt))) (λ h. absurd h)))
 
 unit-fine : (d : Declared) (ts : List Tok) → IsUnit d ts → IsFineBody d.body
 unit-fine d ts h =

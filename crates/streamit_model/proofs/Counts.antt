@@ -60,9 +60,12 @@ mutual
       let n = number_of ss in
       let a = split_writes d n k (numbered (codes "split") c) from x in
       let b = writes_branches ss (suc c) (k + (n + n)) k (k + n) x in
-      let t = total-append (writes_it x) (build_branches ss (suc c) (k + (n + n)) k (k + n)) (joiner ws (numbered (codes "join") (suc c + ops_of ss)) (queues (k + n) n) to ∷ []) in
+      let t = total-append (writes_it x) (build_branches ss (suc c) (k + (n + n)) k (k + n))
+      (joiner ws (numbered (codes "join") (suc c + ops_of ss)) (queues (k + n) n) to ∷ []) in
       let q = three (here x) k n (queues_within ss) in
-      ap (λ j. j + total (writes_it x) (build_branches ss (suc c) (k + (n + n)) k (k + n) ++ (joiner ws (numbered (codes "join") (suc c + ops_of ss)) (queues (k + n) n) to ∷ []))) a ∙ omega (arith, b, t, q)
+      ap (λ j. j + total (writes_it x)
+      (build_branches ss (suc c) (k + (n + n)) k (k + n) ++ (joiner ws (numbered (codes "join") (suc c + ops_of ss)) (queues (k + n) n) to ∷ []))) a
+      ∙ omega (arith, b, t, q)
 
   writes_line : (ss : Streams) (c k : ℕ) (from to x : Name)
       → total (writes_it x) (build_line ss c k from to) ≡ one_if (name_eq to x) + sum_from (here x) k (queues_between ss)
@@ -95,9 +98,12 @@ mutual
       let a = split_reads d n k (numbered (codes "split") c) from x in
       let b = reads_branches ss (suc c) (k + (n + n)) k (k + n) x in
       let j = queue_count x n (k + n) in
-      let t = total-append (reads_it x) (build_branches ss (suc c) (k + (n + n)) k (k + n)) (joiner ws (numbered (codes "join") (suc c + ops_of ss)) (queues (k + n) n) to ∷ []) in
+      let t = total-append (reads_it x) (build_branches ss (suc c) (k + (n + n)) k (k + n))
+      (joiner ws (numbered (codes "join") (suc c + ops_of ss)) (queues (k + n) n) to ∷ []) in
       let q = three (here x) k n (queues_within ss) in
-      ap (λ j. j + total (reads_it x) (build_branches ss (suc c) (k + (n + n)) k (k + n) ++ (joiner ws (numbered (codes "join") (suc c + ops_of ss)) (queues (k + n) n) to ∷ []))) a ∙ omega (arith, b, j, t, q)
+      ap (λ j. j + total (reads_it x)
+      (build_branches ss (suc c) (k + (n + n)) k (k + n) ++ (joiner ws (numbered (codes "join") (suc c + ops_of ss)) (queues (k + n) n) to ∷ []))) a
+      ∙ omega (arith, b, j, t, q)
 
   reads_line : (ss : Streams) (c k : ℕ) (from to x : Name)
       → total (reads_it x) (build_line ss c k from to) ≡ one_if (name_eq from x) + sum_from (here x) k (queues_between ss)
@@ -166,7 +172,8 @@ mutual
   operators (SplitJoin d ss ws) c k from to =
       let n = number_of ss in
       let b = operators_branches ss (suc c) (k + (n + n)) k (k + n) in
-      let t = length-append (build_branches ss (suc c) (k + (n + n)) k (k + n)) (joiner ws (numbered (codes "join") (suc c + ops_of ss)) (queues (k + n) n) to ∷ []) in
+      let t = length-append (build_branches ss (suc c) (k + (n + n)) k (k + n))
+      (joiner ws (numbered (codes "join") (suc c + ops_of ss)) (queues (k + n) n) to ∷ []) in
       omega (arith, b, t)
 
   operators_line : (ss : Streams) (c k : ℕ) (from to : Name) → length (build_line ss c k from to) ≡ ops_of ss

@@ -153,7 +153,8 @@ sound_turn n v sc slots s = record {
 agrees_turn : (n : Name) (v : ℕ) (sc : Scope) (env : Values) (mem : List ℤ) → Agrees sc env mem → Agrees ((n, Turn v) ∷ sc) (at_name n (pos v) env) mem
 agrees_turn n v sc env mem a = record {
   each = λ m b f. ⊎_elim
-      (λ e. subst (λ c. Holds c (at_name n (pos v) env m) mem) (same_Some (Turn v) b (sym (found_here n m (Turn v) sc e.1) ∙ f)) (sym (at_here n m (pos v) env e.1)))
+      (λ e. subst (λ c. Holds c (at_name n (pos v) env m) mem) (same_Some (Turn v) b (sym (found_here n m (Turn v) sc e.1) ∙ f))
+      (sym (at_here n m (pos v) env e.1)))
       (λ e. subst (λ z. Holds b z mem) (sym (at_other n m (pos v) env e.1)) (a.each m b (sym (found_other n m (Turn v) sc e.1) ∙ f)))
       (cases_name n m);
 }
@@ -323,10 +324,23 @@ pub record Turned (block : At → Read) (n : Name) (v : ℕ) (vs : List ℕ) (s 
 pub turned : (block : At → Read) (n : Name) (v : ℕ) (vs : List ℕ) (s : At) (y : Steps × At) → unrolled block n (v ∷ vs) s ≡ Ok y → Turned block n v vs s y
 unfolding left one_more turning
 turned block n v vs s y h =
-    let c = counted_on s (λ t. on_ok (block (record t { scope = (n, Turn v) ∷ s.scope })) (λ a. on_ok (unrolled block n vs (record a.1 { scope = s.scope })) (λ b. Ok (both_steps a.0 b.0, b.1)))) y h in
-    let p = ok_parts (block (record (one_more s) { scope = (n, Turn v) ∷ s.scope })) (λ a. on_ok (unrolled block n vs (record a.1 { scope = s.scope })) (λ b. Ok (both_steps a.0 b.0, b.1))) y c in
+    let c = counted_on s
+    (λ t. on_ok (block (record t { scope = (n, Turn v) ∷ s.scope }))
+    (λ a. on_ok (unrolled block n vs (record a.1 { scope = s.scope })) (λ b. Ok (both_steps a.0 b.0, b.1)))) y h in
+    let p = ok_parts (block (record (one_more s) { scope = (n, Turn v) ∷ s.scope }))
+    (λ a. on_ok (unrolled block n vs (record a.1 { scope = s.scope })) (λ b. Ok (both_steps a.0 b.0, b.1))) y c in
     let q = ok_parts (unrolled block n vs (record p.0.1 { scope = s.scope })) (λ b. Ok (both_steps p.0.0 b.0, b.1)) y p.2 in
-    record { room = counted_room s (λ t. on_ok (block (record t { scope = (n, Turn v) ∷ s.scope })) (λ a. on_ok (unrolled block n vs (record a.1 { scope = s.scope })) (λ b. Ok (both_steps a.0 b.0, b.1)))) y h; first = p.0; others = q.0; first_is = p.1; others_is = q.1; is = sym (ok_is (both_steps p.0.0 q.0.0, q.0.1) y q.2) }
+    record {
+      room = counted_room s
+          (λ t. on_ok (block (record t { scope = (n, Turn v) ∷ s.scope }))
+          (λ a. on_ok (unrolled block n vs (record a.1 { scope = s.scope })) (λ b. Ok (both_steps a.0 b.0, b.1)))) y h;
+      first = p.0;
+      others = q.0;
+      first_is =
+          p.1;
+      others_is = q.1;
+      is = sym (ok_is (both_steps p.0.0 q.0.0, q.0.1) y q.2);
+    }
 
 -- turns were read
 pub unrolled_grows : (block : At → Read) → Grown block → (n : Name) (vs : List ℕ) (s : At) (y : Steps × At) → find s.scope n ≡ None
@@ -348,7 +362,10 @@ pub record Declared (e : ℕ) (n : Name) (t : Option Expression) (s : At) (y : S
   pub value : Term
   pub new : find s.scope n ≡ None
   pub value_is : first_term e t s ≡ Ok value
-  pub is : y ≡ (one_step (steps.Set s.slots value), record s { scope = (n, Var s.slots) ∷ s.scope; slots = s.slots + 1; popped = s.popped + first_popped t; size = s.size + 1 })
+  pub is : y ≡ (
+    one_step (steps.Set s.slots value),
+    record s { scope = (n, Var s.slots) ∷ s.scope; slots = s.slots + 1; popped = s.popped + first_popped t; size = s.size + 1 },
+  )
 
 first_more : (e : ℕ) (t : Option Expression) (s : At) → first_term e t (one_more s) ≡ first_term e t s
 unfolding one_more
@@ -387,10 +404,24 @@ pub record Assigned (e : ℕ) (n : Name) (t : Expression) (s : At) (y : Steps ×
 pub assigned_parts : (e : ℕ) (n : Name) (t : Expression) (s : At) (y : Steps × At) → step_of e (Assign n t) s ≡ Ok y → Assigned e n t s y
 unfolding one_more
 assigned_parts e n t s y h =
-    let c = counted_on s (λ s. on_ok (slot_of (find s.scope n)) (λ i. on_ok (term_of e s.scope t s.popped) (λ v. Ok (one_step (steps.Set i v), record s { popped = s.popped + pops t })))) y h in
-    let p = ok_parts (slot_of (find s.scope n)) (λ i. on_ok (term_of e s.scope t s.popped) (λ v. Ok (one_step (steps.Set i v), record (one_more s) { popped = s.popped + pops t }))) y c in
+    let c = counted_on s
+    (λ s. on_ok (slot_of (find s.scope n))
+    (λ i. on_ok (term_of e s.scope t s.popped) (λ v. Ok (one_step (steps.Set i v), record s { popped = s.popped + pops t })))) y h in
+    let p = ok_parts (slot_of (find s.scope n))
+    (λ i. on_ok (term_of e s.scope t s.popped) (λ v. Ok (one_step (steps.Set i v), record (one_more s) { popped = s.popped + pops t }))) y c in
     let q = ok_parts (term_of e s.scope t s.popped) (λ v. Ok (one_step (steps.Set p.0 v), record (one_more s) { popped = s.popped + pops t })) y p.2 in
-    record { room = counted_room s (λ s. on_ok (slot_of (find s.scope n)) (λ i. on_ok (term_of e s.scope t s.popped) (λ v. Ok (one_step (steps.Set i v), record s { popped = s.popped + pops t })))) y h; slot = p.0; value = q.0; found = slot_found (find s.scope n) p.0 p.1; value_is = q.1; is = sym (ok_is (one_step (steps.Set p.0 q.0), record s { popped = s.popped + pops t; size = s.size + 1 }) y q.2) }
+    record {
+      room = counted_room s
+          (λ s. on_ok (slot_of (find s.scope n))
+          (λ i. on_ok (term_of e s.scope t s.popped) (λ v. Ok (one_step (steps.Set i v), record s { popped = s.popped + pops t })))) y h;
+      slot = p.0;
+      value =
+          q.0;
+      found = slot_found (find s.scope n) p.0 p.1;
+      value_is = q.1;
+      is =
+          sym (ok_is (one_step (steps.Set p.0 q.0), record s { popped = s.popped + pops t; size = s.size + 1 }) y q.2);
+    }
 
 pub record Pushed (e : ℕ) (t : Expression) (s : At) (y : Steps × At) : Type 0 where
   pub room : s.size < 16384
@@ -402,9 +433,20 @@ pub record Pushed (e : ℕ) (t : Expression) (s : At) (y : Steps × At) : Type 0
 pub pushed_parts : (e : ℕ) (t : Expression) (s : At) (y : Steps × At) → step_of e (Push t) s ≡ Ok y → Pushed e t s y
 unfolding one_more
 pushed_parts e t s y h =
-    let c = counted_on s (λ s. on_ok (term_of e s.scope t s.popped) (λ v. Ok (one_step (steps.Push 0 (v ∷ [])), record s { popped = s.popped + pops t; pushed = s.pushed + 1 }))) y h in
-    let q = ok_parts (term_of e s.scope t s.popped) (λ v. Ok (one_step (steps.Push 0 (v ∷ [])), record (one_more s) { popped = s.popped + pops t; pushed = s.pushed + 1 })) y c in
-    record { room = counted_room s (λ s. on_ok (term_of e s.scope t s.popped) (λ v. Ok (one_step (steps.Push 0 (v ∷ [])), record s { popped = s.popped + pops t; pushed = s.pushed + 1 }))) y h; value = q.0; value_is = q.1; is = sym (ok_is (one_step (steps.Push 0 (q.0 ∷ [])), record s { popped = s.popped + pops t; pushed = s.pushed + 1; size = s.size + 1 }) y q.2) }
+    let c = counted_on s
+    (λ s. on_ok (term_of e s.scope t s.popped)
+    (λ v. Ok (one_step (steps.Push 0 (v ∷ [])), record s { popped = s.popped + pops t; pushed = s.pushed + 1 }))) y h in
+    let q = ok_parts (term_of e s.scope t s.popped)
+    (λ v. Ok (one_step (steps.Push 0 (v ∷ [])), record (one_more s) { popped = s.popped + pops t; pushed = s.pushed + 1 })) y c in
+    record {
+      room = counted_room s
+          (λ s. on_ok (term_of e s.scope t s.popped)
+          (λ v. Ok (one_step (steps.Push 0 (v ∷ [])), record s { popped = s.popped + pops t; pushed = s.pushed + 1 }))) y h;
+      value = q.0;
+      value_is = q.1;
+      is =
+          sym (ok_is (one_step (steps.Push 0 (q.0 ∷ [])), record s { popped = s.popped + pops t; pushed = s.pushed + 1; size = s.size + 1 }) y q.2);
+    }
 
 -- before the arms
 unfoldable pub at_arm : Expression → At → At
@@ -430,14 +472,28 @@ pub record Forked (e : ℕ) (t : Expression) (a : Block) (b : Optional) (s : At)
 pub forked_parts : (e : ℕ) (t : Expression) (a : Block) (b : Optional) (s : At) (y : Steps × At) → step_of e (If t a b) s ≡ Ok y → Forked e t a b s y
 unfolding one_more left at_arm at_second
 forked_parts e t a b s y h =
-    let after = λ (s : At) (c : Term). on_ok (steps_of e a (record s { popped = s.popped + pops t })) (λ p. on_ok (optional_of e b (record s { popped = s.popped + pops t; slots = p.1.slots; size = p.1.size })) (after_arms s c p)) in
+    let after = λ (s : At) (c : Term). on_ok (steps_of e a (record s { popped = s.popped + pops t }))
+    (λ p. on_ok (optional_of e b (record s { popped = s.popped + pops t; slots = p.1.slots; size = p.1.size })) (after_arms s c p)) in
     let c = counted_on s (λ s. on_ok (term_of e s.scope t s.popped) (after s)) y h in
     let q = ok_parts (term_of e s.scope t s.popped) (after (one_more s)) y c in
     let p = ok_parts (steps_of e a (at_arm t s)) (λ p. on_ok (optional_of e b (at_second t s p.1)) (after_arms (one_more s) q.0 p)) y q.2 in
     let r = ok_parts (optional_of e b (at_second t s p.0.1)) (after_arms (one_more s) q.0 p.0) y p.2 in
-    let i = if_ok (nat_eq p.0.1.popped r.0.1.popped && nat_eq p.0.1.pushed r.0.1.pushed) (one_step (steps.If q.0 p.0.0 r.0.0), left s r.0.1) y BranchRates r.2 in
+    let i = if_ok (nat_eq p.0.1.popped r.0.1.popped && nat_eq p.0.1.pushed r.0.1.pushed)
+    (one_step (steps.If q.0 p.0.0 r.0.0), left s r.0.1) y BranchRates r.2 in
     let z = and_parts (nat_eq p.0.1.popped r.0.1.popped) (nat_eq p.0.1.pushed r.0.1.pushed) i.0 in
-    record { room = counted_room s (λ s. on_ok (term_of e s.scope t s.popped) (after s)) y h; test = q.0; one = p.0; two = r.0; test_is = q.1; one_is = p.1; two_is = r.1; popped = eqb-true p.0.1.popped r.0.1.popped z.0; pushed = eqb-true p.0.1.pushed r.0.1.pushed z.1; is = sym i.1 }
+    record {
+      room = counted_room s (λ s. on_ok (term_of e s.scope t s.popped) (after s)) y h;
+      test = q.0;
+      one = p.0;
+      two = r.0;
+      test_is = q.1;
+      one_is =
+          p.1;
+      two_is = r.1;
+      popped = eqb-true p.0.1.popped r.0.1.popped z.0;
+      pushed = eqb-true p.0.1.pushed r.0.1.pushed z.1;
+      is = sym i.1;
+    }
 
 pub record Looped (e : ℕ) (n : Name) (low : Expression) (upto : Bool) (high : Expression) (b : Block) (s : At) (y : Steps × At) : Type 0 where
   pub first : ℤ
@@ -492,7 +548,8 @@ mutual
   pub step_grows : (e : ℕ) (c : Statement) → Grown (step_of e c)
   step_grows e (Declare n t) s y h =
       let p = declared_parts e n t s y h in
-      subst (λ r. Grows s r.1) (sym p.is) (record { slots = omega arith; keeps = keeps_new n (Var s.slots) s.scope p.new; sound = λ z. sound_var n s.scope s.slots z })
+      subst (λ r. Grows s r.1) (sym p.is)
+      (record { slots = omega arith; keeps = keeps_new n (Var s.slots) s.scope p.new; sound = λ z. sound_var n s.scope s.slots z })
   step_grows e (Assign n t) s y h =
       let p = assigned_parts e n t s y h in
       subst (λ r. Grows s r.1) (sym p.is) (grows_same s (record s { popped = s.popped + pops t; size = s.size + 1 }) refl refl)
@@ -515,7 +572,8 @@ mutual
   steps_grow e End s y h = subst (λ r. Grows s r.1) (ok_is (Done, s) y h) (grows_same s s refl refl)
   steps_grow e (Then c b) s y h =
       let p = followed_parts e c b s y h in
-      subst (λ r. Grows s r.1) (sym p.is) (grows_trans s p.first.1 p.others.1 (step_grows e c s p.first p.first_is) (steps_grow e b p.first.1 p.others p.others_is))
+      subst (λ r. Grows s r.1) (sym p.is)
+      (grows_trans s p.first.1 p.others.1 (step_grows e c s p.first p.first_is) (steps_grow e b p.first.1 p.others p.others_is))
 
   -- and one that may be left out
   pub optional_grows : (e : ℕ) (b : Optional) → Grown (optional_of e b)
@@ -601,10 +659,13 @@ unrolled_met xs block src g d n (v ∷ vs) s y mem t new h ok a e le =
     let l1 = gf.slots in
     let le' : p.others.1.slots ≤ length mem = subst (λ (r : Steps × At). r.1.slots ≤ length mem) p.is le in
     let one = d (turning n v s) first mem now p.first_is (gt.sound ok) (agrees_turn n v s.scope t.values mem a) e (omega (arith, le', lo)) in
-    let out = does_left (ran first.0 xs mem) s first.1 t (src now) (λ m b f. gf.keeps m b (gt.keeps m b f)) (record { pushed = one.pushed; popped = one.popped; agrees = one.agrees }) in
+    let out = does_left (ran first.0 xs mem) s first.1 t (src now) (λ m b f. gf.keeps m b (gt.keeps m b f))
+    (record { pushed = one.pushed; popped = one.popped; agrees = one.agrees }) in
     let len = ran_length first.0 xs mem in
-    let rest = unrolled_met xs block src g d n vs (left s first.1) p.others (ran first.0 xs mem).slots (src now) new p.others_is (more_slots s.scope s.slots first.1.slots (omega (arith, l0, l1)) ok) out.agrees out.popped (omega (arith, le', len)) in
-    subst (λ (r : Steps × At). DoesBy (ran r.0 xs mem) r.1 t (each_turn src n (v ∷ vs) t)) (sym p.is) (does_both first.0 p.others.0 xs mem (left s first.1) p.others.1 t (src now) (each_turn src n (v ∷ vs) t) out rest)
+    let rest = unrolled_met xs block src g d n vs (left s first.1) p.others (ran first.0 xs mem).slots (src now) new p.others_is
+    (more_slots s.scope s.slots first.1.slots (omega (arith, l0, l1)) ok) out.agrees out.popped (omega (arith, le', len)) in
+    subst (λ (r : Steps × At). DoesBy (ran r.0 xs mem) r.1 t (each_turn src n (v ∷ vs) t)) (sym p.is)
+    (does_both first.0 p.others.0 xs mem (left s first.1) p.others.1 t (src now) (each_turn src n (v ∷ vs) t) out rest)
 
 first_value_is : (e : ℕ) (t : Option Expression) (s : At) (v : Term) (xs mem : List ℤ) (n : State) → Agrees s.scope n.values mem → n.popped ≡ s.popped
     → first_term e t s ≡ Ok v → first_value t xs n ≡ val v xs mem
@@ -625,7 +686,8 @@ mutual
       let same = first_value_is e t s p.value xs mem now a q p.value_is in
       let sc = (n, Var s.slots) ∷ s.scope in
       let le' : s.slots + 1 ≤ length mem = subst (λ (r : Steps × At). r.1.slots ≤ length mem) p.is le in
-      let holds = agrees_set n s.slots v sc (s.slots + 1) now.values mem (sound_var n s.scope s.slots ok) le' (found_here n n (Var s.slots) s.scope (name_self n)) (λ m b ne f. a.each m b (sym (found_other n m (Var s.slots) s.scope ne) ∙ f)) in
+      let holds = agrees_set n s.slots v sc (s.slots + 1) now.values mem (sound_var n s.scope s.slots ok) le'
+      (found_here n n (Var s.slots) s.scope (name_self n)) (λ m b ne f. a.each m b (sym (found_other n m (Var s.slots) s.scope ne) ∙ f)) in
       subst (λ (r : Steps × At). DoesBy (ran r.0 xs mem) r.1 now (exec (Declare n t) xs now)) (sym p.is)
       (does_one (steps.Set s.slots p.value) xs mem _ now (exec (Declare n t) xs now) (record {
         pushed = sym (append-nil now.pushed);
@@ -668,12 +730,25 @@ mutual
       let da = steps_met e xs a (at_arm t s) p.one mem on p.one_is ok ag q' (omega (arith, le', lb)) in
       let db = optional_met e xs b (at_second t s p.one.1) p.two mem on p.two_is (more_slots s.scope s.slots p.one.1.slots la ok) ag q' le' in
       let out = left s p.two.1 in
-      let one : DoesBy (ran p.one.0 xs mem) out now (exec_all a xs on) = record { pushed = da.pushed; popped = da.popped ∙ p.popped; agrees = agrees_within s.scope p.one.1.scope (exec_all a xs on).values (ran p.one.0 xs mem).slots ga.keeps da.agrees } in
-      let two : DoesBy (ran p.two.0 xs mem) out now (exec_optional b xs on) = record { pushed = db.pushed; popped = db.popped; agrees = agrees_within s.scope p.two.1.scope (exec_optional b xs on).values (ran p.two.0 xs mem).slots gb.keeps db.agrees } in
+      let one : DoesBy (ran p.one.0 xs mem) out now (exec_all a xs on) =
+      record {
+        pushed = da.pushed;
+        popped = da.popped
+            ∙ p.popped;
+        agrees = agrees_within s.scope p.one.1.scope (exec_all a xs on).values (ran p.one.0 xs mem).slots ga.keeps da.agrees;
+      } in
+      let two : DoesBy (ran p.two.0 xs mem) out now (exec_optional b xs on) =
+      record {
+        pushed = db.pushed;
+        popped = db.popped;
+        agrees =
+            agrees_within s.scope p.two.1.scope (exec_optional b xs on).values (ran p.two.0 xs mem).slots gb.keeps db.agrees;
+      } in
       let same = ap (eval t xs now.values) q ∙ term_is e s.scope t xs now.values mem s.popped p.test ag p.test_is in
       subst (λ (r : Steps × At). DoesBy (ran r.0 xs mem) r.1 now (exec (If t a b) xs now)) (sym p.is)
       (does_one (steps.If p.test p.one.0 p.two.0) xs mem out now (exec (If t a b) xs now)
-      (subst (λ z. DoesBy (ran_once (steps.If p.test p.one.0 p.two.0) xs mem) out now (if is_true z then exec_all a xs on else exec_optional b xs on)) (sym same)
+      (subst (λ z. DoesBy (ran_once (steps.If p.test p.one.0 p.two.0) xs mem) out now (if is_true z then exec_all a xs on else exec_optional b xs on))
+      (sym same)
       (does_arm (is_true (val p.test xs mem)) (ran p.one.0 xs mem) (ran p.two.0 xs mem) out now (exec_all a xs on) (exec_optional b xs on) one two)))
   step_met e xs (For n low upto high b) s y mem now h ok a q le =
       let p = looped_parts e n low upto high b s y h in
@@ -681,12 +756,14 @@ mutual
       let u = constant_is s.scope high xs now.values mem now.popped p.last a p.last_is in
       subst (λ vs. DoesBy (ran y.0 xs mem) y.1 now (each_turn (exec_all b xs) n vs now))
       (ap (λ z. turns_between z upto p.last) (sym l) ∙ ap (turns_between (eval low xs now.values now.popped) upto) (sym u))
-      (unrolled_met xs (steps_of e b) (exec_all b xs) (steps_grow e b) (steps_met e xs b) n (turns_between p.first upto p.last) s y mem now p.new p.is ok a q le)
+      (unrolled_met xs (steps_of e b) (exec_all b xs) (steps_grow e b) (steps_met e xs b) n
+      (turns_between p.first upto p.last) s y mem now p.new p.is ok a q le)
 
   -- the statements that a block becomes do what the block does
   pub steps_met : (e : ℕ) (xs : List ℤ) (b : Block) → Met xs (steps_of e b) (exec_all b xs)
   steps_met e xs End s y mem now h ok a q le =
-      subst (λ (r : Steps × At). DoesBy (ran r.0 xs mem) r.1 now now) (ok_is (Done, s) y h) (record { pushed = sym (append-nil now.pushed); popped = q; agrees = a })
+      subst (λ (r : Steps × At). DoesBy (ran r.0 xs mem) r.1 now now) (ok_is (Done, s) y h)
+      (record { pushed = sym (append-nil now.pushed); popped = q; agrees = a })
   steps_met e xs (Then c b) s y mem now h ok a q le =
       let p = followed_parts e c b s y h in
       let gf = step_grows e c s p.first p.first_is in
@@ -695,10 +772,13 @@ mutual
       let le' : p.others.1.slots ≤ length mem = subst (λ (r : Steps × At). r.1.slots ≤ length mem) p.is le in
       let one = step_met e xs c s p.first mem now p.first_is ok a q (omega (arith, le', lo)) in
       let len = ran_length p.first.0 xs mem in
-      let rest = steps_met e xs b p.first.1 p.others (ran p.first.0 xs mem).slots (exec c xs now) p.others_is (gf.sound ok) one.agrees one.popped (omega (arith, le', len)) in
-      subst (λ (r : Steps × At). DoesBy (ran r.0 xs mem) r.1 now (exec_all b xs (exec c xs now))) (sym p.is) (does_both p.first.0 p.others.0 xs mem p.first.1 p.others.1 now (exec c xs now) (exec_all b xs (exec c xs now)) one rest)
+      let rest = steps_met e xs b p.first.1 p.others (ran p.first.0 xs mem).slots (exec c xs now) p.others_is (gf.sound ok) one.agrees one.popped
+      (omega (arith, le', len)) in
+      subst (λ (r : Steps × At). DoesBy (ran r.0 xs mem) r.1 now (exec_all b xs (exec c xs now))) (sym p.is)
+      (does_both p.first.0 p.others.0 xs mem p.first.1 p.others.1 now (exec c xs now) (exec_all b xs (exec c xs now)) one rest)
 
   pub optional_met : (e : ℕ) (xs : List ℤ) (b : Optional) → Met xs (optional_of e b) (exec_optional b xs)
   optional_met e xs Unwritten s y mem now h ok a q le =
-      subst (λ (r : Steps × At). DoesBy (ran r.0 xs mem) r.1 now now) (ok_is (Done, s) y h) (record { pushed = sym (append-nil now.pushed); popped = q; agrees = a })
+      subst (λ (r : Steps × At). DoesBy (ran r.0 xs mem) r.1 now now) (ok_is (Done, s) y h)
+      (record { pushed = sym (append-nil now.pushed); popped = q; agrees = a })
   optional_met e xs (Written b) s y mem now h ok a q le = steps_met e xs b s y mem now h ok a q le

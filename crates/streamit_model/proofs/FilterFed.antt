@@ -102,8 +102,10 @@ module _ (f : FilterForm) (can : CanFilter f) where
       let p = pop_within f can k in
       let b = begins_next f k in
       let w = window_is k kept ys xs le in
-      subst (Turned ys xs (suc n) k kept) (sym (turns_run f can m (state ys k kept) enough ∙ ap (λ r. with_pushes r.pushes (filter_turns f m (after_run (state ys k kept) r))) w))
-      (turned_on ys xs n k kept _ le (turned m n (suc k) (firing f k kept (ys ++ xs)).slots ys xs (omega (arith, le, p, b)) (omega (arith, turns)) (omega (arith, fuel)))))
+      subst (Turned ys xs (suc n) k kept)
+      (sym (turns_run f can m (state ys k kept) enough ∙ ap (λ r. with_pushes r.pushes (filter_turns f m (after_run (state ys k kept) r))) w))
+      (turned_on ys xs n k kept _ le
+      (turned m n (suc k) (firing f k kept (ys ++ xs)).slots ys xs (omega (arith, le, p, b)) (omega (arith, turns)) (omega (arith, fuel)))))
       (cases_lt (length (drop (begins f k) ys)) (needs f k))
 
   abbrev pub fed_on : List ℤ → Filtering → Fired
@@ -121,7 +123,8 @@ module _ (f : FilterForm) (can : CanFilter f) where
       let rest = firings_from f t.left t.next t.slots (zs ++ xs) in
       ap (λ s. pushed_to 0 r.pushes ++ (fed_on xs s).outs 0) t.after
       ∙ ap (λ l. l ++ (fed_on xs (state zs t.next t.slots)).outs 0) (given_items r.pushes (filter_values f x (state ys k kept) can))
-      ∙ ap (λ l. as_items (first_values r.pushes) ++ l) (fed xs zs t.left t.next t.slots t.few t.taken (let e = t.fuel in omega (arith, e, fuel, ap length whole)))
+      ∙ ap (λ l. as_items (first_values r.pushes) ++ l)
+      (fed xs zs t.left t.next t.slots t.few t.taken (let e = t.fuel in omega (arith, e, fuel, ap length whole)))
       ∙ sym (map-append (λ v. Flat (One (v ∷ []))) (first_values r.pushes) rest)
       ∙ ap as_items (sym t.is)
       ∙ ap (λ l. as_items (firings_from f n k kept l)) whole

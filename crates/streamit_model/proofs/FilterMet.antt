@@ -91,12 +91,14 @@ fields_agree [] kept s s' env mem h len at a = subst (λ t. Agrees t.scope env m
 fields_agree (f ∷ fs) [] s s' env mem h len at a = absurd (omega (arith, len))
 fields_agree (f ∷ fs) (z ∷ zs) s s' env mem h len at a =
     let p = field f fs s s' h in
-    let here : slice_index_or mem s.slots (pos 0) ≡ z = ap (λ k. slice_index_or mem k (pos 0)) (let e : s.slots ≡ s.slots + 0 = omega arith in e) ∙ at 0 (omega arith) in
+    let here : slice_index_or mem s.slots (pos 0) ≡ z = ap (λ k. slice_index_or mem k (pos 0)) (let e : s.slots ≡ s.slots + 0 = omega arith in e)
+    ∙ at 0 (omega arith) in
     fields_agree fs zs (next f s) s' (at_name f z env) mem p.others (omega (arith, len))
     (λ i lt. ap (λ k. slice_index_or mem k (pos 0)) (let e : s.slots + 1 + i ≡ s.slots + suc i = omega arith in e) ∙ at (suc i) (omega (arith, lt)))
     (record {
       each = λ m b g. ⊎_elim
-          (λ e. subst (λ c. Holds c (at_name f z env m) mem) (same_Some (Var s.slots) b (sym (found_here f m (Var s.slots) s.scope e.1) ∙ g)) (here ∙ sym (at_here f m z env e.1)))
+          (λ e. subst (λ c. Holds c (at_name f z env m) mem) (same_Some (Var s.slots) b (sym (found_here f m (Var s.slots) s.scope e.1) ∙ g))
+          (here ∙ sym (at_here f m z env e.1)))
           (λ e. subst (λ w. Holds b w mem) (sym (at_other f m z env e.1)) (a.each m b (sym (found_other f m (Var s.slots) s.scope e.1) ∙ g)))
           (cases_name f m);
     })
@@ -151,13 +153,16 @@ run_met fs b e m s y kept xs hf hb le len =
     let a2 = r.slots in
     let a3 = g.slots in
     let n : length mem ≡ m = omega (arith, a0, a1, a2, a3, len, le) in
-    let agree = fields_agree fs kept nothing_read s nought mem hf len (λ i lt. ap (λ k. slice_index_or mem k (pos 0)) (let z : 0 + i ≡ i = omega arith in z) ∙ at_first kept (replicate (m - length kept) (pos 0)) i (omega (arith, len, lt))) (no_scope nought mem) in
+    let agree = fields_agree fs kept nothing_read s nought mem hf len
+    (λ i lt. ap (λ k. slice_index_or mem k (pos 0)) (let z : 0 + i ≡ i = omega arith in z)
+    ∙ at_first kept (replicate (m - length kept) (pos 0)) i (omega (arith, len, lt))) (no_scope nought mem) in
     let d = steps_met e xs b s y mem (at_start fs kept) hb (r.sound sound_nothing) agree (sym r.popped) (omega (arith, n, le)) in
     let l = ran_length y.0 xs mem in
     record {
       pushed = d.pushed;
       fields =
-          fields_kept fs nothing_read s y.1.scope (exec_all b xs (at_start fs kept)).values (ran y.0 xs mem).slots hf g.keeps d.agrees (omega (arith, l, n, le, a2, a3))
+          fields_kept fs nothing_read s y.1.scope (exec_all b xs (at_start fs kept)).values (ran y.0 xs mem).slots hf g.keeps d.agrees
+          (omega (arith, l, n, le, a2, a3))
           ∙ ap (λ k. take k (ran y.0 xs mem).slots) (sym len);
     }
 
@@ -230,7 +235,8 @@ work_parts least w s r h =
     let p = ok_parts (judged_rates least (push_of w) (pop_of w) (peek_of w)) f1 r h in
     let q = ok_parts (steps_of (peek_of w) w.block s) f2 r p.2 in
     let k = ok_parts (kept_rates (push_of w) (pop_of w) q.0.1) (λ v. fine (run_of w q.0)) r q.2 in
-    let m = ok_parts (demand (nat_eq q.0.1.popped (pop_of w)) (Rates (pop_of w) q.0.1.popped)) (λ u. demand (nat_eq q.0.1.pushed (push_of w)) (Rates (push_of w) q.0.1.pushed)) k.0 k.1 in
+    let m = ok_parts (demand (nat_eq q.0.1.popped (pop_of w)) (Rates (pop_of w) q.0.1.popped))
+    (λ u. demand (nat_eq q.0.1.pushed (push_of w)) (Rates (push_of w) q.0.1.pushed)) k.0 k.1 in
     record {
       read = q.0;
       steps_are = q.1;
@@ -328,13 +334,16 @@ module _ (t : FilterTree) (s : At) (i : Steps × At) (p : Option RunForm) (w : R
       let r = run_kept b kept input in
       let m = q.met kept input len in
       let after : map (fires t j kept xs).values t.fields ≡ r.slots = m.fields in
-      let both : (fires t j kept xs).pushed ++ fires_from t n (suc j) (map (fires t j kept xs).values t.fields) xs ≡ first_values r.pushes ++ firings_from f n (suc j) r.slots xs =
+      let both : (fires t j kept xs).pushed ++ fires_from t n (suc j) (map (fires t j kept xs).values t.fields) xs ≡ first_values r.pushes ++ firings_from f n
+      (suc j) r.slots xs =
       ap (λ l. l ++ fires_from t n (suc j) (map (fires t j kept xs).values t.fields) xs) m.pushed
       ∙ ap (λ k. first_values r.pushes ++ fires_from t n (suc j) k xs) after
       ∙ ap (λ l. first_values r.pushes ++ l) (firings_met n (suc j) r.slots xs (run_kept_length b kept input ∙ len)) in
       let same : r ≡ firing f j kept xs =
-      ap (λ k. run_kept b kept (take k (drop (start_at t j) xs))) (sym q.peek) ∙ ap (λ k. run_kept b kept (take (run_at f j).peek (drop k xs))) (sym (begins_as j)) in
-      ap (λ l. if nat_le (start_at t j + waits_for t j) (length xs) then l else []) (both ∙ ap (λ r. first_values r.pushes ++ firings_from f n (suc j) r.slots xs) same)
+      ap (λ k. run_kept b kept (take k (drop (start_at t j) xs))) (sym q.peek)
+      ∙ ap (λ k. run_kept b kept (take (run_at f j).peek (drop k xs))) (sym (begins_as j)) in
+      ap (λ l. if nat_le (start_at t j + waits_for t j) (length xs) then l else [])
+      (both ∙ ap (λ r. first_values r.pushes ++ firings_from f n (suc j) r.slots xs) same)
       ∙ ap (λ k. if nat_le k (length xs) then first_values (firing f j kept xs).pushes ++ firings_from f n (suc j) (firing f j kept xs).slots xs else [])
       (ap (λ k. k + waits_for t j) (sym (begins_as j)) ∙ ap (λ k. begins f j + k) (sym (needs_as j)))
 
@@ -348,4 +357,5 @@ filter_met t f xs h =
     let kept = run_kept_length (record { inputs = 0; slots = e.init.1.slots; steps = e.init.0 }) zeros [] in
     subst (λ g. pushed_by t xs ≡ filtered g xs) e.is
     (ap (λ k. fires_from t (suc (length xs)) 0 k xs) start
-    ∙ firings_met t e.fields e.init e.prework e.work e.fields_are e.prework_is e.work_is (suc (length xs)) 0 (starts_of (length t.fields) e.init) xs (kept ∙ len))
+    ∙ firings_met t e.fields e.init e.prework e.work e.fields_are e.prework_is e.work_is (suc (length xs)) 0 (starts_of (length t.fields) e.init) xs
+    (kept ∙ len))

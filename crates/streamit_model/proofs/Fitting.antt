@@ -72,7 +72,8 @@ weights_good : (ws : List ℕ) (n : ℕ) → IsRound ws n → 0 < n → are_weig
 weights_good ws n r lt =
     let l = length-map ws pos in
     let m = r.number in
-    and_from (nat_le 1 (length (weights ws))) (list_all (λ w. nat_le 1 (count_of w)) (weights ws)) (le-leb 1 (length (weights ws)) (omega (arith, l, m, lt))) (all_positive ws r.each)
+    and_from (nat_le 1 (length (weights ws))) (list_all (λ w. nat_le 1 (count_of w)) (weights ws)) (le-leb 1 (length (weights ws)) (omega (arith, l, m, lt)))
+    (all_positive ws r.each)
 
 many : (ws : List ℕ) (n : ℕ) → IsRound ws n → replicate n (rows 1) ≡ replicate (length (weights ws)) (rows 1)
 many ws n r = ap (λ k. replicate k (rows 1)) (sym (length-map ws pos ∙ r.number))
@@ -80,17 +81,33 @@ many ws n r = ap (λ k. replicate k (rows 1)) (sym (length-map ws pos ∙ r.numb
 fits_split : (d : Splitter) (n k : ℕ) (label from : Name) → IsSplitter d n → 0 < n → IsFitting (splitter d n label from (queues k n))
 fits_split Duplicate n k label from ok some kind var hq hv =
     (Rows 1, one_kind kind (rows 1) from (λ q lt. hq q (omega (arith, lt))), kinds_of kind n k (λ q lt. hq q (omega (arith, lt))), refl, le-leb 1 n some)
-fits_split (RoundRobin ws) n k label from ok some kind var hq hv =
-    (Rows 1, one_kind kind (rows 1) from (λ q lt. hq q (omega (arith, lt))), kinds_of kind n k (λ q lt. hq q (omega (arith, lt))) ∙ many ws n ok, one_kind var Private label hv, weights_good ws n ok some)
+fits_split (RoundRobin ws) n k label from ok some kind var hq hv = (
+  Rows 1,
+  one_kind kind (rows 1) from (λ q lt. hq q (omega (arith, lt))),
+  kinds_of kind n k (λ q lt. hq q (omega (arith, lt)))
+      ∙ many ws n ok,
+  one_kind var Private label hv,
+  weights_good ws n ok some,
+)
 
 -- the queues and the variable of each operator fit its kernel
 pub fits_each : OfEach IsFitting
 fits_each = record {
-  filters = λ label f from to ok small kind var hq hv.
-      (one_kind kind (rows 1) from (λ q lt. hq q (omega (arith, lt))), one_kind kind (rows 1) to (λ q lt. hq q (omega (arith, lt))), one_kind var Private label hv, ok);
+  filters = λ label f from to ok small kind var hq hv. (
+    one_kind kind (rows 1) from (λ q lt. hq q (omega (arith, lt))),
+    one_kind kind (rows 1) to (λ q lt. hq q (omega (arith, lt))),
+    one_kind var Private label hv,
+    ok,
+  );
   splits = λ d n k label from ok small some few. fits_split d n k label from ok some;
-  joins = λ ws n k label to ok small some few kind var hq hv.
-      (Rows 1, kinds_of kind n k (λ q lt. hq q (omega (arith, lt))) ∙ many ws n ok, one_kind kind (rows 1) to (λ q lt. hq q (omega (arith, lt))), one_kind var Private label hv, weights_good ws n ok some);
+  joins = λ ws n k label to ok small some few kind var hq hv. (
+    Rows 1,
+    kinds_of kind n k (λ q lt. hq q (omega (arith, lt)))
+        ∙ many ws n ok,
+    one_kind kind (rows 1) to (λ q lt. hq q (omega (arith, lt))),
+    one_kind var Private label hv,
+    weights_good ws n ok some,
+  );
 }
 
 -- where all queues that the operators name carry single values, and all their variables are private, they fit
@@ -100,7 +117,8 @@ pub all_fit : (kind : Name → QueueType) (var : Name → VarKind) (ops : List O
     → Each (FitsAt kind var) ops
 all_fit kind var [] h r w v = tt
 all_fit kind var (op ∷ ops) h r w v = (
-  h.0 kind var (λ q lt. ⊎_elim (λ a. r q (omega (arith, a))) (λ z. w q (omega (arith, lt, z))) (more_or_zero (reads_it q op))) (λ x lt. v x (omega (arith, lt))),
+  h.0 kind var (λ q lt. ⊎_elim (λ a. r q (omega (arith, a))) (λ z. w q (omega (arith, lt, z))) (more_or_zero (reads_it q op)))
+      (λ x lt. v x (omega (arith, lt))),
   all_fit kind var ops h.1 (λ q lt. r q (omega (arith, lt))) (λ q lt. w q (omega (arith, lt))) (λ x lt. v x (omega (arith, lt))),
 )
 

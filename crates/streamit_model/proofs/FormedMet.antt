@@ -72,7 +72,8 @@ term_fits p m e sc (tree.Bin o l r) k u le pp b c =
     let i = term_fits p m e sc l k q.0 le (omega (arith, pp)) b q.1 in
     let j = term_fits p m e sc r (k + pops l) w.0 le (omega (arith, pp)) b w.1 in
     let d = i.1 in let g = j.1 in
-    subst (Fits p m (suc (max (tree.depth_of l) (tree.depth_of r)))) (ok_is (term.Bin o q.0 w.0) u w.2) (and_from (is_sound p m q.0) (is_sound p m w.0) i.0 j.0, omega (arith, d, g))
+    subst (Fits p m (suc (max (tree.depth_of l) (tree.depth_of r)))) (ok_is (term.Bin o q.0 w.0) u w.2)
+    (and_from (is_sound p m q.0) (is_sound p m w.0) i.0 j.0, omega (arith, d, g))
 
 is_one : (p m d : ℕ) (u : Term) → d ≤ 64 → Fits p m d u → is_term p m u ≡ true
 is_one p m d u low f = let e = f.1 in and_from (is_sound p m u) (nat_le (term.depth_of u) 64) f.0 (le-leb (term.depth_of u) 64 (omega (arith, e, low)))
@@ -125,7 +126,16 @@ counts_both s a b f g =
 
 counts_done : (s t : At) → s.popped ≤ t.popped → s.pushed ≡ t.pushed → s.size ≡ t.size → s.slots ≡ t.slots → Counts s (Done, t)
 counts_done s t p q r w =
-    record { popped = p; more = 0; pushes = refl; pushed = omega (arith, q); size = omega (arith, r); small = λ h. omega (arith, h, r); few = λ h. omega (arith, h, w) }
+    record {
+      popped = p;
+      more = 0;
+      pushes = refl;
+      pushed = omega (arith, q);
+      size = omega (arith, r);
+      small = λ h. omega (arith, h, r);
+      few =
+          λ h. omega (arith, h, w);
+    }
 
 mutual
   unfolding left at_arm at_second turning
@@ -138,13 +148,32 @@ mutual
       let b = unrolled_counts block f n vs (left s p.first.1) p.others p.others_is in
       let r = p.room in
       let z = a.size in
-      let first : Counts s (p.first.0, left s p.first.1) = record { popped = a.popped; more = a.more; pushes = a.pushes; pushed = a.pushed; size = omega (arith, z); small = λ h. a.small (omega (arith, r)); few = λ h. a.few h } in
+      let first : Counts s (p.first.0, left s p.first.1) =
+      record {
+        popped = a.popped;
+        more = a.more;
+        pushes = a.pushes;
+        pushed = a.pushed;
+        size = omega (arith, z);
+        small =
+            λ h. a.small (omega (arith, r));
+        few = λ h. a.few h;
+      } in
       subst (Counts s) (sym p.is) (counts_both s (p.first.0, left s p.first.1) p.others first b)
 
 one_counts : (s t : At) (c : Step) (m : ℕ) → s.popped ≤ t.popped → pushes_once c ≡ Some m → s.pushed + m ≡ t.pushed → size_once c + s.size ≤ t.size
     → (s.size ≤ 16384 → t.size ≤ 16384) → (s.slots ≤ 256 → t.slots ≤ 256) → Counts s (one_step c, t)
 one_counts s t c m p q r z k w =
-    record { popped = p; more = m; pushes = ap (λ o. both_counts o (Some 0)) q ∙ ap Some (let e : m + 0 ≡ m = omega arith in e); pushed = r; size = omega (arith, z); small = k; few = w }
+    record {
+      popped = p;
+      more = m;
+      pushes = ap (λ o. both_counts o (Some 0)) q
+          ∙ ap Some (let e : m + 0 ≡ m = omega arith in e);
+      pushed = r;
+      size = omega (arith, z);
+      small = k;
+      few = w;
+    }
 
 mutual
   unfolding left at_arm at_second
@@ -152,7 +181,9 @@ mutual
   step_counts : (e : ℕ) (c : Statement) → Counted (step_of e c)
   step_counts e (Declare n t) s y h =
       let p = declared_parts e n t s y h in let r = p.room in
-      subst (Counts s) (sym p.is) (one_counts s _ (steps.Set s.slots p.value) 0 (omega arith) refl (omega arith) (omega arith) (λ h. omega (arith, r)) (λ h. let f = ltb-true s.slots 256 p.few in omega (arith, f)))
+      subst (Counts s) (sym p.is)
+      (one_counts s _ (steps.Set s.slots p.value) 0 (omega arith) refl (omega arith) (omega arith) (λ h. omega (arith, r))
+      (λ h. let f = ltb-true s.slots 256 p.few in omega (arith, f)))
   step_counts e (Assign n t) s y h =
       let p = assigned_parts e n t s y h in let r = p.room in
       subst (Counts s) (sym p.is) (one_counts s _ (steps.Set p.slot p.value) 0 (omega arith) refl (omega arith) (omega arith) (λ h. omega (arith, r)) (λ h. h))
@@ -208,7 +239,8 @@ Formed p m f = (s : At) (y : Steps × At) → f s ≡ Ok y → IsSound s.scope s
 below_of : (s : At) (m : ℕ) → IsSound s.scope s.slots → s.slots ≤ m → (n : Name) (i : ℕ) → find s.scope n ≡ Some (Var i) → i < m
 below_of s m ok le n i f = let b = ok.below n i f in omega (arith, b, le)
 
-first_fits : (p m e : ℕ) (t : Option Expression) (s : At) (u : Term) → IsLowFirst t → e ≤ p → s.popped + first_popped t ≤ p → IsSound s.scope s.slots → s.slots ≤ m
+first_fits : (p m e : ℕ) (t : Option Expression) (s : At) (u : Term) → IsLowFirst t → e ≤ p → s.popped + first_popped t ≤ p → IsSound s.scope s.slots
+    → s.slots ≤ m
     → first_term e t s ≡ Ok u → is_term p m u ≡ true
 first_fits p m e None s u low le pp ok sl h = is_one p m 64 u (omega arith) (subst (Fits p m 64) (ok_is (term.Const (pos 0)) u h) (refl, omega arith))
 first_fits p m e (Some t) s u low le pp ok sl h = is_one p m (tree.depth_of t) u low (term_fits p m e s.scope t s.popped u le pp (below_of s m ok sl) h)
@@ -239,19 +271,25 @@ mutual
       let pp' : s.popped + first_popped t ≤ p = subst (λ (r : Steps × At). r.1.popped ≤ p) q.is pp in
       let sl' : s.slots + 1 ≤ m = subst (λ (r : Steps × At). r.1.slots ≤ m) q.is sl in
       subst (λ (r : Steps × At). is_steps p m one_port r.0 ≡ true) (sym q.is)
-      (one_formed p m (steps.Set s.slots q.value) (and_from (nat_lt s.slots m) (is_term p m q.value) (lt-ltb s.slots m (omega (arith, sl'))) (first_fits p m e t s q.value low le pp' ok (omega (arith, sl')) q.value_is)))
+      (one_formed p m (steps.Set s.slots q.value)
+      (and_from (nat_lt s.slots m) (is_term p m q.value) (lt-ltb s.slots m (omega (arith, sl')))
+      (first_fits p m e t s q.value low le pp' ok (omega (arith, sl')) q.value_is)))
   step_formed p m e (Assign n t) le low s y h ok pp sl =
       let q = assigned_parts e n t s y h in
       let pp' : s.popped + pops t ≤ p = subst (λ (r : Steps × At). r.1.popped ≤ p) q.is pp in
       let sl' : s.slots ≤ m = subst (λ (r : Steps × At). r.1.slots ≤ m) q.is sl in
       subst (λ (r : Steps × At). is_steps p m one_port r.0 ≡ true) (sym q.is)
-      (one_formed p m (steps.Set q.slot q.value) (and_from (nat_lt q.slot m) (is_term p m q.value) (lt-ltb q.slot m (below_of s m ok sl' n q.slot q.found)) (is_one p m (tree.depth_of t) q.value low (term_fits p m e s.scope t s.popped q.value le pp' (below_of s m ok sl') q.value_is))))
+      (one_formed p m (steps.Set q.slot q.value)
+      (and_from (nat_lt q.slot m) (is_term p m q.value) (lt-ltb q.slot m (below_of s m ok sl' n q.slot q.found))
+      (is_one p m (tree.depth_of t) q.value low (term_fits p m e s.scope t s.popped q.value le pp' (below_of s m ok sl') q.value_is))))
   step_formed p m e (Push t) le low s y h ok pp sl =
       let q = pushed_parts e t s y h in
       let pp' : s.popped + pops t ≤ p = subst (λ (r : Steps × At). r.1.popped ≤ p) q.is pp in
       let sl' : s.slots ≤ m = subst (λ (r : Steps × At). r.1.slots ≤ m) q.is sl in
       subst (λ (r : Steps × At). is_steps p m one_port r.0 ≡ true) (sym q.is)
-      (one_formed p m (steps.Push 0 (q.value ∷ [])) (and_from (is_term p m q.value) true (is_one p m (tree.depth_of t) q.value low (term_fits p m e s.scope t s.popped q.value le pp' (below_of s m ok sl') q.value_is)) refl))
+      (one_formed p m (steps.Push 0 (q.value ∷ []))
+      (and_from (is_term p m q.value) true
+      (is_one p m (tree.depth_of t) q.value low (term_fits p m e s.scope t s.popped q.value le pp' (below_of s m ok sl') q.value_is)) refl))
   step_formed p m e Discard le low s y h ok pp sl =
       subst (λ (r : Steps × At). is_steps p m one_port r.0 ≡ true) (ok_is (Done, record s { popped = s.popped + 1 }) y h) refl
   step_formed p m e (If t a b) le low s y h ok pp sl =
@@ -262,15 +300,18 @@ mutual
       let pp' : q.two.1.popped ≤ p = subst (λ (r : Steps × At). r.1.popped ≤ p) q.is pp in
       let sl' : q.two.1.slots ≤ m = subst (λ (r : Steps × At). r.1.slots ≤ m) q.is sl in
       let same = q.popped in
-      let u = is_one p m (tree.depth_of t) q.test low.0 (term_fits p m e s.scope t s.popped q.test le (omega (arith, pp', same, ka)) (below_of s m ok (omega (arith, sl', ga, gb))) q.test_is) in
+      let u = is_one p m (tree.depth_of t) q.test low.0
+      (term_fits p m e s.scope t s.popped q.test le (omega (arith, pp', same, ka)) (below_of s m ok (omega (arith, sl', ga, gb))) q.test_is) in
       let x = steps_formed p m e a le low.1 (at_arm t s) q.one q.one_is ok (omega (arith, pp', same)) (omega (arith, sl', gb)) in
       let z = optional_formed p m e b le low.2 (at_second t s q.one.1) q.two q.two_is (more_slots s.scope s.slots q.one.1.slots ga ok) pp' sl' in
       subst (λ (r : Steps × At). is_steps p m one_port r.0 ≡ true) (sym q.is)
       (one_formed p m (steps.If q.test q.one.0 q.two.0)
-      (and_from (is_term p m q.test) (is_steps p m one_port q.one.0 && is_steps p m one_port q.two.0) u (and_from (is_steps p m one_port q.one.0) (is_steps p m one_port q.two.0) x z)))
+      (and_from (is_term p m q.test) (is_steps p m one_port q.one.0 && is_steps p m one_port q.two.0) u
+      (and_from (is_steps p m one_port q.one.0) (is_steps p m one_port q.two.0) x z)))
   step_formed p m e (For n low upto high b) le shallow s y h ok pp sl =
       let q = looped_parts e n low upto high b s y h in
-      unrolled_formed p m (steps_of e b) (steps_grow e b) (steps_count e b) (steps_formed p m e b le shallow) n (turns_between q.first upto q.last) s y q.new q.is ok pp sl
+      unrolled_formed p m (steps_of e b) (steps_grow e b) (steps_count e b) (steps_formed p m e b le shallow) n
+      (turns_between q.first upto q.last) s y q.new q.is ok pp sl
 
   steps_formed : (p m e : ℕ) (b : Block) → e ≤ p → AreShallow b → Formed p m (steps_of e b)
   steps_formed p m e End le low s y h ok pp sl = subst (λ (r : Steps × At). is_steps p m one_port r.0 ≡ true) (ok_is (Done, s) y h) refl
@@ -392,7 +433,8 @@ run_formed fs s least n w r hf low e le =
     }) le
 
 -- where `prework` is read, it is a first run
-first_formed : (fs : List Name) (s : At) (o : Option WorkTree) (p : Option RunForm) (m : ℕ) → read_fields fs nothing_read ≡ Ok s → IsShallowPrework o → PreworkRead o s p
+first_formed : (fs : List Name) (s : At) (o : Option WorkTree) (p : Option RunForm) (m : ℕ) → read_fields fs nothing_read ≡ Ok s → IsShallowPrework o
+    → PreworkRead o s p
     → m ≤ 256 → (is_first (slots_for p m) (widened_first (slots_for p m) p) ≡ true) × IsSmallFirst (widened_first (slots_for p m) p) × (slots_for p m ≤ 256)
 first_formed fs s None None m hf low h le = (refl, tt, le)
 first_formed fs s None (Some r) m hf low h le = absurd h
@@ -417,7 +459,9 @@ filter_formed t f low h =
     let le = slots_within e.prework w.body.slots in
     let k = run_formed t.fields e.fields 1 n t.work w e.fields_are low.1 e.work_is le in
     let p = first_formed t.fields e.fields t.prework e.prework w.body.slots e.fields_are low.0 e.prework_is k.small.slots in
-    let kept : length (starts_of (length t.fields) e.init) ≡ length t.fields = run_kept_length (record { inputs = 0; slots = e.init.1.slots; steps = e.init.0 }) (replicate (length t.fields) (pos 0)) [] ∙ length-replicate (length t.fields) (pos 0) in
+    let kept : length (starts_of (length t.fields) e.init) ≡ length t.fields =
+    run_kept_length (record { inputs = 0; slots = e.init.1.slots; steps = e.init.0 }) (replicate (length t.fields) (pos 0)) []
+    ∙ length-replicate (length t.fields) (pos 0) in
     let few = k.fields in
     subst (λ (g : FilterForm). (is_filter g ≡ true) × IsSmallFilter g) e.is (
       and_from _ _ (and_from _ _ (and_from _ _ (eq-eqb w.body.inputs w.peek k.inputs) (and_from _ _ (le-leb 1 w.pop k.pops) (le-leb w.pop w.peek k.peeks)))

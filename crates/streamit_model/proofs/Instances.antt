@@ -21,7 +21,19 @@ n k = Number k
 -- sums of three in a row
 sum_tree : FilterTree
 sum_tree =
-    record { fields = []; init = Unwritten; prework = None; work = record { push = Some 1; pop = Some 1; peek = Some 3; block = then_do (source.Push (Bin op.Add (Bin op.Add (Peek (n 0)) (Peek (n 1))) (Peek (n 2)))) (then_do source.Discard End) } }
+    record {
+      fields = [];
+      init = Unwritten;
+      prework = None;
+      work =
+          record {
+            push = Some 1;
+            pop = Some 1;
+            peek = Some 3;
+            block =
+                then_do (source.Push (Bin op.Add (Bin op.Add (Peek (n 0)) (Peek (n 1))) (Peek (n 2)))) (then_do source.Discard End);
+          };
+    }
 
 sums : pushed_by sum_tree (pos 1 ∷ pos 2 ∷ pos 3 ∷ pos 4 ∷ []) ≡ pos 6 ∷ pos 9 ∷ []
 unfolding sum_tree int_wrap
@@ -33,11 +45,22 @@ sums_short = refl
 
 -- a split-join of two filters
 id_tree : FilterTree
-id_tree = record { fields = []; init = Unwritten; prework = None; work = record { push = Some 1; pop = Some 1; peek = Some 1; block = then_do (source.Push Pop) End } }
+id_tree = record {
+  fields = [];
+  init = Unwritten;
+  prework = None;
+  work =
+      record { push = Some 1; pop = Some 1; peek = Some 1; block = then_do (source.Push Pop) End };
+}
 
 both : Program
 both =
-    (record { name = codes "Id"; body = AFilter id_tree }) ∷ (record { name = codes "Both"; body = ASplitJoin (Turns (Some (1 ∷ 2 ∷ []))) (record { first = codes "Id"; others = codes "Id" ∷ [] }) (Some (1 ∷ 2 ∷ [])) }) ∷ []
+    (record { name = codes "Id"; body = AFilter id_tree }) ∷
+    (record {
+      name = codes "Both";
+      body =
+          ASplitJoin (Turns (Some (1 ∷ 2 ∷ []))) (record { first = codes "Id"; others = codes "Id" ∷ [] }) (Some (1 ∷ 2 ∷ []));
+    }) ∷ []
 
 both_means : program_outputs both (pos 1 ∷ pos 2 ∷ pos 3 ∷ pos 4 ∷ pos 5 ∷ []) ≡ pos 1 ∷ pos 2 ∷ pos 3 ∷ pos 4 ∷ pos 5 ∷ []
 unfolding both id_tree
@@ -85,7 +108,8 @@ run_tree = record {
     pop = Some 2;
     peek = None;
     block = then_do (source.Declare x_name None)
-        (then_do (source.For i_name (n 0) true (n 1) (then_do (source.Assign x_name (Bin op.Add (Named x_name) (Bin op.Mul (Peek (Named i_name)) (Bin op.Add (Named i_name) (n 1))))) End))
+        (then_do (source.For i_name (n 0) true (n 1)
+        (then_do (source.Assign x_name (Bin op.Add (Named x_name) (Bin op.Mul (Peek (Named i_name)) (Bin op.Add (Named i_name) (n 1))))) End))
         (then_do source.Discard (then_do source.Discard
         (then_do (source.Assign total_name (Bin op.Add (Named total_name) (Named x_name))) (then_do (source.Push (Named total_name)) End)))));
   };
@@ -142,7 +166,8 @@ peek_range = refl
 not_constant : elaborated (of_work 1 1 1 (then_do (source.Push (Peek Pop)) End)) ≡ Err NotConstant
 not_constant = refl
 
-branch_rates : elaborated (of_work 1 1 1 (then_do (source.If (Peek (n 0)) (then_do (source.Push Pop) End) (Written (then_do source.Discard End))) End)) ≡ Err BranchRates
+branch_rates : elaborated
+    (of_work 1 1 1 (then_do (source.If (Peek (n 0)) (then_do (source.Push Pop) End) (Written (then_do source.Discard End))) End)) ≡ Err BranchRates
 branch_rates = refl
 
 unknown : elaborated (of_work 1 1 1 (then_do (source.Push (Named (codes "y"))) End)) ≡ Err UnknownName
@@ -162,11 +187,19 @@ other_pops : elaborated (of_work 2 1 1 (then_do (source.Push (n 7)) End)) ≡ Er
 other_pops = refl
 
 -- a loop of 65,536 turns in one of 65,536 is refused when 16,384 turns were counted
-loops_in_loops : elaborated (of_work 1 1 1 (then_do (source.For i_name (n 0) false (n 65536) (then_do (source.For x_name (n 0) false (n 65536) End) End)) End)) ≡ Err Limit
+loops_in_loops : elaborated
+    (of_work 1 1 1 (then_do (source.For i_name (n 0) false (n 65536) (then_do (source.For x_name (n 0) false (n 65536) End) End)) End)) ≡ Err Limit
 unfolding i_name x_name
 loops_in_loops = refl
 
 -- three weights for two branches, in the second unit
-three_weights : judged ((record { name = codes "Id"; body = AFilter id_tree }) ∷ (record { name = codes "Both"; body = ASplitJoin (Turns (Some (1 ∷ 2 ∷ 3 ∷ []))) (record { first = codes "Id"; others = codes "Id" ∷ [] }) None }) ∷ []) ≡ Err (record { unit = 2; fault = Weights })
+three_weights : judged
+    ((record { name = codes "Id"; body = AFilter id_tree }) ∷
+    (record {
+      name = codes "Both";
+      body =
+          ASplitJoin (Turns (Some (1 ∷ 2 ∷ 3 ∷ []))) (record { first = codes "Id"; others = codes "Id" ∷ [] }) None;
+    }) ∷ []) ≡ Err
+    (record { unit = 2; fault = Weights })
 unfolding id_tree
 three_weights = refl

@@ -22,7 +22,9 @@ digit_goes d lt = one_digit (48 + d) (omega arith) (omega (arith, lt))
 pub decimal_goes : (n : ℕ) → n < 2 ^ 64 → list_all is_word (decimal n) ≡ true
 decimal_goes n lt = decimal_by_steps (λ k ds. list_all is_word ds ≡ true)
     (λ k small. and_from (is_word (48 + k)) true (digit_goes k small) refl)
-    (λ k ds le e. list_all-append is_word ds ((48 + k % 10) ∷ []) ∙ and_from (list_all is_word ds) (list_all is_word ((48 + k % 10) ∷ [])) e (and_from (is_word (48 + k % 10)) true (digit_goes (k % 10) (mod_below k 10 (omega arith))) refl))
+    (λ k ds le e. list_all-append is_word ds ((48 + k % 10) ∷ [])
+    ∙ and_from (list_all is_word ds) (list_all is_word ((48 + k % 10) ∷ [])) e
+    (and_from (is_word (48 + k % 10)) true (digit_goes (k % 10) (mod_below k 10 (omega arith))) refl))
     n lt
 
 -- a name of at most 60 bytes, with a number of at most three digits behind it
@@ -32,6 +34,7 @@ unfolding is_word is_letter is_digit
 numbered_name b bs k s g len lt =
     let d = decimal_goes k (omega (arith, lt)) in
     let l = length-decimal-le 3 k (omega arith) lt (omega (arith, lt)) in
-    let all : list_all is_word (bs ++ (codes "@" ++ decimal k)) ≡ true = list_all-append is_word bs (codes "@" ++ decimal k) ∙ and_from (list_all is_word bs) (list_all is_word (decimal k)) g d in
+    let all : list_all is_word (bs ++ (codes "@" ++ decimal k)) ≡ true = list_all-append is_word bs (codes "@" ++ decimal k)
+    ∙ and_from (list_all is_word bs) (list_all is_word (decimal k)) g d in
     let few : length (bs ++ (codes "@" ++ decimal k)) ≤ 63 = (let a = length-append bs (codes "@" ++ decimal k) in omega (arith, a, l, len)) in
     and_from (is_letter b) _ s (and_from (list_all is_word (bs ++ (codes "@" ++ decimal k))) _ all (le-leb (length (bs ++ (codes "@" ++ decimal k))) 63 few))

@@ -47,7 +47,8 @@ mutual
       let after = λ (q : Name). and_writes known first q + total (writes_it q) branches in (
         split_first d n k (numbered (codes "split") c) from known h,
         reads-append branches (joiner ws (numbered (codes "join") (suc c + ops_of ss)) (queues (k + n) n) to ∷ []) (and_writes known first) after
-            (ordered_branches ss (suc c) (k + (n + n)) k (k + n) (and_writes known first) (λ q lt. let w = split_writes d n k (numbered (codes "split") c) from q in let e = queue_count q n k in omega (arith, w, e, lt)))
+            (ordered_branches ss (suc c) (k + (n + n)) k (k + n) (and_writes known first)
+            (λ q lt. let w = split_writes d n k (numbered (codes "split") c) from q in let e = queue_count q n k in omega (arith, w, e, lt)))
             (λ q lt. lt)
             ((λ q lt. let w = writes_branches ss (suc c) (k + (n + n)) k (k + n) q in let e = queue_count q n (k + n) in omega (arith, w, e, lt)), tt),
       )
@@ -59,7 +60,8 @@ mutual
       reads-append one (build_line ss (c + ops_in s) (suc k + queues_in s) (queue k) to) known (λ q. known q + total (writes_it q) one)
       (ordered s c (suc k) from (queue k) known h)
       (λ q lt. lt)
-      (ordered_line ss (c + ops_in s) (suc k + queues_in s) (queue k) to _ (let w = writes s c (suc k) from (queue k) (queue k) in let o = one_same (queue k) in omega (arith, w, o)))
+      (ordered_line ss (c + ops_in s) (suc k + queues_in s) (queue k) to _
+      (let w = writes s c (suc k) from (queue k) (queue k) in let o = one_same (queue k) in omega (arith, w, o)))
 
   ordered_branches : (ss : Streams) (c k a b : ℕ) (known : Name → ℕ) → ((q : Name) → 0 < count q (queues a (number_of ss)) → 0 < known q)
       → ReadsBefore known (build_branches ss c k a b)

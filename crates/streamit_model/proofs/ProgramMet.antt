@@ -73,7 +73,8 @@ adds_fit : (may : ℕ → Bool) (known : Streamed) (env : List (Name × Works)) 
 adds_fit may known env i n [] ss a h =
     let p = ok_parts (stream_added may known i n) (λ s. Ok (Last s)) ss h in
     let f = looked known env n p.0 a (added_is may known i n p.0 p.1).1 in
-    subst (λ t. AddsFit t env n []) (ok_is (Last p.0) ss p.2) (record { formed = f.formed; small = f.small; number = refl; line = f.works; side = λ g. ap (λ l. l ∷ []) (f.works (g 0)) })
+    subst (λ t. AddsFit t env n []) (ok_is (Last p.0) ss p.2)
+    (record { formed = f.formed; small = f.small; number = refl; line = f.works; side = λ g. ap (λ l. l ∷ []) (f.works (g 0)) })
 adds_fit may known env i n (m ∷ ms) ss a h =
     let p = ok_parts (stream_added may known i n) (λ s. on_ok (streams_added may known (suc i) m ms) (λ ss. Ok (Then s ss))) ss h in
     let q = ok_parts (streams_added may known (suc i) m ms) (λ ss. Ok (Then p.0 ss)) ss p.2 in
@@ -119,7 +120,13 @@ round_parts ws n vs h =
     let p = ok_parts (demand (nat_eq (length us) n && all) Weights) f vs h in
     let q = and_parts (nat_eq (length us) n) all (demanded (nat_eq (length us) n && all) Weights p.0 p.1) in
     let r = ok_parts (demand (nat_le (cycle us) 65536) Limit) (λ v. fine us) vs p.2 in
-    subst (Round ws n) (ok_is us vs r.2) (record { is = refl; round = record { number = eqb-true (length us) n q.0; each = positive us q.1 }; sum = leb-true (cycle us) 65536 (demanded (nat_le (cycle us) 65536) Limit r.0 r.1) })
+    subst (Round ws n) (ok_is us vs r.2)
+    (record {
+      is = refl;
+      round = record { number = eqb-true (length us) n q.0; each = positive us q.1 };
+      sum =
+          leb-true (cycle us) 65536 (demanded (nat_le (cycle us) 65536) Limit r.0 r.1);
+    })
 
 record Split (d : Dealing) (n : ℕ) (p : Splitter) : Type 0 where
   formed : IsSplitter p n
@@ -141,7 +148,8 @@ stream_fits : (known : Streamed) (env : List (Name × Works)) (name : Name) (b :
 stream_fits known env name (AFilter t) s a low h =
     let p = ok_parts (elaborated t) (λ f. Ok (Filter name f)) s h in
     let g = filter_formed t p.0 low p.1 in
-    subst (λ u. Fits u (body_works env (AFilter t))) (ok_is (Filter name p.0) s p.2) (record { formed = g.0; small = g.1; works = λ xs. sym (filter_met t p.0 xs p.1) })
+    subst (λ u. Fits u (body_works env (AFilter t))) (ok_is (Filter name p.0) s p.2)
+    (record { formed = g.0; small = g.1; works = λ xs. sym (filter_met t p.0 xs p.1) })
 stream_fits known env name (APipeline a) s all low h =
     let p = ok_parts (streams_added any known 0 a.first a.others) (λ ss. Ok (Pipeline ss)) s h in
     let i = adds_fit any known env 0 a.first a.others p.0 all p.1 in
@@ -186,7 +194,8 @@ all_fit k known env [] all a low h = subst (λ k. AllFit k env) (took_is known a
 all_fit k known env (u ∷ us) all a low h =
     let q = unit_parts k (unit_of known u) (λ s. all_streams (suc k) ((u.name, s) ∷ known) us) all h in
     let r = ok_parts (not_there (look known u.name)) (λ z. stream_of known u.name u.body) q.0 q.1 in
-    all_fit (suc k) ((u.name, q.0) ∷ known) ((u.name, body_works env u.body) ∷ env) us all (refl, stream_fits known env u.name u.body q.0 a low.0 r.2, a) low.1 q.2
+    all_fit (suc k) ((u.name, q.0) ∷ known) ((u.name, body_works env u.body) ∷ env) us all
+    (refl, stream_fits known env u.name u.body q.0 a low.0 r.2, a) low.1 q.2
 
 last_fits : (name : Name) (s : Stream) (others : Streamed) (env : List (Name × Works)) → AllFit ((name, s) ∷ others) env → Fits s (or_same (last_of env))
 last_fits name s others [] a = absurd a

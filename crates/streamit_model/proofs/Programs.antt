@@ -12,8 +12,11 @@ use Rattle.streamit_model.proofs.Valid.{plans_are_valid}
 pub programs_mean : ProgramsMean
 programs_mean p name s others xs low h =
     let a = program_met p name s others low h in
-    let f = a.fits in
-    (plans_are_valid s f.formed f.small a.few, translation_means s xs f.formed f.small a.few ∙ ap (λ l. record { outs = as_items l ∷ []; tables = [] }) (f.works xs))
+    let f = a.fits in (
+      plans_are_valid s f.formed f.small a.few,
+      translation_means s xs f.formed f.small a.few
+          ∙ ap (λ l. record { outs = as_items l ∷ []; tables = [] }) (f.works xs),
+    )
 
 pub fed_filters : FedFilters
 fed_filters t f g xs low h e = filter_means f g xs (filter_formed t f low h).0 e ∙ ap as_items (sym (filter_met t f xs h))

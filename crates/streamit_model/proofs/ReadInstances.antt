@@ -31,7 +31,8 @@ loop_read = refl
 
 -- if (peek(0)) { push(pop()); } else { int x = pop(); push(x); }
 fork : Block
-fork = Then (source.If (Peek (Number 0)) (Then (source.Push Pop) End) (Written (Then (source.Declare x_name (Some Pop)) (Then (source.Push (Named x_name)) End)))) End
+fork = Then (source.If (Peek (Number 0)) (Then (source.Push Pop) End)
+    (Written (Then (source.Declare x_name (Some Pop)) (Then (source.Push (Named x_name)) End)))) End
 
 fork_read : all_read fork nought
     ≡ Begins ∷ Peeks (pos 0) ∷ Begins ∷ Pops ∷ Pushes
@@ -54,7 +55,13 @@ behind_pushes = refl
 
 -- three weights for two branches
 id_tree : FilterTree
-id_tree = record { fields = []; init = Unwritten; prework = None; work = record { push = Some 1; pop = Some 1; peek = None; block = Then (source.Push Pop) End } }
+id_tree = record {
+  fields = [];
+  init = Unwritten;
+  prework = None;
+  work =
+      record { push = Some 1; pop = Some 1; peek = None; block = Then (source.Push Pop) End };
+}
 
 both : Program
 both =

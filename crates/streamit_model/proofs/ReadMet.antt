@@ -279,13 +279,15 @@ module _ (above : List Declared) (e : ℕ) where
       }
 
   -- what an arm pops
-  arm_pops : (before ws : List ReadWord) (s t : At) (turns : Values) → Stands before s turns → Stands (before ++ ws) t turns → popped_in ws ≡ t.popped - s.popped
+  arm_pops : (before ws : List ReadWord) (s t : At) (turns : Values) → Stands before s turns → Stands (before ++ ws) t turns
+      → popped_in ws ≡ t.popped - s.popped
   arm_pops before ws s t turns h g =
       let c = g.counts.pops_are in let d = h.counts.pops_are in
       let u = over-append pops_one before ws in let v = over-append pops_beside before ws in
       omega (arith, c, d, u, v)
 
-  arm_pushes : (before ws : List ReadWord) (s t : At) (turns : Values) → Stands before s turns → Stands (before ++ ws) t turns → pushed_in ws ≡ t.pushed - s.pushed
+  arm_pushes : (before ws : List ReadWord) (s t : At) (turns : Values) → Stands before s turns → Stands (before ++ ws) t turns
+      → pushed_in ws ≡ t.pushed - s.pushed
   arm_pushes before ws s t turns h g =
       let c = g.counts.pushes_are in let d = h.counts.pushes_are in
       let u = over-append pushes_one before ws in let v = over-append pushes_beside before ws in
@@ -455,7 +457,8 @@ module _ (above : List Declared) (e : ℕ) where
       (unmoved b5 J (record q.1 { scope = s.scope }) turns z.stands (λ n. (refl, refl)) refl refl refl refl refl refl)
       (omega (arith, zp)) (omega (arith, zq))))))))
 
-  for_met : (n : Name) (low : Expression) (upto : Bool) (high : Expression) (b : Block) (before : List ReadWord) (s : At) (turns : Values) → Stands before s turns
+  for_met : (n : Name) (low : Expression) (upto : Bool) (high : Expression) (b : Block) (before : List ReadWord) (s : At) (turns : Values)
+      → Stands before s turns
       → ((x : List ReadWord) (u : At) (inner : Values) → Stands x u inner → Meets above (each_word e x (all_read b inner)) (steps_of e b u)
       (Went x (all_read b inner) u inner))
       → Meets above (each_word e before (read_of (For n low upto high b) turns)) (step_of e (For n low upto high b) s)

@@ -65,7 +65,8 @@ list_at_map f (l ∷ ls) (suc p) = list_at_map f ls p
 
 -- the item at a place
 item_map : {A B : Type 0} (f : A → B) (ws : List ℕ) (ls : List (List A)) (x : ℕ) → collected_at ws (map (map f) ls) x ≡ map_option f (collected_at ws ls x)
-item_map f ws ls x = ap (λ l. slice_get l (number_in_branch ws x)) (list_at_map f ls (branch ws x)) ∙ got_map f (list_at ls (branch ws x)) (number_in_branch ws x)
+item_map f ws ls x = ap (λ l. slice_get l (number_in_branch ws x)) (list_at_map f ls (branch ws x))
+    ∙ got_map f (list_at ls (branch ws x)) (number_in_branch ws x)
 
 more_map : {A B : Type 0} (f : A → B) (o : Option A) (xs : List A) (ys : List B) → ys ≡ map f xs → and_more (map_option f o) ys ≡ map f (and_more o xs)
 more_map f None xs ys e = refl

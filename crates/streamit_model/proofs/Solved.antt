@@ -54,7 +54,8 @@ mutual
       let first = λ (i : ℕ) (lt : i < n). splits d n k i (numbered (codes "split") c) from h xs ok.0 s.0 e lt in
       let given = side_by_side ss (λ p. branch_input d p xs) in
       let len = length-side_by_side ss (λ p. branch_input d p xs) in
-      let second = solved_branches ss (suc c) (k + (n + n)) k (k + n) h (λ p. branch_input d p xs) ok.1 (each_front (Solves h) branches _ s.1) (λ i lt. first i lt) in
+      let second = solved_branches ss (suc c) (k + (n + n)) k (k + n) h (λ p. branch_input d p xs) ok.1 (each_front (Solves h) branches _ s.1)
+      (λ i lt. first i lt) in
       let last = each_back (Solves h) branches _ s.1 in
       last.0.0 ∙ collect_means ws (lists_of h (queues (k + n) n)) given (subst (IsRound ws) (sym len) ok.2) (joins ws n (k + n) h given ok.2 len second)
 

@@ -34,7 +34,8 @@ natural i n h = cc
 
 -- what stands for a slot is the name of a local
 pub local_known : (before : List ReadWord) (n : Name) (o : Option KnownName) (i : ℕ) (z : ℤ) → o ≡ Some (Var i)
-    → NameIs o (over (knows n) before) (over (leaves n) before) (over (enters n) before) (over (exits n) before) z → IsLocal before n × (IsLoopVariable before n → ⊥)
+    → NameIs o (over (knows n) before) (over (leaves n) before) (over (enters n) before) (over (exits n) before) z
+    → IsLocal before n × (IsLoopVariable before n → ⊥)
 local_known before n o i z f h =
     let d = subst (λ o. NameIs o (over (knows n) before) (over (leaves n) before) (over (enters n) before) (over (exits n) before) z) f h in
     let a = d.0 in let b = d.1 in (omega (arith, a), λ lt. omega (arith, b, lt))

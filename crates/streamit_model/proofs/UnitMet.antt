@@ -245,7 +245,8 @@ module _ (above : List Declared) (known : Streamed) (k : KnowsAbove above known)
         (free above spot (λ h. h there) (λ h. h) (λ d c h. h) (λ i r h. h) (λ h. h) (λ h. h) (λ h. omega (arith, lt, deep, h)) (λ h. h), tt),
         (h.1, h.2),
       ))
-      (λ f. let le = ltb-false (nesting s) 64 f in inl (first_limit above spot (omega (arith, le, deep)) (λ h. h) (λ h. h there) (λ h. h) (λ h. h) (λ i r h. h)))
+      (λ f. let le = ltb-false (nesting s) 64 f in inl
+      (first_limit above spot (omega (arith, le, deep)) (λ h. h) (λ h. h there) (λ h. h) (λ h. h) (λ i r h. h)))
 
   -- added to a pipeline
   any_added : (i : ℕ) (n : Name) → Meets above (Added n ∷ []) (stream_added any known i n) (IsAs n)
@@ -275,7 +276,8 @@ module _ (above : List Declared) (known : Streamed) (k : KnowsAbove above known)
   line_met : (n : Name) (ms : List Name) (i : ℕ) → Meets above (map Added (n ∷ ms)) (streams_added any known i n ms) (AreAs n ms)
   line_met n [] i = finish above (Added n ∷ []) (stream_added any known i n) Last (IsAs n) (AreAs n []) (any_added i n) (λ s h. h)
   line_met n (m ∷ ms) i =
-      chain above (Added n ∷ []) (map Added (m ∷ ms)) (stream_added any known i n) (λ s. on_ok (streams_added any known (suc i) m ms) (λ ss. Ok (Then s ss))) (IsAs n)
+      chain above (Added n ∷ []) (map Added (m ∷ ms)) (stream_added any known i n) (λ s. on_ok (streams_added any known (suc i) m ms) (λ ss. Ok (Then s ss)))
+      (IsAs n)
       (AreAs n (m ∷ ms)) (any_added i n)
       (λ s h. finish above (map Added (m ∷ ms)) (streams_added any known (suc i) m ms) (Then s) (AreAs m ms) (AreAs n (m ∷ ms)) (line_met m ms (suc i))
       (λ ss g. both_as n m ms s ss h g))
@@ -333,7 +335,8 @@ module _ (above : List Declared) (known : Streamed) (k : KnowsAbove above known)
   body_met name (AFilter t) =
       finish above (filter_spots t) (elaborated t) (Filter name) (λ f. Unit {0}) (IsBodyAs above (AFilter t)) (filter_met above t) (λ f h. (refl, refl))
   body_met name (APipeline a) =
-      finish above (map Added (a.first ∷ a.others)) (streams_added any known 0 a.first a.others) Pipeline (AreAs a.first a.others) (IsBodyAs above (APipeline a))
+      finish above (map Added (a.first ∷ a.others)) (streams_added any known 0 a.first a.others) Pipeline (AreAs a.first a.others)
+      (IsBodyAs above (APipeline a))
       (line_met a.first a.others 0)
       (λ ss h. (ap suc h.0, h.1))
   body_met name (ASplitJoin d a ws) =
@@ -341,7 +344,8 @@ module _ (above : List Declared) (known : Streamed) (k : KnowsAbove above known)
       let bs = branch_spots 0 (a.first ∷ a.others) in
       let Q = IsBodyAs above (ASplitJoin d a ws) in
       chain above (split_spots d n) (bs ++ Weighs ws n ∷ []) (splitter_of d n)
-      (λ p. on_ok (streams_added branches known 0 a.first a.others) (λ ss. on_ok (round_of ws n) (λ vs. Ok (SplitJoin p ss vs)))) (λ p. Unit {0}) Q (split_met d n)
+      (λ p. on_ok (streams_added branches known 0 a.first a.others) (λ ss. on_ok (round_of ws n) (λ vs. Ok (SplitJoin p ss vs)))) (λ p. Unit {0}) Q
+      (split_met d n)
       (λ p u. chain above bs (Weighs ws n ∷ []) (streams_added branches known 0 a.first a.others) (λ ss. on_ok (round_of ws n) (λ vs. Ok (SplitJoin p ss vs)))
       (AreAs a.first a.others) Q
       (branches_met a.first a.others 0)

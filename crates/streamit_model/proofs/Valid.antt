@@ -47,7 +47,8 @@ kind_known : (ns : List Name) (q : Name) → 0 < count q ns → kind_of (map val
 kind_known [] q lt = absurd (omega (arith, lt))
 kind_known (n ∷ ns) q lt = ⊎_elim
     (λ c. ap (λ b. unwrap_or (if b then Some (rows 1) else kind_in (map values_in ns) q) (rows 0)) c.1)
-    (λ c. ap (λ b. unwrap_or (if b then Some (rows 1) else kind_in (map values_in ns) q) (rows 0)) c.1 ∙ kind_known ns q (let o = ap one_if c.1 in omega (arith, o, lt)))
+    (λ c. ap (λ b. unwrap_or (if b then Some (rows 1) else kind_in (map values_in ns) q) (rows 0)) c.1
+    ∙ kind_known ns q (let o = ap one_if c.1 in omega (arith, o, lt)))
     (cases_name n q)
 
 var_known : (vs : List Name) (v : Name) → 0 < count v vs → var_kind [] vs v ≡ Private

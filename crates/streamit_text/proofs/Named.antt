@@ -18,7 +18,8 @@ word-named : (w : List ℕ) → IsWord w → length w ≤ 40 → is_name w ≡ t
 unfolding first_is
 word-named [] h le = absurd (cc h.0)
 word-named (c ∷ cs) h le =
-    both (is_letter c) _ h.0 (both (list_all is_word cs) (nat_le (length cs) 63) (and_parts (is_word c) (list_all is_word cs) h.1).1 (low (length cs) (omega (arith, le)))) where
+    both (is_letter c) _ h.0
+    (both (list_all is_word cs) (nat_le (length cs) 63) (and_parts (is_word c) (list_all is_word cs) h.1).1 (low (length cs) (omega (arith, le)))) where
       both : (a b : Bool) → a ≡ true → b ≡ true → a && b ≡ true
       both a b e f = rw (e, f) refl
 

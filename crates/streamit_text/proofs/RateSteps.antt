@@ -27,10 +27,13 @@ module _ {A : Type 0} (stop : List Tok → Bool) (p : parse.Parse A) where
   unfolding turns
   turns-behind zero done more ts = refl
   turns-behind (suc n) done more ts =
-      by (λ v us. ap (λ (l : List A). turns (parse.many_turn stop p) n l us) (append_assoc done more (v ∷ [])) ∙ turns-behind n done (more ++ v ∷ []) us) (stop ts) (p ts) where
-        by : ((v : A) (us : List Tok) → turns (parse.many_turn stop p) n ((done ++ more) ++ v ∷ []) us ≡ behind done (turns (parse.many_turn stop p) n (more ++ v ∷ []) us))
+      by (λ v us. ap (λ (l : List A). turns (parse.many_turn stop p) n l us) (append_assoc done more (v ∷ [])) ∙ turns-behind n done (more ++ v ∷ []) us)
+      (stop ts) (p ts) where
+        by : ((v : A) (us : List Tok)
+            → turns (parse.many_turn stop p) n ((done ++ more) ++ v ∷ []) us ≡ behind done (turns (parse.many_turn stop p) n (more ++ v ∷ []) us))
             → (b : Bool) (r : Option (A × List Tok))
-            → after_turn (turns (parse.many_turn stop p) n) (done ++ more) ts (cond b Stop (parse.item_turn (done ++ more) r)) ≡ behind done (after_turn (turns (parse.many_turn stop p) n) more ts (cond b Stop (parse.item_turn more r)))
+            → after_turn (turns (parse.many_turn stop p) n) (done ++ more) ts (cond b Stop (parse.item_turn (done ++ more) r)) ≡ behind done
+            (after_turn (turns (parse.many_turn stop p) n) more ts (cond b Stop (parse.item_turn more r)))
         by next true r = refl
         by next false None = refl
         by next false (Some read) = next read.0 read.1
@@ -57,18 +60,21 @@ rates-start ts = refl
 pub rates-stop : (r : Rates) (ts : List Tok) → at_block ts ≡ true → rates_from r ts ≡ Some (r, ts)
 unfolding rate_list_at
 rates-stop r ts e =
-    ap (λ (o : Option (List Rate × List Tok)). parse.then_parsed o (λ a us. parse.answer_at (rates_in r a) us)) (repeated-stop (parse.many_turn at_block rate_at) [] ts (rw e refl))
+    ap (λ (o : Option (List Rate × List Tok)). parse.then_parsed o (λ a us. parse.answer_at (rates_in r a) us))
+    (repeated-stop (parse.many_turn at_block rate_at) [] ts (rw e refl))
 
 pub rates-bad : (r : Rates) (ts : List Tok) → at_block ts ≡ false → rate_at ts ≡ None → rates_from r ts ≡ None
 unfolding rate_list_at
 rates-bad r ts e bad =
-    ap (λ (o : Option (List Rate × List Tok)). parse.then_parsed o (λ a us. parse.answer_at (rates_in r a) us)) (repeated-fail (parse.many_turn at_block rate_at) [] ts (rw (e, bad) refl))
+    ap (λ (o : Option (List Rate × List Tok)). parse.then_parsed o (λ a us. parse.answer_at (rates_in r a) us))
+    (repeated-fail (parse.many_turn at_block rate_at) [] ts (rw (e, bad) refl))
 
 -- one rate more
 pub rates-next : (r q : Rates) (ts us : List Tok) (v : Rate) → at_block ts ≡ false → rate_at ts ≡ Some (v, us) → with_rate r v ≡ Some q
     → rates_from q us ≡ rates_from r ts
 rates-next r q ts us v e read more =
-    sym (ap (λ (o : Option (List Rate × List Tok)). parse.then_parsed o (λ a ws. parse.answer_at (rates_in r a) ws)) (listed-next ts us v e read) ∙ by (rate_list_at us)) where
+    sym (ap (λ (o : Option (List Rate × List Tok)). parse.then_parsed o (λ a ws. parse.answer_at (rates_in r a) ws)) (listed-next ts us v e read)
+    ∙ by (rate_list_at us)) where
       by : (o : Option (List Rate × List Tok))
           → parse.then_parsed (behind (v ∷ []) o) (λ a ws. parse.answer_at (rates_in r a) ws) ≡ parse.then_parsed o (λ a ws. parse.answer_at (rates_in q a) ws)
       by None = refl
@@ -77,7 +83,8 @@ rates-next r q ts us v e read more =
 -- a rate that is written twice
 pub rates-twice : (r : Rates) (ts us : List Tok) (v : Rate) → at_block ts ≡ false → rate_at ts ≡ Some (v, us) → with_rate r v ≡ None → rates_from r ts ≡ None
 rates-twice r ts us v e read none =
-    ap (λ (o : Option (List Rate × List Tok)). parse.then_parsed o (λ a ws. parse.answer_at (rates_in r a) ws)) (listed-next ts us v e read) ∙ by (rate_list_at us) where
+    ap (λ (o : Option (List Rate × List Tok)). parse.then_parsed o (λ a ws. parse.answer_at (rates_in r a) ws)) (listed-next ts us v e read)
+    ∙ by (rate_list_at us) where
       by : (o : Option (List Rate × List Tok)) → parse.then_parsed (behind (v ∷ []) o) (λ a ws. parse.answer_at (rates_in r a) ws) ≡ None
       by None = refl
       by (Some all) = ap (λ (m : Option Rates). parse.answer_at (on_some m (λ s. rates_in s all.0)) all.1) none

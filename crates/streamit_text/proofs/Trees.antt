@@ -47,13 +47,15 @@ pub statement-if : (cond : Expr) (one : Block) (two : Option Block)
 statement-if cond one None =
     ap statement (sym (rolls-If cond one None)) ∙ fold-roll-Statement source.Statement source.Block statement_layer block_layer (part.If cond one None)
 statement-if cond one (Some two) =
-    ap statement (sym (rolls-If cond one (Some two))) ∙ fold-roll-Statement source.Statement source.Block statement_layer block_layer (part.If cond one (Some two))
+    ap statement (sym (rolls-If cond one (Some two)))
+    ∙ fold-roll-Statement source.Statement source.Block statement_layer block_layer (part.If cond one (Some two))
 
 -- of a loop
 pub statement-for : (name : List ℕ) (low : Expr) (until : Until) (high : Expr) (body : Block)
     → statement (made.For name low until high body) ≡ source.For name (expression low) (is_turn until) (expression high) (block body)
 statement-for name low until high body =
-    ap statement (sym (rolls-For name low until high body)) ∙ fold-roll-Statement source.Statement source.Block statement_layer block_layer (part.For name low until high body)
+    ap statement (sym (rolls-For name low until high body))
+    ∙ fold-roll-Statement source.Statement source.Block statement_layer block_layer (part.For name low until high body)
 
 -- how deep an arm that may be left out is
 abbrev pub optional_size : Option Block → ℕ

@@ -40,7 +40,8 @@ No word rest = parse.is_word_at word rest ≡ false
 exact-init : (n : ℕ) → Exact (IsInit n) (init_at n) (No (codes "init"))
 unfolding init_at
 exact-init n =
-    exact-less (exact-seen or_unwritten (exact-maybe (parse.is_word_at (codes "init")) (exact-after_word (codes "init") (exact-still n)) comes)) (λ rest d. (tt, d)) where
+    exact-less (exact-seen or_unwritten (exact-maybe (parse.is_word_at (codes "init")) (exact-after_word (codes "init") (exact-still n)) comes))
+    (λ rest d. (tt, d)) where
       comes : (v : Block) (ts rest : List Tok) → form.AfterWord (codes "init") (form.Tested stay (IsBlock n)) v ts
           → parse.is_word_at (codes "init") (ts ++ rest) ≡ true
       comes v ts rest h = rw h.is refl
@@ -97,9 +98,10 @@ exact-work n = exact-seen made_work (exact-both exact-rates (exact-block n) (λ 
 
 exact-prework : (n : ℕ) → Exact (IsPrework n) (prework_at n) (No (codes "prework"))
 unfolding prework_at
-exact-prework n = exact-less (exact-maybe (parse.is_word_at (codes "prework")) (exact-after_word (codes "prework") (exact-work n)) comes) (λ rest d. (tt, d)) where
-  comes : (v : WorkTree) (ts rest : List Tok) → form.AfterWord (codes "prework") (IsWork n) v ts → parse.is_word_at (codes "prework") (ts ++ rest) ≡ true
-  comes v ts rest h = rw h.is refl
+exact-prework n = exact-less (exact-maybe (parse.is_word_at (codes "prework")) (exact-after_word (codes "prework") (exact-work n)) comes)
+    (λ rest d. (tt, d)) where
+      comes : (v : WorkTree) (ts rest : List Tok) → form.AfterWord (codes "prework") (IsWork n) v ts → parse.is_word_at (codes "prework") (ts ++ rest) ≡ true
+      comes v ts rest h = rw h.is refl
 
 exact-works : (n : ℕ) → Exact (AreWorks n) (works_at n) Any
 unfolding works_at
@@ -113,7 +115,8 @@ works-follow n v ts rest h = by v.0 h.first where
   by (Some w) g = (rw (h.is, append_assoc h.front h.back rest, g.is) refl, rw (h.is, append_assoc h.front h.back rest, g.is) refl)
 
 -- behind the fields comes no field
-init-follows : (n : ℕ) (v : Optional × (Option WorkTree × WorkTree)) (ts rest : List Tok) → form.Both (IsInit n) (AreWorks n) v ts → no_field (ts ++ rest) ≡ true
+init-follows : (n : ℕ) (v : Optional × (Option WorkTree × WorkTree)) (ts rest : List Tok) → form.Both (IsInit n) (AreWorks n) v ts
+    → no_field (ts ++ rest) ≡ true
 init-follows n v ts rest h = by h.first.value h.first.formed where
   by : (o : Option Block) → form.Maybe (form.AfterWord (codes "init") (form.Tested stay (IsBlock n))) o h.front → no_field (ts ++ rest) ≡ true
   by None g = rw (h.is, g) (works-follow n v.1 h.back rest h.second).0
@@ -140,7 +143,8 @@ round-begins F (suc n) v ts rest h = rw h.is refl
 exact-parens : (n : ℕ) → Exact (Parens n) (parens_at n) NoOpen
 unfolding parens_at
 exact-parens n =
-    exact-less (exact-seen none_there (exact-maybe (parse.begins_with s.Open) (exact-empty n) (λ v ts rest h. round-begins (λ m. form.Nothing tt) n v ts rest h))) (λ rest d. (tt, d))
+    exact-less (exact-seen none_there
+    (exact-maybe (parse.begins_with s.Open) (exact-empty n) (λ v ts rest h. round-begins (λ m. form.Nothing tt) n v ts rest h))) (λ rest d. (tt, d))
 
 exact-called : (n : ℕ) → Exact (Called n) (called_at n) NoOpen
 unfolding called_at
@@ -179,12 +183,14 @@ exact-listed n = exact-round (λ m. exact-listing s.Close exact-weight (λ rest.
 exact-weights : (n : ℕ) → Exact (Weights n) (weights_at n) NoOpen
 unfolding weights_at
 exact-weights n =
-    exact-less (exact-maybe (parse.begins_with s.Open) (exact-listed n) (λ v ts rest h. round-begins (λ m. form.Listing Weight) n v ts rest h)) (λ rest d. (tt, d))
+    exact-less (exact-maybe (parse.begins_with s.Open) (exact-listed n) (λ v ts rest h. round-begins (λ m. form.Listing Weight) n v ts rest h))
+    (λ rest d. (tt, d))
 
 exact-split : (n : ℕ) → Exact (IsSplit n) (split_at n) Any
 unfolding split_at split_after
 exact-split n =
-    exact-after_word (codes "split") (exact-before (s.Semicolon ∷ []) (exact-headed (λ w. exact-choose (bytes_eq w (codes "duplicate")) (exact-seen copying (exact-parens n))
+    exact-after_word (codes "split")
+    (exact-before (s.Semicolon ∷ []) (exact-headed (λ w. exact-choose (bytes_eq w (codes "duplicate")) (exact-seen copying (exact-parens n))
     (exact-choose (bytes_eq w (codes "roundrobin")) (exact-seen Turns (exact-weights n)) exact-never))) (λ rest. refl))
 
 exact-join : (n : ℕ) → Exact (IsJoin n) (join_at n) Any
@@ -229,7 +235,9 @@ body-begins n w v ts rest h = filters (bytes_eq w (codes "filter")) h where
   lines false g = joins (bytes_eq w (codes "splitjoin")) g
 
   filters : (b : Bool)
-      → form.Choose b (form.Seen AFilter (Braces InFilter n)) (form.Choose (bytes_eq w (codes "pipeline")) (form.Seen APipeline (Braces AreAdds n)) (form.Choose (bytes_eq w (codes "splitjoin")) (Braces InBoth n) form.Never)) v ts
+      → form.Choose b (form.Seen AFilter (Braces InFilter n))
+      (form.Choose (bytes_eq w (codes "pipeline")) (form.Seen APipeline (Braces AreAdds n))
+      (form.Choose (bytes_eq w (codes "splitjoin")) (Braces InBoth n) form.Never)) v ts
       → NoOpen (ts ++ rest)
   filters true g = braces-begin InFilter n g.value ts rest g.formed
   filters false g = lines (bytes_eq w (codes "pipeline")) g

@@ -44,9 +44,11 @@ module _ (e : ℕ) (t : Expression) (a : source.Block) (b : source.Optional) (s 
         second_on : whole ≡ on_ok (optional_of e b (record m1 { popped = k; pushed = s1.pushed })) (after_arms s1 c (f1, la))
         second_on =
             let at : record s1 { popped = s1.popped + pops t; slots = la.slots; size = la.size } ≡ record m1 { popped = k; pushed = s1.pushed } =
-            ap (λ j. record s1 { popped = j; slots = la.slots; size = la.size }) (sym hk) ∙ ap (λ (m : At). record m { popped = k; pushed = s1.pushed }) (sym em1) in
+            ap (λ j. record s1 { popped = j; slots = la.slots; size = la.size }) (sym hk)
+            ∙ ap (λ (m : At). record m { popped = k; pushed = s1.pushed }) (sym em1) in
             arms_on ∙ ap (λ r. on_ok r (third s1 c)) ha ∙ ap (λ m. on_ok (optional_of e b m) (after_arms s1 c (f1, la))) at
 
         pub if_second_fault : (f : fault.Fault) → Tells f (optional_of e b (record m1 { popped = k; pushed = s1.pushed })) → Tells f whole
         if_second_fault f h =
-            tells_more f (optional_of e b (record m1 { popped = k; pushed = s1.pushed })) whole (λ g q. second_on ∙ ap (λ r. on_ok r (after_arms s1 c (f1, la))) q) h
+            tells_more f (optional_of e b (record m1 { popped = k; pushed = s1.pushed })) whole
+            (λ g q. second_on ∙ ap (λ r. on_ok r (after_arms s1 c (f1, la))) q) h

@@ -40,12 +40,14 @@ pub term-bin : (o : BinOp) (l r : Box built.Expr Global) → term (built.Bin o l
 term-bin o l r = ap term (sym (made.rolls-Bin o l r)) ∙ built.fold-roll-Expr Term term_layer (layer.Bin o l r)
 
 -- an answer that is a fault
-pub judged_err : {X A : Type 0} (view : X → A) (result : Result X fault.Fault) (f : fault.Fault) (r : Result A Fault) → result ≡ Err f → Tells f r → Judges view result r
+pub judged_err : {X A : Type 0} (view : X → A) (result : Result X fault.Fault) (f : fault.Fault) (r : Result A Fault) → result ≡ Err f → Tells f r
+    → Judges view result r
 judged_err view result f r is t = subst (λ q. Judges view q r) (sym is) t
 
 module _ (e : ℕ) (sc : Scope) (k : ℕ) where
   -- an answer about an expression that is the same one
-  pub judged_as : (result : Result built.Expr fault.Fault) {c d : Expression} → c ≡ d → Judges term result (term_of e sc d k) → Judges term result (term_of e sc c k)
+  pub judged_as : (result : Result built.Expr fault.Fault) {c d : Expression} → c ≡ d → Judges term result (term_of e sc d k)
+      → Judges term result (term_of e sc c k)
   judged_as result is h = subst (λ c. Judges term result (term_of e sc c k)) (sym is) h
 
   pub popped_as : (result : Result built.Expr fault.Fault) (n : ℕ) {c d : Expression} → c ≡ d → OnOk result (n ≡ k + pops d) → OnOk result (n ≡ k + pops c)
@@ -56,16 +58,20 @@ module _ (e : ℕ) (sc : Scope) (k : ℕ) where
     peek_fault is f h = tells_more f (constant sc t) (term_of e sc whole k) (λ g q. ap (λ c. term_of e sc c k) is ∙ ap (λ r. on_ok r (peeked e k)) q) h
 
     pub neg_fault : whole ≡ source.Neg t → (f : fault.Fault) → Tells f (term_of e sc t k) → Tells f (term_of e sc whole k)
-    neg_fault is f h = tells_more f (term_of e sc t k) (term_of e sc whole k) (λ g q. ap (λ c. term_of e sc c k) is ∙ ap (λ r. on_ok r (λ a. good (tree.Neg a))) q) h
+    neg_fault is f h = tells_more f (term_of e sc t k) (term_of e sc whole k)
+        (λ g q. ap (λ c. term_of e sc c k) is ∙ ap (λ r. on_ok r (λ a. good (tree.Neg a))) q) h
 
     pub not_fault : whole ≡ source.Not t → (f : fault.Fault) → Tells f (term_of e sc t k) → Tells f (term_of e sc whole k)
-    not_fault is f h = tells_more f (term_of e sc t k) (term_of e sc whole k) (λ g q. ap (λ c. term_of e sc c k) is ∙ ap (λ r. on_ok r (λ a. good (tree.Not a))) q) h
+    not_fault is f h = tells_more f (term_of e sc t k) (term_of e sc whole k)
+        (λ g q. ap (λ c. term_of e sc c k) is ∙ ap (λ r. on_ok r (λ a. good (tree.Not a))) q) h
 
-    pub neg_read : whole ≡ source.Neg t → (v : built.Expr) (b : Box built.Expr Global) → b.value ≡ v → term_of e sc t k ≡ Ok (term v) → term_of e sc whole k ≡ Ok (term (built.Neg b))
+    pub neg_read : whole ≡ source.Neg t → (v : built.Expr) (b : Box built.Expr Global) → b.value ≡ v → term_of e sc t k ≡ Ok (term v)
+        → term_of e sc whole k ≡ Ok (term (built.Neg b))
     neg_read is v b eb h =
         ap (λ c. term_of e sc c k) is ∙ ap (λ r. on_ok r (λ a. good (tree.Neg a))) h ∙ ap (λ a. good (tree.Neg (term a))) (sym eb) ∙ ap good (sym (term-neg b))
 
-    pub not_read : whole ≡ source.Not t → (v : built.Expr) (b : Box built.Expr Global) → b.value ≡ v → term_of e sc t k ≡ Ok (term v) → term_of e sc whole k ≡ Ok (term (built.Not b))
+    pub not_read : whole ≡ source.Not t → (v : built.Expr) (b : Box built.Expr Global) → b.value ≡ v → term_of e sc t k ≡ Ok (term v)
+        → term_of e sc whole k ≡ Ok (term (built.Not b))
     not_read is v b eb h =
         ap (λ c. term_of e sc c k) is ∙ ap (λ r. on_ok r (λ a. good (tree.Not a))) h ∙ ap (λ a. good (tree.Not (term a))) (sym eb) ∙ ap good (sym (term-not b))
 
@@ -73,7 +79,8 @@ module _ (e : ℕ) (sc : Scope) (k : ℕ) where
   module _ (o : BinOp) (l r : Expression) where
     pub left_fault : (f : fault.Fault) → Tells f (term_of e sc l k) → Tells f (term_of e sc (source.Bin o l r) k)
     left_fault f h =
-        tells_more f (term_of e sc l k) (term_of e sc (source.Bin o l r) k) (λ g q. ap (λ p. on_ok p (λ a. on_ok (term_of e sc r (k + pops l)) (λ b. good (tree.Bin o a b)))) q) h
+        tells_more f (term_of e sc l k) (term_of e sc (source.Bin o l r) k)
+        (λ g q. ap (λ p. on_ok p (λ a. on_ok (term_of e sc r (k + pops l)) (λ b. good (tree.Bin o a b)))) q) h
 
     module _ (a : Term) (m : ℕ) (hl : term_of e sc l k ≡ Ok a) (hm : m ≡ k + pops l) where
       right_on : term_of e sc (source.Bin o l r) k ≡ on_ok (term_of e sc r m) (λ b. good (tree.Bin o a b))
@@ -82,7 +89,8 @@ module _ (e : ℕ) (sc : Scope) (k : ℕ) where
           ∙ ap (λ n. on_ok (term_of e sc r n) (λ b. good (tree.Bin o a b))) (sym hm)
 
       pub right_fault : (f : fault.Fault) → Tells f (term_of e sc r m) → Tells f (term_of e sc (source.Bin o l r) k)
-      right_fault f h = tells_more f (term_of e sc r m) (term_of e sc (source.Bin o l r) k) (λ g q. right_on ∙ ap (λ p. on_ok p (λ b. good (tree.Bin o a b))) q) h
+      right_fault f h = tells_more f (term_of e sc r m) (term_of e sc (source.Bin o l r) k)
+          (λ g q. right_on ∙ ap (λ p. on_ok p (λ b. good (tree.Bin o a b))) q) h
 
       pub bin_read : (b : Term) → term_of e sc r m ≡ Ok b → term_of e sc (source.Bin o l r) k ≡ Ok (tree.Bin o a b)
       bin_read b h = right_on ∙ ap (λ p. on_ok p (λ b. good (tree.Bin o a b))) h

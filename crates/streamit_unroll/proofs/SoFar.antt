@@ -75,7 +75,8 @@ pub record BlockSoFar (e : ℕ) (all rest : List source.Statement) (first now : 
 pub record TurnsSoFar (e : ℕ) (b : source.Block) (n : Name) (low v end : ℕ) (first now : Unroller) (out out' : Stmts) : Type 0 where
   pub added : List Stmt
   pub grew : statements out' ≡ statements out ++ added
-  pub all_is : unrolled (steps_of e b) n (numbers_from low (end - low)) (at_of first) ≡ behind (in_turn (map step added)) (unrolled (steps_of e b) n (numbers_from v (end - v)) (at_of now))
+  pub all_is : unrolled (steps_of e b) n (numbers_from low (end - low)) (at_of first) ≡ behind (in_turn (map step added))
+      (unrolled (steps_of e b) n (numbers_from v (end - v)) (at_of now))
   pub names : now.names.items.items ≡ first.names.items.items
 
 -- a front of a front
@@ -108,7 +109,8 @@ steps_err : (e : ℕ) (c : source.Statement) (rest : source.Block) (s : At) (g :
 steps_err e c rest s g h = ap (λ r. on_ok r (λ p. on_ok (steps_of e rest p.1) (λ q. Ok (both_steps p.0 q.0, q.1)))) h
 
 -- one statement more
-pub block_next : (e : ℕ) (all : List source.Statement) (c : source.Statement) (rest : List source.Statement) (first now next : Unroller) (out out' out'' : Stmts)
+pub block_next : (e : ℕ) (all : List source.Statement) (c : source.Statement) (rest : List source.Statement) (first now next : Unroller)
+    (out out' out'' : Stmts)
     → BlockSoFar e all (c ∷ rest) first now out out' → Reads (Ok tt) out' out'' now next (step_of e c (at_of now)) → BlockSoFar e all rest first next out out''
 block_next e all c rest first now next out out' out'' f r = record {
   added = f.added ++ r.0;
@@ -117,18 +119,21 @@ block_next e all c rest first now next out out' out'' f r = record {
       f.all_is
       ∙ ap (behind (in_turn (map step f.added))) (steps_ok e c (source.in_turn rest) (at_of now) (in_turn (map step r.0)) (at_of next) r.2)
       ∙ behind_both (in_turn (map step f.added)) (in_turn (map step r.0)) (steps_of e (source.in_turn rest) (at_of next))
-      ∙ ap (λ a. behind a (steps_of e (source.in_turn rest) (at_of next))) (joined-in_turn (map step f.added) (map step r.0) ∙ ap in_turn (sym (map-append step f.added r.0)));
+      ∙ ap (λ a. behind a (steps_of e (source.in_turn rest) (at_of next)))
+      (joined-in_turn (map step f.added) (map step r.0) ∙ ap in_turn (sym (map-append step f.added r.0)));
   keeps = prefix_trans first.names.items.items now.names.items.items next.names.items.items f.keeps r.3;
   written = f.written.1;
 }
 
 -- a statement that is refused
-pub block_err : (e : ℕ) (all : List source.Statement) (c : source.Statement) (rest : List source.Statement) (first now next x y : Unroller) (out out' out'' o n : Stmts) (result : Result (Unit {0}) fault.Fault) (f : fault.Fault)
+pub block_err : (e : ℕ) (all : List source.Statement) (c : source.Statement) (rest : List source.Statement) (first now next x y : Unroller)
+    (out out' out'' o n : Stmts) (result : Result (Unit {0}) fault.Fault) (f : fault.Fault)
     → result ≡ Err f → BlockSoFar e all (c ∷ rest) first now out out' → Reads (Err f) out' out'' now next (step_of e c (at_of now))
     → Reads result o n x y (steps_of e (source.in_turn all) (at_of first))
 block_err e all c rest first now next x y out out' out'' o n result f is s r =
     subst (λ t. Reads t o n x y (steps_of e (source.in_turn all) (at_of first))) (sym is)
-    (tells_more f (step_of e c (at_of now)) (steps_of e (source.in_turn all) (at_of first)) (λ g h. s.all_is ∙ ap (behind (in_turn (map step s.added))) (steps_err e c (source.in_turn rest) (at_of now) g h)) r)
+    (tells_more f (step_of e c (at_of now)) (steps_of e (source.in_turn all) (at_of first))
+    (λ g h. s.all_is ∙ ap (behind (in_turn (map step s.added))) (steps_err e c (source.in_turn rest) (at_of now) g h)) r)
 
 -- all statements
 pub block_end : (e : ℕ) (all : List source.Statement) (first now : Unroller) (out out' : Stmts) → BlockSoFar e all [] first now out out'
@@ -166,7 +171,13 @@ numbers_more v end lt =
 -- before the first turn
 pub turns_start : (e : ℕ) (b : source.Block) (n : Name) (low end : ℕ) (first : Unroller) (out : Stmts) → TurnsSoFar e b n low low end first first out out
 turns_start e b n low end first out =
-    record { added = []; grew = sym (append-nil (statements out)); all_is = sym (behind_none (unrolled (steps_of e b) n (numbers_from low (end - low)) (at_of first))); names = refl }
+    record {
+      added = [];
+      grew = sym (append-nil (statements out));
+      all_is =
+          sym (behind_none (unrolled (steps_of e b) n (numbers_from low (end - low)) (at_of first)));
+      names = refl;
+    }
 
 -- one turn more
 pub turns_next : (e : ℕ) (b : source.Block) (n : Name) (low v end : ℕ) (first now next : Unroller) (out out' out'' : Stmts) → v < end
@@ -187,13 +198,15 @@ turns_next e b n low v end first now next out out' out'' lt f r = record {
 }
 
 -- a turn that is refused
-pub turns_fault : (e : ℕ) (b : source.Block) (n : Name) (low v end : ℕ) (first now next x y : Unroller) (out out' out'' o k : Stmts) (whole : Read) (result : Result (Unit {0}) fault.Fault) (f : fault.Fault)
+pub turns_fault : (e : ℕ) (b : source.Block) (n : Name) (low v end : ℕ) (first now next x y : Unroller) (out out' out'' o k : Stmts) (whole : Read)
+    (result : Result (Unit {0}) fault.Fault) (f : fault.Fault)
     → result ≡ Err f → v < end → whole ≡ unrolled (steps_of e b) n (numbers_from low (end - low)) (at_of first) → TurnsSoFar e b n low v end first now out out'
     → ReadsTurn (Err f) out' out'' now next (turn_of (steps_of e b) n v (at_of now)) → Reads result o k x y whole
 turns_fault e b n low v end first now next x y out out' out'' o k whole result f is lt w s r =
     subst (λ t. Reads t o k x y whole) (sym is)
     (tells_more f (turn_of (steps_of e b) n v (at_of now)) whole
-    (λ g h. w ∙ s.all_is ∙ ap (λ vs. behind (in_turn (map step s.added)) (unrolled (steps_of e b) n vs (at_of now))) (numbers_more v end lt) ∙ ap (behind (in_turn (map step s.added))) (turns_err (steps_of e b) n v (numbers_from (v + 1) (end - (v + 1))) (at_of now) g h))
+    (λ g h. w ∙ s.all_is ∙ ap (λ vs. behind (in_turn (map step s.added)) (unrolled (steps_of e b) n vs (at_of now))) (numbers_more v end lt)
+    ∙ ap (behind (in_turn (map step s.added))) (turns_err (steps_of e b) n v (numbers_from (v + 1) (end - (v + 1))) (at_of now) g h))
     r)
 
 -- all turns
@@ -203,7 +216,8 @@ pub turns_end : (e : ℕ) (b : source.Block) (n : Name) (low v end : ℕ) (first
 turns_end e b n low v end first now out out' whole le w f = (
   f.added,
   f.grew,
-  w ∙ f.all_is ∙ ap (λ k. behind (in_turn (map step f.added)) (unrolled (steps_of e b) n (numbers_from v k) (at_of now))) (let z : end - v ≡ 0 = omega (arith, le) in z) ∙ behind_done (in_turn (map step f.added)) (at_of now),
+  w ∙ f.all_is ∙ ap (λ k. behind (in_turn (map step f.added)) (unrolled (steps_of e b) n (numbers_from v k) (at_of now)))
+      (let z : end - v ≡ 0 = omega (arith, le) in z) ∙ behind_done (in_turn (map step f.added)) (at_of now),
   ap (take (length first.names.items.items)) f.names ∙ take_all (length first.names.items.items) first.names.items.items (omega arith),
 )
 
@@ -216,9 +230,12 @@ for_is e n lo hi upto b s =
     let f4 = λ (l m : ℕ). turns (l, m + k) in
     let f3 = λ (l : ℕ). on_ok (constant s.scope hi) (λ y. on_ok (bound_of y) (f4 l)) in
     let g3 = λ (l : ℕ). on_ok (on_ok (constant s.scope hi) bound_of) (λ m. Ok (l, m + k)) in
-    let high = λ (l : ℕ). sym (on_ok-assoc (constant s.scope hi) bound_of (f4 l)) ∙ sym (on_ok-assoc (on_ok (constant s.scope hi) bound_of) (λ m. Ok (l, m + k)) turns) in
-    let low = sym (on_ok-assoc (constant s.scope lo) bound_of f3) ∙ ap (on_ok (on_ok (constant s.scope lo) bound_of)) (λ i l. high l i) ∙ sym (on_ok-assoc (on_ok (constant s.scope lo) bound_of) g3 turns) in
-    ap (on_ok (is_new (find s.scope n))) (λ i u. low i) ∙ sym (on_ok-assoc (is_new (find s.scope n)) (λ u. on_ok (on_ok (constant s.scope lo) bound_of) g3) turns)
+    let high = λ (l : ℕ). sym (on_ok-assoc (constant s.scope hi) bound_of (f4 l))
+    ∙ sym (on_ok-assoc (on_ok (constant s.scope hi) bound_of) (λ m. Ok (l, m + k)) turns) in
+    let low = sym (on_ok-assoc (constant s.scope lo) bound_of f3) ∙ ap (on_ok (on_ok (constant s.scope lo) bound_of)) (λ i l. high l i)
+    ∙ sym (on_ok-assoc (on_ok (constant s.scope lo) bound_of) g3 turns) in
+    ap (on_ok (is_new (find s.scope n))) (λ i u. low i)
+    ∙ sym (on_ok-assoc (is_new (find s.scope n)) (λ u. on_ok (on_ok (constant s.scope lo) bound_of) g3) turns)
 
 -- a loop whose turns are these
 pub for_turns : (e : ℕ) (n : Name) (lo hi : Expression) (upto : Bool) (b : source.Block) (s : At) (l end : ℕ)
@@ -238,13 +255,17 @@ pub if_is : (e : ℕ) (t : Expression) (a : source.Block) (b : source.Optional) 
     → optional_of e b (record s1 { popped = s1.popped + pops t; slots = la.slots; size = la.size }) ≡ Ok (g, lb) → la.popped ≡ lb.popped → la.pushed ≡ lb.pushed
     → step_of e (source.If t a b) s ≡ Ok (one_step (steps.If cond f g), record lb { scope = s1.scope })
 if_is e t a b s s1 cond f g la lb hc ht ha hb p q =
-    let f3 = λ (c : Term) (p : Steps × At). on_ok (optional_of e b (record s1 { popped = s1.popped + pops t; slots = p.1.slots; size = p.1.size })) (after_arms s1 c p) in
+    let f3 = λ (c : Term) (p : Steps × At). on_ok (optional_of e b (record s1 { popped = s1.popped + pops t; slots = p.1.slots; size = p.1.size }))
+    (after_arms s1 c p) in
     let f2 = λ (c : Term). on_ok (steps_of e a (record s1 { popped = s1.popped + pops t })) (f3 c) in
-    ap (λ r. on_ok r (λ s. on_ok (term_of e s.scope t s.popped) (λ c. on_ok (steps_of e a (record s { popped = s.popped + pops t })) (λ p. on_ok (optional_of e b (record s { popped = s.popped + pops t; slots = p.1.slots; size = p.1.size })) (after_arms s c p))))) hc
+    ap (λ r. on_ok r (λ s. on_ok (term_of e s.scope t s.popped)
+    (λ c. on_ok (steps_of e a (record s { popped = s.popped + pops t }))
+    (λ p. on_ok (optional_of e b (record s { popped = s.popped + pops t; slots = p.1.slots; size = p.1.size })) (after_arms s c p))))) hc
     ∙ ap (λ r. on_ok r f2) ht
     ∙ ap (λ r. on_ok r (f3 cond)) ha
     ∙ ap (λ r. on_ok r (after_arms s1 cond (f, la))) hb
-    ∙ ap (λ t. if t then good (one_step (steps.If cond f g), record lb { scope = s1.scope }) else Err spec.BranchRates) (and_from (nat_eq la.popped lb.popped) (nat_eq la.pushed lb.pushed) (eq-eqb la.popped lb.popped p) (eq-eqb la.pushed lb.pushed q))
+    ∙ ap (λ t. if t then good (one_step (steps.If cond f g), record lb { scope = s1.scope }) else Err spec.BranchRates)
+    (and_from (nat_eq la.popped lb.popped) (nat_eq la.pushed lb.pushed) (eq-eqb la.popped lb.popped p) (eq-eqb la.pushed lb.pushed q))
 
 abbrev Entry : Type 0
 Entry = Name × Known
@@ -261,7 +282,8 @@ turn_is e b name v s0 s1 s3 i0 i1 i2 i3 i4 a sc hc e1 e2 hb kept e4 =
     let k = λ (p : Steps × At). good (p.0, record p.1 { scope = s0.scope }) in
     let front : take (length i1) i2 ≡ i1 = ap (take (length i1)) e2 ∙ take_front i1 ((name, known.Turn v) ∷ []) in
     let same : i4 ≡ i0 = e4 ∙ prefix_trans i1 i2 i3 front kept ∙ e1 in
-    let scope : scope_of i2 ≡ (name, spec.Turn v) ∷ s0.scope = ap scope_of e2 ∙ scope-push i1 (name, known.Turn v) ∙ ap (λ l. (name, spec.Turn v) ∷ scope_of l) e1 ∙ ap (λ l. (name, spec.Turn v) ∷ l) (sym sc) in (
+    let scope : scope_of i2 ≡ (name, spec.Turn v) ∷ s0.scope = ap scope_of e2 ∙ scope-push i1 (name, known.Turn v)
+    ∙ ap (λ l. (name, spec.Turn v) ∷ scope_of l) e1 ∙ ap (λ l. (name, spec.Turn v) ∷ l) (sym sc) in (
       ap (λ r. on_ok r (λ t. on_ok (steps_of e b (record t { scope = (name, spec.Turn v) ∷ s0.scope })) k)) hc
           ∙ ap (λ l. on_ok (steps_of e b (record s1 { scope = l })) k) (sym scope)
           ∙ ap (λ r. on_ok r k) hb

@@ -51,7 +51,8 @@ module _ (e : ℕ) (t : Expression) (s : At) where
     pub push_read : (v : Term) (k m : ℕ) → term_of e s1.scope t s1.popped ≡ Ok v → k ≡ s1.popped + pops t → m ≡ s1.pushed + 1
         → step_of e (source.Push t) s ≡ Ok (one_step (steps.Push 0 (v ∷ [])), record s1 { popped = k; pushed = m })
     push_read v k m ht hk hm =
-        let r : step_of e (source.Push t) s ≡ Ok (one_step (steps.Push 0 (v ∷ [])), record s1 { popped = s1.popped + pops t; pushed = s1.pushed + 1 }) = rw (hc, ht) refl in
+        let r : step_of e (source.Push t) s ≡ Ok (one_step (steps.Push 0 (v ∷ [])), record s1 { popped = s1.popped + pops t; pushed = s1.pushed + 1 }) =
+        rw (hc, ht) refl in
         r ∙ (λ i. good (one_step (steps.Push 0 (v ∷ [])), record s1 { popped = sym hk i; pushed = sym hm i }))
 
 -- `int NAME = e;`

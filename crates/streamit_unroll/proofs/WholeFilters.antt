@@ -12,7 +12,8 @@ use Rattle.streamit_unroll.specs.View.{Tells, Judges}
 use Rattle.streamit_unroll.proofs.SoFar.{good, tells_more, on_ok-assoc}
 
 -- an answer that is a fault
-pub judges_err : {X A : Type 0} (view : X → A) (result : Result X fault.Fault) (f : fault.Fault) (r : Result A Fault) → result ≡ Err f → Tells f r → Judges view result r
+pub judges_err : {X A : Type 0} (view : X → A) (result : Result X fault.Fault) (f : fault.Fault) (r : Result A Fault) → result ≡ Err f → Tells f r
+    → Judges view result r
 judges_err view result f r is t = subst (λ q. Judges view q r) (sym is) t
 
 -- a fault of what is the same
@@ -45,7 +46,8 @@ module _ (t : FilterTree) where
 
       pub first_fault : (f : fault.Fault) → Tells f (read_prework t.prework s) → Tells f (elaborated t)
       first_fault f h =
-          tells_more f (read_prework t.prework s) (elaborated t) (λ g q. first_on ∙ ap (λ r. on_ok r (λ p. on_ok (read_work 1 t.work s) (λ w. good (form_of_runs zs p w)))) q) h
+          tells_more f (read_prework t.prework s) (elaborated t)
+          (λ g q. first_on ∙ ap (λ r. on_ok r (λ p. on_ok (read_work 1 t.work s) (λ w. good (form_of_runs zs p w)))) q) h
 
       module _ (p : Option RunForm) (hp : read_prework t.prework s ≡ Ok p) where
         work_on : elaborated t ≡ on_ok (read_work 1 t.work s) (λ w. Ok (form_of_runs zs p w))
@@ -88,7 +90,8 @@ module _ (least : ℕ) (w : WorkTree) (s : At) (peek push pop : ℕ) (e1 : peek 
     body_on = run_on ∙ ap (λ r. on_ok r (λ u. on_ok (worked peek push pop w.block s) (λ b. good (run_with peek push pop b)))) hj
 
     pub body_fault : (f : fault.Fault) → Tells f (worked peek push pop w.block s) → Tells f (read_work least w s)
-    body_fault f h = tells_more f (worked peek push pop w.block s) (read_work least w s) (λ g q. body_on ∙ ap (λ r. on_ok r (λ b. good (run_with peek push pop b))) q) h
+    body_fault f h = tells_more f (worked peek push pop w.block s) (read_work least w s)
+        (λ g q. body_on ∙ ap (λ r. on_ok r (λ b. good (run_with peek push pop b))) q) h
 
     pub run_read : (b : BodyForm) → worked peek push pop w.block s ≡ Ok b → read_work least w s ≡ Ok (run_with peek push pop b)
     run_read b h = body_on ∙ ap (λ r. on_ok r (λ b. good (run_with peek push pop b))) h

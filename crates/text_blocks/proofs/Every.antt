@@ -57,7 +57,8 @@ module _ {E H S B : Type 0} (Y : Style E H S B) (G : Holes E H S) (P : ℕ → S
   of-branch k F one n v ts h =
       let x = h.value in
       let arms = h.formed.second in
-      subst (P (suc k)) (sym h.is) (branch k n x.0 h.formed.front x.1.0 x.1.1 h.formed.first (one n x.1.0 arms.front arms.first) (of-else k (F n) (one n) _ x.1.1 arms.back arms.second))
+      subst (P (suc k)) (sym h.is)
+      (branch k n x.0 h.formed.front x.1.0 x.1.1 h.formed.first (one n x.1.0 arms.front arms.first) (of-else k (F n) (one n) _ x.1.1 arms.back arms.second))
 
   of-loop : (k : ℕ) (F : ℕ → B → List Tok → Type 0) → ((n : ℕ) (b : B) (ts : List Tok) → F n b ts → Q k b) → (n : ℕ) (w : List ℕ) (v : S) (ts : List Tok)
       → IsLoop Y G F n w v ts → P (suc k) v

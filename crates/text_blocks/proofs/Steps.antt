@@ -89,7 +89,8 @@ module _ {E H S B : Type 0} (Y : Style E H S B) where
     pub loop-next : (nest n : ℕ) (done : List S) (ts us : List Tok) (v : S) → at_close ts ≡ false → stmt_at Y nest n ts ≡ Some (v, us)
         → repeated (parse.many_turn at_close (stmt_at Y nest n)) (done ++ v ∷ []) us ≡ repeated (parse.many_turn at_close (stmt_at Y nest n)) done ts
     loop-next nest n done ts us v e read =
-        sym (repeated-next (parse.many_turn at_close (stmt_at Y nest n)) (many-shortens at_close (exact-stmt x nest n) (listed-stmts x nest n)) done ts (done ++ v ∷ []) us (rw (e, read) refl))
+        sym (repeated-next (parse.many_turn at_close (stmt_at Y nest n)) (many-shortens at_close (exact-stmt x nest n) (listed-stmts x nest n)) done ts
+        (done ++ v ∷ []) us (rw (e, read) refl))
 
     -- a statement has a token
     pub stmt-shortens : (nest n : ℕ) (ts us : List Tok) (v : S) → stmt_at Y nest n ts ≡ Some (v, us) → length us < length ts

@@ -27,7 +27,12 @@ exact-headed {A} {F} {p} {E} x = record { sound = sound; complete = complete } w
   sound [] v rest e = cc
   sound (name text ∷ ts) v rest e =
       let f = (x text).sound ts v rest e in
-      record { front = name text ∷ f.front; is = ap (λ (l : List Tok). name text ∷ l) f.is; formed = record { word = text; back = f.front; is = refl; formed = f.formed } }
+      record {
+        front = name text ∷ f.front;
+        is = ap (λ (l : List Tok). name text ∷ l) f.is;
+        formed =
+            record { word = text; back = f.front; is = refl; formed = f.formed };
+      }
   sound (var text ∷ ts) v rest e = cc
   sound (number value ∷ ts) v rest e = cc
   sound (symbol t ∷ ts) v rest e = cc
@@ -82,7 +87,8 @@ pub exact-listing : {A : Type 0} {F : A → List Tok → Type 0} {p : parse.Pars
     → ((rest : List Tok) → E (symbol Comma ∷ rest)) → ((v : A) (s rest : List Tok) → F v s → parse.begins_with close (s ++ rest) ≡ false)
     → Exact (form.Listing F) (parse.listing close p) (λ rest. (parse.begins_with close rest ≡ true) × (E rest × (parse.no_comma rest ≡ true)))
 exact-listing {A} {F} {p} {E} close x comma other =
-    exact-as (exact-merged (parse.begins_with close) (exact-less (exact-nothing []) (λ rest (d : parse.begins_with close rest ≡ true). tt)) (exact-commas x comma) left right) (λ v s h. h) (λ v s h. h) (λ ts. refl)
+    exact-as (exact-merged (parse.begins_with close) (exact-less (exact-nothing []) (λ rest (d : parse.begins_with close rest ≡ true). tt))
+    (exact-commas x comma) left right) (λ v s h. h) (λ v s h. h) (λ ts. refl)
   where
     left : (v : List A) (s rest : List Tok) → form.Nothing [] v s → parse.begins_with close rest ≡ true → parse.begins_with close (s ++ rest) ≡ true
     left v s rest h d = rw h.1 d

@@ -26,13 +26,15 @@ module _ {T O P : Type 0} (S : Syntax T O P) where
 
   by-form : (l : Level O P) (k : ℕ) (b : ℕ → parse.Parse T) (room : ℕ) (ts : List Tok)
       → (form_of l ≡ form.Chain → on_level S l k b room ts ≡ chain_level S k b room ts)
-      × ((form_of l ≡ form.Once → on_level S l k b room ts ≡ once_level S k b room ts) × (form_of l ≡ form.Prefix → on_level S l k b room ts ≡ prefix_level S k b room ts))
+      × ((form_of l ≡ form.Once → on_level S l k b room ts ≡ once_level S k b room ts) ×
+      (form_of l ≡ form.Prefix → on_level S l k b room ts ≡ prefix_level S k b room ts))
   by-form (Chain op) k b room ts = ((λ e. refl), ((λ e. cc), (λ e. cc)))
   by-form (Once op) k b room ts = ((λ e. cc), ((λ e. refl), (λ e. cc)))
   by-form (Prefix p) k b room ts = ((λ e. cc), ((λ e. cc), (λ e. refl)))
 
   -- a level of chains
-  pub ladder-chain : (leaf : parse.Parse T) (i : ℕ → parse.Parse T) (rank k room : ℕ) (ts : List Tok) → rank ≡ suc k → form_of (level_of S.levels k) ≡ form.Chain
+  pub ladder-chain : (leaf : parse.Parse T) (i : ℕ → parse.Parse T) (rank k room : ℕ) (ts : List Tok) → rank ≡ suc k
+      → form_of (level_of S.levels k) ≡ form.Chain
       → ladder S leaf i rank room ts ≡ chain_level S k (ladder S leaf i k) room ts
   unfolding ladder
   ladder-chain leaf i rank k room ts is e = rw is ((by-form (level_of S.levels k) k (ladder S leaf i k) room ts).0 e)
@@ -134,7 +136,8 @@ module _ {T O P : Type 0} (S : Syntax T O P) where
       ∙ ap (λ r. after_turn (turns (chain_turn S k right room) room) left ts (turn_read r)) none
 
 -- what falls with each turn is a bound on how many there are
-module _ {A : Type 0} (step : A → List Tok → Turn A) (m : A → ℕ) (falls : (x : A) (ts : List Tok) (y : A) (us : List Tok) → step x ts ≡ Next y us → m y < m x) where
+module _ {A : Type 0} (step : A → List Tok → Turn A) (m : A → ℕ)
+    (falls : (x : A) (ts : List Tok) (y : A) (us : List Tok) → step x ts ≡ Next y us → m y < m x) where
   pub enough : (n k : ℕ) (x : A) (ts : List Tok) → m x < n → m x < k → turns step n x ts ≡ turns step k x ts
   unfolding turns
   enough zero k x ts a b = absurd (omega (arith, a))
@@ -202,7 +205,8 @@ module _ {T O P : Type 0} (S : Syntax T O P) (deep : IsDeeper S) where
       let step = chain_turn S k right room in
       sym (ap (λ r. after_turn (turns step room) left ts (chain_on S right room left ts r)) e
       ∙ ap (λ r. after_turn (turns step room) left ts (turn_read r)) more
-      ∙ enough step (λ x. room - S.depth x) (λ x vs y ws f. turn-deeper right room k x vs y ws f) room (suc room) t us (omega (arith, size, small)) (omega (arith, size, small)))
+      ∙ enough step (λ x. room - S.depth x) (λ x vs y ws f. turn-deeper right room k x vs y ws f) room (suc room) t us (omega (arith, size, small))
+      (omega (arith, size, small)))
 
 pub ruleset levels = (ladder-base, ladder-chain, ladder-once, ladder-prefix)
 

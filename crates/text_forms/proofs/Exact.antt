@@ -111,7 +111,8 @@ run_at-sound (x ∷ run) ts us e =
 pub run_at-complete : (run : List Symbol) (rest : List Tok) → parse.symbols_at run (form.symbols run ++ rest) ≡ Some rest
 run_at-complete [] rest = refl
 run_at-complete (x ∷ run) rest =
-    ap (λ (b : Bool). cond b (parse.symbols_at run (form.symbols run ++ rest)) None) (begins_with-symbol x (form.symbols run ++ rest)) ∙ run_at-complete run rest
+    ap (λ (b : Bool). cond b (parse.symbols_at run (form.symbols run ++ rest)) None) (begins_with-symbol x (form.symbols run ++ rest))
+    ∙ run_at-complete run rest
 
 module _ {A B : Type 0} {F : A → List Tok → Type 0} {G : B → List Tok → Type 0} {p : parse.Parse A} {q : parse.Parse B} {E D : List Tok → Type 0} where
   -- one and then the other
@@ -291,7 +292,12 @@ exact-value = record { sound = sound; complete = complete } where
   sound : (ts : List Tok) (v : ℤ) (rest : List Tok) → parse.value_at ts ≡ Some (v, rest) → Front form.Value v ts rest
   sound ts v rest e =
       let f = x.sound ts v rest e in
-      record { front = f.front; is = f.is; formed = record { number = f.formed.value; fits = f.formed.formed.passes; is = f.formed.is; formed = f.formed.formed.formed } }
+      record {
+        front = f.front;
+        is = f.is;
+        formed =
+            record { number = f.formed.value; fits = f.formed.formed.passes; is = f.formed.is; formed = f.formed.formed.formed };
+      }
 
   complete : (v : ℤ) (s rest : List Tok) → form.Value v s → Any rest → parse.value_at (s ++ rest) ≡ Some (v, rest)
   complete v s rest h any = x.complete v s rest (record { value = h.number; is = h.is; formed = record { passes = h.fits; formed = h.formed } }) any

@@ -83,7 +83,8 @@ not_chain f a b = cc
 not_single : (f : Form) → f ≡ shape.Prefix → f ≡ shape.Once → ⊥
 not_single f a b = cc
 
-module _ {T O P : Type 0} (S : Syntax T O P) (Leaf : ℕ → T → List Tok → Type 0) (leaf : ℕ → parse.Parse T) (E : List Tok → Type 0) (clear : IsClear S Leaf leaf E) where
+module _ {T O P : Type 0} (S : Syntax T O P) (Leaf : ℕ → T → List Tok → Type 0) (leaf : ℕ → parse.Parse T) (E : List Tok → Type 0)
+    (clear : IsClear S Leaf leaf E) where
   -- no operator of the first k levels comes, and nothing that may not follow a leaf
   abbrev pub Ends : ℕ → List Tok → Type 0
   Ends k rest = ((j : ℕ) → j < k → operator_at S j rest ≡ None) × E rest
@@ -148,8 +149,10 @@ module _ {T O P : Type 0} (S : Syntax T O P) (Leaf : ℕ → T → List Tok → 
       → form.After (s.Open ∷ []) (form.Before (IsWithin n room) (s.Close ∷ [])) t ts → Term n 0 (suc room) (S.mark p t) (x ∷ ts)
   call-term zero room x p t ts c h = absurd h.formed.formed
   call-term (suc n) room x p t ts c h =
-      let tokens : ts ≡ symbol s.Open ∷ (h.formed.front ++ symbol s.Close ∷ []) = h.is ∙ ap (λ (us : List Tok). symbol s.Open ∷ us) h.formed.is in
-      (subst (λ (us : List Tok). Spelled (suc n) 0 (S.mark p t) (x ∷ us)) (sym tokens) (rule.call n x p t h.formed.front c h.formed.formed.0), mark-fits p t room h.formed.formed.1)
+      let tokens : ts ≡ symbol s.Open ∷ (h.formed.front ++ symbol s.Close ∷ []) = h.is ∙ ap (λ (us : List Tok). symbol s.Open ∷ us) h.formed.is in (
+        subst (λ (us : List Tok). Spelled (suc n) 0 (S.mark p t) (x ∷ us)) (sym tokens) (rule.call n x p t h.formed.front c h.formed.formed.0),
+        mark-fits p t room h.formed.formed.1,
+      )
 
   module _ (n : ℕ) (i : ℕ → parse.Parse T) (inner : (room : ℕ) → Exact (IsWithin n room) (i room) (Ends (length S.levels))) where
     exact-closed : (room : ℕ) → Exact (form.Before (IsWithin n room) (s.Close ∷ [])) (closed i room) Any
@@ -164,7 +167,8 @@ module _ {T O P : Type 0} (S : Syntax T O P) (Leaf : ℕ → T → List Tok → 
           front = c.token ∷ f.front;
           is = c.is ∙ ap (λ (us : List Tok). c.token ∷ us) f.is;
           formed =
-              subst (λ (u : T). Term n 0 (suc room) u (c.token ∷ f.front)) (sym f.formed.is) (call-term n room c.token p f.formed.value f.front c.good f.formed.formed);
+              subst (λ (u : T). Term n 0 (suc room) u (c.token ∷ f.front)) (sym f.formed.is)
+              (call-term n room c.token p f.formed.value f.front c.good f.formed.formed);
         }
 
     leaf-or-call : (room : ℕ) (ts : List Tok) (t : T) (rest : List Tok) (o : Option P) → first S.call ts ≡ o → base_on S (leaf n) i room ts o ≡ Some (t, rest)
@@ -202,7 +206,8 @@ module _ {T O P : Type 0} (S : Syntax T O P) (Leaf : ℕ → T → List Tok → 
       rw (clear.no_open m u us rest h, clear.no_call m u us rest h) ((clear.exact m).complete u us rest h e)
   base-complete n k (suc room) t ts i inner (rule.bracket m u us g) at d rest e = closed-complete (suc m) (suc room) i inner u us (g, d) rest
   base-complete n k (suc room) t ts i inner (rule.call m x p u us c g) at d rest e =
-      let read : closed i room ((us ++ symbol s.Close ∷ []) ++ rest) ≡ Some (u, rest) = closed-complete (suc m) room i inner u us (g, mark-inner p u room d) rest in
+      let read : closed i room ((us ++ symbol s.Close ∷ []) ++ rest) ≡ Some (u, rest) =
+      closed-complete (suc m) room i inner u us (g, mark-inner p u room d) rest in
       let apart : parse.begins_with s.Open (x ∷ symbol s.Open ∷ ((us ++ symbol s.Close ∷ []) ++ rest)) ≡ false =
       not-open x (symbol s.Open ∷ ((us ++ symbol s.Close ∷ []) ++ rest)) (λ same. no_some clear.open_call (subst (λ (y : Tok). S.call y ≡ Some p) same c)) in
       rw (apart, c, read) refl
@@ -223,7 +228,8 @@ module _ {T O P : Type 0} (S : Syntax T O P) (Leaf : ℕ → T → List Tok → 
       → (room : ℕ) (ts : List Tok) (o : O) (left : T) (t : T) (us rest : List Tok) → operator_at S k us ≡ Some o
       → grown S (below (room - 1)) room o left (tail us) ≡ Some (t, rest)
       → (front : List Tok) → ts ≡ front ++ us
-      → ((x : Tok) (r : T) (more : List Tok) → operator (level_of S.levels k) x ≡ Some o → Spelled n k r more → Spelled n (suc k) (S.join o left r) (front ++ x ∷ more))
+      → ((x : Tok) (r : T) (more : List Tok) → operator (level_of S.levels k) x ≡ Some o → Spelled n k r more
+      → Spelled n (suc k) (S.join o left r) (front ++ x ∷ more))
       → Front (Term n (suc k) room) t ts rest
   grows n k below x room ts o left t us rest op more front is make =
       let g = grown-is S clear.deep (below (room - 1)) room o left (tail us) t rest more in
@@ -234,7 +240,8 @@ module _ {T O P : Type 0} (S : Syntax T O P) (Leaf : ℕ → T → List Tok → 
         front = front ++ c.token ∷ f.front;
         is = is ∙ ap (λ (ws : List Tok). front ++ ws) tokens ∙ sym (append_assoc front (c.token ∷ f.front) rest);
         formed =
-            subst (λ (u : T). Term n (suc k) room u (front ++ c.token ∷ f.front)) (sym g.3) (make c.token g.0 f.front c.good f.formed.0, join-fits o left g.0 room g.1 f.formed.1);
+            subst (λ (u : T). Term n (suc k) room u (front ++ c.token ∷ f.front)) (sym g.3)
+            (make c.token g.0 f.front c.good f.formed.0, join-fits o left g.0 room g.1 f.formed.1);
       }
 
   -- what was read so far and what is read behind an operator
@@ -244,7 +251,8 @@ module _ {T O P : Type 0} (S : Syntax T O P) (Leaf : ℕ → T → List Tok → 
 
   -- CHAINS
 
-  keeps : (n k : ℕ) (many : form_of (level_of S.levels k) ≡ shape.Chain) (below : ℕ → parse.Parse T) → ((room : ℕ) → Exact (Term n k room) (below room) (Ends k))
+  keeps : (n k : ℕ) (many : form_of (level_of S.levels k) ≡ shape.Chain) (below : ℕ → parse.Parse T)
+      → ((room : ℕ) → Exact (Term n k room) (below room) (Ends k))
       → (room : ℕ) (ts : List Tok) (left : T) (us : List Tok) (y : T) (vs : List Tok)
       → Front (Term n (suc k) room) left ts us → chain_turn S k (below (room - 1)) room left us ≡ Next y vs → Front (Term n (suc k) room) y ts vs
   keeps n k many below x room ts left us y vs so e =
@@ -269,7 +277,8 @@ module _ {T O P : Type 0} (S : Syntax T O P) (Leaf : ℕ → T → List Tok → 
       let small = join-left o a b room d in
       ap (λ (ws : List Tok). chain_level S k below room ws) (append_assoc us (y ∷ vs) rest)
       ∙ chain-complete k p (suc j) room a us below many x g at (omega (arith, small)) (y ∷ (vs ++ rest)) (operator-ends k y o (vs ++ rest) good)
-      ∙ sym (chained-grown S clear.deep k (below (room - 1)) room a (S.join o a b) (y ∷ (vs ++ rest)) rest o good (grown-there k (below (room - 1)) room o a b vs rest small read))
+      ∙ sym (chained-grown S clear.deep k (below (room - 1)) room a (S.join o a b) (y ∷ (vs ++ rest)) rest o good
+      (grown-there k (below (room - 1)) room o a b vs rest small read))
   chain-complete k n m room t ts below many x (rule.once p j y o a b us vs f c g h) at d rest e =
       absurd (not_once (form_of (level_of S.levels k)) many (subst (λ (q : ℕ). form_of (level_of S.levels q) ≡ shape.Once) (suc-same j k at) f))
   chain-complete k n m room t ts below many x (rule.prefix p j y q u us c h) at d rest e =
@@ -283,8 +292,10 @@ module _ {T O P : Type 0} (S : Syntax T O P) (Leaf : ℕ → T → List Tok → 
     sound ts v rest e =
         let (q, is_q, loop) = then_read-some (below room ts) _ (v, rest) e in
         let f = (x room).sound ts q.0 q.1 is_q in
-        let begun : Front (Term n (suc k) room) q.0 ts q.1 = record { front = f.front; is = f.is; formed = (rule.tighter n k q.0 f.front f.formed.0, f.formed.1) } in
-        (turns-keep (chain_turn S k (below (room - 1)) room) (λ u us. Front (Term n (suc k) room) u ts us) (keeps n k many below x room ts) (suc room) q.0 q.1 v rest begun loop).0
+        let begun : Front (Term n (suc k) room) q.0 ts q.1 =
+        record { front = f.front; is = f.is; formed = (rule.tighter n k q.0 f.front f.formed.0, f.formed.1) } in
+        (turns-keep (chain_turn S k (below (room - 1)) room) (λ u us. Front (Term n (suc k) room) u ts us) (keeps n k many below x room ts)
+        (suc room) q.0 q.1 v rest begun loop).0
 
     complete : (v : T) (ts rest : List Tok) → Term n (suc k) room v ts → Ends (suc k) rest → chain_level S k below room (ts ++ rest) ≡ Some (v, rest)
     complete v ts rest h e =
@@ -299,7 +310,13 @@ module _ {T O P : Type 0} (S : Syntax T O P) (Leaf : ℕ → T → List Tok → 
       → once_on S (below (room - 1)) room left us r ≡ Some (v, rest) → Front (Term n (suc k) room) v ts rest
   once-sound n k below single x room ts left us v rest f None is e =
       let same = pair_inj e in
-      record { front = f.front; is = f.is ∙ ap (λ (ws : List Tok). f.front ++ ws) same.1; formed = subst (λ (u : T). Term n (suc k) room u f.front) same.0 (rule.tighter n k left f.front f.formed.0, f.formed.1) }
+      record {
+        front = f.front;
+        is = f.is
+            ∙ ap (λ (ws : List Tok). f.front ++ ws) same.1;
+        formed =
+            subst (λ (u : T). Term n (suc k) room u f.front) same.0 (rule.tighter n k left f.front f.formed.0, f.formed.1);
+      }
   once-sound n k below single x room ts left us v rest f (Some o) is e =
       grows n k below x room ts o left v us rest is e f.front f.is (λ z r more good g. rule.once n k z o left r f.front more single good f.formed.0 g)
 
@@ -321,8 +338,10 @@ module _ {T O P : Type 0} (S : Syntax T O P) (Leaf : ℕ → T → List Tok → 
       let right : Spelled p k b vs = subst (λ (q : ℕ). Spelled p q b vs) same h in
       let good : operator (level_of S.levels k) y ≡ Some o = subst (λ (q : ℕ). operator (level_of S.levels q) y ≡ Some o) same c in
       let small = join-left o a b room d in
-      let left : below room (us ++ (y ∷ (vs ++ rest))) ≡ Some (a, y ∷ (vs ++ rest)) = (x room).complete a us (y ∷ (vs ++ rest)) (here, omega (arith, small)) (operator-ends k y o (vs ++ rest) good) in
-      let read : below (room - 1) (vs ++ rest) ≡ Some (b, rest) = (x (room - 1)).complete b vs rest (right, join-right o a b room d) (ends_less k (suc k) rest (omega arith) e) in
+      let left : below room (us ++ (y ∷ (vs ++ rest))) ≡ Some (a, y ∷ (vs ++ rest)) =
+      (x room).complete a us (y ∷ (vs ++ rest)) (here, omega (arith, small)) (operator-ends k y o (vs ++ rest) good) in
+      let read : below (room - 1) (vs ++ rest) ≡ Some (b, rest) =
+      (x (room - 1)).complete b vs rest (right, join-right o a b room d) (ends_less k (suc k) rest (omega arith) e) in
       ap (λ (ws : List Tok). once_level S k below room ws) (append_assoc us (y ∷ vs) rest)
       ∙ rw (left, good) (grown-there k (below (room - 1)) room o a b vs rest small read)
   once-complete k n m room t ts below single x (rule.prefix p j y q u us c h) at d rest e =
@@ -372,7 +391,8 @@ module _ {T O P : Type 0} (S : Syntax T O P) (Leaf : ℕ → T → List Tok → 
           front = c.token ∷ y.front;
           is = c.is ∙ ap (λ (us : List Tok). c.token ∷ us) (y.is ∙ ap (λ (us : List Tok). y.front ++ us) same.1);
           formed =
-              subst (λ (u : T). Term n (suc k) (suc room) u (c.token ∷ y.front)) same.0 (rule.prefix n k c.token p q.0 y.front c.good y.formed.0, mark-fits p q.0 room y.formed.1);
+              subst (λ (u : T). Term n (suc k) (suc room) u (c.token ∷ y.front)) same.0
+              (rule.prefix n k c.token p q.0 y.front c.good y.formed.0, mark-fits p q.0 room y.formed.1);
         }
 
   prefix-complete : (k n m room : ℕ) (t : T) (ts : List Tok) (below : ℕ → parse.Parse T) (signs : form_of (level_of S.levels k) ≡ shape.Prefix)
@@ -392,10 +412,12 @@ module _ {T O P : Type 0} (S : Syntax T O P) (Leaf : ℕ → T → List Tok → 
       absurd (not_single (form_of (level_of S.levels k)) signs (subst (λ (q : ℕ). form_of (level_of S.levels q) ≡ shape.Once) (suc-same j k at) f))
   prefix-complete k n m (suc room) t ts below signs x (rule.prefix p j y q u us c h) at d rest e =
       let good : sign (level_of S.levels k) y ≡ Some q = subst (λ (r : ℕ). sign (level_of S.levels r) y ≡ Some q) (suc-same j k at) c in
-      let read : prefix_level S k below room (us ++ rest) ≡ Some (u, rest) = prefix-complete k p (suc j) room u us below signs x h at (mark-inner q u room d) rest e in
+      let read : prefix_level S k below room (us ++ rest) ≡ Some (u, rest) =
+      prefix-complete k p (suc j) room u us below signs x h at (mark-inner q u room d) rest e in
       rw (good, read) refl
 
-  exact-prefix : (n k : ℕ) (below : ℕ → parse.Parse T) → form_of (level_of S.levels k) ≡ shape.Prefix → ((room : ℕ) → Exact (Term n k room) (below room) (Ends k))
+  exact-prefix : (n k : ℕ) (below : ℕ → parse.Parse T) → form_of (level_of S.levels k) ≡ shape.Prefix
+      → ((room : ℕ) → Exact (Term n k room) (below room) (Ends k))
       → (room : ℕ) → Exact (Term n (suc k) room) (prefix_level S k below room) (Ends (suc k))
   exact-prefix n k below signs x room = record {
     sound = λ ts v rest e. prefix-sound n k below x room ts v rest e;
@@ -416,7 +438,8 @@ module _ {T O P : Type 0} (S : Syntax T O P) (Leaf : ℕ → T → List Tok → 
   unfolding ladder
   exact-ladder n i inner zero room = exact-as (exact-less (exact-base n room i inner) (λ rest (d : Ends 0 rest). d.1)) (λ v ts h. h) (λ v ts h. h) (λ ts. refl)
   exact-ladder n i inner (suc k) room =
-      exact-as (exact-level n k (ladder S (leaf n) i k) (λ r. exact-ladder n i inner k r) room (level_of S.levels k) refl) (λ v ts h. h) (λ v ts h. h) (λ ts. refl)
+      exact-as (exact-level n k (ladder S (leaf n) i k) (λ r. exact-ladder n i inner k r) room (level_of S.levels k) refl) (λ v ts h. h) (λ v ts h. h)
+      (λ ts. refl)
 
   -- an expression behind one bracket more
   pub exact-within : (n room : ℕ) → Exact (IsWithin n room) (within S leaf n room) (Ends (length S.levels))

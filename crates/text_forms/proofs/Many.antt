@@ -26,7 +26,8 @@ Each-more F [] front v s h f = (s, [], ap (λ (l : List Tok). l ++ s) h ∙ sym 
 Each-more F (w ∷ ws) front v s h f =
     (h.0, h.1 ++ s, ap (λ (l : List Tok). l ++ s) h.2 ∙ append_assoc h.0 h.1 s, h.3, Each-more F ws h.1 v s h.4 f)
 
-module _ {A : Type 0} {F : A → List Tok → Type 0} {p : parse.Parse A} {E : List Tok → Type 0} (stop : List Tok → Bool) (x : Exact F p E) (listed : Listed stop F E) where
+module _ {A : Type 0} {F : A → List Tok → Type 0} {p : parse.Parse A} {E : List Tok → Type 0} (stop : List Tok → Bool) (x : Exact F p E)
+    (listed : Listed stop F E) where
   -- how a turn went on
   turned : (done : List A) (b : Bool) (r : Option (A × List Tok)) (y : List A) (us : List Tok) → cond b Stop (parse.item_turn done r) ≡ Next y us
       → (b ≡ false) × (q : A × List Tok) × (r ≡ Some q) × (y ≡ done ++ q.0 ∷ []) × (us ≡ q.1)
@@ -59,7 +60,8 @@ module _ {A : Type 0} {F : A → List Tok → Type 0} {p : parse.Parse A} {E : L
   keeps ts done us y vs so e =
       let t = turned done (stop us) (p us) y vs e in
       let f = x.sound us t.1.0 t.1.1 t.2 in
-      let all : ts ≡ (so.0 ++ f.front) ++ vs = so.1 ∙ ap (λ (l : List Tok). so.0 ++ l) (f.is ∙ ap (λ (l : List Tok). f.front ++ l) (sym t.4)) ∙ sym (append_assoc so.0 f.front vs) in
+      let all : ts ≡ (so.0 ++ f.front) ++ vs = so.1 ∙ ap (λ (l : List Tok). so.0 ++ l) (f.is ∙ ap (λ (l : List Tok). f.front ++ l) (sym t.4))
+      ∙ sym (append_assoc so.0 f.front vs) in
       (so.0 ++ f.front, all, subst (λ (w : List A). form.Many F w (so.0 ++ f.front)) (sym t.3) (Each-more F done so.0 t.1.0 f.front so.2 f.formed))
 
   stopped : (b : Bool) (t : Turn (List A)) → cond b Stop t ≡ Stop → (t ≡ Stop → ⊥) → b ≡ true
@@ -79,7 +81,8 @@ module _ {A : Type 0} {F : A → List Tok → Type 0} {p : parse.Parse A} {E : L
   many-complete : (done vs : List A) (s rest : List Tok) → form.Many F vs s → E rest → stop rest ≡ true
       → repeated (parse.many_turn stop p) done (s ++ rest) ≡ Some (done ++ vs, rest)
   many-complete done [] s rest h allowed stops =
-      rw h (repeated-stop (parse.many_turn stop p) done rest (ap (λ (b : Bool). cond b Stop (parse.item_turn done (p rest))) stops) ∙ ap (λ (l : List A). Some (l, rest)) (sym (append-nil done)))
+      rw h (repeated-stop (parse.many_turn stop p) done rest (ap (λ (b : Bool). cond b Stop (parse.item_turn done (p rest))) stops)
+      ∙ ap (λ (l : List A). Some (l, rest)) (sym (append-nil done)))
   many-complete done (v ∷ vs) s rest h allowed stops =
       let split : s ++ rest ≡ h.0 ++ (h.1 ++ rest) = ap (λ (l : List Tok). l ++ rest) h.2 ∙ append_assoc h.0 h.1 rest in
       let turn : parse.many_turn stop p done (h.0 ++ (h.1 ++ rest)) ≡ Next (done ++ v ∷ []) (h.1 ++ rest) =
@@ -111,7 +114,8 @@ on_read first None = None
 on_read first (Some read) = Some (first ∷ read.0, read.1)
 
 -- items with commas between them
-module _ {A : Type 0} {F : A → List Tok → Type 0} {p : parse.Parse A} {E : List Tok → Type 0} (x : Exact F p E) (comma : (rest : List Tok) → E (symbol Comma ∷ rest)) where
+module _ {A : Type 0} {F : A → List Tok → Type 0} {p : parse.Parse A} {E : List Tok → Type 0} (x : Exact F p E)
+    (comma : (rest : List Tok) → E (symbol Comma ∷ rest)) where
   abbrev commas_parts : parse.Parse (List A)
   commas_parts = parse.seen (λ v. v.0 ∷ v.1) (parse.both p (parse.many parse.no_comma (parse.after (Comma ∷ []) p)))
 
@@ -152,11 +156,14 @@ module _ {A : Type 0} {F : A → List Tok → Type 0} {p : parse.Parse A} {E : L
   unfolding turns
   same_turns zero first done ts = refl
   same_turns (suc n) first done ts =
-      ap (after_turn (turns (parse.comma_turn p) n) (first ∷ done) ts) (same_turn first done ts) ∙ by (parse.many_turn parse.no_comma (parse.after (Comma ∷ []) p) done ts) (λ more us. same_turns n first more us)
+      ap (after_turn (turns (parse.comma_turn p) n) (first ∷ done) ts) (same_turn first done ts)
+      ∙ by (parse.many_turn parse.no_comma (parse.after (Comma ∷ []) p) done ts) (λ more us. same_turns n first more us)
     where
       by : (t : Turn (List A))
-          → ((more : List A) (us : List Tok) → turns (parse.comma_turn p) n (first ∷ more) us ≡ on_read first (turns (parse.many_turn parse.no_comma (parse.after (Comma ∷ []) p)) n more us))
-          → after_turn (turns (parse.comma_turn p) n) (first ∷ done) ts (on_turn first t) ≡ on_read first (after_turn (turns (parse.many_turn parse.no_comma (parse.after (Comma ∷ []) p)) n) done ts t)
+          → ((more : List A) (us : List Tok)
+          → turns (parse.comma_turn p) n (first ∷ more) us ≡ on_read first (turns (parse.many_turn parse.no_comma (parse.after (Comma ∷ []) p)) n more us))
+          → after_turn (turns (parse.comma_turn p) n) (first ∷ done) ts (on_turn first t) ≡ on_read first
+          (after_turn (turns (parse.many_turn parse.no_comma (parse.after (Comma ∷ []) p)) n) done ts t)
       by Stop f = refl
       by Fail f = refl
       by (Next more us) f = f more us
@@ -169,11 +176,15 @@ module _ {A : Type 0} {F : A → List Tok → Type 0} {p : parse.Parse A} {E : L
     loop a us = same_turns (suc (length us)) a [] us
 
     by : (r : Option (A × List Tok))
-        → parse.then_parsed r (λ a us. repeated (parse.comma_turn p) (a ∷ []) us) ≡ parse.then_parsed {A = A × List A} {B = List A} (parse.then_parsed {A = A} {B = A × List A} r (λ a us. parse.then_parsed {A = List A} {B = A × List A} (parse.many parse.no_comma (parse.after (Comma ∷ []) p) us) (λ b vs. Some ((a, b), vs)))) (λ v vs. Some (v.0 ∷ v.1, vs))
+        → parse.then_parsed r (λ a us. repeated (parse.comma_turn p) (a ∷ []) us) ≡ parse.then_parsed {A = A × List A} {B = List A}
+        (parse.then_parsed {A = A} {B = A × List A} r
+        (λ a us. parse.then_parsed {A = List A} {B = A × List A} (parse.many parse.no_comma (parse.after (Comma ∷ []) p) us) (λ b vs. Some ((a, b), vs))))
+        (λ v vs. Some (v.0 ∷ v.1, vs))
     by None = refl
     by (Some q) = loop q.0 q.1 ∙ out (parse.many parse.no_comma (parse.after (Comma ∷ []) p) q.1) where
       out : (r : Option (List A × List Tok))
-          → on_read q.0 r ≡ parse.then_parsed {A = A × List A} {B = List A} (parse.then_parsed {A = List A} {B = A × List A} r (λ b vs. Some ((q.0, b), vs))) (λ v vs. Some (v.0 ∷ v.1, vs))
+          → on_read q.0 r ≡ parse.then_parsed {A = A × List A} {B = List A} (parse.then_parsed {A = List A} {B = A × List A} r (λ b vs. Some ((q.0, b), vs)))
+          (λ v vs. Some (v.0 ∷ v.1, vs))
       out None = refl
       out (Some w) = refl
 

@@ -42,7 +42,8 @@ unfolding repeated turns
 repeated-fail step x ts is = ap (after_turn (turns step (length ts)) x ts) is
 
 -- what holds at the start and is kept by each turn holds at the end, where the loop stops
-module _ {A : Type 0} (step : A → List Tok → Turn A) (P : A → List Tok → Type 0) (keeps : (x : A) (ts : List Tok) (y : A) (us : List Tok) → P x ts → step x ts ≡ Next y us → P y us) where
+module _ {A : Type 0} (step : A → List Tok → Turn A) (P : A → List Tok → Type 0)
+    (keeps : (x : A) (ts : List Tok) (y : A) (us : List Tok) → P x ts → step x ts ≡ Next y us → P y us) where
   -- of so many turns
   pub turns-keep : (n : ℕ) (x : A) (ts : List Tok) (y : A) (us : List Tok) → P x ts → turns step n x ts ≡ Some (y, us) → P y us × (step y us ≡ Stop)
   unfolding turns

@@ -144,6 +144,7 @@ module _ {S A : Type 0} {F : S → A → List Tok → Type 0} {p : S → Parse A
   pub bad-read : (s : S) (us : List (List Tok)) (m : ℕ) → IsFirstBad F next s us m → read_units p next s 1 us ≡ Err m
   bad-read s us m b =
       let told : read_units p next s 1 us ≡ Err (1 + length b.before) =
-      subst (λ (l : List (List Tok)). read_units p next s 1 l ≡ Err (1 + length b.before)) (sym b.is) (bad-from s 1 b.before b.bad b.behind b.values b.formed b.not_formed) in
+      subst (λ (l : List (List Tok)). read_units p next s 1 l ≡ Err (1 + length b.before)) (sym b.is)
+      (bad-from s 1 b.before b.bad b.behind b.values b.formed b.not_formed) in
       let same : 1 + length b.before ≡ m = omega (arith, b.number) in
       told ∙ ap (λ (k : ℕ). Err k) same

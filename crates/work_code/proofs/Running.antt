@@ -71,7 +71,8 @@ so_far_refused input all s rest slots now out out' out'' f g =
           g.is
           ∙ ap (λ o. o ++ take g.n r.pushes) f.grew
           ∙ append_assoc out f.given (take g.n r.pushes)
-          ∙ ap (λ t. out ++ t) (sym (prefix_of f.given (r.pushes ++ others.pushes) (length (take g.n r.pushes)) ∙ ap (λ t. f.given ++ t) (prefix_is r.pushes others.pushes g.n)))
+          ∙ ap (λ t. out ++ t)
+          (sym (prefix_of f.given (r.pushes ++ others.pushes) (length (take g.n r.pushes)) ∙ ap (λ t. f.given ++ t) (prefix_is r.pushes others.pushes g.n)))
           ∙ ap (λ t. out ++ take (length f.given + length (take g.n r.pushes)) t) f.pushes;
     }
   where

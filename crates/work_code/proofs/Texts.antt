@@ -27,7 +27,8 @@ two old a b all x y first second is = second ∙ ap (λ (l : List ℕ). l ++ b) 
 -- three texts that are appended one after another
 pub three : (old a b c all x y z : List ℕ) → x ≡ old ++ a → y ≡ x ++ b → z ≡ y ++ c → a ++ (b ++ c) ≡ all → z ≡ old ++ all
 three old a b c all x y z first second third is =
-    third ∙ ap (λ (l : List ℕ). l ++ c) (two old a b (a ++ b) x y first second refl) ∙ append_assoc old (a ++ b) c ∙ ap (λ (l : List ℕ). old ++ l) (append_assoc a b c ∙ is)
+    third ∙ ap (λ (l : List ℕ). l ++ c) (two old a b (a ++ b) x y first second refl) ∙ append_assoc old (a ++ b) c
+    ∙ ap (λ (l : List ℕ). old ++ l) (append_assoc a b c ∙ is)
 
 -- the tree of a list of statements is that of its statements in turn
 pub steps-is : (all : Stmts) → steps all ≡ in_turn (map step (statements all))

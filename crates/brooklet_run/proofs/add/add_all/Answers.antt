@@ -14,18 +14,24 @@ loop-var-init c = record { tables = sym (each_added-none c.args.tables.now); num
 -- there are as many tables as at the start
 pub at-requires : goal.at-requires
 at-requires c =
-    let e = ap length c.loop-var.invariant.tables ∙ length-each_added c.args.tables.now (joined_at (table_places (length c.args.tables.now) (take c.loop-var.var-index c.args.vars.now)) (list_at c.args.adds.now)) in
+    let e = ap length c.loop-var.invariant.tables
+    ∙ length-each_added c.args.tables.now
+    (joined_at (table_places (length c.args.tables.now) (take c.loop-var.var-index c.args.vars.now)) (list_at c.args.adds.now)) in
     let w = get_or c.args.vars.now c.loop-var.var-index 0 in
     let below : w < length c.args.tables.now = omega (arith, e, c.len.ensures, c.if-var-len.true) in
-    rows_there c.args.tables.now c.args.vars.now c.loop-var.var-index w c.loop-var.number (length c.args.adds.now) c.loop-var-test.true refl below c.loop-var.invariant.number c.requires.many
+    rows_there c.args.tables.now c.args.vars.now c.loop-var.var-index w c.loop-var.number
+    (length c.args.adds.now) c.loop-var-test.true refl below c.loop-var.invariant.number c.requires.many
 
 pub add_rows-requires : goal.add_rows-requires
 add_rows-requires c =
-    let e = ap length c.loop-var.invariant.tables ∙ length-each_added c.args.tables.now (joined_at (table_places (length c.args.tables.now) (take c.loop-var.var-index c.args.vars.now)) (list_at c.args.adds.now)) in
+    let e = ap length c.loop-var.invariant.tables
+    ∙ length-each_added c.args.tables.now
+    (joined_at (table_places (length c.args.tables.now) (take c.loop-var.var-index c.args.vars.now)) (list_at c.args.adds.now)) in
     let w = get_or c.args.vars.now c.loop-var.var-index 0 in
     let below : w < length c.args.tables.now = omega (arith, e, c.len.ensures, c.if-var-len.true) in
     subst (λ (l : List (List ℤ)). All (λ row. length row ≡ width_of_table c.at_mut.result.now) l) (sym (c.at.ensures []))
-    (rows_wide c.args.tables.now c.loop-var.tables c.args.vars.now c.args.adds.now c.loop-var.var-index w c.loop-var.number c.at_mut.result.now c.loop-var-test.true refl below c.loop-var.invariant.tables c.loop-var.invariant.number (c.at_mut.ensures.value c.at_mut.result.now) c.requires.wide)
+    (rows_wide c.args.tables.now c.loop-var.tables c.args.vars.now c.args.adds.now c.loop-var.var-index w c.loop-var.number c.at_mut.result.now
+    c.loop-var-test.true refl below c.loop-var.invariant.tables c.loop-var.invariant.number (c.at_mut.ensures.value c.at_mut.result.now) c.requires.wide)
 
 pub overflow_add-number : goal.overflow_add-number
 overflow_add-number c =
@@ -38,15 +44,18 @@ loop-var-preserved c =
     let vars = c.args.vars.now in
     let i = c.loop-var.var-index in
     let v = get_or c.args.vars.now c.loop-var.var-index 0 in
-    let e = ap length c.loop-var.invariant.tables ∙ length-each_added c.args.tables.now (joined_at (table_places many (take i vars)) (list_at c.args.adds.now)) in
+    let e = ap length c.loop-var.invariant.tables
+    ∙ length-each_added c.args.tables.now (joined_at (table_places many (take i vars)) (list_at c.args.adds.now)) in
     elim c.if-var-len.branch [
       | then-var-len+in_ok-add_rows w ↦
           let below : v < many = omega (arith, e, c.len.ensures, w.if-var-len.true) in
           record {
             tables =
                 w.tables-is
-                ∙ added_next c.args.tables.now c.loop-var.tables vars (list_at c.args.adds.now) i v c.loop-var.number w.at_mut.result.now w.add_rows.new.table c.loop-var-test.true refl below
-                c.loop-var.invariant.tables c.loop-var.invariant.number (w.at_mut.ensures.value w.at_mut.result.now) (w.in_ok-add_rows.ensures ∙ ap (λ l. fold with_row w.at_mut.result.now l) (w.at.ensures []));
+                ∙ added_next c.args.tables.now c.loop-var.tables vars
+                (list_at c.args.adds.now) i v c.loop-var.number w.at_mut.result.now w.add_rows.new.table c.loop-var-test.true refl below
+                c.loop-var.invariant.tables c.loop-var.invariant.number (w.at_mut.ensures.value w.at_mut.result.now)
+                (w.in_ok-add_rows.ensures ∙ ap (λ l. fold with_row w.at_mut.result.now l) (w.at.ensures []));
             number =
                 w.number-is ∙ ap (λ n. n + 1) c.loop-var.invariant.number
                 ∙ sym (ap length (places_more many vars i v c.loop-var-test.true refl below) ∙ length-append (table_places many (take i vars)) (v ∷ []));

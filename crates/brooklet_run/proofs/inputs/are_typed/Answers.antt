@@ -12,13 +12,17 @@ returns-then-len c = never (λ a. let e = inputs_long c.args.decls.now c.args.in
 
 pub returns-then-not-all_fit : goal.returns-then-not-all_fit
 returns-then-not-all_fit c =
-    never (not_typed c.args.decls.now c.args.inputs.now c.loop-place.place c.at.result.now c.at-in-loop-place.result.now (omega arith) (c.at.ensures c.at.result.now) (c.at-in-loop-place.ensures []) (not_so c.all_fit.result c.if-not-all_fit.true c.all_fit.ensures))
+    never (not_typed c.args.decls.now c.args.inputs.now c.loop-place.place c.at.result.now c.at-in-loop-place.result.now (omega arith)
+    (c.at.ensures c.at.result.now) (c.at-in-loop-place.ensures []) (not_so c.all_fit.result c.if-not-all_fit.true c.all_fit.ensures))
 
 pub loop-place-preserved : goal.loop-place-preserved
 loop-place-preserved c =
-    until (λ i. (d : Decl) → slice_get c.args.decls.now i ≡ Some d → All (HasType d.kind) (list_at c.args.inputs.now i)) c.loop-place.place c.loop-place.invariant
-    (typed_here c.args.decls.now c.args.inputs.now c.loop-place.place c.at.result.now c.at-in-loop-place.result.now (omega arith) (c.at.ensures c.at.result.now) (c.at-in-loop-place.ensures []) (c.all_fit.ensures.0 c.if-not-all_fit.false))
+    until (λ i. (d : Decl) → slice_get c.args.decls.now i ≡ Some d
+    → All (HasType d.kind) (list_at c.args.inputs.now i)) c.loop-place.place c.loop-place.invariant
+    (typed_here c.args.decls.now c.args.inputs.now c.loop-place.place c.at.result.now c.at-in-loop-place.result.now (omega arith)
+    (c.at.ensures c.at.result.now) (c.at-in-loop-place.ensures []) (c.all_fit.ensures.0 c.if-not-all_fit.false))
 
 pub returns : goal.returns
 returns c =
-    always (inputs_by c.args.decls.now c.args.inputs.now (omega arith) (λ i d g. c.loop-place.invariant i (let w = slice_get_within c.args.decls.now i d g in omega (arith, w)) d g))
+    always (inputs_by c.args.decls.now c.args.inputs.now (omega arith)
+    (λ i d g. c.loop-place.invariant i (let w = slice_get_within c.args.decls.now i d g in omega (arith, w)) d g))

@@ -8,13 +8,18 @@ use Rattle.brooklet_run.proofs.inputs.have_same_instants.Goals as goal
 
 pub returns-then-not-is_same_instant : goal.returns-then-not-is_same_instant
 returns-then-not-is_same_instant c =
-    never (not_same c.args.a.now c.args.b.now c.loop-place.place c.at.result.now c.at-in-loop-place.result.now (omega arith) (omega arith) (c.at.ensures c.at.result.now) (c.at-in-loop-place.ensures c.at-in-loop-place.result.now) (not_so c.is_same_instant.result c.if-not-is_same_instant.true c.is_same_instant.ensures))
+    never (not_same c.args.a.now c.args.b.now c.loop-place.place c.at.result.now c.at-in-loop-place.result.now (omega arith) (omega arith)
+    (c.at.ensures c.at.result.now) (c.at-in-loop-place.ensures c.at-in-loop-place.result.now)
+    (not_so c.is_same_instant.result c.if-not-is_same_instant.true c.is_same_instant.ensures))
 
 pub loop-place-preserved : goal.loop-place-preserved
 loop-place-preserved c =
-    until (λ i. (x y : item.Item) → slice_get c.args.a.now i ≡ Some x → slice_get c.args.b.now i ≡ Some y → instant_of x ≡ instant_of y) c.loop-place.place c.loop-place.invariant
-    (same_here c.args.a.now c.args.b.now c.loop-place.place c.at.result.now c.at-in-loop-place.result.now (omega arith) (omega arith) (c.at.ensures c.at.result.now) (c.at-in-loop-place.ensures c.at-in-loop-place.result.now) (c.is_same_instant.ensures.0 c.if-not-is_same_instant.false))
+    until (λ i. (x y : item.Item) → slice_get c.args.a.now i ≡ Some x → slice_get c.args.b.now i ≡ Some y
+    → instant_of x ≡ instant_of y) c.loop-place.place c.loop-place.invariant
+    (same_here c.args.a.now c.args.b.now c.loop-place.place c.at.result.now c.at-in-loop-place.result.now (omega arith) (omega arith)
+    (c.at.ensures c.at.result.now) (c.at-in-loop-place.ensures c.at-in-loop-place.result.now) (c.is_same_instant.ensures.0 c.if-not-is_same_instant.false))
 
 pub returns : goal.returns
 returns c =
-    always (same_by c.args.a.now c.args.b.now (omega arith) (λ i x y g h. c.loop-place.invariant i (let w = slice_get_within c.args.a.now i x g in omega (arith, w)) x y g h))
+    always (same_by c.args.a.now c.args.b.now (omega arith)
+    (λ i x y g h. c.loop-place.invariant i (let w = slice_get_within c.args.a.now i x g in omega (arith, w)) x y g h))

@@ -7,4 +7,5 @@ run_op-requires-clause-valid c = plan_valid c.loop-op.machine.plan c.args.plan.n
 
 pub loop-op-preserved : goal.loop-op-preserved
 loop-op-preserved c =
-    all_next c.args.machine.now c.loop-op.machine c.run_op.new.machine c.args.plan.now c.loop-op.op c.port_count-ports.result c.requires.plan c.loop-op.invariant c.in_ok-run_op.ensures.follows c.port_count-ports.ensures c.in_ok-run_op.ensures.drained
+    all_next c.args.machine.now c.loop-op.machine c.run_op.new.machine c.args.plan.now c.loop-op.op c.port_count-ports.result c.requires.plan
+    c.loop-op.invariant c.in_ok-run_op.ensures.follows c.port_count-ports.ensures c.in_ok-run_op.ensures.drained

@@ -6,7 +6,8 @@ pub loop-port-preserved : goal.loop-port-preserved
 loop-port-preserved c = record {
   follows = follows_more c.args.machine.now c.loop-port.machine c.run_port.new.machine c.args.op c.loop-port.invariant.follows c.in_ok-run_port.ensures.follows;
   drained =
-      drained_next c.args.machine.now c.loop-port.machine c.run_port.new.machine c.args.op c.loop-port.port c.requires.ran c.loop-port.invariant.follows c.in_ok-run_port.ensures.follows c.loop-port.invariant.drained c.in_ok-run_port.ensures.drained;
+      drained_next c.args.machine.now c.loop-port.machine c.run_port.new.machine c.args.op c.loop-port.port c.requires.ran c.loop-port.invariant.follows
+      c.in_ok-run_port.ensures.follows c.loop-port.invariant.drained c.in_ok-run_port.ensures.drained;
 }
 
 pub returns-clause-drained : goal.returns-clause-drained

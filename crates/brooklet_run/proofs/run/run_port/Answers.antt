@@ -13,4 +13,5 @@ loop-alloc-smaller c =
 pub loop-alloc-preserved : goal.loop-alloc-preserved
 loop-alloc-preserved c =
     follows_more c.args.machine.now c.loop-alloc.machine c.step.new.self c.args.op c.loop-alloc.invariant
-    (follows_step c.loop-alloc.machine c.step.new.self c.args.op c.args.port (plan_valid c.loop-alloc.machine.plan c.args.machine.now.plan c.loop-alloc.invariant.plan c.requires.valid) c.in_ok-step.ensures.fired)
+    (follows_step c.loop-alloc.machine c.step.new.self c.args.op c.args.port
+    (plan_valid c.loop-alloc.machine.plan c.args.machine.now.plan c.loop-alloc.invariant.plan c.requires.valid) c.in_ok-step.ensures.fired)

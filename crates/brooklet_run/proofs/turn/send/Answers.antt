@@ -12,7 +12,8 @@ loop-port-init c = record { queues = send_start (list_at c.args.outs.now) c.args
 
 pub send_port-requires-clause-queue : goal.send_port-requires-clause-queue
 send_port-requires-clause-queue c =
-    let e = ap length c.loop-port.invariant.queues ∙ length-each_grew c.args.queues.now (joined_at (take c.loop-port.port c.args.to.now) (list_at c.args.outs.now)) in
+    let e = ap length c.loop-port.invariant.queues
+    ∙ length-each_grew c.args.queues.now (joined_at (take c.loop-port.port c.args.to.now) (list_at c.args.outs.now)) in
     let q = c.requires.places c.loop-port.port (omega arith) in
     omega (arith, e, q)
 
@@ -22,10 +23,12 @@ send_port-requires-clause-port c = let m = c.loop-port.invariant.left.left.many 
 pub loop-port-preserved : goal.loop-port-preserved
 loop-port-preserved c = record {
   queues =
-      send_step c.args.to.now (list_at c.args.outs.now) c.loop-port.port c.args.queues.now c.loop-port.queues c.send_port.new.queues (list_at c.loop-port.outs c.loop-port.port) (omega arith) c.loop-port.invariant.queues
+      send_step c.args.to.now (list_at c.args.outs.now) c.loop-port.port c.args.queues.now c.loop-port.queues c.send_port.new.queues
+      (list_at c.loop-port.outs c.loop-port.port) (omega arith) c.loop-port.invariant.queues
       (c.loop-port.invariant.left.left.rest c.loop-port.port (omega arith)) c.in_ok-send_port.ensures.queues;
   left =
-      emptied_next c.loop-port.port c.args.outs.now c.loop-port.outs c.send_port.new.outs c.loop-port.invariant.left (let r = c.requires.ports in omega (arith, r)) c.in_ok-send_port.ensures.outs;
+      emptied_next c.loop-port.port c.args.outs.now c.loop-port.outs c.send_port.new.outs c.loop-port.invariant.left
+      (let r = c.requires.ports in omega (arith, r)) c.in_ok-send_port.ensures.outs;
 }
 
 pub returns-clause-queues : goal.returns-clause-queues

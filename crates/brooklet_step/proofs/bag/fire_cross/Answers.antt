@@ -35,5 +35,6 @@ returns c =
     let one = subst (λ l. CrossesFlat p f old new l items) c.take_items-items.ensures c.in_ok-step-in-Cross.ensures.ok in
     on_ok_weaker c.give_all.result (λ took.
     subst (λ s. FiresAt cross p c.args.item out out' (s ∷ []) (state.Cross new ∷ [])) (sym c.in-Cross.is)
-    (subst (λ i. FiresAt cross p i out out' (state.Cross old ∷ []) (state.Cross new ∷ [])) c.flat_of.ensures (cross_flat_does p f items old new out out' is one took))
+    (subst (λ i. FiresAt cross p i out out' (state.Cross old ∷ []) (state.Cross new ∷ [])) c.flat_of.ensures
+    (cross_flat_does p f items old new out out' is one took))
     ) c.give_all.ensures

@@ -6,5 +6,6 @@ use Rattle.brooklet_step.proofs.emit.add_items.Goals as goal
 pub returns : goal.returns
 returns c =
     on_ok_weaker c.join.result
-    (λ h. append_at_by c.args.outs.now c.args.outs.now c.args.place c.at_mut.result.now c.args.items c.join.new.list refl c.requires (c.at_mut.ensures.value c.at_mut.result.now) h)
+    (λ h. append_at_by c.args.outs.now c.args.outs.now c.args.place c.at_mut.result.now c.args.items c.join.new.list refl c.requires
+    (c.at_mut.ensures.value c.at_mut.result.now) h)
     c.join.ensures

@@ -19,4 +19,5 @@ push_at-requires c =
 
 pub loop-port-preserved : goal.loop-port-preserved
 loop-port-preserved c =
-    push_step c.args.outs.now c.loop-port.outs c.push_at.new.self c.as_slice-port-items.result.now c.loop-port.port-index c.loop-port-item.result (omega arith) c.loop-port-item.is c.loop-port.invariant c.in_ok-push_at.ensures.ok
+    push_step c.args.outs.now c.loop-port.outs c.push_at.new.self c.as_slice-port-items.result.now c.loop-port.port-index c.loop-port-item.result
+    (omega arith) c.loop-port-item.is c.loop-port.invariant c.in_ok-push_at.ensures.ok

@@ -23,7 +23,8 @@ joined_table-requires c =
 
 pub extend_at-requires : goal.extend_at-requires
 extend_at-requires c =
-    let e = upto_length _ _ (beside (length c.args.first.now) (list_at c.args.first.now) (list_at c.args.second.now)) c.loop-table.table c.loop-table.invariant.adds in
+    let e = upto_length _ _
+    (beside (length c.args.first.now) (list_at c.args.first.now) (list_at c.args.second.now)) c.loop-table.table c.loop-table.invariant.adds in
     omega arith
 
 pub loop-table-preserved : goal.loop-table-preserved
@@ -38,9 +39,12 @@ loop-table-preserved c =
       adds = upto_step _ _ _ (join (list_at c.args.first.now) (list_at c.args.second.now)) t _ c.loop-table.invariant.adds one c.in_ok-extend_at.ensures.ok;
       left =
           leaves_next join t c.args.first.now c.loop-table.first c.joined_table.new.first c.args.second.now c.loop-table.second c.joined_table.new.second left
-          (subst (λ n. StayApart (beside n) t c.loop-table.first c.joined_table.new.first c.loop-table.second c.joined_table.new.second) same c.joined_table.ensures.left);
+          (subst (λ n. StayApart
+          (beside n) t c.loop-table.first c.joined_table.new.first c.loop-table.second c.joined_table.new.second) same c.joined_table.ensures.left);
     }
 
 pub returns : goal.returns
 returns c =
-    c.loop-table.invariant.adds ∙ each_grew-upto_all c.args.adds.now (beside (length c.args.first.now) (list_at c.args.first.now) (list_at c.args.second.now)) c.loop-table.table (omega arith)
+    c.loop-table.invariant.adds
+    ∙ each_grew-upto_all c.args.adds.now (beside (length c.args.first.now) (list_at c.args.first.now) (list_at c.args.second.now)) c.loop-table.table
+    (omega arith)

@@ -26,7 +26,8 @@ spliced_port-requires-clause-port c =
 
 pub extend_at-requires : goal.extend_at-requires
 extend_at-requires c =
-    let e = upto_length _ _ (splice c.args.at (length c.args.second.now) (list_at c.args.first.now) (list_at c.args.second.now)) c.loop-port.port c.loop-port.invariant.outs in
+    let e = upto_length _ _
+    (splice c.args.at (length c.args.second.now) (list_at c.args.first.now) (list_at c.args.second.now)) c.loop-port.port c.loop-port.invariant.outs in
     omega arith
 
 pub loop-port-preserved : goal.loop-port-preserved
@@ -40,9 +41,12 @@ loop-port-preserved c =
     record {
       outs = upto_step _ _ _ (join (list_at c.args.first.now) (list_at c.args.second.now)) p _ c.loop-port.invariant.outs one c.in_ok-extend_at.ensures.ok;
       left = leaves_next join p c.args.first.now c.loop-port.first c.spliced_port.new.first c.args.second.now c.loop-port.second c.spliced_port.new.second left
-          (subst (λ n. StayApart (splice c.args.at n) p c.loop-port.first c.spliced_port.new.first c.loop-port.second c.spliced_port.new.second) same c.spliced_port.ensures.left);
+          (subst (λ n. StayApart
+          (splice c.args.at n) p c.loop-port.first c.spliced_port.new.first c.loop-port.second c.spliced_port.new.second) same c.spliced_port.ensures.left);
     }
 
 pub returns : goal.returns
 returns c =
-    c.loop-port.invariant.outs ∙ each_grew-upto_all c.args.outs.now (splice c.args.at (length c.args.second.now) (list_at c.args.first.now) (list_at c.args.second.now)) c.loop-port.port (omega arith)
+    c.loop-port.invariant.outs
+    ∙ each_grew-upto_all c.args.outs.now
+    (splice c.args.at (length c.args.second.now) (list_at c.args.first.now) (list_at c.args.second.now)) c.loop-port.port (omega arith)

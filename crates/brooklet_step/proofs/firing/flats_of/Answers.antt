@@ -7,4 +7,5 @@ loop-item-smaller c = let e = ap length c.in-Some.ensures in omega (arith, e)
 
 pub loop-item-preserved : goal.loop-item-preserved
 loop-item-preserved c =
-    flats_next c.loop-item.all c.add_flat.new.all c.args.items.now c.loop-item.items c.pop.new.self c.in-Some.item c.loop-item.invariant c.in-Some.ensures c.in_ok-add_flat.ensures
+    flats_next c.loop-item.all c.add_flat.new.all c.args.items.now c.loop-item.items c.pop.new.self c.in-Some.item c.loop-item.invariant c.in-Some.ensures
+    c.in_ok-add_flat.ensures

@@ -6,13 +6,16 @@ use Rattle.brooklet_step.proofs.JoinFires.{collect_needs, collect_does}
 use Rattle.brooklet_step.proofs.joining.fire_collect.Goals as goal
 
 pub step-requires-clause-weights : goal.step-requires-clause-weights
-step-requires-clause-weights c = (collect_needs c.args.weights.now c.args.item c.args.port c.args.state.now c.in-Join.state c.args.out.now c.in-Join.is c.requires).0
+step-requires-clause-weights c =
+    (collect_needs c.args.weights.now c.args.item c.args.port c.args.state.now c.in-Join.state c.args.out.now c.in-Join.is c.requires).0
 
 pub step-requires-clause-shape : goal.step-requires-clause-shape
-step-requires-clause-shape c = (collect_needs c.args.weights.now c.args.item c.args.port c.args.state.now c.in-Join.state c.args.out.now c.in-Join.is c.requires).1
+step-requires-clause-shape c =
+    (collect_needs c.args.weights.now c.args.item c.args.port c.args.state.now c.in-Join.state c.args.out.now c.in-Join.is c.requires).1
 
 pub step-requires-clause-port : goal.step-requires-clause-port
-step-requires-clause-port c = (collect_needs c.args.weights.now c.args.item c.args.port c.args.state.now c.in-Join.state c.args.out.now c.in-Join.is c.requires).2
+step-requires-clause-port c =
+    (collect_needs c.args.weights.now c.args.item c.args.port c.args.state.now c.in-Join.state c.args.out.now c.in-Join.is c.requires).2
 
 pub give_all-requires : goal.give_all-requires
 give_all-requires c = (collect_needs c.args.weights.now c.args.item c.args.port c.args.state.now c.in-Join.state c.args.out.now c.in-Join.is c.requires).3

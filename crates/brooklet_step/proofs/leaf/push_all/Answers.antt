@@ -14,5 +14,6 @@ pub returns-else-is_empty : goal.returns-else-is_empty
 returns-else-is_empty c =
     let s = get_or c.args.states.now 0 c.index-states-0.result in
     on_ok_weaker c.push_kept.result
-    (λ ran. pushes_kept (code_form c.args.kernel.now) c.args.item.now c.args.states.now c.index-states-0.result s c.push_kept.new.state c.row_of-else-is_empty.result.now c.push_kept.new.pushes c.requires.takes c.if-is_empty.ensures refl c.row_of-else-is_empty.ensures ran)
+    (λ ran. pushes_kept (code_form c.args.kernel.now) c.args.item.now c.args.states.now c.index-states-0.result s c.push_kept.new.state
+    c.row_of-else-is_empty.result.now c.push_kept.new.pushes c.requires.takes c.if-is_empty.ensures refl c.row_of-else-is_empty.ensures ran)
     c.push_kept.ensures

@@ -13,7 +13,8 @@ fire_again-requires c =
     let can = c.requires.can in
     let p = plan_form c.args.raw.now in
     let k = kernel_at c.args.raw.now p c.args.op c.at.result.now can.op refl can.op_is (c.at.ensures c.at.result.now) in
-    fire_applies p c.args.op c.args.port c.args.item c.args.states.now c.args.out.now (kern_of c.at.result.now.kernel) can k (c.requires.blank.blank can.op can.op_is)
+    fire_applies p c.args.op c.args.port c.args.item c.args.states.now c.args.out.now (kern_of c.at.result.now.kernel) can k
+    (c.requires.blank.blank can.op can.op_is)
 
 pub returns : goal.returns
 returns c =
@@ -21,5 +22,6 @@ returns c =
     let p = plan_form c.args.raw.now in
     let k = kernel_at c.args.raw.now p c.args.op c.at.result.now can.op refl can.op_is (c.at.ensures c.at.result.now) in
     on_ok_weaker c.fire_again.result
-    (λ h. fired_op p c.args.op c.args.port c.args.item c.args.states.now c.fire_again.new.states c.args.out.now c.fire_again.new.out (kern_of c.at.result.now.kernel) can k (c.requires.blank.blank can.op can.op_is) h)
+    (λ h. fired_op p c.args.op c.args.port c.args.item c.args.states.now c.fire_again.new.states c.args.out.now c.fire_again.new.out
+    (kern_of c.at.result.now.kernel) can k (c.requires.blank.blank can.op can.op_is) h)
     c.fire_again.ensures

@@ -15,7 +15,8 @@ split_seat-requires c =
       h.table,
       subst (λ n. 0 < n) (sym h.wide) (omega arith),
       splits_ok t.key.seats t.key.cells.value c.args.place.now.id c.args.place.now.me.0 v.0 (count_up (suc v.0) (suc v.1))
-          (ap (λ (w : View). w.parts) v.2 ∙ two_parts v.0 v.1) (ap (λ (w : View). w.hand) v.2) (ap (λ (w : View). w.held) v.2) (ap (λ (w : View). w.claims) v.2),
+          (ap (λ (w : View). w.parts) v.2 ∙ two_parts v.0 v.1) (ap (λ (w : View). w.hand) v.2) (ap (λ (w : View). w.held) v.2)
+          (ap (λ (w : View). w.claims) v.2),
     )
 
 pub returns-clause-seated : goal.returns-clause-seated
@@ -25,7 +26,8 @@ returns-clause-seated c =
     let v = c.requires.view in
     let e = c.split_seat.ensures in
     sits t.table_id t.key c.split_seat.new.seat (v.0 + 1) (count_up (v.0 + 1) (v.1 + 1)) (e.0 ∙ h.table) h.wide h.deep h.few
-    (e.2 ∙ ((λ i. (other_parts (v.2 i), h.empty i)) ∙ ap (λ (w : View). (w, [])) (dealt t.key.seats t.key.cells.value v.0 v.1))) (counted (v.0 + 1) (v.1 + 1) (v.0 + 1) (omega arith) (omega arith))
+    (e.2 ∙ ((λ i. (other_parts (v.2 i), h.empty i)) ∙ ap (λ (w : View). (w, [])) (dealt t.key.seats t.key.cells.value v.0 v.1)))
+    (counted (v.0 + 1) (v.1 + 1) (v.0 + 1) (omega arith) (omega arith))
 
 pub returns-clause-other : goal.returns-clause-other
 returns-clause-other c =
@@ -39,5 +41,8 @@ returns-clause-other c =
 pub returns-clause-views : goal.returns-clause-views
 returns-clause-views c = λ k m q.
     let t = c.args.top.now in
-    let e = c.split_seat.ensures in
-    (ap (λ (w : Mine). w.0) e.2 ∙ (ap other_parts q ∙ dealt t.key.seats t.key.cells.value k m), ap (λ (w : Mine). w.0) e.4 ∙ (ap first_part q ∙ dealt_first t.key.seats t.key.cells.value k m))
+    let e = c.split_seat.ensures in (
+      ap (λ (w : Mine). w.0) e.2 ∙ (ap other_parts q ∙ dealt t.key.seats t.key.cells.value k m),
+      ap (λ (w : Mine). w.0) e.4
+          ∙ (ap first_part q ∙ dealt_first t.key.seats t.key.cells.value k m),
+    )

@@ -24,5 +24,6 @@ loop-class-preserved c =
       pile = subst (λ (v : View). IsPile v c.pop.new.self.items) (sym put) done.pile;
       claims =
           ap (λ (v : View). v.claims ++ gained (reverse c.pop.new.self.items) v.held) put
-          ∙ (done.claims ∙ (ap (λ l. c.loop-class.seat.view.claims ++ l) (sym (gained_turned c.pop.new.self.items c.loop-class.pile.items c.in-Some.class c.in-Some.cell c.loop-class.seat.view.held last)) ∙ inv.claims));
+          ∙ (done.claims ∙ (ap (λ l. c.loop-class.seat.view.claims ++ l)
+          (sym (gained_turned c.pop.new.self.items c.loop-class.pile.items c.in-Some.class c.in-Some.cell c.loop-class.seat.view.held last)) ∙ inv.claims));
     }

@@ -10,7 +10,8 @@ invariant-loop-class l = record {
   takes : l.seat.view.takes ≡ l.initial.seat.view.takes;
   parts : l.seat.view.parts ≡ l.initial.seat.view.parts;
   pile : IsPile l.seat.view l.pile.items;
-  claims : l.seat.view.claims ++ gained (reverse l.pile.items) l.seat.view.held ≡ l.initial.seat.view.claims ++ gained (reverse l.initial.pile.items) l.initial.seat.view.held;
+  claims : l.seat.view.claims ++ gained (reverse l.pile.items) l.seat.view.held ≡ l.initial.seat.view.claims ++ gained
+      (reverse l.initial.pile.items) l.initial.seat.view.held;
 }
 
 abbrev pub decreases-loop-class : goal.decreases-loop-class

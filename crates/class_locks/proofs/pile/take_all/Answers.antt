@@ -23,7 +23,8 @@ loop-class-init c =
 pub try_take-requires-clause-there : goal.try_take-requires-clause-there
 try_take-requires-clause-there c =
     let i = c.loop-class.class-index in
-    subst (λ (n : ℕ). get_or c.args.classes.now i 0 < n) (ap length (sym c.loop-class.invariant.taken.looked.starts)) (c.requires.there i 0 c.loop-class-test.true)
+    subst (λ (n : ℕ). get_or c.args.classes.now i 0 < n) (ap length (sym c.loop-class.invariant.taken.looked.starts))
+    (c.requires.there i 0 c.loop-class-test.true)
 
 pub try_take-requires-clause-above : goal.try_take-requires-clause-above
 try_take-requires-clause-above c =
@@ -32,12 +33,14 @@ try_take-requires-clause-above c =
 pub put_all-requires : goal.put_all-requires
 put_all-requires c =
     let i = c.loop-class.class-index in
-    tried_pile c.args.seat.now.view c.loop-class.seat.view (take i c.args.classes.now) c.loop-class.pile.items c.loop-class.invariant.taken (get_or c.args.classes.now i 0) c.try_take.new.self.view c.in-Err.ensures.busy.0
+    tried_pile c.args.seat.now.view c.loop-class.seat.view (take i c.args.classes.now) c.loop-class.pile.items c.loop-class.invariant.taken
+    (get_or c.args.classes.now i 0) c.try_take.new.self.view c.in-Err.ensures.busy.0
 
 pub returns-in-Err-clause-busy : goal.returns-in-Err-clause-busy
 returns-in-Err-clause-busy c =
     let i = c.loop-class.class-index in (
-      put_back c.args.seat.now.view c.loop-class.seat.view (take i c.args.classes.now) c.loop-class.pile.items c.loop-class.invariant.taken (get_or c.args.classes.now i 0) c.try_take.new.self.view c.put_all.new.seat.view
+      put_back c.args.seat.now.view c.loop-class.seat.view (take i c.args.classes.now) c.loop-class.pile.items c.loop-class.invariant.taken
+          (get_or c.args.classes.now i 0) c.try_take.new.self.view c.put_all.new.seat.view
           c.in-Err.ensures.busy.0 c.put_all.ensures.put,
       c.put_all.ensures.put.rests,
       c.put_all.ensures.blank,
@@ -54,7 +57,9 @@ loop-class-preserved c =
     let more : take (i + 1) xs ≡ take i xs ++ x ∷ [] = ap (λ (k : ℕ). take k xs) (sym next) ∙ take-suc xs i 0 lt in
     let below = inv.below lt in
     let there = subst (λ (n : ℕ). x < n) (ap length (sym inv.taken.looked.starts)) (c.requires.there i 0 lt) in
-    let taken = taken_more c.args.seat.now.view c.loop-class.seat.view (take i xs) c.loop-class.pile.items inv.taken x c.in-Ok.cell c.try_take.new.self.view c.push_reserved.new.self.items below there c.in-Ok.ensures.ok.0 c.in-Ok.ensures.ok.1 c.push_reserved.ensures.items in
+    let taken = taken_more c.args.seat.now.view c.loop-class.seat.view
+    (take i xs) c.loop-class.pile.items inv.taken x c.in-Ok.cell c.try_take.new.self.view c.push_reserved.new.self.items below there c.in-Ok.ensures.ok.0
+    c.in-Ok.ensures.ok.1 c.push_reserved.ensures.items in
     let held = ap (λ (v : View). v.held) c.in-Ok.ensures.ok.0 in
     let n = ap length c.push_reserved.ensures.items in
     let m = length-append c.loop-class.pile.items ((x, c.in-Ok.cell) ∷ []) in
@@ -70,12 +75,14 @@ loop-class-preserved c =
 
 pub returns-clause-ok : goal.returns-clause-ok
 returns-clause-ok c =
-    subst (λ (done : List ℕ). HasTaken done c.args.seat.now.view c.loop-class.seat.view c.loop-class.pile.items) (take_all c.loop-class.class-index c.args.classes.now c.loop-class-test.false) c.loop-class.invariant.taken
+    subst (λ (done : List ℕ). HasTaken done c.args.seat.now.view c.loop-class.seat.view c.loop-class.pile.items)
+    (take_all c.loop-class.class-index c.args.classes.now c.loop-class-test.false) c.loop-class.invariant.taken
 
 pub returns-in-Err-clause-tries : goal.returns-in-Err-clause-tries
 returns-in-Err-clause-tries c =
     let x = get_or c.args.classes.now c.loop-class.class-index 0 in
-    busy_tried c.args.seat.now.view c.loop-class.seat.view c.try_take.new.self.view c.put_all.new.seat.view x c.loop-class.invariant.tries c.in-Err.ensures.busy.0 c.put_all.ensures.takes
+    busy_tried c.args.seat.now.view c.loop-class.seat.view c.try_take.new.self.view c.put_all.new.seat.view x c.loop-class.invariant.tries
+    c.in-Err.ensures.busy.0 c.put_all.ensures.takes
 
 pub returns-in-Err-clause-found : goal.returns-in-Err-clause-found
 returns-in-Err-clause-found c =

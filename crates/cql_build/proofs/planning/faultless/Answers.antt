@@ -21,4 +21,5 @@ pub returns-clause-refused : goal.returns-clause-refused
 returns-clause-refused c =
     let parts = c.args.parts.now in
     let form = plan_form c.in_ok-raw.raw in
-    if_err_then c.checked.result (IsLimited form (length parts)) (IsWhyRefused (parts_of parts)) (λ r h. limited_refused parts form r c.requires.none c.in_ok-raw.ensures h) c.checked.ensures.refused
+    if_err_then c.checked.result (IsLimited form (length parts)) (IsWhyRefused (parts_of parts))
+    (λ r h. limited_refused parts form r c.requires.none c.in_ok-raw.ensures h) c.checked.ensures.refused

@@ -21,10 +21,13 @@ returns-clause-grew c = λ ks e.
     let v = c.as_slice-sources.ensures.value in
     let some : 0 < length q.items = let l = sources_length c.args.query.now.items.items in let s = c.requires.some in let a = c.requires.each in
     omega (arith, l, s, a) in
-    let g = subst (λ (l : List Source). Grew c.args.raw.now c.windows.new.raw [] (window_decls q.name 1 is) (window_ops q.name 1 (sources_of l) (queues_of_uses u.inputs u.all u.past (streams_of (sources_of l))))) v c.in_ok-windows.ensures.grew in
-    let h = subst (λ (l : List Source). Grew c.windows.new.raw c.crosses.new.raw [] (product_decls q.name is) (cross_ops q.name (w_name q.name 1) 2 (drop 1 (sources_of l)))) v c.in_ok-last.ensures.grew in
+    let g = subst (λ (l : List Source). Grew c.args.raw.now c.windows.new.raw [] (window_decls q.name 1 is)
+    (window_ops q.name 1 (sources_of l) (queues_of_uses u.inputs u.all u.past (streams_of (sources_of l))))) v c.in_ok-windows.ensures.grew in
+    let h = subst (λ (l : List Source). Grew c.windows.new.raw c.crosses.new.raw [] (product_decls q.name is)
+    (cross_ops q.name (w_name q.name 1) 2 (drop 1 (sources_of l)))) v c.in_ok-last.ensures.grew in
     let last = c.in_ok-last.ensures.last ∙ ap (λ (l : List Source). cross_last q.name (w_name q.name 1) 2 (drop 1 (sources_of l))) v in
     on_ok_then c.tail.result
-    (query_made c.args.raw.now c.windows.new.raw c.crosses.new.raw c.tail.new.raw q.name q.kind q.columns q.items q.condition ks u.inputs u.all u.past is c.in_ok-last.last c.count-used.result
+    (query_made c.args.raw.now c.windows.new.raw c.crosses.new.raw c.tail.new.raw q.name q.kind q.columns q.items q.condition ks u.inputs u.all u.past is
+    c.in_ok-last.last c.count-used.result
     e some c.count-used.ensures last g h)
     c.tail.ensures

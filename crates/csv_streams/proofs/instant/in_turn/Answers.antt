@@ -9,5 +9,6 @@ returns-clause-sorted c = c.in_ok-sort_by_key.ensures.sorted stamp (always_retur
 
 pub returns-clause-same : goal.returns-clause-same
 returns-clause-same c t =
-    same_at c.in_ok-sorted.sorted.items c.sort_by_key.new.self.items (c.sort_by_key.ensures.stable stamp (always_returns_same _ _ _ (λ a r f k. search (rules, of_calls)))) t
+    same_at c.in_ok-sorted.sorted.items c.sort_by_key.new.self.items
+    (c.sort_by_key.ensures.stable stamp (always_returns_same _ _ _ (λ a r f k. search (rules, of_calls)))) t
     ∙ ap (λ (l : List (ℤ × List ℤ)). at_instant l t) c.in_ok-sorted.ensures.items

@@ -6,4 +6,5 @@ use Rattle.csv_streams.proofs.outcome.print_tables.Given as goal
 
 abbrev pub invariant-loop-place : goal.invariant-loop-place
 invariant-loop-place l =
-    l.to ++ tables_text (table_names (drop l.place l.decls)) (map rows_of (drop l.place l.tables)) ≡ l.initial.to ++ tables_text (table_names l.decls) (map rows_of l.tables)
+    l.to ++ tables_text (table_names (drop l.place l.decls)) (map rows_of (drop l.place l.tables)) ≡ l.initial.to ++ tables_text (table_names l.decls)
+    (map rows_of l.tables)

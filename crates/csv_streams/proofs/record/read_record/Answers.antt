@@ -7,7 +7,8 @@ use Rattle.csv_streams.proofs.record.read_record.Goals.{in-Ok, in-Err}
 pub returns-clause-ok : goal.returns-clause-ok
 returns-clause-ok c =
     elim c.match-read_byte_record.branch [
-      | in-Ok w ↦ rw w.result-is (λ bytes recs h. reads-next bytes recs c.args.rdr.now c.read_byte_record.new.self (fields_of c.read_byte_record.new.row) w.in-Ok.found h
+      | in-Ok w ↦ rw w.result-is
+          (λ bytes recs h. reads-next bytes recs c.args.rdr.now c.read_byte_record.new.self (fields_of c.read_byte_record.new.row) w.in-Ok.found h
           ((rw w.in-Ok.is at c.read_byte_record.ensures.reads) h.trims h.ready)
           ((rw w.in-Ok.is at c.read_byte_record.ensures.ready) h.trims))
       | in-Err w ↦ rw w.result-is (search rules)

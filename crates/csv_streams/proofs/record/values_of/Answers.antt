@@ -15,7 +15,8 @@ returns-in_err-values-clause-fault c =
     let below : place < c.args.width = search (rules, arith) in
     let is : value_or c.args.rec (place + 1) (option_and_then number_in (field_at fields place)) ≡ Err c.in_err-values.field-0.0 = search rules in
     let p = err_from_is_err_and c.from_residual.result c.from_residual.ensures.1 in
-    rw (p.1, p.2) (fields-fault c.args.rec c.args.width place fields (take place c.loop-place.values) c.in_err-values.field-0.0 below c.requires.within c.loop-place.invariant.read is)
+    rw (p.1, p.2) (fields-fault c.args.rec c.args.width place fields
+    (take place c.loop-place.values) c.in_err-values.field-0.0 below c.requires.within c.loop-place.invariant.read is)
 
 pub loop-place-preserved : goal.loop-place-preserved
 loop-place-preserved c =

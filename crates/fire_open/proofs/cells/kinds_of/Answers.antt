@@ -7,8 +7,10 @@ use Rattle.fire_open.proofs.cells.kinds_of.Goals as goal
 
 pub loop-table-preserved : goal.loop-table-preserved
 loop-table-preserved c =
-    kinds_next (λ n. slice_index_or c.args.classes.now n 0) c.args.class c.loop-table.table c.at-of.result.now _ c.args.tables.now c.at-decl.result.now c.loop-table.kinds c.add_kind.new.kinds
+    kinds_next (λ n. slice_index_or c.args.classes.now n 0) c.args.class c.loop-table.table c.at-of.result.now _ c.args.tables.now c.at-decl.result.now
+    c.loop-table.kinds c.add_kind.new.kinds
     (omega arith) (c.at-of.ensures 0) (c.at-decl.ensures c.at-decl.result.now) refl c.loop-table.invariant c.in_ok-add_kind.ensures
 
 pub returns : goal.returns
-returns c = c.loop-table.invariant ∙ ap (kinds_from (λ n. slice_index_or c.args.classes.now n 0) c.args.class 0) (take_all c.loop-table.table c.args.tables.now (omega arith))
+returns c = c.loop-table.invariant
+    ∙ ap (kinds_from (λ n. slice_index_or c.args.classes.now n 0) c.args.class 0) (take_all c.loop-table.table c.args.tables.now (omega arith))

@@ -24,10 +24,12 @@ ports_of-requires-clause-there c k d lt =
 
 pub ports_of-requires-clause-own : goal.ports_of-requires-clause-own
 ports_of-requires-clause-own c k d lt =
-    own_there c.args.plan.now c.args.op c.args.classes.now c.in_ok-tables.tables c.len-count.result c.in_ok-own.own c.requires.there c.requires.classes c.in_ok-tables.ensures
+    own_there c.args.plan.now c.args.op c.args.classes.now c.in_ok-tables.tables c.len-count.result c.in_ok-own.own c.requires.there c.requires.classes
+    c.in_ok-tables.ensures
     c.len-count.ensures c.in_ok-own.ensures k d lt
 
 pub returns : goal.returns
 returns c =
-    homes_are c.args.plan.now c.args.op c.args.classes.now c.in_ok-tables.tables c.in_ok-own.own c.len-count.result c.in_ok-ports.ports c.requires.there c.requires.classes
+    homes_are c.args.plan.now c.args.op c.args.classes.now c.in_ok-tables.tables c.in_ok-own.own c.len-count.result c.in_ok-ports.ports c.requires.there
+    c.requires.classes
     c.in_ok-tables.ensures c.in_ok-own.ensures c.in_ok-ports.ensures.tables c.in_ok-ports.ensures.places

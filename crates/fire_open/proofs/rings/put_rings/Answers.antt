@@ -12,5 +12,6 @@ put_each-requires-clause-own c = λ q.
 
 pub returns : goal.returns
 returns c =
-    subst (λ (o : OwnCaps). OnOk c.put_each.result (AreRung (room_of c.args.plan.now c.args.cap o) c.args.tasks.now c.put_each.new.tasks c.args.links.now (length c.args.links.now)))
+    subst (λ (o : OwnCaps). OnOk c.put_each.result
+    (AreRung (room_of c.args.plan.now c.args.cap o) c.args.tasks.now c.put_each.new.tasks c.args.links.now (length c.args.links.now)))
     c.in_ok-own.ensures c.put_each.ensures

@@ -24,4 +24,5 @@ returns-clause-room c =
     let d = c.at.result.now in
     let q = c.at-queue.result.now in
     c.capacity.ensures
-    ∙ ap (λ n. capacity c.args.cap (own_of c.args.own.now) n) (queue_found c.raw.result.now c.args.plan.now c.args.link d q c.raw.ensures.raw c.requires.link (c.at.ensures d) (c.at-queue.ensures q))
+    ∙ ap (λ n. capacity c.args.cap (own_of c.args.own.now) n)
+    (queue_found c.raw.result.now c.args.plan.now c.args.link d q c.raw.ensures.raw c.requires.link (c.at.ensures d) (c.at-queue.ensures q))

@@ -12,7 +12,8 @@ whole_list-requires c = let m = c.loop-place.invariant.left.many in let t = c.re
 
 pub loop-place-preserved : goal.loop-place-preserved
 loop-place-preserved c =
-    ins_next c.args.queues.now c.args.places.now c.loop-place.place-index c.loop-place.ins c.push.new.self c.loop-place.queues c.whole_list.new.queues c.whole_list.result
+    ins_next c.args.queues.now c.args.places.now c.loop-place.place-index c.loop-place.ins c.push.new.self c.loop-place.queues c.whole_list.new.queues
+    c.whole_list.result
     c.requires.apart c.loop-place.invariant (omega arith) c.whole_list.ensures.inlet c.whole_list.ensures.left c.in_ok-push.ensures.ok
 
 pub returns-clause-ins : goal.returns-clause-ins
@@ -21,4 +22,5 @@ returns-clause-ins c =
 
 pub returns-clause-left : goal.returns-clause-left
 returns-clause-left c =
-    subst (λ ps. HasLeft ps c.args.queues.now c.loop-place.queues) (take_all c.loop-place.place-index c.args.places.now (omega arith)) c.loop-place.invariant.left
+    subst (λ ps. HasLeft ps c.args.queues.now c.loop-place.queues)
+    (take_all c.loop-place.place-index c.args.places.now (omega arith)) c.loop-place.invariant.left

@@ -11,7 +11,8 @@ task_of-requires-clause-queues c = c.loop-op.invariant.left.many ∙ c.requires.
 
 pub loop-op-preserved : goal.loop-op-preserved
 loop-op-preserved c =
-    so_far_more c.args.plan.now c.args.queues.now c.args.kinds.now c.loop-op.op c.loop-op.tasks c.push.new.self c.loop-op.queues c.task_of.new.queues c.in_ok-task.task
+    so_far_more c.args.plan.now c.args.queues.now c.args.kinds.now c.loop-op.op c.loop-op.tasks c.push.new.self c.loop-op.queues c.task_of.new.queues
+    c.in_ok-task.task
     c.requires.valid c.loop-op.invariant c.in_ok-task.ensures.task c.in_ok-task.ensures.left c.in_ok-push.ensures.ok
 
 pub returns : goal.returns

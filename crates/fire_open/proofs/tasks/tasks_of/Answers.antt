@@ -10,7 +10,8 @@ use Rattle.fire_open.proofs.tasks.tasks_of.Goals as goal
 
 pub tasks_by-requires-clause-queues : goal.tasks_by-requires-clause-queues
 tasks_by-requires-clause-queues c =
-    queues_long c.args.plan.now c.raw-raw.ensures.valid c.args.inputs c.requires c.in_ok-queues.queues (c.in_ok-queues.ensures ∙ ap (λ (q : PlanForm). first_lines q c.args.inputs) c.raw-raw.ensures.raw)
+    queues_long c.args.plan.now c.raw-raw.ensures.valid c.args.inputs c.requires c.in_ok-queues.queues
+    (c.in_ok-queues.ensures ∙ ap (λ (q : PlanForm). first_lines q c.args.inputs) c.raw-raw.ensures.raw)
 
 pub tasks_by-requires-clause-kinds : goal.tasks_by-requires-clause-kinds
 tasks_by-requires-clause-kinds c = ap length (c.in_ok-kinds.ensures ∙ ap queue_kinds c.raw-raw.ensures.raw) ∙ kinds_many c.args.plan.now
@@ -23,7 +24,8 @@ returns c =
     if_ok _ _ c.tasks_by.result
     (λ ts h. all_fresh c.args.plan.now c.raw-raw.ensures.valid c.args.inputs c.requires ts _ c.in_ok-queues.queues c.in_ok-kinds.kinds h
     (let m = ops_many c.raw-raw.result.now c.args.plan.now c.raw-raw.ensures.raw in omega (arith, m))
-    (c.in_ok-queues.ensures ∙ ap (λ (q : PlanForm). first_lines q c.args.inputs) c.raw-raw.ensures.raw) (c.in_ok-kinds.ensures ∙ ap queue_kinds c.raw-raw.ensures.raw))
+    (c.in_ok-queues.ensures ∙ ap (λ (q : PlanForm). first_lines q c.args.inputs) c.raw-raw.ensures.raw)
+    (c.in_ok-kinds.ensures ∙ ap queue_kinds c.raw-raw.ensures.raw))
     c.tasks_by.ensures
 
 pub overflow_cast-count : goal.overflow_cast-count

@@ -21,20 +21,26 @@ pub at-class-requires : goal.at-class-requires
 at-class-requires c =
     let j = c.loop-port.port in
     let h = c.at-to.result.now in
-    c.requires.can.there j h (slice_get-get_or c.args.tables.now j h (let a = c.loop-port-test.true in let n = c.len-port-end.ensures in omega (arith, a, n)) ∙ ap Some (sym (c.at-to.ensures h)))
+    c.requires.can.there j h
+    (slice_get-get_or c.args.tables.now j h (let a = c.loop-port-test.true in let n = c.len-port-end.ensures in omega (arith, a, n))
+    ∙ ap Some (sym (c.at-to.ensures h)))
 
 pub add_at-requires-clause-there : goal.add_at-requires-clause-there
 add_at-requires-clause-there c =
     let j = c.loop-port.port in
     let h = c.at-to.result.now in
-    let x = cell_now c.args.op c.args.classes.now c.args.tables.now (list_at c.args.adds.now) j c.args.cells.now c.loop-port.cells h c.requires.can (slice_get-get_or c.args.tables.now j h (let a = c.loop-port-test.true in let n = c.len-port-end.ensures in omega (arith, a, n)) ∙ ap Some (sym (c.at-to.ensures h))) c.loop-port.invariant.added in
+    let x = cell_now c.args.op c.args.classes.now c.args.tables.now (list_at c.args.adds.now) j c.args.cells.now c.loop-port.cells h c.requires.can
+    (slice_get-get_or c.args.tables.now j h (let a = c.loop-port-test.true in let n = c.len-port-end.ensures in omega (arith, a, n))
+    ∙ ap Some (sym (c.at-to.ensures h))) c.loop-port.invariant.added in
     subst (λ k. k < length c.loop-port.cells) (sym (c.at-class.ensures 0)) x.there
 
 pub add_at-requires-clause-takes : goal.add_at-requires-clause-takes
 add_at-requires-clause-takes c d =
     let j = c.loop-port.port in
     let h = c.at-to.result.now in
-    let x = cell_now c.args.op c.args.classes.now c.args.tables.now (list_at c.args.adds.now) j c.args.cells.now c.loop-port.cells h c.requires.can (slice_get-get_or c.args.tables.now j h (let a = c.loop-port-test.true in let n = c.len-port-end.ensures in omega (arith, a, n)) ∙ ap Some (sym (c.at-to.ensures h))) c.loop-port.invariant.added in
+    let x = cell_now c.args.op c.args.classes.now c.args.tables.now (list_at c.args.adds.now) j c.args.cells.now c.loop-port.cells h c.requires.can
+    (slice_get-get_or c.args.tables.now j h (let a = c.loop-port-test.true in let n = c.len-port-end.ensures in omega (arith, a, n))
+    ∙ ap Some (sym (c.at-to.ensures h))) c.loop-port.invariant.added in
     let same = c.at_mut.ensures.value _ ∙ c.loop-port.invariant.emptied.left.rest j (omega arith) in
     subst (λ k. TakesRows (slice_index_or c.loop-port.cells k d).kinds h.table c.at_mut.result.now) (sym (c.at-class.ensures 0))
     (subst (TakesRows (slice_index_or c.loop-port.cells (slice_index_or c.args.classes.now h.place 0) d).kinds h.table) (sym same) (x.takes d))
@@ -44,7 +50,9 @@ loop-port-preserved c =
     let j = c.loop-port.port in
     let h = c.at-to.result.now in
     let rows = list_at c.args.adds.now in
-    let g : slice_get c.args.tables.now j ≡ Some h = slice_get-get_or c.args.tables.now j h (let a = c.loop-port-test.true in let n = c.len-port-end.ensures in omega (arith, a, n)) ∙ ap Some (sym (c.at-to.ensures h)) in
+    let g : slice_get c.args.tables.now j ≡ Some h =
+    slice_get-get_or c.args.tables.now j h (let a = c.loop-port-test.true in let n = c.len-port-end.ensures in omega (arith, a, n))
+    ∙ ap Some (sym (c.at-to.ensures h)) in
     let same = c.at_mut.ensures.value _ ∙ c.loop-port.invariant.emptied.left.rest j (omega arith) in
     let many = c.requires.many in
     let lt = c.loop-port-test.true in
@@ -52,7 +60,8 @@ loop-port-preserved c =
     let x = cell_now c.args.op c.args.classes.now c.args.tables.now rows j c.args.cells.now c.loop-port.cells h c.requires.can g c.loop-port.invariant.added in
     let long = ap length c.loop-port.invariant.added in
     record {
-      emptied = emptied_next j c.args.adds.now c.loop-port.adds _ c.loop-port.invariant.emptied (omega (arith, many, lt, end)) (ap (λ r. slice_set c.loop-port.adds j r) c.in_ok-add_at.ensures.blank);
+      emptied = emptied_next j c.args.adds.now c.loop-port.adds _ c.loop-port.invariant.emptied (omega (arith, many, lt, end))
+          (ap (λ r. slice_set c.loop-port.adds j r) c.in_ok-add_at.ensures.blank);
       added = added_step c.args.op c.args.classes.now c.args.tables.now rows j c.args.cells.now c.loop-port.cells c.add_at.new.cells h g
           (class_below c.args.classes.now c.args.tables.now rows c.args.cells.now j h c.requires.can g) c.loop-port.invariant.added
           (c.in_ok-add_at.ensures.ok ∙ ap (λ k. cells_with_rows c.args.op h.table k c.at_mut.result.now c.loop-port.cells) (c.at-class.ensures 0)

@@ -26,7 +26,8 @@ take_outs-requires-clause-some c =
     record {
       h = s.0;
       lines_are = c.loop-op.invariant.lines s.0 s.1;
-      outs_are = k.each c.loop-op.op t (omega arith) (slice_get-get_or c.loop-op.tasks c.loop-op.op t (omega (arith, now, first, lt, end)) ∙ ap Some (sym (c.at_mut.ensures.value t)));
+      outs_are = k.each c.loop-op.op t (omega arith)
+          (slice_get-get_or c.loop-op.tasks c.loop-op.op t (omega (arith, now, first, lt, end)) ∙ ap Some (sym (c.at_mut.ensures.value t)));
     }
 
 pub loop-op-preserved : goal.loop-op-preserved
@@ -38,7 +39,8 @@ loop-op-preserved c =
     let lt = c.loop-op-test.true in
     let end = c.len-op-end.ensures in
     let t = c.at_mut.result.now in
-    let got : slice_get c.loop-op.tasks c.loop-op.op ≡ Some t = slice_get-get_or c.loop-op.tasks c.loop-op.op t (omega (arith, now, first, lt, end)) ∙ ap Some (sym (c.at_mut.ensures.value t)) in
+    let got : slice_get c.loop-op.tasks c.loop-op.op ≡ Some t = slice_get-get_or c.loop-op.tasks c.loop-op.op t (omega (arith, now, first, lt, end))
+    ∙ ap Some (sym (c.at_mut.ensures.value t)) in
     record {
       lines = λ h hv. c.take_outs.ensures h (c.loop-op.invariant.lines h hv) ((c.loop-op.invariant.tasks h hv).each c.loop-op.op t (omega arith) got);
       tasks = λ h hv. tasks_next c.args.plan.now h c.loop-op.op c.loop-op.tasks _ (c.loop-op.invariant.tasks h hv);
@@ -46,4 +48,5 @@ loop-op-preserved c =
 
 pub returns : goal.returns
 returns c =
-    λ h hv. subst (λ n. AreOuts c.args.plan.now h n 0 c.loop-op.lines) (let m = hv.many in let end = c.len-op-end.ensures in let f = c.loop-op-test.false in omega (arith, m, end, f)) (c.loop-op.invariant.lines h hv)
+    λ h hv. subst (λ n. AreOuts c.args.plan.now h n 0 c.loop-op.lines)
+    (let m = hv.many in let end = c.len-op-end.ensures in let f = c.loop-op-test.false in omega (arith, m, end, f)) (c.loop-op.invariant.lines h hv)

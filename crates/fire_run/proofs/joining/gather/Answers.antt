@@ -12,5 +12,6 @@ put_back-requires c =
 pub loop-place-preserved : goal.loop-place-preserved
 loop-place-preserved c =
     let b = c.index_mut.result.now in
-    gathering_next c.args.bundles.now.items c.loop-place.bundles.items c.args.tasks.now c.loop-place.tasks c.put_back.new.tasks c.loop-place.place b _ c.loop-place.invariant (omega arith)
+    gathering_next c.args.bundles.now.items c.loop-place.bundles.items c.args.tasks.now c.loop-place.tasks c.put_back.new.tasks c.loop-place.place b _
+    c.loop-place.invariant (omega arith)
     c.index_mut.ensures.value refl c.put_back.ensures

@@ -34,7 +34,8 @@ pub loop-bundle-preserved : goal.loop-bundle-preserved
 loop-bundle-preserved c =
     let i = c.loop-bundle.invariant in
     record {
-      merging = merging_next c.args.bundles.items c.loop-bundle.bundles.items c.pop-in-loop-bundle.new.self.items c.in-Some-pop.bundle _ _ i.merging c.in-Some-pop.ensures.items c.join.ensures.both;
+      merging = merging_next c.args.bundles.items c.loop-bundle.bundles.items c.pop-in-loop-bundle.new.self.items c.in-Some-pop.bundle _ _ i.merging
+          c.in-Some-pop.ensures.items c.join.ensures.both;
       lot = c.join.ensures.lot ∙ i.lot;
       rests = ap (λ (v : View). v.held) c.join.ensures.both ∙ i.rests;
     }

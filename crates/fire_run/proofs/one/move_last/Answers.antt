@@ -16,7 +16,8 @@ pub move_one-requires-clause-task : goal.move_one-requires-clause-task
 move_one-requires-clause-task g c =
     let t = c.at_mut.result.now in
     subst (λ cells. IsTask (plan_form c.args.plan.now) (added (plan_form c.args.plan.now) (logs_of cells) t.op) t) (sym c.loop-back.invariant.stay)
-    (turn_of (plan_form c.args.plan.now) (added (plan_form c.args.plan.now) (logs_of c.args.cells.now)) c.args.tasks.now c.loop-back.tasks c.loop-back.back (c.len-count.result - 1 - c.loop-back.back) t c.requires.tasks c.requires.room c.loop-back.invariant.walked (omega arith) (c.at_mut.ensures.value t)).task
+    (turn_of (plan_form c.args.plan.now) (added (plan_form c.args.plan.now) (logs_of c.args.cells.now)) c.args.tasks.now c.loop-back.tasks c.loop-back.back
+    (c.len-count.result - 1 - c.loop-back.back) t c.requires.tasks c.requires.room c.loop-back.invariant.walked (omega arith) (c.at_mut.ensures.value t)).task
 
 pub move_one-requires-clause-cells : goal.move_one-requires-clause-cells
 move_one-requires-clause-cells g c = subst (AreClassCells (plan_form c.args.plan.now)) (sym c.loop-back.invariant.stay) c.requires.cells
@@ -24,44 +25,55 @@ move_one-requires-clause-cells g c = subst (AreClassCells (plan_form c.args.plan
 pub move_one-requires-clause-fine : goal.move_one-requires-clause-fine
 move_one-requires-clause-fine g c =
     let t = c.at_mut.result.now in
-    (turn_of (plan_form c.args.plan.now) (added (plan_form c.args.plan.now) (logs_of c.args.cells.now)) c.args.tasks.now c.loop-back.tasks c.loop-back.back (c.len-count.result - 1 - c.loop-back.back) t c.requires.tasks c.requires.room c.loop-back.invariant.walked (omega arith) (c.at_mut.ensures.value t)).fine
+    (turn_of (plan_form c.args.plan.now) (added (plan_form c.args.plan.now) (logs_of c.args.cells.now)) c.args.tasks.now c.loop-back.tasks c.loop-back.back
+    (c.len-count.result - 1 - c.loop-back.back) t c.requires.tasks c.requires.room c.loop-back.invariant.walked (omega arith) (c.at_mut.ensures.value t)).fine
 
 pub move_one-requires-clause-few : goal.move_one-requires-clause-few
 move_one-requires-clause-few g c =
     let t = c.at_mut.result.now in
-    (turn_of (plan_form c.args.plan.now) (added (plan_form c.args.plan.now) (logs_of c.args.cells.now)) c.args.tasks.now c.loop-back.tasks c.loop-back.back (c.len-count.result - 1 - c.loop-back.back) t c.requires.tasks c.requires.room c.loop-back.invariant.walked (omega arith) (c.at_mut.ensures.value t)).few
+    (turn_of (plan_form c.args.plan.now) (added (plan_form c.args.plan.now) (logs_of c.args.cells.now)) c.args.tasks.now c.loop-back.tasks c.loop-back.back
+    (c.len-count.result - 1 - c.loop-back.back) t c.requires.tasks c.requires.room c.loop-back.invariant.walked (omega arith) (c.at_mut.ensures.value t)).few
 
 pub move_one-requires-clause-room : goal.move_one-requires-clause-room
 move_one-requires-clause-room g c =
     let t = c.at_mut.result.now in
-    (turn_of (plan_form c.args.plan.now) (added (plan_form c.args.plan.now) (logs_of c.args.cells.now)) c.args.tasks.now c.loop-back.tasks c.loop-back.back (c.len-count.result - 1 - c.loop-back.back) t c.requires.tasks c.requires.room c.loop-back.invariant.walked (omega arith) (c.at_mut.ensures.value t)).room
+    (turn_of (plan_form c.args.plan.now) (added (plan_form c.args.plan.now) (logs_of c.args.cells.now)) c.args.tasks.now c.loop-back.tasks c.loop-back.back
+    (c.len-count.result - 1 - c.loop-back.back) t c.requires.tasks c.requires.room c.loop-back.invariant.walked (omega arith) (c.at_mut.ensures.value t)).room
 
 pub returns-then-branch-clause-tasks : goal.returns-then-branch-clause-tasks
 returns-then-branch-clause-tasks g c =
     let t = c.at_mut.result.now in
     let e = c.in_ok-move_one.ensures in
-    (moved_one (plan_form c.args.plan.now) c.args.cells.now c.move_one.new.cells c.args.tasks.now c.loop-back.tasks c.loop-back.back (c.len-count.result - 1 - c.loop-back.back) t c.move_one.new.task c.in_ok-move_one.field-0 c.requires.tasks c.requires.single c.loop-back.invariant.walked (omega arith) (c.at_mut.ensures.value t) e.task e.same
+    (moved_one (plan_form c.args.plan.now) c.args.cells.now c.move_one.new.cells c.args.tasks.now c.loop-back.tasks c.loop-back.back
+    (c.len-count.result - 1 - c.loop-back.back) t c.move_one.new.task c.in_ok-move_one.field-0 c.requires.tasks c.requires.single c.loop-back.invariant.walked
+    (omega arith) (c.at_mut.ensures.value t) e.task e.same
     (subst (λ cells. HaveAdded (plan_form c.args.plan.now) t.op cells c.move_one.new.cells) c.loop-back.invariant.stay e.cells) e.moved c.if-branch.true).tasks
 
 pub returns-then-branch-clause-same : goal.returns-then-branch-clause-same
 returns-then-branch-clause-same g c =
     let t = c.at_mut.result.now in
     let e = c.in_ok-move_one.ensures in
-    (moved_one (plan_form c.args.plan.now) c.args.cells.now c.move_one.new.cells c.args.tasks.now c.loop-back.tasks c.loop-back.back (c.len-count.result - 1 - c.loop-back.back) t c.move_one.new.task c.in_ok-move_one.field-0 c.requires.tasks c.requires.single c.loop-back.invariant.walked (omega arith) (c.at_mut.ensures.value t) e.task e.same
+    (moved_one (plan_form c.args.plan.now) c.args.cells.now c.move_one.new.cells c.args.tasks.now c.loop-back.tasks c.loop-back.back
+    (c.len-count.result - 1 - c.loop-back.back) t c.move_one.new.task c.in_ok-move_one.field-0 c.requires.tasks c.requires.single c.loop-back.invariant.walked
+    (omega arith) (c.at_mut.ensures.value t) e.task e.same
     (subst (λ cells. HaveAdded (plan_form c.args.plan.now) t.op cells c.move_one.new.cells) c.loop-back.invariant.stay e.cells) e.moved c.if-branch.true).same
 
 pub returns-then-branch-clause-moved : goal.returns-then-branch-clause-moved
 returns-then-branch-clause-moved g c =
     let t = c.at_mut.result.now in
     let e = c.in_ok-move_one.ensures in
-    (moved_one (plan_form c.args.plan.now) c.args.cells.now c.move_one.new.cells c.args.tasks.now c.loop-back.tasks c.loop-back.back (c.len-count.result - 1 - c.loop-back.back) t c.move_one.new.task c.in_ok-move_one.field-0 c.requires.tasks c.requires.single c.loop-back.invariant.walked (omega arith) (c.at_mut.ensures.value t) e.task e.same
+    (moved_one (plan_form c.args.plan.now) c.args.cells.now c.move_one.new.cells c.args.tasks.now c.loop-back.tasks c.loop-back.back
+    (c.len-count.result - 1 - c.loop-back.back) t c.move_one.new.task c.in_ok-move_one.field-0 c.requires.tasks c.requires.single c.loop-back.invariant.walked
+    (omega arith) (c.at_mut.ensures.value t) e.task e.same
     (subst (λ cells. HaveAdded (plan_form c.args.plan.now) t.op cells c.move_one.new.cells) c.loop-back.invariant.stay e.cells) e.moved c.if-branch.true).number
 
 pub returns-then-branch-clause-cells : goal.returns-then-branch-clause-cells
 returns-then-branch-clause-cells g c =
     let t = c.at_mut.result.now in
     let e = c.in_ok-move_one.ensures in
-    (moved_one (plan_form c.args.plan.now) c.args.cells.now c.move_one.new.cells c.args.tasks.now c.loop-back.tasks c.loop-back.back (c.len-count.result - 1 - c.loop-back.back) t c.move_one.new.task c.in_ok-move_one.field-0 c.requires.tasks c.requires.single c.loop-back.invariant.walked (omega arith) (c.at_mut.ensures.value t) e.task e.same
+    (moved_one (plan_form c.args.plan.now) c.args.cells.now c.move_one.new.cells c.args.tasks.now c.loop-back.tasks c.loop-back.back
+    (c.len-count.result - 1 - c.loop-back.back) t c.move_one.new.task c.in_ok-move_one.field-0 c.requires.tasks c.requires.single c.loop-back.invariant.walked
+    (omega arith) (c.at_mut.ensures.value t) e.task e.same
     (subst (λ cells. HaveAdded (plan_form c.args.plan.now) t.op cells c.move_one.new.cells) c.loop-back.invariant.stay e.cells) e.moved c.if-branch.true).came
 
 pub loop-back-preserved : goal.loop-back-preserved
@@ -69,7 +81,8 @@ loop-back-preserved g c =
     let t = c.at_mut.result.now in
     let e = c.in_ok-move_one.ensures in
     record {
-      walked = walked_next c.args.tasks.now c.loop-back.tasks c.loop-back.back (c.len-count.result - 1 - c.loop-back.back) t c.move_one.new.task c.loop-back.invariant.walked (omega arith)
+      walked = walked_next c.args.tasks.now c.loop-back.tasks c.loop-back.back
+          (c.len-count.result - 1 - c.loop-back.back) t c.move_one.new.task c.loop-back.invariant.walked (omega arith)
           (c.at_mut.ensures.value t) (e.still c.if-branch.false) (e.done c.if-branch.false);
       stay = e.stay c.if-branch.false ∙ c.loop-back.invariant.stay;
     }
@@ -77,16 +90,19 @@ loop-back-preserved g c =
 pub returns-clause-tasks : goal.returns-clause-tasks
 returns-clause-tasks g c =
     subst (λ cells. AreTasks (plan_form c.args.plan.now) (added (plan_form c.args.plan.now) (logs_of cells)) c.loop-back.tasks) (sym c.loop-back.invariant.stay)
-    (still_tasks (plan_form c.args.plan.now) (added (plan_form c.args.plan.now) (logs_of c.args.cells.now)) c.args.tasks.now c.loop-back.tasks c.loop-back.invariant.walked.same c.requires.tasks)
+    (still_tasks (plan_form c.args.plan.now)
+    (added (plan_form c.args.plan.now) (logs_of c.args.cells.now)) c.args.tasks.now c.loop-back.tasks c.loop-back.invariant.walked.same c.requires.tasks)
 
 pub returns-clause-same : goal.returns-clause-same
 returns-clause-same g c = still_ends c.args.tasks.now c.loop-back.tasks c.loop-back.invariant.walked.same
 
 pub returns-clause-moved : goal.returns-clause-moved
-returns-clause-moved g c = one_false (all_moves c.args.tasks.now) (all_moves c.loop-back.tasks) (still_all_moves c.args.tasks.now c.loop-back.tasks c.loop-back.invariant.walked.same)
+returns-clause-moved g c =
+    one_false (all_moves c.args.tasks.now) (all_moves c.loop-back.tasks) (still_all_moves c.args.tasks.now c.loop-back.tasks c.loop-back.invariant.walked.same)
 
 pub returns-clause-cells : goal.returns-clause-cells
-returns-clause-cells g c = subst (HaveMoved (plan_form c.args.plan.now) c.args.cells.now) (sym c.loop-back.invariant.stay) (none_moved (plan_form c.args.plan.now) c.args.cells.now)
+returns-clause-cells g c =
+    subst (HaveMoved (plan_form c.args.plan.now) c.args.cells.now) (sym c.loop-back.invariant.stay) (none_moved (plan_form c.args.plan.now) c.args.cells.now)
 
 pub returns-clause-still : goal.returns-clause-still
 returns-clause-still g c = λ f. c.loop-back.invariant.walked.same

@@ -7,18 +7,24 @@ pub fire_at-requires-clause-task : goal.fire_at-requires-clause-task
 fire_at-requires-clause-task g c = (added (plan_form c.args.plan.now) (logs_of c.args.cells.now) c.args.task.now.op, c.requires.task)
 
 pub add_to_cells-requires-clause-many : goal.add_to_cells-requires-clause-many
-add_to_cells-requires-clause-many g c = (c.in_ok-fire_at.ensures.owes (added (plan_form c.args.plan.now) (logs_of c.args.cells.now) c.args.task.now.op) c.requires.task).many
+add_to_cells-requires-clause-many g c =
+    (c.in_ok-fire_at.ensures.owes (added (plan_form c.args.plan.now) (logs_of c.args.cells.now) c.args.task.now.op) c.requires.task).many
 
 pub add_to_cells-requires-clause-can : goal.add_to_cells-requires-clause-can
-add_to_cells-requires-clause-can g c = owed (plan_form c.args.plan.now) c.args.task.now c.fire_at.new.task c.args.cells.now c.requires.task c.in_ok-fire_at.ensures c.requires.cells
+add_to_cells-requires-clause-can g c =
+    owed (plan_form c.args.plan.now) c.args.task.now c.fire_at.new.task c.args.cells.now c.requires.task c.in_ok-fire_at.ensures c.requires.cells
 
 pub returns-clause-task : goal.returns-clause-task
 returns-clause-task g c =
-    task_after (plan_form c.args.plan.now) c.requires.valid c.args.task.now c.fire_at.new.task c.args.cells.now c.add_to_cells.new.cells c.requires.task c.in_ok-fire_at.ensures
-    (owed (plan_form c.args.plan.now) c.args.task.now c.fire_at.new.task c.args.cells.now c.requires.task c.in_ok-fire_at.ensures c.requires.cells) c.in_ok-add_to_cells.ensures.logged
+    task_after (plan_form c.args.plan.now) c.requires.valid c.args.task.now c.fire_at.new.task c.args.cells.now c.add_to_cells.new.cells c.requires.task
+    c.in_ok-fire_at.ensures
+    (owed (plan_form c.args.plan.now) c.args.task.now c.fire_at.new.task c.args.cells.now c.requires.task c.in_ok-fire_at.ensures c.requires.cells)
+    c.in_ok-add_to_cells.ensures.logged
     c.add_to_cells.new.adds c.in_ok-add_to_cells.ensures.blank
 
 pub returns-clause-cells : goal.returns-clause-cells
 returns-clause-cells g c =
-    added_after (plan_form c.args.plan.now) c.requires.valid c.args.task.now c.fire_at.new.task c.args.cells.now c.add_to_cells.new.cells c.requires.task c.in_ok-fire_at.ensures
-    (owed (plan_form c.args.plan.now) c.args.task.now c.fire_at.new.task c.args.cells.now c.requires.task c.in_ok-fire_at.ensures c.requires.cells) c.in_ok-add_to_cells.ensures.logged
+    added_after (plan_form c.args.plan.now) c.requires.valid c.args.task.now c.fire_at.new.task c.args.cells.now c.add_to_cells.new.cells c.requires.task
+    c.in_ok-fire_at.ensures
+    (owed (plan_form c.args.plan.now) c.args.task.now c.fire_at.new.task c.args.cells.now c.requires.task c.in_ok-fire_at.ensures c.requires.cells)
+    c.in_ok-add_to_cells.ensures.logged

@@ -4,7 +4,8 @@ use Rattle.fire_run.proofs.running.run_plan.Goals as goal
 
 pub loop-net-init : goal.loop-net-init
 loop-net-init g c =
-    ran_first c.args.plan.now c.args.inputs (capacity c.args.cap (first_cap c.args.caps.now)) c.in_ok-net-2.rounds c.in_ok-net.net c.in_ok-net-2.net c.in_ok-net.ensures.valid c.in_ok-net.ensures.net
+    ran_first c.args.plan.now c.args.inputs
+    (capacity c.args.cap (first_cap c.args.caps.now)) c.in_ok-net-2.rounds c.in_ok-net.net c.in_ok-net-2.net c.in_ok-net.ensures.valid c.in_ok-net.ensures.net
     c.in_ok-net-2.ensures.stays c.in_ok-net-2.ensures.rounds
 
 pub close-requires-clause-net : goal.close-requires-clause-net

@@ -20,7 +20,8 @@ loop-place-preserved c =
           subst (λ ts. Taking c.args.workers c.args.part c.args.tasks.now (i + 1) ts c.if-op-workers.own) (sym w.tasks-is)
           (subst (λ own. Taking c.args.workers c.args.part c.args.tasks.now (i + 1) (set c.loop-place.tasks i w.replace.new.dest) own) (sym (w.own-is
           ∙ w.in_ok-push.ensures.ok))
-          (taking_in c.args.workers c.args.part i c.args.tasks.now c.loop-place.tasks c.loop-place.own t w.replace.new.dest c.loop-place.invariant there here empty
+          (taking_in c.args.workers c.args.part i c.args.tasks.now c.loop-place.tasks c.loop-place.own t w.replace.new.dest
+          c.loop-place.invariant there here empty
           (ap (λ (x : Task). x.op % c.args.workers) same ∙ w.if-op-workers.true))))
       | else-op-workers w ↦
           (let t = c.at.result.now in

@@ -6,7 +6,8 @@ use Rattle.fire_tasks.proofs.ports.send_at.Goals as goal
 
 pub returns-in_default-clause-sent : goal.returns-in_default-clause-sent
 returns-in_default-clause-sent c =
-    none_sent c.args.outs.now c.args.pending.now c.args.port c.pop.new.self (c.in_default.ensures.1 ∙ sym c.in_default.ensures.0 ∙ c.at_mut.ensures.value c.pop.new.self) c.in_default.ensures.1 c.requires.pending
+    none_sent c.args.outs.now c.args.pending.now c.args.port c.pop.new.self
+    (c.in_default.ensures.1 ∙ sym c.in_default.ensures.0 ∙ c.at_mut.ensures.value c.pop.new.self) c.in_default.ensures.1 c.requires.pending
 
 pub returns-in-None-clause-sent : goal.returns-in-None-clause-sent
 returns-in-None-clause-sent c =
@@ -25,7 +26,8 @@ returns-in_ok-push-in-Some-2-clause-sent c =
     refused_sent c.args.outs.now c.args.pending.now c.args.port x c.pop.new.self back c.requires.outs
     (outs_set c.args.outs.now c.args.port x (c.in_ok-push.ensures.same ∙ ap out_end (c.at_mut-2.ensures.value x)))
     (c.in_ok-push-in-Some-2.ensures.ok
-    ∙ ap (λ l. l ++ c.in-Some-2.back ∷ []) (c.at_mut-in-Some-2.ensures.value [] ∙ get_or-set_same c.args.pending.now c.args.port c.pop.new.self [] c.requires.pending)
+    ∙ ap (λ l. l ++ c.in-Some-2.back ∷ [])
+    (c.at_mut-in-Some-2.ensures.value [] ∙ get_or-set_same c.args.pending.now c.args.port c.pop.new.self [] c.requires.pending)
     ∙ ap (λ y. c.pop.new.self ++ y ∷ []) s.0 ∙ sym c.in-Some.ensures ∙ c.at_mut.ensures.value back)
     (s.1 ∙ ap sent_of (c.at_mut-2.ensures.value x)) s.2
 
@@ -39,4 +41,5 @@ pub returns-in_ok-push-in-Some-2-clause-goes : goal.returns-in_ok-push-in-Some-2
 returns-in_ok-push-in-Some-2-clause-goes c =
     let x = c.at_mut-2.result.now in
     λ some free.
-    absurd (none_some c.in_ok-push.field-0 c.in-Some-2.back (c.in_ok-push.ensures.room (subst HasRoom (sym (c.at_mut-2.ensures.value x)) (free x))) c.in-Some-2.is)
+    absurd (none_some c.in_ok-push.field-0 c.in-Some-2.back
+    (c.in_ok-push.ensures.room (subst HasRoom (sym (c.at_mut-2.ensures.value x)) (free x))) c.in-Some-2.is)

@@ -28,5 +28,6 @@ add_rows-requires-clause-can g c =
 
 pub returns-clause-taken : goal.returns-clause-taken
 returns-clause-taken g c =
-    taken_at (plan_form c.args.plan.now) c.args.task.now c.fire_at.new.task c.args.pile.now.items c.add_rows.new.pile.items c.add_rows.new.adds c.in_ok-fire_at.ensures
+    taken_at (plan_form c.args.plan.now) c.args.task.now c.fire_at.new.task c.args.pile.now.items c.add_rows.new.pile.items c.add_rows.new.adds
+    c.in_ok-fire_at.ensures
     c.in_ok-add_rows.ensures.logged c.requires.pile.named c.in_ok-add_rows.ensures.blank

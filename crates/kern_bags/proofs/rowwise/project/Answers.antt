@@ -10,5 +10,6 @@ project_change-requires c = subst (CanProjectFlat (terms c.args.list.now)) (sym 
 
 pub returns-clause-ok : goal.returns-clause-ok
 returns-clause-ok c =
-    on_ok_weaker c.give_change.result (projects_flat (terms c.args.list.now) c.args.item c.change_of.result c.in_ok-change.change c.args.out.now c.give_change.new.out
+    on_ok_weaker c.give_change.result
+    (projects_flat (terms c.args.list.now) c.args.item c.change_of.result c.in_ok-change.change c.args.out.now c.give_change.new.out
     c.change_of.ensures c.in_ok-change.ensures) c.give_change.ensures.ok

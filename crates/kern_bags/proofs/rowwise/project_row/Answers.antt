@@ -7,4 +7,5 @@ use Rattle.kern_bags.proofs.rowwise.project_row.Goals as goal
 pub eval-requires : goal.eval-requires
 eval-requires c =
     subst (λ (r : List ℤ). IsWithin (length r) 0 (term c.e-item.result)) (sym c.values.ensures.values)
-    (within_at (IsWithin (length c.args.row.now) 0) c.as_slice-e-items.result.now c.loop-i.i c.e-item.result (rw c.as_slice-e-items.ensures c.requires.within) (omega arith) c.e-item.is)
+    (within_at (IsWithin (length c.args.row.now) 0) c.as_slice-e-items.result.now c.loop-i.i c.e-item.result (rw c.as_slice-e-items.ensures c.requires.within)
+    (omega arith) c.e-item.is)

@@ -36,13 +36,16 @@ loop-row-preserved c =
                 record {
                   within = omega arith;
                   merged =
-                      rw (w.place-is, w.left-is) (row_left rows others u v n p q x left (omega arith) at from m y w.push.new.self (omega arith) (w'.at.ensures y) e w.in_ok-push.ensures.ok);
+                      rw (w.place-is, w.left-is)
+                      (row_left rows others u v n p q x left (omega arith) at from m y w.push.new.self (omega arith)
+                      (w'.at.ensures y) e w.in_ok-push.ensures.ok);
                 }
             | else-place-len-via-else-place-len w' ↦
                 record {
                   within = omega arith;
                   merged =
-                      rw (w.place-is, w.left-is) (row_last rows others u v n p q x left (omega arith) at from m w.push.new.self (omega arith) w.in_ok-push.ensures.ok);
+                      rw (w.place-is, w.left-is)
+                      (row_last rows others u v n p q x left (omega arith) at from m w.push.new.self (omega arith) w.in_ok-push.ensures.ok);
                 }
           ]
     ]

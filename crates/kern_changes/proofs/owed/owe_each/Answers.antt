@@ -24,7 +24,8 @@ loop-place-preserved c =
     let x = debt_at xs n in
     let f = owing c.args.plus.now c.args.minus.now in
     let back = c.loop-place.invariant.back in
-    let lt : n < length xs = let e = c.len-place-end.ensures in let t = c.loop-place-test.true in let a = c.loop-place.invariant.all in omega (arith, e, t, a) in
+    let lt : n < length xs = let e = c.len-place-end.ensures in let t = c.loop-place-test.true in let a =
+    c.loop-place.invariant.all in omega (arith, e, t, a) in
     let done = c.in_ok-owe_at.ensures in
     record {
       all = ap length done ∙ length-set xs n (f x) ∙ c.loop-place.invariant.all;

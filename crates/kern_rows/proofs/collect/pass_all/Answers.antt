@@ -30,7 +30,8 @@ returns-in_err-give-clause-err c =
     let t = took ws c.share.result c.in-Some.port c.in-Some.item c.loop-port.state c.take.new.self
     (c.share.ensures ∙ ap (λ q. slice_index_or ws q 0) c.turn.ensures) c.in-Some.ensures.turns c.take.ensures.owed in
     on_err c.from_residual.result
-    (given_part ws c.args.state.now c.loop-port.state c.take.new.self c.in-Some.port c.in-Some.item c.args.out.now c.loop-port.out c.give.new.out c.loop-port.invariant t
+    (given_part ws c.args.state.now c.loop-port.state c.take.new.self c.in-Some.port c.in-Some.item c.args.out.now c.loop-port.out c.give.new.out
+    c.loop-port.invariant t
     c.in_err-give.ensures.err)
 
 pub returns-clause-contents : goal.returns-clause-contents

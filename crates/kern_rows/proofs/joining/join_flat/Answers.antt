@@ -6,7 +6,8 @@ use Rattle.kern_rows.proofs.joining.join_flat.Goals as goal
 
 pub returns-in-One : goal.returns-in-One
 returns-in-One c =
-    subst (λ f. JoinsFlat c.args.place f c.args.owed.now c.args.owed.now (One c.in-One.row)) (sym c.in-One.is) (row_passes c.args.place c.in-One.row c.args.owed.now)
+    subst (λ f. JoinsFlat c.args.place f c.args.owed.now c.args.owed.now (One c.in-One.row)) (sym c.in-One.is)
+    (row_passes c.args.place c.in-One.row c.args.owed.now)
 
 pub returns-in-Batch : goal.returns-in-Batch
 returns-in-Batch c =

@@ -12,7 +12,8 @@ returns-in-Flat-clause-err c =
 
 pub returns-in-Pack-clause-ok : goal.returns-in-Pack-clause-ok
 returns-in-Pack-clause-ok c =
-    on_ok_weaker c.join_pack.result (λ j. subst (λ x. JoinsItem c.args.place x c.args.owed.now c.join_pack.new.owed c.args.out.now c.join_pack.new.out) (sym c.in-Pack.is)
+    on_ok_weaker c.join_pack.result
+    (λ j. subst (λ x. JoinsItem c.args.place x c.args.owed.now c.join_pack.new.owed c.args.out.now c.join_pack.new.out) (sym c.in-Pack.is)
     (item_pack c.args.place c.in-Pack.pack c.args.owed.now c.join_pack.new.owed c.args.out.now c.join_pack.new.out j)) c.join_pack.ensures.ok
 
 pub returns-in-Pack-clause-err : goal.returns-in-Pack-clause-err

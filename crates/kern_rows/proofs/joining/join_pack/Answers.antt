@@ -11,7 +11,8 @@ loop-flat-init c = flats_start c.args.place c.args.owed.now c.args.out.now
 
 pub loop-flat-preserved : goal.loop-flat-preserved
 loop-flat-preserved c =
-    flats_step c.args.place c.loop-flat.yielded c.in-Some.flat c.in_ok-given.given c.args.owed.now c.loop-flat.owed c.join_flat.new.owed c.args.out.now c.loop-flat.out
+    flats_step c.args.place c.loop-flat.yielded c.in-Some.flat c.in_ok-given.given c.args.owed.now c.loop-flat.owed c.join_flat.new.owed c.args.out.now
+    c.loop-flat.out
     c.push.new.self c.loop-flat.invariant c.in_ok-given.ensures c.in_ok-push.ensures.ok
 
 pub returns-in_err-given-clause-err : goal.returns-in_err-given-clause-err
@@ -35,5 +36,6 @@ returns-in_err-push-clause-err c =
     c.loop-flat.yielded_by in
     let f : c.loop-flat.yielded ≡ take n c.args.pack = sym (map-id c.loop-flat.yielded) ∙ e ∙ ap (take n) c.into_vec-flat-items.ensures in
     on_err c.from_residual-in_err-push.result
-    (flats_part c.args.place n c.loop-flat.yielded c.args.pack c.args.owed.now c.loop-flat.owed c.args.out.now c.loop-flat.out c.push.new.self c.loop-flat.invariant f
+    (flats_part c.args.place n c.loop-flat.yielded c.args.pack c.args.owed.now c.loop-flat.owed c.args.out.now c.loop-flat.out c.push.new.self
+    c.loop-flat.invariant f
     c.in_err-push.ensures.err)

@@ -30,15 +30,18 @@ returns-in_err-give-clause-err c =
     let t = took ws 1 c.in-Some.port c.in-Some.pack c.loop-port.state c.take.new.self
     (sym (one_at c.args.ports c.loop-port.state.turns.port c.loop-port.invariant.keeps.shape.joined.turn.0)) c.in-Some.ensures.turns c.take.ensures.owed in
     on_err c.from_residual.result
-    (given_part ws c.args.state.now c.loop-port.state c.take.new.self c.in-Some.port c.in-Some.pack c.args.out.now c.loop-port.out c.give.new.out c.loop-port.invariant t
+    (given_part ws c.args.state.now c.loop-port.state c.take.new.self c.in-Some.port c.in-Some.pack c.args.out.now c.loop-port.out c.give.new.out
+    c.loop-port.invariant t
     c.in_err-give.ensures.err)
 
 pub returns-clause-contents : goal.returns-clause-contents
 returns-clause-contents c =
-    joined_end (ones c.args.ports) c.args.state.now c.loop-port.state c.take.new.self c.args.out.now c.loop-port.out c.loop-port.invariant c.in_default.ensures.turns
+    joined_end (ones c.args.ports) c.args.state.now c.loop-port.state c.take.new.self c.args.out.now c.loop-port.out c.loop-port.invariant
+    c.in_default.ensures.turns
     c.take.ensures.owed
 
 pub returns-clause-plain : goal.returns-clause-plain
 returns-clause-plain c =
-    plain_end (ones c.args.ports) c.args.state.now c.loop-port.state c.take.new.self c.args.out.now c.loop-port.out c.loop-port.invariant c.in_default.ensures.turns
+    plain_end (ones c.args.ports) c.args.state.now c.loop-port.state c.take.new.self c.args.out.now c.loop-port.out c.loop-port.invariant
+    c.in_default.ensures.turns
     c.take.ensures.owed

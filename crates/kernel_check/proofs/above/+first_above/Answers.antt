@@ -12,5 +12,6 @@ returns-in-Fused t c =
     let a : c.first_above-number.result ≡ found c.in-Fused.first.value = c.first_above-number.ensures ∙ ap found c.deref-in-Fused.ensures in
     let b : c.first_above-in-Fused.result ≡ found c.in-Fused.second.value = c.first_above-in-Fused.ensures ∙ ap found c.deref-in-Fused-2.ensures in
     c.either.ensures ∙ ap (λ o. either o c.first_above-in-Fused.result) a ∙ ap (λ o. either (found c.in-Fused.first.value) o) b
-    ∙ sym (ap (λ k. first_above c.args.most (part_numbers c.args.limit k)) (ap kern_of c.in-Fused.is ∙ kern_of-fused c.in-Fused.first c.in-Fused.second c.in-Fused.at)
+    ∙ sym (ap (λ k. first_above c.args.most (part_numbers c.args.limit k))
+    (ap kern_of c.in-Fused.is ∙ kern_of-fused c.in-Fused.first c.in-Fused.second c.in-Fused.at)
     ∙ first_above-append c.args.most (part_numbers c.args.limit (kern_of c.in-Fused.first.value)) (part_numbers c.args.limit (kern_of c.in-Fused.second.value)))

@@ -15,8 +15,10 @@ returns-in-None c =
 pub returns-in-Some : goal.returns-in-Some
 returns-in-Some c =
     let o = types_of (kern_of c.args.kernel.now) c.args.reads.now in
-    let some : MayAnswer (length c.args.writes.now) o (Some c.in-Some.found) = subst (MayAnswer (length c.args.writes.now) o) c.in-Some.is c.in_ok-types.ensures in (
+    let some : MayAnswer (length c.args.writes.now) o (Some c.in-Some.found) =
+    subst (MayAnswer (length c.args.writes.now) o) c.in-Some.is c.in_ok-types.ensures in (
       λ h. let e =
-          c.is_found.ensures.0 h in found_fits (kern_of c.args.kernel.now) c.args.reads.now c.args.writes.now c.args.vars.now (length c.args.writes.now) c.in-Some.found some e.0 e.1,
+          c.is_found.ensures.0 h in found_fits (kern_of c.args.kernel.now) c.args.reads.now c.args.writes.now c.args.vars.now
+          (length c.args.writes.now) c.in-Some.found some e.0 e.1,
       λ f. c.is_found.ensures.1 (fits_found (kern_of c.args.kernel.now) c.args.reads.now c.args.writes.now c.args.vars.now c.in-Some.found some f),
     )

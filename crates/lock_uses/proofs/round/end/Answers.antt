@@ -6,4 +6,5 @@ use Rattle.lock_uses.proofs.round.end.Goals as goal
 
 pub returns : goal.returns
 returns c a b one two =
-    total a b c.args.first.view c.args.second.view one two c.close.new.cells (subst (λ (v : View). HasGrown v c.close.new.cells) c.join.ensures.both c.close.ensures)
+    total a b c.args.first.view c.args.second.view one two c.close.new.cells
+    (subst (λ (v : View). HasGrown v c.close.new.cells) c.join.ensures.both c.close.ensures)

@@ -20,5 +20,6 @@ pub returns : goal.returns
 returns c =
     let ks = c.args.names.now in
     let items = c.as_slice-each-items.result.now in
-    let all : all_known ks (map expression items) ≡ true = sym c.items.invariant ∙ ap (all_known ks) (none_left expression items c.items.each-index (omega arith)) in
+    let all : all_known ks (map expression items) ≡ true = sym c.items.invariant
+    ∙ ap (all_known ks) (none_left expression items c.items.each-index (omega arith)) in
     rw (← c.as_slice-each-items.ensures.value) (sym all)

@@ -8,5 +8,6 @@ pub units-preserved : goal.units-preserved
 units-preserved c = λ us h.
     let units = c.args.units.now in
     let i = c.units.i in
-    judging-next (units_judged 1 us (program_of units)) i units c.index-units-i.result c.units.above c.unit_and_name.new.above c.units-test.true c.index-units-i.is (c.units.invariant us h)
+    judging-next (units_judged 1 us
+    (program_of units)) i units c.index-units-i.result c.units.above c.unit_and_name.new.above c.units-test.true c.index-units-i.is (c.units.invariant us h)
     (λ above k. c.in-Ok.ensures.judged (suc i) above k) (λ above k. c.in-Ok.ensures.known above k)

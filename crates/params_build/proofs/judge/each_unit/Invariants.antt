@@ -6,4 +6,5 @@ use Rattle.params_build.proofs.Judging.{Judging}
 use Rattle.params_build.proofs.judge.each_unit.Given as goal
 
 abbrev pub invariant-units : goal.invariant-units
-invariant-units l = (us : Above) → CountsParameters l.initial.above us → Judging (units_judged 1 us (program_of l.units)) l.i (program_of (drop l.i l.units)) l.above
+invariant-units l = (us : Above) → CountsParameters l.initial.above us
+    → Judging (units_judged 1 us (program_of l.units)) l.i (program_of (drop l.i l.units)) l.above

@@ -8,5 +8,6 @@ abbrev pub invariant-steps-items : goal.invariant-steps-items
 invariant-steps-items l = record {
   kept : l.known.items ≡ l.initial.known.items;
   judged : (k : ℕ) (us : Above) → CountsParameters l.above us
-      → steps_judged k us l.initial.known.items (steps_in_turn (map step_of (drop l.each-index l.each-items))) ≡ steps_judged k us l.initial.known.items (steps_in_turn (map step_of l.each-items));
+      → steps_judged k us l.initial.known.items (steps_in_turn (map step_of (drop l.each-index l.each-items))) ≡ steps_judged k us l.initial.known.items
+      (steps_in_turn (map step_of l.each-items));
 }

@@ -21,4 +21,5 @@ returns-clause-means c =
     let tree = program_of c.in_ok-tree.field-0.tree.units.items in
     let q = plain.program_of c.in_ok-program.program.units.items in
     plans-give c.args.text.now tree q c.in_ok-program.plan
-    (made-plans c.args.text.now tree c.in_ok-tree.field-0.plain c.in_ok-tree.field-0.from q c.in_ok-program.plan c.in_ok-tree.ensures.made c.in_ok-program.ensures.plan)
+    (made-plans c.args.text.now tree c.in_ok-tree.field-0.plain c.in_ok-tree.field-0.from q c.in_ok-program.plan c.in_ok-tree.ensures.made
+    c.in_ok-program.ensures.plan)

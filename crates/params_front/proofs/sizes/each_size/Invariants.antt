@@ -7,5 +7,6 @@ use Rattle.params_front.proofs.sizes.each_size.Given as goal
 abbrev pub invariant-units : goal.invariant-units
 invariant-units l = record {
   within : l.at ≤ length l.tokens;
-  sized : l.sizes.items ++ bytes_of_each (map unit_tokens (drop l.each-index l.units)) (map mark_of (drop l.at l.tokens)) ≡ bytes_of_each (map unit_tokens l.units) (map mark_of l.tokens);
+  sized : l.sizes.items ++ bytes_of_each (map unit_tokens (drop l.each-index l.units)) (map mark_of (drop l.at l.tokens)) ≡ bytes_of_each
+      (map unit_tokens l.units) (map mark_of l.tokens);
 }

@@ -29,6 +29,7 @@ units-preserved c =
     let no : name_eq c.index-units-i.result.name n ≡ false = search rules in
     record {
       within = omega (arith, within);
-      same = λ sizes depth zs m. sym (ap (λ j. adding (take j us) sizes depth n zs m) one ∙ passed-at us i c.index-units-i.result sizes depth n zs m lt c.index-units-i.is no)
+      same = λ sizes depth zs m. sym
+          (ap (λ j. adding (take j us) sizes depth n zs m) one ∙ passed-at us i c.index-units-i.result sizes depth n zs m lt c.index-units-i.is no)
           ∙ c.units.invariant.same sizes depth zs m;
     }

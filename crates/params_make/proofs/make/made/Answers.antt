@@ -36,7 +36,8 @@ returns c =
     let none : c.new.result ≡ [] = search rules in
     let r = c.in_ok-make.ensures nothing_made c.new-making.ensures in (
       r.0,
-      top-made us i (length (take i us)) c.index-units-last.result c.args.sizes.now c.new.result (name_written c.in_ok-make.field-0) r.0 len c.index-units-last.is there none r.1,
+      top-made us i (length (take i us)) c.index-units-last.result c.args.sizes.now c.new.result
+          (name_written c.in_ok-make.field-0) r.0 len c.index-units-last.is there none r.1,
       r.2.text,
       r.2.from,
     )

@@ -11,5 +11,6 @@ returns-in-Bin t c =
     let l = c.in-Bin.left in
     let r = c.in-Bin.right in
     let parts : value env (expression c.args.c.now) ≡ applied c.in-Bin.op (value env (expression l.value)) (value env (expression r.value)) =
-    ap (λ e. value env (expression e)) c.in-Bin.is ∙ ap (value env) (expression-bin c.in-Bin.op l r) ∙ value-bin env c.in-Bin.op (expression l.value) (expression r.value) in
+    ap (λ e. value env (expression e)) c.in-Bin.is ∙ ap (value env) (expression-bin c.in-Bin.op l r)
+    ∙ value-bin env c.in-Bin.op (expression l.value) (expression r.value) in
     rw parts (search rules)

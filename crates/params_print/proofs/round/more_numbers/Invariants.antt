@@ -8,5 +8,6 @@ use Rattle.params_print.proofs.round.more_numbers.Given as goal
 abbrev pub invariant-cs : goal.invariant-cs
 invariant-cs l = record {
   fit : AreFit (map expression (drop l.each-index l.cs));
-  same : l.to ++ spaced (more_numbers (counts_in l.known (map expression (drop l.each-index l.cs)))) ≡ l.initial.to ++ spaced (more_numbers (counts_in l.known (map expression l.cs)));
+  same : l.to ++ spaced (more_numbers (counts_in l.known (map expression (drop l.each-index l.cs)))) ≡ l.initial.to ++ spaced
+      (more_numbers (counts_in l.known (map expression l.cs)));
 }

@@ -9,4 +9,5 @@ pub returns-in-Some-clause-fault : goal.returns-in-Some-clause-fault
 returns-in-Some-clause-fault c =
     let p = plan_form c.args.raw.now in
     variable-again p c.in-Some.name c.requires.queues_once
-    (subst (IsFirst IsNew (variable_names p)) c.in-Some.is (subst (λ ns. IsFirst IsNew ns c.in_ok-name.field-0) c.in_ok-names.ensures c.in_ok-name.ensures.first))
+    (subst (IsFirst IsNew (variable_names p)) c.in-Some.is
+    (subst (λ ns. IsFirst IsNew ns c.in_ok-name.field-0) c.in_ok-names.ensures c.in_ok-name.ensures.first))

@@ -14,7 +14,8 @@ loop-op-preserved c = remains_by-next _ _ _ _ _ c.loop-op-test.true c.op-item.is
 
 pub returns-in-Some : goal.returns-in-Some
 returns-in-Some c =
-    subst (λ (l : List Op). Along (λ before op. UndeclaredAt c.args.queues.now c.args.variables.now op) [] (op_forms l) (Some c.in-Some.named)) c.as_slice-op-items.ensures
+    subst (λ (l : List Op). Along (λ before op. UndeclaredAt c.args.queues.now c.args.variables.now op) [] (op_forms l)
+    (Some c.in-Some.named)) c.as_slice-op-items.ensures
     (remains_by-found _ _ _ _ _ _ c.loop-op-test.true c.op-item.is c.in-Some.ensures c.loop-op.invariant)
 
 pub returns : goal.returns

@@ -19,7 +19,8 @@ returns-in-Some-undeclared_in-clause-fault c =
     (names-once p c.requires.queues_once
     c.requires.variables_once
     (subst (IsFirst IsNew (labels p.ops)) c.in_default.is c.in_ok-label.ensures))
-    (undeclared-among p c.args.queues.now c.args.variables.now c.requires.queues c.requires.variables (Some c.in-Some-undeclared_in.named) c.in-Some-undeclared_in.ensures)
+    (undeclared-among p c.args.queues.now c.args.variables.now c.requires.queues c.requires.variables
+    (Some c.in-Some-undeclared_in.named) c.in-Some-undeclared_in.ensures)
 
 pub returns-clause-named : goal.returns-clause-named
 returns-clause-named c =

@@ -12,17 +12,20 @@ loop-op-init c = refl
 
 pub loop-op-preserved : goal.loop-op-preserved
 loop-op-preserved c =
-    over-next c.args.most (λ (l : List Op). kernel_numbers c.args.limit (op_forms (l))) (λ (x : Op). part_numbers c.args.limit (kern_of x.kernel)) (λ x xs. refl) c.as_slice-op-items.result.now c.loop-op.op-index c.op-item.result
+    over-next c.args.most (λ (l : List Op). kernel_numbers c.args.limit (op_forms (l))) (λ (x : Op). part_numbers c.args.limit (kern_of x.kernel))
+    (λ x xs. refl) c.as_slice-op-items.result.now c.loop-op.op-index c.op-item.result
     c.loop-op-test.true c.op-item.is c.in_default.ensures c.loop-op.invariant
 
 pub returns-in-Some : goal.returns-in-Some
 returns-in-Some c =
-    over-found c.args.most (λ (l : List Op). kernel_numbers c.args.limit (op_forms (l))) (λ (x : Op). part_numbers c.args.limit (kern_of x.kernel)) (λ x xs. refl) c.as_slice-op-items.result.now c.loop-op.op-index c.op-item.result c.in-Some.number
+    over-found c.args.most (λ (l : List Op). kernel_numbers c.args.limit (op_forms (l))) (λ (x : Op). part_numbers c.args.limit (kern_of x.kernel))
+    (λ x xs. refl) c.as_slice-op-items.result.now c.loop-op.op-index c.op-item.result c.in-Some.number
     c.loop-op-test.true c.op-item.is c.in-Some.ensures c.loop-op.invariant
     ∙ ap (λ (l : List Op). first_above c.args.most (kernel_numbers c.args.limit (op_forms (l)))) c.as_slice-op-items.ensures
 
 pub returns : goal.returns
 returns c =
-    over-end c.args.most (λ (l : List Op). kernel_numbers c.args.limit (op_forms (l))) (λ (x : Op). part_numbers c.args.limit (kern_of x.kernel)) (λ x xs. refl) c.as_slice-op-items.result.now c.loop-op.op-index
+    over-end c.args.most (λ (l : List Op). kernel_numbers c.args.limit (op_forms (l))) (λ (x : Op). part_numbers c.args.limit (kern_of x.kernel))
+    (λ x xs. refl) c.as_slice-op-items.result.now c.loop-op.op-index
     c.loop-op-test.false refl c.loop-op.invariant
     ∙ ap (λ (l : List Op). first_above c.args.most (kernel_numbers c.args.limit (op_forms (l)))) c.as_slice-op-items.ensures

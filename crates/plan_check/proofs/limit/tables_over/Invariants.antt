@@ -6,4 +6,5 @@ use Rattle.plan_check.proofs.limit.tables_over.Given as goal
 
 abbrev pub invariant-loop-table : goal.invariant-loop-table
 invariant-loop-table l =
-    first_above l.most (flat_map (λ t. best_rows t.kind) (drop l.table-index l.table-items)) ≡ first_above l.most (flat_map (λ t. best_rows t.kind) (l.table-items))
+    first_above l.most (flat_map (λ t. best_rows t.kind) (drop l.table-index l.table-items)) ≡ first_above l.most
+    (flat_map (λ t. best_rows t.kind) (l.table-items))

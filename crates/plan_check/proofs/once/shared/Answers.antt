@@ -19,4 +19,5 @@ returns c =
     let p = plan_form c.args.raw.now in
     subst (Shared p) (sym c.as_variable.ensures)
     (as-map Variable (IsFirst (λ before v. IsApart p v) (variable_names p)) c.first_shared-found.result
-    (shared_first p c.args.wiring.now c.in_ok-names.names c.len.result c.requires.named c.requires.wired c.in_ok-names.ensures c.len.ensures c.first_shared-found.result c.first_shared-found.ensures))
+    (shared_first p c.args.wiring.now c.in_ok-names.names c.len.result c.requires.named c.requires.wired c.in_ok-names.ensures c.len.ensures
+    c.first_shared-found.result c.first_shared-found.ensures))

@@ -21,4 +21,5 @@ returns c =
     let p = plan_form c.args.raw.now in
     subst (WrittenTwice p) (sym c.as_queue.ensures)
     (as-map Queue (IsFirst (λ before q. IsUsedOnce (count q (decl_names p.inputs)) (total (writes_it q) p.ops)) (queue_names p)) c.used_twice-found.result
-    (written_first p c.args.wiring.now c.in_ok-names.names c.len.result c.len-inputs.result c.requires.named c.requires.wired c.in_ok-names.ensures c.len.ensures c.len-inputs.ensures c.used_twice-found.result c.used_twice-found.ensures))
+    (written_first p c.args.wiring.now c.in_ok-names.names c.len.result c.len-inputs.result c.requires.named c.requires.wired c.in_ok-names.ensures
+    c.len.ensures c.len-inputs.ensures c.used_twice-found.result c.used_twice-found.ensures))

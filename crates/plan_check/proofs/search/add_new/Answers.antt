@@ -18,7 +18,8 @@ loop-name-preserved c =
       seen = new-next c.as_slice-name-items.result.now c.loop-name.name-index c.name-item.result c.loop-name.set c.insert.new.self
           c.loop-name-test.true c.name-item.is z c.in_ok-insert.ensures.added c.loop-name.invariant.seen;
       rest =
-          remains-next _ _ _ _ c.loop-name-test.true c.name-item.is (ap (count c.name-item.result) (sym c.loop-name.invariant.seen) ∙ z) c.loop-name.invariant.rest;
+          remains-next _ _ _ _ c.loop-name-test.true c.name-item.is
+          (ap (count c.name-item.result) (sym c.loop-name.invariant.seen) ∙ z) c.loop-name.invariant.rest;
     }
 
 pub returns-then-not-branch-clause-first : goal.returns-then-not-branch-clause-first

@@ -22,7 +22,10 @@ pub returns : goal.returns
 returns c =
     let p = c.args.plan.now in
     let users : c.in_ok-users.users ≡ table_users p = c.in_ok-users.ensures in
-    let numbers : c.as_slice-2.result.now ≡ class_numbers (table_users p) = c.as_slice-2.ensures ∙ (are_numbers c.in_ok-users.users c.in_ok-classes.classes c.in_ok-classes.ensures ∙ ap class_numbers users) in
-    let names : table_names c.as_slice.result.now ≡ table_names p.tables = ap table_names (c.as_slice.ensures ∙ ap (λ (q : PlanForm). q.tables) c.raw.ensures.raw) in
+    let numbers : c.as_slice-2.result.now ≡ class_numbers (table_users p) = c.as_slice-2.ensures
+    ∙ (are_numbers c.in_ok-users.users c.in_ok-classes.classes c.in_ok-classes.ensures ∙ ap class_numbers users) in
+    let names : table_names c.as_slice.result.now ≡ table_names p.tables =
+    ap table_names (c.as_slice.ensures ∙ ap (λ (q : PlanForm). q.tables) c.raw.ensures.raw) in
     subst (λ (cs : List ℤ). OnOk c.print_lines.result (c.print_lines.new.to ≡ c.args.to.now ++ class_lines 0 cs (table_names p.tables) cs)) numbers
-    (subst (λ (ts : List Name). OnOk c.print_lines.result (c.print_lines.new.to ≡ c.args.to.now ++ class_lines 0 c.as_slice-2.result.now ts c.as_slice-2.result.now)) names c.print_lines.ensures)
+    (subst (λ (ts : List Name). OnOk c.print_lines.result
+    (c.print_lines.new.to ≡ c.args.to.now ++ class_lines 0 c.as_slice-2.result.now ts c.as_slice-2.result.now)) names c.print_lines.ensures)

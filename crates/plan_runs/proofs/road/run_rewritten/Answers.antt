@@ -20,6 +20,8 @@ returns-clause-passes g c source is =
     let early = Rose g.S.Shelf.stays_at_last (g.S.Shelf.faults c.args.shelf.now) (g.S.Shelf.faults c.run_over.new.shelf) in
     let late = Rose g.S.Shelf.stays_at_last (g.S.Shelf.faults c.rewritten.new.shelf) (g.S.Shelf.faults c.run_over.new.shelf) in
     let over = rw c.rewritten.ensures.stays at c.run_over.ensures.passes in
-    as-then (IsPlanned c.args.caps.now) (of_script (Some c.args.script.now) source) (of_inputs_run c.args.ins.now c.args.layout c.args.counts) held mid early late
-    (rose_before g.S.Shelf.stays_at_last _ _ _ c.rewritten.ensures.later) c.in_ok-made.made c.run_over.result (c.in_ok-made.ensures.passes c.args.caps.now source is)
+    as-then (IsPlanned c.args.caps.now) (of_script (Some c.args.script.now) source)
+    (of_inputs_run c.args.ins.now c.args.layout c.args.counts) held mid early late
+    (rose_before g.S.Shelf.stays_at_last _ _ _ c.rewritten.ensures.later) c.in_ok-made.made c.run_over.result
+    (c.in_ok-made.ensures.passes c.args.caps.now source is)
     (λ later of. over later of.plan)

@@ -5,23 +5,27 @@ use Rattle.river_cli.proofs.road.answered_in.Goals as goal
 pub returns-in-Run-clause-passes : goal.returns-in-Run-clause-passes
 returns-in-Run-clause-passes g c =
     let rose = Rose g.S.Shelf.stays_at_last (g.S.Shelf.faults c.args.shelf.now) (g.S.Shelf.faults c.run.new.shelf) in
-    rw c.in-Run.is (run-answers g.L.Language.source g.L.Language.more (g.S.Shelf.held c.args.shelf.now) rose c.in-Run.lang c.in-Run.file c.in-Run.ins c.in-Run.script
+    rw c.in-Run.is (run-answers g.L.Language.source g.L.Language.more
+    (g.S.Shelf.held c.args.shelf.now) rose c.in-Run.lang c.in-Run.file c.in-Run.ins c.in-Run.script
     c.in-Run.workers c.in-Run.cap c.in-Run.header c.in-Run.counts c.run.result c.run.ensures.passes)
 
 pub returns-in-Plan-clause-passes : goal.returns-in-Plan-clause-passes
 returns-in-Plan-clause-passes g c =
     let rose = Rose g.S.Shelf.stays_at_last (g.S.Shelf.faults c.args.shelf.now) (g.S.Shelf.faults c.show.new.shelf) in
-    rw c.in-Plan.is (show-answers g.L.Language.source g.L.Language.more (g.S.Shelf.held c.args.shelf.now) rose c.in-Plan.lang c.in-Plan.file c.in-Plan.script c.show.result c.show.ensures.passes)
+    rw c.in-Plan.is (show-answers g.L.Language.source g.L.Language.more
+    (g.S.Shelf.held c.args.shelf.now) rose c.in-Plan.lang c.in-Plan.file c.in-Plan.script c.show.result c.show.ensures.passes)
 
 pub returns-in-Mean-clause-passes : goal.returns-in-Mean-clause-passes
 returns-in-Mean-clause-passes g c =
     let rose = Rose g.S.Shelf.stays_at_last (g.S.Shelf.faults c.args.shelf.now) (g.S.Shelf.faults c.mean.new.shelf) in
-    rw c.in-Mean.is (mean-answers g.L.Language.source g.L.Language.more (g.S.Shelf.held c.args.shelf.now) rose c.in-Mean.lang c.in-Mean.file c.in-Mean.ins c.in-Mean.header c.mean.result c.mean.ensures.passes)
+    rw c.in-Mean.is (mean-answers g.L.Language.source g.L.Language.more
+    (g.S.Shelf.held c.args.shelf.now) rose c.in-Mean.lang c.in-Mean.file c.in-Mean.ins c.in-Mean.header c.mean.result c.mean.ensures.passes)
 
 pub returns-in-Upgrade-clause-passes : goal.returns-in-Upgrade-clause-passes
 returns-in-Upgrade-clause-passes g c =
     let rose = Rose g.S.Shelf.stays_at_last (g.S.Shelf.faults c.args.shelf.now) (g.S.Shelf.faults c.upgrade.new.shelf) in
-    rw c.in-Upgrade.is (upgrade-answers g.L.Language.source g.L.Language.more (g.S.Shelf.held c.args.shelf.now) rose c.in-Upgrade.file c.upgrade.result c.upgrade.ensures.passes)
+    rw c.in-Upgrade.is (upgrade-answers g.L.Language.source g.L.Language.more
+    (g.S.Shelf.held c.args.shelf.now) rose c.in-Upgrade.file c.upgrade.result c.upgrade.ensures.passes)
 
 pub returns-in-Load-clause-passes : goal.returns-in-Load-clause-passes
 returns-in-Load-clause-passes g c =

@@ -29,7 +29,8 @@ returns-in_err-fetch_one-clause-passes g c =
     let left : drop i ins ≡ w ∷ drop (i + 1) ins = drop_more ins i w c.loop-word-test.true ∙ ap (λ (y : InWord). y ∷ drop (i + 1) ins) (sym c.word-item.is) in
     let far = subst (λ (l : List InWord). ComesTo ins held c.loop-word.files l) left c.loop-word.invariant.comes in
     let one = rw c.loop-word.invariant.stays at c.in_err-fetch_one.ensures.passes in
-    rw (p.1, p.2) (stops-more ins held early late (rose_before g.S.Shelf.stays_at_last _ _ _ c.loop-word.invariant.later) c.loop-word.files w (drop (i + 1) ins) c.in_err-fetch_one.field-0.0 far one)
+    rw (p.1, p.2) (stops-more ins held early late (rose_before g.S.Shelf.stays_at_last _ _ _ c.loop-word.invariant.later) c.loop-word.files w
+    (drop (i + 1) ins) c.in_err-fetch_one.field-0.0 far one)
 
 pub loop-word-preserved : goal.loop-word-preserved
 loop-word-preserved g c =
@@ -48,10 +49,13 @@ loop-word-preserved g c =
       later = omega (arith, c.fetch_one.ensures.later, c.loop-word.invariant.later);
       count = omega (arith, n, m, c.loop-word.invariant.count);
       comes =
-          subst (λ (l : List (List ℕ)). ComesTo ins held l (drop (i + 1) ins)) (sym c.in_ok-push.ensures.ok) (comes-more ins held c.loop-word.files w (drop (i + 1) ins) bytes far one);
+          subst (λ (l : List (List ℕ)). ComesTo ins held l (drop (i + 1) ins)) (sym c.in_ok-push.ensures.ok)
+          (comes-more ins held c.loop-word.files w (drop (i + 1) ins) bytes far one);
     }
 
 pub returns-clause-passes : goal.returns-clause-passes
 returns-clause-passes g c =
     let held = g.S.Shelf.held c.args.shelf.now in
-    comes-all c.args.ins.now held c.loop-word.files (subst (λ (l : List InWord). ComesTo c.args.ins.now held c.loop-word.files l) (drop_all c.loop-word.word-index c.args.ins.now c.loop-word-test.false) c.loop-word.invariant.comes)
+    comes-all c.args.ins.now held c.loop-word.files
+    (subst (λ (l : List InWord). ComesTo c.args.ins.now held c.loop-word.files l)
+    (drop_all c.loop-word.word-index c.args.ins.now c.loop-word-test.false) c.loop-word.invariant.comes)

@@ -11,4 +11,5 @@ print_outcome-requires-clause-tables g c =
 
 pub returns : goal.returns
 returns g c =
-    mean-says g.L.Language.stands c.args.compiled.now c.args.files c.in_ok-outcome.outcome c.print_outcome.result c.print_outcome.ensures c.in_ok-outcome.ensures
+    mean-says g.L.Language.stands c.args.compiled.now c.args.files c.in_ok-outcome.outcome c.print_outcome.result c.print_outcome.ensures
+    c.in_ok-outcome.ensures

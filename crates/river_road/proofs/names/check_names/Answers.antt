@@ -14,8 +14,10 @@ returns-in-Some c =
 
 pub returns-in-Some-missing : goal.returns-in-Some-missing
 returns-in-Some-missing c =
-    let says : c.in_ok-missing.field-0 ≡ missing_input c.in-Some-missing.decl.now.name = rw c.as_slice-in-Some-missing.ensures.bytes at c.in_ok-missing.ensures in
-    missing-told c.args.decls.now c.args.ins.now c.in-Some-missing.decl.now c.in_default.ensures c.in-Some-missing.ensures ∙ ap (λ (t : List ℕ). told t) (sym says)
+    let says : c.in_ok-missing.field-0 ≡ missing_input c.in-Some-missing.decl.now.name =
+    rw c.as_slice-in-Some-missing.ensures.bytes at c.in_ok-missing.ensures in
+    missing-told c.args.decls.now c.args.ins.now c.in-Some-missing.decl.now c.in_default.ensures c.in-Some-missing.ensures
+    ∙ ap (λ (t : List ℕ). told t) (sym says)
 
 pub returns : goal.returns
 returns c = nothing-told c.args.decls.now c.args.ins.now c.in_default.ensures c.in_default-missing.ensures

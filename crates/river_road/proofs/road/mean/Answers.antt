@@ -12,7 +12,8 @@ pub returns-in_err-compiled-clause-passes : goal.returns-in_err-compiled-clause-
 returns-in_err-compiled-clause-passes g c =
     let p = err_from_is_err_and c.from_residual.result c.from_residual.ensures.1 in
     let rose = Rose g.S.Shelf.stays_at_last (g.S.Shelf.faults c.args.shelf.now) (g.S.Shelf.faults c.compiled.new.shelf) in
-    rw (p.1, p.2) (mean-first g.L.Language.source g.L.Language.more c.args.file.now (g.S.Shelf.held c.args.shelf.now) c.args.ins.now c.args.header rose c.in_err-compiled.field-0.0 c.in_err-compiled.ensures.passes)
+    rw (p.1, p.2) (mean-first g.L.Language.source g.L.Language.more c.args.file.now
+    (g.S.Shelf.held c.args.shelf.now) c.args.ins.now c.args.header rose c.in_err-compiled.field-0.0 c.in_err-compiled.ensures.passes)
 
 pub returns-clause-passes : goal.returns-clause-passes
 returns-clause-passes g c =
@@ -20,4 +21,6 @@ returns-clause-passes g c =
     let early = Rose g.S.Shelf.stays_at_last (g.S.Shelf.faults c.args.shelf.now) (g.S.Shelf.faults c.mean_over.new.shelf) in
     let late = Rose g.S.Shelf.stays_at_last (g.S.Shelf.faults c.compiled.new.shelf) (g.S.Shelf.faults c.mean_over.new.shelf) in
     let over = rw (c.compiled.ensures.stays, c.of.ensures) at c.mean_over.ensures.passes in
-    mean-last g.L.Language.source g.L.Language.more c.args.file.now (g.S.Shelf.held c.args.shelf.now) c.args.ins.now c.args.header (IsCompiled g.L.Language.stands) mid early late (rose_before g.S.Shelf.stays_at_last _ _ _ c.compiled.ensures.later) c.in_ok-compiled.compiled c.mean_over.result c.in_ok-compiled.ensures.passes over
+    mean-last g.L.Language.source g.L.Language.more c.args.file.now (g.S.Shelf.held c.args.shelf.now) c.args.ins.now c.args.header
+    (IsCompiled g.L.Language.stands) mid early late
+    (rose_before g.S.Shelf.stays_at_last _ _ _ c.compiled.ensures.later) c.in_ok-compiled.compiled c.mean_over.result c.in_ok-compiled.ensures.passes over

@@ -11,7 +11,8 @@ pub returns-in_err-compiled-clause-passes : goal.returns-in_err-compiled-clause-
 returns-in_err-compiled-clause-passes g c =
     let p = err_from_is_err_and c.from_residual.result c.from_residual.ensures.1 in
     let rose = Rose g.S.Shelf.stays_at_last (g.S.Shelf.faults c.args.shelf.now) (g.S.Shelf.faults c.compiled.new.shelf) in
-    rw (p.1, p.2) (show-first g.L.Language.source c.args.file.now (g.S.Shelf.held c.args.shelf.now) c.args.name.now rose c.in_err-compiled.field-0.0 c.in_err-compiled.ensures.passes)
+    rw (p.1, p.2) (show-first g.L.Language.source c.args.file.now
+    (g.S.Shelf.held c.args.shelf.now) c.args.name.now rose c.in_err-compiled.field-0.0 c.in_err-compiled.ensures.passes)
 
 pub returns-clause-passes : goal.returns-clause-passes
 returns-clause-passes g c =
@@ -19,4 +20,6 @@ returns-clause-passes g c =
     let early = Rose g.S.Shelf.stays_at_last (g.S.Shelf.faults c.args.shelf.now) (g.S.Shelf.faults c.show_scripted.new.shelf) in
     let late = Rose g.S.Shelf.stays_at_last (g.S.Shelf.faults c.compiled.new.shelf) (g.S.Shelf.faults c.show_scripted.new.shelf) in
     let shows = rw c.compiled.ensures.stays at c.show_scripted.ensures.passes in
-    show-last g.L.Language.source c.args.file.now (g.S.Shelf.held c.args.shelf.now) g.L.Language.stands c.in_ok-compiled.compiled c.show_scripted.result c.args.name.now mid early late (rose_before g.S.Shelf.stays_at_last _ _ _ c.compiled.ensures.later) c.in_ok-compiled.ensures.passes shows
+    show-last g.L.Language.source c.args.file.now
+    (g.S.Shelf.held c.args.shelf.now) g.L.Language.stands c.in_ok-compiled.compiled c.show_scripted.result c.args.name.now mid early late
+    (rose_before g.S.Shelf.stays_at_last _ _ _ c.compiled.ensures.later) c.in_ok-compiled.ensures.passes shows

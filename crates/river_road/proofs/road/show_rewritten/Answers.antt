@@ -16,5 +16,6 @@ pub returns-clause-passes : goal.returns-clause-passes
 returns-clause-passes g c source is =
     let held = g.S.Shelf.held c.args.shelf.now in
     let rose = Rose g.S.Shelf.stays_at_last (g.S.Shelf.faults c.args.shelf.now) (g.S.Shelf.faults c.rewritten.new.shelf) in
-    as-then (IsPlanned c.args.caps.now) (of_script (Some c.args.script.now) source) of_shown held rose rose rose (λ r. r) c.in_ok-made.made c.shown.result (c.in_ok-made.ensures.passes c.args.caps.now source is)
+    as-then (IsPlanned c.args.caps.now) (of_script (Some c.args.script.now) source) of_shown held rose rose rose (λ r. r) c.in_ok-made.made c.shown.result
+    (c.in_ok-made.ensures.passes c.args.caps.now source is)
     (λ later of. shown-passes c.args.caps.now later c.in_ok-made.made held rose c.shown.result of c.shown.ensures)

@@ -17,11 +17,13 @@ loop-place-preserved c =
     record {
       count = let n = c.take_named.ensures.count in let m = c.loop-place.invariant.count in omega (arith, n, m);
       arranged =
-          arranged-next c.args.decls.now c.args.ins.now c.loop-place.all c.take_named.new.all c.loop-place.files c.push.new.self (contents_in_order c.args.decls.now c.args.ins.now c.args.all.now)
+          arranged-next c.args.decls.now c.args.ins.now c.loop-place.all c.take_named.new.all c.loop-place.files c.push.new.self
+          (contents_in_order c.args.decls.now c.args.ins.now c.args.all.now)
           c.loop-place.place c.index-decls-place.result c.take_named.result c.loop-place-test.true c.index-decls-place.is c.requires.apart
           (rw named at c.take_named.ensures.taken) (rw named at c.take_named.ensures.others) c.loop-place.invariant.arranged c.in_ok-push.ensures.ok;
     }
 
 pub returns : goal.returns
 returns c =
-    arranged-all c.args.decls.now c.args.ins.now c.loop-place.all c.loop-place.files (contents_in_order c.args.decls.now c.args.ins.now c.args.all.now) c.loop-place.place c.loop-place-test.false c.loop-place.invariant.arranged
+    arranged-all c.args.decls.now c.args.ins.now c.loop-place.all c.loop-place.files
+    (contents_in_order c.args.decls.now c.args.ins.now c.args.all.now) c.loop-place.place c.loop-place-test.false c.loop-place.invariant.arranged

@@ -28,11 +28,13 @@ returns-then-eq c =
       word_is = c.index-ins-place.is;
       named = name_is w.name name here;
       gives =
-          λ all d same. named-at c.args.ins.now all name c.loop-place.place w (content_named c.args.ins.now all name) d c.loop-place-test.true same c.index-ins-place.is here (c.loop-place.invariant all same);
+          λ all d same. named-at c.args.ins.now all name c.loop-place.place w
+          (content_named c.args.ins.now all name) d c.loop-place-test.true same c.index-ins-place.is here (c.loop-place.invariant all same);
     }
 
 pub returns : goal.returns
 returns c = record {
   gives =
-      λ all same. named-none c.args.ins.now all c.args.name.now c.loop-place.place (content_named c.args.ins.now all c.args.name.now) c.loop-place-test.false (c.loop-place.invariant all same);
+      λ all same. named-none c.args.ins.now all c.args.name.now c.loop-place.place (content_named c.args.ins.now all c.args.name.now) c.loop-place-test.false
+      (c.loop-place.invariant all same);
 }

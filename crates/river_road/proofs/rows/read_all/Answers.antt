@@ -17,7 +17,9 @@ loop-place-init c =
 pub returns-in_err-read_one-clause-answers : goal.returns-in_err-read_one-clause-answers
 returns-in_err-read_one-clause-answers c =
     let p = err_from_is_err_and c.from_residual.result c.from_residual.ensures.1 in
-    rw (p.1, p.2) (read-fault (content_reader c.args.decls.now c.args.layout) c.args.ins.now c.args.files.now c.loop-place.place c.index-ins-place.result c.index-files-place.result c.loop-place.all c.in_err-read_one.field-0.0
+    rw (p.1, p.2) (read-fault
+    (content_reader c.args.decls.now c.args.layout) c.args.ins.now c.args.files.now c.loop-place.place c.index-ins-place.result c.index-files-place.result
+    c.loop-place.all c.in_err-read_one.field-0.0
     c.loop-place-test.true c.requires.count c.index-ins-place.is c.index-files-place.is c.in_err-read_one.ensures c.loop-place.invariant.read)
 
 pub loop-place-preserved : goal.loop-place-preserved
@@ -30,11 +32,13 @@ loop-place-preserved c =
     record {
       count = omega (arith, n, m, c.loop-place.invariant.count);
       read = ap (λ (l : List Content). put_before l later) c.in_ok-push.ensures.ok
-          ∙ read-more reader c.args.ins.now c.args.files.now c.loop-place.place c.index-ins-place.result c.index-files-place.result c.loop-place.all c.in_ok-read_one.field-0 whole
+          ∙ read-more reader c.args.ins.now c.args.files.now c.loop-place.place c.index-ins-place.result c.index-files-place.result c.loop-place.all
+          c.in_ok-read_one.field-0 whole
           c.loop-place-test.true c.requires.count c.index-ins-place.is c.index-files-place.is c.in_ok-read_one.ensures c.loop-place.invariant.read;
     }
 
 pub returns-clause-answers : goal.returns-clause-answers
 returns-clause-answers c =
     let reader = content_reader c.args.decls.now c.args.layout in
-    read-whole reader c.args.ins.now c.args.files.now c.loop-place.place c.loop-place.all (all_read reader c.args.ins.now c.args.files.now) c.loop-place-test.false c.loop-place.invariant.read
+    read-whole reader c.args.ins.now c.args.files.now c.loop-place.place c.loop-place.all
+    (all_read reader c.args.ins.now c.args.files.now) c.loop-place-test.false c.loop-place.invariant.read

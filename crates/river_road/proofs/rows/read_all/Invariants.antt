@@ -6,5 +6,6 @@ use Rattle.river_road.proofs.rows.read_all.Given as goal
 abbrev pub invariant-loop-place : goal.invariant-loop-place
 invariant-loop-place l = record {
   count : length l.all ≡ l.place;
-  read : put_before l.all (all_read (content_reader l.decls l.layout) (drop l.place l.ins) (drop l.place l.files)) ≡ all_read (content_reader l.decls l.layout) l.ins l.files;
+  read : put_before l.all (all_read (content_reader l.decls l.layout) (drop l.place l.ins) (drop l.place l.files)) ≡ all_read
+      (content_reader l.decls l.layout) l.ins l.files;
 }

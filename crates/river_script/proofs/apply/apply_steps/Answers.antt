@@ -10,5 +10,7 @@ returns c =
     ∙ script_end c.args.plan.now c.as_slice-step-items.result.now c.loop-step.step-index c.loop-step.now c.loop-step-test.false c.loop-step.invariant.0
 
 pub loop-step-preserved : goal.loop-step-preserved
-loop-step-preserved c =
-    (script_next c.args.plan.now _ _ c.loop-step.now _ c.step-item.result c.loop-step-test.true c.step-item.is c.loop-step.invariant.0 c.in-Ok.ensures, ap (λ n. n + 1) c.loop-step.invariant.1)
+loop-step-preserved c = (
+  script_next c.args.plan.now _ _ c.loop-step.now _ c.step-item.result c.loop-step-test.true c.step-item.is c.loop-step.invariant.0 c.in-Ok.ensures,
+  ap (λ n. n + 1) c.loop-step.invariant.1,
+)

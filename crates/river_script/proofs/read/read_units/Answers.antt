@@ -20,7 +20,8 @@ returns-in-Err-Syntax c =
 pub items-preserved : goal.items-preserved
 items-preserved c =
     let parts = c.as_slice-parts.result.now in
-    ap (λ l. read_steps (c.items.i + 1 + 1) l (map unit_tokens (drop (c.items.i + 1) parts))) (ap step_forms c.in_ok-push-in-Ok.ensures.ok ∙ map-append step_form c.items.steps (c.in-Ok.step ∷ []))
+    ap (λ l. read_steps (c.items.i + 1 + 1) l (map unit_tokens (drop (c.items.i + 1) parts)))
+    (ap step_forms c.in_ok-push-in-Ok.ensures.ok ∙ map-append step_form c.items.steps (c.in-Ok.step ∷ []))
     ∙ steps-next (c.items.i + 1) (step_forms c.items.steps) parts c.items.i _ (step_form c.in-Ok.step) c.items-test.true c.in-Ok.ensures
     ∙ c.items.invariant
 

@@ -7,4 +7,5 @@ use Rattle.river_text.proofs.read.add_units.Given as goal
 
 abbrev pub invariant-items : goal.invariant-items
 invariant-items l =
-    read_plan l.place (l.i + 1) (text_form l.text) (map unit_tokens (drop l.i l.parts)) ≡ read_plan l.fn.first 1 (text_form l.initial.text) (map unit_tokens l.parts)
+    read_plan l.place (l.i + 1) (text_form l.text) (map unit_tokens (drop l.i l.parts)) ≡ read_plan l.fn.first 1 (text_form l.initial.text)
+    (map unit_tokens l.parts)

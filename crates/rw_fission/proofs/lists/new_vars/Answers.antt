@@ -23,6 +23,7 @@ returns c =
     let stay = (way_by p op m c.args.n c.args.form).stay in
     let behind = behind_splitter c.args.names.now c.args.form in
     c.in_ok-add_vars.ensures
-    ∙ ap (λ (l : List Name). l ++ behind) (c.in_ok-push.ensures.ok ∙ ap (λ (l : List Name). l ++ c.args.names.now.splitter ∷ []) (c.in_ok-vars.ensures m c.args.n))
+    ∙ ap (λ (l : List Name). l ++ behind)
+    (c.in_ok-push.ensures.ok ∙ ap (λ (l : List Name). l ++ c.args.names.now.splitter ∷ []) (c.in_ok-vars.ensures m c.args.n))
     ∙ append_assoc stay (c.args.names.now.splitter ∷ []) behind
     ∙ ap (λ (l : List Name). stay ++ l) (new_vars_are p op c.args.label.now c.args.n c.args.names.now c.args.form c.requires)

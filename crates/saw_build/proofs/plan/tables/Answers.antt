@@ -6,7 +6,8 @@ use Rattle.saw_build.proofs.plan.tables.Goals as goal
 
 pub loop-unit-preserved : goal.loop-unit-preserved
 loop-unit-preserved c =
-    tables_next c.args.units.now c.loop-unit.unit-index c.unit-item.result c.loop-unit.list c.add_table.new.list (tables_in (unit_forms c.args.units.now)) (search rules) c.unit-item.is (c.in_ok-add_table.ensures {u = tt}) c.loop-unit.invariant
+    tables_next c.args.units.now c.loop-unit.unit-index c.unit-item.result c.loop-unit.list c.add_table.new.list (tables_in (unit_forms c.args.units.now))
+    (search rules) c.unit-item.is (c.in_ok-add_table.ensures {u = tt}) c.loop-unit.invariant
 
 pub returns : goal.returns
 returns c =

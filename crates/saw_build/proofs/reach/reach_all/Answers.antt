@@ -19,4 +19,5 @@ loop-e-preserved c =
 pub returns : goal.returns
 returns c =
     let es = c.args.es.now in
-    so_far_end c.loop-e.most (reach_all (expressions es)) (ap (λ l. max c.loop-e.most (reach_all l)) (sym (none_left expression es c.loop-e.e-index (search rules))) ∙ c.loop-e.invariant)
+    so_far_end c.loop-e.most (reach_all (expressions es))
+    (ap (λ l. max c.loop-e.most (reach_all l)) (sym (none_left expression es c.loop-e.e-index (search rules))) ∙ c.loop-e.invariant)

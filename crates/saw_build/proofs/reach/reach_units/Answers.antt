@@ -20,4 +20,5 @@ loop-unit-preserved c =
 pub returns : goal.returns
 returns c =
     let us = c.args.units.now in
-    so_far_end c.loop-unit.most (reach_parts (unit_forms us)) (ap (λ p. max c.loop-unit.most (reach_parts p)) (sym (parts_none us c.loop-unit.unit-index (search rules))) ∙ c.loop-unit.invariant)
+    so_far_end c.loop-unit.most (reach_parts (unit_forms us))
+    (ap (λ p. max c.loop-unit.most (reach_parts p)) (sym (parts_none us c.loop-unit.unit-index (search rules))) ∙ c.loop-unit.invariant)

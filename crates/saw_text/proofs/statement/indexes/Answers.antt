@@ -14,6 +14,8 @@ use Rattle.saw_text.proofs.statement.indexes.Goals as goal
 -- one index more
 pub items-preserved : goal.items-preserved
 items-preserved c =
-    ap (λ l. repeated (many_turn no_bracket (square_at term_at c.args.brackets)) l c.square.new.reader) (ap expressions c.in_ok-push.ensures.items ∙ map-append expression c.items.list.items (c.in_ok-square.field-0 ∷ []))
-    ∙ indexes-next c.args.brackets (expressions c.items.list.items) c.items.reader c.square.new.reader (expression c.in_ok-square.field-0) (ap not (sym c.is_at.ensures ∙ c.items-test.true)) c.in_ok-square.ensures
+    ap (λ l. repeated (many_turn no_bracket (square_at term_at c.args.brackets)) l c.square.new.reader)
+    (ap expressions c.in_ok-push.ensures.items ∙ map-append expression c.items.list.items (c.in_ok-square.field-0 ∷ []))
+    ∙ indexes-next c.args.brackets (expressions c.items.list.items) c.items.reader c.square.new.reader (expression c.in_ok-square.field-0)
+    (ap not (sym c.is_at.ensures ∙ c.items-test.true)) c.in_ok-square.ensures
     ∙ c.items.invariant

@@ -24,5 +24,6 @@ loop-at-preserved c =
     record {
       before = last_more ts r n t c.add_batch.new.before lt is before;
       items =
-          batch_more k ts r n t c.loop-at.before c.loop-at.items c.add_batch.new.items c.requires.rises lt is c.loop-at.invariant.before c.loop-at.invariant.items items;
+          batch_more k ts r n t c.loop-at.before c.loop-at.items c.add_batch.new.items c.requires.rises lt is c.loop-at.invariant.before
+          c.loop-at.invariant.items items;
     }

@@ -57,5 +57,6 @@ loop-part-preserved c =
           let r = subst (λ (ps : Program). Rest ts ps rest known outs whole) split c.loop-part.invariant in
           rest_same ts (drop (i + 1) p) rest c.match-part.rest.now w.add_query.new.known c.match-part.known w.add_query.new.outs c.match-part.outs whole
           (ap (λ b. b.now) w.rest-is) w.known-is w.outs-is
-          (rest_query ts q (drop (i + 1) p) rest known w.add_query.new.known outs w.add_query.new.outs whole r w.in_ok-add_query-in-Query.ensures.known w.in_ok-add_query-in-Query.ensures.outs)
+          (rest_query ts q (drop
+          (i + 1) p) rest known w.add_query.new.known outs w.add_query.new.outs whole r w.in_ok-add_query-in-Query.ensures.known w.in_ok-add_query-in-Query.ensures.outs)
     ]

@@ -33,7 +33,8 @@ loop-i-preserved c =
     let lt : i < length c.args.tuple.now = omega arith in
     let t : name_eq x.name c.args.item ≡ false = cc in
     c.loop-i.invariant
-    ∙ item_value_at c.args.item c.args.field (input_scope inputs) c.args.tuple.now i (named_input x) row false ls lt (map_at named_input inputs i x li c.index-inputs-i.is)
+    ∙ item_value_at c.args.item c.args.field (input_scope inputs) c.args.tuple.now i (named_input x) row false ls lt
+    (map_at named_input inputs i x li c.index-inputs-i.is)
     (get_or_default c.args.tuple.now i [] row lt) t
 
 pub returns : goal.returns

@@ -8,5 +8,6 @@ use Rattle.streamit_text.proofs.read.read_streamit.Goals as goal
 -- a text has no more units than tokens
 pub some_units-requires : goal.some_units-requires
 some_units-requires c =
-    let same : length c.as_slice.result.now ≡ length (units_of (toks c.args.tokens.now)) = sym (length-map c.as_slice.result.now unit_tokens) ∙ ap length (c.as_slice.ensures ∙ c.in_ok-units.ensures) in
+    let same : length c.as_slice.result.now ≡ length (units_of (toks c.args.tokens.now)) = sym (length-map c.as_slice.result.now unit_tokens)
+    ∙ ap length (c.as_slice.ensures ∙ c.in_ok-units.ensures) in
     omega (arith, units-few c.args.tokens.now, c.requires)

@@ -32,7 +32,8 @@ invariant-chain-items g l =
     let leaf = g.D.Dialect.leaf l.dialect in
     let below = ladder S (leaf l.brackets) (within S leaf l.brackets) l.level in
     record {
-      same : chained S l.level (below (l.room - 1)) l.room (g.D.Dialect.view l.left.tree) (g.R.TokenSource.rest l.reader) ≡ chain_level S l.level below l.room (g.R.TokenSource.rest l.fn.reader);
+      same : chained S l.level (below (l.room - 1)) l.room (g.D.Dialect.view l.left.tree) (g.R.TokenSource.rest l.reader) ≡ chain_level S l.level below l.room
+          (g.R.TokenSource.rest l.fn.reader);
       small : l.left.depth ≤ l.room;
       exact : l.left.depth ≡ S.depth (g.D.Dialect.view l.left.tree);
     }

@@ -5,4 +5,5 @@ use Rattle.text_forms.proofs.names.is_among.Given as goal
 
 abbrev pub invariant-loop-word : goal.invariant-loop-word
 invariant-loop-word l =
-    list_any (λ word. bytes_eq l.text word) (map (λ word. word.now) (drop l.word-index l.words)) ≡ list_any (λ word. bytes_eq l.text word) (map (λ word. word.now) l.words)
+    list_any (λ word. bytes_eq l.text word) (map (λ word. word.now) (drop l.word-index l.words)) ≡ list_any (λ word. bytes_eq l.text word)
+    (map (λ word. word.now) l.words)

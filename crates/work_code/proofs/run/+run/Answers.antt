@@ -14,20 +14,25 @@ run_step-returns-in_ok-push-in-Push-clause-pushes t c =
 pub run_steps-returns-in_err-run_step-clause-err : goal.run_steps-returns-in_err-run_step-clause-err
 run_steps-returns-in_err-run_step-clause-err t c =
     let items = c.as_slice-s-items.result.now in
-    let f = subst (λ l. SoFar c.args.input.now (map step items) l c.args.slots.now c.loop-s.slots c.args.out.now c.loop-s.out) (at_place items c.loop-s.s-index c.s-item.result (omega arith) c.s-item.is) c.loop-s.invariant in
-    let g = so_far_refused c.args.input.now (map step items) (step c.s-item.result) (map step (drop (c.loop-s.s-index + 1) items)) c.args.slots.now c.loop-s.slots c.args.out.now c.loop-s.out c.run_step.new.out f c.in_err-run_step.ensures.err in
+    let f = subst (λ l. SoFar c.args.input.now (map step items) l c.args.slots.now c.loop-s.slots c.args.out.now c.loop-s.out)
+    (at_place items c.loop-s.s-index c.s-item.result (omega arith) c.s-item.is) c.loop-s.invariant in
+    let g = so_far_refused c.args.input.now (map step items) (step c.s-item.result)
+    (map step (drop (c.loop-s.s-index + 1) items)) c.args.slots.now c.loop-s.slots c.args.out.now c.loop-s.out c.run_step.new.out f
+    c.in_err-run_step.ensures.err in
     on_err c.from_residual.result (rw (steps-is c.args.body.now, ← c.as_slice-s-items.ensures) g)
 
 pub run_steps-returns-clause-pushes : goal.run_steps-returns-clause-pushes
 run_steps-returns-clause-pushes t c =
     let items = c.as_slice-s-items.result.now in
-    let f = subst (λ l. SoFar c.args.input.now (map step items) l c.args.slots.now c.loop-s.slots c.args.out.now c.loop-s.out) (none_left items c.loop-s.s-index (omega arith)) c.loop-s.invariant in
+    let f = subst (λ l. SoFar c.args.input.now (map step items) l c.args.slots.now c.loop-s.slots c.args.out.now c.loop-s.out)
+    (none_left items c.loop-s.s-index (omega arith)) c.loop-s.invariant in
     let e = so_far_end c.args.input.now (map step items) c.args.slots.now c.loop-s.slots c.args.out.now c.loop-s.out f in
     rw (steps-is c.args.body.now, ← c.as_slice-s-items.ensures) e.0
 
 pub run_steps-returns-clause-slots : goal.run_steps-returns-clause-slots
 run_steps-returns-clause-slots t c =
     let items = c.as_slice-s-items.result.now in
-    let f = subst (λ l. SoFar c.args.input.now (map step items) l c.args.slots.now c.loop-s.slots c.args.out.now c.loop-s.out) (none_left items c.loop-s.s-index (omega arith)) c.loop-s.invariant in
+    let f = subst (λ l. SoFar c.args.input.now (map step items) l c.args.slots.now c.loop-s.slots c.args.out.now c.loop-s.out)
+    (none_left items c.loop-s.s-index (omega arith)) c.loop-s.invariant in
     let e = so_far_end c.args.input.now (map step items) c.args.slots.now c.loop-s.slots c.args.out.now c.loop-s.out f in
     rw (steps-is c.args.body.now, ← c.as_slice-s-items.ensures) e.1

@@ -7,13 +7,19 @@ use Rattle.class_locks.proofs.cell.Cell.add.Goals as goal
 pub raise-requires-clause-wide : goal.raise-requires-clause-wide
 raise-requires-clause-wide c =
     let p = c.place_of-place.ensures in
-    wide_rows c.self.inside.kinds c.self.inside.tables.items c.self.inside.log.items c.args.table c.place_of-place.result c.requires.has.place p.0 c.requires.kind c.args.rows c.as_slice.result.now c.self.invariant.0 c.self.invariant.1
+    wide_rows c.self.inside.kinds c.self.inside.tables.items c.self.inside.log.items c.args.table c.place_of-place.result c.requires.has.place p.0
+    c.requires.kind c.args.rows c.as_slice.result.now c.self.invariant.0 c.self.invariant.1
     p.1 (ap (λ (h : Holding). slice_get h.kinds c.requires.has.place) c.self.view_is ∙ c.requires.has.there) c.as_slice.ensures c.requires.wide
 
 pub invariant_of-self-2 : goal.invariant_of-self-2
 invariant_of-self-2 c =
     let p = c.place_of-place.ensures in (
-      after_add c.self.inside.kinds c.self.inside.tables.items c.raise.new.tables.items c.self.inside.log.items c.push_reserved.new.self.items c.args.table c.place_of-place.result p.0 c.as_slice.result.now (record { op = c.args.op; table = c.args.table; rows = c.args.rows }) c.self.invariant.0 c.self.invariant.1
-          p.1 (λ d. c.in_ok-raise.ensures.ok d) (c.push_reserved.ensures.items ∙ ap (λ (l : List LogEntry). l ++ record { op = c.args.op; table = c.args.table; rows = c.args.rows } ∷ []) c.in_ok-reserve.ensures.items) refl (sym c.as_slice.ensures),
+      after_add c.self.inside.kinds c.self.inside.tables.items c.raise.new.tables.items c.self.inside.log.items c.push_reserved.new.self.items c.args.table
+          c.place_of-place.result p.0 c.as_slice.result.now
+          (record { op = c.args.op; table = c.args.table; rows = c.args.rows }) c.self.invariant.0 c.self.invariant.1
+          p.1 (λ d. c.in_ok-raise.ensures.ok d)
+          (c.push_reserved.ensures.items
+          ∙ ap (λ (l : List LogEntry). l ++ record { op = c.args.op; table = c.args.table; rows = c.args.rows } ∷ []) c.in_ok-reserve.ensures.items) refl
+          (sym c.as_slice.ensures),
       c.self.invariant.1,
     )

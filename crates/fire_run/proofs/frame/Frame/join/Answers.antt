@@ -51,7 +51,8 @@ settle_all-requires-clause-apart c =
     let ts0 = c.self.inside.tasks in
     let long : length ts0 ≡ length f.net.tasks = c.self.invariant.0 ∙ ap (λ (g : Framed). length g.net.tasks) c.self.view_is in
     let links : c.self.inside.links ≡ f.net.links = c.self.invariant.1 ∙ ap (λ (g : Framed). g.net.links) c.self.view_is in
-    subst ShareNoEnd (sym links) (net_apart c.requires.0 f bs c.requires.1 ts0 c.gather.new.tasks c.close.new.cells long (ap (map still) c.gather.ensures.tasks))
+    subst ShareNoEnd (sym links)
+    (net_apart c.requires.0 f bs c.requires.1 ts0 c.gather.new.tasks c.close.new.cells long (ap (map still) c.gather.ensures.tasks))
 
 pub returns-clause-stays : goal.returns-clause-stays
 returns-clause-stays c = λ p h.

@@ -11,7 +11,8 @@ use Rattle.fire_run.proofs.Standing.{can_send, single_tasks, net_again, idle_aga
 use Rattle.fire_run.proofs.net.Net.one.Goals as goal
 
 pub move_last-requires-clause-tasks : goal.move_last-requires-clause-tasks
-move_last-requires-clause-tasks g c = subst (λ p. AreTasks p (added p (logs_of c.args.self.now.cells)) c.args.self.now.tasks) (sym c.raw.ensures.raw) c.requires.is.tasks
+move_last-requires-clause-tasks g c =
+    subst (λ p. AreTasks p (added p (logs_of c.args.self.now.cells)) c.args.self.now.tasks) (sym c.raw.ensures.raw) c.requires.is.tasks
 
 pub move_last-requires-clause-single : goal.move_last-requires-clause-single
 move_last-requires-clause-single g c = single_tasks c.args.plan.now c.requires.inputs c.requires.caps c.args.self.now.tasks c.requires.is.laid
@@ -41,15 +42,18 @@ returns-clause-stays g c =
     let p = c.args.plan.now in
     let k : AreTasks p (added p (logs_of c.move_last.new.cells)) c.move_last.new.tasks
     = subst (λ q. AreTasks q (added q (logs_of c.move_last.new.cells)) c.move_last.new.tasks) c.raw.ensures.raw c.in_ok-moved.ensures.tasks in
-    let m : HaveMoved p c.args.self.now.cells c.move_last.new.cells = subst (λ q. HaveMoved q c.args.self.now.cells c.move_last.new.cells) c.raw.ensures.raw c.in_ok-moved.ensures.cells in
+    let m : HaveMoved p c.args.self.now.cells c.move_last.new.cells =
+    subst (λ q. HaveMoved q c.args.self.now.cells c.move_last.new.cells) c.raw.ensures.raw c.in_ok-moved.ensures.cells in
     record {
       fine = refl;
-      is = λ inputs caps n. net_again p inputs caps c.args.self.now _ c.move_last.new.tasks c.raw.ensures.valid n k c.in_ok-moved.ensures.same c.settle_all.ensures.still refl c.settle_all.ensures.met m;
+      is = λ inputs caps n. net_again p inputs caps c.args.self.now _ c.move_last.new.tasks c.raw.ensures.valid n k c.in_ok-moved.ensures.same
+          c.settle_all.ensures.still refl c.settle_all.ensures.met m;
     }
 
 pub returns-clause-moved : goal.returns-clause-moved
 returns-clause-moved g c =
-    subst (λ n. OneMore (all_moves c.args.self.now.tasks) n c.in_ok-moved.moved) (sym (still_all_moves c.move_last.new.tasks c.settle_all.new.tasks c.settle_all.ensures.still)) c.in_ok-moved.ensures.moved
+    subst (λ n. OneMore (all_moves c.args.self.now.tasks) n c.in_ok-moved.moved)
+    (sym (still_all_moves c.move_last.new.tasks c.settle_all.new.tasks c.settle_all.ensures.still)) c.in_ok-moved.ensures.moved
 
 pub returns-clause-same : goal.returns-clause-same
 returns-clause-same g c = still_ends c.move_last.new.tasks c.settle_all.new.tasks c.settle_all.ensures.still ∙ c.in_ok-moved.ensures.same
@@ -66,7 +70,10 @@ returns-clause-idle g c =
     let r = c.requires in
     let k : AreTasks p (added p (logs_of c.move_last.new.cells)) c.move_last.new.tasks
     = subst (λ q. AreTasks q (added q (logs_of c.move_last.new.cells)) c.move_last.new.tasks) c.raw.ensures.raw c.in_ok-moved.ensures.tasks in
-    let m : HaveMoved p c.args.self.now.cells c.move_last.new.cells = subst (λ q. HaveMoved q c.args.self.now.cells c.move_last.new.cells) c.raw.ensures.raw c.in_ok-moved.ensures.cells in
-    λ f. idle_again p r.inputs r.caps c.args.self.now (record { tasks = c.settle_all.new.tasks; links = c.args.self.now.links; cells = c.move_last.new.cells; refused = false }) c.raw.ensures.valid r.is
-    (net_again p r.inputs r.caps c.args.self.now _ c.move_last.new.tasks c.raw.ensures.valid r.is k c.in_ok-moved.ensures.same c.settle_all.ensures.still refl c.settle_all.ensures.met m)
+    let m : HaveMoved p c.args.self.now.cells c.move_last.new.cells =
+    subst (λ q. HaveMoved q c.args.self.now.cells c.move_last.new.cells) c.raw.ensures.raw c.in_ok-moved.ensures.cells in
+    λ f. idle_again p r.inputs r.caps c.args.self.now
+    (record { tasks = c.settle_all.new.tasks; links = c.args.self.now.links; cells = c.move_last.new.cells; refused = false }) c.raw.ensures.valid r.is
+    (net_again p r.inputs r.caps c.args.self.now _ c.move_last.new.tasks c.raw.ensures.valid r.is k c.in_ok-moved.ensures.same c.settle_all.ensures.still refl
+    c.settle_all.ensures.met m)
     (c.settle_all.ensures.still ∙ c.in_ok-moved.ensures.still f) (c.in_ok-moved.ensures.idle f)

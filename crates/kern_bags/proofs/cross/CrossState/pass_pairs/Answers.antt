@@ -9,13 +9,18 @@ join-requires c = can_make c.loop-left.self c.take_pair.new.self c.in-Some.left 
 
 pub loop-left-preserved : goal.loop-left-preserved
 loop-left-preserved c =
-    pairs_step c.args.self.now c.loop-left.self c.take_pair.new.self c.join.new.self c.in-Some.left c.in-Some.right c.args.out.now c.loop-left.out c.join.new.out c.loop-left.invariant c.in-Some.ensures c.in_ok-join.ensures
+    pairs_step c.args.self.now c.loop-left.self c.take_pair.new.self c.join.new.self c.in-Some.left c.in-Some.right c.args.out.now c.loop-left.out
+    c.join.new.out c.loop-left.invariant c.in-Some.ensures c.in_ok-join.ensures
 
 pub loop-left-smaller : goal.loop-left-smaller
-loop-left-smaller c = pairs_less c.loop-left.self c.take_pair.new.self c.join.new.self c.in-Some.left c.in-Some.right c.loop-left.out c.join.new.out c.in-Some.ensures c.in_ok-join.ensures
+loop-left-smaller c =
+    pairs_less c.loop-left.self c.take_pair.new.self c.join.new.self c.in-Some.left c.in-Some.right c.loop-left.out c.join.new.out c.in-Some.ensures
+    c.in_ok-join.ensures
 
 pub returns-clause-contents : goal.returns-clause-contents
-returns-clause-contents c = pairs_end c.args.self.now c.loop-left.self c.take_pair.new.self c.args.out.now c.loop-left.out c.loop-left.invariant c.in_default.ensures
+returns-clause-contents c =
+    pairs_end c.args.self.now c.loop-left.self c.take_pair.new.self c.args.out.now c.loop-left.out c.loop-left.invariant c.in_default.ensures
 
 pub returns-clause-fits : goal.returns-clause-fits
-returns-clause-fits c = pairs_fit c.args.self.now c.loop-left.self c.take_pair.new.self c.args.out.now c.loop-left.out c.loop-left.invariant c.in_default.ensures
+returns-clause-fits c =
+    pairs_fit c.args.self.now c.loop-left.self c.take_pair.new.self c.args.out.now c.loop-left.out c.loop-left.invariant c.in_default.ensures

@@ -29,14 +29,17 @@ returns-else-index-at-clause-earlier c =
     let early : c.index.result.now.0 ≤ℤ c.args.at = grind (arith, ints) in
     let t : AreInTurn es = subst AreInTurn (sym c.self.view_is) c.requires in
     subst (λ xs. AllByRecursion (λ (e : Stamped). e.0 ≤ℤ c.args.at) (take n xs)) c.self.view_is
-    (subst (λ k. AllByRecursion (λ (e : Stamped). e.0 ≤ℤ c.args.at) (take k es)) same (earlier_all c.args.at es (n - 1) c.index.result.now t (omega arith) c.index.ensures early))
+    (subst (λ k. AllByRecursion (λ (e : Stamped). e.0 ≤ℤ c.args.at) (take k es)) same
+    (earlier_all c.args.at es (n - 1) c.index.result.now t (omega arith) c.index.ensures early))
 
 pub returns-else-index-at-clause-later : goal.returns-else-index-at-clause-later
 returns-else-index-at-clause-later c =
     subst (λ t. AllByRecursion (λ (e : Stamped). t <ℤ e.0) (drop c.loop-count.count c.args.self.now)) (to_z-of_z w64 c.args.at c.ranges.at)
-    (subst (λ xs. AllByRecursion (λ (e : Stamped). to_z w64 (of_z w64 c.args.at) <ℤ e.0) (drop c.loop-count.count xs)) c.self.view_is c.loop-count.invariant.later)
+    (subst (λ xs. AllByRecursion (λ (e : Stamped). to_z w64 (of_z w64 c.args.at) <ℤ e.0)
+    (drop c.loop-count.count xs)) c.self.view_is c.loop-count.invariant.later)
 
 pub returns-after-loop-count-clause-later : goal.returns-after-loop-count-clause-later
 returns-after-loop-count-clause-later c =
     subst (λ t. AllByRecursion (λ (e : Stamped). t <ℤ e.0) (drop c.loop-count.count c.args.self.now)) (to_z-of_z w64 c.args.at c.ranges.at)
-    (subst (λ xs. AllByRecursion (λ (e : Stamped). to_z w64 (of_z w64 c.args.at) <ℤ e.0) (drop c.loop-count.count xs)) c.self.view_is c.loop-count.invariant.later)
+    (subst (λ xs. AllByRecursion (λ (e : Stamped). to_z w64 (of_z w64 c.args.at) <ℤ e.0)
+    (drop c.loop-count.count xs)) c.self.view_is c.loop-count.invariant.later)

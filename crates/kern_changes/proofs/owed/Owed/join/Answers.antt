@@ -16,11 +16,13 @@ owes c =
 
 -- what the others owe then, and nothing here
 paid : (c : goal.After-clear_at) → c.clear_at.new.debts
-    ≡ set (map (owing c.in_ok-given.given.minus c.in_ok-given.given.plus) (set (set c.args.self.now c.args.place (port_owes c)) c.args.place no_debt)) c.args.place no_debt
+    ≡ set (map (owing c.in_ok-given.given.minus c.in_ok-given.given.plus)
+    (set (set c.args.self.now c.args.place (port_owes c)) c.args.place no_debt)) c.args.place no_debt
 paid c =
     let e : c.take_at.new.debts ≡ set (set c.args.self.now c.args.place (port_owes c)) c.args.place no_debt =
     c.in_ok-given.ensures.rest ∙ ap (λ l. set l c.args.place no_debt) (owes c) in
-    c.clear_at.ensures ∙ ap (λ l. set l c.args.place no_debt) (c.in_ok-owe_each.ensures ∙ (λ i. map (owing (c.as_slice-3.ensures i) (c.as_slice-4.ensures i)) (e i)))
+    c.clear_at.ensures ∙ ap (λ l. set l c.args.place no_debt)
+    (c.in_ok-owe_each.ensures ∙ (λ i. map (owing (c.as_slice-3.ensures i) (c.as_slice-4.ensures i)) (e i)))
 
 gave : (c : goal.After-clear_at) → c.in_ok-given.given ≡ cancelled c.args.change.now.at (port_owes c).plus (port_owes c).minus
 gave c =

@@ -21,14 +21,16 @@ pub invariant_of-self : goal.invariant_of-self
 invariant_of-self c =
     let r = c.self.inside in
     let n = c.args.count in
-    let e = kept-is r.width r.count n c.len-all.result r.values c.truncate.new.self c.if-count-self.true c.self.invariant c.len-all.ensures c.truncate.ensures in
+    let e = kept-is r.width r.count n c.len-all.result r.values c.truncate.new.self c.if-count-self.true c.self.invariant c.len-all.ensures
+    c.truncate.ensures in
     subst (AreEven r.width n) (sym e) (even-front r.width r.count n r.values c.if-count-self.true c.self.invariant)
 
 pub returns-then-count-self : goal.returns-then-count-self
 returns-then-count-self c =
     let r = c.self.inside in
     let n = c.args.count in
-    let e = kept-is r.width r.count n c.len-all.result r.values c.truncate.new.self c.if-count-self.true c.self.invariant c.len-all.ensures c.truncate.ensures in
+    let e = kept-is r.width r.count n c.len-all.result r.values c.truncate.new.self c.if-count-self.true c.self.invariant c.len-all.ensures
+    c.truncate.ensures in
     ap (cut r.width n) e ∙ cut-front r.width r.count n r.values (omega arith) ∙ ap (take n) c.self.view_is
 
 pub returns-else-count-self : goal.returns-else-count-self

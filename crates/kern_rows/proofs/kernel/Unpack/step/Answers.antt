@@ -8,7 +8,8 @@ use Rattle.kern_rows.proofs.kernel.Unpack.step.Goals as goal
 
 pub open_all-requires-clause-shape : goal.open_all-requires-clause-shape
 open_all-requires-clause-shape c =
-    subst (HasJoinShape (ones c.args.ports)) (sym c.in_ok-put.ensures) (put_shape (ones c.args.ports) c.args.port (Pack c.args.pack) c.args.state.now c.requires.shape)
+    subst (HasJoinShape (ones c.args.ports)) (sym c.in_ok-put.ensures)
+    (put_shape (ones c.args.ports) c.args.port (Pack c.args.pack) c.args.state.now c.requires.shape)
 
 pub returns-in_err-put-clause-err : goal.returns-in_err-put-clause-err
 returns-in_err-put-clause-err c =

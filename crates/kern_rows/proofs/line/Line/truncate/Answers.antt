@@ -22,5 +22,6 @@ returns c =
     let l = c.self.inside in
     let n = c.args.count in
     ap (λ rs. row_items rs ++ c.truncate.new.self.items) c.truncate-2.ensures
-    ∙ ap (λ os. row_items (take n l.rows) ++ os) (c.truncate.ensures.items ∙ ap (λ k. take k l.others.items) (c.saturating_sub.ensures ∙ ap (λ k. n - k) c.len-rows.ensures))
+    ∙ ap (λ os. row_items (take n l.rows) ++ os)
+    (c.truncate.ensures.items ∙ ap (λ k. take k l.others.items) (c.saturating_sub.ensures ∙ ap (λ k. n - k) c.len-rows.ensures))
     ∙ first_of n l.rows l.others.items ∙ ap (take n) c.self.view_is

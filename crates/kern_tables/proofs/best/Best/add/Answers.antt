@@ -6,8 +6,10 @@ use Rattle.kern_tables.proofs.Ranking.{pushed, pop_step, all_best}
 use Rattle.kern_tables.proofs.best.Best.add.Goals as goal
 
 pub loop-self-init : goal.loop-self-init
-loop-self-init c =
-    (c.in_ok-push.ensures.heap_order c.self.invariant, ap (take c.args.best) (pushed c.args.r _ _ c.in_ok-push.ensures.permutation ∙ ap (put_in_order ranks_before c.args.r) c.self.view_is))
+loop-self-init c = (
+  c.in_ok-push.ensures.heap_order c.self.invariant,
+  ap (take c.args.best) (pushed c.args.r _ _ c.in_ok-push.ensures.permutation ∙ ap (put_in_order ranks_before c.args.r) c.self.view_is),
+)
 
 pub loop-self-preserved : goal.loop-self-preserved
 loop-self-preserved c =

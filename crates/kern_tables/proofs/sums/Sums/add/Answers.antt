@@ -29,7 +29,8 @@ returns-in-Some-clause-ok c =
     let es = c.self.inside.sums.entries in
     let old = c.in-Some.sum.now in
     let there : lookup (is_at (row_cmp k)) es ≡ Some old = search rules in
-    let value : slice_index_or c.values.result.now c.args.keys (pos 0) ≡ value_in rest = ap (λ l. slice_index_or l c.args.keys (pos 0)) c.values.ensures.values ∙ first_of_rest c.args.keys c.args.row.now in
+    let value : slice_index_or c.values.result.now c.args.keys (pos 0) ≡ value_in rest = ap (λ l. slice_index_or l c.args.keys (pos 0)) c.values.ensures.values
+    ∙ first_of_rest c.args.keys c.args.row.now in
     let v : mir.to_z w64 (mir.of_z w64 c.add.result) ≡ add_value old rest =
     to_z-of_z w64 c.add.result (search rules) ∙ c.add.ensures
     ∙ (λ i. add (to_z-of_z w64 old (search rules) i) ((to_z-of_z w64 (slice_index_or c.values.result.now c.args.keys (pos 0)) (search rules) ∙ value) i)) in
@@ -42,7 +43,9 @@ invariant_of-self-2 c =
     let width : length (take c.args.keys c.args.row.now) ≤ 15 =
     (let a = length-take-le c.args.keys c.args.row.now (omega (arith, c.requires)) in let m = c.values.ensures.at_most in omega (arith, a, m, c.requires)) in
     let same = ap (λ m. m.entries) c.get_mut.follows.holds-at-none in
-    subst (AreShort 15) (sym c.in_ok-insert.ensures.entries) (short_insert 15 c.get_mut.follows.lender-at-none.entries _ _ (subst (AreShort 15) (sym same) c.self.invariant) (subst (λ k. length k ≤ 15) (sym c.key_of-key.ensures) width))
+    subst (AreShort 15) (sym c.in_ok-insert.ensures.entries)
+    (short_insert 15 c.get_mut.follows.lender-at-none.entries _ _ (subst (AreShort 15) (sym same) c.self.invariant)
+    (subst (λ k. length k ≤ 15) (sym c.key_of-key.ensures) width))
 
 pub returns-clause-ok : goal.returns-clause-ok
 returns-clause-ok c =
@@ -52,7 +55,8 @@ returns-clause-ok c =
     let same = ap (λ m. m.entries) c.get_mut.follows.holds-at-none in
     let read = slice_index_or c.values.result.now c.args.keys (pos 0) in
     let value : read ≡ value_in rest = ap (λ l. slice_index_or l c.args.keys (pos 0)) c.values.ensures.values ∙ first_of_rest c.args.keys c.args.row.now in
-    let v : mir.to_z w64 (mir.of_z w64 read) ≡ add_value (pos 0) rest = to_z-of_z w64 read (search rules) ∙ sym (first_sum read (search rules)) ∙ ap (add (pos 0)) value in
+    let v : mir.to_z w64 (mir.of_z w64 read) ≡ add_value (pos 0) rest = to_z-of_z w64 read (search rules) ∙ sym (first_sum read (search rules))
+    ∙ ap (add (pos 0)) value in
     c.in_ok-insert.ensures.entries ∙ (λ i. insert_entry row_cmp (same i) k (v i))
     ∙ put_is_insert row_cmp row_total exact_rows (pos 0) add_value sums_commute c.self.inside.sums.entries k rest None c.get_mut.ensures.ordered none
     ∙ (λ i. put row_cmp (pos 0) add_value (c.self.view_is i) (c.key_of-key.ensures i, rest))

@@ -15,7 +15,8 @@ returns-clause-ok c =
     let len = eqb-true _ _ (sym c.if-not-is_empty.ensures) in
     let empty : c.self.inside.waiting.items ≡ [] = nil_from_length c.self.inside.waiting.items (omega (arith, len, c.self.inside.waiting.ok)) in
     let waits : c.wait.new.waiting.items ≡ drop n c.args.rows.now =
-    c.wait.ensures ∙ (ap (λ (l : List (List ℤ)). l ++ take (length c.args.rows.now - n) (drop n c.args.rows.now)) (c.in_ok-reserve.ensures.items ∙ empty) ∙ rest_whole n c.args.rows.now) in
+    c.wait.ensures ∙ (ap (λ (l : List (List ℤ)). l ++ take (length c.args.rows.now - n) (drop n c.args.rows.now)) (c.in_ok-reserve.ensures.items ∙ empty)
+    ∙ rest_whole n c.args.rows.now) in
     let shown_is : shown c.self.inside.kept ≡ c.args.self.now = sym (ap (added_all (shown c.self.inside.kept)) empty) ∙ c.self.view_is in
     ap (added_all (shown c.place_some-placed.new.kept)) waits
     ∙ (added_in_two (shown c.self.inside.kept) (shown c.place_some-placed.new.kept) n c.args.rows.now c.place_some-placed.ensures.rows

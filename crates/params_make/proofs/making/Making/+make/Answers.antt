@@ -23,8 +23,11 @@ use Rattle.params_make.proofs.making.Making.+make.Goals as goal
 
 pub steps-items-init : goal.steps-items-init
 steps-items-init t c = record {
-  far = λ m h. so-start (steps_made (adding c.args.seen.units.now c.args.seen.sizes.now c.args.seen.depth) (suc (length c.args.seen.units.now)) c.args.scope.now.known (steps_in_turn (map step_of c.as_slice-each-items.result.now))) c.args.scope.now c.args.self.now m h;
-  fit = subst (λ l. HaveFitConstants (steps_in_turn (map step_of l))) (sym c.as_slice-each-items.ensures.value) (subst HaveFitConstants (steps-are c.args.steps.now) c.requires.steps);
+  far = λ m h. so-start
+      (steps_made (adding c.args.seen.units.now c.args.seen.sizes.now c.args.seen.depth) (suc (length c.args.seen.units.now)) c.args.scope.now.known
+      (steps_in_turn (map step_of c.as_slice-each-items.result.now))) c.args.scope.now c.args.self.now m h;
+  fit = subst (λ l. HaveFitConstants (steps_in_turn (map step_of l))) (sym c.as_slice-each-items.ensures.value)
+      (subst HaveFitConstants (steps-are c.args.steps.now) c.requires.steps);
 }
 
 pub steps-items-preserved : goal.steps-items-preserved
@@ -40,7 +43,8 @@ steps-items-preserved t c =
     record {
       far = λ m h.
           let f = c.items.invariant.far m h in
-          so-next (rest (map step_of items) m) (λ e. made_once add k e (step_of step)) (rest (map step_of (drop i items))) (rest (map step_of (drop (i + 1) items)))
+          so-next (rest (map step_of items) m) (λ e. made_once add k e (step_of step)) (rest (map step_of (drop i items)))
+          (rest (map step_of (drop (i + 1) items)))
           c.args.scope.now c.items.scope c.step.new.scope c.items.self c.step.new.self (λ q. ap (λ l. rest l q) at) f (c.in-Ok.ensures f.made f.stands);
       fit = (subst (λ l. HaveFitConstants (steps_in_turn l)) at c.items.invariant.fit).1;
     }
@@ -96,9 +100,11 @@ turns-range-preserved t c = λ m h.
     let f = turn_steps add k c.args.scope.now.known name ss in
     let far = c.range.invariant m h in
     let lt : v < end = search rules in
-    so-next (turns_made k f (numbers_from low (end - low)) m) (λ e. turn_made k (turn_steps add k e name ss) v) (turns_made k f (numbers_from v (end - v))) (turns_made k f (numbers_from (v + 1) (end - (v + 1))))
+    so-next (turns_made k f (numbers_from low (end - low)) m) (λ e. turn_made k (turn_steps add k e name ss) v) (turns_made k f (numbers_from v (end - v)))
+    (turns_made k f (numbers_from (v + 1) (end - (v + 1))))
     c.args.scope.now c.range.scope c.turn.new.scope c.range.self c.turn.new.self
-    (λ q. ap (λ l. turns_made k f l q) (numbers-next v end lt) ∙ turns-next k f v (numbers_from (v + 1) (end - (v + 1))) q) far (c.in-Ok.ensures far.made far.stands)
+    (λ q. ap (λ l. turns_made k f l q) (numbers-next v end lt) ∙ turns-next k f v (numbers_from (v + 1) (end - (v + 1))) q) far
+    (c.in-Ok.ensures far.made far.stands)
 
 pub turns-returns : goal.turns-returns
 turns-returns t c = λ m h.
@@ -125,9 +131,11 @@ turns-returns-in-Err t c = λ m h.
     let far = c.range.invariant m h in
     let lt : v < end = search rules in
     let e = c.in-Err.refusal in
-    so-fault (turns_made k f (numbers_from low (end - low)) m) (λ g. turn_made k (turn_steps add k g name ss) v) (turns_made k f (numbers_from v (end - v))) (turns_made k f (numbers_from (v + 1) (end - (v + 1))))
+    so-fault (turns_made k f (numbers_from low (end - low)) m) (λ g. turn_made k (turn_steps add k g name ss) v) (turns_made k f (numbers_from v (end - v)))
+    (turns_made k f (numbers_from (v + 1) (end - (v + 1))))
     c.args.scope.now c.range.scope c.range.self e
-    (λ q. ap (λ l. turns_made k f l q) (numbers-next v end lt) ∙ turns-next k f v (numbers_from (v + 1) (end - (v + 1))) q) far (c.in-Err.ensures far.made far.stands)
+    (λ q. ap (λ l. turns_made k f l q) (numbers-next v end lt) ∙ turns-next k f v (numbers_from (v + 1) (end - (v + 1))) q) far
+    (c.in-Err.ensures far.made far.stands)
 
 -- THE PARTS OF ONE INSTANCE
 
@@ -135,7 +143,8 @@ pub add-returns : goal.add-returns
 add-returns t c = λ m h.
     let r = c.in_ok-child.ensures m h in
     let scope = c.args.scope.now in
-    add-made (adding c.args.seen.units.now c.args.seen.sizes.now c.args.seen.depth) (suc (length c.args.seen.units.now)) scope.known c.args.stream (expressions c.args.args.now) c.as_slice.result.now m r.0 c.in_ok-child.child
+    add-made (adding c.args.seen.units.now c.args.seen.sizes.now c.args.seen.depth) (suc (length c.args.seen.units.now)) scope.known c.args.stream
+    (expressions c.args.args.now) c.as_slice.result.now m r.0 c.in_ok-child.child
     scope (record scope { children = c.push.new.self }) c.instance.new.self (c.as_slice.ensures ∙ c.in_ok-values.ensures) r.1 r.2 c.in_ok-push.ensures.ok refl
 
 pub step-returns-in-Some : goal.step-returns-in-Some
@@ -145,19 +154,23 @@ step-returns-in-Some t c = λ m h.
     let env = c.args.scope.now.known in
     let is =
     ap (λ s. made_once add k env s m) (ap step_of c.in-Loop.is ∙ step-loop c.in-Loop.name c.in-Loop.low c.in-Loop.until c.in-Loop.high c.in-Loop.steps)
-    ∙ loop-is add k env c.in-Loop.name (expression c.in-Loop.low) (is_turn c.in-Loop.until) (expression c.in-Loop.high) (steps_of c.in-Loop.steps) m c.in-Some.span c.in-Some.ensures in
+    ∙ loop-is add k env c.in-Loop.name (expression c.in-Loop.low) (is_turn c.in-Loop.until) (expression c.in-Loop.high)
+    (steps_of c.in-Loop.steps) m c.in-Some.span c.in-Some.ensures in
     subst (MakesMore c.turns.result c.args.scope.now c.turns.new.scope c.turns.new.self) (sym is) (c.turns.ensures m h)
 
 pub children-returns : goal.children-returns
 children-returns t c = λ m h.
     let none : c.steps.new.scope.children ≡ [] → ⊥ = λ e. let f : false ≡ true = subst IsTrue c.if-is_empty.false (c.is_empty.ensures.1 e) in cc f in
-    all-made (adding c.args.seen.units.now c.args.seen.sizes.now c.args.seen.depth) (suc (length c.args.seen.units.now)) c.args.scope.now.known (steps_of c.args.steps.now) m c.args.scope.now c.steps.new.scope c.steps.new.self
+    all-made (adding c.args.seen.units.now c.args.seen.sizes.now c.args.seen.depth) (suc (length c.args.seen.units.now)) c.args.scope.now.known
+    (steps_of c.args.steps.now) m c.args.scope.now c.steps.new.scope c.steps.new.self
     c.requires.none (c.in_ok-steps.ensures {u = tt} m h) none
 
 pub pipeline-returns : goal.pipeline-returns
 pipeline-returns t c = λ m h.
     let r = c.in_ok-children.ensures {u = tt} m h in
-    pipeline-made (adding c.args.seen.units.now c.args.seen.sizes.now c.args.seen.depth) (suc (length c.args.seen.units.now)) c.args.name c.args.scope.now.known (steps_of c.args.steps.now) m r.1 r.0 c.in_ok-instance.instance c.write_pipeline.new.self
+    pipeline-made (adding c.args.seen.units.now c.args.seen.sizes.now c.args.seen.depth)
+    (suc (length c.args.seen.units.now)) c.args.name c.args.scope.now.known
+    (steps_of c.args.steps.now) m r.1 r.0 c.in_ok-instance.instance c.write_pipeline.new.self
     r.2 (c.in_ok-instance.ensures r.1 r.0 r.3 (ap names_written c.as_slice.ensures ∙ r.4))
 
 pub split_join-returns : goal.split_join-returns
@@ -180,7 +193,8 @@ split_join-returns t c = λ m h.
 pub body-returns-in-Filter : goal.body-returns-in-Filter
 body-returns-in-Filter t c = λ m h.
     let add = adding c.args.seen.units.now c.args.seen.sizes.now c.args.seen.depth in
-    subst (λ b. MakesOne c.filter.result c.filter.new.self (bodied add (suc (length c.args.seen.units.now)) c.args.name c.args.scope.now.known (body_of b) m)) (sym c.in-Filter.is) (c.filter.ensures m add h)
+    subst (λ b. MakesOne c.filter.result c.filter.new.self (bodied add (suc (length c.args.seen.units.now)) c.args.name c.args.scope.now.known (body_of b) m))
+    (sym c.in-Filter.is) (c.filter.ensures m add h)
 
 pub make-returns : goal.make-returns
 make-returns t c = λ m h.

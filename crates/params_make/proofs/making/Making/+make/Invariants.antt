@@ -46,8 +46,10 @@ abbrev pub invariant-steps-items : goal.invariant-steps-items
 invariant-steps-items l = record {
   far :
       (m : Made) → Stands l.initial.self m
-      → SoFar (steps_made (adding l.seen.units.now l.seen.sizes.now l.seen.depth) (suc (length l.seen.units.now)) l.initial.scope.known (steps_in_turn (map step_of l.each-items)) m)
-      (steps_made (adding l.seen.units.now l.seen.sizes.now l.seen.depth) (suc (length l.seen.units.now)) l.initial.scope.known (steps_in_turn (map step_of (drop l.each-index l.each-items))))
+      → SoFar (steps_made (adding l.seen.units.now l.seen.sizes.now l.seen.depth) (suc (length l.seen.units.now)) l.initial.scope.known
+      (steps_in_turn (map step_of l.each-items)) m)
+      (steps_made (adding l.seen.units.now l.seen.sizes.now l.seen.depth) (suc (length l.seen.units.now)) l.initial.scope.known
+      (steps_in_turn (map step_of (drop l.each-index l.each-items))))
       l.initial.scope l.scope l.self;
   fit : HaveFitConstants (steps_in_turn (map step_of (drop l.each-index l.each-items)));
 }
@@ -55,6 +57,10 @@ invariant-steps-items l = record {
 abbrev pub invariant-turns-range : goal.invariant-turns-range
 invariant-turns-range l =
     (m : Made) → Stands l.initial.self m
-    → SoFar (turns_made (suc (length l.seen.units.now)) (turn_steps (adding l.seen.units.now l.seen.sizes.now l.seen.depth) (suc (length l.seen.units.now)) l.initial.scope.known l.fn.turns.name (steps_of l.steps)) (numbers_from l.fn.turns.span.low (l.fn.turns.span.end - l.fn.turns.span.low)) m)
-    (turns_made (suc (length l.seen.units.now)) (turn_steps (adding l.seen.units.now l.seen.sizes.now l.seen.depth) (suc (length l.seen.units.now)) l.initial.scope.known l.fn.turns.name (steps_of l.steps)) (numbers_from l.each (l.fn.turns.span.end - l.each)))
+    → SoFar (turns_made (suc (length l.seen.units.now))
+    (turn_steps (adding l.seen.units.now l.seen.sizes.now l.seen.depth) (suc (length l.seen.units.now)) l.initial.scope.known l.fn.turns.name
+    (steps_of l.steps)) (numbers_from l.fn.turns.span.low (l.fn.turns.span.end - l.fn.turns.span.low)) m)
+    (turns_made (suc (length l.seen.units.now))
+    (turn_steps (adding l.seen.units.now l.seen.sizes.now l.seen.depth) (suc (length l.seen.units.now)) l.initial.scope.known l.fn.turns.name
+    (steps_of l.steps)) (numbers_from l.each (l.fn.turns.span.end - l.each)))
     l.initial.scope l.scope l.self

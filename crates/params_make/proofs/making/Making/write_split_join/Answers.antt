@@ -12,5 +12,8 @@ returns c = λ m a h g.
     let scope = c.args.scope.now in
     let all = c.args.all.now in
     let b = plain.ASplitJoin (dealing scope.known (dealing_of all.split)) a (option_counts scope.known (rounds_of all.join)) in
-    written-by c.wrote.result s (record s { text = c.print_split_join.new.to }) c.wrote.new.self m (suc (length c.args.above.now)) c.args.stream b c.in_ok-instance.instance h
-    c.in_ok-instance.ensures.stream c.in_ok-instance.ensures.number (ap (λ t. record s { text = t }) (c.in_ok-print_split_join.ensures {u = tt} a (ap names_written c.as_slice.ensures ∙ g))) c.wrote.ensures.same c.wrote.ensures.noted
+    written-by c.wrote.result s (record s { text = c.print_split_join.new.to }) c.wrote.new.self m
+    (suc (length c.args.above.now)) c.args.stream b c.in_ok-instance.instance h
+    c.in_ok-instance.ensures.stream c.in_ok-instance.ensures.number
+    (ap (λ t. record s { text = t })
+    (c.in_ok-print_split_join.ensures {u = tt} a (ap names_written c.as_slice.ensures ∙ g))) c.wrote.ensures.same c.wrote.ensures.noted

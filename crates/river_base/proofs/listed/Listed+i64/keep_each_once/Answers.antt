@@ -6,4 +6,5 @@ use Rattle.river_base.proofs.listed.Listed+i64.keep_each_once.Goals as goal
 pub returns : goal.returns
 returns c =
     let sorted = c.sort_unstable.ensures in
-    once_from_sort c.self.inside.items.items c.sort_unstable.new.self.items c.dedup.new.self.items sorted.permutation sorted.sorted c.dedup.ensures.filtered ∙ ap each_once c.self.view_is
+    once_from_sort c.self.inside.items.items c.sort_unstable.new.self.items c.dedup.new.self.items sorted.permutation sorted.sorted c.dedup.ensures.filtered
+    ∙ ap each_once c.self.view_is

@@ -14,7 +14,8 @@ loop-i-preserved c =
     let x = get_or c.args.values.now c.loop-i.i (pos 0) in
     let e = to_z-of_z w64 x f in (
       rw e (All-set IsValue c.loop-i.all c.loop-i.i x f c.loop-i.invariant.0),
-      ap (set c.loop-i.all c.loop-i.i) e ∙ ap (λ l. set l c.loop-i.i x) c.loop-i.invariant.1 ∙ filled_more (pos 0) c.args.values.now c.loop-i.i 16 (pos 0) c.loop-i-test.true (omega (arith, c.loop-i-test.true, c.requires.at_most)),
+      ap (set c.loop-i.all c.loop-i.i) e ∙ ap (λ l. set l c.loop-i.i x) c.loop-i.invariant.1
+          ∙ filled_more (pos 0) c.args.values.now c.loop-i.i 16 (pos 0) c.loop-i-test.true (omega (arith, c.loop-i-test.true, c.requires.at_most)),
     )
 
 pub invariant_of-result : goal.invariant_of-result

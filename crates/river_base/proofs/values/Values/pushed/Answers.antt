@@ -12,7 +12,8 @@ pub invariant_of-result : goal.invariant_of-result
 invariant_of-result c =
     let w = short_width 16 (pos 0) c.self.inside.width c.self.inside.values c.args.self.now c.self.invariant.short c.self.view_is in
     let room : c.self.inside.width < 16 = omega (arith, w, c.requires) in
-    subst (λ v. AreShortValues (c.self.inside.width + 1) (set c.self.inside.values c.self.inside.width v)) (sym (to_z-of_z w64 c.args.value c.ranges.value)) (record {
+    subst (λ v. AreShortValues (c.self.inside.width + 1) (set c.self.inside.values c.self.inside.width v)) (sym (to_z-of_z w64 c.args.value c.ranges.value))
+    (record {
       short = IsShort-pushed 16 (pos 0) c.self.inside.width c.self.inside.values c.args.value c.self.invariant.short room;
       in_range = All-set IsValue c.self.inside.values c.self.inside.width c.args.value c.ranges.value c.self.invariant.in_range;
     })

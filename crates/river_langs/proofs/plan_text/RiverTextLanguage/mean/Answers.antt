@@ -7,5 +7,6 @@ use Rattle.river_langs.proofs.plan_text.RiverTextLanguage.mean.Goals as goal
 pub run_lines-requires : goal.run_lines-requires
 run_lines-requires c = record {
   fits =
-      subst (λ (l : List (List item.Item)). Fit c.args.compiled.now.plan l) (sym c.in_ok-inputs_of.ensures) (contents-fit c.args.compiled.now.plan c.args.files c.requires.contents);
+      subst (λ (l : List (List item.Item)). Fit c.args.compiled.now.plan l) (sym c.in_ok-inputs_of.ensures)
+      (contents-fit c.args.compiled.now.plan c.args.files c.requires.contents);
 }

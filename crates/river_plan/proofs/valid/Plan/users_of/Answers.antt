@@ -14,13 +14,16 @@ each_of v (op ∷ ops) a = (a.0 v, each_of v ops a.1)
 pub at-requires : goal.at-requires
 at-requires c =
     let p = plan_form c.self.inside.raw.value in
-    rw c.deref.ensures (users-below (length (variable_names p)) c.args.variable (var_places p) _ c.self.invariant.1.vars.by_place (subst (λ q. c.args.variable < length (variable_names q)) (sym c.self.view_is) c.requires))
+    rw c.deref.ensures (users-below (length (variable_names p)) c.args.variable (var_places p) _ c.self.invariant.1.vars.by_place
+    (subst (λ q. c.args.variable < length (variable_names q)) (sym c.self.view_is) c.requires))
 
 pub returns-clause-users : goal.returns-clause-users
 returns-clause-users c =
     let p = plan_form c.self.inside.raw.value in
     c.as_slice.ensures ∙ c.at.ensures []
-    ∙ rw c.deref.ensures (users-there (length (variable_names p)) c.args.variable (var_places p) _ [] c.self.invariant.1.vars.by_place (subst (λ q. c.args.variable < length (variable_names q)) (sym c.self.view_is) c.requires))
+    ∙ rw c.deref.ensures
+    (users-there (length (variable_names p)) c.args.variable (var_places p) _ [] c.self.invariant.1.vars.by_place
+    (subst (λ q. c.args.variable < length (variable_names q)) (sym c.self.view_is) c.requires))
     ∙ ap (λ q. users_from 0 (var_places q) c.args.variable) c.self.view_is
 
 pub returns-clause-rising : goal.returns-clause-rising
@@ -31,4 +34,5 @@ returns-clause-rising c =
     let here : place (variable_names p) named.0 ≡ c.args.variable = (let e = named.3 in omega (arith, e)) in
     let rises = each-rising (variable_names p) named.0 named.2 p.ops 0 (each_of named.0 p.ops c.self.invariant.0.vars_apart) in
     let rising = subst (λ i. IsStrictlyIncreasing (users_from 0 (var_places p) i)) here rises in
-    subst IsStrictlyIncreasing (sym (returns-clause-users c)) (subst (λ (q : PlanForm). IsStrictlyIncreasing (users_from 0 (var_places q) c.args.variable)) c.self.view_is rising)
+    subst IsStrictlyIncreasing (sym (returns-clause-users c))
+    (subst (λ (q : PlanForm). IsStrictlyIncreasing (users_from 0 (var_places q) c.args.variable)) c.self.view_is rising)

@@ -5,7 +5,7 @@ use Rattle.work_code.specs.declared.code.Stmt as built
 use Rattle.work_code.proofs.Running.{step-set}
 use Rattle.saw_model.specs.Elaborate.{step_of}
 use Rattle.saw_text.specs.Tree as source
-use Rattle.saw_text.specs.Tree.{expression, option_expression}
+use Rattle.saw_text.specs.Tree.{expression}
 use Rattle.saw_build.specs.Judging.{at_of}
 use Rattle.saw_build.proofs.Statements.{counted_fault, assign_slot_fault, assign_value_fault, assign_read}
 use Rattle.saw_build.proofs.SoFar.{kept_by, reads_err}

@@ -6,7 +6,7 @@ use Rattle.work_code.proofs.Running.{step-set}
 use Rattle.river_plan.specs.Forms.{Name}
 use Rattle.saw_model.specs.Elaborate.{Var, step_of}
 use Rattle.saw_text.specs.Tree as source
-use Rattle.saw_text.specs.Tree.{expression, option_expression}
+use Rattle.saw_text.specs.Tree.{option_expression}
 use Rattle.saw_build.specs.Judging.{at_of}
 use Rattle.saw_build.specs.View.{scope_of}
 use Rattle.saw_build.specs.declared.names.Known.{Known}

@@ -17,7 +17,8 @@ pub loop-i-init : goal.loop-i-init
 loop-i-init c = λ known k.
     let adds = c.args.adds.now in
     let e = c.one-children.ensures in
-    adds_start (unit_forms c.args.self.now.declared.items) (may c.args.branch) known adds.first adds.others.items c.in_ok-first.first c.one-children.result (c.in_ok-first.ensures known k) e.front e.last e.ops e.deepest
+    adds_start (unit_forms c.args.self.now.declared.items) (may c.args.branch) known adds.first adds.others.items c.in_ok-first.first c.one-children.result
+    (c.in_ok-first.ensures known k) e.front e.last e.ops e.deepest
 
 pub loop-i-preserved : goal.loop-i-preserved
 loop-i-preserved c = λ known k.
@@ -31,7 +32,8 @@ loop-i-preserved c = λ known k.
     let is : m ≡ get_or others i m = search rules in
     let f = subst (λ l. SoFar us (may c.args.branch) known whole i l c.loop-i.children) (name_at others i m lt is) (c.loop-i.invariant known k) in
     let p = c.in_ok-push.ensures {u = tt} in
-    adds_next us (may c.args.branch) known whole i m (drop (i + 1) others) c.loop-i.children c.push.new.self c.in_ok-next.next f (c.in_ok-next.ensures known k) p.front p.last p.ops p.deepest
+    adds_next us (may c.args.branch) known whole i m (drop (i + 1) others) c.loop-i.children c.push.new.self c.in_ok-next.next f
+    (c.in_ok-next.ensures known k) p.front p.last p.ops p.deepest
 
 pub returns-in_err-next : goal.returns-in_err-next
 returns-in_err-next c = λ known k.
@@ -56,4 +58,5 @@ returns c = λ known k.
     let whole = streams_added (may c.args.branch) known 0 adds.first others in
     let i = c.loop-i.i in
     let le : length others ≤ i = search rules in
-    adds_end us (may c.args.branch) known whole i c.loop-i.children (subst (λ l. SoFar us (may c.args.branch) known whole i l c.loop-i.children) (drop_all i others le) (c.loop-i.invariant known k))
+    adds_end us (may c.args.branch) known whole i c.loop-i.children
+    (subst (λ l. SoFar us (may c.args.branch) known whole i l c.loop-i.children) (drop_all i others le) (c.loop-i.invariant known k))

@@ -10,4 +10,5 @@ returns c = λ known k.
     let d = made.Pipeline cs.front cs.last in
     let m : Made c.args.self.now c.declare.new.self d c.args.name cs.ops c.in_ok-depth.depth = c.in_ok-declare.ensures {u = tt} in
     let all = c.in_ok-children.ensures known k in
-    pipe_declared c.args.self.now c.declare.new.self d c.args.name (adds_of c.args.adds.now) cs c.in_ok-depth.depth all.0 known refl c.in_ok-depth.ensures m k all.1 all.2
+    pipe_declared c.args.self.now c.declare.new.self d c.args.name
+    (adds_of c.args.adds.now) cs c.in_ok-depth.depth all.0 known refl c.in_ok-depth.ensures m k all.1 all.2

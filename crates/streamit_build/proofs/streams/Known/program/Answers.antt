@@ -16,4 +16,5 @@ returns c =
     let units = c.args.units.now in
     let r = c.in_ok-units.ensures {u = tt} [] c.requires.nothing in
     let l = last_known units c.index-units-count.result r.0 c.requires.some r.1 in
-    planned c.plan_last.result (program_of units) (length units) _ l.0 l.1 (r.1 ∙ ap took l.2) (sym (length-map units declared_of)) (c.plan_last.ensures l.0 l.1 (subst (Knows c.units.new.self) l.2 r.2))
+    planned c.plan_last.result (program_of units) (length units) _ l.0 l.1 (r.1 ∙ ap took l.2) (sym (length-map units declared_of))
+    (c.plan_last.ensures l.0 l.1 (subst (Knows c.units.new.self) l.2 r.2))

@@ -50,4 +50,6 @@ returns c = λ known k.
     let h : round_of (weights_of all.join) (c.len-count.result + 1) ≡ Ok vs = c.in_ok-join.ensures in
     let d = made.SplitJoin c.in_ok-split.split cs.front cs.last c.in_ok-join.join in
     let m : Made c.args.self.now c.declare.new.self d c.args.name c.few-ops.result c.in_ok-depth.depth = c.in_ok-declare.ensures {u = tt} in
-    split_declared c.args.self.now c.declare.new.self d c.args.name g a (weights_of all.join) vs sp cs c.few-ops.result c.in_ok-depth.depth ch.0 known refl c.few-ops.ensures c.in_ok-depth.ensures m k hs ch.1 (subst (λ m. round_of (weights_of all.join) m ≡ Ok vs) n h) ch.2
+    split_declared c.args.self.now c.declare.new.self d c.args.name g a
+    (weights_of all.join) vs sp cs c.few-ops.result c.in_ok-depth.depth ch.0 known refl c.few-ops.ensures c.in_ok-depth.ensures m k hs ch.1
+    (subst (λ m. round_of (weights_of all.join) m ≡ Ok vs) n h) ch.2

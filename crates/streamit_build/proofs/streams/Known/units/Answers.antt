@@ -20,7 +20,8 @@ loop-i-preserved c =
     let units = c.args.units.now in
     let i = c.loop-i.i in
     let u = c.index-units-i.result in
-    let at : program_of (drop i units) ≡ declared_of u ∷ program_of (drop (i + 1) units) = at_place declared_of units i u c.loop-i-test.true c.index-units-i.is in
+    let at : program_of (drop i units) ≡ declared_of u ∷ program_of (drop (i + 1) units) =
+    at_place declared_of units i u c.loop-i-test.true c.index-units-i.is in
     record {
       readable = (subst AreReadable at c.loop-i.invariant.readable).1;
       judged = λ start k.
@@ -34,7 +35,8 @@ returns-in-Err c = λ start k.
     let units = c.args.units.now in
     let i = c.loop-i.i in
     let u = c.index-units-i.result in
-    let at : program_of (drop i units) ≡ declared_of u ∷ program_of (drop (i + 1) units) = at_place declared_of units i u c.loop-i-test.true c.index-units-i.is in
+    let at : program_of (drop i units) ≡ declared_of u ∷ program_of (drop (i + 1) units) =
+    at_place declared_of units i u c.loop-i-test.true c.index-units-i.is in
     let whole = all_streams 1 start (program_of units) in
     let j = subst (λ p. Judging whole (i + 1) p c.loop-i.self) at (c.loop-i.invariant.judged start k) in
     judging_fault whole i (declared_of u) (program_of (drop (i + 1) units)) c.loop-i.self c.unit.new.self c.in-Err.fault j (c.in-Err.ensures j.known j.knows)
@@ -45,4 +47,5 @@ returns c = λ start k.
     let i = c.loop-i.i in
     let le : length units ≤ i = search rules in
     let whole = all_streams 1 start (program_of units) in
-    judging_end whole (i + 1) c.loop-i.self (subst (λ p. Judging whole (i + 1) p c.loop-i.self) (none_left declared_of units i le) (c.loop-i.invariant.judged start k))
+    judging_end whole (i + 1) c.loop-i.self
+    (subst (λ p. Judging whole (i + 1) p c.loop-i.self) (none_left declared_of units i le) (c.loop-i.invariant.judged start k))

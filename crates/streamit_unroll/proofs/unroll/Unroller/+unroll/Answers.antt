@@ -21,21 +21,31 @@ use Rattle.streamit_unroll.proofs.unroll.Unroller.+unroll.Goals as goal
 pub block-returns-in_err-statement : goal.block-returns-in_err-statement
 block-returns-in_err-statement t c =
     let items = c.as_slice-s-items.result.now in
-    let f = subst (λ l. BlockSoFar c.args.peek (map statement items) l c.args.self.now c.loop-s.self c.args.out.now c.loop-s.out) (at_place statement items c.loop-s.s-index c.s-item.result (omega arith) c.s-item.is) c.loop-s.invariant in
-    let r = block_err c.args.peek (map statement items) (statement c.s-item.result) (map statement (drop (c.loop-s.s-index + 1) items)) c.args.self.now c.loop-s.self c.statement.new.self c.args.self.now c.statement.new.self c.args.out.now c.loop-s.out c.statement.new.out c.args.out.now c.statement.new.out c.from_residual.result c.in_err-statement.field-0.0 (search rules) f (c.in_err-statement.ensures {u = tt}) in
+    let f = subst (λ l. BlockSoFar c.args.peek (map statement items) l c.args.self.now c.loop-s.self c.args.out.now c.loop-s.out)
+    (at_place statement items c.loop-s.s-index c.s-item.result (omega arith) c.s-item.is) c.loop-s.invariant in
+    let r = block_err c.args.peek (map statement items) (statement c.s-item.result)
+    (map statement (drop
+    (c.loop-s.s-index + 1) items)) c.args.self.now c.loop-s.self c.statement.new.self c.args.self.now c.statement.new.self c.args.out.now c.loop-s.out
+    c.statement.new.out c.args.out.now c.statement.new.out c.from_residual.result c.in_err-statement.field-0.0 (search rules) f
+    (c.in_err-statement.ensures {u = tt}) in
     rw (block-is c.args.b.now, ← c.as_slice-s-items.ensures.value) r
 
 pub block-loop-s-preserved : goal.block-loop-s-preserved
 block-loop-s-preserved t c =
     let items = c.as_slice-s-items.result.now in
-    let f = subst (λ l. BlockSoFar c.args.peek (map statement items) l c.args.self.now c.loop-s.self c.args.out.now c.loop-s.out) (at_place statement items c.loop-s.s-index c.s-item.result (omega arith) c.s-item.is) c.loop-s.invariant in
-    block_next c.args.peek (map statement items) (statement c.s-item.result) (map statement (drop (c.loop-s.s-index + 1) items)) c.args.self.now c.loop-s.self c.statement.new.self c.args.out.now c.loop-s.out c.statement.new.out f (c.in_ok-statement.ensures {u = tt})
+    let f = subst (λ l. BlockSoFar c.args.peek (map statement items) l c.args.self.now c.loop-s.self c.args.out.now c.loop-s.out)
+    (at_place statement items c.loop-s.s-index c.s-item.result (omega arith) c.s-item.is) c.loop-s.invariant in
+    block_next c.args.peek (map statement items) (statement c.s-item.result)
+    (map statement (drop (c.loop-s.s-index + 1) items)) c.args.self.now c.loop-s.self c.statement.new.self c.args.out.now c.loop-s.out c.statement.new.out f
+    (c.in_ok-statement.ensures {u = tt})
 
 pub block-returns : goal.block-returns
 block-returns t c =
     let items = c.as_slice-s-items.result.now in
-    let f = subst (λ l. BlockSoFar c.args.peek (map statement items) l c.args.self.now c.loop-s.self c.args.out.now c.loop-s.out) (none_left statement items c.loop-s.s-index (omega arith)) c.loop-s.invariant in
-    rw (block-is c.args.b.now, ← c.as_slice-s-items.ensures.value) (block_end c.args.peek (map statement items) c.args.self.now c.loop-s.self c.args.out.now c.loop-s.out f)
+    let f = subst (λ l. BlockSoFar c.args.peek (map statement items) l c.args.self.now c.loop-s.self c.args.out.now c.loop-s.out)
+    (none_left statement items c.loop-s.s-index (omega arith)) c.loop-s.invariant in
+    rw (block-is c.args.b.now, ← c.as_slice-s-items.ensures.value)
+    (block_end c.args.peek (map statement items) c.args.self.now c.loop-s.self c.args.out.now c.loop-s.out f)
 
 pub branch-returns-in_ok-push : goal.branch-returns-in_ok-push
 branch-returns-in_ok-push t c =
@@ -44,10 +54,13 @@ branch-returns-in_ok-push t c =
     let first = c.in_ok-first.first in
     let second = c.in_ok-second.second in
     let cond = c.in_ok-cond.cond in
-    let r = if_read c.args.peek (expression c.args.cond.now) (block c.args.yes.now) (optional_block c.args.no.now) (at_of c.args.self.now) (at_of c.counted.new.self) (at_of c.arm.new.self) (at_of c.otherwise.new.self) one.0 two.0 (term cond) c.term.new.popped
+    let r = if_read c.args.peek (expression c.args.cond.now) (block c.args.yes.now) (optional_block c.args.no.now) (at_of c.args.self.now)
+    (at_of c.counted.new.self) (at_of c.arm.new.self) (at_of c.otherwise.new.self) one.0 two.0 (term cond) c.term.new.popped
     (in_turn (map step (statements first))) (in_turn (map step (statements second)))
-    c.in_ok-counted.ensures.judged c.in_ok-cond.ensures.judged c.in_ok-cond.ensures.popped one.1 one.2 two.1 two.2 c.if-popped_first-self.true c.if-pushed_first-self.true in
-    let made = step-if cond first second ∙ ap (λ a. tree.If (term cond) a (steps second)) (steps-is first) ∙ ap (λ b. tree.If (term cond) (in_turn (map step (statements first))) b) (steps-is second) in (
+    c.in_ok-counted.ensures.judged c.in_ok-cond.ensures.judged c.in_ok-cond.ensures.popped one.1 one.2 two.1 two.2 c.if-popped_first-self.true
+    c.if-pushed_first-self.true in
+    let made = step-if cond first second ∙ ap (λ a. tree.If (term cond) a (steps second)) (steps-is first)
+    ∙ ap (λ b. tree.If (term cond) (in_turn (map step (statements first))) b) (steps-is second) in (
       built.If cond first second ∷ [],
       c.in_ok-push.ensures.ok,
       r ∙ ap (λ x. answered (tree.Then x tree.Done, at_of c.otherwise.new.self)) (sym made),
@@ -58,7 +71,8 @@ pub turn-returns : goal.turn-returns
 turn-returns t c =
     let r = c.in_ok-block.ensures {u = tt} in
     let d = turn_is c.args.peek (block c.args.b.now) c.args.name c.args.v (at_of c.args.self.now) (at_of c.counted.new.self) (at_of c.block.new.self)
-    c.args.self.now.names.items.items c.counted.new.self.names.items.items c.push.new.self.items c.block.new.self.names.items.items c.truncate.new.self.items (in_turn (map step r.0))
+    c.args.self.now.names.items.items c.counted.new.self.names.items.items c.push.new.self.items c.block.new.self.names.items.items c.truncate.new.self.items
+    (in_turn (map step r.0))
     refl (c.in_ok-counted.ensures.judged) (search rules) (search rules) r.2 r.3 (search rules) in
     (r.0, r.1, d.0, d.1)
 
@@ -71,7 +85,9 @@ turns-loop-v-init t c = turns_start c.args.peek (block c.args.b.now) c.args.name
 
 pub turns-loop-v-preserved : goal.turns-loop-v-preserved
 turns-loop-v-preserved t c =
-    turns_next c.args.peek (block c.args.b.now) c.args.name c.args.span.low c.loop-v.v c.args.span.end c.args.self.now c.loop-v.self c.turn.new.self c.args.out.now c.loop-v.out c.turn.new.out
+    turns_next c.args.peek
+    (block c.args.b.now) c.args.name c.args.span.low c.loop-v.v c.args.span.end c.args.self.now c.loop-v.self c.turn.new.self c.args.out.now c.loop-v.out
+    c.turn.new.out
     (search rules) c.loop-v.invariant (c.in_ok-turn.ensures {u = tt})
 
 pub turns-returns-in_err-turn : goal.turns-returns-in_err-turn
@@ -79,15 +95,18 @@ turns-returns-in_err-turn t c =
     let low = c.args.span.low in
     let end = c.args.span.end in
     let body = block c.args.b.now in
-    turns_fault c.args.peek body c.args.name low c.loop-v.v end c.args.self.now c.loop-v.self c.turn.new.self c.args.self.now c.turn.new.self c.args.out.now c.loop-v.out c.turn.new.out c.args.out.now c.turn.new.out
-    (unrolled (steps_of c.args.peek body) c.args.name (numbers_from low (end - low)) (at_of c.args.self.now)) c.from_residual.result c.in_err-turn.field-0.0 (search rules) (search rules) refl c.loop-v.invariant (c.in_err-turn.ensures {u = tt})
+    turns_fault c.args.peek body c.args.name low c.loop-v.v end c.args.self.now c.loop-v.self c.turn.new.self c.args.self.now c.turn.new.self c.args.out.now
+    c.loop-v.out c.turn.new.out c.args.out.now c.turn.new.out
+    (unrolled (steps_of c.args.peek body) c.args.name (numbers_from low (end - low)) (at_of c.args.self.now)) c.from_residual.result c.in_err-turn.field-0.0
+    (search rules) (search rules) refl c.loop-v.invariant (c.in_err-turn.ensures {u = tt})
 
 pub turns-returns : goal.turns-returns
 turns-returns t c =
     let low = c.args.span.low in
     let end = c.args.span.end in
     let body = block c.args.b.now in
-    turns_end c.args.peek body c.args.name low c.loop-v.v end c.args.self.now c.loop-v.self c.args.out.now c.loop-v.out (unrolled (steps_of c.args.peek body) c.args.name (numbers_from low (end - low)) (at_of c.args.self.now)) (search rules) refl c.loop-v.invariant
+    turns_end c.args.peek body c.args.name low c.loop-v.v end c.args.self.now c.loop-v.self c.args.out.now c.loop-v.out
+    (unrolled (steps_of c.args.peek body) c.args.name (numbers_from low (end - low)) (at_of c.args.self.now)) (search rules) refl c.loop-v.invariant
 
 pub statement-returns-in_ok-span-in-For : goal.statement-returns-in_ok-span-in-For
 statement-returns-in_ok-span-in-For t c =
@@ -95,7 +114,8 @@ statement-returns-in_ok-span-in-For t c =
     let at = at_of c.args.self.now in
     let w =
     ap (λ x. step_of c.args.peek x at) (ap statement c.in-For.is ∙ statement-for c.in-For.name c.in-For.low c.in-For.until c.in-For.high c.in-For.body)
-    ∙ for_turns c.args.peek c.in-For.name (expression c.in-For.low) (expression c.in-For.high) (is_turn c.in-For.until) (block c.in-For.body) at s.low s.end (c.in_ok-span-in-For.ensures {u = tt}) in
+    ∙ for_turns c.args.peek c.in-For.name (expression c.in-For.low) (expression c.in-For.high) (is_turn c.in-For.until) (block c.in-For.body) at s.low s.end
+    (c.in_ok-span-in-For.ensures {u = tt}) in
     subst (Reads c.turns.result c.args.out.now c.turns.new.out c.args.self.now c.turns.new.self) (sym w) c.turns.ensures
 
 pub statement-returns-in_err-span-in-For : goal.statement-returns-in_err-span-in-For
@@ -103,17 +123,22 @@ statement-returns-in_err-span-in-For t c =
     let at = at_of c.args.self.now in
     let f = c.in_err-span-in-For.field-0.0 in
     let is : c.from_residual.result ≡ Err f = search rules in
-    let w = ap (λ x. step_of c.args.peek x at) (ap statement c.in-For.is ∙ statement-for c.in-For.name c.in-For.low c.in-For.until c.in-For.high c.in-For.body) in
+    let w = ap (λ x. step_of c.args.peek x at)
+    (ap statement c.in-For.is ∙ statement-for c.in-For.name c.in-For.low c.in-For.until c.in-For.high c.in-For.body) in
     subst (λ r. Reads r c.args.out.now c.args.out.now c.args.self.now c.args.self.now (step_of c.args.peek (statement c.args.s.now) at)) (sym is)
-    (subst (Tells f) (sym w) (for_fault c.args.peek c.in-For.name (expression c.in-For.low) (expression c.in-For.high) (is_turn c.in-For.until) (block c.in-For.body) at f (c.in_err-span-in-For.ensures {u = tt})))
+    (subst (Tells f) (sym w)
+    (for_fault c.args.peek c.in-For.name (expression c.in-For.low) (expression c.in-For.high) (is_turn c.in-For.until) (block c.in-For.body) at f
+    (c.in_err-span-in-For.ensures {u = tt})))
 
 pub statement-returns-in-Push : goal.statement-returns-in-Push
 statement-returns-in-Push t c =
-    reads_as c.push.result c.args.out.now c.push.new.out c.args.self.now c.push.new.self c.args.peek (at_of c.args.self.now) (ap statement c.in-Push.is ∙ statement-push c.in-Push.value) c.push.ensures
+    reads_as c.push.result c.args.out.now c.push.new.out c.args.self.now c.push.new.self c.args.peek (at_of c.args.self.now)
+    (ap statement c.in-Push.is ∙ statement-push c.in-Push.value) c.push.ensures
 
 pub statement-returns-in-Pop : goal.statement-returns-in-Pop
 statement-returns-in-Pop t c =
-    reads_as c.pop.result c.args.out.now c.pop.new.out c.args.self.now c.pop.new.self c.args.peek (at_of c.args.self.now) (ap statement c.in-Pop.is ∙ statement-pop) c.pop.ensures
+    reads_as c.pop.result c.args.out.now c.pop.new.out c.args.self.now c.pop.new.self c.args.peek (at_of c.args.self.now)
+    (ap statement c.in-Pop.is ∙ statement-pop) c.pop.ensures
 
 pub statement-returns-in-Declare : goal.statement-returns-in-Declare
 statement-returns-in-Declare t c =
@@ -137,7 +162,8 @@ branch-returns-in_err-counted t c =
     let cond = expression c.args.cond.now in
     let yes = block c.args.yes.now in
     let no = optional_block c.args.no.now in
-    reads_err c.from_residual.result f c.args.out.now c.args.out.now c.args.self.now c.counted.new.self (step_of c.args.peek (source.If cond yes no) s) (search rules)
+    reads_err c.from_residual.result f c.args.out.now c.args.out.now c.args.self.now c.counted.new.self (step_of c.args.peek (source.If cond yes no) s)
+    (search rules)
     (if_count_fault c.args.peek cond yes no s f c.in_err-counted.ensures.judged)
 
 pub branch-returns-in_err-cond : goal.branch-returns-in_err-cond
@@ -147,7 +173,8 @@ branch-returns-in_err-cond t c =
     let cond = expression c.args.cond.now in
     let yes = block c.args.yes.now in
     let no = optional_block c.args.no.now in
-    reads_err c.from_residual-in_err-cond.result f c.args.out.now c.args.out.now c.args.self.now (record c.counted.new.self { popped = c.term.new.popped }) (step_of c.args.peek (source.If cond yes no) s) (search rules)
+    reads_err c.from_residual-in_err-cond.result f c.args.out.now c.args.out.now c.args.self.now (record c.counted.new.self { popped = c.term.new.popped })
+    (step_of c.args.peek (source.If cond yes no) s) (search rules)
     (if_cond_fault c.args.peek cond yes no s (at_of c.counted.new.self) c.in_ok-counted.ensures.judged f c.in_err-cond.ensures.judged)
 
 pub branch-returns-in_err-first : goal.branch-returns-in_err-first
@@ -157,8 +184,10 @@ branch-returns-in_err-first t c =
     let cond = expression c.args.cond.now in
     let yes = block c.args.yes.now in
     let no = optional_block c.args.no.now in
-    reads_err c.from_residual-in_err-first.result f c.args.out.now c.args.out.now c.args.self.now c.arm.new.self (step_of c.args.peek (source.If cond yes no) s) (search rules)
-    (if_first_fault c.args.peek cond yes no s (at_of c.counted.new.self) c.in_ok-counted.ensures.judged (term c.in_ok-cond.cond) c.term.new.popped c.in_ok-cond.ensures.judged c.in_ok-cond.ensures.popped f
+    reads_err c.from_residual-in_err-first.result f c.args.out.now c.args.out.now c.args.self.now c.arm.new.self
+    (step_of c.args.peek (source.If cond yes no) s) (search rules)
+    (if_first_fault c.args.peek cond yes no s (at_of c.counted.new.self) c.in_ok-counted.ensures.judged
+    (term c.in_ok-cond.cond) c.term.new.popped c.in_ok-cond.ensures.judged c.in_ok-cond.ensures.popped f
     (c.in_err-first.ensures {u = tt}))
 
 pub branch-returns-in_err-second : goal.branch-returns-in_err-second
@@ -169,6 +198,8 @@ branch-returns-in_err-second t c =
     let yes = block c.args.yes.now in
     let no = optional_block c.args.no.now in
     let one = c.in_ok-first.ensures {u = tt} in
-    reads_err c.from_residual-in_err-second.result f c.args.out.now c.args.out.now c.args.self.now c.otherwise.new.self (step_of c.args.peek (source.If cond yes no) s) (search rules)
-    (if_second_fault c.args.peek cond yes no s (at_of c.counted.new.self) c.in_ok-counted.ensures.judged (term c.in_ok-cond.cond) c.term.new.popped c.in_ok-cond.ensures.judged c.in_ok-cond.ensures.popped
+    reads_err c.from_residual-in_err-second.result f c.args.out.now c.args.out.now c.args.self.now c.otherwise.new.self
+    (step_of c.args.peek (source.If cond yes no) s) (search rules)
+    (if_second_fault c.args.peek cond yes no s (at_of c.counted.new.self) c.in_ok-counted.ensures.judged
+    (term c.in_ok-cond.cond) c.term.new.popped c.in_ok-cond.ensures.judged c.in_ok-cond.ensures.popped
     (in_turn (map step (statements c.in_ok-first.first))) one.0 (at_of c.arm.new.self) one.1 one.2 f (c.in_err-second.ensures {u = tt}))

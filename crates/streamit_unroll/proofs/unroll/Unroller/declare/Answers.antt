@@ -22,7 +22,8 @@ returns-in_err-counted c =
     let f = c.in_err-counted.field-0.0 in
     let s = at_of c.args.self.now in
     let t = option_expression c.args.value.now in
-    reads_err c.from_residual.result f c.args.out.now c.args.out.now c.args.self.now c.counted.new.self (step_of c.args.peek (source.Declare c.args.name t) s) (search rules)
+    reads_err c.from_residual.result f c.args.out.now c.args.out.now c.args.self.now c.counted.new.self (step_of c.args.peek (source.Declare c.args.name t) s)
+    (search rules)
     (declare_count_fault c.args.peek c.args.name t s f c.in_err-counted.ensures.judged)
 
 pub returns-in_err-new_name : goal.returns-in_err-new_name
@@ -30,27 +31,32 @@ returns-in_err-new_name c =
     let f = c.in_err-new_name.field-0.0 in
     let s = at_of c.args.self.now in
     let t = option_expression c.args.value.now in
-    reads_err c.from_residual-in_err-new_name.result f c.args.out.now c.args.out.now c.args.self.now c.counted.new.self (step_of c.args.peek (source.Declare c.args.name t) s) (search rules)
+    reads_err c.from_residual-in_err-new_name.result f c.args.out.now c.args.out.now c.args.self.now c.counted.new.self
+    (step_of c.args.peek (source.Declare c.args.name t) s) (search rules)
     (declare_name_fault c.args.peek c.args.name t s (at_of c.counted.new.self) c.in_ok-counted.ensures.judged f c.in_err-new_name.ensures)
 
 pub returns-then-slot-ge256 : goal.returns-then-slot-ge256
 returns-then-slot-ge256 c =
-    declare_slot_fault c.args.peek c.args.name (option_expression c.args.value.now) (at_of c.args.self.now) (at_of c.counted.new.self) c.in_ok-counted.ensures.judged c.in_ok-new_name.ensures c.if-slot-ge256.true
+    declare_slot_fault c.args.peek c.args.name (option_expression c.args.value.now) (at_of c.args.self.now)
+    (at_of c.counted.new.self) c.in_ok-counted.ensures.judged c.in_ok-new_name.ensures c.if-slot-ge256.true
 
 pub returns-in_err-value : goal.returns-in_err-value
 returns-in_err-value c =
     let f = c.in_err-value.field-0.0 in
     let s = at_of c.args.self.now in
     let t = option_expression c.args.value.now in
-    reads_err c.from_residual-in_err-value.result f c.args.out.now c.args.out.now c.args.self.now c.first_term.new.self (step_of c.args.peek (source.Declare c.args.name t) s) (search rules)
-    (declare_value_fault c.args.peek c.args.name t s (at_of c.counted.new.self) c.in_ok-counted.ensures.judged c.in_ok-new_name.ensures c.if-slot-ge256.false f c.in_err-value.ensures.judged)
+    reads_err c.from_residual-in_err-value.result f c.args.out.now c.args.out.now c.args.self.now c.first_term.new.self
+    (step_of c.args.peek (source.Declare c.args.name t) s) (search rules)
+    (declare_value_fault c.args.peek c.args.name t s
+    (at_of c.counted.new.self) c.in_ok-counted.ensures.judged c.in_ok-new_name.ensures c.if-slot-ge256.false f c.in_err-value.ensures.judged)
 
 pub returns : goal.returns
 returns c =
     let value = c.in_ok-value.value in
     let old = c.counted.new.self in
     let behind = c.first_term.new.self in
-    let read = declare_read c.args.peek c.args.name (option_expression c.args.value.now) (at_of c.args.self.now) (at_of old) c.in_ok-counted.ensures.judged c.in_ok-new_name.ensures c.if-slot-ge256.false (term value) c.in_ok-value.ensures.judged in
+    let read = declare_read c.args.peek c.args.name (option_expression c.args.value.now) (at_of c.args.self.now)
+    (at_of old) c.in_ok-counted.ensures.judged c.in_ok-new_name.ensures c.if-slot-ge256.false (term value) c.in_ok-value.ensures.judged in
     let names : behind.names.items.items ≡ old.names.items.items = ap (λ n. n.items.items) c.in_ok-value.ensures.names in
     let known : List (Name × Known) = behind.names.items.items in
     let one : Name × Known = (c.args.name, code.Var old.slots) in
@@ -61,6 +67,9 @@ returns c =
       built.Set old.slots value ∷ [],
       c.in_ok-push.ensures.ok,
       read
-          ∙ (λ i. answered (tree.Then (sym (step-set old.slots value) i) tree.Done, record { scope = sym scope i; slots = old.slots + 1; popped = (sym at i).popped; pushed = (sym at i).pushed; size = (sym at i).size })),
+          ∙ (λ i. answered (
+            tree.Then (sym (step-set old.slots value) i) tree.Done,
+            record { scope = sym scope i; slots = old.slots + 1; popped = (sym at i).popped; pushed = (sym at i).pushed; size = (sym at i).size },
+          )),
       front_kept c.args.self.now.names.items.items known c.push-2.new.self.items one more (names ∙ ap (λ n. n.items.items) c.in_ok-counted.ensures.names),
     )

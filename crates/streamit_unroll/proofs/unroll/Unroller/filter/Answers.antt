@@ -12,7 +12,8 @@ returns-in_err-fields c =
     let t = filter_tree c.args.tree.now in
     let f = c.in_err-fields.field-0.0 in
     let fields = c.as_slice.result.now in
-    let same : read_fields fields (at_of c.args.self.now) ≡ read_fields t.fields nothing_read = ap (read_fields fields) c.requires.nothing ∙ ap (λ l. read_fields l nothing_read) c.as_slice.ensures.value in
+    let same : read_fields fields (at_of c.args.self.now) ≡ read_fields t.fields nothing_read = ap (read_fields fields) c.requires.nothing
+    ∙ ap (λ l. read_fields l nothing_read) c.as_slice.ensures.value in
     judges_err filter_form c.from_residual.result f (elaborated t) (search rules) (fields_fault t f (same_fault f same c.in_err-fields.ensures))
 
 pub returns-in_err-starts : goal.returns-in_err-starts
@@ -22,7 +23,8 @@ returns-in_err-starts c =
     let fields = c.as_slice.result.now in
     let hs : read_fields t.fields nothing_read ≡ Ok (at_of c.fields.new.self) =
     sym (ap (read_fields fields) c.requires.nothing ∙ ap (λ l. read_fields l nothing_read) c.as_slice.ensures.value) ∙ c.in_ok-fields.ensures in
-    judges_err filter_form c.from_residual-in_err-starts.result f (elaborated t) (search rules) (starts_fault t (at_of c.fields.new.self) hs f c.in_err-starts.ensures.starts)
+    judges_err filter_form c.from_residual-in_err-starts.result f (elaborated t) (search rules)
+    (starts_fault t (at_of c.fields.new.self) hs f c.in_err-starts.ensures.starts)
 
 pub returns-in_err-first : goal.returns-in_err-first
 returns-in_err-first c =
@@ -33,7 +35,8 @@ returns-in_err-first c =
     let hs : read_fields t.fields nothing_read ≡ Ok at =
     sym (ap (read_fields fields) c.requires.nothing ∙ ap (λ l. read_fields l nothing_read) c.as_slice.ensures.value) ∙ c.in_ok-fields.ensures in
     judges_err filter_form c.from_residual-in_err-first.result f (elaborated t) (search rules)
-    (first_fault t at hs c.in_ok-starts.starts c.in_ok-starts.ensures.starts f (same_fault f (ap (read_prework t.prework) c.in_ok-starts.ensures.back) c.in_err-first.ensures.read))
+    (first_fault t at hs c.in_ok-starts.starts c.in_ok-starts.ensures.starts f
+    (same_fault f (ap (read_prework t.prework) c.in_ok-starts.ensures.back) c.in_err-first.ensures.read))
 
 pub returns-in_err-work : goal.returns-in_err-work
 returns-in_err-work c =
@@ -57,4 +60,5 @@ returns c =
     sym (ap (read_fields fields) c.requires.nothing ∙ ap (λ l. read_fields l nothing_read) c.as_slice.ensures.value) ∙ c.in_ok-fields.ensures in
     let hp = ap (read_prework t.prework) (sym c.in_ok-starts.ensures.back) ∙ c.in_ok-first.ensures.read in
     let hw = ap (read_work 1 t.work) (sym (c.in_ok-first.ensures.back ∙ c.in_ok-starts.ensures.back)) ∙ c.in_ok-work.ensures.read in
-    filter_read t at hs c.in_ok-starts.starts c.in_ok-starts.ensures.starts (optional_run c.in_ok-first.first) hp (run_form c.in_ok-work.work) hw ∙ ap good (sym c.put_together.ensures)
+    filter_read t at hs c.in_ok-starts.starts c.in_ok-starts.ensures.starts (optional_run c.in_ok-first.first) hp (run_form c.in_ok-work.work) hw
+    ∙ ap good (sym c.put_together.ensures)

@@ -25,7 +25,8 @@ returns-in_err-value c =
     let f = c.in_err-value.field-0.0 in
     let s = at_of c.args.self.now in
     let t = expression c.args.value.now in
-    reads_err c.from_residual-in_err-value.result f c.args.out.now c.args.out.now c.args.self.now (record c.counted.new.self { pushed = c.in_ok-self.field-0; popped = c.term.new.popped }) (step_of c.args.peek (source.Push t) s) (search rules)
+    reads_err c.from_residual-in_err-value.result f c.args.out.now c.args.out.now c.args.self.now
+    (record c.counted.new.self { pushed = c.in_ok-self.field-0; popped = c.term.new.popped }) (step_of c.args.peek (source.Push t) s) (search rules)
     (push_value_fault c.args.peek t s (at_of c.counted.new.self) c.in_ok-counted.ensures.judged f c.in_err-value.ensures.judged)
 
 pub returns : goal.returns
@@ -36,7 +37,8 @@ returns c =
     let popped = c.term.new.popped in
     let pushed = c.in_ok-self.field-0 in
     let all : all_exprs values ≡ value ∷ [] = search rules in
-    let read = push_read c.args.peek (expression c.args.value.now) (at_of c.args.self.now) (at_of old) c.in_ok-counted.ensures.judged (term value) popped pushed c.in_ok-value.ensures.judged c.in_ok-value.ensures.popped c.in_ok-self.ensures in
+    let read = push_read c.args.peek (expression c.args.value.now) (at_of c.args.self.now) (at_of old) c.in_ok-counted.ensures.judged
+    (term value) popped pushed c.in_ok-value.ensures.judged c.in_ok-value.ensures.popped c.in_ok-self.ensures in
     let made = step-push 0 values ∙ ap (λ es. tree.Push 0 (map term es)) all in (
       built.Push 0 values ∷ [],
       c.in_ok-push-2.ensures.ok,

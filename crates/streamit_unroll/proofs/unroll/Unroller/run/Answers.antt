@@ -15,7 +15,8 @@ returns-in_err-judged-clause-read c =
     let s = at_of c.args.self.now in
     let rates = c.of-rates.result in
     judges_err run_form c.from_residual.result f (read_work c.args.least w s) (search rules)
-    (rates_fault c.args.least w s rates.peek rates.push rates.pop c.of-rates.ensures.peek c.of-rates.ensures.push c.of-rates.ensures.pop f c.in_err-judged.ensures)
+    (rates_fault c.args.least w s rates.peek rates.push rates.pop c.of-rates.ensures.peek c.of-rates.ensures.push c.of-rates.ensures.pop f
+    c.in_err-judged.ensures)
 
 pub returns-in_err-code-clause-read : goal.returns-in_err-code-clause-read
 returns-in_err-code-clause-read c =
@@ -24,12 +25,14 @@ returns-in_err-code-clause-read c =
     let s = at_of c.args.self.now in
     let rates = c.of-rates.result in
     judges_err run_form c.from_residual-in_err-code.result f (read_work c.args.least w s) (search rules)
-    (body_fault c.args.least w s rates.peek rates.push rates.pop c.of-rates.ensures.peek c.of-rates.ensures.push c.of-rates.ensures.pop c.in_ok-judged.ensures f c.in_err-code.ensures.read)
+    (body_fault c.args.least w s rates.peek rates.push rates.pop c.of-rates.ensures.peek c.of-rates.ensures.push c.of-rates.ensures.pop
+    c.in_ok-judged.ensures f c.in_err-code.ensures.read)
 
 pub returns-clause-read : goal.returns-clause-read
 returns-clause-read c =
     let rates = c.of-rates.result in
-    run_read c.args.least (work_tree c.args.tree.now) (at_of c.args.self.now) rates.peek rates.push rates.pop c.of-rates.ensures.peek c.of-rates.ensures.push c.of-rates.ensures.pop c.in_ok-judged.ensures
+    run_read c.args.least (work_tree c.args.tree.now)
+    (at_of c.args.self.now) rates.peek rates.push rates.pop c.of-rates.ensures.peek c.of-rates.ensures.push c.of-rates.ensures.pop c.in_ok-judged.ensures
     (code_body c.in_ok-code.code) c.in_ok-code.ensures.read
 
 pub returns-clause-back : goal.returns-clause-back

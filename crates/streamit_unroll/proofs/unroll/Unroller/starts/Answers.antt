@@ -22,7 +22,8 @@ after_one_run-requires c =
     let len : c.len.result ≡ length fs = c.len.ensures ∙ c.args.tree.now.fields.ok.0 in
     subst (λ n. CanRun 0 (record { inputs = 0; slots = slots; steps = steps out }) n) (sym len)
     (subst (λ b. CanRun 0 (record { inputs = 0; slots = slots; steps = b }) (length fs)) (sym is)
-    (init_runs fs (optional_block c.args.tree.now.init) (at_of c.args.self.now) (in_turn (map step r.0), at_of c.optional.new.self) c.requires.fields c.requires.readable.low c.requires.readable.kept r.2))
+    (init_runs fs (optional_block c.args.tree.now.init) (at_of c.args.self.now)
+    (in_turn (map step r.0), at_of c.optional.new.self) c.requires.fields c.requires.readable.low c.requires.readable.kept r.2))
 
 pub returns-clause-starts : goal.returns-clause-starts
 returns-clause-starts c =
