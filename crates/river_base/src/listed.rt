@@ -43,7 +43,7 @@ impl<T> Model for Listed<T> {
     ghost view = { λ a. a.items.items };
 }
 
-impl<T: Drop> Listed<T> {
+impl<T> Listed<T> {
     ghost use Rattle.river_base.specs.Listed.{LendsElement, LendsAll};
 
     /// The empty list.
@@ -62,15 +62,6 @@ impl<T: Drop> Listed<T> {
         Ok(Listed {
             items: Vec::with_capacity(alloc, count)?,
         })
-    }
-
-    /// Appends an element; changes nothing where there is no memory.
-    pub fn push(&mut self, x: T) -> Result<(), NoMemory>
-        ensures ok { OnOk result (self.new ≡ self.old ++ x ∷ []) }
-        ensures err { OnErr result (self.new ≡ self.old) }
-    {
-        self.items.push(x)?;
-        Ok(())
     }
 
     /// How many elements there are.
@@ -111,13 +102,6 @@ impl<T: Drop> Listed<T> {
         self.items.pop()
     }
 
-    /// Keeps the first elements, at most `len`.
-    pub fn truncate(&mut self, len: usize)
-        ensures { self.new ≡ take len self.old }
-    {
-        self.items.truncate(len);
-    }
-
     /// The elements.
     pub fn as_slice(&self) -> &[T]
         ensures { result.now ≡ self.now }
@@ -136,16 +120,6 @@ impl<T: Drop> Listed<T> {
         self.items.iter()
     }
 
-    /// Moves the elements of another list behind these; changes nothing where there is no memory.
-    pub fn append(&mut self, more: Listed<T>) -> Result<(), NoMemory>
-        ensures ok { OnOk result (self.new ≡ self.old ++ more) }
-        ensures err { OnErr result (self.new ≡ self.old) }
-    {
-        let mut more = more.items;
-        self.items.append(&mut more)?;
-        Ok(())
-    }
-
     /// The elements, to be changed in place.
     pub fn as_mut_slice(&mut self) -> &mut [T]
         ensures* writes_back { sem 𝓛 (LendsAll T.row self.entry result) }
@@ -159,6 +133,35 @@ impl<T: Drop> Listed<T> {
         ensures { result.items ≡ self }
     {
         self.items
+    }
+}
+
+// What may let an element go. The rest asks for less, so that who only reads a list need not be able to drop its elements.
+impl<T: Drop> Listed<T> {
+    /// Appends an element; changes nothing where there is no memory.
+    pub fn push(&mut self, x: T) -> Result<(), NoMemory>
+        ensures ok { OnOk result (self.new ≡ self.old ++ x ∷ []) }
+        ensures err { OnErr result (self.new ≡ self.old) }
+    {
+        self.items.push(x)?;
+        Ok(())
+    }
+
+    /// Keeps the first elements, at most `len`.
+    pub fn truncate(&mut self, len: usize)
+        ensures { self.new ≡ take len self.old }
+    {
+        self.items.truncate(len);
+    }
+
+    /// Moves the elements of another list behind these; changes nothing where there is no memory.
+    pub fn append(&mut self, more: Listed<T>) -> Result<(), NoMemory>
+        ensures ok { OnOk result (self.new ≡ self.old ++ more) }
+        ensures err { OnErr result (self.new ≡ self.old) }
+    {
+        let mut more = more.items;
+        self.items.append(&mut more)?;
+        Ok(())
     }
 }
 
