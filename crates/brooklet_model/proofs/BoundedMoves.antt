@@ -2,6 +2,7 @@
 use Rattle.std.proofs.Common.{◌≡◌, ℕ, zero, suc, ◌+◌, ◌<◌, Some, List, [], ◌∷◌, ◌++◌, length, refl, sym, ap, ◌∙◌, subst, arith, ⊎_elim, ◌⊎◌, inl, inr}
 use Rattle.std.proofs.Common.{append_assoc, length-append}
 use Rattle.std.specs.Prelude.{slice_get}
+use Rattle.river_base.proofs.PlaceLemmas.{if_true, if_false}
 use Rattle.river_base.specs.declared.item.Item as item
 use Rattle.river_base.specs.Name.{name_eq}
 use Rattle.river_plan.specs.Forms.{Name, OpForm, PlanForm, decl_names, table_names}
@@ -12,7 +13,7 @@ use Rattle.river_plan.proofs.NameLemmas.{cases_name, more_or_zero}
 use Rattle.brooklet_model.specs.Fire.{fire}
 use Rattle.brooklet_model.specs.Histories.{History, joined}
 use Rattle.brooklet_model.specs.Machine.{Machine, Step, fired, at_name}
-use Rattle.brooklet_model.proofs.Lists.{if_true, if_false, funext}
+use Rattle.brooklet_model.proofs.Lists.{funext}
 use Rattle.brooklet_model.proofs.Traces.{at_most, one_place, got_count}
 use Rattle.brooklet_model.specs.Bounded.{Bounded, Capacities, history, machine_of, QueueHasRoom, IsWithinCapacities, after_sending, after_taking}
 use Rattle.brooklet_model.specs.Bounded.{Send, Take, Moves, HasIn, IsBusy, LastMoves}

@@ -4,7 +4,8 @@ use Rattle.std.proofs.Common.{arith, append_assoc, ⊎_elim}
 use Rattle.std.specs.Prelude.{slice_get, replicate}
 use Rattle.std.proofs.Math.Nat.{le_refl}
 use Rattle.std.proofs.lemmas.Bool.{cases_eq}
-use Rattle.std.proofs.lemmas.List.{append-nil, length-replicate, drop-drop}
+use Rattle.std.proofs.lemmas.List.{append-nil, length-replicate}
+use Rattle.river_base.proofs.Lists.{got_drop, dropped_one}
 use Rattle.river_base.specs.declared.item.Item as item
 use Rattle.river_base.specs.Drain.{drain, pass_on}
 use Rattle.river_base.specs.Places.{list_at, append_at, each_grew, upto}
@@ -128,16 +129,6 @@ got_none [] n e = refl
 got_none (x ∷ xs) zero e = absurd (cc e)
 got_none (x ∷ xs) (suc n) e = got_none xs n e
 
--- the first item behind a place stands at it
-pub got_some : {A : Type 0} (xs : List A) (n : ℕ) (y : A) (ys : List A) → drop n xs ≡ y ∷ ys → slice_get xs n ≡ Some y
-got_some [] zero y ys e = absurd (cc e)
-got_some [] (suc n) y ys e = absurd (cc e)
-got_some (x ∷ xs) zero y ys e = let h : x ≡ y = cc in ap Some h
-got_some (x ∷ xs) (suc n) y ys e = got_some xs n y ys e
-
-dropped_one : {A : Type 0} (xs : List A) (n : ℕ) (y : A) (ys : List A) → drop n xs ≡ y ∷ ys → drop (n + 1) xs ≡ ys
-dropped_one xs n y ys e = sym (drop-drop 1 n xs) ∙ ap (drop 1) e
-
 -- a list is empty or has a first item
 pub cases_list : {A B : Type 0} (l : List A) → (l ≡ [] → B) → ((y : A) (ys : List A) → l ≡ y ∷ ys → B) → B
 cases_list [] f g = f refl
@@ -184,7 +175,7 @@ passes_front ws ls rs (suc n) x pos lt left =
     ap on (front_at_some rs b y ys e)
     ∙ ap (λ t. y ∷ (drain (front_of itself) (passed ws) n t).0) (next_is ws x rs pos lt)
     ∙ ap (λ l. y ∷ l) (passes_front ws ls (rest_at rs b) n (suc x) pos lt (left_next ws ls rs x y ys lt left e))
-    ∙ sym (ap more (got_some (list_at ls b) (number_in_branch ws x) y ys (sym here ∙ e))))
+    ∙ sym (ap more (got_drop (list_at ls b) (number_in_branch ws x) y ys (sym here ∙ e))))
 
 -- the number of items that wait, said in two ways
 pub waiting_is : (ls : List (List item.Item)) → waiting ls ≡ size_of ls

@@ -5,6 +5,9 @@ use Rattle.std.specs.Prelude.{if◌then◌else◌, count_by, slice_get}
 use Rattle.std.proofs.lemmas.Bool.{cases_eq}
 use Rattle.std.proofs.lemmas.List.{append-nil, take-append-le, length-map}
 use Rattle.std.proofs.Math.Seq.{take-length}
+use Rattle.std.proofs.lemmas.Option.{slice_get_within, same_Some}
+use Rattle.river_base.proofs.PlaceLemmas.{if_true, if_false, if_eq, if_ne}
+use Rattle.river_base.proofs.Lists.{count_by-append, there_is}
 use Rattle.river_base.specs.declared.item.Item as item
 use Rattle.river_base.specs.Name.{name_eq}
 use Rattle.river_base.specs.Places.{none, list_at}
@@ -24,15 +27,14 @@ use Rattle.brooklet_model.specs.Laws.{given_to, RunsAgree}
 use Rattle.brooklet_model.specs.Machine.{Machine, at_key, fired, Run, IsComplete, first_kept_of, times}
 use Rattle.brooklet_model.specs.Traced.{ran, Traced}
 use Rattle.river_base.specs.Bags.{SameBag}
-use Rattle.river_base.proofs.Options.{some_is}
 use Rattle.brooklet_model.specs.Words.{Word, run, at_port, PortsBelow, Alike}
 use Rattle.brooklet_model.proofs.Free.{order_is_free, at_port-append, below-append}
-use Rattle.brooklet_model.proofs.Lists.{if_true, if_false, if_eq, if_ne, funext}
-use Rattle.brooklet_model.proofs.Ports.{counts, shaped, got_below}
+use Rattle.brooklet_model.proofs.Lists.{funext}
+use Rattle.brooklet_model.proofs.Ports.{counts, shaped}
 use Rattle.brooklet_model.proofs.Shapes.{first_shape}
 use Rattle.brooklet_model.proofs.Solutions.{count_here, written_out, plan_unique}
-use Rattle.brooklet_model.proofs.Swaps.{count_by-append, at_port_here, at_port_past}
-use Rattle.brooklet_model.proofs.Traces.{at_most, one_place, got_count, place_once, each_at, each_of, got_read, read_of, joined_out, lists_more}
+use Rattle.brooklet_model.proofs.Swaps.{at_port_here, at_port_past}
+use Rattle.brooklet_model.proofs.Traces.{at_most, one_place, got_count, place_once, each_at, each_of, got_read, joined_out, lists_more}
 use Rattle.brooklet_model.proofs.Traces.{joined-append, joined_none, joined_bag, joined_cong, lists_cong, lists_agree, at_key_same, at_key_other, run_more}
 use Rattle.brooklet_model.proofs.Traces.{at_same, take_next, numbered_same, numbered_more, numbered_total, adds_it, adds_total, word_lengths}
 
@@ -120,7 +122,7 @@ module _ (pl : PlanForm) (inputs : History) (v : IsPlan pl) (empty : (q : Name) 
     below = λ o' op' g'. ⊎_elim
         (λ e. at_same ops (λ i j. PortsBelow (length j.reads) (ws' i)) o o' op op' g g' e
         (subst (PortsBelow (length op.reads)) (sym here)
-        (below-append (length op.reads) (ws o) ((p, x) ∷ []) (t.below o op g) (got_below op.reads p q pq, tt))))
+        (below-append (length op.reads) (ws o) ((p, x) ∷ []) (t.below o op g) (slice_get_within op.reads p q pq, tt))))
         (λ n. subst (PortsBelow (length op'.reads)) (sym (there o' n)) (t.below o' op' g'))
         (cases_eq o o');
     taken = λ o' op' g' p' q' pq'. ⊎_elim
@@ -199,7 +201,7 @@ module _ (pl : PlanForm) (inputs : History) (v : IsPlan pl) (empty : (q : Name) 
       taken_here : Taken o op p q
       taken_here =
           let g1 = joined op.writes r.outs q in
-          let lt = got_below (s.hist q) (s.taken q) x is in (
+          let lt = slice_get_within (s.hist q) (s.taken q) x is in (
             ap (at_port p) here ∙ at_port-append p (ws o) ((p, x) ∷ []) ∙ ap (λ l. at_port p (ws o) ++ l) (at_port_here p (p, x) [] refl)
                 ∙ ap (λ l. l ++ x ∷ []) (t.taken o op g p q pq).0
                 ∙ sym (take_next (s.hist q) g1 (s.taken q) x is) ∙ ap (λ n. take n (s.hist q ++ g1)) (sym n_is),
@@ -216,7 +218,7 @@ module _ (pl : PlanForm) (inputs : History) (v : IsPlan pl) (empty : (q : Name) 
           (λ e.
           at_same ops (λ i j. slice_get j.reads p' ≡ Some q' → at_port p' (ws' i) ≡ at_port p' (ws i)) o o' op op' g g' e
           (λ h.
-          let np : p ≢ p' = λ ep. n (some_is q q' (sym pq ∙ ap (slice_get op.reads) ep ∙ h)) in
+          let np : p ≢ p' = λ ep. n (same_Some q q' (sym pq ∙ ap (slice_get op.reads) ep ∙ h)) in
           ap (at_port p') here ∙ at_port-append p' (ws o) ((p, x) ∷ []) ∙ ap (λ l. at_port p' (ws o) ++ l) (at_port_past p' (p, x) [] np)
           ∙ append-nil (at_port p' (ws o))) pq')
           (λ ne. ap (at_port p') (there o' ne))
@@ -251,7 +253,7 @@ module _ (pl : PlanForm) (inputs : History) (v : IsPlan pl) (empty : (q : Name) 
       (record {
         below = subst (λ n. PortsBelow n (ws o)) e (t.below o op g);
         lists = λ p lt.
-            let q = read_of op.reads p (omega (arith, e, lt)) in
+            let q = there_is op.reads p (omega (arith, e, lt)) in
             came s ws o op t done g p q.0 q.1 ∙ sym (got_read s.hist op.reads p q.0 q.1);
       })
 

@@ -5,24 +5,24 @@ use Rattle.std.specs.Prelude.{if◌then◌else◌, slice_index_or, min}
 use Rattle.std.specs.List.{AllByRecursion}
 use Rattle.std.proofs.lemmas.Bool.{cases_lt}
 use Rattle.std.proofs.lemmas.Nat.{mod_below, div-add-mod', div-mul-add, mod-mul-add}
+use Rattle.river_base.proofs.PlaceLemmas.{if_lt, if_ge}
 use Rattle.kern_rows.specs.Turns.{next_port, next_had}
-use Rattle.brooklet_model.proofs.Lists.{if_lt, if_ge}
 use Rattle.brooklet_model.specs.ByIndex.{cycle, part_of_cycle, within, branch, number_in_branch}
 
 -- each weight is above 0
 abbrev pub Positive : List ℕ → Type 0
 Positive ws = AllByRecursion (λ w. 0 < w) ws
 
-part_first : (w : ℕ) (ws : List ℕ) (m : ℕ) → m < w → part_of_cycle (w ∷ ws) m ≡ 0
+pub part_first : (w : ℕ) (ws : List ℕ) (m : ℕ) → m < w → part_of_cycle (w ∷ ws) m ≡ 0
 part_first w ws m lt = if_lt m w 0 (suc (part_of_cycle ws (m - w))) lt
 
-part_other : (w : ℕ) (ws : List ℕ) (m : ℕ) → w ≤ m → part_of_cycle (w ∷ ws) m ≡ suc (part_of_cycle ws (m - w))
+pub part_other : (w : ℕ) (ws : List ℕ) (m : ℕ) → w ≤ m → part_of_cycle (w ∷ ws) m ≡ suc (part_of_cycle ws (m - w))
 part_other w ws m le = if_ge m w 0 (suc (part_of_cycle ws (m - w))) le
 
-within_first : (w : ℕ) (ws : List ℕ) (m : ℕ) → m < w → within (w ∷ ws) m ≡ m
+pub within_first : (w : ℕ) (ws : List ℕ) (m : ℕ) → m < w → within (w ∷ ws) m ≡ m
 within_first w ws m lt = if_lt m w m (within ws (m - w)) lt
 
-within_other : (w : ℕ) (ws : List ℕ) (m : ℕ) → w ≤ m → within (w ∷ ws) m ≡ within ws (m - w)
+pub within_other : (w : ℕ) (ws : List ℕ) (m : ℕ) → w ≤ m → within (w ∷ ws) m ≡ within ws (m - w)
 within_other w ws m le = if_ge m w m (within ws (m - w)) le
 
 -- a place of the cycle falls in the part of a branch that is there, below its weight

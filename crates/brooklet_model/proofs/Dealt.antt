@@ -3,12 +3,11 @@ use Rattle.std.proofs.Common.{◌≡◌, ℕ, suc, ◌%◌, ◌<◌, List, [], �
 use Rattle.std.proofs.lemmas.Bool.{cases_eq}
 use Rattle.river_base.specs.declared.item.Item as item
 use Rattle.river_base.specs.Places.{only}
-use Rattle.river_base.proofs.PlaceLemmas.{only_same, only_other}
+use Rattle.river_base.proofs.PlaceLemmas.{only_same, only_other, if_eq, if_ne}
 use Rattle.kern_rows.specs.Turns.{next_port, next_had}
 use Rattle.brooklet_model.specs.Firings.{Turn, feed}
 use Rattle.brooklet_model.specs.Fire.{deal_one}
 use Rattle.brooklet_model.specs.ByIndex.{cycle, within, branch, picked, dealt}
-use Rattle.brooklet_model.proofs.Lists.{if_eq, if_ne}
 use Rattle.brooklet_model.proofs.Cycles.{Positive, next_turn, first_turn}
 
 -- TURNS

@@ -1,6 +1,8 @@
 -- There are few moves.
 use Rattle.std.proofs.Common.{◌≡◌, ℕ, suc, ◌+◌, ◌<◌, ◌≤◌, Some, List, [], ◌∷◌, ◌++◌, length, refl, sym, ap, ◌∙◌, subst, arith, ⊎_elim, length-append}
 use Rattle.std.specs.Prelude.{if◌then◌else◌, slice_get}
+use Rattle.std.proofs.lemmas.Option.{slice_get_within}
+use Rattle.river_base.proofs.PlaceLemmas.{if_true, if_false}
 use Rattle.river_base.specs.declared.item.Item as item
 use Rattle.river_base.specs.Name.{name_eq}
 use Rattle.river_plan.specs.Forms.{Name, OpForm, decl_names, queue_names}
@@ -11,8 +13,6 @@ use Rattle.brooklet_model.specs.Fire.{ins}
 use Rattle.brooklet_model.specs.Histories.{History, lists_of, hist, Lists, lengths}
 use Rattle.brooklet_model.specs.Words.{Word, PortsBelow, port_by_port}
 use Rattle.brooklet_model.proofs.Complete.{nothing_given}
-use Rattle.brooklet_model.proofs.Lists.{if_true, if_false}
-use Rattle.brooklet_model.proofs.Ports.{got_below}
 use Rattle.brooklet_model.proofs.Traces.{word_lengths, got_read}
 use Rattle.river_base.specs.Places.{list_at}
 use Rattle.brooklet_model.specs.NetLaws.{MovesAreFew}
@@ -121,7 +121,7 @@ few_law p inputs ws sent v a hs =
     let f = filled_is op.kernel (ws i) l (below_ins p inputs v ws (hist_by p inputs ws) early i op g)
     (at_ports p inputs v ws (hist_by p inputs ws) early i op h g (λ q lt. fronts q)) in
     let long = word_lengths op.reads h (filled op.kernel (ws i) l) (subst (λ k. PortsBelow k (filled op.kernel (ws i) l)) (sym n) f.below)
-    (λ port q r. f.lists port (let b = got_below op.reads port q r in omega (arith, b, n)) ∙ got_read h op.reads port q r) in
+    (λ port q r. f.lists port (let b = slice_get_within op.reads port q r in omega (arith, b, n)) ∙ got_read h op.reads port q r) in
     let more = length-append (ws i) (port_by_port (ins op.kernel) 0 (rests (ws i) l)) in
     let s = hs i op g in
     let t = lists_lengths op.writes (ran op (ws i)).outs (hist_by p inputs ws) (by_words p inputs ws v i op g) in

@@ -1,15 +1,16 @@
 -- There are few rounds.
-use Rattle.std.proofs.Common.{◌≡◌, ◌≢◌, ℕ, zero, suc, ◌+◌, ◌*◌, ◌≤◌, true, false, refl, Option, Some, None, List, [], ◌∷◌, ◌++◌, length, sym, ap, ◌∙◌}
+use Rattle.std.proofs.Common.{◌≡◌, ◌≢◌, ℕ, zero, suc, ◌+◌, ◌*◌, ◌≤◌, false, refl, Option, Some, None, List, [], ◌∷◌, ◌++◌, length, sym, ap, ◌∙◌}
 use Rattle.std.proofs.Common.{subst, arith}
 use Rattle.std.proofs.Common.{⊎_elim, length-append}
 use Rattle.std.specs.Prelude.{slice_get}
+use Rattle.river_base.proofs.PlaceLemmas.{if_true, if_false}
 use Rattle.river_base.specs.declared.item.Item as item
 use Rattle.river_base.specs.Name.{name_eq}
 use Rattle.river_plan.specs.Forms.{Name, OpForm, PlanForm, queue_names}
 use Rattle.river_plan.specs.Names.{one_if, count}
 use Rattle.river_plan.specs.Uses.{total, writes_it}
 use Rattle.river_plan.specs.Valid.{IsPlan}
-use Rattle.river_plan.proofs.NameLemmas.{cases_name}
+use Rattle.river_plan.proofs.NameLemmas.{cases_name, name_same}
 use Rattle.brooklet_model.specs.Bounded.{Bounded, Capacities, sent, at_first, Send, Take, ManyMoves, Rounds, MoveOrEnd}
 use Rattle.brooklet_model.specs.Histories.{History, hist, lengths}
 use Rattle.brooklet_model.specs.NetLaws.{NetsStay, RoundsAreFew}
@@ -19,7 +20,7 @@ use Rattle.brooklet_model.specs.Traced.{ran, sum_numbered}
 use Rattle.brooklet_model.specs.Words.{Word}
 use Rattle.brooklet_model.proofs.BoundedMoves.{took_sent}
 use Rattle.brooklet_model.proofs.FewMoves.{few_law}
-use Rattle.brooklet_model.proofs.Lists.{if_true, if_false, funext}
+use Rattle.brooklet_model.proofs.Lists.{funext}
 use Rattle.brooklet_model.proofs.NetsKept.{nets_law}
 use Rattle.brooklet_model.proofs.Traces.{at_most, got_count, at_key_same, at_key_other, numbered_more}
 
@@ -93,7 +94,7 @@ module _ (p : PlanForm) (inputs : List (List item.Item)) (caps : Capacities) (v 
       let e = s.after in
       let here : length (sent b' q) ≡ length (sent b q) + 1 =
       (let a = ap (λ (c : Bounded). length (sent c q)) e in
-      let i = ap (λ l. length (b.taken q ++ l)) (if_true (name_eq q q) (b.left q ++ s.item ∷ []) (b.left q) (same_name q)) in
+      let i = ap (λ l. length (b.taken q ++ l)) (if_true (name_eq q q) (b.left q ++ s.item ∷ []) (b.left q) (name_same q)) in
       let k = length-append (b.taken q) (b.left q ++ s.item ∷ []) in
       let l = length-append (b.left q) (s.item ∷ []) in
       let j = length-append (b.taken q) (b.left q) in
@@ -108,9 +109,6 @@ module _ (p : PlanForm) (inputs : List (List item.Item)) (caps : Capacities) (v 
       let k = m.made in
       record { words = m.words; net = stays.sends m.words b b' o port s m.net; made = omega (arith, t, one, is, k) }
     where
-      same_name : (q : Name) → name_eq q q ≡ true
-      same_name q = ⊎_elim (λ c. c.1) (λ c. absurd (c.0 refl)) (cases_name q q)
-
       other_name : (q x : Name) → x ≢ q → name_eq q x ≡ false
       other_name q x ne = ⊎_elim (λ c. absurd (ne (sym c.0))) (λ c. c.1) (cases_name q x)
 

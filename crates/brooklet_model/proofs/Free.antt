@@ -3,6 +3,7 @@ use Rattle.std.proofs.Common.{◌≡◌, ◌≢◌, ℕ, zero, suc, ℤ, ◌+◌
 use Rattle.std.specs.Prelude.{if◌then◌else◌, count_by}
 use Rattle.std.proofs.lemmas.Bool.{cases_eq, cases_lt}
 use Rattle.std.proofs.lemmas.List.{append-nil}
+use Rattle.river_base.proofs.PlaceLemmas.{if_lt, if_ge}
 use Rattle.river_base.specs.declared.item.Item as item
 use Rattle.river_base.specs.Held.{items_of}
 use Rattle.kern_rows.specs.Turns.{shares, ones, itself}
@@ -15,7 +16,6 @@ use Rattle.river_base.specs.Bags.{SameBag}
 use Rattle.brooklet_model.specs.Words.{Word, run, at_port, PortsBelow, Alike, word_of, port_by_port, feed_all, IsInterleaving}
 use Rattle.brooklet_model.proofs.FusedRun.{fused_runs}
 use Rattle.brooklet_model.proofs.Joins.{join_swap, cross_swap}
-use Rattle.brooklet_model.proofs.Lists.{if_lt, if_ge}
 use Rattle.brooklet_model.proofs.Ports.{formed_shaped}
 use Rattle.brooklet_model.proofs.Shapes.{fire_shape}
 use Rattle.brooklet_model.proofs.Swaps.{Swaps, same_lists, alike_trans, alike_sym, alike_same, at_port_here, at_port_past}
@@ -93,11 +93,11 @@ at_port-append p (e ∷ es) v = ⊎_elim
     (λ h. at_port_past p e (es ++ v) h ∙ at_port-append p es v ∙ ap (λ t. t ++ at_port p v) (sym (at_port_past p e es h)))
     (cases_eq e.0 p)
 
-at_port-word_same : (p : ℕ) (xs : List item.Item) → at_port p (word_of p xs) ≡ xs
+pub at_port-word_same : (p : ℕ) (xs : List item.Item) → at_port p (word_of p xs) ≡ xs
 at_port-word_same p [] = refl
 at_port-word_same p (x ∷ xs) = at_port_here p (p, x) (word_of p xs) refl ∙ ap (λ t. x ∷ t) (at_port-word_same p xs)
 
-at_port-word_other : (p q : ℕ) (xs : List item.Item) → q ≢ p → at_port p (word_of q xs) ≡ []
+pub at_port-word_other : (p q : ℕ) (xs : List item.Item) → q ≢ p → at_port p (word_of q xs) ≡ []
 at_port-word_other p q [] ne = refl
 at_port-word_other p q (x ∷ xs) ne = at_port_past p (q, x) (word_of q xs) ne ∙ at_port-word_other p q xs ne
 

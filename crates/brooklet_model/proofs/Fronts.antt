@@ -4,6 +4,7 @@ use Rattle.std.proofs.Common.{length-append}
 use Rattle.std.specs.Prelude.{slice_get}
 use Rattle.std.proofs.lemmas.List.{append-nil, take-append-drop}
 use Rattle.std.proofs.Math.Seq.{drop-append_seam}
+use Rattle.river_base.proofs.Lists.{there_is}
 use Rattle.river_base.specs.declared.item.Item as item
 use Rattle.river_base.specs.Places.{list_at}
 use Rattle.river_plan.specs.Forms.{Name, OpForm, PlanForm, decl_names}
@@ -24,7 +25,7 @@ use Rattle.brooklet_model.proofs.Free.{at_port-append, at_port-port_by_port, bel
 use Rattle.brooklet_model.proofs.Ports.{shaped}
 use Rattle.brooklet_model.proofs.Shapes.{first_shape}
 use Rattle.brooklet_model.proofs.Solutions.{plan_solves, stays}
-use Rattle.brooklet_model.proofs.Traces.{each_at, each_of, got_read, got_count, read_of}
+use Rattle.brooklet_model.proofs.Traces.{each_at, each_of, got_read, got_count}
 use Rattle.brooklet_model.proofs.TypedPlan.{by_order}
 use Rattle.river_kernels.specs.Kern.{Kern}
 use Rattle.brooklet_model.specs.NetLaws.{RunsAreFronts, WordsAreFronts}
@@ -123,7 +124,7 @@ module _ (p : PlanForm) (inputs : List (List item.Item)) (v : IsPlan p) (ws : �
       → port < ins op.kernel → IsFront (at_port port (ws o)) (lists_of l op.reads port)
   at_ports o op l g e port lt =
       let n = reads_are p v o op g in
-      let r = read_of op.reads port (omega (arith, n, lt)) in
+      let r = there_is op.reads port (omega (arith, n, lt)) in
       subst (IsFront (at_port port (ws o))) (sym (got_read l op.reads port r.0 r.1))
       (front_trans (at_port port (ws o)) (h r.0) (l r.0) (a.fronts o op g port r.0 r.1) (e r.0 (got_count op.reads port r.0 r.1)))
 

@@ -1,8 +1,9 @@
 -- A kernel in two parts, over any firings.
 use Rattle.std.proofs.Common.{◌≡◌, ℕ, ℤ, ◌+◌, ◌-◌, List, [], ◌∷◌, ◌++◌, take, drop, sym, ap, ◌∙◌, subst, nat_lt, ⊎_elim}
 use Rattle.std.specs.Prelude.{if◌then◌else◌}
-use Rattle.std.proofs.lemmas.List.{take-append-drop}
+use Rattle.std.proofs.lemmas.List.{take-append-drop, take_at, drop_at}
 use Rattle.std.proofs.lemmas.Bool.{cases_lt}
+use Rattle.river_base.proofs.PlaceLemmas.{if_lt, if_ge}
 use Rattle.river_base.specs.declared.item.Item as item
 use Rattle.river_base.specs.Places.{none}
 use Rattle.river_kernels.specs.Kern.{Kern, fused}
@@ -11,7 +12,7 @@ use Rattle.brooklet_model.specs.Fire.{fire, outs, tabs, privates}
 use Rattle.brooklet_model.specs.Shapes.{IsShaped, HasShape}
 use Rattle.brooklet_model.specs.Words.{Word, run}
 use Rattle.brooklet_model.specs.Laws.{FusedRuns}
-use Rattle.brooklet_model.proofs.Lists.{if_lt, if_ge, take_front, drop_front, feed-append}
+use Rattle.brooklet_model.proofs.Lists.{feed-append}
 use Rattle.brooklet_model.proofs.Ports.{formed_shaped}
 use Rattle.brooklet_model.proofs.Shapes.{fire_shape, shape_length}
 
@@ -73,10 +74,10 @@ fused_runs a b at (e ∷ es) ss f h =
     let ih = fused_runs a b at es (ra.states ++ rb.states) f h' in
     let ih' : Same (run (fire k) es (ra.states ++ rb.states)) (fused_of at (outs b) (tabs a) (run (fire a) es ra.states) (λ xs. feed (fire b 0) xs rb.states)) =
     subst (λ us. Same (run (fire k) es (ra.states ++ rb.states)) (fused_of at (outs b) (tabs a) (run (fire a) es us) (λ xs. feed (fire b 0) xs rb.states)))
-    (take_front ra.states rb.states (privates a) la)
+    (take_at ra.states rb.states (privates a) la)
     (subst (λ us. Same (run (fire k) es (ra.states ++ rb.states))
     (fused_of at (outs b) (tabs a) (run (fire a) es (take (privates a) (ra.states ++ rb.states))) (λ xs. feed (fire b 0) xs us)))
-    (drop_front ra.states rb.states (privates a) la) ih) in
+    (drop_at ra.states rb.states (privates a) la) ih) in
     let sa = run (fire a) es ra.states in
     let sb = feed (fire b 0) (sa.outs at) rb.states in
     let fa = feed-append (fire b 0) (ra.outs at) (sa.outs at) (drop (privates a) ss) in

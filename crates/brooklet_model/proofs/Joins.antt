@@ -1,5 +1,6 @@
 -- Joiners and products: items that come to different ports may come in either order.
 use Rattle.std.proofs.Common.{◌≡◌, ◌≢◌, ℕ, zero, suc, ◌+◌, ◌<◌, Some, None, List, [], ◌∷◌, ◌++◌, length, refl, sym, ap, ◌∙◌, arith}
+use Rattle.kern_rows.proofs.Passed.{stuck_at, less_at}
 use Rattle.river_base.specs.declared.item.Item as item
 use Rattle.river_base.specs.Places.{only, append_at}
 use Rattle.kern_rows.specs.Turns.{Turns, front_in, rest_in, front_at, rest_at, front_of, passed, put, waiting, joins}
@@ -11,24 +12,6 @@ use Rattle.brooklet_model.specs.Words.{Alike}
 use Rattle.brooklet_model.proofs.Drained.{Keeps, two_puts}
 
 -- JOINERS
-
--- where nothing waits, no port has a front
-pub stuck_at : (give : item.Item → List item.Item) (ls : List (List item.Item)) (p : ℕ) → waiting ls ≡ 0 → front_at give ls p ≡ None
-stuck_at give [] p h = refl
-stuck_at give ([] ∷ ls) zero h = refl
-stuck_at give ((x ∷ xs) ∷ ls) zero h = absurd (omega arith)
-stuck_at give (l ∷ ls) (suc p) h = stuck_at give ls p (omega arith)
-
-less_in : (give : item.Item → List item.Item) (l : List item.Item) (o : List item.Item) → front_in give l ≡ Some o → length (rest_in l) < length l
-less_in give [] o h = absurd (cc h)
-less_in give (x ∷ xs) o h = omega arith
-
--- what is passed waits no more
-pub less_at : (give : item.Item → List item.Item) (ls : List (List item.Item)) (p : ℕ) (o : List item.Item) → front_at give ls p ≡ Some o
-    → waiting (rest_at ls p) < waiting ls
-less_at give [] p o h = absurd (cc h)
-less_at give (l ∷ ls) zero o h = let e = less_in give l o h in omega arith
-less_at give (l ∷ ls) (suc p) o h = let e = less_at give ls p o h in omega arith
 
 stays_in : (give : item.Item → List item.Item) (l : List item.Item) (o ys : List item.Item) → front_in give l ≡ Some o → front_in give (l ++ ys) ≡ Some o
 stays_in give [] o ys h = absurd (cc h)

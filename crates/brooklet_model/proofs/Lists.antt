@@ -1,52 +1,12 @@
 -- Lemmas on lists, tests and feeding.
-use Rattle.std.proofs.Common.{◌≡◌, ℕ, zero, suc, ◌<◌, ◌≤◌, List, [], ◌∷◌, ◌++◌, length, take, drop, refl, sym, ap, ◌∙◌, arith, append_assoc, nat_lt, nat_eq}
-use Rattle.std.proofs.Common.{Bool, true, false, ◌≢◌}
-use Rattle.std.specs.Prelude.{if◌then◌else◌}
+use Rattle.std.proofs.Common.{◌≡◌, List, [], ◌∷◌, ◌++◌, refl, sym, ap, ◌∙◌, append_assoc}
 use Rattle.std.proofs.lemmas.List.{append-nil}
 use Rattle.river_base.specs.declared.item.Item as item
 use Rattle.brooklet_model.specs.Firings.{Kept, Fired, Same, feed, and_then}
 
--- an `if` whose test is true
-pub if_true : {A : Type 0} (b : Bool) (x y : A) → b ≡ true → (if b then x else y) ≡ x
-if_true b x y h = ap (λ c. if c then x else y) h
-
--- an `if` whose test is false
-pub if_false : {A : Type 0} (b : Bool) (x y : A) → b ≡ false → (if b then x else y) ≡ y
-if_false b x y h = ap (λ c. if c then x else y) h
-
--- an `if` that asks for less, where it is
-pub if_lt : {A : Type 0} (a b : ℕ) (x y : A) → a < b → (if nat_lt a b then x else y) ≡ x
-if_lt a b x y h = grind arith
-
--- an `if` that asks for less, where it is not
-pub if_ge : {A : Type 0} (a b : ℕ) (x y : A) → b ≤ a → (if nat_lt a b then x else y) ≡ y
-if_ge a b x y h = grind arith
-
--- an `if` that asks for equality, where it is
-pub if_eq : {A : Type 0} (a b : ℕ) (x y : A) → a ≡ b → (if nat_eq a b then x else y) ≡ x
-if_eq a b x y h = grind arith
-
--- an `if` that asks for equality, where it is not
-pub if_ne : {A : Type 0} (a b : ℕ) (x y : A) → a ≢ b → (if nat_eq a b then x else y) ≡ y
-if_ne a b x y h = grind arith
-
 -- equal at each place is equal
 pub funext : {A B : Type 0} (f g : A → B) → ((x : A) → f x ≡ g x) → f ≡ g
 funext f g h = λ i x. h x i
-
--- as many items as the first list has are the first list
-pub take_front : {A : Type 0} (xs ys : List A) (n : ℕ) → length xs ≡ n → take n (xs ++ ys) ≡ xs
-take_front [] ys zero e = refl
-take_front [] ys (suc n) e = absurd (omega arith)
-take_front (x ∷ xs) ys zero e = absurd (omega arith)
-take_front (x ∷ xs) ys (suc n) e = ap (λ t. x ∷ t) (take_front xs ys n (omega arith))
-
--- behind as many items as the first list has stands the second
-pub drop_front : {A : Type 0} (xs ys : List A) (n : ℕ) → length xs ≡ n → drop n (xs ++ ys) ≡ ys
-drop_front [] ys zero e = refl
-drop_front [] ys (suc n) e = absurd (omega arith)
-drop_front (x ∷ xs) ys zero e = absurd (omega arith)
-drop_front (x ∷ xs) ys (suc n) e = drop_front xs ys n (omega arith)
 
 -- feeding goes on where it ended
 pub feed-append : (f : item.Item → List Kept → Fired) (xs ys : List item.Item) (ss : List Kept)

@@ -1,11 +1,12 @@
 -- What a joiner collects ends where an item is missing.
 use Rattle.std.proofs.Common.{◌≡◌, ℕ, zero, suc, ◌+◌, ◌<◌, ◌≤◌, List, [], ◌∷◌, length, drop, Option, Some, None, refl, sym, ap, ◌∙◌, arith}
 use Rattle.std.specs.Prelude.{slice_get}
+use Rattle.kern_rows.proofs.Passed.{stuck_at, less_at}
+use Rattle.river_base.proofs.Lists.{got_drop}
 use Rattle.river_base.specs.declared.item.Item as item
 use Rattle.river_base.specs.Places.{list_at}
 use Rattle.kern_rows.specs.Turns.{rest_at, waiting, itself}
-use Rattle.brooklet_model.proofs.Joins.{less_at, stuck_at}
-use Rattle.brooklet_model.proofs.Collected.{IsLeft, left_next, cases_list, got_none, got_some, front_at_some, waiting_is}
+use Rattle.brooklet_model.proofs.Collected.{IsLeft, left_next, cases_list, got_none, front_at_some, waiting_is}
 use Rattle.brooklet_model.specs.ByIndex.{cycle, branch, number_in_branch, collected_at, and_more, found_front, size_of, collected}
 use Rattle.brooklet_model.proofs.Cycles.{taken_none, taken_here}
 
@@ -51,7 +52,7 @@ ends ws ls rs (suc n) x lt left le = cases_list (list_at rs (branch ws x))
     (stopped ws ls rs (suc n) x lt left)
     (λ y ys e.
     let b = branch ws x in
-    let there = got_some (list_at ls b) (number_in_branch ws x) y ys (sym (here_is ws ls rs x lt left) ∙ e) in
+    let there = got_drop (list_at ls b) (number_in_branch ws x) y ys (sym (here_is ws ls rs x lt left) ∙ e) in
     let less = less_at itself rs b (y ∷ []) (front_at_some rs b y ys e) in
     let rest = ends ws ls (rest_at rs b) n (suc x) lt (left_next ws ls rs x y ys lt left e) (omega (arith, less, le)) in
     ap (λ o. collected_at ws ls (x + length (and_more o (found_front (collected_at ws ls) n (suc x))))) there

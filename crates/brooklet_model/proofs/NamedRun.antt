@@ -4,6 +4,9 @@ use Rattle.std.proofs.Common.{append_assoc}
 use Rattle.std.specs.Prelude.{count_by, slice_get}
 use Rattle.std.proofs.lemmas.Bool.{cases_lt}
 use Rattle.std.proofs.lemmas.List.{append-nil, length-take}
+use Rattle.std.proofs.lemmas.Option.{slice_get_within}
+use Rattle.river_base.proofs.PlaceLemmas.{if_eq, if_ne}
+use Rattle.river_base.proofs.Lists.{count_by-append, there_is}
 use Rattle.river_base.specs.declared.item.Item as item
 use Rattle.river_plan.specs.Forms.{Name, OpForm, PlanForm, decl_names, table_names}
 use Rattle.river_plan.specs.Names.{count}
@@ -16,11 +19,9 @@ use Rattle.brooklet_model.specs.Words.{Word, at_port, PortsBelow}
 use Rattle.brooklet_model.proofs.Complete.{traced_start, traced_fired, nothing_given}
 use Rattle.brooklet_model.specs.Traced.{ran, sum_numbered, Traced}
 use Rattle.brooklet_model.proofs.Free.{at_port-append}
-use Rattle.brooklet_model.proofs.Lists.{if_eq, if_ne}
-use Rattle.brooklet_model.proofs.Ports.{got_below}
 use Rattle.brooklet_model.proofs.Solutions.{lists_one}
-use Rattle.brooklet_model.proofs.Swaps.{at_port_here, count_by-append}
-use Rattle.brooklet_model.proofs.Traces.{got_count, read_of, at_key_same, at_key_other, numbered_same}
+use Rattle.brooklet_model.proofs.Swaps.{at_port_here}
+use Rattle.brooklet_model.proofs.Traces.{got_count, at_key_same, at_key_other, numbered_same}
 use Rattle.river_base.specs.Places.{list_at}
 use Rattle.brooklet_model.specs.Received.{hist_by, rows_added, AreWords, events, named_from, named_run}
 use Rattle.brooklet_model.specs.NetLaws.{NamedRuns}
@@ -136,7 +137,7 @@ module _ (p : PlanForm) (inputs : List (List item.Item)) (v : IsPlan p) (ws : �
   work o op [] u s W g k is = (s, W, refl, record { traced = k.traced; before = k.before; at = k.at ∙ sym (append-nil u) ∙ sym is; after = k.after })
   work o op (e ∷ es) u s W g k is =
       let lt = mid_below (length op.reads) u es e (subst (PortsBelow (length op.reads)) is (a.below o op g)) in
-      let r = read_of op.reads e.0 lt in
+      let r = there_is op.reads e.0 lt in
       let got = next_is o op u es e r.0 s W g r.1 k is in
       let s1 = fired tables o op e.0 r.0 e.1 s in
       let W1 = at_key o (W o ++ (e.0, e.1) ∷ []) W in
@@ -188,7 +189,7 @@ module _ (p : PlanForm) (inputs : List (List item.Item)) (v : IsPlan p) (ws : �
       } in
       let l = all ops 0 (start p inputs) (λ o. []) (λ i. let z : i ≡ 0 + i = omega arith in ap (slice_get ops) z) k in
       let t = l.3 in
-      let same : (o : ℕ) (op : OpForm) → slice_get ops o ≡ Some op → l.1 o ≡ ws o = (λ o op g. l.4 o (let b = got_below ops o op g in omega (arith, b))) in (
+      let same : (o : ℕ) (op : OpForm) → slice_get ops o ≡ Some op → l.1 o ≡ ws o = (λ o op g. l.4 o (let b = slice_get_within ops o op g in omega (arith, b))) in (
         l.0,
         l.2,
         record {
@@ -221,6 +222,6 @@ named_law p inputs ws v a =
         kept = t.kept;
         rows = λ u test. t.rows u test ∙ sym (added_numbered (table_names p.tables) p.ops 0 ws u test);
         times_of = λ o op g. let z : 0 + o ≡ o = omega arith in
-            subst (λ n. times n (named_run p ws) ≡ length (ws n)) z (times_named p.ops 0 o ws (got_below p.ops o op g));
+            subst (λ n. times n (named_run p ws) ≡ length (ws n)) z (times_named p.ops 0 o ws (slice_get_within p.ops o op g));
       },
     )

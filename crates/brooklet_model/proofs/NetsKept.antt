@@ -4,10 +4,12 @@ use Rattle.std.proofs.Common.{⊎_elim, append_assoc, length-append}
 use Rattle.std.specs.Prelude.{slice_get, count_by}
 use Rattle.std.proofs.lemmas.Bool.{cases_eq}
 use Rattle.std.proofs.lemmas.List.{append-nil, take-append-drop, length-take}
+use Rattle.std.proofs.lemmas.Option.{same_Some}
+use Rattle.river_base.proofs.PlaceLemmas.{if_true, if_false}
+use Rattle.river_base.proofs.Lists.{count_by-append}
 use Rattle.river_base.specs.declared.item.Item as item
 use Rattle.river_base.specs.Name.{name_eq}
 use Rattle.river_base.specs.Places.{list_at}
-use Rattle.river_base.proofs.Options.{some_is}
 use Rattle.river_plan.specs.Forms.{Name, OpForm, PlanForm, decl_names, table_names}
 use Rattle.river_plan.specs.Names.{count}
 use Rattle.river_plan.specs.Uses.{total, reads_it, writes_it}
@@ -21,8 +23,8 @@ use Rattle.brooklet_model.specs.Machine.{Machine, Run, start, fired, at_key, at_
 use Rattle.brooklet_model.specs.Words.{Word, at_port}
 use Rattle.brooklet_model.proofs.Complete.{traced_start, traced_fired, nothing_given}
 use Rattle.brooklet_model.specs.Traced.{ran, Traced}
-use Rattle.brooklet_model.proofs.Lists.{if_true, if_false, funext}
-use Rattle.brooklet_model.proofs.Swaps.{count_by-append, at_port_here, at_port_past}
+use Rattle.brooklet_model.proofs.Lists.{funext}
+use Rattle.brooklet_model.proofs.Swaps.{at_port_here, at_port_past}
 use Rattle.brooklet_model.proofs.Free.{at_port-append}
 use Rattle.brooklet_model.proofs.Traces.{at_most, joined_out, one_place, got_count, place_once, at_same, at_key_same, at_key_other}
 use Rattle.brooklet_model.specs.Bounded.{Bounded, Capacities, history, sent, at_first, IsWithinCapacities, IsBusy, after_taking, Send, Take}
@@ -209,7 +211,7 @@ module _ (p : PlanForm) (inputs : List (List item.Item)) (caps : Capacities) (v 
           (λ e.
           at_same p.ops (λ i j. slice_get j.reads port' ≡ Some x → at_port port' (ws' i) ≡ at_port port' (ws i)) o o' m.op op' m.op_is g' e
           (λ h.
-          let np : port ≢ port' = λ ep. c.0 (some_is q x (sym m.queue_is ∙ ap (slice_get m.op.reads) ep ∙ h)) in
+          let np : port ≢ port' = λ ep. c.0 (same_Some q x (sym m.queue_is ∙ ap (slice_get m.op.reads) ep ∙ h)) in
           ap (at_port port') (at_key_same o (ws o ++ (port, m.item) ∷ []) ws) ∙ at_port-append port' (ws o) ((port, m.item) ∷ [])
           ∙ ap (λ l. at_port port' (ws o) ++ l) (at_port_past port' (port, m.item) [] np) ∙ append-nil (at_port port' (ws o))) is)
           (λ ne. ap (at_port port') (at_key_other o (ws o ++ (port, m.item) ∷ []) ws o' ne))

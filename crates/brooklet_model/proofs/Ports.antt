@@ -1,11 +1,11 @@
 -- The ports and variables of a kernel that fits types.
-use Rattle.std.proofs.Common.{◌≡◌, ℕ, zero, suc, ℤ, ◌+◌, ◌-◌, ◌<◌, ◌≤◌, Bool, true, ◌&&◌, Some, None, List, [], ◌∷◌, ◌++◌, length, take, drop, refl, sym, ap}
-use Rattle.std.proofs.Common.{◌∙◌, subst, arith, length-append, length-drop, ⊎_elim}
-use Rattle.std.specs.Prelude.{slice_get, nat_le}
+use Rattle.std.proofs.Common.{◌≡◌, ℕ, zero, suc, ℤ, ◌+◌, ◌-◌, ◌<◌, ◌≤◌, Bool, true, ◌&&◌, List, [], ◌∷◌, ◌++◌, length, take, drop, refl, sym, ap}
+use Rattle.std.proofs.Common.{◌∙◌, subst, arith, length-append, length-drop}
+use Rattle.std.specs.Prelude.{nat_le}
 use Rattle.std.specs.List.{AllByRecursion, list_all}
-use Rattle.std.proofs.lemmas.Bool.{and_parts, cases_lt}
+use Rattle.std.proofs.lemmas.Bool.{and_parts}
 use Rattle.std.proofs.lemmas.List.{length-map, length-replicate, length-take}
-use Rattle.std.proofs.lemmas.Option.{slice_get_past}
+use Rattle.std.proofs.lemmas.Option.{slice_get_within}
 use Rattle.river_base.specs.Number.{count_of}
 use Rattle.river_base.specs.declared.kind.QueueType.{QueueType}
 use Rattle.kern_rows.specs.Needs.{HaveShares}
@@ -60,10 +60,6 @@ kept_tables : (zs : List ℤ) → tables_in (kept zs) ≡ 0
 kept_tables [] = refl
 kept_tables (z ∷ zs) = refl
 
--- what is got stands below the length
-pub got_below : {A : Type 0} (xs : List A) (n : ℕ) (x : A) → slice_get xs n ≡ Some x → n < length xs
-got_below xs n x h = ⊎_elim (λ lt. lt) (λ ge. absurd (let e : None ≡ Some x = sym (slice_get_past xs n ge) ∙ h in cc)) (cases_lt n (length xs))
-
 -- one item is replaced by a list
 pub length-spliced : {A : Type 0} (at : ℕ) (ms bs : List A) → at < length ms → length (spliced at ms bs) ≡ length ms + length bs - 1
 length-spliced at ms bs lt =
@@ -95,7 +91,7 @@ counts (fused a b at) is os vs h =
     let cb = counts b (h.1 ∷ []) bs ws h.7 in
     record {
       ins = ca.ins;
-      outs = ap length h.8 ∙ length-spliced at ms bs (got_below ms at h.1 h.6) ∙ ap (λ n. n + length bs - 1) ca.outs ∙ ap (λ n. outs a + n - 1) cb.outs;
+      outs = ap length h.8 ∙ length-spliced at ms bs (slice_get_within ms at h.1 h.6) ∙ ap (λ n. n + length bs - 1) ca.outs ∙ ap (λ n. outs a + n - 1) cb.outs;
       privates = ap privates_in h.9 ∙ privates_in-append us ws ∙ ap (λ n. n + privates_in ws) ca.privates ∙ ap (λ n. privates a + n) cb.privates;
       tables = ap tables_in h.9 ∙ tables_in-append us ws ∙ ap (λ n. n + tables_in ws) ca.tables ∙ ap (λ n. tabs a + n) cb.tables;
     }
@@ -140,7 +136,7 @@ shaped (unpack n) is os vs h = ones_shares (is_sized h.0) n h.4
 shaped (fused a b at) is os vs h =
     let ca = counts a is h.0 h.3 h.5 in
     let cb = counts b (h.1 ∷ []) h.2 h.4 h.7 in
-    (shaped a is h.0 h.3 h.5, shaped b (h.1 ∷ []) h.2 h.4 h.7, subst (λ n. at < n) ca.outs (got_below h.0 at h.1 h.6), sym cb.ins)
+    (shaped a is h.0 h.3 h.5, shaped b (h.1 ∷ []) h.2 h.4 h.7, subst (λ n. at < n) ca.outs (slice_get_within h.0 at h.1 h.6), sym cb.ins)
 shaped kernel is os vs h = tt
 
 -- a kernel that is right in itself has weights above 0

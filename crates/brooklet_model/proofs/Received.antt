@@ -1,8 +1,8 @@
 -- What operators give on the words that they received.
 use Rattle.std.proofs.Common.{◌≡◌, ℕ, zero, suc, ◌+◌, ◌<◌, ◌≤◌, Some, List, [], ◌∷◌, ◌++◌, length, refl, sym, ◌∙◌, subst, arith, ⊎_elim, ◌⊎◌, inl, inr}
 use Rattle.std.specs.Prelude.{slice_get}
+use Rattle.std.proofs.lemmas.Option.{same_Some}
 use Rattle.river_base.specs.declared.item.Item as item
-use Rattle.river_base.proofs.Options.{some_is}
 use Rattle.river_plan.specs.Forms.{Name, OpForm, PlanForm}
 use Rattle.river_plan.specs.Names.{count}
 use Rattle.river_plan.specs.Uses.{total, writes_it, and_writes, ReadsBefore}
@@ -35,7 +35,7 @@ pub writer_before : (ops : List OpForm) (known : Name → ℕ) (o : ℕ) (op : O
     → ReadsBefore known ops
     → (0 < known q) ⊎ ((o' : ℕ) × (op' : OpForm) × (o' < o) × (slice_get ops o' ≡ Some op') × (0 < count q op'.writes))
 writer_before [] known o op q g lt r = absurd (cc g)
-writer_before (a ∷ ops) known zero op q g lt r = inl (r.0 q (subst (λ (b : OpForm). 0 < count q b.reads) (sym (some_is a op g)) lt))
+writer_before (a ∷ ops) known zero op q g lt r = inl (r.0 q (subst (λ (b : OpForm). 0 < count q b.reads) (sym (same_Some a op g)) lt))
 writer_before (a ∷ ops) known (suc o) op q g lt r = ⊎_elim
     (λ k. ⊎_elim (λ h. inl h) (λ z. inr (0, a, omega arith, refl, omega (arith, k, z))) (more_or_zero (known q)))
     (λ w. inr (suc w.0, w.1, omega (arith, w.2), w.3, w.4))
@@ -54,7 +54,7 @@ came_lists : (ops : List OpForm) (o : ℕ) (ws : ℕ → Word) (h : History) →
 came_lists [] o ws h once i op g = absurd (cc g)
 came_lists (a ∷ ops) o ws h once zero op g =
     let z : o ≡ o + 0 = omega arith in
-    subst (λ (b : OpForm). Lists b.writes (ran b (ws (o + 0))).outs (hist_from o (a ∷ ops) ws h)) (some_is a op g)
+    subst (λ (b : OpForm). Lists b.writes (ran b (ws (o + 0))).outs (hist_from o (a ∷ ops) ws h)) (same_Some a op g)
     (subst (λ n. Lists a.writes (ran a (ws n)).outs (hist_from o (a ∷ ops) ws h)) z
     (lists_written a.writes (ran a (ws o)).outs h (hist_from o (a ∷ ops) ws h)
     (λ q. let w = once q in omega (arith, w))

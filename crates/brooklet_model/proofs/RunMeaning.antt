@@ -1,6 +1,7 @@
 -- What a complete run has is what the plan means.
-use Rattle.std.proofs.Common.{◌≡◌, ℕ, zero, suc, List, [], ◌∷◌, Some, map, sym, ap, ◌∙◌}
+use Rattle.std.proofs.Common.{◌≡◌, ℕ, List, [], Some, map, sym, ap, ◌∙◌}
 use Rattle.std.specs.Prelude.{slice_get, min}
+use Rattle.river_base.proofs.Lists.{got_map}
 use Rattle.river_base.specs.declared.item.Item as item
 use Rattle.kern_tables.specs.Tables.{tab}
 use Rattle.river_plan.specs.Forms.{PlanForm, OpForm, decl_names}
@@ -26,11 +27,6 @@ meaning_is p inputs es s e d =
     let o = outs_are p inputs es s d in
     let t = ap (map (λ t. tab t.kind (all_adds p inputs t.name))) e in
     λ i. record { outs = o i; tables = sym t i }
-
-got_map : {A B : Type 0} (f : A → B) (xs : List A) (n : ℕ) (x : A) → slice_get xs n ≡ Some x → slice_get (map f xs) n ≡ Some (f x)
-got_map f [] n x h = absurd (cc h)
-got_map f (y ∷ ys) zero x h = let e : y ≡ x = cc in ap (λ z. Some (f z)) e
-got_map f (y ∷ ys) (suc n) x h = got_map f ys n x h
 
 -- each count of firings is how often its operator stands in the run, and at most 2^63 - 1
 pub firings_are : (p : PlanForm) (inputs : List (List item.Item)) (es : List (ℕ × ℕ)) (s : Machine) → HasDefined p inputs es s → (o : ℕ) (op : OpForm)

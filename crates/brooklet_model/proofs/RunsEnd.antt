@@ -1,6 +1,7 @@
 -- Where all was received, all is as defined.
 use Rattle.std.proofs.Common.{◌≡◌, [], ◌∷◌, length, refl, sym, ap, ◌∙◌, subst, arith}
 use Rattle.std.proofs.lemmas.List.{append-nil}
+use Rattle.river_base.proofs.Lists.{there_is}
 use Rattle.river_plan.specs.Forms.{Name, decl_names}
 use Rattle.river_plan.specs.Kinds.{IsFit}
 use Rattle.river_plan.specs.Names.{count}
@@ -13,7 +14,7 @@ use Rattle.brooklet_model.proofs.Free.{order_is_free}
 use Rattle.brooklet_model.proofs.Ports.{shaped}
 use Rattle.brooklet_model.proofs.Shapes.{first_shape}
 use Rattle.brooklet_model.proofs.Swaps.{at_port_here}
-use Rattle.brooklet_model.proofs.Traces.{each_at, got_read, read_of}
+use Rattle.brooklet_model.proofs.Traces.{each_at, got_read}
 use Rattle.river_base.specs.Places.{list_at}
 use Rattle.brooklet_model.specs.NetLaws.{DoneIsWhole}
 use Rattle.brooklet_model.specs.Received.{hist_by}
@@ -51,13 +52,13 @@ done_law p inputs ws v a d =
           let free = order_is_free op.kernel (lists_of h op.reads) (ws o) (first_kept op.kernel) f (first_shape op.kernel f) (record {
             below = subst (λ m. PortsBelow m (ws o)) n (a.below o op g);
             lists = λ port lt.
-                let q = read_of op.reads port (omega (arith, n, lt)) in
+                let q = there_is op.reads port (omega (arith, n, lt)) in
                 d o op g port q.0 q.1 ∙ same q.0 ∙ sym (got_read h op.reads port q.0 q.1);
           }) in
           free.adds t;
       rows = λ o op g one t.
           let n = reads_are p v o op g in
-          let q = read_of op.reads 0 (omega (arith, one)) in
+          let q = there_is op.reads 0 (omega (arith, one)) in
           let is : ws o ≡ word_of 0 (lists_of h op.reads 0) = one_port (ws o) (subst (λ m. PortsBelow m (ws o)) one (a.below o op g))
           ∙ ap (word_of 0) (d o op g 0 q.0 q.1 ∙ same q.0 ∙ sym (got_read h op.reads 0 q.0 q.1)) in
           let m : ins op.kernel ≡ 1 = sym n ∙ one in

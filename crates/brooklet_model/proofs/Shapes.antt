@@ -1,19 +1,20 @@
 -- States keep their kernel's shape.
-use Rattle.std.proofs.Common.{◌≡◌, ℕ, zero, suc, ℤ, ◌+◌, ◌<◌, Bool, true, false, Some, None, List, [], ◌∷◌, length, take, drop, refl, sym, ap, ◌∙◌, subst}
+use Rattle.std.proofs.Common.{◌≡◌, ℕ, zero, suc, ℤ, ◌+◌, ◌<◌, Bool, true, false, Some, None, List, [], ◌∷◌, length, take, drop, refl, sym, ◌∙◌, subst}
 use Rattle.std.proofs.Common.{arith, length-drop, nat_lt, ⊎_elim}
 use Rattle.std.specs.Prelude.{if◌then◌else◌, nat_le, slice_index_or}
 use Rattle.std.specs.List.{AllByRecursion}
-use Rattle.std.proofs.lemmas.List.{length-map, length-take, length-replicate}
+use Rattle.std.proofs.lemmas.List.{length-map, length-take, length-replicate, take_at, drop_at}
 use Rattle.std.proofs.lemmas.Bool.{cases_lt}
+use Rattle.kern_rows.proofs.Passed.{length-rest_at, turn_by}
+use Rattle.river_base.proofs.PlaceLemmas.{if_lt, if_ge, length-append_at}
 use Rattle.river_base.specs.declared.item.Item as item
 use Rattle.river_base.specs.Held.{items_of}
 use Rattle.river_base.specs.Number.{count_of}
-use Rattle.river_base.specs.Places.{append_at}
 use Rattle.river_base.specs.Drain.{drain, pass_on}
 use Rattle.kern_rows.specs.Forms.{CodeForm, FilterForm}
 use Rattle.kern_rows.specs.Runs.{Filtering, Filtered, filter_turns, next_run, after_run, received, run_at, needs, buffer_of}
 use Rattle.kern_rows.specs.Needs.{HaveShares, IsJoiner}
-use Rattle.kern_rows.specs.Turns.{Turns, IsTurn, shares, ones, next_port, next_had, front_of, passed, rest_at, waiting, put, itself}
+use Rattle.kern_rows.specs.Turns.{Turns, IsTurn, shares, ones, next_port, next_had, front_of, passed, waiting, put, itself}
 use Rattle.kern_bags.specs.Steps.{window_one, streamer_one}
 use Rattle.river_kernels.specs.Kern.{Kern, code, filter, duplicate, deal, collect, packed, unpack, window, select, project, cross, streamer, tally, fused}
 use Rattle.kern_rows.proofs.Lengths.{run_kept_length}
@@ -21,7 +22,7 @@ use Rattle.brooklet_model.specs.Firings.{Kept, Slots, Buffered, Turn, Joining, R
 use Rattle.brooklet_model.specs.Fire.{fire, privates, kept_vars, first_kept, first_slots, code_one, filter_firing, join_one, received_one, cross_one, values_of}
 use Rattle.brooklet_model.specs.Fire.{value_of}
 use Rattle.brooklet_model.specs.Shapes.{IsShaped, AreSlots, IsFiltering, IsDealing, IsJoining, IsReceived, IsCrossing, IsNone, IsOne, HasSlots, HasShape}
-use Rattle.brooklet_model.proofs.Lists.{if_lt, if_ge, take_front, drop_front, feed_kept}
+use Rattle.brooklet_model.proofs.Lists.{feed_kept}
 
 one_length : (P : Kept → Type 0) (ss : List Kept) → IsOne P ss → length ss ≡ 1
 one_length P [] h = absurd h
@@ -62,9 +63,6 @@ weight_at [] p h lt = absurd (omega arith)
 weight_at (w ∷ ws) zero h lt = h.0
 weight_at (w ∷ ws) (suc p) h lt = weight_at ws p h.1 (omega arith)
 
-turn_by : (ws : List ℕ) (p q p' q' : ℕ) → p ≡ p' → q ≡ q' → IsTurn ws p' q' → IsTurn ws p q
-turn_by ws p q p' q' e f h = rw (e, f) h
-
 -- the turn behind a turn is one
 pub next_turn : (ws : List ℕ) (port had : ℕ) → HaveShares ws → IsTurn ws port had → IsTurn ws (next_port ws port had) (next_had ws port had)
 next_turn ws port had all h =
@@ -81,16 +79,6 @@ next_turn ws port had all h =
 -- the first turn is one
 pub first_turn : (ws : List ℕ) → HaveShares ws → IsTurn ws 0 0
 first_turn ws all = (all.0, weight_at ws 0 all.1 all.0)
-
-pub length-rest_at : (ls : List (List item.Item)) (p : ℕ) → length (rest_at ls p) ≡ length ls
-length-rest_at [] p = refl
-length-rest_at (l ∷ ls) zero = refl
-length-rest_at (l ∷ ls) (suc p) = ap suc (length-rest_at ls p)
-
-pub length-append_at : {A : Type 0} (ls : List (List A)) (p : ℕ) (xs : List A) → length (append_at ls p xs) ≡ length ls
-length-append_at [] p xs = refl
-length-append_at (l ∷ ls) zero xs = refl
-length-append_at (l ∷ ls) (suc p) xs = ap suc (length-append_at ls p xs)
 
 -- a joiner that drains keeps its shape
 pub drain_joined : (give : item.Item → List item.Item) (ws : List ℕ) (n : ℕ) (s : Turns) → HaveShares ws → IsJoiner ws s
@@ -176,7 +164,7 @@ fire_shape (fused a b at) p x ss f h =
     let ha = fire_shape a p x (take (privates a) ss) f.0 h.0 in
     let hb = feed_kept (fire b 0) (HasShape b) (λ y us. fire_shape b 0 y us f.1) (ra.outs at) (drop (privates a) ss) h.1 in
     let la = shape_length a ra.states ha in
-    (subst (HasShape a) (sym (take_front ra.states rb.states (privates a) la)) ha, subst (HasShape b) (sym (drop_front ra.states rb.states (privates a) la)) hb)
+    (subst (HasShape a) (sym (take_at ra.states rb.states (privates a) la)) ha, subst (HasShape b) (sym (drop_at ra.states rb.states (privates a) la)) hb)
 
 -- the first states have the kernel's shape
 first_slots_shape : (zs : List ℤ) → HasSlots zs (first_slots zs)
@@ -195,7 +183,7 @@ first_shape (fused a b at) f =
     let ha = first_shape a f.0 in
     let hb = first_shape b f.1 in
     let la = shape_length a (first_kept a) ha in (
-      subst (HasShape a) (sym (take_front (first_kept a) (first_kept b) (privates a) la)) ha,
-      subst (HasShape b) (sym (drop_front (first_kept a) (first_kept b) (privates a) la)) hb,
+      subst (HasShape a) (sym (take_at (first_kept a) (first_kept b) (privates a) la)) ha,
+      subst (HasShape b) (sym (drop_at (first_kept a) (first_kept b) (privates a) la)) hb,
     )
 first_shape kernel f = tt

@@ -1,5 +1,6 @@
 -- A plan's histories are the one solution of its operators' equations.
 use Rattle.std.proofs.Common.{◌≡◌, ℕ, zero, suc, ◌+◌, ◌<◌, ◌≤◌, List, [], ◌∷◌, refl, sym, ap, ◌∙◌, subst, arith, ⊎_elim}
+use Rattle.river_base.proofs.PlaceLemmas.{if_true, if_false}
 use Rattle.river_base.specs.declared.item.Item as item
 use Rattle.river_base.specs.Name.{name_eq}
 use Rattle.river_plan.specs.Forms.{Name, OpForm, PlanForm, decl_names}
@@ -11,7 +12,7 @@ use Rattle.brooklet_model.specs.Fire.{first_kept}
 use Rattle.brooklet_model.specs.Histories.{History, lists_of, given_on, written, histories, Lists, Solves}
 use Rattle.brooklet_model.specs.Laws.{given_to, HistoriesSolve, OneSolution}
 use Rattle.brooklet_model.specs.Words.{feed_all}
-use Rattle.brooklet_model.proofs.Lists.{if_true, if_false, funext}
+use Rattle.brooklet_model.proofs.Lists.{funext}
 
 -- the first name of a list stands in it
 pub count_here : (w : Name) (ws : List Name) → 0 < count w (w ∷ ws)

@@ -1,12 +1,13 @@
 -- The ports of two kernels, with those of the second in place of one of the first.
-use Rattle.std.proofs.Common.{◌≡◌, ℕ, zero, suc, ◌+◌, ◌-◌, ◌<◌, ◌≤◌, Option, List, [], ◌∷◌, ◌++◌, length, take, drop, refl, sym, ap, ◌∙◌, subst, arith, ⊎_elim}
+use Rattle.std.proofs.Common.{◌≡◌, ℕ, zero, suc, ◌+◌, ◌-◌, ◌<◌, ◌≤◌, Option, List, [], ◌∷◌, ◌++◌, length, take, drop, sym, ap, ◌∙◌, subst, arith, ⊎_elim}
 use Rattle.std.specs.Prelude.{All, slice_get}
 use Rattle.std.proofs.lemmas.Bool.{cases_lt}
+use Rattle.river_base.proofs.Lists.{got_append, got_past}
+use Rattle.river_base.proofs.PlaceLemmas.{if_lt, if_ge}
 use Rattle.river_base.specs.declared.item.Item as item
 use Rattle.river_base.specs.declared.kind.QueueType.{QueueType}
 use Rattle.river_kernels.specs.Fits.{spliced}
 use Rattle.brooklet_model.specs.Firings.{splice}
-use Rattle.brooklet_model.proofs.Lists.{if_lt, if_ge}
 
 -- below the place, the first list's
 pub splice_first : {A : Type 0} (at n : ℕ) (f g : ℕ → A) (p : ℕ) → p < at → splice at n f g p ≡ f p
@@ -34,16 +35,7 @@ splice_next at n f g p = ⊎_elim
     (cases_lt (p - at) n))
     (cases_lt p at)
 
-got_append : {A : Type 0} (xs ys : List A) (j : ℕ) → j < length xs → slice_get (xs ++ ys) j ≡ slice_get xs j
-got_append [] ys j lt = absurd (omega arith)
-got_append (x ∷ xs) ys zero lt = refl
-got_append (x ∷ xs) ys (suc j) lt = got_append xs ys j (omega (arith, lt))
-
-got_past : {A : Type 0} (xs ys : List A) (j : ℕ) → slice_get (xs ++ ys) (length xs + j) ≡ slice_get ys j
-got_past [] ys j = let e : 0 + j ≡ j = omega arith in ap (slice_get ys) e
-got_past (x ∷ xs) ys j = let e : length (x ∷ xs) + j ≡ suc (length xs + j) = omega arith in ap (slice_get (x ∷ (xs ++ ys))) e ∙ got_past xs ys j
-
-spliced_next : {A : Type 0} (at : ℕ) (m : A) (ms bs : List A) → spliced (suc at) (m ∷ ms) bs ≡ m ∷ spliced at ms bs
+pub spliced_next : {A : Type 0} (at : ℕ) (m : A) (ms bs : List A) → spliced (suc at) (m ∷ ms) bs ≡ m ∷ spliced at ms bs
 spliced_next at m ms bs = let e : suc at + 1 ≡ suc (at + 1) = omega arith in ap (λ n. m ∷ (take at ms ++ (bs ++ drop n (m ∷ ms)))) e
 
 -- the types of the ports of two kernels as one

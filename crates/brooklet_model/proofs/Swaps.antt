@@ -1,13 +1,13 @@
 -- Firings at different ports may be exchanged.
-use Rattle.std.proofs.Common.{◌≡◌, ◌≢◌, ℕ, ℤ, ◌+◌, ◌<◌, Bool, List, [], ◌∷◌, ◌++◌, refl, sym, ap, ◌∙◌, subst, arith, append_assoc, nat_eq, ⊎_elim}
+use Rattle.std.proofs.Common.{◌≡◌, ◌≢◌, ℕ, ℤ, ◌+◌, ◌<◌, List, [], ◌∷◌, ◌++◌, refl, sym, ap, ◌∙◌, subst, arith, append_assoc, nat_eq, ⊎_elim}
 use Rattle.std.specs.Prelude.{if◌then◌else◌, count_by}
 use Rattle.std.proofs.lemmas.Bool.{cases_eq}
-use Rattle.std.proofs.lemmas.List.Sums.{sum_by-append}
+use Rattle.river_base.proofs.PlaceLemmas.{if_eq, if_ne}
+use Rattle.river_base.proofs.Lists.{count_by-append, head_same, tail_same}
 use Rattle.river_base.specs.declared.item.Item as item
 use Rattle.brooklet_model.specs.Firings.{Kept, Fired, and_then, Same}
 use Rattle.river_base.specs.Bags.{SameBag}
 use Rattle.brooklet_model.specs.Words.{Word, run, at_port, PortsBelow, Alike}
-use Rattle.brooklet_model.proofs.Lists.{if_eq, if_ne}
 
 pub alike_refl : (r : Fired) → Alike r r
 alike_refl r = record { outs = λ p. refl; adds = λ t test. refl; states = refl }
@@ -23,10 +23,6 @@ alike_sym r s a = record { outs = λ p. sym (a.outs p); adds = λ u test. sym (a
 -- what is the same is alike
 pub alike_same : (r s : Fired) → Same r s → Alike r s
 alike_same r s a = record { outs = a.outs; adds = λ u test. ap (count_by test) (a.adds u); states = a.states }
-
--- how many of two lists pass a test
-pub count_by-append : {A : Type 0} (test : A → Bool) (xs ys : List A) → count_by test (xs ++ ys) ≡ count_by test xs + count_by test ys
-count_by-append test xs ys = sum_by-append (λ x. if test x then 1 else 0) xs ys
 
 -- lists that are one bag, put behind lists that are one bag, are one bag with them
 pub bag_append : (xs xs' ys ys' : List (List ℤ)) → SameBag xs xs' → SameBag ys ys' → SameBag (xs ++ ys) (xs' ++ ys')
@@ -83,12 +79,6 @@ pull_below n p (e ∷ es) b = ⊎_elim
     (λ h. subst (PortsBelow n) (sym (pull_past p e es h)) (b.0, pull_below n p es b.1))
     (cases_eq e.0 p)
 
-tail_is : (x y : item.Item) (xs ys : List item.Item) → x ∷ xs ≡ y ∷ ys → xs ≡ ys
-tail_is x y xs ys h = cc
-
-head_is : (x y : item.Item) (xs ys : List item.Item) → x ∷ xs ≡ y ∷ ys → x ≡ y
-head_is x y xs ys h = cc
-
 no_head : {B : Type 0} (x : item.Item) (xs : List item.Item) → [] ≡ x ∷ xs → B
 no_head x xs h = absurd (cc h)
 
@@ -96,7 +86,7 @@ at_port_pulled : (p : ℕ) (x : item.Item) (xs : List item.Item) (w : Word) → 
 unfolding pull
 at_port_pulled p x xs [] h = no_head x xs h
 at_port_pulled p x xs (e ∷ es) h = ⊎_elim
-    (λ eq. ap (at_port p) (pull_here p e es eq) ∙ tail_is e.1 x (at_port p es) xs (sym (at_port_here p e es eq) ∙ h))
+    (λ eq. ap (at_port p) (pull_here p e es eq) ∙ tail_same e.1 x (at_port p es) xs (sym (at_port_here p e es eq) ∙ h))
     (λ ne. ap (at_port p) (pull_past p e es ne) ∙ at_port_past p e (pull p es) ne ∙ at_port_pulled p x xs es (sym (at_port_past p e es ne) ∙ h))
     (cases_eq e.0 p)
 
@@ -124,7 +114,7 @@ module _ (n : ℕ) (f : ℕ → item.Item → List Kept → Fired) (P : List Kep
   move p x xs [] ss hp hb h e = no_head x xs e
   move p x xs (e ∷ es) ss hp hb h is = ⊎_elim
       (λ eq.
-      let e1 : e.1 ≡ x = head_is e.1 x (at_port p es) xs (sym (at_port_here p e es eq) ∙ is) in
+      let e1 : e.1 ≡ x = head_same e.1 x (at_port p es) xs (sym (at_port_here p e es eq) ∙ is) in
       let a : Alike (run f (e ∷ es) ss) (run f ((p, e.1) ∷ es) ss) =
       subst (λ o. Alike (run f (e ∷ es) ss) (run f ((o, e.1) ∷ es) ss)) eq (alike_refl (run f (e ∷ es) ss)) in
       let b : Alike (run f (e ∷ es) ss) (run f ((p, x) ∷ es) ss) = subst (λ o. Alike (run f (e ∷ es) ss) (run f ((p, o) ∷ es) ss)) e1 a in

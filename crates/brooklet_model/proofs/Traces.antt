@@ -4,7 +4,9 @@ use Rattle.std.proofs.Common.{append_assoc, ⊎_elim, get_or}
 use Rattle.std.specs.Prelude.{if◌then◌else◌, count_by, slice_get}
 use Rattle.std.proofs.lemmas.Bool.{cases_eq}
 use Rattle.std.proofs.lemmas.List.{append-nil, take_more, take-append-le}
-use Rattle.std.proofs.lemmas.Option.{slice_get-get_or}
+use Rattle.std.proofs.lemmas.Option.{slice_get-get_or, slice_get_within, same_Some}
+use Rattle.river_base.proofs.PlaceLemmas.{if_true, if_false, if_eq, if_ne}
+use Rattle.river_base.proofs.Lists.{count_by-append}
 use Rattle.river_base.specs.declared.item.Item as item
 use Rattle.river_base.specs.Name.{name_eq}
 use Rattle.river_base.specs.Places.{none}
@@ -17,19 +19,16 @@ use Rattle.brooklet_model.specs.Histories.{History, lists_of, given_on, joined, 
 use Rattle.brooklet_model.specs.Machine.{at_key}
 use Rattle.brooklet_model.specs.Traced.{sum_numbered}
 use Rattle.river_base.specs.Bags.{SameBag}
-use Rattle.river_base.proofs.Options.{some_is}
 use Rattle.brooklet_model.specs.Words.{Word, run, at_port, PortsBelow}
-use Rattle.brooklet_model.proofs.Lists.{if_true, if_false, if_eq, if_ne}
-use Rattle.brooklet_model.proofs.Ports.{got_below}
 use Rattle.brooklet_model.proofs.Solutions.{count_here, one_of}
-use Rattle.brooklet_model.proofs.Swaps.{count_by-append, at_port_here, at_port_past}
+use Rattle.brooklet_model.proofs.Swaps.{at_port_here, at_port_past}
 
 -- BY NUMBER AND BY SUM
 
 -- an operator's number is at most the sum
 pub at_most : (f : OpForm → ℕ) (ops : List OpForm) (o : ℕ) (op : OpForm) → slice_get ops o ≡ Some op → f op ≤ total f ops
 at_most f [] o op g = absurd (cc g)
-at_most f (a ∷ ops) zero op g = let e = ap f (some_is a op g) in omega (arith, e)
+at_most f (a ∷ ops) zero op g = let e = ap f (same_Some a op g) in omega (arith, e)
 at_most f (a ∷ ops) (suc o) op g = let i = at_most f ops o op g in omega (arith, i)
 
 -- where the sum is at most 1, only one operator has a number above 0
@@ -38,29 +37,29 @@ pub one_place : (f : OpForm → ℕ) (ops : List OpForm) (o o' : ℕ) (op op' : 
 one_place f [] o o' op op' h g g' i i' = absurd (cc g)
 one_place f (a ∷ ops) zero zero op op' h g g' i i' = refl
 one_place f (a ∷ ops) zero (suc o') op op' h g g' i i' =
-    absurd (let e = ap f (some_is a op g) in let m = at_most f ops o' op' g' in omega (arith, e, m, h, i, i'))
+    absurd (let e = ap f (same_Some a op g) in let m = at_most f ops o' op' g' in omega (arith, e, m, h, i, i'))
 one_place f (a ∷ ops) (suc o) zero op op' h g g' i i' =
-    absurd (let e = ap f (some_is a op' g') in let m = at_most f ops o op g in omega (arith, e, m, h, i, i'))
+    absurd (let e = ap f (same_Some a op' g') in let m = at_most f ops o op g in omega (arith, e, m, h, i, i'))
 one_place f (a ∷ ops) (suc o) (suc o') op op' h g g' i i' = ap suc (one_place f ops o o' op op' (omega (arith, h)) g g' i i')
 
 -- a name that is got stands in the list
 pub got_count : (rs : List Name) (p : ℕ) (q : Name) → slice_get rs p ≡ Some q → 0 < count q rs
 got_count [] p q g = absurd (cc g)
-got_count (r ∷ rs) zero q g = let e = one_of r q (some_is r q g) in omega (arith, e)
+got_count (r ∷ rs) zero q g = let e = one_of r q (same_Some r q g) in omega (arith, e)
 got_count (r ∷ rs) (suc p) q g = let e = got_count rs p q g in omega (arith, e)
 
 -- a name that stands once has one place
 pub place_once : (rs : List Name) (p p' : ℕ) (q : Name) → count q rs ≤ 1 → slice_get rs p ≡ Some q → slice_get rs p' ≡ Some q → p ≡ p'
 place_once [] p p' q h g g' = absurd (cc g)
 place_once (r ∷ rs) zero zero q h g g' = refl
-place_once (r ∷ rs) zero (suc p') q h g g' = absurd (let e = one_of r q (some_is r q g) in let c = got_count rs p' q g' in omega (arith, e, c, h))
-place_once (r ∷ rs) (suc p) zero q h g g' = absurd (let e = one_of r q (some_is r q g') in let c = got_count rs p q g in omega (arith, e, c, h))
+place_once (r ∷ rs) zero (suc p') q h g g' = absurd (let e = one_of r q (same_Some r q g) in let c = got_count rs p' q g' in omega (arith, e, c, h))
+place_once (r ∷ rs) (suc p) zero q h g g' = absurd (let e = one_of r q (same_Some r q g') in let c = got_count rs p q g in omega (arith, e, c, h))
 place_once (r ∷ rs) (suc p) (suc p') q h g g' = ap suc (place_once rs p p' q (omega (arith, h)) g g')
 
 -- what holds of each operator holds of the one that is got
 pub each_at : (P : OpForm → Type 0) (ops : List OpForm) (o : ℕ) (op : OpForm) → Each P ops → slice_get ops o ≡ Some op → P op
 each_at P [] o op h g = absurd (cc g)
-each_at P (a ∷ ops) zero op h g = subst P (some_is a op g) h.0
+each_at P (a ∷ ops) zero op h g = subst P (same_Some a op g) h.0
 each_at P (a ∷ ops) (suc o) op h g = each_at P ops o op h.1 g
 
 -- what holds of each operator that is got holds of each
@@ -71,14 +70,8 @@ each_of P (a ∷ ops) h = (h 0 a refl, each_of P ops (λ o op g. h (suc o) op g)
 -- the history of the queue at a port
 pub got_read : (h : History) (rs : List Name) (p : ℕ) (q : Name) → slice_get rs p ≡ Some q → lists_of h rs p ≡ h q
 got_read h [] p q g = absurd (cc g)
-got_read h (r ∷ rs) zero q g = ap h (some_is r q g)
+got_read h (r ∷ rs) zero q g = ap h (same_Some r q g)
 got_read h (r ∷ rs) (suc p) q g = got_read h rs p q g
-
--- a port below the number of reads has a queue
-pub read_of : (rs : List Name) (p : ℕ) → p < length rs → (q : Name) × (slice_get rs p ≡ Some q)
-read_of [] p lt = absurd (omega (arith, lt))
-read_of (r ∷ rs) zero lt = (r, refl)
-read_of (r ∷ rs) (suc p) lt = read_of rs p (omega (arith, lt))
 
 -- WHAT COMES TO THE QUEUES
 
@@ -186,13 +179,13 @@ run_more f (e ∷ es) p x ss =
 pub at_same : (ops : List OpForm) (F : ℕ → OpForm → Type 0) (o o' : ℕ) (op op' : OpForm) → slice_get ops o ≡ Some op → slice_get ops o' ≡ Some op' → o ≡ o'
     → F o op → F o' op'
 at_same ops F o o' op op' g g' e h =
-    let eo : op ≡ op' = some_is op op' (sym g ∙ ap (slice_get ops) e ∙ g') in
+    let eo : op ≡ op' = same_Some op op' (sym g ∙ ap (slice_get ops) e ∙ g') in
     subst (λ i. F i op') e (subst (F o) eo h)
 
 -- one item more is taken
 pub take_next : (xs more : List item.Item) (n : ℕ) (x : item.Item) → slice_get xs n ≡ Some x → take (n + 1) (xs ++ more) ≡ take n xs ++ x ∷ []
 take_next xs more n x h =
-    let lt = got_below xs n x h in
+    let lt = slice_get_within xs n x h in
     let x_is : get_or xs n x ≡ x = let g : Some (get_or xs n x) ≡ Some x = sym (slice_get-get_or xs n x lt) ∙ h in cc in
     take-append-le (n + 1) xs more (omega (arith, lt)) ∙ take_more xs n x lt ∙ ap (λ y. take n xs ++ y ∷ []) x_is
 
@@ -212,7 +205,7 @@ pub numbered_more : (f f' : ℕ → OpForm → ℕ) (ops : List OpForm) (j o d :
 numbered_more f f' [] j o d op g e h = absurd (cc g)
 numbered_more f f' (a ∷ ops) j zero d op g e h =
     let z : j + 0 ≡ j = omega arith in
-    let s = some_is a op g in
+    let s = same_Some a op g in
     let e1 : f' j a ≡ f j a + d = subst (λ b. f' j b ≡ f j b + d) (sym s) (subst (λ n. f' n op ≡ f n op + d) z e) in
     let t = numbered_same f f' ops (suc j) (λ i op' g'. h (suc j + i) op' (let ne : suc j + i ≢ j + 0 = omega arith in ne)) in
     omega (arith, e1, t)

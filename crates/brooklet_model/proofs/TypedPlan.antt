@@ -4,12 +4,13 @@ use Rattle.std.proofs.Common.{◌≡◌, ℕ, zero, suc, ◌+◌, ◌<◌, Optio
 use Rattle.std.specs.Prelude.{if◌then◌else◌, All, slice_get, unwrap_or}
 use Rattle.std.proofs.lemmas.Bool.{cases_eq}
 use Rattle.std.proofs.lemmas.List.Elements.{All-head, All-tail, All-nil, All-append}
+use Rattle.river_base.proofs.PlaceLemmas.{if_true, if_false}
+use Rattle.river_base.proofs.Lists.{got_map, got_all}
 use Rattle.river_base.specs.declared.item.Item as item
 use Rattle.river_base.specs.declared.kind.QueueType.{QueueType}
 use Rattle.river_base.specs.Held.{HasType}
 use Rattle.river_base.specs.Name.{name_eq}
 use Rattle.river_base.specs.Places.{list_at}
-use Rattle.river_base.proofs.Options.{some_is}
 use Rattle.river_kernels.specs.declared.types.VarKind.{VarKind}
 use Rattle.river_kernels.specs.Fits.{Fits, rows}
 use Rattle.river_kernels.specs.Kern.{Kern}
@@ -28,7 +29,6 @@ use Rattle.brooklet_model.specs.Machine.{Machine, at_key, fired, Step, first_kep
 use Rattle.brooklet_model.specs.Shapes.{HasShape}
 use Rattle.brooklet_model.specs.Typed.{IsTyped, IsOf, AreOf, IsWordOf, AreInputs, Holds, IsTypedState}
 use Rattle.brooklet_model.specs.Words.{Word, run, word_of, port_by_port}
-use Rattle.brooklet_model.proofs.Lists.{if_true, if_false}
 use Rattle.brooklet_model.proofs.Ports.{shaped}
 use Rattle.brooklet_model.proofs.Shapes.{fire_shape, first_shape}
 use Rattle.brooklet_model.proofs.Solutions.{count_here, written_out, stays, plan_solves}
@@ -102,18 +102,6 @@ joined_all B kind (w ∷ ws) f t q = All-append (B (Some (kind q))) (if name_eq 
     (λ c. subst (All (B (Some (kind q)))) (sym (if_true (name_eq w q) (f 0) [] c.1)) (subst (λ n. All (B (Some (kind n))) (f 0)) c.0 (t 0)))
     (λ c. subst (All (B (Some (kind q)))) (sym (if_false (name_eq w q) (f 0) [] c.1)) (All-nil (B (Some (kind q)))))
     (cases_name w q)) (joined_all B kind ws (λ j. f (suc j)) (λ j. t (suc j)) q)
-
--- the type of a port is that of its queue
-pub kind_got : (kind : Name → QueueType) (rs : List Name) (port : ℕ) (q : Name) → slice_get rs port ≡ Some q → slice_get (map kind rs) port ≡ Some (kind q)
-kind_got kind [] port q g = absurd (cc g)
-kind_got kind (r ∷ rs) zero q g = ap (λ n. Some (kind n)) (some_is r q g)
-kind_got kind (r ∷ rs) (suc port) q g = kind_got kind rs port q g
-
--- what is said of all items of a list is said of each
-pub got_all : (P : item.Item → Type 0) (xs : List item.Item) (n : ℕ) (x : item.Item) → All P xs → slice_get xs n ≡ Some x → P x
-got_all P [] n x a g = absurd (cc g)
-got_all P (y ∷ ys) zero x a g = subst P (some_is y x g) (All-head P y ys a)
-got_all P (y ∷ ys) (suc n) x a g = got_all P ys n x (All-tail P y ys a) g
 
 -- INPUTS
 
@@ -212,7 +200,7 @@ module _ (p : PlanForm) (v : IsPlan p) where
       → IsTypedState p (fired (table_names p.tables) o op port q x s)
   fired_typed o port op q x s t g qi xi =
       let f = op_fits p v o op g in
-      let i = subst (λ t. IsTyped t x) (sym (kind_got kinds op.reads port q qi)) (got_all (HasType (kinds q)) (s.hist q) (s.taken q) x (t.queues q) xi) in
+      let i = subst (λ t. IsTyped t x) (sym (got_map kinds op.reads port q qi)) (got_all (HasType (kinds q)) (s.hist q) (s.taken q) x (t.queues q) xi) in
       let one = fire_typed op.kernel _ _ _ port x (s.kept o) f (t.shapes o op g) (t.holds o op g) i in
       let r = fire op.kernel port x (s.kept o) in
       let shape = fire_shape op.kernel port x (s.kept o) (shaped op.kernel _ _ _ f) (t.shapes o op g) in

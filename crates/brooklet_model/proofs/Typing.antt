@@ -4,8 +4,11 @@ use Rattle.std.proofs.Common.{refl, sym, ap, ◌∙◌, subst, arith, ⊎_elim, 
 use Rattle.std.specs.Prelude.{if◌then◌else◌, nat_le, All, slice_get}
 use Rattle.std.specs.List.{list_all}
 use Rattle.std.proofs.lemmas.Bool.{cases_lt, cases_eq, and_parts, true≢false}
-use Rattle.std.proofs.lemmas.List.{length-map}
+use Rattle.std.proofs.lemmas.List.{length-map, take_at, drop_at}
 use Rattle.std.proofs.lemmas.List.Elements.{All-head, All-tail, All-cons, All-nil, All-append, All-map}
+use Rattle.std.proofs.lemmas.Option.{slice_get_within}
+use Rattle.river_base.proofs.Tests.{eq_by}
+use Rattle.river_base.proofs.PlaceLemmas.{if_lt, if_ge, if_eq, if_ne}
 use Rattle.river_base.specs.declared.item.Item as item
 use Rattle.river_base.specs.declared.item.Item.TheVariants.{Flat, Pack}
 use Rattle.river_base.specs.declared.item.Flat.TheVariants.{One}
@@ -35,8 +38,7 @@ use Rattle.brooklet_model.specs.Shapes.{IsOne, HasSlots, IsDealing, IsJoining, I
 use Rattle.brooklet_model.specs.Typed.{IsTyped, IsOf, AreOf, AreWaiting, AreReceived, WaitAsTyped, one_type, between, Holds}
 use Rattle.brooklet_model.proofs.BagTypes.{window_typed, select_typed, project_typed, streamer_typed, PairTyped, cross_typed_left, cross_typed_right}
 use Rattle.kern_bags.specs.Steps.{Pairing, window_one, select_one, project_one, streamer_one, crosses}
-use Rattle.brooklet_model.proofs.Lists.{if_lt, if_ge, if_eq, if_ne, take_front, drop_front}
-use Rattle.brooklet_model.proofs.Ports.{counts as numbers, got_below, shaped}
+use Rattle.brooklet_model.proofs.Ports.{counts as numbers, shaped}
 use Rattle.brooklet_model.proofs.Shapes.{fire_shape, first_shape, shape_length}
 use Rattle.brooklet_model.proofs.Spliced.{spliced_all}
 
@@ -161,10 +163,7 @@ first_well f (Some r) h g =
     let b = and_parts (nat_eq r.body.slots f.body.slots) (nat_le r.pop r.peek && (steps && is_number (pushes r.body.steps) r.push)) a.1 in
     let c = and_parts (nat_le r.pop r.peek) (steps && is_number (pushes r.body.steps) r.push) b.1 in
     let d = and_parts steps (is_number (pushes r.body.steps) r.push) c.1 in
-    subst (λ k. is_steps r.peek k (pos 1 ∷ []) r.body.steps ≡ true) (sym (same_slots r.body.slots f.body.slots b.0)) d.0
-  where
-    same_slots : (m n : ℕ) → nat_eq m n ≡ true → m ≡ n
-    same_slots m n h = grind (arith, h)
+    subst (λ k. is_steps r.peek k (pos 1 ∷ []) r.body.steps ≡ true) (sym (eq_by r.body.slots f.body.slots b.0)) d.0
 
 runs_well : (f : FilterForm) → is_filter f ≡ true → RunsWell f
 runs_well f h k = go k
@@ -394,11 +393,11 @@ fire_typed (fused a b at) is os vs p x ss f h t i =
     let cb = numbers b (m ∷ []) bs ws fb in (
       subst (λ (l : List QueueType). AreOf l (splice at (outs b) ra.outs rb.outs)) (sym f.8)
           (subst (λ n. AreOf (spliced at ms bs) (splice at n ra.outs rb.outs)) cb.outs
-          (λ q. spliced_all IsTyped ms bs at q ra.outs rb.outs (got_below ms at m f.6) ia.0 ib.0)),
+          (λ q. spliced_all IsTyped ms bs at q ra.outs rb.outs (slice_get_within ms at m f.6) ia.0 ib.0)),
       (
-        subst (Holds a is) (sym (take_front ra.states rb.states (privates a) la)) ia.1,
+        subst (Holds a is) (sym (take_at ra.states rb.states (privates a) la)) ia.1,
         subst (λ (l : List QueueType). Holds b l (drop (privates a) (ra.states ++ rb.states))) (sym mid)
-            (subst (Holds b (m ∷ [])) (sym (drop_front ra.states rb.states (privates a) la)) ib.1.1),
+            (subst (Holds b (m ∷ [])) (sym (drop_at ra.states rb.states (privates a) la)) ib.1.1),
       ),
     )
 
@@ -423,8 +422,8 @@ first_holds cross is f = (All-nil (IsOf is 0), All-nil (IsOf is 1))
 first_holds (streamer s) is f = All-nil (IsOf is 0)
 first_holds (fused a b at) is f =
     let la = shape_length a (first_kept a) (first_shape a f.0) in (
-      subst (Holds a is) (sym (take_front (first_kept a) (first_kept b) (privates a) la)) (first_holds a is f.0),
-      subst (Holds b (between at (types_of a is))) (sym (drop_front (first_kept a) (first_kept b) (privates a) la))
+      subst (Holds a is) (sym (take_at (first_kept a) (first_kept b) (privates a) la)) (first_holds a is f.0),
+      subst (Holds b (between at (types_of a is))) (sym (drop_at (first_kept a) (first_kept b) (privates a) la))
           (first_holds b (between at (types_of a is)) f.1),
     )
 first_holds kernel is f = tt

@@ -3,6 +3,7 @@ use Rattle.std.proofs.Common.{◌≡◌, ℕ, zero, suc, ℤ, ◌-◌, Some, Non
 use Rattle.std.specs.Prelude.{All, slice_get}
 use Rattle.std.proofs.lemmas.Bool.{cases_lt}
 use Rattle.std.proofs.lemmas.List.Elements.{All-head, All-tail, All-cons, All-nil, All-append}
+use Rattle.river_base.proofs.PlaceLemmas.{if_lt, if_ge}
 use Rattle.river_base.specs.declared.item.Item as item
 use Rattle.river_base.specs.declared.item.Item.TheVariants.{Flat, Pack}
 use Rattle.river_base.specs.declared.item.Flat.TheVariants.{One, Batch as Batched, Change as Changed}
@@ -20,7 +21,6 @@ use Rattle.brooklet_model.specs.Firings.{Kept, Slots, Buffered, Turn, Joining, R
 use Rattle.brooklet_model.specs.Fire.{fire, tabs, privates, values_of, code_one, filter_firing, deal_one, join_one, received_one, cross_one}
 use Rattle.brooklet_model.specs.Shapes.{HasShape, IsShaped}
 use Rattle.brooklet_model.specs.Typed.{IsTyped, IsOf, between, Holds, widths_in, IsWide, AreWide}
-use Rattle.brooklet_model.proofs.Lists.{if_lt, if_ge}
 use Rattle.brooklet_model.proofs.Ports.{tables_in, counts as numbers, shaped}
 use Rattle.brooklet_model.proofs.Shapes.{fire_shape}
 use Rattle.brooklet_model.proofs.Typing.{between_is, fire_typed}
@@ -30,7 +30,7 @@ widths-append [] vs = refl
 widths-append (Private ∷ us) vs = widths-append us vs
 widths-append (Table n ∷ us) vs = ap (λ l. n ∷ l) (widths-append us vs)
 
-widths_length : (us : List VarKind) → length (widths_in us) ≡ tables_in us
+pub widths_length : (us : List VarKind) → length (widths_in us) ≡ tables_in us
 widths_length [] = refl
 widths_length (Private ∷ us) = widths_length us
 widths_length (Table n ∷ us) = let e = widths_length us in omega (arith, e)

@@ -6,12 +6,13 @@ use Rattle.std.proofs.lemmas.List.{append-nil, take_more, take-append-drop, leng
 use Rattle.std.proofs.lemmas.List.Elements.{filter-append, filter_more}
 use Rattle.std.proofs.lemmas.List.Sums.{fold-append}
 use Rattle.std.proofs.lemmas.Option.{slice_get_within}
+use Rattle.river_base.proofs.Lists.{got_mid}
+use Rattle.river_base.proofs.PlaceLemmas.{if_lt, if_ge}
 use Rattle.river_base.specs.Places.{list_at, only}
 use Rattle.kern_tables.specs.declared.kept.Kept.{Kept}
 use Rattle.kern_tables.specs.Kept.{with_row, width_of_table}
 use Rattle.kern_tables.specs.Tables.{table_width}
 use Rattle.kern_tables.proofs.Tabs.{added_kind}
-use Rattle.brooklet_model.proofs.Lists.{if_lt, if_ge}
 use Rattle.brooklet_step.specs.ByPlace.{joined_at}
 use Rattle.brooklet_step.specs.Tables.{table_places, each_added, AreFor}
 use Rattle.brooklet_step.proofs.QueuePlaces.{joined_at-more}
@@ -67,10 +68,6 @@ added_there : (ts : List Kept) (f : ℕ → List (List ℤ)) (w : ℕ) (d : Kept
 added_there [] f w d h = absurd (omega (arith, h))
 added_there (t ∷ ts) f zero d h = (t, refl, refl)
 added_there (t ∷ ts) f (suc w) d h = added_there ts (λ p. f (suc p)) w d (omega (arith, h))
-
-got_mid : (xs : List ℕ) (y : ℕ) (ys : List ℕ) → slice_get (xs ++ y ∷ ys) (length xs) ≡ Some y
-got_mid [] y ys = refl
-got_mid (x ∷ xs) y ys = got_mid xs y ys
 
 -- THE VARIABLES ONE AFTER ANOTHER
 

@@ -3,7 +3,8 @@ use Rattle.std.proofs.Common.{◌≡◌, ℕ, ℤ, zero, suc, ◌+◌, ◌<◌, 
 use Rattle.std.proofs.Common.{get_or, ⊎_elim}
 use Rattle.std.specs.Prelude.{All, IsTrue, slice_get}
 use Rattle.std.proofs.lemmas.Bool.{cases_lt}
-use Rattle.std.proofs.lemmas.Option.{slice_get_within, slice_get-get_or}
+use Rattle.std.proofs.lemmas.Option.{slice_get_within, slice_get-get_or, same_Some}
+use Rattle.brooklet_step.proofs.StartLemmas.{inputs_many}
 use Rattle.river_base.specs.declared.item.Item as item
 use Rattle.river_base.specs.declared.kind.FlatType.TheVariants.{Rows, Stream, Relation}
 use Rattle.river_base.specs.declared.kind.QueueType.{QueueType}
@@ -20,13 +21,10 @@ use Rattle.brooklet_step.specs.Fit.{IsStream, NoStream, IsStreamAt}
 abbrev pub EachAt : (Decl → List item.Item → Type 0) → List Decl → List (List item.Item) → Type 0
 EachAt P ds ls = (i : ℕ) (d : Decl) → slice_get ds i ≡ Some d → P d (list_at ls i)
 
-decl_is : (a b : Decl) → Some a ≡ Some b → a ≡ b
-decl_is a b e = cc
-
 pub inputs_at : (ds : List Decl) (ls : List (List item.Item)) → AreInputs ds ls → EachAt (λ d xs. All (HasType d.kind) xs) ds ls
 inputs_at [] ls a i d g = absurd (cc g)
 inputs_at (e ∷ ds) [] a i d g = absurd a
-inputs_at (e ∷ ds) (xs ∷ ls) a zero d g = subst (λ (x : Decl). All (HasType x.kind) xs) (decl_is e d g) a.0
+inputs_at (e ∷ ds) (xs ∷ ls) a zero d g = subst (λ (x : Decl). All (HasType x.kind) xs) (same_Some e d g) a.0
 inputs_at (e ∷ ds) (xs ∷ ls) a (suc i) d g = inputs_at ds ls a.1 i d g
 
 -- lists that have the declared types, place by place, are inputs
@@ -36,18 +34,11 @@ inputs_by [] (xs ∷ ls) e h = absurd (omega (arith, e))
 inputs_by (d ∷ ds) [] e h = absurd (omega (arith, e))
 inputs_by (d ∷ ds) (xs ∷ ls) e h = (h 0 d refl, inputs_by ds ls (omega (arith, e)) (λ i x g. h (suc i) x g))
 
--- there is a list for each input
-pub inputs_long : (ds : List Decl) (ls : List (List item.Item)) → AreInputs ds ls → length ls ≡ length ds
-inputs_long [] [] a = refl
-inputs_long [] (xs ∷ ls) a = absurd a
-inputs_long (d ∷ ds) [] a = absurd a
-inputs_long (d ∷ ds) (xs ∷ ls) a = let e = inputs_long ds ls a.1 in omega (arith, e)
-
 pub instants_at : (ds : List Decl) (ts : List ℤ) (ls : List (List item.Item)) → length ls ≡ length ds → AreInstants ds ts ls
     → EachAt (λ d xs. HasInstants d.kind ts xs) ds ls
 instants_at [] ts ls e a i d g = absurd (cc g)
 instants_at (x ∷ ds) ts [] e a i d g = absurd (omega (arith, e))
-instants_at (x ∷ ds) ts (xs ∷ ls) e a zero d g = subst (λ (y : Decl). HasInstants y.kind ts xs) (decl_is x d g) a.0
+instants_at (x ∷ ds) ts (xs ∷ ls) e a zero d g = subst (λ (y : Decl). HasInstants y.kind ts xs) (same_Some x d g) a.0
 instants_at (x ∷ ds) ts (xs ∷ ls) e a (suc i) d g = instants_at ds ts ls (omega (arith, e)) a.1 i d g
 
 -- lists that follow these instants, place by place
@@ -86,7 +77,7 @@ fit_some p ls i xs a e r s = record { typed = a; instants_of = instants_in xs; a
 pub some_fit : (p : PlanForm) (ls : List (List item.Item)) (i : ℕ) (d : Decl) (xs : List item.Item) → slice_get p.inputs i ≡ Some d → IsStream d.kind
     → xs ≡ list_at ls i → Fit p ls → Rises (instants_in xs) × AreInstants p.inputs (instants_in xs) ls
 some_fit p ls i d xs g s e f =
-    let h = instants_at p.inputs f.instants_of ls (inputs_long p.inputs ls f.typed) f.streams i d g in
+    let h = instants_at p.inputs f.instants_of ls (inputs_many p.inputs ls f.typed) f.streams i d g in
     let same : f.instants_of ≡ instants_in xs = sym (has_stream d.kind f.instants_of (list_at ls i) h s) ∙ ap instants_in (sym e) in
     (subst Rises same f.ascending, subst (λ ts. AreInstants p.inputs ts ls) same f.streams)
 
@@ -100,10 +91,7 @@ pub rises_at : (xs : List item.Item) → Rises (instants_in xs) → (i : ℕ) (x
 rises_at [] r i x y g h = absurd (cc g)
 rises_at (a ∷ []) r zero x y g h = absurd (let e : None ≡ Some y = h in cc e)
 rises_at (a ∷ []) r (suc i) x y g h = absurd (let e : None ≡ Some x = g in cc e)
-rises_at (a ∷ b ∷ xs) r zero x y g h = subst (λ z. instant_of z <ℤ instant_of y) (got a x g) (subst (λ z. instant_of a <ℤ instant_of z) (got b y h) r.0)
-  where
-    got : (u v : item.Item) → Some u ≡ Some v → u ≡ v
-    got u v e = cc
+rises_at (a ∷ b ∷ xs) r zero x y g h = subst (λ z. instant_of z <ℤ instant_of y) (same_Some a x g) (subst (λ z. instant_of a <ℤ instant_of z) (same_Some b y h) r.0)
 rises_at (a ∷ b ∷ xs) r (suc i) x y g h = rises_at (b ∷ xs) r.1 i x y g h
 
 -- instants rise, where each is below the next
@@ -236,7 +224,7 @@ module _ (p : PlanForm) (ds : List Decl) (ls : List (List item.Item)) (e : ds �
 
   -- the place of a stream is that of a list
   pub stream_in : (i : ℕ) → IsStreamAt ds (Some i) → i < length ls
-  stream_in i s = let w = slice_get_within ds i s.0 s.1 in let l = inputs_long ds ls a in omega (arith, w, l)
+  stream_in i s = let w = slice_get_within ds i s.0 s.1 in let l = inputs_many ds ls a in omega (arith, w, l)
 
   -- where the first stream's instants rise, the others decide
   pub fits_then : (i : ℕ) (xs : List item.Item) (b : Bool) → IsStreamAt ds (Some i) → xs ≡ list_at ls i → Rises (instants_in xs)

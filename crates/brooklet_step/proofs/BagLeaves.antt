@@ -1,8 +1,10 @@
 -- What steps of kernels on bags need, from what a firing can take.
-use Rattle.std.proofs.Common.{◌≡◌, ℕ, zero, suc, ℤ, ◌≤◌, ◌<◌, true, ◌&&◌, List, [], ◌∷◌, length, refl, sym, ap, ◌∙◌, subst, arith}
-use Rattle.std.specs.Prelude.{nat_le, nat_lt}
+use Rattle.std.proofs.Common.{◌≡◌, ℕ, zero, suc, ℤ, ◌<◌, true, ◌&&◌, List, [], ◌∷◌, length, refl, sym, ap, ◌∙◌, subst}
+use Rattle.std.specs.Prelude.{nat_le}
 use Rattle.std.specs.List.{AllByRecursion, list_all}
 use Rattle.std.proofs.lemmas.Bool.{and_parts}
+use Rattle.river_kernels.proofs.WellFormed.{within, term_within, terms_within}
+use Rattle.river_base.proofs.Tests.{le_by}
 use Rattle.river_base.specs.declared.item.Batch.{Batch}
 use Rattle.river_base.specs.declared.item.Change.{Change}
 use Rattle.river_base.specs.declared.item.Item as item
@@ -13,7 +15,7 @@ use Rattle.river_base.specs.declared.kind.FlatType.{FlatType}
 use Rattle.river_base.specs.declared.kind.FlatType.TheVariants.{Rows, Stream, Relation}
 use Rattle.river_base.specs.declared.kind.QueueType.TheVariants.{Flat as FlatOf}
 use Rattle.river_base.specs.Held.{IsHeld, HaveWidth}
-use Rattle.work_code.specs.Term.{Term, Const, Input, Slot, Neg, Not, Bin, depth_of}
+use Rattle.work_code.specs.Term.{Term}
 use Rattle.work_code.specs.Value.{IsWithin}
 use Rattle.kern_bags.specs.Following.{CrossKept, put_change, IsCrossOf}
 use Rattle.kern_bags.specs.Kept.{WindowKept, IsWindowKept}
@@ -23,7 +25,7 @@ use Rattle.kern_bags.specs.declared.kernel.Streamer.{Streamer}
 use Rattle.kern_bags.specs.declared.kernel.Window.{Window}
 use Rattle.river_base.specs.Changes.{IsChanged}
 use Rattle.river_kernels.specs.Fits.{stream, relation, is_sized, is_bag, width_of}
-use Rattle.river_kernels.specs.Formed.{is_width, is_sound, is_term}
+use Rattle.river_kernels.specs.Formed.{is_width, is_term}
 use Rattle.river_kernels.specs.Kern.{window, select, project, cross, streamer}
 use Rattle.brooklet_step.specs.declared.emit.Emit.{Emit}
 use Rattle.brooklet_step.specs.declared.state.State.{State}
@@ -68,31 +70,6 @@ module _ (v : Window) (i : item.Item) (s : State) (out : Emit) (t : CanTake (win
   window_room = one_list (window v) out refl t.room
 
 -- EXPRESSIONS
-
-le_by : (a b : ℕ) → nat_le a b ≡ true → a ≤ b
-le_by a b h = grind (arith, h)
-
-lt_by : (a b : ℕ) → nat_lt a b ≡ true → a < b
-lt_by a b h = grind (arith, h)
-
-sound_within : (i s : ℕ) (t : Term) → is_sound i s t ≡ true → IsWithin i s t
-sound_within i s (Const z) h = tt
-sound_within i s (Input place) h = lt_by place i h
-sound_within i s (Slot slot) h = lt_by slot s h
-sound_within i s (Neg t) h = sound_within i s t h
-sound_within i s (Not t) h = sound_within i s t h
-sound_within i s (Bin o l r) h =
-    let p = and_parts (is_sound i s l) (is_sound i s r) h in
-    (sound_within i s l p.0, sound_within i s r p.1)
-
-term_within : (i s : ℕ) (t : Term) → is_term i s t ≡ true → IsWithin i s t
-term_within i s t h = sound_within i s t (and_parts (is_sound i s t) (nat_le (depth_of t) 64) h).0
-
-terms_within : (i s : ℕ) (ts : List Term) → list_all (is_term i s) ts ≡ true → AllByRecursion (IsWithin i s) ts
-terms_within i s [] h = tt
-terms_within i s (t ∷ ts) h =
-    let p = and_parts (is_term i s t) (list_all (is_term i s) ts) h in
-    (term_within i s t p.0, terms_within i s ts p.1)
 
 can_read : (n : ℕ) (e : Term) (rows : List (List ℤ)) → is_term n 0 e ≡ true → HaveWidth n rows → CanRead e rows
 can_read n e rows g h = λ k d lt. subst (λ m. IsWithin m 0 e) (sym (h k d lt)) (term_within n 0 e g)

@@ -1,5 +1,6 @@
 -- The ports and variables of a kernel, as its shape tells them.
-use Rattle.std.proofs.Common.{◌≡◌, ℕ, ◌+◌, ◌-◌, ℤ, List, [], ◌∷◌, replicate, refl, ap, ◌∙◌}
+use Rattle.std.proofs.Common.{◌≡◌, ◌+◌, ◌-◌, ℤ, List, [], ◌∷◌, replicate, refl, ap, ◌∙◌}
+use Rattle.std.proofs.Math.Path.{ap₂}
 use Rattle.river_kernels.specs.declared.shape.Shape.{Shape}
 use Rattle.river_kernels.specs.Kern.{Kern, code, packed, fused}
 use Rattle.river_kernels.specs.Shape.{shape, kept_vars as kept_told}
@@ -7,17 +8,14 @@ use Rattle.brooklet_model.specs.Fire.{outs, tabs, privates, kept_vars}
 use Rattle.brooklet_step.specs.declared.emit.Emit.{Emit}
 use Rattle.brooklet_step.specs.Took.{IsBlank}
 
-both : (f : ℕ → ℕ → ℕ) (a b c d : ℕ) → a ≡ c → b ≡ d → f a b ≡ f c d
-both f a b c d e g = ap (λ n. f n b) e ∙ ap (f c) g
-
 -- the number of outputs that the code counts
 pub outs_told : (k : Kern) → (shape k).outs ≡ outs k
-outs_told (fused a b at) = both (λ m n. m + n - 1) _ _ _ _ (outs_told a) (outs_told b)
+outs_told (fused a b at) = ap₂ (λ m n. m + n - 1) (outs_told a) (outs_told b)
 outs_told kernel = refl
 
 -- the number of tables that the code counts
 pub tabs_told : (k : Kern) → (shape k).tables ≡ tabs k
-tabs_told (fused a b at) = both (λ m n. m + n) _ _ _ _ (tabs_told a) (tabs_told b)
+tabs_told (fused a b at) = ap₂ (λ m n. m + n) (tabs_told a) (tabs_told b)
 tabs_told kernel = refl
 
 kept_same : (zs : List ℤ) → kept_told zs ≡ kept_vars zs
@@ -28,7 +26,7 @@ kept_same (z ∷ zs) = refl
 pub privates_told : (k : Kern) → (shape k).privates ≡ privates k
 privates_told (code k) = kept_same k.starts
 privates_told (packed k) = privates_told k
-privates_told (fused a b at) = both (λ m n. m + n) _ _ _ _ (privates_told a) (privates_told b)
+privates_told (fused a b at) = ap₂ (λ m n. m + n) (privates_told a) (privates_told b)
 privates_told kernel = refl
 
 -- what is counted is the number of private variables

@@ -1,9 +1,10 @@
 -- Firings of products: a change comes to a port, and the changes of the pairs that pass are given.
-use Rattle.std.proofs.Common.{◌≡◌, ℕ, zero, suc, ℤ, ◌+◌, ◌≤◌, true, ◌&&◌, List, [], ◌∷◌, ◌++◌, length, refl, sym, ap, ◌∙◌, subst, arith}
+use Rattle.std.proofs.Common.{◌≡◌, ℕ, zero, suc, ℤ, ◌+◌, ◌≤◌, true, ◌&&◌, List, [], ◌∷◌, ◌++◌, length, refl, sym, ap, ◌∙◌, subst}
 use Rattle.std.specs.Prelude.{All, nat_le}
 use Rattle.std.proofs.lemmas.Bool.{and_parts}
 use Rattle.std.proofs.lemmas.List.{append-nil, map-append}
 use Rattle.std.proofs.lemmas.List.Elements.{All-head, All-tail, All-cons, All-nil, All-append}
+use Rattle.river_base.proofs.Tests.{le_by}
 use Rattle.river_base.specs.declared.item.Batch.{Batch}
 use Rattle.river_base.specs.declared.item.Change.{Change}
 use Rattle.river_base.specs.declared.item.Flat as flat
@@ -57,9 +58,6 @@ cross_first_after reads = record {
   left = refl;
   right = refl;
 }
-
-le_by : (a b : ℕ) → nat_le a b ≡ true → a ≤ b
-le_by a b h = grind (arith, h)
 
 -- both sides together have at most 16 columns
 pub few_both : (a b : ℕ) → (is_width a && (is_width b && is_width (a + b))) ≡ true → a + b ≤ 16

@@ -4,6 +4,9 @@ use Rattle.std.specs.Prelude.{All, slice_get}
 use Rattle.std.proofs.lemmas.Bool.{cases_eq}
 use Rattle.std.proofs.lemmas.List.{length-replicate, length-map}
 use Rattle.std.proofs.lemmas.List.Elements.{All-cons, All-nil}
+use Rattle.std.proofs.lemmas.Option.{same_Some}
+use Rattle.kern_changes.proofs.OwedLaws.{nothing_owed}
+use Rattle.river_base.proofs.Lists.{alone_same}
 use Rattle.river_base.specs.declared.item.Batch.{Batch}
 use Rattle.river_base.specs.declared.item.Change.{Change}
 use Rattle.river_base.specs.declared.item.Flat.TheVariants.{Batch as Batched, Change as Changed}
@@ -18,7 +21,7 @@ use Rattle.river_base.specs.Held.{held, content_from, HaveWidth, IsHeld, IsPlain
 use Rattle.river_base.specs.Number.{count_of}
 use Rattle.river_base.specs.Places.{each_grew, only, none}
 use Rattle.river_base.proofs.HeldLemmas.{held-nil, held-relation, held-plain, content-append}
-use Rattle.river_base.proofs.PlaceLemmas.{each_grew_cong, only_same, only_other}
+use Rattle.river_base.proofs.PlaceLemmas.{each_grew_cong, only_same, only_other, if_eq, if_ne}
 use Rattle.kern_rows.specs.Dealing.{Dealt, dealt_start}
 use Rattle.kern_rows.specs.Needs.{HaveShares}
 use Rattle.kern_rows.specs.Turns.{IsTurn, shares, next_port, next_had}
@@ -32,7 +35,6 @@ use Rattle.brooklet_model.specs.Firings.{Kept, Fired, Turn, gives}
 use Rattle.brooklet_model.specs.Fire.{fire, deal_one, first_kept}
 use Rattle.brooklet_model.specs.Typed.{widths_in, IsWide}
 use Rattle.brooklet_model.specs.Words.{Word, at_port}
-use Rattle.brooklet_model.proofs.Lists.{if_eq, if_ne}
 use Rattle.brooklet_model.proofs.Ports.{shaped}
 use Rattle.brooklet_model.proofs.Shapes.{next_turn, first_turn}
 use Rattle.brooklet_step.specs.declared.emit.Emit.{Emit}
@@ -44,7 +46,7 @@ use Rattle.brooklet_step.specs.Took.{Took, HasLists}
 use Rattle.brooklet_step.specs.Given.{held_by, held_at, IsHeldBy, IsHeldOf, columns_by, ran_from, FitState, FitTurn, DealStands, StandsAfter, TookHeld, Does, FiresAt, CanTake}
 use Rattle.brooklet_step.proofs.GivenFires.{ArePlain}
 use Rattle.brooklet_step.proofs.GivenLemmas.{at-plain, at_next, ran_more, not_both}
-use Rattle.brooklet_step.proofs.OnePort.{relation_holds, change_held, relation_typed, same_item, same_state, same_columns, came_content}
+use Rattle.brooklet_step.proofs.OnePort.{relation_holds, change_held, relation_typed, came_content}
 use Rattle.brooklet_step.proofs.RowFires.{got_many}
 
 -- a queue of no relation may hold no change
@@ -86,20 +88,20 @@ fit_dealt ws reads s old e h = subst (λ (u : State). FitTurn (shares ws) reads 
 dealt_turn : (ws : List ℤ) (reads : List QueueType) (old : Dealt) → FitTurn (shares ws) reads (state.Deal old ∷ [])
     → IsTurn (shares ws) old.turn.port old.turn.had
 dealt_turn ws reads old f =
-    subst (λ (d : Dealt). IsTurn (shares ws) d.turn.port d.turn.had) (sym (same_dealt old f.now (same_state (state.Deal old) (state.Deal f.now) f.code))) f.turn
+    subst (λ (d : Dealt). IsTurn (shares ws) d.turn.port d.turn.had) (sym (same_dealt old f.now (alone_same (state.Deal old) (state.Deal f.now) f.code))) f.turn
 
 dealt_lists : (ws : List ℤ) (reads : List QueueType) (old : Dealt) → FitTurn (shares ws) reads (state.Deal old ∷ []) → length old.owed ≡ length (shares ws)
 dealt_lists ws reads old f =
-    subst (λ (d : Dealt). length d.owed ≡ length (shares ws)) (sym (same_dealt old f.now (same_state (state.Deal old) (state.Deal f.now) f.code))) f.lists
+    subst (λ (d : Dealt). length d.owed ≡ length (shares ws)) (sym (same_dealt old f.now (alone_same (state.Deal old) (state.Deal f.now) f.code))) f.lists
 
 dealt_few : (ws : List ℤ) (reads : List QueueType) (old : Dealt) → FitTurn (shares ws) reads (state.Deal old ∷ []) → OweLittle old.owed
 dealt_few ws reads old f =
-    subst (λ (d : Dealt). OweLittle d.owed) (sym (same_dealt old f.now (same_state (state.Deal old) (state.Deal f.now) f.code))) f.few
+    subst (λ (d : Dealt). OweLittle d.owed) (sym (same_dealt old f.now (alone_same (state.Deal old) (state.Deal f.now) f.code))) f.few
 
 dealt_wide : (ws : List ℤ) (reads : List QueueType) (old : Dealt) → FitTurn (shares ws) reads (state.Deal old ∷ []) → (n : ℕ)
     → columns_by (slice_get reads 0) ≡ Some n → AreDebtsOf n old.owed
 dealt_wide ws reads old f n e =
-    subst (λ (d : Dealt). AreDebtsOf n d.owed) (sym (same_dealt old f.now (same_state (state.Deal old) (state.Deal f.now) f.code))) (f.wide n e)
+    subst (λ (d : Dealt). AreDebtsOf n d.owed) (sym (same_dealt old f.now (alone_same (state.Deal old) (state.Deal f.now) f.code))) (f.wide n e)
 
 -- what a splitter needs: its weights, its turn, and a place for what each list owes
 pub deal_needs : (ws : List ℤ) (i : item.Item) (s : State) (old : Dealt) (out : Emit) → s ≡ state.Deal old → CanTake (deal ws) 0 i (s ∷ []) out
@@ -132,7 +134,7 @@ module _ (ws : List ℤ) (i g : item.Item) (s s' : State) (old new : Dealt) (out
   -- the state of the definition before the firing, and what it gives
   module _ (reads : List QueueType) (start : List Kept) (w : Word) (sa : DealStands ws reads start (s ∷ []) w) where
     same : old ≡ sa.stands.now
-    same = same_dealt old sa.stands.now (sym es ∙ same_state s (state.Deal sa.stands.now) sa.stands.code)
+    same = same_dealt old sa.stands.now (sym es ∙ alone_same s (state.Deal sa.stands.now) sa.stands.code)
 
     states_are : (ran_from (deal ws) start w).states ≡ Turn place old.turn.had ∷ []
     states_are = sa.stands.defined ∙ ap (λ (d : Dealt). Turn d.turn.port d.turn.had ∷ []) (sym same)
@@ -178,7 +180,7 @@ module _ (ws : List ℤ) (i g : item.Item) (s s' : State) (old new : Dealt) (out
       record {
         gives = record {
           given = λ start w x is_start tw tx sa h.
-              let e : x ≡ i = same_item x i (sym (held-plain T (at_port 0 w) (x ∷ []) p) ∙ h) in
+              let e : x ≡ i = alone_same x i (sym (held-plain T (at_port 0 w) (x ∷ []) p) ∙ h) in
               let before = ran_from (deal ws) start w in
               let r = fire (deal ws) 0 x before.states in
               let is : g ∷ [] ≡ x ∷ [] = ap (λ (y : item.Item). y ∷ []) (one.0 ∙ sym e) in (
@@ -231,7 +233,7 @@ module _ (ws : List ℤ) (i g : item.Item) (s s' : State) (old new : Dealt) (out
               (subst (IsHeld T) (sym (gave like)) (change_held n d (record { normal = one.keeps.normal; wide = wide.0 })));
           wide = λ j. All-nil (IsWide (slice_get (widths_in vars) j));
           again = next_fits (T ∷ []) some f len (one.keeps.few (dealt_few ws (T ∷ []) old f))
-              (λ m e. subst (λ k. AreDebtsOf k new.owed) (same_columns n m e) wide.1);
+              (λ m e. subst (λ k. AreDebtsOf k new.owed) (same_Some n m e) wide.1);
         };
       }
     where
@@ -311,16 +313,11 @@ module _ (ws : List ℤ) (i g : item.Item) (s s' : State) (old new : Dealt) (out
 
 -- BEFORE THE FIRST FIRING
 
-start_debt : (n p : ℕ) → debt_at (owed_start n) p ≡ no_debt
-start_debt zero p = refl
-start_debt (suc n) zero = refl
-start_debt (suc n) (suc p) = start_debt n p
-
 -- rows of whatever width are those of nothing
 pub start_wide : (n m : ℕ) → AreDebtsOf n (owed_start m)
 start_wide n m = record {
-  plus = λ p lt. subst (λ (d : Debt). HaveWidth n d.plus) (sym (start_debt m p)) (All-nil (λ (row : List ℤ). length row ≡ n));
-  minus = λ p lt. subst (λ (d : Debt). HaveWidth n d.minus) (sym (start_debt m p)) (All-nil (λ (row : List ℤ). length row ≡ n));
+  plus = λ p lt. subst (λ (d : Debt). HaveWidth n d.plus) (sym (nothing_owed m p)) (All-nil (λ (row : List ℤ). length row ≡ n));
+  minus = λ p lt. subst (λ (d : Debt). HaveWidth n d.minus) (sym (nothing_owed m p)) (All-nil (λ (row : List ℤ). length row ≡ n));
 }
 
 -- the first state stands for the definition's

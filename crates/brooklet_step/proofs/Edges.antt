@@ -2,6 +2,7 @@
 use Rattle.std.proofs.Common.{◌≡◌, ◌<◌, List, [], ◌∷◌, ◌++◌, sym, ap, ◌∙◌, subst, arith, ⊎_elim}
 use Rattle.std.specs.Prelude.{All, Some, unwrap_or}
 use Rattle.std.proofs.lemmas.List.Elements.{All-head, All-tail, All-nil, All-cons}
+use Rattle.river_base.proofs.PlaceLemmas.{if_true, if_false}
 use Rattle.river_base.specs.declared.item.Item as item
 use Rattle.river_base.specs.declared.kind.FlatType.TheVariants.{Rows, Stream, Relation}
 use Rattle.river_base.specs.declared.kind.QueueType.{QueueType}
@@ -20,7 +21,6 @@ use Rattle.river_plan.specs.Valid.{IsPlan}
 use Rattle.river_plan.proofs.NameLemmas.{cases_name, count-append, more_or_zero}
 use Rattle.brooklet_model.specs.Histories.{inputs_of}
 use Rattle.brooklet_model.specs.Typed.{AreInputs}
-use Rattle.brooklet_model.proofs.Lists.{if_true, if_false}
 use Rattle.brooklet_model.proofs.Solutions.{written_out}
 use Rattle.brooklet_model.proofs.TypedPlan.{kind_front, kind_back, inputs_typed}
 use Rattle.brooklet_step.proofs.HeldLaws.{plain_law}

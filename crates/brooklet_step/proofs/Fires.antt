@@ -1,6 +1,5 @@
 -- What firings give, and the plain forms of kernels.
 use Rattle.std.proofs.Common.{◌≡◌, ℕ, zero, suc, ◌<◌, ◌≤◌, Ok, Err, List, [], ◌∷◌, ◌++◌, length, replicate, refl, sym, ap, ◌∙◌, subst, arith, get_or, nat_lt, append_assoc}
-use Rattle.std.proofs.Common.{Global, Box}
 use Rattle.std.specs.Prelude.{if◌then◌else◌}
 use Rattle.std.specs.Result.{OnOk}
 use Rattle.std.specs.declared.result.Result.{Result}
@@ -13,12 +12,11 @@ use Rattle.river_base.specs.declared.item.Item.TheVariants.{Flat, Pack}
 use Rattle.river_base.specs.Held.{flats}
 use Rattle.river_base.specs.Places.{append_at, each_grew, list_at}
 use Rattle.river_base.proofs.PlaceLemmas.{if_lt, each_grew_cong, each_grew-none, each_grew-blanks}
-use Rattle.river_kernels.specs.declared.kernel.Kernel.{Kernel, fold-roll-Kernel}
 use Rattle.river_kernels.specs.declared.kernel.Kernel.TheVariants as kernel
 use Rattle.river_kernels.specs.declared.kernel.Kernel.TheOpen as layer
-use Rattle.river_kernels.specs.Kern.{Kern, kern_of, kern_at, filter, duplicate, packed}
+use Rattle.river_kernels.specs.Kern.{Kern, filter, duplicate}
 use Rattle.kern_rows.specs.declared.kernel.Filter.{Filter}
-use Rattle.kern_rows.specs.Forms.{FilterForm, filter_form}
+use Rattle.kern_rows.specs.Forms.{FilterForm}
 use Rattle.brooklet_model.specs.Fire.{fire, outs, tabs}
 use Rattle.brooklet_step.specs.declared.emit.Emit.{Emit}
 use Rattle.brooklet_step.specs.declared.state.State.{State}
@@ -40,18 +38,6 @@ pub flats_next : (all all' : List flat.Flat) (whole items rest : List item.Item)
 flats_next all all' whole items rest x h e n =
     ap (λ l. l ++ flats rest) n ∙ append_assoc all (flats (x ∷ [])) (flats rest) ∙ ap (λ l. all ++ l) (sym (flats-append (x ∷ []) rest))
     ∙ ap (λ l. all ++ flats l) (sym e) ∙ h
-
--- a packed kernel as plain data
-pub kern_of-packed : (a : Box Kernel Global) → kern_of (kernel.Packed a) ≡ packed (kern_of a.value)
-kern_of-packed a = ap kern_of (sym (kernel.rolls-Packed a)) ∙ fold-roll-Kernel Kern kern_at (layer.Packed a)
-
--- a filter as plain data
-pub kern_of-filter : (f : Filter) → kern_of (kernel.Filter f) ≡ filter (filter_form f)
-kern_of-filter f = ap kern_of (sym (kernel.rolls-Filter f)) ∙ fold-roll-Kernel Kern kern_at (layer.Filter f)
-
--- a kernel that copies, as plain data
-pub kern_of-duplicate : (n : ℕ) → kern_of (kernel.Duplicate n) ≡ duplicate n
-kern_of-duplicate n = ap kern_of (sym (kernel.rolls-Duplicate n)) ∙ fold-roll-Kernel Kern kern_at (layer.Duplicate n)
 
 -- ROOM
 

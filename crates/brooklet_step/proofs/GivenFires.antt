@@ -3,6 +3,7 @@ use Rattle.std.proofs.Common.{◌≡◌, ℕ, zero, suc, ◌+◌, ◌-◌, List,
 use Rattle.std.specs.Prelude.{All, slice_get}
 use Rattle.std.proofs.lemmas.List.{append-nil}
 use Rattle.std.proofs.lemmas.List.Elements.{All-head, All-tail, All-cons, All-nil, All-append}
+use Rattle.river_base.proofs.Lists.{alone_same}
 use Rattle.river_base.specs.declared.item.Item as item
 use Rattle.river_base.specs.declared.kind.QueueType.{QueueType}
 use Rattle.river_base.specs.Held.{IsPlain}
@@ -17,7 +18,7 @@ use Rattle.brooklet_model.specs.Typed.{IsOf, IsWordOf, IsStart, widths_in, IsWid
 use Rattle.brooklet_model.specs.Words.{Word, run, at_port, word_of}
 use Rattle.brooklet_model.proofs.Lists.{feed-append, feed_one}
 use Rattle.brooklet_model.proofs.Feeds.{feed_word}
-use Rattle.brooklet_model.proofs.Free.{at_port-append}
+use Rattle.brooklet_model.proofs.Free.{at_port-append, at_port-word_same}
 use Rattle.brooklet_model.proofs.TypedPlan.{at_append, at_word as word_typed}
 use Rattle.brooklet_model.proofs.Typing.{fire_typed}
 use Rattle.brooklet_model.proofs.WideAdds.{fire_wide}
@@ -27,13 +28,10 @@ use Rattle.brooklet_step.specs.Stands.{StandsForKept, Fires, Applies}
 use Rattle.brooklet_step.specs.Took.{Took}
 use Rattle.brooklet_step.specs.Given.{held_at, IsHeldOf, IsPlainBy, FitState, ran_from, StandsAfter, TookHeld, GivesAsDefined, Does, FiresAt, GivesAll, FiresEach, CanTake}
 use Rattle.brooklet_step.proofs.Standing.{stands_shape}
-use Rattle.brooklet_step.proofs.GivenLemmas.{at-nil, at-append, at-length, at-plain, of_plain, all_plain, at_word, word_append, ran_more}
+use Rattle.brooklet_step.proofs.GivenLemmas.{at-nil, at-append, at-length, at-plain, of_plain, all_plain, word_append, ran_more}
 use Rattle.brooklet_step.proofs.GivenLemmas.{IsSimple, fit_of, simple_kept, simple_to, simple_from}
 
 -- KERNELS THAT KEEP NO ITEMS, ON QUEUES OF NO RELATION
-
-head_item : (x i : item.Item) → x ∷ [] ≡ i ∷ [] → x ≡ i
-head_item x i e = cc
 
 -- no queue of these types holds changes
 abbrev pub ArePlain : List QueueType → Type 0
@@ -71,7 +69,7 @@ plain_does k port i out out' st st' l f reads writes vars fits fs hi pr pw =
     record {
       gives = record {
         given = λ start w x is_start tw tx sa h.
-            let e : x ≡ i = head_item x i (sym (at-plain reads port (at_port port w) (x ∷ []) (pr port)) ∙ h) in
+            let e : x ≡ i = alone_same x i (sym (at-plain reads port (at_port port w) (x ∷ []) (pr port)) ∙ h) in
             let before = ran_from k start w in
             let ss = before.states in
             let one : Took out out' (fire k port x ss) × StandsForKept k st' (fire k port x ss).states =
@@ -222,7 +220,7 @@ each_step k is i st st1 st2 e e' e'' f u = record {
         (sym (at-append reads 0 past ys (y ∷ [])) ∙ h) in
         let one = ga.given start w ys is_start tw (all_left (IsOf reads 0) ys (y ∷ []) txs) sa parts.0 in
         let w1 = w ++ word_of 0 ys in
-        let port_is : at_port 0 w1 ≡ past ++ ys = at_port-append 0 w (word_of 0 ys) ∙ ap (λ m. past ++ m) (at_word 0 ys) in
+        let port_is : at_port 0 w1 ≡ past ++ ys = at_port-append 0 w (word_of 0 ys) ∙ ap (λ m. past ++ m) (at_port-word_same 0 ys) in
         let two = gb.given start w1 y is_start (at_append reads w (word_of 0 ys) tw (word_typed reads 0 ys (all_left (IsOf reads 0) ys (y ∷ []) txs)))
         (all_last (IsOf reads 0) ys y txs) one.1 (ap (λ m. held_at reads 0 m (y ∷ [])) port_is ∙ parts.1) in
         let r = feed (fire k 0) ys before.states in

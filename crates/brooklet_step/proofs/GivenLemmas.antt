@@ -2,7 +2,7 @@
 use Rattle.std.proofs.Common.{◌≡◌, ℕ, ℤ, pos, Bool, true, false, replicate, Option, Some, None, List, []}
 use Rattle.std.proofs.Common.{◌∷◌, ◌++◌, length, take, drop, refl, sym, ap, ◌∙◌, subst, arith, length-drop, length-append}
 use Rattle.std.specs.Prelude.{All, slice_get}
-use Rattle.std.proofs.lemmas.List.{length-take, length-replicate}
+use Rattle.std.proofs.lemmas.List.{length-take, length-replicate, take_at, drop_at}
 use Rattle.std.proofs.Math.Seq.{drop-append_seam}
 use Rattle.std.proofs.lemmas.List.Elements.{All-head, All-tail, All-cons, All-nil}
 use Rattle.river_base.specs.declared.item.Item as item
@@ -22,10 +22,8 @@ use Rattle.brooklet_model.specs.Fire.{fire, first_kept, privates, kept_vars}
 use Rattle.brooklet_model.specs.Shapes.{IsShaped, HasShape}
 use Rattle.brooklet_model.specs.Typed.{IsTyped, IsOf, AreOf, Holds, IsWordOf, IsStart, between}
 use Rattle.brooklet_model.specs.Words.{Word, run, at_port, word_of}
-use Rattle.brooklet_model.proofs.Lists.{take_front, drop_front}
 use Rattle.brooklet_model.proofs.Shapes.{first_shape, fire_shape, shape_length}
-use Rattle.brooklet_model.proofs.Swaps.{at_port_here}
-use Rattle.brooklet_model.proofs.Free.{at_port-append}
+use Rattle.brooklet_model.proofs.Free.{at_port-append, at_port-word_same}
 use Rattle.brooklet_model.proofs.Traces.{run_more}
 use Rattle.brooklet_model.proofs.Typing.{first_holds}
 use Rattle.brooklet_model.proofs.TypedPlan.{at_append, run_typed}
@@ -109,11 +107,6 @@ all_of ts p (x ∷ xs) a h =
 
 -- WORDS
 
--- the items of a word of one port
-pub at_word : (p : ℕ) (xs : List item.Item) → at_port p (word_of p xs) ≡ xs
-at_word p [] = refl
-at_word p (x ∷ xs) = at_port_here p (p, x) (word_of p xs) refl ∙ ap (λ l. x ∷ l) (at_word p xs)
-
 -- a word of one port, of two lists
 pub word_append : (p : ℕ) (xs ys : List item.Item) → word_of p (xs ++ ys) ≡ word_of p xs ++ word_of p ys
 word_append p [] ys = refl
@@ -121,7 +114,7 @@ word_append p (x ∷ xs) ys = ap (λ l. (p, x) ∷ l) (word_append p xs ys)
 
 -- the items at the port, with one more there
 pub at_next : (p : ℕ) (w : Word) (x : item.Item) → at_port p (w ++ (p, x) ∷ []) ≡ at_port p w ++ x ∷ []
-at_next p w x = at_port-append p w ((p, x) ∷ []) ∙ ap (λ l. at_port p w ++ l) (at_word p (x ∷ []))
+at_next p w x = at_port-append p w ((p, x) ∷ []) ∙ ap (λ l. at_port p w ++ l) (at_port-word_same p (x ∷ []))
 
 -- one more firing
 pub ran_more : (k : Kern) (ss : List Kept) (w : Word) (p : ℕ) (x : item.Item)
@@ -266,8 +259,8 @@ pub parts_fit : (a b : Kern) (at : ℕ) (is : List QueueType) (st st' : List Sta
     → FitState (fused a b at) is (st ++ st')
 parts_fit a b at is st st' h h' =
     let l = fit_length a is st h in (
-      subst (FitState a is) (sym (take_front st st' (privates a) l)) h,
-      subst (FitState b (between at (types_of a is))) (sym (drop_front st st' (privates a) l)) h',
+      subst (FitState a is) (sym (take_at st st' (privates a) l)) h,
+      subst (FitState b (between at (types_of a is))) (sym (drop_at st st' (privates a) l)) h',
     )
 
 -- states of two parts stand after a word, where each part's do
@@ -277,9 +270,9 @@ pub parts_after : (a b : Kern) (at : ℕ) (is : List QueueType) (ss : List Kept)
     → StandsAfter (fused a b at) is ss (st ++ st') w
 parts_after a b at is ss st st' w l h h' =
     let n = privates a in (
-      subst (λ (u : List State). StandsAfter a is (take n ss) u w) (sym (take_front st st' n l)) h,
+      subst (λ (u : List State). StandsAfter a is (take n ss) u w) (sym (take_at st st' n l)) h,
       subst (λ (u : List State). StandsAfter b (between at (types_of a is)) (drop n ss) u (word_of 0 ((ran_from a (take n ss) w).outs at)))
-          (sym (drop_front st st' n l)) h',
+          (sym (drop_at st st' n l)) h',
     )
 
 -- KERNELS THAT KEEP NO ITEMS

@@ -3,6 +3,8 @@ use Rattle.std.proofs.Common.{◌≡◌, ℕ, zero, suc, ◌+◌, ◌-◌, ◌<�
 use Rattle.std.specs.Prelude.{All, slice_get, Some}
 use Rattle.std.proofs.lemmas.Bool.{cases_lt}
 use Rattle.std.proofs.lemmas.List.Elements.{All-head, All-tail, All-cons, All-nil}
+use Rattle.std.proofs.lemmas.List.{take_at, drop_at}
+use Rattle.brooklet_model.proofs.Free.{at_port-word_same}
 use Rattle.river_base.specs.declared.item.Item as item
 use Rattle.river_base.specs.declared.item.Item.TheVariants.{Flat, Pack}
 use Rattle.river_base.specs.declared.item.Flat as flat
@@ -22,7 +24,6 @@ use Rattle.brooklet_model.specs.Fire.{fire, outs, tabs, privates}
 use Rattle.brooklet_model.specs.Shapes.{IsShaped, HasShape}
 use Rattle.brooklet_model.specs.Typed.{IsTyped, IsStart, Holds, between, widths_in, IsWide}
 use Rattle.brooklet_model.specs.Words.{Word, run, word_of}
-use Rattle.brooklet_model.proofs.Lists.{take_front, drop_front}
 use Rattle.brooklet_model.proofs.Feeds.{feed_word}
 use Rattle.brooklet_model.proofs.FusedRun.{fused_runs}
 use Rattle.brooklet_model.proofs.Ports.{shaped, counts}
@@ -36,7 +37,7 @@ use Rattle.brooklet_step.specs.Took.{Took, HasLists, IsBlank}
 use Rattle.brooklet_step.specs.Given.{held_by, held_at, IsHeldBy, IsHeldOf, FitState, ran_from, StandsAfter, TookHeld, CameAsHeld, Does, FiresAt, FiresEach}
 use Rattle.brooklet_step.proofs.Fires.{grown_list, flats-append, blank_room}
 use Rattle.brooklet_step.proofs.Fused.{splice_cong, beside_cong}
-use Rattle.brooklet_step.proofs.GivenLemmas.{at_word, word_append, ran_more, ran_length, ran_typed, fired_typed, fit_length, parts_fit, parts_after}
+use Rattle.brooklet_step.proofs.GivenLemmas.{word_append, ran_more, ran_length, ran_typed, fired_typed, fit_length, parts_fit, parts_after}
 
 -- ROOM
 
@@ -255,15 +256,15 @@ fused_does a b at port i st mine' rest' out new mid0 mid last0 last items room b
                 let stands_b : StandsAfter b (m ∷ []) start_b (drop (privates a) st) wb =
                 subst (λ (l : List QueueType). StandsAfter b l start_b (drop (privates a) st) wb) mid_is sa.1 in
                 let two = db.gives.given start_b wb xs is_b (word_typed (m ∷ []) 0 past typed_past) typed_xs stands_b
-                (ap (λ l. held m l xs) (at_word 0 past) ∙ sym came) in
+                (ap (λ l. held m l xs) (at_port-word_same 0 past) ∙ sym came) in
                 let rb = feed (fire b 0) xs before_b.states in
                 let whole = ran_from k start w in
                 let parts = fused_ran a b at start w s is_start.shape in
                 let la : length wa.states ≡ privates a = ran_length a start_a w s.0 is_start.shape.0 in
                 let ta : take (privates a) whole.states ≡ wa.states = ap (take (privates a)) parts.states
-                ∙ take_front wa.states before_b.states (privates a) la in
+                ∙ take_at wa.states before_b.states (privates a) la in
                 let tb : drop (privates a) whole.states ≡ before_b.states = ap (drop (privates a)) parts.states
-                ∙ drop_front wa.states before_b.states (privates a) la in
+                ∙ drop_at wa.states before_b.states (privates a) la in
                 let r_is : fused_of at (outs b) (tabs a) ra (λ l. feed (fire b 0) l before_b.states) ≡ fire k port x whole.states =
                 ap (λ us. fused_of at (outs b) (tabs a) (fire a port x us) (λ l. feed (fire b 0) l before_b.states)) (sym ta)
                 ∙ ap (λ us. fused_of at (outs b) (tabs a) (fire a port x (take (privates a) whole.states)) (λ l. feed (fire b 0) l us)) (sym tb) in

@@ -5,6 +5,8 @@ use Rattle.std.specs.Prelude.{All, slice_get, ◌⊎◌}
 use Rattle.std.proofs.lemmas.Bool.{cases_eq, cases_lt}
 use Rattle.std.proofs.lemmas.List.{append-nil, length-replicate, length-map}
 use Rattle.std.proofs.lemmas.List.Elements.{All-cons, All-nil, All-append, All-weaker}
+use Rattle.std.proofs.lemmas.Option.{same_Some}
+use Rattle.river_base.proofs.Lists.{alone_same}
 use Rattle.river_base.specs.declared.item.Flat as flat
 use Rattle.river_base.specs.declared.item.Flat.TheVariants.{One, Batch as Batched, Change as Changed}
 use Rattle.river_base.specs.declared.item.Item as item
@@ -16,8 +18,8 @@ use Rattle.river_base.specs.declared.kind.QueueType.TheVariants.{Flat as FlatOf,
 use Rattle.river_base.specs.Held.{held, held_from, held_item, content_from, HasType, HasFlatType, IsHeld, IsPlain, IsRelation, items_of}
 use Rattle.river_base.specs.Number.{count_of}
 use Rattle.river_base.specs.Places.{each_grew, append_at, list_at, only, none}
-use Rattle.river_base.proofs.HeldLemmas.{held-relation, held-packs, content-append}
-use Rattle.river_base.proofs.PlaceLemmas.{each_grew_cong, length-append_at}
+use Rattle.river_base.proofs.HeldLemmas.{held-relation, held-packs, content-append, from-append}
+use Rattle.river_base.proofs.PlaceLemmas.{each_grew_cong, length-append_at, list_past, append_here, append_else, blank_at}
 use Rattle.kern_rows.specs.Joined as joined
 use Rattle.kern_rows.specs.Joined.{JoinKept, join_start, put_item, HasJoinShape, IsUnchanged, PassesOpened, AreOpened, StandsForJoining, JoinedItems, JoinsItems}
 use Rattle.kern_rows.specs.Joined.{JoinedPlainly, JoinsPlainly, flat_in, MayOwe, IsJoinOf, KeepsJoin}
@@ -25,7 +27,6 @@ use Rattle.kern_rows.specs.Needs.{HaveShares}
 use Rattle.kern_rows.specs.Turns.{Turns, shares, ones, put, settled, itself}
 use Rattle.kern_changes.specs.declared.owed.Debt.{Debt}
 use Rattle.kern_changes.specs.Owed.{OweLittle, AreDebtsOf, no_debt}
-use Rattle.kern_rows.proofs.JoinLaws.{held_from-append}
 use Rattle.kern_changes.proofs.LawProofs.{nothing_holds}
 use Rattle.river_kernels.specs.declared.types.VarKind.{VarKind}
 use Rattle.river_kernels.specs.Fits.{Fits}
@@ -49,7 +50,6 @@ use Rattle.brooklet_step.specs.Given.{held_by, held_at, IsHeldBy, IsHeldOf, AreH
 use Rattle.brooklet_step.specs.Given.{ContentsWait, JoinStands, StandsAfter, TookHeld, Does, FiresAt, CanTake}
 use Rattle.brooklet_step.proofs.DealFires.{start_wide}
 use Rattle.brooklet_step.proofs.GivenLemmas.{at-plain, at_next, ran_more, not_both}
-use Rattle.brooklet_step.proofs.OnePort.{same_item, same_state, same_columns}
 use Rattle.brooklet_step.proofs.RowFires.{got_many}
 
 -- PORTS OF ONE TYPE
@@ -111,10 +111,10 @@ no_columns n e = absurd (cc e)
 owe_columns : (t : QueueType) (s : List Debt) (n : ℕ) → columns_by (Some t) ≡ Some n → MayOwe (flat_in t) s → AreDebtsOf n s
 owe_columns (FlatOf (Rows m)) s n e o = no_columns n e
 owe_columns (FlatOf (Stream m)) s n e o = no_columns n e
-owe_columns (FlatOf (Relation m)) s n e o = subst (λ k. AreDebtsOf k s) (same_columns m n e) o
+owe_columns (FlatOf (Relation m)) s n e o = subst (λ k. AreDebtsOf k s) (same_Some m n e) o
 owe_columns (PackOf (Rows m)) s n e o = no_columns n e
 owe_columns (PackOf (Stream m)) s n e o = no_columns n e
-owe_columns (PackOf (Relation m)) s n e o = subst (λ k. AreDebtsOf k s) (same_columns m n e) o
+owe_columns (PackOf (Relation m)) s n e o = subst (λ k. AreDebtsOf k s) (same_Some m n e) o
 
 -- TYPED ITEMS
 
@@ -145,18 +145,6 @@ run_holds k is os vs (e ∷ es) ss f h t a =
 
 -- LISTS AT PLACES
 
-append_here : (ls : List (List item.Item)) (p : ℕ) (xs : List item.Item) → p < length ls → list_at (append_at ls p xs) p ≡ list_at ls p ++ xs
-append_here [] p xs lt = absurd (omega (arith, lt))
-append_here (l ∷ ls) zero xs lt = refl
-append_here (l ∷ ls) (suc p) xs lt = append_here ls p xs (omega (arith, lt))
-
-append_else : (ls : List (List item.Item)) (p q : ℕ) (xs : List item.Item) → p ≢ q → list_at (append_at ls p xs) q ≡ list_at ls q
-append_else [] p q xs ne = refl
-append_else (l ∷ ls) zero zero xs ne = absurd (ne refl)
-append_else (l ∷ ls) zero (suc q) xs ne = refl
-append_else (l ∷ ls) (suc p) zero xs ne = refl
-append_else (l ∷ ls) (suc p) (suc q) xs ne = append_else ls p q xs (λ e. ne (ap suc e))
-
 -- one more item is in a line
 all_put : (P : item.Item → Type 0) (ls : List (List item.Item)) (n : ℕ) (x : item.Item) → ((p : ℕ) → All P (list_at ls p)) → P x → (p : ℕ)
     → All P (list_at (append_at ls n (x ∷ [])) p)
@@ -165,11 +153,6 @@ all_put P (l ∷ ls) zero x h px zero = All-append P l (x ∷ []) (h 0) (All-con
 all_put P (l ∷ ls) zero x h px (suc p) = h (suc p)
 all_put P (l ∷ ls) (suc n) x h px zero = h 0
 all_put P (l ∷ ls) (suc n) x h px (suc p) = all_put P ls n x (λ q. h (suc q)) px p
-
-list_past : (ls : List (List item.Item)) (p : ℕ) → length ls ≤ p → list_at ls p ≡ []
-list_past [] p le = refl
-list_past (l ∷ ls) zero le = absurd (omega (arith, le))
-list_past (l ∷ ls) (suc p) le = list_past ls p (omega (arith, le))
 
 -- the items at another port than that of the last firing
 at_other : (p q : ℕ) (w : Word) (x : item.Item) → p ≢ q → at_port q (w ++ (p, x) ∷ []) ≡ at_port q w
@@ -230,7 +213,7 @@ module _ (k : Kern) (wl : List ℕ) (give : item.Item → List item.Item) (m : �
     before = ran_from k start w
 
     same : old ≡ sa.now
-    same = same_join old sa.now (sym es ∙ same_state s (state.Join sa.now) sa.code)
+    same = same_join old sa.now (sym es ∙ alone_same s (state.Join sa.now) sa.code)
 
     shape_is : HasJoinShape wl old
     shape_is = subst (HasJoinShape wl) (sym same) sa.shape
@@ -251,7 +234,7 @@ module _ (k : Kern) (wl : List ℕ) (give : item.Item → List item.Item) (m : �
     plain_given p =
         let pr : IsPlainBy (slice_get types 0) = plain_alike t m 0 p in
         let states_are : before.states ≡ Joining old.turns ∷ [] = sa.plain pr ∙ ap (λ (n : JoinKept). Joining n.turns ∷ []) (sym same) in
-        let e : x ≡ i = same_item x i (sym (at-plain types port (at_port port w) (x ∷ []) (plain_alike t m port p)) ∙ h) in
+        let e : x ≡ i = alone_same x i (sym (at-plain types port (at_port port w) (x ∷ []) (plain_alike t m port p)) ∙ h) in
         let fired : fire k port x before.states ≡ gives 0 (settled give wl (put port i old.turns)).0 (Joining (settled give wl (put port i old.turns)).1 ∷ []) =
         fired_is old.turns states_are
         ∙ ap (λ (y : item.Item). gives 0 (settled give wl (put port y old.turns)).0 (Joining (settled give wl (put port y old.turns)).1 ∷ [])) e in
@@ -286,7 +269,7 @@ module _ (k : Kern) (wl : List ℕ) (give : item.Item → List item.Item) (m : �
       line = list_at c.turns.lists port
 
       item_is : i ≡ held_item (content_from [] (at_port port w)) x
-      item_is = sym (same_item (held_item (content_from [] (at_port port w)) x) i (sym (held_changes t (at_port port w) (x ∷ []) rel)
+      item_is = sym (alone_same (held_item (content_from [] (at_port port w)) x) i (sym (held_changes t (at_port port w) (x ∷ []) rel)
           ∙ ap (λ o. held_by o (at_port port w) (x ∷ [])) (sym (got_many t m port port_below)) ∙ h))
 
       content_is : content_from (c.now port) line ≡ content_from [] (at_port port w)
@@ -300,7 +283,7 @@ module _ (k : Kern) (wl : List ℕ) (give : item.Item → List item.Item) (m : �
           append_here old.turns.lists port (i ∷ []) (subst (λ n. port < n) (many ∙ sym shape_is.joined.lists) port_below)
           ∙ ap (λ l. l ++ i ∷ []) (ja.stands.lines port here)
           ∙ ap (λ (y : item.Item). held_from (c.now port) line ++ y ∷ []) (item_is ∙ ap (λ b. held_item b x) (sym content_is))
-          ∙ sym (held_from-append (c.now port) line (x ∷ []))
+          ∙ sym (from-append (c.now port) line (x ∷ []))
           ∙ ap (held_from (c.now port)) (sym (append_here c.turns.lists port (x ∷ []) here))
 
       stands_now : StandsForJoining (put_item port i old) waiting_now
@@ -389,7 +372,7 @@ module _ (k : Kern) (wl : List ℕ) (give : item.Item → List item.Item) (m : �
   -- whatever was received: what came may be held, and the state fits again
   module _ (f : FitJoiner wl types (s ∷ [])) (hi : IsHeldOf types port i) where
     fit_same : f.now ≡ old
-    fit_same = sym (same_join old f.now (sym es ∙ same_state s (state.Join f.now) f.code))
+    fit_same = sym (same_join old f.now (sym es ∙ alone_same s (state.Join f.now) f.code))
 
     fit_items : AreHeldOf types (list_at old.turns.lists)
     fit_items = subst (λ (n : JoinKept). AreHeldOf types (list_at n.turns.lists)) fit_same f.items
@@ -525,7 +508,7 @@ collect_needs ws i port s old out e t =
     let room = t.room.outs in
     let held : IsHeldOf (replicate (length ws) (FlatOf f.0)) port i = subst (λ (l : List QueueType). IsHeldOf l port i) f.1 t.item in (
       shaped (collect ws) t.reads t.fitting.writes t.fitting.vars f,
-      subst (HasJoinShape (shares ws)) (sym (same_join old j.now (sym e ∙ same_state s (state.Join j.now) j.code))) j.joined,
+      subst (HasJoinShape (shares ws)) (sym (same_join old j.now (sym e ∙ alone_same s (state.Join j.now) j.code))) j.joined,
       (at_alike (FlatOf f.0) (λ o. IsHeldBy o i) (length ws) port (λ z. z) held).0,
       omega (arith, room),
     )
@@ -551,17 +534,12 @@ unpack_needs n i port s old out e t =
     let room = t.room.outs in
     let held : IsHeldOf (replicate n (PackOf f.0)) port i = subst (λ (l : List QueueType). IsHeldOf l port i) f.1 t.item in (
       shaped (unpack n) t.reads t.fitting.writes t.fitting.vars f,
-      subst (HasJoinShape (ones n)) (sym (same_join old j.now (sym e ∙ same_state s (state.Join j.now) j.code))) j.joined,
+      subst (HasJoinShape (ones n)) (sym (same_join old j.now (sym e ∙ alone_same s (state.Join j.now) j.code))) j.joined,
       (at_alike (PackOf f.0) (λ o. IsHeldBy o i) n port (λ z. z) held).0,
       omega (arith, room),
     )
 
 -- BEFORE THE FIRST FIRING
-
-nothing_waits : {A : Type 0} (n p : ℕ) → list_at {A = A} (replicate n []) p ≡ []
-nothing_waits zero p = refl
-nothing_waits (suc n) zero = refl
-nothing_waits (suc n) (suc p) = nothing_waits n p
 
 -- what is kept before the first item stands for empty contents, of which none waits
 start_empty : (n : ℕ) → StandsForJoining (join_start n) (record { turns = (join_start n).turns; last = []; now = λ p. [] })
@@ -569,7 +547,7 @@ start_empty n = record {
   port = refl;
   had = refl;
   lists = refl;
-  lines = λ p lt. nothing_waits n p ∙ ap (held_from []) (sym (nothing_waits n p));
+  lines = λ p lt. blank_at n p ∙ ap (held_from []) (sym (blank_at n p));
   owed = nothing_holds.owed n;
 }
 
@@ -585,7 +563,7 @@ start_stands k n e = record {
   defined = e;
   stands = start_empty n;
   given = refl;
-  received = λ p lt. ap (content_from []) (nothing_waits n p);
+  received = λ p lt. ap (content_from []) (blank_at n p);
 }
 
 start_fits : (wl : List ℕ) (n : ℕ) (reads : List QueueType) → n ≡ length wl → HaveShares wl → FitJoiner wl reads (state.Join (join_start n) ∷ [])
@@ -593,7 +571,7 @@ start_fits wl n reads e some = record {
   now = join_start n;
   code = refl;
   joined = subst (λ (l : ℕ). HasJoinShape wl (join_start l)) (sym e) (start_shape wl some);
-  items = λ p. subst (All (IsHeldOf reads p)) (sym (nothing_waits n p)) (All-nil (IsHeldOf reads p));
+  items = λ p. subst (All (IsHeldOf reads p)) (sym (blank_at n p)) (All-nil (IsHeldOf reads p));
   few = nothing_holds.little n;
   wide = λ m z. start_wide m n;
 }

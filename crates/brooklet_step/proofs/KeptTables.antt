@@ -2,10 +2,10 @@
 use Rattle.std.proofs.Common.{◌≡◌, ℕ, zero, suc, ℤ, ◌<◌, ◌≤◌, Some, List, [], ◌∷◌, ◌++◌, length, map, fold, refl, sym, ap, ◌∙◌, append_assoc}
 use Rattle.std.specs.Prelude.{slice_get}
 use Rattle.std.proofs.lemmas.List.{append-nil}
+use Rattle.std.proofs.lemmas.Option.{same_Some}
 use Rattle.river_base.specs.declared.item.Item as item
 use Rattle.river_base.specs.Bags.{SameBag}
 use Rattle.river_base.specs.Places.{list_at}
-use Rattle.river_base.proofs.Options.{some_is}
 use Rattle.kern_tables.specs.declared.kind.TableKind.{TableKind}
 use Rattle.kern_tables.specs.declared.kept.Kept.{Kept}
 use Rattle.kern_tables.specs.Kept.{kept_of, with_row, rows_of, width_of_table}
@@ -40,12 +40,12 @@ kept_width kind xs = ap table_width (kept_kind kind xs)
 pub kept_at : (ts : List TableDecl) (rows : Name → List (List ℤ)) (i : ℕ) (k : Kept) → slice_get (kept_tables ts rows) i ≡ Some k
     → (t : TableDecl) × (slice_get ts i ≡ Some t) × (k ≡ kept_of t.kind (rows t.name))
 kept_at [] rows i k g = absurd (cc g)
-kept_at (t ∷ ts) rows zero k g = (t, refl, sym (some_is (kept_of t.kind (rows t.name)) k g))
+kept_at (t ∷ ts) rows zero k g = (t, refl, sym (same_Some (kept_of t.kind (rows t.name)) k g))
 kept_at (t ∷ ts) rows (suc i) k g = kept_at ts rows i k g
 
 got_name : (ts : List TableDecl) (i : ℕ) (t : TableDecl) → slice_get ts i ≡ Some t → slice_get (table_names ts) i ≡ Some t.name
 got_name [] i t g = absurd (cc g)
-got_name (u ∷ us) zero t g = ap (λ (x : TableDecl). Some x.name) (some_is u t g)
+got_name (u ∷ us) zero t g = ap (λ (x : TableDecl). Some x.name) (same_Some u t g)
 got_name (u ∷ us) (suc i) t g = got_name us i t g
 
 each_next : (ts : List TableDecl) (rows rows' : Name → List (List ℤ)) (f : ℕ → List (List ℤ))

@@ -9,13 +9,14 @@ use Rattle.std.proofs.lemmas.Bool.{cases_eq, true≢false}
 use Rattle.std.proofs.Math.ListN.{set}
 use Rattle.std.proofs.lemmas.List.{take_more}
 use Rattle.std.proofs.lemmas.List.Elements.{All-head, All-tail, All-cons, All-nil}
+use Rattle.river_base.proofs.Lists.{alone_same}
 use Rattle.river_base.specs.declared.item.Item as item
 use Rattle.river_base.specs.declared.item.Item.TheVariants.{Flat, Pack}
 use Rattle.river_base.specs.declared.item.Flat.TheVariants.{One, Batch, Change as Changed}
 use Rattle.river_base.specs.declared.kind.QueueType.{QueueType}
 use Rattle.river_base.specs.Held.{HasType}
 use Rattle.river_base.specs.Places.{append_at, each_grew, only, none}
-use Rattle.river_base.proofs.PlaceLemmas.{each_grew_cong, each_grew-none, append_at-each_grew, only_same, only_other}
+use Rattle.river_base.proofs.PlaceLemmas.{each_grew_cong, each_grew-none, append_at-each_grew, only_same, only_other, if_eq, if_ne}
 use Rattle.kern_rows.specs.Forms.{CodeForm, FilterForm}
 use Rattle.kern_rows.specs.Needs.{CanCode, CanFilter}
 use Rattle.kern_rows.specs.Runs.{run_kept, pushed_to, filter_one}
@@ -27,7 +28,6 @@ use Rattle.river_kernels.specs.Kern.{code, filter}
 use Rattle.brooklet_model.specs.Firings.{Kept, Slots, Buffered, gives}
 use Rattle.brooklet_model.specs.Fire.{fire, code_one, values_of, value_of}
 use Rattle.brooklet_model.specs.Typed.{IsOf, AreOf}
-use Rattle.brooklet_model.proofs.Lists.{if_eq, if_ne}
 use Rattle.brooklet_step.specs.declared.emit.Emit.{Emit}
 use Rattle.brooklet_step.specs.declared.state.State.{State}
 use Rattle.brooklet_step.specs.declared.state.State.TheVariants as state
@@ -72,9 +72,6 @@ are_slots : (zs : List ℤ) (st : List State) (ks : List Kept) → (zs ≡ [] �
 are_slots [] st ks n h = absurd (n refl)
 are_slots (z ∷ zs) st ks n h = h
 
-head_is : (s t : State) → s ∷ [] ≡ t ∷ [] → s ≡ t
-head_is s t h = cc
-
 -- the state that holds the kept slots
 pub code_state : (k : CodeForm) (x : item.Item) (st : List State) → (k.starts ≡ [] → ⊥) → Takes (code k) 0 x st
     → (s : State) × (st ≡ s ∷ []) × IsSlots (length k.starts) s
@@ -99,7 +96,7 @@ pub pushed_kept : (k : CodeForm) (x : item.Item) (st st' : List State) (s s' : S
 pushed_kept k x st st' s s' row pushes n e e' r ran = record {
   given = λ ks h.
       let a = some_slots k.starts st ks n h in
-      let one = ran.each a.slots (head_is s (state.Slots a.slots) (sym e ∙ a.code)) in
+      let one = ran.each a.slots (alone_same s (state.Slots a.slots) (sym e ∙ a.code)) in
       let R = run_kept k.body a.slots (values_of x) in
       let q : pushes ≡ R.pushes = one.0 ∙ ap (λ v. (run_kept k.body a.slots v).pushes) r in
       let w : st' ≡ state.Slots R.slots ∷ [] = e' ∙ ap (λ (u : State). u ∷ []) (one.1 ∙ ap (λ v. state.Slots (run_kept k.body a.slots v).slots) r) in
@@ -209,7 +206,7 @@ pub filter_state : (f : FilterForm) (x : item.Item) (s : State) → Takes (filte
     → (w : Waiting) × (s ≡ state.Filter w) × (length w.kept ≡ length f.starts)
 filter_state f x s t =
     let h = t.fitted.keeps.stands in
-    (h.now, head_is s (state.Filter h.now) h.code, h.count)
+    (h.now, alone_same s (state.Filter h.now) h.code, h.count)
 
 pub filter_count : (f : FilterForm) (x : item.Item) (s : State) (w : Waiting) → s ≡ state.Filter w → Takes (filter f) 0 x (s ∷ [])
     → length w.kept ≡ length f.starts
@@ -232,7 +229,7 @@ pub filter_fires : (f : FilterForm) (x : item.Item) (s s' : State) (old new : Wa
     → Fires (filter f) out out' (s ∷ []) (s' ∷ []) (fire (filter f) 0 x)
 filter_fires f x s s' old new v values items out out' can room e e' ev ran len ei took = record {
   given = λ ks h.
-      let same : old ≡ h.now = same_filter old h.now (sym e ∙ head_is s (state.Filter h.now) h.code) in
+      let same : old ≡ h.now = same_filter old h.now (sym e ∙ alone_same s (state.Filter h.now) h.code) in
       let stands : StandsForFiltering f old h.seen = subst (λ (w : Waiting). StandsForFiltering f w h.seen) (sym same) h.stands in
       let one = ran.each h.seen stands in
       let F = filter_one f (value_of x) h.seen in

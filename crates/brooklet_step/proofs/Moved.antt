@@ -1,6 +1,7 @@
 -- States that stand for some of the definition: where no relation passes all that fit do, and a word of firings can be cut anywhere.
 use Rattle.std.proofs.Common.{◌≡◌, ℕ, ℤ, zero, suc, List, [], ◌∷◌, ◌++◌, length, take, drop, replicate, refl, sym, ap, ◌∙◌, subst}
 use Rattle.std.specs.Prelude.{slice_get}
+use Rattle.std.proofs.lemmas.List.{take_at, drop_at}
 use Rattle.river_base.specs.Places.{list_at}
 use Rattle.river_base.specs.declared.kind.QueueType.{QueueType}
 use Rattle.river_base.specs.declared.kind.QueueType.TheVariants.{Flat as FlatOf, Pack as PackOf}
@@ -13,7 +14,6 @@ use Rattle.brooklet_model.specs.Fire.{privates}
 use Rattle.brooklet_model.specs.Shapes.{IsShaped, HasShape}
 use Rattle.brooklet_model.specs.Typed.{Holds, between}
 use Rattle.brooklet_model.specs.Words.{Word, word_of}
-use Rattle.brooklet_model.proofs.Lists.{take_front, drop_front}
 use Rattle.brooklet_model.proofs.Ports.{shaped}
 use Rattle.brooklet_model.proofs.Shapes.{shape_length}
 use Rattle.brooklet_model.proofs.Typing.{between_is}
@@ -92,8 +92,8 @@ fused_stand a b at is inner st e ra rb =
     let n = privates a in
     let all = ra.start ++ rb.start in
     let own = shape_length a ra.start ra.is_start.shape in
-    let ta : take n all ≡ ra.start = take_front ra.start rb.start n own in
-    let tb : drop n all ≡ rb.start = drop_front ra.start rb.start n own in
+    let ta : take n all ≡ ra.start = take_at ra.start rb.start n own in
+    let tb : drop n all ≡ rb.start = drop_at ra.start rb.start n own in
     record {
       start = all;
       is_start = record {
@@ -165,8 +165,8 @@ moved (fused a b at) is ss st w s c n h =
     let rb = ran_from b (drop m ss) wb in
     let parts = fused_ran a b at ss w s c in
     let own : length wa.states ≡ m = ran_length a (take m ss) w s.0 c.0 in
-    let ta : take m (ran_from (fused a b at) ss w).states ≡ wa.states = ap (take m) parts.states ∙ take_front wa.states rb.states m own in
-    let tb : drop m (ran_from (fused a b at) ss w).states ≡ rb.states = ap (drop m) parts.states ∙ drop_front wa.states rb.states m own in (
+    let ta : take m (ran_from (fused a b at) ss w).states ≡ wa.states = ap (take m) parts.states ∙ take_at wa.states rb.states m own in
+    let tb : drop m (ran_from (fused a b at) ss w).states ≡ rb.states = ap (drop m) parts.states ∙ drop_at wa.states rb.states m own in (
       subst (λ (us : List Kept). StandsAfter a is us (take m st) []) (sym ta) (moved a is (take m ss) (take m st) w s.0 c.0 n.0 h.0),
       subst (λ (us : List Kept). StandsAfter b inner us (drop m st) []) (sym tb) (moved b inner (drop m ss) (drop m st) wb s.1 c.1 n.1 h.1),
     )

@@ -3,11 +3,11 @@ use Rattle.std.proofs.Common.{◌≡◌, ℕ, zero, suc, ℤ, ◌+◌, ◌<◌, 
 use Rattle.std.proofs.Common.{replicate}
 use Rattle.std.specs.Prelude.{All, min, slice_get, slice_set, slice_index_or}
 use Rattle.std.proofs.lemmas.List.{length-map, length-set}
-use Rattle.std.proofs.lemmas.Option.{slice_get_within, slice_get-get_or}
+use Rattle.std.proofs.lemmas.Option.{slice_get_within, slice_get-get_or, same_Some}
+use Rattle.river_base.proofs.Lists.{got_map, there_is}
 use Rattle.river_base.specs.declared.item.Item as item
 use Rattle.river_base.specs.Places.{list_at, each_grew}
 use Rattle.river_base.proofs.PlaceLemmas.{each_grew-blanks}
-use Rattle.river_base.proofs.Options.{some_is}
 use Rattle.kern_tables.specs.declared.kept.Kept.{Kept}
 use Rattle.kern_tables.specs.Kept.{kept_of, width_of_table}
 use Rattle.river_kernels.specs.Kern.{Kern, kern_of}
@@ -19,7 +19,7 @@ use Rattle.brooklet_model.specs.Fire.{outs, tabs}
 use Rattle.brooklet_model.specs.Histories.{most_firings, tables_of}
 use Rattle.brooklet_model.specs.Typed.{widths_in, IsWide}
 use Rattle.brooklet_model.proofs.Ports.{counts}
-use Rattle.brooklet_model.proofs.Traces.{got_count, read_of}
+use Rattle.brooklet_model.proofs.Traces.{got_count}
 use Rattle.brooklet_model.proofs.TypedPlan.{op_fits}
 use Rattle.brooklet_step.specs.declared.emit.Emit.{Emit}
 use Rattle.brooklet_step.specs.declared.parts.Parts.{Parts}
@@ -35,7 +35,7 @@ use Rattle.brooklet_step.specs.Works.{queue_of, kinds_of, states_of, IsEnabled, 
 use Rattle.river_plan.proofs.PlaceLemmas.{place_below}
 use Rattle.brooklet_step.proofs.KeptTables.{kept_at, kept_width}
 use Rattle.brooklet_step.proofs.OpTables.{width_at, width_there, widths_of, mine_many, table_places_are}
-use Rattle.brooklet_step.proofs.ReadLemmas.{places_at, place_got, place_of, place_in_queues, got_map}
+use Rattle.brooklet_step.proofs.ReadLemmas.{places_at, place_got, place_of, place_in_queues}
 use Rattle.brooklet_step.proofs.StepLemmas.{can_take, item_held, next_parts, steps, goes_on, write_declared}
 
 -- the kernel of an operator in the lists of a plan
@@ -45,7 +45,7 @@ kernel_at raw p o d op v g e =
     let h : slice_get (op_forms raw.ops) o ≡ Some op = ap (λ (q : PlanForm). slice_get q.ops o) v ∙ g in
     let lt : o < length raw.ops = let l = length-map raw.ops op_form in let w = slice_get_within (op_forms raw.ops) o op h in omega (arith, l, w) in
     let s : slice_get raw.ops o ≡ Some d = slice_get-get_or raw.ops o d lt ∙ ap Some (sym e) in
-    ap (λ (f : OpForm). f.kernel) (some_is (op_form d) op (sym (got_map op_form raw.ops o d s) ∙ h))
+    ap (λ (f : OpForm). f.kernel) (same_Some (op_form d) op (sym (got_map op_form raw.ops o d s) ∙ h))
 
 -- an operator of the plan as data is one of the plan
 pub op_there : (raw : RawPlan) (p : PlanForm) (o : ℕ) (op : OpForm) → plan_form raw ≡ p → slice_get p.ops o ≡ Some op → o < length raw.ops
@@ -66,7 +66,7 @@ pub fired_op : (p : PlanForm) (o port : ℕ) (x : item.Item) (st st' : List Stat
     → IsBlank c.op.kernel blank → FiresAt k port x blank out st st' → FiredOp p o port x st st' out
 fired_op p o port x st st' blank out k c e b f = record {
   fired = λ op g.
-      let same : c.op ≡ op = some_is c.op op (sym c.op_is ∙ g) in
+      let same : c.op ≡ op = same_Some c.op op (sym c.op_is ∙ g) in
       let f' = subst (λ j. FiresAt j port x blank out st st') e f in
       subst (λ (d : OpForm). CameOf d.kernel port x st st' out) same
       (record { blank = blank; is_blank = b; room = (fires_again c.op.kernel port x blank out st st' (c.applies blank b) f').1; fires = f' });
@@ -135,7 +135,7 @@ send_there m o port n x queues st st' out ws g e hx es f we =
     ∙ (counts op.kernel _ _ _ (op_fits m.plan g.valid o op e.reads.op_is)).outs in (
       omega (arith, lo, lw, wo),
       (λ j lt.
-          let w = read_of op.writes j (omega (arith, lt, lw)) in
+          let w = there_is op.writes j (omega (arith, lt, lw)) in
           let p = place_below names w.0 (write_declared m.plan g.valid o op e.reads.op_is w.0 (got_count op.writes j w.0 w.1)) in
           let at : slice_index_or ws j 0 ≡ place names w.0 = ap (λ (l : List ℕ). slice_index_or l j 0) is ∙ place_got names op.writes j w.0 w.1 in
           let q = g.laid_out.queues in
@@ -145,13 +145,10 @@ send_there m o port n x queues st st' out ws g e hx es f we =
 
 -- THE TABLES
 
-num_is : (a b : ℕ) → Some a ≡ Some b → a ≡ b
-num_is a b h = cc
-
 -- the name whose place this is
 pub got_place : (names qs : List Name) (j p : ℕ) → slice_get (places names qs) j ≡ Some p → (q : Name) × (slice_get qs j ≡ Some q) × (place names q ≡ p)
 got_place names [] j p g = absurd (cc g)
-got_place names (q ∷ qs) zero p g = (q, refl, num_is (place names q) p g)
+got_place names (q ∷ qs) zero p g = (q, refl, same_Some (place names q) p g)
 got_place names (q ∷ qs) (suc j) p g = got_place names qs j p g
 
 rows_wide : (o : Option ℕ) (n : ℕ) (rows : List (List ℤ)) → o ≡ Some n → All (IsWide o) rows → All (λ row. length row ≡ n) rows

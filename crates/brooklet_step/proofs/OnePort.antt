@@ -105,14 +105,6 @@ relation_typed n (Flat (One row)) h = absurd h
 relation_typed n (Flat (Changed c)) h = absurd h
 relation_typed n (Pack fs) h = absurd h
 
--- equal lists of one
-pub same_item : (x i : item.Item) → x ∷ [] ≡ i ∷ [] → x ≡ i
-same_item x i e = cc
-
--- lists of one state are the same where the states are
-pub same_state : (s t : State) → s ∷ [] ≡ t ∷ [] → s ≡ t
-same_state s t e = cc
-
 pub same_change : (c d : Change) → Flat (Changed c) ∷ [] ≡ Flat (Changed d) ∷ [] → c ≡ d
 same_change c d e = cc
 
@@ -122,10 +114,6 @@ pub came_content : (n : ℕ) (past : List item.Item) (c : Change) (b : Batch) (x
 came_content n past c b x e h =
     let y : held (relation n) past (Flat (Batched b) ∷ []) ≡ Flat (Changed c) ∷ [] = subst (λ z. held (relation n) past (z ∷ []) ≡ Flat (Changed c) ∷ []) e h in
     same_change c (change_to (content_from [] past) b) (sym y ∙ held-relation n past (Flat (Batched b) ∷ []))
-
--- equal numbers of columns
-pub same_columns : (m n : ℕ) → Some m ≡ Some n → m ≡ n
-same_columns m n e = cc
 
 -- equal ports
 pub same_stream : (n m : ℕ) → Some (stream n) ≡ Some (stream m) → n ≡ m

@@ -1,6 +1,7 @@
 -- Kernels with one port, and with one state or none.
-use Rattle.std.proofs.Common.{◌≡◌, ℕ, ◌<◌, List, [], ◌∷◌, length, refl, sym, ap, ◌∙◌, subst, arith, get_or}
+use Rattle.std.proofs.Common.{◌≡◌, ℕ, ◌<◌, List, [], ◌∷◌, length, sym, ap, ◌∙◌, subst, arith, get_or}
 use Rattle.std.proofs.Math.ListN.{set}
+use Rattle.std.proofs.lemmas.List.{nil_from_length}
 use Rattle.river_base.specs.declared.item.Item as item
 use Rattle.river_kernels.specs.Kern.{Kern}
 use Rattle.brooklet_model.specs.Fire.{ins, privates}
@@ -47,10 +48,6 @@ only_one [] d s l e = absurd (omega (arith, l))
 only_one (t ∷ []) d s l e = ap (λ (u : State). u ∷ []) (sym e)
 only_one (t ∷ u ∷ st) d s l e = absurd (omega (arith, l))
 
-no_state : (st : List State) → length st ≡ 0 → st ≡ []
-no_state [] l = refl
-no_state (s ∷ st) l = absurd (omega (arith, l))
-
 -- a kernel with one state
 pub one_can : (j : Kern) (port : ℕ) (i : item.Item) (st : List State) (d s : State) (out : Emit) → privates j ≡ 1 → s ≡ get_or st 0 d → CanTake j port i st out
     → CanTake j port i (s ∷ []) out
@@ -63,12 +60,12 @@ one_fires j port i st d s s' out out' one e t f =
 
 -- a kernel without states
 pub none_can : (j : Kern) (port : ℕ) (i : item.Item) (st : List State) (out : Emit) → privates j ≡ 0 → CanTake j port i st out → CanTake j port i [] out
-none_can j port i st out none t = subst (λ (l : List State). CanTake j port i l out) (no_state st (can_length j port i st out t ∙ none)) t
+none_can j port i st out none t = subst (λ (l : List State). CanTake j port i l out) (nil_from_length st (can_length j port i st out t ∙ none)) t
 
 pub none_fires : (j : Kern) (port : ℕ) (i : item.Item) (st : List State) (out out' : Emit) → privates j ≡ 0 → CanTake j port i st out
     → FiresAt j port i out out' [] [] → FiresAt j port i out out' st st
 none_fires j port i st out out' none t f =
-    subst (λ (l : List State). FiresAt j port i out out' l l) (sym (no_state st (can_length j port i st out t ∙ none))) f
+    subst (λ (l : List State). FiresAt j port i out out' l l) (sym (nil_from_length st (can_length j port i st out t ∙ none))) f
 
 -- ONE PORT AND ONE STATE, OR NONE
 

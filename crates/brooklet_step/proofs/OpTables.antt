@@ -4,10 +4,11 @@ use Rattle.std.proofs.Common.{nat_lt, ⊎_elim}
 use Rattle.std.specs.Prelude.{if◌then◌else◌, slice_get, unwrap_or}
 use Rattle.std.proofs.lemmas.Bool.{cases_lt}
 use Rattle.std.proofs.lemmas.List.{length-map}
+use Rattle.std.proofs.lemmas.Option.{same_Some}
+use Rattle.brooklet_model.proofs.WideAdds.{widths_length}
+use Rattle.river_base.proofs.PlaceLemmas.{if_lt, if_ge, if_true, if_false}
 use Rattle.river_base.specs.Name.{name_eq}
-use Rattle.river_base.proofs.Options.{some_is}
 use Rattle.kern_tables.specs.Tables.{table_width}
-use Rattle.river_kernels.specs.declared.types.VarKind.{VarKind}
 use Rattle.river_kernels.specs.declared.types.VarKind.TheVariants.{Private, Table}
 use Rattle.river_kernels.specs.Limits.{either}
 use Rattle.river_plan.specs.declared.plan.TableDecl.{TableDecl}
@@ -22,8 +23,7 @@ use Rattle.river_plan.proofs.PlaceLemmas.{place_below, place_front, place_back}
 use Rattle.brooklet_model.specs.Fire.{tabs}
 use Rattle.brooklet_model.specs.Histories.{tables_of}
 use Rattle.brooklet_model.specs.Typed.{widths_in}
-use Rattle.brooklet_model.proofs.Lists.{if_true, if_false, if_lt, if_ge}
-use Rattle.brooklet_model.proofs.Ports.{tables_in, counts}
+use Rattle.brooklet_model.proofs.Ports.{counts}
 use Rattle.brooklet_model.proofs.Traces.{at_most}
 use Rattle.brooklet_model.proofs.TypedPlan.{op_fits}
 use Rattle.brooklet_step.specs.Tables.{table_places}
@@ -75,11 +75,6 @@ table_places_are p op n e =
 
 -- THEIR WIDTHS
 
-widths_many : (vs : List VarKind) → length (widths_in vs) ≡ tables_in vs
-widths_many [] = refl
-widths_many (Private ∷ vs) = widths_many vs
-widths_many (Table n ∷ vs) = let e = widths_many vs in omega (arith, e)
-
 -- the width of a table by name
 abbrev pub width_at : List TableDecl → Name → ℕ
 width_at [] v = 0
@@ -93,7 +88,7 @@ width_there (u ∷ us) v t g =
     → slice_get (u ∷ us) (if b then 0 else suc (place (table_names us) v)) ≡ Some t =
     λ b e. ap (λ c. slice_get (u ∷ us) (if c then 0 else suc (place (table_names us) v))) (sym e) ∙ g in
     ⊎_elim
-    (λ c. if_true (name_eq u.name v) (table_width u.kind) (width_at us v) c.1 ∙ ap (λ (x : TableDecl). table_width x.kind) (some_is u t (at true c.1)))
+    (λ c. if_true (name_eq u.name v) (table_width u.kind) (width_at us v) c.1 ∙ ap (λ (x : TableDecl). table_width x.kind) (same_Some u t (at true c.1)))
     (λ c. if_false (name_eq u.name v) (table_width u.kind) (width_at us v) c.1 ∙ width_there us v t (at false c.1))
     (cases_name u.name v)
 
@@ -159,5 +154,5 @@ module _ (p : PlanForm) (v : IsPlan p) (o : ℕ) (op : OpForm) (g : slice_get p.
   pub mine_many : length (tables_of (table_names p.tables) op) ≡ tabs op.kernel
   mine_many =
       sym (length-map (tables_of (table_names p.tables) op) (width_at p.tables)) ∙ ap length (sym widths_of)
-      ∙ widths_many (map (var_kind p.tables p.vars) op.vars)
+      ∙ widths_length (map (var_kind p.tables p.vars) op.vars)
       ∙ (counts op.kernel _ _ _ (op_fits p v o op g)).tables

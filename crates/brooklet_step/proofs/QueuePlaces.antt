@@ -1,20 +1,19 @@
 -- Queues by name and by place.
-use Rattle.std.proofs.Common.{◌≡◌, ℕ, suc, ◌+◌, ◌<◌, ◌≤◌, true, false, Some, List, [], ◌∷◌, ◌++◌, length, take, drop, map, refl, sym, ap, ◌∙◌, arith, nat_eq}
+use Rattle.std.proofs.Common.{◌≡◌, ℕ, suc, ◌+◌, ◌<◌, ◌≤◌, Some, List, [], ◌∷◌, ◌++◌, length, take, drop, map, refl, sym, ap, ◌∙◌, arith, nat_eq}
 use Rattle.std.proofs.Common.{⊎_elim, append_assoc}
 use Rattle.std.specs.Prelude.{if◌then◌else◌, slice_get, slice_index_or}
 use Rattle.std.proofs.lemmas.Bool.{cases_eq}
 use Rattle.std.proofs.lemmas.List.{append-nil, take_more, length-take-le, drop_more}
 use Rattle.river_base.specs.Name.{name_eq}
 use Rattle.river_base.specs.Places.{list_at, append_at, each_grew, only, none}
-use Rattle.river_base.proofs.PlaceLemmas.{each_grew_cong, each_grew-none, append_at-each_grew, only_same, only_other}
+use Rattle.river_base.proofs.PlaceLemmas.{each_grew_cong, each_grew-none, append_at-each_grew, only_same, only_other, if_true, if_false, if_eq, if_ne}
 use Rattle.river_plan.specs.Forms.{Name}
 use Rattle.river_plan.specs.Names.{count, one_if}
 use Rattle.river_plan.specs.Places.{place, places}
 use Rattle.river_plan.proofs.NameLemmas.{cases_name, name_same}
-use Rattle.river_plan.proofs.PlaceLemmas.{place_at, place_apart}
+use Rattle.river_plan.proofs.PlaceLemmas.{place_at, place_apart, place-here, place-past}
 use Rattle.river_base.specs.declared.item.Item as item
 use Rattle.brooklet_model.specs.Histories.{History, joined, written}
-use Rattle.brooklet_model.proofs.Lists.{if_true, if_false, if_eq, if_ne}
 use Rattle.brooklet_model.proofs.Traces.{place_once}
 use Rattle.brooklet_step.specs.ByPlace.{joined_at}
 
@@ -23,12 +22,6 @@ use Rattle.brooklet_step.specs.ByPlace.{joined_at}
 -- a name that stands once is at the place where it was got
 pub place_is : (names : List Name) (i : ℕ) (q : Name) → count q names ≤ 1 → 0 < count q names → slice_get names i ≡ Some q → place names q ≡ i
 place_is names i q once lt g = place_once names (place names q) i q once (place_at names q lt) g
-
-place_here : (w : Name) (ws : List Name) (q : Name) → name_eq w q ≡ true → place (w ∷ ws) q ≡ 0
-place_here w ws q t = if_true (name_eq w q) 0 (suc (place ws q)) t
-
-place_past : (w : Name) (ws : List Name) (q : Name) → name_eq w q ≡ false → place (w ∷ ws) q ≡ suc (place ws q)
-place_past w ws q f = if_false (name_eq w q) 0 (suc (place ws q)) f
 
 -- WHAT COMES TO QUEUES
 
@@ -101,8 +94,8 @@ lists_in_order names ls (w ∷ ws) n h le =
 pub written_found : (names : List Name) (f : ℕ → List item.Item) (h : History) (q : Name) → 0 < count q names → written names f h q ≡ f (place names q)
 written_found [] f h q lt = absurd (omega (arith, lt))
 written_found (w ∷ ws) f h q lt = ⊎_elim
-    (λ c. if_true (name_eq w q) (f 0) (written ws (λ j. f (suc j)) h q) c.1 ∙ ap f (sym (place_here w ws q c.1)))
+    (λ c. if_true (name_eq w q) (f 0) (written ws (λ j. f (suc j)) h q) c.1 ∙ ap f (sym (place-here w ws q c.1)))
     (λ c.
     let lx : 0 < count q ws = let e = ap one_if c.1 in omega (arith, e, lt) in
-    if_false (name_eq w q) (f 0) (written ws (λ j. f (suc j)) h q) c.1 ∙ written_found ws (λ j. f (suc j)) h q lx ∙ ap f (sym (place_past w ws q c.1)))
+    if_false (name_eq w q) (f 0) (written ws (λ j. f (suc j)) h q) c.1 ∙ written_found ws (λ j. f (suc j)) h q lx ∙ ap f (sym (place-past w ws q c.1)))
     (cases_name w q)

@@ -1,36 +1,23 @@
 -- The places of the queues that operators read.
-use Rattle.std.proofs.Common.{◌≡◌, ℕ, zero, suc, ◌-◌, ◌<◌, length-drop, Some, Bool, false, List, [], ◌∷◌, length, map, refl, sym, ap, ◌∙◌, subst, arith}
+use Rattle.std.proofs.Common.{◌≡◌, ℕ, ◌-◌, ◌<◌, length-drop, Some, Bool, false, List, [], length, map, sym, ap, ◌∙◌, subst, arith}
 use Rattle.std.specs.Prelude.{IsTrue, slice_get, slice_index_or}
 use Rattle.std.proofs.lemmas.List.{length-map}
-use Rattle.std.proofs.lemmas.Option.{slice_get_within, get_or_from_slice_get}
+use Rattle.std.proofs.lemmas.Option.{slice_get_within, get_or_from_slice_get, same_Some}
+use Rattle.river_base.proofs.Lists.{got_map, there_is}
 use Rattle.river_base.specs.Held.{held}
 use Rattle.river_base.specs.Places.{list_at}
 use Rattle.river_base.proofs.HeldLemmas.{length-held}
-use Rattle.river_base.proofs.Options.{some_is}
 use Rattle.river_plan.specs.declared.plan.RawPlan.{RawPlan}
 use Rattle.river_plan.specs.Forms.{Name, OpForm, PlanForm, plan_form, op_form, queue_names}
 use Rattle.river_plan.specs.Names.{count}
 use Rattle.river_plan.specs.Places.{place, places, read_places}
 use Rattle.river_plan.proofs.PlaceLemmas.{place_below}
 use Rattle.brooklet_model.specs.Machine.{Machine}
-use Rattle.brooklet_model.proofs.Traces.{read_of}
 use Rattle.brooklet_step.specs.declared.parts.Parts.{Parts}
 use Rattle.brooklet_step.specs.Reading.{IsQueuePlace}
 use Rattle.brooklet_step.specs.Laws.{EnabledIsItem}
 use Rattle.brooklet_step.specs.Works.{queue_of, kinds_of, StandsForMachine, ReadsAt, IsEnabled, GoesOn}
 use Rattle.brooklet_step.proofs.StepLemmas.{read_declared}
-
--- what is got of a mapped list
-pub got_map : {A B : Type 0} (f : A → B) (xs : List A) (n : ℕ) (x : A) → slice_get xs n ≡ Some x → slice_get (map f xs) n ≡ Some (f x)
-got_map f [] n x h = absurd (cc h)
-got_map f (y ∷ ys) zero x h = let e : y ≡ x = cc in ap (λ z. Some (f z)) e
-got_map f (y ∷ ys) (suc n) x h = got_map f ys n x h
-
--- below the number of operators there is one
-pub op_at : (ops : List OpForm) (o : ℕ) → o < length ops → (op : OpForm) × (slice_get ops o ≡ Some op)
-op_at [] o lt = absurd (omega (arith, lt))
-op_at (op ∷ ops) zero lt = (op, refl)
-op_at (op ∷ ops) (suc o) lt = op_at ops o (omega (arith, lt))
 
 -- the places of what an operator reads, or writes
 pub places_at : (f : OpForm → List Name) (names : List Name) (ops : List OpForm) (o : ℕ) (op : OpForm) → slice_get ops o ≡ Some op
@@ -74,9 +61,9 @@ ops_many raw p e = sym (length-map raw.ops op_form) ∙ ap (λ (x : PlanForm). l
 pub found_place : (m : Parts) (o port n : ℕ) → GoesOn m → o < length m.plan.ops → port < length (list_at (read_places m.plan) o)
     → n ≡ slice_index_or (list_at (read_places m.plan) o) port 0 → IsQueuePlace m o port n
 found_place m o port n g lo lp e =
-    let w = op_at m.plan.ops o lo in
+    let w = there_is m.plan.ops o lo in
     let k = ap length (places_at (λ d. d.reads) (queue_names m.plan) m.plan.ops o w.0 w.1) ∙ length-map w.0.reads (place (queue_names m.plan)) in
-    let p = read_of w.0.reads port (omega (arith, k, lp)) in
+    let p = there_is w.0.reads port (omega (arith, k, lp)) in
     let r : ReadsAt m.plan o port p.0 = record { op = w.0; op_is = w.1; queue_is = p.1 } in
     let at : n ≡ place (queue_names m.plan) p.0 = e ∙ place_of m.plan o port p.0 r in
     let b = place_in_queues m o port p.0 g r in
@@ -91,8 +78,8 @@ found_place m o port n g lo lp e =
 -- the queue at a port is one alone
 same_queue : (p : PlanForm) (o port : ℕ) (q q' : Name) → ReadsAt p o port q → ReadsAt p o port q' → q ≡ q'
 same_queue p o port q q' r r' =
-    let e : r.op ≡ r'.op = some_is r.op r'.op (sym r.op_is ∙ r'.op_is) in
-    some_is q q' (sym r.queue_is ∙ ap (λ (d : OpForm). slice_get d.reads port) e ∙ r'.queue_is)
+    let e : r.op ≡ r'.op = same_Some r.op r'.op (sym r.op_is ∙ r'.op_is) in
+    same_Some q q' (sym r.queue_is ∙ ap (λ (d : OpForm). slice_get d.reads port) e ∙ r'.queue_is)
 
 -- whether something waits there
 pub enabled_by : (m : Parts) (o port n w : ℕ) (b : Bool) → m.stopped ≡ false → IsQueuePlace m o port n → w ≡ length (list_at m.queues n)

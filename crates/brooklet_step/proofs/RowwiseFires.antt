@@ -1,6 +1,7 @@
 -- Firings of selections and projections, on batches of a stream and on changes of a relation.
 use Rattle.std.proofs.Common.{◌≡◌, ℕ, ℤ, List, [], ◌∷◌, ◌++◌, length, refl, sym, ap, ◌∙◌, subst}
 use Rattle.std.proofs.lemmas.List.Elements.{All-head}
+use Rattle.river_base.proofs.Lists.{alone_same}
 use Rattle.river_base.specs.declared.item.Batch.{Batch}
 use Rattle.river_base.specs.declared.item.Change.{Change}
 use Rattle.river_base.specs.declared.item.Flat as flat
@@ -29,7 +30,7 @@ use Rattle.brooklet_step.specs.Given.{IsHeldOf, ran_from, GivesAsDefined, FiresA
 use Rattle.brooklet_step.proofs.BagLeaves.{select_no_row}
 use Rattle.brooklet_step.proofs.GivenLemmas.{ran_more}
 use Rattle.brooklet_step.proofs.OnePort.{batch_held, change_held, held_first, batch_type, change_type, relation_typed, typed_first, typed_port}
-use Rattle.brooklet_step.proofs.OnePort.{same_item, came_content, took_first, came_first, one_held, does_at}
+use Rattle.brooklet_step.proofs.OnePort.{came_content, took_first, came_first, one_held, does_at}
 
 -- A FUNCTION OF THE CONTENT
 
@@ -77,7 +78,7 @@ select_gives_rows : (e : Term) (n : ℕ) (b : Batch) (out out' : Emit) → Took 
 select_gives_rows e n b out out' took = record {
   given = λ start w x is_start tw tx a h.
       let before = ran_from (select e) start w in
-      let is : x ≡ Flat (Batched b) = same_item x (Flat (Batched b)) (sym (held-plain (stream n) (at_port 0 w) (x ∷ []) tt) ∙ h) in
+      let is : x ≡ Flat (Batched b) = alone_same x (Flat (Batched b)) (sym (held-plain (stream n) (at_port 0 w) (x ∷ []) tt) ∙ h) in
       let holds : held (stream n) (before.outs 0) (select_one e x) ≡ select_one e (Flat (Batched b)) =
       held-plain (stream n) (before.outs 0) (select_one e x) tt ∙ ap (select_one e) is in (
         took_first (stream n) before [] before.states out out' (select_one e (Flat (Batched b))) (select_one e x) took holds,

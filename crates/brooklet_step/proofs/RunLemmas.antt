@@ -5,12 +5,13 @@ use Rattle.std.specs.Prelude.{All, min, slice_get, unwrap_or}
 use Rattle.std.proofs.lemmas.Bool.{cases_lt}
 use Rattle.std.proofs.lemmas.List.{append-nil, length-map}
 use Rattle.std.proofs.lemmas.List.Elements.{All-head, All-tail}
-use Rattle.std.proofs.lemmas.Option.{slice_get_within, slice_get-get_or, get_or_from_slice_get}
+use Rattle.std.proofs.lemmas.Option.{slice_get_within, slice_get-get_or, get_or_from_slice_get, same_Some}
+use Rattle.river_base.proofs.PlaceLemmas.{if_true, if_false}
+use Rattle.river_base.proofs.Lists.{got_map, got_append, there_is}
 use Rattle.river_base.specs.declared.item.Item as item
 use Rattle.river_base.specs.Name.{name_eq}
 use Rattle.river_base.specs.Held.{held}
 use Rattle.river_base.proofs.HeldLemmas.{length-held}
-use Rattle.river_base.proofs.Options.{some_is}
 use Rattle.river_plan.specs.declared.plan.Decl.{Decl}
 use Rattle.river_kernels.specs.declared.limit.Limit.TheVariants.{Operators, Ports}
 use Rattle.river_plan.specs.declared.op.Op.{Op}
@@ -29,7 +30,6 @@ use Rattle.brooklet_model.specs.Laws.{HasDefined}
 use Rattle.brooklet_model.specs.Machine.{Machine, Step, Run, IsComplete, start, at_name, times}
 use Rattle.brooklet_model.specs.Meaning.{meaning}
 use Rattle.brooklet_model.proofs.Complete.{runs_law}
-use Rattle.brooklet_model.proofs.Lists.{if_true, if_false}
 use Rattle.brooklet_model.proofs.RunMeaning.{outs_are, firings_are}
 use Rattle.brooklet_model.proofs.Traces.{at_most, got_count, joined_out}
 use Rattle.brooklet_step.specs.declared.parts.Parts.{Parts}
@@ -39,8 +39,6 @@ use Rattle.brooklet_step.specs.Tables.{defined_tables}
 use Rattle.brooklet_step.proofs.Edges.{output_held}
 use Rattle.brooklet_step.proofs.KeptTables.{kept_of_bags, defined_rows}
 use Rattle.brooklet_step.proofs.QueuePlaces.{place_is, lists_in_order}
-use Rattle.brooklet_step.proofs.ReadLemmas.{op_at, got_map}
-use Rattle.brooklet_step.proofs.StartLemmas.{got_front}
 use Rattle.brooklet_step.proofs.StepLemmas.{run_next, read_declared}
 
 -- THE ORDER OF THE OPERATORS
@@ -50,7 +48,7 @@ pub no_later : (q : Name) (ops : List OpForm) (known : Name → ℕ) (o' o : ℕ
     → slice_get ops o' ≡ Some op' → slice_get ops o ≡ Some op → o' ≤ o → 0 < count q op'.reads → count q op.writes ≡ 0
 no_later q [] known o' o op' op r once g' g le lt = absurd (cc g)
 no_later q (a ∷ ops) known zero o op' op r once g' g le lt =
-    let k = r.0 q (subst (λ (d : OpForm). 0 < count q d.reads) (sym (some_is a op' g')) lt) in
+    let k = r.0 q (subst (λ (d : OpForm). 0 < count q d.reads) (sym (same_Some a op' g')) lt) in
     let m = at_most (writes_it q) (a ∷ ops) o op g in
     omega (arith, k, m, once)
 no_later q (a ∷ ops) known (suc o') zero op' op r once g' g le lt = absurd (omega (arith, le))
@@ -152,8 +150,8 @@ step_less m m' o port inputs v r e st =
     let k' = declared_in m m' st.plan q k in
     let same = same_read m.plan o port q e.reads in
     let same' = ap (λ (x : PlanForm). read_in (slice_get x.ops o) port) st.plan ∙ same in
-    let ops_same : e.reads.op ≡ a.step.op = some_is e.reads.op a.step.op (sym e.reads.op_is ∙ a.step.op_is) in
-    let here : q ≡ a.step.queue = some_is q a.step.queue (sym e.reads.queue_is ∙ ap (λ (d : OpForm). slice_get d.reads port) ops_same ∙ a.step.queue_is) in
+    let ops_same : e.reads.op ≡ a.step.op = same_Some e.reads.op a.step.op (sym e.reads.op_is ∙ a.step.op_is) in
+    let here : q ≡ a.step.queue = same_Some q a.step.queue (sym e.reads.queue_is ∙ ap (λ (d : OpForm). slice_get d.reads port) ops_same ∙ a.step.queue_is) in
     let s = ap length (hist_stays m.plan v r.state a.state o port o port q a.step e.reads (omega arith)) in
     let t : a.state.taken q ≡ r.state.taken q + 1 =
     ap (λ (x : Machine). x.taken q) a.step.after ∙ ap (λ n. at_name n (r.state.taken n + 1) r.state.taken q) (sym here) ∙ one_taken q r.state.taken in
@@ -209,7 +207,7 @@ before_next m m' m'' o ports op b f g many d = record {
       (λ ge q w.
       let e : o' ≡ o = omega (arith, lt, ge) in
       let w' : ReadsAt m''.plan o port' q = subst (λ n. ReadsAt m''.plan n port' q) e w in
-      let same : w'.op ≡ op = some_is w'.op op (sym w'.op_is ∙ g) in
+      let same : w'.op ≡ op = same_Some w'.op op (sym w'.op_is ∙ g) in
       let p = slice_get_within op.reads port' q (ap (λ (x : OpForm). slice_get x.reads port') (sym same) ∙ w'.queue_is) in
       d port' (omega (arith, p, many)) q w')
       (cases_lt o' o);
@@ -265,7 +263,7 @@ ops_few raw p e v = (
 pub ports_few : (ops : List OpForm) (o : ℕ) (op : OpForm) → All (λ n. n ≤ 64) (port_numbers ops) → slice_get ops o ≡ Some op → length op.reads ≤ 64
 ports_few [] o op a g = absurd (cc g)
 ports_few (d ∷ ops) zero op a g =
-    subst (λ (x : OpForm). length x.reads ≤ 64) (some_is d op g) (All-head (λ n. n ≤ 64) (length d.reads) (length d.writes ∷ port_numbers ops) a)
+    subst (λ (x : OpForm). length x.reads ≤ 64) (same_Some d op g) (All-head (λ n. n ≤ 64) (length d.reads) (length d.writes ∷ port_numbers ops) a)
 ports_few (d ∷ ops) (suc o) op a g =
     ports_few ops o op (All-tail (λ n. n ≤ 64) (length d.writes) (port_numbers ops)
     (All-tail (λ n. n ≤ 64) (length d.reads) (length d.writes ∷ port_numbers ops) a)) g
@@ -323,7 +321,7 @@ outs_taken m raw n outs g e ne t =
     let q = g.laid_out.queues in
     t ∙ ap (λ k. take k m.queues) (sym many)
     ∙ sym (lists_in_order (queue_names m.plan) m.queues ws 0
-    (λ i w h. place_is (queue_names m.plan) i w (g.valid.queues_once w) (output_there m.plan i w h) (got_front ws rest i (slice_get_within ws i w h) ∙ h)
+    (λ i w h. place_is (queue_names m.plan) i w (g.valid.queues_once w) (output_there m.plan i w h) (got_append ws rest i (slice_get_within ws i w h) ∙ h)
     ∙ omega arith)
     (omega (arith, l, q)))
 
@@ -369,7 +367,7 @@ module _ (p : PlanForm) (inputs : List (List item.Item)) (m0 m : Parts) (v : IsP
   run_counts values c = same_by values (map pos (firings m.plan inputs))
       (c.many ∙ sym (length-map (firings m.plan inputs) pos ∙ length-map m.plan.ops _))
       (λ o lt.
-      let w = op_at m.plan.ops o (let k = c.many in omega (arith, k, lt)) in
+      let w = there_is m.plan.ops o (let k = c.many in omega (arith, k, lt)) in
       let u : o < length m.plan.ops = slice_get_within m.plan.ops o w.0 w.1 in
       c.each o u ∙ ap pos (ran.counts o u)
       ∙ sym (get_or_from_slice_get (map pos (firings m.plan inputs)) o (pos (min most_firings (times o ran.events))) (pos 0)

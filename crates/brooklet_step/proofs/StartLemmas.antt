@@ -4,12 +4,12 @@ use Rattle.std.proofs.Common.{replicate, length-append, ⊎_elim}
 use Rattle.std.specs.Prelude.{All, min, slice_get, slice_index_or}
 use Rattle.std.proofs.Math.ListN.{get_or-append}
 use Rattle.std.proofs.lemmas.Bool.{cases_lt}
-use Rattle.std.proofs.lemmas.List.{length-replicate, length-map, get_or-append-add, get_or_push, take_more}
-use Rattle.std.proofs.lemmas.Option.{slice_get_within, slice_get-get_or}
+use Rattle.std.proofs.lemmas.List.{length-replicate, length-map, get_or-append-add, get_or_push}
+use Rattle.std.proofs.lemmas.Option.{slice_get_within, slice_get-get_or, same_Some}
+use Rattle.river_base.proofs.Lists.{got_map, got_append, map_more}
 use Rattle.river_base.specs.declared.item.Item as item
 use Rattle.river_base.specs.Held.{IsHeld}
 use Rattle.river_base.specs.Places.{list_at}
-use Rattle.river_base.proofs.Options.{some_is}
 use Rattle.kern_tables.specs.declared.kept.Kept.{Kept}
 use Rattle.river_kernels.specs.Kern.{kern_of}
 use Rattle.river_plan.specs.declared.op.Op.{Op}
@@ -38,15 +38,8 @@ use Rattle.brooklet_step.specs.Tables.{kept_tables}
 use Rattle.brooklet_step.specs.Works.{StandsForMachine, Counts, GoesOn, Starts}
 use Rattle.brooklet_step.proofs.Edges.{inputs_held, inputs_may}
 use Rattle.brooklet_step.proofs.QueuePlaces.{written_found}
-use Rattle.brooklet_step.proofs.ReadLemmas.{got_map}
 
 -- THE FIRST STATES
-
--- what is got of two lists, below the length of the first
-pub got_front : {A : Type 0} (xs ys : List A) (n : ℕ) → n < length xs → slice_get (xs ++ ys) n ≡ slice_get xs n
-got_front [] ys n lt = absurd (omega (arith, lt))
-got_front (x ∷ xs) ys zero lt = refl
-got_front (x ∷ xs) ys (suc n) lt = got_front xs ys n (omega (arith, lt))
 
 got_last : {A : Type 0} (xs : List A) (x : A) (n : ℕ) → n ≡ length xs → slice_get (xs ++ x ∷ []) n ≡ Some x
 got_last [] x zero e = refl
@@ -64,12 +57,12 @@ first_more ops op states st f h =
       count = omega (arith, ls, lo, c);
       stand = λ o op' g. ⊎_elim
           (λ lt.
-          let g' : slice_get ops o ≡ Some op' = sym (got_front ops (op ∷ []) o lt) ∙ g in
+          let g' : slice_get ops o ≡ Some op' = sym (got_append ops (op ∷ []) o lt) ∙ g in
           subst (λ (u : List State). AreFirstStates op'.kernel u) (sym (get_or-append states (st ∷ []) [] o (omega (arith, lt, c)))) (f.stand o op' g'))
           (λ ge.
           let w = slice_get_within (ops ++ op ∷ []) o op' g in
           let e : o ≡ length ops = omega (arith, w, lo, ge) in
-          let same : op ≡ op' = some_is op op' (sym (got_last ops op o e) ∙ g) in
+          let same : op ≡ op' = same_Some op op' (sym (got_last ops op o e) ∙ g) in
           subst (λ (u : List State). AreFirstStates op'.kernel u) (sym (get_or_push states st [] o (omega (arith, e, c))))
           (subst (λ (d : OpForm). AreFirstStates d.kernel st) same h))
           (cases_lt o (length ops));
@@ -77,14 +70,6 @@ first_more ops op states st f h =
 
 pub first_none : AreFirst [] []
 first_none = record { count = refl; stand = λ o op g. absurd (cc g) }
-
-map_more : {A B : Type 0} (f : A → B) (xs : List A) (i : ℕ) (x : A) → i < length xs → x ≡ get_or xs i x
-    → map f (take (i + 1) xs) ≡ map f (take i xs) ++ f x ∷ []
-map_more f xs i x lt e = ap (map f) (take_more xs i x lt ∙ ap (λ y. take i xs ++ y ∷ []) (sym e)) ∙ over (take i xs)
-  where
-    over : (ys : List _) → map f (ys ++ x ∷ []) ≡ map f ys ++ f x ∷ []
-    over [] = refl
-    over (y ∷ ys) = ap (λ l. f y ∷ l) (over ys)
 
 -- a step of the loop that makes them
 pub first_next : (ops : List Op) (i : ℕ) (d : Op) (states states' : List (List State)) (st : List State) → i < length ops → d ≡ get_or ops i d
@@ -128,7 +113,7 @@ zero_at (suc n) (suc i) = zero_at n i
 min_zero : (m : ℕ) → min m 0 ≡ 0
 min_zero m = omega arith
 
-inputs_many : (ds : List Decl) (ls : List (List item.Item)) → AreInputs ds ls → length ls ≡ length ds
+pub inputs_many : (ds : List Decl) (ls : List (List item.Item)) → AreInputs ds ls → length ls ≡ length ds
 inputs_many [] [] a = refl
 inputs_many [] (xs ∷ ls) a = absurd a
 inputs_many (d ∷ ds) [] a = absurd a

@@ -1,31 +1,26 @@
 -- The first states of kernels.
-use Rattle.std.proofs.Common.{◌≡◌, ℕ, ℤ, Ok, Err, List, [], ◌∷◌, ◌++◌, length, refl, sym, ap, ◌∙◌, subst, IfOk}
+use Rattle.std.proofs.Common.{◌≡◌, ℕ, ℤ, Ok, Err, List, [], ◌∷◌, ◌++◌, length, refl, sym, subst, IfOk}
 use Rattle.std.specs.declared.result.Result.{Result}
+use Rattle.std.proofs.lemmas.List.{take_at, drop_at}
 use Rattle.river_base.specs.declared.memory.NoMemory.{NoMemory}
 use Rattle.river_base.specs.declared.kind.QueueType.{QueueType}
 use Rattle.river_base.specs.declared.kind.QueueType.TheVariants.{Flat as FlatOf}
-use Rattle.work_code.specs.Term.{term, terms}
-use Rattle.work_code.specs.declared.expr.Expr.{Expr}
-use Rattle.work_code.specs.declared.expr.Exprs.{Exprs}
 use Rattle.kern_bags.specs.Kept.{window_start}
 use Rattle.kern_bags.specs.Following.{cross_start}
 use Rattle.kern_bags.specs.declared.kernel.Window.{Window}
 use Rattle.kern_bags.specs.declared.kernel.Streamer.{Streamer}
 use Rattle.kern_rows.specs.Joined.{join_start}
 use Rattle.kern_rows.specs.Dealing.{dealt_start}
-use Rattle.kern_rows.specs.declared.kernel.CodeKernel.{CodeKernel}
-use Rattle.kern_rows.specs.Forms.{FilterForm, code_form}
+use Rattle.kern_rows.specs.Forms.{FilterForm}
 use Rattle.kern_rows.specs.Needs.{CanFilter, HaveShares}
 use Rattle.kern_rows.specs.Turns.{shares}
-use Rattle.river_kernels.specs.declared.kernel.Kernel.{fold-roll-Kernel}
 use Rattle.river_kernels.specs.declared.kernel.Kernel.TheVariants as kernel
 use Rattle.river_kernels.specs.declared.kernel.Kernel.TheOpen as layer
-use Rattle.river_kernels.specs.Kern.{Kern, kern_of, kern_at, code, filter, deal, collect, packed, unpack, window, select, project, cross, streamer, fused}
+use Rattle.river_kernels.specs.Kern.{Kern, code, filter, deal, collect, packed, unpack, window, cross, streamer, fused}
 use Rattle.brooklet_model.specs.Fire.{first_kept, first_slots, privates}
 use Rattle.brooklet_model.specs.Shapes.{IsFormed}
 use Rattle.brooklet_model.specs.Typed.{between}
 use Rattle.brooklet_model.proofs.Ports.{formed_shaped}
-use Rattle.brooklet_model.proofs.Lists.{take_front, drop_front}
 use Rattle.brooklet_model.proofs.Shapes.{shape_length}
 use Rattle.brooklet_model.proofs.Typing.{between_is}
 use Rattle.river_kernels.specs.declared.types.VarKind.{VarKind}
@@ -154,8 +149,8 @@ fused_first a b at st st' f h g = record {
       let inner = between at (types_of a reads) in
       let many = fit_length a f.reads st (h.again f.reads f.fits.0 f.fits.3 f.fits.5) in
       let own = shape_length a (first_kept a) (h.start reads).shape in
-      let mine = take_front (first_kept a) (first_kept b) (privates a) own in
-      let rest = drop_front (first_kept a) (first_kept b) (privates a) own in
+      let mine = take_at (first_kept a) (first_kept b) (privates a) own in
+      let rest = drop_at (first_kept a) (first_kept b) (privates a) own in
       parts_after a b at reads (first_kept a ++ first_kept b) st st' [] many
       (subst (λ ss. StandsAfter a reads ss st []) (sym mine) (h.after reads))
       (subst (λ ss. StandsAfter b inner ss st' []) (sym rest) (g.after inner));
@@ -166,39 +161,3 @@ fused_first a b at st st' f h g = record {
 }
 
 -- THE PLAIN FORM OF EACH KERNEL
-
--- a body as plain data
-pub kern_of-code : (k : CodeKernel) → kern_of (kernel.Code k) ≡ code (code_form k)
-kern_of-code k = ap kern_of (sym (kernel.rolls-Code k)) ∙ fold-roll-Kernel Kern kern_at (layer.Code k)
-
--- a splitter as plain data
-pub kern_of-deal : (ws : List ℤ) → kern_of (kernel.Deal ws) ≡ deal ws
-kern_of-deal ws = ap kern_of (sym (kernel.rolls-Deal ws)) ∙ fold-roll-Kernel Kern kern_at (layer.Deal ws)
-
--- a joiner as plain data
-pub kern_of-collect : (ws : List ℤ) → kern_of (kernel.Collect ws) ≡ collect ws
-kern_of-collect ws = ap kern_of (sym (kernel.rolls-Collect ws)) ∙ fold-roll-Kernel Kern kern_at (layer.Collect ws)
-
--- a window as plain data
-pub kern_of-window : (w : Window) → kern_of (kernel.Window w) ≡ window w
-kern_of-window w = ap kern_of (sym (kernel.rolls-Window w)) ∙ fold-roll-Kernel Kern kern_at (layer.Window w)
-
--- a selection as plain data
-pub kern_of-select : (e : Expr) → kern_of (kernel.Select e) ≡ select (term e)
-kern_of-select e = ap kern_of (sym (kernel.rolls-Select e)) ∙ fold-roll-Kernel Kern kern_at (layer.Select e)
-
--- a projection as plain data
-pub kern_of-project : (es : Exprs) → kern_of (kernel.Project es) ≡ project (terms es)
-kern_of-project es = ap kern_of (sym (kernel.rolls-Project es)) ∙ fold-roll-Kernel Kern kern_at (layer.Project es)
-
--- a product as plain data
-pub kern_of-cross : kern_of kernel.Cross ≡ cross
-kern_of-cross = ap kern_of (sym kernel.rolls-Cross) ∙ fold-roll-Kernel Kern kern_at layer.Cross
-
--- a streamer as plain data
-pub kern_of-streamer : (s : Streamer) → kern_of (kernel.Streamer s) ≡ streamer s
-kern_of-streamer s = ap kern_of (sym (kernel.rolls-Streamer s)) ∙ fold-roll-Kernel Kern kern_at (layer.Streamer s)
-
--- a joiner of packs as plain data
-pub kern_of-unpack : (n : ℕ) → kern_of (kernel.Unpack n) ≡ unpack n
-kern_of-unpack n = ap kern_of (sym (kernel.rolls-Unpack n)) ∙ fold-roll-Kernel Kern kern_at (layer.Unpack n)

@@ -5,15 +5,15 @@ use Rattle.std.specs.Prelude.{if◌then◌else◌, All, min, slice_get, slice_se
 use Rattle.std.proofs.lemmas.Bool.{cases_eq}
 use Rattle.std.proofs.lemmas.List.{append-nil, drop-append-le, length-take, length-map, length-set}
 use Rattle.std.proofs.lemmas.List.Elements.{All-head, All-tail, All-append}
-use Rattle.std.proofs.lemmas.Option.{slice_get_within}
+use Rattle.std.proofs.lemmas.Option.{slice_get_within, same_Some}
+use Rattle.river_base.proofs.Lists.{got_map, got_drop, dropped_one, got_all}
 use Rattle.river_base.specs.declared.item.Item as item
 use Rattle.river_base.specs.declared.kind.QueueType.{QueueType}
 use Rattle.river_base.specs.Held.{held, HasType, IsHeld}
 use Rattle.river_base.proofs.HeldLemmas.{held-nil, held-append, length-held}
 use Rattle.river_base.specs.Name.{name_eq}
 use Rattle.river_base.specs.Places.{list_at, each_grew}
-use Rattle.river_base.proofs.PlaceLemmas.{length-each_grew, get_or-each_grew, each_grew-blanks}
-use Rattle.river_base.proofs.Options.{some_is}
+use Rattle.river_base.proofs.PlaceLemmas.{length-each_grew, get_or-each_grew, each_grew-blanks, if_true, if_false, if_eq, if_ne}
 use Rattle.kern_tables.specs.declared.kept.Kept.{Kept}
 use Rattle.river_plan.specs.Forms.{Name, OpForm, PlanForm, decl_names, table_names, queue_names}
 use Rattle.river_plan.specs.Kinds.{var_kind}
@@ -28,11 +28,10 @@ use Rattle.brooklet_model.specs.Laws.{given_to}
 use Rattle.brooklet_model.specs.Machine.{Machine, Step, Run, start, fired, at_key, at_name, times}
 use Rattle.brooklet_model.specs.Typed.{IsTyped, IsOf, AreOf, IsWordOf}
 use Rattle.brooklet_model.specs.Words.{Word, at_port}
-use Rattle.brooklet_model.proofs.Lists.{if_true, if_false, if_eq, if_ne}
 use Rattle.brooklet_model.proofs.Complete.{traced_fired, nothing_given}
 use Rattle.brooklet_model.proofs.Ports.{shaped, counts}
 use Rattle.brooklet_model.proofs.Traces.{at_most, got_count, joined_out, at_key_same, at_key_other, at_same}
-use Rattle.brooklet_model.proofs.TypedPlan.{at_append, op_fits, kind_got, got_all, joined_all}
+use Rattle.brooklet_model.proofs.TypedPlan.{at_append, op_fits, joined_all}
 use Rattle.brooklet_step.specs.declared.emit.Emit.{Emit}
 use Rattle.brooklet_step.specs.declared.parts.Parts.{Parts}
 use Rattle.brooklet_step.specs.declared.state.State.{State}
@@ -80,7 +79,7 @@ write_declared p v o op g q lt =
 pub item_held : (m : Parts) (o port : ℕ) (q : Name) (i : item.Item) (rest : List item.Item) → (g : GoesOn m) → (r : ReadsAt m.plan o port q)
     → queue_of m q ≡ i ∷ rest → IsHeldOf (map (kinds_of m) r.op.reads) port i
 item_held m o port q i rest g r hx =
-    subst (λ t. IsHeldBy t i) (sym (kind_got (kinds_of m) r.op.reads port q r.queue_is))
+    subst (λ t. IsHeldBy t i) (sym (got_map (kinds_of m) r.op.reads port q r.queue_is))
     (All-head (IsHeld (kinds_of m q)) i rest (subst (All (IsHeld (kinds_of m q))) hx (g.items q (read_declared m.plan g.valid o port q r))))
 
 -- a firing can be made
@@ -137,21 +136,7 @@ found t h hs n i e g =
     let all : hs ≡ a ++ b.0 ∷ c = e ∙ ap (held t []) s.2 ∙ held-append t [] (take n h) (x ∷ s.1)
     ∙ ap (λ l. a ++ l) (held-append t (take n h) (x ∷ []) s.1 ∙ ap (λ l. l ++ c) b.1) in
     let is : Some i ≡ Some b.0 = sym g ∙ ap (λ l. slice_get l n) all ∙ got_at a b.0 c n la in
-    record { item = x; item_is = s.3; held_is = b.1 ∙ ap (λ y. y ∷ []) (sym (some_is i b.0 is)) }
-
--- the front of what is left of a list
-got_drop : (xs : List item.Item) (n : ℕ) (i : item.Item) (rest : List item.Item) → drop n xs ≡ i ∷ rest → slice_get xs n ≡ Some i
-got_drop [] zero i rest e = absurd (cc e)
-got_drop [] (suc n) i rest e = absurd (cc e)
-got_drop (x ∷ xs) zero i rest e = let h : x ≡ i = cc in ap Some h
-got_drop (x ∷ xs) (suc n) i rest e = got_drop xs n i rest e
-
--- and what is left without it
-drop_next : (xs : List item.Item) (n : ℕ) (i : item.Item) (rest : List item.Item) → drop n xs ≡ i ∷ rest → drop (n + 1) xs ≡ rest
-drop_next [] zero i rest e = absurd (cc e)
-drop_next [] (suc n) i rest e = absurd (cc e)
-drop_next (x ∷ xs) zero i rest e = cc
-drop_next (x ∷ xs) (suc n) i rest e = let h : suc n + 1 ≡ suc (n + 1) = omega arith in ap (λ k. drop k (x ∷ xs)) h ∙ drop_next xs n i rest e
+    record { item = x; item_is = s.3; held_is = b.1 ∙ ap (λ y. y ∷ []) (sym (same_Some i b.0 is)) }
 
 -- what queues hold for what an operator gives at the ports that write them
 joined_held : (kind : Name → QueueType) (ws : List Name) (F f : ℕ → List item.Item) (h : Name → List item.Item) (n : Name) → count n ws ≤ 1 → Lists ws F h
@@ -272,7 +257,7 @@ module _ (m : Parts) (o port : ℕ) (q : Name) (i : item.Item) (rest : List item
   left_next s h n lt = ⊎_elim
       (λ c.
       let d : drop (s.taken q + 1) (held (kinds q) [] (s.hist q)) ≡ rest =
-      drop_next (held (kinds q) [] (s.hist q)) (s.taken q) i rest (sym (h.left q q_there) ∙ hx) in
+      dropped_one (held (kinds q) [] (s.hist q)) (s.taken q) i rest (sym (h.left q q_there) ∙ hx) in
       ap (λ (w : Name). list_at base (place names w)) (sym c.0) ∙ base_here ∙ sym d
       ∙ ap (λ (w : Name). drop (s.taken q + 1) (held (kinds w) [] (s.hist w))) c.0
       ∙ ap (λ k. drop k (held (kinds n) [] (s.hist n))) (sym (if_true (name_eq q n) (s.taken q + 1) (s.taken n) c.1)))
@@ -343,10 +328,10 @@ module _ (m : Parts) (o port : ℕ) (q : Name) (i : item.Item) (rest : List item
       let before = ran_from r.op.kernel first w in
       let typed_w = h.received o r.op r.op_is in
       let typed_x : IsOf reads port x =
-      subst (λ t. IsTyped t x) (sym (kind_got kinds r.op.reads port q r.queue_is))
+      subst (λ t. IsTyped t x) (sym (got_map kinds r.op.reads port q r.queue_is))
       (got_all (HasType (kinds q)) (s.hist q) (s.taken q) x (h.typed q) it.item_is) in
       let held_x : held_at reads port (at_port port w) (x ∷ []) ≡ i ∷ [] =
-      ap (λ t. held_by t (at_port port w) (x ∷ [])) (kind_got kinds r.op.reads port q r.queue_is)
+      ap (λ t. held_by t (at_port port w) (x ∷ [])) (got_map kinds r.op.reads port q r.queue_is)
       ∙ ap (λ l. held (kinds q) l (x ∷ [])) (h.traced.taken o r.op r.op_is port q r.queue_is).0 ∙ it.held_is in
       let gave = does.gives.given first w x is_start typed_w typed_x (h.kept o r.op r.op_is) held_x in
       let kept_is : before.states ≡ s.kept o = sym (h.traced.kept o r.op r.op_is) in

@@ -3,20 +3,15 @@ use Rattle.std.proofs.Common.{◌≡◌, ℕ, ◌<◌, List, [], ◌∷◌, leng
 use Rattle.river_base.specs.declared.item.Item as item
 use Rattle.river_base.specs.Places.{each_grew, only}
 use Rattle.river_base.proofs.PlaceLemmas.{each_grew-none}
-use Rattle.river_kernels.specs.declared.kernel.Kernel.{fold-roll-Kernel}
 use Rattle.river_kernels.specs.declared.kernel.Kernel.TheVariants as kernel
 use Rattle.river_kernels.specs.declared.kernel.Kernel.TheOpen as layer
-use Rattle.river_kernels.specs.Kern.{Kern, kern_of, kern_at, tally}
+use Rattle.river_kernels.specs.Kern.{Kern, tally}
 use Rattle.brooklet_model.specs.Fire.{fire, values_of, tabs}
 use Rattle.brooklet_step.specs.declared.emit.Emit.{Emit}
 use Rattle.brooklet_step.specs.declared.state.State.{State}
 use Rattle.brooklet_step.specs.Took.{HasLists}
 use Rattle.brooklet_step.specs.Stands.{IsRow, Fires, Takes}
 use Rattle.brooklet_step.proofs.Leaves.{row_is}
-
--- a tally as plain data
-pub kern_of-tally : kern_of kernel.Tally ≡ tally
-kern_of-tally = ap kern_of (sym kernel.rolls-Tally) ∙ fold-roll-Kernel Kern kern_at layer.Tally
 
 -- it takes rows alone
 pub tally_row : (k : Kern) (port : ℕ) (x : item.Item) (st : List State) → k ≡ tally → Takes k port x st → IsRow x

@@ -1,6 +1,8 @@
 -- Firings of windows: a batch comes, and the change of the content is given.
 use Rattle.std.proofs.Common.{◌≡◌, ℕ, zero, suc, ℤ, pos, ◌-◌, drop, List, [], ◌∷◌, ◌++◌, length, map, refl, sym, ap, ◌∙◌, subst}
 use Rattle.std.proofs.lemmas.List.Elements.{All-nil}
+use Rattle.kern_bags.proofs.KeptWindows.{still_none}
+use Rattle.river_base.proofs.Lists.{alone_same}
 use Rattle.river_base.specs.declared.item.Batch.{Batch}
 use Rattle.river_base.specs.declared.item.Change.{Change}
 use Rattle.river_base.specs.declared.item.Item as item
@@ -12,7 +14,7 @@ use Rattle.river_base.specs.Held.{held, content_from, batches, HaveWidth}
 use Rattle.river_base.specs.Row.{in_order}
 use Rattle.river_base.proofs.HeldLemmas.{held-plain, held-relation, content-append}
 use Rattle.kern_bags.specs.Contents.{content_of}
-use Rattle.kern_bags.specs.Kept.{Stamped, WindowKept, StandsForWindow, window_start, still_in}
+use Rattle.kern_bags.specs.Kept.{Stamped, WindowKept, StandsForWindow, window_start}
 use Rattle.kern_bags.specs.Steps.{window_one}
 use Rattle.kern_bags.specs.declared.kernel.Window.{Window}
 use Rattle.kern_bags.specs.declared.kernel.Window.TheVariants.{Now, Range, Unbounded, Latest}
@@ -29,7 +31,7 @@ use Rattle.brooklet_step.specs.declared.state.State.TheVariants as state
 use Rattle.brooklet_step.specs.Took.{Took}
 use Rattle.brooklet_step.specs.Given.{IsHeldOf, FitWindow, FitState, ran_from, WindowStands, StandsAfter, TookHeld, GivesAsDefined, FiresAt}
 use Rattle.brooklet_step.proofs.GivenLemmas.{ran_more}
-use Rattle.brooklet_step.proofs.OnePort.{held_batch, change_held, same_item, same_stream, took_first, came_first, one_held, does_at}
+use Rattle.brooklet_step.proofs.OnePort.{held_batch, change_held, same_stream, took_first, came_first, one_held, does_at}
 
 -- equal states of windows keep the same
 pub same_window : (u v : WindowKept) → state.Window u ∷ [] ≡ state.Window v ∷ [] → u ≡ v
@@ -40,12 +42,6 @@ same_window u v h = cc
 drop_none : {A : Type 0} (n : ℕ) → drop {A = A} n [] ≡ []
 drop_none zero = refl
 drop_none (suc n) = refl
-
-still_none : (v : Window) (t : ℤ) → still_in v t [] ≡ []
-still_none Now t = refl
-still_none (Range span) t = refl
-still_none Unbounded t = refl
-still_none (Latest n) t = drop_none (0 - n)
 
 content_none : (v : Window) → content_of v [] ≡ []
 content_none Now = refl
@@ -108,7 +104,7 @@ module _ (v : Window) (n : ℕ) (b : Batch) (c : Change) (now now' : WindowKept)
       → GivesAsDefined (window v) (stream n ∷ []) (relation n ∷ []) 0 (Flat (Batched b)) out out' (state.Window now ∷ []) (state.Window now' ∷ [])
   window_gives f took = record {
     given = λ start w x is_start tw tx a h.
-        let e : x ≡ Flat (Batched b) = same_item x (Flat (Batched b)) (sym (held-plain (stream n) (at_port 0 w) (x ∷ []) tt) ∙ h) in
+        let e : x ≡ Flat (Batched b) = alone_same x (Flat (Batched b)) (sym (held-plain (stream n) (at_port 0 w) (x ∷ []) tt) ∙ h) in
         subst (λ y. GivesFor start w y) (sym e) (window_step f took start w a);
   }
 

@@ -1,8 +1,9 @@
 -- Several classes that a seat holds: what a put and a take make of them.
 use Rattle.std.proofs.Common.{◌≡◌, ℕ, ◌<◌, ◌≤◌, Bool, cond, not, Some, List, [], ◌∷◌, ◌++◌, length, drop, reverse, sym, refl, ap, ◌∙◌, subst, append_assoc, eq-eqb, ne_eqb, inl, inr, arith}
 use Rattle.std.specs.Prelude.{slice_get}
-use Rattle.std.proofs.lemmas.List.{reverse-append, append-nil, map-append, drop_all}
+use Rattle.std.proofs.lemmas.List.{append-nil, map-append, drop_all}
 use Rattle.std.proofs.lemmas.List.Elements.{All-nil, All-cons, All-append}
+use Rattle.river_base.proofs.Lists.{reverse-push, got_last}
 use lib.ListN.{get_elem?}
 use Rattle.class_locks.specs.declared.log.LogEntry.{LogEntry}
 use Rattle.class_locks.specs.declared.view.View.{View}
@@ -68,18 +69,15 @@ puts_held v items c x (h ∷ hs) e m b =
           ∙ append_assoc v.claims (claims_of c (drop (length h.taken.log) x.log)) (gained (reverse items) hs));
     }
 
-turned : (items : List Piled) (p : Piled) → reverse (items ++ p ∷ []) ≡ p ∷ reverse items
-turned items p = reverse-append items (p ∷ [])
-
 -- the last cell of a pile may be put
 pub puts : (v : View) (items all : List Piled) (c : ℕ) (x : Holding) → all ≡ items ++ (c, x) ∷ [] → IsPile v all → Puts v items c x v.held
 puts v items all c x e p =
-    puts_held v items c x v.held refl (subst (λ (l : List Piled). Matches v.seats v.parts l v.held) (ap reverse e ∙ turned items (c, x)) p.matches) p.descend
+    puts_held v items c x v.held refl (subst (λ (l : List Piled). Matches v.seats v.parts l v.held) (ap reverse e ∙ reverse-push items (c, x)) p.matches) p.descend
 
 -- what a pile gained, the last cell first
 pub gained_turned : (items all : List Piled) (c : ℕ) (x : Holding) (hs : List Held) → all ≡ items ++ (c, x) ∷ []
     → gained (reverse all) hs ≡ gained ((c, x) ∷ reverse items) hs
-gained_turned items all c x hs e = ap (λ (l : List Piled). gained l hs) (ap reverse e ∙ turned items (c, x))
+gained_turned items all c x hs e = ap (λ (l : List Piled). gained l hs) (ap reverse e ∙ reverse-push items (c, x))
 
 -- an empty pile holds nothing
 pub rests_held : (v : View) (held : List Held) → v.held ≡ held → Matches v.seats v.parts (reverse []) held → v.held ≡ []
@@ -130,12 +128,12 @@ module _ (v w : View) (done : List ℕ) (items : List Piled) (t : HasTaken done 
       (subst (λ (ps : List Piled). HasTaken (done ++ c ∷ []) v (with_class c x w) ps) (sym a) (record {
         looked = record { seats = t.looked.seats; starts = t.looked.starts; parts = t.looked.parts; claims = t.looked.claims };
         pile = record {
-          matches = subst (λ (l : List Piled). Matches w.seats w.parts l (with_class c x w).held) (sym (turned items (c, x)))
+          matches = subst (λ (l : List Piled). Matches w.seats w.parts l (with_class c x w).held) (sym (reverse-push items (c, x)))
               (refl, record { more = []; kinds = refl; log = sym (append-nil x.log); belong = tt }, t.pile.matches);
           descend = (there, below);
         };
         named = map-append (λ (p : Piled). p.0) items ((c, x) ∷ []) ∙ ap (λ (l : List ℕ). l ++ c ∷ []) t.named;
-        as_taken = ap (λ (l : List Piled). gained l (with_class c x w).held) (turned items (c, x))
+        as_taken = ap (λ (l : List Piled). gained l (with_class c x w).held) (reverse-push items (c, x))
             ∙ (ap (λ (l : List LogEntry). claims_of c l ++ gained (reverse items) w.held) (drop_all (length x.log) x.log (omega arith)) ∙ t.as_taken);
         logged = All-append (λ p. IsLogged v p.0 p.1) items ((c, x) ∷ []) t.logged
             (All-cons (λ p. IsLogged v p.0 p.1) (c, x) [] (logged_before v w c x t.looked l) (All-nil (λ p. IsLogged v p.0 p.1)));
@@ -180,10 +178,6 @@ busy_takes v u w z c m e p = p ∙ one_tried v u w (record { class = c; found = 
 pub busy_tried : (v u w z : View) (c : ℕ) → HasMoreTries v u → w ≡ tried c 1 u → z.takes ≡ w.takes → HasMoreTries v z
 busy_tried v u w z c m e p = record { more = m.more ++ record { class = c; found = 1 } ∷ []; takes = busy_takes v u w z c m e p }
 
-last_tried : (ts : List Tried) (t : Tried) → slice_get (ts ++ t ∷ []) (length ts) ≡ Some t
-last_tried [] t = refl
-last_tried (s ∷ ts) t = last_tried ts t
-
 -- tells that it was taken
 pub busy_found : (classes : List ℕ) (i : ℕ) (v u w z : View) (c : ℕ) → slice_get classes i ≡ Some c → HasMoreTries v u → w ≡ tried c 1 u → z.takes ≡ w.takes
     → FoundTaken classes v z
@@ -194,5 +188,5 @@ busy_found classes i v u w z c g m e p = record {
   place = i;
   wanted = g;
   at = length m.more;
-  found = last_tried m.more (record { class = c; found = 1 });
+  found = got_last m.more (record { class = c; found = 1 });
 }

@@ -2,12 +2,12 @@
 use Rattle.std.proofs.Common.{◌≡◌, ℕ, ◌+◌, ◌<◌, Bool, true, false, Option, Some, None, List, length, drop, get_or, refl, sym, ap, ◌∙◌}
 use Rattle.std.proofs.Common.{arith}
 use Rattle.std.specs.Prelude.{if◌then◌else◌, IfSome}
+use Rattle.river_base.proofs.Lists.{drop_next}
 use Rattle.river_base.specs.Name.{name_eq}
 use Rattle.river_plan.specs.Forms.{Name}
 use Rattle.cql_model.specs.Translation.{plus, or_place, place_among, field_place, item_place, widths_of}
 use Rattle.cql_build.specs.Views.{scope}
 use Rattle.cql_build.specs.declared.item.Item.{Item}
-use Rattle.cql_build.proofs.Lists.{drop_next}
 
 plus_twice : (a b : ℕ) (o : Option ℕ) → plus a (plus b o) ≡ plus (a + b) o
 plus_twice a b None = refl

@@ -5,6 +5,8 @@ use Rattle.std.specs.Prelude.{IsTrue, IfErr, if◌then◌else◌}
 use Rattle.std.specs.List.{AllByRecursion}
 use Rattle.std.specs.Option.{is_some}
 use Rattle.std.proofs.lemmas.List.Elements.{All-head}
+use Rattle.std.proofs.lemmas.List.{drop_all}
+use Rattle.river_base.proofs.Lists.{drop_next}
 use Rattle.river_kernels.specs.Formed.{is_width}
 use Rattle.river_kernels.specs.declared.limit.Limit.TheVariants.{Operators}
 use Rattle.river_plan.specs.Forms.{Name, PlanForm, plan_form, op_forms, empty_form}
@@ -32,7 +34,6 @@ use Rattle.cql_build.specs.Grown.{Grew}
 use Rattle.cql_build.specs.Planned.{IsWhyRefused, IsLimited, limit_of, refused_of, unit_inputs, unit_copies, unit_copying, IsShortRegistered, IsNarrow}
 use Rattle.cql_text.specs.Tree.{part_of, parts_of}
 use Rattle.cql_build.proofs.Growing.{Left, left_start, left_next, left_is, left_end}
-use Rattle.cql_build.proofs.Lists.{drop_next, drop_all}
 
 -- WHAT THE CHECK SAYS
 
@@ -174,7 +175,7 @@ copying_next old now next all parts i p c lt e g =
 pub copying_end : (old now : RawPlan) (all : List Name) (parts : List Part) (i : ℕ) → Copying old now all parts i → length parts ≤ i
     → Grew old now [] (input_copies all (parts_of parts)) (input_ops all (parts_of parts))
 copying_end old now all parts i c le =
-    let d = drop_all parts i le in
+    let d = drop_all i parts le in
     left_end old now _ _ _
     (left_is old now _ _ [] _ _ [] _ _ [] c.left refl (ap (λ l. input_copies all (parts_of l)) d) (ap (λ l. input_ops all (parts_of l)) d))
 

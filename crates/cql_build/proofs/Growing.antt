@@ -3,6 +3,8 @@ use Rattle.std.proofs.Common.{◌≡◌, ℕ, zero, suc, ◌-◌, ◌+◌, ◌<�
 use Rattle.std.proofs.Common.{arith, append_assoc, append-nil, ◌^◌}
 use Rattle.std.specs.Prelude.{codes, OnOk}
 use Rattle.std.specs.List.{AllByRecursion}
+use Rattle.std.proofs.lemmas.List.{drop_all}
+use Rattle.river_base.proofs.Lists.{drop_next}
 use Rattle.cql_text.specs.declared.tree.Kind.{Kind}
 use Rattle.cql_model.specs.KernelWords.{streamer_of, kernel_window}
 use Rattle.river_base.specs.declared.kind.QueueType.{QueueType}
@@ -23,7 +25,7 @@ use Rattle.cql_build.specs.declared.uses.Uses.{Uses}
 use Rattle.cql_build.specs.Grown.{Grew, Used, product_decls, stream_ops}
 use Rattle.cql_text.specs.Tree.{sources_of, window_of}
 use Rattle.cql_build.specs.Views.{scope}
-use Rattle.cql_build.proofs.Lists.{drop_next, drop_all, drop_some}
+use Rattle.cql_build.proofs.Lists.{drop_some}
 
 -- what is left to be made of these lists
 pub record Left (old now : RawPlan) (outs ro qs rq : List Decl) (os rp : List OpForm) : Type 0 where
@@ -179,8 +181,8 @@ pub windows_end : (old now : RawPlan) (before after : Uses) (q : Name) (all : Li
     (window_ops q 1 (sources_of all) (queues_of_uses before.inputs before.all before.past (streams_of (sources_of all))))
     × Used before after (streams_of (sources_of all))
 windows_end old now before after q all items i w le le' =
-    let none = drop_all all i le in
-    let none' = drop_all items i le' in
+    let none = drop_all i all le in
+    let none' = drop_all i items le' in
     let l = left_is old now [] [] [] (window_decls q 1 (scope items)) _ []
     (window_ops q 1 (sources_of all) (queues_of_uses before.inputs before.all before.past (streams_of (sources_of all)))) _ [] w.left refl
     (ap (λ xs. window_decls q (i + 1) (scope xs)) none')
@@ -250,8 +252,8 @@ pub crosses_end : (old now : RawPlan) (q : Name) (all : List Source) (items : Li
     → Grew old now [] (product_decls q (scope items)) (cross_ops q (w_name q 1) 2 (drop 1 (sources_of all)))
     × (last ≡ cross_last q (w_name q 1) 2 (drop 1 (sources_of all)))
 crosses_end old now q all items last wide i c le le' =
-    let none = drop_all all i le in
-    let none' = drop_all items i le' in (
+    let none = drop_all i all le in
+    let none' = drop_all i items le' in (
       left_end old now [] (product_decls q (scope items)) (cross_ops q (w_name q 1) 2 (drop 1 (sources_of all)))
           (left_is old now [] [] [] (product_decls q (scope items)) _ [] (cross_ops q (w_name q 1) 2 (drop 1 (sources_of all))) _ [] c.left refl
           (ap (λ l. cross_decls q wide (i + 1) (scope l)) none') (ap (λ l. cross_ops q last (i + 1) (sources_of l)) none)),

@@ -5,6 +5,7 @@ use Rattle.std.specs.Prelude.{nat_lt, nat_eq, if◌then◌else◌}
 use Rattle.std.specs.Borrow.{Bor}
 use Rattle.std.specs.Option.{option_copied}
 use Rattle.std.proofs.lemmas.List.{map-append}
+use Rattle.river_base.proofs.Lists.{take_next, drop_next}
 use Rattle.river_base.specs.Name.{name_eq}
 use Rattle.river_plan.specs.Forms.{Name}
 use Rattle.river_plan.specs.Names.{one_if, count}
@@ -20,7 +21,6 @@ use Rattle.cql_build.specs.Knowing.{IsFound}
 use Rattle.cql_text.specs.Tree.{source_of, sources_of}
 use Rattle.cql_build.specs.Views.{named_item, scope}
 use Rattle.cql_build.specs.declared.item.Item.{Item}
-use Rattle.cql_build.proofs.Lists.{take_next, drop_next}
 
 -- NAMES OF ITEMS
 
@@ -193,7 +193,7 @@ at_item : (ks : List Named) (all : List Source) (i wide : ℕ) (x : Source) → 
     (items_fault ks (scope_of ks (sources_of (take i all)) ++ item_named ks (source_of x) ∷ []) (sources_of (drop (i + 1) all)))
 at_item ks all i wide x s lt e = s.whole ∙ ap (λ l. items_fault ks (scope_of ks (sources_of (take i all))) (sources_of l)) (drop_next all i x lt e)
 
-sources-append : (xs : List Source) (x : Source) → sources_of (xs ++ x ∷ []) ≡ sources_of xs ++ source_of x ∷ []
+pub sources-append : (xs : List Source) (x : Source) → sources_of (xs ++ x ∷ []) ≡ sources_of xs ++ source_of x ∷ []
 sources-append [] x = refl
 sources-append (y ∷ ys) x = ap (λ l. source_of y ∷ l) (sources-append ys x)
 

@@ -6,5 +6,4 @@ pub mod MadeNames
 pub mod FieldPlaces
 pub mod Units
 pub mod Filled
-pub mod Kernels
 pub mod Noting

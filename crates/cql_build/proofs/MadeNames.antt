@@ -8,6 +8,7 @@ use Rattle.std.proofs.lemmas.List.Folds.{list_all-append}
 use Rattle.std.proofs.lemmas.Nat.{mod_below}
 use Rattle.std.proofs.lemmas.Bool.{and_from, and_parts, true≢false}
 use Rattle.std.proofs.lemmas.Bool.Decides.{nat_tests}
+use Rattle.river_base.proofs.Tests.{le_true}
 use Rattle.river_base.specs.Name.{is_letter, is_digit, is_word, is_name}
 use Rattle.river_plan.specs.Forms.{Name}
 use Rattle.cql_model.specs.Numeral.{numeral}
@@ -16,9 +17,6 @@ use Rattle.cql_model.proofs.Numerals.{numeral_decimal}
 use Rattle.cql_build.specs.Marks.{word, name_marked, IsLowMark}
 use Rattle.cql_build.specs.declared.names.Mark.{Mark}
 use Rattle.cql_build.specs.declared.names.Mark.TheVariants.{Window, Cross, Copy, Select, Project, Stream, Output, Copies}
-
-le_true : (a b : ℕ) → a ≤ b → nat_le a b ≡ true
-le_true a b h = grind arith
 
 one_digit : (c : ℕ) → 48 ≤ c → c ≤ 57 → is_word c ≡ true
 unfolding is_word is_letter is_digit

@@ -1,12 +1,13 @@
 -- The streams of units, noted one unit after another.
 use Rattle.std.proofs.Common.{◌≡◌, ℕ, ◌+◌, ◌<◌, ◌≤◌, List, [], ◌∷◌, ◌++◌, length, drop, get_or, sym, ap, ◌∙◌, append_assoc, append-nil}
+use Rattle.std.proofs.lemmas.List.{drop_all}
+use Rattle.river_base.proofs.Lists.{drop_next}
 use Rattle.cql_model.specs.Program.{registered, all_uses, streams_of}
 use Rattle.cql_text.specs.Tree as tree
 use Rattle.cql_text.specs.Tree.{Program, Register, AQuery, part_of, parts_of}
 use Rattle.cql_text.specs.declared.tree.Part.{Part}
 use Rattle.cql_build.specs.declared.uses.Uses.{Uses}
 use Rattle.cql_build.specs.Grown.{Notes}
-use Rattle.cql_build.proofs.Lists.{drop_next, drop_all}
 
 -- so far: the units before are noted
 pub record Noted (parts : List Part) (i : ℕ) (uses : Uses) : Type 0 where
@@ -48,7 +49,7 @@ noted_next parts i p u v s lt e n =
 
 -- all units
 pub noted_inputs : (parts : List Part) (i : ℕ) (u : Uses) → Noted parts i u → length parts ≤ i → u.inputs ≡ registered (parts_of parts)
-noted_inputs parts i u s le = sym (s.inputs ∙ ap (λ l. u.inputs ++ registered (parts_of l)) (drop_all parts i le) ∙ append-nil u.inputs)
+noted_inputs parts i u s le = sym (s.inputs ∙ ap (λ l. u.inputs ++ registered (parts_of l)) (drop_all i parts le) ∙ append-nil u.inputs)
 
 pub noted_uses : (parts : List Part) (i : ℕ) (u : Uses) → Noted parts i u → length parts ≤ i → u.all ≡ all_uses (parts_of parts)
-noted_uses parts i u s le = sym (s.all ∙ ap (λ l. u.all ++ all_uses (parts_of l)) (drop_all parts i le) ∙ append-nil u.all)
+noted_uses parts i u s le = sym (s.all ∙ ap (λ l. u.all ++ all_uses (parts_of l)) (drop_all i parts le) ∙ append-nil u.all)

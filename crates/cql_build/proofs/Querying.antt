@@ -1,7 +1,8 @@
 -- Queries that are made one after another.
 use Rattle.std.proofs.Common.{◌≡◌, ℕ, ◌+◌, ◌<◌, ◌≤◌, List, [], ◌∷◌, ◌++◌, length, drop, get_or, Option, refl, sym, ap, ◌∙◌, subst, arith}
 use Rattle.std.specs.List.{AllByRecursion}
-use Rattle.std.proofs.lemmas.List.{length-map}
+use Rattle.std.proofs.lemmas.List.{length-map, drop_all, append-nil}
+use Rattle.river_base.proofs.Lists.{drop_next}
 use Rattle.cql_text.specs.declared.tree.Kind.{Kind}
 use Rattle.river_kernels.specs.Fits.{stream}
 use Rattle.river_plan.specs.Forms.{Name}
@@ -28,7 +29,6 @@ use Rattle.cql_text.specs.Tree.{part_of, parts_of, sources_of}
 use Rattle.cql_build.specs.Views.{named_item, scope}
 use Rattle.cql_build.proofs.Growing.{Left, left_start, left_next, left_is, left_end, grew_then}
 use Rattle.cql_build.proofs.Judging.{scope_length}
-use Rattle.cql_build.proofs.Lists.{drop_next, drop_all}
 
 -- THE TAIL OF A QUERY
 
@@ -153,10 +153,7 @@ decls_one all ks (AQuery q) ps = refl
 ops_one : (inputs all past later : List Name) (ks : List Named) (p : tree.Part) (ps : Program) → later ≡ past ++ unit_uses p
     → queries_ops inputs all ks past (p ∷ ps) ≡ unit_ops inputs all ks past p ++ queries_ops inputs all (declares ks p ∷ ks) later ps
 ops_one inputs all past later ks (Register name fields) ps e =
-    ap (λ l. queries_ops inputs all (record { name = name; fields = fields } ∷ ks) l ps) (sym (e ∙ nil past)) where
-      nil : (l : List Name) → l ++ [] ≡ l
-      nil [] = refl
-      nil (x ∷ xs) = ap (λ l. x ∷ l) (nil xs)
+    ap (λ l. queries_ops inputs all (record { name = name; fields = fields } ∷ ks) l ps) (sym (e ∙ append-nil past))
 ops_one inputs all past later ks (AQuery q) ps e = ap (λ l. query_ops inputs all ks past q ++ queries_ops inputs all (query_named ks q ∷ ks) l ps) (sym e)
 
 -- one unit more is made
@@ -201,7 +198,7 @@ pub querying_end : (old now : RawPlan) (before after : Uses) (parts : List Part)
     → Grew old now (output_decls [] (parts_of parts)) (queries_decls before.all [] (parts_of parts))
     (queries_ops before.inputs before.all [] before.past (parts_of parts))
 querying_end old now before after parts i k a le =
-    let d : parts_of (drop i parts) ≡ [] = ap parts_of (drop_all parts i le) in
+    let d : parts_of (drop i parts) ≡ [] = ap parts_of (drop_all i parts le) in
     left_end old now _ _ _
     (left_is old now _ _ [] _ _ [] _ _ [] a.left (ap (output_decls a.ks) d) (ap (queries_decls before.all a.ks) d)
     (ap (queries_ops before.inputs before.all a.ks after.past) d))

@@ -1,5 +1,6 @@
 -- Units that are judged one after another.
 use Rattle.std.proofs.Common.{◌≡◌, ℕ, ◌+◌, ◌<◌, ◌≤◌, List, [], ◌∷◌, length, drop, get_or, Some, None, refl, sym, ap, ◌∙◌, arith}
+use Rattle.river_base.proofs.Lists.{drop_next}
 use Rattle.cql_model.specs.Faults.{in_unit, query_fault, first_fault}
 use Rattle.cql_text.specs.Tree as tree
 use Rattle.cql_text.specs.Tree.{Register, AQuery, Program}
@@ -12,7 +13,6 @@ use Rattle.cql_build.specs.Judged.{unit_fault, registers}
 use Rattle.cql_build.specs.Knowing.{Knows}
 use Rattle.cql_text.specs.Tree.{part_of, parts_of}
 use Rattle.cql_build.specs.declared.known.Known.{Known}
-use Rattle.cql_build.proofs.Lists.{drop_next}
 
 -- so far: the units before have no fault, and this is known behind them
 pub record Judging (parts : List Part) (i many : ℕ) (k : Known) : Type 0 where

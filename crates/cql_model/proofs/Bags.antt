@@ -5,36 +5,17 @@ use Rattle.std.specs.List.{flat_map}
 use Rattle.std.specs.List.Sorted.{IsSorted}
 use Rattle.std.proofs.lemmas.List.Elements.{All-head, All-tail}
 use Rattle.std.proofs.lemmas.List.Kept.{IsSortedBy-filter}
-use Rattle.std.proofs.lemmas.List.Sorted.{sum_by-IsPermutation}
-use Rattle.std.proofs.lemmas.List.Sums.{sum_by-cons, sum_by-append}
-use Rattle.river_base.specs.Row.{row_cmp, row_eq, in_order, copies}
-use Rattle.river_base.proofs.Counts.{permutation_from_copies}
-use Rattle.river_base.proofs.Rows.{rows_ranked, in_order_bag, in_order_ascends, in_order_sorted, in_order-IsPermutation}
+use Rattle.std.proofs.lemmas.List.Sums.{sum_by-cons}
+use Rattle.kern_changes.proofs.Leading.{sum-map, sum-filter, sum-flat_map, sum-in_order, same_order}
+use Rattle.river_base.specs.Row.{row_cmp, row_eq, in_order}
+use Rattle.river_base.proofs.Rows.{rows_ranked, in_order_ascends, in_order_sorted}
 use Rattle.kern_bags.specs.Contents.{difference, product, without}
 use Rattle.kern_changes.proofs.Copies.{sum-cong, copies-in_order, copies-without}
-
--- the sum over what a function gives
-pub sum-map : {J K : Type 0} (f : K → ℕ) (g : J → K) (xs : List J) → sum_by f (map g xs) ≡ sum_by (λ x. f (g x)) xs
-sum-map f g [] = refl
-sum-map f g (x ∷ xs) = sum_by-cons f (g x) (map g xs) ∙ ap (λ n. f (g x) + n) (sum-map f g xs) ∙ sym (sum_by-cons (λ y. f (g y)) x xs)
-
--- the sum over what passes a test
-pub sum-filter : {K : Type 0} (f : K → ℕ) (p : K → Bool) (xs : List K) → sum_by f (filter p xs) ≡ sum_by (λ x. cond (p x) (f x) 0) xs
-sum-filter f p [] = refl
-sum-filter f p (x ∷ xs) = step (p x) refl (sum-filter f p xs) ∙ sym (sum_by-cons (λ y. cond (p y) (f y) 0) x xs) where
-  nothing : (n : ℕ) → n ≡ 0 + n
-  nothing n = omega arith
 
   step : (b : Bool) → p x ≡ b → sum_by f (filter p xs) ≡ sum_by (λ y. cond (p y) (f y) 0) xs
       → sum_by f (cond b (x ∷ filter p xs) (filter p xs)) ≡ cond (p x) (f x) 0 + sum_by (λ y. cond (p y) (f y) 0) xs
   step true e h = sum_by-cons f x (filter p xs) ∙ ap (λ n. f x + n) h ∙ ap (λ b. cond b (f x) 0 + sum_by (λ y. cond (p y) (f y) 0) xs) (sym e)
   step false e h = h ∙ nothing (sum_by (λ y. cond (p y) (f y) 0) xs) ∙ ap (λ b. cond b (f x) 0 + sum_by (λ y. cond (p y) (f y) 0) xs) (sym e)
-
--- the sum over lists that are joined
-pub sum-flat_map : {J K : Type 0} (f : K → ℕ) (g : J → List K) (xs : List J) → sum_by f (flat_map g xs) ≡ sum_by (λ x. sum_by f (g x)) xs
-sum-flat_map f g [] = refl
-sum-flat_map f g (x ∷ xs) =
-    sum_by-append f (g x) (flat_map g xs) ∙ ap (λ n. sum_by f (g x) + n) (sum-flat_map f g xs) ∙ sym (sum_by-cons (λ y. sum_by f (g y)) x xs)
 
 -- the same sums over the elements that are there
 pub sum-on : {K : Type 0} (P : K → Type 0) (f g : K → ℕ) (xs : List K) → All P xs → ((x : K) → P x → f x ≡ g x) → sum_by f xs ≡ sum_by g xs
@@ -46,16 +27,9 @@ sum-on P f g (x ∷ xs) a h =
 
 -- ROWS
 
-pub sum-in_order : (f : List ℤ → ℕ) (xs : List (List ℤ)) → sum_by f (in_order xs) ≡ sum_by f xs
-sum-in_order f xs = sum_by-IsPermutation f xs (in_order xs) (in_order_bag xs)
-
--- one bag, one order
-pub same_counts : (xs ys : List (List ℤ)) → ((row : List ℤ) → copies row xs ≡ copies row ys) → in_order xs ≡ in_order ys
-same_counts xs ys h = in_order-IsPermutation xs ys (permutation_from_copies xs ys h)
-
 -- bags over which all sums agree are the same in order
 pub same_bag : (xs ys : List (List ℤ)) → ((f : List ℤ → ℕ) → sum_by f xs ≡ sum_by f ys) → in_order xs ≡ in_order ys
-same_bag xs ys h = same_counts xs ys (λ row. h (λ y. cond (row_eq row y) 1 0))
+same_bag xs ys h = same_order xs ys (λ row. h (λ y. cond (row_eq row y) 1 0))
 
 order_is : (xs ys : List (List ℤ)) → IsSorted row_cmp xs → ((f : List ℤ → ℕ) → sum_by f xs ≡ sum_by f ys) → xs ≡ in_order ys
 order_is xs ys a h = sym (in_order_sorted xs a) ∙ same_bag xs ys h
@@ -89,7 +63,7 @@ product_is xs ys = same_bag (pairs (in_order xs) (in_order ys)) (pairs xs ys) (�
 
 -- the difference of two contents in order
 pub difference_is : (xs ys : List (List ℤ)) → difference (in_order xs) (in_order ys) ≡ in_order (without xs ys)
-difference_is xs ys = same_counts (without (in_order xs) (in_order ys)) (without xs ys) (λ row.
+difference_is xs ys = same_order (without (in_order xs) (in_order ys)) (without xs ys) (λ row.
     let a = copies-in_order row xs in
     let b = copies-in_order row ys in
     let c = copies-without row (in_order xs) (in_order ys) in

@@ -5,6 +5,7 @@ use Rattle.std.specs.Prelude.{All, sum_by}
 use Rattle.std.proofs.lemmas.List.{append-nil}
 use Rattle.std.proofs.lemmas.List.Concat.{flat_map-append}
 use Rattle.std.proofs.lemmas.List.Elements.{All-head, All-tail, All-cons, All-nil, All-append}
+use Rattle.kern_changes.proofs.Leading.{sum-map, sum-filter, sum-flat_map}
 use Rattle.river_base.specs.Held.{HaveWidth}
 use Rattle.river_base.specs.Row.{in_order}
 use Rattle.work_code.specs.Value.{val, is_true}
@@ -14,7 +15,7 @@ use Rattle.cql_text.specs.Tree.{Scalar, Column, Chosen}
 use Rattle.cql_model.specs.Scopes.{Named}
 use Rattle.cql_model.specs.Meaning.{Tuple, eval, with_each, product_of, where_true, all_values, selected_row}
 use Rattle.cql_model.specs.Translation.{resolved, terms_of}
-use Rattle.cql_model.proofs.Bags.{sum-map, sum-filter, sum-flat_map, sum-on, same_bag, filter-in_order, in_order-map, pairs, sum-pairs, product_is}
+use Rattle.cql_model.proofs.Bags.{sum-on, same_bag, filter-in_order, in_order-map, pairs, sum-pairs, product_is}
 use Rattle.cql_model.proofs.Values.{Fits, resolved_is, columns_are}
 
 -- the rows of tuples

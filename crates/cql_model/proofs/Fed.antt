@@ -2,6 +2,7 @@
 use Rattle.std.proofs.Common.{◌≡◌, ℕ, zero, suc, ℤ, ◌+◌, ◌<◌, None, List, [], ◌∷◌, ◌++◌, refl, sym, ap, ◌∙◌, arith, subst, length, append_assoc}
 use Rattle.std.specs.Prelude.{int_lt, filter}
 use Rattle.std.proofs.lemmas.List.{append-nil}
+use Rattle.river_base.proofs.PlaceLemmas.{if_lt}
 use Rattle.river_base.specs.Instants.{Timed, item_at, spread}
 use Rattle.river_base.specs.declared.item.Item as item
 use Rattle.river_base.specs.Held.{batches}
@@ -17,7 +18,6 @@ use Rattle.river_kernels.specs.Kern.{select, project, streamer, cross, duplicate
 use Rattle.brooklet_model.specs.Firings.{Kept, Crossing, Fired, feed}
 use Rattle.brooklet_model.specs.Fire.{fire, first_kept, crossed_fired}
 use Rattle.brooklet_model.specs.Words.{Word, feed_all, run, word_of}
-use Rattle.brooklet_model.proofs.Lists.{if_lt}
 use Rattle.brooklet_model.proofs.Feeds.{feed_word}
 use Rattle.cql_model.specs.KernelWords.{streamer_of}
 use Rattle.cql_model.specs.Streams.{last_instant, at_last, content_before, changed}

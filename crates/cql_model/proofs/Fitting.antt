@@ -5,6 +5,7 @@ use Rattle.std.specs.Prelude.{codes, if◌then◌else◌, IsTrue, ◌&&◌, nat_
 use Rattle.std.specs.List.{list_all, AllByRecursion}
 use Rattle.std.proofs.lemmas.Bool.{and_parts, and_from, le-leb}
 use Rattle.std.proofs.lemmas.List.{length-map}
+use Rattle.brooklet_model.proofs.Solutions.{count_here}
 use Rattle.river_base.specs.Name.{name_eq}
 use Rattle.river_base.specs.declared.kind.FlatType.TheVariants.{Stream, Relation}
 use Rattle.river_base.specs.declared.kind.QueueType.{QueueType}
@@ -18,7 +19,6 @@ use Rattle.river_plan.specs.Forms.{Name, OpForm}
 use Rattle.river_plan.specs.Kinds.{FitsAt}
 use Rattle.river_plan.specs.Names.{count}
 use Rattle.river_plan.specs.Uses.{Each}
-use Rattle.river_plan.proofs.NameLemmas.{one_same}
 use Rattle.cql_model.specs.KernelWords.{kernel_window}
 use Rattle.cql_model.specs.Plannable.{AreShallowColumns, IsShallowCondition, IsPlannableQuery}
 use Rattle.cql_text.specs.Tree.{Scalar, scalar_depth, Number, Field, ItemField, Neg, Not, Bin, Source, Column, Columns, Star, Chosen, Query}
@@ -122,9 +122,6 @@ narrow n h = let p = and_parts (nat_le 1 n) (nat_le n 16) h in (grind (arith, p.
 
 -- KERNELS
 
-count_first : (v : Name) (vs : List Name) → 0 < count v (v ∷ vs)
-count_first v vs = let o = one_same v in omega (arith, o)
-
 module _ (kind : Name → QueueType) (var : Name → VarKind) where
   abbrev pub Fit : OpForm → Type 0
   Fit o = FitsAt kind var o
@@ -161,7 +158,7 @@ module _ (kind : Name → QueueType) (var : Name → VarKind) where
       length (fields_of known i.stream),
       ap (λ (x : QueueType). x ∷ []) s.0,
       ap (λ (x : QueueType). x ∷ []) d.0,
-      ap (λ (x : VarKind). x ∷ []) (o.0 (w_name b k) (count_first (w_name b k) [])),
+      ap (λ (x : VarKind). x ∷ []) (o.0 (w_name b k) (count_here (w_name b k) [])),
       and_from (is_width (length (fields_of known i.stream)))
           (is_window (kernel_window i.window)) z.0 w.0,
     ),
@@ -191,7 +188,7 @@ module _ (kind : Name → QueueType) (var : Name → VarKind) where
                 ∙ ap (λ y. two (relation width) y) w.0,
             ap (λ (x : QueueType). x ∷ []) d.0,
             ap (λ (x : VarKind). x ∷ [])
-                (o.0 (x_name b k) (count_first (x_name b k) [])),
+                (o.0 (x_name b k) (count_here (x_name b k) [])),
             fits,
           ),
           rest.0,
@@ -323,7 +320,7 @@ module _ (kind : Name → QueueType) (var : Name → VarKind) where
           width,
           ap (λ (x : QueueType). x ∷ []) pr.1,
           ap (λ (x : QueueType). x ∷ []) out.1,
-          ap (λ (x : VarKind). x ∷ []) (o3.1.0 (at_word b (codes "i")) (count_first (at_word b (codes "i")) [])),
+          ap (λ (x : VarKind). x ∷ []) (o3.1.0 (at_word b (codes "i")) (count_here (at_word b (codes "i")) [])),
           a.columns,
         ),
         out.0,

@@ -4,6 +4,8 @@ use Rattle.std.specs.Prelude.{int_lt, int_le, filter, ◌&&◌, pos, ◌-ℤ◌}
 use Rattle.std.specs.List.{AllByRecursion}
 use Rattle.std.specs.Ordering.{int_eq}
 use Rattle.std.proofs.lemmas.List.Elements.{filter-append}
+use Rattle.std.proofs.lemmas.List.{append-nil}
+use Rattle.river_base.proofs.Tests.{int_lt_true}
 use Rattle.cql_text.specs.Tree.{Window, Now, Range, Unbounded, Latest}
 use Rattle.brooklet_model.specs.Fit.{Rises}
 use Rattle.cql_model.specs.Streams.{in_reach}
@@ -21,9 +23,6 @@ abbrev pub Ascends : List ℤ → Type 0
 Ascends [] = Unit {0}
 Ascends (t ∷ ts) = AllAbove t ts × Ascends ts
 
-lt_true : (t u : ℤ) → t <ℤ u → int_lt t u ≡ true
-lt_true t u h = grind (arith, h)
-
 lt_over : (t u v : ℤ) → t <ℤ u → int_lt u v ≡ true → int_lt t v ≡ true
 lt_over t u v h g = grind (arith, h, g)
 
@@ -35,7 +34,7 @@ above_over t u (v ∷ vs) lt h = (lt_over t u v lt h.0, above_over t u vs lt h.1
 pub ascends : (ts : List ℤ) → Rises ts → Ascends ts
 ascends [] h = tt
 ascends (t ∷ []) h = (tt, tt)
-ascends (t ∷ u ∷ ts) h = let m = ascends (u ∷ ts) h.1 in ((lt_true t u h.0, above_over t u ts h.0 m.0), m)
+ascends (t ∷ u ∷ ts) h = let m = ascends (u ∷ ts) h.1 in ((int_lt_true t u h.0, above_over t u ts h.0 m.0), m)
 
 above_back : (t : ℤ) (us vs : List ℤ) → AllAbove t (us ++ vs) → AllAbove t vs
 above_back t [] vs h = h
@@ -106,8 +105,4 @@ below_front us vs t h =
     let P = λ (u : ℤ). int_lt u t in
     let gone : filter P (t ∷ vs) ≡ [] =
     filter-none P (t ∷ vs) (lt_self t, each-map (λ u. int_lt t u ≡ true) (λ u. P u ≡ false) (λ u. lt_not_back t u) vs (ascends_above us vs t h)) in
-    filter-append P us (t ∷ vs) ∙ ap (λ l. filter P us ++ l) gone ∙ ap (λ l. l ++ []) (filter-all P us (ascends_below us vs t h)) ∙ nil us
-  where
-    nil : (l : List ℤ) → l ++ [] ≡ l
-    nil [] = refl
-    nil (x ∷ xs) = ap (λ l. x ∷ l) (nil xs)
+    filter-append P us (t ∷ vs) ∙ ap (λ l. filter P us ++ l) gone ∙ ap (λ l. l ++ []) (filter-all P us (ascends_below us vs t h)) ∙ append-nil us

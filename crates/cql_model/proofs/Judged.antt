@@ -1,10 +1,11 @@
 -- A program is refused exactly for its first fault.
 use Rattle.std.proofs.Common.{◌≡◌, ℕ, zero, suc, ◌+◌, ◌<◌, ◌≤◌, Bool, true, false, Option, Some, None, List, [], ◌∷◌, ◌++◌, length}
 use Rattle.std.proofs.Common.{refl, sym, ap, ◌∙◌, subst, arith}
-use Rattle.std.proofs.Common.{◌⊎◌, inl, inr, ⊎_elim, length-append}
+use Rattle.std.proofs.Common.{◌⊎◌, inl, inr, ⊎_elim}
 use Rattle.std.specs.Prelude.{flat_map, if◌then◌else◌}
 use Rattle.std.specs.List.{AllByRecursion}
 use Rattle.std.proofs.lemmas.Bool.{cases_lt}
+use Rattle.std.proofs.lemmas.List.{length_push}
 use Rattle.river_plan.proofs.NameLemmas.{true_false}
 use Rattle.cql_model.specs.declared.fault.Fault.{Fault}
 use Rattle.cql_model.specs.declared.fault.Fault.TheVariants.{UnknownStream, UnknownField, AmbiguousField, NameTwice, Limit}
@@ -46,9 +47,6 @@ unit_then : (n : ℕ) (o : Option Fault) (rest : Option Refusal) → first_of (n
 unit_then n None rest = refl
 unit_then n (Some f) rest = refl
 
-longer : (before : Program) (u : Part) → length (before ++ u ∷ []) ≡ length before + 1
-longer before u = let e = length-append before (u ∷ []) in omega (arith, e)
-
 -- one unit, and those behind it
 one_unit : (before : Program) (u : Part) (ps : Program) (o : Option Fault) (rest : Option Refusal) → Found before (spots u) o
     → Judged (flat_map unit_places (behind (before ++ u ∷ []) ps)) rest
@@ -71,13 +69,13 @@ units before (Register name fields ∷ ps) =
     let more = before ++ u ∷ [] in
     one_unit before u ps (stream_fault (known_by before) (length (registered before)) name fields) _ (stream before name fields)
     (subst (Judged (flat_map unit_places (behind more ps)))
-    (same_state (known-more before u) (registered-more before name fields) (longer before u) ps) (units more ps))
+    (same_state (known-more before u) (registered-more before name fields) (length_push before u) ps) (units more ps))
 units before (AQuery q ∷ ps) =
     let u = AQuery q in
     let more = before ++ u ∷ [] in
     one_unit before u ps (query_fault (known_by before) q) _ (query before q)
     (subst (Judged (flat_map unit_places (behind more ps)))
-    (same_state (known-more before u) (registered-same before q) (longer before u) ps) (units more ps))
+    (same_state (known-more before u) (registered-same before q) (length_push before u) ps) (units more ps))
 
 -- the first fault of a program
 judged : (p : Program) → Judged (program_places p) (first_fault [] 0 1 p)

@@ -2,11 +2,11 @@
 use Rattle.std.proofs.Common.{◌≡◌, ℕ, zero, suc, ◌+◌, ◌%◌, ◌<◌, ◌≤◌, Bool, true, false, Option, Some, None, List, [], ◌∷◌, ◌++◌, refl, sym, ap, ◌∙◌, arith}
 use Rattle.std.proofs.Common.{subst, map, ⊎_elim}
 use Rattle.std.specs.Prelude.{if◌then◌else◌, nat_eq, nat_lt, not, ◌&&◌, IsTrue}
-use Rattle.std.proofs.lemmas.Bool.{and_parts, eq-eqb}
+use Rattle.std.proofs.lemmas.Bool.{and_parts, eq-eqb, cases_Bool}
 use Rattle.river_base.specs.Name.{name_eq}
 use Rattle.river_plan.specs.Forms.{Name}
 use Rattle.river_plan.specs.Names.{one_if, count}
-use Rattle.river_plan.proofs.NameLemmas.{cases_name, cases_bool, name_same, more_or_zero}
+use Rattle.river_plan.proofs.NameLemmas.{cases_name, name_same, more_or_zero}
 use Rattle.cql_model.specs.Numeral.{numeral}
 use Rattle.cql_model.specs.Plannable.{has_no_at}
 use Rattle.cql_model.specs.Translation.{at_word}
@@ -144,7 +144,7 @@ of_one t = record {
   only = λ s lt. ⊎_elim
       (λ y. ap class (sym (tag_is t s y)))
       (λ n. absurd (let o = ap one_if n in omega (arith, o, lt)))
-      (cases_bool (tag_eq t s));
+      (cases_Bool (tag_eq t s));
 }
 
 -- NUMBERS: k, k + 1, .. with a letter before them, or none
@@ -186,7 +186,7 @@ numbers_once letter k (suc n) t = ⊎_elim
     let z : tags t (numbers letter (k + 1) n) ≡ 0 = subst (λ s. tags s (numbers letter (k + 1) n) ≡ 0) is (below_none letter k (k + 1) n (omega arith)) in
     let b = bit_small (tag_eq (Some (letter ++ numeral k)) t) in omega (arith, z, b))
     (λ f. let o = ap one_if f in let m = numbers_once letter (k + 1) n t in omega (arith, o, m))
-    (cases_bool (tag_eq (Some (letter ++ numeral k)) t))
+    (cases_Bool (tag_eq (Some (letter ++ numeral k)) t))
 
 numbers_only : (letter : List ℕ) (n : ℕ) (c : (k : ℕ) → class (Some (letter ++ numeral k)) ≡ n) (k m : ℕ) (t : Tag)
     → 0 < tags t (numbers letter k m) → class t ≡ n
@@ -194,7 +194,7 @@ numbers_only letter n c k zero t lt = absurd (omega (arith, lt))
 numbers_only letter n c k (suc m) t lt = ⊎_elim
     (λ y. ap class (sym (tag_is (Some (letter ++ numeral k)) t y)) ∙ c k)
     (λ f. let o = ap one_if f in numbers_only letter n c (k + 1) m t (omega (arith, o, lt)))
-    (cases_bool (tag_eq (Some (letter ++ numeral k)) t))
+    (cases_Bool (tag_eq (Some (letter ++ numeral k)) t))
 
 -- so its tag is of the class of numbers
 pub low_class : (ds : List ℕ) → StartsLow ds → class (Some ds) ≡ 2

@@ -1,10 +1,10 @@
 -- The instants of a run are exactly the timestamps of its files.
-use Rattle.std.proofs.Common.{◌≡◌, ◌<ℤ◌, ℤ, List, [], ◌∷◌, map, refl, sym, ap, subst, arith, ⊎_elim}
+use Rattle.std.proofs.Common.{◌≡◌, ℤ, List, [], ◌∷◌, map, refl, sym, ap, subst, arith, ⊎_elim}
 use Rattle.std.specs.List.{AllByRecursion, Contains}
 use Rattle.std.specs.List.Sorted.{IsStrictlySortedBy}
 use Rattle.std.specs.Ordering.{int_cmp}
-use Rattle.std.specs.declared.cmp.Ordering.TheVariants.{Less}
 use Rattle.std.proofs.lemmas.List.Elements.{Contains-append_left, Contains-append_right, Contains-push, Contains-push_cases, Contains-append_cases}
+use Rattle.river_base.proofs.Tests.{cmp_less}
 use Rattle.river_base.specs.Instants.{Timed, stamps, instants, spread}
 use Rattle.river_base.proofs.Instants.{once_rises, once_has, has_once}
 use Rattle.brooklet_model.specs.Fit.{Rises}
@@ -14,14 +14,11 @@ use Rattle.cql_model.specs.Meaning.{answers}
 
 -- THEY RISE
 
-is_later : (t u : ℤ) → int_cmp t u ≡ Less → t <ℤ u
-is_later t u h = grind (arith, h)
-
 rises_where : (ts : List ℤ) → IsStrictlySortedBy int_cmp ts → Rises ts
 unfolding IsStrictlySortedBy
 rises_where [] h = tt
 rises_where (t ∷ []) h = tt
-rises_where (t ∷ u ∷ ts) h = (is_later t u h.0.0, rises_where (u ∷ ts) h.1)
+rises_where (t ∷ u ∷ ts) h = (cmp_less t u h.0.0, rises_where (u ∷ ts) h.1)
 
 -- THEY ARE THE TIMESTAMPS
 

@@ -2,7 +2,7 @@
 use Rattle.std.proofs.Common.{◌≡◌, ℕ, zero, suc, ◌+◌, ◌<◌, ◌≤◌, Some, None, List, [], ◌∷◌, ◌++◌, refl, sym, ap, ◌∙◌, arith, length, append_assoc}
 use Rattle.std.specs.Prelude.{codes, IsTrue}
 use Rattle.std.specs.List.{AllByRecursion}
-use Rattle.std.proofs.lemmas.List.{length-map}
+use Rattle.std.proofs.lemmas.List.{length-map, append-nil}
 use Rattle.river_plan.specs.Forms.{Name, decl_names}
 use Rattle.river_plan.specs.Names.{count}
 use Rattle.river_plan.specs.Uses.{total, writes_it, reads_it, vars_it, named_it}
@@ -249,10 +249,7 @@ inputs_declared z (AQuery q ∷ ps) = inputs_declared z ps
 
 sources-append : (inputs all past xs ys : List Name)
     → queues_of_uses inputs all past (xs ++ ys) ≡ queues_of_uses inputs all past xs ++ queues_of_uses inputs all (past ++ xs) ys
-sources-append inputs all past [] ys = ap (λ l. queues_of_uses inputs all l ys) (sym (nil past)) where
-  nil : (l : List Name) → l ++ [] ≡ l
-  nil [] = refl
-  nil (x ∷ xs) = ap (λ l. x ∷ l) (nil xs)
+sources-append inputs all past [] ys = ap (λ l. queues_of_uses inputs all l ys) (sym (append-nil past))
 sources-append inputs all past (x ∷ xs) ys =
     ap (λ l. queue_of_use inputs all x (count x past) ∷ l)
     (sources-append inputs all (past ++ x ∷ []) xs ys

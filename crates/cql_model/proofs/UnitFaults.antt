@@ -4,6 +4,7 @@ use Rattle.std.proofs.Common.{cond, length-append}
 use Rattle.std.specs.Prelude.{nat_lt, nat_eq, flat_map, fold, if◌then◌else◌}
 use Rattle.std.proofs.lemmas.List.{length-map, map-append}
 use Rattle.std.proofs.lemmas.Grind.{fold-append}
+use Rattle.std.proofs.lemmas.Simd.{map-map}
 use Rattle.river_base.specs.Name.{name_eq}
 use Rattle.river_plan.specs.Forms.{Name}
 use Rattle.river_plan.specs.Names.{count}
@@ -23,7 +24,7 @@ use Rattle.cql_text.specs.Tree.{Query, Register, AQuery, Part, Program}
 use Rattle.cql_model.specs.Refused.{called, meant}
 use Rattle.cql_model.specs.Scopes.{Named, item_named, scope_of}
 use Rattle.cql_model.specs.Translation.{widths_of}
-use Rattle.cql_model.proofs.Earlier.{behind, behind-none, behind-nil, behind-cons, map-both}
+use Rattle.cql_model.proofs.Earlier.{behind, behind-none, behind-nil, behind-cons}
 use Rattle.cql_model.proofs.First.{first_of, finds_both}
 use Rattle.cql_model.proofs.SpotFaults.{Silent, Says, Found, some_among, none_among, one_more, above, bad_rows, twice_or_many, stream_or_many, only_limit}
 use Rattle.cql_model.proofs.SpotFaults.{only_twice, field_use}
@@ -103,7 +104,7 @@ value before items (Bin o l r) =
 -- ITEMS
 
 names-called : (ks : List Named) (past : List Source) → known_names (scope_of ks past) ≡ map called past
-names-called ks past = map-both (λ (k : Named). k.name) (item_named ks) past
+names-called ks past = map-map (λ (k : Named). k.name) (item_named ks) past
 
 regroup : (a b c d e : Option Fault) → first_of (then_fault a b) (first_of c (then_fault d e)) ≡ then_fault a (then_fault b (then_fault c (then_fault d e)))
 regroup None None None d e = refl

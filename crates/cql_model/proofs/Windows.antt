@@ -3,6 +3,7 @@ use Rattle.std.proofs.Common.{◌≡◌, ℤ, Bool, true, false, List, [], ◌�
 use Rattle.std.specs.Prelude.{int_lt, int_le, filter, flat_map, ◌&&◌, pos, ◌-ℤ◌, map}
 use Rattle.std.specs.Ordering.{int_eq}
 use Rattle.std.proofs.lemmas.List.{append-nil}
+use Rattle.river_base.proofs.Tests.{int_lt_back}
 use Rattle.river_base.specs.Instants.{Timed, item_at, spread}
 use Rattle.river_base.specs.declared.item.Batch.{Batch}
 use Rattle.river_base.specs.Held.{batches}
@@ -59,10 +60,8 @@ rows_where_is p (u ∷ us) s = step (p u) (rows_where_is p us s) where
 put_last : (b : Batch) (us : List ℤ) (s : Timed) → AllBelow b.at us → put_batch b (batched us s) ≡ batched us s ++ b ∷ []
 put_last b [] s h = refl
 put_last b (u ∷ us) s h =
-    ap (λ c. cond c (b ∷ (batched (u ∷ us) s)) (batch_at s u ∷ put_batch b (batched us s))) (back b.at u h.0)
-    ∙ ap (λ l. batch_at s u ∷ l) (put_last b us s h.1) where
-      back : (t v : ℤ) → int_lt v t ≡ true → int_lt t v ≡ false
-      back t v e = grind (arith, e)
+    ap (λ c. cond c (b ∷ (batched (u ∷ us) s)) (batch_at s u ∷ put_batch b (batched us s))) (int_lt_back b.at u h.0)
+    ∙ ap (λ l. batch_at s u ∷ l) (put_last b us s h.1)
 
 batched-append : (us vs : List ℤ) (s : Timed) → batched (us ++ vs) s ≡ batched us s ++ batched vs s
 batched-append [] vs s = refl

@@ -1,14 +1,13 @@
 -- The steps by which code reads lists with commas.
-use Rattle.std.proofs.Common.{◌≡◌, suc, ◌<◌, ◌≤◌, ◌+◌, List, [], ◌∷◌, ◌++◌, length, true, Some, ap, ◌∙◌, arith, length-append}
+use Rattle.std.proofs.Common.{◌≡◌, ◌≤◌, ◌+◌, List, [], ◌∷◌, ◌++◌, length, true, Some, ap, ◌∙◌, arith, length-append}
 use Rattle.work_text.specs.Tok.{Tok}
-use Rattle.work_text.specs.declared.sign.Symbol.{Symbol}
 use Rattle.work_text.specs.declared.sign.Symbol.TheVariants as s
 use Rattle.text_forms.specs.Parse as parse
 use Rattle.text_forms.specs.Repeat.{repeated}
 use Rattle.text_forms.specs.Tail.{tail}
 use Rattle.text_forms.proofs.Exact.{Exact}
 use Rattle.text_forms.proofs.Many.{comma-next, comma-stop, comma-bad}
-use Rattle.text_forms.proofs.Symbols.{begins_with-is}
+use Rattle.text_forms.proofs.Symbols.{taken-shorter}
 use Rattle.cql_text.specs.Reading.{source_at, column_at}
 use Rattle.cql_text.specs.Tree.{Name, Source, Column}
 use Rattle.cql_text.specs.Words.{plain_at}
@@ -22,10 +21,6 @@ shorter x ts us v e =
     let f = x.sound ts v us e in
     let size : length ts ≡ length f.front + length us = ap length f.is ∙ length-append f.front us in
     omega arith
-
--- a symbol that is taken
-pub taken-shorter : (x : Symbol) (ts : List Tok) → parse.begins_with x ts ≡ true → length (tail ts) < length ts
-taken-shorter x ts e = let size : length ts ≡ suc (length (tail ts)) = ap length (begins_with-is x ts e) in omega arith
 
 -- a name behind a comma is one name more
 pub names-next : (done : List Name) (ts us : List Tok) (v : Name) → parse.begins_with s.Comma ts ≡ true → plain_at (tail ts) ≡ Some (v, us)

@@ -2,13 +2,13 @@
 use Rattle.std.proofs.Common.{◌≡◌, ◌≢◌, ℕ, zero, suc, ◌<◌, ◌≤◌, List, [], ◌∷◌, Bool, true, false, cond, Option, Some, None, refl, sym, ap, ◌∙◌, arith}
 use Rattle.std.specs.Prelude.{codes, ◌==◌}
 use Rattle.std.proofs.lemmas.Bool.{eqb-true}
+use Rattle.std.proofs.lemmas.Option.{same_Some}
 use Rattle.work_text.specs.Tok.{Tok, name, var, number, symbol}
 use Rattle.work_text.specs.declared.sign.Symbol.TheVariants as s
 use Rattle.text_forms.specs.Levels.{level_of, form_of, operator, sign}
 use Rattle.text_forms.specs.Parse.{begins_with}
 use Rattle.text_forms.specs.ReadLevels as levels
 use Rattle.text_forms.specs.declared.form.Form.TheVariants as form
-use Rattle.text_forms.proofs.Pairs.{some_inj}
 use Rattle.cql_text.specs.Values.{rank_of, of_rank, op_at, ranked, minus, negation, seven, syntax}
 use Rattle.cql_text.specs.ValueReading as values
 use Rattle.cql_text.specs.Words.{is_keyword_at}
@@ -66,7 +66,7 @@ pub of_rank-is : (k : ℕ) (r : Option Operator) (o : Operator) → of_rank k r 
 of_rank-is k None o e = cc
 of_rank-is k (Some p) o e = by (rank_of p == k) refl e where
   by : (b : Bool) → (rank_of p == k) ≡ b → cond b (Some p) None ≡ Some o → ◌≡◌ {A = Option Operator} (Some p) (Some o) × (rank_of o ≡ k)
-  by true is f = (f, ap rank_of (sym (some_inj f)) ∙ eqb-true (rank_of p) k is)
+  by true is f = (f, ap rank_of (sym (same_Some _ _ f)) ∙ eqb-true (rank_of p) k is)
   by false is f = cc
 
 -- none is of a level that has no operators

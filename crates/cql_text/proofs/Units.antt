@@ -1,6 +1,7 @@
 -- The reading of units is exact.
 use Rattle.std.proofs.Common.{◌≡◌, ℕ, suc, List, [], ◌∷◌, ◌++◌, Bool, true, false, cond, Option, Some, None, refl, sym, ap, ◌∙◌, subst, inl, inr, append_assoc}
 use Rattle.std.specs.Prelude.{codes, ◌||◌}
+use Rattle.std.proofs.lemmas.Bool.{or_right, or_left}
 use Rattle.work_text.specs.Tok.{Tok, name, symbol}
 use Rattle.work_text.specs.declared.sign.Symbol.TheVariants as s
 use Rattle.text_forms.specs.Parse as parse
@@ -86,14 +87,6 @@ unfolding alias_at
 exact-alias =
     exact-less (exact-merged (is_keyword_at (codes "as")) (exact-keyword (codes "as") exact-plain) exact-plain
     (λ v ts rest h d. keyword-at Plain (codes "as") v ts rest h) (λ v ts rest h d. rw h.formed (plain-as v h.passes))) (λ rest d. (tt, tt))
-
-or_right : (a b : Bool) → b ≡ true → (a || b) ≡ true
-or_right true b e = refl
-or_right false b e = e
-
-or_left : (a b : Bool) → a ≡ true → (a || b) ≡ true
-or_left true b e = refl
-or_left false b e = cc
 
 alias-begins : (v : Name) (ts rest : List Tok) → IsAlias v ts → is_alias_at (ts ++ rest) ≡ true
 alias-begins v ts rest (inl h) = rw h.is (or_left (is_keyword (codes "as") h.spelled) (is_plain h.spelled) h.same)

@@ -1,5 +1,5 @@
 -- Words in any letter case, and that no name is a keyword.
-use Rattle.std.proofs.Common.{◌≡◌, ℕ, List, [], ◌∷◌, ◌++◌, Bool, true, false, cond, Option, Some, None, refl, sym, ap, ◌∙◌}
+use Rattle.std.proofs.Common.{◌≡◌, ℕ, List, [], ◌∷◌, ◌++◌, Bool, true, false, Some, refl, sym, ap, ◌∙◌}
 use Rattle.std.specs.Prelude.{codes, ◌&&◌, not}
 use Rattle.std.specs.List.{list_any}
 use Rattle.std.specs.Str.{bytes_eq}
@@ -11,7 +11,7 @@ use Rattle.work_text.specs.Tok.{Tok, name, var, number, symbol}
 use Rattle.text_forms.specs.Names.{is_free}
 use Rattle.text_forms.specs.Parse as parse
 use Rattle.text_forms.specs.Tail.{tail}
-use Rattle.text_forms.proofs.Exact.{Exact, Front, Any, exact-tested, exact-name}
+use Rattle.text_forms.proofs.Exact.{Exact, Front, Any, exact-tested, exact-name, if-some}
 use Rattle.cql_text.specs.Words.{is_keyword, is_keyword_at, is_plain, keywords, Plain, plain_at, Keyword, keyword}
 
 -- names that users give are read exactly
@@ -71,10 +71,6 @@ keyword-found word (name text ∷ ts) e = (text, refl, e)
 keyword-found word (var text ∷ ts) e = cc
 keyword-found word (number v ∷ ts) e = cc
 keyword-found word (symbol y ∷ ts) e = cc
-
-if-some : {B : Type 0} (b : Bool) (r : Option B) (v : B) → cond b r None ≡ Some v → (b ≡ true) × (r ≡ Some v)
-if-some true r v e = (refl, e)
-if-some false r v e = cc
 
 -- what stands behind a keyword
 pub exact-keyword : {A : Type 0} {F : A → List Tok → Type 0} {p : parse.Parse A} {E : List Tok → Type 0} (word : List ℕ) → Exact F p E

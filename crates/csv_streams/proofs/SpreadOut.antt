@@ -8,6 +8,8 @@ use Rattle.std.specs.Ordering.{int_eq, int_cmp}
 use Rattle.std.specs.declared.cmp.Ordering.TheVariants.{Less}
 use Rattle.std.proofs.lemmas.Bool.{true≢false}
 use Rattle.std.proofs.lemmas.Map.Made.{Contains-tail}
+use Rattle.std.specs.Int.Signed.{<ℤ-≤ℤ_trans}
+use Rattle.river_base.proofs.Tests.{int_eq_by, cmp_less}
 use Rattle.river_base.specs.Held.{batches}
 use Rattle.river_base.specs.Instants.{at_instant, spread}
 use Rattle.csv_streams.specs.Records.{csv_records}
@@ -37,20 +39,11 @@ differs t u h = grind (arith, h)
 differs_back : (t u : ℤ) → t <ℤ u → int_eq u t ≡ false
 differs_back t u h = grind (arith, h)
 
-same : (t u : ℤ) → int_eq t u ≡ true → t ≡ u
-same t u h = grind (arith, h)
-
 same_back : (t u : ℤ) → t ≡ u → int_eq u t ≡ true
 same_back t u h = grind (arith, h)
 
-less : (t u : ℤ) → int_cmp t u ≡ Less → t <ℤ u
-less t u h = grind (arith, h)
-
 further : (t u v : ℤ) → t ≤ℤ u → u ≤ℤ v → t ≤ℤ v
 further t u v h g = grind (arith, h, g)
-
-beyond : (t u v : ℤ) → t <ℤ u → u ≤ℤ v → t <ℤ v
-beyond t u v h g = grind (arith, h, g)
 
 -- the rows of the batches of a file
 abbrev given : List ℤ → List Entry → List Entry
@@ -87,8 +80,8 @@ first_in [] e es up in_ts low = absurd (let lt = in_ts.1 in omega (arith, lt))
 first_in (t ∷ us) e es up in_ts low = step (int_eq e.0 t) refl (first_in us e es up.1) where
   here : int_eq e.0 t ≡ true → given (t ∷ us) (e ∷ es) ≡ e ∷ given (t ∷ us) es
   here h =
-      let is : t ≡ e.0 = sym (same e.0 t h) in
-      let other = each (λ u. int_cmp t u ≡ Less) (λ u. int_eq e.0 u ≡ false) (λ u l. differs e.0 u (subst (λ x. x <ℤ u) is (less t u l))) us up.0 in
+      let is : t ≡ e.0 = sym (int_eq_by e.0 t h) in
+      let other = each (λ u. int_cmp t u ≡ Less) (λ u. int_eq e.0 u ≡ false) (λ u l. differs e.0 u (subst (λ x. x <ℤ u) is (cmp_less t u l))) us up.0 in
       let first : (t, e.1) ≡ e = λ i. (is i, e.1) in
       ap (λ l. behind t l ++ given us (e ∷ es)) (found e es t h)
       ∙ ap (λ l. (t, e.1) ∷ (behind t (at_instant es t) ++ l)) (skipped us e es other)
@@ -98,9 +91,9 @@ first_in (t ∷ us) e es up in_ts low = step (int_eq e.0 t) refl (first_in us e 
       → given (t ∷ us) (e ∷ es) ≡ e ∷ given (t ∷ us) es
   later h more =
       let there = Contains-tail t us e.0 (λ q. true≢false (sym (same_back t e.0 q) ∙ h)) in_ts in
-      let lt : t <ℤ e.0 = member (λ u. t <ℤ u) us e.0 (each (λ u. int_cmp t u ≡ Less) (λ u. t <ℤ u) (less t) us up.0) there.0 there.1 there.2 in
+      let lt : t <ℤ e.0 = member (λ u. t <ℤ u) us e.0 (each (λ u. int_cmp t u ≡ Less) (λ u. t <ℤ u) (cmp_less t) us up.0) there.0 there.1 there.2 in
       let none = none_at t es
-      (each (λ (d : Entry). e.0 ≤ℤ d.0) (λ (d : Entry). int_eq d.0 t ≡ false) (λ d l. differs_back t d.0 (beyond t e.0 d.0 lt l)) es low) in
+      (each (λ (d : Entry). e.0 ≤ℤ d.0) (λ (d : Entry). int_eq d.0 t ≡ false) (λ d l. differs_back t d.0 (<ℤ-≤ℤ_trans lt l)) es low) in
       ap (λ l. behind t l ++ given us (e ∷ es)) (passed e es t h ∙ none)
       ∙ more there low
       ∙ ap (λ l. e ∷ (behind t l ++ given us es)) (sym none)

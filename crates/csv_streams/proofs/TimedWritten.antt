@@ -1,8 +1,10 @@
 -- The timed rows that are read are those that are written, and the fault that is told is the file's.
-use Rattle.std.proofs.Common.{◌≡◌, ℕ, suc, ◌+◌, ◌-◌, ◌<◌, ◌≤◌, ℤ, pos, ◌<ℤ◌, ◌≤ℤ◌, int_lt, List, [], ◌∷◌, ◌++◌, length, take, drop, map, Bool, true, false}
+use Rattle.std.proofs.Common.{◌≡◌, ℕ, suc, ◌+◌, ◌-◌, ◌<◌, ◌≤◌, ℤ, pos, ◌<ℤ◌, int_lt, List, [], ◌∷◌, ◌++◌, length, take, drop, map, Bool, true, false}
 use Rattle.std.proofs.Common.{cond, refl, sym, ◌∙◌, ap, subst, arith}
 use Rattle.std.specs.Prelude.{None, Some, Result, Ok, Err}
 use Rattle.std.proofs.lemmas.List.Elements.{All-nil, All-cons}
+use Rattle.std.proofs.lemmas.Option.{same_Some}
+use Rattle.river_base.proofs.Tests.{int_lt_not, int_lt_false}
 use Rattle.river_base.specs.Held.{HaveWidth}
 use Rattle.csv_streams.specs.Numbered.{before_later}
 use Rattle.csv_streams.specs.Records.{csv_records}
@@ -29,25 +31,19 @@ no_rows f = Err f
 
 -- WHAT IS READ
 
-not_below : (t at : ℤ) → int_lt at t ≡ false → t ≤ℤ at
-not_below t at h = grind (arith, h)
-
-below_not : (t at : ℤ) → t ≤ℤ at → int_lt at t ≡ false
-below_not t at h = grind (arith, h)
-
 timed_read : (w last : ℕ) (t : ℤ) (rec : ℕ) (fields : List (List ℕ)) (e : Entry) → timed_in w last t rec fields ≡ Ok e → (rec ≤ last) × WritesTimed w t fields e
 timed_read w last t rec fields e h =
     let (values, nought, turn) = stamped_ok rec t (row_in (w + 1) false last rec fields) e h in
     let r = row_read (w + 1) false last rec fields (e.0 ∷ e.1) values in
-    (r.0, record { written = r.1; from_nought = not_below (pos 0) e.0 nought; in_turn = not_below t e.0 turn })
+    (r.0, record { written = r.1; from_nought = int_lt_not e.0 (pos 0) nought; in_turn = int_lt_not e.0 t turn })
 
 timed_written : (w last : ℕ) (t : ℤ) (rec : ℕ) (fields : List (List ℕ)) (e : Entry) → rec ≤ last → WritesTimed w t fields e
     → timed_in w last t rec fields ≡ Ok e
 timed_written w last t rec fields e le writes =
     ap (with_stamp rec t) (row_written (w + 1) false last rec fields (e.0 ∷ e.1) le writes.written)
     ∙ ap (λ (b : Bool). if_in_time e (cond b (Err (fault.NegativeTime rec)) (cond (int_lt e.0 t) (Err (fault.Backwards rec)) (Ok tt))))
-    (below_not (pos 0) e.0 writes.from_nought)
-    ∙ ap (λ (b : Bool). if_in_time e (cond b (Err (fault.Backwards rec)) (Ok tt))) (below_not t e.0 writes.in_turn)
+    (int_lt_false e.0 (pos 0) writes.from_nought)
+    ∙ ap (λ (b : Bool). if_in_time e (cond b (Err (fault.Backwards rec)) (Ok tt))) (int_lt_false e.0 t writes.in_turn)
 
 all_read : (w last : ℕ) (t : ℤ) (k : ℕ) (recs : List (List (List ℕ))) (es : List Entry) → timed_from w last t k recs ≡ Ok es
     → WriteTimed w t recs es × (length es ≤ last + 1 - k)
@@ -166,11 +162,8 @@ module _ (w last : ℕ) (t : ℤ) (rec : ℕ) (fields : List (List ℕ)) where
     only_writes : (fs : List (List ℕ)) → AllWrite (take (suc w) fs) (at ∷ row) → (z : ℤ) → IsStampedBelow (Some t) z fs → at <ℤ z
     only_writes [] all z h = absurd all
     only_writes (f ∷ fs) all z h =
-        let same : at ≡ h.0 = one_value (sym (written-is_read f at all.0) ∙ written-is_read f h.0 h.1) in
+        let same : at ≡ h.0 = same_Some _ _ (sym (written-is_read f at all.0) ∙ written-is_read f h.0 h.1) in
         subst (λ (x : ℤ). x <ℤ z) (sym same) h.2
-      where
-        one_value : {x y : ℤ} → Some x ≡ Some y → x ≡ y
-        one_value e = cc e
 
     up_to_time : (g : InFault) → rank g < 4 → int_lt at (pos 0) ≡ false → Has g → ⊥
     up_to_time fault.TooMany l b h = no_plain fault.TooMany (omega arith) h

@@ -4,6 +4,8 @@ use Rattle.std.proofs.Common.{nat_le}
 use Rattle.std.specs.Prelude.{ℤ, pos, neg_ℤ, Option, None, Some, option_and_then, ◌&&◌, ◌==◌, not}
 use Rattle.std.specs.List.{list_all}
 use Rattle.std.proofs.lemmas.Bool.Decides.{nat_tests}
+use Rattle.std.proofs.lemmas.Bool.{and_parts}
+use Rattle.std.proofs.lemmas.Option.{same_Some}
 use Rattle.river_base.specs.Name.{is_digit}
 use Rattle.csv_streams.specs.Number.{is_space, after_spaces, digits_of, after_digits, is_nothing, value_after, whole_number, positive, negative, signed_number, number_in}
 use Rattle.csv_streams.specs.Writing.{AllSpaces, AllDigits, IsSigned, Writes}
@@ -53,13 +55,9 @@ digits-decimal : (text : List ℕ) → AllDigits (digits_of text)
 digits-decimal [] = tt
 digits-decimal (c ∷ cs) = decimal-cons c cs (is_digit c) refl (digits-decimal cs)
 
-both : (a b : Bool) → (a && b) ≡ true → (a ≡ true) × (b ≡ true)
-both true b e = (refl, e)
-both false b e = cc
-
 blank-is : (text : List ℕ) → list_all is_space text ≡ true → AllSpaces text
 blank-is [] e = tt
-blank-is (c ∷ cs) e = let p = both (is_space c) (list_all is_space cs) e in (space-is c p.0, blank-is cs p.1)
+blank-is (c ∷ cs) e = let p = and_parts (is_space c) (list_all is_space cs) e in (space-is c p.0, blank-is cs p.1)
 
 some-is : (xs : List ℕ) → not (is_nothing xs) ≡ true → 0 < length xs
 some-is [] e = cc
@@ -75,13 +73,10 @@ record IsWhole (text : List ℕ) (n : ℕ) : Type 0 where
   blank : AllSpaces after
   value : value_after 0 digits ≡ n
 
-same-some : (a b : ℕ) → Some a ≡ Some b → a ≡ b
-same-some a b e = cc
-
 whole-by : (text : List ℕ) (n : ℕ) (b : Bool) → (not (is_nothing (digits_of text)) && list_all is_space (after_digits text)) ≡ b
     → cond b (Some (value_after 0 (digits_of text))) None ≡ Some n → IsWhole text n
 whole-by text n true is e =
-    let p = both (not (is_nothing (digits_of text))) (list_all is_space (after_digits text)) is in
+    let p = and_parts (not (is_nothing (digits_of text))) (list_all is_space (after_digits text)) is in
     record {
       digits = digits_of text;
       after = after_digits text;
@@ -89,7 +84,7 @@ whole-by text n true is e =
       some = some-is (digits_of text) p.0;
       decimal = digits-decimal text;
       blank = blank-is (after_digits text) p.1;
-      value = same-some (value_after 0 (digits_of text)) n e;
+      value = same_Some (value_after 0 (digits_of text)) n e;
     }
 whole-by text n false is e = cc
 

@@ -1,9 +1,10 @@
 -- Words of items that queues held, and the words that they stand for.
-use Rattle.std.proofs.Common.{◌≡◌, ◌≢◌, ℕ, zero, suc, ◌<◌, ◌≤◌, Some, None, List, [], ◌∷◌, ◌++◌, length, take, drop, refl, sym, ap, ◌∙◌, subst, arith, ⊎_elim, ◌⊎◌, inl, inr, length-append}
+use Rattle.std.proofs.Common.{◌≡◌, ◌≢◌, ℕ, zero, suc, ◌<◌, ◌≤◌, Some, List, [], ◌∷◌, ◌++◌, length, take, drop, refl, sym, ap, ◌∙◌, subst, arith, ⊎_elim, ◌⊎◌, inl, inr, length-append}
 use Rattle.std.specs.Prelude.{All, slice_get}
 use Rattle.std.proofs.lemmas.Bool.{cases_eq}
-use Rattle.std.proofs.lemmas.List.{take-append-drop, length-take}
+use Rattle.std.proofs.lemmas.List.{take-append-drop, length-take, take_at, nil_from_length}
 use Rattle.std.proofs.lemmas.List.Elements.{All-head, All-tail, All-cons, All-nil}
+use Rattle.river_base.proofs.Lists.{head_same, tail_same}
 use Rattle.river_base.specs.declared.item.Item as item
 use Rattle.river_base.specs.declared.kind.QueueType.{QueueType}
 use Rattle.river_base.specs.Held.{held}
@@ -14,7 +15,6 @@ use Rattle.brooklet_model.specs.Machine.{at_key}
 use Rattle.brooklet_model.specs.Received.{IsFront}
 use Rattle.brooklet_model.specs.Typed.{IsOf, IsWordOf}
 use Rattle.brooklet_model.specs.Words.{Word, at_port, PortsBelow}
-use Rattle.brooklet_model.proofs.Lists.{take_front}
 use Rattle.brooklet_model.proofs.Swaps.{at_port_here, at_port_past}
 use Rattle.brooklet_model.proofs.Traces.{at_key_same, at_key_other}
 use Rattle.fire_tasks.specs.Fired.{ports_of}
@@ -22,7 +22,7 @@ use Rattle.fire_tasks.specs.Fired.{ports_of}
 -- FRONTS OF WHAT A QUEUE HOLDS
 
 same_front : {A : Type 0} (xs ys a b : List A) → xs ++ a ≡ ys ++ b → length xs ≡ length ys → xs ≡ ys
-same_front xs ys a b e l = sym (take_front xs a (length xs) refl) ∙ ap (take (length xs)) e ∙ take_front ys b (length xs) (sym l)
+same_front xs ys a b e l = sym (take_at xs a (length xs) refl) ∙ ap (take (length xs)) e ∙ take_at ys b (length xs) (sym l)
 
 -- a front of what a queue holds is what it holds for the front as long
 pub held_front : (t : QueueType) (xs hs : List item.Item) → IsFront xs (held t [] hs) → xs ≡ held t [] (take (length xs) hs)
@@ -70,10 +70,6 @@ unfolding relabel
 relabel_ports [] l = refl
 relabel_ports (e ∷ es) l = ap (λ ps. e.0 ∷ ps) (relabel_ports es (at_key e.0 (drop 1 (l e.0)) l))
 
-nothing_left : {A : Type 0} (xs : List A) → length xs ≡ 0 → xs ≡ []
-nothing_left [] z = refl
-nothing_left (x ∷ xs) z = absurd (omega (arith, z))
-
 put_back : (d : item.Item) (xs : List item.Item) (n : ℕ) → length xs ≡ suc n → first_or d xs ∷ drop 1 xs ≡ xs
 unfolding first_or
 put_back d [] n e = absurd (omega (arith, e))
@@ -87,7 +83,7 @@ length_rest (x ∷ xs) n e = omega (arith, e)
 pub relabel_at : (w : Word) (l : ℕ → List item.Item) → ((port : ℕ) → length (l port) ≡ length (at_port port w)) → (port : ℕ)
     → at_port port (relabel w l) ≡ l port
 unfolding relabel
-relabel_at [] l h port = sym (nothing_left (l port) (h port))
+relabel_at [] l h port = sym (nil_from_length (l port) (h port))
 relabel_at (e ∷ es) l h port =
     let x = first_or e.1 (l e.0) in
     let l' = at_key e.0 (drop 1 (l e.0)) l in
@@ -127,19 +123,13 @@ ports_typed types (e ∷ es) a port = ⊎_elim
     (λ n. subst (All (IsOf types port)) (sym (at_port_past port e es n)) (ports_typed types es a.1 port))
     (cases_eq e.0 port)
 
-first_of_two : (a b : ℕ) (us bs : List ℕ) → a ∷ us ≡ b ∷ bs → a ≡ b
-first_of_two a b us bs e = cc
-
-rest_of_two : (a b : ℕ) (us bs : List ℕ) → a ∷ us ≡ b ∷ bs → us ≡ bs
-rest_of_two a b us bs e = cc
-
 -- words with the same ports have ports below the same number
 pub below_same : (n : ℕ) (w is : Word) → ports_of w ≡ ports_of is → PortsBelow n is → PortsBelow n w
 below_same n [] is e b = tt
 below_same n (x ∷ w) [] e b = absurd (cc e)
 below_same n (x ∷ w) (i ∷ is) e b = (
-  subst (λ k. k < n) (sym (first_of_two x.0 i.0 (ports_of w) (ports_of is) e)) b.0,
-  below_same n w is (rest_of_two x.0 i.0 (ports_of w) (ports_of is) e) b.1,
+  subst (λ k. k < n) (sym (head_same x.0 i.0 (ports_of w) (ports_of is) e)) b.0,
+  below_same n w is (tail_same x.0 i.0 (ports_of w) (ports_of is) e) b.1,
 )
 
 -- beyond the ports nothing came
@@ -154,11 +144,6 @@ pub no_list : (h : History) (rs : List Name) (port : ℕ) → length rs ≤ port
 no_list h [] port le = refl
 no_list h (r ∷ rs) zero le = absurd (omega (arith, le))
 no_list h (r ∷ rs) (suc port) le = no_list h rs port (omega (arith, le))
-
-pub not_got : {A : Type 0} (xs : List A) (n : ℕ) → length xs ≤ n → slice_get xs n ≡ None
-not_got [] n le = refl
-not_got (x ∷ xs) zero le = absurd (omega (arith, le))
-not_got (x ∷ xs) (suc n) le = not_got xs n (omega (arith, le))
 
 -- there is an element at a place, or the place is behind the list
 pub found : {A : Type 0} (xs : List A) (n : ℕ) → ((x : A) × (slice_get xs n ≡ Some x)) ⊎ (length xs ≤ n)

@@ -2,15 +2,17 @@
 use Rattle.std.proofs.Common.{ℤ, ◌≡◌, ◌≢◌, ℕ, zero, suc, ◌+◌, ◌<◌, ◌≤◌, Option, Some, None, List, [], ◌∷◌, ◌++◌, length, map, take, drop, refl, sym, ap, ◌∙◌, subst, arith, ⊎_elim, append_assoc, length-append}
 use Rattle.std.specs.Prelude.{All, slice_get}
 use Rattle.std.proofs.lemmas.Bool.{cases_lt}
-use Rattle.std.proofs.lemmas.List.{append-nil, length-map, take-append-drop, length-take}
+use Rattle.std.proofs.lemmas.List.{append-nil, length-map, take-append-drop, length-take, take_at, take-take, drop_all}
 use Rattle.std.proofs.Math.Seq.{take-nil}
 use Rattle.std.proofs.lemmas.List.Elements.{All-nil}
+use Rattle.std.proofs.lemmas.Option.{slice_get_within, same_Some}
+use Rattle.river_base.proofs.PlaceLemmas.{if_eq}
+use Rattle.river_base.proofs.Lists.{got_map, there_is}
 use Rattle.river_base.specs.declared.item.Item as item
 use Rattle.river_base.specs.declared.kind.QueueType.{QueueType}
 use Rattle.river_base.specs.Held.{held, HasType, IsHeld}
 use Rattle.river_base.specs.Places.{list_at}
 use Rattle.river_base.proofs.HeldLemmas.{length-held}
-use Rattle.river_base.proofs.Options.{some_is}
 use Rattle.river_plan.specs.Forms.{Name, OpForm, PlanForm, all_decls, decl_names}
 use Rattle.river_plan.specs.Kinds.{kind_of, var_kind}
 use Rattle.river_plan.specs.Names.{one_if, count}
@@ -25,12 +27,11 @@ use Rattle.brooklet_model.specs.Traced.{ran}
 use Rattle.brooklet_model.specs.Received.{hist_by, AreWords, IsFront}
 use Rattle.brooklet_model.specs.Typed.{IsOf, IsTyped, AreInputs, IsWordOf}
 use Rattle.brooklet_model.specs.Words.{Word, at_port}
-use Rattle.brooklet_model.proofs.Lists.{if_eq, take_front}
 use Rattle.brooklet_model.proofs.BoundedMoves.{reader_of}
-use Rattle.brooklet_model.proofs.Ports.{got_below, shaped}
+use Rattle.brooklet_model.proofs.Ports.{shaped}
 use Rattle.brooklet_model.proofs.Received.{writer_of, writer_before, by_words, unwritten_by}
 use Rattle.brooklet_model.proofs.Solutions.{written_out, lists_written, lists_one}
-use Rattle.brooklet_model.proofs.Traces.{read_of, got_read, got_count, at_key_same, at_key_other, at_same}
+use Rattle.brooklet_model.proofs.Traces.{got_read, got_count, at_key_same, at_key_other, at_same}
 use Rattle.brooklet_model.proofs.TypedPlan.{op_fits, inputs_typed}
 use Rattle.brooklet_step.specs.Given.{held_at, held_by, IsHeldBy, IsHeldOf}
 use Rattle.brooklet_step.proofs.GivenLemmas.{at-nil, at-length, ran_typed, first_is_start}
@@ -53,7 +54,7 @@ pub spread_lists : (names : OpForm → List Name) (f : ℕ → ℕ → List item
 spread_lists names f [] o h once i op g = absurd (cc g)
 spread_lists names f (a ∷ ops) o h once zero op g =
     let z : o ≡ o + 0 = omega arith in
-    subst (λ (b : OpForm). Lists (names b) (f (o + 0)) (lists_by_name names f o (a ∷ ops) h)) (some_is a op g)
+    subst (λ (b : OpForm). Lists (names b) (f (o + 0)) (lists_by_name names f o (a ∷ ops) h)) (same_Some a op g)
     (subst (λ n. Lists (names a) (f n) (lists_by_name names f o (a ∷ ops) h)) z
     (lists_written (names a) (f o) h (lists_by_name names f o (a ∷ ops) h)
     (λ q. let w = once q in omega (arith, w))
@@ -66,7 +67,7 @@ spread_lists names f (a ∷ ops) o h once (suc i) op g =
 -- a list at its place
 pub lists_at : (ws : List Name) (f : ℕ → List item.Item) (h : History) → Lists ws f h → (j : ℕ) (q : Name) → slice_get ws j ≡ Some q → h q ≡ f j
 lists_at [] f h l j q g = absurd (cc g)
-lists_at (w ∷ ws) f h l zero q g = subst (λ n. h n ≡ f 0) (some_is w q g) l.0
+lists_at (w ∷ ws) f h l zero q g = subst (λ n. h n ≡ f 0) (same_Some w q g) l.0
 lists_at (w ∷ ws) f h l (suc j) q g = lists_at ws (λ i. f (suc i)) h l.1 j q g
 
 -- a name that stands in a list has a place there
@@ -77,27 +78,10 @@ place_of (w ∷ ws) q lt = ⊎_elim
     (λ c. let r = place_of ws q (let e = ap one_if c.1 in omega (arith, e, lt)) in (suc r.0, r.1))
     (cases_name w q)
 
-got_map : {A B : Type 0} (f : A → B) (xs : List A) (n : ℕ) (x : A) → slice_get xs n ≡ Some x → slice_get (map f xs) n ≡ Some (f x)
-got_map f [] n x h = absurd (cc h)
-got_map f (y ∷ ys) zero x h = let e : y ≡ x = cc h in ap (λ z. Some (f z)) e
-got_map f (y ∷ ys) (suc n) x h = got_map f ys n x h
-
 none_or : (b : Option (ℕ × item.Item)) (is : List QueueType) → IsBad is b
     → ((e : ℕ × item.Item) → b ≡ Some e → e.0 < length is → (IsHeldOf is e.0 e.1 → ⊥) → ⊥) → b ≡ None
 none_or None is h k = refl
 none_or (Some e) is h k = absurd (k e refl h.0 h.1)
-
-take_fewer : {A : Type 0} (n m : ℕ) (xs : List A) → n ≤ m → take n (take m xs) ≡ take n xs
-take_fewer zero m xs le = refl
-take_fewer (suc n) zero xs le = absurd (omega (arith, le))
-take_fewer (suc n) (suc m) [] le = refl
-take_fewer (suc n) (suc m) (x ∷ xs) le = ap (λ l. x ∷ l) (take_fewer n m xs (omega (arith, le)))
-
-none_behind : {A : Type 0} (n : ℕ) (xs : List A) → length xs ≤ n → drop n xs ≡ []
-none_behind zero [] le = refl
-none_behind (suc n) [] le = refl
-none_behind zero (x ∷ xs) le = absurd (omega (arith, le))
-none_behind (suc n) (x ∷ xs) le = none_behind n xs (omega (arith, le))
 
 module _ (p : PlanForm) (inputs : List (List item.Item)) (caps : Capacities) (adds : ℕ → ℕ → List (List ℤ)) (ts : ℕ → SeenTask) (left : History)
     (is : ℕ → Word) (v : IsPlan p) (typed : AreInputs p.inputs inputs)
@@ -131,7 +115,7 @@ module _ (p : PlanForm) (inputs : List (List item.Item)) (caps : Capacities) (ad
       let f = fired o op g in
       none_or (ts o).bad (map kind op.reads) f.bad (λ e at lt no.
       let l = length-map op.reads kind in
-      let q = read_of op.reads e.0 (omega (arith, l, lt)) in
+      let q = there_is op.reads e.0 (omega (arith, l, lt)) in
       let src = source_held o op g e.0 q.0 q.1 in
       let here : list_at (ts o).received e.0 ++ left q.0 ≡ at_port e.0 (is o) ++ e.1 ∷ left q.0 =
       ap (λ x. x ++ left q.0)
@@ -155,7 +139,7 @@ module _ (p : PlanForm) (inputs : List (List item.Item)) (caps : Capacities) (ad
   gave_is : (ws : ℕ → Word) (o : ℕ) (op : OpForm) → slice_get p.ops o ≡ Some op → Good ws o op → (j : ℕ) (q : Name) → slice_get op.writes j ≡ Some q
       → list_at (ts o).sent j ++ list_at (ts o).pending j ≡ held (kind q) [] (hist_by p inputs ws q)
   gave_is ws o op g k j q at =
-      ((fired o op g).given (ws o) k.types k.stands).outs j (got_below op.writes j q at)
+      ((fired o op g).given (ws o) k.types k.stands).outs j (slice_get_within op.writes j q at)
       ∙ ap (λ (t : Option QueueType). held_by t [] ((ran op (ws o)).outs j)) (got_map kind op.writes j q at)
       ∙ ap (held (kind q) []) (sym (lists_at op.writes (ran op (ws o)).outs (hist_by p inputs ws) (by_words p inputs ws v o op g) j q at))
 
@@ -234,7 +218,7 @@ module _ (p : PlanForm) (inputs : List (List item.Item)) (caps : Capacities) (ad
     chosen_long : (port : ℕ) → length (chosen port) ≡ length (at_port port (is n))
     chosen_long port = ⊎_elim
         (λ lt.
-        let q = read_of op.reads port lt in
+        let q = there_is op.reads port lt in
         let f = held_fewer (kind q.0) (at_port port (is n)) (hist_by p inputs ws q.0) (source ws n op g all port q.0 q.1).front in
         let e = ap length (chosen_is port q.0 q.1) in
         let l = length-take (length (at_port port (is n))) (hist_by p inputs ws q.0) in
@@ -250,7 +234,7 @@ module _ (p : PlanForm) (inputs : List (List item.Item)) (caps : Capacities) (ad
       types = subst (IsWordOf (kinds_in p op)) (sym (at_key_same n word ws))
           (typed_ports (kinds_in p op) word (λ port. subst (All (IsOf (kinds_in p op) port)) (sym (word_at port)) (⊎_elim
           (λ lt.
-          let q = read_of op.reads port lt in
+          let q = there_is op.reads port lt in
           let k = length (at_port port (is n)) in
           let h = hist_by p inputs ws q.0 in
           subst (λ (t : Option QueueType). All (IsTyped t) (chosen port)) (sym (got_map kind op.reads port q.0 q.1))
@@ -263,7 +247,7 @@ module _ (p : PlanForm) (inputs : List (List item.Item)) (caps : Capacities) (ad
         ports = relabel_ports (is n) chosen;
         items = λ port. ⊎_elim
             (λ lt.
-            let q = read_of op.reads port lt in
+            let q = there_is op.reads port lt in
             held_front (kind q.0) (at_port port (is n)) (hist_by p inputs ws q.0) (source ws n op g all port q.0 q.1).front
             ∙ ap (held (kind q.0) []) (sym (word_at port ∙ chosen_is port q.0 q.1))
             ∙ sym (ap (λ (t : Option QueueType). held_by t [] (at_port port word)) (got_map kind op.reads port q.0 q.1)))
@@ -317,7 +301,7 @@ module _ (p : PlanForm) (inputs : List (List item.Item)) (caps : Capacities) (ad
       })
       (λ le. record {
         ws = b.ws;
-        good = λ o a lt h. b.good o a (let w = got_below p.ops o a h in omega (arith, w, le)) h;
+        good = λ o a lt h. b.good o a (let w = slice_get_within p.ops o a h in omega (arith, w, le)) h;
       })
       (found p.ops n)
 
@@ -325,7 +309,7 @@ module _ (p : PlanForm) (inputs : List (List item.Item)) (caps : Capacities) (ad
   ws = (build (length p.ops)).ws
 
   good_at : (o : ℕ) (op : OpForm) → slice_get p.ops o ≡ Some op → Good ws o op
-  good_at o op g = (build (length p.ops)).good o op (got_below p.ops o op g) g
+  good_at o op g = (build (length p.ops)).good o op (slice_get_within p.ops o op g) g
 
   -- THE NET
 
@@ -426,7 +410,7 @@ module _ (p : PlanForm) (inputs : List (List item.Item)) (caps : Capacities) (ad
       cut : (xs h : List item.Item) (m : ℕ) → IsFront xs h → length xs ≤ m → xs ++ drop (length xs) (take m h) ≡ take m h
       cut xs h m f le =
           let n = length xs in
-          let a : take n (take m h) ≡ xs = take_fewer n m h le ∙ ap (take n) (sym f.1) ∙ take_front xs f.0 n refl in
+          let a : take n (take m h) ≡ xs = take-take n m h le ∙ ap (take n) (sym f.1) ∙ take_at xs f.0 n refl in
           ap (λ l. l ++ drop n (take m h)) (sym a) ∙ take-append-drop n (take m h)
 
   histories : (q : Name) → history state q ≡ hist_by p inputs ws q
@@ -443,7 +427,7 @@ module _ (p : PlanForm) (inputs : List (List item.Item)) (caps : Capacities) (ad
   lies q = let a = sent_length q in let b = length-append (state.taken q) (state.left q) in omega (arith, a, b)
 
   unwritten : (q : Name) → total (writes_it q) p.ops ≡ 0 → state.pending q ≡ []
-  unwritten q z = none_behind (length (taken_by p ws q) + length (left q)) (hist_by p inputs ws q) (let a = given_many q z in omega (arith, a))
+  unwritten q z = drop_all (length (taken_by p ws q) + length (left q)) (hist_by p inputs ws q) (let a = given_many q z in omega (arith, a))
 
   pends : (o : ℕ) (op : OpForm) → slice_get p.ops o ≡ Some op → (j : ℕ) (q : Name) → slice_get op.writes j ≡ Some q
       → length (list_at (ts o).pending j) ≡ length (state.pending q)

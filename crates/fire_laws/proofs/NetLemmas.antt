@@ -2,9 +2,10 @@
 use Rattle.std.proofs.Common.{ℤ, ◌≡◌, ℕ, zero, suc, ◌+◌, ◌<◌, ◌≤◌, Some, None, List, [], ◌∷◌, ◌++◌, length, refl, sym, ap, ◌∙◌, arith, subst, get_or}
 use Rattle.std.specs.Prelude.{slice_get, min}
 use Rattle.std.proofs.lemmas.List.{take-append-drop, append-nil}
+use Rattle.std.proofs.lemmas.Option.{slice_get_within, same_Some}
+use Rattle.river_base.proofs.Lists.{there_is}
 use Rattle.river_base.specs.declared.item.Item as item
 use Rattle.river_base.specs.Places.{list_at}
-use Rattle.river_base.proofs.Options.{some_is}
 use Rattle.river_plan.specs.Forms.{Name, OpForm, PlanForm}
 use Rattle.river_plan.specs.Uses.{total, reads_it}
 use Rattle.river_plan.specs.Valid.{IsPlan}
@@ -13,7 +14,6 @@ use Rattle.brooklet_model.specs.Histories.{History, Lists, most_firings}
 use Rattle.brooklet_model.specs.Laws.{given_to}
 use Rattle.brooklet_model.specs.Typed.{AreInputs}
 use Rattle.brooklet_model.specs.Words.{Word, at_port}
-use Rattle.brooklet_model.proofs.Ports.{got_below}
 use Rattle.fire_tasks.specs.Fired.{SeenTask, HasFired, bad_at, ports_of}
 use Rattle.fire_laws.specs.Facts.{SettledIsNet}
 use Rattle.fire_laws.specs.Joins.{Joins, AreBeside, lists_by_name}
@@ -28,12 +28,6 @@ use Rattle.fire_tasks.specs.declared.task.Task.{Task}
 use Rattle.fire_laws.specs.Layout.{IsLink, IsSettled, IsInput, HasEnds, AreLaid, AreTasks, AreSettled, known_at, known_in, sent_at, left_in, seen_at, MakeNet}
 use Rattle.fire_tasks.specs.Ports.{received_of, received_in, known_of, sent_of, sent_in}
 use Rattle.fire_tasks.specs.Tasks.{IsTask, StatesStand, seen_task}
-
--- something is there below the length
-pub there_is : {A : Type 0} (xs : List A) (i : ℕ) → i < length xs → (x : A) × (slice_get xs i ≡ Some x)
-there_is [] i lt = absurd (omega (arith, lt))
-there_is (x ∷ xs) zero lt = (x, refl)
-there_is (x ∷ xs) (suc i) lt = there_is xs i (omega (arith, lt))
 
 -- what was received at a port
 pub received_here : (ins : List inlet.Inlet) (port : ℕ) (i : inlet.Inlet) → slice_get ins port ≡ Some i → list_at (received_in ins) port ≡ received_of i
@@ -129,7 +123,7 @@ module _ (p : PlanForm) (inputs : List (List item.Item)) (caps : Capacities) (ad
 
   -- the task of an operator
   pub task_of : (o : ℕ) (op : OpForm) → slice_get p.ops o ≡ Some op → (t : Task) × (slice_get ts o ≡ Some t)
-  task_of o op g = there_is ts o (let b = got_below p.ops o op g in let m = laid.many in omega (arith, b, m))
+  task_of o op g = there_is ts o (let b = slice_get_within p.ops o op g in let m = laid.many in omega (arith, b, m))
 
   pub record At (o : ℕ) (op : OpForm) (t : Task) : Type 0 where
     pub there : slice_get ts o ≡ Some t
@@ -144,7 +138,7 @@ module _ (p : PlanForm) (inputs : List (List item.Item)) (caps : Capacities) (ad
   at_op o op t g gt =
       let w = works_at p adds ts tasks.each o t gt in
       let n = laid.numbers o t gt in
-      let e : w.op ≡ op = some_is w.op op (sym w.op_is ∙ ap (slice_get p.ops) n ∙ g) in
+      let e : w.op ≡ op = same_Some w.op op (sym w.op_is ∙ ap (slice_get p.ops) n ∙ g) in
       subst (λ (y : OpForm). At o y t) e
       (record {
         there = gt;
@@ -164,11 +158,11 @@ module _ (p : PlanForm) (inputs : List (List item.Item)) (caps : Capacities) (ad
   -- the end at a port that is read
   pub inlet_of : (o port : ℕ) (op : OpForm) (q : Name) (t : Task) → slice_get p.ops o ≡ Some op → slice_get op.reads port ≡ Some q
       → slice_get ts o ≡ Some t → (i : inlet.Inlet) × (slice_get t.ins port ≡ Some i)
-  inlet_of o port op q t g r gt = there_is t.ins port (let a = (at_op o op t g gt).ins in let b = got_below op.reads port q r in omega (arith, a, b))
+  inlet_of o port op q t g r gt = there_is t.ins port (let a = (at_op o op t g gt).ins in let b = slice_get_within op.reads port q r in omega (arith, a, b))
 
   pub outlet_of : (o j : ℕ) (op : OpForm) (q : Name) (t : Task) → slice_get p.ops o ≡ Some op → slice_get op.writes j ≡ Some q
       → slice_get ts o ≡ Some t → (f : outlet.Outlet) × (slice_get t.outs j ≡ Some f)
-  outlet_of o j op q t g r gt = there_is t.outs j (let a = (at_op o op t g gt).outs in let b = got_below op.writes j q r in omega (arith, a, b))
+  outlet_of o j op q t g r gt = there_is t.outs j (let a = (at_op o op t g gt).outs in let b = slice_get_within op.writes j q r in omega (arith, a, b))
 
   -- what lies at a reader
   pub left_read : (o port : ℕ) (op : OpForm) (q : Name) (t : Task) (i : inlet.Inlet) → slice_get p.ops o ≡ Some op → slice_get op.reads port ≡ Some q

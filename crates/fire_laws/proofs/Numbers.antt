@@ -1,6 +1,8 @@
 -- The numbers of tasks that are a net are bounded.
 use Rattle.std.proofs.Common.{◌≡◌, ℕ, zero, suc, ◌+◌, ◌<◌, ◌≤◌, Some, List, [], ◌∷◌, length, refl, sym, ap, ◌∙◌, arith, subst, length-append}
 use Rattle.std.specs.Prelude.{slice_get}
+use Rattle.std.proofs.lemmas.Option.{slice_get_within}
+use Rattle.river_base.proofs.Lists.{there_is}
 use Rattle.river_base.specs.declared.item.Item as item
 use Rattle.river_base.specs.Places.{list_at}
 use Rattle.river_plan.specs.Forms.{Name, OpForm}
@@ -8,7 +10,6 @@ use Rattle.river_plan.specs.Names.{count}
 use Rattle.river_plan.specs.Uses.{reads_it}
 use Rattle.brooklet_model.specs.Histories.{History, written, Lists}
 use Rattle.brooklet_model.specs.Words.{Word, at_port, PortsBelow}
-use Rattle.brooklet_model.proofs.Ports.{got_below}
 use Rattle.brooklet_model.proofs.Solutions.{lists_written}
 use Rattle.brooklet_model.proofs.Traces.{word_lengths, at_most}
 use Rattle.brooklet_model.specs.Traced.{ran}
@@ -23,7 +24,7 @@ use Rattle.fire_tasks.specs.declared.task.Task.{Task}
 use Rattle.fire_laws.specs.Facts.{NumbersAreFew}
 use Rattle.fire_tasks.specs.Ports.{received_in, received_count, sent_in, sent_count}
 use Rattle.fire_tasks.specs.Tasks.{all_moves, seen_task}
-use Rattle.fire_laws.proofs.NetLemmas.{joins_by, word_at, at_op, received_by, there_is}
+use Rattle.fire_laws.proofs.NetLemmas.{joins_by, word_at, at_op, received_by}
 
 -- as long as all that came at its ports together
 ports_length : (op : OpForm) (w : Word) → ((q : Name) → count q op.reads ≤ 1) → PortsBelow (length op.reads) w
@@ -82,11 +83,11 @@ moves_are (t ∷ ts) all (op ∷ ops) o ws e h =
     let a1 = a.1 in
     omega (arith, a0, a1, b)
 
-length-ports : (w : Word) → length (ports_of w) ≡ length w
+pub length-ports : (w : Word) → length (ports_of w) ≡ length w
 length-ports [] = refl
 length-ports (e ∷ w) = ap suc (length-ports w)
 
-same_length : (u w : Word) → ports_of u ≡ ports_of w → length u ≡ length w
+pub same_length : (u w : Word) → ports_of u ≡ ports_of w → length u ≡ length w
 same_length u w e = sym (length-ports u) ∙ ap length e ∙ length-ports w
 
 -- the numbers are few: the law
@@ -98,7 +99,7 @@ numbers_law p inputs caps adds ts v laid tasks settled typed =
     let few = few_law p inputs words (sent_by ts) v n.net.words
     (λ o op g.
     let m = laid.many in
-    let t = there_is ts o (let l = got_below p.ops o op g in omega (arith, l, m)) in
+    let t = there_is ts o (let l = slice_get_within p.ops o op g in omega (arith, l, m)) in
     let a = at_op p inputs caps adds ts v laid tasks settled o op t.0 g t.1 in
     let c = sent_counts t.0.outs op.writes (ran op (words o)).outs (list_at (seen_task t.0).pending) a.outs (λ j lj.
     let e = ap length ((a.fired.given (words o) (n.typed o op g) (n.held o op g)).outs j lj) in
@@ -111,7 +112,7 @@ numbers_law p inputs caps adds ts v laid tasks settled typed =
     let z : i ≡ 0 + i = omega arith in
     subst (λ k. (received_count t.ins ≡ length (words k)) × (sent_by ts k ≡ sent_count t.outs)) z
     (let m = laid.many in
-    let op = there_is p.ops i (let l = got_below ts i t g in omega (arith, l, m)) in
+    let op = there_is p.ops i (let l = slice_get_within ts i t g in omega (arith, l, m)) in
     let a = at_op p inputs caps adds ts v laid tasks settled i op.0 t op.1 g in (
       received_counts t.ins op.0.reads (λ port. at_port port (items i)) a.ins
           (λ port. received_by p inputs caps adds ts v laid tasks settled typed i op.0 t op.1 g port)

@@ -2,15 +2,15 @@
 use Rattle.std.proofs.Common.{◌≡◌, Bool, true, false, ℕ, zero, suc, ◌+◌, ◌<◌, ◌≤◌, ◌==◌, Some, List, [], ◌∷◌, ◌++◌, length, take, take-suc, refl, sym, ap, ◌∙◌, subst, arith, ⊎_elim, length-append, get_or, eq-eqb, ne_eqb}
 use Rattle.std.specs.Prelude.{All, slice_get, slice_index_or, if◌then◌else◌}
 use Rattle.std.proofs.lemmas.Bool.{cases_eq, cases_lt}
-use Rattle.std.proofs.lemmas.Option.{slice_get_within, slice_get-get_or, get_or_from_slice_get}
-use Rattle.river_base.proofs.Options.{some_is}
+use Rattle.std.proofs.lemmas.Option.{slice_get_within, slice_get-get_or, get_or_from_slice_get, same_Some}
+use Rattle.river_base.proofs.Lists.{got_last}
 use Rattle.kern_tables.specs.declared.kind.TableKind.{TableKind}
 use Rattle.river_plan.specs.declared.plan.TableDecl.{TableDecl}
 use Rattle.river_plan.specs.Forms.{PlanForm}
 use Rattle.class_locks.specs.Logs.{Holding, AreDistinct}
 use Rattle.fire_tasks.specs.Adds.{table_class}
 use Rattle.fire_open.specs.Homes.{AreByFirst, AreTableClasses, AreClassCells, IsClassCount, kinds_from, class_kinds}
-use Rattle.fire_open.proofs.HomeLemmas.{got_snoc, got_last, got_front}
+use Rattle.fire_open.proofs.HomeLemmas.{got_snoc, got_front}
 
 -- HOW MANY CLASSES
 
@@ -138,7 +138,7 @@ all_behind f c n k (t ∷ ts) lt i x g = by (f k == c) (λ j e. all_behind f c n
   where
     by : (b : Bool) → ((j : ℕ) → slice_get (kinds_from f c (suc k) ts) j ≡ Some x → n < x.0)
         → (j : ℕ) → slice_get (if b then (k, t.kind) ∷ kinds_from f c (suc k) ts else kinds_from f c (suc k) ts) j ≡ Some x → n < x.0
-    by true rest zero e = subst (λ (y : ℕ × TableKind). n < y.0) (some_is (k, t.kind) x e) lt
+    by true rest zero e = subst (λ (y : ℕ × TableKind). n < y.0) (same_Some (k, t.kind) x e) lt
     by true rest (suc j) e = rest j e
     by false rest j e = rest j e
 
@@ -189,7 +189,7 @@ cells_are p classes n cells h k s = record {
       let long = h.many in
       let w = slice_get_within classes u.0 c u.1 in
       let lu : u.0 < length p.tables = omega (arith, w, long) in
-      (u.0, lu, some_is (table_class p u.0) c (sym (h.each u.0 lu) ∙ u.1));
+      (u.0, lu, same_Some (table_class p u.0) c (sym (h.each u.0 lu) ∙ u.1));
 }
 
 -- nothing was added to them

@@ -3,12 +3,12 @@ use Rattle.std.proofs.Common.{◌≡◌, ℕ, zero, suc, ◌+◌, ◌<◌, Optio
 use Rattle.std.specs.Prelude.{slice_get, replicate, All}
 use Rattle.std.proofs.lemmas.List.{length-map, length-replicate, map-append}
 use Rattle.std.proofs.lemmas.List.Elements.{All-nil, All-cons}
-use Rattle.std.proofs.lemmas.Option.{slice_get_within}
+use Rattle.std.proofs.lemmas.Option.{slice_get_within, same_Some}
+use Rattle.river_base.proofs.Lists.{got_map, there_is}
 use Rattle.river_base.specs.declared.item.Item as item
 use Rattle.river_base.specs.declared.kind.QueueType.{QueueType}
 use Rattle.river_base.specs.Places.{list_at}
 use Rattle.river_base.proofs.HeldLemmas.{held-nil}
-use Rattle.river_base.proofs.Options.{some_is}
 use Rattle.river_plan.specs.declared.plan.Decl.{Decl}
 use Rattle.river_plan.specs.ByPlace.{decl_kinds, queue_kinds, kind_at}
 use Rattle.river_plan.specs.Forms.{Name, OpForm, PlanForm, all_decls, queue_names, decl_names}
@@ -27,7 +27,7 @@ use Rattle.brooklet_model.proofs.Traces.{got_count, at_most}
 use Rattle.brooklet_model.proofs.TypedPlan.{op_fits}
 use Rattle.brooklet_model.specs.Fit.{Fit}
 use Rattle.brooklet_step.specs.Given.{held_at, held_by, IsHeldOf, StandsAfter}
-use Rattle.brooklet_step.proofs.ReadLemmas.{got_map, op_at, places_at}
+use Rattle.brooklet_step.proofs.ReadLemmas.{places_at}
 use Rattle.brooklet_step.proofs.StartLemmas.{first_hist, queues_many}
 use Rattle.fire_tasks.specs.Fired.{ports_of, kinds_in, kinds_out, bad_at, IsBad}
 use Rattle.fire_tasks.specs.declared.ports.Outlet.TheVariants.{Kept as Stored}
@@ -41,12 +41,12 @@ use Rattle.fire_open.specs.Fresh.{IsFresh, AreFresh}
 -- an element of a mapped list comes from one of the list
 pub map_got : {A B : Type 0} (f : A → B) (xs : List A) (n : ℕ) (y : B) → slice_get (map f xs) n ≡ Some y → (x : A) × (slice_get xs n ≡ Some x) × (f x ≡ y)
 map_got f [] n y g = absurd (cc g)
-map_got f (x ∷ xs) zero y g = (x, refl, some_is (f x) y g)
+map_got f (x ∷ xs) zero y g = (x, refl, same_Some (f x) y g)
 map_got f (x ∷ xs) (suc n) y g = map_got f xs n y g
 
 same_got_in : {A : Type 0} (n : ℕ) (x y : A) (j : ℕ) → slice_get (replicate n x) j ≡ Some y → x ≡ y
 same_got_in zero x y j g = absurd (cc g)
-same_got_in (suc n) x y zero g = some_is x y g
+same_got_in (suc n) x y zero g = same_Some x y g
 same_got_in (suc n) x y (suc j) g = same_got_in n x y j g
 
 -- THE TYPES AT THEIR PLACES
@@ -86,7 +86,7 @@ all_below names (q ∷ qs) n h = All-cons (λ k. k < n) (place names q) (places 
 pub places_there : (p : PlanForm) (o n : ℕ) (ps : List ℕ) → IsPlan p → o < length p.ops → ps ≡ list_at (read_places p) o → n ≡ length (queue_names p)
     → All (λ k. k < n) ps
 places_there p o n ps v lt e en =
-    let op = op_at p.ops o lt in
+    let op = there_is p.ops o lt in
     subst (All (λ k. k < n)) (sym (e ∙ places_at (λ d. d.reads) (queue_names p) p.ops o op.0 op.1))
     (all_below (queue_names p) op.0.reads n
     (λ j q g. let b = place_below (queue_names p) q (reads_there p v o op.0 op.1 q (got_count op.0.reads j q g)) in omega (arith, b, en)))
@@ -122,7 +122,7 @@ no_word (x ∷ w) e = absurd (cc e)
 module _ (p : PlanForm) (v : IsPlan p) (inputs : List (List item.Item)) (fit : Fit p inputs) where
   first_fresh : (o : ℕ) (t : Task) → IsFirstTask p (first_lines p inputs) (queue_kinds p) o t → IsFresh p inputs o t
   first_fresh o t f =
-      let x = op_at p.ops o f.there in
+      let x = there_is p.ops o f.there in
       let op = x.0 in
       let g = x.1 in
       let rp = places_at (λ d. d.reads) (queue_names p) p.ops o op g in
@@ -174,12 +174,12 @@ module _ (p : PlanForm) (v : IsPlan p) (inputs : List (List item.Item)) (fit : F
             let y = map_got (whole_list (first_lines p inputs)) (list_at (read_places p) o) port i (ap (λ is. slice_get is port) (sym f.ins) ∙ gi) in
             subst (λ z. received_of z ≡ []) y.2 refl;
         inputs_are = λ port op' q i g' r gi.
-            let e : op ≡ op' = some_is op op' (sym g ∙ g') in
+            let e : op ≡ op' = same_Some op op' (sym g ∙ g') in
             let there = slice_get_within op'.reads port q r in
             let here : slice_get (list_at (read_places p) o) port ≡ Some (place (queue_names p) q) =
             ap (λ l. slice_get l port) (rp ∙ ap (λ (d : OpForm). places (queue_names p) d.reads) e) ∙ got_map (place (queue_names p)) op'.reads port q r in
             let y = map_got (whole_list (first_lines p inputs)) (list_at (read_places p) o) port i (ap (λ is. slice_get is port) (sym f.ins) ∙ gi) in
-            let n : y.0 ≡ place (queue_names p) q = some_is y.0 (place (queue_names p) q) (sym y.1 ∙ here) in
+            let n : y.0 ≡ place (queue_names p) q = same_Some y.0 (place (queue_names p) q) (sym y.1 ∙ here) in
             subst (IsInput (given_to p inputs q)) y.2
             (ap (list_at (first_lines p inputs)) n ∙ sym (first_hist p v inputs fit q (reads_there p v o op' g' q (got_count op'.reads port q r))));
         outs = λ j x' gf.
@@ -205,7 +205,7 @@ first_none p qs kinds ts e = record { many = ap length e; each = λ o t g. absur
 
 got_snoc : (ts : List Task) (x t : Task) (o : ℕ) → slice_get (ts ++ x ∷ []) o ≡ Some t → (P : ℕ → Task → Type 0)
     → ((i : ℕ) (u : Task) → slice_get ts i ≡ Some u → P i u) → P (length ts) x → P o t
-got_snoc [] x t zero g P h k = subst (P 0) (some_is x t g) k
+got_snoc [] x t zero g P h k = subst (P 0) (same_Some x t g) k
 got_snoc [] x t (suc o) g P h k = absurd (cc g)
 got_snoc (y ∷ ts) x t zero g P h k = h 0 t g
 got_snoc (y ∷ ts) x t (suc o) g P h k = got_snoc ts x t o g (λ i u. P (suc i) u) (λ i u e. h (suc i) u e) k

@@ -4,9 +4,10 @@ use Rattle.std.specs.Prelude.{slice_get, slice_index, slice_index_or, if◌then�
 use Rattle.std.specs.List.Sorted.{IsStrictlyIncreasing}
 use Rattle.std.proofs.lemmas.Bool.{cases_lt}
 use Rattle.std.proofs.lemmas.List.{map-append, length-map}
-use Rattle.std.proofs.lemmas.Option.{slice_get_within, slice_get-get_or, get_or_from_slice_get}
+use Rattle.std.proofs.lemmas.Option.{slice_get_within, slice_get-get_or, get_or_from_slice_get, same_Some}
+use Rattle.river_base.proofs.Tests.{pos_is}
+use Rattle.river_base.proofs.Lists.{got_last, got_map, there_is}
 use Rattle.river_base.specs.Places.{list_at}
-use Rattle.river_base.proofs.Options.{some_is}
 use Rattle.river_plan.specs.declared.plan.TableDecl.{TableDecl}
 use Rattle.river_plan.specs.Forms.{PlanForm, table_names, variable_names}
 use Rattle.river_plan.specs.Places.{place, places, var_places}
@@ -19,7 +20,7 @@ use Rattle.brooklet_model.specs.Histories.{tables_of}
 use Rattle.brooklet_model.proofs.Traces.{got_count}
 use Rattle.brooklet_step.specs.Tables.{table_places}
 use Rattle.brooklet_step.proofs.OpTables.{among_known, table_places_are}
-use Rattle.brooklet_step.proofs.ReadLemmas.{got_map, op_at, places_at}
+use Rattle.brooklet_step.proofs.ReadLemmas.{places_at}
 use Rattle.fire_tasks.specs.Adds.{AreHomes, natural_of, table_class, table_numbers}
 use Rattle.fire_tasks.specs.declared.task.TablePort.{TablePort}
 use Rattle.fire_open.specs.Homes.{HasClass, AreByFirst, AreClassesOf, AreTableClasses}
@@ -28,15 +29,10 @@ use Rattle.fire_open.proofs.FirstLemmas.{map_got}
 -- an element of a list with one more
 pub got_snoc : {A : Type 0} (xs : List A) (x y : A) (j : ℕ) (P : ℕ → A → Type 0) → slice_get (xs ++ x ∷ []) j ≡ Some y
     → ((i : ℕ) (z : A) → slice_get xs i ≡ Some z → P i z) → P (length xs) x → P j y
-got_snoc [] x y zero P g h k = subst (P 0) (some_is x y g) k
+got_snoc [] x y zero P g h k = subst (P 0) (same_Some x y g) k
 got_snoc [] x y (suc j) P g h k = absurd (cc g)
 got_snoc (a ∷ xs) x y zero P g h k = h 0 y g
 got_snoc (a ∷ xs) x y (suc j) P g h k = got_snoc xs x y j (λ i z. P (suc i) z) g (λ i z e. h (suc i) z e) k
-
--- the last of a list with one more, and the others
-pub got_last : {A : Type 0} (xs : List A) (x : A) → slice_get (xs ++ x ∷ []) (length xs) ≡ Some x
-got_last [] x = refl
-got_last (a ∷ xs) x = got_last xs x
 
 -- an element of a list is one of the list with one more
 pub got_front : {A : Type 0} (xs : List A) (x y : A) (i : ℕ) → slice_get xs i ≡ Some y → slice_get (xs ++ x ∷ []) i ≡ Some y
@@ -154,10 +150,7 @@ got_index (x ∷ xs) zero lt = refl
 got_index (x ∷ xs) (suc i) lt = got_index xs i (omega (arith, lt))
 
 index_got : (xs : List ℕ) (i x : ℕ) → slice_get xs i ≡ Some x → slice_index_or xs i 0 ≡ x
-index_got xs i x g = some_is (slice_index_or xs i 0) x (sym (got_index xs i (slice_get_within xs i x g)) ∙ g)
-
-pos_is : (a b : ℕ) → pos a ≡ pos b → a ≡ b
-pos_is a b e = cc
+index_got xs i x g = same_Some (slice_index_or xs i 0) x (sym (got_index xs i (slice_get_within xs i x g)) ∙ g)
 
 -- the classes that are given out are those of the plan's tables
 pub table_classes_are : (p : PlanForm) (users : List (List ℤ)) (numbers : List ℤ) (places : List ℕ) → users ≡ table_users p → AreClasses users numbers
@@ -191,14 +184,14 @@ pub numbers_are : (p : PlanForm) (o n : ℕ) (vs tables : List ℕ) → o < leng
     → tables ≡ table_places n vs
     → tables ≡ table_numbers p (slice_get p.ops o)
 numbers_are p o n vs tables lt en ev et =
-    let x = op_at p.ops o lt in
+    let x = there_is p.ops o lt in
     et ∙ ap (table_places n) (ev ∙ places_at (λ d. d.vars) (variable_names p) p.ops o x.0 x.1) ∙ table_places_are p x.0 n en ∙ ap (table_numbers p) (sym x.1)
 
 -- each is the number of a table
 pub numbers_below : (p : PlanForm) (o : ℕ) (tables : List ℕ) → o < length p.ops → tables ≡ table_numbers p (slice_get p.ops o) → (k d : ℕ) → k < length tables
     → slice_index_or tables k d < length p.tables
 numbers_below p o tables lt e k d lk =
-    let x = op_at p.ops o lt in
+    let x = there_is p.ops o lt in
     let names = table_names p.tables in
     let qs = tables_of names x.0 in
     let is : tables ≡ places names qs = e ∙ ap (table_numbers p) x.1 in

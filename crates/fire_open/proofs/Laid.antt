@@ -1,13 +1,12 @@
 -- What the layout of a net gives, and what keeps it.
 use Rattle.std.proofs.Common.{◌≡◌, ℕ, ℤ, ◌<◌, ⊎_elim, Some, List, length, sym, ap, ◌∙◌, arith, subst}
 use Rattle.std.specs.Prelude.{slice_get}
-use Rattle.std.proofs.lemmas.Option.{get_or_from_slice_get, slice_get_within}
+use Rattle.std.proofs.lemmas.Option.{get_or_from_slice_get, slice_get_within, same_Some}
+use Rattle.river_base.proofs.Lists.{there_is}
 use Rattle.river_base.specs.declared.item.Item as item
-use Rattle.river_base.proofs.Options.{some_is}
 use Rattle.river_plan.specs.Forms.{OpForm, PlanForm}
 use Rattle.river_plan.specs.Uses.{reads_it, writes_it}
 use Rattle.river_plan.specs.Valid.{IsPlan}
-use Rattle.brooklet_model.proofs.Ports.{got_below}
 use Rattle.brooklet_model.proofs.Traces.{one_place, place_once, got_count, at_most}
 use Rattle.brooklet_model.specs.Bounded.{Capacities}
 use Rattle.brooklet_model.proofs.BoundedMoves.{reader_behind}
@@ -19,7 +18,6 @@ use Rattle.fire_tasks.specs.declared.task.Task.{Task}
 use Rattle.fire_laws.specs.Layout.{IsStored, AreLaid, AreTasks, AreSettled, HasEnds}
 use Rattle.fire_tasks.specs.Ports.{in_end, out_end}
 use Rattle.fire_tasks.specs.Tasks.{TaskEnds, IsTask, ends_of, all_ends}
-use Rattle.fire_laws.proofs.NetLemmas.{there_is}
 use Rattle.fire_open.specs.Links.{IsLinkOf, AreLinks, LinkEnds, IsPaired, ArePaired, ShareAnEnd, ShareNoEnd, AreMet}
 use Rattle.fire_open.proofs.Lists.{same_got, map_long}
 use Rattle.fire_open.proofs.StillLemmas.{link_same, input_same, pair_of}
@@ -80,13 +78,13 @@ apart_links p v l l' a b s = ⊎_elim
   where
     reads_same : l.reader ≡ l'.reader → l.port ≡ l'.port → a.queue ≡ b.queue
     reads_same er ep =
-        let o : a.read ≡ b.read = some_is a.read b.read (sym a.read_is ∙ ap (slice_get p.ops) er ∙ b.read_is) in
-        some_is a.queue b.queue (sym a.reads ∙ ap (λ (x : OpForm). slice_get x.reads l.port) o ∙ ap (slice_get b.read.reads) ep ∙ b.reads)
+        let o : a.read ≡ b.read = same_Some a.read b.read (sym a.read_is ∙ ap (slice_get p.ops) er ∙ b.read_is) in
+        same_Some a.queue b.queue (sym a.reads ∙ ap (λ (x : OpForm). slice_get x.reads l.port) o ∙ ap (slice_get b.read.reads) ep ∙ b.reads)
 
     writes_same : l.writer ≡ l'.writer → l.out ≡ l'.out → a.queue ≡ b.queue
     writes_same ew ej =
-        let o : a.write ≡ b.write = some_is a.write b.write (sym a.write_is ∙ ap (slice_get p.ops) ew ∙ b.write_is) in
-        some_is a.queue b.queue (sym a.writes ∙ ap (λ (x : OpForm). slice_get x.writes l.out) o ∙ ap (slice_get b.write.writes) ej ∙ b.writes)
+        let o : a.write ≡ b.write = same_Some a.write b.write (sym a.write_is ∙ ap (slice_get p.ops) ew ∙ b.write_is) in
+        same_Some a.queue b.queue (sym a.writes ∙ ap (λ (x : OpForm). slice_get x.writes l.out) o ∙ ap (slice_get b.write.writes) ej ∙ b.writes)
 
     by_queue : a.queue ≡ b.queue → l ≡ l'
     by_queue q =
@@ -100,8 +98,8 @@ apart_links p v l l' a b s = ⊎_elim
         let ew : l.writer ≡ l'.writer =
         one_place (writes_it a.queue) p.ops l.writer l'.writer a.write b.write (omega (arith, wo)) a.write_is b.write_is
         (got_count a.write.writes l.out a.queue a.writes) (got_count b.write.writes l'.out a.queue w') in
-        let or : a.read ≡ b.read = some_is a.read b.read (sym a.read_is ∙ ap (slice_get p.ops) er ∙ b.read_is) in
-        let ow : a.write ≡ b.write = some_is a.write b.write (sym a.write_is ∙ ap (slice_get p.ops) ew ∙ b.write_is) in
+        let or : a.read ≡ b.read = same_Some a.read b.read (sym a.read_is ∙ ap (slice_get p.ops) er ∙ b.read_is) in
+        let ow : a.write ≡ b.write = same_Some a.write b.write (sym a.write_is ∙ ap (slice_get p.ops) ew ∙ b.write_is) in
         let mr = at_most (reads_it a.queue) p.ops l.reader a.read a.read_is in
         let mw = at_most (writes_it a.queue) p.ops l.writer a.write a.write_is in
         let ep : l.port ≡ l'.port =
@@ -127,11 +125,11 @@ pub record TaskAt (p : PlanForm) (ts : List Task) (o : ℕ) (op : OpForm) : Type
 pub task_at : (p : PlanForm) (inputs : List (List item.Item)) (caps : Capacities) (adds : ℕ → ℕ → List (List ℤ)) (ts : List Task)
     → AreLaid p inputs caps ts → AreTasks p adds ts → (o : ℕ) (op : OpForm) → slice_get p.ops o ≡ Some op → TaskAt p ts o op
 task_at p inputs caps adds ts laid tasks o op g =
-    let lt : o < length ts = (let b = got_below p.ops o op g in let m = laid.many in omega (arith, b, m)) in
+    let lt : o < length ts = (let b = slice_get_within p.ops o op g in let m = laid.many in omega (arith, b, m)) in
     let x = there_is ts o lt in
     let k : IsTask p (adds x.0.op) x.0 = subst (λ (y : Task). IsTask p (adds y.op) y) (get_or_from_slice_get ts o x.0 x.0 x.1) (tasks.each o x.0 lt) in
     let n = laid.numbers o x.0 x.1 in
-    let e : k.op ≡ op = some_is k.op op (sym k.op_is ∙ ap (slice_get p.ops) n ∙ g) in
+    let e : k.op ≡ op = same_Some k.op op (sym k.op_is ∙ ap (slice_get p.ops) n ∙ g) in
     record { t = x.0; t_is = x.1; ins = k.ins ∙ ap (λ (y : OpForm). length y.reads) e; outs = k.outs ∙ ap (λ (y : OpForm). length y.writes) e }
 
 pub ends_of_link : (p : PlanForm) (inputs : List (List item.Item)) (caps : Capacities) (adds : ℕ → ℕ → List (List ℤ)) (ts : List Task) (l : Link)
@@ -158,8 +156,8 @@ pub paired_link : (p : PlanForm) (inputs : List (List item.Item)) (caps : Capaci
 paired_link p inputs caps adds ts v laid tasks l k =
     let r = task_at p inputs caps adds ts laid tasks l.reader k.read k.read_is in
     let w = task_at p inputs caps adds ts laid tasks l.writer k.write k.write_is in
-    let i = there_is r.t.ins l.port (let a = r.ins in let b = got_below k.read.reads l.port k.queue k.reads in omega (arith, a, b)) in
-    let f = there_is w.t.outs l.out (let a = w.outs in let b = got_below k.write.writes l.out k.queue k.writes in omega (arith, a, b)) in
+    let i = there_is r.t.ins l.port (let a = r.ins in let b = slice_get_within k.read.reads l.port k.queue k.reads in omega (arith, a, b)) in
+    let f = there_is w.t.outs l.out (let a = w.outs in let b = slice_get_within k.write.writes l.out k.queue k.writes in omega (arith, a, b)) in
     let ends : LinkEnds ts l f.0 i.0 = record { t = r.t; t' = w.t; t_is = r.t_is; t_is' = w.t_is; in_is = i.1; out_is = f.1 } in
     record {
       order = reader_behind p v l.writer l.reader k.write k.read k.queue k.write_is (got_count k.write.writes l.out k.queue k.writes) k.read_is

@@ -1,11 +1,11 @@
 -- Fresh tasks with rings between them are a net.
 use Rattle.std.proofs.Common.{◌≡◌, ℕ, ℤ, suc, Some, List, [], ◌∷◌, length, refl, sym, ap, ◌∙◌, arith, subst}
 use Rattle.std.specs.Prelude.{slice_get}
+use Rattle.std.proofs.lemmas.Option.{slice_get_within, same_Some}
+use Rattle.river_base.proofs.Lists.{there_is}
 use Rattle.river_base.specs.declared.item.Item as item
-use Rattle.river_base.proofs.Options.{some_is}
 use Rattle.river_plan.specs.Forms.{OpForm, PlanForm}
 use Rattle.river_plan.specs.Valid.{IsPlan}
-use Rattle.brooklet_model.proofs.Ports.{got_below}
 use Rattle.brooklet_model.proofs.Traces.{got_count}
 use Rattle.brooklet_model.specs.Fire.{first_kept}
 use Rattle.brooklet_step.specs.Given.{FitState, StandsAfter}
@@ -19,7 +19,6 @@ use Rattle.fire_tasks.specs.declared.task.Task.{Task}
 use Rattle.fire_tasks.specs.Ports.{received_of, received_count, sent_of, sent_count}
 use Rattle.fire_tasks.specs.Tasks.{IsTask, all_moves, seen_task}
 use Rattle.fire_tasks.specs.Adds.{AreHomes}
-use Rattle.fire_laws.proofs.NetLemmas.{there_is}
 use Rattle.fire_open.specs.Fresh.{AreFresh}
 use Rattle.fire_open.specs.Links.{IsLinkOf, AreLinks, IsThere}
 use Rattle.fire_open.specs.Rings.{AreUnmoved, AreThere, TaskBody, body, AreRung}
@@ -71,17 +70,17 @@ fresh_there p inputs ts ls v h k = record {
     task_here : (o : ℕ) (op : OpForm) → slice_get p.ops o ≡ Some op
         → (t : Task) × (slice_get ts o ≡ Some t) × (length t.ins ≡ length op.reads) × (length t.outs ≡ length op.writes)
     task_here o op g =
-        let x = there_is ts o (let b = got_below p.ops o op g in let m = h.many in omega (arith, b, m)) in
+        let x = there_is ts o (let b = slice_get_within p.ops o op g in let m = h.many in omega (arith, b, m)) in
         let f = h.each o x.0 x.1 in
-        let e : f.task.op ≡ op = some_is f.task.op op (sym f.task.op_is ∙ ap (slice_get p.ops) f.number ∙ g) in
+        let e : f.task.op ≡ op = same_Some f.task.op op (sym f.task.op_is ∙ ap (slice_get p.ops) f.number ∙ g) in
         (x.0, x.1, f.task.ins ∙ ap (λ (y : OpForm). length y.reads) e, f.task.outs ∙ ap (λ (y : OpForm). length y.writes) e)
 
     there : (l : Link) → IsLinkOf p l → IsThere ts l
     there l x =
         let r = task_here l.reader x.read x.read_is in
         let w = task_here l.writer x.write x.write_is in
-        let i = there_is r.0.ins l.port (let a = r.2 in let b = got_below x.read.reads l.port x.queue x.reads in omega (arith, a, b)) in
-        let f = there_is w.0.outs l.out (let a = w.3 in let b = got_below x.write.writes l.out x.queue x.writes in omega (arith, a, b)) in
+        let i = there_is r.0.ins l.port (let a = r.2 in let b = slice_get_within x.read.reads l.port x.queue x.reads in omega (arith, a, b)) in
+        let f = there_is w.0.outs l.out (let a = w.3 in let b = slice_get_within x.write.writes l.out x.queue x.writes in omega (arith, a, b)) in
         record {
           order = reader_behind p v l.writer l.reader x.write x.read x.queue x.write_is (got_count x.write.writes l.out x.queue x.writes) x.read_is
               (got_count x.read.reads l.port x.queue x.reads);

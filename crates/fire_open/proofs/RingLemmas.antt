@@ -1,10 +1,11 @@
 -- Rings are put between tasks, one after another.
-use Rattle.std.proofs.Common.{◌≡◌, ℕ, zero, suc, ◌+◌, ◌<◌, inl, inr, ⊎_elim, Some, List, [], ◌∷◌, length, map, refl, sym, ap, ◌∙◌, arith, subst, get_or, set, ◌++◌, get_or-set_other}
+use Rattle.std.proofs.Common.{◌≡◌, ℕ, ◌+◌, ◌<◌, inl, inr, ⊎_elim, Some, List, [], length, map, refl, sym, ap, ◌∙◌, arith, subst, get_or, set, ◌++◌, get_or-set_other}
 use Rattle.std.specs.Prelude.{slice_get}
 use Rattle.std.proofs.lemmas.Bool.{cases_lt}
-use Rattle.std.proofs.lemmas.Option.{get_or_from_slice_get, slice_get_within}
+use Rattle.std.proofs.lemmas.Option.{get_or_from_slice_get, slice_get_within, same_Some}
+use Rattle.std.proofs.lemmas.List.{get_or_default}
+use Rattle.river_base.proofs.Lists.{there_is}
 use Rattle.river_base.specs.Places.{list_at}
-use Rattle.river_base.proofs.Options.{some_is}
 use Rattle.fire_tasks.specs.declared.ports.Inlet as inlet
 use Rattle.fire_tasks.specs.declared.ports.Inlet.TheVariants.{Ring as TakesFrom}
 use Rattle.fire_tasks.specs.declared.ports.Outlet as outlet
@@ -15,7 +16,7 @@ use Rattle.fire_tasks.specs.declared.task.Task.{Task}
 use Rattle.fire_laws.specs.Layout.{IsLink, IsSettled}
 use Rattle.fire_tasks.specs.Ports.{sent_of, sent_in, received_of, received_in, pending_in}
 use Rattle.fire_open.specs.Settling.{with_out, with_in}
-use Rattle.fire_laws.proofs.NetLemmas.{there_is, received_here, sent_here}
+use Rattle.fire_laws.proofs.NetLemmas.{received_here, sent_here}
 use Rattle.fire_tasks.proofs.PortLemmas.{received_same}
 use Rattle.fire_open.specs.Links.{LinkEnds, IsThere, Put, ShareAnEnd}
 use Rattle.fire_open.specs.Rings.{AreUnmoved, AreThere, TaskBody, body, AreRung}
@@ -27,8 +28,8 @@ pub rung_first : (room : Link → ℕ) (ts : List Task) (ls : List Link) → Are
 rung_first room ts ls = record {
   bodies = refl;
   rung = λ m l f i lt. absurd (omega (arith, lt));
-  ins = λ o port t t0 g g0 no. let e : t ≡ t0 = some_is t t0 (sym g ∙ g0) in ap (λ (x : Task). slice_get x.ins port) e;
-  outs = λ o j t t0 g g0 no. let e : t ≡ t0 = some_is t t0 (sym g ∙ g0) in ap (λ (x : Task). slice_get x.outs j) e;
+  ins = λ o port t t0 g g0 no. let e : t ≡ t0 = same_Some t t0 (sym g ∙ g0) in ap (λ (x : Task). slice_get x.ins port) e;
+  outs = λ o j t t0 g g0 no. let e : t ≡ t0 = same_Some t t0 (sym g ∙ g0) in ap (λ (x : Task). slice_get x.outs j) e;
 }
 
 ins_long : (t t0 : Task) → body t ≡ body t0 → length t.ins ≡ length t0.ins
@@ -168,7 +169,7 @@ rung_next room ts0 ts ts' ls n l th g h put = record {
         let ar = after_task ts ts' l put.out put.in_ there put.swapped l2.reader x.t x.t_is in
         let aw = after_task ts ts' l put.out put.in_ there put.swapped l2.writer x.t' x.t_is' in
         let other : n ≡ k → ⊥ =
-        (λ e. nr (let q : l ≡ l2 = some_is l l2 (sym g ∙ ap (slice_get ls) e ∙ g2) in (ap (λ (y : Link). y.reader) q, ap (λ (y : Link). y.port) q))) in
+        (λ e. nr (let q : l ≡ l2 = same_Some l l2 (sym g ∙ ap (slice_get ls) e ∙ g2) in (ap (λ (y : Link). y.reader) q, ap (λ (y : Link). y.port) q))) in
         h.rung k l2 f i (⊎_elim (λ z. z) (λ ge. absurd (other (omega (arith, ge, lt)))) (cases_lt k n)) g2 (record {
           t = ar.t;
           t' = aw.t;
@@ -179,11 +180,6 @@ rung_next room ts0 ts ts' ls n l th g h put = record {
         }))
         (same_or l.writer l2.writer l.out l2.out))
         (same_or l.reader l2.reader l.port l2.port)
-
-same_default : (xs : List Task) (i : ℕ) (c d : Task) → i < length xs → get_or xs i c ≡ get_or xs i d
-same_default [] i c d lt = absurd (omega (arith, lt))
-same_default (x ∷ xs) zero c d lt = refl
-same_default (x ∷ xs) (suc i) c d lt = same_default xs i c d (omega (arith, lt))
 
 -- an empty ring was put there
 pub put_is : (cap : ℕ) (ts : List Task) (l : Link) (feed : Sending) (take : Taking) (w r : Task) → w ≡ get_or ts l.writer w
@@ -196,9 +192,9 @@ put_is cap ts l feed take w r wi ri lt lr id f t = record {
   swapped = record {
     writer = w;
     reader = r;
-    writer_is = λ d. sym (wi ∙ same_default ts l.writer w d (omega (arith, lt, lr)));
+    writer_is = λ d. sym (wi ∙ get_or_default ts l.writer w d (omega (arith, lt, lr)));
     reader_is = λ d. sym
-        (ri ∙ get_or-set_other ts l.writer l.reader (with_out w l.out (SendsTo feed)) r (λ e. omega (arith, e, lt)) ∙ same_default ts l.reader r d lr);
+        (ri ∙ get_or-set_other ts l.writer l.reader (with_out w l.out (SendsTo feed)) r (λ e. omega (arith, e, lt)) ∙ get_or_default ts l.reader r d lr);
     after = refl;
   };
   link = (id, t.0, f.0);

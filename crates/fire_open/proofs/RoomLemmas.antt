@@ -1,13 +1,12 @@
 -- The queue of a link, as the code finds it.
 use Rattle.std.proofs.Common.{◌≡◌, ℕ, ◌<◌, Some, [], length, get_or, sym, ap, ◌∙◌, subst}
 use Rattle.std.specs.Prelude.{slice_get}
-use Rattle.std.proofs.lemmas.Option.{get_or_from_slice_get, slice_get-get_or, slice_get_within}
-use Rattle.river_base.proofs.Options.{some_is}
+use Rattle.std.proofs.lemmas.Option.{get_or_from_slice_get, slice_get-get_or, slice_get_within, same_Some}
+use Rattle.river_base.proofs.Lists.{got_map}
 use Rattle.river_plan.specs.Forms.{Name, OpForm, PlanForm, plan_form, op_form, op_forms}
 use Rattle.river_plan.specs.declared.op.Op.{Op}
 use Rattle.river_plan.specs.declared.plan.RawPlan.{RawPlan}
 use Rattle.brooklet_step.proofs.NextLemmas.{op_there}
-use Rattle.brooklet_step.proofs.ReadLemmas.{got_map}
 use Rattle.fire_open.specs.Links.{IsLinkOf, link_queue, writes_in}
 use Rattle.fire_open.specs.declared.settling.Link.{Link}
 
@@ -18,7 +17,7 @@ writer_at raw p i d op v g at =
     let lt : i < length raw.ops = op_there raw p i op v g in
     let s : slice_get raw.ops i ≡ Some d = slice_get-get_or raw.ops i d lt ∙ ap Some (sym at) in
     let h : slice_get (op_forms raw.ops) i ≡ Some op = ap (λ (q : PlanForm). slice_get q.ops i) v ∙ g in
-    some_is (op_form d) op (sym (got_map op_form raw.ops i d s) ∙ h)
+    same_Some (op_form d) op (sym (got_map op_form raw.ops i d s) ∙ h)
 
 -- it has the port that the link has
 pub port_there : (raw : RawPlan) (p : PlanForm) (l : Link) (d : Op) → plan_form raw ≡ p → IsLinkOf p l → d ≡ get_or raw.ops l.writer d → l.out < length d.writes

@@ -2,8 +2,7 @@
 use Rattle.std.proofs.Common.{◌≡◌, ℕ, zero, suc, ◌+◌, ◌<◌, ◌≤◌, ◌⊎◌, inl, inr, ⊎_elim, Some, List, [], ◌∷◌, length, map, refl, sym, ap, ◌∙◌, arith, subst, get_or, set, get_or-set_other}
 use Rattle.std.specs.Prelude.{slice_get}
 use Rattle.std.proofs.lemmas.Bool.{cases_eq, cases_lt}
-use Rattle.std.proofs.lemmas.Option.{get_or_from_slice_get, slice_get_within}
-use Rattle.river_base.proofs.Options.{some_is}
+use Rattle.std.proofs.lemmas.Option.{get_or_from_slice_get, slice_get_within, same_Some}
 use Rattle.fire_tasks.specs.declared.ports.Inlet as inlet
 use Rattle.fire_tasks.specs.declared.ports.Outlet as outlet
 use Rattle.fire_open.specs.declared.settling.Link.{Link}
@@ -202,7 +201,7 @@ settling_next ts0 ls n ts ts' l paired apart g h m =
         let ar = after_task ts ts' l m.out m.in_ (there_of ts l pl) (swapped_of ts ts' l m) l2.reader x.t x.t_is in
         let aw = after_task ts ts' l m.out m.in_ (there_of ts l pl) (swapped_of ts ts' l m) l2.writer x.t' x.t_is' in
         let other : n ≡ k → ⊥ =
-        (λ e. nr (let q : l ≡ l2 = some_is l l2 (sym g ∙ ap (slice_get ls) e ∙ g2) in (ap (λ (y : Link). y.reader) q, ap (λ (y : Link). y.port) q))) in
+        (λ e. nr (let q : l ≡ l2 = same_Some l l2 (sym g ∙ ap (slice_get ls) e ∙ g2) in (ap (λ (y : Link). y.reader) q, ap (λ (y : Link). y.port) q))) in
         h.met.each k l2 f i (⊎_elim (λ z. z) (λ ge. absurd (other (omega (arith, ge, lt)))) (cases_lt k n)) g2 (record {
           t = ar.t;
           t' = aw.t;

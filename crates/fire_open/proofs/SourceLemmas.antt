@@ -1,11 +1,11 @@
 -- Links are found by the places of queues.
-use Rattle.std.proofs.Common.{◌≡◌, ℕ, zero, suc, ◌+◌, ◌<◌, ◌≤◌, ◌⊎◌, inl, inr, ⊎_elim, Option, Some, None, List, [], ◌∷◌, ◌++◌, length, map, refl, sym, ap, ◌∙◌, arith, subst, get_or, set, length-append}
+use Rattle.std.proofs.Common.{◌≡◌, ℕ, zero, suc, ◌+◌, ◌<◌, ◌≤◌, ◌⊎◌, inl, inr, ⊎_elim, Option, Some, None, List, [], ◌∷◌, ◌++◌, length, map, sym, ap, ◌∙◌, arith, subst, get_or, set, length-append}
 use Rattle.std.specs.Prelude.{slice_get, replicate}
 use Rattle.std.proofs.lemmas.Bool.{cases_eq, cases_lt}
 use Rattle.std.proofs.lemmas.List.{length-map, length-replicate, length-set}
-use Rattle.std.proofs.lemmas.Option.{get_or_from_slice_get, slice_get_within}
+use Rattle.std.proofs.lemmas.Option.{get_or_from_slice_get, slice_get_within, same_Some}
+use Rattle.river_base.proofs.Lists.{there_is, got_map, got_first, got_last}
 use Rattle.river_base.specs.Places.{list_at}
-use Rattle.river_base.proofs.Options.{some_is}
 use Rattle.river_plan.specs.declared.plan.Decl.{Decl}
 use Rattle.river_plan.specs.Forms.{Name, OpForm, PlanForm, queue_names, decl_names}
 use Rattle.river_plan.specs.Names.{count}
@@ -13,11 +13,9 @@ use Rattle.river_plan.specs.Places.{place, places, read_places, write_places}
 use Rattle.river_plan.specs.Uses.{reads_it, writes_it}
 use Rattle.river_plan.specs.Valid.{IsPlan}
 use Rattle.river_plan.proofs.PlaceLemmas.{place_below, place_apart}
-use Rattle.brooklet_model.proofs.Ports.{got_below}
 use Rattle.brooklet_model.proofs.Traces.{got_count, at_most}
-use Rattle.brooklet_step.proofs.ReadLemmas.{got_map, op_at, places_at}
+use Rattle.brooklet_step.proofs.ReadLemmas.{places_at}
 use Rattle.fire_open.specs.declared.settling.Link.{Link}
-use Rattle.fire_laws.proofs.NetLemmas.{there_is}
 use Rattle.fire_open.specs.declared.links.Source.{Source}
 use Rattle.fire_open.specs.Links.{IsLinkOf, AreLinks}
 use Rattle.fire_open.specs.Sources.{ComesBefore, WritesAt, KnowWriters, LinkReaders}
@@ -37,7 +35,7 @@ pub record PortAt (p : PlanForm) (qs : OpForm → List Name) (o j n : ℕ) : Typ
 pub port_at : (p : PlanForm) (qs : OpForm → List Name) (o j n d : ℕ) (ps : List ℕ) → o < length p.ops
     → ps ≡ list_at (map (λ op. places (queue_names p) (qs op)) p.ops) o → j < length ps → n ≡ get_or ps j d → PortAt p qs o j n
 port_at p qs o j n d ps lt e lj en =
-    let x = op_at p.ops o lt in
+    let x = there_is p.ops o lt in
     let ep = e ∙ places_at qs (queue_names p) p.ops o x.0 x.1 in
     let long : length ps ≡ length (qs x.0) = ap length ep ∙ length-map (qs x.0) (place (queue_names p)) in
     let q = there_is (qs x.0) j (omega (arith, long, lj)) in
@@ -72,7 +70,7 @@ read_below p o j n m v a e = let b = place_below (queue_names p) a.queue (read_d
 
 none_there : (n i : ℕ) (s : Source) → slice_get (replicate n None) i ≡ Some (Some s) → ⊥
 none_there zero i s g = cc g
-none_there (suc n) zero s g = let e : None ≡ Some s = some_is None (Some s) g in cc e
+none_there (suc n) zero s g = let e : None ≡ Some s = same_Some None (Some s) g in cc e
 none_there (suc n) (suc i) s g = none_there n i s g
 
 none_in_both : (xs ys : List (Option Source)) → ((i : ℕ) (s : Source) → slice_get xs i ≡ Some (Some s) → ⊥)
@@ -111,7 +109,7 @@ know_first p a b c s0 s1 s2 s3 e0 e1 e2 e3 ea eb ec =
       all = λ o' j' op q b' g w. absurd (⊎_elim (λ l. omega (arith, l)) (λ e. let l = e.1 in omega (arith, l)) b');
     }
 
-before_next : (o j o' j' : ℕ) → ComesBefore o (j + 1) o' j' → ComesBefore o j o' j' ⊎ ((o ≡ o') × (j ≡ j'))
+pub before_next : (o j o' j' : ℕ) → ComesBefore o (j + 1) o' j' → ComesBefore o j o' j' ⊎ ((o ≡ o') × (j ≡ j'))
 before_next o j o' j' b = ⊎_elim
     (λ l. inl (inl l))
     (λ e. ⊎_elim (λ l. inl (inr (e.0, l))) (λ ge. inr (sym e.0, (let l = e.1 in omega (arith, l, ge)))) (cases_lt j' j))
@@ -127,7 +125,7 @@ know_next p o j n ss a lt k =
       right = λ m s g. ⊎_elim
           (λ e.
           let x : Some s ≡ Some new = set_got_is ss n (Some s) (Some new) (ap (slice_get (set ss n (Some new))) e ∙ g) in
-          subst (WritesAt p m) (sym (some_is s new x))
+          subst (WritesAt p m) (sym (same_Some s new x))
           (record { queue = a.queue; write = a.op; write_is = a.op_is; writes = a.queue_is; place_is = sym e ∙ a.place_is }))
           (λ ne. k.right m s (sym (set_got_other ss n m (Some new) ne) ∙ g))
           (cases_eq n m);
@@ -136,8 +134,8 @@ know_next p o j n ss a lt k =
           (λ ne. ⊎_elim
           (λ old. let x = k.all o' j' op q old g w in (x.0, set_got_other ss n (place (queue_names p) q) (Some new) ne ∙ x.1))
           (λ here.
-          let eo : a.op ≡ op = some_is a.op op (sym a.op_is ∙ ap (slice_get p.ops) here.0 ∙ g) in
-          let eq : a.queue ≡ q = some_is a.queue q (sym a.queue_is ∙ ap (λ (y : OpForm). slice_get y.writes j) eo ∙ ap (slice_get op.writes) here.1 ∙ w) in
+          let eo : a.op ≡ op = same_Some a.op op (sym a.op_is ∙ ap (slice_get p.ops) here.0 ∙ g) in
+          let eq : a.queue ≡ q = same_Some a.queue q (sym a.queue_is ∙ ap (λ (y : OpForm). slice_get y.writes j) eo ∙ ap (slice_get op.writes) here.1 ∙ w) in
           absurd (ne (a.place_is ∙ ap (place (queue_names p)) eq)))
           (before_next o j o' j' b))
           (cases_eq n (place (queue_names p) q));
@@ -147,7 +145,7 @@ know_next p o j n ss a lt k =
 pub know_op : (p : PlanForm) (o n : ℕ) (ss : List (Option Source)) (ps : List ℕ) → o < length p.ops → ps ≡ list_at (write_places p) o → length ps ≤ n
     → KnowWriters p o n ss → KnowWriters p (o + 1) 0 ss
 know_op p o n ss ps lt e le k =
-    let x = op_at p.ops o lt in
+    let x = there_is p.ops o lt in
     let long : length ps ≡ length x.0.writes = ap length (e ∙ places_at (λ d. d.writes) (queue_names p) p.ops o x.0 x.1)
     ∙ length-map x.0.writes (place (queue_names p)) in
     record {
@@ -158,8 +156,8 @@ know_op p o n ss ps lt e le k =
           (λ l2. inl l2)
           (λ ge.
           let eo : o' ≡ o = omega (arith, l, ge) in
-          let ex : op ≡ x.0 = some_is op x.0 (sym g ∙ ap (slice_get p.ops) eo ∙ x.1) in
-          let b2 = got_below op.writes j' q w in
+          let ex : op ≡ x.0 = same_Some op x.0 (sym g ∙ ap (slice_get p.ops) eo ∙ x.1) in
+          let b2 = slice_get_within op.writes j' q w in
           let el = ap (λ (y : OpForm). length y.writes) ex in
           inr (eo, omega (arith, b2, el, long, le)))
           (cases_lt o' o))
@@ -176,18 +174,9 @@ links_first p ls e = record {
   all = λ l x b. absurd (⊎_elim (λ lt. omega (arith, lt)) (λ h. let lt = h.1 in omega (arith, lt)) b);
 }
 
-got_front : {A : Type 0} (xs ys : List A) (n : ℕ) (x : A) → slice_get xs n ≡ Some x → slice_get (xs ++ ys) n ≡ Some x
-got_front [] ys n x g = absurd (cc g)
-got_front (y ∷ xs) ys zero x g = g
-got_front (y ∷ xs) ys (suc n) x g = got_front xs ys n x g
-
-got_last : {A : Type 0} (xs : List A) (x : A) → slice_get (xs ++ x ∷ []) (length xs) ≡ Some x
-got_last [] x = refl
-got_last (y ∷ xs) x = got_last xs x
-
 each_snoc : (P : Link → Type 0) (xs : List Link) (x : Link) → ((n : ℕ) (l : Link) → slice_get xs n ≡ Some l → P l) → P x → (n : ℕ) (l : Link)
     → slice_get (xs ++ x ∷ []) n ≡ Some l → P l
-each_snoc P [] x h k zero l g = subst P (some_is x l g) k
+each_snoc P [] x h k zero l g = subst P (same_Some x l g) k
 each_snoc P [] x h k (suc n) l g = absurd (cc g)
 each_snoc P (y ∷ xs) x h k zero l g = h 0 l g
 each_snoc P (y ∷ xs) x h k (suc n) l g = each_snoc P xs x (λ m z e. h (suc m) z e) k n l g
@@ -215,9 +204,9 @@ module _ (p : PlanForm) (v : IsPlan p) (ss : List (Option Source)) (k : KnowWrit
   -- a link of this port
   source_here : (l : Link) → IsLinkOf p l → (o ≡ l.reader) × (port ≡ l.port) → (s : Source) × (slice_get ss n ≡ Some (Some s))
   source_here l x e =
-      let eo : a.op ≡ x.read = some_is a.op x.read (sym a.op_is ∙ ap (slice_get p.ops) e.0 ∙ x.read_is) in
+      let eo : a.op ≡ x.read = same_Some a.op x.read (sym a.op_is ∙ ap (slice_get p.ops) e.0 ∙ x.read_is) in
       let eq : a.queue ≡ x.queue =
-      some_is a.queue x.queue (sym a.queue_is ∙ ap (λ (y : OpForm). slice_get y.reads port) eo ∙ ap (slice_get x.read.reads) e.1 ∙ x.reads) in
+      same_Some a.queue x.queue (sym a.queue_is ∙ ap (λ (y : OpForm). slice_get y.reads port) eo ∙ ap (slice_get x.read.reads) e.1 ∙ x.reads) in
       let s = k.all l.writer l.out x.write x.queue (inl (slice_get_within p.ops l.writer x.write x.write_is)) x.write_is x.writes in
       (s.0, ap (slice_get ss) (a.place_is ∙ ap (place (queue_names p)) eq) ∙ s.1)
 
@@ -229,7 +218,7 @@ module _ (p : PlanForm) (v : IsPlan p) (ss : List (Option Source)) (k : KnowWrit
       subst (LinkReaders p o (port + 1)) (sym e) (record {
         right = λ m l gl. each_snoc (IsLinkOf p) ls l0 h.right (link_here s g) m l gl;
         all = λ l x b. ⊎_elim
-            (λ old. let y = h.all l x old in (y.0, got_front ls (l0 ∷ []) y.0 l y.1))
+            (λ old. let y = h.all l x old in (y.0, got_first ls (l0 ∷ []) y.0 l y.1))
             (λ here.
             let z : l0 ≡ l = apart_links p v l0 l (link_here s g) x (inl here) in
             (length ls, got_last ls l0 ∙ ap Some z))
@@ -244,7 +233,7 @@ module _ (p : PlanForm) (v : IsPlan p) (ss : List (Option Source)) (k : KnowWrit
         (λ old. h.all l x old)
         (λ here.
         let s = source_here l x here in
-        let z : None ≡ Some s.0 = some_is None (Some s.0) (sym g ∙ s.1) in
+        let z : None ≡ Some s.0 = same_Some None (Some s.0) (sym g ∙ s.1) in
         absurd (cc z))
         (before_next o port l.reader l.port b);
   }
@@ -253,7 +242,7 @@ module _ (p : PlanForm) (v : IsPlan p) (ss : List (Option Source)) (k : KnowWrit
 pub links_op : (p : PlanForm) (o n : ℕ) (ls : List Link) (ps : List ℕ) → o < length p.ops → ps ≡ list_at (read_places p) o → length ps ≤ n
     → LinkReaders p o n ls → LinkReaders p (o + 1) 0 ls
 links_op p o n ls ps lt e le k =
-    let y = op_at p.ops o lt in
+    let y = there_is p.ops o lt in
     let long : length ps ≡ length y.0.reads = ap length (e ∙ places_at (λ d. d.reads) (queue_names p) p.ops o y.0 y.1)
     ∙ length-map y.0.reads (place (queue_names p)) in
     record {
@@ -263,8 +252,8 @@ links_op p o n ls ps lt e le k =
           (λ l2. inl l2)
           (λ ge.
           let eo : l.reader ≡ o = omega (arith, lt2, ge) in
-          let ex : x.read ≡ y.0 = some_is x.read y.0 (sym x.read_is ∙ ap (slice_get p.ops) eo ∙ y.1) in
-          let b2 = got_below x.read.reads l.port x.queue x.reads in
+          let ex : x.read ≡ y.0 = same_Some x.read y.0 (sym x.read_is ∙ ap (slice_get p.ops) eo ∙ y.1) in
+          let b2 = slice_get_within x.read.reads l.port x.queue x.reads in
           let el = ap (λ (z : OpForm). length z.reads) ex in
           inr (eo, omega (arith, b2, el, long, le)))
           (cases_lt l.reader o))

@@ -1,18 +1,18 @@
 -- Lines that are taken out at places: each place is read at one port.
 use Rattle.std.proofs.Common.{◌≡◌, ℕ, zero, suc, ◌+◌, ◌<◌, Some, List, [], ◌∷◌, ◌++◌, length, map, refl, sym, ap, ◌∙◌, arith, subst, get_or, take, take-suc}
 use Rattle.std.specs.Prelude.{slice_get, slice_set, AllPairs}
-use Rattle.std.proofs.lemmas.Option.{slice_get-get_or, slice_get_within, get_or_from_slice_get}
+use Rattle.std.proofs.lemmas.Option.{slice_get-get_or, slice_get_within, get_or_from_slice_get, same_Some}
+use Rattle.river_base.proofs.Lists.{there_is, got_last}
 use Rattle.river_base.specs.declared.item.Item as item
 use Rattle.river_base.specs.declared.kind.QueueType.{QueueType}
 use Rattle.river_base.specs.Places.{list_at}
-use Rattle.river_base.proofs.Options.{some_is}
 use Rattle.river_plan.specs.Forms.{OpForm, PlanForm, queue_names}
 use Rattle.river_plan.specs.Places.{place, read_places}
 use Rattle.river_plan.specs.Uses.{reads_it}
 use Rattle.river_plan.specs.Valid.{IsPlan}
 use Rattle.river_plan.proofs.PlaceLemmas.{place_apart}
 use Rattle.brooklet_model.proofs.Traces.{one_place, place_once, got_count, at_most}
-use Rattle.brooklet_step.proofs.ReadLemmas.{op_at, places_at}
+use Rattle.brooklet_step.proofs.ReadLemmas.{places_at}
 use Rattle.fire_tasks.specs.declared.ports.Inlet as inlet
 use Rattle.fire_tasks.specs.declared.task.Task.{Task}
 use Rattle.fire_open.specs.First.{whole_list, IsNoneOf, HasLeft, AreUnread, IsFirstTask, AreFirstTasks}
@@ -24,8 +24,8 @@ use Rattle.fire_open.proofs.FirstLemmas.{map_got, reads_there, first_none, first
 pub one_port : (p : PlanForm) → IsPlan p → (o o' i j n : ℕ) → o < length p.ops → o' < length p.ops → slice_get (list_at (read_places p) o) i ≡ Some n
     → slice_get (list_at (read_places p) o') j ≡ Some n → (o ≡ o') × (i ≡ j)
 one_port p v o o' i j n lo lo' g g' =
-    let x = op_at p.ops o lo in
-    let y = op_at p.ops o' lo' in
+    let x = there_is p.ops o lo in
+    let y = there_is p.ops o' lo' in
     let ex = places_at (λ d. d.reads) (queue_names p) p.ops o x.0 x.1 in
     let ey = places_at (λ d. d.reads) (queue_names p) p.ops o' y.0 y.1 in
     let a = map_got (place (queue_names p)) x.0.reads i n (ap (λ l. slice_get l i) (sym ex) ∙ g) in
@@ -36,7 +36,7 @@ one_port p v o o' i j n lo lo' g g' =
     let gb : slice_get y.0.reads j ≡ Some a.0 = b.1 ∙ ap Some (sym e) in
     let r = v.read_once a.0 in
     let eo : o ≡ o' = one_place (reads_it a.0) p.ops o o' x.0 y.0 (omega (arith, r)) x.1 y.1 ca (got_count y.0.reads j a.0 gb) in
-    let ex' : x.0 ≡ y.0 = some_is x.0 y.0 (sym x.1 ∙ ap (slice_get p.ops) eo ∙ y.1) in
+    let ex' : x.0 ≡ y.0 = same_Some x.0 y.0 (sym x.1 ∙ ap (slice_get p.ops) eo ∙ y.1) in
     let m = at_most (reads_it a.0) p.ops o x.0 x.1 in
     (eo, place_once x.0.reads i j a.0 (omega (arith, r, m)) a.1 (ap (λ (d : OpForm). slice_get d.reads j) ex' ∙ gb))
 
@@ -85,10 +85,6 @@ snoc_got [] x y i g = absurd (cc g)
 snoc_got (a ∷ xs) x y zero g = g
 snoc_got (a ∷ xs) x y (suc i) g = snoc_got xs x y i g
 
-snoc_last : {A : Type 0} (xs : List A) (x : A) → slice_get (xs ++ x ∷ []) (length xs) ≡ Some x
-snoc_last [] x = refl
-snoc_last (a ∷ xs) x = snoc_last xs x
-
 pub ins_more : (qs0 : List (List item.Item)) (ps : List ℕ) (n : ℕ) (ins ins' : List inlet.Inlet) (qs qs' : List (List item.Item)) (i : inlet.Inlet)
     → InsOf qs0 ps ins qs → IsNoneOf ps n
     → i ≡ whole_list qs n → qs' ≡ slice_set qs n [] → ins' ≡ ins ++ i ∷ [] → InsOf qs0 (ps ++ n ∷ []) ins' qs'
@@ -99,7 +95,7 @@ ins_more qs0 ps n ins ins' qs qs' i h a ei eq en = record {
     many = ap length eq ∙ set_many qs n [] ∙ h.left.many;
     others = λ k b.
         ap (λ l. list_at l k) eq
-        ∙ list_other qs n k [] (λ e. b (length ps) (snoc_last ps n ∙ ap Some e))
+        ∙ list_other qs n k [] (λ e. b (length ps) (got_last ps n ∙ ap Some e))
         ∙ h.left.others k (λ port g. b port (snoc_got ps n k port g));
   };
 }

@@ -2,11 +2,11 @@
 use Rattle.std.proofs.Common.{Vec, Global, ◌≡◌, ℕ, pos, zero, suc, ◌+◌, ◌≤◌, Some, List, [], ◌∷◌, length, map, sym, ap, ◌∙◌, arith, subst}
 use Rattle.std.specs.Prelude.{slice_get}
 use Rattle.std.proofs.lemmas.List.{length-map}
-use Rattle.std.proofs.lemmas.Option.{slice_get_within}
+use Rattle.std.proofs.lemmas.Option.{slice_get_within, same_Some}
+use Rattle.river_base.proofs.Lists.{there_is}
 use Rattle.river_base.specs.Bags.{SameBag}
 use Rattle.river_base.specs.Places.{list_at}
 use Rattle.river_base.specs.declared.item.Item as item
-use Rattle.river_base.proofs.Options.{some_is}
 use Rattle.kern_tables.specs.Kept.{kept_of, rows_of}
 use Rattle.kern_tables.proofs.Tabs.{kept_of_bag}
 use Rattle.river_plan.specs.declared.plan.TableDecl.{TableDecl}
@@ -21,7 +21,6 @@ use Rattle.class_locks.specs.Logs.{Holding, rows_to}
 use Rattle.fire_tasks.specs.declared.task.Task.{Task}
 use Rattle.fire_tasks.specs.Adds.{AreEntries, added, logs_of, table_class}
 use Rattle.fire_tasks.specs.Tasks.{all_moves}
-use Rattle.fire_laws.proofs.NetLemmas.{there_is}
 use Rattle.fire_run.specs.Whole.{sent_hist}
 use Rattle.fire_run.specs.declared.closing.Ran.{Ran}
 use Rattle.fire_run.specs.declared.net.Net.{Net}
@@ -35,7 +34,7 @@ use Rattle.fire_run.proofs.WholeLemmas.{whole_net, few_law}
 got_kept : (ts : List TableDecl) (rows : _) (i : ℕ) (t : TableDecl) → slice_get ts i ≡ Some t
     → slice_get (kept_tables ts rows) i ≡ Some (kept_of t.kind (rows t.name))
 got_kept [] rows i t g = absurd (cc g)
-got_kept (u ∷ us) rows zero t g = ap (λ (x : TableDecl). Some (kept_of x.kind (rows x.name))) (some_is u t g)
+got_kept (u ∷ us) rows zero t g = ap (λ (x : TableDecl). Some (kept_of x.kind (rows x.name))) (same_Some u t g)
 got_kept (u ∷ us) rows (suc i) t g = got_kept us rows i t g
 
 module _ (p : PlanForm) (inputs : List (List item.Item)) (caps : Capacities) (net : Net) (v : IsPlan p)

@@ -1,7 +1,7 @@
 -- Tasks that are put at the places of their operators, and seats that become one.
 use Rattle.std.proofs.Common.{◌≡◌, ℕ, zero, suc, ◌+◌, ◌%◌, ◌<◌, ◌≤◌, inl, inr, ⊎_elim, List, [], ◌∷◌, ◌++◌, length, take, take-suc, refl, sym, ap, ◌∙◌, subst, arith, get_or, set, get_or-set_other, get_or-set_same, append_assoc, length-append}
 use Rattle.std.specs.Prelude.{All}
-use Rattle.std.proofs.lemmas.List.{append-nil, length-set, length-map}
+use Rattle.std.proofs.lemmas.List.{append-nil, length-set, length-map, take_all, get_or_default}
 use Rattle.std.proofs.lemmas.List.Elements.{All-append, All-head, All-tail}
 use Rattle.class_locks.specs.declared.view.Claim.{Claim}
 use Rattle.class_locks.specs.declared.view.View.{View}
@@ -126,14 +126,9 @@ gathering_next bs0 bs ts0 ts ts' i b b' h lt e s p =
     record {
       put = p ∙ ap (put_each b.tasks) h.put ∙ sym (put_all-last (take i bs0) b ts0) ∙ ap (λ l. put_all l ts0) (sym taken);
       rest = λ j d le. get_or-set_other bs i j b' d (λ z. omega (arith, z, le)) ∙ h.rest j d (omega (arith, le));
-      seats = set_seat bs i there_now (s ∙ ap (λ (x : Bundle). x.seat) (e ∙ default_same bs i b b' there_now)) ∙ h.seats;
+      seats = set_seat bs i there_now (s ∙ ap (λ (x : Bundle). x.seat) (e ∙ get_or_default bs i b b' there_now)) ∙ h.seats;
     }
   where
-    default_same : (xs : List Bundle) (j : ℕ) (c d : Bundle) → j < length xs → get_or xs j c ≡ get_or xs j d
-    default_same [] j c d l = absurd (omega (arith, l))
-    default_same (x ∷ xs) zero c d l = refl
-    default_same (x ∷ xs) (suc j) c d l = default_same xs j c d (omega (arith, l))
-
     set_seat : (xs : List Bundle) (j : ℕ) → j < length xs → b'.seat ≡ (get_or xs j b').seat → seats_of (set xs j b') ≡ seats_of xs
     set_seat [] j l q = refl
     set_seat (x ∷ xs) zero l q = ap (λ c. c ∷ seats_of xs) q
@@ -141,13 +136,7 @@ gathering_next bs0 bs ts0 ts ts' i b b' h lt e s p =
 
 -- behind the last one all are
 pub gathering_all : (bs0 bs : List Bundle) (ts0 ts : List Task) (i : ℕ) → Gathering bs0 ts0 i bs ts → length bs0 ≤ i → ts ≡ put_all bs0 ts0
-gathering_all bs0 bs ts0 ts i h le = h.put ∙ ap (λ l. put_all l ts0) (whole bs0 i le)
-  where
-    whole : (us : List Bundle) (j : ℕ) → length us ≤ j → take j us ≡ us
-    whole [] zero l = refl
-    whole [] (suc j) l = refl
-    whole (u ∷ us) zero l = absurd (omega (arith, l))
-    whole (u ∷ us) (suc j) l = ap (λ r. u ∷ r) (whole us j (omega (arith, l)))
+gathering_all bs0 bs ts0 ts i h le = h.put ∙ ap (λ l. put_all l ts0) (take_all i bs0 le)
 
 -- a place of none of the bundles' tasks is as it was
 all_other : (bs : List Bundle) (ts : List Task) (o : ℕ) (d : Task)

@@ -1,9 +1,11 @@
 -- The net that the bundles of a frame are, once they are joined.
-use Rattle.std.proofs.Common.{◌≡◌, ℕ, zero, suc, ◌+◌, ◌%◌, ◌==◌, ◌<◌, Bool, cond, true, false, List, [], ◌∷◌, ◌++◌, length, map, refl, sym, ap, ◌∙◌, subst, arith, ⊎_elim, get_or, eq-eqb}
+use Rattle.std.proofs.Common.{◌≡◌, ℕ, ◌+◌, ◌%◌, ◌==◌, ◌<◌, Bool, cond, true, false, List, [], ◌∷◌, ◌++◌, length, map, refl, sym, ap, ◌∙◌, subst, arith, ⊎_elim, get_or, eq-eqb}
 use Rattle.std.specs.Prelude.{All}
-use Rattle.std.proofs.lemmas.List.{length-map}
+use Rattle.std.proofs.lemmas.List.{length-map, get_or_default, same_lists}
 use Rattle.std.proofs.lemmas.Nat.{mod_below}
 use Rattle.std.proofs.lemmas.Option.{get_or_from_slice_get, slice_get-get_or, slice_get_within}
+use Rattle.std.proofs.Math.ListN.{get_or-map}
+use Rattle.river_base.proofs.Lists.{there_is}
 use mathlib.Core.Option.{some-injective}
 use lib.ListN.{get_elem?}
 use Rattle.river_plan.specs.Forms.{PlanForm}
@@ -20,7 +22,7 @@ use Rattle.fire_tasks.specs.declared.task.Task.{Task}
 use Rattle.fire_tasks.specs.Tasks.{IsTask, IsTaskAt, TaskEnds, all_ends, all_moves, ends_of}
 use Rattle.fire_tasks.proofs.AddLemmas.{table_is}
 use Rattle.fire_tasks.proofs.JoinLemmas.{joined_adds, joined_entries}
-use Rattle.fire_tasks.proofs.TaskLemmas.{got_at, table_there, tables_many, with_adds}
+use Rattle.fire_tasks.proofs.TaskLemmas.{table_there, tables_many, with_adds}
 use Rattle.fire_laws.specs.Layout as layout
 use Rattle.fire_open.specs.Homes.{AreClassCells}
 use Rattle.fire_open.specs.Links.{ShareNoEnd, AreMet, ArePaired}
@@ -32,27 +34,16 @@ use Rattle.fire_run.specs.Frames.{AreBundlesOf, AreSeatedIn, AreTasksOf, Framed,
 use Rattle.fire_run.specs.NetOf.{Stays}
 use Rattle.fire_run.specs.Shares.{AreAtRest, AreWithin, merged_view, put_all, seats_of}
 use Rattle.fire_run.proofs.GatherLemmas.{AreApart as AreSharesApart, IsRound, OwnAlone, all_here, all_many, belongs, merged_all, merged_own, merged_parts, merged_round}
-use Rattle.fire_run.proofs.PartLemmas.{eq_told, filter_finds, filter_stood, list_at_all, map_at, moves_of_parts, part_ends}
+use Rattle.fire_run.proofs.PartLemmas.{eq_told, filter_finds, filter_stood, map_at, moves_of_parts, part_ends}
 use Rattle.fire_run.proofs.RowLemmas.{class_has}
 use Rattle.fire_run.proofs.SplitNet.{elem_of}
-
--- an element of a list that was made of another
-got_map : {A B : Type 0} (g : A → B) (xs : List A) (i : ℕ) (d : A) → get_or (map g xs) i (g d) ≡ g (get_or xs i d)
-got_map g [] i d = refl
-got_map g (x ∷ xs) zero d = refl
-got_map g (x ∷ xs) (suc i) d = got_map g xs i d
-
-got_else : {A : Type 0} (xs : List A) (i : ℕ) (c d : A) → i < length xs → get_or xs i c ≡ get_or xs i d
-got_else [] i c d lt = absurd (omega (arith, lt))
-got_else (x ∷ xs) zero c d lt = refl
-got_else (x ∷ xs) (suc i) c d lt = got_else xs i c d (omega (arith, lt))
 
 -- SEATS
 
 seat_is : (bs : List Bundle) (k : ℕ) (d : Chair) (b : Bundle) → k < length bs → get_or (seats_of bs) k d ≡ (get_or bs k b).seat
 seat_is bs k d b lt =
     let long = length-map bs (λ (x : Bundle). x.seat) in
-    got_else (seats_of bs) k d b.seat (omega (arith, lt, long)) ∙ got_map (λ (x : Bundle). x.seat) bs k b
+    get_or_default (seats_of bs) k d b.seat (omega (arith, lt, long)) ∙ get_or-map (λ (x : Bundle). x.seat) bs k b
 
 -- what holds of each bundle's seat holds of each of the seats
 seat_by : (P : ℕ → Chair → Type 0) (bs : List Bundle) → ((k : ℕ) (b : Bundle) → k < length bs → P k (get_or bs k b).seat) → (k : ℕ) (d : Chair)
@@ -61,7 +52,7 @@ seat_by : (P : ℕ → Chair → Type 0) (bs : List Bundle) → ((k : ℕ) (b : 
 seat_by P bs h k d lt =
     let long = length-map bs (λ (x : Bundle). x.seat) in
     let l : k < length bs = omega (arith, lt, long) in
-    let b = (got_at bs k l).0 in
+    let b = (there_is bs k l).0 in
     subst (P k) (sym (seat_is bs k d b l)) (h k b l)
 
 module _ (f : Framed) (bs : List Bundle) (h : AreSeatedIn f bs) where
@@ -136,9 +127,9 @@ module _ (p : PlanForm) (f : Framed) (bs : List Bundle) (h : AreBundlesOf p f bs
       let b2 = s.below in
       let there : s.place < length f.net.tasks = omega (arith, b2, l2) in
       let same : get_or (ends_of_part f.workers k es) i (ends_of c) ≡ ends_of t = ap (λ (l : List TaskEnds). get_or l i (ends_of c)) (sym e)
-      ∙ got_map ends_of (get_or bs k b).tasks i c in
+      ∙ get_or-map ends_of (get_or bs k b).tasks i c in
       let at : (d : Task) → ends_of t ≡ ends_of (get_or f.net.tasks s.place d) = λ d. sym same ∙ sym (s.same (ends_of d))
-      ∙ got_map ends_of f.net.tasks s.place d in
+      ∙ get_or-map ends_of f.net.tasks s.place d in
       let op : t.op ≡ s.place = ap (λ (x : TaskEnds). x.op) (at t) ∙ numbers s.place t there in
       record {
         within = omega (arith, op, there);
@@ -181,12 +172,12 @@ module _ (p : PlanForm) (f : Framed) (bs : List Bundle) (h : AreBundlesOf p f bs
         let m = h.seated.many in
         let below = mod_below o f.workers some in
         let lk : k < length bs = omega (arith, below, m) in
-        let b = got_at bs k lk in
+        let b = there_is bs k lk in
         let b_is : get_or bs k b.0 ≡ b.0 = get_or_from_slice_get bs k b.0 b.0 b.1 in
         let es = all_ends f.net.tasks in
         let l2 = length-map f.net.tasks ends_of in
         let lo : o < length es = omega (arith, lt, l2) in
-        let at_o : get_or es o (ends_of d) ≡ ends_of (get_or f.net.tasks o d) = got_map ends_of f.net.tasks o d in
+        let at_o : get_or es o (ends_of d) ≡ ends_of (get_or f.net.tasks o d) = get_or-map ends_of f.net.tasks o d in
         let op0 : (get_or es o (ends_of d)).op ≡ o = ap (λ (x : TaskEnds). x.op) at_o ∙ numbers o d lt in
         let x = filter_finds (λ (y : TaskEnds). (y.op % f.workers) == k) es o (ends_of d) lo
         (eq-eqb ((get_or es o (ends_of d)).op % f.workers) k (ap (λ (q : ℕ). q % f.workers) op0)) in
@@ -197,7 +188,7 @@ module _ (p : PlanForm) (f : Framed) (bs : List Bundle) (h : AreBundlesOf p f bs
         let li : x.0 < length (get_or bs k b.0).tasks = omega (arith, below_i, l0, l1) in
         let t = get_or (get_or bs k b.0).tasks x.0 d in
         let same : ends_of t ≡ get_or es o (ends_of d) =
-        sym (got_map ends_of (get_or bs k b.0).tasks x.0 d) ∙ ap (λ (l : List TaskEnds). get_or l x.0 (ends_of d)) e ∙ x.2 (ends_of d) in
+        sym (get_or-map ends_of (get_or bs k b.0).tasks x.0 d) ∙ ap (λ (l : List TaskEnds). get_or l x.0 (ends_of d)) e ∙ x.2 (ends_of d) in
         let op : t.op ≡ o = ap (λ (y : TaskEnds). y.op) same ∙ op0 in
         let put : get_or ts o d ≡ t = ap (λ (q : ℕ). get_or ts q d) (sym op) ∙ here k b.0 x.0 d d lk li in
         subst (IsFound bs f.workers o) (sym put) (record {
@@ -206,7 +197,7 @@ module _ (p : PlanForm) (f : Framed) (bs : List Bundle) (h : AreBundlesOf p f bs
           bundle_is = b_is;
           place = x.0;
           there = subst (λ (c : Bundle). x.0 < length c.tasks) b_is li;
-          task_is = ap (λ (c : Bundle). get_or c.tasks x.0 t) (sym b_is) ∙ got_else (get_or bs k b.0).tasks x.0 t d li;
+          task_is = ap (λ (c : Bundle). get_or c.tasks x.0 t) (sym b_is) ∙ get_or_default (get_or bs k b.0).tasks x.0 t d li;
           op_is = op;
         })
 
@@ -239,10 +230,10 @@ module _ (p : PlanForm) (f : Framed) (bs : List Bundle) (h : AreBundlesOf p f bs
         let la = length-map own ends_of in
         let lb = length-map mine ends_of in
         let ls = ap length same in
-        list_at_all own mine (omega (arith, la, lb, ls)) (λ i d li.
+        same_lists own mine (omega (arith, la, lb, ls)) (λ i d li.
         let x = get_or own i d in
         let y = get_or mine i d in
-        let ends : ends_of x ≡ ends_of y = sym (got_map ends_of own i d) ∙ ap (λ (l : List TaskEnds). get_or l i (ends_of d)) same ∙ got_map ends_of mine i d in
+        let ends : ends_of x ≡ ends_of y = sym (get_or-map ends_of own i d) ∙ ap (λ (l : List TaskEnds). get_or l i (ends_of d)) same ∙ get_or-map ends_of mine i d in
         let s = filter_stood (λ (t : Task). (t.op % f.workers) == k) ts i d li in
         let m = all_many bs ts0 in
         let bl = s.below in
@@ -321,7 +312,7 @@ module _ (p : PlanForm) (f : Framed) (bs : List Bundle) (h : AreBundlesOf p f bs
           kinds = λ c y gy.
               let l = grown.each c y (elem_of cells c y gy) in
               let lt = slice_get_within cells c y gy in
-              let x = got_at f.net.cells c (omega (arith, lt, long)) in
+              let x = there_is f.net.cells c (omega (arith, lt, long)) in
               let start : l.start ≡ x.0 = some-injective l.start x.0
               (sym l.given ∙ ap (λ (s : List Holding). get_elem? s c) round.starts_are ∙ elem_of f.net.cells c x.0 x.1) in
               l.kinds ∙ ap (λ (z : Holding). z.kinds) start ∙ n.cells.kinds c x.0 x.1;
@@ -358,7 +349,7 @@ module _ (p : PlanForm) (f : Framed) (bs : List Bundle) (h : AreBundlesOf p f bs
         (subst (λ n. own n k c w.claims ≡ own n k c v.claims) (sym s.seats) (own_is k b c lk))) in
         with_adds p (added p (logs_at v t.op) t.op) (added p (logs_of cells) t.op) t keeps (λ j lj.
         let many = tables_many p h.valid t (added p (logs_at v t.op) t.op) keeps in
-        let port = got_at t.tables j (omega (arith, lj, many)) in
+        let port = there_is t.tables j (omega (arith, lj, many)) in
         let is = table_is p h.valid t.op keeps.op keeps.op_is t.tables t.classes keeps.homes j port.0 port.1 in
         let decl = table_there p h.valid t (added p (logs_at v t.op) t.op) keeps j port.0 port.1 in
         let x = class_has p cells port.0.table decl.0 joined_cells decl.1 in

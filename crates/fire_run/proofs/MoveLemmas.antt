@@ -2,10 +2,9 @@
 use Rattle.std.proofs.Common.{◌≡◌, ℕ, ℤ, zero, suc, ◌+◌, ◌<◌, ◌≤◌, ⊎_elim, List, [], ◌∷◌, length, map, refl, sym, ap, ◌∙◌, arith, subst, get_or, set, get_or-set_other, ◌^◌}
 use Rattle.std.specs.Prelude.{Bool, true, false, None}
 use Rattle.std.proofs.lemmas.Bool.{cases_eq, cases_lt}
-use Rattle.std.proofs.lemmas.List.{append-nil, length-set}
+use Rattle.std.proofs.lemmas.List.{append-nil, length-set, get_or-set_same, get_or_default}
 use Rattle.std.proofs.lemmas.Option.{get_or_from_slice_get, slice_get-get_or}
 use Rattle.river_base.specs.declared.item.Item as item
-use Rattle.river_base.specs.Places.{list_at}
 use Rattle.river_plan.specs.Forms.{PlanForm}
 use Rattle.fire_tasks.specs.declared.ports.Inlet as inlet
 use Rattle.fire_tasks.specs.declared.task.Task.{Task}
@@ -22,12 +21,6 @@ use Rattle.fire_open.proofs.Lists.{map_set, map_long, same_got}
 use Rattle.fire_open.proofs.StillLemmas.{still_all_moves, still_ends, still_tasks}
 use Rattle.fire_open.proofs.SettleLemmas.{still_by}
 use Rattle.fire_tasks.proofs.PassLemmas.{with_ins}
-
--- beyond the lists nothing is pending
-pub beyond : (ls : List (List item.Item)) (j : ℕ) → length ls ≤ j → list_at ls j ≡ []
-beyond [] j le = refl
-beyond (l ∷ ls) zero le = absurd (omega (arith, le))
-beyond (l ∷ ls) (suc j) le = beyond ls j (omega (arith, le))
 
 -- a look changes nothing else
 pub still_ins : (t : Task) (ins : List inlet.Inlet) → in_ends ins ≡ in_ends t.ins → received_in ins ≡ received_in t.ins → still (with_ins t ins) ≡ still t
@@ -55,11 +48,6 @@ walked_first ts = record { same = refl; rest = λ i d lt. refl; done = λ i d lt
 
 pub walked_long : (ts0 ts : List Task) (back : ℕ) → Walked ts0 back ts → length ts ≡ length ts0
 walked_long ts0 ts back h = map_long still ts ts0 h.same
-
-default_same : (xs : List Task) (i : ℕ) (c d : Task) → i < length xs → get_or xs i c ≡ get_or xs i d
-default_same [] i c d lt = absurd (omega (arith, lt))
-default_same (x ∷ xs) zero c d lt = refl
-default_same (x ∷ xs) (suc i) c d lt = default_same xs i c d (omega (arith, lt))
 
 -- the task whose turn it is
 pub record Turn (p : PlanForm) (adds : ℕ → ℕ → List (List ℤ)) (t : Task) : Type 0 where
@@ -90,11 +78,11 @@ walked_next ts0 ts back o old new h e is s d =
     let lt : o < length ts = omega (arith, e, l) in
     let q : old ≡ get_or ts0 o old = is ∙ h.rest o old (omega (arith, e)) in
     record {
-      same = map_set still ts o new (s ∙ ap still (is ∙ default_same ts o old new lt)) ∙ h.same;
+      same = map_set still ts o new (s ∙ ap still (is ∙ get_or_default ts o old new lt)) ∙ h.same;
       rest = λ i c li. get_or-set_other ts o i new c (λ z. omega (arith, z, li, e)) ∙ h.rest i c (omega (arith, li));
       done = λ i c li le. ⊎_elim
           (λ b. let z : o ≡ i = omega (arith, le, e, b) in subst (λ n. IsDone (get_or ts0 n c)) z
-          (subst IsDone (q ∙ default_same ts0 o old c (omega (arith, e))) d))
+          (subst IsDone (q ∙ get_or_default ts0 o old c (omega (arith, e))) d))
           (λ ge. h.done i c li ge)
           (cases_lt (i + back) (length ts0));
     }
@@ -119,11 +107,6 @@ set_moves [] i t lt e = absurd (omega (arith, lt))
 set_moves (y ∷ ts) zero t lt e = omega (arith, e)
 set_moves (y ∷ ts) (suc i) t lt e = let h = set_moves ts i t (omega (arith, lt)) e in omega (arith, h)
 
-set_here : (ts : List Task) (i : ℕ) (t d : Task) → i < length ts → get_or (set ts i t) i d ≡ t
-set_here [] i t d lt = absurd (omega (arith, lt))
-set_here (y ∷ ts) zero t d lt = refl
-set_here (y ∷ ts) (suc i) t d lt = set_here ts i t d (omega (arith, lt))
-
 -- the operators of tasks that are still are the same
 still_op : (ts0 ts : List Task) (i : ℕ) (d : Task) → map still ts ≡ map still ts0 → i < length ts → (get_or ts i d).op ≡ (get_or ts0 i d).op
 still_op ts0 ts i d e lt =
@@ -139,7 +122,7 @@ moved_one p cells0 cells ts0 ts back o old new m k ap0 h e is t s a n mt =
     let l = walked_long ts0 ts back h in
     let lt : o < length ts = omega (arith, e, l) in
     let kt = still_tasks p (added p (logs_of cells0)) ts0 ts h.same k in
-    let q : old ≡ get_or ts o new = is ∙ default_same ts o old new lt in
+    let q : old ≡ get_or ts o new = is ∙ get_or_default ts o old new lt in
     let c = set_moves ts o new lt (n.one mt ∙ ap (λ (x : Task). moves x + 1) q) in
     let b = still_all_moves ts0 ts h.same in
     let op_new : new.op ≡ old.op = ap (λ (x : TaskEnds). x.op) s in
@@ -150,13 +133,13 @@ moved_one p cells0 cells ts0 ts back o old new m k ap0 h e is t s a n mt =
             let lti : i < length ts = omega (arith, z, li) in
             ⊎_elim
             (λ same.
-            let here : get_or (set ts o new) i d ≡ new = ap (λ x. get_or (set ts o new) x d) (sym same) ∙ set_here ts o new d lt in
+            let here : get_or (set ts o new) i d ≡ new = ap (λ x. get_or (set ts o new) x d) (sym same) ∙ get_or-set_same ts o new d lt in
             subst (λ (x : Task). IsTask p (added p (logs_of cells) x.op) x) (sym here) (subst (λ x. IsTask p (added p (logs_of cells) x) new) (sym op_new) t))
             (λ ne.
             let there : get_or (set ts o new) i d ≡ get_or ts i d = get_or-set_other ts o i new d (λ y. ne (sym y)) in
             let other : (get_or ts i d).op ≡ old.op → ⊥ = (λ y.
             let w : i ≡ o = ap0 i o d (omega (arith, lti, l)) (omega (arith, lt, l))
-            (sym (still_op ts0 ts i d h.same lti) ∙ y ∙ ap (λ (x : Task). x.op) (is ∙ default_same ts o old d lt) ∙ still_op ts0 ts o d h.same lt) in
+            (sym (still_op ts0 ts i d h.same lti) ∙ y ∙ ap (λ (x : Task). x.op) (is ∙ get_or_default ts o old d lt) ∙ still_op ts0 ts o d h.same lt) in
             ne (sym w)) in
             subst (λ (x : Task). IsTask p (added p (logs_of cells) x.op) x) (sym there)
             (with_adds p (added p (logs_of cells0) (get_or ts i d).op) (added p (logs_of cells) (get_or ts i d).op) (get_or ts i d)

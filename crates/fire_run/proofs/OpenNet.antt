@@ -1,7 +1,7 @@
 -- Fresh tasks with rings between them, and empty cells, are a net.
 use Rattle.std.proofs.Common.{◌≡◌, ℕ, zero, suc, Some, List, [], ◌∷◌, length, refl, sym, ap, ◌∙◌, arith, subst, get_or}
 use Rattle.std.specs.Prelude.{slice_get, false, All}
-use Rattle.std.proofs.lemmas.Option.{slice_get-get_or, slice_get_within}
+use Rattle.std.proofs.lemmas.Option.{slice_get-get_or, slice_get_within, same_Some}
 use Rattle.river_base.specs.declared.item.Item as item
 use Rattle.river_plan.specs.Caps.{IsCap, AreCaps, capacity, first_cap}
 use Rattle.river_plan.specs.Forms.{Name, OpForm, PlanForm}
@@ -19,7 +19,6 @@ use Rattle.fire_open.specs.Links.{AreLinks, room_of}
 use Rattle.fire_open.specs.Rings.{TaskBody, body, NoReader, NoWriter, AreRung}
 use Rattle.fire_open.proofs.Lists.{same_got, map_long}
 use Rattle.std.proofs.lemmas.List.Elements.{All-nil, All-head, All-tail}
-use Rattle.river_base.proofs.Options.{some_is}
 use Rattle.class_locks.specs.Logs.{Holding}
 use Rattle.fire_tasks.specs.Adds.{IsEntryOf, added, logs_of, rows_by, table_at, table_class}
 use Rattle.fire_open.specs.Homes.{AreClassCells}
@@ -85,8 +84,8 @@ opened p inputs cap caps ts0 ts ls cells v typed one all h k r cs blank = record
         → NoReader ls (length ls) o port
     no_reader o port op q g w z m l lt gl e =
         let x = k.right m l gl in
-        let eo : x.read ≡ op = some_is x.read op (sym x.read_is ∙ ap (slice_get p.ops) e.0 ∙ g) in
-        let eq : x.queue ≡ q = some_is x.queue q (sym x.reads ∙ ap (λ (y : OpForm). slice_get y.reads l.port) eo ∙ ap (slice_get op.reads) e.1 ∙ w) in
+        let eo : x.read ≡ op = same_Some x.read op (sym x.read_is ∙ ap (slice_get p.ops) e.0 ∙ g) in
+        let eq : x.queue ≡ q = same_Some x.queue q (sym x.reads ∙ ap (λ (y : OpForm). slice_get y.reads l.port) eo ∙ ap (slice_get op.reads) e.1 ∙ w) in
         let c = got_count x.write.writes l.out q (x.writes ∙ ap Some eq) in
         let a = at_most (writes_it q) p.ops l.writer x.write x.write_is in
         omega (arith, c, a, z)
@@ -95,8 +94,8 @@ opened p inputs cap caps ts0 ts ls cells v typed one all h k r cs blank = record
         → NoWriter ls (length ls) o j
     no_writer o j op q g w z m l lt gl e =
         let x = k.right m l gl in
-        let eo : x.write ≡ op = some_is x.write op (sym x.write_is ∙ ap (slice_get p.ops) e.0 ∙ g) in
-        let eq : x.queue ≡ q = some_is x.queue q (sym x.writes ∙ ap (λ (y : OpForm). slice_get y.writes l.out) eo ∙ ap (slice_get op.writes) e.1 ∙ w) in
+        let eo : x.write ≡ op = same_Some x.write op (sym x.write_is ∙ ap (slice_get p.ops) e.0 ∙ g) in
+        let eq : x.queue ≡ q = same_Some x.queue q (sym x.writes ∙ ap (λ (y : OpForm). slice_get y.writes l.out) eo ∙ ap (slice_get op.writes) e.1 ∙ w) in
         let c = got_count x.read.reads l.port q (x.reads ∙ ap Some eq) in
         let a = at_most (reads_it q) p.ops l.reader x.read x.read_is in
         omega (arith, c, a, z)

@@ -4,43 +4,40 @@ use Rattle.std.specs.Prelude.{All, replicate, slice_get}
 use Rattle.std.proofs.Math.Nat.{min-le_left}
 use Rattle.std.proofs.lemmas.Bool.{cases_eq, cases_lt}
 use Rattle.std.proofs.lemmas.List.{length-map, length-replicate, length-set, get_or-set_same}
-use Rattle.std.proofs.lemmas.Option.{get_or_from_slice_get, slice_get-get_or, slice_get_within}
+use Rattle.std.proofs.lemmas.Option.{get_or_from_slice_get, slice_get-get_or, slice_get_within, same_Some}
+use Rattle.river_base.proofs.Lists.{there_is, got_map, got_first}
 use Rattle.river_base.specs.declared.item.Item as item
 use Rattle.river_base.specs.Places.{list_at}
-use Rattle.river_base.proofs.Options.{some_is}
 use Rattle.river_plan.specs.declared.plan.Decl.{Decl}
 use Rattle.river_plan.specs.Forms.{Name, OpForm, PlanForm, queue_names, decl_names}
 use Rattle.river_plan.specs.Names.{count}
 use Rattle.river_plan.specs.Places.{place, write_places}
 use Rattle.river_plan.specs.Uses.{total, reads_it, writes_it}
 use Rattle.river_plan.specs.Valid.{IsPlan}
-use Rattle.river_plan.proofs.NameLemmas.{count-append}
+use Rattle.river_plan.proofs.NameLemmas.{count-append, more_or_zero}
 use Rattle.river_plan.proofs.PlaceLemmas.{place_at, place_apart}
 use Rattle.brooklet_model.specs.Bounded.{Capacities}
 use Rattle.brooklet_model.specs.Histories.{History, hist, firings, firings_of, most_firings, inputs_of}
 use Rattle.brooklet_model.specs.Meaning.{meaning}
 use Rattle.brooklet_model.proofs.Complete.{nothing_given}
-use Rattle.brooklet_model.proofs.Ports.{got_below}
 use Rattle.brooklet_model.proofs.Received.{writer_of}
 use Rattle.brooklet_model.proofs.Solutions.{stays}
 use Rattle.brooklet_model.proofs.Traces.{got_count, at_most}
 use Rattle.brooklet_step.proofs.Edges.{output_held}
 use Rattle.brooklet_step.proofs.QueuePlaces.{place_is}
-use Rattle.brooklet_step.proofs.ReadLemmas.{got_map, op_at, places_at}
+use Rattle.brooklet_step.proofs.ReadLemmas.{places_at}
 use Rattle.fire_tasks.specs.declared.ports.Outlet as outlet
 use Rattle.fire_tasks.specs.declared.task.Task.{Task}
 use Rattle.fire_tasks.specs.Ports.{sent_of}
 use Rattle.fire_laws.specs.Layout.{IsStored}
 use Rattle.fire_laws.proofs.Joining.{place_of}
-use Rattle.fire_laws.proofs.NetLemmas.{there_is}
 use Rattle.fire_open.specs.Sources.{ComesBefore}
 use Rattle.fire_open.proofs.Lists.{set_got_other}
-use Rattle.fire_open.proofs.SourceLemmas.{PortAt}
+use Rattle.fire_open.proofs.SourceLemmas.{PortAt, before_next}
 use Rattle.fire_run.specs.declared.net.Net.{Net}
 use Rattle.fire_run.specs.Closed.{AreOuts, HasOuts, HaveOuts}
 use Rattle.fire_run.specs.NetOf.{IsNetOf, AreIdle}
 use Rattle.fire_run.specs.Whole.{sent_hist}
-use Rattle.fire_run.proofs.Standing.{more_or_none}
 use Rattle.fire_run.proofs.WholeLemmas.{whole_net}
 
 -- LINES
@@ -58,12 +55,6 @@ outs_first p h n lines en e = record {
   rest = λ m none. ap (λ l. list_at l m) e ∙ blank_at n m;
 }
 
-before_next : (o j o' j' : ℕ) → ComesBefore o (j + 1) o' j' → ComesBefore o j o' j' ⊎ ((o ≡ o') × (j ≡ j'))
-before_next o j o' j' b = ⊎_elim
-    (λ l. inl (inl l))
-    (λ e. ⊎_elim (λ l. inl (inr (e.0, l))) (λ ge. inr (sym e.0, (let l = e.1 in omega (arith, l, ge)))) (cases_lt j' j))
-    b
-
 before_more : (o j o' j' : ℕ) → ComesBefore o j o' j' → ComesBefore o (j + 1) o' j'
 before_more o j o' j' b = ⊎_elim (λ l. inl l) (λ e. inr (e.0, (let l = e.1 in omega (arith, l)))) b
 
@@ -75,8 +66,8 @@ module _ (p : PlanForm) (v : IsPlan p) (h : History) (o j n : ℕ) (a : PortAt p
     (lines : List (List item.Item)) (k : AreOuts p h o j lines) where
   here_is : (o' j' : ℕ) (op : OpForm) (q : Name) → slice_get p.ops o' ≡ Some op → slice_get op.writes j' ≡ Some q → (o ≡ o') × (j ≡ j') → a.queue ≡ q
   here_is o' j' op q g w e =
-      let eo : a.op ≡ op = some_is a.op op (sym a.op_is ∙ ap (slice_get p.ops) e.0 ∙ g) in
-      some_is a.queue q (sym a.queue_is ∙ ap (λ (y : OpForm). slice_get y.writes j) eo ∙ ap (slice_get op.writes) e.1 ∙ w)
+      let eo : a.op ≡ op = same_Some a.op op (sym a.op_is ∙ ap (slice_get p.ops) e.0 ∙ g) in
+      same_Some a.queue q (sym a.queue_is ∙ ap (λ (y : OpForm). slice_get y.writes j) eo ∙ ap (slice_get op.writes) e.1 ∙ w)
 
   -- one line more, of an output
   pub outs_next : (xs : List item.Item) → n < length lines → xs ≡ h a.queue → AreOuts p h o (j + 1) (set lines n xs)
@@ -114,7 +105,7 @@ module _ (p : PlanForm) (v : IsPlan p) (h : History) (o j n : ℕ) (a : PortAt p
 pub outs_op : (p : PlanForm) (h : History) (o n : ℕ) (lines : List (List item.Item)) (ps : List ℕ) → o < length p.ops
     → ps ≡ list_at (write_places p) o → length ps ≤ n → AreOuts p h o n lines → AreOuts p h (o + 1) 0 lines
 outs_op p h o n lines ps lt e le k =
-    let x = op_at p.ops o lt in
+    let x = there_is p.ops o lt in
     let long : length ps ≡ length x.0.writes = ap length (e ∙ places_at (λ d. d.writes) (queue_names p) p.ops o x.0 x.1)
     ∙ length-map x.0.writes (place (queue_names p)) in
     record {
@@ -124,8 +115,8 @@ outs_op p h o n lines ps lt e le k =
           (λ l2. inl l2)
           (λ ge.
           let eo : o' ≡ o = omega (arith, l, ge) in
-          let ex : op ≡ x.0 = some_is op x.0 (sym g ∙ ap (slice_get p.ops) eo ∙ x.1) in
-          let b2 = got_below op.writes j' q w in
+          let ex : op ≡ x.0 = same_Some op x.0 (sym g ∙ ap (slice_get p.ops) eo ∙ x.1) in
+          let b2 = slice_get_within op.writes j' q w in
           let el = ap (λ (y : OpForm). length y.writes) ex in
           inr (eo, omega (arith, b2, el, long, le)))
           (cases_lt o' o))
@@ -133,11 +124,6 @@ outs_op p h o n lines ps lt e le k =
           b) g w;
       rest = λ m none. k.rest m (λ o' j' op q b g w. none o' j' op q (inl (⊎_elim (λ l. omega (arith, l)) (λ z. let l = z.0 in omega (arith, l)) b)) g w);
     }
-
-got_first : {A : Type 0} (xs ys : List A) (n : ℕ) (x : A) → slice_get xs n ≡ Some x → slice_get (xs ++ ys) n ≡ Some x
-got_first [] ys n x g = absurd (cc g)
-got_first (y ∷ xs) ys zero x g = g
-got_first (y ∷ xs) ys (suc n) x g = got_first xs ys n x g
 
 first_got : {A : Type 0} (xs ys : List A) (n : ℕ) (x : A) → n < length xs → slice_get (xs ++ ys) n ≡ Some x → slice_get xs n ≡ Some x
 first_got [] ys n x lt g = absurd (omega (arith, lt))
@@ -150,7 +136,7 @@ same_lists [] [] e h = refl
 same_lists [] (y ∷ ys) e h = absurd (omega (arith, e))
 same_lists (x ∷ xs) [] e h = absurd (omega (arith, e))
 same_lists (x ∷ xs) (y ∷ ys) e h =
-    let a : y ≡ x = some_is y x (h 0 x refl) in
+    let a : y ≡ x = same_Some y x (h 0 x refl) in
     let r = same_lists xs ys (omega (arith, e)) (λ n z g. h (suc n) z g) in
     ap (λ z. z ∷ xs) (sym a) ∙ ap (λ zs. y ∷ zs) r
 
@@ -189,7 +175,7 @@ outs_end p inputs lines v k =
     let a1 = count-append w.0 ws (decl_names p.inputs ++ decl_names p.queues) in
     let a2 = count-append w.0 (decl_names p.inputs) (decl_names p.queues) in
     omega (arith, c1, o, a1, a2))))
-    (more_or_none (total (writes_it w.0) p.ops)) in
+    (more_or_zero (total (writes_it w.0) p.ops)) in
     got_map (hist p inputs) ws n w.0 w.1 ∙ ap Some (sym is ∙ get_or_from_slice_get lines n x [] g))
 
 -- ENDS OF A TASK
@@ -198,7 +184,7 @@ outs_end p inputs lines v k =
 pub ends_there : (p : PlanForm) (h : History) (o j : ℕ) (ps : List ℕ) (outs : List outlet.Outlet) → o < length p.ops
     → ps ≡ list_at (write_places p) o → HasOuts p h o j outs → length outs ≡ length ps
 ends_there p h o j ps outs lt e k =
-    let x = op_at p.ops o lt in
+    let x = there_is p.ops o lt in
     k.many x.0 x.1 ∙ sym (ap length (e ∙ places_at (λ d. d.writes) (queue_names p) p.ops o x.0 x.1) ∙ length-map x.0.writes (place (queue_names p)))
 
 -- the end at a port sent the history of the queue there, and kept it if it is an output
@@ -249,7 +235,7 @@ module _ (p : PlanForm) (inputs : List (List item.Item)) (caps : Capacities) (ne
             let k = n.tasks.each o t (slice_get_within net.tasks o t gt) in
             record {
               many = λ op g.
-                  let eo : k.op ≡ op = some_is k.op op (sym k.op_is ∙ ap (slice_get p.ops) (ap (λ (y : Task). y.op) is ∙ n.laid.numbers o t gt) ∙ g) in
+                  let eo : k.op ≡ op = same_Some k.op op (sym k.op_is ∙ ap (slice_get p.ops) (ap (λ (y : Task). y.op) is ∙ n.laid.numbers o t gt) ∙ g) in
                   sym (ap (λ (y : Task). length y.outs) is) ∙ k.outs ∙ ap (λ (y : OpForm). length y.writes) eo;
               each = λ j op q f lj g w gf. (
                 sym (get_or_from_slice_get (map sent_of t.outs) j (sent_of f) [] (got_map sent_of t.outs j f gf)) ∙ whole.sent o j op q t g w gt,

@@ -60,14 +60,6 @@ map_at g (x ∷ xs) [] l e = absurd (omega (arith, l))
 map_at g (x ∷ xs) (y ∷ ys) l e = ap (λ b. b ∷ map g xs) (e 0 x (omega arith))
     ∙ ap (λ bs. g y ∷ bs) (map_at g xs ys (omega (arith, l)) (λ i d lt. e (suc i) d (omega (arith, lt))))
 
--- and the same
-pub list_at_all : {A : Type 0} (xs ys : List A) → length xs ≡ length ys → ((i : ℕ) (d : A) → i < length xs → get_or xs i d ≡ get_or ys i d) → xs ≡ ys
-list_at_all [] [] l e = refl
-list_at_all [] (y ∷ ys) l e = absurd (omega (arith, l))
-list_at_all (x ∷ xs) [] l e = absurd (omega (arith, l))
-list_at_all (x ∷ xs) (y ∷ ys) l e = ap (λ b. b ∷ xs) (e 0 x (omega arith))
-    ∙ ap (λ bs. y ∷ bs) (list_at_all xs ys (omega (arith, l)) (λ i d lt. e (suc i) d (omega (arith, lt))))
-
 -- THE TASKS OF A PART
 
 -- their ends are those of the part

@@ -4,13 +4,13 @@ use Rattle.std.specs.Prelude.{All, nat_eq, slice_get, slice_index_or, replicate,
 use Rattle.std.proofs.lemmas.Bool.{cases_lt}
 use Rattle.std.proofs.lemmas.List.{append-nil}
 use Rattle.std.proofs.lemmas.List.Elements.{All-append}
-use Rattle.std.proofs.lemmas.Option.{slice_get_within, slice_get-get_or, get_or_from_slice_get}
+use Rattle.std.proofs.lemmas.Option.{slice_get_within, slice_get-get_or, get_or_from_slice_get, same_Some}
+use Rattle.river_base.proofs.PlaceLemmas.{if_eq, if_ne}
+use Rattle.river_base.proofs.Lists.{there_is, take_length}
 use Rattle.river_base.specs.Places.{list_at}
-use Rattle.river_base.proofs.Options.{some_is}
 use Rattle.river_plan.specs.declared.plan.TableDecl.{TableDecl}
 use Rattle.river_plan.specs.Forms.{PlanForm}
 use Rattle.river_plan.specs.Valid.{IsPlan}
-use Rattle.brooklet_model.proofs.Lists.{if_eq, if_ne}
 use Rattle.class_locks.specs.declared.log.LogEntry.{LogEntry}
 use Rattle.class_locks.specs.Logs.{Holding, HasKind, TakesRows}
 use Rattle.fire_tasks.specs.declared.task.Task.{Task}
@@ -19,7 +19,7 @@ use Rattle.fire_tasks.specs.Adds.{AreHomes, IsEntryOf, added, logs_of, table_cla
 use Rattle.fire_tasks.specs.Tasks.{IsTask}
 use Rattle.fire_tasks.specs.Turns.{AreRowsFor, HasFiredAt, Owes, entries_for, logged, without_rows}
 use Rattle.fire_tasks.proofs.AddLemmas.{added_else, added_more, entries_logged, logged_more, logged_none, logged_own}
-use Rattle.fire_tasks.proofs.TaskLemmas.{with_adds, tables_many, got_at}
+use Rattle.fire_tasks.proofs.TaskLemmas.{with_adds, tables_many}
 use Rattle.fire_open.specs.Homes.{AreClassCells, kinds_from}
 use Rattle.fire_run.specs.Cells.{HaveAdded, cells_grown}
 use Rattle.fire_run.specs.Rows.{CanAddTo, cells_with_rows}
@@ -91,7 +91,7 @@ added_step o classes tables rows j cells0 cells cells' h gh lc a e =
     let next : suc j ≡ j + 1 = omega arith in
     let taken : take (j + 1) tables ≡ take j tables ++ h ∷ [] = ap (λ k. take k tables) (sym next) ∙ take-suc tables j h lt
     ∙ ap (λ x. take j tables ++ x ∷ []) (get_or_from_slice_get tables j h h gh) in
-    let long : length (take j tables) ≡ j = taken_long tables j lt in
+    let long : length (take j tables) ≡ j = take_length tables j lt in
     let more : (c : ℕ) → logged o classes (take (j + 1) tables) rows c
     ≡ logged o classes (take j tables) rows c ++ (if nat_eq (slice_index_or classes h.place 0) c then entries_for o h.table (rows j) else [])
     = (λ c. ap (λ l. logged o classes l rows c) taken ∙ logged_more o classes (take j tables) h rows c
@@ -107,11 +107,6 @@ added_step o classes tables rows j cells0 cells cells' h gh lc a e =
     (if_ne (slice_index_or classes h.place 0) n (entries_for o h.table (rows j)) []
     (λ q. let z : 0 + slice_index_or classes h.place 0 ≡ slice_index_or classes h.place 0 = omega arith in ne (sym q ∙ sym z)))
     ∙ append-nil (logged o classes (take j tables) rows n))
-  where
-    taken_long : (us : List TablePort) (k : ℕ) → k < length us → length (take k us) ≡ k
-    taken_long [] k l = absurd (omega (arith, l))
-    taken_long (u ∷ us) zero l = refl
-    taken_long (u ∷ us) (suc k) l = ap suc (taken_long us k (omega (arith, l)))
 
 -- the cell of a port, as it stands now
 pub record CellNow (o table class : ℕ) (rows : List (List ℤ)) (cells : List Holding) : Type 0 where
@@ -133,7 +128,7 @@ cell_now o classes tables rows j cells0 cells h can gh a =
       takes = λ d.
           let y = grown_got (logged o classes (take j tables) rows) 0 cells0 c (slice_index_or cells c d)
           (ap (λ l. slice_get l c) (sym a) ∙ slice_get-get_or cells c d lc) in
-          let same : y.0 ≡ x.0 = some_is y.0 x.0 (sym y.1 ∙ x.1) in
+          let same : y.0 ≡ x.0 = same_Some y.0 x.0 (sym y.1 ∙ x.1) in
           subst (λ ks. TakesRows ks h.table (rows j)) (sym (y.2 ∙ ap (λ (z : Holding). z.kinds) same)) x.2;
     }
 
@@ -150,7 +145,7 @@ kinds_has : (f : ℕ → ℕ) (c n m : ℕ) (ts : List TableDecl) (t : TableDecl
 kinds_has f c n m [] t g e = absurd (cc g)
 kinds_has f c n zero (u ∷ ts) t g e =
     let z : n + 0 ≡ n = omega arith in
-    let same : u ≡ t = some_is u t g in
+    let same : u ≡ t = same_Some u t g in
     let hit : (f n == c) ≡ true = eq-eqb (f n) c (ap f (sym z) ∙ e) in (
       0,
       ap (λ b. slice_get (if b then (n, u.kind) ∷ kinds_from f c (suc n) ts else kinds_from f c (suc n) ts) 0) hit
@@ -166,16 +161,11 @@ kinds_has f c n (suc m) (u ∷ ts) t g e =
     by true r = (suc r.0, r.1)
     by false r = r
 
-got_cell : (xs : List Holding) (i : ℕ) → i < length xs → (x : Holding) × (slice_get xs i ≡ Some x)
-got_cell [] i lt = absurd (omega (arith, lt))
-got_cell (x ∷ xs) zero lt = (x, refl)
-got_cell (x ∷ xs) (suc i) lt = got_cell xs i (omega (arith, lt))
-
 -- the table of this number is in the cell of its class
 pub class_has : (p : PlanForm) (cells : List Holding) (n : ℕ) (t : TableDecl) → AreClassCells p cells → slice_get p.tables n ≡ Some t
     → (x : Holding) × (slice_get cells (table_class p n) ≡ Some x) × HasKind x.kinds n t.kind
 class_has p cells n t h g =
-    let x = got_cell cells (table_class p n) (h.all n (slice_get_within p.tables n t g)) in
+    let x = there_is cells (table_class p n) (h.all n (slice_get_within p.tables n t g)) in
     let z : 0 + n ≡ n = omega arith in
     let k = kinds_has (table_class p) (table_class p n) 0 n p.tables t g (ap (table_class p) z) in
     (x.0, x.1, record { place = k.0; there = ap (λ ks. slice_get ks k.0) (h.kinds (table_class p n) x.0 x.1) ∙ k.1 ∙ ap (λ m. Some (m, t.kind)) z })
@@ -241,7 +231,7 @@ module _ (p : PlanForm) (v : IsPlan p) (t t1 : Task) (cells0 cells : List Holdin
       subst (λ a. IsTask p (added p (logs_of cells) t.op) (record t1 { out = record { outs = t1.out.outs; adds = a } })) (sym b)
       (with_adds p (λ j. added p (logs_of cells0) t.op j ++ list_at t1.out.adds j) (added p (logs_of cells) t.op) (without_rows t1) owes.task (λ j lt.
       let m = tables_many p v (without_rows t1) (λ i. added p (logs_of cells0) t.op i ++ list_at t1.out.adds i) owes.task in
-      let h = got_at t1.tables j (omega (arith, m, lt)) in
+      let h = there_is t1.tables j (omega (arith, m, lt)) in
       added_more p v t.op k.op k.op_is t1.tables t1.classes homes (logs_of cells0) (logs_of cells) (list_at t1.out.adds) logs j h.0 h.1))
 
   -- what came to the cells is the operator's

@@ -5,32 +5,30 @@ use Rattle.std.specs.List.{flat_map}
 use Rattle.std.proofs.lemmas.Bool.{cases_eq, cases_lt}
 use Rattle.std.proofs.lemmas.List.Elements.{All-head, All-tail}
 use Rattle.std.proofs.lemmas.List.{append-nil}
-use Rattle.std.proofs.lemmas.Option.{get_or_from_slice_get, slice_get_within}
+use Rattle.std.proofs.lemmas.Option.{get_or_from_slice_get, slice_get_within, same_Some}
+use Rattle.river_base.proofs.PlaceLemmas.{if_lt, if_ge}
+use Rattle.river_base.proofs.Lists.{count_by-append, got_map}
 use Rattle.river_base.specs.Bags.{SameBag}
 use Rattle.river_base.specs.declared.item.Item as item
-use Rattle.river_base.proofs.Options.{some_is}
 use Rattle.river_plan.specs.declared.plan.TableDecl.{TableDecl}
 use Rattle.river_plan.specs.Forms.{Name, OpForm, PlanForm, table_names}
 use Rattle.river_plan.specs.Names.{count, one_if}
 use Rattle.river_plan.specs.Places.{place, places}
 use Rattle.river_plan.specs.Uses.{vars_it}
 use Rattle.river_plan.specs.Valid.{IsPlan}
-use Rattle.river_plan.proofs.NameLemmas.{cases_name, count-append}
+use Rattle.river_plan.proofs.NameLemmas.{cases_name, count-append, more_or_zero}
 use Rattle.river_plan.proofs.PlaceLemmas.{place_apart}
 use Rattle.brooklet_model.specs.Fire.{tabs}
 use Rattle.brooklet_model.specs.Histories.{given_on, hist, joined, own_adds, all_adds, tables_of}
-use Rattle.brooklet_model.proofs.Lists.{if_lt, if_ge}
-use Rattle.brooklet_model.proofs.Swaps.{bag_append, count_by-append}
+use Rattle.brooklet_model.proofs.Swaps.{bag_append}
 use Rattle.brooklet_model.proofs.Traces.{got_count, each_at, joined_out}
 use Rattle.brooklet_step.proofs.NextLemmas.{got_place}
 use Rattle.brooklet_step.proofs.OpTables.{among_known, mine_many}
 use Rattle.brooklet_step.proofs.QueuePlaces.{place_is}
-use Rattle.brooklet_step.proofs.ReadLemmas.{got_map}
 use Rattle.class_locks.specs.declared.log.LogEntry.{LogEntry}
 use Rattle.class_locks.specs.Logs.{rows_in, rows_to, part_of_op}
 use Rattle.fire_tasks.specs.Adds.{AreEntries, IsEntryOf, added, rows_by, table_at, table_class, table_numbers}
 use Rattle.fire_laws.proofs.Joining.{place_of}
-use Rattle.fire_run.proofs.Standing.{more_or_none}
 
 -- ONE ENTRY
 
@@ -115,7 +113,7 @@ joined_one (w ∷ ws) f t zero once g = ⊎_elim
     let e = ap one_if c.1 in
     ap (λ b. (if b then f 0 else []) ++ joined ws (λ i. f (suc i)) t) c.1 ∙ ap (λ l. f 0 ++ l) (joined_out ws (λ i. f (suc i)) t (omega (arith, e, once)))
     ∙ append-nil (f 0))
-    (λ c. absurd (c.0 (some_is w t g)))
+    (λ c. absurd (c.0 (same_Some w t g)))
     (cases_name w t)
 joined_one (w ∷ ws) f t (suc j) once g = ⊎_elim
     (λ c. absurd (let e = ap one_if c.1 in let k = got_count ws j t g in omega (arith, e, k, once)))
@@ -160,7 +158,7 @@ module _ (p : PlanForm) (inputs : List (List item.Item)) (logs : ℕ → List Lo
   others : (o : ℕ) (op : OpForm) → slice_get p.ops o ≡ Some op → count t.name (tables_of names op) ≡ 0 → (e : LogEntry) → IsEntryOf p (table_class p n) e
       → e.op ≡ o → e.table ≢ n
   others o op go z e x eo en =
-      let is : x.op ≡ op = some_is x.op op (sym x.op_is ∙ ap (slice_get p.ops) eo ∙ go) in
+      let is : x.op ≡ op = same_Some x.op op (sym x.op_is ∙ ap (slice_get p.ops) eo ∙ go) in
       let q = got_place names (tables_of names op) x.port n
       (ap (λ (y : OpForm). slice_get (places names (tables_of names y)) x.port) (sym is) ∙ x.table ∙ ap Some en) in
       let there = among_known names op.vars q.0 (got_count (tables_of names op) x.port q.0 q.1) in
@@ -190,7 +188,7 @@ module _ (p : PlanForm) (inputs : List (List item.Item)) (logs : ℕ → List Lo
       subst (SameBag (rows_by o n log)) (sym (joined_one mine f t.name j.0 (omega (arith, few, less)) j.1))
       (subst (λ m. SameBag (rows_by o m (logs (table_class p m))) (f j.0)) at bag))
       (λ none. λ test. ap (count_by test) (rows_none o n log (each_entry o op go none) ∙ sym (joined_out mine f t.name none)))
-      (more_or_none (count t.name mine))
+      (more_or_zero (count t.name mine))
 
   known_ops : All (λ (e : LogEntry). e.op < length p.ops) log
   known_ops i d lt = let x = entries (table_class p n) i d lt in slice_get_within p.ops (slice_index_or log i d).op x.op x.op_is

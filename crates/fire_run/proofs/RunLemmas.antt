@@ -1,7 +1,6 @@
 -- A run of one net, round by round, and then move by move.
-use Rattle.std.proofs.Common.{◌≡◌, ℕ, ◌+◌, ◌*◌, ◌-◌, ◌<◌, ◌≤◌, List, arith, refl, sym, subst, ap, ◌∙◌, ◌++◌, length, take, drop}
+use Rattle.std.proofs.Common.{◌≡◌, ℕ, ◌+◌, ◌*◌, ◌-◌, ◌<◌, ◌≤◌, List, arith, refl, sym, subst}
 use Rattle.std.specs.Prelude.{All, Bool, true, false, IsTrue, IsFalse}
-use Rattle.std.proofs.lemmas.List.{append-nil, drop_all, take_all}
 use Rattle.river_base.specs.declared.item.Item as item
 use Rattle.river_plan.specs.Forms.{PlanForm, plan_form, queue_names}
 use Rattle.river_plan.specs.declared.plan.RawPlan.{RawPlan}
@@ -41,12 +40,6 @@ pub opened_has : (p : PlanForm) (inputs : List (List item.Item)) (caps : Capacit
 opened_has p inputs caps net h = record { fine = h.fine; inputs = inputs; caps = caps; is = h.is }
 
 -- A ROUND
-
--- what is written back of a slice of as many elements is the slice
-pub written_back : (new old : List Bundle) (n : ℕ) → length new ≡ length old → n ≡ length old → take n (new ++ drop (length new) old) ≡ new
-written_back new old n e m =
-    ap (λ (l : List Bundle). take n (new ++ l)) (drop_all (length new) old (omega (arith, e)))
-    ∙ (ap (take n) (append-nil new) ∙ take_all n new (omega (arith, e, m)))
 
 -- bundles of a frame are ready for a round
 pub ready_by : (raw : RawPlan) (p : PlanForm) (f : Framed) (bs : List Bundle) → plan_form raw ≡ p → AreBundlesOf p f bs → All (IsReady raw) bs

@@ -1,8 +1,9 @@
 -- Tasks that are dealt to bundles, part by part.
-use Rattle.std.proofs.Common.{◌≡◌, ℕ, zero, suc, ◌+◌, ◌%◌, ◌==◌, ◌<◌, ◌≤◌, cond, List, [], ◌∷◌, ◌++◌, length, take, take-suc, refl, sym, ap, ◌∙◌, subst, arith, get_or, set, get_or-set_other, eq-eqb, ne_eqb, append_assoc, length-append}
+use Rattle.std.proofs.Common.{◌≡◌, ℕ, zero, suc, ◌+◌, ◌%◌, ◌==◌, ◌<◌, ◌≤◌, cond, List, [], ◌∷◌, ◌++◌, length, take, refl, sym, ap, ◌∙◌, subst, arith, get_or, set, get_or-set_other, eq-eqb, ne_eqb, append_assoc, length-append}
 use mathlib.Core.List.{reverse}
-use Rattle.std.proofs.lemmas.List.{append-nil, length-set, reverse-append}
+use Rattle.std.proofs.lemmas.List.{append-nil, length-set, reverse-append, take_all, get_or_default}
 use Rattle.std.proofs.lemmas.List.Elements.{filter-append}
+use Rattle.river_base.proofs.Lists.{take_next}
 use Rattle.class_locks.specs.Seats.{Chair}
 use Rattle.fire_tasks.specs.declared.bundle.Bundle.{Bundle}
 use Rattle.fire_tasks.specs.declared.task.Task.{Task}
@@ -38,11 +39,6 @@ taking_first n k ts own e = record { own = e ∙ none ts; rest = λ j d le. refl
     none [] = refl
     none (u ∷ us) = refl
 
-one_more : (ts : List Task) (i : ℕ) (t : Task) → i < length ts → t ≡ get_or ts i t → take (i + 1) ts ≡ take i ts ++ t ∷ []
-one_more ts i t lt e =
-    let next : suc i ≡ i + 1 = omega arith in
-    ap (λ k. take k ts) (sym next) ∙ take-suc ts i t lt ∙ ap (λ x. take i ts ++ x ∷ []) (sym e)
-
 -- one task more, which is of the part
 pub taking_in : (n k i : ℕ) (ts0 ts own : List Task) (t new : Task) → Taking n k ts0 i ts own → i < length ts → t ≡ get_or ts i t → new.op ≡ t.op
     → (t.op % n) ≡ k → Taking n k ts0 (i + 1) (set ts i new) (own ++ t ∷ [])
@@ -53,20 +49,15 @@ taking_in n k i ts0 ts own t new h lt e o q =
     record {
       own = ap (λ l. l ++ t ∷ []) h.own ∙ ap (λ l. tasks_of_part n k (take i ts0) ++ l) (sym one)
           ∙ sym (filter-append (λ (x : Task). (x.op % n) == k) (take i ts0) (t ∷ []))
-          ∙ ap (tasks_of_part n k) (sym (one_more ts0 i t (omega (arith, lt, m)) there));
+          ∙ ap (tasks_of_part n k) (sym (take_next ts0 i t (omega (arith, lt, m)) there));
       rest = λ j d le. get_or-set_other ts i j new d (λ z. omega (arith, z, le)) ∙ h.rest j d (omega (arith, le));
       stay = record {
         many = length-set ts i new ∙ m;
         others = λ j ne.
-            part_set n j ts i new (o ∙ ap (λ (x : Task). x.op) (e ∙ default_same ts i t new lt)) (λ z. ne (sym z ∙ ap (λ (x : ℕ). x % n) o ∙ q))
+            part_set n j ts i new (o ∙ ap (λ (x : Task). x.op) (e ∙ get_or_default ts i t new lt)) (λ z. ne (sym z ∙ ap (λ (x : ℕ). x % n) o ∙ q))
             ∙ h.stay.others j ne;
       };
     }
-  where
-    default_same : (xs : List Task) (j : ℕ) (c d : Task) → j < length xs → get_or xs j c ≡ get_or xs j d
-    default_same [] j c d l = absurd (omega (arith, l))
-    default_same (x ∷ xs) zero c d l = refl
-    default_same (x ∷ xs) (suc j) c d l = default_same xs j c d (omega (arith, l))
 
 -- one task more, which is of another
 pub taking_past : (n k i : ℕ) (ts0 ts own : List Task) (t : Task) → Taking n k ts0 i ts own → i < length ts → t ≡ get_or ts i t → ((t.op % n) ≡ k → ⊥)
@@ -78,20 +69,14 @@ taking_past n k i ts0 ts own t h lt e ne =
     record {
       own = h.own ∙ sym (append-nil (tasks_of_part n k (take i ts0))) ∙ ap (λ l. tasks_of_part n k (take i ts0) ++ l) (sym none)
           ∙ sym (filter-append (λ (x : Task). (x.op % n) == k) (take i ts0) (t ∷ []))
-          ∙ ap (tasks_of_part n k) (sym (one_more ts0 i t (omega (arith, lt, m)) there));
+          ∙ ap (tasks_of_part n k) (sym (take_next ts0 i t (omega (arith, lt, m)) there));
       rest = λ j d le. h.rest j d (omega (arith, le));
       stay = h.stay;
     }
 
 -- behind the last one all are
 pub taking_all : (n k i : ℕ) (ts0 ts own : List Task) → Taking n k ts0 i ts own → length ts0 ≤ i → own ≡ tasks_of_part n k ts0
-taking_all n k i ts0 ts own h le = h.own ∙ ap (tasks_of_part n k) (whole ts0 i le)
-  where
-    whole : (us : List Task) (j : ℕ) → length us ≤ j → take j us ≡ us
-    whole [] zero l = refl
-    whole [] (suc j) l = refl
-    whole (u ∷ us) zero l = absurd (omega (arith, l))
-    whole (u ∷ us) (suc j) l = ap (λ r. u ∷ r) (whole us j (omega (arith, l)))
+taking_all n k i ts0 ts own h le = h.own ∙ ap (tasks_of_part n k) (take_all i ts0 le)
 
 -- A BUNDLE FOR EACH SEAT
 

@@ -1,20 +1,18 @@
 -- The tables of cells come to their places.
-use Rattle.std.proofs.Common.{Vec, Global, ◌≡◌, ◌≢◌, ℕ, zero, suc, ◌+◌, ◌-◌, ◌<◌, ◌≤◌, ◌==◌, ⊎_elim, Some, List, [], ◌∷◌, ◌++◌, length, take, map, refl, sym, ap, ◌∙◌, arith, subst, get_or, set, eq-eqb, ne_eqb}
+use Rattle.std.proofs.Common.{Vec, Global, ◌≡◌, ◌≢◌, ℕ, zero, suc, ◌+◌, ◌-◌, ◌<◌, ◌==◌, ⊎_elim, Some, List, [], ◌∷◌, ◌++◌, length, take, map, refl, sym, ap, ◌∙◌, arith, subst, get_or, set, eq-eqb, ne_eqb}
 use Rattle.std.specs.Prelude.{slice_get, slice_index_or, if◌then◌else◌}
 use Rattle.std.proofs.lemmas.Bool.{cases_eq}
-use Rattle.std.proofs.lemmas.List.{append-nil, length-map, length-set, map-append, take_all}
-use Rattle.std.proofs.lemmas.Option.{get_or_from_slice_get, slice_get_within}
+use Rattle.std.proofs.lemmas.List.{append-nil, length-map, length-set, map-append, take_all, same_from_push, length-take-le}
+use Rattle.std.proofs.lemmas.Option.{get_or_from_slice_get, slice_get_within, same_Some}
+use Rattle.river_base.proofs.Lists.{there_is, got_map}
 use Rattle.river_base.specs.Places.{list_at}
-use Rattle.river_base.proofs.Options.{some_is}
 use Rattle.kern_tables.specs.declared.kind.TableKind.{TableKind}
 use Rattle.kern_tables.specs.declared.kept.Kept.{Kept}
 use Rattle.river_plan.specs.declared.plan.TableDecl.{TableDecl}
 use Rattle.river_plan.specs.Forms.{PlanForm}
-use Rattle.brooklet_step.proofs.ReadLemmas.{got_map}
 use Rattle.class_locks.specs.declared.log.LogEntry.{LogEntry}
 use Rattle.class_locks.specs.Logs.{Holding, replay}
 use Rattle.fire_tasks.specs.Adds.{logs_of, table_class}
-use Rattle.fire_laws.proofs.NetLemmas.{there_is}
 use Rattle.fire_open.specs.Homes.{AreTableClasses, AreClassCells, kinds_from, class_kinds}
 use Rattle.fire_open.proofs.ClassLemmas.{kinds_next, class_kinds_are}
 use Rattle.fire_open.proofs.Lists.{set_got_same, set_got_other}
@@ -46,17 +44,6 @@ snoc_some : {A : Type 0} (xs : List A) (x : A) → xs ++ x ∷ [] ≡ [] → ⊥
 snoc_some [] x e = cc e
 snoc_some (y ∷ xs) x e = cc e
 
--- lists with one element more are the same only where both parts are
-snoc_parts : {A : Type 0} (xs ys : List A) (x y : A) → xs ++ x ∷ [] ≡ ys ++ y ∷ [] → (xs ≡ ys) × (x ≡ y)
-snoc_parts [] [] x y e = (refl, cc e)
-snoc_parts [] (z ∷ ys) x y e = let t : [] ≡ ys ++ y ∷ [] = cc e in absurd (snoc_some ys y (sym t))
-snoc_parts (z ∷ xs) [] x y e = let t : xs ++ x ∷ [] ≡ [] = cc e in absurd (snoc_some xs x t)
-snoc_parts (z ∷ xs) (w ∷ ys) x y e =
-    let h : z ≡ w = cc e in
-    let t : xs ++ x ∷ [] ≡ ys ++ y ∷ [] = cc e in
-    let r = snoc_parts xs ys x y t in
-    (ap (λ a. a ∷ xs) h ∙ ap (λ as_. w ∷ as_) r.0, r.1)
-
 -- FROM THE LAST TABLE TO THE FIRST
 
 -- the first n tables stand in the lists of their classes, and the others at their places
@@ -78,11 +65,6 @@ pub turn_of : (class : ℕ → ℕ) (logs : ℕ → List LogEntry) (count back k
     → Going class logs (count - back) decls lists tables → back < count → k ≡ count - 1 - back → Going class logs (k + 1) decls lists tables
 turn_of class logs count back k decls lists tables g lt e = subst (λ n. Going class logs n decls lists tables) (omega (arith, lt, e)) g
 
-take_long : {A : Type 0} (xs : List A) (k : ℕ) → k ≤ length xs → length (take k xs) ≡ k
-take_long xs zero le = refl
-take_long [] (suc k) le = absurd (omega (arith, le))
-take_long (x ∷ xs) (suc k) le = ap suc (take_long xs k (omega (arith, le)))
-
 module _ (class : ℕ → ℕ) (logs : ℕ → List LogEntry) (k : ℕ) (decls : List TableDecl) (lists : List (Vec Kept Global))
     (tables : List Kept) (lt : k < length decls) (g : Going class logs (k + 1) decls lists tables) where
   decl : (t : TableDecl) × (slice_get decls k ≡ Some t)
@@ -100,7 +82,7 @@ module _ (class : ℕ → ℕ) (logs : ℕ → List LogEntry) (k : ℕ) (decls :
 
   -- the class of the table is there
   pub class_there : class k < length lists
-  class_there = let l = take_long decls (k + 1) (omega (arith, lt)) in g.sorted.there k (omega (arith, l))
+  class_there = let l = length-take-le (k + 1) decls (omega (arith, lt)) in g.sorted.there k (omega (arith, l))
 
   last_is : (t : TableDecl) → slice_get decls k ≡ Some t
       → tables_at lists (class k) ≡ map (replay (logs (class k))) (kinds_from class (class k) 0 (take k decls)) ++ replay (logs (class k)) (k, t.kind) ∷ []
@@ -120,10 +102,10 @@ module _ (class : ℕ → ℕ) (logs : ℕ → List LogEntry) (k : ℕ) (decls :
       → tables_at lists (class k) ≡ tables_at lists' (class k) ++ x ∷ [] → ((c : ℕ) → c ≢ class k → tables_at lists' c ≡ tables_at lists c)
       → Going class logs k decls lists' (set tables k x)
   going_next lists' x long last others =
-      let parts = snoc_parts (tables_at lists' (class k)) (map (replay (logs (class k))) (kinds_from class (class k) 0 (take k decls))) x
+      let parts = same_from_push (tables_at lists' (class k)) (map (replay (logs (class k))) (kinds_from class (class k) 0 (take k decls))) x
       (replay (logs (class k)) (k, decl.0.kind)) (sym last ∙ last_is decl.0 decl.1) in
-      let l0 = take_long decls k (omega (arith, lt)) in
-      let l1 = take_long decls (k + 1) (omega (arith, lt)) in
+      let l0 = length-take-le k decls (omega (arith, lt)) in
+      let l1 = length-take-le (k + 1) decls (omega (arith, lt)) in
       let many = g.placed.many in
       record {
         sorted = record {
@@ -141,7 +123,7 @@ module _ (class : ℕ → ℕ) (logs : ℕ → List LogEntry) (k : ℕ) (decls :
           many = length-set tables k x ∙ many;
           each = λ m t le gm. ⊎_elim
               (λ e.
-              let et : decl.0 ≡ t = some_is decl.0 t (sym decl.1 ∙ ap (slice_get decls) e ∙ gm) in
+              let et : decl.0 ≡ t = same_Some decl.0 t (sym decl.1 ∙ ap (slice_get decls) e ∙ gm) in
               ap (slice_get (set tables k x)) (sym e) ∙ set_got_same tables k x (omega (arith, many, lt))
               ∙ ap Some (parts.1 ∙ ap (λ (y : TableDecl). replay (logs (class k)) (k, y.kind)) et ∙ ap (λ i. replay (logs (class i)) (i, t.kind)) e))
               (λ ne. set_got_other tables k m x ne ∙ g.placed.each m t (omega (arith, le, ne)) gm)

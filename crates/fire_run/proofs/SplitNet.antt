@@ -3,10 +3,10 @@ use Rattle.std.proofs.Common.{◌≡◌, ℕ, zero, suc, ◌+◌, ◌%◌, ◌==
 use Rattle.std.specs.Prelude.{slice_get}
 use Rattle.std.proofs.lemmas.List.{append-nil}
 use Rattle.std.proofs.lemmas.List.Elements.{All-nil}
+use Rattle.std.proofs.lemmas.Option.{same_Some}
 use mathlib.Core.Option.{some}
 use lib.ListN.{get_elem?}
 use Rattle.river_base.specs.declared.item.Item as item
-use Rattle.river_base.proofs.Options.{some_is}
 use Rattle.river_kernels.specs.declared.limit.Limit.TheVariants.{Variables}
 use Rattle.river_plan.specs.Forms.{PlanForm}
 use Rattle.river_plan.specs.Valid.{IsPlan}
@@ -48,7 +48,7 @@ without_long (suc i) a (x ∷ xs) g = ap suc (without_long i a xs g)
 without_got : (i j a c : ℕ) (xs : List ℕ) → slice_get xs i ≡ Some a → slice_get xs j ≡ Some c → (a ≡ c → ⊥) → (k : ℕ) × (slice_get (without_at i xs) k ≡ Some c)
 unfolding without_at
 without_got i j a c [] g h ne = absurd (cc g)
-without_got zero zero a c (x ∷ xs) g h ne = absurd (ne (sym (some_is x a g) ∙ some_is x c h))
+without_got zero zero a c (x ∷ xs) g h ne = absurd (ne (sym (same_Some x a g) ∙ same_Some x c h))
 without_got zero (suc j) a c (x ∷ xs) g h ne = (j, h)
 without_got (suc i) zero a c (x ∷ xs) g h ne = (0, h)
 without_got (suc i) (suc j) a c (x ∷ xs) g h ne = let r = without_got i j a c xs g h ne in (suc r.0, r.1)
@@ -93,7 +93,7 @@ few_cells p cells v h =
 -- what is found at a place of cells, in the words of the locks
 pub elem_of : (xs : List Holding) (c : ℕ) (x : Holding) → slice_get xs c ≡ Some x → get_elem? xs c ≡ some x
 elem_of [] c x g = absurd (cc g)
-elem_of (y ∷ ys) zero x g = ap some (some_is y x g)
+elem_of (y ∷ ys) zero x g = ap some (same_Some y x g)
 elem_of (y ∷ ys) (suc c) x g = elem_of ys c x g
 
 -- there is a cell for each table

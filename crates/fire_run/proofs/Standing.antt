@@ -1,15 +1,17 @@
 -- What a net keeps while its tasks move and its rings look.
-use Rattle.std.proofs.Common.{◌≡◌, ℕ, ℤ, zero, suc, ◌<◌, ◌≤◌, ◌⊎◌, inl, inr, ⊎_elim, Some, None, List, [], ◌∷◌, ◌++◌, length, map, refl, sym, ap, ◌∙◌, arith, subst, get_or, ◌^◌, length-append}
+use Rattle.std.proofs.Common.{◌≡◌, ℕ, ℤ, ◌<◌, ◌⊎◌, ⊎_elim, Some, None, List, [], ◌++◌, length, map, sym, ap, ◌∙◌, arith, subst, get_or, ◌^◌, length-append}
 use Rattle.std.specs.Prelude.{slice_get}
 use Rattle.std.proofs.lemmas.Bool.{cases_lt}
-use Rattle.std.proofs.lemmas.Option.{get_or_from_slice_get, slice_get-get_or, slice_get_within}
+use Rattle.std.proofs.lemmas.Option.{get_or_from_slice_get, slice_get-get_or, slice_get_within, same_Some}
+use Rattle.std.proofs.lemmas.List.{nil_from_length}
+use Rattle.river_base.proofs.PlaceLemmas.{list_past}
+use Rattle.river_plan.proofs.NameLemmas.{more_or_zero}
+use Rattle.river_base.proofs.Lists.{there_is}
 use Rattle.river_base.specs.declared.item.Item as item
 use Rattle.river_base.specs.Places.{list_at}
-use Rattle.river_base.proofs.Options.{some_is}
 use Rattle.river_plan.specs.Forms.{Name, OpForm, PlanForm}
 use Rattle.river_plan.specs.Uses.{total, reads_it, writes_it}
 use Rattle.river_plan.specs.Valid.{IsPlan}
-use Rattle.brooklet_model.proofs.Ports.{got_below}
 use Rattle.brooklet_model.proofs.Traces.{got_count}
 use Rattle.brooklet_model.specs.Bounded.{Capacities}
 use Rattle.brooklet_model.specs.Laws.{given_to}
@@ -26,7 +28,7 @@ use Rattle.fire_laws.specs.Layout.{IsLink, IsSettled, IsInput, IsStored, AreLaid
 use Rattle.fire_tasks.specs.Ports.{in_end, received_of, known_of, sent_of, HasRoom}
 use Rattle.fire_tasks.specs.Tasks.{IsTask, IsDone, all_ends}
 use Rattle.fire_tasks.specs.Adds.{added, logs_of}
-use Rattle.fire_laws.proofs.NetLemmas.{there_is, make_net, seen_here, settled_ring, kept_input, received_here, sent_here}
+use Rattle.fire_laws.proofs.NetLemmas.{make_net, seen_here, settled_ring, kept_input, received_here, sent_here}
 use Rattle.fire_open.specs.Links.{AreLinks, AreMet}
 use Rattle.fire_open.specs.Still.{Still, still}
 use Rattle.fire_open.proofs.Lists.{same_got, map_long}
@@ -57,16 +59,6 @@ stored_free : (f : outlet.Outlet) → IsStored f → HasRoom f
 stored_free (SendsTo f) s = absurd s
 stored_free (Stored xs) s = tt
 
--- a number is above 0, or it is 0
-pub more_or_none : (n : ℕ) → (0 < n) ⊎ (n ≡ 0)
-more_or_none zero = inr refl
-more_or_none (suc n) = inl (omega arith)
-
-beyond : (ls : List (List item.Item)) (j : ℕ) → length ls ≤ j → list_at ls j ≡ []
-beyond [] j le = refl
-beyond (l ∷ ls) zero le = absurd (omega (arith, le))
-beyond (l ∷ ls) (suc j) le = beyond ls j (omega (arith, le))
-
 module _ (p : PlanForm) (inputs : List (List item.Item)) (caps : Capacities) (net : Net) (v : IsPlan p) (n : IsNetOf p inputs caps net) where
   abbrev adds : ℕ → ℕ → List (List ℤ)
   adds = added p (logs_of net.cells)
@@ -95,7 +87,7 @@ module _ (p : PlanForm) (inputs : List (List item.Item)) (caps : Capacities) (ne
       let t = get_or net.tasks o d in
       let k = is_task o d lt in
       let there : j < length k.op.writes =
-      ⊎_elim (λ l. l) (λ ge. absurd (some (beyond t.pending j (let e = k.pending in omega (arith, e, ge))))) (cases_lt j (length k.op.writes)) in
+      ⊎_elim (λ l. l) (λ ge. absurd (some (list_past t.pending j (let e = k.pending in omega (arith, e, ge))))) (cases_lt j (length k.op.writes)) in
       let q = there_is k.op.writes j there in
       let f = there_is t.outs j (let e = k.outs in omega (arith, e, there)) in
       let gt = slice_get-get_or net.tasks o d lt in
@@ -104,7 +96,7 @@ module _ (p : PlanForm) (inputs : List (List item.Item)) (caps : Capacities) (ne
       let r = reader_of p.ops q.0 read in
       let port = place_of r.1.reads q.0 r.3 in
       let a = task_at p inputs caps adds net.tasks n.laid n.tasks r.0 r.1 r.2 in
-      let i = there_is a.t.ins port.0 (let e = a.ins in let b = got_below r.1.reads port.0 q.0 port.1 in omega (arith, e, b)) in
+      let i = there_is a.t.ins port.0 (let e = a.ins in let b = slice_get_within r.1.reads port.0 q.0 port.1 in omega (arith, e, b)) in
       let ends : HasEnds p net.tasks r.0 o port.0 j q.0 f.0 i.0 =
       record {
         op = r.1;
@@ -128,7 +120,7 @@ module _ (p : PlanForm) (inputs : List (List item.Item)) (caps : Capacities) (ne
       ∙ done1.received port.0 i.0 (slice_get_within a.t.ins port.0 i.0 i.1) in
       ring_free (caps q.0) f.0 i.0 (n.room q.0) (n.laid.rings r.0 o port.0 j q.0 f.0 i.0 ends) (n.settled.each r.0 o port.0 j q.0 f.0 i.0 ends) z)
       (λ none. stored_free f.0 (n.laid.outputs_are o j k.op q.0 t f.0 (op_at o d lt) q.1 none gt f.1))
-      (more_or_none (total (reads_it q.0) p.ops)))
+      (more_or_zero (total (reads_it q.0) p.ops)))
 
   -- in a net no item failed its test, and where all behind a task have nothing to do its rings have room
   pub can_send : CanSendFrom net.tasks
@@ -160,10 +152,6 @@ net_again p inputs caps net net' ts v n k e s l m h = record {
 
 -- NOTHING LEFT
 
-nil_of : (xs : List item.Item) → length xs ≡ 0 → xs ≡ []
-nil_of [] e = refl
-nil_of (x ∷ xs) e = absurd (omega (arith, e))
-
 none_more : (xs xs' ys ys' : List item.Item) → xs ++ ys ≡ xs' ++ ys' → xs ≡ xs' → ys ≡ [] → ys' ≡ []
 none_more xs xs' ys ys' e x y =
     let a = ap length e in
@@ -171,7 +159,7 @@ none_more xs xs' ys ys' e x y =
     let c = length-append xs' ys' in
     let d = ap length x in
     let f = ap length y in
-    nil_of ys' (omega (arith, a, b, c, d, f))
+    nil_from_length ys' (omega (arith, a, b, c, d, f))
 
 ring_left : (f f' : outlet.Outlet) (i i' : inlet.Inlet) → IsSettled f i → IsSettled f' i' → sent_of f' ≡ sent_of f → received_of i' ≡ received_of i
     → known_of i ≡ [] → known_of i' ≡ []
@@ -203,7 +191,7 @@ module _ (p : PlanForm) (inputs : List (List item.Item)) (caps : Capacities) (ne
         (λ w. by_ring o port k1.op q.0 t t' i.0 i'.0 op_is q.1 g g' i.1 i'.1 w er z)
         (λ none. input_left (given_to p inputs q.0) i.0 i'.0 (n.laid.inputs_are o port k1.op q.0 t i.0 op_is q.1 none g i.1)
         (n'.laid.inputs_are o port k1.op q.0 t' i'.0 op_is q.1 none g' i'.1) er z)
-        (more_or_none (total (writes_it q.0) p.ops));
+        (more_or_zero (total (writes_it q.0) p.ops));
   }
     where
       by_ring : (o port : ℕ) (op : OpForm) (q : Name) (t t' : Task) (i i' : inlet.Inlet) → slice_get p.ops o ≡ Some op
@@ -215,10 +203,10 @@ module _ (p : PlanForm) (inputs : List (List item.Item)) (caps : Capacities) (ne
           let j = place_of wr.1.writes q wr.3 in
           let a = task_at p inputs caps (added p (logs_of net.cells)) net.tasks n.laid n.tasks wr.0 wr.1 wr.2 in
           let b = task_at p inputs caps (added p (logs_of net'.cells)) net'.tasks n'.laid n'.tasks wr.0 wr.1 wr.2 in
-          let f = there_is a.t.outs j.0 (let e = a.outs in let c = got_below wr.1.writes j.0 q j.1 in omega (arith, e, c)) in
-          let f' = there_is b.t.outs j.0 (let e = b.outs in let c = got_below wr.1.writes j.0 q j.1 in omega (arith, e, c)) in
+          let f = there_is a.t.outs j.0 (let e = a.outs in let c = slice_get_within wr.1.writes j.0 q j.1 in omega (arith, e, c)) in
+          let f' = there_is b.t.outs j.0 (let e = b.outs in let c = slice_get_within wr.1.writes j.0 q j.1 in omega (arith, e, c)) in
           let x = same_got still net'.tasks net.tasks same wr.0 b.t b.t_is in
-          let u : x.0 ≡ a.t = some_is x.0 a.t (sym x.1 ∙ a.t_is) in
+          let u : x.0 ≡ a.t = same_Some x.0 a.t (sym x.1 ∙ a.t_is) in
           let st : still b.t ≡ still a.t = x.2 ∙ ap still u in
           let es : sent_of f'.0 ≡ sent_of f.0 = sym (sent_here b.t.outs j.0 f'.0 f'.1) ∙ ap (λ (y : Still). list_at y.seen.sent j.0) st
           ∙ sent_here a.t.outs j.0 f.0 f.1 in

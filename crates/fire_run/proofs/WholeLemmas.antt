@@ -2,8 +2,10 @@
 use Rattle.std.proofs.Common.{◌≡◌, ℕ, ℤ, zero, suc, ◌<◌, ⊎_elim, Some, List, [], ◌∷◌, ◌++◌, length, refl, sym, ap, ◌∙◌, arith, subst, length-append}
 use Rattle.std.specs.Prelude.{slice_get, min}
 use mathlib.Core.List.{reverse}
-use Rattle.std.proofs.lemmas.List.{append-nil}
+use Rattle.std.proofs.lemmas.List.{append-nil, nil_from_length}
 use Rattle.std.proofs.lemmas.Option.{get_or_from_slice_get, slice_get_within}
+use Rattle.river_base.proofs.Lists.{got_map}
+use Rattle.river_plan.proofs.NameLemmas.{more_or_zero}
 use Rattle.river_base.specs.declared.item.Item as item
 use Rattle.river_base.specs.Bags.{SameBag}
 use Rattle.river_base.specs.Held.{held}
@@ -18,8 +20,6 @@ use Rattle.brooklet_model.specs.Received.{AreDone, hist_by, IsFront}
 use Rattle.brooklet_model.specs.Histories.{hist, given_on, most_firings}
 use Rattle.brooklet_model.specs.Traced.{ran}
 use Rattle.brooklet_model.specs.Words.{Word, at_port}
-use Rattle.brooklet_model.proofs.Ports.{got_below}
-use Rattle.brooklet_model.proofs.TypedPlan.{kind_got}
 use Rattle.brooklet_step.specs.Given.{held_by}
 use Rattle.fire_tasks.specs.Fired.{SeenTask}
 use Rattle.fire_laws.specs.Joins.{bounded}
@@ -36,7 +36,6 @@ use Rattle.fire_laws.proofs.NetLemmas.{make_net, seen_here, left_read, inlet_of,
 use Rattle.fire_run.specs.declared.net.Net.{Net}
 use Rattle.fire_run.specs.NetOf.{IsNetOf, AreIdle}
 use Rattle.fire_run.specs.Whole.{IsWholeNet, IdleNetIsWhole, NetsMoveFew}
-use Rattle.fire_run.proofs.Standing.{more_or_none}
 
 turned_idle : (ls : List (List item.Item)) → IsIdle ls → (j : ℕ) → list_at (pending_in ls) j ≡ []
 turned_idle [] h j = refl
@@ -48,11 +47,7 @@ whole_front : (xs ys : List item.Item) → IsFront xs ys → length xs ≡ lengt
 whole_front xs ys f e =
     let a = ap length f.1 in
     let b = length-append xs f.0 in
-    sym (append-nil xs) ∙ ap (λ r. xs ++ r) (sym (nothing f.0 (omega (arith, a, b, e)))) ∙ f.1
-  where
-    nothing : (rs : List item.Item) → length rs ≡ 0 → rs ≡ []
-    nothing [] z = refl
-    nothing (r ∷ rs) z = absurd (omega (arith, z))
+    sym (append-nil xs) ∙ ap (λ r. xs ++ r) (sym (nil_from_length f.0 (omega (arith, a, b, e)))) ∙ f.1
 
 module _ (p : PlanForm) (inputs : List (List item.Item)) (caps : Capacities) (net : Net) (v : IsPlan p) (n : IsNetOf p inputs caps net)
     (idle : AreIdle net.tasks) where
@@ -113,7 +108,7 @@ module _ (p : PlanForm) (inputs : List (List item.Item)) (caps : Capacities) (ne
       let i1 = length-append (list_at (seen_at net.tasks o).received port) (left_in p inputs net.tasks q) in
       let u = ap length (unwritten_by p inputs ws q none) in
       omega (arith, gone, left0, tk, i, i1, u))
-      (more_or_none (total (writes_it q) p.ops))
+      (more_or_zero (total (writes_it q) p.ops))
 
   are_done : AreDone p inputs ws
   unfolding ws make
@@ -129,12 +124,12 @@ module _ (p : PlanForm) (inputs : List (List item.Item)) (caps : Capacities) (ne
   unfolding ws make
   whole_net = record {
     sent = λ o j op q t g w gt.
-        let below : j < length op.writes = got_below op.writes j q w in
+        let below : j < length op.writes = slice_get_within op.writes j q w in
         let outs = (make.gave o op t g gt).outs j below in
         let none = turned_idle t.pending (done_at o t gt).idle j in
         let is = lists_at op.writes (ran op (ws o)).outs (hist_by p inputs ws) (by_words p inputs ws v o op g) j q w in
         sym (append-nil (list_at (sent_in t.outs) j)) ∙ ap (λ y. list_at (sent_in t.outs) j ++ y) (sym none) ∙ outs
-        ∙ ap (λ k. held_by k [] ((ran op (ws o)).outs j)) (kind_got (kind_of (all_decls p)) op.writes j q w)
+        ∙ ap (λ k. held_by k [] ((ran op (ws o)).outs j)) (got_map (kind_of (all_decls p)) op.writes j q w)
         ∙ ap (held (kind_of (all_decls p) q) []) (sym is ∙ whole.queues q);
     bags = λ o k op g lt.
         let t = task_here o op g in

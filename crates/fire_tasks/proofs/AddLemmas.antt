@@ -1,13 +1,16 @@
 -- The rows of a firing as entries of the logs, and what they add.
-use Rattle.std.proofs.Common.{◌≡◌, ◌≢◌, ℕ, ℤ, zero, suc, ◌+◌, ◌<◌, ◌≤◌, ◌==◌, Bool, Some, List, [], ◌∷◌, ◌++◌, length, map, take, refl, sym, ap, ◌∙◌, subst, arith, ⊎_elim, append_assoc, get_or, set, eq-eqb, ne_eqb}
+use Rattle.std.proofs.Common.{◌≡◌, ◌≢◌, ℕ, ℤ, zero, suc, ◌+◌, ◌<◌, ◌≤◌, Bool, Some, List, [], ◌∷◌, ◌++◌, length, map, take, refl, sym, ap, ◌∙◌, subst, arith, ⊎_elim, append_assoc, get_or, set, eq-eqb, ne_eqb}
 use Rattle.std.specs.Prelude.{All, AllPairs, filter, nat_eq, nat_lt, slice_get, slice_index_or, if◌then◌else◌}
 use Rattle.std.specs.List.Sorted.{IsStrictlyIncreasing}
 use Rattle.std.proofs.lemmas.Bool.{cases_eq, cases_lt}
 use Rattle.std.proofs.lemmas.Grind.{flat_map-append}
-use Rattle.std.proofs.lemmas.List.{append-nil, length-map}
-use Rattle.std.proofs.lemmas.List.Elements.{All-nil, All-cons, All-append, All-head, All-tail, filter-append}
+use Rattle.std.proofs.lemmas.List.{append-nil, length-map, take_all}
+use Rattle.std.proofs.lemmas.List.Elements.{All-nil, All-cons, All-append, All-head, All-tail}
 use Rattle.std.proofs.lemmas.List.Kept.{AllPairs-from_increasing}
-use Rattle.std.proofs.lemmas.Option.{slice_get_within}
+use Rattle.std.proofs.lemmas.Option.{slice_get_within, same_Some}
+use Rattle.fire_tasks.proofs.JoinLemmas.{rows-append}
+use Rattle.river_base.proofs.Lists.{got_map, take_length}
+use Rattle.river_base.proofs.PlaceLemmas.{if_lt, if_ge, if_eq, if_ne}
 use Rattle.river_plan.specs.Forms.{Name, OpForm, PlanForm, table_names}
 use Rattle.river_plan.specs.Names.{count}
 use Rattle.river_plan.specs.Places.{place, places}
@@ -15,11 +18,9 @@ use Rattle.river_plan.specs.Uses.{vars_it}
 use Rattle.river_plan.specs.Valid.{IsPlan}
 use Rattle.river_plan.proofs.PlaceLemmas.{place_apart}
 use Rattle.brooklet_model.specs.Histories.{tables_of}
-use Rattle.brooklet_model.proofs.Lists.{if_eq, if_ne, if_lt, if_ge}
 use Rattle.brooklet_model.proofs.Traces.{got_count, place_once, each_at}
 use Rattle.brooklet_step.proofs.NextLemmas.{got_place}
 use Rattle.brooklet_step.proofs.OpTables.{among_known}
-use Rattle.brooklet_step.proofs.ReadLemmas.{got_map}
 use Rattle.class_locks.specs.declared.log.LogEntry.{LogEntry}
 use Rattle.class_locks.specs.Logs.{TakesRows, rows_in, rows_to, part_of_op}
 use Rattle.class_locks.specs.Piles.{Piled}
@@ -104,7 +105,7 @@ rows_present : (o : ℕ) (classes : List ℕ) (hs : List TablePort) (rows : ℕ 
     → slice_get hs j ≡ Some h → slice_index_or classes h.place 0 ≡ c → rows_to h.table (logged o classes hs rows c) ≡ rows j
 rows_present o classes [] rows c j h once g e = absurd (cc g)
 rows_present o classes (k ∷ hs) rows c zero h once g e =
-    let is : k ≡ h = some_eq k h g in
+    let is : k ≡ h = same_Some k h g in
     let first = if nat_eq (slice_index_or classes k.place 0) c then entries_for o k.table (rows 0) else [] in
     let rest = logged o classes hs (λ j. rows (suc j)) c in
     flat_map-append (rows_in h.table) first rest
@@ -116,9 +117,6 @@ rows_present o classes (k ∷ hs) rows c zero h once g e =
     (if_eq (slice_index_or classes k.place 0) c (entries_for o k.table (rows 0)) [] (ap (λ (y : TablePort). slice_index_or classes y.place 0) is ∙ e)
     ∙ ap (λ (y : TablePort). entries_for o y.table (rows 0)) is)
     ∙ rows_one o h.table (rows 0)
-  where
-    some_eq : (a b : TablePort) → Some a ≡ Some b → a ≡ b
-    some_eq a b s = cc s
 rows_present o classes (k ∷ hs) rows c (suc j) h once g e =
     let first = if nat_eq (slice_index_or classes k.place 0) c then entries_for o k.table (rows 0) else [] in
     let rest = logged o classes hs (λ i. rows (suc i)) c in
@@ -150,9 +148,6 @@ part_none o n (e ∷ es) h ne =
     ap (λ (b : Bool). if b then e ∷ part_of_op n es else part_of_op n es) (ne_eqb e.op n (λ q. ne (sym q ∙ All-head (λ (x : LogEntry). x.op ≡ o) e es h)))
     ∙ part_none o n es (All-tail (λ (x : LogEntry). x.op ≡ o) e es h) ne
 
-rows_by-append : (o table : ℕ) (xs ys : List LogEntry) → rows_by o table (xs ++ ys) ≡ rows_by o table xs ++ rows_by o table ys
-rows_by-append o table xs ys = ap (rows_to table) (filter-append (λ e. e.op == o) xs ys) ∙ flat_map-append (rows_in table) (part_of_op o xs) (part_of_op o ys)
-
 -- WHAT LOGS THAT GROW ADD
 
 -- more entries of operator o change nothing of what another added
@@ -162,7 +157,7 @@ pub added_else : (p : PlanForm) (logs logs' more : ℕ → List LogEntry) (o n :
 added_else p logs logs' more o n e own ne j =
     let t = table_at p n j in
     let c = table_class p t in
-    ap (rows_by n t) (e c) ∙ rows_by-append n t (logs c) (more c)
+    ap (rows_by n t) (e c) ∙ rows-append n t (logs c) (more c)
     ∙ ap (λ l. rows_by n t (logs c) ++ rows_to t l) (part_none o n (more c) (own c) ne) ∙ append-nil (rows_by n t (logs c))
 
 module _ (p : PlanForm) (v : IsPlan p) (o : ℕ) (op : OpForm) (g : slice_get p.ops o ≡ Some op) (tables : List TablePort) (classes : List ℕ)
@@ -233,7 +228,7 @@ module _ (p : PlanForm) (v : IsPlan p) (o : ℕ) (op : OpForm) (g : slice_get p.
       let is = table_is j h gh in
       let c = table_class p t in
       let came = logged o classes tables rows c in
-      ap (rows_by o t) (e c) ∙ rows_by-append o t (logs c) came
+      ap (rows_by o t) (e c) ∙ rows-append o t (logs c) came
       ∙ ap (λ l. rows_by o t (logs c) ++ l) (
       ap (rows_to t) (part_all o came (logged_own o classes tables rows c))
       ∙ ap (λ n. rows_to n (logged o classes tables rows (table_class p n))) is
@@ -278,12 +273,9 @@ grown_at : (f : ℕ → List LogEntry) (pile : List Piled) (i : ℕ) (x : Piled)
     → slice_get (pile_grown f pile) i ≡ Some (x.0, record x.1 { log = x.1.log ++ f x.0 })
 grown_at f pile i x g = got_map (λ (y : Piled). (y.0, record y.1 { log = y.1.log ++ f y.0 })) pile i x g
 
-piled_is : (a b : Piled) → Some a ≡ Some b → a ≡ b
-piled_is a b s = cc s
-
 class_at : (pile : List Piled) (i d : ℕ) (x : Piled) → slice_get pile i ≡ Some x → get_or (classes_of pile) i d ≡ x.0
 class_at [] i d x g = absurd (cc g)
-class_at (y ∷ ys) zero d x g = ap (λ (z : Piled). z.0) (piled_is y x g)
+class_at (y ∷ ys) zero d x g = ap (λ (z : Piled). z.0) (same_Some y x g)
 class_at (y ∷ ys) (suc i) d x g = class_at ys i d x g
 
 abbrev only_at : ℕ → List LogEntry → ℕ → List LogEntry
@@ -302,7 +294,7 @@ set_grown : (pile : List Piled) (i : ℕ) (x : Piled) (e : List LogEntry) → sl
     → set pile i (x.0, record x.1 { log = x.1.log ++ e }) ≡ pile_grown (only_at x.0 e) pile
 set_grown [] i x e g up = absurd (cc g)
 set_grown (y ∷ ys) zero x e g up =
-    let is : y ≡ x = piled_is y x g in
+    let is : y ≡ x = same_Some y x g in
     let long = length-map ys (λ (z : Piled). z.0) in
     let ne : (k d : ℕ) → k < length ys
     → x.0 ≢ get_or (classes_of ys) k d = λ k d lt q. let h = up 0 (suc k) d (omega arith) (omega (arith, long, lt)) in let m =
@@ -329,7 +321,7 @@ set_none o table rows pile i x g e =
   where
     at : (ps : List Piled) (n : ℕ) → slice_get ps n ≡ Some x → set ps n x ≡ ps
     at [] n h = refl
-    at (y ∷ ys) zero h = ap (λ z. z ∷ ys) (sym (piled_is y x h))
+    at (y ∷ ys) zero h = ap (λ z. z ∷ ys) (sym (same_Some y x h))
     at (y ∷ ys) (suc n) h = ap (λ l. y ∷ l) (at ys n h)
 
 -- PORT BY PORT
@@ -342,20 +334,12 @@ AddedTo o tables rows j pile now = now ≡ pile_grown (logged o (classes_of pile
 pub added_none : (o : ℕ) (tables : List TablePort) (rows : ℕ → List (List ℤ)) (pile : List Piled) → AddedTo o tables rows 0 pile pile
 added_none o tables rows pile = sym (grown_none pile)
 
-take_length : {A : Type 0} (xs : List A) (j : ℕ) → j < length xs → length (take j xs) ≡ j
-take_length [] j lt = absurd (omega (arith, lt))
-take_length (x ∷ xs) zero lt = refl
-take_length (x ∷ xs) (suc j) lt = ap suc (take_length xs j (omega (arith, lt)))
-
 take_next : {A : Type 0} (xs : List A) (j : ℕ) (x : A) → slice_get xs j ≡ Some x → take (j + 1) xs ≡ take j xs ++ x ∷ []
 take_next xs j x g = let e : j + 1 ≡ suc j = omega arith in ap (λ n. take n xs) e ∙ by xs j x g
   where
-    some_eq : {A : Type 0} (a b : A) → Some a ≡ Some b → a ≡ b
-    some_eq a b s = cc s
-
     by : {A : Type 0} (ys : List A) (n : ℕ) (y : A) → slice_get ys n ≡ Some y → take (suc n) ys ≡ take n ys ++ y ∷ []
     by [] n y e = absurd (cc e)
-    by (z ∷ ys) zero y e = ap (λ w. w ∷ []) (some_eq z y e)
+    by (z ∷ ys) zero y e = ap (λ w. w ∷ []) (same_Some z y e)
     by (z ∷ ys) (suc n) y e = ap (λ l. z ∷ l) (by ys n y e)
 
 -- the cell of the table at a port has the class's place, whatever came before
@@ -391,13 +375,7 @@ added_next o tables rows j pile now new h x up e g gx n =
 pub added_whole : (o : ℕ) (tables : List TablePort) (rows : ℕ → List (List ℤ)) (j : ℕ) (pile now : List Piled) → AddedTo o tables rows j pile now
     → length tables ≤ j
     → now ≡ pile_grown (logged o (classes_of pile) tables rows) pile
-added_whole o tables rows j pile now e le = e ∙ ap (λ l. pile_grown (logged o (classes_of pile) l rows) pile) (whole tables j le)
-  where
-    whole : {A : Type 0} (xs : List A) (n : ℕ) → length xs ≤ n → take n xs ≡ xs
-    whole [] zero l = refl
-    whole [] (suc n) l = refl
-    whole (x ∷ xs) zero l = absurd (omega (arith, l))
-    whole (x ∷ xs) (suc n) l = ap (λ ys. x ∷ ys) (whole xs n (omega (arith, l)))
+added_whole o tables rows j pile now e le = e ∙ ap (λ l. pile_grown (logged o (classes_of pile) l rows) pile) (take_all j tables le)
 
 -- what came is of this operator
 pub added_gained : (o : ℕ) (tables : List TablePort) (rows : ℕ → List (List ℤ)) (j : ℕ) (pile now : List Piled) → AddedTo o tables rows j pile now
@@ -423,10 +401,7 @@ can_add p o tables classes rows pile homes wide cells = record {
       (x.0, x.1, record { kind = d.0.kind; has = cells.kinds h.place x.0 x.1 h.table d.0 d.1 (sym x.2); wide = d.2 });
 }
   where
-    num_is : (a b : ℕ) → Some a ≡ Some b → a ≡ b
-    num_is a b s = cc s
-
     found : (ps : List Piled) (i c : ℕ) → slice_get (classes_of ps) i ≡ Some c → (x : Piled) × (slice_get ps i ≡ Some x) × (x.0 ≡ c)
     found [] i c e = absurd (cc e)
-    found (y ∷ ys) zero c e = (y, refl, num_is y.0 c e)
+    found (y ∷ ys) zero c e = (y, refl, same_Some y.0 c e)
     found (y ∷ ys) (suc i) c e = found ys i c e

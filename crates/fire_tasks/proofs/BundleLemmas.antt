@@ -2,7 +2,8 @@
 use Rattle.std.proofs.Common.{◌≡◌, ◌≢◌, ℕ, zero, suc, ◌%◌, ◌<◌, List, [], ◌∷◌, length, refl, sym, ap, ◌∙◌, arith, subst, get_or, set, ◌^◌, ◌+◌, ◌≤◌, ⊎_elim, get_or-set_other, get_or-set_same}
 use Rattle.std.specs.Prelude.{Bool, true, false, IsFalse}
 use Rattle.std.proofs.lemmas.Bool.{cases_lt, cases_eq}
-use Rattle.std.proofs.lemmas.List.{length-map, append-nil}
+use Rattle.std.proofs.lemmas.List.{length-map, append-nil, get_or_default, length-set}
+use Rattle.river_base.proofs.Lists.{there_is}
 use Rattle.river_plan.specs.Forms.{PlanForm}
 use Rattle.class_locks.specs.declared.view.View.{View}
 use Rattle.class_locks.specs.Piles.{HasMoreTries}
@@ -17,15 +18,10 @@ use Rattle.fire_tasks.specs.Tasks.{TaskEnds, IsTaskAt, IsDone, ends_of, all_ends
 use Rattle.fire_tasks.specs.Turns.{HasTurned, IsSeatOf, IsStuckSince, LooksSame, StillSits}
 use Rattle.fire_tasks.proofs.PassLemmas.{moved_second, moved_first, moved_false}
 use Rattle.fire_tasks.proofs.PortLemmas.{ins_many}
-use Rattle.fire_tasks.proofs.TaskLemmas.{got_at, with_adds}
+use Rattle.fire_tasks.proofs.TaskLemmas.{with_adds}
 use Rattle.fire_tasks.proofs.TurnLemmas.{round_then, sits_none, sits_then, stuck_since, stuck_still, tries_of, tries_then}
 
 -- LISTS OF TASKS
-
-set_many : (ts : List Task) (i : ℕ) (t : Task) → length (set ts i t) ≡ length ts
-set_many [] i t = refl
-set_many (x ∷ ts) zero t = refl
-set_many (x ∷ ts) (suc i) t = ap suc (set_many ts i t)
 
 -- what holds of each task and of the new one
 set_each : (P : Task → Type 0) (ts : List Task) (i : ℕ) (t : Task) → ((n : ℕ) (d : Task) → n < length ts → P (get_or ts n d)) → P t → (n : ℕ) (d : Task)
@@ -63,11 +59,6 @@ set_moved (y ∷ ts) (suc i) t m lt h =
       stayed =
           λ x. (let n = r.stayed x in omega (arith, n));
     }
-
-there : (xs : List Task) (j : ℕ) (c d : Task) → j < length xs → get_or xs j c ≡ get_or xs j d
-there [] j c d l = absurd (omega (arith, l))
-there (x ∷ xs) zero c d l = refl
-there (x ∷ xs) (suc j) c d l = there xs j c d (omega (arith, l))
 
 -- A LOOK AT TASKS, ONE AFTER ANOTHER
 
@@ -132,10 +123,10 @@ after_turn p v w now i old new n k lt e h = record {
 }
   where
     long : (j : ℕ) → j < length (set now i new) → j < length now
-    long j l = let q = set_many now i new in omega (arith, l, q)
+    long j l = let q = length-set now i new in omega (arith, l, q)
 
     at : (d : Task) → old ≡ get_or now i d
-    at d = e ∙ there now i old d lt
+    at d = e ∙ get_or_default now i old d lt
 
     ops : (j : ℕ) (d : Task) → (get_or (set now i new) j d).op ≡ (get_or now j d).op
     ops j d = ⊎_elim
@@ -146,7 +137,7 @@ after_turn p v w now i old new n k lt e h = record {
 
 one_is : (now : List Task) (i : ℕ) (old new : Task) (n : Bool) → i < length now → old ≡ get_or now i old → HasMoved (moves old) (moves new) n
     → HasMoved (all_moves now) (all_moves (set now i new)) n
-one_is now i old new n lt e h = set_moved now i new n lt (subst (λ x. HasMoved (moves x) (moves new) n) (e ∙ there now i old new lt) h)
+one_is now i old new n lt e h = set_moved now i new n lt (subst (λ x. HasMoved (moves x) (moves new) n) (e ∙ get_or_default now i old new lt) h)
 
 -- one more task had its turn
 pub passed_turn : (p : PlanForm) (v0 v w : View) (ts now : List Task) (i : ℕ) (old new : Task) (m n k : Bool) → HavePassed p v0 v i ts now m → i < length now
@@ -158,12 +149,12 @@ passed_turn p v0 v w ts now i old new m n k h lt e t c f =
       tasks = after_turn p v w now i old new n h.tasks lt e t;
       sits = record { round = round_then v0 v w h.sits.round t.sat.round; rests = t.sat.rests };
       tries = tries_then v0 v w h.tries tries;
-      same = set_ends now i new (t.ends ∙ ap ends_of (e ∙ there now i old new lt)) ∙ h.same;
+      same = set_ends now i new (t.ends ∙ ap ends_of (e ∙ get_or_default now i old new lt)) ∙ h.same;
       number = c;
       stuck = λ z j d lj ll. ⊎_elim
           (λ l.
           let ne : (j ≡ i → ⊥) = λ q. omega (arith, l, q) in
-          let q = set_many now i new in
+          let q = length-set now i new in
           subst (IsStuckSince v0 w) (sym (get_or-set_other now i j new d ne))
           (stuck_still v0 v w (get_or now j d) tries (h.stuck (f z).0 j d l (omega (arith, ll, q)))))
           (λ ge.
@@ -257,7 +248,7 @@ looked_none ts = record {
 module _ (place : ℕ) (ts now : List Task) (old new : Task) (h : LookedTo place ts now) (lt : place < length now) (e : old ≡ get_or now place old)
     (l : LooksSame old new) where
   many_now : length (set now place new) ≡ length now
-  many_now = set_many now place new
+  many_now = length-set now place new
 
   -- one task more was looked at
   pub looked_one : AllLooked ts (set now place new)
@@ -265,7 +256,7 @@ module _ (place : ℕ) (ts now : List Task) (old new : Task) (h : LookedTo place
     many = many_now ∙ h.looked.many;
     each = λ i d li. let m = many_now in ⊎_elim
         (λ q.
-        let at : get_or ts i d ≡ old = sym (h.rest i d (omega (arith, q)) (omega (arith, li, m))) ∙ ap (λ k. get_or now k d) (sym q) ∙ there now place d old lt
+        let at : get_or ts i d ≡ old = sym (h.rest i d (omega (arith, q)) (omega (arith, li, m))) ∙ ap (λ k. get_or now k d) (sym q) ∙ get_or_default now place d old lt
         ∙ sym e in
         subst (LooksSame (get_or ts i d)) (sym (ap (λ k. get_or (set now place new) k d) (sym q) ∙ get_or-set_same now place new d lt))
         (subst (λ x. LooksSame x new) (sym at) l))
@@ -297,7 +288,7 @@ looked_all place ts ts' h le = record { each = λ i d lt. h.done i d (let n = h.
 -- a task with an item that is known to be there is not done
 pub not_done : (ins : List inlet.Inlet) (port : ℕ) → (port < length ins) × ((d : inlet.Inlet) → 0 < length (known_of (get_or ins port d))) → AllReceived ins → ⊥
 not_done ins port h a =
-    let x = got_at ins port h.0 in
+    let x = there_is ins port h.0 in
     let lt = h.1 x.0 in
     let z = ap length (a port x.0 h.0) in
     omega (arith, lt, z)

@@ -43,7 +43,7 @@ log_is [] c x g = absurd (cc g)
 log_is (y ∷ ys) zero x g = ap (λ (z : Holding). z.log) (some-injective y x g)
 log_is (y ∷ ys) (suc c) x g = log_is ys c x g
 
-rows-append : (o table : ℕ) (xs ys : List LogEntry) → rows_by o table (xs ++ ys) ≡ rows_by o table xs ++ rows_by o table ys
+pub rows-append : (o table : ℕ) (xs ys : List LogEntry) → rows_by o table (xs ++ ys) ≡ rows_by o table xs ++ rows_by o table ys
 rows-append o table xs ys = ap (rows_to table) (filter-append (λ e. e.op == o) xs ys) ∙ flat_map-append (rows_in table) (part_of_op o xs) (part_of_op o ys)
 
 -- Let v be what the seat of operator o knew, and w what the seat that closed the round knows: it has o's part, and of this part claims

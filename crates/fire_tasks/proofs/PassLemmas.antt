@@ -1,8 +1,10 @@
 -- What a task keeps while it sends, and through a pass.
-use Rattle.std.proofs.Common.{◌≡◌, ℕ, ℤ, zero, suc, ◌+◌, ◌<◌, ◌≤◌, List, [], ◌∷◌, ◌++◌, length, refl, sym, ap, ◌∙◌, arith, subst, inl, inr, ⊎_elim, get_or, set, get_or-set_other, get_or-set_same}
+use Rattle.std.proofs.Common.{◌≡◌, ℕ, ℤ, ◌+◌, ◌<◌, ◌≤◌, List, [], ◌∷◌, ◌++◌, length, refl, sym, ap, ◌∙◌, arith, subst, inl, inr, ⊎_elim, get_or, set, get_or-set_other, get_or-set_same}
 use Rattle.std.specs.Prelude.{Bool, true, false, IsFalse, All}
 use Rattle.std.proofs.lemmas.Bool.{cases_lt}
 use Rattle.std.proofs.lemmas.List.{length-set}
+use Rattle.river_base.proofs.PlaceLemmas.{list_past}
+use Rattle.river_base.proofs.LoopLemmas.{set_unchanged}
 use Rattle.river_base.specs.declared.item.Item as item
 use Rattle.river_base.specs.Places.{list_at}
 use Rattle.river_plan.specs.Forms.{PlanForm}
@@ -13,7 +15,7 @@ use Rattle.fire_tasks.specs.declared.ports.Inlet as inlet
 use Rattle.fire_tasks.specs.declared.ports.Outlet as outlet
 use Rattle.fire_tasks.specs.Ports.{HasMoved, in_ends, out_ends, given_at, sent_of, sent_count, received_count, received_in, IsFull, IsHeldBack, RefusedAll, Sent, SentAt}
 use Rattle.fire_tasks.specs.Tasks.{IsTask, moves}
-use Rattle.fire_tasks.proofs.PortLemmas.{outs_many, ins_many, count_same, given_moved, given_only, sent_more, sent_none, set_same, set_back}
+use Rattle.fire_tasks.proofs.PortLemmas.{outs_many, ins_many, count_same, given_moved, given_only, sent_more, sent_none, set_back}
 
 -- NUMBERS
 
@@ -53,7 +55,7 @@ other ls i j l d ne = get_or-set_other ls i j l d (λ e. ne (sym e))
 pub none_sent : (os : List outlet.Outlet) (ls : List (List item.Item)) (port : ℕ) (l : List item.Item) → l ≡ get_or ls port l → l ≡ [] → port < length ls
     → SentAt port os ls os (set ls port l) false
 none_sent os ls port l e z lt =
-    let same : set ls port l ≡ ls = set_same ls port l e in
+    let same : set ls port l ≡ ls = set_unchanged ls port l e in
     record {
       sent = record {
         ends = refl;
@@ -198,18 +200,13 @@ to_still port os ls os1 ls1 os2 ls2 m n a b e = record {
       (cases_lt j port);
 }
 
-beyond_none : (ls : List (List item.Item)) (j : ℕ) → length ls ≤ j → list_at ls j ≡ []
-beyond_none [] j le = refl
-beyond_none (l ∷ ls) zero le = absurd (omega (arith, le))
-beyond_none (l ∷ ls) (suc j) le = beyond_none ls j (omega (arith, le))
-
 -- all ports
 pub to_all : (port : ℕ) (os : List outlet.Outlet) (ls : List (List item.Item)) (os' : List outlet.Outlet) (ls' : List (List item.Item)) (moved : Bool)
     → SentTo port os ls os' ls' moved → length ls ≤ port
     → IsFalse moved → RefusedAll os' ls'
 to_all port os ls os' ls' moved a le f j = ⊎_elim
     (λ lt. a.stuck f j lt)
-    (λ ge. inl (beyond_none ls' j (let m = a.sent.many in omega (arith, m, le, ge))))
+    (λ ge. inl (list_past ls' j (let m = a.sent.many in omega (arith, m, le, ge))))
     (cases_lt j port)
 
 -- A TASK

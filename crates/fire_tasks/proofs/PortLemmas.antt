@@ -1,6 +1,6 @@
 -- Ends at their ports.
-use Rattle.std.proofs.Common.{◌≡◌, ℕ, zero, suc, ◌<◌, List, [], ◌∷◌, ◌++◌, length, refl, sym, ap, ◌∙◌, subst, arith, get_or, set, append_assoc, length-append, ◌+◌, Option, Some, None}
-use Rattle.std.specs.Prelude.{MatchOption, All, IsNone}
+use Rattle.std.proofs.Common.{◌≡◌, ℕ, zero, suc, ◌<◌, List, [], ◌∷◌, ◌++◌, length, refl, sym, ap, ◌∙◌, arith, get_or, set, append_assoc, length-append, ◌+◌, Option, Some, None}
+use Rattle.std.specs.Prelude.{All, IsNone}
 use Rattle.std.proofs.lemmas.List.Elements.{All-head, All-tail}
 use mathlib.Core.List.{reverse, IsPrefix}
 use Rattle.std.proofs.lemmas.List.{reverse-append, length-map}
@@ -73,12 +73,6 @@ given_stays (o ∷ os) (m ∷ ls) zero x l lt lt' e s (suc j) = refl
 given_stays (o ∷ os) (m ∷ ls) (suc i) x l lt lt' e s zero = refl
 given_stays (o ∷ os) (m ∷ ls) (suc i) x l lt lt' e s (suc j) = given_stays os ls i x l (omega (arith, lt)) (omega (arith, lt')) e s j
 
--- an element that stays
-pub set_same : {A : Type 0} (ls : List A) (i : ℕ) (l : A) → l ≡ get_or ls i l → set ls i l ≡ ls
-set_same [] i l e = refl
-set_same (m ∷ ls) zero l e = ap (λ t. t ∷ ls) e
-set_same (m ∷ ls) (suc i) l e = ap (λ t. m ∷ t) (set_same ls i l e)
-
 -- an element that comes back
 pub set_back : {A : Type 0} (ls : List A) (i : ℕ) (l m : A) → m ≡ get_or ls i m → set (set ls i l) i m ≡ ls
 set_back [] i l m e = refl
@@ -96,15 +90,6 @@ given_only (o ∷ os) [] (suc i) x s zero = refl
 given_only (o ∷ os) (m ∷ ls) (suc i) x s zero = refl
 given_only (o ∷ os) [] (suc i) x s (suc j) = given_only os [] i x s j
 given_only (o ∷ os) (m ∷ ls) (suc i) x s (suc j) = given_only os ls i x s j
-
--- the case of an answer that is None
-pub none_case : {A : Type 0} (r : Option A) (P : Type 0) (Q : A → Type 0) → r ≡ None → MatchOption r P Q → P
-none_case None P Q e m = m
-none_case (Some a) P Q e m = absurd (cc e)
-
--- the case of one that is Some
-pub some_case : {A : Type 0} (r : Option A) (P : Type 0) (Q : A → Type 0) (a : A) → r ≡ Some a → MatchOption r P Q → Q a
-some_case r P Q a e m = subst (λ o. MatchOption o P Q) e m
 
 -- as many were received
 pub count_same : (xs ys : List inlet.Inlet) → received_in xs ≡ received_in ys → received_count xs ≡ received_count ys

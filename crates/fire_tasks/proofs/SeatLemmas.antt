@@ -1,9 +1,11 @@
 -- What takes and puts of classes make of what a seat knows of its operators.
-use Rattle.std.proofs.Common.{◌≡◌, ◌≢◌, ℕ, zero, suc, ◌≤◌, ◌==◌, ◌%◌, Bool, cond, true, false, Some, List, [], ◌∷◌, ◌++◌, length, drop, reverse, refl, sym, ap, ◌∙◌, subst, arith, ◌⊎◌, inl, inr, ⊎_elim, append_assoc, eq-eqb}
+use Rattle.std.proofs.Common.{◌≡◌, ◌≢◌, ℕ, ◌≤◌, ◌==◌, ◌%◌, Bool, cond, true, false, Some, List, [], ◌∷◌, ◌++◌, length, drop, reverse, refl, sym, ap, ◌∙◌, subst, arith, ◌⊎◌, inl, inr, ⊎_elim, append_assoc, eq-eqb}
 use Rattle.std.specs.Prelude.{All, slice_get}
 use Rattle.std.proofs.lemmas.Bool.{cases_eq}
 use Rattle.std.proofs.lemmas.List.{append-nil, reverse-append, reverse-reverse}
 use Rattle.std.proofs.lemmas.List.Elements.{All-nil, All-cons, All-append, All-head, All-tail}
+use Rattle.std.proofs.Math.Seq.{drop-append_seam}
+use Rattle.river_base.proofs.Lists.{got_all}
 use Rattle.river_plan.specs.Forms.{PlanForm}
 use Rattle.class_locks.specs.declared.log.LogEntry.{LogEntry}
 use Rattle.class_locks.specs.declared.view.View.{View}
@@ -73,19 +75,15 @@ no_claims : (c : ℕ) (es : List LogEntry) (qs : List Claim) → claims_of c es 
 no_claims c [] qs e = (refl, e)
 no_claims c (x ∷ es) qs e = absurd (cc e)
 
-drop_front : (xs ys : List LogEntry) → drop (length xs) (xs ++ ys) ≡ ys
-drop_front [] ys = refl
-drop_front (x ∷ xs) ys = drop_front xs ys
-
 module _ (n : ℕ) (parts : List ℕ) (more : ℕ → List LogEntry) where
   -- of a cell that had gained nothing, what is claimed is what it has more
   claimed_one : (p : Piled) (ps : List Piled) (h : Held) (hs : List Held) → HasGained n parts h.taken p.1 → gained (p ∷ ps) (h ∷ hs) ≡ []
       → drop (length h.taken.log) (p.1.log ++ more p.0) ≡ more p.0
   claimed_one p ps h hs g e =
-      let none : g.more ≡ [] = sym (drop_front h.taken.log g.more) ∙ ap (drop (length h.taken.log)) (sym g.log)
+      let none : g.more ≡ [] = sym (drop-append_seam h.taken.log g.more) ∙ ap (drop (length h.taken.log)) (sym g.log)
       ∙ (no_claims p.0 (drop (length h.taken.log) p.1.log) (gained ps hs) e).0 in
       let log : p.1.log ≡ h.taken.log = g.log ∙ ap (λ (l : List LogEntry). h.taken.log ++ l) none ∙ append-nil h.taken.log in
-      ap (λ (l : List LogEntry). drop (length h.taken.log) (l ++ more p.0)) log ∙ drop_front h.taken.log (more p.0)
+      ap (λ (l : List LogEntry). drop (length h.taken.log) (l ++ more p.0)) log ∙ drop-append_seam h.taken.log (more p.0)
 
   -- all classes are below c: nothing is claimed there
   claimed_past : (k c m : ℕ) (ps : List Piled) (hs : List Held) → m ≤ c → AllBelow m hs → Matches n parts ps hs
@@ -172,21 +170,13 @@ module _ (v u w : View) (classes : List ℕ) (pile pile' : List Piled) (more : �
       let seats : u.seats ≡ v.seats = t.looked.seats in
       let at : own n k c (gained (pile_grown more (reverse pile)) u.held) ≡ part n k (more c) = ⊎_elim
       (λ here. here)
-      (λ there. there.0 ∙ sym (ap (part n k) (none c (λ i x g. at_all (λ (y : Piled). y.0 ≢ c) pile i x g (turned_all (λ (y : Piled). y.0 ≢ c) pile there.1)))))
+      (λ there. there.0 ∙ sym (ap (part n k) (none c (λ i x g. got_all (λ (y : Piled). y.0 ≢ c) pile i x (turned_all (λ (y : Piled). y.0 ≢ c) pile there.1) g))))
       (claimed_at n u.parts more k c (length u.starts) (reverse pile) u.held t.pile.descend t.pile.matches t.as_taken) in
       ap (λ (m : ℕ). own m k c w.claims) (put.seats ∙ seats) ∙ ap (own v.seats k c) came
       ∙ own-append v.seats k c v.claims (gained (pile_grown more (reverse pile)) u.held)
       ∙ ap (λ (l : List LogEntry). own v.seats k c v.claims ++ l)
       (subst (λ (m : ℕ). own m k c (gained (pile_grown more (reverse pile)) u.held) ≡ part m k (more c)) seats at)
     where
-      piled_is : (a b : Piled) → Some a ≡ Some b → a ≡ b
-      piled_is a b s = cc s
-
-      at_all : (P : Piled → Type 0) (ps : List Piled) (i : ℕ) (x : Piled) → slice_get ps i ≡ Some x → All P ps → P x
-      at_all P [] i x g a = absurd (cc g)
-      at_all P (y ∷ ys) zero x g a = subst P (piled_is y x g) (All-head P y ys a)
-      at_all P (y ∷ ys) (suc i) x g a = at_all P ys i x g (All-tail P y ys a)
-
   -- what holds of the entries, and of the claims before, holds of all claims
   pub claims_all : (P : ℕ → LogEntry → Type 0) → ((c : ℕ) → All (P c) (more c)) → All (λ (q : Claim). P q.class q.entry) v.claims
       → All (λ (q : Claim). P q.class q.entry) w.claims

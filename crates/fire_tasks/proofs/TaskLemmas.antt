@@ -1,15 +1,15 @@
 -- What a task keeps through a take.
-use Rattle.std.proofs.Common.{◌≡◌, ◌≢◌, ℕ, ℤ, zero, suc, ◌+◌, ◌<◌, Some, None, List, [], ◌∷◌, ◌++◌, length, map, refl, sym, ap, ◌∙◌, subst, arith, ⊎_elim, length-append}
+use Rattle.std.proofs.Common.{◌≡◌, ℕ, ℤ, zero, suc, ◌+◌, ◌<◌, Some, None, List, [], ◌∷◌, ◌++◌, length, map, refl, sym, ap, ◌∙◌, subst, arith, ⊎_elim, length-append}
 use Rattle.std.specs.Prelude.{Option, All, replicate, min, slice_get}
 use mathlib.Core.List.{reverse}
 use Rattle.std.proofs.lemmas.Bool.{cases_eq, cases_lt}
 use Rattle.std.proofs.lemmas.List.{append-nil, length-map, length-replicate}
 use Rattle.std.proofs.lemmas.List.Elements.{All-append, All-nil}
-use Rattle.std.proofs.lemmas.Option.{slice_get_within}
+use Rattle.std.proofs.lemmas.Option.{slice_get_within, same_Some}
+use Rattle.river_base.proofs.Lists.{there_is, got_map}
 use Rattle.river_base.specs.declared.item.Item as item
 use Rattle.river_base.specs.Places.{list_at, append_at, each_grew}
-use Rattle.river_base.proofs.PlaceLemmas.{each_grew-blanks, length-each_grew}
-use Rattle.river_base.proofs.Options.{some_is}
+use Rattle.river_base.proofs.PlaceLemmas.{each_grew-blanks, length-each_grew, if_eq, if_ne, append_here, append_else, blank_at}
 use Rattle.kern_tables.specs.Tables.{table_width}
 use Rattle.river_plan.specs.declared.plan.TableDecl.{TableDecl}
 use Rattle.river_plan.specs.Forms.{PlanForm, OpForm, all_decls, table_names}
@@ -23,7 +23,6 @@ use Rattle.brooklet_model.specs.Traced.{ran}
 use Rattle.brooklet_model.specs.Typed.{IsStart, widths_in, IsWide}
 use Rattle.brooklet_model.specs.Words.{at_port}
 use Rattle.brooklet_model.proofs.Free.{at_port-append, below-append}
-use Rattle.brooklet_model.proofs.Lists.{if_eq, if_ne}
 use Rattle.brooklet_model.proofs.Ports.{counts, shaped}
 use Rattle.brooklet_model.proofs.Swaps.{at_port_here, at_port_past}
 use Rattle.brooklet_model.proofs.Traces.{got_count}
@@ -37,7 +36,6 @@ use Rattle.brooklet_step.specs.Took.{IsBlank}
 use Rattle.brooklet_step.proofs.GivenLemmas.{at-append, ran_more, at_next, first_is_start}
 use Rattle.brooklet_step.proofs.NextLemmas.{got_place}
 use Rattle.brooklet_step.proofs.OpTables.{width_at, width_there, widths_of, mine_many, among_known}
-use Rattle.brooklet_step.proofs.ReadLemmas.{got_map}
 use Rattle.class_locks.specs.Piles.{Piled}
 use Rattle.fire_tasks.specs.declared.ports.Inlet as inlet
 use Rattle.fire_tasks.specs.declared.task.TablePort.{TablePort}
@@ -52,24 +50,6 @@ use Rattle.fire_tasks.proofs.Turned.{turn_twice}
 use Rattle.fire_tasks.proofs.WordLemmas.{longer_word}
 
 -- LISTS AT PLACES
-
--- the element at a place
-pub got_at : {A : Type 0} (xs : List A) (i : ℕ) → i < length xs → (x : A) × (slice_get xs i ≡ Some x)
-got_at [] i lt = absurd (omega (arith, lt))
-got_at (x ∷ xs) zero lt = (x, refl)
-got_at (x ∷ xs) (suc i) lt = got_at xs i (omega (arith, lt))
-
-append_there : (ls : List (List item.Item)) (n : ℕ) (xs : List item.Item) → n < length ls → list_at (append_at ls n xs) n ≡ list_at ls n ++ xs
-append_there [] n xs lt = absurd (omega (arith, lt))
-append_there (l ∷ ls) zero xs lt = refl
-append_there (l ∷ ls) (suc n) xs lt = append_there ls n xs (omega (arith, lt))
-
-append_else : (ls : List (List item.Item)) (n i : ℕ) (xs : List item.Item) → n ≢ i → list_at (append_at ls n xs) i ≡ list_at ls i
-append_else [] n i xs ne = refl
-append_else (l ∷ ls) zero zero xs ne = absurd (ne refl)
-append_else (l ∷ ls) zero (suc i) xs ne = refl
-append_else (l ∷ ls) (suc n) zero xs ne = refl
-append_else (l ∷ ls) (suc n) (suc i) xs ne = append_else ls n i xs (λ e. ne (ap suc e))
 
 one_count : (m n c l l' : ℕ) → n ≡ min m (c + 1) → c ≡ min m l → l' ≡ l + 1 → n ≡ min m l'
 one_count m n c l l' en ec el = omega (arith, en, ec, el)
@@ -102,11 +82,6 @@ beyond_blank zero f j lt = refl
 beyond_blank (suc n) f zero lt = absurd (omega (arith, lt))
 beyond_blank (suc n) f (suc j) lt = beyond_blank n (λ m. f (suc m)) j (omega (arith, lt))
 
-blank_at : {A : Type 0} (n j : ℕ) → list_at {A = A} (replicate n []) j ≡ []
-blank_at zero j = refl
-blank_at (suc n) zero = refl
-blank_at (suc n) (suc j) = blank_at n j
-
 module _ (p : PlanForm) (v : IsPlan p) (t : Task) (adds : ℕ → List (List ℤ)) (k : IsTask p adds t) where
   -- the tables of the task are those of its operator
   numbers_are : map (λ (h : TablePort). h.table) t.tables ≡ places (table_names p.tables) (tables_of (table_names p.tables) k.op)
@@ -129,7 +104,7 @@ module _ (p : PlanForm) (v : IsPlan p) (t : Task) (adds : ℕ → List (List ℤ
       let below = place_below names q.0 (among_known names k.op.vars q.0 (got_count mine j q.0 q.1)) in
       let long = length-map p.tables (λ (d : TableDecl). d.name) in
       let eq = q.2 in
-      let d = got_at p.tables h.table (omega (arith, below, long, eq)) in
+      let d = there_is p.tables h.table (omega (arith, below, long, eq)) in
       let wide = width_there p.tables q.0 d.0 (ap (slice_get p.tables) q.2 ∙ d.1) in
       (d.0, d.1, ap (λ (l : List ℕ). slice_get l j) (widths_of p v t.op k.op k.op_is) ∙ got_map (width_at p.tables) mine j q.0 q.1 ∙ ap Some wide)
 
@@ -173,7 +148,7 @@ module _ (p : PlanForm) (v : IsPlan p) (t : Task) (adds : ℕ → List (List ℤ
 
   -- what is kept for the next firing is blank for the operator
   pub blank_op : IsBlankOf p t.op t.out
-  blank_op = record { blank = λ op g. let e : k.op ≡ op = some_is k.op op (sym k.op_is ∙ g) in subst (λ (o : OpForm). IsBlank o.kernel t.out) e k.blank }
+  blank_op = record { blank = λ op g. let e : k.op ≡ op = same_Some k.op op (sym k.op_is ∙ g) in subst (λ (o : OpForm). IsBlank o.kernel t.out) e k.blank }
 
 module _ (p : PlanForm) (v : IsPlan p) (t : Task) (adds : ℕ → List (List ℤ)) (k : IsTask p adds t) (fine : t.bad ≡ None) where
   abbrev received : (ins : List inlet.Inlet) (port : ℕ) (x : item.Item) → Type 0
@@ -187,7 +162,7 @@ module _ (p : PlanForm) (v : IsPlan p) (t : Task) (adds : ℕ → List (List ℤ
       → list_at (received_in ins) i ≡ at_port i (k.word ++ (port, x) ∷ [])
   longer ins port x e lt i = ap (λ l. list_at l i) e ∙ ⊎_elim
       (λ h. subst (λ n. list_at (append_at (received_in t.ins) port (x ∷ [])) n ≡ at_port n (k.word ++ (port, x) ∷ [])) h
-      (append_there (received_in t.ins) port (x ∷ []) (let l = length-map t.ins received_of in omega (arith, l, lt))
+      (append_here (received_in t.ins) port (x ∷ []) (let l = length-map t.ins received_of in omega (arith, l, lt))
       ∙ ap (λ l. l ++ x ∷ []) (old_received port) ∙ sym (at_next port k.word x)))
       (λ ne. append_else (received_in t.ins) port i (x ∷ []) ne ∙ old_received i
       ∙ sym (at_port-append i k.word ((port, x) ∷ []) ∙ ap (λ l. at_port i k.word ++ l) (at_port_past i (port, x) [] ne) ∙ append-nil (at_port i k.word)))

@@ -2,6 +2,8 @@
 use Rattle.std.proofs.Common.{◌≡◌, ◌≢◌, ℕ, zero, suc, ◌+◌, ◌<◌, ◌≤◌, ◌%◌, Bool, true, false, Some, None, List, [], ◌∷◌, ◌++◌, length, refl, sym, ap, ◌∙◌, subst, arith, inl, inr, append_assoc}
 use Rattle.std.specs.Prelude.{All, slice_get, slice_index_or, IsFalse}
 use Rattle.std.proofs.lemmas.List.{append-nil}
+use Rattle.std.proofs.lemmas.Option.{same_Some}
+use Rattle.river_base.proofs.Lists.{there_is}
 use mathlib.Core.Option.{some-injective}
 use lib.ListN.{get_elem?}
 use Rattle.river_plan.specs.Forms.{OpForm, PlanForm}
@@ -28,7 +30,7 @@ use Rattle.fire_tasks.proofs.AddLemmas.{added_else, added_more, class_is, entrie
 use Rattle.fire_tasks.proofs.PassLemmas.{moved_true, moved_false, moved_first, moved_second, sent_task, looked_task, turn_sent, with_sent}
 use Rattle.fire_tasks.proofs.PortLemmas.{ins_many}
 use Rattle.fire_tasks.proofs.SeatLemmas.{same_round, own_grew, claims_all, claims_grew, part_own, part_within}
-use Rattle.fire_tasks.proofs.TaskLemmas.{got_at, table_there, tables_many, with_adds}
+use Rattle.fire_tasks.proofs.TaskLemmas.{table_there, tables_many, with_adds}
 
 -- THE SEAT
 
@@ -62,10 +64,6 @@ found_since cs v u w a f = record {
   at = length a.more + f.at;
   found = past a.more f.more f.at ∙ f.found;
 }
-  where
-    past : (xs ys : List Tried) (i : ℕ) → slice_get (xs ++ ys) (length xs + i) ≡ slice_get ys i
-    past [] ys i = let e : 0 + i ≡ i = omega arith in ap (slice_get ys) e
-    past (x ∷ xs) ys i = let e : suc (length xs) + i ≡ suc (length xs + i) = omega arith in ap (slice_get (x ∷ (xs ++ ys))) e ∙ past xs ys i
 
 pub found_still : (cs : List ℕ) (v u w : View) → FoundTaken cs v u → HasMoreTries u w → FoundTaken cs v w
 found_still cs v u w f b = record {
@@ -77,11 +75,6 @@ found_still cs v u w f b = record {
   at = f.at;
   found = before f.more b.more f.at (record { class = f.class; found = 1 }) f.found;
 }
-  where
-    before : (xs ys : List Tried) (i : ℕ) (t : Tried) → slice_get xs i ≡ Some t → slice_get (xs ++ ys) i ≡ Some t
-    before [] ys i t g = absurd (cc g)
-    before (x ∷ xs) ys zero t g = g
-    before (x ∷ xs) ys (suc i) t g = before xs ys i t g
 
 -- so is a task that is stuck
 pub stuck_since : (v u w : View) (t : Task) → HasMoreTries v u → IsStuckSince u w t → IsStuckSince v w t
@@ -189,19 +182,11 @@ cells_of p v u classes pile a t = record {
       let same : y.0 ≡ l.start = some-injective y.0 l.start (sym y.1 ∙ ap (get_elem? v.starts) e ∙ l.given) in
       subst (λ ks. HasKind ks n d.kind) (ap (λ (z : Holding). z.kinds) same ∙ sym l.kinds) y.2;
 }
-  where
-    piled_is : (a b : Piled) → Some a ≡ Some b → a ≡ b
-    piled_is a b s = cc s
-
-    at_all : (P : Piled → Type 0) (ps : List Piled) (i : ℕ) (x : Piled) → slice_get ps i ≡ Some x → All P ps → P x
-    at_all P [] i x g a = absurd (cc g)
-    at_all P (y ∷ ys) zero x g a = subst P (piled_is y x g) (a 0 y (omega arith))
-    at_all P (y ∷ ys) (suc i) x g a = at_all P ys i x g (λ k d lt. a (suc k) d (omega (arith, lt)))
 
 -- the classes of a task are there
 pub classes_there : (p : PlanForm) → IsPlan p → (v : View) (t : Task) → IsTaskAt p v t → AreCells p v.starts → All (λ (c : ℕ). c < length v.starts) t.classes
 classes_there p valid v t k a i d lt =
-    let c = got_at t.classes i lt in
+    let c = there_is t.classes i lt in
     let h = k.homes.used i c.0 c.1 in
     let y = table_there p valid t (added p (logs_at v t.op) t.op) k h.0 h.1 h.2 in
     let x = a.each h.1.table y.0 y.1 in
@@ -210,12 +195,9 @@ classes_there p valid v t k a i d lt =
     let g = is_at t.classes i c.0 d c.1 in
     omega (arith, b, e, g)
   where
-    nat_is : (a b : ℕ) → Some a ≡ Some b → a ≡ b
-    nat_is a b s = cc s
-
     is_at : (xs : List ℕ) (i x d : ℕ) → slice_get xs i ≡ Some x → slice_index_or xs i d ≡ x
     is_at [] i x d g = absurd (cc g)
-    is_at (y ∷ ys) zero x d g = nat_is y x g
+    is_at (y ∷ ys) zero x d g = same_Some y x g
     is_at (y ∷ ys) (suc i) x d g = is_at ys i x d g
 
 -- the task took an item, and its rows were put
@@ -228,7 +210,7 @@ tried_took p valid v u w t t' pile pile' k mine ht at put m q =
     record {
       task = subst (λ (o : ℕ). IsTask p (added p (logs_at w o) o) t') (sym op_same)
           (with_adds p (λ j. added p (logs_at v o) o j ++ at.rows j) (added p (logs_at w o) o) t' again (λ j lt.
-          let h = got_at t.tables j (let a = tables_many p valid t (added p (logs_at v o) o) k in let b = same_kernel in omega (arith, lt, a, b)) in
+          let h = there_is t.tables j (let a = tables_many p valid t (added p (logs_at v o) o) k in let b = same_kernel in omega (arith, lt, a, b)) in
           added_more p valid o k.op k.op_is t.tables t.classes k.homes (logs_at v o) (logs_at w o) at.rows own_logs j h.0 h.1));
       ends = ends;
       sat = record {
@@ -259,10 +241,7 @@ tried_took p valid v u w t t' pile pile' k mine ht at put m q =
     op_same = ap (λ e. e.op) at.ends
 
     same_kernel : tabs again.op.kernel ≡ tabs k.op.kernel
-    same_kernel = ap (λ (d : OpForm). tabs d.kernel) (op_is again.op k.op (sym again.op_is ∙ ap (slice_get p.ops) op_same ∙ k.op_is))
-      where
-        op_is : (a b : OpForm) → Some a ≡ Some b → a ≡ b
-        op_is a b s = cc s
+    same_kernel = ap (λ (d : OpForm). tabs d.kernel) (same_Some again.op k.op (sym again.op_is ∙ ap (slice_get p.ops) op_same ∙ k.op_is))
 
     own_right : AreOwn v → AreOwn w
     own_right c = own_same_round v w (same_round v u w t.classes pile pile' more ht at.logs put) w.claims
@@ -275,12 +254,9 @@ tried_took p valid v u w t t' pile pile' k mine ht at put m q =
         let y = cell pile h.place (table_class p h.table) (ap (λ l. slice_get l h.place) ht.named ∙ k.homes.places_are j h g) in
         none h.place y.0 y.1 (y.2 ∙ sym is ∙ e))
       where
-        nat_is : (a b : ℕ) → Some a ≡ Some b → a ≡ b
-        nat_is a b s = cc s
-
         cell : (ps : List Piled) (i c : ℕ) → slice_get (classes_of ps) i ≡ Some c → (x : Piled) × (slice_get ps i ≡ Some x) × (x.0 ≡ c)
         cell [] i c g = absurd (cc g)
-        cell (y ∷ ys) zero c g = (y, refl, nat_is y.0 c g)
+        cell (y ∷ ys) zero c g = (y, refl, same_Some y.0 c g)
         cell (y ∷ ys) (suc i) c g = cell ys i c g
 
     logs_grew : (n c : ℕ) → logs_at w n c ≡ logs_at v n c ++ part v.seats (n % v.seats) (more c)

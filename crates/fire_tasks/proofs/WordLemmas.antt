@@ -1,13 +1,13 @@
 -- A word of items that is longer by one firing.
 use Rattle.std.proofs.Common.{◌≡◌, ℕ, suc, List, [], ◌∷◌, ◌++◌, length, take, drop, refl, sym, ap, ◌∙◌, subst, arith, ⊎_elim, length-append}
 use Rattle.std.proofs.lemmas.Bool.{cases_eq}
-use Rattle.std.proofs.lemmas.List.{append-nil}
+use Rattle.std.proofs.lemmas.List.{append-nil, take_at, drop_at}
+use Rattle.river_base.proofs.Lists.{head_same, tail_same}
 use Rattle.river_base.specs.declared.item.Item as item
 use Rattle.river_base.specs.declared.kind.QueueType.{QueueType}
 use Rattle.brooklet_model.specs.Typed.{IsOf, IsWordOf}
 use Rattle.brooklet_model.specs.Words.{Word, at_port}
 use Rattle.brooklet_model.proofs.Free.{at_port-append}
-use Rattle.brooklet_model.proofs.Lists.{take_front, drop_front}
 use Rattle.brooklet_model.proofs.Swaps.{at_port_here, at_port_past}
 use Rattle.brooklet_step.specs.Given.{held_at}
 use Rattle.brooklet_step.proofs.GivenLemmas.{at-append, at-length, at_next}
@@ -27,12 +27,6 @@ last_of x (y ∷ ys) = let l = last_of y ys in record { front = x ∷ l.front; l
 ports-append : (u v : Word) → ports_of (u ++ v) ≡ ports_of u ++ ports_of v
 ports-append [] v = refl
 ports-append (e ∷ u) v = ap (λ t. e.0 ∷ t) (ports-append u v)
-
-head_same : (x y : ℕ) (xs ys : List ℕ) → x ∷ xs ≡ y ∷ ys → x ≡ y
-head_same x y xs ys e = cc e
-
-tail_same : (x y : ℕ) (xs ys : List ℕ) → x ∷ xs ≡ y ∷ ys → xs ≡ ys
-tail_same x y xs ys e = cc e
 
 snoc_front : (xs ys : List ℕ) (x y : ℕ) → xs ++ x ∷ [] ≡ ys ++ y ∷ [] → xs ≡ ys
 snoc_front [] [] x y e = refl
@@ -126,14 +120,14 @@ longer_word types (e ∷ es) is port i a h = record {
     fronts : at_port port is ≡ held_at types port [] (at_port port l.front)
     fronts =
         let n = length (at_port port is) in
-        sym (take_front (at_port port is) (i ∷ []) n refl) ∙ ap (take n) here
-        ∙ take_front (held_at types port [] (at_port port l.front)) (held_at types port (at_port port l.front) (l.last.1 ∷ [])) n (sym long)
+        sym (take_at (at_port port is) (i ∷ []) n refl) ∙ ap (take n) here
+        ∙ take_at (held_at types port [] (at_port port l.front)) (held_at types port (at_port port l.front) (l.last.1 ∷ [])) n (sym long)
 
     drop_front2 : held_at types port (at_port port l.front) (l.last.1 ∷ []) ≡ i ∷ []
     drop_front2 =
         let n = length (at_port port is) in
-        sym (drop_front (held_at types port [] (at_port port l.front)) (held_at types port (at_port port l.front) (l.last.1 ∷ [])) n (sym long))
-        ∙ ap (drop n) (sym here) ∙ drop_front (at_port port is) (i ∷ []) n refl
+        sym (drop_at (held_at types port [] (at_port port l.front)) (held_at types port (at_port port l.front) (l.last.1 ∷ [])) n (sym long))
+        ∙ ap (drop n) (sym here) ∙ drop_at (at_port port is) (i ∷ []) n refl
 
     items : (p : ℕ) → at_port p is ≡ held_at types p [] (at_port p l.front)
     items p = ⊎_elim

@@ -6,26 +6,15 @@ use Rattle.std.specs.List.{AllByRecursion}
 use Rattle.std.proofs.lemmas.Int.{ints}
 use Rattle.std.proofs.lemmas.List.{take-append-drop, append-nil}
 use Rattle.std.proofs.lemmas.List.Elements.{filter-append}
+use Rattle.river_base.proofs.Tests.{int_lt_true, int_lt_false, int_le_true}
 use Rattle.kern_bags.specs.Kept.{Stamped, stamped, AreInTurn, inserted, since}
 use Rattle.kern_changes.proofs.Merged.{all_as}
 
 -- TESTS ON INSTANTS
 
--- the test for at most, where it is so
-pub le_true : (a b : ℤ) → a ≤ℤ b → int_le a b ≡ true
-le_true a b h = grind (arith, h)
-
 -- the test for at most, where it is not
 pub le_false : (a b : ℤ) → b <ℤ a → int_le a b ≡ false
 le_false a b h = grind (arith, h)
-
--- the test for less, where it is so
-pub lt_true : (a b : ℤ) → a <ℤ b → int_lt a b ≡ true
-lt_true a b h = grind (arith, h)
-
--- the test for less, where it is not
-pub lt_false : (a b : ℤ) → b ≤ℤ a → int_lt a b ≡ false
-lt_false a b h = grind (arith, h)
 
 -- LISTS
 
@@ -87,7 +76,7 @@ parts_before at n es h g =
     ∙ filter-append (λ (e : Stamped). int_le e.0 at) (take n es) (drop n es)
     ∙ ap (λ l. l ++ filter (λ (e : Stamped). int_le e.0 at) (drop n es))
     (filter_all (λ (e : Stamped). int_le e.0 at) (take n es)
-    (all_as (λ (e : Stamped). e.0 ≤ℤ at) (λ (e : Stamped). int_le e.0 at ≡ true) (take n es) (λ e k. le_true e.0 at k) h))
+    (all_as (λ (e : Stamped). e.0 ≤ℤ at) (λ (e : Stamped). int_le e.0 at ≡ true) (take n es) (λ e k. int_le_true e.0 at k) h))
     ∙ ap (λ l. take n es ++ l)
     (filter_none (λ (e : Stamped). int_le e.0 at) (drop n es)
     (all_as (λ (e : Stamped). at <ℤ e.0) (λ (e : Stamped). int_le e.0 at ≡ false) (drop n es) (λ e k. le_false e.0 at k) g))
@@ -100,9 +89,9 @@ parts_behind at n es h g =
     ∙ filter-append (λ (e : Stamped). int_lt at e.0) (take n es) (drop n es)
     ∙ ap (λ l. l ++ filter (λ (e : Stamped). int_lt at e.0) (drop n es))
     (filter_none (λ (e : Stamped). int_lt at e.0) (take n es)
-    (all_as (λ (e : Stamped). e.0 ≤ℤ at) (λ (e : Stamped). int_lt at e.0 ≡ false) (take n es) (λ e k. lt_false at e.0 k) h))
+    (all_as (λ (e : Stamped). e.0 ≤ℤ at) (λ (e : Stamped). int_lt at e.0 ≡ false) (take n es) (λ e k. int_lt_false at e.0 k) h))
     ∙ filter_all (λ (e : Stamped). int_lt at e.0) (drop n es)
-    (all_as (λ (e : Stamped). at <ℤ e.0) (λ (e : Stamped). int_lt at e.0 ≡ true) (drop n es) (λ e k. lt_true at e.0 k) g)
+    (all_as (λ (e : Stamped). at <ℤ e.0) (λ (e : Stamped). int_lt at e.0 ≡ true) (drop n es) (λ e k. int_lt_true at e.0 k) g)
 
 -- so what is put between them is inserted
 pub inserted_by : (at : ℤ) (rows : List (List ℤ)) (n : ℕ) (es before : List Stamped) → AllByRecursion (λ (e : Stamped). e.0 ≤ℤ at) (take n es)
@@ -125,8 +114,8 @@ since_all low [] e t is l = refl
 since_all low (x ∷ xs) e t is l =
     let first = subst (λ (y : Stamped). low ≤ℤ y.0) is l in
     filter_all (λ (f : Stamped). int_le low f.0) (x ∷ xs) (
-      le_true low x.0 first,
-      all_as (λ (f : Stamped). x.0 ≤ℤ f.0) (λ (f : Stamped). int_le low f.0 ≡ true) xs (λ f k. le_true low f.0 (omega (arith, ints, first, k))) t.0,
+      int_le_true low x.0 first,
+      all_as (λ (f : Stamped). x.0 ≤ℤ f.0) (λ (f : Stamped). int_le low f.0 ≡ true) xs (λ f k. int_le_true low f.0 (omega (arith, ints, first, k))) t.0,
     )
 
 -- rows in order of instants without the first

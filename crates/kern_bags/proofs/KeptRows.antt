@@ -6,10 +6,12 @@ use Rattle.std.specs.List.{AllByRecursion}
 use Rattle.std.proofs.lemmas.Int.{ints}
 use Rattle.std.proofs.lemmas.List.Elements.{filter-append}
 use Rattle.std.proofs.lemmas.List.Sums.{sum_by-cons}
+use Rattle.river_base.proofs.Tests.{int_lt_by, int_lt_not, int_lt_true, int_lt_false, int_le_true}
+use Rattle.river_base.proofs.Lists.{fold-push}
 use Rattle.river_base.specs.declared.item.Batch.{Batch}
 use Rattle.kern_bags.specs.Contents.{later, greatest, put_batch, by_instant}
 use Rattle.kern_bags.specs.Kept.{Stamped, stamped, stamped_in_order, AreInTurn, inserted, now_of, now_after}
-use Rattle.kern_bags.proofs.InTurn.{le_true, le_false, lt_true, lt_false, filter_all, filter_none, all_join}
+use Rattle.kern_bags.proofs.InTurn.{le_false, filter_all, filter_none, all_join}
 use Rattle.kern_bags.proofs.Windowed.{bounded}
 use Rattle.kern_changes.proofs.Merged.{all_as}
 
@@ -28,12 +30,6 @@ abbrev Rise : List Batch → Type 0
 Rise [] = Unit {0}
 Rise (b ∷ bs) = AllByRecursion (λ (c : Batch). b.at ≤ℤ c.at) bs × Rise bs
 
-not_before : (t u : ℤ) → int_lt t u ≡ false → u ≤ℤ t
-not_before t u h = grind (arith, h)
-
-is_before : (t u : ℤ) → int_lt t u ≡ true → t <ℤ u
-is_before t u h = grind (arith, h)
-
 all_put : (P : Batch → Type 0) (b : Batch) (cs : List Batch) → P b → AllByRecursion P cs → AllByRecursion P (put_batch b cs)
 all_put P b [] h a = (h, tt)
 all_put P b (c ∷ cs) h a = step (int_lt b.at c.at) (all_put P b cs h a.1) where
@@ -46,9 +42,9 @@ rise_put b [] r = (tt, tt)
 rise_put b (c ∷ cs) r = step (int_lt b.at c.at) refl (rise_put b cs r.1) where
   step : (q : Bool) → int_lt b.at c.at ≡ q → Rise (put_batch b cs) → Rise (cond q (b ∷ (c ∷ cs)) (c ∷ put_batch b cs))
   step true e more =
-      let l = is_before b.at c.at e in
+      let l = int_lt_by b.at c.at e in
       ((omega (arith, ints, l), all_as (λ (d : Batch). c.at ≤ℤ d.at) (λ (d : Batch). b.at ≤ℤ d.at) cs (λ d h. omega (arith, ints, l, h)) r.0), r)
-  step false e more = (all_put (λ (d : Batch). c.at ≤ℤ d.at) b cs (not_before b.at c.at e) r.0, more)
+  step false e more = (all_put (λ (d : Batch). c.at ≤ℤ d.at) b cs (int_lt_not b.at c.at e) r.0, more)
 
 rise_all : (done bs : List Batch) → Rise done → Rise (fold (λ d b. put_batch b d) done bs)
 rise_all done [] r = r
@@ -94,21 +90,21 @@ rows_put b (c ∷ cs) r = step (int_lt b.at c.at) refl (rows_put b cs r.1) where
   step : (q : Bool) → int_lt b.at c.at ≡ q → rows_of_all (put_batch b cs) ≡ inserted b.at b.rows rest
       → rows_of_all (cond q (b ∷ (c ∷ cs)) (c ∷ put_batch b cs)) ≡ inserted b.at b.rows all
   step true e more =
-      let l = is_before b.at c.at e in
+      let l = int_lt_by b.at c.at e in
       let later_all : AllByRecursion (λ (f : Stamped). b.at <ℤ f.0) all =
       all_rows (λ t. b.at <ℤ t) (c ∷ cs) (l, all_as (λ (d : Batch). c.at ≤ℤ d.at) (λ (d : Batch). b.at <ℤ d.at) cs (λ d h. omega (arith, ints, l, h)) r.0) in
       let none = filter_none (λ (f : Stamped). int_le f.0 b.at) all
       (all_as (λ (f : Stamped). b.at <ℤ f.0) (λ (f : Stamped). int_le f.0 b.at ≡ false) all (λ f h. le_false f.0 b.at h) later_all) in
       let whole = filter_all (λ (f : Stamped). int_lt b.at f.0) all
-      (all_as (λ (f : Stamped). b.at <ℤ f.0) (λ (f : Stamped). int_lt b.at f.0 ≡ true) all (λ f h. lt_true b.at f.0 h) later_all) in
+      (all_as (λ (f : Stamped). b.at <ℤ f.0) (λ (f : Stamped). int_lt b.at f.0 ≡ true) all (λ f h. int_lt_true b.at f.0 h) later_all) in
       λ i. sym none i ++ (rows_with b ++ sym whole i)
   step false e more =
-      let l = not_before b.at c.at e in
+      let l = int_lt_not b.at c.at e in
       let first : AllByRecursion (λ (f : Stamped). f.0 ≤ℤ b.at) (rows_with c) = all_stamped (λ t. t ≤ℤ b.at) c.at c.rows l in
       let whole = filter_all (λ (f : Stamped). int_le f.0 b.at) (rows_with c)
-      (all_as (λ (f : Stamped). f.0 ≤ℤ b.at) (λ (f : Stamped). int_le f.0 b.at ≡ true) (rows_with c) (λ f h. le_true f.0 b.at h) first) in
+      (all_as (λ (f : Stamped). f.0 ≤ℤ b.at) (λ (f : Stamped). int_le f.0 b.at ≡ true) (rows_with c) (λ f h. int_le_true f.0 b.at h) first) in
       let none = filter_none (λ (f : Stamped). int_lt b.at f.0) (rows_with c)
-      (all_as (λ (f : Stamped). f.0 ≤ℤ b.at) (λ (f : Stamped). int_lt b.at f.0 ≡ false) (rows_with c) (λ f h. lt_false b.at f.0 h) first) in
+      (all_as (λ (f : Stamped). f.0 ≤ℤ b.at) (λ (f : Stamped). int_lt b.at f.0 ≡ false) (rows_with c) (λ f h. int_lt_false b.at f.0 h) first) in
       let front : filter (λ (f : Stamped). int_le f.0 b.at) all ≡ rows_with c ++ filter (λ (f : Stamped). int_le f.0 b.at) rest =
       filter-append (λ (f : Stamped). int_le f.0 b.at) (rows_with c) rest ∙ ap (λ t. t ++ filter (λ (f : Stamped). int_le f.0 b.at) rest) whole in
       let back : filter (λ (f : Stamped). int_lt b.at f.0) all ≡ filter (λ (f : Stamped). int_lt b.at f.0) rest =
@@ -135,20 +131,16 @@ are_in_turn bs = in_turn_rows (by_instant bs) (rise_all [] bs tt)
 pub none_later : (bs : List Batch) → AllByRecursion (λ (e : Stamped). e.0 ≤ℤ greatest bs) (stamped_in_order bs)
 none_later bs = all_rows (λ t. t ≤ℤ greatest bs) (by_instant bs) (all_all (λ (b : Batch). b.at ≤ℤ greatest bs) [] bs tt (bounded bs))
 
-fold_more : {A B : Type 0} (f : B → A → B) (b : B) (xs : List A) (x : A) → fold f b (xs ++ x ∷ []) ≡ f (fold f b xs) x
-fold_more f b [] x = refl
-fold_more f b (y ∷ ys) x = fold_more f (f b y) ys x
-
 -- one batch more comes among them
 pub in_turn_more : (bs : List Batch) (b : Batch) → stamped_in_order (bs ++ b ∷ []) ≡ inserted b.at b.rows (stamped_in_order bs)
-in_turn_more bs b = ap rows_of_all (fold_more (λ d c. put_batch c d) [] bs b) ∙ rows_put b (by_instant bs) (rise_all [] bs tt)
+in_turn_more bs b = ap rows_of_all (fold-push (λ d c. put_batch c d) [] bs b) ∙ rows_put b (by_instant bs) (rise_all [] bs tt)
 
 -- now, after one batch more
 pub now_more : (bs : List Batch) (b : Batch) → now_of (bs ++ b ∷ []) ≡ Some (now_after (now_of bs) b.at)
 now_more [] b = refl
-now_more (c ∷ cs) b = ap Some (fold_more (λ t (d : Batch). later t d.at) c.at cs b)
+now_more (c ∷ cs) b = ap Some (fold-push (λ t (d : Batch). later t d.at) c.at cs b)
 
 -- the greatest instant with one batch more
 pub greatest_more : (bs : List Batch) (b : Batch) → greatest (bs ++ b ∷ []) ≡ now_after (now_of bs) b.at
 greatest_more [] b = refl
-greatest_more (c ∷ cs) b = fold_more (λ t (d : Batch). later t d.at) c.at cs b
+greatest_more (c ∷ cs) b = fold-push (λ t (d : Batch). later t d.at) c.at cs b

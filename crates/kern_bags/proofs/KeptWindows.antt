@@ -6,8 +6,10 @@ use Rattle.std.specs.List.{AllByRecursion}
 use Rattle.std.specs.Ordering.{int_eq}
 use Rattle.std.proofs.lemmas.Int.{ints}
 use Rattle.std.proofs.lemmas.Bool.{cases_lt}
-use Rattle.std.proofs.lemmas.List.{append-nil, map-append, length-map, drop-map, drop-append-le, drop-drop}
+use Rattle.std.proofs.lemmas.List.{append-nil, map-append, length-map, drop-map, drop-append-le, drop-drop, drop_all}
 use Rattle.std.proofs.lemmas.List.Elements.{filter-append}
+use Rattle.std.proofs.Math.Seq.{drop-append-add}
+use Rattle.river_base.proofs.Tests.{int_lt_true, int_le_true}
 use Rattle.river_base.specs.Row.{copies, in_order}
 use Rattle.river_base.specs.declared.item.Batch.{Batch}
 use Rattle.river_base.specs.declared.item.Item as item
@@ -20,7 +22,7 @@ use Rattle.kern_bags.specs.Contents.{later, greatest, rows_where, by_instant, la
 use Rattle.kern_bags.specs.Kept.{Stamped, stamped, stamped_in_order, AreInTurn, inserted, since, still_in, now_of, now_after, WindowKept, StandsForWindow, IsWindowKept}
 use Rattle.kern_bags.specs.declared.kernel.Window.{Window}
 use Rattle.kern_bags.specs.declared.kernel.Window.TheVariants.{Now, Range, Unbounded, Latest}
-use Rattle.kern_bags.proofs.InTurn.{le_true, le_false, lt_true, filter_all, filter_none, all_join, all_filter, all_from}
+use Rattle.kern_bags.proofs.InTurn.{le_false, filter_all, filter_none, all_join, all_filter, all_from}
 use Rattle.kern_bags.proofs.KeptRows.{rows_with, rows_of_all, are_in_turn, none_later, in_turn_more, now_more, greatest_more, sum_all, all_stamped}
 use Rattle.kern_bags.proofs.Windowed.{copies-where, later_from, later_to}
 use Rattle.kern_changes.proofs.Merged.{all_as}
@@ -38,15 +40,6 @@ module _ {K : Type 0} where
   pub last_of_none : (n : ℕ) → last_few n [] ≡ []
   last_of_none n = drop_nil (0 - n)
 
-  drop_all : (xs : List K) (n : ℕ) → length xs ≤ n → drop n xs ≡ []
-  drop_all [] n h = drop_nil n
-  drop_all (x ∷ xs) zero h = absurd (omega (arith, h))
-  drop_all (x ∷ xs) (suc n) h = drop_all xs n (omega (arith, h))
-
-  drop_past : (xs ys : List K) (n : ℕ) → drop (length xs + n) (xs ++ ys) ≡ drop n ys
-  drop_past [] ys n = ap (λ k. drop k ys) (let e : 0 + n ≡ n = omega arith in e)
-  drop_past (x ∷ xs) ys n = ap (λ k. drop k (x ∷ (xs ++ ys))) (let e : suc (length xs) + n ≡ suc (length xs + n) = omega arith in e) ∙ drop_past xs ys n
-
   length_last : (n : ℕ) (xs : List K) → length (last_few n xs) ≡ length xs - (length xs - n)
   length_last n xs = length-drop (length xs - n) xs
 
@@ -59,8 +52,8 @@ module _ {K : Type 0} where
     few : n < length ys → last_few n (xs ++ ys) ≡ last_few (n - length ys) xs ++ last_few n ys
     few lt =
         ap (λ k. drop k (xs ++ ys)) (let e : length (xs ++ ys) - n ≡ length xs + (length ys - n) = omega (arith, long, lt) in e)
-        ∙ drop_past xs ys (length ys - n)
-        ∙ ap (λ l. l ++ last_few n ys) (sym (drop_all xs (length xs - (n - length ys)) (omega (arith, lt))))
+        ∙ drop-append-add xs ys (length ys - n)
+        ∙ ap (λ l. l ++ last_few n ys) (sym (drop_all (length xs - (n - length ys)) xs (omega (arith, lt))))
 
     many : length ys ≤ n → last_few n (xs ++ ys) ≡ last_few (n - length ys) xs ++ last_few n ys
     many le =
@@ -146,9 +139,9 @@ parts_are at (x ∷ xs) t = step (int_le x.0 at) (int_lt at x.0) refl refl (part
       let later_all : AllByRecursion (λ (f : Stamped). at <ℤ f.0) xs =
       all_as (λ (f : Stamped). x.0 ≤ℤ f.0) (λ (f : Stamped). at <ℤ f.0) xs (λ f h. omega (arith, ints, l, h)) t.0 in
       let none = filter_none F xs (all_as (λ (f : Stamped). at <ℤ f.0) (λ (f : Stamped). F f ≡ false) xs (λ f h. le_false f.0 at h) later_all) in
-      let whole = filter_all G xs (all_as (λ (f : Stamped). at <ℤ f.0) (λ (f : Stamped). G f ≡ true) xs (λ f h. lt_true at f.0 h) later_all) in
+      let whole = filter_all G xs (all_as (λ (f : Stamped). at <ℤ f.0) (λ (f : Stamped). G f ≡ true) xs (λ f h. int_lt_true at f.0 h) later_all) in
       λ i. sym none i ++ x ∷ sym whole i
-  step false false e f more = absurd (let l = lt_true at x.0 (both e) in let k : true ≡ false = sym l ∙ f in cc k)
+  step false false e f more = absurd (let l = int_lt_true at x.0 (both e) in let k : true ≡ false = sym l ∙ f in cc k)
 
 passes_all : {K : Type 0} (p : K → Bool) (xs : List K) → AllByRecursion (λ x. p x ≡ true) (filter p xs)
 passes_all p [] = tt
@@ -209,7 +202,7 @@ kept_later (Range span) t t' at rows es i h = since_inserted (later (pos 0) (t -
 kept_later Unbounded t t' at rows es i h = refl
 kept_later (Latest n) t t' at rows es i h = last_inserted n at rows es i
 
-still_none : (w : Window) (t : ℤ) → still_in w t [] ≡ []
+pub still_none : (w : Window) (t : ℤ) → still_in w t [] ≡ []
 still_none Now t = refl
 still_none (Range span) t = refl
 still_none Unbounded t = refl
@@ -341,18 +334,18 @@ content_by (Range span) t bs h =
     (filter_same (λ (e : Stamped). int_le e.0 t && int_le (later (pos 0) (t -ℤ span)) e.0) (λ (e : Stamped). int_le (later (pos 0) (t -ℤ span)) e.0)
     (stamped_in_order bs)
     (all_as (λ (e : Stamped). e.0 ≤ℤ t) (λ (e : Stamped). (int_le e.0 t && int_le (later (pos 0) (t -ℤ span)) e.0) ≡ int_le (later (pos 0) (t -ℤ span)) e.0)
-    (stamped_in_order bs) (λ e k. ap (λ b. b && int_le (later (pos 0) (t -ℤ span)) e.0) (le_true e.0 t k)) h))
+    (stamped_in_order bs) (λ e k. ap (λ b. b && int_le (later (pos 0) (t -ℤ span)) e.0) (int_le_true e.0 t k)) h))
 content_by Unbounded t bs h =
     where_bag (λ u. int_le u t) bs
     ∙ ap (λ l. in_order (map row_in l))
     (filter_all (λ (e : Stamped). int_le e.0 t) (stamped_in_order bs)
-    (all_as (λ (e : Stamped). e.0 ≤ℤ t) (λ (e : Stamped). int_le e.0 t ≡ true) (stamped_in_order bs) (λ e k. le_true e.0 t k) h))
+    (all_as (λ (e : Stamped). e.0 ≤ℤ t) (λ (e : Stamped). int_le e.0 t ≡ true) (stamped_in_order bs) (λ e k. int_le_true e.0 t k) h))
 content_by (Latest n) t bs h =
     let es = stamped_in_order bs in
     let all : rows_where (λ u. int_le u t) (by_instant bs) ≡ map row_in es =
     where_rows (λ u. int_le u t) (by_instant bs)
     ∙ ap (map row_in) (filter_all (λ (e : Stamped). int_le e.0 t) es
-    (all_as (λ (e : Stamped). e.0 ≤ℤ t) (λ (e : Stamped). int_le e.0 t ≡ true) es (λ e k. le_true e.0 t k) h)) in
+    (all_as (λ (e : Stamped). e.0 ≤ℤ t) (λ (e : Stamped). int_le e.0 t ≡ true) es (λ e k. int_le_true e.0 t k) h)) in
     ap in_order (ap (last_of_rows n) all ∙ ap (λ m. drop (m - n) (map row_in es)) (length-map es row_in) ∙ drop-map row_in (length es - n) es)
 
 -- a window's content is what is kept, without instants

@@ -7,6 +7,8 @@ use Rattle.std.specs.Ordering.{int_eq}
 use Rattle.std.proofs.lemmas.Int.{ints}
 use Rattle.std.proofs.lemmas.List.{drop-map, length-drop, length-map, map-append, take-append-drop}
 use Rattle.std.proofs.lemmas.List.Sums.{sum_by-cons}
+use Rattle.river_base.proofs.Tests.{int_lt_by, int_lt_not, int_le_true}
+use Rattle.river_base.proofs.Lists.{count_by-append}
 use Rattle.river_base.specs.Row.{row_eq, copies}
 use Rattle.river_base.specs.declared.item.Batch.{Batch}
 use Rattle.river_base.proofs.Counts.{count_pass, bag_from_permutation}
@@ -14,18 +16,12 @@ use Rattle.river_base.proofs.Rows.{in_order_bag}
 use Rattle.kern_bags.specs.Contents.{later, greatest, rows_where, put_batch, by_instant, last_of_rows, in_window, content_of}
 use Rattle.kern_bags.specs.Laws.{lets_pass, ContentsAre, GreatestIsNow, Came, came_at, came, IsLater, LatestAre}
 use Rattle.kern_bags.specs.declared.kernel.Window.TheVariants.{Now, Range, Unbounded, Latest}
-use Rattle.kern_changes.proofs.Copies.{count-append, copies-in_order, sum-cong}
+use Rattle.kern_changes.proofs.Copies.{copies-in_order, sum-cong}
 
 -- INSTANTS
 
-not_before : (t u : ℤ) → int_lt t u ≡ false → u ≤ℤ t
-not_before t u h = grind (arith, h)
-
 before : (t u : ℤ) → int_lt t u ≡ true → t ≤ℤ u
 before t u h = grind (arith, h)
-
-up_to : (t u : ℤ) → t ≤ℤ u → int_le t u ≡ true
-up_to t u h = grind (arith, h)
 
 -- what the window says with one comparison
 later_of : (span now at : ℤ) → (int_le at now && int_le (later (pos 0) (now -ℤ span)) at) ≡ lets_pass (Range span) now at
@@ -50,7 +46,7 @@ copies-where row p (b ∷ bs) = step (p b.at) refl (copies-where row p bs) where
 
   step : (q : Bool) → p b.at ≡ q → copies row (rows_where p bs) ≡ sum_by f bs
       → copies row (flat_map (λ (c : Batch). c.rows) (cond q (b ∷ filter (λ (c : Batch). p c.at) bs) (filter (λ (c : Batch). p c.at) bs))) ≡ sum_by f (b ∷ bs)
-  step true e h = count-append (row_eq row) b.rows (rows_where p bs) ∙ (λ i. cond (sym e i) (copies row b.rows) 0 + h i) ∙ sym (sum_by-cons f b bs)
+  step true e h = count_by-append (row_eq row) b.rows (rows_where p bs) ∙ (λ i. cond (sym e i) (copies row b.rows) 0 + h i) ∙ sym (sum_by-cons f b bs)
   step false e h = h ∙ nothing_more (sum_by f bs) ∙ ap (λ q. cond q (copies row b.rows) 0 + sum_by f bs) (sym e) ∙ sym (sum_by-cons f b bs)
 
 -- contents of windows by copies
@@ -80,7 +76,7 @@ pub later_to : (t u : ℤ) → u ≤ℤ later t u
 later_to t u = step (int_lt t u) refl where
   step : (b : Bool) → int_lt t u ≡ b → u ≤ℤ cond b u t
   step true e = omega (arith, ints)
-  step false e = not_before t u e
+  step false e = int_lt_not t u e
 
 abbrev latest_from : ℤ → List Batch → ℤ
 latest_from t bs = fold (λ u (c : Batch). later u c.at) t bs
@@ -191,9 +187,6 @@ abbrev Climbs : List Placed → Type 0
 Climbs [] = Unit {0}
 Climbs (p ∷ ps) = AllByRecursion (Precedes p) ps × Climbs ps
 
-below : (t u : ℤ) → int_lt t u ≡ true → t <ℤ u
-below t u h = grind (arith, h)
-
 farther : (p q : Placed) (rs : List Placed) → p.batch.at <ℤ q.batch.at → AllByRecursion (Precedes q) rs → AllByRecursion (Precedes p) rs
 farther p q [] h a = tt
 farther p q (r ∷ rs) h a = (⊎_elim (λ l. inl (omega (arith, ints, l, h))) (λ e. let same = e.0 in inl (omega (arith, ints, same, h))) a.0, farther p q rs h a.1)
@@ -201,15 +194,15 @@ farther p q (r ∷ rs) h a = (⊎_elim (λ l. inl (omega (arith, ints, l, h))) (
 precedes : (q p : Placed) → q.batch.at ≤ℤ p.batch.at → end_of q ≤ p.start → Precedes q p
 precedes q p h l = step (int_lt q.batch.at p.batch.at) refl where
   step : (b : Bool) → int_lt q.batch.at p.batch.at ≡ b → Precedes q p
-  step true e = inl (below q.batch.at p.batch.at e)
-  step false e = let back = not_before q.batch.at p.batch.at e in inr (omega (arith, ints, back, h), l)
+  step true e = inl (int_lt_by q.batch.at p.batch.at e)
+  step false e = let back = int_lt_not q.batch.at p.batch.at e in inr (omega (arith, ints, back, h), l)
 
 climbs_put : (p : Placed) (qs : List Placed) → AllByRecursion (λ q. end_of q ≤ p.start) qs → Climbs qs → Climbs (put p qs)
 climbs_put p [] a h = (tt, tt)
 climbs_put p (q ∷ qs) a h = step (int_lt p.batch.at q.batch.at) refl (climbs_put p qs a.1 h.1) where
   step : (b : Bool) → int_lt p.batch.at q.batch.at ≡ b → Climbs (put p qs) → Climbs (cond b (p ∷ (q ∷ qs)) (q ∷ put p qs))
-  step true e more = let l = below p.batch.at q.batch.at e in ((inl l, farther p q qs l h.0), h)
-  step false e more = (all_put (Precedes q) p qs (precedes q p (not_before p.batch.at q.batch.at e) a.0) h.0, more)
+  step true e more = let l = int_lt_by p.batch.at q.batch.at e in ((inl l, farther p q qs l h.0), h)
+  step false e more = (all_put (Precedes q) p qs (precedes q p (int_lt_not p.batch.at q.batch.at e) a.0) h.0, more)
 
 ended : (k n : ℕ) (qs : List Placed) → AllByRecursion (λ q. end_of q ≤ k) qs → AllByRecursion (λ q. end_of q ≤ k + n) qs
 ended k n [] a = tt
@@ -242,10 +235,10 @@ count_put test p (q ∷ qs) = step (int_lt p.batch.at q.batch.at) (count_put tes
       → count_by test (all_rows (cond b (p ∷ (q ∷ qs)) (q ∷ put p qs))) ≡ count_by test (all_rows (p ∷ (q ∷ qs)))
   step true h = refl
   step false h =
-      let u = count-append test (rows_of q) (all_rows (put p qs)) in
-      let v = count-append test (rows_of p) (all_rows qs) in
-      let w = count-append test (rows_of p) (all_rows (q ∷ qs)) in
-      let x = count-append test (rows_of q) (all_rows qs) in
+      let u = count_by-append test (rows_of q) (all_rows (put p qs)) in
+      let v = count_by-append test (rows_of p) (all_rows qs) in
+      let w = count_by-append test (rows_of p) (all_rows (q ∷ qs)) in
+      let x = count_by-append test (rows_of q) (all_rows qs) in
       omega (arith, h, u, v, w, x)
 
 count_put_all : (test : Came → Bool) (done ps : List Placed)
@@ -254,8 +247,8 @@ count_put_all test done [] = omega arith
 count_put_all test done (p ∷ ps) =
     let a = count_put_all test (put p done) ps in
     let c = count_put test p done in
-    let u = count-append test (rows_of p) (all_rows done) in
-    let v = count-append test (rows_of p) (all_rows ps) in
+    let u = count_by-append test (rows_of p) (all_rows done) in
+    let v = count_by-append test (rows_of p) (all_rows ps) in
     omega (arith, a, c, u, v)
 
 count_sorted : (test : Came → Bool) (bs : List Batch) → count_by test (came 0 bs) ≡ count_by test (all_rows (sorted bs))
@@ -274,7 +267,7 @@ where_all t [] a = refl
 where_all t (p ∷ ps) a =
     ap (λ q. flat_map (λ (c : Batch). c.rows)
     (cond q (p.batch ∷ filter (λ (c : Batch). int_le c.at t) (map batch_of ps)) (filter (λ (c : Batch). int_le c.at t) (map batch_of ps))))
-    (up_to p.batch.at t a.0)
+    (int_le_true p.batch.at t a.0)
     ∙ (λ i. sym (rows_came p.start p.batch.at p.batch.rows) i ++ where_all t ps a.1 i) ∙ sym (map-append row_of (rows_of p) (all_rows ps))
 
 -- at a later instant, or at the same and at place n or behind
@@ -361,8 +354,8 @@ latest_are n bs =
       all_are = λ test.
           let a = count_sorted test bs in
           let b : count_by test es ≡ count_by test (take more es ++ drop more es) = ap (count_by test) (sym (take-append-drop more es)) in
-          let c = count-append test (take more es) (drop more es) in
-          let d = count-append test (drop more es) (take more es) in
+          let c = count_by-append test (take more es) (drop more es) in
+          let d = count_by-append test (drop more es) (take more es) in
           omega (arith, a, b, c, d);
       content_is =
           λ test. sym (bag_from_permutation (last_of_rows n passed) (content_of (Latest n) bs) (in_order_bag (last_of_rows n passed)) test)

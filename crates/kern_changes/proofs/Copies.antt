@@ -1,18 +1,15 @@
 -- How many copies of a row there are in a difference of bags.
-use Rattle.std.proofs.Common.{◌≡◌, ℕ, ◌+◌, ◌-◌, ◌≤◌, ℤ, Bool, true, false, cond, List, [], ◌∷◌, ◌++◌, map, refl, sym, ap, ◌∙◌, arith}
+use Rattle.std.proofs.Common.{◌≡◌, ℕ, ◌+◌, ◌-◌, ◌≤◌, ℤ, Bool, true, false, cond, List, [], ◌∷◌, map, refl, sym, ap, ◌∙◌, arith}
 use Rattle.std.specs.Prelude.{count_by, sum_by, flat_map}
-use Rattle.std.proofs.lemmas.List.Sums.{sum_by-cons, sum_by-append}
+use Rattle.std.proofs.lemmas.List.Sums.{sum_by-cons}
 use Rattle.std.proofs.lemmas.Bool.{true≢false}
+use Rattle.river_base.proofs.Lists.{count_by-append}
 use Rattle.river_base.specs.Changes.{take_out, without, difference}
 use Rattle.river_base.specs.Row.{row_eq, in_order, copies}
 use Rattle.river_base.proofs.Counts.{same_row, row_itself, count-cons, bag_from_permutation}
 use Rattle.river_base.proofs.Rows.{in_order_bag}
 
 -- COUNTS OF LISTS
-
--- how many of two lists pass a test
-pub count-append : {K : Type 0} (test : K → Bool) (xs ys : List K) → count_by test (xs ++ ys) ≡ count_by test xs + count_by test ys
-count-append test xs ys = sum_by-append (λ x. cond (test x) 1 0) xs ys
 
 -- elements counted behind a function
 pub count-map : {J K : Type 0} (test : K → Bool) (g : J → K) (xs : List J) → count_by test (map g xs) ≡ count_by (λ x. test (g x)) xs
@@ -24,7 +21,7 @@ count-map test g (x ∷ xs) =
 pub count-flat_map : {J K : Type 0} (test : K → Bool) (g : J → List K) (xs : List J) → count_by test (flat_map g xs) ≡ sum_by (λ x. count_by test (g x)) xs
 count-flat_map test g [] = refl
 count-flat_map test g (x ∷ xs) =
-    count-append test (g x) (flat_map g xs) ∙ ap (λ n. count_by test (g x) + n) (count-flat_map test g xs) ∙ sym (sum_by-cons (λ y. count_by test (g y)) x xs)
+    count_by-append test (g x) (flat_map g xs) ∙ ap (λ n. count_by test (g x) + n) (count-flat_map test g xs) ∙ sym (sum_by-cons (λ y. count_by test (g y)) x xs)
 
 -- sums of equal numbers are equal
 pub sum-cong : {K : Type 0} (f g : K → ℕ) (xs : List K) → ((x : K) → f x ≡ g x) → sum_by f xs ≡ sum_by g xs

@@ -1,8 +1,9 @@
 -- A list that a loop changes in place: its front is done, and its back is as it was.
 use Rattle.std.proofs.Common.{◌≡◌, ◌<◌, ◌≤◌, ◌+◌, ℕ, Bool, true, false, cond, List, [], ◌∷◌, ◌++◌, length, get_or, set, map, filter, take, drop, sym, ap, ◌∙◌}
 use Rattle.std.proofs.Common.{arith}
-use Rattle.std.proofs.lemmas.List.{take_more, take_more_set, append-nil, get_or-drop, drop-drop, drop-set-lt, map-append}
+use Rattle.std.proofs.lemmas.List.{take_more, take_more_set, append-nil, get_or-drop, drop-set-lt, map-append}
 use Rattle.std.proofs.lemmas.List.Elements.{filter-append}
+use Rattle.std.proofs.lemmas.Grind.{drop_more_same}
 
 -- the element that comes next is still as it was
 pub as_it_was : {A : Type 0} (xs old : List A) (n : ℕ) (d : A) → drop n xs ≡ drop n old → get_or xs n d ≡ get_or old n d
@@ -10,13 +11,9 @@ as_it_was xs old n d back =
     ap (λ i. get_or xs i d) (omega arith) ∙ sym (get_or-drop n xs 0 d) ∙ ap (λ l. get_or l 0 d) back ∙ get_or-drop n old 0 d
     ∙ ap (λ i. get_or old i d) (omega arith)
 
--- what is behind the next place is as it was
-pub rest_as_it_was : {A : Type 0} (xs old : List A) (n : ℕ) → drop n xs ≡ drop n old → drop (n + 1) xs ≡ drop (n + 1) old
-rest_as_it_was xs old n back = sym (drop-drop 1 n xs) ∙ ap (drop 1) back ∙ drop-drop 1 n old
-
 -- a place that is done is written
 pub rest_beside : {A : Type 0} (xs old : List A) (k n : ℕ) (x : A) → k ≤ n → drop n xs ≡ drop n old → drop (n + 1) (set xs k x) ≡ drop (n + 1) old
-rest_beside xs old k n x le back = drop-set-lt (n + 1) xs k x (omega (arith, le)) ∙ rest_as_it_was xs old n back
+rest_beside xs old k n x le back = drop-set-lt (n + 1) xs k x (omega (arith, le)) ∙ drop_more_same xs old n back
 
 filter_one : {A : Type 0} (p : A → Bool) (xs : List A) (n : ℕ) (x : A) → n < length xs → x ≡ get_or xs n x
     → filter p (take (n + 1) xs) ≡ filter p (take n xs) ++ cond (p x) (x ∷ []) []

@@ -5,12 +5,13 @@ use Rattle.std.specs.List.Sorted.{IsPermutation}
 use Rattle.std.proofs.lemmas.List.Sums.{sum_by-cons, sum_by-append}
 use Rattle.std.proofs.lemmas.List.Sorted.{sum_by-IsPermutation}
 use Rattle.std.proofs.lemmas.Bool.{cases_lt}
+use Rattle.river_base.proofs.Lists.{count_by-append}
 use Rattle.river_base.specs.Held.{IsAscending}
 use Rattle.river_base.specs.Row.{row_eq, copies, in_order}
 use Rattle.river_base.specs.declared.item.Batch.{Batch}
 use Rattle.river_base.proofs.Counts.{permutation_from_copies}
 use Rattle.river_base.proofs.Rows.{in_order_bag, in_order_ascends, in_order-IsPermutation, same_from_sorted}
-use Rattle.kern_changes.proofs.Copies.{count-append, copies-in_order, copies-without, differences_are, sum-cong}
+use Rattle.kern_changes.proofs.Copies.{copies-in_order, copies-without, differences_are, sum-cong}
 use Rattle.river_base.specs.declared.item.Change.{Change}
 use Rattle.river_base.specs.Changes.{without, difference, content_after, ChangesInto, StandForContents, IsNormal, AllNormal, AllAscending, change_to, changes, last_content, cancelled, LeadsTo}
 use Rattle.river_base.specs.Changes.{all_pairs}
@@ -84,8 +85,8 @@ pub leads_from_copies : (before after plus minus : List (List ℤ)) → ((row : 
     → LeadsTo before after plus minus
 leads_from_copies before after plus minus h = record {
   each = λ f.
-      let p : IsPermutation (after ++ minus) (before ++ plus) = permutation_from_copies (after ++ minus) (before ++ plus) (λ row. count-append
-      (row_eq row) after minus ∙ h row ∙ sym (count-append (row_eq row) before plus)) in
+      let p : IsPermutation (after ++ minus) (before ++ plus) = permutation_from_copies (after ++ minus) (before ++ plus) (λ row. count_by-append
+      (row_eq row) after minus ∙ h row ∙ sym (count_by-append (row_eq row) before plus)) in
       sym (sum_by-append f after minus) ∙ sym (sum_by-IsPermutation f (after ++ minus) (before ++ plus) p) ∙ sum_by-append f before plus;
 }
 
@@ -109,7 +110,7 @@ change_leads before after =
 pub leads_makes : (before after : List (List ℤ)) (c : Change) → IsAscending after → LeadsTo before after c.plus c.minus
     → ((row : List ℤ) → copies row c.minus ≤ copies row before) → content_after before c ≡ after
 leads_makes before after c a h w = same_ascending (content_after before c) after (in_order_ascends (without before c.minus ++ c.plus)) a (λ row.
-    copies-in_order row (without before c.minus ++ c.plus) ∙ count-append (row_eq row) (without before c.minus) c.plus
+    copies-in_order row (without before c.minus ++ c.plus) ∙ count_by-append (row_eq row) (without before c.minus) c.plus
     ∙ (let e = leads_copies before after c.plus c.minus h row in let d = copies-without row before c.minus in let l = w row in omega (arith, e, d, l)))
 
 -- CHANGES AND CONTENTS
@@ -154,7 +155,7 @@ change_makes before b a = sym (change_becomes before b a).rows
 pub change_is : (before : List (List ℤ)) (c : Change) (b : Batch) → ChangesInto before c b → IsNormal c → c ≡ change_to before b
 change_is before c b h n =
     let counted : (row : List ℤ) → copies row b.rows ≡ (copies row before - copies row c.minus) + copies row c.plus = λ row.
-    ap (copies row) h.rows ∙ copies-in_order row (without before c.minus ++ c.plus) ∙ count-append (row_eq row) (without before c.minus) c.plus
+    ap (copies row) h.rows ∙ copies-in_order row (without before c.minus ++ c.plus) ∙ count_by-append (row_eq row) (without before c.minus) c.plus
     ∙ ap (λ k. k + copies row c.plus) (copies-without row before c.minus) in
     let p : c.plus ≡ difference b.rows before = same_ascending c.plus (difference b.rows before) n.plus (difference_ascends b.rows before)
     (λ row. let d = differences_are b.rows before row in let e = counted row in let w = h.within.each row in

@@ -1,6 +1,7 @@
 -- Rows that come to a bag and go from it, one after another.
-use Rattle.std.proofs.Common.{◌≡◌, ◌<◌, ◌≤◌, ◌+◌, ℕ, zero, suc, ℤ, cond, List, [], ◌∷◌, length, get_or, take, refl, ap, arith, subst}
+use Rattle.std.proofs.Common.{◌≡◌, ◌<◌, ◌≤◌, ◌+◌, ℕ, ℤ, cond, List, [], length, get_or, take, ap, arith, subst}
 use Rattle.std.proofs.lemmas.List.Sums.{sum_by_more}
+use Rattle.std.proofs.lemmas.List.{take_all}
 use Rattle.river_base.specs.Row.{row_eq}
 use Rattle.river_base.specs.declared.item.Change.{Change}
 use Rattle.kern_changes.specs.Counted.{CameOne, WentOne, CameAll, WentAll, Changed}
@@ -38,21 +39,13 @@ went_more rows a b c i row lt is h g = record {
       omega (arith, m, e, x, y);
 }
 
-take_whole : {A : Type 0} (xs : List A) (n : ℕ) → length xs ≤ n → take n xs ≡ xs
-take_whole [] n h = take_nothing n where
-  take_nothing : {A : Type 0} (n : ℕ) → take {A = A} n [] ≡ []
-  take_nothing zero = refl
-  take_nothing (suc n) = refl
-take_whole (x ∷ xs) zero h = absurd (omega (arith, h))
-take_whole (x ∷ xs) (suc n) h = ap (λ l. x ∷ l) (take_whole xs n (omega (arith, h)))
-
 -- all came
 pub came_whole : (rows a b : List (List ℤ)) (i : ℕ) → length rows ≤ i → CameAll (take i rows) a b → CameAll rows a b
-came_whole rows a b i h g = subst (λ l. CameAll l a b) (take_whole rows i h) g
+came_whole rows a b i h g = subst (λ l. CameAll l a b) (take_all i rows h) g
 
 -- all went
 pub went_whole : (rows a b : List (List ℤ)) (i : ℕ) → length rows ≤ i → WentAll (take i rows) a b → WentAll rows a b
-went_whole rows a b i h g = subst (λ l. WentAll l a b) (take_whole rows i h) g
+went_whole rows a b i h g = subst (λ l. WentAll l a b) (take_all i rows h) g
 
 -- what goes is taken out first
 pub made_both : (c : Change) (a b d : List (List ℤ)) → WentAll c.minus a b → CameAll c.plus b d → Changed c a d

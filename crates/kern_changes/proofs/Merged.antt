@@ -1,13 +1,14 @@
 -- The difference of ascending lists, from the front.
 use Rattle.std.proofs.Common.{◌≡◌, ◌<◌, ◌≤◌, ◌+◌, ℕ, zero, suc, ℤ, Bool, true, false, cond, List, [], ◌∷◌, ◌++◌, length, get_or, drop, refl, sym, ap, ◌∙◌}
-use Rattle.std.proofs.Common.{arith, subst, append_assoc, drop-cons}
+use Rattle.std.proofs.Common.{arith, subst, append_assoc}
 use Rattle.std.specs.List.{AllByRecursion}
 use Rattle.std.specs.List.Sorted.{IsSortedBy}
 use Rattle.std.specs.Ordering.{is_lt, is_eq, ordering_reverse}
 use Rattle.std.specs.declared.cmp.Ordering.{Ordering}
 use Rattle.std.specs.declared.cmp.Ordering.TheVariants.{Less, Equal, Greater}
 use Rattle.std.proofs.lemmas.Bool.{true≢false}
-use Rattle.std.proofs.lemmas.List.{append-nil}
+use Rattle.std.proofs.lemmas.List.{append-nil, drop_all}
+use Rattle.river_base.proofs.Lists.{drop_next}
 use native.Mathlib.Numerals.{unary_clauses}
 use Rattle.river_base.specs.Row.{row_eq, row_lt, row_cmp, row_ties, row_total}
 use Rattle.river_base.proofs.Counts.{same_row, row_itself}
@@ -149,15 +150,6 @@ first_not_below x y ys (z ∷ zs) e = step (row_lt z x) refl e (first_not_below 
   step true k g more = more g
   step false k g more = let same : z ≡ y = cc in subst (λ w. row_lt w x ≡ false) same k
 
-at_front : (xs : List (List ℤ)) (n : ℕ) (x : List ℤ) → n < length xs → x ≡ get_or xs n x → drop n xs ≡ x ∷ drop (n + 1) xs
-at_front xs n x lt is = drop-cons xs n x lt ∙ (λ i. sym is i ∷ drop ((let e : suc n ≡ n + 1 = omega arith in e) i) xs)
-
-at_end : (xs : List (List ℤ)) (n : ℕ) → length xs ≤ n → drop n xs ≡ []
-at_end [] zero h = refl
-at_end [] (suc n) h = refl
-at_end (x ∷ xs) zero h = absurd (omega (arith, h))
-at_end (x ∷ xs) (suc n) h = at_end xs n (omega (arith, h))
-
 -- of n rows and p others these are left, and what the rest will leave comes behind them
 abbrev pub IsMerged : List (List ℤ) → List (List ℤ) → ℕ → ℕ → List (List ℤ) → Type 0
 IsMerged rows others n p left = left ++ without (drop n rows) (drop p others) ≡ without rows others
@@ -165,7 +157,7 @@ IsMerged rows others n p left = left ++ without (drop n rows) (drop p others) �
 module _ (rows others : List (List ℤ)) (u : Up rows) (v : Up others) (n p q : ℕ) (x : List ℤ) (left : List (List ℤ)) (lt : n < length rows)
     (is : x ≡ get_or rows n x) (from : drop q others ≡ rows_from x (drop p others)) (so_far : IsMerged rows others n p left) where
   here : drop n rows ≡ x ∷ drop (n + 1) rows
-  here = at_front rows n x lt is
+  here = drop_next rows n x lt is
 
   up : Up (x ∷ drop (n + 1) rows)
   up = subst Up here (up_drop n rows u)
@@ -180,14 +172,14 @@ module _ (rows others : List (List ℤ)) (u : Up rows) (v : Up others) (n p q : 
   pub row_taken : (y : List ℤ) → q < length others → y ≡ get_or others q y → row_eq y x ≡ true → IsMerged rows others (n + 1) (q + 1) left
   row_taken y ql at e =
       ap (λ l. left ++ l) (sym (same_taken x y (drop (n + 1) rows) (drop (q + 1) others) e)
-      ∙ ap (without (x ∷ drop (n + 1) rows)) (sym (at_front others q y ql at)))
+      ∙ ap (without (x ∷ drop (n + 1) rows)) (sym (drop_next others q y ql at)))
       ∙ moved
 
   -- another row stands there: the row is left
   pub row_left : (y : List ℤ) (left' : List (List ℤ)) → q < length others → y ≡ get_or others q y → row_eq y x ≡ false → left' ≡ left ++ x ∷ []
       → IsMerged rows others (n + 1) q left'
   row_left y left' ql at e l =
-      let there = at_front others q y ql at in
+      let there = drop_next others q y ql at in
       let low = first_not_below x y (drop (q + 1) others) (drop p others) (sym from ∙ there) in
       ap (λ t. t ++ without (drop (n + 1) rows) (drop q others)) l ∙ append_assoc left (x ∷ []) (without (drop (n + 1) rows) (drop q others))
       ∙ ap (λ t. left ++ x ∷ without (drop (n + 1) rows) t) there
@@ -198,7 +190,7 @@ module _ (rows others : List (List ℤ)) (u : Up rows) (v : Up others) (n p q : 
   -- no row is there: the row is left
   pub row_last : (left' : List (List ℤ)) → length others ≤ q → left' ≡ left ++ x ∷ [] → IsMerged rows others (n + 1) q left'
   row_last left' ge l =
-      let there = at_end others q ge in
+      let there = drop_all q others ge in
       ap (λ t. t ++ without (drop (n + 1) rows) (drop q others)) l ∙ append_assoc left (x ∷ []) (without (drop (n + 1) rows) (drop q others))
       ∙ ap (λ t. left ++ x ∷ without (drop (n + 1) rows) t) there
       ∙ ap (λ t. left ++ without (x ∷ drop (n + 1) rows) t) (sym there)
@@ -211,20 +203,20 @@ none_without (y ∷ ys) = none_without ys
 -- at the end
 pub merged_all : (rows others : List (List ℤ)) (n p : ℕ) (left : List (List ℤ)) → length rows ≤ n → IsMerged rows others n p left → left ≡ without rows others
 merged_all rows others n p left ge m =
-    sym (append-nil left) ∙ ap (λ l. left ++ l) (sym (ap (λ l. without l (drop p others)) (at_end rows n ge) ∙ none_without (drop p others))) ∙ m
+    sym (append-nil left) ∙ ap (λ l. left ++ l) (sym (ap (λ l. without l (drop p others)) (drop_all n rows ge) ∙ none_without (drop p others))) ∙ m
 
 -- one place more for a row that is below
 pub place_next : (row y : List ℤ) (rows : List (List ℤ)) (n : ℕ) → n < length rows → y ≡ get_or rows n y → row_lt y row ≡ true
     → rows_from row (drop (n + 1) rows) ≡ rows_from row (drop n rows)
 place_next row y rows n lt is l =
-    sym (ap (rows_from row) (at_front rows n y lt is) ∙ ap (λ b. cond b (rows_from row (drop (n + 1) rows)) (y ∷ drop (n + 1) rows)) l)
+    sym (ap (rows_from row) (drop_next rows n y lt is) ∙ ap (λ b. cond b (rows_from row (drop (n + 1) rows)) (y ∷ drop (n + 1) rows)) l)
 
 -- the place where a row is to stand
 pub place_found : (row y : List ℤ) (rows : List (List ℤ)) (n : ℕ) → n < length rows → y ≡ get_or rows n y → row_lt y row ≡ false
     → drop n rows ≡ rows_from row (drop n rows)
 place_found row y rows n lt is l =
-    sym (ap (rows_from row) (at_front rows n y lt is) ∙ ap (λ b. cond b (rows_from row (drop (n + 1) rows)) (y ∷ drop (n + 1) rows)) l
-    ∙ sym (at_front rows n y lt is))
+    sym (ap (rows_from row) (drop_next rows n y lt is) ∙ ap (λ b. cond b (rows_from row (drop (n + 1) rows)) (y ∷ drop (n + 1) rows)) l
+    ∙ sym (drop_next rows n y lt is))
 
 pub place_none : (row : List ℤ) (rows : List (List ℤ)) (n : ℕ) → length rows ≤ n → drop n rows ≡ rows_from row (drop n rows)
-place_none row rows n ge = let e = at_end rows n ge in e ∙ sym (ap (rows_from row) e)
+place_none row rows n ge = let e = drop_all n rows ge in e ∙ sym (ap (rows_from row) e)

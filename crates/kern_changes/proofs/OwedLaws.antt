@@ -1,10 +1,11 @@
 -- Splitters and joiners of relations: what is owed leads from content to content, and is never much.
 use Rattle.std.proofs.Common.{zero, suc, ◌≡◌, ◌<◌, ◌≤◌, ◌+◌, ◌*◌, ℕ, ℤ, pos, Bool, true, false, List, [], ◌++◌, length, map, refl, sym, ap, ◌∙◌, arith, subst, append_assoc, ⊎_elim, inl}
-use Rattle.std.specs.Prelude.{set, nat_eq, nat_le, if◌then◌else◌, ◌≢◌}
+use Rattle.std.specs.Prelude.{set, nat_le, if◌then◌else◌, ◌≢◌}
 use Rattle.std.proofs.lemmas.List.{length-set, length-map, get_or-set_same, get_or-set_other, get_or-map, append-nil}
 use Rattle.std.proofs.lemmas.List.Elements.{All-nil}
 use Rattle.std.proofs.lemmas.List.Sums.{sum_by-append}
 use Rattle.std.proofs.lemmas.Bool.{cases_eq}
+use Rattle.river_base.proofs.PlaceLemmas.{if_eq, if_ne}
 use Rattle.river_base.specs.Held.{HaveWidth}
 use Rattle.river_base.specs.Changes.{difference}
 use Rattle.river_base.specs.declared.item.Change.{Change}
@@ -95,12 +96,6 @@ nothing_wide : (w : ℕ) → IsDebtOf w no_debt
 nothing_wide w = record { plus = All-nil (λ row. length row ≡ w); minus = All-nil (λ row. length row ≡ w) }
 
 -- ALL DEBTS
-
-if_eq : {A : Type 0} (a b : ℕ) (x y : A) → a ≡ b → (if nat_eq a b then x else y) ≡ x
-if_eq a b x y h = grind arith
-
-if_ne : {A : Type 0} (a b : ℕ) (x y : A) → a ≢ b → (if nat_eq a b then x else y) ≡ y
-if_ne a b x y h = grind arith
 
 -- at its place the rows are these
 pub but_same : (p : ℕ) (rows : List (List ℤ)) (f : ℕ → List (List ℤ)) → but_at p rows f p ≡ rows

@@ -4,6 +4,7 @@ use Rattle.std.specs.List.Sorted.{IsPermutation}
 use Rattle.std.proofs.lemmas.List.{append-nil}
 use Rattle.std.proofs.lemmas.List.Elements.{All-head, All-tail, All-cons, All-nil, All-append}
 use Rattle.std.proofs.lemmas.List.Sorted.{All-permutation}
+use Rattle.river_base.proofs.Lists.{count_by-append}
 use Rattle.river_base.specs.Changes.{take_out, without, difference, cancelled, IsChangeOf, GaveChanges}
 use Rattle.river_base.specs.Held.{HaveWidth}
 use Rattle.river_base.specs.Row.{row_eq, in_order}
@@ -11,7 +12,7 @@ use Rattle.river_base.specs.declared.item.Change.{Change}
 use Rattle.river_base.proofs.Counts.{permutation_from_copies}
 use Rattle.river_base.proofs.Rows.{in_order_bag}
 use Rattle.kern_changes.specs.Counted.{Changed}
-use Rattle.kern_changes.proofs.Copies.{count-append, copies-without}
+use Rattle.kern_changes.proofs.Copies.{copies-without}
 use Rattle.kern_changes.proofs.Leading.{cancelled_normal}
 
 -- rows so wide, in two lists
@@ -48,7 +49,7 @@ cancelled_of w at plus minus p m = record {
 pub wide_changed : (w : ℕ) (c : Change) (old new : List (List ℤ)) → HaveWidth w old → HaveWidth w c.plus → Changed c old new → HaveWidth w new
 wide_changed w c old new h g made =
     let p : IsPermutation (without old c.minus ++ c.plus) new = permutation_from_copies (without old c.minus ++ c.plus) new (λ row.
-    let a = count-append (row_eq row) (without old c.minus) c.plus in let b = copies-without row old c.minus in let n =
+    let a = count_by-append (row_eq row) (without old c.minus) c.plus in let b = copies-without row old c.minus in let n =
     made.each row in omega (arith, a, b, n)) in
     All-permutation (λ row. length row ≡ w) (without old c.minus ++ c.plus) new p (wide_append w (without old c.minus) c.plus (wide_without w old c.minus h) g)
 

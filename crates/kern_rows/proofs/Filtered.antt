@@ -1,30 +1,20 @@
 -- A value comes to a filter, and runs follow.
 use Rattle.std.proofs.Common.{◌≡◌, ℕ, zero, suc, ℤ, Bool, true, false, Option, Some, None, ◌+◌, ◌-◌, ◌<◌, ◌≤◌, List, [], ◌∷◌, ◌++◌, length, take, drop, refl, sym, ap, ◌∙◌}
 use Rattle.std.proofs.Common.{subst, arith, length-append, length-drop, append_assoc}
-use Rattle.std.specs.Prelude.{if◌then◌else◌, nat_le, max}
-use Rattle.std.proofs.Math.Nat.{le-mul_of_pos_right}
+use Rattle.std.specs.Prelude.{if◌then◌else◌, max}
+use Rattle.std.proofs.Math.Nat.{le-mul_of_pos_right, le-max_left, le-max_right}
 use Rattle.std.proofs.lemmas.List.{append-nil, drop-drop, drop-append-le, map-append}
+use Rattle.std.proofs.Math.Seq.{take-append-add}
+use Rattle.river_base.proofs.PlaceLemmas.{if_le, if_gt}
 use Rattle.river_base.specs.Grew.{GrewByPrefix}
 use Rattle.kern_rows.specs.Forms.{FilterForm, RunForm}
 use Rattle.kern_rows.specs.Needs.{CanFilter, CanRunOnce, CanRunFirst}
 use Rattle.kern_rows.specs.Runs.{Filtering, buffer_of, filter_one, filter_turns, next_run, after_run, with_pushes, received, run_at, run_or, first_run, usual_run, begins, needs, run_kept}
 use Rattle.kern_rows.specs.Stands.{Waiting, KeepsFor, StandsForFiltering, Filters, GaveUp, first_values, is_fresh, run_now, needs_now, ran_now, IsBetween, RunsOnce, Between, runs_left}
 
-if_le : {A : Type 0} (a b : ℕ) (x y : A) → a ≤ b → (if nat_le a b then x else y) ≡ x
-if_le a b x y h = grind arith
-
-if_gt : {A : Type 0} (a b : ℕ) (x y : A) → b < a → (if nat_le a b then x else y) ≡ y
-if_gt a b x y h = grind arith
-
 -- what is at least 1 is the greater of it and 1
 pub max-least : (a : ℕ) → 1 ≤ a → max a 1 ≡ a
 max-least a h = grind (arith, h)
-
-pub max-left : (a b : ℕ) → a ≤ max a b
-max-left a b = grind arith
-
-pub max-right : (a b : ℕ) → b ≤ max a b
-max-right a b = grind arith
 
 -- WHICH RUN IS NEXT
 
@@ -84,12 +74,12 @@ module _ (f : FilterForm) (can : CanFilter f) where
 
   -- each firing needs an item at least
   pub needs_some : (k : ℕ) → 1 ≤ needs f k
-  needs_some zero = max-right (first_run f).peek 1
+  needs_some zero = le-max_right (first_run f).peek 1
   needs_some (suc k) = let p = can.pops in let q = can.peeks in omega (arith, p, q)
 
   -- it looks at no more than it needs
   pub peek_within : (k : ℕ) → (run_at f k).peek ≤ needs f k
-  peek_within zero = max-left (first_run f).peek 1
+  peek_within zero = le-max_left (first_run f).peek 1
   peek_within (suc k) = omega arith
 
   -- it takes no more than it needs
@@ -238,11 +228,6 @@ module _ (f : FilterForm) (can : CanFilter f) where
           subst (λ r. StandsForFiltering f now r.after) (sym all) (record { keeps = b.keeps; few = few }),
         )
 
-    prefix_of : (a b : List ℤ) (n : ℕ) → take (length a + n) (a ++ b) ≡ a ++ take n b
-    prefix_of [] b n = ap (λ k. take k b) (let e : 0 + n ≡ n = omega arith in e)
-    prefix_of (x ∷ xs) b n =
-        ap (λ k. take k (x ∷ (xs ++ b))) (let e : suc (length xs) + n ≡ suc (length xs + n) = omega arith in e) ∙ ap (λ t. x ∷ t) (prefix_of xs b n)
-
     prefix_is : (a b : List ℤ) (n : ℕ) → take (length (take n a)) (a ++ b) ≡ take n a
     prefix_is a b zero = refl
     prefix_is [] b (suc n) = refl
@@ -275,7 +260,7 @@ module _ (f : FilterForm) (can : CanFilter f) where
                   ∙ ap (λ o. o ++ take g.n (first_values one)) b.grew
                   ∙ append_assoc out (first_values b.given) (take g.n (first_values one))
                   ∙ ap (λ t. out ++ t)
-                  (sym (prefix_of (first_values b.given) (first_values one ++ first_values rest) (length (take g.n (first_values one)))
+                  (sym (take-append-add (first_values b.given) (first_values one ++ first_values rest) (length (take g.n (first_values one)))
                   ∙ ap (λ t. first_values b.given ++ t) (prefix_is (first_values one) (first_values rest) g.n)))
                   ∙ ap (λ t. out ++ take (length (first_values b.given) + length (take g.n (first_values one))) t) (sym firsts);
             }

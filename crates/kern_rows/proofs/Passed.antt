@@ -6,6 +6,7 @@ use Rattle.std.specs.List.{AllByRecursion}
 use Rattle.std.proofs.Math.Nat.{le_refl}
 use Rattle.std.proofs.lemmas.Bool.{cases_lt}
 use Rattle.std.proofs.lemmas.List.{append-nil}
+use Rattle.std.proofs.Math.Seq.{take-append-add}
 use Rattle.river_base.specs.declared.item.Item as item
 use Rattle.river_base.specs.Drain.{drain, pass_on}
 use Rattle.river_base.specs.Grew.{GrewByPrefix}
@@ -29,11 +30,11 @@ front_none give [] p h = refl
 front_none give (l ∷ ls) zero h = ap (front_in give) h
 front_none give (l ∷ ls) (suc p) h = front_none give ls p h
 
-less_in : (give : item.Item → List item.Item) (l : List item.Item) (o : List item.Item) → front_in give l ≡ Some o → length (rest_in l) < length l
+pub less_in : (give : item.Item → List item.Item) (l : List item.Item) (o : List item.Item) → front_in give l ≡ Some o → length (rest_in l) < length l
 less_in give [] o h = absurd (cc h)
 less_in give (x ∷ xs) o h = omega arith
 
-less_at : (give : item.Item → List item.Item) (ls : List (List item.Item)) (p : ℕ) (o : List item.Item) → front_at give ls p ≡ Some o
+pub less_at : (give : item.Item → List item.Item) (ls : List (List item.Item)) (p : ℕ) (o : List item.Item) → front_at give ls p ≡ Some o
     → waiting (rest_at ls p) < waiting ls
 less_at give [] p o h = absurd (cc h)
 less_at give (l ∷ ls) zero o h = let e = less_in give l o h in omega arith
@@ -43,7 +44,7 @@ stuck_in : (give : item.Item → List item.Item) (l : List item.Item) → length
 stuck_in give [] h = refl
 stuck_in give (x ∷ xs) h = absurd (omega (arith, h))
 
-stuck_at : (give : item.Item → List item.Item) (ls : List (List item.Item)) (p : ℕ) → waiting ls ≡ 0 → front_at give ls p ≡ None
+pub stuck_at : (give : item.Item → List item.Item) (ls : List (List item.Item)) (p : ℕ) → waiting ls ≡ 0 → front_at give ls p ≡ None
 stuck_at give [] p h = refl
 stuck_at give (l ∷ ls) zero h = stuck_in give l (omega (arith, h))
 stuck_at give (l ∷ ls) (suc p) h = stuck_at give ls p (omega arith)
@@ -61,7 +62,7 @@ share_at [] p h lt = absurd (omega (arith, lt))
 share_at (w ∷ ws) zero h lt = h.0
 share_at (w ∷ ws) (suc p) h lt = share_at ws p h.1 (omega arith)
 
-turn_by : (ws : List ℕ) (p q p' q' : ℕ) → p ≡ p' → q ≡ q' → IsTurn ws p' q' → IsTurn ws p q
+pub turn_by : (ws : List ℕ) (p q p' q' : ℕ) → p ≡ p' → q ≡ q' → IsTurn ws p' q' → IsTurn ws p q
 turn_by ws p q p' q' e f h = rw (e, f) h
 
 pub next_turn : (ws : List ℕ) (port had : ℕ) → HaveShares ws → IsTurn ws port had → IsTurn ws (next_port ws port had) (next_had ws port had)
@@ -165,11 +166,6 @@ module _ (give : item.Item → List item.Item) (ws : List ℕ) where
       let g : f.given ≡ (settled give ws start).0 = sym (append-nil f.given) ∙ ap (λ d. f.given ++ d.0) (sym e) ∙ f.all in
       (f.grew ∙ ap (λ t. out ++ t) g, h.same ∙ ap (λ d. d.1) (sym e) ∙ f.last)
 
-prefix_of : (a b : List item.Item) (n : ℕ) → take (length a + n) (a ++ b) ≡ a ++ take n b
-prefix_of [] b n = ap (λ k. take k b) (let e : 0 + n ≡ n = omega arith in e)
-prefix_of (x ∷ xs) b n =
-    ap (λ k. take k (x ∷ (xs ++ b))) (let e : suc (length xs) + n ≡ suc (length xs + n) = omega arith in e) ∙ ap (λ t. x ∷ t) (prefix_of xs b n)
-
 prefix_is : (a b : List item.Item) (n : ℕ) → take (length (take n a)) (a ++ b) ≡ take n a
 prefix_is a b zero = refl
 prefix_is [] b (suc n) = refl
@@ -185,7 +181,7 @@ grew_on out a b more all out' out'' e f g =
           g.is
           ∙ ap (λ o. o ++ take g.n b) e
           ∙ append_assoc out a (take g.n b)
-          ∙ ap (λ t. out ++ t) (sym (prefix_of a (b ++ more) m ∙ ap (λ t. a ++ t) (prefix_is b more g.n)))
+          ∙ ap (λ t. out ++ t) (sym (take-append-add a (b ++ more) m ∙ ap (λ t. a ++ t) (prefix_is b more g.n)))
           ∙ ap (λ t. out ++ take (length a + m) t) (sym f);
     }
 

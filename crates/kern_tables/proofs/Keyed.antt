@@ -8,7 +8,7 @@ use Rattle.std.specs.List.{AllByRecursion}
 use Rattle.std.specs.List.Sorted.{IsStrictlySortedBy}
 use Rattle.std.specs.Map as map
 use Rattle.std.proofs.lemmas.Bool.{true≢false}
-use Rattle.std.proofs.lemmas.List.{map-append}
+use Rattle.std.proofs.lemmas.List.{map-append, append-nil}
 use Rattle.std.proofs.lemmas.List.Elements.{filter-append, All-head, All-tail, All-cons, All-nil}
 use Rattle.std.proofs.lemmas.List.Sums.{fold-append}
 use Rattle.std.proofs.lemmas.List.Sorted.{IsPermutation-sym, All-permutation}
@@ -264,11 +264,7 @@ module _ {V : Type 0} (start : V) (merge : V → List ℤ → V) where
 
     grouped_from : (keys : ℕ) (done adds : List (List ℤ)) → grouped keys done ≡ keyed row_cmp start merge (splits keys done)
         → grouped keys (done ++ adds) ≡ keyed row_cmp start merge (splits keys (done ++ adds))
-    grouped_from keys done [] h = subst (λ l. grouped keys l ≡ keyed row_cmp start merge (splits keys l)) (sym (append_nil done)) h
-      where
-        append_nil : (l : List (List ℤ)) → l ++ [] ≡ l
-        append_nil [] = refl
-        append_nil (y ∷ ys) = ap (λ t. y ∷ t) (append_nil ys)
+    grouped_from keys done [] h = subst (λ l. grouped keys l ≡ keyed row_cmp start merge (splits keys l)) (sym (append-nil done)) h
     grouped_from keys done (x ∷ xs) h =
         let more : grouped keys (done ++ x ∷ []) ≡ keyed row_cmp start merge (splits keys (done ++ x ∷ [])) =
         grouped_more keys done x (sorted_keys keys done h) ∙ ap (λ t. put row_cmp start merge t (split keys x)) h

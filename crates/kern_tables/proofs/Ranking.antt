@@ -94,16 +94,13 @@ popped x xs ys h up =
     ∙ order.ascending-cons ranks_before ranked_weakly apart_ranks x ys
     ∙ place_last x (by_rank ys) (rises ys) bound
 
-take_front : (n : ℕ) (ys zs : List Ranked) → n ≤ length ys → take n (ys ++ zs) ≡ take n ys
-take_front n ys zs h = take-append-le n ys zs h
-
 -- a loop's step: the worst leaves, and more than so many are there
 pub still_best : (best : ℕ) (x : Ranked) (xs ys all : List Ranked) → IsPermutation xs (x ∷ ys) → IsUpperBound rank_cmp x ys → best < length xs
     → take best (by_rank xs) ≡ all → take best (by_rank ys) ≡ all
 still_best best x xs ys all h up more e =
     let n : length (x ∷ ys) ≡ length xs = length_permutation xs (x ∷ ys) h in
     let m : length (by_rank ys) ≡ length ys = length_permutation ys (by_rank ys) (order.ascending_bag ranks_before ranked_weakly apart_ranks ys) in
-    sym (take_front best (by_rank ys) (x ∷ []) (omega (arith, n, m, more))) ∙ sym (ap (take best) (popped x xs ys h up)) ∙ e
+    sym (take-append-le best (by_rank ys) (x ∷ []) (omega (arith, n, m, more))) ∙ sym (ap (take best) (popped x xs ys h up)) ∙ e
 
 -- its end
 pub all_best : (best : ℕ) (xs all : List Ranked) → length xs ≤ best → take best (by_rank xs) ≡ all → by_rank xs ≡ all
@@ -137,5 +134,5 @@ stays_out best r top xs n up h =
     (All-permutation (λ w. ranks_before r w ≡ false) xs (by_rank xs) (order.ascending_bag ranks_before ranked_weakly apart_ranks xs)
     (each_from (λ w. ranks_before r w ≡ false) xs (behind_top r top xs h up)))
     in
-    ap (take best) (place_last r (by_rank xs) (rises xs) bound) ∙ take_front best (by_rank xs) (r ∷ []) (omega (arith, m, n))
+    ap (take best) (place_last r (by_rank xs) (rises xs) bound) ∙ take-append-le best (by_rank xs) (r ∷ []) (omega (arith, m, n))
     ∙ take_all best (by_rank xs) (omega (arith, m, n))

@@ -8,12 +8,10 @@ use Rattle.std.specs.BTreeMap.{is_at}
 use Rattle.std.specs.List.Sorted.{IsStrictlySortedBy}
 use Rattle.std.proofs.lemmas.Map.Keys.{sorted_tail}
 use Rattle.std.proofs.lemmas.Map.Entries.{lookup_at_gap, lookup_head, lookup_tail}
+use Rattle.std.proofs.lemmas.Option.{same_Some}
 use Rattle.river_base.specs.Keyed.{put}
 use Rattle.river_base.specs.Row.{row_cmp, row_total}
 use Rattle.kern_tables.specs.Entries.{AreShort}
-
-one_value : {A : Type 0} {x y : A} → Some x ≡ Some y → x ≡ y
-one_value h = cc
 
 abbrev pub here : List ℤ → List ℤ → Bool
 here k = is_at (row_cmp k)
@@ -30,7 +28,7 @@ module _ {V : Type 0} where
   set_same k [] v h = refl
   set_same k (e ∷ es) v h = step (here k e.0) refl (set_same k es v) where
     step : (b : Bool) → here k e.0 ≡ b → (lookup (here k) es ≡ Some v → set_value (here k) es v ≡ es) → set_value (here k) (e ∷ es) v ≡ e ∷ es
-    step true g more = let same : e.1 ≡ v = one_value (sym (lookup_head (here k) e es g) ∙ h) in set_here k e es v g ∙ (λ i. (e.0, sym same i) ∷ es)
+    step true g more = let same : e.1 ≡ v = same_Some _ _ (sym (lookup_head (here k) e es g) ∙ h) in set_here k e es v g ∙ (λ i. (e.0, sym same i) ∷ es)
     step false g more = set_past k e es v g ∙ ap (λ l. e ∷ l) (more (sym (lookup_tail (here k) e es g) ∙ h))
 
   -- keys stay short where a value is set
@@ -62,7 +60,7 @@ module _ {V : Type 0} where
           clash : None ≡ Some v → ⊥
           clash x = cc x
       step Equal g more =
-          let same : e.1 ≡ v = one_value (sym (lookup_head (here k) e es (ap is_eq g)) ∙ h) in
+          let same : e.1 ≡ v = same_Some _ _ (sym (lookup_head (here k) e es (ap is_eq g)) ∙ h) in
           set_here k e es (merge v w) (ap is_eq g) ∙ (λ i. (e.0, merge (sym same i) w) ∷ es) ∙ sym (put_is Equal g)
       step Greater g more =
           set_past k e es (merge v w) (ap is_eq g) ∙ ap (λ l. e ∷ l) (more (sym (lookup_tail (here k) e es (ap is_eq g)) ∙ h)) ∙ sym (put_is Greater g)

@@ -1,22 +1,17 @@
 -- What may be answered for two kernels, from what was answered for each.
-use Rattle.std.proofs.Common.{◌≡◌, ℕ, zero, suc, ◌+◌, ◌-◌, ◌<◌, Option, Some, None, List, [], ◌∷◌, ◌++◌, length, take, drop, refl, sym, ap, ◌∙◌, subst, arith}
+use Rattle.std.proofs.Common.{◌≡◌, ℕ, ◌+◌, ◌-◌, ◌<◌, Option, Some, None, List, [], ◌∷◌, ◌++◌, length, take, drop, refl, sym, ap, ◌∙◌, subst, arith}
 use Rattle.std.proofs.Common.{length-append, length-drop}
 use Rattle.std.specs.Prelude.{slice_get}
 use Rattle.std.proofs.lemmas.List.{length-take-le}
+use Rattle.std.proofs.lemmas.Option.{slice_get_within, same_Some}
 use Rattle.river_base.specs.declared.kind.QueueType.{QueueType}
 use Rattle.river_kernels.specs.declared.types.VarKind.{VarKind}
 use Rattle.river_kernels.specs.declared.types.Types.{Types}
 use Rattle.river_kernels.specs.Kern.{Kern}
 use Rattle.river_kernels.specs.Fits.{Fits, spliced}
 use Rattle.river_kernels.specs.Types.{given, joined_types, behind, fused_types, types_of, MayAnswer}
-use Rattle.river_kernels.proofs.TypeLemmas.{not_some, some_same}
+use Rattle.river_kernels.proofs.TypeLemmas.{not_some}
 use Rattle.river_kernels.proofs.FitsLaw.{fits_types, types_fits}
-
--- what is got stands below the length
-pub get_below : {A : Type 0} (xs : List A) (i : ℕ) (x : A) → slice_get xs i ≡ Some x → i < length xs
-get_below [] i x h = absurd (not_some h)
-get_below (y ∷ ys) zero x h = omega arith
-get_below (y ∷ ys) (suc i) x h = let m : i < length ys = get_below ys i x h in omega arith
 
 -- how many ports there are
 length-spliced : {A : Type 0} (at : ℕ) (xs ys : List A) → at < length xs → length (spliced at xs ys) + 1 ≡ length xs + length ys
@@ -34,7 +29,7 @@ joined_long most at p (Some q) h g = let e = length-spliced at p.outs q.outs h i
 behind_long : (most at : ℕ) (p : Types) (o : Option QueueType) (f : List QueueType → Option Types) → slice_get p.outs at ≡ o → most + 1 < length p.outs
     → MayAnswer most (behind at p o f) None
 behind_long most at p None f e g = tt
-behind_long most at p (Some m) f e g = joined_long most at p (f (m ∷ [])) (get_below p.outs at m e) g
+behind_long most at p (Some m) f e g = joined_long most at p (f (m ∷ [])) (slice_get_within p.outs at m e) g
 
 -- nothing was found for the first
 pub fused_none : (most at : ℕ) (o : Option Types) (f : List QueueType → Option Types) → MayAnswer (most + 1) o None → MayAnswer most (fused_types at o f) None
@@ -58,7 +53,7 @@ second_long most at p (Some q) h g = let e = length-spliced at p.outs q.outs h i
 behind_second : (most at : ℕ) (p : Types) (m : QueueType) (o : Option QueueType) (f : List QueueType → Option Types) → o ≡ Some m → at < length p.outs
     → MayAnswer most (f (m ∷ [])) None → MayAnswer most (behind at p o f) None
 behind_second most at p m None f e h g = absurd (not_some e)
-behind_second most at p m (Some n) f e h g = second_long most at p (f (n ∷ [])) h (subst (λ k. MayAnswer most (f (k ∷ [])) None) (sym (some_same e)) g)
+behind_second most at p m (Some n) f e h g = second_long most at p (f (n ∷ [])) h (subst (λ k. MayAnswer most (f (k ∷ [])) None) (sym (same_Some _ _ e)) g)
 
 -- nothing was found for the second
 pub fused_second : (most room at : ℕ) (o : Option Types) (f : List QueueType → Option Types) (one : Types) (m : QueueType) → MayAnswer room o (Some one)
@@ -66,7 +61,7 @@ pub fused_second : (most room at : ℕ) (o : Option Types) (f : List QueueType �
 fused_second most room at None f one m h e g = absurd h
 fused_second most room at (Some p) f one m h e g =
     let there : slice_get p.outs at ≡ Some m = ap (λ (t : Types). slice_get t.outs at) (sym h) ∙ e in
-    behind_second most at p m (slice_get p.outs at) f there (get_below p.outs at m there) g
+    behind_second most at p m (slice_get p.outs at) f there (slice_get_within p.outs at m there) g
 
 joined_both : (most at : ℕ) (p : Types) (o : Option Types) (two r : Types) → MayAnswer most o (Some two) → r.outs ≡ spliced at p.outs two.outs
     → r.vars ≡ p.vars ++ two.vars → MayAnswer most (joined_types at p o) (Some r)
@@ -80,7 +75,7 @@ behind_both : (most at : ℕ) (p : Types) (m : QueueType) (o : Option QueueType)
     → MayAnswer most (f (m ∷ [])) (Some two) → r.outs ≡ spliced at p.outs two.outs → r.vars ≡ p.vars ++ two.vars → MayAnswer most (behind at p o f) (Some r)
 behind_both most at p m None f two r e g u v = absurd (not_some e)
 behind_both most at p m (Some n) f two r e g u v =
-    joined_both most at p (f (n ∷ [])) two r (subst (λ k. MayAnswer most (f (k ∷ [])) (Some two)) (sym (some_same e)) g) u v
+    joined_both most at p (f (n ∷ [])) two r (subst (λ k. MayAnswer most (f (k ∷ [])) (Some two)) (sym (same_Some _ _ e)) g) u v
 
 -- both were found
 pub fused_both : (most room at : ℕ) (o : Option Types) (f : List QueueType → Option Types) (one : Types) (m : QueueType) (two r : Types)
@@ -106,10 +101,10 @@ decided : (k : Kern) (is os : List QueueType) (vs : List VarKind) (o r : Option 
 decided k is os vs None None h g f = absurd (not_some (sym h ∙ fits_types k is os vs f))
 decided k is os vs None (Some p) h g f = absurd g
 decided k is os vs (Some q) None h g f =
-    let e : q ≡ given os vs = some_same (sym h ∙ fits_types k is os vs f) in
+    let e : q ≡ given os vs = same_Some _ _ (sym h ∙ fits_types k is os vs f) in
     let n : length q.outs ≡ length os = ap (λ (t : Types). length t.outs) e in
     absurd (omega (arith, n, g))
-decided k is os vs (Some q) (Some p) h g f = ap (λ t. Some t) (g ∙ some_same (sym h ∙ fits_types k is os vs f))
+decided k is os vs (Some q) (Some p) h g f = ap (λ t. Some t) (g ∙ same_Some _ _ (sym h ∙ fits_types k is os vs f))
 
 -- nothing that fits was left out
 pub none_fits : (k : Kern) (is os : List QueueType) (vs : List VarKind) → MayAnswer (length os) (types_of k is) None → Fits k is os vs → ⊥
@@ -119,7 +114,7 @@ none_fits k is os vs g f = not_some (decided k is os vs (types_of k is) None ref
 pub fits_found : (k : Kern) (is os : List QueueType) (vs : List VarKind) (r : Types) → MayAnswer (length os) (types_of k is) (Some r) → Fits k is os vs
     → (r.outs ≡ os) × (r.vars ≡ vs)
 fits_found k is os vs r g f =
-    let e : r ≡ given os vs = some_same (decided k is os vs (types_of k is) (Some r) refl g f) in
+    let e : r ≡ given os vs = same_Some _ _ (decided k is os vs (types_of k is) (Some r) refl g f) in
     (ap (λ (t : Types). t.outs) e, ap (λ (t : Types). t.vars) e)
 
 found_some : (k : Kern) (is : List QueueType) (most : ℕ) (o : Option Types) (r : Types) → types_of k is ≡ o → MayAnswer most o (Some r)

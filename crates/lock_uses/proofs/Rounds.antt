@@ -1,6 +1,5 @@
 -- What two workers did in a round.
-use Rattle.std.proofs.Common.{◌≡◌, ℕ, ◌<◌, false, List, [], ◌∷◌, ◌++◌, length, take, drop, slice_index_or, sym, refl, ap, ◌∙◌, subst, arith}
-use Rattle.std.proofs.lemmas.List.{append-nil, drop_all, take_all}
+use Rattle.std.proofs.Common.{◌≡◌, ℕ, ◌<◌, false, List, [], ◌∷◌, length, slice_index_or, sym, refl, ap, ◌∙◌, subst, arith}
 use Rattle.class_locks.specs.declared.view.View.{View}
 use Rattle.class_locks.specs.Seats.{Chair, TableId}
 use Rattle.lock_uses.specs.declared.crew.Worker.{Worker}
@@ -33,9 +32,3 @@ turned old (x ∷ y ∷ []) s n each =
       one = one_turned 0 s.lot s.first x s.seats.0 s.ops.0 s.calm.0 one;
       two = one_turned 1 s.lot s.second y s.seats.1 s.ops.1 s.calm.1 two;
     }
-
--- what is written back of a slice of as many elements is the slice
-pub written_back : (new old : List Worker) (n : ℕ) → length new ≡ length old → n ≡ length old → take n (new ++ drop (length new) old) ≡ new
-written_back new old n e m =
-    ap (λ (l : List Worker). take n (new ++ l)) (drop_all (length new) old (omega (arith, e)))
-    ∙ (ap (take n) (append-nil new) ∙ take_all n new (omega (arith, e, m)))

@@ -1,9 +1,9 @@
 -- Parts judged one after another.
 use Rattle.std.proofs.Common.{◌≡◌, ℕ, suc, List, [], ◌∷◌, ◌++◌, not, map, take, drop, length, ◌+◌, ◌<◌, ◌≤◌, get_or, sym, ap, ◌∙◌, drop-cons, add-one}
 use Rattle.std.proofs.Math.Seq.{take-suc}
+use Rattle.river_base.proofs.Lists.{map_next, map_none}
 use Rattle.streamit_text.specs.Tree.{statement, in_turn}
 use Rattle.streamit_text.specs.declared.tree.Statement as written
-use Rattle.streamit_text.proofs.Places.{at_place, none_left}
 use Rattle.params_text.specs.Params.{is_one_of}
 use Rattle.params_text.specs.Program.{steps_in_turn, step_of, declared_of, program_of, ParamProgram}
 use Rattle.params_text.specs.declared.program.ParamUnit.{ParamUnit}
@@ -37,23 +37,23 @@ passed-over a b h = ap (λ x. judged_then x b) h
 pub from-place : (k : ℕ) (ps : List (List ℕ)) (items : List written.Statement) (i : ℕ) (c : written.Statement) → i < length items → c ≡ get_or items i c
     → block_judged k ps (in_turn (map statement (drop i items)))
     ≡ judged_then (statement_judged k ps (statement c)) (block_judged k ps (in_turn (map statement (drop (i + 1) items))))
-from-place k ps items i c lt is = ap (λ l. block_judged k ps (in_turn l)) (at_place statement items i c lt is)
+from-place k ps items i c lt is = ap (λ l. block_judged k ps (in_turn l)) (map_next statement items i c lt is)
 
 -- behind the last statement nothing is left to judge
 pub at-end : (k : ℕ) (ps : List (List ℕ)) (items : List written.Statement) (i : ℕ) → length items ≤ i
     → block_judged k ps (in_turn (map statement (drop i items))) ≡ no_fault
-at-end k ps items i h = ap (λ l. block_judged k ps (in_turn l)) (none_left statement items i h)
+at-end k ps items i h = ap (λ l. block_judged k ps (in_turn l)) (map_none statement items i h)
 
 -- the steps from a place on
 pub steps-place : (k : ℕ) (us : Above) (ks : List (List ℕ)) (items : List Step) (i : ℕ) (s : Step) → i < length items → s ≡ get_or items i s
     → steps_judged k us ks (steps_in_turn (map step_of (drop i items)))
     ≡ judged_then (step_judged k us ks (step_of s)) (steps_judged k us ks (steps_in_turn (map step_of (drop (i + 1) items))))
-steps-place k us ks items i s lt is = ap (λ l. steps_judged k us ks (steps_in_turn l)) (at_place step_of items i s lt is)
+steps-place k us ks items i s lt is = ap (λ l. steps_judged k us ks (steps_in_turn l)) (map_next step_of items i s lt is)
 
 -- behind the last step nothing is left to judge
 pub steps-end : (k : ℕ) (us : Above) (ks : List (List ℕ)) (items : List Step) (i : ℕ) → length items ≤ i
     → steps_judged k us ks (steps_in_turn (map step_of (drop i items))) ≡ no_fault
-steps-end k us ks items i h = ap (λ l. steps_judged k us ks (steps_in_turn l)) (none_left step_of items i h)
+steps-end k us ks items i h = ap (λ l. steps_judged k us ks (steps_in_turn l)) (map_none step_of items i h)
 
 -- the parameters from a place on, none of which has the name of one before it
 pub names-place : (k : ℕ) (names : List (List ℕ)) (i : ℕ) (n : List ℕ) → i < length names → n ≡ get_or names i n
@@ -69,7 +69,7 @@ names-place k names i n lt is =
 pub units-place : (k : ℕ) (us : Above) (units : List ParamUnit) (i : ℕ) (u : ParamUnit) → i < length units → u ≡ get_or units i u
     → units_judged k us (program_of (drop i units))
     ≡ judged_then (unit_judged k us (declared_of u)) (units_judged (suc k) ((u.name, length u.params.items) ∷ us) (program_of (drop (i + 1) units)))
-units-place k us units i u lt is = ap (units_judged k us) (at_place declared_of units i u lt is)
+units-place k us units i u lt is = ap (units_judged k us) (map_next declared_of units i u lt is)
 
 -- what is known behind some units, and what is left to judge then
 pub record Judging (whole : Judgement) (i : ℕ) (rest : ParamProgram) (streams : StreamsAbove) : Type 0 where

@@ -1,6 +1,6 @@
 -- The last unit of a program.
 use Rattle.std.proofs.Common.{◌≡◌, ℕ, suc, ◌+◌, ◌-◌, ◌<◌, true, false, List, [], ◌∷◌, ◌++◌, length, get_or, reverse, refl, sym, ap, ◌∙◌, arith}
-use Rattle.std.proofs.lemmas.List.{reverse-append}
+use Rattle.river_base.proofs.Lists.{reverse-cons}
 use Rattle.params_text.specs.Program.{Declared, ParamProgram, declared_of, program_of}
 use Rattle.params_text.specs.declared.program.ParamUnit.{ParamUnit}
 use Rattle.params_model.specs.Judged.{no_fault, has_none, top_judged, head_or, tail_of, numbered_from, source_units}
@@ -17,9 +17,6 @@ record Newest (k : ℕ) (u : Declared) (us : ParamProgram) (sizes : List ℕ) : 
   unit : source.unit ≡ k + length us
   stream : source.stream ≡ last_unit u us
   is : reverse (numbered_from k (u ∷ us) sizes) ≡ source ∷ others
-
-reverse-cons : (u : SourceUnit) (us : List SourceUnit) → reverse (u ∷ us) ≡ reverse us ++ u ∷ []
-reverse-cons u us = reverse-append (u ∷ []) us
 
 newest : (k : ℕ) (u : Declared) (us : ParamProgram) (sizes : List ℕ) → Newest k u us sizes
 newest k u [] sizes =

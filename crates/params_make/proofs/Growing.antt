@@ -1,5 +1,5 @@
 -- Children that were made so far, and those that are made behind them.
-use Rattle.std.proofs.Common.{◌≡◌, ℕ, suc, ◌+◌, ◌-◌, ◌<◌, ◌≤◌, List, [], ◌∷◌, ◌++◌, Result, Ok, Err, refl, sym, ap, ◌∙◌, arith, append_assoc, append-nil}
+use Rattle.std.proofs.Common.{◌≡◌, ℕ, ◌+◌, ◌-◌, ◌≤◌, List, [], ◌∷◌, ◌++◌, Result, Ok, Err, refl, sym, ap, ◌∙◌, arith, append_assoc, append-nil}
 use Rattle.river_plan.specs.Forms.{Name}
 use Rattle.streamit_model.specs.Meaning.{numbers_from}
 use Rattle.params_model.specs.Environment.{Environment}
@@ -87,12 +87,6 @@ also-on (Err e) f g = refl
 -- the turns of a loop are its first turn, and then the others
 pub turns-next : (k : ℕ) (f : ℕ → Made → Added) (v : ℕ) (vs : List ℕ) (m : Made) → turns_made k f (v ∷ vs) m ≡ also (turn_made k f v m) (turns_made k f vs)
 turns-next k f v vs m = also-on (turn k m) (f v) (turns_made k f vs)
-
--- the numbers from one up to an end are that one and those behind it
-pub numbers-next : (v end : ℕ) → v < end → numbers_from v (end - v) ≡ v ∷ numbers_from (v + 1) (end - (v + 1))
-numbers-next v end lt =
-    ap (numbers_from v) (let e : end - v ≡ suc (end - (v + 1)) = omega (arith, lt) in e)
-    ∙ ap (λ k. v ∷ numbers_from k (end - (v + 1))) (let e : suc v ≡ v + 1 = omega arith in e)
 
 -- from the end on there are none
 pub numbers-end : (v end : ℕ) → end ≤ v → numbers_from v (end - v) ≡ []

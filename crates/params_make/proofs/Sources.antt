@@ -1,7 +1,7 @@
 -- The streams of units, the newest first, and what the grammar sees to in each of them.
 use Rattle.std.proofs.Common.{◌≡◌, ℕ, zero, suc, ℤ, ◌+◌, ◌*◌, ◌<◌, ◌≤◌, List, [], ◌∷◌, ◌++◌, length, map, take, get_or, true, false, refl, sym, ap, ◌∙◌, subst, arith}
 use Rattle.std.specs.Prelude.{reverse, if◌then◌else◌}
-use Rattle.std.proofs.lemmas.List.{take_more, map-append, reverse-append, length-map, length-take-le}
+use Rattle.std.proofs.lemmas.List.{take_more, map-append, reverse-append, length-map, length-take-le, get_or_default}
 use Rattle.river_base.specs.Name.{name_eq}
 use Rattle.river_plan.specs.Forms.{Name}
 use Rattle.params_text.specs.Program.{Declared, ParamProgram, body_of, declared_of, program_of}
@@ -60,11 +60,6 @@ pub adding-more : (us : List ParamUnit) (i : ℕ) (u : ParamUnit) (sizes : List 
     (take i us) sizes depth n zs m)
 adding-more us i u sizes depth n zs m lt e = ap (λ l. instance l depth n zs m) (sources-more us i u sizes lt e)
 
-same-default : (us : List ParamUnit) (i : ℕ) (u v : ParamUnit) → i < length us → get_or us i u ≡ get_or us i v
-same-default [] i u v lt = absurd (omega (arith, lt))
-same-default (x ∷ us) zero u v lt = refl
-same-default (x ∷ us) (suc i) u v lt = same-default us i u v (omega (arith, lt))
-
 -- where the last unit has the name
 pub found-at : (us : List ParamUnit) (i : ℕ) (u v : ParamUnit) (sizes : List ℕ) (depth : ℕ) (n : Name) (zs : List ℤ) (m : Made) → i < length us
     → v ≡ get_or us i v
@@ -72,7 +67,7 @@ pub found-at : (us : List ParamUnit) (i : ℕ) (u v : ParamUnit) (sizes : List �
     → adding (take (i + 1) us) sizes depth n zs m
     ≡ make (adding (take i us) sizes (suc depth)) (source_at i sizes (declared_of u)) depth (bound u.params.items zs) m
 found-at us i u v sizes depth n zs m lt vis same_name uis =
-    let same : v ≡ u = vis ∙ same-default us i v u lt ∙ sym uis in
+    let same : v ≡ u = vis ∙ get_or_default us i v u lt ∙ sym uis in
     let named : name_eq u.name n ≡ true = sym (ap (λ (w : ParamUnit). name_eq w.name n) same) ∙ same_name in
     adding-more us i u sizes depth n zs m lt uis
     ∙ ap (λ b. if b then make (adding (take i us) sizes (suc depth)) (source_at i sizes (declared_of u)) depth (bound u.params.items zs) m else adding

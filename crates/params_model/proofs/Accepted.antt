@@ -1,6 +1,7 @@
 -- Programs that are accepted: no filter declares or assigns a parameter.
 use Rattle.std.proofs.Common.{◌≡◌, ℕ, suc, Bool, true, false, not, ◌||◌, Option, Some, None, Ok, Err, List, [], ◌∷◌, ◌++◌, length, reverse, refl, sym, ap, ◌∙◌, subst}
 use Rattle.std.proofs.lemmas.List.{reverse-append, map-append}
+use Rattle.river_base.proofs.Lists.{reverse-cons}
 use Rattle.river_base.specs.Name.{name_eq}
 use Rattle.river_plan.specs.Forms.{Name}
 use Rattle.streamit_text.specs.Tree.{Statement, Declare, Assign, Push, Discard, If, For, Block, Optional, Unwritten, Written}
@@ -94,10 +95,6 @@ units_fine k above (d ∷ ds) sizes u fit h =
 fine_append : (us vs : List SourceUnit) → AreFine us → AreFine vs → AreFine (us ++ vs)
 fine_append [] vs h g = g
 fine_append (u ∷ us) vs h g = (h.0, fine_append us vs h.1 g)
-
--- the first unit comes last when units are turned
-pub reverse-cons : (u : SourceUnit) (us : List SourceUnit) → reverse (u ∷ us) ≡ reverse us ++ u ∷ []
-reverse-cons u us = reverse-append (u ∷ []) us
 
 -- the streams of turned units are their streams, turned
 pub map-reverse : (us : List SourceUnit) → unit_streams (reverse us) ≡ reverse (unit_streams us)

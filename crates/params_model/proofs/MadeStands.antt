@@ -2,6 +2,7 @@
 use Rattle.std.proofs.Common.{◌≡◌, ℕ, suc, ℤ, pos, Bool, true, false, Option, Some, None, Ok, Result, ◌<◌, ◌≤◌, List, [], ◌∷◌, ◌++◌, length, map, reverse, refl, sym, ap, ◌∙◌, subst, arith, nat_lt}
 use Rattle.std.specs.Prelude.{if◌then◌else◌, ◌&&◌}
 use Rattle.std.proofs.lemmas.Bool.{and_parts}
+use Rattle.river_base.proofs.Lists.{reverse-cons}
 use Rattle.river_base.specs.Name.{name_eq}
 use Rattle.river_plan.specs.Forms.{Name}
 use Rattle.streamit_text.specs.Tree.{Expression}
@@ -22,7 +23,7 @@ use Rattle.params_text.specs.Told.{IsOwnName, AreOwnNames, AreToldAdds, AreToldN
 use Rattle.params_model.specs.Written.{IsWrittenBody, IsWrittenUnit, IsWrittenProgram, AreWritten}
 use Rattle.params_model.specs.Judged.{units_judged, top_judged, numbered_from, source_units, tail_of}
 use Rattle.params_text.specs.Program.{ParamProgram}
-use Rattle.params_model.proofs.Accepted.{fine_reverse, units_fine, streams_are, map-reverse, reverse-cons}
+use Rattle.params_model.proofs.Accepted.{fine_reverse, units_fine, streams_are, map-reverse}
 use Rattle.params_model.specs.Laws.{MadeStands, ElaboratedStands}
 use Rattle.params_model.proofs.Names.{instance_own}
 use Rattle.params_model.proofs.Puts.{filter_told, ranged_count}

@@ -5,6 +5,7 @@ use Rattle.std.specs.Prelude.{if◌then◌else◌}
 use Rattle.std.specs.Ordering.{int_eq}
 use Rattle.std.proofs.lemmas.Int.{SFits-int_wrap, int_wrap_fits}
 use Rattle.std.proofs.lemmas.Bool.{eqb-true}
+use Rattle.std.proofs.lemmas.Option.{same_Some}
 use Rattle.river_base.specs.Name.{name_eq}
 use Rattle.river_base.specs.Number.{IsValue, wrap, rem}
 use Rattle.work_code.specs.declared.expr.BinOp.{BinOp}
@@ -95,12 +96,9 @@ values_fit env (c ∷ cs) h f = (said_fits env c 0 h f.0, values_fit env cs h f.
 pub given : (env : Environment) (vs : Values) (n : Name) (z : ℤ) → look env n ≡ Some z → under env vs n ≡ z
 given [] vs n z h = absurd (cc h)
 given (e ∷ env) vs n z h = ⊎_elim
-    (λ s. at_here e.0 n e.1 (under env vs) s.1 ∙ some_is e.1 z (sym (ap (λ b. if b then Some e.1 else look env n) s.1) ∙ h))
+    (λ s. at_here e.0 n e.1 (under env vs) s.1 ∙ same_Some e.1 z (sym (ap (λ b. if b then Some e.1 else look env n) s.1) ∙ h))
     (λ d. at_other e.0 n e.1 (under env vs) d.1 ∙ given env vs n z (sym (ap (λ b. if b then Some e.1 else look env n) d.1) ∙ h))
     (cases_name e.0 n)
-  where
-    some_is : (x y : ℤ) → Some x ≡ Some y → x ≡ y
-    some_is x y e = cc e
 
 -- a name that the environment does not have is as it was
 pub not_given : (env : Environment) (vs : Values) (n : Name) → look env n ≡ None → under env vs n ≡ vs n

@@ -1,11 +1,11 @@
 -- Texts of statements one after another, and of their parts.
 use Rattle.std.proofs.Common.{◌≡◌, ℕ, ◌+◌, ◌<◌, ◌≤◌, List, [], ◌∷◌, ◌++◌, length, drop, map, get_or, sym, ap, ◌∙◌, append_assoc}
 use Rattle.std.proofs.lemmas.List.{append-nil}
+use Rattle.river_base.proofs.Lists.{map_next, map_none}
 use Rattle.work_text.specs.Tok.{Tok, symbol}
 use Rattle.work_text.specs.declared.sign.Symbol.TheVariants as s
 use Rattle.streamit_text.specs.Tree.{Statement, statement, in_turn}
 use Rattle.streamit_text.specs.declared.tree.Statement as written
-use Rattle.streamit_text.proofs.Places.{at_place, none_left}
 use Rattle.params_text.specs.Toks.{statement_toks, statements_toks, block_toks, spaced}
 use Rattle.params_text.proofs.Spacing.{spaced-append}
 use Rattle.params_model.specs.Environment.{Environment}
@@ -19,12 +19,12 @@ listed env ss = spaced (statements_toks (put_all env (in_turn ss)))
 pub listed-next : (env : Environment) (items : List written.Statement) (i : ℕ) (c : written.Statement) → i < length items → c ≡ get_or items i c
     → listed env (map statement (drop i items)) ≡ spaced (statement_toks (put_once env (statement c))) ++ listed env (map statement (drop (i + 1) items))
 listed-next env items i c lt is =
-    ap (listed env) (at_place statement items i c lt is)
+    ap (listed env) (map_next statement items i c lt is)
     ∙ spaced-append (statement_toks (put_once env (statement c))) (statements_toks (put_all env (in_turn (map statement (drop (i + 1) items)))))
 
 -- behind the last statement nothing is left to print
 pub listed-end : (env : Environment) (items : List written.Statement) (i : ℕ) → length items ≤ i → listed env (map statement (drop i items)) ≡ []
-listed-end env items i h = ap (listed env) (none_left statement items i h)
+listed-end env items i h = ap (listed env) (map_none statement items i h)
 
 -- what is left to append, after one more part
 pub part-more : (now new first rest more all : List ℕ) → now ++ rest ≡ all → new ≡ now ++ first → rest ≡ first ++ more → new ++ more ≡ all

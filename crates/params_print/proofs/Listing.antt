@@ -1,21 +1,18 @@
 -- Names and their values, as a list in memory.
 use Rattle.std.proofs.Common.{◌≡◌, ℕ, ℤ, ◌+◌, ◌<◌, ◌≤◌, List, [], ◌∷◌, ◌++◌, length, take, drop, get_or, Some, refl, sym, ap, ◌∙◌, drop-cons, add-one}
 use Rattle.std.specs.Prelude.{reverse, if◌then◌else◌}
-use Rattle.std.proofs.lemmas.List.{take_more, reverse-append, drop_all}
+use Rattle.std.proofs.lemmas.List.{take_more, drop_all}
+use Rattle.river_base.proofs.Lists.{reverse-push}
 use Rattle.river_base.specs.Name.{name_eq}
 use Rattle.river_plan.specs.Forms.{Name}
 use Rattle.streamit_model.specs.Meaning.{look}
 use Rattle.params_model.specs.Environment.{bound}
 
--- the last one in memory is the newest
-pub newest-push : (es : List (Name × ℤ)) (e : Name × ℤ) → reverse (es ++ e ∷ []) ≡ e ∷ reverse es
-newest-push es e = reverse-append es (e ∷ [])
-
 -- a name among the first ones
 pub look-take : (es : List (Name × ℤ)) (i : ℕ) (e : Name × ℤ) (n : Name) → i < length es → e ≡ get_or es i e
     → look (reverse (take (i + 1) es)) n ≡ (if name_eq e.0 n then Some e.1 else look (reverse (take i es)) n)
 look-take es i e n lt g =
-    ap (λ l. look (reverse l) n) (take_more es i e lt ∙ ap (λ x. take i es ++ x ∷ []) (sym g)) ∙ ap (λ sc. look sc n) (newest-push (take i es) e)
+    ap (λ l. look (reverse l) n) (take_more es i e lt ∙ ap (λ x. take i es ++ x ∷ []) (sym g)) ∙ ap (λ sc. look sc n) (reverse-push (take i es) e)
 
 bound-nil : (ps : List Name) → bound ps [] ≡ []
 bound-nil [] = refl

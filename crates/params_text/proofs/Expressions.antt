@@ -3,6 +3,7 @@ use Rattle.std.proofs.Common.{◌≡◌, ℕ, zero, suc, ◌<◌, ◌≤◌, Som
 use Rattle.std.specs.Prelude.{codes, ◌&&◌, nat_le}
 use Rattle.std.specs.List.{list_all}
 use Rattle.std.proofs.lemmas.Bool.{and_parts}
+use Rattle.text_forms.proofs.Symbols.{value_is}
 use Rattle.work_code.specs.declared.expr.BinOp.{BinOp}
 use Rattle.work_code.specs.declared.expr.BinOp.TheVariants as op
 use Rattle.work_text.specs.declared.sign.Symbol.{Symbol}
@@ -16,7 +17,6 @@ use Rattle.streamit_text.specs.Tree.{Expression, depth_of}
 use Rattle.streamit_text.specs.Tree as tree
 use Rattle.text_forms.specs.Levels.{level_of, form_of, operator}
 use Rattle.text_forms.specs.Levels as levels
-use Rattle.text_forms.specs.Parse.{is_value}
 use Rattle.text_forms.specs.declared.form.Form.TheVariants as form
 use Rattle.text_blocks.specs.Seven as grammar
 use Rattle.streamit_text.specs.Expressions.{sign_before, marked, syntax, IsExpression}
@@ -95,10 +95,6 @@ told-piece (tree.Bin o a b) h =
 
 -- IT IS IN THE GRAMMAR
 
--- a number that is small enough is a value
-pub value-true : (n : ℕ) → n ≤ 9223372036854775807 → is_value n ≡ true
-value-true n h = grind arith
-
 some_depth : (t : Expression) → 0 < depth_of t
 some_depth (tree.Number v) = omega arith
 some_depth (tree.Name n) = omega arith
@@ -150,7 +146,7 @@ signed n x p t ts is h = up n 6 1 (marked p t) (symbol x ∷ ts) (levels.prefix 
 
 told-says : (t : Expression) (n : ℕ) → IsToldTree t → depth_of t ≤ n → Says n 0 t (expr_toks t)
 told-says t zero h d = absurd (let e = some_depth t in omega arith)
-told-says (tree.Number v) (suc n) h d = levels.leaf (suc n) (tree.Number v) (expr_toks (tree.Number v)) (rule.number (suc n) v (value-true v h))
+told-says (tree.Number v) (suc n) h d = levels.leaf (suc n) (tree.Number v) (expr_toks (tree.Number v)) (rule.number (suc n) v (value_is v h))
 told-says (tree.Name w) (suc n) h d = levels.leaf (suc n) (tree.Name w) (expr_toks (tree.Name w)) (rule.name (suc n) w h)
 told-says (tree.Peek t) (suc n) h d =
     levels.call n (name (codes "peek")) sign.Peek t (expr_toks t) refl (looser n t (expr_toks t) (told-says t n h (omega arith)) 7)

@@ -1,9 +1,8 @@
 -- The steps by which code reads lists.
-use Rattle.std.proofs.Common.{◌≡◌, ℕ, suc, ◌<◌, ◌≤◌, ◌+◌, Bool, true, false, cond, List, [], ◌∷◌, ◌++◌, length, map, Some, None, refl, sym, ap, ◌∙◌, arith, length-append, nat_le}
+use Rattle.std.proofs.Common.{◌≡◌, ℕ, ◌<◌, ◌≤◌, ◌+◌, Bool, true, false, cond, List, [], ◌∷◌, ◌++◌, length, map, Some, None, refl, sym, ap, ◌∙◌, arith, length-append, nat_le}
 use Rattle.std.proofs.lemmas.Bool.Decides.{nat_tests}
 use Rattle.std.proofs.lemmas.List.{map-append}
 use Rattle.work_text.specs.Tok.{Tok}
-use Rattle.work_text.specs.declared.sign.Symbol.{Symbol}
 use Rattle.work_text.specs.declared.sign.Symbol.TheVariants as s
 use Rattle.text_forms.specs.Parse as parse
 use Rattle.text_forms.specs.Repeat.{repeated}
@@ -11,7 +10,7 @@ use Rattle.text_forms.specs.Tail.{tail}
 use Rattle.text_forms.proofs.Exact.{Exact}
 use Rattle.text_forms.proofs.Many.{comma-more, comma-next, comma-stop, comma-bad, many-shortens}
 use Rattle.text_forms.proofs.Repeat.{repeated-next, repeated-stop, repeated-fail}
-use Rattle.text_forms.proofs.Symbols.{begins_with-is}
+use Rattle.text_forms.proofs.Symbols.{taken-shorter}
 use Rattle.streamit_text.specs.Tree.{Expression, expression}
 use Rattle.streamit_text.specs.declared.tree.Expr.{Expr}
 use Rattle.params_text.specs.declared.program.Step as made
@@ -37,10 +36,6 @@ shorter x ts us v e =
     let f = x.sound ts v us e in
     let size : length ts ≡ length f.front + length us = ap length f.is ∙ length-append f.front us in
     omega arith
-
--- a symbol that is taken
-pub taken-shorter : (x : Symbol) (ts : List Tok) → parse.begins_with x ts ≡ true → length (tail ts) < length ts
-taken-shorter x ts e = let size : length ts ≡ suc (length (tail ts)) = ap length (begins_with-is x ts e) in omega arith
 
 -- PARAMETERS
 

@@ -3,7 +3,7 @@ use Rattle.std.proofs.Common.{◌≡◌, ℕ, zero, suc, ◌+◌, ◌≤◌, ◌
 use Rattle.std.specs.Prelude.{codes, ◌&&◌}
 use Rattle.std.specs.Str.{bytes_eq}
 use Rattle.std.specs.List.{list_any, list_all}
-use Rattle.std.proofs.lemmas.Bool.{and_parts}
+use Rattle.std.proofs.lemmas.Bool.{and_parts, not-true}
 use Rattle.work_text.specs.declared.sign.Symbol.TheVariants as s
 use Rattle.work_text.specs.Tok.{Tok, name, symbol}
 use Rattle.work_text.specs.Lexis as lexis
@@ -30,10 +30,6 @@ use Rattle.params_text.proofs.Expressions.{own_plain, own_text, pop_is, round, t
 
 -- A NAME IS NO KEYWORD
 
-not_false : (b : Bool) → not b ≡ true → b ≡ false
-not_false true h = absurd (cc h)
-not_false false h = refl
-
 or_parts : (a b : Bool) → a || b ≡ false → (a ≡ false) × (b ≡ false)
 or_parts true b h = absurd (cc h)
 or_parts false b h = (refl, h)
@@ -57,7 +53,7 @@ no_keyword n h =
     let none = list_any (λ word. bytes_eq n word) (keywords) in
     let p = and_parts (is_short 40 n) (list_all (λ c. not (c == 64)) n && not none) h in
     let q = and_parts (list_all (λ c. not (c == 64)) n) (not none) p.1 in
-    not_false none q.1
+    not-true none q.1
 
 pub own_no_word : (n : List ℕ) → IsOwnName n → IsNoWord n
 own_no_word n h =

@@ -1,6 +1,7 @@
 -- Units that are written out are read as themselves.
 use Rattle.std.proofs.Common.{◌≡◌, ℕ, zero, suc, ◌≤◌, Option, Some, None, true, List, [], ◌∷◌, ◌++◌, refl, ap, ◌∙◌, arith, inl, inr, append_assoc}
 use Rattle.std.specs.Prelude.{codes}
+use Rattle.text_forms.proofs.Symbols.{value_is}
 use Rattle.work_text.specs.declared.sign.Symbol.TheVariants as s
 use Rattle.work_text.specs.Tok.{Tok, name, number, symbol}
 use Rattle.work_text.specs.Lexis as lexis
@@ -14,7 +15,7 @@ use Rattle.work_text.proofs.Insides.{plain-Semicolon, plain-Comma}
 use Rattle.params_text.specs.Toks.{block_toks, field_toks, fields_toks, init_toks, rate_toks, rates_toks, work_toks, prework_toks, filter_toks, add_toks, other_toks, adds_toks, more_numbers, numbers_toks, weights_toks, dealing_toks, split_toks, join_toks, kind_word, inner_toks, unit_toks}
 use Rattle.params_text.specs.Told.{IsOwnName, AreOwnNames, IsToldRate, IsToldOptional, IsToldWork, IsToldPrework, IsToldFilter, AreToldAdds, AreToldNumbers, AreToldWeights, IsToldDealing, IsToldBody, IsToldUnit}
 use Rattle.params_text.proofs.Good.{IsPiece, piece-nothing, piece-then, piece-symbol, piece-name, piece-number, piece-last}
-use Rattle.params_text.proofs.Expressions.{own_text, pop_is, peek_is, round, value-true}
+use Rattle.params_text.proofs.Expressions.{own_text, pop_is, peek_is, round}
 use Rattle.params_text.proofs.Statements.{int_is, push_is, block-piece, block-formed, plain-formed}
 
 init_is : is_name_text (codes "init") ≡ true
@@ -284,7 +285,7 @@ adds-formed n a h = record {
 }
 
 weight-formed : (n : ℕ) → n ≤ 9223372036854775807 → Weight n (number n ∷ [])
-weight-formed n h = record { passes = value-true n h; formed = refl }
+weight-formed n h = record { passes = value_is n h; formed = refl }
 
 more-formed : (ns : List ℕ) → AreToldNumbers ns → Many (After (s.Comma ∷ []) Weight) ns (more_numbers ns)
 more-formed [] h = refl

@@ -1,7 +1,8 @@
 -- Searches along a list, one element at a time.
 use Rattle.std.proofs.Common.{◌≡◌, ℕ, ◌+◌, ◌<◌, ◌≤◌, List, [], ◌∷◌, ◌++◌, Option, Some, None, length, take, drop, get_or, map, refl, sym, ap, subst, inl, inr}
 use Rattle.std.proofs.Common.{◌∙◌, arith}
-use Rattle.std.proofs.lemmas.List.{take_more, drop_more, drop_all, map-append, length-take-le, get_or_default}
+use Rattle.std.proofs.lemmas.List.{take_more, drop_more, drop_all, length-take-le, get_or_default}
+use Rattle.river_base.proofs.Lists.{map_more, map_next}
 use Rattle.river_plan.specs.First.{OrElse, Unless, Along, IsFirst}
 
 -- what is found from place i on is what is found in the whole list
@@ -55,19 +56,12 @@ pub record RemainsBy {A B C : Type 0} (f : C → A) (s : List A → A → Option
 pub remains_by-start : {A B C : Type 0} (f : C → A) (s : List A → A → Option B → Type 0) (xs : List C) → RemainsBy f s xs 0
 remains_by-start f s xs = record { rest = λ o h. h }
 
-mapped_drop : {A C : Type 0} (f : C → A) (xs : List C) (i : ℕ) (x : C) → i < length xs → x ≡ get_or xs i x → map f (drop i xs) ≡ f x ∷ map f (drop (i + 1) xs)
-mapped_drop f xs i x lt e = ap (map f) (drop_more xs i x lt ∙ ap (λ y. y ∷ drop (i + 1) xs) (sym e))
-
-mapped_take : {A C : Type 0} (f : C → A) (xs : List C) (i : ℕ) (x : C) → i < length xs → x ≡ get_or xs i x
-    → map f (take (i + 1) xs) ≡ map f (take i xs) ++ f x ∷ []
-mapped_take f xs i x lt e = ap (map f) (take_more xs i x lt ∙ ap (λ y. take i xs ++ y ∷ []) (sym e)) ∙ map-append f (take i xs) (x ∷ [])
-
 -- nothing was found here: the search goes on
 pub remains_by-next : {A B C : Type 0} (f : C → A) (s : List A → A → Option B → Type 0) (xs : List C) (i : ℕ) (x : C) → i < length xs → x ≡ get_or xs i x
     → s (map f (take i xs)) (f x) None → RemainsBy f s xs i → RemainsBy f s xs (i + 1)
 remains_by-next {B = B} f s xs i x lt e n r = record {
-  rest = λ o h. r.rest o (subst (λ l. Along s (map f (take i xs)) l o) (sym (mapped_drop f xs i x lt e))
-      (skipped o (subst (λ l. Along s l (map f (drop (i + 1) xs)) o) (mapped_take f xs i x lt e) h)));
+  rest = λ o h. r.rest o (subst (λ l. Along s (map f (take i xs)) l o) (sym (map_next f xs i x lt e))
+      (skipped o (subst (λ l. Along s l (map f (drop (i + 1) xs)) o) (map_more f xs i x lt e) h)));
 }
   where
     skipped : (o : Option B) → Along s (map f (take i xs) ++ f x ∷ []) (map f (drop (i + 1) xs)) o
@@ -79,7 +73,7 @@ remains_by-next {B = B} f s xs i x lt e n r = record {
 pub remains_by-found : {A B C : Type 0} (f : C → A) (s : List A → A → Option B → Type 0) (xs : List C) (i : ℕ) (x : C) (b : B) → i < length xs
     → x ≡ get_or xs i x → s (map f (take i xs)) (f x) (Some b) → RemainsBy f s xs i → Along s [] (map f xs) (Some b)
 remains_by-found f s xs i x b lt e g r =
-    r.rest (Some b) (subst (λ l. Along s (map f (take i xs)) l (Some b)) (sym (mapped_drop f xs i x lt e)) (inl g))
+    r.rest (Some b) (subst (λ l. Along s (map f (take i xs)) l (Some b)) (sym (map_next f xs i x lt e)) (inl g))
 
 -- nothing was found
 pub remains_by-end : {A B C : Type 0} (f : C → A) (s : List A → A → Option B → Type 0) (xs : List C) (i : ℕ) → length xs ≤ i → RemainsBy f s xs i

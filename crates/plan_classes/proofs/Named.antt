@@ -2,8 +2,8 @@
 use Rattle.std.proofs.Common.{◌≡◌, ℕ, zero, suc, ◌+◌, ◌<◌, ◌≤◌, ◌^◌, ℤ, pos, List, [], ◌∷◌, ◌++◌, Some, length, map, cond, slice_index_or, refl, sym, ap, ◌∙◌, arith}
 use Rattle.std.specs.Prelude.{nat_lt, slice_get}
 use Rattle.std.specs.List.{AllByRecursion}
-use Rattle.std.proofs.lemmas.List.{map-append}
-use Rattle.river_base.proofs.Options.{some_is}
+use Rattle.std.proofs.lemmas.List.{map-append, length-map}
+use Rattle.std.proofs.lemmas.Option.{same_Some}
 use Rattle.river_kernels.specs.declared.limit.Limit.TheVariants.{Operators, Variables}
 use Rattle.river_plan.specs.Forms.{Name, OpForm, PlanForm, table_names, variable_names}
 use Rattle.river_plan.specs.Names.{count}
@@ -62,22 +62,17 @@ pub users_named : (p : PlanForm) → IsPlan p → (i : ℕ) (d : TableDecl) → 
 users_named p valid i d lt =
     let many = long p.tables p.vars in
     let at = name_at (variable_names p) valid.variables_once [] (variable_names p) i refl (omega (arith, lt, many)) in
-    let same : at.0 ≡ (slice_index_or p.tables i d).name = some_is at.0 (slice_index_or p.tables i d).name (sym at.1 ∙ named_table p.tables p.vars i d lt) in
+    let same : at.0 ≡ (slice_index_or p.tables i d).name = same_Some at.0 (slice_index_or p.tables i d).name (sym at.1 ∙ named_table p.tables p.vars i d lt) in
     let here : place (variable_names p) at.0 ≡ i = (let e = at.3 in omega (arith, e)) in
     ap (λ (k : ℕ). map pos (users_from 0 (var_places p) k)) (sym here)
     ∙ (named (variable_names p) at.0 at.2 p.ops 0 valid.vars_apart ∙ ap (λ (v : Name). having v 0 p.ops) same)
-
--- a list that is mapped has as many elements
-pub map-length : {A B : Type 0} (f : A → B) (xs : List A) → length (map f xs) ≡ length xs
-map-length f [] = refl
-map-length f (x ∷ xs) = ap suc (map-length f xs)
 
 -- a plan has few operators, and few tables
 pub few_users : (p : PlanForm) → IsPlan p → (i k d : ℕ) → k < length (users_from 0 (var_places p) i)
     → slice_index_or (users_from 0 (var_places p) i) k d < 2 ^ 63
 few_users p valid i k d lt =
     let few : length p.ops ≤ 256 = valid.within Operators 0 0 (omega arith) in
-    let many : length (var_places p) ≡ length p.ops = map-length (λ (op : OpForm). places (variable_names p) op.vars) p.ops in
+    let many : length (var_places p) ≡ length p.ops = length-map p.ops (λ (op : OpForm). places (variable_names p) op.vars) in
     let small = all_small (0 + length (var_places p)) (users_from 0 (var_places p) i) (users_below 0 (var_places p) i) k d lt in
     omega (arith, few, many, small)
 

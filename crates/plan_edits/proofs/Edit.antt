@@ -1,6 +1,8 @@
 -- Two operators (or one) are taken out of a plan, and others are put in the place of the first.
 use Rattle.std.proofs.Common.{◌≡◌, ℕ, ◌+◌, ◌<◌, ◌≤◌, Bool, Some, ℤ, List, [], ◌∷◌, ◌++◌, refl, sym, ap, ◌∙◌, subst, arith, ⊎_elim}
 use Rattle.std.specs.Prelude.{count_by}
+use Rattle.river_plan.proofs.ValidLaw.{total-append}
+use Rattle.river_base.proofs.PlaceLemmas.{if_lt, if_ge}
 use Rattle.river_plan.specs.Forms.{Name, OpForm, PlanForm, decl_names}
 use Rattle.river_plan.specs.Names.{count}
 use Rattle.river_plan.specs.Uses.{Each, total, writes_it, reads_it, ReadsBefore}
@@ -8,11 +10,11 @@ use Rattle.river_plan.specs.Valid.{IsPlan}
 use Rattle.river_plan.proofs.NameLemmas.{more_or_zero}
 use Rattle.river_plan.proofs.ShareLemmas.{each_append, each_front, each_back}
 use Rattle.brooklet_model.specs.Histories.{History, histories, adds, Solves}
-use Rattle.brooklet_model.proofs.Lists.{if_lt, if_ge, funext}
+use Rattle.brooklet_model.proofs.Lists.{funext}
 use Rattle.brooklet_model.proofs.Solutions.{plan_solves, plan_unique}
 use Rattle.brooklet_model.proofs.Traces.{adds_it, adds_total}
 use Rattle.plan_edits.specs.Lists.{first_with, replaced}
-use Rattle.plan_edits.proofs.Surgery.{total-append, after, before_more, before_append, before_front, before_back, unread, found, first_past, all_agree}
+use Rattle.plan_edits.proofs.Surgery.{after, before_more, before_append, before_front, before_back, unread, found, first_past, all_agree}
 use Rattle.plan_edits.proofs.Surgery.{adds_it_same}
 
 -- two runs of operators are taken out, and others are put in the place of the first

@@ -1,6 +1,6 @@
 -- Types of queues and kinds of variables, looked up by name.
 use Rattle.std.proofs.Common.{◌≡◌, ℕ, ◌<◌, Some, None, List, [], ◌∷◌, ◌++◌, refl, sym, ap, ◌∙◌, subst, arith, ⊎_elim, map}
-use Rattle.std.specs.Prelude.{Bool, true, false, Option, if◌then◌else◌, All, unwrap_or, IsTrue}
+use Rattle.std.specs.Prelude.{if◌then◌else◌, All, unwrap_or, IsTrue}
 use Rattle.std.proofs.lemmas.List.Elements.{All-head, All-tail}
 use Rattle.river_base.specs.Name.{name_eq}
 use Rattle.river_kernels.specs.Limits.{either}
@@ -12,15 +12,12 @@ use Rattle.river_plan.specs.Forms.{Name, decl_names, table_names}
 use Rattle.river_plan.specs.Names.{count, one_if}
 use Rattle.river_plan.specs.Kinds.{kind_in, kind_of, table_in, table_width, private_in, var_kind}
 use Rattle.river_plan.proofs.NameLemmas.{cases_name}
-use Rattle.brooklet_model.proofs.Lists.{if_true, if_false}
 use Rattle.brooklet_model.proofs.Solutions.{count_here}
 use Rattle.std.proofs.lemmas.List.{map-append}
+use Rattle.river_plan.proofs.WiredLemmas.{if_either}
+use Rattle.river_base.proofs.PlaceLemmas.{if_true, if_false}
 use Rattle.river_kernels.specs.Formed.{is_width}
 use Rattle.river_plan.specs.Faults.{HasWidth, type_width}
-
-if_either : {A : Type 0} (b : Bool) (x : A) (o p : Option A) → (if b then Some x else either o p) ≡ either (if b then Some x else o) p
-if_either true x o p = refl
-if_either false x o p = refl
 
 -- the type of a name in two lists of declarations: the first that has it
 pub kind_in-append : (xs ys : List Decl) (q : Name) → kind_in (xs ++ ys) q ≡ either (kind_in xs q) (kind_in ys q)
@@ -61,23 +58,6 @@ private_there (w ∷ vs) v lt = ⊎_elim
 -- the names of two lists of declarations
 pub names_append : (xs ys : List Decl) → decl_names (xs ++ ys) ≡ decl_names xs ++ decl_names ys
 names_append xs ys = map-append (λ (d : Decl). d.name) xs ys
-
--- a name that is declared does not see later declarations
-pub kind_front : (xs ys : List Decl) (q : Name) → 0 < count q (decl_names xs) → kind_in (xs ++ ys) q ≡ kind_in xs q
-kind_front [] ys q lt = absurd (omega (arith, lt))
-kind_front (x ∷ xs) ys q lt = ⊎_elim
-    (λ c. if_true (name_eq x.name q) (Some x.kind) (kind_in (xs ++ ys) q) c.1 ∙ sym (if_true (name_eq x.name q) (Some x.kind) (kind_in xs q) c.1))
-    (λ c. if_false (name_eq x.name q) (Some x.kind) (kind_in (xs ++ ys) q) c.1 ∙ kind_front xs ys q (let e = ap one_if c.1 in omega (arith, e, lt))
-    ∙ sym (if_false (name_eq x.name q) (Some x.kind) (kind_in xs q) c.1))
-    (cases_name x.name q)
-
--- a name that is not declared sees the later declarations alone
-pub kind_back : (xs ys : List Decl) (q : Name) → count q (decl_names xs) ≡ 0 → kind_in (xs ++ ys) q ≡ kind_in ys q
-kind_back [] ys q z = refl
-kind_back (x ∷ xs) ys q z = ⊎_elim
-    (λ c. absurd (let e = ap one_if c.1 in omega (arith, e, z)))
-    (λ c. if_false (name_eq x.name q) (Some x.kind) (kind_in (xs ++ ys) q) c.1 ∙ kind_back xs ys q (omega (arith, z)))
-    (cases_name x.name q)
 
 -- a queue that is declared has a width
 pub kind_sized : (ds : List Decl) (q : Name) → All HasWidth ds → 0 < count q (decl_names ds) → IsTrue (is_width (type_width (kind_of ds q)))

@@ -1,17 +1,17 @@
 -- Loops over operators.
 use Rattle.std.proofs.Common.{◌≡◌, ℕ, zero, suc, ◌+◌, ◌<◌, ◌≤◌, Some, None, List, [], ◌∷◌, ◌++◌, length, take, get_or, refl, sym, ap, ◌∙◌, arith}
 use Rattle.std.proofs.lemmas.List.{map-append}
+use Rattle.river_plan.proofs.ValidLaw.{total-append}
+use Rattle.river_base.proofs.PlaceLemmas.{if_lt, if_ge}
+use Rattle.river_base.proofs.Lists.{take_next}
 use Rattle.river_plan.specs.declared.op.Op.{Op}
 use Rattle.river_plan.specs.Forms.{OpForm, op_form, op_forms}
 use Rattle.river_plan.specs.Uses.{total}
-use Rattle.brooklet_model.proofs.Lists.{if_lt, if_ge}
 use Rattle.plan_edits.specs.Lists.{first_with}
-use Rattle.plan_edits.proofs.Surgery.{total-append}
-use Rattle.plan_edits.proofs.NameLoops.{next_take}
 
 -- one operator more
 pub forms_next : (xs : List Op) (i : ℕ) (x : Op) → i < length xs → x ≡ get_or xs i x → op_forms (take (i + 1) xs) ≡ op_forms (take i xs) ++ op_form x ∷ []
-forms_next xs i x lt e = ap op_forms (next_take xs i x lt e) ∙ map-append op_form (take i xs) (x ∷ [])
+forms_next xs i x lt e = ap op_forms (take_next xs i x lt e) ∙ map-append op_form (take i xs) (x ∷ [])
 
 -- an operator at which the number is 0
 pub total_next : (f : OpForm → ℕ) (xs : List Op) (i : ℕ) (x : Op) → i < length xs → x ≡ get_or xs i x → f (op_form x) ≡ 0 → total f (op_forms (take i xs)) ≡ 0

@@ -6,16 +6,13 @@ use Rattle.river_plan.specs.Names.{count}
 use Rattle.river_plan.specs.Uses.{Each, total, writes_it, reads_it, and_writes, ReadsBefore, named_it}
 use Rattle.river_plan.proofs.NameLemmas.{more_or_zero}
 use Rattle.brooklet_model.specs.Histories.{History, given_on, joined, tables_of, adds, Lists, Solves}
-use Rattle.brooklet_model.proofs.Lists.{if_lt, if_ge}
 use Rattle.brooklet_model.proofs.Solutions.{given_same}
 use Rattle.plan_edits.specs.Lists.{first_with}
 use Rattle.std.specs.Prelude.{count_by}
+use Rattle.std.proofs.lemmas.Option.{same_Some}
+use Rattle.river_plan.proofs.ValidLaw.{total-append}
+use Rattle.river_base.proofs.PlaceLemmas.{if_lt, if_ge}
 use Rattle.brooklet_model.proofs.Traces.{adds_it, adds_total, lists_agree}
-
--- a sum over two lists of operators
-pub total-append : (f : OpForm → ℕ) (xs ys : List OpForm) → total f (xs ++ ys) ≡ total f xs + total f ys
-total-append f [] ys = omega arith
-total-append f (x ∷ xs) ys = let e = total-append f xs ys in omega (arith, e)
 
 -- what is known after these operators
 abbrev pub after : (Name → ℕ) → List OpForm → Name → ℕ
@@ -64,16 +61,12 @@ pub record Found (f : OpForm → ℕ) (ops : List OpForm) (op : OpForm) : Type 0
   pub has : 0 < f op
   pub none : total f before ≡ 0
 
--- two operators that are the same option are the same
-pub some_op : (a b : OpForm) → Some a ≡ Some b → a ≡ b
-some_op a b e = cc
-
 -- what is found stands there
 pub found : (f : OpForm → ℕ) (ops : List OpForm) (op : OpForm) → first_with f ops ≡ Some op → Found f ops op
 found f [] op h = absurd (cc h)
 found f (x ∷ xs) op h = ⊎_elim
     (λ lt.
-    let e : x ≡ op = some_op x op (sym (if_lt 0 (f x) (Some x) (first_with f xs) lt) ∙ h) in
+    let e : x ≡ op = same_Some x op (sym (if_lt 0 (f x) (Some x) (first_with f xs) lt) ∙ h) in
     record { before = []; behind = xs; is = ap (λ o. o ∷ xs) e; has = subst (λ o. 0 < f o) e lt; none = refl })
     (λ ge.
     let r = found f xs op (sym (if_ge 0 (f x) (Some x) (first_with f xs) ge) ∙ h) in

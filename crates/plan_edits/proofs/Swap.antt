@@ -1,16 +1,18 @@
 -- One operator gives way to others.
 use Rattle.std.proofs.Common.{◌≡◌, ℕ, ◌+◌, ◌<◌, ◌≤◌, Bool, List, [], ◌∷◌, ◌++◌, ℤ, refl, sym, ap, ◌∙◌, subst, arith}
 use Rattle.std.specs.Prelude.{count_by}
+use Rattle.river_plan.proofs.ValidLaw.{total-append}
+use Rattle.river_base.proofs.PlaceLemmas.{if_lt, if_ge}
 use Rattle.river_plan.specs.Forms.{Name, OpForm, PlanForm}
 use Rattle.river_plan.specs.Names.{count}
 use Rattle.river_plan.specs.Uses.{Each, total, writes_it, reads_it, named_it, and_writes, ReadsBefore}
 use Rattle.river_plan.specs.Valid.{IsPlan}
 use Rattle.brooklet_model.specs.Histories.{History, histories, adds, Solves}
-use Rattle.brooklet_model.proofs.Lists.{if_lt, if_ge, funext}
+use Rattle.brooklet_model.proofs.Lists.{funext}
 use Rattle.brooklet_model.proofs.Solutions.{plan_solves, plan_unique}
 use Rattle.brooklet_model.proofs.Traces.{adds_it, adds_total}
 use Rattle.plan_edits.specs.Lists.{swapped}
-use Rattle.plan_edits.proofs.Surgery.{total-append, after, before_more, before_append, before_front, before_back, Found, all_agree, adds_it_same}
+use Rattle.plan_edits.proofs.Surgery.{after, before_more, before_append, before_front, before_back, Found, all_agree, adds_it_same}
 use Rattle.river_plan.proofs.ShareLemmas.{each_append, each_front, each_back}
 
 -- operators of other labels stay

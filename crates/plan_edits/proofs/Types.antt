@@ -3,6 +3,7 @@ use Rattle.std.proofs.Common.{◌≡◌, ℕ, suc, ◌+◌, ◌<◌, ◌≤◌, 
 use Rattle.std.specs.Prelude.{if◌then◌else◌, All, filter, flat_map, unwrap_or}
 use Rattle.std.proofs.lemmas.Bool.{cases_lt}
 use Rattle.std.proofs.lemmas.List.Elements.{All-head, All-tail, All-cons, All-nil, All-append}
+use Rattle.river_base.proofs.PlaceLemmas.{if_lt, if_ge, if_true, if_false}
 use Rattle.river_base.specs.Name.{name_eq}
 use Rattle.river_base.specs.declared.kind.QueueType.{QueueType}
 use Rattle.river_kernels.specs.Limits.{either}
@@ -17,7 +18,6 @@ use Rattle.river_plan.specs.Uses.{Each, total, writes_it, reads_it}
 use Rattle.river_plan.specs.Kinds.{kind_in, kind_of, private_in, var_kind, FitsAt}
 use Rattle.river_plan.proofs.NameLemmas.{cases_name, count-append}
 use Rattle.plan_edits.proofs.Lookups.{kind_in-append}
-use Rattle.brooklet_model.proofs.Lists.{if_true, if_false, if_lt, if_ge}
 use Rattle.brooklet_model.proofs.Solutions.{count_here}
 use Rattle.brooklet_model.proofs.Ports.{tables_in}
 use Rattle.plan_edits.specs.Lists.{undeclared}

@@ -1,5 +1,5 @@
 -- Instants rise, and are the timestamps of the files.
-use Rattle.std.proofs.Common.{◌≡◌, ℤ, true, false, List, [], refl, ap, ◌∙◌, arith}
+use Rattle.std.proofs.Common.{◌≡◌, ℤ, false, List, [], refl, ap, ◌∙◌, arith}
 use Rattle.std.specs.Cmp.{IsStrictWeakOrder}
 use Rattle.std.specs.List.{Contains, dedup}
 use Rattle.std.specs.List.Sorted.{IsPermutation, IsSorted, IsStrictlySortedBy}
@@ -9,6 +9,7 @@ use Rattle.std.proofs.lemmas.Cmp.{int_cmp_total, int_eq_equiv}
 use Rattle.std.proofs.lemmas.List.Filters.{dedup_is}
 use Rattle.std.proofs.lemmas.List.Kept.{IsStrictlySortedBy-dedup, Contains-dedup, Contains-from_dedup}
 use Rattle.std.proofs.lemmas.List.Sorted.{ranks_by, Contains-permutation, IsPermutation-sym}
+use Rattle.river_base.proofs.Tests.{int_eq_by}
 use Rattle.river_base.specs.Bags.{ascending}
 use Rattle.river_base.specs.Instants.{earlier, each_once}
 use Rattle.river_base.proofs.Ascending as order
@@ -19,9 +20,6 @@ earlier_ranked = ranks_by int_cmp_total (λ x. x)
 apart : (t u : ℤ) → earlier t u ≡ false → earlier u t ≡ false → t ≡ u
 apart t u h g = grind (arith, h, g)
 
-same : (t u : ℤ) → int_eq t u ≡ true → t ≡ u
-same t u h = grind (arith, h)
-
 -- each value once: they rise
 pub once_rises : (ts : List ℤ) → IsStrictlySortedBy int_cmp (each_once ts)
 once_rises ts = IsStrictlySortedBy-dedup int_cmp_total (λ x y. refl) (ascending earlier ts) (order.ascending_ascends earlier earlier_ranked apart ts)
@@ -29,7 +27,7 @@ once_rises ts = IsStrictlySortedBy-dedup int_cmp_total (λ x y. refl) (ascending
 -- and they are the values
 pub once_has : (ts : List ℤ) (t : ℤ) → Contains ts t → Contains (each_once ts) t
 once_has ts t h =
-    Contains-dedup int_eq_equiv same (ascending earlier ts) t
+    Contains-dedup int_eq_equiv int_eq_by (ascending earlier ts) t
     (Contains-permutation ts (ascending earlier ts) t (order.ascending_bag earlier earlier_ranked apart ts) h)
 
 -- an instant of the list is one of those that are kept once

@@ -6,6 +6,7 @@ pub mod HeldLemmas
 pub mod Instants
 pub mod Keyed
 pub mod KeyedLookups
+pub mod Lists
 pub mod LoopLemmas
 pub mod NameLemmas
 pub mod NumberLemmas
@@ -14,3 +15,4 @@ pub mod OrderLemmas
 pub mod PlaceLemmas
 pub mod RowLemmas
 pub mod Rows
+pub mod Tests

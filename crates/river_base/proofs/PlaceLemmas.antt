@@ -1,11 +1,11 @@
 -- Lists by place that grow, each by what a function gives for its place.
 use Rattle.std.proofs.Common.{◌≡◌, ◌≢◌, ℕ, zero, suc, ◌+◌, ◌<◌, ◌≤◌, List, [], ◌∷◌, ◌++◌, length, refl, sym, ap, ◌∙◌, arith, get_or, append_assoc, nat_lt}
-use Rattle.std.proofs.Common.{⊎_elim, replicate}
-use Rattle.std.specs.Prelude.{if◌then◌else◌, Result, Ok, Err, OnErr}
+use Rattle.std.proofs.Common.{⊎_elim, replicate, Bool, true, false, nat_eq}
+use Rattle.std.specs.Prelude.{if◌then◌else◌, nat_le, Result, Ok, Err, OnErr}
 use Rattle.std.proofs.Math.ListN.{set}
 use Rattle.std.proofs.lemmas.List.{append-nil}
 use Rattle.std.proofs.lemmas.Bool.{cases_lt}
-use Rattle.river_base.specs.Places.{append_at, each_grew, only, none, upto}
+use Rattle.river_base.specs.Places.{append_at, list_at, each_grew, only, none, upto}
 
 pub append_at_set : {A : Type 0} (ls : List (List A)) (n : ℕ) (d : List A) (xs : List A) → n < length ls → set ls n (get_or ls n d ++ xs) ≡ append_at ls n xs
 append_at_set [] n d xs h = refl
@@ -141,3 +141,49 @@ pub each_grew-blanks : {A : Type 0} (n : ℕ) (f : ℕ → List A) (p : ℕ) (d 
 each_grew-blanks zero f p d h = absurd (omega arith)
 each_grew-blanks (suc n) f zero d h = refl
 each_grew-blanks (suc n) f (suc p) d h = each_grew-blanks n (λ q. f (suc q)) p d (omega arith)
+
+-- an `if` whose test is known
+pub if_true : {A : Type 0} (b : Bool) (x y : A) → b ≡ true → (if b then x else y) ≡ x
+if_true b x y h = ap (λ c. if c then x else y) h
+
+pub if_false : {A : Type 0} (b : Bool) (x y : A) → b ≡ false → (if b then x else y) ≡ y
+if_false b x y h = ap (λ c. if c then x else y) h
+
+-- one that asks for equality
+pub if_eq : {A : Type 0} (a b : ℕ) (x y : A) → a ≡ b → (if nat_eq a b then x else y) ≡ x
+if_eq a b x y h = grind arith
+
+pub if_ne : {A : Type 0} (a b : ℕ) (x y : A) → a ≢ b → (if nat_eq a b then x else y) ≡ y
+if_ne a b x y h = grind arith
+
+-- one that asks for at most
+pub if_le : {A : Type 0} (a b : ℕ) (x y : A) → a ≤ b → (if nat_le a b then x else y) ≡ x
+if_le a b x y h = grind arith
+
+pub if_gt : {A : Type 0} (a b : ℕ) (x y : A) → b < a → (if nat_le a b then x else y) ≡ y
+if_gt a b x y h = grind arith
+
+-- no list stands behind the last
+pub list_past : {A : Type 0} (ls : List (List A)) (i : ℕ) → length ls ≤ i → list_at ls i ≡ []
+list_past [] i le = refl
+list_past (l ∷ ls) zero le = absurd (omega (arith, le))
+list_past (l ∷ ls) (suc i) le = list_past ls i (omega (arith, le))
+
+-- what is appended at a port stands there, and nowhere else
+pub append_here : {A : Type 0} (ls : List (List A)) (n : ℕ) (xs : List A) → n < length ls → list_at (append_at ls n xs) n ≡ list_at ls n ++ xs
+append_here [] n xs lt = absurd (omega (arith, lt))
+append_here (l ∷ ls) zero xs lt = refl
+append_here (l ∷ ls) (suc n) xs lt = append_here ls n xs (omega (arith, lt))
+
+pub append_else : {A : Type 0} (ls : List (List A)) (n i : ℕ) (xs : List A) → n ≢ i → list_at (append_at ls n xs) i ≡ list_at ls i
+append_else [] n i xs ne = refl
+append_else (l ∷ ls) zero zero xs ne = absurd (ne refl)
+append_else (l ∷ ls) zero (suc i) xs ne = refl
+append_else (l ∷ ls) (suc n) zero xs ne = refl
+append_else (l ∷ ls) (suc n) (suc i) xs ne = append_else ls n i xs (λ e. ne (ap suc e))
+
+-- at first nothing stands at a port
+pub blank_at : {A : Type 0} (n i : ℕ) → list_at {A = A} (replicate n []) i ≡ []
+blank_at zero i = refl
+blank_at (suc n) zero = refl
+blank_at (suc n) (suc i) = blank_at n i

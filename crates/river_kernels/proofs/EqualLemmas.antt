@@ -2,6 +2,7 @@
 use Rattle.std.proofs.Common.{◌≡◌, true, false, refl, sym, ap, subst, ◌∙◌}
 use Rattle.std.specs.Bool.{Decides}
 use Rattle.std.proofs.lemmas.Bool.{true≢false}
+use Rattle.river_base.proofs.Tests.{eq_by}
 use Rattle.river_base.specs.declared.kind.FlatType.{FlatType}
 use Rattle.river_base.specs.declared.kind.QueueType.{QueueType}
 use Rattle.river_base.specs.declared.kind.FlatType.TheVariants.{Rows, Stream, Relation}
@@ -11,7 +12,7 @@ use Rattle.river_kernels.specs.declared.types.VarKind.TheVariants.{Private, Tabl
 use Rattle.river_base.specs.contracts.kind.QueueTypePartialEq.TheImpl as queue
 use Rattle.river_kernels.specs.contracts.types.VarKindPartialEq.TheImpl as var
 use Rattle.river_kernels.specs.Types.{same_flat, same_type}
-use Rattle.river_kernels.proofs.TypeLemmas.{same_eq, eq_same, type_same, same_type_is}
+use Rattle.river_kernels.proofs.TypeLemmas.{eq_same, type_same, same_type_is}
 
 flat_eq : (t u : FlatType) → (queue.eq-value.it (Flat t) (Flat u) ≡ same_flat t u) × (queue.eq-value.it (Pack t) (Pack u) ≡ same_flat t u)
 flat_eq (Rows m) (Rows n) = (refl, refl)
@@ -41,7 +42,7 @@ var_eq : (a b : VarKind) → var.eq-value.it a b ≡ true → a ≡ b
 var_eq Private Private h = refl
 var_eq Private (Table n) h = absurd (true≢false (sym h))
 var_eq (Table m) Private h = absurd (true≢false (sym h))
-var_eq (Table m) (Table n) h = ap (λ k. Table k) (same_eq m n h)
+var_eq (Table m) (Table n) h = ap (λ k. Table k) (eq_by m n h)
 
 var_same : (a : VarKind) → var.eq-value.it a a ≡ true
 var_same Private = refl

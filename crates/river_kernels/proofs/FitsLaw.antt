@@ -3,6 +3,8 @@ use Rattle.std.proofs.Common.{◌≡◌, ℤ, ℕ, ◌+◌, ◌≤◌, Bool, tru
 use Rattle.std.specs.Prelude.{nat_le, replicate, slice_get}
 use Rattle.std.specs.List.{list_all}
 use Rattle.std.proofs.lemmas.Bool.{and_from, and_parts}
+use Rattle.std.proofs.lemmas.Option.{same_Some}
+use Rattle.river_base.proofs.Tests.{eq_by}
 use Rattle.river_base.specs.declared.kind.FlatType.{FlatType}
 use Rattle.river_base.specs.declared.kind.QueueType.{QueueType}
 use Rattle.river_base.specs.declared.kind.QueueType.TheVariants.{Flat, Pack}
@@ -13,7 +15,7 @@ use Rattle.river_kernels.specs.Kern.{Kern, code, filter, duplicate, deal, collec
 use Rattle.river_kernels.specs.Formed.{is_width, is_term, is_code, is_filter, are_weights, is_window}
 use Rattle.river_kernels.specs.Fits.{Fits, rows, stream, relation, width_of, is_sized, is_bag, ports, are_widths, kept, spliced}
 use Rattle.river_kernels.specs.Types.{given, given_if, on_rows_width, stream_in, relation_in, crossed_types, packed_outs, packed_of, joined_types, behind, fused_types, types_of}
-use Rattle.river_kernels.proofs.TypeLemmas.{eq_same, same_eq, not_some, some_same, gives_if, gives_some, flat_some, rows_some, stream_some, relation_some}
+use Rattle.river_kernels.proofs.TypeLemmas.{eq_same, not_some, gives_if, gives_some, flat_some, rows_some, stream_some, relation_some}
 use Rattle.river_kernels.proofs.TypeLemmas.{flats_some, packs_some, flats_all, packs_all, pair_some}
 
 -- the first part of a test of weights
@@ -72,7 +74,7 @@ record Inside (o : Option Types) (p : Types) : Type 0 where
 inside_outs : (q : Types) (os : List QueueType) (vs : List VarKind) (p : Types) → q.outs ≡ os → q.vars ≡ vs → packed_outs os vs ≡ Some p → Inside (Some q) p
 inside_outs q [] vs p e f h = absurd (not_some h)
 inside_outs q (Flat u ∷ []) [] p e f h =
-    let s : given (Pack u ∷ []) [] ≡ p = some_same h in
+    let s : given (Pack u ∷ []) [] ≡ p = same_Some _ _ h in
     record { within = q; some = refl; type = u; outs = e; vars = f; pack = sym (ap (λ (r : Types). r.outs) s); none = sym (ap (λ (r : Types). r.vars) s) }
 inside_outs q (Flat u ∷ []) (v ∷ vs) p e f h = absurd (not_some h)
 inside_outs q (Pack u ∷ []) vs p e f h = absurd (not_some h)
@@ -98,7 +100,7 @@ behind_joined : (at : ℕ) (q : Types) (m : QueueType) (f : List QueueType → O
     → f (m ∷ []) ≡ o → joined_types at q o ≡ Some p → Behind at (Some q) f p
 behind_joined at q m f None p e g h = absurd (not_some h)
 behind_joined at q m f (Some r) p e g h =
-    let s : given (spliced at q.outs r.outs) (q.vars ++ r.vars) ≡ p = some_same h in
+    let s : given (spliced at q.outs r.outs) (q.vars ++ r.vars) ≡ p = same_Some _ _ h in
     record {
       first = q;
       first_some = refl;
@@ -129,13 +131,13 @@ types_fits (code k) is p h =
     (λ n. given_if (nat_eq n k.body.inputs && (is_width k.body.inputs && (are_widths k.outs && is_code k))) (ports k.outs) (kept k.starts)) p a.some in
     let g = gives_some (nat_eq b.width k.body.inputs && (is_width k.body.inputs && (are_widths k.outs && is_code k))) (ports k.outs) (kept k.starts) p b.some in
     let c = and_parts (nat_eq b.width k.body.inputs) (is_width k.body.inputs && (are_widths k.outs && is_code k)) g.holds in
-    (a.reads ∙ ap (λ t. Flat t ∷ []) b.is ∙ ap (λ n. rows n ∷ []) (same_eq b.width k.body.inputs c.0), g.outs, g.vars, c.1)
+    (a.reads ∙ ap (λ t. Flat t ∷ []) b.is ∙ ap (λ n. rows n ∷ []) (eq_by b.width k.body.inputs c.0), g.outs, g.vars, c.1)
 types_fits (filter f) is p h =
     let a = flat_some is (λ t. on_rows_width t (λ n. given_if (nat_eq n 1 && is_filter f) (rows 1 ∷ []) (Private ∷ []))) p h in
     let b = rows_some a.type (λ n. given_if (nat_eq n 1 && is_filter f) (rows 1 ∷ []) (Private ∷ [])) p a.some in
     let g = gives_some (nat_eq b.width 1 && is_filter f) (rows 1 ∷ []) (Private ∷ []) p b.some in
     let c = and_parts (nat_eq b.width 1) (is_filter f) g.holds in
-    (a.reads ∙ ap (λ t. Flat t ∷ []) b.is ∙ ap (λ n. rows n ∷ []) (same_eq b.width 1 c.0), g.outs, g.vars, c.1)
+    (a.reads ∙ ap (λ t. Flat t ∷ []) b.is ∙ ap (λ n. rows n ∷ []) (eq_by b.width 1 c.0), g.outs, g.vars, c.1)
 types_fits (duplicate n) is p h =
     let a = flat_some is (λ t. given_if (is_sized t && nat_le 1 n) (replicate n (Flat t)) []) p h in
     let g = gives_some (is_sized a.type && nat_le 1 n) (replicate n (Flat a.type)) [] p a.some in

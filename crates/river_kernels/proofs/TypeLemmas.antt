@@ -5,6 +5,9 @@ use Rattle.std.specs.Prelude.{if◌then◌else◌, replicate}
 use Rattle.std.specs.List.{list_all}
 use Rattle.std.proofs.lemmas.Bool.{true≢false, and_from, and_parts}
 use Rattle.std.proofs.lemmas.List.{length-replicate}
+use Rattle.std.proofs.lemmas.Option.{same_Some}
+use Rattle.river_base.proofs.PlaceLemmas.{if_true}
+use Rattle.river_base.proofs.Tests.{eq_by}
 use Rattle.river_base.specs.declared.kind.FlatType.{FlatType}
 use Rattle.river_base.specs.declared.kind.QueueType.{QueueType}
 use Rattle.river_base.specs.declared.kind.FlatType.TheVariants.{Rows, Stream, Relation}
@@ -19,17 +22,9 @@ use Rattle.river_kernels.specs.Types.{MayAnswer}
 pub eq_same : (n : ℕ) → nat_eq n n ≡ true
 eq_same n = grind arith
 
--- numbers that are found equal are equal
-pub same_eq : (m n : ℕ) → nat_eq m n ≡ true → m ≡ n
-same_eq m n h = grind arith
-
 -- nothing is not something
 pub not_some : {A : Type 0} {x : A} → (None ≡ Some x) → ⊥
 not_some {A} {x} h = absurd (cc)
-
--- what stands in equal options is equal
-pub some_same : {A : Type 0} {x y : A} → Some x ≡ Some y → x ≡ y
-some_same {A} {x} {y} h = cc
 
 pub flat_same : (t : FlatType) → same_flat t t ≡ true
 flat_same (Rows n) = eq_same n
@@ -37,15 +32,15 @@ flat_same (Stream n) = eq_same n
 flat_same (Relation n) = eq_same n
 
 pub same_flat_is : (t u : FlatType) → same_flat t u ≡ true → t ≡ u
-same_flat_is (Rows m) (Rows n) h = ap (λ k. Rows k) (same_eq m n h)
+same_flat_is (Rows m) (Rows n) h = ap (λ k. Rows k) (eq_by m n h)
 same_flat_is (Rows m) (Stream n) h = absurd (true≢false (sym h))
 same_flat_is (Rows m) (Relation n) h = absurd (true≢false (sym h))
 same_flat_is (Stream m) (Rows n) h = absurd (true≢false (sym h))
-same_flat_is (Stream m) (Stream n) h = ap (λ k. Stream k) (same_eq m n h)
+same_flat_is (Stream m) (Stream n) h = ap (λ k. Stream k) (eq_by m n h)
 same_flat_is (Stream m) (Relation n) h = absurd (true≢false (sym h))
 same_flat_is (Relation m) (Rows n) h = absurd (true≢false (sym h))
 same_flat_is (Relation m) (Stream n) h = absurd (true≢false (sym h))
-same_flat_is (Relation m) (Relation n) h = ap (λ k. Relation k) (same_eq m n h)
+same_flat_is (Relation m) (Relation n) h = ap (λ k. Relation k) (eq_by m n h)
 
 -- a type is equal to itself
 pub type_same : (t : QueueType) → same_type t t ≡ true
@@ -85,7 +80,7 @@ pub record Gives (b : Bool) (os : List QueueType) (vs : List VarKind) (p : Types
 -- what is given under a condition, where it is given
 pub gives_some : (b : Bool) (os : List QueueType) (vs : List VarKind) (p : Types) → given_if b os vs ≡ Some p → Gives b os vs p
 gives_some true os vs p h =
-    let e : given os vs ≡ p = some_same h in
+    let e : given os vs ≡ p = same_Some _ _ h in
     record { holds = refl; outs = sym (ap (λ (q : Types). q.outs) e); vars = sym (ap (λ (q : Types). q.vars) e) }
 gives_some false os vs p h = absurd (not_some h)
 
@@ -138,7 +133,7 @@ if_some false x f y h = absurd (not_some h)
 many_reads : (n : ℕ) (t : QueueType) (ts : List QueueType) → (nat_eq (length ts + 1) n && list_all (same_type t) ts) ≡ true → t ∷ ts ≡ replicate n t
 many_reads n t ts h =
     let p = and_parts (nat_eq (length ts + 1) n) (list_all (same_type t) ts) h in
-    let e : n ≡ suc (length ts) = omega (arith, same_eq (length ts + 1) n p.0) in
+    let e : n ≡ suc (length ts) = omega (arith, eq_by (length ts + 1) n p.0) in
     ap (λ l. t ∷ l) (all_same_is t ts p.1) ∙ sym (ap (λ k. replicate k t) e)
 
 -- the flat type that all ports read
@@ -156,10 +151,6 @@ packs_some n (Flat t ∷ ts) f p h = absurd (not_some h)
 packs_some n (Pack t ∷ ts) f p h =
     let c = if_some (nat_eq (length ts + 1) n && list_all (same_type (Pack t)) ts) t f p h in
     record { type = t; reads = many_reads n (Pack t) ts c.0; some = c.1 }
-
-if_true : {A : Type 0} (b : Bool) (x y : A) → b ≡ true → (if b then x else y) ≡ x
-if_true true x y h = refl
-if_true false x y h = absurd (true≢false (sym h))
 
 many_test : (m : ℕ) (t : QueueType) → (nat_eq (length (replicate m t) + 1) (suc m) && list_all (same_type t) (replicate m t)) ≡ true
 many_test m t =
@@ -203,7 +194,7 @@ pair_some (t ∷ u ∷ v ∷ vs) f p h = absurd (not_some h)
 
 -- what is inferred may be answered
 pub found_is : (most : ℕ) (o r : Option Types) → r ≡ o → MayAnswer most o r
-found_is most (Some p) (Some r) h = some_same h
+found_is most (Some p) (Some r) h = same_Some _ _ h
 found_is most (Some p) None h = absurd (not_some h)
 found_is most None (Some r) h = absurd (not_some (sym h))
 found_is most None None h = tt

@@ -1,8 +1,8 @@
 -- How the points go on at a fetch.
-use Rattle.std.proofs.Common.{◌≡◌, ℕ, ◌+◌, ◌<◌, ◌≤◌, List, length, true, false, refl, sym, ap, inl, inr, IfSome, arith, nat_lt}
+use Rattle.std.proofs.Common.{◌≡◌, ℕ, ◌+◌, ◌<◌, ◌≤◌, List, length, refl, sym, ap, inl, inr, IfSome, arith}
 use Rattle.std.specs.Prelude.{Option, None, Some, MatchOption, Ok, replicate}
 use Rattle.std.proofs.lemmas.List.{length-replicate}
-use Rattle.std.proofs.lemmas.Bool.Decides.{nat_tests}
+use Rattle.river_base.proofs.Tests.{lt_true, lt_false}
 use Rattle.river_outside.specs.Held.{Held}
 use Rattle.river_outside.specs.Fetched.{FetchesAll, IsLarger}
 use Rattle.river_order.specs.Text.{failed_text, absent_text}
@@ -22,17 +22,11 @@ held_all (Some h) name limit bytes all = some (h name) all
     some None all = absurd all
     some (Some b) all = ap (λ (l : List ℕ). Some l) (sym all.0)
 
-not_over : (limit n : ℕ) → n ≤ limit → nat_lt limit n ≡ false
-not_over limit n le = grind (arith, nat_tests)
-
-over : (limit n : ℕ) → limit < n → nat_lt limit n ≡ true
-over limit n lt = grind (arith, nat_tests)
-
 -- a fetch that gave the bytes comes to the points after it
 pub Comes-fetched : (held : Option Held) (name : List ℕ) (limit : ℕ) (large : List ℕ) (next : List ℕ → Order) (bytes : List ℕ)
     → IfSome held (λ h. FetchesAll (h name) limit bytes) → length bytes ≤ limit → Comes (Fetch name limit large next) held (next bytes)
 Comes-fetched held name limit large next bytes all le =
-    inr (bytes, held_all held name limit bytes all, not_over limit (length bytes) le, Comes-same (next bytes) held)
+    inr (bytes, held_all held name limit bytes all, lt_false limit (length bytes) le, Comes-same (next bytes) held)
 
 -- what decides the later points decides the earlier ones
 cause-sooner : (held : Option Held) (early late : Type 0) → (late → early) → MatchOption held late (λ _. Unit {0}) → MatchOption held early (λ _. Unit {0})
@@ -60,7 +54,7 @@ Stops-later from later held early late sooner stop.NoMemory far here = tt
 -- the fetch found too many bytes
 large_end : (held : Option Held) (name : List ℕ) (limit : ℕ) (large : List ℕ) (next : List ℕ → Order) (bytes : List ℕ) → IfSome held (λ h. h name ≡ Some bytes)
     → limit < length bytes → EndsIn (Fetch name limit large next) held (Refused large)
-large_end held name limit large next bytes is more = (Some bytes, is, rw (over limit (length bytes) more) refl)
+large_end held name limit large next bytes is more = (Some bytes, is, rw (lt_true limit (length bytes) more) refl)
 
 -- a file that is too large is refused
 pub EndsIn-large : (held : Option Held) (name : List ℕ) (limit : ℕ) (large : List ℕ) (next : List ℕ → Order) → IfSome held (λ h. IsLarger (h name) limit)

@@ -6,7 +6,7 @@ use Rattle.std.proofs.Common.{zero, suc, IsTrue, not, length, take, get_or, ◌�
 use Rattle.std.proofs.Common.{ap, ◌∙◌, subst, arith, ⊎_elim}
 use Rattle.std.specs.Prelude.{if◌then◌else◌, nat_lt}
 use Rattle.std.specs.List.{list_any}
-use Rattle.std.proofs.lemmas.Bool.{cases_eq}
+use Rattle.std.proofs.lemmas.Bool.{cases_eq, cases_Bool}
 use Rattle.river_base.specs.Name.{name_eq}
 use Rattle.river_plan.specs.Forms.{Name}
 use Rattle.river_plan.specs.Names.{one_if, count, with_name}
@@ -15,11 +15,6 @@ use Rattle.river_plan.specs.Names.{one_if, count, with_name}
 pub name_same : (a : Name) → name_eq a a ≡ true
 name_same [] = refl
 name_same (x ∷ xs) = let e = name_same xs in grind (arith, e)
-
--- a test is true or false
-pub cases_bool : (b : Bool) → (b ≡ true) ⊎ (b ≡ false)
-cases_bool true = inl refl
-cases_bool false = inr refl
 
 -- names that are found equal are equal
 pub name_is : (a b : Name) → name_eq a b ≡ true → a ≡ b
@@ -41,7 +36,7 @@ pub cases_name : (a b : Name) → ((a ≡ b) × (name_eq a b ≡ true)) ⊎ ((a 
 cases_name a b = ⊎_elim
     (λ t. inl (name_is a b t, t))
     (λ f. inr ((λ e. true_false (sym (subst (λ c. name_eq a c ≡ true) e (name_same a)) ∙ f)), f))
-    (cases_bool (name_eq a b))
+    (cases_Bool (name_eq a b))
 
 -- the test for equal names is symmetric
 pub name_sym : (a b : Name) → name_eq a b ≡ name_eq b a

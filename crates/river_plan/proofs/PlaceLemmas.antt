@@ -4,9 +4,8 @@ use Rattle.std.proofs.Common.{arith, ⊎_elim}
 use Rattle.std.specs.Prelude.{if◌then◌else◌, slice_get, unwrap_or, position}
 use Rattle.std.specs.List.{position_or_len}
 use Rattle.std.proofs.lemmas.List.Recursion.{is_position_or_len}
-use Rattle.std.proofs.lemmas.Option.{slice_get_within}
+use Rattle.std.proofs.lemmas.Option.{slice_get_within, same_Some}
 use Rattle.river_base.specs.Name.{name_eq}
-use Rattle.river_base.proofs.Options.{some_is}
 use Rattle.river_plan.specs.Forms.{Name}
 use Rattle.river_plan.specs.Names.{count, one_if}
 use Rattle.river_plan.specs.Places.{place}
@@ -71,7 +70,7 @@ place_below names q lt = slice_get_within names (place names q) q (place_at name
 
 -- two names that stand there have two places
 pub place_apart : (names : List Name) (w q : Name) → 0 < count w names → 0 < count q names → place names w ≡ place names q → w ≡ q
-place_apart names w q lw lq e = some_is w q (sym (place_at names w lw) ∙ ap (slice_get names) e ∙ place_at names q lq)
+place_apart names w q lw lq e = same_Some w q (sym (place_at names w lw) ∙ ap (slice_get names) e ∙ place_at names q lq)
 
 more : (q : Name) (xs ys : List Name) → 0 < count q xs → 0 < count q (xs ++ ys)
 more q [] ys l = absurd (omega (arith, l))

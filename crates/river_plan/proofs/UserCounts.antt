@@ -4,10 +4,10 @@ use Rattle.std.proofs.Common.{append_assoc, length-append, ⊎_elim}
 use Rattle.std.specs.Prelude.{slice_get, slice_index}
 use Rattle.std.specs.List.{AllByRecursion}
 use Rattle.std.specs.List.Sorted.{IsStrictlyIncreasing}
+use Rattle.std.proofs.lemmas.Option.{same_Some}
 use Rattle.river_base.specs.Name.{name_eq}
 use Rattle.river_base.specs.Places.{only}
 use Rattle.river_base.proofs.PlaceLemmas.{only_same, only_other}
-use Rattle.river_base.proofs.Options.{some_is}
 use Rattle.river_plan.specs.Forms.{Name, OpForm}
 use Rattle.river_plan.specs.Names.{count, one_if}
 use Rattle.river_plan.specs.Uses.{Each, total, vars_it}
@@ -75,7 +75,7 @@ place_there names (x ∷ b) xs r = place_there names b xs r
 place_is : (names : List Name) (w q : Name) → slice_get names (place names w) ≡ Some q → w ≡ q
 place_is [] w q h = absurd (cc h)
 place_is (x ∷ xs) w q h = ⊎_elim
-    (λ c. sym c.0 ∙ some_is x q (sym (ap (slice_get (x ∷ xs)) (place-here x xs w c.1)) ∙ h))
+    (λ c. sym c.0 ∙ same_Some x q (sym (ap (slice_get (x ∷ xs)) (place-here x xs w c.1)) ∙ h))
     (λ c. place_is xs w q (sym (ap (slice_get (x ∷ xs)) (place-past x xs w c.1)) ∙ h))
     (cases_name x w)
 

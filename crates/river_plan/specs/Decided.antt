@@ -5,6 +5,7 @@ use Rattle.std.specs.Cmp.Lexicographic.{pointwise_decides}
 use Rattle.std.proofs.Common.{inl, inr, sym, ap, ◌∙◌, subst, ⊎_elim}
 use Rattle.std.proofs.lemmas.Bool.{cases_eq, cases_lt, true≢false}
 use Rattle.std.proofs.Math.Nat.{not-le_of_lt}
+use Rattle.std.proofs.lemmas.Option.{same_Some}
 use Rattle.river_base.specs.declared.kind.FlatType.TheVariants.{Rows, Stream, Relation}
 use Rattle.river_base.specs.declared.kind.QueueType.{QueueType}
 use Rattle.river_base.specs.declared.kind.QueueType.TheVariants.{Flat, Pack}
@@ -16,7 +17,7 @@ use Rattle.river_kernels.specs.Formed.{is_width}
 use Rattle.river_kernels.specs.Kern.{Kern}
 use Rattle.river_kernels.specs.Fits.{Fits}
 use Rattle.river_kernels.specs.Types.{given, types_of}
-use Rattle.river_kernels.proofs.TypeLemmas.{not_some, some_same}
+use Rattle.river_kernels.proofs.TypeLemmas.{not_some}
 use Rattle.river_kernels.proofs.EqualLemmas.{queue_decides, var_decides}
 use Rattle.river_kernels.proofs.FitsLaw.{fits_types, types_fits}
 use Rattle.river_plan.specs.declared.plan.Decl.{Decl}
@@ -83,7 +84,7 @@ found_decided : (k : Kern) (is os : List QueueType) (vs : List VarKind) (o : Opt
 found_decided k is os vs None e = inr (λ f. not_some (sym e ∙ fits_types k is os vs f))
 found_decided k is os vs (Some t) e = ⊎_elim
     (λ h. inl (subst (Fits k is os) h.1 (subst (λ l. Fits k is l t.vars) h.0 (types_fits k is t e))))
-    (λ n. inr (λ f. let s : t ≡ given os vs = some_same (sym e ∙ fits_types k is os vs f) in n (ap (λ (r : Types). r.outs) s, ap (λ (r : Types). r.vars) s)))
+    (λ n. inr (λ f. let s : t ≡ given os vs = same_Some _ _ (sym e ∙ fits_types k is os vs f) in n (ap (λ (r : Types). r.outs) s, ap (λ (r : Types). r.vars) s)))
     (both_decided (test_decided (pointwise_decides queue_decides t.outs os)) (test_decided (pointwise_decides var_decides t.vars vs)))
 
 pub fit_decided : (p : PlanForm) (op : OpForm) → Decided (IsFit p op)

@@ -4,6 +4,7 @@ use Rattle.std.specs.Prelude.{codes, map, ℤ, pos, negsuc}
 use Rattle.std.specs.Ordering.{int_eq}
 use Rattle.std.specs.Fmt.{decimal, signed_decimal}
 use Rattle.std.proofs.lemmas.Bool.Decides.{Decides-int_eq}
+use Rattle.text_forms.proofs.Symbols.{value_is}
 use Rattle.work_text.specs.Lexis.{most, is_letter, is_word, is_digit}
 use Rattle.work_text.specs.Tok.{Tok, name, number, symbol}
 use Rattle.work_text.specs.declared.sign.Symbol.TheVariants as s
@@ -12,7 +13,7 @@ use Rattle.text_forms.specs.Forms as form
 use Rattle.river_print.specs.Printed.{start_text}
 use Rattle.river_text.specs.Kernels as g
 use Rattle.river_print.specs.Writable as w
-use Rattle.river_print.proofs.PrintedExpr.{natural, is_count-below, is_value-below}
+use Rattle.river_print.proofs.PrintedExpr.{natural, is_count-below}
 use Rattle.work_text.proofs.Insides.{inside-name, inside-number, plain-Minus}
 use Rattle.river_print.proofs.Pieces.{Piece, AllPieces, more_toks, items_toks, symbol-first}
 
@@ -70,7 +71,7 @@ abbrev pub value_tok : ℤ → List Tok
 value_tok z = number (natural z) ∷ []
 
 pub value-formed : (n : ℕ) → n ≤ 9223372036854775807 → form.Value (pos n) (number n ∷ [])
-value-formed n h = record { number = n; fits = is_value-below n h; is = refl; formed = refl }
+value-formed n h = record { number = n; fits = value_is n h; is = refl; formed = refl }
 
 -- a value from 0 on
 pub value-item : (z : ℤ) → w.IsNatural z → Item form.Value signed_decimal value_tok z

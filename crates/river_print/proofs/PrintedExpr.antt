@@ -3,6 +3,7 @@ use Rattle.std.proofs.Common.{◌≡◌, ℕ, zero, suc, ◌<◌, ◌≤◌, Som
 use Rattle.std.specs.Prelude.{ℤ, pos, negsuc, codes}
 use Rattle.std.proofs.lemmas.Bool.Decides.{nat_tests}
 use Rattle.std.specs.Fmt.{decimal}
+use Rattle.text_forms.proofs.Symbols.{value_is}
 use Rattle.work_code.specs.declared.expr.BinOp.{BinOp}
 use Rattle.work_code.specs.declared.expr.BinOp.TheVariants as op
 use Rattle.work_text.specs.declared.sign.Symbol.{Symbol}
@@ -16,7 +17,7 @@ use Rattle.work_text.proofs.Spelled.{Spells, Anything, NoWord, NoSign, MayFollow
 use Rattle.work_text.proofs.Spelled.{spells-name, spells-number, blank_follows, minus_follows, not_follows, decimal-first}
 use Rattle.text_forms.specs.Levels.{level_of, form_of, operator}
 use Rattle.text_forms.specs.Levels as levels
-use Rattle.text_forms.specs.Parse.{is_count, is_value}
+use Rattle.text_forms.specs.Parse.{is_count}
 use Rattle.text_forms.specs.declared.form.Form.TheVariants as form
 use Rattle.text_blocks.specs.Seven as grammar
 use Rattle.text_blocks.specs.declared.sign.Sign.{Sign}
@@ -50,10 +51,6 @@ some_depth (Bin o l r) = omega arith
 -- a number below 2^32 counts something
 pub is_count-below : (n : ℕ) → n < 4294967296 → is_count n ≡ true
 is_count-below n lt = grind (arith, nat_tests)
-
--- a number below 2^63 is a value
-pub is_value-below : (n : ℕ) → n ≤ 9223372036854775807 → is_value n ≡ true
-is_value-below n h = grind (arith, nat_tests)
 
 -- the tokens stand for the expression, on the level above `rank` others
 abbrev Stands : (n rank : ℕ) → Term → List Tok → Type 0
@@ -101,7 +98,7 @@ signed n x p t ts is h = up n 6 1 (marked p t) (symbol x ∷ ts) (levels.prefix 
 -- the tokens of the printed text stand for the expression
 printed-stands : (t : Term) (n : ℕ) → IsSpoken t → depth_of t ≤ n → Stands n 0 t (printed t)
 printed-stands t zero w d = absurd (let e = some_depth t in omega arith)
-printed-stands (Const z) (suc n) w d = rw w.1 (levels.leaf (suc n) (Const (pos w.0)) (number w.0 ∷ []) (rule.number (suc n) w.0 (is_value-below w.0 w.2)))
+printed-stands (Const z) (suc n) w d = rw w.1 (levels.leaf (suc n) (Const (pos w.0)) (number w.0 ∷ []) (rule.number (suc n) w.0 (value_is w.0 w.2)))
 printed-stands (Input place) (suc n) w d = levels.leaf (suc n) (Input place) (printed (Input place)) (rule.input n place (is_count-below place w))
 printed-stands (Slot slot) (suc n) w d = levels.leaf (suc n) (Slot slot) (printed (Slot slot)) (rule.slot n slot (is_count-below slot w))
 printed-stands (Neg t) (suc n) w d =

@@ -3,6 +3,7 @@ use Rattle.std.proofs.Common.{◌≡◌, ℕ, zero, suc, ◌≤◌, ℤ, pos, Bo
 use Rattle.std.specs.Prelude.{neg_ℤ, codes}
 use Rattle.std.specs.List.{AllByRecursion}
 use Rattle.std.specs.Str.{bytes_eq}
+use Rattle.river_base.proofs.NumberLemmas.{at_most}
 use Rattle.work_text.specs.Tok.{Tok}
 use Rattle.work_code.specs.Term.{Term}
 use Rattle.work_code.specs.Steps.{Step, Steps, If, in_turn}
@@ -34,7 +35,6 @@ use Rattle.river_text.specs.declared.entry.Place.{Place}
 use Rattle.river_print.specs.Writable as w
 use Rattle.river_print.specs.Printable as r
 use Rattle.river_print.specs.Ranged as ranges
-use Rattle.river_print.proofs.Valid.{at_most}
 
 -- FORMS
 

@@ -2,6 +2,7 @@
 use Rattle.std.proofs.Common.{◌≡◌, ℕ, suc, ◌≤◌, Bool, true, false, List, [], ◌∷◌, ◌++◌, Option, Some, None, refl, sym, ap, ◌∙◌, subst, arith, append_assoc, append-nil}
 use Rattle.std.specs.Prelude.{codes, map, nat_le, ◌&&◌, ◌==◌, if◌then◌else◌}
 use Rattle.std.proofs.lemmas.Bool.Decides.{nat_tests}
+use Rattle.river_base.proofs.Tests.{le_true}
 use Rattle.work_text.specs.Laws.{joined_units}
 use Rattle.work_text.specs.Cut.{cut, units_of, is_else}
 use Rattle.work_text.specs.Lexis.{is_letter, is_word, is_digit}
@@ -126,9 +127,7 @@ capped own d = inner (record { decl = d; most = own d.name })
 
 stands_behind : (most : Option ℕ) → IsOwnCap most → cap_stands true most ≡ true
 stands_behind None k = refl
-stands_behind (Some n) k = let a = k.0 in let b = k.1 in rw (within 1 n a, within n 65536 b) refl where
-  within : (x y : ℕ) → x ≤ y → nat_le x y ≡ true
-  within x y le = grind (arith, nat_tests)
+stands_behind (Some n) k = let a = k.0 in let b = k.1 in rw (le_true 1 n a, le_true n 65536 b) refl
 
 table_formed : (t : TableDecl) → w.IsWritableTable t → IsUnit (table t) (table_toks t)
 unfolding table_toks

@@ -5,6 +5,8 @@ use Rattle.std.specs.List.{list_all}
 use Rattle.std.proofs.lemmas.Bool.{and_parts, true≢false}
 use Rattle.std.proofs.lemmas.Bool.Decides.{nat_tests}
 use Rattle.std.proofs.lemmas.List.Elements.{All-head, All-tail}
+use Rattle.river_base.proofs.Tests.{eq_by}
+use Rattle.river_base.proofs.NumberLemmas.{at_most}
 use Rattle.work_code.specs.Term.{Term, Const, Input, Slot, Neg, Not, Bin, depth_of}
 use Rattle.work_code.specs.Steps.{Step, Steps, Set, Push, If, Done, Then}
 use Rattle.kern_rows.specs.Forms.{CodeForm, FilterForm, RunForm}
@@ -21,7 +23,6 @@ use Rattle.river_kernels.specs.Kern.{Kern}
 use Rattle.river_kernels.specs.Kern as kern
 use Rattle.river_kernels.specs.declared.limit.Limit.TheVariants.{Nesting}
 use Rattle.river_kernels.specs.Limits.{nesting}
-use Rattle.river_kernels.proofs.TypeLemmas.{same_eq}
 use Rattle.river_plan.specs.Forms.{OpForm, PlanForm, all_decls}
 use Rattle.river_plan.specs.Uses.{Each}
 use Rattle.river_plan.specs.Kinds.{IsFit, kind_of, var_kind}
@@ -31,10 +32,6 @@ use Rattle.river_print.specs.Writable as w
 use Rattle.river_print.specs.Writable.{depths}
 use Rattle.river_print.specs.Printable as r
 use Rattle.river_print.specs.Ranged as ranges
-
--- a comparison that holds
-pub at_most : (m n : ℕ) → nat_le m n ≡ true → m ≤ n
-at_most m n h = grind (arith, nat_tests)
 
 -- EXPRESSIONS
 
@@ -139,7 +136,7 @@ run slots x h k d =
     let b = and_parts (nat_eq x.body.slots slots) (nat_le x.pop x.peek && (body && is_number (pushes x.body.steps) x.push)) a.1 in
     let c = and_parts (nat_le x.pop x.peek) (body && is_number (pushes x.body.steps) x.push) b.1 in
     let e = and_parts body (is_number (pushes x.body.steps) x.push) c.1 in
-    (k.0, k.1, k.2, (steps x.peek slots (pos 1 ∷ []) x.body.steps refl e.0 k.3.2, d), same_eq x.body.inputs x.peek a.0, same_eq x.body.slots slots b.0)
+    (k.0, k.1, k.2, (steps x.peek slots (pos 1 ∷ []) x.body.steps refl e.0 k.3.2, d), eq_by x.body.inputs x.peek a.0, eq_by x.body.slots slots b.0)
 
 first : (slots : ℕ) (o : Option RunForm) → is_first slots o ≡ true → ranges.IsRangedFirst o → r.IsShallowFirst o → w.IsWritableFirst slots o
 first slots None h k d = tt
@@ -160,7 +157,7 @@ filter f h0 k s =
       k.3.1,
       k.4,
       (steps f.peek f.body.slots (pos 1 ∷ []) f.body.steps refl b.0 k.3.2, s.0),
-      same_eq f.body.inputs f.peek c.0,
+      eq_by f.body.inputs f.peek c.0,
       first f.body.slots f.first z.1 k.5 s.1,
     )
 

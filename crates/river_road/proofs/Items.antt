@@ -1,11 +1,11 @@
 -- The items of inputs fit a plan: they are of its inputs' types, and all streams have the instants of the run.
-use Rattle.std.proofs.Common.{◌≡◌, ℕ, ℤ, List, [], ◌∷◌, ◌++◌, length, refl, sym, ap, arith, Bool, true, false, cond, ◌<ℤ◌}
+use Rattle.std.proofs.Common.{◌≡◌, ℕ, ℤ, List, [], ◌∷◌, ◌++◌, length, refl, sym, ap, Bool, true, false, cond}
 use Rattle.std.specs.Prelude.{All, map, filter}
 use Rattle.std.specs.List.Sorted.{IsStrictlySortedBy}
 use Rattle.std.specs.Ordering.{int_eq, int_cmp}
-use Rattle.std.specs.declared.cmp.Ordering.TheVariants.{Less}
 use Rattle.std.proofs.lemmas.List.{append-nil}
 use Rattle.std.proofs.lemmas.List.Elements.{All-nil, All-cons, All-head, All-tail, All-map}
+use Rattle.river_base.proofs.Tests.{cmp_less}
 use Rattle.river_base.specs.declared.item.Flat.TheVariants.{One}
 use Rattle.river_base.specs.declared.item.Item.TheVariants.{Flat}
 use Rattle.river_base.specs.declared.kind.FlatType.TheVariants.{Rows, Stream, Relation}
@@ -73,14 +73,11 @@ are_instants ts [] files h = tt
 are_instants ts (d ∷ ds) [] h = absurd h
 are_instants ts (d ∷ ds) (f ∷ files) h = (have_instants d.kind ts f h.0, are_instants ts ds files h.1)
 
-is_later : (t u : ℤ) → int_cmp t u ≡ Less → t <ℤ u
-is_later t u h = grind (arith, h)
-
 rises : (ts : List ℤ) → IsStrictlySortedBy int_cmp ts → Rises ts
 unfolding IsStrictlySortedBy
 rises [] h = tt
 rises (t ∷ []) h = tt
-rises (t ∷ u ∷ ts) h = (is_later t u h.0.0, rises (u ∷ ts) h.1)
+rises (t ∷ u ∷ ts) h = (cmp_less t u h.0.0, rises (u ∷ ts) h.1)
 
 -- so the inputs fit the plan
 pub contents-fit : (p : PlanForm) (files : List Content) → AreContents p.inputs files → Fit p (all_items files)

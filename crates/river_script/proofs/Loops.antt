@@ -1,6 +1,8 @@
 -- The loop of a script.
-use Rattle.std.proofs.Common.{◌≡◌, ℕ, zero, suc, ◌+◌, ◌<◌, ◌≤◌, List, [], ◌∷◌, length, drop, get_or, refl, sym, ap, ◌∙◌, arith, map}
+use Rattle.std.proofs.Common.{◌≡◌, ℕ, suc, ◌+◌, ◌<◌, ◌≤◌, List, length, drop, get_or, sym, ap, ◌∙◌, arith, map}
 use Rattle.std.specs.Prelude.{Ok, Err}
+use Rattle.std.proofs.lemmas.List.{drop_all}
+use Rattle.river_base.proofs.Lists.{drop_next}
 use Rattle.river_plan.specs.Forms.{PlanForm}
 use Rattle.plan_edits.specs.declared.unfit.Unfit.{Unfit}
 use Rattle.plan_edits.specs.declared.unfit.Unfit.TheVariants.{U1, U2, U3, U4, U5, H1, H2, H3, H4, N1, N2, N3, N4, N5, NoMemory}
@@ -14,23 +16,10 @@ use Rattle.river_script.specs.Meaning.{IsEnded, from_step}
 abbrev pub SoFar : PlanForm → List Step → ℕ → PlanForm → Type 0
 SoFar p steps i now = script_of p (map step_form steps) ≡ script_from (i + 1) now (map step_form (drop i steps))
 
-drop_here : (xs : List Step) (i : ℕ) (x : Step) → i < length xs → x ≡ get_or xs i x → drop i xs ≡ x ∷ drop (i + 1) xs
-drop_here [] i x lt e = absurd (omega (arith, lt))
-drop_here (y ∷ xs) zero x lt e = ap (λ z. z ∷ xs) (sym e)
-drop_here (y ∷ xs) (suc i) x lt e =
-    let s : suc i + 1 ≡ suc (i + 1) = omega arith in
-    drop_here xs i x (omega (arith, lt)) e ∙ ap (λ m. x ∷ drop m (y ∷ xs)) (sym s)
-
-past_end : (xs : List Step) (i : ℕ) → length xs ≤ i → drop i xs ≡ []
-past_end [] zero ge = refl
-past_end [] (suc i) ge = refl
-past_end (x ∷ xs) zero ge = absurd (omega (arith, ge))
-past_end (x ∷ xs) (suc i) ge = past_end xs i (omega (arith, ge))
-
 one_step : (p : PlanForm) (steps : List Step) (i : ℕ) (now : PlanForm) (s : Step) → i < length steps → s ≡ get_or steps i s → SoFar p steps i now
     → script_of p (map step_form steps) ≡ then_all (i + 1) (after_step now (step_form s))
     (λ q. script_from (suc (i + 1)) q (map step_form (drop (i + 1) steps)))
-one_step p steps i now s lt e h = h ∙ ap (λ l. script_from (i + 1) now (map step_form l)) (drop_here steps i s lt e)
+one_step p steps i now s lt e h = h ∙ ap (λ l. script_from (i + 1) now (map step_form l)) (drop_next steps i s lt e)
 
 -- one step more
 pub script_next : (p : PlanForm) (steps : List Step) (i : ℕ) (now next : PlanForm) (s : Step) → i < length steps → s ≡ get_or steps i s → SoFar p steps i now
@@ -43,7 +32,7 @@ script_next p steps i now next s lt e h k =
 -- no step is left
 pub script_end : (p : PlanForm) (steps : List Step) (i : ℕ) (now : PlanForm) → length steps ≤ i → SoFar p steps i now
     → script_of p (map step_form steps) ≡ Ok now
-script_end p steps i now ge h = h ∙ ap (λ l. script_from (i + 1) now (map step_form l)) (past_end steps i ge)
+script_end p steps i now ge h = h ∙ ap (λ l. script_from (i + 1) now (map step_form l)) (drop_all i steps ge)
 
 script_at : (p : PlanForm) (steps : List Step) (i : ℕ) (now : PlanForm) (s : Step) (f : Unfit) → i < length steps → s ≡ get_or steps i s → SoFar p steps i now
     → after_step now (step_form s) ≡ Err f → script_of p (map step_form steps) ≡ Err (i + 1, f)

@@ -3,6 +3,7 @@ use Rattle.std.proofs.Common.{◌≡◌, ℕ, ◌+◌, List, [], ◌∷◌, ◌+
 use Rattle.std.proofs.Common.{append-nil}
 use Rattle.std.specs.Prelude.{codes}
 use Rattle.std.specs.Str.{bytes_eq}
+use Rattle.std.proofs.lemmas.List.{length_push}
 use Rattle.work_text.specs.Cut.{units_of}
 use Rattle.work_text.specs.Lexis.{tokens_in}
 use Rattle.work_text.specs.Tok.{Tok, Mark, toks}
@@ -83,10 +84,7 @@ steps-many n done ss (u ∷ us) e = by (whole step_at u) e (λ s f. steps-many (
       → ((s : StepForm) → read_steps (n + 1) (done ++ s ∷ []) us ≡ Ok ss → length ss ≡ length (done ++ s ∷ []) + length us)
       → length ss ≡ length done + length (u ∷ us)
   by None f more = cc
-  by (Some s) f more = let k = more s f in let l = length_more done s in omega (arith, k, l) where
-    length_more : (xs : List StepForm) (x : StepForm) → length (xs ++ x ∷ []) ≡ length xs + 1
-    length_more [] x = refl
-    length_more (y ∷ xs) x = let r = length_more xs x in omega (arith, r)
+  by (Some s) f more = let k = more s f in let l = length_push done s in omega (arith, k, l)
 
 -- as many steps as units
 pub script-few : (ss : List StepForm) (units : List (List Tok)) → read_steps 1 [] units ≡ Ok ss → length ss ≡ length units

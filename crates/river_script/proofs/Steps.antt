@@ -1,6 +1,7 @@
 -- One rewrite after another.
 use Rattle.std.proofs.Common.{◌≡◌, ℕ, suc, ◌<◌, List, [], ◌∷◌, refl, sym, ◌∙◌, subst}
 use Rattle.std.specs.Prelude.{Result, Ok, Err}
+use Rattle.river_base.proofs.Options.{ok_same, not_ok}
 use Rattle.river_base.specs.declared.item.Item as item
 use Rattle.river_plan.specs.Forms.{PlanForm, decl_names}
 use Rattle.river_plan.specs.Names.{count}
@@ -45,20 +46,14 @@ step_keeps p p' (fusing q) v h = let k = fuse_same p p' q v h in (k.0, k.1, λ i
 step_keeps p p' (hoisting l) v h = let k = hoist_same p p' l v h in (k.0, k.1, λ inputs a. k.2 inputs (typed_law p inputs v a))
 step_keeps p p' (splitting l n) v h = let k = fission_same p p' l n v h in (k.0, k.1, λ inputs a. k.2 inputs (typed_law p inputs v a))
 
-no_script : (f : ℕ × Unfit) (p' : PlanForm) → Err f ≡ Ok p' → ⊥
-no_script f p' h = cc h
-
-ok_script : (p p' : PlanForm) (r : Result PlanForm (ℕ × Unfit)) → r ≡ Ok p → r ≡ Ok p' → p ≡ p'
-ok_script p p' r h g = cc
-
 after_keeps : (n : ℕ) (p p' : PlanForm) (s : StepForm) (r : Result PlanForm Unfit) (ss : List StepForm) → IsPlan p → after_step p s ≡ r
     → then_all n r (λ q. script_from (suc n) q ss) ≡ Ok p'
     → ((q : PlanForm) → IsPlan q → script_from (suc n) q ss ≡ Ok p' → Keeps q p') → Keeps p p'
-after_keeps n p p' s (Err f) ss v e h more = absurd (no_script (n, f) p' h)
+after_keeps n p p' s (Err f) ss v e h more = absurd (not_ok (n, f) p' h)
 after_keeps n p p' s (Ok q) ss v e h more = let k = step_keeps p q s v e in keeps_trans p q p' k (more q k.0 h)
 
 from_keeps : (n : ℕ) (p p' : PlanForm) (ss : List StepForm) → IsPlan p → script_from n p ss ≡ Ok p' → Keeps p p'
-from_keeps n p p' [] v h = subst (Keeps p) (ok_script p p' (Ok p) refl h) (keeps_refl p v)
+from_keeps n p p' [] v h = subst (Keeps p) (ok_same (Ok p) p p' refl h) (keeps_refl p v)
 from_keeps n p p' (s ∷ ss) v h = after_keeps n p p' s (after_step p s) ss v refl h (λ q w g. from_keeps (suc n) q p' ss w g)
 
 -- so a script does

@@ -1,12 +1,10 @@
 -- The steps by which code reads kernels in braces.
-use Rattle.std.proofs.Common.{◌≡◌, ℕ, zero, suc, ◌-◌, List, [], ◌∷◌, None, refl, sym, ap, arith}
+use Rattle.std.proofs.Common.{◌≡◌, ℕ, zero, suc, ◌-◌, List, [], ◌∷◌, None, refl, sym, ap}
+use Rattle.river_base.proofs.Tests.{less-one}
 use Rattle.work_text.specs.Tok.{Tok}
 use Rattle.work_text.specs.declared.sign.Symbol.TheVariants as s
 use Rattle.text_forms.specs.Parse as parse
 use Rattle.river_text.specs.ReadKernels.{braced_at, kernel_at, kernel_after}
-
-less-one : (n : ℕ) → suc n - 1 ≡ n
-less-one n = omega arith
 
 pub braced-at : (n : ℕ) (ts : List Tok)
     → braced_at n ts ≡ parse.then_rest (parse.open_at s.OpenBrace n ts) (parse.before (kernel_at (n - 1)) (s.CloseBrace ∷ []))

@@ -12,8 +12,8 @@ use Rattle.text_forms.specs.Parse as parse
 use Rattle.text_forms.specs.Forms as form
 use Rattle.text_forms.proofs.Exact.{Exact, Any, exact-as, exact-less, exact-both, exact-after, exact-before, exact-tested, exact-seen, exact-merged, exact-name}
 use Rattle.text_forms.proofs.Exact.{exact-var, exact-number, exact-maybe, exact-after_word}
-use Rattle.text_forms.proofs.Pairs.{some_inj}
 use Rattle.std.proofs.lemmas.List.{map-append}
+use Rattle.std.proofs.lemmas.Option.{same_Some}
 use Rattle.text_forms.proofs.Choices.{exact-never, exact-choose, exact-headed, exact-known, exact-listing}
 use Rattle.river_text.specs.Plans.{IsName, IsVar, brackets, FlatAfter, IsFlatType, IsType, made_decl, IsDecl, made_maximum, made_table, IsTable, Port, queue}
 use Rattle.river_text.specs.Plans.{variable, IsPort, IsPorts, Ports, same_vars, made_op, IsOp, output, input, inner, table, private, operator, IsUnit, may_stand, as_header}
@@ -120,7 +120,7 @@ split-is : (os vs : List (List ℕ)) (ps : List Port) (v : Ports) → split_from
     → map queue os ++ (map variable vs ++ ps) ≡ map queue v.0 ++ map variable v.1
 unfolding split_from
 split-is os vs [] v e =
-    let same : (os, vs) ≡ v = some_inj e in
+    let same : (os, vs) ≡ v = same_Some _ _ e in
     ap (λ (l : List Port). map queue os ++ l) (append-nil (map variable vs)) ∙ ap (λ (w : Ports). map queue w.0 ++ map variable w.1) same
 split-is os [] (queue q ∷ ps) v e =
     sym (ap (λ (l : List Port). l ++ ps) (map-append queue os (q ∷ [])) ∙ append_assoc (map queue os) (queue q ∷ []) ps) ∙ split-is (os ++ q ∷ []) [] ps v e

@@ -2,6 +2,7 @@
 use Rattle.std.proofs.Common.{◌≡◌, ℕ, ◌<◌, ◌≤◌, ◌+◌, List, [], ◌∷◌, ◌++◌, length, drop, get_or, Option, Some, None, refl, sym, ap, ◌∙◌}
 use Rattle.std.specs.Prelude.{map}
 use Rattle.std.proofs.lemmas.List.{drop_more, drop_all}
+use Rattle.text_forms.proofs.Symbols.{taken-shorter}
 use Rattle.work_text.specs.Tok.{Tok}
 use Rattle.work_text.specs.declared.sign.Symbol.{Symbol}
 use Rattle.text_forms.specs.Parse.{Parse, symbols_at, then_rest, then_parsed, after}
@@ -12,7 +13,7 @@ use Rattle.river_text.specs.Plans.{Port, queue, variable}
 use Rattle.river_text.specs.Listed.{port_of}
 use Rattle.river_text.specs.ReadPlans.{port_at, split_from}
 use Rattle.river_text.proofs.Plans.{exact-port}
-use Rattle.river_text.proofs.Steps.{shorter, taken-shorter}
+use Rattle.river_text.proofs.Steps.{shorter}
 
 pub ports-shorter : (ts us : List Tok) (v : Port) → port_at ts ≡ Some (v, us) → length us ≤ length ts
 ports-shorter = shorter exact-port

@@ -1,7 +1,6 @@
 -- The steps by which code reads lists.
-use Rattle.std.proofs.Common.{◌≡◌, ℕ, suc, ◌<◌, ◌≤◌, ◌+◌, ℤ, List, [], ◌∷◌, ◌++◌, length, true, Option, None, Some, refl, sym, ap, ◌∙◌, arith, length-append}
+use Rattle.std.proofs.Common.{◌≡◌, ℕ, ◌≤◌, ◌+◌, ℤ, List, [], ◌∷◌, ◌++◌, length, true, Option, None, Some, refl, sym, ap, ◌∙◌, arith, length-append}
 use Rattle.work_text.specs.Tok.{Tok}
-use Rattle.work_text.specs.declared.sign.Symbol.{Symbol}
 use Rattle.work_text.specs.declared.sign.Symbol.TheVariants as s
 use Rattle.text_forms.specs.Parse as parse
 use Rattle.text_forms.specs.Repeat.{repeated}
@@ -9,7 +8,7 @@ use Rattle.text_forms.specs.Tail.{tail}
 use Rattle.text_forms.proofs.Exact.{Exact}
 use Rattle.text_forms.proofs.Pairs.{pair_inj}
 use Rattle.text_forms.proofs.Many.{comma-next, comma-stop, comma-bad}
-use Rattle.text_forms.proofs.Symbols.{begins_with-is}
+use Rattle.text_forms.proofs.Symbols.{taken-shorter}
 use Rattle.river_text.specs.declared.number.Kind.{Kind}
 use Rattle.river_text.specs.declared.number.Kind.TheVariants as kind
 use Rattle.river_text.specs.ExactExpressions.{exact-term}
@@ -26,10 +25,6 @@ shorter x ts us v e =
     let f = x.sound ts v us e in
     let size : length ts ≡ length f.front + length us = ap length f.is ∙ length-append f.front us in
     omega arith
-
--- a symbol that is taken
-pub taken-shorter : (x : Symbol) (ts : List Tok) → parse.begins_with x ts ≡ true → length (tail ts) < length ts
-taken-shorter x ts e = let size : length ts ≡ suc (length (tail ts)) = ap length (begins_with-is x ts e) in omega arith
 
 pub numbers-next : (k : Kind) (done : List ℤ) (ts us : List Tok) (v : ℤ) → parse.begins_with s.Comma ts ≡ true → kind_number_at k (tail ts) ≡ Some (v, us)
     → repeated (parse.comma_turn (kind_number_at k)) (done ++ v ∷ []) us ≡ repeated (parse.comma_turn (kind_number_at k)) done ts

@@ -2,11 +2,11 @@
 use Rattle.std.proofs.Common.{◌≡◌, ℕ, ◌<◌, ◌≤◌, ◌⊎◌, inl, inr, true, ◌&&◌, Option, Some, None, List, [], ◌∷◌, refl, sym, ap, ◌∙◌, subst, arith, ⊎_elim}
 use Rattle.std.specs.Prelude.{if◌then◌else◌, nat_le, nat_lt, nat_eq, is_none, Result, Ok, Err}
 use Rattle.std.specs.List.{list_all}
-use Rattle.std.proofs.lemmas.Bool.{and_parts}
+use Rattle.std.proofs.lemmas.Bool.{and_parts, cases_Bool}
+use Rattle.std.proofs.lemmas.Option.{same_Some, none-some}
 use Rattle.river_base.specs.declared.kind.FlatType.{FlatType}
 use Rattle.river_base.specs.declared.kind.QueueType.{QueueType}
 use Rattle.river_base.specs.declared.kind.QueueType.TheVariants.{Flat, Pack}
-use Rattle.river_base.proofs.Options.{some_is}
 use Rattle.kern_rows.specs.Forms.{FilterForm}
 use Rattle.river_kernels.specs.Kern.{Kern, filter}
 use Rattle.river_kernels.specs.Limits.{either}
@@ -14,7 +14,7 @@ use Rattle.river_plan.specs.Forms.{Name, OpForm, PlanForm, all_decls, table_name
 use Rattle.river_plan.specs.Kinds.{kind_of}
 use Rattle.river_plan.specs.Names.{count, one_if}
 use Rattle.river_plan.specs.Uses.{named_it}
-use Rattle.river_plan.proofs.NameLemmas.{cases_bool, cases_name}
+use Rattle.river_plan.proofs.NameLemmas.{cases_name}
 use Rattle.rw_fission.specs.Asked.{packs_to, packs_way, is_nil, blocks_way, adds_way, way_of, all_made, are_short, by_way, by_reads, by_op, fission_of}
 use Rattle.plan_edits.specs.declared.unfit.Unfit.{Unfit}
 use Rattle.plan_edits.specs.declared.unfit.Unfit.TheVariants.{N2, N5}
@@ -39,10 +39,6 @@ not_ok h = absurd (cc h)
 
 some_ok : (p q : PlanForm) → yes p ≡ yes q → p ≡ q
 some_ok p q h = cc h
-
--- what is none is not some
-pub no_some : {A : Type 0} (a : A) → None ≡ Some a → ⊥
-no_some a h = absurd (cc h)
 
 -- what is known of an accepted step
 pub record Accepted (p : PlanForm) (l : Name) (n : ℕ) (p' : PlanForm) : Type 0 where
@@ -79,7 +75,7 @@ way_found p l op n p' source (Some w) he a b r e h =
       is = sym (some_ok q p' (sym (ap (λ c. if c then yes q else no N5) t) ∙ h));
     })
     (λ f. not_ok ((sym (ap (λ c. if c then yes q else no N5) f) ∙ h)))
-    (cases_bool (short && is_apart q))
+    (cases_Bool (short && is_apart q))
 
 reads_found : (p : PlanForm) (l : Name) (op : OpForm) (n : ℕ) (p' : PlanForm) (rs : List Name) → first_with (named_it l) p.ops ≡ Some op → 2 ≤ n → n ≤ 16
     → op.reads ≡ rs → by_reads p l op n rs ≡ Ok p' → Accepted p l n p'
@@ -94,7 +90,7 @@ op_found p l n p' (Some op) e h = ⊎_elim
     let c = and_parts (nat_le 2 n) (nat_le n 16) t in
     reads_found p l op n p' op.reads e (grind (arith, c.0)) (grind (arith, c.1)) refl (sym (ap (λ b. if b then by_reads p l op n op.reads else no N2) t) ∙ h))
     (λ f. not_ok ((sym (ap (λ b. if b then by_reads p l op n op.reads else no N2) f) ∙ h)))
-    (cases_bool (nat_le 2 n && nat_le n 16))
+    (cases_Bool (nat_le 2 n && nat_le n 16))
 
 -- what an accepted step found
 pub accepted : (p : PlanForm) (l : Name) (n : ℕ) (p' : PlanForm) → fission_of p l n ≡ Ok p' → Accepted p l n p'
@@ -125,17 +121,17 @@ packs_to_is : (p : PlanForm) (op : OpForm) (m : FissionNames) (n : ℕ) (source 
     → kind_of (all_decls p) source ≡ Flat t
     → op.writes ≡ out ∷ [] → op.vars ≡ [] → kind_of (all_decls p) out ≡ k → packs_to p op m n k ≡ Some w → IsPacks p op m n source t w
 packs_to_is p op m n source out t w (Flat u) r ki ws vs ko h =
-    record { out = out; type = u; may = record { reads = r; writes = ws; vars = vs; kind_in = ki; kind_out = ko }; is = sym (some_is _ _ h) }
-packs_to_is p op m n source out t w (Pack u) r ki ws vs ko h = absurd (no_some w h)
+    record { out = out; type = u; may = record { reads = r; writes = ws; vars = vs; kind_in = ki; kind_out = ko }; is = sym (same_Some _ _ h) }
+packs_to_is p op m n source out t w (Pack u) r ki ws vs ko h = absurd (none-some w h)
 
 -- one output and no variable
 pub packs_is : (p : PlanForm) (op : OpForm) (m : FissionNames) (n : ℕ) (source : Name) (t : FlatType) (w : Way) (ws vs : List Name) → op.reads ≡ source ∷ []
     → kind_of (all_decls p) source ≡ Flat t
     → op.writes ≡ ws → op.vars ≡ vs → packs_way p op m n ws vs ≡ Some w → IsPacks p op m n source t w
-packs_is p op m n source t w [] vs r ki ew ev h = absurd (no_some w h)
+packs_is p op m n source t w [] vs r ki ew ev h = absurd (none-some w h)
 packs_is p op m n source t w (out ∷ []) [] r ki ew ev h = packs_to_is p op m n source out t w (kind_of (all_decls p) out) r ki ew ev refl h
-packs_is p op m n source t w (out ∷ []) (v ∷ vs) r ki ew ev h = absurd (no_some w h)
-packs_is p op m n source t w (out ∷ q ∷ qs) vs r ki ew ev h = absurd (no_some w h)
+packs_is p op m n source t w (out ∷ []) (v ∷ vs) r ki ew ev h = absurd (none-some w h)
+packs_is p op m n source t w (out ∷ q ∷ qs) vs r ki ew ev h = absurd (none-some w h)
 
 none_is : {A : Type 0} (o : Option A) → is_none o ≡ true → o ≡ None
 none_is None h = refl
@@ -156,11 +152,11 @@ blocks_is p op m n source w (filter f) r e h = ⊎_elim
     record {
       form = f;
       may = record { reads = r; kernel = e; whole = grind (arith, a.0); starts = nil_is f.starts b.0; usual = none_is f.first c.0; gives = grind (arith, c.1) };
-      is = sym (some_is _ _ (sym (ap (λ c. if c then Some (by_blocks p op m n f.pop f.push) else None) t) ∙ h));
+      is = sym (same_Some _ _ (sym (ap (λ c. if c then Some (by_blocks p op m n f.pop f.push) else None) t) ∙ h));
     })
-    (λ g. absurd (no_some w (sym (ap (λ c. if c then Some (by_blocks p op m n f.pop f.push) else None) g) ∙ h)))
-    (cases_bool (nat_eq f.peek f.pop && (is_nil f.starts && (is_none f.first && nat_le 1 f.push))))
-blocks_is p op m n source w kernel r e h = absurd (no_some w h)
+    (λ g. absurd (none-some w (sym (ap (λ c. if c then Some (by_blocks p op m n f.pop f.push) else None) g) ∙ h)))
+    (cases_Bool (nat_eq f.peek f.pop && (is_nil f.starts && (is_none f.first && nat_le 1 f.push))))
+blocks_is p op m n source w kernel r e h = absurd (none-some w h)
 
 each_table : (tables vs : List Name) → list_all (λ x. nat_lt 0 (count x tables)) vs ≡ true → (x : Name) → 0 < count x vs → 0 < count x tables
 each_table tables [] h x lt = absurd (omega (arith, lt))
@@ -176,7 +172,7 @@ each_table tables (v ∷ vs) h x lt =
 pub adds_is : (p : PlanForm) (op : OpForm) (m : FissionNames) (source : Name) (t : FlatType) (w : Way) (ws vs : List Name) → op.reads ≡ source ∷ []
     → kind_of (all_decls p) source ≡ Flat t
     → op.writes ≡ ws → op.vars ≡ vs → adds_way p op m ws vs ≡ Some w → IsAdds p op m source t w
-adds_is p op m source t w [] [] r ki ew ev h = absurd (no_some w h)
+adds_is p op m source t w [] [] r ki ew ev h = absurd (none-some w h)
 adds_is p op m source t w [] (v ∷ vs) r ki ew ev h = ⊎_elim
     (λ a.
     record {
@@ -188,11 +184,11 @@ adds_is p op m source t w [] (v ∷ vs) r ki ew ev h = ⊎_elim
             tables =
                 subst (λ ys. (x : Name) → 0 < count x ys → 0 < count x (table_names p.tables)) (sym ev) (each_table (table_names p.tables) (v ∷ vs) a);
           };
-      is = sym (some_is _ _ (sym (ap (λ c. if c then Some (by_adds p op m) else None) a) ∙ h));
+      is = sym (same_Some _ _ (sym (ap (λ c. if c then Some (by_adds p op m) else None) a) ∙ h));
     })
-    (λ a. absurd (no_some w (sym (ap (λ c. if c then Some (by_adds p op m) else None) a) ∙ h)))
-    (cases_bool (list_all (λ x. nat_lt 0 (count x (table_names p.tables))) (v ∷ vs)))
-adds_is p op m source t w (q ∷ qs) vs r ki ew ev h = absurd (no_some w h)
+    (λ a. absurd (none-some w (sym (ap (λ c. if c then Some (by_adds p op m) else None) a) ∙ h)))
+    (cases_Bool (list_all (λ x. nat_lt 0 (count x (table_names p.tables))) (v ∷ vs)))
+adds_is p op m source t w (q ∷ qs) vs r ki ew ev h = absurd (none-some w h)
 
 -- one of the three
 pub record IsWay (p : PlanForm) (op : OpForm) (m : FissionNames) (n : ℕ) (source : Name) (w : Way) : Type 0 where
@@ -203,7 +199,7 @@ pub record IsWay (p : PlanForm) (op : OpForm) (m : FissionNames) (n : ℕ) (sour
 way_by : (p : PlanForm) (op : OpForm) (m : FissionNames) (n : ℕ) (source : Name) (w : Way) (k : QueueType) → op.reads ≡ source ∷ []
     → kind_of (all_decls p) source ≡ k
     → way_of p op m n k ≡ Some w → IsWay p op m n source w
-way_by p op m n source w (Pack t) r e h = absurd (no_some w h)
+way_by p op m n source w (Pack t) r e h = absurd (none-some w h)
 way_by p op m n source w (Flat t) r e h = record {
   type = t;
   kind = e;

@@ -3,6 +3,7 @@ use Rattle.std.proofs.Common.{◌≡◌, ℕ, ℤ, ◌<◌, ◌≤◌, Bool, tru
 use Rattle.std.proofs.Common.{⊎_elim}
 use Rattle.std.specs.Prelude.{count_by}
 use Rattle.std.proofs.lemmas.List.{length-replicate}
+use Rattle.river_plan.proofs.ValidLaw.{total-append}
 use Rattle.river_base.specs.declared.item.Item as item
 use Rattle.river_base.specs.declared.kind.FlatType.{FlatType}
 use Rattle.river_base.specs.declared.kind.QueueType.TheVariants.{Flat}
@@ -35,7 +36,7 @@ use Rattle.plan_edits.proofs.Lookups.{map_agree}
 use Rattle.rw_fission.proofs.Packs.{none_first}
 use Rattle.rw_fission.proofs.Sized.{named_sized}
 use Rattle.rw_fission.proofs.SplitLaw.{sum_same}
-use Rattle.plan_edits.proofs.Surgery.{total-append, found, at_most_all}
+use Rattle.plan_edits.proofs.Surgery.{found, at_most_all}
 use Rattle.plan_edits.proofs.Swap.{it_is, swap_of}
 use Rattle.rw_fission.proofs.WayLemmas.{deal_fits, copies_none, all_tables}
 use Rattle.rw_fission.proofs.Weighed.{weigh, weigh_ports, items_turns, one_adds, fed_adds}

@@ -2,6 +2,8 @@
 use Rattle.std.proofs.Common.{◌≡◌, ℕ, pos, ◌+◌, ◌<◌, ◌≤◌, ◌&&◌, Some, List, [], ◌∷◌, ◌++◌, map, length, replicate, refl, sym, ap, ◌∙◌, subst, arith, ⊎_elim}
 use Rattle.std.specs.Prelude.{count_by, nat_le, nat_eq, nat_lt, filter as kept_of}
 use Rattle.std.proofs.lemmas.Bool.{and_parts}
+use Rattle.river_plan.proofs.ValidLaw.{total-append}
+use Rattle.river_base.proofs.PlaceLemmas.{if_ge}
 use Rattle.river_base.specs.declared.kind.FlatType.TheVariants.{Rows}
 use Rattle.kern_rows.specs.Forms.{FilterForm}
 use Rattle.river_kernels.specs.Fits.{Fits, rows}
@@ -18,7 +20,6 @@ use Rattle.brooklet_model.specs.Firings.{feed}
 use Rattle.brooklet_model.specs.Fire.{fire, first_kept}
 use Rattle.brooklet_model.specs.Words.{feed_all}
 use Rattle.brooklet_model.specs.Histories.{joined, tables_of}
-use Rattle.brooklet_model.proofs.Lists.{if_ge}
 use Rattle.brooklet_model.proofs.Solutions.{count_here}
 use Rattle.rw_fission.specs.Fission.{Way, equal_weights, each_op, by_blocks, replica_op, joiner_ops, split_ops, split_by}
 use Rattle.plan_edits.specs.Lists.{first_with}
@@ -27,7 +28,7 @@ use Rattle.rw_fission.specs.May.{MayBlock, IsApartPlan}
 use Rattle.rw_fission.specs.Splits.{Splits, JoinerGives, dealt_to}
 use Rattle.rw_fission.proofs.BlockLaw.{TakesBlocks, blocks_undo}
 use Rattle.rw_fission.proofs.Declared.{count_each}
-use Rattle.plan_edits.proofs.Surgery.{total-append, found}
+use Rattle.plan_edits.proofs.Surgery.{found}
 use Rattle.plan_edits.proofs.Swap.{it_is, swap_of}
 use Rattle.rw_fission.proofs.WayLemmas.{one_at_most, deal_fits, collect_fits, sum_zero, copies_vars, count-without, no_table, one_name}
 

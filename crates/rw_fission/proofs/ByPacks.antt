@@ -2,6 +2,7 @@
 use Rattle.std.proofs.Common.{◌≡◌, ℕ, ◌<◌, true, Some, [], ◌∷◌, ◌++◌, map, replicate, refl, sym, ap, ◌∙◌, subst, arith, IsTrue}
 use Rattle.std.specs.Prelude.{count_by, nat_le, nat_lt, filter}
 use Rattle.std.proofs.lemmas.Bool.{and_from}
+use Rattle.river_plan.proofs.ValidLaw.{total-append}
 use Rattle.river_base.specs.declared.kind.FlatType.{FlatType}
 use Rattle.river_base.specs.declared.kind.QueueType.TheVariants.{Flat, Pack}
 use Rattle.river_kernels.specs.Fits.{Fits, is_sized}
@@ -29,7 +30,7 @@ use Rattle.rw_fission.specs.Splits.{Splits, JoinerGives, dealt_to}
 use Rattle.rw_fission.proofs.BlockLaw.{shares_are, are_shares}
 use Rattle.rw_fission.proofs.Packs.{GivesFlat, packs_of, packed_is, packs_undo, none_first}
 use Rattle.rw_fission.proofs.Sized.{named_sized}
-use Rattle.plan_edits.proofs.Surgery.{total-append, found, at_most_all}
+use Rattle.plan_edits.proofs.Surgery.{found, at_most_all}
 use Rattle.plan_edits.proofs.Swap.{it_is, swap_of}
 use Rattle.rw_fission.proofs.WayLemmas.{deal_fits, sum_zero, copies_none}
 

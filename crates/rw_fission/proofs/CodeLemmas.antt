@@ -4,6 +4,9 @@ use Rattle.std.proofs.Common.{◌∙◌, subst, arith, append_assoc, pos}
 use Rattle.std.specs.Prelude.{if◌then◌else◌, nat_lt, slice_index_or, slice_get, Result, OnOk}
 use Rattle.std.proofs.lemmas.Result.{on_ok_weaker}
 use Rattle.std.proofs.lemmas.List.{at_drop_more, take_more, replicate_more, take_all, length-map, map-append}
+use Rattle.std.proofs.lemmas.Option.{same_Some}
+use Rattle.river_plan.proofs.ValidLaw.{total-append}
+use Rattle.river_base.proofs.PlaceLemmas.{if_lt, if_ge}
 use Rattle.rw_fission.specs.Fission.{decls, names_without, equal_weights, each_op}
 use Rattle.river_base.specs.Name.{name_eq}
 use Rattle.river_base.specs.declared.kind.QueueType.{QueueType}
@@ -15,11 +18,9 @@ use Rattle.river_plan.specs.Names.{count, one_if}
 use Rattle.rw_fission.specs.Asked.{packs_way, packs_to}
 use Rattle.river_kernels.specs.Kern.{Kern, kern_of}
 use Rattle.river_plan.specs.declared.op.Op.{Op}
-use Rattle.brooklet_model.proofs.Lists.{if_lt, if_ge}
 use Rattle.river_plan.specs.Uses.{total, named_it}
 use Rattle.rw_fission.specs.Code.{IsPlace}
 use Rattle.plan_edits.specs.Lists.{first_with, swapped}
-use Rattle.plan_edits.proofs.Surgery.{total-append}
 use Rattle.rw_fission.proofs.Declared.{length_each}
 use Rattle.rw_fission.specs.Made.{FissionNames, each_name}
 
@@ -185,16 +186,13 @@ forms_drop zero ops = refl
 forms_drop (suc i) [] = refl
 forms_drop (suc i) (x ∷ xs) = forms_drop i xs
 
-some_form : (a b : OpForm) → Some a ≡ Some b → a ≡ b
-some_form a b e = cc
-
 -- the operators with others in the place of one
 pub place_split : (ops : List Op) (i : ℕ) (o : Op) (op : OpForm) (S : OpForm → List OpForm) (a b c : List OpForm) → i < length ops
     → ((d : Op) → o ≡ slice_index_or ops i d) → slice_get (op_forms ops) i ≡ Some op
     → a ≡ op_forms (take i ops) → b ≡ a ++ S (op_form o) → c ≡ b ++ op_forms (drop (i + 1) ops)
     → c ≡ take i (op_forms ops) ++ (S op ++ drop (i + 1) (op_forms ops))
 place_split ops i o op S a b c lt h g ea eb ec =
-    let same : op_form o ≡ op = ap op_form (h o) ∙ some_form (op_form (slice_index_or ops i o)) op (sym (form_at ops i o lt) ∙ g) in
+    let same : op_form o ≡ op = ap op_form (h o) ∙ same_Some (op_form (slice_index_or ops i o)) op (sym (form_at ops i o lt) ∙ g) in
     ec ∙ ap (λ l. l ++ op_forms (drop (i + 1) ops)) (eb ∙ ap (λ l. l ++ S (op_form o)) ea ∙ ap (λ x. op_forms (take i ops) ++ S x) same)
     ∙ append_assoc (op_forms (take i ops)) (S op) (op_forms (drop (i + 1) ops))
     ∙ ap (λ l. l ++ (S op ++ op_forms (drop (i + 1) ops))) (forms_take i ops) ∙ ap (λ l. take i (op_forms ops) ++ (S op ++ l)) (forms_drop (i + 1) ops)
@@ -202,7 +200,7 @@ place_split ops i o op S a b c lt h g ea eb ec =
 -- the operator at a place
 pub the_op : (ops : List Op) (i : ℕ) (o : Op) (op : OpForm) → i < length ops → ((d : Op) → o ≡ slice_index_or ops i d) → slice_get (op_forms ops) i ≡ Some op
     → op_form o ≡ op
-the_op ops i o op lt h g = ap op_form (h o) ∙ some_form (op_form (slice_index_or ops i o)) op (sym (form_at ops i o lt) ∙ g)
+the_op ops i o op lt h g = ap op_form (h o) ∙ same_Some (op_form (slice_index_or ops i o)) op (sym (form_at ops i o lt) ∙ g)
 
 -- THE PLACE OF A LABEL
 
@@ -211,7 +209,7 @@ pub place_found : (l : Name) (ops : List OpForm) (i : ℕ) (op : OpForm) → sli
     → IsPlace l ops i
 place_found l [] i op g z h = absurd (cc g)
 place_found l (x ∷ xs) zero op g z h =
-    let e : x ≡ op = some_form x op g in
+    let e : x ≡ op = same_Some x op g in
     let lt : 0 < named_it l x = subst (λ o. 0 < named_it l o) (sym e) h in
     record {
       below = omega arith;

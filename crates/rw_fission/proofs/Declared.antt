@@ -2,6 +2,7 @@
 use Rattle.std.proofs.Common.{◌≡◌, ℕ, zero, suc, ◌<◌, Some, List, [], ◌∷◌, map, length, replicate, refl, ap, ◌∙◌, arith, ⊎_elim}
 use Rattle.std.specs.Prelude.{All, IsTrue}
 use Rattle.std.proofs.lemmas.List.Elements.{All-cons, All-nil}
+use Rattle.river_base.proofs.PlaceLemmas.{if_true, if_false}
 use Rattle.river_base.specs.Name.{name_eq}
 use Rattle.river_base.specs.declared.kind.QueueType.{QueueType}
 use Rattle.river_kernels.specs.Formed.{is_width}
@@ -10,7 +11,6 @@ use Rattle.river_plan.specs.Forms.{Name, decl_names}
 use Rattle.river_plan.specs.Kinds.{kind_in}
 use Rattle.river_plan.specs.Names.{one_if, count}
 use Rattle.river_plan.proofs.NameLemmas.{cases_name}
-use Rattle.brooklet_model.proofs.Lists.{if_true, if_false}
 use Rattle.brooklet_model.proofs.Solutions.{count_here}
 use Rattle.rw_fission.specs.Fission.{decls}
 use Rattle.rw_fission.specs.Made.{each_name}

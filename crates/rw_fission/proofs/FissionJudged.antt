@@ -4,8 +4,12 @@ use Rattle.std.proofs.Common.{length, refl, sym, ap, ◌∙◌, subst, arith, �
 use Rattle.std.proofs.Common.{length-append}
 use Rattle.std.specs.Prelude.{Result, nat_le, slice_get}
 use Rattle.std.specs.List.{list_all}
-use Rattle.std.proofs.lemmas.Bool.{and_parts, and_cases, leb-true, leb-false}
+use Rattle.std.proofs.lemmas.Bool.{and_parts, and_cases, leb-true, leb-false, cases_Bool}
 use Rattle.std.proofs.lemmas.List.{map-append}
+use Rattle.std.proofs.lemmas.Option.{same_Some, none-some}
+use Rattle.river_base.proofs.Lists.{alone_same, each_passes}
+use Rattle.river_plan.proofs.ValidLaw.{total-append}
+use Rattle.river_base.proofs.PlaceLemmas.{if_lt}
 use Rattle.river_base.specs.Name.{name_eq}
 use Rattle.river_kernels.specs.Kern.{Kern}
 use Rattle.river_base.specs.declared.kind.QueueType.{QueueType}
@@ -15,14 +19,13 @@ use Rattle.river_plan.specs.Limits.{most_of, numbers, limits}
 use Rattle.river_plan.specs.Names.{count, one_if}
 use Rattle.river_plan.specs.Uses.{total, named_it}
 use Rattle.river_plan.specs.Valid.{IsPlan}
-use Rattle.river_plan.proofs.NameLemmas.{cases_bool, cases_name, name_is, name_same, count-append, one_same}
-use Rattle.brooklet_model.proofs.Lists.{if_lt}
+use Rattle.river_plan.proofs.NameLemmas.{cases_name, name_is, name_same, count-append, one_same}
 use Rattle.plan_edits.specs.declared.unfit.Unfit.{Unfit}
 use Rattle.plan_edits.specs.declared.unfit.Unfit.TheVariants.{U1, U2, U3, U4, U5, H1, H2, H3, H4, N1, N2, N3, N4, N5, NoMemory}
 use Rattle.plan_edits.specs.Judged.{rank, IsJudgedBy}
 use Rattle.plan_edits.specs.Lists.{first_with, swapped}
 use Rattle.plan_edits.proofs.Judging.{rank_most, judged_law, by_if}
-use Rattle.plan_edits.proofs.Surgery.{total-append, first_past, found, some_op}
+use Rattle.plan_edits.proofs.Surgery.{first_past, found}
 use Rattle.plan_edits.proofs.Swap.{swapped_past}
 use Rattle.rw_fission.specs.Asked.{all_made, are_short, way_of, by_way, by_reads, by_op, fission_of}
 use Rattle.rw_fission.specs.Code.{longest}
@@ -44,11 +47,6 @@ some_fails t (x ∷ xs) h = ⊎_elim
     (λ e. (0, x, refl, e))
     (λ e. let r = some_fails t xs e in (suc r.0, r.1, r.2, r.3))
     (and_cases (t x) (list_all t xs) h)
-
-each_passes : {A : Type 0} (t : A → Bool) (xs : List A) (i : ℕ) (x : A) → list_all t xs ≡ true → slice_get xs i ≡ Some x → t x ≡ true
-each_passes t [] i x h e = absurd (cc e)
-each_passes t (y ∷ ys) zero x h e = let d : y ≡ x = cc e in ap t (sym d) ∙ (and_parts (t y) (list_all t ys) h).0
-each_passes t (y ∷ ys) (suc i) x h e = each_passes t ys i x (and_parts (t y) (list_all t ys) h).1 e
 
 name_passes : (t : Name → Bool) (ws : List Name) (q : Name) → list_all t ws ≡ true → 0 < count q ws → t q ≡ true
 name_passes t [] q h lt = absurd (omega (arith, lt))
@@ -194,12 +192,6 @@ new_short p l op n source w t a b c =
     r)
     t
 
-no_op : (op : OpForm) → None ≡ Some op → ⊥
-no_op op h = cc h
-
-same_source : (a b : Name) → a ∷ [] ≡ b ∷ [] → a ≡ b
-same_source a b h = cc h
-
 two_one : (a b c : Name) (cs : List Name) → a ∷ b ∷ cs ≡ c ∷ [] → ⊥
 two_one a b c cs h = cc h
 
@@ -230,7 +222,7 @@ module _ (p : PlanForm) (l : Name) (n : ℕ) (v : IsPlan p) where
       ∙ if_lt 0 (named_it l op) (Some op) (first_with (named_it l) a.behind) k.0
 
   one_labelled : (a b : OpForm) → IsLabelled p l a → IsLabelled p l b → a ≡ b
-  one_labelled a b x y = some_op a b (sym (labelled_first a x) ∙ labelled_first b y)
+  one_labelled a b x y = same_Some a b (sym (labelled_first a x) ∙ labelled_first b y)
 
   labelled : (op : OpForm) → first_with (named_it l) p.ops ≡ Some op → IsLabelled p l op
   labelled op h =
@@ -240,7 +232,7 @@ module _ (p : PlanForm) (l : Name) (n : ℕ) (v : IsPlan p) where
         before = f.before;
         behind = f.behind;
         ops = f.is;
-        label = ⊎_elim (λ b. name_is op.label l b) (λ b. absurd (let e = ap one_if b in omega (arith, e, lt))) (cases_bool (name_eq op.label l));
+        label = ⊎_elim (λ b. name_is op.label l b) (λ b. absurd (let e = ap one_if b in omega (arith, e, lt))) (cases_Bool (name_eq op.label l));
       }
 
   swapped_is : (op : OpForm) (a : IsLabelled p l op) (news : List OpForm) → swapped l news p.ops ≡ a.before ++ (news ++ a.behind)
@@ -250,7 +242,7 @@ module _ (p : PlanForm) (l : Name) (n : ℕ) (v : IsPlan p) where
 
   one_source : (a b : OpForm) (s t : Name) → IsLabelled p l a → a.reads ≡ s ∷ [] → IsLabelled p l b → b.reads ≡ t ∷ [] → (a ≡ b) × (s ≡ t)
   one_source a b s t x e y d =
-      let k = one_labelled a b x y in (k, same_source s t (sym e ∙ ap (λ (o : OpForm). o.reads) k ∙ d))
+      let k = one_labelled a b x y in (k, alone_same s t (sym e ∙ ap (λ (o : OpForm). o.reads) k ∙ d))
 
   -- THE RESULT
 
@@ -407,7 +399,7 @@ module _ (p : PlanForm) (l : Name) (n : ℕ) (v : IsPlan p) where
 
   any : (o : Option OpForm) → first_with (named_it l) p.ops ≡ o → Judged (by_op p l n o)
   any None h = record {
-    fails = λ op a. no_op op (sym h ∙ labelled_first op a);
+    fails = λ op a. none-some op (sym h ∙ labelled_first op a);
     first = nots 9 (λ x. absurd (omega (arith, x))) (λ x. absurd (omega (arith, x))) (λ x. absurd (omega (arith, x)))
         (λ x. absurd (omega (arith, x))) (λ x. absurd (omega (arith, x)));
   }

@@ -9,9 +9,10 @@ use Rattle.river_kernels.specs.declared.limit.Limit.TheVariants.{Latest, Best}
 use Rattle.river_plan.specs.Forms.{queue_names, variable_names, labels, Name, OpForm, PlanForm, all_decls}
 use Rattle.river_plan.specs.Limits.{most_of, numbers, limits}
 use Rattle.river_plan.specs.Names.{count, one_if}
-use Rattle.river_plan.specs.Uses.{total, named_it}
+use Rattle.river_plan.specs.Uses.{named_it}
 use Rattle.river_plan.proofs.NameLemmas.{cases_name, more_or_zero}
 use Rattle.std.proofs.lemmas.List.Elements.{All-nil, All-cons, All-head, All-tail}
+use Rattle.river_plan.proofs.ValidLaw.{total-labels}
 use Rattle.river_base.specs.Held.{HasType}
 use Rattle.river_base.specs.declared.item.Item as item
 use Rattle.river_base.specs.declared.kind.FlatType.{FlatType}
@@ -40,10 +41,6 @@ use Rattle.rw_fission.proofs.SplitLaw as law
 use Rattle.rw_fission.proofs.SplitValid as split
 
 -- WHAT STANDS ONCE
-
-total_labels : (l : Name) (ops : List OpForm) → total (named_it l) ops ≡ count l (labels ops)
-total_labels l [] = refl
-total_labels l (op ∷ ops) = let e = total_labels l ops in omega (arith, e)
 
 all_once : (ws vs : List Name) → list_all (λ w. nat_le (count w ws) 1) vs ≡ true → (q : Name) → 0 < count q vs → count q ws ≤ 1
 all_once ws [] h q lt = absurd (omega (arith, lt))
@@ -102,7 +99,7 @@ apart_is p h =
     record {
       queues_once = once_is (queue_names p) a.0;
       variables_once = once_is (variable_names p) b.0;
-      labels_once = λ k. let i = once_is (labels p.ops) c.0 k in let e = total_labels k p.ops in omega (arith, i, e);
+      labels_once = λ k. let i = once_is (labels p.ops) c.0 k in let e = total-labels k p.ops in omega (arith, i, e);
       within = λ limit. all_below (most_of limit) (numbers limit p) (limit_in (is_within p) c.1 limit);
     }
 
@@ -113,7 +110,7 @@ is_apart_of p v =
     and_from (stand_once (queue_names p)) (stand_once (variable_names p) && rest2) (once_all (queue_names p) (queue_names p) v.queues_once)
     (and_from (stand_once (variable_names p)) rest2 (once_all (variable_names p) (variable_names p) v.variables_once)
     (and_from (stand_once (labels p.ops)) (list_all (is_within p) limits)
-    (once_all (labels p.ops) (labels p.ops) (λ k. let i = v.labels_once k in let e = total_labels k p.ops in omega (arith, i, e)))
+    (once_all (labels p.ops) (labels p.ops) (λ k. let i = v.labels_once k in let e = total-labels k p.ops in omega (arith, i, e)))
     (all_limits (is_within p) limits (λ limit. below_all (most_of limit) (numbers limit p) (v.within limit)))))
 
 -- ITEMS

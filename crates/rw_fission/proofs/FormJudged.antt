@@ -3,6 +3,10 @@ use Rattle.std.proofs.Common.{◌≡◌, ℕ, ◌<◌, inl, inr, Bool, true, ◌
 use Rattle.std.specs.Prelude.{nat_le, nat_lt, nat_eq, is_none}
 use Rattle.std.specs.List.{list_all}
 use Rattle.std.proofs.lemmas.Bool.{and_from, lt-ltb, le-leb, eq-eqb}
+use Rattle.std.proofs.lemmas.Option.{none-some}
+use Rattle.river_base.proofs.PlaceLemmas.{if_true}
+use Rattle.river_base.proofs.Options.{none_some}
+use Rattle.river_base.proofs.Lists.{alone_same}
 use Rattle.river_base.specs.declared.kind.FlatType.{FlatType}
 use Rattle.river_base.specs.declared.kind.QueueType.{QueueType}
 use Rattle.river_base.specs.declared.kind.QueueType.TheVariants.{Flat, Pack}
@@ -13,21 +17,17 @@ use Rattle.river_kernels.specs.Limits.{either}
 use Rattle.river_plan.specs.Forms.{Name, OpForm, PlanForm, all_decls, table_names}
 use Rattle.river_plan.specs.Kinds.{kind_of}
 use Rattle.river_plan.specs.Names.{count}
-use Rattle.brooklet_model.proofs.Lists.{if_true}
 use Rattle.brooklet_model.proofs.Solutions.{count_here}
 use Rattle.rw_fission.specs.Asked.{packs_to, packs_way, is_nil, blocks_way, adds_way, way_of}
 use Rattle.rw_fission.specs.Fission.{Way, by_packs, by_blocks, by_adds}
 use Rattle.rw_fission.specs.Made.{FissionNames}
 use Rattle.rw_fission.specs.May.{MayPack, MayBlock, MayAdd}
 use Rattle.rw_fission.specs.Splitting.{CanPack, CanBlock, CanAdd, SplitsBy}
-use Rattle.rw_fission.proofs.Accepted.{packs_is, blocks_is, adds_is, no_some}
+use Rattle.rw_fission.proofs.Accepted.{packs_is, blocks_is, adds_is}
 
 all_named : (t : Name → Bool) (ws : List Name) → ((x : Name) → 0 < count x ws → t x ≡ true) → list_all t ws ≡ true
 all_named t [] h = refl
 all_named t (w ∷ ws) h = and_from (t w) (list_all t ws) (h w (count_here w ws)) (all_named t ws (λ x lt. h x (omega (arith, lt))))
-
-same_out : (a b : Name) → a ∷ [] ≡ b ∷ [] → a ≡ b
-same_out a b h = cc h
 
 same_flat : (t u : FlatType) → Flat t ≡ Flat u → t ≡ u
 same_flat t u h = cc h
@@ -37,9 +37,6 @@ same_filter f g h = cc h
 
 not_flat : (t u : FlatType) → Pack t ≡ Flat u → ⊥
 not_flat t u h = cc h
-
-some_none : {A : Type 0} (o : Option A) (a : A) → o ≡ None → o ≡ Some a → ⊥
-some_none o a e h = no_some a (sym e ∙ h)
 
 module _ (p : PlanForm) (op : OpForm) (m : FissionNames) (n : ℕ) (source : Name) where
   -- WHERE A FORM IS THERE
@@ -68,9 +65,9 @@ module _ (p : PlanForm) (op : OpForm) (m : FissionNames) (n : ℕ) (source : Nam
 
   -- at least one variable
   some_vars : (ws vs : List Name) (w : Way) → adds_way p op m ws vs ≡ Some w → 0 < length vs
-  some_vars [] [] w h = absurd (no_some w h)
+  some_vars [] [] w h = absurd (none-some w h)
   some_vars [] (v ∷ vs) w h = omega arith
-  some_vars (q ∷ qs) vs w h = absurd (no_some w h)
+  some_vars (q ∷ qs) vs w h = absurd (none-some w h)
 
   -- WHICH IS TAKEN
 
@@ -86,17 +83,17 @@ module _ (p : PlanForm) (op : OpForm) (m : FissionNames) (n : ℕ) (source : Nam
         → WayJudged (either a (either b c))
     flat t k (Some w) b c ea eb ec = let s = packs_is p op m n source t w op.writes op.vars reads k refl refl ea in inl (s.out, t, s.type, s.may, s.is)
     flat t k None (Some w) c ea eb ec =
-        let s = blocks_is p op m n source w op.kernel reads refl eb in inr (inl ((λ h. some_none _ _ ea (packs_some h.0 h.1 h.2 h.3)), s.form, s.may, s.is))
+        let s = blocks_is p op m n source w op.kernel reads refl eb in inr (inl ((λ h. none_some _ _ ea (packs_some h.0 h.1 h.2 h.3)), s.form, s.may, s.is))
     flat t k None None (Some w) ea eb ec =
         let s = adds_is p op m source t w op.writes op.vars reads k refl refl ec in
         inr (inr (
-          (λ h. some_none _ _ ea (packs_some h.0 h.1 h.2 h.3)),
-          (λ h. some_none _ _ eb (blocks_some h.0 h.1)),
+          (λ h. none_some _ _ ea (packs_some h.0 h.1 h.2 h.3)),
+          (λ h. none_some _ _ eb (blocks_some h.0 h.1)),
           (t, s.may, some_vars op.writes op.vars w ec),
           s.is,
         ))
     flat t k None None None ea eb ec =
-        ((λ h. some_none _ _ ea (packs_some h.0 h.1 h.2 h.3)), (λ h. some_none _ _ eb (blocks_some h.0 h.1)), (λ h. some_none _ _ ec (adds_some h)))
+        ((λ h. none_some _ _ ea (packs_some h.0 h.1 h.2 h.3)), (λ h. none_some _ _ eb (blocks_some h.0 h.1)), (λ h. none_some _ _ ec (adds_some h)))
 
     by_kind : (k : QueueType) → kind_of (all_decls p) source ≡ k → ((f : FilterForm) → MayBlock p op source f → kind_of (all_decls p) source ≡ rows 1)
         → WayJudged (way_of p op m n k)
@@ -132,7 +129,7 @@ module _ (p : PlanForm) (op : OpForm) (m : FissionNames) (n : ℕ) (source : Nam
           → u ≡ by_packs p op m n v'
           → w ≡ u
       packs_same o t v o' t' v' w u x e y d =
-          let same = same_out o o' (sym x.writes ∙ y.writes) in
+          let same = alone_same o o' (sym x.writes ∙ y.writes) in
           let f = same_flat v v' (sym x.kind_out ∙ ap (kind_of (all_decls p)) same ∙ y.kind_out) in
           e ∙ ap (by_packs p op m n) f ∙ sym d
 

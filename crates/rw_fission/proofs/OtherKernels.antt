@@ -1,10 +1,11 @@
 -- Kernels that are no filters are not split by blocks, and the kernels of joiners.
-use Rattle.std.proofs.Common.{◌≡◌, ℕ, ℤ, List, None, refl, ap}
+use Rattle.std.proofs.Common.{◌≡◌, ℕ, None, refl, ap}
+use Rattle.river_kernels.proofs.KernLemmas.{kern_of-unpack, kern_of-collect}
 use Rattle.kern_rows.specs.declared.kernel.Filter.{Filter}
 use Rattle.river_kernels.specs.declared.kernel.Kernel.{Kernel, fold_out-Kernel}
 use Rattle.river_kernels.specs.declared.kernel.Kernel as view
 use Rattle.river_kernels.specs.declared.kernel.Kernel.TheVariants as kernel
-use Rattle.river_kernels.specs.Kern.{Kern, kern_of, kern_at, collect, unpack}
+use Rattle.river_kernels.specs.Kern.{Kern, kern_of, kern_at}
 use Rattle.river_plan.specs.Forms.{OpForm, PlanForm}
 use Rattle.rw_fission.specs.Asked.{blocks_way}
 use Rattle.rw_fission.specs.Made.{FissionNames}
@@ -16,11 +17,8 @@ unfolding view.out-Kernel denote.Hole.Carrier.out
 no_blocks (kernel.Filter f) h p op m n = absurd (h f refl)
 no_blocks k h p op m n = ap (blocks_way p op m n) (fold_out-Kernel Kern kern_at k)
 
--- the kernel that joins packs, and the one that joins blocks
-pub kern_unpack : (n : ℕ) → kern_of (kernel.Unpack n) ≡ unpack n
 unfolding view.out-Kernel denote.Hole.Carrier.out
-kern_unpack n = fold_out-Kernel Kern kern_at (kernel.Unpack n)
+kern_of-unpack n = fold_out-Kernel Kern kern_at (kernel.Unpack n)
 
-pub kern_collect : (ws : List ℤ) → kern_of (kernel.Collect ws) ≡ collect ws
 unfolding view.out-Kernel denote.Hole.Carrier.out
-kern_collect ws = fold_out-Kernel Kern kern_at (kernel.Collect ws)
+kern_of-collect ws = fold_out-Kernel Kern kern_at (kernel.Collect ws)

@@ -2,6 +2,7 @@
 use Rattle.std.proofs.Common.{◌≡◌, ℕ, ℤ, zero, suc, ◌+◌, ◌<◌, ◌≤◌, Bool, Option, Some, None, List, [], ◌∷◌, ◌++◌, map, length, refl, sym, ap, ◌∙◌, subst, arith}
 use Rattle.std.proofs.Common.{⊎_elim}
 use Rattle.std.specs.Prelude.{All, count_by, filter, nat_lt}
+use Rattle.river_base.proofs.PlaceLemmas.{if_ge}
 use Rattle.river_base.specs.declared.item.Item as item
 use Rattle.river_base.specs.declared.kind.QueueType.{QueueType}
 use Rattle.river_kernels.specs.Kern.{Kern}
@@ -16,7 +17,6 @@ use Rattle.brooklet_model.specs.Fire.{fire, first_kept, ins}
 use Rattle.brooklet_model.specs.Histories.{History, lists_of, given_on, written, histories, joined, tables_of, adds, hist, Lists, Solves}
 use Rattle.brooklet_model.specs.Laws.{given_to}
 use Rattle.brooklet_model.proofs.Feeds.{one_input}
-use Rattle.brooklet_model.proofs.Lists.{if_ge}
 use Rattle.brooklet_model.proofs.Ports.{counts}
 use Rattle.brooklet_model.proofs.Solutions.{count_here, lists_written, written_out, stays, plan_solves}
 use Rattle.brooklet_model.proofs.Traces.{adds_it, lists_cong}

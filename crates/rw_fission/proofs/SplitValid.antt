@@ -3,6 +3,9 @@ use Rattle.std.proofs.Common.{◌≡◌, ℕ, zero, suc, ◌+◌, ◌<◌, ◌�
 use Rattle.std.proofs.Common.{append_assoc, ⊎_elim}
 use Rattle.std.specs.Prelude.{unwrap_or, All, IsTrue}
 use Rattle.std.proofs.lemmas.List.Elements.{All-append, All-nil, All-cons, All-head, All-tail}
+use Rattle.rw_fission.proofs.WayLemmas.{one_at_most}
+use Rattle.brooklet_model.proofs.TypedPlan.{kind_front, kind_back}
+use Rattle.river_plan.proofs.ValidLaw.{total-append}
 use Rattle.river_base.specs.declared.item.Item as item
 use Rattle.river_base.specs.declared.kind.QueueType.{QueueType}
 use Rattle.river_kernels.specs.Fits.{Fits, rows}
@@ -14,19 +17,19 @@ use Rattle.river_plan.specs.declared.plan.Decl.{Decl}
 use Rattle.river_plan.specs.Faults.{HasWidth, IsOuter, type_width}
 use Rattle.river_plan.specs.Forms.{Name, OpForm, PlanForm, decl_names, table_names, all_decls, queue_names, variable_names}
 use Rattle.river_plan.specs.Kinds.{kind_in, kind_of, var_kind, IsFit}
-use Rattle.river_plan.specs.Names.{count, one_if}
+use Rattle.river_plan.specs.Names.{count}
 use Rattle.river_plan.specs.Uses.{Each, total, writes_it, reads_it, vars_it, named_it, AreAllKnown, ReadsBefore}
 use Rattle.river_plan.specs.Valid.{IsPlan}
-use Rattle.river_plan.proofs.NameLemmas.{cases_name, count-append, more_or_zero}
+use Rattle.river_plan.proofs.NameLemmas.{count-append, more_or_zero}
 use Rattle.brooklet_model.proofs.Solutions.{count_here}
 use Rattle.rw_fission.specs.Fission.{Way, equal_weights, outs_of, replica_op, splitter_op, joiner_ops, each_op, split_ops, split_by, decls, given_decls}
 use Rattle.plan_edits.specs.Lists.{first_with}
 use Rattle.rw_fission.specs.Made.{FissionNames, each_name}
 use Rattle.rw_fission.specs.Splits.{Splits, JoinerFits, given_types, given_names}
-use Rattle.plan_edits.proofs.Surgery.{total-append, before_append, found}
+use Rattle.plan_edits.proofs.Surgery.{before_append, found}
 use Rattle.river_plan.proofs.ShareLemmas.{each_append}
 use Rattle.plan_edits.proofs.Swap.{Swap, swap_of, stay, sum_old, sum_new, it_is, together, reordered}
-use Rattle.plan_edits.proofs.Lookups.{names_append, kind_front, kind_back, map_agree, kind_sized, private_is, table_is}
+use Rattle.plan_edits.proofs.Lookups.{names_append, map_agree, kind_sized, private_is, table_is}
 use Rattle.rw_fission.proofs.Declared.{names_of_decls, kind_decls, count_each, map_each, decls_sized}
 
 -- REPLICAS AND JOINERS
@@ -95,9 +98,6 @@ given_sized p op m n k (Some j) e = decls_sized j.1 (each_name m.given n) e.2
 outer : (ds : List Decl) → All IsOuter ds → All HasWidth ds
 outer [] h = All-nil HasWidth
 outer (d ∷ ds) h = All-cons HasWidth d ds (All-head IsOuter d ds h).0 (outer ds (All-tail IsOuter d ds h))
-
-one_at_most : (w x : Name) → count x (w ∷ []) ≤ 1
-one_at_most w x = ⊎_elim (λ c. let e = ap one_if c.1 in omega (arith, e)) (λ c. let e = ap one_if c.1 in omega (arith, e)) (cases_name w x)
 
 module _ (Good : item.Item → Type 0) (p : PlanForm) (l : Name) (op : OpForm) (m : FissionNames) (n : ℕ) (source : Name) (t : QueueType) (w : Way) (v : IsPlan p)
     (here : first_with (named_it l) p.ops ≡ Some op) (y : Splits Good p l op m n source t w) where

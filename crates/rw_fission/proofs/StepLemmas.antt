@@ -3,6 +3,7 @@ use Rattle.std.proofs.Common.{◌≡◌, ◌≢◌, ℕ, ◌+◌, ◌<◌, ◌�
 use Rattle.std.proofs.Common.{⊎_elim}
 use Rattle.std.specs.Prelude.{if◌then◌else◌, nat_le, Result, Ok, Err, slice_get, slice_index_or}
 use Rattle.std.proofs.lemmas.List.{length-map}
+use Rattle.std.proofs.lemmas.Bool.{cases_Bool}
 use Rattle.river_base.specs.declared.kind.QueueType.{QueueType}
 use Rattle.river_plan.specs.declared.fault.PlanFault.{PlanFault}
 use Rattle.river_plan.specs.declared.fault.PlanFault.TheVariants as fault
@@ -14,7 +15,6 @@ use Rattle.river_plan.specs.Uses.{named_it}
 use Rattle.river_plan.specs.Valid.{IsPlan}
 use Rattle.river_plan.proofs.OneFirst.{fault-one}
 use Rattle.river_plan.proofs.ValidLaw.{valid-no_fault}
-use Rattle.river_plan.proofs.NameLemmas.{cases_bool}
 use Rattle.plan_edits.specs.Answered.{IsAnswered}
 use Rattle.rw_fission.specs.Asked.{HoldsOfAnswer, way_of, by_way, by_reads, by_op, all_made, are_short}
 use Rattle.rw_fission.specs.Code.{IsPlace, IsJudgedAs, split_plan, longest}
@@ -62,7 +62,7 @@ ended_no false q v n = refl
 ended_no true q v n = ⊎_elim
     (λ t. absurd (n (v t)))
     (λ f. sym (ap (λ b. if b then yes q else no N5) f))
-    (cases_bool (is_apart q))
+    (cases_Bool (is_apart q))
 
 -- a valid result is accepted
 pub ended_yes : (short : Bool) (q : PlanForm) → short ≡ true → is_apart q ≡ true → yes q ≡ (if short && is_apart q then yes q else no N5)

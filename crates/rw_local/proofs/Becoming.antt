@@ -2,18 +2,19 @@
 use Rattle.std.proofs.Common.{◌≡◌, ℕ, ◌+◌, ◌-◌, ◌<◌, ◌≤◌, ◌⊎◌, inl, inr, Some, None, List, length, refl, sym, ap, ◌∙◌, subst, arith, ⊎_elim}
 use Rattle.std.specs.Prelude.{Option, Result, Ok, Err, slice_get}
 use Rattle.std.proofs.lemmas.Bool.{cases_lt}
+use Rattle.std.proofs.lemmas.Option.{none-some, same_Some}
+use Rattle.river_base.proofs.PlaceLemmas.{if_lt, if_ge}
 use Rattle.river_base.specs.declared.kind.QueueType.{QueueType}
 use Rattle.work_code.specs.Term.{Term, Const, Input, Slot, Neg, Not, Bin}
 use Rattle.kern_bags.specs.declared.kernel.Window.TheVariants.{Now, Range, Unbounded}
 use Rattle.river_kernels.specs.Kern.{Kern, window, project, cross, streamer}
 use Rattle.river_kernels.specs.Fits.{Fits}
 use Rattle.river_kernels.specs.declared.types.VarKind.{VarKind}
-use Rattle.brooklet_model.proofs.Lists.{if_lt, if_ge}
 use Rattle.plan_edits.specs.declared.unfit.Unfit.{Unfit}
 use Rattle.plan_edits.specs.declared.unfit.Unfit.TheVariants.{H3, H4}
 use Rattle.rw_local.specs.Hoist.{two_terms, one_term, as_input, refielded, plain_field, of_projection, of_first, of_second, at_side, either_side, or_h4, passes}
 use Rattle.rw_local.specs.Hoisting.{ReadsField, Becomes, IsCopy, LetsPass, StopsHoisting, Goes}
-use Rattle.rw_local.proofs.Fields.{one_some, two_some, input_some, plain_is, some_term, first_is, second_is}
+use Rattle.rw_local.proofs.Fields.{one_some, two_some, input_some, plain_is, first_is, second_is}
 
 -- WHERE A FIELD HAS NONE
 
@@ -29,9 +30,6 @@ two_none : (g : Term → Term → Term) (a b : Option Term) → two_terms g a b 
 two_none g None b h = inl refl
 two_none g (Some l) None h = inr refl
 two_none g (Some l) (Some r) h = absurd (cc h)
-
-no_some : {A : Type 0} (a : A) → None ≡ Some a → ⊥
-no_some a h = absurd (cc h)
 
 none_reads : (f : ℕ → Option ℕ) (t : Term) → refielded f t ≡ None → (i : ℕ) × ReadsField i t × (f i ≡ None)
 none_reads f (Const z) h = absurd (cc h)
@@ -50,9 +48,9 @@ abbrev By : (ℕ → Option ℕ) → ℕ → ℕ → Type 0
 By f i j = f i ≡ Some j
 
 some_becomes : (f : ℕ → Option ℕ) (t t' : Term) → refielded f t ≡ Some t' → Becomes (By f) t t'
-some_becomes f (Const z) t' h = sym (some_term (Const z) t' h)
+some_becomes f (Const z) t' h = sym (same_Some (Const z) t' h)
 some_becomes f (Input i) t' h = let r = input_some (f i) t' h in (r.0, r.1, sym r.2)
-some_becomes f (Slot s) t' h = sym (some_term (Slot s) t' h)
+some_becomes f (Slot s) t' h = sym (same_Some (Slot s) t' h)
 some_becomes f (Neg t) t' h = let r = one_some Neg (refielded f t) t' h in (r.0, some_becomes f t r.0 r.1, sym r.2)
 some_becomes f (Not t) t' h = let r = one_some Not (refielded f t) t' h in (r.0, some_becomes f t r.0 r.1, sym r.2)
 some_becomes f (Bin op x y) t' h =
@@ -113,10 +111,10 @@ all_first w (Bin op x y) h =
     ∙ ap (two_terms (Bin op) (Some x)) (all_first w y (λ i r. h i (inr r)))
 
 none_first : (w i : ℕ) → of_first w i ≡ None → w ≤ i
-none_first w i h = ⊎_elim (λ lt. absurd (no_some i (sym h ∙ if_lt i w (Some i) None lt))) (λ ge. ge) (cases_lt i w)
+none_first w i h = ⊎_elim (λ lt. absurd (none-some i (sym h ∙ if_lt i w (Some i) None lt))) (λ ge. ge) (cases_lt i w)
 
 none_second : (w i : ℕ) → of_second w i ≡ None → i < w
-none_second w i h = ⊎_elim (λ lt. lt) (λ ge. absurd (no_some (i - w) (sym h ∙ if_ge i w None (Some (i - w)) ge))) (cases_lt i w)
+none_second w i h = ⊎_elim (λ lt. lt) (λ ge. absurd (none-some (i - w) (sym h ∙ if_ge i w None (Some (i - w)) ge))) (cases_lt i w)
 
 second_from : (w i j : ℕ) → i ≡ w + j → of_second w i ≡ Some j
 second_from w i j e = if_ge i w None (Some (i - w)) (omega (arith, e)) ∙ ap (λ n. Some n) (let d : i - w ≡ j = omega (arith, e) in d)
@@ -137,7 +135,7 @@ module _ (w : ℕ) (t : Term) where
   projection : (es : List Term) (o : Option Term) → refielded (of_projection es) t ≡ o → PassJudged (project es) (or_h4 (at_side 0 o))
   projection es None e =
       let n = none_reads (of_projection es) t e in
-      (tt, (n.0, n.1, λ j c. no_some j (sym n.2 ∙ ap plain_field c)))
+      (tt, (n.0, n.1, λ j c. none-some j (sym n.2 ∙ ap plain_field c)))
   projection es (Some t') e = (
     tt,
     (λ s. let r = read_some (of_projection es) t t' s.0 e s.1 in s.2 r.0 (plain_is (slice_get es s.0) r.0 r.1)),

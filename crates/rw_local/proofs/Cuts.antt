@@ -1,6 +1,8 @@
 -- Lists of names and of declarations that are cut at a name.
 use Rattle.std.proofs.Common.{◌≡◌, suc, ◌<◌, List, [], ◌∷◌, ◌++◌, length, refl, ap, ◌∙◌, subst, arith, ⊎_elim}
 use Rattle.std.specs.Prelude.{true}
+use Rattle.brooklet_model.proofs.Spliced.{spliced_next}
+use Rattle.river_base.proofs.PlaceLemmas.{if_true, if_false}
 use Rattle.river_base.specs.Name.{name_eq}
 use Rattle.river_kernels.specs.Fits.{spliced}
 use Rattle.river_base.specs.declared.kind.QueueType.{QueueType}
@@ -8,9 +10,7 @@ use Rattle.river_plan.specs.declared.plan.Decl.{Decl}
 use Rattle.river_plan.specs.Forms.{Name, decl_names}
 use Rattle.river_plan.specs.Names.{count, one_if}
 use Rattle.river_plan.proofs.NameLemmas.{cases_name, name_same}
-use Rattle.brooklet_model.proofs.Lists.{if_true, if_false}
 use Rattle.plan_edits.specs.Lists.{place_of_name, undeclared, retyped}
-use Rattle.rw_local.proofs.FuseLemmas.{spliced_next}
 
 -- the names on both sides of one
 pub record Parted (q : Name) (ws : List Name) : Type 0 where

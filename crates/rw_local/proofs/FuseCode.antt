@@ -2,7 +2,9 @@
 use Rattle.std.proofs.Common.{◌≡◌, ℕ, zero, suc, ◌+◌, ◌<◌, ◌≤◌, ◌^◌, true, false, Some, List, [], ◌∷◌, ◌++◌, length, take, drop, get_or, sym, ap, ◌∙◌, subst}
 use Rattle.std.proofs.Common.{arith, ⊎_elim, nat_lt}
 use Rattle.std.specs.Prelude.{All, Ok, Err, None}
-use Rattle.std.proofs.lemmas.Bool.{or_parts, ltb-false}
+use Rattle.std.proofs.lemmas.Bool.{or_parts, ltb-false, cases_Bool}
+use Rattle.river_plan.proofs.ValidLaw.{total-append}
+use Rattle.river_base.proofs.PlaceLemmas.{if_lt, if_true, if_false, if_eq}
 use Rattle.river_base.specs.Name.{name_eq}
 use Rattle.river_kernels.specs.Limits.{nesting}
 use Rattle.river_kernels.specs.declared.limit.Limit.TheVariants.{Ports}
@@ -11,13 +13,11 @@ use Rattle.river_plan.specs.Forms.{Name, OpForm, PlanForm, decl_names, queue_nam
 use Rattle.river_plan.specs.Names.{count, one_if}
 use Rattle.river_plan.specs.Uses.{Each, total, writes_it, reads_it}
 use Rattle.river_plan.specs.Valid.{IsPlan}
-use Rattle.river_plan.proofs.NameLemmas.{cases_bool}
 use Rattle.river_plan.proofs.ShareLemmas.{each_back}
-use Rattle.brooklet_model.proofs.Lists.{if_true, if_false, if_lt, if_eq}
 use Rattle.plan_edits.specs.Lists.{place_of_name, undeclared, first_with}
 use Rattle.rw_local.specs.Fuse.{fused_op, fused_plan, share, is_large, fuse_two, fuse_found, fuse_of}
 use Rattle.plan_edits.specs.declared.unfit.Unfit.TheVariants.{U2}
-use Rattle.plan_edits.proofs.Surgery.{total-append, found}
+use Rattle.plan_edits.proofs.Surgery.{found}
 use Rattle.plan_edits.proofs.Types.{flat_each}
 use Rattle.rw_local.proofs.FuseLaw.{names_of, fuse_keeps}
 use Rattle.rw_local.proofs.FuseSteps.{shares_none}
@@ -53,7 +53,7 @@ decl_at q (x ∷ ds) zero d lt e t z = sym (if_true (name_eq x.name q) 0 (suc (p
 decl_at q (x ∷ ds) (suc i) d lt e t z = ⊎_elim
     (λ c. absurd (let k = ap one_if c in omega (arith, k, z)))
     (λ c. ap suc (decl_at q ds i d (omega (arith, lt)) e t (omega (arith, z))) ∙ sym (if_false (name_eq x.name q) 0 (suc (place_of_name q (decl_names ds))) c))
-    (cases_bool (name_eq x.name q))
+    (cases_Bool (name_eq x.name q))
 
 -- where there is none, the place is the length
 pub decl_past : (q : Name) (ds : List Decl) (i : ℕ) → length ds ≤ i → i ≤ length ds → count q (decl_names (take i ds)) ≡ 0 → i ≡ place_of_name q (decl_names ds)
@@ -63,7 +63,7 @@ decl_past q (x ∷ ds) (suc i) ge le z = ⊎_elim
     (λ c. absurd (let k = ap one_if c in omega (arith, k, z)))
     (λ c. ap suc (decl_past q ds i (omega (arith, ge)) (omega (arith, le)) (omega (arith, z)))
     ∙ sym (if_false (name_eq x.name q) 0 (suc (place_of_name q (decl_names ds))) c))
-    (cases_bool (name_eq x.name q))
+    (cases_Bool (name_eq x.name q))
 
 -- the place of a declaration that is there
 pub decl_below : (q : Name) (ds : List Decl) → 0 < count q (decl_names ds) → place_of_name q (decl_names ds) < length ds
@@ -72,7 +72,7 @@ decl_below q (x ∷ ds) lt = ⊎_elim
     (λ c. let e = if_true (name_eq x.name q) 0 (suc (place_of_name q (decl_names ds))) c in omega (arith, e))
     (λ c. let e = if_false (name_eq x.name q) 0 (suc (place_of_name q (decl_names ds))) c in let z = ap one_if c in let i =
     decl_below q ds (omega (arith, z, lt)) in omega (arith, e, i))
-    (cases_bool (name_eq x.name q))
+    (cases_Bool (name_eq x.name q))
 
 -- the declarations without one
 pub undeclared_is : (q : Name) (ds : List Decl) (n : ℕ) → 0 < count q (decl_names ds) → n ≡ place_of_name q (decl_names ds)
@@ -90,7 +90,7 @@ undeclared_is q ds n lt e = ap (λ m. take m ds ++ drop (m + 1) ds) e ∙ go ds 
         ap (λ m. take m (x ∷ xs) ++ drop (m + 1) (x ∷ xs)) (if_false (name_eq x.name q) 0 (suc (place_of_name q (decl_names xs))) c)
         ∙ ap (λ m. x ∷ (take (place_of_name q (decl_names xs)) xs ++ drop m (x ∷ xs))) k
         ∙ ap (λ m. x ∷ m) (go xs (let z = ap one_if c in omega (arith, z, l))) ∙ sym (if_false (name_eq x.name q) xs (x ∷ undeclared q xs) c))
-        (cases_bool (name_eq x.name q))
+        (cases_Bool (name_eq x.name q))
 
 -- OPERATORS
 

@@ -3,6 +3,10 @@ use Rattle.std.proofs.Common.{◌≡◌, ℕ, ◌+◌, ◌<◌, ◌≤◌, ◌�
 use Rattle.std.proofs.Common.{◌∙◌, subst, arith, ⊎_elim}
 use Rattle.std.specs.Prelude.{Option, Result, Err, ◌||◌, nat_eq, nat_lt}
 use Rattle.std.proofs.lemmas.Bool.{ltb-true, ltb-false, eqb-true, eqb-false, or_parts}
+use Rattle.std.proofs.lemmas.Option.{same_Some, none-some}
+use Rattle.rw_local.proofs.FuseLemmas.{one_counted}
+use Rattle.river_plan.proofs.ValidLaw.{total-append}
+use Rattle.river_base.proofs.PlaceLemmas.{if_lt, if_ge}
 use Rattle.river_kernels.specs.Fits.{spliced}
 use Rattle.river_kernels.specs.Kern.{fused}
 use Rattle.river_kernels.specs.Limits.{nesting}
@@ -11,7 +15,6 @@ use Rattle.river_plan.specs.Names.{count}
 use Rattle.river_plan.specs.Uses.{total, writes_it, reads_it}
 use Rattle.river_plan.specs.Valid.{IsPlan}
 use Rattle.river_plan.proofs.NameLemmas.{count-append, one_same}
-use Rattle.brooklet_model.proofs.Lists.{if_lt, if_ge}
 use Rattle.plan_edits.specs.declared.unfit.Unfit.{Unfit}
 use Rattle.plan_edits.specs.declared.unfit.Unfit.TheVariants.{U1, U2, U3, U4, U5, H1, H2, H3, H4, N1, N2, N3, N4, N5, NoMemory}
 use Rattle.plan_edits.specs.Judged.{rank, IsJudgedBy}
@@ -19,13 +22,12 @@ use Rattle.plan_edits.specs.Lists.{first_with, place_of_name, undeclared}
 use Rattle.plan_edits.proofs.Edit.{Cut, cut_of, replaced_is}
 use Rattle.plan_edits.proofs.Judging.{rank_most, judged_law, by_if}
 use Rattle.plan_edits.proofs.Lookups.{names_append}
-use Rattle.plan_edits.proofs.Surgery.{total-append, first_past, some_op}
+use Rattle.plan_edits.proofs.Surgery.{first_past}
 use Rattle.rw_local.specs.Fuse.{fused_op, fused_plan, share, is_large, fuse_two, fuse_found, fuse_of}
 use Rattle.rw_local.specs.Fusion.{Feeds, IsBothAsOne, FuseFails, IsFused, FusionIsJudged}
 use Rattle.rw_local.proofs.Cuts.{parted, place_cut, spliced_cut, declared, undeclared_cut}
 use Rattle.rw_local.proofs.FuseCode.{declared_there}
 use Rattle.rw_local.proofs.FuseLaw.{names_of}
-use Rattle.rw_local.proofs.FuseLemmas.{length_one}
 use Rattle.rw_local.proofs.FuseSteps.{shares_none}
 
 -- TESTS
@@ -153,7 +155,7 @@ module _ (p : PlanForm) (q : Name) (v : IsPlan p) where
   -- there is only one writer and one reader
   feeds_same : (w r w' r' : OpForm) → Feeds p q w r → Feeds p q w' r' → (w ≡ w') × (r ≡ r')
   feeds_same w r w' r' f g =
-      (some_op w w' (sym (written_first w r f) ∙ written_first w' r' g), some_op r r' (sym (read_first w r f) ∙ read_first w' r' g))
+      (same_Some w w' (sym (written_first w r f) ∙ written_first w' r' g), same_Some r r' (sym (read_first w r f) ∙ read_first w' r' g))
 
   -- THE RESULT
 
@@ -255,7 +257,7 @@ module _ (p : PlanForm) (q : Name) (v : IsPlan p) where
     two : 0 < count q (decl_names p.queues) → Judged (fuse_two p q w r)
     two lt = by_if Judged (nat_eq (length r.reads) 1) _ _
         (λ one.
-        let reads = length_one r.reads q (eqb-true (length r.reads) 1 one) f.read in
+        let reads = one_counted r.reads q (eqb-true (length r.reads) 1 one) f.read in
         by_if Judged (is_large (fused_op q w r)) _ _
         (λ b. record {
           fails = (w, r, fused_op q w r, f, is_whole w r f, large (fused_op q w r) b);
@@ -272,9 +274,6 @@ module _ (p : PlanForm) (q : Name) (v : IsPlan p) where
           first = nots 2 (λ l. no1) (λ l. no2) (λ l. absurd (omega (arith, l))) (λ l. absurd (omega (arith, l))) (λ l. absurd (omega (arith, l)));
         })
 
-  no_op : (op : OpForm) → None ≡ Some op → ⊥
-  no_op op h = cc h
-
   unfed : 0 < count q (queue_names p) → Fails U2 → Judged (Err U2)
   unfed lt h = record {
     fails = h;
@@ -284,8 +283,8 @@ module _ (p : PlanForm) (q : Name) (v : IsPlan p) where
 
   both : 0 < count q (queue_names p) → (o o' : Option OpForm) → first_with (writes_it q) p.ops ≡ o → first_with (reads_it q) p.ops ≡ o'
       → Judged (fuse_found p q o o')
-  both lt None o' a b = unfed lt (λ w r f. no_op w (sym a ∙ written_first w r f))
-  both lt (Some w) None a b = unfed lt (λ x r f. no_op r (sym b ∙ read_first x r f))
+  both lt None o' a b = unfed lt (λ w r f. none-some w (sym a ∙ written_first w r f))
+  both lt (Some w) None a b = unfed lt (λ x r f. none-some r (sym b ∙ read_first x r f))
   both lt (Some w) (Some r) a b =
       let c = cut_of p q w r v a b in
       two w r (record { before = c.before; middle = c.middle; behind = c.behind; ops = c.is; written = c.w_writes; read = c.r_reads })

@@ -3,6 +3,8 @@ use Rattle.std.proofs.Common.{◌≡◌, ℕ, ℤ, ◌+◌, ◌<◌, ◌≤◌, 
 use Rattle.std.specs.Prelude.{count_by, All, flat_map}
 use Rattle.std.proofs.lemmas.List.{map-append, length-map}
 use Rattle.std.proofs.lemmas.List.Elements.{All-append, filter-append}
+use Rattle.river_base.proofs.PlaceLemmas.{if_true}
+use Rattle.river_base.proofs.Lists.{count_by-append}
 use Rattle.river_base.specs.declared.item.Item as item
 use Rattle.river_base.specs.Name.{name_eq}
 use Rattle.river_base.specs.Places.{list_at}
@@ -24,10 +26,8 @@ use Rattle.river_plan.proofs.NameLemmas.{cases_name, count-append, more_or_zero}
 use Rattle.brooklet_model.specs.Firings.{Same, splice, beside, fused_of}
 use Rattle.brooklet_model.specs.Fire.{outs, tabs}
 use Rattle.brooklet_model.specs.Histories.{History, given_on, written, histories, joined, adds, tables_of, inputs_of, Lists, Solves}
-use Rattle.brooklet_model.proofs.Lists.{if_true}
 use Rattle.brooklet_model.proofs.Ports.{Counts, counts, shaped}
 use Rattle.brooklet_model.proofs.Solutions.{stays, written_out, plan_solves}
-use Rattle.brooklet_model.proofs.Swaps.{count_by-append}
 use Rattle.brooklet_model.proofs.Traces.{adds_it, joined_cong, lists_cong}
 use Rattle.plan_edits.specs.Lists.{place_of_name, undeclared}
 use Rattle.plan_edits.specs.Meaning.{SameMeaning}
@@ -36,7 +36,7 @@ use Rattle.plan_edits.proofs.Edit.{Edit, Cut, cut_of, edit_of, Stays, sum_old, s
 use Rattle.plan_edits.proofs.Surgery.{all_agree, adds_it_same}
 use Rattle.plan_edits.proofs.Types.{each_fits, undeclared_count, undeclared_kind, kind_last, all_undeclared, undeclared_length, tables_length, flat_each}
 use Rattle.plan_edits.proofs.Types.{each_flat, map_each, each_map, all_one, all_here, total_length}
-use Rattle.rw_local.proofs.FuseLemmas.{map-spliced, lists_spliced, place_below, place_of, list_at_place, count_spliced, joined_beside, fused_given, length_one}
+use Rattle.rw_local.proofs.FuseLemmas.{map-spliced, lists_spliced, place_below, place_of, list_at_place, count_spliced, joined_beside, fused_given, one_counted}
 
 -- how often a name is declared in three lists
 pub names_of : (os is qs : List Name) (x : Name) → count x (os ++ (is ++ qs)) ≡ count x os + (count x is + count x qs)
@@ -86,7 +86,7 @@ module _ (p : PlanForm) (q : Name) (w r : OpForm) (v : IsPlan p) (m : MayFuse p 
       omega (arith, a, b, d, f, g, k)
 
   reads_are : r.reads ≡ q ∷ []
-  reads_are = length_one r.reads q m.only_input c.r_reads
+  reads_are = one_counted r.reads q m.only_input c.r_reads
 
   writes_fewer : (x : Name) → total (writes_it x) p'.ops + one_if (name_eq q x) ≡ total (writes_it x) p.ops
   writes_fewer x = let a = sums (writes_it x) in let b = count_spliced w.writes r.writes q x c.w_writes in omega (arith, a, b)

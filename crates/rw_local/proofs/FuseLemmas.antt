@@ -1,8 +1,9 @@
 -- What a fused operator gives.
-use Rattle.std.proofs.Common.{◌≡◌, ℕ, zero, suc, ◌+◌, ◌-◌, ◌<◌, List, [], ◌∷◌, ◌++◌, length, take, drop, sym, ap, ◌∙◌, subst, arith, ⊎_elim, append_assoc, map}
+use Rattle.std.proofs.Common.{◌≡◌, ℕ, zero, suc, ◌+◌, ◌-◌, ◌<◌, List, [], ◌∷◌, ◌++◌, length, drop, sym, ap, ◌∙◌, subst, arith, ⊎_elim, append_assoc, map}
 use Rattle.std.specs.Prelude.{if◌then◌else◌, slice_get, Some}
 use Rattle.std.proofs.lemmas.Bool.{cases_lt}
-use Rattle.std.proofs.lemmas.List.{map-append}
+use Rattle.std.proofs.lemmas.List.{map-append, take_at, drop_at}
+use Rattle.river_base.proofs.PlaceLemmas.{if_lt, if_ge, if_true, if_false}
 use Rattle.river_base.specs.declared.item.Item as item
 use Rattle.river_base.specs.Name.{name_eq}
 use Rattle.river_kernels.specs.Kern.{fused}
@@ -15,20 +16,15 @@ use Rattle.brooklet_model.specs.Fire.{fire, ins, outs, tabs, privates, first_kep
 use Rattle.brooklet_model.specs.Shapes.{IsShaped}
 use Rattle.brooklet_model.specs.Histories.{History, lists_of, given_on, joined, Lists}
 use Rattle.brooklet_model.specs.Words.{run, port_by_port, feed_all}
-use Rattle.brooklet_model.proofs.Lists.{if_true, if_false, if_lt, if_ge, take_front, drop_front}
 use Rattle.brooklet_model.proofs.Feeds.{one_input}
 use Rattle.brooklet_model.proofs.FusedRun.{fused_runs}
 use Rattle.brooklet_model.proofs.Shapes.{first_shape, shape_length}
-use Rattle.brooklet_model.proofs.Spliced.{splice_first, splice_second, splice_last, splice_next}
+use Rattle.brooklet_model.proofs.Spliced.{splice_first, splice_second, splice_last, splice_next, spliced_next}
 use Rattle.brooklet_model.proofs.Traces.{joined_cong, lists_cong}
 use Rattle.plan_edits.specs.Lists.{place_of_name}
 use Rattle.rw_local.specs.Fuse.{fused_op}
 
 -- SPLICED LISTS
-
--- splicing behind the first element
-pub spliced_next : {A : Type 0} (at : ℕ) (m : A) (ms bs : List A) → spliced (suc at) (m ∷ ms) bs ≡ m ∷ spliced at ms bs
-spliced_next at m ms bs = let e : suc at + 1 ≡ suc (at + 1) = omega arith in ap (λ n. m ∷ (take at ms ++ (bs ++ drop n (m ∷ ms)))) e
 
 -- splicing and mapping
 pub map-spliced : {A B : Type 0} (f : A → B) (at : ℕ) (ms bs : List A) → at < length ms → map f (spliced at ms bs) ≡ spliced at (map f ms) (map f bs)
@@ -140,8 +136,8 @@ fused_given q w r h f reads eq =
     let sh = first_shape (fused a b at) f in
     let la = shape_length a fa (first_shape a f.0) in
     let l9 = fused_runs a b at word (fa ++ fb) f sh in
-    let e1 = take_front fa fb (privates a) la in
-    let e2 = drop_front fa fb (privates a) la in
+    let e1 = take_at fa fb (privates a) la in
+    let e2 = drop_at fa fb (privates a) la in
     let W = given_on w h in
     let second : feed (fire b 0) (W.outs at) fb ≡ given_on r h =
     ap (λ xs. feed (fire b 0) xs fb) (sym eq) ∙ sym (one_input b (lists_of h (q ∷ [])) fb f.3) ∙ ap (λ rs. feed_all b (lists_of h rs) fb) (sym reads) in
@@ -151,8 +147,8 @@ fused_given q w r h f reads eq =
     (fused_of at (outs b) (tabs a) (run (fire a) word us) (λ xs. feed (fire b 0) xs (drop (privates a) (fa ++ fb))))) e1 l9) in
     subst (λ s. Same (given_on (fused_op q w r) h) (fused_of at (outs b) (tabs a) W (λ xs. s))) second l9'
 
--- a list of one name
-pub length_one : (rs : List Name) (q : Name) → length rs ≡ 1 → 0 < count q rs → rs ≡ q ∷ []
-length_one [] q e lt = absurd (omega (arith, e))
-length_one (r ∷ []) q e lt = ⊎_elim (λ c. ap (λ n. n ∷ []) c.0) (λ c. absurd (let z = ap one_if c.1 in omega (arith, z, lt))) (cases_name r q)
-length_one (r ∷ s ∷ rs) q e lt = absurd (omega (arith, e))
+-- one name in a list of one
+pub one_counted : (ws : List Name) (q : Name) → length ws ≡ 1 → 0 < count q ws → ws ≡ q ∷ []
+one_counted [] q e lt = absurd (omega (arith, e))
+one_counted (r ∷ []) q e lt = ⊎_elim (λ c. ap (λ n. n ∷ []) c.0) (λ c. absurd (let z = ap one_if c.1 in omega (arith, z, lt))) (cases_name r q)
+one_counted (r ∷ s ∷ rs) q e lt = absurd (omega (arith, e))

@@ -1,30 +1,22 @@
 -- What is known where a step of fusion is accepted.
 use Rattle.std.proofs.Common.{◌≡◌, ◌<◌, false, Some, None, List, [], ◌∷◌, length, refl, sym, ap, ◌∙◌, subst, arith, ⊎_elim, nat_lt}
-use Rattle.std.specs.Prelude.{Option, Result, Ok, Err}
-use Rattle.std.proofs.lemmas.Bool.{cases_lt, cases_eq, or_parts, ltb-false}
+use Rattle.std.specs.Prelude.{Option, Ok}
+use Rattle.std.proofs.lemmas.Bool.{cases_lt, cases_eq, or_parts, ltb-false, cases_Bool}
+use Rattle.river_base.proofs.Options.{ok_same, not_ok}
+use Rattle.river_base.proofs.PlaceLemmas.{if_lt, if_ge, if_true, if_false, if_eq, if_ne}
 use Rattle.river_base.specs.declared.item.Item as item
 use Rattle.river_kernels.specs.Limits.{nesting}
 use Rattle.river_plan.specs.Forms.{Name, OpForm, PlanForm, queue_names}
 use Rattle.river_plan.specs.Names.{count, one_if}
 use Rattle.river_plan.specs.Uses.{writes_it, reads_it}
 use Rattle.river_plan.specs.Valid.{IsPlan}
-use Rattle.river_plan.proofs.NameLemmas.{cases_name, cases_bool}
-use Rattle.brooklet_model.proofs.Lists.{if_true, if_false, if_lt, if_ge, if_eq, if_ne}
-use Rattle.plan_edits.specs.declared.unfit.Unfit.{Unfit}
+use Rattle.river_plan.proofs.NameLemmas.{cases_name}
 use Rattle.plan_edits.specs.declared.unfit.Unfit.TheVariants.{U1, U2, U3, U4, U5}
 use Rattle.plan_edits.specs.Lists.{first_with}
 use Rattle.plan_edits.specs.Meaning.{SameOuter, SameMeaning}
 use Rattle.plan_edits.proofs.MeaningSame.{meaning_same}
 use Rattle.rw_local.specs.Fuse.{fused_op, fused_plan, share, is_large, fuse_two, fuse_found, fuse_of, MayFuse, FuseKeeps}
 use Rattle.rw_local.proofs.FuseLaw.{fuse_keeps}
-
--- what is refused is not accepted
-pub not_ok : {A B : Type 0} (b : B) (a : A) → Err b ≡ Ok a → ⊥
-not_ok b a h = cc
-
--- what is accepted is one plan
-pub ok_same : (x : Result PlanForm Unfit) (a a' : PlanForm) → x ≡ Ok a → x ≡ Ok a' → a ≡ a'
-ok_same x a a' e h = cc
 
 -- lists that share no name
 pub shares_none : (vs us : List Name) → share vs us ≡ false → (x : Name) → 0 < count x vs → count x us ≡ 0
@@ -69,8 +61,8 @@ module _ (p : PlanForm) (q : Name) (p' : PlanForm) where
             ok_same (fuse_two p q w r) (fused_plan p q w r) p'
             (if_eq (length r.reads) 1 _ _ one ∙ if_false (is_large (fused_op q w r)) _ _ small ∙ if_false (share w.vars r.vars) _ _ s) h;
       })
-      (cases_bool (share w.vars r.vars)))
-      (cases_bool (is_large (fused_op q w r))))
+      (cases_Bool (share w.vars r.vars)))
+      (cases_Bool (is_large (fused_op q w r))))
       (λ more. absurd (not_ok U3 p' (sym (if_ne (length r.reads) 1 _ _ more) ∙ h)))
       (cases_eq (length r.reads) 1)
 

@@ -4,9 +4,10 @@ use Rattle.std.proofs.Common.{map}
 use Rattle.std.specs.Prelude.{Option, slice_get, slice_index_or, Ok, Err, Result}
 use Rattle.std.specs.Option.{option_map}
 use Rattle.std.proofs.Common.{append_assoc}
-use Rattle.std.proofs.lemmas.Bool.{cases_lt}
+use Rattle.std.proofs.lemmas.Bool.{cases_lt, cases_Bool}
 use Rattle.std.proofs.lemmas.List.{append-nil, map-append}
 use Rattle.std.proofs.lemmas.Option.{slice_get-map, slice_get_past, slice_get_read}
+use Rattle.river_base.proofs.PlaceLemmas.{if_lt, if_ge, if_true, if_false, if_eq}
 use Rattle.river_base.specs.Name.{name_eq}
 use Rattle.river_base.specs.declared.kind.QueueType.{QueueType}
 use Rattle.work_code.specs.declared.expr.Expr.{Expr}
@@ -19,8 +20,7 @@ use Rattle.river_plan.specs.Names.{count, one_if}
 use Rattle.river_plan.specs.Uses.{writes_it, named_it}
 use Rattle.river_plan.specs.Kinds.{kind_of}
 use Rattle.river_plan.specs.Valid.{IsPlan}
-use Rattle.river_plan.proofs.NameLemmas.{cases_bool, name_is}
-use Rattle.brooklet_model.proofs.Lists.{if_true, if_false, if_lt, if_ge, if_eq}
+use Rattle.river_plan.proofs.NameLemmas.{name_is}
 use Rattle.plan_edits.specs.declared.unfit.Unfit.{Unfit}
 use Rattle.plan_edits.specs.declared.unfit.Unfit.TheVariants.{U1, U2, U3, U4, U5, H1, H2, H3, H4, N1, N2, N3, N4, N5, NoMemory}
 use Rattle.plan_edits.specs.Lists.{place_of_name, first_with, replaced, retyped}
@@ -79,7 +79,7 @@ retyped_is q k ds n lt e = ap (λ m. take m ds ++ (record { name = q; kind = k }
         ∙ ap (λ m. x ∷ (take (place_of_name q (decl_names xs)) xs ++ (record { name = q; kind = k } ∷ drop m (x ∷ xs)))) s
         ∙ ap (λ m. x ∷ m) (go xs (let z = ap one_if c in omega (arith, z, l)))
         ∙ sym (if_false (name_eq x.name q) (record x { kind = k } ∷ xs) (x ∷ retyped q k xs) c))
-        (cases_bool (name_eq x.name q))
+        (cases_Bool (name_eq x.name q))
 
 -- OPERATORS
 

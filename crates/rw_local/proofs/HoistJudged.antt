@@ -2,8 +2,14 @@
 use Rattle.std.proofs.Common.{◌≡◌, ℕ, zero, suc, ◌<◌, true, Some, None, List, [], ◌∷◌, ◌++◌, length, map, refl, sym, ap, ◌∙◌, subst}
 use Rattle.std.proofs.Common.{arith, ⊎_elim, append_assoc}
 use Rattle.std.specs.Prelude.{Option, Result, Ok, Err, nat_eq, slice_get}
-use Rattle.std.proofs.lemmas.Bool.{eqb-true, eqb-false}
+use Rattle.std.proofs.lemmas.Bool.{eqb-true, eqb-false, cases_Bool}
 use Rattle.std.proofs.lemmas.List.{length-map}
+use Rattle.std.proofs.lemmas.Option.{same_Some, none-some}
+use Rattle.river_base.proofs.Options.{ok_same}
+use Rattle.river_base.proofs.Lists.{alone_same, got_mid}
+use Rattle.rw_local.proofs.FuseLemmas.{one_counted}
+use Rattle.river_plan.proofs.ValidLaw.{total-append}
+use Rattle.river_base.proofs.PlaceLemmas.{if_lt}
 use Rattle.river_base.specs.Name.{name_eq}
 use Rattle.river_base.specs.declared.kind.QueueType.{QueueType}
 use Rattle.river_base.specs.declared.kind.QueueType.TheVariants.{Flat}
@@ -16,9 +22,8 @@ use Rattle.river_plan.specs.Kinds.{kind_of, var_kind, IsFit}
 use Rattle.river_plan.specs.Names.{count, one_if}
 use Rattle.river_plan.specs.Uses.{Each, total, writes_it, reads_it, named_it}
 use Rattle.river_plan.specs.Valid.{IsPlan}
-use Rattle.river_plan.proofs.NameLemmas.{cases_bool, name_is, name_same, count-append, one_same}
+use Rattle.river_plan.proofs.NameLemmas.{name_is, name_same, count-append, one_same}
 use Rattle.river_plan.proofs.ShareLemmas.{each_back}
-use Rattle.brooklet_model.proofs.Lists.{if_lt}
 use Rattle.plan_edits.specs.declared.unfit.Unfit.{Unfit}
 use Rattle.plan_edits.specs.declared.unfit.Unfit.TheVariants.{U1, U2, U3, U4, U5, H1, H2, H3, H4, N1, N2, N3, N4, N5, NoMemory}
 use Rattle.plan_edits.specs.Judged.{rank, IsJudgedBy}
@@ -26,7 +31,7 @@ use Rattle.plan_edits.specs.Lists.{first_with, replaced, retyped}
 use Rattle.plan_edits.proofs.Edit.{cut_of, replaced_is}
 use Rattle.plan_edits.proofs.Judging.{rank_most, judged_law, by_if}
 use Rattle.plan_edits.proofs.Lookups.{names_append}
-use Rattle.plan_edits.proofs.Surgery.{total-append, first_past, found, some_op}
+use Rattle.plan_edits.proofs.Surgery.{first_past, found}
 use Rattle.rw_local.specs.Fusion.{Feeds}
 use Rattle.rw_local.specs.Hoist.{first_width, passes, raised, lowered, hoisted_plan, hoist_at, hoist_passed, hoist_past, hoist_between}
 use Rattle.rw_local.specs.Hoist.{hoist_kernel, hoist_found}
@@ -38,7 +43,7 @@ use Rattle.rw_local.proofs.FuseCode.{declared_there}
 use Rattle.rw_local.proofs.FuseJudged.{cut, written_first, read_first}
 use Rattle.rw_local.proofs.FuseLaw.{names_of}
 use Rattle.rw_local.proofs.HoistCode.{hoist_upto}
-use Rattle.rw_local.proofs.HoistLemmas.{found_too, one_counted}
+use Rattle.rw_local.proofs.HoistLemmas.{found_too}
 
 -- LISTS
 
@@ -47,9 +52,6 @@ one_mapped : {A : Type 0} (f : Name → A) (ws : List Name) (k : A) → map f ws
 one_mapped f [] k e = absurd (cc e)
 one_mapped f (w ∷ []) k e = (w, refl)
 one_mapped f (w ∷ u ∷ ws) k e = absurd (cc e)
-
-same_name : (a b : Name) → a ∷ [] ≡ b ∷ [] → a ≡ b
-same_name a b h = cc h
 
 same_cond : (a b : Term) → select a ≡ select b → a ≡ b
 same_cond a b h = cc h
@@ -67,10 +69,6 @@ placed (w ∷ ws) zero x h = let e : w ≡ x = cc h in record { left = []; right
 placed (w ∷ ws) (suc i) x h =
     let r = placed ws i x h in record { left = w ∷ r.left; right = r.right; is = ap (λ l. w ∷ l) r.is; at = ap suc r.at }
 
-there : (left : List Name) (x : Name) (right : List Name) → slice_get (left ++ x ∷ right) (length left) ≡ Some x
-there [] x right = refl
-there (w ∷ left) x right = there left x right
-
 one_read : (ws : List Name) (mid : Name) → ws ≡ mid ∷ [] → 0 < count mid ws
 one_read ws mid e = let a = ap (count mid) e in let s = one_same mid in omega (arith, a, s)
 
@@ -81,9 +79,6 @@ selecting kernel = 0
 
 no_select : (k : Kern) (t : Term) → selecting k ≡ 0 → k ≡ select t → ⊥
 no_select k t z e = let a = ap selecting e in omega (arith, z, a)
-
-no_op : (op : OpForm) → None ≡ Some op → ⊥
-no_op op h = cc h
 
 no_src : (ws : List Name) (i : ℕ) → i < length ws → slice_get ws i ≡ None → ⊥
 no_src [] i lt h = omega (arith, lt)
@@ -122,7 +117,7 @@ module _ (p : PlanForm) (l : Name) (v : IsPlan p) where
         before = f.before;
         behind = f.behind;
         ops = f.is;
-        label = ⊎_elim (λ b. name_is u.label l b) (λ b. absurd (let e = ap one_if b in omega (arith, e, lt))) (cases_bool (name_eq u.label l));
+        label = ⊎_elim (λ b. name_is u.label l b) (λ b. absurd (let e = ap one_if b in omega (arith, e, lt))) (cases_Bool (name_eq u.label l));
         kernel = k;
       }
 
@@ -148,17 +143,17 @@ module _ (p : PlanForm) (l : Name) (v : IsPlan p) where
   -- there is one selection of the label
   selects_same : (u w : OpForm) (t s : Term) → SelectsBy p l u t → SelectsBy p l w s → (u ≡ w) × (t ≡ s)
   selects_same u w t s a b =
-      let e = some_op u w (sym (selects_first u t a) ∙ selects_first w s b) in
+      let e = same_Some u w (sym (selects_first u t a) ∙ selects_first w s b) in
       (e, same_cond t s (sym a.kernel ∙ ap (λ (o : OpForm). o.kernel) e ∙ b.kernel))
 
   -- one queue that it reads, and one operator that writes it
   fed_same : (x u y w : OpForm) (m n : Name) (t s : Term) → IsFed p l x u m t → IsFed p l y w n s → (x ≡ y) × (u ≡ w) × (m ≡ n) × (t ≡ s)
   fed_same x u y w m n t s a b =
       let e = selects_same u w t s (fed_selects x u m t a) (fed_selects y w n s b) in
-      let d = same_name m n (sym a.reads ∙ ap (λ (o : OpForm). o.reads) e.0 ∙ b.reads) in
+      let d = alone_same m n (sym a.reads ∙ ap (λ (o : OpForm). o.reads) e.0 ∙ b.reads) in
       let f = written_first p m v x u (feeds x u m t a) in
       let g = written_first p n v y w (feeds y w n s b) in
-      (some_op x y (sym (subst (λ q. first_with (writes_it q) p.ops ≡ Some x) d f) ∙ g), e.0, d, e.1)
+      (same_Some x y (sym (subst (λ q. first_with (writes_it q) p.ops ≡ Some x) d f) ∙ g), e.0, d, e.1)
 
   fit_at : (before : List OpForm) (u : OpForm) (behind : List OpForm) → p.ops ≡ before ++ u ∷ behind → IsFit p u
   fit_at before u behind e = (each_back (IsFit p) before (u ∷ behind) (subst (Each (IsFit p)) e v.fits)).0
@@ -324,8 +319,8 @@ module _ (p : PlanForm) (l : Name) (v : IsPlan p) where
     past : (mid out : Name) → u.reads ≡ mid ∷ [] → u.writes ≡ out ∷ [] → (o : Option OpForm) → first_with (writes_it mid) p.ops ≡ o
         → Judged (hoist_past p u t mid out o)
     past mid out r w None e = unfed u t s (λ x m f.
-        let d = same_name m mid (sym f.reads ∙ r) in
-        no_op x (sym e ∙ subst (λ q. first_with (writes_it q) p.ops ≡ Some x) d (written_first p m v x u (feeds x u m t f))))
+        let d = alone_same m mid (sym f.reads ∙ r) in
+        none-some x (sym e ∙ subst (λ q. first_with (writes_it q) p.ops ≡ Some x) d (written_first p m v x u (feeds x u m t f))))
     past mid out r w (Some b) e = by_if Judged (nat_eq (length b.writes) 1) _ _
         (λ one.
         let has = (found (writes_it mid) p.ops b e).has in
@@ -346,9 +341,9 @@ module _ (p : PlanForm) (l : Name) (v : IsPlan p) where
         } in
         passing b u mid t f out w (passes (first_width (map kind b.reads)) b.kernel t) (passes_judged (first_width (map kind b.reads)) t b.kernel))
         (λ more. unfed u t s (λ x m f.
-        let d = same_name m mid (sym f.reads ∙ r) in
+        let d = alone_same m mid (sym f.reads ∙ r) in
         let a = subst (λ q. first_with (writes_it q) p.ops ≡ Some x) d (written_first p m v x u (feeds x u m t f)) in
-        let i = some_op x b (sym a ∙ e) in
+        let i = same_Some x b (sym a ∙ e) in
         eqb-false (length b.writes) 1 more (sym (ap (λ (o : OpForm). length o.writes) i) ∙ ap length f.writes)))
 
     between : Judged (hoist_between p u t u.reads u.writes)
@@ -362,7 +357,7 @@ module _ (p : PlanForm) (l : Name) (v : IsPlan p) where
 
   other : (u : OpForm) (k : Kern) → first_with (named_it l) p.ops ≡ Some u → u.kernel ≡ k → selecting k ≡ 0 → Judged (Err H1)
   other u k h e z = unselected (λ w t s.
-      let d = some_op u w (sym h ∙ selects_first w t s) in
+      let d = same_Some u w (sym h ∙ selects_first w t s) in
       no_select k t z (sym e ∙ ap (λ (o : OpForm). o.kernel) d ∙ s.kernel))
 
   kernel : (u : OpForm) (k : Kern) → first_with (named_it l) p.ops ≡ Some u → u.kernel ≡ k → Judged (hoist_kernel p u k)
@@ -370,7 +365,7 @@ module _ (p : PlanForm) (l : Name) (v : IsPlan p) where
   kernel u any h e = other u any h e refl
 
   labelled : (o : Option OpForm) → first_with (named_it l) p.ops ≡ o → Judged (hoist_found p o)
-  labelled None h = unselected (λ u t s. no_op u (sym h ∙ selects_first u t s))
+  labelled None h = unselected (λ u t s. none-some u (sym h ∙ selects_first u t s))
   labelled (Some u) h = kernel u u.kernel h refl
 
   pub hoist_judged : Judged (hoist_of p l)
@@ -388,7 +383,7 @@ module _ (p : PlanForm) (l : Name) (v : IsPlan p) where
       let width = first_width (map kind b.reads) in
       let e : width ≡ k.width = ap (λ rs. first_width (map kind rs)) k.first.reads ∙ k.first.width in
       let goes = goes_passes width k.cond b.kernel side k.moved (subst (λ n. Goes n b.kernel k.cond side k.moved) (sym e) k.goes) in
-      let src : slice_get b.reads side ≡ Some k.src = ap (λ rs. slice_get rs side) k.sides ∙ there k.left k.src k.right in
+      let src : slice_get b.reads side ≡ Some k.src = ap (λ rs. slice_get rs side) k.sides ∙ got_mid k.left k.src k.right in
       let feed = feeds b u k.mid k.cond f in
       let s : spliced side b.reads (k.mid ∷ []) ≡ k.left ++ k.mid ∷ k.right = ap (λ rs. spliced side rs (k.mid ∷ [])) k.sides
       ∙ spliced_cut k.left k.src k.right (k.mid ∷ []) in
@@ -420,11 +415,8 @@ module _ (p : PlanForm) (l : Name) (v : IsPlan p) where
       ∙ ap (hoist_at p u b k.mid k.out (side, k.moved)) src
       ∙ ap (λ x. Ok x) same
 
-  ok_plan : (a b : PlanForm) (r : Result PlanForm Unfit) → r ≡ Ok a → r ≡ Ok b → a ≡ b
-  ok_plan a b r e d = cc
-
   pub one_hoisted : (a b : PlanForm) → IsHoisted p l a → IsHoisted p l b → a ≡ b
-  one_hoisted a b k m = ok_plan a b (hoist_of p l) (made_is a k) (made_is b m)
+  one_hoisted a b k m = ok_same (hoist_of p l) a b (made_is a k) (made_is b m)
 
 -- hoisting answers what its conditions say
 pub hoisting_is_judged : HoistingIsJudged

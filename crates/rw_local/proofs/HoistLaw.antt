@@ -2,8 +2,12 @@
 use Rattle.std.proofs.Common.{◌≡◌, ℕ, ℤ, ◌+◌, ◌<◌, ◌≤◌, Bool, false, Some, List, [], ◌∷◌, ◌++◌, length, refl, sym, ap, ◌∙◌, subst, arith, ⊎_elim, map}
 use Rattle.std.specs.Prelude.{count_by, All, flat_map, slice_get, IsTrue, filter, nat_lt, ◌&&◌}
 use Rattle.std.proofs.lemmas.Bool.{and_parts}
-use Rattle.std.proofs.lemmas.List.{length-map}
+use Rattle.std.proofs.lemmas.List.{length-map, nil_from_length}
 use Rattle.std.proofs.lemmas.List.Elements.{All-nil, All-cons}
+use Rattle.std.proofs.lemmas.Option.{slice_get_within}
+use Rattle.river_base.proofs.PlaceLemmas.{if_true}
+use Rattle.river_base.proofs.Lists.{got_map}
+use Rattle.brooklet_model.proofs.Traces.{got_count, got_read}
 use Rattle.river_base.specs.declared.item.Item as item
 use Rattle.river_base.specs.Name.{name_eq}
 use Rattle.river_base.specs.Places.{list_at}
@@ -29,7 +33,7 @@ use Rattle.river_plan.proofs.NameLemmas.{cases_name, more_or_zero}
 use Rattle.brooklet_model.specs.Fire.{first_kept}
 use Rattle.brooklet_model.specs.Words.{feed_all}
 use Rattle.brooklet_model.specs.Histories.{History, lists_of, given_on, written, histories, joined, adds, tables_of, inputs_of, Lists, Solves}
-use Rattle.brooklet_model.proofs.Lists.{if_true, funext}
+use Rattle.brooklet_model.proofs.Lists.{funext}
 use Rattle.brooklet_model.proofs.Ports.{counts, length-spliced}
 use Rattle.brooklet_model.proofs.Solutions.{stays, written_out, plan_solves}
 use Rattle.plan_edits.specs.Lists.{retyped}
@@ -39,9 +43,9 @@ use Rattle.plan_edits.proofs.Edit.{Edit, Cut, cut_of, edit_of, Stays, sum_old, s
 use Rattle.plan_edits.proofs.Lookups.{map_agree}
 use Rattle.plan_edits.proofs.Types.{each_fits, kind_last, tables_length, flat_each, each_flat, map_each, each_map, all_one, total_length}
 use Rattle.rw_local.proofs.FuseLaw.{names_of}
-use Rattle.rw_local.proofs.FuseLemmas.{map-spliced}
-use Rattle.rw_local.proofs.HoistLemmas.{at_count, moved_count, moved_below, got_mapped, spliced_same, lists_at, lists_moved, reads_of, found_too, only_one}
-use Rattle.rw_local.proofs.HoistLemmas.{one_counted, retyped_names, retyped_other, retyped_here, kind_there, retyped_length, all_retyped}
+use Rattle.rw_local.proofs.FuseLemmas.{map-spliced, one_counted}
+use Rattle.rw_local.proofs.HoistLemmas.{moved_count, spliced_same, lists_moved, reads_of, found_too, only_one}
+use Rattle.rw_local.proofs.HoistLemmas.{retyped_names, retyped_other, retyped_here, kind_there, retyped_length, all_retyped}
 use Rattle.rw_local.proofs.PassCases.{with_at, Passed, passed, passed_tables, passed_fits, passed_commutes, Commutes}
 use Rattle.rw_local.proofs.Passing.{sift, all_select}
 
@@ -74,11 +78,7 @@ selection kind var u t mid out f k r w =
     }
 
 no_tables : (tables : List Name) (b : OpForm) → length (tables_of tables b) ≡ 0 → tables_of tables b ≡ []
-no_tables tables b e = nothing (tables_of tables b) e
-  where
-    nothing : (ts : List Name) → length ts ≡ 0 → ts ≡ []
-    nothing [] h = refl
-    nothing (t ∷ ts) h = absurd (omega (arith, h))
+no_tables tables b e = nil_from_length (tables_of tables b) e
 
 one_list : (ws : List Name) (w : Name) (f : ℕ → List item.Item) (h : History) → ws ≡ w ∷ [] → Lists ws f h → h w ≡ f 0
 one_list ws w f h e l = (subst (λ v. Lists v f h) e l).0
@@ -115,7 +115,7 @@ module _ (p : PlanForm) (l : Name) (u b : OpForm) (t : Term) (side : ℕ) (t' : 
   -- WHERE THE TWO STAND
 
   u_reads : 0 < count mid u.reads
-  u_reads = at_count u.reads 0 mid m.reads
+  u_reads = got_count u.reads 0 mid m.reads
 
   c : Cut p.ops mid b u
   c = cut_of p mid b u v m.below (found_too (named_it l) (reads_it mid) p.ops u m.here u_reads (let o = v.read_once mid in omega (arith, o)))
@@ -142,7 +142,7 @@ module _ (p : PlanForm) (l : Name) (u b : OpForm) (t : Term) (side : ℕ) (t' : 
   only = one_counted b.writes mid m.only c.w_writes
 
   src_in : 0 < count src b.reads
-  src_in = at_count b.reads side src m.source
+  src_in = got_count b.reads side src m.source
 
   -- SUMS
 
@@ -189,7 +189,7 @@ module _ (p : PlanForm) (l : Name) (u b : OpForm) (t : Term) (side : ℕ) (t' : 
   read_other x lt = not_mid (λ n. count n b.reads) c.w_reads x lt
 
   out_other : name_eq mid out ≡ false
-  out_other = not_mid (λ n. count n u.writes) c.r_writes out (at_count u.writes 0 out m.writes)
+  out_other = not_mid (λ n. count n u.writes) c.r_writes out (got_count u.writes 0 out m.writes)
 
   is_passed : Passed (first_width (map kind b.reads)) b.kernel t side t'
   is_passed = passed (first_width (map kind b.reads)) b.kernel t (side, t') m.passes
@@ -205,7 +205,7 @@ module _ (p : PlanForm) (l : Name) (u b : OpForm) (t : Term) (side : ℕ) (t' : 
   raised_types : Fits (select t') (kind src ∷ []) (kind src ∷ []) []
   raised_types =
       passed_fits b.kernel (map kind b.reads) (kind mid) (map var b.vars) t (map kind u.writes) (map var u.vars) side t' (kind src) b_types u_types is_passed
-      (got_mapped kind b.reads side src m.source)
+      (got_map kind b.reads side src m.source)
 
   u_new : FitsAt kind' var u'
   u_new =
@@ -215,10 +215,10 @@ module _ (p : PlanForm) (l : Name) (u b : OpForm) (t : Term) (side : ℕ) (t' : 
 
   lowered_reads : map kind' b'.reads ≡ map kind b.reads
   lowered_reads =
-      map-spliced kind' side b.reads (mid ∷ []) (moved_below b.reads side src m.source)
+      map-spliced kind' side b.reads (mid ∷ []) (slice_get_within b.reads side src m.source)
       ∙ ap (λ k. spliced side (map kind' b.reads) (k ∷ [])) kind_mid
       ∙ ap (λ ks. spliced side ks (kind src ∷ [])) (sym (map_agree kind kind' b.reads (λ x lt. kind_other x (read_other x lt))))
-      ∙ spliced_same (map kind b.reads) side (kind src) (got_mapped kind b.reads side src m.source)
+      ∙ spliced_same (map kind b.reads) side (kind src) (got_map kind b.reads side src m.source)
 
   b_new : FitsAt kind' var b'
   b_new =
@@ -254,7 +254,7 @@ module _ (p : PlanForm) (l : Name) (u b : OpForm) (t : Term) (side : ℕ) (t' : 
   one_port = omega arith
 
   reads_length : length b'.reads ≡ length b.reads
-  reads_length = let a = length-spliced side b.reads (mid ∷ []) (moved_below b.reads side src m.source) in omega (arith, a)
+  reads_length = let a = length-spliced side b.reads (mid ∷ []) (slice_get_within b.reads side src m.source) in omega (arith, a)
 
   ports_within : All (λ n. n ≤ 64) (numbers Ports p')
   ports_within =
@@ -398,8 +398,8 @@ module _ (p : PlanForm) (l : Name) (u b : OpForm) (t : Term) (side : ℕ) (t' : 
 
     lowered_lists : with_at side (sift t' (lists_of h b.reads side)) (lists_of h b.reads) ≡ lists_of h' b'.reads
     lowered_lists = funext _ _ (λ j.
-        ap (λ xs. with_at side xs (lists_of h b.reads) j) (ap (sift t') (lists_at h b.reads side src m.source) ∙ sym at_mid)
-        ∙ sym (lists_moved h h' b.reads side mid (moved_below b.reads side src m.source) (λ x lt. else_same x (read_other x lt)) j))
+        ap (λ xs. with_at side xs (lists_of h b.reads) j) (ap (sift t') (got_read h b.reads side src m.source) ∙ sym at_mid)
+        ∙ sym (lists_moved h h' b.reads side mid (slice_get_within b.reads side src m.source) (λ x lt. else_same x (read_other x lt)) j))
 
     put_solves : Each (Solves h') (u' ∷ b' ∷ [])
     put_solves = (

@@ -4,6 +4,10 @@ use Rattle.std.proofs.Common.{map}
 use Rattle.std.specs.Prelude.{slice_get, All, if◌then◌else◌, unwrap_or}
 use Rattle.std.proofs.lemmas.Bool.{cases_eq}
 use Rattle.std.proofs.lemmas.List.Elements.{All-head, All-tail, All-cons, All-nil}
+use Rattle.std.proofs.lemmas.Option.{same_Some}
+use Rattle.brooklet_model.proofs.Spliced.{spliced_next}
+use Rattle.river_plan.proofs.ValidLaw.{total-append}
+use Rattle.river_base.proofs.PlaceLemmas.{if_lt, if_true, if_false, if_eq, if_ne}
 use Rattle.river_base.specs.Held.{HasType}
 use Rattle.river_base.specs.Name.{name_eq}
 use Rattle.river_base.specs.declared.kind.QueueType.{QueueType}
@@ -18,54 +22,25 @@ use Rattle.river_plan.proofs.NameLemmas.{cases_name, count-append}
 use Rattle.plan_edits.proofs.Lookups.{kind_in-append}
 use Rattle.brooklet_model.specs.Histories.{History, lists_of}
 use Rattle.brooklet_model.specs.Typed.{IsOf, AreOf}
-use Rattle.brooklet_model.proofs.Lists.{if_true, if_false, if_lt, if_eq, if_ne}
 use Rattle.brooklet_model.proofs.Solutions.{count_here, lists_by_place}
 use Rattle.plan_edits.specs.Lists.{first_with, retyped}
-use Rattle.plan_edits.proofs.Surgery.{total-append, found, first_past}
-use Rattle.rw_local.proofs.FuseLemmas.{spliced_next}
+use Rattle.plan_edits.proofs.Surgery.{found, first_past}
 use Rattle.rw_local.proofs.PassCases.{with_at}
 
-some_name : (a b : Name) → Some a ≡ Some b → a ≡ b
-some_name a b h = cc h
-
 -- ONE NAME IN THE PLACE OF ANOTHER
-
--- a name at a place
-pub at_count : (rs : List Name) (side : ℕ) (src : Name) → slice_get rs side ≡ Some src → 0 < count src rs
-at_count [] side src h = absurd (cc h)
-at_count (r ∷ rs) zero src h = subst (λ n. 0 < count n (r ∷ rs)) (some_name r src h) (count_here r rs)
-at_count (r ∷ rs) (suc side) src h = let i = at_count rs side src h in omega (arith, i)
 
 -- how often a name is read, one in the place of another
 pub moved_count : (rs vs : List Name) (side : ℕ) (src x : Name) → slice_get rs side ≡ Some src
     → count x (spliced side rs vs) + one_if (name_eq src x) ≡ count x rs + count x vs
 moved_count [] vs side src x h = absurd (cc h)
-moved_count (r ∷ rs) vs zero src x h = let a = count-append x vs rs in let e = ap (λ n. one_if (name_eq n x)) (some_name r src h) in omega (arith, a, e)
+moved_count (r ∷ rs) vs zero src x h = let a = count-append x vs rs in let e = ap (λ n. one_if (name_eq n x)) (same_Some r src h) in omega (arith, a, e)
 moved_count (r ∷ rs) vs (suc side) src x h = let n = ap (count x) (spliced_next side r rs vs) in let i = moved_count rs vs side src x h in omega (arith, n, i)
-
--- the place lies below the length
-pub moved_below : {A : Type 0} (rs : List A) (side : ℕ) (src : A) → slice_get rs side ≡ Some src → side < length rs
-moved_below [] side src h = absurd (cc h)
-moved_below (r ∷ rs) zero src h = omega arith
-moved_below (r ∷ rs) (suc side) src h = let i = moved_below rs side src h in omega (arith, i)
-
--- the value at a place
-pub got_mapped : {A : Type 0} (f : Name → A) (rs : List Name) (side : ℕ) (src : Name) → slice_get rs side ≡ Some src → slice_get (map f rs) side ≡ Some (f src)
-got_mapped f [] side src h = absurd (cc h)
-got_mapped f (r ∷ rs) zero src h = ap (λ n. Some (f n)) (some_name r src h)
-got_mapped f (r ∷ rs) (suc side) src h = got_mapped f rs side src h
 
 -- an element in its own place
 pub spliced_same : {A : Type 0} (xs : List A) (side : ℕ) (x : A) → slice_get xs side ≡ Some x → spliced side xs (x ∷ []) ≡ xs
 spliced_same [] side x h = absurd (cc h)
 spliced_same (y ∷ ys) zero x h = let e : y ≡ x = cc h in ap (λ z. z ∷ ys) (sym e)
 spliced_same (y ∷ ys) (suc side) x h = spliced_next side y ys (x ∷ []) ∙ ap (λ l. y ∷ l) (spliced_same ys side x h)
-
--- the list at a place
-pub lists_at : (h : History) (rs : List Name) (side : ℕ) (src : Name) → slice_get rs side ≡ Some src → lists_of h rs side ≡ h src
-lists_at h [] side src e = absurd (cc e)
-lists_at h (r ∷ rs) zero src e = ap h (some_name r src e)
-lists_at h (r ∷ rs) (suc side) src e = lists_at h rs side src e
 
 -- what is read once mid stands in the place of one
 pub lists_moved : (h h' : History) (rs : List Name) (side : ℕ) (mid : Name) → side < length rs → ((x : Name) → 0 < count x rs → h' x ≡ h x) → (p : ℕ)
@@ -104,12 +79,6 @@ pub only_one : {A : Type 0} (xs : List A) (x : A) → length xs ≡ 1 → slice_
 only_one [] x e h = absurd (omega (arith, e))
 only_one (y ∷ []) x e h = let d : y ≡ x = cc h in ap (λ z. z ∷ []) d
 only_one (y ∷ z ∷ zs) x e h = absurd (omega (arith, e))
-
--- one name in a list of one
-pub one_counted : (ws : List Name) (q : Name) → length ws ≡ 1 → 0 < count q ws → ws ≡ q ∷ []
-one_counted [] q e lt = absurd (omega (arith, e))
-one_counted (r ∷ []) q e lt = ⊎_elim (λ c. ap (λ n. n ∷ []) c.0) (λ c. absurd (let z = ap one_if c.1 in omega (arith, z, lt))) (cases_name r q)
-one_counted (r ∷ s ∷ rs) q e lt = absurd (omega (arith, e))
 
 -- ANOTHER TYPE
 

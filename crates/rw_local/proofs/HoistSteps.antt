@@ -2,6 +2,8 @@
 use Rattle.std.proofs.Common.{◌≡◌, ℕ, Some, None, List, [], ◌∷◌, length, refl, sym, ap, ◌∙◌, subst, ⊎_elim, map}
 use Rattle.std.specs.Prelude.{Option, Result, Ok, Err, slice_get}
 use Rattle.std.proofs.lemmas.Bool.{cases_eq}
+use Rattle.river_base.proofs.PlaceLemmas.{if_eq, if_ne}
+use Rattle.river_base.proofs.Options.{ok_same, not_ok}
 use Rattle.river_base.specs.declared.item.Item as item
 use Rattle.work_code.specs.Term.{Term}
 use Rattle.river_kernels.specs.Kern.{Kern, select}
@@ -9,7 +11,6 @@ use Rattle.river_plan.specs.Forms.{Name, OpForm, PlanForm, all_decls}
 use Rattle.river_plan.specs.Kinds.{kind_of}
 use Rattle.river_plan.specs.Uses.{writes_it, named_it}
 use Rattle.river_plan.specs.Valid.{IsPlan}
-use Rattle.brooklet_model.proofs.Lists.{if_eq, if_ne}
 use Rattle.plan_edits.specs.declared.unfit.Unfit.{Unfit}
 use Rattle.plan_edits.specs.declared.unfit.Unfit.TheVariants.{H1, H2}
 use Rattle.plan_edits.specs.Lists.{first_with}
@@ -18,7 +19,6 @@ use Rattle.brooklet_model.proofs.TypedPlan.{typed_law}
 use Rattle.plan_edits.proofs.MeaningSame.{meaning_same}
 use Rattle.rw_local.specs.Hoist.{first_width, passes, hoisted_plan, hoist_at, hoist_passed, hoist_past, hoist_between, hoist_kernel, hoist_found, hoist_of}
 use Rattle.rw_local.specs.Hoist.{HoistKeeps, MayHoist}
-use Rattle.rw_local.proofs.FuseSteps.{not_ok, ok_same}
 use Rattle.rw_local.proofs.HoistLaw.{hoist_keeps}
 
 -- what an accepted hoisting found

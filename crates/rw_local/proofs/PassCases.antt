@@ -1,8 +1,10 @@
 -- Which kernels a selection passes, with which types and to what effect.
 use Rattle.std.proofs.Common.{◌≡◌, ℕ, ◌+◌, ◌⊎◌, inl, inr, true, ◌&&◌, Some, None, List, [], ◌∷◌, length, refl, sym, ap, ◌∙◌, subst, arith, ⊎_elim}
-use Rattle.std.specs.Prelude.{Option, Result, Ok, Err, slice_get, if◌then◌else◌, nat_eq}
+use Rattle.std.specs.Prelude.{Option, Ok, slice_get, if◌then◌else◌, nat_eq}
 use Rattle.std.specs.List.{list_all}
 use Rattle.std.proofs.lemmas.Bool.{and_parts, and_from}
+use Rattle.river_base.proofs.Options.{ok_same, not_ok}
+use Rattle.river_base.proofs.Lists.{head_same}
 use Rattle.river_base.specs.declared.item.Item as item
 use Rattle.river_base.specs.declared.kind.FlatType.{FlatType}
 use Rattle.river_base.specs.declared.kind.FlatType.TheVariants.{Stream, Relation}
@@ -19,7 +21,6 @@ use Rattle.brooklet_model.specs.Fire.{tabs, first_kept}
 use Rattle.brooklet_model.specs.Typed.{AreOf}
 use Rattle.brooklet_model.specs.Words.{feed_all}
 use Rattle.brooklet_model.proofs.Feeds.{one_input}
-use Rattle.plan_edits.specs.declared.unfit.Unfit.{Unfit}
 use Rattle.plan_edits.specs.declared.unfit.Unfit.TheVariants.{H3}
 use Rattle.rw_local.specs.Hoist.{refielded, of_projection, of_first, of_second, at_side, either_side, past_window, or_h4, first_width, passes}
 use Rattle.rw_local.proofs.Fields.{term_refielded, projected_below, first_is, second_is}
@@ -50,17 +51,11 @@ either_some : (a b : Option (ℕ × Term)) (x : ℕ × Term) → either_side a b
 either_some None b x h = inr h
 either_some (Some y) b x h = inl h
 
-ok_pair : (x y : ℕ × Term) (r : Result (ℕ × Term) Unfit) → r ≡ Ok x → r ≡ Ok y → x ≡ y
-ok_pair x y r h g = cc
-
-no_pair : (f : Unfit) (x : ℕ × Term) → Err f ≡ Ok x → ⊥
-no_pair f x h = cc h
-
 window_passed : (w : Window) (t : Term) (x : ℕ × Term) → past_window w t ≡ Ok x → (x.0 ≡ 0) × (t ≡ x.1) × IsPassed w
-window_passed Now t x h = let e = ok_pair (0, t) x (Ok (0, t)) refl h in (sym (ap (λ y. y.0) e), ap (λ y. y.1) e, tt)
-window_passed (Range span) t x h = let e = ok_pair (0, t) x (Ok (0, t)) refl h in (sym (ap (λ y. y.0) e), ap (λ y. y.1) e, tt)
-window_passed Unbounded t x h = let e = ok_pair (0, t) x (Ok (0, t)) refl h in (sym (ap (λ y. y.0) e), ap (λ y. y.1) e, tt)
-window_passed (Latest n) t x h = absurd (no_pair H3 x h)
+window_passed Now t x h = let e = ok_same (Ok (0, t)) (0, t) x refl h in (sym (ap (λ y. y.0) e), ap (λ y. y.1) e, tt)
+window_passed (Range span) t x h = let e = ok_same (Ok (0, t)) (0, t) x refl h in (sym (ap (λ y. y.0) e), ap (λ y. y.1) e, tt)
+window_passed Unbounded t x h = let e = ok_same (Ok (0, t)) (0, t) x refl h in (sym (ap (λ y. y.0) e), ap (λ y. y.1) e, tt)
+window_passed (Latest n) t x h = absurd (not_ok H3 x h)
 
 -- what a selection passes, by cases
 pub passed : (width : ℕ) (k : Kern) (t : Term) (x : ℕ × Term) → passes width k t ≡ Ok x → Passed width k t x.0 x.1
@@ -70,8 +65,8 @@ passed width cross t x h = ⊎_elim
     (λ a. inl (side_some 0 (refielded (of_first width) t) x a))
     (λ b. inr (side_some 1 (refielded (of_second width) t) x b))
     (either_some (at_side 0 (refielded (of_first width) t)) (at_side 1 (refielded (of_second width) t)) x (h4_some _ x h))
-passed width (streamer s) t x h = let e = ok_pair (0, t) x (Ok (0, t)) refl h in (sym (ap (λ y. y.0) e), ap (λ y. y.1) e)
-passed width kernel t x h = absurd (no_pair H3 x h)
+passed width (streamer s) t x h = let e = ok_same (Ok (0, t)) (0, t) x refl h in (sym (ap (λ y. y.0) e), ap (λ y. y.1) e)
+passed width kernel t x h = absurd (not_ok H3 x h)
 
 -- such a kernel has no table
 pub passed_tables : (width : ℕ) (k : Kern) (t : Term) (side : ℕ) (t' : Term) → Passed width k t side t' → tabs k ≡ 0
@@ -101,9 +96,6 @@ fits_select : (t : Term) (u : FlatType) → is_bag u ≡ true → SelectsAt (wid
 fits_select t u b s =
     (u, refl, refl, refl, and_from (is_sized u) (is_bag u && is_term (width_of u) 0 t) s.0 (and_from (is_bag u) (is_term (width_of u) 0 t) b s.1))
 
-head_is : (m u : QueueType) (ms us : List QueueType) → m ∷ ms ≡ u ∷ us → m ≡ u
-head_is m u ms us h = cc h
-
 got_type : (is : List QueueType) (js : List QueueType) (side n : ℕ) (s u : QueueType) → is ≡ js → side ≡ n → slice_get is side ≡ Some s
     → slice_get js n ≡ Some u → u ≡ s
 got_type is js side n s u e f h g = cc (sym g ∙ sym (ap (slice_get js) f) ∙ sym (ap (λ l. slice_get l side) e) ∙ h)
@@ -114,11 +106,11 @@ pub passed_fits : (k : Kern) (is : List QueueType) (m : QueueType) (vs : List Va
     → Fits k is (m ∷ []) vs → Fits (select t) (m ∷ []) os us → Passed (first_width is) k t side t' → slice_get is side ≡ Some s
     → Fits (select t') (s ∷ []) (s ∷ []) []
 passed_fits (window w) is m vs t os us side t' s f g h e =
-    let z = selects t m os us (Relation f.0) g (head_is m (relation f.0) [] [] f.2) in
+    let z = selects t m os us (Relation f.0) g (head_same m (relation f.0) [] [] f.2) in
     subst (λ q. Fits (select t') (q ∷ []) (q ∷ []) []) (got_type is (stream f.0 ∷ []) side 0 s (stream f.0) f.1 h.0 e refl)
     (fits_select t' (Stream f.0) refl (subst (SelectsAt f.0) h.1 z))
 passed_fits (project es) is m vs t os us side t' s f g h e =
-    let z = selects t m os us (Relation (length es)) g (head_is m (relation (length es)) [] [] f.2) in
+    let z = selects t m os us (Relation (length es)) g (head_same m (relation (length es)) [] [] f.2) in
     let w = and_parts (is_width f.0) (is_width (length es) && list_all (is_term f.0 0) es) f.4 in
     let a = and_parts (is_width (length es)) (list_all (is_term f.0 0) es) w.1 in
     subst (λ q. Fits (select t') (q ∷ []) (q ∷ []) []) (got_type is (relation f.0 ∷ []) side 0 s (relation f.0) f.1 h.0 e refl)
@@ -127,7 +119,7 @@ passed_fits cross is m vs t os us side t' s f g h e =
     let a = f.0 in
     let b = f.1 in
     let w = ap first_width f.2 in
-    let z = selects t m os us (Relation (a + b)) g (head_is m (relation (a + b)) [] [] f.3) in
+    let z = selects t m os us (Relation (a + b)) g (head_same m (relation (a + b)) [] [] f.3) in
     let k = and_parts (is_width a) (is_width b && is_width (a + b)) f.5 in
     ⊎_elim
     (λ c.
@@ -144,7 +136,7 @@ passed_fits cross is m vs t os us side t' s f g h e =
     )))
     h
 passed_fits (streamer c) is m vs t os us side t' s f g h e =
-    let z = selects t m os us (Stream f.0) g (head_is m (stream f.0) [] [] f.2) in
+    let z = selects t m os us (Stream f.0) g (head_same m (stream f.0) [] [] f.2) in
     subst (λ q. Fits (select t') (q ∷ []) (q ∷ []) []) (got_type is (relation f.0 ∷ []) side 0 s (relation f.0) f.1 h.0 e refl)
     (fits_select t' (Relation f.0) refl (subst (SelectsAt f.0) h.1 z))
 passed_fits kernel is m vs t os us side t' s f g h e = absurd h

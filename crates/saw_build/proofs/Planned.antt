@@ -1,11 +1,11 @@
 -- The lists of a plan, and what is known of its tables.
-use Rattle.std.proofs.Common.{◌≡◌, ℕ, zero, suc, ◌+◌, ◌<◌, ◌≤◌, ◌^◌, true, List, [], ◌∷◌, ◌++◌, length, take, drop, map, get_or, Ok, refl, sym, ap, ◌∙◌}
+use Rattle.std.proofs.Common.{◌≡◌, ℕ, zero, suc, ◌+◌, ◌<◌, ◌≤◌, ◌^◌, true, List, [], ◌∷◌, ◌++◌, length, drop, get_or, Ok, refl, sym, ap, ◌∙◌}
 use Rattle.std.proofs.Common.{subst, arith, append_assoc, append-nil, length-append}
 use Rattle.std.specs.Prelude.{◌&&◌, codes, nat_le}
 use Rattle.std.specs.List.{AllByRecursion, list_all}
 use Rattle.std.proofs.lemmas.Bool.{and_parts, true≢false, and_from, le-leb}
-use Rattle.std.proofs.lemmas.List.{take_more, map-append}
 use Rattle.std.proofs.lemmas.List.Folds.{list_all-append}
+use Rattle.river_base.proofs.Lists.{map_next, map_none}
 use Rattle.river_base.specs.Name.{is_letter, is_digit, is_word, is_name}
 use Rattle.river_plan.specs.Forms.{Name}
 use Rattle.river_plan.specs.declared.plan.TableDecl.{TableDecl}
@@ -22,7 +22,6 @@ use Rattle.saw_text.specs.declared.tree.Unit as tree
 use Rattle.saw_text.specs.Tree.{UnitForm, unit_form, unit_forms}
 use Rattle.saw_build.specs.Plans.{AreListed}
 use Rattle.saw_build.specs.Valued.{AreValuedParts}
-use Rattle.saw_build.proofs.SoFar.{at_place, none_left}
 
 -- LISTS
 
@@ -31,11 +30,6 @@ pub each_at : {A : Type 0} (P : A → Type 0) (xs : List A) (i : ℕ) (x : A) �
 each_at P [] i x h lt e = absurd (omega (arith, lt))
 each_at P (y ∷ ys) zero x h lt e = subst P (sym e) h.0
 each_at P (y ∷ ys) (suc i) x h lt e = each_at P ys i x h.1 (omega (arith, lt)) e
-
--- one more
-pub map_more : {A B : Type 0} (f : A → B) (xs : List A) (i : ℕ) (x : A) → i < length xs → x ≡ get_or xs i x
-    → map f (take (i + 1) xs) ≡ map f (take i xs) ++ f x ∷ []
-map_more f xs i x lt e = ap (map f) (take_more xs i x lt ∙ ap (λ y. take i xs ++ y ∷ []) (sym e)) ∙ map-append f (take i xs) (x ∷ [])
 
 -- NAMES
 
@@ -90,10 +84,10 @@ tables_next us i u list more whole lt e is h =
     let rest = unit_forms (drop (i + 1) us) in
     ap (λ l. l ++ tables_in rest) is
     ∙ append_assoc list (tables_in (unit_form u ∷ [])) (tables_in rest)
-    ∙ ap (λ l. list ++ l) (split_first (unit_form u) rest ∙ ap tables_in (sym (at_place unit_form us i u lt e)))
+    ∙ ap (λ l. list ++ l) (split_first (unit_form u) rest ∙ ap tables_in (sym (map_next unit_form us i u lt e)))
     ∙ h
 
 -- behind the last unit all tables are listed
 pub tables_end : (us : List tree.Unit) (i : ℕ) (list whole : List TableDecl) → length us ≤ i → list ++ tables_in (unit_forms (drop i us)) ≡ whole
     → list ≡ whole
-tables_end us i list whole le h = sym (append-nil list) ∙ ap (λ (p : List UnitForm). list ++ tables_in p) (sym (none_left unit_form us i le)) ∙ h
+tables_end us i list whole le h = sym (append-nil list) ∙ ap (λ (p : List UnitForm). list ++ tables_in p) (sym (map_none unit_form us i le)) ∙ h

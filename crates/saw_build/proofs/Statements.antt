@@ -1,5 +1,5 @@
 -- Statements that hold no block, read part by part.
-use Rattle.std.proofs.Common.{◌≡◌, ℕ, ◌<◌, ◌≤◌, List, [], ◌∷◌, ◌++◌, length, take, Option, Result, Ok, Err, refl, ap, ◌∙◌}
+use Rattle.std.proofs.Common.{◌≡◌, ℕ, ◌<◌, ◌≤◌, List, ◌∷◌, ◌++◌, length, Option, Result, Ok, Err, refl, ap, ◌∙◌}
 use Rattle.std.specs.Prelude.{nat_eq}
 use Rattle.std.proofs.lemmas.Bool.{lt-ltb, le-ltb}
 use Rattle.work_code.specs.Steps.{one_step}
@@ -21,13 +21,6 @@ counted_fault (source.Declare n t) s f h = tells_more f (counted s) (step_of (so
 counted_fault (source.Assign n t) s f h = tells_more f (counted s) (step_of (source.Assign n t) s) (λ g e. rw e refl) h
 counted_fault (source.Emit t is v w) s f h = tells_more f (counted s) (step_of (source.Emit t is v w) s) (λ g e. rw e refl) h
 counted_fault (source.If t a b) s f h = tells_more f (counted s) (step_of (source.If t a b) s) (λ g e. rw e refl) h
-
--- the names that were known stand before one more
-pub front_kept : {A : Type 0} (xs ys zs : List A) (x : A) → zs ≡ ys ++ x ∷ [] → ys ≡ xs → take (length xs) zs ≡ xs
-front_kept {A} xs ys zs x e f = ap (take (length xs)) (e ∙ ap (λ l. l ++ x ∷ []) f) ∙ front xs where
-  front : (l : List A) → take (length l) (l ++ x ∷ []) ≡ l
-  front [] = refl
-  front (y ∷ l) = ap (λ m. y ∷ m) (front l)
 
 -- `NAME = e;`
 module _ (n : Name) (t : Expression) (s s1 : At) (hc : counted s ≡ Ok s1) where

@@ -4,6 +4,7 @@ use Rattle.std.proofs.Common.{Ok, Err, refl, sym, ap, ◌∙◌, subst, arith, a
 use Rattle.std.specs.Prelude.{if◌then◌else◌, slice_get, slice_index_or, slice_set}
 use Rattle.std.specs.Ordering.{int_eq}
 use Rattle.std.proofs.lemmas.List.{append-nil, get_or-set_same, get_or-set_other}
+use Rattle.river_base.proofs.Options.{none_some}
 use Rattle.river_base.specs.Name.{name_eq}
 use Rattle.river_base.specs.Number.{negate}
 use Rattle.work_code.specs.Term.{Term}
@@ -67,9 +68,6 @@ found_here n m b sc e = ap (λ t. if t then Some b else find sc m) e
 -- or behind another
 pub found_other : (n m : Name) (b : KnownName) (sc : Scope) → name_eq n m ≡ false → find ((n, b) ∷ sc) m ≡ find sc m
 found_other n m b sc e = ap (λ t. if t then Some b else find sc m) e
-
-none_some : {A : Type 0} (o : Option A) (x : A) → o ≡ None → o ≡ Some x → ⊥
-none_some o x h g = cc (sym h ∙ g)
 
 -- WHAT IS KNOWN
 

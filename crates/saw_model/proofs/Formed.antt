@@ -5,6 +5,8 @@ use Rattle.std.specs.Prelude.{◌&&◌, max, slice_get}
 use Rattle.std.specs.List.{list_all}
 use Rattle.std.proofs.lemmas.Bool.{and_parts, and_from, lt-ltb, le-leb, eq-eqb, ltb-true, leb-true, eqb-true}
 use Rattle.std.proofs.lemmas.List.Folds.{list_all-append}
+use Rattle.std.proofs.lemmas.Option.{same_Some}
+use Rattle.river_base.proofs.Lists.{got_mid}
 use Rattle.work_code.specs.Term.{Term}
 use Rattle.work_code.specs.Term as term
 use Rattle.work_code.specs.Steps.{Step, Steps, Done, both_steps, one_step}
@@ -26,13 +28,9 @@ use Rattle.saw_model.specs.Elaborate.{Limit, on_ok, KnownName, Var, Port, Scope,
 use Rattle.saw_model.specs.Elaborate.{step_of, steps_of, steps_optional, part_judged}
 use Rattle.saw_model.proofs.Elaborated.{fine, ok_is, ok_parts, if_ok, if_both, IsSound, ArePorts, more_slots, sound_port, one_more}
 use Rattle.saw_model.proofs.Statements.{second_at, declared_parts, assigned_parts, sent_parts, forked_parts, followed_parts, grows, grows_all, grows_optional}
-use Rattle.saw_model.proofs.Parts.{parts_read, tabled_parts, split_parts, parts_slots, got_here, ports_new}
+use Rattle.saw_model.proofs.Parts.{parts_read, tabled_parts, split_parts, parts_slots, ports_new}
 
 -- EXPRESSIONS
-
--- what the test for at most tells
-pub le_by : (a b : ℕ) → nat_le a b ≡ true → a ≤ b
-le_by a b h = grind (arith, h)
 
 -- an expression that is read reads at most 16 fields
 term_reach : (sc : Scope) (t : Expression) (u : Term) → term_of sc t ≡ Ok u → reach t ≤ 16
@@ -177,10 +175,7 @@ widths_of ts = map (λ t. pos (table_width t.kind)) ts
 
 width_got : (ts : List TableDecl) (p : ℕ) (t : TableDecl) → slice_get ts p ≡ Some t → slice_get (widths_of ts) p ≡ Some (pos (table_width t.kind))
 width_got [] p t h = absurd (cc h)
-width_got (u ∷ us) zero t h = ap (λ (x : TableDecl). Some (pos (table_width x.kind))) (same u t h)
-  where
-    same : (u t : TableDecl) → Some u ≡ Some t → u ≡ t
-    same u t h = cc
+width_got (u ∷ us) zero t h = ap (λ (x : TableDecl). Some (pos (table_width x.kind))) (same_Some u t h)
 width_got (u ∷ us) (suc p) t h = width_got us p t h
 
 indexes_many : (sc : Scope) (n : ℕ) (ts : List Expression) (us : List Term) → indexes_of sc n ts ≡ Ok us → length us ≡ length ts
@@ -372,7 +367,7 @@ module _ (w m : ℕ) (ts : List TableDecl) where
       let d = split_parts (TableUnit tb) ps s y h in
       let here = tabled_parts tb.name (table_kind tb) s d.first d.first_is in
       let decl : TableDecl = table_decl tb in
-      let got : slice_get ts s.tables ≡ Some decl = ap (slice_get ts) e ∙ ap (λ l. slice_get l (length done)) t ∙ got_here done (tables_in ps) decl in
+      let got : slice_get ts s.tables ≡ Some decl = ap (slice_get ts) e ∙ ap (λ l. slice_get l (length done)) t ∙ got_mid done decl (tables_in ps) in
       let ok2 : IsSound d.first.1.scope d.first.1.slots =
       subst (λ (q : Steps × At). IsSound q.1.scope q.1.slots) here.is (sound_port tb.name s.tables (table_kind tb) s.scope s.slots ok) in
       let ports2 : ArePorts ts d.first.1.scope =

@@ -2,6 +2,7 @@
 use Rattle.std.proofs.Common.{◌≡◌, ◌+◌, ◌<◌, ◌≤◌, List, [], ◌∷◌, ◌++◌, map, refl, sym, ap, ◌∙◌, arith, append_assoc, append-nil}
 use Rattle.std.specs.Prelude.{fold, codes}
 use Rattle.std.proofs.lemmas.List.Sums.{fold-append}
+use Rattle.river_base.proofs.PlaceLemmas.{if_lt, if_ge}
 use Rattle.work_code.specs.Steps.{Steps}
 use Rattle.river_plan.specs.declared.plan.TableDecl.{TableDecl}
 use Rattle.river_plan.specs.Forms.{Name, decl_names, table_names}
@@ -9,7 +10,6 @@ use Rattle.river_plan.specs.InTurn.{mentioned}
 use Rattle.river_plan.specs.Names.{count, with_name}
 use Rattle.river_plan.specs.Uses.{all_vars}
 use Rattle.river_plan.proofs.NameLemmas.{count-append, one_same}
-use Rattle.brooklet_model.proofs.Lists.{if_lt, if_ge}
 use Rattle.saw_model.specs.Elaborate.{At, nothing_read}
 use Rattle.saw_model.specs.InTurn.{PlansInTurn}
 use Rattle.saw_model.specs.Plan.{queue_name, queues_of, queue_decls, tally_op}

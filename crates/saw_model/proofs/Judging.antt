@@ -3,6 +3,8 @@ use Rattle.std.proofs.Common.{◌≡◌, ℕ, ◌+◌, inl, inr, Bool, true, fal
 use Rattle.std.proofs.Common.{arith, ⊎_elim, append_assoc, append-nil}
 use Rattle.std.specs.Prelude.{Result, Ok, Err, if◌then◌else◌, nat_lt, nat_le, nat_eq}
 use Rattle.std.proofs.lemmas.Bool.{and_parts, and_cases, ltb-true, ltb-false, leb-true, leb-false, eqb-true, eqb-false}
+use Rattle.std.proofs.lemmas.Option.{same_Some, none-some}
+use Rattle.river_base.proofs.PlaceLemmas.{if_true, if_false}
 use Rattle.river_base.specs.Name.{name_eq}
 use Rattle.kern_tables.specs.declared.kind.TableKind.{TableKind}
 use Rattle.kern_tables.specs.declared.kind.TableKind.TheVariants.{Sum, Collection, Maximum}
@@ -12,7 +14,6 @@ use Rattle.work_code.specs.Steps.{Steps, both_steps, one_step}
 use Rattle.work_code.specs.Steps as steps
 use Rattle.work_code.specs.Term.{Term}
 use Rattle.work_code.specs.Term as term
-use Rattle.brooklet_model.proofs.Lists.{if_true, if_false}
 use Rattle.saw_text.specs.Tree.{Expression}
 use Rattle.saw_text.specs.Tree as tree
 use Rattle.saw_text.specs.Tree.{Statement, Declare, Assign, Emit, If, Block, End, Then, Optional, Unwritten, Written, UnitForm, TableUnit, StatementUnit}
@@ -54,12 +55,6 @@ pub record IsAt (b : List ReadMark) (s : At) : Type 0 where
   size : s.size ≡ how_many is_statement b
   tables : s.tables ≡ how_many is_table b
 
-no_entry : (e : Entry) → None ≡ Some e → ⊥
-no_entry e h = cc h
-
-same_entry : (a e : Entry) → Some a ≡ Some e → a ≡ e
-same_entry a e h = cc h
-
 no_local : (k : TableKind) → ATable k ≡ ALocal → ⊥
 no_local k h = cc h
 
@@ -89,14 +84,14 @@ scope_named : (b : List ReadMark) (m : ReadMark) (sc : Scope) (n : Name) (e : En
 scope_named b m sc n e g s new a = record {
   found = λ x y h. ⊎_elim
       (λ c.
-      let d = same_entry e y (sym (if_true (name_eq n x) (Some e) (find sc x) c.1) ∙ h) in
+      let d = same_Some e y (sym (if_true (name_eq n x) (Some e) (find sc x) c.1) ∙ h) in
       known_second b (m ∷ []) x (what_of y) (inl (g ∙ ap (λ z. Some (z, what_of e)) c.0 ∙ ap (λ z. Some (x, what_of z)) d, refl)))
       (λ c. known_first b (m ∷ []) x (what_of y) s (a.found x y (sym (if_false (name_eq n x) (Some e) (find sc x) c.1) ∙ h)))
       (cases_name n x);
   known = λ x w d. ⊎_elim
       (λ k.
       let r = a.known x w k in ⊎_elim
-      (λ c. absurd (no_entry r.0 (sym new ∙ ap (find sc) c.0 ∙ r.1)))
+      (λ c. absurd (none-some r.0 (sym new ∙ ap (find sc) c.0 ∙ r.1)))
       (λ c. (r.0, if_false (name_eq n x) (Some e) (find sc x) c.1 ∙ r.1, r.2))
       (cases_name n x))
       (λ k. ⊎_elim
@@ -182,27 +177,27 @@ table_at b n k s new a = record {
 
 -- no name of this spelling is known
 unknown : (b : List ReadMark) (n : Name) (w : What) (s : At) → IsAt b s → find s.scope n ≡ None → IsKnownAs b n w → ⊥
-unknown b n w s a e d = let r = a.scope.known n w d in no_entry r.0 (sym e ∙ r.1)
+unknown b n w s a e d = let r = a.scope.known n w d in none-some r.0 (sym e ∙ r.1)
 
 -- a table is no local
 not_local : (b : List ReadMark) (n : Name) (p : ℕ) (k : TableKind) (s : At) → IsAt b s → find s.scope n ≡ Some (Port p k) → IsKnownAs b n ALocal → ⊥
 not_local b n p k s a e d =
     let r = a.scope.known n ALocal d in
-    let i = same_entry r.0 (Port p k) (sym r.1 ∙ e) in
+    let i = same_Some r.0 (Port p k) (sym r.1 ∙ e) in
     no_local k (ap what_of (sym i) ∙ r.2)
 
 -- a table has one kind
 the_kind : (b : List ReadMark) (n : Name) (p : ℕ) (k j : TableKind) (s : At) → IsAt b s → find s.scope n ≡ Some (Port p k) → IsKnownAs b n (ATable j) → k ≡ j
 the_kind b n p k j s a e d =
     let r = a.scope.known n (ATable j) d in
-    let i = same_entry r.0 (Port p k) (sym r.1 ∙ e) in
+    let i = same_Some r.0 (Port p k) (sym r.1 ∙ e) in
     same_kind k j (ap what_of (sym i) ∙ r.2)
 
 -- a local is no table
 not_table : (b : List ReadMark) (n : Name) (i : ℕ) (j : TableKind) (s : At) → IsAt b s → find s.scope n ≡ Some (Var i) → IsKnownAs b n (ATable j) → ⊥
 not_table b n i j s a e d =
     let r = a.scope.known n (ATable j) d in
-    let h = same_entry r.0 (Var i) (sym r.1 ∙ e) in
+    let h = same_Some r.0 (Var i) (sym r.1 ∙ e) in
     no_table j (ap what_of (sym h) ∙ r.2)
 
 -- TESTS
@@ -523,7 +518,7 @@ part_read (TableUnit tb) b s a =
 -- before all units nothing is known
 pub nothing_at : IsAt [] (record { scope = []; slots = 0; size = 0; tables = 0 })
 nothing_at = record {
-  scope = record { found = λ n e h. absurd (no_entry e h); known = λ n w d. absurd d };
+  scope = record { found = λ n e h. absurd (none-some e h); known = λ n w d. absurd d };
   slots = refl;
   size = refl;
   tables = refl;

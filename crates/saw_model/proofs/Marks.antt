@@ -2,6 +2,7 @@
 use Rattle.std.proofs.Common.{◌≡◌, ℕ, zero, suc, ◌+◌, ◌⊎◌, inl, inr, Bool, true, false, List, [], ◌∷◌, ◌++◌, length, Option, Some, None, refl, sym, ap, ◌∙◌}
 use Rattle.std.proofs.Common.{subst, arith, ⊎_elim, append_assoc, append-nil}
 use Rattle.std.proofs.lemmas.Bool.{both_ways}
+use Rattle.std.proofs.lemmas.Option.{none-some}
 use Rattle.river_plan.specs.Forms.{Name}
 use Rattle.river_plan.specs.Names.{one_if}
 use Rattle.saw_text.specs.Tree.{Expression}
@@ -66,12 +67,9 @@ pub known_second : (xs ys : List ReadMark) (n : Name) (w : What) → IsKnownAs y
 known_second [] ys n w d = d
 known_second (x ∷ xs) ys n w d = inr (known_second xs ys n w d)
 
-none_given : (e : Name × What) → None ≡ Some e → ⊥
-none_given e h = cc h
-
 -- a mark that gives no name
 pub known_behind : (m : ReadMark) (ms : List ReadMark) (n : Name) (w : What) → known_from_here m ≡ None → IsKnownAs (m ∷ ms) n w → IsKnownAs ms n w
-known_behind m ms n w e d = ⊎_elim (λ a. absurd (none_given (n, w) (sym e ∙ a.0))) (λ a. a) d
+known_behind m ms n w e d = ⊎_elim (λ a. absurd (none-some (n, w) (sym e ∙ a.0))) (λ a. a) d
 
 -- a text behind which no name of it is known
 abbrev pub IsQuiet : List ReadMark → Type 0

@@ -1,9 +1,12 @@
 -- A whole program and the body of its plan.
-use Rattle.std.proofs.Common.{◌≡◌, ℕ, suc, ℤ, pos, ◌+◌, ◌<◌, ◌≤◌, true, List, [], ◌∷◌, ◌++◌, length, take, Option, Some, None, Result, Ok, Err, refl, sym, ap}
+use Rattle.std.proofs.Common.{◌≡◌, ℕ, suc, ℤ, pos, ◌+◌, ◌<◌, ◌≤◌, true, List, [], ◌∷◌, ◌++◌, length, take, Some, None, Result, Ok, Err, refl, sym, ap}
 use Rattle.std.proofs.Common.{◌∙◌, subst, arith, nat_lt, nat_le, replicate, append_assoc, length-append, ⊎_elim}
 use Rattle.std.specs.Prelude.{slice_get}
 use Rattle.std.proofs.lemmas.List.{length-replicate}
 use Rattle.std.proofs.lemmas.Bool.{ltb-true, leb-true}
+use Rattle.std.proofs.lemmas.Option.{none-some}
+use Rattle.river_base.proofs.Options.{none_some}
+use Rattle.river_base.proofs.Lists.{got_mid}
 use Rattle.work_code.specs.Steps.{Steps, Done, both_steps}
 use Rattle.work_code.specs.Ran.{ran}
 use Rattle.kern_rows.proofs.Lengths.{ran_length}
@@ -111,12 +114,9 @@ not_known (TableUnit tb ∷ ps) s y n b h f =
     let t = tabled_parts tb.name (table_kind tb) s d.first d.first_is in
     let more = not_known ps d.first.1 d.others n b d.others_is (part_keeps (TableUnit tb) s d.first d.first_is n b f) in
     ⊎_elim
-    (λ c. absurd (clash (find s.scope n) b (subst (λ x. find s.scope x ≡ None) c.0 t.new) f))
+    (λ c. absurd (none_some (find s.scope n) b (subst (λ x. find s.scope x ≡ None) c.0 t.new) f))
     (λ c. let e = ap one_if c.1 in omega (arith, e, more))
     (cases_name tb.name n)
-  where
-    clash : (o : Option KnownName) (b : KnownName) → o ≡ None → o ≡ Some b → ⊥
-    clash o b h g = cc (sym h ∙ g)
 not_known (StatementUnit c ∷ ps) s y n b h f =
     let d = split_parts (StatementUnit c) ps s y h in
     not_known ps d.first.1 d.others n b d.others_is (part_keeps (StatementUnit c) s d.first d.first_is n b f)
@@ -158,11 +158,6 @@ tables_few (StatementUnit c ∷ ps) s y h le =
 
 -- THE RUN
 
--- the table that comes next
-pub got_here : (done rest : List TableDecl) (t : TableDecl) → slice_get (done ++ t ∷ rest) (length done) ≡ Some t
-got_here [] rest t = refl
-got_here (d ∷ ds) rest t = got_here ds rest t
-
 port_one : (p q : ℕ) (k l : TableKind) → Some (Port p k) ≡ Some (Port q l) → (p ≡ q) × (k ≡ l)
 port_one p q k l h = (cc, cc)
 
@@ -200,7 +195,7 @@ module _ (w : ℕ) (r : List ℤ) (ts : List TableDecl) where
       let here = tabled_parts tb.name (table_kind tb) s d.first d.first_is in
       let decl : TableDecl = table_decl tb in
       let sc : Scope = (tb.name, Port s.tables (table_kind tb)) ∷ s.scope in
-      let got : slice_get ts s.tables ≡ Some decl = ap (slice_get ts) e ∙ ap (λ l. slice_get l (length done)) t ∙ got_here done (tables_in ps) decl in
+      let got : slice_get ts s.tables ≡ Some decl = ap (slice_get ts) e ∙ ap (λ l. slice_get l (length done)) t ∙ got_mid done decl (tables_in ps) in
       let m : MetBy w r ts s now now d.first mem =
       subst (λ (q : Steps × At). MetBy w r ts s now now q mem) here.is
       (none_met w r ts now now sc mem refl (agrees_port tb.name s.tables (table_kind tb) s.scope now.values mem k.agrees)) in
@@ -244,7 +239,7 @@ pub record_met : (p : Program) (y : Steps × At) (w : ℕ) (r : List ℤ) → pa
     → Matches (tables_in p) (emits p r) (ran y.0 (take w r) (replicate y.1.slots (pos 0))).pushes
 record_met p y w r h b =
     let mem = replicate y.1.slots (pos 0) in
-    let none_known : (n : Name) (b : KnownName) → find [] n ≡ Some b → ⊥ = λ n b f. no_none f in
+    let none_known : (n : Name) (b : KnownName) → find [] n ≡ Some b → ⊥ = λ n b f. none-some _ f in
     let k : Ready w r (tables_in p) nothing_read fresh_state mem = record {
       sound = record { below = λ n i f. absurd (none_known n (Var i) f); apart = λ n m i f g. absurd (none_known n (Var i) f) };
       ports = record { port = λ n p k f. absurd (none_known n (Port p k) f) };
@@ -252,6 +247,3 @@ record_met p y w r h b =
     } in
     let m = parts_met w r (tables_in p) p nothing_read y fresh_state mem [] h b k (let l = length-replicate y.1.slots (pos 0) in omega (arith, l)) refl refl in
     subst (λ es. Matches (tables_in p) es (ran y.0 (take w r) mem).pushes) (sym m.emitted_are) m.matches
-  where
-    no_none : {b : KnownName} → None ≡ Some b → ⊥
-    no_none h = cc h

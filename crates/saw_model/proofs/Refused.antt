@@ -1,6 +1,7 @@
 -- The first fault of a program and its unit.
 use Rattle.std.proofs.Common.{◌≡◌, ℕ, suc, ◌+◌, ◌⊎◌, inl, inr, List, [], ◌∷◌, ◌++◌, length, refl, sym, ap, ◌∙◌, subst, arith, ⊎_elim, append_assoc}
 use Rattle.std.specs.Prelude.{Result, Ok, Err}
+use Rattle.std.proofs.lemmas.List.{append-nil}
 use Rattle.work_code.specs.Steps.{Steps, both_steps}
 use Rattle.saw_text.specs.Tree.{UnitForm, Program}
 use Rattle.saw_model.specs.Elaborate.{Fault, At, part_judged, nothing_read}
@@ -96,11 +97,7 @@ told b k (c ∷ ps) r h = ⊎_elim
     h
 
 fine_parts : (b ms ns : List ReadMark) → AreFine b (ms ++ ns) → AreFine b ms × AreFine (b ++ ms) ns
-fine_parts b [] ns a = (tt, subst (λ x. AreFine x ns) (sym (nil b)) a)
-  where
-    nil : (b : List ReadMark) → b ++ [] ≡ b
-    nil [] = refl
-    nil (x ∷ xs) = ap (λ l. x ∷ l) (nil xs)
+fine_parts b [] ns a = (tt, subst (λ x. AreFine x ns) (sym (append-nil b)) a)
 fine_parts b (m ∷ ms) ns a =
     let r = fine_parts (b ++ m ∷ []) ms ns a.1 in ((a.0, r.0), subst (λ x. AreFine x ns) (append_assoc b (m ∷ []) ms) r.1)
 

@@ -6,6 +6,7 @@ use Rattle.std.specs.List.{AllByRecursion}
 use Rattle.std.proofs.lemmas.Bool.{and_parts, and_from, le-leb, leb-true}
 use Rattle.std.proofs.lemmas.List.{length-map, append-nil}
 use Rattle.std.proofs.lemmas.List.Elements.{All-nil, All-cons, All-append}
+use Rattle.std.proofs.lemmas.Option.{same_Some}
 use Rattle.river_base.specs.Name.{name_eq}
 use Rattle.river_base.specs.declared.kind.QueueType.{QueueType}
 use Rattle.work_code.specs.Steps.{Steps}
@@ -91,13 +92,10 @@ kind_there : (ts : List TableDecl) (i : ℕ) (t : TableDecl) → AreOnce (queues
     → kind_in (queue_decls ts) (queue_name t.name) ≡ Some (rows (table_width t.kind))
 kind_there [] i t o g = absurd (cc g)
 kind_there (u ∷ us) zero t o g =
-    let e = same u t g in
+    let e = same_Some u t g in
     if_known (name_eq (queue_name u.name) (queue_name t.name)) (rows (table_width u.kind)) (kind_in (queue_decls us) (queue_name t.name))
     (ap (λ (x : TableDecl). name_eq (queue_name x.name) (queue_name t.name)) e ∙ name_same (queue_name t.name))
     ∙ ap (λ (x : TableDecl). Some (rows (table_width x.kind))) e
-  where
-    same : (u t : TableDecl) → Some u ≡ Some t → u ≡ t
-    same u t g = cc
 kind_there (u ∷ us) (suc i) t o g = ⊎_elim
     (λ c.
     let e = ap one_if c.1 in let w = o (queue_name t.name) in
@@ -110,12 +108,9 @@ table_there : (ts : List TableDecl) (i : ℕ) (t : TableDecl) → AreOnce (table
     → table_in ts t.name ≡ Some (Table (table_width t.kind))
 table_there [] i t o g = absurd (cc g)
 table_there (u ∷ us) zero t o g =
-    let e = same u t g in
+    let e = same_Some u t g in
     if_known (name_eq u.name t.name) (Table (table_width u.kind)) (table_in us t.name) (ap (λ (x : TableDecl). name_eq x.name t.name) e ∙ name_same t.name)
     ∙ ap (λ (x : TableDecl). Some (Table (table_width x.kind))) e
-  where
-    same : (u t : TableDecl) → Some u ≡ Some t → u ≡ t
-    same u t g = cc
 table_there (u ∷ us) (suc i) t o g = ⊎_elim
     (λ c. let e = ap one_if c.1 in let w = o t.name in let n = got_once us i t g in absurd (omega (arith, e, w, n)))
     (λ c. if_other (name_eq u.name t.name) (Table (table_width u.kind)) (table_in us t.name) c.1 ∙ table_there us i t (once_rest u.name (table_names us) o) g)
@@ -165,10 +160,7 @@ goods (StatementUnit c ∷ ps) s y h = let d = split_parts (StatementUnit c) ps 
 
 good_there : (ts : List TableDecl) (i : ℕ) (t : TableDecl) → AreGood ts → slice_get ts i ≡ Some t → IsGood t.kind
 good_there [] i t h g = absurd (cc g)
-good_there (u ∷ us) zero t h g = subst (λ (x : TableDecl). IsGood x.kind) (same u t g) h.0
-  where
-    same : (u t : TableDecl) → Some u ≡ Some t → u ≡ t
-    same u t g = cc
+good_there (u ∷ us) zero t h g = subst (λ (x : TableDecl). IsGood x.kind) (same_Some u t g) h.0
 good_there (u ∷ us) (suc i) t h g = good_there us i t h.1 g
 
 good_tables : (ts : List TableDecl) → AreGood ts → All (λ t. IsTableKind t.kind) ts

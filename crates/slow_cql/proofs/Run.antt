@@ -1,6 +1,7 @@
 -- A program, answered one part after another.
 use Rattle.std.proofs.Common.{◌≡◌, ℕ, ◌+◌, ◌<◌, ℤ, List, [], ◌∷◌, ◌++◌, length, get_or, drop, map, refl, sym, ap, ◌∙◌, subst, arith, append_assoc}
-use Rattle.std.proofs.lemmas.List.{length-map}
+use Rattle.std.proofs.lemmas.List.{length-map, append-nil}
+use Rattle.river_base.proofs.Lists.{drop_next}
 use Rattle.river_base.specs.declared.item.Item as item
 use Rattle.river_plan.specs.Forms.{Name}
 use Rattle.cql_model.specs.Laws.{AreFiles}
@@ -15,7 +16,7 @@ use Rattle.slow_cql.specs.Kept.{Entry, StandsKept}
 use Rattle.slow_cql.specs.Contents.{AreNarrow, HaveColumns}
 use Rattle.slow_cql.proofs.Contents.{are_narrow}
 use Rattle.slow_cql.proofs.Standing.{nothing_stands}
-use Rattle.slow_cql.proofs.Tuples.{left_at, map_at}
+use Rattle.slow_cql.proofs.Tuples.{map_at}
 
 -- what is left of the program and of the files, with what is known, gives the outputs that are to come
 pub record Rest (ts : List ℤ) (ps : Program) (files : List (List Entry)) (all : List Kept) (outs whole : List (List item.Item)) : Type 0 where
@@ -79,13 +80,9 @@ pub rest_narrow : (ts : List ℤ) (q : Query) (ps : Program) (files : List (List
     → Rest ts (AQuery q ∷ ps) files all outs whole → (ks : List KnownStream) × StandsKept ts all ks × AreNarrow ts ks q
 rest_narrow ts q ps files all outs whole r = (r.known, r.stands, are_narrow ts r.known q r.wide r.columns.0)
 
-append-none : {A : Type 0} (xs : List A) → xs ++ [] ≡ xs
-append-none [] = refl
-append-none (x ∷ xs) = ap (λ l. x ∷ l) (append-none xs)
-
 pub rest_none : (ts : List ℤ) (files : List (List Entry)) (all : List Kept) (outs whole : List (List item.Item)) → Rest ts [] files all outs whole
     → outs ≡ whole
-rest_none ts files all outs whole r = sym (append-none outs) ∙ r.means
+rest_none ts files all outs whole r = sym (append-nil outs) ∙ r.means
 
 -- the same over values that are equal
 pub rest_same : (ts : List ℤ) (ps : Program) (fs gs : List (List Entry)) (old new : List Kept) (outs more whole : List (List item.Item)) → gs ≡ fs
@@ -100,4 +97,4 @@ pub part_at : (parts : List tree.Part) (i : ℕ) (x : tree.Part) → i < length 
     → drop i (parts_of parts) ≡ part_of x ∷ drop (i + 1) (parts_of parts)
 part_at parts i x lt e =
     let less : i < length (parts_of parts) = (let l = length-map parts part_of in omega (arith, l, lt)) in
-    left_at (parts_of parts) i (part_of x) less (map_at part_of parts i x lt e)
+    drop_next (parts_of parts) i (part_of x) less (map_at part_of parts i x lt e)

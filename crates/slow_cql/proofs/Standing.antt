@@ -1,9 +1,11 @@
 -- What is kept stands for what is known, one more after another.
-use Rattle.std.proofs.Common.{◌≡◌, ℕ, ◌+◌, ◌<◌, ℤ, Bool, true, false, Option, Some, None, List, [], ◌∷◌, ◌++◌, length, get_or, take, fold, refl, sym, ap, ◌∙◌}
+use Rattle.std.proofs.Common.{◌≡◌, ℕ, ◌+◌, ◌<◌, ℤ, Bool, true, false, Option, Some, None, List, [], ◌∷◌, ◌++◌, length, get_or, take, refl, sym, ap, ◌∙◌}
 use Rattle.std.proofs.Common.{subst}
 use Rattle.std.specs.Prelude.{if◌then◌else◌}
 use Rattle.std.specs.List.{AllByRecursion}
 use Rattle.std.proofs.lemmas.List.{take_more, map-append}
+use Rattle.cql_build.proofs.Judging.{sources-append}
+use Rattle.river_base.proofs.Lists.{fold-push}
 use Rattle.river_base.specs.Name.{name_eq}
 use Rattle.river_plan.specs.Forms.{Name}
 use Rattle.cql_text.specs.Tree as tree
@@ -21,10 +23,6 @@ use Rattle.slow_cql.proofs.Timed.{timed-none, reached-timed, timed_in_order}
 
 abbrev later : Name → Option Kept → Kept → Option Kept
 later n o k = if name_eq k.name n then Some k else o
-
-fold-push : {A B : Type 0} (f : B → A → B) (a : B) (xs : List A) (x : A) → fold f a (xs ++ x ∷ []) ≡ f (fold f a xs) x
-fold-push f a [] x = refl
-fold-push f a (y ∷ ys) x = fold-push f (f a y) ys x
 
 pub latest-push : (n : Name) (all : List Kept) (k : Kept) → latest n (all ++ k ∷ []) ≡ (if name_eq k.name n then Some k else latest n all)
 latest-push n all k = fold-push (later n) None all k
@@ -96,16 +94,12 @@ inputs_push ts ks items item is i a h = record {
   in_order = each_push (λ (x : Input). is_in_order x.entries.now) is i a.in_order h.in_order;
 }
 
-sources-push : (xs : List Source) (x : Source) → sources_of (xs ++ x ∷ []) ≡ sources_of xs ++ source_of x ∷ []
-sources-push [] x = refl
-sources-push (y ∷ ys) x = ap (λ l. source_of y ∷ l) (sources-push ys x)
-
 pub inputs_more : (ts : List ℤ) (ks : List KnownStream) (xs : List Source) (n : ℕ) (x : Source) (is js : List Input) (i : Input) → n < length xs
     → x ≡ get_or xs n x
     → AreInputsOf ts ks (sources_of (take n xs)) is → IsItemInput ts ks (source_of x) i → js ≡ is ++ i ∷ []
     → AreInputsOf ts ks (sources_of (take (n + 1) xs)) js
 inputs_more ts ks xs n x is js i lt e a h pushed =
     let all : sources_of (take (n + 1) xs) ≡ sources_of (take n xs) ++ source_of x ∷ [] =
-    ap sources_of (take_more xs n x lt ∙ ap (λ y. take n xs ++ y ∷ []) (sym e)) ∙ sources-push (take n xs) x in
+    ap sources_of (take_more xs n x lt ∙ ap (λ y. take n xs ++ y ∷ []) (sym e)) ∙ sources-append (take n xs) x in
     subst (AreInputsOf ts ks (sources_of (take (n + 1) xs))) (sym pushed)
     (subst (λ (l : List tree.Source). AreInputsOf ts ks l (is ++ i ∷ [])) (sym all) (inputs_push ts ks (sources_of (take n xs)) (source_of x) is i a h))

@@ -2,16 +2,13 @@
 use Rattle.std.proofs.Common.{◌≡◌, ℕ, zero, suc, ◌+◌, ◌<◌, ◌≤◌, ℤ, Bool, true, false, Option, Some, None, List, [], ◌∷◌, length, get_or, drop, map, refl, sym}
 use Rattle.std.proofs.Common.{ap, ◌∙◌, arith}
 use Rattle.std.specs.Prelude.{min, nat_le, if◌then◌else◌}
-use Rattle.std.proofs.lemmas.List.{drop_more, drop_all}
+use Rattle.std.proofs.lemmas.List.{drop_all}
 use Rattle.std.proofs.lemmas.Bool.Decides.{nat_tests}
+use Rattle.river_base.proofs.Lists.{drop_next}
 use Rattle.river_base.specs.Name.{name_eq}
 use Rattle.river_plan.specs.Forms.{Name}
 use Rattle.cql_model.specs.Scopes.{Named}
 use Rattle.cql_model.specs.Meaning.{Tuple, field_in, or_else, field_value, item_value}
-
--- what is left of a list whose next element is known
-pub left_at : {A : Type 0} (xs : List A) (i : ℕ) (x : A) → i < length xs → x ≡ get_or xs i x → drop i xs ≡ x ∷ drop (i + 1) xs
-left_at xs i x lt e = drop_more xs i x lt ∙ ap (λ y. y ∷ drop (i + 1) xs) (sym e)
 
 -- ---- ONE ROW: so far another field stood at each place
 
@@ -20,7 +17,7 @@ pub value_in_at : (f : Name) (gs : List Name) (row : List ℤ) (i : ℕ) (g : Na
     → z ≡ get_or row i z → name_eq g f ≡ b
     → field_in f (drop i gs) (drop i row) ≡ (if b then Some z else field_in f (drop (i + 1) gs) (drop (i + 1) row))
 value_in_at f gs row i g z b lg lr eg ez t =
-    ap (λ l. field_in f l (drop i row)) (left_at gs i g lg eg) ∙ ap (λ l. field_in f (g ∷ drop (i + 1) gs) l) (left_at row i z lr ez)
+    ap (λ l. field_in f l (drop i row)) (drop_next gs i g lg eg) ∙ ap (λ l. field_in f (g ∷ drop (i + 1) gs) l) (drop_next row i z lr ez)
     ∙ ap (λ c. if c then Some z else field_in f (drop (i + 1) gs) (drop (i + 1) row)) t
 
 no_fields : (f : Name) (row : List ℤ) → field_in f [] row ≡ None
@@ -44,7 +41,7 @@ pub field_value_at : (f : Name) (is : List Named) (rows : Tuple) (i : ℕ) (x : 
     → x ≡ get_or is i x → row ≡ get_or rows i row → o ≡ field_in f x.fields row
     → field_value f (drop i is) (drop i rows) ≡ or_else o (field_value f (drop (i + 1) is) (drop (i + 1) rows))
 field_value_at f is rows i x row o li lr ei er e =
-    ap (λ l. field_value f l (drop i rows)) (left_at is i x li ei) ∙ ap (λ l. field_value f (x ∷ drop (i + 1) is) l) (left_at rows i row lr er)
+    ap (λ l. field_value f l (drop i rows)) (drop_next is i x li ei) ∙ ap (λ l. field_value f (x ∷ drop (i + 1) is) l) (drop_next rows i row lr er)
     ∙ ap (λ p. or_else p (field_value f (drop (i + 1) is) (drop (i + 1) rows))) (sym e)
 
 or_found : (o p : Option ℤ) → (o ≡ None → ⊥) → o ≡ or_else o p
@@ -74,7 +71,7 @@ pub item_value_at : (a f : Name) (is : List Named) (rows : Tuple) (i : ℕ) (x :
     → x ≡ get_or is i x → row ≡ get_or rows i row → name_eq x.name a ≡ b
     → item_value a f (drop i is) (drop i rows) ≡ (if b then field_in f x.fields row else item_value a f (drop (i + 1) is) (drop (i + 1) rows))
 item_value_at a f is rows i x row b li lr ei er t =
-    ap (λ l. item_value a f l (drop i rows)) (left_at is i x li ei) ∙ ap (λ l. item_value a f (x ∷ drop (i + 1) is) l) (left_at rows i row lr er)
+    ap (λ l. item_value a f l (drop i rows)) (drop_next is i x li ei) ∙ ap (λ l. item_value a f (x ∷ drop (i + 1) is) l) (drop_next rows i row lr er)
     ∙ ap (λ c. if c then field_in f x.fields row else item_value a f (drop (i + 1) is) (drop (i + 1) rows)) t
 
 none_rows : (a f : Name) (is : List Named) → item_value a f is [] ≡ None
@@ -93,8 +90,3 @@ pub map_at : {A B : Type 0} (f : A → B) (xs : List A) (i : ℕ) (x : A) → i 
 map_at f [] i x lt e = absurd (omega (arith, lt))
 map_at f (y ∷ ys) zero x lt e = ap f e
 map_at f (y ∷ ys) (suc i) x lt e = map_at f ys i x (omega (arith, lt)) e
-
-pub map-drop : {A B : Type 0} (f : A → B) (n : ℕ) (xs : List A) → map f (drop n xs) ≡ drop n (map f xs)
-map-drop f zero xs = refl
-map-drop f (suc n) [] = refl
-map-drop f (suc n) (x ∷ xs) = map-drop f n xs

@@ -1,11 +1,12 @@
 -- Windows as parts of the rows in order of their instants.
-use Rattle.std.proofs.Common.{◌≡◌, ℕ, ◌-◌, ◌≤◌, ℤ, Bool, true, false, List, [], ◌∷◌, zero, suc, cond, length, get_or, take, drop, map, filter, refl, sym, ap}
+use Rattle.std.proofs.Common.{◌≡◌, ℕ, ◌-◌, ◌≤◌, ℤ, Bool, true, false, List, [], ◌∷◌, cond, length, get_or, take, drop, map, filter, refl, sym, ap}
 use Rattle.std.proofs.Common.{◌∙◌, arith, int_lt, int_le, length-drop}
 use Rattle.std.specs.Prelude.{not, ◌&&◌}
 use Rattle.std.specs.List.Sorted.{IsPartitionPoint}
 use Rattle.std.specs.Ordering.{int_eq}
 use Rattle.std.proofs.lemmas.List.{take_all, length-map}
 use Rattle.std.proofs.lemmas.List.Elements.{filter_agree}
+use Rattle.river_base.proofs.Lists.{drop-map}
 use Rattle.csv_streams.proofs.Spreading.{passes_between}
 use Rattle.cql_model.specs.Streams.{newest_rows}
 use Rattle.slow_cql.specs.Kept.{Entry}
@@ -36,11 +37,6 @@ filter-filter p q (e ∷ es) = step (p e) (filter-filter p q es) where
 -- the rows of this instant are those up to it and not below it
 pub now_is : (t u : ℤ) → (int_le u t && not (int_lt u t)) ≡ int_eq u t
 now_is t u = grind arith
-
-drop-map : {A B : Type 0} (f : A → B) (n : ℕ) (xs : List A) → map f (drop n xs) ≡ drop n (map f xs)
-drop-map f zero xs = refl
-drop-map f (suc n) [] = refl
-drop-map f (suc n) (x ∷ xs) = drop-map f n xs
 
 -- the rows from a first instant to a last
 pub between : (p q r : Entry → Bool) → ((e : Entry) → (p e && q e) ≡ r e) → (es ps qs : List Entry) → ps ≡ filter p es → qs ≡ filter q ps → qs ≡ filter r es

@@ -3,6 +3,7 @@ use Rattle.std.proofs.Common.{◌≡◌, ℕ, zero, suc, ℤ, ◌+◌, ◌<◌, 
 use Rattle.std.proofs.Common.{ap, ◌∙◌, subst, arith, append_assoc, append-nil, FitsSigned, w64, to_z, of_z}
 use Rattle.std.proofs.lemmas.Int.{to_z-of_z}
 use Rattle.std.specs.Prelude.{if◌then◌else◌}
+use Rattle.river_base.proofs.Lists.{map_next, map_none, map_more}
 use Rattle.work_code.specs.Value.{is_true}
 use Rattle.saw_text.specs.Tree.{Expression}
 use Rattle.saw_text.specs.Tree.{Statement, Declare, Assign, Emit, If, Block, End, Then, Optional, Unwritten, Written, UnitForm, TableUnit, StatementUnit, Program}
@@ -15,8 +16,6 @@ use Rattle.saw_text.specs.declared.tree.Unit as unit
 use Rattle.saw_text.specs.Tree.{expression as spoken, statement, in_turn, unit_form, unit_forms}
 use Rattle.saw_text.specs.View.{expressions}
 use Rattle.saw_build.specs.Valued.{AreValues, AllValues}
-use Rattle.saw_build.proofs.Planned.{map_more}
-use Rattle.saw_build.proofs.SoFar.{at_place, none_left}
 use Rattle.saw_build.proofs.Units.{parts_at, parts_none}
 use Rattle.slow_sawzall.specs.declared.run.Run.{Run}
 use Rattle.slow_sawzall.specs.Sawzall.{named_values, run_state, do_part, AreRunnable, IsRunnable, IsRunnablePart, AreRunnableParts}
@@ -111,7 +110,7 @@ module _ (all : List Statement) (ss : List tree.Statement) (i : ℕ) (s : tree.S
   others = map statement (drop (i + 1) ss)
 
   cut : BlockLeft all (statement s ∷ others) r first now
-  cut = subst (λ (l : List Statement). BlockLeft all l r first now) (at_place statement ss i s lt e) f
+  cut = subst (λ (l : List Statement). BlockLeft all l r first now) (map_next statement ss i s lt e) f
 
   pub statement_runnable : IsRunnable (statement s)
   statement_runnable = cut.runnable.0
@@ -123,7 +122,7 @@ module _ (all : List Statement) (ss : List tree.Statement) (i : ℕ) (s : tree.S
 -- behind the last statement the block was run
 pub block_end : (all : List Statement) (ss : List tree.Statement) (i : ℕ) (r : List ℤ) (first now : State) → length ss ≤ i
     → BlockLeft all (map statement (drop i ss)) r first now → now ≡ exec_block (in_turn all) r first
-block_end all ss i r first now le f = ap (λ l. exec_block (in_turn l) r now) (sym (none_left statement ss i le)) ∙ f.done
+block_end all ss i r first now le f = ap (λ l. exec_block (in_turn l) r now) (sym (map_none statement ss i le)) ∙ f.done
 
 -- VALUES OF EXPRESSIONS
 

@@ -1,8 +1,10 @@
 -- The tables of a program, one after another, and what is added to each.
-use Rattle.std.proofs.Common.{◌≡◌, ℕ, ◌+◌, ◌<◌, ◌≤◌, Bool, true, false, List, [], ◌∷◌, ◌++◌, length, take, drop, map, get_or, refl, sym, ap, ◌∙◌, subst}
+use Rattle.std.proofs.Common.{◌≡◌, ℕ, ◌+◌, ◌<◌, ◌≤◌, true, false, List, [], ◌∷◌, ◌++◌, length, take, drop, map, get_or, refl, sym, ap, ◌∙◌, subst}
 use Rattle.std.proofs.Common.{append_assoc, append-nil}
 use Rattle.std.specs.Prelude.{if◌then◌else◌}
 use Rattle.std.proofs.lemmas.List.{take_more, take_all}
+use Rattle.saw_model.proofs.Means.{rows_for-append}
+use Rattle.river_base.proofs.Lists.{drop_next}
 use Rattle.kern_tables.specs.declared.kind.TableKind.{TableKind}
 use Rattle.kern_tables.specs.declared.kept.Kept.{Kept}
 use Rattle.kern_tables.specs.Kept.{kept_of, with_row, rows_of, kind_of_table, width_of_table}
@@ -16,17 +18,8 @@ use Rattle.saw_text.specs.declared.tree.Unit as unit
 use Rattle.saw_text.specs.Tree.{unit_form, unit_forms}
 use Rattle.saw_build.proofs.Units.{parts_at, parts_none}
 use Rattle.slow_sawzall.specs.Sawzall.{tables_for, AreAllWide, IsWideFor, AreWideFor}
-use Rattle.slow_sawzall.proofs.Values.{from_place}
 
 -- ONE TABLE
-
-rows_for-append : (n : Name) (xs ys : List Emitted) → rows_for n (xs ++ ys) ≡ rows_for n xs ++ rows_for n ys
-rows_for-append n [] ys = refl
-rows_for-append n (x ∷ xs) ys = step (name_eq x.0 n) (rows_for-append n xs ys) where
-  step : (b : Bool) → rows_for n (xs ++ ys) ≡ rows_for n xs ++ rows_for n ys
-      → (if b then x.1 ∷ rows_for n (xs ++ ys) else rows_for n (xs ++ ys)) ≡ (if b then x.1 ∷ rows_for n xs else rows_for n xs) ++ rows_for n ys
-  step true h = ap (λ l. x.1 ∷ l) h
-  step false h = h
 
 row_here : (n : Name) (e : Emitted) (es : List Emitted) → name_eq e.0 n ≡ true → rows_for n (e ∷ es) ≡ e.1 ∷ rows_for n es
 row_here n e es h = ap (λ b. if b then e.1 ∷ rows_for n es else rows_for n es) h
@@ -57,7 +50,7 @@ module _ (kind : TableKind) (n : Name) (es : List Emitted) (i : ℕ) (e : Emitte
   taken = take_more es i e lt ∙ ap (λ x. take i es ++ x ∷ []) (sym is)
 
   left : AreAllWide (table_width kind) (rows_for n (e ∷ drop (i + 1) es))
-  left = subst (λ l. AreAllWide (table_width kind) (rows_for n l)) (from_place es i e lt is) f.wide
+  left = subst (λ l. AreAllWide (table_width kind) (rows_for n l)) (drop_next es i e lt is) f.wide
 
   more : rows_for n (take (i + 1) es) ≡ rows_for n (take i es) ++ rows_for n (e ∷ [])
   more = ap (rows_for n) taken ∙ rows_for-append n (take i es) (e ∷ [])

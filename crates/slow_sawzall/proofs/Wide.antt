@@ -1,8 +1,12 @@
 -- What an accepted program emits is as wide as its tables are.
-use Rattle.std.proofs.Common.{◌≡◌, ℕ, zero, suc, ℤ, ◌+◌, ◌<◌, ◌≤◌, Bool, true, false, List, [], ◌∷◌, ◌++◌, length, Option, Some, None, Ok, refl, sym, ap, ◌∙◌}
-use Rattle.std.proofs.Common.{subst, arith, nat_lt, nat_eq, append_assoc, length-append, ⊎_elim}
+use Rattle.std.proofs.Common.{◌≡◌, ℕ, zero, suc, ℤ, ◌+◌, ◌≤◌, Bool, true, false, List, [], ◌∷◌, ◌++◌, length, Option, Some, None, Ok, refl, sym, ap, ◌∙◌}
+use Rattle.std.proofs.Common.{subst, arith, nat_lt, append_assoc, length-append, ⊎_elim}
 use Rattle.std.specs.Prelude.{if◌then◌else◌, flat_map, slice_get}
 use Rattle.std.specs.List.{AllByRecursion}
+use Rattle.std.proofs.lemmas.Option.{same_Some}
+use Rattle.std.proofs.lemmas.Bool.{cases_Bool}
+use Rattle.river_base.proofs.Tests.{lt_by, eq_by}
+use Rattle.river_base.proofs.Lists.{got_mid}
 use Rattle.work_code.specs.Term.{Term}
 use Rattle.work_code.specs.Steps.{Steps}
 use Rattle.work_code.specs.Value.{is_true}
@@ -10,10 +14,9 @@ use Rattle.kern_tables.specs.declared.kind.TableKind.{TableKind}
 use Rattle.kern_tables.specs.declared.kind.TableKind.TheVariants.{Sum, Collection, Maximum}
 use Rattle.kern_tables.specs.Tables.{table_width}
 use Rattle.river_base.specs.Name.{name_eq}
-use Rattle.river_base.proofs.Options.{some_is}
 use Rattle.river_plan.specs.Forms.{Name, table_names}
 use Rattle.river_plan.specs.declared.plan.TableDecl.{TableDecl}
-use Rattle.river_plan.proofs.NameLemmas.{cases_bool, name_is}
+use Rattle.river_plan.proofs.NameLemmas.{name_is}
 use Rattle.saw_text.specs.Tree.{Expression}
 use Rattle.saw_text.specs.Tree.{Statement, Declare, Assign, Emit, If, Block, End, Then, Optional, Unwritten, Written, TableUnit, StatementUnit, Program}
 use Rattle.saw_model.specs.Meaning.{tables_in, eval, eval_all, Emitted, State, table_kind, table_decl}
@@ -21,19 +24,13 @@ use Rattle.saw_model.specs.Meaning.{emit_row, listed, exec, exec_block, exec_opt
 use Rattle.saw_model.specs.Elaborate.{Limit, on_ok, Scope, term_of, At, indexes_of, keys_in, weight_of, step_of, steps_of, steps_optional, nothing_read}
 use Rattle.saw_model.proofs.Elaborated.{fine, ok_parts, if_both, ArePorts, one_more}
 use Rattle.saw_model.proofs.Fed.{AreOnce, one_place}
-use Rattle.saw_model.proofs.Parts.{parts_read, reads_parts, tabled_parts, split_parts, tables_once, got_here, ports_new}
+use Rattle.saw_model.proofs.Parts.{parts_read, reads_parts, tabled_parts, split_parts, tables_once, ports_new}
 use Rattle.saw_model.proofs.Statements.{second_at, Sent, sent_parts, forked_parts, followed_parts, grows}
 use Rattle.saw_build.specs.Valued.{IsValued, AreValued, AreValuedOptional, AreValuedParts}
 use Rattle.slow_sawzall.specs.Sawzall.{IsAccepted, IsRunnable, AreRunnable, AreRunnableOptional, AreRunnableParts, AreAllWide, AreWideFor}
 use Rattle.slow_sawzall.proofs.Runs.{evals_many}
 
 -- THE PARTS OF AN EMIT
-
-lt_by : (a b : ℕ) → nat_lt a b ≡ true → a < b
-lt_by a b h = grind (arith, h)
-
-eq_by : (a b : ℕ) → nat_eq a b ≡ true → a ≡ b
-eq_by a b h = grind (arith, h)
 
 -- at most 8 indexes are read
 indexes_few : (sc : Scope) (n : ℕ) (ts : List Expression) (us : List Term) → n ≤ 8 → indexes_of sc n ts ≡ Ok us → n + length ts ≤ 8
@@ -133,7 +130,7 @@ module _ (ts : List TableDecl) where
 
   got_name : (us : List TableDecl) (i : ℕ) (t : TableDecl) → slice_get us i ≡ Some t → slice_get (table_names us) i ≡ Some t.name
   got_name [] i t g = absurd (cc g)
-  got_name (u ∷ us) zero t g = ap (λ (x : TableDecl). Some x.name) (some_is u t g)
+  got_name (u ∷ us) zero t g = ap (λ (x : TableDecl). Some x.name) (same_Some u t g)
   got_name (u ∷ us) (suc i) t g = got_name us i t g
 
   sent_wide : AreOnce (table_names ts) → (t : Name) (is : List Expression) (v : Expression) (w : Option Expression) (s : At) (y : Steps × At)
@@ -149,7 +146,7 @@ module _ (ts : List TableDecl) where
       record {
         each = λ i u g e.
             let at : i ≡ p = one_place (table_names ts) i p t once (got_name ts i u g ∙ ap Some e) (got_name ts p decl there) in
-            let same : u ≡ decl = some_is u decl (sym g ∙ ap (slice_get ts) at ∙ there) in
+            let same : u ≡ decl = same_Some u decl (sym g ∙ ap (slice_get ts) at ∙ there) in
             let full : length (emit_row is v w) ≡ table_width k = omega (arith, many, keys, wide) in
             full ∙ ap (λ (x : TableDecl). table_width x.kind) (sym same);
       }
@@ -180,7 +177,7 @@ module _ (ts : List TableDecl) where
       let d = split_parts (TableUnit tb) ps s y h in
       let here = tabled_parts tb.name (table_kind tb) s d.first d.first_is in
       let decl : TableDecl = table_decl tb in
-      let got : slice_get ts s.tables ≡ Some decl = ap (slice_get ts) e ∙ ap (λ l. slice_get l (length done)) t ∙ got_here done (tables_in ps) decl in
+      let got : slice_get ts s.tables ≡ Some decl = ap (slice_get ts) e ∙ ap (λ l. slice_get l (length done)) t ∙ got_mid done decl (tables_in ps) in
       let more : ArePorts ts d.first.1.scope =
       subst (λ (q : Steps × At). ArePorts ts q.1.scope) here.is (ports_new ts tb.name s.tables (table_kind tb) s.scope got a) in
       let e2 : d.first.1.tables ≡ length (done ++ decl ∷ []) = ap (λ (q : Steps × At). q.1.tables) (sym here.is)
@@ -240,13 +237,13 @@ module _ (ts : List TableDecl) where
       (λ c. subst (AreAllWide (table_width t.kind)) (sym (ap (λ b. if b then e.1 ∷ rows_for t.name es else rows_for t.name es) c))
       (h.0.each i t g (sym (name_is e.0 t.name c)), rows_wide es i t g h.1))
       (λ c. subst (AreAllWide (table_width t.kind)) (sym (ap (λ b. if b then e.1 ∷ rows_for t.name es else rows_for t.name es) c)) (rows_wide es i t g h.1))
-      (cases_bool (name_eq e.0 t.name))
+      (cases_Bool (name_eq e.0 t.name))
 
   tables_wide : (p : Program) (done : List TableDecl) (es : List Emitted) → ts ≡ done ++ tables_in p → AreRowsWide es → AreWideFor p es
   tables_wide [] done es e h = tt
   tables_wide (TableUnit tb ∷ ps) done es e h =
       let decl : TableDecl = table_decl tb in
-      let got : slice_get ts (length done) ≡ Some decl = ap (λ l. slice_get l (length done)) e ∙ got_here done (tables_in ps) decl in
+      let got : slice_get ts (length done) ≡ Some decl = ap (λ l. slice_get l (length done)) e ∙ got_mid done decl (tables_in ps) in
       (rows_wide es (length done) decl got h, tables_wide ps (done ++ decl ∷ []) es (e ∙ sym (append_assoc done (decl ∷ []) (tables_in ps))) h)
   tables_wide (StatementUnit c ∷ ps) done es e h = (tt, tables_wide ps done es e h)
 

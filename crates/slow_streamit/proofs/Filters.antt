@@ -1,13 +1,13 @@
 -- The firings of a filter, one after another.
-use Rattle.std.proofs.Common.{◌≡◌, ℕ, suc, ◌+◌, ◌-◌, ◌*◌, ◌^◌, ◌<◌, ◌≤◌, ℤ, true, false, List, [], ◌∷◌, ◌++◌, length, take, drop, map, max, get_or, sym, ap, ◌∙◌}
+use Rattle.std.proofs.Common.{◌≡◌, ℕ, suc, ◌+◌, ◌-◌, ◌*◌, ◌^◌, ◌<◌, ◌≤◌, ℤ, List, [], ◌∷◌, ◌++◌, length, take, drop, map, max, get_or, sym, ap, ◌∙◌}
 use Rattle.std.proofs.Common.{arith, append_assoc, append-nil}
-use Rattle.std.specs.Prelude.{nat_le}
 use Rattle.std.proofs.lemmas.List.{drop_all, length-map}
+use Rattle.river_base.proofs.Tests.{le_true, le_false, one_less}
+use Rattle.river_base.proofs.Lists.{drop_next}
 use Rattle.river_plan.specs.Forms.{Name}
 use Rattle.brooklet_model.specs.Machine.{at_name}
 use Rattle.streamit_model.specs.Meaning.{Values, pop_of, peek_of, with_fields, runs_in, start_at, waits_for, looked_at, fires, fires_from}
 use Rattle.streamit_text.specs.Program.{FilterTree}
-use Rattle.slow_streamit.proofs.Rounds.{from_place}
 
 -- FIELDS
 
@@ -19,8 +19,8 @@ pub fields_next : (fs : List Name) (zs : List ℤ) (i : ℕ) (f : Name) (z : ℤ
     → z ≡ get_or zs i z → next ≡ at_name f z now → FieldsSoFar fs zs i first now → FieldsSoFar fs zs (i + 1) first next
 fields_next fs zs i f z first now next lf lz ef ez e s =
     ap (with_fields (drop (i + 1) fs) (drop (i + 1) zs)) e
-    ∙ ap (λ l. with_fields l (z ∷ drop (i + 1) zs) now) (sym (from_place fs i f lf ef))
-    ∙ ap (λ l. with_fields (drop i fs) l now) (sym (from_place zs i z lz ez))
+    ∙ ap (λ l. with_fields l (z ∷ drop (i + 1) zs) now) (sym (drop_next fs i f lf ef))
+    ∙ ap (λ l. with_fields (drop i fs) l now) (sym (drop_next zs i z lz ez))
     ∙ s
 
 pub fields_end : (fs : List Name) (zs : List ℤ) (i : ℕ) (first now : Values) → length fs ≤ i → FieldsSoFar fs zs i first now → now ≡ with_fields fs zs first
@@ -30,14 +30,10 @@ fields_end fs zs i first now le s = ap (λ l. with_fields l (drop i zs) now) (sy
 
 fires-there : (t : FilterTree) (n j : ℕ) (kept xs : List ℤ) → start_at t j + waits_for t j ≤ length xs
     → fires_from t (suc n) j kept xs ≡ (fires t j kept xs).pushed ++ fires_from t n (suc j) (map (fires t j kept xs).values t.fields) xs
-fires-there t n j kept xs le = rw (yes (start_at t j + waits_for t j) (length xs) le) where
-  yes : (a b : ℕ) → a ≤ b → nat_le a b ≡ true
-  yes a b le = grind (arith, le)
+fires-there t n j kept xs le = rw (le_true (start_at t j + waits_for t j) (length xs) le)
 
 fires-none : (t : FilterTree) (n j : ℕ) (kept xs : List ℤ) → length xs < start_at t j + waits_for t j → fires_from t (suc n) j kept xs ≡ []
-fires-none t n j kept xs lt = rw (no (start_at t j + waits_for t j) (length xs) lt) where
-  no : (a b : ℕ) → b < a → nat_le a b ≡ false
-  no a b lt = grind (arith, lt)
+fires-none t n j kept xs lt = rw (le_false (start_at t j + waits_for t j) (length xs) lt)
 
 -- the first firing, and all others
 pub all_fired : (t : FilterTree) (xs before kept kept' out out' : List ℤ) → max (peek_of (runs_in t 0)) 1 ≤ length xs
@@ -61,9 +57,6 @@ pub record FiredSoFar (t : FilterTree) (xs before : List ℤ) (start j : ℕ) (f
   pub low : start ≤ length xs + 2 ^ 32
   pub fields : length kept ≡ length t.fields
   pub same : out ++ fires_from t (length xs - j) (suc j) kept xs ≡ before ++ fires_from t (length xs) 1 first xs
-
-one_less : (n j : ℕ) → j < n → n - j ≡ suc (n - (j + 1))
-one_less n j lt = omega (arith, lt)
 
 -- the items that a firing looks at
 pub looked_is : (t : FilterTree) (xs : List ℤ) (start j peek : ℕ) → start ≡ start_at t (suc j) → peek ≡ peek_of t.work

@@ -1,24 +1,17 @@
 -- Splitters and joiners, weight after weight and item after item.
-use Rattle.std.proofs.Common.{◌≡◌, ℕ, zero, suc, ◌+◌, ◌-◌, ◌<◌, ◌≤◌, ℤ, Bool, true, false, List, [], ◌∷◌, ◌++◌, length, drop, get_or, Some, None, refl, sym, ap}
-use Rattle.std.proofs.Common.{◌∙◌, arith, append_assoc, append-nil, drop-cons}
-use Rattle.std.specs.Prelude.{nat_lt, nat_eq}
+use Rattle.std.proofs.Common.{◌≡◌, ℕ, suc, ◌+◌, ◌-◌, ◌<◌, ◌≤◌, ℤ, Bool, true, false, List, [], ◌∷◌, ◌++◌, length, drop, get_or, Some, None, refl, sym, ap}
+use Rattle.std.proofs.Common.{◌∙◌, arith, append_assoc, append-nil}
+use Rattle.std.specs.Prelude.{nat_eq}
 use Rattle.std.proofs.lemmas.List.{drop_all}
+use Rattle.brooklet_model.proofs.Cycles.{part_first, part_other, within_first, within_other}
+use Rattle.river_base.proofs.Tests.{one_less}
+use Rattle.river_base.proofs.Lists.{drop_next}
 use Rattle.brooklet_model.specs.ByIndex.{cycle, part_of_cycle, within, branch, picked, dealt, collected_at, and_more, found_front, size_of}
-
--- the list from a place on
-pub from_place : {A : Type 0} (xs : List A) (i : ℕ) (x : A) → i < length xs → x ≡ get_or xs i x → drop i xs ≡ x ∷ drop (i + 1) xs
-from_place xs i x lt e = drop-cons xs i x lt ∙ ap (λ y. y ∷ drop (suc i) xs) (sym e) ∙ ap (λ k. x ∷ drop k xs) (let s : suc i ≡ i + 1 = omega arith in s)
-
--- the element at a place that is there, whatever stands for one that is not
-pub there : {A : Type 0} (xs : List A) (i : ℕ) (d e : A) → i < length xs → get_or xs i d ≡ get_or xs i e
-there [] i d e lt = absurd (omega (arith, lt))
-there (x ∷ xs) zero d e lt = refl
-there (x ∷ xs) (suc i) d e lt = there xs i d e (omega (arith, lt))
 
 -- A CYCLE
 
 pub cycle-from : (ws : List ℕ) (i w : ℕ) → i < length ws → w ≡ get_or ws i w → cycle (drop i ws) ≡ w + cycle (drop (i + 1) ws)
-cycle-from ws i w lt e = ap cycle (from_place ws i w lt e)
+cycle-from ws i w lt e = ap cycle (drop_next ws i w lt e)
 
 pub cycle-none : (ws : List ℕ) (i : ℕ) → length ws ≤ i → cycle (drop i ws) ≡ 0
 cycle-none ws i le = ap cycle (drop_all i ws le)
@@ -33,42 +26,24 @@ pub record SpotSoFar (ws : List ℕ) (place i left : ℕ) : Type 0 where
 pub spot_start : (ws : List ℕ) (place : ℕ) → SpotSoFar ws place 0 place
 spot_start ws place = record { part = omega arith; within = refl }
 
-test_high : (a b : ℕ) → b ≤ a → nat_lt a b ≡ false
-test_high a b le = grind (arith, le)
-
-test_low : (a b : ℕ) → a < b → nat_lt a b ≡ true
-test_low a b lt = grind (arith, lt)
-
-part-over : (w : ℕ) (ws : List ℕ) (left : ℕ) → w ≤ left → part_of_cycle (w ∷ ws) left ≡ suc (part_of_cycle ws (left - w))
-part-over w ws left le = rw (test_high left w le)
-
-within-over : (w : ℕ) (ws : List ℕ) (left : ℕ) → w ≤ left → within (w ∷ ws) left ≡ within ws (left - w)
-within-over w ws left le = rw (test_high left w le)
-
-part-here : (w : ℕ) (ws : List ℕ) (left : ℕ) → left < w → part_of_cycle (w ∷ ws) left ≡ 0
-part-here w ws left lt = rw (test_low left w lt)
-
-within-here : (w : ℕ) (ws : List ℕ) (left : ℕ) → left < w → within (w ∷ ws) left ≡ left
-within-here w ws left lt = rw (test_low left w lt)
-
 pub spot_next : (ws : List ℕ) (place i left w : ℕ) → i < length ws → w ≡ get_or ws i w → w ≤ left → SpotSoFar ws place i left
     → SpotSoFar ws place (i + 1) (left - w)
 spot_next ws place i left w lt e le f = record {
   part =
       let a = f.part in
-      let b : part_of_cycle (drop i ws) left ≡ suc (part_of_cycle (drop (i + 1) ws) (left - w)) = ap (λ l. part_of_cycle l left) (from_place ws i w lt e)
-      ∙ part-over w (drop (i + 1) ws) left le in
+      let b : part_of_cycle (drop i ws) left ≡ suc (part_of_cycle (drop (i + 1) ws) (left - w)) = ap (λ l. part_of_cycle l left) (drop_next ws i w lt e)
+      ∙ part_other w (drop (i + 1) ws) left le in
       omega (arith, a, b);
-  within = f.within ∙ ap (λ l. within l left) (from_place ws i w lt e) ∙ within-over w (drop (i + 1) ws) left le;
+  within = f.within ∙ ap (λ l. within l left) (drop_next ws i w lt e) ∙ within_other w (drop (i + 1) ws) left le;
 }
 
 pub spot_here : (ws : List ℕ) (place i left w : ℕ) → i < length ws → w ≡ get_or ws i w → left < w → SpotSoFar ws place i left
     → (i ≡ part_of_cycle ws place) × (left ≡ within ws place)
 spot_here ws place i left w lt e low f =
     let a = f.part in
-    let b : part_of_cycle (drop i ws) left ≡ 0 = ap (λ l. part_of_cycle l left) (from_place ws i w lt e) ∙ part-here w (drop (i + 1) ws) left low in (
+    let b : part_of_cycle (drop i ws) left ≡ 0 = ap (λ l. part_of_cycle l left) (drop_next ws i w lt e) ∙ part_first w (drop (i + 1) ws) left low in (
       omega (arith, a, b),
-      sym (f.within ∙ ap (λ l. within l left) (from_place ws i w lt e) ∙ within-here w (drop (i + 1) ws) left low),
+      sym (f.within ∙ ap (λ l. within l left) (drop_next ws i w lt e) ∙ within_first w (drop (i + 1) ws) left low),
     )
 
 pub spot_end : (ws : List ℕ) (place left : ℕ) → SpotSoFar ws place (length ws) left → (length ws ≡ part_of_cycle ws place) × (0 ≡ within ws place)
@@ -100,7 +75,7 @@ dealt_this ws p xs x out y lt e this f =
     append_assoc out (y ∷ []) (picked test (x + 1) (drop (x + 1) xs))
     ∙ ap (λ n. out ++ (y ∷ picked test n (drop (x + 1) xs))) (let s : x + 1 ≡ suc x = omega arith in s)
     ∙ ap (λ l. out ++ l) (sym (picked-this test x y (drop (x + 1) xs) this))
-    ∙ ap (λ l. out ++ picked test x l) (sym (from_place xs x y lt e))
+    ∙ ap (λ l. out ++ picked test x l) (sym (drop_next xs x y lt e))
     ∙ f
 
 -- it is another's
@@ -110,7 +85,7 @@ dealt_other ws p xs x out y lt e this f =
     let test = λ (n : ℕ). nat_eq (branch ws n) p in
     ap (λ n. out ++ picked test n (drop (x + 1) xs)) (let s : x + 1 ≡ suc x = omega arith in s)
     ∙ ap (λ l. out ++ l) (sym (picked-not test x y (drop (x + 1) xs) this))
-    ∙ ap (λ l. out ++ picked test x l) (sym (from_place xs x y lt e))
+    ∙ ap (λ l. out ++ picked test x l) (sym (drop_next xs x y lt e))
     ∙ f
 
 pub dealt_end : (ws : List ℕ) (p : ℕ) (xs : List ℤ) (x : ℕ) (out : List ℤ) → length xs ≤ x → DealtSoFar ws p xs x out → out ≡ dealt ws p xs
@@ -123,9 +98,6 @@ dealt_end ws p xs x out le f =
 -- what was collected, and what is collected from place x on
 abbrev pub CollectedSoFar : List ℕ → List (List ℤ) → ℕ → ℕ → List ℤ → Type 0
 CollectedSoFar ws ls size x out = out ++ found_front (collected_at ws ls) (size - x) x ≡ found_front (collected_at ws ls) size 0
-
-one_less : (size x : ℕ) → x < size → size - x ≡ suc (size - (x + 1))
-one_less size x lt = omega (arith, lt)
 
 -- one item more is there
 pub collected_more : (ws : List ℕ) (ls : List (List ℤ)) (size x : ℕ) (out : List ℤ) (y : ℤ) → x < size → collected_at ws ls x ≡ Some y
@@ -155,7 +127,7 @@ collected_end ws ls size x out le f =
 
 -- how many items the lists have that are left
 pub size-from : (ls : List (List ℤ)) (i : ℕ) (l : List ℤ) → i < length ls → l ≡ get_or ls i l → size_of (drop i ls) ≡ length l + size_of (drop (i + 1) ls)
-size-from ls i l lt e = ap size_of (from_place ls i l lt e)
+size-from ls i l lt e = ap size_of (drop_next ls i l lt e)
 
 pub size-none : (ls : List (List ℤ)) (i : ℕ) → length ls ≤ i → size_of (drop i ls) ≡ 0
 size-none ls i le = ap size_of (drop_all i ls le)

@@ -3,6 +3,7 @@ use Rattle.std.proofs.Common.{◌≡◌, ℕ, zero, suc, ◌+◌, ◌<◌, ◌�
 use Rattle.std.proofs.Common.{ap, ◌∙◌, subst, arith, append_assoc, append-nil}
 use Rattle.std.specs.Prelude.{if◌then◌else◌}
 use Rattle.std.proofs.lemmas.List.{drop_all, take_all, take_more, map-append}
+use Rattle.river_base.proofs.Lists.{drop_next}
 use Rattle.river_base.specs.Name.{name_eq}
 use Rattle.river_plan.specs.Forms.{Name}
 use Rattle.streamit_model.specs.Meaning.{Works, look, or_same, known_works, piped, branched, body_works, all_work, last_of, program_outputs}
@@ -10,7 +11,6 @@ use Rattle.streamit_text.specs.Program.{Program, Declared, body_of, declared_of,
 use Rattle.streamit_text.specs.declared.program.Declaration.{Declaration}
 use Rattle.streamit_build.specs.Readable.{IsReadableBody, AreReadable}
 use Rattle.slow_streamit.specs.Works.{works_of}
-use Rattle.slow_streamit.proofs.Rounds.{from_place}
 
 abbrev Env : Type 0
 Env = List (Name × Works)
@@ -103,7 +103,7 @@ LineSoFar env ms i first now = in_line env (drop i ms) now ≡ in_line env ms fi
 
 pub line_next : (env : Env) (ms : List Name) (i : ℕ) (m : Name) (first now next : List ℤ) → i < length ms → m ≡ get_or ms i m → next ≡ known_works env m now
     → LineSoFar env ms i first now → LineSoFar env ms (i + 1) first next
-line_next env ms i m first now next lt e is f = ap (in_line env (drop (i + 1) ms)) is ∙ ap (λ l. in_line env l now) (sym (from_place ms i m lt e)) ∙ f
+line_next env ms i m first now next lt e is f = ap (in_line env (drop (i + 1) ms)) is ∙ ap (λ l. in_line env l now) (sym (drop_next ms i m lt e)) ∙ f
 
 -- behind the last stream of a line
 pub line_end : (env : Env) (n : Name) (ms : List Name) (i : ℕ) (xs first now : List ℤ) → length ms ≤ i → first ≡ known_works env n xs
@@ -150,7 +150,7 @@ branches_next env f n ms i m before lists lists' share out lt em es eo el h =
     ∙ append_assoc lists (out ∷ []) rest
     ∙ ap (λ l. lists ++ (l ∷ rest)) (eo ∙ ap (known_works env m) es)
     ∙ ap (λ p. lists ++ (known_works env m (f (i + 1)) ∷ from_branch env f p (drop (i + 1) ms))) (let z : i + 1 + 1 ≡ suc (i + 1) = omega arith in z)
-    ∙ ap (λ l. lists ++ from_branch env f (i + 1) l) (sym (from_place ms i m lt em))
+    ∙ ap (λ l. lists ++ from_branch env f (i + 1) l) (sym (drop_next ms i m lt em))
     ∙ h
 
 pub branches_end : (env : Env) (f : ℕ → List ℤ) (n : Name) (ms : List Name) (i : ℕ) (before lists : List (List ℤ)) → length ms ≤ i

@@ -1,6 +1,6 @@
 -- The streams that are added to one, so far.
-use Rattle.std.proofs.Common.{◌≡◌, ℕ, suc, ◌+◌, ◌<◌, Bool, List, [], ◌∷◌, ◌++◌, length, drop, Result, Ok, Err, get_or, refl, sym, ap, ◌∙◌, subst, arith}
-use Rattle.std.proofs.Common.{add-one, drop-cons}
+use Rattle.std.proofs.Common.{◌≡◌, ℕ, suc, ◌+◌, ◌<◌, Bool, List, [], ◌∷◌, ◌++◌, length, Result, Ok, Err, refl, sym, ap, ◌∙◌, subst, arith}
+use Rattle.std.proofs.Common.{add-one}
 use Rattle.std.specs.Prelude.{min, max}
 use Rattle.std.specs.List.{AllByRecursion}
 use Rattle.river_plan.specs.Forms.{Name}
@@ -152,7 +152,3 @@ first_fault may known n ms f h = tells_more f (stream_added may known 0 n) (stre
 pub adds_end : (us : List UnitForm) (may : ℕ → Bool) (known : Streamed) (whole : Result Streams Fault) (i : ℕ) (c : Children) → SoFar us may known whole i [] c
     → AddsAll us (Ok c) whole
 adds_end us may known whole i c f = (chain f.prior f.last, f.whole_is ∙ onto_last f.prior f.last, f.are)
-
--- the name at a place is the first of those from there on
-pub name_at : (ns : List Name) (i : ℕ) (n : Name) → i < length ns → n ≡ get_or ns i n → drop i ns ≡ n ∷ drop (i + 1) ns
-name_at ns i n lt e = drop-cons ns i n lt ∙ ap (λ x. x ∷ drop (suc i) ns) (sym e) ∙ ap (λ k. n ∷ drop k ns) (sym (add-one i))

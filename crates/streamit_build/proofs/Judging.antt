@@ -4,6 +4,7 @@ use Rattle.std.specs.Vec.{vec_len}
 use Rattle.std.specs.Prelude.{min}
 use Rattle.std.specs.List.{AllByRecursion}
 use Rattle.std.proofs.lemmas.List.{length-map}
+use Rattle.river_base.proofs.Lists.{got_last}
 use Rattle.kern_rows.specs.Forms.{FilterForm}
 use Rattle.river_plan.specs.Forms.{Name}
 use Rattle.streamit_model.specs.Unrolled.{Splitter, Stream, Streams, Filter, Pipeline, SplitJoin, nesting}
@@ -22,7 +23,7 @@ use Rattle.streamit_build.specs.declared.builder.Declared.{Declared}
 use Rattle.streamit_build.specs.Units.{UnitForm, AFilter as UFilter, APipe, ASplit, unit_form, unit_forms, IsLower, HasShortFilters, IsTree}
 use Rattle.streamit_build.specs.Knowing.{Knows, AreChildren}
 use Rattle.streamit_build.proofs.Added.{fine}
-use Rattle.streamit_build.proofs.Knowing.{get_last, trees_kept}
+use Rattle.streamit_build.proofs.Knowing.{trees_kept}
 
 -- a fault stays the fault of what is made of the value
 pub tells_on : {A B : Type 0} (f : fault.Fault) (r : Result A Fault) (k : A → Result B Fault) → Tells f r → Tells f (on_ok r k)
@@ -49,7 +50,7 @@ filter_declared old new d name t f known e short made k h =
       made known (Filter name f) k
           (subst (λ u. IsLower (length old.declared.items) (Some u)) (sym e) tt)
           (subst (λ u. HasShortFilters (Some u)) (sym e) short)
-          (at_last old (unit_form d) (λ i. IsTree (us ++ unit_form d ∷ []) i (Filter name f)) (get_last us (unit_form d) ∙ ap Some e))
+          (at_last old (unit_form d) (λ i. IsTree (us ++ unit_form d ∷ []) i (Filter name f)) (got_last us (unit_form d) ∙ ap Some e))
           refl refl,
     )
 
@@ -74,7 +75,7 @@ pipe_declared old new d name a c depth ss known e dp made k h are =
           (subst (λ u. IsLower (length old.declared.items) (Some u)) (sym e) (lower_here old c.front.items are.front, omega (arith, low, len)))
           (subst (λ u. HasShortFilters (Some u)) (sym e) tt)
           (at_last old v (λ i. IsTree (us ++ v ∷ []) i (Pipeline ss))
-          (c.front.items, c.last, get_last us v ∙ ap Some e, trees_kept us (v ∷ []) c.front.items c.last ss are.trees))
+          (c.front.items, c.last, got_last us v ∙ ap Some e, trees_kept us (v ∷ []) c.front.items c.last ss are.trees))
           are.ops
           (omega (arith, dp, deep)),
     )
@@ -102,7 +103,7 @@ split_declared old new d name g a ws vs sp c ops depth ss known e op dp made k h
           (subst (λ u. IsLower (length old.declared.items) (Some u)) (sym e) (lower_here old c.front.items are.front, omega (arith, low, len)))
           (subst (λ u. HasShortFilters (Some u)) (sym e) tt)
           (at_last old v (λ i. IsTree (us ++ v ∷ []) i (SplitJoin sp ss vs))
-          (c.front.items, c.last, get_last us v ∙ ap Some e, trees_kept us (v ∷ []) c.front.items c.last ss are.trees))
+          (c.front.items, c.last, got_last us v ∙ ap Some e, trees_kept us (v ∷ []) c.front.items c.last ss are.trees))
           (omega (arith, op, many))
           (omega (arith, dp, deep)),
     )

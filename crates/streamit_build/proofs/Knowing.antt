@@ -14,14 +14,9 @@ use Rattle.streamit_build.specs.declared.builder.Declared.{Declared}
 use Rattle.river_base.specs.declared.memory.NoMemory.{NoMemory}
 use Rattle.indexmap.specs.IndexMap.{get}
 use Rattle.std.proofs.lemmas.List.{map-append, length-map}
+use Rattle.river_base.proofs.Lists.{got_first}
 use Rattle.streamit_build.specs.Units.{unit_form, unit_forms, UnitForm, AFilter, APipe, ASplit, IsLower, AreLower, HasShortFilters, HaveShortFilters, IsTree, AreTrees}
 use Rattle.streamit_build.specs.Knowing.{IsEntry, IsFound, Knows}
-
--- what was there is there in a longer list
-get_kept : {A : Type 0} (xs ys : List A) (i : ℕ) (x : A) → slice_get xs i ≡ Some x → slice_get (xs ++ ys) i ≡ Some x
-get_kept [] ys i x h = absurd (cc h)
-get_kept (y ∷ xs) ys zero x h = h
-get_kept (y ∷ xs) ys (suc i) x h = get_kept xs ys i x h
 
 -- with one more, each place is as it was, or is the new one
 get_more : {A : Type 0} (xs : List A) (y : A) (i : ℕ)
@@ -31,18 +26,13 @@ get_more [] y (suc i) = inl refl
 get_more (x ∷ xs) y zero = inl refl
 get_more (x ∷ xs) y (suc i) = ⊎_elim (λ e. inl e) (λ e. inr (ap suc e.0, e.1)) (get_more xs y i)
 
--- the new one stands at the end
-pub get_last : {A : Type 0} (xs : List A) (y : A) → slice_get (xs ++ y ∷ []) (length xs) ≡ Some y
-get_last [] y = refl
-get_last (x ∷ xs) y = get_last xs y
-
 -- a tree stays what it is
 mutual
   -- of a stream
   pub tree_kept : (us vs : List UnitForm) (i : ℕ) (s : Stream) → IsTree us i s → IsTree (us ++ vs) i s
-  tree_kept us vs i (Filter name f) h = get_kept us vs i (AFilter name f) h
-  tree_kept us vs i (Pipeline ss) (front, last, e, ts) = (front, last, get_kept us vs i (APipe front last) e, trees_kept us vs front last ss ts)
-  tree_kept us vs i (SplitJoin d ss ws) (front, last, e, ts) = (front, last, get_kept us vs i (ASplit d front last ws) e, trees_kept us vs front last ss ts)
+  tree_kept us vs i (Filter name f) h = got_first us vs i (AFilter name f) h
+  tree_kept us vs i (Pipeline ss) (front, last, e, ts) = (front, last, got_first us vs i (APipe front last) e, trees_kept us vs front last ss ts)
+  tree_kept us vs i (SplitJoin d ss ws) (front, last, e, ts) = (front, last, got_first us vs i (ASplit d front last ws) e, trees_kept us vs front last ss ts)
 
   -- of streams
   pub trees_kept : (us vs : List UnitForm) (front : List ℕ) (last : ℕ) (ss : Streams) → AreTrees us front last ss → AreTrees (us ++ vs) front last ss

@@ -1,6 +1,7 @@
 -- The last unit of a program, whose stream is planned.
 use Rattle.std.proofs.Common.{◌≡◌, ℕ, suc, ◌-◌, ◌<◌, ◌≤◌, Bool, true, false, List, [], ◌∷◌, length, map, Result, Ok, Err, refl, sym, ap, ◌∙◌, arith, nat_le}
 use Rattle.std.specs.Prelude.{slice_index_or}
+use Rattle.river_base.proofs.Tests.{le_true}
 use Rattle.river_plan.specs.Forms.{Name}
 use Rattle.river_plan.specs.declared.plan.RawPlan.{RawPlan}
 use Rattle.streamit_model.specs.Elaborate as spec
@@ -83,9 +84,6 @@ judged_ok : (p : Program) (name : Name) (s : Stream) (others : Streamed) → all
 judged_ok p name s others h le =
     ap (λ r. on_fine r (λ known. in_unit (length p) (few_operators known) (λ u. took known))) h
     ∙ ap (λ b. in_unit (length p) (spec.demand b spec.Limit) (λ u. took ((name, s) ∷ others))) (le_true (ops_in s) 256 le)
-  where
-    le_true : (a b : ℕ) → a ≤ b → nat_le a b ≡ true
-    le_true a b h = grind arith
 
 abbrev stopped : Refusal → Result (Unit {0}) Refusal
 stopped a = Err a

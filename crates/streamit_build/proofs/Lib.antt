@@ -2,7 +2,6 @@ pub mod Added
 pub mod AllUnits
 pub mod Branches
 pub mod Judging
-pub mod Kernels
 pub mod Knowing
 pub mod LastUnit
 pub mod Lines

@@ -1,6 +1,6 @@
 -- A pipeline that is built child by child.
-use Rattle.std.proofs.Common.{◌≡◌, ℕ, zero, suc, ◌+◌, ◌<◌, ◌≤◌, List, [], ◌∷◌, ◌++◌, length, drop, get_or, Some, Result, Ok, Err, map, refl, sym, ap, ◌∙◌}
-use Rattle.std.proofs.Common.{subst, arith, append_assoc, append-nil, add-one, drop-cons}
+use Rattle.std.proofs.Common.{◌≡◌, ℕ, zero, suc, ◌+◌, ◌<◌, ◌≤◌, List, [], ◌∷◌, ◌++◌, length, get_or, Some, Result, Ok, Err, map, refl, sym, ap, ◌∙◌}
+use Rattle.std.proofs.Common.{subst, arith, append_assoc, append-nil}
 use Rattle.std.specs.Prelude.{slice_get, OnOk}
 use Rattle.kern_rows.specs.Forms.{FilterForm}
 use Rattle.river_kernels.specs.Kern.{filter}
@@ -111,10 +111,6 @@ pub line_end : (us : List UnitForm) (front : List ℕ) (last i : ℕ) (old now n
     → Built old next (build_line ss old.next_op old.next_queue from to) (ops_of ss) (queues_between ss)
 line_end us front last i old now next from start to ss f t b =
     let l = f.line ss t in end_on us last ss old now next from start to l.left l.added l.trees l.grew l.all l.ops l.queues b
-
--- the children from a place on
-pub at_child : (items : List ℕ) (i j : ℕ) → i < length items → j ≡ get_or items i j → drop i items ≡ j ∷ drop (i + 1) items
-at_child items i j lt e = drop-cons items i j lt ∙ ap (λ x. x ∷ drop (suc i) items) (sym e) ∙ ap (λ k. j ∷ drop k items) (sym (add-one i))
 
 -- UNITS BY NUMBER
 

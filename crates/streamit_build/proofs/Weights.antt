@@ -6,6 +6,7 @@ use Rattle.std.specs.Prelude.{◌&&◌}
 use Rattle.std.specs.List.{list_all}
 use Rattle.std.proofs.lemmas.List.{length-replicate, take_more}
 use Rattle.std.proofs.lemmas.List.Folds.{list_all-append}
+use Rattle.river_base.proofs.Tests.{le_true, le_false}
 use Rattle.brooklet_model.specs.ByIndex.{cycle}
 use Rattle.streamit_model.specs.Elaborate.{Limit, Weights, on_ok, demand}
 use Rattle.streamit_model.specs.Judged.{fitting_round}
@@ -22,12 +23,6 @@ eq_true a b h = grind (arith, h)
 
 eq_false : (a b : ℕ) → a ≢ b → nat_eq a b ≡ false
 eq_false a b h = grind (arith, h)
-
-le_true : (a b : ℕ) → a ≤ b → nat_le a b ≡ true
-le_true a b h = grind arith
-
-le_false : (a b : ℕ) → b < a → nat_le a b ≡ false
-le_false a b h = grind arith
 
 -- another number of weights
 pub round_other : (vs : List ℕ) (n : ℕ) → length vs ≢ n → fitting_round vs n ≡ Err Weights
@@ -131,7 +126,3 @@ product_above k (suc m) b h lt = let e = more m b in omega (arith, e, lt)
   where
     more : (m b : ℕ) → suc m * b ≡ b + m * b
     more m b = grind arith
-
--- a product the other way round
-pub product-comm : (a b : ℕ) → a * b ≡ b * a
-product-comm a b = grind arith

@@ -1,19 +1,15 @@
 -- How often a stream's operators write, read and name.
-use Rattle.std.proofs.Common.{◌≡◌, ℕ, suc, ◌+◌, ◌^◌, ◌≤◌, List, [], ◌∷◌, ◌++◌, length, refl, ap, ◌∙◌, arith, length-append}
+use Rattle.std.proofs.Common.{◌≡◌, ℕ, suc, ◌+◌, ◌^◌, ◌≤◌, [], ◌∷◌, ◌++◌, length, refl, ap, ◌∙◌, arith, length-append}
 use Rattle.std.specs.Prelude.{codes}
+use Rattle.river_plan.proofs.ValidLaw.{total-append}
 use Rattle.river_base.specs.Name.{name_eq}
-use Rattle.river_plan.specs.Forms.{Name, OpForm}
+use Rattle.river_plan.specs.Forms.{Name}
 use Rattle.river_plan.specs.Names.{one_if, count}
 use Rattle.river_plan.specs.Uses.{total, writes_it, reads_it, named_it}
 use Rattle.streamit_model.specs.Unrolled.{Splitter, Duplicate, RoundRobin, Stream, Filter, Pipeline, SplitJoin, Streams, Last, Then, number_of}
 use Rattle.streamit_model.specs.Build.{numbered, queue, queues, ops_in, ops_of, queues_in, queues_between, queues_within, splitter, joiner, build, build_line}
 use Rattle.streamit_model.specs.Build.{build_branches}
 use Rattle.streamit_model.proofs.Numbers.{number_in, sum_from, sum_split, meets, named_le, queue_count}
-
--- a count over two lists
-pub total-append : (f : OpForm → ℕ) (xs ys : List OpForm) → total f (xs ++ ys) ≡ total f xs + total f ys
-total-append f [] ys = omega arith
-total-append f (x ∷ xs) ys = let e = total-append f xs ys in omega (arith, e)
 
 -- queue number j is x
 abbrev pub here : Name → ℕ → ℕ

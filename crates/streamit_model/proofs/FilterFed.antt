@@ -3,6 +3,7 @@ use Rattle.std.proofs.Common.{◌≡◌, ℕ, zero, suc, ℤ, ◌+◌, ◌<◌, 
 use Rattle.std.proofs.Common.{length-append, length-drop, ⊎_elim}
 use Rattle.std.proofs.lemmas.List.{append-nil, drop-append-le, take-append-le, map-append}
 use Rattle.std.proofs.lemmas.Bool.{cases_lt}
+use Rattle.river_base.proofs.PlaceLemmas.{if_le, if_gt}
 use Rattle.river_base.specs.declared.item.Item.TheVariants.{Flat}
 use Rattle.river_base.specs.declared.item.Flat.TheVariants.{One}
 use Rattle.kern_rows.specs.Forms.{FilterForm}
@@ -16,7 +17,6 @@ use Rattle.brooklet_model.specs.Firings.{Buffered, Fired, feed}
 use Rattle.brooklet_model.specs.Fire.{fire}
 use Rattle.streamit_model.specs.UnrolledFilters.{firing, firings_from, filtered}
 use Rattle.streamit_model.specs.Laws.{as_items}
-use Rattle.streamit_model.proofs.Firings.{if_le, if_gt}
 
 -- so many values have come, and so many runs were
 abbrev state : List ℤ → ℕ → List ℤ → Filtering

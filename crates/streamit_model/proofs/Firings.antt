@@ -1,23 +1,16 @@
 -- Which firings of a filter there are, and which items they look at.
 use Rattle.std.proofs.Common.{◌≡◌, ℕ, zero, suc, ℤ, ◌+◌, ◌<◌, ◌≤◌, List, [], ◌∷◌, ◌++◌, length, take, drop, refl, sym, ap, ◌∙◌, subst, arith}
 use Rattle.std.proofs.Common.{append_assoc, ⊎_elim}
-use Rattle.std.specs.Prelude.{if◌then◌else◌, nat_le, slice_get}
+use Rattle.std.specs.Prelude.{slice_get}
 use Rattle.std.proofs.lemmas.List.{append-nil}
 use Rattle.std.proofs.lemmas.Bool.{cases_lt}
 use Rattle.std.proofs.Math.Nat.{mul-le-mul_right, le-mul_of_pos_right}
+use Rattle.river_base.proofs.PlaceLemmas.{if_le, if_gt}
 use Rattle.streamit_text.specs.Program.{FilterTree}
 use Rattle.streamit_model.specs.Meaning.{pop_of, peek_of, runs_in, start_at, waits_for, looked_at, fires, fires_from}
 use Rattle.streamit_model.specs.Firings.{TakesPlace, place_looked_at, fields_before, first_pushes, IsFired}
 use Rattle.streamit_model.specs.Laws.{FiringsAre}
 use Rattle.streamit_model.proofs.FilterMet.{elaborated_parts}
-
--- a test for at most, where it is so
-pub if_le : {A : Type 0} (a b : ℕ) (x y : A) → a ≤ b → (if nat_le a b then x else y) ≡ x
-if_le a b x y h = grind arith
-
--- and where it is not
-pub if_gt : {A : Type 0} (a b : ℕ) (x y : A) → b < a → (if nat_le a b then x else y) ≡ y
-if_gt a b x y h = grind arith
 
 -- THE ITEMS THAT A FIRING LOOKS AT
 

@@ -6,12 +6,13 @@ use Rattle.std.specs.Fmt.{decimal}
 use Rattle.std.proofs.lemmas.Bool.{cases_eq}
 use Rattle.std.proofs.lemmas.Fmt.{decimal_by_steps}
 use Rattle.std.proofs.lemmas.Nat.{div-add-mod', mod_below}
+use Rattle.river_base.proofs.PlaceLemmas.{if_eq, if_ne}
 use Rattle.river_base.specs.Name.{name_eq}
 use Rattle.river_plan.specs.Forms.{Name}
 use Rattle.river_plan.specs.Names.{one_if, count}
 use Rattle.river_plan.proofs.NameLemmas.{cases_name}
 use Rattle.streamit_model.specs.Build.{numbered, queue, queues}
-use Rattle.brooklet_model.proofs.Lists.{if_eq, if_ne}
+use Rattle.streamit_model.specs.Meaning.{numbers_from}
 
 -- the number that stands behind the last `@`; n is the number so far
 abbrev said : ℕ → List ℕ → ℕ
@@ -122,3 +123,9 @@ queues_once x n k le =
     let b = sum_le (λ j. one_if (name_eq (queue j) x)) (meets (number_in x)) n k (λ j lt. named_le (codes "q") x j (omega (arith, lt, le))) in
     let c = meets_once (number_in x) n k in
     omega (arith, a, b, c)
+
+-- the numbers from v to an end above it: v, and those behind it
+pub numbers_more : (v end : ℕ) → v < end → numbers_from v (end - v) ≡ v ∷ numbers_from (v + 1) (end - (v + 1))
+numbers_more v end lt =
+    ap (numbers_from v) (let e : end - v ≡ suc (end - (v + 1)) = omega (arith, lt) in e)
+    ∙ ap (λ k. v ∷ numbers_from k (end - (v + 1))) (let e : suc v ≡ v + 1 = omega arith in e)

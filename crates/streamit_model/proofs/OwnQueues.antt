@@ -2,11 +2,12 @@
 use Rattle.std.proofs.Common.{◌≡◌, ℕ, zero, suc, ◌+◌, true, false, not, cond, List, [], ◌∷◌, ◌++◌, length, refl, sym, ap, ◌∙◌, arith, ⊎_elim, length-append}
 use Rattle.std.specs.Prelude.{codes, filter}
 use Rattle.std.proofs.lemmas.List.Concat.{flat_map-append}
+use Rattle.std.proofs.lemmas.Bool.{cases_Bool}
 use Rattle.river_base.specs.Name.{name_eq}
 use Rattle.river_plan.specs.Forms.{Name, OpForm}
 use Rattle.river_plan.specs.Names.{one_if, count}
 use Rattle.river_plan.specs.Uses.{total, writes_it, all_writes}
-use Rattle.river_plan.proofs.NameLemmas.{cases_name, cases_bool, count-append, name_sym}
+use Rattle.river_plan.proofs.NameLemmas.{cases_name, count-append, name_sym}
 use Rattle.streamit_model.specs.Unrolled.{Splitter, Duplicate, RoundRobin, Stream, Filter, Pipeline, SplitJoin, Streams, Last, Then, number_of}
 use Rattle.streamit_model.specs.Build.{numbered, queue, queues, ops_in, ops_of, queues_in, queues_between, queues_within, splitter, joiner, build, build_line}
 use Rattle.streamit_model.specs.Build.{build_branches, is_own_queue}
@@ -42,7 +43,7 @@ own_never [] = refl
 own_never (w ∷ ws) = let i = own_never ws in ⊎_elim
     (λ t. ap (count (codes "out")) (left w ws (is-out w t)) ∙ i)
     (λ f. ap (count (codes "out")) (kept w ws (no-out w f)) ∙ (let o = ap one_if (name_sym w (codes "out") ∙ f) in omega (arith, o, i)))
-    (cases_bool (name_eq (codes "out") w))
+    (cases_Bool (name_eq (codes "out") w))
 
 -- any other queue stands as often as it is written
 pub own_other : (q : Name) (ws : List Name) → name_eq (codes "out") q ≡ false → count q (filter is_own_queue ws) ≡ count q ws
@@ -64,7 +65,7 @@ own_length (w ∷ ws) = let i = own_length ws in ⊎_elim
     (λ f.
     let o = ap one_if (name_sym w (codes "out") ∙ f) in let l = ap length (kept w ws (no-out w f)) in
     omega (arith, o, l, i))
-    (cases_bool (name_eq (codes "out") w))
+    (cases_Bool (name_eq (codes "out") w))
 
 written-append : (xs ys : List OpForm) → length (all_writes (xs ++ ys)) ≡ length (all_writes xs) + length (all_writes ys)
 written-append xs ys = ap length (flat_map-append (λ (o : OpForm). o.writes) xs ys) ∙ length-append (all_writes xs) (all_writes ys)

@@ -4,6 +4,7 @@ use Rattle.std.proofs.Common.{nat_lt, nat_le, nat_eq, ◌+◌, Result, Err}
 use Rattle.std.specs.Prelude.{if◌then◌else◌, ◌&&◌}
 use Rattle.std.specs.List.{list_all, AllByRecursion}
 use Rattle.std.proofs.lemmas.Bool.{and_parts, ltb-true, eqb-true, leb-true}
+use Rattle.std.proofs.Math.Path.{fun_ext}
 use Rattle.river_base.specs.Name.{name_eq}
 use Rattle.river_plan.specs.Forms.{Name}
 use Rattle.streamit_model.specs.Unrolled.{Splitter, Duplicate, RoundRobin, Stream, Filter, Pipeline, SplitJoin, Streams, Last, Then, number_of, nesting}
@@ -140,9 +141,6 @@ split_parts (Turns ws) n p h =
     let r = round_parts ws n q.0 q.1 in
     subst (Split (Turns ws) n) (ok_is (RoundRobin q.0) p q.2) (record { formed = r.round; small = r.sum; works = λ b xs. ap (λ vs. dealt vs b xs) (sym r.is) })
 
-same_each : {A B : Type 0} (f g : A → B) → ((x : A) → f x ≡ g x) → f ≡ g
-same_each f g h = λ i x. h x i
-
 stream_fits : (known : Streamed) (env : List (Name × Works)) (name : Name) (b : Body) (s : Stream) → AllFit known env → IsShallowBody b
     → stream_of known name b ≡ Ok s → Fits s (body_works env b)
 stream_fits known env name (AFilter t) s a low h =
@@ -170,7 +168,7 @@ stream_fits known env name (ASplitJoin d a ws) s all low h =
       small = (omega (arith, few), sp.small, r.sum, i.small);
       works = λ xs.
           ap (λ vs. collected vs (side_by_side q2.0 (λ p. branch_input q1.0 p xs))) (sym r.is)
-          ∙ ap (λ f. collected (weights_for ws n) (side_by_side q2.0 f)) (same_each (λ p. branch_input q1.0 p xs) (λ p. share_of d n p xs) (λ p. sp.works p xs))
+          ∙ ap (λ f. collected (weights_for ws n) (side_by_side q2.0 f)) (fun_ext (λ p. sp.works p xs))
           ∙ ap (collected (weights_for ws n)) (i.side (λ p. share_of d n p xs));
     })
 

@@ -4,6 +4,7 @@ use Rattle.std.proofs.Common.{refl, sym, ap, ◌∙◌, subst, arith, append_ass
 use Rattle.std.specs.Prelude.{if◌then◌else◌, ◌&&◌}
 use Rattle.std.proofs.lemmas.List.{append-nil}
 use Rattle.std.proofs.lemmas.Bool.{and_parts, ltb-true, ltb-false, leb-true, leb-false}
+use Rattle.river_base.proofs.Tests.{pos_is, negative}
 use Rattle.work_code.specs.Term.{Term}
 use Rattle.work_code.specs.Steps.{Steps, both_steps, one_step}
 use Rattle.work_code.specs.Steps as steps
@@ -148,16 +149,11 @@ module _ (above : List Declared) (e : ℕ) where
       (k m refl (unmoved before (Bounds (pos m)) s turns h (λ n. (refl, refl)) refl refl refl refl refl refl)))
       (λ t.
       let lt = leb-false m 65536 t in
-      inl (first_limit above spot (λ b. let n = natural m b.0 b.1 in let c = b.2 in omega (arith, lt, n, c)) (λ h. h) (λ h. h) (λ h. h) (λ h. h) (λ i r h. h)))
+      inl (first_limit above spot (λ b. let n = pos_is m b.0 b.1 in let c = b.2 in omega (arith, lt, n, c)) (λ h. h) (λ h. h) (λ h. h) (λ h. h) (λ i r h. h)))
     where
-      natural : (i n : ℕ) → pos i ≡ pos n → i ≡ n
-      natural i n h = cc
   bounds_at before ws s turns (negsuc m) g Q h k =
       inl (first_limit above (Reads e before (Bounds (negsuc m))) (λ b. negative m b.0 b.1) (λ h. h) (λ h. h) (λ h. h) (λ h. h) (λ i r h. h))
     where
-      negative : (i n : ℕ) → negsuc i ≡ pos n → ⊥
-      negative i n h = cc h
-
   -- WHAT WAS READ
 
   -- behind these words, and no pop or push is taken back

@@ -3,6 +3,7 @@ use Rattle.std.proofs.Common.{◌≡◌, ℕ, zero, suc, ℤ, ◌<◌, List, [],
 use Rattle.std.specs.Prelude.{slice_get, replicate}
 use Rattle.std.proofs.lemmas.Bool.{cases_eq}
 use Rattle.std.proofs.lemmas.List.{length-map}
+use Rattle.river_base.proofs.PlaceLemmas.{if_lt, if_eq, if_ne}
 use Rattle.river_base.specs.declared.item.Item as item
 use Rattle.river_base.specs.declared.item.Item.TheVariants.{Flat}
 use Rattle.river_base.specs.declared.item.Flat.TheVariants.{One}
@@ -13,7 +14,6 @@ use Rattle.brooklet_model.specs.ByIndex.{branch, picked, number_in_branch, colle
 use Rattle.brooklet_model.specs.Fire.{fire}
 use Rattle.brooklet_model.specs.Firings.{feed}
 use Rattle.brooklet_model.proofs.Cycles.{positive_cycle}
-use Rattle.brooklet_model.proofs.Lists.{if_lt, if_eq, if_ne}
 use Rattle.brooklet_model.proofs.Longest.{longest}
 use Rattle.streamit_model.specs.Build.{weights}
 use Rattle.streamit_model.specs.Laws.{CollectsLongest}

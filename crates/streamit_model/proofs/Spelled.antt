@@ -4,6 +4,7 @@ use Rattle.std.proofs.Common.{subst, arith, append_assoc, nat_lt, nat_le}
 use Rattle.std.proofs.lemmas.List.{append-nil}
 use Rattle.std.specs.Ordering.{int_eq}
 use Rattle.std.proofs.lemmas.Bool.{ltb-true, ltb-false, leb-true, leb-false}
+use Rattle.river_base.proofs.Tests.{pos_is, negative}
 use Rattle.river_base.specs.Number.{negate}
 use Rattle.work_code.specs.Term.{Term}
 use Rattle.work_code.specs.Term as term
@@ -23,12 +24,6 @@ use Rattle.streamit_model.proofs.Meeting.{FirstIn, Meets, free, first_unknown, f
 use Rattle.streamit_model.proofs.Standing.{NameIs, Stands, stands_popped, none_known, moved, unmoved, regrouped, repopped}
 
 -- TESTS
-
-negative : (n i : ℕ) → negsuc i ≡ pos n → ⊥
-negative n i h = cc h
-
-natural : (i n : ℕ) → pos i ≡ pos n → i ≡ n
-natural i n h = cc
 
 -- WHAT A NAME IS
 
@@ -136,14 +131,14 @@ module _ (above : List Declared) (e : ℕ) where
       let lt = ltb-true (k + i) e t in (
         (
           free above s (λ h. h) (λ h. h) (λ d c h. h) (λ j r h. h.0 (i, refl, omega (arith, lt, is))) (λ h. h) (λ h. h)
-              (λ h. let n = natural i h.0 h.1 in let m = h.2 in omega (arith, lt, is, n, m, small)) (λ h. h),
+              (λ h. let n = pos_is i h.0 h.1 in let m = h.2 in omega (arith, lt, is, n, m, small)) (λ h. h),
           tt,
         ),
         q (term.Input (k + i)),
       ))
       (λ f.
       let le = ltb-false (k + i) e f in
-      inl (first_peek above s (pos i) e ((λ h. let n = natural i h.0 h.1 in let m = h.2 in omega (arith, le, is, n, m)), refl, refl) (λ h. h) (λ h. h) (λ h. h)
+      inl (first_peek above s (pos i) e ((λ h. let n = pos_is i h.0 h.1 in let m = h.2 in omega (arith, le, is, n, m)), refl, refl) (λ h. h) (λ h. h) (λ h. h)
       (λ h. h)))
 
   peeks : (before : List ReadWord) (i z : ℤ) (k : ℕ) (Q : Term → Type 0) → i ≡ z → e ≤ 65536 → popped_in before ≡ k → ((u : Term) → Q u)
@@ -153,7 +148,7 @@ module _ (above : List Declared) (e : ℕ) where
   peeks before i (negsuc n) k Q same small is q =
       let s = Reads e before (Peeks (negsuc n)) in
       subst (λ j. Meets above (Reads e before (Peeks j) ∷ []) (peeked e k (negsuc n)) Q) (sym same)
-      (inl (first_peek above s (negsuc n) e ((λ h. negative h.0 n h.1), refl, refl) (λ h. h) (λ h. h) (λ h. h) (λ h. h)))
+      (inl (first_peek above s (negsuc n) e ((λ h. negative n h.0 h.1), refl, refl) (λ h. h) (λ h. h) (λ h. h) (λ h. h)))
 
   pops_here : (before : List ReadWord) (k : ℕ) (Q : Term → Type 0) → popped_in before ≡ k → ((u : Term) → Q u)
       → Meets above (Reads e before Pops ∷ []) (term_of e [] tree.Pop k) Q

@@ -1,13 +1,12 @@
 -- The steps by which code reads weights.
-use Rattle.std.proofs.Common.{◌≡◌, ℕ, suc, ◌<◌, ◌≤◌, ◌+◌, List, [], ◌∷◌, ◌++◌, length, true, Some, ap, ◌∙◌, arith, length-append}
+use Rattle.std.proofs.Common.{◌≡◌, ℕ, ◌≤◌, ◌+◌, List, [], ◌∷◌, ◌++◌, length, true, Some, ap, ◌∙◌, arith, length-append}
 use Rattle.work_text.specs.Tok.{Tok}
-use Rattle.work_text.specs.declared.sign.Symbol.{Symbol}
 use Rattle.work_text.specs.declared.sign.Symbol.TheVariants as s
 use Rattle.text_forms.specs.Parse as parse
 use Rattle.text_forms.specs.Repeat.{repeated}
 use Rattle.text_forms.specs.Tail.{tail}
 use Rattle.text_forms.proofs.Many.{comma-next, comma-stop, comma-bad}
-use Rattle.text_forms.proofs.Symbols.{begins_with-is}
+use Rattle.text_forms.proofs.Symbols.{taken-shorter}
 use Rattle.streamit_text.specs.Reading.{weight_at}
 use Rattle.streamit_text.proofs.Units.{exact-weight}
 
@@ -20,9 +19,5 @@ weight-shorter ts us v e =
     let f = exact-weight.sound ts v us e in
     let size : length ts ≡ length f.front + length us = ap length f.is ∙ length-append f.front us in
     omega arith
-
--- a symbol that is taken
-pub taken-shorter : (x : Symbol) (ts : List Tok) → parse.begins_with x ts ≡ true → length (tail ts) < length ts
-taken-shorter x ts e = let size : length ts ≡ suc (length (tail ts)) = ap length (begins_with-is x ts e) in omega arith
 
 pub ruleset weights = (weights-next, weight-shorter, taken-shorter, comma-stop, comma-bad)

@@ -1,19 +1,15 @@
 -- One run on no items.
-use Rattle.std.proofs.Common.{ℕ, zero, suc, pos, ◌≡◌, ◌+◌, ◌-◌, ◌≤◌, [], ◌∷◌, ◌++◌, take, replicate, sym, ap, ◌∙◌, arith}
-use Rattle.std.proofs.lemmas.List.{length-replicate}
+use Rattle.std.proofs.Common.{ℕ, pos, ◌≡◌, ◌+◌, ◌-◌, ◌≤◌, [], ◌++◌, take, replicate, sym, ap, ◌∙◌, arith}
+use Rattle.std.proofs.lemmas.List.{length-replicate, replicate-append-replicate}
 use Rattle.work_code.specs.Steps.{Steps}
 use Rattle.work_code.specs.Ran.{ran}
 use Rattle.kern_rows.specs.Runs.{slots_from, run_kept}
-
-replicate-append : {A : Type 0} (m n : ℕ) (x : A) → replicate m x ++ replicate n x ≡ replicate (m + n) x
-replicate-append zero n x = ap (λ k. replicate k x) (let e : n ≡ 0 + n = omega arith in e)
-replicate-append (suc m) n x = ap (λ l. x ∷ l) (replicate-append m n x) ∙ ap (λ k. replicate k x) (let e : suc (m + n) ≡ suc m + n = omega arith in e)
 
 -- the slots of fields that are 0 are zeros
 pub zeros-slots : (slots fields : ℕ) → fields ≤ slots → slots_from slots (replicate fields (pos 0)) ≡ replicate slots (pos 0)
 zeros-slots slots fields le =
     ap (λ k. replicate fields (pos 0) ++ replicate (slots - k) (pos 0)) (length-replicate fields (pos 0))
-    ∙ replicate-append fields (slots - fields) (pos 0)
+    ∙ replicate-append-replicate fields (slots - fields) (pos 0)
     ∙ ap (λ k. replicate k (pos 0)) (let e : fields + (slots - fields) ≡ slots = omega (arith, le) in e)
 
 -- a body runs on fields that are 0 as on slots that all are

@@ -1,9 +1,9 @@
 -- Statements that were read so far, and those that are read after them.
-use Rattle.std.proofs.Common.{◌≡◌, ℕ, suc, ◌+◌, ◌-◌, ◌<◌, ◌≤◌, List, [], ◌∷◌, ◌++◌, length, take, map, Bool, Result, Ok, Err, refl, sym, ap}
+use Rattle.std.proofs.Common.{◌≡◌, ℕ, ◌+◌, ◌-◌, ◌<◌, ◌≤◌, List, [], ◌∷◌, ◌++◌, length, take, map, Bool, Result, Ok, Err, refl, sym, ap}
 use Rattle.std.proofs.Common.{◌∙◌, subst, arith, append_assoc, append-nil}
 use Rattle.work_code.specs.declared.code.Stmt.{Stmt}
 use Rattle.work_code.specs.declared.code.Stmts.{Stmts}
-use Rattle.work_code.specs.Steps.{Step, Steps, Done, step, statements, in_turn, both_steps, one_step}
+use Rattle.work_code.specs.Steps.{Steps, Done, step, statements, in_turn, both_steps, one_step}
 use Rattle.work_code.specs.Steps as steps
 use Rattle.streamit_text.specs.Tree as source
 use Rattle.river_plan.specs.Forms.{Name}
@@ -24,6 +24,10 @@ use Rattle.streamit_unroll.specs.declared.fault.Fault.TheVariants as faults
 use Rattle.streamit_model.specs.Elaborate as spec
 use Rattle.std.proofs.lemmas.List.{map-append, take_all}
 use Rattle.std.proofs.lemmas.Bool.{and_from, eq-eqb}
+use Rattle.std.proofs.Math.Seq.{take-append_seam}
+use Rattle.work_code.proofs.Texts.{joined-in_turn}
+use Rattle.streamit_model.proofs.Numbers.{numbers_more}
+use Rattle.river_base.proofs.Lists.{prefix_trans}
 
 -- a result without a fault
 abbrev pub good : {A : Type 0} → A → Result A Fault
@@ -45,11 +49,6 @@ joined-assoc (steps.Then s a) b c = ap (steps.Then s) (joined-assoc a b c)
 joined-done : (a : Steps) → both_steps a Done ≡ a
 joined-done Done = refl
 joined-done (steps.Then s a) = ap (steps.Then s) (joined-done a)
-
--- lists of statements one behind the other
-pub joined-in_turn : (xs ys : List Step) → both_steps (in_turn xs) (in_turn ys) ≡ in_turn (xs ++ ys)
-joined-in_turn [] ys = refl
-joined-in_turn (x ∷ xs) ys = ap (steps.Then x) (joined-in_turn xs ys)
 
 -- behind two lists
 pub behind_both : (a b : Steps) (r : Read) → behind a (behind b r) ≡ behind (both_steps a b) r
@@ -78,16 +77,6 @@ pub record TurnsSoFar (e : ℕ) (b : source.Block) (n : Name) (low v end : ℕ) 
   pub all_is : unrolled (steps_of e b) n (numbers_from low (end - low)) (at_of first) ≡ behind (in_turn (map step added))
       (unrolled (steps_of e b) n (numbers_from v (end - v)) (at_of now))
   pub names : now.names.items.items ≡ first.names.items.items
-
--- a front of a front
-pub prefix_trans : {A : Type 0} (xs ys zs : List A) → take (length xs) ys ≡ xs → take (length ys) zs ≡ ys → take (length xs) zs ≡ xs
-prefix_trans [] ys zs p q = refl
-prefix_trans (x ∷ xs) [] zs p q = absurd (cc p)
-prefix_trans (x ∷ xs) (y ∷ ys) [] p q = absurd (cc q)
-prefix_trans (x ∷ xs) (y ∷ ys) (z ∷ zs) p q =
-    let p0 : y ≡ x = cc in let p1 : take (length xs) ys ≡ xs = cc in
-    let q0 : z ≡ y = cc in let q1 : take (length ys) zs ≡ ys = cc in
-    ap (λ w. w ∷ take (length xs) zs) (q0 ∙ p0) ∙ ap (λ l. x ∷ l) (prefix_trans xs ys zs p1 q1)
 
 -- a fault of one reading is one of another
 pub tells_more : {A B : Type 0} (f : fault.Fault) (r : Result A Fault) (r' : Result B Fault) → ((g : Fault) → r ≡ Err g → r' ≡ Err g) → Tells f r → Tells f r'
@@ -161,12 +150,6 @@ turns_ok block n v vs s a s' h = unrolled-turn block n v vs s ∙ ap (λ r. on_o
 
 turns_err : (block : At → Read) (n : Name) (v : ℕ) (vs : List ℕ) (s : At) (g : Fault) → turn_of block n v s ≡ Err g → unrolled block n (v ∷ vs) s ≡ Err g
 turns_err block n v vs s g h = unrolled-turn block n v vs s ∙ ap (λ r. on_ok r (λ p. behind p.0 (unrolled block n vs p.1))) h
-
--- the numbers from v to an end above it: v, and those behind it
-pub numbers_more : (v end : ℕ) → v < end → numbers_from v (end - v) ≡ v ∷ numbers_from (v + 1) (end - (v + 1))
-numbers_more v end lt =
-    ap (numbers_from v) (let e : end - v ≡ suc (end - (v + 1)) = omega (arith, lt) in e)
-    ∙ ap (λ k. v ∷ numbers_from k (end - (v + 1))) (let e : suc v ≡ v + 1 = omega arith in e)
 
 -- before the first turn
 pub turns_start : (e : ℕ) (b : source.Block) (n : Name) (low end : ℕ) (first : Unroller) (out : Stmts) → TurnsSoFar e b n low low end first first out out
@@ -270,17 +253,13 @@ if_is e t a b s s1 cond f g la lb hc ht ha hb p q =
 abbrev Entry : Type 0
 Entry = Name × Known
 
-take_front : {A : Type 0} (xs ys : List A) → take (length xs) (xs ++ ys) ≡ xs
-take_front [] ys = refl
-take_front (x ∷ xs) ys = ap (λ l. x ∷ l) (take_front xs ys)
-
 -- one turn: the variable is the newest name, and is forgotten afterwards
 pub turn_is : (e : ℕ) (b : source.Block) (name : Name) (v : ℕ) (s0 s1 s3 : At) (i0 i1 i2 i3 i4 : List Entry) (a : Steps) → s0.scope ≡ scope_of i0
     → counted s0 ≡ Ok s1 → i1 ≡ i0 → i2 ≡ i1 ++ (name, known.Turn v) ∷ [] → steps_of e b (record s1 { scope = scope_of i2 }) ≡ Ok (a, s3)
     → take (length i2) i3 ≡ i2 → i4 ≡ take (length i1) i3 → (turn_of (steps_of e b) name v s0 ≡ Ok (a, record s3 { scope = scope_of i4 })) × (i4 ≡ i0)
 turn_is e b name v s0 s1 s3 i0 i1 i2 i3 i4 a sc hc e1 e2 hb kept e4 =
     let k = λ (p : Steps × At). good (p.0, record p.1 { scope = s0.scope }) in
-    let front : take (length i1) i2 ≡ i1 = ap (take (length i1)) e2 ∙ take_front i1 ((name, known.Turn v) ∷ []) in
+    let front : take (length i1) i2 ≡ i1 = ap (take (length i1)) e2 ∙ take-append_seam i1 ((name, known.Turn v) ∷ []) in
     let same : i4 ≡ i0 = e4 ∙ prefix_trans i1 i2 i3 front kept ∙ e1 in
     let scope : scope_of i2 ≡ (name, spec.Turn v) ∷ s0.scope = ap scope_of e2 ∙ scope-push i1 (name, known.Turn v)
     ∙ ap (λ l. (name, spec.Turn v) ∷ scope_of l) e1 ∙ ap (λ l. (name, spec.Turn v) ∷ l) (sym sc) in (
@@ -306,10 +285,6 @@ if_read e t a b s s1 m1 m2 la lb cond k f g hc ht hk ha em1 hb em2 p q =
     if_is e t a b s s1 cond f g la lb hc ht ha' hb' p' q'
     ∙ ap (λ l. good (one_step (steps.If cond f g), record lb { scope = l })) (sym (ap (λ (m : At). m.scope) em1))
     ∙ ap (λ m. good (one_step (steps.If cond f g), m)) (sym em2)
-
--- a list that did not change keeps its front
-pub kept_by : {A : Type 0} (xs ys : List A) → ys ≡ xs → take (length xs) ys ≡ xs
-kept_by xs ys e = ap (take (length xs)) e ∙ take_all (length xs) xs (omega arith)
 
 -- an answer that is a fault
 pub reads_err : (result : Result (Unit {0}) fault.Fault) (f : fault.Fault) (o n : Stmts) (x y : Unroller) (r : Read) → result ≡ Err f → Tells f r

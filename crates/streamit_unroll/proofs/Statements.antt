@@ -1,5 +1,5 @@
 -- Statements that hold no block, read part by part.
-use Rattle.std.proofs.Common.{◌≡◌, ℕ, ◌+◌, ◌<◌, ◌≤◌, List, [], ◌∷◌, ◌++◌, length, take, Option, Ok, Err, refl, sym, ap, ◌∙◌}
+use Rattle.std.proofs.Common.{◌≡◌, ℕ, ◌+◌, ◌<◌, ◌≤◌, [], ◌∷◌, Option, Ok, Err, refl, sym, ap, ◌∙◌}
 use Rattle.std.proofs.lemmas.Bool.{lt-ltb, le-ltb}
 use Rattle.work_code.specs.Steps.{one_step}
 use Rattle.work_code.specs.Steps as steps
@@ -12,13 +12,6 @@ use Rattle.streamit_model.specs.Elaborate.{Limit, At, Read, on_ok, demand, count
 use Rattle.streamit_unroll.specs.declared.fault.Fault as fault
 use Rattle.streamit_unroll.specs.View.{Tells}
 use Rattle.streamit_unroll.proofs.SoFar.{good, tells_more}
-
--- the names that were known stand before one more
-pub front_kept : {A : Type 0} (xs ys zs : List A) (x : A) → zs ≡ ys ++ x ∷ [] → ys ≡ xs → take (length xs) zs ≡ xs
-front_kept {A} xs ys zs x e f = ap (take (length xs)) (e ∙ ap (λ l. l ++ x ∷ []) f) ∙ front xs where
-  front : (l : List A) → take (length l) (l ++ x ∷ []) ≡ l
-  front [] = refl
-  front (y ∷ l) = ap (λ m. y ∷ m) (front l)
 
 -- `NAME = e;`
 module _ (e : ℕ) (n : Name) (t : Expression) (s : At) where

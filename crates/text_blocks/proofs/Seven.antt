@@ -2,6 +2,7 @@
 use Rattle.std.proofs.Common.{◌≡◌, ◌≢◌, ℕ, zero, suc, ◌<◌, ◌≤◌, List, [], ◌∷◌, Bool, true, false, cond, Option, Some, None, refl, sym, ap, ◌∙◌, arith}
 use Rattle.std.specs.Prelude.{◌==◌}
 use Rattle.std.proofs.lemmas.Bool.{eqb-true}
+use Rattle.std.proofs.lemmas.Option.{same_Some}
 use Rattle.work_text.specs.Tok.{Tok}
 use Rattle.work_code.specs.declared.expr.BinOp.{BinOp}
 use Rattle.work_code.specs.declared.expr.BinOp.TheVariants as op
@@ -11,7 +12,6 @@ use Rattle.text_forms.specs.Levels.{level_of, form_of, operator, sign}
 use Rattle.text_forms.specs.ReadLevels as levels
 use Rattle.text_forms.specs.ReadLevels.{first}
 use Rattle.text_forms.specs.declared.form.Form.TheVariants as form
-use Rattle.text_forms.proofs.Pairs.{some_inj}
 
 rank-some : (o : BinOp) → (0 < rank_of o) × (rank_of o < 7)
 rank-some op.Add = (omega arith, omega arith)
@@ -33,7 +33,7 @@ pub of_rank-is : (k : ℕ) (r : Option BinOp) (o : BinOp) → of_rank k r ≡ So
 of_rank-is k None o e = cc
 of_rank-is k (Some p) o e = by (rank_of p == k) refl e where
   by : (b : Bool) → (rank_of p == k) ≡ b → cond b (Some p) None ≡ Some o → ◌≡◌ {A = Option BinOp} (Some p) (Some o) × (rank_of o ≡ k)
-  by true is f = (f, ap rank_of (sym (some_inj f)) ∙ eqb-true (rank_of p) k is)
+  by true is f = (f, ap rank_of (sym (same_Some _ _ f)) ∙ eqb-true (rank_of p) k is)
   by false is f = cc
 
 -- none is of a level that is none of the six

@@ -1,6 +1,7 @@
 -- The steps by which code reads statements and blocks.
 use Rattle.std.proofs.Common.{◌≡◌, ℕ, zero, suc, ◌<◌, ◌+◌, ◌-◌, List, [], ◌∷◌, ◌++◌, length, true, false, Some, None, refl, sym, ap, ◌∙◌, arith}
 use Rattle.std.proofs.Common.{length-append}
+use Rattle.river_base.proofs.Tests.{less-one}
 use Rattle.work_text.specs.Tok.{Tok}
 use Rattle.text_forms.specs.Parse as parse
 use Rattle.text_forms.specs.Repeat.{repeated}
@@ -11,9 +12,6 @@ use Rattle.text_blocks.specs.Reading.{at_close, branch_of, loop_of, rest_at, stm
 use Rattle.text_blocks.specs.Statements.{Style, Holes}
 use Rattle.text_blocks.specs.declared.opening.Opening.TheVariants.{Branch, Loop, Plain}
 use Rattle.text_blocks.proofs.Statements.{exact-stmt, listed-stmts}
-
-less-one : (n : ℕ) → suc n - 1 ≡ n
-less-one n = omega arith
 
 module _ {E H S B : Type 0} (Y : Style E H S B) where
   -- the rest of a statement whose word opens a branch

@@ -1,5 +1,6 @@
 -- Choices by words, brackets, and lists that may be empty.
 use Rattle.std.proofs.Common.{◌≡◌, ℕ, zero, suc, ◌<◌, ◌-◌, List, [], ◌∷◌, ◌++◌, Bool, true, false, cond, Option, Some, None, refl, ap, ◌∙◌, arith, append_assoc}
+use Rattle.river_base.proofs.Tests.{less-one}
 use Rattle.work_text.specs.Tok.{Tok, name, var, number, symbol}
 use Rattle.work_text.specs.declared.sign.Symbol.{Symbol}
 use Rattle.work_text.specs.declared.sign.Symbol.TheVariants.{Comma}
@@ -57,9 +58,6 @@ exact-known {A} {B} {F} {p} {E} f x = record { sound = sound; complete = complet
 
   complete : (v : B) (s rest : List Tok) → form.Known f F v s → E rest → parse.known f p (s ++ rest) ≡ Some (v, rest)
   complete v s rest h d = rw (x.complete h.value s rest h.formed d, h.is) refl
-
-less-one : (n : ℕ) → suc n - 1 ≡ n
-less-one n = omega arith
 
 pub open_at-none : (s : Symbol) (ts : List Tok) → parse.open_at s 0 ts ≡ None
 unfolding parse.open_at

@@ -1,6 +1,7 @@
 -- The steps by which code reads the expressions of a ladder.
 use Rattle.std.proofs.Common.{◌≡◌, ℕ, zero, suc, ◌<◌, ◌≤◌, ◌-◌, List, length, Bool, true, false, cond, Option, Some, None, refl, sym, ap, ◌∙◌, arith}
 use Rattle.std.specs.Prelude.{nat_lt, max}
+use Rattle.river_base.proofs.Tests.{less-one}
 use Rattle.work_text.specs.Tok.{Tok}
 use Rattle.work_text.specs.declared.sign.Symbol.TheVariants as s
 use Rattle.text_forms.proofs.Pairs.{pair_inj}
@@ -12,9 +13,6 @@ use Rattle.text_forms.specs.ReadLevels.{prefix_on, prefix_level, closed, base_on
 use Rattle.text_forms.specs.Repeat.{Turn, Stop, Fail, Next, after_turn, turns}
 use Rattle.text_forms.specs.Tail.{tail}
 use Rattle.text_forms.specs.declared.form.Form.TheVariants as form
-
-less-one : (n : ℕ) → suc n - 1 ≡ n
-less-one n = omega arith
 
 module _ {T O P : Type 0} (S : Syntax T O P) where
   -- LEVELS

@@ -2,6 +2,7 @@
 use Rattle.std.proofs.Common.{◌≡◌, ℕ, List, [], ◌∷◌, ◌++◌, Bool, true, false, cond, Option, Some, None, refl, sym, ap, ◌∙◌, subst, inl, inr, append_assoc}
 use Rattle.std.specs.Prelude.{ℤ, pos}
 use Rattle.std.proofs.lemmas.Slice.Eq.{bytes_eq-Decides}
+use Rattle.std.proofs.lemmas.Option.{same_Some}
 use Rattle.work_text.specs.Tok.{Tok, name, var, number, symbol}
 use Rattle.work_text.specs.declared.sign.Symbol.{Symbol}
 use Rattle.text_forms.specs.Tail.{tail}
@@ -9,7 +10,7 @@ use Rattle.text_forms.specs.Parse as parse
 use Rattle.text_forms.specs.Forms as form
 pub use Rattle.text_forms.specs.Exact.{Front, Exact, Any}
 use Rattle.text_forms.proofs.Symbols.{begins_with-is, begins_with-symbol}
-use Rattle.text_forms.proofs.Pairs.{some_inj, pair_inj}
+use Rattle.text_forms.proofs.Pairs.{pair_inj}
 
 -- fewer things may follow
 pub exact-less : {A : Type 0} {F : A → List Tok → Type 0} {p : parse.Parse A} {E D : List Tok → Type 0} → Exact F p E → ((rest : List Tok) → D rest → E rest)
@@ -103,7 +104,7 @@ is_word_at-is word (symbol t ∷ ts) e = cc
 
 -- runs of symbols
 pub run_at-sound : (run : List Symbol) (ts us : List Tok) → parse.symbols_at run ts ≡ Some us → ts ≡ form.symbols run ++ us
-run_at-sound [] ts us e = some_inj e
+run_at-sound [] ts us e = same_Some _ _ e
 run_at-sound (x ∷ run) ts us e =
     let both = if-some (parse.begins_with x ts) (parse.symbols_at run (tail ts)) us e in
     begins_with-is x ts both.0 ∙ ap (λ (l : List Tok). symbol x ∷ l) (run_at-sound run (tail ts) us both.1)
@@ -193,7 +194,7 @@ module _ {A : Type 0} {F : A → List Tok → Type 0} {p : parse.Parse A} {E : L
         let x = f.sound us v rest more in
         record {
           front = name word ∷ x.front;
-          is = is_word_at-is word ts both.0 ∙ ap (λ (l : List Tok). name word ∷ l) (some_inj both.1 ∙ x.is);
+          is = is_word_at-is word ts both.0 ∙ ap (λ (l : List Tok). name word ∷ l) (same_Some _ _ both.1 ∙ x.is);
           formed = record { back = x.front; is = refl; formed = x.formed };
         }
 

@@ -1,6 +1,8 @@
 -- The reading of the expressions of a ladder is exact, whatever its levels and its leaves are.
 use Rattle.std.proofs.Common.{◌≡◌, ℕ, zero, suc, ◌<◌, ◌≤◌, ◌-◌, List, [], ◌∷◌, ◌++◌, length, Bool, true, false, Option, Some, None, refl, sym, ap, ◌∙◌}
 use Rattle.std.proofs.Common.{subst, arith, append_assoc}
+use Rattle.std.proofs.Math.Nat.{suc_inj}
+use Rattle.river_base.proofs.Options.{none_some}
 use Rattle.work_text.specs.Tok.{Tok, symbol}
 use Rattle.work_text.specs.declared.sign.Symbol.TheVariants as s
 use Rattle.text_forms.specs.Deep.{IsDeeper}
@@ -57,12 +59,6 @@ not-open x ts other = by (parse.begins_with s.Open (x ∷ ts)) refl where
   by : (b : Bool) → parse.begins_with s.Open (x ∷ ts) ≡ b → b ≡ false
   by false e = refl
   by true e = absurd (other (head_same (begins_with-is s.Open (x ∷ ts) e)))
-
-no_some : {A : Type 0} {o : Option A} {a : A} → o ≡ None → o ≡ Some a → ⊥
-no_some e f = cc
-
-suc-same : (j k : ℕ) → suc j ≡ suc k → j ≡ k
-suc-same j k e = omega (arith, e)
 
 chain_no_sign : {O P : Type 0} (l : Level O P) (x : Tok) → form_of l ≡ shape.Chain → sign l x ≡ None
 chain_no_sign (Chain op) x e = refl
@@ -209,7 +205,7 @@ module _ {T O P : Type 0} (S : Syntax T O P) (Leaf : ℕ → T → List Tok → 
       let read : closed i room ((us ++ symbol s.Close ∷ []) ++ rest) ≡ Some (u, rest) =
       closed-complete (suc m) room i inner u us (g, mark-inner p u room d) rest in
       let apart : parse.begins_with s.Open (x ∷ symbol s.Open ∷ ((us ++ symbol s.Close ∷ []) ++ rest)) ≡ false =
-      not-open x (symbol s.Open ∷ ((us ++ symbol s.Close ∷ []) ++ rest)) (λ same. no_some clear.open_call (subst (λ (y : Tok). S.call y ≡ Some p) same c)) in
+      not-open x (symbol s.Open ∷ ((us ++ symbol s.Close ∷ []) ++ rest)) (λ same. none_some _ _ clear.open_call (subst (λ (y : Tok). S.call y ≡ Some p) same c)) in
       rw (apart, c, read) refl
   base-complete n k (suc room) t ts i inner (rule.tighter m j u us g) at d rest e = absurd (omega (arith, at))
   base-complete n k (suc room) t ts i inner (rule.chain m j x o a b us vs f c g h) at d rest e = absurd (omega (arith, at))
@@ -267,10 +263,10 @@ module _ {T O P : Type 0} (S : Syntax T O P) (Leaf : ℕ → T → List Tok → 
   chain-complete k n m room t ts below many x (rule.bracket p u us h) at d rest e = absurd (omega (arith, at))
   chain-complete k n m room t ts below many x (rule.call p y q u us c h) at d rest e = absurd (omega (arith, at))
   chain-complete k n m room t ts below many x (rule.tighter p j u us g) at d rest e =
-      let here : Spelled p k u us = subst (λ (r : ℕ). Spelled p r u us) (suc-same j k at) g in
+      let here : Spelled p k u us = subst (λ (r : ℕ). Spelled p r u us) (suc_inj at) g in
       rw ((x room).complete u us rest (here, d) e) refl
   chain-complete k n m room t ts below many x (rule.chain p j y o a b us vs f c g h) at d rest e =
-      let same = suc-same j k at in
+      let same = suc_inj at in
       let right : Spelled p k b vs = subst (λ (q : ℕ). Spelled p q b vs) same h in
       let good : operator (level_of S.levels k) y ≡ Some o = subst (λ (q : ℕ). operator (level_of S.levels q) y ≡ Some o) same c in
       let read : below (room - 1) (vs ++ rest) ≡ Some (b, rest) = (x (room - 1)).complete b vs rest (right, join-right o a b room d) e in
@@ -280,9 +276,9 @@ module _ {T O P : Type 0} (S : Syntax T O P) (Leaf : ℕ → T → List Tok → 
       ∙ sym (chained-grown S clear.deep k (below (room - 1)) room a (S.join o a b) (y ∷ (vs ++ rest)) rest o good
       (grown-there k (below (room - 1)) room o a b vs rest small read))
   chain-complete k n m room t ts below many x (rule.once p j y o a b us vs f c g h) at d rest e =
-      absurd (not_once (form_of (level_of S.levels k)) many (subst (λ (q : ℕ). form_of (level_of S.levels q) ≡ shape.Once) (suc-same j k at) f))
+      absurd (not_once (form_of (level_of S.levels k)) many (subst (λ (q : ℕ). form_of (level_of S.levels q) ≡ shape.Once) (suc_inj at) f))
   chain-complete k n m room t ts below many x (rule.prefix p j y q u us c h) at d rest e =
-      absurd (no_some (chain_no_sign (level_of S.levels k) y many) (subst (λ (r : ℕ). sign (level_of S.levels r) y ≡ Some q) (suc-same j k at) c))
+      absurd (none_some _ _ (chain_no_sign (level_of S.levels k) y many) (subst (λ (r : ℕ). sign (level_of S.levels r) y ≡ Some q) (suc_inj at) c))
 
   exact-chain : (n k : ℕ) (below : ℕ → parse.Parse T) → form_of (level_of S.levels k) ≡ shape.Chain → ((room : ℕ) → Exact (Term n k room) (below room) (Ends k))
       → (room : ℕ) → Exact (Term n (suc k) room) (chain_level S k below room) (Ends (suc k))
@@ -328,12 +324,12 @@ module _ {T O P : Type 0} (S : Syntax T O P) (Leaf : ℕ → T → List Tok → 
   once-complete k n m room t ts below single x (rule.bracket p u us h) at d rest e = absurd (omega (arith, at))
   once-complete k n m room t ts below single x (rule.call p y q u us c h) at d rest e = absurd (omega (arith, at))
   once-complete k n m room t ts below single x (rule.tighter p j u us g) at d rest e =
-      let here : Spelled p k u us = subst (λ (r : ℕ). Spelled p r u us) (suc-same j k at) g in
+      let here : Spelled p k u us = subst (λ (r : ℕ). Spelled p r u us) (suc_inj at) g in
       rw ((x room).complete u us rest (here, d) (ends_less k (suc k) rest (omega arith) e), e.0 k (omega arith)) refl
   once-complete k n m room t ts below single x (rule.chain p j y o a b us vs f c g h) at d rest e =
-      absurd (not_once (form_of (level_of S.levels k)) (subst (λ (q : ℕ). form_of (level_of S.levels q) ≡ shape.Chain) (suc-same j k at) f) single)
+      absurd (not_once (form_of (level_of S.levels k)) (subst (λ (q : ℕ). form_of (level_of S.levels q) ≡ shape.Chain) (suc_inj at) f) single)
   once-complete k n m room t ts below single x (rule.once p j y o a b us vs f c g h) at d rest e =
-      let same = suc-same j k at in
+      let same = suc_inj at in
       let here : Spelled p k a us = subst (λ (q : ℕ). Spelled p q a us) same g in
       let right : Spelled p k b vs = subst (λ (q : ℕ). Spelled p q b vs) same h in
       let good : operator (level_of S.levels k) y ≡ Some o = subst (λ (q : ℕ). operator (level_of S.levels q) y ≡ Some o) same c in
@@ -345,7 +341,7 @@ module _ {T O P : Type 0} (S : Syntax T O P) (Leaf : ℕ → T → List Tok → 
       ap (λ (ws : List Tok). once_level S k below room ws) (append_assoc us (y ∷ vs) rest)
       ∙ rw (left, good) (grown-there k (below (room - 1)) room o a b vs rest small read)
   once-complete k n m room t ts below single x (rule.prefix p j y q u us c h) at d rest e =
-      absurd (no_some (once_no_sign (level_of S.levels k) y single) (subst (λ (r : ℕ). sign (level_of S.levels r) y ≡ Some q) (suc-same j k at) c))
+      absurd (none_some _ _ (once_no_sign (level_of S.levels k) y single) (subst (λ (r : ℕ). sign (level_of S.levels r) y ≡ Some q) (suc_inj at) c))
 
   exact-once : (n k : ℕ) (below : ℕ → parse.Parse T) → form_of (level_of S.levels k) ≡ shape.Once → ((room : ℕ) → Exact (Term n k room) (below room) (Ends k))
       → (room : ℕ) → Exact (Term n (suc k) room) (once_level S k below room) (Ends (suc k))
@@ -404,14 +400,14 @@ module _ {T O P : Type 0} (S : Syntax T O P) (Leaf : ℕ → T → List Tok → 
   prefix-complete k n m (suc room) t ts below signs x (rule.bracket p u us h) at d rest e = absurd (omega (arith, at))
   prefix-complete k n m (suc room) t ts below signs x (rule.call p y q u us c h) at d rest e = absurd (omega (arith, at))
   prefix-complete k n m (suc room) t ts below signs x (rule.tighter p j u us g) at d rest e =
-      let here : Spelled p k u us = subst (λ (r : ℕ). Spelled p r u us) (suc-same j k at) g in
+      let here : Spelled p k u us = subst (λ (r : ℕ). Spelled p r u us) (suc_inj at) g in
       rw (begins_other k p k u us here (omega arith) rest) ((x (suc room)).complete u us rest (here, d) (ends_less k (suc k) rest (omega arith) e))
   prefix-complete k n m (suc room) t ts below signs x (rule.chain p j y o a b us vs f c g h) at d rest e =
-      absurd (not_chain (form_of (level_of S.levels k)) signs (subst (λ (q : ℕ). form_of (level_of S.levels q) ≡ shape.Chain) (suc-same j k at) f))
+      absurd (not_chain (form_of (level_of S.levels k)) signs (subst (λ (q : ℕ). form_of (level_of S.levels q) ≡ shape.Chain) (suc_inj at) f))
   prefix-complete k n m (suc room) t ts below signs x (rule.once p j y o a b us vs f c g h) at d rest e =
-      absurd (not_single (form_of (level_of S.levels k)) signs (subst (λ (q : ℕ). form_of (level_of S.levels q) ≡ shape.Once) (suc-same j k at) f))
+      absurd (not_single (form_of (level_of S.levels k)) signs (subst (λ (q : ℕ). form_of (level_of S.levels q) ≡ shape.Once) (suc_inj at) f))
   prefix-complete k n m (suc room) t ts below signs x (rule.prefix p j y q u us c h) at d rest e =
-      let good : sign (level_of S.levels k) y ≡ Some q = subst (λ (r : ℕ). sign (level_of S.levels r) y ≡ Some q) (suc-same j k at) c in
+      let good : sign (level_of S.levels k) y ≡ Some q = subst (λ (r : ℕ). sign (level_of S.levels r) y ≡ Some q) (suc_inj at) c in
       let read : prefix_level S k below room (us ++ rest) ≡ Some (u, rest) =
       prefix-complete k p (suc j) room u us below signs x h at (mark-inner q u room d) rest e in
       rw (good, read) refl

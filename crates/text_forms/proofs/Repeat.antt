@@ -1,7 +1,7 @@
 -- Loops of a reader: how many turns are enough, what each turn comes to, and what it keeps.
 use Rattle.std.proofs.Common.{◌≡◌, ℕ, zero, suc, ◌<◌, List, length, Some, None, refl, ap, ◌∙◌, subst, arith}
+use Rattle.std.proofs.lemmas.Option.{same_Some}
 use Rattle.work_text.specs.Tok.{Tok}
-use Rattle.text_forms.proofs.Pairs.{some_inj}
 use Rattle.text_forms.specs.Repeat.{Turn, Stop, Fail, Next, after_turn, turns, repeated}
 
 -- each turn takes a token
@@ -51,7 +51,7 @@ module _ {A : Type 0} (step : A → List Tok → Turn A) (P : A → List Tok →
   turns-keep (suc n) x ts y us p e = by (λ z vs q f. turns-keep n z vs y us q f) (step x ts) refl e where
     by : ((z : A) (vs : List Tok) → P z vs → turns step n z vs ≡ Some (y, us) → P y us × (step y us ≡ Stop)) → (turn : Turn A) → step x ts ≡ turn
         → after_turn (turns step n) x ts turn ≡ Some (y, us) → P y us × (step y us ≡ Stop)
-    by more Stop is at_end = subst (λ (r : A × List Tok). P r.0 r.1 × (step r.0 r.1 ≡ Stop)) (some_inj at_end) (p, is)
+    by more Stop is at_end = subst (λ (r : A × List Tok). P r.0 r.1 × (step r.0 r.1 ≡ Stop)) (same_Some _ _ at_end) (p, is)
     by more Fail is at_end = cc
     by more (Next z vs) is at_end = more z vs (keeps x ts z vs p is) at_end
 

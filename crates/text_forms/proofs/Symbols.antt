@@ -1,5 +1,5 @@
 -- Symbols are told apart by their numbers.
-use Rattle.std.proofs.Common.{◌≡◌, ℕ, List, ◌∷◌, [], true, refl, sym, ap, ◌∙◌}
+use Rattle.std.proofs.Common.{◌≡◌, ℕ, suc, ◌<◌, ◌≤◌, List, ◌∷◌, [], length, true, refl, sym, ap, ◌∙◌, arith}
 use Rattle.std.specs.Prelude.{◌==◌, if◌then◌else◌}
 use Rattle.std.proofs.lemmas.Bool.{eqb-true, eq-eqb}
 use Rattle.work_text.specs.Tok.{Tok, name, var, number, symbol}
@@ -10,7 +10,7 @@ use Rattle.work_text.specs.contracts.sign.Symbol.{the_type}
 use denote.Enum.Bare.{sameb}
 use denote.Enum.Declared.{tag_of}
 use Rattle.text_forms.specs.Tail.{tail}
-use Rattle.text_forms.specs.Parse.{begins_with}
+use Rattle.text_forms.specs.Parse.{begins_with, is_value}
 
 -- the symbol of a number
 symbol_at : ℕ → Symbol
@@ -86,6 +86,10 @@ begins_with-is x (var text ∷ ts) e = cc
 begins_with-is x (number value ∷ ts) e = cc
 begins_with-is x (symbol y ∷ ts) e = ap (λ (z : Symbol). symbol z ∷ ts) (same_symbol y x e)
 
+-- a symbol that is taken leaves fewer tokens
+pub taken-shorter : (x : Symbol) (ts : List Tok) → begins_with x ts ≡ true → length (tail ts) < length ts
+taken-shorter x ts e = let size : length ts ≡ suc (length (tail ts)) = ap length (begins_with-is x ts e) in omega arith
+
 -- tokens begin with the symbol that is first
 pub begins_with-symbol : (x : Symbol) (ts : List Tok) → begins_with x (symbol x ∷ ts) ≡ true
 begins_with-symbol x ts = eq-eqb (code_of x) (code_of x) refl
@@ -124,3 +128,7 @@ tag_of-is s.Arrow = refl
 -- two symbols are equal where their codes are
 pub same_code : (x y : Symbol) → sameb the_type x y ≡ (code_of x == code_of y)
 same_code x y = ap (λ (n : ℕ). n == tag_of the_type y) (tag_of-is x) ∙ ap (λ (n : ℕ). code_of x == n) (tag_of-is y)
+
+-- a number that is small enough is a value
+pub value_is : (n : ℕ) → n ≤ 9223372036854775807 → is_value n ≡ true
+value_is n h = grind (arith, h)

@@ -1,9 +1,9 @@
 -- The units of a text, read one after another, where each unit's reading is exact up to its end.
 use Rattle.std.proofs.Common.{◌≡◌, ℕ, ◌+◌, List, [], ◌∷◌, ◌++◌, length, Option, Some, None, Result, Ok, Err, refl, sym, ap, ◌∙◌, subst, arith, append-nil}
+use Rattle.std.proofs.lemmas.Option.{same_Some, none-some}
 use Rattle.work_text.specs.Tok.{Tok}
 use Rattle.text_forms.specs.Parse.{Parse, nothing_at}
 use Rattle.text_forms.specs.Texts.{at_end, ended, whole, put_first, after_unit, read_units, AllFormed, IsFirstBad, state_after}
-use Rattle.text_forms.proofs.Pairs.{some_inj}
 use Rattle.text_forms.proofs.Exact.{Exact}
 
 -- a whole unit; `E` says what may follow a unit, and the end may
@@ -12,7 +12,7 @@ module _ {A : Type 0} {F : A → List Tok → Type 0} {p : Parse A} {E : List To
   ended-some None v e = cc
   ended-some (Some q) v e = last q.0 q.1 e where
     last : (w : A) (rest : List Tok) → at_end w rest ≡ Some v → nothing_at w rest ≡ Some (v, [])
-    last w [] f = ap (λ (y : A). Some (y, [])) (some_inj f)
+    last w [] f = ap (λ (y : A). Some (y, [])) (same_Some _ _ f)
     last w (t ∷ ts) f = cc
 
   -- what is read of whole tokens is in the grammar
@@ -29,7 +29,7 @@ module _ {A : Type 0} {F : A → List Tok → Type 0} {p : Parse A} {E : List To
 
   -- what stands for one value stands for no other
   pub one-value : (u : List Tok) (v w : A) → F v u → F w u → v ≡ w
-  one-value u v w f g = some_inj (sym (whole-complete u v f) ∙ whole-complete u w g)
+  one-value u v w f g = same_Some _ _ (sym (whole-complete u v f) ∙ whole-complete u w g)
 
 module _ {S A : Type 0} {F : S → A → List Tok → Type 0} {p : S → Parse A} {E : List Tok → Type 0} (end : E []) (next : S → A → S)
     (x : (s : S) → Exact (F s) (p s) E) where
@@ -90,14 +90,11 @@ module _ {S A : Type 0} {F : S → A → List Tok → Type 0} {p : S → Parse A
         values = [];
         is = refl;
         formed = tt;
-        not_formed = λ v h. nothing (sym none ∙ whole-complete end (x s) u v h);
+        not_formed = λ v h. none-some _ (sym none ∙ whole-complete end (x s) u v h);
         number = refl;
       },
       ap (λ (k : ℕ). k + 1) (sym (same f)),
     )
-      where
-        nothing : {v : A} → None ≡ Some v → ⊥
-        nothing g = cc
     by (Some v) some f more =
         let (k, bad, count) = more v (first_err v (read_units p next (next s v) (n + 1) us) m f) in (
           k + 1,

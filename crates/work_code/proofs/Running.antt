@@ -3,6 +3,7 @@ use Rattle.std.proofs.Common.{◌≡◌, ℕ, zero, suc, ◌+◌, ◌<◌, ◌�
 use Rattle.std.proofs.Common.{subst, arith, append_assoc, add-one, drop-cons}
 use Rattle.std.specs.List.{AllByRecursion}
 use Rattle.std.proofs.lemmas.List.{append-nil, drop_all}
+use Rattle.std.proofs.Math.Seq.{take-append-add}
 use Rattle.river_base.specs.Grew.{GrewByPrefix}
 pub use Rattle.river_base.proofs.PlaceLemmas.{on_err}
 use Rattle.work_code.specs.declared.code.Stmt.{Stmt, fold-roll-Stmt}
@@ -53,11 +54,6 @@ pub so_far_end : (input : List ℤ) (all : List Step) (slots now : List ℤ) (ou
     → (out' ≡ out ++ (ran (in_turn all) input slots).pushes) × (now ≡ (ran (in_turn all) input slots).slots)
 so_far_end input all slots now out out' f = (f.grew ∙ ap (λ g. out ++ g) (sym (append-nil f.given) ∙ f.pushes), f.last)
 
-prefix_of : {X : Type 0} (a b : List X) (n : ℕ) → take (length a + n) (a ++ b) ≡ a ++ take n b
-prefix_of [] b n = ap (λ k. take k b) (let e : 0 + n ≡ n = omega arith in e)
-prefix_of (x ∷ xs) b n =
-    ap (λ k. take k (x ∷ (xs ++ b))) (let e : suc (length xs) + n ≡ suc (length xs + n) = omega arith in e) ∙ ap (λ t. x ∷ t) (prefix_of xs b n)
-
 -- the next statement is refused in the middle
 pub so_far_refused : (input : List ℤ) (all : List Step) (s : Step) (rest : List Step) (slots now : List ℤ) (out out' out'' : Pushes)
     → SoFar input all (s ∷ rest) slots now out out' → GrewByPrefix out' (ran_once s input now).pushes out''
@@ -72,7 +68,7 @@ so_far_refused input all s rest slots now out out' out'' f g =
           ∙ ap (λ o. o ++ take g.n r.pushes) f.grew
           ∙ append_assoc out f.given (take g.n r.pushes)
           ∙ ap (λ t. out ++ t)
-          (sym (prefix_of f.given (r.pushes ++ others.pushes) (length (take g.n r.pushes)) ∙ ap (λ t. f.given ++ t) (prefix_is r.pushes others.pushes g.n)))
+          (sym (take-append-add f.given (r.pushes ++ others.pushes) (length (take g.n r.pushes)) ∙ ap (λ t. f.given ++ t) (prefix_is r.pushes others.pushes g.n)))
           ∙ ap (λ t. out ++ take (length f.given + length (take g.n r.pushes)) t) f.pushes;
     }
   where

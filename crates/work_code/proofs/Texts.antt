@@ -2,7 +2,7 @@
 use Rattle.std.proofs.Common.{◌≡◌, List, [], ◌∷◌, ◌++◌, refl, ap, ◌∙◌, append_assoc}
 use Rattle.std.specs.Prelude.{ℕ, codes}
 use Rattle.std.proofs.Common.{map}
-use Rattle.work_code.specs.Steps.{Step, Steps, Done, Then, in_turn, step, steps, statements, step_at, steps_at}
+use Rattle.work_code.specs.Steps.{Step, Steps, Done, Then, in_turn, both_steps, step, steps, statements, step_at, steps_at}
 use Rattle.work_code.specs.declared.code.Stmt.{Stmt}
 use Rattle.work_code.specs.declared.code.Stmts.{Stmts}
 use Rattle.work_code.specs.declared.code.Stmt.TheFolds.{fold_out-Stmts}
@@ -33,6 +33,11 @@ three old a b c all x y z first second third is =
 -- the tree of a list of statements is that of its statements in turn
 pub steps-is : (all : Stmts) → steps all ≡ in_turn (map step (statements all))
 steps-is all = fold_out-Stmts Step Steps step_at steps_at all
+
+-- lists of statements one behind the other
+pub joined-in_turn : (xs ys : List Step) → both_steps (in_turn xs) (in_turn ys) ≡ in_turn (xs ++ ys)
+joined-in_turn [] ys = refl
+joined-in_turn (x ∷ xs) ys = ap (Then x) (joined-in_turn xs ys)
 
 -- an else that is not empty is printed
 pub else_of : (all : Stmts) → (statements all ≡ [] → ⊥) → codes " else " ++ body_text (steps all) ≡ else_text (steps all)

@@ -1,4 +1,5 @@
 -- What the lexer passes over is separators and comments.
+use Rattle.std.proofs.Math.Numerals.{one-add}
 use Rattle.std.proofs.Common.{◌≡◌, inl, inr, ℕ, suc, ◌+◌, Bool, true, false, cond, List, [], ◌∷◌, ◌++◌, length, take, drop, refl, sym, ap}
 use Rattle.std.proofs.Common.{◌∙◌, arith}
 use Rattle.std.specs.Prelude.{Option, Some, None, ◌==◌, ◌&&◌, ◌||◌, if◌then◌else◌, nat_lt}
@@ -35,22 +36,16 @@ separator (c ∷ cs) h = inl (c, refl, h)
 pub front-all : (p : ℕ → Bool) (s : List ℕ) → list_all p (take (prefix_len p s) s) ≡ true
 front-all p [] = refl
 front-all p (c ∷ cs) = by (p c) refl (front-all p cs) where
-  one_before : (n : ℕ) → 1 + n ≡ suc n
-  one_before n = omega arith
-
   by : (b : Bool) → p c ≡ b → list_all p (take (prefix_len p cs) cs) ≡ true → list_all p (take (cond b (1 + prefix_len p cs) 0) (c ∷ cs)) ≡ true
-  by true is more = rw (one_before (prefix_len p cs)) (rw is more)
+  by true is more = rw (one-add (prefix_len p cs)) (rw is more)
   by false is more = refl
 
 front-ends : (p : ℕ → Bool) (s : List ℕ) → first_is p (drop (prefix_len p s) s) ≡ false
 unfolding first_is
 front-ends p [] = refl
 front-ends p (c ∷ cs) = by (p c) refl (front-ends p cs) where
-  one_before : (n : ℕ) → 1 + n ≡ suc n
-  one_before n = omega arith
-
   by : (b : Bool) → p c ≡ b → first_is p (drop (prefix_len p cs) cs) ≡ false → first_is p (drop (cond b (1 + prefix_len p cs) 0) (c ∷ cs)) ≡ false
-  by true is more = rw (one_before (prefix_len p cs)) more
+  by true is more = rw (one-add (prefix_len p cs)) more
   by false is more = is
 
 -- the front of a line has the bytes with which its comment begins

@@ -53,14 +53,11 @@ after-with : (front : List Mark) (m : Mark) (r : Result (List Mark) LexFault) �
 after-with front m (Ok ms) = ap (λ l. Ok l) (sym (append_assoc front (m ∷ []) ms))
 after-with front m (Err fault) = refl
 
-goes_on : (at len : ℕ) (text : List ℕ) → drop len (drop at text) ≡ drop (at + len) text
-goes_on at len text = drop-drop len at text ∙ ap (λ k. drop k text) (omega arith)
-
 pub marks-blank : (front : List Mark) (at len : ℕ) (text : List ℕ) → at < length text → piece_at (drop at text) ≡ blank len → 0 < len
     → len ≤ length (drop at text) → after_marks front (marks 0 (at + len) (drop (at + len) text)) ≡ after_marks front (marks 0 at (drop at text))
 marks-blank front at len text h p pos fits =
     ap (after_marks front)
-    (sym (at_blank at len (drop at text) (omega (arith, length-drop at text)) p pos fits ∙ ap (marks 0 (at + len)) (goes_on at len text)))
+    (sym (at_blank at len (drop at text) (omega (arith, length-drop at text)) p pos fits ∙ ap (marks 0 (at + len)) (drop-drop len at text)))
 
 -- the same, behind the tokens that were found so far
 pub marks-token : (front : List Mark) (at len : ℕ) (t : Tok) (text : List ℕ) → at < length text → piece_at (drop at text) ≡ token t len → 0 < len
@@ -71,7 +68,7 @@ marks-token front at len t text h p pos fits =
     sym (after-with front (record { tok = t; start = at; end = at + len }) (marks 0 (at + len) (drop (at + len) text)))
     ∙ ap (after_marks front)
     (sym (at_token at len t (drop at text) (omega (arith, length-drop at text)) p pos fits
-    ∙ ap (λ r. with_mark (record { tok = t; start = at; end = at + len }) (marks 0 (at + len) r)) (goes_on at len text)))
+    ∙ ap (λ r. with_mark (record { tok = t; start = at; end = at + len }) (marks 0 (at + len) r)) (drop-drop len at text)))
 
 pub marks-bad : (front : List Mark) (at : ℕ) (text : List ℕ) → at < length text → piece_at (drop at text) ≡ bad
     → after_marks front (marks 0 at (drop at text)) ≡ Err (BadByte at)

@@ -1,4 +1,5 @@
 -- The tokens of a text are slices of it.
+use Rattle.std.proofs.Math.Numerals.{add-one}
 use Rattle.std.proofs.Common.{◌≡◌, ℕ, zero, suc, ◌+◌, ◌-◌, ◌<◌, ◌≤◌, Bool, true, false, List, [], ◌∷◌, length, take, drop, refl, sym, ap, ◌∙◌, subst, arith}
 use Rattle.std.proofs.lemmas.List.{length-drop}
 use Rattle.std.specs.Prelude.{Option, Some, None, Result, Ok, Err, ◌==◌, ◌&&◌, if◌then◌else◌, nat_lt}
@@ -20,6 +21,7 @@ use Rattle.work_text.proofs.Longest.{longest-piece, no-comment}
 use Rattle.work_text.proofs.Rooms.{piece_fits, letter_word, digits_has}
 use Rattle.std.proofs.lemmas.Bool.Decides.{nat_tests}
 use Rattle.std.proofs.lemmas.List.Folds.{length-prefix_len}
+use Rattle.std.proofs.lemmas.Option.{none-some}
 
 -- a symbol's bytes
 chosen : (b : Bool) (x : Symbol) (o : Option Symbol) (y : Symbol) → (if b then Some x else o) ≡ Some y → (P : Symbol → Type 0) → (b ≡ true → P x)
@@ -54,10 +56,7 @@ short-bytes c y e =
     chosen (c == 60) sign.Less _ y e16 (λ (z : Symbol). c ∷ [] ≡ symbol_bytes z) (one c 60 sign.Less refl) (λ e17.
     chosen (c == 62) sign.Greater _ y e17 (λ (z : Symbol). c ∷ [] ≡ symbol_bytes z) (one c 62 sign.Greater refl) (λ e18.
     chosen (c == 33) sign.Not _ y e18 (λ (z : Symbol). c ∷ [] ≡ symbol_bytes z) (one c 33 sign.Not refl) (λ e19.
-    absurd (none e19))))))))))))))))))))
-  where
-    none : {z : Symbol} → None ≡ Some z → ⊥
-    none f = cc
+    absurd (none-some _ e19))))))))))))))))))))
 
 pair : (c d k l : ℕ) (x : Symbol) → k ∷ (l ∷ []) ≡ symbol_bytes x → c == k && d == l ≡ true → c ∷ (d ∷ []) ≡ symbol_bytes x
 pair c d k l x is e =
@@ -76,10 +75,7 @@ long-bytes c d y e =
     chosen (c == 124 && d == 124) sign.Or _ y e6 (λ (z : Symbol). c ∷ (d ∷ []) ≡ symbol_bytes z) (pair c d 124 124 sign.Or refl) (λ e7.
     chosen (c == 43 && d == 43) sign.Increment _ y e7 (λ (z : Symbol). c ∷ (d ∷ []) ≡ symbol_bytes z) (pair c d 43 43 sign.Increment refl) (λ e8.
     chosen (c == 45 && d == 62) sign.Arrow _ y e8 (λ (z : Symbol). c ∷ (d ∷ []) ≡ symbol_bytes z) (pair c d 45 62 sign.Arrow refl) (λ e9.
-    absurd (none e9))))))))))
-  where
-    none : {z : Symbol} → None ≡ Some z → ⊥
-    none f = cc
+    absurd (none-some _ e9))))))))))
 
 -- the token of a piece is written at the front of the text, and is not too great
 abbrev Right : List ℕ → Piece → Type 0
@@ -113,11 +109,8 @@ word_front (c ∷ cs) h = (first, front-all is_word (c ∷ cs)) where
 var_right : (cs : List ℕ) → Right (36 ∷ cs) (var_piece cs)
 unfolding var_piece
 var_right cs = choose (36 ∷ cs) (first_is is_letter cs) _ _ (λ h. ((taken (prefix_len is_word cs), word_front cs h), tt)) (λ _. tt) where
-  one_more : (n : ℕ) → n + 1 ≡ suc n
-  one_more n = omega arith
-
   taken : (n : ℕ) → take (n + 1) (36 ∷ cs) ≡ 36 ∷ take n cs
-  taken n = ap (λ (k : ℕ). take k (36 ∷ cs)) (one_more n)
+  taken n = ap (λ (k : ℕ). take k (36 ∷ cs)) (add-one n)
 
 number_right : (s : List ℕ) (value len : ℕ) → 0 < length (take len s) → list_all is_digit (take len s) ≡ true → decimal_from 0 (take len s) ≡ value
     → Right s (number_piece value len)

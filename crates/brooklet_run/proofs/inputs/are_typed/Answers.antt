@@ -1,14 +1,15 @@
 use Rattle.std.proofs.Common.{◌≡◌, Some, arith, []}
 use Rattle.std.specs.Prelude.{All, slice_get}
 use Rattle.std.proofs.lemmas.Option.{slice_get_within}
+use Rattle.brooklet_step.proofs.StartLemmas.{inputs_many}
 use Rattle.river_base.specs.Held.{HasType}
 use Rattle.river_base.specs.Places.{list_at}
 use Rattle.river_plan.specs.declared.plan.Decl.{Decl}
-use Rattle.brooklet_run.proofs.FitLemmas.{never, always, not_so, until, typed_here, not_typed, inputs_by, inputs_long}
+use Rattle.brooklet_run.proofs.FitLemmas.{never, always, not_so, until, typed_here, not_typed, inputs_by}
 use Rattle.brooklet_run.proofs.inputs.are_typed.Goals as goal
 
 pub returns-then-len : goal.returns-then-len
-returns-then-len c = never (λ a. let e = inputs_long c.args.decls.now c.args.inputs.now a in let t = c.if-len.true in omega (arith, e, t))
+returns-then-len c = never (λ a. let e = inputs_many c.args.decls.now c.args.inputs.now a in let t = c.if-len.true in omega (arith, e, t))
 
 pub returns-then-not-all_fit : goal.returns-then-not-all_fit
 returns-then-not-all_fit c =

@@ -1,7 +1,8 @@
 use Rattle.std.proofs.Common.{ap, subst, []}
+use Rattle.brooklet_step.proofs.StartLemmas.{inputs_many}
 use Rattle.river_plan.specs.Forms.{PlanForm}
 use Rattle.brooklet_step.specs.Fit.{IsStreamAt}
-use Rattle.brooklet_run.proofs.FitLemmas.{always, inputs_long, stream_in, fits_then, fits_else, fits_none}
+use Rattle.brooklet_run.proofs.FitLemmas.{always, stream_in, fits_then, fits_else, fits_none}
 use Rattle.brooklet_run.proofs.inputs.fits.Goals as goal
 
 pub at-first-requires : goal.at-first-requires
@@ -10,7 +11,7 @@ at-first-requires c =
     (c.are_typed.ensures.0 c.if-not-are_typed.false) c.in-Some.place (subst (IsStreamAt c.raw.result.now.inputs) c.in-Some.is c.stream_place.ensures)
 
 pub all_follow-requires : goal.all_follow-requires
-all_follow-requires c = inputs_long c.raw.result.now.inputs c.args.inputs.now (c.are_typed.ensures.0 c.if-not-are_typed.false)
+all_follow-requires c = inputs_many c.raw.result.now.inputs c.args.inputs.now (c.are_typed.ensures.0 c.if-not-are_typed.false)
 
 pub returns-then-rise : goal.returns-then-rise
 returns-then-rise c =

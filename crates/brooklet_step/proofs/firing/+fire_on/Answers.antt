@@ -2,14 +2,13 @@ use Rattle.std.specs.Result.{OnOk}
 use Rattle.std.proofs.Common.{◌≡◌, ℤ, List, [], length, refl, sym, ap, ◌∙◌, subst, arith}
 use Rattle.std.proofs.lemmas.List.{length-set}
 use Rattle.std.proofs.lemmas.Result.{on_ok_weaker}
+use Rattle.river_kernels.proofs.KernLemmas.{kern_of-packed, kern_of-fused}
 use Rattle.river_base.specs.declared.item.Item as item
 use Rattle.river_base.specs.Places.{each_grew, list_at}
 use Rattle.river_kernels.specs.Kern.{kern_of, fused, packed}
-use Rattle.river_kernels.proofs.KernLemmas.{kern_of-fused}
 use Rattle.brooklet_model.specs.Firings.{beside}
 use Rattle.brooklet_step.specs.Given.{CanTake, CanTakeAll, FiresAt, FiresEach}
 use Rattle.brooklet_step.proofs.Counted.{privates_counted, blank_counted}
-use Rattle.brooklet_step.proofs.Fires.{kern_of-packed}
 use Rattle.brooklet_step.proofs.Size.{size}
 use Rattle.brooklet_step.proofs.Fused.{Parts, spliced_taken, result_both}
 use Rattle.brooklet_step.proofs.GivenCode.{so_far_start, so_far_takes, so_far_step, packed_taken, packed_port, packed_whole, count_fits, first_taken, takes_on}

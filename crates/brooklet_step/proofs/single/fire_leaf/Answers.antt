@@ -1,13 +1,13 @@
 use Rattle.std.proofs.Common.{refl, ap, ◌∙◌, get_or, subst}
+use Rattle.river_kernels.proofs.KernLemmas.{kern_of-tally, kern_of-code, kern_of-deal, kern_of-collect, kern_of-window, kern_of-select, kern_of-project, kern_of-cross, kern_of-streamer, kern_of-unpack, kern_of-filter, kern_of-duplicate}
 use Rattle.kern_rows.specs.Forms.{code_form, filter_form}
 use Rattle.river_kernels.specs.Kern.{kern_of, code, filter, duplicate, deal, collect, unpack, window, select, project, cross, streamer, tally}
 use Rattle.work_code.specs.Term.{term, terms}
 use Rattle.brooklet_step.specs.Took.{HasLists}
-use Rattle.brooklet_step.proofs.Fires.{kern_of-filter, kern_of-duplicate, on_ok, on_both}
+use Rattle.brooklet_step.proofs.Fires.{on_ok, on_both}
 use Rattle.brooklet_step.proofs.Ones.{zero_can, zero_fires, first_can, first_fires, free_can, free_fires, ports_can, ports_fires}
 use Rattle.brooklet_step.proofs.RowFires.{code_applies, code_does, filter_applies, filter_does, tally_applies, tally_does, duplicate_does}
-use Rattle.brooklet_step.proofs.Starts.{kern_of-code, kern_of-deal, kern_of-collect, kern_of-unpack, kern_of-window, kern_of-select, kern_of-project, kern_of-cross, kern_of-streamer}
-use Rattle.brooklet_step.proofs.Tallies.{kern_of-tally, tally_row, tally_room, tally_fires}
+use Rattle.brooklet_step.proofs.Tallies.{tally_row, tally_room, tally_fires}
 use Rattle.brooklet_step.proofs.single.fire_leaf.Goals as goal
 
 pub fire_deal-requires : goal.fire_deal-requires

@@ -1,9 +1,8 @@
 use Rattle.std.proofs.Common.{◌≡◌, sym, ap, ◌∙◌, subst}
+use Rattle.river_kernels.proofs.KernLemmas.{kern_of-packed, kern_of-fused}
 use Rattle.river_kernels.specs.Kern.{kern_of, fused, packed}
-use Rattle.river_kernels.proofs.KernLemmas.{kern_of-fused}
 use Rattle.brooklet_model.specs.Shapes.{IsFormed}
 use Rattle.brooklet_step.specs.Initial.{AreFirstStates}
-use Rattle.brooklet_step.proofs.Fires.{kern_of-packed}
 use Rattle.brooklet_step.proofs.Starts.{if_ok, first_at, packed_first, fused_first}
 use Rattle.brooklet_step.proofs.start.+states_of.Goals as goal
 

@@ -1,12 +1,11 @@
 use Rattle.std.proofs.Common.{◌≡◌, ap, ◌∙◌, subst}
+use Rattle.river_kernels.proofs.KernLemmas.{kern_of-code, kern_of-deal, kern_of-collect, kern_of-window, kern_of-cross, kern_of-streamer, kern_of-unpack, kern_of-filter}
 use Rattle.kern_rows.specs.Forms.{code_form, filter_form}
 use Rattle.river_kernels.specs.Kern.{kern_of, code, filter, deal, collect, unpack, window, cross, streamer}
 use Rattle.brooklet_model.specs.Shapes.{IsFormed}
 use Rattle.brooklet_step.specs.Initial.{AreFirstStates}
-use Rattle.brooklet_step.proofs.Fires.{kern_of-filter}
 use Rattle.brooklet_step.proofs.Starts.{if_ok, filter_first, first_at, simple_first, splitter_first, joiner_first, unpacker_first}
 use Rattle.brooklet_step.proofs.Starts.{window_first, cross_first, streamer_first}
-use Rattle.brooklet_step.proofs.Starts.{kern_of-code, kern_of-deal, kern_of-collect, kern_of-unpack, kern_of-window, kern_of-cross, kern_of-streamer}
 use Rattle.brooklet_step.proofs.start.leaf_states.Goals as goal
 
 pub filter_states-requires : goal.filter_states-requires

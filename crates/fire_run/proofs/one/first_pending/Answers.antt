@@ -1,7 +1,7 @@
 use Rattle.std.proofs.Common.{◌≡◌, true, [], length, sym, ◌∙◌, arith, subst, ⊎_elim}
 use Rattle.std.proofs.lemmas.Bool.{cases_lt}
+use Rattle.river_base.proofs.PlaceLemmas.{list_past}
 use Rattle.river_base.specs.Places.{list_at}
-use Rattle.fire_run.proofs.MoveLemmas.{beyond}
 use Rattle.fire_run.proofs.one.first_pending.Goals as goal
 
 pub loop-port-init : goal.loop-port-init
@@ -26,5 +26,5 @@ pub returns-clause-none : goal.returns-clause-none
 returns-clause-none c = λ j.
     ⊎_elim
     (λ l. c.loop-port.invariant j (let n = c.len-port-end.ensures in omega (arith, l, n)))
-    (λ ge. beyond c.args.pending.now j ge)
+    (λ ge. list_past c.args.pending.now j ge)
     (cases_lt j (length c.args.pending.now))

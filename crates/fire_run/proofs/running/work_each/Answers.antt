@@ -1,8 +1,8 @@
 use Rattle.std.proofs.Common.{◌≡◌, rules, List, ap, ◌∙◌, sym, subst, length, slice_index_or, ◌<◌}
+use Rattle.river_base.proofs.Lists.{written_back}
 use Rattle.fire_tasks.specs.declared.bundle.Bundle.{Bundle}
 use Rattle.fire_tasks.specs.Bundles.{HasMadeRound}
 use Rattle.fire_run.specs.Frames.{HaveWorked}
-use Rattle.fire_run.proofs.RunLemmas.{written_back}
 use Rattle.fire_run.proofs.running.work_each.Goals as goal
 
 pub returns : goal.returns

@@ -1,6 +1,7 @@
 use Rattle.std.proofs.Common.{◌++◌, [], ◌∷◌, ap, sym, ◌∙◌, get_or-set_same, subst}
+use Rattle.std.proofs.lemmas.Option.{MatchOption-at_none, MatchOption-at_some}
 use Rattle.fire_tasks.specs.Ports.{sent_of, out_end, HasRoom}
-use Rattle.fire_tasks.proofs.PortLemmas.{none_some, sent_more, outs_set, none_case, some_case}
+use Rattle.fire_tasks.proofs.PortLemmas.{none_some, sent_more, outs_set}
 use Rattle.fire_tasks.proofs.PassLemmas.{none_sent, one_sent, refused_sent}
 use Rattle.fire_tasks.proofs.ports.send_at.Goals as goal
 
@@ -11,7 +12,7 @@ returns-in_default-clause-sent c =
 
 pub returns-in-None-clause-sent : goal.returns-in-None-clause-sent
 returns-in-None-clause-sent c =
-    let s = none_case c.in_ok-push.field-0 _ _ c.in-None.is c.in_ok-push.ensures.sent in
+    let s = MatchOption-at_none _ _ c.in-None.is c.in_ok-push.ensures.sent in
     let x = c.push.new.self in
     one_sent c.args.outs.now c.args.pending.now c.args.port x c.pop.new.self c.in-Some.item c.requires.outs c.requires.pending
     (outs_set c.args.outs.now c.args.port x (c.in_ok-push.ensures.same ∙ ap out_end (c.at_mut-2.ensures.value x)))
@@ -22,7 +23,7 @@ pub returns-in_ok-push-in-Some-2-clause-sent : goal.returns-in_ok-push-in-Some-2
 returns-in_ok-push-in-Some-2-clause-sent c =
     let back = c.push-in-Some-2.new.self in
     let x = c.push.new.self in
-    let s = some_case c.in_ok-push.field-0 _ _ c.in-Some-2.back c.in-Some-2.is c.in_ok-push.ensures.sent in
+    let s = MatchOption-at_some _ _ c.in-Some-2.back c.in-Some-2.is c.in_ok-push.ensures.sent in
     refused_sent c.args.outs.now c.args.pending.now c.args.port x c.pop.new.self back c.requires.outs
     (outs_set c.args.outs.now c.args.port x (c.in_ok-push.ensures.same ∙ ap out_end (c.at_mut-2.ensures.value x)))
     (c.in_ok-push-in-Some-2.ensures.ok
@@ -33,7 +34,7 @@ returns-in_ok-push-in-Some-2-clause-sent c =
 
 pub returns-in-None-clause-one : goal.returns-in-None-clause-one
 returns-in-None-clause-one c =
-    let s = none_case c.in_ok-push.field-0 _ _ c.in-None.is c.in_ok-push.ensures.sent in
+    let s = MatchOption-at_none _ _ c.in-None.is c.in_ok-push.ensures.sent in
     let x = c.push.new.self in
     λ m. sent_more c.args.outs.now c.args.port x c.in-Some.item c.requires.outs (s ∙ ap (λ o. sent_of o ++ c.in-Some.item ∷ []) (c.at_mut-2.ensures.value x))
 

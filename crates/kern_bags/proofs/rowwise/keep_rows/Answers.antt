@@ -1,8 +1,9 @@
 use Rattle.std.proofs.Common.{ℤ, List, [], ◌<◌, ◌+◌, take, drop, Bool, length, sym, ap, ◌∙◌, subst, arith}
 use Rattle.std.proofs.lemmas.List.{length-set}
+use Rattle.std.proofs.lemmas.Grind.{drop_more_same}
 use Rattle.work_code.specs.Term.{term}
 use Rattle.work_code.specs.Value.{val, is_true, IsWithin}
-use Rattle.kern_changes.proofs.InPlace.{as_it_was, rest_as_it_was, rest_beside, kept_next, left_next}
+use Rattle.kern_changes.proofs.InPlace.{as_it_was, rest_beside, kept_next, left_next}
 use Rattle.kern_bags.proofs.rowwise.keep_rows.Goals.{then-passes, else-passes}
 use Rattle.kern_bags.proofs.rowwise.keep_rows.Goals as goal
 
@@ -40,6 +41,6 @@ loop-place-preserved c =
         all = ap length w.rows-is ∙ c.loop-place.invariant.all;
         front = ap (λ m. take m c.if-passes.rows) w.kept-is ∙ ap (take k) w.rows-is
             ∙ left_next test old (take k xs) n x in_old c.loop-place.invariant.front is (sym c.passes.ensures ∙ w.if-passes.false);
-        back = ap (drop (n + 1)) w.rows-is ∙ rest_as_it_was xs old n back;
+        back = ap (drop (n + 1)) w.rows-is ∙ drop_more_same xs old n back;
       }
     ]

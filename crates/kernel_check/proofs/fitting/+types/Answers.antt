@@ -1,8 +1,9 @@
 use Rattle.std.proofs.Common.{◌≡◌, ◌+◌, sym, ap, ◌∙◌, subst, Some, None}
 use Rattle.std.proofs.lemmas.Result.{IfOk-weaker}
+use Rattle.std.proofs.lemmas.Option.{slice_get_within}
 use Rattle.river_kernels.specs.Kern.{kern_of}
 use Rattle.river_kernels.specs.Types.{types_of, joined_types, fused_types, MayAnswer}
-use Rattle.kernel_check.proofs.FoundLemmas.{fused_none, fused_no_port, fused_joined, get_below}
+use Rattle.kernel_check.proofs.FoundLemmas.{fused_none, fused_no_port, fused_joined}
 use Rattle.river_kernels.proofs.KernLemmas.{kern_of-fused}
 use Rattle.kernel_check.proofs.fitting.+types.Goals as goal
 
@@ -35,7 +36,7 @@ types_behind-returns-in_default t c told room some =
     fused_no_port c.args.most room c.args.at told (types_of (kern_of c.args.second.now)) c.args.one.now some (sym c.port_type.ensures ∙ c.in_default.is)
 
 pub types_behind-both-requires : goal.types_behind-both-requires
-types_behind-both-requires t c = get_below c.args.one.now.outs c.args.at c.in-Some.middle (sym c.port_type.ensures ∙ c.in-Some.is)
+types_behind-both-requires t c = slice_get_within c.args.one.now.outs c.args.at c.in-Some.middle (sym c.port_type.ensures ∙ c.in-Some.is)
 
 pub types_behind-returns : goal.types_behind-returns
 types_behind-returns t c =

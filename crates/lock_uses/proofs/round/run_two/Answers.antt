@@ -1,7 +1,8 @@
 use Rattle.std.proofs.Common.{◌≡◌, ℕ, rules, List, ap, ◌∙◌, sym, subst, length, slice_index_or, ◌<◌}
+use Rattle.river_base.proofs.Lists.{written_back}
 use Rattle.lock_uses.specs.declared.crew.Worker.{Worker}
 use Rattle.lock_uses.specs.Crews.{HasTakenTurn, HaveTurned}
-use Rattle.lock_uses.proofs.Rounds.{turned, written_back}
+use Rattle.lock_uses.proofs.Rounds.{turned}
 use Rattle.lock_uses.proofs.round.run_two.Goals as goal
 
 pub finish-requires-clause-turned : goal.finish-requires-clause-turned

@@ -1,8 +1,9 @@
 use Rattle.std.proofs.Common.{cond, length, ap, sym, ◌∙◌, arith}
+use Rattle.text_forms.proofs.Symbols.{taken-shorter}
 use Rattle.work_text.specs.declared.sign.Symbol.TheVariants as s
 use Rattle.text_forms.specs.Tail.{tail}
 use Rattle.streamit_text.specs.Tree.{expression}
-use Rattle.params_text.proofs.Lists.{constants-next, constant-shorter, taken-shorter}
+use Rattle.params_text.proofs.Lists.{constants-next, constant-shorter}
 use Rattle.params_text.proofs.constant.some_constants.Goals as goal
 
 pub items-preserved : goal.items-preserved

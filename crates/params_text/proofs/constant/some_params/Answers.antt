@@ -1,10 +1,11 @@
 use Rattle.std.proofs.Common.{cond, length, ap, sym, ◌∙◌, arith}
+use Rattle.text_forms.proofs.Symbols.{taken-shorter}
 use Rattle.work_text.specs.declared.sign.Symbol.TheVariants as s
 use Rattle.text_forms.specs.Parse.{comma_turn}
 use Rattle.text_forms.specs.Repeat.{repeated}
 use Rattle.text_forms.specs.Tail.{tail}
 use Rattle.params_text.specs.Steps.{param_at}
-use Rattle.params_text.proofs.Lists.{params-next, param-shorter, taken-shorter}
+use Rattle.params_text.proofs.Lists.{params-next, param-shorter}
 use Rattle.params_text.proofs.constant.some_params.Goals as goal
 
 pub items-preserved : goal.items-preserved

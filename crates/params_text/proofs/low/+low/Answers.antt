@@ -1,8 +1,8 @@
 use Rattle.std.proofs.Common.{◌≡◌, ◌+◌, map, drop, sym, ap, ◌∙◌, arith, rules, true, false}
 use Rattle.std.specs.Prelude.{◌&&◌}
+use Rattle.river_base.proofs.Lists.{map_next, map_none}
 use Rattle.streamit_text.specs.Tree.{statement, in_turn}
 use Rattle.streamit_text.proofs.Trees.{block-is}
-use Rattle.streamit_text.proofs.Places.{at_place, none_left}
 use Rattle.params_text.specs.Params.{lows, low}
 use Rattle.params_text.proofs.low.+low.Goals as goal
 
@@ -11,7 +11,7 @@ low-returns-then-not-lows t c =
     let ps = c.args.names.now in
     let items = c.as_slice-each-items.result.now in
     let i = c.items.each-index in
-    let at = at_place statement items i c.each-item.result (omega arith) c.each-item.is in
+    let at = map_next statement items i c.each-item.result (omega arith) c.each-item.is in
     let no : lows ps (statement c.each-item.result) ≡ false = search rules in
     let all : low ps (in_turn (map statement items)) ≡ false =
     sym c.items.invariant ∙ ap (λ l. low ps (in_turn l)) at ∙ ap (λ b. b && low ps (in_turn (map statement (drop (i + 1) items)))) no in
@@ -23,5 +23,5 @@ low-returns t c =
     let items = c.as_slice-each-items.result.now in
     let i = c.items.each-index in
     let all : low ps (in_turn (map statement items)) ≡ true = sym c.items.invariant
-    ∙ ap (λ l. low ps (in_turn l)) (none_left statement items i (omega arith)) in
+    ∙ ap (λ l. low ps (in_turn l)) (map_none statement items i (omega arith)) in
     rw (block-is c.args.all.now, ← c.as_slice-each-items.ensures.value) (sym all)

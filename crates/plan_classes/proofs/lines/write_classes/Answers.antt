@@ -1,11 +1,12 @@
 use Rattle.std.proofs.Common.{◌≡◌, ◌++◌, ℤ, List, length, ap, ◌∙◌, subst, arith}
 use Rattle.std.specs.Prelude.{OnOk}
+use Rattle.std.proofs.lemmas.List.{length-map}
 use Rattle.river_plan.specs.Forms.{Name, PlanForm, table_names}
 use Rattle.lock_assign.proofs.Numbers.{are_numbers}
 use Rattle.lock_assign.specs.Numbered.{class_numbers}
 use Rattle.plan_classes.specs.Users.{table_users, having}
 use Rattle.plan_classes.specs.Lines.{class_lines}
-use Rattle.plan_classes.proofs.Named.{few_tables, map-length}
+use Rattle.plan_classes.proofs.Named.{few_tables}
 use Rattle.plan_classes.proofs.lines.write_classes.Goals as goal
 
 pub print_lines-requires-clause-few : goal.print_lines-requires-clause-few
@@ -14,7 +15,7 @@ print_lines-requires-clause-few c =
     let a = ap length c.as_slice-2.ensures in
     let b = c.in_ok-classes.ensures.as_many in
     let d = ap length c.in_ok-users.ensures in
-    let e = map-length (λ t. having t.name 0 p.ops) p.tables in
+    let e = length-map p.tables (λ t. having t.name 0 p.ops) in
     let f = few_tables p c.raw.ensures.valid in
     omega (arith, a, b, d, e, f)
 

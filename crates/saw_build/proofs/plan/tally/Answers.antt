@@ -1,5 +1,5 @@
 use Rattle.std.proofs.Common.{◌∷◌, [], ap, ◌∙◌}
-use Rattle.saw_build.proofs.Kernels.{kern_of-tally}
+use Rattle.river_kernels.proofs.KernLemmas.{kern_of-tally}
 use Rattle.saw_build.proofs.plan.tally.Goals as goal
 
 pub returns : goal.returns

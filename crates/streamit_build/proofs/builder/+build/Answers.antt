@@ -1,6 +1,7 @@
 use Rattle.std.proofs.Common.{◌∙◌, ap, ℕ, [], ◌∷◌, suc, ◌+◌, rules, drop, get_or, length, subst, arith, refl}
 use Rattle.std.specs.Prelude.{codes}
 use Rattle.std.proofs.lemmas.List.{drop_all}
+use Rattle.river_base.proofs.Lists.{drop_next}
 use Rattle.kern_rows.specs.Forms.{filter_form}
 use Rattle.river_kernels.specs.Kern.{filter}
 use Rattle.streamit_model.specs.Unrolled.{Streams}
@@ -8,7 +9,7 @@ use Rattle.streamit_model.specs.Build.{numbered, queue, queues, with_own, splitt
 use Rattle.streamit_build.specs.declared.builder.Declared.TheVariants as made
 use Rattle.streamit_build.specs.Units.{unit_forms, splitter_form, AreTrees, Built}
 use Rattle.streamit_build.proofs.Branches.{RestSoFar, rest_start, rest_next, rest_returns, split_built}
-use Rattle.streamit_build.proofs.Lines.{short_of, lower_split, LineSoFar, line_start, line_next, at_child, unit_at, lower_of, pipe_returns, last_returns}
+use Rattle.streamit_build.proofs.Lines.{short_of, lower_split, LineSoFar, line_start, line_next, unit_at, lower_of, pipe_returns, last_returns}
 use Rattle.streamit_build.proofs.Lines.{filter_returns, below_same, trees_same}
 use Rattle.streamit_build.proofs.builder.+build.Goals as goal
 
@@ -22,7 +23,7 @@ line-loop-child-preserved t c =
     let items = c.args.parts.front.now in
     let child = get_or items c.loop-child.child-index 0 in
     let f = subst (λ l. LineSoFar us items l c.args.parts.last c.args.i c.args.made.now c.loop-child.made c.args.from c.loop-child.start c.args.to)
-    (at_child items c.loop-child.child-index child (search rules) (search rules)) c.loop-child.invariant in
+    (drop_next items c.loop-child.child-index child (search rules) (search rules)) c.loop-child.invariant in
     line_next us items child
     (drop (c.loop-child.child-index + 1) items) c.args.parts.last c.args.i c.args.made.now c.loop-child.made c.queue.new.self c.build.new.made c.args.from
     c.loop-child.start c.args.to c.in_ok-end.end f
@@ -50,7 +51,7 @@ branches-loop-child-preserved t c =
     let a0 = c.args.lanes.first in
     let b0 = c.args.lanes.second in
     let f = subst (λ l. RestSoFar us items l c.args.parts.last c.args.i c.args.made.now c.loop-child.made a0 b0 c.loop-child.a c.loop-child.b)
-    (at_child items c.loop-child.child-index child (search rules) (search rules)) c.loop-child.invariant in
+    (drop_next items c.loop-child.child-index child (search rules) (search rules)) c.loop-child.invariant in
     rest_next us items child
     (drop (c.loop-child.child-index + 1) items) c.args.parts.last c.args.i c.args.made.now c.loop-child.made c.lane.new.made a0 b0 c.loop-child.a
     c.loop-child.b c.in_ok-a.a c.in_ok-b.b (queue c.loop-child.a) (queue c.loop-child.b) f

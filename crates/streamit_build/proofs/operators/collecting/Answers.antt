@@ -1,6 +1,6 @@
 use Rattle.std.proofs.Common.{ap, ◌∙◌}
+use Rattle.river_kernels.proofs.KernLemmas.{kern_of-collect}
 use Rattle.river_kernels.specs.Kern.{collect}
-use Rattle.streamit_build.proofs.Kernels.{kern_of-collect}
 use Rattle.streamit_build.proofs.operators.collecting.Goals as goal
 
 pub returns : goal.returns

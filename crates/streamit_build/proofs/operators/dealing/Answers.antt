@@ -1,6 +1,6 @@
 use Rattle.std.proofs.Common.{ap, ◌∙◌}
+use Rattle.river_kernels.proofs.KernLemmas.{kern_of-deal}
 use Rattle.river_kernels.specs.Kern.{deal}
-use Rattle.streamit_build.proofs.Kernels.{kern_of-deal}
 use Rattle.streamit_build.proofs.operators.dealing.Goals as goal
 
 pub returns : goal.returns

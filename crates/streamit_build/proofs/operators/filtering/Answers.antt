@@ -1,6 +1,6 @@
 use Rattle.std.proofs.Common.{ap, ◌∙◌}
+use Rattle.river_kernels.proofs.KernLemmas.{kern_of-filter}
 use Rattle.river_kernels.specs.Kern.{filter}
-use Rattle.streamit_build.proofs.Kernels.{kern_of-filter}
 use Rattle.streamit_build.proofs.operators.filtering.Goals as goal
 
 pub returns : goal.returns

@@ -1,5 +1,6 @@
 use Rattle.std.proofs.Common.{◌≤◌, ◌<◌, sym, ap, ◌∙◌, arith}
-use Rattle.streamit_build.proofs.Weights.{equal_high, equal_fits, product_above, product-comm}
+use Rattle.std.proofs.Math.Nat.{mul_comm}
+use Rattle.streamit_build.proofs.Weights.{equal_high, equal_fits, product_above}
 use Rattle.streamit_build.proofs.Added.{fine}
 use Rattle.streamit_build.proofs.rounds.equal.Goals as goal
 
@@ -19,7 +20,7 @@ returns-then-branches-gt65536 c =
     let pos : 1 ≤ w = omega arith in
     let high : 65536 < n = omega arith in
     let p = product_above 65536 w n pos high in
-    let e = product-comm w n in
+    let e = mul_comm w n in
     equal_high w n pos (omega (arith, p, e))
 
 pub returns-then-weight-branches-gt65536 : goal.returns-then-weight-branches-gt65536
@@ -28,7 +29,7 @@ returns-then-weight-branches-gt65536 c =
     let n = c.args.branches in
     let pos : 1 ≤ w = omega arith in
     let h = c.if-weight-branches-gt65536.true in
-    let e = product-comm w n in
+    let e = mul_comm w n in
     equal_high w n pos (omega (arith, e, h))
 
 pub returns : goal.returns
@@ -37,5 +38,5 @@ returns c =
     let n = c.args.branches in
     let pos : 1 ≤ w = omega arith in
     let h = c.if-weight-branches-gt65536.false in
-    let e = product-comm w n in
+    let e = mul_comm w n in
     equal_fits w n pos (omega (arith, e, h)) ∙ ap fine (sym (c.in_ok-copies.ensures {u = tt}))

@@ -1,10 +1,11 @@
 use Rattle.std.proofs.Common.{cond, length, ap, sym, ◌∙◌, arith}
+use Rattle.text_forms.proofs.Symbols.{taken-shorter}
 use Rattle.work_text.specs.declared.sign.Symbol.TheVariants as s
 use Rattle.text_forms.specs.Parse.{comma_turn}
 use Rattle.text_forms.specs.Repeat.{repeated}
 use Rattle.text_forms.specs.Tail.{tail}
 use Rattle.streamit_text.specs.Reading.{weight_at}
-use Rattle.streamit_text.proofs.Weighing.{weights-next, weight-shorter, taken-shorter}
+use Rattle.streamit_text.proofs.Weighing.{weights-next, weight-shorter}
 use Rattle.streamit_text.proofs.rounds.some_weights.Goals as goal
 
 pub items-preserved : goal.items-preserved

@@ -1,13 +1,9 @@
-use Rattle.std.proofs.Common.{◌≡◌, ℕ, ◌-◌, ◌∙◌, sym, ap, drop, take, length, length-drop, eqb-true, arith, List, [], ◌++◌, ℤ}
-use Rattle.std.proofs.Math.Seq.{take-length}
-use Rattle.std.proofs.lemmas.List.{nil_from_length}
+use Rattle.std.proofs.Common.{◌≡◌, ◌-◌, ◌∙◌, sym, ap, drop, take, length, eqb-true, arith, List, [], ◌++◌, ℤ}
+use Rattle.std.proofs.lemmas.List.{nil_from_length, take_rest}
 use Rattle.kern_tables.specs.declared.kept.Kept.{Kept}
 use Rattle.kern_tables.specs.Kept.{added_all, shown}
 use Rattle.kern_tables.proofs.Tabs.{added_in_two}
 use Rattle.kern_tables.proofs.table.Table.add_all.Goals as goal
-
-rest_whole : (n : ℕ) (rows : List (List ℤ)) → take (length rows - n) (drop n rows) ≡ drop n rows
-rest_whole n rows = ap (λ m. take m (drop n rows)) (sym (length-drop n rows)) ∙ take-length (drop n rows)
 
 pub returns-clause-ok : goal.returns-clause-ok
 returns-clause-ok c =
@@ -16,7 +12,7 @@ returns-clause-ok c =
     let empty : c.self.inside.waiting.items ≡ [] = nil_from_length c.self.inside.waiting.items (omega (arith, len, c.self.inside.waiting.ok)) in
     let waits : c.wait.new.waiting.items ≡ drop n c.args.rows.now =
     c.wait.ensures ∙ (ap (λ (l : List (List ℤ)). l ++ take (length c.args.rows.now - n) (drop n c.args.rows.now)) (c.in_ok-reserve.ensures.items ∙ empty)
-    ∙ rest_whole n c.args.rows.now) in
+    ∙ take_rest c.args.rows.now n) in
     let shown_is : shown c.self.inside.kept ≡ c.args.self.now = sym (ap (added_all (shown c.self.inside.kept)) empty) ∙ c.self.view_is in
     ap (added_all (shown c.place_some-placed.new.kept)) waits
     ∙ (added_in_two (shown c.self.inside.kept) (shown c.place_some-placed.new.kept) n c.args.rows.now c.place_some-placed.ensures.rows

@@ -1,7 +1,6 @@
 use Rattle.std.proofs.Common.{◌≡◌, ◌+◌, ◌-◌, ◌<◌, ◌≤◌, suc, false, true, List, length, map, drop, [], Ok, refl, sym, ap, get_or, ◌∙◌, subst, arith, rules}
 use Rattle.streamit_text.specs.Tree.{expression, is_turn}
 use Rattle.streamit_text.specs.Program as plain
-use Rattle.streamit_text.proofs.Places.{at_place, none_left}
 use Rattle.streamit_model.specs.Meaning.{numbers_from}
 use Rattle.params_text.specs.Program.{steps_in_turn, step_of, steps_of, expressions, declared_of, body_of, dealing_of, rounds_of, Step}
 use Rattle.params_text.proofs.StepTrees.{steps-are, step-loop}
@@ -10,11 +9,13 @@ use Rattle.params_model.specs.Environment.{dealing, option_counts}
 use Rattle.params_model.specs.Making.{Range, begin, demand, are_ranged_option, made_once, steps_made, turns_made}
 use Rattle.params_build.specs.Told.{Told}
 use Rattle.std.specs.Prelude.{IsTrue}
+use Rattle.streamit_model.proofs.Numbers.{numbers_more}
+use Rattle.river_base.proofs.Lists.{map_next, map_none}
 use Rattle.river_base.specs.declared.memory.NoMemory.{NoMemory}
 use Rattle.params_print.specs.Heads.{names_written}
 use Rattle.params_make.specs.Standing.{MakesOne, MakesMore, WritesInstance, adding, bodied, turn_steps, turn_made, source_at}
 use Rattle.params_make.proofs.Bodies.{add-made, loop-is, all-made, make-begun}
-use Rattle.params_make.proofs.Growing.{so-start, so-next, so-fault, so-end, turns-next, numbers-next, numbers-end}
+use Rattle.params_make.proofs.Growing.{so-start, so-next, so-fault, so-end, turns-next, numbers-end}
 use Rattle.params_make.proofs.Parts.{pipeline-made, split-made}
 use Rattle.params_make.proofs.Sources.{room-at, values-above, values-at}
 use Rattle.params_make.proofs.making.Making.+make.Goals as goal
@@ -38,7 +39,7 @@ steps-items-preserved t c =
     let k = suc (length c.args.seen.units.now) in
     let env = c.args.scope.now.known in
     let step = c.each-item.result in
-    let at = at_place step_of items i step (omega arith) c.each-item.is in
+    let at = map_next step_of items i step (omega arith) c.each-item.is in
     let rest = λ (l : List Step). steps_made add k env (steps_in_turn l) in
     record {
       far = λ m h.
@@ -60,7 +61,7 @@ steps-returns t c = λ m h.
     let same = ap (λ l. steps_in_turn (map step_of l)) c.as_slice-each-items.ensures.value ∙ sym (steps-are c.args.steps.now) in
     subst (λ ss. MakesMore (Ok tt) c.args.scope.now c.items.scope c.items.self (steps_made add k env ss m)) same
     (so-end (rest (map step_of items) m) (rest (map step_of (drop i items))) c.args.scope.now c.items.scope c.items.self
-    (λ q. ap (λ l. rest l q) (none_left step_of items i (omega arith))) (c.items.invariant.far m h))
+    (λ q. ap (λ l. rest l q) (map_none step_of items i (omega arith))) (c.items.invariant.far m h))
 
 pub steps-returns-in-Err : goal.steps-returns-in-Err
 steps-returns-in-Err t c = λ m h.
@@ -70,7 +71,7 @@ steps-returns-in-Err t c = λ m h.
     let k = suc (length c.args.seen.units.now) in
     let env = c.args.scope.now.known in
     let step = c.each-item.result in
-    let at = at_place step_of items i step (omega arith) c.each-item.is in
+    let at = map_next step_of items i step (omega arith) c.each-item.is in
     let rest = λ (l : List Step). steps_made add k env (steps_in_turn l) in
     let same = ap (λ l. steps_in_turn (map step_of l)) c.as_slice-each-items.ensures.value ∙ sym (steps-are c.args.steps.now) in
     let e = c.in-Err.refusal in
@@ -103,7 +104,7 @@ turns-range-preserved t c = λ m h.
     so-next (turns_made k f (numbers_from low (end - low)) m) (λ e. turn_made k (turn_steps add k e name ss) v) (turns_made k f (numbers_from v (end - v)))
     (turns_made k f (numbers_from (v + 1) (end - (v + 1))))
     c.args.scope.now c.range.scope c.turn.new.scope c.range.self c.turn.new.self
-    (λ q. ap (λ l. turns_made k f l q) (numbers-next v end lt) ∙ turns-next k f v (numbers_from (v + 1) (end - (v + 1))) q) far
+    (λ q. ap (λ l. turns_made k f l q) (numbers_more v end lt) ∙ turns-next k f v (numbers_from (v + 1) (end - (v + 1))) q) far
     (c.in-Ok.ensures far.made far.stands)
 
 pub turns-returns : goal.turns-returns
@@ -134,7 +135,7 @@ turns-returns-in-Err t c = λ m h.
     so-fault (turns_made k f (numbers_from low (end - low)) m) (λ g. turn_made k (turn_steps add k g name ss) v) (turns_made k f (numbers_from v (end - v)))
     (turns_made k f (numbers_from (v + 1) (end - (v + 1))))
     c.args.scope.now c.range.scope c.range.self e
-    (λ q. ap (λ l. turns_made k f l q) (numbers-next v end lt) ∙ turns-next k f v (numbers_from (v + 1) (end - (v + 1))) q) far
+    (λ q. ap (λ l. turns_made k f l q) (numbers_more v end lt) ∙ turns-next k f v (numbers_from (v + 1) (end - (v + 1))) q) far
     (c.in-Err.ensures far.made far.stands)
 
 -- THE PARTS OF ONE INSTANCE

@@ -1,4 +1,5 @@
 use Rattle.std.proofs.Common.{◌∷◌, [], sym, ap, ◌∙◌, rules}
+use Rattle.river_base.proofs.Lists.{kept_by}
 use Rattle.work_code.specs.Steps as tree
 use Rattle.work_code.specs.Term.{term}
 use Rattle.work_code.specs.declared.code.Stmt as built
@@ -8,7 +9,7 @@ use Rattle.saw_text.specs.Tree as source
 use Rattle.saw_text.specs.Tree.{expression}
 use Rattle.saw_build.specs.Judging.{at_of}
 use Rattle.saw_build.proofs.Statements.{counted_fault, assign_slot_fault, assign_value_fault, assign_read}
-use Rattle.saw_build.proofs.SoFar.{kept_by, reads_err}
+use Rattle.saw_build.proofs.SoFar.{reads_err}
 use Rattle.saw_build.proofs.SoFar.{good as answered}
 use Rattle.saw_build.proofs.judge.Judge.assign.Goals as goal
 

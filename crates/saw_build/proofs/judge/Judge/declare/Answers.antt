@@ -1,4 +1,5 @@
 use Rattle.std.proofs.Common.{◌≡◌, ◌+◌, List, ◌∷◌, ◌++◌, [], sym, ap, ◌∙◌, rules}
+use Rattle.river_base.proofs.Lists.{front_kept}
 use Rattle.work_code.specs.Steps as tree
 use Rattle.work_code.specs.Term.{term}
 use Rattle.work_code.specs.declared.code.Stmt as built
@@ -12,7 +13,7 @@ use Rattle.saw_build.specs.View.{scope_of}
 use Rattle.saw_build.specs.declared.names.Known.{Known}
 use Rattle.saw_build.specs.declared.names.Known.TheVariants as code
 use Rattle.saw_build.proofs.Scopes.{scope-push}
-use Rattle.saw_build.proofs.Statements.{counted_fault, declare_name_fault, declare_slot_fault, declare_value_fault, declare_read, front_kept}
+use Rattle.saw_build.proofs.Statements.{counted_fault, declare_name_fault, declare_slot_fault, declare_value_fault, declare_read}
 use Rattle.saw_build.proofs.SoFar.{reads_err}
 use Rattle.saw_build.proofs.SoFar.{good as answered}
 use Rattle.saw_build.proofs.judge.Judge.declare.Goals as goal

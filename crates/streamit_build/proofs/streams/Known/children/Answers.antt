@@ -1,9 +1,10 @@
 use Rattle.std.proofs.Common.{◌≡◌, ◌≤◌, ◌<◌, ◌+◌, Err, length, drop, get_or, rules, sym, subst}
 use Rattle.std.proofs.lemmas.List.{drop_all}
+use Rattle.river_base.proofs.Lists.{drop_next}
 use Rattle.streamit_model.specs.Judged.{streams_added}
 use Rattle.streamit_build.specs.Units.{unit_forms}
 use Rattle.streamit_build.specs.Knowing.{may, AddsAll}
-use Rattle.streamit_build.proofs.Added.{SoFar, adds_start, adds_next, adds_fault, adds_end, first_fault, name_at}
+use Rattle.streamit_build.proofs.Added.{SoFar, adds_start, adds_next, adds_fault, adds_end, first_fault}
 use Rattle.streamit_build.proofs.streams.Known.children.Goals as goal
 
 pub returns-in_err-first : goal.returns-in_err-first
@@ -30,7 +31,7 @@ loop-i-preserved c = λ known k.
     let m = c.index.result.now in
     let lt : i < length others = search rules in
     let is : m ≡ get_or others i m = search rules in
-    let f = subst (λ l. SoFar us (may c.args.branch) known whole i l c.loop-i.children) (name_at others i m lt is) (c.loop-i.invariant known k) in
+    let f = subst (λ l. SoFar us (may c.args.branch) known whole i l c.loop-i.children) (drop_next others i m lt is) (c.loop-i.invariant known k) in
     let p = c.in_ok-push.ensures {u = tt} in
     adds_next us (may c.args.branch) known whole i m (drop (i + 1) others) c.loop-i.children c.push.new.self c.in_ok-next.next f
     (c.in_ok-next.ensures known k) p.front p.last p.ops p.deepest
@@ -45,7 +46,7 @@ returns-in_err-next c = λ known k.
     let m = c.index.result.now in
     let lt : i < length others = search rules in
     let at : m ≡ get_or others i m = search rules in
-    let f = subst (λ l. SoFar us (may c.args.branch) known whole i l c.loop-i.children) (name_at others i m lt at) (c.loop-i.invariant known k) in
+    let f = subst (λ l. SoFar us (may c.args.branch) known whole i l c.loop-i.children) (drop_next others i m lt at) (c.loop-i.invariant known k) in
     let is : c.from_residual-in_err-next.result ≡ Err c.in_err-next.field-0.0 = search rules in
     subst (λ r. AddsAll us r whole) (sym is)
     (adds_fault us (may c.args.branch) known whole i m (drop (i + 1) others) c.loop-i.children c.in_err-next.field-0.0 f (c.in_err-next.ensures known k))

@@ -1,6 +1,6 @@
 use Rattle.std.proofs.Common.{◌≡◌, ◌+◌, ◌≤◌, ◌∷◌, length, drop, rules, subst}
+use Rattle.river_base.proofs.Lists.{map_next, map_none}
 use Rattle.streamit_model.specs.Judged.{all_streams}
-use Rattle.streamit_text.proofs.Places.{at_place, none_left}
 use Rattle.streamit_text.specs.Program.{declared_of, program_of}
 use Rattle.streamit_build.specs.Readable.{AreReadable}
 use Rattle.streamit_build.proofs.AllUnits.{Judging, judging_start, judging_next, judging_fault, judging_end}
@@ -13,7 +13,7 @@ pub unit-requires : goal.unit-requires
 unit-requires c =
     let units = c.args.units.now in
     let i = c.loop-i.i in
-    (subst AreReadable (at_place declared_of units i c.index-units-i.result c.loop-i-test.true c.index-units-i.is) c.loop-i.invariant.readable).0
+    (subst AreReadable (map_next declared_of units i c.index-units-i.result c.loop-i-test.true c.index-units-i.is) c.loop-i.invariant.readable).0
 
 pub loop-i-preserved : goal.loop-i-preserved
 loop-i-preserved c =
@@ -21,7 +21,7 @@ loop-i-preserved c =
     let i = c.loop-i.i in
     let u = c.index-units-i.result in
     let at : program_of (drop i units) ≡ declared_of u ∷ program_of (drop (i + 1) units) =
-    at_place declared_of units i u c.loop-i-test.true c.index-units-i.is in
+    map_next declared_of units i u c.loop-i-test.true c.index-units-i.is in
     record {
       readable = (subst AreReadable at c.loop-i.invariant.readable).1;
       judged = λ start k.
@@ -36,7 +36,7 @@ returns-in-Err c = λ start k.
     let i = c.loop-i.i in
     let u = c.index-units-i.result in
     let at : program_of (drop i units) ≡ declared_of u ∷ program_of (drop (i + 1) units) =
-    at_place declared_of units i u c.loop-i-test.true c.index-units-i.is in
+    map_next declared_of units i u c.loop-i-test.true c.index-units-i.is in
     let whole = all_streams 1 start (program_of units) in
     let j = subst (λ p. Judging whole (i + 1) p c.loop-i.self) at (c.loop-i.invariant.judged start k) in
     judging_fault whole i (declared_of u) (program_of (drop (i + 1) units)) c.loop-i.self c.unit.new.self c.in-Err.fault j (c.in-Err.ensures j.known j.knows)
@@ -48,4 +48,4 @@ returns c = λ start k.
     let le : length units ≤ i = search rules in
     let whole = all_streams 1 start (program_of units) in
     judging_end whole (i + 1) c.loop-i.self
-    (subst (λ p. Judging whole (i + 1) p c.loop-i.self) (none_left declared_of units i le) (c.loop-i.invariant.judged start k))
+    (subst (λ p. Judging whole (i + 1) p c.loop-i.self) (map_none declared_of units i le) (c.loop-i.invariant.judged start k))

@@ -12,17 +12,17 @@ use Rattle.work_code.specs.declared.code.Stmt as built
 use Rattle.streamit_text.specs.Tree as source
 use Rattle.streamit_text.proofs.Trees.{block-is, statement-declare, statement-assign, statement-push, statement-pop, statement-if, statement-for}
 use Rattle.streamit_unroll.proofs.SoFar.{BlockSoFar, block_next, block_err, block_end, turns_start, turns_next, turns_fault, turns_end, for_turns, for_fault}
-use Rattle.streamit_unroll.proofs.SoFar.{good as answered, if_read, turn_is, kept_by, reads_as, reads_err}
+use Rattle.streamit_unroll.proofs.SoFar.{good as answered, if_read, turn_is, reads_as, reads_err}
 use Rattle.streamit_unroll.proofs.Branches.{if_count_fault, if_cond_fault, if_first_fault, if_second_fault}
-use Rattle.streamit_text.proofs.Places.{at_place, none_left}
 use Rattle.std.proofs.Common.{subst, sym, ap, ◌∙◌, arith, refl, rules, ◌≡◌, ◌+◌, ◌-◌, Err, [], ◌∷◌, drop, map}
+use Rattle.river_base.proofs.Lists.{map_next, map_none, kept_by}
 use Rattle.streamit_unroll.proofs.unroll.Unroller.+unroll.Goals as goal
 
 pub block-returns-in_err-statement : goal.block-returns-in_err-statement
 block-returns-in_err-statement t c =
     let items = c.as_slice-s-items.result.now in
     let f = subst (λ l. BlockSoFar c.args.peek (map statement items) l c.args.self.now c.loop-s.self c.args.out.now c.loop-s.out)
-    (at_place statement items c.loop-s.s-index c.s-item.result (omega arith) c.s-item.is) c.loop-s.invariant in
+    (map_next statement items c.loop-s.s-index c.s-item.result (omega arith) c.s-item.is) c.loop-s.invariant in
     let r = block_err c.args.peek (map statement items) (statement c.s-item.result)
     (map statement (drop
     (c.loop-s.s-index + 1) items)) c.args.self.now c.loop-s.self c.statement.new.self c.args.self.now c.statement.new.self c.args.out.now c.loop-s.out
@@ -34,7 +34,7 @@ pub block-loop-s-preserved : goal.block-loop-s-preserved
 block-loop-s-preserved t c =
     let items = c.as_slice-s-items.result.now in
     let f = subst (λ l. BlockSoFar c.args.peek (map statement items) l c.args.self.now c.loop-s.self c.args.out.now c.loop-s.out)
-    (at_place statement items c.loop-s.s-index c.s-item.result (omega arith) c.s-item.is) c.loop-s.invariant in
+    (map_next statement items c.loop-s.s-index c.s-item.result (omega arith) c.s-item.is) c.loop-s.invariant in
     block_next c.args.peek (map statement items) (statement c.s-item.result)
     (map statement (drop (c.loop-s.s-index + 1) items)) c.args.self.now c.loop-s.self c.statement.new.self c.args.out.now c.loop-s.out c.statement.new.out f
     (c.in_ok-statement.ensures {u = tt})
@@ -43,7 +43,7 @@ pub block-returns : goal.block-returns
 block-returns t c =
     let items = c.as_slice-s-items.result.now in
     let f = subst (λ l. BlockSoFar c.args.peek (map statement items) l c.args.self.now c.loop-s.self c.args.out.now c.loop-s.out)
-    (none_left statement items c.loop-s.s-index (omega arith)) c.loop-s.invariant in
+    (map_none statement items c.loop-s.s-index (omega arith)) c.loop-s.invariant in
     rw (block-is c.args.b.now, ← c.as_slice-s-items.ensures.value)
     (block_end c.args.peek (map statement items) c.args.self.now c.loop-s.self c.args.out.now c.loop-s.out f)
 

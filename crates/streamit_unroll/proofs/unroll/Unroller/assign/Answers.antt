@@ -1,4 +1,5 @@
 use Rattle.std.proofs.Common.{◌∷◌, [], sym, ap, ◌∙◌, rules}
+use Rattle.river_base.proofs.Lists.{kept_by}
 use Rattle.work_code.specs.Steps as tree
 use Rattle.work_code.specs.Term.{term}
 use Rattle.work_code.specs.declared.code.Stmt as built
@@ -8,7 +9,7 @@ use Rattle.streamit_text.specs.Tree as source
 use Rattle.streamit_text.specs.Tree.{expression}
 use Rattle.streamit_unroll.specs.Unrolling.{at_of}
 use Rattle.streamit_unroll.proofs.Statements.{assign_count_fault, assign_slot_fault, assign_value_fault, assign_read}
-use Rattle.streamit_unroll.proofs.SoFar.{kept_by, reads_err}
+use Rattle.streamit_unroll.proofs.SoFar.{reads_err}
 use Rattle.streamit_unroll.proofs.SoFar.{good as answered}
 use Rattle.streamit_unroll.proofs.unroll.Unroller.assign.Goals as goal
 

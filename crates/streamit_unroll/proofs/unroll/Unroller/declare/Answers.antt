@@ -1,4 +1,5 @@
 use Rattle.std.proofs.Common.{◌≡◌, ◌+◌, List, ◌∷◌, ◌++◌, [], sym, ap, ◌∙◌, rules}
+use Rattle.river_base.proofs.Lists.{front_kept}
 use Rattle.work_code.specs.Steps as tree
 use Rattle.work_code.specs.Term.{term}
 use Rattle.work_code.specs.declared.code.Stmt as built
@@ -12,7 +13,7 @@ use Rattle.streamit_unroll.specs.View.{scope_of}
 use Rattle.streamit_unroll.specs.declared.names.Known.{Known}
 use Rattle.streamit_unroll.specs.declared.names.Known.TheVariants as code
 use Rattle.streamit_unroll.proofs.Scopes.{scope-push}
-use Rattle.streamit_unroll.proofs.Statements.{declare_count_fault, declare_name_fault, declare_slot_fault, declare_value_fault, declare_read, front_kept}
+use Rattle.streamit_unroll.proofs.Statements.{declare_count_fault, declare_name_fault, declare_slot_fault, declare_value_fault, declare_read}
 use Rattle.streamit_unroll.proofs.SoFar.{reads_err}
 use Rattle.streamit_unroll.proofs.SoFar.{good as answered}
 use Rattle.streamit_unroll.proofs.unroll.Unroller.declare.Goals as goal
