@@ -1,7 +1,11 @@
 -- Lemmas on lists, tests and feeding.
-use Rattle.std.proofs.Common.{◌≡◌, List, [], ◌∷◌, ◌++◌, refl, sym, ap, ◌∙◌, append_assoc}
+use Rattle.std.proofs.Common.{◌≡◌, true, false, List, [], ◌∷◌, ◌++◌, refl, sym, ap, ◌∙◌, append_assoc}
+use Rattle.std.specs.Prelude.{if◌then◌else◌}
 use Rattle.std.proofs.lemmas.List.{append-nil}
+use Rattle.river_base.specs.Name.{name_eq}
 use Rattle.river_base.specs.declared.item.Item as item
+use Rattle.river_plan.specs.Forms.{Name}
+use Rattle.brooklet_model.specs.Machine.{at_name}
 use Rattle.brooklet_model.specs.Firings.{Kept, Fired, Same, feed, and_then}
 
 -- equal at each place is equal
@@ -34,3 +38,10 @@ pub feed_kept : (f : item.Item → List Kept → Fired) (P : List Kept → Type 
     → (xs : List item.Item) (ss : List Kept) → P ss → P (feed f xs ss).states
 feed_kept f P keep [] ss h = h
 feed_kept f P keep (x ∷ xs) ss h = feed_kept f P keep xs (f x ss).states (keep x ss h)
+
+-- a function that was changed at a name
+pub at_here : {A : Type 0} (n m : Name) (z : A) (f : Name → A) → name_eq n m ≡ true → at_name n z f m ≡ z
+at_here n m z f e = ap (λ b. if b then z else f m) e
+
+pub at_other : {A : Type 0} (n m : Name) (z : A) (f : Name → A) → name_eq n m ≡ false → at_name n z f m ≡ f m
+at_other n m z f e = ap (λ b. if b then z else f m) e

@@ -1,10 +1,11 @@
 -- The tables among an operator's variables: their places and widths.
-use Rattle.std.proofs.Common.{◌≡◌, ℕ, suc, ◌+◌, ◌<◌, Bool, true, false, Some, None, List, [], ◌∷◌, ◌++◌, length, map, filter, refl, sym, ap, ◌∙◌, subst, arith}
+use Rattle.std.proofs.Common.{◌≡◌, ℕ, suc, ◌+◌, ◌<◌, Bool, true, false, Some, List, [], ◌∷◌, ◌++◌, length, map, filter, refl, sym, ap, ◌∙◌, subst, arith}
 use Rattle.std.proofs.Common.{nat_lt, ⊎_elim}
 use Rattle.std.specs.Prelude.{if◌then◌else◌, slice_get, unwrap_or}
 use Rattle.std.proofs.lemmas.Bool.{cases_lt}
 use Rattle.std.proofs.lemmas.List.{length-map}
 use Rattle.std.proofs.lemmas.Option.{same_Some}
+use Rattle.river_plan.proofs.DeclLemmas.{private_there, no_table}
 use Rattle.brooklet_model.proofs.WideAdds.{widths_length}
 use Rattle.river_base.proofs.PlaceLemmas.{if_lt, if_ge, if_true, if_false}
 use Rattle.river_base.specs.Name.{name_eq}
@@ -102,21 +103,6 @@ table_there (t ∷ ts) v h = ⊎_elim
     ∙ ap (λ n. Some (Table n)) (sym (if_false (name_eq t.name v) (table_width t.kind) (width_at ts v) c.1)))
     (cases_name t.name v)
 
-table_absent : (ts : List TableDecl) (v : Name) → count v (table_names ts) ≡ 0 → table_in ts v ≡ None
-table_absent [] v h = refl
-table_absent (t ∷ ts) v h = ⊎_elim
-    (λ c. absurd (let o = ap one_if c.1 in omega (arith, o, h)))
-    (λ c. if_false (name_eq t.name v) (Some (Table (table_width t.kind))) (table_in ts v) c.1
-    ∙ table_absent ts v (let o = ap one_if c.1 in omega (arith, o, h)))
-    (cases_name t.name v)
-
-private_there : (ws : List Name) (v : Name) → 0 < count v ws → private_in ws v ≡ Some Private
-private_there [] v h = absurd (omega (arith, h))
-private_there (w ∷ ws) v h = ⊎_elim
-    (λ c. if_true (name_eq w v) (Some Private) (private_in ws v) c.1)
-    (λ c. if_false (name_eq w v) (Some Private) (private_in ws v) c.1 ∙ private_there ws v (let o = ap one_if c.1 in omega (arith, o, h)))
-    (cases_name w v)
-
 widths_are : (ts : List TableDecl) (vars vs : List Name) → ((v : Name) → 0 < count v vs → 0 < count v (table_names ts) + count v vars)
     → widths_in (map (var_kind ts vars) vs) ≡ map (width_at ts) (among (table_names ts) vs)
 widths_are ts vars [] d = refl
@@ -132,7 +118,7 @@ widths_are ts vars (v ∷ vs) d =
     (λ ge.
     let here : 0 < count v (v ∷ vs) = (let e = ap one_if (name_same v) in omega (arith, e)) in
     let p : 0 < count v vars = (let a = d v here in omega (arith, a, ge)) in
-    let kind : var_kind ts vars v ≡ Private = ap (λ o. unwrap_or (either o (private_in vars v)) (Table 0)) (table_absent ts v (omega (arith, ge)))
+    let kind : var_kind ts vars v ≡ Private = ap (λ o. unwrap_or (either o (private_in vars v)) (Table 0)) (no_table ts v (omega (arith, ge)))
     ∙ ap (λ o. unwrap_or o (Table 0)) (private_there vars v p) in
     ap (λ k. widths_in (k ∷ map (var_kind ts vars) vs)) kind ∙ more
     ∙ ap (map (width_at ts)) (sym (if_ge 0 n (v ∷ among names vs) (among names vs) ge)))

@@ -15,7 +15,7 @@ use Rattle.river_plan.specs.declared.plan.Decl.{Decl}
 use Rattle.river_plan.specs.Forms.{Name, OpForm, decl_names}
 use Rattle.river_plan.specs.Names.{one_if, count, with_name}
 use Rattle.river_plan.specs.Uses.{total, writes_it, and_writes, ReadsBefore, all_writes, all_vars}
-use Rattle.river_plan.proofs.NameLemmas.{cases_name, count-append, one_same, more_or_zero}
+use Rattle.river_plan.proofs.NameLemmas.{cases_name, count-append, one_same, more_or_zero, all_new}
 use Rattle.river_plan.proofs.ShareLemmas.{total-vars}
 use Rattle.cql_model.specs.KernelWords.{streamer_of}
 use Rattle.cql_model.specs.Plannable.{has_no_at, declared_names}
@@ -34,6 +34,7 @@ use Rattle.cql_model.proofs.Naming.{split, split_tagged, Tag}
 use Rattle.cql_model.proofs.Sums.{as_many}
 use Rattle.cql_model.proofs.Valid.{asked, plans_keep}
 use Rattle.std.proofs.lemmas.Option.{none-some}
+use Rattle.river_plan.proofs.DeclLemmas.{names_append}
 
 -- ANY PLAN: what is named for the first time is what is written
 
@@ -108,19 +109,7 @@ first_named outs seen known (o ∷ os) r k h once =
     ∙ append_assoc seen new (filter (other outs) (all_writes os))
     ∙ ap (λ l. seen ++ l) (sym (filter-append (other outs) o.writes (all_writes os)))
 
--- names that are used once
-all_new : (seen vs : List Name) → ((z : Name) → count z seen + count z vs ≤ 1) → fold with_name seen vs ≡ seen ++ vs
-all_new seen [] once = sym (append-nil seen)
-all_new seen (v ∷ vs) once =
-    ap (λ s. fold with_name s vs) (if_ge 0 (count v seen) seen (seen ++ v ∷ []) (let o = one_same v in let b = once v in omega (arith, o, b)))
-    ∙ all_new (seen ++ v ∷ []) vs (λ z. let c = count-append z seen (v ∷ []) in let b = once z in omega (arith, c, b))
-    ∙ append_assoc seen (v ∷ []) vs
-
 -- THE PLANS OF CQL: what is written and is no output, is what is declared
-
-names-join : (xs ys : List Decl) → decl_names (xs ++ ys) ≡ decl_names xs ++ decl_names ys
-names-join [] ys = refl
-names-join (x ∷ xs) ys = ap (λ l. x.name ∷ l) (names-join xs ys)
 
 module _ (f : Name → Bool) where
   abbrev Keeps : Name → Type 0
@@ -140,7 +129,7 @@ module _ (f : Name → Bool) where
   leave x xs h = ap (λ b. cond b (x ∷ filter f xs) (filter f xs)) h
 
   join : (xs ys : List OpForm) (ds es : List Decl) → kept xs ≡ decl_names ds → kept ys ≡ decl_names es → kept (xs ++ ys) ≡ decl_names (ds ++ es)
-  join xs ys ds es a b = kept-append xs ys ∙ ap (λ l. l ++ kept ys) a ∙ ap (λ l. decl_names ds ++ l) b ∙ sym (names-join ds es)
+  join xs ys ds es a b = kept-append xs ys ∙ ap (λ l. l ++ kept ys) a ∙ ap (λ l. decl_names ds ++ l) b ∙ sym (names_append ds es)
 
   windows_kept : (b : Name) (known : List Named) (k : ℕ) (items : List Source) (srcs : List Name) → length srcs ≡ length items → Keeps b
       → kept (window_ops b k items srcs) ≡ decl_names (window_decls b k (scope_of known items))

@@ -6,7 +6,7 @@ use Rattle.std.proofs.lemmas.Bool.{and_parts, eq-eqb, cases_Bool}
 use Rattle.river_base.specs.Name.{name_eq}
 use Rattle.river_plan.specs.Forms.{Name}
 use Rattle.river_plan.specs.Names.{one_if, count}
-use Rattle.river_plan.proofs.NameLemmas.{cases_name, name_same, more_or_zero}
+use Rattle.river_plan.proofs.NameLemmas.{cases_name, name_same, more_or_zero, one_small}
 use Rattle.cql_model.specs.Numeral.{numeral}
 use Rattle.cql_model.specs.Plannable.{has_no_at}
 use Rattle.cql_model.specs.Translation.{at_word}
@@ -61,18 +61,13 @@ tag_self : (t : Tag) → tag_eq t t ≡ true
 tag_self None = refl
 tag_self (Some w) = name_same w
 
--- a test counts at most once
-pub bit_small : (b : Bool) → one_if b ≤ 1
-bit_small true = omega arith
-bit_small false = omega arith
-
 -- a name counts among those of b only if it is one of them
 pub own_count : (b q : Name) (ts : List Tag) → IsTrue (has_no_at b) → count q (map (tagged b) ts) ≤ tags (split q).1 ts
 own_count b q [] h = omega arith
 own_count b q (t ∷ ts) h = ⊎_elim
     (λ c. let s : (split q).1 ≡ t = sym (ap (λ n. (split n).1) c.0) ∙ ap (λ (x : Name × Tag). x.1) (split_tagged b t h) in
     let o : one_if (tag_eq t (split q).1) ≡ 1 = ap one_if (ap (tag_eq t) s ∙ tag_self t) in
-    let m = own_count b q ts h in let z = bit_small (name_eq (tagged b t) q) in omega (arith, o, m, z))
+    let m = own_count b q ts h in let z = one_small (name_eq (tagged b t) q) in omega (arith, o, m, z))
     (λ c. let o = ap one_if c.1 in let m = own_count b q ts h in omega (arith, o, m))
     (cases_name (tagged b t) q)
 
@@ -140,7 +135,7 @@ of_nil n = record { once = λ t. omega arith; only = λ t lt. absurd (omega (ari
 -- a tag is of its own class
 pub of_one : (t : Tag) → Of (class t) (t ∷ [])
 of_one t = record {
-  once = λ s. let b = bit_small (tag_eq t s) in omega (arith, b);
+  once = λ s. let b = one_small (tag_eq t s) in omega (arith, b);
   only = λ s lt. ⊎_elim
       (λ y. ap class (sym (tag_is t s y)))
       (λ n. absurd (let o = ap one_if n in omega (arith, o, lt)))
@@ -184,7 +179,7 @@ numbers_once letter k zero t = omega arith
 numbers_once letter k (suc n) t = ⊎_elim
     (λ y. let is = tag_is (Some (letter ++ numeral k)) t y in
     let z : tags t (numbers letter (k + 1) n) ≡ 0 = subst (λ s. tags s (numbers letter (k + 1) n) ≡ 0) is (below_none letter k (k + 1) n (omega arith)) in
-    let b = bit_small (tag_eq (Some (letter ++ numeral k)) t) in omega (arith, z, b))
+    let b = one_small (tag_eq (Some (letter ++ numeral k)) t) in omega (arith, z, b))
     (λ f. let o = ap one_if f in let m = numbers_once letter (k + 1) n t in omega (arith, o, m))
     (cases_Bool (tag_eq (Some (letter ++ numeral k)) t))
 

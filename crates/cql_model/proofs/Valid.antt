@@ -5,6 +5,7 @@ use Rattle.std.specs.Prelude.{All, codes, if◌then◌else◌, IsTrue, unwrap_or
 use Rattle.std.specs.List.{AllByRecursion}
 use Rattle.std.proofs.lemmas.List.{length-map}
 use Rattle.std.proofs.lemmas.List.Elements.{All-cons, All-nil, All-append}
+use Rattle.river_plan.proofs.DeclLemmas.{private_there}
 use Rattle.river_base.specs.Name.{name_eq}
 use Rattle.river_base.specs.declared.kind.QueueType.{QueueType}
 use Rattle.river_kernels.specs.declared.types.VarKind.{VarKind}
@@ -14,10 +15,10 @@ use Rattle.river_kernels.specs.Formed.{is_width}
 use Rattle.river_plan.specs.declared.plan.Decl.{Decl}
 use Rattle.river_plan.specs.Faults.{IsOuter, HasWidth, IsTableKind}
 use Rattle.river_plan.specs.Forms.{Name, OpForm, decl_names, all_decls, queue_names}
-use Rattle.river_plan.specs.Kinds.{kind_in, kind_of, private_in, var_kind}
+use Rattle.river_plan.specs.Kinds.{kind_in, kind_of, var_kind}
 use Rattle.river_plan.specs.Names.{one_if, count}
 use Rattle.river_plan.specs.Uses.{Each, total, writes_it, reads_it, vars_it, named_it, all_vars, ReadsBefore}
-use Rattle.river_plan.proofs.NameLemmas.{cases_name, name_same, count-append, one_same, more_or_zero}
+use Rattle.river_plan.proofs.NameLemmas.{cases_name, name_same, count-append, one_same, more_or_zero, one_small}
 use Rattle.river_plan.proofs.ShareLemmas.{total-vars}
 use Rattle.cql_model.specs.Plannable.{has_no_at, declared_names, IsPlannableQuery, AreQueries, PlansKeep}
 use Rattle.cql_model.specs.Laws.{known_names, AreKnown}
@@ -37,7 +38,6 @@ use Rattle.cql_model.proofs.Fitting as one
 use Rattle.cql_model.proofs.AllFit.{queries_fit, inputs_fit, input_kinds, sized_scope, columns_many}
 use Rattle.river_plan.proofs.ShareLemmas.{each_append}
 use Rattle.cql_model.proofs.Walk.{each-append}
-use Rattle.cql_model.proofs.Naming.{bit_small}
 
 -- FROM WHAT IS ACCEPTED
 
@@ -110,7 +110,7 @@ uses_plain ks (AQuery q ∷ ps) h d a =
 -- each use is an operator, so they are few
 pub count-length : (n : Name) (ns : List Name) → count n ns ≤ length ns
 count-length n [] = omega arith
-count-length n (m ∷ ms) = let e = count-length n ms in let b = bit_small (name_eq m n) in omega (arith, e, b)
+count-length n (m ∷ ms) = let e = count-length n ms in let b = one_small (name_eq m n) in omega (arith, e, b)
 
 length-windows : (b : Name) (k : ℕ) (items : List Source) (srcs : List Name) → length srcs ≡ length items → length (window_ops b k items srcs) ≡ length items
 length-windows b k [] srcs e = refl
@@ -157,13 +157,6 @@ kind_next d ds (e ∷ es) h sub a = (
 kinds_are : (ds : List Decl) → ((z : Name) → count z (decl_names ds) ≤ 1) → AllByRecursion (λ (e : Decl). kind_of ds e.name ≡ e.kind) ds
 kinds_are [] h = tt
 kinds_are (d ∷ ds) h = (kind_first d ds, kind_next d ds ds h (λ z. omega arith) (kinds_are ds (λ z. let o = h z in omega (arith, o))))
-
-private_found : (vars : List Name) (v : Name) → 0 < count v vars → private_in vars v ≡ Some Private
-private_found [] v lt = absurd (omega (arith, lt))
-private_found (w ∷ ws) v lt = ⊎_elim
-    (λ c. ap (λ b. if b then Some Private else private_in ws v) c.1)
-    (λ c. ap (λ b. if b then Some Private else private_in ws v) c.1 ∙ private_found ws v (let e = ap one_if c.1 in omega (arith, e, lt)))
-    (cases_name w v)
 
 own_from : (kind : Name → QueueType) (var : Name → VarKind) (ops : List OpForm) → ((v : Name) → 0 < total (vars_it v) ops → var v ≡ Private)
     → Each (one.Own kind var) ops
@@ -326,7 +319,7 @@ plans_keep p a =
     let k2 = one.kinds-append kind var (input_decls p) (input_copies all p ++ queries_decls all [] p) k1.1 in
     let k3 = one.kinds-append kind var (input_copies all p) (queries_decls all [] p) k2.1 in
     let found : (v : Name) → 0 < total (vars_it v) (ops_of p) → var v ≡ Private = λ v lt.
-    ap (λ o. unwrap_or o (Table 0)) (private_found (all_vars (ops_of p)) v (let t = total-vars v (ops_of p) in omega (arith, t, lt))) in
+    ap (λ o. unwrap_or o (Table 0)) (private_there (all_vars (ops_of p)) v (let t = total-vars v (ops_of p) in omega (arith, t, lt))) in
     let own = own_from kind var (ops_of p) found in
     let owns = each-append (one.Own kind var) io ao own in
     let fit = each_append (one.Fit kind var) io ao (inputs_fit kind var ins all [] p a.queries k2.0 k3.0)

@@ -106,11 +106,11 @@ pub kept_input : (xs : List item.Item) (i : inlet.Inlet) → IsInput xs i → re
 kept_input xs (TakesFrom t) h = absurd h
 kept_input xs (Given k) h = take-append-drop k.taken k.line ∙ h
 
-ports_long : (w : Word) → length (ports_of w) ≡ length w
+pub ports_long : (w : Word) → length (ports_of w) ≡ length w
 ports_long [] = refl
 ports_long (e ∷ w) = ap suc (ports_long w)
 
-as_long : (w is : Word) → ports_of w ≡ ports_of is → length w ≡ length is
+pub as_long : (w is : Word) → ports_of w ≡ ports_of is → length w ≡ length is
 as_long w is e = sym (ports_long w) ∙ ap length e ∙ ports_long is
 
 module _ (p : PlanForm) (inputs : List (List item.Item)) (caps : Capacities) (adds : ℕ → ℕ → List (List ℤ)) (ts : List Task) (v : IsPlan p)

@@ -14,7 +14,7 @@ use Rattle.brooklet_model.proofs.Solutions.{lists_written}
 use Rattle.brooklet_model.proofs.Traces.{word_lengths, at_most}
 use Rattle.brooklet_model.specs.Traced.{ran}
 use Rattle.brooklet_step.proofs.GivenLemmas.{at-length}
-use Rattle.fire_tasks.specs.Fired.{kinds_out, ports_of}
+use Rattle.fire_tasks.specs.Fired.{kinds_out}
 use Rattle.brooklet_model.specs.Received.{lengths_at, moves_from}
 use Rattle.brooklet_model.proofs.FewMoves.{few_law, lists_lengths}
 use Rattle.fire_laws.proofs.Joining.{lists_at}
@@ -24,7 +24,7 @@ use Rattle.fire_tasks.specs.declared.task.Task.{Task}
 use Rattle.fire_laws.specs.Facts.{NumbersAreFew}
 use Rattle.fire_tasks.specs.Ports.{received_in, received_count, sent_in, sent_count}
 use Rattle.fire_tasks.specs.Tasks.{all_moves, seen_task}
-use Rattle.fire_laws.proofs.NetLemmas.{joins_by, word_at, at_op, received_by}
+use Rattle.fire_laws.proofs.NetLemmas.{joins_by, word_at, at_op, received_by, as_long}
 
 -- as long as all that came at its ports together
 ports_length : (op : OpForm) (w : Word) → ((q : Name) → count q op.reads ≤ 1) → PortsBelow (length op.reads) w
@@ -83,13 +83,6 @@ moves_are (t ∷ ts) all (op ∷ ops) o ws e h =
     let a1 = a.1 in
     omega (arith, a0, a1, b)
 
-pub length-ports : (w : Word) → length (ports_of w) ≡ length w
-length-ports [] = refl
-length-ports (e ∷ w) = ap suc (length-ports w)
-
-pub same_length : (u w : Word) → ports_of u ≡ ports_of w → length u ≡ length w
-same_length u w e = sym (length-ports u) ∙ ap length e ∙ length-ports w
-
 -- the numbers are few: the law
 pub numbers_law : NumbersAreFew
 numbers_law p inputs caps adds ts v laid tasks settled typed =
@@ -118,7 +111,7 @@ numbers_law p inputs caps adds ts v laid tasks settled typed =
           (λ port. received_by p inputs caps adds ts v laid tasks settled typed i op.0 t op.1 g port)
           ∙ sym (ports_length op.0 (items i)
           (λ q. let x = at_most (reads_it q) p.ops i op.0 op.1 in let y = v.read_once q in omega (arith, x, y)) a.fired.below)
-          ∙ sym (same_length (words i) (items i) (n.held i op.0 op.1).ports),
+          ∙ sym (as_long (words i) (items i) (n.held i op.0 op.1).ports),
       sent_by_is ts i t g,
     ))) in
     omega (arith, few, e)

@@ -3,6 +3,7 @@ use Rattle.std.proofs.Common.{◌≡◌, ℕ, zero, suc, ℤ, pos, negsuc, Bool,
 use Rattle.std.proofs.Common.{⊎_elim, nat_le, nat_eq}
 use Rattle.std.specs.Prelude.{if◌then◌else◌, slice_index_or, max}
 use Rattle.std.specs.Ordering.{int_eq}
+use Rattle.brooklet_model.proofs.Lists.{at_here, at_other}
 use Rattle.river_base.specs.Name.{name_eq}
 use Rattle.river_base.specs.Number.{count_of, negate}
 use Rattle.work_code.specs.declared.expr.BinOp.TheVariants as op
@@ -15,7 +16,6 @@ use Rattle.brooklet_model.specs.Machine.{at_name}
 use Rattle.streamit_text.specs.Tree.{Statement, Declare, Assign, Push, Discard, If, For, Block, End, Then, Optional, Unwritten, Written}
 use Rattle.streamit_model.specs.Meaning.{or_work, runs_in, start_at, waits_for, looked_at, pops, Values, eval, State, turns_between, each_turn, first_value, first_pops, exec, exec_all, exec_optional, pop_of, peek_of, at_start, fires, fires_from, pushed_by, look}
 use Rattle.streamit_text.specs.Program.{WorkTree, FilterTree}
-use Rattle.streamit_model.proofs.Elaborated.{at_here, at_other}
 use Rattle.params_model.specs.Environment.{Environment, bound, under}
 use Rattle.params_model.specs.Meaning.{started, initial_under, fires_under, fires_from_under, pushed_under}
 use Rattle.params_model.specs.Plain.{literal, literal_or, put_in, put_option, put_once, put_all, put_optional, put_work, put_prework, put_filter}

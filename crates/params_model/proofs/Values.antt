@@ -6,6 +6,7 @@ use Rattle.std.specs.Ordering.{int_eq}
 use Rattle.std.proofs.lemmas.Int.{SFits-int_wrap, int_wrap_fits}
 use Rattle.std.proofs.lemmas.Bool.{eqb-true}
 use Rattle.std.proofs.lemmas.Option.{same_Some}
+use Rattle.brooklet_model.proofs.Lists.{at_here, at_other}
 use Rattle.river_base.specs.Name.{name_eq}
 use Rattle.river_base.specs.Number.{IsValue, wrap, rem}
 use Rattle.work_code.specs.declared.expr.BinOp.{BinOp}
@@ -16,7 +17,6 @@ use Rattle.streamit_text.specs.Tree as tree
 use Rattle.river_plan.specs.Forms.{Name}
 use Rattle.river_plan.proofs.NameLemmas.{cases_name}
 use Rattle.streamit_model.specs.Meaning.{Values, eval, nought, look}
-use Rattle.streamit_model.proofs.Elaborated.{at_here, at_other}
 use Rattle.params_model.specs.Environment.{Environment, bound, under, value}
 use Rattle.params_model.specs.Laws.{HasValues, AreFit}
 use Rattle.params_model.specs.Plain.{literal, literal_or}

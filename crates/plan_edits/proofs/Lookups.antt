@@ -1,5 +1,5 @@
 -- Types of queues and kinds of variables, looked up by name.
-use Rattle.std.proofs.Common.{◌≡◌, ℕ, ◌<◌, Some, None, List, [], ◌∷◌, ◌++◌, refl, sym, ap, ◌∙◌, subst, arith, ⊎_elim, map}
+use Rattle.std.proofs.Common.{◌≡◌, ℕ, ◌<◌, Some, List, [], ◌∷◌, ◌++◌, refl, sym, ap, ◌∙◌, subst, arith, ⊎_elim, map}
 use Rattle.std.specs.Prelude.{if◌then◌else◌, All, unwrap_or, IsTrue}
 use Rattle.std.proofs.lemmas.List.Elements.{All-head, All-tail}
 use Rattle.river_base.specs.Name.{name_eq}
@@ -13,7 +13,7 @@ use Rattle.river_plan.specs.Names.{count, one_if}
 use Rattle.river_plan.specs.Kinds.{kind_in, kind_of, table_in, table_width, private_in, var_kind}
 use Rattle.river_plan.proofs.NameLemmas.{cases_name}
 use Rattle.brooklet_model.proofs.Solutions.{count_here}
-use Rattle.std.proofs.lemmas.List.{map-append}
+use Rattle.river_plan.proofs.DeclLemmas.{private_there, no_table}
 use Rattle.river_plan.proofs.WiredLemmas.{if_either}
 use Rattle.river_base.proofs.PlaceLemmas.{if_true, if_false}
 use Rattle.river_kernels.specs.Formed.{is_width}
@@ -38,26 +38,6 @@ table_there (t ∷ ts) v lt = ⊎_elim
     (λ c. let i = table_there ts v (let z = ap one_if c.1 in omega (arith, z, lt)) in
     (i.0, if_false (name_eq t.name v) (Some (Table (table_width t.kind))) (table_in ts v) c.1 ∙ i.1))
     (cases_name t.name v)
-
--- a name that is not among the tables is none
-pub no_table : (ts : List TableDecl) (v : Name) → count v (table_names ts) ≡ 0 → table_in ts v ≡ None
-no_table [] v z = refl
-no_table (t ∷ ts) v z = ⊎_elim
-    (λ c. absurd (let e = ap one_if c.1 in omega (arith, e, z)))
-    (λ c. if_false (name_eq t.name v) (Some (Table (table_width t.kind))) (table_in ts v) c.1 ∙ no_table ts v (omega (arith, z)))
-    (cases_name t.name v)
-
--- a name among the private variables is private
-pub private_there : (vs : List Name) (v : Name) → 0 < count v vs → private_in vs v ≡ Some Private
-private_there [] v lt = absurd (omega (arith, lt))
-private_there (w ∷ vs) v lt = ⊎_elim
-    (λ c. if_true (name_eq w v) (Some Private) (private_in vs v) c.1)
-    (λ c. if_false (name_eq w v) (Some Private) (private_in vs v) c.1 ∙ private_there vs v (let z = ap one_if c.1 in omega (arith, z, lt)))
-    (cases_name w v)
-
--- the names of two lists of declarations
-pub names_append : (xs ys : List Decl) → decl_names (xs ++ ys) ≡ decl_names xs ++ decl_names ys
-names_append xs ys = map-append (λ (d : Decl). d.name) xs ys
 
 -- a queue that is declared has a width
 pub kind_sized : (ds : List Decl) (q : Name) → All HasWidth ds → 0 < count q (decl_names ds) → IsTrue (is_width (type_width (kind_of ds q)))

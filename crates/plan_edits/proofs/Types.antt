@@ -3,6 +3,7 @@ use Rattle.std.proofs.Common.{◌≡◌, ℕ, suc, ◌+◌, ◌<◌, ◌≤◌, 
 use Rattle.std.specs.Prelude.{if◌then◌else◌, All, filter, flat_map, unwrap_or}
 use Rattle.std.proofs.lemmas.Bool.{cases_lt}
 use Rattle.std.proofs.lemmas.List.Elements.{All-head, All-tail, All-cons, All-nil, All-append}
+use Rattle.river_plan.proofs.DeclLemmas.{private_there, no_table}
 use Rattle.river_base.proofs.PlaceLemmas.{if_lt, if_ge, if_true, if_false}
 use Rattle.river_base.specs.Name.{name_eq}
 use Rattle.river_base.specs.declared.kind.QueueType.{QueueType}
@@ -21,7 +22,7 @@ use Rattle.plan_edits.proofs.Lookups.{kind_in-append}
 use Rattle.brooklet_model.proofs.Solutions.{count_here}
 use Rattle.brooklet_model.proofs.Ports.{tables_in}
 use Rattle.plan_edits.specs.Lists.{undeclared}
-use Rattle.plan_edits.proofs.Lookups.{map_agree, table_there, no_table, private_there}
+use Rattle.plan_edits.proofs.Lookups.{map_agree, table_there}
 
 -- what an operator fits depends on the types of what it reads and writes alone
 pub fits_agree : (kind kind' : Name → QueueType) (var : Name → VarKind) (op : OpForm)

@@ -1,4 +1,5 @@
 pub mod CapLemmas
+pub mod DeclLemmas
 pub mod JudgeLemmas
 pub mod NameLemmas
 pub mod OneFirst

@@ -1,13 +1,14 @@
 -- Names, and how often they stand in lists.
 use Rattle.std.proofs.lemmas.Bool.Decides.{nat_tests}
 use borrow.Author.Tests.{ltb-true}
-use Rattle.std.proofs.lemmas.List.{take_more}
+use Rattle.std.proofs.lemmas.List.{take_more, append-nil}
 use Rattle.std.proofs.Common.{zero, suc, IsTrue, not, length, take, get_or, ◌≡◌, ℕ, ◌+◌, ◌<◌, ◌⊎◌, inl, inr, Bool, true, false, List, [], ◌∷◌, ◌++◌, refl, sym}
-use Rattle.std.proofs.Common.{ap, ◌∙◌, subst, arith, ⊎_elim}
-use Rattle.std.specs.Prelude.{if◌then◌else◌, nat_lt}
+use Rattle.std.proofs.Common.{ap, ◌∙◌, ◌≤◌, subst, arith, ⊎_elim, append_assoc}
+use Rattle.std.specs.Prelude.{if◌then◌else◌, nat_lt, fold}
 use Rattle.std.specs.List.{list_any}
 use Rattle.std.proofs.lemmas.Bool.{cases_eq, cases_Bool}
 use Rattle.river_base.specs.Name.{name_eq}
+use Rattle.river_base.proofs.PlaceLemmas.{if_lt, if_ge}
 use Rattle.river_plan.specs.Forms.{Name}
 use Rattle.river_plan.specs.Names.{one_if, count, with_name}
 
@@ -106,3 +107,23 @@ pub new-next : (xs : List Name) (i : ℕ) (x : Name) (set set' : List Name) → 
     → set ≡ take i xs → set' ≡ take (i + 1) xs
 new-next xs i x set set' lt e z n h =
     n ∙ with_name-new set x z ∙ ap (λ l. l ++ x ∷ []) h ∙ ap (λ y. take i xs ++ y ∷ []) e ∙ sym (take_more xs i x lt)
+
+-- names that are there stay
+pub there_stays : (seen rs : List Name) → ((z : Name) → 0 < count z rs → 0 < count z seen) → fold with_name seen rs ≡ seen
+there_stays seen [] h = refl
+there_stays seen (r ∷ rs) h =
+    ap (λ s. fold with_name s rs) (if_lt 0 (count r seen) seen (seen ++ r ∷ []) (h r (let o = one_same r in omega (arith, o))))
+    ∙ there_stays seen rs (λ z lt. h z (omega (arith, lt)))
+
+-- and new ones come behind them
+pub all_new : (seen vs : List Name) → ((z : Name) → count z seen + count z vs ≤ 1) → fold with_name seen vs ≡ seen ++ vs
+all_new seen [] once = sym (append-nil seen)
+all_new seen (v ∷ vs) once =
+    ap (λ s. fold with_name s vs) (if_ge 0 (count v seen) seen (seen ++ v ∷ []) (let o = one_same v in let b = once v in omega (arith, o, b)))
+    ∙ all_new (seen ++ v ∷ []) vs (λ z. let c = count-append z seen (v ∷ []) in let b = once z in omega (arith, c, b))
+    ∙ append_assoc seen (v ∷ []) vs
+
+-- a name counts once at most at one place
+pub one_small : (b : Bool) → one_if b ≤ 1
+one_small true = omega arith
+one_small false = omega arith

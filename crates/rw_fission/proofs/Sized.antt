@@ -2,6 +2,7 @@
 use Rattle.std.proofs.Common.{◌≡◌, ◌<◌, List, [], ◌∷◌, ◌++◌, IsTrue, ap, ◌∙◌, arith}
 use Rattle.std.specs.Prelude.{All}
 use Rattle.std.proofs.lemmas.List.Elements.{All-append, All-nil, All-cons, All-head, All-tail}
+use Rattle.river_plan.proofs.DeclLemmas.{names_append}
 use Rattle.river_kernels.specs.Formed.{is_width}
 use Rattle.river_plan.specs.declared.plan.Decl.{Decl}
 use Rattle.river_plan.specs.Faults.{HasWidth, IsOuter, type_width}
@@ -9,7 +10,7 @@ use Rattle.river_plan.specs.Forms.{Name, PlanForm, decl_names, all_decls, queue_
 use Rattle.river_plan.specs.Kinds.{kind_of}
 use Rattle.river_plan.specs.Names.{count}
 use Rattle.river_plan.specs.Valid.{IsPlan}
-use Rattle.plan_edits.proofs.Lookups.{names_append, kind_sized}
+use Rattle.plan_edits.proofs.Lookups.{kind_sized}
 
 outer : (ds : List Decl) → All IsOuter ds → All HasWidth ds
 outer [] h = All-nil HasWidth

@@ -3,6 +3,7 @@ use Rattle.std.proofs.Common.{◌≡◌, ℕ, zero, suc, ◌+◌, ◌<◌, ◌�
 use Rattle.std.proofs.Common.{append_assoc, ⊎_elim}
 use Rattle.std.specs.Prelude.{unwrap_or, All, IsTrue}
 use Rattle.std.proofs.lemmas.List.Elements.{All-append, All-nil, All-cons, All-head, All-tail}
+use Rattle.river_plan.proofs.DeclLemmas.{names_append}
 use Rattle.rw_fission.proofs.WayLemmas.{one_at_most}
 use Rattle.brooklet_model.proofs.TypedPlan.{kind_front, kind_back}
 use Rattle.river_plan.proofs.ValidLaw.{total-append}
@@ -29,7 +30,7 @@ use Rattle.rw_fission.specs.Splits.{Splits, JoinerFits, given_types, given_names
 use Rattle.plan_edits.proofs.Surgery.{before_append, found}
 use Rattle.river_plan.proofs.ShareLemmas.{each_append}
 use Rattle.plan_edits.proofs.Swap.{Swap, swap_of, stay, sum_old, sum_new, it_is, together, reordered}
-use Rattle.plan_edits.proofs.Lookups.{names_append, map_agree, kind_sized, private_is, table_is}
+use Rattle.plan_edits.proofs.Lookups.{map_agree, kind_sized, private_is, table_is}
 use Rattle.rw_fission.proofs.Declared.{names_of_decls, kind_decls, count_each, map_each, decls_sized}
 
 -- REPLICAS AND JOINERS

@@ -4,6 +4,7 @@ use Rattle.std.proofs.Common.{◌∙◌, subst, arith, ⊎_elim}
 use Rattle.std.specs.Prelude.{Option, Result, Err, ◌||◌, nat_eq, nat_lt}
 use Rattle.std.proofs.lemmas.Bool.{ltb-true, ltb-false, eqb-true, eqb-false, or_parts}
 use Rattle.std.proofs.lemmas.Option.{same_Some, none-some}
+use Rattle.river_plan.proofs.DeclLemmas.{names_append}
 use Rattle.rw_local.proofs.FuseLemmas.{one_counted}
 use Rattle.river_plan.proofs.ValidLaw.{total-append}
 use Rattle.river_base.proofs.PlaceLemmas.{if_lt, if_ge}
@@ -21,7 +22,6 @@ use Rattle.plan_edits.specs.Judged.{rank, IsJudgedBy}
 use Rattle.plan_edits.specs.Lists.{first_with, place_of_name, undeclared}
 use Rattle.plan_edits.proofs.Edit.{Cut, cut_of, replaced_is}
 use Rattle.plan_edits.proofs.Judging.{rank_most, judged_law, by_if}
-use Rattle.plan_edits.proofs.Lookups.{names_append}
 use Rattle.plan_edits.proofs.Surgery.{first_past}
 use Rattle.rw_local.specs.Fuse.{fused_op, fused_plan, share, is_large, fuse_two, fuse_found, fuse_of}
 use Rattle.rw_local.specs.Fusion.{Feeds, IsBothAsOne, FuseFails, IsFused, FusionIsJudged}

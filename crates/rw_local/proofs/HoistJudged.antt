@@ -5,6 +5,7 @@ use Rattle.std.specs.Prelude.{Option, Result, Ok, Err, nat_eq, slice_get}
 use Rattle.std.proofs.lemmas.Bool.{eqb-true, eqb-false, cases_Bool}
 use Rattle.std.proofs.lemmas.List.{length-map}
 use Rattle.std.proofs.lemmas.Option.{same_Some, none-some}
+use Rattle.river_plan.proofs.DeclLemmas.{names_append}
 use Rattle.river_base.proofs.Options.{ok_same}
 use Rattle.river_base.proofs.Lists.{alone_same, got_mid}
 use Rattle.rw_local.proofs.FuseLemmas.{one_counted}
@@ -30,7 +31,6 @@ use Rattle.plan_edits.specs.Judged.{rank, IsJudgedBy}
 use Rattle.plan_edits.specs.Lists.{first_with, replaced, retyped}
 use Rattle.plan_edits.proofs.Edit.{cut_of, replaced_is}
 use Rattle.plan_edits.proofs.Judging.{rank_most, judged_law, by_if}
-use Rattle.plan_edits.proofs.Lookups.{names_append}
 use Rattle.plan_edits.proofs.Surgery.{first_past, found}
 use Rattle.rw_local.specs.Fusion.{Feeds}
 use Rattle.rw_local.specs.Hoist.{first_width, passes, raised, lowered, hoisted_plan, hoist_at, hoist_passed, hoist_past, hoist_between}

@@ -4,6 +4,7 @@ use Rattle.std.proofs.Common.{Ok, Err, refl, sym, ap, ◌∙◌, subst, arith, a
 use Rattle.std.specs.Prelude.{if◌then◌else◌, slice_get, slice_index_or, slice_set}
 use Rattle.std.specs.Ordering.{int_eq}
 use Rattle.std.proofs.lemmas.List.{append-nil, get_or-set_same, get_or-set_other}
+use Rattle.brooklet_model.proofs.Lists.{at_here, at_other}
 use Rattle.river_base.proofs.Options.{none_some}
 use Rattle.river_base.specs.Name.{name_eq}
 use Rattle.river_base.specs.Number.{negate}
@@ -54,12 +55,6 @@ if_both false r y e h = absurd (cc h)
 pub demanded : (b : Bool) (e : Fault) (u : Unit {0}) → demand b e ≡ fine u → b ≡ true
 demanded true e u h = refl
 demanded false e u h = absurd (cc h)
-
-at_here : (n m : Name) (z : ℤ) (env : Values) → name_eq n m ≡ true → at_name n z env m ≡ z
-at_here n m z env e = ap (λ b. if b then z else env m) e
-
-at_other : (n m : Name) (z : ℤ) (env : Values) → name_eq n m ≡ false → at_name n z env m ≡ env m
-at_other n m z env e = ap (λ b. if b then z else env m) e
 
 -- a name is found where it stands first
 pub found_here : (n m : Name) (b : KnownName) (sc : Scope) → name_eq n m ≡ true → find ((n, b) ∷ sc) m ≡ Some b

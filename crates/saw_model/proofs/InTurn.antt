@@ -1,15 +1,14 @@
 -- Queues and tables are declared in the order in which the operators first use them.
-use Rattle.std.proofs.Common.{◌≡◌, ◌+◌, ◌<◌, ◌≤◌, List, [], ◌∷◌, ◌++◌, map, refl, sym, ap, ◌∙◌, arith, append_assoc, append-nil}
+use Rattle.std.proofs.Common.{◌≡◌, ◌+◌, List, [], ◌∷◌, ◌++◌, map, refl, sym, ap, ◌∙◌, arith, append-nil}
 use Rattle.std.specs.Prelude.{fold, codes}
 use Rattle.std.proofs.lemmas.List.Sums.{fold-append}
-use Rattle.river_base.proofs.PlaceLemmas.{if_lt, if_ge}
 use Rattle.work_code.specs.Steps.{Steps}
 use Rattle.river_plan.specs.declared.plan.TableDecl.{TableDecl}
 use Rattle.river_plan.specs.Forms.{Name, decl_names, table_names}
 use Rattle.river_plan.specs.InTurn.{mentioned}
-use Rattle.river_plan.specs.Names.{count, with_name}
+use Rattle.river_plan.specs.Names.{with_name}
 use Rattle.river_plan.specs.Uses.{all_vars}
-use Rattle.river_plan.proofs.NameLemmas.{count-append, one_same}
+use Rattle.river_plan.proofs.NameLemmas.{count-append, there_stays, all_new}
 use Rattle.saw_model.specs.Elaborate.{At, nothing_read}
 use Rattle.saw_model.specs.InTurn.{PlansInTurn}
 use Rattle.saw_model.specs.Plan.{queue_name, queues_of, queue_decls, tally_op}
@@ -19,21 +18,6 @@ use Rattle.saw_model.proofs.Elaborated.{fine}
 use Rattle.saw_model.proofs.Parts.{parts_read, reads_parts, tables_once}
 use Rattle.saw_model.proofs.Suffixed.{AreOnce}
 use Rattle.saw_model.proofs.Valid.{names_of, in_and_queues}
-
--- names that are there stay
-there_stays : (seen rs : List Name) → ((z : Name) → 0 < count z rs → 0 < count z seen) → fold with_name seen rs ≡ seen
-there_stays seen [] h = refl
-there_stays seen (r ∷ rs) h =
-    ap (λ s. fold with_name s rs) (if_lt 0 (count r seen) seen (seen ++ r ∷ []) (h r (let o = one_same r in omega (arith, o))))
-    ∙ there_stays seen rs (λ z lt. h z (omega (arith, lt)))
-
--- names that are used once
-all_new : (seen vs : List Name) → ((z : Name) → count z seen + count z vs ≤ 1) → fold with_name seen vs ≡ seen ++ vs
-all_new seen [] once = sym (append-nil seen)
-all_new seen (v ∷ vs) once =
-    ap (λ s. fold with_name s vs) (if_ge 0 (count v seen) seen (seen ++ v ∷ []) (let o = one_same v in let b = once v in omega (arith, o, b)))
-    ∙ all_new (seen ++ v ∷ []) vs (λ z. let c = count-append z seen (v ∷ []) in let b = once z in omega (arith, c, b))
-    ∙ append_assoc seen (v ∷ []) vs
 
 -- what the tallies name and use
 tallies_name : (ts : List TableDecl) → mentioned (map tally_op ts) ≡ queues_of ts

@@ -6,6 +6,7 @@ use Rattle.std.proofs.lemmas.Bool.{and_parts, eqb-true}
 use Rattle.std.proofs.lemmas.List.{append-nil, map-append, get_or-set_same, get_or-set_other}
 use Rattle.std.specs.Ordering.{int_eq}
 use Rattle.std.proofs.lemmas.Option.{same_Some}
+use Rattle.brooklet_model.proofs.Lists.{at_here, at_other}
 use Rattle.river_base.proofs.Options.{none_some}
 use Rattle.river_base.specs.Name.{name_eq}
 use Rattle.river_base.specs.Number.{count_of, negate}
@@ -51,14 +52,6 @@ if_ok false x y e h = absurd (cc h)
 -- what was demanded holds
 pub demanded : (b : Bool) (e : Fault) (u : Unit {0}) → demand b e ≡ fine u → b ≡ true
 demanded b e u h = (if_ok b tt u e h).0
-
--- the value of a name that was set
-pub at_here : (n m : Name) (z : ℤ) (env : Values) → name_eq n m ≡ true → at_name n z env m ≡ z
-at_here n m z env e = ap (λ b. if b then z else env m) e
-
--- and of another name
-pub at_other : (n m : Name) (z : ℤ) (env : Values) → name_eq n m ≡ false → at_name n z env m ≡ env m
-at_other n m z env e = ap (λ b. if b then z else env m) e
 
 -- the newest name is found
 pub found_here : (n m : Name) (b : KnownName) (sc : Scope) → name_eq n m ≡ true → find ((n, b) ∷ sc) m ≡ Some b

@@ -6,6 +6,7 @@ use Rattle.std.proofs.lemmas.Bool.{and_parts, leb-true, eqb-true}
 use Rattle.std.proofs.lemmas.List.{length-replicate}
 use Rattle.std.proofs.Math.Nat.{le_refl}
 use Rattle.std.proofs.lemmas.Option.{same_Some}
+use Rattle.brooklet_model.proofs.Lists.{at_here, at_other}
 use Rattle.work_code.specs.Steps.{Steps}
 use Rattle.work_code.specs.Ran.{ran}
 use Rattle.kern_rows.specs.Forms.{FilterForm, RunForm}
@@ -23,7 +24,7 @@ use Rattle.streamit_text.specs.Program.{WorkTree, FilterTree}
 use Rattle.streamit_model.specs.ElaborateFilter.{read_field, read_fields, nothing_read, starts_of, elaborated_form, judged_rates, kept_rates, elaborated}
 use Rattle.streamit_model.specs.ElaborateFilter.{run_of, read_work, read_prework, slots_for, widened, widened_first}
 use Rattle.streamit_model.specs.UnrolledFilters.{firing, firings_from, filtered}
-use Rattle.streamit_model.proofs.Elaborated.{fine, ok_parts, ok_is, demanded, new_is, found_here, found_other, at_here, at_other, Holds, Agrees}
+use Rattle.streamit_model.proofs.Elaborated.{fine, ok_parts, ok_is, demanded, new_is, found_here, found_other, Holds, Agrees}
 use Rattle.streamit_model.proofs.Elaborated.{IsSound, Keeps, keeps_new, sound_var, steps_grow, steps_met}
 
 -- THE FIELDS

@@ -1,5 +1,5 @@
 -- Queues and variables are declared in the order in which the operators first use them.
-use Rattle.std.proofs.Common.{◌≡◌, ℕ, ◌+◌, ◌<◌, ◌≤◌, false, List, [], ◌∷◌, ◌++◌, refl, sym, ap, ◌∙◌, arith, ⊎_elim, append_assoc}
+use Rattle.std.proofs.Common.{◌≡◌, ℕ, ◌+◌, ◌<◌, ◌≤◌, false, List, [], ◌∷◌, ◌++◌, sym, ap, ◌∙◌, arith, ⊎_elim, append_assoc}
 use Rattle.std.specs.Prelude.{filter, fold, codes}
 use Rattle.std.proofs.lemmas.List.{append-nil}
 use Rattle.std.proofs.lemmas.List.Elements.{filter-append}
@@ -10,19 +10,12 @@ use Rattle.river_plan.specs.Forms.{Name, OpForm}
 use Rattle.river_plan.specs.InTurn.{mentioned}
 use Rattle.river_plan.specs.Names.{one_if, count, with_name}
 use Rattle.river_plan.specs.Uses.{total, writes_it, and_writes, ReadsBefore, all_writes, all_vars}
-use Rattle.river_plan.proofs.NameLemmas.{cases_name, count-append, one_same, more_or_zero}
+use Rattle.river_plan.proofs.NameLemmas.{cases_name, count-append, one_same, more_or_zero, there_stays, all_new}
 use Rattle.river_plan.proofs.ShareLemmas.{total-vars}
 use Rattle.streamit_model.specs.Build.{is_own_queue, own_queues, ops_from}
 use Rattle.streamit_model.specs.Laws.{PlansInTurn}
 use Rattle.streamit_model.proofs.OwnQueues.{kept, left, is-out, no-out, own_other}
 use Rattle.streamit_model.proofs.Valid.{valid, names_of}
-
--- names that stand there already
-there_stays : (seen rs : List Name) → ((z : Name) → 0 < count z rs → 0 < count z seen) → fold with_name seen rs ≡ seen
-there_stays seen [] h = refl
-there_stays seen (r ∷ rs) h =
-    ap (λ s. fold with_name s rs) (if_lt 0 (count r seen) seen (seen ++ r ∷ []) (h r (let o = one_same r in omega (arith, o))))
-    ∙ there_stays seen rs (λ z lt. h z (omega (arith, lt)))
 
 -- names of which only the output stands there already
 news : (seen ws : List Name) → 0 < count (codes "out") seen → ((z : Name) → name_eq (codes "out") z ≡ false → count z seen + count z ws ≤ 1)
@@ -67,14 +60,6 @@ first_named seen known (o ∷ os) r k h once =
     (λ z n. let e = count-append z seen new in let m = own_other z o.writes n in let b = once z n in omega (arith, e, m, b))
     ∙ append_assoc seen new (own_queues os)
     ∙ ap (λ l. seen ++ l) (sym (filter-append is_own_queue o.writes (all_writes os)))
-
--- names that are used once
-all_new : (seen vs : List Name) → ((z : Name) → count z seen + count z vs ≤ 1) → fold with_name seen vs ≡ seen ++ vs
-all_new seen [] once = sym (append-nil seen)
-all_new seen (v ∷ vs) once =
-    ap (λ s. fold with_name s vs) (if_ge 0 (count v seen) seen (seen ++ v ∷ []) (let o = one_same v in let b = once v in omega (arith, o, b)))
-    ∙ all_new (seen ++ v ∷ []) vs (λ z. let c = count-append z seen (v ∷ []) in let b = once z in omega (arith, c, b))
-    ∙ append_assoc seen (v ∷ []) vs
 
 pub plans_in_turn : PlansInTurn
 plans_in_turn s ok small few =

@@ -1,5 +1,5 @@
 -- Numbered names: a name says its number, so that names with different numbers differ.
-use Rattle.std.proofs.Common.{◌≡◌, ℕ, zero, suc, ◌+◌, ◌-◌, ◌*◌, ◌%◌, ◌^◌, ◌<◌, ◌≤◌, Bool, true, false, List, [], ◌∷◌, ◌++◌, refl, sym, ap, ◌∙◌, arith}
+use Rattle.std.proofs.Common.{◌≡◌, ℕ, zero, suc, ◌+◌, ◌-◌, ◌*◌, ◌%◌, ◌^◌, ◌<◌, ◌≤◌, true, false, List, [], ◌∷◌, ◌++◌, refl, sym, ap, ◌∙◌, arith}
 use Rattle.std.proofs.Common.{nat_eq, ⊎_elim}
 use Rattle.std.specs.Prelude.{codes, if◌then◌else◌}
 use Rattle.std.specs.Fmt.{decimal}
@@ -10,7 +10,7 @@ use Rattle.river_base.proofs.PlaceLemmas.{if_eq, if_ne}
 use Rattle.river_base.specs.Name.{name_eq}
 use Rattle.river_plan.specs.Forms.{Name}
 use Rattle.river_plan.specs.Names.{one_if, count}
-use Rattle.river_plan.proofs.NameLemmas.{cases_name}
+use Rattle.river_plan.proofs.NameLemmas.{cases_name, one_small}
 use Rattle.streamit_model.specs.Build.{numbered, queue, queues}
 use Rattle.streamit_model.specs.Meaning.{numbers_from}
 
@@ -22,10 +22,6 @@ said n (c ∷ cs) = if nat_eq c 64 then said 0 cs else said (n * 10 + (c - 48)) 
 -- the number behind the last `@` of a name
 abbrev pub number_in : List ℕ → ℕ
 number_in text = said 0 text
-
-one_small : (b : Bool) → one_if b ≤ 1
-one_small true = omega arith
-one_small false = omega arith
 
 said_at : (n : ℕ) (name ds : List ℕ) → said n (name ++ 64 ∷ ds) ≡ said 0 ds
 said_at n [] ds = refl

@@ -1,5 +1,6 @@
 -- Where the reading of a filter stands, against the words before: names, slots, pops, pushes and statements.
 use Rattle.std.proofs.Common.{◌≡◌, ℕ, suc, ℤ, pos, ◌+◌, List, [], ◌∷◌, ◌++◌, Option, Some, None, refl, sym, ap, ◌∙◌, subst, arith, ⊎_elim, map}
+use Rattle.brooklet_model.proofs.Lists.{at_here, at_other}
 use Rattle.river_plan.specs.Forms.{Name}
 use Rattle.river_plan.specs.Names.{one_if}
 use Rattle.river_plan.proofs.NameLemmas.{cases_name}
@@ -8,7 +9,7 @@ use Rattle.streamit_model.specs.Meaning.{Values}
 use Rattle.streamit_model.specs.Elaborate.{KnownName, Var, Turn, Scope, find, At}
 use Rattle.streamit_model.specs.Words.{ReadWord, Knows, Leaves, Enters, over, knows, leaves, enters, exits, takes, begins_one, pops_one, pushes_one, pops_beside}
 use Rattle.streamit_model.specs.Words.{pushes_beside, IsKnown, popped_in, pushed_in}
-use Rattle.streamit_model.proofs.Elaborated.{at_here, at_other, found_here, found_other}
+use Rattle.streamit_model.proofs.Elaborated.{found_here, found_other}
 
 -- a sum over words one behind the other
 pub over-append : (f : ReadWord → ℕ) (xs ys : List ReadWord) → over f (xs ++ ys) ≡ over f xs + over f ys
