@@ -1,5 +1,5 @@
 -- Rows as bags: what does not see the order of rows.
-use Rattle.std.proofs.Common.{◌≡◌, ℕ, ◌+◌, ℤ, List, [], ◌∷◌, ◌++◌, refl, sym, ap, ◌∙◌, arith, Bool, true, false, cond, map, filter}
+use Rattle.std.proofs.Common.{◌≡◌, ℕ, ◌+◌, ℤ, List, [], ◌∷◌, ◌++◌, refl, sym, ◌∙◌, arith, Bool, cond, map, filter}
 use Rattle.std.specs.Prelude.{All, sum_by}
 use Rattle.std.specs.List.{flat_map}
 use Rattle.std.specs.List.Sorted.{IsSorted}
@@ -11,11 +11,6 @@ use Rattle.river_base.specs.Row.{row_cmp, row_eq, in_order}
 use Rattle.river_base.proofs.Rows.{rows_ranked, in_order_ascends, in_order_sorted}
 use Rattle.kern_bags.specs.Contents.{difference, product, without}
 use Rattle.kern_changes.proofs.Copies.{sum-cong, copies-in_order, copies-without}
-
-  step : (b : Bool) → p x ≡ b → sum_by f (filter p xs) ≡ sum_by (λ y. cond (p y) (f y) 0) xs
-      → sum_by f (cond b (x ∷ filter p xs) (filter p xs)) ≡ cond (p x) (f x) 0 + sum_by (λ y. cond (p y) (f y) 0) xs
-  step true e h = sum_by-cons f x (filter p xs) ∙ ap (λ n. f x + n) h ∙ ap (λ b. cond b (f x) 0 + sum_by (λ y. cond (p y) (f y) 0) xs) (sym e)
-  step false e h = h ∙ nothing (sum_by (λ y. cond (p y) (f y) 0) xs) ∙ ap (λ b. cond b (f x) 0 + sum_by (λ y. cond (p y) (f y) 0) xs) (sym e)
 
 -- the same sums over the elements that are there
 pub sum-on : {K : Type 0} (P : K → Type 0) (f g : K → ℕ) (xs : List K) → All P xs → ((x : K) → P x → f x ≡ g x) → sum_by f xs ≡ sum_by g xs

@@ -176,7 +176,7 @@ module _ (v u w : View) (classes : List ℕ) (pile pile' : List Piled) (more : �
       ∙ own-append v.seats k c v.claims (gained (pile_grown more (reverse pile)) u.held)
       ∙ ap (λ (l : List LogEntry). own v.seats k c v.claims ++ l)
       (subst (λ (m : ℕ). own m k c (gained (pile_grown more (reverse pile)) u.held) ≡ part m k (more c)) seats at)
-    where
+
   -- what holds of the entries, and of the claims before, holds of all claims
   pub claims_all : (P : ℕ → LogEntry → Type 0) → ((c : ℕ) → All (P c) (more c)) → All (λ (q : Claim). P q.class q.entry) v.claims
       → All (λ (q : Claim). P q.class q.entry) w.claims

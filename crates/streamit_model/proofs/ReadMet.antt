@@ -150,10 +150,9 @@ module _ (above : List Declared) (e : ℕ) where
       (λ t.
       let lt = leb-false m 65536 t in
       inl (first_limit above spot (λ b. let n = pos_is m b.0 b.1 in let c = b.2 in omega (arith, lt, n, c)) (λ h. h) (λ h. h) (λ h. h) (λ h. h) (λ i r h. h)))
-    where
   bounds_at before ws s turns (negsuc m) g Q h k =
       inl (first_limit above (Reads e before (Bounds (negsuc m))) (λ b. negative m b.0 b.1) (λ h. h) (λ h. h) (λ h. h) (λ h. h) (λ i r h. h))
-    where
+
   -- WHAT WAS READ
 
   -- behind these words, and no pop or push is taken back
