@@ -6,6 +6,7 @@ use Rattle.std.proofs.lemmas.Bool.{cases_eq, cases_lt}
 use Rattle.std.proofs.lemmas.List.{append-nil, length-replicate, length-map}
 use Rattle.std.proofs.lemmas.List.Elements.{All-cons, All-nil, All-append, All-weaker}
 use Rattle.std.proofs.lemmas.Option.{same_Some}
+use Rattle.kern_rows.proofs.JoinLaws.{held_from-append}
 use Rattle.river_base.proofs.Lists.{alone_same}
 use Rattle.river_base.specs.declared.item.Flat as flat
 use Rattle.river_base.specs.declared.item.Flat.TheVariants.{One, Batch as Batched, Change as Changed}
@@ -18,7 +19,7 @@ use Rattle.river_base.specs.declared.kind.QueueType.TheVariants.{Flat as FlatOf,
 use Rattle.river_base.specs.Held.{held, held_from, held_item, content_from, HasType, HasFlatType, IsHeld, IsPlain, IsRelation, items_of}
 use Rattle.river_base.specs.Number.{count_of}
 use Rattle.river_base.specs.Places.{each_grew, append_at, list_at, only, none}
-use Rattle.river_base.proofs.HeldLemmas.{held-relation, held-packs, content-append, from-append}
+use Rattle.river_base.proofs.HeldLemmas.{held-relation, held-packs, content-append}
 use Rattle.river_base.proofs.PlaceLemmas.{each_grew_cong, length-append_at, list_past, append_here, append_else, blank_at}
 use Rattle.kern_rows.specs.Joined as joined
 use Rattle.kern_rows.specs.Joined.{JoinKept, join_start, put_item, HasJoinShape, IsUnchanged, PassesOpened, AreOpened, StandsForJoining, JoinedItems, JoinsItems}
@@ -283,7 +284,7 @@ module _ (k : Kern) (wl : List ℕ) (give : item.Item → List item.Item) (m : �
           append_here old.turns.lists port (i ∷ []) (subst (λ n. port < n) (many ∙ sym shape_is.joined.lists) port_below)
           ∙ ap (λ l. l ++ i ∷ []) (ja.stands.lines port here)
           ∙ ap (λ (y : item.Item). held_from (c.now port) line ++ y ∷ []) (item_is ∙ ap (λ b. held_item b x) (sym content_is))
-          ∙ sym (from-append (c.now port) line (x ∷ []))
+          ∙ sym (held_from-append (c.now port) line (x ∷ []))
           ∙ ap (held_from (c.now port)) (sym (append_here c.turns.lists port (x ∷ []) here))
 
       stands_now : StandsForJoining (put_item port i old) waiting_now
