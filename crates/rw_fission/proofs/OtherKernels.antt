@@ -1,6 +1,5 @@
 -- Kernels that are no filters are not split by blocks, and the kernels of joiners.
 use Rattle.std.proofs.Common.{◌≡◌, ℕ, None, refl, ap}
-use Rattle.river_kernels.proofs.KernLemmas.{kern_of-unpack, kern_of-collect}
 use Rattle.kern_rows.specs.declared.kernel.Filter.{Filter}
 use Rattle.river_kernels.specs.declared.kernel.Kernel.{Kernel, fold_out-Kernel}
 use Rattle.river_kernels.specs.declared.kernel.Kernel as view
@@ -16,9 +15,3 @@ pub no_blocks : (k : Kernel) → ((f : Filter) → k ≡ kernel.Filter f → ⊥
 unfolding view.out-Kernel denote.Hole.Carrier.out
 no_blocks (kernel.Filter f) h p op m n = absurd (h f refl)
 no_blocks k h p op m n = ap (blocks_way p op m n) (fold_out-Kernel Kern kern_at k)
-
-unfolding view.out-Kernel denote.Hole.Carrier.out
-kern_of-unpack n = fold_out-Kernel Kern kern_at (kernel.Unpack n)
-
-unfolding view.out-Kernel denote.Hole.Carrier.out
-kern_of-collect ws = fold_out-Kernel Kern kern_at (kernel.Collect ws)
