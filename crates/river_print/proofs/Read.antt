@@ -3,7 +3,7 @@ use Rattle.std.proofs.Common.{◌≡◌, ℕ, zero, suc, ◌≤◌, ℤ, pos, Bo
 use Rattle.std.specs.Prelude.{neg_ℤ, codes}
 use Rattle.std.specs.List.{AllByRecursion}
 use Rattle.std.specs.Str.{bytes_eq}
-use Rattle.river_base.proofs.NumberLemmas.{at_most}
+use Rattle.river_base.proofs.Tests.{le_by}
 use Rattle.work_text.specs.Tok.{Tok}
 use Rattle.work_code.specs.Term.{Term}
 use Rattle.work_code.specs.Steps.{Step, Steps, If, in_turn}
@@ -108,10 +108,10 @@ gives-enclosed left right f (suc n) = record { give = λ v ts h. let g = gives-a
 -- NUMBERS
 
 count : Gives form.Count w.IsCount
-count = gives-tested is_count form.Number w.IsCount (λ n h. let a = at_most n 4294967295 h in omega (arith, a))
+count = gives-tested is_count form.Number w.IsCount (λ n h. let a = le_by n 4294967295 h in omega (arith, a))
 
 value : Gives form.Value w.IsNatural
-value = record { give = λ v ts h. subst w.IsNatural (sym h.is) (h.number, refl, at_most h.number 9223372036854775807 h.fits) }
+value = record { give = λ v ts h. subst w.IsNatural (sym h.is) (h.number, refl, le_by h.number 9223372036854775807 h.fits) }
 
 start-natural : (z : ℤ) → w.IsNatural z → w.IsWritableStart z
 start-natural z h = subst w.IsWritableStart (sym h.1) h.2
@@ -140,9 +140,9 @@ starts n = gives-enclosed _ _ (λ m. gives-listing signed) n
 -- EXPRESSIONS
 
 leaf-ranged : (n : ℕ) (t : Term) (ts : List Tok) → rule.IsLeaf n t ts → ranges.IsRangedTerm t
-leaf-ranged n t ts (rule.number m v fits) = at_most v 9223372036854775807 fits
-leaf-ranged n t ts (rule.input m i fits) = let a = at_most i 4294967295 fits in omega (arith, a)
-leaf-ranged n t ts (rule.slot m i fits) = let a = at_most i 4294967295 fits in omega (arith, a)
+leaf-ranged n t ts (rule.number m v fits) = le_by v 9223372036854775807 fits
+leaf-ranged n t ts (rule.input m i fits) = let a = le_by i 4294967295 fits in omega (arith, a)
+leaf-ranged n t ts (rule.slot m i fits) = let a = le_by i 4294967295 fits in omega (arith, a)
 
 marked-ranged : (p : Sign) (t : Term) → ranges.IsRangedTerm t → ranges.IsRangedTerm (rule.marked p t)
 marked-ranged sign.Neg t h = h

@@ -5,8 +5,7 @@ use Rattle.std.specs.List.{list_all}
 use Rattle.std.proofs.lemmas.Bool.{and_parts, true≢false}
 use Rattle.std.proofs.lemmas.Bool.Decides.{nat_tests}
 use Rattle.std.proofs.lemmas.List.Elements.{All-head, All-tail}
-use Rattle.river_base.proofs.Tests.{eq_by}
-use Rattle.river_base.proofs.NumberLemmas.{at_most}
+use Rattle.river_base.proofs.Tests.{eq_by, le_by}
 use Rattle.work_code.specs.Term.{Term, Const, Input, Slot, Neg, Not, Bin, depth_of}
 use Rattle.work_code.specs.Steps.{Step, Steps, Set, Push, If, Done, Then}
 use Rattle.kern_rows.specs.Forms.{CodeForm, FilterForm, RunForm}
@@ -45,7 +44,7 @@ spoken i s (Not t) h k = spoken i s t h k
 spoken i s (Bin o l m) h k = let a = and_parts (is_sound i s l) (is_sound i s m) h in (spoken i s l a.0 k.0, spoken i s m a.1 k.1)
 
 term : (inputs slots : ℕ) (t : Term) → is_term inputs slots t ≡ true → ranges.IsRangedTerm t → w.IsWritableTerm t
-term i s t h k = let a = and_parts (is_sound i s t) (nat_le (depth_of t) 64) h in (spoken i s t a.0 k, at_most (depth_of t) 64 a.1)
+term i s t h k = let a = and_parts (is_sound i s t) (nat_le (depth_of t) 64) h in (spoken i s t a.0 k, le_by (depth_of t) 64 a.1)
 
 terms : (inputs slots : ℕ) (ts : List Term) → list_all (is_term inputs slots) ts ≡ true → w.Every ranges.IsRangedTerm ts → w.Every w.IsWritableTerm ts
 terms i s [] h k = tt
@@ -62,7 +61,7 @@ some_values : (outs : List ℤ) (port n : ℕ) → are_widths outs ≡ true → 
 some_values outs port n h k = of_port (slice_get outs port) (there outs port h) k
   where
     wide : (z : ℤ) → is_width (count_of z) ≡ true → 0 < count_of z
-    wide z h = let a = and_parts (nat_le 1 (count_of z)) (nat_le (count_of z) 16) h in let b = at_most 1 (count_of z) a.0 in omega (arith, b)
+    wide z h = let a = and_parts (nat_le 1 (count_of z)) (nat_le (count_of z) 16) h in let b = le_by 1 (count_of z) a.0 in omega (arith, b)
 
     there : (zs : List ℤ) (port : ℕ) → are_widths zs ≡ true → IsWide (slice_get zs port)
     there [] port h = tt
@@ -94,7 +93,7 @@ mutual
 -- WIDTHS AND WEIGHTS
 
 width : (z : ℤ) → is_width (count_of z) ≡ true → w.IsWidth z
-width (pos n) h = let a = and_parts (nat_le 1 n) (nat_le n 16) h in let b = at_most n 16 a.1 in (n, refl, omega (arith, b))
+width (pos n) h = let a = and_parts (nat_le 1 n) (nat_le n 16) h in let b = le_by n 16 a.1 in (n, refl, omega (arith, b))
 width (negsuc n) h = absurd (true≢false (sym h))
 
 widths : (zs : List ℤ) → are_widths zs ≡ true → w.Every w.IsWidth zs
@@ -111,7 +110,7 @@ each_weight (z ∷ zs) h k = let a = and_parts (nat_le 1 (count_of z)) (list_all
 
 weights : (zs : List ℤ) → are_weights zs ≡ true → w.Every w.IsWritableStart zs → (0 < length zs) × w.Every w.IsNatural zs
 weights zs h k =
-    let a = and_parts (nat_le 1 (length zs)) (list_all (λ z. nat_le 1 (count_of z)) zs) h in let b = at_most 1 (length zs) a.0 in
+    let a = and_parts (nat_le 1 (length zs)) (list_all (λ z. nat_le 1 (count_of z)) zs) h in let b = le_by 1 (length zs) a.0 in
     (omega (arith, b), each_weight zs a.1 k)
 
 -- KERNELS
@@ -178,7 +177,7 @@ kernel (kern.select e) is os vs f k s d =
 kernel (kern.project es) is os vs f k s d =
     let a = and_parts (is_width f.0) (is_width (length es) && list_all (is_term f.0 0) es) f.4 in
     let b = and_parts (is_width (length es)) (list_all (is_term f.0 0) es) a.1 in
-    let c = at_most 1 (length es) (and_parts (nat_le 1 (length es)) (nat_le (length es) 16) b.0).0 in
+    let c = le_by 1 (length es) (and_parts (nat_le 1 (length es)) (nat_le (length es) 16) b.0).0 in
     (omega (arith, c), terms f.0 0 es b.1 k)
 kernel (kern.fused a b at) is os vs f k s d = (k.2, kernel a is f.0 f.3 f.5 k.0 s.0 d.0, kernel b (f.1 ∷ []) f.2 f.4 f.7 k.1 s.1 d.1)
 kernel other is os vs f k s d = k

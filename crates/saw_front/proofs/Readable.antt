@@ -5,7 +5,7 @@ use Rattle.std.proofs.lemmas.Bool.Decides.{nat_tests}
 use Rattle.std.specs.Prelude.{◌&&◌, codes, length, nat_le}
 use Rattle.std.specs.List.{AllByRecursion}
 use Rattle.std.specs.Str.{bytes_eq}
-use Rattle.river_base.proofs.NumberLemmas.{at_most}
+use Rattle.river_base.proofs.Tests.{le_by}
 use Rattle.river_base.specs.Name.{is_name}
 use Rattle.work_text.specs.Tok.{Tok}
 use Rattle.work_text.specs.declared.sign.Symbol.TheVariants as s
@@ -135,7 +135,7 @@ user-short : (w : List ℕ) → is_user w ≡ true → length w ≤ 40
 unfolding is_plain
 user-short w h = by (nat_le (length w) 40) _ refl (and_parts (is_plain w) (is_name w) h).0 where
   by : (b c : Bool) → nat_le (length w) 40 ≡ b → (b && c) ≡ true → length w ≤ 40
-  by true c e g = at_most (length w) 40 e
+  by true c e g = le_by (length w) 40 e
   by false c e g = cc
 
 typed-fine : (name : List ℕ) (n : ℕ) (w : List ℕ) (u : UnitForm) (ts : List Tok) → length name ≤ 40 → TypedAfter name n w u ts → IsFinePart u
