@@ -3,7 +3,7 @@ use Rattle.std.proofs.Common.{◌≡◌, ◌≢◌, ℕ, zero, suc, ◌+◌, ◌
 use Rattle.std.specs.Prelude.{All, slice_get, slice_index_or, IsFalse}
 use Rattle.std.proofs.lemmas.List.{append-nil}
 use Rattle.std.proofs.lemmas.Option.{same_Some}
-use Rattle.river_base.proofs.Lists.{there_is}
+use Rattle.river_base.proofs.Lists.{there_is, got_past, got_first, got_all}
 use mathlib.Core.Option.{some-injective}
 use lib.ListN.{get_elem?}
 use Rattle.river_plan.specs.Forms.{OpForm, PlanForm}
@@ -62,7 +62,7 @@ found_since cs v u w a f = record {
   place = f.place;
   wanted = f.wanted;
   at = length a.more + f.at;
-  found = past a.more f.more f.at ∙ f.found;
+  found = got_past a.more f.more f.at ∙ f.found;
 }
 
 pub found_still : (cs : List ℕ) (v u w : View) → FoundTaken cs v u → HasMoreTries u w → FoundTaken cs v w
@@ -73,7 +73,7 @@ found_still cs v u w f b = record {
   place = f.place;
   wanted = f.wanted;
   at = f.at;
-  found = before f.more b.more f.at (record { class = f.class; found = 1 }) f.found;
+  found = got_first f.more b.more f.at (record { class = f.class; found = 1 }) f.found;
 }
 
 -- so is a task that is stuck
@@ -178,7 +178,7 @@ cells_of p v u classes pile a t = record {
   named = t.named;
   kinds = λ i x g n d gd e.
       let y = a.each n d gd in
-      let l : IsLogged v x.0 x.1 = at_all (λ (z : Piled). IsLogged v z.0 z.1) pile i x g t.logged in
+      let l : IsLogged v x.0 x.1 = got_all (λ (z : Piled). IsLogged v z.0 z.1) pile i x t.logged g in
       let same : y.0 ≡ l.start = some-injective y.0 l.start (sym y.1 ∙ ap (get_elem? v.starts) e ∙ l.given) in
       subst (λ ks. HasKind ks n d.kind) (ap (λ (z : Holding). z.kinds) same ∙ sym l.kinds) y.2;
 }
