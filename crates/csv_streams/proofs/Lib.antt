@@ -1,7 +1,9 @@
 pub mod Ascents
 pub mod Faulty
+pub mod FilePieces
 pub mod Fields
 pub mod Numbered
+pub mod PrintedRead
 pub mod Records
 pub mod RowsIn
 pub mod SpreadOut

@@ -1,8 +1,10 @@
 pub mod FaultWords
 pub mod Faults
+pub mod FilePieces
 pub mod Number
 pub mod Numbered
 pub mod Outcome
+pub mod PrintedRead
 pub mod Records
 pub mod Rows
 pub mod SpreadOut

@@ -1,5 +1,7 @@
 //! Laws over the definitions alone.
 ghost use Rattle.csv_streams.specs.Faults.{FaultsAre};
+ghost use Rattle.csv_streams.specs.FilePieces.{RecordsInPieces, RowsInPieces};
+ghost use Rattle.csv_streams.specs.PrintedRead.{PrintedRowsAreRead};
 ghost use Rattle.csv_streams.specs.SpreadOut.{EachInstantHasABatch, NoRowIsLost};
 ghost use Rattle.csv_streams.specs.TimedWritten.{ReadTimedAreWritten, TimedFaultsAre, ReadTimedHaveWidth};
 ghost use Rattle.csv_streams.specs.Writing.{ReadIsWritten, WrittenIsRead};
@@ -57,4 +59,19 @@ pub fn timed_rows_that_are_read_have_the_width()
 pub fn no_row_is_lost()
     ensures batches { EachInstantHasABatch }
     ensures rows { NoRowIsLost }
+{}
+
+/// Rows that are printed, line by line, are read of these lines.
+pub fn printed_rows_are_read()
+    ensures { PrintedRowsAreRead }
+{}
+
+/// The records of a file that is cut behind a record are those of the first piece and then those of the other.
+pub fn records_in_pieces()
+    ensures { RecordsInPieces }
+{}
+
+/// So are its rows, where the first piece has the header.
+pub fn rows_in_pieces()
+    ensures { RowsInPieces }
 {}

@@ -1,5 +1,9 @@
+pub mod Again
+pub mod Apart
+pub mod Examples
 pub mod Keyed
 pub mod Meant
+pub mod Pieces
 pub mod Ranking
 pub mod Shortness
 pub mod Tabs

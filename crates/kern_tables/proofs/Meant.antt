@@ -164,7 +164,8 @@ none_over (suc n) (x ∷ xs) (More low r) =
     behind [] a = tt
     behind (y ∷ ys) a = (ahead x y a.0, behind ys a.1)
 
-sorted_take : (n : ℕ) (xs : List Ranked) → Rises xs → Rises (take n xs)
+-- the first of what rises rise
+pub sorted_take : (n : ℕ) (xs : List Ranked) → Rises xs → Rises (take n xs)
 sorted_take zero xs r = Empty
 sorted_take (suc n) [] r = Empty
 sorted_take (suc n) (x ∷ xs) (More low r) = More (keep n xs low) (sorted_take n xs r)

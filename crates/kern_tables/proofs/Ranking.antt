@@ -65,7 +65,8 @@ farther : (x z : Ranked) (zs : List Ranked) → ranks_before z x ≡ false → A
 farther x z [] h a = tt
 farther x z (w ∷ ws) h a = (ranked_weakly.chain w z x a.0 h, farther x z ws h a.1)
 
-place_rises : (x : Ranked) (zs : List Ranked) → Rises zs → Rises (put_in_order ranks_before x zs)
+-- and still when one more is put in its place
+pub place_rises : (x : Ranked) (zs : List Ranked) → Rises zs → Rises (put_in_order ranks_before x zs)
 place_rises x [] r = More tt Empty
 place_rises x (z ∷ zs) (More low r) = step (ranks_before z x) refl (place_rises x zs r) where
   step : (b : Bool) → ranks_before z x ≡ b → Rises (put_in_order ranks_before x zs) → Rises (put_in_order ranks_before x (z ∷ zs))

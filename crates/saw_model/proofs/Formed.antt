@@ -178,7 +178,8 @@ width_got [] p t h = absurd (cc h)
 width_got (u ∷ us) zero t h = ap (λ (x : TableDecl). Some (pos (table_width x.kind))) (same_Some u t h)
 width_got (u ∷ us) (suc p) t h = width_got us p t h
 
-indexes_many : (sc : Scope) (n : ℕ) (ts : List Expression) (us : List Term) → indexes_of sc n ts ≡ Ok us → length us ≡ length ts
+-- as many terms as indexes
+pub indexes_many : (sc : Scope) (n : ℕ) (ts : List Expression) (us : List Term) → indexes_of sc n ts ≡ Ok us → length us ≡ length ts
 indexes_many sc n [] us h = ap length (sym (ok_is [] us h))
 indexes_many sc n (t ∷ ts) us h =
     let c = if_ok (nat_lt n 8) (on_ok (term_of sc t) (λ u. on_ok (indexes_of sc (n + 1) ts) (λ us. Ok (u ∷ us)))) us Limit h in
@@ -187,7 +188,7 @@ indexes_many sc n (t ∷ ts) us h =
     ap length (sym (ok_is (p.0 ∷ q.0) us q.2)) ∙ ap suc (indexes_many sc (n + 1) ts q.0 q.1)
 
 -- keys, a value and a weight, if there is one, are as many as the table is wide
-weight_many : (k : TableKind) (t : Option Expression) (sc : Scope) (us : List Term) → weight_of k t sc ≡ Ok us → keys_in k + suc (length us) ≡ table_width k
+pub weight_many : (k : TableKind) (t : Option Expression) (sc : Scope) (us : List Term) → weight_of k t sc ≡ Ok us → keys_in k + suc (length us) ≡ table_width k
 weight_many (Sum keys) None sc us h = let e = ap length (ok_is [] us h) in omega (arith, e)
 weight_many (Sum keys) (Some t) sc us h = absurd (cc h)
 weight_many (Collection keys) None sc us h = let e = ap length (ok_is [] us h) in omega (arith, e)
