@@ -12,10 +12,11 @@ ghost use Rattle.fire_run.specs.Rounds.{NetGoesOn, HasJoined, SomeMoved};
 
 use crate::{Bundles, Frame, Net, Ran, SplitFault};
 use brooklet_step::Lines;
-use fire_tasks::round_of;
+use fire_tasks::{BEGUN, round_of};
 use river_base::{Gate, NoMemory};
 use river_plan::{Caps, Plan, RawPlan};
 use std::alloc::Global;
+use std::sync::atomic::AtomicU64;
 use std::thread::Threads;
 
 /// How a round came out.
@@ -167,7 +168,15 @@ fn work_each<R: Threads + Sync, G: Gate + Sync>(
     requires workers { 0 < workers }
     ensures { HaveWorked raw.now bundles.old.items bundles.new.items }
 {
-    round_of(rt, raw, bundles.as_mut_slice(), workers as usize, gate);
+    let busy = AtomicU64::new((workers as u64).wrapping_mul(BEGUN + 1));
+    round_of(
+        rt,
+        raw,
+        bundles.as_mut_slice(),
+        workers as usize,
+        gate,
+        &busy,
+    );
 }
 
 // Whether one of the bundles was refused.

@@ -16,7 +16,7 @@ use Rattle.fire_tasks.specs.declared.bundle.Bundle.{Bundle}
 use Rattle.fire_tasks.specs.Ports.{AllReceived, HasMoved, known_of}
 use Rattle.fire_tasks.specs.Tasks.{TaskEnds, IsTaskAt, IsDone, ends_of, all_ends, moves, all_moves}
 use Rattle.fire_tasks.specs.Turns.{HasTurned, IsSeatOf, IsStuckSince, LooksSame, StillSits}
-use Rattle.fire_tasks.proofs.PassLemmas.{moved_second, moved_first, moved_false}
+use Rattle.fire_tasks.proofs.PassLemmas.{moved_true, moved_second, moved_first, moved_false}
 use Rattle.fire_tasks.proofs.PortLemmas.{ins_many}
 use Rattle.fire_tasks.proofs.TaskLemmas.{with_adds}
 use Rattle.fire_tasks.proofs.TurnLemmas.{round_then, sits_none, sits_then, stuck_since, stuck_still, tries_of, tries_then}
@@ -225,6 +225,47 @@ swept_then p v u w ts ts1 ts2 m a h = record {
   stuck = λ f. record { each = λ i d lt. stuck_since v u w (get_or ts2 i d) a.tries ((h.stuck f).each i d lt) };
   tries = tries_then v u w a.tries h.tries;
 }
+
+-- LOOKS AT WHICH SOMETHING MOVED
+
+-- something may have moved in the looks so far
+pub record Went (p : PlanForm) (v w : View) (ts ts' : List Task) : Type 0 where
+  pub tasks : AreTasksAt p w ts'
+  pub sits : StillSits v w
+  pub tries : HasMoreTries v w
+  pub same : all_ends ts' ≡ all_ends ts
+  pub grows : all_moves ts ≤ all_moves ts'
+
+-- before the first look
+pub went_none : (p : PlanForm) (v : View) (ts : List Task) → AreTasksAt p v ts → v.held ≡ [] → Went p v v ts ts
+went_none p v ts k h = record { tasks = k; sits = sits_none v h; tries = no_tries v; same = refl; grows = omega arith }
+
+-- one more
+pub went_on : (p : PlanForm) (v u w : View) (ts ts1 ts2 : List Task) (m : Bool) → Went p v u ts ts1 → StillSits u w → HasSwept p u w ts1 ts2 m
+    → Went p v w ts ts2
+went_on p v u w ts ts1 ts2 m a s h = record {
+  tasks = h.tasks;
+  sits = sits_then v u w a.sits s;
+  tries = tries_then v u w a.tries h.tries;
+  same = h.ends ∙ a.same;
+  grows = let g = a.grows in let n = h.number.never_falls in omega (arith, g, n);
+}
+
+-- after one at which something moved
+pub went_after : (p : PlanForm) (v u w : View) (ts ts1 ts2 : List Task) (m : Bool) → HasSwept p v u ts ts1 m → m ≡ true → Went p u w ts1 ts2
+    → HasSwept p v w ts ts2 true
+went_after p v u w ts ts1 ts2 m a e b = record {
+  tasks = b.tasks;
+  ends = b.same ∙ a.ends;
+  number = let g = b.grows in let n = a.number.grew e in moved_true (all_moves ts) (all_moves ts2) (omega (arith, g, n));
+  stuck = λ f. absurd (cc f);
+  tries = tries_then v u w a.tries b.tries;
+}
+
+-- nothing moved at the first look, and then came the others
+pub swept_both : (p : PlanForm) (v u w : View) (ts ts1 ts2 : List Task) (m n : Bool) → AreTasksAt p v ts → v.held ≡ [] → StillSits v u
+    → HasSwept p v u ts ts1 m → m ≡ false → HasSwept p u w ts1 ts2 n → HasSwept p v w ts ts2 n
+swept_both p v u w ts ts1 ts2 m n k r s h f x = swept_then p v u w ts ts1 ts2 n (swept_more p v v u ts ts ts1 m (swept_none p v ts k r) s h f) x
 
 -- LOOKS AT ALL TASKS
 

@@ -13,9 +13,9 @@ use Rattle.fire_tasks.specs.Fired.{kinds_out}
 use Rattle.fire_tasks.specs.declared.task.Task.{Task}
 use Rattle.fire_tasks.specs.declared.ports.Inlet as inlet
 use Rattle.fire_tasks.specs.declared.ports.Outlet as outlet
-use Rattle.fire_tasks.specs.Ports.{HasMoved, in_ends, out_ends, given_at, sent_of, sent_count, received_count, received_in, IsFull, IsHeldBack, RefusedAll, Sent, SentAt}
+use Rattle.fire_tasks.specs.Ports.{HasMoved, in_ends, out_ends, given_at, pending_in, sent_in, sent_of, sent_count, received_count, received_in, IsFull, IsHeldBack, RefusedAll, Sent, SentAt}
 use Rattle.fire_tasks.specs.Tasks.{IsTask, moves}
-use Rattle.fire_tasks.proofs.PortLemmas.{outs_many, ins_many, count_same, given_moved, given_only, sent_more, sent_none, set_back}
+use Rattle.fire_tasks.proofs.PortLemmas.{outs_many, ins_many, count_same, given_moved, sent_more, sent_count_same}
 
 -- NUMBERS
 
@@ -51,24 +51,6 @@ moved_more a b c x m y = let h = x.grew refl in let k = y.never_falls in moved_t
 other : {A : Type 0} (ls : List A) (i j : ℕ) (l d : A) → (i ≡ j → ⊥) → get_or (set ls i l) j d ≡ get_or ls j d
 other ls i j l d ne = get_or-set_other ls i j l d (λ e. ne (sym e))
 
--- nothing was pending
-pub none_sent : (os : List outlet.Outlet) (ls : List (List item.Item)) (port : ℕ) (l : List item.Item) → l ≡ get_or ls port l → l ≡ [] → port < length ls
-    → SentAt port os ls os (set ls port l) false
-none_sent os ls port l e z lt =
-    let same : set ls port l ≡ ls = set_unchanged ls port l e in
-    record {
-      sent = record {
-        ends = refl;
-        many = ap length same;
-        given = λ j. ap (λ y. given_at os y j) same;
-        number =
-            moved_false (sent_count os) (sent_count os) refl;
-      };
-      lists = λ j ne. ap (λ y. list_at y j) same;
-      others = λ j d ne. refl;
-      stuck = λ f. inl (get_or-set_same ls port l [] lt ∙ z);
-    }
-
 -- the front went
 pub one_sent : (os : List outlet.Outlet) (ls : List (List item.Item)) (port : ℕ) (x : outlet.Outlet) (l : List item.Item) (y : item.Item) → port < length os
     → port < length ls → out_ends (set os port x) ≡ out_ends os
@@ -85,23 +67,45 @@ one_sent os ls port x l y lo ll e g s = record {
   stuck = λ f. absurd (cc f);
 }
 
--- the ring refused it
-pub refused_sent : (os : List outlet.Outlet) (ls : List (List item.Item)) (port : ℕ) (x : outlet.Outlet) (l back : List item.Item) → port < length os
-    → out_ends (set os port x) ≡ out_ends os
-    → back ≡ get_or ls port back → sent_of x ≡ sent_of (get_or os port x) → IsFull x → SentAt port os ls (set os port x) (set (set ls port l) port back) false
-refused_sent os ls port x l back lo e b s full =
-    let same : set (set ls port l) port back ≡ ls = set_back ls port l back b in
-    record {
-      sent = record {
-        ends = e;
-        many = ap length same;
-        given = λ j. ap (λ y. given_at (set os port x) y j) same ∙ given_only os ls port x s j;
-        number = moved_false (sent_count os) (sent_count (set os port x)) (sent_none os port x s);
-      };
-      lists = λ j ne. ap (λ y. list_at y j) same;
-      others = λ j d ne. other os port j x d ne;
-      stuck = λ f. inr (λ d. subst IsFull (sym (get_or-set_same os port x d lo)) full);
-    }
+-- nothing is pending
+pub idle_sent : (os : List outlet.Outlet) (ls : List (List item.Item)) (port : ℕ) → list_at ls port ≡ [] → SentAt port os ls os ls false
+idle_sent os ls port z = record {
+  sent = record { ends = refl; many = refl; given = λ j. refl; number = moved_false (sent_count os) (sent_count os) refl };
+  lists = λ j ne. refl;
+  others = λ j d ne. refl;
+  stuck = λ f. inl z;
+}
+
+-- the ring has no room
+pub full_sent : (os os' : List outlet.Outlet) (ls : List (List item.Item)) (port : ℕ) → out_ends os' ≡ out_ends os → sent_in os' ≡ sent_in os
+    → ((j : ℕ) (d : outlet.Outlet) → (port ≡ j → ⊥) → get_or os' j d ≡ get_or os j d) → ((d : outlet.Outlet) → IsFull (get_or os' port d))
+    → SentAt port os ls os' ls false
+full_sent os os' ls port e s o full = record {
+  sent = record {
+    ends = e;
+    many = refl;
+    given = λ j. ap (λ (x : List (List item.Item)). list_at x j ++ list_at (pending_in ls) j) s;
+    number = moved_false (sent_count os) (sent_count os') (sent_count_same os' os s);
+  };
+  lists = λ j ne. refl;
+  others = o;
+  stuck = λ f. inr full;
+}
+
+-- the front went, after a look
+pub looked_sent : (os os' os2 : List outlet.Outlet) (ls ls2 : List (List item.Item)) (port : ℕ) → out_ends os' ≡ out_ends os → sent_in os' ≡ sent_in os
+    → ((j : ℕ) (d : outlet.Outlet) → (port ≡ j → ⊥) → get_or os' j d ≡ get_or os j d) → SentAt port os' ls os2 ls2 true → SentAt port os ls os2 ls2 true
+looked_sent os os' os2 ls ls2 port e s o h = record {
+  sent = record {
+    ends = h.sent.ends ∙ e;
+    many = h.sent.many;
+    given = λ j. h.sent.given j ∙ ap (λ (x : List (List item.Item)). list_at x j ++ list_at (pending_in ls) j) s;
+    number = subst (λ n. HasMoved n (sent_count os2) true) (sent_count_same os' os s) h.sent.number;
+  };
+  lists = h.lists;
+  others = λ j d ne. h.others j d ne ∙ o j d ne;
+  stuck = λ f. absurd (cc f);
+}
 
 -- before the first port
 pub sent_first : (os : List outlet.Outlet) (ls : List (List item.Item)) → Sent os ls os ls false

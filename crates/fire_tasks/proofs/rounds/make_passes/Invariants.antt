@@ -1,7 +1,7 @@
 use Rattle.std.specs.Prelude.{◌≡◌, false}
 use Rattle.river_plan.specs.Forms.{plan_form}
 use Rattle.fire_tasks.specs.Bundles.{IsBundle, SameSeat, HasGone}
-use Rattle.fire_tasks.proofs.rounds.work.Given as goal
+use Rattle.fire_tasks.proofs.rounds.make_passes.Given as goal
 
 abbrev pub invariant-loop-pass : goal.invariant-loop-pass
 invariant-loop-pass g l = record {
