@@ -5,7 +5,7 @@ ghost use Rattle.river_plan.specs.Valid.{IsPlan};
 ghost use Rattle.brooklet_model.specs.Fit.{Fit};
 ghost use Rattle.fire_tasks.specs.Bundles.{IsReady};
 ghost use Rattle.fire_tasks.specs.Tasks.{all_moves};
-ghost use Rattle.fire_run.specs.Closed.{IsRanOf};
+ghost use Rattle.fire_run.specs.Closed.{HasClosed, IsRanOf};
 ghost use Rattle.fire_run.specs.Frames.{AreBundlesOf, AreCalm, HaveWorked};
 ghost use Rattle.fire_run.specs.NetOf.{HasNet, Stays};
 ghost use Rattle.fire_run.specs.Rounds.{NetGoesOn, HasJoined, SomeMoved};
@@ -49,7 +49,8 @@ pub fn run_plan<R: Threads + Sync, G: Gate + Sync>(
     requires workers { (1 ≤ workers) × (workers ≤ 64) }
     requires cap { IsCap cap }
     requires caps { AreCaps caps.now }
-    ensures { IfOk result (IsRanOf plan.now inputs) }
+    ensures ran { IfOk result (IsRanOf plan.now inputs) }
+    ensures closed { IfOk result (HasClosed plan.now inputs) }
 {
     let net = Net::open(alloc, plan, inputs, cap, caps)?;
     let (mut net, rounds) = make_rounds(rt, alloc, plan, net, workers, gate)?;

@@ -56,6 +56,13 @@ sent_more [] i x y lt e = absurd (omega (arith, lt))
 sent_more (o ∷ os) zero x y lt e = let a = ap length e in let b = length-append (sent_of o) (y ∷ []) in omega (arith, a, b)
 sent_more (o ∷ os) (suc i) x y lt e = let h = sent_more os i x y (omega (arith, lt)) e in omega (arith, h)
 
+-- one outlet sent one item more
+pub sent_front : (xs : List outlet.Outlet) (i : ℕ) (x : outlet.Outlet) (y : item.Item) → sent_of x ≡ sent_of (get_or xs i x) ++ y ∷ []
+    → sent_in (set xs i x) ≡ append_at (sent_in xs) i (y ∷ [])
+sent_front [] i x y e = refl
+sent_front (o ∷ os) zero x y e = ap (λ l. l ∷ sent_in os) e
+sent_front (o ∷ os) (suc i) x y e = ap (λ ls. sent_of o ∷ ls) (sent_front os i x y e)
+
 -- the front of what is pending moved
 pub given_moved : (xs : List outlet.Outlet) (ls : List (List item.Item)) (i : ℕ) (x : outlet.Outlet) (l : List item.Item) (y : item.Item) → i < length xs
     → i < length ls → get_or ls i l ≡ l ++ y ∷ [] → sent_of x ≡ sent_of (get_or xs i x) ++ y ∷ []

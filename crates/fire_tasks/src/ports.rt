@@ -1,7 +1,7 @@
 // The ends of an operator's queues.
 ghost use Rattle.std.specs.Prelude.{◌≡◌, ◌+◌, ◌<◌, ◌≤◌, ℕ, [], ◌∷◌, ◌++◌, length, take, IsTrue, IsFalse, true, IfOk, OnOk, OnErr, slice_index_or};
 ghost use Rattle.river_base.specs.Places.{append_at, list_at};
-ghost use Rattle.fire_tasks.specs.Ports.{received_of, known_of, in_end, in_ends, sent_of, sent_in, sent_count, IsFull, HasRoom, out_end, out_ends, received_in, SentAt};
+ghost use Rattle.fire_tasks.specs.Ports.{received_of, known_of, in_end, in_ends, sent_of, sent_in, sent_count, IsFull, HasRoom, out_end, out_ends, received_in, HasSentFront, SentAt};
 
 use kern_rows::Line;
 use river_base::{Item, Items, Listed, NoMemory};
@@ -156,6 +156,7 @@ fn send_front(
     requires room { (d : _) → HasRoom (slice_index_or outs.old port d) }
     ensures sent { OnOk result (SentAt port outs.old pending.old outs.new pending.new true) }
     ensures one { OnOk result (sent_count outs.new ≡ sent_count outs.old + 1) }
+    ensures front { OnOk result (HasSentFront port outs.old pending.old outs.new pending.new) }
 {
     match pending.at_mut(port).pop() {
         Some(item) => outs.at_mut(port).put(item),
@@ -173,6 +174,7 @@ pub fn send_at(
     requires pending { port < length pending.old }
     ensures sent { IfOk result (SentAt port outs.old pending.old outs.new pending.new) }
     ensures one { IfOk result (λ moved. IsTrue moved → sent_count outs.new ≡ sent_count outs.old + 1) }
+    ensures front { IfOk result (λ moved. IsTrue moved → HasSentFront port outs.old pending.old outs.new pending.new) }
     ensures goes { (list_at pending.old port ≡ [] → ⊥) → ((d : _) → HasRoom (slice_index_or outs.old port d)) → IfOk result IsTrue }
 {
     if pending.at(port).is_empty() {

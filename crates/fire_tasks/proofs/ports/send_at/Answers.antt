@@ -1,4 +1,5 @@
-use Rattle.std.proofs.Common.{[], ap, sym, ◌∙◌, ◌+◌}
+use Rattle.std.proofs.Common.{[], ◌∷◌, ap, sym, ◌∙◌, ◌+◌}
+use Rattle.river_base.specs.Places.{append_at}
 use Rattle.fire_tasks.proofs.PassLemmas.{idle_sent, full_sent, looked_sent}
 use Rattle.fire_tasks.proofs.PortLemmas.{sent_count_same}
 use Rattle.fire_tasks.proofs.ports.send_at.Goals as goal
@@ -21,3 +22,15 @@ pub returns-clause-one : goal.returns-clause-one
 returns-clause-one c =
     λ m. c.in_ok-send_front.ensures.one
     ∙ ap (λ n. n + 1) (sent_count_same c.has_room_at.new.outs c.args.outs.now c.has_room_at.ensures.sent)
+
+pub returns-clause-front : goal.returns-clause-front
+returns-clause-front c =
+    λ m.
+    let f = c.in_ok-send_front.ensures.front in
+    record {
+      item = f.item;
+      rest = f.rest;
+      was = f.was;
+      left = f.left;
+      sent = f.sent ∙ ap (λ ls. append_at ls c.args.port (f.item ∷ [])) c.has_room_at.ensures.sent;
+    }
