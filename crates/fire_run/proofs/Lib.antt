@@ -3,6 +3,7 @@ pub mod CloseLemmas
 pub mod GatherLemmas
 pub mod JoinNet
 pub mod MoveLemmas
+pub mod OneMoves
 pub mod OpenNet
 pub mod OutLemmas
 pub mod PartLemmas
@@ -14,4 +15,5 @@ pub mod ShareLemmas
 pub mod SortLemmas
 pub mod SplitNet
 pub mod Standing
+pub mod TakenFronts
 pub mod WholeLemmas

@@ -4,7 +4,6 @@ use Rattle.std.specs.Prelude.{Bool, true, false, None}
 use Rattle.std.proofs.lemmas.Bool.{cases_eq, cases_lt}
 use Rattle.std.proofs.lemmas.List.{append-nil, length-set, get_or-set_same, get_or_default}
 use Rattle.std.proofs.lemmas.Option.{get_or_from_slice_get, slice_get-get_or}
-use Rattle.river_base.specs.declared.item.Item as item
 use Rattle.river_plan.specs.Forms.{PlanForm}
 use Rattle.fire_tasks.specs.declared.ports.Inlet as inlet
 use Rattle.fire_tasks.specs.declared.task.Task.{Task}

@@ -1,5 +1,5 @@
 -- What a net keeps while its tasks move and its rings look.
-use Rattle.std.proofs.Common.{◌≡◌, ℕ, ℤ, ◌<◌, ◌⊎◌, ⊎_elim, Some, None, List, [], ◌++◌, length, map, sym, ap, ◌∙◌, arith, subst, get_or, ◌^◌, length-append}
+use Rattle.std.proofs.Common.{◌≡◌, ℕ, ℤ, ◌<◌, ⊎_elim, Some, None, List, [], ◌++◌, length, map, sym, ap, ◌∙◌, arith, subst, get_or, ◌^◌, length-append}
 use Rattle.std.specs.Prelude.{slice_get}
 use Rattle.std.proofs.lemmas.Bool.{cases_lt}
 use Rattle.std.proofs.lemmas.Option.{get_or_from_slice_get, slice_get-get_or, slice_get_within, same_Some}

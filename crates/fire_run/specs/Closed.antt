@@ -14,7 +14,7 @@ use Rattle.brooklet_model.specs.Histories.{History, hist, given_on, firings, len
 use Rattle.brooklet_model.specs.Meaning.{meaning}
 use Rattle.brooklet_step.specs.Tables.{defined_tables}
 use Rattle.class_locks.specs.declared.log.LogEntry.{LogEntry}
-use Rattle.class_locks.specs.Logs.{replay, rows_to}
+use Rattle.class_locks.specs.Logs.{Holding, replay, rows_to}
 use Rattle.fire_tasks.specs.declared.ports.Outlet as outlet
 use Rattle.fire_tasks.specs.declared.task.Task.{Task}
 use Rattle.fire_tasks.specs.Adds.{AreEntries, added, table_class}
@@ -23,6 +23,8 @@ use Rattle.fire_laws.specs.Layout.{IsStored}
 use Rattle.fire_open.specs.Homes.{kinds_from}
 use Rattle.fire_open.specs.Sources.{ComesBefore}
 use Rattle.fire_run.specs.declared.closing.Ran.{Ran}
+use Rattle.fire_run.specs.declared.net.Net.{Net}
+use Rattle.fire_run.specs.NetOf.{HasNetOf, AreIdle}
 
 -- WHAT A RUN LEAVES
 
@@ -56,6 +58,17 @@ pub record IsRanOf (p : PlanForm) (inputs : List (List item.Item)) (ran : Ran) :
   pub logs : AreLogsOf p inputs ran.logs
   pub replayed : AreReplayed p (log_at ran.logs) ran.outcome.tables
   pub rounds : ran.rounds ≤ 1 + 2 * lengths (hist p inputs) (queue_names p)
+
+-- the logs are those of these cells, class by class and entry by entry
+abbrev pub AreLogsIn : List Holding → List (Vec LogEntry Global) → Type 0
+AreLogsIn cells logs = map (λ (l : Vec LogEntry Global). l.items) logs ≡ map (λ (x : Holding). x.log) cells
+
+-- a net of this plan and these inputs came to its end, and what was run has its logs
+pub record HasClosed (p : PlanForm) (inputs : List (List item.Item)) (ran : Ran) : Type 0 where
+  pub net : Net
+  pub has : HasNetOf p inputs net
+  pub idle : AreIdle net.tasks
+  pub logs : AreLogsIn net.cells ran.logs
 
 -- OUTPUTS
 

@@ -3,6 +3,7 @@ pub mod Closed
 pub mod Frames
 pub mod Moves
 pub mod NetOf
+pub mod OneMove
 pub mod Rounds
 pub mod Rows
 pub mod Shares

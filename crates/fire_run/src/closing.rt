@@ -5,7 +5,7 @@ ghost use Rattle.brooklet_model.specs.Histories.{History};
 ghost use Rattle.fire_tasks.specs.Ports.{sent_of};
 ghost use Rattle.fire_tasks.specs.Tasks.{all_moves};
 ghost use Rattle.fire_laws.specs.Layout.{IsStored};
-ghost use Rattle.fire_run.specs.Closed.{AreOuts, HasOuts, HaveOuts, OutsGo, IsRanOf};
+ghost use Rattle.fire_run.specs.Closed.{AreLogsIn, AreOuts, HasOuts, HaveOuts, OutsGo, IsRanOf};
 ghost use Rattle.fire_run.specs.NetOf.{HasNet, IsNetOf, AreIdle};
 
 use crate::net::Net;
@@ -144,6 +144,7 @@ impl Net {
         requires rounds { rounds ≤ 1 + all_moves self.tasks }
         ensures ran { (inputs : _) (caps : _) → IsNetOf plan.now inputs caps self → IfOk result (IsRanOf plan.now inputs) }
         ensures rounds { IfOk result (λ ran. ran.rounds ≡ rounds) }
+        ensures logs { IfOk result (λ ran. AreLogsIn self.cells ran.logs) }
     {
         let Net {
             tasks,

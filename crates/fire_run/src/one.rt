@@ -1,5 +1,5 @@
 // One move.
-ghost use Rattle.std.specs.Prelude.{◌≡◌, ◌+◌, ◌<◌, ◌^◌, ℕ, ℤ, None, List, [], length, map, false, true, IfOk, OnOk, OnErr, IfSome, IfNone, IsFalse, slice_index_or};
+ghost use Rattle.std.specs.Prelude.{◌≡◌, ◌+◌, ◌<◌, ◌^◌, ℕ, ℤ, None, List, [], length, map, false, true, IfOk, OnOk, OnErr, IfSome, IfNone, IsFalse, IsTrue, slice_index_or};
 ghost use Rattle.river_base.specs.Places.{list_at};
 ghost use Rattle.river_plan.specs.Forms.{plan_form};
 ghost use Rattle.river_plan.specs.Valid.{IsPlan};
@@ -11,6 +11,7 @@ ghost use Rattle.fire_open.specs.Homes.{AreClassCells};
 ghost use Rattle.fire_open.specs.Still.{still};
 ghost use Rattle.fire_run.specs.Cells.{AreSingle, HaveAdded, HaveMoved};
 ghost use Rattle.fire_run.specs.Moves.{CanSend, CanSendFrom};
+ghost use Rattle.fire_run.specs.OneMove.{LastMoved, MayHaveMoved, Moves, Sends, Takes};
 ghost use Rattle.fire_run.specs.NetOf.{HasNet, Stays, AreIdle, OneMore};
 
 use crate::adding::add_to_cells;
@@ -43,6 +44,7 @@ fn take_for<G: Gate>(
     ensures same { OnOk result (ends_of task.new ≡ ends_of task.old) }
     ensures one { OnOk result (moves task.new ≡ moves task.old + 1) }
     ensures cells { OnOk result (HaveAdded (plan_form plan.now) task.old.op cells.old cells.new) }
+    ensures takes { OnOk result (Takes (plan_form plan.now) task.old task.new cells.old cells.new) }
 {
     let op = task.op;
     fire_at(alloc, plan, task, port, gate)?;
@@ -92,6 +94,7 @@ fn move_one<G: Gate>(
     ensures still { IfOk result (λ moved. IsFalse moved → still task.new ≡ still task.old) }
     ensures stay { IfOk result (λ moved. IsFalse moved → cells.new ≡ cells.old) }
     ensures done { IfOk result (λ moved. IsFalse moved → IsDone task.old) }
+    ensures step { IfOk result (λ moved. IsTrue moved → Moves (plan_form plan.now) task.old task.new cells.old cells.new) }
 {
     match first_pending(&task.pending) {
         Some(port) => {
@@ -123,6 +126,7 @@ fn take_next<G: Gate>(
     ensures still { IfOk result (λ moved. IsFalse moved → still task.new ≡ still task.old) }
     ensures stay { IfOk result (λ moved. IsFalse moved → cells.new ≡ cells.old) }
     ensures done { IfOk result (λ moved. IsFalse moved → IsDone task.old) }
+    ensures takes { IfOk result (λ moved. IsTrue moved → Takes (plan_form plan.now) task.old task.new cells.old cells.new) }
 {
     match first_ready(&mut task.ins) {
         Some(port) => {
@@ -143,6 +147,7 @@ fn send_first(task: &mut Task, port: usize) -> Result<(), NoMemory>
     ensures task { (p : _) (adds : ℕ → List (List ℤ)) → IsTask p adds task.old → OnOk result (IsTask p adds task.new) }
     ensures same { OnOk result (ends_of task.new ≡ ends_of task.old) }
     ensures one { OnOk result (moves task.new ≡ moves task.old + 1) }
+    ensures sends { OnOk result (Sends task.old task.new) }
 {
     send_at(&mut task.outs, &mut task.pending, port)?;
     Ok(())
@@ -168,6 +173,7 @@ fn move_last<G: Gate>(
     ensures still { IfOk result (λ moved. IsFalse moved → map still tasks.new ≡ map still tasks.old) }
     ensures stay { IfOk result (λ moved. IsFalse moved → cells.new ≡ cells.old) }
     ensures idle { IfOk result (λ moved. IsFalse moved → AreIdle tasks.old) }
+    ensures step { IfOk result (λ moved. IsTrue moved → MayHaveMoved (plan_form plan.now) tasks.old tasks.new cells.old cells.new) }
 {
     let count = tasks.len();
     for back in 0..count {
@@ -190,6 +196,8 @@ impl Net {
         ensures still { IfOk result (λ moved. IsFalse moved → map still self.new.tasks ≡ map still self.old.tasks) }
         ensures stay { IfOk result (λ moved. IsFalse moved → self.new.cells ≡ self.old.cells) }
         ensures idle { IfOk result (λ moved. IsFalse moved → AreIdle self.new.tasks) }
+        ensures step { IfOk result (λ moved. IsTrue moved → LastMoved plan.now self.old.tasks self.new.tasks self.old.cells self.new.cells) }
+        ensures busy { IfOk result (λ moved. IsTrue moved → AreIdle self.old.tasks → ⊥) }
         ensures refused { OnErr result (self.new.refused ≡ true) }
     {
         self.refused = true;

@@ -5,17 +5,18 @@ ghost use Rattle.river_plan.specs.Valid.{IsPlan};
 ghost use Rattle.brooklet_model.specs.Fit.{Fit};
 ghost use Rattle.fire_tasks.specs.Bundles.{IsReady};
 ghost use Rattle.fire_tasks.specs.Tasks.{all_moves};
-ghost use Rattle.fire_run.specs.Closed.{IsRanOf};
+ghost use Rattle.fire_run.specs.Closed.{HasClosed, IsRanOf};
 ghost use Rattle.fire_run.specs.Frames.{AreBundlesOf, AreCalm, HaveWorked};
 ghost use Rattle.fire_run.specs.NetOf.{HasNet, Stays};
 ghost use Rattle.fire_run.specs.Rounds.{NetGoesOn, HasJoined, SomeMoved};
 
 use crate::{Bundles, Frame, Net, Ran, SplitFault};
 use brooklet_step::Lines;
-use fire_tasks::round_of;
+use fire_tasks::{BEGUN, round_of};
 use river_base::{Gate, NoMemory};
 use river_plan::{Caps, Plan, RawPlan};
 use std::alloc::Global;
+use std::sync::atomic::AtomicU64;
 use std::thread::Threads;
 
 /// How a round came out.
@@ -48,7 +49,8 @@ pub fn run_plan<R: Threads + Sync, G: Gate + Sync>(
     requires workers { (1 ≤ workers) × (workers ≤ 64) }
     requires cap { IsCap cap }
     requires caps { AreCaps caps.now }
-    ensures { IfOk result (IsRanOf plan.now inputs) }
+    ensures ran { IfOk result (IsRanOf plan.now inputs) }
+    ensures closed { IfOk result (HasClosed plan.now inputs) }
 {
     let net = Net::open(alloc, plan, inputs, cap, caps)?;
     let (mut net, rounds) = make_rounds(rt, alloc, plan, net, workers, gate)?;
@@ -167,7 +169,15 @@ fn work_each<R: Threads + Sync, G: Gate + Sync>(
     requires workers { 0 < workers }
     ensures { HaveWorked raw.now bundles.old.items bundles.new.items }
 {
-    round_of(rt, raw, bundles.as_mut_slice(), workers as usize, gate);
+    let busy = AtomicU64::new((workers as u64).wrapping_mul(BEGUN + 1));
+    round_of(
+        rt,
+        raw,
+        bundles.as_mut_slice(),
+        workers as usize,
+        gate,
+        &busy,
+    );
 }
 
 // Whether one of the bundles was refused.

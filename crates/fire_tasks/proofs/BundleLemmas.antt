@@ -11,12 +11,13 @@ use Rattle.class_locks.specs.Views.{StandsIn}
 use Rattle.fire_tasks.specs.declared.task.Task.{Task}
 use Rattle.fire_tasks.specs.Adds.{AreCells, added, logs_at}
 use Rattle.fire_tasks.specs.declared.ports.Inlet as inlet
-use Rattle.fire_tasks.specs.Bundles.{AreTasksAt, AllDone, AllLooked, HasGone, HasSwept, SameSeat}
+use Rattle.fire_tasks.specs.Bundles.{AllGoOn, AreTasksAt, AllDone, AllLooked, HasGone, HasSwept, SameSeat}
 use Rattle.fire_tasks.specs.declared.bundle.Bundle.{Bundle}
 use Rattle.fire_tasks.specs.Ports.{AllReceived, HasMoved, known_of}
 use Rattle.fire_tasks.specs.Tasks.{TaskEnds, IsTaskAt, IsDone, ends_of, all_ends, moves, all_moves}
 use Rattle.fire_tasks.specs.Turns.{HasTurned, IsSeatOf, IsStuckSince, LooksSame, StillSits}
-use Rattle.fire_tasks.proofs.PassLemmas.{moved_second, moved_first, moved_false}
+use Rattle.fire_tasks.proofs.Fronts.{all_same, all_set, all_then, has_gone}
+use Rattle.fire_tasks.proofs.PassLemmas.{moved_true, moved_second, moved_first, moved_false}
 use Rattle.fire_tasks.proofs.PortLemmas.{ins_many}
 use Rattle.fire_tasks.proofs.TaskLemmas.{with_adds}
 use Rattle.fire_tasks.proofs.TurnLemmas.{round_then, sits_none, sits_then, stuck_since, stuck_still, tries_of, tries_then}
@@ -68,6 +69,7 @@ pub record HavePassed (p : PlanForm) (v w : View) (place : ℕ) (ts ts' : List T
   pub sits : StillSits v w
   pub tries : HasMoreTries v w
   pub same : all_ends ts' ≡ all_ends ts
+  pub goes_on : AllGoOn ts ts'
   pub number : HasMoved (all_moves ts) (all_moves ts') moved
   pub stuck : IsFalse moved → (i : ℕ) (d : Task) → i < place → i < length ts' → IsStuckSince v w (get_or ts' i d)
 
@@ -81,6 +83,7 @@ passed_first p v ts k h = record {
   sits = sits_none v h;
   tries = no_tries v;
   same = refl;
+  goes_on = all_same ts;
   number = moved_false (all_moves ts) (all_moves ts) refl;
   stuck = λ f i d lt l. absurd (omega (arith, lt));
 }
@@ -150,6 +153,7 @@ passed_turn p v0 v w ts now i old new m n k h lt e t c f =
       sits = record { round = round_then v0 v w h.sits.round t.sat.round; rests = t.sat.rests };
       tries = tries_then v0 v w h.tries tries;
       same = set_ends now i new (t.ends ∙ ap ends_of (e ∙ get_or_default now i old new lt)) ∙ h.same;
+      goes_on = all_then ts now (set now i new) (ends_many ts now h.same) h.goes_on (all_set now i old new lt e t.goes_on);
       number = c;
       stuck = λ z j d lj ll. ⊎_elim
           (λ l.
@@ -186,6 +190,7 @@ pub passed_all : (p : PlanForm) (v w : View) (place : ℕ) (ts ts' : List Task) 
 passed_all p v w place ts ts' moved h le = record {
   tasks = h.tasks;
   ends = h.same;
+  goes_on = h.goes_on;
   number = h.number;
   stuck = λ f. record { each = λ i d lt. h.stuck f i d (let m = ends_many ts ts' h.same in omega (arith, lt, le, m)) lt };
   tries = h.tries;
@@ -199,11 +204,12 @@ pub record Swept (p : PlanForm) (v w : View) (ts ts' : List Task) : Type 0 where
   pub sits : StillSits v w
   pub tries : HasMoreTries v w
   pub same : all_ends ts' ≡ all_ends ts
+  pub goes_on : AllGoOn ts ts'
   pub number : all_moves ts' ≡ all_moves ts
 
 -- before the first look
 pub swept_none : (p : PlanForm) (v : View) (ts : List Task) → AreTasksAt p v ts → v.held ≡ [] → Swept p v v ts ts
-swept_none p v ts k h = record { tasks = k; sits = sits_none v h; tries = no_tries v; same = refl; number = refl }
+swept_none p v ts k h = record { tasks = k; sits = sits_none v h; tries = no_tries v; same = refl; goes_on = all_same ts; number = refl }
 
 -- one more
 pub swept_more : (p : PlanForm) (v u w : View) (ts ts1 ts2 : List Task) (m : Bool) → Swept p v u ts ts1 → StillSits u w → HasSwept p u w ts1 ts2 m → m ≡ false
@@ -213,6 +219,7 @@ swept_more p v u w ts ts1 ts2 m a s h f = record {
   sits = sits_then v u w a.sits s;
   tries = tries_then v u w a.tries h.tries;
   same = h.ends ∙ a.same;
+  goes_on = all_then ts ts1 ts2 (ends_many ts ts1 a.same) a.goes_on h.goes_on;
   number = h.number.stayed f ∙ a.number;
 }
 
@@ -221,10 +228,55 @@ pub swept_then : (p : PlanForm) (v u w : View) (ts ts1 ts2 : List Task) (m : Boo
 swept_then p v u w ts ts1 ts2 m a h = record {
   tasks = h.tasks;
   ends = h.ends ∙ a.same;
+  goes_on = all_then ts ts1 ts2 (ends_many ts ts1 a.same) a.goes_on h.goes_on;
   number = subst (λ n. HasMoved n (all_moves ts2) m) a.number h.number;
   stuck = λ f. record { each = λ i d lt. stuck_since v u w (get_or ts2 i d) a.tries ((h.stuck f).each i d lt) };
   tries = tries_then v u w a.tries h.tries;
 }
+
+-- LOOKS AT WHICH SOMETHING MOVED
+
+-- something may have moved in the looks so far
+pub record Went (p : PlanForm) (v w : View) (ts ts' : List Task) : Type 0 where
+  pub tasks : AreTasksAt p w ts'
+  pub sits : StillSits v w
+  pub tries : HasMoreTries v w
+  pub same : all_ends ts' ≡ all_ends ts
+  pub goes_on : AllGoOn ts ts'
+  pub grows : all_moves ts ≤ all_moves ts'
+
+-- before the first look
+pub went_none : (p : PlanForm) (v : View) (ts : List Task) → AreTasksAt p v ts → v.held ≡ [] → Went p v v ts ts
+went_none p v ts k h = record { tasks = k; sits = sits_none v h; tries = no_tries v; same = refl; goes_on = all_same ts; grows = omega arith }
+
+-- one more
+pub went_on : (p : PlanForm) (v u w : View) (ts ts1 ts2 : List Task) (m : Bool) → Went p v u ts ts1 → StillSits u w → HasSwept p u w ts1 ts2 m
+    → Went p v w ts ts2
+went_on p v u w ts ts1 ts2 m a s h = record {
+  tasks = h.tasks;
+  sits = sits_then v u w a.sits s;
+  tries = tries_then v u w a.tries h.tries;
+  same = h.ends ∙ a.same;
+  goes_on = all_then ts ts1 ts2 (ends_many ts ts1 a.same) a.goes_on h.goes_on;
+  grows = let g = a.grows in let n = h.number.never_falls in omega (arith, g, n);
+}
+
+-- after one at which something moved
+pub went_after : (p : PlanForm) (v u w : View) (ts ts1 ts2 : List Task) (m : Bool) → HasSwept p v u ts ts1 m → m ≡ true → Went p u w ts1 ts2
+    → HasSwept p v w ts ts2 true
+went_after p v u w ts ts1 ts2 m a e b = record {
+  tasks = b.tasks;
+  ends = b.same ∙ a.ends;
+  goes_on = all_then ts ts1 ts2 (ends_many ts ts1 a.ends) a.goes_on b.goes_on;
+  number = let g = b.grows in let n = a.number.grew e in moved_true (all_moves ts) (all_moves ts2) (omega (arith, g, n));
+  stuck = λ f. absurd (cc f);
+  tries = tries_then v u w a.tries b.tries;
+}
+
+-- nothing moved at the first look, and then came the others
+pub swept_both : (p : PlanForm) (v u w : View) (ts ts1 ts2 : List Task) (m n : Bool) → AreTasksAt p v ts → v.held ≡ [] → StillSits v u
+    → HasSwept p v u ts ts1 m → m ≡ false → HasSwept p u w ts1 ts2 n → HasSwept p v w ts ts2 n
+swept_both p v u w ts ts1 ts2 m n k r s h f x = swept_then p v u w ts ts1 ts2 n (swept_more p v v u ts ts ts1 m (swept_none p v ts k r) s h f) x
 
 -- LOOKS AT ALL TASKS
 
@@ -299,6 +351,21 @@ not_done ins port h a =
 pub seat_then : (b u w : Bundle) → SameSeat b u → SameSeat u w → SameSeat b w
 seat_then b u w x y = record { lot = y.lot ∙ x.lot; round = round_then b.seat.view u.seat.view w.seat.view x.round y.round; looks = y.looks ∙ x.looks }
 
--- a pass that moved nothing, behind others
+-- one behind others
+pub gone_then : (b u w : Bundle) (m n k : Bool) → HasGone b u m → HasGone u w n → HasMoved (all_moves b.tasks) (all_moves w.tasks) k → HasGone b w k
+gone_then b u w m n k x y h =
+    has_gone b w k (y.ends ∙ x.ends) (all_then b.tasks u.tasks w.tasks (ends_many b.tasks u.tasks x.ends) x.goes_on y.goes_on) h
+
+-- one that moved nothing
 pub gone_still : (b u w : Bundle) (m : Bool) → HasGone b u m → HasGone u w false → HasGone b w m
-gone_still b u w m x y = record { ends = y.ends ∙ x.ends; number = moved_first (all_moves b.tasks) (all_moves u.tasks) (all_moves w.tasks) m x.number y.number }
+gone_still b u w m x y =
+    gone_then b u w m false m x y (moved_first (all_moves b.tasks) (all_moves u.tasks) (all_moves w.tasks) m x.number y.number)
+
+-- one that moved something
+pub gone_moved : (b u w : Bundle) (m : Bool) → HasGone b u m → HasGone u w true → HasGone b w true
+gone_moved b u w m x y =
+    gone_then b u w m true true x y (moved_second (all_moves b.tasks) (all_moves u.tasks) (all_moves w.tasks) m x.number y.number)
+
+-- before the first
+pub gone_none : (b : Bundle) → HasGone b b false
+gone_none b = has_gone b b false refl (all_same b.tasks) (moved_false (all_moves b.tasks) (all_moves b.tasks) refl)

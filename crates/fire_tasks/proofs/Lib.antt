@@ -1,5 +1,6 @@
 pub mod AddLemmas
 pub mod BundleLemmas
+pub mod Fronts
 pub mod JoinLemmas
 pub mod Looking
 pub mod PassLemmas

@@ -1,10 +1,9 @@
 -- What a task keeps while it sends, and through a pass.
-use Rattle.std.proofs.Common.{◌≡◌, ℕ, ℤ, ◌+◌, ◌<◌, ◌≤◌, List, [], ◌∷◌, ◌++◌, length, refl, sym, ap, ◌∙◌, arith, subst, inl, inr, ⊎_elim, get_or, set, get_or-set_other, get_or-set_same}
+use Rattle.std.proofs.Common.{◌≡◌, ℕ, ℤ, ◌+◌, ◌<◌, ◌≤◌, List, [], ◌∷◌, ◌++◌, length, refl, sym, ap, ◌∙◌, arith, subst, inl, inr, ⊎_elim, get_or, set, get_or-set_other}
 use Rattle.std.specs.Prelude.{Bool, true, false, IsFalse, All}
 use Rattle.std.proofs.lemmas.Bool.{cases_lt}
 use Rattle.std.proofs.lemmas.List.{length-set}
 use Rattle.river_base.proofs.PlaceLemmas.{list_past}
-use Rattle.river_base.proofs.LoopLemmas.{set_unchanged}
 use Rattle.river_base.specs.declared.item.Item as item
 use Rattle.river_base.specs.Places.{list_at}
 use Rattle.river_plan.specs.Forms.{PlanForm}
@@ -13,9 +12,10 @@ use Rattle.fire_tasks.specs.Fired.{kinds_out}
 use Rattle.fire_tasks.specs.declared.task.Task.{Task}
 use Rattle.fire_tasks.specs.declared.ports.Inlet as inlet
 use Rattle.fire_tasks.specs.declared.ports.Outlet as outlet
-use Rattle.fire_tasks.specs.Ports.{HasMoved, in_ends, out_ends, given_at, sent_of, sent_count, received_count, received_in, IsFull, IsHeldBack, RefusedAll, Sent, SentAt}
+use Rattle.fire_tasks.specs.Ports.{AreFronts, HasMoved, in_ends, out_ends, given_at, pending_in, sent_in, sent_of, sent_count, received_count, received_in, IsFull, IsHeldBack, RefusedAll, Sent, SentAt}
 use Rattle.fire_tasks.specs.Tasks.{IsTask, moves}
-use Rattle.fire_tasks.proofs.PortLemmas.{outs_many, ins_many, count_same, given_moved, given_only, sent_more, sent_none, set_back}
+use Rattle.fire_tasks.proofs.Fronts.{fronts_is, fronts_same, fronts_sent, fronts_then}
+use Rattle.fire_tasks.proofs.PortLemmas.{outs_many, ins_many, count_same, given_moved, sent_more, sent_count_same}
 
 -- NUMBERS
 
@@ -51,24 +51,6 @@ moved_more a b c x m y = let h = x.grew refl in let k = y.never_falls in moved_t
 other : {A : Type 0} (ls : List A) (i j : ℕ) (l d : A) → (i ≡ j → ⊥) → get_or (set ls i l) j d ≡ get_or ls j d
 other ls i j l d ne = get_or-set_other ls i j l d (λ e. ne (sym e))
 
--- nothing was pending
-pub none_sent : (os : List outlet.Outlet) (ls : List (List item.Item)) (port : ℕ) (l : List item.Item) → l ≡ get_or ls port l → l ≡ [] → port < length ls
-    → SentAt port os ls os (set ls port l) false
-none_sent os ls port l e z lt =
-    let same : set ls port l ≡ ls = set_unchanged ls port l e in
-    record {
-      sent = record {
-        ends = refl;
-        many = ap length same;
-        given = λ j. ap (λ y. given_at os y j) same;
-        number =
-            moved_false (sent_count os) (sent_count os) refl;
-      };
-      lists = λ j ne. ap (λ y. list_at y j) same;
-      others = λ j d ne. refl;
-      stuck = λ f. inl (get_or-set_same ls port l [] lt ∙ z);
-    }
-
 -- the front went
 pub one_sent : (os : List outlet.Outlet) (ls : List (List item.Item)) (port : ℕ) (x : outlet.Outlet) (l : List item.Item) (y : item.Item) → port < length os
     → port < length ls → out_ends (set os port x) ≡ out_ends os
@@ -78,6 +60,7 @@ one_sent os ls port x l y lo ll e g s = record {
     ends = e;
     many = length-set ls port l;
     given = λ j. given_moved os ls port x l y lo ll g s j;
+    fronts = fronts_sent os port x (y ∷ []) s;
     number = let n = sent_more os port x y lo s in moved_true (sent_count os) (sent_count (set os port x)) (omega (arith, n));
   };
   lists = λ j ne. other ls port j l [] ne;
@@ -85,32 +68,56 @@ one_sent os ls port x l y lo ll e g s = record {
   stuck = λ f. absurd (cc f);
 }
 
--- the ring refused it
-pub refused_sent : (os : List outlet.Outlet) (ls : List (List item.Item)) (port : ℕ) (x : outlet.Outlet) (l back : List item.Item) → port < length os
-    → out_ends (set os port x) ≡ out_ends os
-    → back ≡ get_or ls port back → sent_of x ≡ sent_of (get_or os port x) → IsFull x → SentAt port os ls (set os port x) (set (set ls port l) port back) false
-refused_sent os ls port x l back lo e b s full =
-    let same : set (set ls port l) port back ≡ ls = set_back ls port l back b in
-    record {
-      sent = record {
-        ends = e;
-        many = ap length same;
-        given = λ j. ap (λ y. given_at (set os port x) y j) same ∙ given_only os ls port x s j;
-        number = moved_false (sent_count os) (sent_count (set os port x)) (sent_none os port x s);
-      };
-      lists = λ j ne. ap (λ y. list_at y j) same;
-      others = λ j d ne. other os port j x d ne;
-      stuck = λ f. inr (λ d. subst IsFull (sym (get_or-set_same os port x d lo)) full);
-    }
+-- nothing is pending
+pub idle_sent : (os : List outlet.Outlet) (ls : List (List item.Item)) (port : ℕ) → list_at ls port ≡ [] → SentAt port os ls os ls false
+idle_sent os ls port z = record {
+  sent = record { ends = refl; many = refl; given = λ j. refl; fronts = fronts_same (sent_in os); number = moved_false (sent_count os) (sent_count os) refl };
+  lists = λ j ne. refl;
+  others = λ j d ne. refl;
+  stuck = λ f. inl z;
+}
+
+-- the ring has no room
+pub full_sent : (os os' : List outlet.Outlet) (ls : List (List item.Item)) (port : ℕ) → out_ends os' ≡ out_ends os → sent_in os' ≡ sent_in os
+    → ((j : ℕ) (d : outlet.Outlet) → (port ≡ j → ⊥) → get_or os' j d ≡ get_or os j d) → ((d : outlet.Outlet) → IsFull (get_or os' port d))
+    → SentAt port os ls os' ls false
+full_sent os os' ls port e s o full = record {
+  sent = record {
+    ends = e;
+    many = refl;
+    given = λ j. ap (λ (x : List (List item.Item)). list_at x j ++ list_at (pending_in ls) j) s;
+    fronts = fronts_is (sent_in os) (sent_in os') s;
+    number = moved_false (sent_count os) (sent_count os') (sent_count_same os' os s);
+  };
+  lists = λ j ne. refl;
+  others = o;
+  stuck = λ f. inr full;
+}
+
+-- the front went, after a look
+pub looked_sent : (os os' os2 : List outlet.Outlet) (ls ls2 : List (List item.Item)) (port : ℕ) → out_ends os' ≡ out_ends os → sent_in os' ≡ sent_in os
+    → ((j : ℕ) (d : outlet.Outlet) → (port ≡ j → ⊥) → get_or os' j d ≡ get_or os j d) → SentAt port os' ls os2 ls2 true → SentAt port os ls os2 ls2 true
+looked_sent os os' os2 ls ls2 port e s o h = record {
+  sent = record {
+    ends = h.sent.ends ∙ e;
+    many = h.sent.many;
+    given = λ j. h.sent.given j ∙ ap (λ (x : List (List item.Item)). list_at x j ++ list_at (pending_in ls) j) s;
+    fronts = subst (λ l. AreFronts l (sent_in os2)) s h.sent.fronts;
+    number = subst (λ n. HasMoved n (sent_count os2) true) (sent_count_same os' os s) h.sent.number;
+  };
+  lists = h.lists;
+  others = λ j d ne. h.others j d ne ∙ o j d ne;
+  stuck = λ f. absurd (cc f);
+}
 
 -- before the first port
 pub sent_first : (os : List outlet.Outlet) (ls : List (List item.Item)) → Sent os ls os ls false
-sent_first os ls = record { ends = refl; many = refl; given = λ j. refl; number = moved_false (sent_count os) (sent_count os) refl }
+sent_first os ls = record { ends = refl; many = refl; given = λ j. refl; fronts = fronts_same (sent_in os); number = moved_false (sent_count os) (sent_count os) refl }
 
 sent_then : (os : List outlet.Outlet) (ls : List (List item.Item)) (os1 : List outlet.Outlet) (ls1 : List (List item.Item)) (os2 : List outlet.Outlet)
     (ls2 : List (List item.Item)) (m n k : Bool)
     → Sent os ls os1 ls1 m → Sent os1 ls1 os2 ls2 n → HasMoved (sent_count os) (sent_count os2) k → Sent os ls os2 ls2 k
-sent_then os ls os1 ls1 os2 ls2 m n k a b h = record { ends = b.ends ∙ a.ends; many = b.many ∙ a.many; given = λ j. b.given j ∙ a.given j; number = h }
+sent_then os ls os1 ls1 os2 ls2 m n k a b h = record { ends = b.ends ∙ a.ends; many = b.many ∙ a.many; given = λ j. b.given j ∙ a.given j; fronts = fronts_then (sent_in os) (sent_in os1) (sent_in os2) a.fronts b.fronts; number = h }
 
 -- the answer by its value
 pub at_is : (port : ℕ) (os : List outlet.Outlet) (ls : List (List item.Item)) (os1 : List outlet.Outlet) (ls1 : List (List item.Item)) (n : Bool)
@@ -122,13 +129,14 @@ pub record Goes (port : ℕ) (os : List outlet.Outlet) (ls : List (List item.Ite
   pub ends : out_ends os' ≡ out_ends os
   pub many : length ls' ≡ length ls
   pub given : (j : ℕ) → given_at os' ls' j ≡ given_at os ls j
+  pub fronts : AreFronts (sent_in os) (sent_in os')
   pub grows : sent_count os ≤ sent_count os'
   pub lists : (j : ℕ) → (port ≡ j → ⊥) → list_at ls' j ≡ list_at ls j
   pub others : (j : ℕ) (d : outlet.Outlet) → (port ≡ j → ⊥) → get_or os' j d ≡ get_or os j d
 
 -- before the first item
 pub goes_first : (port : ℕ) (os : List outlet.Outlet) (ls : List (List item.Item)) → Goes port os ls os ls
-goes_first port os ls = record { ends = refl; many = refl; given = λ j. refl; grows = omega arith; lists = λ j ne. refl; others = λ j d ne. refl }
+goes_first port os ls = record { ends = refl; many = refl; given = λ j. refl; fronts = fronts_same (sent_in os); grows = omega arith; lists = λ j ne. refl; others = λ j d ne. refl }
 
 -- one item more, or none
 pub goes_next : (port : ℕ) (os : List outlet.Outlet) (ls : List (List item.Item)) (os1 : List outlet.Outlet) (ls1 : List (List item.Item))
@@ -138,6 +146,7 @@ goes_next port os ls os1 ls1 os2 ls2 n a b = record {
   ends = b.sent.ends ∙ a.ends;
   many = b.sent.many ∙ a.many;
   given = λ j. b.sent.given j ∙ a.given j;
+  fronts = fronts_then (sent_in os) (sent_in os1) (sent_in os2) a.fronts b.sent.fronts;
   grows = let g = a.grows in let h = b.sent.number.never_falls in omega (arith, g, h);
   lists = λ j ne. b.lists j ne ∙ a.lists j ne;
   others = λ j d ne. b.others j d ne ∙ a.others j d ne;
@@ -155,6 +164,7 @@ goes_after port os ls os1 ls1 os2 ls2 n a e b =
         many = b.many ∙ f.sent.many;
         given = λ j. b.given j
             ∙ f.sent.given j;
+        fronts = fronts_then (sent_in os) (sent_in os1) (sent_in os2) f.sent.fronts b.fronts;
         number = let g = b.grows in let h = f.sent.number.grew refl in moved_true (sent_count os) (sent_count os2) (omega (arith, g, h));
       };
       lists = λ j ne. b.lists j ne ∙ f.lists j ne;

@@ -8,13 +8,19 @@ use Rattle.river_base.specs.declared.item.Item as item
 use Rattle.river_base.specs.Places.{list_at, append_at}
 use Rattle.fire_tasks.specs.declared.ports.Inlet as inlet
 use Rattle.fire_tasks.specs.declared.ports.Outlet as outlet
-use Rattle.fire_tasks.specs.Ports.{sent_count, received_count, received_of, in_end, in_ends, sent_of, out_end, out_ends, received_in, pending_in, given_at}
+use Rattle.fire_tasks.specs.Ports.{sent_count, received_count, received_of, in_end, in_ends, sent_of, sent_in, out_end, out_ends, received_in, pending_in, given_at}
 
 -- another state of the same end: all ends are the same
 pub ins_set : (xs : List inlet.Inlet) (i : ℕ) (x : inlet.Inlet) → in_end x ≡ in_end (get_or xs i x) → in_ends (set xs i x) ≡ in_ends xs
 ins_set [] i x e = refl
 ins_set (y ∷ ys) zero x e = ap (λ n. n ∷ in_ends ys) e
 ins_set (y ∷ ys) (suc i) x e = ap (λ ns. in_end y ∷ ns) (ins_set ys i x e)
+
+-- an end that sent nothing
+pub sent_same : (xs : List outlet.Outlet) (i : ℕ) (x : outlet.Outlet) → sent_of x ≡ sent_of (get_or xs i x) → sent_in (set xs i x) ≡ sent_in xs
+sent_same [] i x e = refl
+sent_same (y ∷ ys) zero x e = ap (λ l. l ∷ sent_in ys) e
+sent_same (y ∷ ys) (suc i) x e = ap (λ l. sent_of y ∷ l) (sent_same ys i x e)
 
 -- so at the ports that it sends to
 pub outs_set : (xs : List outlet.Outlet) (i : ℕ) (x : outlet.Outlet) → out_end x ≡ out_end (get_or xs i x) → out_ends (set xs i x) ≡ out_ends xs
@@ -49,6 +55,13 @@ pub sent_more : (xs : List outlet.Outlet) (i : ℕ) (x : outlet.Outlet) (y : ite
 sent_more [] i x y lt e = absurd (omega (arith, lt))
 sent_more (o ∷ os) zero x y lt e = let a = ap length e in let b = length-append (sent_of o) (y ∷ []) in omega (arith, a, b)
 sent_more (o ∷ os) (suc i) x y lt e = let h = sent_more os i x y (omega (arith, lt)) e in omega (arith, h)
+
+-- one outlet sent one item more
+pub sent_front : (xs : List outlet.Outlet) (i : ℕ) (x : outlet.Outlet) (y : item.Item) → sent_of x ≡ sent_of (get_or xs i x) ++ y ∷ []
+    → sent_in (set xs i x) ≡ append_at (sent_in xs) i (y ∷ [])
+sent_front [] i x y e = refl
+sent_front (o ∷ os) zero x y e = ap (λ l. l ∷ sent_in os) e
+sent_front (o ∷ os) (suc i) x y e = ap (λ ls. sent_of o ∷ ls) (sent_front os i x y e)
 
 -- the front of what is pending moved
 pub given_moved : (xs : List outlet.Outlet) (ls : List (List item.Item)) (i : ℕ) (x : outlet.Outlet) (l : List item.Item) (y : item.Item) → i < length xs
@@ -101,6 +114,18 @@ count_same (x ∷ xs) (y ∷ ys) e =
     let t : received_in xs ≡ received_in ys = cc e in
     let a = ap length h in
     let i = count_same xs ys t in
+    omega (arith, a, i)
+
+-- as many were sent
+pub sent_count_same : (xs ys : List outlet.Outlet) → sent_in xs ≡ sent_in ys → sent_count xs ≡ sent_count ys
+sent_count_same [] [] e = refl
+sent_count_same [] (y ∷ ys) e = absurd (cc e)
+sent_count_same (x ∷ xs) [] e = absurd (cc e)
+sent_count_same (x ∷ xs) (y ∷ ys) e =
+    let h : sent_of x ≡ sent_of y = cc e in
+    let t : sent_in xs ≡ sent_in ys = cc e in
+    let a = ap length h in
+    let i = sent_count_same xs ys t in
     omega (arith, a, i)
 
 -- one more was received

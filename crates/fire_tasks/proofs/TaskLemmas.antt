@@ -44,6 +44,7 @@ use Rattle.fire_tasks.specs.Adds.{table_numbers}
 use Rattle.fire_tasks.specs.Fired.{bad_at, kinds_in, kinds_out}
 use Rattle.fire_tasks.specs.Ports.{received_of, received_in, sent_in, pending_in, InEnd, IsIdle, in_ends, out_ends}
 use Rattle.fire_tasks.specs.Tasks.{IsTask}
+use Rattle.fire_tasks.proofs.Fronts.{goes_took}
 use Rattle.fire_tasks.specs.Turns.{AreRowsFor, HasFiredAt, HasTakenAt, Owes, classes_of, pile_grown, logged}
 use Rattle.fire_tasks.proofs.PortLemmas.{count_more, ins_many}
 use Rattle.fire_tasks.proofs.Turned.{turn_twice}
@@ -347,8 +348,20 @@ pub bad_fired : (p : PlanForm) → IsPlan p → (t : Task) → t.bad ≡ None �
     → received_in ins ≡ append_at (received_in t.ins) port (x ∷ []) → port < length t.ins → (IsHeldOf t.kinds port x → ⊥)
     → HasFiredAt p t (record t { ins = ins; bad = Some (port, x) })
 bad_fired p v t fine ins port x e r lt misfit = record {
+  did = record {
+    port = port;
+    item = x;
+    there = lt;
+    received = r;
+    sent = refl;
+    out = t.out;
+    fired = λ none. absurd (cc none);
+    pends = λ none. absurd (cc none);
+    rows = λ none. absurd (cc none);
+  };
   owes = λ adds k. owes_none p v (record t { ins = ins; bad = Some (port, x) }) adds (bad_came p v t adds k fine ins port x r (ins_many t.ins ins e) lt misfit);
   ends = ap (λ (i : List InEnd). record { op = t.op; ins = i; outs = out_ends t.outs }) e;
+  goes_on = goes_took t (record t { ins = ins; bad = Some (port, x) }) port x r refl;
   one = let m = count_more t.ins ins port x lt r in omega (arith, m);
   homes = (refl, refl);
 }
@@ -361,6 +374,17 @@ pub took_fired : (p : PlanForm) → IsPlan p → (t : Task) → t.bad ≡ None �
     → pending ≡ map reverse out.outs → blanks ≡ t.pending → n ≡ min most_firings (t.count + 1)
     → HasFiredAt p t (record t { ins = ins; states = st; pending = pending; out = record { outs = blanks; adds = out.adds }; spare = spare; count = n })
 took_fired p v t fine ins port x st out pending blanks spare n e r lt i idle f ep eb en = record {
+  did = record {
+    port = port;
+    item = x;
+    there = lt;
+    received = r;
+    sent = refl;
+    out = out;
+    fired = λ none. f;
+    pends = λ none. ep;
+    rows = λ none. refl;
+  };
   owes = λ adds k. record {
     task = spared p (λ j. adds j ++ list_at out.adds j)
         (record t { ins = ins; states = st; pending = pending; out = record { outs = blanks; adds = replicate (length out.adds) [] }; count = n }) spare
@@ -370,6 +394,7 @@ took_fired p v t fine ins port x st out pending blanks spare n e r lt i idle f e
     rows = came_wide p v t adds k port x st out i f;
   };
   ends = ap (λ (y : List InEnd). record { op = t.op; ins = y; outs = out_ends t.outs }) e;
+  goes_on = goes_took t (record t { ins = ins; states = st; pending = pending; out = record { outs = blanks; adds = out.adds }; spare = spare; count = n }) port x r refl;
   one = let m = count_more t.ins ins port x lt r in omega (arith, m);
   homes = (refl, refl);
 }
@@ -404,6 +429,7 @@ taken_at p t t1 pile pile' adds' f e cs b = record {
       (λ (a : List (List (List ℤ))). IsTask p (λ j. adds j ++ list_at t1.out.adds j) (record t1 { out = record { outs = t1.out.outs; adds = a } })) (sym b)
       (f.owes adds k).task;
   ends = f.ends;
+  goes_on = record { received = f.goes_on.received; sent = f.goes_on.sent };
   one = f.one;
   homes = f.homes;
 }

@@ -24,9 +24,10 @@ use Rattle.fire_tasks.specs.declared.ports.Outlet as outlet
 use Rattle.fire_tasks.specs.declared.task.Task.{Task}
 use Rattle.fire_tasks.specs.Adds.{AreCells, AreClaims, AreOwn, added, logs_at, logs_of, table_class}
 use Rattle.fire_tasks.specs.Ports.{HasMoved, InEnd, OutEnd, AllReceived, IsIdle, RefusedAll, Sent, in_ends, out_ends, received_count, received_in, sent_count}
-use Rattle.fire_tasks.specs.Tasks.{IsTask, IsTaskAt, TaskEnds, ends_of, moves}
+use Rattle.fire_tasks.specs.Tasks.{GoesOn, IsTask, IsTaskAt, TaskEnds, ends_of, moves}
 use Rattle.fire_tasks.specs.Turns.{AreCellsOf, HasSat, HasTakenAt, HasTried, HasTurned, IsSeatOf, IsStuckSince, SameRound, StillSits, classes_of, logged}
 use Rattle.fire_tasks.proofs.AddLemmas.{added_else, added_more, class_is, entries_logged, logged_none, logged_own}
+use Rattle.fire_tasks.proofs.Fronts.{goes_same, goes_sent, goes_then}
 use Rattle.fire_tasks.proofs.PassLemmas.{moved_true, moved_false, moved_first, moved_second, sent_task, looked_task, turn_sent, with_sent}
 use Rattle.fire_tasks.proofs.PortLemmas.{ins_many}
 use Rattle.fire_tasks.proofs.SeatLemmas.{same_round, own_grew, claims_all, claims_grew, part_own, part_within}
@@ -158,6 +159,7 @@ tried_busy p v w t k l h m f =
         more = m.more;
         takes = m.takes;
       };
+      goes_on = goes_same t;
       number = moved_false (moves t) (moves t) refl;
       found = λ e. f;
       stays = λ e. refl;
@@ -223,6 +225,7 @@ tried_took p valid v u w t t' pile pile' k mine ht at put m q =
         more = m.more;
         takes = q ∙ m.takes;
       };
+      goes_on = at.goes_on;
       number = moved_true (moves t) (moves t') (omega (arith, one));
       found = λ f. absurd (cc f);
       stays = λ f. absurd (cc f);
@@ -280,6 +283,7 @@ turned_sent p v t os ls m k h s r busy = record {
   task = sent_task p (added p (logs_at v t.op) t.op) t os ls m k s;
   ends = ap (λ (o : List OutEnd). record { op = t.op; ins = in_ends t.ins; outs = o }) s.ends;
   sat = sat_none p t.op v h;
+  goes_on = goes_sent t (with_sent t os ls) refl s.fronts;
   number = turn_sent t os ls m t.ins s refl;
   stuck = λ f. inr (inl (record { refused = r f; received = λ idle. absurd (busy idle) }));
 }
@@ -309,6 +313,7 @@ turned_none p v t os ls m ins k h s r e c a = record {
   task = looked_at p v t os ls m ins k s e c;
   ends = looked_ends t os ls m ins s e;
   sat = sat_none p t.op v h;
+  goes_on = goes_sent t (looked t os ls ins) c s.fronts;
   number = turn_sent t os ls m ins s c;
   stuck = λ f. inr (inl (record { refused = r f; received = λ idle. a }));
 }
@@ -321,6 +326,7 @@ turned_took p v w t t' os ls m n ins s e c h y = record {
   task = h.task;
   ends = h.ends ∙ looked_ends t os ls m ins s e;
   sat = h.sat;
+  goes_on = goes_then t (looked t os ls ins) t' (goes_sent t (looked t os ls ins) c s.fronts) h.goes_on;
   number = moved_second (moves t) (received_count ins + sent_count os) (moves t') m (turn_sent t os ls m ins s c)
       (subst (HasMoved (received_count ins + sent_count os) (moves t')) y h.number);
   stuck = λ f. absurd (cc f);
@@ -334,6 +340,7 @@ turned_busy p v w t t' os ls m n ins s e c h y = record {
   task = h.task;
   ends = h.ends ∙ looked_ends t os ls m ins s e;
   sat = h.sat;
+  goes_on = goes_then t (looked t os ls ins) t' (goes_sent t (looked t os ls ins) c s.fronts) h.goes_on;
   number = moved_first (moves t) (received_count ins + sent_count os) (moves t') m (turn_sent t os ls m ins s c)
       (subst (HasMoved (received_count ins + sent_count os) (moves t')) y h.number);
   stuck = λ f. inr (inr (subst (λ (x : Task). FoundTaken x.classes v w) (sym (h.stays y)) (h.found y)));
@@ -346,10 +353,11 @@ pub record Passed (p : PlanForm) (v w : View) (t t' : Task) : Type 0 where
   pub task : IsTaskAt p w t'
   pub ends : ends_of t' ≡ ends_of t
   pub sat : HasSat p t.op v w
+  pub goes_on : GoesOn t t'
   pub grows : moves t ≤ moves t'
 
 pub passed_none : (p : PlanForm) (v : View) (t : Task) → IsTaskAt p v t → v.held ≡ [] → Passed p v v t t
-passed_none p v t k h = record { task = k; ends = refl; sat = sat_none p t.op v h; grows = omega arith }
+passed_none p v t k h = record { task = k; ends = refl; sat = sat_none p t.op v h; goes_on = goes_same t; grows = omega arith }
 
 same_op : (t t' : Task) → ends_of t' ≡ ends_of t → t'.op ≡ t.op
 same_op t t' e = ap (λ (x : TaskEnds). x.op) e
@@ -360,6 +368,7 @@ passed_on p v u w t t1 t2 m a b = record {
   task = b.task;
   ends = b.ends ∙ a.ends;
   sat = sat_then p t.op v u w a.sat (subst (λ o. HasSat p o u w) (same_op t t1 a.ends) b.sat);
+  goes_on = goes_then t t1 t2 a.goes_on b.goes_on;
   grows = let g = a.grows in let n = b.number.never_falls in omega (arith, g, n);
 }
 
@@ -370,6 +379,7 @@ passed_after p v u w t t1 t2 m a e b = record {
   task = b.task;
   ends = b.ends ∙ a.ends;
   sat = sat_then p t.op v u w a.sat (subst (λ o. HasSat p o u w) (same_op t t1 a.ends) b.sat);
+  goes_on = goes_then t t1 t2 a.goes_on b.goes_on;
   number = let g = b.grows in let n = a.number.grew e in moved_true (moves t) (moves t2) (omega (arith, g, n));
   stuck = λ f. absurd (cc f);
 }
@@ -384,6 +394,7 @@ passed_bad p v t k h bad = record {
   task = k;
   ends = refl;
   sat = sat_none p t.op v h;
+  goes_on = goes_same t;
   number = moved_false (moves t) (moves t) refl;
   stuck = λ f. inl bad;
 }

@@ -1,5 +1,5 @@
 -- What the tasks of one worker keep at their seat.
-use Rattle.std.specs.Prelude.{◌≡◌, ℕ, ◌%◌, ◌<◌, Bool, false, IsFalse, List, [], length, slice_index_or}
+use Rattle.std.specs.Prelude.{◌≡◌, ◌⊎◌, ◌+◌, ◌≤◌, ℕ, ◌%◌, ◌<◌, Bool, false, IsTrue, IsFalse, List, [], length, slice_index_or}
 use Rattle.class_locks.specs.declared.view.View.{View}
 use Rattle.class_locks.specs.Piles.{HasMoreTries}
 use Rattle.class_locks.specs.Views.{StandsIn}
@@ -9,8 +9,8 @@ use Rattle.river_plan.specs.Valid.{IsPlan}
 use Rattle.fire_tasks.specs.declared.bundle.Bundle.{Bundle}
 use Rattle.fire_tasks.specs.declared.task.Task.{Task}
 use Rattle.fire_tasks.specs.Adds.{AreCells, AreClaims, AreOwn}
-use Rattle.fire_tasks.specs.Ports.{HasMoved}
-use Rattle.fire_tasks.specs.Tasks.{IsTaskAt, IsDone, HaveFewPorts, all_ends, all_moves}
+use Rattle.fire_tasks.specs.Ports.{HasMoved, received_in, sent_in}
+use Rattle.fire_tasks.specs.Tasks.{GoesOn, HasGrown, IsTaskAt, IsDone, HaveFewPorts, all_ends, all_moves}
 use Rattle.fire_tasks.specs.Turns.{SameRound, IsStuckSince, LooksSame}
 
 -- each task keeps what it keeps of itself, with the rows that the seat knows of its operator; no two are of one operator, and the seat has
@@ -44,10 +44,29 @@ pub record AreStuck (v w : View) (ts : List Task) : Type 0 where
 pub record AllDone (ts : List Task) : Type 0 where
   pub each : (i : ℕ) (d : Task) → i < length ts → IsDone (slice_index_or ts i d)
 
--- the same operators with the same ends; `moved` says whether a number grew
+-- port by port, what each received and sent is a front of what it received and sent afterwards
+abbrev pub AllGoOn : List Task → List Task → Type 0
+AllGoOn ts ts' = (i : ℕ) (d : Task) → i < length ts → GoesOn (slice_index_or ts i d) (slice_index_or ts' i d)
+
+-- one of them received or sent more at one of its ports
+pub record SomeGrew (ts ts' : List Task) : Type 0 where
+  pub which : ℕ
+  pub there : which < length ts
+  pub grew : (d : Task) → HasGrown (slice_index_or ts which d) (slice_index_or ts' which d)
+
+-- none received or sent anything
+abbrev pub AllStay : List Task → List Task → Type 0
+AllStay ts ts' = (i : ℕ) (d : Task) → i < length ts
+    → (received_in (slice_index_or ts' i d).ins ≡ received_in (slice_index_or ts i d).ins)
+    × (sent_in (slice_index_or ts' i d).outs ≡ sent_in (slice_index_or ts i d).outs)
+
+-- the same operators with the same ends. No number falls, port by port; and `moved` is true exactly where one grew
 pub record HasGone (b b' : Bundle) (moved : Bool) : Type 0 where
   pub ends : all_ends b'.tasks ≡ all_ends b.tasks
+  pub goes_on : AllGoOn b.tasks b'.tasks
   pub number : HasMoved (all_moves b.tasks) (all_moves b'.tasks) moved
+  pub grew : IsTrue moved → SomeGrew b.tasks b'.tasks
+  pub stayed : IsFalse moved → AllStay b.tasks b'.tasks
 
 -- the same tasks, which looked at their rings
 pub record AllLooked (ts ts' : List Task) : Type 0 where
@@ -64,6 +83,7 @@ pub record HaveLooked (b b' : Bundle) : Type 0 where
 pub record HasSwept (p : PlanForm) (v w : View) (ts ts' : List Task) (moved : Bool) : Type 0 where
   pub tasks : AreTasksAt p w ts'
   pub ends : all_ends ts' ≡ all_ends ts
+  pub goes_on : AllGoOn ts ts'
   pub number : HasMoved (all_moves ts) (all_moves ts') moved
   pub stuck : IsFalse moved → AreStuck v w ts'
   pub tries : HasMoreTries v w
@@ -74,8 +94,26 @@ pub record HasSwept (p : PlanForm) (v w : View) (ts ts' : List Task) (moved : Bo
 abbrev pub IsReady : RawPlan → Bundle → Type 0
 IsReady raw b = IsPlan (plan_form raw) × IsBundle (plan_form raw) b
 
--- after a round it still is one, at the same seat; and where it is not refused, `moved` says whether a number grew
+-- the most passes of a round
+abbrev pub most_passes : ℕ
+most_passes = 1024
+
+-- the last pass of a round moved nothing: each task tells why, for what was seen since that pass began
+pub record HasEndedStuck (b b' : Bundle) : Type 0 where
+  pub last : Bundle
+  pub seat : SameSeat b last
+  pub before : HasGone b last b'.moved
+  pub still : HasGone last b' false
+  pub stuck : AreStuck last.seat.view b'.seat.view b'.tasks
+
+-- why a round ended: so its last pass moved nothing, or there were as many passes as may be, of which each moved something
+abbrev pub HasEnded : Bundle → Bundle → Type 0
+HasEnded b b' = HasEndedStuck b b' ⊎ (all_moves b.tasks + most_passes ≤ all_moves b'.tasks)
+
+-- after a round it still is one, at the same seat; and where it is not refused, `moved` says whether a number grew, and the round has a cause
+-- for its end
 pub record HasMadeRound (raw : RawPlan) (b b' : Bundle) : Type 0 where
   pub bundle : IsBundle (plan_form raw) b'
   pub seat : SameSeat b b'
   pub went : b'.refused ≡ false → HasGone b b' b'.moved
+  pub ended : b'.refused ≡ false → HasEnded b b'

@@ -1,7 +1,6 @@
 pub mod Adds
 pub mod Bundles
 pub mod Fired
-pub mod Pops
 pub mod Ports
 pub mod Tasks
 pub mod Turns

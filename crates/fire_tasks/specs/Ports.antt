@@ -1,8 +1,8 @@
 -- The ends of an operator's queues: rings, and the kept lists of inputs, of outputs and of queues that nobody reads.
-use Rattle.std.specs.Prelude.{◌≡◌, ℕ, ◌+◌, ◌<◌, ◌≤◌, Bool, IsTrue, IsFalse, List, [], ◌∷◌, ◌++◌, length, take, drop, map, ◌⊎◌, slice_index_or}
-use mathlib.Core.List.{reverse}
+use Rattle.std.specs.Prelude.{◌≡◌, ℕ, ◌+◌, ◌<◌, ◌≤◌, Bool, IsTrue, IsFalse, List, [], ◌∷◌, ◌++◌, length, take, drop, map, ◌⊎◌, slice_index_or, slice_set}
+use mathlib.Core.List.{reverse, IsPrefix}
 use Rattle.river_base.specs.declared.item.Item as item
-use Rattle.river_base.specs.Places.{list_at}
+use Rattle.river_base.specs.Places.{append_at, list_at}
 use Rattle.river_rings.specs.Ends.{RingId}
 use Rattle.river_rings.specs.Ends as rings
 use Rattle.fire_tasks.specs.declared.ports.Inlet as inlet
@@ -97,6 +97,10 @@ pub record HasMoved (old new : ℕ) (moved : Bool) : Type 0 where
   pub grew : IsTrue moved → old < new
   pub stayed : IsFalse moved → new ≡ old
 
+-- port by port, what these lists hold is a front of what those hold
+abbrev pub AreFronts : List (List item.Item) → List (List item.Item) → Type 0
+AreFronts ls ls' = (j : ℕ) → IsPrefix (list_at ls j) (list_at ls' j)
+
 -- nothing is pending
 abbrev pub IsIdle : List (List item.Item) → Type 0
 IsIdle ls = (j : ℕ) → list_at ls j ≡ []
@@ -118,6 +122,7 @@ pub record Sent (outs : List outlet.Outlet) (pending : List (List item.Item)) (o
   pub ends : out_ends outs' ≡ out_ends outs
   pub many : length pending' ≡ length pending
   pub given : (j : ℕ) → given_at outs' pending' j ≡ given_at outs pending j
+  pub fronts : AreFronts (sent_in outs) (sent_in outs')
   pub number : HasMoved (sent_count outs) (sent_count outs') moved
 
 -- at one port alone; where none went, its ring refused, or there was none
@@ -127,3 +132,13 @@ pub record SentAt (port : ℕ) (outs : List outlet.Outlet) (pending : List (List
   pub lists : (j : ℕ) → (port ≡ j → ⊥) → list_at pending' j ≡ list_at pending j
   pub others : (j : ℕ) (d : outlet.Outlet) → (port ≡ j → ⊥) → slice_index_or outs' j d ≡ slice_index_or outs j d
   pub stuck : IsFalse moved → IsHeldBack port outs' pending'
+
+-- the front of what is pending at a port was sent there, and all other ports are as they were. What is pending is kept with the front at
+-- its end
+pub record HasSentFront (port : ℕ) (outs : List outlet.Outlet) (pending : List (List item.Item)) (outs' : List outlet.Outlet)
+    (pending' : List (List item.Item)) : Type 0 where
+  pub rest : List item.Item
+  pub item : item.Item
+  pub was : list_at pending port ≡ rest ++ item ∷ []
+  pub left : pending' ≡ slice_set pending port rest
+  pub sent : sent_in outs' ≡ append_at (sent_in outs) port (item ∷ [])

@@ -1,5 +1,6 @@
 -- What a task keeps of itself.
-use Rattle.std.specs.Prelude.{◌≡◌, ℕ, ℤ, min, ◌+◌, ◌^◌, ◌<◌, slice_index_or, ◌∷◌, Some, List, [], length, map, slice_get}
+use Rattle.std.specs.Prelude.{◌≡◌, ◌⊎◌, ℕ, ℤ, min, ◌+◌, ◌^◌, ◌<◌, slice_index_or, ◌∷◌, Some, List, [], length, map, slice_get}
+use Rattle.river_base.specs.Places.{list_at}
 use Rattle.river_plan.specs.Forms.{OpForm, PlanForm}
 use Rattle.brooklet_model.specs.Fire.{first_kept}
 use Rattle.brooklet_model.specs.Histories.{most_firings}
@@ -11,7 +12,7 @@ use Rattle.class_locks.specs.declared.view.View.{View}
 use Rattle.fire_tasks.specs.declared.task.Task.{Task}
 use Rattle.fire_tasks.specs.Adds.{AreHomes, added, logs_at}
 use Rattle.fire_tasks.specs.Fired.{SeenTask, HasFired, IsHeldAs, kinds_in}
-use Rattle.fire_tasks.specs.Ports.{received_in, sent_in, pending_in, InEnd, OutEnd, in_ends, out_ends, received_count, sent_count, IsIdle, RefusedAll, AllReceived}
+use Rattle.fire_tasks.specs.Ports.{AreFronts, received_in, sent_in, pending_in, InEnd, OutEnd, in_ends, out_ends, received_count, sent_count, IsIdle, RefusedAll, AllReceived}
 
 -- what the laws see of a task
 abbrev pub seen_task : Task → SeenTask
@@ -68,6 +69,16 @@ all_ends ts = map ends_of ts
 -- how many items the task took and sent
 abbrev pub moves : Task → ℕ
 moves t = received_count t.ins + sent_count t.outs
+
+-- port by port, what it received and sent is a front of what it received and sent afterwards
+pub record GoesOn (t t' : Task) : Type 0 where
+  pub received : AreFronts (received_in t.ins) (received_in t'.ins)
+  pub sent : AreFronts (sent_in t.outs) (sent_in t'.outs)
+
+-- at one of its ports it received or sent more
+abbrev pub HasGrown : Task → Task → Type 0
+HasGrown t t' = ((port : ℕ) × (length (list_at (received_in t.ins) port) < length (list_at (received_in t'.ins) port)))
+    ⊎ ((port : ℕ) × (length (list_at (sent_in t.outs) port) < length (list_at (sent_in t'.outs) port)))
 
 -- and all tasks together
 abbrev pub all_moves : List Task → ℕ

@@ -1,8 +1,12 @@
 -- Turns of a task at a seat, and why a task does not move.
-use Rattle.std.specs.Prelude.{◌≡◌, ◌≢◌, ℕ, ℤ, suc, ◌%◌, ◌+◌, ◌⊎◌, Bool, IsFalse, Some}
+use Rattle.std.specs.Prelude.{◌≡◌, ◌≢◌, ℕ, ℤ, suc, ◌%◌, ◌+◌, ◌<◌, ◌⊎◌, Bool, IsFalse, Some}
 use Rattle.std.specs.Prelude.{None, List, [], ◌∷◌, ◌++◌, length, map, All, nat_eq, slice_get, slice_index_or, replicate, if◌then◌else◌}
 use Rattle.river_plan.specs.declared.plan.TableDecl.{TableDecl}
-use Rattle.river_base.specs.Places.{list_at}
+use mathlib.Core.List.{reverse}
+use Rattle.river_base.specs.declared.item.Item as item
+use Rattle.river_base.specs.Places.{append_at, list_at}
+use Rattle.brooklet_step.specs.declared.emit.Emit.{Emit}
+use Rattle.brooklet_step.specs.Reading.{FiredOp}
 use Rattle.river_plan.specs.Forms.{PlanForm}
 use Rattle.class_locks.specs.declared.log.LogEntry.{LogEntry}
 use Rattle.class_locks.specs.declared.view.View.{View}
@@ -16,7 +20,7 @@ use Rattle.fire_tasks.specs.declared.task.TablePort.{TablePort}
 use Rattle.fire_tasks.specs.Adds.{AreCells, AreClaims, AreOwn, added, logs_at, table_class}
 use Rattle.fire_tasks.specs.declared.ports.Inlet as inlet
 use Rattle.fire_tasks.specs.Ports.{HasMoved, in_ends, received_in}
-use Rattle.fire_tasks.specs.Tasks.{IsTask, IsTaskAt, Waits, ends_of, moves}
+use Rattle.fire_tasks.specs.Tasks.{GoesOn, IsTask, IsTaskAt, Waits, ends_of, moves}
 
 -- ROWS
 
@@ -79,10 +83,25 @@ pub record AreCellsOf (p : PlanForm) (classes : List ℕ) (pile : List Piled) : 
 
 -- WHAT A TASK DOES
 
+-- it received one item at a port and sent nothing; and unless the item failed its test, it fired on it there: its states and what is
+-- pending are those of this firing, whose rows are in its lists
+pub record HasFiredOn (p : PlanForm) (t t' : Task) : Type 0 where
+  pub port : ℕ
+  pub item : item.Item
+  pub there : port < length t.ins
+  pub received : received_in t'.ins ≡ append_at (received_in t.ins) port (item ∷ [])
+  pub sent : t'.outs ≡ t.outs
+  pub out : Emit
+  pub fired : t'.bad ≡ None → FiredOp p t.op port item t.states t'.states out
+  pub pends : t'.bad ≡ None → t'.pending ≡ map reverse out.outs
+  pub rows : t'.bad ≡ None → t'.out.adds ≡ out.adds
+
 -- it took an item at a port, and fired on it where its test held: it owes the rows
 pub record HasFiredAt (p : PlanForm) (t t' : Task) : Type 0 where
+  pub did : HasFiredOn p t t'
   pub owes : (adds : ℕ → List (List ℤ)) → IsTask p adds t → Owes p adds t'
   pub ends : ends_of t' ≡ ends_of t
+  pub goes_on : GoesOn t t'
   pub one : moves t' ≡ moves t + 1
   pub homes : (t'.tables ≡ t.tables) × (t'.classes ≡ t.classes)
 
@@ -92,6 +111,7 @@ pub record HasTakenAt (p : PlanForm) (t t' : Task) (pile pile' : List Piled) : T
   pub logs : pile' ≡ pile_grown (logged t.op t.classes t.tables rows) pile
   pub task : (adds : ℕ → List (List ℤ)) → IsTask p adds t → IsTask p (λ j. adds j ++ rows j) t'
   pub ends : ends_of t' ≡ ends_of t
+  pub goes_on : GoesOn t t'
   pub one : moves t' ≡ moves t + 1
   pub homes : (t'.tables ≡ t.tables) × (t'.classes ≡ t.classes)
 
@@ -129,6 +149,7 @@ pub record HasTurned (p : PlanForm) (v w : View) (t t' : Task) (moved : Bool) : 
   pub task : IsTaskAt p w t'
   pub ends : ends_of t' ≡ ends_of t
   pub sat : HasSat p t.op v w
+  pub goes_on : GoesOn t t'
   pub number : HasMoved (moves t) (moves t') moved
   pub stuck : IsFalse moved → IsStuckSince v w t'
 
@@ -142,6 +163,7 @@ pub record HasTried (p : PlanForm) (v w : View) (t t' : Task) (taken : Bool) : T
   pub task : IsTaskAt p w t'
   pub ends : ends_of t' ≡ ends_of t
   pub sat : HasSat p t.op v w
+  pub goes_on : GoesOn t t'
   pub number : HasMoved (moves t) (moves t') taken
   pub found : IsFalse taken → FoundTaken t.classes v w
   pub stays : IsFalse taken → t' ≡ t

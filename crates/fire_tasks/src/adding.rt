@@ -1,5 +1,5 @@
 // The rows of a firing go to the cells of their tables.
-ghost use Rattle.std.specs.Prelude.{◌≡◌, ◌<◌, ◌++◌, [], length, replicate, Some, OnOk, OnErr, slice_get, slice_set};
+ghost use Rattle.std.specs.Prelude.{◌≡◌, ◌<◌, ◌++◌, [], length, replicate, Some, IfOk, OnOk, OnErr, slice_get, slice_set};
 ghost use Rattle.std.specs.List.Sorted.{IsStrictlyIncreasing};
 ghost use Rattle.river_base.specs.Places.{list_at};
 ghost use Rattle.class_locks.specs.Logs.{TakesRows};
@@ -11,7 +11,6 @@ use brooklet_step::RowLists;
 use class_locks::Pile;
 use river_base::{Listed, NoMemory, Rows};
 use std::alloc::Global;
-use std::mem::replace;
 
 /// Adds the rows of a firing of an operator to the cells of its tables: an entry for each table with rows. The lists of rows are empty
 /// afterwards; where there is no memory some may be added.
@@ -52,8 +51,29 @@ fn add_at(
     if rows.is_empty() {
         return Ok(());
     }
-    let moved = replace(rows, Rows::new(alloc));
+    let moved = moved_out(alloc, rows)?;
     put_entry(op, to, moved, pile)
+}
+
+// The rows of a list, with room for no more. None is left in the list, which keeps its memory.
+fn moved_out(alloc: Global, rows: &mut Rows) -> Result<Rows, NoMemory>
+    ensures moved { IfOk result (λ moved. moved ≡ rows.old) }
+    ensures blank { OnOk result (rows.new ≡ []) }
+{
+    let moved = copy_exactly(alloc, rows)?;
+    rows.truncate(0);
+    Ok(moved)
+}
+
+// A copy of the rows, with room for no more.
+fn copy_exactly(alloc: Global, rows: &Rows) -> Result<Rows, NoMemory>
+    ensures { IfOk result (λ copies. copies ≡ rows.now) }
+{
+    let mut copies = Rows::with_room(alloc, rows.len())?;
+    for row in rows.as_slice() {
+        copies.push(*row)?;
+    }
+    Ok(copies)
 }
 
 // Adds rows to a table.

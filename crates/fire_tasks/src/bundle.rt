@@ -13,6 +13,18 @@ use class_locks::{Pile, Seat};
 use river_base::{Gate, Listed, NoMemory};
 use river_plan::RawPlan;
 use std::alloc::Global;
+use std::sync::atomic::AtomicU64;
+use std::sync::atomic::Ordering::SeqCst;
+use std::thread::yield_now;
+
+/// How often a pass goes over its tasks, at most, for as long as something moves.
+const SWEEPS: u32 = 1024;
+
+/// What a worker takes from the count of those that find something to do when it begins.
+pub const BEGUN: u64 = 0x1_0000_0000;
+
+/// How often other threads may have the processor, at most, between two looks.
+const TURNS: u32 = 64;
 
 /// The tasks of one worker, with the worker's seat at the locks. It is seen without its plan, so that it is fit for threads.
 #[derive(Drop)]
@@ -57,8 +69,25 @@ fn sweep<G: Gate>(
     Ok(moved)
 }
 
-// A pass over these tasks. Where nothing moves it looks again, at most so often, since other workers send and take meanwhile.
-fn pass_all<G: Gate>(
+// Whether every other worker ended its round; where one did not, other threads may have the processor, and more often while a worker has not
+// begun.
+fn is_over(busy: &AtomicU64) -> bool {
+    if busy.load(SeqCst) <= 1 {
+        return true;
+    }
+    for _turn in 0..TURNS {
+        yield_now();
+        if busy.load(SeqCst) < BEGUN {
+            return false;
+        }
+    }
+    false
+}
+
+// A look at these tasks; where nothing moves it looks again, at most so often, since other workers send and take meanwhile. It stops
+// where no worker finds anything to do: `busy` counts those that do, and in its upper half those that have not begun. No contract
+// speaks of it.
+fn look_on<G: Gate>(
     alloc: Global,
     plan: &RawPlan,
     tasks: &mut Listed<Task>,
@@ -66,6 +95,7 @@ fn pass_all<G: Gate>(
     seat: &mut Seat,
     pile: &mut Pile,
     gate: &G,
+    busy: &AtomicU64,
 ) -> Result<bool, NoMemory>
     requires valid { IsPlan (plan_form plan.now) }
     requires tasks { AreTasksAt (plan_form plan.now) seat.old.view tasks.old }
@@ -80,8 +110,68 @@ fn pass_all<G: Gate>(
         if sweep(alloc, plan, tasks, seat, pile, gate)? {
             return Ok(true);
         }
+        if is_over(busy) {
+            return sweep(alloc, plan, tasks, seat, pile, gate);
+        }
     }
     sweep(alloc, plan, tasks, seat, pile, gate)
+}
+
+// A look at these tasks, and where nothing moves more looks.
+fn look_first<G: Gate>(
+    alloc: Global,
+    plan: &RawPlan,
+    tasks: &mut Listed<Task>,
+    looks: u32,
+    seat: &mut Seat,
+    pile: &mut Pile,
+    gate: &G,
+    busy: &AtomicU64,
+) -> Result<bool, NoMemory>
+    requires valid { IsPlan (plan_form plan.now) }
+    requires tasks { AreTasksAt (plan_form plan.now) seat.old.view tasks.old }
+    requires rests { seat.old.view.held ≡ [] }
+    requires blank { pile.old.items ≡ [] }
+    ensures lot { seat.new.lot ≡ seat.old.lot }
+    ensures sits { StillSits seat.old.view seat.new.view }
+    ensures blank { pile.new.items ≡ [] }
+    ensures swept { IfOk result (HasSwept (plan_form plan.now) seat.old.view seat.new.view tasks.old tasks.new) }
+{
+    if sweep(alloc, plan, tasks, seat, pile, gate)? {
+        return Ok(true);
+    }
+    look_on(alloc, plan, tasks, looks, seat, pile, gate, busy)
+}
+
+// A pass over these tasks: looks, for as long as something moves, at most so many.
+fn pass_all<G: Gate>(
+    alloc: Global,
+    plan: &RawPlan,
+    tasks: &mut Listed<Task>,
+    looks: u32,
+    seat: &mut Seat,
+    pile: &mut Pile,
+    gate: &G,
+    busy: &AtomicU64,
+) -> Result<bool, NoMemory>
+    requires valid { IsPlan (plan_form plan.now) }
+    requires tasks { AreTasksAt (plan_form plan.now) seat.old.view tasks.old }
+    requires rests { seat.old.view.held ≡ [] }
+    requires blank { pile.old.items ≡ [] }
+    ensures lot { seat.new.lot ≡ seat.old.lot }
+    ensures sits { StillSits seat.old.view seat.new.view }
+    ensures blank { pile.new.items ≡ [] }
+    ensures swept { IfOk result (HasSwept (plan_form plan.now) seat.old.view seat.new.view tasks.old tasks.new) }
+{
+    if !look_first(alloc, plan, tasks, looks, seat, pile, gate, busy)? {
+        return Ok(false);
+    }
+    for _more in 1..SWEEPS {
+        if !look_first(alloc, plan, tasks, looks, seat, pile, gate, busy)? {
+            return Ok(true);
+        }
+    }
+    Ok(true)
 }
 
 // Whether a task has nothing pending and received every item known to be there. It looks at its rings.
@@ -157,6 +247,27 @@ impl Bundle {
         ensures calm { OnOk result (self.new.refused ≡ false) }
         ensures refused { OnErr result (self.new.refused ≡ true) }
     {
+        self.pass_among(plan, gate, &AtomicU64::new(1))
+    }
+
+    /// The same, in a round of several bundles: `busy` counts those that find something to do.
+    pub fn pass_among<G: Gate>(
+        &mut self,
+        plan: &RawPlan,
+        gate: &G,
+        busy: &AtomicU64,
+    ) -> Result<bool, NoMemory>
+        requires valid { IsPlan (plan_form plan.now) }
+        requires bundle { IsBundle (plan_form plan.now) self.old }
+        requires calm { self.old.refused ≡ false }
+        ensures bundle { IsBundle (plan_form plan.now) self.new }
+        ensures seat { SameSeat self.old self.new }
+        ensures told { self.new.moved ≡ self.old.moved }
+        ensures gone { IfOk result (HasGone self.old self.new) }
+        ensures stuck { IfOk result (λ moved. IsFalse moved → AreStuck self.old.seat.view self.new.seat.view self.new.tasks) }
+        ensures calm { OnOk result (self.new.refused ≡ false) }
+        ensures refused { OnErr result (self.new.refused ≡ true) }
+    {
         self.refused = true;
         let moved = pass_all(
             self.alloc,
@@ -166,6 +277,7 @@ impl Bundle {
             &mut self.seat,
             &mut self.pile,
             gate,
+            busy,
         )?;
         self.refused = false;
         Ok(moved)

@@ -1,7 +1,7 @@
 // The ends of an operator's queues.
-ghost use Rattle.std.specs.Prelude.{◌≡◌, ◌+◌, ◌<◌, ◌≤◌, ℕ, [], ◌∷◌, ◌++◌, length, take, IsTrue, IsFalse, IfOk, OnErr, IsNone, slice_index_or, MatchOption};
+ghost use Rattle.std.specs.Prelude.{◌≡◌, ◌+◌, ◌<◌, ◌≤◌, ℕ, [], ◌∷◌, ◌++◌, length, take, IsTrue, IsFalse, true, IfOk, OnOk, OnErr, slice_index_or};
 ghost use Rattle.river_base.specs.Places.{append_at, list_at};
-ghost use Rattle.fire_tasks.specs.Ports.{received_of, known_of, in_end, in_ends, sent_of, sent_count, IsFull, HasRoom, out_end, received_in, SentAt};
+ghost use Rattle.fire_tasks.specs.Ports.{received_of, known_of, in_end, in_ends, sent_of, sent_in, sent_count, IsFull, HasRoom, out_end, out_ends, received_in, HasSentFront, SentAt};
 
 use kern_rows::Line;
 use river_base::{Item, Items, Listed, NoMemory};
@@ -51,21 +51,9 @@ impl Inlet {
         ensures received { IfOk result (λ x. received_of self.new ≡ received_of self.old ++ x ∷ []) }
     {
         match self {
-            Inlet::Ring(take) => Ok(next_sent(take)),
+            Inlet::Ring(take) => Ok(take.next()),
             Inlet::Kept(kept) => next_kept(alloc, kept),
         }
-    }
-}
-
-// The next item of a ring that is known to have one.
-fn next_sent(take: &mut Take) -> Item
-    requires { 0 < length take.old.known }
-    ensures ring { (take.new.id ≡ take.old.id) × (take.new.cap ≡ take.old.cap) }
-    ensures received { take.new.received ≡ take.old.received ++ result ∷ [] }
-{
-    match take.pop() {
-        Some(item) => item,
-        None => unreachable!(),
     }
 }
 
@@ -84,23 +72,33 @@ fn next_kept(alloc: Global, kept: &mut Kept) -> Result<Item, NoMemory>
 }
 
 impl Outlet {
-    /// Sends an item; where a ring refuses it, it is handed back. Where there is no memory nothing is sent.
-    pub fn push(&mut self, item: Item) -> Result<Option<Item>, NoMemory>
+    /// Whether an item can be sent: so it is, unless a ring holds as many as it may, for all that is known.
+    pub fn has_room(&mut self) -> bool
         ensures same { out_end self.new ≡ out_end self.old }
-        ensures room { HasRoom self.old → IfOk result IsNone }
-        ensures sent { IfOk result (λ r. MatchOption r (sent_of self.new ≡ sent_of self.old ++ item ∷ [])
-            (λ back. (back ≡ item) × (sent_of self.new ≡ sent_of self.old) × IsFull self.new)) }
+        ensures sent { sent_of self.new ≡ sent_of self.old }
+        ensures yes { IsTrue result → HasRoom self.new }
+        ensures no { IsFalse result → IsFull self.new }
+        ensures room { HasRoom self.old → IsTrue result }
+    {
+        match self {
+            Outlet::Ring(feed) => feed.has_room(),
+            Outlet::Kept(_) => true,
+        }
+    }
+
+    /// Sends an item, where there is room. Where there is no memory nothing is sent.
+    pub fn put(&mut self, item: Item) -> Result<(), NoMemory>
+        requires { HasRoom self.old }
+        ensures same { out_end self.new ≡ out_end self.old }
+        ensures ok { OnOk result (sent_of self.new ≡ sent_of self.old ++ item ∷ []) }
         ensures err { OnErr result (sent_of self.new ≡ sent_of self.old) }
     {
         match self {
-            Outlet::Ring(feed) => match feed.push(item) {
-                Ok(()) => Ok(None),
-                Err(back) => Ok(Some(back)),
-            },
-            Outlet::Kept(line) => {
-                line.push(item)?;
-                Ok(None)
+            Outlet::Ring(feed) => {
+                feed.put(item);
+                Ok(())
             }
+            Outlet::Kept(line) => line.push(item),
         }
     }
 }
@@ -128,8 +126,42 @@ pub fn pop_at(alloc: Global, ins: &mut Listed<Inlet>, port: usize) -> Result<Ite
     ensures same { in_ends ins.new ≡ in_ends ins.old }
     ensures received { IfOk result (λ x. received_in ins.new ≡ append_at (received_in ins.old) port (x ∷ [])) }
 {
-    let item = ins.at_mut(port).pop(alloc)?;
-    Ok(item)
+    ins.at_mut(port).pop(alloc)
+}
+
+// Whether an item can be sent at a port.
+#[tactic(auto, using(crate::proofs::PortLemmas::outs_set, crate::proofs::PortLemmas::sent_same))]
+fn has_room_at(outs: &mut Listed<Outlet>, port: usize) -> bool
+    requires { port < length outs.old }
+    ensures same { out_ends outs.new ≡ out_ends outs.old }
+    ensures sent { sent_in outs.new ≡ sent_in outs.old }
+    ensures yes { IsTrue result → (d : _) → HasRoom (slice_index_or outs.new port d) }
+    ensures no { IsFalse result → (d : _) → IsFull (slice_index_or outs.new port d) }
+    ensures room { ((d : _) → HasRoom (slice_index_or outs.old port d)) → IsTrue result }
+    ensures others { (j : ℕ) (d : _) → (port ≡ j → ⊥) → slice_index_or outs.new j d ≡ slice_index_or outs.old j d }
+    ensures many { length outs.new ≡ length outs.old }
+{
+    outs.at_mut(port).has_room()
+}
+
+// Sends the front of what is pending at a port that has room.
+fn send_front(
+    outs: &mut Listed<Outlet>,
+    pending: &mut Listed<Items>,
+    port: usize,
+) -> Result<(), NoMemory>
+    requires outs { port < length outs.old }
+    requires pending { port < length pending.old }
+    requires some { list_at pending.old port ≡ [] → ⊥ }
+    requires room { (d : _) → HasRoom (slice_index_or outs.old port d) }
+    ensures sent { OnOk result (SentAt port outs.old pending.old outs.new pending.new true) }
+    ensures one { OnOk result (sent_count outs.new ≡ sent_count outs.old + 1) }
+    ensures front { OnOk result (HasSentFront port outs.old pending.old outs.new pending.new) }
+{
+    match pending.at_mut(port).pop() {
+        Some(item) => outs.at_mut(port).put(item),
+        None => unreachable!(),
+    }
 }
 
 /// Sends the front of what is pending at a port, where there is room; says whether an item was sent.
@@ -142,16 +174,15 @@ pub fn send_at(
     requires pending { port < length pending.old }
     ensures sent { IfOk result (SentAt port outs.old pending.old outs.new pending.new) }
     ensures one { IfOk result (λ moved. IsTrue moved → sent_count outs.new ≡ sent_count outs.old + 1) }
+    ensures front { IfOk result (λ moved. IsTrue moved → HasSentFront port outs.old pending.old outs.new pending.new) }
     ensures goes { (list_at pending.old port ≡ [] → ⊥) → ((d : _) → HasRoom (slice_index_or outs.old port d)) → IfOk result IsTrue }
 {
-    let Some(item) = pending.at_mut(port).pop() else {
+    if pending.at(port).is_empty() {
         return Ok(false);
-    };
-    match outs.at_mut(port).push(item)? {
-        None => Ok(true),
-        Some(back) => {
-            pending.at_mut(port).push(back)?;
-            Ok(false)
-        }
     }
+    if !has_room_at(outs, port) {
+        return Ok(false);
+    }
+    send_front(outs, pending, port)?;
+    Ok(true)
 }

@@ -3,16 +3,29 @@ ghost use Rattle.std.specs.Prelude.{◌≡◌, ◌<◌, ℕ, length, slice_index
 ghost use Rattle.fire_tasks.specs.Bundles.{IsReady, HasMadeRound};
 
 use crate::Bundle;
+use crate::bundle::BEGUN;
 use river_base::Gate;
 use river_plan::RawPlan;
+use std::sync::atomic::AtomicU64;
+use std::sync::atomic::Ordering::SeqCst;
 use std::thread;
 use std::thread::Threads;
 
 /// The most passes of a bundle in a round.
 const MOST_PASSES: u32 = 1024;
 
-/// A round of a bundle: passes, until one moves nothing.
-pub fn work<G: Gate>(plan: &RawPlan, bundle: &mut Bundle, gate: &G)
+/// A round of a bundle: passes, until one moves nothing. Behind it the bundle counts no more as one that finds something to do.
+pub fn work<G: Gate>(plan: &RawPlan, bundle: &mut Bundle, gate: &G, busy: &AtomicU64)
+    requires { IsReady plan.now bundle.old }
+    ensures { HasMadeRound plan.now bundle.old bundle.new }
+{
+    busy.fetch_sub(BEGUN, SeqCst);
+    make_passes(plan, bundle, gate, busy);
+    busy.fetch_sub(1, SeqCst);
+}
+
+// Passes, until one moves nothing.
+fn make_passes<G: Gate>(plan: &RawPlan, bundle: &mut Bundle, gate: &G, busy: &AtomicU64)
     requires { IsReady plan.now bundle.old }
     ensures { HasMadeRound plan.now bundle.old bundle.new }
 {
@@ -21,7 +34,7 @@ pub fn work<G: Gate>(plan: &RawPlan, bundle: &mut Bundle, gate: &G)
         return;
     }
     for _pass in 0..MOST_PASSES {
-        let Ok(moved) = bundle.pass(plan, gate) else {
+        let Ok(moved) = bundle.pass_among(plan, gate, busy) else {
             return;
         };
         if !moved {
@@ -40,7 +53,7 @@ pub trait Works<P> {
     ghost worked: { P → Self → Self → Type 0 };
 
     /// Works until nothing moves.
-    fn work<G: Gate>(&mut self, plan: &P, gate: &G)
+    fn work<G: Gate>(&mut self, plan: &P, gate: &G, busy: &AtomicU64)
         requires { Self.ready plan.now self.old }
         ensures { Self.worked plan.now self.old self.new };
 }
@@ -52,8 +65,8 @@ impl Works<RawPlan> for Bundle {
 
     ghost worked = { HasMadeRound };
 
-    fn work<G: Gate>(&mut self, plan: &RawPlan, gate: &G) {
-        work(plan, self, gate)
+    fn work<G: Gate>(&mut self, plan: &RawPlan, gate: &G, busy: &AtomicU64) {
+        work(plan, self, gate, busy)
     }
 }
 
@@ -64,6 +77,7 @@ pub fn round<R: Threads + Sync, P: Sync, C: Works<P> + Send, G: Gate + Sync>(
     bundles: &mut [C],
     workers: usize,
     gate: &G,
+    busy: &AtomicU64,
 )
     requires workers { 0 < workers }
     requires bundles { All (C.ready plan.now) bundles.old }
@@ -77,7 +91,7 @@ pub fn round<R: Threads + Sync, P: Sync, C: Works<P> + Send, G: Gate + Sync>(
         &|_, c: &mut C|
             requires { C.ready plan.now c.now }
             ensures { C.worked plan.entry.now c.entry.now c.exit.now }
-        { c.work(plan, gate) },
+        { c.work(plan, gate, busy) },
     );
 }
 
@@ -88,13 +102,14 @@ pub fn round_by<R: Threads + Sync, C: Works<RawPlan> + Send, G: Gate + Sync>(
     bundles: &mut [C],
     workers: usize,
     gate: &G,
+    busy: &AtomicU64,
 )
     requires workers { 0 < workers }
     requires bundles { All (C.ready plan.now) bundles.old }
     ensures many { length bundles.new ≡ length bundles.old }
     ensures each { (i : ℕ) (d : _) → i < length bundles.old → C.worked plan.now (slice_index_or bundles.old i d) (slice_index_or bundles.new i d) }
 {
-    round(rt, plan, bundles, workers, gate);
+    round(rt, plan, bundles, workers, gate, busy);
 }
 
 /// Each bundle works by the lists of its plan: here it is shown that bundles may be sent to other threads.
@@ -104,11 +119,12 @@ pub fn round_of<R: Threads + Sync, G: Gate + Sync>(
     bundles: &mut [Bundle],
     workers: usize,
     gate: &G,
+    busy: &AtomicU64,
 )
     requires workers { 0 < workers }
     requires bundles { All (IsReady plan.now) bundles.old }
     ensures many { length bundles.new ≡ length bundles.old }
     ensures each { (i : ℕ) (d : _) → i < length bundles.old → HasMadeRound plan.now (slice_index_or bundles.old i d) (slice_index_or bundles.new i d) }
 {
-    round_by(rt, plan, bundles, workers, gate);
+    round_by(rt, plan, bundles, workers, gate, busy);
 }

@@ -1,12 +1,12 @@
 // Taking an item, and firing on it.
-ghost use Rattle.std.specs.Prelude.{◌≡◌, ◌+◌, ◌<◌, min, ℕ, ℤ, List, ◌++◌, length, map, IfOk, OnOk, IfSome, IfNone, slice_index_or, Some, None};
+ghost use Rattle.std.specs.Prelude.{◌≡◌, ◌+◌, ◌<◌, min, ℕ, ℤ, List, ◌++◌, length, map, OnOk, IfSome, IfNone, IsTrue, ◌↔◌, slice_index_or, Some, None};
 ghost use mathlib.Core.List.{reverse};
 ghost use Rattle.brooklet_model.specs.Histories.{most_firings};
 ghost use Rattle.river_plan.specs.Forms.{plan_form};
 ghost use Rattle.river_plan.specs.Valid.{IsPlan};
 ghost use Rattle.fire_tasks.specs.Ports.{IsIdle, known_of, in_ends, received_in, AllReceived};
 ghost use Rattle.fire_tasks.specs.Tasks.{IsTask};
-ghost use Rattle.fire_tasks.specs.Pops.{IsPop};
+ghost use Rattle.brooklet_step.specs.Given.{IsHeldOf};
 ghost use Rattle.fire_tasks.specs.Turns.{HasFiredAt, HasTakenAt, HaveGained, AreCellsOf};
 
 use crate::adding::add_rows;
@@ -21,14 +21,6 @@ use std::mem::swap;
 
 /// The greatest count of firings.
 const MOST: usize = 0x7fff_ffff_ffff_ffff;
-
-/// An item that was taken.
-#[derive(Drop)]
-pub enum Pop {
-    /// Its port's queue may not hold it.
-    Bad(Item),
-    Good(Item),
-}
 
 /// The first port at which an item is there.
 pub fn first_ready(ins: &mut Listed<Inlet>) -> Option<usize>
@@ -46,24 +38,12 @@ pub fn first_ready(ins: &mut Listed<Inlet>) -> Option<usize>
     None
 }
 
-/// Takes the item at a port, and tests it.
-pub fn take_item(
-    alloc: Global,
-    ins: &mut Listed<Inlet>,
-    kinds: &Listed<QueueType>,
-    port: usize,
-) -> Result<Pop, NoMemory>
-    requires ins { port < length ins.old }
-    requires kinds { port < length kinds.now }
-    requires known { (d : _) → 0 < length (known_of (slice_index_or ins.old port d)) }
-    ensures same { in_ends ins.new ≡ in_ends ins.old }
-    ensures pop { IfOk result (IsPop kinds.now port (received_in ins.old) (received_in ins.new)) }
+// Whether a port's queue may hold the item.
+fn is_fit(kinds: &Listed<QueueType>, port: usize, item: &Item) -> bool
+    requires { port < length kinds.now }
+    ensures { IsTrue result ↔ IsHeldOf kinds.now port item.now }
 {
-    let item = pop_at(alloc, ins, port)?;
-    if !item_fits(kinds.at(port), &item) {
-        return Ok(Pop::Bad(item));
-    }
-    Ok(Pop::Good(item))
+    item_fits(kinds.at(port), item)
 }
 
 // The items of a list, the first last.
@@ -105,29 +85,26 @@ pub fn fire_at<G: Gate>(
     requires known { (d : _) → 0 < length (known_of (slice_index_or task.old.ins port d)) }
     ensures { OnOk result (HasFiredAt (plan_form plan.now) task.old task.new) }
 {
-    match take_item(alloc, &mut task.ins, &task.kinds, port as usize)? {
-        Pop::Bad(item) => {
-            keep_bad(&mut task.bad, port, item);
-            Ok(())
-        }
-        Pop::Good(item) => {
-            gate.enter(task.op);
-            fire_op(
-                alloc,
-                plan,
-                task.op,
-                port,
-                item,
-                &mut task.states,
-                &mut task.out,
-                &mut task.spare,
-            )?;
-            turn_all(&mut task.out.outs);
-            swap(&mut task.pending, &mut task.out.outs);
-            task.count = next_count(task.count);
-            Ok(())
-        }
+    let item = pop_at(alloc, &mut task.ins, port as usize)?;
+    if !is_fit(&task.kinds, port as usize, &item) {
+        keep_bad(&mut task.bad, port, item);
+        return Ok(());
     }
+    gate.enter(task.op);
+    fire_op(
+        alloc,
+        plan,
+        task.op,
+        port,
+        item,
+        &mut task.states,
+        &mut task.out,
+        &mut task.spare,
+    )?;
+    turn_all(&mut task.out.outs);
+    swap(&mut task.pending, &mut task.out.outs);
+    task.count = next_count(task.count);
+    Ok(())
 }
 
 // An item that its port's queue may not hold is kept, with the port.

@@ -60,6 +60,24 @@ impl Feed {
             Err(PushError::Full(back)) => Err(back),
         }
     }
+
+    /// Whether the next push is taken: so it is, unless the items sent and not known to be taken are as many as the ring holds.
+    pub fn has_room(&mut self) -> bool
+        ensures seen { HasSeenTaken self.old self.new }
+        ensures yes { IsTrue result → HasRingRoom self.new }
+        ensures no { IsFalse result → IsFullRing self.new }
+    {
+        !self.end.is_full()
+    }
+
+    /// Sends the item, where the ring has room for it.
+    pub fn put(&mut self, item: Item)
+        requires { HasRingRoom self.old }
+        ensures ring { SameSending self.old self.new }
+        ensures sent { (self.new.sent ≡ self.old.sent ++ item ∷ []) × (self.new.waiting ≤ self.old.waiting + 1) }
+    {
+        self.end.push_reserved(item);
+    }
 }
 
 impl Take {
@@ -80,6 +98,16 @@ impl Take {
         ensures succeeds { 0 < length self.old.known → IsSome result }
     {
         self.end.pop().ok()
+    }
+
+    /// The next item in the order sent, where one is known to be there.
+    pub fn next(&mut self) -> Item
+        requires { 0 < length self.old.known }
+        ensures ring { SameTaking self.old self.new }
+        ensures received { self.new.received ≡ self.old.received ++ result ∷ [] }
+        ensures known { self.old.known ≡ result ∷ self.new.known }
+    {
+        self.end.pop_known()
     }
 }
 

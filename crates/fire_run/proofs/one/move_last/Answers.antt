@@ -5,6 +5,8 @@ use Rattle.fire_tasks.specs.Tasks.{IsTask, all_moves}
 use Rattle.fire_laws.specs.Layout.{AreTasks}
 use Rattle.fire_open.specs.Homes.{AreClassCells}
 use Rattle.fire_run.specs.Cells.{HaveAdded, HaveMoved}
+use Rattle.fire_run.specs.OneMove.{Moves}
+use Rattle.fire_run.proofs.OneMoves.{last_moved}
 use Rattle.fire_run.proofs.MoveLemmas.{walked_first, turn_of, walked_next, walked_all, moved_one, one_false, none_moved}
 use Rattle.fire_open.proofs.StillLemmas.{still_tasks, still_ends, still_all_moves}
 use Rattle.fire_run.proofs.one.move_last.Goals as goal
@@ -112,3 +114,11 @@ returns-clause-stay g c = λ f. c.loop-back.invariant.stay
 
 pub returns-clause-idle : goal.returns-clause-idle
 returns-clause-idle g c = λ f. walked_all c.args.tasks.now c.loop-back.tasks c.loop-back.back c.loop-back.invariant.walked (omega arith)
+
+pub returns-then-branch-clause-step : goal.returns-then-branch-clause-step
+returns-then-branch-clause-step g c =
+    let p = plan_form c.args.plan.now in
+    let t = c.at_mut.result.now in
+    λ m. last_moved p c.args.cells.now c.move_one.new.cells c.args.tasks.now c.loop-back.tasks c.loop-back.back
+    (c.len-count.result - 1 - c.loop-back.back) t c.move_one.new.task c.loop-back.invariant.walked (omega arith) (c.at_mut.ensures.value t)
+    (subst (λ cells. Moves p t c.move_one.new.task cells c.move_one.new.cells) c.loop-back.invariant.stay (c.in_ok-move_one.ensures.step c.if-branch.true))

@@ -1,5 +1,6 @@
 use Rattle.river_plan.specs.Forms.{plan_form}
 use Rattle.fire_tasks.specs.Adds.{added, logs_of}
+use Rattle.fire_run.proofs.OneMoves.{takes_at}
 use Rattle.fire_run.proofs.RowLemmas.{owed, task_after, added_after}
 use Rattle.fire_run.proofs.one.take_for.Goals as goal
 
@@ -28,3 +29,20 @@ returns-clause-cells g c =
     c.in_ok-fire_at.ensures
     (owed (plan_form c.args.plan.now) c.args.task.now c.fire_at.new.task c.args.cells.now c.requires.task c.in_ok-fire_at.ensures c.requires.cells)
     c.in_ok-add_to_cells.ensures.logged
+
+pub returns-clause-takes : goal.returns-clause-takes
+returns-clause-takes g c =
+    let h = takes_at (plan_form c.args.plan.now) c.args.task.now c.fire_at.new.task c.args.cells.now c.add_to_cells.new.cells c.requires.idle
+    c.in_ok-fire_at.ensures c.in_ok-add_to_cells.ensures.logged in
+    record {
+      idle = h.idle;
+      port = h.port;
+      item = h.item;
+      there = h.there;
+      received = h.received;
+      sent = h.sent;
+      out = h.out;
+      fired = h.fired;
+      pends = h.pends;
+      logs = h.logs;
+    }

@@ -4,6 +4,7 @@ use Rattle.fire_tasks.specs.Adds.{added, logs_of}
 use Rattle.fire_tasks.specs.Tasks.{moves}
 use Rattle.fire_tasks.proofs.PassLemmas.{looked_task}
 use Rattle.fire_tasks.proofs.PortLemmas.{count_same}
+use Rattle.fire_run.proofs.OneMoves.{takes_looked}
 use Rattle.fire_run.proofs.MoveLemmas.{none_added, still_ins, one_true, one_false}
 use Rattle.fire_run.proofs.one.take_next.Goals as goal
 
@@ -38,3 +39,8 @@ returns-in-None-clause-still g c = λ f. still_ins c.args.task.now c.first_ready
 
 pub returns-in-None-clause-done : goal.returns-in-None-clause-done
 returns-in-None-clause-done g c = λ f. record { idle = c.requires.idle; received = c.in-None.ensures.none_before }
+
+pub returns-in_ok-take_for-in-Some-clause-takes : goal.returns-in_ok-take_for-in-Some-clause-takes
+returns-in_ok-take_for-in-Some-clause-takes g c =
+    λ m. takes_looked (plan_form c.args.plan.now) c.args.task.now c.take_for.new.task c.first_ready.new.ins c.args.cells.now c.take_for.new.cells
+    c.first_ready.ensures.same c.first_ready.ensures.received c.in_ok-take_for-in-Some.ensures.takes

@@ -1,3 +1,5 @@
+use Rattle.std.proofs.lemmas.Result.{IfOk-weaker}
+use Rattle.fire_run.specs.Closed.{AreLogsIn, HasClosed}
 use Rattle.river_plan.specs.Caps.{capacity, first_cap}
 use Rattle.fire_run.proofs.RunLemmas.{ran_first, ran_has, ran_less, ran_next}
 use Rattle.fire_run.proofs.running.run_plan.Goals as goal
@@ -14,11 +16,18 @@ close-requires-clause-net g c =
     (ran_next c.args.plan.now c.args.inputs c.in_ok-net-2.rounds c.loop-net.net c.one.new.self c.in_ok-one.field-0 c.loop-net.invariant
     c.in_ok-one.ensures.stays c.in_ok-one.ensures.moved)
 
-pub returns-then-not-branch : goal.returns-then-not-branch
-returns-then-not-branch g c =
+pub returns-then-not-branch-clause-ran : goal.returns-then-not-branch-clause-ran
+returns-then-not-branch-clause-ran g c =
     let r = ran_next c.args.plan.now c.args.inputs c.in_ok-net-2.rounds c.loop-net.net c.one.new.self c.in_ok-one.field-0 c.loop-net.invariant
     c.in_ok-one.ensures.stays c.in_ok-one.ensures.moved in
     c.close.ensures.ran c.args.inputs r.has.caps r.has.is
+
+pub returns-then-not-branch-clause-closed : goal.returns-then-not-branch-clause-closed
+returns-then-not-branch-clause-closed g c =
+    let r = ran_next c.args.plan.now c.args.inputs c.in_ok-net-2.rounds c.loop-net.net c.one.new.self c.in_ok-one.field-0 c.loop-net.invariant
+    c.in_ok-one.ensures.stays c.in_ok-one.ensures.moved in
+    IfOk-weaker c.close.result (λ ran. AreLogsIn c.one.new.self.cells ran.logs) (HasClosed c.args.plan.now c.args.inputs)
+    (λ ran e. record { net = c.one.new.self; has = r.has; idle = c.in_ok-one.ensures.idle c.if-not-branch.true; logs = e }) c.close.ensures.logs
 
 pub loop-net-smaller : goal.loop-net-smaller
 loop-net-smaller g c =

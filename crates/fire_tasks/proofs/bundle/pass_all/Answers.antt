@@ -1,59 +1,70 @@
 use Rattle.std.proofs.Common.{◌∙◌, refl, subst}
-use Rattle.std.proofs.lemmas.Result.{IfOk-weaker}
 use Rattle.river_plan.specs.Forms.{plan_form}
 use Rattle.fire_tasks.specs.Bundles.{HasSwept}
 use Rattle.fire_tasks.proofs.TurnLemmas.{sits_then}
-use Rattle.fire_tasks.proofs.BundleLemmas.{swept_none, swept_more, swept_then}
+use Rattle.fire_tasks.proofs.BundleLemmas.{went_none, went_on, went_after}
 use Rattle.fire_tasks.proofs.bundle.pass_all.Goals as goal
 
-pub loop-look-init : goal.loop-look-init
-loop-look-init g c = record {
+pub returns-then-not-branch-clause-swept : goal.returns-then-not-branch-clause-swept
+returns-then-not-branch-clause-swept g c =
+    subst (HasSwept (plan_form c.args.plan.now) c.args.seat.now.view c.look_first.new.seat.view c.args.tasks.now c.look_first.new.tasks)
+    c.if-not-branch.true c.in_ok-look_first.ensures.swept
+
+pub loop-more-init : goal.loop-more-init
+loop-more-init g c = record {
   lot = refl;
-  blank = c.requires.blank;
-  swept =
-      swept_none (plan_form c.args.plan.now) c.args.seat.now.view c.args.tasks.now c.requires.tasks c.requires.rests;
+  blank = c.look_first.ensures.blank;
+  went =
+      went_none (plan_form c.args.plan.now) c.look_first.new.seat.view c.look_first.new.tasks c.in_ok-look_first.ensures.swept.tasks
+      c.look_first.ensures.sits.rests;
 }
 
-pub returns-in_err-sweep-clause-lot : goal.returns-in_err-sweep-clause-lot
-returns-in_err-sweep-clause-lot g c = c.sweep.ensures.lot ∙ c.loop-look.invariant.lot
+pub loop-more-preserved : goal.loop-more-preserved
+loop-more-preserved g c = record {
+  lot = c.look_first-in-loop-more.ensures.lot ∙ c.loop-more.invariant.lot;
+  blank = c.look_first-in-loop-more.ensures.blank;
+  went = went_on (plan_form c.args.plan.now) c.look_first.new.seat.view c.loop-more.seat.view c.look_first-in-loop-more.new.seat.view
+      c.look_first.new.tasks c.loop-more.tasks c.look_first-in-loop-more.new.tasks c.in_ok-look_first-2.field-0 c.loop-more.invariant.went
+      c.look_first-in-loop-more.ensures.sits c.in_ok-look_first-2.ensures.swept;
+}
 
-pub returns-in_err-sweep-clause-sits : goal.returns-in_err-sweep-clause-sits
-returns-in_err-sweep-clause-sits g c =
-    sits_then c.args.seat.now.view c.loop-look.seat.view c.sweep.new.seat.view c.loop-look.invariant.swept.sits c.sweep.ensures.sits
-
-pub returns-then-branch-clause-lot : goal.returns-then-branch-clause-lot
-returns-then-branch-clause-lot g c = c.sweep.ensures.lot ∙ c.loop-look.invariant.lot
-
-pub returns-then-branch-clause-sits : goal.returns-then-branch-clause-sits
-returns-then-branch-clause-sits g c =
-    sits_then c.args.seat.now.view c.loop-look.seat.view c.sweep.new.seat.view c.loop-look.invariant.swept.sits c.sweep.ensures.sits
-
-pub returns-then-branch-clause-swept : goal.returns-then-branch-clause-swept
-returns-then-branch-clause-swept g c =
+pub returns-then-not-branch-2-clause-swept : goal.returns-then-not-branch-2-clause-swept
+returns-then-not-branch-2-clause-swept g c =
     let p = plan_form c.args.plan.now in
-    subst (HasSwept p c.args.seat.now.view c.sweep.new.seat.view c.args.tasks.now c.sweep.new.tasks) c.if-branch.true
-    (swept_then p c.args.seat.now.view c.loop-look.seat.view c.sweep.new.seat.view c.args.tasks.now c.loop-look.tasks c.sweep.new.tasks
-    c.in_ok-sweep.field-0 c.loop-look.invariant.swept c.in_ok-sweep.ensures.swept)
-
-pub loop-look-preserved : goal.loop-look-preserved
-loop-look-preserved g c = record {
-  lot = c.sweep.ensures.lot ∙ c.loop-look.invariant.lot;
-  blank = c.sweep.ensures.blank;
-  swept = swept_more (plan_form c.args.plan.now) c.args.seat.now.view c.loop-look.seat.view c.sweep.new.seat.view c.args.tasks.now c.loop-look.tasks
-      c.sweep.new.tasks
-      c.in_ok-sweep.field-0 c.loop-look.invariant.swept c.sweep.ensures.sits c.in_ok-sweep.ensures.swept c.if-branch.false;
-}
-
-pub returns-clause-lot : goal.returns-clause-lot
-returns-clause-lot g c = c.sweep-2.ensures.lot ∙ c.loop-look.invariant.lot
-
-pub returns-clause-sits : goal.returns-clause-sits
-returns-clause-sits g c = sits_then c.args.seat.now.view c.loop-look.seat.view c.sweep-2.new.seat.view c.loop-look.invariant.swept.sits c.sweep-2.ensures.sits
+    let u = c.look_first.new.seat.view in
+    let w = c.look_first-in-loop-more.new.seat.view in
+    went_after p c.args.seat.now.view u w c.args.tasks.now c.look_first.new.tasks c.look_first-in-loop-more.new.tasks c.in_ok-look_first.field-0
+    c.in_ok-look_first.ensures.swept c.if-not-branch.false
+    (went_on p u c.loop-more.seat.view w c.look_first.new.tasks c.loop-more.tasks c.look_first-in-loop-more.new.tasks c.in_ok-look_first-2.field-0
+    c.loop-more.invariant.went c.look_first-in-loop-more.ensures.sits c.in_ok-look_first-2.ensures.swept)
 
 pub returns-clause-swept : goal.returns-clause-swept
 returns-clause-swept g c =
-    IfOk-weaker c.sweep-2.result _ _
-    (λ moved h. swept_then (plan_form c.args.plan.now) c.args.seat.now.view c.loop-look.seat.view c.sweep-2.new.seat.view c.args.tasks.now
-    c.loop-look.tasks c.sweep-2.new.tasks
-    moved c.loop-look.invariant.swept h)
-    c.sweep-2.ensures.swept
+    went_after (plan_form c.args.plan.now) c.args.seat.now.view c.look_first.new.seat.view c.loop-more.seat.view c.args.tasks.now
+    c.look_first.new.tasks c.loop-more.tasks c.in_ok-look_first.field-0 c.in_ok-look_first.ensures.swept c.if-not-branch.false
+    c.loop-more.invariant.went
+
+pub returns-then-not-branch-2-clause-lot : goal.returns-then-not-branch-2-clause-lot
+returns-then-not-branch-2-clause-lot g c = c.look_first-in-loop-more.ensures.lot ∙ c.loop-more.invariant.lot ∙ c.look_first.ensures.lot
+
+pub returns-then-not-branch-2-clause-sits : goal.returns-then-not-branch-2-clause-sits
+returns-then-not-branch-2-clause-sits g c =
+    sits_then c.args.seat.now.view c.loop-more.seat.view c.look_first-in-loop-more.new.seat.view
+    (sits_then c.args.seat.now.view c.look_first.new.seat.view c.loop-more.seat.view c.look_first.ensures.sits c.loop-more.invariant.went.sits)
+    c.look_first-in-loop-more.ensures.sits
+
+pub returns-in_err-look_first-2-clause-lot : goal.returns-in_err-look_first-2-clause-lot
+returns-in_err-look_first-2-clause-lot g c = c.look_first-in-loop-more.ensures.lot ∙ c.loop-more.invariant.lot ∙ c.look_first.ensures.lot
+
+pub returns-in_err-look_first-2-clause-sits : goal.returns-in_err-look_first-2-clause-sits
+returns-in_err-look_first-2-clause-sits g c =
+    sits_then c.args.seat.now.view c.loop-more.seat.view c.look_first-in-loop-more.new.seat.view
+    (sits_then c.args.seat.now.view c.look_first.new.seat.view c.loop-more.seat.view c.look_first.ensures.sits c.loop-more.invariant.went.sits)
+    c.look_first-in-loop-more.ensures.sits
+
+pub returns-clause-lot : goal.returns-clause-lot
+returns-clause-lot g c = c.loop-more.invariant.lot ∙ c.look_first.ensures.lot
+
+pub returns-clause-sits : goal.returns-clause-sits
+returns-clause-sits g c =
+    sits_then c.args.seat.now.view c.look_first.new.seat.view c.loop-more.seat.view c.look_first.ensures.sits c.loop-more.invariant.went.sits

@@ -1,4 +1,5 @@
 use Rattle.std.proofs.Common.{length, ◌<◌, ◌++◌, [], ◌∷◌, ap, sym, ◌∙◌, subst}
+use Rattle.std.proofs.lemmas.Result.{IfOk-weaker}
 use Rattle.fire_tasks.specs.Ports.{known_of, received_of}
 use Rattle.fire_tasks.proofs.PortLemmas.{received_more}
 use Rattle.fire_tasks.proofs.ports.pop_at.Goals as goal
@@ -8,5 +9,7 @@ pop-requires c = subst (λ i. 0 < length (known_of i)) (sym (c.at_mut.ensures.va
 
 pub returns-clause-received : goal.returns-clause-received
 returns-clause-received c =
-    received_more c.args.ins.now c.args.port c.pop.new.self (c.in_ok-item.item ∷ []) c.requires.there
-    (c.in_ok-item.ensures.received ∙ ap (λ i. received_of i ++ c.in_ok-item.item ∷ []) (c.at_mut.ensures.value c.pop.new.self))
+    IfOk-weaker c.pop.result _ _
+    (λ x h. received_more c.args.ins.now c.args.port c.pop.new.self (x ∷ []) c.requires.there
+    (h ∙ ap (λ i. received_of i ++ x ∷ []) (c.at_mut.ensures.value c.pop.new.self)))
+    c.pop.ensures.received

@@ -1,7 +1,5 @@
-use Rattle.std.proofs.Common.{subst, sym, ◌∙◌}
+use Rattle.std.proofs.Common.{◌≡◌, true, subst, sym, ◌∙◌}
 use Rattle.river_plan.specs.Forms.{plan_form}
-use Rattle.fire_tasks.specs.Pops.{IsPop}
-use Rattle.fire_tasks.specs.Ports.{received_in}
 use Rattle.fire_tasks.specs.Turns.{HasFiredAt}
 use Rattle.fire_tasks.proofs.TaskLemmas.{can_take, blank_op, bad_fired, took_fired}
 use Rattle.fire_tasks.proofs.taking.fire_at.Goals as goal
@@ -9,25 +7,25 @@ use Rattle.fire_tasks.proofs.taking.fire_at.Goals as goal
 pub fire_op-requires-clause-can : goal.fire_op-requires-clause-can
 fire_op-requires-clause-can g c =
     let t = c.args.task.now in
-    let i = subst (IsPop t.kinds c.args.port (received_in t.ins) (received_in c.take_item.new.ins)) c.in-Good.is c.in_ok-item.ensures.pop in
-    can_take (plan_form c.args.plan.now) c.requires.valid t c.requires.task.0 c.requires.task.1 c.args.port c.in-Good.item i.1
+    can_take (plan_form c.args.plan.now) c.requires.valid t c.requires.task.0 c.requires.task.1 c.args.port c.in_ok-item.item
+    (c.is_fit.ensures.0 c.if-not-is_fit.false)
 
 pub fire_op-requires-clause-blank : goal.fire_op-requires-clause-blank
 fire_op-requires-clause-blank g c = blank_op (plan_form c.args.plan.now) c.requires.valid c.args.task.now c.requires.task.0 c.requires.task.1
 
-pub returns-in-Bad : goal.returns-in-Bad
-returns-in-Bad g c =
+pub returns-then-not-is_fit : goal.returns-then-not-is_fit
+returns-then-not-is_fit g c =
     let t = c.args.task.now in
-    let i = subst (IsPop t.kinds c.args.port (received_in t.ins) (received_in c.take_item.new.ins)) c.in-Bad.is c.in_ok-item.ensures.pop in
-    subst (λ b. HasFiredAt (plan_form c.args.plan.now) t (record t { ins = c.take_item.new.ins; bad = b })) (sym c.keep_bad.ensures)
-    (bad_fired (plan_form c.args.plan.now) c.requires.valid t c.requires.fine c.take_item.new.ins c.args.port c.in-Bad.item c.in_ok-item.ensures.same
-    i.0 c.requires.port i.1)
+    subst (λ b. HasFiredAt (plan_form c.args.plan.now) t (record t { ins = c.pop_at.new.ins; bad = b })) (sym c.keep_bad.ensures)
+    (bad_fired (plan_form c.args.plan.now) c.requires.valid t c.requires.fine c.pop_at.new.ins c.args.port c.in_ok-item.item c.in_ok-item.ensures.same
+    c.in_ok-item.ensures.received c.requires.port
+    (λ h. let y : c.is_fit.result ≡ true = c.is_fit.ensures.1 h in let f = c.if-not-is_fit.true in absurd (cc (y, f))))
 
-pub returns-in_ok-fire_op-in-Good : goal.returns-in_ok-fire_op-in-Good
-returns-in_ok-fire_op-in-Good g c =
+pub returns : goal.returns
+returns g c =
     let t = c.args.task.now in
-    let i = subst (IsPop t.kinds c.args.port (received_in t.ins) (received_in c.take_item.new.ins)) c.in-Good.is c.in_ok-item.ensures.pop in
-    took_fired (plan_form c.args.plan.now) c.requires.valid t c.requires.fine c.take_item.new.ins c.args.port c.in-Good.item c.fire_op.new.states
+    took_fired (plan_form c.args.plan.now) c.requires.valid t c.requires.fine c.pop_at.new.ins c.args.port c.in_ok-item.item c.fire_op.new.states
     c.fire_op.new.out _ _ _ c.next_count-task.result
-    c.in_ok-item.ensures.same i.0 c.requires.port i.1 c.requires.idle c.in_ok-fire_op-in-Good.ensures (c.swap.ensures.x_after ∙ c.turn_all.ensures)
+    c.in_ok-item.ensures.same c.in_ok-item.ensures.received c.requires.port (c.is_fit.ensures.0 c.if-not-is_fit.false) c.requires.idle
+    c.in_ok-fire_op.ensures (c.swap.ensures.x_after ∙ c.turn_all.ensures)
     c.swap.ensures.y_after c.next_count-task.ensures

@@ -17,12 +17,12 @@ run_plan-requires-clause-fits g c = λ _ _.
 
 pub print_outcome-requires-clause-outs : goal.print_outcome-requires-clause-outs
 print_outcome-requires-clause-outs g c =
-    ap (λ (o : Outcome). length o.outs) c.outcome.ensures ∙ ap length c.in_ok-ran.ensures.outs
+    ap (λ (o : Outcome). length o.outs) c.outcome.ensures ∙ ap length c.in_ok-ran.ensures.ran.outs
     ∙ length-map (decl_names c.args.plan.now.outputs) (hist c.args.plan.now c.in_ok-inputs.inputs) ∙ length-map c.args.plan.now.outputs (λ d. d.name)
 
 pub print_outcome-requires-clause-tables : goal.print_outcome-requires-clause-tables
 print_outcome-requires-clause-tables g c =
-    ap (λ (o : Outcome). length o.tables) c.outcome.ensures ∙ ap length c.in_ok-ran.ensures.tables
+    ap (λ (o : Outcome). length o.tables) c.outcome.ensures ∙ ap length c.in_ok-ran.ensures.ran.tables
     ∙ length-map c.args.plan.now.tables (λ t. kept_of t.kind (all_adds c.args.plan.now c.in_ok-inputs.inputs t.name))
 
 pub returns : goal.returns
@@ -31,4 +31,4 @@ returns g c =
     let ran = c.in_ok-ran.ran.outcome in
     output-says c.args.plan.now c.args.counted c.args.files ran.outs (map rows_of ran.tables) ran.counts c.print_outcome.result
     (rw c.outcome.ensures at c.print_outcome.ensures)
-    (rw inputs at c.in_ok-ran.ensures.outs) (rw inputs at c.in_ok-ran.ensures.rows) (rw inputs at c.in_ok-ran.ensures.counts) c.requires.contents
+    (rw inputs at c.in_ok-ran.ensures.ran.outs) (rw inputs at c.in_ok-ran.ensures.ran.rows) (rw inputs at c.in_ok-ran.ensures.ran.counts) c.requires.contents

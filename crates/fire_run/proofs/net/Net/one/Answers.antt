@@ -6,6 +6,9 @@ use Rattle.fire_open.specs.Homes.{AreClassCells}
 use Rattle.fire_open.proofs.Laid.{paired_net, apart_net, laid_same}
 use Rattle.fire_open.proofs.StillLemmas.{still_all_moves, still_ends}
 use Rattle.fire_run.specs.Cells.{HaveMoved}
+use Rattle.fire_run.specs.declared.net.Net.{Net}
+use Rattle.fire_run.specs.OneMove.{MayHaveMoved}
+use Rattle.fire_run.proofs.OneMoves.{moved_busy, one_moved}
 use Rattle.fire_run.specs.NetOf.{OneMore}
 use Rattle.fire_run.proofs.Standing.{can_send, single_tasks, net_again, idle_again}
 use Rattle.fire_run.proofs.net.Net.one.Goals as goal
@@ -77,3 +80,40 @@ returns-clause-idle g c =
     (net_again p r.inputs r.caps c.args.self.now _ c.move_last.new.tasks c.raw.ensures.valid r.is k c.in_ok-moved.ensures.same c.settle_all.ensures.still refl
     c.settle_all.ensures.met m)
     (c.settle_all.ensures.still ∙ c.in_ok-moved.ensures.still f) (c.in_ok-moved.ensures.idle f)
+
+pub returns-clause-step : goal.returns-clause-step
+returns-clause-step g c =
+    let p = c.args.plan.now in
+    let r = c.requires in
+    let k : AreTasks p (added p (logs_of c.move_last.new.cells)) c.move_last.new.tasks
+    = subst (λ q. AreTasks q (added q (logs_of c.move_last.new.cells)) c.move_last.new.tasks) c.raw.ensures.raw c.in_ok-moved.ensures.tasks in
+    let m : HaveMoved p c.args.self.now.cells c.move_last.new.cells =
+    subst (λ q. HaveMoved q c.args.self.now.cells c.move_last.new.cells) c.raw.ensures.raw c.in_ok-moved.ensures.cells in
+    let net : Net = record { tasks = c.settle_all.new.tasks; links = c.args.self.now.links; cells = c.move_last.new.cells; refused = false } in
+    let ends = still_ends c.move_last.new.tasks c.settle_all.new.tasks c.settle_all.ensures.still ∙ c.in_ok-moved.ensures.same in
+    λ t.
+    one_moved p r.inputs r.caps c.args.self.now net c.move_last.new.tasks c.raw.ensures.valid r.is
+    (net_again p r.inputs r.caps c.args.self.now net c.move_last.new.tasks c.raw.ensures.valid r.is k c.in_ok-moved.ensures.same c.settle_all.ensures.still refl
+    c.settle_all.ensures.met m)
+    ends c.settle_all.ensures.still
+    (subst (λ q. MayHaveMoved q c.args.self.now.tasks c.move_last.new.tasks c.args.self.now.cells c.move_last.new.cells) c.raw.ensures.raw
+    (c.in_ok-moved.ensures.step t))
+
+pub returns-clause-busy : goal.returns-clause-busy
+returns-clause-busy g c =
+    let p = c.args.plan.now in
+    let r = c.requires in
+    let k : AreTasks p (added p (logs_of c.move_last.new.cells)) c.move_last.new.tasks
+    = subst (λ q. AreTasks q (added q (logs_of c.move_last.new.cells)) c.move_last.new.tasks) c.raw.ensures.raw c.in_ok-moved.ensures.tasks in
+    let m : HaveMoved p c.args.self.now.cells c.move_last.new.cells =
+    subst (λ q. HaveMoved q c.args.self.now.cells c.move_last.new.cells) c.raw.ensures.raw c.in_ok-moved.ensures.cells in
+    let net : Net = record { tasks = c.settle_all.new.tasks; links = c.args.self.now.links; cells = c.move_last.new.cells; refused = false } in
+    let ends = still_ends c.move_last.new.tasks c.settle_all.new.tasks c.settle_all.ensures.still ∙ c.in_ok-moved.ensures.same in
+    λ t.
+    moved_busy p c.args.self.now.tasks c.settle_all.new.tasks c.args.self.now.cells c.move_last.new.cells
+    (one_moved p r.inputs r.caps c.args.self.now net c.move_last.new.tasks c.raw.ensures.valid r.is
+    (net_again p r.inputs r.caps c.args.self.now net c.move_last.new.tasks c.raw.ensures.valid r.is k c.in_ok-moved.ensures.same c.settle_all.ensures.still refl
+    c.settle_all.ensures.met m)
+    ends c.settle_all.ensures.still
+    (subst (λ q. MayHaveMoved q c.args.self.now.tasks c.move_last.new.tasks c.args.self.now.cells c.move_last.new.cells) c.raw.ensures.raw
+    (c.in_ok-moved.ensures.step t)))

@@ -1,12 +1,14 @@
-use Rattle.std.specs.Prelude.{◌≡◌, false}
+use Rattle.std.specs.Prelude.{◌≡◌, ◌+◌, ◌≤◌, false}
 use Rattle.river_plan.specs.Forms.{plan_form}
+use Rattle.fire_tasks.specs.Tasks.{all_moves}
 use Rattle.fire_tasks.specs.Bundles.{IsBundle, SameSeat, HasGone}
-use Rattle.fire_tasks.proofs.rounds.work.Given as goal
+use Rattle.fire_tasks.proofs.rounds.make_passes.Given as goal
 
 abbrev pub invariant-loop-pass : goal.invariant-loop-pass
 invariant-loop-pass g l = record {
   calm : l.bundle.refused ≡ false;
   bundle : IsBundle (plan_form l.plan) l.bundle;
   seat : SameSeat l.initial.bundle l.bundle;
+  many : all_moves l.initial.bundle.tasks + l._pass ≤ all_moves l.bundle.tasks;
   gone : HasGone l.initial.bundle l.bundle l.bundle.moved;
 }
