@@ -4,13 +4,13 @@ use Rattle.std.specs.Prelude.{Option, Some, None, map, codes, nat_lt, nat_le, �
 use Rattle.std.specs.Str.{bytes_eq}
 use Rattle.std.proofs.lemmas.Bool.Decides.{nat_tests}
 use Rattle.csv_streams.specs.Number.{value_after}
-use Rattle.command_line.specs.Commands.{with_header, with_counts, with_script, with_workers, with_cap, with_input, IsManned}
-use Rattle.command_line.specs.Limits.{most_cap}
-use Rattle.command_line.specs.Phrases.{Phrase, option, script, input, number_ahead, with_number, phrase_of, one_more, phrases, made, are_apart, with_phrases}
-use Rattle.command_line.specs.Sentences.{plain, with_words, asked, asked_load, asked_upgrade, asked_two, command_of}
+use Rattle.command_line.specs.Commands.{with_header, with_counts, with_script, with_workers, with_cap, with_start, with_input, IsManned}
+use Rattle.command_line.specs.Limits.{most_cap, most_start}
+use Rattle.command_line.specs.Phrases.{Phrase, option, script, input, number_ahead, zero_ahead, with_number, phrase_of, one_more, phrases, made, are_apart, with_phrases}
+use Rattle.command_line.specs.Sentences.{plain, with_words, asked, asked_load, asked_upgrade, asked_two, asked_other, asked_free, asked_any, command_of}
 use Rattle.command_line.specs.Words.{lang_named, is_file, is_number_word, up_to_most, number_to, in_word_of}
 use Rattle.command_line.specs.declared.command.Command.{Command}
-use Rattle.command_line.specs.declared.command.Command.TheVariants.{Run, Plan, Mean, Upgrade, Load}
+use Rattle.command_line.specs.declared.command.Command.TheVariants.{Run, Plan, Mean, Upgrade, Load, Free}
 use Rattle.command_line.specs.declared.command.InWord.{InWord}
 use Rattle.command_line.specs.declared.command.Lang.{Lang}
 
@@ -37,6 +37,7 @@ header_keeps (Plan lang file script) h = tt
 header_keeps (Mean lang file ins header) h = tt
 header_keeps (Upgrade file) h = tt
 header_keeps (Load number) h = tt
+header_keeps (Free file ins workers start header) h = h
 
 counts_keep : (command : Command) → IsManned command → MayBeManned (with_counts command)
 counts_keep (Run lang file ins script workers cap header counts) h = h
@@ -44,6 +45,7 @@ counts_keep (Plan lang file script) h = tt
 counts_keep (Mean lang file ins header) h = tt
 counts_keep (Upgrade file) h = tt
 counts_keep (Load number) h = tt
+counts_keep (Free file ins workers start header) h = tt
 
 script_keeps : (words : List (List ℕ)) → MayKeep (script words)
 script_keeps [] = tt
@@ -56,6 +58,7 @@ script_keeps ((c ∷ cs) ∷ words) = by
     by (Mean lang file ins header) h = tt
     by (Upgrade file) h = tt
     by (Load number) h = tt
+    by (Free file ins workers start header) h = tt
 
 input_keeps : (w : Option InWord) → MayKeep (input w)
 input_keeps None = tt
@@ -67,6 +70,7 @@ input_keeps (Some w) = by
     by (Mean lang file ins header) h = tt
     by (Upgrade file) h = tt
     by (Load number) h = tt
+    by (Free file ins workers start header) h = h
 
 -- the numbers behind options are within their bounds
 number_within : (most : ℕ) (word : List ℕ) (n : ℕ) → number_to most word ≡ Some n → (1 ≤ n) × (n ≤ most)
@@ -98,6 +102,7 @@ workers_keep key words = by (number_ahead 64 words) refl
     some n w (Mean lang file ins header) h = tt
     some n w (Upgrade file) h = tt
     some n w (Load number) h = tt
+    some n w (Free file ins workers start header) h = w
 
     by : (o : Option ℕ) → number_ahead 64 words ≡ o → MayKeep (with_number key with_workers o)
     by None e = tt
@@ -112,10 +117,26 @@ cap_keeps key words = by (number_ahead most_cap words) refl
     some n w (Mean lang file ins header) h = tt
     some n w (Upgrade file) h = tt
     some n w (Load number) h = tt
+    some n w (Free file ins workers start header) h = tt
 
     by : (o : Option ℕ) → number_ahead most_cap words ≡ o → MayKeep (with_number key with_cap o)
     by None e = tt
     by (Some n) e = some n (ahead_within most_cap words n e)
+
+start_keeps : (key : List ℕ) (words : List (List ℕ)) → MayKeep (with_number key with_start (zero_ahead most_start words))
+start_keeps key words = by (zero_ahead most_start words)
+  where
+    some : (n : ℕ) (command : Command) → IsManned command → MayBeManned (with_start n command)
+    some n (Run lang file ins script workers cap header counts) h = tt
+    some n (Plan lang file script) h = tt
+    some n (Mean lang file ins header) h = tt
+    some n (Upgrade file) h = tt
+    some n (Load number) h = tt
+    some n (Free file ins workers start header) h = h
+
+    by : (o : Option ℕ) → MayKeep (with_number key with_start o)
+    by None = tt
+    by (Some n) = some n
 
 phrase_keeps : (words : List (List ℕ)) → MayKeep (phrase_of words)
 phrase_keeps [] = tt
@@ -125,7 +146,8 @@ phrase_keeps (w ∷ ws) =
     (either (bytes_eq w (codes "-r")) (script ws) _ (script_keeps ws)
     (either (bytes_eq w (codes "-w")) (with_number w with_workers (number_ahead 64 ws)) _ (workers_keep w ws)
     (either (bytes_eq w (codes "-q")) (with_number w with_cap (number_ahead most_cap ws)) _ (cap_keeps w ws)
-    (either (is_file w) (input (in_word_of w)) None (input_keeps (in_word_of w)) tt)))))
+    (either (bytes_eq w (codes "-s")) (with_number w with_start (zero_ahead most_start ws)) _ (start_keeps w ws)
+    (either (is_file w) (input (in_word_of w)) None (input_keeps (in_word_of w)) tt))))))
 
 -- phrases that make of each command that is manned another one
 abbrev KeepAll : List Phrase → Type 0
@@ -210,11 +232,28 @@ two_are word behind = by (bytes_eq word (codes "load"))
     by true = load_is word behind
     by false = upgrade_is word behind
 
+other_is : (word second : List ℕ) (words : List (List ℕ)) → MayBeManned (asked_other word second words)
+other_is word second [] = two_are word second
+other_is word second (file ∷ words) = asked_is word (lang_named second) file words
+
+free_is : (file : List ℕ) (words : List (List ℕ)) → MayBeManned (asked_free file words)
+free_is file words = by (is_file file)
+  where
+    by : (b : Bool) → MayBeManned (if b then with_words words (Some (Free file [] 1 0 false)) else None)
+    by true = words_are words (Some (Free file [] 1 0 false)) (omega arith, omega arith)
+    by false = tt
+
+any_is : (word second : List ℕ) (words : List (List ℕ)) → MayBeManned (asked_any word second words)
+any_is word second words = by (bytes_eq word (codes "free"))
+  where
+    by : (b : Bool) → MayBeManned (if b then asked_free second words else asked_other word second words)
+    by true = free_is second words
+    by false = other_is word second words
+
 all_are : (words : List (List ℕ)) → MayBeManned (command_of words)
 all_are [] = tt
 all_are (word ∷ []) = tt
-all_are (word ∷ behind ∷ []) = two_are word behind
-all_are (word ∷ lang ∷ file ∷ words) = asked_is word (lang_named lang) file words
+all_are (word ∷ second ∷ words) = any_is word second words
 
 -- the command of words that are a sentence is manned
 pub manned : (words : List (List ℕ)) (command : Command) → command_of words ≡ Some command → IsManned command

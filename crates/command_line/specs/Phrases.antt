@@ -2,9 +2,9 @@
 use Rattle.std.specs.Prelude.{ℕ, zero, suc, List, [], ◌∷◌, map, Bool, true, ◌&&◌, ◌==◌, Option, None, Some, codes, if◌then◌else◌}
 use Rattle.std.specs.Str.{bytes_eq}
 use Rattle.river_plan.specs.Names.{count}
-use Rattle.command_line.specs.Commands.{with_header, with_counts, with_script, with_workers, with_cap, with_input}
-use Rattle.command_line.specs.Limits.{most_cap}
-use Rattle.command_line.specs.Words.{is_file, number_to, in_word_of}
+use Rattle.command_line.specs.Commands.{with_header, with_counts, with_script, with_workers, with_cap, with_start, with_input}
+use Rattle.command_line.specs.Limits.{most_cap, most_start}
+use Rattle.command_line.specs.Words.{is_file, number_to, from_zero, in_word_of}
 use Rattle.command_line.specs.declared.command.Command.{Command}
 use Rattle.command_line.specs.declared.command.InWord.{InWord}
 
@@ -30,6 +30,11 @@ abbrev pub number_ahead : ℕ → List (List ℕ) → Option ℕ
 number_ahead most [] = None
 number_ahead most (word ∷ words) = number_to most word
 
+-- the same of a number from 0
+abbrev pub zero_ahead : ℕ → List (List ℕ) → Option ℕ
+zero_ahead most [] = None
+zero_ahead most (word ∷ words) = from_zero most word
+
 -- an option with the number behind it
 abbrev pub with_number : List ℕ → (ℕ → Command → Option Command) → Option ℕ → Option Phrase
 with_number word makes None = None
@@ -49,6 +54,7 @@ phrase_of (word ∷ behind) =
     else if bytes_eq word (codes "-r") then script behind
     else if bytes_eq word (codes "-w") then with_number word with_workers (number_ahead 64 behind)
     else if bytes_eq word (codes "-q") then with_number word with_cap (number_ahead most_cap behind)
+    else if bytes_eq word (codes "-s") then with_number word with_start (zero_ahead most_start behind)
     else if is_file word then input (in_word_of word)
     else None
 

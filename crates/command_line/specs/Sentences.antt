@@ -4,7 +4,7 @@ use Rattle.std.specs.Str.{bytes_eq}
 use Rattle.command_line.specs.Phrases.{phrases, with_phrases}
 use Rattle.command_line.specs.Words.{lang_named, is_file, number_to}
 use Rattle.command_line.specs.declared.command.Command.{Command}
-use Rattle.command_line.specs.declared.command.Command.TheVariants.{Run, Plan, Mean, Upgrade, Load}
+use Rattle.command_line.specs.declared.command.Command.TheVariants.{Run, Plan, Mean, Upgrade, Load, Free}
 use Rattle.command_line.specs.declared.command.Lang.{Lang}
 
 -- the command that a word names, with a program and nothing else
@@ -36,8 +36,19 @@ asked_upgrade word file = if bytes_eq word (codes "upgrade") && is_file file the
 abbrev pub asked_two : List ℕ → List ℕ → Option Command
 asked_two word behind = if bytes_eq word (codes "load") then asked_load word behind else asked_upgrade word behind
 
+-- words of which the first is not `free`
+abbrev pub asked_other : List ℕ → List ℕ → List (List ℕ) → Option Command
+asked_other word second [] = asked_two word second
+asked_other word second (file ∷ words) = asked word (lang_named second) file words
+
+-- `free FILE` and what stands behind it
+abbrev pub asked_free : List ℕ → List (List ℕ) → Option Command
+asked_free file words = if is_file file then with_words words (Some (Free file [] 1 0 false)) else None
+
+abbrev pub asked_any : List ℕ → List ℕ → List (List ℕ) → Option Command
+asked_any word second words = if bytes_eq word (codes "free") then asked_free second words else asked_other word second words
+
 -- the command that the words ask for, if they are a sentence
 abbrev pub command_of : List (List ℕ) → Option Command
-command_of (word ∷ behind ∷ []) = asked_two word behind
-command_of (word ∷ lang ∷ file ∷ words) = asked word (lang_named lang) file words
+command_of (word ∷ second ∷ words) = asked_any word second words
 command_of words = None

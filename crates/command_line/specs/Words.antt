@@ -35,6 +35,13 @@ up_to_most most n = if nat_lt 0 n && nat_le n most then Some n else None
 abbrev pub number_to : ℕ → List ℕ → Option ℕ
 number_to most word = if is_number_word word then up_to_most most (value_after 0 word) else None
 
+-- the number that a word writes, if it is one from 0 to the greatest that may stand there
+abbrev pub at_most : ℕ → ℕ → Option ℕ
+at_most most n = if nat_le n most then Some n else None
+
+abbrev pub from_zero : ℕ → List ℕ → Option ℕ
+from_zero most word = if is_number_word word then at_most most (value_after 0 word) else None
+
 -- the part of a word before its first `=`
 abbrev pub name_part : List ℕ → List ℕ
 name_part [] = []

@@ -1,6 +1,6 @@
 // What the words of the command line ask for.
 ghost use Rattle.std.specs.Prelude.{◌≡◌, IfOk};
-ghost use Rattle.command_line.specs.Commands.{MayMake, lang_of, with_header, with_counts, with_script, with_workers, with_cap, with_input};
+ghost use Rattle.command_line.specs.Commands.{MayMake, lang_of, with_header, with_counts, with_script, with_workers, with_cap, with_start, with_input};
 
 use river_base::{Listed, NoMemory, Text};
 
@@ -83,18 +83,31 @@ pub enum Command {
         /// How many records.
         number: u32,
     },
+    /// `free`: a free program is run over its inputs, and its outputs, its cells and its journal are printed.
+    Free {
+        /// The name of the program's file.
+        file: Text,
+        /// The inputs, in the order of the words.
+        ins: InWords,
+        /// `-w N`: how many firings a round has at most.
+        workers: u32,
+        /// `-s N`: the number with which the picks begin.
+        start: u32,
+        /// `-H`: each input begins with a header.
+        header: bool,
+    },
 }
 
 impl Command {
     /// The language of the command's program: that of `upgrade` is a River text, and that of `load` is
-    /// in Sawzall.
+    /// in Sawzall. A free program is no plan, but its text is written as River texts are.
     pub fn lang(&self) -> Lang
         ensures { result ≡ lang_of self.now }
     {
         match self {
             Command::Run { lang, .. } | Command::Plan { lang, .. } | Command::Mean { lang, .. } =>
                 *lang,
-            Command::Upgrade { .. } => Lang::River,
+            Command::Upgrade { .. } | Command::Free { .. } => Lang::River,
             Command::Load { .. } => Lang::Sawzall,
         }
     }
@@ -109,6 +122,10 @@ impl Command {
                 true
             }
             Command::Mean { header, .. } => {
+                *header = true;
+                true
+            }
+            Command::Free { header, .. } => {
                 *header = true;
                 true
             }
@@ -128,7 +145,8 @@ impl Command {
             Command::Mean { .. }
             | Command::Plan { .. }
             | Command::Upgrade { .. }
-            | Command::Load { .. } => false,
+            | Command::Load { .. }
+            | Command::Free { .. } => false,
         }
     }
 
@@ -145,16 +163,23 @@ impl Command {
                 *script = Some(name);
                 true
             }
-            Command::Mean { .. } | Command::Upgrade { .. } | Command::Load { .. } => false,
+            Command::Mean { .. }
+            | Command::Upgrade { .. }
+            | Command::Load { .. }
+            | Command::Free { .. } => false,
         }
     }
 
-    /// Notes how many workers run the plan, if the command is a run.
+    /// Notes how many workers there are, if the command is a run.
     pub(crate) fn set_workers(&mut self, number: u32) -> bool
         ensures { MayMake result (with_workers number self.old) self.new }
     {
         match self {
             Command::Run { workers, .. } => {
+                *workers = number;
+                true
+            }
+            Command::Free { workers, .. } => {
                 *workers = number;
                 true
             }
@@ -177,6 +202,24 @@ impl Command {
             Command::Mean { .. }
             | Command::Plan { .. }
             | Command::Upgrade { .. }
+            | Command::Load { .. }
+            | Command::Free { .. } => false,
+        }
+    }
+
+    /// Notes the number with which the picks begin, if the command has picks.
+    pub(crate) fn set_start(&mut self, number: u32) -> bool
+        ensures { MayMake result (with_start number self.old) self.new }
+    {
+        match self {
+            Command::Free { start, .. } => {
+                *start = number;
+                true
+            }
+            Command::Run { .. }
+            | Command::Mean { .. }
+            | Command::Plan { .. }
+            | Command::Upgrade { .. }
             | Command::Load { .. } => false,
         }
     }
@@ -191,6 +234,10 @@ impl Command {
                 Ok(true)
             }
             Command::Mean { ins, .. } => {
+                ins.push(input)?;
+                Ok(true)
+            }
+            Command::Free { ins, .. } => {
                 ins.push(input)?;
                 Ok(true)
             }

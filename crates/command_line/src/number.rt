@@ -3,7 +3,7 @@ ghost use Rattle.std.specs.Prelude.{◌≡◌, ◌<◌, ◌-◌, ◌^◌, min};
 ghost use Rattle.std.specs.List.{list_all};
 ghost use Rattle.river_base.specs.Name.{is_digit};
 ghost use Rattle.csv_streams.specs.Number.{value_after};
-ghost use Rattle.command_line.specs.Words.{is_number_word, number_to};
+ghost use Rattle.command_line.specs.Words.{is_number_word, number_to, from_zero};
 
 // How many digits a number has at most.
 const MOST_DIGITS: usize = 9;
@@ -22,6 +22,18 @@ pub(crate) fn read_number(word: &[u8], most: u32) -> Option<u32>
     } else {
         None
     }
+}
+
+/// The number that a word of 1 to 9 decimal digits writes, if it is at most `most`.
+pub(crate) fn read_from_zero(word: &[u8], most: u32) -> Option<u32>
+    requires { most < 2 ^ 32 - 1 }
+    ensures { result ≡ from_zero most word.now }
+{
+    if !is_number(word) {
+        return None;
+    }
+    let number = value(word);
+    if number <= most { Some(number) } else { None }
 }
 
 fn is_number(word: &[u8]) -> bool

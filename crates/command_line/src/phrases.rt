@@ -1,13 +1,13 @@
 // What stands behind a program's file: options and words NAME=FILE, in any order.
 ghost use Rattle.std.specs.Prelude.{◌≡◌, ◌≤◌, ◌<◌, ◌+◌, ◌-◌, ◌^◌, [], ◌∷◌, length, take, drop, Some, None, IfOk, OnOk, IsErrOf, IsSome};
-ghost use Rattle.command_line.specs.Limits.{most_cap};
+ghost use Rattle.command_line.specs.Limits.{most_cap, most_start};
 ghost use Rattle.command_line.specs.Words.{name_part, rest_part, in_word_of};
-ghost use Rattle.command_line.specs.Commands.{with_header, with_counts, with_workers, with_cap};
-ghost use Rattle.command_line.specs.Phrases.{phrase_of, phrases, with_phrases, option, number_ahead, with_number, input as input_phrase, script as script_phrase};
+ghost use Rattle.command_line.specs.Commands.{with_header, with_counts, with_workers, with_cap, with_start};
+ghost use Rattle.command_line.specs.Phrases.{phrase_of, phrases, with_phrases, option, number_ahead, zero_ahead, with_number, input as input_phrase, script as script_phrase};
 ghost use Rattle.command_line.specs.Said.{said_fitting, with_phrase};
 
 use crate::command::{Command, InWord, WordFault};
-use crate::number::read_number;
+use crate::number::{read_from_zero, read_number};
 use crate::word_set::WordSet;
 use crate::words::is_file;
 use river_base::{NoMemory, Text};
@@ -59,9 +59,13 @@ const WORKERS: &[u8] = b"-w";
 
 const CAP: &[u8] = b"-q";
 
+const START: &[u8] = b"-s";
+
 const MOST_WORKERS: u32 = 64;
 
 const MOST_CAP: u32 = 65_536;
+
+const MOST_START: u32 = 999_999_999;
 
 // The phrase that the words begin with; answers how many words it takes behind its first.
 fn read_phrase(
@@ -94,6 +98,9 @@ fn read_phrase(
         Ok(1)
     } else if word == CAP {
         add_cap(alloc, word, behind, command, said)?;
+        Ok(1)
+    } else if word == START {
+        add_start(alloc, word, behind, command, said)?;
         Ok(1)
     } else if is_file(word) {
         add_input(alloc, word, command, said)?;
@@ -158,7 +165,7 @@ fn add_script(
     once(alloc, SCRIPT, fits, said)
 }
 
-// How many workers run the plan, which the next word says.
+// How many workers there are, which the next word says.
 #[tactic(auto, using(crate::proofs::ReadOn::noted, crate::proofs::ReadOn::not_noted))]
 fn add_workers(
     alloc: Global,
@@ -199,6 +206,40 @@ fn add_cap(
     };
     let fits = command.set_cap(number);
     once(alloc, word, fits, said)
+}
+
+// The number with which the picks begin, which the next word says.
+#[tactic(auto, using(crate::proofs::ReadOn::noted, crate::proofs::ReadOn::not_noted))]
+fn add_start(
+    alloc: Global,
+    word: &[u8],
+    behind: &[Text],
+    command: &mut Command,
+    said: &mut WordSet,
+) -> Result<(), WordFault>
+    ensures within { OnOk result (1 ≤ length behind.now) }
+    ensures ok { OnOk result (with_phrase (with_number word.now with_start (zero_ahead most_start behind.now)) said.old command.old
+        ≡ Some (record { takes = 1; said = said.new; command = command.new })) }
+    ensures usage { IsErrOf result WordFault.Usage
+        → with_phrase (with_number word.now with_start (zero_ahead most_start behind.now)) said.old command.old ≡ None }
+{
+    let Some(number) = zero_ahead(behind, MOST_START) else {
+        return Err(WordFault::Usage);
+    };
+    let fits = command.set_start(number);
+    once(alloc, word, fits, said)
+}
+
+// The number that the next word writes, if it is from 0 to `most`.
+fn zero_ahead(words: &[Text], most: u32) -> Option<u32>
+    requires { most < 2 ^ 32 - 1 }
+    ensures within { IsSome result → 1 ≤ length words.now }
+    ensures number { result ≡ zero_ahead most words.now }
+{
+    match words {
+        [word, ..] => read_from_zero(word.as_slice(), most),
+        [] => None,
+    }
 }
 
 // The number that the next word writes, if it is from 1 to `most`.

@@ -1,7 +1,7 @@
 // The words of the command line.
 ghost use Rattle.std.specs.Prelude.{◌≡◌, Some, None, IfOk, IsErrOf};
 ghost use Rattle.command_line.specs.Words.{lang_named, is_file};
-ghost use Rattle.command_line.specs.Sentences.{plain, with_words, asked_load, asked_two, asked_upgrade, command_of};
+ghost use Rattle.command_line.specs.Sentences.{plain, with_words, asked_load, asked_two, asked_upgrade, asked_other, asked_free, command_of};
 
 use crate::command::{Command, InWords, Lang, WordFault};
 use crate::number::read_number;
@@ -10,27 +10,64 @@ use river_base::{NoMemory, Text};
 use std::alloc::Global;
 
 /// The command that the words ask for. A sentence is `load N`, with N from 1 to 100,000; or `upgrade FILE`; or `run LANG FILE`,
-/// `mean LANG FILE` or `plan LANG FILE`, and behind it, in any order, what the command takes: `run` and `mean` take words NAME=FILE and
-/// `-H`, `run` also `-c`, `-w N` with N from 1 to 64 and `-q N` with N from 1 to 65,536, and `run` and `plan` take `-r SCRIPT`. FILE
-/// behind `upgrade` or the language is not empty and does not begin with `-`; no option and no NAME stands twice. A number has 1 to 9
-/// decimal digits.
+/// `mean LANG FILE`, `plan LANG FILE` or `free FILE`, and behind it, in any order, what the command takes: `run`, `mean` and `free` take
+/// words NAME=FILE and `-H`, `run` and `free` `-w N` with N from 1 to 64, `run` also `-c` and `-q N` with N from 1 to 65,536, `free` also
+/// `-s N` with N from 0 to 999,999,999, and `run` and `plan` take `-r SCRIPT`. FILE behind `upgrade`, `free` or the language is not empty and
+/// does not begin with `-`; no option and no NAME stands twice. A number has 1 to 9 decimal digits.
 pub fn read_words(alloc: Global, words: &[Text]) -> Result<Command, WordFault>
     ensures ok { IfOk result (λ command. command_of words.now ≡ Some command) }
     ensures usage { IsErrOf result WordFault.Usage → command_of words.now ≡ None }
 {
-    if let [word, behind] = words {
-        return read_two(alloc, word.as_slice(), behind.as_slice());
-    }
-    let [word, lang, file, behind @ ..] = words else {
+    let [word, second, behind @ ..] = words else {
         return Err(WordFault::Usage);
     };
-    let Some(lang) = lang_named(lang.as_slice()) else {
+    let word = word.as_slice();
+    if word == FREE {
+        read_free(alloc, second.as_slice(), behind)
+    } else {
+        read_other(alloc, word, second.as_slice(), behind)
+    }
+}
+
+// `free FILE` and what stands behind it.
+fn read_free(alloc: Global, file: &[u8], behind: &[Text]) -> Result<Command, WordFault>
+    ensures ok { IfOk result (λ command. asked_free file.now behind.now ≡ Some command) }
+    ensures usage { IsErrOf result WordFault.Usage → asked_free file.now behind.now ≡ None }
+{
+    if !is_file(file) {
+        return Err(WordFault::Usage);
+    }
+    let mut command = Command::Free {
+        file: Text::from_slice(alloc, file)?,
+        ins: InWords::new(alloc),
+        workers: 1,
+        start: 0,
+        header: false,
+    };
+    read_phrases(alloc, behind, &mut command)?;
+    Ok(command)
+}
+
+// Words of which the first is not `free`.
+fn read_other(
+    alloc: Global,
+    word: &[u8],
+    second: &[u8],
+    behind: &[Text],
+) -> Result<Command, WordFault>
+    ensures ok { IfOk result (λ command. asked_other word.now second.now behind.now ≡ Some command) }
+    ensures usage { IsErrOf result WordFault.Usage → asked_other word.now second.now behind.now ≡ None }
+{
+    let [file, behind @ ..] = behind else {
+        return read_two(alloc, word, second);
+    };
+    let Some(lang) = lang_named(second) else {
         return Err(WordFault::Usage);
     };
     if !is_file(file.as_slice()) {
         return Err(WordFault::Usage);
     }
-    read_command(alloc, word.as_slice(), lang, file.as_slice(), behind)
+    read_command(alloc, word, lang, file.as_slice(), behind)
 }
 
 // `load N` or `upgrade FILE`.
@@ -99,6 +136,8 @@ const PLAN: &[u8] = b"plan";
 const LOAD: &[u8] = b"load";
 
 const UPGRADE: &[u8] = b"upgrade";
+
+const FREE: &[u8] = b"free";
 
 const MOST_RECORDS: u32 = 100_000;
 

@@ -13,6 +13,6 @@ mod timed;
 pub use fault::InFault;
 pub use instant::{add_stamps, instants, spread};
 pub use number::read_number;
-pub use outcome::print_outcome;
+pub use outcome::{print_head, print_outcome, print_outputs, print_values};
 pub use rows::{MAX_ROWS, read_even, read_rows};
 pub use timed::read_timed;

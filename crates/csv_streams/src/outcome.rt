@@ -62,8 +62,9 @@ fn print_all(
     Ok(())
 }
 
+/// Appends the line `# NAME` for each output in order, and a line for each row of its items.
 #[tactic(auto, using(crate::proofs::Texts::joins))]
-fn print_outputs(
+pub fn print_outputs(
     alloc: Global,
     decls: &[Decl],
     outs: &[Line],
@@ -86,9 +87,9 @@ fn print_output(alloc: Global, name: &Name, items: &Line, to: &mut Bytes) -> Res
     print_items(alloc, items, to)
 }
 
-// The line with a name.
+/// Appends the line with a name.
 #[tactic(auto, using(crate::proofs::Texts::joins))]
-fn print_head(name: &Name, to: &mut Bytes) -> Result<(), NoMemory>
+pub fn print_head(name: &Name, to: &mut Bytes) -> Result<(), NoMemory>
     ensures { OnOk result (to.new ≡ to.old ++ text.under_name name.now []) }
 {
     to.extend(b"# ")?;
@@ -170,8 +171,9 @@ fn print_item(alloc: Global, item: &Item, to: &mut Bytes) -> Result<(), NoMemory
     }
 }
 
+/// Appends the line of a row: its values in decimal, joined by commas.
 #[tactic(auto, using(crate::proofs::Texts::joins))]
-fn print_values(values: &[i64], to: &mut Bytes) -> Result<(), NoMemory>
+pub fn print_values(values: &[i64], to: &mut Bytes) -> Result<(), NoMemory>
     ensures { OnOk result (to.new ≡ to.old ++ text.row_line values.now) }
 {
     if let Some((first, rest)) = values.split_first() {

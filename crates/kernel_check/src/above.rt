@@ -69,9 +69,9 @@ fn above(number: u128, most: u64) -> Option<u128>
     }
 }
 
-// The statements or slots of a body, where they are above the most.
+/// The statements or slots of a body, where they are above the most; of other limits none is.
 #[tactic(auto, using(crate::proofs::LimitLemmas::tellings))]
-fn body_above(code: &Code, limit: Limit, most: u64) -> Option<u128>
+pub fn body_above(code: &Code, limit: Limit, most: u64) -> Option<u128>
     ensures { result ≡ first_above most (body_numbers limit (code_body code.now)) }
 {
     match limit {

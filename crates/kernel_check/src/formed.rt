@@ -99,8 +99,9 @@ fn is_formed_stmt(s: &Stmt, inputs: u32, slots: u32, outs: &[i64]) -> bool
     }
 }
 
+/// Whether each statement is well formed for so many inputs and slots, and for ports of these widths.
 #[cycle(formed)]
-fn are_formed_stmts(all: &Stmts, inputs: u32, slots: u32, outs: &[i64]) -> bool
+pub fn are_formed_stmts(all: &Stmts, inputs: u32, slots: u32, outs: &[i64]) -> bool
     ensures { result ≡ is_steps inputs slots outs.now (steps all.now) }
 {
     for s in all.as_slice() {

@@ -1,4 +1,5 @@
 pub mod MapLoops
+pub mod Misused
 pub mod OverLemmas
 pub mod PlacedFaults
 pub mod Remains

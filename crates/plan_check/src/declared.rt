@@ -8,7 +8,7 @@ ghost use Rattle.river_plan.specs.Wired.{IsWired, AreNamed};
 
 use crate::lists::{labels, queue_names, variable_names};
 use crate::name_set::NameSet;
-use crate::search::{add_new, first_missing};
+use crate::search::{add_new, first_missing, name_again};
 use crate::wired::wiring_by;
 use river_base::{Name, NoMemory};
 use river_plan::{Named, Op, Ops, PlanFault, RawPlan, Wiring};
@@ -97,8 +97,7 @@ fn label_again(alloc: Global, ops: &Ops) -> Result<Option<Name>, NoMemory>
     ensures { IfOk result (IsFirst IsNew (labels_of (op_forms ops.now))) }
 {
     let names = labels(alloc, ops)?;
-    let mut seen = NameSet::new(alloc);
-    add_new(&mut seen, &names)
+    name_again(alloc, &names)
 }
 
 // The first name in these operators that is in neither set.

@@ -12,7 +12,10 @@ mod once;
 mod order;
 mod search;
 mod types;
+mod uses;
 mod wired;
 
 pub use judge::check;
 pub use kinds::queue_kinds;
+pub use search::name_again;
+pub use uses::check_uses;

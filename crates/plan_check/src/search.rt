@@ -24,6 +24,14 @@ pub(crate) fn add_new(set: &mut NameSet, names: &Names) -> Result<Option<Name>, 
     Ok(None)
 }
 
+/// The first of these names that stood before it.
+pub fn name_again(alloc: Global, names: &Names) -> Result<Option<Name>, NoMemory>
+    ensures { IfOk result (IsFirst IsNew names.now) }
+{
+    let mut seen = NameSet::new(alloc);
+    add_new(&mut seen, names)
+}
+
 /// The first name that is not in the set.
 pub(crate) fn first_missing(names: &Names, set: &NameSet) -> Option<Name>
     ensures { IsFirst (IsIn set.now) names.now result }

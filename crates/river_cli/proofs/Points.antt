@@ -3,7 +3,7 @@ use Rattle.std.proofs.Common.{◌≡◌, ℕ, List, Bool, sym, subst}
 use Rattle.std.specs.Prelude.{Option, Some, None, Result, Ok, Err, IsErrOf}
 use Rattle.command_line.specs.Commands.{lang_of}
 use Rattle.command_line.specs.declared.command.Command.{Command}
-use Rattle.command_line.specs.declared.command.Command.TheVariants.{Run, Plan, Mean, Upgrade, Load}
+use Rattle.command_line.specs.declared.command.Command.TheVariants.{Run, Plan, Mean, Upgrade, Load, Free}
 use Rattle.command_line.specs.declared.command.InWord.{InWord}
 use Rattle.command_line.specs.declared.command.Lang.{Lang}
 use Rattle.river_outside.specs.Held.{Held}
@@ -13,6 +13,7 @@ use Rattle.river_order.specs.Passes.{Answers, Passes}
 use Rattle.river_order.specs.declared.stop.Stop.{Stop}
 use Rattle.river_order.specs.declared.stop.Stop.TheVariants as stop
 use Rattle.river_order.proofs.Passes.{past-passes, passed-decides}
+use Rattle.free_runs.specs.Points.{of_free}
 use Rattle.plan_runs.specs.Points.{of_run, loaded}
 use Rattle.river_road.specs.Points.{of_show, of_mean, of_upgrade}
 use Rattle.river_road.specs.Source.{SourceProgram}
@@ -65,6 +66,14 @@ module _ (source_of : List ℕ → Result SourceProgram (List ℕ)) (more : Bool
   unfolding of_command_in
   upgrade-answers file (Ok text) passed = passed
   upgrade-answers file (Err s) passed = passed
+
+  -- what `free` gives is what its command asks for
+  pub free-answers : (file : List ℕ) (ins : List InWord) (workers start : ℕ) (header : Bool) (result : Result (List ℕ) Stop)
+      → Passes (of_free file ins workers start header) held rose result
+      → Passes (of_command_in source_of more (Free file ins workers start header)) held rose result
+  unfolding of_command_in
+  free-answers file ins workers start header (Ok text) passed = passed
+  free-answers file ins workers start header (Err s) passed = passed
 
   -- what is loaded is what the command asks for
   pub load-answers : (n : ℕ) (result : Result (List ℕ) Stop) → Answers (loaded source_of n) result

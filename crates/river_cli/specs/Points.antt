@@ -3,9 +3,10 @@ use Rattle.std.specs.Prelude.{ℕ, List, Bool, true, false, Option, Result, opti
 use Rattle.command_line.specs.Commands.{lang_of}
 use Rattle.command_line.specs.Sentences.{command_of}
 use Rattle.command_line.specs.declared.command.Command.{Command}
-use Rattle.command_line.specs.declared.command.Command.TheVariants.{Run, Plan, Mean, Upgrade, Load}
+use Rattle.command_line.specs.declared.command.Command.TheVariants.{Run, Plan, Mean, Upgrade, Load, Free}
 use Rattle.command_line.specs.declared.command.Lang.{Lang}
 use Rattle.command_line.specs.declared.command.Lang.TheVariants.{River, Streamit, Params, Sawzall, Cql}
+use Rattle.free_runs.specs.Points.{of_free}
 use Rattle.river_langs.specs.Sources.{river_in, streamit_in, params_in, saw_in, cql_in}
 use Rattle.river_order.specs.Order.{Order, Ends, Done}
 use Rattle.river_order.specs.Passes.{past}
@@ -30,13 +31,14 @@ takes_more Sawzall = true
 takes_more Cql = false
 
 -- the points of a command whose program is in this language. How many workers run a plan, and how much its queues hold, is no part
--- of what is printed
+-- of what is printed; how many workers run a free program is. A free program is in no language of these
 unfoldable pub of_command_in : (List ℕ → Result SourceProgram (List ℕ)) → Bool → Command → (List ℕ → Order) → Order
 of_command_in source more (Run lang file ins script workers cap header counts) next = of_run source more file ins script header counts next
 of_command_in source more (Plan lang file script) next = of_show source file script next
 of_command_in source more (Mean lang file ins header) next = of_mean source more file ins header next
 of_command_in source more (Upgrade file) next = of_upgrade source file next
 of_command_in source more (Load number) next = past (loaded source number) next
+of_command_in source more (Free file ins workers start header) next = of_free file ins workers start header next
 
 -- the points of a command
 unfoldable pub of_command : Command → (List ℕ → Order) → Order

@@ -2,4 +2,4 @@
 use Rattle.std.specs.Prelude.{ℕ, List, codes}
 
 abbrev pub usage_text : List ℕ
-usage_text = codes "usage: river run|plan|mean|load|upgrade\n"
+usage_text = codes "usage: river run|plan|mean|load|upgrade|free\n"

@@ -7,6 +7,7 @@ ghost use Rattle.river_order.specs.Passes.{Passes};
 ghost use Rattle.river_cli.specs.Points.{points_of, of_command, of_command_in};
 
 use command_line::{Command, Lang, WordFault, read_words};
+use free_runs::free;
 use plan_runs::{Crew, load, run};
 use river_base::{Bytes, Gate, Text};
 use river_langs::{Cql, Params, RiverText, Sawzall, Streamit};
@@ -60,7 +61,7 @@ fn answered<R: Threads + Sync, S: Shelf, G: Gate + Sync>(
     }
 }
 
-// What a command prints whose program is in this language.
+// What a command prints whose program is in this language; a free program is in no language of these.
 fn answered_in<L: Language, R: Threads + Sync, S: Shelf, G: Gate + Sync>(
     rt: &R,
     alloc: Global,
@@ -103,5 +104,12 @@ fn answered_in<L: Language, R: Threads + Sync, S: Shelf, G: Gate + Sync>(
             let crew = Crew::new(rt, gate, LOAD_WORKERS, LOAD_CAP);
             load::<L, R, G>(alloc, &crew, *number)
         }
+        Command::Free {
+            file,
+            ins,
+            workers,
+            start,
+            header,
+        } => free(rt, alloc, file, ins, *workers, *start, *header, shelf, gate),
     }
 }

@@ -13,7 +13,7 @@ use std::alloc::Global;
 use std::thread::Threads;
 
 // What is written where the words are no sentence.
-const USAGE: &[u8] = b"usage: river run|plan|mean|load|upgrade\n";
+const USAGE: &[u8] = b"usage: river run|plan|mean|load|upgrade|free\n";
 
 /// Does what the words say, and answers the status to end with.
 pub fn river<R: Threads + Sync, S: Shelf, O: Sink, E: Sink, G: Gate + Sync>(

@@ -86,7 +86,8 @@ exact-counted n = exact-round (λ m. exact-count) (λ rest. tt) n
 exact-condition : (n : ℕ) → Exact (Round IsTerm n) (round_at term_at n) Any
 exact-condition n = parts.exact-round exact-term (λ rest j h. refl) n
 
-exact-body : (n : ℕ) → Exact (IsBody 16 n) (body_at n) Any
+-- a body in braces
+pub exact-body : (n : ℕ) → Exact (IsBody 16 n) (body_at n) Any
 unfolding body_at
 exact-body n = blocks.exact-block exact-river 16 n
 

@@ -26,11 +26,12 @@ use Rattle.river_text.specs.ReadPlans.{is_var_at, port_at, split_from, port_list
 use Rattle.river_text.proofs.Kernels.{exact-counted, exact-pair, exact-round, exact-braced}
 use Rattle.river_text.proofs.Regroup.{op-same}
 
-exact-river_name : Exact IsName river_name_at Any
+-- names and variables of at most 64 bytes
+pub exact-river_name : Exact IsName river_name_at Any
 unfolding river_name_at
 exact-river_name = exact-tested is_name exact-name
 
-exact-river_var : Exact IsVar river_var_at Any
+pub exact-river_var : Exact IsVar river_var_at Any
 unfolding river_var_at
 exact-river_var = exact-tested is_name exact-var
 
@@ -146,7 +147,8 @@ exact-ports_inside = exact-as (exact-known (split_from [] []) exact-port_list) t
   from : (v : Ports) (ts : List Tok) → IsPorts v ts → form.Known (split_from [] []) (form.Listing IsPort) v ts
   from v ts h = record { value = map queue v.0 ++ map variable v.1; is = split-all [] v.0 v.1; formed = h }
 
-exact-ports : Exact (form.Enclosed s.Open s.Close (λ m. IsPorts) brackets) ports_at Any
+-- queues and then variables, in brackets
+pub exact-ports : Exact (form.Enclosed s.Open s.Close (λ m. IsPorts) brackets) ports_at Any
 unfolding ports_at AtClose
 exact-ports = exact-round (λ m. exact-ports_inside) (λ rest. (refl, (tt, refl))) brackets
 

@@ -15,8 +15,12 @@ mod read;
 mod river_fault;
 mod term;
 
+pub use body::body as braced_body;
+pub use decl::{BRACKETS, river_name, river_var};
 pub use entry::RiverText;
 pub use fault::TextFault;
 pub use front::{RiverPlan, compile_river};
+pub use number::{number as round_number, pair as round_pair, signed};
+pub use port::{Ports as TwoLists, both_lists};
 pub use read::read_river;
 pub use river_fault::RiverFault;

@@ -40,9 +40,9 @@ fn width(reader: &mut Reader<'_>) -> Result<i64, Fault>
     Ok(i64::from(reader.count()?))
 }
 
-// A value that may be below 0, or `min`.
+/// A value that may be below 0, or `min`.
 #[tactic(auto, unfolding(crate::specs::ReadKernels::signed_at))]
-fn signed(reader: &mut Reader<'_>) -> Result<i64, Fault>
+pub fn signed(reader: &mut Reader<'_>) -> Result<i64, Fault>
     ensures { Gives (λ value. value) result reader.new (signed_at reader.old) }
 {
     if reader.takes(Symbol::Minus) {

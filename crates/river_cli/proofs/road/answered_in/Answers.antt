@@ -1,5 +1,5 @@
 use Rattle.river_outside.specs.Causes.{Rose}
-use Rattle.river_cli.proofs.Points.{load-answers, run-answers, show-answers, mean-answers, upgrade-answers}
+use Rattle.river_cli.proofs.Points.{load-answers, run-answers, show-answers, mean-answers, upgrade-answers, free-answers}
 use Rattle.river_cli.proofs.road.answered_in.Goals as goal
 
 pub returns-in-Run-clause-passes : goal.returns-in-Run-clause-passes
@@ -31,3 +31,9 @@ pub returns-in-Load-clause-passes : goal.returns-in-Load-clause-passes
 returns-in-Load-clause-passes g c =
     let rose = Rose g.S.Shelf.stays_at_last (g.S.Shelf.faults c.args.shelf.now) (g.S.Shelf.faults c.args.shelf.now) in
     rw c.in-Load.is (load-answers g.L.Language.source g.L.Language.more (g.S.Shelf.held c.args.shelf.now) rose c.in-Load.number c.load.result c.load.ensures)
+
+pub returns-in-Free-clause-passes : goal.returns-in-Free-clause-passes
+returns-in-Free-clause-passes g c =
+    let rose = Rose g.S.Shelf.stays_at_last (g.S.Shelf.faults c.args.shelf.now) (g.S.Shelf.faults c.free.new.shelf) in
+    rw c.in-Free.is (free-answers g.L.Language.source g.L.Language.more (g.S.Shelf.held c.args.shelf.now) rose c.in-Free.file c.in-Free.ins
+    c.in-Free.workers c.in-Free.start c.in-Free.header c.free.result c.free.ensures.passes)
