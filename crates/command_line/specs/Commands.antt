@@ -9,7 +9,7 @@ use Rattle.command_line.specs.Limits.{most_cap}
 
 -- the language of a command's program: `upgrade` takes a River text, and the program of `load` is in Sawzall
 abbrev pub lang_of : Command → Lang
-lang_of (Run lang file ins script workers cap header counts) = lang
+lang_of (Run lang file ins script workers cap header counts live) = lang
 lang_of (Plan lang file script) = lang
 lang_of (Mean lang file ins header) = lang
 lang_of (Upgrade file) = River
@@ -17,7 +17,7 @@ lang_of (Load number) = Sawzall
 
 -- `-H`: each input begins with a header
 abbrev pub with_header : Command → Option Command
-with_header (Run lang file ins script workers cap header counts) = Some (Run lang file ins script workers cap true counts)
+with_header (Run lang file ins script workers cap header counts live) = Some (Run lang file ins script workers cap true counts live)
 with_header (Plan lang file script) = None
 with_header (Mean lang file ins header) = Some (Mean lang file ins true)
 with_header (Upgrade file) = None
@@ -25,7 +25,7 @@ with_header (Load number) = None
 
 -- `-c`: firings are counted
 abbrev pub with_counts : Command → Option Command
-with_counts (Run lang file ins script workers cap header counts) = Some (Run lang file ins script workers cap header true)
+with_counts (Run lang file ins script workers cap header counts live) = Some (Run lang file ins script workers cap header true live)
 with_counts (Plan lang file script) = None
 with_counts (Mean lang file ins header) = None
 with_counts (Upgrade file) = None
@@ -33,7 +33,7 @@ with_counts (Load number) = None
 
 -- `-r`: the plan is rewritten by the script of this file
 abbrev pub with_script : List ℕ → Command → Option Command
-with_script name (Run lang file ins script workers cap header counts) = Some (Run lang file ins (Some name) workers cap header counts)
+with_script name (Run lang file ins script workers cap header counts live) = Some (Run lang file ins (Some name) workers cap header counts live)
 with_script name (Plan lang file script) = Some (Plan lang file (Some name))
 with_script name (Mean lang file ins header) = None
 with_script name (Upgrade file) = None
@@ -41,7 +41,7 @@ with_script name (Load number) = None
 
 -- `-w`: how many workers run the plan
 abbrev pub with_workers : ℕ → Command → Option Command
-with_workers n (Run lang file ins script workers cap header counts) = Some (Run lang file ins script n cap header counts)
+with_workers n (Run lang file ins script workers cap header counts live) = Some (Run lang file ins script n cap header counts live)
 with_workers n (Plan lang file script) = None
 with_workers n (Mean lang file ins header) = None
 with_workers n (Upgrade file) = None
@@ -49,19 +49,35 @@ with_workers n (Load number) = None
 
 -- `-q`: how many items a queue between two operators holds at most
 abbrev pub with_cap : ℕ → Command → Option Command
-with_cap n (Run lang file ins script workers cap header counts) = Some (Run lang file ins script workers n header counts)
+with_cap n (Run lang file ins script workers cap header counts live) = Some (Run lang file ins script workers n header counts live)
 with_cap n (Plan lang file script) = None
 with_cap n (Mean lang file ins header) = None
 with_cap n (Upgrade file) = None
 with_cap n (Load number) = None
 
+-- `-L`: the plan is run by tasks that wait
+abbrev pub with_live : Command → Option Command
+with_live (Run lang file ins script workers cap header counts live) = Some (Run lang file ins script workers cap header counts true)
+with_live (Plan lang file script) = None
+with_live (Mean lang file ins header) = None
+with_live (Upgrade file) = None
+with_live (Load number) = None
+
 -- one input more
 abbrev pub with_input : InWord → Command → Option Command
-with_input input (Run lang file ins script workers cap header counts) = Some (Run lang file (ins ++ input ∷ []) script workers cap header counts)
+with_input input (Run lang file ins script workers cap header counts live) = Some (Run lang file (ins ++ input ∷ []) script workers cap header counts live)
 with_input input (Plan lang file script) = None
 with_input input (Mean lang file ins header) = Some (Mean lang file (ins ++ input ∷ []) header)
 with_input input (Upgrade file) = None
 with_input input (Load number) = None
+
+-- the plan of a command is run by tasks that wait
+abbrev pub is_live : Command → Bool
+is_live (Run lang file ins script workers cap header counts live) = live
+is_live (Plan lang file script) = false
+is_live (Mean lang file ins header) = false
+is_live (Upgrade file) = false
+is_live (Load number) = false
 
 -- a command was made, and it is this one; or none was
 abbrev pub MayMake : Bool → Option Command → Command → Type 0
@@ -70,7 +86,7 @@ MayMake false made command = made ≡ None
 
 -- a run has 1 to 64 workers, and queues that hold 1 to 65,536 items
 abbrev pub IsManned : Command → Type 0
-IsManned (Run lang file ins script workers cap header counts) = (1 ≤ workers) × (workers ≤ 64) × (1 ≤ cap) × (cap ≤ most_cap)
+IsManned (Run lang file ins script workers cap header counts live) = (1 ≤ workers) × (workers ≤ 64) × (1 ≤ cap) × (cap ≤ most_cap)
 IsManned (Plan lang file script) = Unit {0}
 IsManned (Mean lang file ins header) = Unit {0}
 IsManned (Upgrade file) = Unit {0}

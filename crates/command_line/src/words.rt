@@ -11,7 +11,8 @@ use std::alloc::Global;
 
 /// The command that the words ask for. A sentence is `load N`, with N from 1 to 100,000; or `upgrade FILE`; or `run LANG FILE`,
 /// `mean LANG FILE` or `plan LANG FILE`, and behind it, in any order, what the command takes: `run` and `mean` take words NAME=FILE and
-/// `-H`, `run` also `-c`, `-w N` with N from 1 to 64 and `-q N` with N from 1 to 65,536, and `run` and `plan` take `-r SCRIPT`. FILE
+/// `-H`, `run` also `-c`, `-w N` with N from 1 to 64 or in its place `-L`, and `-q N` with N from 1 to 65,536, and `run` and `plan` take
+/// `-r SCRIPT`. FILE
 /// behind `upgrade` or the language is not empty and does not begin with `-`; no option and no NAME stands twice. A number has 1 to 9
 /// decimal digits.
 pub fn read_words(alloc: Global, words: &[Text]) -> Result<Command, WordFault>
@@ -127,6 +128,7 @@ fn plain(alloc: Global, word: &[u8], lang: Lang, file: &[u8]) -> Result<Option<C
             cap: 64,
             header: false,
             counts: false,
+            live: false,
         }))
     } else if word == MEAN {
         Ok(Some(Command::Mean {
