@@ -4,7 +4,7 @@ use Rattle.std.specs.Prelude.{Option, Some, None, map, codes, nat_lt, nat_le, �
 use Rattle.std.specs.Str.{bytes_eq}
 use Rattle.std.proofs.lemmas.Bool.Decides.{nat_tests}
 use Rattle.csv_streams.specs.Number.{value_after}
-use Rattle.command_line.specs.Commands.{with_header, with_counts, with_script, with_workers, with_cap, with_start, with_input, IsManned}
+use Rattle.command_line.specs.Commands.{with_header, with_counts, with_script, with_workers, with_cap, with_start, with_input, IsManned, with_live}
 use Rattle.command_line.specs.Limits.{most_cap, most_start}
 use Rattle.command_line.specs.Phrases.{Phrase, option, script, input, number_ahead, zero_ahead, with_number, phrase_of, one_more, phrases, made, are_apart, with_phrases}
 use Rattle.command_line.specs.Sentences.{plain, with_words, asked, asked_load, asked_upgrade, asked_two, asked_other, asked_free, asked_any, command_of}
@@ -32,7 +32,7 @@ either true x y h k = h
 either false x y h k = k
 
 header_keeps : (command : Command) → IsManned command → MayBeManned (with_header command)
-header_keeps (Run lang file ins script workers cap header counts) h = h
+header_keeps (Run lang file ins script workers cap header counts live) h = h
 header_keeps (Plan lang file script) h = tt
 header_keeps (Mean lang file ins header) h = tt
 header_keeps (Upgrade file) h = tt
@@ -40,12 +40,19 @@ header_keeps (Load number) h = tt
 header_keeps (Free file ins workers start header) h = h
 
 counts_keep : (command : Command) → IsManned command → MayBeManned (with_counts command)
-counts_keep (Run lang file ins script workers cap header counts) h = h
+counts_keep (Run lang file ins script workers cap header counts live) h = h
 counts_keep (Plan lang file script) h = tt
 counts_keep (Mean lang file ins header) h = tt
 counts_keep (Upgrade file) h = tt
 counts_keep (Load number) h = tt
 counts_keep (Free file ins workers start header) h = tt
+
+live_keeps : (command : Command) → IsManned command → MayBeManned (with_live command)
+live_keeps (Run lang file ins script workers cap header counts live) h = h
+live_keeps (Plan lang file script) h = tt
+live_keeps (Mean lang file ins header) h = tt
+live_keeps (Upgrade file) h = tt
+live_keeps (Load number) h = tt
 
 script_keeps : (words : List (List ℕ)) → MayKeep (script words)
 script_keeps [] = tt
@@ -53,7 +60,7 @@ script_keeps ([] ∷ words) = tt
 script_keeps ((c ∷ cs) ∷ words) = by
   where
     by : (command : Command) → IsManned command → MayBeManned (with_script (c ∷ cs) command)
-    by (Run lang file ins script workers cap header counts) h = h
+    by (Run lang file ins script workers cap header counts live) h = h
     by (Plan lang file script) h = tt
     by (Mean lang file ins header) h = tt
     by (Upgrade file) h = tt
@@ -65,7 +72,7 @@ input_keeps None = tt
 input_keeps (Some w) = by
   where
     by : (command : Command) → IsManned command → MayBeManned (with_input w command)
-    by (Run lang file ins script workers cap header counts) h = h
+    by (Run lang file ins script workers cap header counts live) h = h
     by (Plan lang file script) h = tt
     by (Mean lang file ins header) h = tt
     by (Upgrade file) h = tt
@@ -97,7 +104,7 @@ workers_keep : (key : List ℕ) (words : List (List ℕ)) → MayKeep (with_numb
 workers_keep key words = by (number_ahead 64 words) refl
   where
     some : (n : ℕ) → (1 ≤ n) × (n ≤ 64) → (command : Command) → IsManned command → MayBeManned (with_workers n command)
-    some n w (Run lang file ins script workers cap header counts) h = (w.0, w.1, h.2, h.3)
+    some n w (Run lang file ins script workers cap header counts live) h = (w.0, w.1, h.2, h.3)
     some n w (Plan lang file script) h = tt
     some n w (Mean lang file ins header) h = tt
     some n w (Upgrade file) h = tt
@@ -112,7 +119,7 @@ cap_keeps : (key : List ℕ) (words : List (List ℕ)) → MayKeep (with_number 
 cap_keeps key words = by (number_ahead most_cap words) refl
   where
     some : (n : ℕ) → (1 ≤ n) × (n ≤ most_cap) → (command : Command) → IsManned command → MayBeManned (with_cap n command)
-    some n w (Run lang file ins script workers cap header counts) h = (h.0, h.1, w.0, w.1)
+    some n w (Run lang file ins script workers cap header counts live) h = (h.0, h.1, w.0, w.1)
     some n w (Plan lang file script) h = tt
     some n w (Mean lang file ins header) h = tt
     some n w (Upgrade file) h = tt
@@ -127,7 +134,7 @@ start_keeps : (key : List ℕ) (words : List (List ℕ)) → MayKeep (with_numbe
 start_keeps key words = by (zero_ahead most_start words)
   where
     some : (n : ℕ) (command : Command) → IsManned command → MayBeManned (with_start n command)
-    some n (Run lang file ins script workers cap header counts) h = tt
+    some n (Run lang file ins script workers cap header counts live) h = tt
     some n (Plan lang file script) h = tt
     some n (Mean lang file ins header) h = tt
     some n (Upgrade file) h = tt
@@ -147,7 +154,8 @@ phrase_keeps (w ∷ ws) =
     (either (bytes_eq w (codes "-w")) (with_number w with_workers (number_ahead 64 ws)) _ (workers_keep w ws)
     (either (bytes_eq w (codes "-q")) (with_number w with_cap (number_ahead most_cap ws)) _ (cap_keeps w ws)
     (either (bytes_eq w (codes "-s")) (with_number w with_start (zero_ahead most_start ws)) _ (start_keeps w ws)
-    (either (is_file w) (input (in_word_of w)) None (input_keeps (in_word_of w)) tt))))))
+    (either (bytes_eq w (codes "-L")) (option (codes "-w") with_live) _ live_keeps
+    (either (is_file w) (input (in_word_of w)) None (input_keeps (in_word_of w)) tt)))))))
 
 -- phrases that make of each command that is manned another one
 abbrev KeepAll : List Phrase → Type 0
@@ -191,7 +199,7 @@ plain_is : (word : List ℕ) (lang : Lang) (file : List ℕ) → MayBeManned (pl
 plain_is word lang file = by (bytes_eq word (codes "run")) (bytes_eq word (codes "mean")) (bytes_eq word (codes "plan"))
   where
     by : (a b c : Bool)
-        → MayBeManned (if a then Some (Run lang file [] None 1 64 false false)
+        → MayBeManned (if a then Some (Run lang file [] None 1 64 false false false)
         else if b then Some (Mean lang file [] false) else if c then Some (Plan lang file None) else None)
     by true b c = (omega arith, omega arith, omega arith, omega arith)
     by false true c = tt

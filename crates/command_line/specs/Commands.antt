@@ -10,7 +10,7 @@ use Rattle.command_line.specs.Limits.{most_cap}
 -- the language of a command's program: `upgrade` takes a River text, and the program of `load` is in Sawzall;
 -- a free program is written as River texts are
 abbrev pub lang_of : Command → Lang
-lang_of (Run lang file ins script workers cap header counts) = lang
+lang_of (Run lang file ins script workers cap header counts live) = lang
 lang_of (Plan lang file script) = lang
 lang_of (Mean lang file ins header) = lang
 lang_of (Upgrade file) = River
@@ -19,7 +19,7 @@ lang_of (Free file ins workers start header) = River
 
 -- `-H`: each input begins with a header
 abbrev pub with_header : Command → Option Command
-with_header (Run lang file ins script workers cap header counts) = Some (Run lang file ins script workers cap true counts)
+with_header (Run lang file ins script workers cap header counts live) = Some (Run lang file ins script workers cap true counts live)
 with_header (Plan lang file script) = None
 with_header (Mean lang file ins header) = Some (Mean lang file ins true)
 with_header (Upgrade file) = None
@@ -28,7 +28,7 @@ with_header (Free file ins workers start header) = Some (Free file ins workers s
 
 -- `-c`: firings are counted
 abbrev pub with_counts : Command → Option Command
-with_counts (Run lang file ins script workers cap header counts) = Some (Run lang file ins script workers cap header true)
+with_counts (Run lang file ins script workers cap header counts live) = Some (Run lang file ins script workers cap header true live)
 with_counts (Plan lang file script) = None
 with_counts (Mean lang file ins header) = None
 with_counts (Upgrade file) = None
@@ -37,7 +37,7 @@ with_counts (Free file ins workers start header) = None
 
 -- `-r`: the plan is rewritten by the script of this file
 abbrev pub with_script : List ℕ → Command → Option Command
-with_script name (Run lang file ins script workers cap header counts) = Some (Run lang file ins (Some name) workers cap header counts)
+with_script name (Run lang file ins script workers cap header counts live) = Some (Run lang file ins (Some name) workers cap header counts live)
 with_script name (Plan lang file script) = Some (Plan lang file (Some name))
 with_script name (Mean lang file ins header) = None
 with_script name (Upgrade file) = None
@@ -46,7 +46,7 @@ with_script name (Free file ins workers start header) = None
 
 -- `-w`: how many workers there are
 abbrev pub with_workers : ℕ → Command → Option Command
-with_workers n (Run lang file ins script workers cap header counts) = Some (Run lang file ins script n cap header counts)
+with_workers n (Run lang file ins script workers cap header counts live) = Some (Run lang file ins script n cap header counts live)
 with_workers n (Plan lang file script) = None
 with_workers n (Mean lang file ins header) = None
 with_workers n (Upgrade file) = None
@@ -55,7 +55,7 @@ with_workers n (Free file ins workers start header) = Some (Free file ins n star
 
 -- `-q`: how many items a queue between two operators holds at most
 abbrev pub with_cap : ℕ → Command → Option Command
-with_cap n (Run lang file ins script workers cap header counts) = Some (Run lang file ins script workers n header counts)
+with_cap n (Run lang file ins script workers cap header counts live) = Some (Run lang file ins script workers n header counts live)
 with_cap n (Plan lang file script) = None
 with_cap n (Mean lang file ins header) = None
 with_cap n (Upgrade file) = None
@@ -64,21 +64,39 @@ with_cap n (Free file ins workers start header) = None
 
 -- `-s`: the number with which the picks begin
 abbrev pub with_start : ℕ → Command → Option Command
-with_start n (Run lang file ins script workers cap header counts) = None
+with_start n (Run lang file ins script workers cap header counts live) = None
 with_start n (Plan lang file script) = None
 with_start n (Mean lang file ins header) = None
 with_start n (Upgrade file) = None
 with_start n (Load number) = None
 with_start n (Free file ins workers start header) = Some (Free file ins workers n header)
 
+-- `-L`: the plan is run by tasks that wait
+abbrev pub with_live : Command → Option Command
+with_live (Run lang file ins script workers cap header counts live) = Some (Run lang file ins script workers cap header counts true)
+with_live (Plan lang file script) = None
+with_live (Mean lang file ins header) = None
+with_live (Upgrade file) = None
+with_live (Load number) = None
+with_live (Free file ins workers start header) = None
+
 -- one input more
 abbrev pub with_input : InWord → Command → Option Command
-with_input input (Run lang file ins script workers cap header counts) = Some (Run lang file (ins ++ input ∷ []) script workers cap header counts)
+with_input input (Run lang file ins script workers cap header counts live) = Some (Run lang file (ins ++ input ∷ []) script workers cap header counts live)
 with_input input (Plan lang file script) = None
 with_input input (Mean lang file ins header) = Some (Mean lang file (ins ++ input ∷ []) header)
 with_input input (Upgrade file) = None
 with_input input (Load number) = None
 with_input input (Free file ins workers start header) = Some (Free file (ins ++ input ∷ []) workers start header)
+
+-- the plan of a command is run by tasks that wait
+abbrev pub is_live : Command → Bool
+is_live (Run lang file ins script workers cap header counts live) = live
+is_live (Plan lang file script) = false
+is_live (Mean lang file ins header) = false
+is_live (Upgrade file) = false
+is_live (Load number) = false
+is_live (Free file ins workers start header) = false
 
 -- a command was made, and it is this one; or none was
 abbrev pub MayMake : Bool → Option Command → Command → Type 0
@@ -87,7 +105,7 @@ MayMake false made command = made ≡ None
 
 -- a run has 1 to 64 workers, and queues that hold 1 to 65,536 items; one of a free program has 1 to 64 workers
 abbrev pub IsManned : Command → Type 0
-IsManned (Run lang file ins script workers cap header counts) = (1 ≤ workers) × (workers ≤ 64) × (1 ≤ cap) × (cap ≤ most_cap)
+IsManned (Run lang file ins script workers cap header counts live) = (1 ≤ workers) × (workers ≤ 64) × (1 ≤ cap) × (cap ≤ most_cap)
 IsManned (Plan lang file script) = Unit {0}
 IsManned (Mean lang file ins header) = Unit {0}
 IsManned (Upgrade file) = Unit {0}

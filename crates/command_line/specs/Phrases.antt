@@ -2,7 +2,7 @@
 use Rattle.std.specs.Prelude.{ℕ, zero, suc, List, [], ◌∷◌, map, Bool, true, ◌&&◌, ◌==◌, Option, None, Some, codes, if◌then◌else◌}
 use Rattle.std.specs.Str.{bytes_eq}
 use Rattle.river_plan.specs.Names.{count}
-use Rattle.command_line.specs.Commands.{with_header, with_counts, with_script, with_workers, with_cap, with_start, with_input}
+use Rattle.command_line.specs.Commands.{with_header, with_counts, with_script, with_workers, with_cap, with_start, with_input, with_live}
 use Rattle.command_line.specs.Limits.{most_cap, most_start}
 use Rattle.command_line.specs.Words.{is_file, number_to, from_zero, in_word_of}
 use Rattle.command_line.specs.declared.command.Command.{Command}
@@ -45,7 +45,8 @@ abbrev pub input : Option InWord → Option Phrase
 input None = None
 input (Some w) = Some (record { takes = 0; once = w.name; makes = with_input w })
 
--- the phrase that words begin with; a word that begins with `-` is an option
+-- the phrase that words begin with; a word that begins with `-` is an option. `-L` says who runs the plan, as `-w` does: one of the two may
+-- stand, and once
 abbrev pub phrase_of : List (List ℕ) → Option Phrase
 phrase_of [] = None
 phrase_of (word ∷ behind) =
@@ -55,6 +56,7 @@ phrase_of (word ∷ behind) =
     else if bytes_eq word (codes "-w") then with_number word with_workers (number_ahead 64 behind)
     else if bytes_eq word (codes "-q") then with_number word with_cap (number_ahead most_cap behind)
     else if bytes_eq word (codes "-s") then with_number word with_start (zero_ahead most_start behind)
+    else if bytes_eq word (codes "-L") then option (codes "-w") with_live
     else if is_file word then input (in_word_of word)
     else None
 

@@ -10,7 +10,7 @@ use Rattle.command_line.specs.declared.command.Lang.{Lang}
 -- the command that a word names, with a program and nothing else
 abbrev pub plain : List ℕ → Lang → List ℕ → Option Command
 plain word lang file =
-    if bytes_eq word (codes "run") then Some (Run lang file [] None 1 64 false false)
+    if bytes_eq word (codes "run") then Some (Run lang file [] None 1 64 false false false)
     else if bytes_eq word (codes "mean") then Some (Mean lang file [] false)
     else if bytes_eq word (codes "plan") then Some (Plan lang file None)
     else None

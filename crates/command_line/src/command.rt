@@ -1,6 +1,6 @@
 // What the words of the command line ask for.
 ghost use Rattle.std.specs.Prelude.{◌≡◌, IfOk};
-ghost use Rattle.command_line.specs.Commands.{MayMake, lang_of, with_header, with_counts, with_script, with_workers, with_cap, with_start, with_input};
+ghost use Rattle.command_line.specs.Commands.{MayMake, lang_of, with_header, with_counts, with_script, with_workers, with_cap, with_start, with_input, with_live, is_live};
 
 use river_base::{Listed, NoMemory, Text};
 
@@ -52,6 +52,8 @@ pub enum Command {
         header: bool,
         /// `-c`: the firings of each operator are printed too.
         counts: bool,
+        /// `-L`: the plan is run by a task for each operator, which waits where it has nothing to do.
+        live: bool,
     },
     /// `plan`: it is compiled, and its plan and the lock classes of its tables are printed.
     Plan {
@@ -109,6 +111,20 @@ impl Command {
                 *lang,
             Command::Upgrade { .. } | Command::Free { .. } => Lang::River,
             Command::Load { .. } => Lang::Sawzall,
+        }
+    }
+
+    /// Whether the plan is run by tasks that wait.
+    pub fn is_live(&self) -> bool
+        ensures { result ≡ is_live self.now }
+    {
+        match self {
+            Command::Run { live, .. } => *live,
+            Command::Mean { .. }
+            | Command::Plan { .. }
+            | Command::Upgrade { .. }
+            | Command::Load { .. }
+            | Command::Free { .. } => false,
         }
     }
 
@@ -221,6 +237,23 @@ impl Command {
             | Command::Plan { .. }
             | Command::Upgrade { .. }
             | Command::Load { .. } => false,
+        }
+    }
+
+    /// Notes that the plan is run by tasks that wait, if the command is a run.
+    pub(crate) fn set_live(&mut self) -> bool
+        ensures { MayMake result (with_live self.old) self.new }
+    {
+        match self {
+            Command::Run { live, .. } => {
+                *live = true;
+                true
+            }
+            Command::Mean { .. }
+            | Command::Plan { .. }
+            | Command::Upgrade { .. }
+            | Command::Load { .. }
+            | Command::Free { .. } => false,
         }
     }
 

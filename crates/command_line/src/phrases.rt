@@ -1,8 +1,8 @@
 // What stands behind a program's file: options and words NAME=FILE, in any order.
-ghost use Rattle.std.specs.Prelude.{◌≡◌, ◌≤◌, ◌<◌, ◌+◌, ◌-◌, ◌^◌, [], ◌∷◌, length, take, drop, Some, None, IfOk, OnOk, IsErrOf, IsSome};
+ghost use Rattle.std.specs.Prelude.{◌≡◌, ◌≤◌, ◌<◌, ◌+◌, ◌-◌, ◌^◌, [], ◌∷◌, length, take, drop, Some, None, IfOk, OnOk, IsErrOf, IsSome, codes};
 ghost use Rattle.command_line.specs.Limits.{most_cap, most_start};
 ghost use Rattle.command_line.specs.Words.{name_part, rest_part, in_word_of};
-ghost use Rattle.command_line.specs.Commands.{with_header, with_counts, with_workers, with_cap, with_start};
+ghost use Rattle.command_line.specs.Commands.{with_header, with_counts, with_workers, with_cap, with_start, with_live};
 ghost use Rattle.command_line.specs.Phrases.{phrase_of, phrases, with_phrases, option, number_ahead, zero_ahead, with_number, input as input_phrase, script as script_phrase};
 ghost use Rattle.command_line.specs.Said.{said_fitting, with_phrase};
 
@@ -61,6 +61,8 @@ const CAP: &[u8] = b"-q";
 
 const START: &[u8] = b"-s";
 
+const LIVE: &[u8] = b"-L";
+
 const MOST_WORKERS: u32 = 64;
 
 const MOST_CAP: u32 = 65_536;
@@ -102,6 +104,9 @@ fn read_phrase(
     } else if word == START {
         add_start(alloc, word, behind, command, said)?;
         Ok(1)
+    } else if word == LIVE {
+        add_live(alloc, command, said)?;
+        Ok(0)
     } else if is_file(word) {
         add_input(alloc, word, command, said)?;
         Ok(0)
@@ -240,6 +245,17 @@ fn zero_ahead(words: &[Text], most: u32) -> Option<u32>
         [word, ..] => read_from_zero(word.as_slice(), most),
         [] => None,
     }
+}
+
+// The plan is run by tasks that wait. It stands in the place of a number of workers.
+#[tactic(auto, using(crate::proofs::ReadOn::noted, crate::proofs::ReadOn::not_noted))]
+fn add_live(alloc: Global, command: &mut Command, said: &mut WordSet) -> Result<(), WordFault>
+    ensures ok { OnOk result (with_phrase (option (codes "-w") with_live) said.old command.old
+        ≡ Some (record { takes = 0; said = said.new; command = command.new })) }
+    ensures usage { IsErrOf result WordFault.Usage → with_phrase (option (codes "-w") with_live) said.old command.old ≡ None }
+{
+    let fits = command.set_live();
+    once(alloc, WORKERS, fits, said)
 }
 
 // The number that the next word writes, if it is from 1 to `most`.

@@ -10,10 +10,11 @@ use river_base::{NoMemory, Text};
 use std::alloc::Global;
 
 /// The command that the words ask for. A sentence is `load N`, with N from 1 to 100,000; or `upgrade FILE`; or `run LANG FILE`,
+/// The command that the words ask for. A sentence is `load N`, with N from 1 to 100,000; or `upgrade FILE`; or `run LANG FILE`,
 /// `mean LANG FILE`, `plan LANG FILE` or `free FILE`, and behind it, in any order, what the command takes: `run`, `mean` and `free` take
-/// words NAME=FILE and `-H`, `run` and `free` `-w N` with N from 1 to 64, `run` also `-c` and `-q N` with N from 1 to 65,536, `free` also
-/// `-s N` with N from 0 to 999,999,999, and `run` and `plan` take `-r SCRIPT`. FILE behind `upgrade`, `free` or the language is not empty and
-/// does not begin with `-`; no option and no NAME stands twice. A number has 1 to 9 decimal digits.
+/// words NAME=FILE and `-H`, `run` and `free` `-w N` with N from 1 to 64, `run` in its place also `-L`, and `-c` and `-q N` with N from 1
+/// to 65,536, `free` also `-s N` with N from 0 to 999,999,999, and `run` and `plan` take `-r SCRIPT`. FILE behind `upgrade`, `free` or the
+/// language is not empty and does not begin with `-`; no option and no NAME stands twice. A number has 1 to 9 decimal digits.
 pub fn read_words(alloc: Global, words: &[Text]) -> Result<Command, WordFault>
     ensures ok { IfOk result (λ command. command_of words.now ≡ Some command) }
     ensures usage { IsErrOf result WordFault.Usage → command_of words.now ≡ None }
@@ -166,6 +167,7 @@ fn plain(alloc: Global, word: &[u8], lang: Lang, file: &[u8]) -> Result<Option<C
             cap: 64,
             header: false,
             counts: false,
+            live: false,
         }))
     } else if word == MEAN {
         Ok(Some(Command::Mean {

@@ -65,9 +65,11 @@ module _ (p : PlanForm) (inputs : List (List item.Item)) (caps : Capacities) (ne
       (λ w. by_ring o port k1.op q.0 t t' i.0 i'.0 op_is q.1 g g' i.1 i'.1 w)
       (λ none. kept_input (given_to p inputs q.0) i.0 (n.laid.inputs_are o port k1.op q.0 t i.0 op_is q.1 none g i.1)
       ∙ sym (kept_input (given_to p inputs q.0) i'.0 (n'.laid.inputs_are o port k1.op q.0 t' i'.0 op_is q.1 none g' i'.1)))
-      (more_or_zero (total (writes_it q.0) p.ops)) in
-      (known_of i'.0, ap known_of (get_or_from_slice_get t.ins port i.0 d i.1)
-      ∙ front_is (received_of i.0) (received_of i'.0) (known_of i.0) (known_of i'.0) x both er)
+      (more_or_zero (total (writes_it q.0) p.ops)) in (
+        known_of i'.0,
+        ap known_of (get_or_from_slice_get t.ins port i.0 d i.1)
+            ∙ front_is (received_of i.0) (received_of i'.0) (known_of i.0) (known_of i'.0) x both er,
+      )
     where
       by_ring : (o port : ℕ) (op : OpForm) (q : Name) (t t' : Task) (i i' : inlet.Inlet) → slice_get p.ops o ≡ Some op
           → slice_get op.reads port ≡ Some q → slice_get net.tasks o ≡ Some t → slice_get net'.tasks o ≡ Some t' → slice_get t.ins port ≡ Some i

@@ -16,6 +16,7 @@ mod queue;
 mod turn;
 mod unpack;
 
+pub use body::run_kept;
 pub use collect::CollectState;
 pub use even::EvenRows;
 pub use filter::FilterState;

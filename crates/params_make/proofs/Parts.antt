@@ -6,8 +6,9 @@ use Rattle.river_plan.specs.Forms.{Name}
 use Rattle.streamit_text.specs.Program as plain
 use Rattle.params_text.specs.Program.{ParamFilter, Dealing, Steps, Declared, AFilter, APipeline, ASplitJoin}
 use Rattle.streamit_text.specs.Tree.{Expression}
-use Rattle.params_text.specs.Toks.{spaced, unit_toks, units_toks, plain_text}
-use Rattle.params_text.proofs.Spacing.{spaced-append}
+use Rattle.work_text.specs.Spaced.{spaced}
+use Rattle.params_text.specs.Toks.{unit_toks, units_toks, plain_text}
+use Rattle.work_text.proofs.Spacing.{spaced-append}
 use Rattle.params_model.specs.Environment.{Environment, dealing, option_counts}
 use Rattle.params_model.specs.Plain.{instance_name, plain_filter}
 use Rattle.params_model.specs.Making.{Made, Adding, Range, Budget, on_fine, demand, begin, turn, children_made, is_ranged_filter, is_ranged_dealing, are_ranged_option}

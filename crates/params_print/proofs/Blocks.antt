@@ -6,8 +6,9 @@ use Rattle.work_text.specs.Tok.{Tok, symbol}
 use Rattle.work_text.specs.declared.sign.Symbol.TheVariants as s
 use Rattle.streamit_text.specs.Tree.{Statement, statement, in_turn}
 use Rattle.streamit_text.specs.declared.tree.Statement as written
-use Rattle.params_text.specs.Toks.{statement_toks, statements_toks, block_toks, spaced}
-use Rattle.params_text.proofs.Spacing.{spaced-append}
+use Rattle.work_text.specs.Spaced.{spaced}
+use Rattle.params_text.specs.Toks.{statement_toks, statements_toks, block_toks}
+use Rattle.work_text.proofs.Spacing.{spaced-append}
 use Rattle.params_model.specs.Environment.{Environment}
 use Rattle.params_model.specs.Plain.{put_once, put_all}
 

@@ -5,7 +5,8 @@ ghost use Rattle.work_text.specs.Tok.{token_of};
 ghost use Rattle.text_blocks.specs.Seven.{sign_of};
 ghost use Rattle.streamit_text.specs.Tree.{Bin, expression};
 ghost use Rattle.streamit_model.specs.Meaning.{look};
-ghost use Rattle.params_text.specs.Toks.{expr_toks, spaced};
+ghost use Rattle.work_text.specs.Spaced.{spaced};
+ghost use Rattle.params_text.specs.Toks.{expr_toks};
 ghost use Rattle.params_model.specs.Plain.{literal, literal_or, put_in};
 
 use crate::Bindings;

@@ -2,7 +2,8 @@
 ghost use Rattle.std.specs.Prelude.{◌≡◌, ◌++◌, [], ◌∷◌, OnOk};
 ghost use Rattle.work_text.specs.Tok as tok;
 ghost use Rattle.work_text.specs.declared.sign.Symbol.TheVariants as s;
-ghost use Rattle.params_text.specs.Toks.{other_toks, spaced};
+ghost use Rattle.work_text.specs.Spaced.{spaced};
+ghost use Rattle.params_text.specs.Toks.{other_toks};
 ghost use Rattle.params_print.specs.Heads.{opening_toks, name_written, names_written};
 
 use crate::token::{digits, tokens};

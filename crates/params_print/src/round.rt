@@ -2,7 +2,8 @@
 ghost use Rattle.std.specs.Prelude.{◌≡◌, ◌++◌, map, OnOk};
 ghost use Rattle.streamit_text.specs.Tree.{expression};
 ghost use Rattle.params_text.specs.Program.{dealing_of, rounds_of};
-ghost use Rattle.params_text.specs.Toks.{more_numbers, numbers_toks, weights_toks, dealing_toks, split_toks, join_toks, spaced};
+ghost use Rattle.work_text.specs.Spaced.{spaced};
+ghost use Rattle.params_text.specs.Toks.{more_numbers, numbers_toks, weights_toks, dealing_toks, split_toks, join_toks};
 ghost use Rattle.params_model.specs.Constants.{AreFitOption, IsFitDealing};
 ghost use Rattle.params_model.specs.Environment.{counts_in, option_counts, dealing};
 ghost use Rattle.params_model.specs.Laws.{AreFit};

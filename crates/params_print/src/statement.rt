@@ -1,7 +1,8 @@
 // Statements and blocks under values.
 ghost use Rattle.std.specs.Prelude.{◌≡◌, ◌++◌, OnOk};
 ghost use Rattle.streamit_text.specs.Tree.{Declare, Assign, Push, Discard, expression, option_expression, is_turn, statement, block, optional_block};
-ghost use Rattle.params_text.specs.Toks.{below, statement_toks, block_toks, else_toks, spaced};
+ghost use Rattle.work_text.specs.Spaced.{spaced};
+ghost use Rattle.params_text.specs.Toks.{below, statement_toks, block_toks, else_toks};
 ghost use Rattle.params_model.specs.Plain.{put_in, put_option, put_once, put_all, put_optional};
 ghost use Rattle.params_print.specs.Heads.{if_toks, for_toks};
 

@@ -3,7 +3,7 @@ ghost use Rattle.std.specs.Prelude.{◌≡◌, ◌++◌, map, OnOk};
 ghost use Rattle.std.specs.Fmt.{decimal};
 ghost use Rattle.work_text.specs.Symbols.{symbol_bytes};
 ghost use Rattle.work_text.specs.Tok.{token_of};
-ghost use Rattle.params_text.specs.Toks.{token_bytes, spaced};
+ghost use Rattle.work_text.specs.Spaced.{token_bytes, spaced};
 
 use river_base::{Bytes, NoMemory};
 use std::alloc::Global;

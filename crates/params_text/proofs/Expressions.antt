@@ -28,7 +28,7 @@ use Rattle.streamit_text.specs.declared.term.Sign.TheVariants as sign
 use Rattle.work_text.proofs.Insides.{IsPlain, plain-Open, plain-Close, plain-Minus, plain-Not}
 use Rattle.params_text.specs.Toks.{expr_toks}
 use Rattle.params_text.specs.Told.{IsOwnName, IsToldTree, IsToldExpr}
-use Rattle.params_text.proofs.Good.{IsPiece, piece-nothing, piece-then, piece-symbol, piece-name, piece-number, piece-last}
+use Rattle.work_text.proofs.Good.{IsPiece, piece-nothing, piece-then, piece-symbol, piece-name, piece-number, piece-last}
 
 -- a name of a program
 pub own_plain : (n : List ℕ) → IsOwnName n → is_plain n ≡ true

@@ -1,13 +1,11 @@
 pub mod Chains
 pub mod Expressions
-pub mod Good
 pub mod Lists
 pub mod Lows
 pub mod ParamTexts
 pub mod Places
 pub mod Programs
 pub mod RateSteps
-pub mod Spacing
 pub mod Statements
 pub mod StepTrees
 pub mod Texts

@@ -25,7 +25,7 @@ use Rattle.work_text.proofs.Insides as inside
 use Rattle.work_text.proofs.Insides.{plain-Open, plain-Close, plain-Semicolon, plain-Assign, plain-Less, plain-LessEqual, plain-Increment}
 use Rattle.params_text.specs.Toks.{expr_toks, first_toks, below, head_toks, statement_toks, statements_toks, block_toks, else_toks}
 use Rattle.params_text.specs.Told.{IsOwnName, IsToldExpr, IsToldFirst, IsToldOnce, IsToldAll, IsToldOptional}
-use Rattle.params_text.proofs.Good.{IsPiece, piece-nothing, piece-then, piece-symbol, piece-name, piece-braces, piece-last}
+use Rattle.work_text.proofs.Good.{IsPiece, piece-nothing, piece-then, piece-symbol, piece-name, piece-braces, piece-last}
 use Rattle.params_text.proofs.Expressions.{own_plain, own_text, pop_is, round, told-piece, told-formed}
 
 -- A NAME IS NO KEYWORD

@@ -13,7 +13,7 @@ use Rattle.streamit_text.proofs.Texts.{one_program}
 use Rattle.params_text.specs.Toks.{kind_word, inner_toks, unit_toks, units_toks, plain_text}
 use Rattle.params_text.specs.Told.{IsToldProgram, IsToldUnit}
 use Rattle.params_text.specs.Laws.{TextStands}
-use Rattle.params_text.proofs.Good.{AreGood, good-append, spaced-spells}
+use Rattle.work_text.proofs.Good.{AreGood, good-append, spaced-spells}
 use Rattle.params_text.proofs.Expressions.{own_text}
 use Rattle.params_text.proofs.Statements.{int_is}
 use Rattle.params_text.proofs.Units.{inner-piece, unit-formed}

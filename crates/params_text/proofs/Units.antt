@@ -14,7 +14,7 @@ use Rattle.streamit_text.specs.Grammar.{Weight, IsWork, IsPrework, IsInit, IsFie
 use Rattle.work_text.proofs.Insides.{plain-Semicolon, plain-Comma}
 use Rattle.params_text.specs.Toks.{block_toks, field_toks, fields_toks, init_toks, rate_toks, rates_toks, work_toks, prework_toks, filter_toks, add_toks, other_toks, adds_toks, more_numbers, numbers_toks, weights_toks, dealing_toks, split_toks, join_toks, kind_word, inner_toks, unit_toks}
 use Rattle.params_text.specs.Told.{IsOwnName, AreOwnNames, IsToldRate, IsToldOptional, IsToldWork, IsToldPrework, IsToldFilter, AreToldAdds, AreToldNumbers, AreToldWeights, IsToldDealing, IsToldBody, IsToldUnit}
-use Rattle.params_text.proofs.Good.{IsPiece, piece-nothing, piece-then, piece-symbol, piece-name, piece-number, piece-last}
+use Rattle.work_text.proofs.Good.{IsPiece, piece-nothing, piece-then, piece-symbol, piece-name, piece-number, piece-last}
 use Rattle.params_text.proofs.Expressions.{own_text, pop_is, peek_is, round}
 use Rattle.params_text.proofs.Statements.{int_is, push_is, block-piece, block-formed, plain-formed}
 

@@ -1,8 +1,6 @@
--- The tokens of a program that is written out, and its text: each token with a blank behind it. Each operation stands in brackets of
--- its own.
+-- The tokens of a program that is written out, and its text. Each operation stands in brackets of its own.
 use Rattle.std.specs.Prelude.{ℕ, Bool, true, false, List, [], ◌∷◌, ◌++◌, Option, Some, None, codes}
-use Rattle.std.specs.Fmt.{decimal}
-use Rattle.work_text.specs.Symbols.{symbol_bytes}
+use Rattle.work_text.specs.Spaced.{spaced}
 use Rattle.work_text.specs.Tok.{Tok, name, var, number, symbol}
 use Rattle.work_text.specs.declared.sign.Symbol.{Symbol}
 use Rattle.work_text.specs.declared.sign.Symbol.TheVariants as s
@@ -11,18 +9,6 @@ use Rattle.streamit_text.specs.Tree.{Expression}
 use Rattle.streamit_text.specs.Tree as tree
 use Rattle.streamit_text.specs.Tree.{Statement, Declare, Assign, Push, Discard, If, For, Block, End, Then, Optional, Unwritten, Written}
 use Rattle.streamit_text.specs.Program.{WorkTree, FilterTree, Dealing, Copies, Turns, Adds, Body, AFilter, APipeline, ASplitJoin, Declared, Program}
-
--- THE TEXT OF TOKENS
-
-abbrev pub token_bytes : Tok → List ℕ
-token_bytes (name text) = text
-token_bytes (var text) = 36 ∷ text
-token_bytes (number n) = decimal n
-token_bytes (symbol x) = symbol_bytes x
-
-abbrev pub spaced : List Tok → List ℕ
-spaced [] = []
-spaced (t ∷ ts) = token_bytes t ++ (32 ∷ spaced ts)
 
 -- THE TOKENS
 

@@ -11,6 +11,7 @@ use river_cli::river;
 use river_outside::{MemShelf, MemSink};
 use std::alloc::Global;
 use std::process::ExitCode;
+use std::sync::Wait;
 use std::thread::Threads;
 use std::{env, fs, io};
 use worked_cases::{Runner, go_through};
@@ -22,7 +23,7 @@ struct River {
 }
 
 impl Runner for River {
-    fn run<R: Threads + Sync>(
+    fn run<R: Threads + Wait + Sync>(
         &self,
         rt: &R,
         words: &[Text],

@@ -39,12 +39,12 @@ never-usage point held rose (Err s) passed is =
 -- each command does what it names, in the language of its program
 module _ (source_of : List ℕ → Result SourceProgram (List ℕ)) (more : Bool) (held : Option Held) (rose : Type 0) where
   -- what `run` gives is what its command asks for
-  pub run-answers : (lang : Lang) (file : List ℕ) (ins : List InWord) (script : Option (List ℕ)) (workers cap : ℕ) (header counts : Bool)
+  pub run-answers : (lang : Lang) (file : List ℕ) (ins : List InWord) (script : Option (List ℕ)) (workers cap : ℕ) (header counts live : Bool)
       → (result : Result (List ℕ) Stop) → Passes (of_run source_of more file ins script header counts) held rose result
-      → Passes (of_command_in source_of more (Run lang file ins script workers cap header counts)) held rose result
+      → Passes (of_command_in source_of more (Run lang file ins script workers cap header counts live)) held rose result
   unfolding of_command_in
-  run-answers lang file ins script workers cap header counts (Ok text) passed = passed
-  run-answers lang file ins script workers cap header counts (Err s) passed = passed
+  run-answers lang file ins script workers cap header counts live (Ok text) passed = passed
+  run-answers lang file ins script workers cap header counts live (Err s) passed = passed
 
   -- what `plan` gives is what its command asks for
   pub show-answers : (lang : Lang) (file : List ℕ) (script : Option (List ℕ)) (result : Result (List ℕ) Stop)

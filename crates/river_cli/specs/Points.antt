@@ -30,10 +30,10 @@ takes_more Params = false
 takes_more Sawzall = true
 takes_more Cql = false
 
--- the points of a command whose program is in this language. How many workers run a plan, and how much its queues hold, is no part
--- of what is printed; how many workers run a free program is. A free program is in no language of these
+-- the points of a command whose program is in this language. Who runs a plan, and how much its queues hold, is no part of what is
+-- printed; how many workers run a free program is. A free program is in no language of these
 unfoldable pub of_command_in : (List ℕ → Result SourceProgram (List ℕ)) → Bool → Command → (List ℕ → Order) → Order
-of_command_in source more (Run lang file ins script workers cap header counts) next = of_run source more file ins script header counts next
+of_command_in source more (Run lang file ins script workers cap header counts live) next = of_run source more file ins script header counts next
 of_command_in source more (Plan lang file script) next = of_show source file script next
 of_command_in source more (Mean lang file ins header) next = of_mean source more file ins header next
 of_command_in source more (Upgrade file) next = of_upgrade source file next

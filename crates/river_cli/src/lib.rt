@@ -4,4 +4,4 @@
 mod road;
 mod top;
 
-pub use top::river;
+pub use top::{river, river_now};

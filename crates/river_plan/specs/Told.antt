@@ -26,10 +26,12 @@ Found {B = B} s = (o : Option B) × s o
 
 -- SEARCHES
 
-unless_found : {A : Type 0} (good : Type 0) (y : A) → Decided good → Found (Unless good y)
+-- a condition that may fail
+pub unless_found : {A : Type 0} (good : Type 0) (y : A) → Decided good → Found (Unless good y)
 unless_found good y d = ⊎_elim (λ h. (None, h)) (λ n. (Some y, (n, refl))) d
 
-or_else_found : {B : Type 0} (s t : Option B → Type 0) → Found s → Found t → Found (OrElse s t)
+-- one search, and then another
+pub or_else_found : {B : Type 0} (s t : Option B → Type 0) → Found s → Found t → Found (OrElse s t)
 or_else_found {B = B} s t a b = first a.0 a.1
   where
     second : s None → (o : Option B) → t o → Found (OrElse s t)
@@ -40,42 +42,53 @@ or_else_found {B = B} s t a b = first a.0 a.1
     first None h = second h b.0 b.1
     first (Some x) h = (Some x, inl h)
 
-as_found : {A B : Type 0} (f : A → B) (s : Option A → Type 0) → Found s → Found (As f s)
+-- what is found, by another name
+pub as_found : {A B : Type 0} (f : A → B) (s : Option A → Type 0) → Found s → Found (As f s)
 as_found {A = A} f s a = seen a.0 a.1
   where
     seen : (o : Option A) → s o → Found (As f s)
     seen None h = (None, h)
     seen (Some x) h = (Some (f x), (x, refl, h))
 
-along_found : {A B : Type 0} (s : List A → A → Option B → Type 0) → ((b : List A) (y : A) → Found (s b y)) → (before xs : List A) → Found (Along s before xs)
+-- a search of each element in turn
+pub along_found : {A B : Type 0} (s : List A → A → Option B → Type 0) → ((b : List A) (y : A) → Found (s b y)) → (before xs : List A) → Found (Along s before xs)
 along_found s h before [] = (None, tt)
 along_found s h before (y ∷ ys) = or_else_found (s before y) (Along s (before ++ y ∷ []) ys) (h before y) (along_found s h (before ++ y ∷ []) ys)
 
-first_found : {A B : Type 0} (f : A → B) (good : List A → A → Type 0) → ((b : List A) (y : A) → Decided (good b y)) → (xs : List A)
+-- the first element that is not good
+pub plain_found : {A : Type 0} (good : List A → A → Type 0) → ((b : List A) (y : A) → Decided (good b y)) → (xs : List A) → Found (IsFirst good xs)
+plain_found good d xs = along_found (λ b y. Unless (good b y) y) (λ b y. unless_found (good b y) y (d b y)) [] xs
+
+-- told by a function of it
+pub first_found : {A B : Type 0} (f : A → B) (good : List A → A → Type 0) → ((b : List A) (y : A) → Decided (good b y)) → (xs : List A)
     → Found (As f (IsFirst good xs))
-first_found f good d xs = as_found f (IsFirst good xs) (along_found (λ b y. Unless (good b y) y) (λ b y. unless_found (good b y) y (d b y)) [] xs)
+first_found f good d xs = as_found f (IsFirst good xs) (plain_found good d xs)
 
 -- THE FAULTS
 
 new_found : (f : Name → Named) (ws : List Name) → Found (As f (IsFirst IsNew ws))
 new_found f ws = first_found f IsNew (λ b w. equal_decided (count w b) 0) ws
 
-repeated_found : (p : PlanForm) → Found (Repeated p)
+-- names that stand twice
+pub repeated_found : (p : PlanForm) → Found (Repeated p)
 repeated_found p =
     or_else_found _ _ (new_found Queue (queue_names p)) (or_else_found _ _ (new_found Variable (variable_names p)) (new_found Label (labels p.ops)))
 
 in_found : (f : Name → Named) (declared ws : List Name) → Found (As f (IsFirst (IsIn declared) ws))
 in_found f declared ws = first_found f (IsIn declared) (λ b w. less_decided 0 (count w declared)) ws
 
-undeclared_found : (p : PlanForm) → Found (Undeclared p)
+-- names that are not declared
+pub undeclared_found : (p : PlanForm) → Found (Undeclared p)
 undeclared_found p = along_found (λ b op. UndeclaredAt (queue_names p) (variable_names p) op)
     (λ b op. or_else_found _ _ (in_found Queue (queue_names p) op.reads)
     (or_else_found _ _ (in_found Queue (queue_names p) op.writes) (in_found Variable (variable_names p) op.vars))) [] p.ops
 
-once_found : (given : List Name) (uses : Name → ℕ) (ws : List Name) → Found (As Queue (IsFirst (λ before q. IsUsedOnce (count q given) (uses q)) ws))
+-- names that are not used once
+pub once_found : (given : List Name) (uses : Name → ℕ) (ws : List Name) → Found (As Queue (IsFirst (λ before q. IsUsedOnce (count q given) (uses q)) ws))
 once_found given uses ws = first_found Queue (λ before q. IsUsedOnce (count q given) (uses q)) (λ b q. once_decided (count q given) (uses q)) ws
 
-early_found : (p : PlanForm) → Found (ReadTooEarly p)
+-- queues that are read before they are written
+pub early_found : (p : PlanForm) → Found (ReadTooEarly p)
 early_found p = along_found (ReadTooEarlyAt (decl_names p.inputs))
     (λ b op. first_found Queue (λ c r. IsWritten (decl_names p.inputs) b r)
     (λ c r. less_decided 0 (count r (decl_names p.inputs) + total (writes_it r) b)) op.reads) [] p.ops

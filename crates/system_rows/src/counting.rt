@@ -6,6 +6,7 @@ use river_cli::river;
 use river_outside::{MemShelf, MemSink};
 use std::alloc::Global;
 use std::str;
+use std::sync::Wait;
 use std::sync::atomic::{AtomicU64, Ordering};
 use std::test::Fail;
 use std::thread::Threads;
@@ -158,7 +159,7 @@ struct Counted {
 }
 
 impl Runner for Counted {
-    fn run<R: Threads + Sync>(
+    fn run<R: Threads + Wait + Sync>(
         &self,
         rt: &R,
         words: &[Text],

@@ -5,6 +5,7 @@ use river_base::{Gate, Text};
 use river_cli::river;
 use river_outside::{MemShelf, MemSink};
 use std::alloc::Global;
+use std::sync::Wait;
 use std::sync::atomic::{AtomicU64, Ordering};
 use std::test::Fail;
 use std::thread::Threads;
@@ -18,6 +19,35 @@ const TWO: &str = "\
 cases 1
 case two operators meet
 words run river two.river a=a.csv b=b.csv -w 2
+file two.river
+| output c: rows(1);
+| output d: rows(1);
+| input a: rows(1);
+| input b: rows(1);
+| op f: (c) <- (a) { code(1, 0) (1) () { push 0 ((input[0] + 1)); } }
+| op g: (d) <- (b) { code(1, 0) (1) () { push 0 ((input[0] * 2)); } }
+file a.csv
+| 1
+| 2
+file b.csv
+| 5
+| 6
+status 0
+out
+| # c
+| 2
+| 3
+| # d
+| 10
+| 12
+end
+";
+
+// The same by tasks that wait.
+const LIVE: &str = "\
+cases 1
+case two operators meet
+words run river two.river a=a.csv b=b.csv -L
 file two.river
 | output c: rows(1);
 | output d: rows(1);
@@ -99,7 +129,7 @@ struct Meets {
 }
 
 impl Runner for Meets {
-    fn run<R: Threads + Sync>(
+    fn run<R: Threads + Wait + Sync>(
         &self,
         rt: &R,
         words: &[Text],
@@ -120,6 +150,18 @@ fn two_must_meet(rt: HostRuntime) -> Result<(), Fail> {
         gate: Meeting::new(),
     };
     assert!(rt; go_through(&rt, rt.alloc(), &top, TWO)?);
+    assert!(rt; top.gate.has_met());
+    Ok(())
+}
+
+/// Each of the two has a thread of its own, and begins its first firing while the other's is held.
+#[test]
+fn two_live(rt: HostRuntime) -> Result<(), Fail> {
+    let top = Meets {
+        alloc: rt.alloc(),
+        gate: Meeting::new(),
+    };
+    assert!(rt; go_through(&rt, rt.alloc(), &top, LIVE)?);
     assert!(rt; top.gate.has_met());
     Ok(())
 }

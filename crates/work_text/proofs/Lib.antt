@@ -3,6 +3,7 @@ pub mod Counts
 pub mod Cuts
 pub mod Ends
 pub mod Gaps
+pub mod Good
 pub mod Insides
 pub mod Joined
 pub mod Longest
@@ -10,4 +11,5 @@ pub mod Marks
 pub mod Pieces
 pub mod Rooms
 pub mod Slices
+pub mod Spacing
 pub mod Spelled

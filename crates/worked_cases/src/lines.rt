@@ -5,11 +5,12 @@ use crate::report::{Tally, show_fault, show_tally};
 use crate::run::{Runner, tries};
 use std::alloc::Global;
 use std::io;
+use std::sync::Wait;
 use std::thread::Threads;
 
 /// Runs the cases of a text, and says whether each gives what it says, and there are as many as the first line says. Prints
 /// each case that gives something else, with what it gave, and last how many were right; or the line that cannot be read.
-pub fn go_through<R: Print + Threads + Sync, T: Runner>(
+pub fn go_through<R: Print + Threads + Wait + Sync, T: Runner>(
     rt: &R,
     alloc: Global,
     runner: &T,
@@ -19,7 +20,7 @@ pub fn go_through<R: Print + Threads + Sync, T: Runner>(
     take_lines(rt, alloc, runner, &mut reader, text)
 }
 
-fn take_lines<R: Print + Threads + Sync, T: Runner>(
+fn take_lines<R: Print + Threads + Wait + Sync, T: Runner>(
     rt: &R,
     alloc: Global,
     runner: &T,
@@ -38,7 +39,7 @@ fn take_lines<R: Print + Threads + Sync, T: Runner>(
 }
 
 // Reads a line, and where a case ends there, runs it.
-fn take_line<R: Print + Threads + Sync, T: Runner>(
+fn take_line<R: Print + Threads + Wait + Sync, T: Runner>(
     rt: &R,
     alloc: Global,
     runner: &T,

@@ -8,12 +8,13 @@ use crate::report::{Ran, show_more, show_wrong};
 use river_base::{NoMemory, Text};
 use river_outside::{MemShelf, MemSink};
 use std::alloc::Global;
+use std::sync::Wait;
 use std::thread::Threads;
 
 /// What is run.
 pub trait Runner {
     /// Does what the words say, and answers the status to end with.
-    fn run<R: Threads + Sync>(
+    fn run<R: Threads + Wait + Sync>(
         &self,
         rt: &R,
         words: &[Text],
@@ -26,7 +27,7 @@ pub trait Runner {
 
 /// Whether a case gives what it says; where it runs a program, also with each of these lists of words behind its own. What it
 /// gave is printed where it does not.
-pub fn tries<R: Print + Threads + Sync, T: Runner>(
+pub fn tries<R: Print + Threads + Wait + Sync, T: Runner>(
     rt: &R,
     alloc: Global,
     runner: &T,
@@ -46,7 +47,7 @@ pub fn tries<R: Print + Threads + Sync, T: Runner>(
 }
 
 // The same with more words behind those of the case.
-fn tries_with<R: Print + Threads + Sync, T: Runner>(
+fn tries_with<R: Print + Threads + Wait + Sync, T: Runner>(
     rt: &R,
     alloc: Global,
     runner: &T,
@@ -76,13 +77,14 @@ fn add_words(alloc: Global, words: &[Text], to: &mut Words) -> Result<(), NoMemo
     Ok(())
 }
 
-// Whether the words are a sentence that runs a program, and say nothing of workers and queues themselves.
+// Whether the words are a sentence that runs a program, and say nothing of who runs it and of queues themselves.
 fn is_run(case: &Case) -> bool {
     let words = case.words.as_slice();
     let runs = words
         .first()
         .is_some_and(|word| word.as_slice() == b"run".as_slice());
-    runs && case.status != Some(2) && !is_among(words, b"-w") && !is_among(words, b"-q")
+    let says = is_among(words, b"-w") || is_among(words, b"-L") || is_among(words, b"-q");
+    runs && case.status != Some(2) && !says
 }
 
 fn is_among(words: &[Text], wanted: &[u8]) -> bool {
@@ -94,7 +96,7 @@ fn is_among(words: &[Text], wanted: &[u8]) -> bool {
     false
 }
 
-fn tries_by<R: Print + Threads + Sync, T: Runner>(
+fn tries_by<R: Print + Threads + Wait + Sync, T: Runner>(
     rt: &R,
     alloc: Global,
     runner: &T,
@@ -105,7 +107,7 @@ fn tries_by<R: Print + Threads + Sync, T: Runner>(
     tries_over(rt, alloc, runner, case, words, &mut shelf)
 }
 
-fn tries_over<R: Print + Threads + Sync, T: Runner>(
+fn tries_over<R: Print + Threads + Wait + Sync, T: Runner>(
     rt: &R,
     alloc: Global,
     runner: &T,
@@ -117,7 +119,7 @@ fn tries_over<R: Print + Threads + Sync, T: Runner>(
     tries_writing(rt, alloc, runner, case, words, shelf, &mut out)
 }
 
-fn tries_writing<R: Print + Threads + Sync, T: Runner>(
+fn tries_writing<R: Print + Threads + Wait + Sync, T: Runner>(
     rt: &R,
     alloc: Global,
     runner: &T,

@@ -1,5 +1,6 @@
 use Rattle.std.proofs.Common.{◌≡◌, ◌++◌, drop}
-use Rattle.params_text.specs.Toks.{fields_toks, spaced}
+use Rattle.work_text.specs.Spaced.{spaced}
+use Rattle.params_text.specs.Toks.{fields_toks}
 use Rattle.params_print.proofs.filter.fields.Given as goal
 
 abbrev pub invariant-names : goal.invariant-names

@@ -2,7 +2,8 @@ use Rattle.std.proofs.Common.{◌++◌, map, drop, sym, ap, ◌∙◌, arith}
 use Rattle.std.proofs.lemmas.Result.{on_ok_weaker}
 use Rattle.streamit_text.specs.Tree.{expression, statement, block, optional_block}
 use Rattle.streamit_text.proofs.Trees.{block-is, statement-if}
-use Rattle.params_text.specs.Toks.{statement_toks, block_toks, else_toks, spaced}
+use Rattle.work_text.specs.Spaced.{spaced}
+use Rattle.params_text.specs.Toks.{statement_toks, block_toks, else_toks}
 use Rattle.params_model.specs.Plain.{put_in, put_once, put_all, put_optional}
 use Rattle.params_print.specs.Heads.{if_toks}
 use Rattle.params_print.proofs.Blocks.{listed, listed-next, listed-end, part-more, block-closed, three-parts}

@@ -7,7 +7,7 @@ use Rattle.work_text.specs.declared.sign.Symbol.{Symbol}
 use Rattle.work_text.specs.declared.sign.Symbol.TheVariants as s
 use Rattle.work_text.proofs.Spelled.{Spells, Anything, NoWord, is_name_text, spells-nothing, spells-then, spells-name, spells-var, spells-number, spells-symbol, spells-blank, blank_follows}
 use Rattle.work_text.proofs.Insides.{Inside, inside-nothing, inside-then, inside-symbol, inside-name, inside-number, inside-braces, IsPlain}
-use Rattle.params_text.specs.Toks.{token_bytes, spaced}
+use Rattle.work_text.specs.Spaced.{token_bytes, spaced}
 
 abbrev pub IsGood : Tok → Type 0
 IsGood (name text) = is_name_text text ≡ true

@@ -3,12 +3,12 @@ use Rattle.river_outside.specs.Causes.{Rose}
 use Rattle.river_order.specs.Order.{Done, Refused, Unread}
 use Rattle.river_cli.specs.Points.{points_of}
 use Rattle.river_cli.proofs.Told.{HasStatus-told, not_stopped}
-use Rattle.river_cli.proofs.top.river.Goals as goal
+use Rattle.river_cli.proofs.top.river_live.Goals as goal
 
 pub returns-in-Ok-clause-complete : goal.returns-in-Ok-clause-complete
 returns-in-Ok-clause-complete g c calm_shelf calm_out calm_err =
     let rose = Rose g.O.Sink.stays_at_last (g.O.Sink.faults c.args.out.now) (g.O.Sink.faults c.put_all.new.sink) in
-    HasStatus-told (points_of c.args.words.now) (g.S.Shelf.held c.args.shelf.now) (Done c.in-Ok.text) c.status.result c.in-Ok.ensures.decided
+    HasStatus-told (points_of c.args.words.now) (g.S.Shelf.held c.args.shelf.now) (Done c.in-Ok.output) c.status.result c.in-Ok.ensures.decided
     (inl (not_stopped c.put_all.result rose c.status.result 0 c.status.ensures c.put_all.ensures.rose calm_out))
 
 pub returns-in-Err-Refused-clause-complete : goal.returns-in-Err-Refused-clause-complete
