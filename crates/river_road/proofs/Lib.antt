@@ -1,8 +1,11 @@
 pub mod Arranged
 pub mod Contents
 pub mod Fetches
+pub mod Gathered
 pub mod Inputs
 pub mod Items
+pub mod Loaded
 pub mod Means
+pub mod Outputs
 pub mod Points
 pub mod Scripts
