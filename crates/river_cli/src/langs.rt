@@ -2,7 +2,7 @@
 ghost use Rattle.std.specs.Prelude.{◌≤◌};
 ghost use Rattle.river_outside.specs.Causes.{Rose};
 ghost use Rattle.river_order.specs.Passes.{Passes, PassesAs};
-ghost use Rattle.river_road.specs.Gathered.{IsGathered};
+ghost use Rattle.river_road.specs.Supplied.{IsGathered};
 ghost use Rattle.river_road.specs.Points.{of_gathered, of_mean, of_show};
 ghost use Rattle.river_cli.specs.Points.{source_in, takes_more};
 

@@ -1,6 +1,6 @@
 // Runs of plans that were gathered, and what they print.
 ghost use Rattle.std.specs.Prelude.{◌≡◌, IfOk};
-ghost use Rattle.river_road.specs.Gathered.{Supplied, IsGathered, printed_for};
+ghost use Rattle.river_road.specs.Supplied.{Supplied, IsGathered, printed_for};
 
 use command_line::{Capacity, Workers};
 use csv_streams::print_outcome;

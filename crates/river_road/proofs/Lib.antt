@@ -1,7 +1,6 @@
 pub mod Arranged
 pub mod Contents
 pub mod Fetches
-pub mod Gathered
 pub mod Inputs
 pub mod Items
 pub mod Loaded
@@ -9,3 +8,4 @@ pub mod Means
 pub mod Outputs
 pub mod Points
 pub mod Scripts
+pub mod Supplied

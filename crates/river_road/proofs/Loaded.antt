@@ -15,7 +15,7 @@ use Rattle.river_plan.specs.Caps.{AreCaps}
 use Rattle.river_plan.specs.Forms.{PlanForm}
 use Rattle.river_road.specs.Contents.{IsContent, AreContents}
 use Rattle.river_road.specs.Load.{load_program, load_record, load_records, load_files, is_of_pairs, takes_pairs}
-use Rattle.river_road.specs.Gathered.{Supplied, IsGathered, printed_for}
+use Rattle.river_road.specs.Supplied.{Supplied, IsGathered, printed_for}
 use Rattle.river_road.specs.Points.{then_made, supplied_by, scripted_supplied, load_supplied}
 use Rattle.river_road.specs.Source.{SourceProgram, IsPlanOf, IsPlanned, IsCompiled}
 use Rattle.river_road.specs.declared.gathered.Gathered.{Gathered}

@@ -8,7 +8,7 @@ use Rattle.river_plan.specs.Forms.{PlanForm, table_names, labels}
 use Rattle.brooklet_model.specs.Histories.{firings}
 use Rattle.brooklet_model.specs.Meaning.{Results, meaning}
 use Rattle.river_road.specs.Contents.{AreContents}
-use Rattle.river_road.specs.Gathered.{Supplied, IsGathered, printed_for}
+use Rattle.river_road.specs.Supplied.{Supplied, IsGathered, printed_for}
 use Rattle.river_road.specs.Inputs.{all_items}
 use Rattle.river_road.specs.Source.{SourceProgram, IsPlanOf, printed}
 use Rattle.river_road.specs.declared.content.Content.{Content}

@@ -13,7 +13,7 @@ use Rattle.river_plan.specs.Caps.{first_cap}
 use Rattle.river_plan.specs.declared.caps.Cap.{Cap}
 use Rattle.river_plan.specs.Forms.{PlanForm}
 use Rattle.river_print.specs.Printed.{plan_text}
-use Rattle.river_road.specs.Gathered.{Supplied, IsGathered, printed_for}
+use Rattle.river_road.specs.Supplied.{Supplied, IsGathered, printed_for}
 use Rattle.river_road.specs.Layouts.{layout_of}
 use Rattle.river_road.specs.Inputs.{of_inputs}
 use Rattle.river_road.specs.Limits.{most_program}

@@ -26,7 +26,7 @@ impl Gathered {
     ghost use Rattle.std.specs.Prelude.{IfOk};
     ghost use Rattle.river_plan.specs.Caps.{AreCaps};
     ghost use Rattle.river_road.specs.Contents.{AreContents};
-    ghost use Rattle.river_road.specs.Gathered.{HasFiles};
+    ghost use Rattle.river_road.specs.Supplied.{HasFiles};
 
     // The plan, over what the files of its inputs have.
     pub(crate) fn over(

@@ -7,8 +7,9 @@
 mod content;
 mod fetched;
 mod gather;
-mod gather_run;
+
 mod gathered;
+mod gathering;
 mod item_lists;
 mod language;
 mod layout;
@@ -22,7 +23,7 @@ mod text;
 
 pub use content::Content;
 pub use gather::gather as gather_contents;
-pub use gather_run::gather_run;
+pub use gathering::gather_run;
 pub use gathered::Gathered;
 pub use item_lists::inputs_of;
 pub use language::{Compiled, Language};

@@ -4,7 +4,7 @@ ghost use Rattle.river_order.specs.Passes.{Answers, AnswersAs};
 ghost use Rattle.river_plan.specs.Caps.{AreCaps};
 ghost use Rattle.river_plan.specs.declared.caps.Cap.{Cap};
 ghost use Rattle.river_road.specs.Contents.{AreContents};
-ghost use Rattle.river_road.specs.Gathered.{IsGathered};
+ghost use Rattle.river_road.specs.Supplied.{IsGathered};
 ghost use Rattle.river_road.specs.Limits.{most_program, most_script};
 ghost use Rattle.river_road.specs.Load.{load_program, load_script, load_records, load_files, takes_pairs, is_of_pairs};
 ghost use Rattle.river_road.specs.Points.{load_supplied, scripted_supplied, supplied_by, with_plan};
@@ -36,7 +36,8 @@ pub fn gather_load<L: Language>(alloc: Global, number: u32) -> Result<Gathered, 
     ensures { AnswersAs IsGathered (load_supplied L.source number) result }
 {
     let compiled = load_compiled::<L>(alloc)?;
-    load_scripted(alloc, number, &compiled.plan, compiled.caps)
+    let caps = compiled.caps;
+    load_scripted(alloc, number, &compiled.plan, caps)
 }
 
 // The program, compiled.

@@ -11,7 +11,7 @@ ghost use Rattle.river_road.specs.Points.{of_show, of_scripted_show, of_mean, of
 ghost use Rattle.river_road.specs.Source.{SourceProgram, IsPlanned, IsCompiled, HasSource};
 ghost use Rattle.river_road.specs.Text.{large_program};
 
-use crate::gather_run::files_for;
+use crate::gathering::files_for;
 use crate::language::{Compiled, Language};
 use crate::layout::Layout;
 use crate::meant::mean_text;

@@ -2,7 +2,7 @@ use Rattle.std.proofs.Common.{false}
 use Rattle.std.specs.Prelude.{Ok}
 use Rattle.std.proofs.lemmas.Result.{err_from_is_err_and}
 use Rattle.river_langs.specs.Sources.{saw_in}
-use Rattle.river_road.specs.Gathered.{printed_for}
+use Rattle.river_road.specs.Supplied.{printed_for}
 use Rattle.river_road.specs.Points.{load_supplied}
 use Rattle.river_road.proofs.Loaded.{then-refused, loaded-printed}
 use Rattle.river_cli.proofs.road.load.Goals as goal

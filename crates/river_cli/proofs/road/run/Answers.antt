@@ -1,6 +1,6 @@
 use Rattle.std.proofs.lemmas.Result.{err_from_is_err_and}
 use Rattle.river_outside.specs.Causes.{Rose}
-use Rattle.river_road.specs.Gathered.{printed_for}
+use Rattle.river_road.specs.Supplied.{printed_for}
 use Rattle.river_road.specs.Points.{of_gathered}
 use Rattle.river_road.proofs.Points.{printed-passes}
 use Rattle.river_cli.specs.Points.{source_in, takes_more}

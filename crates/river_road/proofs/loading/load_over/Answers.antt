@@ -1,7 +1,7 @@
 use Rattle.std.proofs.Common.{◌≡◌, ap, ◌∙◌}
 use Rattle.std.proofs.lemmas.Result.{err_from_is_err_and}
 use Rattle.river_plan.specs.Forms.{PlanForm}
-use Rattle.river_road.proofs.Gathered.{files-gathered}
+use Rattle.river_road.proofs.Supplied.{files-gathered}
 use Rattle.river_road.proofs.Loaded.{files-refused, files-given}
 use Rattle.river_road.proofs.loading.load_over.Goals as goal
 

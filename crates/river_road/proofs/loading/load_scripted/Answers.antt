@@ -1,5 +1,5 @@
 use Rattle.std.proofs.lemmas.Result.{err_from_is_err_and}
-use Rattle.river_road.specs.Gathered.{IsGathered}
+use Rattle.river_road.specs.Supplied.{IsGathered}
 use Rattle.river_road.specs.Load.{load_script}
 use Rattle.river_road.specs.Points.{supplied_by, with_plan}
 use Rattle.river_road.specs.Source.{IsPlanned}

@@ -1,7 +1,7 @@
 use Rattle.std.proofs.Common.{false}
 use Rattle.std.proofs.lemmas.Result.{err_from_is_err_and}
 use Rattle.river_outside.specs.Causes.{Rose}
-use Rattle.river_road.specs.Gathered.{printed_for}
+use Rattle.river_road.specs.Supplied.{printed_for}
 use Rattle.river_road.proofs.Points.{supplied-stops, meaning-comes}
 use Rattle.river_road.proofs.road.mean_over.Goals as goal
 

@@ -2,7 +2,7 @@ use Rattle.std.proofs.lemmas.Result.{err_from_is_err_and}
 use Rattle.river_outside.proofs.Counts.{rose_before}
 use Rattle.river_outside.specs.Causes.{Rose}
 use Rattle.river_road.proofs.Points.{gathered-first, gathered-last}
-use Rattle.river_road.proofs.gather_run.gather_run.Goals as goal
+use Rattle.river_road.proofs.gathering.gather_run.Goals as goal
 
 pub gather_scripted-requires : goal.gather_scripted-requires
 gather_scripted-requires g c = c.in_ok-compiled.ensures.passes.1.planned.fit

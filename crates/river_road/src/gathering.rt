@@ -6,7 +6,7 @@ ghost use Rattle.river_plan.specs.Caps.{AreCaps};
 ghost use Rattle.river_plan.specs.Valid.{IsPlan};
 ghost use Rattle.river_plan.specs.declared.caps.Cap.{Cap};
 ghost use Rattle.river_road.specs.Contents.{AreContents};
-ghost use Rattle.river_road.specs.Gathered.{IsGathered};
+ghost use Rattle.river_road.specs.Supplied.{IsGathered};
 ghost use Rattle.river_road.specs.Inputs.{of_inputs};
 ghost use Rattle.river_road.specs.Points.{of_gathered, of_scripted, of_supplied};
 ghost use Rattle.river_road.specs.Source.{SourceProgram, IsPlanned};

@@ -1,7 +1,7 @@
 use Rattle.std.proofs.Common.{◌≡◌, ap, ◌∙◌}
 use Rattle.river_plan.specs.Forms.{PlanForm}
 use Rattle.river_road.proofs.Contents.{inputs-apart}
-use Rattle.river_road.proofs.gather_run.files_for.Goals as goal
+use Rattle.river_road.proofs.gathering.files_for.Goals as goal
 
 pub gather-requires-clause-outer : goal.gather-requires-clause-outer
 gather-requires-clause-outer g c =

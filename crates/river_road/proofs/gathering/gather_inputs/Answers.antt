@@ -1,8 +1,8 @@
 use Rattle.std.proofs.lemmas.Result.{err_from_is_err_and}
 use Rattle.river_outside.specs.Causes.{Rose}
-use Rattle.river_road.proofs.Gathered.{files-gathered}
+use Rattle.river_road.proofs.Supplied.{files-gathered}
 use Rattle.river_road.proofs.Points.{supplied-stops, supplied-comes}
-use Rattle.river_road.proofs.gather_run.gather_inputs.Goals as goal
+use Rattle.river_road.proofs.gathering.gather_inputs.Goals as goal
 
 pub returns-in_err-files-clause-passes : goal.returns-in_err-files-clause-passes
 returns-in_err-files-clause-passes g c source is =

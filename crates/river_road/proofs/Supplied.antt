@@ -3,7 +3,7 @@ use Rattle.std.proofs.Common.{◌≡◌, ℕ, List, sym, ◌∙◌, subst}
 use Rattle.river_plan.specs.Forms.{PlanForm}
 use Rattle.river_plan.specs.declared.caps.Cap.{Cap}
 use Rattle.river_road.specs.Contents.{AreContents}
-use Rattle.river_road.specs.Gathered.{HasFiles, IsGathered}
+use Rattle.river_road.specs.Supplied.{HasFiles, IsGathered}
 use Rattle.river_road.specs.Source.{SourceProgram, IsPlanOf, IsPlanned}
 use Rattle.river_road.specs.declared.content.Content.{Content}
 use Rattle.river_road.specs.declared.gathered.Gathered.{Gathered}

@@ -1,11 +1,11 @@
 use Rattle.std.proofs.lemmas.Result.{err_from_is_err_and}
 use Rattle.river_outside.proofs.Counts.{rose_before}
 use Rattle.river_outside.specs.Causes.{Rose}
-use Rattle.river_road.specs.Gathered.{IsGathered}
+use Rattle.river_road.specs.Supplied.{IsGathered}
 use Rattle.river_road.specs.Points.{of_script, of_supplied}
 use Rattle.river_road.specs.Source.{IsPlanned}
 use Rattle.river_road.proofs.Points.{as-then-as}
-use Rattle.river_road.proofs.gather_run.gather_scripted.Goals as goal
+use Rattle.river_road.proofs.gathering.gather_scripted.Goals as goal
 
 pub returns-in_err-made-clause-passes : goal.returns-in_err-made-clause-passes
 returns-in_err-made-clause-passes g c source is =
