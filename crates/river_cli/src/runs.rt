@@ -1,6 +1,6 @@
 // Runs of plans that were gathered, and what they print.
 ghost use Rattle.std.specs.Prelude.{◌≡◌, IfOk};
-ghost use Rattle.river_road.specs.Supplied.{Supplied, IsGathered, printed_for};
+ghost use Rattle.river_road.specs.Supplied.{Supplied, IsGathered, IsReady, printed_for};
 
 use command_line::{Capacity, Workers};
 use csv_streams::print_outcome;
@@ -23,6 +23,7 @@ pub fn run_by_workers<R: Threads + Sync, G: Gate + Sync>(
     counted: bool,
     gate: &G,
 ) -> Result<Bytes, NoMemory>
+    requires { IsReady gathered }
     ensures { IfOk result (λ text. (s : Supplied) → IsGathered s gathered → text ≡ printed_for counted s) }
 {
     let Gathered { plan, caps, inputs } = gathered;
@@ -39,6 +40,7 @@ pub fn run_by_tasks<R: Threads + Wait + Sync, G: Gate + Sync>(
     counted: bool,
     gate: &G,
 ) -> Result<Bytes, NoMemory>
+    requires { IsReady gathered }
     ensures { IfOk result (λ text. (s : Supplied) → IsGathered s gathered → text ≡ printed_for counted s) }
 {
     let Gathered { plan, caps, inputs } = gathered;

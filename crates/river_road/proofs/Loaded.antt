@@ -11,7 +11,6 @@ use Rattle.river_order.specs.Passes.{RefusesPoint, StandsFor, AnswersAs}
 use Rattle.river_order.specs.declared.stop.Stop.{Stop}
 use Rattle.river_order.specs.declared.stop.Stop.TheVariants as stop
 use Rattle.river_plan.specs.declared.plan.Decl.{Decl}
-use Rattle.river_plan.specs.Caps.{AreCaps}
 use Rattle.river_plan.specs.Forms.{PlanForm}
 use Rattle.river_road.specs.Contents.{IsContent, AreContents}
 use Rattle.river_road.specs.Load.{load_program, load_record, load_records, load_files, is_of_pairs, takes_pairs}
@@ -77,12 +76,6 @@ pub load-refused : (source_of : List ℕ → Result SourceProgram (List ℕ)) (n
     → RefusesPoint (load_supplied source_of n) s
 unfolding load_supplied
 load-refused source_of n s told = then-refused (source_of load_program) (scripted_supplied n) s told
-
--- what was compiled has capacities
-pub compiled-capped : {P : Type 0} (stands : SourceProgram → P → Type 0) (found : Result SourceProgram (List ℕ)) (c : Compiled P)
-    → StandsFor (IsCompiled stands) found c → AreCaps c.caps
-compiled-capped stands (Ok source) c told = told.planned.fit
-compiled-capped stands (Err text) c told = absurd told
 
 -- its script is applied, and the records are made
 pub load-answers : {P : Type 0} (source_of : List ℕ → Result SourceProgram (List ℕ)) (n : ℕ) (stands : SourceProgram → P → Type 0) (c : Compiled P)

@@ -39,5 +39,5 @@ run-says g counted outs tables counts (Ok text) says outs_is tables_is counts_is
     ∙ ap
     (λ (l : List (List item.Item)). printed_outcome g.plan (meaning g.plan l).outs (meaning g.plan l).tables (asked_counts counted (map pos (firings g.plan l))))
     is.items
-    ∙ output-printed s.source g.plan counted s.files is.plan is.contents
+    ∙ output-printed s.source g.plan counted s.files is.planned.plan is.contents
 run-says g counted outs tables counts (Err e) says outs_is tables_is counts_is = tt

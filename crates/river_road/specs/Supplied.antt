@@ -4,7 +4,7 @@ use Rattle.river_plan.specs.Forms.{PlanForm}
 use Rattle.river_plan.specs.declared.caps.Cap.{Cap}
 use Rattle.river_road.specs.Contents.{AreContents}
 use Rattle.river_road.specs.Inputs.{all_items}
-use Rattle.river_road.specs.Source.{SourceProgram, IsPlanOf, printed}
+use Rattle.river_road.specs.Source.{SourceProgram, IsPlanned, printed}
 use Rattle.river_road.specs.declared.content.Content.{Content}
 use Rattle.river_road.specs.declared.gathered.Gathered.{Gathered}
 
@@ -25,7 +25,10 @@ pub record HasFiles (plan : PlanForm) (caps : List Cap) (files : List Content) (
 
 -- a plan that may be run in place of the program, with the capacities that the program gives, and the items of these files
 pub record IsGathered (s : Supplied) (g : Gathered) : Type 0 where
-  pub plan : IsPlanOf s.source g.plan
-  pub caps_are : g.caps ≡ s.source.caps
+  pub planned : IsPlanned g.caps s.source g.plan
   pub contents : AreContents g.plan.inputs s.files
   pub items : g.inputs ≡ all_items s.files
+
+-- there is such a program
+abbrev pub IsReady : Gathered → Type 0
+IsReady g = (s : Supplied) × IsGathered s g

@@ -1,6 +1,6 @@
 // A plan that is ready to be run.
-ghost use Rattle.river_plan.specs.Caps.{AreCaps};
-ghost use Rattle.brooklet_model.specs.Fit.{Fit};
+ghost use Rattle.std.specs.Prelude.{IfOk};
+ghost use Rattle.river_road.specs.Supplied.{HasFiles};
 
 use crate::content::Content;
 use crate::item_lists::inputs_of;
@@ -18,16 +18,9 @@ pub struct Gathered {
     pub caps: Caps,
     /// The items of its inputs.
     pub inputs: Lines,
-    ghost capped: { AreCaps caps },
-    ghost fits: { Fit plan inputs },
 }
 
 impl Gathered {
-    ghost use Rattle.std.specs.Prelude.{IfOk};
-    ghost use Rattle.river_plan.specs.Caps.{AreCaps};
-    ghost use Rattle.river_road.specs.Contents.{AreContents};
-    ghost use Rattle.river_road.specs.Supplied.{HasFiles};
-
     // The plan, over what the files of its inputs have.
     pub(crate) fn over(
         alloc: Global,
@@ -35,8 +28,6 @@ impl Gathered {
         caps: Caps,
         files: Listed<Content>,
     ) -> Result<Gathered, NoMemory>
-        requires caps { AreCaps caps }
-        requires contents { AreContents plan.inputs files }
         ensures { IfOk result (HasFiles plan caps files) }
     {
         let inputs = inputs_of(alloc, files)?;

@@ -1,10 +1,8 @@
 // From the words of `run` to a plan that is ready to be run.
-ghost use Rattle.std.specs.Prelude.{◌≡◌, ◌≤◌, List, IfOk};
+ghost use Rattle.std.specs.Prelude.{◌≤◌, IfOk};
 ghost use Rattle.river_outside.specs.Causes.{Rose};
 ghost use Rattle.river_order.specs.Passes.{Passes, PassesAs};
-ghost use Rattle.river_plan.specs.Caps.{AreCaps};
 ghost use Rattle.river_plan.specs.Valid.{IsPlan};
-ghost use Rattle.river_plan.specs.declared.caps.Cap.{Cap};
 ghost use Rattle.river_road.specs.Contents.{AreContents};
 ghost use Rattle.river_road.specs.Supplied.{IsGathered};
 ghost use Rattle.river_road.specs.Inputs.{of_inputs};
@@ -48,7 +46,6 @@ fn gather_scripted<S: Shelf>(
     caps: Caps,
     shelf: &mut S,
 ) -> Result<Gathered, Stop>
-    requires { AreCaps caps }
     ensures later { S.faults shelf.old ≤ S.faults shelf.new }
     ensures passes { (source : SourceProgram) → IsPlanned caps source plan
         → PassesAs IsGathered (of_scripted words.now.script words.now.ins layout source) (S.held shelf.old)
@@ -67,7 +64,6 @@ fn gather_inputs<S: Shelf>(
     caps: Caps,
     shelf: &mut S,
 ) -> Result<Gathered, Stop>
-    requires { AreCaps caps }
     ensures later { S.faults shelf.old ≤ S.faults shelf.new }
     ensures passes { (source : SourceProgram) → IsPlanned caps source plan
         → PassesAs IsGathered (of_supplied ins.now layout source) (S.held shelf.old)

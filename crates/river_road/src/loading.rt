@@ -1,7 +1,6 @@
 // `load`: a program in Sawzall, and the records that are made for it.
 ghost use Rattle.std.specs.Prelude.{◌≡◌, ◌≤◌, [], ◌∷◌, List, length, IfOk};
 ghost use Rattle.river_order.specs.Passes.{Answers, AnswersAs};
-ghost use Rattle.river_plan.specs.Caps.{AreCaps};
 ghost use Rattle.river_plan.specs.declared.caps.Cap.{Cap};
 ghost use Rattle.river_road.specs.Contents.{AreContents};
 ghost use Rattle.river_road.specs.Supplied.{IsGathered};
@@ -55,7 +54,6 @@ fn load_scripted(
     plan: &Plan,
     caps: Caps,
 ) -> Result<Gathered, Stop>
-    requires { AreCaps caps }
     ensures { (source : SourceProgram) → IsPlanned caps source plan.now
         → AnswersAs IsGathered (scripted_supplied number source) result }
 {
@@ -74,7 +72,6 @@ fn load_rewritten(alloc: Global, plan: &Plan) -> Result<Plan, Stop>
 
 // A plan over the records.
 fn load_over(alloc: Global, number: u32, plan: Plan, caps: Caps) -> Result<Gathered, Stop>
-    requires { AreCaps caps }
     ensures { (source : SourceProgram) → IsPlanned caps source plan → AnswersAs IsGathered (supplied_by number source) result }
 {
     let files = files_for(alloc, plan.raw().inputs.as_slice(), number)?;

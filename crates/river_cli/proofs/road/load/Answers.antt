@@ -5,7 +5,11 @@ use Rattle.river_langs.specs.Sources.{saw_in}
 use Rattle.river_road.specs.Supplied.{printed_for}
 use Rattle.river_road.specs.Points.{load_supplied}
 use Rattle.river_road.proofs.Loaded.{then-refused, loaded-printed}
+use Rattle.river_road.proofs.Supplied.{found-ready}
 use Rattle.river_cli.proofs.road.load.Goals as goal
+
+pub run_by_workers-requires : goal.run_by_workers-requires
+run_by_workers-requires g c = found-ready (load_supplied saw_in c.args.number) c.in_ok-gathered.gathered c.in_ok-gathered.ensures
 
 pub returns-in_err-gathered : goal.returns-in_err-gathered
 returns-in_err-gathered g c =

@@ -6,6 +6,9 @@ use Rattle.river_road.proofs.Points.{printed-passes}
 use Rattle.river_cli.specs.Points.{source_in, takes_more}
 use Rattle.river_cli.proofs.road.run.Goals as goal
 
+pub run_by_workers-requires : goal.run_by_workers-requires
+run_by_workers-requires g c = (c.in_ok-gathered.ensures.passes.0, c.in_ok-gathered.ensures.passes.1)
+
 pub returns-in_err-gathered-clause-passes : goal.returns-in_err-gathered-clause-passes
 returns-in_err-gathered-clause-passes g c =
     let p = err_from_is_err_and c.from_residual.result c.from_residual.ensures.1 in

@@ -5,7 +5,14 @@ use Rattle.river_plan.specs.Forms.{decl_names}
 use Rattle.brooklet_model.specs.Histories.{hist, all_adds}
 use Rattle.brooklet_step.specs.declared.outcome.Outcome.{Outcome}
 use Rattle.river_road.proofs.Outputs.{run-says}
+use Rattle.river_road.proofs.Supplied.{ready-fits, ready-capped}
 use Rattle.river_cli.proofs.runs.run_by_tasks.Goals as goal
+
+pub run_live-requires-clause-fits : goal.run_live-requires-clause-fits
+run_live-requires-clause-fits g c = λ _ _. ready-fits c.args.gathered c.requires
+
+pub run_live-requires-clause-caps : goal.run_live-requires-clause-caps
+run_live-requires-clause-caps g c = λ _ _. ready-capped c.args.gathered c.requires
 
 pub print_outcome-requires-clause-outs : goal.print_outcome-requires-clause-outs
 print_outcome-requires-clause-outs g c =

@@ -4,9 +4,6 @@ use Rattle.river_outside.specs.Causes.{Rose}
 use Rattle.river_road.proofs.Points.{gathered-first, gathered-last}
 use Rattle.river_road.proofs.gathering.gather_run.Goals as goal
 
-pub gather_scripted-requires : goal.gather_scripted-requires
-gather_scripted-requires g c = c.in_ok-compiled.ensures.passes.1.planned.fit
-
 pub returns-in_err-compiled-clause-passes : goal.returns-in_err-compiled-clause-passes
 returns-in_err-compiled-clause-passes g c =
     let p = err_from_is_err_and c.from_residual.result c.from_residual.ensures.1 in

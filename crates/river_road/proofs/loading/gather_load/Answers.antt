@@ -1,11 +1,6 @@
 use Rattle.std.proofs.lemmas.Result.{err_from_is_err_and}
-use Rattle.river_road.specs.Load.{load_program}
-use Rattle.river_road.proofs.Loaded.{load-refused, load-answers, compiled-capped}
+use Rattle.river_road.proofs.Loaded.{load-refused, load-answers}
 use Rattle.river_road.proofs.loading.gather_load.Goals as goal
-
-pub load_scripted-requires : goal.load_scripted-requires
-load_scripted-requires g c =
-    compiled-capped g.L.Language.stands (g.L.Language.source load_program) c.in_ok-compiled.compiled c.in_ok-compiled.ensures
 
 pub returns-in_err-compiled : goal.returns-in_err-compiled
 returns-in_err-compiled g c =

@@ -5,11 +5,6 @@ use Rattle.river_road.proofs.Supplied.{files-gathered}
 use Rattle.river_road.proofs.Loaded.{files-refused, files-given}
 use Rattle.river_road.proofs.loading.load_over.Goals as goal
 
-pub over-requires-clause-contents : goal.over-requires-clause-contents
-over-requires-clause-contents c =
-    let decls : c.as_slice.result.now ≡ c.args.plan.inputs = c.as_slice.ensures ∙ ap (λ (q : PlanForm). q.inputs) c.raw.ensures.raw in
-    rw decls at c.in_ok-files.ensures.contents
-
 pub returns-in_err-files : goal.returns-in_err-files
 returns-in_err-files c source is =
     let p = err_from_is_err_and c.from_residual.result c.from_residual.ensures.1 in
