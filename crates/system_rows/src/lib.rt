@@ -13,4 +13,6 @@ mod meeting;
 #[cfg(test)]
 mod rings;
 #[cfg(test)]
+mod round;
+#[cfg(test)]
 mod system;

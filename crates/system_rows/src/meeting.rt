@@ -74,7 +74,7 @@ end
 
 /// Holds the first firing of each of two operators until the other was entered.
 #[derive(Drop)]
-struct Meeting {
+pub struct Meeting {
     first: AtomicU64,
     second: AtomicU64,
     // How many gave up.
@@ -103,8 +103,8 @@ impl Meeting {
         self.missed.fetch_add(1, Ordering::SeqCst);
     }
 
-    // Whether both were entered, and none gave up.
-    fn has_met(&self) -> bool {
+    /// Whether both were entered, and none gave up.
+    pub fn has_met(&self) -> bool {
         self.first.load(Ordering::SeqCst) == 1
             && self.second.load(Ordering::SeqCst) == 1
             && self.missed.load(Ordering::SeqCst) == 0
@@ -121,11 +121,20 @@ impl Gate for Meeting {
     }
 }
 
-// The top call with this gate.
+/// The top call with this gate.
 #[derive(Drop)]
-struct Meets {
+pub struct Meets {
     alloc: Global,
-    gate: Meeting,
+    pub gate: Meeting,
+}
+
+impl Meets {
+    pub fn new(alloc: Global) -> Self {
+        Meets {
+            alloc,
+            gate: Meeting::new(),
+        }
+    }
 }
 
 impl Runner for Meets {
@@ -145,10 +154,7 @@ impl Runner for Meets {
 
 #[test]
 fn two_must_meet(rt: HostRuntime) -> Result<(), Fail> {
-    let top = Meets {
-        alloc: rt.alloc(),
-        gate: Meeting::new(),
-    };
+    let top = Meets::new(rt.alloc());
     assert!(rt; go_through(&rt, rt.alloc(), &top, TWO)?);
     assert!(rt; top.gate.has_met());
     Ok(())
@@ -157,10 +163,7 @@ fn two_must_meet(rt: HostRuntime) -> Result<(), Fail> {
 /// Each of the two has a thread of its own, and begins its first firing while the other's is held.
 #[test]
 fn two_live(rt: HostRuntime) -> Result<(), Fail> {
-    let top = Meets {
-        alloc: rt.alloc(),
-        gate: Meeting::new(),
-    };
+    let top = Meets::new(rt.alloc());
     assert!(rt; go_through(&rt, rt.alloc(), &top, LIVE)?);
     assert!(rt; top.gate.has_met());
     Ok(())
