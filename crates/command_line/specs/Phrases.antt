@@ -2,8 +2,8 @@
 use Rattle.std.specs.Prelude.{ℕ, zero, suc, List, [], ◌∷◌, map, Bool, true, ◌&&◌, ◌==◌, Option, None, Some, codes, if◌then◌else◌}
 use Rattle.std.specs.Str.{bytes_eq}
 use Rattle.river_plan.specs.Names.{count}
-use Rattle.command_line.specs.Commands.{with_header, with_counts, with_script, with_workers, with_cap, with_start, with_input, with_live}
-use Rattle.command_line.specs.Limits.{most_cap, most_start}
+use Rattle.command_line.specs.Commands.{with_header, with_counts, with_script, with_workers, with_cap, with_start, with_input, with_tasks}
+use Rattle.command_line.specs.Limits.{most_workers, most_cap, most_start}
 use Rattle.command_line.specs.Words.{is_file, number_to, from_zero, in_word_of}
 use Rattle.command_line.specs.declared.command.Command.{Command}
 use Rattle.command_line.specs.declared.command.InWord.{InWord}
@@ -53,10 +53,10 @@ phrase_of (word ∷ behind) =
     if bytes_eq word (codes "-H") then option word with_header
     else if bytes_eq word (codes "-c") then option word with_counts
     else if bytes_eq word (codes "-r") then script behind
-    else if bytes_eq word (codes "-w") then with_number word with_workers (number_ahead 64 behind)
+    else if bytes_eq word (codes "-w") then with_number word with_workers (number_ahead most_workers behind)
     else if bytes_eq word (codes "-q") then with_number word with_cap (number_ahead most_cap behind)
     else if bytes_eq word (codes "-s") then with_number word with_start (zero_ahead most_start behind)
-    else if bytes_eq word (codes "-L") then option (codes "-w") with_live
+    else if bytes_eq word (codes "-L") then option (codes "-w") with_tasks
     else if is_file word then input (in_word_of word)
     else None
 

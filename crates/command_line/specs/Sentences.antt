@@ -5,12 +5,23 @@ use Rattle.command_line.specs.Phrases.{phrases, with_phrases}
 use Rattle.command_line.specs.Words.{lang_named, is_file, number_to}
 use Rattle.command_line.specs.declared.command.Command.{Command}
 use Rattle.command_line.specs.declared.command.Command.TheVariants.{Run, Plan, Mean, Upgrade, Load, Free}
+use Rattle.command_line.specs.declared.command.FreeWords.{FreeWords}
 use Rattle.command_line.specs.declared.command.Lang.{Lang}
+use Rattle.command_line.specs.declared.command.RunBy.TheVariants.{Workers}
+use Rattle.command_line.specs.declared.command.RunWords.{RunWords}
+
+-- a run of a program with nothing else behind it: by one worker, with queues that hold 64 items
+abbrev pub plain_run : Lang → List ℕ → RunWords
+plain_run lang file = record { lang = lang; file = file; ins = []; script = None; by = Workers 1; cap = 64; header = false; counts = false }
+
+-- the same of a free program: one firing a round, and picks that begin with 0
+abbrev pub plain_free : List ℕ → FreeWords
+plain_free file = record { file = file; ins = []; workers = 1; start = 0; header = false }
 
 -- the command that a word names, with a program and nothing else
 abbrev pub plain : List ℕ → Lang → List ℕ → Option Command
 plain word lang file =
-    if bytes_eq word (codes "run") then Some (Run lang file [] None 1 64 false false false)
+    if bytes_eq word (codes "run") then Some (Run (plain_run lang file))
     else if bytes_eq word (codes "mean") then Some (Mean lang file [] false)
     else if bytes_eq word (codes "plan") then Some (Plan lang file None)
     else None
@@ -43,7 +54,7 @@ asked_other word second (file ∷ words) = asked word (lang_named second) file w
 
 -- `free FILE` and what stands behind it
 abbrev pub asked_free : List ℕ → List (List ℕ) → Option Command
-asked_free file words = if is_file file then with_words words (Some (Free file [] 1 0 false)) else None
+asked_free file words = if is_file file then with_words words (Some (Free (plain_free file))) else None
 
 abbrev pub asked_any : List ℕ → List ℕ → List (List ℕ) → Option Command
 asked_any word second words = if bytes_eq word (codes "free") then asked_free second words else asked_other word second words

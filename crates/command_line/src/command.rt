@@ -1,8 +1,11 @@
 // What the words of the command line ask for.
 ghost use Rattle.std.specs.Prelude.{◌≡◌, IfOk};
-ghost use Rattle.command_line.specs.Commands.{MayMake, lang_of, with_header, with_counts, with_script, with_workers, with_cap, with_start, with_input, with_live, is_live};
+ghost use Rattle.command_line.specs.Commands.{MayMake, with_header, with_counts, with_script, with_workers, with_tasks, with_cap, with_start, with_input, if_by_tasks, live_words};
+ghost use Rattle.command_line.specs.Sentences.{plain_run, plain_free};
 
+use crate::bounds::{Capacity, Workers};
 use river_base::{Listed, NoMemory, Text};
+use std::alloc::Global;
 
 /// A source language.
 #[derive(Clone, Copy)]
@@ -31,30 +34,99 @@ pub struct InWord {
 /// Words NAME=FILE, in their order.
 pub type InWords = Listed<InWord>;
 
+/// Who runs a plan.
+#[derive(Clone, Copy)]
+pub enum RunBy {
+    /// `-w N`: so many workers.
+    Workers(Workers),
+    /// `-L`: a task for each operator, which waits where it has nothing to do.
+    Tasks,
+}
+
+/// The words of `run`.
+#[derive(Drop)]
+pub struct RunWords {
+    /// The language of the program.
+    pub lang: Lang,
+    /// The name of the program's file.
+    pub file: Text,
+    /// The inputs, in the order of the words.
+    pub ins: InWords,
+    /// `-r SCRIPT`: the plan is rewritten by the script of this file.
+    pub script: Option<Text>,
+    /// `-w N` or `-L`: who runs the plan.
+    pub by: RunBy,
+    /// `-q N`: how many items a queue between two operators holds at most.
+    pub cap: Capacity,
+    /// `-H`: each input begins with a header.
+    pub header: bool,
+    /// `-c`: the firings of each operator are printed too.
+    pub counts: bool,
+}
+
+impl RunWords {
+    // Those with nothing behind the program's file.
+    pub(crate) fn new(alloc: Global, lang: Lang, file: Text) -> RunWords
+        ensures { result ≡ plain_run lang file }
+    {
+        RunWords {
+            lang,
+            file,
+            ins: InWords::new(alloc),
+            script: None,
+            by: RunBy::Workers(Workers::new(1)),
+            cap: Capacity::new(64),
+            header: false,
+            counts: false,
+        }
+    }
+
+    // These words, if the run is by tasks that wait.
+    fn if_by_tasks(self) -> Option<RunWords>
+        ensures { result ≡ if_by_tasks self.by self }
+    {
+        match self.by {
+            RunBy::Workers(_) => None,
+            RunBy::Tasks => Some(self),
+        }
+    }
+}
+
+/// The words of `free`.
+#[derive(Drop)]
+pub struct FreeWords {
+    /// The name of the program's file.
+    pub file: Text,
+    /// The inputs, in the order of the words.
+    pub ins: InWords,
+    /// `-w N`: how many firings a round has at most.
+    pub workers: Workers,
+    /// `-s N`: the number with which the picks begin.
+    pub start: u32,
+    /// `-H`: each input begins with a header.
+    pub header: bool,
+}
+
+impl FreeWords {
+    // Those with nothing behind the program's file.
+    pub(crate) fn new(alloc: Global, file: Text) -> FreeWords
+        ensures { result ≡ plain_free file }
+    {
+        FreeWords {
+            file,
+            ins: InWords::new(alloc),
+            workers: Workers::new(1),
+            start: 0,
+            header: false,
+        }
+    }
+}
+
 /// What the words ask for.
 #[derive(Drop)]
 pub enum Command {
     /// `run`: a program is compiled and run over its inputs, and its outputs are printed.
-    Run {
-        /// The language of the program.
-        lang: Lang,
-        /// The name of the program's file.
-        file: Text,
-        /// The inputs, in the order of the words.
-        ins: InWords,
-        /// `-r SCRIPT`: the plan is rewritten by the script of this file.
-        script: Option<Text>,
-        /// `-w N`: how many workers run the plan.
-        workers: u32,
-        /// `-q N`: how many items a queue between two operators holds at most.
-        cap: u32,
-        /// `-H`: each input begins with a header.
-        header: bool,
-        /// `-c`: the firings of each operator are printed too.
-        counts: bool,
-        /// `-L`: the plan is run by a task for each operator, which waits where it has nothing to do.
-        live: bool,
-    },
+    Run(RunWords),
     /// `plan`: it is compiled, and its plan and the lock classes of its tables are printed.
     Plan {
         /// The language of the program.
@@ -86,45 +158,21 @@ pub enum Command {
         number: u32,
     },
     /// `free`: a free program is run over its inputs, and its outputs, its cells and its journal are printed.
-    Free {
-        /// The name of the program's file.
-        file: Text,
-        /// The inputs, in the order of the words.
-        ins: InWords,
-        /// `-w N`: how many firings a round has at most.
-        workers: u32,
-        /// `-s N`: the number with which the picks begin.
-        start: u32,
-        /// `-H`: each input begins with a header.
-        header: bool,
-    },
+    Free(FreeWords),
 }
 
 impl Command {
-    /// The language of the command's program: that of `upgrade` is a River text, and that of `load` is
-    /// in Sawzall. A free program is no plan, but its text is written as River texts are.
-    pub fn lang(&self) -> Lang
-        ensures { result ≡ lang_of self.now }
+    /// The words of a run by tasks that wait; None where the command is another.
+    pub fn into_live(self) -> Option<RunWords>
+        ensures { result ≡ live_words self }
     {
         match self {
-            Command::Run { lang, .. } | Command::Plan { lang, .. } | Command::Mean { lang, .. } =>
-                *lang,
-            Command::Upgrade { .. } | Command::Free { .. } => Lang::River,
-            Command::Load { .. } => Lang::Sawzall,
-        }
-    }
-
-    /// Whether the plan is run by tasks that wait.
-    pub fn is_live(&self) -> bool
-        ensures { result ≡ is_live self.now }
-    {
-        match self {
-            Command::Run { live, .. } => *live,
+            Command::Run(words) => words.if_by_tasks(),
             Command::Mean { .. }
             | Command::Plan { .. }
             | Command::Upgrade { .. }
             | Command::Load { .. }
-            | Command::Free { .. } => false,
+            | Command::Free(_) => None,
         }
     }
 
@@ -133,16 +181,16 @@ impl Command {
         ensures { MayMake result (with_header self.old) self.new }
     {
         match self {
-            Command::Run { header, .. } => {
-                *header = true;
+            Command::Run(words) => {
+                words.header = true;
                 true
             }
             Command::Mean { header, .. } => {
                 *header = true;
                 true
             }
-            Command::Free { header, .. } => {
-                *header = true;
+            Command::Free(words) => {
+                words.header = true;
                 true
             }
             Command::Plan { .. } | Command::Upgrade { .. } | Command::Load { .. } => false,
@@ -154,15 +202,15 @@ impl Command {
         ensures { MayMake result (with_counts self.old) self.new }
     {
         match self {
-            Command::Run { counts, .. } => {
-                *counts = true;
+            Command::Run(words) => {
+                words.counts = true;
                 true
             }
             Command::Mean { .. }
             | Command::Plan { .. }
             | Command::Upgrade { .. }
             | Command::Load { .. }
-            | Command::Free { .. } => false,
+            | Command::Free(_) => false,
         }
     }
 
@@ -171,8 +219,8 @@ impl Command {
         ensures { MayMake result (with_script name self.old) self.new }
     {
         match self {
-            Command::Run { script, .. } => {
-                *script = Some(name);
+            Command::Run(words) => {
+                words.script = Some(name);
                 true
             }
             Command::Plan { script, .. } => {
@@ -182,21 +230,21 @@ impl Command {
             Command::Mean { .. }
             | Command::Upgrade { .. }
             | Command::Load { .. }
-            | Command::Free { .. } => false,
+            | Command::Free(_) => false,
         }
     }
 
     /// Notes how many workers there are, if the command is a run.
-    pub(crate) fn set_workers(&mut self, number: u32) -> bool
+    pub(crate) fn set_workers(&mut self, number: Workers) -> bool
         ensures { MayMake result (with_workers number self.old) self.new }
     {
         match self {
-            Command::Run { workers, .. } => {
-                *workers = number;
+            Command::Run(words) => {
+                words.by = RunBy::Workers(number);
                 true
             }
-            Command::Free { workers, .. } => {
-                *workers = number;
+            Command::Free(words) => {
+                words.workers = number;
                 true
             }
             Command::Mean { .. }
@@ -206,20 +254,37 @@ impl Command {
         }
     }
 
-    /// Notes how many items a queue between two operators holds at most, if the command is a run.
-    pub(crate) fn set_cap(&mut self, number: u32) -> bool
-        ensures { MayMake result (with_cap number self.old) self.new }
+    /// Notes that the plan is run by tasks that wait, if the command is a run of a plan.
+    pub(crate) fn set_tasks(&mut self) -> bool
+        ensures { MayMake result (with_tasks self.old) self.new }
     {
         match self {
-            Command::Run { cap, .. } => {
-                *cap = number;
+            Command::Run(words) => {
+                words.by = RunBy::Tasks;
                 true
             }
             Command::Mean { .. }
             | Command::Plan { .. }
             | Command::Upgrade { .. }
             | Command::Load { .. }
-            | Command::Free { .. } => false,
+            | Command::Free(_) => false,
+        }
+    }
+
+    /// Notes how many items a queue between two operators holds at most, if the command is a run of a plan.
+    pub(crate) fn set_cap(&mut self, items: Capacity) -> bool
+        ensures { MayMake result (with_cap items self.old) self.new }
+    {
+        match self {
+            Command::Run(words) => {
+                words.cap = items;
+                true
+            }
+            Command::Mean { .. }
+            | Command::Plan { .. }
+            | Command::Upgrade { .. }
+            | Command::Load { .. }
+            | Command::Free(_) => false,
         }
     }
 
@@ -228,32 +293,15 @@ impl Command {
         ensures { MayMake result (with_start number self.old) self.new }
     {
         match self {
-            Command::Free { start, .. } => {
-                *start = number;
+            Command::Free(words) => {
+                words.start = number;
                 true
             }
-            Command::Run { .. }
+            Command::Run(_)
             | Command::Mean { .. }
             | Command::Plan { .. }
             | Command::Upgrade { .. }
             | Command::Load { .. } => false,
-        }
-    }
-
-    /// Notes that the plan is run by tasks that wait, if the command is a run.
-    pub(crate) fn set_live(&mut self) -> bool
-        ensures { MayMake result (with_live self.old) self.new }
-    {
-        match self {
-            Command::Run { live, .. } => {
-                *live = true;
-                true
-            }
-            Command::Mean { .. }
-            | Command::Plan { .. }
-            | Command::Upgrade { .. }
-            | Command::Load { .. }
-            | Command::Free { .. } => false,
         }
     }
 
@@ -262,16 +310,16 @@ impl Command {
         ensures { IfOk result (λ fits. MayMake fits (with_input input self.old) self.new) }
     {
         match self {
-            Command::Run { ins, .. } => {
-                ins.push(input)?;
+            Command::Run(words) => {
+                words.ins.push(input)?;
                 Ok(true)
             }
             Command::Mean { ins, .. } => {
                 ins.push(input)?;
                 Ok(true)
             }
-            Command::Free { ins, .. } => {
-                ins.push(input)?;
+            Command::Free(words) => {
+                words.ins.push(input)?;
                 Ok(true)
             }
             Command::Plan { .. } | Command::Upgrade { .. } | Command::Load { .. } => Ok(false),

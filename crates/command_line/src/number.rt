@@ -1,5 +1,5 @@
 // Words that are numbers.
-ghost use Rattle.std.specs.Prelude.{◌≡◌, ◌<◌, ◌-◌, ◌^◌, min};
+ghost use Rattle.std.specs.Prelude.{◌≡◌, ◌≤◌, ◌<◌, ◌-◌, ◌^◌, min, IfSome};
 ghost use Rattle.std.specs.List.{list_all};
 ghost use Rattle.river_base.specs.Name.{is_digit};
 ghost use Rattle.csv_streams.specs.Number.{value_after};
@@ -11,7 +11,8 @@ const MOST_DIGITS: usize = 9;
 /// The number that a word of 1 to 9 decimal digits writes, if it is from 1 to `most`.
 pub(crate) fn read_number(word: &[u8], most: u32) -> Option<u32>
     requires { most < 2 ^ 32 - 1 }
-    ensures { result ≡ number_to most word.now }
+    ensures bounds { IfSome result (λ number. (1 ≤ number) × (number ≤ most)) }
+    ensures number { result ≡ number_to most word.now }
 {
     if !is_number(word) {
         return None;

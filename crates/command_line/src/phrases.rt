@@ -1,11 +1,12 @@
 // What stands behind a program's file: options and words NAME=FILE, in any order.
-ghost use Rattle.std.specs.Prelude.{◌≡◌, ◌≤◌, ◌<◌, ◌+◌, ◌-◌, ◌^◌, [], ◌∷◌, length, take, drop, Some, None, IfOk, OnOk, IsErrOf, IsSome, codes};
-ghost use Rattle.command_line.specs.Limits.{most_cap, most_start};
+ghost use Rattle.std.specs.Prelude.{◌≡◌, ◌≤◌, ◌<◌, ◌+◌, ◌-◌, ◌^◌, [], ◌∷◌, length, take, drop, Some, None, IfOk, OnOk, IsErrOf, IsSome, IfSome, codes};
+ghost use Rattle.command_line.specs.Limits.{most_workers, most_cap, most_start};
 ghost use Rattle.command_line.specs.Words.{name_part, rest_part, in_word_of};
-ghost use Rattle.command_line.specs.Commands.{with_header, with_counts, with_workers, with_cap, with_start, with_live};
+ghost use Rattle.command_line.specs.Commands.{with_header, with_counts, with_workers, with_cap, with_start, with_tasks};
 ghost use Rattle.command_line.specs.Phrases.{phrase_of, phrases, with_phrases, option, number_ahead, zero_ahead, with_number, input as input_phrase, script as script_phrase};
 ghost use Rattle.command_line.specs.Said.{said_fitting, with_phrase};
 
+use crate::bounds::{Capacity, Workers};
 use crate::command::{Command, InWord, WordFault};
 use crate::number::{read_from_zero, read_number};
 use crate::word_set::WordSet;
@@ -61,7 +62,7 @@ const CAP: &[u8] = b"-q";
 
 const START: &[u8] = b"-s";
 
-const LIVE: &[u8] = b"-L";
+const TASKS: &[u8] = b"-L";
 
 const MOST_WORKERS: u32 = 64;
 
@@ -104,8 +105,8 @@ fn read_phrase(
     } else if word == START {
         add_start(alloc, word, behind, command, said)?;
         Ok(1)
-    } else if word == LIVE {
-        add_live(alloc, command, said)?;
+    } else if word == TASKS {
+        add_tasks(alloc, command, said)?;
         Ok(0)
     } else if is_file(word) {
         add_input(alloc, word, command, said)?;
@@ -180,14 +181,14 @@ fn add_workers(
     said: &mut WordSet,
 ) -> Result<(), WordFault>
     ensures within { OnOk result (1 ≤ length behind.now) }
-    ensures ok { OnOk result (with_phrase (with_number word.now with_workers (number_ahead 64 behind.now)) said.old command.old
+    ensures ok { OnOk result (with_phrase (with_number word.now with_workers (number_ahead most_workers behind.now)) said.old command.old
         ≡ Some (record { takes = 1; said = said.new; command = command.new })) }
-    ensures usage { IsErrOf result WordFault.Usage → with_phrase (with_number word.now with_workers (number_ahead 64 behind.now)) said.old command.old ≡ None }
+    ensures usage { IsErrOf result WordFault.Usage → with_phrase (with_number word.now with_workers (number_ahead most_workers behind.now)) said.old command.old ≡ None }
 {
     let Some(number) = number_ahead(behind, MOST_WORKERS) else {
         return Err(WordFault::Usage);
     };
-    let fits = command.set_workers(number);
+    let fits = command.set_workers(Workers::new(number));
     once(alloc, word, fits, said)
 }
 
@@ -209,7 +210,7 @@ fn add_cap(
     let Some(number) = number_ahead(behind, MOST_CAP) else {
         return Err(WordFault::Usage);
     };
-    let fits = command.set_cap(number);
+    let fits = command.set_cap(Capacity::new(number));
     once(alloc, word, fits, said)
 }
 
@@ -249,12 +250,12 @@ fn zero_ahead(words: &[Text], most: u32) -> Option<u32>
 
 // The plan is run by tasks that wait. It stands in the place of a number of workers.
 #[tactic(auto, using(crate::proofs::ReadOn::noted, crate::proofs::ReadOn::not_noted))]
-fn add_live(alloc: Global, command: &mut Command, said: &mut WordSet) -> Result<(), WordFault>
-    ensures ok { OnOk result (with_phrase (option (codes "-w") with_live) said.old command.old
+fn add_tasks(alloc: Global, command: &mut Command, said: &mut WordSet) -> Result<(), WordFault>
+    ensures ok { OnOk result (with_phrase (option (codes "-w") with_tasks) said.old command.old
         ≡ Some (record { takes = 0; said = said.new; command = command.new })) }
-    ensures usage { IsErrOf result WordFault.Usage → with_phrase (option (codes "-w") with_live) said.old command.old ≡ None }
+    ensures usage { IsErrOf result WordFault.Usage → with_phrase (option (codes "-w") with_tasks) said.old command.old ≡ None }
 {
-    let fits = command.set_live();
+    let fits = command.set_tasks();
     once(alloc, WORKERS, fits, said)
 }
 
@@ -262,6 +263,7 @@ fn add_live(alloc: Global, command: &mut Command, said: &mut WordSet) -> Result<
 fn number_ahead(words: &[Text], most: u32) -> Option<u32>
     requires { most < 2 ^ 32 - 1 }
     ensures within { IsSome result → 1 ≤ length words.now }
+    ensures bounds { IfSome result (λ number. (1 ≤ number) × (number ≤ most)) }
     ensures number { result ≡ number_ahead most words.now }
 {
     match words {

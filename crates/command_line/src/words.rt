@@ -3,13 +3,12 @@ ghost use Rattle.std.specs.Prelude.{◌≡◌, Some, None, IfOk, IsErrOf};
 ghost use Rattle.command_line.specs.Words.{lang_named, is_file};
 ghost use Rattle.command_line.specs.Sentences.{plain, with_words, asked_load, asked_two, asked_upgrade, asked_other, asked_free, command_of};
 
-use crate::command::{Command, InWords, Lang, WordFault};
+use crate::command::{Command, FreeWords, InWords, Lang, RunWords, WordFault};
 use crate::number::read_number;
 use crate::phrases::read_phrases;
 use river_base::{NoMemory, Text};
 use std::alloc::Global;
 
-/// The command that the words ask for. A sentence is `load N`, with N from 1 to 100,000; or `upgrade FILE`; or `run LANG FILE`,
 /// The command that the words ask for. A sentence is `load N`, with N from 1 to 100,000; or `upgrade FILE`; or `run LANG FILE`,
 /// `mean LANG FILE`, `plan LANG FILE` or `free FILE`, and behind it, in any order, what the command takes: `run`, `mean` and `free` take
 /// words NAME=FILE and `-H`, `run` and `free` `-w N` with N from 1 to 64, `run` in its place also `-L`, and `-c` and `-q N` with N from 1
@@ -38,13 +37,7 @@ fn read_free(alloc: Global, file: &[u8], behind: &[Text]) -> Result<Command, Wor
     if !is_file(file) {
         return Err(WordFault::Usage);
     }
-    let mut command = Command::Free {
-        file: Text::from_slice(alloc, file)?,
-        ins: InWords::new(alloc),
-        workers: 1,
-        start: 0,
-        header: false,
-    };
+    let mut command = Command::Free(FreeWords::new(alloc, Text::from_slice(alloc, file)?));
     read_phrases(alloc, behind, &mut command)?;
     Ok(command)
 }
@@ -158,17 +151,7 @@ fn plain(alloc: Global, word: &[u8], lang: Lang, file: &[u8]) -> Result<Option<C
 {
     let file = Text::from_slice(alloc, file)?;
     if word == RUN {
-        Ok(Some(Command::Run {
-            lang,
-            file,
-            ins: InWords::new(alloc),
-            script: None,
-            workers: 1,
-            cap: 64,
-            header: false,
-            counts: false,
-            live: false,
-        }))
+        Ok(Some(Command::Run(RunWords::new(alloc, lang, file))))
     } else if word == MEAN {
         Ok(Some(Command::Mean {
             lang,

@@ -1,2 +1,4 @@
+pub mod Does
+pub mod Live
 pub mod Points
 pub mod Told

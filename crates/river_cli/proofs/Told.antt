@@ -1,6 +1,6 @@
 -- The status that a verdict has.
 use Rattle.std.proofs.Common.{◌≡◌, ℕ, IfSome}
-use Rattle.std.specs.Prelude.{Option, None, Some, Result, Ok, Err, MatchResult, OnErr}
+use Rattle.std.specs.Prelude.{Option, None, Some}
 use Rattle.river_outside.specs.Held.{Held}
 use Rattle.river_order.specs.Order.{Order, Verdict, IsVerdict, verdict}
 use Rattle.river_order.proofs.Told.{verdict-told}
@@ -11,9 +11,3 @@ pub HasStatus-told : (points : Option Order) (held : Option Held) (v : Verdict) 
     → IfSome held (λ h. HasStatus (verdict points h) status)
 HasStatus-told points None v status is has = tt
 HasStatus-told points (Some h) v status is has = rw (verdict-told points h v is) has
-
--- a text that was written where no count rose
-pub not_stopped : {T E : Type 0} (wrote : Result T E) (rose : Type 0) (status done : ℕ) → MatchResult wrote (λ _. status ≡ done) (λ _. status ≡ 4)
-    → OnErr wrote rose → (rose → ⊥) → status ≡ done
-not_stopped (Ok x) rose status done is counted calm = is
-not_stopped (Err e) rose status done is counted calm = absurd (calm counted)

@@ -1,3 +1,4 @@
 pub mod Answer
+pub mod Does
 pub mod Points
 pub mod Text

@@ -3,6 +3,9 @@ pub mod Contents
 pub mod Fetches
 pub mod Inputs
 pub mod Items
+pub mod Loaded
 pub mod Means
+pub mod Outputs
 pub mod Points
 pub mod Scripts
+pub mod Supplied

@@ -13,15 +13,18 @@ use Rattle.river_plan.specs.Caps.{first_cap}
 use Rattle.river_plan.specs.declared.caps.Cap.{Cap}
 use Rattle.river_plan.specs.Forms.{PlanForm}
 use Rattle.river_print.specs.Printed.{plan_text}
+use Rattle.river_road.specs.Supplied.{Supplied, IsGathered, printed_for}
 use Rattle.river_road.specs.Layouts.{layout_of}
 use Rattle.river_road.specs.Inputs.{of_inputs}
 use Rattle.river_road.specs.Limits.{most_program}
-use Rattle.river_road.specs.Points.{of_program, of_inputs_run, of_show, of_shown, of_scripted_show, of_mean, of_upgrade, plan_as_shown}
+use Rattle.river_road.specs.Points.{of_program, of_supplied, of_meaning, of_scripted, of_gathered, of_show, of_shown, of_scripted_show, of_mean, of_upgrade, plan_as_shown}
 use Rattle.river_road.specs.Source.{SourceProgram, IsPlanOf, IsPlanned, IsCompiled, printed}
 use Rattle.river_road.specs.declared.language.Compiled.{Compiled}
 use Rattle.river_road.specs.Text.{large_program}
 use Rattle.river_road.specs.declared.content.Content.{Content}
+use Rattle.river_road.specs.declared.gathered.Gathered.{Gathered}
 use Rattle.command_line.specs.declared.command.InWord.{InWord}
+use Rattle.command_line.specs.declared.command.RunWords.{RunWords}
 use Rattle.river_road.specs.declared.layout.Layout.{Layout}
 use Rattle.river_road.proofs.Scripts.{as_passed}
 
@@ -32,6 +35,20 @@ pub as-then : {A B C : Type 0} (stands : A → B → Type 0) (first : (A → Ord
     → Passes (λ next. first (λ x. second x next)) held early result
 as-then stands first second held mid early late sooner y result here later =
     then-passes first second held early late sooner here.0 result here.2 (later here.0 here.1)
+
+-- the same, where what comes after it stands for something too
+pub as-then-as : {A B C D : Type 0} (stands : A → B → Type 0) (into : C → D → Type 0) (first : (A → Order) → Order)
+    (second : A → (C → Order) → Order) (held : Option Held) (mid early late : Type 0) → (late → early) → (y : B) (result : Result D Stop)
+    → PassesAs stands first held mid (Ok y) → ((x : A) → stands x y → PassesAs into (second x) held late result)
+    → PassesAs into (λ next. first (λ x. second x next)) held early result
+as-then-as stands into first second held mid early late sooner y (Ok z) here later =
+    let there = later here.0 here.1 in (
+      there.0,
+      there.1,
+      λ next. Comes-on (first (λ x. second x next)) (second here.0 next) (next there.0) held (here.2 (λ x. second x next)) (there.2 next),
+    )
+as-then-as stands into first second held mid early late sooner y (Err s) here later = λ next.
+    Stops-later (first (λ x. second x next)) (second here.0 next) held early late sooner s (here.2 (λ x. second x next)) (later here.0 here.1 next)
 
 -- THE PROGRAM
 
@@ -114,40 +131,66 @@ module _ (source_of : List ℕ → Result SourceProgram (List ℕ)) (more : Bool
   pub mean-first : (rose : Type 0) (s : Stop) → ((next : SourceProgram → Order) → Stops (Some (of_program source_of file next)) held rose s)
       → (next : List ℕ → Order) → Stops (Some (of_mean source_of more file ins header next)) held rose s
   unfolding of_mean
-  mean-first rose s stops next = stops (λ source. of_inputs_run ins (layout_of more header) false source next)
+  mean-first rose s stops next = stops (λ source. of_meaning ins (layout_of more header) source next)
 
   -- one that comes to its files
   pub mean-last : {C : Type 0} (stands : SourceProgram → C → Type 0) (mid early late : Type 0) → (late → early) → (c : C) (result : Result (List ℕ) Stop)
       → PassesAs stands (of_program source_of file) held mid (Ok c)
-      → ((source : SourceProgram) → stands source c → Passes (of_inputs_run ins (layout_of more header) false source) held late result)
+      → ((source : SourceProgram) → stands source c → Passes (of_meaning ins (layout_of more header) source) held late result)
       → Passes (of_mean source_of more file ins header) held early result
   unfolding of_mean
   mean-last stands mid early late sooner c result here over =
-      as-then stands (of_program source_of file) (of_inputs_run ins (layout_of more header) false) held mid early late sooner c result here over
+      as-then stands (of_program source_of file) (of_meaning ins (layout_of more header)) held mid early late sooner c result here over
 
-module _ (ins : List InWord) (layout : Layout) (counted : Bool) (source : SourceProgram) (plan : PlanForm) (held : Option Held)
-    (is : IsPlanOf source plan) where
-  abbrev from_inputs : (List ℕ → Order) → Order
-  from_inputs next = of_inputs source.inputs ins layout (λ rows. next (printed source counted rows))
+module _ (source_of : List ℕ → Result SourceProgram (List ℕ)) (more : Bool) (w : RunWords) (held : Option Held) where
+  -- `run` stops where its program does
+  pub gathered-first : (rose : Type 0) (s : Stop) → ((next : SourceProgram → Order) → Stops (Some (of_program source_of w.file next)) held rose s)
+      → (next : Supplied → Order) → Stops (Some (of_gathered source_of more w next)) held rose s
+  unfolding of_gathered
+  gathered-first rose s stops next = stops (λ source. of_scripted w.script w.ins (layout_of more w.header) source next)
 
-  run_is : (next : List ℕ → Order) → of_inputs_run ins layout counted source next ≡ from_inputs next
-  unfolding of_inputs_run
-  run_is next = refl
+  -- its program was compiled
+  pub gathered-last : {P : Type 0} (stands : SourceProgram → P → Type 0) (mid early late : Type 0) → (late → early)
+      → (c : Compiled P) (result : Result Gathered Stop)
+      → PassesAs (IsCompiled stands) (of_program source_of w.file) held mid (Ok c)
+      → ((source : SourceProgram) → IsPlanned c.caps source c.plan
+      → PassesAs IsGathered (of_scripted w.script w.ins (layout_of more w.header) source) held late result)
+      → PassesAs IsGathered (of_gathered source_of more w) held early result
+  unfolding of_gathered
+  gathered-last stands mid early late sooner c result here gathers =
+      as-then-as (IsCompiled stands) IsGathered (of_program source_of w.file) (of_scripted w.script w.ins (layout_of more w.header)) held mid early late
+      sooner c result here (λ source is. gathers source is.planned)
 
+-- THE INPUTS
+
+module _ (ins : List InWord) (layout : Layout) (source : SourceProgram) (plan : PlanForm) (held : Option Held) (is : IsPlanOf source plan) where
   -- its inputs stop it
-  pub run-stops : (rose : Type 0) (s : Stop) → ((next : List Content → Order) → Stops (Some (of_inputs plan.inputs ins layout next)) held rose s)
-      → (next : List ℕ → Order) → Stops (Some (of_inputs_run ins layout counted source next)) held rose s
-  run-stops rose s stops next =
-      let here = subst (λ d. Stops (Some (of_inputs d ins layout (λ rows. next (printed source counted rows)))) held rose s) is.inputs
-      (stops (λ rows. next (printed source counted rows))) in
-      subst (λ o. Stops (Some o) held rose s) (sym (run_is next)) here
+  pub supplied-stops : (rose : Type 0) (s : Stop) → ((next : List Content → Order) → Stops (Some (of_inputs plan.inputs ins layout next)) held rose s)
+      → (next : Supplied → Order) → Stops (Some (of_supplied ins layout source next)) held rose s
+  unfolding of_supplied
+  supplied-stops rose s stops next =
+      subst (λ d. Stops (Some (of_inputs d ins layout (λ files. next (record { source = source; files = files })))) held rose s) is.inputs
+      (stops (λ files. next (record { source = source; files = files })))
 
-  -- it is run
-  pub run-comes : (all : List Content) (text : List ℕ)
-      → ((next : List Content → Order) → Comes (of_inputs plan.inputs ins layout next) held (next all))
-      → text ≡ printed source counted all → (next : List ℕ → Order) → Comes (of_inputs_run ins layout counted source next) held (next text)
-  run-comes all text comes says next =
-      let here = subst (λ d. Comes (of_inputs d ins layout (λ rows. next (printed source counted rows))) held (next (printed source counted all))) is.inputs
-      (comes (λ rows. next (printed source counted rows))) in
-      let there = subst (λ t. Comes (from_inputs next) held (next t)) (sym says) here in
-      subst (λ o. Comes o held (next text)) (sym (run_is next)) there
+  -- they were read
+  pub supplied-comes : (files : List Content) → ((next : List Content → Order) → Comes (of_inputs plan.inputs ins layout next) held (next files))
+      → (next : Supplied → Order) → Comes (of_supplied ins layout source next) held (next (record { source = source; files = files }))
+  unfolding of_supplied
+  supplied-comes files comes next =
+      subst
+      (λ d. Comes (of_inputs d ins layout (λ fs. next (record { source = source; files = fs }))) held (next (record { source = source; files = files })))
+      is.inputs (comes (λ fs. next (record { source = source; files = fs })))
+
+  -- and its meaning is printed
+  pub meaning-comes : (files : List Content) (text : List ℕ)
+      → ((next : List Content → Order) → Comes (of_inputs plan.inputs ins layout next) held (next files)) → text ≡ printed source false files
+      → (next : List ℕ → Order) → Comes (of_meaning ins layout source next) held (next text)
+  meaning-comes files text comes says next =
+      subst (λ t. Comes (of_meaning ins layout source next) held (next t)) (sym says) (supplied-comes files comes (λ s. next (printed_for false s)))
+
+-- a plan that was gathered in place of a program, of which this is printed
+pub printed-passes : (counted : Bool) (point : (Supplied → Order) → Order) (held : Option Held) (rose : Type 0) (g : Gathered) (text : List ℕ)
+    → PassesAs IsGathered point held rose (Ok g) → ((s : Supplied) → IsGathered s g → text ≡ printed_for counted s)
+    → (next : List ℕ → Order) → Comes (point (λ s. next (printed_for counted s))) held (next text)
+printed-passes counted point held rose g text here says next =
+    subst (λ t. Comes (point (λ s. next (printed_for counted s))) held (next t)) (sym (says here.0 here.1)) (here.2 (λ s. next (printed_for counted s)))

@@ -92,10 +92,8 @@ pub fetch-stops : (file : List ℕ) (source : SourceProgram) (held : Option Held
 unfolding of_script
 fetch-stops file source held rose s stops next = stops (λ t. past (with_plan source (rewritten source.plan t)) next)
 
--- there is none, so that what comes after it comes at once
-pub none-passes : {C : Type 0} (second : SourceProgram → (C → Order) → Order) (source : SourceProgram) (held : Option Held) (rose : Type 0)
-    (result : Result C Stop)
-    → Passes (second source) held rose result → Passes (λ next. of_script None source (λ later. second later next)) held rose result
+-- there is none, so that the plan is that of the program
+pub none-passes : (caps : List Cap) (source : SourceProgram) (plan : PlanForm) (held : Option Held) (rose : Type 0) → IsPlanned caps source plan
+    → PassesAs (IsPlanned caps) (of_script None source) held rose (Ok plan)
 unfolding of_script
-none-passes second source held rose (Ok x) passed = passed
-none-passes second source held rose (Err s) passed = passed
+none-passes caps source plan held rose is = (source, is, λ next. Comes-same (next source) held)

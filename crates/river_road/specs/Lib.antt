@@ -2,6 +2,8 @@ pub mod Contents
 pub mod Inputs
 pub mod Layouts
 pub mod Limits
+pub mod Load
 pub mod Points
 pub mod Source
+pub mod Supplied
 pub mod Text

@@ -1,5 +1,5 @@
-//! From the file of a program to the text that is written, over any source language: the points of the commands that run no plan,
-//! the files of a program's inputs, its script and its meaning.
+//! From the words of a command over any source language to the text that is written, or, where a plan is run, up to its run: the
+//! points of the commands, the files of a program's inputs, its script and its meaning.
 //!
 //! No language is named here. A language is a type that implements [`Language`].
 #![tactic(auto)]
@@ -7,9 +7,13 @@
 mod content;
 mod fetched;
 mod gather;
+
+mod gathered;
+mod gathering;
 mod item_lists;
 mod language;
 mod layout;
+mod loading;
 mod meant;
 mod names;
 mod road;
@@ -19,9 +23,11 @@ mod text;
 
 pub use content::Content;
 pub use gather::gather as gather_contents;
+pub use gathering::gather_run;
+pub use gathered::Gathered;
 pub use item_lists::inputs_of;
 pub use language::{Compiled, Language};
 pub use layout::Layout;
-pub use road::{compiled, mean, rewritten, show, upgrade};
-pub use script::applied;
-pub use text::{missing as missing_input, program as refused_program};
+pub use loading::gather_load;
+pub use road::{fetch_program, mean, show, upgrade};
+pub use text::program as refused_program;

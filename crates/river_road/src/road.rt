@@ -1,14 +1,17 @@
 // The road from a program's file to the text that is written: each function is a point, or hands on to those of the next.
-ghost use Rattle.std.specs.Prelude.{◌≡◌, ◌≤◌, List, false, Some, Ok as found};
+ghost use Rattle.std.specs.Prelude.{◌≡◌, ◌≤◌, List, length, IfOk, Some, Ok as found};
 ghost use Rattle.river_outside.specs.Causes.{Rose};
+ghost use Rattle.river_order.specs.Order.{Fetch};
 ghost use Rattle.river_order.specs.Passes.{Answers, Passes, PassesAs};
 ghost use Rattle.river_plan.specs.Caps.{AreCaps, first_cap};
 ghost use Rattle.river_plan.specs.declared.caps.Cap.{Cap};
 ghost use Rattle.river_print.specs.Printed.{plan_text};
-ghost use Rattle.river_road.specs.Points.{of_show, of_scripted_show, of_mean, of_upgrade, of_program, of_script, of_inputs_run, plan_as_shown};
+ghost use Rattle.river_road.specs.Limits.{most_program};
+ghost use Rattle.river_road.specs.Points.{of_show, of_scripted_show, of_mean, of_meaning, of_upgrade, of_program, of_script, plan_as_shown};
 ghost use Rattle.river_road.specs.Source.{SourceProgram, IsPlanned, IsCompiled, HasSource};
+ghost use Rattle.river_road.specs.Text.{large_program};
 
-use crate::gather::gather;
+use crate::gathering::files_for;
 use crate::language::{Compiled, Language};
 use crate::layout::Layout;
 use crate::meant::mean_text;
@@ -38,7 +41,7 @@ pub fn show<L: Language, S: Shelf>(
     ensures passes { Passes (of_show L.source file.now name.now) (S.held shelf.old) (Rose S.stays_at_last (S.faults shelf.old) (S.faults shelf.new)) result }
 {
     let compiled = compiled::<L, S>(alloc, file, shelf)?;
-    show_scripted(alloc, name, &compiled.plan, &compiled.caps, shelf)
+    show_scripted(alloc, name, compiled.plan, &compiled.caps, shelf)
 }
 
 /// What `upgrade` prints: a text is compiled, and its plan and its capacities are printed.
@@ -70,8 +73,8 @@ pub fn mean<L: Language, S: Shelf>(
     mean_over::<L, S>(alloc, ins, Layout::of::<L>(header), &compiled, shelf)
 }
 
-/// The program is fetched and compiled.
-pub fn compiled<L: Language, S: Shelf>(
+// The program is fetched and compiled.
+pub(crate) fn compiled<L: Language, S: Shelf>(
     alloc: Global,
     file: &Text,
     shelf: &mut S,
@@ -81,49 +84,64 @@ pub fn compiled<L: Language, S: Shelf>(
     ensures passes { PassesAs (IsCompiled L.stands) (of_program L.source file.now) (S.held shelf.old)
         (Rose S.stays_at_last (S.faults shelf.old) (S.faults shelf.new)) result }
 {
-    let file = file.as_slice();
-    let text = fetch_turn(alloc, shelf, file, MOST_PROGRAM, text::LARGE_PROGRAM)?;
+    let text = fetch_program(alloc, file, shelf)?;
     L::compile(alloc, &text)
+}
+
+/// The text of a program is fetched.
+pub fn fetch_program<S: Shelf>(
+    alloc: Global,
+    file: &Text,
+    shelf: &mut S,
+) -> Result<Bytes, Stop>
+    ensures stays { S.held shelf.new ≡ S.held shelf.old }
+    ensures later { S.faults shelf.old ≤ S.faults shelf.new }
+    ensures within { IfOk result (λ text. length text ≤ most_program) }
+    ensures passes { Passes (Fetch file.now most_program large_program) (S.held shelf.old)
+        (Rose S.stays_at_last (S.faults shelf.old) (S.faults shelf.new)) result }
+{
+    let file = file.as_slice();
+    fetch_turn(alloc, shelf, file, MOST_PROGRAM, text::LARGE_PROGRAM)
 }
 
 // A plan is rewritten, where a script is given, and shown.
 fn show_scripted<S: Shelf>(
     alloc: Global,
     name: &Option<Text>,
-    plan: &Plan,
+    plan: Plan,
     caps: &Caps,
     shelf: &mut S,
 ) -> Result<Bytes, Stop>
     requires { AreCaps caps.now }
     ensures later { S.faults shelf.old ≤ S.faults shelf.new }
-    ensures passes { (source : SourceProgram) → IsPlanned caps.now source plan.now
+    ensures passes { (source : SourceProgram) → IsPlanned caps.now source plan
         → Passes (of_scripted_show name.now source) (S.held shelf.old) (Rose S.stays_at_last (S.faults shelf.old) (S.faults shelf.new)) result }
 {
-    match name {
-        None => shown(alloc, plan, caps),
-        Some(script) => show_rewritten(alloc, script.as_slice(), plan, caps, shelf),
-    }
-}
-
-// A plan is rewritten and shown.
-fn show_rewritten<S: Shelf>(
-    alloc: Global,
-    script: &[u8],
-    plan: &Plan,
-    caps: &Caps,
-    shelf: &mut S,
-) -> Result<Bytes, Stop>
-    requires { AreCaps caps.now }
-    ensures later { S.faults shelf.old ≤ S.faults shelf.new }
-    ensures passes { (source : SourceProgram) → IsPlanned caps.now source plan.now
-        → Passes (of_scripted_show (Some script.now) source) (S.held shelf.old) (Rose S.stays_at_last (S.faults shelf.old) (S.faults shelf.new)) result }
-{
-    let made = rewritten(alloc, script, plan, shelf)?;
+    let made = scripted(alloc, name, plan, shelf)?;
     shown(alloc, &made, caps)
 }
 
-/// The script is fetched and applied.
-pub fn rewritten<S: Shelf>(
+/// A plan is rewritten, where a script is given; where there is none it is handed back.
+pub(crate) fn scripted<S: Shelf>(
+    alloc: Global,
+    script: &Option<Text>,
+    plan: Plan,
+    shelf: &mut S,
+) -> Result<Plan, Stop>
+    ensures stays { S.held shelf.new ≡ S.held shelf.old }
+    ensures later { S.faults shelf.old ≤ S.faults shelf.new }
+    ensures passes { (caps : List Cap) (source : SourceProgram) → IsPlanned caps source plan
+        → PassesAs (IsPlanned caps) (of_script script.now source) (S.held shelf.old)
+        (Rose S.stays_at_last (S.faults shelf.old) (S.faults shelf.new)) result }
+{
+    match script {
+        None => Ok(plan),
+        Some(file) => rewritten(alloc, file.as_slice(), &plan, shelf),
+    }
+}
+
+// The script is fetched and applied.
+fn rewritten<S: Shelf>(
     alloc: Global,
     file: &[u8],
     plan: &Plan,
@@ -168,9 +186,8 @@ fn mean_over<L: Language, S: Shelf>(
     requires { HasSource L.stands compiled.now }
     ensures later { S.faults shelf.old ≤ S.faults shelf.new }
     ensures passes { (source : SourceProgram) → IsCompiled L.stands source compiled.now
-        → Passes (of_inputs_run ins.now layout false source) (S.held shelf.old) (Rose S.stays_at_last (S.faults shelf.old) (S.faults shelf.new)) result }
+        → Passes (of_meaning ins.now layout source) (S.held shelf.old) (Rose S.stays_at_last (S.faults shelf.old) (S.faults shelf.new)) result }
 {
-    let decls = compiled.plan.raw().inputs.as_slice();
-    let files = gather(alloc, decls, ins.as_slice(), layout, shelf)?;
+    let files = files_for(alloc, ins, layout, &compiled.plan, shelf)?;
     Ok(mean_text::<L>(alloc, compiled, files)?)
 }

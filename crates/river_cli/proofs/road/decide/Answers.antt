@@ -1,12 +1,11 @@
 use Rattle.std.proofs.Common.{refl}
 use Rattle.river_outside.specs.Causes.{Rose}
 use Rattle.river_cli.specs.Points.{points_of, of_command}
-use Rattle.command_line.proofs.Manned.{manned}
 use Rattle.river_cli.proofs.Points.{command-decides, never-usage}
 use Rattle.river_cli.proofs.road.decide.Goals as goal
 
-pub answered-requires-clause-manned : goal.answered-requires-clause-manned
-answered-requires-clause-manned g c = λ _ _. manned c.args.words.now c.in-Ok.command c.in-Ok.ensures.ok
+pub answered-requires : goal.answered-requires
+answered-requires g c = c.requires c.in-Ok.command c.in-Ok.ensures.ok
 
 pub returns-in-Ok-clause-decided : goal.returns-in-Ok-clause-decided
 unfolding points_of

@@ -1,4 +1,0 @@
-use Rattle.plan_runs.proofs.loading.load_compiled.Goals as goal
-
-pub returns : goal.returns
-returns g c = rw c.in_ok-text.ensures.text at c.compile.ensures
