@@ -23,7 +23,7 @@ pub fn run_by_workers<R: Threads + Sync, G: Gate + Sync>(
     counted: bool,
     gate: &G,
 ) -> Result<Bytes, NoMemory>
-    requires { IsReady gathered }
+    requires ready { IsReady gathered }
     ensures { IfOk result (λ text. (s : Supplied) → IsGathered s gathered → text ≡ printed_for counted s) }
 {
     let Gathered { plan, caps, inputs } = gathered;
@@ -40,7 +40,7 @@ pub fn run_by_tasks<R: Threads + Wait + Sync, G: Gate + Sync>(
     counted: bool,
     gate: &G,
 ) -> Result<Bytes, NoMemory>
-    requires { IsReady gathered }
+    requires ready { IsReady gathered }
     ensures { IfOk result (λ text. (s : Supplied) → IsGathered s gathered → text ≡ printed_for counted s) }
 {
     let Gathered { plan, caps, inputs } = gathered;

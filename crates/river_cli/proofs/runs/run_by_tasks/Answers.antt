@@ -9,10 +9,10 @@ use Rattle.river_road.proofs.Supplied.{ready-fits, ready-capped}
 use Rattle.river_cli.proofs.runs.run_by_tasks.Goals as goal
 
 pub run_live-requires-clause-fits : goal.run_live-requires-clause-fits
-run_live-requires-clause-fits g c = λ _ _. ready-fits c.args.gathered c.requires
+run_live-requires-clause-fits g c = λ _ _. ready-fits c.args.gathered c.requires.ready
 
 pub run_live-requires-clause-caps : goal.run_live-requires-clause-caps
-run_live-requires-clause-caps g c = λ _ _. ready-capped c.args.gathered c.requires
+run_live-requires-clause-caps g c = λ _ _. ready-capped c.args.gathered c.requires.ready
 
 pub print_outcome-requires-clause-outs : goal.print_outcome-requires-clause-outs
 print_outcome-requires-clause-outs g c =
