@@ -27,7 +27,16 @@ pub fn run_by_workers<R: Threads + Sync, G: Gate + Sync>(
     ensures { IfOk result (λ text. (s : Supplied) → IsGathered s gathered → text ≡ printed_for counted s) }
 {
     let Gathered { plan, caps, inputs } = gathered;
-    let ran = run_plan(rt, alloc, &plan, inputs, workers.get(), cap.get(), &caps, gate)?;
+    let ran = run_plan(
+        rt,
+        alloc,
+        &plan,
+        inputs,
+        workers.get(),
+        cap.get(),
+        &caps,
+        gate,
+    )?;
     print_outcome(alloc, &plan, ran.outcome(), counted)
 }
 

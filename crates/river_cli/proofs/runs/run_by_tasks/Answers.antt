@@ -1,4 +1,4 @@
-use Rattle.std.proofs.Common.{◌≡◌, ◌∙◌, List, map, ap, length}
+use Rattle.std.proofs.Common.{◌∙◌, map, ap, length}
 use Rattle.std.proofs.lemmas.List.{length-map}
 use Rattle.kern_tables.specs.Kept.{kept_of, rows_of}
 use Rattle.river_plan.specs.Forms.{decl_names}

@@ -1,8 +1,7 @@
-use Rattle.std.proofs.Common.{◌≡◌, refl}
+use Rattle.std.proofs.Common.{◌≡◌}
 use Rattle.river_outside.specs.Causes.{Rose}
-use Rattle.river_cli.specs.Points.{points_of, of_command}
-use Rattle.command_line.specs.declared.command.Command.TheVariants.{Run}
-use Rattle.river_cli.proofs.Does.{tells-does, at-5}
+use Rattle.river_cli.specs.Points.{points_of}
+use Rattle.river_cli.proofs.Does.{tells-does}
 use Rattle.river_cli.proofs.Live.{none-now, live-decides}
 use Rattle.river_cli.proofs.top.river.Goals as goal
 
