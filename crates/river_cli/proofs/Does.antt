@@ -1,5 +1,5 @@
 -- What was decided and written is what the top call does.
-use Rattle.std.proofs.Common.{◌≡◌, ◌≤◌, ◌⊎◌, ℕ, List, refl, sym, subst, inl, inr, arith, IfSome}
+use Rattle.std.proofs.Common.{◌≡◌, ◌⊎◌, ℕ, List, refl, sym, subst, inl, inr, arith, IfSome}
 use Rattle.std.specs.Prelude.{Option, None, Some, Result, Ok, Err, IsErrOf}
 use Rattle.river_outside.specs.Held.{Held}
 use Rattle.river_outside.specs.Taken.{TookPart}
@@ -7,8 +7,8 @@ use Rattle.river_order.specs.Decides.{Decides, FailedAt, AbsentAt}
 use Rattle.river_order.specs.Order.{Order, Verdict, Usage, Refused, Unread, Done, IsVerdict, IsFetchTurn, verdict}
 use Rattle.river_order.specs.declared.stop.Stop.{Stop}
 use Rattle.river_order.specs.declared.stop.Stop.TheVariants as stop
-use Rattle.river_cli.specs.Answer.{TookNothing, TookText, WroteEnd, WroteUsage, WroteFault, Stopped, StoppedUsage, HasStatus}
-use Rattle.river_cli.specs.Does.{Does, Wrote, ToldFault, Tells}
+use Rattle.river_cli.specs.Answer.{TookNothing, TookText, Stopped, StoppedUsage, HasStatus}
+use Rattle.river_cli.specs.Does.{Does, Wrote, Tells}
 use Rattle.river_cli.specs.Text.{usage_text}
 use Rattle.river_cli.proofs.Told.{HasStatus-told}
 

@@ -1,5 +1,5 @@
 -- Words of a run by tasks that wait.
-use Rattle.std.proofs.Common.{◌≡◌, ℕ, List, false, true, refl, sym, ap, ◌∙◌, subst}
+use Rattle.std.proofs.Common.{◌≡◌, ℕ, List, false, refl, ap, ◌∙◌}
 use Rattle.std.specs.Prelude.{Option, Some, None, Result, IsErrOf}
 use Rattle.command_line.specs.Commands.{by_tasks, is_live, live_words, if_by_tasks}
 use Rattle.command_line.specs.Sentences.{command_of}
@@ -10,12 +10,11 @@ use Rattle.command_line.specs.declared.command.RunBy.TheVariants.{Workers, Tasks
 use Rattle.command_line.specs.declared.command.RunWords.{RunWords}
 use Rattle.river_outside.specs.Held.{Held}
 use Rattle.river_order.specs.Decides.{Decides}
-use Rattle.river_order.specs.Order.{Order}
 use Rattle.river_order.specs.Passes.{Passes}
 use Rattle.river_order.specs.declared.stop.Stop.{Stop}
 use Rattle.river_order.specs.declared.stop.Stop.TheVariants as stop
 use Rattle.river_road.specs.Points.{of_run}
-use Rattle.river_cli.specs.Points.{source_in, takes_more, of_command, ended, points_of, live_asked}
+use Rattle.river_cli.specs.Points.{source_in, takes_more, of_command, points_of, live_asked}
 use Rattle.river_cli.proofs.Points.{run-answers, command-decides, never-usage}
 
 by_none : (by : RunBy) (w : RunWords) → None ≡ if_by_tasks by w → by_tasks by ≡ false

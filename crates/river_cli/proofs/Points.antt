@@ -1,5 +1,5 @@
 -- The points of a command, and the calls that do them.
-use Rattle.std.proofs.Common.{◌≡◌, ℕ, List, Bool, subst}
+use Rattle.std.proofs.Common.{◌≡◌, ℕ, List, Bool, sym, subst}
 use Rattle.std.specs.Prelude.{Option, Some, None, Result, Ok, Err, IsErrOf}
 use Rattle.command_line.specs.declared.command.Command.{Command}
 use Rattle.command_line.specs.declared.command.Command.TheVariants.{Run, Plan, Mean, Upgrade, Load, Free}
@@ -10,13 +10,15 @@ use Rattle.command_line.specs.declared.command.RunWords.{RunWords}
 use Rattle.river_outside.specs.Held.{Held}
 use Rattle.river_order.specs.Order.{Order, Ends, Done}
 use Rattle.river_order.specs.Decides.{Decides, Stops}
-use Rattle.river_order.specs.Passes.{Answers, Passes}
+use Rattle.river_order.specs.Passes.{Answers, Passes, PassesAs}
 use Rattle.river_order.specs.declared.stop.Stop.{Stop}
 use Rattle.river_order.specs.declared.stop.Stop.TheVariants as stop
 use Rattle.river_order.proofs.Passes.{past-passes, passed-decides}
 use Rattle.free_runs.specs.Points.{of_free}
 use Rattle.river_langs.specs.Sources.{river_in, saw_in}
-use Rattle.river_road.specs.Points.{of_run, loaded, of_show, of_mean, of_upgrade}
+use Rattle.river_road.specs.Points.{of_gathered, of_run, loaded, of_show, of_mean, of_upgrade}
+use Rattle.river_road.specs.Supplied.{IsGathered}
+use Rattle.river_road.specs.declared.gathered.Gathered.{Gathered}
 use Rattle.river_cli.specs.Points.{source_in, takes_more, of_command, ended}
 
 -- what a command answers decides
@@ -79,3 +81,10 @@ module _ (held : Option Held) (rose : Type 0) where
   unfolding of_command
   load-answers n (Ok text) told = past-passes (loaded saw_in n) (Ok text) held rose told
   load-answers n (Err s) told = past-passes (loaded saw_in n) (Err s) held rose told
+
+-- what is gathered in the language of the words is what they ask for
+pub gather-answers : (w : RunWords) (lang : Lang) (held : Option Held) (rose : Type 0) (result : Result Gathered Stop) → w.lang ≡ lang
+    → PassesAs IsGathered (of_gathered (source_in lang) (takes_more lang) w) held rose result
+    → PassesAs IsGathered (of_gathered (source_in w.lang) (takes_more w.lang) w) held rose result
+gather-answers w lang held rose result is passed =
+    subst (λ (l : Lang). PassesAs IsGathered (of_gathered (source_in l) (takes_more l) w) held rose result) (sym is) passed

@@ -1,5 +1,5 @@
 -- The status that a verdict has.
-use Rattle.std.proofs.Common.{◌≡◌, ℕ, IfSome}
+use Rattle.std.proofs.Common.{ℕ, IfSome}
 use Rattle.std.specs.Prelude.{Option, None, Some}
 use Rattle.river_outside.specs.Held.{Held}
 use Rattle.river_order.specs.Order.{Order, Verdict, IsVerdict, verdict}

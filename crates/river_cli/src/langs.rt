@@ -15,11 +15,7 @@ use river_road::{Gathered, gather_run, mean, show};
 use std::alloc::Global;
 
 /// What is to be run for the words of `run`.
-pub fn gather_in<S: Shelf>(
-    alloc: Global,
-    words: &RunWords,
-    shelf: &mut S,
-) -> Result<Gathered, Stop>
+pub fn gather_in<S: Shelf>(alloc: Global, words: &RunWords, shelf: &mut S) -> Result<Gathered, Stop>
     ensures later { S.faults shelf.old ≤ S.faults shelf.new }
     ensures passes { PassesAs IsGathered (of_gathered (source_in words.now.lang) (takes_more words.now.lang) words.now) (S.held shelf.old)
         (Rose S.stays_at_last (S.faults shelf.old) (S.faults shelf.new)) result }

@@ -35,7 +35,7 @@ pub fn decide<R: Threads + Sync, S: Shelf, G: Gate + Sync>(
     shelf: &mut S,
     gate: &G,
 ) -> Result<Bytes, Stop>
-    requires { (command : Command) → command_of words.now ≡ Some command → is_live command ≡ false }
+    requires now { (command : Command) → command_of words.now ≡ Some command → is_live command ≡ false }
     ensures later { S.faults shelf.old ≤ S.faults shelf.new }
     ensures unread { IsErrOf result Stop.Usage → shelf.new ≡ shelf.old }
     ensures decided { Decides (points_of words.now) (S.held shelf.old) (Rose S.stays_at_last (S.faults shelf.old) (S.faults shelf.new)) result }
@@ -55,7 +55,7 @@ fn answered<R: Threads + Sync, S: Shelf, G: Gate + Sync>(
     shelf: &mut S,
     gate: &G,
 ) -> Result<Bytes, Stop>
-    requires { is_live command.now ≡ false }
+    requires now { is_live command.now ≡ false }
     ensures later { S.faults shelf.old ≤ S.faults shelf.new }
     ensures passes { Passes (of_command command.now) (S.held shelf.old) (Rose S.stays_at_last (S.faults shelf.old) (S.faults shelf.new)) result }
 {
@@ -82,7 +82,7 @@ fn run<R: Threads + Sync, S: Shelf, G: Gate + Sync>(
     shelf: &mut S,
     gate: &G,
 ) -> Result<Bytes, Stop>
-    requires { by_tasks words.now.by ≡ false }
+    requires now { by_tasks words.now.by ≡ false }
     ensures later { S.faults shelf.old ≤ S.faults shelf.new }
     ensures passes { Passes (of_run (source_in words.now.lang) (takes_more words.now.lang) words.now) (S.held shelf.old)
         (Rose S.stays_at_last (S.faults shelf.old) (S.faults shelf.new)) result }

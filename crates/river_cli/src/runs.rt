@@ -23,11 +23,20 @@ pub fn run_by_workers<R: Threads + Sync, G: Gate + Sync>(
     counted: bool,
     gate: &G,
 ) -> Result<Bytes, NoMemory>
-    requires { IsReady gathered }
+    requires ready { IsReady gathered }
     ensures { IfOk result (λ text. (s : Supplied) → IsGathered s gathered → text ≡ printed_for counted s) }
 {
     let Gathered { plan, caps, inputs } = gathered;
-    let ran = run_plan(rt, alloc, &plan, inputs, workers.get(), cap.get(), &caps, gate)?;
+    let ran = run_plan(
+        rt,
+        alloc,
+        &plan,
+        inputs,
+        workers.get(),
+        cap.get(),
+        &caps,
+        gate,
+    )?;
     print_outcome(alloc, &plan, ran.outcome(), counted)
 }
 
@@ -40,7 +49,7 @@ pub fn run_by_tasks<R: Threads + Wait + Sync, G: Gate + Sync>(
     counted: bool,
     gate: &G,
 ) -> Result<Bytes, NoMemory>
-    requires { IsReady gathered }
+    requires ready { IsReady gathered }
     ensures { IfOk result (λ text. (s : Supplied) → IsGathered s gathered → text ≡ printed_for counted s) }
 {
     let Gathered { plan, caps, inputs } = gathered;

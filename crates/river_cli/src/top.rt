@@ -26,7 +26,7 @@ pub fn river_now<R: Threads + Sync, S: Shelf, O: Sink, E: Sink, G: Gate + Sync>(
     err: &mut E,
     gate: &G,
 ) -> u8
-    requires { (command : Command) → command_of words.now ≡ Some command → is_live command ≡ false }
+    requires now { (command : Command) → command_of words.now ≡ Some command → is_live command ≡ false }
     ensures { Does (points_of words.now) (S.held shelf.old) (shelf.new ≡ shelf.old) (Rose S.stays_at_last (S.faults shelf.old) (S.faults shelf.new))
         (O.taken out.old) (O.taken out.new) (Rose O.stays_at_last (O.faults out.old) (O.faults out.new))
         (E.taken err.old) (E.taken err.new) (Rose E.stays_at_last (E.faults err.old) (E.faults err.new)) result }

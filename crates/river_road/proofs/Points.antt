@@ -1,5 +1,5 @@
 -- The points of what a command does, and the calls that do them.
-use Rattle.std.proofs.Common.{◌≡◌, ℕ, List, Bool, false, refl, sym, subst}
+use Rattle.std.proofs.Common.{◌≡◌, ℕ, List, Bool, false, sym, subst}
 use Rattle.std.specs.Prelude.{Option, Some, Result, Ok, Err}
 use Rattle.river_outside.specs.Held.{Held}
 use Rattle.river_order.specs.Order.{Order, Fetch, Comes}

@@ -4,7 +4,7 @@ use Rattle.std.specs.Prelude.{Option, Some, None, Result, Ok, Err}
 use Rattle.river_outside.specs.Held.{Held}
 use Rattle.river_order.specs.Order.{Order, Fetch, Comes}
 use Rattle.river_order.specs.Decides.{Stops}
-use Rattle.river_order.specs.Passes.{past, RefusesPoint, StandsFor, AnswersAs, Passes, PassesAs}
+use Rattle.river_order.specs.Passes.{past, RefusesPoint, StandsFor, AnswersAs, PassesAs}
 use Rattle.river_order.specs.declared.stop.Stop.{Stop}
 use Rattle.river_order.proofs.Comes.{Comes-same, Comes-on}
 use Rattle.river_order.proofs.Passes.{past-refused}

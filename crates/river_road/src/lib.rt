@@ -7,7 +7,6 @@
 mod content;
 mod fetched;
 mod gather;
-
 mod gathered;
 mod gathering;
 mod item_lists;
@@ -23,8 +22,8 @@ mod text;
 
 pub use content::Content;
 pub use gather::gather as gather_contents;
-pub use gathering::gather_run;
 pub use gathered::Gathered;
+pub use gathering::gather_run;
 pub use item_lists::inputs_of;
 pub use language::{Compiled, Language};
 pub use layout::Layout;

@@ -48,12 +48,7 @@ fn load_compiled<L: Language>(alloc: Global) -> Result<Compiled<L::Program>, Sto
 }
 
 // The plan that the script makes of this one, over the records.
-fn load_scripted(
-    alloc: Global,
-    number: u32,
-    plan: &Plan,
-    caps: Caps,
-) -> Result<Gathered, Stop>
+fn load_scripted(alloc: Global, number: u32, plan: &Plan, caps: Caps) -> Result<Gathered, Stop>
     ensures { (source : SourceProgram) → IsPlanned caps source plan.now
         → AnswersAs IsGathered (scripted_supplied number source) result }
 {

@@ -89,11 +89,7 @@ pub(crate) fn compiled<L: Language, S: Shelf>(
 }
 
 /// The text of a program is fetched.
-pub fn fetch_program<S: Shelf>(
-    alloc: Global,
-    file: &Text,
-    shelf: &mut S,
-) -> Result<Bytes, Stop>
+pub fn fetch_program<S: Shelf>(alloc: Global, file: &Text, shelf: &mut S) -> Result<Bytes, Stop>
     ensures stays { S.held shelf.new ≡ S.held shelf.old }
     ensures later { S.faults shelf.old ≤ S.faults shelf.new }
     ensures within { IfOk result (λ text. length text ≤ most_program) }
@@ -141,12 +137,7 @@ pub(crate) fn scripted<S: Shelf>(
 }
 
 // The script is fetched and applied.
-fn rewritten<S: Shelf>(
-    alloc: Global,
-    file: &[u8],
-    plan: &Plan,
-    shelf: &mut S,
-) -> Result<Plan, Stop>
+fn rewritten<S: Shelf>(alloc: Global, file: &[u8], plan: &Plan, shelf: &mut S) -> Result<Plan, Stop>
     ensures stays { S.held shelf.new ≡ S.held shelf.old }
     ensures later { S.faults shelf.old ≤ S.faults shelf.new }
     ensures passes { (caps : List Cap) (source : SourceProgram) → IsPlanned caps source plan.now

@@ -4,8 +4,8 @@ use Rattle.river_cli.specs.Points.{points_of, of_command}
 use Rattle.river_cli.proofs.Points.{command-decides, never-usage}
 use Rattle.river_cli.proofs.road.decide.Goals as goal
 
-pub answered-requires : goal.answered-requires
-answered-requires g c = c.requires c.in-Ok.command c.in-Ok.ensures.ok
+pub answered-requires-clause-now : goal.answered-requires-clause-now
+answered-requires-clause-now g c = λ _ _. c.requires.now c.in-Ok.command c.in-Ok.ensures.ok
 
 pub returns-in-Ok-clause-decided : goal.returns-in-Ok-clause-decided
 unfolding points_of

@@ -8,8 +8,8 @@ use Rattle.river_road.proofs.Loaded.{then-refused, loaded-printed}
 use Rattle.river_road.proofs.Supplied.{found-ready}
 use Rattle.river_cli.proofs.road.load.Goals as goal
 
-pub run_by_workers-requires : goal.run_by_workers-requires
-run_by_workers-requires g c = found-ready (load_supplied saw_in c.args.number) c.in_ok-gathered.gathered c.in_ok-gathered.ensures
+pub run_by_workers-requires-clause-ready : goal.run_by_workers-requires-clause-ready
+run_by_workers-requires-clause-ready g c = λ _ _. found-ready (load_supplied saw_in c.args.number) c.in_ok-gathered.gathered c.in_ok-gathered.ensures
 
 pub returns-in_err-gathered : goal.returns-in_err-gathered
 returns-in_err-gathered g c =

@@ -6,8 +6,8 @@ use Rattle.river_road.proofs.Points.{printed-passes}
 use Rattle.river_cli.specs.Points.{source_in, takes_more}
 use Rattle.river_cli.proofs.road.run_waiting.Goals as goal
 
-pub run_by_tasks-requires : goal.run_by_tasks-requires
-run_by_tasks-requires g c = (c.in_ok-gathered.ensures.passes.0, c.in_ok-gathered.ensures.passes.1)
+pub run_by_tasks-requires-clause-ready : goal.run_by_tasks-requires-clause-ready
+run_by_tasks-requires-clause-ready g c = λ _ _. (c.in_ok-gathered.ensures.passes.0, c.in_ok-gathered.ensures.passes.1)
 
 pub returns-in_err-gathered-clause-passes : goal.returns-in_err-gathered-clause-passes
 returns-in_err-gathered-clause-passes g c =

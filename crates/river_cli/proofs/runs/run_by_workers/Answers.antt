@@ -1,4 +1,4 @@
-use Rattle.std.proofs.Common.{◌≡◌, ◌∙◌, List, map, ap, length}
+use Rattle.std.proofs.Common.{◌∙◌, map, ap, length}
 use Rattle.std.proofs.lemmas.List.{length-map}
 use Rattle.kern_tables.specs.Kept.{kept_of, rows_of}
 use Rattle.river_plan.specs.Forms.{decl_names}
@@ -9,10 +9,10 @@ use Rattle.river_road.proofs.Supplied.{ready-fits, ready-capped}
 use Rattle.river_cli.proofs.runs.run_by_workers.Goals as goal
 
 pub run_plan-requires-clause-fits : goal.run_plan-requires-clause-fits
-run_plan-requires-clause-fits g c = λ _ _. ready-fits c.args.gathered c.requires
+run_plan-requires-clause-fits g c = λ _ _. ready-fits c.args.gathered c.requires.ready
 
 pub run_plan-requires-clause-caps : goal.run_plan-requires-clause-caps
-run_plan-requires-clause-caps g c = λ _ _. ready-capped c.args.gathered c.requires
+run_plan-requires-clause-caps g c = λ _ _. ready-capped c.args.gathered c.requires.ready
 
 pub print_outcome-requires-clause-outs : goal.print_outcome-requires-clause-outs
 print_outcome-requires-clause-outs g c =
