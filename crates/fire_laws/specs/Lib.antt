@@ -1,3 +1,4 @@
 pub mod Facts
 pub mod Joins
 pub mod Layout
+pub mod Steps

@@ -5,6 +5,7 @@ use Rattle.std.proofs.lemmas.Option.{get_or_from_slice_get, slice_get-get_or}
 use Rattle.river_base.specs.declared.item.Item as item
 use Rattle.river_plan.specs.Forms.{PlanForm}
 use Rattle.brooklet_model.specs.Fire.{first_kept}
+use Rattle.brooklet_model.specs.Words.{Word}
 use Rattle.brooklet_step.specs.Given.{FitState, StandsAfter}
 use Rattle.brooklet_step.specs.Took.{IsBlank}
 use Rattle.fire_tasks.specs.Fired.{SeenTask, HasFired, kinds_in}
@@ -17,7 +18,7 @@ use Rattle.fire_tasks.specs.Ports.{in_end, out_end, in_ends, out_ends, sent_in, 
 use Rattle.river_rings.specs.Ends.{RingId}
 use Rattle.fire_laws.specs.Layout.{IsLink, IsPair, IsInput, AreTasks}
 use Rattle.fire_tasks.specs.Adds.{AreHomes}
-use Rattle.fire_tasks.specs.Tasks.{TaskEnds, IsTask, ends_of, all_ends, moves, all_moves, seen_task}
+use Rattle.fire_tasks.specs.Tasks.{HasWord, TaskEnds, IsTask, ends_of, all_ends, moves, all_moves, seen_task}
 use Rattle.fire_tasks.proofs.PortLemmas.{count_same}
 use Rattle.fire_open.specs.Still.{Still, still}
 use Rattle.fire_open.proofs.Lists.{same_got, map_through, map_long}
@@ -55,6 +56,11 @@ still_task p adds t t' e k =
             λ w a h. subst (λ x. StandsAfter k.op.kernel (kinds_in p k.op) (first_kept k.op.kernel) x w) (sym st) (k.stands.after w a h);
       };
     }
+
+-- and what it fired on
+pub still_word : (p : PlanForm) (adds : ℕ → List (List ℤ)) (t t' : Task) (w : Word) → still t' ≡ still t → HasWord p adds t w → HasWord p adds t' w
+unfolding still_task
+still_word p adds t t' w e k = record { task = still_task p adds t t' e k.task; word = k.word }
 
 -- and keep their facts
 pub still_tasks : (p : PlanForm) (adds : ℕ → ℕ → List (List ℤ)) (ts ts' : List Task) → map still ts' ≡ map still ts → AreTasks p adds ts → AreTasks p adds ts'

@@ -9,8 +9,8 @@ mod settling;
 mod tasks;
 
 pub use cells::cells_of;
-pub use homes::{Places, homes_of, table_classes};
+pub use homes::{Places, table_classes};
 pub use links::links_of;
 pub use rings::put_rings;
-pub use settling::{Link, meet, settle_all, settle_one};
+pub use settling::{Link, settle_all};
 pub use tasks::tasks_of;

@@ -19,8 +19,8 @@ pub struct Link {
     pub port: usize,
 }
 
-/// The two ends of a ring look.
-pub fn meet(outlet: &mut Outlet, inlet: &mut Inlet)
+// The two ends of a ring look.
+fn meet(outlet: &mut Outlet, inlet: &mut Inlet)
     requires { IsPair outlet.old inlet.old }
     ensures settled { IsSettled outlet.new inlet.new }
     ensures outlet { (out_end outlet.new ≡ out_end outlet.old) × (sent_of outlet.new ≡ sent_of outlet.old) }
@@ -35,8 +35,8 @@ pub fn meet(outlet: &mut Outlet, inlet: &mut Inlet)
     }
 }
 
-/// The two ends of the ring of a link look.
-pub fn settle_one(tasks: &mut Listed<Task>, link: Link)
+// The two ends of the ring of a link look.
+fn settle_one(tasks: &mut Listed<Task>, link: Link)
     requires order { link.writer < link.reader }
     requires reader { link.reader < length tasks.old }
     requires out { (d : _) → link.out < length (slice_index_or tasks.old link.writer d).outs }

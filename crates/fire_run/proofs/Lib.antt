@@ -1,6 +1,8 @@
+pub mod BoundedMoves
 pub mod CellLemmas
 pub mod CloseLemmas
 pub mod GatherLemmas
+pub mod GoingOn
 pub mod JoinNet
 pub mod MoveLemmas
 pub mod OneMoves

@@ -1,6 +1,6 @@
 -- What one move is.
-use Rattle.std.proofs.Common.{◌≡◌, ℕ, zero, suc, ◌+◌, ◌<◌, List, [], ◌∷◌, length, map, refl, sym, ap, ◌∙◌, arith, subst, length-append, Some, inl, inr, ⊎_elim, get_or, set}
-use Rattle.std.specs.Prelude.{None, slice_get}
+use Rattle.std.proofs.Common.{◌≡◌, ℕ, ℤ, ◌++◌, zero, suc, ◌+◌, ◌<◌, List, [], ◌∷◌, length, map, refl, sym, ap, ◌∙◌, arith, subst, length-append, Some, inl, inr, ⊎_elim, get_or, set}
+use Rattle.std.specs.Prelude.{None, replicate, slice_get}
 use Rattle.std.proofs.lemmas.List.{get_or-set_same, get_or_default}
 use Rattle.std.proofs.lemmas.Option.{slice_get-get_or}
 use Rattle.river_base.specs.declared.item.Item as item
@@ -13,10 +13,11 @@ use Rattle.class_locks.specs.Logs.{Holding}
 use Rattle.fire_tasks.specs.declared.ports.Inlet as inlet
 use Rattle.fire_tasks.specs.declared.task.Task.{Task}
 use Rattle.fire_tasks.specs.Ports.{IsIdle, in_ends, received_in, sent_in}
-use Rattle.fire_tasks.specs.Tasks.{all_ends}
+use Rattle.fire_tasks.specs.Adds.{added, logs_of}
+use Rattle.fire_tasks.specs.Tasks.{HasWord, all_ends}
 use Rattle.fire_tasks.proofs.BundleLemmas.{ends_many}
 use Rattle.fire_tasks.specs.Turns.{HasFiredAt, logged}
-use Rattle.fire_tasks.proofs.PassLemmas.{with_ins}
+use Rattle.fire_tasks.proofs.PassLemmas.{looked_task, looked_word, with_ins}
 use Rattle.fire_tasks.proofs.PortLemmas.{ins_many}
 use Rattle.fire_open.specs.Still.{Still, still}
 use Rattle.fire_run.specs.Cells.{cells_grown}
@@ -26,12 +27,15 @@ use Rattle.fire_run.specs.declared.net.Net.{Net}
 use Rattle.fire_run.specs.NetOf.{AreIdle, IsNetOf}
 use Rattle.fire_run.proofs.Standing.{can_send}
 use Rattle.fire_run.proofs.TakenFronts.{front_taken, sents}
+use Rattle.fire_run.specs.Rows.{CanAddTo}
 use Rattle.fire_run.proofs.MoveLemmas.{Walked, walked_long}
+use Rattle.fire_run.proofs.RowLemmas.{word_after}
 
 -- a take, whose rows came to the cells
-pub takes_at : (p : PlanForm) (t t1 : Task) (cells cells' : List Holding) → IsIdle t.pending → HasFiredAt p t t1
-    → cells' ≡ cells_grown (logged t.op t1.classes t1.tables (list_at t1.out.adds)) 0 cells → Takes p t t1 cells cells'
-takes_at p t t1 cells cells' i f e = record {
+pub takes_at : (p : PlanForm) (t t1 : Task) (adds' : List (List (List ℤ))) (cells cells' : List Holding) → IsPlan p → IsIdle t.pending → HasFiredAt p t t1
+    → CanAddTo t1.tables t1.classes (list_at t1.out.adds) cells → cells' ≡ cells_grown (logged t.op t1.classes t1.tables (list_at t1.out.adds)) 0 cells
+    → adds' ≡ replicate (length t1.out.adds) [] → Takes p t (record t1 { out = record { outs = t1.out.outs; adds = adds' } }) cells cells'
+takes_at p t t1 adds' cells cells' v i f can e b = record {
   idle = i;
   port = f.did.port;
   item = f.did.item;
@@ -45,6 +49,7 @@ takes_at p t t1 cells cells' i f e = record {
       ∙ ap (λ cs. cells_grown (logged t.op cs t1.tables (list_at t1.out.adds)) 0 cells) f.homes.1
       ∙ ap (λ hs. cells_grown (logged t.op t.classes hs (list_at t1.out.adds)) 0 cells) f.homes.0
       ∙ ap (λ a. cells_grown (logged t.op t.classes t.tables (list_at a)) 0 cells) (f.did.rows none);
+  word = λ none k. word_after p v t t1 cells cells' k f can e adds' b none;
 }
 
 -- after a look
@@ -61,6 +66,8 @@ takes_looked p t t' ins cells cells' e r h = record {
   fired = h.fired;
   pends = h.pends;
   logs = h.logs;
+  word = λ none k. subst (λ w. HasWord p (added p (logs_of cells') t.op) t' (w ++ (h.port, h.item) ∷ [])) (looked_word p (added p (logs_of cells) t.op) t ins k e r)
+      (h.word none (looked_task p (added p (logs_of cells) t.op) t ins k e r));
 }
 
 still_set : (ts : List Task) (i : ℕ) (t : Task) → map still (set ts i t) ≡ set (map still ts) i (still t)

@@ -4,7 +4,7 @@ use Rattle.std.specs.Prelude.{All, true, false}
 use Rattle.river_plan.specs.Forms.{plan_form}
 use Rattle.river_plan.specs.declared.plan.RawPlan.{RawPlan}
 use Rattle.class_locks.specs.Seats.{TableId}
-use Rattle.fire_tasks.specs.Bundles.{HasMadeRound, IsReady}
+use Rattle.fire_tasks.specs.Bundles.{HasGone, HasMadeRound, IsReady}
 use Rattle.fire_tasks.specs.declared.bundle.Bundle.{Bundle}
 use Rattle.fire_run.specs.Frames.{AreBundlesOf, AreCalm, AreSeatedIn, Framed, HasToldMoves, HaveWorked, SitsAt, bundle_moves}
 
@@ -88,6 +88,17 @@ round_stayed raw (b ∷ bs) (b' ∷ bs') w c s =
     let r = round_stayed raw bs bs' (rest_worked raw b b' bs bs' w) (rest_calm b' bs' c) (λ k d lt. s (suc k) d (omega (arith, lt))) in
     omega (arith, n, r)
 
+-- port by port of each task
+pub round_each : (raw : RawPlan) (bs bs' : List Bundle) → HaveWorked raw bs bs' → AreCalm bs' → (i : ℕ) (d : Bundle) → i < length bs
+    → HasGone (get_or bs i d) (get_or bs' i d) (get_or bs' i d).moved
+round_each raw bs bs' w c i d lt = (w.each i d lt).went (c i d (let m = w.many in omega (arith, m, lt)))
+
 -- so they tell whether anything moved
 pub round_told : (raw : RawPlan) (bs bs' : List Bundle) → HaveWorked raw bs bs' → AreCalm bs' → HasToldMoves bs bs'
-round_told raw bs bs' w c = record { never_fall = round_falls raw bs bs' w c; grew = round_grew raw bs bs' w c; stayed = round_stayed raw bs bs' w c }
+round_told raw bs bs' w c = record {
+  each = round_each raw bs bs' w c;
+  ended = λ i d lt. (w.each i d lt).ended (c i d (let m = w.many in omega (arith, m, lt)));
+  never_fall = round_falls raw bs bs' w c;
+  grew = round_grew raw bs bs' w c;
+  stayed = round_stayed raw bs bs' w c;
+}

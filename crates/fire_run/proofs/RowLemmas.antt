@@ -1,5 +1,5 @@
 -- The rows of a firing come to the logs of the cells.
-use Rattle.std.proofs.Common.{◌≡◌, ◌≢◌, ℕ, ℤ, zero, suc, ◌+◌, ◌<◌, ◌≤◌, ◌==◌, Bool, true, false, Some, List, [], ◌∷◌, ◌++◌, length, take, take-suc, refl, sym, ap, ◌∙◌, subst, arith, ⊎_elim, append_assoc, eq-eqb}
+use Rattle.std.proofs.Common.{◌≡◌, ◌≢◌, ℕ, ℤ, zero, suc, ◌+◌, ◌<◌, ◌≤◌, ◌==◌, Bool, true, false, Some, List, [], ◌∷◌, ◌++◌, length, take, take-suc, refl, sym, ap, ◌∙◌, subst, arith, ⊎_elim, append_assoc, eq-eqb, None}
 use Rattle.std.specs.Prelude.{All, nat_eq, slice_get, slice_index_or, replicate, if◌then◌else◌}
 use Rattle.std.proofs.lemmas.Bool.{cases_lt}
 use Rattle.std.proofs.lemmas.List.{append-nil}
@@ -16,10 +16,10 @@ use Rattle.class_locks.specs.Logs.{Holding, HasKind, TakesRows}
 use Rattle.fire_tasks.specs.declared.task.Task.{Task}
 use Rattle.fire_tasks.specs.declared.task.TablePort.{TablePort}
 use Rattle.fire_tasks.specs.Adds.{AreHomes, IsEntryOf, added, logs_of, table_class}
-use Rattle.fire_tasks.specs.Tasks.{IsTask}
+use Rattle.fire_tasks.specs.Tasks.{HasWord, IsTask}
 use Rattle.fire_tasks.specs.Turns.{AreRowsFor, HasFiredAt, Owes, entries_for, logged, without_rows}
 use Rattle.fire_tasks.proofs.AddLemmas.{added_else, added_more, entries_logged, logged_more, logged_none, logged_own}
-use Rattle.fire_tasks.proofs.TaskLemmas.{with_adds, tables_many}
+use Rattle.fire_tasks.proofs.TaskLemmas.{with_adds, with_adds_word, tables_many}
 use Rattle.fire_open.specs.Homes.{AreClassCells, kinds_from}
 use Rattle.fire_run.specs.Cells.{HaveAdded, cells_grown}
 use Rattle.fire_run.specs.Rows.{CanAddTo, cells_with_rows}
@@ -233,6 +233,19 @@ module _ (p : PlanForm) (v : IsPlan p) (t t1 : Task) (cells0 cells : List Holdin
       let m = tables_many p v (without_rows t1) (λ i. added p (logs_of cells0) t.op i ++ list_at t1.out.adds i) owes.task in
       let h = there_is t1.tables j (omega (arith, m, lt)) in
       added_more p v t.op k.op k.op_is t1.tables t1.classes homes (logs_of cells0) (logs_of cells) (list_at t1.out.adds) logs j h.0 h.1))
+
+  -- and it fired on that item behind all before
+  pub word_after : (adds : List (List (List ℤ))) → adds ≡ replicate (length t1.out.adds) [] → t1.bad ≡ None
+      → HasWord p (added p (logs_of cells) t.op) (record t1 { out = record { outs = t1.out.outs; adds = adds } }) (k.word ++ (f.did.port, f.did.item) ∷ [])
+  unfolding homes logs
+  word_after adds b none =
+      let w = k.word ++ (f.did.port, f.did.item) ∷ [] in
+      let h = f.word none (added p (logs_of cells0) t.op) k in
+      subst (λ a. HasWord p (added p (logs_of cells) t.op) (record t1 { out = record { outs = t1.out.outs; adds = a } }) w) (sym b)
+      (with_adds_word p (λ j. added p (logs_of cells0) t.op j ++ list_at t1.out.adds j) (added p (logs_of cells) t.op) (without_rows t1) w h (λ j lt.
+      let m = tables_many p v (without_rows t1) (λ i. added p (logs_of cells0) t.op i ++ list_at t1.out.adds i) h.task in
+      let x = there_is t1.tables j (omega (arith, m, lt)) in
+      added_more p v t.op k.op k.op_is t1.tables t1.classes homes (logs_of cells0) (logs_of cells) (list_at t1.out.adds) logs j x.0 x.1))
 
   -- what came to the cells is the operator's
   pub added_after : HaveAdded p t.op cells0 cells

@@ -9,6 +9,8 @@ use Rattle.kern_tables.specs.Kept.{kept_of, rows_of}
 use Rattle.river_plan.specs.Forms.{Name, OpForm, PlanForm, queue_names}
 use Rattle.river_plan.specs.Places.{place}
 use Rattle.river_plan.specs.declared.plan.TableDecl.{TableDecl}
+use Rattle.river_plan.specs.Valid.{IsPlan}
+use Rattle.brooklet_model.specs.Bounded.{Capacities}
 use Rattle.brooklet_model.specs.Fire.{tabs}
 use Rattle.brooklet_model.specs.Histories.{History, hist, given_on, firings, lengths}
 use Rattle.brooklet_model.specs.Meaning.{meaning}
@@ -23,8 +25,7 @@ use Rattle.fire_laws.specs.Layout.{IsStored}
 use Rattle.fire_open.specs.Homes.{kinds_from}
 use Rattle.fire_open.specs.Sources.{ComesBefore}
 use Rattle.fire_run.specs.declared.closing.Ran.{Ran}
-use Rattle.fire_run.specs.declared.net.Net.{Net}
-use Rattle.fire_run.specs.NetOf.{HasNetOf, AreIdle}
+use Rattle.fire_run.specs.NetOf.{HasNetAt, AreIdle}
 
 -- WHAT A RUN LEAVES
 
@@ -63,12 +64,13 @@ pub record IsRanOf (p : PlanForm) (inputs : List (List item.Item)) (ran : Ran) :
 abbrev pub AreLogsIn : List Holding → List (Vec LogEntry Global) → Type 0
 AreLogsIn cells logs = map (λ (l : Vec LogEntry Global). l.items) logs ≡ map (λ (x : Holding). x.log) cells
 
--- a net of this plan and these inputs came to its end, and what was run has its logs
-pub record HasClosed (p : PlanForm) (inputs : List (List item.Item)) (ran : Ran) : Type 0 where
-  pub net : Net
-  pub has : HasNetOf p inputs net
-  pub idle : AreIdle net.tasks
-  pub logs : AreLogsIn net.cells ran.logs
+-- the net that was closed is one of this plan, these inputs and these capacities, queue by queue, and it came to its end; what was run has
+-- its logs
+pub record HasClosed (p : PlanForm) (inputs : List (List item.Item)) (caps : Capacities) (ran : Ran) : Type 0 where
+  pub valid : IsPlan p
+  pub has : HasNetAt p inputs caps ran.net.value
+  pub idle : AreIdle ran.net.value.tasks
+  pub logs : AreLogsIn ran.net.value.cells ran.logs
 
 -- OUTPUTS
 

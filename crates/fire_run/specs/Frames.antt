@@ -9,7 +9,7 @@ use Rattle.class_locks.specs.Seats.{Chair, TableId, with_parts}
 use Rattle.class_locks.specs.Views.{own}
 use Rattle.fire_tasks.specs.declared.bundle.Bundle.{Bundle}
 use Rattle.fire_tasks.specs.declared.task.Task.{Task}
-use Rattle.fire_tasks.specs.Bundles.{IsBundle, HasMadeRound}
+use Rattle.fire_tasks.specs.Bundles.{IsBundle, HasEnded, HasGone, HasMadeRound}
 use Rattle.fire_tasks.specs.Tasks.{TaskEnds, all_ends, all_moves}
 use Rattle.fire_open.specs.Still.{still}
 use Rattle.fire_run.specs.declared.net.Net.{Net}
@@ -97,9 +97,12 @@ pub record HaveWorked (raw : RawPlan) (bundles bundles' : List Bundle) : Type 0 
 abbrev pub AreCalm : List Bundle → Type 0
 AreCalm bundles = All (λ b. b.refused ≡ false) bundles
 
--- the items that the tasks of bundles took and sent do not become fewer; they become
--- more where one says that it moved, and stay where none does
+-- the items that the tasks of bundles took and sent do not become fewer; they become more where one says that it moved, and stay where none
+-- does. So it is port by port of each task, and each bundle's round has a cause for its end
 pub record HasToldMoves (bundles bundles' : List Bundle) : Type 0 where
+  pub each : (i : ℕ) (d : Bundle) → i < length bundles
+      → HasGone (slice_index_or bundles i d) (slice_index_or bundles' i d) (slice_index_or bundles' i d).moved
+  pub ended : (i : ℕ) (d : Bundle) → i < length bundles → HasEnded (slice_index_or bundles i d) (slice_index_or bundles' i d)
   pub never_fall : bundle_moves bundles ≤ bundle_moves bundles'
   pub grew : (i : ℕ) (d : Bundle) → i < length bundles' → (slice_index_or bundles' i d).moved ≡ true → bundle_moves bundles < bundle_moves bundles'
   pub stayed : All (λ b. b.moved ≡ false) bundles' → bundle_moves bundles' ≡ bundle_moves bundles

@@ -2,7 +2,6 @@
 use Rattle.std.specs.Prelude.{◌≡◌, ℕ, ◌+◌, ◌<◌, Bool, false, IsTrue, IsFalse, List, length, slice_index_or}
 use Rattle.river_base.specs.declared.item.Item as item
 use Rattle.river_plan.specs.Forms.{PlanForm, Name}
-use Rattle.river_plan.specs.Valid.{IsPlan}
 use Rattle.brooklet_model.specs.Bounded.{Capacities}
 use Rattle.brooklet_model.specs.Typed.{AreInputs}
 use Rattle.fire_tasks.specs.declared.task.Task.{Task}
@@ -30,13 +29,6 @@ pub record IsNetOf (p : PlanForm) (inputs : List (List item.Item)) (caps : Capac
 pub record HasNet (p : PlanForm) (net : Net) : Type 0 where
   pub fine : net.refused ≡ false
   pub inputs : List (List item.Item)
-  pub caps : Capacities
-  pub is : IsNetOf p inputs caps net
-
--- and of these inputs
-pub record HasNetOf (p : PlanForm) (inputs : List (List item.Item)) (net : Net) : Type 0 where
-  pub valid : IsPlan p
-  pub fine : net.refused ≡ false
   pub caps : Capacities
   pub is : IsNetOf p inputs caps net
 

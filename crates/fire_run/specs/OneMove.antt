@@ -1,5 +1,5 @@
 -- One move of a net: a send or a take of the bounded state, in the items that its queues hold. A port stands for its queue.
-use Rattle.std.specs.Prelude.{◌≡◌, ℕ, ◌<◌, ◌⊎◌, None, List, ◌∷◌, [], length, map, slice_index_or, slice_set}
+use Rattle.std.specs.Prelude.{◌≡◌, ℕ, ℤ, ◌<◌, ◌⊎◌, None, List, ◌∷◌, ◌++◌, [], length, map, slice_index_or, slice_set}
 use mathlib.Core.List.{reverse}
 use Rattle.river_base.specs.Places.{append_at, list_at}
 use Rattle.river_base.specs.declared.item.Item as item
@@ -11,22 +11,25 @@ use Rattle.fire_tasks.specs.declared.ports.Inlet as inlet
 use Rattle.fire_tasks.specs.declared.ports.Outlet as outlet
 use Rattle.fire_tasks.specs.declared.task.Task.{Task}
 use Rattle.fire_tasks.specs.Ports.{HasRoom, HasSentFront, IsIdle, known_of, received_in}
-use Rattle.fire_tasks.specs.Tasks.{IsDone}
+use Rattle.fire_tasks.specs.Adds.{added, logs_of}
+use Rattle.fire_tasks.specs.Tasks.{HasWord, IsDone, IsTask}
 use Rattle.fire_tasks.specs.Turns.{logged}
 use Rattle.fire_open.specs.Still.{still}
 use Rattle.fire_run.specs.Cells.{cells_grown}
 
--- a send: the front of what is pending at a port goes to what was sent there, where its ring has room; all else of the task stays
+-- a send: the front of what is pending at a port goes to what was sent there, where its ring has room; all else of the task stays, and
+-- what it fired on
 pub record Sends (t t' : Task) : Type 0 where
   pub port : ℕ
   pub there : port < length t.pending
   pub room : (d : outlet.Outlet) → HasRoom (slice_index_or t.outs port d)
   pub front : HasSentFront port t.outs t.pending t'.outs t'.pending
   pub stays : t' ≡ record t { outs = t'.outs; pending = t'.pending }
+  pub word : (p : PlanForm) (adds : ℕ → List (List ℤ)) (k : IsTask p adds t) → HasWord p adds t' k.word
 
 -- a take: nothing is pending at any port of the operator; it receives one item at a port, and fires on it. Its states and what is pending
--- afterwards are those of this firing, and its rows come to the logs, each to the class of its table; what was sent stays. An item that fails
--- its test there is none in a net
+-- afterwards are those of this firing, and its rows come to the logs, each to the class of its table; what was sent stays. It fired on that
+-- item behind all before. An item that fails its test there is none in a net
 pub record Takes (p : PlanForm) (t t' : Task) (cells cells' : List Holding) : Type 0 where
   pub idle : IsIdle t.pending
   pub port : ℕ
@@ -38,6 +41,8 @@ pub record Takes (p : PlanForm) (t t' : Task) (cells cells' : List Holding) : Ty
   pub fired : t'.bad ≡ None → FiredOp p t.op port item t.states t'.states out
   pub pends : t'.bad ≡ None → t'.pending ≡ map reverse out.outs
   pub logs : t'.bad ≡ None → cells' ≡ cells_grown (logged t.op t.classes t.tables (list_at out.adds)) 0 cells
+  pub word : t'.bad ≡ None → (k : IsTask p (added p (logs_of cells) t.op) t)
+      → HasWord p (added p (logs_of cells') t.op) t' (k.word ++ (port, item) ∷ [])
 
 -- one or the other; a send leaves the logs as they are
 abbrev pub Moves : PlanForm → Task → Task → List Holding → List Holding → Type 0

@@ -18,17 +18,19 @@ use river_base::{Listed, NoMemory, Numbers};
 use river_plan::Plan;
 use std::alloc::Global;
 use std::mem::replace;
+use std::snapshot::Snapshot;
 
 /// A log for each lock class, in the order of the classes: what was added to its tables, in order.
 pub type Logs = Listed<Vec<LogEntry>>;
 
 /// What a run of a plan gave: its outcome, the logs of the lock classes, and in how many rounds it
-/// came to its end.
+/// came to its end. Contracts also see the net that was closed.
 #[derive(Drop)]
 pub struct Ran {
     outcome: Outcome,
     logs: Logs,
     rounds: u64,
+    net: Snapshot<Net>,
 }
 
 impl Ran {
@@ -144,8 +146,10 @@ impl Net {
         requires rounds { rounds ≤ 1 + all_moves self.tasks }
         ensures ran { (inputs : _) (caps : _) → IsNetOf plan.now inputs caps self → IfOk result (IsRanOf plan.now inputs) }
         ensures rounds { IfOk result (λ ran. ran.rounds ≡ rounds) }
+        ensures net { IfOk result (λ ran. ran.net.value ≡ self) }
         ensures logs { IfOk result (λ ran. AreLogsIn self.cells ran.logs) }
     {
+        let net = Snapshot::of(&self);
         let Net {
             tasks,
             links: _,
@@ -162,6 +166,7 @@ impl Net {
             },
             logs,
             rounds,
+            net,
         })
     }
 }

@@ -4,15 +4,17 @@ ghost use Rattle.river_base.specs.Places.{list_at};
 ghost use Rattle.river_plan.specs.Forms.{plan_form};
 ghost use Rattle.river_plan.specs.Valid.{IsPlan};
 ghost use Rattle.fire_tasks.specs.Adds.{added, logs_of};
+ghost use Rattle.fire_tasks.specs.Bundles.{AllGoOn};
 ghost use Rattle.fire_tasks.specs.Ports.{IsIdle, known_of};
 ghost use Rattle.fire_tasks.specs.Tasks.{IsTask, IsDone, ends_of, all_ends, moves, all_moves};
 ghost use Rattle.fire_laws.specs.Layout.{AreTasks};
+ghost use Rattle.fire_laws.specs.Steps.{HasMovedState};
 ghost use Rattle.fire_open.specs.Homes.{AreClassCells};
 ghost use Rattle.fire_open.specs.Still.{still};
 ghost use Rattle.fire_run.specs.Cells.{AreSingle, HaveAdded, HaveMoved};
 ghost use Rattle.fire_run.specs.Moves.{CanSend, CanSendFrom};
 ghost use Rattle.fire_run.specs.OneMove.{LastMoved, MayHaveMoved, Moves, Sends, Takes};
-ghost use Rattle.fire_run.specs.NetOf.{HasNet, Stays, AreIdle, OneMore};
+ghost use Rattle.fire_run.specs.NetOf.{HasNet, IsNetOf, Stays, AreIdle, OneMore};
 
 use crate::adding::add_to_cells;
 use crate::net::Net;
@@ -192,11 +194,14 @@ impl Net {
         ensures stays { OnOk result (Stays plan.now self.old self.new) }
         ensures moved { IfOk result (OneMore (all_moves self.old.tasks) (all_moves self.new.tasks)) }
         ensures same { OnOk result (all_ends self.new.tasks ≡ all_ends self.old.tasks) }
+        ensures goes { OnOk result (AllGoOn self.old.tasks self.new.tasks) }
         ensures logs { OnOk result (HaveMoved plan.now self.old.cells self.new.cells) }
         ensures still { IfOk result (λ moved. IsFalse moved → map still self.new.tasks ≡ map still self.old.tasks) }
         ensures stay { IfOk result (λ moved. IsFalse moved → self.new.cells ≡ self.old.cells) }
         ensures idle { IfOk result (λ moved. IsFalse moved → AreIdle self.new.tasks) }
         ensures step { IfOk result (λ moved. IsTrue moved → LastMoved plan.now self.old.tasks self.new.tasks self.old.cells self.new.cells) }
+        ensures bounded { (inputs : _) (caps : _) → IsNetOf plan.now inputs caps self.old
+            → IfOk result (λ moved. IsTrue moved → HasMovedState plan.now inputs caps self.old.tasks self.new.tasks) }
         ensures busy { IfOk result (λ moved. IsTrue moved → AreIdle self.old.tasks → ⊥) }
         ensures refused { OnErr result (self.new.refused ≡ true) }
     {

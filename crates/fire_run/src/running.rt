@@ -1,14 +1,14 @@
 // Runs of a plan by workers.
-ghost use Rattle.std.specs.Prelude.{◌≡◌, ◌+◌, ◌<◌, ◌≤◌, ◌↔◌, All, false, IfOk, IsTrue, IsFalse};
-ghost use Rattle.river_plan.specs.Caps.{IsCap, AreCaps};
+ghost use Rattle.std.specs.Prelude.{◌≡◌, ◌+◌, ◌%◌, ◌<◌, ◌≤◌, ◌↔◌, ℕ, All, false, length, IfOk, IsTrue, IsFalse};
+ghost use Rattle.river_plan.specs.Caps.{IsCap, AreCaps, capacity, first_cap};
 ghost use Rattle.river_plan.specs.Valid.{IsPlan};
 ghost use Rattle.brooklet_model.specs.Fit.{Fit};
 ghost use Rattle.fire_tasks.specs.Bundles.{IsReady};
 ghost use Rattle.fire_tasks.specs.Tasks.{all_moves};
 ghost use Rattle.fire_run.specs.Closed.{HasClosed, IsRanOf};
-ghost use Rattle.fire_run.specs.Frames.{AreBundlesOf, AreCalm, HaveWorked};
+ghost use Rattle.fire_run.specs.Frames.{AreBundlesOf, AreCalm, AreDealt, HaveWorked};
 ghost use Rattle.fire_run.specs.NetOf.{HasNet, Stays};
-ghost use Rattle.fire_run.specs.Rounds.{NetGoesOn, HasJoined, SomeMoved};
+ghost use Rattle.fire_run.specs.Rounds.{NetGoesOn, HasJoined, OnceMoved, SomeMoved, UnlessLate};
 
 use crate::{Bundles, Frame, Net, Ran, SplitFault};
 use brooklet_step::Lines;
@@ -50,15 +50,33 @@ pub fn run_plan<R: Threads + Sync, G: Gate + Sync>(
     requires cap { IsCap cap }
     requires caps { AreCaps caps.now }
     ensures ran { IfOk result (IsRanOf plan.now inputs) }
-    ensures closed { IfOk result (HasClosed plan.now inputs) }
+    ensures closed { IfOk result (HasClosed plan.now inputs (capacity cap (first_cap caps.now))) }
 {
     let net = Net::open(alloc, plan, inputs, cap, caps)?;
+    let workers = busy_workers(plan, workers);
     let (mut net, rounds) = make_rounds(rt, alloc, plan, net, workers, gate)?;
     loop {
         if !net.one(alloc, plan, gate)? {
             return net.close(alloc, plan, rounds);
         }
     }
+}
+
+// How many of the workers have an operator, and at least one: operator number i works for the same worker among them.
+fn busy_workers(plan: &Plan, workers: u32) -> u32
+    requires { 1 ≤ workers }
+    ensures some { 1 ≤ result }
+    ensures most { result ≤ workers }
+    ensures same { (i : ℕ) → i < length plan.now.ops → i % result ≡ i % workers }
+{
+    let ops = plan.raw().ops.len();
+    if (workers as usize) <= ops {
+        return workers;
+    }
+    if ops == 0 {
+        return 1;
+    }
+    ops as u32
 }
 
 // Rounds, to the first in which nothing is left to move or which there is not; and how many there were.
@@ -101,7 +119,8 @@ fn make_round<R: Threads + Sync, G: Gate + Sync>(
     requires valid { IsPlan plan.now }
     requires net { HasNet plan.now net }
     requires workers { (1 ≤ workers) × (workers ≤ 64) }
-    ensures { IfOk result (λ both. NetGoesOn plan.now net both.0 both.1) }
+    ensures goes { IfOk result (λ both. NetGoesOn plan.now net both.0 both.1) }
+    ensures round { IfOk result (λ both. UnlessLate plan.now workers net both.0 both.1) }
 {
     match net.split(alloc, workers) {
         Ok((frame, bundles)) => {
@@ -124,7 +143,8 @@ fn move_once<G: Gate>(
     gate: &G,
 ) -> Result<(Net, Round), NoMemory>
     requires { HasNet plan.now net }
-    ensures { IfOk result (λ both. NetGoesOn plan.now net both.0 both.1) }
+    ensures goes { IfOk result (λ both. NetGoesOn plan.now net both.0 both.1) }
+    ensures once { IfOk result (λ both. OnceMoved plan.now net both.0) }
 {
     let mut net = net;
     if net.one(alloc, plan, gate)? {
@@ -144,6 +164,7 @@ fn work_all<R: Threads + Sync, G: Gate + Sync>(
     gate: &G,
 ) -> Result<(Net, bool), NoMemory>
     requires bundles { AreBundlesOf plan.now frame bundles.items }
+    requires dealt { AreDealt frame.net frame.workers bundles.items }
     requires workers { 0 < workers }
     ensures { IfOk result (λ both. HasJoined plan.now frame bundles.items both.0 both.1) }
 {

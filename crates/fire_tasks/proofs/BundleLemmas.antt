@@ -8,10 +8,12 @@ use Rattle.river_plan.specs.Forms.{PlanForm}
 use Rattle.class_locks.specs.declared.view.View.{View}
 use Rattle.class_locks.specs.Piles.{HasMoreTries}
 use Rattle.class_locks.specs.Views.{StandsIn}
+use Rattle.brooklet_model.specs.Machine.{at_key}
+use Rattle.brooklet_model.proofs.Traces.{at_key_other, at_key_same}
 use Rattle.fire_tasks.specs.declared.task.Task.{Task}
 use Rattle.fire_tasks.specs.Adds.{AreCells, added, logs_at}
 use Rattle.fire_tasks.specs.declared.ports.Inlet as inlet
-use Rattle.fire_tasks.specs.Bundles.{AllGoOn, AreTasksAt, AllDone, AllLooked, HasGone, HasSwept, SameSeat}
+use Rattle.fire_tasks.specs.Bundles.{AllGoOn, AreStuck, AreTasksAt, AllDone, AllLooked, HasGone, HasSwept, ManyPasses, SameSeat}
 use Rattle.fire_tasks.specs.declared.bundle.Bundle.{Bundle}
 use Rattle.fire_tasks.specs.Ports.{AllReceived, HasMoved, known_of}
 use Rattle.fire_tasks.specs.Tasks.{TaskEnds, IsTaskAt, IsDone, ends_of, all_ends, moves, all_moves}
@@ -20,7 +22,7 @@ use Rattle.fire_tasks.proofs.Fronts.{all_same, all_set, all_then, has_gone}
 use Rattle.fire_tasks.proofs.PassLemmas.{moved_true, moved_second, moved_first, moved_false}
 use Rattle.fire_tasks.proofs.PortLemmas.{ins_many}
 use Rattle.fire_tasks.proofs.TaskLemmas.{with_adds}
-use Rattle.fire_tasks.proofs.TurnLemmas.{round_then, sits_none, sits_then, stuck_since, stuck_still, tries_of, tries_then}
+use Rattle.fire_tasks.proofs.TurnLemmas.{round_then, sits_none, sits_then, tries_of, tries_then}
 
 -- LISTS OF TASKS
 
@@ -63,6 +65,14 @@ set_moved (y ∷ ts) (suc i) t m lt h =
 
 -- A LOOK AT TASKS, ONE AFTER ANOTHER
 
+-- in their turns the first tasks found why they do not move: `views i` is what the seat knew before that of task number i
+pub record HadTurns (v w : View) (place : ℕ) (ts : List Task) : Type 0 where
+  pub views : ℕ → View
+  pub first : HasMoreTries v (views 0)
+  pub next : (i : ℕ) → i < place → HasMoreTries (views i) (views (suc i))
+  pub last : views place ≡ w
+  pub each : (i : ℕ) (d : Task) → i < place → i < length ts → IsStuckSince (views i) (views (suc i)) (get_or ts i d)
+
 -- the first tasks had their turns
 pub record HavePassed (p : PlanForm) (v w : View) (place : ℕ) (ts ts' : List Task) (moved : Bool) : Type 0 where
   pub tasks : AreTasksAt p w ts'
@@ -71,7 +81,7 @@ pub record HavePassed (p : PlanForm) (v w : View) (place : ℕ) (ts ts' : List T
   pub same : all_ends ts' ≡ all_ends ts
   pub goes_on : AllGoOn ts ts'
   pub number : HasMoved (all_moves ts) (all_moves ts') moved
-  pub stuck : IsFalse moved → (i : ℕ) (d : Task) → i < place → i < length ts' → IsStuckSince v w (get_or ts' i d)
+  pub stuck : IsFalse moved → HadTurns v w place ts'
 
 no_tries : (v : View) → HasMoreTries v v
 no_tries v = record { more = []; takes = sym (append-nil v.takes) }
@@ -85,7 +95,13 @@ passed_first p v ts k h = record {
   same = refl;
   goes_on = all_same ts;
   number = moved_false (all_moves ts) (all_moves ts) refl;
-  stuck = λ f i d lt l. absurd (omega (arith, lt));
+  stuck = λ f. record {
+    views = λ i. v;
+    first = no_tries v;
+    next = λ i lt. absurd (omega (arith, lt));
+    last = refl;
+    each = λ i d lt l. absurd (omega (arith, lt));
+  };
 }
 
 -- the seat is that of each of the tasks
@@ -142,6 +158,47 @@ one_is : (now : List Task) (i : ℕ) (old new : Task) (n : Bool) → i < length 
     → HasMoved (all_moves now) (all_moves (set now i new)) n
 one_is now i old new n lt e h = set_moved now i new n lt (subst (λ x. HasMoved (moves x) (moves new) n) (e ∙ get_or_default now i old new lt) h)
 
+-- one more turn at which nothing moved
+module _ (v0 v w : View) (now : List Task) (i : ℕ) (new : Task) (h : HadTurns v0 v i now) (tries : HasMoreTries v w) (stuck : IsStuckSince v w new)
+    (lt : i < length now) where
+  abbrev seen : ℕ → View
+  seen = at_key (i + 1) w h.views
+
+  seen_before : (j : ℕ) → j < i + 1 → seen j ≡ h.views j
+  seen_before j l = at_key_other (i + 1) w h.views j (λ q. omega (arith, l, q))
+
+  seen_here : seen i ≡ v
+  seen_here = seen_before i (omega arith) ∙ h.last
+
+  seen_behind : seen (suc i) ≡ w
+  seen_behind = let q : i + 1 ≡ suc i = omega arith in ap seen (sym q) ∙ at_key_same (i + 1) w h.views
+
+  pub one_turn : HadTurns v0 w (i + 1) (set now i new)
+  one_turn = record {
+    views = seen;
+    first = subst (HasMoreTries v0) (sym (seen_before 0 (omega arith))) h.first;
+    next = λ j lj. ⊎_elim
+        (λ l. subst (HasMoreTries (seen j)) (sym (seen_before (suc j) (omega (arith, l))))
+        (subst (λ x. HasMoreTries x (h.views (suc j))) (sym (seen_before j (omega (arith, l)))) (h.next j l)))
+        (λ ge.
+        let q : i ≡ j = omega (arith, lj, ge) in
+        subst (λ (k : ℕ). HasMoreTries (seen k) (seen (suc k))) q
+        (subst (HasMoreTries (seen i)) (sym seen_behind) (subst (λ x. HasMoreTries x w) (sym seen_here) tries)))
+        (cases_lt j i);
+    last = at_key_same (i + 1) w h.views;
+    each = λ j d lj ll. let m = length-set now i new in ⊎_elim
+        (λ l.
+        subst (IsStuckSince (seen j) (seen (suc j))) (sym (get_or-set_other now i j new d (λ q. omega (arith, l, q))))
+        (subst (λ x. IsStuckSince (seen j) x (get_or now j d)) (sym (seen_before (suc j) (omega (arith, l))))
+        (subst (λ x. IsStuckSince x (h.views (suc j)) (get_or now j d)) (sym (seen_before j (omega (arith, l)))) (h.each j d l (omega (arith, ll, m))))))
+        (λ ge.
+        let q : i ≡ j = omega (arith, lj, ge) in
+        subst (λ (k : ℕ). IsStuckSince (seen k) (seen (suc k)) (get_or (set now i new) k d)) q
+        (subst (IsStuckSince (seen i) (seen (suc i))) (sym (get_or-set_same now i new d lt))
+        (subst (λ x. IsStuckSince (seen i) x new) (sym seen_behind) (subst (λ x. IsStuckSince x w new) (sym seen_here) stuck))))
+        (cases_lt j i);
+  }
+
 -- one more task had its turn
 pub passed_turn : (p : PlanForm) (v0 v w : View) (ts now : List Task) (i : ℕ) (old new : Task) (m n k : Bool) → HavePassed p v0 v i ts now m → i < length now
     → old ≡ get_or now i old → HasTurned p v w old new n → HasMoved (all_moves ts) (all_moves (set now i new)) k → (IsFalse k → IsFalse m × IsFalse n)
@@ -155,17 +212,7 @@ passed_turn p v0 v w ts now i old new m n k h lt e t c f =
       same = set_ends now i new (t.ends ∙ ap ends_of (e ∙ get_or_default now i old new lt)) ∙ h.same;
       goes_on = all_then ts now (set now i new) (ends_many ts now h.same) h.goes_on (all_set now i old new lt e t.goes_on);
       number = c;
-      stuck = λ z j d lj ll. ⊎_elim
-          (λ l.
-          let ne : (j ≡ i → ⊥) = λ q. omega (arith, l, q) in
-          let q = length-set now i new in
-          subst (IsStuckSince v0 w) (sym (get_or-set_other now i j new d ne))
-          (stuck_still v0 v w (get_or now j d) tries (h.stuck (f z).0 j d l (omega (arith, ll, q)))))
-          (λ ge.
-          let q : i ≡ j = omega (arith, lj, ge) in
-          subst (λ (y : ℕ). IsStuckSince v0 w (get_or (set now i new) y d)) q
-          (subst (IsStuckSince v0 w) (sym (get_or-set_same now i new d lt)) (stuck_since v0 v w new h.tries (t.stuck (f z).1))))
-          (cases_lt j i);
+      stuck = λ z. one_turn v0 v w now i new (h.stuck (f z).0) tries (t.stuck (f z).1) lt;
     }
 
 -- one that moved
@@ -184,17 +231,30 @@ passed_still p v0 v w ts now i old new m n h lt e t is =
     passed_turn p v0 v w ts now i old new m n m h lt e t
     (moved_first (all_moves ts) (all_moves now) (all_moves (set now i new)) m h.number (one_is now i old new false lt e mv)) (λ f. (f, is))
 
+-- so all have told why they do not move
+all_turns : (v w : View) (place : ℕ) (ts : List Task) → HadTurns v w place ts → length ts ≡ place → AreStuck v w ts
+all_turns v w place ts h e = record {
+  views = h.views;
+  first = h.first;
+  next = λ i lt. h.next i (omega (arith, lt, e));
+  last = ap h.views e ∙ h.last;
+  each = λ i d lt. h.each i d (omega (arith, lt, e)) lt;
+}
+
 -- all had their turns
-pub passed_all : (p : PlanForm) (v w : View) (place : ℕ) (ts ts' : List Task) (moved : Bool) → HavePassed p v w place ts ts' moved → length ts ≤ place
+pub passed_all : (p : PlanForm) (v w : View) (place : ℕ) (ts ts' : List Task) (moved : Bool) → HavePassed p v w place ts ts' moved → length ts ≤ place → place ≤ length ts
     → HasSwept p v w ts ts' moved
-passed_all p v w place ts ts' moved h le = record {
+passed_all p v w place ts ts' moved h le most = record {
   tasks = h.tasks;
   ends = h.same;
   goes_on = h.goes_on;
   number = h.number;
-  stuck = λ f. record { each = λ i d lt. h.stuck f i d (let m = ends_many ts ts' h.same in omega (arith, lt, le, m)) lt };
+  stuck = λ f. all_turns v w place ts' (h.stuck f) full;
   tries = h.tries;
 }
+  where
+    full : length ts' ≡ place
+    full = let m = ends_many ts ts' h.same in omega (arith, le, most, m)
 
 -- LOOKS AT WHICH NOTHING MOVED
 
@@ -230,7 +290,8 @@ swept_then p v u w ts ts1 ts2 m a h = record {
   ends = h.ends ∙ a.same;
   goes_on = all_then ts ts1 ts2 (ends_many ts ts1 a.same) a.goes_on h.goes_on;
   number = subst (λ n. HasMoved n (all_moves ts2) m) a.number h.number;
-  stuck = λ f. record { each = λ i d lt. stuck_since v u w (get_or ts2 i d) a.tries ((h.stuck f).each i d lt) };
+  stuck = λ f. let s = h.stuck f in
+      record { views = s.views; first = tries_then v u (s.views 0) a.tries s.first; next = s.next; last = s.last; each = s.each };
   tries = tries_then v u w a.tries h.tries;
 }
 
@@ -369,3 +430,19 @@ gone_moved b u w m x y =
 -- before the first
 pub gone_none : (b : Bundle) → HasGone b b false
 gone_none b = has_gone b b false refl (all_same b.tasks) (moved_false (all_moves b.tasks) (all_moves b.tasks) refl)
+
+-- passes that moved something, one after another: before the first
+pub passes_none : (b b' : Bundle) → b'.tasks ≡ b.tasks → ManyPasses 0 b b'
+unfolding ManyPasses
+passes_none b b' e = e
+
+-- and one more
+pub passes_next : (n : ℕ) (b m b' : Bundle) → ManyPasses n b m → SameSeat m b' → HasGone m b' true → ManyPasses (n + 1) b b'
+unfolding ManyPasses
+passes_next n b m b' h s g = let e : suc n ≡ n + 1 = omega arith in subst (λ (k : ℕ). ManyPasses k b b') e (m, h, s, g)
+
+-- they are told of a bundle that has the same tasks, too
+pub passes_of : (n : ℕ) (b c b' : Bundle) → b.tasks ≡ c.tasks → ManyPasses n b b' → ManyPasses n c b'
+unfolding ManyPasses
+passes_of zero b c b' e h = h ∙ e
+passes_of (suc n) b c b' e h = (h.0, passes_of n b c h.0 e h.1, h.2, h.3)

@@ -198,7 +198,8 @@ task_short t t' e g =
     let s = sent_short t.outs t'.outs (outs_as_many t.outs t'.outs (ap (λ (x : TaskEnds). x.outs) e)) g.sent in
     omega (arith, r, s)
 
-tasks_short : (ts ts' : List Task) → all_ends ts' ≡ all_ends ts → AllGoOn ts ts' → all_moves ts ≤ all_moves ts'
+-- tasks that go on took and sent no fewer items
+pub tasks_short : (ts ts' : List Task) → all_ends ts' ≡ all_ends ts → AllGoOn ts ts' → all_moves ts ≤ all_moves ts'
 tasks_short [] [] e g = omega arith
 tasks_short [] (u ∷ us) e g = absurd (cc e)
 tasks_short (t ∷ ts) [] e g = absurd (cc e)

@@ -249,6 +249,12 @@ sent_task p adds t os ls m k h = record {
   stands = record { fit = k.stands.fit; after = k.stands.after };
 }
 
+-- and its word stays
+pub sent_word : (p : PlanForm) (adds : ℕ → List (List ℤ)) (t : Task) (os : List outlet.Outlet) (ls : List (List item.Item)) (m : Bool) (k : IsTask p adds t)
+    (h : Sent t.outs t.pending os ls m) → (sent_task p adds t os ls m k h).word ≡ k.word
+unfolding sent_task
+sent_word p adds t os ls m k h = refl
+
 -- with other ends to take from, of which the same was received
 abbrev pub with_ins : Task → List inlet.Inlet → Task
 with_ins t ins = record t { ins = ins }
@@ -276,6 +282,12 @@ looked_task p adds t ins k e r = record {
   };
   stands = record { fit = k.stands.fit; after = k.stands.after };
 }
+
+-- and its word stays
+pub looked_word : (p : PlanForm) (adds : ℕ → List (List ℤ)) (t : Task) (ins : List inlet.Inlet) (k : IsTask p adds t) (e : in_ends ins ≡ in_ends t.ins)
+    (r : received_in ins ≡ received_in t.ins) → (looked_task p adds t ins k e r).word ≡ k.word
+unfolding looked_task
+looked_word p adds t ins k e r = refl
 
 -- the numbers after sending and a look
 pub turn_sent : (t : Task) (os : List outlet.Outlet) (ls : List (List item.Item)) (m : Bool) (ins : List inlet.Inlet) → Sent t.outs t.pending os ls m

@@ -21,7 +21,7 @@ use Rattle.brooklet_model.specs.Fire.{fire, outs, tabs, first_kept}
 use Rattle.brooklet_model.specs.Histories.{most_firings, tables_of}
 use Rattle.brooklet_model.specs.Traced.{ran}
 use Rattle.brooklet_model.specs.Typed.{IsStart, widths_in, IsWide}
-use Rattle.brooklet_model.specs.Words.{at_port}
+use Rattle.brooklet_model.specs.Words.{Word, at_port}
 use Rattle.brooklet_model.proofs.Free.{at_port-append, below-append}
 use Rattle.brooklet_model.proofs.Ports.{counts, shaped}
 use Rattle.brooklet_model.proofs.Swaps.{at_port_here, at_port_past}
@@ -43,7 +43,7 @@ use Rattle.fire_tasks.specs.declared.task.Task.{Task}
 use Rattle.fire_tasks.specs.Adds.{table_numbers}
 use Rattle.fire_tasks.specs.Fired.{bad_at, kinds_in, kinds_out}
 use Rattle.fire_tasks.specs.Ports.{received_of, received_in, sent_in, pending_in, InEnd, IsIdle, in_ends, out_ends}
-use Rattle.fire_tasks.specs.Tasks.{IsTask}
+use Rattle.fire_tasks.specs.Tasks.{HasWord, IsTask}
 use Rattle.fire_tasks.proofs.Fronts.{goes_took}
 use Rattle.fire_tasks.specs.Turns.{AreRowsFor, HasFiredAt, HasTakenAt, Owes, classes_of, pile_grown, logged}
 use Rattle.fire_tasks.proofs.PortLemmas.{count_more, ins_many}
@@ -77,6 +77,12 @@ with_adds p f g t k e = record {
   };
   stands = k.stands;
 }
+
+-- and the word stays
+pub with_adds_word : (p : PlanForm) (f g : ℕ → List (List ℤ)) (t : Task) (w : Word) → (k : HasWord p f t w)
+    → ((j : ℕ) → j < tabs k.task.op.kernel → g j ≡ f j) → HasWord p g t w
+unfolding with_adds
+with_adds_word p f g t w k e = record { task = with_adds p f g t k.task e; word = k.word }
 
 beyond_blank : {A : Type 0} (n : ℕ) (f : ℕ → List A) (j : ℕ) → n < suc j → list_at (each_grew (replicate n []) f) j ≡ []
 beyond_blank zero f j lt = refl
@@ -205,7 +211,8 @@ module _ (p : PlanForm) (v : IsPlan p) (t : Task) (adds : ℕ → List (List ℤ
       → received ins port x → length ins ≡ length t.ins → port < length t.ins → IsHeldOf t.kinds port x → IsIdle t.pending
       → FiredOp p t.op port x t.states st out
       → pending ≡ map reverse out.outs → blank.outs ≡ t.pending → blank.adds ≡ replicate (length out.adds) [] → n ≡ min most_firings (t.count + 1)
-      → IsTask p (λ j. adds j ++ list_at out.adds j) (record t { ins = ins; states = st; pending = pending; out = blank; count = n })
+      → HasWord p (λ j. adds j ++ list_at out.adds j) (record t { ins = ins; states = st; pending = pending; out = blank; count = n })
+      (k.word ++ (port, x) ∷ [])
   took_task ins port x st out blank pending n e l lt i idle f ep eb ebr en =
       let op = k.op in
       let fired_is = f.fired op k.op_is in
@@ -229,66 +236,69 @@ module _ (p : PlanForm) (v : IsPlan p) (t : Task) (adds : ℕ → List (List ℤ
       (λ j. ap (λ ls. list_at (map reverse ls) j) ep ∙ ap (λ ls. list_at ls j) (turn_twice out.outs)) in
       let old_idle : (j : ℕ) → list_at (pending_in t.pending) j ≡ [] = (λ j. turned_idle t.pending idle j) in
       record {
-        op = op;
-        op_is = k.op_is;
-        ins = l ∙ k.ins;
-        kinds = k.kinds;
-        outs = k.outs;
-        pending = ap length ep ∙ length-map out.outs reverse ∙ outs_many ∙ sym c.outs ∙ nw;
-        blank = record {
-          outs = eb ∙ all_empty t.pending idle ∙ ap (λ n. replicate n []) (k.pending ∙ sym nw ∙ c.outs);
-          adds = ebr ∙ ap (λ n. replicate n []) adds_many;
+        task = record {
+          op = op;
+          op_is = k.op_is;
+          ins = l ∙ k.ins;
+          kinds = k.kinds;
+          outs = k.outs;
+          pending = ap length ep ∙ length-map out.outs reverse ∙ outs_many ∙ sym c.outs ∙ nw;
+          blank = record {
+            outs = eb ∙ all_empty t.pending idle ∙ ap (λ n. replicate n []) (k.pending ∙ sym nw ∙ c.outs);
+            adds = ebr ∙ ap (λ n. replicate n []) adds_many;
+          };
+          homes = k.homes;
+          word = k.word ++ (port, x) ∷ [];
+          count = one_count most_firings n t.count (length k.word) (length (k.word ++ (port, x) ∷ [])) en k.count (length-append k.word ((port, x) ∷ []));
+          fired = record {
+            below = below-append (length op.reads) k.word ((port, x) ∷ []) k.fired.below (let n = k.ins in omega (arith, n, lt), tt);
+            received = λ n. longer ins port x e lt n
+                ∙ sym (ap (λ o. at_port n (k.word ++ (port, x) ∷ []) ++ bad_at n o) fine ∙ append-nil (at_port n (k.word ++ (port, x) ∷ [])));
+            bad = k.fired.bad;
+            held = λ j.
+                let was : All (IsHeldOf (kinds_out p op) j) (list_at (sent_in t.outs) j) =
+                subst (All (IsHeldOf (kinds_out p op) j)) (ap (λ y. list_at (sent_in t.outs) j ++ y) (old_idle j) ∙ append-nil (list_at (sent_in t.outs) j))
+                (k.fired.held j) in
+                All-append (IsHeldOf (kinds_out p op) j) (list_at (sent_in t.outs) j) (list_at (pending_in pending) j) was
+                (subst (All (IsHeldOf (kinds_out p op) j)) (sym (pending_is j)) (grown_held (outs op.kernel) came.outs out.outs j outs_are (came.held j)));
+            given = λ w a h.
+                let n = longer_word (kinds_in p op) w k.word port x a h in
+                let g = does.gives.given (first_kept op.kernel) n.before n.item is_start n.typed n.is_of (k.stands.after n.before n.typed n.held) n.next in
+                let before = ran op n.before in
+                let r = fire op.kernel port n.item before.states in
+                let more = ran_more op.kernel (first_kept op.kernel) n.before port n.item in
+                let gave = k.fired.given n.before n.typed n.held in
+                let new_outs : out.outs ≡ each_grew (replicate (outs op.kernel) []) (λ j. held_at (kinds_out p op) j (before.outs j) (r.outs j)) = g.0.outs
+                ∙ ap (λ ls. each_grew ls (λ j. held_at (kinds_out p op) j (before.outs j) (r.outs j))) fired_is.is_blank.outs in
+                let new_adds : out.adds ≡ each_grew (replicate (tabs op.kernel) []) r.adds = g.0.adds ∙ ap (λ ls. each_grew ls r.adds) fired_is.is_blank.adds in
+                record {
+                  outs = λ j lj.
+                      let co = c.outs in
+                      let lj' : j < outs op.kernel = omega (arith, lj, co, nw) in
+                      let old : list_at (sent_in t.outs) j ≡ held_at (kinds_out p op) j [] (before.outs j) = sym (append-nil (list_at (sent_in t.outs) j))
+                      ∙ ap (λ y. list_at (sent_in t.outs) j ++ y) (sym (old_idle j)) ∙ gave.outs j lj in
+                      ap (λ y. y ++ list_at (pending_in pending) j) old
+                      ∙ ap (λ y. held_at (kinds_out p op) j [] (before.outs j) ++ y)
+                      (pending_is j ∙ ap (λ ls. list_at ls j) new_outs
+                      ∙ each_grew-blanks (outs op.kernel) (λ m. held_at (kinds_out p op) m (before.outs m) (r.outs m)) j [] lj')
+                      ∙ sym (at-append (kinds_out p op) j [] (before.outs j) (r.outs j))
+                      ∙ ap (held_at (kinds_out p op) j []) (sym (more.outs j) ∙ ap (λ u. (ran op u).outs j) (sym n.splits));
+                  adds_are = λ j lj.
+                      ap (λ y. y ++ list_at out.adds j) (gave.adds_are j lj)
+                      ∙ ap (λ ls. before.adds j ++ list_at ls j) new_adds
+                      ∙ ap (λ y. before.adds j ++ y) (each_grew-blanks (tabs op.kernel) r.adds j [] lj)
+                      ∙ sym (more.adds j) ∙ ap (λ u. (ran op u).adds j) (sym n.splits);
+                };
+          };
+          stands = record {
+            fit = came.again;
+            after = λ w a h.
+                let n = longer_word (kinds_in p op) w k.word port x a h in
+                let g = does.gives.given (first_kept op.kernel) n.before n.item is_start n.typed n.is_of (k.stands.after n.before n.typed n.held) n.next in
+                subst (StandsAfter op.kernel (kinds_in p op) (first_kept op.kernel) st) (sym n.splits) g.1;
+          };
         };
-        homes = k.homes;
-        word = k.word ++ (port, x) ∷ [];
-        count = one_count most_firings n t.count (length k.word) (length (k.word ++ (port, x) ∷ [])) en k.count (length-append k.word ((port, x) ∷ []));
-        fired = record {
-          below = below-append (length op.reads) k.word ((port, x) ∷ []) k.fired.below (let n = k.ins in omega (arith, n, lt), tt);
-          received = λ n. longer ins port x e lt n
-              ∙ sym (ap (λ o. at_port n (k.word ++ (port, x) ∷ []) ++ bad_at n o) fine ∙ append-nil (at_port n (k.word ++ (port, x) ∷ [])));
-          bad = k.fired.bad;
-          held = λ j.
-              let was : All (IsHeldOf (kinds_out p op) j) (list_at (sent_in t.outs) j) =
-              subst (All (IsHeldOf (kinds_out p op) j)) (ap (λ y. list_at (sent_in t.outs) j ++ y) (old_idle j) ∙ append-nil (list_at (sent_in t.outs) j))
-              (k.fired.held j) in
-              All-append (IsHeldOf (kinds_out p op) j) (list_at (sent_in t.outs) j) (list_at (pending_in pending) j) was
-              (subst (All (IsHeldOf (kinds_out p op) j)) (sym (pending_is j)) (grown_held (outs op.kernel) came.outs out.outs j outs_are (came.held j)));
-          given = λ w a h.
-              let n = longer_word (kinds_in p op) w k.word port x a h in
-              let g = does.gives.given (first_kept op.kernel) n.before n.item is_start n.typed n.is_of (k.stands.after n.before n.typed n.held) n.next in
-              let before = ran op n.before in
-              let r = fire op.kernel port n.item before.states in
-              let more = ran_more op.kernel (first_kept op.kernel) n.before port n.item in
-              let gave = k.fired.given n.before n.typed n.held in
-              let new_outs : out.outs ≡ each_grew (replicate (outs op.kernel) []) (λ j. held_at (kinds_out p op) j (before.outs j) (r.outs j)) = g.0.outs
-              ∙ ap (λ ls. each_grew ls (λ j. held_at (kinds_out p op) j (before.outs j) (r.outs j))) fired_is.is_blank.outs in
-              let new_adds : out.adds ≡ each_grew (replicate (tabs op.kernel) []) r.adds = g.0.adds ∙ ap (λ ls. each_grew ls r.adds) fired_is.is_blank.adds in
-              record {
-                outs = λ j lj.
-                    let co = c.outs in
-                    let lj' : j < outs op.kernel = omega (arith, lj, co, nw) in
-                    let old : list_at (sent_in t.outs) j ≡ held_at (kinds_out p op) j [] (before.outs j) = sym (append-nil (list_at (sent_in t.outs) j))
-                    ∙ ap (λ y. list_at (sent_in t.outs) j ++ y) (sym (old_idle j)) ∙ gave.outs j lj in
-                    ap (λ y. y ++ list_at (pending_in pending) j) old
-                    ∙ ap (λ y. held_at (kinds_out p op) j [] (before.outs j) ++ y)
-                    (pending_is j ∙ ap (λ ls. list_at ls j) new_outs
-                    ∙ each_grew-blanks (outs op.kernel) (λ m. held_at (kinds_out p op) m (before.outs m) (r.outs m)) j [] lj')
-                    ∙ sym (at-append (kinds_out p op) j [] (before.outs j) (r.outs j))
-                    ∙ ap (held_at (kinds_out p op) j []) (sym (more.outs j) ∙ ap (λ u. (ran op u).outs j) (sym n.splits));
-                adds_are = λ j lj.
-                    ap (λ y. y ++ list_at out.adds j) (gave.adds_are j lj)
-                    ∙ ap (λ ls. before.adds j ++ list_at ls j) new_adds
-                    ∙ ap (λ y. before.adds j ++ y) (each_grew-blanks (tabs op.kernel) r.adds j [] lj)
-                    ∙ sym (more.adds j) ∙ ap (λ u. (ran op u).adds j) (sym n.splits);
-              };
-        };
-        stands = record {
-          fit = came.again;
-          after = λ w a h.
-              let n = longer_word (kinds_in p op) w k.word port x a h in
-              let g = does.gives.given (first_kept op.kernel) n.before n.item is_start n.typed n.is_of (k.stands.after n.before n.typed n.held) n.next in
-              subst (StandsAfter op.kernel (kinds_in p op) (first_kept op.kernel) st) (sym n.splits) g.1;
-        };
+        word = refl;
       }
     where
       turned_idle : (ls : List (List item.Item)) → IsIdle ls → (j : ℕ) → list_at (pending_in ls) j ≡ []
@@ -360,6 +370,7 @@ bad_fired p v t fine ins port x e r lt misfit = record {
     rows = λ none. absurd (cc none);
   };
   owes = λ adds k. owes_none p v (record t { ins = ins; bad = Some (port, x) }) adds (bad_came p v t adds k fine ins port x r (ins_many t.ins ins e) lt misfit);
+  word = λ none adds k. absurd (cc none);
   ends = ap (λ (i : List InEnd). record { op = t.op; ins = i; outs = out_ends t.outs }) e;
   goes_on = goes_took t (record t { ins = ins; bad = Some (port, x) }) port x r refl;
   one = let m = count_more t.ins ins port x lt r in omega (arith, m);
@@ -386,13 +397,11 @@ took_fired p v t fine ins port x st out pending blanks spare n e r lt i idle f e
     rows = λ none. refl;
   };
   owes = λ adds k. record {
-    task = spared p (λ j. adds j ++ list_at out.adds j)
-        (record t { ins = ins; states = st; pending = pending; out = record { outs = blanks; adds = replicate (length out.adds) [] }; count = n }) spare
-        (took_task p v t adds k fine ins port x st out (record { outs = blanks; adds = replicate (length out.adds) [] }) pending n r
-        (ins_many t.ins ins e) lt i idle f ep eb refl en);
+    task = (took adds k).task;
     many = came_many p v t adds k port x st out i f;
     rows = came_wide p v t adds k port x st out i f;
   };
+  word = λ none adds k. took adds k;
   ends = ap (λ (y : List InEnd). record { op = t.op; ins = y; outs = out_ends t.outs }) e;
   goes_on = goes_took t (record t { ins = ins; states = st; pending = pending; out = record { outs = blanks; adds = out.adds }; spare = spare; count = n }) port x r refl;
   one = let m = count_more t.ins ins port x lt r in omega (arith, m);
@@ -400,21 +409,34 @@ took_fired p v t fine ins port x st out pending blanks spare n e r lt i idle f e
 }
   where
     -- nothing is said of the spare lists
-    spared : (q : PlanForm) (adds : ℕ → List (List ℤ)) (u : Task) (s : Spare) → IsTask q adds u → IsTask q adds (record u { spare = s })
-    spared q adds u s k = record {
-      op = k.op;
-      op_is = k.op_is;
-      ins = k.ins;
-      kinds = k.kinds;
-      outs = k.outs;
-      pending = k.pending;
-      blank = k.blank;
-      homes = k.homes;
-      word = k.word;
-      count = k.count;
-      fired = k.fired;
-      stands = record { fit = k.stands.fit; after = k.stands.after };
+    spared : (q : PlanForm) (adds : ℕ → List (List ℤ)) (u : Task) (s : Spare) (w : Word) → HasWord q adds u w → HasWord q adds (record u { spare = s }) w
+    spared q adds u s w h = record {
+      task = record {
+        op = h.task.op;
+        op_is = h.task.op_is;
+        ins = h.task.ins;
+        kinds = h.task.kinds;
+        outs = h.task.outs;
+        pending = h.task.pending;
+        blank = h.task.blank;
+        homes = h.task.homes;
+        word = h.task.word;
+        count = h.task.count;
+        fired = h.task.fired;
+        stands = record { fit = h.task.stands.fit; after = h.task.stands.after };
+      };
+      word = h.word;
     }
+
+    took : (adds : ℕ → List (List ℤ)) (k : IsTask p adds t) → HasWord p (λ j. adds j ++ list_at out.adds j)
+        (record t { ins = ins; states = st; pending = pending; out = record { outs = blanks; adds = replicate (length out.adds) [] }; spare = spare; count = n })
+        (k.word ++ (port, x) ∷ [])
+    took adds k =
+        spared p (λ j. adds j ++ list_at out.adds j)
+        (record t { ins = ins; states = st; pending = pending; out = record { outs = blanks; adds = replicate (length out.adds) [] }; count = n }) spare
+        (k.word ++ (port, x) ∷ [])
+        (took_task p v t adds k fine ins port x st out (record { outs = blanks; adds = replicate (length out.adds) [] }) pending n r
+        (ins_many t.ins ins e) lt i idle f ep eb refl en)
 
 -- the rows that a task owed were added
 pub taken_at : (p : PlanForm) (t t1 : Task) (pile pile' : List Piled) (adds' : List (List (List ℤ))) → HasFiredAt p t t1

@@ -3,7 +3,7 @@ use Rattle.std.proofs.Common.{◌≡◌, ◌≢◌, ℕ, zero, suc, ◌+◌, ◌
 use Rattle.std.specs.Prelude.{All, slice_get, slice_index_or, IsFalse}
 use Rattle.std.proofs.lemmas.List.{append-nil}
 use Rattle.std.proofs.lemmas.Option.{same_Some}
-use Rattle.river_base.proofs.Lists.{there_is, got_past, got_first, got_all}
+use Rattle.river_base.proofs.Lists.{there_is, got_all}
 use mathlib.Core.Option.{some-injective}
 use lib.ListN.{get_elem?}
 use Rattle.river_plan.specs.Forms.{OpForm, PlanForm}
@@ -25,7 +25,7 @@ use Rattle.fire_tasks.specs.declared.task.Task.{Task}
 use Rattle.fire_tasks.specs.Adds.{AreCells, AreClaims, AreOwn, added, logs_at, logs_of, table_class}
 use Rattle.fire_tasks.specs.Ports.{HasMoved, InEnd, OutEnd, AllReceived, IsIdle, RefusedAll, Sent, in_ends, out_ends, received_count, received_in, sent_count}
 use Rattle.fire_tasks.specs.Tasks.{GoesOn, IsTask, IsTaskAt, TaskEnds, ends_of, moves}
-use Rattle.fire_tasks.specs.Turns.{AreCellsOf, HasSat, HasTakenAt, HasTried, HasTurned, IsSeatOf, IsStuckSince, SameRound, StillSits, classes_of, logged}
+use Rattle.fire_tasks.specs.Turns.{AreCellsOf, HasSat, HasTakenAt, HasTried, HasTurned, IsSeatOf, SameRound, StillSits, classes_of, logged}
 use Rattle.fire_tasks.proofs.AddLemmas.{added_else, added_more, class_is, entries_logged, logged_none, logged_own}
 use Rattle.fire_tasks.proofs.Fronts.{goes_same, goes_sent, goes_then}
 use Rattle.fire_tasks.proofs.PassLemmas.{moved_true, moved_false, moved_first, moved_second, sent_task, looked_task, turn_sent, with_sent}
@@ -53,41 +53,6 @@ sits_then v u w a b = record { round = round_then v u w a.round b.round; rests =
 -- more tries and then more are more tries
 pub tries_then : (v u w : View) → HasMoreTries v u → HasMoreTries u w → HasMoreTries v w
 tries_then v u w a b = record { more = a.more ++ b.more; takes = b.takes ∙ ap (λ (l : List Tried). l ++ b.more) a.takes ∙ append_assoc v.takes a.more b.more }
-
--- what was found since a later view was found since an earlier one, and stays found
-pub found_since : (cs : List ℕ) (v u w : View) → HasMoreTries v u → FoundTaken cs u w → FoundTaken cs v w
-found_since cs v u w a f = record {
-  more = a.more ++ f.more;
-  takes = f.takes ∙ ap (λ (l : List Tried). l ++ f.more) a.takes ∙ append_assoc v.takes a.more f.more;
-  class = f.class;
-  place = f.place;
-  wanted = f.wanted;
-  at = length a.more + f.at;
-  found = got_past a.more f.more f.at ∙ f.found;
-}
-
-pub found_still : (cs : List ℕ) (v u w : View) → FoundTaken cs v u → HasMoreTries u w → FoundTaken cs v w
-found_still cs v u w f b = record {
-  more = f.more ++ b.more;
-  takes = b.takes ∙ ap (λ (l : List Tried). l ++ b.more) f.takes ∙ append_assoc v.takes f.more b.more;
-  class = f.class;
-  place = f.place;
-  wanted = f.wanted;
-  at = f.at;
-  found = got_first f.more b.more f.at (record { class = f.class; found = 1 }) f.found;
-}
-
--- so is a task that is stuck
-pub stuck_since : (v u w : View) (t : Task) → HasMoreTries v u → IsStuckSince u w t → IsStuckSince v w t
-stuck_since v u w t a (inl bad) = inl bad
-stuck_since v u w t a (inr (inl waits)) = inr (inl waits)
-stuck_since v u w t a (inr (inr f)) = inr (inr (found_since t.classes v u w a f))
-
--- a task that is stuck is stuck still when more tries have come
-pub stuck_still : (v u w : View) (t : Task) → HasMoreTries u w → IsStuckSince v u t → IsStuckSince v w t
-stuck_still v u w t b (inl bad) = inl bad
-stuck_still v u w t b (inr (inl waits)) = inr (inl waits)
-stuck_still v u w t b (inr (inr f)) = inr (inr (found_still t.classes v u w f b))
 
 -- TURNS ONE AFTER ANOTHER
 

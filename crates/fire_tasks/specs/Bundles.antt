@@ -1,5 +1,5 @@
 -- What the tasks of one worker keep at their seat.
-use Rattle.std.specs.Prelude.{◌≡◌, ◌⊎◌, ◌+◌, ◌≤◌, ℕ, ◌%◌, ◌<◌, Bool, false, IsTrue, IsFalse, List, [], length, slice_index_or}
+use Rattle.std.specs.Prelude.{◌≡◌, ◌⊎◌, ℕ, zero, suc, ◌%◌, ◌<◌, Bool, true, false, IsTrue, IsFalse, List, [], length, slice_index_or}
 use Rattle.class_locks.specs.declared.view.View.{View}
 use Rattle.class_locks.specs.Piles.{HasMoreTries}
 use Rattle.class_locks.specs.Views.{StandsIn}
@@ -36,9 +36,14 @@ pub record SameSeat (b b' : Bundle) : Type 0 where
   pub round : SameRound b.seat.view b'.seat.view
   pub looks : b'.looks ≡ b.looks
 
--- none of them can move, for what was seen since v
+-- none of them can move, for what was seen since v: in one look at all of them the turns came one after another, the seat knew `views i` before
+-- that of task number i, and each task tells why by its own turn. So a try that found a class taken is one that this task made
 pub record AreStuck (v w : View) (ts : List Task) : Type 0 where
-  pub each : (i : ℕ) (d : Task) → i < length ts → IsStuckSince v w (slice_index_or ts i d)
+  pub views : ℕ → View
+  pub first : HasMoreTries v (views 0)
+  pub next : (i : ℕ) → i < length ts → HasMoreTries (views i) (views (suc i))
+  pub last : views (length ts) ≡ w
+  pub each : (i : ℕ) (d : Task) → i < length ts → IsStuckSince (views i) (views (suc i)) (slice_index_or ts i d)
 
 -- each has nothing pending, and received every item known to be there
 pub record AllDone (ts : List Task) : Type 0 where
@@ -106,9 +111,14 @@ pub record HasEndedStuck (b b' : Bundle) : Type 0 where
   pub still : HasGone last b' false
   pub stuck : AreStuck last.seat.view b'.seat.view b'.tasks
 
--- why a round ended: so its last pass moved nothing, or there were as many passes as may be, of which each moved something
+-- so many passes were made, one after another, each of which moved something
+unfoldable pub ManyPasses : ℕ → Bundle → Bundle → Type 0
+ManyPasses zero b b' = b'.tasks ≡ b.tasks
+ManyPasses (suc n) b b' = (m : Bundle) × ManyPasses n b m × SameSeat m b' × HasGone m b' true
+
+-- why a round ended: so its last pass moved nothing, or as many passes were made as may be, of which each moved something
 abbrev pub HasEnded : Bundle → Bundle → Type 0
-HasEnded b b' = HasEndedStuck b b' ⊎ (all_moves b.tasks + most_passes ≤ all_moves b'.tasks)
+HasEnded b b' = HasEndedStuck b b' ⊎ ManyPasses most_passes b b'
 
 -- after a round it still is one, at the same seat; and where it is not refused, `moved` says whether a number grew, and the round has a cause
 -- for its end

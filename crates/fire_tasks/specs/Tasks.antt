@@ -40,6 +40,11 @@ pub record IsTask (p : PlanForm) (adds : ℕ → List (List ℤ)) (t : Task) : T
   pub fired : HasFired p op adds (seen_task t) word
   pub stands : StatesStand p op t word
 
+-- so it is where it fired on these items, in this order
+pub record HasWord (p : PlanForm) (adds : ℕ → List (List ℤ)) (t : Task) (w : Word) : Type 0 where
+  pub task : IsTask p adds t
+  pub word : task.word ≡ w
+
 -- what it added is told by the logs as a seat knows them
 abbrev pub IsTaskAt : PlanForm → View → Task → Type 0
 IsTaskAt p v t = IsTask p (added p (logs_at v t.op) t.op) t

@@ -20,7 +20,7 @@ use Rattle.fire_tasks.specs.declared.task.TablePort.{TablePort}
 use Rattle.fire_tasks.specs.Adds.{AreCells, AreClaims, AreOwn, added, logs_at, table_class}
 use Rattle.fire_tasks.specs.declared.ports.Inlet as inlet
 use Rattle.fire_tasks.specs.Ports.{HasMoved, in_ends, received_in}
-use Rattle.fire_tasks.specs.Tasks.{GoesOn, IsTask, IsTaskAt, Waits, ends_of, moves}
+use Rattle.fire_tasks.specs.Tasks.{GoesOn, HasWord, IsTask, IsTaskAt, Waits, ends_of, moves}
 
 -- ROWS
 
@@ -100,6 +100,8 @@ pub record HasFiredOn (p : PlanForm) (t t' : Task) : Type 0 where
 pub record HasFiredAt (p : PlanForm) (t t' : Task) : Type 0 where
   pub did : HasFiredOn p t t'
   pub owes : (adds : ℕ → List (List ℤ)) → IsTask p adds t → Owes p adds t'
+  pub word : t'.bad ≡ None → (adds : ℕ → List (List ℤ)) (k : IsTask p adds t)
+      → HasWord p (λ j. adds j ++ list_at t'.out.adds j) (without_rows t') (k.word ++ (did.port, did.item) ∷ [])
   pub ends : ends_of t' ≡ ends_of t
   pub goes_on : GoesOn t t'
   pub one : moves t' ≡ moves t + 1

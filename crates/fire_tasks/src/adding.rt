@@ -14,7 +14,7 @@ use std::alloc::Global;
 
 /// Adds the rows of a firing of an operator to the cells of its tables: an entry for each table with rows. The lists of rows are empty
 /// afterwards; where there is no memory some may be added.
-pub fn add_rows(
+pub(crate) fn add_rows(
     alloc: Global,
     op: u32,
     tables: &Listed<TablePort>,

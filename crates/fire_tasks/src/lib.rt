@@ -9,10 +9,8 @@ mod rounds;
 mod taking;
 mod task;
 
-pub use adding::add_rows;
 pub use bundle::{BEGUN, Bundle};
-pub use passing::{pass_task, send_all};
 pub use ports::{Inlet, Kept, Outlet, send_at};
-pub use rounds::{Works, round, round_of, work};
-pub use taking::{fire_at, first_ready, take_at};
+pub use rounds::round_of;
+pub use taking::{fire_at, first_ready};
 pub use task::{TablePort, Task};

@@ -18,9 +18,9 @@ use std::alloc::Global;
 /// How many items a task takes, at most, before the next one has its turn.
 const TURN: u32 = 64;
 
-/// Sends what is pending at each port, as far as there is room; says whether an item was sent.
+// Sends what is pending at each port, as far as there is room; says whether an item was sent.
 #[tactic(auto, using(crate::proofs::PassLemmas::to_first, crate::proofs::PassLemmas::to_all))]
-pub fn send_all(outs: &mut Listed<Outlet>, pending: &mut ItemLists) -> Result<bool, NoMemory>
+fn send_all(outs: &mut Listed<Outlet>, pending: &mut ItemLists) -> Result<bool, NoMemory>
     requires { length pending.old ≡ length outs.old }
     ensures sent { IfOk result (Sent outs.old pending.old outs.new pending.new) }
     ensures stuck { IfOk result (λ moved. IsFalse moved → RefusedAll outs.new pending.new) }
@@ -57,7 +57,7 @@ fn send_port(
 
 /// Whether nothing is pending.
 #[tactic(auto, using(crate::proofs::PortLemmas::idle_all))]
-pub fn is_idle(pending: &ItemLists) -> bool
+pub(crate) fn is_idle(pending: &ItemLists) -> bool
     ensures { IsTrue result ↔ IsIdle pending.now }
 {
     pending.as_slice().iter().all(|items| items.is_empty())
@@ -133,7 +133,7 @@ fn take_turn<G: Gate>(
 
 /// A pass over a task: it sends, and takes items, each where all before it is sent and its classes are free; says whether anything
 /// moved.
-pub fn pass_task<G: Gate>(
+pub(crate) fn pass_task<G: Gate>(
     alloc: Global,
     plan: &RawPlan,
     task: &mut Task,

@@ -105,7 +105,7 @@ impl Outlet {
 
 /// Whether an item is there at a port.
 #[tactic(auto, using(crate::proofs::PortLemmas::ins_set, crate::proofs::PortLemmas::received_same))]
-pub fn ready_at(ins: &mut Listed<Inlet>, port: usize) -> bool
+pub(crate) fn ready_at(ins: &mut Listed<Inlet>, port: usize) -> bool
     requires { port < length ins.old }
     ensures same { in_ends ins.new ≡ in_ends ins.old }
     ensures received { received_in ins.new ≡ received_in ins.old }
@@ -120,7 +120,7 @@ pub fn ready_at(ins: &mut Listed<Inlet>, port: usize) -> bool
 
 /// The next item at a port, where one is known to be there.
 #[tactic(auto, using(crate::proofs::PortLemmas::ins_set, crate::proofs::PortLemmas::received_more))]
-pub fn pop_at(alloc: Global, ins: &mut Listed<Inlet>, port: usize) -> Result<Item, NoMemory>
+pub(crate) fn pop_at(alloc: Global, ins: &mut Listed<Inlet>, port: usize) -> Result<Item, NoMemory>
     requires there { port < length ins.old }
     requires known { (d : _) → 0 < length (known_of (slice_index_or ins.old port d)) }
     ensures same { in_ends ins.new ≡ in_ends ins.old }

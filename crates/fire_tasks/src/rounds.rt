@@ -14,8 +14,8 @@ use std::thread::Threads;
 /// The most passes of a bundle in a round.
 const MOST_PASSES: u32 = 1024;
 
-/// A round of a bundle: passes, until one moves nothing. Behind it the bundle counts no more as one that finds something to do.
-pub fn work<G: Gate>(plan: &RawPlan, bundle: &mut Bundle, gate: &G, busy: &AtomicU64)
+// A round of a bundle: passes, until one moves nothing. Behind it the bundle counts no more as one that finds something to do.
+fn work<G: Gate>(plan: &RawPlan, bundle: &mut Bundle, gate: &G, busy: &AtomicU64)
     requires { IsReady plan.now bundle.old }
     ensures { HasMadeRound plan.now bundle.old bundle.new }
 {
@@ -44,15 +44,15 @@ fn make_passes<G: Gate>(plan: &RawPlan, bundle: &mut Bundle, gate: &G, busy: &At
     }
 }
 
-/// What can work by a plan, or by what else it is told. A round is generic in both, so that neither the type of a plan nor that of
-/// bundles is there where it is shown that the workers' call may be shared, nor are both where one of them is shown to be fit for
-/// threads.
-pub trait Works<P> {
+// What can work by a plan, or by what else it is told. A round is generic in both, so that neither the type of a plan nor that of
+// bundles is there where it is shown that the workers' call may be shared, nor are both where one of them is shown to be fit for
+// threads.
+trait Works<P> {
     ghost ready: { P → Self → Type 0 };
 
     ghost worked: { P → Self → Self → Type 0 };
 
-    /// Works until nothing moves.
+    // Works until nothing moves.
     fn work<G: Gate>(&mut self, plan: &P, gate: &G, busy: &AtomicU64)
         requires { Self.ready plan.now self.old }
         ensures { Self.worked plan.now self.old self.new };
@@ -70,8 +70,8 @@ impl Works<RawPlan> for Bundle {
     }
 }
 
-/// Each works, so many of them at a time. Where the number is 1 no thread is started.
-pub fn round<R: Threads + Sync, P: Sync, C: Works<P> + Send, G: Gate + Sync>(
+// Each works, so many of them at a time. Where the number is 1 no thread is started.
+fn round<R: Threads + Sync, P: Sync, C: Works<P> + Send, G: Gate + Sync>(
     rt: &R,
     plan: &P,
     bundles: &mut [C],
@@ -95,8 +95,8 @@ pub fn round<R: Threads + Sync, P: Sync, C: Works<P> + Send, G: Gate + Sync>(
     );
 }
 
-/// Each works by the lists of a plan: here it is shown that these may be shared.
-pub fn round_by<R: Threads + Sync, C: Works<RawPlan> + Send, G: Gate + Sync>(
+// Each works by the lists of a plan: here it is shown that these may be shared.
+fn round_by<R: Threads + Sync, C: Works<RawPlan> + Send, G: Gate + Sync>(
     rt: &R,
     plan: &RawPlan,
     bundles: &mut [C],

@@ -53,8 +53,8 @@ fn turn(items: &mut Items)
     items.as_mut_slice().reverse();
 }
 
-/// The items of each list, the first last.
-pub fn turn_all(lists: &mut ItemLists)
+// The items of each list, the first last.
+fn turn_all(lists: &mut ItemLists)
     ensures { lists.new ≡ map reverse lists.old }
 {
     for place in 0..lists.len() {
@@ -116,7 +116,7 @@ fn keep_bad(bad: &mut Option<(u32, Item)>, port: u32, item: Item)
 
 /// Takes the item at a port, fires on it, and adds the rows of the firing to the cells of the task's classes. Where there is no memory
 /// the cells have no entries but the operator's.
-pub fn take_at<G: Gate>(
+pub(crate) fn take_at<G: Gate>(
     alloc: Global,
     plan: &RawPlan,
     task: &mut Task,

@@ -32,17 +32,7 @@ returns-clause-cells g c =
 
 pub returns-clause-takes : goal.returns-clause-takes
 returns-clause-takes g c =
-    let h = takes_at (plan_form c.args.plan.now) c.args.task.now c.fire_at.new.task c.args.cells.now c.add_to_cells.new.cells c.requires.idle
-    c.in_ok-fire_at.ensures c.in_ok-add_to_cells.ensures.logged in
-    record {
-      idle = h.idle;
-      port = h.port;
-      item = h.item;
-      there = h.there;
-      received = h.received;
-      sent = h.sent;
-      out = h.out;
-      fired = h.fired;
-      pends = h.pends;
-      logs = h.logs;
-    }
+    takes_at (plan_form c.args.plan.now) c.args.task.now c.fire_at.new.task c.add_to_cells.new.adds c.args.cells.now c.add_to_cells.new.cells
+    c.requires.valid c.requires.idle c.in_ok-fire_at.ensures
+    (owed (plan_form c.args.plan.now) c.args.task.now c.fire_at.new.task c.args.cells.now c.requires.task c.in_ok-fire_at.ensures c.requires.cells)
+    c.in_ok-add_to_cells.ensures.logged c.in_ok-add_to_cells.ensures.blank

@@ -6,13 +6,13 @@ make_round-requires-clause-net g c κs within = stays_has c.args.plan.now c.args
 
 pub returns-in-Still-clause-stays : goal.returns-in-Still-clause-stays
 returns-in-Still-clause-stays g c =
-    (went_end c.args.plan.now c.args.net c.loop-round.round c.loop-round.net c.in_ok-next.next c.in_ok-next.went c.loop-round.invariant c.in_ok-next.ensures).0
+    (went_end c.args.plan.now c.args.net c.loop-round.round c.loop-round.net c.in_ok-next.next c.in_ok-next.went c.loop-round.invariant c.in_ok-next.ensures.goes).0
 
 pub returns-in-Late-clause-stays : goal.returns-in-Late-clause-stays
 returns-in-Late-clause-stays g c =
-    (went_end c.args.plan.now c.args.net c.loop-round.round c.loop-round.net c.in_ok-next.next c.in_ok-next.went c.loop-round.invariant c.in_ok-next.ensures).0
+    (went_end c.args.plan.now c.args.net c.loop-round.round c.loop-round.net c.in_ok-next.next c.in_ok-next.went c.loop-round.invariant c.in_ok-next.ensures.goes).0
 
 pub loop-round-preserved : goal.loop-round-preserved
 loop-round-preserved g c =
-    went_next c.args.plan.now c.args.net c.loop-round.round c.loop-round.net c.in_ok-next.next c.in_ok-next.went c.loop-round.invariant c.in_ok-next.ensures
+    went_next c.args.plan.now c.args.net c.loop-round.round c.loop-round.net c.in_ok-next.next c.in_ok-next.went c.loop-round.invariant c.in_ok-next.ensures.goes
     c.in-Moved.is

@@ -1,7 +1,5 @@
-use Rattle.std.proofs.lemmas.Result.{IfOk-weaker}
-use Rattle.fire_run.specs.Closed.{AreLogsIn, HasClosed}
 use Rattle.river_plan.specs.Caps.{capacity, first_cap}
-use Rattle.fire_run.proofs.RunLemmas.{ran_first, ran_has, ran_less, ran_next}
+use Rattle.fire_run.proofs.RunLemmas.{has_closed, ran_first, ran_has, ran_less, ran_next}
 use Rattle.fire_run.proofs.running.run_plan.Goals as goal
 
 pub loop-net-init : goal.loop-net-init
@@ -12,29 +10,32 @@ loop-net-init g c =
 
 pub close-requires-clause-net : goal.close-requires-clause-net
 close-requires-clause-net g c =
-    ran_has c.args.plan.now c.args.inputs c.in_ok-net-2.rounds c.one.new.self
-    (ran_next c.args.plan.now c.args.inputs c.in_ok-net-2.rounds c.loop-net.net c.one.new.self c.in_ok-one.field-0 c.loop-net.invariant
+    let caps = capacity c.args.cap (first_cap c.args.caps.now) in
+    ran_has c.args.plan.now c.args.inputs caps c.in_ok-net-2.rounds c.one.new.self
+    (ran_next c.args.plan.now c.args.inputs caps c.in_ok-net-2.rounds c.loop-net.net c.one.new.self c.in_ok-one.field-0 c.loop-net.invariant
     c.in_ok-one.ensures.stays c.in_ok-one.ensures.moved)
 
 pub returns-then-not-branch-clause-ran : goal.returns-then-not-branch-clause-ran
 returns-then-not-branch-clause-ran g c =
-    let r = ran_next c.args.plan.now c.args.inputs c.in_ok-net-2.rounds c.loop-net.net c.one.new.self c.in_ok-one.field-0 c.loop-net.invariant
+    let caps = capacity c.args.cap (first_cap c.args.caps.now) in
+    let r = ran_next c.args.plan.now c.args.inputs caps c.in_ok-net-2.rounds c.loop-net.net c.one.new.self c.in_ok-one.field-0 c.loop-net.invariant
     c.in_ok-one.ensures.stays c.in_ok-one.ensures.moved in
-    c.close.ensures.ran c.args.inputs r.has.caps r.has.is
+    c.close.ensures.ran c.args.inputs caps r.has.is
 
 pub returns-then-not-branch-clause-closed : goal.returns-then-not-branch-clause-closed
 returns-then-not-branch-clause-closed g c =
-    let r = ran_next c.args.plan.now c.args.inputs c.in_ok-net-2.rounds c.loop-net.net c.one.new.self c.in_ok-one.field-0 c.loop-net.invariant
+    let caps = capacity c.args.cap (first_cap c.args.caps.now) in
+    let r = ran_next c.args.plan.now c.args.inputs caps c.in_ok-net-2.rounds c.loop-net.net c.one.new.self c.in_ok-one.field-0 c.loop-net.invariant
     c.in_ok-one.ensures.stays c.in_ok-one.ensures.moved in
-    IfOk-weaker c.close.result (λ ran. AreLogsIn c.one.new.self.cells ran.logs) (HasClosed c.args.plan.now c.args.inputs)
-    (λ ran e. record { net = c.one.new.self; has = r.has; idle = c.in_ok-one.ensures.idle c.if-not-branch.true; logs = e }) c.close.ensures.logs
+    has_closed c.args.plan.now c.args.inputs caps c.in_ok-net-2.rounds c.one.new.self c.close.result r (c.in_ok-one.ensures.idle c.if-not-branch.true)
+    c.close.ensures.net c.close.ensures.logs
 
 pub loop-net-smaller : goal.loop-net-smaller
 loop-net-smaller g c =
-    ran_less c.args.plan.now c.args.inputs c.in_ok-net-2.rounds c.loop-net.net c.one.new.self c.in_ok-one.field-0 c.loop-net.invariant
-    c.in_ok-one.ensures.stays c.in_ok-one.ensures.moved c.if-not-branch.false
+    ran_less c.args.plan.now c.args.inputs (capacity c.args.cap (first_cap c.args.caps.now)) c.in_ok-net-2.rounds c.loop-net.net c.one.new.self
+    c.in_ok-one.field-0 c.loop-net.invariant c.in_ok-one.ensures.stays c.in_ok-one.ensures.moved c.if-not-branch.false
 
 pub loop-net-preserved : goal.loop-net-preserved
 loop-net-preserved g c =
-    ran_next c.args.plan.now c.args.inputs c.in_ok-net-2.rounds c.loop-net.net c.one.new.self c.in_ok-one.field-0 c.loop-net.invariant
-    c.in_ok-one.ensures.stays c.in_ok-one.ensures.moved
+    ran_next c.args.plan.now c.args.inputs (capacity c.args.cap (first_cap c.args.caps.now)) c.in_ok-net-2.rounds c.loop-net.net c.one.new.self
+    c.in_ok-one.field-0 c.loop-net.invariant c.in_ok-one.ensures.stays c.in_ok-one.ensures.moved

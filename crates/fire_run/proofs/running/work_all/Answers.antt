@@ -18,5 +18,6 @@ join-requires g c = (
 pub returns : goal.returns
 returns g c =
     joined c.raw.result.now c.args.plan.now c.args.frame c.args.bundles.items c.work_each.new.bundles.items c.join.result c.has_moved-moved.result
-    c.raw.ensures.raw c.requires.bundles c.work_each.ensures (c.is_refused.ensures.0 c.if-is_refused.false) c.join.ensures.stays c.join.ensures.moves
+    c.raw.ensures.raw c.requires.bundles c.requires.dealt c.work_each.ensures (c.is_refused.ensures.0 c.if-is_refused.false) c.join.ensures.stays
+    c.join.ensures.ends c.join.ensures.tasks c.join.ensures.moves
     c.has_moved-moved.ensures.some c.has_moved-moved.ensures.none

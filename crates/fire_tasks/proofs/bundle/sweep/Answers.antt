@@ -56,7 +56,7 @@ loop-place-preserved g c =
 pub returns-clause-swept : goal.returns-clause-swept
 returns-clause-swept g c =
     passed_all (plan_form c.args.plan.now) c.args.seat.now.view c.loop-place.seat.view c.loop-place.place c.args.tasks.now c.loop-place.tasks c.loop-place.moved
-    c.loop-place.invariant.passed (omega arith)
+    c.loop-place.invariant.passed (omega arith) (omega arith)
 
 pub loop-place-init : goal.loop-place-init
 loop-place-init g c = record {

@@ -1,7 +1,7 @@
-use Rattle.std.proofs.Common.{subst, sym, false, refl, arith, inl, inr}
-use Rattle.fire_tasks.proofs.BundleLemmas.{seat_then, gone_moved, gone_none, gone_still}
+use Rattle.std.proofs.Common.{◌≡◌, ℕ, subst, sym, false, refl, arith, inl, inr}
+use Rattle.fire_tasks.proofs.BundleLemmas.{seat_then, gone_moved, gone_none, gone_still, passes_next, passes_none, passes_of}
 use Rattle.fire_tasks.specs.declared.bundle.Bundle.{Bundle}
-use Rattle.fire_tasks.specs.Bundles.{HasGone}
+use Rattle.fire_tasks.specs.Bundles.{HasGone, ManyPasses, most_passes}
 use Rattle.fire_tasks.proofs.rounds.make_passes.Goals as goal
 
 pub loop-pass-init : goal.loop-pass-init
@@ -12,7 +12,7 @@ loop-pass-init g c =
       calm = c.if-bundle.false;
       bundle = record { rests = c.requires.1.rests; blank = c.requires.1.blank; keeps = c.requires.1.keeps };
       seat = record { lot = refl; round = record { seats = refl; starts = refl; parts = refl }; looks = refl };
-      many = omega arith;
+      many = passes_none b _ refl;
       gone = record { ends = n.ends; goes_on = n.goes_on; number = n.number; grew = n.grew; stayed = n.stayed };
     }
 
@@ -29,7 +29,9 @@ loop-pass-preserved g c =
       calm = c.in-Ok.ensures.calm;
       bundle = record { rests = e.bundle.rests; blank = e.bundle.blank; keeps = e.bundle.keeps };
       seat = record { lot = seat.lot; round = seat.round; looks = seat.looks };
-      many = (let m = c.loop-pass.invariant.many in let n = last.number.grew refl in omega (arith, m, n));
+      many = passes_next c.loop-pass._pass b u _ c.loop-pass.invariant.many
+          (record { lot = e.seat.lot; round = e.seat.round; looks = e.seat.looks })
+          (record { ends = last.ends; goes_on = last.goes_on; number = last.number; grew = last.grew; stayed = last.stayed });
       gone = record { ends = gone.ends; goes_on = gone.goes_on; number = gone.number; grew = gone.grew; stayed = gone.stayed };
     }
 
@@ -59,9 +61,12 @@ returns-then-not-moved g c =
 pub returns : goal.returns
 returns g c =
     let i = c.loop-pass.invariant in
+    let b : Bundle = record c.args.bundle.now { moved = false } in
+    let u : Bundle = c.loop-pass.bundle in
     record {
       bundle = i.bundle;
       seat = record { lot = i.seat.lot; round = i.seat.round; looks = i.seat.looks };
       went = λ calm. record { ends = i.gone.ends; goes_on = i.gone.goes_on; number = i.gone.number; grew = i.gone.grew; stayed = i.gone.stayed };
-      ended = λ calm. inr (let m = i.many in omega (arith, m));
+      ended = λ calm. inr (let q : c.loop-pass._pass ≡ most_passes = omega arith in
+          passes_of most_passes b c.args.bundle.now u refl (subst (λ (n : ℕ). ManyPasses n b u) q i.many));
     }

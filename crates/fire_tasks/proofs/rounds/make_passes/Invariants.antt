@@ -1,7 +1,6 @@
-use Rattle.std.specs.Prelude.{◌≡◌, ◌+◌, ◌≤◌, false}
+use Rattle.std.specs.Prelude.{◌≡◌, false}
 use Rattle.river_plan.specs.Forms.{plan_form}
-use Rattle.fire_tasks.specs.Tasks.{all_moves}
-use Rattle.fire_tasks.specs.Bundles.{IsBundle, SameSeat, HasGone}
+use Rattle.fire_tasks.specs.Bundles.{IsBundle, ManyPasses, SameSeat, HasGone}
 use Rattle.fire_tasks.proofs.rounds.make_passes.Given as goal
 
 abbrev pub invariant-loop-pass : goal.invariant-loop-pass
@@ -9,6 +8,6 @@ invariant-loop-pass g l = record {
   calm : l.bundle.refused ≡ false;
   bundle : IsBundle (plan_form l.plan) l.bundle;
   seat : SameSeat l.initial.bundle l.bundle;
-  many : all_moves l.initial.bundle.tasks + l._pass ≤ all_moves l.bundle.tasks;
+  many : ManyPasses l._pass l.initial.bundle l.bundle;
   gone : HasGone l.initial.bundle l.bundle l.bundle.moved;
 }

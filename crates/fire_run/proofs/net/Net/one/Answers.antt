@@ -8,6 +8,8 @@ use Rattle.fire_open.proofs.StillLemmas.{still_all_moves, still_ends}
 use Rattle.fire_run.specs.Cells.{HaveMoved}
 use Rattle.fire_run.specs.declared.net.Net.{Net}
 use Rattle.fire_run.specs.OneMove.{MayHaveMoved}
+use Rattle.fire_run.proofs.BoundedMoves.{moved_state}
+use Rattle.fire_run.proofs.GoingOn.{one_goes}
 use Rattle.fire_run.proofs.OneMoves.{moved_busy, one_moved}
 use Rattle.fire_run.specs.NetOf.{OneMore}
 use Rattle.fire_run.proofs.Standing.{can_send, single_tasks, net_again, idle_again}
@@ -98,6 +100,41 @@ returns-clause-step g c =
     ends c.settle_all.ensures.still
     (subst (λ q. MayHaveMoved q c.args.self.now.tasks c.move_last.new.tasks c.args.self.now.cells c.move_last.new.cells) c.raw.ensures.raw
     (c.in_ok-moved.ensures.step t))
+
+pub returns-clause-goes : goal.returns-clause-goes
+returns-clause-goes g c =
+    let p = c.args.plan.now in
+    let r = c.requires in
+    let k : AreTasks p (added p (logs_of c.move_last.new.cells)) c.move_last.new.tasks
+    = subst (λ q. AreTasks q (added q (logs_of c.move_last.new.cells)) c.move_last.new.tasks) c.raw.ensures.raw c.in_ok-moved.ensures.tasks in
+    let m : HaveMoved p c.args.self.now.cells c.move_last.new.cells =
+    subst (λ q. HaveMoved q c.args.self.now.cells c.move_last.new.cells) c.raw.ensures.raw c.in_ok-moved.ensures.cells in
+    let net : Net = record { tasks = c.settle_all.new.tasks; links = c.args.self.now.links; cells = c.move_last.new.cells; refused = false } in
+    let ends = still_ends c.move_last.new.tasks c.settle_all.new.tasks c.settle_all.ensures.still ∙ c.in_ok-moved.ensures.same in
+    one_goes p c.args.self.now.tasks c.settle_all.new.tasks c.args.self.now.cells c.move_last.new.cells c.in_ok-moved.moved
+    (λ t. one_moved p r.inputs r.caps c.args.self.now net c.move_last.new.tasks c.raw.ensures.valid r.is
+    (net_again p r.inputs r.caps c.args.self.now net c.move_last.new.tasks c.raw.ensures.valid r.is k c.in_ok-moved.ensures.same c.settle_all.ensures.still refl
+    c.settle_all.ensures.met m)
+    ends c.settle_all.ensures.still
+    (subst (λ q. MayHaveMoved q c.args.self.now.tasks c.move_last.new.tasks c.args.self.now.cells c.move_last.new.cells) c.raw.ensures.raw
+    (c.in_ok-moved.ensures.step t)))
+    (λ f. c.settle_all.ensures.still ∙ c.in_ok-moved.ensures.still f)
+
+pub returns-clause-bounded : goal.returns-clause-bounded
+returns-clause-bounded g c = λ inputs caps n t.
+    let p = c.args.plan.now in
+    let k : AreTasks p (added p (logs_of c.move_last.new.cells)) c.move_last.new.tasks
+    = subst (λ q. AreTasks q (added q (logs_of c.move_last.new.cells)) c.move_last.new.tasks) c.raw.ensures.raw c.in_ok-moved.ensures.tasks in
+    let m : HaveMoved p c.args.self.now.cells c.move_last.new.cells =
+    subst (λ q. HaveMoved q c.args.self.now.cells c.move_last.new.cells) c.raw.ensures.raw c.in_ok-moved.ensures.cells in
+    let net : Net = record { tasks = c.settle_all.new.tasks; links = c.args.self.now.links; cells = c.move_last.new.cells; refused = false } in
+    let ends = still_ends c.move_last.new.tasks c.settle_all.new.tasks c.settle_all.ensures.still ∙ c.in_ok-moved.ensures.same in
+    let again = net_again p inputs caps c.args.self.now net c.move_last.new.tasks c.raw.ensures.valid n k c.in_ok-moved.ensures.same c.settle_all.ensures.still
+    refl c.settle_all.ensures.met m in
+    moved_state p inputs caps c.args.self.now net c.raw.ensures.valid n again
+    (one_moved p inputs caps c.args.self.now net c.move_last.new.tasks c.raw.ensures.valid n again ends c.settle_all.ensures.still
+    (subst (λ q. MayHaveMoved q c.args.self.now.tasks c.move_last.new.tasks c.args.self.now.cells c.move_last.new.cells) c.raw.ensures.raw
+    (c.in_ok-moved.ensures.step t)))
 
 pub returns-clause-busy : goal.returns-clause-busy
 returns-clause-busy g c =
