@@ -16,17 +16,17 @@ run_live-requires-clause-caps g c = λ _ _. ready-capped c.args.gathered c.requi
 
 pub print_outcome-requires-clause-outs : goal.print_outcome-requires-clause-outs
 print_outcome-requires-clause-outs g c =
-    ap (λ (o : Outcome). length o.outs) c.outcome.ensures ∙ ap length c.in_ok-ran.ensures.outs
+    ap (λ (o : Outcome). length o.outs) c.outcome.ensures ∙ ap length c.in_ok-ran.ensures.ran.outs
     ∙ length-map (decl_names c.args.gathered.plan.outputs) (hist c.args.gathered.plan c.args.gathered.inputs)
     ∙ length-map c.args.gathered.plan.outputs (λ d. d.name)
 
 pub print_outcome-requires-clause-tables : goal.print_outcome-requires-clause-tables
 print_outcome-requires-clause-tables g c =
-    ap (λ (o : Outcome). length o.tables) c.outcome.ensures ∙ ap length c.in_ok-ran.ensures.tables
+    ap (λ (o : Outcome). length o.tables) c.outcome.ensures ∙ ap length c.in_ok-ran.ensures.ran.tables
     ∙ length-map c.args.gathered.plan.tables (λ t. kept_of t.kind (all_adds c.args.gathered.plan c.args.gathered.inputs t.name))
 
 pub returns : goal.returns
 returns g c =
     let ran = c.in_ok-ran.ran.outcome in
     run-says c.args.gathered c.args.counted ran.outs (map rows_of ran.tables) ran.counts c.print_outcome.result
-    (rw c.outcome.ensures at c.print_outcome.ensures) c.in_ok-ran.ensures.outs c.in_ok-ran.ensures.rows c.in_ok-ran.ensures.counts
+    (rw c.outcome.ensures at c.print_outcome.ensures) c.in_ok-ran.ensures.ran.outs c.in_ok-ran.ensures.ran.rows c.in_ok-ran.ensures.ran.counts
