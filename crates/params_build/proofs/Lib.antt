@@ -1,3 +1,4 @@
 pub mod Judging
 pub mod Last
+pub mod Named
 pub mod Trees

@@ -12,16 +12,17 @@ ghost use Rattle.params_build.specs.Told.{Judges};
 
 use crate::Fault;
 use crate::constant::known_option;
-use params_text::{ParamFilter, ParamRates, ParamWork, is_one_of};
+use crate::names::KnownNames;
+use params_text::{ParamFilter, ParamRates, ParamWork};
 use river_base::Name;
 use streamit_text::{Block, Statement};
 
 // The fields.
-fn other_names(params: &[Name], names: &[Name]) -> Result<(), Fault>
+fn other_names(params: &KnownNames, names: &[Name]) -> Result<(), Fault>
     ensures { (k : ℕ) → Judges k result (other_names k params.now names.now) }
 {
     'names: for each in names {
-        if is_one_of(params, each) {
+        if params.has(each) {
             return Err(Fault::NameTwice);
         }
     }
@@ -29,10 +30,10 @@ fn other_names(params: &[Name], names: &[Name]) -> Result<(), Fault>
 }
 
 // A name that is declared.
-fn declared(params: &[Name], name: &Name) -> Result<(), Fault>
+fn declared(params: &KnownNames, name: &Name) -> Result<(), Fault>
     ensures { (k : ℕ) → Judges k result (demand (not (is_one_of params.now name.now)) k NameTwice) }
 {
-    if is_one_of(params, name) {
+    if params.has(name) {
         Err(Fault::NameTwice)
     } else {
         Ok(())
@@ -42,13 +43,13 @@ fn declared(params: &[Name], name: &Name) -> Result<(), Fault>
 // A statement.
 #[cycle(judged)]
 #[tactic(auto, using(streamit_text::proofs::Trees::trees))]
-fn statement(params: &[Name], one: &Statement) -> Result<(), Fault>
+fn statement(params: &KnownNames, one: &Statement) -> Result<(), Fault>
     ensures { (k : ℕ) → Judges k result (statement_judged k params.now (statement one.now)) }
 {
     match one {
         Statement::Declare { name, .. } => declared(params, name),
         Statement::Assign { name, .. } => {
-            if is_one_of(params, name) {
+            if params.has(name) {
                 Err(Fault::NotConstant)
             } else {
                 Ok(())
@@ -68,7 +69,7 @@ fn statement(params: &[Name], one: &Statement) -> Result<(), Fault>
 
 // A block.
 #[cycle(judged)]
-fn block(params: &[Name], all: &Block) -> Result<(), Fault>
+fn block(params: &KnownNames, all: &Block) -> Result<(), Fault>
     ensures { (k : ℕ) → Judges k result (block_judged k params.now (block all.now)) }
 {
     'items: for each in all.items.as_slice() {
@@ -82,7 +83,7 @@ fn block(params: &[Name], all: &Block) -> Result<(), Fault>
 
 // A block that may be left out.
 #[cycle(judged)]
-fn optional_block(params: &[Name], all: &Option<Block>) -> Result<(), Fault>
+fn optional_block(params: &KnownNames, all: &Option<Block>) -> Result<(), Fault>
     ensures { (k : ℕ) → Judges k result (optional_judged k params.now (optional_block all.now)) }
 {
     match all {
@@ -92,7 +93,7 @@ fn optional_block(params: &[Name], all: &Option<Block>) -> Result<(), Fault>
 }
 
 // The rates.
-fn rates(params: &[Name], rates: &ParamRates) -> bool
+fn rates(params: &KnownNames, rates: &ParamRates) -> bool
     ensures { result
         ≡ (known_option params.now (optional expression rates.now.push)
         && (known_option params.now (optional expression rates.now.pop) && known_option params.now (optional expression rates.now.peek))) }
@@ -103,7 +104,7 @@ fn rates(params: &[Name], rates: &ParamRates) -> bool
 }
 
 // `work` or `prework`.
-fn work(params: &[Name], work: &ParamWork) -> Result<(), Fault>
+fn work(params: &KnownNames, work: &ParamWork) -> Result<(), Fault>
     ensures { (k : ℕ) → Judges k result (work_judged k params.now (work_of work.now)) }
 {
     if !rates(params, &work.rates) {
@@ -113,7 +114,7 @@ fn work(params: &[Name], work: &ParamWork) -> Result<(), Fault>
 }
 
 // `prework`, which may be left out.
-fn prework(params: &[Name], prework: &Option<ParamWork>) -> Result<(), Fault>
+fn prework(params: &KnownNames, prework: &Option<ParamWork>) -> Result<(), Fault>
     ensures { (k : ℕ) → Judges k result (prework_judged k params.now (optional work_of prework.now)) }
 {
     match prework {
@@ -123,7 +124,7 @@ fn prework(params: &[Name], prework: &Option<ParamWork>) -> Result<(), Fault>
 }
 
 // `prework`, which may be left out, and `work`.
-fn works(params: &[Name], tree: &ParamFilter) -> Result<(), Fault>
+fn works(params: &KnownNames, tree: &ParamFilter) -> Result<(), Fault>
     ensures { (k : ℕ) → Judges k result (judged_then (prework_judged k params.now (optional work_of tree.now.prework))
         (work_judged k params.now (work_of tree.now.work))) }
 {
@@ -132,7 +133,7 @@ fn works(params: &[Name], tree: &ParamFilter) -> Result<(), Fault>
 }
 
 // What stands behind the fields.
-fn blocks(params: &[Name], tree: &ParamFilter) -> Result<(), Fault>
+fn blocks(params: &KnownNames, tree: &ParamFilter) -> Result<(), Fault>
     ensures { (k : ℕ)
         → Judges k result (judged_then (optional_judged k params.now (optional_block tree.now.init))
         (judged_then (prework_judged k params.now (optional work_of tree.now.prework)) (work_judged k params.now (work_of tree.now.work)))) }
@@ -142,7 +143,7 @@ fn blocks(params: &[Name], tree: &ParamFilter) -> Result<(), Fault>
 }
 
 /// A filter with these parameters.
-pub fn filter(params: &[Name], tree: &ParamFilter) -> Result<(), Fault>
+pub fn filter(params: &KnownNames, tree: &ParamFilter) -> Result<(), Fault>
     ensures { (k : ℕ) → Judges k result (filter_judged k params.now (filter_of tree.now)) }
 {
     other_names(params, tree.fields.as_slice())?;

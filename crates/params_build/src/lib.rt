@@ -6,6 +6,7 @@ mod constant;
 mod fault;
 mod filter;
 mod judge;
+mod names;
 mod step;
 mod unit;
 

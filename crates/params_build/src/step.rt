@@ -1,6 +1,6 @@
 // Steps judged: no variable of a loop has a name that is known, the names of constants are known, and each stream that is added is
 // declared above, with as many parameters as there are arguments.
-ghost use Rattle.std.specs.Prelude.{◌≡◌, ℕ, not, ◌&&◌, [], ◌∷◌, ◌++◌, length, OnOk};
+ghost use Rattle.std.specs.Prelude.{◌≡◌, ℕ, not, false, ◌&&◌, [], ◌∷◌, ◌++◌, length, OnOk};
 ghost use Rattle.streamit_text.specs.Tree.{expression};
 ghost use Rattle.params_text.specs.Params.{is_one_of};
 ghost use Rattle.params_text.specs.Program.{expressions, step_of, steps_of};
@@ -13,12 +13,18 @@ ghost use Rattle.params_build.specs.Told.{Judges};
 use crate::Fault;
 use crate::above::StreamsAbove;
 use crate::constant::{all_known, are_known};
-use params_text::{Step, Steps, is_one_of};
+use crate::names::KnownNames;
+use params_text::{Step, Steps};
 use river_base::{Name, NoMemory};
 use streamit_text::Expr;
 
 // The arguments of an `add`, and how many there are.
-fn given(above: &StreamsAbove, known: &[Name], name: &Name, args: &Vec<Expr>) -> Result<(), Fault>
+fn given(
+    above: &StreamsAbove,
+    known: &KnownNames,
+    name: &Name,
+    args: &Vec<Expr>,
+) -> Result<(), Fault>
     ensures { (k : ℕ) (us : Above) → CountsParameters above.now us
         → Judges k result (judged_then (demand (all_known known.now (expressions args.now)) k UnknownName)
         (demand (has_arity (look us name.now) (length args.now.items)) k Arity)) }
@@ -30,7 +36,7 @@ fn given(above: &StreamsAbove, known: &[Name], name: &Name, args: &Vec<Expr>) ->
 }
 
 // An `add`.
-fn add(above: &StreamsAbove, known: &[Name], name: &Name, args: &Vec<Expr>) -> Result<(), Fault>
+fn add(above: &StreamsAbove, known: &KnownNames, name: &Name, args: &Vec<Expr>) -> Result<(), Fault>
     ensures { (k : ℕ) (us : Above) → CountsParameters above.now us
         → Judges k result (judged_then (demand (is_there (look us name.now)) k UnknownName)
         (judged_then (demand (all_known known.now (expressions args.now)) k UnknownName)
@@ -41,12 +47,13 @@ fn add(above: &StreamsAbove, known: &[Name], name: &Name, args: &Vec<Expr>) -> R
 }
 
 // The head of a loop.
-fn head(known: &[Name], name: &Name, low: &Expr, high: &Expr) -> Result<(), Fault>
-    ensures { (k : ℕ)
+fn head(known: &KnownNames, name: &Name, low: &Expr, high: &Expr) -> Result<(), Fault>
+    ensures judged { (k : ℕ)
         → Judges k result (judged_then (demand (not (is_one_of known.now name.now)) k NameTwice)
         (demand (are_known known.now (expression low.now) && are_known known.now (expression high.now)) k UnknownName)) }
+    ensures new { OnOk result (is_one_of known.now name.now ≡ false) }
 {
-    if is_one_of(known, name) {
+    if known.has(name) {
         return Err(Fault::NameTwice);
     }
     if are_known(known, low) && are_known(known, high) {
@@ -57,22 +64,23 @@ fn head(known: &[Name], name: &Name, low: &Expr, high: &Expr) -> Result<(), Faul
 }
 
 // One name more is known.
-fn more(known: &mut Vec<Name>, name: Name) -> Result<(), NoMemory>
-    ensures { OnOk result (known.new.items ≡ known.old.items ++ name ∷ []) }
+fn more(known: &mut KnownNames, name: Name) -> Result<(), NoMemory>
+    requires { is_one_of known.old name ≡ false }
+    ensures { OnOk result (known.new ≡ known.old ++ name ∷ []) }
 {
-    known.push(name)?;
+    known.add(name)?;
     Ok(())
 }
 
 // A step, with the names that are known there, which it leaves as they are.
 #[cycle(judged)]
 #[tactic(auto, using(params_text::proofs::StepTrees::steps))]
-fn step(above: &StreamsAbove, known: &mut Vec<Name>, one: &Step) -> Result<(), Fault>
-    ensures judged { (k : ℕ) (us : Above) → CountsParameters above.now us → Judges k result (step_judged k us known.old.items (step_of one.now)) }
-    ensures kept { OnOk result (known.new.items ≡ known.old.items) }
+fn step(above: &StreamsAbove, known: &mut KnownNames, one: &Step) -> Result<(), Fault>
+    ensures judged { (k : ℕ) (us : Above) → CountsParameters above.now us → Judges k result (step_judged k us known.old (step_of one.now)) }
+    ensures kept { OnOk result (known.new ≡ known.old) }
 {
     match one {
-        Step::Add { name, args } => add(above, known.as_slice(), name, args),
+        Step::Add { name, args } => add(above, known, name, args),
         Step::Loop {
             name,
             low,
@@ -80,7 +88,7 @@ fn step(above: &StreamsAbove, known: &mut Vec<Name>, one: &Step) -> Result<(), F
             steps: body,
             ..
         } => {
-            head(known.as_slice(), name, low, high)?;
+            head(known, name, low, high)?;
             turn(above, known, name, body)
         }
     }
@@ -88,22 +96,29 @@ fn step(above: &StreamsAbove, known: &mut Vec<Name>, one: &Step) -> Result<(), F
 
 // The steps of a loop with this variable.
 #[cycle(judged)]
-fn turn(above: &StreamsAbove, known: &mut Vec<Name>, name: &Name, body: &Steps) -> Result<(), Fault>
+fn turn(
+    above: &StreamsAbove,
+    known: &mut KnownNames,
+    name: &Name,
+    body: &Steps,
+) -> Result<(), Fault>
+    requires { is_one_of known.old name.now ≡ false }
     ensures judged { (k : ℕ) (us : Above) → CountsParameters above.now us
-        → Judges k result (steps_judged k us (known.old.items ++ name.now ∷ []) (steps_of body.now)) }
-    ensures kept { OnOk result (known.new.items ≡ known.old.items) }
+        → Judges k result (steps_judged k us (known.old ++ name.now ∷ []) (steps_of body.now)) }
+    ensures kept { OnOk result (known.new ≡ known.old) }
 {
+    let count = known.len();
     more(known, *name)?;
     steps(above, known, body)?;
-    known.pop();
+    known.truncate(count);
     Ok(())
 }
 
 /// Steps, one after another, with the names that are known there, which they leave as they are.
 #[cycle(judged)]
-pub fn steps(above: &StreamsAbove, known: &mut Vec<Name>, all: &Steps) -> Result<(), Fault>
-    ensures judged { (k : ℕ) (us : Above) → CountsParameters above.now us → Judges k result (steps_judged k us known.old.items (steps_of all.now)) }
-    ensures kept { OnOk result (known.new.items ≡ known.old.items) }
+pub fn steps(above: &StreamsAbove, known: &mut KnownNames, all: &Steps) -> Result<(), Fault>
+    ensures judged { (k : ℕ) (us : Above) → CountsParameters above.now us → Judges k result (steps_judged k us known.old (steps_of all.now)) }
+    ensures kept { OnOk result (known.new ≡ known.old) }
 {
     'items: for each in all.items.as_slice() {
         match step(above, known, each) {

@@ -1,4 +1,5 @@
 pub mod Accepted
+pub mod Events
 pub mod FitConstants
 pub mod InstanceNames
 pub mod Instances

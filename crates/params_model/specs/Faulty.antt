@@ -1,5 +1,5 @@
 -- Which fault the text of a program with parameters has, as a relation: no place before the faulty one has a fault, and the faulty one
--- has this fault. What is told of elaboration comes behind it, and is said by Making.
+-- has this fault. What is told of elaboration comes behind it, and is said by Events.
 use Rattle.std.specs.Prelude.{◌≡◌, ◌⊎◌, ◌↔◌, ℕ, List, [], ◌∷◌, ◌++◌, Some, Ok, Err}
 use Rattle.std.specs.List.{AllByRecursion}
 use Rattle.river_plan.specs.Forms.{Name}

@@ -1,5 +1,6 @@
 pub mod Constants
 pub mod Environment
+pub mod Events
 pub mod Faulty
 pub mod Judged
 pub mod Laws

@@ -1,5 +1,6 @@
 //! Laws over the definitions alone.
 ghost use Rattle.params_model.specs.Constants.{ConstantsAreFit};
+ghost use Rattle.params_model.specs.Events.{MakingRefusalsAre, MakingIsDone};
 ghost use Rattle.params_model.specs.Faulty.{RefusalsAre, AcceptedAre};
 ghost use Rattle.params_model.specs.Laws.{ElaborationMeans, ElaboratedMeans, MadeStands, ElaboratedStands, TextsAreWritten};
 
@@ -36,4 +37,12 @@ pub fn constants_are_fit()
 pub fn refusals_are()
     ensures refused { RefusalsAre }
     ensures accepted { AcceptedAre }
+{}
+
+/// What is made of a program whose text has no fault is refused exactly where something that happens
+/// meanwhile is wrong, with the first that is; and it is made exactly where nothing is.
+#[tactic(auto, using(crate::proofs::Events::making_refusals_are, crate::proofs::Events::making_is_done))]
+pub fn making_refusals_are()
+    ensures refused { MakingRefusalsAre }
+    ensures done { MakingIsDone }
 {}

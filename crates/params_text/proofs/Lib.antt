@@ -1,5 +1,6 @@
 pub mod Chains
 pub mod Expressions
+pub mod Found
 pub mod Lists
 pub mod Lows
 pub mod ParamTexts

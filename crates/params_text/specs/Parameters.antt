@@ -1,6 +1,8 @@
 -- The leaves of a language with parameters: those of StreamIt, where a NAME that is a parameter counts as one open bracket.
 use Rattle.std.specs.Prelude.{◌≡◌, ℕ, zero, suc, true, false, List, [], ◌∷◌, None, Some, codes, if◌then◌else◌}
+use Rattle.std.specs.List.{list_any}
 use Rattle.std.specs.Str.{bytes_eq}
+use Rattle.river_base.specs.Name.{name_eq}
 use Rattle.work_text.specs.Tok.{Tok}
 use Rattle.work_text.specs.Tok as tok
 use Rattle.work_text.specs.declared.sign.Symbol.TheVariants as s
@@ -9,6 +11,10 @@ use Rattle.streamit_text.specs.Leaves.{pop_at}
 use Rattle.streamit_text.specs.Tree.{Expression, Number, Name, Pop}
 use Rattle.streamit_text.specs.Words.{is_own}
 use Rattle.params_text.specs.Params.{is_one_of}
+
+-- the keys of a set have the same names as the list
+abbrev pub Finds : List (List ℕ) → List (List ℕ) → Type 0
+Finds keys ps = (n : List ℕ) → list_any (name_eq n) keys ≡ is_one_of ps n
 
 -- the tokens are this leaf, where `n` more brackets may be open
 pub data IsLeafWith (ps : List (List ℕ)) : (n : ℕ) (t : Expression) (ts : List Tok) → Type 0 where

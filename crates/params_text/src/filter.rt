@@ -13,7 +13,7 @@ ghost use Rattle.params_text.specs.View.{rate_of, rates_of, both_works};
 use crate::constant::constant;
 use crate::low::low;
 use crate::parameters::WithParameters;
-use crate::{ParamFilter, ParamRates, ParamWork};
+use crate::{ParamFilter, ParamRates, ParamWork, Parameters};
 use river_base::Name;
 use std::alloc::Global;
 use streamit_text::{Block, Expr, Streamit, fields, stay};
@@ -117,7 +117,7 @@ fn rates(reader: &mut Reader<'_>, alloc: Global, brackets: u32) -> Result<ParamR
 fn statements(
     reader: &mut Reader<'_>,
     alloc: Global,
-    params: &[Name],
+    params: &Parameters,
     brackets: u32,
 ) -> Result<Block, Fault>
     ensures { Gives block result reader.new (statements_at params.now brackets reader.old) }
@@ -135,7 +135,7 @@ fn statements(
 fn block(
     reader: &mut Reader<'_>,
     alloc: Global,
-    params: &[Name],
+    params: &Parameters,
     brackets: u32,
 ) -> Result<Block, Fault>
     ensures { Gives block result reader.new (block_at params.now brackets reader.old) }
@@ -153,7 +153,7 @@ fn block(
 fn still(
     reader: &mut Reader<'_>,
     alloc: Global,
-    params: &[Name],
+    params: &Parameters,
     brackets: u32,
 ) -> Result<Block, Fault>
     ensures { Gives block result reader.new (still_at params.now brackets reader.old) }
@@ -171,7 +171,7 @@ fn still(
 fn init(
     reader: &mut Reader<'_>,
     alloc: Global,
-    params: &[Name],
+    params: &Parameters,
     brackets: u32,
 ) -> Result<Option<Block>, Fault>
     ensures { Gives optional_block result reader.new (init_at params.now brackets reader.old) }
@@ -188,7 +188,7 @@ fn init(
 fn work(
     reader: &mut Reader<'_>,
     alloc: Global,
-    params: &[Name],
+    params: &Parameters,
     brackets: u32,
 ) -> Result<ParamWork, Fault>
     ensures { Gives work_of result reader.new (work_at params.now brackets reader.old) }
@@ -203,7 +203,7 @@ fn work(
 fn prework(
     reader: &mut Reader<'_>,
     alloc: Global,
-    params: &[Name],
+    params: &Parameters,
     brackets: u32,
 ) -> Result<Option<ParamWork>, Fault>
     ensures { Gives (optional work_of) result reader.new (prework_at params.now brackets reader.old) }
@@ -219,7 +219,7 @@ fn prework(
 fn main_work(
     reader: &mut Reader<'_>,
     alloc: Global,
-    params: &[Name],
+    params: &Parameters,
     brackets: u32,
 ) -> Result<ParamWork, Fault>
     ensures { Gives work_of result reader.new (after_word (codes "work") (work_at params.now brackets) reader.old) }
@@ -233,7 +233,7 @@ fn main_work(
 fn works(
     reader: &mut Reader<'_>,
     alloc: Global,
-    params: &[Name],
+    params: &Parameters,
     brackets: u32,
 ) -> Result<(Option<ParamWork>, ParamWork), Fault>
     ensures { Gives both_works result reader.new (works_at params.now brackets reader.old) }
@@ -248,7 +248,7 @@ fn works(
 fn in_filter(
     reader: &mut Reader<'_>,
     alloc: Global,
-    params: &[Name],
+    params: &Parameters,
     brackets: u32,
 ) -> Result<ParamFilter, Fault>
     ensures { Gives filter_of result reader.new (in_filter_at params.now brackets reader.old) }
@@ -264,8 +264,22 @@ fn in_filter(
     })
 }
 
-/// `{` what a filter with these parameters has `}`
+// `{` what a filter with these parameters has `}`
 #[tactic(auto, unfolding(crate::specs::Reading::filter_at))]
+fn braced(
+    reader: &mut Reader<'_>,
+    alloc: Global,
+    params: &Parameters,
+    brackets: u32,
+) -> Result<ParamFilter, Fault>
+    ensures { Gives filter_of result reader.new (filter_at params.now brackets reader.old) }
+{
+    let inner = reader.opens(Symbol::OpenBrace, brackets)?;
+    let filter = in_filter(reader, alloc, params, inner)?;
+    closed(reader, filter, Symbol::CloseBrace)
+}
+
+/// `{` what a filter with these parameters has `}`
 pub fn filter(
     reader: &mut Reader<'_>,
     alloc: Global,
@@ -274,7 +288,6 @@ pub fn filter(
 ) -> Result<ParamFilter, Fault>
     ensures { Gives filter_of result reader.new (filter_at params.now brackets reader.old) }
 {
-    let inner = reader.opens(Symbol::OpenBrace, brackets)?;
-    let filter = in_filter(reader, alloc, params, inner)?;
-    closed(reader, filter, Symbol::CloseBrace)
+    let params = Parameters::of(alloc, params)?;
+    braced(reader, alloc, &params, brackets)
 }

@@ -5,6 +5,7 @@
 mod both;
 mod constant;
 mod filter;
+mod known;
 pub mod laws;
 mod low;
 mod parameters;
@@ -13,7 +14,8 @@ mod read;
 mod step;
 mod unit;
 
-pub use parameters::{WithParameters, is_one_of};
+pub use known::Parameters;
+pub use parameters::WithParameters;
 pub use program::{
     ParamBody, ParamFilter, ParamRates, ParamSplit, ParamSplitJoin, ParamUnit, ParamWork, Rounds,
     Step, Steps,

@@ -3,19 +3,18 @@ ghost use Rattle.std.specs.Prelude.{◌≡◌, nat_le};
 ghost use Rattle.streamit_text.specs.Tree.{expression, option_expression, statement, block, optional_block};
 ghost use Rattle.params_text.specs.Params.{param_depth, is_low_first, lows, low, low_optional};
 
-use crate::parameters::is_one_of;
-use river_base::Name;
+use crate::Parameters;
 use streamit_text::{Block, Expr, Statement};
 
 // Whether the expression is at most so deep.
 #[tactic(auto, using(crate::proofs::Lows::withins))]
-fn is_within(names: &[Name], e: &Expr, most: u32) -> bool
+fn is_within(names: &Parameters, e: &Expr, most: u32) -> bool
     ensures { result ≡ nat_le (param_depth names.now (expression e.now)) most }
 {
     match e {
         Expr::Number(_) | Expr::Pop => most >= 1,
         Expr::Name(name) => {
-            if is_one_of(names, name) {
+            if names.has(name) {
                 most >= 3
             } else {
                 most >= 1
@@ -31,7 +30,7 @@ fn is_within(names: &[Name], e: &Expr, most: u32) -> bool
 }
 
 // Whether the first value is low, if there is one.
-fn is_low_first(names: &[Name], value: &Option<Expr>) -> bool
+fn is_low_first(names: &Parameters, value: &Option<Expr>) -> bool
     ensures { result ≡ is_low_first names.now (option_expression value.now) }
 {
     match value {
@@ -42,7 +41,7 @@ fn is_low_first(names: &[Name], value: &Option<Expr>) -> bool
 
 // Whether the second arm is, if there is one.
 #[cycle(low)]
-fn low_optional(names: &[Name], no: &Option<Block>) -> bool
+fn low_optional(names: &Parameters, no: &Option<Block>) -> bool
     ensures { result ≡ low_optional names.now (optional_block no.now) }
 {
     match no {
@@ -54,7 +53,7 @@ fn low_optional(names: &[Name], no: &Option<Block>) -> bool
 // Whether the expressions of the statement are.
 #[cycle(low)]
 #[tactic(auto, using(streamit_text::proofs::Trees::trees))]
-fn lows(names: &[Name], one: &Statement) -> bool
+fn lows(names: &Parameters, one: &Statement) -> bool
     ensures { result ≡ lows names.now (statement one.now) }
 {
     match one {
@@ -76,7 +75,7 @@ fn lows(names: &[Name], one: &Statement) -> bool
 /// Whether each expression of the block is at most 64 deep, where a parameter counts as 3 deep.
 #[cycle(low)]
 #[tactic(auto, using(streamit_text::proofs::Trees::trees))]
-pub fn low(names: &[Name], all: &Block) -> bool
+pub fn low(names: &Parameters, all: &Block) -> bool
     ensures { result ≡ low names.now (block all.now) }
 {
     'items: for each in all.items.as_slice() {

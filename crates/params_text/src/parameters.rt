@@ -6,6 +6,7 @@ ghost use Rattle.streamit_text.specs.Tree.{expression, depth_of};
 ghost use Rattle.params_text.specs.Parameters.{place_at, named_with, leaf_with, IsLeafWith};
 ghost use Rattle.params_text.specs.Params.{is_one_of};
 
+use crate::Parameters;
 use river_base::Name;
 use streamit_text::{Expr, Leaves, own, pop};
 use text_forms::{Fault, Reader, is};
@@ -14,28 +15,16 @@ use work_text::Token;
 /// StreamIt's leaves, where a name that is one of these parameters counts as one open bracket.
 #[derive(Clone, Copy)]
 pub struct WithParameters<'p> {
-    pub names: &'p [Name],
-}
-
-/// Whether a name is one of these.
-pub fn is_one_of(names: &[Name], name: &Name) -> bool
-    ensures { result ≡ is_one_of names.now name.now }
-{
-    'names: for each in names {
-        if each == name {
-            return true;
-        }
-    }
-    false
+    pub names: &'p Parameters,
 }
 
 // A name, where no more brackets may be open.
 #[tactic(auto, using(crate::proofs::Places::places))]
-fn last_place(names: &[Name], name: Name) -> Result<Expr, Fault>
+fn last_place(names: &Parameters, name: Name) -> Result<Expr, Fault>
     ensures reads { (ts : List Tok) → Gives expression result ts (place_at names.now 0 name ts) }
     ensures depth { IfOk result (λ e. depth_of (expression e) ≡ 1) }
 {
-    if is_one_of(names, &name) {
+    if names.has(&name) {
         Err(Fault::Syntax)
     } else {
         Ok(Expr::Name(name))
@@ -44,7 +33,12 @@ fn last_place(names: &[Name], name: Name) -> Result<Expr, Fault>
 
 // A name, where so many more brackets may be open.
 #[tactic(auto, using(crate::proofs::Places::places))]
-fn place(reader: &mut Reader<'_>, names: &[Name], brackets: u32, name: Name) -> Result<Expr, Fault>
+fn place(
+    reader: &mut Reader<'_>,
+    names: &Parameters,
+    brackets: u32,
+    name: Name,
+) -> Result<Expr, Fault>
     ensures reads { Gives expression result reader.new (place_at names.now brackets name reader.old) }
     ensures depth { IfOk result (λ e. depth_of (expression e) ≡ 1) }
 {
@@ -58,7 +52,7 @@ fn place(reader: &mut Reader<'_>, names: &[Name], brackets: u32, name: Name) -> 
 #[tactic(auto, unfolding(crate::specs::Parameters::named_with))]
 fn named_with(
     reader: &mut Reader<'_>,
-    names: &[Name],
+    names: &Parameters,
     brackets: u32,
     text: &[u8],
 ) -> Result<Expr, Fault>

@@ -1,5 +1,5 @@
 -- Statements that were read so far, and those that are read after them.
-use Rattle.std.proofs.Common.{◌≡◌, ℕ, ◌+◌, ◌-◌, ◌<◌, ◌≤◌, List, [], ◌∷◌, ◌++◌, length, take, map, Bool, Result, Ok, Err, refl, sym, ap}
+use Rattle.std.proofs.Common.{◌≡◌, ℕ, zero, suc, ◌+◌, ◌-◌, ◌<◌, ◌≤◌, List, [], ◌∷◌, ◌++◌, length, take, map, Bool, Result, Ok, Err, refl, sym, ap}
 use Rattle.std.proofs.Common.{◌∙◌, subst, arith, append_assoc, append-nil}
 use Rattle.work_code.specs.declared.code.Stmt.{Stmt}
 use Rattle.work_code.specs.declared.code.Stmts.{Stmts}
@@ -16,6 +16,7 @@ use Rattle.std.specs.Prelude.{if◌then◌else◌, nat_eq}
 use Rattle.streamit_unroll.specs.declared.unroll.Unroller.{Unroller}
 use Rattle.streamit_unroll.specs.declared.names.Known.{Known}
 use Rattle.streamit_unroll.specs.declared.names.Known.TheVariants as known
+use Rattle.streamit_unroll.specs.Lean.{discards}
 use Rattle.streamit_unroll.specs.View.{scope_of, Tells}
 use Rattle.streamit_unroll.proofs.Scopes.{scope-push}
 use Rattle.streamit_unroll.specs.Unrolling.{at_of, KeepsNames, AreWritten, Reads, turn_of, turns_of, ReadsTurn}
@@ -90,39 +91,88 @@ tells_more faults.Limit r r' h e = h spec.Limit e
 tells_more faults.Weights r r' h e = h spec.Weights e
 tells_more faults.NoMemory r r' h e = tt
 
-steps_ok : (e : ℕ) (c : source.Statement) (rest : source.Block) (s : At) (a : Steps) (s' : At) → step_of e c s ≡ Ok (a, s')
-    → steps_of e (source.Then c rest) s ≡ behind a (steps_of e rest s')
-steps_ok e c rest s a s' h = ap (λ r. on_ok r (λ p. on_ok (steps_of e rest p.1) (λ q. Ok (both_steps p.0 q.0, q.1)))) h
+-- the statements of two lists
+steps_append : (e : ℕ) (cs rest : List source.Statement) (s : At)
+    → steps_of e (source.in_turn (cs ++ rest)) s
+    ≡ on_ok (steps_of e (source.in_turn cs) s) (λ p. behind p.0 (steps_of e (source.in_turn rest) p.1))
+steps_append e [] rest s = sym (behind_none (steps_of e (source.in_turn rest) s))
+steps_append e (c ∷ cs) rest s = by (λ t. steps_append e cs rest t) (step_of e c s)
+  where
+    onward : Steps × At → Read
+    onward p = behind p.0 (steps_of e (source.in_turn rest) p.1)
 
-steps_err : (e : ℕ) (c : source.Statement) (rest : source.Block) (s : At) (g : Fault) → step_of e c s ≡ Err g → steps_of e (source.Then c rest) s ≡ Err g
-steps_err e c rest s g h = ap (λ r. on_ok r (λ p. on_ok (steps_of e rest p.1) (λ q. Ok (both_steps p.0 q.0, q.1)))) h
+    push : (a : Steps) (r : Read) → behind a (on_ok r onward) ≡ on_ok (behind a r) onward
+    push a (Err f) = refl
+    push a (Ok q) = behind_both a q.0 (steps_of e (source.in_turn rest) q.1)
 
--- one statement more
-pub block_next : (e : ℕ) (all : List source.Statement) (c : source.Statement) (rest : List source.Statement) (first now next : Unroller)
-    (out out' out'' : Stmts)
-    → BlockSoFar e all (c ∷ rest) first now out out' → Reads (Ok tt) out' out'' now next (step_of e c (at_of now)) → BlockSoFar e all rest first next out out''
-block_next e all c rest first now next out out' out'' f r = record {
+    by : ((t : At) → steps_of e (source.in_turn (cs ++ rest)) t ≡ on_ok (steps_of e (source.in_turn cs) t) onward) → (r : Read)
+        → on_ok r (λ p. behind p.0 (steps_of e (source.in_turn (cs ++ rest)) p.1))
+        ≡ on_ok (on_ok r (λ p. behind p.0 (steps_of e (source.in_turn cs) p.1))) onward
+    by rests (Err f) = refl
+    by rests (Ok p) = ap (behind p.0) (rests p.1) ∙ push p.0 (steps_of e (source.in_turn cs) p.1)
+
+-- one statement alone
+pub one_read : (e : ℕ) (c : source.Statement) (s : At) → steps_of e (source.in_turn (c ∷ [])) s ≡ step_of e c s
+one_read e c s = by (step_of e c s)
+  where
+    by : (r : Read) → on_ok r (λ p. on_ok (steps_of e source.End p.1) (λ q. Ok (both_steps p.0 q.0, q.1))) ≡ r
+    by (Err f) = refl
+    by (Ok p) = behind_done p.0 p.1
+
+-- so many `pop();`
+pub pops_read : (e n : ℕ) (s : At) → steps_of e (source.in_turn (discards n)) s ≡ Ok (Done, record s { popped = s.popped + n })
+pops_read e zero s = let same : s.popped ≡ s.popped + 0 = omega arith in ap (λ k. good (Done, record s { popped = k })) same
+pops_read e (suc n) s =
+    let same : s.popped + 1 + n ≡ s.popped + suc n = omega arith in
+    ap (behind Done) (pops_read e n (record s { popped = s.popped + 1 })) ∙ ap (λ k. good (Done, record s { popped = k })) same
+
+-- the numbers of both lists are values
+pub written_both : (cs rest : List source.Statement) → AreWritten (source.in_turn (cs ++ rest))
+    → AreWritten (source.in_turn cs) × AreWritten (source.in_turn rest)
+written_both [] rest w = (tt, w)
+written_both (c ∷ cs) rest w = let h = written_both cs rest w.1 in ((w.0, h.0), h.1)
+
+-- nothing was read
+pub block_start : (e : ℕ) (all : List source.Statement) (first : Unroller) (out : Stmts) → AreWritten (source.in_turn all)
+    → BlockSoFar e all all first first out out
+block_start e all first out w =
+    record {
+      added = [];
+      grew = sym (append-nil (statements out));
+      all_is = sym (behind_none (steps_of e (source.in_turn all) (at_of first)));
+      keeps = take_all (length first.names.items.items) first.names.items.items (omega arith);
+      written = w;
+    }
+
+-- some statements more
+pub block_more : (e : ℕ) (all cs rest : List source.Statement) (first now next : Unroller) (out out' out'' : Stmts)
+    → BlockSoFar e all (cs ++ rest) first now out out' → Reads (Ok tt) out' out'' now next (steps_of e (source.in_turn cs) (at_of now))
+    → BlockSoFar e all rest first next out out''
+block_more e all cs rest first now next out out' out'' f r = record {
   added = f.added ++ r.0;
   grew = r.1 ∙ ap (λ l. l ++ r.0) f.grew ∙ append_assoc (statements out) f.added r.0;
   all_is =
       f.all_is
-      ∙ ap (behind (in_turn (map step f.added))) (steps_ok e c (source.in_turn rest) (at_of now) (in_turn (map step r.0)) (at_of next) r.2)
+      ∙ ap (behind (in_turn (map step f.added)))
+      (steps_append e cs rest (at_of now) ∙ ap (λ x. on_ok x (λ p. behind p.0 (steps_of e (source.in_turn rest) p.1))) r.2)
       ∙ behind_both (in_turn (map step f.added)) (in_turn (map step r.0)) (steps_of e (source.in_turn rest) (at_of next))
       ∙ ap (λ a. behind a (steps_of e (source.in_turn rest) (at_of next)))
       (joined-in_turn (map step f.added) (map step r.0) ∙ ap in_turn (sym (map-append step f.added r.0)));
   keeps = prefix_trans first.names.items.items now.names.items.items next.names.items.items f.keeps r.3;
-  written = f.written.1;
+  written = (written_both cs rest f.written).1;
 }
 
--- a statement that is refused
-pub block_err : (e : ℕ) (all : List source.Statement) (c : source.Statement) (rest : List source.Statement) (first now next x y : Unroller)
-    (out out' out'' o n : Stmts) (result : Result (Unit {0}) fault.Fault) (f : fault.Fault)
-    → result ≡ Err f → BlockSoFar e all (c ∷ rest) first now out out' → Reads (Err f) out' out'' now next (step_of e c (at_of now))
+-- some statements are refused
+pub block_fault : (e : ℕ) (all cs rest : List source.Statement) (first now x y : Unroller) (out out' o n : Stmts) (result : Result (Unit {0}) fault.Fault)
+    (f : fault.Fault)
+    → result ≡ Err f → BlockSoFar e all (cs ++ rest) first now out out' → Tells f (steps_of e (source.in_turn cs) (at_of now))
     → Reads result o n x y (steps_of e (source.in_turn all) (at_of first))
-block_err e all c rest first now next x y out out' out'' o n result f is s r =
+block_fault e all cs rest first now x y out out' o n result f is s r =
     subst (λ t. Reads t o n x y (steps_of e (source.in_turn all) (at_of first))) (sym is)
-    (tells_more f (step_of e c (at_of now)) (steps_of e (source.in_turn all) (at_of first))
-    (λ g h. s.all_is ∙ ap (behind (in_turn (map step s.added))) (steps_err e c (source.in_turn rest) (at_of now) g h)) r)
+    (tells_more f (steps_of e (source.in_turn cs) (at_of now)) (steps_of e (source.in_turn all) (at_of first))
+    (λ g h. s.all_is
+    ∙ ap (behind (in_turn (map step s.added)))
+    (steps_append e cs rest (at_of now) ∙ ap (λ x. on_ok x (λ p. behind p.0 (steps_of e (source.in_turn rest) p.1))) h)) r)
 
 -- all statements
 pub block_end : (e : ℕ) (all : List source.Statement) (first now : Unroller) (out out' : Stmts) → BlockSoFar e all [] first now out out'
@@ -291,7 +341,8 @@ pub reads_err : (result : Result (Unit {0}) fault.Fault) (f : fault.Fault) (o n 
     → Reads result o n x y r
 reads_err result f o n x y r is t = subst (λ q. Reads q o n x y r) (sym is) t
 
--- an answer about a statement that is the same one
-pub reads_as : (result : Result (Unit {0}) fault.Fault) (o n : Stmts) (x y : Unroller) (e : ℕ) (s : At) {c d : source.Statement} → c ≡ d
-    → Reads result o n x y (step_of e d s) → Reads result o n x y (step_of e c s)
-reads_as result o n x y e s is h = subst (λ c. Reads result o n x y (step_of e c s)) (sym is) h
+-- an answer about a statement that is one alone
+pub reads_as : (result : Result (Unit {0}) fault.Fault) (o n : Stmts) (x y : Unroller) (e : ℕ) (s : At) {cs : List source.Statement} {d : source.Statement}
+    → cs ≡ d ∷ [] → Reads result o n x y (step_of e d s) → Reads result o n x y (steps_of e (source.in_turn cs) s)
+reads_as result o n x y e s {cs} {d} is h =
+    subst (λ l. Reads result o n x y (steps_of e (source.in_turn l) s)) (sym is) (subst (Reads result o n x y) (sym (one_read e d s)) h)

@@ -1,31 +1,42 @@
 // Blocks.
 ghost use Rattle.std.specs.Prelude.{◌≡◌, ◌≤◌, ◌+◌, ◌-◌, if◌then◌else◌};
 ghost use Rattle.streamit_model.specs.Elaborate.{step_of, steps_of, optional_of, unrolled};
-ghost use Rattle.streamit_text.specs.Tree.{If, expression, is_turn, statement, block, optional_block};
+ghost use Rattle.streamit_text.specs.Tree.{If, expression, is_turn, block, in_turn};
 ghost use Rattle.streamit_model.specs.Meaning.{numbers_from};
 ghost use Rattle.streamit_unroll.specs.Numbers.{AreValues};
+ghost use Rattle.streamit_unroll.specs.Lean.{lean, lean_block, lean_optional};
 ghost use Rattle.streamit_unroll.specs.View.{Judges};
-ghost use Rattle.streamit_unroll.specs.Unrolling.{at_of, Reads, ReadsArm, ReadsTurn, turn_of, turns_of, span, AreWritten, AreWrittenOptional, IsWritten};
+ghost use Rattle.streamit_unroll.specs.Unrolling.{at_of, Reads, ReadsArm, ReadsTurn, turn_of, turns_of, span, AreWritten, AreWrittenOptional};
 
+use crate::lean::{Lean, LeanBlock, lean_block};
 use crate::term::term;
 use crate::{Fault, Known, Unroller};
 use river_base::Name;
 use std::alloc::Global;
-use streamit_text::{Block, Expr, Statement, Until};
+use streamit_text::{Block, Expr, Until};
 use work_code::{Stmt, Stmts};
 
 impl Unroller {
     // The statements of a block, behind those that are there.
+    pub fn all(&mut self, alloc: Global, peek: u32, b: &Block, out: &mut Stmts) -> Result<(), Fault>
+        requires { AreWritten (block b.now) }
+        ensures { Reads result out.old out.new self.old self.new (steps_of peek (block b.now) (at_of self.old)) }
+    {
+        let lean = lean_block(alloc, b)?;
+        self.block(alloc, peek, &lean, out)
+    }
+
+    // The statements of a block, likewise.
     #[cycle(unroll)]
-    pub fn block(
+    fn block(
         &mut self,
         alloc: Global,
         peek: u32,
-        b: &Block,
+        b: &LeanBlock<'_>,
         out: &mut Stmts,
     ) -> Result<(), Fault>
-        requires { AreWritten (block b.now) }
-        ensures { Reads result out.old out.new self.old self.new (steps_of peek (block b.now) (at_of self.old)) }
+        requires { AreWritten (lean_block b.now) }
+        ensures { Reads result out.old out.new self.old self.new (steps_of peek (lean_block b.now) (at_of self.old)) }
     {
         for s in b.items.as_slice() {
             self.statement(alloc, peek, s, out)?;
@@ -39,19 +50,19 @@ impl Unroller {
         &mut self,
         alloc: Global,
         peek: u32,
-        s: &Statement,
+        s: &Lean<'_>,
         out: &mut Stmts,
     ) -> Result<(), Fault>
-        requires { IsWritten (statement s.now) }
-        ensures { Reads result out.old out.new self.old self.new (step_of peek (statement s.now) (at_of self.old)) }
+        requires { AreWritten (in_turn (lean s.now)) }
+        ensures { Reads result out.old out.new self.old self.new (steps_of peek (in_turn (lean s.now)) (at_of self.old)) }
     {
         match s {
-            Statement::Push(value) => self.push(alloc, peek, value, out),
-            Statement::Pop => self.pop(peek, out),
-            Statement::Declare { name, value } => self.declare(alloc, peek, *name, value, out),
-            Statement::Assign { name, value } => self.assign(alloc, peek, *name, value, out),
-            Statement::If { cond, yes, no } => self.branch(alloc, peek, cond, yes, no, out),
-            Statement::For {
+            Lean::Push(value) => self.push(alloc, peek, value, out),
+            Lean::Pops(count) => self.pops(peek, *count, out),
+            Lean::Declare { name, value } => self.declare(alloc, peek, *name, value, out),
+            Lean::Assign { name, value } => self.assign(alloc, peek, *name, value, out),
+            Lean::If { cond, yes, no } => self.branch(alloc, peek, cond, yes, no, out),
+            Lean::For {
                 name,
                 low,
                 until,
@@ -71,15 +82,15 @@ impl Unroller {
         alloc: Global,
         peek: u32,
         cond: &Expr,
-        yes: &Block,
-        no: &Option<Block>,
+        yes: &LeanBlock<'_>,
+        no: &Option<LeanBlock<'_>>,
         out: &mut Stmts,
     ) -> Result<(), Fault>
         requires cond { AreValues (expression cond.now) }
-        requires yes { AreWritten (block yes.now) }
-        requires no { AreWrittenOptional (optional_block no.now) }
+        requires yes { AreWritten (lean_block yes.now) }
+        requires no { AreWrittenOptional (lean_optional no.now) }
         ensures { Reads result out.old out.new self.old self.new
-            (step_of peek (If (expression cond.now) (block yes.now) (optional_block no.now)) (at_of self.old)) }
+            (step_of peek (If (expression cond.now) (lean_block yes.now) (lean_optional no.now)) (at_of self.old)) }
     {
         self.counted()?;
         let cond = term(alloc, &self.names, peek, cond, &mut self.popped)?;
@@ -105,9 +116,14 @@ impl Unroller {
 
     // The statements of the second arm, none where it is not written.
     #[cycle(unroll)]
-    fn otherwise(&mut self, alloc: Global, peek: u32, no: &Option<Block>) -> Result<Stmts, Fault>
-        requires { AreWrittenOptional (optional_block no.now) }
-        ensures { ReadsArm result self.old self.new (optional_of peek (optional_block no.now) (at_of self.old)) }
+    fn otherwise(
+        &mut self,
+        alloc: Global,
+        peek: u32,
+        no: &Option<LeanBlock<'_>>,
+    ) -> Result<Stmts, Fault>
+        requires { AreWrittenOptional (lean_optional no.now) }
+        ensures { ReadsArm result self.old self.new (optional_of peek (lean_optional no.now) (at_of self.old)) }
     {
         match no {
             Some(block) => self.arm(alloc, peek, block),
@@ -117,9 +133,9 @@ impl Unroller {
 
     // The statements of an arm of an `if`; what was declared there is not known afterwards.
     #[cycle(unroll)]
-    fn arm(&mut self, alloc: Global, peek: u32, b: &Block) -> Result<Stmts, Fault>
-        requires { AreWritten (block b.now) }
-        ensures { ReadsArm result self.old self.new (steps_of peek (block b.now) (at_of self.old)) }
+    fn arm(&mut self, alloc: Global, peek: u32, b: &LeanBlock<'_>) -> Result<Stmts, Fault>
+        requires { AreWritten (lean_block b.now) }
+        ensures { ReadsArm result self.old self.new (steps_of peek (lean_block b.now) (at_of self.old)) }
     {
         let depth = self.names.items.len();
         let mut body = Stmts::new(alloc);
@@ -151,12 +167,12 @@ impl Unroller {
         peek: u32,
         name: Name,
         span: Span,
-        b: &Block,
+        b: &LeanBlock<'_>,
         out: &mut Stmts,
     ) -> Result<(), Fault>
-        requires { AreWritten (block b.now) }
+        requires { AreWritten (lean_block b.now) }
         ensures { Reads result out.old out.new self.old self.new
-            (unrolled (steps_of peek (block b.now)) name (numbers_from span.low (span.end - span.low)) (at_of self.old)) }
+            (unrolled (steps_of peek (lean_block b.now)) name (numbers_from span.low (span.end - span.low)) (at_of self.old)) }
     {
         for v in span.low..span.end {
             self.turn(alloc, peek, name, v, b, out)?;
@@ -172,11 +188,11 @@ impl Unroller {
         peek: u32,
         name: Name,
         v: u32,
-        b: &Block,
+        b: &LeanBlock<'_>,
         out: &mut Stmts,
     ) -> Result<(), Fault>
-        requires { AreWritten (block b.now) }
-        ensures { ReadsTurn result out.old out.new self.old self.new (turn_of (steps_of peek (block b.now)) name v (at_of self.old)) }
+        requires { AreWritten (lean_block b.now) }
+        ensures { ReadsTurn result out.old out.new self.old self.new (turn_of (steps_of peek (lean_block b.now)) name v (at_of self.old)) }
     {
         self.counted()?;
         let depth = self.names.items.len();

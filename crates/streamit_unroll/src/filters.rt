@@ -194,7 +194,7 @@ impl Unroller {
     {
         match init {
             None => Ok(()),
-            Some(block) => self.block(alloc, 0, block, out),
+            Some(block) => self.all(alloc, 0, block, out),
         }
     }
 
@@ -236,7 +236,7 @@ impl Unroller {
         ensures names { OnOk result (KeepsNames self.old self.new) }
     {
         let mut body = Stmts::new(alloc);
-        self.block(alloc, rates.peek, work, &mut body)?;
+        self.all(alloc, rates.peek, work, &mut body)?;
         self.kept(rates)?;
         Ok(Code {
             inputs: rates.peek,

@@ -4,6 +4,7 @@
 mod blocks;
 mod fault;
 mod filters;
+mod lean;
 mod names;
 mod simple;
 mod term;

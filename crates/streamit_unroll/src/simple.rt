@@ -1,8 +1,9 @@
 // Statements that hold no block.
 ghost use Rattle.std.specs.Prelude.{◌≡◌, ◌<◌, ◌≤◌, ◌+◌, ◌^◌, OnOk, IfOk};
 ghost use Rattle.work_code.specs.Term.{term};
-ghost use Rattle.streamit_model.specs.Elaborate.{find, is_new, slot_of, step_of, constant, bound_of, on_ok, first_term, first_popped};
-ghost use Rattle.streamit_text.specs.Tree.{Declare, Assign, Push, Discard, expression, option_expression};
+ghost use Rattle.streamit_model.specs.Elaborate.{find, is_new, slot_of, step_of, steps_of, constant, bound_of, on_ok, first_term, first_popped};
+ghost use Rattle.streamit_text.specs.Tree.{Declare, Assign, Push, expression, option_expression, in_turn};
+ghost use Rattle.streamit_unroll.specs.Lean.{discards};
 ghost use Rattle.streamit_unroll.specs.View.{Judges};
 ghost use Rattle.streamit_unroll.specs.Unrolling.{at_of, Reads, AreOptional};
 ghost use Rattle.streamit_unroll.specs.Numbers.{AreValues};
@@ -59,12 +60,17 @@ impl Unroller {
         Ok(())
     }
 
-    // `pop();`
-    pub fn pop(&mut self, peek: u32, out: &mut Stmts) -> Result<(), Fault>
-        ensures { Reads result out.old out.new self.old self.new (step_of peek Discard (at_of self.old)) }
+    // So many `pop();`, one after another.
+    pub fn pops(&mut self, peek: u32, count: u32, out: &mut Stmts) -> Result<(), Fault>
+        ensures { Reads result out.old out.new self.old self.new (steps_of peek (in_turn (discards count)) (at_of self.old)) }
     {
-        self.popped = next(self.popped)?;
-        Ok(())
+        match self.popped.checked_add(count) {
+            Some(popped) => {
+                self.popped = popped;
+                Ok(())
+            }
+            None => Err(Fault::NoMemory),
+        }
     }
 
     // `NAME = e;`
@@ -142,7 +148,7 @@ impl Unroller {
 }
 
 // The number behind this one.
-fn next(number: u32) -> Result<u32, NoMemory>
+pub fn next(number: u32) -> Result<u32, NoMemory>
     ensures { IfOk result (λ n. n ≡ number + 1) }
 {
     match number.checked_add(1) {

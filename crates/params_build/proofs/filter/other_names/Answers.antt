@@ -4,8 +4,8 @@ use Rattle.params_model.specs.Judged.{judged_then, other_names}
 use Rattle.params_model.specs.Making.{NameTwice, demand}
 use Rattle.params_build.proofs.filter.other_names.Goals as goal
 
-pub returns-then-is_one_of : goal.returns-then-is_one_of
-returns-then-is_one_of c =
+pub returns-then-has : goal.returns-then-has
+returns-then-has c =
     let ps = c.args.params.now in
     let ns = c.args.names.now in
     let i = c.names.each-index in

@@ -10,7 +10,7 @@ pub steps-items-preserved : goal.steps-items-preserved
 steps-items-preserved t c =
     let items = c.as_slice-each-items.result.now in
     let i = c.items.each-index in
-    let ks = c.args.known.now.items in
+    let ks = c.args.known.now in
     record {
       kept = c.in-Ok.ensures.kept ∙ c.items.invariant.kept;
       judged = λ k us h.
@@ -24,13 +24,13 @@ pub steps-returns-clause-judged : goal.steps-returns-clause-judged
 steps-returns-clause-judged t c =
     let items = c.as_slice-each-items.result.now in
     λ k us h. rw (steps-are c.args.all.now, ← c.as_slice-each-items.ensures.value)
-    (sym (c.items.invariant.judged k us h) ∙ steps-end k us c.args.known.now.items items c.items.each-index (omega arith))
+    (sym (c.items.invariant.judged k us h) ∙ steps-end k us c.args.known.now items c.items.each-index (omega arith))
 
 pub steps-returns-in-Err-clause-judged : goal.steps-returns-in-Err-clause-judged
 steps-returns-in-Err-clause-judged t c =
     let items = c.as_slice-each-items.result.now in
     let i = c.items.each-index in
-    let ks = c.args.known.now.items in
+    let ks = c.args.known.now in
     let f = c.in-Err.fault in
     λ k us h. rw (steps-are c.args.all.now, ← c.as_slice-each-items.ensures.value)
     (subst (λ (j : Judgement). Told k f j) (sym (steps-place k us ks items i c.each-item.result (omega arith) c.each-item.is) ∙ c.items.invariant.judged k us h)

@@ -6,8 +6,8 @@ use Rattle.params_build.proofs.step.+judged.Given as goal
 
 abbrev pub invariant-steps-items : goal.invariant-steps-items
 invariant-steps-items l = record {
-  kept : l.known.items ≡ l.initial.known.items;
+  kept : l.known ≡ l.initial.known;
   judged : (k : ℕ) (us : Above) → CountsParameters l.above us
-      → steps_judged k us l.initial.known.items (steps_in_turn (map step_of (drop l.each-index l.each-items))) ≡ steps_judged k us l.initial.known.items
+      → steps_judged k us l.initial.known (steps_in_turn (map step_of (drop l.each-index l.each-items))) ≡ steps_judged k us l.initial.known
       (steps_in_turn (map step_of l.each-items));
 }
