@@ -20,7 +20,7 @@ const MOST_TEXT: u64 = 67_108_864;
 
 /// Splits what the files hold, which is what runs of the program printed. Of each table the text that merges it is taken, and the
 /// rows that all the files have of it.
-#[tactic(auto, using(crate::proofs::Tables::held))]
+#[tactic(auto, using(crate::proofs::Plans::held))]
 pub fn split_held<S: Shelf, P: PieceSink>(
     alloc: Global,
     shelf: &mut S,
@@ -39,7 +39,7 @@ pub fn split_held<S: Shelf, P: PieceSink>(
 }
 
 // The plan of a text.
-#[tactic(auto, using(crate::proofs::Tables::plans))]
+#[tactic(auto, using(crate::proofs::Plans::plans))]
 fn plan_of(alloc: Global, bytes: &Bytes) -> Result<Plan, WorkFault>
     requires { length bytes.now < 2 ^ 32 }
     ensures { IfOk result (IsPlanOf bytes.now) }
@@ -52,7 +52,7 @@ fn plan_of(alloc: Global, bytes: &Bytes) -> Result<Plan, WorkFault>
 }
 
 // The merge text of each table is taken.
-#[tactic(auto, using(crate::proofs::Tables::programs))]
+#[tactic(auto, using(crate::proofs::Plans::programs))]
 fn write_programs<P: PieceSink>(
     alloc: Global,
     tables: &[TableDecl],

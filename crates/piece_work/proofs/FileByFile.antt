@@ -27,13 +27,17 @@ pub files-first : (names : List Name) (held : Option Held) (files : List (List �
 files-first names None files = tt
 files-first names (Some h) files = λ others s. s
 
-pub files-next : (names : List Name) (held : Option Held) (files : List (List ℕ)) (i : ℕ) (d : List ℕ) (splits : List (List (List ℕ))) (sections : List (List ℕ))
-    → i < length files → SplitFiles names held files i splits → IfSome held (λ h. IsSplit names (bytes_of (h (get_or files i d))) sections)
-    → SplitFiles names held files (i + 1) (splits ++ sections ∷ [])
-files-next names None files i d splits sections l so one = tt
-files-next names (Some h) files i d splits sections l so one = λ others s.
-    subst (AreSplit names (outs h files)) (sym (append_assoc splits (sections ∷ []) others))
-    (so (sections ∷ others) (subst (λ (fs : List (List ℕ)). AreSplit names (outs h fs) (sections ∷ others)) (sym (drop_more files i d l)) (one, s)))
+pub files-next : (names : List Name) (held there : Option Held) (files : List (List ℕ)) (i : ℕ) (d : List ℕ) (splits : List (List (List ℕ)))
+    (sections : List (List ℕ)) → i < length files → there ≡ held → SplitFiles names held files i splits
+    → IfSome there (λ h. IsSplit names (bytes_of (h (get_or files i d))) sections) → SplitFiles names held files (i + 1) (splits ++ sections ∷ [])
+files-next names held there files i d splits sections l same so one =
+    by held so (subst (λ (o : Option Held). IfSome o (λ h. IsSplit names (bytes_of (h (get_or files i d))) sections)) same one) where
+      by : (o : Option Held) → SplitFiles names o files i splits → IfSome o (λ h. IsSplit names (bytes_of (h (get_or files i d))) sections)
+          → SplitFiles names o files (i + 1) (splits ++ sections ∷ [])
+      by None so one = tt
+      by (Some h) so one = λ others s.
+          subst (AreSplit names (outs h files)) (sym (append_assoc splits (sections ∷ []) others))
+          (so (sections ∷ others) (subst (λ (fs : List (List ℕ)). AreSplit names (outs h fs) (sections ∷ others)) (sym (drop_more files i d l)) (one, s)))
 
 pub files-all : (names : List Name) (held : Option Held) (files : List (List ℕ)) (i : ℕ) (splits : List (List (List ℕ)))
     → length files ≤ i → SplitFiles names held files i splits → IfSome held (λ h. AreSplit names (outs h files) splits)

@@ -1,2 +1,3 @@
+pub mod Fetches
+pub mod FileByFile
 pub mod Joins
-pub mod Splitting

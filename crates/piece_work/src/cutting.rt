@@ -12,6 +12,7 @@ use std::alloc::Global;
 pub const MOST: u64 = 1_099_511_627_776;
 
 /// Cuts a file into pieces, which are taken one behind another. The first has the header, if there is one.
+#[tactic(auto, using(crate::proofs::Fetches::fetches))]
 pub fn cut_held<S: Shelf, P: PieceSink>(
     alloc: Global,
     shelf: &mut S,
@@ -28,6 +29,7 @@ pub fn cut_held<S: Shelf, P: PieceSink>(
 }
 
 /// How many records a file has.
+#[tactic(auto, using(crate::proofs::Fetches::fetches))]
 pub fn count_records<S: Shelf>(
     alloc: Global,
     shelf: &mut S,

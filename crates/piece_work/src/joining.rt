@@ -26,6 +26,7 @@ pub fn join_held<S: Shelf, K: Sink>(
 }
 
 // Writes what a file holds.
+#[tactic(auto, using(crate::proofs::Fetches::fetches))]
 fn put_held<S: Shelf, K: Sink>(
     alloc: Global,
     shelf: &mut S,

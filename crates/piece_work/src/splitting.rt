@@ -24,7 +24,7 @@ impl From<SplitFault> for WorkFault {
 }
 
 /// Splits what the files hold at the lines of the tables' names.
-#[tactic(auto, using(crate::proofs::Splitting::files))]
+#[tactic(auto, using(crate::proofs::FileByFile::files))]
 pub fn split_files<S: Shelf>(
     alloc: Global,
     shelf: &mut S,
@@ -43,6 +43,7 @@ pub fn split_files<S: Shelf>(
 }
 
 // Splits what a file holds.
+#[tactic(auto, using(crate::proofs::Fetches::fetches))]
 fn split_file<S: Shelf>(
     alloc: Global,
     shelf: &mut S,
@@ -57,7 +58,7 @@ fn split_file<S: Shelf>(
 }
 
 /// Writes the rows of each table, which all the files have of it, one behind another.
-#[tactic(auto, using(crate::proofs::Splitting::rows))]
+#[tactic(auto, using(crate::proofs::FileByFile::rows))]
 pub fn write_rows<P: PieceSink>(
     alloc: Global,
     splits: &[Listed<Bytes>],

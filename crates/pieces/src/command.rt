@@ -13,7 +13,9 @@ pub enum Command<'a> {
         header: bool,
     },
     /// The records of a file are counted.
-    Records { file: &'a [u8] },
+    Records {
+        file: &'a [u8],
+    },
     /// What was printed for the pieces is split by tables.
     Split {
         program: &'a [u8],
@@ -21,7 +23,9 @@ pub enum Command<'a> {
         files: &'a [Text],
     },
     /// Files are written one behind another.
-    Merge { files: &'a [Text] },
+    Merge {
+        files: &'a [Text],
+    },
 }
 
 /// The command of the words, if they are one.

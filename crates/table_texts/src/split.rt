@@ -86,7 +86,11 @@ fn behind(word: &[u8], out: &[u8], place: usize) -> Option<usize>
         return None;
     }
     let end = place + word.len();
-    if &out[place..end] == word { Some(end) } else { None }
+    if &out[place..end] == word {
+        Some(end)
+    } else {
+        None
+    }
 }
 
 // Where the next # stands, or the end.

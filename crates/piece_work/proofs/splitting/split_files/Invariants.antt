@@ -1,6 +1,6 @@
 use Rattle.std.proofs.Common.{◌≡◌}
 use Rattle.river_plan.specs.Forms.{table_names}
-use Rattle.piece_work.proofs.Splitting.{SplitFiles}
+use Rattle.piece_work.proofs.FileByFile.{SplitFiles}
 use Rattle.piece_work.proofs.splitting.split_files.Given as goal
 
 abbrev pub invariant-loop-i : goal.invariant-loop-i
