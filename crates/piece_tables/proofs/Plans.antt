@@ -6,7 +6,11 @@ use Rattle.std.proofs.lemmas.List.Elements.{All-get_or}
 use Rattle.std.proofs.Math.ListN.{drop_of_length-le}
 use Rattle.work_code.specs.Steps.{Steps}
 use Rattle.river_plan.specs.declared.plan.TableDecl.{TableDecl}
-use Rattle.river_plan.specs.Forms.{PlanForm}
+use Rattle.river_outside.specs.Fetched.{FetchesAll}
+use Rattle.river_outside.specs.Held.{Held}
+use Rattle.river_plan.specs.Forms.{PlanForm, table_names}
+use Rattle.table_texts.specs.Split.{AreSplit}
+use Rattle.piece_work.specs.Held.{bytes_of, rows_from}
 use Rattle.saw_model.specs.Elaborate.{At, keys_in}
 use Rattle.saw_text.specs.Tree.{UnitForm}
 use Rattle.saw_front.specs.Meaning.{Accepted, program_in, Plans, compiled}
@@ -55,7 +59,24 @@ pub plan-keys : (text : List ℕ) (plan : PlanForm) → IsPlanOf text plan → A
 plan-keys text plan h =
     subst (λ (p : PlanForm). All (λ t. keys_in t.kind ≤ 8) p.tables) (sym h.is) (keys_fit (program_in h.program) h.program.read (compiled-judged text h.program h.compiles))
 
-pub is-held : (text : Option (List ℕ)) (bytes : List ℕ) (plan : PlanForm) (outs : List (List ℕ)) (p q r s : Option (List (List ℕ)))
+abbrev pub outs : Held → List (List ℕ) → List (List ℕ)
+outs h files = map (λ file. bytes_of (h file)) files
+
+is-some : (o : Option (List ℕ)) (limit : ℕ) (got : List ℕ) → FetchesAll o limit got → o ≡ Some got
+is-some None limit got f = absurd f
+is-some (Some bytes) limit got f = ap (λ (l : List ℕ). Some l) (sym f.0)
+
+-- the rows of the tables are taken
+pub rows-are : (held : Option Held) (tables : List TableDecl) (files : List (List ℕ)) (splits : List (List (List ℕ))) (old new : Option (List (List ℕ)))
+    → IfSome held (λ h. AreSplit (table_names tables) (map (λ file. bytes_of (h file)) files) splits)
+    → new ≡ append_pieces old (rows_from 0 (length tables) splits)
+    → IfSome held (λ h. SplitRows tables (map (λ file. bytes_of (h file)) files) old new)
+rows-are None tables files splits old new s e = tt
+rows-are (Some h) tables files splits old new s e = record { splits = splits; split = s; rows = e }
+
+pub ruleset splits = (rows-are)
+
+is-held : (text : Option (List ℕ)) (bytes : List ℕ) (plan : PlanForm) (outs : List (List ℕ)) (p q r s : Option (List (List ℕ)))
     → text ≡ Some bytes → IsPlanOf bytes plan → q ≡ append_pieces p (map merge_text plan.tables) → SplitRows plan.tables outs r s
     → SplitHeld text outs p q r s
 is-held text bytes plan outs p q r s is h programs rows = record {
@@ -67,4 +88,18 @@ is-held text bytes plan outs p q r s is h programs rows = record {
   rows = subst (λ (f : PlanForm). SplitRows f.tables outs r s) h.is rows;
 }
 
-pub ruleset held = (plan-keys, is-held)
+-- a program is fetched, and what the files hold is split by its tables
+pub held-is : (held there : Option Held) (program : List ℕ) (limit : ℕ) (bytes : List ℕ) (plan : PlanForm) (files : List (List ℕ))
+    (p q r s : Option (List (List ℕ))) → IfSome held (λ h. FetchesAll (h program) limit bytes) → IsPlanOf bytes plan
+    → q ≡ append_pieces p (map merge_text plan.tables) → there ≡ held
+    → IfSome there (λ h. SplitRows plan.tables (map (λ file. bytes_of (h file)) files) r s)
+    → IfSome held (λ h. SplitHeld (h program) (map (λ file. bytes_of (h file)) files) p q r s)
+held-is held there program limit bytes plan files p q r s f h programs same rows =
+    by held f (subst (λ (o : Option Held). IfSome o (λ h. SplitRows plan.tables (outs h files) r s)) same rows)
+  where
+    by : (o : Option Held) → IfSome o (λ h. FetchesAll (h program) limit bytes) → IfSome o (λ h. SplitRows plan.tables (outs h files) r s)
+        → IfSome o (λ h. SplitHeld (h program) (outs h files) p q r s)
+    by None f rows = tt
+    by (Some g) f rows = is-held (g program) bytes plan (outs g files) p q r s (is-some (g program) limit bytes f) h programs rows
+
+pub ruleset held = (plan-keys, held-is)

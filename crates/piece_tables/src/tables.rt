@@ -34,8 +34,16 @@ pub fn split_held<S: Shelf, P: PieceSink>(
 {
     let bytes = fetch(alloc, shelf, program, MOST_TEXT)?;
     let plan = plan_of(alloc, &bytes)?;
-    write_programs(alloc, plan.raw().tables.as_slice(), programs)?;
-    split_rows(alloc, shelf, plan.raw().tables.as_slice(), files, rows)
+    write_programs(alloc, tables_of(&plan), programs)?;
+    split_rows(alloc, shelf, tables_of(&plan), files, rows)?;
+    Ok(())
+}
+
+// The tables of a plan.
+fn tables_of(plan: &Plan) -> &[TableDecl]
+    ensures { result.now ≡ plan.now.tables }
+{
+    plan.raw().tables.as_slice()
 }
 
 // The plan of a text.
@@ -69,6 +77,7 @@ fn write_programs<P: PieceSink>(
 }
 
 // The rows of each table are taken.
+#[tactic(auto, using(crate::proofs::Plans::splits))]
 fn split_rows<S: Shelf, P: PieceSink>(
     alloc: Global,
     shelf: &mut S,
@@ -79,5 +88,6 @@ fn split_rows<S: Shelf, P: PieceSink>(
     ensures { OnOk result (IfSome (S.held shelf.old) (λ h. SplitRows tables.now (map (λ file. bytes_of (h file)) files.now) (P.taken to.old) (P.taken to.new))) }
 {
     let splits = split_files(alloc, shelf, tables, files)?;
-    write_rows(alloc, splits.as_slice(), tables.len(), to)
+    write_rows(alloc, splits.as_slice(), tables.len(), to)?;
+    Ok(())
 }

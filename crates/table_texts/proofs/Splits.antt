@@ -1,13 +1,12 @@
 -- Texts are split piece by piece.
 use Rattle.std.proofs.Common.{◌≡◌, ℕ, zero, suc, ◌+◌, ◌-◌, ◌<◌, ◌≤◌, ◌==◌, Bool, true, false, List, [], ◌∷◌, ◌++◌, length, map, take, drop, refl, sym, ap, ◌∙◌, subst, arith, append_assoc}
-use Rattle.std.specs.Prelude.{codes, get_or, slice_index_or, pos}
+use Rattle.std.specs.Prelude.{codes, get_or}
 use Rattle.std.proofs.lemmas.List.{append-nil, length-drop, drop-drop, drop_more, take-append-drop}
 use Rattle.std.proofs.Math.ListN.{drop_of_length-le}
 use Rattle.river_plan.specs.declared.plan.TableDecl.{TableDecl}
-use Rattle.river_plan.specs.Forms.{Name, table_names}
+use Rattle.river_plan.specs.Forms.{table_names}
 use Rattle.csv_streams.specs.Outcome.{under_name}
-use Rattle.kern_tables.specs.Pieces.{joined}
-use Rattle.table_texts.specs.Split.{under_names, HasNoName, AreSections, IsSplit, section_at, rows_of_table, IsNext}
+use Rattle.table_texts.specs.Split.{HasNoName, IsSplit, section_at, rows_of_table, IsNext}
 
 -- WORDS
 
