@@ -1,19 +1,18 @@
 -- From the text of a program to what is taken of its tables.
-use Rattle.std.proofs.Common.{◌≡◌, ℕ, ◌+◌, ◌<◌, ◌≤◌, List, [], ◌∷◌, ◌++◌, length, map, drop, refl, sym, ap, ◌∙◌, subst, arith, append_assoc}
+use Rattle.std.proofs.Common.{◌≡◌, ℕ, ◌+◌, ◌<◌, ◌≤◌, List, [], ◌∷◌, ◌++◌, length, map, drop, refl, sym, ap, ◌∙◌, subst, append_assoc}
 use Rattle.std.specs.Prelude.{All, get_or, Option, None, Some, IfSome}
 use Rattle.std.proofs.lemmas.List.{append-nil, drop_more}
 use Rattle.std.proofs.lemmas.List.Elements.{All-get_or}
 use Rattle.std.proofs.Math.ListN.{drop_of_length-le}
-use Rattle.work_code.specs.Steps.{Steps}
 use Rattle.river_plan.specs.declared.plan.TableDecl.{TableDecl}
 use Rattle.river_outside.specs.Fetched.{FetchesAll}
 use Rattle.river_outside.specs.Held.{Held}
 use Rattle.river_plan.specs.Forms.{PlanForm, table_names}
 use Rattle.table_texts.specs.Split.{AreSplit}
 use Rattle.piece_work.specs.Held.{bytes_of, rows_from}
-use Rattle.saw_model.specs.Elaborate.{At, keys_in}
+use Rattle.saw_model.specs.Elaborate.{keys_in}
 use Rattle.saw_text.specs.Tree.{UnitForm}
-use Rattle.saw_front.specs.Meaning.{Accepted, program_in, Plans, compiled}
+use Rattle.saw_front.specs.Meaning.{program_in, Plans, compiled}
 use Rattle.saw_front.proofs.Fronts.{compiled-judged}
 use Rattle.csv_cuts.specs.Cut.{append_pieces}
 use Rattle.river_pieces.specs.MergeText.{merge_text}

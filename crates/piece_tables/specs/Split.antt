@@ -1,6 +1,5 @@
 -- What the pieces printed is split by the tables of a program.
 use Rattle.std.specs.Prelude.{◌≡◌, ℕ, List, length, map, Option, Some, Ok}
-use Rattle.river_outside.specs.Held.{Held}
 use Rattle.river_plan.specs.declared.plan.TableDecl.{TableDecl}
 use Rattle.river_plan.specs.Forms.{PlanForm, table_names}
 use Rattle.csv_cuts.specs.Cut.{append_pieces}

@@ -1,10 +1,10 @@
 -- Tables are merged by their places.
-use Rattle.std.proofs.Common.{◌≡◌, ℕ, zero, suc, false, List, [], ◌∷◌, ◌++◌, map, refl, sym, ap, subst}
+use Rattle.std.proofs.Common.{◌≡◌, ℕ, suc, false, List, [], ◌∷◌, ◌++◌, map, refl, ap, subst}
 use Rattle.kern_tables.specs.Pieces.{joined}
 use Rattle.river_plan.specs.declared.plan.TableDecl.{TableDecl}
 use Rattle.table_texts.specs.Split.{section_at, rows_of_table}
 use Rattle.river_pieces.specs.MergeText.{merge_text}
-use Rattle.river_pieces.specs.Whole.{Prints, first_section, other_sections, AreMerged, AreMergedFrom, MergedByPlace}
+use Rattle.river_pieces.specs.Whole.{Prints, first_section, other_sections, AreMergedFrom, MergedByPlace}
 
 first-is : (splits : List (List (List ℕ))) → rows_of_table 0 splits ≡ joined (map first_section splits)
 first-is [] = refl
