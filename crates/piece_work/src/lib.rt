@@ -1,0 +1,14 @@
+//! Tallies in pieces, step by step: a file is cut, and what was printed of the tables is written as one.
+#![tactic(auto)]
+
+mod cutting;
+mod fault;
+mod folder;
+mod joining;
+mod splitting;
+
+pub use cutting::{count_records, cut_held};
+pub use fault::WorkFault;
+pub use folder::Folder;
+pub use joining::join_held;
+pub use splitting::{split_files, write_rows};

@@ -1,0 +1,138 @@
+-- Texts are split piece by piece.
+use Rattle.std.proofs.Common.{◌≡◌, ℕ, zero, suc, ◌+◌, ◌-◌, ◌<◌, ◌≤◌, ◌==◌, Bool, true, false, List, [], ◌∷◌, ◌++◌, length, map, take, drop, refl, sym, ap, ◌∙◌, subst, arith, append_assoc}
+use Rattle.std.specs.Prelude.{codes, get_or}
+use Rattle.std.proofs.lemmas.List.{append-nil, length-drop, drop-drop, drop_more, take-append-drop}
+use Rattle.std.proofs.Math.ListN.{drop_of_length-le}
+use Rattle.river_plan.specs.declared.plan.TableDecl.{TableDecl}
+use Rattle.river_plan.specs.Forms.{table_names}
+use Rattle.csv_streams.specs.Outcome.{under_name}
+use Rattle.table_texts.specs.Split.{HasNoName, IsSplit, section_at, rows_of_table, IsNext}
+
+-- WORDS
+
+-- a word that stands at a place
+pub word-stands : (word out : List ℕ) (place : ℕ) → take (place + length word - place) (drop place out) ≡ word
+    → drop place out ≡ word ++ drop (place + length word) out
+word-stands word out place e =
+    let m : place + length word - place ≡ length word = omega arith in
+    sym (take-append-drop (length word) (drop place out))
+    ∙ (λ i. (sym (ap (λ (k : ℕ). take k (drop place out)) m) ∙ e) i ++ drop-drop (length word) place out i)
+
+pub ruleset words = (word-stands, length-drop)
+
+-- ENDS
+
+-- a front of bytes, with one more
+one-free : (bs : List ℕ) (n d : ℕ) → n < length bs → get_or bs n d == 35 ≡ false → HasNoName (take n bs) → HasNoName (take (n + 1) bs)
+one-free [] n d l e h = absurd (omega (arith, l))
+one-free (b ∷ bs) zero d l e h = (e, none bs) where
+  none : (bs : List ℕ) → HasNoName (take 0 bs)
+  none [] = tt
+  none (b ∷ bs) = tt
+one-free (b ∷ bs) (suc n) d l e h =
+    let k : suc (n + 1) ≡ suc n + 1 = omega arith in
+    subst (λ (m : ℕ). HasNoName (take m (b ∷ bs))) k (h.0, one-free bs n d (omega (arith, l)) e h.1)
+
+pub free-first : (out : List ℕ) (from : ℕ) → HasNoName (take (from - from) (drop from out))
+free-first out from = let e : 0 ≡ from - from = omega arith in subst (λ (m : ℕ). HasNoName (take m (drop from out))) e (none (drop from out)) where
+  none : (bs : List ℕ) → HasNoName (take 0 bs)
+  none [] = tt
+  none (b ∷ bs) = tt
+
+pub free-next : (out : List ℕ) (from place d : ℕ) → from ≤ place → place < length out → get_or out place d == 35 ≡ false
+    → HasNoName (take (place - from) (drop from out)) → HasNoName (take (place + 1 - from) (drop from out))
+free-next out from place d l w e h =
+    let k : (place - from) + 1 ≡ place + 1 - from = omega (arith, l) in
+    let n = length-drop from out in
+    subst (λ (m : ℕ). HasNoName (take m (drop from out))) k
+    (one-free (drop from out) (place - from) d (omega (arith, n, l, w)) (ap (λ (c : ℕ). c == 35) (at from place d out l) ∙ e) h)
+  where
+    at : (m p d : ℕ) (bs : List ℕ) → m ≤ p → get_or (drop m bs) (p - m) d ≡ get_or bs p d
+    at zero p d bs l = (let e : p - 0 ≡ p = omega arith in ap (λ (k : ℕ). get_or bs k d) e)
+    at (suc m) zero d bs l = absurd (omega (arith, l))
+    at (suc m) (suc p) d [] l = refl
+    at (suc m) (suc p) d (b ∷ bs) l =
+        let e : suc p - suc m ≡ p - m = omega arith in
+        ap (λ (k : ℕ). get_or (drop m bs) k d) e ∙ at m p d bs (omega (arith, l))
+
+pub ruleset ends = (free-first, free-next)
+
+-- SECTION BY SECTION
+
+-- one section is split off
+pub next-section : (name out : List ℕ) (place begin end : ℕ) (old new : List (List ℕ)) → begin ≤ end → end ≤ length out
+    → drop place out ≡ codes "# " ++ (name ++ (codes "\n" ++ drop begin out)) → HasNoName (take (end - begin) (drop begin out))
+    → new ≡ old ++ take (end - begin) (drop begin out) ∷ []
+    → IsNext name (drop place out) (drop end out) old new
+next-section name out place begin end old new l w line free grown = record {
+  text = text;
+  is = line ∙ ap (λ (t : List ℕ). codes "# " ++ (name ++ (codes "\n" ++ t))) parts
+      ∙ sym (ap (λ (t : List ℕ). codes "# " ++ t) (append_assoc name (codes "\n" ++ text) (drop end out)));
+  free = free;
+  grown = grown;
+} where
+  text : List ℕ
+  text = take (end - begin) (drop begin out)
+
+  parts : drop begin out ≡ text ++ drop end out
+  parts =
+      sym (take-append-drop (end - begin) (drop begin out))
+      ∙ ap (λ (t : List ℕ). text ++ t) (drop-drop (end - begin) begin out ∙ ap (λ (k : ℕ). drop k out) (let e : begin + (end - begin) ≡ end = omega (arith, l) in e))
+
+pub ruleset sections = (next-section)
+
+-- so far, and what splits the rest completes it
+pub record SplitFront (tables : List TableDecl) (out : List ℕ) (i place : ℕ) (sections : List (List ℕ)) : Type 0 where
+  pub within : place ≤ length out
+  pub rest : (others : List (List ℕ)) → IsSplit (table_names (drop i tables)) (drop place out) others → IsSplit (table_names tables) out (sections ++ others)
+
+pub split-first : (tables : List TableDecl) (out : List ℕ) → SplitFront tables out 0 0 []
+split-first tables out = record { within = omega arith; rest = λ others h. h }
+
+pub split-next : (tables : List TableDecl) (out : List ℕ) (i place end : ℕ) (d : TableDecl) (old new : List (List ℕ)) → i < length tables
+    → SplitFront tables out i place old → end ≤ length out
+    → IsNext (get_or tables i d).name (drop place out) (drop end out) old new
+    → SplitFront tables out (i + 1) end new
+split-next tables out i place end d old new l front w next = record {
+  within = w;
+  rest = λ others h.
+      subst (IsSplit (table_names tables) out) (sym (ap (λ (s : List (List ℕ)). s ++ others) next.grown ∙ append_assoc old (next.text ∷ []) others))
+      (front.rest (next.text ∷ others) (subst (λ (ts : List TableDecl). IsSplit (table_names ts) (drop place out) (next.text ∷ others)) (sym (drop_more tables i d l))
+      (record { is = next.is ∙ ap (λ (t : List ℕ). under_name (get_or tables i d).name next.text ++ t) h.is; are = (next.free, h.are) })));
+}
+
+pub split-last : (tables : List TableDecl) (out : List ℕ) (i place : ℕ) (sections : List (List ℕ)) → length tables ≤ i → place ≡ length out
+    → SplitFront tables out i place sections → IsSplit (table_names tables) out sections
+split-last tables out i place sections l e front = subst (IsSplit (table_names tables) out) (append-nil sections) (front.rest [] none) where
+  none : IsSplit (table_names (drop i tables)) (drop place out) []
+  none =
+      subst (λ (ts : List TableDecl). IsSplit (table_names ts) (drop place out) []) (sym (drop_of_length-le tables l))
+      (record { is = drop_of_length-le out (omega (arith, e)); are = tt })
+
+pub ruleset fronts = (split-first, split-next, split-last)
+
+-- TABLE BY TABLE
+
+pub section-none : (k : ℕ) (ss : List (List ℕ)) → length ss ≤ k → section_at k ss ≡ []
+section-none k [] h = refl
+section-none zero (s ∷ ss) h = absurd (omega (arith, h))
+section-none (suc k) (s ∷ ss) h = section-none k ss (omega (arith, h))
+
+pub section-some : (k : ℕ) (ss : List (List ℕ)) (d : List ℕ) → k < length ss → section_at k ss ≡ get_or ss k d
+section-some k [] d h = absurd (omega (arith, h))
+section-some zero (s ∷ ss) d h = refl
+section-some (suc k) (s ∷ ss) d h = section-some k ss d (omega (arith, h))
+
+pub ruleset places = (section-none, section-some)
+
+-- the texts of one run more
+pub rows-next : (k : ℕ) (splits : List (List (List ℕ))) (i : ℕ) (d : List (List ℕ)) (old : List ℕ) → i < length splits
+    → (old ++ section_at k (get_or splits i d)) ++ rows_of_table k (drop (i + 1) splits) ≡ old ++ rows_of_table k (drop i splits)
+rows-next k splits i d old l =
+    append_assoc old (section_at k (get_or splits i d)) (rows_of_table k (drop (i + 1) splits))
+    ∙ ap (λ (s : List (List (List ℕ))). old ++ rows_of_table k s) (sym (drop_more splits i d l))
+
+pub rows-end : (k : ℕ) (splits : List (List (List ℕ))) (i : ℕ) → length splits ≤ i → rows_of_table k (drop i splits) ≡ []
+rows-end k splits i l = ap (rows_of_table k) (drop_of_length-le splits l)
+
+pub ruleset rows = (rows-next, rows-end, append-nil, append_assoc)

@@ -1,0 +1,51 @@
+-- What a run prints of tables is split at the lines of their names.
+use Rattle.std.specs.Prelude.{◌≡◌, ⊤, ℕ, zero, suc, ◌==◌, false, List, [], ◌∷◌, ◌++◌, map}
+use Rattle.river_plan.specs.Forms.{Name}
+use Rattle.csv_streams.specs.Outcome.{under_name}
+use Rattle.kern_tables.specs.Pieces.{joined}
+
+-- the texts of tables, each behind the line of its name
+abbrev pub under_names : List Name → List (List ℕ) → List ℕ
+under_names [] sections = []
+under_names (name ∷ names) [] = []
+under_names (name ∷ names) (s ∷ ss) = under_name name s ++ under_names names ss
+
+-- no byte of it is a #
+abbrev pub HasNoName : List ℕ → Type 0
+HasNoName [] = ⊤
+HasNoName (c ∷ cs) = (c == 35 ≡ false) × HasNoName cs
+
+-- one text for each name, in none of which a # stands
+abbrev pub AreSections : List Name → List (List ℕ) → Type 0
+AreSections [] [] = ⊤
+AreSections [] (s ∷ ss) = ⊥
+AreSections (name ∷ names) [] = ⊥
+AreSections (name ∷ names) (s ∷ ss) = HasNoName s × AreSections names ss
+
+-- what is printed is split at the lines of names
+pub record IsSplit (names : List Name) (out : List ℕ) (sections : List (List ℕ)) : Type 0 where
+  pub is : out ≡ under_names names sections
+  pub are : AreSections names sections
+
+abbrev pub AreSplit : List Name → List (List ℕ) → List (List (List ℕ)) → Type 0
+AreSplit names [] [] = ⊤
+AreSplit names [] (x ∷ xs) = ⊥
+AreSplit names (o ∷ os) [] = ⊥
+AreSplit names (o ∷ os) (x ∷ xs) = IsSplit names o x × AreSplit names os xs
+
+-- the text of the table at this place
+abbrev pub section_at : ℕ → List (List ℕ) → List ℕ
+section_at k [] = []
+section_at zero (s ∷ ss) = s
+section_at (suc k) (s ∷ ss) = section_at k ss
+
+-- what all runs printed of the table at this place, one behind another
+abbrev pub rows_of_table : ℕ → List (List (List ℕ)) → List ℕ
+rows_of_table k splits = joined (map (section_at k) splits)
+
+-- one text more, which stands behind the line of the name
+pub record IsNext (name : Name) (before behind : List ℕ) (old new : List (List ℕ)) : Type 0 where
+  pub text : List ℕ
+  pub is : before ≡ under_name name text ++ behind
+  pub free : HasNoName text
+  pub grown : new ≡ old ++ text ∷ []

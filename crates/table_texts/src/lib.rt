@@ -1,0 +1,8 @@
+//! What runs print of tables: split at the lines of their names, and put together table by table.
+#![tactic(auto)]
+
+mod split;
+mod together;
+
+pub use split::{SplitFault, split_tables};
+pub use together::rows_of_table;
