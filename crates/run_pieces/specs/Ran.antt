@@ -1,0 +1,64 @@
+-- A run of `river` for a tally, and what it prints.
+use Rattle.std.specs.Prelude.{◌≡◌, ◌++◌, ℕ, Bool, false, List, [], ◌∷◌, codes, Option, Some}
+use Rattle.command_line.specs.Sentences.{command_of}
+use Rattle.command_line.specs.declared.command.Command.TheVariants.{Run}
+use Rattle.command_line.specs.declared.command.Lang.TheVariants.{Sawzall}
+use Rattle.command_line.specs.declared.command.RunBy.{RunBy}
+use Rattle.command_line.specs.declared.command.RunWords.{RunWords}
+use Rattle.river_outside.specs.Held.{Held}
+use Rattle.river_order.specs.Order.{verdict, Done}
+use Rattle.river_pieces.specs.Whole.{Prints}
+use Rattle.river_cli.specs.Answer.{WroteEnd}
+use Rattle.river_cli.specs.Points.{points_of}
+
+-- THE WORDS
+
+-- a run of the Sawzall program of a file, over the records of another file, without the counts of firings
+abbrev pub tally_run : List ℕ → List ℕ → Bool → Option (List ℕ) → RunBy → ℕ → RunWords
+tally_run program input header script by cap =
+    record {
+      lang = Sawzall;
+      file = program;
+      ins = record { name = codes "in"; file = input } ∷ [];
+      script = script;
+      by = by;
+      cap = cap;
+      header = header;
+      counts = false;
+    }
+
+-- The words ask for such a run. Which script rewrites its plan, who runs it, and how much its queues hold, is free.
+pub record AsksFor (words : List (List ℕ)) (program input : List ℕ) (header : Bool) : Type 0 where
+  pub script : Option (List ℕ)
+  pub by : RunBy
+  pub cap : ℕ
+  pub is : command_of words ≡ Some (Run (tally_run program input header script by cap))
+
+-- Where such a run is done, over files that are told, its text is what a run on the bytes of its input prints.
+abbrev pub RunsPrint : Type 0
+RunsPrint =
+    (words : List (List ℕ)) (program input : List ℕ) (header : Bool) (h : Held) (text bytes out : List ℕ)
+    → AsksFor words program input header
+    → h program ≡ Some text
+    → h input ≡ Some bytes
+    → verdict (points_of words) h ≡ Done out
+    → Prints text bytes header out
+
+-- THE CALL
+
+-- A call of `river` with such words ended with status 0, over files that are told, of which these are the bytes of the program and of
+-- the input; and behind what its output had taken before it took this text, and no more.
+pub record Ran (text bytes : List ℕ) (header : Bool) (out : List ℕ) : Type 0 where
+  pub words : List (List ℕ)
+  pub program : List ℕ
+  pub input : List ℕ
+  pub asks : AsksFor words program input header
+  pub held : Held
+  pub program_is : held program ≡ Some text
+  pub input_is : held input ≡ Some bytes
+  pub before : List ℕ
+  pub wrote : WroteEnd (points_of words) (Some held) Done (Some before) (Some (before ++ out))
+
+-- So what it wrote is what a run on these bytes prints.
+abbrev pub RanPrints : Type 0
+RanPrints = (text bytes : List ℕ) (header : Bool) (out : List ℕ) → Ran text bytes header out → Prints text bytes header out
