@@ -1,6 +1,7 @@
 -- A run that is done.
-use Rattle.std.proofs.Common.{◌≡◌, ℕ, ℤ, List, [], ◌∷◌, ◌++◌, Bool, true, false, refl, sym, subst}
+use Rattle.std.proofs.Common.{◌≡◌, ℕ, ℤ, List, [], ◌∷◌, ◌++◌, Bool, true, false, refl, sym, ap, ◌∙◌, subst}
 use Rattle.std.specs.Prelude.{codes, Option, None, Some, option_map, Result, Ok, Err}
+use Rattle.std.specs.Io.KnownBytes.{append_known}
 use Rattle.std.proofs.lemmas.List.{append-nil, append_cancel_left}
 use Rattle.command_line.specs.declared.command.Command.{Command}
 use Rattle.command_line.specs.declared.command.Command.TheVariants.{Run}
@@ -10,7 +11,7 @@ use Rattle.csv_streams.specs.Outcome.{tables_text}
 use Rattle.csv_streams.specs.Rows.{rows_of_file}
 use Rattle.csv_streams.specs.declared.fault.InFault.{InFault}
 use Rattle.river_outside.specs.Held.{Held}
-use Rattle.river_order.specs.Order.{Order, Ends, Done, verdict}
+use Rattle.river_order.specs.Order.{IsVerdict, Order, Ends, Done, verdict}
 use Rattle.river_order.specs.Passes.{past}
 use Rattle.river_order.proofs.Told.{verdict-told}
 use Rattle.river_kernels.specs.Fits.{rows}
@@ -34,8 +35,9 @@ use Rattle.river_road.specs.declared.content.Content.TheVariants.{Rows as Plain}
 use Rattle.river_langs.specs.Sources.{saw_source, saw_in}
 use Rattle.river_pieces.specs.Whole.{Prints}
 use Rattle.river_pieces.proofs.Compiled.{compiled_runs_print}
+use Rattle.river_cli.specs.Answer.{WroteEnd}
 use Rattle.river_cli.specs.Points.{of_command, ended, points_of}
-use Rattle.run_pieces.specs.Ran.{tally_run, RunsPrint, RanPrints}
+use Rattle.run_pieces.specs.Ran.{tally_run, RunsPrint, RanPrints, GivesRun}
 use Rattle.run_pieces.proofs.Found.{IsDone, fetch-done, fetched-done, past-done}
 
 -- ---- WHAT WAS FOUND
@@ -150,3 +152,28 @@ ran_prints text bytes header out ran =
     let done = verdict-told (points_of ran.words) ran.held (Done wrote.text) wrote.end in
     subst (λ (o : List ℕ). Prints text bytes header o) (same-taken ran.before out wrote.text wrote.took)
     (runs_print ran.words ran.program ran.input header ran.held text bytes wrote.text ran.asks ran.program_is ran.input_is done)
+
+-- a call that wrote the end of its points is such a run
+pub gives_run : (words : List (List ℕ)) (held : Option Held) (old new : Option (List ℕ)) → WroteEnd (points_of words) held Done old new
+    → GivesRun words held old new
+gives_run words held old new wrote program input text bytes before header h asks held_is program_is input_is old_is =
+    let end : WroteEnd (points_of words) (Some h) Done (Some before) (Some (before ++ wrote.text)) =
+    record {
+      text = wrote.text;
+      end = subst (λ (o : Option Held). IsVerdict (points_of words) o (Done wrote.text)) held_is wrote.end;
+      took = refl;
+    } in (
+      wrote.text,
+      wrote.took ∙ ap (λ (o : Option (List ℕ)). append_known o wrote.text) old_is,
+      record {
+        words = words;
+        program = program;
+        input = input;
+        asks = asks;
+        held = h;
+        program_is = program_is;
+        input_is = input_is;
+        before = before;
+        wrote = end;
+      },
+    )

@@ -62,3 +62,14 @@ pub record Ran (text bytes : List ℕ) (header : Bool) (out : List ℕ) : Type 0
 -- So what it wrote is what a run on these bytes prints.
 abbrev pub RanPrints : Type 0
 RanPrints = (text bytes : List ℕ) (header : Bool) (out : List ℕ) → Ran text bytes header out → Prints text bytes header out
+
+-- What is promised of a call with status 0, where the files are told and what the output takes: of such words it is such a run.
+abbrev pub GivesRun : List (List ℕ) → Option Held → Option (List ℕ) → Option (List ℕ) → Type 0
+GivesRun words held old new =
+    (program input text bytes before : List ℕ) (header : Bool) (h : Held)
+    → AsksFor words program input header
+    → held ≡ Some h
+    → h program ≡ Some text
+    → h input ≡ Some bytes
+    → old ≡ Some before
+    → (out : List ℕ) × (new ≡ Some (before ++ out)) × Ran text bytes header out
