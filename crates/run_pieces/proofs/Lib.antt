@@ -2,3 +2,4 @@ pub mod Found
 pub mod Ran
 pub mod Tool
 pub mod Whole
+pub mod Words

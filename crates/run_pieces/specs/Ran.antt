@@ -1,6 +1,7 @@
 -- A run of `river` for a tally, and what it prints.
-use Rattle.std.specs.Prelude.{◌≡◌, ◌++◌, ℕ, Bool, false, List, [], ◌∷◌, codes, Option, Some}
+use Rattle.std.specs.Prelude.{◌≡◌, ◌++◌, ℕ, ◌<◌, Bool, true, false, List, [], ◌∷◌, length, codes, Option, Some}
 use Rattle.command_line.specs.Sentences.{command_of}
+use Rattle.command_line.specs.Words.{is_file}
 use Rattle.command_line.specs.declared.command.Command.TheVariants.{Run}
 use Rattle.command_line.specs.declared.command.Lang.TheVariants.{Sawzall}
 use Rattle.command_line.specs.declared.command.RunBy.{RunBy}
@@ -33,6 +34,19 @@ pub record AsksFor (words : List (List ℕ)) (program input : List ℕ) (header 
   pub by : RunBy
   pub cap : ℕ
   pub is : command_of words ≡ Some (Run (tally_run program input header script by cap))
+
+-- the words that ask for one with nothing else, which the script `tools/pieces` gives: run sawzall PROGRAM in=INPUT, and -H behind it
+abbrev pub header_words : Bool → List (List ℕ)
+header_words true = codes "-H" ∷ []
+header_words false = []
+
+abbrev pub tally_words : List ℕ → List ℕ → Bool → List (List ℕ)
+tally_words program input header = codes "run" ∷ codes "sawzall" ∷ program ∷ (codes "in=" ++ input) ∷ header_words header
+
+-- They ask for it, where the files have names that may stand there.
+abbrev pub WordsAsk : Type 0
+WordsAsk =
+    (program input : List ℕ) (header : Bool) → is_file program ≡ true → 0 < length input → AsksFor (tally_words program input header) program input header
 
 -- Where such a run is done, over files that are told, its text is what a run on the bytes of its input prints.
 abbrev pub RunsPrint : Type 0

@@ -3,11 +3,16 @@ ghost use Rattle.std.specs.Prelude.{◌≡◌, ℕ, List};
 ghost use Rattle.river_outside.specs.Causes.{Rose};
 ghost use Rattle.river_cli.specs.Does.{Does};
 ghost use Rattle.river_cli.specs.Points.{points_of};
-ghost use Rattle.run_pieces.specs.Ran.{RunsPrint, RanPrints, GivesRun};
+ghost use Rattle.run_pieces.specs.Ran.{WordsAsk, RunsPrint, RanPrints, GivesRun};
 ghost use Rattle.run_pieces.specs.Tool.{ToolGivesTheWhole};
 ghost use Rattle.run_pieces.specs.Whole.{RiverGivesTheWhole};
 
 use river_outside::{Shelf, Sink};
+
+/// The words of `tools/pieces` ask for a run of a program over one input.
+pub fn words_ask()
+    ensures { WordsAsk }
+{}
 
 /// The text of a run that is done is what a run on the bytes of its input prints.
 pub fn runs_print()
