@@ -1,3 +1,4 @@
+pub mod Done
 pub mod Found
 pub mod Ran
 pub mod Tool

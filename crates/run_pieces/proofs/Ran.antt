@@ -63,10 +63,10 @@ rows-found (Err fault) all e = cc e
 -- ---- THE POINTS
 
 -- the one input, and the word that gives its file
-abbrev one_input : ℕ → List Decl
+abbrev pub one_input : ℕ → List Decl
 one_input w = record { name = codes "in"; kind = rows w } ∷ []
 
-abbrev one_word : List ℕ → List InWord
+abbrev pub one_word : List ℕ → List InWord
 one_word file = record { name = codes "in"; file = file } ∷ []
 
 module _ (h : Held) (out : List ℕ) where
@@ -109,7 +109,7 @@ module _ (h : Held) (out : List ℕ) where
 -- ---- THE RUN
 
 -- its tables alone are printed
-tables-printed : (a : Accepted) (plan : PlanForm) (rows : List (List ℤ))
+pub tables-printed : (a : Accepted) (plan : PlanForm) (rows : List (List ℤ))
     → printed (record (saw_source a) { plan = plan }) false (Plain rows ∷ [])
     ≡ tables_text (table_names (tables_in (program_in a))) (program_tables (program_in a) rows)
 tables-printed a plan rows = append-nil (tables_text (table_names (tables_in (program_in a))) (program_tables (program_in a) rows))

@@ -1,5 +1,5 @@
 -- A run of `river` for a tally, and what it prints.
-use Rattle.std.specs.Prelude.{◌≡◌, ◌++◌, ℕ, ◌<◌, Bool, true, false, List, [], ◌∷◌, length, codes, Option, Some}
+use Rattle.std.specs.Prelude.{◌≡◌, ◌++◌, ℕ, ◌<◌, ◌≤◌, Bool, true, false, List, [], ◌∷◌, length, codes, Option, None, Some}
 use Rattle.command_line.specs.Sentences.{command_of}
 use Rattle.command_line.specs.Words.{is_file}
 use Rattle.command_line.specs.declared.command.Command.TheVariants.{Run}
@@ -8,6 +8,7 @@ use Rattle.command_line.specs.declared.command.RunBy.{RunBy}
 use Rattle.command_line.specs.declared.command.RunWords.{RunWords}
 use Rattle.river_outside.specs.Held.{Held}
 use Rattle.river_order.specs.Order.{verdict, Done}
+use Rattle.river_road.specs.Limits.{most_program, most_input}
 use Rattle.river_pieces.specs.Whole.{Prints}
 use Rattle.river_cli.specs.Answer.{WroteEnd}
 use Rattle.river_cli.specs.Points.{points_of}
@@ -58,10 +59,23 @@ RunsPrint =
     → verdict (points_of words) h ≡ Done out
     → Prints text bytes header out
 
+-- And it is done, where there is no script, neither file has too many bytes, and a run prints something.
+abbrev pub RunsAreDone : Type 0
+RunsAreDone =
+    (words : List (List ℕ)) (program input : List ℕ) (header : Bool) (h : Held) (text bytes out : List ℕ)
+    (asks : AsksFor words program input header)
+    → asks.script ≡ None
+    → h program ≡ Some text
+    → h input ≡ Some bytes
+    → length text ≤ most_program
+    → length bytes ≤ most_input
+    → Prints text bytes header out
+    → verdict (points_of words) h ≡ Done out
+
 -- THE CALL
 
--- A call of `river` with such words ended with status 0, over files that are told, of which these are the bytes of the program and of
--- the input; and behind what its output had taken before it took this text, and no more.
+-- Such a call of `river`, over files that are told, of which these are the bytes of the program and of the input: as is promised of status
+-- 0 its points end in this text, and its output took it behind what it had taken before, and no more.
 pub record Ran (text bytes : List ℕ) (header : Bool) (out : List ℕ) : Type 0 where
   pub words : List (List ℕ)
   pub program : List ℕ
@@ -73,11 +87,11 @@ pub record Ran (text bytes : List ℕ) (header : Bool) (out : List ℕ) : Type 0
   pub before : List ℕ
   pub wrote : WroteEnd (points_of words) (Some held) Done (Some before) (Some (before ++ out))
 
--- So what it wrote is what a run on these bytes prints.
+-- What it wrote is what a run on these bytes prints.
 abbrev pub RanPrints : Type 0
 RanPrints = (text bytes : List ℕ) (header : Bool) (out : List ℕ) → Ran text bytes header out → Prints text bytes header out
 
--- What is promised of a call with status 0, where the files are told and what the output takes: of such words it is such a run.
+-- Where the files are told, and what the output takes, words that ask for such a run have had one; what the output took then is known.
 abbrev pub GivesRun : List (List ℕ) → Option Held → Option (List ℕ) → Option (List ℕ) → Type 0
 GivesRun words held old new =
     (program input text bytes before : List ℕ) (header : Bool) (h : Held)

@@ -3,13 +3,13 @@ ghost use Rattle.std.specs.Prelude.{◌≡◌, ℕ, List};
 ghost use Rattle.river_outside.specs.Causes.{Rose};
 ghost use Rattle.river_cli.specs.Does.{Does};
 ghost use Rattle.river_cli.specs.Points.{points_of};
-ghost use Rattle.run_pieces.specs.Ran.{WordsAsk, RunsPrint, RanPrints, GivesRun};
+ghost use Rattle.run_pieces.specs.Ran.{WordsAsk, RunsPrint, RunsAreDone, RanPrints, GivesRun};
 ghost use Rattle.run_pieces.specs.Tool.{ToolGivesTheWhole};
 ghost use Rattle.run_pieces.specs.Whole.{RiverGivesTheWhole};
 
 use river_outside::{Shelf, Sink};
 
-/// The words of `tools/pieces` ask for a run of a program over one input.
+/// The words that `tools/pieces` gives ask for a run of a program over one input.
 pub fn words_ask()
     ensures { WordsAsk }
 {}
@@ -19,7 +19,12 @@ pub fn runs_print()
     ensures { RunsPrint }
 {}
 
-/// So is what a call with status 0 wrote.
+/// And such a run is done where there is such a text, and no script.
+pub fn runs_are_done()
+    ensures { RunsAreDone }
+{}
+
+/// What a call with status 0 wrote is what a run on the bytes of its input prints.
 pub fn ran_prints()
     ensures { RanPrints }
 {}
@@ -38,7 +43,7 @@ pub fn river_gives_the_whole()
     ensures { RiverGivesTheWhole }
 {}
 
-/// So do the calls of the program that cuts and splits, with those of `river` between them.
+/// So do the calls that cut a file and split what was printed, with those of `river` between them.
 pub fn tool_gives_the_whole()
     ensures { ToolGivesTheWhole }
 {}
