@@ -473,8 +473,8 @@ quiet_done p inputs caps adds ts v laid tasks settled o op t g gt d = record {
   lies = λ port q r.
       let i = inlet_of p inputs caps adds ts v laid tasks settled o port op q t g r gt in
       left_read p inputs caps adds ts v laid tasks settled o port op q t i.0 g r gt i.1
-          ∙ ap known_of (sym (get_or_from_slice_get t.ins port i.0 i.0 i.1))
-          ∙ d.received port i.0 (slice_get_within t.ins port i.0 i.1);
+      ∙ ap known_of (sym (get_or_from_slice_get t.ins port i.0 i.0 i.1))
+      ∙ d.received port i.0 (slice_get_within t.ins port i.0 i.1);
 }
   where
     turned_none : (ls : List (List item.Item)) → IsIdle ls → (j : ℕ) → list_at (pending_in ls) j ≡ []
