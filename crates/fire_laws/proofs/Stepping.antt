@@ -1,11 +1,10 @@
 -- One move of tasks is one move of the bounded states that they are.
-use Rattle.std.proofs.Common.{ℤ, ◌≡◌, ◌≢◌, ℕ, zero, suc, ◌+◌, ◌<◌, ◌≤◌, Some, List, [], ◌∷◌, ◌++◌, length, take, refl, sym, ap, ◌∙◌, subst, arith, ⊎_elim, inl, inr, append_assoc, length-append}
+use Rattle.std.proofs.Common.{ℤ, ◌≡◌, ℕ, zero, suc, ◌+◌, ◌<◌, Some, List, [], ◌∷◌, ◌++◌, length, take, refl, sym, ap, ◌∙◌, subst, arith, ⊎_elim, inl, inr, append_assoc, length-append}
 use Rattle.std.specs.Prelude.{◌⊎◌, count_by, slice_get}
 use Rattle.std.proofs.lemmas.Bool.{cases_eq, cases_lt}
-use Rattle.std.proofs.lemmas.List.{append-nil, take_at}
+use Rattle.std.proofs.lemmas.List.{take_at}
 use mathlib.Core.List.{reverse}
 use Rattle.std.proofs.lemmas.Option.{get_or_from_slice_get, slice_get_within, same_Some}
-use Rattle.river_base.specs.Bags.{SameBag}
 use Rattle.river_base.specs.Places.{list_at}
 use Rattle.river_base.specs.declared.item.Item as item
 use Rattle.river_base.proofs.Lists.{head_same, tail_same, there_is}
@@ -18,8 +17,7 @@ use Rattle.river_plan.specs.Valid.{IsPlan}
 use Rattle.river_plan.proofs.NameLemmas.{cases_name, more_or_zero}
 use Rattle.brooklet_model.specs.Bounded.{Bounded, Capacities, IsBusy, QueueHasRoom, Send, Take, after_sending, after_taking, sent}
 use Rattle.brooklet_model.specs.Histories.{History, Lists, joined, tables_of}
-use Rattle.brooklet_model.specs.Laws.{given_to}
-use Rattle.brooklet_model.specs.Machine.{at_key, at_name}
+use Rattle.brooklet_model.specs.Machine.{at_name}
 use Rattle.brooklet_model.specs.Nets.{IsNet, and_took}
 use Rattle.brooklet_model.specs.Received.{AreWords, IsFront, hist_by, rows_added}
 use Rattle.brooklet_model.specs.Traced.{ran}
@@ -37,7 +35,7 @@ use Rattle.fire_tasks.specs.Ports.{IsIdle, known_of, pending_in}
 use Rattle.fire_tasks.specs.Tasks.{HasWord, IsDone, seen_task}
 use Rattle.fire_laws.specs.Joins.{Joins, bounded}
 use Rattle.fire_laws.specs.Layout.{AreLaid, AreSettled, AreTasks, left_in, seen_at}
-use Rattle.fire_laws.specs.Steps.{IsMove, IsQuiet, MovesJoin, SameState, SeenMove, SeenSend, SeenTake}
+use Rattle.fire_laws.specs.Steps.{IsMove, IsQuiet, MovesJoin, SameState, SeenSend, SeenTake}
 use Rattle.fire_laws.proofs.HeldWords.{nothing_beyond}
 use Rattle.fire_laws.proofs.Joining.{join_law, place_of}
 use Rattle.fire_laws.proofs.NetLemmas.{beside, inlet_of, left_read, seen_here, task_of}
@@ -473,8 +471,8 @@ quiet_done p inputs caps adds ts v laid tasks settled o op t g gt d = record {
   lies = λ port q r.
       let i = inlet_of p inputs caps adds ts v laid tasks settled o port op q t g r gt in
       left_read p inputs caps adds ts v laid tasks settled o port op q t i.0 g r gt i.1
-          ∙ ap known_of (sym (get_or_from_slice_get t.ins port i.0 i.0 i.1))
-          ∙ d.received port i.0 (slice_get_within t.ins port i.0 i.1);
+      ∙ ap known_of (sym (get_or_from_slice_get t.ins port i.0 i.0 i.1))
+      ∙ d.received port i.0 (slice_get_within t.ins port i.0 i.1);
 }
   where
     turned_none : (ls : List (List item.Item)) → IsIdle ls → (j : ℕ) → list_at (pending_in ls) j ≡ []

@@ -1,13 +1,12 @@
 -- One move of a net is one move of the bounded states that it is.
-use Rattle.std.proofs.Common.{◌≡◌, ◌≢◌, ℕ, ℤ, zero, suc, ◌+◌, ◌<◌, ◌≤◌, ◌⊎◌, Some, List, [], ◌∷◌, ◌++◌, length, map, refl, sym, ap, ◌∙◌, arith, subst, inl, inr, ⊎_elim, get_or, set, length-append}
-use Rattle.std.specs.Prelude.{None, slice_get}
-use mathlib.Core.List.{reverse}
+use Rattle.std.proofs.Common.{◌≡◌, ℕ, ℤ, zero, suc, ◌<◌, ◌≤◌, ◌⊎◌, Some, List, [], ◌∷◌, ◌++◌, length, map, refl, sym, ap, ◌∙◌, arith, subst, inl, inr, ⊎_elim, get_or, set, length-append}
+use Rattle.std.specs.Prelude.{slice_get}
 use Rattle.std.proofs.lemmas.Bool.{cases_eq, cases_lt}
-use Rattle.std.proofs.lemmas.List.{append-nil, length-map, length-reverse}
+use Rattle.std.proofs.lemmas.List.{length-map, length-reverse}
 use Rattle.std.proofs.lemmas.Option.{get_or_from_slice_get, same_Some, slice_get-get_or, slice_get_within}
 use Rattle.river_base.specs.declared.item.Item as item
-use Rattle.river_base.specs.Places.{append_at, list_at}
-use Rattle.river_base.proofs.Lists.{got_map, there_is}
+use Rattle.river_base.specs.Places.{list_at}
+use Rattle.river_base.proofs.Lists.{there_is}
 use Rattle.river_base.proofs.PlaceLemmas.{append_else, append_here}
 use Rattle.river_plan.specs.Forms.{Name, OpForm, PlanForm}
 use Rattle.river_plan.specs.Valid.{IsPlan}
@@ -15,19 +14,17 @@ use Rattle.brooklet_model.specs.Bounded.{Capacities}
 use Rattle.brooklet_model.specs.Machine.{at_key}
 use Rattle.brooklet_model.specs.Words.{Word}
 use Rattle.brooklet_model.proofs.Traces.{at_key_other, at_key_same}
-use Rattle.class_locks.specs.Logs.{Holding}
 use Rattle.fire_tasks.specs.declared.task.Task.{Task}
 use Rattle.fire_tasks.specs.Adds.{added, logs_of}
 use Rattle.fire_tasks.specs.Fired.{SeenTask, ports_of}
 use Rattle.fire_tasks.specs.Ports.{pending_in, received_in, received_of, sent_in, sent_of}
 use Rattle.fire_tasks.specs.Tasks.{HasWord, IsDone, IsTask, seen_task}
-use Rattle.fire_tasks.proofs.BundleLemmas.{ends_many}
 use Rattle.fire_laws.specs.Layout.{left_in, seen_at}
-use Rattle.fire_laws.specs.Steps.{HasMovedState, IsQuiet, SeenMove, SeenSend, SeenTake}
+use Rattle.fire_laws.specs.Steps.{HasMovedState, IsQuiet, SeenSend, SeenTake}
 use Rattle.fire_laws.proofs.Stepping.{joins_with, moves_law, ports-append, quiet_done}
 use Rattle.fire_laws.proofs.NetLemmas.{seen_here}
 use Rattle.fire_open.specs.Still.{Still, still}
-use Rattle.fire_open.proofs.Lists.{map_long, same_got, set_got_is, set_got_other, set_got_same}
+use Rattle.fire_open.proofs.Lists.{same_got, set_got_is, set_got_other}
 use Rattle.fire_open.proofs.StillLemmas.{still_word}
 use Rattle.fire_run.specs.declared.net.Net.{Net}
 use Rattle.fire_run.specs.NetOf.{IsNetOf}

@@ -1,6 +1,6 @@
 use Rattle.std.proofs.Common.{inl, inr, refl}
 use Rattle.std.proofs.lemmas.Result.{IfOk-weaker}
-use Rattle.fire_run.proofs.RunLemmas.{dealt_in, goes_late, goes_moved, goes_still, goes_then, rounded, stays_has}
+use Rattle.fire_run.proofs.RunLemmas.{dealt_in, goes_moved, goes_still, goes_then, rounded, stays_has}
 use Rattle.fire_run.proofs.running.make_round.Goals as goal
 
 pub work_all-requires-clause-dealt : goal.work_all-requires-clause-dealt
