@@ -1,0 +1,6 @@
+pub mod Done
+pub mod Found
+pub mod Ran
+pub mod Tool
+pub mod Whole
+pub mod Words

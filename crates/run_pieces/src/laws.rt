@@ -1,0 +1,49 @@
+//! Laws over the definitions alone.
+ghost use Rattle.std.specs.Prelude.{◌≡◌, ℕ, List};
+ghost use Rattle.river_outside.specs.Causes.{Rose};
+ghost use Rattle.river_cli.specs.Does.{Does};
+ghost use Rattle.river_cli.specs.Points.{points_of};
+ghost use Rattle.run_pieces.specs.Ran.{WordsAsk, RunsPrint, RunsAreDone, RanPrints, GivesRun};
+ghost use Rattle.run_pieces.specs.Tool.{ToolGivesTheWhole};
+ghost use Rattle.run_pieces.specs.Whole.{RiverGivesTheWhole};
+
+use river_outside::{Shelf, Sink};
+
+/// The words that `tools/pieces` gives ask for a run of a program over one input.
+pub fn words_ask()
+    ensures { WordsAsk }
+{}
+
+/// The text of a run that is done is what a run on the bytes of its input prints.
+pub fn runs_print()
+    ensures { RunsPrint }
+{}
+
+/// And such a run is done where there is such a text, and no script.
+pub fn runs_are_done()
+    ensures { RunsAreDone }
+{}
+
+/// What a call with status 0 wrote is what a run on the bytes of its input prints.
+pub fn ran_prints()
+    ensures { RanPrints }
+{}
+
+/// What `river` promises of a call with status 0, over a shelf and an output that tell, is that it ran so.
+pub fn status_0_is_a_run<S: Shelf, O: Sink, E: Sink>()
+    ensures { (words : List (List ℕ)) (shelf shelf' : S) (out out' : O) (err err' : E)
+        → Does (points_of words) (S.held shelf) (shelf' ≡ shelf) (Rose S.stays_at_last (S.faults shelf) (S.faults shelf'))
+        (O.taken out) (O.taken out') (Rose O.stays_at_last (O.faults out) (O.faults out'))
+        (E.taken err) (E.taken err') (Rose E.stays_at_last (E.faults err) (E.faults err')) 0
+        → GivesRun words (S.held shelf) (O.taken out) (O.taken out') }
+{}
+
+/// Calls on the pieces of a file, and calls that merge their tables, write what the program means for the whole file.
+pub fn river_gives_the_whole()
+    ensures { RiverGivesTheWhole }
+{}
+
+/// So do the calls that cut a file and split what was printed, with those of `river` between them.
+pub fn tool_gives_the_whole()
+    ensures { ToolGivesTheWhole }
+{}
