@@ -1,4 +1,4 @@
-//! Worked cases of plans that run, written as River text. There is no code here besides the tests.
+//! Tests of the machine, which is driven by hand through plans that are written as River text. There is no code here besides the tests.
 #![tactic(auto)]
 
 #[cfg(test)]

@@ -1,5 +1,5 @@
-//! What the cases of `river_cases` cannot say: what no contract says of the files, the streams and the threads of the system, and a
-//! call that no run makes so far. There is no code here besides the tests.
+//! What the cases of `river_cases` cannot say: what no contract says of the files, the streams and the threads of the system, who fires
+//! when, and calls of queues and locks that a run makes in ways of its own. There is no code here besides the tests.
 #![tactic(auto)]
 
 #[cfg(test)]
