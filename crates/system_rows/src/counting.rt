@@ -15,9 +15,10 @@ use worked_cases::{Runner, go_through};
 // The status that is told where the counts are others than those printed.
 const MISCOUNTED: u8 = 99;
 
-// A filter that peeks; a tally in three replicas; a query with a condition that was hoisted and columns in four replicas.
+// A filter that peeks; a tally in three replicas; a query with a condition that was hoisted and columns in four replicas; a filter in
+// eight, which makes ten operators.
 const CASES: &str = "\
-cases 3
+cases 4
 case a filter that peeks
 words run streamit sum.str in=n.csv -w 2 -c
 file sum.str
@@ -91,12 +92,45 @@ out
 | high@p@j,3
 | high@i,3
 end
+case a filter in eight replicas
+words run streamit twice.str in=n.csv -r split -w 3 -c
+file twice.str
+| int->int filter Twice { work push 1 pop 1 { push(2 * pop()); } }
+file split
+| fission Twice@1 8;
+file n.csv
+9 | \\i
+status 0
+out
+| # out
+| 2
+| 4
+| 6
+| 8
+| 10
+| 12
+| 14
+| 16
+| 18
+| ## firings
+| Twice@1@d,9
+| Twice@1@1,2
+| Twice@1@2,1
+| Twice@1@3,1
+| Twice@1@4,1
+| Twice@1@5,1
+| Twice@1@6,1
+| Twice@1@7,1
+| Twice@1@8,1
+| Twice@1@j,9
+end
 ";
 
-/// Counts the firings of the first operators.
+/// Counts the firings of the first operators, one by one, and those of all others.
 #[derive(Drop)]
 struct Counts {
-    of: [AtomicU64; 9],
+    of: [AtomicU64; 10],
+    others: AtomicU64,
 }
 
 impl Counts {
@@ -112,7 +146,9 @@ impl Counts {
                 AtomicU64::new(0),
                 AtomicU64::new(0),
                 AtomicU64::new(0),
+                AtomicU64::new(0),
             ],
+            others: AtomicU64::new(0),
         }
     }
 
@@ -124,17 +160,28 @@ impl Counts {
         }
     }
 
-    // Whether the firings that a text prints, operator by operator, are those that were counted.
+    // Whether the firings that a text prints, operator by operator, are those that were counted, and there were no others.
     fn agree_with(&self, printed: &str) -> bool {
         let Some((_, firings)) = printed.split_once("## firings\n") else {
             return false;
         };
+        let mut lines = 0;
         for (op, line) in firings.lines().enumerate() {
             if number_in(line) != self.count(op) {
                 return false;
             }
+            lines = op + 1;
         }
-        true
+        self.rest_from(lines) == 0
+    }
+
+    // How often the operators fired that no line names.
+    fn rest_from(&self, lines: usize) -> u64 {
+        let mut rest = self.others.load(Ordering::SeqCst);
+        for op in lines..self.of.len() {
+            rest = rest.saturating_add(self.count(op).unwrap_or(0));
+        }
+        rest
     }
 }
 
@@ -146,9 +193,8 @@ fn number_in(line: &str) -> Option<u64> {
 
 impl Gate for Counts {
     fn enter(&self, op: u32) {
-        if let Some(number) = self.of.get(op as usize) {
-            number.fetch_add(1, Ordering::SeqCst);
-        }
+        let number = self.of.get(op as usize).unwrap_or(&self.others);
+        number.fetch_add(1, Ordering::SeqCst);
     }
 }
 

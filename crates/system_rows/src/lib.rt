@@ -7,6 +7,8 @@ mod classes;
 #[cfg(test)]
 mod counting;
 #[cfg(test)]
+mod cutting;
+#[cfg(test)]
 mod lists;
 #[cfg(test)]
 mod meeting;
@@ -16,3 +18,5 @@ mod rings;
 mod round;
 #[cfg(test)]
 mod system;
+#[cfg(test)]
+mod turns;

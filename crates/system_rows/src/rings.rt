@@ -63,3 +63,15 @@ fn a_thousand_items_in_order(rt: HostRuntime) -> Result<(), Fail> {
     assert_eq!(rt; came, ITEMS);
     Ok(())
 }
+
+/// The taking end looks by itself: it is ready for what was sent, also where both ends have not looked beside each other.
+#[test]
+fn ready_looks(rt: HostRuntime) -> Result<(), Fail> {
+    let (mut feed, mut take) = ring(rt.alloc(), 2)?;
+    assert!(rt; !take.ready());
+    assert!(rt; feed.push(item_of(7)).is_ok());
+    assert!(rt; take.ready());
+    assert!(rt; take.pop().is_some_and(|item| item == item_of(7)));
+    assert!(rt; !take.ready());
+    Ok(())
+}
