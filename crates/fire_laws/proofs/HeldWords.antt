@@ -48,11 +48,6 @@ pub all_left : {A : Type 0} (P : A → Type 0) (xs ys : List A) → All P (xs ++
 all_left P [] ys h = All-nil P
 all_left P (x ∷ xs) ys h = All-cons P x xs (All-head P x (xs ++ ys) h) (all_left P xs ys (All-tail P x (xs ++ ys) h))
 
--- and of one in the middle
-pub all_mid : {A : Type 0} (P : A → Type 0) (xs ys : List A) (x : A) → All P (xs ++ x ∷ ys) → P x
-all_mid P [] ys x h = All-head P x ys h
-all_mid P (y ∷ xs) ys x h = all_mid P xs ys x (All-tail P y (xs ++ x ∷ ys) h)
-
 -- WORDS WITH OTHER ITEMS
 
 first_or : item.Item → List item.Item → item.Item

@@ -38,7 +38,8 @@ use Rattle.brooklet_step.proofs.GivenLemmas.{at-nil, at-length, ran_typed, first
 use Rattle.fire_tasks.specs.Fired.{SeenTask, bad_at, IsBad, IsHeldAs, kinds_in, kinds_out, HasFired}
 use Rattle.brooklet_step.proofs.Edges.{inputs_held, inputs_may}
 use Rattle.fire_laws.specs.Joins.{TasksJoin, Joins, AreBeside, lists_by_name, kept_by, taken_by, bounded}
-use Rattle.fire_laws.proofs.HeldWords.{held_front, held_fewer, all_left, all_mid, relabel, relabel_ports, relabel_at, typed_ports, below_same, nothing_beyond, no_list, found}
+use Rattle.fire_tasks.proofs.PortLemmas.{all_mid}
+use Rattle.fire_laws.proofs.HeldWords.{held_front, held_fewer, all_left, relabel, relabel_ports, relabel_at, typed_ports, below_same, nothing_beyond, no_list, found}
 
 -- what these operators have at a queue of theirs
 pub spread_out : (names : OpForm → List Name) (f : ℕ → ℕ → List item.Item) (ops : List OpForm) (o : ℕ) (h : History) (q : Name)

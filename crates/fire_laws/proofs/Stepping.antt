@@ -3,7 +3,6 @@ use Rattle.std.proofs.Common.{ℤ, ◌≡◌, ℕ, zero, suc, ◌+◌, ◌<◌, 
 use Rattle.std.specs.Prelude.{◌⊎◌, count_by, slice_get}
 use Rattle.std.proofs.lemmas.Bool.{cases_eq, cases_lt}
 use Rattle.std.proofs.lemmas.List.{take_at}
-use mathlib.Core.List.{reverse}
 use Rattle.std.proofs.lemmas.Option.{get_or_from_slice_get, slice_get_within, same_Some}
 use Rattle.river_base.specs.Places.{list_at}
 use Rattle.river_base.specs.declared.item.Item as item
@@ -31,7 +30,7 @@ use Rattle.brooklet_model.proofs.Traces.{at_key_other, at_key_same, at_most, got
 use Rattle.brooklet_model.specs.Typed.{AreInputs}
 use Rattle.fire_tasks.specs.declared.task.Task.{Task}
 use Rattle.fire_tasks.specs.Fired.{HasFired, SeenTask, ports_of}
-use Rattle.fire_tasks.specs.Ports.{IsIdle, known_of, pending_in}
+use Rattle.fire_tasks.specs.Ports.{known_of}
 use Rattle.fire_tasks.specs.Tasks.{HasWord, IsDone, seen_task}
 use Rattle.fire_laws.specs.Joins.{Joins, bounded}
 use Rattle.fire_laws.specs.Layout.{AreLaid, AreSettled, AreTasks, left_in, seen_at}
@@ -467,15 +466,10 @@ pub quiet_done : (p : PlanForm) (inputs : List (List item.Item)) (caps : Capacit
     → AreLaid p inputs caps ts → AreTasks p adds ts → AreSettled p ts → (o : ℕ) (op : OpForm) (t : Task) → slice_get p.ops o ≡ Some op → slice_get ts o ≡ Some t
     → IsDone t → IsQuiet (seen_at ts) (left_in p inputs ts) o op
 quiet_done p inputs caps adds ts v laid tasks settled o op t g gt d = record {
-  pending = λ j. ap (λ (s : SeenTask). list_at s.pending j) (seen_here ts o t gt) ∙ turned_none t.pending d.idle j;
+  pending = λ j. ap (λ (s : SeenTask). list_at s.pending j) (seen_here ts o t gt) ∙ d.idle j;
   lies = λ port q r.
       let i = inlet_of p inputs caps adds ts v laid tasks settled o port op q t g r gt in
       left_read p inputs caps adds ts v laid tasks settled o port op q t i.0 g r gt i.1
       ∙ ap known_of (sym (get_or_from_slice_get t.ins port i.0 i.0 i.1))
       ∙ d.received port i.0 (slice_get_within t.ins port i.0 i.1);
 }
-  where
-    turned_none : (ls : List (List item.Item)) → IsIdle ls → (j : ℕ) → list_at (pending_in ls) j ≡ []
-    turned_none [] h j = refl
-    turned_none (l ∷ ls) h zero = ap reverse (h 0)
-    turned_none (l ∷ ls) h (suc j) = turned_none ls (λ n. h (suc n)) j

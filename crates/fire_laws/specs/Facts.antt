@@ -1,4 +1,4 @@
--- The law that code uses once all rings are settled.
+-- The laws that code uses once all rings are settled.
 use Rattle.std.specs.Prelude.{ℕ, ℤ, List, ◌*◌, ◌≤◌}
 use Rattle.river_base.specs.declared.item.Item as item
 use Rattle.river_plan.specs.Forms.{PlanForm, queue_names}

@@ -1,4 +1,5 @@
-//! What all crates of river speak of: numbers, lists, and the gate of a firing.
+//! What all crates of river speak of: numbers, rows, names, items and the types of queues, lists,
+//! want of memory, and the gate of a firing.
 #![tactic(auto)]
 
 mod duplicate;

@@ -1,7 +1,8 @@
 //! From the words of a command over any source language to the text that is written, or, where a plan is run, up to its run: the
 //! points of the commands, the files of a program's inputs, its script and its meaning.
 //!
-//! No language is named here. A language is a type that implements [`Language`].
+//! No language is named here, but that the text which `load` runs is in Sawzall. A language is a
+//! type that implements [`Language`].
 #![tactic(auto)]
 
 mod content;

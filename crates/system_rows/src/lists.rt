@@ -1,4 +1,4 @@
-// A call that no run makes so far.
+// The sorting of rows.
 use river_base::{NoMemory, Row, Rows};
 use std::alloc::Global;
 use std::test::Fail;
