@@ -75,7 +75,7 @@ pub fn body_above(code: &Code, limit: Limit, most: u64) -> Option<u128>
     ensures { result ≡ first_above most (body_numbers limit (code_body code.now)) }
 {
     match limit {
-        Limit::Statements => above(size(&code.body), most),
+        Limit::Statements => above(size(code.body.stmts()), most),
         Limit::Slots => above(code.slots as u128, most),
         _ => None,
     }

@@ -183,8 +183,12 @@ pub(crate) fn is_formed_window(w: &Window) -> bool
 pub(crate) fn is_formed_code(k: &CodeKernel) -> bool
     ensures { result ≡ is_code (code_form k.now) }
 {
-    are_formed_stmts(&k.code.body, k.code.inputs, k.code.slots, k.outs.as_slice())
-        && k.starts.len() <= k.code.slots as usize
+    are_formed_stmts(
+        k.code.body.stmts(),
+        k.code.inputs,
+        k.code.slots,
+        k.outs.as_slice(),
+    ) && k.starts.len() <= k.code.slots as usize
 }
 
 // Whether the filter is well formed, and its first run where it has one of its own.
@@ -210,8 +214,8 @@ fn is_formed_run(run: &First, slots: u32) -> bool
     run.code.inputs == run.peek
         && run.code.slots == slots
         && run.pop <= run.peek
-        && are_formed_stmts(&run.code.body, run.peek, slots, &[1])
-        && left_after(&run.code.body, run.push) == Some(0)
+        && are_formed_stmts(run.code.body.stmts(), run.peek, slots, &[1])
+        && left_after(run.code.body.stmts(), run.push) == Some(0)
 }
 
 // Whether the rates and the body are well formed, and each run pushes as many values as the filter says.
@@ -219,9 +223,9 @@ fn is_formed_usual(f: &Filter) -> bool
     ensures { result ≡ is_usual (filter_form f.now) }
 {
     has_formed_rates(f)
-        && are_formed_stmts(&f.code.body, f.peek, f.code.slots, &[1])
+        && are_formed_stmts(f.code.body.stmts(), f.peek, f.code.slots, &[1])
         && f.starts.len() <= f.code.slots as usize
-        && left_after(&f.code.body, f.push) == Some(0)
+        && left_after(f.code.body.stmts(), f.push) == Some(0)
 }
 
 fn has_formed_rates(f: &Filter) -> bool

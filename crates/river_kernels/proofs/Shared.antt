@@ -1,13 +1,8 @@
 -- Kernels may be shared among threads.
 use denote.Param.Send.{IsSync, sendable}
 use Rattle.std.proofs.Crossing.{crosses}
-use Rattle.work_code.specs.contracts.expr.Expr as Expr
-use Rattle.work_code.specs.contracts.expr.Exprs as Exprs
 use Rattle.work_code.specs.contracts.code.Code as Code
-use Rattle.work_code.specs.contracts.code.Stmts as Stmts
-use Rattle.work_code.proofs.expr.BinOp.TheSendSync as binop
-use Rattle.work_code.proofs.expr.Expr.TheLaws.TheKnot as expr
-use Rattle.work_code.proofs.code.Stmt.TheLaws.TheKnot as stmt
+use Rattle.work_code.proofs.Shared.{expression, expressions, code_shared}
 use Rattle.kern_rows.specs.contracts.kernel.CodeKernel as CodeKernel
 use Rattle.kern_rows.specs.contracts.kernel.Filter as Filter
 use Rattle.kern_rows.specs.contracts.kernel.First as First
@@ -19,30 +14,18 @@ use Rattle.kern_bags.proofs.kernel.Streamer.TheSendSync as streamer
 use Rattle.river_kernels.specs.contracts.kernel.Kernel as Kernel
 use Rattle.river_kernels.proofs.kernel.Kernel.TheLaws.TheKnot as kernel
 
-expression : IsSync (Expr.the_field).row
-expression = search (sendable, crosses, expr.sync-Expr, binop.the_field_sync) depth 40
-
-expressions : IsSync (Exprs.the_field).row
-expressions = let e : IsSync (Expr.the_field).row = expression in search (sendable, crosses) depth 40
-
-statements : IsSync (Stmts.the_field).row
-statements = stmt.sync-Stmts (search sendable) expression expressions (λ h s. search crosses)
-
-code : IsSync (Code.the_field).row
-code = let s : IsSync (Stmts.the_field).row = statements in search (sendable, crosses) depth 40
-
 numbers : IsSync (Listed.the_field i64).row
 numbers = search (sendable, crosses, listed.the_sync) depth 40
 
 code_kernel : IsSync (CodeKernel.the_field).row
-code_kernel = let c : IsSync (Code.the_field).row = code in let n : IsSync (Listed.the_field i64).row = numbers in search (sendable, crosses) depth 40
+code_kernel = let c : IsSync (Code.the_field).row = code_shared in let n : IsSync (Listed.the_field i64).row = numbers in search (sendable, crosses) depth 40
 
 first : IsSync (First.the_field).row
-first = let c : IsSync (Code.the_field).row = code in search (sendable, crosses) depth 40
+first = let c : IsSync (Code.the_field).row = code_shared in search (sendable, crosses) depth 40
 
 filter : IsSync (Filter.the_field).row
 filter =
-    let c : IsSync (Code.the_field).row = code in
+    let c : IsSync (Code.the_field).row = code_shared in
     let r : IsSync (First.the_field).row = first in
     let n : IsSync (Listed.the_field i64).row = numbers in
     search (sendable, crosses) depth 40

@@ -194,7 +194,7 @@ fn read_code(code: &Code)
 {
     read_count(code.inputs);
     read_count(code.slots);
-    read_stmts(&code.body);
+    read_stmts(code.body.stmts());
 }
 
 #[cycle(read_stmt)]

@@ -11,7 +11,7 @@ use river_base::NoMemory;
 use std::alloc::Global;
 use text_blocks::{Blocks, Opening, ended, place, round};
 use text_forms::{Fault, Reader, closed, is};
-use work_code::{Expr, Stmt, Stmts};
+use work_code::{Body, Expr, Stmt, Stmts};
 use work_text::Symbol;
 
 // What stands behind `slot`.
@@ -178,8 +178,9 @@ impl Blocks for River {
 
 /// `{` statements `}`, in which `if` nests at most 16 deep.
 #[tactic(auto, unfolding(crate::specs::Bodies::body_at))]
-pub fn body(reader: &mut Reader<'_>, alloc: Global, brackets: u32) -> Result<Stmts, Fault>
+pub fn body(reader: &mut Reader<'_>, alloc: Global, brackets: u32) -> Result<Body, Fault>
     ensures { Gives steps result reader.new (body_at brackets reader.old) }
 {
-    text_blocks::block(&River, reader, alloc, 16, brackets)
+    let stmts = text_blocks::block(&River, reader, alloc, 16, brackets)?;
+    Ok(Body::of(alloc, stmts)?)
 }

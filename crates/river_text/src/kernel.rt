@@ -17,7 +17,7 @@ use river_kernels::Kernel;
 use std::alloc::Global;
 use text_blocks::round;
 use text_forms::{Fault, Reader, closed, is};
-use work_code::{Code, Stmts};
+use work_code::{Body, Code};
 use work_text::Symbol;
 
 // What stands behind `code`.
@@ -43,7 +43,7 @@ fn first(
     reader: &mut Reader<'_>,
     alloc: Global,
     brackets: u32,
-) -> Result<Option<((u32, u32, u32), Stmts)>, Fault>
+) -> Result<Option<((u32, u32, u32), Body)>, Fault>
     ensures { Gives (optional (λ run. ((run.0.0, (run.0.1, run.0.2)), steps run.1))) result reader.new (first_at brackets reader.old) }
 {
     if !reader.is_at_word(b"first") {
@@ -55,7 +55,7 @@ fn first(
 }
 
 // The first run of a filter with so many slots, of its rates and its body.
-fn first_run(run: Option<((u32, u32, u32), Stmts)>, slots: u32) -> Option<First>
+fn first_run(run: Option<((u32, u32, u32), Body)>, slots: u32) -> Option<First>
     ensures { optional_run result ≡ optional (made_first slots) (optional (λ run. ((run.0.0, (run.0.1, run.0.2)), steps run.1)) run) }
 {
     let ((peek, pop, push), body) = run?;

@@ -1,4 +1,4 @@
-//! River text: plans written down, read and printed.
+//! River text: plans as they are written down, and how they are read.
 #![tactic(auto)]
 
 mod body;

@@ -21,7 +21,7 @@ use river_kernels::Kernel;
 use river_plan::{Decl, Decls, Names, Op, Ops, RawPlan, TableDecl, TableDecls};
 use saw_text::Unit;
 use std::alloc::Global;
-use work_code::{Code, Stmts};
+use work_code::{Body, Code, Stmts};
 
 // The table of a unit, behind those that are there, where it is one.
 fn add_table(list: &mut TableDecls, unit: &Unit) -> Result<(), NoMemory>
@@ -252,7 +252,7 @@ pub fn lists(alloc: Global, units: &[Unit], body: Stmts, slots: u32) -> Result<R
     let code = Code {
         inputs: width,
         slots,
-        body,
+        body: Body::of(alloc, body)?,
     };
     let tables = tables(alloc, units)?;
     let ops = operators(alloc, &tables, code)?;

@@ -20,7 +20,7 @@ use kern_rows::{Filter, First};
 use river_base::{Name, NoMemory, Numbers};
 use std::alloc::Global;
 use streamit_text::{Block, FilterTree, Rates, WorkTree};
-use work_code::{Code, Emitted, Stmts, run_code};
+use work_code::{Body, Code, Emitted, Stmts, run_code};
 
 /// The filter of a plan for a filter as it is written, or the first fault in reading order.
 pub fn filter(alloc: Global, tree: &FilterTree) -> Result<Filter, Fault>
@@ -241,7 +241,7 @@ impl Unroller {
         Ok(Code {
             inputs: rates.peek,
             slots: self.slots,
-            body,
+            body: Body::of(alloc, body)?,
         })
     }
 
@@ -317,7 +317,7 @@ fn after_one_run(alloc: Global, fields: usize, slots: u32, body: Stmts) -> Resul
     let code = Code {
         inputs: 0,
         slots,
-        body,
+        body: Body::of(alloc, body)?,
     };
     let mut all = zeros(alloc, slots)?;
     run_once(alloc, &code, &mut all)?;

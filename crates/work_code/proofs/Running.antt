@@ -1,8 +1,8 @@
 -- A body that is run statement by statement.
-use Rattle.std.proofs.Common.{◌≡◌, ℕ, zero, suc, ◌+◌, ◌<◌, ◌≤◌, ℤ, List, [], ◌∷◌, ◌++◌, length, take, drop, map, get_or, refl, sym, ap, ◌∙◌}
-use Rattle.std.proofs.Common.{subst, arith, append_assoc, add-one, drop-cons}
+use Rattle.std.proofs.Common.{◌≡◌, ℕ, zero, suc, ◌+◌, ◌<◌, ℤ, List, [], ◌∷◌, ◌++◌, length, take, map, get_or, refl, sym, ap, ◌∙◌}
+use Rattle.std.proofs.Common.{subst, arith, append_assoc}
 use Rattle.std.specs.List.{AllByRecursion}
-use Rattle.std.proofs.lemmas.List.{append-nil, drop_all}
+use Rattle.std.proofs.lemmas.List.{append-nil}
 use Rattle.std.proofs.Math.Seq.{take-append-add}
 use Rattle.river_base.specs.Grew.{GrewByPrefix}
 pub use Rattle.river_base.proofs.PlaceLemmas.{on_err}
@@ -77,20 +77,16 @@ so_far_refused input all s rest slots now out out' out'' f g =
     prefix_is [] b (suc n) = refl
     prefix_is (x ∷ xs) b (suc n) = ap (λ t. x ∷ t) (prefix_is xs b n)
 
--- the statement at a place, and those after it
-pub at_place : (items : List Stmt) (i : ℕ) (s : Stmt) → i < length items → s ≡ get_or items i s
-    → map step (drop i items) ≡ step s ∷ map step (drop (i + 1) items)
-at_place items i s lt e = ap (map step) (drop-cons items i s lt ∙ ap (λ x. x ∷ drop (suc i) items) (sym e) ∙ ap (λ k. s ∷ drop k items) (sym (add-one i)))
+-- what holds of what is seen of each of some elements holds of one of them
+pub within_each : {A : Type 0} (f : A → Term) (P : Term → Type 0) (xs : List A) (i : ℕ) (x : A) → AllByRecursion P (map f xs) → i < length xs
+    → x ≡ get_or xs i x → P (f x)
+within_each f P [] i x h lt at = absurd (omega arith)
+within_each f P (y ∷ ys) zero x h lt at = subst (λ z. P (f z)) (sym at) h.0
+within_each f P (y ∷ ys) (suc i) x h lt at = within_each f P ys i x h.1 (omega arith) at
 
 -- what holds of each of some trees holds of one of them
 pub within_at : (P : Term → Type 0) (es : List Expr) (i : ℕ) (e : Expr) → AllByRecursion P (map term es) → i < length es → e ≡ get_or es i e → P (term e)
-within_at P [] i e h lt at = absurd (omega arith)
-within_at P (x ∷ xs) zero e h lt at = subst (λ y. P (term y)) (sym at) h.0
-within_at P (x ∷ xs) (suc i) e h lt at = within_at P xs i e h.1 (omega arith) at
-
--- no statement is left
-pub none_left : (items : List Stmt) (i : ℕ) → length items ≤ i → map step (drop i items) ≡ []
-none_left items i h = ap (map step) (drop_all i items h)
+within_at P es i e h lt at = within_each term P es i e h lt at
 
 -- the tree of a push
 pub step-push : (port : ℕ) (values : Exprs) → step (built.Push port values) ≡ Push port (terms values)

@@ -1,6 +1,10 @@
+pub mod Acts
+pub mod Calcs
+pub mod Emitted
 pub mod Lent
 pub mod Printed
 pub mod Ran
 pub mod Steps
+pub mod StmtsCode
 pub mod Term
 pub mod Value

@@ -6,8 +6,8 @@ ghost use Rattle.std.specs.Borrow.{sem};
 ghost use Rattle.work_code.specs.Lent.{LendsStmt};
 ghost use Rattle.work_code.specs.Steps.{step, steps, statements, code_body};
 
-use crate::{Expr, Exprs};
-use river_base::{Listed, NoMemory, Row};
+use crate::{Body, Expr, Exprs};
+use river_base::NoMemory;
 use std::alloc::Global;
 use std::slice;
 
@@ -38,7 +38,7 @@ pub struct Code {
     /// How many slots there are.
     pub slots: u32,
     /// What is run.
-    pub body: Stmts,
+    pub body: Body,
 }
 
 impl Stmt {
@@ -164,6 +164,3 @@ impl Code {
         })
     }
 }
-
-/// What runs of bodies give: for each push its port and its row.
-pub type Emitted = Listed<(u32, Row)>;

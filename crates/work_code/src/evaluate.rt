@@ -1,5 +1,5 @@
 // The values of expressions.
-ghost use Rattle.std.specs.Prelude.{◌≡◌, length};
+ghost use Rattle.std.specs.Prelude.{◌≡◌, length, IfSome};
 ghost use Rattle.work_code.specs.Term.{term};
 ghost use Rattle.work_code.specs.Value.{val, applied, truth, IsWithin};
 ghost use Rattle.river_base.specs.Number as number;
@@ -21,9 +21,25 @@ pub fn eval(e: &Expr, input: &[i64], slots: &[i64]) -> i64
         Expr::Not(inner) => truth_of(eval(inner, input, slots) == 0),
         Expr::Bin { op, left, right } => {
             let a = eval(left, input, slots);
-            let b = eval(right, input, slots);
+            let b = match at_hand(right, input, slots) {
+                Some(b) => b,
+                None => eval(right, input, slots),
+            };
             apply(*op, a, b)
         }
+    }
+}
+
+// The value of an expression that is a value, a place or a slot.
+fn at_hand(e: &Expr, input: &[i64], slots: &[i64]) -> Option<i64>
+    requires { IsWithin (length input.now) (length slots.now) (term e.now) }
+    ensures { IfSome result (λ value. value ≡ val (term e.now) input.now slots.now) }
+{
+    match e {
+        Expr::Const(value) => Some(*value),
+        Expr::Input(place) => Some(input[*place as usize]),
+        Expr::Slot(slot) => Some(slots[*slot as usize]),
+        _ => None,
     }
 }
 

@@ -1,12 +1,18 @@
 //! Work code: expressions and statements as data, and their runs.
 #![tactic(auto)]
 
+mod acts;
+mod body;
+mod calc;
 mod code;
+mod emitted;
 mod evaluate;
 mod expr;
 mod run;
 
-pub use code::{Code, Emitted, Stmt, Stmts};
+pub use body::Body;
+pub use code::{Code, Stmt, Stmts};
+pub use emitted::Emitted;
 pub use evaluate::{apply, eval, negate, truth_of};
 pub use expr::{BinOp, Expr, Exprs};
 pub use run::run_code;

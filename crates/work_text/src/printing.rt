@@ -16,7 +16,7 @@ pub fn print_code(alloc: Global, c: &Code, to: &mut Bytes) -> Result<(), NoMemor
     ensures err { OnErr result (to.new ≡ to.old) }
 {
     let mut text = Bytes::new(alloc);
-    write_body(alloc, &c.body, &mut text)?;
+    write_body(alloc, c.body.stmts(), &mut text)?;
     to.extend(text.as_slice())
 }
 

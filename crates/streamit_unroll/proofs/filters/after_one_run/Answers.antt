@@ -8,5 +8,6 @@ pub returns : goal.returns
 returns c =
     let body = steps c.args.body in
     c.truncate.ensures
-    ∙ ap (take c.args.fields) (c.in_ok-run_once.ensures {u = tt} ∙ ap (λ l. (ran body [] l).slots) c.in_ok-all.ensures)
+    ∙ ap (take c.args.fields) (c.in_ok-run_once.ensures {u = tt} ∙ ap (λ b. (ran (steps b) [] c.in_ok-all.all).slots) c.in_ok-of.ensures
+    ∙ ap (λ l. (ran body [] l).slots) c.in_ok-all.ensures)
     ∙ kept_zeros c.args.slots c.args.fields body c.requires.slots

@@ -1,5 +1,5 @@
 use Rattle.std.proofs.Common.{drop, map}
-use Rattle.work_code.specs.Steps.{step}
+use Rattle.work_code.specs.Acts.{act_step}
 use Rattle.work_code.proofs.Running.{SoFar}
 use Rattle.work_code.proofs.run.+run.Given as goal
 
@@ -10,4 +10,4 @@ abbrev pub decreases-run_steps : goal.decreases-run_steps
 decreases-run_steps l = goal.size-run_steps l
 
 abbrev pub invariant-run_steps-loop-s : goal.invariant-run_steps-loop-s
-invariant-run_steps-loop-s l = SoFar l.input (map step l.s-items) (map step (drop l.s-index l.s-items)) l.initial.slots l.slots l.initial.out l.out
+invariant-run_steps-loop-s l = SoFar l.input (map act_step l.s-items) (map act_step (drop l.s-index l.s-items)) l.initial.slots l.slots l.initial.out l.out
