@@ -1,4 +1,4 @@
-// A complete run in the order of the operators.
+// A complete run: the operators take turns, and then each is drained.
 ghost use Rattle.std.specs.Prelude.{◌≡◌, ℕ, pos, ◌<◌, false, length, map, IfOk, OnOk};
 ghost use Rattle.kern_tables.specs.Kept.{rows_of};
 ghost use Rattle.river_plan.specs.Valid.{IsPlan};

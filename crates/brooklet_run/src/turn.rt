@@ -1,5 +1,8 @@
 // Firings of an operator of a machine.
-ghost use Rattle.std.specs.Prelude.{◌≡◌, ◌↔◌, ℕ, ◌+◌, ◌<◌, ◌≤◌, [], ◌++◌, Err, true, false, min, length, replicate, reverse, IsTrue, IfOk, OnOk, OnErr, slice_index_or, slice_set};
+ghost use Rattle.std.specs.Prelude.{◌≡◌, ◌↔◌, ℕ, ◌+◌, ◌<◌, ◌≤◌, List, [], ◌∷◌, Err, true, false, min, length, replicate, drop, IsTrue, IfOk, IfSome, OnOk, OnErr, slice_index_or, slice_set};
+ghost use Rattle.river_base.specs.declared.item.Item as item;
+ghost use Rattle.river_base.specs.declared.item.Item.TheVariants as variant;
+ghost use Rattle.river_base.specs.declared.item.Flat.TheVariants as flat;
 ghost use Rattle.river_base.specs.Places.{append_at, each_grew, list_at};
 ghost use Rattle.brooklet_model.specs.Histories.{most_firings};
 ghost use Rattle.brooklet_step.specs.ByPlace.{joined_at};
@@ -10,10 +13,10 @@ ghost use Rattle.brooklet_step.specs.Reading.{IsPlaceRead, IsFrontItem, CanFire,
 
 use crate::add::add_all;
 use brooklet_step::{
-    Emit, ItemLists, Lines, Parts, Sizes, Spare, States, Tables, blank_for, clear_all, fire_op,
+    Emit, Lines, Parts, Sizes, Spare, States, Tables, blank_for, clear_all, fire_op, fire_values,
 };
 use kern_rows::Line;
-use river_base::{Item, Items, NoMemory};
+use river_base::{Item, NoMemory};
 use river_plan::Plan;
 use std::alloc::Global;
 
@@ -177,13 +180,13 @@ fn fire_with(
 {
     parts.stopped = true;
     let queue = parts.plan.reads_of(op as usize)[port as usize];
-    let item = front(&mut parts.queues, queue);
-    fire_of(
+    fire_front(
         alloc,
         &parts.plan,
         op,
         port,
-        item,
+        &mut parts.queues,
+        queue,
         parts.states.at_mut(op as usize),
         out,
         spare,
@@ -198,6 +201,56 @@ fn fire_with(
     count_one(&mut parts.counts, op as usize);
     parts.stopped = false;
     Ok(())
+}
+
+// What an operator of a plan gives for the front item of a queue, which leaves the queue. Where the
+// item is kept as values it is read as it lies.
+fn fire_front(
+    alloc: Global,
+    plan: &Plan,
+    op: u32,
+    port: u32,
+    queues: &mut Lines,
+    queue: usize,
+    states: &mut States,
+    out: &mut Emit,
+    spare: &mut Spare,
+) -> Result<(), NoMemory>
+    requires queue { queue < length queues.old }
+    requires item { 0 < length (list_at queues.old queue) }
+    requires can { (x : item.Item) (left : List (List item.Item)) → IsFrontItem queues.old queue x left → CanFire plan.now op port x states.old }
+    requires blank { IsBlankOf plan.now op out.old }
+    ensures { OnOk result ((x : item.Item) × IsFrontItem queues.old queue x queues.new × FiredOp plan.now op port x states.old states.new out.new) }
+{
+    match front_row(queues, queue) {
+        Some(row) => {
+            fire_row(alloc, plan, op, port, row, states, out, spare)?;
+            drop_front(queues, queue);
+            Ok(())
+        }
+        None => {
+            let item = front(queues, queue);
+            fire_of(alloc, plan, op, port, item, states, out, spare)
+        }
+    }
+}
+
+// The values of the front item of a queue, where it is a row that is kept as values.
+fn front_row(queues: &Lines, queue: usize) -> Option<&[i64]>
+    requires { queue < length queues.now }
+    ensures front { IfSome result (λ row. (rest : List item.Item) × (list_at queues.now queue ≡ variant.Flat (flat.One row.now) ∷ rest)) }
+    ensures some { IfSome result (λ row. 1 ≤ length row.now) }
+    ensures at_most { IfSome result (λ row. length row.now ≤ 16) }
+{
+    queues.at(queue).front_values()
+}
+
+// The front item of a queue leaves it.
+fn drop_front(queues: &mut Lines, queue: usize)
+    requires { queue < length queues.old }
+    ensures { queues.new ≡ slice_set queues.old queue (drop 1 (list_at queues.old queue)) }
+{
+    queues.at_mut(queue).drop_front();
 }
 
 // The front item of a queue, which leaves it.
@@ -230,6 +283,26 @@ fn fire_of(
     fire_op(alloc, plan.raw(), op, port, item, states, out, spare)
 }
 
+// What an operator of a plan gives for the row of these values at one of its ports.
+fn fire_row(
+    alloc: Global,
+    plan: &Plan,
+    op: u32,
+    port: u32,
+    row: &[i64],
+    states: &mut States,
+    out: &mut Emit,
+    spare: &mut Spare,
+) -> Result<(), NoMemory>
+    requires some { 1 ≤ length row.now }
+    requires at_most { length row.now ≤ 16 }
+    requires can { CanFire plan.now op port (variant.Flat (flat.One row.now)) states.old }
+    requires blank { IsBlankOf plan.now op out.old }
+    ensures { OnOk result (FiredOp plan.now op port (variant.Flat (flat.One row.now)) states.old states.new out.new) }
+{
+    fire_values(alloc, plan.raw(), op, port, row, states, out, spare)
+}
+
 // What a firing gave goes to its queues and tables; none is left in the lists.
 fn deliver(
     queues: &mut Lines,
@@ -254,7 +327,7 @@ fn deliver(
 }
 
 // Each port's items move to the end of its queue; none is left.
-fn send(queues: &mut Lines, to: &[usize], outs: &mut ItemLists) -> Result<(), NoMemory>
+fn send(queues: &mut Lines, to: &[usize], outs: &mut Lines) -> Result<(), NoMemory>
     requires ports { length to.now ≡ length outs.old }
     requires places { (j : ℕ) → j < length to.now → slice_index_or to.now j 0 < length queues.old }
     ensures queues { OnOk result (queues.new ≡ each_grew queues.old (joined_at to.now (list_at outs.old))) }
@@ -270,7 +343,7 @@ fn send(queues: &mut Lines, to: &[usize], outs: &mut ItemLists) -> Result<(), No
 fn send_port(
     queues: &mut Lines,
     queue: usize,
-    outs: &mut ItemLists,
+    outs: &mut Lines,
     port: usize,
 ) -> Result<(), NoMemory>
     requires queue { queue < length queues.old }
@@ -281,32 +354,13 @@ fn send_port(
     put(queues, queue, outs.at_mut(port))
 }
 
-// Items move to the end of a queue.
-fn put(queues: &mut Lines, queue: usize, items: &mut Items) -> Result<(), NoMemory>
+// The items of a line move to the end of a queue.
+fn put(queues: &mut Lines, queue: usize, items: &mut Line) -> Result<(), NoMemory>
     requires { queue < length queues.old }
     ensures queues { OnOk result (queues.new ≡ append_at queues.old queue items.old) }
     ensures items { OnOk result (items.new ≡ []) }
 {
-    move_items(items, queues.at_mut(queue))
-}
-
-// Items move to the end of a line. The list keeps its memory.
-fn move_items(items: &mut Items, line: &mut Line) -> Result<(), NoMemory>
-    ensures line { OnOk result (line.new ≡ line.old ++ items.old) }
-    ensures items { OnOk result (items.new ≡ []) }
-{
-    turn_round(items);
-    while let Some(item) = items.pop() {
-        line.push(item)?;
-    }
-    Ok(())
-}
-
-// The last item comes first.
-fn turn_round(items: &mut Items)
-    ensures { items.new ≡ reverse items.old }
-{
-    items.as_mut_slice().reverse();
+    queues.at_mut(queue).take_from(items)
 }
 
 // One more firing of an operator.

@@ -1,4 +1,4 @@
--- Runs in the order of the operators.
+-- Runs that go on, and operators whose ports are drained.
 use Rattle.std.specs.Prelude.{◌≡◌, ℕ, ◌<◌, ◌≤◌, false, List, [], length, Option, Some, None, unwrap_or, slice_get}
 use Rattle.river_base.specs.declared.item.Item as item
 use Rattle.river_plan.specs.Forms.{Name, OpForm, PlanForm}

@@ -1,26 +1,27 @@
 // What firings give.
-ghost use Rattle.std.specs.Prelude.{◌≡◌, ◌+◌, ◌<◌, ◌≤◌, ◌^◌, [], ◌∷◌, ◌++◌, length, replicate, slice_set, All, IfOk, OnOk};
+ghost use Rattle.std.specs.Prelude.{◌≡◌, ◌+◌, ◌<◌, ◌≤◌, ◌^◌, [], ◌∷◌, ◌++◌, length, replicate, reverse, slice_set, All, IfOk, OnOk};
+ghost use Rattle.river_base.specs.declared.item.Item.TheVariants as variant;
+ghost use Rattle.river_base.specs.declared.item.Flat.TheVariants as flat;
 ghost use Rattle.river_base.specs.Places.{append_at, each_grew, upto, only, none, list_at};
 ghost use Rattle.kern_rows.specs.Runs.{pushed_to};
 ghost use Rattle.brooklet_model.specs.Firings.{gives, splice as splice_lem, beside};
 ghost use Rattle.brooklet_step.specs.Took.{Took, StayApart};
 
+use crate::initial::add_empty;
+use crate::parts::Lines;
 use kern_rows::Line;
-use river_base::{Duplicate, Flat, Item, Items, Listed, NoMemory, Row, Rows};
+use river_base::{Duplicate, Item, Items, Listed, NoMemory, Numbers, Row, Rows};
 use std::alloc::Global;
 use std::mem::replace;
 use work_code::Emitted;
 
-/// Lists of items, one for each port.
-pub type ItemLists = Listed<Items>;
-
 /// Lists of rows, one for each table.
 pub type RowLists = Listed<Rows>;
 
-/// What firings give: a list of items for each output port, and a list of rows for each table variable.
+/// What firings give: the items for each output port, in a line, and a list of rows for each table variable.
 #[derive(Drop)]
 pub struct Emit {
-    pub outs: ItemLists,
+    pub outs: Lines,
     pub adds: RowLists,
 }
 
@@ -29,6 +30,7 @@ pub struct Emit {
 pub struct Spare {
     items: Items,
     pushes: Emitted,
+    values: Numbers,
 }
 
 impl Spare {
@@ -37,6 +39,7 @@ impl Spare {
         Spare {
             items: Items::new(alloc),
             pushes: Emitted::new(alloc),
+            values: Numbers::new(alloc),
         }
     }
 
@@ -51,18 +54,32 @@ impl Spare {
     pub fn take_pushes(&mut self, alloc: Global) -> Emitted
         ensures { result ≡ [] }
     {
-        emptied(alloc, &mut self.pushes)
+        let mut used = replace(&mut self.pushes, Emitted::new(alloc));
+        used.clear();
+        used
+    }
+
+    /// An empty list for what a filter gives, with the memory of one that was used before.
+    pub fn take_values(&mut self, alloc: Global) -> Numbers
+        ensures { result ≡ [] }
+    {
+        emptied(alloc, &mut self.values)
+    }
+
+    /// A list that was used comes back.
+    pub(crate) fn put_values(&mut self, values: Numbers) {
+        self.values = values;
     }
 }
 
 impl Emit {
-    /// Empty lists, for so many ports and tables.
+    /// Nothing, for so many ports and tables.
     pub(crate) fn blank(alloc: Global, ports: usize, tables: usize) -> Result<Emit, NoMemory>
         ensures outs { IfOk result (λ emit. emit.outs ≡ replicate ports []) }
         ensures adds { IfOk result (λ emit. emit.adds ≡ replicate tables []) }
     {
         Ok(Emit {
-            outs: Listed::blanks(alloc, ports)?,
+            outs: blank_lines(alloc, ports)?,
             adds: Listed::blanks(alloc, tables)?,
         })
     }
@@ -72,10 +89,10 @@ impl Emit {
         requires { port < length self.old.outs }
         ensures { OnOk result (Took self.old self.new (gives port (item ∷ []) [])) }
     {
-        self.outs.push_at(port, item)
+        push_item(&mut self.outs, port, item)
     }
 
-    /// These items at a port. A list that is left over is spare.
+    /// These items at a port. Their list is spare.
     pub(crate) fn give_all(
         &mut self,
         port: usize,
@@ -85,7 +102,8 @@ impl Emit {
         requires { port < length self.old.outs }
         ensures { OnOk result (Took self.old self.new (gives port items [])) }
     {
-        add_items(&mut self.outs, port, items, &mut spare.items)
+        spare.items = items;
+        add_items(&mut self.outs, port, &mut spare.items)
     }
 
     /// One more row for a table.
@@ -125,7 +143,7 @@ impl Emit {
         ensures outs { self.new.outs ≡ slice_set self.old.outs port [] }
         ensures adds { self.new.adds ≡ self.old.adds }
     {
-        Line::from_items(alloc, take_list(alloc, &mut self.outs, port))
+        take_line(alloc, &mut self.outs, port)
     }
 
     /// The items of the ports of a first kernel, with those of a second one in place of port `at`, and the rows of both. They are
@@ -159,63 +177,96 @@ fn emptied<T: Drop>(alloc: Global, list: &mut Listed<T>) -> Listed<T>
     used
 }
 
-// Items come to the end of the list at a place; a list that is left over is spare.
-fn add_items(
-    outs: &mut ItemLists,
-    place: usize,
-    items: Items,
-    spare: &mut Items,
-) -> Result<(), NoMemory>
+// So many empty lines.
+fn blank_lines(alloc: Global, count: usize) -> Result<Lines, NoMemory>
+    ensures { IfOk result (λ lines. lines ≡ replicate count []) }
+{
+    let mut lines = Lines::new(alloc);
+    add_empty(alloc, &mut lines, count)?;
+    Ok(lines)
+}
+
+// An item comes to the end of the line at a place.
+fn push_item(outs: &mut Lines, place: usize, item: Item) -> Result<(), NoMemory>
+    requires { place < length outs.old }
+    ensures { OnOk result (outs.new ≡ append_at outs.old place (item ∷ [])) }
+{
+    outs.at_mut(place).push(item)
+}
+
+// A row of these values comes to the end of the line at a place.
+fn push_row(outs: &mut Lines, place: usize, row: &[i64]) -> Result<(), NoMemory>
+    requires place { place < length outs.old }
+    requires some { 1 ≤ length row.now }
+    requires at_most { length row.now ≤ 16 }
+    ensures { OnOk result (outs.new ≡ append_at outs.old place (variant.Flat (flat.One row.now) ∷ [])) }
+{
+    outs.at_mut(place).push_values(row)
+}
+
+// Items come to the end of the line at a place, and leave their list, which keeps its memory.
+fn add_items(outs: &mut Lines, place: usize, items: &mut Items) -> Result<(), NoMemory>
+    requires { place < length outs.old }
+    ensures { OnOk result (outs.new ≡ append_at outs.old place items.old) }
+{
+    move_items(items, outs.at_mut(place))
+}
+
+// Items move to the end of a line. The list keeps its memory.
+fn move_items(items: &mut Items, line: &mut Line) -> Result<(), NoMemory>
+    ensures { OnOk result (line.new ≡ line.old ++ items.old) }
+{
+    turn_round(items);
+    while let Some(item) = items.pop() {
+        line.push(item)?;
+    }
+    Ok(())
+}
+
+// The last item comes first.
+fn turn_round(items: &mut Items)
+    ensures { items.new ≡ reverse items.old }
+{
+    items.as_mut_slice().reverse();
+}
+
+// The items of a line come to the end of the line at a place.
+fn add_line(outs: &mut Lines, place: usize, mut items: Line) -> Result<(), NoMemory>
     requires { place < length outs.old }
     ensures { OnOk result (outs.new ≡ append_at outs.old place items) }
 {
-    join(outs.at_mut(place), items, spare)
-}
-
-// Items come to the end of a list; where it has none, it becomes theirs.
-fn join(list: &mut Items, items: Items, spare: &mut Items) -> Result<(), NoMemory>
-    ensures { OnOk result (list.new ≡ list.old ++ items) }
-{
-    if list.is_empty() {
-        *spare = replace(list, items);
-        return Ok(());
-    }
-    list.append(items)
+    outs.at_mut(place).take_from(&mut items)
 }
 
 // The rows that a body pushed, each at its port.
-fn add_pushes(outs: &mut ItemLists, pushes: &Emitted) -> Result<(), NoMemory>
+fn add_pushes(outs: &mut Lines, pushes: &Emitted) -> Result<(), NoMemory>
     requires { All (λ push. push.0 < length outs.old) pushes.now }
     ensures { OnOk result (outs.new ≡ each_grew outs.old (λ port. pushed_to port pushes.now)) }
 {
-    for (port, row) in pushes.as_slice() {
-        outs.push_at(*port as usize, Item::Flat(Flat::One(*row)))?;
+    for i in 0..pushes.len() {
+        let (port, row) = pushes.at(i);
+        push_row(outs, port as usize, row)?;
     }
     Ok(())
 }
 
 // A copy of the item for each port below this one.
-fn copy_below(
-    alloc: Global,
-    outs: &mut ItemLists,
-    ports: usize,
-    item: &Item,
-) -> Result<(), NoMemory>
+fn copy_below(alloc: Global, outs: &mut Lines, ports: usize, item: &Item) -> Result<(), NoMemory>
     requires { ports ≤ length outs.old }
     ensures { OnOk result (outs.new ≡ each_grew outs.old (upto ports (λ port. item.now ∷ []))) }
 {
     for port in 0..ports {
-        outs.push_at(port, item.copy(alloc)?)?;
+        push_item(outs, port, item.copy(alloc)?)?;
     }
     Ok(())
 }
 
 // The item at a port, if it is there.
-fn give_last(outs: &mut ItemLists, port: usize, item: Item) -> Result<(), NoMemory>
+fn give_last(outs: &mut Lines, port: usize, item: Item) -> Result<(), NoMemory>
     ensures { OnOk result (outs.new ≡ append_at outs.old port (item ∷ [])) }
 {
     if port < outs.len() {
-        outs.push_at(port, item)
+        push_item(outs, port, item)
     } else {
         Ok(())
     }
@@ -228,6 +279,15 @@ fn take_list<T: Drop>(alloc: Global, lists: &mut Listed<Listed<T>>, place: usize
     ensures left { lists.new ≡ slice_set lists.old place [] }
 {
     replace(lists.at_mut(place), Listed::new(alloc))
+}
+
+// The line at a place; nothing is left there.
+fn take_line(alloc: Global, lines: &mut Lines, place: usize) -> Line
+    requires { place < length lines.old }
+    ensures taken { result ≡ list_at lines.old place }
+    ensures left { lines.new ≡ slice_set lines.old place [] }
+{
+    replace(lines.at_mut(place), Line::new(alloc))
 }
 
 /// No element is left in any of the lists, which keep their memory.
@@ -250,9 +310,9 @@ fn clear_at<T: Drop>(lists: &mut Listed<Listed<T>>, place: usize)
 // The items of the ports of two kernels move to the ports of the two as one.
 fn splice_items(
     alloc: Global,
-    outs: &mut ItemLists,
-    first: &mut ItemLists,
-    second: &mut ItemLists,
+    outs: &mut Lines,
+    first: &mut Lines,
+    second: &mut Lines,
     at: usize,
 ) -> Result<(), NoMemory>
     requires place { at < length first.old }
@@ -260,7 +320,7 @@ fn splice_items(
     ensures { OnOk result (outs.new ≡ each_grew outs.old (splice_lem at (length second.old) (list_at first.old) (list_at second.old))) }
 {
     for port in 0..outs.len() {
-        outs.extend_at(port, spliced_port(alloc, first, second, at, port))?;
+        add_line(outs, port, spliced_port(alloc, first, second, at, port))?;
     }
     Ok(())
 }
@@ -284,11 +344,11 @@ fn join_rows(
 // The items of one port of two kernels; those of the others stay.
 fn spliced_port(
     alloc: Global,
-    first: &mut ItemLists,
-    second: &mut ItemLists,
+    first: &mut Lines,
+    second: &mut Lines,
     at: usize,
     port: usize,
-) -> Items
+) -> Line
     requires place { at < length first.old }
     requires port { port + 1 < length first.old + length second.old }
     requires fits { port + 1 < 2 ^ 64 }
@@ -297,11 +357,11 @@ fn spliced_port(
 {
     let ports = second.len();
     if port < at {
-        take_list(alloc, first, port)
+        take_line(alloc, first, port)
     } else if port - at < ports {
-        take_list(alloc, second, port - at)
+        take_line(alloc, second, port - at)
     } else {
-        take_list(alloc, first, port - ports + 1)
+        take_line(alloc, first, port - ports + 1)
     }
 }
 

@@ -1,6 +1,8 @@
 // One firing of a kernel.
-ghost use Rattle.std.specs.Prelude.{◌≡◌, ◌<◌, ◌∷◌, [], ◌++◌, length, replicate, IfOk, OnOk};
+ghost use Rattle.std.specs.Prelude.{◌≡◌, ◌<◌, ◌≤◌, ◌∷◌, [], ◌++◌, length, replicate, IfOk, OnOk};
+ghost use Rattle.river_base.specs.declared.item.Item.TheVariants as variant;
 ghost use Rattle.river_base.specs.declared.item.Item.TheVariants.{Pack};
+ghost use Rattle.river_base.specs.declared.item.Flat.TheVariants as flat;
 ghost use Rattle.river_base.specs.Held.{flats as flats_in};
 ghost use Rattle.river_base.specs.Places.{list_at};
 ghost use Rattle.river_kernels.specs.Kern.{kern_of, packed, fused};
@@ -10,10 +12,11 @@ ghost use Rattle.brooklet_step.specs.Took.{IsBlank, Took};
 ghost use Rattle.brooklet_step.specs.Given.{CanTake, CanTakeAll, CanTakeOn, FiresAt, FiresEach, TookOn};
 
 use crate::emit::{Emit, Spare};
+use crate::leaf::{filter_row, run_row};
 use crate::single::{fire_leaf, is_leaf};
 use crate::state::{State, States};
 use kern_rows::Line;
-use river_base::{Flats, Item, NoMemory};
+use river_base::{Flat, Flats, Item, NoMemory, Row};
 use river_plan::Kernel;
 use std::alloc::Global;
 
@@ -82,6 +85,48 @@ pub(crate) fn fire_again(
     ensures { OnOk result (FiresAt (kern_of kernel.now) port item out.old out.new states.old states.new) }
 {
     fire_on(alloc, kernel, port, item, states.as_mut_slice(), out, spare)
+}
+
+/// The same, where the item is the row of these 1 to 16 values.
+pub(crate) fn fire_row(
+    alloc: Global,
+    kernel: &Kernel,
+    port: u32,
+    row: &[i64],
+    states: &mut States,
+    out: &mut Emit,
+    spare: &mut Spare,
+) -> Result<(), NoMemory>
+    requires some { 1 ≤ length row.now }
+    requires at_most { length row.now ≤ 16 }
+    requires can { CanTake (kern_of kernel.now) port (variant.Flat (flat.One row.now)) states.old out.old }
+    ensures { OnOk result (FiresAt (kern_of kernel.now) port (variant.Flat (flat.One row.now)) out.old out.new states.old states.new) }
+{
+    fire_row_on(alloc, kernel, port, row, states.as_mut_slice(), out, spare)
+}
+
+fn fire_row_on(
+    alloc: Global,
+    kernel: &Kernel,
+    port: u32,
+    row: &[i64],
+    states: &mut [State],
+    out: &mut Emit,
+    spare: &mut Spare,
+) -> Result<(), NoMemory>
+    requires some { 1 ≤ length row.now }
+    requires at_most { length row.now ≤ 16 }
+    requires can { CanTake (kern_of kernel.now) port (variant.Flat (flat.One row.now)) states.old out.old }
+    ensures { OnOk result (FiresAt (kern_of kernel.now) port (variant.Flat (flat.One row.now)) out.old out.new states.old states.new) }
+{
+    match kernel {
+        Kernel::Code(code) => run_row(alloc, code, row, states, out, spare),
+        Kernel::Filter(filter) => filter_row(alloc, filter, row, &mut states[0], out, spare),
+        _ => {
+            let item = Item::Flat(Flat::One(Row::from_slice(row)));
+            fire_on(alloc, kernel, port, item, states, out, spare)
+        }
+    }
 }
 
 #[cycle(fire_on)]

@@ -20,8 +20,8 @@ pub fn first_queues(alloc: Global, raw: &RawPlan, inputs: Lines) -> Result<Lines
     Ok(queues)
 }
 
-// So many empty queues more.
-fn add_empty(alloc: Global, queues: &mut Lines, count: usize) -> Result<(), NoMemory>
+/// So many empty queues more.
+pub(crate) fn add_empty(alloc: Global, queues: &mut Lines, count: usize) -> Result<(), NoMemory>
     ensures { OnOk result (queues.new ≡ queues.old ++ replicate count []) }
 {
     for _i in 0..count {

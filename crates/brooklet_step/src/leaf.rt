@@ -1,5 +1,5 @@
-// One firing of a kernel that has no kernel inside.
-ghost use Rattle.std.specs.Prelude.{◌≡◌, ◌<◌, ◌^◌, ◌∷◌, [], length, map, IfOk, OnOk};
+// Firings of bodies, filters, splitters and tallies.
+ghost use Rattle.std.specs.Prelude.{◌≡◌, ◌<◌, ◌≤◌, ◌^◌, ◌∷◌, [], ◌++◌, length, map, IfOk, OnOk};
 ghost use Rattle.river_base.specs.declared.item.Item.TheVariants as variant;
 ghost use Rattle.river_base.specs.declared.item.Flat.TheVariants as flat;
 ghost use Rattle.river_base.specs.Places.{each_grew, only};
@@ -18,15 +18,16 @@ ghost use Rattle.brooklet_step.specs.Stands.{Takes, Applies, Fires, IsRow, IsSlo
 
 use crate::emit::{Emit, Spare};
 use crate::state::State;
-use kern_rows::{CodeKernel, Deal, DealState, Filter};
-use river_base::{Flat, Item, Items, NoMemory, Numbers, Row};
+use kern_rows::{CodeKernel, Deal, DealState, Filter, Line};
+use river_base::{Flat, Item, NoMemory, Numbers, Row};
 use std::alloc::Global;
 use work_code::Emitted;
 
 // The row that an item is.
 fn row_of(item: &Item) -> &Row
     requires { IsRow item.now }
-    ensures { result.now ≡ values_of item.now }
+    ensures values { result.now ≡ values_of item.now }
+    ensures is { variant.Flat (flat.One result.now) ≡ item.now }
 {
     match item {
         Item::Flat(Flat::One(row)) => row,
@@ -38,7 +39,7 @@ fn row_of(item: &Item) -> &Row
 fn push_once(
     alloc: Global,
     kernel: &CodeKernel,
-    row: &Row,
+    row: &[i64],
     pushes: &mut Emitted,
 ) -> Result<(), NoMemory>
     requires formed { CanCode (code_form kernel.now) }
@@ -54,7 +55,7 @@ fn push_once(
 // What a body with kept slots pushes comes to an empty list.
 fn push_kept(
     kernel: &CodeKernel,
-    row: &Row,
+    row: &[i64],
     state: &mut State,
     pushes: &mut Emitted,
 ) -> Result<(), NoMemory>
@@ -74,18 +75,18 @@ fn push_kept(
 fn push_all(
     alloc: Global,
     kernel: &CodeKernel,
-    item: &Item,
+    row: &[i64],
     states: &mut [State],
     pushes: &mut Emitted,
 ) -> Result<(), NoMemory>
-    requires takes { Takes (code_kern (code_form kernel.now)) 0 item.now states.old }
+    requires takes { Takes (code_kern (code_form kernel.now)) 0 (variant.Flat (flat.One row.now)) states.old }
     requires empty { pushes.old ≡ [] }
-    ensures { OnOk result (Pushed (code_form kernel.now) item.now states.old states.new pushes.new) }
+    ensures { OnOk result (Pushed (code_form kernel.now) (variant.Flat (flat.One row.now)) states.old states.new pushes.new) }
 {
     if kernel.starts.is_empty() {
-        push_once(alloc, kernel, row_of(item), pushes)
+        push_once(alloc, kernel, row, pushes)
     } else {
-        push_kept(kernel, row_of(item), &mut states[0], pushes)
+        push_kept(kernel, row, &mut states[0], pushes)
     }
 }
 
@@ -102,52 +103,44 @@ pub fn fire_code(
     ensures { OnOk result (Fires (code_kern (code_form kernel.now)) out.old out.new states.old states.new
         (fire_lem (code_kern (code_form kernel.now)) 0 item)) }
 {
-    run_row(alloc, kernel, &item, states, out, spare)
+    run_row(alloc, kernel, row_of(&item).values(), states, out, spare)
 }
 
-// The same, where the item stays.
-fn run_row(
+/// A body runs on the row of these values.
+pub fn run_row(
     alloc: Global,
     kernel: &CodeKernel,
-    item: &Item,
+    row: &[i64],
     states: &mut [State],
     out: &mut Emit,
     spare: &mut Spare,
 ) -> Result<(), NoMemory>
-    requires { Applies (code_kern (code_form kernel.now)) 0 item.now states.old out.old }
+    requires { Applies (code_kern (code_form kernel.now)) 0 (variant.Flat (flat.One row.now)) states.old out.old }
     ensures { OnOk result (Fires (code_kern (code_form kernel.now)) out.old out.new states.old states.new
-        (fire_lem (code_kern (code_form kernel.now)) 0 item.now)) }
+        (fire_lem (code_kern (code_form kernel.now)) 0 (variant.Flat (flat.One row.now)))) }
 {
     let mut pushes = spare.take_pushes(alloc);
-    push_all(alloc, kernel, item, states, &mut pushes)?;
+    push_all(alloc, kernel, row, states, &mut pushes)?;
     out.give_pushes(pushes, spare)
 }
 
-// Each value as an item comes to an empty list.
+// Each value as a row comes to the end of a line.
 #[tactic(auto, using(std::proofs::lemmas::List::map_more))]
-fn add_values(values: &Numbers, items: &mut Items) -> Result<(), NoMemory>
-    requires { items.old ≡ [] }
-    ensures { OnOk result (items.new ≡ map (λ v. variant.Flat (flat.One (v ∷ []))) values.now) }
+fn add_values(values: &Numbers, line: &mut Line) -> Result<(), NoMemory>
+    ensures { OnOk result (line.new ≡ line.old ++ map (λ v. variant.Flat (flat.One (v ∷ []))) values.now) }
 {
     for value in values.as_slice() {
-        items.push(Item::Flat(Flat::One(Row::one(*value))))?;
+        line.push_values(&[*value])?;
     }
     Ok(())
 }
 
-// Each value as an item at the first port.
-fn give_values(
-    alloc: Global,
-    values: &Numbers,
-    out: &mut Emit,
-    spare: &mut Spare,
-) -> Result<(), NoMemory>
+// Each value as a row at the first port.
+fn give_values(values: &Numbers, out: &mut Emit) -> Result<(), NoMemory>
     requires { 0 < length out.old.outs }
     ensures { OnOk result (Took out.old out.new (gives 0 (map (λ v. variant.Flat (flat.One (v ∷ []))) values.now) [])) }
 {
-    let mut items = spare.take_items(alloc);
-    add_values(values, &mut items)?;
-    out.give_all(0, items, spare)
+    add_values(values, out.outs.at_mut(0))
 }
 
 /// A value comes to a filter.
@@ -163,28 +156,30 @@ pub fn fire_filter(
     ensures { OnOk result (Fires (filter_kern (filter_form filter.now)) out.old out.new
         (state.old ∷ []) (state.new ∷ []) (fire_lem (filter_kern (filter_form filter.now)) 0 item)) }
 {
-    filter_row(alloc, filter, &item, state, out, spare)
+    filter_row(alloc, filter, row_of(&item).values(), state, out, spare)
 }
 
-// The same, where the item stays.
-fn filter_row(
+/// The row of this value comes to a filter.
+pub fn filter_row(
     alloc: Global,
     filter: &Filter,
-    item: &Item,
+    row: &[i64],
     state: &mut State,
     out: &mut Emit,
     spare: &mut Spare,
 ) -> Result<(), NoMemory>
-    requires { Applies (filter_kern (filter_form filter.now)) 0 item.now (state.old ∷ []) out.old }
+    requires some { 1 ≤ length row.now }
+    requires applies { Applies (filter_kern (filter_form filter.now)) 0 (variant.Flat (flat.One row.now)) (state.old ∷ []) out.old }
     ensures { OnOk result (Fires (filter_kern (filter_form filter.now)) out.old out.new
-        (state.old ∷ []) (state.new ∷ []) (fire_lem (filter_kern (filter_form filter.now)) 0 item.now)) }
+        (state.old ∷ []) (state.new ∷ []) (fire_lem (filter_kern (filter_form filter.now)) 0 (variant.Flat (flat.One row.now)))) }
 {
     match state {
         State::Filter(state) => {
-            let value = row_of(item).values()[0];
-            let mut values = Numbers::new(alloc);
-            filter.step(state, value, &mut values)?;
-            give_values(alloc, &values, out, spare)
+            let mut values = spare.take_values(alloc);
+            filter.step(state, row[0], &mut values)?;
+            let given = give_values(&values, out);
+            spare.put_values(values);
+            given
         }
         _ => unreachable!(),
     }

@@ -16,7 +16,7 @@ mod start;
 mod state;
 mod step;
 
-pub use emit::{Emit, ItemLists, RowLists, Spare, clear_all};
+pub use emit::{Emit, RowLists, Spare, clear_all};
 pub use firing::{blank_for, fire};
 pub use initial::{first_queues, first_tables};
 pub use kinds::{has_type, item_fits};
@@ -24,4 +24,4 @@ pub use outcome::Outcome;
 pub use parts::{Lines, Parts, Sizes, Tables};
 pub use start::{first_states, states_of};
 pub use state::{State, States};
-pub use step::fire_op;
+pub use step::{fire_op, fire_values};

@@ -1,5 +1,5 @@
 -- Rows that are cut off the front of values.
-use Rattle.std.proofs.Common.{◌≡◌, ℕ, zero, suc, ℤ, ◌+◌, ◌-◌, ◌*◌, ◌<◌, ◌≤◌, List, [], ◌∷◌, ◌++◌, length, take, drop, refl, sym, ap, ◌∙◌, subst, arith}
+use Rattle.std.proofs.Common.{◌≡◌, ◌⊎◌, inl, inr, ℕ, zero, suc, ℤ, ◌+◌, ◌-◌, ◌*◌, ◌<◌, ◌≤◌, List, [], ◌∷◌, ◌++◌, length, take, drop, refl, sym, ap, ◌∙◌, subst, arith}
 use Rattle.std.proofs.Common.{length-append, length-drop}
 use Rattle.std.specs.Prelude.{All, slice_index_or}
 use Rattle.std.proofs.lemmas.List.{take-append-le, drop-append-le, length-take-le, drop-drop, drop-take, take-take, take_all}
@@ -154,3 +154,27 @@ even-front w n i vs lt h =
       at_most = h.at_most;
       whole = length-take-le (i * w) vs (omega (arith, le, at));
     }
+
+-- values behind others are cut into rows behind theirs
+pub cut-both : (w n m : ℕ) (vs ws : List ℤ) → length vs ≡ n * w → cut w (n + m) (vs ++ ws) ≡ cut w n vs ++ cut w m ws
+cut-both w zero m [] ws h =
+    let e : 0 + m ≡ m = omega arith in
+    ap (λ k. cut w k ws) e
+cut-both w zero m (v ∷ vs) ws h = absurd (omega (arith, h))
+cut-both w (suc n) m vs ws h =
+    let e : suc n + m ≡ suc (n + m) = omega arith in
+    let le : w ≤ length vs = omega (arith, h) in
+    let l : length (drop w vs) ≡ n * w = omega (arith, h, length-drop w vs) in
+    ap (λ k. cut w k (vs ++ ws)) e
+    ∙ ap (λ t. take w (vs ++ ws) ∷ cut w (n + m) t) (drop-append-le w vs ws le)
+    ∙ ap (λ t. t ∷ cut w (n + m) (drop w vs ++ ws)) (take-append-le w vs ws le)
+    ∙ ap (λ t. take w vs ∷ t) (cut-both w n m (drop w vs) ws l)
+
+-- the values of rows and of others that are as wide
+pub both-are : (w v n m : ℕ) (vs ws new : List ℤ) → (n ≡ 0) ⊎ (w ≡ v) → AreEven w n vs → AreEven v m ws → new ≡ vs ++ ws
+    → cut v (n + m) new ≡ cut w n vs ++ cut v m ws
+both-are w v n m vs ws new (inl z) h k e =
+    let none : length vs ≡ n * v = (h.whole ∙ ap (λ i. i * w) z) ∙ let f : 0 * w ≡ 0 * v = omega arith in f ∙ ap (λ i. i * v) (sym z) in
+    ap (cut v (n + m)) e ∙ cut-both v n m vs ws none ∙ ap (λ i. cut v i vs ++ cut v m ws) z ∙ ap (λ i. cut w i vs ++ cut v m ws) (sym z)
+both-are w v n m vs ws new (inr z) h k e =
+    ap (cut v (n + m)) e ∙ cut-both v n m vs ws (h.whole ∙ ap (λ i. n * i) z) ∙ ap (λ i. cut i n vs ++ cut v m ws) (sym z)

@@ -7,7 +7,7 @@ ghost use Rattle.kern_rows.specs.Runs.{run_kept as kept_run};
 
 use crate::CodeKernel;
 use crate::body::run_kept;
-use river_base::{Duplicate, NoMemory, Numbers, Row};
+use river_base::{Duplicate, NoMemory, Numbers};
 use std::alloc::Global;
 use work_code::Emitted;
 
@@ -19,10 +19,10 @@ impl CodeKernel {
         self.starts.copy(alloc)
     }
 
-    /// A row comes: appends what the body pushes, and keeps its slots. The body runs on as many
+    /// A row of these values comes: appends what the body pushes, and keeps its slots. The body runs on as many
     /// inputs as the row has values. Where there is no memory, a part of the pushes was appended,
     /// and nothing is said of the slots.
-    pub fn step(&self, kept: &mut Numbers, row: &Row, out: &mut Emitted) -> Result<(), NoMemory>
+    pub fn step(&self, kept: &mut Numbers, row: &[i64], out: &mut Emitted) -> Result<(), NoMemory>
         requires formed { CanCode (code_form self.now) }
         requires kept { length kept.old ≡ length (code_form self.now).starts }
         requires row { length row.now ≡ (code_form self.now).body.inputs }
@@ -31,7 +31,7 @@ impl CodeKernel {
         ensures shape { OnOk result (length kept.new ≡ length kept.old) }
         ensures err { OnErr result (GrewByPrefix out.old (kept_run (code_form self.now).body kept.old row.now).pushes out.new) }
     {
-        run_kept(&self.code, kept, row.values(), out)?;
+        run_kept(&self.code, kept, row, out)?;
         Ok(())
     }
 }

@@ -1,5 +1,5 @@
 // Rows of one width.
-ghost use Rattle.std.specs.Prelude.{◌≡◌, ℤ, List, ◌≤◌, ◌<◌, ◌↔◌, [], ◌∷◌, ◌++◌, length, take, slice_index_or, IsTrue, OnOk, OnErr, MatchOption};
+ghost use Rattle.std.specs.Prelude.{◌≡◌, ℤ, List, ◌≤◌, ◌<◌, ◌↔◌, [], ◌∷◌, ◌++◌, length, take, drop, slice_index_or, IsTrue, OnOk, OnErr, MatchOption};
 ghost use Rattle.kern_rows.specs.Even.{AreAsWide};
 
 use crate::queue::Queue;
@@ -104,5 +104,39 @@ impl EvenRows {
         self.values.remove(self.width);
         self.count -= 1;
         Some(row)
+    }
+
+    /// The first row leaves; changes nothing where there is none.
+    pub fn drop_first(&mut self)
+        ensures { self.new ≡ drop 1 self.old }
+    {
+        if self.count > 0 {
+            self.values.remove(self.width);
+            self.count -= 1;
+        }
+    }
+
+    /// No row is left; the memory is kept.
+    pub fn clear(&mut self)
+        ensures { self.new ≡ [] }
+    {
+        self.values.clear();
+        self.count = 0;
+    }
+
+    /// The rows of another leave it and come to the end here, where they are as wide as these;
+    /// changes nothing where they are not, or where there is no memory.
+    pub(crate) fn take_from(&mut self, other: &mut EvenRows) -> Result<(), NoMemory>
+        ensures ok { OnOk result (self.new ++ other.new ≡ self.old ++ other.old) }
+        ensures err { OnErr result (self.new ≡ self.old) }
+    {
+        if other.count > 0 && (self.count == 0 || self.width == other.width) {
+            self.values.extend(other.values.all())?;
+            let all = self.values.len();
+            self.width = other.width;
+            self.count += other.count;
+            other.clear();
+        }
+        Ok(())
     }
 }

@@ -36,13 +36,13 @@ impl Model for FilterState {
 }
 
 // Appends the first value of each row.
-#[tactic(auto, using(std::proofs::lemmas::List::map_more))]
 fn append_values(pushes: &Emitted, out: &mut Numbers) -> Result<(), NoMemory>
     ensures ok { OnOk result (out.new ≡ out.old ++ first_values pushes.now) }
     ensures err { OnErr result (GrewByPrefix out.old (first_values pushes.now) out.new) }
 {
-    for (_, row) in pushes.as_slice() {
-        out.push(row.values()[0])?;
+    for i in 0..pushes.len() {
+        let (_, row) = pushes.at(i);
+        out.push(row[0])?;
     }
     Ok(())
 }
@@ -64,7 +64,7 @@ fn run_body(
     ensures err { OnErr result (GrewByPrefix out.old
         (first_values (kept_run (code_body code.now) state.old.kept (take peek state.old.buffer)).pushes) out.new) }
 {
-    state.pushes.truncate(0);
+    state.pushes.clear();
     let input = state.buffer.first(peek as usize);
     run_kept(code, &mut state.kept, input, &mut state.pushes)?;
     state.buffer.remove(pop as usize);

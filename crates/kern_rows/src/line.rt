@@ -1,6 +1,8 @@
 // Items in a line.
-ghost use Rattle.std.specs.Prelude.{◌≡◌, ◌↔◌, ◌<◌, [], ◌∷◌, ◌++◌, length, take, slice_index_or, IsTrue, IfOk, OnOk, OnErr, MatchOption};
-ghost use Rattle.river_base.specs.declared.item.Flat.TheVariants.{One};
+ghost use Rattle.std.specs.Prelude.{◌≡◌, List, ◌↔◌, ◌<◌, ◌≤◌, [], ◌∷◌, ◌++◌, length, take, drop, slice_get, slice_index_or, Some, IsTrue, IfOk, OnOk, OnErr, MatchOption, IfSome};
+ghost use Rattle.river_base.specs.declared.item.Item.{Item};
+ghost use Rattle.river_base.specs.declared.item.Item.TheVariants as variant;
+ghost use Rattle.river_base.specs.declared.item.Flat.TheVariants as flat;
 ghost use Rattle.kern_rows.specs.Even.{row_items};
 
 use crate::even::EvenRows;
@@ -98,6 +100,40 @@ impl Line {
         (&self.rows, &self.others)
     }
 
+    /// The values of the item in front, where it is a row of those that are kept as values.
+    pub fn front_values(&self) -> Option<&[i64]>
+        ensures front { IfSome result (λ row. (rest : List Item) × (self.now ≡ variant.Flat (flat.One row.now) ∷ rest)) }
+        ensures some { IfSome result (λ row. 1 ≤ length row.now) }
+        ensures at_most { IfSome result (λ row. length row.now ≤ 16) }
+    {
+        self.row_at(0)
+    }
+
+    /// The values of the item at a place, from 0, where it is a row of those that are kept as values.
+    pub fn row_at(&self, place: usize) -> Option<&[i64]>
+        ensures item { IfSome result (λ row. slice_get self.now place ≡ Some (variant.Flat (flat.One row.now))) }
+        ensures some { IfSome result (λ row. 1 ≤ length row.now) }
+        ensures at_most { IfSome result (λ row. length row.now ≤ 16) }
+    {
+        if place < self.rows.len() {
+            return Some(self.rows.at(place));
+        }
+        None
+    }
+
+    /// A row of these 1 to 16 values comes to the end; changes nothing where there is no memory.
+    pub fn push_values(&mut self, row: &[i64]) -> Result<(), NoMemory>
+        requires some { 1 ≤ length row.now }
+        requires at_most { length row.now ≤ 16 }
+        ensures ok { OnOk result (self.new ≡ self.old ++ variant.Flat (flat.One row.now) ∷ []) }
+        ensures err { OnErr result (self.new ≡ self.old) }
+    {
+        if self.others.is_empty() && self.rows.takes(row) {
+            return self.rows.push(row);
+        }
+        self.push_other(Item::Flat(Flat::One(Row::from_slice(row))))
+    }
+
     /// An item comes to the end; changes nothing where there is no memory.
     pub fn push(&mut self, item: Item) -> Result<(), NoMemory>
         ensures ok { OnOk result (self.new ≡ self.old ++ item ∷ []) }
@@ -148,6 +184,47 @@ impl Line {
         Ok(())
     }
 
+    /// The items of another line come to the end, in order, and leave that one, which keeps its
+    /// memory. Where there is no memory, nothing is said of the two.
+    pub fn take_from(&mut self, other: &mut Line) -> Result<(), NoMemory>
+        ensures ok { OnOk result (self.new ≡ self.old ++ other.old) }
+        ensures left { OnOk result (other.new ≡ []) }
+    {
+        self.take_even(&mut other.rows)?;
+        self.push_rows(&other.rows)?;
+        other.rows.clear();
+        self.others.append(&mut other.others)?;
+        Ok(())
+    }
+
+    // Rows come to the end as values, and leave where they were, where that can be.
+    fn take_even(&mut self, rows: &mut EvenRows) -> Result<(), NoMemory>
+        ensures { OnOk result (self.new ++ row_items rows.new ≡ self.old ++ row_items rows.old) }
+    {
+        if self.others.is_empty() {
+            self.rows.take_from(rows)?;
+        }
+        Ok(())
+    }
+
+    // These rows come to the end, in order.
+    fn push_rows(&mut self, rows: &EvenRows) -> Result<(), NoMemory>
+        ensures { OnOk result (self.new ≡ self.old ++ row_items rows.now) }
+    {
+        for place in 0..rows.len() {
+            self.push_values(rows.at(place))?;
+        }
+        Ok(())
+    }
+
+    /// No item is left; the line keeps its memory.
+    pub fn clear(&mut self)
+        ensures { self.new ≡ [] }
+    {
+        self.rows.clear();
+        self.others.clear();
+    }
+
     // Keeps the first items, at most `count`.
     fn truncate(&mut self, count: usize)
         ensures { self.new ≡ take count self.old }
@@ -165,6 +242,17 @@ impl Line {
         match self.rows.pop() {
             Some(row) => Some(Item::Flat(Flat::One(row))),
             None => pop_other(&mut self.others),
+        }
+    }
+
+    /// The item at the front leaves, if there is one, as by `pop`.
+    pub fn drop_front(&mut self)
+        ensures { self.new ≡ drop 1 self.old }
+    {
+        if self.rows.len() == 0 {
+            pop_other(&mut self.others);
+        } else {
+            self.rows.drop_first();
         }
     }
 }

@@ -64,6 +64,14 @@ impl Queue {
         Ok(())
     }
 
+    /// No value is left; the memory is kept.
+    pub fn clear(&mut self)
+        ensures { self.new ≡ [] }
+    {
+        self.items.clear();
+        self.taken = 0;
+    }
+
     /// Keeps the first values, of which there are at least so many.
     pub fn truncate(&mut self, count: usize)
         requires { count ≤ length self.old }
@@ -79,6 +87,13 @@ impl Queue {
     {
         let start = self.taken + from;
         &self.items[start..start + count]
+    }
+
+    /// The values, in order.
+    pub fn all(&self) -> &[i64]
+        ensures { result.now ≡ self.now }
+    {
+        &self.items[self.taken..]
     }
 
     /// The first values, of which there are at least so many.

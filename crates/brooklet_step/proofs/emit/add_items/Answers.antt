@@ -5,7 +5,7 @@ use Rattle.brooklet_step.proofs.emit.add_items.Goals as goal
 
 pub returns : goal.returns
 returns c =
-    on_ok_weaker c.join.result
-    (λ h. append_at_by c.args.outs.now c.args.outs.now c.args.place c.at_mut.result.now c.args.items c.join.new.list refl c.requires
+    on_ok_weaker c.move_items.result
+    (λ h. append_at_by c.args.outs.now c.args.outs.now c.args.place c.at_mut.result.now c.args.items.now c.move_items.new.line refl c.requires
     (c.at_mut.ensures.value c.at_mut.result.now) h)
-    c.join.ensures
+    c.move_items.ensures

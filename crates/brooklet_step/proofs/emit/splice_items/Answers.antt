@@ -24,8 +24,8 @@ spliced_port-requires-clause-port c =
     let r = c.requires.ports in
     omega (arith, m, n, r)
 
-pub extend_at-requires : goal.extend_at-requires
-extend_at-requires c =
+pub add_line-requires : goal.add_line-requires
+add_line-requires c =
     let e = upto_length _ _
     (splice c.args.at (length c.args.second.now) (list_at c.args.first.now) (list_at c.args.second.now)) c.loop-port.port c.loop-port.invariant.outs in
     omega arith
@@ -39,7 +39,7 @@ loop-port-preserved c =
     let one : c.spliced_port.result ≡ join (list_at c.args.first.now) (list_at c.args.second.now) p =
     c.spliced_port.ensures.taken ∙ ap (λ n. splice c.args.at n (list_at c.loop-port.first) (list_at c.loop-port.second) p) same ∙ left.rest p (omega arith) in
     record {
-      outs = upto_step _ _ _ (join (list_at c.args.first.now) (list_at c.args.second.now)) p _ c.loop-port.invariant.outs one c.in_ok-extend_at.ensures.ok;
+      outs = upto_step _ _ _ (join (list_at c.args.first.now) (list_at c.args.second.now)) p _ c.loop-port.invariant.outs one c.in_ok-add_line.ensures;
       left = leaves_next join p c.args.first.now c.loop-port.first c.spliced_port.new.first c.args.second.now c.loop-port.second c.spliced_port.new.second left
           (subst (λ n. StayApart
           (splice c.args.at n) p c.loop-port.first c.spliced_port.new.first c.loop-port.second c.spliced_port.new.second) same c.spliced_port.ensures.left);

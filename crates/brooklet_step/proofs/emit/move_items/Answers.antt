@@ -1,7 +1,7 @@
 use Rattle.std.proofs.Common.{ap, ◌∙◌, ◌++◌, reverse}
 use Rattle.std.proofs.lemmas.List.{reverse-reverse}
 use Rattle.brooklet_step.proofs.Moving.{line_next, one_less}
-use Rattle.brooklet_run.proofs.turn.move_items.Goals as goal
+use Rattle.brooklet_step.proofs.emit.move_items.Goals as goal
 
 pub loop-item-init : goal.loop-item-init
 loop-item-init c = ap (λ l. c.args.line.now ++ l) (ap reverse c.turn_round.ensures ∙ reverse-reverse c.args.items.now)
