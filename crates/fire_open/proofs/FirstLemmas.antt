@@ -33,7 +33,7 @@ use Rattle.fire_tasks.specs.Fired.{ports_of, kinds_in, kinds_out, bad_at, IsBad}
 use Rattle.fire_tasks.specs.declared.ports.Outlet.TheVariants.{Kept as Stored}
 use Rattle.fire_tasks.specs.declared.task.Task.{Task}
 use Rattle.fire_laws.specs.Layout.{IsInput, IsStored}
-use Rattle.fire_tasks.specs.Ports.{received_of, received_in, sent_of, sent_in, pending_in}
+use Rattle.fire_tasks.specs.Ports.{OutEnd, SendsValues, out_end, out_ends, received_of, received_in, sent_of, sent_in}
 use Rattle.fire_tasks.specs.Adds.{AreHomes}
 use Rattle.fire_open.specs.First.{first_lines, whole_list, IsFirstTask, AreFirstTasks}
 use Rattle.fire_open.specs.Fresh.{IsFresh, AreFresh}
@@ -103,7 +103,12 @@ none_out zero j = refl
 none_out (suc n) zero = refl
 none_out (suc n) (suc j) = none_out n j
 
-none_pending : (n j : ℕ) → list_at (pending_in (replicate n [])) j ≡ []
+none_sends : (n j : ℕ) (e : OutEnd) → slice_get (out_ends (replicate n (Stored []))) j ≡ Some e → SendsValues e → ⊥
+none_sends zero j e at v = absurd (cc at)
+none_sends (suc n) zero e at v = subst SendsValues (sym (same_Some (out_end (Stored [])) e at)) v
+none_sends (suc n) (suc j) e at v = none_sends n j e at v
+
+none_pending : (n j : ℕ) → list_at (replicate {A = List item.Item} n []) j ≡ []
 none_pending zero j = refl
 none_pending (suc n) zero = refl
 none_pending (suc n) (suc j) = none_pending n j
@@ -135,10 +140,10 @@ module _ (p : PlanForm) (v : IsPlan p) (inputs : List (List item.Item)) (fit : F
       let sent_are : (j : ℕ)
       → list_at (sent_in t.outs) j ≡ [] = (λ j. ap (λ os. list_at (sent_in os) j) f.outs ∙ none_out (length (list_at (write_places p) o)) j) in
       let pend_are : (j : ℕ)
-      → list_at (pending_in t.pending) j ≡ [] =
-      (λ j. ap (λ ls. list_at (pending_in ls) j) f.pending ∙ none_pending (length (list_at (write_places p) o)) j) in
-      let both : (j : ℕ) → list_at (sent_in t.outs) j ++ list_at (pending_in t.pending) j ≡ [] =
-      (λ j. ap (λ l. l ++ list_at (pending_in t.pending) j) (sent_are j) ∙ pend_are j) in
+      → list_at t.pending j ≡ [] =
+      (λ j. ap (λ ls. list_at ls j) f.pending ∙ none_pending (length (list_at (write_places p) o)) j) in
+      let both : (j : ℕ) → list_at (sent_in t.outs) j ++ list_at t.pending j ≡ [] =
+      (λ j. ap (λ l. l ++ list_at t.pending j) (sent_are j) ∙ pend_are j) in
       record {
         task = record {
           op = op;
@@ -147,6 +152,8 @@ module _ (p : PlanForm) (v : IsPlan p) (inputs : List (List item.Item)) (fit : F
           kinds = f.kinds_are ∙ ap (map (kind_at (queue_kinds p))) rp ∙ kinds_placed p op.reads;
           outs = ap length f.outs ∙ length-replicate (length (list_at (write_places p) o)) (Stored []) ∙ nw;
           pending = ap length f.pending ∙ length-replicate {A = List item.Item} (length (list_at (write_places p) o)) [] ∙ nw;
+          rings = λ j e at values. absurd (none_sends (length (list_at (write_places p) o)) j e
+              (sym (ap (λ os. slice_get (out_ends os) j) f.outs) ∙ at) values);
           blank = (f.first op g).1;
           homes = subst (λ i. AreHomes p i t.tables t.classes) (sym f.number) f.homes;
           word = [];

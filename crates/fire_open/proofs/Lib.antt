@@ -7,6 +7,7 @@ pub mod OpenLemmas
 pub mod RingLemmas
 pub mod RoomLemmas
 pub mod Seams
+pub mod RungFits
 pub mod SettleLemmas
 pub mod SourceLemmas
 pub mod StillLemmas

@@ -11,13 +11,13 @@ use Rattle.brooklet_model.specs.Fire.{first_kept}
 use Rattle.brooklet_step.specs.Given.{FitState, StandsAfter}
 use Rattle.brooklet_step.specs.Took.{IsBlank}
 use Rattle.brooklet_model.proofs.BoundedMoves.{reader_behind}
-use Rattle.fire_tasks.specs.Fired.{SeenTask, HasFired, kinds_in}
+use Rattle.fire_tasks.specs.Fired.{SeenTask, HasFired, kinds_in, kinds_out}
 use Rattle.fire_tasks.specs.declared.ports.Inlet as inlet
 use Rattle.fire_tasks.specs.declared.ports.Outlet as outlet
 use Rattle.fire_open.specs.declared.settling.Link.{Link}
 use Rattle.fire_tasks.specs.declared.task.Task.{Task}
-use Rattle.fire_tasks.specs.Ports.{received_of, received_count, sent_of, sent_count}
-use Rattle.fire_tasks.specs.Tasks.{IsTask, all_moves, seen_task}
+use Rattle.fire_tasks.specs.Ports.{out_ends, received_of, received_count, sent_of, sent_count}
+use Rattle.fire_tasks.specs.Tasks.{FitRings, IsTask, all_moves, seen_task}
 use Rattle.fire_tasks.specs.Adds.{AreHomes}
 use Rattle.fire_open.specs.Fresh.{AreFresh}
 use Rattle.fire_open.specs.Links.{IsLinkOf, AreLinks, IsThere}
@@ -27,8 +27,9 @@ use Rattle.fire_open.proofs.Lists.{map_long}
 use Rattle.fire_open.proofs.RingLemmas.{bodies_unmoved}
 
 -- a task is known by its body
-pub body_task : (p : PlanForm) (adds : ℕ → List (List ℤ)) (t t' : Task) → body t' ≡ body t → IsTask p adds t → IsTask p adds t'
-body_task p adds t t' e k =
+pub body_task : (p : PlanForm) (adds : ℕ → List (List ℤ)) (t t' : Task) → body t' ≡ body t → (k : IsTask p adds t)
+    → FitRings (kinds_out p k.op) (out_ends t'.outs) → IsTask p adds t'
+body_task p adds t t' e k fit =
     let o : t'.op ≡ t.op = ap (λ (s : TaskBody). s.op) e in
     let s : seen_task t' ≡ seen_task t = ap (λ (x : TaskBody). x.seen) e in
     let ks : t'.kinds ≡ t.kinds = ap (λ (x : TaskBody). x.kinds) e in
@@ -45,6 +46,7 @@ body_task p adds t t' e k =
       kinds = ks ∙ k.kinds;
       outs = map_long sent_of t'.outs t.outs (ap (λ (x : SeenTask). x.sent) s) ∙ k.outs;
       pending = ap length pe ∙ k.pending;
+      rings = fit;
       blank = subst (IsBlank k.op.kernel) (sym ou) k.blank;
       homes = subst (λ c. AreHomes p t'.op t'.tables c) (sym cl)
           (subst (λ a. AreHomes p t'.op a t.classes) (sym ta) (subst (λ i. AreHomes p i t.tables t.classes) (sym o) k.homes));

@@ -1,6 +1,6 @@
 -- Rings are put between tasks, one after another.
 use Rattle.std.proofs.Common.{◌≡◌, ℕ, ◌+◌, ◌<◌, inl, inr, ⊎_elim, Some, List, [], length, map, refl, sym, ap, ◌∙◌, arith, subst, get_or, set, ◌++◌, get_or-set_other}
-use Rattle.std.specs.Prelude.{slice_get}
+use Rattle.std.specs.Prelude.{IsTrue, slice_get}
 use Rattle.std.proofs.lemmas.Bool.{cases_lt}
 use Rattle.std.proofs.lemmas.Option.{get_or_from_slice_get, slice_get_within, same_Some}
 use Rattle.std.proofs.lemmas.List.{get_or_default}
@@ -14,11 +14,11 @@ use Rattle.river_rings.specs.Ends.{Sending, Taking}
 use Rattle.fire_open.specs.declared.settling.Link.{Link}
 use Rattle.fire_tasks.specs.declared.task.Task.{Task}
 use Rattle.fire_laws.specs.Layout.{IsLink, IsSettled}
-use Rattle.fire_tasks.specs.Ports.{sent_of, sent_in, received_of, received_in, pending_in}
+use Rattle.fire_tasks.specs.Ports.{one_value, sent_of, sent_in, received_of, received_in}
 use Rattle.fire_open.specs.Settling.{with_out, with_in}
 use Rattle.fire_laws.proofs.NetLemmas.{received_here, sent_here}
 use Rattle.fire_tasks.proofs.PortLemmas.{received_same}
-use Rattle.fire_open.specs.Links.{LinkEnds, IsThere, Put, ShareAnEnd}
+use Rattle.fire_open.specs.Links.{FitsLink, LinkEnds, IsThere, Put, ShareAnEnd}
 use Rattle.fire_open.specs.Rings.{AreUnmoved, AreThere, TaskBody, body, AreRung}
 use Rattle.fire_open.proofs.Lists.{same_got, map_long}
 use Rattle.fire_open.proofs.SettleLemmas.{after_task, view_stays, same_or, sent_stays, reader_is, writer_is}
@@ -52,6 +52,7 @@ bodies_unmoved ts0 ts e u = record {
       sym (sent_here t.outs j f gf) ∙ ap (λ (b : TaskBody). list_at b.seen.sent j) x.2 ∙ sent_here x.0.outs j f0.0 f0.1 ∙ u.outs o j x.0 f0.0 x.1 f0.1;
 }
 
+-- and have the ends of each link still
 pub rung_there : (ts0 ts : List Task) (l : Link) → map body ts ≡ map body ts0 → IsThere ts0 l → IsThere ts l
 rung_there ts0 ts l e h =
     let r = same_got body ts0 ts (sym e) l.reader h.ends.t h.ends.t_is in
@@ -123,7 +124,7 @@ rung_next room ts0 ts ts' ls n l th g h put = record {
         view_stays ts ts' l put.out put.in_ there put.swapped body
         (λ j. record {
           op = w.op;
-          seen = record { received = received_in w.ins; sent = es j; pending = pending_in w.pending; bad = w.bad };
+          seen = record { received = received_in w.ins; sent = es j; pending = w.pending; bad = w.bad };
           kinds =
               w.kinds;
           states = w.states;
@@ -135,7 +136,7 @@ rung_next room ts0 ts ts' ls n l th g h put = record {
         })
         (λ j. record {
           op = r.op;
-          seen = record { received = er j; sent = sent_in r.outs; pending = pending_in r.pending; bad = r.bad };
+          seen = record { received = er j; sent = sent_in r.outs; pending = r.pending; bad = r.bad };
           kinds =
               r.kinds;
           states = r.states;
@@ -146,21 +147,36 @@ rung_next room ts0 ts ts' ls n l th g h put = record {
           count = r.count;
         })
 
-    itself : (f : outlet.Outlet) (i : inlet.Inlet) → LinkEnds ts' l f i → IsLink (room l) f i × IsSettled f i
+    -- a task has the kinds that it had
+    kinds_here : (o : ℕ) (t' t : Task) → slice_get ts' o ≡ Some t' → slice_get ts o ≡ Some t → t'.kinds ≡ t.kinds
+    kinds_here o t' t g' g =
+        let x = same_got body ts' ts bodies_stay o t' g' in
+        let e : x.0 ≡ t = same_Some x.0 t (sym x.1 ∙ g) in
+        ap (λ (b : TaskBody). b.kinds) x.2 ∙ ap (λ (y : Task). y.kinds) e
+
+    new_fits : (t' : Task) → slice_get ts' l.reader ≡ Some t' → FitsLink t' l put.out
+    new_fits t' g' values =
+        let e : put.swapped.reader ≡ there.ends.t =
+        sym (put.swapped.reader_is there.ends.t) ∙ get_or_from_slice_get ts l.reader there.ends.t there.ends.t there.ends.t_is in
+        ap (λ ks. slice_get ks l.port) (kinds_here l.reader t' there.ends.t g' there.ends.t_is ∙ ap (λ (y : Task). y.kinds) (sym e)) ∙ put.fits values
+
+    itself : (f : outlet.Outlet) (i : inlet.Inlet) → (x : LinkEnds ts' l f i) → IsLink (room l) f i × IsSettled f i × FitsLink x.t l f
     itself f i x =
         let ar = after_task ts ts' l put.out put.in_ there put.swapped l.reader x.t x.t_is in
         let aw = after_task ts ts' l put.out put.in_ there put.swapped l.writer x.t' x.t_is' in
-        subst (λ z. IsLink (room l) z i × IsSettled z i) (sym (aw.new_out refl f x.out_is))
-        (subst (λ z. IsLink (room l) put.out z × IsSettled put.out z) (sym (ar.new_in refl i x.in_is)) (put.link, put.settled))
+        subst (λ z. IsLink (room l) z i × IsSettled z i × FitsLink x.t l z) (sym (aw.new_out refl f x.out_is))
+        (subst (λ z. IsLink (room l) put.out z × IsSettled put.out z × FitsLink x.t l put.out) (sym (ar.new_in refl i x.in_is)) (put.link, put.settled, new_fits x.t x.t_is))
 
-    same_one : (k : ℕ) (l2 : Link) (f : outlet.Outlet) (i : inlet.Inlet) → slice_get ls k ≡ Some l2 → LinkEnds ts' l2 f i → ShareAnEnd l l2
-        → IsLink (room l2) f i × IsSettled f i
-    same_one k l2 f i g2 x s =
-        let e : l ≡ l2 = th.apart.each n k l l2 g g2 s in
-        subst (λ y. IsLink (room y) f i × IsSettled f i) e (itself f i (subst (λ y. LinkEnds ts' y f i) (sym e) x))
+    -- where the link is the one that got its ring
+    by_link : (l2 : Link) → l ≡ l2 → (f : outlet.Outlet) (i : inlet.Inlet) (x : LinkEnds ts' l2 f i) → IsLink (room l2) f i × IsSettled f i × FitsLink x.t l2 f
+    by_link l2 e = subst (λ y. (f : outlet.Outlet) (i : inlet.Inlet) (x : LinkEnds ts' y f i) → IsLink (room y) f i × IsSettled f i × FitsLink x.t y f) e itself
 
-    each : (k : ℕ) (l2 : Link) (f : outlet.Outlet) (i : inlet.Inlet) → k < n + 1 → slice_get ls k ≡ Some l2 → LinkEnds ts' l2 f i
-        → IsLink (room l2) f i × IsSettled f i
+    same_one : (k : ℕ) (l2 : Link) (f : outlet.Outlet) (i : inlet.Inlet) → slice_get ls k ≡ Some l2 → (x : LinkEnds ts' l2 f i) → ShareAnEnd l l2
+        → IsLink (room l2) f i × IsSettled f i × FitsLink x.t l2 f
+    same_one k l2 f i g2 x s = by_link l2 (th.apart.each n k l l2 g g2 s) f i x
+
+    each : (k : ℕ) (l2 : Link) (f : outlet.Outlet) (i : inlet.Inlet) → k < n + 1 → slice_get ls k ≡ Some l2 → (x : LinkEnds ts' l2 f i)
+        → IsLink (room l2) f i × IsSettled f i × FitsLink x.t l2 f
     each k l2 f i lt g2 x = ⊎_elim
         (λ e. same_one k l2 f i g2 x (inl e))
         (λ nr. ⊎_elim
@@ -170,14 +186,18 @@ rung_next room ts0 ts ts' ls n l th g h put = record {
         let aw = after_task ts ts' l put.out put.in_ there put.swapped l2.writer x.t' x.t_is' in
         let other : n ≡ k → ⊥ =
         (λ e. nr (let q : l ≡ l2 = same_Some l l2 (sym g ∙ ap (slice_get ls) e ∙ g2) in (ap (λ (y : Link). y.reader) q, ap (λ (y : Link). y.port) q))) in
-        h.rung k l2 f i (⊎_elim (λ z. z) (λ ge. absurd (other (omega (arith, ge, lt)))) (cases_lt k n)) g2 (record {
+        let was = h.rung k l2 f i (⊎_elim (λ z. z) (λ ge. absurd (other (omega (arith, ge, lt)))) (cases_lt k n)) g2 (record {
           t = ar.t;
           t' = aw.t;
           t_is = ar.t_is;
           t_is' = aw.t_is;
           in_is = sym (ar.ins l2.port nr) ∙ x.in_is;
           out_is = sym (aw.outs l2.out nw) ∙ x.out_is;
-        }))
+        }) in (
+          was.0,
+          was.1,
+          λ values. ap (λ ks. slice_get ks l2.port) (kinds_here l2.reader x.t ar.t x.t_is ar.t_is) ∙ was.2 values,
+        ))
         (same_or l.writer l2.writer l.out l2.out))
         (same_or l.reader l2.reader l.port l2.port)
 
@@ -185,16 +205,16 @@ rung_next room ts0 ts ts' ls n l th g h put = record {
 pub put_is : (cap : ℕ) (ts : List Task) (l : Link) (feed : Sending) (take : Taking) (w r : Task) → w ≡ get_or ts l.writer w
     → r ≡ get_or (set ts l.writer (with_out w l.out (SendsTo feed))) l.reader r → l.writer < l.reader → l.reader < length ts → take.id ≡ feed.id
     → (feed.cap ≡ cap) × (feed.sent ≡ []) × (feed.waiting ≡ 0) → (take.cap ≡ cap) × (take.received ≡ []) × (take.known ≡ [])
+    → ((d : Task) → IsTrue feed.id.values → slice_get (get_or ts l.reader d).kinds l.port ≡ Some one_value)
     → Put cap ts (set (set ts l.writer (with_out w l.out (SendsTo feed))) l.reader (with_in r l.port (TakesFrom take))) l
-put_is cap ts l feed take w r wi ri lt lr id f t = record {
+put_is cap ts l feed take w r wi ri lt lr id f t fit = record {
   out = SendsTo feed;
   in_ = TakesFrom take;
   swapped = record {
     writer = w;
     reader = r;
     writer_is = λ d. sym (wi ∙ get_or_default ts l.writer w d (omega (arith, lt, lr)));
-    reader_is = λ d. sym
-        (ri ∙ get_or-set_other ts l.writer l.reader (with_out w l.out (SendsTo feed)) r (λ e. omega (arith, e, lt)) ∙ get_or_default ts l.reader r d lr);
+    reader_is = λ d. sym (reader_is ∙ get_or_default ts l.reader r d lr);
     after = refl;
   };
   link = (id, t.0, f.0);
@@ -203,6 +223,10 @@ put_is cap ts l feed take w r wi ri lt lr id f t = record {
     (let k = ap length t.2 in omega (arith, k)),
     (let w = f.2 in omega (arith, w)),
   );
+  fits = λ values. subst (λ (y : Task). slice_get y.kinds l.port ≡ Some one_value) (sym reader_is) (fit r values);
   sent = f.1;
   received = t.1;
 }
+  where
+    reader_is : r ≡ get_or ts l.reader r
+    reader_is = ri ∙ get_or-set_other ts l.writer l.reader (with_out w l.out (SendsTo feed)) r (λ e. omega (arith, e, lt))

@@ -8,7 +8,7 @@ use Rattle.fire_tasks.specs.declared.ports.Outlet as outlet
 use Rattle.fire_open.specs.declared.settling.Link.{Link}
 use Rattle.fire_tasks.specs.declared.task.Task.{Task}
 use Rattle.fire_laws.specs.Layout.{IsPair, IsSettled}
-use Rattle.fire_tasks.specs.Ports.{in_end, out_end, in_ends, out_ends, sent_of, sent_in, received_in, pending_in}
+use Rattle.fire_tasks.specs.Ports.{in_end, out_end, in_ends, out_ends, sent_of, sent_in, received_in}
 use Rattle.fire_open.specs.Settling.{Met, with_out, with_in}
 use Rattle.fire_tasks.proofs.PortLemmas.{ins_set, outs_set, received_same}
 use Rattle.fire_open.specs.Links.{LinkEnds, IsThere, Swapped, IsPaired, ArePaired, ShareAnEnd, ShareNoEnd, AreMet}
@@ -42,7 +42,7 @@ still_paired ts ts' l e h =
 
 -- a task of which all but the knowledge of its ends is the same
 pub still_by : (t u : Task) → t.op ≡ u.op → in_ends t.ins ≡ in_ends u.ins → out_ends t.outs ≡ out_ends u.outs → received_in t.ins ≡ received_in u.ins
-    → sent_in t.outs ≡ sent_in u.outs → pending_in t.pending ≡ pending_in u.pending → t.bad ≡ u.bad → t.kinds ≡ u.kinds → t.states ≡ u.states
+    → sent_in t.outs ≡ sent_in u.outs → t.pending ≡ u.pending → t.bad ≡ u.bad → t.kinds ≡ u.kinds → t.states ≡ u.states
     → t.pending ≡ u.pending → t.out ≡ u.out → t.tables ≡ u.tables → t.classes ≡ u.classes → t.count ≡ u.count → still t ≡ still u
 still_by t u o i os r s p b k st pe ou ta cl c =
     λ j. record {

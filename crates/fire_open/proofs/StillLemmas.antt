@@ -8,7 +8,7 @@ use Rattle.brooklet_model.specs.Fire.{first_kept}
 use Rattle.brooklet_model.specs.Words.{Word}
 use Rattle.brooklet_step.specs.Given.{FitState, StandsAfter}
 use Rattle.brooklet_step.specs.Took.{IsBlank}
-use Rattle.fire_tasks.specs.Fired.{SeenTask, HasFired, kinds_in}
+use Rattle.fire_tasks.specs.Fired.{SeenTask, HasFired, kinds_in, kinds_out}
 use Rattle.fire_tasks.specs.declared.task.Task.{Task}
 use Rattle.fire_tasks.specs.declared.ports.Inlet as inlet
 use Rattle.fire_tasks.specs.declared.ports.Inlet.TheVariants.{Ring as TakesFrom, Kept as Given}
@@ -18,7 +18,7 @@ use Rattle.fire_tasks.specs.Ports.{in_end, out_end, in_ends, out_ends, sent_in, 
 use Rattle.river_rings.specs.Ends.{RingId}
 use Rattle.fire_laws.specs.Layout.{IsLink, IsPair, IsInput, AreTasks}
 use Rattle.fire_tasks.specs.Adds.{AreHomes}
-use Rattle.fire_tasks.specs.Tasks.{HasWord, TaskEnds, IsTask, ends_of, all_ends, moves, all_moves, seen_task}
+use Rattle.fire_tasks.specs.Tasks.{FitRings, HasWord, TaskEnds, IsTask, ends_of, all_ends, moves, all_moves, seen_task}
 use Rattle.fire_tasks.proofs.PortLemmas.{count_same}
 use Rattle.fire_open.specs.Still.{Still, still}
 use Rattle.fire_open.proofs.Lists.{same_got, map_through, map_long}
@@ -44,6 +44,7 @@ still_task p adds t t' e k =
       kinds = ks ∙ k.kinds;
       outs = map_long out_end t'.outs t.outs u ∙ k.outs;
       pending = ap length pe ∙ k.pending;
+      rings = subst (FitRings (kinds_out p k.op)) (sym u) k.rings;
       blank = subst (IsBlank k.op.kernel) (sym ou) k.blank;
       homes = subst (λ c. AreHomes p t'.op t'.tables c) (sym cl)
           (subst (λ a. AreHomes p t'.op a t.classes) (sym ta) (subst (λ i. AreHomes p i t.tables t.classes) (sym o) k.homes));

@@ -7,7 +7,7 @@ use Rattle.fire_tasks.specs.declared.ports.Outlet as outlet
 use Rattle.fire_open.specs.declared.settling.Link.{Link}
 use Rattle.fire_tasks.specs.declared.task.Task.{Task}
 use Rattle.fire_laws.specs.Layout.{IsLink, IsPair, IsSettled}
-use Rattle.fire_tasks.specs.Ports.{received_of, sent_of}
+use Rattle.fire_tasks.specs.Ports.{SendsValues, one_value, out_end, received_of, sent_of}
 use Rattle.fire_open.specs.Settling.{with_out, with_in}
 
 -- the writer's port writes the queue that the reader's port reads
@@ -61,6 +61,10 @@ pub record Swapped (ts ts' : List Task) (l : Link) (out : outlet.Outlet) (in_ : 
   pub reader_is : (d : Task) → slice_index_or ts l.reader d ≡ reader
   pub after : ts' ≡ slice_set (slice_set ts l.writer (with_out writer l.out out)) l.reader (with_in reader l.port in_)
 
+-- a ring of values was put only where the reader's port has rows of one value
+abbrev pub FitsLink : Task → Link → outlet.Outlet → Type 0
+FitsLink reader l f = SendsValues (out_end f) → slice_get reader.kinds l.port ≡ Some one_value
+
 -- an empty ring was put there
 pub record Put (cap : ℕ) (ts ts' : List Task) (l : Link) : Type 0 where
   pub out : outlet.Outlet
@@ -68,6 +72,7 @@ pub record Put (cap : ℕ) (ts ts' : List Task) (l : Link) : Type 0 where
   pub swapped : Swapped ts ts' l out in_
   pub link : IsLink cap out in_
   pub settled : IsSettled out in_
+  pub fits : FitsLink swapped.reader l out
   pub sent : sent_of out ≡ []
   pub received : received_of in_ ≡ []
 

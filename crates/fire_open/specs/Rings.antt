@@ -13,7 +13,7 @@ use Rattle.fire_tasks.specs.declared.task.Task.{Task}
 use Rattle.fire_laws.specs.Layout.{IsLink, IsSettled}
 use Rattle.fire_tasks.specs.Ports.{received_of, sent_of}
 use Rattle.fire_tasks.specs.Tasks.{seen_task}
-use Rattle.fire_open.specs.Links.{LinkEnds, IsThere, ShareNoEnd}
+use Rattle.fire_open.specs.Links.{FitsLink, LinkEnds, IsThere, ShareNoEnd}
 
 -- nothing was sent and nothing was received, at any port
 pub record AreUnmoved (ts : List Task) : Type 0 where
@@ -63,7 +63,7 @@ NoWriter ls n o j = (m : ℕ) (l : Link) → m < n → slice_get ls m ≡ Some l
 pub record AreRung (room : Link → ℕ) (ts0 ts : List Task) (ls : List Link) (n : ℕ) : Type 0 where
   pub bodies : map body ts ≡ map body ts0
   pub rung : (m : ℕ) (l : Link) (f : outlet.Outlet) (i : inlet.Inlet) → m < n → slice_get ls m ≡ Some l
-      → LinkEnds ts l f i → IsLink (room l) f i × IsSettled f i
+      → (x : LinkEnds ts l f i) → IsLink (room l) f i × IsSettled f i × FitsLink x.t l f
   pub ins : (o port : ℕ) (t t0 : Task) → slice_get ts o ≡ Some t → slice_get ts0 o ≡ Some t0 → NoReader ls n o port
       → slice_get t.ins port ≡ slice_get t0.ins port
   pub outs : (o j : ℕ) (t t0 : Task) → slice_get ts o ≡ Some t → slice_get ts0 o ≡ Some t0 → NoWriter ls n o j → slice_get t.outs j ≡ slice_get t0.outs j

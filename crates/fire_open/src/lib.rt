@@ -13,4 +13,4 @@ pub use homes::{Places, table_classes};
 pub use links::links_of;
 pub use rings::put_rings;
 pub use settling::{Link, settle_all};
-pub use tasks::tasks_of;
+pub use tasks::{blank_lines, tasks_of};

@@ -1,5 +1,7 @@
 // The rings of a net.
-ghost use Rattle.std.specs.Prelude.{◌≡◌, ◌<◌, ◌≤◌, length, OnOk, slice_index_or, slice_set};
+ghost use Rattle.std.specs.Prelude.{◌≡◌, ◌<◌, ◌≤◌, [], Some, length, IsTrue, IfOk, OnOk, slice_get, slice_index_or, slice_set};
+ghost use Rattle.river_rings.specs.Ends.{AreEnds};
+ghost use Rattle.fire_tasks.specs.Ports.{one_value};
 ghost use Rattle.river_plan.specs.Caps.{IsCap, AreCaps, IsOwnCap, first_cap, own_of};
 ghost use Rattle.river_plan.specs.Forms.{Name};
 ghost use Rattle.fire_open.specs.Links.{AreLinks, IsLinkOf, Put, room_of};
@@ -9,12 +11,27 @@ ghost use Rattle.fire_tasks.specs.declared.ports.Inlet.TheVariants.{Ring as Take
 ghost use Rattle.fire_tasks.specs.declared.ports.Outlet.TheVariants.{Ring as SendsTo};
 
 use crate::Link;
-use fire_tasks::{Inlet, Outlet, Task};
+use fire_tasks::{Inlet, Outlet, Task, has_values};
 use river_base::{Listed, NoMemory};
 use river_plan::{Caps, CapsByName, Plan};
-use river_rings::{Feed, Take, ring};
+use river_rings::{Feed, Take, ring, ring_of_values};
 use std::alloc::Global;
 use std::mem::replace;
+
+// An empty ring for a port of a reader: one of values, where its queue has rows of one value.
+fn ring_for(alloc: Global, reader: &Task, port: usize, cap: u32) -> Result<(Feed, Take), NoMemory>
+    requires { (1 ≤ cap) × (cap ≤ 65536) }
+    ensures ends { IfOk result (λ r. AreEnds r.0 r.1) }
+    ensures feed { IfOk result (λ r. (r.0.cap ≡ cap) × (r.0.sent ≡ []) × (r.0.waiting ≡ 0)) }
+    ensures take { IfOk result (λ r. (r.1.cap ≡ cap) × (r.1.received ≡ []) × (r.1.known ≡ [])) }
+    ensures values { IfOk result (λ r. IsTrue r.0.id.values → slice_get reader.now.kinds port ≡ Some one_value) }
+{
+    if port < reader.kinds.len() && has_values(&reader.kinds, port) {
+        ring_of_values(alloc, cap)
+    } else {
+        ring(alloc, cap)
+    }
+}
 
 // An empty ring for a link.
 fn put_ring(alloc: Global, tasks: &mut Listed<Task>, link: Link, cap: u32) -> Result<(), NoMemory>
@@ -25,7 +42,7 @@ fn put_ring(alloc: Global, tasks: &mut Listed<Task>, link: Link, cap: u32) -> Re
     requires port { (d : _) → link.port < length (slice_index_or tasks.old link.reader d).ins }
     ensures { OnOk result (Put cap tasks.old tasks.new link) }
 {
-    let (feed, take) = ring(alloc, cap)?;
+    let (feed, take) = ring_for(alloc, tasks.at(link.reader), link.port, cap)?;
     put_feed(tasks, link, feed);
     put_take(tasks, link, take);
     Ok(())

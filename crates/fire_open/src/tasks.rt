@@ -15,7 +15,7 @@ ghost use Rattle.fire_open.specs.Fresh.{AreFresh};
 ghost use Rattle.fire_open.specs.Homes.{AreTableClasses};
 
 use crate::homes::{Places, homes_of, table_classes};
-use brooklet_step::{Emit, ItemLists, Lines, Spare, States, first_queues, first_states};
+use brooklet_step::{Emit, Lines, Spare, States, first_queues, first_states};
 use fire_tasks::{Inlet, Kept, Outlet, TablePort, Task};
 use kern_rows::Line;
 use plan_check::queue_kinds;
@@ -132,13 +132,24 @@ fn taken_from(
     Ok((ins, kinds))
 }
 
+/// So many empty lines.
+pub fn blank_lines(alloc: Global, count: usize) -> Result<Lines, NoMemory>
+    ensures { IfOk result (λ lines. lines ≡ replicate count []) }
+{
+    let mut lines = Lines::new(alloc);
+    for _i in 0..count {
+        lines.push(Line::new(alloc))?;
+    }
+    Ok(lines)
+}
+
 // Where an operator sends to, which are kept lists at first, and what is pending there.
-fn sent_to(alloc: Global, count: usize) -> Result<(Listed<Outlet>, ItemLists), NoMemory>
+fn sent_to(alloc: Global, count: usize) -> Result<(Listed<Outlet>, Lines), NoMemory>
     ensures outs { IfOk result (λ both. both.0 ≡ replicate count (Stored [])) }
     ensures pending { IfOk result (λ both. both.1 ≡ replicate count []) }
 {
     let outs = outs_of(alloc, count)?;
-    let pending = Listed::blanks(alloc, count)?;
+    let pending = blank_lines(alloc, count)?;
     Ok((outs, pending))
 }
 

@@ -2,7 +2,7 @@
 use Rattle.std.proofs.Common.{◌≡◌, ℕ, ℤ, zero, suc, ◌<◌, ◌≤◌, ◌⊎◌, Some, List, [], ◌∷◌, ◌++◌, length, map, refl, sym, ap, ◌∙◌, arith, subst, inl, inr, ⊎_elim, get_or, set, length-append}
 use Rattle.std.specs.Prelude.{slice_get}
 use Rattle.std.proofs.lemmas.Bool.{cases_eq, cases_lt}
-use Rattle.std.proofs.lemmas.List.{length-map, length-reverse}
+use Rattle.std.proofs.lemmas.List.{length-map}
 use Rattle.std.proofs.lemmas.Option.{get_or_from_slice_get, same_Some, slice_get-get_or, slice_get_within}
 use Rattle.river_base.specs.declared.item.Item as item
 use Rattle.river_base.specs.Places.{list_at}
@@ -17,7 +17,7 @@ use Rattle.brooklet_model.proofs.Traces.{at_key_other, at_key_same}
 use Rattle.fire_tasks.specs.declared.task.Task.{Task}
 use Rattle.fire_tasks.specs.Adds.{added, logs_of}
 use Rattle.fire_tasks.specs.Fired.{SeenTask, ports_of}
-use Rattle.fire_tasks.specs.Ports.{pending_in, received_in, received_of, sent_in, sent_of}
+use Rattle.fire_tasks.specs.Ports.{received_in, received_of, sent_in, sent_of}
 use Rattle.fire_tasks.specs.Tasks.{HasWord, IsDone, IsTask, seen_task}
 use Rattle.fire_laws.specs.Layout.{left_in, seen_at}
 use Rattle.fire_laws.specs.Steps.{HasMovedState, IsQuiet, SeenSend, SeenTake}
@@ -29,12 +29,6 @@ use Rattle.fire_open.proofs.StillLemmas.{still_word}
 use Rattle.fire_run.specs.declared.net.Net.{Net}
 use Rattle.fire_run.specs.NetOf.{IsNetOf}
 use Rattle.fire_run.specs.OneMove.{LastMoved, Sends, Takes, TakesFront}
-
--- what lies at a place of a list of lists that are turned
-turned_at : (ls : List (List item.Item)) (j : ℕ) → length (list_at (pending_in ls) j) ≡ length (list_at ls j)
-turned_at [] j = refl
-turned_at (l ∷ ls) zero = length-reverse l
-turned_at (l ∷ ls) (suc j) = turned_at ls j
 
 -- what the laws see of tasks stays where they looked
 seen_looked : (ts us : List Task) (o : ℕ) → map still us ≡ map still ts → seen_at us o ≡ seen_at ts o
@@ -170,10 +164,8 @@ module _ (p : PlanForm) (inputs : List (List item.Item)) (caps : Capacities) (ne
       queue_is = queue.1;
       some =
           let a = ap (λ (x : SeenTask). length (list_at x.pending s.port)) seen_old in
-          let b = turned_at old.pending s.port in
-          let c = ap length s.front.was in
-          let d = length-append s.front.rest (s.front.item ∷ []) in
-          omega (arith, a, b, c, d);
+          let b = ap length s.front.was in
+          omega (arith, a, b);
       received = as_received;
       here =
           let a = ap (λ (x : SeenTask). length (list_at x.sent s.port)) seen_here' in
@@ -236,7 +228,7 @@ module _ (p : PlanForm) (inputs : List (List item.Item)) (caps : Capacities) (ne
       queue = queue_in.0;
       queue_is = queue_in.1;
       idle = λ j. no_items (list_at (seen h.at).pending j)
-          (ap (λ (x : SeenTask). length (list_at x.pending j)) seen_old ∙ turned_at old.pending j ∙ ap length (k.idle j));
+          (ap (λ (x : SeenTask). length (list_at x.pending j)) seen_old ∙ ap length (k.idle j));
       sent = λ o j. ⊎_elim
           (λ q. subst (λ i. length (list_at (seen' i).sent j) ≡ length (list_at (seen i).sent j)) q
           (ap (λ (x : SeenTask). length (list_at x.sent j)) seen_here' ∙ ap (λ os. length (list_at (sent_in os) j)) k.sent

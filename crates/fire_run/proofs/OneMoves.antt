@@ -162,7 +162,7 @@ moved_busy p ts ts' cells cells' h idle =
     let t = h.task in
     let d = idle.each h.at t h.there in
     ⊎_elim
-    (λ s. let f = s.0.front in let a = ap length (sym f.was ∙ d.idle s.0.port) in let b = length-append f.rest (f.item ∷ []) in omega (arith, a, b))
+    (λ s. let f = s.0.front in let a = ap length (sym f.was ∙ d.idle s.0.port) in omega (arith, a))
     (λ k.
     let i = there_is (get_or ts h.at t).ins k.takes.port k.takes.there in
     let f = k.front i.0 in

@@ -23,7 +23,8 @@ use Rattle.class_locks.specs.Logs.{Holding}
 use Rattle.fire_tasks.specs.Adds.{IsEntryOf, added, logs_of, rows_by, table_at, table_class}
 use Rattle.fire_open.specs.Homes.{AreClassCells}
 use Rattle.fire_open.proofs.RoomLemmas.{queue_here}
-use Rattle.fire_open.proofs.OpenLemmas.{body_task}
+use Rattle.fire_open.proofs.OpenLemmas.{body_task, fresh_there}
+use Rattle.fire_open.proofs.RungFits.{rung_fits}
 use Rattle.fire_run.specs.NetOf.{IsNetOf}
 use Rattle.fire_run.proofs.MoveLemmas.{with_adds}
 
@@ -66,7 +67,8 @@ opened p inputs cap caps ts0 ts ls cells v typed one all h k r cs blank = record
         let g = slice_get-get_or ts o d lt in
         let x = same_got body ts ts0 r.bodies o (get_or ts o d) g in
         with_adds p (λ j. []) (added p (logs_of cells) (get_or ts o d).op) (get_or ts o d) (λ j. none_added_yet p cells blank (get_or ts o d).op j)
-        (body_task p (λ j. []) x.0 (get_or ts o d) x.2 (h.each o x.0 x.1).task);
+        (body_task p (λ j. []) x.0 (get_or ts o d) x.2 (h.each o x.0 x.1).task
+        (rung_fits p inputs (room_of p cap (first_cap caps)) ts0 ts ls h k (fresh_there p inputs ts0 ls v h k) r o (get_or ts o d) x.0 g x.1));
   };
   settled = record {
     each = λ o o' port j q f i x.

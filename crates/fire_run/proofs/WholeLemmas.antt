@@ -1,7 +1,6 @@
 -- A net in which no operator has a pending or an untaken item gave all that is defined.
 use Rattle.std.proofs.Common.{◌≡◌, ℕ, ℤ, zero, suc, ◌<◌, ⊎_elim, Some, List, [], ◌∷◌, ◌++◌, length, refl, sym, ap, ◌∙◌, arith, subst, length-append}
 use Rattle.std.specs.Prelude.{slice_get, min}
-use mathlib.Core.List.{reverse}
 use Rattle.std.proofs.lemmas.List.{append-nil, nil_from_length}
 use Rattle.std.proofs.lemmas.Option.{get_or_from_slice_get, slice_get_within}
 use Rattle.river_base.proofs.Lists.{got_map}
@@ -29,18 +28,13 @@ use Rattle.fire_laws.proofs.Joining.{lists_at, place_of}
 use Rattle.fire_tasks.specs.declared.task.Task.{Task}
 use Rattle.fire_laws.specs.Layout.{MakeNet, seen_at, left_in}
 use Rattle.fire_laws.proofs.Numbers.{numbers_law}
-use Rattle.fire_tasks.specs.Ports.{IsIdle, known_of, sent_in, pending_in}
+use Rattle.fire_tasks.specs.Ports.{known_of, sent_in}
 use Rattle.fire_tasks.specs.Tasks.{IsDone}
 use Rattle.fire_tasks.specs.Adds.{added, logs_of}
 use Rattle.fire_laws.proofs.NetLemmas.{make_net, seen_here, left_read, inlet_of, task_of, beside}
 use Rattle.fire_run.specs.declared.net.Net.{Net}
 use Rattle.fire_run.specs.NetOf.{IsNetOf, AreIdle}
 use Rattle.fire_run.specs.Whole.{IsWholeNet, IdleNetIsWhole, NetsMoveFew}
-
-turned_idle : (ls : List (List item.Item)) → IsIdle ls → (j : ℕ) → list_at (pending_in ls) j ≡ []
-turned_idle [] h j = refl
-turned_idle (m ∷ ls) h zero = ap reverse (h 0)
-turned_idle (m ∷ ls) h (suc j) = turned_idle ls (λ n. h (suc n)) j
 
 -- a front as long is the whole
 whole_front : (xs ys : List item.Item) → IsFront xs ys → length xs ≡ length ys → xs ≡ ys
@@ -79,7 +73,7 @@ module _ (p : PlanForm) (inputs : List (List item.Item)) (caps : Capacities) (ne
   none_pends : (o j : ℕ) (op : OpForm) → slice_get p.ops o ≡ Some op → list_at (seen_at net.tasks o).pending j ≡ []
   none_pends o j op g =
       let t = task_here o op g in
-      ap (λ (s : SeenTask). list_at s.pending j) (seen_here net.tasks o t.0 t.1) ∙ turned_idle t.0.pending (done_at o t.0 t.1).idle j
+      ap (λ (s : SeenTask). list_at s.pending j) (seen_here net.tasks o t.0 t.1) ∙ (done_at o t.0 t.1).idle j
 
   received_all : (o port : ℕ) (op : OpForm) (q : Name) → slice_get p.ops o ≡ Some op → slice_get op.reads port ≡ Some q
       → length (at_port port (ws o)) ≡ length (hist_by p inputs ws q)
@@ -126,7 +120,7 @@ module _ (p : PlanForm) (inputs : List (List item.Item)) (caps : Capacities) (ne
     sent = λ o j op q t g w gt.
         let below : j < length op.writes = slice_get_within op.writes j q w in
         let outs = (make.gave o op t g gt).outs j below in
-        let none = turned_idle t.pending (done_at o t gt).idle j in
+        let none = (done_at o t gt).idle j in
         let is = lists_at op.writes (ran op (ws o)).outs (hist_by p inputs ws) (by_words p inputs ws v o op g) j q w in
         sym (append-nil (list_at (sent_in t.outs) j)) ∙ ap (λ y. list_at (sent_in t.outs) j ++ y) (sym none) ∙ outs
         ∙ ap (λ k. held_by k [] ((ran op (ws o)).outs j)) (got_map (kind_of (all_decls p)) op.writes j q w)

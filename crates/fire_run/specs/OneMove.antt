@@ -1,6 +1,5 @@
 -- One move of a net: a send or a take of the bounded state, in the items that its queues hold. A port stands for its queue.
 use Rattle.std.specs.Prelude.{◌≡◌, ℕ, ℤ, ◌<◌, ◌⊎◌, None, List, ◌∷◌, ◌++◌, [], length, map, slice_index_or, slice_set}
-use mathlib.Core.List.{reverse}
 use Rattle.river_base.specs.Places.{append_at, list_at}
 use Rattle.river_base.specs.declared.item.Item as item
 use Rattle.river_plan.specs.Forms.{PlanForm}
@@ -39,7 +38,7 @@ pub record Takes (p : PlanForm) (t t' : Task) (cells cells' : List Holding) : Ty
   pub sent : t'.outs ≡ t.outs
   pub out : Emit
   pub fired : t'.bad ≡ None → FiredOp p t.op port item t.states t'.states out
-  pub pends : t'.bad ≡ None → t'.pending ≡ map reverse out.outs
+  pub pends : t'.bad ≡ None → t'.pending ≡ out.outs
   pub logs : t'.bad ≡ None → cells' ≡ cells_grown (logged t.op t.classes t.tables (list_at out.adds)) 0 cells
   pub word : t'.bad ≡ None → (k : IsTask p (added p (logs_of cells) t.op) t)
       → HasWord p (added p (logs_of cells') t.op) t' (k.word ++ (port, item) ∷ [])

@@ -12,6 +12,7 @@ use crate::net::Net;
 use crate::sorting::kept_in;
 use brooklet_step::{Lines, Outcome};
 use class_locks::LogEntry;
+use fire_open::blank_lines;
 use fire_tasks::{Outlet, Task};
 use kern_rows::Line;
 use river_base::{Listed, NoMemory, Numbers};
@@ -54,17 +55,6 @@ impl Ran {
     {
         self.rounds
     }
-}
-
-// So many empty lines.
-fn blank_lines(alloc: Global, count: usize) -> Result<Lines, NoMemory>
-    ensures { IfOk result (λ lines. lines ≡ replicate count []) }
-{
-    let mut lines = Lines::new(alloc);
-    for _i in 0..count {
-        lines.push(Line::new(alloc))?;
-    }
-    Ok(lines)
 }
 
 // What was kept at an end that nobody reads; nothing is left there.

@@ -9,6 +9,7 @@ pub mod laws;
 pub mod net;
 mod one;
 mod opening;
+mod pace;
 mod running;
 mod sorting;
 mod splitting;

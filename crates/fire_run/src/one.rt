@@ -5,7 +5,7 @@ ghost use Rattle.river_plan.specs.Forms.{plan_form};
 ghost use Rattle.river_plan.specs.Valid.{IsPlan};
 ghost use Rattle.fire_tasks.specs.Adds.{added, logs_of};
 ghost use Rattle.fire_tasks.specs.Bundles.{AllGoOn};
-ghost use Rattle.fire_tasks.specs.Ports.{IsIdle, known_of};
+ghost use Rattle.fire_tasks.specs.Ports.{IsIdle, MaySendAll, known_of};
 ghost use Rattle.fire_tasks.specs.Tasks.{IsTask, IsDone, ends_of, all_ends, moves, all_moves};
 ghost use Rattle.fire_laws.specs.Layout.{AreTasks};
 ghost use Rattle.fire_laws.specs.Steps.{HasMovedState};
@@ -18,7 +18,7 @@ ghost use Rattle.fire_run.specs.NetOf.{HasNet, IsNetOf, Stays, AreIdle, OneMore}
 
 use crate::adding::add_to_cells;
 use crate::net::Net;
-use brooklet_step::ItemLists;
+use brooklet_step::Lines;
 use class_locks::Cells;
 use fire_open::settle_all;
 use fire_tasks::{Task, fire_at, first_ready, send_at};
@@ -62,7 +62,7 @@ fn take_for<G: Gate>(
 }
 
 // The first port at which an item is pending.
-fn first_pending(pending: &ItemLists) -> Option<usize>
+fn first_pending(pending: &Lines) -> Option<usize>
     ensures some { IfSome result (λ port. (port < length pending.now) × (list_at pending.now port ≡ [] → ⊥)) }
     ensures none { IfNone result (IsIdle pending.now) }
 {
@@ -146,6 +146,7 @@ fn send_first(task: &mut Task, port: usize) -> Result<(), NoMemory>
     requires as_many { length task.old.pending ≡ length task.old.outs }
     requires some { list_at task.old.pending port ≡ [] → ⊥ }
     requires room { CanSend task.old }
+    requires may { MaySendAll task.old.outs task.old.pending }
     ensures task { (p : _) (adds : ℕ → List (List ℤ)) → IsTask p adds task.old → OnOk result (IsTask p adds task.new) }
     ensures same { OnOk result (ends_of task.new ≡ ends_of task.old) }
     ensures one { OnOk result (moves task.new ≡ moves task.old + 1) }

@@ -10,13 +10,15 @@ ghost use Rattle.fire_run.specs.Frames.{AreBundlesOf, AreCalm, AreDealt, HaveWor
 ghost use Rattle.fire_run.specs.NetOf.{HasNet, Stays};
 ghost use Rattle.fire_run.specs.Rounds.{NetGoesOn, HasJoined, OnceMoved, SomeMoved, UnlessLate};
 
+use crate::pace::{Pace, threads_of};
 use crate::{Bundles, Frame, Net, Ran, SplitFault};
 use brooklet_step::Lines;
-use fire_tasks::{BEGUN, round_of};
+use fire_tasks::round_of;
 use river_base::{Gate, NoMemory};
 use river_plan::{Caps, Plan, RawPlan};
 use std::alloc::Global;
 use std::sync::atomic::AtomicU64;
+use std::sync::atomic::Ordering::SeqCst;
 use std::thread::Threads;
 
 /// How a round came out.
@@ -30,11 +32,11 @@ pub enum Round {
     Late,
 }
 
-/// Runs a plan on these inputs to the end in a net, by so many workers, 1 to 64; a queue between two
-/// operators holds at most as many items as the first entry with its name says, and `cap` items where
-/// there is none, 1 to 65,536. The answer is what the plan means, with the logs of the lock classes and
-/// the number of rounds, 2^64 - 1 standing for all that are greater. There is no error but that there
-/// is no memory. With one worker no thread is started.
+/// Runs a plan on these inputs to the end in a net, by so many workers, 1 to 64, or by fewer where they
+/// are in each other's way; a queue between two operators holds at most as many items as the first entry
+/// with its name says, and `cap` items where there is none, 1 to 65,536. The answer is what the plan
+/// means, with the logs of the lock classes and the number of rounds, 2^64 - 1 standing for all that are
+/// greater. There is no error but that there is no memory. With one worker no thread is started.
 pub fn run_plan<R: Threads + Sync, G: Gate + Sync>(
     rt: &R,
     alloc: Global,
@@ -79,7 +81,8 @@ fn busy_workers(plan: &Plan, workers: u32) -> u32
     ops as u32
 }
 
-// Rounds, to the first in which nothing is left to move or which there is not; and how many there were.
+// Rounds, to the first in which nothing is left to move or which there is not; and how many there
+// were. The pace says by how many workers.
 fn make_rounds<R: Threads + Sync, G: Gate + Sync>(
     rt: &R,
     alloc: Global,
@@ -95,9 +98,13 @@ fn make_rounds<R: Threads + Sync, G: Gate + Sync>(
     ensures rounds { IfOk result (λ both. both.1 ≤ 1 + all_moves both.0.tasks) }
 {
     let mut net = net;
+    let mut pace = Pace::new(workers);
     for round in 0..u64::MAX {
-        let (next, went) = make_round(rt, alloc, plan, net, workers, gate)?;
+        let parts = pace.parts(workers);
+        let busy = AtomicU64::new(pace.count(parts));
+        let (next, went) = make_round(rt, alloc, plan, net, parts, gate, &busy)?;
         net = next;
+        pace = pace.after(workers, busy.into_inner());
         match went {
             Round::Moved => {}
             Round::Still => return Ok((net, round + 1)),
@@ -115,6 +122,7 @@ fn make_round<R: Threads + Sync, G: Gate + Sync>(
     net: Net,
     workers: u32,
     gate: &G,
+    busy: &AtomicU64,
 ) -> Result<(Net, Round), NoMemory>
     requires valid { IsPlan plan.now }
     requires net { HasNet plan.now net }
@@ -124,7 +132,7 @@ fn make_round<R: Threads + Sync, G: Gate + Sync>(
 {
     match net.split(alloc, workers) {
         Ok((frame, bundles)) => {
-            let (net, moved) = work_all(rt, plan, frame, bundles, workers, gate)?;
+            let (net, moved) = work_all(rt, plan, frame, bundles, workers, gate, busy)?;
             if moved {
                 return Ok((net, Round::Moved));
             }
@@ -162,6 +170,7 @@ fn work_all<R: Threads + Sync, G: Gate + Sync>(
     bundles: Bundles,
     workers: u32,
     gate: &G,
+    busy: &AtomicU64,
 ) -> Result<(Net, bool), NoMemory>
     requires bundles { AreBundlesOf plan.now frame bundles.items }
     requires dealt { AreDealt frame.net frame.workers bundles.items }
@@ -169,7 +178,7 @@ fn work_all<R: Threads + Sync, G: Gate + Sync>(
     ensures { IfOk result (λ both. HasJoined plan.now frame bundles.items both.0 both.1) }
 {
     let mut bundles = bundles;
-    work_each(rt, plan.raw(), &mut bundles, workers, gate);
+    work_each(rt, plan.raw(), &mut bundles, workers, gate, busy);
     if is_refused(&bundles) {
         frame.scrap(bundles);
         return Err(NoMemory);
@@ -178,26 +187,27 @@ fn work_all<R: Threads + Sync, G: Gate + Sync>(
     Ok((frame.join(bundles), moved))
 }
 
-// Each of the bundles works, so many of them at a time.
+// Each of the bundles works, all of them at a time or one after another, as the count says.
 fn work_each<R: Threads + Sync, G: Gate + Sync>(
     rt: &R,
     raw: &RawPlan,
     bundles: &mut Bundles,
     workers: u32,
     gate: &G,
+    busy: &AtomicU64,
 )
     requires ready { All (IsReady raw.now) bundles.old.items }
     requires workers { 0 < workers }
     ensures { HaveWorked raw.now bundles.old.items bundles.new.items }
 {
-    let busy = AtomicU64::new((workers as u64).wrapping_mul(BEGUN + 1));
+    let threads = threads_of(busy.load(SeqCst), workers);
     round_of(
         rt,
         raw,
         bundles.as_mut_slice(),
-        workers as usize,
+        threads as usize,
         gate,
-        &busy,
+        busy,
     );
 }
 

@@ -19,7 +19,7 @@ use std::mem::replace;
 use std::snapshot::Snapshot;
 
 /// How often a pass of a bundle looks at its tasks, at most, where there are other workers.
-const LOOKS: u32 = 1024;
+const LOOKS: u32 = 4096;
 
 /// Why a net was not split.
 #[derive(Drop)]

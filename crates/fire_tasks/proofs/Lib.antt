@@ -8,5 +8,4 @@ pub mod PortLemmas
 pub mod SeatLemmas
 pub mod TaskLemmas
 pub mod TurnLemmas
-pub mod Turned
 pub mod WordLemmas

@@ -1,19 +1,24 @@
 -- What a task keeps while it sends, and through a pass.
 use Rattle.std.proofs.Common.{◌≡◌, ℕ, ℤ, ◌+◌, ◌<◌, ◌≤◌, List, [], ◌∷◌, ◌++◌, length, refl, sym, ap, ◌∙◌, arith, subst, inl, inr, ⊎_elim, get_or, set, get_or-set_other}
-use Rattle.std.specs.Prelude.{Bool, true, false, IsFalse, All}
+use Rattle.std.specs.Prelude.{Bool, true, false, IsFalse, All, slice_get}
 use Rattle.std.proofs.lemmas.Bool.{cases_lt}
 use Rattle.std.proofs.lemmas.List.{length-set}
+use Rattle.std.proofs.lemmas.List.Elements.{All-weaker}
 use Rattle.river_base.proofs.PlaceLemmas.{list_past}
 use Rattle.river_base.specs.declared.item.Item as item
+use Rattle.river_base.specs.declared.item.Item.TheVariants.{Flat, Pack}
+use Rattle.river_base.specs.declared.item.Flat.TheVariants.{One, Batch as Batched, Change as Changed}
+use Rattle.river_base.specs.Held.{IsHeld}
 use Rattle.river_base.specs.Places.{list_at}
+use Rattle.river_rings.specs.Ends.{single}
 use Rattle.river_plan.specs.Forms.{PlanForm}
-use Rattle.brooklet_step.specs.Given.{IsHeldOf}
+use Rattle.brooklet_step.specs.Given.{IsHeldBy, IsHeldOf}
 use Rattle.fire_tasks.specs.Fired.{kinds_out}
 use Rattle.fire_tasks.specs.declared.task.Task.{Task}
 use Rattle.fire_tasks.specs.declared.ports.Inlet as inlet
 use Rattle.fire_tasks.specs.declared.ports.Outlet as outlet
-use Rattle.fire_tasks.specs.Ports.{AreFronts, HasMoved, in_ends, out_ends, given_at, pending_in, sent_in, sent_of, sent_count, received_count, received_in, IsFull, IsHeldBack, RefusedAll, Sent, SentAt}
-use Rattle.fire_tasks.specs.Tasks.{IsTask, moves}
+use Rattle.fire_tasks.specs.Ports.{AreFronts, HasMoved, MaySend, MaySendAll, one_value, in_ends, out_ends, given_at, sent_in, sent_of, sent_count, received_count, received_in, IsFull, IsHeldBack, RefusedAll, Sent, SentAt}
+use Rattle.fire_tasks.specs.Tasks.{FitRings, IsTask, moves}
 use Rattle.fire_tasks.proofs.Fronts.{fronts_is, fronts_same, fronts_sent, fronts_then}
 use Rattle.fire_tasks.proofs.PortLemmas.{outs_many, ins_many, count_same, given_moved, sent_more, sent_count_same}
 
@@ -54,7 +59,7 @@ other ls i j l d ne = get_or-set_other ls i j l d (λ e. ne (sym e))
 -- the front went
 pub one_sent : (os : List outlet.Outlet) (ls : List (List item.Item)) (port : ℕ) (x : outlet.Outlet) (l : List item.Item) (y : item.Item) → port < length os
     → port < length ls → out_ends (set os port x) ≡ out_ends os
-    → get_or ls port l ≡ l ++ y ∷ [] → sent_of x ≡ sent_of (get_or os port x) ++ y ∷ [] → SentAt port os ls (set os port x) (set ls port l) true
+    → get_or ls port l ≡ y ∷ l → sent_of x ≡ sent_of (get_or os port x) ++ y ∷ [] → SentAt port os ls (set os port x) (set ls port l) true
 one_sent os ls port x l y lo ll e g s = record {
   sent = record {
     ends = e;
@@ -85,7 +90,7 @@ full_sent os os' ls port e s o full = record {
   sent = record {
     ends = e;
     many = refl;
-    given = λ j. ap (λ (x : List (List item.Item)). list_at x j ++ list_at (pending_in ls) j) s;
+    given = λ j. ap (λ (x : List (List item.Item)). list_at x j ++ list_at ls j) s;
     fronts = fronts_is (sent_in os) (sent_in os') s;
     number = moved_false (sent_count os) (sent_count os') (sent_count_same os' os s);
   };
@@ -101,7 +106,7 @@ looked_sent os os' os2 ls ls2 port e s o h = record {
   sent = record {
     ends = h.sent.ends ∙ e;
     many = h.sent.many;
-    given = λ j. h.sent.given j ∙ ap (λ (x : List (List item.Item)). list_at x j ++ list_at (pending_in ls) j) s;
+    given = λ j. h.sent.given j ∙ ap (λ (x : List (List item.Item)). list_at x j ++ list_at ls j) s;
     fronts = subst (λ l. AreFronts l (sent_in os2)) s h.sent.fronts;
     number = subst (λ n. HasMoved n (sent_count os2) true) (sent_count_same os' os s) h.sent.number;
   };
@@ -219,6 +224,28 @@ to_all port os ls os' ls' moved a le f j = ⊎_elim
     (λ ge. inl (list_past ls' j (let m = a.sent.many in omega (arith, m, le, ge))))
     (cases_lt j port)
 
+-- WHAT MAY BE SENT
+
+-- what may be sent may be sent where the same was given at the same ends
+pub may_still : (os : List outlet.Outlet) (ls : List (List item.Item)) (os' : List outlet.Outlet) (ls' : List (List item.Item)) → out_ends os' ≡ out_ends os
+    → ((j : ℕ) → given_at os' ls' j ≡ given_at os ls j) → MaySendAll os ls → MaySendAll os' ls'
+may_still os ls os' ls' e g h j x at = subst (All (MaySend x)) (sym (g j)) (h j x (ap (λ l. slice_get l j) (sym e) ∙ at))
+
+-- a row of one value
+single_of : (x : item.Item) → IsHeld one_value x → (v : ℤ) × (x ≡ single v)
+unfolding IsHeld
+single_of (Flat (One [])) h = absurd (cc h)
+single_of (Flat (One (v ∷ []))) h = (v, refl)
+single_of (Flat (One (v ∷ (w ∷ r)))) h = absurd (cc h)
+single_of (Flat (Batched b)) h = absurd h
+single_of (Flat (Changed c)) h = absurd h
+single_of (Pack fs) h = absurd h
+
+-- a task may send what it gave
+pub task_may : (p : PlanForm) (adds : ℕ → List (List ℤ)) (t : Task) → IsTask p adds t → MaySendAll t.outs t.pending
+task_may p adds t k j e at = All-weaker (IsHeldOf (kinds_out p k.op) j) (MaySend e)
+    (λ x h values. single_of x (subst (λ o. IsHeldBy o x) (k.rings j e at values) h)) (given_at t.outs t.pending j) (k.fired.held j)
+
 -- A TASK
 
 -- with other ends, after it sent
@@ -235,6 +262,7 @@ sent_task p adds t os ls m k h = record {
   kinds = k.kinds;
   outs = outs_many t.outs os h.ends ∙ k.outs;
   pending = h.many ∙ k.pending;
+  rings = subst (FitRings (kinds_out p k.op)) (sym h.ends) k.rings;
   blank = k.blank;
   homes = k.homes;
   word = k.word;
@@ -269,6 +297,7 @@ looked_task p adds t ins k e r = record {
   kinds = k.kinds;
   outs = k.outs;
   pending = k.pending;
+  rings = k.rings;
   blank = k.blank;
   homes = k.homes;
   word = k.word;

@@ -1,14 +1,16 @@
 -- Ends at their ports.
-use Rattle.std.proofs.Common.{◌≡◌, ℕ, zero, suc, ◌<◌, List, [], ◌∷◌, ◌++◌, length, refl, sym, ap, ◌∙◌, arith, get_or, set, append_assoc, length-append, ◌+◌, Option, Some, None}
-use Rattle.std.specs.Prelude.{All, IsNone}
+use Rattle.std.proofs.Common.{◌≡◌, ℕ, zero, suc, ◌<◌, List, [], ◌∷◌, ◌++◌, length, refl, sym, ap, ◌∙◌, arith, get_or, set, append_assoc, length-append, ◌+◌, Option, Some, None, subst, drop}
+use Rattle.std.specs.Prelude.{All, IsNone, IfNone, slice_get}
+use Rattle.std.proofs.lemmas.Option.{slice_get-get_or}
+use Rattle.river_base.proofs.Lists.{got_map}
 use Rattle.std.proofs.lemmas.List.Elements.{All-head, All-tail}
-use mathlib.Core.List.{reverse, IsPrefix}
-use Rattle.std.proofs.lemmas.List.{reverse-append, length-map}
+use mathlib.Core.List.{IsPrefix}
+use Rattle.std.proofs.lemmas.List.{length-map, nil_from_length, set-get_or}
 use Rattle.river_base.specs.declared.item.Item as item
 use Rattle.river_base.specs.Places.{list_at, append_at}
 use Rattle.fire_tasks.specs.declared.ports.Inlet as inlet
 use Rattle.fire_tasks.specs.declared.ports.Outlet as outlet
-use Rattle.fire_tasks.specs.Ports.{sent_count, received_count, received_of, in_end, in_ends, sent_of, sent_in, out_end, out_ends, received_in, pending_in, given_at}
+use Rattle.fire_tasks.specs.Ports.{sent_count, received_count, received_of, in_end, in_ends, sent_of, sent_in, out_end, out_ends, received_in, given_at, MaySend, MaySendAll}
 
 -- another state of the same end: all ends are the same
 pub ins_set : (xs : List inlet.Inlet) (i : ℕ) (x : inlet.Inlet) → in_end x ≡ in_end (get_or xs i x) → in_ends (set xs i x) ≡ in_ends xs
@@ -65,15 +67,29 @@ sent_front (o ∷ os) (suc i) x y e = ap (λ ls. sent_of o ∷ ls) (sent_front o
 
 -- the front of what is pending moved
 pub given_moved : (xs : List outlet.Outlet) (ls : List (List item.Item)) (i : ℕ) (x : outlet.Outlet) (l : List item.Item) (y : item.Item) → i < length xs
-    → i < length ls → get_or ls i l ≡ l ++ y ∷ [] → sent_of x ≡ sent_of (get_or xs i x) ++ y ∷ []
+    → i < length ls → get_or ls i l ≡ y ∷ l → sent_of x ≡ sent_of (get_or xs i x) ++ y ∷ []
     → (j : ℕ) → given_at (set xs i x) (set ls i l) j ≡ given_at xs ls j
 given_moved [] ls i x l y lt lt' e s j = absurd (omega (arith, lt))
 given_moved (o ∷ os) [] i x l y lt lt' e s j = absurd (omega (arith, lt'))
 given_moved (o ∷ os) (m ∷ ls) zero x l y lt lt' e s zero =
-    ap (λ t. t ++ reverse l) s ∙ append_assoc (sent_of o) (y ∷ []) (reverse l) ∙ ap (λ t. sent_of o ++ t) (sym (ap reverse e ∙ reverse-append l (y ∷ [])))
+    ap (λ t. t ++ l) s ∙ append_assoc (sent_of o) (y ∷ []) l ∙ ap (λ t. sent_of o ++ t) (sym e)
 given_moved (o ∷ os) (m ∷ ls) zero x l y lt lt' e s (suc j) = refl
 given_moved (o ∷ os) (m ∷ ls) (suc i) x l y lt lt' e s zero = refl
 given_moved (o ∷ os) (m ∷ ls) (suc i) x l y lt lt' e s (suc j) = given_moved os ls i x l y (omega (arith, lt)) (omega (arith, lt')) e s j
+
+-- what holds of all elements holds of one in the middle
+pub all_mid : {A : Type 0} (P : A → Type 0) (xs ys : List A) (x : A) → All P (xs ++ x ∷ ys) → P x
+all_mid P [] ys x h = All-head P x ys h
+all_mid P (y ∷ xs) ys x h = all_mid P xs ys x (All-tail P y (xs ++ x ∷ ys) h)
+
+-- what is pending in front may be sent
+pub may_front : (xs : List outlet.Outlet) (ls : List (List item.Item)) (i : ℕ) (x : outlet.Outlet) (l : List item.Item) (y : item.Item) → MaySendAll xs ls
+    → i < length xs → x ≡ get_or xs i x → list_at ls i ≡ y ∷ l → MaySend (out_end x) y
+may_front xs ls i x l y h lt e p =
+    let at : slice_get (out_ends xs) i ≡ Some (out_end x) = got_map out_end xs i x (slice_get-get_or xs i x lt ∙ ap Some (sym e)) in
+    let sent = list_at (sent_in xs) i in
+    let all : All (MaySend (out_end x)) (sent ++ y ∷ l) = subst (λ m. All (MaySend (out_end x)) (sent ++ m)) p (h i (out_end x) at) in
+    all_mid (MaySend (out_end x)) sent l y all
 
 -- nothing moved
 pub given_stays : (xs : List outlet.Outlet) (ls : List (List item.Item)) (i : ℕ) (x : outlet.Outlet) (l : List item.Item) → i < length xs → i < length ls
@@ -81,7 +97,7 @@ pub given_stays : (xs : List outlet.Outlet) (ls : List (List item.Item)) (i : �
     → (j : ℕ) → given_at (set xs i x) (set ls i l) j ≡ given_at xs ls j
 given_stays [] ls i x l lt lt' e s j = absurd (omega (arith, lt))
 given_stays (o ∷ os) [] i x l lt lt' e s j = absurd (omega (arith, lt'))
-given_stays (o ∷ os) (m ∷ ls) zero x l lt lt' e s zero = ap (λ t. t ++ reverse l) s ∙ ap (λ t. sent_of o ++ reverse t) e
+given_stays (o ∷ os) (m ∷ ls) zero x l lt lt' e s zero = ap (λ t. t ++ l) s ∙ ap (λ t. sent_of o ++ t) e
 given_stays (o ∷ os) (m ∷ ls) zero x l lt lt' e s (suc j) = refl
 given_stays (o ∷ os) (m ∷ ls) (suc i) x l lt lt' e s zero = refl
 given_stays (o ∷ os) (m ∷ ls) (suc i) x l lt lt' e s (suc j) = given_stays os ls i x l (omega (arith, lt)) (omega (arith, lt')) e s j
@@ -96,7 +112,7 @@ set_back (x ∷ ls) (suc i) l m e = ap (λ t. x ∷ t) (set_back ls i l m e)
 pub given_only : (xs : List outlet.Outlet) (ls : List (List item.Item)) (i : ℕ) (x : outlet.Outlet) → sent_of x ≡ sent_of (get_or xs i x)
     → (j : ℕ) → given_at (set xs i x) ls j ≡ given_at xs ls j
 given_only [] ls i x s j = refl
-given_only (o ∷ os) ls zero x s zero = ap (λ t. t ++ list_at (pending_in ls) 0) s
+given_only (o ∷ os) ls zero x s zero = ap (λ t. t ++ list_at ls 0) s
 given_only (o ∷ os) [] zero x s (suc j) = refl
 given_only (o ∷ os) (m ∷ ls) zero x s (suc j) = refl
 given_only (o ∷ os) [] (suc i) x s zero = refl
@@ -149,10 +165,10 @@ count_more (a ∷ xs) (y ∷ ys) (suc port) x lt e =
     omega (arith, l, i)
 
 -- lists of which each has nothing
-pub idle_all : (ls : List (List item.Item)) → All (λ l. l ≡ []) ls → (j : ℕ) → list_at ls j ≡ []
+pub idle_all : (ls : List (List item.Item)) → All (λ l. length l ≡ 0) ls → (j : ℕ) → list_at ls j ≡ []
 idle_all [] h j = refl
-idle_all (l ∷ ls) h zero = All-head (λ m. m ≡ []) l ls h
-idle_all (l ∷ ls) h (suc j) = idle_all ls (All-tail (λ m. m ≡ []) l ls h) j
+idle_all (l ∷ ls) h zero = nil_from_length l (All-head (λ m. length m ≡ 0) l ls h)
+idle_all (l ∷ ls) h (suc j) = idle_all ls (All-tail (λ m. length m ≡ 0) l ls h) j
 
 -- as many were sent
 pub sent_none : (xs : List outlet.Outlet) (i : ℕ) (x : outlet.Outlet) → sent_of x ≡ sent_of (get_or xs i x) → sent_count (set xs i x) ≡ sent_count xs
@@ -169,3 +185,16 @@ none_some (Some x) a n e = absurd (cc n)
 pub prefix_none : {A : Type 0} (xs ys : List A) → IsPrefix xs ys → ys ≡ [] → xs ≡ []
 prefix_none [] ys h e = refl
 prefix_none (x ∷ xs) ys h e = let l = ap length (h.1 ∙ e) in absurd (omega (arith, l))
+
+-- what follows where there is no value
+pub if_none : {A : Type 0} (o : Option A) (P Q : Type 0) → (P → Q) → IfNone o P → IfNone o Q
+if_none None P Q f h = f h
+if_none (Some x) P Q f h = tt
+
+-- an element that did not change
+pub put_back : {A : Type 0} (xs : List A) (i : ℕ) (old new : A) → old ≡ get_or xs i old → new ≡ old → set xs i new ≡ xs
+put_back xs i old new e n = ap (set xs i) (n ∙ e) ∙ set-get_or xs i old
+
+-- what is left where the one in front is dropped
+pub left_behind : {A : Type 0} (old new rest : List A) (y : A) → old ≡ y ∷ rest → new ≡ drop 1 old → new ≡ rest
+left_behind old new rest y e n = n ∙ ap (drop 1) e

@@ -1,14 +1,16 @@
 -- What a task keeps through a take.
 use Rattle.std.proofs.Common.{◌≡◌, ℕ, ℤ, zero, suc, ◌+◌, ◌<◌, Some, None, List, [], ◌∷◌, ◌++◌, length, map, refl, sym, ap, ◌∙◌, subst, arith, ⊎_elim, length-append}
 use Rattle.std.specs.Prelude.{Option, All, replicate, min, slice_get}
-use mathlib.Core.List.{reverse}
 use Rattle.std.proofs.lemmas.Bool.{cases_eq, cases_lt}
 use Rattle.std.proofs.lemmas.List.{append-nil, length-map, length-replicate}
 use Rattle.std.proofs.lemmas.List.Elements.{All-append, All-nil}
 use Rattle.std.proofs.lemmas.Option.{slice_get_within, same_Some}
 use Rattle.river_base.proofs.Lists.{there_is, got_map}
 use Rattle.river_base.specs.declared.item.Item as item
+use Rattle.river_base.specs.declared.kind.QueueType.{QueueType}
+use Rattle.river_base.specs.Held.{IsHeld}
 use Rattle.river_base.specs.Places.{list_at, append_at, each_grew}
+use Rattle.river_rings.specs.Ends.{single}
 use Rattle.river_base.proofs.PlaceLemmas.{each_grew-blanks, length-each_grew, if_eq, if_ne, append_here, append_else, blank_at}
 use Rattle.kern_tables.specs.Tables.{table_width}
 use Rattle.river_plan.specs.declared.plan.TableDecl.{TableDecl}
@@ -30,7 +32,7 @@ use Rattle.brooklet_model.proofs.TypedPlan.{op_fits}
 use Rattle.brooklet_step.specs.declared.emit.Emit.{Emit}
 use Rattle.brooklet_step.specs.declared.emit.Spare.{Spare}
 use Rattle.brooklet_step.specs.declared.state.State.{State}
-use Rattle.brooklet_step.specs.Given.{held_at, IsHeldOf, StandsAfter}
+use Rattle.brooklet_step.specs.Given.{held_at, IsHeldBy, IsHeldOf, StandsAfter}
 use Rattle.brooklet_step.specs.Reading.{CanFire, IsBlankOf, FiredOp}
 use Rattle.brooklet_step.specs.Took.{IsBlank}
 use Rattle.brooklet_step.proofs.GivenLemmas.{at-append, ran_more, at_next, first_is_start}
@@ -42,12 +44,11 @@ use Rattle.fire_tasks.specs.declared.task.TablePort.{TablePort}
 use Rattle.fire_tasks.specs.declared.task.Task.{Task}
 use Rattle.fire_tasks.specs.Adds.{table_numbers}
 use Rattle.fire_tasks.specs.Fired.{bad_at, kinds_in, kinds_out}
-use Rattle.fire_tasks.specs.Ports.{received_of, received_in, sent_in, pending_in, InEnd, IsIdle, in_ends, out_ends}
+use Rattle.fire_tasks.specs.Ports.{received_of, received_in, sent_in, InEnd, IsIdle, one_value, in_ends, out_ends}
 use Rattle.fire_tasks.specs.Tasks.{HasWord, IsTask}
 use Rattle.fire_tasks.proofs.Fronts.{goes_took}
 use Rattle.fire_tasks.specs.Turns.{AreRowsFor, HasFiredAt, HasTakenAt, Owes, classes_of, pile_grown, logged}
 use Rattle.fire_tasks.proofs.PortLemmas.{count_more, ins_many}
-use Rattle.fire_tasks.proofs.Turned.{turn_twice}
 use Rattle.fire_tasks.proofs.WordLemmas.{longer_word}
 
 -- LISTS AT PLACES
@@ -64,6 +65,7 @@ with_adds p f g t k e = record {
   kinds = k.kinds;
   outs = k.outs;
   pending = k.pending;
+  rings = k.rings;
   blank = k.blank;
   homes = k.homes;
   word = k.word;
@@ -157,6 +159,14 @@ module _ (p : PlanForm) (v : IsPlan p) (t : Task) (adds : ℕ → List (List ℤ
   pub blank_op : IsBlankOf p t.op t.out
   blank_op = record { blank = λ op g. let e : k.op ≡ op = same_Some k.op op (sym k.op_is ∙ g) in subst (λ (o : OpForm). IsBlank o.kernel t.out) e k.blank }
 
+held_single : (x : ℤ) → IsHeld one_value (single x)
+unfolding IsHeld
+held_single x = refl
+
+-- a row of one value is what a queue of such may hold
+pub fits_value : (kinds : List QueueType) (port : ℕ) (x : ℤ) → slice_get kinds port ≡ Some one_value → IsHeldOf kinds port (single x)
+fits_value kinds port x e = subst (λ o. IsHeldBy o (single x)) (sym e) (held_single x)
+
 module _ (p : PlanForm) (v : IsPlan p) (t : Task) (adds : ℕ → List (List ℤ)) (k : IsTask p adds t) (fine : t.bad ≡ None) where
   abbrev received : (ins : List inlet.Inlet) (port : ℕ) (x : item.Item) → Type 0
   received ins port x = received_in ins ≡ append_at (received_in t.ins) port (x ∷ [])
@@ -185,6 +195,7 @@ module _ (p : PlanForm) (v : IsPlan p) (t : Task) (adds : ℕ → List (List ℤ
     kinds = k.kinds;
     outs = k.outs;
     pending = k.pending;
+    rings = k.rings;
     blank = k.blank;
     homes = k.homes;
     word = k.word;
@@ -210,7 +221,7 @@ module _ (p : PlanForm) (v : IsPlan p) (t : Task) (adds : ℕ → List (List ℤ
   pub took_task : (ins : List inlet.Inlet) (port : ℕ) (x : item.Item) (st : List State) (out blank : Emit) (pending : List (List item.Item)) (n : ℕ)
       → received ins port x → length ins ≡ length t.ins → port < length t.ins → IsHeldOf t.kinds port x → IsIdle t.pending
       → FiredOp p t.op port x t.states st out
-      → pending ≡ map reverse out.outs → blank.outs ≡ t.pending → blank.adds ≡ replicate (length out.adds) [] → n ≡ min most_firings (t.count + 1)
+      → pending ≡ out.outs → blank.outs ≡ t.pending → blank.adds ≡ replicate (length out.adds) [] → n ≡ min most_firings (t.count + 1)
       → HasWord p (λ j. adds j ++ list_at out.adds j) (record t { ins = ins; states = st; pending = pending; out = blank; count = n })
       (k.word ++ (port, x) ∷ [])
   took_task ins port x st out blank pending n e l lt i idle f ep eb ebr en =
@@ -231,10 +242,7 @@ module _ (p : PlanForm) (v : IsPlan p) (t : Task) (adds : ℕ → List (List ℤ
       ∙ length-replicate (outs op.kernel) [] in
       let adds_many : length out.adds ≡ tabs op.kernel = ap length adds_are ∙ length-each_grew (replicate (tabs op.kernel) []) came.adds
       ∙ length-replicate (tabs op.kernel) [] in
-      let pending_is : (j : ℕ)
-      → list_at (pending_in pending) j ≡ list_at out.outs j =
-      (λ j. ap (λ ls. list_at (map reverse ls) j) ep ∙ ap (λ ls. list_at ls j) (turn_twice out.outs)) in
-      let old_idle : (j : ℕ) → list_at (pending_in t.pending) j ≡ [] = (λ j. turned_idle t.pending idle j) in
+      let pending_is : (j : ℕ) → list_at pending j ≡ list_at out.outs j = (λ j. ap (λ ls. list_at ls j) ep) in
       record {
         task = record {
           op = op;
@@ -242,7 +250,8 @@ module _ (p : PlanForm) (v : IsPlan p) (t : Task) (adds : ℕ → List (List ℤ
           ins = l ∙ k.ins;
           kinds = k.kinds;
           outs = k.outs;
-          pending = ap length ep ∙ length-map out.outs reverse ∙ outs_many ∙ sym c.outs ∙ nw;
+          rings = k.rings;
+          pending = ap length ep ∙ outs_many ∙ sym c.outs ∙ nw;
           blank = record {
             outs = eb ∙ all_empty t.pending idle ∙ ap (λ n. replicate n []) (k.pending ∙ sym nw ∙ c.outs);
             adds = ebr ∙ ap (λ n. replicate n []) adds_many;
@@ -257,9 +266,9 @@ module _ (p : PlanForm) (v : IsPlan p) (t : Task) (adds : ℕ → List (List ℤ
             bad = k.fired.bad;
             held = λ j.
                 let was : All (IsHeldOf (kinds_out p op) j) (list_at (sent_in t.outs) j) =
-                subst (All (IsHeldOf (kinds_out p op) j)) (ap (λ y. list_at (sent_in t.outs) j ++ y) (old_idle j) ∙ append-nil (list_at (sent_in t.outs) j))
+                subst (All (IsHeldOf (kinds_out p op) j)) (ap (λ y. list_at (sent_in t.outs) j ++ y) (idle j) ∙ append-nil (list_at (sent_in t.outs) j))
                 (k.fired.held j) in
-                All-append (IsHeldOf (kinds_out p op) j) (list_at (sent_in t.outs) j) (list_at (pending_in pending) j) was
+                All-append (IsHeldOf (kinds_out p op) j) (list_at (sent_in t.outs) j) (list_at pending j) was
                 (subst (All (IsHeldOf (kinds_out p op) j)) (sym (pending_is j)) (grown_held (outs op.kernel) came.outs out.outs j outs_are (came.held j)));
             given = λ w a h.
                 let n = longer_word (kinds_in p op) w k.word port x a h in
@@ -276,8 +285,8 @@ module _ (p : PlanForm) (v : IsPlan p) (t : Task) (adds : ℕ → List (List ℤ
                       let co = c.outs in
                       let lj' : j < outs op.kernel = omega (arith, lj, co, nw) in
                       let old : list_at (sent_in t.outs) j ≡ held_at (kinds_out p op) j [] (before.outs j) = sym (append-nil (list_at (sent_in t.outs) j))
-                      ∙ ap (λ y. list_at (sent_in t.outs) j ++ y) (sym (old_idle j)) ∙ gave.outs j lj in
-                      ap (λ y. y ++ list_at (pending_in pending) j) old
+                      ∙ ap (λ y. list_at (sent_in t.outs) j ++ y) (sym (idle j)) ∙ gave.outs j lj in
+                      ap (λ y. y ++ list_at pending j) old
                       ∙ ap (λ y. held_at (kinds_out p op) j [] (before.outs j) ++ y)
                       (pending_is j ∙ ap (λ ls. list_at ls j) new_outs
                       ∙ each_grew-blanks (outs op.kernel) (λ m. held_at (kinds_out p op) m (before.outs m) (r.outs m)) j [] lj')
@@ -301,11 +310,6 @@ module _ (p : PlanForm) (v : IsPlan p) (t : Task) (adds : ℕ → List (List ℤ
         word = refl;
       }
     where
-      turned_idle : (ls : List (List item.Item)) → IsIdle ls → (j : ℕ) → list_at (pending_in ls) j ≡ []
-      turned_idle [] h j = refl
-      turned_idle (m ∷ ls) h zero = ap reverse (h 0)
-      turned_idle (m ∷ ls) h (suc j) = turned_idle ls (λ n. h (suc n)) j
-
       all_empty : (ls : List (List item.Item)) → IsIdle ls → ls ≡ replicate (length ls) []
       all_empty [] h = refl
       all_empty (m ∷ ls) h = ap (λ y. y ∷ ls) (h 0) ∙ ap (λ ys. [] ∷ ys) (all_empty ls (λ n. h (suc n)))
@@ -382,7 +386,7 @@ pub took_fired : (p : PlanForm) → IsPlan p → (t : Task) → t.bad ≡ None �
     (pending blanks : List (List item.Item)) (spare : Spare) (n : ℕ) → in_ends ins ≡ in_ends t.ins
     → received_in ins ≡ append_at (received_in t.ins) port (x ∷ []) → port < length t.ins → IsHeldOf t.kinds port x → IsIdle t.pending
     → FiredOp p t.op port x t.states st out
-    → pending ≡ map reverse out.outs → blanks ≡ t.pending → n ≡ min most_firings (t.count + 1)
+    → pending ≡ out.outs → blanks ≡ t.pending → n ≡ min most_firings (t.count + 1)
     → HasFiredAt p t (record t { ins = ins; states = st; pending = pending; out = record { outs = blanks; adds = out.adds }; spare = spare; count = n })
 took_fired p v t fine ins port x st out pending blanks spare n e r lt i idle f ep eb en = record {
   did = record {
@@ -418,6 +422,7 @@ took_fired p v t fine ins port x st out pending blanks spare n e r lt i idle f e
         kinds = h.task.kinds;
         outs = h.task.outs;
         pending = h.task.pending;
+        rings = h.task.rings;
         blank = h.task.blank;
         homes = h.task.homes;
         word = h.task.word;

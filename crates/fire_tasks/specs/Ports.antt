@@ -1,7 +1,10 @@
 -- The ends of an operator's queues: rings, and the kept lists of inputs, of outputs and of queues that nobody reads.
-use Rattle.std.specs.Prelude.{◌≡◌, ℕ, ◌+◌, ◌<◌, ◌≤◌, Bool, IsTrue, IsFalse, List, [], ◌∷◌, ◌++◌, length, take, drop, map, ◌⊎◌, slice_index_or, slice_set}
-use mathlib.Core.List.{reverse, IsPrefix}
+use Rattle.std.specs.Prelude.{◌≡◌, ℕ, ◌+◌, ◌<◌, ◌≤◌, Bool, IsTrue, IsFalse, All, Option, Some, List, [], ◌∷◌, ◌++◌, length, take, drop, map, ◌⊎◌, slice_get, slice_index_or, slice_set}
+use mathlib.Core.List.{IsPrefix}
 use Rattle.river_base.specs.declared.item.Item as item
+use Rattle.river_base.specs.declared.kind.FlatType.TheVariants.{Rows}
+use Rattle.river_base.specs.declared.kind.QueueType.{QueueType}
+use Rattle.river_base.specs.declared.kind.QueueType.TheVariants.{Flat as FlatOf}
 use Rattle.river_base.specs.Places.{append_at, list_at}
 use Rattle.river_rings.specs.Ends.{RingId}
 use Rattle.river_rings.specs.Ends as rings
@@ -57,6 +60,21 @@ abbrev pub out_end : outlet.Outlet → OutEnd
 out_end (SendsTo f) = RingOut f.id f.cap
 out_end (Stored line) = ListOut
 
+-- RINGS OF VALUES
+
+-- the type of a queue of rows of one value
+abbrev pub one_value : QueueType
+one_value = FlatOf (Rows 1)
+
+-- it is the end of a ring of values
+abbrev pub SendsValues : OutEnd → Type 0
+SendsValues (RingOut id cap) = IsTrue id.values
+SendsValues ListOut = ⊥
+
+-- the item may be sent there: a ring of values is sent rows of one value
+abbrev pub MaySend : OutEnd → item.Item → Type 0
+MaySend e x = SendsValues e → rings.IsSingle x
+
 -- ALL PORTS
 
 abbrev pub in_ends : List inlet.Inlet → List InEnd
@@ -71,13 +89,13 @@ received_in ins = map received_of ins
 abbrev pub sent_in : List outlet.Outlet → List (List item.Item)
 sent_in outs = map sent_of outs
 
--- what is pending at each port, the front first; it is kept with the front at its end
-abbrev pub pending_in : List (List item.Item) → List (List item.Item)
-pending_in ls = map reverse ls
-
 -- all that was given at a port: what was sent, then what is pending
 abbrev pub given_at : List outlet.Outlet → List (List item.Item) → ℕ → List item.Item
-given_at outs pending j = list_at (sent_in outs) j ++ list_at (pending_in pending) j
+given_at outs pending j = list_at (sent_in outs) j ++ list_at pending j
+
+-- all that was given at each port may be sent there
+abbrev pub MaySendAll : List outlet.Outlet → List (List item.Item) → Type 0
+MaySendAll outs pending = (j : ℕ) (e : OutEnd) → slice_get (out_ends outs) j ≡ Some e → All (MaySend e) (given_at outs pending j)
 
 -- how many items were sent, at all ports
 abbrev pub sent_count : List outlet.Outlet → ℕ
@@ -133,12 +151,11 @@ pub record SentAt (port : ℕ) (outs : List outlet.Outlet) (pending : List (List
   pub others : (j : ℕ) (d : outlet.Outlet) → (port ≡ j → ⊥) → slice_index_or outs' j d ≡ slice_index_or outs j d
   pub stuck : IsFalse moved → IsHeldBack port outs' pending'
 
--- the front of what is pending at a port was sent there, and all other ports are as they were. What is pending is kept with the front at
--- its end
+-- the front of what is pending at a port was sent there, and all other ports are as they were
 pub record HasSentFront (port : ℕ) (outs : List outlet.Outlet) (pending : List (List item.Item)) (outs' : List outlet.Outlet)
     (pending' : List (List item.Item)) : Type 0 where
   pub rest : List item.Item
   pub item : item.Item
-  pub was : list_at pending port ≡ rest ++ item ∷ []
+  pub was : list_at pending port ≡ item ∷ rest
   pub left : pending' ≡ slice_set pending port rest
   pub sent : sent_in outs' ≡ append_at (sent_in outs) port (item ∷ [])

@@ -11,18 +11,23 @@ use Rattle.brooklet_step.specs.Took.{IsBlank}
 use Rattle.class_locks.specs.declared.view.View.{View}
 use Rattle.fire_tasks.specs.declared.task.Task.{Task}
 use Rattle.fire_tasks.specs.Adds.{AreHomes, added, logs_at}
-use Rattle.fire_tasks.specs.Fired.{SeenTask, HasFired, IsHeldAs, kinds_in}
-use Rattle.fire_tasks.specs.Ports.{AreFronts, received_in, sent_in, pending_in, InEnd, OutEnd, in_ends, out_ends, received_count, sent_count, IsIdle, RefusedAll, AllReceived}
+use Rattle.river_base.specs.declared.kind.QueueType.{QueueType}
+use Rattle.fire_tasks.specs.Fired.{SeenTask, HasFired, IsHeldAs, kinds_in, kinds_out}
+use Rattle.fire_tasks.specs.Ports.{AreFronts, received_in, sent_in, one_value, SendsValues, InEnd, OutEnd, in_ends, out_ends, received_count, sent_count, IsIdle, RefusedAll, AllReceived}
 
 -- what the laws see of a task
 abbrev pub seen_task : Task → SeenTask
-seen_task t = record { received = received_in t.ins; sent = sent_in t.outs; pending = pending_in t.pending; bad = t.bad }
+seen_task t = record { received = received_in t.ins; sent = sent_in t.outs; pending = t.pending; bad = t.bad }
 
 -- what the states of the task stand for, and that they fit: it can fire on any item of its ports' types
 pub record StatesStand (p : PlanForm) (op : OpForm) (t : Task) (is : Word) : Type 0 where
   pub fit : FitState op.kernel (kinds_in p op) t.states
   pub after : (w : Word) → IsWordOf (kinds_in p op) w → IsHeldAs (kinds_in p op) w is
       → StandsAfter op.kernel (kinds_in p op) (first_kept op.kernel) t.states w
+
+-- a ring of values stands only where the queue has rows of one value
+abbrev pub FitRings : List QueueType → List OutEnd → Type 0
+FitRings writes outs = (j : ℕ) (e : OutEnd) → slice_get outs j ≡ Some e → SendsValues e → slice_get writes j ≡ Some one_value
 
 -- the task of an operator of a plan, which added these rows, table by table: it fired on some items, and its states stand for those
 -- after them
@@ -33,6 +38,7 @@ pub record IsTask (p : PlanForm) (adds : ℕ → List (List ℤ)) (t : Task) : T
   pub kinds : t.kinds ≡ kinds_in p op
   pub outs : length t.outs ≡ length op.writes
   pub pending : length t.pending ≡ length op.writes
+  pub rings : FitRings (kinds_out p op) (out_ends t.outs)
   pub blank : IsBlank op.kernel t.out
   pub homes : AreHomes p t.op t.tables t.classes
   pub word : Word

@@ -2,7 +2,6 @@
 use Rattle.std.specs.Prelude.{◌≡◌, ◌≢◌, ℕ, ℤ, suc, ◌%◌, ◌+◌, ◌<◌, ◌⊎◌, Bool, IsFalse, Some}
 use Rattle.std.specs.Prelude.{None, List, [], ◌∷◌, ◌++◌, length, map, All, nat_eq, slice_get, slice_index_or, replicate, if◌then◌else◌}
 use Rattle.river_plan.specs.declared.plan.TableDecl.{TableDecl}
-use mathlib.Core.List.{reverse}
 use Rattle.river_base.specs.declared.item.Item as item
 use Rattle.river_base.specs.Places.{append_at, list_at}
 use Rattle.brooklet_step.specs.declared.emit.Emit.{Emit}
@@ -93,7 +92,7 @@ pub record HasFiredOn (p : PlanForm) (t t' : Task) : Type 0 where
   pub sent : t'.outs ≡ t.outs
   pub out : Emit
   pub fired : t'.bad ≡ None → FiredOp p t.op port item t.states t'.states out
-  pub pends : t'.bad ≡ None → t'.pending ≡ map reverse out.outs
+  pub pends : t'.bad ≡ None → t'.pending ≡ out.outs
   pub rows : t'.bad ≡ None → t'.out.adds ≡ out.adds
 
 -- it took an item at a port, and fired on it where its test held: it owes the rows

@@ -20,11 +20,17 @@ use std::thread::yield_now;
 /// How often a pass goes over its tasks, at most, for as long as something moves.
 const SWEEPS: u32 = 1024;
 
-/// What a worker takes from the count of those that find something to do when it begins.
+/// What a worker takes from the count of those that have not ended their round when it begins.
 pub const BEGUN: u64 = 0x1_0000_0000;
 
-/// How often other threads may have the processor, at most, between two looks.
-const TURNS: u32 = 64;
+/// What the count is at least where the workers of a round are in each other's way.
+pub const CROWDED: u64 = 0x1_0000_0000_0000;
+
+/// How often a worker reads the count between two looks, at most.
+const TURNS: u32 = 256;
+
+/// Between how many of its looks, the last, a worker lets other threads have its processor.
+const YIELDS: u32 = 4;
 
 /// The tasks of one worker, with the worker's seat at the locks. It is seen without its plan, so that it is fit for threads.
 #[derive(Drop)]
@@ -69,24 +75,41 @@ fn sweep<G: Gate>(
     Ok(moved)
 }
 
-// Whether every other worker ended its round; where one did not, other threads may have the processor, and more often while a worker has not
-// begun.
+// Whether no more looks are of use: every other worker ended its round, or they are in each other's way.
 fn is_over(busy: &AtomicU64) -> bool {
-    if busy.load(SeqCst) <= 1 {
+    let count = busy.load(SeqCst);
+    count <= 1 || count >= CROWDED
+}
+
+// Whether a worker that has so many looks left need not look any more. Between two looks it keeps its processor, and reads the count
+// for a while; only between its last looks other threads may have the processor.
+fn is_over_then(busy: &AtomicU64, left: u32) -> bool {
+    if is_over(busy) {
         return true;
     }
-    for _turn in 0..TURNS {
+    if left <= YIELDS {
         yield_now();
-        if busy.load(SeqCst) < BEGUN {
-            return false;
+        return false;
+    }
+    for _turn in 0..TURNS {
+        if is_over(busy) {
+            return true;
         }
     }
     false
 }
 
+// Counts workers as in each other's way where one finds something to do between its last looks: many looks were in vain, and as soon
+// as other threads had its processor one was not.
+fn tell_crowded(busy: &AtomicU64, left: u32) {
+    if left < YIELDS {
+        busy.fetch_add(CROWDED, SeqCst);
+    }
+}
+
 // A look at these tasks; where nothing moves it looks again, at most so often, since other workers send and take meanwhile. It stops
-// where no worker finds anything to do: `busy` counts those that do, and in its upper half those that have not begun. No contract
-// speaks of it.
+// where that is of no use: `busy` counts the workers that have not ended their round, in its upper half those that have not begun, and
+// above these how often they were in each other's way. No contract speaks of it.
 fn look_on<G: Gate>(
     alloc: Global,
     plan: &RawPlan,
@@ -106,11 +129,13 @@ fn look_on<G: Gate>(
     ensures blank { pile.new.items ≡ [] }
     ensures swept { IfOk result (HasSwept (plan_form plan.now) seat.old.view seat.new.view tasks.old tasks.new) }
 {
-    for _look in 1..looks {
+    for look in 1..looks {
+        let left = looks - look;
         if sweep(alloc, plan, tasks, seat, pile, gate)? {
+            tell_crowded(busy, left);
             return Ok(true);
         }
-        if is_over(busy) {
+        if is_over_then(busy, left) {
             return sweep(alloc, plan, tasks, seat, pile, gate);
         }
     }
@@ -250,7 +275,7 @@ impl Bundle {
         self.pass_among(plan, gate, &AtomicU64::new(1))
     }
 
-    /// The same, in a round of several bundles: `busy` counts those that find something to do.
+    /// The same, in a round of several bundles: `busy` counts those that have not ended it, as `BEGUN` and `CROWDED` say.
     pub fn pass_among<G: Gate>(
         &mut self,
         plan: &RawPlan,

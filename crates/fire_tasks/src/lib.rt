@@ -9,8 +9,8 @@ mod rounds;
 mod taking;
 mod task;
 
-pub use bundle::{BEGUN, Bundle};
-pub use ports::{Inlet, Kept, Outlet, send_at};
+pub use bundle::{BEGUN, Bundle, CROWDED};
+pub use ports::{Inlet, Kept, Outlet, has_values, send_at};
 pub use rounds::round_of;
 pub use taking::{fire_at, first_ready};
 pub use task::{TablePort, Task};

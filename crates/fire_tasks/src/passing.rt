@@ -2,14 +2,14 @@
 ghost use Rattle.std.specs.Prelude.{◌≡◌, ◌<◌, ◌^◌, None, [], length, slice_index_or, IsTrue, IsFalse, ◌↔◌, IfOk};
 ghost use Rattle.river_plan.specs.Forms.{plan_form};
 ghost use Rattle.river_plan.specs.Valid.{IsPlan};
-ghost use Rattle.fire_tasks.specs.Ports.{IsIdle, RefusedAll, Sent, SentAt, known_of};
+ghost use Rattle.fire_tasks.specs.Ports.{IsIdle, MaySendAll, RefusedAll, Sent, SentAt, known_of};
 ghost use Rattle.fire_tasks.specs.Tasks.{IsTaskAt};
 ghost use Rattle.fire_tasks.specs.Turns.{IsSeatOf, HasTurned, HasTried, StillSits};
 
 use crate::ports::send_at;
 use crate::taking::{first_ready, take_at};
 use crate::{Outlet, Task};
-use brooklet_step::ItemLists;
+use brooklet_step::Lines;
 use class_locks::{Pile, Seat, put_all, take_all};
 use river_base::{Gate, Listed, NoMemory};
 use river_plan::RawPlan;
@@ -20,8 +20,9 @@ const TURN: u32 = 64;
 
 // Sends what is pending at each port, as far as there is room; says whether an item was sent.
 #[tactic(auto, using(crate::proofs::PassLemmas::to_first, crate::proofs::PassLemmas::to_all))]
-fn send_all(outs: &mut Listed<Outlet>, pending: &mut ItemLists) -> Result<bool, NoMemory>
-    requires { length pending.old ≡ length outs.old }
+fn send_all(outs: &mut Listed<Outlet>, pending: &mut Lines) -> Result<bool, NoMemory>
+    requires many { length pending.old ≡ length outs.old }
+    requires may { MaySendAll outs.old pending.old }
     ensures sent { IfOk result (Sent outs.old pending.old outs.new pending.new) }
     ensures stuck { IfOk result (λ moved. IsFalse moved → RefusedAll outs.new pending.new) }
 {
@@ -35,19 +36,16 @@ fn send_all(outs: &mut Listed<Outlet>, pending: &mut ItemLists) -> Result<bool, 
 }
 
 // Sends what is pending at a port, as far as there is room.
-fn send_port(
-    outs: &mut Listed<Outlet>,
-    pending: &mut ItemLists,
-    port: usize,
-) -> Result<bool, NoMemory>
+fn send_port(outs: &mut Listed<Outlet>, pending: &mut Lines, port: usize) -> Result<bool, NoMemory>
     requires outs { port < length outs.old }
     requires pending { port < length pending.old }
+    requires may { MaySendAll outs.old pending.old }
     ensures { IfOk result (SentAt port outs.old pending.old outs.new pending.new) }
 {
     if !send_at(outs, pending, port)? {
         return Ok(false);
     }
-    for _more in 0..pending.at(port).len() {
+    for _more in 0..u64::MAX {
         if !send_at(outs, pending, port)? {
             return Ok(true);
         }
@@ -57,10 +55,10 @@ fn send_port(
 
 /// Whether nothing is pending.
 #[tactic(auto, using(crate::proofs::PortLemmas::idle_all))]
-pub(crate) fn is_idle(pending: &ItemLists) -> bool
+pub(crate) fn is_idle(pending: &Lines) -> bool
     ensures { IsTrue result ↔ IsIdle pending.now }
 {
-    pending.as_slice().iter().all(|items| items.is_empty())
+    pending.as_slice().iter().all(|line| line.is_empty())
 }
 
 // Takes the item at a port under the locks of the task's classes, all of them or none. It says whether they were there.

@@ -1,10 +1,14 @@
 // The ends of an operator's queues.
-ghost use Rattle.std.specs.Prelude.{◌≡◌, ◌+◌, ◌<◌, ◌≤◌, ℕ, [], ◌∷◌, ◌++◌, length, take, IsTrue, IsFalse, true, IfOk, OnOk, OnErr, slice_index_or};
+ghost use Rattle.std.specs.Prelude.{◌≡◌, ◌+◌, ◌<◌, ◌≤◌, ℕ, [], ◌∷◌, ◌++◌, length, take, IsTrue, IsFalse, true, IfOk, OnOk, OnErr, IfSome, IfNone, IsSome, Some, slice_get, slice_index_or};
 ghost use Rattle.river_base.specs.Places.{append_at, list_at};
-ghost use Rattle.fire_tasks.specs.Ports.{received_of, known_of, in_end, in_ends, sent_of, sent_in, sent_count, IsFull, HasRoom, out_end, out_ends, received_in, HasSentFront, SentAt};
+ghost use Rattle.fire_tasks.specs.Ports.{received_of, known_of, in_end, in_ends, sent_of, sent_in, sent_count, IsFull, HasRoom, out_end, out_ends, received_in, HasSentFront, SentAt, one_value, MaySend, MaySendAll};
+ghost use Rattle.river_rings.specs.Ends.{single};
+ghost use Rattle.river_base.specs.declared.item.Item.TheVariants as variant;
+ghost use Rattle.river_base.specs.declared.item.Flat.TheVariants as flat;
 
+use brooklet_step::Lines;
 use kern_rows::Line;
-use river_base::{Item, Items, Listed, NoMemory};
+use river_base::{FlatType, Item, Listed, NoMemory, QueueType};
 use river_rings::{Feed, Take};
 use std::alloc::Global;
 
@@ -44,6 +48,20 @@ impl Inlet {
         }
     }
 
+    /// The value of the next item in the order sent, which is known to be there. Where none is given nothing is received: so it is where
+    /// the item is no row of one value, or is not kept as its value.
+    pub fn pop_value(&mut self) -> Option<i64>
+        requires { 0 < length (known_of self.old) }
+        ensures same { in_end self.new ≡ in_end self.old }
+        ensures received { IfSome result (λ value. received_of self.new ≡ received_of self.old ++ single value ∷ []) }
+        ensures none { IfNone result (self.new ≡ self.old) }
+    {
+        match self {
+            Inlet::Ring(take) => take.next_value(),
+            Inlet::Kept(kept) => next_value(kept),
+        }
+    }
+
     /// The next item in the order sent, which is known to be there.
     pub fn pop(&mut self, alloc: Global) -> Result<Item, NoMemory>
         requires { 0 < length (known_of self.old) }
@@ -71,6 +89,27 @@ fn next_kept(alloc: Global, kept: &mut Kept) -> Result<Item, NoMemory>
     Ok(item)
 }
 
+// The value of the next item of a kept list, where it is a row of one value that is kept so.
+fn next_value(kept: &mut Kept) -> Option<i64>
+    requires { kept.old.taken < length kept.old.line }
+    ensures same { kept.new.line ≡ kept.old.line }
+    ensures taken { IfSome result (λ value. take kept.new.taken kept.new.line ≡ take kept.old.taken kept.old.line ++ single value ∷ []) }
+    ensures none { IfNone result (kept.new ≡ kept.old) }
+{
+    let after = kept.taken.checked_add(1)?;
+    let value = value_at(&kept.line, kept.taken)?;
+    kept.taken = after;
+    Some(value)
+}
+
+// The value at a place of a line, where there is a row of one value that is kept so.
+fn value_at(line: &Line, place: usize) -> Option<i64>
+    ensures { IfSome result (λ value. slice_get line.now place ≡ Some (single value)) }
+{
+    let row = line.row_at(place)?;
+    if row.len() == 1 { Some(row[0]) } else { None }
+}
+
 impl Outlet {
     /// Whether an item can be sent: so it is, unless a ring holds as many as it may, for all that is known.
     pub fn has_room(&mut self) -> bool
@@ -86,9 +125,10 @@ impl Outlet {
         }
     }
 
-    /// Sends an item, where there is room. Where there is no memory nothing is sent.
+    /// Sends an item that may be sent there, where there is room. Where there is no memory nothing is sent.
     pub fn put(&mut self, item: Item) -> Result<(), NoMemory>
-        requires { HasRoom self.old }
+        requires room { HasRoom self.old }
+        requires may { MaySend (out_end self.old) item }
         ensures same { out_end self.new ≡ out_end self.old }
         ensures ok { OnOk result (sent_of self.new ≡ sent_of self.old ++ item ∷ []) }
         ensures err { OnErr result (sent_of self.new ≡ sent_of self.old) }
@@ -99,6 +139,25 @@ impl Outlet {
                 Ok(())
             }
             Outlet::Kept(line) => line.push(item),
+        }
+    }
+
+    /// Sends a row of these 1 to 16 values that may be sent there, where there is room. Where there is no memory nothing is sent.
+    pub fn put_row(&mut self, row: &[i64]) -> Result<(), NoMemory>
+        requires some { 1 ≤ length row.now }
+        requires at_most { length row.now ≤ 16 }
+        requires room { HasRoom self.old }
+        requires may { MaySend (out_end self.old) (variant.Flat (flat.One row.now)) }
+        ensures same { out_end self.new ≡ out_end self.old }
+        ensures ok { OnOk result (sent_of self.new ≡ sent_of self.old ++ variant.Flat (flat.One row.now) ∷ []) }
+        ensures err { OnErr result (sent_of self.new ≡ sent_of self.old) }
+    {
+        match self {
+            Outlet::Ring(feed) => {
+                feed.put_row(row);
+                Ok(())
+            }
+            Outlet::Kept(line) => line.push_values(row),
         }
     }
 }
@@ -129,6 +188,39 @@ pub(crate) fn pop_at(alloc: Global, ins: &mut Listed<Inlet>, port: usize) -> Res
     ins.at_mut(port).pop(alloc)
 }
 
+/// Whether a port's queue has rows of one value.
+pub fn has_values(kinds: &Listed<QueueType>, port: usize) -> bool
+    requires { port < length kinds.now }
+    ensures { IsTrue result → slice_get kinds.now port ≡ Some one_value }
+{
+    match kinds.at(port) {
+        QueueType::Flat(FlatType::Rows(width)) => *width == 1,
+        _ => false,
+    }
+}
+
+/// The value of the next item at a port whose queue has rows of one value, where one is known to be there. Where none is given nothing is
+/// received.
+#[tactic(auto, using(crate::proofs::PortLemmas::ins_set, crate::proofs::PortLemmas::received_more))]
+pub(crate) fn pop_value_at(
+    ins: &mut Listed<Inlet>,
+    kinds: &Listed<QueueType>,
+    port: usize,
+) -> Option<i64>
+    requires there { port < length ins.old }
+    requires kind { port < length kinds.now }
+    requires known { (d : _) → 0 < length (known_of (slice_index_or ins.old port d)) }
+    ensures same { in_ends ins.new ≡ in_ends ins.old }
+    ensures received { IfSome result (λ value. received_in ins.new ≡ append_at (received_in ins.old) port (single value ∷ [])) }
+    ensures values { IsSome result → slice_get kinds.now port ≡ Some one_value }
+    ensures none { IfNone result (ins.new ≡ ins.old) }
+{
+    if !has_values(kinds, port) {
+        return None;
+    }
+    ins.at_mut(port).pop_value()
+}
+
 // Whether an item can be sent at a port.
 #[tactic(auto, using(crate::proofs::PortLemmas::outs_set, crate::proofs::PortLemmas::sent_same))]
 fn has_room_at(outs: &mut Listed<Outlet>, port: usize) -> bool
@@ -144,16 +236,34 @@ fn has_room_at(outs: &mut Listed<Outlet>, port: usize) -> bool
     outs.at_mut(port).has_room()
 }
 
-// Sends the front of what is pending at a port that has room.
-fn send_front(
-    outs: &mut Listed<Outlet>,
-    pending: &mut Listed<Items>,
-    port: usize,
-) -> Result<(), NoMemory>
+// Sends the front of what is pending at a port that has room: a row that is kept as values goes as these.
+fn send_front(outs: &mut Listed<Outlet>, pending: &mut Lines, port: usize) -> Result<(), NoMemory>
     requires outs { port < length outs.old }
     requires pending { port < length pending.old }
     requires some { list_at pending.old port ≡ [] → ⊥ }
     requires room { (d : _) → HasRoom (slice_index_or outs.old port d) }
+    requires may { MaySendAll outs.old pending.old }
+    ensures sent { OnOk result (SentAt port outs.old pending.old outs.new pending.new true) }
+    ensures one { OnOk result (sent_count outs.new ≡ sent_count outs.old + 1) }
+    ensures front { OnOk result (HasSentFront port outs.old pending.old outs.new pending.new) }
+{
+    match pending.at(port).front_values() {
+        Some(row) => {
+            outs.at_mut(port).put_row(row)?;
+            pending.at_mut(port).drop_front();
+            Ok(())
+        }
+        None => send_item(outs, pending, port),
+    }
+}
+
+// The same, as an item.
+fn send_item(outs: &mut Listed<Outlet>, pending: &mut Lines, port: usize) -> Result<(), NoMemory>
+    requires outs { port < length outs.old }
+    requires pending { port < length pending.old }
+    requires some { list_at pending.old port ≡ [] → ⊥ }
+    requires room { (d : _) → HasRoom (slice_index_or outs.old port d) }
+    requires may { MaySendAll outs.old pending.old }
     ensures sent { OnOk result (SentAt port outs.old pending.old outs.new pending.new true) }
     ensures one { OnOk result (sent_count outs.new ≡ sent_count outs.old + 1) }
     ensures front { OnOk result (HasSentFront port outs.old pending.old outs.new pending.new) }
@@ -167,11 +277,12 @@ fn send_front(
 /// Sends the front of what is pending at a port, where there is room; says whether an item was sent.
 pub fn send_at(
     outs: &mut Listed<Outlet>,
-    pending: &mut Listed<Items>,
+    pending: &mut Lines,
     port: usize,
 ) -> Result<bool, NoMemory>
     requires outs { port < length outs.old }
     requires pending { port < length pending.old }
+    requires may { MaySendAll outs.old pending.old }
     ensures sent { IfOk result (SentAt port outs.old pending.old outs.new pending.new) }
     ensures one { IfOk result (λ moved. IsTrue moved → sent_count outs.new ≡ sent_count outs.old + 1) }
     ensures front { IfOk result (λ moved. IsTrue moved → HasSentFront port outs.old pending.old outs.new pending.new) }

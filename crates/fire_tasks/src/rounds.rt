@@ -14,7 +14,7 @@ use std::thread::Threads;
 /// The most passes of a bundle in a round.
 const MOST_PASSES: u32 = 1024;
 
-// A round of a bundle: passes, until one moves nothing. Behind it the bundle counts no more as one that finds something to do.
+// A round of a bundle: passes, until one moves nothing. Behind it the bundle counts no more as one that has not ended it.
 fn work<G: Gate>(plan: &RawPlan, bundle: &mut Bundle, gate: &G, busy: &AtomicU64)
     requires { IsReady plan.now bundle.old }
     ensures { HasMadeRound plan.now bundle.old bundle.new }

@@ -1,20 +1,21 @@
 // Taking an item, and firing on it.
-ghost use Rattle.std.specs.Prelude.{◌≡◌, ◌+◌, ◌<◌, min, ℕ, ℤ, List, ◌++◌, length, map, OnOk, IfSome, IfNone, IsTrue, ◌↔◌, slice_index_or, Some, None};
-ghost use mathlib.Core.List.{reverse};
+ghost use Rattle.std.specs.Prelude.{◌≡◌, ◌+◌, ◌<◌, min, ℕ, ℤ, List, ◌++◌, length, OnOk, IfSome, IfNone, IsTrue, ◌↔◌, slice_index_or, Some, None};
 ghost use Rattle.brooklet_model.specs.Histories.{most_firings};
 ghost use Rattle.river_plan.specs.Forms.{plan_form};
 ghost use Rattle.river_plan.specs.Valid.{IsPlan};
 ghost use Rattle.fire_tasks.specs.Ports.{IsIdle, known_of, in_ends, received_in, AllReceived};
 ghost use Rattle.fire_tasks.specs.Tasks.{IsTask};
 ghost use Rattle.brooklet_step.specs.Given.{IsHeldOf};
+ghost use Rattle.brooklet_step.specs.Reading.{CanFire, IsBlankOf, FiredOp};
+ghost use Rattle.river_rings.specs.Ends.{single};
 ghost use Rattle.fire_tasks.specs.Turns.{HasFiredAt, HasTakenAt, HaveGained, AreCellsOf};
 
 use crate::adding::add_rows;
-use crate::ports::{pop_at, ready_at};
+use crate::ports::{pop_at, pop_value_at, ready_at};
 use crate::{Inlet, Task};
-use brooklet_step::{ItemLists, fire_op, item_fits};
+use brooklet_step::{Emit, Spare, States, fire_op, fire_values, item_fits};
 use class_locks::Pile;
-use river_base::{Gate, Item, Items, Listed, NoMemory, QueueType};
+use river_base::{Gate, Item, Listed, NoMemory, QueueType};
 use river_plan::RawPlan;
 use std::alloc::Global;
 use std::mem::swap;
@@ -46,27 +47,29 @@ fn is_fit(kinds: &Listed<QueueType>, port: usize, item: &Item) -> bool
     item_fits(kinds.at(port), item)
 }
 
-// The items of a list, the first last.
-fn turn(items: &mut Items)
-    ensures { items.new ≡ reverse items.old }
-{
-    items.as_mut_slice().reverse();
-}
-
-// The items of each list, the first last.
-fn turn_all(lists: &mut ItemLists)
-    ensures { lists.new ≡ map reverse lists.old }
-{
-    for place in 0..lists.len() {
-        turn(lists.at_mut(place));
-    }
-}
-
 // The next count: the greatest stays.
 fn next_count(count: usize) -> usize
     ensures { result ≡ min most_firings (count + 1) }
 {
     if count < MOST { count + 1 } else { MOST }
+}
+
+// What an operator gives for a row of one value at one of its ports.
+fn fire_value(
+    alloc: Global,
+    plan: &RawPlan,
+    op: u32,
+    port: u32,
+    value: i64,
+    states: &mut States,
+    out: &mut Emit,
+    spare: &mut Spare,
+) -> Result<(), NoMemory>
+    requires can { CanFire (plan_form plan.now) op port (single value) states.old }
+    requires blank { IsBlankOf (plan_form plan.now) op out.old }
+    ensures { OnOk result (FiredOp (plan_form plan.now) op port (single value) states.old states.new out.new) }
+{
+    fire_values(alloc, plan, op, port, &[value], states, out, spare)
 }
 
 /// Takes the item at a port, and fires on it where its port's queue may hold it. The rows of the firing are left in the task's lists.
@@ -85,6 +88,22 @@ pub fn fire_at<G: Gate>(
     requires known { (d : _) → 0 < length (known_of (slice_index_or task.old.ins port d)) }
     ensures { OnOk result (HasFiredAt (plan_form plan.now) task.old task.new) }
 {
+    if let Some(value) = pop_value_at(&mut task.ins, &task.kinds, port as usize) {
+        gate.enter(task.op);
+        fire_value(
+            alloc,
+            plan,
+            task.op,
+            port,
+            value,
+            &mut task.states,
+            &mut task.out,
+            &mut task.spare,
+        )?;
+        swap(&mut task.pending, &mut task.out.outs);
+        task.count = next_count(task.count);
+        return Ok(());
+    }
     let item = pop_at(alloc, &mut task.ins, port as usize)?;
     if !is_fit(&task.kinds, port as usize, &item) {
         keep_bad(&mut task.bad, port, item);
@@ -101,7 +120,6 @@ pub fn fire_at<G: Gate>(
         &mut task.out,
         &mut task.spare,
     )?;
-    turn_all(&mut task.out.outs);
     swap(&mut task.pending, &mut task.out.outs);
     task.count = next_count(task.count);
     Ok(())

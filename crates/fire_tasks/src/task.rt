@@ -1,7 +1,7 @@
 // A task: what one operator has.
 
 use crate::{Inlet, Outlet};
-use brooklet_step::{Emit, ItemLists, Spare, States};
+use brooklet_step::{Emit, Lines, Spare, States};
 use river_base::{Item, Listed, QueueType};
 
 /// Where an operator's rows for one of its tables go.
@@ -26,8 +26,8 @@ pub struct Task {
     pub states: States,
     /// Where it sends to, port by port.
     pub outs: Listed<Outlet>,
-    /// What is pending at each of these ports, the front last.
-    pub pending: ItemLists,
+    /// What is pending at each of these ports.
+    pub pending: Lines,
     /// Empty lists for what the next firing gives.
     pub out: Emit,
     /// Lists that firings used, whose memory is used again.

@@ -3,4 +3,4 @@
 
 mod ends;
 
-pub use ends::{Feed, Take, beside, ring};
+pub use ends::{Feed, Take, beside, ring, ring_of_values};

@@ -1,5 +1,5 @@
 use Rattle.std.proofs.Common.{◌<◌, ◌∙◌, length, get_or, subst, ap, sym, arith, get_or-set_other}
-use Rattle.std.specs.Prelude.{slice_set}
+use Rattle.std.specs.Prelude.{slice_get, slice_set}
 use Rattle.std.proofs.lemmas.List.{length-set}
 use Rattle.fire_tasks.specs.declared.task.Task.{Task}
 use Rattle.fire_tasks.specs.declared.ports.Inlet.TheVariants.{Ring as TakesFrom}
@@ -29,4 +29,5 @@ returns c =
     subst (λ ts. Put c.args.cap c.args.tasks.now ts c.args.link)
     (sym (r.2 ∙ ap (λ ts. slice_set ts c.args.link.reader (with_in r.0 c.args.link.port (TakesFrom c.in_ok-feed.take))) w.2))
     (put_is c.args.cap c.args.tasks.now c.args.link c.in_ok-feed.feed c.in_ok-feed.take w.0 r.0 w.1 (r.1 ∙ ap (λ ts. get_or ts c.args.link.reader r.0) w.2)
-    c.requires.order c.requires.reader c.in_ok-feed.ensures.ends c.in_ok-feed.ensures.feed c.in_ok-feed.ensures.take)
+    c.requires.order c.requires.reader c.in_ok-feed.ensures.ends c.in_ok-feed.ensures.feed c.in_ok-feed.ensures.take
+    (λ d values. sym (ap (λ (y : Task). slice_get y.kinds c.args.link.port) (c.at.ensures d)) ∙ c.in_ok-feed.ensures.values values))

@@ -58,14 +58,14 @@ returns-clause-swept g c =
     moved c.loop-look.invariant.swept h)
     c.sweep-2.ensures.swept
 
-pub returns-then-is_over-clause-swept : goal.returns-then-is_over-clause-swept
-returns-then-is_over-clause-swept g c =
+pub returns-then-is_over_then-clause-swept : goal.returns-then-is_over_then-clause-swept
+returns-then-is_over_then-clause-swept g c =
     let p = plan_form c.args.plan.now in
     let v = c.args.seat.now.view in
     let u = c.sweep.new.seat.view in
-    IfOk-weaker c.sweep-then-is_over.result _ _
-    (λ moved h. swept_then p v u c.sweep-then-is_over.new.seat.view c.args.tasks.now c.sweep.new.tasks c.sweep-then-is_over.new.tasks moved
+    IfOk-weaker c.sweep-then-is_over_then.result _ _
+    (λ moved h. swept_then p v u c.sweep-then-is_over_then.new.seat.view c.args.tasks.now c.sweep.new.tasks c.sweep-then-is_over_then.new.tasks moved
     (swept_more p v c.loop-look.seat.view u c.args.tasks.now c.loop-look.tasks c.sweep.new.tasks c.in_ok-sweep.field-0 c.loop-look.invariant.swept
     c.sweep.ensures.sits c.in_ok-sweep.ensures.swept c.if-branch.false)
     h)
-    c.sweep-then-is_over.ensures.swept
+    c.sweep-then-is_over_then.ensures.swept

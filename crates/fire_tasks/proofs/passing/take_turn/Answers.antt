@@ -1,7 +1,15 @@
 use Rattle.std.proofs.Common.{◌≡◌, true}
 use Rattle.river_plan.specs.Forms.{plan_form}
+use Rattle.fire_tasks.specs.Adds.{added, logs_at}
+use Rattle.fire_tasks.proofs.PassLemmas.{task_may}
 use Rattle.fire_tasks.proofs.TurnLemmas.{turned_sent, turned_none, turned_took, turned_busy, looked_at, sits_none}
 use Rattle.fire_tasks.proofs.passing.take_turn.Goals as goal
+
+pub send_all-requires-clause-may : goal.send_all-requires-clause-may
+send_all-requires-clause-may g c =
+    let v = c.args.seat.now.view in
+    let t = c.args.task.now in
+    task_may (plan_form c.args.plan.now) (added (plan_form c.args.plan.now) (logs_at v t.op) t.op) t c.requires.task
 
 pub returns-then-not-is_idle-clause-turned : goal.returns-then-not-is_idle-clause-turned
 returns-then-not-is_idle-clause-turned g c =
