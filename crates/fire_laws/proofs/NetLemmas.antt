@@ -20,10 +20,10 @@ use Rattle.fire_laws.specs.Joins.{Joins, AreBeside, lists_by_name}
 use Rattle.brooklet_model.proofs.BoundedMoves.{reader_of}
 use Rattle.brooklet_model.proofs.Received.{writer_of}
 use Rattle.fire_laws.proofs.Joining.{join_law, lists_at, place_of, spread_out, spread_lists}
-use Rattle.fire_tasks.specs.declared.ports.Inlet as inlet
-use Rattle.fire_tasks.specs.declared.ports.Inlet.TheVariants.{Ring as TakesFrom, Kept as Given}
-use Rattle.fire_tasks.specs.declared.ports.Outlet as outlet
-use Rattle.fire_tasks.specs.declared.ports.Outlet.TheVariants.{Ring as SendsTo, Kept as Stored}
+use Rattle.fire_tasks.specs.Inlet as inlet
+use Rattle.fire_tasks.specs.Inlet.{TakesFrom, Given}
+use Rattle.fire_tasks.specs.Outlet as outlet
+use Rattle.fire_tasks.specs.Outlet.{SendsTo, Stored}
 use Rattle.fire_tasks.specs.declared.task.Task.{Task}
 use Rattle.fire_laws.specs.Layout.{IsLink, IsSettled, IsInput, HasEnds, AreLaid, AreTasks, AreSettled, known_at, known_in, sent_at, left_in, seen_at, MakeNet}
 use Rattle.fire_tasks.specs.Ports.{received_of, received_in, known_of, sent_of, sent_in}

@@ -18,8 +18,8 @@ use Rattle.fire_tasks.specs.Fired.{kinds_out}
 use Rattle.brooklet_model.specs.Received.{lengths_at, moves_from}
 use Rattle.brooklet_model.proofs.FewMoves.{few_law, lists_lengths}
 use Rattle.fire_laws.proofs.Joining.{lists_at}
-use Rattle.fire_tasks.specs.declared.ports.Inlet as inlet
-use Rattle.fire_tasks.specs.declared.ports.Outlet as outlet
+use Rattle.fire_tasks.specs.Inlet as inlet
+use Rattle.fire_tasks.specs.Outlet as outlet
 use Rattle.fire_tasks.specs.declared.task.Task.{Task}
 use Rattle.fire_laws.specs.Facts.{NumbersAreFew}
 use Rattle.fire_tasks.specs.Ports.{received_in, received_count, sent_in, sent_count}

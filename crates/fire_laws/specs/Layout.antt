@@ -1,5 +1,5 @@
 -- Tasks by the numbers of their operators, and rings between them.
-use Rattle.std.specs.Prelude.{◌≡◌, ℕ, ℤ, zero, suc, ◌≤◌, ◌<◌, min, slice_index_or, List, [], ◌∷◌, ◌++◌, Some, None, length, slice_get}
+use Rattle.std.specs.Prelude.{◌≡◌, ℕ, ℤ, zero, suc, ◌<◌, min, slice_index_or, List, [], ◌∷◌, Some, None, length, slice_get}
 use Rattle.river_base.specs.declared.item.Item as item
 use Rattle.river_base.specs.Places.{list_at}
 use Rattle.river_plan.specs.Forms.{Name, OpForm, PlanForm}
@@ -11,12 +11,13 @@ use Rattle.brooklet_model.specs.Laws.{given_to}
 use Rattle.brooklet_model.specs.Words.{Word}
 use Rattle.brooklet_step.specs.Given.{StandsAfter}
 use Rattle.fire_tasks.specs.Fired.{SeenTask, Gave, kinds_in}
-use Rattle.fire_tasks.specs.declared.ports.Inlet as inlet
-use Rattle.fire_tasks.specs.declared.ports.Inlet.TheVariants.{Ring as TakesFrom, Kept as Given}
-use Rattle.fire_tasks.specs.declared.ports.Outlet as outlet
-use Rattle.fire_tasks.specs.declared.ports.Outlet.TheVariants.{Ring as SendsTo, Kept as Stored}
+use Rattle.fire_tasks.specs.Inlet as inlet
+use Rattle.fire_tasks.specs.Inlet.{TakesFrom, Given}
+use Rattle.fire_tasks.specs.Outlet as outlet
+use Rattle.fire_tasks.specs.Outlet.{SendsTo, Stored}
 use Rattle.fire_tasks.specs.declared.task.Task.{Task}
 use Rattle.fire_tasks.specs.Ports.{known_of}
+pub use Rattle.fire_tasks.specs.Ports.{IsPair, IsSettled, IsStored}
 use Rattle.fire_tasks.specs.Tasks.{IsTask, seen_task}
 use Rattle.fire_laws.specs.Joins.{Joins, lists_by_name}
 
@@ -26,21 +27,10 @@ IsLink cap (SendsTo f) (TakesFrom t) = (t.id ≡ f.id) × (t.cap ≡ cap) × (f.
 IsLink cap (SendsTo f) (Given k) = ⊥
 IsLink cap (Stored xs) i = ⊥
 
--- the taking end knows all that was sent, and the sending end all that was received
-abbrev pub IsSettled : outlet.Outlet → inlet.Inlet → Type 0
-IsSettled (SendsTo f) (TakesFrom t) = (t.received ++ t.known ≡ f.sent) × (length t.known ≤ t.cap) × (f.waiting ≤ length t.known)
-IsSettled (SendsTo f) (Given k) = ⊥
-IsSettled (Stored xs) i = ⊥
-
 -- a kept list of these items
 abbrev pub IsInput : List item.Item → inlet.Inlet → Type 0
 IsInput xs (TakesFrom t) = ⊥
 IsInput xs (Given k) = k.line ≡ xs
-
--- a kept list, for what nobody reads
-abbrev pub IsStored : outlet.Outlet → Type 0
-IsStored (SendsTo f) = ⊥
-IsStored (Stored xs) = Unit {0}
 
 -- one operator's port writes what another's reads, and these are the ends there
 pub record HasEnds (p : PlanForm) (ts : List Task) (o o' port j : ℕ) (q : Name) (f : outlet.Outlet) (i : inlet.Inlet) : Type 0 where
@@ -113,9 +103,3 @@ pub record MakeNet (p : PlanForm) (inputs : List (List item.Item)) (caps : Capac
   pub stands : (o : ℕ) (op : OpForm) (t : Task) → slice_get p.ops o ≡ Some op → slice_get ts o ≡ Some t
       → StandsAfter op.kernel (kinds_in p op) (first_kept op.kernel) t.states (joins.words o)
   pub counts : (o : ℕ) (op : OpForm) (t : Task) → slice_get p.ops o ≡ Some op → slice_get ts o ≡ Some t → t.count ≡ min most_firings (length (joins.words o))
-
--- the two ends of one ring
-abbrev pub IsPair : outlet.Outlet → inlet.Inlet → Type 0
-IsPair (SendsTo f) (TakesFrom t) = t.id ≡ f.id
-IsPair (SendsTo f) (Given k) = ⊥
-IsPair (Stored xs) i = ⊥

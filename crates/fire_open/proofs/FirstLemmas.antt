@@ -1,5 +1,5 @@
 -- The first tasks are fresh.
-use Rattle.std.proofs.Common.{◌≡◌, ℕ, zero, suc, ◌+◌, ◌<◌, Option, Some, None, List, [], ◌∷◌, ◌++◌, length, map, refl, sym, ap, ◌∙◌, arith, subst, length-append}
+use Rattle.std.proofs.Common.{◌≡◌, ℕ, zero, suc, ◌+◌, ◌<◌, ◌≤◌, Option, Some, None, List, [], ◌∷◌, ◌++◌, length, map, refl, sym, ap, ◌∙◌, arith, subst, length-append}
 use Rattle.std.specs.Prelude.{slice_get, replicate, All}
 use Rattle.std.proofs.lemmas.List.{length-map, length-replicate, map-append}
 use Rattle.std.proofs.lemmas.List.Elements.{All-nil, All-cons}
@@ -30,10 +30,10 @@ use Rattle.brooklet_step.specs.Given.{held_at, held_by, IsHeldOf, StandsAfter}
 use Rattle.brooklet_step.proofs.ReadLemmas.{places_at}
 use Rattle.brooklet_step.proofs.StartLemmas.{first_hist, queues_many}
 use Rattle.fire_tasks.specs.Fired.{ports_of, kinds_in, kinds_out, bad_at, IsBad}
-use Rattle.fire_tasks.specs.declared.ports.Outlet.TheVariants.{Kept as Stored}
+use Rattle.fire_tasks.specs.Outlet.{Stored}
 use Rattle.fire_tasks.specs.declared.task.Task.{Task}
 use Rattle.fire_laws.specs.Layout.{IsInput, IsStored}
-use Rattle.fire_tasks.specs.Ports.{OutEnd, SendsValues, out_end, out_ends, received_of, received_in, sent_of, sent_in}
+use Rattle.fire_tasks.specs.Ports.{OutEnd, SendsRows, out_end, out_ends, received_of, received_in, sent_of, sent_in}
 use Rattle.fire_tasks.specs.Adds.{AreHomes}
 use Rattle.fire_open.specs.First.{first_lines, whole_list, IsFirstTask, AreFirstTasks}
 use Rattle.fire_open.specs.Fresh.{IsFresh, AreFresh}
@@ -103,9 +103,9 @@ none_out zero j = refl
 none_out (suc n) zero = refl
 none_out (suc n) (suc j) = none_out n j
 
-none_sends : (n j : ℕ) (e : OutEnd) → slice_get (out_ends (replicate n (Stored []))) j ≡ Some e → SendsValues e → ⊥
+none_sends : (n j : ℕ) (e : OutEnd) → slice_get (out_ends (replicate n (Stored []))) j ≡ Some e → SendsRows e → ⊥
 none_sends zero j e at v = absurd (cc at)
-none_sends (suc n) zero e at v = subst SendsValues (sym (same_Some (out_end (Stored [])) e at)) v
+none_sends (suc n) zero e at v = let l : 1 ≤ 0 = subst SendsRows (sym (same_Some (out_end (Stored [])) e at)) v in absurd (omega (arith, l))
 none_sends (suc n) (suc j) e at v = none_sends n j e at v
 
 none_pending : (n j : ℕ) → list_at (replicate {A = List item.Item} n []) j ≡ []

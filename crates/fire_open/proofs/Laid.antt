@@ -10,9 +10,9 @@ use Rattle.river_plan.specs.Valid.{IsPlan}
 use Rattle.brooklet_model.proofs.Traces.{one_place, place_once, got_count, at_most}
 use Rattle.brooklet_model.specs.Bounded.{Capacities}
 use Rattle.brooklet_model.proofs.BoundedMoves.{reader_behind}
-use Rattle.fire_tasks.specs.declared.ports.Inlet as inlet
-use Rattle.fire_tasks.specs.declared.ports.Outlet as outlet
-use Rattle.fire_tasks.specs.declared.ports.Outlet.TheVariants.{Ring as SendsTo, Kept as Stored}
+use Rattle.fire_tasks.specs.Inlet as inlet
+use Rattle.fire_tasks.specs.Outlet as outlet
+use Rattle.fire_tasks.specs.Outlet.{SendsTo, Stored}
 use Rattle.fire_open.specs.declared.settling.Link.{Link}
 use Rattle.fire_tasks.specs.declared.task.Task.{Task}
 use Rattle.fire_laws.specs.Layout.{IsStored, AreLaid, AreTasks, AreSettled, HasEnds}

@@ -1,24 +1,24 @@
 -- Rings are put between tasks, one after another.
 use Rattle.std.proofs.Common.{◌≡◌, ℕ, ◌+◌, ◌<◌, inl, inr, ⊎_elim, Some, List, [], length, map, refl, sym, ap, ◌∙◌, arith, subst, get_or, set, ◌++◌, get_or-set_other}
-use Rattle.std.specs.Prelude.{IsTrue, slice_get}
+use Rattle.std.specs.Prelude.{slice_get}
 use Rattle.std.proofs.lemmas.Bool.{cases_lt}
 use Rattle.std.proofs.lemmas.Option.{get_or_from_slice_get, slice_get_within, same_Some}
 use Rattle.std.proofs.lemmas.List.{get_or_default}
 use Rattle.river_base.proofs.Lists.{there_is}
 use Rattle.river_base.specs.Places.{list_at}
-use Rattle.fire_tasks.specs.declared.ports.Inlet as inlet
-use Rattle.fire_tasks.specs.declared.ports.Inlet.TheVariants.{Ring as TakesFrom}
-use Rattle.fire_tasks.specs.declared.ports.Outlet as outlet
-use Rattle.fire_tasks.specs.declared.ports.Outlet.TheVariants.{Ring as SendsTo}
+use Rattle.fire_tasks.specs.Inlet as inlet
+use Rattle.fire_tasks.specs.Inlet.{TakesFrom}
+use Rattle.fire_tasks.specs.Outlet as outlet
+use Rattle.fire_tasks.specs.Outlet.{SendsTo}
 use Rattle.river_rings.specs.Ends.{Sending, Taking}
 use Rattle.fire_open.specs.declared.settling.Link.{Link}
 use Rattle.fire_tasks.specs.declared.task.Task.{Task}
 use Rattle.fire_laws.specs.Layout.{IsLink, IsSettled}
-use Rattle.fire_tasks.specs.Ports.{one_value, sent_of, sent_in, received_of, received_in}
+use Rattle.fire_tasks.specs.Ports.{SendsRows, out_end, rows_of, width_of, sent_of, sent_in, received_of, received_in}
 use Rattle.fire_open.specs.Settling.{with_out, with_in}
 use Rattle.fire_laws.proofs.NetLemmas.{received_here, sent_here}
 use Rattle.fire_tasks.proofs.PortLemmas.{received_same}
-use Rattle.fire_open.specs.Links.{FitsLink, LinkEnds, IsThere, Put, ShareAnEnd}
+use Rattle.fire_open.specs.Links.{FitsLink, IsBlankRing, LinkEnds, IsThere, Put, ShareAnEnd}
 use Rattle.fire_open.specs.Rings.{AreUnmoved, AreThere, TaskBody, body, AreRung}
 use Rattle.fire_open.proofs.Lists.{same_got, map_long}
 use Rattle.fire_open.proofs.SettleLemmas.{after_task, view_stays, same_or, sent_stays, reader_is, writer_is}
@@ -202,14 +202,13 @@ rung_next room ts0 ts ts' ls n l th g h put = record {
         (same_or l.reader l2.reader l.port l2.port)
 
 -- an empty ring was put there
-pub put_is : (cap : ℕ) (ts : List Task) (l : Link) (feed : Sending) (take : Taking) (w r : Task) → w ≡ get_or ts l.writer w
-    → r ≡ get_or (set ts l.writer (with_out w l.out (SendsTo feed))) l.reader r → l.writer < l.reader → l.reader < length ts → take.id ≡ feed.id
-    → (feed.cap ≡ cap) × (feed.sent ≡ []) × (feed.waiting ≡ 0) → (take.cap ≡ cap) × (take.received ≡ []) × (take.known ≡ [])
-    → ((d : Task) → IsTrue feed.id.values → slice_get (get_or ts l.reader d).kinds l.port ≡ Some one_value)
-    → Put cap ts (set (set ts l.writer (with_out w l.out (SendsTo feed))) l.reader (with_in r l.port (TakesFrom take))) l
-put_is cap ts l feed take w r wi ri lt lr id f t fit = record {
-  out = SendsTo feed;
-  in_ = TakesFrom take;
+pub put_is : (cap : ℕ) (ts : List Task) (l : Link) (out : outlet.Outlet) (in_ : inlet.Inlet) (w r : Task) → w ≡ get_or ts l.writer w
+    → r ≡ get_or (set ts l.writer (with_out w l.out out)) l.reader r → l.writer < l.reader → l.reader < length ts → IsBlankRing cap out in_
+    → ((d : Task) → SendsRows (out_end out) → slice_get (get_or ts l.reader d).kinds l.port ≡ Some (rows_of (width_of (out_end out))))
+    → Put cap ts (set (set ts l.writer (with_out w l.out out)) l.reader (with_in r l.port in_)) l
+put_is cap ts l out in_ w r wi ri lt lr h fit = record {
+  out = out;
+  in_ = in_;
   swapped = record {
     writer = w;
     reader = r;
@@ -217,16 +216,26 @@ put_is cap ts l feed take w r wi ri lt lr id f t fit = record {
     reader_is = λ d. sym (reader_is ∙ get_or_default ts l.reader r d lr);
     after = refl;
   };
+  link = h.link;
+  settled = h.settled;
+  fits = λ rows. subst (λ (y : Task). slice_get y.kinds l.port ≡ Some (rows_of (width_of (out_end out)))) (sym reader_is) (fit r rows);
+  sent = h.sent;
+  received = h.received;
+}
+  where
+    reader_is : r ≡ get_or ts l.reader r
+    reader_is = ri ∙ get_or-set_other ts l.writer l.reader (with_out w l.out out) r (λ e. omega (arith, e, lt))
+
+-- the ends of an empty ring, as they are seen
+pub blank_ring : (cap : ℕ) (feed : Sending) (take : Taking) → take.id ≡ feed.id → (feed.cap ≡ cap) × (feed.sent ≡ []) × (feed.waiting ≡ 0)
+    → (take.cap ≡ cap) × (take.received ≡ []) × (take.known ≡ []) → IsBlankRing cap (SendsTo feed) (TakesFrom take)
+blank_ring cap feed take id f t = record {
   link = (id, t.0, f.0);
   settled = (
     (λ j. t.1 j ++ t.2 j) ∙ sym f.1,
     (let k = ap length t.2 in omega (arith, k)),
     (let w = f.2 in omega (arith, w)),
   );
-  fits = λ values. subst (λ (y : Task). slice_get y.kinds l.port ≡ Some one_value) (sym reader_is) (fit r values);
   sent = f.1;
   received = t.1;
 }
-  where
-    reader_is : r ≡ get_or ts l.reader r
-    reader_is = ri ∙ get_or-set_other ts l.writer l.reader (with_out w l.out (SendsTo feed)) r (λ e. omega (arith, e, lt))

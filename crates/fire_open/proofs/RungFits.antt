@@ -1,15 +1,14 @@
--- Rings of values stand only where queues have rows of one value.
+-- Rings of rows stand only where queues have rows of their widths.
 use Rattle.std.proofs.Common.{◌≡◌, ℕ, zero, suc, ◌<◌, inl, inr, ⊎_elim, Some, List, [], ◌∷◌, length, map, refl, sym, ap, ◌∙◌, arith, subst}
 use Rattle.std.specs.Prelude.{◌⊎◌, slice_get}
 use Rattle.std.proofs.lemmas.Option.{slice_get_within, same_Some}
 use Rattle.river_base.proofs.Lists.{got_map}
 use Rattle.river_base.specs.declared.item.Item as item
-use Rattle.river_base.specs.declared.kind.QueueType.{QueueType}
 use Rattle.river_plan.specs.Forms.{OpForm, PlanForm, all_decls}
 use Rattle.river_plan.specs.Kinds.{kind_of}
 use Rattle.fire_tasks.specs.declared.task.Task.{Task}
 use Rattle.fire_tasks.specs.Fired.{kinds_in, kinds_out}
-use Rattle.fire_tasks.specs.Ports.{SendsValues, one_value, out_end, out_ends}
+use Rattle.fire_tasks.specs.Ports.{SendsRows, rows_of, width_of, out_end, out_ends}
 use Rattle.fire_tasks.specs.Tasks.{FitRings, IsTask}
 use Rattle.fire_open.specs.declared.settling.Link.{Link}
 use Rattle.fire_open.specs.Fresh.{AreFresh}
@@ -53,7 +52,7 @@ module _ (p : PlanForm) (inputs : List (List item.Item)) (room : Link → ℕ) (
       let e : f.task.op ≡ op = same_Some f.task.op op (sym f.task.op_is ∙ ap (slice_get p.ops) f.number ∙ gop) in
       ap (λ (b : TaskBody). b.kinds) x.2 ∙ f.task.kinds ∙ ap (kinds_in p) e
 
-  -- the reader of a link whose ring is of values has rows of one value there
+  -- the reader of a link whose ring is of rows has rows of this width there
   module _ (m : ℕ) (l : Link) (gl : slice_get ls m ≡ Some l) where
     here : IsThere ts l
     here = rung_there ts0 ts l r.bodies (there.each m l gl)
@@ -61,38 +60,41 @@ module _ (p : PlanForm) (inputs : List (List item.Item)) (room : Link → ℕ) (
     lk : IsLinkOf p l
     lk = links.right m l gl
 
-    read_kind : SendsValues (out_end here.out) → slice_get (kinds_in p lk.read) l.port ≡ Some one_value
-    read_kind values =
+    read_kind : SendsRows (out_end here.out) → slice_get (kinds_in p lk.read) l.port ≡ Some (rows_of (width_of (out_end here.out)))
+    read_kind rows =
         let x = here.ends in
         let w = r.rung m l here.out here.in_ (slice_get_within ls m l gl) gl x in
-        sym (ap (λ ks. slice_get ks l.port) (kinds_here l.reader x.t lk.read x.t_is lk.read_is)) ∙ w.2 values
+        sym (ap (λ ks. slice_get ks l.port) (kinds_here l.reader x.t lk.read x.t_is lk.read_is)) ∙ w.2 rows
 
-    write_kind : SendsValues (out_end here.out) → slice_get (kinds_out p lk.write) l.out ≡ Some one_value
-    write_kind values =
+    write_kind : SendsRows (out_end here.out) → slice_get (kinds_out p lk.write) l.out ≡ Some (rows_of (width_of (out_end here.out)))
+    write_kind rows =
         let kind = kind_of (all_decls p) in
-        let q : kind lk.queue ≡ one_value =
-        same_Some (kind lk.queue) one_value (sym (got_map kind lk.read.reads l.port lk.queue lk.reads) ∙ read_kind values) in
+        let wide = rows_of (width_of (out_end here.out)) in
+        let q : kind lk.queue ≡ wide =
+        same_Some (kind lk.queue) wide (sym (got_map kind lk.read.reads l.port lk.queue lk.reads) ∙ read_kind rows) in
         got_map kind lk.write.writes l.out lk.queue lk.writes ∙ ap Some q
 
   -- so the rings fit the queues
   pub rung_fits : (o : ℕ) (t t0 : Task) → slice_get ts o ≡ Some t → (g0 : slice_get ts0 o ≡ Some t0)
       → FitRings (kinds_out p (h.each o t0 g0).task.op) (out_ends t.outs)
   unfolding here lk
-  rung_fits o t t0 g g0 j e at values =
+  rung_fits o t t0 g g0 j e at rows =
       let i = map_back out_end t.outs j e at in
       ⊎_elim
       (λ free. k.rings j e
-      (got_map out_end t0.outs j i.0 (sym (r.outs o j t t0 g g0 free) ∙ i.1) ∙ ap Some i.2) values)
+      (got_map out_end t0.outs j i.0 (sym (r.outs o j t t0 g g0 free) ∙ i.1) ∙ ap Some i.2) rows)
       (λ f.
       let l = f.1 in
       let n = here f.0 l f.2 in
       let et : n.ends.t' ≡ t = same_Some n.ends.t' t (sym n.ends.t_is' ∙ ap (slice_get ts) f.3 ∙ g) in
       let ei : n.out ≡ i.0 = same_Some n.out i.0
       (sym n.ends.out_is ∙ ap (λ (y : Task). slice_get y.outs l.out) et ∙ ap (slice_get t.outs) f.4 ∙ i.1) in
-      let sends = subst SendsValues (sym (ap out_end ei ∙ i.2)) values in
+      let end = ap out_end ei ∙ i.2 in
+      let sends = subst SendsRows (sym end) rows in
       let eo : (lk f.0 l f.2).write ≡ op = same_Some (lk f.0 l f.2).write op (sym (lk f.0 l f.2).write_is ∙ ap (slice_get p.ops) f.3 ∙ op_is) in
       sym (ap (λ (y : OpForm). slice_get (kinds_out p y) j) eo) ∙ sym (ap (slice_get (kinds_out p (lk f.0 l f.2).write)) f.4)
-      ∙ write_kind f.0 l f.2 sends)
+      ∙ write_kind f.0 l f.2 sends
+      ∙ ap (λ x. Some (rows_of (width_of x))) end)
       (find_link (λ l. l.writer) (λ l. l.out) ls o j)
     where
       k : IsTask p (λ j. []) t0

@@ -10,10 +10,10 @@ use Rattle.brooklet_step.specs.Given.{FitState, StandsAfter}
 use Rattle.brooklet_step.specs.Took.{IsBlank}
 use Rattle.fire_tasks.specs.Fired.{SeenTask, HasFired, kinds_in, kinds_out}
 use Rattle.fire_tasks.specs.declared.task.Task.{Task}
-use Rattle.fire_tasks.specs.declared.ports.Inlet as inlet
-use Rattle.fire_tasks.specs.declared.ports.Inlet.TheVariants.{Ring as TakesFrom, Kept as Given}
-use Rattle.fire_tasks.specs.declared.ports.Outlet as outlet
-use Rattle.fire_tasks.specs.declared.ports.Outlet.TheVariants.{Ring as SendsTo, Kept as Stored}
+use Rattle.fire_tasks.specs.Inlet as inlet
+use Rattle.fire_tasks.specs.Inlet.{TakesFrom, Given}
+use Rattle.fire_tasks.specs.Outlet as outlet
+use Rattle.fire_tasks.specs.Outlet.{SendsTo, Stored}
 use Rattle.fire_tasks.specs.Ports.{in_end, out_end, in_ends, out_ends, sent_in, sent_of, sent_count, RingIn, RingOut}
 use Rattle.river_rings.specs.Ends.{RingId}
 use Rattle.fire_laws.specs.Layout.{IsLink, IsPair, IsInput, AreTasks}

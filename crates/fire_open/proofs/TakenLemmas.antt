@@ -13,7 +13,7 @@ use Rattle.river_plan.specs.Valid.{IsPlan}
 use Rattle.river_plan.proofs.PlaceLemmas.{place_apart}
 use Rattle.brooklet_model.proofs.Traces.{one_place, place_once, got_count, at_most}
 use Rattle.brooklet_step.proofs.ReadLemmas.{places_at}
-use Rattle.fire_tasks.specs.declared.ports.Inlet as inlet
+use Rattle.fire_tasks.specs.Inlet as inlet
 use Rattle.fire_tasks.specs.declared.task.Task.{Task}
 use Rattle.fire_open.specs.First.{whole_list, IsNoneOf, HasLeft, AreUnread, IsFirstTask, AreFirstTasks}
 use Rattle.fire_open.proofs.FirstLemmas.{map_got, reads_there, first_none, first_more}

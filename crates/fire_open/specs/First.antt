@@ -8,9 +8,9 @@ use Rattle.river_plan.specs.Forms.{OpForm, PlanForm}
 use Rattle.river_plan.specs.Places.{read_places, write_places}
 use Rattle.brooklet_step.specs.Initial.{AreFirstStates}
 use Rattle.brooklet_step.specs.Took.{IsBlank}
-use Rattle.fire_tasks.specs.declared.ports.Inlet as inlet
-use Rattle.fire_tasks.specs.declared.ports.Inlet.TheVariants.{Kept as Given}
-use Rattle.fire_tasks.specs.declared.ports.Outlet.TheVariants.{Kept as Stored}
+use Rattle.fire_tasks.specs.Inlet as inlet
+use Rattle.fire_tasks.specs.Inlet.{Given}
+use Rattle.fire_tasks.specs.Outlet.{Stored}
 use Rattle.fire_tasks.specs.declared.task.Task.{Task}
 use Rattle.fire_tasks.specs.Adds.{AreHomes}
 

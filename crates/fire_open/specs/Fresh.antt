@@ -3,8 +3,8 @@ use Rattle.std.specs.Prelude.{◌≡◌, ℕ, List, [], length, Some, slice_get}
 use Rattle.river_base.specs.declared.item.Item as item
 use Rattle.river_plan.specs.Forms.{Name, OpForm, PlanForm}
 use Rattle.brooklet_model.specs.Laws.{given_to}
-use Rattle.fire_tasks.specs.declared.ports.Inlet as inlet
-use Rattle.fire_tasks.specs.declared.ports.Outlet as outlet
+use Rattle.fire_tasks.specs.Inlet as inlet
+use Rattle.fire_tasks.specs.Outlet as outlet
 use Rattle.fire_tasks.specs.declared.task.Task.{Task}
 use Rattle.fire_laws.specs.Layout.{IsInput, IsStored}
 use Rattle.fire_tasks.specs.Ports.{received_of, sent_of}

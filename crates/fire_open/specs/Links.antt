@@ -2,12 +2,12 @@
 use Rattle.std.specs.Prelude.{◌≡◌, ℕ, ◌<◌, ◌⊎◌, List, [], Option, None, Some, slice_get, slice_set, slice_index_or}
 use Rattle.river_plan.specs.Caps.{OwnCaps, capacity}
 use Rattle.river_plan.specs.Forms.{Name, OpForm, PlanForm}
-use Rattle.fire_tasks.specs.declared.ports.Inlet as inlet
-use Rattle.fire_tasks.specs.declared.ports.Outlet as outlet
+use Rattle.fire_tasks.specs.Inlet as inlet
+use Rattle.fire_tasks.specs.Outlet as outlet
 use Rattle.fire_open.specs.declared.settling.Link.{Link}
 use Rattle.fire_tasks.specs.declared.task.Task.{Task}
 use Rattle.fire_laws.specs.Layout.{IsLink, IsPair, IsSettled}
-use Rattle.fire_tasks.specs.Ports.{SendsValues, one_value, out_end, received_of, sent_of}
+use Rattle.fire_tasks.specs.Ports.{SendsRows, rows_of, width_of, out_end, received_of, sent_of}
 use Rattle.fire_open.specs.Settling.{with_out, with_in}
 
 -- the writer's port writes the queue that the reader's port reads
@@ -61,9 +61,16 @@ pub record Swapped (ts ts' : List Task) (l : Link) (out : outlet.Outlet) (in_ : 
   pub reader_is : (d : Task) → slice_index_or ts l.reader d ≡ reader
   pub after : ts' ≡ slice_set (slice_set ts l.writer (with_out writer l.out out)) l.reader (with_in reader l.port in_)
 
--- a ring of values was put only where the reader's port has rows of one value
+-- the two ends of an empty ring of this capacity
+pub record IsBlankRing (cap : ℕ) (out : outlet.Outlet) (in_ : inlet.Inlet) : Type 0 where
+  pub link : IsLink cap out in_
+  pub settled : IsSettled out in_
+  pub sent : sent_of out ≡ []
+  pub received : received_of in_ ≡ []
+
+-- a ring of rows was put only where the reader's port has rows of its width
 abbrev pub FitsLink : Task → Link → outlet.Outlet → Type 0
-FitsLink reader l f = SendsValues (out_end f) → slice_get reader.kinds l.port ≡ Some one_value
+FitsLink reader l f = SendsRows (out_end f) → slice_get reader.kinds l.port ≡ Some (rows_of (width_of (out_end f)))
 
 -- an empty ring was put there
 pub record Put (cap : ℕ) (ts ts' : List Task) (l : Link) : Type 0 where

@@ -5,8 +5,8 @@ use Rattle.river_base.specs.declared.kind.QueueType.{QueueType}
 use Rattle.brooklet_step.specs.declared.emit.Emit.{Emit}
 use Rattle.brooklet_step.specs.declared.state.State.{State}
 use Rattle.fire_tasks.specs.Fired.{SeenTask}
-use Rattle.fire_tasks.specs.declared.ports.Inlet as inlet
-use Rattle.fire_tasks.specs.declared.ports.Outlet as outlet
+use Rattle.fire_tasks.specs.Inlet as inlet
+use Rattle.fire_tasks.specs.Outlet as outlet
 use Rattle.fire_open.specs.declared.settling.Link.{Link}
 use Rattle.fire_tasks.specs.declared.task.TablePort.{TablePort}
 use Rattle.fire_tasks.specs.declared.task.Task.{Task}

@@ -1,18 +1,11 @@
 -- Two ends that looked.
-use Rattle.std.specs.Prelude.{◌≡◌, ℕ, List, slice_set, slice_index_or}
-use Rattle.fire_tasks.specs.declared.ports.Inlet as inlet
-use Rattle.fire_tasks.specs.declared.ports.Outlet as outlet
+use Rattle.std.specs.Prelude.{◌≡◌, List, slice_set, slice_index_or}
+use Rattle.fire_tasks.specs.Inlet as inlet
+use Rattle.fire_tasks.specs.Outlet as outlet
 use Rattle.fire_open.specs.declared.settling.Link.{Link}
 use Rattle.fire_tasks.specs.declared.task.Task.{Task}
-use Rattle.fire_laws.specs.Layout.{IsSettled}
-use Rattle.fire_tasks.specs.Ports.{in_end, out_end, received_of, sent_of}
-
--- a task with another end at a port
-abbrev pub with_out : Task → ℕ → outlet.Outlet → Task
-with_out t j f = record t { outs = slice_set t.outs j f }
-
-abbrev pub with_in : Task → ℕ → inlet.Inlet → Task
-with_in t port i = record t { ins = slice_set t.ins port i }
+pub use Rattle.fire_tasks.specs.Tasks.{with_in, with_out}
+use Rattle.fire_tasks.specs.Ports.{IsSettled, in_end, out_end, received_of, sent_of}
 
 -- the ends of a link looked, and nothing else changed
 pub record Met (ts ts' : List Task) (l : Link) : Type 0 where

@@ -131,16 +131,13 @@ fn ports_of(
     let mut ports = Listed::new(alloc);
     for table in tables.as_slice() {
         let place = place_of(own, *classes.at(*table as usize));
-        ports.push(TablePort {
-            table: *table,
-            place,
-        })?;
+        ports.push(TablePort::new(*table, place))?;
     }
     Ok(ports)
 }
 
 /// Where an operator's rows go, and the classes of its tables.
-pub fn homes_of(
+pub(crate) fn homes_of(
     alloc: Global,
     plan: &Plan,
     op: usize,

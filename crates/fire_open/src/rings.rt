@@ -1,36 +1,55 @@
 // The rings of a net.
-ghost use Rattle.std.specs.Prelude.{◌≡◌, ◌<◌, ◌≤◌, [], Some, length, IsTrue, IfOk, OnOk, slice_get, slice_index_or, slice_set};
-ghost use Rattle.river_rings.specs.Ends.{AreEnds};
-ghost use Rattle.fire_tasks.specs.Ports.{one_value};
+ghost use Rattle.std.specs.Prelude.{◌≡◌, ◌<◌, ◌≤◌, Some, length, IfOk, OnOk, slice_get, slice_index_or, slice_set};
+ghost use Rattle.fire_tasks.specs.Ports.{SendsRows, out_end, rows_of, width_of};
 ghost use Rattle.river_plan.specs.Caps.{IsCap, AreCaps, IsOwnCap, first_cap, own_of};
 ghost use Rattle.river_plan.specs.Forms.{Name};
-ghost use Rattle.fire_open.specs.Links.{AreLinks, IsLinkOf, Put, room_of};
+ghost use Rattle.fire_open.specs.Links.{AreLinks, IsBlankRing, IsLinkOf, Put, room_of};
 ghost use Rattle.fire_open.specs.Rings.{AreThere, AreRung};
 ghost use Rattle.fire_open.specs.Settling.{with_in, with_out};
-ghost use Rattle.fire_tasks.specs.declared.ports.Inlet.TheVariants.{Ring as TakesFrom};
-ghost use Rattle.fire_tasks.specs.declared.ports.Outlet.TheVariants.{Ring as SendsTo};
 
 use crate::Link;
-use fire_tasks::{Inlet, Outlet, Task, has_values};
+use fire_tasks::{Inlet, Outlet, Task};
 use river_base::{Listed, NoMemory};
 use river_plan::{Caps, CapsByName, Plan};
-use river_rings::{Feed, Take, ring, ring_of_values};
+use river_rings::{ring, ring_of_rows};
 use std::alloc::Global;
-use std::mem::replace;
 
-// An empty ring for a port of a reader: one of values, where its queue has rows of one value.
-fn ring_for(alloc: Global, reader: &Task, port: usize, cap: u32) -> Result<(Feed, Take), NoMemory>
+// The two ends of an empty ring for a port of a reader: one of rows, where its queue has rows.
+fn ring_for(
+    alloc: Global,
+    reader: &Task,
+    port: usize,
+    cap: u32,
+) -> Result<(Outlet, Inlet), NoMemory>
     requires { (1 ≤ cap) × (cap ≤ 65536) }
-    ensures ends { IfOk result (λ r. AreEnds r.0 r.1) }
-    ensures feed { IfOk result (λ r. (r.0.cap ≡ cap) × (r.0.sent ≡ []) × (r.0.waiting ≡ 0)) }
-    ensures take { IfOk result (λ r. (r.1.cap ≡ cap) × (r.1.received ≡ []) × (r.1.known ≡ [])) }
-    ensures values { IfOk result (λ r. IsTrue r.0.id.values → slice_get reader.now.kinds port ≡ Some one_value) }
+    ensures ring { IfOk result (λ r. IsBlankRing cap r.0 r.1) }
+    ensures fits { IfOk result (λ r. SendsRows (out_end r.0) → slice_get reader.now.kinds port ≡ Some (rows_of (width_of (out_end r.0)))) }
 {
-    if port < reader.kinds.len() && has_values(&reader.kinds, port) {
-        ring_of_values(alloc, cap)
-    } else {
-        ring(alloc, cap)
+    match reader.width_at(port) {
+        Some(width) => row_ring(alloc, width, cap),
+        None => item_ring(alloc, cap),
     }
+}
+
+// Those of a ring of items.
+fn item_ring(alloc: Global, cap: u32) -> Result<(Outlet, Inlet), NoMemory>
+    requires { (1 ≤ cap) × (cap ≤ 65536) }
+    ensures ring { IfOk result (λ r. IsBlankRing cap r.0 r.1) }
+    ensures width { IfOk result (λ r. width_of (out_end r.0) ≡ 0) }
+{
+    let (feed, take) = ring(alloc, cap)?;
+    Ok((Outlet::of_items(feed), Inlet::of_items(take)))
+}
+
+// Those of a ring of rows.
+fn row_ring(alloc: Global, width: u32, cap: u32) -> Result<(Outlet, Inlet), NoMemory>
+    requires width { (1 ≤ width) × (width ≤ 16) }
+    requires cap { (1 ≤ cap) × (cap ≤ 65536) }
+    ensures ring { IfOk result (λ r. IsBlankRing cap r.0 r.1) }
+    ensures width { IfOk result (λ r. width_of (out_end r.0) ≡ width) }
+{
+    let (feed, take) = ring_of_rows(alloc, width, cap)?;
+    Ok((Outlet::of_rows(feed), Inlet::of_rows(take)))
 }
 
 // An empty ring for a link.
@@ -42,30 +61,30 @@ fn put_ring(alloc: Global, tasks: &mut Listed<Task>, link: Link, cap: u32) -> Re
     requires port { (d : _) → link.port < length (slice_index_or tasks.old link.reader d).ins }
     ensures { OnOk result (Put cap tasks.old tasks.new link) }
 {
-    let (feed, take) = ring_for(alloc, tasks.at(link.reader), link.port, cap)?;
-    put_feed(tasks, link, feed);
-    put_take(tasks, link, take);
+    let (outlet, inlet) = ring_for(alloc, tasks.at(link.reader), link.port, cap)?;
+    put_outlet(tasks, link, outlet);
+    put_inlet(tasks, link, inlet);
     Ok(())
 }
 
 // The end of a ring that the writer of a link has.
-fn put_feed(tasks: &mut Listed<Task>, link: Link, feed: Feed)
+fn put_outlet(tasks: &mut Listed<Task>, link: Link, outlet: Outlet)
     requires writer { link.writer < length tasks.old }
     requires out { (d : _) → link.out < length (slice_index_or tasks.old link.writer d).outs }
-    ensures { (w : _) × (w ≡ slice_index_or tasks.old link.writer w) × (tasks.new ≡ slice_set tasks.old link.writer (with_out w link.out (SendsTo feed))) }
+    ensures { (w : _) × (w ≡ slice_index_or tasks.old link.writer w) × (tasks.new ≡ slice_set tasks.old link.writer (with_out w link.out outlet)) }
 {
-    let outlet = tasks.at_mut(link.writer).outs.at_mut(link.out);
-    drop(replace(outlet, Outlet::Ring(feed)));
+    let writer = tasks.at_mut(link.writer);
+    writer.put_out(link.out, outlet);
 }
 
 // The end of a ring that the reader of a link has.
-fn put_take(tasks: &mut Listed<Task>, link: Link, take: Take)
+fn put_inlet(tasks: &mut Listed<Task>, link: Link, inlet: Inlet)
     requires reader { link.reader < length tasks.old }
     requires port { (d : _) → link.port < length (slice_index_or tasks.old link.reader d).ins }
-    ensures { (r : _) × (r ≡ slice_index_or tasks.old link.reader r) × (tasks.new ≡ slice_set tasks.old link.reader (with_in r link.port (TakesFrom take))) }
+    ensures { (r : _) × (r ≡ slice_index_or tasks.old link.reader r) × (tasks.new ≡ slice_set tasks.old link.reader (with_in r link.port inlet)) }
 {
-    let inlet = tasks.at_mut(link.reader).ins.at_mut(link.port);
-    drop(replace(inlet, Inlet::Ring(take)));
+    let reader = tasks.at_mut(link.reader);
+    reader.put_in(link.port, inlet);
 }
 
 /// An empty ring for each link, which holds as many items as its queue has room for: `cap`, where

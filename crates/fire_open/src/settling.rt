@@ -1,14 +1,12 @@
 // Both ends of each ring look.
 ghost use Rattle.std.specs.Prelude.{◌≡◌, ◌<◌, length, map, slice_index_or};
-ghost use Rattle.fire_tasks.specs.Ports.{received_of, sent_of, in_end, out_end};
-ghost use Rattle.fire_laws.specs.Layout.{IsPair, IsSettled};
+ghost use Rattle.fire_tasks.specs.Ports.{IsPair};
 ghost use Rattle.fire_open.specs.Links.{ArePaired, ShareNoEnd, AreMet};
 ghost use Rattle.fire_open.specs.Settling.{Met};
 ghost use Rattle.fire_open.specs.Still.{still};
 
-use fire_tasks::{Inlet, Outlet, Task};
+use fire_tasks::Task;
 use river_base::Listed;
-use river_rings::beside;
 
 /// A queue between two operators: the port that writes it, and the port that reads it.
 #[derive(Clone, Copy)]
@@ -17,22 +15,6 @@ pub struct Link {
     pub out: usize,
     pub reader: usize,
     pub port: usize,
-}
-
-// The two ends of a ring look.
-fn meet(outlet: &mut Outlet, inlet: &mut Inlet)
-    requires { IsPair outlet.old inlet.old }
-    ensures settled { IsSettled outlet.new inlet.new }
-    ensures outlet { (out_end outlet.new ≡ out_end outlet.old) × (sent_of outlet.new ≡ sent_of outlet.old) }
-    ensures inlet { (in_end inlet.new ≡ in_end inlet.old) × (received_of inlet.new ≡ received_of inlet.old) }
-{
-    match outlet {
-        Outlet::Ring(feed) => match inlet {
-            Inlet::Ring(take) => beside(feed, take),
-            Inlet::Kept(_) => unreachable!(),
-        },
-        Outlet::Kept(_) => unreachable!(),
-    }
 }
 
 // The two ends of the ring of a link look.
@@ -49,7 +31,7 @@ fn settle_one(tasks: &mut Listed<Task>, link: Link)
     let (before, after) = tasks.as_mut_slice().split_at_mut(link.reader);
     let writer = &mut before[link.writer];
     let reader = &mut after[0];
-    meet(writer.outs.at_mut(link.out), reader.ins.at_mut(link.port));
+    writer.meet(link.out, reader, link.port);
 }
 
 /// Both ends of each ring look; afterwards they know of each other.

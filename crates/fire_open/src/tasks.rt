@@ -9,14 +9,14 @@ ghost use Rattle.brooklet_model.specs.Fit.{Fit};
 ghost use Rattle.brooklet_step.specs.Initial.{AreFirstStates};
 ghost use Rattle.brooklet_step.specs.Took.{IsBlank};
 ghost use Rattle.fire_tasks.specs.Adds.{AreHomes};
-ghost use Rattle.fire_tasks.specs.declared.ports.Outlet.TheVariants.{Kept as Stored};
+ghost use Rattle.fire_tasks.specs.Outlet.{Stored};
 ghost use Rattle.fire_open.specs.First.{whole_list, IsFirstTask, AreFirstTasks, HasLeft};
 ghost use Rattle.fire_open.specs.Fresh.{AreFresh};
 ghost use Rattle.fire_open.specs.Homes.{AreTableClasses};
 
 use crate::homes::{Places, homes_of, table_classes};
-use brooklet_step::{Emit, Lines, Spare, States, first_queues, first_states};
-use fire_tasks::{Inlet, Kept, Outlet, TablePort, Task};
+use brooklet_step::{Emit, Lines, States, first_queues, first_states};
+use fire_tasks::{Inlet, Outlet, TablePort, Task};
 use kern_rows::Line;
 use plan_check::queue_kinds;
 use river_base::{Listed, NoMemory, QueueType};
@@ -31,7 +31,7 @@ fn whole_list(alloc: Global, queues: &mut Lines, place: usize) -> Inlet
     ensures left { queues.new ≡ slice_set queues.old place [] }
 {
     let line = replace(queues.at_mut(place), Line::new(alloc));
-    Inlet::Kept(Kept { line, taken: 0 })
+    Inlet::kept(line)
 }
 
 // Kept lists of the lines at these places.
@@ -71,7 +71,7 @@ fn outs_of(alloc: Global, count: usize) -> Result<Listed<Outlet>, NoMemory>
 {
     let mut outs = Listed::new(alloc);
     for _out in 0..count {
-        outs.push(Outlet::Kept(Line::new(alloc)))?;
+        outs.push(Outlet::kept(alloc))?;
     }
     Ok(outs)
 }
@@ -97,20 +97,8 @@ fn task_of(
     let (ins, kinds) = taken_from(alloc, plan.reads_of(op as usize), queues, kinds)?;
     let (outs, pending) = sent_to(alloc, plan.writes_of(op as usize).len())?;
     let (first, homes) = kept_of(alloc, plan, op, classes)?;
-    Ok(Task {
-        op,
-        ins,
-        kinds,
-        states: first.0,
-        outs,
-        pending,
-        out: first.1,
-        spare: Spare::new(alloc),
-        tables: homes.0,
-        classes: homes.1,
-        count: 0,
-        bad: None,
-    })
+    let task = Task::new(alloc, op, (ins, kinds), (outs, pending), first, homes);
+    Ok(task)
 }
 
 // Where an operator takes from, which are kept lists at first, and the types of these queues.

@@ -5,14 +5,15 @@ use Rattle.std.proofs.lemmas.Bool.{cases_eq, cases_lt}
 use Rattle.std.proofs.lemmas.List.{append-nil, length-set, get_or-set_same, get_or_default}
 use Rattle.std.proofs.lemmas.Option.{get_or_from_slice_get, slice_get-get_or}
 use Rattle.river_plan.specs.Forms.{PlanForm}
-use Rattle.fire_tasks.specs.declared.ports.Inlet as inlet
+use Rattle.fire_tasks.specs.Inlet as inlet
 use Rattle.fire_tasks.specs.declared.task.Task.{Task}
 use Rattle.fire_tasks.specs.Adds.{added, logs_of}
 use Rattle.fire_tasks.specs.Ports.{in_ends, received_in}
 use Rattle.fire_tasks.specs.Tasks.{IsTask, IsDone, TaskEnds, ends_of, all_ends, moves, all_moves}
 use Rattle.fire_laws.specs.Layout.{AreTasks}
 use Rattle.class_locks.specs.Logs.{Holding}
-use Rattle.fire_run.specs.Cells.{AreSingle, HaveAdded, HaveMoved, cells_grown}
+use Rattle.fire_tasks.specs.Rows.{cells_grown}
+use Rattle.fire_run.specs.Cells.{AreSingle, HaveAdded, HaveMoved}
 use Rattle.fire_run.specs.Moves.{CanSend, CanSendFrom}
 use Rattle.fire_run.specs.NetOf.{AreIdle, OneMore}
 use Rattle.fire_open.specs.Still.{Still, still}

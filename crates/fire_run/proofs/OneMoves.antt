@@ -10,7 +10,7 @@ use Rattle.river_plan.specs.Forms.{PlanForm}
 use Rattle.river_plan.specs.Valid.{IsPlan}
 use Rattle.brooklet_model.specs.Bounded.{Capacities}
 use Rattle.class_locks.specs.Logs.{Holding}
-use Rattle.fire_tasks.specs.declared.ports.Inlet as inlet
+use Rattle.fire_tasks.specs.Inlet as inlet
 use Rattle.fire_tasks.specs.declared.task.Task.{Task}
 use Rattle.fire_tasks.specs.Ports.{IsIdle, in_ends, received_in, sent_in}
 use Rattle.fire_tasks.specs.Adds.{added, logs_of}
@@ -20,14 +20,13 @@ use Rattle.fire_tasks.specs.Turns.{HasFiredAt, logged}
 use Rattle.fire_tasks.proofs.PassLemmas.{looked_task, looked_word, with_ins}
 use Rattle.fire_tasks.proofs.PortLemmas.{ins_many}
 use Rattle.fire_open.specs.Still.{Still, still}
-use Rattle.fire_run.specs.Cells.{cells_grown}
+use Rattle.fire_tasks.specs.Rows.{CanAddTo, cells_grown}
 use Rattle.fire_run.specs.OneMove.{LastMoved, MayHaveMoved, Moves, Takes, TakesFront}
 use Rattle.fire_open.proofs.Lists.{map_set}
 use Rattle.fire_run.specs.declared.net.Net.{Net}
 use Rattle.fire_run.specs.NetOf.{AreIdle, IsNetOf}
 use Rattle.fire_run.proofs.Standing.{can_send}
 use Rattle.fire_run.proofs.TakenFronts.{front_taken, sents}
-use Rattle.fire_run.specs.Rows.{CanAddTo}
 use Rattle.fire_run.proofs.MoveLemmas.{Walked, walked_long}
 use Rattle.fire_run.proofs.RowLemmas.{word_after}
 

@@ -26,7 +26,7 @@ use Rattle.brooklet_model.proofs.Traces.{got_count, at_most}
 use Rattle.brooklet_step.proofs.Edges.{output_held}
 use Rattle.brooklet_step.proofs.QueuePlaces.{place_is}
 use Rattle.brooklet_step.proofs.ReadLemmas.{places_at}
-use Rattle.fire_tasks.specs.declared.ports.Outlet as outlet
+use Rattle.fire_tasks.specs.Outlet as outlet
 use Rattle.fire_tasks.specs.declared.task.Task.{Task}
 use Rattle.fire_tasks.specs.Ports.{sent_of}
 use Rattle.fire_laws.specs.Layout.{IsStored}

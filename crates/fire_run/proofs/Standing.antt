@@ -19,10 +19,10 @@ use Rattle.brooklet_model.proofs.BoundedMoves.{reader_behind, reader_of}
 use Rattle.brooklet_model.proofs.Received.{writer_of}
 use Rattle.fire_laws.proofs.Joining.{place_of}
 use Rattle.fire_tasks.specs.Fired.{SeenTask}
-use Rattle.fire_tasks.specs.declared.ports.Inlet as inlet
-use Rattle.fire_tasks.specs.declared.ports.Inlet.TheVariants.{Ring as TakesFrom, Kept as Given}
-use Rattle.fire_tasks.specs.declared.ports.Outlet as outlet
-use Rattle.fire_tasks.specs.declared.ports.Outlet.TheVariants.{Ring as SendsTo, Kept as Stored}
+use Rattle.fire_tasks.specs.Inlet as inlet
+use Rattle.fire_tasks.specs.Inlet.{TakesFrom, Given}
+use Rattle.fire_tasks.specs.Outlet as outlet
+use Rattle.fire_tasks.specs.Outlet.{SendsTo, Stored}
 use Rattle.fire_tasks.specs.declared.task.Task.{Task}
 use Rattle.fire_laws.specs.Layout.{IsLink, IsSettled, IsInput, IsStored, AreLaid, AreTasks, HasEnds}
 use Rattle.fire_tasks.specs.Ports.{in_end, received_of, known_of, sent_of, HasRoom}

@@ -1,15 +1,11 @@
 -- The cells of a net, to whose logs firings add.
-use Rattle.std.specs.Prelude.{◌≡◌, ◌≢◌, ℕ, suc, ◌<◌, List, [], ◌∷◌, ◌++◌, length, slice_index_or}
+use Rattle.std.specs.Prelude.{◌≡◌, ◌≢◌, ℕ, ◌<◌, List, length, slice_index_or}
 use Rattle.river_plan.specs.Forms.{PlanForm}
 use Rattle.class_locks.specs.declared.log.LogEntry.{LogEntry}
 use Rattle.class_locks.specs.Logs.{Holding}
 use Rattle.fire_tasks.specs.declared.task.Task.{Task}
 use Rattle.fire_tasks.specs.Adds.{AreEntries, added, logs_of}
-
--- each cell's log, with more entries for its class; the first of the cells has class c
-abbrev pub cells_grown : (ℕ → List LogEntry) → ℕ → List Holding → List Holding
-cells_grown more c [] = []
-cells_grown more c (x ∷ xs) = record x { log = x.log ++ more c } ∷ cells_grown more (suc c) xs
+use Rattle.fire_tasks.specs.Rows.{cells_grown}
 
 -- what operator o added came to the logs: the cells are those before, and the other operators added nothing
 pub record HaveAdded (p : PlanForm) (o : ℕ) (cells cells' : List Holding) : Type 0 where

@@ -17,7 +17,7 @@ use Rattle.brooklet_model.specs.Meaning.{meaning}
 use Rattle.brooklet_step.specs.Tables.{defined_tables}
 use Rattle.class_locks.specs.declared.log.LogEntry.{LogEntry}
 use Rattle.class_locks.specs.Logs.{Holding, replay, rows_to}
-use Rattle.fire_tasks.specs.declared.ports.Outlet as outlet
+use Rattle.fire_tasks.specs.Outlet as outlet
 use Rattle.fire_tasks.specs.declared.task.Task.{Task}
 use Rattle.fire_tasks.specs.Adds.{AreEntries, added, table_class}
 use Rattle.fire_tasks.specs.Ports.{sent_of}

@@ -5,6 +5,5 @@ pub mod Moves
 pub mod NetOf
 pub mod OneMove
 pub mod Rounds
-pub mod Rows
 pub mod Shares
 pub mod Whole

@@ -1,7 +1,7 @@
 -- Room for what is pending.
 use Rattle.std.specs.Prelude.{◌≡◌, ℕ, ◌^◌, ◌<◌, None, List, [], length, slice_index_or}
 use Rattle.river_base.specs.Places.{list_at}
-use Rattle.fire_tasks.specs.declared.ports.Outlet as outlet
+use Rattle.fire_tasks.specs.Outlet as outlet
 use Rattle.fire_tasks.specs.declared.task.Task.{Task}
 use Rattle.fire_tasks.specs.Ports.{HasRoom}
 use Rattle.fire_tasks.specs.Tasks.{IsDone}

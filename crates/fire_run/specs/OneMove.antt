@@ -6,15 +6,15 @@ use Rattle.river_plan.specs.Forms.{PlanForm}
 use Rattle.brooklet_step.specs.declared.emit.Emit.{Emit}
 use Rattle.brooklet_step.specs.Reading.{FiredOp}
 use Rattle.class_locks.specs.Logs.{Holding}
-use Rattle.fire_tasks.specs.declared.ports.Inlet as inlet
-use Rattle.fire_tasks.specs.declared.ports.Outlet as outlet
+use Rattle.fire_tasks.specs.Inlet as inlet
+use Rattle.fire_tasks.specs.Outlet as outlet
 use Rattle.fire_tasks.specs.declared.task.Task.{Task}
 use Rattle.fire_tasks.specs.Ports.{HasRoom, HasSentFront, IsIdle, known_of, received_in}
 use Rattle.fire_tasks.specs.Adds.{added, logs_of}
 use Rattle.fire_tasks.specs.Tasks.{HasWord, IsDone, IsTask}
 use Rattle.fire_tasks.specs.Turns.{logged}
 use Rattle.fire_open.specs.Still.{still}
-use Rattle.fire_run.specs.Cells.{cells_grown}
+use Rattle.fire_tasks.specs.Rows.{cells_grown}
 
 -- a send: the front of what is pending at a port goes to what was sent there, where its ring has room; all else of the task stays, and
 -- what it fired on

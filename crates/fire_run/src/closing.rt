@@ -18,7 +18,6 @@ use kern_rows::Line;
 use river_base::{Listed, NoMemory, Numbers};
 use river_plan::Plan;
 use std::alloc::Global;
-use std::mem::replace;
 use std::snapshot::Snapshot;
 
 /// A log for each lock class, in the order of the classes: what was added to its tables, in order.
@@ -62,10 +61,7 @@ fn take_kept(alloc: Global, outlet: &mut Outlet) -> Line
     requires { IsStored outlet.old }
     ensures { result ≡ sent_of outlet.old }
 {
-    match outlet {
-        Outlet::Kept(line) => replace(line, Line::new(alloc)),
-        Outlet::Ring(_) => unreachable!(),
-    }
+    outlet.take_line(alloc)
 }
 
 // The lines of the outputs that an operator writes.
@@ -91,7 +87,8 @@ fn all_outs(alloc: Global, plan: &Plan, tasks: &mut Listed<Task>) -> Result<Line
 {
     let mut lines = blank_lines(alloc, plan.raw().outputs.len())?;
     for op in 0..tasks.len() {
-        take_outs(alloc, plan, op, &mut tasks.at_mut(op).outs, &mut lines);
+        let mut outs = tasks.at_mut(op).finish(alloc);
+        take_outs(alloc, plan, op, &mut outs, &mut lines);
     }
     Ok(lines)
 }
@@ -104,7 +101,7 @@ fn counts_of(alloc: Global, tasks: &Listed<Task>) -> Result<Numbers, NoMemory>
 {
     let mut counts = Numbers::new(alloc);
     for task in tasks.as_slice() {
-        counts.push(task.count as i64)?;
+        counts.push(task.count() as i64)?;
     }
     Ok(counts)
 }

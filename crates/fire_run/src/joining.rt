@@ -14,10 +14,10 @@ use fire_tasks::Task;
 use river_base::Listed;
 use std::mem::replace;
 
-// Puts tasks at the places of their operators; none is left in the list.
-fn put_back(tasks: &mut Listed<Task>, own: &mut Listed<Task>)
-    requires { AreWithin (length tasks.old) own.old }
-    ensures { tasks.new ≡ put_each own.old tasks.old }
+// Puts tasks at the places of their operators.
+fn put_back(tasks: &mut Listed<Task>, mut own: Listed<Task>)
+    requires { AreWithin (length tasks.old) own }
+    ensures { tasks.new ≡ put_each own tasks.old }
 {
     while let Some(task) = own.pop() {
         put_task(tasks, task);
@@ -29,7 +29,7 @@ fn put_task(tasks: &mut Listed<Task>, task: Task)
     requires { task.op < length tasks.old }
     ensures { tasks.new ≡ slice_set tasks.old task.op task }
 {
-    let place = task.op as usize;
+    let place = task.op() as usize;
     drop(replace(tasks.at_mut(place), task));
 }
 
@@ -40,7 +40,7 @@ fn gather(tasks: &mut Listed<Task>, bundles: &mut Bundles)
     ensures seats { seats_of bundles.new.items ≡ seats_of bundles.old.items }
 {
     for place in 0..bundles.len() {
-        put_back(tasks, &mut bundles[place].tasks);
+        put_back(tasks, bundles[place].take_tasks());
     }
 }
 
@@ -52,9 +52,10 @@ fn one_seat(mut bundles: Bundles) -> Seat
     let Some(last) = bundles.pop() else {
         unreachable!();
     };
-    let mut seat = last.seat;
+    let mut seat = last.into_seat();
     while let Some(bundle) = bundles.pop() {
-        seat.join(bundle.seat);
+        let own = bundle.into_seat();
+        seat.join(own);
     }
     seat
 }

@@ -1,12 +1,11 @@
 //! Nets of workers: the tasks of a plan with the rings between them, opened, moved, split, joined and finished.
 #![tactic(auto)]
 
-mod adding;
 mod closing;
 mod frame;
 mod joining;
 pub mod laws;
-pub mod net;
+mod net;
 mod one;
 mod opening;
 mod pace;

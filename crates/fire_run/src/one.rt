@@ -1,5 +1,5 @@
 // One move.
-ghost use Rattle.std.specs.Prelude.{◌≡◌, ◌+◌, ◌<◌, ◌^◌, ℕ, ℤ, None, List, [], length, map, false, true, IfOk, OnOk, OnErr, IfSome, IfNone, IsFalse, IsTrue, slice_index_or};
+ghost use Rattle.std.specs.Prelude.{◌≡◌, ◌+◌, ◌<◌, ◌^◌, ℕ, ℤ, None, List, [], length, map, false, true, IfOk, OnOk, OnErr, IsFalse, IsTrue, slice_index_or};
 ghost use Rattle.river_base.specs.Places.{list_at};
 ghost use Rattle.river_plan.specs.Forms.{plan_form};
 ghost use Rattle.river_plan.specs.Valid.{IsPlan};
@@ -16,12 +16,10 @@ ghost use Rattle.fire_run.specs.Moves.{CanSend, CanSendFrom};
 ghost use Rattle.fire_run.specs.OneMove.{LastMoved, MayHaveMoved, Moves, Sends, Takes};
 ghost use Rattle.fire_run.specs.NetOf.{HasNet, IsNetOf, Stays, AreIdle, OneMore};
 
-use crate::adding::add_to_cells;
 use crate::net::Net;
-use brooklet_step::Lines;
 use class_locks::Cells;
 use fire_open::settle_all;
-use fire_tasks::{Task, fire_at, first_ready, send_at};
+use fire_tasks::{Task, fire_at};
 use river_base::{Gate, Listed, NoMemory};
 use river_plan::{Plan, RawPlan};
 use std::alloc::Global;
@@ -48,30 +46,9 @@ fn take_for<G: Gate>(
     ensures cells { OnOk result (HaveAdded (plan_form plan.now) task.old.op cells.old cells.new) }
     ensures takes { OnOk result (Takes (plan_form plan.now) task.old task.new cells.old cells.new) }
 {
-    let op = task.op;
     fire_at(alloc, plan, task, port, gate)?;
-    add_to_cells(
-        alloc,
-        op,
-        &task.tables,
-        &task.classes,
-        &mut task.out.adds,
-        cells,
-    )?;
+    task.add_to_cells(alloc, cells)?;
     Ok(())
-}
-
-// The first port at which an item is pending.
-fn first_pending(pending: &Lines) -> Option<usize>
-    ensures some { IfSome result (λ port. (port < length pending.now) × (list_at pending.now port ≡ [] → ⊥)) }
-    ensures none { IfNone result (IsIdle pending.now) }
-{
-    for port in 0..pending.len() {
-        if !pending.at(port).is_empty() {
-            return Some(port);
-        }
-    }
-    None
 }
 
 // A move of this task, if it has a pending or an untaken item: where an item is pending the first such goes, and otherwise the next is
@@ -98,7 +75,7 @@ fn move_one<G: Gate>(
     ensures done { IfOk result (λ moved. IsFalse moved → IsDone task.old) }
     ensures step { IfOk result (λ moved. IsTrue moved → Moves (plan_form plan.now) task.old task.new cells.old cells.new) }
 {
-    match first_pending(&task.pending) {
+    match task.first_pending() {
         Some(port) => {
             send_first(task, port)?;
             Ok(true)
@@ -130,7 +107,7 @@ fn take_next<G: Gate>(
     ensures done { IfOk result (λ moved. IsFalse moved → IsDone task.old) }
     ensures takes { IfOk result (λ moved. IsTrue moved → Takes (plan_form plan.now) task.old task.new cells.old cells.new) }
 {
-    match first_ready(&mut task.ins) {
+    match task.first_ready() {
         Some(port) => {
             take_for(alloc, plan, task, port as u32, cells, gate)?;
             Ok(true)
@@ -140,7 +117,6 @@ fn take_next<G: Gate>(
 }
 
 // Sends the front of what is pending at a port, which has room for it.
-#[tactic(auto, using(fire_tasks::proofs::PassLemmas::sent_task))]
 fn send_first(task: &mut Task, port: usize) -> Result<(), NoMemory>
     requires there { port < length task.old.pending }
     requires as_many { length task.old.pending ≡ length task.old.outs }
@@ -152,7 +128,7 @@ fn send_first(task: &mut Task, port: usize) -> Result<(), NoMemory>
     ensures one { OnOk result (moves task.new ≡ moves task.old + 1) }
     ensures sends { OnOk result (Sends task.old task.new) }
 {
-    send_at(&mut task.outs, &mut task.pending, port)?;
+    task.send_at(port)?;
     Ok(())
 }
 

@@ -215,7 +215,7 @@ fn work_each<R: Threads + Sync, G: Gate + Sync>(
 fn is_refused(bundles: &Bundles) -> bool
     ensures { IsFalse result ↔ AreCalm bundles.now.items }
 {
-    bundles.iter().any(|bundle| bundle.refused)
+    bundles.iter().any(|bundle| bundle.is_refused())
 }
 
 // Whether anything moved in one of the bundles.
@@ -223,5 +223,5 @@ fn has_moved(bundles: &Bundles) -> bool
     ensures some { IsTrue result → SomeMoved bundles.now.items }
     ensures none { IsFalse result → All (λ b. b.moved ≡ false) bundles.now.items }
 {
-    bundles.iter().any(|bundle| bundle.moved)
+    bundles.iter().any(|bundle| bundle.has_moved())
 }

@@ -10,7 +10,6 @@ ghost use Rattle.fire_run.specs.Shares.{AreShares, IsShare, OthersStay};
 
 use crate::frame::{Bundles, Frame};
 use crate::net::Net;
-use brooklet_step::{Emit, Spare};
 use class_locks::{BeginFault, Late, Seat, Seats, begin};
 use fire_tasks::{Bundle, Task};
 use river_base::{Listed, NoMemory};
@@ -40,29 +39,6 @@ impl From<NoMemory> for SplitFault {
     }
 }
 
-// A task without anything, which stands for the task of an operator.
-fn empty_task(alloc: Global, op: u32) -> Task
-    ensures { result.op ≡ op }
-{
-    Task {
-        op,
-        ins: Listed::new(alloc),
-        kinds: Listed::new(alloc),
-        states: Listed::new(alloc),
-        outs: Listed::new(alloc),
-        pending: Listed::new(alloc),
-        out: Emit {
-            outs: Listed::new(alloc),
-            adds: Listed::new(alloc),
-        },
-        spare: Spare::new(alloc),
-        tables: Listed::new(alloc),
-        classes: Listed::new(alloc),
-        count: 0,
-        bad: None,
-    }
-}
-
 // Takes out the tasks of a part, in ascending order; an empty task stays at the place of each.
 fn take_part(
     alloc: Global,
@@ -76,9 +52,9 @@ fn take_part(
 {
     let mut own = Listed::new(alloc);
     for place in 0..tasks.len() {
-        let op = tasks.at(place).op;
+        let op = tasks.at(place).op();
         if op % workers == part {
-            own.push(replace(tasks.at_mut(place), empty_task(alloc, op)))?;
+            own.push(replace(tasks.at_mut(place), Task::empty(alloc, op)))?;
         }
     }
     Ok(own)

@@ -12,7 +12,7 @@ use Rattle.brooklet_model.specs.Machine.{at_key}
 use Rattle.brooklet_model.proofs.Traces.{at_key_other, at_key_same}
 use Rattle.fire_tasks.specs.declared.task.Task.{Task}
 use Rattle.fire_tasks.specs.Adds.{AreCells, added, logs_at}
-use Rattle.fire_tasks.specs.declared.ports.Inlet as inlet
+use Rattle.fire_tasks.specs.Inlet as inlet
 use Rattle.fire_tasks.specs.Bundles.{AllGoOn, AreStuck, AreTasksAt, AllDone, AllLooked, HasGone, HasSwept, ManyPasses, SameSeat}
 use Rattle.fire_tasks.specs.declared.bundle.Bundle.{Bundle}
 use Rattle.fire_tasks.specs.Ports.{AllReceived, HasMoved, known_of}

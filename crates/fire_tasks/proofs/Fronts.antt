@@ -7,8 +7,8 @@ use Rattle.std.proofs.lemmas.List.{append-nil, get_or_default, length-map}
 use Rattle.river_base.specs.declared.item.Item as item
 use Rattle.river_base.specs.Places.{list_at, append_at}
 use Rattle.fire_tasks.specs.declared.bundle.Bundle.{Bundle}
-use Rattle.fire_tasks.specs.declared.ports.Inlet as inlet
-use Rattle.fire_tasks.specs.declared.ports.Outlet as outlet
+use Rattle.fire_tasks.specs.Inlet as inlet
+use Rattle.fire_tasks.specs.Outlet as outlet
 use Rattle.fire_tasks.specs.declared.task.Task.{Task}
 use Rattle.fire_tasks.specs.Bundles.{AllGoOn, AllStay, HasGone, SomeGrew}
 use Rattle.fire_tasks.specs.Ports.{AreFronts, HasMoved, in_end, in_ends, out_end, out_ends, received_count, received_in, received_of, sent_count, sent_in, sent_of}

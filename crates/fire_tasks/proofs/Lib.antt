@@ -1,5 +1,6 @@
 pub mod AddLemmas
 pub mod BundleLemmas
+pub mod CellLemmas
 pub mod Fronts
 pub mod JoinLemmas
 pub mod Looking

@@ -1,7 +1,7 @@
 -- Looks at ports, one after another.
 use Rattle.std.proofs.Common.{◌≡◌, ℕ, ◌+◌, ◌<◌, ◌≤◌, List, [], length, refl, sym, ap, ◌∙◌, arith, subst, get_or, ⊎_elim}
 use Rattle.std.proofs.lemmas.Bool.{cases_lt}
-use Rattle.fire_tasks.specs.declared.ports.Inlet as inlet
+use Rattle.fire_tasks.specs.Inlet as inlet
 use Rattle.fire_tasks.specs.Ports.{known_of, in_ends, received_in, AllReceived}
 
 -- no item was there at the first ports

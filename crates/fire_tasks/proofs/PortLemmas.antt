@@ -1,6 +1,9 @@
 -- Ends at their ports.
-use Rattle.std.proofs.Common.{◌≡◌, ℕ, zero, suc, ◌<◌, List, [], ◌∷◌, ◌++◌, length, refl, sym, ap, ◌∙◌, arith, get_or, set, append_assoc, length-append, ◌+◌, Option, Some, None, subst, drop}
-use Rattle.std.specs.Prelude.{All, IsNone, IfNone, slice_get}
+use Rattle.std.proofs.Common.{◌≡◌, ℕ, zero, suc, ◌<◌, List, [], ◌∷◌, ◌++◌, length, refl, sym, ap, ◌∙◌, arith, get_or, set, append_assoc, length-append, ◌+◌, Some, subst, drop}
+use Rattle.std.specs.Prelude.{All, Bool, true, IsTrue, IsFalse, ◌↔◌, slice_get}
+use Rattle.std.proofs.Common.{⊎_elim}
+use Rattle.std.proofs.Math.ListN.{drop_of_length-le}
+use Rattle.std.proofs.lemmas.Bool.{cases_lt}
 use Rattle.std.proofs.lemmas.Option.{slice_get-get_or}
 use Rattle.river_base.proofs.Lists.{got_map}
 use Rattle.std.proofs.lemmas.List.Elements.{All-head, All-tail}
@@ -8,8 +11,8 @@ use mathlib.Core.List.{IsPrefix}
 use Rattle.std.proofs.lemmas.List.{length-map, nil_from_length, set-get_or}
 use Rattle.river_base.specs.declared.item.Item as item
 use Rattle.river_base.specs.Places.{list_at, append_at}
-use Rattle.fire_tasks.specs.declared.ports.Inlet as inlet
-use Rattle.fire_tasks.specs.declared.ports.Outlet as outlet
+use Rattle.fire_tasks.specs.Inlet as inlet
+use Rattle.fire_tasks.specs.Outlet as outlet
 use Rattle.fire_tasks.specs.Ports.{sent_count, received_count, received_of, in_end, in_ends, sent_of, sent_in, out_end, out_ends, received_in, given_at, MaySend, MaySendAll}
 
 -- another state of the same end: all ends are the same
@@ -176,20 +179,10 @@ sent_none [] i x e = refl
 sent_none (o ∷ os) zero x e = let a = ap length e in omega (arith, a)
 sent_none (o ∷ os) (suc i) x e = let h = sent_none os i x e in omega (arith, h)
 
--- no answer is None and Some
-pub none_some : {A : Type 0} (r : Option A) (a : A) → IsNone r → r ≡ Some a → ⊥
-none_some None a n e = absurd (cc e)
-none_some (Some x) a n e = absurd (cc n)
-
 -- a front of nothing is nothing
 pub prefix_none : {A : Type 0} (xs ys : List A) → IsPrefix xs ys → ys ≡ [] → xs ≡ []
 prefix_none [] ys h e = refl
 prefix_none (x ∷ xs) ys h e = let l = ap length (h.1 ∙ e) in absurd (omega (arith, l))
-
--- what follows where there is no value
-pub if_none : {A : Type 0} (o : Option A) (P Q : Type 0) → (P → Q) → IfNone o P → IfNone o Q
-if_none None P Q f h = f h
-if_none (Some x) P Q f h = tt
 
 -- an element that did not change
 pub put_back : {A : Type 0} (xs : List A) (i : ℕ) (old new : A) → old ≡ get_or xs i old → new ≡ old → set xs i new ≡ xs
@@ -198,3 +191,11 @@ put_back xs i old new e n = ap (set xs i) (n ∙ e) ∙ set-get_or xs i old
 -- what is left where the one in front is dropped
 pub left_behind : {A : Type 0} (old new rest : List A) (y : A) → old ≡ y ∷ rest → new ≡ drop 1 old → new ≡ rest
 left_behind old new rest y e n = n ∙ ap (drop 1) e
+
+-- nothing lies behind the last element
+pub none_behind : {A : Type 0} (xs : List A) (n : ℕ) (r : Bool) → IsTrue r ↔ (n < length xs) → IsFalse r → drop n xs ≡ []
+none_behind xs n r h f =
+    ⊎_elim
+    (λ lt. let t : r ≡ true = h.1 lt in absurd (cc (t, f)))
+    (λ ge. drop_of_length-le xs ge)
+    (cases_lt n (length xs))

@@ -10,7 +10,7 @@ use Rattle.river_base.specs.declared.item.Item as item
 use Rattle.river_base.specs.declared.kind.QueueType.{QueueType}
 use Rattle.river_base.specs.Held.{IsHeld}
 use Rattle.river_base.specs.Places.{list_at, append_at, each_grew}
-use Rattle.river_rings.specs.Ends.{single}
+use Rattle.river_rings.specs.Rows.{row_item}
 use Rattle.river_base.proofs.PlaceLemmas.{each_grew-blanks, length-each_grew, if_eq, if_ne, append_here, append_else, blank_at}
 use Rattle.kern_tables.specs.Tables.{table_width}
 use Rattle.river_plan.specs.declared.plan.TableDecl.{TableDecl}
@@ -39,12 +39,12 @@ use Rattle.brooklet_step.proofs.GivenLemmas.{at-append, ran_more, at_next, first
 use Rattle.brooklet_step.proofs.NextLemmas.{got_place}
 use Rattle.brooklet_step.proofs.OpTables.{width_at, width_there, widths_of, mine_many, among_known}
 use Rattle.class_locks.specs.Piles.{Piled}
-use Rattle.fire_tasks.specs.declared.ports.Inlet as inlet
+use Rattle.fire_tasks.specs.Inlet as inlet
 use Rattle.fire_tasks.specs.declared.task.TablePort.{TablePort}
 use Rattle.fire_tasks.specs.declared.task.Task.{Task}
 use Rattle.fire_tasks.specs.Adds.{table_numbers}
 use Rattle.fire_tasks.specs.Fired.{bad_at, kinds_in, kinds_out}
-use Rattle.fire_tasks.specs.Ports.{received_of, received_in, sent_in, InEnd, IsIdle, one_value, in_ends, out_ends}
+use Rattle.fire_tasks.specs.Ports.{received_of, received_in, sent_in, InEnd, IsIdle, rows_of, in_ends, out_ends}
 use Rattle.fire_tasks.specs.Tasks.{HasWord, IsTask}
 use Rattle.fire_tasks.proofs.Fronts.{goes_took}
 use Rattle.fire_tasks.specs.Turns.{AreRowsFor, HasFiredAt, HasTakenAt, Owes, classes_of, pile_grown, logged}
@@ -159,13 +159,13 @@ module _ (p : PlanForm) (v : IsPlan p) (t : Task) (adds : ℕ → List (List ℤ
   pub blank_op : IsBlankOf p t.op t.out
   blank_op = record { blank = λ op g. let e : k.op ≡ op = same_Some k.op op (sym k.op_is ∙ g) in subst (λ (o : OpForm). IsBlank o.kernel t.out) e k.blank }
 
-held_single : (x : ℤ) → IsHeld one_value (single x)
+held_row : (row : List ℤ) → IsHeld (rows_of (length row)) (row_item row)
 unfolding IsHeld
-held_single x = refl
+held_row row = refl
 
--- a row of one value is what a queue of such may hold
-pub fits_value : (kinds : List QueueType) (port : ℕ) (x : ℤ) → slice_get kinds port ≡ Some one_value → IsHeldOf kinds port (single x)
-fits_value kinds port x e = subst (λ o. IsHeldBy o (single x)) (sym e) (held_single x)
+-- a row is what a queue of rows as wide may hold
+pub fits_row : (kinds : List QueueType) (port : ℕ) (row : List ℤ) → slice_get kinds port ≡ Some (rows_of (length row)) → IsHeldOf kinds port (row_item row)
+fits_row kinds port row e = subst (λ o. IsHeldBy o (row_item row)) (sym e) (held_row row)
 
 module _ (p : PlanForm) (v : IsPlan p) (t : Task) (adds : ℕ → List (List ℤ)) (k : IsTask p adds t) (fine : t.bad ≡ None) where
   abbrev received : (ins : List inlet.Inlet) (port : ℕ) (x : item.Item) → Type 0

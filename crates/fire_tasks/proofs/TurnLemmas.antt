@@ -19,8 +19,8 @@ use Rattle.class_locks.specs.Piles.{Piled, HasLooked, HasTaken, HasPut, HasMoreT
 use Rattle.class_locks.specs.Views.{StandsIn, own}
 use Rattle.class_locks.proofs.Lists.{at_within}
 use Rattle.river_base.specs.declared.item.Item as item
-use Rattle.fire_tasks.specs.declared.ports.Inlet as inlet
-use Rattle.fire_tasks.specs.declared.ports.Outlet as outlet
+use Rattle.fire_tasks.specs.Inlet as inlet
+use Rattle.fire_tasks.specs.Outlet as outlet
 use Rattle.fire_tasks.specs.declared.task.Task.{Task}
 use Rattle.fire_tasks.specs.Adds.{AreCells, AreClaims, AreOwn, added, logs_at, logs_of, table_class}
 use Rattle.fire_tasks.specs.Ports.{HasMoved, InEnd, OutEnd, AllReceived, IsIdle, RefusedAll, Sent, in_ends, out_ends, received_count, received_in, sent_count}

@@ -1,6 +1,9 @@
 pub mod Adds
 pub mod Bundles
 pub mod Fired
+pub mod Inlet
+pub mod Outlet
 pub mod Ports
+pub mod Rows
 pub mod Tasks
 pub mod Turns

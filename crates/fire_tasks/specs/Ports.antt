@@ -1,5 +1,5 @@
 -- The ends of an operator's queues: rings, and the kept lists of inputs, of outputs and of queues that nobody reads.
-use Rattle.std.specs.Prelude.{◌≡◌, ℕ, ◌+◌, ◌<◌, ◌≤◌, Bool, IsTrue, IsFalse, All, Option, Some, List, [], ◌∷◌, ◌++◌, length, take, drop, map, ◌⊎◌, slice_get, slice_index_or, slice_set}
+use Rattle.std.specs.Prelude.{◌≡◌, ℕ, ℤ, ◌+◌, ◌<◌, ◌≤◌, Bool, IsTrue, IsFalse, All, Some, List, [], ◌∷◌, ◌++◌, length, take, drop, map, ◌⊎◌, slice_get, slice_index_or, slice_set}
 use mathlib.Core.List.{IsPrefix}
 use Rattle.river_base.specs.declared.item.Item as item
 use Rattle.river_base.specs.declared.kind.FlatType.TheVariants.{Rows}
@@ -8,10 +8,11 @@ use Rattle.river_base.specs.declared.kind.QueueType.TheVariants.{Flat as FlatOf}
 use Rattle.river_base.specs.Places.{append_at, list_at}
 use Rattle.river_rings.specs.Ends.{RingId}
 use Rattle.river_rings.specs.Ends as rings
-use Rattle.fire_tasks.specs.declared.ports.Inlet as inlet
-use Rattle.fire_tasks.specs.declared.ports.Inlet.TheVariants.{Ring as TakesFrom, Kept as Given}
-use Rattle.fire_tasks.specs.declared.ports.Outlet as outlet
-use Rattle.fire_tasks.specs.declared.ports.Outlet.TheVariants.{Ring as SendsTo, Kept as Stored}
+use Rattle.river_rings.specs.Rows.{row_item}
+use Rattle.fire_tasks.specs.Inlet as inlet
+use Rattle.fire_tasks.specs.Inlet.{TakesFrom, Given}
+use Rattle.fire_tasks.specs.Outlet as outlet
+use Rattle.fire_tasks.specs.Outlet.{SendsTo, Stored}
 
 -- WHERE AN OPERATOR TAKES FROM
 
@@ -60,20 +61,47 @@ abbrev pub out_end : outlet.Outlet → OutEnd
 out_end (SendsTo f) = RingOut f.id f.cap
 out_end (Stored line) = ListOut
 
--- RINGS OF VALUES
+-- RINGS OF ROWS
 
--- the type of a queue of rows of one value
-abbrev pub one_value : QueueType
-one_value = FlatOf (Rows 1)
+-- the type of a queue of rows of this width
+abbrev pub rows_of : ℕ → QueueType
+rows_of width = FlatOf (Rows width)
 
--- it is the end of a ring of values
-abbrev pub SendsValues : OutEnd → Type 0
-SendsValues (RingOut id cap) = IsTrue id.values
-SendsValues ListOut = ⊥
+-- how many values each row has at the end of a ring of rows; 0 at all other ends
+abbrev pub width_of : OutEnd → ℕ
+width_of (RingOut id cap) = id.width
+width_of ListOut = 0
 
--- the item may be sent there: a ring of values is sent rows of one value
+-- it is the end of a ring of rows
+abbrev pub SendsRows : OutEnd → Type 0
+SendsRows e = 1 ≤ width_of e
+
+-- the item is a row of this width
+abbrev pub IsRowOf : ℕ → item.Item → Type 0
+IsRowOf width x = (row : List ℤ) × (x ≡ row_item row) × (length row ≡ width)
+
+-- the item may be sent there: a ring of rows is sent rows of its width
 abbrev pub MaySend : OutEnd → item.Item → Type 0
-MaySend e x = SendsValues e → rings.IsSingle x
+MaySend e x = SendsRows e → IsRowOf (width_of e) x
+
+-- BOTH ENDS
+
+-- the two ends of one ring
+abbrev pub IsPair : outlet.Outlet → inlet.Inlet → Type 0
+IsPair (SendsTo f) (TakesFrom t) = t.id ≡ f.id
+IsPair (SendsTo f) (Given k) = ⊥
+IsPair (Stored xs) i = ⊥
+
+-- the taking end knows all that was sent, and the sending end all that was received
+abbrev pub IsSettled : outlet.Outlet → inlet.Inlet → Type 0
+IsSettled (SendsTo f) (TakesFrom t) = (t.received ++ t.known ≡ f.sent) × (length t.known ≤ t.cap) × (f.waiting ≤ length t.known)
+IsSettled (SendsTo f) (Given k) = ⊥
+IsSettled (Stored xs) i = ⊥
+
+-- a kept list, for what nobody reads
+abbrev pub IsStored : outlet.Outlet → Type 0
+IsStored (SendsTo f) = ⊥
+IsStored (Stored xs) = Unit {0}
 
 -- ALL PORTS
 

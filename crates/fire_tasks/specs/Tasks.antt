@@ -1,5 +1,5 @@
 -- What a task keeps of itself.
-use Rattle.std.specs.Prelude.{◌≡◌, ◌⊎◌, ℕ, ℤ, min, ◌+◌, ◌^◌, ◌<◌, slice_index_or, ◌∷◌, Some, List, [], length, map, slice_get}
+use Rattle.std.specs.Prelude.{◌≡◌, ◌⊎◌, ℕ, ℤ, min, ◌+◌, ◌^◌, ◌<◌, slice_index_or, ◌∷◌, Some, List, [], length, map, slice_get, slice_set}
 use Rattle.river_base.specs.Places.{list_at}
 use Rattle.river_plan.specs.Forms.{OpForm, PlanForm}
 use Rattle.brooklet_model.specs.Fire.{first_kept}
@@ -9,11 +9,13 @@ use Rattle.brooklet_model.specs.Words.{Word}
 use Rattle.brooklet_step.specs.Given.{FitState, StandsAfter}
 use Rattle.brooklet_step.specs.Took.{IsBlank}
 use Rattle.class_locks.specs.declared.view.View.{View}
+use Rattle.fire_tasks.specs.Inlet as inlet
+use Rattle.fire_tasks.specs.Outlet as outlet
 use Rattle.fire_tasks.specs.declared.task.Task.{Task}
 use Rattle.fire_tasks.specs.Adds.{AreHomes, added, logs_at}
 use Rattle.river_base.specs.declared.kind.QueueType.{QueueType}
 use Rattle.fire_tasks.specs.Fired.{SeenTask, HasFired, IsHeldAs, kinds_in, kinds_out}
-use Rattle.fire_tasks.specs.Ports.{AreFronts, received_in, sent_in, one_value, SendsValues, InEnd, OutEnd, in_ends, out_ends, received_count, sent_count, IsIdle, RefusedAll, AllReceived}
+use Rattle.fire_tasks.specs.Ports.{AreFronts, received_in, received_of, sent_in, sent_of, rows_of, width_of, SendsRows, InEnd, OutEnd, in_end, in_ends, out_end, out_ends, received_count, sent_count, IsIdle, IsSettled, RefusedAll, AllReceived}
 
 -- what the laws see of a task
 abbrev pub seen_task : Task → SeenTask
@@ -25,9 +27,9 @@ pub record StatesStand (p : PlanForm) (op : OpForm) (t : Task) (is : Word) : Typ
   pub after : (w : Word) → IsWordOf (kinds_in p op) w → IsHeldAs (kinds_in p op) w is
       → StandsAfter op.kernel (kinds_in p op) (first_kept op.kernel) t.states w
 
--- a ring of values stands only where the queue has rows of one value
+-- a ring of rows stands only where the queue has rows of its width
 abbrev pub FitRings : List QueueType → List OutEnd → Type 0
-FitRings writes outs = (j : ℕ) (e : OutEnd) → slice_get outs j ≡ Some e → SendsValues e → slice_get writes j ≡ Some one_value
+FitRings writes outs = (j : ℕ) (e : OutEnd) → slice_get outs j ≡ Some e → SendsRows e → slice_get writes j ≡ Some (rows_of (width_of e))
 
 -- the task of an operator of a plan, which added these rows, table by table: it fired on some items, and its states stand for those
 -- after them
@@ -90,6 +92,24 @@ pub record GoesOn (t t' : Task) : Type 0 where
 abbrev pub HasGrown : Task → Task → Type 0
 HasGrown t t' = ((port : ℕ) × (length (list_at (received_in t.ins) port) < length (list_at (received_in t'.ins) port)))
     ⊎ ((port : ℕ) × (length (list_at (sent_in t.outs) port) < length (list_at (sent_in t'.outs) port)))
+
+-- a task with another end at a port
+abbrev pub with_out : Task → ℕ → outlet.Outlet → Task
+with_out t j f = record t { outs = slice_set t.outs j f }
+
+abbrev pub with_in : Task → ℕ → inlet.Inlet → Task
+with_in t port i = record t { ins = slice_set t.ins port i }
+
+-- the two ends of a ring looked, one at a port of each of two tasks, and nothing else changed
+pub record HaveMet (out port : ℕ) (t r t' r' : Task) : Type 0 where
+  pub sends : outlet.Outlet
+  pub takes : inlet.Inlet
+  pub settled : IsSettled sends takes
+  -- they are the same ends, and the same was sent and received
+  pub same_out : (d : outlet.Outlet) → (out_end sends ≡ out_end (slice_index_or t.outs out d)) × (sent_of sends ≡ sent_of (slice_index_or t.outs out d))
+  pub same_in : (d : inlet.Inlet) → (in_end takes ≡ in_end (slice_index_or r.ins port d)) × (received_of takes ≡ received_of (slice_index_or r.ins port d))
+  pub writer : t' ≡ with_out t out sends
+  pub reader : r' ≡ with_in r port takes
 
 -- and all tasks together
 abbrev pub all_moves : List Task → ℕ

@@ -17,7 +17,7 @@ use Rattle.kern_tables.specs.Tables.{table_width}
 use Rattle.fire_tasks.specs.declared.task.Task.{Task}
 use Rattle.fire_tasks.specs.declared.task.TablePort.{TablePort}
 use Rattle.fire_tasks.specs.Adds.{AreCells, AreClaims, AreOwn, added, logs_at, table_class}
-use Rattle.fire_tasks.specs.declared.ports.Inlet as inlet
+use Rattle.fire_tasks.specs.Inlet as inlet
 use Rattle.fire_tasks.specs.Ports.{HasMoved, in_ends, received_in}
 use Rattle.fire_tasks.specs.Tasks.{GoesOn, HasWord, IsTask, IsTaskAt, Waits, ends_of, moves}
 

@@ -2,7 +2,7 @@
 ghost use Rattle.std.specs.Prelude.{◌≡◌, ◌<◌, ◌↔◌, [], IfOk, OnOk, OnErr, IsTrue, IsFalse, true, false};
 ghost use Rattle.river_plan.specs.Forms.{plan_form};
 ghost use Rattle.river_plan.specs.Valid.{IsPlan};
-ghost use Rattle.fire_tasks.specs.Bundles.{IsBundle, AreTasksAt, AreStuck, AllDone, AllLooked, SameSeat, HasGone, HasSwept, HaveLooked};
+ghost use Rattle.fire_tasks.specs.Bundles.{IsBundle, AreTasksAt, AreStuck, AllDone, AllLooked, IsReady, SameSeat, HasGone, HasMadeRound, HasSwept, HaveLooked};
 ghost use Rattle.fire_tasks.specs.Tasks.{IsDone};
 ghost use Rattle.fire_tasks.specs.Turns.{StillSits, LooksSame};
 
@@ -13,9 +13,13 @@ use class_locks::{Pile, Seat};
 use river_base::{Gate, Listed, NoMemory};
 use river_plan::RawPlan;
 use std::alloc::Global;
+use std::mem::replace;
 use std::sync::atomic::AtomicU64;
 use std::sync::atomic::Ordering::SeqCst;
 use std::thread::yield_now;
+
+/// The most passes of a bundle in a round.
+const MOST_PASSES: u32 = 1024;
 
 /// How often a pass goes over its tasks, at most, for as long as something moves.
 const SWEEPS: u32 = 1024;
@@ -35,17 +39,17 @@ const YIELDS: u32 = 4;
 /// The tasks of one worker, with the worker's seat at the locks. It is seen without its plan, so that it is fit for threads.
 #[derive(Drop)]
 pub struct Bundle {
-    pub alloc: Global,
-    pub tasks: Listed<Task>,
-    pub seat: Seat,
+    alloc: Global,
+    tasks: Listed<Task>,
+    seat: Seat,
     /// Room for the cells of a task's classes. Between two takes there is none in it.
-    pub pile: Pile,
+    pile: Pile,
     /// How often a pass looks at its tasks, at most, for something that moves.
-    pub looks: u32,
+    looks: u32,
     /// Whether a pass of the last round moved something.
-    pub moved: bool,
+    moved: bool,
     /// Whether a pass was refused.
-    pub refused: bool,
+    refused: bool,
 }
 
 // A look at these tasks, one after another: each moves what it can.
@@ -315,5 +319,67 @@ impl Bundle {
         ensures idle { IsTrue result ↔ AllDone self.new.tasks }
     {
         all_done(&mut self.tasks)
+    }
+    /// The tasks, in order.
+    pub fn tasks(&self) -> &Listed<Task>
+        ensures { result.now ≡ self.now.tasks }
+    {
+        &self.tasks
+    }
+
+    /// Whether a pass of the last round moved something.
+    pub fn has_moved(&self) -> bool
+        ensures { result ≡ self.now.moved }
+    {
+        self.moved
+    }
+
+    /// Whether a pass was refused.
+    pub fn is_refused(&self) -> bool
+        ensures { result ≡ self.now.refused }
+    {
+        self.refused
+    }
+
+    /// From now on a pass looks at the tasks at most so often.
+    pub fn set_looks(&mut self, looks: u32)
+        ensures { self.new ≡ record self.old { looks = looks } }
+    {
+        self.looks = looks;
+    }
+
+    /// The tasks. The bundle has none afterwards.
+    pub fn take_tasks(&mut self) -> Listed<Task>
+        ensures tasks { result ≡ self.old.tasks }
+        ensures rest { self.new ≡ record self.old { tasks = [] } }
+    {
+        replace(&mut self.tasks, Listed::new(self.alloc))
+    }
+
+    /// The seat. What else the bundle has is dropped.
+    pub fn into_seat(self) -> Seat
+        ensures { result ≡ self.seat }
+    {
+        self.seat
+    }
+}
+
+/// Passes, until one moves nothing.
+pub(crate) fn make_passes<G: Gate>(plan: &RawPlan, bundle: &mut Bundle, gate: &G, busy: &AtomicU64)
+    requires { IsReady plan.now bundle.old }
+    ensures { HasMadeRound plan.now bundle.old bundle.new }
+{
+    bundle.moved = false;
+    if bundle.refused {
+        return;
+    }
+    for _pass in 0..MOST_PASSES {
+        let Ok(moved) = bundle.pass_among(plan, gate, busy) else {
+            return;
+        };
+        if !moved {
+            return;
+        }
+        bundle.moved = true;
     }
 }

@@ -10,7 +10,7 @@ mod taking;
 mod task;
 
 pub use bundle::{BEGUN, Bundle, CROWDED};
-pub use ports::{Inlet, Kept, Outlet, has_values, send_at};
+pub use ports::{Inlet, Outlet};
 pub use rounds::round_of;
-pub use taking::{fire_at, first_ready};
+pub use taking::fire_at;
 pub use task::{TablePort, Task};

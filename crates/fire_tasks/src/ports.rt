@@ -1,78 +1,177 @@
 // The ends of an operator's queues.
-ghost use Rattle.std.specs.Prelude.{◌≡◌, ◌+◌, ◌<◌, ◌≤◌, ℕ, [], ◌∷◌, ◌++◌, length, take, IsTrue, IsFalse, true, IfOk, OnOk, OnErr, IfSome, IfNone, IsSome, Some, slice_get, slice_index_or};
+ghost use Rattle.std.specs.Prelude.{◌≡◌, ◌+◌, ◌<◌, ◌≤◌, ℕ, [], ◌∷◌, ◌++◌, length, take, IsTrue, IsFalse, true, IfOk, OnOk, OnErr, IfSome, Some, slice_get, slice_index_or};
 ghost use Rattle.river_base.specs.Places.{append_at, list_at};
-ghost use Rattle.fire_tasks.specs.Ports.{received_of, known_of, in_end, in_ends, sent_of, sent_in, sent_count, IsFull, HasRoom, out_end, out_ends, received_in, HasSentFront, SentAt, one_value, MaySend, MaySendAll};
-ghost use Rattle.river_rings.specs.Ends.{single};
-ghost use Rattle.river_base.specs.declared.item.Item.TheVariants as variant;
-ghost use Rattle.river_base.specs.declared.item.Flat.TheVariants as flat;
+ghost use Rattle.fire_tasks.specs.Inlet.{TakesFrom, Given};
+ghost use Rattle.fire_tasks.specs.Outlet.{SendsTo, Stored};
+ghost use Rattle.fire_tasks.specs.Ports.{received_of, known_of, in_end, in_ends, sent_of, sent_in, sent_count, IsFull, HasRoom, out_end, out_ends, received_in, HasSentFront, SentAt, rows_of, width_of, IsRowOf, IsPair, IsSettled, IsStored, MaySend, MaySendAll};
+ghost use Rattle.river_rings.specs.Ends.{SameSending, SameTaking, HasRingRoom};
+ghost use Rattle.river_rings.specs.Rows.{row_item};
 
 use brooklet_step::Lines;
 use kern_rows::Line;
-use river_base::{FlatType, Item, Listed, NoMemory, QueueType};
-use river_rings::{Feed, Take};
+use river_base::{Flat, FlatType, Item, Listed, NoMemory, QueueType, Row};
+use river_rings::{Feed, RowFeed, RowTake, Take, beside, rows_beside};
 use std::alloc::Global;
+use std::marker::Model;
+use std::mem::replace;
 
-/// A kept list, and how many of its items were taken.
+/// Where an operator takes from: a ring of items or of rows, or the whole list of an input of the plan.
 #[derive(Drop)]
-pub struct Kept {
-    pub line: Line,
-    pub taken: usize,
+pub struct Inlet {
+    end: InletEnd,
 }
 
-/// Where an operator takes from: a ring, or the whole list of an input of the plan.
 #[derive(Drop)]
-pub enum Inlet {
-    Ring(Take),
+enum InletEnd {
+    Items(Take),
+    Rows(RowTake),
     Kept(Kept),
 }
 
-/// Where an operator sends to: a ring, or a list of an output or of a queue that nobody reads.
+// A kept list, and how many of its items were taken.
 #[derive(Drop)]
-pub enum Outlet {
-    Ring(Feed),
+struct Kept {
+    line: Line,
+    taken: usize,
+}
+
+/// Where an operator sends to: a ring of items or of rows, or a list of an output or of a queue that nobody reads.
+#[derive(Drop)]
+pub struct Outlet {
+    end: OutletEnd,
+}
+
+#[derive(Drop)]
+enum OutletEnd {
+    Items(Feed),
+    Rows(RowFeed),
     Kept(Line),
 }
 
+impl Model for Inlet {
+    ghost use Rattle.fire_tasks.specs.Inlet as inlet;
+
+    ghost Value = { inlet.Inlet };
+
+    ghost view = { λ i. inlet.inlet_of i.end };
+}
+
+impl Model for Outlet {
+    ghost use Rattle.fire_tasks.specs.Outlet as outlet;
+
+    ghost Value = { outlet.Outlet };
+
+    ghost view = { λ o. outlet.outlet_of o.end };
+}
+
 impl Inlet {
+    /// The end of a ring of items.
+    pub fn of_items(take: Take) -> Inlet
+        ensures { result ≡ TakesFrom take }
+    {
+        Inlet {
+            end: InletEnd::Items(take),
+        }
+    }
+
+    /// The end of a ring of rows.
+    pub fn of_rows(take: RowTake) -> Inlet
+        ensures { result ≡ TakesFrom take }
+    {
+        Inlet {
+            end: InletEnd::Rows(take),
+        }
+    }
+
+    /// The whole list of an input, of which nothing is taken.
+    pub fn kept(line: Line) -> Inlet
+        ensures { result ≡ Given (record { line = line; taken = 0 }) }
+    {
+        Inlet {
+            end: InletEnd::Kept(Kept { line, taken: 0 }),
+        }
+    }
+
     /// Whether an item is there: so it is, unless every item known to be there was received.
-    pub fn ready(&mut self) -> bool
+    pub(crate) fn ready(&mut self) -> bool
         ensures same { in_end self.new ≡ in_end self.old }
         ensures received { received_of self.new ≡ received_of self.old }
         ensures yes { IsTrue result → 0 < length (known_of self.new) }
         ensures no { IsFalse result → known_of self.new ≡ [] }
         ensures known { IsFalse result → known_of self.old ≡ [] }
     {
-        match self {
-            Inlet::Ring(take) => take.ready(),
-            Inlet::Kept(kept) => kept.line.has(kept.taken),
+        match &mut self.end {
+            InletEnd::Items(take) => take.ready(),
+            InletEnd::Rows(take) => take.ready(),
+            InletEnd::Kept(kept) => kept.line.has(kept.taken),
         }
     }
 
-    /// The value of the next item in the order sent, which is known to be there. Where none is given nothing is received: so it is where
-    /// the item is no row of one value, or is not kept as its value.
-    pub fn pop_value(&mut self) -> Option<i64>
+    /// Takes the next item, which is known to be there, where it is a row of as many values as `row` and is kept as these; they are
+    /// written to `row`. Where it is not, nothing is received.
+    pub(crate) fn pop_row(&mut self, row: &mut [i64]) -> bool
         requires { 0 < length (known_of self.old) }
         ensures same { in_end self.new ≡ in_end self.old }
-        ensures received { IfSome result (λ value. received_of self.new ≡ received_of self.old ++ single value ∷ []) }
-        ensures none { IfNone result (self.new ≡ self.old) }
+        ensures received { IsTrue result → received_of self.new ≡ received_of self.old ++ row_item row.new ∷ [] }
+        ensures none { IsFalse result → self.new ≡ self.old }
     {
-        match self {
-            Inlet::Ring(take) => take.next_value(),
-            Inlet::Kept(kept) => next_value(kept),
+        match &mut self.end {
+            InletEnd::Items(_) => false,
+            InletEnd::Rows(take) => next_row(take, row),
+            InletEnd::Kept(kept) => kept_row(kept, row),
         }
     }
 
     /// The next item in the order sent, which is known to be there.
-    pub fn pop(&mut self, alloc: Global) -> Result<Item, NoMemory>
+    pub(crate) fn pop(&mut self, alloc: Global) -> Result<Item, NoMemory>
         requires { 0 < length (known_of self.old) }
         ensures same { in_end self.new ≡ in_end self.old }
         ensures received { IfOk result (λ x. received_of self.new ≡ received_of self.old ++ x ∷ []) }
     {
-        match self {
-            Inlet::Ring(take) => Ok(take.next()),
-            Inlet::Kept(kept) => next_kept(alloc, kept),
+        match &mut self.end {
+            InletEnd::Items(take) => Ok(take.next()),
+            InletEnd::Rows(take) => Ok(next_item(take)),
+            InletEnd::Kept(kept) => next_kept(alloc, kept),
         }
     }
+}
+
+// Takes the next row of a ring, where it has as many values as `row`.
+fn next_row(take: &mut RowTake, row: &mut [i64]) -> bool
+    requires { 0 < length take.old.known }
+    ensures ring { SameTaking take.old take.new }
+    ensures received { IsTrue result → take.new.received ≡ take.old.received ++ row_item row.new ∷ [] }
+    ensures none { IsFalse result → take.new ≡ take.old }
+{
+    if take.width() != row.len() {
+        return false;
+    }
+    take.next(row);
+    true
+}
+
+// The next row of a ring, as an item.
+fn next_item(take: &mut RowTake) -> Item
+    requires { 0 < length take.old.known }
+    ensures ring { SameTaking take.old take.new }
+    ensures received { take.new.received ≡ take.old.received ++ result ∷ [] }
+{
+    let mut values = [0; 16];
+    let width = take.width();
+    next_in(take, &mut values[..width])
+}
+
+// The same, with room for its values.
+fn next_in(take: &mut RowTake, row: &mut [i64]) -> Item
+    requires known { 0 < length take.old.known }
+    requires width { length row.old ≡ take.old.id.width }
+    requires some { 1 ≤ length row.old }
+    requires at_most { length row.old ≤ 16 }
+    ensures ring { SameTaking take.old take.new }
+    ensures received { take.new.received ≡ take.old.received ++ result ∷ [] }
+{
+    take.next(row);
+    Item::Flat(Flat::One(Row::from_slice(row)))
 }
 
 // A copy of the next item of a kept list. No memory holds so many items that the count would not do.
@@ -89,76 +188,174 @@ fn next_kept(alloc: Global, kept: &mut Kept) -> Result<Item, NoMemory>
     Ok(item)
 }
 
-// The value of the next item of a kept list, where it is a row of one value that is kept so.
-fn next_value(kept: &mut Kept) -> Option<i64>
+// Takes the next item of a kept list, where it is a row of as many values as `row` and is kept as these.
+fn kept_row(kept: &mut Kept, row: &mut [i64]) -> bool
     requires { kept.old.taken < length kept.old.line }
     ensures same { kept.new.line ≡ kept.old.line }
-    ensures taken { IfSome result (λ value. take kept.new.taken kept.new.line ≡ take kept.old.taken kept.old.line ++ single value ∷ []) }
-    ensures none { IfNone result (kept.new ≡ kept.old) }
+    ensures taken { IsTrue result → take kept.new.taken kept.new.line ≡ take kept.old.taken kept.old.line ++ row_item row.new ∷ [] }
+    ensures none { IsFalse result → kept.new ≡ kept.old }
 {
-    let after = kept.taken.checked_add(1)?;
-    let value = value_at(&kept.line, kept.taken)?;
+    let Some(after) = kept.taken.checked_add(1) else {
+        return false;
+    };
+    if !copy_row(&kept.line, kept.taken, row) {
+        return false;
+    }
     kept.taken = after;
-    Some(value)
+    true
 }
 
-// The value at a place of a line, where there is a row of one value that is kept so.
-fn value_at(line: &Line, place: usize) -> Option<i64>
-    ensures { IfSome result (λ value. slice_get line.now place ≡ Some (single value)) }
+// Copies the row at a place of a line, where there is one of as many values as `row` that is kept as these.
+fn copy_row(line: &Line, place: usize, row: &mut [i64]) -> bool
+    ensures { IsTrue result → slice_get line.now place ≡ Some (row_item row.new) }
 {
-    let row = line.row_at(place)?;
-    if row.len() == 1 { Some(row[0]) } else { None }
+    let Some(values) = line.row_at(place) else {
+        return false;
+    };
+    if values.len() != row.len() {
+        return false;
+    }
+    row.copy_from_slice(values);
+    true
 }
 
 impl Outlet {
+    /// The end of a ring of items.
+    pub fn of_items(feed: Feed) -> Outlet
+        ensures is { result ≡ SendsTo feed }
+        ensures any { width_of (out_end result) ≡ 0 }
+    {
+        feed.width();
+        Outlet {
+            end: OutletEnd::Items(feed),
+        }
+    }
+
+    /// The end of a ring of rows.
+    pub fn of_rows(feed: RowFeed) -> Outlet
+        ensures { result ≡ SendsTo feed }
+    {
+        Outlet {
+            end: OutletEnd::Rows(feed),
+        }
+    }
+
+    /// An empty list, for what nobody reads.
+    pub fn kept(alloc: Global) -> Outlet
+        ensures { result ≡ Stored [] }
+    {
+        Outlet {
+            end: OutletEnd::Kept(Line::new(alloc)),
+        }
+    }
+
+    /// What was kept for nobody to read; nothing is left there.
+    pub fn take_line(&mut self, alloc: Global) -> Line
+        requires { IsStored self.old }
+        ensures { result ≡ sent_of self.old }
+    {
+        match &mut self.end {
+            OutletEnd::Kept(line) => replace(line, Line::new(alloc)),
+            _ => unreachable!(),
+        }
+    }
+
     /// Whether an item can be sent: so it is, unless a ring holds as many as it may, for all that is known.
-    pub fn has_room(&mut self) -> bool
+    pub(crate) fn has_room(&mut self) -> bool
         ensures same { out_end self.new ≡ out_end self.old }
         ensures sent { sent_of self.new ≡ sent_of self.old }
         ensures yes { IsTrue result → HasRoom self.new }
         ensures no { IsFalse result → IsFull self.new }
         ensures room { HasRoom self.old → IsTrue result }
     {
-        match self {
-            Outlet::Ring(feed) => feed.has_room(),
-            Outlet::Kept(_) => true,
+        match &mut self.end {
+            OutletEnd::Items(feed) => feed.has_room(),
+            OutletEnd::Rows(feed) => feed.has_room(),
+            OutletEnd::Kept(_) => true,
         }
     }
 
     /// Sends an item that may be sent there, where there is room. Where there is no memory nothing is sent.
-    pub fn put(&mut self, item: Item) -> Result<(), NoMemory>
+    pub(crate) fn put(&mut self, item: Item) -> Result<(), NoMemory>
         requires room { HasRoom self.old }
         requires may { MaySend (out_end self.old) item }
         ensures same { out_end self.new ≡ out_end self.old }
         ensures ok { OnOk result (sent_of self.new ≡ sent_of self.old ++ item ∷ []) }
         ensures err { OnErr result (sent_of self.new ≡ sent_of self.old) }
     {
-        match self {
-            Outlet::Ring(feed) => {
+        match &mut self.end {
+            OutletEnd::Items(feed) => {
                 feed.put(item);
                 Ok(())
             }
-            Outlet::Kept(line) => line.push(item),
+            OutletEnd::Rows(feed) => {
+                put_item(feed, &item);
+                Ok(())
+            }
+            OutletEnd::Kept(line) => line.push(item),
         }
     }
 
     /// Sends a row of these 1 to 16 values that may be sent there, where there is room. Where there is no memory nothing is sent.
-    pub fn put_row(&mut self, row: &[i64]) -> Result<(), NoMemory>
+    pub(crate) fn put_row(&mut self, row: &[i64]) -> Result<(), NoMemory>
         requires some { 1 ≤ length row.now }
         requires at_most { length row.now ≤ 16 }
         requires room { HasRoom self.old }
-        requires may { MaySend (out_end self.old) (variant.Flat (flat.One row.now)) }
+        requires may { MaySend (out_end self.old) (row_item row.now) }
         ensures same { out_end self.new ≡ out_end self.old }
-        ensures ok { OnOk result (sent_of self.new ≡ sent_of self.old ++ variant.Flat (flat.One row.now) ∷ []) }
+        ensures ok { OnOk result (sent_of self.new ≡ sent_of self.old ++ row_item row.now ∷ []) }
         ensures err { OnErr result (sent_of self.new ≡ sent_of self.old) }
     {
-        match self {
-            Outlet::Ring(feed) => {
-                feed.put_row(row);
+        match &mut self.end {
+            OutletEnd::Items(feed) => {
+                feed.put(Item::Flat(Flat::One(Row::from_slice(row))));
                 Ok(())
             }
-            Outlet::Kept(line) => line.push_values(row),
+            OutletEnd::Rows(feed) => {
+                feed.put(row);
+                Ok(())
+            }
+            OutletEnd::Kept(line) => line.push_values(row),
         }
+    }
+}
+
+// Sends an item to a ring of rows: it is one of these.
+fn put_item(feed: &mut RowFeed, item: &Item)
+    requires room { HasRingRoom feed.old }
+    requires may { 1 ≤ feed.old.id.width → IsRowOf feed.old.id.width item.now }
+    ensures ring { SameSending feed.old feed.new }
+    ensures sent { (feed.new.sent ≡ feed.old.sent ++ item.now ∷ []) × (feed.new.waiting ≤ feed.old.waiting + 1) }
+{
+    feed.width();
+    match item {
+        Item::Flat(Flat::One(row)) => feed.put(row.values()),
+        _ => unreachable!(),
+    }
+}
+
+/// The two ends of a ring look: nothing is sent or taken, and afterwards they know of each other.
+pub(crate) fn meet(outlet: &mut Outlet, inlet: &mut Inlet)
+    requires { IsPair outlet.old inlet.old }
+    ensures settled { IsSettled outlet.new inlet.new }
+    ensures outlet { (out_end outlet.new ≡ out_end outlet.old) × (sent_of outlet.new ≡ sent_of outlet.old) }
+    ensures inlet { (in_end inlet.new ≡ in_end inlet.old) × (received_of inlet.new ≡ received_of inlet.old) }
+{
+    match (&mut outlet.end, &mut inlet.end) {
+        (OutletEnd::Items(feed), InletEnd::Items(take)) => beside(feed, take),
+        (OutletEnd::Rows(feed), InletEnd::Rows(take)) => rows_beside(feed, take),
+        // Their widths differ, so these are not the ends of one ring.
+        (OutletEnd::Items(feed), InletEnd::Rows(take)) => {
+            feed.width();
+            take.width();
+            unreachable!()
+        }
+        (OutletEnd::Rows(feed), InletEnd::Items(take)) => {
+            feed.width();
+            take.width();
+            unreachable!()
+        }
+        _ => unreachable!(),
     }
 }
 
@@ -188,37 +385,45 @@ pub(crate) fn pop_at(alloc: Global, ins: &mut Listed<Inlet>, port: usize) -> Res
     ins.at_mut(port).pop(alloc)
 }
 
-/// Whether a port's queue has rows of one value.
-pub fn has_values(kinds: &Listed<QueueType>, port: usize) -> bool
-    requires { port < length kinds.now }
-    ensures { IsTrue result → slice_get kinds.now port ≡ Some one_value }
+/// How many values the rows of a port's queue have, 1 to 16; None where it has no such rows.
+pub(crate) fn width_at(kinds: &Listed<QueueType>, port: usize) -> Option<u32>
+    ensures kind { IfSome result (λ width. slice_get kinds.now port ≡ Some (rows_of width)) }
+    ensures some { IfSome result (λ width. 1 ≤ width) }
+    ensures at_most { IfSome result (λ width. width ≤ 16) }
 {
+    if port >= kinds.len() {
+        return None;
+    }
     match kinds.at(port) {
-        QueueType::Flat(FlatType::Rows(width)) => *width == 1,
-        _ => false,
+        QueueType::Flat(FlatType::Rows(width)) => in_range(*width),
+        _ => None,
     }
 }
 
-/// The value of the next item at a port whose queue has rows of one value, where one is known to be there. Where none is given nothing is
-/// received.
+// A width, where it is 1 to 16.
+fn in_range(width: u32) -> Option<u32>
+    ensures same { IfSome result (λ w. w ≡ width) }
+    ensures some { IfSome result (λ w. 1 ≤ w) }
+    ensures at_most { IfSome result (λ w. w ≤ 16) }
+{
+    if 1 <= width && width <= 16 {
+        Some(width)
+    } else {
+        None
+    }
+}
+
+/// Takes the next item at a port, where one is known to be there and it is a row of as many values as `row`, kept as these; they are
+/// written to `row`. Where it is not, nothing is received.
 #[tactic(auto, using(crate::proofs::PortLemmas::ins_set, crate::proofs::PortLemmas::received_more))]
-pub(crate) fn pop_value_at(
-    ins: &mut Listed<Inlet>,
-    kinds: &Listed<QueueType>,
-    port: usize,
-) -> Option<i64>
+pub(crate) fn pop_row_at(ins: &mut Listed<Inlet>, port: usize, row: &mut [i64]) -> bool
     requires there { port < length ins.old }
-    requires kind { port < length kinds.now }
     requires known { (d : _) → 0 < length (known_of (slice_index_or ins.old port d)) }
     ensures same { in_ends ins.new ≡ in_ends ins.old }
-    ensures received { IfSome result (λ value. received_in ins.new ≡ append_at (received_in ins.old) port (single value ∷ [])) }
-    ensures values { IsSome result → slice_get kinds.now port ≡ Some one_value }
-    ensures none { IfNone result (ins.new ≡ ins.old) }
+    ensures received { IsTrue result → received_in ins.new ≡ append_at (received_in ins.old) port (row_item row.new ∷ []) }
+    ensures none { IsFalse result → ins.new ≡ ins.old }
 {
-    if !has_values(kinds, port) {
-        return None;
-    }
-    ins.at_mut(port).pop_value()
+    ins.at_mut(port).pop_row(row)
 }
 
 // Whether an item can be sent at a port.
@@ -275,7 +480,7 @@ fn send_item(outs: &mut Listed<Outlet>, pending: &mut Lines, port: usize) -> Res
 }
 
 /// Sends the front of what is pending at a port, where there is room; says whether an item was sent.
-pub fn send_at(
+pub(crate) fn send_at(
     outs: &mut Listed<Outlet>,
     pending: &mut Lines,
     port: usize,

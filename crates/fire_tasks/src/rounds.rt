@@ -3,16 +3,13 @@ ghost use Rattle.std.specs.Prelude.{◌≡◌, ◌<◌, ℕ, length, slice_index
 ghost use Rattle.fire_tasks.specs.Bundles.{IsReady, HasMadeRound};
 
 use crate::Bundle;
-use crate::bundle::BEGUN;
+use crate::bundle::{BEGUN, make_passes};
 use river_base::Gate;
 use river_plan::RawPlan;
 use std::sync::atomic::AtomicU64;
 use std::sync::atomic::Ordering::SeqCst;
 use std::thread;
 use std::thread::Threads;
-
-/// The most passes of a bundle in a round.
-const MOST_PASSES: u32 = 1024;
 
 // A round of a bundle: passes, until one moves nothing. Behind it the bundle counts no more as one that has not ended it.
 fn work<G: Gate>(plan: &RawPlan, bundle: &mut Bundle, gate: &G, busy: &AtomicU64)
@@ -22,26 +19,6 @@ fn work<G: Gate>(plan: &RawPlan, bundle: &mut Bundle, gate: &G, busy: &AtomicU64
     busy.fetch_sub(BEGUN, SeqCst);
     make_passes(plan, bundle, gate, busy);
     busy.fetch_sub(1, SeqCst);
-}
-
-// Passes, until one moves nothing.
-fn make_passes<G: Gate>(plan: &RawPlan, bundle: &mut Bundle, gate: &G, busy: &AtomicU64)
-    requires { IsReady plan.now bundle.old }
-    ensures { HasMadeRound plan.now bundle.old bundle.new }
-{
-    bundle.moved = false;
-    if bundle.refused {
-        return;
-    }
-    for _pass in 0..MOST_PASSES {
-        let Ok(moved) = bundle.pass_among(plan, gate, busy) else {
-            return;
-        };
-        if !moved {
-            return;
-        }
-        bundle.moved = true;
-    }
 }
 
 // What can work by a plan, or by what else it is told. A round is generic in both, so that neither the type of a plan nor that of

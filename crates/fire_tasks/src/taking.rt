@@ -1,19 +1,17 @@
 // Taking an item, and firing on it.
-ghost use Rattle.std.specs.Prelude.{◌≡◌, ◌+◌, ◌<◌, min, ℕ, ℤ, List, ◌++◌, length, OnOk, IfSome, IfNone, IsTrue, ◌↔◌, slice_index_or, Some, None};
+ghost use Rattle.std.specs.Prelude.{◌≡◌, ◌+◌, ◌<◌, ◌≤◌, min, ℕ, ℤ, List, length, IfOk, OnOk, IfSome, IfNone, IsTrue, IsFalse, ◌↔◌, slice_get, slice_index_or, Some, None};
 ghost use Rattle.brooklet_model.specs.Histories.{most_firings};
 ghost use Rattle.river_plan.specs.Forms.{plan_form};
 ghost use Rattle.river_plan.specs.Valid.{IsPlan};
-ghost use Rattle.fire_tasks.specs.Ports.{IsIdle, known_of, in_ends, received_in, AllReceived};
+ghost use Rattle.fire_tasks.specs.Ports.{IsIdle, known_of, in_ends, received_in, rows_of, AllReceived};
 ghost use Rattle.fire_tasks.specs.Tasks.{IsTask};
 ghost use Rattle.brooklet_step.specs.Given.{IsHeldOf};
-ghost use Rattle.brooklet_step.specs.Reading.{CanFire, IsBlankOf, FiredOp};
-ghost use Rattle.river_rings.specs.Ends.{single};
 ghost use Rattle.fire_tasks.specs.Turns.{HasFiredAt, HasTakenAt, HaveGained, AreCellsOf};
 
 use crate::adding::add_rows;
-use crate::ports::{pop_at, pop_value_at, ready_at};
+use crate::ports::{pop_at, pop_row_at, ready_at, width_at};
 use crate::{Inlet, Task};
-use brooklet_step::{Emit, Spare, States, fire_op, fire_values, item_fits};
+use brooklet_step::{fire_op, fire_values, item_fits};
 use class_locks::Pile;
 use river_base::{Gate, Item, Listed, NoMemory, QueueType};
 use river_plan::RawPlan;
@@ -24,7 +22,7 @@ use std::mem::swap;
 const MOST: usize = 0x7fff_ffff_ffff_ffff;
 
 /// The first port at which an item is there.
-pub fn first_ready(ins: &mut Listed<Inlet>) -> Option<usize>
+pub(crate) fn first_ready(ins: &mut Listed<Inlet>) -> Option<usize>
     ensures same { in_ends ins.new ≡ in_ends ins.old }
     ensures received { received_in ins.new ≡ received_in ins.old }
     ensures some { IfSome result (λ port. (port < length ins.new) × ((d : _) → 0 < length (known_of (slice_index_or ins.new port d)))) }
@@ -54,24 +52,6 @@ fn next_count(count: usize) -> usize
     if count < MOST { count + 1 } else { MOST }
 }
 
-// What an operator gives for a row of one value at one of its ports.
-fn fire_value(
-    alloc: Global,
-    plan: &RawPlan,
-    op: u32,
-    port: u32,
-    value: i64,
-    states: &mut States,
-    out: &mut Emit,
-    spare: &mut Spare,
-) -> Result<(), NoMemory>
-    requires can { CanFire (plan_form plan.now) op port (single value) states.old }
-    requires blank { IsBlankOf (plan_form plan.now) op out.old }
-    ensures { OnOk result (FiredOp (plan_form plan.now) op port (single value) states.old states.new out.new) }
-{
-    fire_values(alloc, plan, op, port, &[value], states, out, spare)
-}
-
 /// Takes the item at a port, and fires on it where its port's queue may hold it. The rows of the firing are left in the task's lists.
 pub fn fire_at<G: Gate>(
     alloc: Global,
@@ -88,22 +68,96 @@ pub fn fire_at<G: Gate>(
     requires known { (d : _) → 0 < length (known_of (slice_index_or task.old.ins port d)) }
     ensures { OnOk result (HasFiredAt (plan_form plan.now) task.old task.new) }
 {
-    if let Some(value) = pop_value_at(&mut task.ins, &task.kinds, port as usize) {
-        gate.enter(task.op);
-        fire_value(
-            alloc,
-            plan,
-            task.op,
-            port,
-            value,
-            &mut task.states,
-            &mut task.out,
-            &mut task.spare,
-        )?;
-        swap(&mut task.pending, &mut task.out.outs);
-        task.count = next_count(task.count);
+    match width_at(&task.kinds, port as usize) {
+        Some(width) => fire_wide(alloc, plan, task, port, width, gate),
+        None => fire_item(alloc, plan, task, port, gate),
+    }
+}
+
+// The same at a port whose queue has rows of this width.
+fn fire_wide<G: Gate>(
+    alloc: Global,
+    plan: &RawPlan,
+    task: &mut Task,
+    port: u32,
+    width: u32,
+    gate: &G,
+) -> Result<(), NoMemory>
+    requires valid { IsPlan (plan_form plan.now) }
+    requires task { (adds : ℕ → List (List ℤ)) × IsTask (plan_form plan.now) adds task.old }
+    requires idle { IsIdle task.old.pending }
+    requires fine { task.old.bad ≡ None }
+    requires port { port < length task.old.ins }
+    requires known { (d : _) → 0 < length (known_of (slice_index_or task.old.ins port d)) }
+    requires kind { slice_get task.old.kinds port ≡ Some (rows_of width) }
+    requires some { 1 ≤ width }
+    requires at_most { width ≤ 16 }
+    ensures { OnOk result (HasFiredAt (plan_form plan.now) task.old task.new) }
+{
+    let mut values = [0; 16];
+    if fire_row(alloc, plan, task, port, &mut values[..width as usize], gate)? {
         return Ok(());
     }
+    fire_item(alloc, plan, task, port, gate)
+}
+
+// Takes the row at a port, where it has as many values as `row` and is kept as these, and fires on them as they lie. It says whether it
+// did: where it did not, nothing was taken.
+fn fire_row<G: Gate>(
+    alloc: Global,
+    plan: &RawPlan,
+    task: &mut Task,
+    port: u32,
+    row: &mut [i64],
+    gate: &G,
+) -> Result<bool, NoMemory>
+    requires valid { IsPlan (plan_form plan.now) }
+    requires task { (adds : ℕ → List (List ℤ)) × IsTask (plan_form plan.now) adds task.old }
+    requires idle { IsIdle task.old.pending }
+    requires fine { task.old.bad ≡ None }
+    requires port { port < length task.old.ins }
+    requires known { (d : _) → 0 < length (known_of (slice_index_or task.old.ins port d)) }
+    requires kind { slice_get task.old.kinds port ≡ Some (rows_of (length row.old)) }
+    requires some { 1 ≤ length row.old }
+    requires at_most { length row.old ≤ 16 }
+    ensures fired { IfOk result (λ fired. IsTrue fired → HasFiredAt (plan_form plan.now) task.old task.new) }
+    ensures stays { IfOk result (λ fired. IsFalse fired → task.new ≡ task.old) }
+{
+    if !pop_row_at(&mut task.ins, port as usize, row) {
+        return Ok(false);
+    }
+    gate.enter(task.op);
+    fire_values(
+        alloc,
+        plan,
+        task.op,
+        port,
+        row,
+        &mut task.states,
+        &mut task.out,
+        &mut task.spare,
+    )?;
+    swap(&mut task.pending, &mut task.out.outs);
+    task.count = next_count(task.count);
+    Ok(true)
+}
+
+// Takes the item at a port, and fires on it where its port's queue may hold it.
+fn fire_item<G: Gate>(
+    alloc: Global,
+    plan: &RawPlan,
+    task: &mut Task,
+    port: u32,
+    gate: &G,
+) -> Result<(), NoMemory>
+    requires valid { IsPlan (plan_form plan.now) }
+    requires task { (adds : ℕ → List (List ℤ)) × IsTask (plan_form plan.now) adds task.old }
+    requires idle { IsIdle task.old.pending }
+    requires fine { task.old.bad ≡ None }
+    requires port { port < length task.old.ins }
+    requires known { (d : _) → 0 < length (known_of (slice_index_or task.old.ins port d)) }
+    ensures { OnOk result (HasFiredAt (plan_form plan.now) task.old task.new) }
+{
     let item = pop_at(alloc, &mut task.ins, port as usize)?;
     if !is_fit(&task.kinds, port as usize, &item) {
         keep_bad(&mut task.bad, port, item);

@@ -2,5 +2,7 @@
 #![tactic(auto)]
 
 mod ends;
+mod rows;
 
-pub use ends::{Feed, Take, beside, ring, ring_of_values};
+pub use ends::{Feed, Take, beside, ring};
+pub use rows::{RowFeed, RowTake, ring_of_rows, rows_beside};

@@ -1,5 +1,5 @@
 use Rattle.std.proofs.Common.{◌≡◌, replicate, []}
-use Rattle.fire_tasks.specs.declared.ports.Outlet.TheVariants.{Kept as Stored}
+use Rattle.fire_tasks.specs.Outlet.{Stored}
 use Rattle.fire_open.proofs.tasks.outs_of.Given as goal
 
 abbrev pub invariant-loop-out : goal.invariant-loop-out

@@ -1,7 +1,7 @@
 use Rattle.std.proofs.Common.{◌≡◌, Some, sym, ap, ◌∙◌, subst, arith}
 use Rattle.std.specs.Prelude.{slice_get}
 use Rattle.std.proofs.lemmas.Option.{slice_get-get_or}
-use Rattle.fire_run.specs.Closed.{AreOuts}
+use Rattle.fire_run.specs.Closed.{AreOuts, HasOuts}
 use Rattle.fire_run.proofs.OutLemmas.{tasks_next}
 use Rattle.fire_run.proofs.closing.all_outs.Goals as goal
 
@@ -26,8 +26,8 @@ take_outs-requires-clause-some c =
     record {
       h = s.0;
       lines_are = c.loop-op.invariant.lines s.0 s.1;
-      outs_are = k.each c.loop-op.op t (omega arith)
-          (slice_get-get_or c.loop-op.tasks c.loop-op.op t (omega (arith, now, first, lt, end)) ∙ ap Some (sym (c.at_mut.ensures.value t)));
+      outs_are = subst (HasOuts c.args.plan.now s.0 c.loop-op.op 0) (sym c.finish-outs.ensures) (k.each c.loop-op.op t (omega arith)
+          (slice_get-get_or c.loop-op.tasks c.loop-op.op t (omega (arith, now, first, lt, end)) ∙ ap Some (sym (c.at_mut.ensures.value t))));
     }
 
 pub loop-op-preserved : goal.loop-op-preserved
@@ -42,7 +42,8 @@ loop-op-preserved c =
     let got : slice_get c.loop-op.tasks c.loop-op.op ≡ Some t = slice_get-get_or c.loop-op.tasks c.loop-op.op t (omega (arith, now, first, lt, end))
     ∙ ap Some (sym (c.at_mut.ensures.value t)) in
     record {
-      lines = λ h hv. c.take_outs.ensures h (c.loop-op.invariant.lines h hv) ((c.loop-op.invariant.tasks h hv).each c.loop-op.op t (omega arith) got);
+      lines = λ h hv. c.take_outs.ensures h (c.loop-op.invariant.lines h hv)
+          (subst (HasOuts c.args.plan.now h c.loop-op.op 0) (sym c.finish-outs.ensures) ((c.loop-op.invariant.tasks h hv).each c.loop-op.op t (omega arith) got));
       tasks = λ h hv. tasks_next c.args.plan.now h c.loop-op.op c.loop-op.tasks _ (c.loop-op.invariant.tasks h hv);
     }
 

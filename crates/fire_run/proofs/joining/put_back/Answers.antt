@@ -4,7 +4,7 @@ use Rattle.fire_run.proofs.joining.put_back.Goals as goal
 
 pub put_task-requires : goal.put_task-requires
 put_task-requires c =
-    putting_within c.args.own.now c.args.tasks.now c.loop-task.own c.loop-task.tasks c.pop.new.self c.in-Some.task c.loop-task.invariant
+    putting_within c.args.own c.args.tasks.now c.loop-task.own c.loop-task.tasks c.pop.new.self c.in-Some.task c.loop-task.invariant
     c.in-Some.ensures c.requires
 
 pub loop-task-smaller : goal.loop-task-smaller
@@ -15,5 +15,5 @@ loop-task-smaller c =
 
 pub loop-task-preserved : goal.loop-task-preserved
 loop-task-preserved c =
-    subst (Putting c.args.own.now c.args.tasks.now c.pop.new.self) (sym c.put_task.ensures)
-    (putting_next c.args.own.now c.args.tasks.now c.loop-task.own c.loop-task.tasks c.pop.new.self c.in-Some.task c.loop-task.invariant c.in-Some.ensures)
+    subst (Putting c.args.own c.args.tasks.now c.pop.new.self) (sym c.put_task.ensures)
+    (putting_next c.args.own c.args.tasks.now c.loop-task.own c.loop-task.tasks c.pop.new.self c.in-Some.task c.loop-task.invariant c.in-Some.ensures)

@@ -16,17 +16,17 @@ loop-place-preserved c =
           (let t = w.replace.result in
           let here = w.replace.ensures.value ∙ w.at_mut.ensures.value t in
           let same : t ≡ c.at.result.now = here ∙ sym (c.at.ensures t) in
-          let empty = ap (λ (x : Task). x.op) w.replace.ensures.after ∙ w.empty_task.ensures ∙ ap (λ (x : Task). x.op) (sym same) in
+          let empty = ap (λ (x : Task). x.op) w.replace.ensures.after ∙ w.empty.ensures ∙ c.op-op.ensures ∙ ap (λ (x : Task). x.op) (sym same) in
           subst (λ ts. Taking c.args.workers c.args.part c.args.tasks.now (i + 1) ts c.if-op-workers.own) (sym w.tasks-is)
           (subst (λ own. Taking c.args.workers c.args.part c.args.tasks.now (i + 1) (set c.loop-place.tasks i w.replace.new.dest) own) (sym (w.own-is
           ∙ w.in_ok-push.ensures.ok))
           (taking_in c.args.workers c.args.part i c.args.tasks.now c.loop-place.tasks c.loop-place.own t w.replace.new.dest
           c.loop-place.invariant there here empty
-          (ap (λ (x : Task). x.op % c.args.workers) same ∙ w.if-op-workers.true))))
+          (ap (λ (x : Task). x.op % c.args.workers) same ∙ ap (λ n. n % c.args.workers) (sym c.op-op.ensures) ∙ w.if-op-workers.true))))
       | else-op-workers w ↦
           (let t = c.at.result.now in
           subst (λ ts. Taking c.args.workers c.args.part c.args.tasks.now (i + 1) ts c.if-op-workers.own) (sym w.tasks-is)
           (subst (λ own. Taking c.args.workers c.args.part c.args.tasks.now (i + 1) c.loop-place.tasks own) (sym w.own-is)
           (taking_past c.args.workers c.args.part i c.args.tasks.now c.loop-place.tasks c.loop-place.own t c.loop-place.invariant there
-          (c.at.ensures t) w.if-op-workers.false)))
+          (c.at.ensures t) (λ e. w.if-op-workers.false (ap (λ n. n % c.args.workers) c.op-op.ensures ∙ e)))))
     ]

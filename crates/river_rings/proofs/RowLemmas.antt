@@ -1,0 +1,244 @@
+-- Rows of one width, and the values of them.
+use Rattle.std.proofs.Common.{rules, ◌≡◌, ℕ, zero, suc, ℤ, ◌+◌, ◌-◌, ◌*◌, ◌/◌, ◌<◌, ◌≤◌, List, [], ◌∷◌, ◌++◌, length, take, drop, map, refl, sym, ap, ◌∙◌, subst, arith}
+use Rattle.std.proofs.Common.{length-append, length-drop}
+use Rattle.std.proofs.lemmas.List.{map-append, length-map, drop-drop, drop-append-le, take-append-le, take_all, drop_at}
+use Rattle.std.proofs.lemmas.Nat.{le-div, div-mul-add}
+use Rattle.std.proofs.Math.Nat.{add-mul-div_right, div-mul-le_self, mul-add-div_right, mul-div_cancel, mul-le-mul_right}
+use Rattle.std.specs.declared.alloc.Global.{Global}
+use Rattle.std.specs.Prelude.{slice_set}
+use mathlib.Core.List.{IsPrefix}
+use Rattle.rtrb.specs.declared.consumer.Consumer.{Consumer}
+use Rattle.rtrb.specs.declared.producer.Producer.{Producer}
+use Rattle.rtrb.specs.Ring.{sent, known_free, producer_capacity, known_items, consumer_capacity, ConsumerLooked, ProducerLooked}
+use Rattle.river_rings.specs.Ends.{HasRingRoom, HasSeen, HasSeenTaken, IsFullRing}
+use Rattle.river_rings.specs.Rows.{AreWhole, cut, row_item, rows_in, row_sending, row_taking}
+
+-- CUTS
+
+-- n + m rows are n of them, and m behind these
+cut-both : (w n m : ℕ) (vs : List ℤ) → cut w (n + m) vs ≡ cut w n vs ++ cut w m (drop (n * w) vs)
+cut-both w zero m vs =
+    let e : 0 + m ≡ m = omega arith in
+    let z : 0 * w ≡ 0 = omega arith in
+    ap (λ k. cut w k vs) e ∙ ap (λ k. cut w m (drop k vs)) (sym z)
+cut-both w (suc n) m vs =
+    let e : suc n + m ≡ suc (n + m) = omega arith in
+    let s : w + n * w ≡ suc n * w = omega arith in
+    ap (λ k. cut w k vs) e
+    ∙ ap (λ t. take w vs ∷ t) (cut-both w n m (drop w vs))
+    ∙ ap (λ l. take w vs ∷ (cut w n (drop w vs) ++ cut w m l)) (drop-drop (n * w) w vs)
+    ∙ ap (λ k. take w vs ∷ (cut w n (drop w vs) ++ cut w m (drop k vs))) s
+
+-- rows that are there stay what they are, whatever follows
+cut-front : (w n : ℕ) (vs us : List ℤ) → n * w ≤ length vs → cut w n (vs ++ us) ≡ cut w n vs
+cut-front w zero vs us h = refl
+cut-front w (suc n) vs us h =
+    let s : suc n * w ≡ w + n * w = omega arith in
+    let le : w ≤ length vs = omega (arith, h, s) in
+    let l : n * w ≤ length (drop w vs) = omega (arith, h, s, length-drop w vs) in
+    ap (λ t. take w (vs ++ us) ∷ cut w n t) (drop-append-le w vs us le)
+    ∙ ap (λ t. t ∷ cut w n (drop w vs ++ us)) (take-append-le w vs us le)
+    ∙ ap (λ t. take w vs ∷ t) (cut-front w n (drop w vs) us l)
+
+length-cut : (w n : ℕ) (vs : List ℤ) → length (cut w n vs) ≡ n
+length-cut w zero vs = refl
+length-cut w (suc n) vs = ap suc (length-cut w n (drop w vs))
+
+-- COUNTS
+
+-- more values make no fewer rows
+pub div-more : (w m n : ℕ) → 1 ≤ w → m ≤ n → m / w ≤ n / w
+div-more w m n some le = let h = div-mul-le_self m w in le-div (m / w) n w (omega (arith, some)) (omega (arith, h, le))
+
+-- as many rows as whole ones
+pub as_many : (w : ℕ) (vs : List ℤ) → length (rows_in w vs) ≡ length vs / w
+as_many w vs = length-map (cut w (length vs / w) vs) row_item ∙ length-cut w (length vs / w) vs
+
+-- values of rows, and others, make as many rows as both
+rows_of_both : (w : ℕ) (vs us : List ℤ) → AreWhole w vs → length (vs ++ us) / w ≡ length vs / w + length us / w
+rows_of_both w vs us h =
+    ap (λ n. n / w) (length-append vs us ∙ ap (λ n. n + length us) h.whole)
+    ∙ mul-add-div_right {m = w} (let s = h.some in omega (arith, s)) (length vs / w) (length us)
+
+-- ROWS
+
+-- values of rows, and others behind: the rows of the one, then those of the other
+pub rows-both : (w : ℕ) (vs us : List ℤ) → AreWhole w vs → rows_in w (vs ++ us) ≡ rows_in w vs ++ rows_in w us
+rows-both w vs us h =
+    let n = length vs / w in
+    let m = length us / w in
+    let le : n * w ≤ length vs = div-mul-le_self (length vs) w in
+    ap (λ k. map row_item (cut w k (vs ++ us))) (rows_of_both w vs us h)
+    ∙ ap (map row_item)
+    (cut-both w n m (vs ++ us)
+    ∙ ap (λ t. t ++ cut w m (drop (n * w) (vs ++ us))) (cut-front w n vs us le)
+    ∙ ap (λ t. cut w n vs ++ cut w m t) (drop_at vs us (n * w) h.whole))
+    ∙ map-append row_item (cut w n vs) (cut w m us)
+
+-- the values of one row
+pub one_row : (w : ℕ) (row : List ℤ) → 1 ≤ w → length row ≡ w → rows_in w row ≡ row_item row ∷ []
+one_row w row some l =
+    let one : length row / w ≡ 1 = ap (λ n. n / w) (l ∙ (let e : w ≡ 1 * w = omega arith in e)) ∙ mul-div_cancel 1 {n = w} (omega (arith, some)) in
+    ap (λ k. map row_item (cut w k row)) one ∙ ap (λ t. row_item t ∷ []) (take_all w row (omega (arith, l)))
+
+-- they are those of rows with one row more
+pub whole_more : (w : ℕ) (vs row ws : List ℤ) → AreWhole w vs → length row ≡ w → ws ≡ vs ++ row → AreWhole w ws
+whole_more w vs row ws h l e =
+    let some = h.some in
+    let whole = h.whole in
+    let one : length row / w ≡ 1 = ap (λ n. n / w) (l ∙ (let d : w ≡ 1 * w = omega arith in d)) ∙ mul-div_cancel 1 {n = w} (omega (arith, some)) in
+    let n = length vs / w in
+    let q : length (vs ++ row) / w ≡ n + 1 = rows_of_both w vs row h ∙ ap (λ k. n + k) one in
+    let p : (n + 1) * w ≡ n * w + w = omega arith in
+    subst (λ l. AreWhole w l) (sym e) (record {
+      some = some;
+      at_most = h.at_most;
+      whole = length-append vs row ∙ (let s : length vs + length row ≡ (n + 1) * w = omega (arith, whole, l, p) in s) ∙ ap (λ k. k * w) (sym q);
+    })
+
+-- no values are the values of no rows
+pub whole_none : (w : ℕ) → 1 ≤ w → w ≤ 16 → AreWhole w []
+whole_none w some most =
+    let z : 0 / w ≡ 0 = ap (λ n. n / w) (let e : 0 ≡ 0 * w = omega arith in e) ∙ mul-div_cancel 0 {n = w} (omega (arith, some)) in
+    record { some = some; at_most = most; whole = let e : 0 ≡ 0 * w = omega arith in e ∙ ap (λ k. k * w) (sym z) }
+
+pub rows_none : (w : ℕ) → 1 ≤ w → rows_in w [] ≡ []
+rows_none w some =
+    let z : 0 / w ≡ 0 = ap (λ n. n / w) (let e : 0 ≡ 0 * w = omega arith in e) ∙ mul-div_cancel 0 {n = w} (omega (arith, some)) in
+    ap (λ k. map row_item (cut w k [])) z
+
+-- a row behind the values of rows
+pub row-more : (w : ℕ) (vs row ws : List ℤ) → AreWhole w vs → length row ≡ w → ws ≡ vs ++ row → rows_in w ws ≡ rows_in w vs ++ row_item row ∷ []
+row-more w vs row ws h l e = ap (rows_in w) e ∙ rows-both w vs row h ∙ ap (λ t. rows_in w vs ++ t) (one_row w row h.some l)
+
+-- a row before others
+pub row-first : (w : ℕ) (row us : List ℤ) → 1 ≤ w → w ≤ 16 → length row ≡ w → rows_in w (row ++ us) ≡ row_item row ∷ rows_in w us
+row-first w row us some most l =
+    rows-both w row us (whole_more w [] row row (whole_none w some most) l refl) ∙ ap (λ t. t ++ rows_in w us) (one_row w row some l)
+
+-- values that are a front of others make rows that are
+pub rows-front : (w : ℕ) (vs ws : List ℤ) → 1 ≤ w → IsPrefix vs ws → IsPrefix (rows_in w vs) (rows_in w ws)
+rows-front w vs ws some h =
+    let us = h.0 in
+    let n = length vs / w in
+    let all = length (vs ++ us) / w in
+    let more : n ≤ all = div-more w (length vs) (length (vs ++ us)) some (let l = length-append vs us in omega (arith, l)) in
+    let m = all - n in
+    let s : all ≡ n + m = omega (arith, more) in
+    let rest = cut w m (drop (n * w) (vs ++ us)) in (
+      map row_item rest,
+      sym (map-append row_item (cut w n vs) rest)
+          ∙ ap (λ t. map row_item (t ++ rest)) (sym (cut-front w n vs us (div-mul-le_self (length vs) w)))
+          ∙ ap (map row_item) (sym (cut-both w n m (vs ++ us)))
+          ∙ ap (λ k. map row_item (cut w k (vs ++ us))) (sym s)
+          ∙ ap (rows_in w) h.1,
+    )
+
+-- ENDS
+
+-- a look at room for values is one at room for rows
+pub looked_feed : {P : Type 0} (w : ℕ) (p q : Producer ℤ Global P) → 1 ≤ w → ProducerLooked p q → HasSeenTaken (row_sending w p) (row_sending w q)
+looked_feed w p q some h =
+    let more = div-more w (known_free p) (known_free q) some h.2 in
+    let cap : producer_capacity q ≡ producer_capacity p = h.0.1 in
+    record {
+      same = search rules;
+      sent = ap (rows_in w) h.1;
+      waiting = subst (λ n. n / w - known_free q / w ≤ producer_capacity p / w - known_free p / w) (sym cap) (omega (arith, more));
+    }
+
+-- and one at values is one at rows
+pub looked_take : {P : Type 0} (w : ℕ) (c d : Consumer ℤ Global P) → 1 ≤ w → ConsumerLooked c d → HasSeen (row_taking w c) (row_taking w d)
+looked_take w c d some h = record {
+  same = search rules;
+  received = ap (rows_in w) h.1;
+  known = rows-front w (known_items c) (known_items d) some h.2;
+}
+
+-- fewer values than a row has
+few : (w n : ℕ) → n < w → n / w ≡ 0
+few w n lt = ap (λ k. k / w) (let e : n ≡ 0 * w + n = omega arith in e) ∙ div-mul-add 0 w n lt
+
+-- they make no row
+pub rows_few : (w : ℕ) (vs : List ℤ) → length vs < w → rows_in w vs ≡ []
+rows_few w vs lt = ap (λ k. map row_item (cut w k vs)) (few w (length vs) lt)
+
+-- as many as a row has make one
+pub rows_some : (w : ℕ) (vs : List ℤ) → 1 ≤ w → w ≤ length vs → 0 < length (rows_in w vs)
+rows_some w vs some le =
+    let one : 1 ≤ length vs / w = le-div 1 (length vs) w (omega (arith, some)) (omega (arith, le)) in
+    let e = as_many w vs in
+    omega (arith, one, e)
+
+-- where there is a row there are as many values
+pub values_some : (w : ℕ) (vs : List ℤ) → 1 ≤ w → 0 < length (rows_in w vs) → w ≤ length vs
+values_some w vs some lt =
+    let e = as_many w vs in
+    let one : 1 * w ≤ length vs / w * w = mul-le-mul_right w (let o : 1 ≤ length vs / w = omega (arith, lt, e) in o) in
+    let le = div-mul-le_self (length vs) w in
+    omega (arith, one, le)
+
+-- no more slots are free than there are
+free_most : {P : Type 0} (q : Producer ℤ Global P) → known_free q ≤ producer_capacity q
+free_most q = let h = q.counts.2 in omega (arith, h)
+
+-- room for the values of a row is room for a row
+pub room_yes : {P : Type 0} (w : ℕ) (q : Producer ℤ Global P) → 1 ≤ w → w ≤ known_free q → HasRingRoom (row_sending w q)
+room_yes w q some le =
+    let one : 1 ≤ known_free q / w = le-div 1 (known_free q) w (omega (arith, some)) (omega (arith, le)) in
+    let most = div-more w (known_free q) (producer_capacity q) some (free_most q) in
+    omega (arith, one, most)
+
+-- where there is none there is none
+pub room_no : {P : Type 0} (w : ℕ) (q : Producer ℤ Global P) → known_free q < w → IsFullRing (row_sending w q)
+room_no w q lt = let z = few w (known_free q) lt in omega (arith, z)
+
+-- and room for a row is room for its values
+pub room_values : {P : Type 0} (w : ℕ) (q : Producer ℤ Global P) → 1 ≤ w → HasRingRoom (row_sending w q) → w ≤ known_free q
+room_values w q some lt =
+    let o : 1 ≤ known_free q / w = omega (arith, lt) in
+    let one : 1 * w ≤ known_free q / w * w = mul-le-mul_right w o in
+    let le = div-mul-le_self (known_free q) w in
+    omega (arith, one, le)
+
+-- a row more that waits
+pub room_less : {P : Type 0} (w : ℕ) (p q : Producer ℤ Global P) → 1 ≤ w → producer_capacity q ≡ producer_capacity p → known_free p ≤ known_free q + w
+    → producer_capacity q / w - known_free q / w ≤ producer_capacity p / w - known_free p / w + 1
+room_less w p q some c le =
+    let one : known_free q + w ≡ known_free q + 1 * w = omega arith in
+    let more = div-more w (known_free p) (known_free q + 1 * w) some (omega (arith, le)) in
+    let sum = add-mul-div_right (known_free q) 1 {z = w} (omega (arith, some)) in
+    let same = ap (λ n. n / w) c in
+    omega (arith, more, sum, same)
+
+-- what was sent waits until it was received
+pub room_behind : {P : Type 0} (w : ℕ) (q : Producer ℤ Global P) (rs : List ℤ) → AreWhole w (sent q) → AreWhole w rs
+    → known_free q + length (sent q) ≡ producer_capacity q + length rs
+    → producer_capacity q / w - known_free q / w + length (rows_in w rs) ≤ length (rows_in w (sent q))
+room_behind w q rs s r e =
+    let some : 0 < w = (let o = s.some in omega (arith, o)) in
+    let a = add-mul-div_right (known_free q) (length (sent q) / w) {z = w} some in
+    let b = add-mul-div_right (producer_capacity q) (length rs / w) {z = w} some in
+    let d : (known_free q + length (sent q) / w * w) / w ≡ (producer_capacity q + length rs / w * w) / w =
+    ap (λ n. n / w) (ap (λ n. known_free q + n) (sym s.whole) ∙ e ∙ ap (λ n. producer_capacity q + n) r.whole) in
+    let most = div-more w (known_free q) (producer_capacity q) s.some (free_most q) in
+    let m = as_many w rs in
+    let n = as_many w (sent q) in
+    omega (arith, a, b, d, most, m, n)
+
+-- a ring for the values of so many rows is one for the rows
+pub room_for : (w cap n : ℕ) → 1 ≤ w → n ≡ cap * w → n / w ≡ cap
+room_for w cap n some e = ap (λ k. k / w) e ∙ mul-div_cancel cap {n = w} (omega (arith, some))
+
+-- as many rows are known as the ring holds at most
+pub known_most : {P : Type 0} (w : ℕ) (c : Consumer ℤ Global P) → 1 ≤ w → length (rows_in w (known_items c)) ≤ consumer_capacity c / w
+known_most w c some =
+    let m = as_many w (known_items c) in
+    let d = div-more w (length (known_items c)) (consumer_capacity c) some c.counts in
+    omega (arith, m, d)
+
+-- a value that is written where there is one place
+pub single_set : (xs : List ℤ) (v : ℤ) → length xs ≡ 1 → slice_set xs 0 v ≡ v ∷ []
+single_set [] v l = absurd (cc l)
+single_set (x ∷ []) v l = refl
+single_set (x ∷ (y ∷ xs)) v l = absurd (cc l)
