@@ -1,5 +1,5 @@
 -- Children that were made so far, and those that are made behind them.
-use Rattle.std.proofs.Common.{◌≡◌, ℕ, ◌+◌, ◌-◌, ◌≤◌, List, [], ◌∷◌, ◌++◌, Result, Ok, Err, refl, sym, ap, ◌∙◌, arith, append_assoc, append-nil}
+use Rattle.std.proofs.Common.{◌≡◌, ℕ, ◌-◌, ◌≤◌, List, [], ◌∷◌, ◌++◌, Result, Ok, Err, refl, sym, ap, ◌∙◌, arith, append_assoc, append-nil}
 use Rattle.river_plan.specs.Forms.{Name}
 use Rattle.streamit_model.specs.Meaning.{numbers_from}
 use Rattle.params_model.specs.Environment.{Environment}

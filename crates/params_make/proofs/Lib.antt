@@ -3,3 +3,4 @@ pub mod Faults
 pub mod Growing
 pub mod Parts
 pub mod Sources
+pub mod Valued

@@ -1,4 +1,5 @@
 pub mod Finding
 pub mod Standing
 pub mod Turning
+pub mod Valued
 pub mod Written

@@ -1,18 +1,20 @@
 // The bodies of instances: their children, and then their own text.
-ghost use Rattle.std.specs.Prelude.{◌≡◌, ◌-◌, [], suc, length};
+ghost use Rattle.std.specs.Prelude.{◌≡◌, ◌-◌, [], ◌∷◌, ℕ, pos, suc, length, OnOk};
 ghost use Rattle.params_text.specs.Program.{program_of, body_of, declared_of, filter_of, steps_of, step_of, expressions, Add, AFilter, APipeline};
 ghost use Rattle.params_text.specs.View.{split_join_of};
 ghost use Rattle.streamit_model.specs.Meaning.{numbers_from};
 ghost use Rattle.params_model.specs.Laws.{AreFit};
 ghost use Rattle.params_model.specs.Making.{Made, Adding, made_once, steps_made, children_made, turns_made, make};
+ghost use Rattle.params_make.specs.Valued.{IsValued, AreValued};
 ghost use Rattle.params_make.specs.Standing.{Stands, MakesOne, MakesMore, MakesAll, adding, source_at, bodied, turn_steps, turn_made};
 ghost use Rattle.params_model.specs.Constants.{AreFitUnits, IsFitUnit, IsFitFilter, HasFitConstants, HaveFitConstants};
 
 use crate::Making;
+use crate::bounds::{Bounds, fixed_bounds};
 use crate::find::{find, size_at};
 use crate::making::{demand, refuse};
 use crate::ranges::{is_ranged_filter, is_ranged_round, is_ranged_split};
-use crate::span::{Span, span_between, values};
+use crate::span::{Span, span_between, value_or, values};
 use params_build::{Fault, Refusal};
 use params_print::{Bindings, Instance};
 use params_text::{ParamBody, ParamFilter, ParamSplitJoin, ParamUnit, Step, Steps};
@@ -214,7 +216,29 @@ impl Making {
             → MakesAll result scope.old scope.new self.new (children_made (adding seen.entry.units.now seen.entry.sizes.now seen.entry.depth)
             (suc (length seen.entry.units.now)) scope.old.known (steps_of steps.now) m) }
     {
-        self.steps(alloc, seen, scope, steps)?;
+        let bounds = fixed_bounds(alloc, &scope.known, steps)?;
+        self.some_children(alloc, seen, scope, bounds.as_slice(), steps)
+    }
+
+    // The same where this is known of the steps.
+    #[cycle(make)]
+    fn some_children(
+        &mut self,
+        alloc: Global,
+        seen: Seen<'_>,
+        scope: &mut Scope,
+        bounds: &[Bounds],
+        steps: &Steps,
+    ) -> Result<(), Refusal>
+        requires above { AreFitUnits (program_of seen.units.now) }
+        requires steps { HaveFitConstants (steps_of steps.now) }
+        requires bounds { AreValued scope.old.known (steps_of steps.now) bounds.now }
+        requires none { scope.old.children ≡ [] }
+        ensures { (m : Made) → Stands self.old m
+            → MakesAll result scope.old scope.new self.new (children_made (adding seen.entry.units.now seen.entry.sizes.now seen.entry.depth)
+            (suc (length seen.entry.units.now)) scope.old.known (steps_of steps.now) m) }
+    {
+        self.steps(alloc, seen, scope, bounds, steps)?;
         if scope.children.is_empty() {
             return Err(refuse(seen.units, Fault::Empty));
         }
@@ -228,17 +252,21 @@ impl Making {
         alloc: Global,
         seen: Seen<'_>,
         scope: &mut Scope,
+        bounds: &[Bounds],
         steps: &Steps,
     ) -> Result<(), Refusal>
         requires above { AreFitUnits (program_of seen.units.now) }
         requires steps { HaveFitConstants (steps_of steps.now) }
-        ensures { (m : Made) → Stands self.old m
+        requires bounds { AreValued scope.old.known (steps_of steps.now) bounds.now }
+        ensures made { (m : Made) → Stands self.old m
             → MakesMore result scope.old scope.new self.new (steps_made (adding seen.entry.units.now seen.entry.sizes.now seen.entry.depth)
             (suc (length seen.entry.units.now)) scope.old.known (steps_of steps.now) m) }
+        ensures same { OnOk result (scope.new.known ≡ scope.old.known) }
     {
+        let mut place = 0;
         'items: for each in steps.items.as_slice() {
-            match self.step(alloc, seen, scope, each) {
-                Ok(()) => {}
+            match self.step(alloc, seen, scope, &bounds[place], each) {
+                Ok(()) => place += 1,
                 Err(refusal) => return Err(refusal),
             }
         }
@@ -252,13 +280,16 @@ impl Making {
         alloc: Global,
         seen: Seen<'_>,
         scope: &mut Scope,
+        bounds: &Bounds,
         step: &Step,
     ) -> Result<(), Refusal>
         requires above { AreFitUnits (program_of seen.units.now) }
         requires step { HasFitConstants (step_of step.now) }
-        ensures { (m : Made) → Stands self.old m
+        requires bounds { IsValued scope.old.known (step_of step.now) bounds.now }
+        ensures made { (m : Made) → Stands self.old m
             → MakesMore result scope.old scope.new self.new (made_once (adding seen.entry.units.now seen.entry.sizes.now seen.entry.depth)
             (suc (length seen.entry.units.now)) scope.old.known (step_of step.now) m) }
+        ensures same { OnOk result (scope.new.known ≡ scope.old.known) }
     {
         match step {
             Step::Add { name, args } => self.add(alloc, seen, scope, *name, args),
@@ -268,13 +299,17 @@ impl Making {
                 until,
                 high,
                 steps,
-            } => match span_between(&scope.known, low, *until, high) {
-                Some(span) => {
-                    let turns = Turns { name: *name, span };
-                    self.turns(alloc, seen, scope, turns, steps)
+            } => {
+                let low = value_or(&scope.known, bounds.low, low);
+                let high = value_or(&scope.known, bounds.high, high);
+                match span_between(low, *until, high) {
+                    Some(span) => {
+                        let turns = Turns { name: *name, span };
+                        self.turns(alloc, seen, scope, turns, bounds.inner.as_slice(), steps)
+                    }
+                    None => Err(refuse(seen.units, Fault::Range)),
                 }
-                None => Err(refuse(seen.units, Fault::Range)),
-            },
+            }
         }
     }
 
@@ -290,9 +325,10 @@ impl Making {
     ) -> Result<(), Refusal>
         requires above { AreFitUnits (program_of seen.units.now) }
         requires args { AreFit (expressions args.now) }
-        ensures { (m : Made) → Stands self.old m
+        ensures made { (m : Made) → Stands self.old m
             → MakesMore result scope.old scope.new self.new (made_once (adding seen.entry.units.now seen.entry.sizes.now seen.entry.depth)
             (suc (length seen.entry.units.now)) scope.old.known (Add stream (expressions args.now)) m) }
+        ensures same { OnOk result (scope.new.known ≡ scope.old.known) }
     {
         let values = values(alloc, &scope.known, args)?;
         let child = self.instance(alloc, seen, stream, values.as_slice())?;
@@ -308,18 +344,21 @@ impl Making {
         seen: Seen<'_>,
         scope: &mut Scope,
         turns: Turns,
+        bounds: &[Bounds],
         steps: &Steps,
     ) -> Result<(), Refusal>
         requires above { AreFitUnits (program_of seen.units.now) }
         requires steps { HaveFitConstants (steps_of steps.now) }
-        ensures { (m : Made) → Stands self.old m
+        requires bounds { (v : ℕ) → AreValued ((turns.name, pos v) ∷ scope.old.known) (steps_of steps.now) bounds.now }
+        ensures made { (m : Made) → Stands self.old m
             → MakesMore result scope.old scope.new self.new (turns_made (suc (length seen.entry.units.now))
             (turn_steps (adding seen.entry.units.now seen.entry.sizes.now seen.entry.depth)
             (suc (length seen.entry.units.now)) scope.old.known turns.name (steps_of steps.now))
             (numbers_from turns.span.low (turns.span.end - turns.span.low)) m) }
+        ensures same { OnOk result (scope.new.known ≡ scope.old.known) }
     {
         'range: for each in turns.span.low..turns.span.end {
-            match self.turn(alloc, seen, scope, turns.name, each, steps) {
+            match self.turn(alloc, seen, scope, turns.name, each, bounds, steps) {
                 Ok(()) => {}
                 Err(refusal) => return Err(refusal),
             }
@@ -336,18 +375,21 @@ impl Making {
         scope: &mut Scope,
         name: Name,
         value: u32,
+        bounds: &[Bounds],
         steps: &Steps,
     ) -> Result<(), Refusal>
         requires above { AreFitUnits (program_of seen.units.now) }
         requires steps { HaveFitConstants (steps_of steps.now) }
-        ensures { (m : Made) → Stands self.old m
+        requires bounds { AreValued ((name, pos value) ∷ scope.old.known) (steps_of steps.now) bounds.now }
+        ensures made { (m : Made) → Stands self.old m
             → MakesMore result scope.old scope.new self.new (turn_made (suc (length seen.entry.units.now))
             (turn_steps (adding seen.entry.units.now seen.entry.sizes.now seen.entry.depth)
             (suc (length seen.entry.units.now)) scope.old.known name (steps_of steps.now)) value m) }
+        ensures same { OnOk result (scope.new.known ≡ scope.old.known) }
     {
         self.begin_turn(seen.units)?;
         scope.known.push(name, i64::from(value))?;
-        self.steps(alloc, seen, scope, steps)?;
+        self.steps(alloc, seen, scope, bounds, steps)?;
         scope.known.pop();
         Ok(())
     }

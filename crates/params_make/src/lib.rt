@@ -3,6 +3,7 @@
 #![tactic(auto)]
 
 mod body;
+mod bounds;
 mod find;
 mod make;
 mod making;

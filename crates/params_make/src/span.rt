@@ -5,6 +5,7 @@ ghost use Rattle.params_text.specs.Program.{expressions};
 ghost use Rattle.params_model.specs.Environment.{value};
 ghost use Rattle.params_model.specs.Laws.{HasValues, AreFit};
 ghost use Rattle.params_make.specs.Turning.{IsRangedBound, Spans};
+ghost use Rattle.params_make.specs.Valued.{IsFixed};
 
 use params_print::{Bindings, value};
 use river_base::{NoMemory, Numbers};
@@ -18,12 +19,22 @@ pub struct Span {
     pub end: u32,
 }
 
-// A bound of a loop, where it is in range.
-fn bound(known: &Bindings, c: &Expr) -> Option<u32>
-    requires { HasValues (expression c.now) }
-    ensures { IsRangedBound result (value known.now (expression c.now)) }
+/// The value of a bound, which may be known before.
+pub fn value_or(known: &Bindings, fixed: Option<i64>, c: &Expr) -> i64
+    requires values { HasValues (expression c.now) }
+    requires fixed { IsFixed fixed (value known.now (expression c.now)) }
+    ensures { result ≡ value known.now (expression c.now) }
 {
-    let value = value(known, c);
+    match fixed {
+        Some(value) => value,
+        None => value(known, c),
+    }
+}
+
+// A bound of a loop, where it is in range.
+fn bound(value: i64) -> Option<u32>
+    ensures { IsRangedBound result value }
+{
     if 0 <= value && value <= 65_536 {
         Some(value as u32)
     } else {
@@ -32,13 +43,11 @@ fn bound(known: &Bindings, c: &Expr) -> Option<u32>
 }
 
 /// The turns of a loop between these bounds, where both are in range.
-pub fn span_between(known: &Bindings, low: &Expr, until: Until, high: &Expr) -> Option<Span>
-    requires low { HasValues (expression low.now) }
-    requires high { HasValues (expression high.now) }
-    ensures { Spans result (value known.now (expression low.now)) (is_turn until) (value known.now (expression high.now)) }
+pub fn span_between(low: i64, until: Until, high: i64) -> Option<Span>
+    ensures { Spans result low (is_turn until) high }
 {
-    let low = bound(known, low)?;
-    let high = bound(known, high)?;
+    let low = bound(low)?;
+    let high = bound(high)?;
     let end = match until {
         Until::Below => high,
         Until::UpTo => high + 1,

@@ -1,11 +1,13 @@
-use Rattle.std.proofs.Common.{◌+◌, ◌*◌, ◌-◌, suc, drop, map, length}
+use Rattle.std.proofs.Common.{◌≡◌, ◌+◌, ◌*◌, ◌-◌, suc, drop, map, length}
 use Rattle.streamit_model.specs.Meaning.{numbers_from}
 use Rattle.params_text.specs.Program.{steps_in_turn, step_of, steps_of}
+use Rattle.params_text.specs.declared.program.Step.{size-Step}
 use Rattle.params_text.specs.declared.program.Steps.{size-Steps}
 use Rattle.params_model.specs.Constants.{HaveFitConstants}
 use Rattle.params_model.specs.Making.{Made, steps_made, turns_made}
 use Rattle.params_make.specs.Standing.{Stands, adding, turn_steps}
 use Rattle.params_make.proofs.Growing.{SoFar}
+use Rattle.params_make.specs.Valued.{AreValued}
 use Rattle.params_make.proofs.Sources.{room, body_size}
 use Rattle.params_make.proofs.making.Making.+make.Given as goal
 
@@ -27,20 +29,23 @@ decreases-split_join l = room l.seen.units.now + (size-Steps l.all.now.steps * 8
 abbrev pub decreases-children : goal.decreases-children
 decreases-children l = room l.seen.units.now + (size-Steps l.steps.now * 8 + 12)
 
+abbrev pub decreases-some_children : goal.decreases-some_children
+decreases-some_children l = room l.seen.units.now + (size-Steps l.steps.now * 8 + 8)
+
 abbrev pub decreases-steps : goal.decreases-steps
-decreases-steps l = room l.seen.units.now + (goal.size-steps l * 8 + 4)
+decreases-steps l = room l.seen.units.now + (size-Steps l.steps.now * 8 + 4)
 
 abbrev pub decreases-step : goal.decreases-step
-decreases-step l = room l.seen.units.now + (goal.size-step l * 8 + 3)
+decreases-step l = room l.seen.units.now + (size-Step l.step.now * 8 + 3)
 
 abbrev pub decreases-add : goal.decreases-add
 decreases-add l = room l.seen.units.now + 1
 
 abbrev pub decreases-turns : goal.decreases-turns
-decreases-turns l = room l.seen.units.now + (goal.size-turns l * 8 + 6)
+decreases-turns l = room l.seen.units.now + (size-Steps l.steps.now * 8 + 6)
 
 abbrev pub decreases-turn : goal.decreases-turn
-decreases-turn l = room l.seen.units.now + (goal.size-turn l * 8 + 5)
+decreases-turn l = room l.seen.units.now + (size-Steps l.steps.now * 8 + 5)
 
 abbrev pub invariant-steps-items : goal.invariant-steps-items
 invariant-steps-items l = record {
@@ -52,15 +57,21 @@ invariant-steps-items l = record {
       (steps_in_turn (map step_of (drop l.each-index l.each-items))))
       l.initial.scope l.scope l.self;
   fit : HaveFitConstants (steps_in_turn (map step_of (drop l.each-index l.each-items)));
+  place : l.place ≡ l.each-index;
+  same : l.scope.known ≡ l.initial.scope.known;
+  valued : AreValued l.initial.scope.known (steps_in_turn (map step_of (drop l.each-index l.each-items))) (drop l.place l.bounds);
 }
 
 abbrev pub invariant-turns-range : goal.invariant-turns-range
-invariant-turns-range l =
-    (m : Made) → Stands l.initial.self m
-    → SoFar (turns_made (suc (length l.seen.units.now))
-    (turn_steps (adding l.seen.units.now l.seen.sizes.now l.seen.depth) (suc (length l.seen.units.now)) l.initial.scope.known l.fn.turns.name
-    (steps_of l.steps)) (numbers_from l.fn.turns.span.low (l.fn.turns.span.end - l.fn.turns.span.low)) m)
-    (turns_made (suc (length l.seen.units.now))
-    (turn_steps (adding l.seen.units.now l.seen.sizes.now l.seen.depth) (suc (length l.seen.units.now)) l.initial.scope.known l.fn.turns.name
-    (steps_of l.steps)) (numbers_from l.each (l.fn.turns.span.end - l.each)))
-    l.initial.scope l.scope l.self
+invariant-turns-range l = record {
+  same : l.scope.known ≡ l.initial.scope.known;
+  far :
+      (m : Made) → Stands l.initial.self m
+      → SoFar (turns_made (suc (length l.seen.units.now))
+      (turn_steps (adding l.seen.units.now l.seen.sizes.now l.seen.depth) (suc (length l.seen.units.now)) l.initial.scope.known l.fn.turns.name
+      (steps_of l.steps)) (numbers_from l.fn.turns.span.low (l.fn.turns.span.end - l.fn.turns.span.low)) m)
+      (turns_made (suc (length l.seen.units.now))
+      (turn_steps (adding l.seen.units.now l.seen.sizes.now l.seen.depth) (suc (length l.seen.units.now)) l.initial.scope.known l.fn.turns.name
+      (steps_of l.steps)) (numbers_from l.each (l.fn.turns.span.end - l.each)))
+      l.initial.scope l.scope l.self;
+}
