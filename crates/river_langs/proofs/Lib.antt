@@ -1,5 +1,6 @@
 pub mod CqlCompiled
 pub mod Files
+pub mod LoadStands
 pub mod ParamsCompiled
 pub mod RiverCompiled
 pub mod SawCompiled

@@ -3,6 +3,7 @@
 #![tactic(auto)]
 
 mod cql;
+pub mod laws;
 mod params;
 mod plan_text;
 mod records;
