@@ -1,3 +1,4 @@
 pub mod Cuts
+pub mod Faulty
 pub mod Greatest
 pub mod InPieces

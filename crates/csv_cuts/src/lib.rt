@@ -1,4 +1,5 @@
-//! CSV files in pieces: where a file may be cut, how many records a piece has, and the loop that cuts a file.
+//! CSV files in pieces: where a file may be cut, how many records a piece has, the loop that cuts a file, and which
+//! fault the whole file has.
 #![tactic(auto)]
 
 mod cut;

@@ -1,10 +1,10 @@
 -- Tables are merged by their places.
-use Rattle.std.proofs.Common.{◌≡◌, ℕ, suc, false, List, [], ◌∷◌, ◌++◌, map, refl, ap, subst}
+use Rattle.std.proofs.Common.{◌≡◌, ℕ, suc, List, [], ◌∷◌, ◌++◌, map, refl, ap, subst}
 use Rattle.kern_tables.specs.Pieces.{joined}
 use Rattle.river_plan.specs.declared.plan.TableDecl.{TableDecl}
 use Rattle.table_texts.specs.Split.{section_at, rows_of_table}
-use Rattle.river_pieces.specs.MergeText.{merge_text}
-use Rattle.river_pieces.specs.Whole.{Prints, first_section, other_sections, AreMergedFrom, MergedByPlace}
+use Rattle.river_pieces.specs.Levels.{IsMergedText}
+use Rattle.river_pieces.specs.Whole.{IsMergeRun, first_section, other_sections, AreMergedFrom, MergedByPlace}
 
 first-is : (splits : List (List (List ℕ))) → rows_of_table 0 splits ≡ joined (map first_section splits)
 first-is [] = refl
@@ -22,11 +22,11 @@ shift k [] splits [] h = h
 shift k [] splits (m ∷ ms) h = absurd h
 shift k (t ∷ ts) splits [] h = absurd h
 shift k (t ∷ ts) splits (m ∷ ms) h =
-    (subst (λ (rows : List ℕ). Prints (merge_text t) rows false m) (other-is k splits) h.0, shift (suc k) ts splits ms h.1)
+    (subst (λ (rows : List ℕ). IsMergedText (IsMergeRun t) t rows m) (other-is k splits) h.0, shift (suc k) ts splits ms h.1)
 
 pub merged_by_place : MergedByPlace
 merged_by_place [] splits [] h = h
 merged_by_place [] splits (m ∷ ms) h = absurd h
 merged_by_place (t ∷ ts) splits [] h = absurd h
 merged_by_place (t ∷ ts) splits (m ∷ ms) h =
-    (subst (λ (rows : List ℕ). Prints (merge_text t) rows false m) (first-is splits) h.0, merged_by_place ts (map other_sections splits) ms (shift 0 ts splits ms h.1))
+    (subst (λ (rows : List ℕ). IsMergedText (IsMergeRun t) t rows m) (first-is splits) h.0, merged_by_place ts (map other_sections splits) ms (shift 0 ts splits ms h.1))

@@ -141,7 +141,7 @@ runs_print words program input header h text bytes out asks program_is input_is 
 -- ---- THE CALL
 
 -- what was taken behind the same is the same
-same-taken : (before a b : List ℕ) → ◌≡◌ {A = Option (List ℕ)} (Some (before ++ a)) (Some (before ++ b)) → b ≡ a
+pub same-taken : (before a b : List ℕ) → ◌≡◌ {A = Option (List ℕ)} (Some (before ++ a)) (Some (before ++ b)) → b ≡ a
 same-taken before a b e =
     let f : before ++ a ≡ before ++ b = cc e in
     sym (append_cancel_left before a b f)

@@ -12,17 +12,17 @@ use Rattle.run_pieces.specs.Whole.{AreMergeRuns}
 use Rattle.run_pieces.proofs.Whole.{river_gives_the_whole}
 
 -- what was taken where nothing had been taken before
-taken : (new pieces : List (List ℕ)) → Some new ≡ append_pieces (Some []) pieces → pieces ≡ new
+pub taken : (new pieces : List (List ℕ)) → Some new ≡ append_pieces (Some []) pieces → pieces ≡ new
 taken new pieces e = cc e
 
 -- the merge texts, each run on the rows of its table
 merge-runs : (k : ℕ) (ts : List TableDecl) (splits : List (List (List ℕ))) (ms : List (List ℕ))
-    → AreRunOn (map merge_text ts) (rows_from k (length ts) splits) ms → AreMergeRuns k ts splits ms
+    → AreRunOn ts (map merge_text ts) (rows_from k (length ts) splits) ms → AreMergeRuns k ts splits ms
 merge-runs k [] splits [] h = h
 merge-runs k [] splits (m ∷ ms) h = absurd h
 merge-runs k (t ∷ ts) splits [] h = absurd h
 merge-runs k (t ∷ ts) splits (m ∷ ms) h =
-    (h.0, merge-runs (suc k) ts splits ms (subst (λ (n : ℕ). AreRunOn (map merge_text ts) (rows_from n (length ts) splits) ms) (add-one k) h.1))
+    (h.0, merge-runs (suc k) ts splits ms (subst (λ (n : ℕ). AreRunOn ts (map merge_text ts) (rows_from n (length ts) splits) ms) (add-one k) h.1))
 
 pub tool_gives_the_whole : ToolGivesTheWhole
 tool_gives_the_whole text bytes skip_first pieces outs programs rows merges cut ran split merge_ran =
@@ -32,7 +32,7 @@ tool_gives_the_whole text bytes skip_first pieces outs programs rows merges cut 
     let are_cut = subst (λ (ps : List (List ℕ)). AreCut bytes skip_first ps) (taken pieces cut.pieces cut.took) cut.cut in
     let texts = taken programs (map merge_text tables) split.programs in
     let files = taken rows (rows_from 0 (length tables) split.rows.splits) split.rows.rows in
-    let on = subst (λ (ps : List (List ℕ)). AreRunOn ps rows merges) (sym texts) merge_ran in
-    let each = subst (λ (rs : List (List ℕ)). AreRunOn (map merge_text tables) rs merges) (sym files) on in
+    let on = subst (λ (ps : List (List ℕ)). AreRunOn tables ps rows merges) (sym texts) merge_ran in
+    let each = subst (λ (rs : List (List ℕ)). AreRunOn tables (map merge_text tables) rs merges) (sym files) on in
     river_gives_the_whole text bytes skip_first split.program pieces outs merges split.rows.splits compiles are_cut ran split.rows.split
     (merge-runs 0 tables split.rows.splits merges each)

@@ -49,6 +49,12 @@ abbrev pub WordsAsk : Type 0
 WordsAsk =
     (program input : List ℕ) (header : Bool) → is_file program ≡ true → 0 < length input → AsksFor (tally_words program input header) program input header
 
+-- and for no script
+abbrev pub WordsAskForNoScript : Type 0
+WordsAskForNoScript =
+    (program input : List ℕ) (header : Bool) → is_file program ≡ true → 0 < length input
+    → (asks : AsksFor (tally_words program input header) program input header) × (asks.script ≡ None)
+
 -- Where such a run is done, over files that are told, its text is what a run on the bytes of its input prints.
 abbrev pub RunsPrint : Type 0
 RunsPrint =

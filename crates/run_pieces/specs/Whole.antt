@@ -7,6 +7,7 @@ use Rattle.saw_model.specs.Meaning.{tables_in}
 use Rattle.saw_front.specs.Meaning.{Accepted, program_in, compiled}
 use Rattle.csv_cuts.specs.Cut.{AreCut}
 use Rattle.table_texts.specs.Split.{AreSplit, rows_of_table}
+use Rattle.river_pieces.specs.Levels.{IsMergedText}
 use Rattle.river_pieces.specs.MergeText.{merge_text}
 use Rattle.river_pieces.specs.Whole.{Means}
 use Rattle.run_pieces.specs.Ran.{Ran}
@@ -18,16 +19,20 @@ AreRun text skip_first [] (o ∷ os) = ⊥
 AreRun text skip_first (x ∷ xs) [] = ⊥
 AreRun text skip_first (x ∷ xs) (o ∷ os) = Ran text x skip_first o × AreRun text false xs os
 
--- for each table, from this place on, a call ran its merge text on what all runs printed of it
+-- a call ran the merge text of a table on these rows, and wrote this
+abbrev pub RanMerge : TableDecl → List ℕ → List ℕ → Type 0
+RanMerge t rows out = Ran (merge_text t) rows false out
+
+-- for each table, from this place on, calls merged, at once or in levels, what all runs printed of it
 abbrev pub AreMergeRuns : ℕ → List TableDecl → List (List (List ℕ)) → List (List ℕ) → Type 0
 AreMergeRuns k [] splits [] = ⊤
 AreMergeRuns k [] splits (m ∷ ms) = ⊥
 AreMergeRuns k (t ∷ ts) splits [] = ⊥
-AreMergeRuns k (t ∷ ts) splits (m ∷ ms) = Ran (merge_text t) (rows_of_table k splits) false m × AreMergeRuns (suc k) ts splits ms
+AreMergeRuns k (t ∷ ts) splits (m ∷ ms) = IsMergedText (RanMerge t) t (rows_of_table k splits) m × AreMergeRuns (suc k) ts splits ms
 
 -- A file is cut where it may be, a call of `river` runs the program on each piece, what the calls wrote is split at the lines of names,
--- and for each table a call runs its merge text on its rows. What these calls wrote, one behind another, is what the program means for
--- the whole file, which may have any number of records.
+-- and for each table a call runs its merge text on its rows, or calls merge them in levels. What is written so of the tables, one behind
+-- another, is what the program means for the whole file, which may have any number of records, as may its tables of rows.
 abbrev pub RiverGivesTheWhole : Type 0
 RiverGivesTheWhole =
     (text bytes : List ℕ) (skip_first : Bool) (a : Accepted) (pieces outs merges : List (List ℕ)) (splits : List (List (List ℕ)))

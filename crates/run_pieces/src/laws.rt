@@ -3,7 +3,8 @@ ghost use Rattle.std.specs.Prelude.{◌≡◌, ℕ, List};
 ghost use Rattle.river_outside.specs.Causes.{Rose};
 ghost use Rattle.river_cli.specs.Does.{Does};
 ghost use Rattle.river_cli.specs.Points.{points_of};
-ghost use Rattle.run_pieces.specs.Ran.{WordsAsk, RunsPrint, RunsAreDone, RanPrints, GivesRun};
+ghost use Rattle.run_pieces.specs.Ran.{WordsAsk, WordsAskForNoScript, RunsPrint, RunsAreDone, RanPrints, GivesRun};
+ghost use Rattle.run_pieces.specs.Refused.{RunsTellFaults, RefusalsAreFaults, GivesRefusal, FirstRefusalIsTheWholes};
 ghost use Rattle.run_pieces.specs.Tool.{ToolGivesTheWhole};
 ghost use Rattle.run_pieces.specs.Whole.{RiverGivesTheWhole};
 
@@ -12,6 +13,11 @@ use river_outside::{Shelf, Sink};
 /// The words that `tools/pieces` gives ask for a run of a program over one input.
 pub fn words_ask()
     ensures { WordsAsk }
+{}
+
+/// And for no script.
+pub fn words_ask_for_no_script()
+    ensures { WordsAskForNoScript }
 {}
 
 /// The text of a run that is done is what a run on the bytes of its input prints.
@@ -46,4 +52,28 @@ pub fn river_gives_the_whole()
 /// So do the calls that cut a file and split what was printed, with those of `river` between them.
 pub fn tool_gives_the_whole()
     ensures { ToolGivesTheWhole }
+{}
+
+/// A run whose input has a fault is refused with it.
+pub fn runs_tell_faults()
+    ensures { RunsTellFaults }
+{}
+
+/// And a run that is refused has an input with the fault that is told.
+pub fn refusals_are_faults()
+    ensures { RefusalsAreFaults }
+{}
+
+/// What `river` promises of a call with status 1, over a shelf and an error output that tell, is that it was refused so.
+pub fn status_1_is_a_refusal<S: Shelf, O: Sink, E: Sink>()
+    ensures { (words : List (List ℕ)) (shelf shelf' : S) (out out' : O) (err err' : E)
+        → Does (points_of words) (S.held shelf) (shelf' ≡ shelf) (Rose S.stays_at_last (S.faults shelf) (S.faults shelf'))
+        (O.taken out) (O.taken out') (Rose O.stays_at_last (O.faults out) (O.faults out'))
+        (E.taken err) (E.taken err') (Rose E.stays_at_last (E.faults err) (E.faults err')) 1
+        → GivesRefusal words (S.held shelf) (E.taken err) (E.taken err') }
+{}
+
+/// The fault that the first refused call tells is that of the whole file, with the record's number in it.
+pub fn first_refusal_is_the_wholes()
+    ensures { FirstRefusalIsTheWholes }
 {}

@@ -1,1 +1,2 @@
+pub mod OneSplit
 pub mod Splits

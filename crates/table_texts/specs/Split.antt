@@ -1,8 +1,10 @@
 -- What a run prints of tables is split at the lines of their names.
-use Rattle.std.specs.Prelude.{◌≡◌, ⊤, ℕ, zero, suc, ◌==◌, false, List, [], ◌∷◌, ◌++◌, map}
+use Rattle.std.specs.Prelude.{◌≡◌, ⊤, ℕ, zero, suc, ◌==◌, true, false, List, [], ◌∷◌, ◌++◌, map}
 use Rattle.river_plan.specs.Forms.{Name}
 use Rattle.csv_streams.specs.Outcome.{under_name}
 use Rattle.kern_tables.specs.Pieces.{joined}
+use Rattle.table_texts.specs.declared.split.SplitFault.{SplitFault}
+use Rattle.table_texts.specs.declared.split.SplitFault.TheVariants as fault
 
 -- the texts of tables, each behind the line of its name
 abbrev pub under_names : List Name → List (List ℕ) → List ℕ
@@ -43,9 +45,29 @@ section_at (suc k) (s ∷ ss) = section_at k ss
 abbrev pub rows_of_table : ℕ → List (List (List ℕ)) → List ℕ
 rows_of_table k splits = joined (map (section_at k) splits)
 
+-- nothing, or a text that begins with a #
+abbrev pub StartsName : List ℕ → Type 0
+StartsName [] = ⊤
+StartsName (c ∷ cs) = c == 35 ≡ true
+
+-- WHERE THERE IS NO SPLIT
+
+-- why a text is not split: it has no split, or memory was wanting
+abbrev pub SaysNoSplit : List Name → List ℕ → SplitFault → Type 0
+SaysNoSplit names out fault.Other = (sections : List (List ℕ)) → IsSplit names out sections → ⊥
+SaysNoSplit names out fault.NoMemory = ⊤
+
+-- why no text of a table is split off: the line of its name does not stand there, or memory was wanting
+abbrev pub SaysNoLine : Name → List ℕ → SplitFault → Type 0
+SaysNoLine name bytes fault.Other = (behind : List ℕ) → bytes ≡ under_name name behind → ⊥
+SaysNoLine name bytes fault.NoMemory = ⊤
+
+-- ONE TEXT MORE
+
 -- one text more, which stands behind the line of the name
 pub record IsNext (name : Name) (before behind : List ℕ) (old new : List (List ℕ)) : Type 0 where
   pub text : List ℕ
   pub is : before ≡ under_name name text ++ behind
   pub free : HasNoName text
+  pub ends : StartsName behind
   pub grown : new ≡ old ++ text ∷ []

@@ -1,5 +1,6 @@
 // What a run printed, split at the lines of names.
-ghost use Rattle.std.specs.Prelude.{◌≡◌, ◌≤◌, ◌-◌, ◌∷◌, ◌++◌, ◌==◌, [], codes, take, drop, length, IfOk, IfSome};
+ghost use Rattle.std.specs.Prelude.{◌≡◌, ◌≤◌, ◌-◌, ◌++◌, ◌==◌, ℕ, List, take, drop, length, IfOk, IfErr, IfSome, IfNone};
+ghost use Rattle.csv_streams.specs.Outcome.{under_name};
 ghost use Rattle.river_plan.specs.Forms.{table_names};
 ghost use Rattle.table_texts.specs.Split as split;
 
@@ -17,19 +18,24 @@ pub enum SplitFault {
 }
 
 impl From<NoMemory> for SplitFault {
+    ghost use Rattle.table_texts.specs.declared.split.SplitFault.TheVariants as fault;
+
+    ghost from_gives = { λ _ e. e ≡ fault.NoMemory };
+
     fn from(_fault: NoMemory) -> Self {
         SplitFault::NoMemory
     }
 }
 
-/// The texts of the tables, which stand behind the lines of their names.
+/// The texts of the tables, which stand behind the lines of their names; `Other` exactly where there is no such split.
 #[tactic(auto, using(crate::proofs::Splits::fronts))]
 pub fn split_tables(
     alloc: Global,
     tables: &[TableDecl],
     out: &[u8],
 ) -> Result<Listed<Bytes>, SplitFault>
-    ensures { IfOk result (λ sections. split.IsSplit (table_names tables.now) out.now sections) }
+    ensures split { IfOk result (λ sections. split.IsSplit (table_names tables.now) out.now sections) }
+    ensures none { IfErr result (split.SaysNoSplit (table_names tables.now) out.now) }
 {
     let mut sections = Listed::new(alloc);
     let mut place = 0;
@@ -55,6 +61,7 @@ fn split_next(
     requires { place ≤ length out.now }
     ensures within { IfOk result (λ end. end ≤ length out.now) }
     ensures next { IfOk result (λ end. split.IsNext name.now (drop place out.now) (drop end out.now) sections.old sections.new) }
+    ensures none { IfErr result (split.SaysNoLine name.now (drop place out.now)) }
 {
     let Some(begin) = behind_line(name, out, place) else {
         return Err(SplitFault::Other);
@@ -65,10 +72,12 @@ fn split_next(
 }
 
 // Where the text begins whose line is at this place.
+#[tactic(auto, using(crate::proofs::Splits::lines))]
 fn behind_line(name: &[u8], out: &[u8], place: usize) -> Option<usize>
     requires { place ≤ length out.now }
     ensures within { IfSome result (λ begin. begin ≤ length out.now) }
-    ensures line { IfSome result (λ begin. drop place out.now ≡ codes "# " ++ (name.now ++ (codes "\n" ++ drop begin out.now))) }
+    ensures line { IfSome result (λ begin. drop place out.now ≡ under_name name.now (drop begin out.now)) }
+    ensures none { IfNone result ((text : List ℕ) → drop place out.now ≡ under_name name.now text → ⊥) }
 {
     let at_name = behind(b"# ", out, place)?;
     let at_end = behind(name, out, at_name)?;
@@ -81,6 +90,7 @@ fn behind(word: &[u8], out: &[u8], place: usize) -> Option<usize>
     requires { place ≤ length out.now }
     ensures within { IfSome result (λ end. end ≤ length out.now) }
     ensures word { IfSome result (λ end. drop place out.now ≡ word.now ++ drop end out.now) }
+    ensures none { IfNone result ((rest : List ℕ) → drop place out.now ≡ word.now ++ rest → ⊥) }
 {
     if word.len() > out.len() - place {
         return None;
@@ -100,6 +110,7 @@ fn section_end(out: &[u8], from: usize) -> usize
     ensures after { from ≤ result }
     ensures within { result ≤ length out.now }
     ensures none { split.HasNoName (take (result - from) (drop from out.now)) }
+    ensures ends { split.StartsName (drop result out.now) }
 {
     for place in from..out.len() {
         if begins_line(out[place]) {
