@@ -11,9 +11,10 @@ use std::test::Fail;
 use std::thread::Threads;
 use worked_cases::{Runner, go_through};
 
-// A case of two operators with a queue between them: 32 items, these words, and what stands behind the queue's type.
+// A case of two operators with a queue between them: 32 items, these words on who runs them and on queues, and what stands behind
+// the queue's type.
 fn case_of(alloc: Global, words: &str, queue: &str) -> Result<String, Fail> {
-    let head = "cases 1\ncase two operators, one queue\nwords run river two.river in=n.csv -w 1";
+    let head = "cases 1\ncase two operators, one queue\nwords run river two.river in=n.csv";
     let above = "file two.river\n| river 2;\n| output out: rows(1);\n| input in: rows(1);";
     let first = "| op a: (q) <- (in) { code(1, 0) (1) () { push 0 (input[0]); } }";
     let second = "| op b: (out) <- (q) { code(1, 0) (1) () { push 0 (input[0]); } }";
@@ -43,7 +44,7 @@ impl Lead {
     }
 }
 
-// One worker enters, so nothing happens between these steps.
+// An operator enters before what it gives can be taken, so the number is right, and never below 0, on any threads.
 impl Gate for Lead {
     fn enter(&self, op: u32) {
         if op == 0 {
@@ -100,13 +101,25 @@ fn lead_of<R: Print + Threads + Wait + Sync>(
 #[test]
 fn room_is_kept(rt: HostRuntime) -> Result<(), Fail> {
     let alloc = rt.alloc();
-    let small = lead_of(&rt, alloc, "-q 1", "")?;
+    let small = lead_of(&rt, alloc, "-w 1 -q 1", "")?;
     assert!(rt; matches!(small, Some(lead) if lead <= 2));
-    let large = lead_of(&rt, alloc, "-q 64", "")?;
+    let large = lead_of(&rt, alloc, "-w 1 -q 64", "")?;
     assert!(rt; matches!(large, Some(lead) if lead > 2));
-    let small_text = lead_of(&rt, alloc, "-q 64", " cap(1)")?;
+    let small_text = lead_of(&rt, alloc, "-w 1 -q 64", " cap(1)")?;
     assert!(rt; matches!(small_text, Some(lead) if lead <= 2));
-    let large_text = lead_of(&rt, alloc, "-q 1", " cap(64)")?;
+    let large_text = lead_of(&rt, alloc, "-w 1 -q 1", " cap(64)")?;
     assert!(rt; matches!(large_text, Some(lead) if lead > 2));
+    Ok(())
+}
+
+/// Where waiting tasks run them there is one more: the second operator has taken it and did not enter the gate yet. How much more a
+/// larger queue holds is up to the system.
+#[test]
+fn room_is_kept_by_tasks(rt: HostRuntime) -> Result<(), Fail> {
+    let alloc = rt.alloc();
+    let small = lead_of(&rt, alloc, "-L -q 1", "")?;
+    assert!(rt; matches!(small, Some(lead) if lead <= 3));
+    let small_text = lead_of(&rt, alloc, "-L -q 64", " cap(1)")?;
+    assert!(rt; matches!(small_text, Some(lead) if lead <= 3));
     Ok(())
 }
