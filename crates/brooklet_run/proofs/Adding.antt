@@ -9,7 +9,7 @@ use Rattle.std.proofs.lemmas.Option.{slice_get_within}
 use Rattle.river_base.proofs.Lists.{got_mid}
 use Rattle.river_base.proofs.PlaceLemmas.{if_lt, if_ge}
 use Rattle.river_base.specs.Places.{list_at, only}
-use Rattle.kern_tables.specs.declared.kept.Kept.{Kept}
+use Rattle.kern_tables.specs.declared.kept.Aggregate.{Aggregate}
 use Rattle.kern_tables.specs.Kept.{with_row, width_of_table}
 use Rattle.kern_tables.specs.Tables.{table_width}
 use Rattle.kern_tables.proofs.Tabs.{added_kind}
@@ -20,12 +20,12 @@ use Rattle.brooklet_step.proofs.QueuePlaces.{joined_at-more}
 -- ROWS FOR ONE TABLE
 
 -- adding rows keeps the width of a table
-pub all_width : (t : Kept) (rows : List (List ℤ)) → width_of_table (fold with_row t rows) ≡ width_of_table t
+pub all_width : (t : Aggregate) (rows : List (List ℤ)) → width_of_table (fold with_row t rows) ≡ width_of_table t
 all_width t [] = refl
 all_width t (r ∷ rs) = all_width (with_row t r) rs ∙ ap table_width (added_kind t r)
 
 -- one row more
-pub added_step : (t now new : Kept) (rows : List (List ℤ)) (i : ℕ) (row : List ℤ) → i < length rows → row ≡ get_or rows i row
+pub added_step : (t now new : Aggregate) (rows : List (List ℤ)) (i : ℕ) (row : List ℤ) → i < length rows → row ≡ get_or rows i row
     → now ≡ fold with_row t (take i rows)
     → new ≡ with_row now row → new ≡ fold with_row t (take (i + 1) rows)
 added_step t now new rows i row lt e h a =
@@ -35,22 +35,22 @@ added_step t now new rows i row lt e h a =
 -- ALL TABLES
 
 -- adding rows to tables keeps their number
-pub length-each_added : (ts : List Kept) (f : ℕ → List (List ℤ)) → length (each_added ts f) ≡ length ts
+pub length-each_added : (ts : List Aggregate) (f : ℕ → List (List ℤ)) → length (each_added ts f) ≡ length ts
 length-each_added [] f = refl
 length-each_added (t ∷ ts) f = ap suc (length-each_added ts (λ p. f (suc p)))
 
-each_added-cong : (ts : List Kept) (f g : ℕ → List (List ℤ)) → ((p : ℕ) → f p ≡ g p) → each_added ts f ≡ each_added ts g
+each_added-cong : (ts : List Aggregate) (f g : ℕ → List (List ℤ)) → ((p : ℕ) → f p ≡ g p) → each_added ts f ≡ each_added ts g
 each_added-cong [] f g h = refl
 each_added-cong (t ∷ ts) f g h =
     let a = ap (fold with_row t) (h 0) in let b = each_added-cong ts (λ p. f (suc p)) (λ p. g (suc p)) (λ p. h (suc p)) in λ i. a i ∷ b i
 
 -- adding no rows keeps each table
-pub each_added-none : (ts : List Kept) → each_added ts (λ p. []) ≡ ts
+pub each_added-none : (ts : List Aggregate) → each_added ts (λ p. []) ≡ ts
 each_added-none [] = refl
 each_added-none (t ∷ ts) = ap (λ l. t ∷ l) (each_added-none ts)
 
 -- one table is given more
-set_added : (ts : List Kept) (f : ℕ → List (List ℤ)) (n : ℕ) (xs : List (List ℤ)) (d : Kept) → n < length ts
+set_added : (ts : List Aggregate) (f : ℕ → List (List ℤ)) (n : ℕ) (xs : List (List ℤ)) (d : Aggregate) → n < length ts
     → slice_set (each_added ts f) n (fold with_row (get_or (each_added ts f) n d) xs) ≡ each_added ts (λ p. f p ++ only n xs p)
 set_added [] f n xs d h = absurd (omega (arith, h))
 set_added (t ∷ ts) f zero xs d h =
@@ -63,8 +63,8 @@ set_added (t ∷ ts) f (suc n) xs d h =
     λ i. a i ∷ b i
 
 -- a table to which rows were added has the width that it had
-added_there : (ts : List Kept) (f : ℕ → List (List ℤ)) (w : ℕ) (d : Kept) → w < length ts
-    → (t : Kept) × (slice_get ts w ≡ Some t) × (get_or (each_added ts f) w d ≡ fold with_row t (f w))
+added_there : (ts : List Aggregate) (f : ℕ → List (List ℤ)) (w : ℕ) (d : Aggregate) → w < length ts
+    → (t : Aggregate) × (slice_get ts w ≡ Some t) × (get_or (each_added ts f) w d ≡ fold with_row t (f w))
 added_there [] f w d h = absurd (omega (arith, h))
 added_there (t ∷ ts) f zero d h = (t, refl, refl)
 added_there (t ∷ ts) f (suc w) d h = added_there ts (λ p. f (suc p)) w d (omega (arith, h))
@@ -108,7 +108,7 @@ module _ (n : ℕ) (vars : List ℕ) (i w : ℕ) (lt : i < length vars) (e : w �
       ∙ got_mid before w (table_places n (drop (i + 1) vars))
 
 -- the rows for one table more were added
-pub added_next : (ts now : List Kept) (vars : List ℕ) (f : ℕ → List (List ℤ)) (i w number : ℕ) (old new : Kept) → i < length vars → w ≡ get_or vars i 0
+pub added_next : (ts now : List Aggregate) (vars : List ℕ) (f : ℕ → List (List ℤ)) (i w number : ℕ) (old new : Aggregate) → i < length vars → w ≡ get_or vars i 0
     → w < length ts
     → now ≡ each_added ts (joined_at (table_places (length ts) (take i vars)) f) → number ≡ length (table_places (length ts) (take i vars))
     → old ≡ get_or now w old → new ≡ fold with_row old (f number)
@@ -124,7 +124,7 @@ added_next ts now vars f i w number old new lt we below h c o n =
     sym (ap (λ l. joined_at l f p) more ∙ joined_at-more before w f p))
 
 -- they have the table's width
-pub rows_wide : (ts now : List Kept) (vars : List ℕ) (adds : List (List (List ℤ))) (i w number : ℕ) (old : Kept) → i < length vars → w ≡ get_or vars i 0
+pub rows_wide : (ts now : List Aggregate) (vars : List ℕ) (adds : List (List (List ℤ))) (i w number : ℕ) (old : Aggregate) → i < length vars → w ≡ get_or vars i 0
     → w < length ts
     → now ≡ each_added ts (joined_at (table_places (length ts) (take i vars)) (list_at adds)) → number ≡ length (table_places (length ts) (take i vars))
     → old ≡ get_or now w old
@@ -140,7 +140,7 @@ rows_wide ts now vars adds i w number old lt we below h c o wide =
     subst (λ k. All (λ row. length row ≡ k) (list_at adds number)) (sym width) (wide number w r.0 here r.1)
 
 -- and are there
-pub rows_there : (ts : List Kept) (vars : List ℕ) (i w number many : ℕ) → i < length vars → w ≡ get_or vars i 0 → w < length ts
+pub rows_there : (ts : List Aggregate) (vars : List ℕ) (i w number many : ℕ) → i < length vars → w ≡ get_or vars i 0 → w < length ts
     → number ≡ length (table_places (length ts) (take i vars)) → length (table_places (length ts) vars) ≤ many → number < many
 rows_there ts vars i w number many lt we below c le =
     let b = slice_get_within (table_places (length ts) vars) (length (table_places (length ts) (take i vars))) w

@@ -1,17 +1,17 @@
 // What a machine gave.
 ghost use Rattle.std.specs.Prelude.{◌≡◌, pos, map, take, length, IfOk, ◌<◌, ◌≤◌, ◌^◌, All};
 ghost use Rattle.river_plan.specs.Forms.{decl_names};
-ghost use Rattle.brooklet_step.specs.Works.{GoesOn, AreCounts, queue_of};
+ghost use Rattle.brooklet_step.specs.Works.{IsRunning, AreCounts, queue_of};
 
-use brooklet_step::{Lines, Outcome, Parts, Sizes, Tables};
-use kern_rows::Line;
+use brooklet_step::{Lines, Outcome, MachineState, Sizes, Tables};
+use kern_rows::ItemLine;
 use river_base::{NoMemory, Numbers};
 use std::alloc::Global;
 use std::mem::replace;
 
 /// The histories of the outputs, whose items move, the tables, which move too, and the counts.
-pub(crate) fn outcome_of(alloc: Global, parts: &mut Parts) -> Result<Outcome, NoMemory>
-    requires { GoesOn parts.old }
+pub(crate) fn outcome_of(alloc: Global, parts: &mut MachineState) -> Result<Outcome, NoMemory>
+    requires { IsRunning parts.old }
     ensures outs { IfOk result (λ outcome. outcome.outs ≡ map (queue_of parts.old) (decl_names parts.old.plan.outputs)) }
     ensures tables { IfOk result (λ outcome. outcome.tables ≡ parts.old.tables) }
     ensures counts { IfOk result (λ outcome. AreCounts parts.old outcome.counts) }
@@ -40,10 +40,10 @@ fn first_lists(alloc: Global, queues: &mut Lines, count: usize) -> Result<Lines,
 }
 
 // The items of a line; none is left there.
-fn take_line(alloc: Global, line: &mut Line) -> Line
+fn take_line(alloc: Global, line: &mut ItemLine) -> ItemLine
     ensures { result ≡ line.old }
 {
-    replace(line, Line::new(alloc))
+    replace(line, ItemLine::new(alloc))
 }
 
 // Counts as values.

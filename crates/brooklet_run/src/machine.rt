@@ -9,7 +9,7 @@ use crate::Inputs;
 use crate::ending::outcome_of;
 use crate::opening::{first_parts, lines_of};
 use crate::turn::{fire_next, fire_turn, is_enabled};
-use brooklet_step::{Lines, Outcome, Parts};
+use brooklet_step::{Lines, Outcome, MachineState};
 use river_base::NoMemory;
 use river_plan::Plan;
 use std::alloc::Global;
@@ -20,13 +20,13 @@ use std::marker::Model;
 /// that is not stopped stands for a state of the definition: some run from some inputs of its plan led there.
 #[derive(Drop)]
 pub struct Machine {
-    parts: Parts,
+    parts: MachineState,
 }
 
 impl Model for Machine {
-    ghost use Rattle.brooklet_step.specs.declared.parts.Parts.{Parts};
+    ghost use Rattle.brooklet_step.specs.declared.parts.MachineState.{MachineState};
 
-    ghost Value = { Parts };
+    ghost Value = { MachineState };
 
     ghost use Rattle.brooklet_step.specs.PartsCode.{parts_code};
 

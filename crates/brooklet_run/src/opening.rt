@@ -2,28 +2,28 @@
 ghost use Rattle.std.specs.Prelude.{◌≡◌, length, replicate, IfOk};
 ghost use Rattle.river_plan.specs.Forms.{op_forms};
 ghost use Rattle.brooklet_model.specs.Fit.{Fit};
-ghost use Rattle.brooklet_step.specs.Works.{GoesOn, Starts};
+ghost use Rattle.brooklet_step.specs.Works.{IsRunning, Starts};
 ghost use Rattle.brooklet_step.specs.Initial.{AreFirst, CanStart};
 
 use crate::Inputs;
-use brooklet_step::{Lines, Parts, Sizes, States, first_queues, first_tables, states_of};
-use kern_rows::Line;
+use brooklet_step::{Lines, MachineState, Sizes, States, first_queues, first_tables, states_of};
+use kern_rows::ItemLine;
 use river_base::{Listed, NoMemory};
 use river_plan::{Ops, Plan};
 use std::alloc::Global;
 
 /// What a machine keeps before the first firing.
-pub(crate) fn first_parts(alloc: Global, plan: &Plan, inputs: Lines) -> Result<Parts, NoMemory>
+pub(crate) fn first_parts(alloc: Global, plan: &Plan, inputs: Lines) -> Result<MachineState, NoMemory>
     requires { Fit plan.now inputs }
     ensures starts { IfOk result (λ parts. Starts plan.now inputs parts) }
-    ensures goes_on { IfOk result GoesOn }
+    ensures goes_on { IfOk result IsRunning }
 {
     let raw = plan.raw();
     let queues = first_queues(alloc, raw, inputs)?;
     let (states, counts) = states_and_counts(alloc, &raw.ops)?;
     let tables = first_tables(alloc, &raw.tables)?;
     let plan = plan.copy(alloc)?;
-    Ok(Parts {
+    Ok(MachineState {
         plan,
         queues,
         tables,
@@ -39,7 +39,7 @@ pub(crate) fn lines_of(alloc: Global, inputs: Inputs) -> Result<Lines, NoMemory>
 {
     let mut lines = Lines::new(alloc);
     for items in inputs.into_vec() {
-        lines.push(Line::from_items(alloc, items))?;
+        lines.push(ItemLine::from_items(alloc, items))?;
     }
     Ok(lines)
 }

@@ -7,15 +7,15 @@ ghost use Rattle.river_base.specs.Places.{append_at, each_grew, list_at};
 ghost use Rattle.brooklet_model.specs.Histories.{most_firings};
 ghost use Rattle.brooklet_step.specs.ByPlace.{joined_at};
 ghost use Rattle.brooklet_step.specs.Tables.{each_added, table_places, AreFor};
-ghost use Rattle.brooklet_step.specs.Works.{GoesOn, IsEnabled, Steps};
+ghost use Rattle.brooklet_step.specs.Works.{IsRunning, IsEnabled, Steps};
 ghost use Rattle.brooklet_step.specs.Drained.{RunsOn};
 ghost use Rattle.brooklet_step.specs.Reading.{IsPlaceRead, IsFrontItem, CanFire, IsBlankOf, FiredOp};
 
 use crate::add::add_all;
 use brooklet_step::{
-    Emit, Lines, Parts, Sizes, Spare, States, Tables, blank_for, clear_all, fire_op, fire_values,
+    Emit, Lines, MachineState, Sizes, Spare, States, Tables, blank_for, clear_all, fire_op, fire_values,
 };
-use kern_rows::Line;
+use kern_rows::ItemLine;
 use river_base::{Item, NoMemory};
 use river_plan::Plan;
 use std::alloc::Global;
@@ -24,9 +24,9 @@ use std::alloc::Global;
 const MOST: usize = 9223372036854775807;
 
 /// Whether the operator has an item at this port.
-pub(crate) fn is_enabled(parts: &Parts, op: usize, port: usize) -> bool
+pub(crate) fn is_enabled(parts: &MachineState, op: usize, port: usize) -> bool
     requires running { parts.now.stopped ≡ false }
-    requires goes_on { GoesOn parts.now }
+    requires goes_on { IsRunning parts.now }
     ensures { IsTrue result ↔ IsEnabled parts.now op port }
 {
     match place_read(parts, op, port) {
@@ -36,8 +36,8 @@ pub(crate) fn is_enabled(parts: &Parts, op: usize, port: usize) -> bool
 }
 
 // The place of the queue that the operator reads at this port.
-fn place_read(parts: &Parts, op: usize, port: usize) -> Option<usize>
-    requires { GoesOn parts.now }
+fn place_read(parts: &MachineState, op: usize, port: usize) -> Option<usize>
+    requires { IsRunning parts.now }
     ensures { IsPlaceRead parts.now op port result }
 {
     if op < parts.plan.raw().ops.len() {
@@ -52,14 +52,14 @@ fn place_read(parts: &Parts, op: usize, port: usize) -> Option<usize>
 /// One firing of an operator on the front item of the queue at one of its ports; where it is refused the machine is stopped.
 pub(crate) fn fire_next(
     alloc: Global,
-    parts: &mut Parts,
+    parts: &mut MachineState,
     op: u32,
     port: u32,
 ) -> Result<(), NoMemory>
-    requires goes_on { GoesOn parts.old }
+    requires goes_on { IsRunning parts.old }
     requires enabled { IsEnabled parts.old op port }
     ensures fired { OnOk result (Steps parts.old parts.new op port) }
-    ensures goes_on { OnOk result (GoesOn parts.new) }
+    ensures goes_on { OnOk result (IsRunning parts.new) }
     ensures refused { OnErr result (parts.new.stopped ≡ true) }
 {
     match blank_of(alloc, &parts.plan, op) {
@@ -72,15 +72,15 @@ pub(crate) fn fire_next(
 /// for what they give. Where one is refused the machine is stopped.
 pub(crate) fn fire_turn(
     alloc: Global,
-    parts: &mut Parts,
+    parts: &mut MachineState,
     op: u32,
     port: u32,
     most: usize,
 ) -> Result<bool, NoMemory>
     requires running { parts.old.stopped ≡ false }
-    requires goes_on { GoesOn parts.old }
+    requires goes_on { IsRunning parts.old }
     ensures ran { OnOk result (RunsOn parts.old parts.new) }
-    ensures goes_on { OnOk result (GoesOn parts.new) }
+    ensures goes_on { OnOk result (IsRunning parts.new) }
     ensures refused { OnErr result (parts.new.stopped ≡ true) }
 {
     if !is_enabled(parts, op as usize, port as usize) {
@@ -93,15 +93,15 @@ pub(crate) fn fire_turn(
 // Firings on the items at a port, which has some.
 fn fire_most(
     alloc: Global,
-    parts: &mut Parts,
+    parts: &mut MachineState,
     op: u32,
     port: u32,
     most: usize,
 ) -> Result<(), NoMemory>
-    requires goes_on { GoesOn parts.old }
+    requires goes_on { IsRunning parts.old }
     requires enabled { IsEnabled parts.old op port }
     ensures ran { OnOk result (RunsOn parts.old parts.new) }
-    ensures goes_on { OnOk result (GoesOn parts.new) }
+    ensures goes_on { OnOk result (IsRunning parts.new) }
     ensures refused { OnErr result (parts.new.stopped ≡ true) }
 {
     match blank_of(alloc, &parts.plan, op) {
@@ -121,7 +121,7 @@ fn fire_most(
 // Firings on the items at a port, all with these lists.
 fn fire_all(
     alloc: Global,
-    parts: &mut Parts,
+    parts: &mut MachineState,
     op: u32,
     port: u32,
     most: usize,
@@ -129,10 +129,10 @@ fn fire_all(
     spare: &mut Spare,
 ) -> Result<(), NoMemory>
     requires running { parts.old.stopped ≡ false }
-    requires goes_on { GoesOn parts.old }
+    requires goes_on { IsRunning parts.old }
     requires blank { IsBlankOf parts.old.plan op out.old }
     ensures ran { OnOk result (RunsOn parts.old parts.new) }
-    ensures goes_on { OnOk result (GoesOn parts.new) }
+    ensures goes_on { OnOk result (IsRunning parts.new) }
     ensures refused { OnErr result (parts.new.stopped ≡ true) }
 {
     for _firing in 0..most {
@@ -145,7 +145,7 @@ fn fire_all(
 }
 
 // The machine is stopped.
-fn stop(parts: &mut Parts, e: NoMemory) -> Result<(), NoMemory>
+fn stop(parts: &mut MachineState, e: NoMemory) -> Result<(), NoMemory>
     ensures stopped { parts.new.stopped ≡ true }
     ensures err { result ≡ Err e }
 {
@@ -164,17 +164,17 @@ fn blank_of(alloc: Global, plan: &Plan, op: u32) -> Result<Emit, NoMemory>
 // One firing of an operator, with empty lists for what it gives, which are empty again.
 fn fire_with(
     alloc: Global,
-    parts: &mut Parts,
+    parts: &mut MachineState,
     op: u32,
     port: u32,
     out: &mut Emit,
     spare: &mut Spare,
 ) -> Result<(), NoMemory>
-    requires goes_on { GoesOn parts.old }
+    requires goes_on { IsRunning parts.old }
     requires enabled { IsEnabled parts.old op port }
     requires blank { IsBlankOf parts.old.plan op out.old }
     ensures fired { OnOk result (Steps parts.old parts.new op port) }
-    ensures goes_on { OnOk result (GoesOn parts.new) }
+    ensures goes_on { OnOk result (IsRunning parts.new) }
     ensures blank { OnOk result (IsBlankOf parts.new.plan op out.new) }
     ensures refused { OnErr result (parts.new.stopped ≡ true) }
 {
@@ -355,7 +355,7 @@ fn send_port(
 }
 
 // The items of a line move to the end of a queue.
-fn put(queues: &mut Lines, queue: usize, items: &mut Line) -> Result<(), NoMemory>
+fn put(queues: &mut Lines, queue: usize, items: &mut ItemLine) -> Result<(), NoMemory>
     requires { queue < length queues.old }
     ensures queues { OnOk result (queues.new ≡ append_at queues.old queue items.old) }
     ensures items { OnOk result (items.new ≡ []) }

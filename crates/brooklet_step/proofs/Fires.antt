@@ -22,7 +22,7 @@ use Rattle.brooklet_step.specs.declared.emit.Emit.{Emit}
 use Rattle.brooklet_step.specs.declared.state.State.{State}
 use Rattle.brooklet_step.specs.declared.state.State.TheVariants as state
 use Rattle.brooklet_step.specs.Took.{HasLists, IsBlank}
-use Rattle.brooklet_step.specs.Stands.{StandsForKept, Fires, Takes}
+use Rattle.brooklet_step.specs.Stands.{StandsForKept, Fires, MayTake}
 
 -- PACKS OF WHAT ITEMS ARE
 
@@ -66,7 +66,7 @@ on_both P Q R (Err e) f h g = h
 
 -- a filter's firing on its one state is its firing on all states
 pub filter_whole : (k : Kern) (f : FilterForm) (port : ℕ) (x : item.Item) (st : List State) (d s s' : State) (out out' : Emit) → k ≡ filter f
-    → Takes k port x st → s ≡ get_or st 0 d → Fires (filter f) out out' (s ∷ []) (s' ∷ []) (fire (filter f) 0 x)
+    → MayTake k port x st → s ≡ get_or st 0 d → Fires (filter f) out out' (s ∷ []) (s' ∷ []) (fire (filter f) 0 x)
     → Fires k out out' st (set st 0 s') (fire k port x)
 filter_whole k f port x st d s s' out out' ek t g h =
     let a = subst (λ (j : Kern). StandsForKept j st t.fitted.keeps.kept) ek t.fitted.keeps.stands in

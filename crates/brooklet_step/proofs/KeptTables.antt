@@ -7,7 +7,7 @@ use Rattle.river_base.specs.declared.item.Item as item
 use Rattle.river_base.specs.Bags.{SameBag}
 use Rattle.river_base.specs.Places.{list_at}
 use Rattle.kern_tables.specs.declared.kind.TableKind.{TableKind}
-use Rattle.kern_tables.specs.declared.kept.Kept.{Kept}
+use Rattle.kern_tables.specs.declared.kept.Aggregate.{Aggregate}
 use Rattle.kern_tables.specs.Kept.{kept_of, with_row, rows_of, width_of_table}
 use Rattle.kern_tables.specs.Tables.{table_width, tab}
 use Rattle.kern_tables.proofs.Tabs.{kept_more, kept_rows, kept_of_bag, kept_kind}
@@ -37,7 +37,7 @@ kept_width kind xs = ap table_width (kept_kind kind xs)
 -- ALL TABLES
 
 -- the declaration of what is kept at a place
-pub kept_at : (ts : List TableDecl) (rows : Name → List (List ℤ)) (i : ℕ) (k : Kept) → slice_get (kept_tables ts rows) i ≡ Some k
+pub kept_at : (ts : List TableDecl) (rows : Name → List (List ℤ)) (i : ℕ) (k : Aggregate) → slice_get (kept_tables ts rows) i ≡ Some k
     → (t : TableDecl) × (slice_get ts i ≡ Some t) × (k ≡ kept_of t.kind (rows t.name))
 kept_at [] rows i k g = absurd (cc g)
 kept_at (t ∷ ts) rows zero k g = (t, refl, sym (same_Some (kept_of t.kind (rows t.name)) k g))

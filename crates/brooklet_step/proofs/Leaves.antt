@@ -33,7 +33,7 @@ use Rattle.brooklet_step.specs.declared.state.State.{State}
 use Rattle.brooklet_step.specs.declared.state.State.TheVariants as state
 use Rattle.brooklet_step.specs.Took.{Took, HasLists}
 use Rattle.brooklet_step.specs.Stands.{AreNone, AreKeptSlots, StandsForSlots, StandsForFilter, IsRow, IsSlots, RanKept, Pushed}
-use Rattle.brooklet_step.specs.Stands.{Fires, Takes, Applies}
+use Rattle.brooklet_step.specs.Stands.{Fires, MayTake, Applies}
 use Rattle.brooklet_model.proofs.Ports.{counts}
 use Rattle.brooklet_model.proofs.Typing.{fire_typed}
 use Rattle.brooklet_step.proofs.Standing.{stands_shape}
@@ -57,11 +57,11 @@ row_is n p reads x e h = row_by n x (at_first (rows n) p x (subst (λ (l : List 
 
 -- BODIES
 
-pub code_row : (k : CodeForm) (x : item.Item) (st : List State) → Takes (code k) 0 x st → IsRow x × (length (values_of x) ≡ k.body.inputs)
+pub code_row : (k : CodeForm) (x : item.Item) (st : List State) → MayTake (code k) 0 x st → IsRow x × (length (values_of x) ≡ k.body.inputs)
 code_row k x st t = row_is k.body.inputs 0 t.reads x t.fitted.fits.0 t.item
 
 -- what a body takes, it can run on
-pub code_can : (k : CodeForm) (p : ℕ) (x : item.Item) (st : List State) → Takes (code k) p x st → CanCode k
+pub code_can : (k : CodeForm) (p : ℕ) (x : item.Item) (st : List State) → MayTake (code k) p x st → CanCode k
 code_can k p x st t = can_code k t.fitted.fits.3
 
 some_slots : (zs : List ℤ) (st : List State) (ks : List Kept) → (zs ≡ [] → ⊥) → StandsForSlots zs st ks → AreKeptSlots (length zs) st ks
@@ -73,7 +73,7 @@ are_slots [] st ks n h = absurd (n refl)
 are_slots (z ∷ zs) st ks n h = h
 
 -- the state that holds the kept slots
-pub code_state : (k : CodeForm) (x : item.Item) (st : List State) → (k.starts ≡ [] → ⊥) → Takes (code k) 0 x st
+pub code_state : (k : CodeForm) (x : item.Item) (st : List State) → (k.starts ≡ [] → ⊥) → MayTake (code k) 0 x st
     → (s : State) × (st ≡ s ∷ []) × IsSlots (length k.starts) s
 code_state k x st n t =
     let a = some_slots k.starts st t.fitted.keeps.kept n t.fitted.keeps.stands in
@@ -108,7 +108,7 @@ pushed_kept k x st st' s s' row pushes n e e' r ran = record {
 }
 
 -- what came of a body whose slots are the only state
-pub pushes_kept : (k : CodeForm) (x : item.Item) (st : List State) (d s s' : State) (row : List ℤ) (pushes : List (ℕ × List ℤ)) → Takes (code k) 0 x st
+pub pushes_kept : (k : CodeForm) (x : item.Item) (st : List State) (d s s' : State) (row : List ℤ) (pushes : List (ℕ × List ℤ)) → MayTake (code k) 0 x st
     → (IsTrue false ↔ (k.starts ≡ [])) → s ≡ get_or st 0 d → row ≡ values_of x → RanKept k.body row s s' pushes → Pushed k x st (set st 0 s') pushes
 pushes_kept k x st d s s' row pushes t i g w h =
     let n : k.starts ≡ [] → ⊥ = λ e. true≢false (sym (i.1 e)) in
@@ -191,24 +191,24 @@ code_fires k x st st' out out' pushes p eo ea = record {
 
 -- FILTERS
 
-pub filter_row : (f : FilterForm) (x : item.Item) (st : List State) → Takes (filter f) 0 x st → IsRow x × (length (values_of x) ≡ 1)
+pub filter_row : (f : FilterForm) (x : item.Item) (st : List State) → MayTake (filter f) 0 x st → IsRow x × (length (values_of x) ≡ 1)
 filter_row f x st t = row_is 1 0 t.reads x t.fitted.fits.0 t.item
 
 -- what a filter takes, it can run on
-pub filter_can : (f : FilterForm) (p : ℕ) (x : item.Item) (st : List State) → Takes (filter f) p x st → CanFilter f
+pub filter_can : (f : FilterForm) (p : ℕ) (x : item.Item) (st : List State) → MayTake (filter f) p x st → CanFilter f
 filter_can f p x st t = can_filter f t.fitted.fits.3
 
 same_filter : (a b : Waiting) → state.Filter a ≡ state.Filter b → a ≡ b
 same_filter a b h = cc
 
 -- the state of a filter
-pub filter_state : (f : FilterForm) (x : item.Item) (s : State) → Takes (filter f) 0 x (s ∷ [])
+pub filter_state : (f : FilterForm) (x : item.Item) (s : State) → MayTake (filter f) 0 x (s ∷ [])
     → (w : Waiting) × (s ≡ state.Filter w) × (length w.kept ≡ length f.starts)
 filter_state f x s t =
     let h = t.fitted.keeps.stands in
     (h.now, alone_same s (state.Filter h.now) h.code, h.count)
 
-pub filter_count : (f : FilterForm) (x : item.Item) (s : State) (w : Waiting) → s ≡ state.Filter w → Takes (filter f) 0 x (s ∷ [])
+pub filter_count : (f : FilterForm) (x : item.Item) (s : State) (w : Waiting) → s ≡ state.Filter w → MayTake (filter f) 0 x (s ∷ [])
     → length w.kept ≡ length f.starts
 filter_count f x s w e t =
     let g = filter_state f x s t in

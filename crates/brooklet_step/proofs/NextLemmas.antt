@@ -8,7 +8,7 @@ use Rattle.river_base.proofs.Lists.{got_map, there_is}
 use Rattle.river_base.specs.declared.item.Item as item
 use Rattle.river_base.specs.Places.{list_at, each_grew}
 use Rattle.river_base.proofs.PlaceLemmas.{each_grew-blanks}
-use Rattle.kern_tables.specs.declared.kept.Kept.{Kept}
+use Rattle.kern_tables.specs.declared.kept.Aggregate.{Aggregate}
 use Rattle.kern_tables.specs.Kept.{kept_of, width_of_table}
 use Rattle.river_kernels.specs.Kern.{Kern, kern_of}
 use Rattle.river_plan.specs.declared.op.Op.{Op}
@@ -22,7 +22,7 @@ use Rattle.brooklet_model.proofs.Ports.{counts}
 use Rattle.brooklet_model.proofs.Traces.{got_count}
 use Rattle.brooklet_model.proofs.TypedPlan.{op_fits}
 use Rattle.brooklet_step.specs.declared.emit.Emit.{Emit}
-use Rattle.brooklet_step.specs.declared.parts.Parts.{Parts}
+use Rattle.brooklet_step.specs.declared.parts.MachineState.{MachineState}
 use Rattle.brooklet_step.specs.declared.state.State.{State}
 use Rattle.river_plan.specs.Places.{place, places, read_places, write_places, var_places}
 use Rattle.brooklet_step.specs.ByPlace.{joined_at}
@@ -31,7 +31,7 @@ use Rattle.brooklet_step.specs.Given.{FiresAt, CanTake}
 use Rattle.brooklet_step.proofs.GivenCode.{fires_again}
 use Rattle.brooklet_step.specs.Tables.{table_places, each_added, AreFor}
 use Rattle.brooklet_step.specs.Took.{IsBlank}
-use Rattle.brooklet_step.specs.Works.{queue_of, kinds_of, states_of, IsEnabled, GoesOn, Steps}
+use Rattle.brooklet_step.specs.Works.{queue_of, kinds_of, states_of, IsEnabled, IsRunning, Steps}
 use Rattle.river_plan.proofs.PlaceLemmas.{place_below}
 use Rattle.brooklet_step.proofs.KeptTables.{kept_at, kept_width}
 use Rattle.brooklet_step.proofs.OpTables.{width_at, width_there, widths_of, mine_many, table_places_are}
@@ -89,12 +89,12 @@ blank_again p o port x st st' out new f eo ea = record {
 -- THE CONDITIONS OF THE CALLS
 
 -- the place of the queue of an enabled port
-pub enabled_place : (m : Parts) (o port n : ℕ) (ps : List ℕ) (e : IsEnabled m o port) → ps ≡ list_at (read_places m.plan) o → n ≡ slice_index_or ps port 0
+pub enabled_place : (m : MachineState) (o port n : ℕ) (ps : List ℕ) (e : IsEnabled m o port) → ps ≡ list_at (read_places m.plan) o → n ≡ slice_index_or ps port 0
     → n ≡ place (queue_names m.plan) e.queue
 enabled_place m o port n ps e pe ne = ne ∙ ap (λ (l : List ℕ). slice_index_or l port 0) pe ∙ place_of m.plan o port e.queue e.reads
 
 -- an enabled port has an item in front
-pub front_there : (m : Parts) (o port n : ℕ) (g : GoesOn m) (e : IsEnabled m o port) → n ≡ place (queue_names m.plan) e.queue
+pub front_there : (m : MachineState) (o port n : ℕ) (g : IsRunning m) (e : IsEnabled m o port) → n ≡ place (queue_names m.plan) e.queue
     → (n < length m.queues) × (0 < length (list_at m.queues n))
 front_there m o port n g e at =
     let b = place_in_queues m o port e.queue g e.reads in (
@@ -103,7 +103,7 @@ front_there m o port n g e at =
     )
 
 -- an operator that is enabled is one of the plan's
-pub op_in : (m : Parts) (o port : ℕ) (g : GoesOn m) (e : IsEnabled m o port) → (o < length m.states) × (o < length m.plan.ops) × (o < length m.counts)
+pub op_in : (m : MachineState) (o port : ℕ) (g : IsRunning m) (e : IsEnabled m o port) → (o < length m.states) × (o < length m.plan.ops) × (o < length m.counts)
 op_in m o port g e =
     let w = slice_get_within m.plan.ops o e.reads.op e.reads.op_is in
     let s = g.laid_out.states in
@@ -111,7 +111,7 @@ op_in m o port g e =
     (omega (arith, w, s), w, omega (arith, w, c))
 
 -- the item at the front is one that the operator can take
-pub can_fire : (m : Parts) (o port n : ℕ) (x : item.Item) (queues : List (List item.Item)) (st : List State) (g : GoesOn m) (e : IsEnabled m o port)
+pub can_fire : (m : MachineState) (o port n : ℕ) (x : item.Item) (queues : List (List item.Item)) (st : List State) (g : IsRunning m) (e : IsEnabled m o port)
     → n ≡ place (queue_names m.plan) e.queue → IsFrontItem m.queues n x queues → st ≡ list_at m.states o → CanFire m.plan o port x st
 can_fire m o port n x queues st g e at hx es = record {
   op = e.reads.op;
@@ -120,7 +120,7 @@ can_fire m o port n x queues st g e at hx es = record {
 }
 
 -- there are as many lists as queues to write, and the queues are there
-pub send_there : (m : Parts) (o port n : ℕ) (x : item.Item) (queues : List (List item.Item)) (st st' : List State) (out : Emit) (ws : List ℕ) (g : GoesOn m)
+pub send_there : (m : MachineState) (o port n : ℕ) (x : item.Item) (queues : List (List item.Item)) (st st' : List State) (out : Emit) (ws : List ℕ) (g : IsRunning m)
     (e : IsEnabled m o port)
     → IsFrontItem m.queues n x queues → st ≡ list_at m.states o → FiredOp m.plan o port x st st' out → ws ≡ list_at (write_places m.plan) o
     → (length ws ≡ length out.outs) × ((j : ℕ) → j < length ws → slice_index_or ws j 0 < length queues)
@@ -155,7 +155,7 @@ rows_wide : (o : Option ℕ) (n : ℕ) (rows : List (List ℤ)) → o ≡ Some n
 rows_wide o n rows e a = subst (λ w. All (IsWide w) rows) e a
 
 -- there are as many lists of rows as tables among the operator's variables, and each has the width of its table
-pub add_there : (m : Parts) (o port n : ℕ) (x : item.Item) (less : List (List item.Item)) (st st' : List State) (out : Emit) (vs : List ℕ) (g : GoesOn m)
+pub add_there : (m : MachineState) (o port n : ℕ) (x : item.Item) (less : List (List item.Item)) (st st' : List State) (out : Emit) (vs : List ℕ) (g : IsRunning m)
     (e : IsEnabled m o port)
     → n ≡ place (queue_names m.plan) e.queue → IsFrontItem m.queues n x less
     → st ≡ list_at m.states o → FiredOp m.plan o port x st st' out → vs ≡ list_at (var_places m.plan) o
@@ -198,13 +198,13 @@ add_there m o port n x less st st' out vs g e at hx es f ve =
 
 -- THE END
 
-pub record Next (m m' : Parts) (o port : ℕ) : Type 0 where
+pub record Next (m m' : MachineState) (o port : ℕ) : Type 0 where
   pub steps : Steps m m' o port
-  pub goes_on : GoesOn m'
+  pub goes_on : IsRunning m'
 
 -- one firing more: the machine goes on
-pub next : (m : Parts) (o port n : ℕ) (x : item.Item) (st st' : List State) (out : Emit) (ws : List ℕ) (less queues : List (List item.Item)) (vs cs : List ℕ)
-    (ts : List Kept) (g : GoesOn m) (e : IsEnabled m o port)
+pub next : (m : MachineState) (o port n : ℕ) (x : item.Item) (st st' : List State) (out : Emit) (ws : List ℕ) (less queues : List (List item.Item)) (vs cs : List ℕ)
+    (ts : List Aggregate) (g : IsRunning m) (e : IsEnabled m o port)
     → n ≡ place (queue_names m.plan) e.queue → IsFrontItem m.queues n x less
     → st ≡ list_at m.states o → FiredOp m.plan o port x st st' out → ws ≡ list_at (write_places m.plan) o
     → queues ≡ each_grew less (joined_at ws (list_at out.outs)) → cs ≡ slice_set m.counts o (min most_firings (slice_index_or m.counts o 0 + 1))
@@ -229,7 +229,7 @@ next m o port n x st st' out ws less queues vs cs ts g e at hx es f we eq ec ve 
     let end : next_parts m o queues st' ts ≡
     (record { plan = m.plan; queues = queues; tables = ts; states = slice_set m.states o st'; counts = cs; stopped = false }) =
     λ i. record { plan = m.plan; queues = queues; tables = ts; states = slice_set m.states o st'; counts = sym ec i; stopped = false } in
-    subst (λ (u : Parts). Next m u o port) end (record {
+    subst (λ (u : MachineState). Next m u o port) end (record {
       steps = steps m o port e.queue x hx.rest c.blank out st' queues ts g e.reads hq c.is_blank fs qs us;
       goes_on = goes_on m o port e.queue x hx.rest c.blank out st' queues ts g e.reads hq c.is_blank fs qs us;
     })

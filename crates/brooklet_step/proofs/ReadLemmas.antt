@@ -13,10 +13,10 @@ use Rattle.river_plan.specs.Names.{count}
 use Rattle.river_plan.specs.Places.{place, places, read_places}
 use Rattle.river_plan.proofs.PlaceLemmas.{place_below}
 use Rattle.brooklet_model.specs.Machine.{Machine}
-use Rattle.brooklet_step.specs.declared.parts.Parts.{Parts}
+use Rattle.brooklet_step.specs.declared.parts.MachineState.{MachineState}
 use Rattle.brooklet_step.specs.Reading.{IsQueuePlace}
 use Rattle.brooklet_step.specs.Laws.{EnabledIsItem}
-use Rattle.brooklet_step.specs.Works.{queue_of, kinds_of, StandsForMachine, ReadsAt, IsEnabled, GoesOn}
+use Rattle.brooklet_step.specs.Works.{queue_of, kinds_of, StandsForMachine, ReadsAt, IsEnabled, IsRunning}
 use Rattle.brooklet_step.proofs.StepLemmas.{read_declared}
 
 -- the places of what an operator reads, or writes
@@ -36,7 +36,7 @@ place_of p o port q r =
     ∙ place_got (queue_names p) r.op.reads port q r.queue_is
 
 -- a queue that is read is one of the machine's
-pub place_in_queues : (m : Parts) (o port : ℕ) (q : Name) → GoesOn m → ReadsAt m.plan o port q → place (queue_names m.plan) q < length m.queues
+pub place_in_queues : (m : MachineState) (o port : ℕ) (q : Name) → IsRunning m → ReadsAt m.plan o port q → place (queue_names m.plan) q < length m.queues
 place_in_queues m o port q g r =
     let b = place_below (queue_names m.plan) q (read_declared m.plan g.valid o port q r) in
     let k = g.laid_out.queues in
@@ -58,7 +58,7 @@ pub ops_many : (raw : RawPlan) (p : PlanForm) → plan_form raw ≡ p → length
 ops_many raw p e = sym (length-map raw.ops op_form) ∙ ap (λ (x : PlanForm). length x.ops) e
 
 -- where the place is found
-pub found_place : (m : Parts) (o port n : ℕ) → GoesOn m → o < length m.plan.ops → port < length (list_at (read_places m.plan) o)
+pub found_place : (m : MachineState) (o port n : ℕ) → IsRunning m → o < length m.plan.ops → port < length (list_at (read_places m.plan) o)
     → n ≡ slice_index_or (list_at (read_places m.plan) o) port 0 → IsQueuePlace m o port n
 found_place m o port n g lo lp e =
     let w = there_is m.plan.ops o lo in
@@ -82,7 +82,7 @@ same_queue p o port q q' r r' =
     same_Some q q' (sym r.queue_is ∙ ap (λ (d : OpForm). slice_get d.reads port) e ∙ r'.queue_is)
 
 -- whether something waits there
-pub enabled_by : (m : Parts) (o port n w : ℕ) (b : Bool) → m.stopped ≡ false → IsQueuePlace m o port n → w ≡ length (list_at m.queues n)
+pub enabled_by : (m : MachineState) (o port n w : ℕ) (b : Bool) → m.stopped ≡ false → IsQueuePlace m o port n → w ≡ length (list_at m.queues n)
     → (IsTrue b → 0 < w) × (0 < w → IsTrue b) → (IsTrue b → IsEnabled m o port) × (IsEnabled m o port → IsTrue b)
 enabled_by m o port n w b run pl e t =
     let names = queue_names m.plan in
@@ -95,13 +95,13 @@ enabled_by m o port n w b run pl e t =
     )
 
 -- a port that reads nothing is not enabled
-pub not_enabled : (m : Parts) (o port : ℕ) → ((q : Name) → ReadsAt m.plan o port q → ⊥) → IsEnabled m o port → ⊥
+pub not_enabled : (m : MachineState) (o port : ℕ) → ((q : Name) → ReadsAt m.plan o port q → ⊥) → IsEnabled m o port → ⊥
 not_enabled m o port h on = h on.queue on.reads
 
 -- WHAT WAITS IN THE STATE OF THE DEFINITION
 
 -- as many items are left of a queue as its history is longer than what was taken
-left_many : (m : Parts) (s : Machine) (q : Name) → StandsForMachine m s → 0 < count q (queue_names m.plan)
+left_many : (m : MachineState) (s : Machine) (q : Name) → StandsForMachine m s → 0 < count q (queue_names m.plan)
     → length (queue_of m q) ≡ length (s.hist q) - s.taken q
 left_many m s q h lt =
     let all = held (kinds_of m q) [] (s.hist q) in

@@ -23,7 +23,7 @@ use Rattle.river_plan.specs.Uses.{total, reads_it, writes_it, and_writes, ReadsB
 use Rattle.river_plan.specs.Valid.{IsPlan}
 use Rattle.river_plan.proofs.NameLemmas.{cases_name, count-append, more_or_zero}
 use Rattle.brooklet_model.specs.Fire.{fire}
-use Rattle.kern_tables.specs.declared.kept.Kept.{Kept}
+use Rattle.kern_tables.specs.declared.kept.Aggregate.{Aggregate}
 use Rattle.kern_tables.specs.Kept.{rows_of}
 use Rattle.brooklet_model.specs.Histories.{most_firings, firings, all_adds}
 use Rattle.brooklet_model.specs.Laws.{HasDefined}
@@ -32,9 +32,9 @@ use Rattle.brooklet_model.specs.Meaning.{meaning}
 use Rattle.brooklet_model.proofs.Complete.{runs_law}
 use Rattle.brooklet_model.proofs.RunMeaning.{outs_are, firings_are}
 use Rattle.brooklet_model.proofs.Traces.{at_most, got_count, joined_out}
-use Rattle.brooklet_step.specs.declared.parts.Parts.{Parts}
+use Rattle.brooklet_step.specs.declared.parts.MachineState.{MachineState}
 use Rattle.brooklet_step.specs.Drained.{IsDrained, read_in, left_at, Follows, RunsOn, DrainedBefore, HasPorts, HasRun}
-use Rattle.brooklet_step.specs.Works.{queue_of, kinds_of, StandsForMachine, ReadsAt, IsEnabled, StandsAfterRun, GoesOn, Starts, Steps, AreCounts}
+use Rattle.brooklet_step.specs.Works.{queue_of, kinds_of, StandsForMachine, ReadsAt, IsEnabled, StandsAfterRun, IsRunning, Starts, Steps, AreCounts}
 use Rattle.brooklet_step.specs.Tables.{defined_tables}
 use Rattle.brooklet_step.proofs.Edges.{output_held}
 use Rattle.brooklet_step.proofs.KeptTables.{kept_of_bags, defined_rows}
@@ -58,7 +58,7 @@ no_later q (a ∷ ops) known (suc o') (suc o) op' op r once g' g le lt =
 -- WHAT A STEP LEAVES
 
 -- as many items are left as were put and not taken
-left_length : (m : Parts) (s : Machine) → StandsForMachine m s → (q : Name) → 0 < count q (queue_names m.plan)
+left_length : (m : MachineState) (s : Machine) → StandsForMachine m s → (q : Name) → 0 < count q (queue_names m.plan)
     → length (queue_of m q) ≡ length (s.hist q) - s.taken q
 left_length m s h q lt =
     ap length (h.left q lt) ∙ length-drop (s.taken q) (held (kinds_of m q) [] (s.hist q)) ∙ ap (λ n. n - s.taken q) (length-held (kinds_of m q) [] (s.hist q))
@@ -88,11 +88,11 @@ taken_grows p s s' o port q st =
 reads_in : (p p' : PlanForm) (o port : ℕ) (q : Name) → p' ≡ p → ReadsAt p' o port q → ReadsAt p o port q
 reads_in p p' o port q e r = subst (λ (x : PlanForm). ReadsAt x o port q) e r
 
-declared_in : (m m' : Parts) → m'.plan ≡ m.plan → (q : Name) → 0 < count q (queue_names m.plan) → 0 < count q (queue_names m'.plan)
+declared_in : (m m' : MachineState) → m'.plan ≡ m.plan → (q : Name) → 0 < count q (queue_names m.plan) → 0 < count q (queue_names m'.plan)
 declared_in m m' e q lt = subst (λ (x : PlanForm). 0 < count q (queue_names x)) (sym e) lt
 
 -- a step follows its operator
-pub follows_step : (m m' : Parts) (o port : ℕ) → IsPlan m.plan → Steps m m' o port → Follows m m' o
+pub follows_step : (m m' : MachineState) (o port : ℕ) → IsPlan m.plan → Steps m m' o port → Follows m m' o
 follows_step m m' o port v st = record {
   plan = st.plan;
   running = st.running;
@@ -120,11 +120,11 @@ follows_step m m' o port v st = record {
 }
 
 -- nothing follows any operator
-pub follows_none : (m : Parts) (o : ℕ) → m.stopped ≡ false → Follows m m o
+pub follows_none : (m : MachineState) (o : ℕ) → m.stopped ≡ false → Follows m m o
 follows_none m o e = record { plan = refl; running = e; ran = λ inputs r. r; drained = λ inputs r o' port' le d. d }
 
 -- two such runs, one after the other
-pub follows_more : (m m' m'' : Parts) (o : ℕ) → Follows m m' o → Follows m' m'' o → Follows m m'' o
+pub follows_more : (m m' m'' : MachineState) (o : ℕ) → Follows m m' o → Follows m' m'' o → Follows m m'' o
 follows_more m m' m'' o f g = record {
   plan = g.plan ∙ f.plan;
   running = g.running;
@@ -141,7 +141,7 @@ one_taken : (k : Name) (f : Name → ℕ) → at_name k (f k + 1) f k ≡ f k + 
 one_taken k f = ⊎_elim (λ c. if_true (name_eq k k) (f k + 1) (f k) c.1) (λ c. absurd (c.0 refl)) (cases_name k k)
 
 -- each step leaves one less
-pub step_less : (m m' : Parts) (o port : ℕ) (inputs : List (List item.Item)) → IsPlan m.plan → StandsAfterRun m inputs → IsEnabled m o port → Steps m m' o port
+pub step_less : (m m' : MachineState) (o port : ℕ) (inputs : List (List item.Item)) → IsPlan m.plan → StandsAfterRun m inputs → IsEnabled m o port → Steps m m' o port
     → left_at m' o port < left_at m o port
 step_less m m' o port inputs v r e st =
     let a = st.each r.state r.stands in
@@ -162,28 +162,28 @@ step_less m m' o port inputs v r e st =
     let i = e.item in
     omega (arith, s, t, h, h', l, l', i)
 
-pub not_enabled_drained : (m : Parts) (o port : ℕ) → m.stopped ≡ false → (IsEnabled m o port → ⊥) → IsDrained m o port
+pub not_enabled_drained : (m : MachineState) (o port : ℕ) → m.stopped ≡ false → (IsEnabled m o port → ⊥) → IsDrained m o port
 not_enabled_drained m o port run idle q r =
     ⊎_elim (λ lt. absurd (idle (record { running = run; queue = q; reads = r; item = lt }))) (λ z. z) (more_or_zero (length (queue_of m q)))
 
 -- TURNS
 
 -- a machine that is not stopped runs on by nothing
-pub runs_none : (m : Parts) → m.stopped ≡ false → RunsOn m m
+pub runs_none : (m : MachineState) → m.stopped ≡ false → RunsOn m m
 runs_none m e = record { plan = refl; running = e; ran = λ inputs r. r }
 
 -- two runs, one after the other
-pub runs_more : (m m' m'' : Parts) → RunsOn m m' → RunsOn m' m'' → RunsOn m m''
+pub runs_more : (m m' m'' : MachineState) → RunsOn m m' → RunsOn m' m'' → RunsOn m m''
 runs_more m m' m'' f g = record { plan = g.plan ∙ f.plan; running = g.running; ran = λ inputs r. g.ran inputs (f.ran inputs r) }
 
 -- a run and a step more
-pub runs_step : (m m' m'' : Parts) (o port : ℕ) → IsPlan m.plan → RunsOn m m' → Steps m' m'' o port → RunsOn m m''
+pub runs_step : (m m' m'' : MachineState) (o port : ℕ) → IsPlan m.plan → RunsOn m m' → Steps m' m'' o port → RunsOn m m''
 runs_step m m' m'' o port v f st =
     let g = follows_step m' m'' o port (subst IsPlan (sym f.plan) v) st in
     runs_more m m' m'' f (record { plan = g.plan; running = g.running; ran = g.ran })
 
 -- what is drained after the turns
-pub drained_after : (m m' m'' : Parts) (o : ℕ) → RunsOn m m' → DrainedBefore m' m'' o → DrainedBefore m m'' o
+pub drained_after : (m m' m'' : MachineState) (o : ℕ) → RunsOn m m' → DrainedBefore m' m'' o → DrainedBefore m m'' o
 drained_after m m' m'' o f b = record {
   plan = b.plan ∙ f.plan;
   running = b.running;
@@ -193,10 +193,10 @@ drained_after m m' m'' o f b = record {
 
 -- OPERATOR BY OPERATOR
 
-pub before_none : (m : Parts) → m.stopped ≡ false → DrainedBefore m m 0
+pub before_none : (m : MachineState) → m.stopped ≡ false → DrainedBefore m m 0
 before_none m e = record { plan = refl; running = e; ran = λ inputs r. r; drained = λ inputs r o' port' lt. absurd (omega (arith, lt)) }
 
-pub before_next : (m m' m'' : Parts) (o ports : ℕ) (op : OpForm) → DrainedBefore m m' o → Follows m' m'' o → slice_get m''.plan.ops o ≡ Some op
+pub before_next : (m m' m'' : MachineState) (o ports : ℕ) (op : OpForm) → DrainedBefore m m' o → Follows m' m'' o → slice_get m''.plan.ops o ≡ Some op
     → length op.reads ≤ ports → ((port : ℕ) → port < ports → IsDrained m'' o port) → DrainedBefore m m'' (o + 1)
 before_next m m' m'' o ports op b f g many d = record {
   plan = f.plan ∙ b.plan;
@@ -216,7 +216,7 @@ before_next m m' m'' o ports op b f g many d = record {
 -- THE END
 
 -- a machine whose ports are all drained is complete
-pub complete : (m : Parts) (inputs : List (List item.Item)) → IsPlan m.plan → (r : StandsAfterRun m inputs) → ((o port : ℕ) → IsDrained m o port)
+pub complete : (m : MachineState) (inputs : List (List item.Item)) → IsPlan m.plan → (r : StandsAfterRun m inputs) → ((o port : ℕ) → IsDrained m o port)
     → IsComplete m.plan r.state
 complete m inputs v r d o port op q g y =
     let u : ReadsAt m.plan o port q = record { op = op; op_is = g; queue_is = y } in
@@ -226,7 +226,7 @@ complete m inputs v r d o port op q g y =
     let w = r.stands.within q in
     omega (arith, b, h, w)
 
-pub ran_first : (p : PlanForm) (inputs : List (List item.Item)) (m : Parts) → Starts p inputs m → StandsAfterRun m inputs
+pub ran_first : (p : PlanForm) (inputs : List (List item.Item)) (m : MachineState) → Starts p inputs m → StandsAfterRun m inputs
 ran_first p inputs m s = record {
   events = [];
   state = start p inputs;
@@ -235,7 +235,7 @@ ran_first p inputs m s = record {
   counts = s.counts;
 }
 
-pub has_run : (m m' : Parts) (o : ℕ) → Follows m m' o → HasRun m → HasRun m'
+pub has_run : (m m' : MachineState) (o : ℕ) → Follows m m' o → HasRun m → HasRun m'
 has_run m m' o f r = record { inputs = r.inputs; ran = f.ran r.inputs r.ran }
 
 -- an equal plan is valid too
@@ -243,7 +243,7 @@ pub plan_valid : (p q : PlanForm) → p ≡ q → IsPlan q → IsPlan p
 plan_valid p q e v = subst IsPlan (sym e) v
 
 -- one port more is drained
-pub drained_next : (m0 m m' : Parts) (o n : ℕ) → HasRun m0 → Follows m0 m o → Follows m m' o → ((port : ℕ) → port < n → IsDrained m o port) → IsDrained m' o n
+pub drained_next : (m0 m m' : MachineState) (o n : ℕ) → HasRun m0 → Follows m0 m o → Follows m m' o → ((port : ℕ) → port < n → IsDrained m o port) → IsDrained m' o n
     → (port : ℕ) → port < n + 1 → IsDrained m' o port
 drained_next m0 m m' o n r f g d last port lt = ⊎_elim
     (λ below. g.drained r.inputs (f.ran r.inputs r.ran) o port (omega arith) (d port below))
@@ -282,7 +282,7 @@ ports_at raw p o n d e v lt de ne =
     record { ports = record { op = op_form d; op_is = g; many = ne }; few = omega (arith, f, ne) }
 
 -- where all ports of an operator are drained, the next operator's turn comes
-pub all_next : (m0 m m' : Parts) (p : PlanForm) (o n : ℕ) → m0.plan ≡ p → DrainedBefore m0 m o → Follows m m' o → HasPorts p o n
+pub all_next : (m0 m m' : MachineState) (p : PlanForm) (o n : ℕ) → m0.plan ≡ p → DrainedBefore m0 m o → Follows m m' o → HasPorts p o n
     → ((port : ℕ) → port < n → IsDrained m' o port) → DrainedBefore m0 m' (o + 1)
 all_next m0 m m' p o n e b f h d =
     before_next m0 m m' o n h.op b f (ap (λ (x : PlanForm). slice_get x.ops o) (f.plan ∙ b.plan ∙ e) ∙ h.op_is) (let k = h.many in omega (arith, k)) d
@@ -311,7 +311,7 @@ output_unread : (p : PlanForm) → IsPlan p → (i : ℕ) (q : Name) → slice_g
 output_unread p v i q g = let c = got_count (decl_names p.outputs) i q g in let o = v.read_once q in omega (arith, c, o)
 
 -- the first lists are those of the outputs
-pub outs_taken : (m : Parts) (raw : RawPlan) (n : ℕ) (outs : List (List item.Item)) → GoesOn m → plan_form raw ≡ m.plan → n ≡ length raw.outputs
+pub outs_taken : (m : MachineState) (raw : RawPlan) (n : ℕ) (outs : List (List item.Item)) → IsRunning m → plan_form raw ≡ m.plan → n ≡ length raw.outputs
     → outs ≡ take n m.queues → outs ≡ map (queue_of m) (decl_names m.plan.outputs)
 outs_taken m raw n outs g e ne t =
     let ws = decl_names m.plan.outputs in
@@ -326,7 +326,7 @@ outs_taken m raw n outs g e ne t =
     (omega (arith, l, q)))
 
 -- and they are there
-pub outs_there : (m : Parts) (raw : RawPlan) (n : ℕ) → GoesOn m → plan_form raw ≡ m.plan → n ≡ length raw.outputs → n ≤ length m.queues
+pub outs_there : (m : MachineState) (raw : RawPlan) (n : ℕ) → IsRunning m → plan_form raw ≡ m.plan → n ≡ length raw.outputs → n ≤ length m.queues
 outs_there m raw n g e ne =
     let ws = decl_names m.plan.outputs in
     let many : length ws ≡ n = length-map m.plan.outputs (λ (d : Decl). d.name) ∙ sym (ap (λ (x : PlanForm). length x.outputs) e) ∙ sym ne in
@@ -334,7 +334,7 @@ outs_there m raw n g e ne =
     let q = g.laid_out.queues in
     omega (arith, many, l, q)
 
-module _ (p : PlanForm) (inputs : List (List item.Item)) (m0 m : Parts) (v : IsPlan p) (st : Starts p inputs m0) (b : DrainedBefore m0 m (length p.ops)) where
+module _ (p : PlanForm) (inputs : List (List item.Item)) (m0 m : MachineState) (v : IsPlan p) (st : Starts p inputs m0) (b : DrainedBefore m0 m (length p.ops)) where
   plan_is : m.plan ≡ p
   plan_is = b.plan ∙ st.plan
 
@@ -375,11 +375,11 @@ module _ (p : PlanForm) (inputs : List (List item.Item)) (m0 m : Parts) (v : IsP
       ∙ ap (λ (x : PlanForm). map pos (firings x inputs)) plan_is
 
   -- the tables are those that are defined
-  pub run_tables : (ts : List Kept) → ts ≡ m.tables → ts ≡ defined_tables p inputs
+  pub run_tables : (ts : List Aggregate) → ts ≡ m.tables → ts ≡ defined_tables p inputs
   run_tables ts e =
       e ∙ ran.stands.tables ∙ kept_of_bags m.plan.tables ran.state.rows (all_adds m.plan inputs) defined.tables
       ∙ ap (λ (x : PlanForm). defined_tables x inputs) plan_is
 
   -- and so are their rows
-  pub run_rows : (ts : List Kept) → ts ≡ m.tables → map rows_of ts ≡ (meaning p inputs).tables
+  pub run_rows : (ts : List Aggregate) → ts ≡ m.tables → map rows_of ts ≡ (meaning p inputs).tables
   run_rows ts e = ap (map rows_of) (run_tables ts e) ∙ defined_rows p inputs

@@ -10,7 +10,7 @@ use Rattle.river_base.proofs.Lists.{got_map, got_append, map_more}
 use Rattle.river_base.specs.declared.item.Item as item
 use Rattle.river_base.specs.Held.{IsHeld}
 use Rattle.river_base.specs.Places.{list_at}
-use Rattle.kern_tables.specs.declared.kept.Kept.{Kept}
+use Rattle.kern_tables.specs.declared.kept.Aggregate.{Aggregate}
 use Rattle.river_kernels.specs.Kern.{kern_of}
 use Rattle.river_plan.specs.declared.op.Op.{Op}
 use Rattle.river_plan.specs.declared.plan.Decl.{Decl}
@@ -30,12 +30,12 @@ use Rattle.brooklet_model.specs.Typed.{AreInputs}
 use Rattle.brooklet_model.proofs.Solutions.{written_out}
 use Rattle.brooklet_model.proofs.TypedPlan.{op_fits, inputs_typed}
 use Rattle.brooklet_model.proofs.Complete.{traced_start, nothing_given}
-use Rattle.brooklet_step.specs.declared.parts.Parts.{Parts}
+use Rattle.brooklet_step.specs.declared.parts.MachineState.{MachineState}
 use Rattle.brooklet_step.specs.declared.state.State.{State}
 use Rattle.brooklet_model.specs.Fit.{Fit}
 use Rattle.brooklet_step.specs.Initial.{AreFirstStates, CanStart, AreFirst}
 use Rattle.brooklet_step.specs.Tables.{kept_tables}
-use Rattle.brooklet_step.specs.Works.{StandsForMachine, Counts, GoesOn, Starts}
+use Rattle.brooklet_step.specs.Works.{StandsForMachine, Counts, IsRunning, Starts}
 use Rattle.brooklet_step.proofs.Edges.{inputs_held, inputs_may}
 use Rattle.brooklet_step.proofs.QueuePlaces.{written_found}
 
@@ -187,17 +187,17 @@ module _ (p : PlanForm) (v : IsPlan p) (inputs : List (List item.Item)) (fit : F
 
 -- ALL OF IT
 
-pub record First (p : PlanForm) (inputs : List (List item.Item)) (m : Parts) : Type 0 where
+pub record First (p : PlanForm) (inputs : List (List item.Item)) (m : MachineState) : Type 0 where
   pub starts : Starts p inputs m
-  pub goes_on : GoesOn m
+  pub goes_on : IsRunning m
 
-pub first : (p pl : PlanForm) (inputs queues : List (List item.Item)) (cs : List ℕ) (states : List (List State)) (tables : List Kept) → IsPlan p → Fit p inputs
+pub first : (p pl : PlanForm) (inputs queues : List (List item.Item)) (cs : List ℕ) (states : List (List State)) (tables : List Aggregate) → IsPlan p → Fit p inputs
     → pl ≡ p
     → queues ≡ replicate (length p.outputs) [] ++ (inputs ++ replicate (length p.queues) []) → AreFirst p.ops states → cs ≡ replicate (length p.ops) 0
     → tables ≡ kept_tables p.tables (λ n. [])
     → First p inputs (record { plan = pl; queues = queues; tables = tables; states = states; counts = cs; stopped = false })
 first p pl inputs queues cs states tables v fit pe qe f ce te =
-    let m : Parts = record { plan = p; queues = queues; tables = tables; states = states; counts = cs; stopped = false } in
+    let m : MachineState = record { plan = p; queues = queues; tables = tables; states = states; counts = cs; stopped = false } in
     let many : length queues ≡ length (queue_names p) = ap length qe ∙ queues_many p v inputs fit in
     let kinds = kind_of (all_decls p) in
     let all_typed = inputs_typed p v inputs fit.typed in
@@ -236,13 +236,13 @@ first p pl inputs queues cs states tables v fit pe qe f ce te =
     })
 
 -- the same in the terms of the code
-pub first_by : (raw : RawPlan) (p pl : PlanForm) (inputs queues : List (List item.Item)) (cs : List ℕ) (states : List (List State)) (tables : List Kept)
+pub first_by : (raw : RawPlan) (p pl : PlanForm) (inputs queues : List (List item.Item)) (cs : List ℕ) (states : List (List State)) (tables : List Aggregate)
     → IsPlan p → Fit p inputs → plan_form raw ≡ p → pl ≡ p
     → queues ≡ replicate (length raw.outputs) [] ++ (inputs ++ replicate (length raw.queues) []) → AreFirst (op_forms raw.ops) states
     → cs ≡ replicate (length raw.ops) 0 → tables ≡ kept_tables raw.tables (λ n. [])
     → First p inputs (record { plan = pl; queues = queues; tables = tables; states = states; counts = cs; stopped = false })
 first_by raw p pl inputs queues cs states tables v fit e pe qe fs ce te =
-    let m : Parts = record { plan = pl; queues = queues; tables = tables; states = states; counts = cs; stopped = false } in
+    let m : MachineState = record { plan = pl; queues = queues; tables = tables; states = states; counts = cs; stopped = false } in
     subst (λ (x : PlanForm). First x inputs m) e
     (first (plan_form raw) pl inputs queues cs states tables (subst IsPlan (sym e) v) (subst (λ (x : PlanForm). Fit x inputs) (sym e) fit) (pe ∙ sym e)
     qe fs (ce ∙ ap (λ (i : ℕ). replicate i 0) (sym (length-map raw.ops op_form))) te)

@@ -14,7 +14,7 @@ use Rattle.river_base.proofs.HeldLemmas.{held-nil, held-append, length-held}
 use Rattle.river_base.specs.Name.{name_eq}
 use Rattle.river_base.specs.Places.{list_at, each_grew}
 use Rattle.river_base.proofs.PlaceLemmas.{length-each_grew, get_or-each_grew, each_grew-blanks, if_true, if_false, if_eq, if_ne}
-use Rattle.kern_tables.specs.declared.kept.Kept.{Kept}
+use Rattle.kern_tables.specs.declared.kept.Aggregate.{Aggregate}
 use Rattle.river_plan.specs.Forms.{Name, OpForm, PlanForm, decl_names, table_names, queue_names}
 use Rattle.river_plan.specs.Kinds.{var_kind}
 use Rattle.river_plan.specs.Names.{count, one_if}
@@ -33,13 +33,13 @@ use Rattle.brooklet_model.proofs.Ports.{shaped, counts}
 use Rattle.brooklet_model.proofs.Traces.{at_most, got_count, joined_out, at_key_same, at_key_other, at_same}
 use Rattle.brooklet_model.proofs.TypedPlan.{at_append, op_fits, joined_all}
 use Rattle.brooklet_step.specs.declared.emit.Emit.{Emit}
-use Rattle.brooklet_step.specs.declared.parts.Parts.{Parts}
+use Rattle.brooklet_step.specs.declared.parts.MachineState.{MachineState}
 use Rattle.brooklet_step.specs.declared.state.State.{State}
 use Rattle.brooklet_step.specs.ByPlace.{joined_at}
 use Rattle.brooklet_step.specs.Given.{held_by, held_at, IsHeldBy, IsHeldOf, FitState, StandsAfter, ran_from, TookHeld, Does, FiresAt, CanTake}
 use Rattle.brooklet_step.specs.Tables.{kept_tables, each_added}
 use Rattle.brooklet_step.specs.Took.{IsBlank}
-use Rattle.brooklet_step.specs.Works.{queue_of, kinds_of, states_of, firing_count, StandsForMachine, ReadsAt, Counts, GoesOn, StandsAfterFiring, Steps}
+use Rattle.brooklet_step.specs.Works.{queue_of, kinds_of, states_of, firing_count, StandsForMachine, ReadsAt, Counts, IsRunning, StandsAfterFiring, Steps}
 use Rattle.brooklet_step.proofs.GivenLemmas.{first_is_start, fired_typed}
 use Rattle.brooklet_step.proofs.Fires.{blank_room}
 use Rattle.river_plan.specs.Places.{place, places}
@@ -76,14 +76,14 @@ write_declared p v o op g q lt =
     v.writes_declared q (omega (arith, m, lt))
 
 -- an item that a queue holds is what the port that reads it may take
-pub item_held : (m : Parts) (o port : ℕ) (q : Name) (i : item.Item) (rest : List item.Item) → (g : GoesOn m) → (r : ReadsAt m.plan o port q)
+pub item_held : (m : MachineState) (o port : ℕ) (q : Name) (i : item.Item) (rest : List item.Item) → (g : IsRunning m) → (r : ReadsAt m.plan o port q)
     → queue_of m q ≡ i ∷ rest → IsHeldOf (map (kinds_of m) r.op.reads) port i
 item_held m o port q i rest g r hx =
     subst (λ t. IsHeldBy t i) (sym (got_map (kinds_of m) r.op.reads port q r.queue_is))
     (All-head (IsHeld (kinds_of m q)) i rest (subst (All (IsHeld (kinds_of m q))) hx (g.items q (read_declared m.plan g.valid o port q r))))
 
 -- a firing can be made
-pub can_take : (m : Parts) (o port : ℕ) (q : Name) (i : item.Item) (rest : List item.Item) (st : List State) (out : Emit) → (g : GoesOn m)
+pub can_take : (m : MachineState) (o port : ℕ) (q : Name) (i : item.Item) (rest : List item.Item) (st : List State) (out : Emit) → (g : IsRunning m)
     → (r : ReadsAt m.plan o port q) → queue_of m q ≡ i ∷ rest → st ≡ states_of m o → IsBlank r.op.kernel out → CanTake r.op.kernel port i st out
 can_take m o port q i rest st out g r hx es b = record {
   reads = map (kinds_of m) r.op.reads;
@@ -167,7 +167,7 @@ sum_min : (m n : ℕ) → min m (min m n + 1) ≡ min m (n + 1)
 sum_min m n = omega arith
 
 -- the machine after operator number o fired
-abbrev pub next_parts : Parts → ℕ → List (List item.Item) → List State → List Kept → Parts
+abbrev pub next_parts : MachineState → ℕ → List (List item.Item) → List State → List Aggregate → MachineState
 next_parts m o queues st ts = record {
   plan = m.plan;
   queues = queues;
@@ -177,8 +177,8 @@ next_parts m o queues st ts = record {
   stopped = false;
 }
 
-module _ (m : Parts) (o port : ℕ) (q : Name) (i : item.Item) (rest : List item.Item) (blank out : Emit) (st : List State) (queues : List (List item.Item))
-    (ts : List Kept) (g : GoesOn m) (r : ReadsAt m.plan o port q)
+module _ (m : MachineState) (o port : ℕ) (q : Name) (i : item.Item) (rest : List item.Item) (blank out : Emit) (st : List State) (queues : List (List item.Item))
+    (ts : List Aggregate) (g : IsRunning m) (r : ReadsAt m.plan o port q)
     (hx : queue_of m q ≡ i ∷ rest) (b : IsBlank r.op.kernel blank)
     (f : FiresAt r.op.kernel port i blank out (states_of m o) st)
     (eq : queues ≡ each_grew (slice_set m.queues (place (queue_names m.plan) q) rest) (joined_at (places (queue_names m.plan) r.op.writes) (list_at out.outs)))
@@ -195,7 +195,7 @@ module _ (m : Parts) (o port : ℕ) (q : Name) (i : item.Item) (rest : List item
   abbrev writes : List QueueType
   writes = map (kinds_of m) r.op.writes
 
-  abbrev m' : Parts
+  abbrev m' : MachineState
   m' = next_parts m o queues st ts
 
   -- the queues without the item that was taken
@@ -401,7 +401,7 @@ module _ (m : Parts) (o port : ℕ) (q : Name) (i : item.Item) (rest : List item
   steps = record { plan = refl; running = refl; each = after; counts = counts_next }
 
   -- and goes on
-  pub goes_on : GoesOn m'
+  pub goes_on : IsRunning m'
   goes_on =
       let l = g.laid_out in
       let a = after g.ran.state g.ran.stands in

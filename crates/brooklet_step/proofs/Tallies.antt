@@ -10,12 +10,12 @@ use Rattle.brooklet_model.specs.Fire.{fire, values_of, tabs}
 use Rattle.brooklet_step.specs.declared.emit.Emit.{Emit}
 use Rattle.brooklet_step.specs.declared.state.State.{State}
 use Rattle.brooklet_step.specs.Took.{HasLists}
-use Rattle.brooklet_step.specs.Stands.{IsRow, Fires, Takes}
+use Rattle.brooklet_step.specs.Stands.{IsRow, Fires, MayTake}
 use Rattle.brooklet_step.proofs.Leaves.{row_is}
 
 -- it takes rows alone
-pub tally_row : (k : Kern) (port : ℕ) (x : item.Item) (st : List State) → k ≡ tally → Takes k port x st → IsRow x
-tally_row k port x st ek t = let u = subst (λ (j : Kern). Takes j port x st) ek t in (row_is u.fitted.fits.0 port u.reads x u.fitted.fits.1 u.item).0
+pub tally_row : (k : Kern) (port : ℕ) (x : item.Item) (st : List State) → k ≡ tally → MayTake k port x st → IsRow x
+tally_row k port x st ek t = let u = subst (λ (j : Kern). MayTake j port x st) ek t in (row_is u.fitted.fits.0 port u.reads x u.fitted.fits.1 u.item).0
 
 -- and there is a list for its table
 pub tally_room : (k : Kern) (out : Emit) → k ≡ tally → HasLists k out → 0 < length out.adds

@@ -2,11 +2,11 @@
 use Rattle.std.specs.Prelude.{◌≡◌, ℕ, ◌<◌, ◌≤◌, false, List, [], length, Option, Some, None, unwrap_or, slice_get}
 use Rattle.river_base.specs.declared.item.Item as item
 use Rattle.river_plan.specs.Forms.{Name, OpForm, PlanForm}
-use Rattle.brooklet_step.specs.declared.parts.Parts.{Parts}
+use Rattle.brooklet_step.specs.declared.parts.MachineState.{MachineState}
 use Rattle.brooklet_step.specs.Works.{queue_of, ReadsAt, StandsAfterRun}
 
 -- nothing is left at this port
-abbrev pub IsDrained : Parts → ℕ → ℕ → Type 0
+abbrev pub IsDrained : MachineState → ℕ → ℕ → Type 0
 IsDrained m o port = (q : Name) → ReadsAt m.plan o port q → length (queue_of m q) ≡ 0
 
 -- the queue that an operator reads at a port; an empty name where there is none
@@ -15,29 +15,29 @@ read_in None port = []
 read_in (Some op) port = unwrap_or (slice_get op.reads port) []
 
 -- how many items wait there
-abbrev pub left_at : Parts → ℕ → ℕ → ℕ
+abbrev pub left_at : MachineState → ℕ → ℕ → ℕ
 left_at m o port = length (queue_of m (read_in (slice_get m.plan.ops o) port))
 
 -- the machine stands for the state after some run
-pub record HasRun (m : Parts) : Type 0 where
+pub record HasRun (m : MachineState) : Type 0 where
   pub inputs : List (List item.Item)
   pub ran : StandsAfterRun m inputs
 
 -- after firings of operators from number o on: what was drained at ports of operators up to number o still is
-pub record Follows (m m' : Parts) (o : ℕ) : Type 0 where
+pub record Follows (m m' : MachineState) (o : ℕ) : Type 0 where
   pub plan : m'.plan ≡ m.plan
   pub running : m'.stopped ≡ false
   pub ran : (inputs : List (List item.Item)) → StandsAfterRun m inputs → StandsAfterRun m' inputs
   pub drained : (inputs : List (List item.Item)) → StandsAfterRun m inputs → (o' port' : ℕ) → o' ≤ o → IsDrained m o' port' → IsDrained m' o' port'
 
 -- after some firings: the same plan, and a run goes on
-pub record RunsOn (m m' : Parts) : Type 0 where
+pub record RunsOn (m m' : MachineState) : Type 0 where
   pub plan : m'.plan ≡ m.plan
   pub running : m'.stopped ≡ false
   pub ran : (inputs : List (List item.Item)) → StandsAfterRun m inputs → StandsAfterRun m' inputs
 
 -- all ports of the operators before number o are drained
-pub record DrainedBefore (m m' : Parts) (o : ℕ) : Type 0 where
+pub record DrainedBefore (m m' : MachineState) (o : ℕ) : Type 0 where
   pub plan : m'.plan ≡ m.plan
   pub running : m'.stopped ≡ false
   pub ran : (inputs : List (List item.Item)) → StandsAfterRun m inputs → StandsAfterRun m' inputs

@@ -21,7 +21,7 @@ use Rattle.brooklet_model.specs.Fire.{fire}
 use Rattle.brooklet_model.specs.Machine.{Machine, HasItem}
 use Rattle.brooklet_model.specs.Typed.{IsOf, IsStart, between}
 use Rattle.brooklet_step.specs.declared.emit.Emit.{Emit}
-use Rattle.brooklet_step.specs.declared.parts.Parts.{Parts}
+use Rattle.brooklet_step.specs.declared.parts.MachineState.{MachineState}
 use Rattle.brooklet_step.specs.declared.state.State.{State}
 use Rattle.brooklet_step.specs.Given.{held_at, IsHeldOf, IsPlainBy, FitState, StandsAfter, FiresAt, CanTake}
 use Rattle.brooklet_step.specs.Works.{StandsForMachine, IsEnabled}
@@ -80,7 +80,7 @@ FiringsStep =
 -- definition, whichever of the states it is that the machine stands for
 abbrev pub EnabledIsItem : Type 0
 EnabledIsItem =
-    (m : Parts) (s : Machine) (o port : ℕ) → IsPlan m.plan → m.stopped ≡ false → StandsForMachine m s → IsEnabled m o port ↔ HasItem m.plan s o port
+    (m : MachineState) (s : Machine) (o port : ℕ) → IsPlan m.plan → m.stopped ≡ false → StandsForMachine m s → IsEnabled m o port ↔ HasItem m.plan s o port
 
 -- where no relation passes, a queue may hold an item exactly where the item is of the queue's type
 abbrev pub PlainQueuesHoldTyped : Type 0

@@ -7,14 +7,14 @@ use Rattle.river_plan.specs.Forms.{Name, OpForm, PlanForm, queue_names}
 use Rattle.river_plan.specs.Names.{count}
 use Rattle.river_plan.specs.Places.{place}
 use Rattle.brooklet_step.specs.declared.emit.Emit.{Emit}
-use Rattle.brooklet_step.specs.declared.parts.Parts.{Parts}
+use Rattle.brooklet_step.specs.declared.parts.MachineState.{MachineState}
 use Rattle.brooklet_step.specs.declared.state.State.{State}
 use Rattle.brooklet_step.specs.Given.{CanTake, FiresAt}
 use Rattle.brooklet_step.specs.Took.{HasLists, IsBlank}
 use Rattle.brooklet_step.specs.Works.{ReadsAt}
 
 -- the operator has this port, and this is the place of the queue that it reads there
-pub record IsQueuePlace (m : Parts) (o port n : ℕ) : Type 0 where
+pub record IsQueuePlace (m : MachineState) (o port n : ℕ) : Type 0 where
   pub queue : Name
   pub reads : ReadsAt m.plan o port queue
   pub place_is : n ≡ place (queue_names m.plan) queue
@@ -22,7 +22,7 @@ pub record IsQueuePlace (m : Parts) (o port n : ℕ) : Type 0 where
   pub in_queues : n < length m.queues
 
 -- the place, where the operator and the port are there
-abbrev pub IsPlaceRead : Parts → ℕ → ℕ → Option ℕ → Type 0
+abbrev pub IsPlaceRead : MachineState → ℕ → ℕ → Option ℕ → Type 0
 IsPlaceRead m o port (Some n) = IsQueuePlace m o port n
 IsPlaceRead m o port None = (q : Name) → ReadsAt m.plan o port q → ⊥
 

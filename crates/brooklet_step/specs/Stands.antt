@@ -139,12 +139,12 @@ pub record Fitted (k : Kern) (reads : List QueueType) (st : List State) : Type 0
   pub keeps : KeepsOnlyItems k reads st
 
 -- the item and its port fit too
-pub record Takes (k : Kern) (port : ℕ) (x : item.Item) (st : List State) : Type 0 where
+pub record MayTake (k : Kern) (port : ℕ) (x : item.Item) (st : List State) : Type 0 where
   pub reads : List QueueType
   pub fitted : Fitted k reads st
   pub item : IsOf reads port x
 
 -- a firing can be made: the lists for what it gives are there
 pub record Applies (k : Kern) (port : ℕ) (x : item.Item) (st : List State) (out : Emit) : Type 0 where
-  pub takes : Takes k port x st
+  pub takes : MayTake k port x st
   pub room : HasLists k out

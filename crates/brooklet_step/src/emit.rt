@@ -9,7 +9,7 @@ ghost use Rattle.brooklet_step.specs.Took.{Took, StayApart};
 
 use crate::initial::add_empty;
 use crate::parts::Lines;
-use kern_rows::Line;
+use kern_rows::ItemLine;
 use river_base::{Duplicate, Item, Items, Listed, NoMemory, Numbers, Row, Rows};
 use std::alloc::Global;
 use std::mem::replace;
@@ -137,7 +137,7 @@ impl Emit {
     }
 
     /// What was given at a port, in a line; nothing is left there.
-    pub(crate) fn take_port(&mut self, alloc: Global, port: usize) -> Line
+    pub(crate) fn take_port(&mut self, alloc: Global, port: usize) -> ItemLine
         requires { port < length self.old.outs }
         ensures taken { result ≡ list_at self.old.outs port }
         ensures outs { self.new.outs ≡ slice_set self.old.outs port [] }
@@ -213,7 +213,7 @@ fn add_items(outs: &mut Lines, place: usize, items: &mut Items) -> Result<(), No
 }
 
 // Items move to the end of a line. The list keeps its memory.
-fn move_items(items: &mut Items, line: &mut Line) -> Result<(), NoMemory>
+fn move_items(items: &mut Items, line: &mut ItemLine) -> Result<(), NoMemory>
     ensures { OnOk result (line.new ≡ line.old ++ items.old) }
 {
     turn_round(items);
@@ -231,7 +231,7 @@ fn turn_round(items: &mut Items)
 }
 
 // The items of a line come to the end of the line at a place.
-fn add_line(outs: &mut Lines, place: usize, mut items: Line) -> Result<(), NoMemory>
+fn add_line(outs: &mut Lines, place: usize, mut items: ItemLine) -> Result<(), NoMemory>
     requires { place < length outs.old }
     ensures { OnOk result (outs.new ≡ append_at outs.old place items) }
 {
@@ -282,12 +282,12 @@ fn take_list<T: Drop>(alloc: Global, lists: &mut Listed<Listed<T>>, place: usize
 }
 
 // The line at a place; nothing is left there.
-fn take_line(alloc: Global, lines: &mut Lines, place: usize) -> Line
+fn take_line(alloc: Global, lines: &mut Lines, place: usize) -> ItemLine
     requires { place < length lines.old }
     ensures taken { result ≡ list_at lines.old place }
     ensures left { lines.new ≡ slice_set lines.old place [] }
 {
-    replace(lines.at_mut(place), Line::new(alloc))
+    replace(lines.at_mut(place), ItemLine::new(alloc))
 }
 
 /// No element is left in any of the lists, which keep their memory.
@@ -348,7 +348,7 @@ fn spliced_port(
     second: &mut Lines,
     at: usize,
     port: usize,
-) -> Line
+) -> ItemLine
     requires place { at < length first.old }
     requires port { port + 1 < length first.old + length second.old }
     requires fits { port + 1 < 2 ^ 64 }

@@ -15,7 +15,7 @@ use crate::emit::{Emit, Spare};
 use crate::leaf::{filter_row, run_row};
 use crate::single::{fire_leaf, is_leaf};
 use crate::state::{State, States};
-use kern_rows::Line;
+use kern_rows::ItemLine;
 use river_base::{Flat, Flats, Item, NoMemory, Row};
 use river_plan::Kernel;
 use std::alloc::Global;
@@ -30,7 +30,7 @@ pub fn blank_for(alloc: Global, kernel: &Kernel) -> Result<Emit, NoMemory>
 }
 
 // The items that are no packs; none is left in the line.
-fn flats_of(alloc: Global, items: &mut Line) -> Result<Flats, NoMemory>
+fn flats_of(alloc: Global, items: &mut ItemLine) -> Result<Flats, NoMemory>
     ensures { IfOk result (λ all. all ≡ flats_in items.old) }
 {
     let mut all = Flats::new(alloc);
@@ -260,7 +260,7 @@ fn fire_second(
 fn fire_each(
     alloc: Global,
     kernel: &Kernel,
-    items: &mut Line,
+    items: &mut ItemLine,
     states: &mut [State],
     out: &mut Emit,
     spare: &mut Spare,

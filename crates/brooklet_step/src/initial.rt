@@ -3,7 +3,7 @@ ghost use Rattle.std.specs.Prelude.{◌≡◌, ◌++◌, [], length, replicate, 
 ghost use Rattle.brooklet_step.specs.Tables.{kept_tables};
 
 use crate::parts::{Lines, Tables};
-use kern_rows::Line;
+use kern_rows::ItemLine;
 use kern_tables::Table;
 use river_base::NoMemory;
 use river_plan::{RawPlan, TableDecls};
@@ -25,7 +25,7 @@ pub(crate) fn add_empty(alloc: Global, queues: &mut Lines, count: usize) -> Resu
     ensures { OnOk result (queues.new ≡ queues.old ++ replicate count []) }
 {
     for _i in 0..count {
-        queues.push(Line::new(alloc))?;
+        queues.push(ItemLine::new(alloc))?;
     }
     Ok(())
 }

@@ -14,11 +14,11 @@ ghost use Rattle.brooklet_model.specs.Firings.{gives};
 ghost use Rattle.brooklet_step.specs.Took.{Took};
 ghost use Rattle.brooklet_step.specs.Dealing.{DealsItem};
 ghost use Rattle.brooklet_step.specs.Given.{CanTake, FiresAt};
-ghost use Rattle.brooklet_step.specs.Stands.{Takes, Applies, Fires, IsRow, IsSlots, Pushed, RanKept};
+ghost use Rattle.brooklet_step.specs.Stands.{MayTake, Applies, Fires, IsRow, IsSlots, Pushed, RanKept};
 
 use crate::emit::{Emit, Spare};
 use crate::state::State;
-use kern_rows::{CodeKernel, Deal, DealState, Filter, Line};
+use kern_rows::{CodeKernel, Deal, DealState, Filter, ItemLine};
 use river_base::{Flat, Item, NoMemory, Numbers, Row};
 use std::alloc::Global;
 use work_code::Emitted;
@@ -79,7 +79,7 @@ fn push_all(
     states: &mut [State],
     pushes: &mut Emitted,
 ) -> Result<(), NoMemory>
-    requires takes { Takes (code_kern (code_form kernel.now)) 0 (variant.Flat (flat.One row.now)) states.old }
+    requires takes { MayTake (code_kern (code_form kernel.now)) 0 (variant.Flat (flat.One row.now)) states.old }
     requires empty { pushes.old ≡ [] }
     ensures { OnOk result (Pushed (code_form kernel.now) (variant.Flat (flat.One row.now)) states.old states.new pushes.new) }
 {
@@ -126,7 +126,7 @@ pub fn run_row(
 
 // Each value as a row comes to the end of a line.
 #[tactic(auto, using(std::proofs::lemmas::List::map_more))]
-fn add_values(values: &Numbers, line: &mut Line) -> Result<(), NoMemory>
+fn add_values(values: &Numbers, line: &mut ItemLine) -> Result<(), NoMemory>
     ensures { OnOk result (line.new ≡ line.old ++ map (λ v. variant.Flat (flat.One (v ∷ []))) values.now) }
 {
     for value in values.as_slice() {

@@ -21,7 +21,7 @@ pub use firing::{blank_for, fire};
 pub use initial::{first_queues, first_tables};
 pub use kinds::{has_type, item_fits};
 pub use outcome::Outcome;
-pub use parts::{Lines, Parts, Sizes, Tables};
+pub use parts::{Lines, MachineState, Sizes, Tables};
 pub use start::{first_states, states_of};
 pub use state::{State, States};
 pub use step::{fire_op, fire_values};

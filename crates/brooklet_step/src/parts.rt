@@ -1,13 +1,13 @@
 // What a machine keeps.
 
 use crate::States;
-use kern_rows::Line;
+use kern_rows::ItemLine;
 use kern_tables::Table;
 use river_base::Listed;
 use river_plan::Plan;
 
 /// The items that wait in each queue.
-pub type Lines = Listed<Line>;
+pub type Lines = Listed<ItemLine>;
 
 /// Tables, in the order of the plan.
 pub type Tables = Listed<Table>;
@@ -17,7 +17,7 @@ pub type Sizes = Listed<usize>;
 
 /// What a machine keeps.
 #[derive(Drop)]
-pub struct Parts {
+pub struct MachineState {
     /// The plan that it runs.
     pub plan: Plan,
     /// The items of each queue that are not taken: the outputs, the inputs, the others. Nothing is taken from an output, so it

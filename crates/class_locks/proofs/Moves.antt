@@ -12,7 +12,7 @@ use Rattle.class_locks.specs.declared.view.View.{View}
 use Rattle.class_locks.specs.declared.view.Held.{Held}
 use Rattle.class_locks.specs.declared.view.Claim.{Claim}
 use Rattle.class_locks.specs.declared.view.Tried.{Tried}
-use Rattle.class_locks.specs.Logs.{Holding, part}
+use Rattle.class_locks.specs.Logs.{Holding, entries_of_part}
 use Rattle.class_locks.specs.Views.{StandsIn, own, Belong, entries_of, claims_of}
 use Rattle.class_locks.specs.Rule.{Locks, class_word, Grip, lies, Logged, ClassOk, SeatOk, IsOpen, IsShut, IsKept, IsLogged}
 use Rattle.class_locks.proofs.Lists.{at_within, at_end, at_one, put, put_here, put_else}
@@ -40,7 +40,7 @@ module _ (n : ℕ) (starts : List Holding) where
 
   -- a seat comes
   pub logged_end : (views : List View) (w : View) (c : ℕ) (x : Holding) → (l : Logged n starts views c x)
-      → ((k : ℕ) → StandsIn k w.parts → part n k l.growth ≡ own n k c w.claims) → Logged n starts (views ++ w ∷ []) c x
+      → ((k : ℕ) → StandsIn k w.parts → entries_of_part n k l.growth ≡ own n k c w.claims) → Logged n starts (views ++ w ∷ []) c x
   logged_end views w c x l mine = record {
     start = l.start;
     growth = l.growth;
@@ -291,13 +291,13 @@ module _ (n : ℕ) (starts : List Holding) where
       owns = λ i u e k h. ⊎_elim
           (λ t.
           let has : StandsIn k v.parts = subst (StandsIn k) same (subst (λ (z : View). StandsIn k z.parts) (sym t.1) h) in
-          part-append n k l.growth es ∙ (ap (λ (a : List LogEntry). a ++ part n k es) (l.owns j v at k has)
+          part-append n k l.growth es ∙ (ap (λ (a : List LogEntry). a ++ entries_of_part n k es) (l.owns j v at k has)
           ∙ (ap (λ (a : List LogEntry). own n k c v.claims ++ a) (sym (own_same n k c es))
           ∙ (sym (own-append n k c v.claims (claims_of c es)) ∙ (ap (own n k c) (sym claims) ∙ ap (λ (z : View). own n k c z.claims) t.1)))))
           (λ t.
           let apart : StandsIn k v.parts → ⊥ = λ r. t.0 (sym ((o.seats i u t.1).parts_in k h).1 ∙ ((o.seats j v at).parts_in k r).1) in
           part-append n k l.growth es
-          ∙ (ap (λ (a : List LogEntry). part n k l.growth ++ a) (part_none n k v.parts es belong apart)
-          ∙ (append-nil (part n k l.growth) ∙ l.owns i u t.1 k h)))
+          ∙ (ap (λ (a : List LogEntry). entries_of_part n k l.growth ++ a) (part_none n k v.parts es belong apart)
+          ∙ (append-nil (entries_of_part n k l.growth) ∙ l.owns i u t.1 k h)))
           (at_set s.views j i w u e);
     }

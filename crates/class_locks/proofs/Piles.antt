@@ -11,7 +11,7 @@ use Rattle.class_locks.specs.declared.view.Held.{Held}
 use Rattle.class_locks.specs.declared.view.Claim.{Claim}
 use Rattle.class_locks.specs.declared.view.Tried.{Tried}
 use Rattle.class_locks.specs.Logs.{Holding}
-use Rattle.class_locks.specs.Logs.{part}
+use Rattle.class_locks.specs.Logs.{entries_of_part}
 use Rattle.class_locks.specs.Rule.{IsLogged}
 use Rattle.class_locks.specs.Views.{StandsIn, own, TookAt, find_held, without_class, claims_of, log_length, with_class, tried, after_put}
 use Rattle.class_locks.specs.Seats.{MayPut, IsAboveHeld}
@@ -101,7 +101,7 @@ logged_before v w c x same l = record {
       let at = at_one v u j e in
       let there = subst (λ (ps : List ℕ). StandsIn k ps) (sym same.parts) (subst (λ (y : View). StandsIn k y.parts) (sym at.1) h) in
       let own_w = l.owns 0 w refl k there in
-      ap (λ n. part n k l.growth) (sym same.seats)
+      ap (λ n. entries_of_part n k l.growth) (sym same.seats)
       ∙ (own_w ∙ (ap (λ (n : ℕ). own n k c w.claims) same.seats
       ∙ (ap (λ (q : List Claim). own v.seats k c q) same.claims ∙ ap (λ (y : View). own v.seats k c y.claims) at.1)));
 }

@@ -6,7 +6,7 @@ use Rattle.std.proofs.lemmas.Bool.Decides.{nat_tests}
 use Rattle.river_base.specs.Name.{name_eq}
 use Rattle.river_plan.specs.Names.{count, one_if}
 use Rattle.river_plan.proofs.NameLemmas.{count-append, name_sym}
-use Rattle.command_line.specs.Phrases.{Phrase, phrase_of, one_more, phrases, made, are_apart, with_phrases}
+use Rattle.command_line.specs.Phrases.{Phrase, phrase_of, one_more, phrases, made_by_phrases, are_apart, with_phrases}
 use Rattle.command_line.specs.Commands.{MayMake}
 use Rattle.command_line.specs.Said.{Grown, grown_if_taken, said_once, said_fitting, with_phrase}
 use Rattle.command_line.specs.declared.command.Command.{Command}
@@ -45,22 +45,22 @@ still_apart w (v ∷ vs) a z = by (name_eq v w) refl (still_apart w vs)
 -- WHAT A PHRASE MAKES
 
 -- the command takes the phrase, which was not said before
-pub noted : (fits : Bool) (takes : ℕ) (made : Option Command) (command : Command) (key : List ℕ) (said said' : List (List ℕ)) → MayMake fits made command
+pub noted : (fits : Bool) (takes : ℕ) (made_by_phrases : Option Command) (command : Command) (key : List ℕ) (said said' : List (List ℕ)) → MayMake fits made_by_phrases command
     → said_fitting fits key said ≡ Some said'
-    → grown_if_taken takes made (said_once key said) ≡ Some (record { takes = takes; said = said'; command = command })
-noted true takes made command key said said' m e = rw (m, e) refl
-noted false takes made command key said said' m e = cc
+    → grown_if_taken takes made_by_phrases (said_once key said) ≡ Some (record { takes = takes; said = said'; command = command })
+noted true takes made_by_phrases command key said said' m e = rw (m, e) refl
+noted false takes made_by_phrases command key said said' m e = cc
 
 -- it does not, or it was
-pub not_noted : (fits : Bool) (takes : ℕ) (made : Option Command) (command : Command) (key : List ℕ) (said : List (List ℕ)) → MayMake fits made command
-    → said_fitting fits key said ≡ None → grown_if_taken takes made (said_once key said) ≡ None
-not_noted true takes made command key said m e = rw (m, e) refl
-not_noted false takes made command key said m e = rw m refl
+pub not_noted : (fits : Bool) (takes : ℕ) (made_by_phrases : Option Command) (command : Command) (key : List ℕ) (said : List (List ℕ)) → MayMake fits made_by_phrases command
+    → said_fitting fits key said ≡ None → grown_if_taken takes made_by_phrases (said_once key said) ≡ None
+not_noted true takes made_by_phrases command key said m e = rw (m, e) refl
+not_noted false takes made_by_phrases command key said m e = rw m refl
 
 -- the command that further phrases make, where this was said before
 abbrev pub on_by : List (List ℕ) → Command → Option (List Phrase) → Option Command
 on_by said command None = None
-on_by said command (Some ps) = if are_apart (said ++ map (λ p. p.once) ps) then made ps command else None
+on_by said command (Some ps) = if are_apart (said ++ map (λ p. p.once) ps) then made_by_phrases ps command else None
 
 pub on-nothing : (command : Command) (ps : Option (List Phrase)) → on_by [] command ps ≡ with_phrases command ps
 on-nothing command None = refl
@@ -86,16 +86,16 @@ module _ (behind said : List (List ℕ)) (command : Command) where
       → on_by said command (one_more p later) ≡ on_by (said ++ p.once ∷ []) next later
   one_phrase p next None e = refl
   one_phrase p next (Some ps) e =
-      ap (λ (o : Option Command). if are_apart (said ++ p.once ∷ map (λ q. q.once) ps) then (elim o [ None ↦ None | Some n ↦ made ps n ]) else None) e
-      ∙ ap (λ l. if are_apart l then made ps next else None) (sym (append_assoc said (p.once ∷ []) (map (λ q. q.once) ps)))
+      ap (λ (o : Option Command). if are_apart (said ++ p.once ∷ map (λ q. q.once) ps) then (elim o [ None ↦ None | Some n ↦ made_by_phrases ps n ]) else None) e
+      ∙ ap (λ l. if are_apart l then made_by_phrases ps next else None) (sym (append_assoc said (p.once ∷ []) (map (λ q. q.once) ps)))
 
   -- one that it does not take
   no_phrase : (p : Phrase) (later : Option (List Phrase)) → p.makes command ≡ None → on_by said command (one_more p later) ≡ None
   no_phrase p None e = refl
   no_phrase p (Some ps) e = by (are_apart (said ++ p.once ∷ map (λ q. q.once) ps))
     where
-      by : (apart : Bool) → (if apart then made (p ∷ ps) command else None) ≡ None
-      by true = ap (λ (o : Option Command). elim o [ None ↦ None | Some n ↦ made ps n ]) e
+      by : (apart : Bool) → (if apart then made_by_phrases (p ∷ ps) command else None) ≡ None
+      by true = ap (λ (o : Option Command). elim o [ None ↦ None | Some n ↦ made_by_phrases ps n ]) e
       by false = refl
 
   -- one that was said before

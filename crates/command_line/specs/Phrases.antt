@@ -74,11 +74,11 @@ phrases zero (word ∷ words) = elim (phrase_of (word ∷ words)) [
 ]
 
 -- the command that phrases make, one after another, if it takes them all
-abbrev pub made : List Phrase → Command → Option Command
-made [] command = Some command
-made (p ∷ ps) command = elim (p.makes command) [
+abbrev pub made_by_phrases : List Phrase → Command → Option Command
+made_by_phrases [] command = Some command
+made_by_phrases (p ∷ ps) command = elim (p.makes command) [
   | None ↦ None
-  | Some next ↦ made ps next
+  | Some next ↦ made_by_phrases ps next
 ]
 
 -- nothing stands twice
@@ -89,4 +89,4 @@ are_apart (w ∷ ws) = (count w ws == 0) && are_apart ws
 -- the words are phrases, of which none stands twice, and the command takes them
 abbrev pub with_phrases : Command → Option (List Phrase) → Option Command
 with_phrases command None = None
-with_phrases command (Some ps) = if are_apart (map (λ p. p.once) ps) then made ps command else None
+with_phrases command (Some ps) = if are_apart (map (λ p. p.once) ps) then made_by_phrases ps command else None

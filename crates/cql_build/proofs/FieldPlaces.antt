@@ -5,7 +5,7 @@ use Rattle.std.specs.Prelude.{if◌then◌else◌, IfSome}
 use Rattle.river_base.proofs.Lists.{drop_next}
 use Rattle.river_base.specs.Name.{name_eq}
 use Rattle.river_plan.specs.Forms.{Name}
-use Rattle.cql_model.specs.Translation.{plus, or_place, place_among, field_place, item_place, widths_of}
+use Rattle.cql_model.specs.Plan.{plus, or_place, place_among, field_place, item_place, widths_of}
 use Rattle.cql_build.specs.Views.{scope}
 use Rattle.cql_build.specs.declared.item.Item.{Item}
 

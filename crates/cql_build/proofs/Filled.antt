@@ -17,22 +17,22 @@ use Rattle.river_plan.specs.declared.fault.PlanFault.TheVariants.{P1, P2, P3, P4
 use Rattle.river_plan.specs.declared.plan.Decl.{Decl}
 use Rattle.river_plan.specs.declared.plan.RawPlan.{RawPlan}
 use Rattle.cql_model.specs.Plannable.{IsPlannable, AreQueries, exceeds, declared_names}
-use Rattle.cql_model.specs.Faults.{IsShortName, HaveShortNames, first_fault, then_refusal, refusal_of}
+use Rattle.cql_model.specs.Judged.{IsShortName, HaveShortNames, first_fault, then_refusal, refusal_of}
 use Rattle.cql_text.specs.Tree as tree
 use Rattle.cql_model.specs.Program.{registered, all_uses}
 use Rattle.cql_text.specs.Tree.{Register, AQuery, Program}
 use Rattle.cql_model.specs.Scopes.{Named}
-use Rattle.cql_model.specs.Translation.{input_decls, input_copies, input_ops, output_decls, queries_decls, queries_ops, ops_of, query_named, plan_of}
+use Rattle.cql_model.specs.Plan.{input_decls, input_copies, input_ops, output_decls, queries_decls, queries_ops, ops_of, query_named, plan_of}
 use Rattle.cql_model.specs.declared.fault.Refusal as model
 use Rattle.cql_model.proofs.OnlyLimits.{only_limits, within_where}
 use Rattle.cql_model.proofs.Valid.{length-uses}
-use Rattle.cql_text.specs.declared.tree.Part.{Part}
-use Rattle.cql_build.specs.declared.uses.Uses.{Uses}
+use Rattle.cql_text.specs.declared.tree.Unit as code_unit
+use Rattle.cql_build.specs.declared.uses.StreamUses.{StreamUses}
 use Rattle.cql_build.specs.declared.planning.Refused.{Refused}
 use Rattle.cql_build.specs.declared.planning.Refused.TheVariants as refused
 use Rattle.cql_build.specs.Grown.{Grew}
 use Rattle.cql_build.specs.Planned.{IsWhyRefused, IsLimited, limit_of, refused_of, unit_inputs, unit_copies, unit_copying, IsShortRegistered, IsNarrow}
-use Rattle.cql_text.specs.Tree.{part_of, parts_of}
+use Rattle.cql_text.specs.Tree.{unit_form, unit_forms}
 use Rattle.cql_build.proofs.Growing.{Left, left_start, left_next, left_is, left_end}
 
 -- WHAT THE CHECK SAYS
@@ -61,7 +61,7 @@ if_err_then (Err e) P Q f h = f e h
 
 -- REFUSALS
 
-parts_length : (parts : List Part) → length (parts_of parts) ≡ length parts
+parts_length : (parts : List code_unit.Unit) → length (unit_forms parts) ≡ length parts
 parts_length [] = refl
 parts_length (p ∷ ps) = let m = parts_length ps in omega (arith, m)
 
@@ -88,15 +88,15 @@ pub unrefused : (p : Program) → first_fault [] 0 1 p ≡ None → exceeds (pla
 unrefused p n e = or_none (first_fault [] 0 1 p) _ n ∙ ap (λ b. if b then Some (limit_of (length p)) else None) e
 
 -- and one whose plan exceeds a limit
-pub over_limit : (parts : List Part) → first_fault [] 0 1 (parts_of parts) ≡ None → exceeds (plan_of (parts_of parts)) ≡ true
-    → refusal_of (parts_of parts) ≡ Some (limit_of (length parts))
+pub over_limit : (parts : List code_unit.Unit) → first_fault [] 0 1 (unit_forms parts) ≡ None → exceeds (plan_of (unit_forms parts)) ≡ true
+    → refusal_of (unit_forms parts) ≡ Some (limit_of (length parts))
 over_limit parts n e =
-    or_none (first_fault [] 0 1 (parts_of parts)) _ n ∙ ap (λ b. if b then Some (limit_of (length (parts_of parts))) else None) e
+    or_none (first_fault [] 0 1 (unit_forms parts)) _ n ∙ ap (λ b. if b then Some (limit_of (length (unit_forms parts))) else None) e
     ∙ ap (λ m. Some (limit_of m)) (parts_length parts)
 
 -- what is told of the plan is told of the program
-pub limited_refused : (parts : List Part) (form : PlanForm) (r : Refused) → first_fault [] 0 1 (parts_of parts) ≡ None → form ≡ plan_of (parts_of parts)
-    → IsLimited form (length parts) r → IsWhyRefused (parts_of parts) r
+pub limited_refused : (parts : List code_unit.Unit) (form : PlanForm) (r : Refused) → first_fault [] 0 1 (unit_forms parts) ≡ None → form ≡ plan_of (unit_forms parts)
+    → IsLimited form (length parts) r → IsWhyRefused (unit_forms parts) r
 limited_refused parts form (refused.Program x) n e h = over_limit parts n (sym (ap exceeds e) ∙ h.0) ∙ ap Some (sym h.1)
 limited_refused parts form refused.NoMemory n e h = tt
 
@@ -111,86 +111,86 @@ narrow_all ks (Register name fields ∷ ps) h = (at_most (length fields) h.0, na
 narrow_all ks (AQuery q ∷ ps) h = (tt, narrow_all (query_named ks q ∷ ks) ps h.1)
 
 -- each stream of a narrow program is narrow
-pub narrow_at : (parts : List Part) (i : ℕ) (p : Part) → AllByRecursion IsNarrow (parts_of parts) → i < length parts → p ≡ get_or parts i p
-    → IsNarrow (part_of p)
+pub narrow_at : (parts : List code_unit.Unit) (i : ℕ) (p : code_unit.Unit) → AllByRecursion IsNarrow (unit_forms parts) → i < length parts → p ≡ get_or parts i p
+    → IsNarrow (unit_form p)
 narrow_at [] i p h lt e = absurd (omega (arith, lt))
-narrow_at (q ∷ qs) zero p h lt e = subst (λ (x : Part). IsNarrow (part_of x)) (sym e) h.0
+narrow_at (q ∷ qs) zero p h lt e = subst (λ (x : code_unit.Unit). IsNarrow (unit_form x)) (sym e) h.0
 narrow_at (q ∷ qs) (suc i) p h lt e = narrow_at qs i p h.1 (omega (arith, lt)) e
 
-pub inputs_next : (parts : List Part) (i : ℕ) (p : Part) (start now later : List Decl)
-    → start ++ input_decls (parts_of parts) ≡ now ++ input_decls (parts_of (drop i parts)) → i < length parts → p ≡ get_or parts i p
-    → later ≡ now ++ unit_inputs (part_of p) → start ++ input_decls (parts_of parts) ≡ later ++ input_decls (parts_of (drop (i + 1) parts))
+pub inputs_next : (parts : List code_unit.Unit) (i : ℕ) (p : code_unit.Unit) (start now later : List Decl)
+    → start ++ input_decls (unit_forms parts) ≡ now ++ input_decls (unit_forms (drop i parts)) → i < length parts → p ≡ get_or parts i p
+    → later ≡ now ++ unit_inputs (unit_form p) → start ++ input_decls (unit_forms parts) ≡ later ++ input_decls (unit_forms (drop (i + 1) parts))
 inputs_next parts i p start now later h lt e g =
-    h ∙ ap (λ l. now ++ input_decls (parts_of l)) (drop_next parts i p lt e) ∙ ap (λ l. now ++ l) (one (part_of p) (parts_of (drop (i + 1) parts)))
-    ∙ sym (append_assoc now (unit_inputs (part_of p)) (input_decls (parts_of (drop (i + 1) parts))))
-    ∙ ap (λ l. l ++ input_decls (parts_of (drop (i + 1) parts))) (sym g)
+    h ∙ ap (λ l. now ++ input_decls (unit_forms l)) (drop_next parts i p lt e) ∙ ap (λ l. now ++ l) (one (unit_form p) (unit_forms (drop (i + 1) parts)))
+    ∙ sym (append_assoc now (unit_inputs (unit_form p)) (input_decls (unit_forms (drop (i + 1) parts))))
+    ∙ ap (λ l. l ++ input_decls (unit_forms (drop (i + 1) parts))) (sym g)
   where
-    one : (p : tree.Part) (ps : Program) → input_decls (p ∷ ps) ≡ unit_inputs p ++ input_decls ps
+    one : (p : tree.UnitForm) (ps : Program) → input_decls (p ∷ ps) ≡ unit_inputs p ++ input_decls ps
     one (Register name fields) ps = refl
     one (AQuery q) ps = refl
 
 -- COPIES
 
-pub record Copying (old now : RawPlan) (all : List Name) (parts : List Part) (i : ℕ) : Type 0 where
-  pub left : Left old now [] [] (input_copies all (parts_of parts)) (input_copies all (parts_of (drop i parts))) (input_ops all (parts_of parts))
-      (input_ops all (parts_of (drop i parts)))
-  pub names : AllByRecursion IsShortName (declared_names (parts_of (drop i parts)))
+pub record Copying (old now : RawPlan) (all : List Name) (parts : List code_unit.Unit) (i : ℕ) : Type 0 where
+  pub left : Left old now [] [] (input_copies all (unit_forms parts)) (input_copies all (unit_forms (drop i parts))) (input_ops all (unit_forms parts))
+      (input_ops all (unit_forms (drop i parts)))
+  pub names : AllByRecursion IsShortName (declared_names (unit_forms (drop i parts)))
 
-pub copying_start : (raw : RawPlan) (all : List Name) (parts : List Part) → HaveShortNames (parts_of parts) → Copying raw raw all parts 0
+pub copying_start : (raw : RawPlan) (all : List Name) (parts : List code_unit.Unit) → HaveShortNames (unit_forms parts) → Copying raw raw all parts 0
 copying_start raw all parts s = record { left = left_start raw _ _ _; names = s.names }
 
-short_one : (p : tree.Part) (ps : Program) → AllByRecursion IsShortName (declared_names (p ∷ ps))
+short_one : (p : tree.UnitForm) (ps : Program) → AllByRecursion IsShortName (declared_names (p ∷ ps))
     → IsShortRegistered p × AllByRecursion IsShortName (declared_names ps)
 short_one (Register name fields) ps h = (h.0, h.1)
 short_one (AQuery q) ps h = (tt, h.1)
 
-pub copying_short : (old now : RawPlan) (all : List Name) (parts : List Part) (i : ℕ) (p : Part) → Copying old now all parts i → i < length parts
-    → p ≡ get_or parts i p → IsShortRegistered (part_of p)
+pub copying_short : (old now : RawPlan) (all : List Name) (parts : List code_unit.Unit) (i : ℕ) (p : code_unit.Unit) → Copying old now all parts i → i < length parts
+    → p ≡ get_or parts i p → IsShortRegistered (unit_form p)
 copying_short old now all parts i p c lt e =
-    (short_one (part_of p) (parts_of (drop (i + 1) parts))
-    (subst (λ (l : List Part). AllByRecursion IsShortName (declared_names (parts_of l))) (drop_next parts i p lt e) c.names)).0
+    (short_one (unit_form p) (unit_forms (drop (i + 1) parts))
+    (subst (λ (l : List code_unit.Unit). AllByRecursion IsShortName (declared_names (unit_forms l))) (drop_next parts i p lt e) c.names)).0
 
-pub copying_next : (old now next : RawPlan) (all : List Name) (parts : List Part) (i : ℕ) (p : Part) → Copying old now all parts i → i < length parts
+pub copying_next : (old now next : RawPlan) (all : List Name) (parts : List code_unit.Unit) (i : ℕ) (p : code_unit.Unit) → Copying old now all parts i → i < length parts
     → p ≡ get_or parts i p
-    → Grew now next [] (unit_copies all (part_of p)) (unit_copying all (part_of p)) → Copying old next all parts (i + 1)
+    → Grew now next [] (unit_copies all (unit_form p)) (unit_copying all (unit_form p)) → Copying old next all parts (i + 1)
 copying_next old now next all parts i p c lt e g =
     let d = drop_next parts i p lt e in
-    let rest = parts_of (drop (i + 1) parts) in
+    let rest = unit_forms (drop (i + 1) parts) in
     record {
-      left = left_next old now next _ [] _ _ (unit_copies all (part_of p)) _ _ (unit_copying all (part_of p)) _
-          (left_is old now _ _ [] _ _ (unit_copies all (part_of p) ++ input_copies all rest) _ _
-          (unit_copying all (part_of p) ++ input_ops all rest) c.left refl
-          (ap (λ l. input_copies all (parts_of l)) d ∙ copies_one (part_of p) rest) (ap (λ l. input_ops all (parts_of l)) d ∙ ops_one (part_of p) rest)) g;
-      names = (short_one (part_of p) rest (subst (λ (l : List Part). AllByRecursion IsShortName (declared_names (parts_of l))) d c.names)).1;
+      left = left_next old now next _ [] _ _ (unit_copies all (unit_form p)) _ _ (unit_copying all (unit_form p)) _
+          (left_is old now _ _ [] _ _ (unit_copies all (unit_form p) ++ input_copies all rest) _ _
+          (unit_copying all (unit_form p) ++ input_ops all rest) c.left refl
+          (ap (λ l. input_copies all (unit_forms l)) d ∙ copies_one (unit_form p) rest) (ap (λ l. input_ops all (unit_forms l)) d ∙ ops_one (unit_form p) rest)) g;
+      names = (short_one (unit_form p) rest (subst (λ (l : List code_unit.Unit). AllByRecursion IsShortName (declared_names (unit_forms l))) d c.names)).1;
     }
   where
-    copies_one : (p : tree.Part) (ps : Program) → input_copies all (p ∷ ps) ≡ unit_copies all p ++ input_copies all ps
+    copies_one : (p : tree.UnitForm) (ps : Program) → input_copies all (p ∷ ps) ≡ unit_copies all p ++ input_copies all ps
     copies_one (Register name fields) ps = refl
     copies_one (AQuery q) ps = refl
 
-    ops_one : (p : tree.Part) (ps : Program) → input_ops all (p ∷ ps) ≡ unit_copying all p ++ input_ops all ps
+    ops_one : (p : tree.UnitForm) (ps : Program) → input_ops all (p ∷ ps) ≡ unit_copying all p ++ input_ops all ps
     ops_one (Register name fields) ps = refl
     ops_one (AQuery q) ps = refl
 
-pub copying_end : (old now : RawPlan) (all : List Name) (parts : List Part) (i : ℕ) → Copying old now all parts i → length parts ≤ i
-    → Grew old now [] (input_copies all (parts_of parts)) (input_ops all (parts_of parts))
+pub copying_end : (old now : RawPlan) (all : List Name) (parts : List code_unit.Unit) (i : ℕ) → Copying old now all parts i → length parts ≤ i
+    → Grew old now [] (input_copies all (unit_forms parts)) (input_ops all (unit_forms parts))
 copying_end old now all parts i c le =
     let d = drop_all i parts le in
     left_end old now _ _ _
-    (left_is old now _ _ [] _ _ [] _ _ [] c.left refl (ap (λ l. input_copies all (parts_of l)) d) (ap (λ l. input_ops all (parts_of l)) d))
+    (left_is old now _ _ [] _ _ [] _ _ [] c.left refl (ap (λ l. input_copies all (unit_forms l)) d) (ap (λ l. input_ops all (unit_forms l)) d))
 
 -- ALL LISTS
 
 -- inputs, copies, queries and variables, in lists that were empty
-pub all_filled : (parts : List Part) (raw copied asked : RawPlan) (inputs : List Decl) (vars : List Name) (uses : Uses) → plan_form raw ≡ empty_form
-    → uses.inputs ≡ registered (parts_of parts) → uses.all ≡ all_uses (parts_of parts) → uses.past ≡ []
-    → inputs ≡ raw.inputs ++ input_decls (parts_of parts)
-    → Grew (record raw { inputs = inputs }) copied [] (input_copies uses.all (parts_of parts)) (input_ops uses.all (parts_of parts))
-    → Grew copied asked (output_decls [] (parts_of parts)) (queries_decls uses.all [] (parts_of parts))
-    (queries_ops uses.inputs uses.all [] uses.past (parts_of parts))
-    → vars ≡ asked.vars ++ all_vars (op_forms asked.ops) → plan_form (record asked { vars = vars }) ≡ plan_of (parts_of parts)
+pub all_filled : (parts : List code_unit.Unit) (raw copied asked : RawPlan) (inputs : List Decl) (vars : List Name) (uses : StreamUses) → plan_form raw ≡ empty_form
+    → uses.inputs ≡ registered (unit_forms parts) → uses.all ≡ all_uses (unit_forms parts) → uses.past ≡ []
+    → inputs ≡ raw.inputs ++ input_decls (unit_forms parts)
+    → Grew (record raw { inputs = inputs }) copied [] (input_copies uses.all (unit_forms parts)) (input_ops uses.all (unit_forms parts))
+    → Grew copied asked (output_decls [] (unit_forms parts)) (queries_decls uses.all [] (unit_forms parts))
+    (queries_ops uses.inputs uses.all [] uses.past (unit_forms parts))
+    → vars ≡ asked.vars ++ all_vars (op_forms asked.ops) → plan_form (record asked { vars = vars }) ≡ plan_of (unit_forms parts)
 all_filled parts raw copied asked inputs vars uses em ui ua up ei g h ev =
-    let p = parts_of parts in
+    let p = unit_forms parts in
     let outs : asked.outputs ≡ output_decls [] p = h.outputs
     ∙ ap (λ l. l ++ output_decls [] p) (g.outputs ∙ append-nil raw.outputs ∙ ap (λ (x : PlanForm). x.outputs) em) in
     let ins : asked.inputs ≡ input_decls p = h.inputs ∙ g.inputs ∙ ei ∙ ap (λ l. l ++ input_decls p) (ap (λ (x : PlanForm). x.inputs) em) in

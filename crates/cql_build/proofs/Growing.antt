@@ -14,14 +14,14 @@ use Rattle.river_plan.specs.Forms.{Name, OpForm, op_forms}
 use Rattle.river_plan.specs.Names.{count}
 use Rattle.river_plan.specs.declared.plan.Decl.{Decl}
 use Rattle.river_plan.specs.declared.plan.RawPlan.{RawPlan}
-use Rattle.cql_model.specs.Faults.{IsShortName}
+use Rattle.cql_model.specs.Judged.{IsShortName}
 use Rattle.cql_model.specs.Program.{streams_of}
-use Rattle.cql_model.specs.Translation.{op, decl, queues_of_uses, queue_of_use, w_name, x_name, window_ops, window_decls, cross_ops, cross_decls, cross_last, widths_of}
-use Rattle.cql_model.specs.Translation.{copy_names, copy_name, decls_of, at_word, copy_decls, copy_ops, out_name, out_decls}
+use Rattle.cql_model.specs.Plan.{op, decl, queues_of_uses, queue_of_use, w_name, x_name, window_ops, window_decls, cross_ops, cross_decls, cross_last, widths_of}
+use Rattle.cql_model.specs.Plan.{copy_names, copy_name, decls_of, at_word, copy_decls, copy_ops, out_name, out_decls}
 use Rattle.cql_model.proofs.Valid.{count-length}
 use Rattle.cql_text.specs.declared.tree.Source.{Source}
 use Rattle.cql_build.specs.declared.item.Item.{Item}
-use Rattle.cql_build.specs.declared.uses.Uses.{Uses}
+use Rattle.cql_build.specs.declared.uses.StreamUses.{StreamUses}
 use Rattle.cql_build.specs.Grown.{Grew, Used, product_decls, stream_ops}
 use Rattle.cql_text.specs.Tree.{sources_of, window_of}
 use Rattle.cql_build.specs.Views.{scope}
@@ -102,7 +102,7 @@ grew_nothing raw = record {
 -- WINDOWS
 
 -- the windows from number i on are left
-pub record WindowsLeft (old now : RawPlan) (before after : Uses) (q : Name) (all : List Source) (items : List Item) (i : ℕ) : Type 0 where
+pub record WindowsLeft (old now : RawPlan) (before after : StreamUses) (q : Name) (all : List Source) (items : List Item) (i : ℕ) : Type 0 where
   pub left : Left old now [] [] (window_decls q 1 (scope items)) (window_decls q (i + 1) (scope (drop i items)))
       (window_ops q 1 (sources_of all) (queues_of_uses before.inputs before.all before.past (streams_of (sources_of all))))
       (window_ops q (i + 1) (sources_of (drop i all)) (queues_of_uses before.inputs before.all after.past (streams_of (sources_of (drop i all)))))
@@ -111,12 +111,12 @@ pub record WindowsLeft (old now : RawPlan) (before after : Uses) (q : Name) (all
   pub uses : after.all ≡ before.all
   pub short : AllByRecursion IsShortName (streams_of (sources_of (drop i all)))
 
-pub windows_start : (raw : RawPlan) (uses : Uses) (q : Name) (all : List Source) (items : List Item) → AllByRecursion IsShortName (streams_of (sources_of all))
+pub windows_start : (raw : RawPlan) (uses : StreamUses) (q : Name) (all : List Source) (items : List Item) → AllByRecursion IsShortName (streams_of (sources_of all))
     → WindowsLeft raw raw uses uses q all items 0
 windows_start raw uses q all items s = record { left = left_start raw _ _ _; past = refl; inputs = refl; uses = refl; short = s }
 
 -- the stream of the next item has a short name
-pub windows_short : (old now : RawPlan) (before after : Uses) (q : Name) (all : List Source) (items : List Item) (i : ℕ) (x : Source)
+pub windows_short : (old now : RawPlan) (before after : StreamUses) (q : Name) (all : List Source) (items : List Item) (i : ℕ) (x : Source)
     → WindowsLeft old now before after q all items i
     → i < length all → x ≡ get_or all i x → length x.stream ≤ 40
 windows_short old now before after q all items i x w lt e =
@@ -131,7 +131,7 @@ width_at xs i x lt e low = let m = at_most xs i lt e in omega (arith, m, low) wh
   at_most (y ∷ ys) (suc i) lt e = let m = at_most ys i (omega (arith, lt)) e in omega (arith, m)
 
 -- one window more
-pub windows_next : (old now next : RawPlan) (before after later : Uses) (q name from : Name) (kind : QueueType) (all : List Source) (items : List Item) (i : ℕ)
+pub windows_next : (old now next : RawPlan) (before after later : StreamUses) (q name from : Name) (kind : QueueType) (all : List Source) (items : List Item) (i : ℕ)
     (x : Source) (y : Item)
     → WindowsLeft old now before after q all items i → i < length all → x ≡ get_or all i x → i < length items → y ≡ get_or items i y
     → name ≡ w_name q (i + 1) → kind ≡ relation (length y.fields.now) → from ≡ queue_of_use after.inputs after.all x.stream (count x.stream after.past)
@@ -174,7 +174,7 @@ windows_next old now next before after later q name from kind all items i x y w 
     }
 
 -- all windows
-pub windows_end : (old now : RawPlan) (before after : Uses) (q : Name) (all : List Source) (items : List Item) (i : ℕ)
+pub windows_end : (old now : RawPlan) (before after : StreamUses) (q : Name) (all : List Source) (items : List Item) (i : ℕ)
     → WindowsLeft old now before after q all items i
     → length all ≤ i → length items ≤ i
     → Grew old now [] (window_decls q 1 (scope items))

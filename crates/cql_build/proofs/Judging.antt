@@ -9,11 +9,11 @@ use Rattle.river_base.proofs.Lists.{take_next, drop_next}
 use Rattle.river_base.specs.Name.{name_eq}
 use Rattle.river_plan.specs.Forms.{Name}
 use Rattle.river_plan.specs.Names.{one_if, count}
-use Rattle.cql_model.specs.Faults.{then_fault, fault_if, is_rows_fault, item_fault, items_fault}
+use Rattle.cql_model.specs.Judged.{then_fault, fault_if, is_rows_fault, item_fault, items_fault}
 use Rattle.cql_model.specs.Laws.{known_names}
 use Rattle.cql_text.specs.Tree as tree
 use Rattle.cql_model.specs.Scopes.{Named, alias_or, fields_of, item_named, scope_of}
-use Rattle.cql_model.specs.Translation.{widths_of}
+use Rattle.cql_model.specs.Plan.{widths_of}
 use Rattle.cql_model.specs.declared.fault.Fault.{Fault}
 use Rattle.cql_model.specs.declared.fault.Fault.TheVariants.{UnknownStream, NameTwice, Limit}
 use Rattle.cql_text.specs.declared.tree.Source.{Source}

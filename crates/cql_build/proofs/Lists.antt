@@ -8,7 +8,7 @@ use Rattle.river_base.specs.Name.{name_eq}
 use Rattle.river_plan.specs.Forms.{Name}
 use Rattle.river_plan.specs.Names.{one_if, count}
 use Rattle.river_plan.proofs.NameLemmas.{count-append, one_same}
-use Rattle.cql_model.specs.Faults.{field_places, item_places, then_fault, fault_if, scalar_fault, chosen_fault}
+use Rattle.cql_model.specs.Judged.{field_places, item_places, then_fault, fault_if, scalar_fault, chosen_fault}
 use Rattle.cql_model.specs.declared.fault.Fault.TheVariants.{Limit}
 use Rattle.cql_text.specs.declared.tree.Column.{Column}
 use Rattle.cql_model.specs.Scopes.{Named}

@@ -12,7 +12,7 @@ use Rattle.river_base.proofs.Tests.{le_true}
 use Rattle.river_base.specs.Name.{is_letter, is_digit, is_word, is_name}
 use Rattle.river_plan.specs.Forms.{Name}
 use Rattle.cql_model.specs.Numeral.{numeral}
-use Rattle.cql_model.specs.Translation.{at_word}
+use Rattle.cql_model.specs.Plan.{at_word}
 use Rattle.cql_model.proofs.Numerals.{numeral_decimal}
 use Rattle.cql_build.specs.Marks.{word, name_marked, IsLowMark}
 use Rattle.cql_build.specs.declared.names.Mark.{Mark}

@@ -10,17 +10,17 @@ use Rattle.river_kernels.specs.Kern.{duplicate, streamer}
 use Rattle.cql_text.specs.declared.tree.Kind.{Kind}
 use Rattle.cql_model.specs.KernelWords.{streamer_of}
 use Rattle.cql_model.specs.Plannable.{IsPlannableQuery}
-use Rattle.cql_model.specs.Faults.{IsShortName}
+use Rattle.cql_model.specs.Judged.{IsShortName}
 use Rattle.cql_model.specs.Scopes.{Named, scope_of}
-use Rattle.cql_model.specs.Translation.{op, at_word, cross_decls, out_name, out_ops, out_decls}
-use Rattle.cql_model.specs.Translation.{decl, decls_of, copy_names, copy_decls, copy_ops, select_decls, select_ops, project_decls, widths_of, columns_width}
-use Rattle.cql_model.specs.Translation.{window_decls, window_ops, queues_of_uses, tail_ops, query_decls, query_ops, output_decls, queries_decls, queries_ops}
+use Rattle.cql_model.specs.Plan.{op, at_word, cross_decls, out_name, out_ops, out_decls}
+use Rattle.cql_model.specs.Plan.{decl, decls_of, copy_names, copy_decls, copy_ops, select_decls, select_ops, project_decls, widths_of, columns_width}
+use Rattle.cql_model.specs.Plan.{window_decls, window_ops, queues_of_uses, tail_ops, query_decls, query_ops, output_decls, queries_decls, queries_ops}
 use Rattle.cql_model.specs.Program.{streams_of}
-use Rattle.cql_text.specs.Tree.{Scalar, Source, Query, Part, Register, AQuery, Program}
-use Rattle.cql_build.specs.declared.uses.Uses.{Uses}
+use Rattle.cql_text.specs.Tree.{Scalar, Source, Query, UnitForm, Register, AQuery, Program}
+use Rattle.cql_build.specs.declared.uses.StreamUses.{StreamUses}
 
 -- the streams of a unit, behind those that were there
-abbrev pub Notes : Uses → Uses → Part → Type 0
+abbrev pub Notes : StreamUses → StreamUses → UnitForm → Type 0
 Notes old new (Register name fields) = (new.inputs ≡ old.inputs ++ name ∷ []) × (new.all ≡ old.all) × (new.past ≡ old.past)
 Notes old new (AQuery q) = (new.inputs ≡ old.inputs) × (new.all ≡ old.all ++ streams_of q.items) × (new.past ≡ old.past)
 
@@ -34,7 +34,7 @@ pub record Grew (old new : RawPlan) (outs qs : List Decl) (os : List OpForm) : T
   pub vars : new.vars ≡ old.vars
 
 -- these streams have their queues besides
-pub record Used (old new : Uses) (more : List (List ℕ)) : Type 0 where
+pub record Used (old new : StreamUses) (more : List (List ℕ)) : Type 0 where
   pub past : new.past ≡ old.past ++ more
   pub inputs : new.inputs ≡ old.inputs
   pub all : new.all ≡ old.all
@@ -60,34 +60,34 @@ stream_decls q is = decl q.name (stream (columns_width is q.columns)) ∷ []
 
 -- A UNIT: what it needs, and what is made of it
 
-abbrev pub IsPlannableUnit : List Named → Part → Type 0
+abbrev pub IsPlannableUnit : List Named → UnitForm → Type 0
 IsPlannableUnit ks (Register name fields) = Unit {0}
 IsPlannableUnit ks (AQuery q) = IsPlannableQuery ks q
 
-abbrev pub IsShortUnit : Part → Type 0
+abbrev pub IsShortUnit : UnitForm → Type 0
 IsShortUnit (Register name fields) = Unit {0}
 IsShortUnit (AQuery q) = IsShortName q.name × AllByRecursion IsShortName (streams_of q.items)
 
-abbrev pub unit_uses : Part → List (List ℕ)
+abbrev pub unit_uses : UnitForm → List (List ℕ)
 unit_uses (Register name fields) = []
 unit_uses (AQuery q) = streams_of q.items
 
-abbrev pub unit_outputs : List Named → Part → List Decl
+abbrev pub unit_outputs : List Named → UnitForm → List Decl
 unit_outputs ks (Register name fields) = []
 unit_outputs ks (AQuery q) = stream_decls q (scope_of ks q.items)
 
-abbrev pub unit_decls : List (List ℕ) → List Named → Part → List Decl
+abbrev pub unit_decls : List (List ℕ) → List Named → UnitForm → List Decl
 unit_decls all ks (Register name fields) = []
 unit_decls all ks (AQuery q) = query_decls all ks q
 
-abbrev pub unit_ops : List (List ℕ) → List (List ℕ) → List Named → List (List ℕ) → Part → List OpForm
+abbrev pub unit_ops : List (List ℕ) → List (List ℕ) → List Named → List (List ℕ) → UnitForm → List OpForm
 unit_ops inputs all ks past (Register name fields) = []
 unit_ops inputs all ks past (AQuery q) = query_ops inputs all ks past q
 
 -- WHAT IS ADDED, where these streams are used
 
 -- by the windows of a query's items
-abbrev pub AddsWindows : Uses → List ℕ → List Source → List Named → RawPlan → RawPlan → Type 0
+abbrev pub AddsWindows : StreamUses → List ℕ → List Source → List Named → RawPlan → RawPlan → Type 0
 AddsWindows uses query items is old new =
     Grew old new [] (window_decls query 1 is) (window_ops query 1 items (queues_of_uses uses.inputs uses.all uses.past (streams_of items)))
 
@@ -109,11 +109,11 @@ AddsOwnCopies query from uses kind old new =
 abbrev pub AddsCopies : List ℕ → ℕ → ℕ → RawPlan → RawPlan → Type 0
 AddsCopies name width uses old new = Grew old new [] (copy_decls name width uses) (copy_ops name uses)
 
-abbrev pub AddsQuery : Uses → List Named → Query → RawPlan → RawPlan → Type 0
+abbrev pub AddsQuery : StreamUses → List Named → Query → RawPlan → RawPlan → Type 0
 AddsQuery uses ks q old new = Grew old new (stream_decls q (scope_of ks q.items)) (query_decls uses.all ks q) (query_ops uses.inputs uses.all ks uses.past q)
 
-abbrev pub AddsUnit : Uses → List Named → Part → RawPlan → RawPlan → Type 0
+abbrev pub AddsUnit : StreamUses → List Named → UnitForm → RawPlan → RawPlan → Type 0
 AddsUnit uses ks p old new = Grew old new (unit_outputs ks p) (unit_decls uses.all ks p) (unit_ops uses.inputs uses.all ks uses.past p)
 
-abbrev pub AddsQueries : Uses → Program → RawPlan → RawPlan → Type 0
+abbrev pub AddsQueries : StreamUses → Program → RawPlan → RawPlan → Type 0
 AddsQueries uses p old new = Grew old new (output_decls [] p) (queries_decls uses.all [] p) (queries_ops uses.inputs uses.all [] uses.past p)

@@ -2,7 +2,7 @@
 use Rattle.std.specs.Prelude.{ℕ, ◌<◌, ◌^◌, List, [], ◌++◌, codes}
 use Rattle.river_plan.specs.Forms.{Name}
 use Rattle.cql_model.specs.Numeral.{numeral}
-use Rattle.cql_model.specs.Translation.{at_word}
+use Rattle.cql_model.specs.Plan.{at_word}
 use Rattle.cql_build.specs.declared.names.Mark.{Mark}
 use Rattle.cql_build.specs.declared.names.Mark.TheVariants.{Window, Cross, Copy, Select, Project, Stream, Output, Copies}
 

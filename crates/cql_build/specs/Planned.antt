@@ -7,9 +7,9 @@ use Rattle.river_plan.specs.declared.fault.PlanFault.{PlanFault}
 use Rattle.river_plan.specs.declared.fault.PlanFault.TheVariants.{P1, P2, P3, P4, P5, P6, P7, P8, P9, NoMemory}
 use Rattle.river_plan.specs.declared.plan.Decl.{Decl}
 use Rattle.cql_model.specs.Plannable.{exceeds}
-use Rattle.cql_model.specs.Faults.{IsShortName, refusal_of}
-use Rattle.cql_text.specs.Tree.{Part, Register, AQuery, Program}
-use Rattle.cql_model.specs.Translation.{decl, copy_decls, copy_ops}
+use Rattle.cql_model.specs.Judged.{IsShortName, refusal_of}
+use Rattle.cql_text.specs.Tree.{UnitForm, Register, AQuery, Program}
+use Rattle.cql_model.specs.Plan.{decl, copy_decls, copy_ops}
 use Rattle.cql_model.specs.declared.fault.Fault.TheVariants.{Limit}
 use Rattle.cql_model.specs.declared.fault.Refusal as model
 use Rattle.cql_build.specs.declared.planning.Refused.{Refused}
@@ -46,23 +46,23 @@ IsLimited p unit refused.NoMemory = Unit {0}
 
 -- what a registered stream gives
 
-abbrev pub IsShortRegistered : Part → Type 0
+abbrev pub IsShortRegistered : UnitForm → Type 0
 IsShortRegistered (Register name fields) = IsShortName name
 IsShortRegistered (AQuery q) = Unit {0}
 
 -- it has at most 16 fields
-abbrev pub IsNarrow : Part → Type 0
+abbrev pub IsNarrow : UnitForm → Type 0
 IsNarrow (Register name fields) = length fields ≤ 16
 IsNarrow (AQuery q) = Unit {0}
 
-abbrev pub unit_inputs : Part → List Decl
+abbrev pub unit_inputs : UnitForm → List Decl
 unit_inputs (Register name fields) = decl name (stream (length fields)) ∷ []
 unit_inputs (AQuery q) = []
 
-abbrev pub unit_copies : List (List ℕ) → Part → List Decl
+abbrev pub unit_copies : List (List ℕ) → UnitForm → List Decl
 unit_copies all (Register name fields) = copy_decls name (length fields) (count name all)
 unit_copies all (AQuery q) = []
 
-abbrev pub unit_copying : List (List ℕ) → Part → List OpForm
+abbrev pub unit_copying : List (List ℕ) → UnitForm → List OpForm
 unit_copying all (Register name fields) = copy_ops name (count name all)
 unit_copying all (AQuery q) = []

@@ -4,11 +4,11 @@ ghost use Rattle.std.specs.List.{AllByRecursion};
 ghost use Rattle.river_kernels.specs.Fits.{stream, relation};
 ghost use Rattle.river_kernels.specs.Kern.{window, cross};
 ghost use Rattle.river_plan.specs.Forms.{op_form};
-ghost use Rattle.cql_model.specs.Faults.{IsShortName};
+ghost use Rattle.cql_model.specs.Judged.{IsShortName};
 ghost use Rattle.cql_model.specs.Program.{streams_of};
 ghost use Rattle.cql_text.specs.Tree.{Chosen};
-ghost use Rattle.cql_model.specs.Translation.{op, decl, widths_of, columns_width, w_name, cross_ops, cross_last};
-ghost use Rattle.cql_model.specs.Translation.{select_last, project_ops, project_last, project_decls};
+ghost use Rattle.cql_model.specs.Plan.{op, decl, widths_of, columns_width, w_name, cross_ops, cross_last};
+ghost use Rattle.cql_model.specs.Plan.{select_last, project_ops, project_last, project_decls};
 ghost use Rattle.cql_model.specs.KernelWords.{kernel_window};
 ghost use Rattle.cql_build.specs.Grown.{Grew, Used, AddsWindows, AddsSelect, product_decls};
 ghost use Rattle.cql_text.specs.Tree.{window_of, sources_of, chosen_of, columns_of, condition_of};
@@ -17,7 +17,7 @@ ghost use Rattle.cql_build.specs.Views.{scope};
 use crate::Item;
 use crate::names::{Mark, marked};
 use crate::ops::{cross_op, project_op, select_op, window_op};
-use crate::uses::Uses;
+use crate::uses::StreamUses;
 use cql_text::{Column, Columns, Scalar, Source};
 use river_base::{Name, NoMemory};
 use river_plan::{Decl, FlatType, Op, QueueType, RawPlan};
@@ -51,7 +51,7 @@ fn add(raw: &mut RawPlan, op: Op, name: Name, kind: QueueType) -> Result<(), NoM
 pub(crate) fn windows(
     alloc: Global,
     raw: &mut RawPlan,
-    uses: &mut Uses,
+    uses: &mut StreamUses,
     query: Name,
     sources: &[Source],
     items: &[Item<'_>],

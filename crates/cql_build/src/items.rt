@@ -2,9 +2,9 @@
 ghost use Rattle.std.specs.Prelude.{◌≡◌, ◌≤◌, nat_lt, [], List, Some, None, IfOk, IfErr};
 ghost use Rattle.river_plan.specs.Names.{count};
 ghost use Rattle.cql_model.specs.Laws.{known_names};
-ghost use Rattle.cql_model.specs.Faults.{is_rows_fault, items_fault};
+ghost use Rattle.cql_model.specs.Judged.{is_rows_fault, items_fault};
 ghost use Rattle.cql_model.specs.Scopes.{Named, scope_of};
-ghost use Rattle.cql_model.specs.Translation.{widths_of};
+ghost use Rattle.cql_model.specs.Plan.{widths_of};
 ghost use Rattle.cql_build.specs.Judged.{IsWidthWith, IsFaultBehind};
 ghost use Rattle.cql_build.specs.Knowing.{Knows};
 ghost use Rattle.cql_text.specs.Tree.{window_of, source_of, sources_of};

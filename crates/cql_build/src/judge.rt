@@ -1,9 +1,9 @@
 // The first fault of a program.
 ghost use Rattle.std.specs.Prelude.{◌≡◌, ◌+◌, [], ◌∷◌, List, IfOk, OnOk};
-ghost use Rattle.cql_model.specs.Faults.{fields_fault, stream_fault, query_fault, first_fault};
+ghost use Rattle.cql_model.specs.Judged.{fields_fault, stream_fault, query_fault, first_fault};
 ghost use Rattle.cql_model.specs.Scopes.{Named, scope_of, column_names};
 ghost use Rattle.cql_build.specs.Knowing.{Knows};
-ghost use Rattle.cql_text.specs.Tree.{query_of, part_of, parts_of};
+ghost use Rattle.cql_text.specs.Tree.{query_of, unit_form, unit_forms};
 ghost use Rattle.cql_model.specs.Places.{declares};
 ghost use Rattle.cql_build.specs.Judged.{unit_fault, registers};
 
@@ -11,31 +11,31 @@ use crate::Known;
 use crate::columns::{column_names, copied};
 use crate::values::{count, selected_fault};
 use cql_model::{Fault, Refusal};
-use cql_text::{Part, Query, Stream};
+use cql_text::{Unit, Query, Stream};
 use river_base::{Name, NoMemory};
 use river_plan::Names;
 use std::alloc::Global;
 
 /// The first fault of the units of a program, one after another, and its unit, from 1.
-pub(crate) fn first_fault(alloc: Global, parts: &[Part]) -> Result<Option<Refusal>, NoMemory>
-    ensures { IfOk result (λ refusal. refusal ≡ first_fault [] 0 1 (parts_of parts.now)) }
+pub(crate) fn first_fault(alloc: Global, units: &[Unit]) -> Result<Option<Refusal>, NoMemory>
+    ensures { IfOk result (λ refusal. refusal ≡ first_fault [] 0 1 (unit_forms units.now)) }
 {
     let mut known = Known::new(alloc);
-    fault_among(alloc, parts, &mut known)
+    fault_among(alloc, units, &mut known)
 }
 
 // The same, where nothing is known yet.
 fn fault_among(
     alloc: Global,
-    parts: &[Part],
+    units: &[Unit],
     known: &mut Known,
 ) -> Result<Option<Refusal>, NoMemory>
     requires { Knows known.old [] }
-    ensures { IfOk result (λ refusal. refusal ≡ first_fault [] 0 1 (parts_of parts.now)) }
+    ensures { IfOk result (λ refusal. refusal ≡ first_fault [] 0 1 (unit_forms units.now)) }
 {
     let mut many = 0;
-    for i in 0..parts.len() {
-        let part = &parts[i];
+    for i in 0..units.len() {
+        let part = &units[i];
         if let Some(fault) = known.unit_fault(alloc, many, part)? {
             return Ok(Some(Refusal { unit: i + 1, fault }));
         }
@@ -46,12 +46,12 @@ fn fault_among(
 }
 
 // How many streams a unit registers.
-fn registers(part: &Part) -> usize
-    ensures { result ≡ registers (part_of part.now) }
+fn registers(part: &Unit) -> usize
+    ensures { result ≡ registers (unit_form part.now) }
 {
     match part {
-        Part::Register(_) => 1,
-        Part::Query(_) => 0,
+        Unit::Register(_) => 1,
+        Unit::Query(_) => 0,
     }
 }
 
@@ -72,15 +72,15 @@ fn fields_fault(fields: &[Name]) -> Option<Fault>
 
 impl Known {
     /// The stream that a unit registers, or the query that it asks, is known besides.
-    pub(crate) fn add(&mut self, alloc: Global, part: &Part) -> Result<(), NoMemory>
-        ensures { (ks : List Named) → Knows self.old ks → OnOk result (Knows self.new (declares ks (part_of part.now) ∷ ks)) }
+    pub(crate) fn add(&mut self, alloc: Global, part: &Unit) -> Result<(), NoMemory>
+        ensures { (ks : List Named) → Knows self.old ks → OnOk result (Knows self.new (declares ks (unit_form part.now) ∷ ks)) }
     {
         match part {
-            Part::Register(stream) => {
+            Unit::Register(stream) => {
                 let fields = copied(alloc, stream.fields.as_slice())?;
                 self.declare(stream.name, fields)
             }
-            Part::Query(query) => {
+            Unit::Query(query) => {
                 let fields = self.columns(alloc, query)?;
                 self.declare(query.name, fields)
             }
@@ -97,12 +97,12 @@ impl Known {
     }
 
     // The first fault of a unit behind so many registered streams.
-    fn unit_fault(&self, alloc: Global, many: usize, part: &Part) -> Result<Option<Fault>, NoMemory>
-        ensures { (ks : List Named) → Knows self.now ks → IfOk result (λ fault. fault ≡ unit_fault ks many (part_of part.now)) }
+    fn unit_fault(&self, alloc: Global, many: usize, part: &Unit) -> Result<Option<Fault>, NoMemory>
+        ensures { (ks : List Named) → Knows self.now ks → IfOk result (λ fault. fault ≡ unit_fault ks many (unit_form part.now)) }
     {
         match part {
-            Part::Register(stream) => Ok(self.stream_fault(many, stream)),
-            Part::Query(query) => self.query_fault(alloc, query),
+            Unit::Register(stream) => Ok(self.stream_fault(many, stream)),
+            Unit::Query(query) => self.query_fault(alloc, query),
         }
     }
 

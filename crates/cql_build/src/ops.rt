@@ -3,7 +3,7 @@ ghost use Rattle.std.specs.Prelude.{◌≡◌, ◌≤◌, ◌∷◌, [], IfOk};
 ghost use Rattle.work_code.specs.Term.{terms};
 ghost use Rattle.river_kernels.specs.Kern.{duplicate, window, select, project, cross, streamer};
 ghost use Rattle.river_plan.specs.Forms.{op_form};
-ghost use Rattle.cql_model.specs.Translation.{op, resolved, terms_of, widths_of};
+ghost use Rattle.cql_model.specs.Plan.{op, resolved, terms_of, widths_of};
 ghost use Rattle.cql_model.specs.KernelWords.{kernel_window, streamer_of};
 ghost use Rattle.cql_text.specs.Tree.{scalar, window_of, chosen_of};
 ghost use Rattle.cql_build.specs.Views.{scope};

@@ -3,7 +3,7 @@ ghost use Rattle.std.specs.Prelude.{◌≡◌, ◌≤◌, ◌<◌, ◌^◌, ◌+
 ghost use Rattle.river_kernels.specs.Fits.{stream};
 ghost use Rattle.river_kernels.specs.Kern.{duplicate, streamer};
 ghost use Rattle.river_plan.specs.Names.{count};
-ghost use Rattle.cql_model.specs.Translation.{op, decl, decls_of, copy_names, at_word, out_name, out_decls};
+ghost use Rattle.cql_model.specs.Plan.{op, decl, decls_of, copy_names, at_word, out_name, out_decls};
 ghost use Rattle.cql_build.specs.Grown.{Grew, AddsOwnCopies, AddsCopies, stream_ops};
 ghost use Rattle.cql_model.specs.KernelWords.{streamer_of};
 
@@ -11,7 +11,7 @@ use crate::build::stream;
 use crate::columns::append;
 use crate::names::{Mark, marked};
 use crate::ops::{copy_op, one, stream_op};
-use crate::uses::Uses;
+use crate::uses::StreamUses;
 use cql_text::{Kind, Stream};
 use river_base::{Name, NoMemory};
 use river_plan::{Decl, Decls, Names, QueueType, RawPlan};
@@ -99,7 +99,7 @@ fn copy_output(
 pub(crate) fn copy_input(
     alloc: Global,
     raw: &mut RawPlan,
-    uses: &Uses,
+    uses: &StreamUses,
     registered: &Stream,
 ) -> Result<(), NoMemory>
     requires short { length registered.now.name ≤ 40 }

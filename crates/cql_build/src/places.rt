@@ -1,7 +1,7 @@
 // Values by the places of their fields in the joined row of all items.
 ghost use Rattle.std.specs.Prelude.{◌≡◌, ◌≤◌, ◌<◌, IfOk, IfSome, length};
 ghost use Rattle.work_code.specs.Term.{term};
-ghost use Rattle.cql_model.specs.Translation.{place_among, field_place, item_place, at_place, resolved, widths_of};
+ghost use Rattle.cql_model.specs.Plan.{place_among, field_place, item_place, at_place, resolved, widths_of};
 ghost use Rattle.cql_model.specs.KernelWords.{oper_of};
 ghost use Rattle.cql_text.specs.Tree.{scalar};
 ghost use Rattle.cql_build.specs.Views.{scope};

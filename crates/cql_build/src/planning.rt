@@ -7,20 +7,20 @@ ghost use Rattle.river_plan.specs.Uses.{all_vars};
 ghost use Rattle.river_plan.specs.Valid.{FirstFault};
 ghost use Rattle.river_plan.specs.declared.fault.PlanFault as plan_fault;
 ghost use Rattle.cql_model.specs.Plannable.{IsPlannable, exceeds};
-ghost use Rattle.cql_model.specs.Faults.{AreSpoken, HaveShortNames, first_fault, refusal_of};
+ghost use Rattle.cql_model.specs.Judged.{AreSpoken, HaveShortNames, first_fault, refusal_of};
 ghost use Rattle.cql_model.specs.Program.{registered, all_uses};
-ghost use Rattle.cql_model.specs.Translation.{input_decls, input_copies, input_ops, plan_of};
+ghost use Rattle.cql_model.specs.Plan.{input_decls, input_copies, input_ops, plan_of};
 ghost use Rattle.cql_build.specs.Grown.{Grew};
 ghost use Rattle.cql_build.specs.Planned.{IsWhyRefused, IsLimited, limit_at, refused_of, unit_inputs, unit_copies, unit_copying, IsShortRegistered, IsNarrow};
-ghost use Rattle.cql_text.specs.Tree.{part_of, parts_of};
+ghost use Rattle.cql_text.specs.Tree.{unit_form, unit_forms};
 
 use crate::columns::append;
 use crate::judge::first_fault;
 use crate::output::{carried, copy_input};
 use crate::queries::queries;
-use crate::uses::Uses;
+use crate::uses::StreamUses;
 use cql_model::{Fault, Refusal};
-use cql_text::Part;
+use cql_text::Unit;
 use plan_check::check;
 use river_base::NoMemory;
 use river_plan::{Decl, Decls, Names, Ops, Plan, PlanFault, RawPlan};
@@ -48,32 +48,32 @@ impl From<NoMemory> for Refused {
 
 /// The plan of a program; or the first fault of its units, one after another; or, where they have none, `Limit` of the last
 /// unit where the plan exceeds a limit of plans.
-pub fn plan(alloc: Global, parts: &[Part]) -> Result<Plan, Refused>
-    requires spoken { AreSpoken (parts_of parts.now) }
-    requires short { HaveShortNames (parts_of parts.now) }
-    ensures plan { IfOk result (λ plan. (refusal_of (parts_of parts.now) ≡ None) × (plan ≡ plan_of (parts_of parts.now))) }
-    ensures refused { IfErr result (IsWhyRefused (parts_of parts.now)) }
+pub fn plan(alloc: Global, units: &[Unit]) -> Result<Plan, Refused>
+    requires spoken { AreSpoken (unit_forms units.now) }
+    requires short { HaveShortNames (unit_forms units.now) }
+    ensures plan { IfOk result (λ plan. (refusal_of (unit_forms units.now) ≡ None) × (plan ≡ plan_of (unit_forms units.now))) }
+    ensures refused { IfErr result (IsWhyRefused (unit_forms units.now)) }
 {
-    if let Some(refusal) = first_fault(alloc, parts)? {
+    if let Some(refusal) = first_fault(alloc, units)? {
         return Err(Refused::Program(refusal));
     }
-    faultless(alloc, parts)
+    faultless(alloc, units)
 }
 
 // The same, where no unit has a fault.
-fn faultless(alloc: Global, parts: &[Part]) -> Result<Plan, Refused>
-    requires accepted { IsPlannable (parts_of parts.now) }
-    requires short { HaveShortNames (parts_of parts.now) }
-    requires none { first_fault [] 0 1 (parts_of parts.now) ≡ None }
-    ensures plan { IfOk result (λ plan. (refusal_of (parts_of parts.now) ≡ None) × (plan ≡ plan_of (parts_of parts.now))) }
-    ensures refused { IfErr result (IsWhyRefused (parts_of parts.now)) }
+fn faultless(alloc: Global, units: &[Unit]) -> Result<Plan, Refused>
+    requires accepted { IsPlannable (unit_forms units.now) }
+    requires short { HaveShortNames (unit_forms units.now) }
+    requires none { first_fault [] 0 1 (unit_forms units.now) ≡ None }
+    ensures plan { IfOk result (λ plan. (refusal_of (unit_forms units.now) ≡ None) × (plan ≡ plan_of (unit_forms units.now))) }
+    ensures refused { IfErr result (IsWhyRefused (unit_forms units.now)) }
 {
-    let mut uses = Uses::of(alloc, parts)?;
+    let mut uses = StreamUses::of(alloc, units)?;
     if uses.all.len() > 256 {
-        return Err(limited(parts.len()));
+        return Err(limited(units.len()));
     }
-    let raw = lists(alloc, &mut uses, parts)?;
-    checked(alloc, raw, parts.len())
+    let raw = lists(alloc, &mut uses, units)?;
+    checked(alloc, raw, units.len())
 }
 
 // A limit is told at this unit.
@@ -117,59 +117,59 @@ fn told(fault: PlanFault, unit: usize) -> Refused
 }
 
 // The lists of the plan.
-fn lists(alloc: Global, uses: &mut Uses, parts: &[Part]) -> Result<RawPlan, NoMemory>
-    requires accepted { IsPlannable (parts_of parts.now) }
-    requires short { HaveShortNames (parts_of parts.now) }
+fn lists(alloc: Global, uses: &mut StreamUses, units: &[Unit]) -> Result<RawPlan, NoMemory>
+    requires accepted { IsPlannable (unit_forms units.now) }
+    requires short { HaveShortNames (unit_forms units.now) }
     requires few { length uses.old.all ≤ 256 }
-    requires inputs { uses.old.inputs ≡ registered (parts_of parts.now) }
-    requires all { uses.old.all ≡ all_uses (parts_of parts.now) }
+    requires inputs { uses.old.inputs ≡ registered (unit_forms units.now) }
+    requires all { uses.old.all ≡ all_uses (unit_forms units.now) }
     requires past { uses.old.past ≡ [] }
-    ensures { IfOk result (λ raw. plan_form raw ≡ plan_of (parts_of parts.now)) }
+    ensures { IfOk result (λ raw. plan_form raw ≡ plan_of (unit_forms units.now)) }
 {
     let mut raw = RawPlan::new(alloc);
-    fill(alloc, &mut raw, uses, parts)?;
+    fill(alloc, &mut raw, uses, units)?;
     Ok(raw)
 }
 
 // Fills lists that are empty.
-fn fill(alloc: Global, raw: &mut RawPlan, uses: &mut Uses, parts: &[Part]) -> Result<(), NoMemory>
+fn fill(alloc: Global, raw: &mut RawPlan, uses: &mut StreamUses, units: &[Unit]) -> Result<(), NoMemory>
     requires empty { plan_form raw.old ≡ empty_form }
-    requires accepted { IsPlannable (parts_of parts.now) }
-    requires short { HaveShortNames (parts_of parts.now) }
+    requires accepted { IsPlannable (unit_forms units.now) }
+    requires short { HaveShortNames (unit_forms units.now) }
     requires few { length uses.old.all ≤ 256 }
-    requires inputs { uses.old.inputs ≡ registered (parts_of parts.now) }
-    requires all { uses.old.all ≡ all_uses (parts_of parts.now) }
+    requires inputs { uses.old.inputs ≡ registered (unit_forms units.now) }
+    requires all { uses.old.all ≡ all_uses (unit_forms units.now) }
     requires past { uses.old.past ≡ [] }
-    ensures { OnOk result (plan_form raw.new ≡ plan_of (parts_of parts.now)) }
+    ensures { OnOk result (plan_form raw.new ≡ plan_of (unit_forms units.now)) }
 {
-    declare_inputs(&mut raw.inputs, parts)?;
-    copy_inputs(alloc, raw, uses, parts)?;
-    queries(alloc, raw, uses, parts)?;
+    declare_inputs(&mut raw.inputs, units)?;
+    copy_inputs(alloc, raw, uses, units)?;
+    queries(alloc, raw, uses, units)?;
     declare_vars(&mut raw.vars, &raw.ops)
 }
 
 // The registered streams are inputs.
-fn declare_inputs(to: &mut Decls, parts: &[Part]) -> Result<(), NoMemory>
-    requires { AllByRecursion IsNarrow (parts_of parts.now) }
-    ensures { OnOk result (to.new ≡ to.old ++ input_decls (parts_of parts.now)) }
+fn declare_inputs(to: &mut Decls, units: &[Unit]) -> Result<(), NoMemory>
+    requires { AllByRecursion IsNarrow (unit_forms units.now) }
+    ensures { OnOk result (to.new ≡ to.old ++ input_decls (unit_forms units.now)) }
 {
-    for part in parts {
+    for part in units {
         declare_input(to, part)?;
     }
     Ok(())
 }
 
 // A registered stream.
-fn declare_input(to: &mut Decls, part: &Part) -> Result<(), NoMemory>
-    requires { IsNarrow (part_of part.now) }
-    ensures { OnOk result (to.new ≡ to.old ++ unit_inputs (part_of part.now)) }
+fn declare_input(to: &mut Decls, part: &Unit) -> Result<(), NoMemory>
+    requires { IsNarrow (unit_form part.now) }
+    ensures { OnOk result (to.new ≡ to.old ++ unit_inputs (unit_form part.now)) }
 {
     match part {
-        Part::Register(registered) => to.push(Decl {
+        Unit::Register(registered) => to.push(Decl {
             name: registered.name,
             kind: carried(registered),
         }),
-        Part::Query(_) => Ok(()),
+        Unit::Query(_) => Ok(()),
     }
 }
 
@@ -177,30 +177,30 @@ fn declare_input(to: &mut Decls, part: &Part) -> Result<(), NoMemory>
 fn copy_inputs(
     alloc: Global,
     raw: &mut RawPlan,
-    uses: &Uses,
-    parts: &[Part],
+    uses: &StreamUses,
+    units: &[Unit],
 ) -> Result<(), NoMemory>
-    requires short { HaveShortNames (parts_of parts.now) }
+    requires short { HaveShortNames (unit_forms units.now) }
     requires few { length uses.now.all ≤ 256 }
-    requires narrow { AllByRecursion IsNarrow (parts_of parts.now) }
-    ensures { OnOk result (Grew raw.old raw.new [] (input_copies uses.now.all (parts_of parts.now)) (input_ops uses.now.all (parts_of parts.now))) }
+    requires narrow { AllByRecursion IsNarrow (unit_forms units.now) }
+    ensures { OnOk result (Grew raw.old raw.new [] (input_copies uses.now.all (unit_forms units.now)) (input_ops uses.now.all (unit_forms units.now))) }
 {
-    for part in parts {
+    for part in units {
         copy_unit(alloc, raw, uses, part)?;
     }
     Ok(())
 }
 
 // One of them.
-fn copy_unit(alloc: Global, raw: &mut RawPlan, uses: &Uses, part: &Part) -> Result<(), NoMemory>
-    requires short { IsShortRegistered (part_of part.now) }
+fn copy_unit(alloc: Global, raw: &mut RawPlan, uses: &StreamUses, part: &Unit) -> Result<(), NoMemory>
+    requires short { IsShortRegistered (unit_form part.now) }
     requires few { length uses.now.all ≤ 256 }
-    requires narrow { IsNarrow (part_of part.now) }
-    ensures { OnOk result (Grew raw.old raw.new [] (unit_copies uses.now.all (part_of part.now)) (unit_copying uses.now.all (part_of part.now))) }
+    requires narrow { IsNarrow (unit_form part.now) }
+    ensures { OnOk result (Grew raw.old raw.new [] (unit_copies uses.now.all (unit_form part.now)) (unit_copying uses.now.all (unit_form part.now))) }
 {
     match part {
-        Part::Register(registered) => copy_input(alloc, raw, uses, registered),
-        Part::Query(_) => Ok(()),
+        Unit::Register(registered) => copy_input(alloc, raw, uses, registered),
+        Unit::Query(_) => Ok(()),
     }
 }
 

@@ -2,20 +2,20 @@
 ghost use Rattle.std.specs.Prelude.{◌≡◌, ◌≤◌, ◌<◌, ◌^◌, [], List, OnOk, length};
 ghost use Rattle.std.specs.List.{AllByRecursion};
 ghost use Rattle.cql_model.specs.Plannable.{IsPlannableQuery, AreQueries};
-ghost use Rattle.cql_model.specs.Faults.{IsShortName, HaveShortNames};
+ghost use Rattle.cql_model.specs.Judged.{IsShortName, HaveShortNames};
 ghost use Rattle.cql_model.specs.Program.{streams_of};
 ghost use Rattle.cql_model.specs.Scopes.{Named, scope_of};
-ghost use Rattle.cql_model.specs.Translation.{columns_width, widths_of};
+ghost use Rattle.cql_model.specs.Plan.{columns_width, widths_of};
 ghost use Rattle.cql_build.specs.Grown.{AddsQueries, AddsUnit, AddsQuery, AddsTail, Used, IsPlannableUnit, IsShortUnit, unit_uses};
 ghost use Rattle.cql_build.specs.Knowing.{Knows};
-ghost use Rattle.cql_text.specs.Tree.{columns_of, query_of, part_of, parts_of};
+ghost use Rattle.cql_text.specs.Tree.{columns_of, query_of, unit_form, unit_forms};
 ghost use Rattle.cql_build.specs.Views.{scope};
 
 use crate::build::{crosses, project, select, width, windows};
 use crate::output::output;
-use crate::uses::Uses;
+use crate::uses::StreamUses;
 use crate::{Item, Known};
-use cql_text::{Columns, Part, Query};
+use cql_text::{Columns, Unit, Query};
 use river_base::{Name, NoMemory};
 use river_plan::RawPlan;
 use std::alloc::Global;
@@ -24,33 +24,33 @@ use std::alloc::Global;
 pub(crate) fn queries(
     alloc: Global,
     raw: &mut RawPlan,
-    uses: &mut Uses,
-    parts: &[Part],
+    uses: &mut StreamUses,
+    units: &[Unit],
 ) -> Result<(), NoMemory>
-    requires good { AreQueries [] (parts_of parts.now) }
-    requires short { HaveShortNames (parts_of parts.now) }
+    requires good { AreQueries [] (unit_forms units.now) }
+    requires short { HaveShortNames (unit_forms units.now) }
     requires few { length uses.old.all ≤ 256 }
-    ensures { OnOk result (AddsQueries uses.old (parts_of parts.now) raw.old raw.new) }
+    ensures { OnOk result (AddsQueries uses.old (unit_forms units.now) raw.old raw.new) }
 {
     let mut known = Known::new(alloc);
-    queries_among(alloc, raw, uses, parts, &mut known)
+    queries_among(alloc, raw, uses, units, &mut known)
 }
 
 // The same, where nothing is known yet.
 fn queries_among(
     alloc: Global,
     raw: &mut RawPlan,
-    uses: &mut Uses,
-    parts: &[Part],
+    uses: &mut StreamUses,
+    units: &[Unit],
     known: &mut Known,
 ) -> Result<(), NoMemory>
     requires nothing { Knows known.old [] }
-    requires good { AreQueries [] (parts_of parts.now) }
-    requires short { HaveShortNames (parts_of parts.now) }
+    requires good { AreQueries [] (unit_forms units.now) }
+    requires short { HaveShortNames (unit_forms units.now) }
     requires few { length uses.old.all ≤ 256 }
-    ensures { OnOk result (AddsQueries uses.old (parts_of parts.now) raw.old raw.new) }
+    ensures { OnOk result (AddsQueries uses.old (unit_forms units.now) raw.old raw.new) }
 {
-    for part in parts {
+    for part in units {
         known.unit(alloc, raw, uses, part)?;
         known.add(alloc, part)?;
     }
@@ -63,18 +63,18 @@ impl Known {
         &self,
         alloc: Global,
         raw: &mut RawPlan,
-        uses: &mut Uses,
-        part: &Part,
+        uses: &mut StreamUses,
+        part: &Unit,
     ) -> Result<(), NoMemory>
-        requires good { (ks : List Named) × Knows self.now ks × IsPlannableUnit ks (part_of part.now) }
-        requires short { IsShortUnit (part_of part.now) }
+        requires good { (ks : List Named) × Knows self.now ks × IsPlannableUnit ks (unit_form part.now) }
+        requires short { IsShortUnit (unit_form part.now) }
         requires few { length uses.old.all ≤ 256 }
-        ensures grew { (ks : List Named) → Knows self.now ks → OnOk result (AddsUnit uses.old ks (part_of part.now) raw.old raw.new) }
-        ensures used { OnOk result (Used uses.old uses.new (unit_uses (part_of part.now))) }
+        ensures grew { (ks : List Named) → Knows self.now ks → OnOk result (AddsUnit uses.old ks (unit_form part.now) raw.old raw.new) }
+        ensures used { OnOk result (Used uses.old uses.new (unit_uses (unit_form part.now))) }
     {
         match part {
-            Part::Register(_) => Ok(()),
-            Part::Query(query) => self.query(alloc, raw, uses, query),
+            Unit::Register(_) => Ok(()),
+            Unit::Query(query) => self.query(alloc, raw, uses, query),
         }
     }
 
@@ -83,7 +83,7 @@ impl Known {
         &self,
         alloc: Global,
         raw: &mut RawPlan,
-        uses: &mut Uses,
+        uses: &mut StreamUses,
         query: &Query,
     ) -> Result<(), NoMemory>
         requires good { (ks : List Named) × Knows self.now ks × IsPlannableQuery ks (query_of query.now) }
@@ -102,7 +102,7 @@ impl Known {
 fn query_on(
     alloc: Global,
     raw: &mut RawPlan,
-    uses: &mut Uses,
+    uses: &mut StreamUses,
     items: &[Item<'_>],
     query: &Query,
 ) -> Result<(), NoMemory>

@@ -2,50 +2,50 @@
 ghost use Rattle.std.specs.Prelude.{◌≡◌, ◌≤◌, ◌+◌, ◌++◌, ◌∷◌, [], IfOk, OnOk, length};
 ghost use Rattle.river_plan.specs.Names.{count};
 ghost use Rattle.cql_model.specs.Program.{registered, streams_of, all_uses};
-ghost use Rattle.cql_model.specs.Translation.{queue_of_use};
-ghost use Rattle.cql_text.specs.Tree.{sources_of, part_of, parts_of};
+ghost use Rattle.cql_model.specs.Plan.{queue_of_use};
+ghost use Rattle.cql_text.specs.Tree.{sources_of, unit_form, unit_forms};
 ghost use Rattle.cql_build.specs.Grown.{Notes};
 
 use crate::names::{Mark, marked};
 use crate::values::count;
-use cql_text::{Part, Source};
+use cql_text::{Unit, Source};
 use river_base::{Name, NoMemory};
 use river_plan::Names;
 use std::alloc::Global;
 
 /// The streams that are registered, those that items name, and of these those whose queue is known.
 #[derive(Drop)]
-pub(crate) struct Uses {
+pub(crate) struct StreamUses {
     pub inputs: Names,
     pub all: Names,
     pub past: Names,
 }
 
-impl Uses {
+impl StreamUses {
     /// Those of a program, none of which has its queue.
-    pub(crate) fn of(alloc: Global, parts: &[Part]) -> Result<Uses, NoMemory>
-        ensures inputs { IfOk result (λ uses. uses.inputs ≡ registered (parts_of parts.now)) }
-        ensures all { IfOk result (λ uses. uses.all ≡ all_uses (parts_of parts.now)) }
+    pub(crate) fn of(alloc: Global, units: &[Unit]) -> Result<StreamUses, NoMemory>
+        ensures inputs { IfOk result (λ uses. uses.inputs ≡ registered (unit_forms units.now)) }
+        ensures all { IfOk result (λ uses. uses.all ≡ all_uses (unit_forms units.now)) }
         ensures past { IfOk result (λ uses. uses.past ≡ []) }
     {
-        let mut uses = Uses {
+        let mut uses = StreamUses {
             inputs: Names::new(alloc),
             all: Names::new(alloc),
             past: Names::new(alloc),
         };
-        for part in parts {
+        for part in units {
             uses.note(part)?;
         }
         Ok(uses)
     }
 
     // The streams of a unit.
-    fn note(&mut self, part: &Part) -> Result<(), NoMemory>
-        ensures { OnOk result (Notes self.old self.new (part_of part.now)) }
+    fn note(&mut self, part: &Unit) -> Result<(), NoMemory>
+        ensures { OnOk result (Notes self.old self.new (unit_form part.now)) }
     {
         match part {
-            Part::Register(stream) => self.inputs.push(stream.name),
-            Part::Query(query) => note_sources(&mut self.all, query.items.as_slice()),
+            Unit::Register(stream) => self.inputs.push(stream.name),
+            Unit::Query(query) => note_sources(&mut self.all, query.items.as_slice()),
         }
     }
 

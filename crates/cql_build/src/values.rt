@@ -1,7 +1,7 @@
 // The fields that values name.
 ghost use Rattle.std.specs.Prelude.{◌≡◌, min, Some, None};
 ghost use Rattle.river_plan.specs.Names.{count};
-ghost use Rattle.cql_model.specs.Faults.{field_places, item_places, field_fault, scalar_fault, chosen_fault, columns_fault, condition_fault, then_fault};
+ghost use Rattle.cql_model.specs.Judged.{field_places, item_places, field_fault, scalar_fault, chosen_fault, columns_fault, condition_fault, then_fault};
 ghost use Rattle.cql_text.specs.Tree.{scalar, chosen_of, columns_of, condition_of};
 ghost use Rattle.cql_build.specs.Views.{scope};
 

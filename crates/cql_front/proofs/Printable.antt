@@ -9,8 +9,8 @@ use Rattle.cql_model.specs.Program.{registered, streams_of, all_uses}
 use Rattle.cql_model.specs.KernelWords.{kernel_window}
 use Rattle.cql_text.specs.Tree.{Scalar, Window, Now, Range, Unbounded, Latest, Source, Columns, Star, Chosen, Query, Register, AQuery, Program}
 use Rattle.cql_model.specs.Scopes.{Named, scope_of}
-use Rattle.cql_model.specs.Translation.{queues_of_uses, w_name, x_name, window_ops, cross_ops, select_ops, project_ops, project_last, out_ops, tail_ops, item_ops}
-use Rattle.cql_model.specs.Translation.{item_last, query_ops, query_named, queries_ops, copy_ops, input_ops, plan_of}
+use Rattle.cql_model.specs.Plan.{queues_of_uses, w_name, x_name, window_ops, cross_ops, select_ops, project_ops, project_last, out_ops, tail_ops, item_ops}
+use Rattle.cql_model.specs.Plan.{item_last, query_ops, query_named, queries_ops, copy_ops, input_ops, plan_of}
 use Rattle.cql_model.proofs.Counting.{stream_op, project_from, block_ops}
 use Rattle.cql_front.specs.Laws.{PlansArePrintable}
 

@@ -10,10 +10,10 @@ use Rattle.work_text.specs.declared.sign.Symbol.TheVariants as sign
 use Rattle.text_forms.specs.Forms as form
 use Rattle.text_forms.specs.Parse.{is_short}
 use Rattle.cql_model.specs.Plannable.{has_no_at, AreShallowColumns, IsShallowCondition, declared_names}
-use Rattle.cql_model.specs.Faults.{has_columns, AreSpoken, IsShortName, HaveShortNames}
+use Rattle.cql_model.specs.Judged.{has_columns, AreSpoken, IsShortName, HaveShortNames}
 use Rattle.cql_model.specs.Program.{streams_of, all_uses}
-use Rattle.cql_text.specs.Grammar.{IsColumn, IsColumns, IsSource, IsStreamUnit, IsQueryUnit, IsPart, IsWhere, AreParts}
-use Rattle.cql_text.specs.Tree.{Name, Scalar, scalar_depth, Source, Column, Columns, Chosen, Register, AQuery, Part, Program}
+use Rattle.cql_text.specs.Grammar.{IsColumn, IsColumns, IsSource, IsStreamUnit, IsQueryUnit, IsUnit, IsWhere, AreUnits}
+use Rattle.cql_text.specs.Tree.{Name, Scalar, scalar_depth, Source, Column, Columns, Chosen, Register, AQuery, UnitForm, Program}
 use Rattle.cql_text.specs.Words.{is_plain}
 use Rattle.cql_text.proofs.Words.{plain-parts}
 
@@ -57,10 +57,10 @@ condition_spoken (Some e) ts h = h.formed.1
 
 -- UNITS
 
-abbrev PartSpoken : Part → Type 0
+abbrev PartSpoken : UnitForm → Type 0
 PartSpoken p = AreSpoken (p ∷ [])
 
-query_spoken : (p : Part) (ts : List Tok) → IsQueryUnit p ts → PartSpoken p
+query_spoken : (p : UnitForm) (ts : List Tok) → IsQueryUnit p ts → PartSpoken p
 query_spoken p ts h =
     let v = h.formed.value in
     let both = h.formed.formed in
@@ -80,23 +80,23 @@ query_spoken p ts h =
       tt,
     )
 
-stream_spoken : (p : Part) (ts : List Tok) → IsStreamUnit p ts → PartSpoken p
+stream_spoken : (p : UnitForm) (ts : List Tok) → IsStreamUnit p ts → PartSpoken p
 stream_spoken p ts h =
     let made = h.formed.formed in
     let v = made.value in
     let fields = made.formed.second.formed.formed in
     subst PartSpoken (sym made.is) (no_at v.0 made.formed.first.passes, subst (λ (l : List Name). 0 < length l) (sym fields.is) (omega arith), tt)
 
-part_spoken : (p : Part) (ts : List Tok) → IsPart p ts → PartSpoken p
+part_spoken : (p : UnitForm) (ts : List Tok) → IsUnit p ts → PartSpoken p
 part_spoken p ts (inl h) = stream_spoken p ts h
 part_spoken p ts (inr h) = query_spoken p ts h
 
-join : (p : Part) (ps : Program) → AreSpoken (p ∷ []) → AreSpoken ps → AreSpoken (p ∷ ps)
+join : (p : UnitForm) (ps : Program) → AreSpoken (p ∷ []) → AreSpoken ps → AreSpoken (p ∷ ps)
 join (Register name fields) ps a b = (a.0, a.1, b)
 join (AQuery q) ps a b = (a.0, a.1, b)
 
 -- the units of a program are as the grammar says
-pub spoken : (p : List Part) (units : List (List Tok)) → AreParts p units → AreSpoken p
+pub spoken : (p : List UnitForm) (units : List (List Tok)) → AreUnits p units → AreSpoken p
 spoken [] [] h = tt
 spoken [] (u ∷ us) h = absurd h
 spoken (p ∷ ps) [] h = absurd h
@@ -112,14 +112,14 @@ more_short : (is : List Source) (ts : List Tok) → form.Many (form.After (sign.
 more_short [] ts h = tt
 more_short (i ∷ is) ts h = (source_short i h.3.back h.3.formed, more_short is h.1 h.4)
 
-abbrev PartShort : Part → Type 0
+abbrev PartShort : UnitForm → Type 0
 PartShort p = AllByRecursion IsShortName (declared_names (p ∷ [])) × AllByRecursion IsShortName (all_uses (p ∷ []))
 
 both_all : {A : Type 0} (P : A → Type 0) (xs ys : List A) → AllByRecursion P xs → AllByRecursion P ys → AllByRecursion P (xs ++ ys)
 both_all P [] ys a b = b
 both_all P (x ∷ xs) ys a b = (a.0, both_all P xs ys a.1 b)
 
-query_short : (p : Part) (ts : List Tok) → IsQueryUnit p ts → PartShort p
+query_short : (p : UnitForm) (ts : List Tok) → IsQueryUnit p ts → PartShort p
 query_short p ts h =
     let v = h.formed.value in
     let both = h.formed.formed in
@@ -129,14 +129,14 @@ query_short p ts h =
     (source_short items.value.0 items.formed.front items.formed.first, more_short items.value.1 items.formed.back items.formed.second) in
     subst PartShort (sym h.formed.is) ((short v.0 both.first.passes, tt), both_all IsShortName (streams_of v.1.1.1.0) [] used tt)
 
-stream_short : (p : Part) (ts : List Tok) → IsStreamUnit p ts → PartShort p
+stream_short : (p : UnitForm) (ts : List Tok) → IsStreamUnit p ts → PartShort p
 stream_short p ts h = let made = h.formed.formed in subst PartShort (sym made.is) ((short made.value.0 made.formed.first.passes, tt), tt)
 
-part_short : (p : Part) (ts : List Tok) → IsPart p ts → PartShort p
+part_short : (p : UnitForm) (ts : List Tok) → IsUnit p ts → PartShort p
 part_short p ts (inl h) = stream_short p ts h
 part_short p ts (inr h) = query_short p ts h
 
-join_short : (p : Part) (ps : Program) → AllByRecursion IsShortName (declared_names (p ∷ [])) → AllByRecursion IsShortName (all_uses (p ∷ []))
+join_short : (p : UnitForm) (ps : Program) → AllByRecursion IsShortName (declared_names (p ∷ [])) → AllByRecursion IsShortName (all_uses (p ∷ []))
     → HaveShortNames ps → HaveShortNames (p ∷ ps)
 join_short (Register name fields) ps a b s = record { names = (a.0, s.names); uses = s.uses }
 join_short (AQuery q) ps a b s =
@@ -148,7 +148,7 @@ join_short (AQuery q) ps a b s =
     }
 
 -- its names are short
-pub shortened : (p : List Part) (units : List (List Tok)) → AreParts p units → HaveShortNames p
+pub shortened : (p : List UnitForm) (units : List (List Tok)) → AreUnits p units → HaveShortNames p
 shortened [] [] h = record { names = tt; uses = tt }
 shortened [] (u ∷ us) h = absurd h
 shortened (p ∷ ps) [] h = absurd h

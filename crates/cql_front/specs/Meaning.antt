@@ -7,13 +7,13 @@ use Rattle.work_text.specs.declared.fault.LexFault.{LexFault}
 use Rattle.text_forms.specs.Refusals.{of_lexer}
 use Rattle.text_forms.specs.declared.refusal.Refusal.TheVariants.{Syntax}
 use Rattle.river_plan.specs.Forms.{PlanForm}
-use Rattle.cql_model.specs.Faults.{refusal_of}
-use Rattle.cql_model.specs.Translation.{plan_of}
+use Rattle.cql_model.specs.Judged.{refusal_of}
+use Rattle.cql_model.specs.Plan.{plan_of}
 use Rattle.cql_model.specs.declared.fault.Fault as model
 use Rattle.cql_model.specs.declared.fault.Fault.TheVariants as model_fault
 use Rattle.cql_model.specs.declared.fault.Refusal.{Refusal}
-use Rattle.cql_text.specs.Reading.{parts_in}
-use Rattle.cql_text.specs.Tree.{Part}
+use Rattle.cql_text.specs.Reading.{units_in}
+use Rattle.cql_text.specs.Tree.{UnitForm}
 use Rattle.cql_front.specs.declared.fault.CqlFault.{CqlFault}
 use Rattle.cql_front.specs.declared.fault.CqlFault.TheVariants.{Text, UnknownStream, UnknownField, AmbiguousField, NameTwice, Limit, NoMemory}
 
@@ -26,38 +26,38 @@ fault_at unit model_fault.NameTwice = NameTwice unit
 fault_at unit model_fault.Limit = Limit unit
 
 -- the program, or why it is refused
-abbrev pub or_refused : List Part → Option Refusal → Result (List Part) CqlFault
+abbrev pub or_refused : List UnitForm → Option Refusal → Result (List UnitForm) CqlFault
 or_refused p None = Ok p
 or_refused p (Some r) = Err (fault_at r.unit r.fault)
 
 -- a program is judged
-abbrev pub accepted : List Part → Result (List Part) CqlFault
+abbrev pub accepted : List UnitForm → Result (List UnitForm) CqlFault
 accepted p = or_refused p (refusal_of p)
 
 -- what is read is judged
-abbrev pub then_judged : Result (List Part) ℕ → Result (List Part) CqlFault
+abbrev pub then_judged : Result (List UnitForm) ℕ → Result (List UnitForm) CqlFault
 then_judged (Ok p) = accepted p
 then_judged (Err unit) = Err (Text (Syntax unit))
 
 -- the tokens of a text are read
-abbrev pub of_tokens : List Mark → Result (List Part) CqlFault
-of_tokens marks = then_judged (parts_in (units_of (toks marks)))
+abbrev pub of_tokens : List Mark → Result (List UnitForm) CqlFault
+of_tokens marks = then_judged (units_in (units_of (toks marks)))
 
 -- what is lexed is read
-abbrev pub then_read : Result (List Mark) LexFault → Result (List Part) CqlFault
+abbrev pub then_read : Result (List Mark) LexFault → Result (List UnitForm) CqlFault
 then_read (Ok marks) = of_tokens marks
 then_read (Err fault) = Err (of_lexer Text NoMemory fault)
 
 -- the program of a text, or why it has none
-unfoldable pub compiled : List ℕ → Result (List Part) CqlFault
+unfoldable pub compiled : List ℕ → Result (List UnitForm) CqlFault
 compiled text = then_read (tokens_in text)
 
 -- the program is accepted, and this is its plan
-pub record Plans (meant : Result (List Part) CqlFault) (p : List Part) (plan : PlanForm) : Type 0 where
+pub record Plans (meant : Result (List UnitForm) CqlFault) (p : List UnitForm) (plan : PlanForm) : Type 0 where
   pub accepted : meant ≡ Ok p
   pub planned : plan ≡ plan_of p
 
 -- this is why there is no program; want of memory says nothing
-abbrev pub Refused : Result (List Part) CqlFault → CqlFault → Type 0
+abbrev pub Refused : Result (List UnitForm) CqlFault → CqlFault → Type 0
 Refused meant NoMemory = Unit {0}
 Refused meant fault = meant ≡ Err fault

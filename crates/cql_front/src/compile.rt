@@ -1,15 +1,15 @@
 // From the text of a program to its tree and its plan.
 ghost use Rattle.std.specs.Prelude.{◌≡◌, ◌<◌, ◌^◌, length, List, Some, IfOk, IfErr};
 ghost use Rattle.cql_front.specs.Meaning.{accepted, of_tokens, compiled, Plans, Refused};
-ghost use Rattle.cql_model.specs.Faults.{AreSpoken, HaveShortNames, refusal_of};
+ghost use Rattle.cql_model.specs.Judged.{AreSpoken, HaveShortNames, refusal_of};
 ghost use Rattle.cql_text.specs.Faults.{StandFor};
-ghost use Rattle.cql_text.specs.Tree.{parts_of, program_of};
+ghost use Rattle.cql_text.specs.Tree.{unit_forms, program_of};
 ghost use Rattle.cql_text.specs.Tree as tree;
 
 use crate::CqlFault;
 use cql_build::plan;
 use cql_model::{Fault, Refusal};
-use cql_text::{CqlProgram, Part, read_cql};
+use cql_text::{CqlProgram, Unit, read_cql};
 use river_base::Bytes;
 use river_plan::Plan;
 use std::alloc::Global;
@@ -45,7 +45,7 @@ fn compile_tokens(alloc: Global, tokens: &Tokens<'_>) -> Result<(CqlProgram, Pla
     ensures refused { IfErr result (Refused (of_tokens tokens.now)) }
 {
     let program = read(alloc, tokens)?;
-    let plan = planned(alloc, program.parts.as_slice())?;
+    let plan = planned(alloc, program.units.as_slice())?;
     Ok((program, plan))
 }
 
@@ -63,16 +63,16 @@ fn read(alloc: Global, tokens: &Tokens<'_>) -> Result<CqlProgram, CqlFault>
     }
 }
 
-// The plan of these parts.
+// The plan of these units.
 #[tactic(auto, using(crate::proofs::Fronts::plans))]
-fn planned(alloc: Global, parts: &[Part]) -> Result<Plan, CqlFault>
-    requires spoken { AreSpoken (parts_of parts.now) }
-    requires short { HaveShortNames (parts_of parts.now) }
-    requires few { length parts.now < 2 ^ 32 }
-    ensures plan { IfOk result (Plans (accepted (parts_of parts.now)) (parts_of parts.now)) }
-    ensures refused { IfErr result (Refused (accepted (parts_of parts.now))) }
+fn planned(alloc: Global, units: &[Unit]) -> Result<Plan, CqlFault>
+    requires spoken { AreSpoken (unit_forms units.now) }
+    requires short { HaveShortNames (unit_forms units.now) }
+    requires few { length units.now < 2 ^ 32 }
+    ensures plan { IfOk result (Plans (accepted (unit_forms units.now)) (unit_forms units.now)) }
+    ensures refused { IfErr result (Refused (accepted (unit_forms units.now))) }
 {
-    match plan(alloc, parts) {
+    match plan(alloc, units) {
         Ok(plan) => Ok(plan),
         Err(cql_build::Refused::Program(refusal)) => Err(fault(refusal)),
         Err(cql_build::Refused::NoMemory) => Err(CqlFault::NoMemory),
@@ -82,7 +82,7 @@ fn planned(alloc: Global, parts: &[Part]) -> Result<Plan, CqlFault>
 // The fault of a unit.
 fn fault(refusal: Refusal) -> CqlFault
     requires { refusal.unit < 2 ^ 32 }
-    ensures { (p : List tree.Part) → refusal_of p ≡ Some refusal → Refused (accepted p) result }
+    ensures { (p : List tree.UnitForm) → refusal_of p ≡ Some refusal → Refused (accepted p) result }
 {
     let unit = refusal.unit as u32;
     match refusal.fault {

@@ -1,5 +1,5 @@
 -- Accepted programs: their plans are valid, and mean what the programs mean.
-use Rattle.cql_model.specs.Refused.{AcceptedAreValid, AcceptedMean}
+use Rattle.cql_model.specs.Faults.{AcceptedAreValid, AcceptedMean}
 use Rattle.cql_model.proofs.Front.{plans_mean}
 use Rattle.cql_model.proofs.Judged.{accepted_plannable}
 use Rattle.cql_model.proofs.OnlyLimits.{plans_are_valid}

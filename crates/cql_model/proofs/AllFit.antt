@@ -19,9 +19,9 @@ use Rattle.cql_model.specs.Laws.{known_names, AreKnown}
 use Rattle.cql_model.specs.Program.{streams_of, all_uses}
 use Rattle.cql_text.specs.Tree.{Source, Columns, Star, Chosen, Query, Register, AQuery, Program}
 use Rattle.cql_model.specs.Scopes.{Named, scope_of, fields_of, column_names}
-use Rattle.cql_model.specs.Translation.{copy_names, copy_name, queue_of_use, queues_of_uses, query_named, queries_ops, copy_ops, input_ops, decls_of, widths_of, columns_width}
-use Rattle.cql_model.specs.Translation.{item_decls, select_decls, project_decls, out_decls, query_decls, queries_decls, copy_decls, input_copies, input_decls}
-use Rattle.cql_model.specs.Translation.{output_decls}
+use Rattle.cql_model.specs.Plan.{copy_names, copy_name, queue_of_use, queues_of_uses, query_named, queries_ops, copy_ops, input_ops, decls_of, widths_of, columns_width}
+use Rattle.cql_model.specs.Plan.{item_decls, select_decls, project_decls, out_decls, query_decls, queries_decls, copy_decls, input_copies, input_decls}
+use Rattle.cql_model.specs.Plan.{output_decls}
 use Rattle.cql_model.proofs.Counting.{block_ops}
 use Rattle.cql_model.proofs.Order.{Others, Fit, fit_next, query_source, InputsThere}
 use Rattle.cql_model.proofs.Fitting as one

@@ -14,7 +14,7 @@ use Rattle.kern_changes.proofs.Copies.{sum-cong}
 use Rattle.cql_text.specs.Tree.{Scalar, Column, Chosen}
 use Rattle.cql_model.specs.Scopes.{Named}
 use Rattle.cql_model.specs.Meaning.{Tuple, eval, with_each, product_of, where_true, all_values, selected_row}
-use Rattle.cql_model.specs.Translation.{resolved, terms_of}
+use Rattle.cql_model.specs.Plan.{resolved, terms_of}
 use Rattle.cql_model.proofs.Bags.{sum-on, same_bag, filter-in_order, in_order-map, pairs, sum-pairs, product_is}
 use Rattle.cql_model.proofs.Values.{Fits, resolved_is, columns_are}
 

@@ -13,9 +13,9 @@ use Rattle.cql_text.specs.Tree.{Scalar, Source, Columns, Star, Chosen, Query}
 use Rattle.cql_model.specs.Scopes.{Named, scope_of, item_named}
 use Rattle.river_kernels.specs.Kern.{streamer}
 use Rattle.river_kernels.specs.Fits.{stream}
-use Rattle.cql_model.specs.Translation.{op, at_word, copy_names, window_ops, cross_ops, cross_last, select_ops, select_last, project_ops, project_last, out_ops}
-use Rattle.cql_model.specs.Translation.{out_name, tail_ops, item_ops, item_last, w_name, x_name, decls_of, widths_of, window_decls, cross_decls, item_decls}
-use Rattle.cql_model.specs.Translation.{select_decls, project_decls, out_decls, query_decls, columns_width}
+use Rattle.cql_model.specs.Plan.{op, at_word, copy_names, window_ops, cross_ops, cross_last, select_ops, select_last, project_ops, project_last, out_ops}
+use Rattle.cql_model.specs.Plan.{out_name, tail_ops, item_ops, item_last, w_name, x_name, decls_of, widths_of, window_decls, cross_decls, item_decls}
+use Rattle.cql_model.specs.Plan.{select_decls, project_decls, out_decls, query_decls, columns_width}
 use Rattle.river_plan.proofs.ValidLaw.{total-append}
 use Rattle.cql_model.proofs.Naming.{Tag, tagged, numbers, From, Of, from_nil, from_more, of_nil, of_one, of_numbers, of_letter}
 

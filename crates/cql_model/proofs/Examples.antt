@@ -9,7 +9,7 @@ use Rattle.cql_text.specs.declared.operator.Operator.TheVariants as o
 use Rattle.cql_text.specs.declared.tree.Kind.TheVariants.{Istream, Dstream, Rstream}
 use Rattle.cql_text.specs.Tree.{Number, Field, Bin, Now, Range, Latest, Column, Star, Chosen, Register, AQuery, Program}
 use Rattle.cql_model.specs.Meaning.{answers}
-use Rattle.cql_model.specs.Translation.{plan_of}
+use Rattle.cql_model.specs.Plan.{plan_of}
 
 abbrev with_vars : OpForm → Name × List Name × List Name × List Name
 with_vars o = (o.label, o.reads, o.writes, o.vars)

@@ -17,13 +17,13 @@ use Rattle.cql_model.specs.Plannable.{has_no_at, declared_names, IsPlannableQuer
 use Rattle.cql_model.specs.declared.fault.Fault.{Fault}
 use Rattle.cql_model.specs.declared.fault.Fault.TheVariants.{UnknownStream, NameTwice, Limit}
 use Rattle.cql_model.specs.declared.fault.Refusal.{Refusal}
-use Rattle.cql_model.specs.Faults.{then_fault, fault_if, is_rows_fault, item_fault, items_fault, chosen_fault, columns_fault, condition_fault, query_fault}
-use Rattle.cql_model.specs.Faults.{fields_fault, stream_fault, in_unit, first_fault, IsSpokenQuery, AreSpoken, FaultlessPlannable, has_columns, scalar_fault}
+use Rattle.cql_model.specs.Judged.{then_fault, fault_if, is_rows_fault, item_fault, items_fault, chosen_fault, columns_fault, condition_fault, query_fault}
+use Rattle.cql_model.specs.Judged.{fields_fault, stream_fault, in_unit, first_fault, IsSpokenQuery, AreSpoken, FaultlessPlannable, has_columns, scalar_fault}
 use Rattle.cql_model.specs.Laws.{known_names, AreKnown}
 use Rattle.cql_model.specs.Program.{streams_of}
 use Rattle.cql_text.specs.Tree.{Source, Column, Columns, Star, Chosen, Query, Register, AQuery, Program}
 use Rattle.cql_model.specs.Scopes.{Named, item_named, scope_of}
-use Rattle.cql_model.specs.Translation.{widths_of, query_named, columns_width}
+use Rattle.cql_model.specs.Plan.{widths_of, query_named, columns_width}
 use Rattle.cql_model.proofs.AllFit.{sized_scope, columns_many}
 use Rattle.cql_model.proofs.Valid.{sized_some, Sized}
 use Rattle.cql_model.proofs.SpotFaults.{eq_no}

@@ -10,7 +10,7 @@ use Rattle.brooklet_model.specs.Typed.{AreInputs}
 use Rattle.cql_model.specs.Fit.{FilesFit}
 use Rattle.cql_model.specs.Laws.{AreFiles}
 use Rattle.cql_text.specs.Tree.{Register, AQuery, Program}
-use Rattle.cql_model.specs.Translation.{input_decls}
+use Rattle.cql_model.specs.Plan.{input_decls}
 use Rattle.cql_model.proofs.Stamps.{instants_are, spread_instants}
 use Rattle.cql_model.proofs.Widths.{file_wide}
 

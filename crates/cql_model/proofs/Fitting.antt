@@ -23,10 +23,10 @@ use Rattle.cql_model.specs.KernelWords.{kernel_window}
 use Rattle.cql_model.specs.Plannable.{AreShallowColumns, IsShallowCondition, IsPlannableQuery}
 use Rattle.cql_text.specs.Tree.{Scalar, scalar_depth, Number, Field, ItemField, Neg, Not, Bin, Source, Column, Columns, Star, Chosen, Query}
 use Rattle.cql_model.specs.Scopes.{Named, scope_of, item_named, fields_of}
-use Rattle.cql_model.specs.Translation.{plus, or_place, place_among, field_place, item_place, at_place, resolved, at_word, copy_names, w_name, x_name, window_ops}
-use Rattle.cql_model.specs.Translation.{cross_ops, cross_last, select_ops, select_last, terms_of, project_ops, project_last, out_ops, out_name, tail_ops}
-use Rattle.cql_model.specs.Translation.{item_ops, item_last, decls_of, widths_of, window_decls, cross_decls, item_decls, select_decls, project_decls}
-use Rattle.cql_model.specs.Translation.{columns_width, out_decls, query_decls}
+use Rattle.cql_model.specs.Plan.{plus, or_place, place_among, field_place, item_place, at_place, resolved, at_word, copy_names, w_name, x_name, window_ops}
+use Rattle.cql_model.specs.Plan.{cross_ops, cross_last, select_ops, select_last, terms_of, project_ops, project_last, out_ops, out_name, tail_ops}
+use Rattle.cql_model.specs.Plan.{item_ops, item_last, decls_of, widths_of, window_decls, cross_decls, item_decls, select_decls, project_decls}
+use Rattle.cql_model.specs.Plan.{columns_width, out_decls, query_decls}
 use Rattle.cql_model.proofs.Counting.{stream_op, project_from, block_ops}
 use Rattle.river_plan.proofs.ShareLemmas.{each_append}
 use Rattle.cql_model.proofs.Walk.{each-append}

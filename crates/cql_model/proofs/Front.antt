@@ -10,7 +10,7 @@ use Rattle.cql_model.specs.Laws.{AreSourced}
 use Rattle.cql_model.specs.Program.{registered}
 use Rattle.cql_text.specs.Tree.{Register, AQuery, Program}
 use Rattle.cql_model.specs.Scopes.{Named}
-use Rattle.cql_model.specs.Translation.{query_named}
+use Rattle.cql_model.specs.Plan.{query_named}
 use Rattle.cql_model.proofs.Means.{translation_means}
 use Rattle.cql_model.proofs.Valid.{asked, declared_split}
 use Rattle.cql_model.proofs.OnlyLimits.{plans_are_valid}

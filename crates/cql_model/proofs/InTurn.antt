@@ -25,10 +25,10 @@ use Rattle.cql_model.specs.Numeral.{numeral}
 use Rattle.cql_model.specs.Program.{registered, streams_of, all_uses}
 use Rattle.cql_text.specs.Tree.{Scalar, Source, Columns, Star, Chosen, Query, Register, AQuery, Program}
 use Rattle.cql_model.specs.Scopes.{Named, scope_of, item_named}
-use Rattle.cql_model.specs.Translation.{op, at_word, copy_names, copy_name, queues_of_uses, w_name, x_name, window_ops, cross_ops, select_ops, select_last, project_ops}
-use Rattle.cql_model.specs.Translation.{project_last, out_ops, out_name, item_ops, item_last, query_ops, query_named, queries_ops, copy_ops, input_ops, ops_of}
-use Rattle.cql_model.specs.Translation.{widths_of, window_decls, cross_decls, item_decls, select_decls, project_decls, out_decls, columns_width, query_decls}
-use Rattle.cql_model.specs.Translation.{queries_decls, copy_decls, input_copies, input_decls, output_decls}
+use Rattle.cql_model.specs.Plan.{op, at_word, copy_names, copy_name, queues_of_uses, w_name, x_name, window_ops, cross_ops, select_ops, select_last, project_ops}
+use Rattle.cql_model.specs.Plan.{project_last, out_ops, out_name, item_ops, item_last, query_ops, query_named, queries_ops, copy_ops, input_ops, ops_of}
+use Rattle.cql_model.specs.Plan.{widths_of, window_decls, cross_decls, item_decls, select_decls, project_decls, out_decls, columns_width, query_decls}
+use Rattle.cql_model.specs.Plan.{queries_decls, copy_decls, input_copies, input_decls, output_decls}
 use Rattle.cql_model.proofs.Counting.{names_decls}
 use Rattle.cql_model.proofs.Naming.{split, split_tagged, Tag}
 use Rattle.cql_model.proofs.Sums.{as_many}

@@ -10,14 +10,14 @@ use Rattle.river_plan.proofs.NameLemmas.{true_false}
 use Rattle.cql_model.specs.declared.fault.Fault.{Fault}
 use Rattle.cql_model.specs.declared.fault.Fault.TheVariants.{UnknownStream, UnknownField, AmbiguousField, NameTwice, Limit}
 use Rattle.cql_model.specs.declared.fault.Refusal.{Refusal}
-use Rattle.cql_model.specs.Faults.{query_fault, stream_fault, in_unit, first_fault, then_refusal, refusal_of}
+use Rattle.cql_model.specs.Judged.{query_fault, stream_fault, in_unit, first_fault, then_refusal, refusal_of}
 use Rattle.cql_model.specs.Places.{known_by, Spot, spots, Place, unit_places, program_places}
 use Rattle.cql_model.specs.Plannable.{exceeds, KeepsLimits}
 use Rattle.cql_model.specs.Program.{registered}
-use Rattle.cql_text.specs.Tree.{Register, AQuery, Part, Program}
-use Rattle.cql_model.specs.Refused.{rank, IsFirstFault, IsFaultless, HasFirstFault, IsRefused, RefusalsAre, AcceptedAre, AcceptedPlannable}
+use Rattle.cql_text.specs.Tree.{Register, AQuery, UnitForm, Program}
+use Rattle.cql_model.specs.Faults.{rank, IsFirstFault, IsFaultless, IsFaultOf, IsRefused, RefusalsAre, AcceptedAre, AcceptedPlannable}
 use Rattle.cql_model.specs.Scopes.{Named}
-use Rattle.cql_model.specs.Translation.{query_named, plan_of}
+use Rattle.cql_model.specs.Plan.{query_named, plan_of}
 use Rattle.cql_model.proofs.Earlier.{behind, behind-none, behind-nil, behind-cons}
 use Rattle.cql_model.proofs.Faultless.{faultless_plannable}
 use Rattle.cql_model.proofs.First.{first_of, Finds, finds_both, finds_none, none_finds, finds_some, some_finds, finds_same, named_as, finds_map}
@@ -38,7 +38,7 @@ Judged = Finds IsFaultless Tells
 abbrev at_unit : Program → Fault → Refusal
 at_unit before f = record { unit = length before + 1; fault = f }
 
-unit_found : (before : Program) (u : Part) (o : Option Fault) → Found before (spots u) o → Judged (unit_places (before, u)) (named_as (at_unit before) o)
+unit_found : (before : Program) (u : UnitForm) (o : Option Fault) → Found before (spots u) o → Judged (unit_places (before, u)) (named_as (at_unit before) o)
 unit_found before u o f =
     finds_map (Silent before) (Says before) IsFaultless Tells (λ (spot : Spot). record { before = before; unit = u; spot = spot }) (at_unit before)
     (λ s h. h) (λ s g h. record { faulty = record { has = h.0; first = h.1 }; unit = refl }) (spots u) o f
@@ -48,11 +48,11 @@ unit_then n None rest = refl
 unit_then n (Some f) rest = refl
 
 -- one unit, and those behind it
-one_unit : (before : Program) (u : Part) (ps : Program) (o : Option Fault) (rest : Option Refusal) → Found before (spots u) o
+one_unit : (before : Program) (u : UnitForm) (ps : Program) (o : Option Fault) (rest : Option Refusal) → Found before (spots u) o
     → Judged (flat_map unit_places (behind (before ++ u ∷ []) ps)) rest
     → Judged (flat_map unit_places (behind before (u ∷ ps))) (in_unit (length before + 1) o rest)
 one_unit before u ps o rest f g =
-    subst (λ (l : List (Program × Part)). Judged (flat_map unit_places l) (in_unit (length before + 1) o rest)) (sym (behind-cons before u ps))
+    subst (λ (l : List (Program × UnitForm)). Judged (flat_map unit_places l) (in_unit (length before + 1) o rest)) (sym (behind-cons before u ps))
     (subst (Judged (unit_places (before, u) ++ flat_map unit_places (behind (before ++ u ∷ []) ps))) (unit_then (length before + 1) o rest)
     (finds_both IsFaultless Tells (unit_places (before, u)) (flat_map unit_places (behind (before ++ u ∷ []) ps)) (named_as (at_unit before) o) rest
     (unit_found before u o f) g))
@@ -63,7 +63,7 @@ same_state a b c ps = λ k. first_fault (a k) (b k) (c k + 1) ps
 
 units : (before ps : Program)
     → Judged (flat_map unit_places (behind before ps)) (first_fault (known_by before) (length (registered before)) (length before + 1) ps)
-units before [] = subst (λ (l : List (Program × Part)). Judged (flat_map unit_places l) None) (sym (behind-nil before)) refl
+units before [] = subst (λ (l : List (Program × UnitForm)). Judged (flat_map unit_places l) None) (sym (behind-nil before)) refl
 units before (Register name fields ∷ ps) =
     let u = Register name fields in
     let more = before ++ u ∷ [] in
@@ -79,7 +79,7 @@ units before (AQuery q ∷ ps) =
 
 -- the first fault of a program
 judged : (p : Program) → Judged (program_places p) (first_fault [] 0 1 p)
-judged p = subst (λ (l : List (Program × Part)). Judged (flat_map unit_places l) (first_fault [] 0 1 p)) (behind-none p) (units [] p)
+judged p = subst (λ (l : List (Program × UnitForm)). Judged (flat_map unit_places l) (first_fault [] 0 1 p)) (behind-none p) (units [] p)
 
 -- ONE FAULT
 
@@ -127,12 +127,12 @@ last_limit p = record { unit = length p; fault = Limit }
 or_limit : Bool → Program → Option Refusal
 or_limit b p = if b then Some (last_limit p) else None
 
-first_is : (p : Program) (r : Refusal) → first_fault [] 0 1 p ≡ Some r → HasFirstFault p r
+first_is : (p : Program) (r : Refusal) → first_fault [] 0 1 p ≡ Some r → IsFaultOf p r
 first_is p r e =
     let s = finds_some IsFaultless Tells (program_places p) r (subst (Judged (program_places p)) e (judged p)) in
     record { before = s.before; place = s.element; behind = s.behind; places = s.parts; faultless = s.silent; faulty = s.says.faulty; unit = s.says.unit }
 
-is_first : (p : Program) (r : Refusal) → HasFirstFault p r → first_fault [] 0 1 p ≡ Some r
+is_first : (p : Program) (r : Refusal) → IsFaultOf p r → first_fault [] 0 1 p ≡ Some r
 is_first p r h =
     finds_same IsFaultless Tells silent_tells one_refusal (program_places p) (first_fault [] 0 1 p) (Some r) (judged p)
     (subst (λ l. Judged l (Some r)) (sym h.places)

@@ -16,8 +16,8 @@ use Rattle.cql_model.specs.Program.{registered, streams_of, all_uses}
 use Rattle.cql_text.specs.Tree.{Source, Query, Register, AQuery, Program}
 use Rattle.cql_model.specs.Scopes.{scope_of}
 use Rattle.cql_model.specs.Meaning.{KnownStream, named_of, rows_named, answer, query_known, stream_known, first_file, other_files, answers}
-use Rattle.cql_model.specs.Translation.{copy_name, queue_of_use, queues_of_uses, item_ops, item_last, tail_ops, query_ops, query_named, queries_ops, copy_ops, input_ops}
-use Rattle.cql_model.specs.Translation.{input_decls, output_decls, plan_of}
+use Rattle.cql_model.specs.Plan.{copy_name, queue_of_use, queues_of_uses, item_ops, item_last, tail_ops, query_ops, query_named, queries_ops, copy_ops, input_ops}
+use Rattle.cql_model.specs.Plan.{input_decls, output_decls, plan_of}
 use Rattle.cql_model.proofs.Fed.{copy_fed}
 use Rattle.cql_model.proofs.Instants.{Ascends, ascends}
 use Rattle.cql_model.proofs.Walk.{each-append, Has, Reads, Gives, copies_have, items_have, tail_has}

@@ -9,7 +9,7 @@ use Rattle.river_plan.specs.Names.{one_if, count}
 use Rattle.river_plan.proofs.NameLemmas.{cases_name, name_same, more_or_zero, one_small}
 use Rattle.cql_model.specs.Numeral.{numeral}
 use Rattle.cql_model.specs.Plannable.{has_no_at}
-use Rattle.cql_model.specs.Translation.{at_word}
+use Rattle.cql_model.specs.Plan.{at_word}
 use Rattle.cql_model.proofs.Numerals.{numeral_injective, by_steps}
 
 -- what stands before the first `@`, and what behind it

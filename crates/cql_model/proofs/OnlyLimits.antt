@@ -24,7 +24,7 @@ use Rattle.river_plan.proofs.ValidLaw.{once-names, total-labels, all-along, each
 use Rattle.river_plan.proofs.ValidLaw.{valid-no_fault}
 use Rattle.river_plan.proofs.OneFirst.{fault-one}
 use Rattle.cql_model.specs.Plannable.{KeepsRules, IsLimit, exceeds, OnlyLimits, PlansAreValid}
-use Rattle.cql_model.specs.Translation.{plan_of}
+use Rattle.cql_model.specs.Plan.{plan_of}
 use Rattle.cql_model.proofs.Valid.{plans_keep}
 
 -- A SEARCH THAT FINDS NOTHING FINDS NOTHING ELSE

@@ -13,9 +13,9 @@ use Rattle.cql_model.specs.Laws.{known_names, AreKnown}
 use Rattle.cql_model.specs.Program.{streams_of, all_uses}
 use Rattle.cql_text.specs.Tree.{Scalar, Source, Columns, Star, Chosen, Query, Register, AQuery, Program}
 use Rattle.cql_model.specs.Scopes.{Named, scope_of}
-use Rattle.cql_model.specs.Translation.{op, at_word, copy_names, copy_name, queue_of_use, queues_of_uses, w_name, x_name, window_ops, cross_ops, cross_last, select_ops}
-use Rattle.cql_model.specs.Translation.{select_last, project_ops, project_last, out_ops, out_name, tail_ops, item_ops, item_last, query_named, queries_ops}
-use Rattle.cql_model.specs.Translation.{copy_ops, input_ops}
+use Rattle.cql_model.specs.Plan.{op, at_word, copy_names, copy_name, queue_of_use, queues_of_uses, w_name, x_name, window_ops, cross_ops, cross_last, select_ops}
+use Rattle.cql_model.specs.Plan.{select_last, project_ops, project_last, out_ops, out_name, tail_ops, item_ops, item_last, query_named, queries_ops}
+use Rattle.cql_model.specs.Plan.{copy_ops, input_ops}
 use Rattle.river_plan.proofs.ValidLaw.{total-append}
 use Rattle.cql_model.proofs.Counting.{stream_op, project_from, block_ops}
 use Rattle.cql_model.proofs.Sums.{as_many}

@@ -8,11 +8,11 @@ use Rattle.river_plan.specs.Forms.{Name}
 use Rattle.river_plan.specs.Names.{count}
 use Rattle.cql_model.specs.declared.fault.Fault.{Fault}
 use Rattle.cql_model.specs.declared.fault.Fault.TheVariants.{UnknownStream, UnknownField, AmbiguousField, NameTwice, Limit}
-use Rattle.cql_model.specs.Faults.{then_fault, fault_if, field_fault, is_rows_fault}
+use Rattle.cql_model.specs.Judged.{then_fault, fault_if, field_fault, is_rows_fault}
 use Rattle.cql_model.specs.Places.{known_by, Mention, Spot, QueryName, ItemStream}
 use Rattle.cql_model.specs.Places.{FieldUse}
 use Rattle.cql_text.specs.Tree.{Source, Program}
-use Rattle.cql_model.specs.Refused.{meant, field_of, HasBadRows, HasFault, rank}
+use Rattle.cql_model.specs.Faults.{meant, field_of, HasBadRows, HasFault, rank}
 use Rattle.cql_model.specs.Scopes.{scope_of}
 use Rattle.cql_model.proofs.First.{Finds, finds_silent, finds_one}
 

@@ -9,10 +9,10 @@ use Rattle.river_plan.specs.Uses.{total, writes_it, reads_it, vars_it, named_it}
 use Rattle.river_plan.proofs.NameLemmas.{count-append}
 use Rattle.cql_model.specs.Plannable.{has_no_at, declared_names}
 use Rattle.cql_model.specs.Program.{registered, streams_of, all_uses}
-use Rattle.cql_text.specs.Tree.{Source, Query, Part, Register, AQuery, Program}
+use Rattle.cql_text.specs.Tree.{Source, Query, UnitForm, Register, AQuery, Program}
 use Rattle.cql_model.specs.Scopes.{Named, scope_of}
-use Rattle.cql_model.specs.Translation.{queue_of_use, queues_of_uses, query_ops, query_named, queries_ops, copy_ops, input_ops, query_decls, queries_decls, copy_decls}
-use Rattle.cql_model.specs.Translation.{input_copies, input_decls, output_decls, copy_names}
+use Rattle.cql_model.specs.Plan.{queue_of_use, queues_of_uses, query_ops, query_named, queries_ops, copy_ops, input_ops, query_decls, queries_decls, copy_decls}
+use Rattle.cql_model.specs.Plan.{input_copies, input_decls, output_decls, copy_names}
 use Rattle.cql_model.proofs.Naming.{split, Tag, tags, numbers, From, Of, from_nil, from_more, of_one, of_numbers, own_once}
 use Rattle.river_plan.proofs.ValidLaw.{total-append}
 use Rattle.cql_model.proofs.Counting.{among, among-append, word, query_tags, inner_tags, var_tags, label_tags, copies_are, block_writes, block_reads}
@@ -20,7 +20,7 @@ use Rattle.cql_model.proofs.Counting.{block_vars, block_labels, block_decls, que
 
 -- THE TAGS OF A PART
 
-abbrev pub part_name : Part → Name
+abbrev pub part_name : UnitForm → Name
 part_name (Register name fields) = name
 part_name (AQuery q) = q.name
 
@@ -41,35 +41,35 @@ copy_read (suc zero) = []
 copy_read (suc (suc u)) = None ∷ []
 
 -- the queues that a unit declares or writes
-abbrev pub queues_of : List Name → Part → List Tag
+abbrev pub queues_of : List Name → UnitForm → List Tag
 queues_of all (Register name fields) = (None ∷ []) ++ copy_tags (count name all)
 queues_of all (AQuery q) = query_tags (count q.name all) q
 
 -- the variables of a unit
-abbrev pub vars_of : Part → List Tag
+abbrev pub vars_of : UnitForm → List Tag
 vars_of (Register name fields) = []
 vars_of (AQuery q) = var_tags q
 
 -- the labels of a unit
-abbrev pub labels_of : List Name → Part → List Tag
+abbrev pub labels_of : List Name → UnitForm → List Tag
 labels_of all (Register name fields) = copy_label (count name all)
 labels_of all (AQuery q) = label_tags (count q.name all) q
 
 -- what is read, or given out, but for the uses of streams
-abbrev pub taken_of : List Name → Part → List Tag
+abbrev pub taken_of : List Name → UnitForm → List Tag
 taken_of all (Register name fields) = copy_read (count name all)
 taken_of all (AQuery q) = (None ∷ []) ++ inner_tags (count q.name all) q
 
 -- how often units make a name
-abbrev pub sums : (Part → List Tag) → Name → Program → ℕ
+abbrev pub sums : (UnitForm → List Tag) → Name → Program → ℕ
 sums f z [] = 0
 sums f z (p ∷ ps) = among z (part_name p) (f p) + sums f z ps
 
-abbrev pub AreOnce : (Part → List Tag) → Program → Type 0
+abbrev pub AreOnce : (UnitForm → List Tag) → Program → Type 0
 AreOnce f [] = Unit {0}
 AreOnce f (p ∷ ps) = ((t : Tag) → tags t (f p) ≤ 1) × AreOnce f ps
 
-sums_base : (f : Part → List Tag) (z : Name) (ps : Program) → AllByRecursion (λ n. IsTrue (has_no_at n)) (declared_names ps) → AreOnce f ps
+sums_base : (f : UnitForm → List Tag) (z : Name) (ps : Program) → AllByRecursion (λ n. IsTrue (has_no_at n)) (declared_names ps) → AreOnce f ps
     → sums f z ps ≤ count (split z).0 (declared_names ps)
 sums_base f z [] names once = omega arith
 sums_base f z (Register name fields ∷ ps) names once =
@@ -78,7 +78,7 @@ sums_base f z (AQuery q ∷ ps) names once = let a = own_once q.name z (f (AQuer
     sums_base f z ps names.1 once.1 in omega (arith, a, m)
 
 -- tags that are once in each unit are once in a program whose names are once
-pub sums_once : (f : Part → List Tag) (z : Name) (ps : Program) → AllByRecursion (λ n. IsTrue (has_no_at n)) (declared_names ps)
+pub sums_once : (f : UnitForm → List Tag) (z : Name) (ps : Program) → AllByRecursion (λ n. IsTrue (has_no_at n)) (declared_names ps)
     → ((n : Name) → count n (declared_names ps) ≤ 1) → AreOnce f ps → sums f z ps ≤ 1
 sums_once f z ps names single once = let a = sums_base f z ps names once in let b = single (split z).0 in omega (arith, a, b)
 

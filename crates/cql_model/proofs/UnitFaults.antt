@@ -11,8 +11,8 @@ use Rattle.river_plan.specs.Names.{count}
 use Rattle.river_plan.proofs.NameLemmas.{count-append}
 use Rattle.cql_model.specs.declared.fault.Fault.{Fault}
 use Rattle.cql_model.specs.declared.fault.Fault.TheVariants.{UnknownStream, NameTwice, Limit}
-use Rattle.cql_model.specs.Faults.{then_fault, fault_if, field_places, item_places, scalar_fault, is_rows_fault, item_fault, items_fault, chosen_fault, columns_fault}
-use Rattle.cql_model.specs.Faults.{condition_fault, query_fault, fields_fault, stream_fault}
+use Rattle.cql_model.specs.Judged.{then_fault, fault_if, field_places, item_places, scalar_fault, is_rows_fault, item_fault, items_fault, chosen_fault, columns_fault}
+use Rattle.cql_model.specs.Judged.{condition_fault, query_fault, fields_fault, stream_fault}
 use Rattle.cql_model.specs.Laws.{known_names}
 use Rattle.cql_model.specs.Places.{with_earlier, declares, known_by, Alone, OfItem, mentions}
 use Rattle.cql_model.specs.Places.{Spot, StreamName, FieldName, QueryName, ItemStream, ItemWindow, ItemName}
@@ -20,10 +20,10 @@ use Rattle.cql_model.specs.Places.{ColumnStart, FieldUse, item_spots, value_spot
 use Rattle.cql_model.specs.Plannable.{declared_names}
 use Rattle.cql_text.specs.Tree.{Scalar, Number, Field, ItemField, Neg, Not, Bin, Source, Column, Columns, Star, Chosen}
 use Rattle.cql_model.specs.Program.{registered}
-use Rattle.cql_text.specs.Tree.{Query, Register, AQuery, Part, Program}
-use Rattle.cql_model.specs.Refused.{called, meant}
+use Rattle.cql_text.specs.Tree.{Query, Register, AQuery, UnitForm, Program}
+use Rattle.cql_model.specs.Faults.{called, meant}
 use Rattle.cql_model.specs.Scopes.{Named, item_named, scope_of}
-use Rattle.cql_model.specs.Translation.{widths_of}
+use Rattle.cql_model.specs.Plan.{widths_of}
 use Rattle.cql_model.proofs.Earlier.{behind, behind-none, behind-nil, behind-cons}
 use Rattle.cql_model.proofs.First.{first_of, finds_both}
 use Rattle.cql_model.proofs.SpotFaults.{Silent, Says, Found, some_among, none_among, one_more, above, bad_rows, twice_or_many, stream_or_many, only_limit}
@@ -45,7 +45,7 @@ both before xs ys a b c e f g = subst (Found before (xs ++ ys)) e (finds_both (S
 -- WHAT IS KNOWN
 
 pub known-names : (n : Name) (ks : List Named) (ps : Program)
-    → count n (known_names (fold (λ (known : List Named) (unit : Part). declares known unit ∷ known) ks ps)) ≡ count n (known_names ks) + count n
+    → count n (known_names (fold (λ (known : List Named) (unit : UnitForm). declares known unit ∷ known) ks ps)) ≡ count n (known_names ks) + count n
     (declared_names ps)
 known-names n ks [] = omega arith
 known-names n ks (Register name fields ∷ ps) = let m = known-names n (record { name = name; fields = fields } ∷ ks) ps in omega (arith, m)
@@ -55,8 +55,8 @@ known_are : (n : Name) (before : Program) → count n (known_names (known_by bef
 known_are n before = let m = known-names n [] before in omega (arith, m)
 
 -- one unit more is known
-pub known-more : (before : Program) (u : Part) → known_by (before ++ u ∷ []) ≡ declares (known_by before) u ∷ known_by before
-known-more before u = fold-append (λ (known : List Named) (unit : Part). declares known unit ∷ known) [] before (u ∷ [])
+pub known-more : (before : Program) (u : UnitForm) → known_by (before ++ u ∷ []) ≡ declares (known_by before) u ∷ known_by before
+known-more before u = fold-append (λ (known : List Named) (unit : UnitForm). declares known unit ∷ known) [] before (u ∷ [])
 
 -- a registered stream more
 pub registered-more : (before : Program) (n : Name) (fs : List Name) → length (registered (before ++ Register n fs ∷ [])) ≡ length (registered before) + 1

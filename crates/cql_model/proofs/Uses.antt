@@ -10,7 +10,7 @@ use Rattle.river_plan.proofs.NameLemmas.{cases_name, count-append, one_same, mor
 use Rattle.cql_model.specs.Numeral.{numeral}
 use Rattle.cql_model.specs.Plannable.{has_no_at}
 use Rattle.cql_text.specs.Tree.{Query, Register, AQuery, Program}
-use Rattle.cql_model.specs.Translation.{queue_of_use, queues_of_uses}
+use Rattle.cql_model.specs.Plan.{queue_of_use, queues_of_uses}
 use Rattle.cql_model.proofs.Naming.{split, Tag, tagged, tags, class, split_tagged, own_count, own_base, starts_low, low_class}
 use Rattle.cql_model.proofs.Counting.{among, among-append, inner_tags, inner_from}
 use Rattle.cql_model.proofs.Numerals.{numeral_injective}

@@ -25,9 +25,9 @@ use Rattle.cql_model.specs.Laws.{known_names, AreKnown}
 use Rattle.cql_model.specs.Program.{registered, streams_of, all_uses}
 use Rattle.cql_text.specs.Tree.{Scalar, Source, Columns, Star, Chosen, Query, Register, AQuery, Program}
 use Rattle.cql_model.specs.Scopes.{Named, scope_of, item_named}
-use Rattle.cql_model.specs.Translation.{at_word, copy_names, queues_of_uses, window_ops, cross_ops, tail_ops, item_ops, item_last, query_ops, query_named, queries_ops}
-use Rattle.cql_model.specs.Translation.{input_ops, ops_of, w_name, decl, decls_of, widths_of, columns_width, window_decls, cross_decls, item_decls, select_decls}
-use Rattle.cql_model.specs.Translation.{project_decls, out_decls, query_decls, queries_decls, copy_decls, input_copies, input_decls, output_decls, plan_of}
+use Rattle.cql_model.specs.Plan.{at_word, copy_names, queues_of_uses, window_ops, cross_ops, tail_ops, item_ops, item_last, query_ops, query_named, queries_ops}
+use Rattle.cql_model.specs.Plan.{input_ops, ops_of, w_name, decl, decls_of, widths_of, columns_width, window_decls, cross_decls, item_decls, select_decls}
+use Rattle.cql_model.specs.Plan.{project_decls, out_decls, query_decls, queries_decls, copy_decls, input_copies, input_decls, output_decls, plan_of}
 use Rattle.river_plan.proofs.ValidLaw.{total-append}
 use Rattle.cql_model.proofs.Counting.{names-append}
 use Rattle.cql_model.proofs.Sums.{sums, sums_once, queues_of, vars_of, labels_of, taken_of, queues_once, vars_once, labels_once, taken_once, FewItems}

@@ -11,7 +11,7 @@ use Rattle.cql_text.specs.Tree.{Scalar, Number, Field, ItemField, Neg, Not, Bin,
 use Rattle.cql_model.specs.KernelWords.{oper_of}
 use Rattle.cql_model.specs.Scopes.{Named}
 use Rattle.cql_model.specs.Meaning.{Tuple, field_in, or_else, field_value, item_value, or_zero, eval, all_values}
-use Rattle.cql_model.specs.Translation.{plus, or_place, place_among, field_place, item_place, at_place, resolved, terms_of}
+use Rattle.cql_model.specs.Plan.{plus, or_place, place_among, field_place, item_place, at_place, resolved, terms_of}
 
 -- a tuple has a row for each item, as wide as the item's fields
 abbrev pub Fits : List Named → Tuple → Type 0

@@ -20,8 +20,8 @@ use Rattle.cql_model.specs.Scopes.{Named, scope_of}
 use Rattle.cql_model.specs.Streams.{windowed}
 use Rattle.cql_model.proofs.Instants.{Ascends}
 use Rattle.cql_model.specs.Meaning.{KnownStream, named_of, rows_named, Tuple, with_each, product_of, where_true, selected_row, windows_at, content, answer}
-use Rattle.cql_model.specs.Translation.{copy_names, copy_name, op, w_name, x_name, window_ops, cross_ops, cross_last, select_ops, select_last, project_ops}
-use Rattle.cql_model.specs.Translation.{project_last, out_ops, out_name, tail_ops, item_ops, item_last, resolved, terms_of, at_word}
+use Rattle.cql_model.specs.Plan.{copy_names, copy_name, op, w_name, x_name, window_ops, cross_ops, cross_last, select_ops, select_last, project_ops}
+use Rattle.cql_model.specs.Plan.{project_last, out_ops, out_name, tail_ops, item_ops, item_last, resolved, terms_of, at_word}
 use Rattle.cql_model.proofs.Contents.{rows, product_more, one_item, select_is, project_is, where_fits}
 use Rattle.cql_model.proofs.Fed.{select_fed, project_fed, copy_fed, streamer_fed, cross_fed}
 use Rattle.cql_model.proofs.Values.{Fits}

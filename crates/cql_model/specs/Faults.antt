@@ -1,150 +1,132 @@
--- Why a program is refused, reckoned unit by unit: the first fault in reading order, and the unit in which it stands.
--- That it is the first fault of the first place that has one, in the words of each fault, is a law of specs/Refused.
-use Rattle.std.specs.Prelude.{◌<◌, ◌≤◌, IsTrue, ◌≡◌, ℕ, zero, suc, ◌+◌, Bool, true, false, ◌||◌, nat_lt, nat_eq, List, [], ◌∷◌, ◌++◌, length, Option, Some}
-use Rattle.std.specs.Prelude.{None, if◌then◌else◌}
+-- Which programs are accepted, and why others are refused: the faults of a place, each in its own words, and the first of them all.
+use Rattle.std.specs.Prelude.{◌≡◌, ◌↔◌, ℕ, ℤ, ◌+◌, ◌<◌, List, [], ◌∷◌, ◌++◌, length, map, filter, flat_map, Some, None, ◌⊎◌}
 use Rattle.std.specs.List.{AllByRecursion}
 use Rattle.river_base.specs.Name.{name_eq}
 use Rattle.cql_text.specs.Tree.{Window, Now, Range, Unbounded, Latest}
 use Rattle.river_plan.specs.Forms.{Name}
 use Rattle.river_plan.specs.Names.{count}
+use Rattle.river_plan.specs.Valid.{IsPlan}
+use Rattle.brooklet_model.specs.Meaning.{meaning}
 use Rattle.cql_model.specs.declared.fault.Fault.{Fault}
 use Rattle.cql_model.specs.declared.fault.Fault.TheVariants.{UnknownStream, UnknownField, AmbiguousField, NameTwice, Limit}
 use Rattle.cql_model.specs.declared.fault.Refusal.{Refusal}
-use Rattle.cql_model.specs.Plannable.{has_no_at, declared_names, AreShallowColumns, IsShallowCondition, IsPlannable, exceeds}
-use Rattle.cql_model.specs.Laws.{known_names}
-use Rattle.cql_text.specs.Tree.{Scalar, Number, Field, ItemField, Neg, Not, Bin, Source, Column, Columns, Star, Chosen, Query, Register, AQuery, Program}
-use Rattle.cql_model.specs.Program.{all_uses}
-use Rattle.cql_model.specs.Scopes.{Named, item_named, scope_of}
-use Rattle.cql_model.specs.Translation.{widths_of, query_named, plan_of}
+use Rattle.cql_model.specs.Judged.{refusal_of, AreSpoken}
+use Rattle.cql_model.specs.Instants.{program_means, inputs_for}
+use Rattle.cql_model.specs.Laws.{AreFiles}
+use Rattle.cql_model.specs.Places.{known_by, Mention, Alone, OfItem, Spot, StreamName, FieldName, QueryName, ItemStream, ItemWindow, ItemName, ColumnStart}
+use Rattle.cql_model.specs.Places.{FieldUse, Place, program_places}
+use Rattle.cql_model.specs.Plannable.{declared_names, KeepsLimits, IsPlannable}
+use Rattle.cql_model.specs.Program.{registered}
+use Rattle.cql_text.specs.Tree.{Source, Program}
+use Rattle.cql_model.specs.Scopes.{Named, alias_or, scope_of}
+use Rattle.cql_model.specs.Plan.{widths_of, plan_of}
 
--- the first fault, or the second
-abbrev pub then_fault : Option Fault → Option Fault → Option Fault
-then_fault None o = o
-then_fault (Some f) o = Some f
+-- the name stands among these
+abbrev pub IsAmong : Name → List Name → Type 0
+IsAmong n names = 0 < count n names
 
-abbrev pub fault_if : Bool → Fault → Option Fault
-fault_if b f = if b then Some f else None
+-- an item is called by its alias, or as its stream
+abbrev pub called : Source → Name
+called i = alias_or i.alias i.stream
 
--- FIELDS
+-- the fields that are meant by one that stands alone are those of all items; by `a.f`, those of the items called a
+abbrev pub meant : List Named → Mention → List Name
+meant items (Alone f) = flat_map (λ i. i.fields) items
+meant items (OfItem a f) = flat_map (λ i. i.fields) (filter (λ i. name_eq i.name a) items)
 
--- in how many places of the scope a field may be
-abbrev pub field_places : Name → List Named → ℕ
-field_places f [] = 0
-field_places f (i ∷ is) = count f i.fields + field_places f is
+abbrev pub field_of : Mention → Name
+field_of (Alone f) = f
+field_of (OfItem a f) = f
 
-abbrev pub item_places : Name → Name → List Named → ℕ
-item_places a f [] = 0
-item_places a f (i ∷ is) = (if name_eq i.name a then count f i.fields else 0) + item_places a f is
+-- a window of no rows, or of too many
+abbrev pub HasBadRows : Window → Type 0
+HasBadRows Now = ⊥
+HasBadRows (Range n unit) = ⊥
+HasBadRows Unbounded = ⊥
+HasBadRows (Latest n) = (n ≡ 0) ⊎ (1000000 < n)
 
-abbrev pub field_fault : ℕ → Option Fault
-field_fault zero = Some UnknownField
-field_fault (suc zero) = None
-field_fault (suc (suc n)) = Some AmbiguousField
+-- the place, behind these units, has this fault, whichever others it has
+abbrev pub HasFault : Program → Spot → Fault → Type 0
+-- an item names no stream that is declared above
+HasFault before (ItemStream past i) UnknownStream = IsAmong i.stream (declared_names before) → ⊥
+-- a field is in no item that it may mean, or no item is called so
+HasFault before (FieldUse items m) UnknownField = count (field_of m) (meant (scope_of (known_by before) items) m) ≡ 0
+-- a field is found more than once in the items that it may mean
+HasFault before (FieldUse items m) AmbiguousField = 1 < count (field_of m) (meant (scope_of (known_by before) items) m)
+-- a stream or query is declared again, a stream has a field twice, two items have one name
+HasFault before (StreamName n) NameTwice = IsAmong n (declared_names before)
+HasFault before (QueryName n) NameTwice = IsAmong n (declared_names before)
+HasFault before (FieldName past f) NameTwice = IsAmong f past
+HasFault before (ItemName past i) NameTwice = IsAmong (called i) (map called past)
+-- more than 8 registered streams, 16 fields, 16 columns or 4 items; a product wider than 16; `Rows` of 0 or above 1,000,000
+HasFault before (StreamName n) Limit = 8 < length (registered before) + 1
+HasFault before (FieldName past f) Limit = 16 < length past + 1
+HasFault before (ColumnStart past) Limit = 16 < length past + 1
+HasFault before (ItemStream past i) Limit = 4 < length past + 1
+HasFault before (ItemName past i) Limit = 16 < widths_of (scope_of (known_by before) (past ++ i ∷ []))
+HasFault before (ItemWindow w) Limit = HasBadRows w
+HasFault before spot fault = ⊥
 
-abbrev pub scalar_fault : List Named → Scalar → Option Fault
-scalar_fault scope (Number n) = None
-scalar_fault scope (Field f) = field_fault (field_places f scope)
-scalar_fault scope (ItemField a f) = field_fault (item_places a f scope)
-scalar_fault scope (Neg e) = scalar_fault scope e
-scalar_fault scope (Not e) = scalar_fault scope e
-scalar_fault scope (Bin o l r) = then_fault (scalar_fault scope l) (scalar_fault scope r)
+-- the order in which the faults of one place are told
+abbrev pub rank : Fault → ℕ
+rank UnknownStream = 0
+rank UnknownField = 1
+rank AmbiguousField = 2
+rank NameTwice = 3
+rank Limit = 4
 
--- ITEMS, as they are read: unknown stream, the fifth item, `Rows`, two items of one name, a product wider than 16
+-- this fault is told of the place
+pub record IsFirstFault (place : Place) (f : Fault) : Type 0 where
+  pub has : HasFault place.before place.spot f
+  pub first : (g : Fault) → rank g < rank f → HasFault place.before place.spot g → ⊥
 
-abbrev pub is_rows_fault : Window → Bool
-is_rows_fault Now = false
-is_rows_fault (Range n unit) = false
-is_rows_fault Unbounded = false
-is_rows_fault (Latest n) = nat_eq n 0 || nat_lt 1000000 n
+-- the place has no fault
+abbrev pub IsFaultless : Place → Type 0
+IsFaultless place = (f : Fault) → HasFault place.before place.spot f → ⊥
 
-abbrev pub item_fault : List Named → List Named → Source → Option Fault
-item_fault known scope i =
-    then_fault (fault_if (nat_eq (count i.stream (known_names known)) 0) UnknownStream)
-    (then_fault (fault_if (nat_lt 3 (length scope)) Limit)
-    (then_fault (fault_if (is_rows_fault i.window) Limit)
-    (then_fault (fault_if (nat_lt 0 (count (item_named known i).name (known_names scope))) NameTwice)
-    (fault_if (nat_lt 16 (widths_of (scope ++ item_named known i ∷ []))) Limit))))
+-- the first place of a program that has a fault has this one, and stands in this unit, counted from 1
+pub record IsFaultOf (p : Program) (r : Refusal) : Type 0 where
+  pub before : List Place
+  pub place : Place
+  pub behind : List Place
+  pub places : program_places p ≡ before ++ place ∷ behind
+  pub faultless : AllByRecursion IsFaultless before
+  pub faulty : IsFirstFault place r.fault
+  pub unit : r.unit ≡ length place.before + 1
 
-abbrev pub items_fault : List Named → List Named → List Source → Option Fault
-items_fault known scope [] = None
-items_fault known scope (i ∷ is) = then_fault (item_fault known scope i) (items_fault known (scope ++ item_named known i ∷ []) is)
+-- no place has a fault, but the plan exceeds a limit of plans; this is told at the last unit
+pub record IsTooLarge (p : Program) (r : Refusal) : Type 0 where
+  pub faultless : AllByRecursion IsFaultless (program_places p)
+  pub exceeds : KeepsLimits (plan_of p) → ⊥
+  pub fault : r.fault ≡ Limit
+  pub unit : r.unit ≡ length p
 
--- QUERIES AND STREAMS
+-- why a program is refused
+abbrev pub IsRefused : Program → Refusal → Type 0
+IsRefused p r = IsFaultOf p r ⊎ IsTooLarge p r
 
-abbrev pub chosen_fault : List Named → ℕ → List Column → Option Fault
-chosen_fault scope k [] = None
-chosen_fault scope k (c ∷ cs) = then_fault (fault_if (nat_lt 15 k) Limit) (then_fault (scalar_fault scope c.value) (chosen_fault scope (k + 1) cs))
+-- the programs of the language: no place has a fault, and the plan keeps the limits of plans
+pub record IsAccepted (p : Program) : Type 0 where
+  pub faultless : AllByRecursion IsFaultless (program_places p)
+  pub within : KeepsLimits (plan_of p)
 
-abbrev pub columns_fault : List Named → Columns → Option Fault
-columns_fault scope Star = None
-columns_fault scope (Chosen cs) = chosen_fault scope 0 cs
+-- a program is refused exactly for its first fault, and not refused exactly where it is accepted
+abbrev pub RefusalsAre : Type 0
+RefusalsAre = (p : Program) (r : Refusal) → (refusal_of p ≡ Some r) ↔ IsRefused p r
 
-abbrev pub condition_fault : List Named → Option Scalar → Option Fault
-condition_fault scope None = None
-condition_fault scope (Some e) = scalar_fault scope e
+abbrev pub AcceptedAre : Type 0
+AcceptedAre = (p : Program) → (refusal_of p ≡ None) ↔ IsAccepted p
 
-abbrev pub query_fault : List Named → Query → Option Fault
-query_fault known q =
-    then_fault (fault_if (nat_lt 0 (count q.name (known_names known))) NameTwice)
-    (then_fault (items_fault known [] q.items)
-    (then_fault (columns_fault (scope_of known q.items) q.columns) (condition_fault (scope_of known q.items) q.condition)))
+-- an accepted program of the grammar has what its plan needs
+abbrev pub AcceptedPlannable : Type 0
+AcceptedPlannable = (p : Program) → AreSpoken p → IsAccepted p → IsPlannable p
 
--- fields as they are read: one that stood before, and the seventeenth
-abbrev pub fields_fault : List Name → List Name → Option Fault
-fields_fault past [] = None
-fields_fault past (f ∷ fs) =
-    then_fault (fault_if (nat_lt 0 (count f past)) NameTwice)
-    (then_fault (fault_if (nat_lt 15 (length past)) Limit) (fields_fault (past ++ f ∷ []) fs))
+-- its plan is valid
+abbrev pub AcceptedAreValid : Type 0
+AcceptedAreValid = (p : Program) → AreSpoken p → IsAccepted p → IsPlan (plan_of p)
 
-abbrev pub stream_fault : List Named → ℕ → Name → List Name → Option Fault
-stream_fault known many name fields =
-    then_fault (fault_if (nat_lt 0 (count name (known_names known))) NameTwice) (then_fault (fault_if (nat_lt 7 many) Limit) (fields_fault [] fields))
-
--- the fault of this unit, where it has one, or that of those behind it
-abbrev pub in_unit : ℕ → Option Fault → Option Refusal → Option Refusal
-in_unit unit None rest = rest
-in_unit unit (Some f) rest = Some (record { unit = unit; fault = f })
-
--- unit by unit; `many` streams are registered before
-abbrev pub first_fault : List Named → ℕ → ℕ → Program → Option Refusal
-first_fault known many unit [] = None
-first_fault known many unit (Register name fields ∷ ps) =
-    in_unit unit (stream_fault known many name fields) (first_fault (record { name = name; fields = fields } ∷ known) (many + 1) (unit + 1) ps)
-first_fault known many unit (AQuery q ∷ ps) = in_unit unit (query_fault known q) (first_fault (query_named known q ∷ known) many (unit + 1) ps)
-
-abbrev pub then_refusal : Option Refusal → Option Refusal → Option Refusal
-then_refusal None o = o
-then_refusal (Some r) o = Some r
-
--- why a program is refused: the first fault of its units; where they have none, the limits of plans, which are told at the last unit
-abbrev pub refusal_of : Program → Option Refusal
-refusal_of p = then_refusal (first_fault [] 0 1 p) (if exceeds (plan_of p) then Some (record { unit = length p; fault = Limit }) else None)
-
--- WHAT THE GRAMMAR GIVES: names without `@`, lists that are not empty, values that are not too deep
-
-abbrev pub has_columns : Columns → Bool
-has_columns Star = true
-has_columns (Chosen cs) = nat_lt 0 (length cs)
-
-pub record IsSpokenQuery (q : Query) : Type 0 where
-  pub items : 0 < length q.items
-  pub columns : has_columns q.columns ≡ true
-  pub values : AreShallowColumns q.columns
-  pub condition : IsShallowCondition q.condition
-
-abbrev pub AreSpoken : Program → Type 0
-AreSpoken [] = Unit {0}
-AreSpoken (Register name fields ∷ ps) = IsTrue (has_no_at name) × (0 < length fields) × AreSpoken ps
-AreSpoken (AQuery q ∷ ps) = IsTrue (has_no_at q.name) × IsSpokenQuery q × AreSpoken ps
-
--- the names that are declared, and those that items name, have at most 40 bytes
-abbrev pub IsShortName : Name → Type 0
-IsShortName n = length n ≤ 40
-
-pub record HaveShortNames (p : Program) : Type 0 where
-  pub names : AllByRecursion IsShortName (declared_names p)
-  pub uses : AllByRecursion IsShortName (all_uses p)
-
--- of a program without a fault a plan can be made
-abbrev pub FaultlessPlannable : Type 0
-FaultlessPlannable = (p : Program) → AreSpoken p → first_fault [] 0 1 p ≡ None → IsPlannable p
+-- and means what the program means
+abbrev pub AcceptedMean : Type 0
+AcceptedMean =
+    (p : Program) (files : List (List (ℤ × List ℤ))) → AreSpoken p → IsAccepted p → AreFiles p files
+    → meaning (plan_of p) (inputs_for files) ≡ record { outs = program_means p files; tables = [] }

@@ -11,7 +11,7 @@ use Rattle.cql_model.specs.Laws.{AreFiles}
 use Rattle.cql_model.specs.Meaning.{answers}
 use Rattle.cql_text.specs.Tree.{Program}
 use Rattle.cql_model.specs.Streams.{Rises}
-use Rattle.cql_model.specs.Translation.{plan_of}
+use Rattle.cql_model.specs.Plan.{plan_of}
 
 -- a file has a row with this timestamp
 abbrev pub IsStamped : List (List (ℤ × List ℤ)) → ℤ → Type 0

@@ -10,7 +10,7 @@ use Rattle.cql_text.specs.Tree.{Query, Register, AQuery, Program}
 use Rattle.cql_model.specs.Scopes.{Named}
 use Rattle.cql_model.specs.Streams.{Rises}
 use Rattle.cql_model.specs.Meaning.{answers}
-use Rattle.cql_model.specs.Translation.{query_named, plan_of}
+use Rattle.cql_model.specs.Plan.{query_named, plan_of}
 
 -- what the front makes sure of, as far as the meaning of the plan needs it: a query has an item, each item names a stream that is
 -- known, and no query has the name of a registered stream

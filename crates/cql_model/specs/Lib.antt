@@ -2,15 +2,15 @@ pub mod Faults
 pub mod Fit
 pub mod InTurn
 pub mod Instants
+pub mod Judged
 pub mod KernelWords
 pub mod Kernels
 pub mod Laws
 pub mod Meaning
 pub mod Numeral
 pub mod Places
+pub mod Plan
 pub mod Plannable
 pub mod Program
-pub mod Refused
 pub mod Scopes
 pub mod Streams
-pub mod Translation

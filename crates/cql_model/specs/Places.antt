@@ -1,9 +1,9 @@
 -- The places of a program at which faults are told, in the order of reading, each with the text before it.
 use Rattle.std.specs.Prelude.{List, [], ◌∷◌, ◌++◌, map, flat_map, fold, Option, Some, None}
 use Rattle.river_plan.specs.Forms.{Name}
-use Rattle.cql_text.specs.Tree.{Scalar, Number, Field, ItemField, Neg, Not, Bin, Window, Source, Column, Columns, Star, Chosen, Register, AQuery, Part, Program}
+use Rattle.cql_text.specs.Tree.{Scalar, Number, Field, ItemField, Neg, Not, Bin, Window, Source, Column, Columns, Star, Chosen, Register, AQuery, UnitForm, Program}
 use Rattle.cql_model.specs.Scopes.{Named}
-use Rattle.cql_model.specs.Translation.{query_named}
+use Rattle.cql_model.specs.Plan.{query_named}
 
 -- the elements of a list, each with those before it
 abbrev pub with_earlier : {A : Type 0} → List A → List (List A × A)
@@ -11,7 +11,7 @@ with_earlier [] = []
 with_earlier (x ∷ xs) = ([], x) ∷ map (λ e. (x ∷ e.0, e.1)) (with_earlier xs)
 
 -- the stream or query that a unit declares, with its fields
-abbrev pub declares : List Named → Part → Named
+abbrev pub declares : List Named → UnitForm → Named
 declares known (Register name fields) = record { name = name; fields = fields }
 declares known (AQuery q) = query_named known q
 
@@ -68,17 +68,17 @@ condition_spots items None = []
 condition_spots items (Some e) = value_spots items e
 
 -- of a query the items come first, although they are written behind the columns; then the columns, then the condition
-abbrev pub spots : Part → List Spot
+abbrev pub spots : UnitForm → List Spot
 spots (Register name fields) = StreamName name ∷ map (λ e. FieldName e.0 e.1) (with_earlier fields)
 spots (AQuery q) = QueryName q.name ∷ (flat_map item_spots (with_earlier q.items) ++ (columns_spots q.items q.columns ++ condition_spots q.items q.condition))
 
 -- a place: the units before its unit, the unit, and what of it is read there
 pub record Place : Type 0 where
   pub before : Program
-  pub unit : Part
+  pub unit : UnitForm
   pub spot : Spot
 
-abbrev pub unit_places : Program × Part → List Place
+abbrev pub unit_places : Program × UnitForm → List Place
 unit_places e = map (λ spot. record { before = e.0; unit = e.1; spot = spot }) (spots e.1)
 
 -- all places of a program

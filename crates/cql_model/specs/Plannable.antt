@@ -18,7 +18,7 @@ use Rattle.river_plan.specs.declared.fault.PlanFault.TheVariants.{P1, P2, P3, P4
 use Rattle.river_plan.specs.Faults.{IsOuter, HasWidth, IsTableKind}
 use Rattle.river_plan.specs.Kinds.{IsFit}
 use Rattle.river_plan.specs.Uses.{Each, total, writes_it, reads_it, vars_it, named_it, ReadsBefore}
-use Rattle.cql_model.specs.Translation.{widths_of, columns_width, query_named, plan_of}
+use Rattle.cql_model.specs.Plan.{widths_of, columns_width, query_named, plan_of}
 
 -- a name of a stream is a word of letters, digits and `_`; so it has no `@`
 abbrev pub has_no_at : Name → Bool

@@ -1,10 +1,10 @@
 //! Laws over the definitions alone.
 ghost use Rattle.cql_model.specs.Plannable.{PlansAreValid, PlansKeep, OnlyLimits};
-ghost use Rattle.cql_model.specs.Faults.{FaultlessPlannable};
+ghost use Rattle.cql_model.specs.Judged.{FaultlessPlannable};
 ghost use Rattle.cql_model.specs.Fit.{FilesFit};
 ghost use Rattle.cql_model.specs.Instants.{InstantsAre, MeansAtInstants, PlansMean};
 ghost use Rattle.cql_model.specs.InTurn.{PlansInTurn};
-ghost use Rattle.cql_model.specs.Refused.{RefusalsAre, AcceptedAre, AcceptedPlannable, AcceptedAreValid, AcceptedMean};
+ghost use Rattle.cql_model.specs.Faults.{RefusalsAre, AcceptedAre, AcceptedPlannable, AcceptedAreValid, AcceptedMean};
 ghost use Rattle.cql_model.specs.Kernels.{WindowsAre, SelectsAre, ProjectsAre, StreamersAre, CrossesAre};
 
 /// Fed with batches, the kernels on bags give one after another what CQL's operators give: the window's content after each batch,

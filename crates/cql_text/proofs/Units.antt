@@ -10,14 +10,14 @@ use Rattle.text_forms.proofs.Choices.{exact-never, exact-choose, exact-headed, e
 use Rattle.text_forms.proofs.Exact.{Exact, Any, exact-less, exact-name, exact-number, exact-nothing, exact-both, exact-after, exact-before, exact-tested}
 use Rattle.text_forms.proofs.Exact.{exact-maybe, exact-seen, exact-merged}
 use Rattle.text_forms.proofs.Many.{exact-commas}
-use Rattle.cql_text.specs.Tree.{Name, Scalar, Window, Now, Unbounded, Latest, Column, Columns, Star, Chosen, Part}
+use Rattle.cql_text.specs.Tree.{Name, Scalar, Window, Now, Unbounded, Latest, Column, Columns, Star, Chosen, UnitForm}
 use Rattle.text_forms.specs.Levels as levels
 use Rattle.cql_text.specs.Grammar.{kind_named, IsKind, time_named, made_span, IsSpan, IsRange, IsRows, IsWindow, IsAlias, InBrackets, made_source, IsSource}
 use Rattle.cql_text.specs.Grammar.{made_column, IsColumn, IsColumns, InRound, IsWhere, IsBehindColumns, IsSelected, made_query, IsQueryUnit, Fields, made_stream, IsStreamUnit}
-use Rattle.cql_text.specs.Grammar.{IsPart, IsPartAt}
+use Rattle.cql_text.specs.Grammar.{IsUnit, IsUnitAt}
 use Rattle.cql_text.specs.Reading.{kind_at, is_time, is_time_at, time_at, span_at, range_at, rows_at, window_after, window_at, in_brackets_at, alias_at}
 use Rattle.cql_text.specs.Reading.{is_alias_at, called_at, source_at, sources_at, as_at, column_at, chosen_at, columns_at, in_round_at, where_at, behind_at}
-use Rattle.cql_text.specs.Reading.{selected_at, query_at, names_at, fields_at, stream_at, part_at}
+use Rattle.cql_text.specs.Reading.{selected_at, query_at, names_at, fields_at, stream_at, unit_at}
 use Rattle.cql_text.specs.Values.{word_op, of_rank, IsLeaf, Spells, IsScalar}
 use Rattle.cql_text.specs.Values as rule
 use Rattle.cql_text.specs.Words.{is_keyword, is_keyword_at, is_plain, Plain, Keyword}
@@ -251,16 +251,16 @@ unfolding stream_at
 exact-stream =
     exact-keyword (codes "register") (exact-keyword (codes "stream") (exact-seen made_stream (exact-both exact-plain exact-fields (λ y ts rest h d. tt))))
 
-query-begins : (v : Part) (ts rest : List Tok) → IsQueryUnit v ts → is_keyword_at (codes "register") (ts ++ rest) ≡ false
+query-begins : (v : UnitForm) (ts rest : List Tok) → IsQueryUnit v ts → is_keyword_at (codes "register") (ts ++ rest) ≡ false
 query-begins v ts rest h = rw h.is (other_word (codes "query") (codes "register") h.spelled h.same refl)
 
 -- a unit is read exactly
-pub exact-part : Exact IsPart part_at Any
-unfolding part_at
+pub exact-part : Exact IsUnit unit_at Any
+unfolding unit_at
 exact-part =
     exact-less (exact-merged (is_keyword_at (codes "register")) exact-stream exact-query
     (λ v ts rest h d. keyword-at _ (codes "register") v ts rest h) (λ v ts rest h d. query-begins v ts rest h)) (λ rest d. (tt, tt))
 
 -- units are read exactly, wherever they stand
-pub exact-part_from : (u : Unit {0}) → Exact (IsPartAt u) part_at Any
+pub exact-part_from : (u : Unit {0}) → Exact (IsUnitAt u) unit_at Any
 exact-part_from u = exact-part

@@ -5,18 +5,18 @@ use Rattle.work_text.specs.Tok.{Tok, Mark, toks}
 use Rattle.text_forms.specs.Texts.{IsFirstBad}
 use Rattle.text_forms.specs.declared.unit_fault.UnitFault.{UnitFault}
 use Rattle.text_forms.specs.declared.unit_fault.UnitFault.TheVariants.{Syntax, NoMemory}
-use Rattle.cql_text.specs.Grammar.{AreParts, IsPartAt, next_part}
-use Rattle.cql_text.specs.Tree.{Part}
+use Rattle.cql_text.specs.Grammar.{AreUnits, IsUnitAt, next_unit}
+use Rattle.cql_text.specs.Tree.{UnitForm}
 
 -- the units of the tokens stand for the parts of a program
-abbrev pub StandFor : List Mark → List Part → Type 0
-StandFor marks p = AreParts p (units_of (toks marks))
+abbrev pub StandFor : List Mark → List UnitForm → Type 0
+StandFor marks p = AreUnits p (units_of (toks marks))
 
 -- the unit with this number, from 1, is the first that is not in the grammar
 abbrev pub IsBadUnit : List (List Tok) → ℕ → Type 0
-IsBadUnit units n = IsFirstBad IsPartAt next_part tt units n
+IsBadUnit units n = IsFirstBad IsUnitAt next_unit tt units n
 
 -- the unit is the first that is not in the grammar, and the tokens stand for no program
 abbrev pub Refuses : List Mark → UnitFault → Type 0
-Refuses marks (Syntax unit) = IsBadUnit (units_of (toks marks)) unit × ((p : List Part) → StandFor marks p → ⊥)
+Refuses marks (Syntax unit) = IsBadUnit (units_of (toks marks)) unit × ((p : List UnitForm) → StandFor marks p → ⊥)
 Refuses marks NoMemory = Unit {0}

@@ -17,7 +17,7 @@ use Rattle.work_text.specs.declared.sign.Symbol.TheVariants as s
 use Rattle.text_forms.specs.Forms as form
 use Rattle.text_forms.specs.Parse.{is_value, is_count}
 use Rattle.text_forms.specs.Texts.{AllFormed}
-use Rattle.cql_text.specs.Tree.{Name, Scalar, Window, Now, Range, Unbounded, Latest, Source, Column, Columns, Star, Chosen, Part, Register, AQuery}
+use Rattle.cql_text.specs.Tree.{Name, Scalar, Window, Now, Range, Unbounded, Latest, Source, Column, Columns, Star, Chosen, UnitForm, Register, AQuery}
 use Rattle.cql_text.specs.Values.{IsScalar}
 use Rattle.cql_text.specs.Words.{is_keyword, Keyword, Plain}
 use Rattle.cql_text.specs.declared.tree.Kind.{Kind}
@@ -114,37 +114,37 @@ Selected = Kind × (Columns × Behind)
 abbrev pub IsSelected : Selected → List Tok → Type 0
 IsSelected = form.Both IsKind (form.Both InRound (Keyword (codes "from") IsBehindColumns))
 
-abbrev pub made_query : Name × Selected → Part
+abbrev pub made_query : Name × Selected → UnitForm
 made_query v = AQuery (record { name = v.0; kind = v.1.0; columns = v.1.1.0; items = v.1.1.1.0; condition = v.1.1.1.1 })
 
-abbrev pub IsQueryUnit : Part → List Tok → Type 0
+abbrev pub IsQueryUnit : UnitForm → List Tok → Type 0
 IsQueryUnit = Keyword (codes "query") (form.Seen made_query (form.Both Plain (form.After (s.Colon ∷ []) (Keyword (codes "select") IsSelected))))
 
 abbrev pub Fields : List Name → List Tok → Type 0
 Fields = form.After (s.Open ∷ []) (form.Before (form.Commas Plain) (s.Close ∷ s.Semicolon ∷ []))
 
-abbrev pub made_stream : Name × List Name → Part
+abbrev pub made_stream : Name × List Name → UnitForm
 made_stream v = Register v.0 v.1
 
-abbrev pub IsStreamUnit : Part → List Tok → Type 0
+abbrev pub IsStreamUnit : UnitForm → List Tok → Type 0
 IsStreamUnit = Keyword (codes "register") (Keyword (codes "stream") (form.Seen made_stream (form.Both Plain Fields)))
 
-abbrev pub IsPart : Part → List Tok → Type 0
-IsPart = form.Merged IsStreamUnit IsQueryUnit
+abbrev pub IsUnit : UnitForm → List Tok → Type 0
+IsUnit = form.Merged IsStreamUnit IsQueryUnit
 
 -- no unit depends on those before it
-abbrev pub IsPartAt : Unit {0} → Part → List Tok → Type 0
-IsPartAt u = IsPart
+abbrev pub IsUnitAt : Unit {0} → UnitForm → List Tok → Type 0
+IsUnitAt u = IsUnit
 
-abbrev pub next_part : Unit {0} → Part → Unit {0}
-next_part u p = tt
+abbrev pub next_unit : Unit {0} → UnitForm → Unit {0}
+next_unit u p = tt
 
 -- each unit stands for its part
-abbrev pub AreParts : List Part → List (List Tok) → Type 0
-AreParts p units = AllFormed IsPartAt next_part tt p units
+abbrev pub AreUnits : List UnitForm → List (List Tok) → Type 0
+AreUnits p units = AllFormed IsUnitAt next_unit tt p units
 
 -- the text stands for the program: it has tokens, and their units stand for the parts
-pub record IsText (text : List ℕ) (p : List Part) : Type 0 where
+pub record IsText (text : List ℕ) (p : List UnitForm) : Type 0 where
   pub marks : List Mark
   pub lexed : tokens_in text ≡ Ok marks
-  pub formed : AreParts p (units_of (toks marks))
+  pub formed : AreUnits p (units_of (toks marks))

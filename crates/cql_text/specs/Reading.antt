@@ -5,7 +5,7 @@ use Rattle.work_text.specs.declared.sign.Symbol.TheVariants as s
 use Rattle.text_forms.specs.Parse.{Parse, begins_with, both, after, before, seen, known, merged, maybe, headed, commas, nothing_at, name_at, count_at}
 use Rattle.text_forms.specs.AllUnits.{all_units}
 use Rattle.cql_text.specs.Grammar.{kind_named, time_named, made_span, made_source, made_column, Behind, Selected, made_query, made_stream}
-use Rattle.cql_text.specs.Tree.{Name, Scalar, Window, Now, Unbounded, Latest, Source, Column, Columns, Star, Chosen, Part}
+use Rattle.cql_text.specs.Tree.{Name, Scalar, Window, Now, Unbounded, Latest, Source, Column, Columns, Star, Chosen, UnitForm}
 use Rattle.cql_text.specs.ValueReading.{numeral_at, scalar_at}
 use Rattle.cql_text.specs.Words.{is_keyword, is_keyword_at, is_plain, keyword, plain_at}
 use Rattle.cql_text.specs.declared.tree.Kind.{Kind}
@@ -101,7 +101,7 @@ behind_at ts = both sources_at (before where_at (s.Semicolon ∷ [])) ts
 unfoldable pub selected_at : Parse Selected
 selected_at ts = both kind_at (both in_round_at (keyword (codes "from") behind_at)) ts
 
-unfoldable pub query_at : Parse Part
+unfoldable pub query_at : Parse UnitForm
 query_at ts = keyword (codes "query") (seen made_query (both plain_at (after (s.Colon ∷ []) (keyword (codes "select") selected_at)))) ts
 
 unfoldable pub names_at : Parse (List Name)
@@ -110,12 +110,12 @@ names_at ts = commas plain_at ts
 unfoldable pub fields_at : Parse (List Name)
 fields_at ts = after (s.Open ∷ []) (before names_at (s.Close ∷ s.Semicolon ∷ [])) ts
 
-unfoldable pub stream_at : Parse Part
+unfoldable pub stream_at : Parse UnitForm
 stream_at ts = keyword (codes "register") (keyword (codes "stream") (seen made_stream (both plain_at fields_at))) ts
 
-unfoldable pub part_at : Parse Part
-part_at ts = merged (is_keyword_at (codes "register")) stream_at query_at ts
+unfoldable pub unit_at : Parse UnitForm
+unit_at ts = merged (is_keyword_at (codes "register")) stream_at query_at ts
 
 -- the units of a text
-abbrev pub parts_in : List (List Tok) → Result (List Part) ℕ
-parts_in units = all_units part_at units
+abbrev pub units_in : List (List Tok) → Result (List UnitForm) ℕ
+units_in units = all_units unit_at units

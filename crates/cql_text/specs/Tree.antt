@@ -15,8 +15,8 @@ use Rattle.cql_text.specs.declared.tree.Column as code_column
 use Rattle.cql_text.specs.declared.tree.Columns as code_columns
 use Rattle.cql_text.specs.declared.tree.Columns.TheVariants as columns
 use Rattle.cql_text.specs.declared.tree.Query as code_query
-use Rattle.cql_text.specs.declared.tree.Part as code_part
-use Rattle.cql_text.specs.declared.tree.Part.TheVariants as part
+use Rattle.cql_text.specs.declared.tree.Unit as code_part
+use Rattle.cql_text.specs.declared.tree.Unit.TheVariants as part
 use Rattle.cql_text.specs.declared.tree.CqlProgram as code
 
 abbrev pub Name : Type 0
@@ -67,16 +67,16 @@ pub record Query : Type 0 where
   pub items : List Source
   pub condition : Option Scalar
 
-pub data Part : Type 0 where
-  Register : Name → List Name → Part
-  AQuery : Query → Part
+pub data UnitForm : Type 0 where
+  Register : Name → List Name → UnitForm
+  AQuery : Query → UnitForm
 
 abbrev pub Program : Type 0
-Program = List Part
+Program = List UnitForm
 
 -- WHAT THE CODE'S VALUES STAND FOR
 
--- one layer of a value, whose parts are trees already
+-- one layer of a value, whose units are trees already
 abbrev pub scalar_layer : Scalar-F Scalar → Scalar
 scalar_layer (layer.Number n) = Number n.value
 scalar_layer (layer.Field f) = Field f
@@ -118,12 +118,12 @@ condition_of (Some e) = Some (scalar e)
 abbrev pub query_of : code_query.Query → Query
 query_of q = record { name = q.name; kind = q.kind; columns = columns_of q.columns; items = sources_of q.items.items; condition = condition_of q.condition }
 
-abbrev pub part_of : code_part.Part → Part
-part_of (part.Register s) = Register s.name s.fields.items
-part_of (part.Query q) = AQuery (query_of q)
+abbrev pub unit_form : code_part.Unit → UnitForm
+unit_form (part.Register s) = Register s.name s.fields.items
+unit_form (part.Query q) = AQuery (query_of q)
 
-abbrev pub parts_of : List code_part.Part → Program
-parts_of ps = map part_of ps
+abbrev pub unit_forms : List code_part.Unit → Program
+unit_forms ps = map unit_form ps
 
 abbrev pub program_of : code.CqlProgram → Program
-program_of p = parts_of p.parts.items
+program_of p = unit_forms p.units.items

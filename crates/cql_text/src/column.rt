@@ -9,12 +9,12 @@ use crate::value::value;
 use crate::{Column, Columns};
 use river_base::Name;
 use std::alloc::Global;
-use text_forms::{Fault, Reader};
+use text_forms::{ParseFault, Reader};
 use work_text::Symbol;
 
 // `As` and a name, or nothing.
 #[tactic(auto, unfolding(crate::specs::Reading::as_at))]
-fn as_name(reader: &mut Reader<'_>) -> Result<Option<Name>, Fault>
+fn as_name(reader: &mut Reader<'_>) -> Result<Option<Name>, ParseFault>
     ensures { Gives (λ name. name) result reader.new (as_at reader.old) }
 {
     if !takes_keyword(reader, b"as") {
@@ -25,7 +25,7 @@ fn as_name(reader: &mut Reader<'_>) -> Result<Option<Name>, Fault>
 
 // A column; one bracket is open already.
 #[tactic(auto, unfolding(crate::specs::Reading::column_at))]
-fn column(reader: &mut Reader<'_>, alloc: Global) -> Result<Column, Fault>
+fn column(reader: &mut Reader<'_>, alloc: Global) -> Result<Column, ParseFault>
     ensures { Gives column_of result reader.new (column_at reader.old) }
 {
     let value = value(reader, alloc, 127)?;
@@ -35,7 +35,7 @@ fn column(reader: &mut Reader<'_>, alloc: Global) -> Result<Column, Fault>
 
 // Columns, at least one.
 #[tactic(auto, unfolding(crate::specs::Reading::chosen_at), using(crate::proofs::Lists::columns))]
-fn chosen(reader: &mut Reader<'_>, alloc: Global) -> Result<Vec<Column>, Fault>
+fn chosen(reader: &mut Reader<'_>, alloc: Global) -> Result<Vec<Column>, ParseFault>
     ensures { Gives (λ list. map column_of list.items) result reader.new (chosen_at reader.old) }
 {
     let mut list = Vec::new(alloc);
@@ -48,7 +48,7 @@ fn chosen(reader: &mut Reader<'_>, alloc: Global) -> Result<Vec<Column>, Fault>
 
 // `*`, or columns.
 #[tactic(auto, unfolding(crate::specs::Reading::columns_at))]
-fn columns(reader: &mut Reader<'_>, alloc: Global) -> Result<Columns, Fault>
+fn columns(reader: &mut Reader<'_>, alloc: Global) -> Result<Columns, ParseFault>
     ensures { Gives columns_of result reader.new (columns_at reader.old) }
 {
     if reader.takes(Symbol::Star) {
@@ -60,7 +60,7 @@ fn columns(reader: &mut Reader<'_>, alloc: Global) -> Result<Columns, Fault>
 
 /// What a query selects, in its brackets.
 #[tactic(auto, unfolding(crate::specs::Reading::in_round_at))]
-pub fn in_round(reader: &mut Reader<'_>, alloc: Global) -> Result<Columns, Fault>
+pub fn in_round(reader: &mut Reader<'_>, alloc: Global) -> Result<Columns, ParseFault>
     ensures { Gives columns_of result reader.new (in_round_at reader.old) }
 {
     reader.expect(&[Symbol::Open])?;

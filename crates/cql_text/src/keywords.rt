@@ -8,7 +8,7 @@ ghost use Rattle.cql_text.specs.Reading.{is_alias_at};
 ghost use Rattle.cql_text.specs.Words.{is_keyword, is_keyword_at, keyword_at, is_plain, plain_at};
 
 use river_base::Name;
-use text_forms::{Fault, Reader, is_free};
+use text_forms::{ParseFault, Reader, is_free};
 use work_text::Token;
 
 const WORDS: &[&[u8]] = &[
@@ -63,13 +63,13 @@ pub fn takes_keyword(reader: &mut Reader<'_>, word: &[u8]) -> bool
 }
 
 /// Passes over this word, which has to come next.
-pub fn keyword(reader: &mut Reader<'_>, word: &[u8]) -> Result<(), Fault>
+pub fn keyword(reader: &mut Reader<'_>, word: &[u8]) -> Result<(), ParseFault>
     ensures { PassesOver result reader.new (keyword_at word.now reader.old) }
 {
     if takes_keyword(reader, word) {
         Ok(())
     } else {
-        Err(Fault::Syntax)
+        Err(ParseFault::Syntax)
     }
 }
 
@@ -99,13 +99,13 @@ pub fn plain(text: &[u8]) -> Option<Name>
 
 /// The name that has to come next, which is one that users may give.
 #[tactic(auto, unfolding(crate::specs::Words::plain_at))]
-pub fn plain_name(reader: &mut Reader<'_>) -> Result<Name, Fault>
+pub fn plain_name(reader: &mut Reader<'_>) -> Result<Name, ParseFault>
     ensures { Gives (λ name. name) result reader.new (plain_at reader.old) }
 {
     let text = reader.name()?;
     match plain(text) {
         Some(name) => Ok(name),
-        None => Err(Fault::Syntax),
+        None => Err(ParseFault::Syntax),
     }
 }
 

@@ -6,7 +6,7 @@ ghost use Rattle.cql_text.specs.Faults.{StandFor, Refuses};
 ghost use Rattle.cql_text.specs.Tree.{program_of};
 
 use crate::CqlProgram;
-use crate::unit::Cql;
+use crate::unit::CqlGrammar;
 use std::alloc::Global;
 use text_forms::{UnitFault, read_text};
 use work_text::Tokens;
@@ -23,6 +23,6 @@ pub fn read_cql(alloc: Global, tokens: &Tokens<'_>) -> Result<CqlProgram, UnitFa
     ensures read { IfOk result (λ program. StandFor tokens.now (program_of program)) }
     ensures refused { IfErr result (Refuses tokens.now) }
 {
-    let parts = read_text(&Cql, alloc, tokens)?;
-    Ok(CqlProgram { parts })
+    let units = read_text(&CqlGrammar, alloc, tokens)?;
+    Ok(CqlProgram { units })
 }

@@ -7,12 +7,12 @@ use river_base::Name;
 /// A program: its units, in order.
 #[derive(Drop)]
 pub struct CqlProgram {
-    pub parts: Vec<Part>,
+    pub units: Vec<Unit>,
 }
 
 /// A unit of a program.
 #[derive(Drop)]
-pub enum Part {
+pub enum Unit {
     /// `Register Stream NAME (NAME, ..);`
     Register(Stream),
     /// `Query NAME : Select kind (cols) From item, .. [Where cor];`

@@ -2,18 +2,18 @@
 ghost use Rattle.std.specs.Prelude.{◌≡◌};
 ghost use Rattle.text_forms.specs.Gives.{Gives};
 ghost use Rattle.cql_text.specs.Grammar.{kind_named};
-ghost use Rattle.cql_text.specs.Reading.{kind_at, where_at, behind_at, selected_at, query_at, names_at, fields_at, stream_at, part_at};
-ghost use Rattle.cql_text.specs.Tree.{condition_of, part_of};
+ghost use Rattle.cql_text.specs.Reading.{kind_at, where_at, behind_at, selected_at, query_at, names_at, fields_at, stream_at, unit_at};
+ghost use Rattle.cql_text.specs.Tree.{condition_of, unit_form};
 ghost use Rattle.cql_text.specs.View.{behind_of, selected_of, query_unit, stream_unit};
 
 use crate::column::in_round;
 use crate::keywords::{is_at_keyword, is_keyword, keyword, plain_name, takes_keyword};
 use crate::value::value;
 use crate::window::sources;
-use crate::{Columns, Kind, Part, Query, Scalar, Source, Stream};
+use crate::{Columns, Kind, Unit, Query, Scalar, Source, Stream};
 use river_base::Name;
 use std::alloc::Global;
-use text_forms::{Fault, Reader, Units};
+use text_forms::{ParseFault, Reader, Units};
 use work_text::Symbol;
 
 // The kind of this word.
@@ -33,19 +33,19 @@ fn kind_of(text: &[u8]) -> Option<Kind>
 
 // The kind of a query.
 #[tactic(auto, unfolding(crate::specs::Reading::kind_at))]
-fn kind(reader: &mut Reader<'_>) -> Result<Kind, Fault>
+fn kind(reader: &mut Reader<'_>) -> Result<Kind, ParseFault>
     ensures { Gives (λ kind. kind) result reader.new (kind_at reader.old) }
 {
     let text = reader.name()?;
     match kind_of(text) {
         Some(kind) => Ok(kind),
-        None => Err(Fault::Syntax),
+        None => Err(ParseFault::Syntax),
     }
 }
 
 // `Where` and a condition, or nothing.
 #[tactic(auto, unfolding(crate::specs::Reading::where_at))]
-fn condition(reader: &mut Reader<'_>, alloc: Global) -> Result<Option<Scalar>, Fault>
+fn condition(reader: &mut Reader<'_>, alloc: Global) -> Result<Option<Scalar>, ParseFault>
     ensures { Gives condition_of result reader.new (where_at reader.old) }
 {
     if !takes_keyword(reader, b"where") {
@@ -62,7 +62,7 @@ struct Behind {
 }
 
 #[tactic(auto, unfolding(crate::specs::Reading::behind_at))]
-fn after_from(reader: &mut Reader<'_>, alloc: Global) -> Result<Behind, Fault>
+fn after_from(reader: &mut Reader<'_>, alloc: Global) -> Result<Behind, ParseFault>
     ensures { Gives behind_of result reader.new (behind_at reader.old) }
 {
     let items = sources(reader, alloc)?;
@@ -80,7 +80,7 @@ struct Selected {
 }
 
 #[tactic(auto, unfolding(crate::specs::Reading::selected_at))]
-fn after_select(reader: &mut Reader<'_>, alloc: Global) -> Result<Selected, Fault>
+fn after_select(reader: &mut Reader<'_>, alloc: Global) -> Result<Selected, ParseFault>
     ensures { Gives selected_of result reader.new (selected_at reader.old) }
 {
     let kind = kind(reader)?;
@@ -96,7 +96,7 @@ fn after_select(reader: &mut Reader<'_>, alloc: Global) -> Result<Selected, Faul
 
 // A query.
 #[tactic(auto, unfolding(crate::specs::Reading::query_at))]
-fn query(reader: &mut Reader<'_>, alloc: Global) -> Result<Query, Fault>
+fn query(reader: &mut Reader<'_>, alloc: Global) -> Result<Query, ParseFault>
     ensures { Gives query_unit result reader.new (query_at reader.old) }
 {
     keyword(reader, b"query")?;
@@ -115,7 +115,7 @@ fn query(reader: &mut Reader<'_>, alloc: Global) -> Result<Query, Fault>
 
 // Names, at least one.
 #[tactic(auto, unfolding(crate::specs::Reading::names_at), using(crate::proofs::Lists::names))]
-fn names(reader: &mut Reader<'_>, alloc: Global) -> Result<Vec<Name>, Fault>
+fn names(reader: &mut Reader<'_>, alloc: Global) -> Result<Vec<Name>, ParseFault>
     ensures { Gives (λ list. list.items) result reader.new (names_at reader.old) }
 {
     let mut list = Vec::new(alloc);
@@ -128,7 +128,7 @@ fn names(reader: &mut Reader<'_>, alloc: Global) -> Result<Vec<Name>, Fault>
 
 // The fields of a stream, up to the end of the unit.
 #[tactic(auto, unfolding(crate::specs::Reading::fields_at))]
-fn fields(reader: &mut Reader<'_>, alloc: Global) -> Result<Vec<Name>, Fault>
+fn fields(reader: &mut Reader<'_>, alloc: Global) -> Result<Vec<Name>, ParseFault>
     ensures { Gives (λ list. list.items) result reader.new (fields_at reader.old) }
 {
     reader.expect(&[Symbol::Open])?;
@@ -139,7 +139,7 @@ fn fields(reader: &mut Reader<'_>, alloc: Global) -> Result<Vec<Name>, Fault>
 
 // A stream that is registered.
 #[tactic(auto, unfolding(crate::specs::Reading::stream_at))]
-fn stream(reader: &mut Reader<'_>, alloc: Global) -> Result<Stream, Fault>
+fn stream(reader: &mut Reader<'_>, alloc: Global) -> Result<Stream, ParseFault>
     ensures { Gives stream_unit result reader.new (stream_at reader.old) }
 {
     keyword(reader, b"register")?;
@@ -150,33 +150,33 @@ fn stream(reader: &mut Reader<'_>, alloc: Global) -> Result<Stream, Fault>
 }
 
 // A unit.
-#[tactic(auto, unfolding(crate::specs::Reading::part_at))]
-fn part(reader: &mut Reader<'_>, alloc: Global) -> Result<Part, Fault>
-    ensures { Gives part_of result reader.new (part_at reader.old) }
+#[tactic(auto, unfolding(crate::specs::Reading::unit_at))]
+fn unit(reader: &mut Reader<'_>, alloc: Global) -> Result<Unit, ParseFault>
+    ensures { Gives unit_form result reader.new (unit_at reader.old) }
 {
     if is_at_keyword(reader, b"register") {
-        Ok(Part::Register(stream(reader, alloc)?))
+        Ok(Unit::Register(stream(reader, alloc)?))
     } else {
-        Ok(Part::Query(query(reader, alloc)?))
+        Ok(Unit::Query(query(reader, alloc)?))
     }
 }
 
 /// CQL, for the reader that reads the units of any language.
-pub struct Cql;
+pub struct CqlGrammar;
 
-impl Units for Cql {
-    ghost use Rattle.cql_text.specs.Reading.{part_at};
-    ghost use Rattle.cql_text.specs.Tree.{Part, part_of};
+impl Units for CqlGrammar {
+    ghost use Rattle.cql_text.specs.Reading.{unit_at};
+    ghost use Rattle.cql_text.specs.Tree.{UnitForm, unit_form};
 
-    type Unit = Part;
+    type Unit = Unit;
 
-    ghost UnitTree = { Part };
+    ghost UnitTree = { UnitForm };
 
-    ghost unit_tree = { part_of };
+    ghost unit_tree = { unit_form };
 
-    ghost unit = { λ _. part_at };
+    ghost unit = { λ _. unit_at };
 
-    fn unit(&self, reader: &mut Reader<'_>, alloc: Global) -> Result<Part, Fault> {
-        part(reader, alloc)
+    fn unit(&self, reader: &mut Reader<'_>, alloc: Global) -> Result<Unit, ParseFault> {
+        unit(reader, alloc)
     }
 }

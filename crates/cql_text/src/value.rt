@@ -9,30 +9,30 @@ use crate::operator::{Sign, take_operator};
 use crate::{Numeral, Operator, Scalar};
 use river_base::NoMemory;
 use std::alloc::Global;
-use text_forms::{Dialect, Fault, Form, Reader, TokenSource, read};
+use text_forms::{Dialect, ParseFault, Form, Reader, TokenSource, read};
 use work_text::{Symbol, Token};
 
 /// A number of at most 63 bits.
 #[tactic(auto, unfolding(crate::specs::ValueReading::numeral_at))]
-pub fn numeral(reader: &mut Reader<'_>) -> Result<Numeral, Fault>
+pub fn numeral(reader: &mut Reader<'_>) -> Result<Numeral, ParseFault>
     ensures { Gives (λ n. n.value) result reader.new (numeral_at reader.old) }
 {
     let value = reader.number()?;
     if value <= 9_223_372_036_854_775_807 {
         Ok(Numeral { value })
     } else {
-        Err(Fault::Syntax)
+        Err(ParseFault::Syntax)
     }
 }
 
 // A field that begins with this name.
 #[tactic(auto, unfolding(crate::specs::ValueReading::field_after))]
-fn named(reader: &mut Reader<'_>, text: &[u8]) -> Result<Scalar, Fault>
+fn named(reader: &mut Reader<'_>, text: &[u8]) -> Result<Scalar, ParseFault>
     ensures reads { Gives scalar result reader.new (field_after text.now reader.old) }
     ensures depth { IfOk result (λ value. scalar_depth (scalar value) ≡ 1) }
 {
     let Some(first) = plain(text) else {
-        return Err(Fault::Syntax);
+        return Err(ParseFault::Syntax);
     };
     if reader.takes(Symbol::Dot) {
         Ok(Scalar::ItemField(first, plain_name(reader)?))
@@ -42,7 +42,7 @@ fn named(reader: &mut Reader<'_>, text: &[u8]) -> Result<Scalar, Fault>
 }
 
 // A number or a field.
-fn leaf(reader: &mut Reader<'_>) -> Result<Scalar, Fault>
+fn leaf(reader: &mut Reader<'_>) -> Result<Scalar, ParseFault>
     ensures reads { Gives scalar result reader.new (leaf_at reader.old) }
     ensures depth { IfOk result (λ value. scalar_depth (scalar value) ≡ 1) }
 {
@@ -52,14 +52,14 @@ fn leaf(reader: &mut Reader<'_>) -> Result<Scalar, Fault>
             reader.skip();
             named(reader, text)
         }
-        _ => Err(Fault::Syntax),
+        _ => Err(ParseFault::Syntax),
     }
 }
 
 // The values of CQL, for the reader that reads expressions of any language.
-struct Values;
+struct Scalars;
 
-impl<'a> Dialect<Reader<'a>> for Values {
+impl<'a> Dialect<Reader<'a>> for Scalars {
     ghost use Rattle.std.specs.Prelude.{length, ◌≤◌};
     ghost use Rattle.text_forms.specs.Levels.{level_of, form_of};
     ghost use Rattle.cql_text.specs.Deepest.{deepest};
@@ -122,7 +122,7 @@ impl<'a> Dialect<Reader<'a>> for Values {
         None
     }
 
-    fn leaf(&self, reader: &mut Reader<'a>, _brackets: u32) -> Result<Scalar, Fault> {
+    fn leaf(&self, reader: &mut Reader<'a>, _brackets: u32) -> Result<Scalar, ParseFault> {
         leaf(reader)
     }
 
@@ -153,8 +153,8 @@ impl<'a> Dialect<Reader<'a>> for Values {
 
 /// A value, at most 64 deep, where `brackets` more brackets may be open.
 #[tactic(auto, unfolding(crate::specs::ValueReading::scalar_at))]
-pub fn value(reader: &mut Reader<'_>, alloc: Global, brackets: u32) -> Result<Scalar, Fault>
+pub fn value(reader: &mut Reader<'_>, alloc: Global, brackets: u32) -> Result<Scalar, ParseFault>
     ensures { Gives scalar result reader.new (scalar_at brackets reader.old) }
 {
-    read(&Values, reader, alloc, brackets)
+    read(&Scalars, reader, alloc, brackets)
 }

@@ -10,7 +10,7 @@ use crate::value::numeral;
 use crate::{Source, TimeUnit, Window};
 use river_base::Name;
 use std::alloc::Global;
-use text_forms::{Fault, Reader};
+use text_forms::{ParseFault, Reader};
 use work_text::{Symbol, Token};
 
 // The unit of time of this word.
@@ -28,7 +28,7 @@ fn unit_of(text: &[u8]) -> Option<TimeUnit>
 
 // A unit of time, or nothing.
 #[tactic(auto, unfolding(crate::specs::Reading::time_at))]
-fn time_unit(reader: &mut Reader<'_>) -> Result<Option<TimeUnit>, Fault>
+fn time_unit(reader: &mut Reader<'_>) -> Result<Option<TimeUnit>, ParseFault>
     ensures { Gives (λ unit. unit) result reader.new (time_at reader.old) }
 {
     let Some(Token::Name(text)) = reader.peek() else {
@@ -43,7 +43,7 @@ fn time_unit(reader: &mut Reader<'_>) -> Result<Option<TimeUnit>, Fault>
 
 // `N`, and a unit of time or nothing.
 #[tactic(auto, unfolding(crate::specs::Reading::span_at))]
-fn span(reader: &mut Reader<'_>) -> Result<Window, Fault>
+fn span(reader: &mut Reader<'_>) -> Result<Window, ParseFault>
     ensures { Gives window_of result reader.new (span_at reader.old) }
 {
     let count = numeral(reader)?;
@@ -53,7 +53,7 @@ fn span(reader: &mut Reader<'_>) -> Result<Window, Fault>
 
 // What stands behind `Range`.
 #[tactic(auto, unfolding(crate::specs::Reading::range_at))]
-fn range(reader: &mut Reader<'_>) -> Result<Window, Fault>
+fn range(reader: &mut Reader<'_>) -> Result<Window, ParseFault>
     ensures { Gives window_of result reader.new (range_at reader.old) }
 {
     if takes_keyword(reader, b"unbounded") {
@@ -65,7 +65,7 @@ fn range(reader: &mut Reader<'_>) -> Result<Window, Fault>
 
 // What stands behind `Rows`.
 #[tactic(auto, unfolding(crate::specs::Reading::rows_at))]
-fn rows(reader: &mut Reader<'_>) -> Result<Window, Fault>
+fn rows(reader: &mut Reader<'_>) -> Result<Window, ParseFault>
     ensures { Gives window_of result reader.new (rows_at reader.old) }
 {
     Ok(Window::Rows(reader.count()?))
@@ -73,7 +73,7 @@ fn rows(reader: &mut Reader<'_>) -> Result<Window, Fault>
 
 // What stands behind the first word of a window.
 #[tactic(auto, unfolding(crate::specs::Reading::window_after))]
-fn window_after(reader: &mut Reader<'_>, word: &[u8]) -> Result<Window, Fault>
+fn window_after(reader: &mut Reader<'_>, word: &[u8]) -> Result<Window, ParseFault>
     ensures { Gives window_of result reader.new (window_after word.now reader.old) }
 {
     if is_keyword(word, b"now") {
@@ -85,12 +85,12 @@ fn window_after(reader: &mut Reader<'_>, word: &[u8]) -> Result<Window, Fault>
     if is_keyword(word, b"rows") {
         return rows(reader);
     }
-    Err(Fault::Syntax)
+    Err(ParseFault::Syntax)
 }
 
 // A window in its brackets.
 #[tactic(auto, unfolding(crate::specs::Reading::in_brackets_at, crate::specs::Reading::window_at))]
-fn in_brackets(reader: &mut Reader<'_>) -> Result<Window, Fault>
+fn in_brackets(reader: &mut Reader<'_>) -> Result<Window, ParseFault>
     ensures { Gives window_of result reader.new (in_brackets_at reader.old) }
 {
     reader.expect(&[Symbol::OpenBracket])?;
@@ -102,7 +102,7 @@ fn in_brackets(reader: &mut Reader<'_>) -> Result<Window, Fault>
 
 // A name of its own, behind `As` or not.
 #[tactic(auto, unfolding(crate::specs::Reading::alias_at))]
-fn alias(reader: &mut Reader<'_>) -> Result<Name, Fault>
+fn alias(reader: &mut Reader<'_>) -> Result<Name, ParseFault>
     ensures { Gives (λ name. name) result reader.new (alias_at reader.old) }
 {
     takes_keyword(reader, b"as");
@@ -111,7 +111,7 @@ fn alias(reader: &mut Reader<'_>) -> Result<Name, Fault>
 
 // A name of its own, or nothing.
 #[tactic(auto, unfolding(crate::specs::Reading::called_at))]
-fn called(reader: &mut Reader<'_>) -> Result<Option<Name>, Fault>
+fn called(reader: &mut Reader<'_>) -> Result<Option<Name>, ParseFault>
     ensures { Gives (λ name. name) result reader.new (called_at reader.old) }
 {
     if !is_at_alias(reader) {
@@ -122,7 +122,7 @@ fn called(reader: &mut Reader<'_>) -> Result<Option<Name>, Fault>
 
 // A From item.
 #[tactic(auto, unfolding(crate::specs::Reading::source_at))]
-fn source(reader: &mut Reader<'_>) -> Result<Source, Fault>
+fn source(reader: &mut Reader<'_>) -> Result<Source, ParseFault>
     ensures { Gives source_of result reader.new (source_at reader.old) }
 {
     let stream = plain_name(reader)?;
@@ -137,7 +137,7 @@ fn source(reader: &mut Reader<'_>) -> Result<Source, Fault>
 
 /// From items, at least one.
 #[tactic(auto, unfolding(crate::specs::Reading::sources_at), using(crate::proofs::Lists::sources))]
-pub fn sources(reader: &mut Reader<'_>, alloc: Global) -> Result<Vec<Source>, Fault>
+pub fn sources(reader: &mut Reader<'_>, alloc: Global) -> Result<Vec<Source>, ParseFault>
     ensures { Gives (λ list. map source_of list.items) result reader.new (sources_at reader.old) }
 {
     let mut list = Vec::new(alloc);

@@ -9,7 +9,7 @@ ghost use Rattle.csv_streams.specs.Outcome as text;
 
 use brooklet_step::Outcome;
 use itoa::Buffer;
-use kern_rows::{EvenRows, Line};
+use kern_rows::{EvenRows, ItemLine};
 use kern_tables::Table;
 use river_base::{Batch, Bytes, Duplicate, Flat, Item, Name, NoMemory, Row, Rows};
 use river_plan::{Decl, Op, Plan, TableDecl};
@@ -67,7 +67,7 @@ fn print_all(
 pub fn print_outputs(
     alloc: Global,
     decls: &[Decl],
-    outs: &[Line],
+    outs: &[ItemLine],
     to: &mut Bytes,
 ) -> Result<(), NoMemory>
     requires { length outs.now ≡ length decls.now }
@@ -80,7 +80,7 @@ pub fn print_outputs(
 }
 
 #[tactic(auto, using(crate::proofs::Texts::joins))]
-fn print_output(alloc: Global, name: &Name, items: &Line, to: &mut Bytes) -> Result<(), NoMemory>
+fn print_output(alloc: Global, name: &Name, items: &ItemLine, to: &mut Bytes) -> Result<(), NoMemory>
     ensures { OnOk result (to.new ≡ to.old ++ text.output_text name.now items.now) }
 {
     print_head(name, to)?;
@@ -132,7 +132,7 @@ fn print_rows(rows: &Rows, to: &mut Bytes) -> Result<(), NoMemory>
     Ok(())
 }
 
-fn print_items(alloc: Global, items: &Line, to: &mut Bytes) -> Result<(), NoMemory>
+fn print_items(alloc: Global, items: &ItemLine, to: &mut Bytes) -> Result<(), NoMemory>
     ensures { OnOk result (to.new ≡ to.old ++ text.texts_of text.item_text items.now) }
 {
     let (rows, others) = items.parts();

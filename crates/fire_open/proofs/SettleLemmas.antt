@@ -12,7 +12,7 @@ use Rattle.fire_tasks.specs.Ports.{in_end, out_end, in_ends, out_ends, sent_of, 
 use Rattle.fire_open.specs.Settling.{Met, with_out, with_in}
 use Rattle.fire_tasks.proofs.PortLemmas.{ins_set, outs_set, received_same}
 use Rattle.fire_open.specs.Links.{LinkEnds, IsThere, Swapped, IsPaired, ArePaired, ShareAnEnd, ShareNoEnd, AreMet}
-use Rattle.fire_open.specs.Still.{Still, still}
+use Rattle.fire_open.specs.TaskCores.{TaskCore, task_core}
 use Rattle.fire_open.proofs.Lists.{set_got_is, set_got_other, same_got, map_set}
 use Rattle.fire_open.proofs.StillLemmas.{pair_same}
 
@@ -23,13 +23,13 @@ sent_stays (y ∷ ys) zero x e = ap (λ l. l ∷ sent_in ys) e
 sent_stays (y ∷ ys) (suc i) x e = ap (λ l. sent_of y ∷ l) (sent_stays ys i x e)
 
 -- pairs are known by the ends alone
-pub still_paired : (ts ts' : List Task) (l : Link) → map still ts' ≡ map still ts → IsPaired ts l → IsPaired ts' l
+pub still_paired : (ts ts' : List Task) (l : Link) → map task_core ts' ≡ map task_core ts → IsPaired ts l → IsPaired ts' l
 still_paired ts ts' l e h =
     let x = h.ends in
-    let r = same_got still ts ts' (sym e) l.reader x.t x.t_is in
-    let w = same_got still ts ts' (sym e) l.writer x.t' x.t_is' in
-    let ei = ap (λ (s : Still). s.ends.ins) r.2 in
-    let eo = ap (λ (s : Still). s.ends.outs) w.2 in
+    let r = same_got task_core ts ts' (sym e) l.reader x.t x.t_is in
+    let w = same_got task_core ts ts' (sym e) l.writer x.t' x.t_is' in
+    let ei = ap (λ (s : TaskCore). s.ends.ins) r.2 in
+    let eo = ap (λ (s : TaskCore). s.ends.outs) w.2 in
     let i = same_got in_end x.t.ins r.0.ins ei l.port h.in_ x.in_is in
     let f = same_got out_end x.t'.outs w.0.outs eo l.out h.out x.out_is in
     record {
@@ -43,7 +43,7 @@ still_paired ts ts' l e h =
 -- a task of which all but the knowledge of its ends is the same
 pub still_by : (t u : Task) → t.op ≡ u.op → in_ends t.ins ≡ in_ends u.ins → out_ends t.outs ≡ out_ends u.outs → received_in t.ins ≡ received_in u.ins
     → sent_in t.outs ≡ sent_in u.outs → t.pending ≡ u.pending → t.bad ≡ u.bad → t.kinds ≡ u.kinds → t.states ≡ u.states
-    → t.pending ≡ u.pending → t.out ≡ u.out → t.tables ≡ u.tables → t.classes ≡ u.classes → t.count ≡ u.count → still t ≡ still u
+    → t.pending ≡ u.pending → t.out ≡ u.out → t.tables ≡ u.tables → t.classes ≡ u.classes → t.count ≡ u.count → task_core t ≡ task_core u
 still_by t u o i os r s p b k st pe ou ta cl c =
     λ j. record {
       ends = record { op = o j; ins = i j; outs = os j };
@@ -143,7 +143,7 @@ there_of ts l h = record { order = h.order; out = h.out; in_ = h.in_; ends = h.e
 pub swapped_of : (ts ts' : List Task) (l : Link) (m : Met ts ts' l) → Swapped ts ts' l m.out m.in_
 swapped_of ts ts' l m = record { writer = m.writer; reader = m.reader; writer_is = m.writer_is; reader_is = m.reader_is; after = m.after }
 
-pub met_still : (ts ts' : List Task) (l : Link) → IsPaired ts l → Met ts ts' l → map still ts' ≡ map still ts
+pub met_still : (ts ts' : List Task) (l : Link) → IsPaired ts l → Met ts ts' l → map task_core ts' ≡ map task_core ts
 unfolding swapped_of
 met_still ts ts' l h m =
     let eo : out_end m.out ≡ out_end (get_or m.writer.outs l.out m.out) = (m.same_out m.out).0 in
@@ -154,7 +154,7 @@ met_still ts ts' l h m =
     let az = sent_stays m.writer.outs l.out m.out es in
     let ai = ins_set m.reader.ins l.port m.in_ ei in
     let ar = received_same m.reader.ins l.port m.in_ er in
-    view_stays ts ts' l m.out m.in_ (there_of ts l h) (swapped_of ts ts' l m) still
+    view_stays ts ts' l m.out m.in_ (there_of ts l h) (swapped_of ts ts' l m) task_core
     (still_by (with_out m.writer l.out m.out) m.writer refl refl ao refl az refl refl refl refl refl refl refl refl refl)
     (still_by (with_in m.reader l.port m.in_) m.reader refl ai refl ar refl refl refl refl refl refl refl refl refl refl)
 
@@ -167,7 +167,7 @@ same_or a b c d = ⊎_elim
 
 -- links, of which the first n looked
 pub record Settling (ts0 : List Task) (ls : List Link) (n : ℕ) (ts : List Task) : Type 0 where
-  pub same : map still ts ≡ map still ts0
+  pub same : map task_core ts ≡ map task_core ts0
   pub met : AreMet ts ls n
 
 -- before the first look nothing changed

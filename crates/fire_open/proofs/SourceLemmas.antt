@@ -16,7 +16,7 @@ use Rattle.river_plan.proofs.PlaceLemmas.{place_below, place_apart}
 use Rattle.brooklet_model.proofs.Traces.{got_count, at_most}
 use Rattle.brooklet_step.proofs.ReadLemmas.{places_at}
 use Rattle.fire_open.specs.declared.settling.Link.{Link}
-use Rattle.fire_open.specs.declared.links.Source.{Source}
+use Rattle.fire_open.specs.declared.links.OutPort.{OutPort}
 use Rattle.fire_open.specs.Links.{IsLinkOf, AreLinks}
 use Rattle.fire_open.specs.Sources.{ComesBefore, WritesAt, KnowWriters, LinkReaders}
 use Rattle.fire_open.proofs.Laid.{apart_links}
@@ -68,27 +68,27 @@ read_below p o j n m v a e = let b = place_below (queue_names p) a.queue (read_d
 
 -- WHERE QUEUES ARE WRITTEN
 
-none_there : (n i : ℕ) (s : Source) → slice_get (replicate n None) i ≡ Some (Some s) → ⊥
+none_there : (n i : ℕ) (s : OutPort) → slice_get (replicate n None) i ≡ Some (Some s) → ⊥
 none_there zero i s g = cc g
 none_there (suc n) zero s g = let e : None ≡ Some s = same_Some None (Some s) g in cc e
 none_there (suc n) (suc i) s g = none_there n i s g
 
-none_in_both : (xs ys : List (Option Source)) → ((i : ℕ) (s : Source) → slice_get xs i ≡ Some (Some s) → ⊥)
-    → ((i : ℕ) (s : Source) → slice_get ys i ≡ Some (Some s) → ⊥) → (i : ℕ) (s : Source) → slice_get (xs ++ ys) i ≡ Some (Some s) → ⊥
+none_in_both : (xs ys : List (Option OutPort)) → ((i : ℕ) (s : OutPort) → slice_get xs i ≡ Some (Some s) → ⊥)
+    → ((i : ℕ) (s : OutPort) → slice_get ys i ≡ Some (Some s) → ⊥) → (i : ℕ) (s : OutPort) → slice_get (xs ++ ys) i ≡ Some (Some s) → ⊥
 none_in_both [] ys h k i s g = k i s g
 none_in_both (x ∷ xs) ys h k zero s g = h 0 s g
 none_in_both (x ∷ xs) ys h k (suc i) s g = none_in_both xs ys (λ n t e. h (suc n) t e) k i s g
 
 -- before the first operator no writer is known
-pub know_first : (p : PlanForm) (a b c : ℕ) (s0 s1 s2 s3 : List (Option Source)) → s0 ≡ [] → s1 ≡ s0 ++ replicate a None → s2 ≡ s1 ++ replicate b None
+pub know_first : (p : PlanForm) (a b c : ℕ) (s0 s1 s2 s3 : List (Option OutPort)) → s0 ≡ [] → s1 ≡ s0 ++ replicate a None → s2 ≡ s1 ++ replicate b None
     → s3 ≡ s2 ++ replicate c None → a ≡ length p.outputs → b ≡ length p.inputs → c ≡ length p.queues → KnowWriters p 0 0 s3
 know_first p a b c s0 s1 s2 s3 e0 e1 e2 e3 ea eb ec =
-    let n1 = λ (i : ℕ) (s : Source) (g : slice_get s1 i ≡ Some (Some s)). none_in_both s0 (replicate a None)
+    let n1 = λ (i : ℕ) (s : OutPort) (g : slice_get s1 i ≡ Some (Some s)). none_in_both s0 (replicate a None)
     (λ n t h. let z : slice_get [] n ≡ Some (Some t) = ap (λ l. slice_get l n) (sym e0) ∙ h in cc z) (λ n t h. none_there a n t h) i s
     (ap (λ l. slice_get l i) (sym e1) ∙ g) in
-    let n2 = λ (i : ℕ) (s : Source) (g : slice_get s2 i ≡ Some (Some s)). none_in_both s1 (replicate b None) n1 (λ n t h. none_there b n t h) i s
+    let n2 = λ (i : ℕ) (s : OutPort) (g : slice_get s2 i ≡ Some (Some s)). none_in_both s1 (replicate b None) n1 (λ n t h. none_there b n t h) i s
     (ap (λ l. slice_get l i) (sym e2) ∙ g) in
-    let n3 = λ (i : ℕ) (s : Source) (g : slice_get s3 i ≡ Some (Some s)). none_in_both s2 (replicate c None) n2 (λ n t h. none_there c n t h) i s
+    let n3 = λ (i : ℕ) (s : OutPort) (g : slice_get s3 i ≡ Some (Some s)). none_in_both s2 (replicate c None) n2 (λ n t h. none_there c n t h) i s
     (ap (λ l. slice_get l i) (sym e3) ∙ g) in
     record {
       many =
@@ -96,9 +96,9 @@ know_first p a b c s0 s1 s2 s3 e0 e1 e2 e3 ea eb ec =
           let l1 = ap length e1 ∙ length-append s0 (replicate a None) in
           let l2 = ap length e2 ∙ length-append s1 (replicate b None) in
           let l3 = ap length e3 ∙ length-append s2 (replicate c None) in
-          let ra = length-replicate {A = Option Source} a None in
-          let rb = length-replicate {A = Option Source} b None in
-          let rc = length-replicate {A = Option Source} c None in
+          let ra = length-replicate {A = Option OutPort} a None in
+          let rb = length-replicate {A = Option OutPort} b None in
+          let rc = length-replicate {A = Option OutPort} c None in
           let q1 = length-append (decl_names p.outputs) (decl_names p.inputs ++ decl_names p.queues) in
           let q2 = length-append (decl_names p.inputs) (decl_names p.queues) in
           let m1 = length-map p.outputs (λ (d : Decl). d.name) in
@@ -116,10 +116,10 @@ before_next o j o' j' b = ⊎_elim
     b
 
 -- one port more is known to write its queue
-pub know_next : (p : PlanForm) (o j n : ℕ) (ss : List (Option Source)) → PortAt p (λ op. op.writes) o j n → n < length ss → KnowWriters p o j ss
+pub know_next : (p : PlanForm) (o j n : ℕ) (ss : List (Option OutPort)) → PortAt p (λ op. op.writes) o j n → n < length ss → KnowWriters p o j ss
     → KnowWriters p o (j + 1) (set ss n (Some (record { writer = o; out = j })))
 know_next p o j n ss a lt k =
-    let new : Source = record { writer = o; out = j } in
+    let new : OutPort = record { writer = o; out = j } in
     record {
       many = length-set ss n (Some new) ∙ k.many;
       right = λ m s g. ⊎_elim
@@ -142,7 +142,7 @@ know_next p o j n ss a lt k =
     }
 
 -- all ports of an operator
-pub know_op : (p : PlanForm) (o n : ℕ) (ss : List (Option Source)) (ps : List ℕ) → o < length p.ops → ps ≡ list_at (write_places p) o → length ps ≤ n
+pub know_op : (p : PlanForm) (o n : ℕ) (ss : List (Option OutPort)) (ps : List ℕ) → o < length p.ops → ps ≡ list_at (write_places p) o → length ps ≤ n
     → KnowWriters p o n ss → KnowWriters p (o + 1) 0 ss
 know_op p o n ss ps lt e le k =
     let x = there_is p.ops o lt in
@@ -181,10 +181,10 @@ each_snoc P [] x h k (suc n) l g = absurd (cc g)
 each_snoc P (y ∷ xs) x h k zero l g = h 0 l g
 each_snoc P (y ∷ xs) x h k (suc n) l g = each_snoc P xs x (λ m z e. h (suc m) z e) k n l g
 
-module _ (p : PlanForm) (v : IsPlan p) (ss : List (Option Source)) (k : KnowWriters p (length p.ops) 0 ss) (o port n : ℕ)
+module _ (p : PlanForm) (v : IsPlan p) (ss : List (Option OutPort)) (k : KnowWriters p (length p.ops) 0 ss) (o port n : ℕ)
     (a : PortAt p (λ op. op.reads) o port n) (ls : List Link) (h : LinkReaders p o port ls) where
   -- the port that reads is written there
-  link_here : (s : Source) → slice_get ss n ≡ Some (Some s) → IsLinkOf p (record { writer = s.writer; out = s.out; reader = o; port = port })
+  link_here : (s : OutPort) → slice_get ss n ≡ Some (Some s) → IsLinkOf p (record { writer = s.writer; out = s.out; reader = o; port = port })
   link_here s g =
       let w = k.right n s g in
       let e : w.queue ≡ a.queue =
@@ -202,7 +202,7 @@ module _ (p : PlanForm) (v : IsPlan p) (ss : List (Option Source)) (k : KnowWrit
       }
 
   -- a link of this port
-  source_here : (l : Link) → IsLinkOf p l → (o ≡ l.reader) × (port ≡ l.port) → (s : Source) × (slice_get ss n ≡ Some (Some s))
+  source_here : (l : Link) → IsLinkOf p l → (o ≡ l.reader) × (port ≡ l.port) → (s : OutPort) × (slice_get ss n ≡ Some (Some s))
   source_here l x e =
       let eo : a.op ≡ x.read = same_Some a.op x.read (sym a.op_is ∙ ap (slice_get p.ops) e.0 ∙ x.read_is) in
       let eq : a.queue ≡ x.queue =
@@ -211,7 +211,7 @@ module _ (p : PlanForm) (v : IsPlan p) (ss : List (Option Source)) (k : KnowWrit
       (s.0, ap (slice_get ss) (a.place_is ∙ ap (place (queue_names p)) eq) ∙ s.1)
 
   -- one link more
-  pub link_more : (s : Source) (ls' : List Link) → slice_get ss n ≡ Some (Some s)
+  pub link_more : (s : OutPort) (ls' : List Link) → slice_get ss n ≡ Some (Some s)
       → ls' ≡ ls ++ (record { writer = s.writer; out = s.out; reader = o; port = port }) ∷ [] → LinkReaders p o (port + 1) ls'
   link_more s ls' g e =
       let l0 : Link = record { writer = s.writer; out = s.out; reader = o; port = port } in

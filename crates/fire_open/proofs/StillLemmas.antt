@@ -20,23 +20,23 @@ use Rattle.fire_laws.specs.Layout.{IsLink, IsPair, IsInput, AreTasks}
 use Rattle.fire_tasks.specs.Adds.{AreHomes}
 use Rattle.fire_tasks.specs.Tasks.{FitRings, HasWord, TaskEnds, IsTask, ends_of, all_ends, moves, all_moves, seen_task}
 use Rattle.fire_tasks.proofs.PortLemmas.{count_same}
-use Rattle.fire_open.specs.Still.{Still, still}
+use Rattle.fire_open.specs.TaskCores.{TaskCore, task_core}
 use Rattle.fire_open.proofs.Lists.{same_got, map_through, map_long}
 
-pub still_task : (p : PlanForm) (adds : ℕ → List (List ℤ)) (t t' : Task) → still t' ≡ still t → IsTask p adds t → IsTask p adds t'
+pub still_task : (p : PlanForm) (adds : ℕ → List (List ℤ)) (t t' : Task) → task_core t' ≡ task_core t → IsTask p adds t → IsTask p adds t'
 still_task p adds t t' e k =
-    let es : ends_of t' ≡ ends_of t = ap (λ (s : Still). s.ends) e in
+    let es : ends_of t' ≡ ends_of t = ap (λ (s : TaskCore). s.ends) e in
     let o : t'.op ≡ t.op = ap (λ (s : TaskEnds). s.op) es in
     let i : in_ends t'.ins ≡ in_ends t.ins = ap (λ (s : TaskEnds). s.ins) es in
     let u : out_ends t'.outs ≡ out_ends t.outs = ap (λ (s : TaskEnds). s.outs) es in
-    let s : seen_task t' ≡ seen_task t = ap (λ (x : Still). x.seen) e in
-    let ks : t'.kinds ≡ t.kinds = ap (λ (x : Still). x.kinds) e in
-    let st : t'.states ≡ t.states = ap (λ (x : Still). x.states) e in
-    let pe : t'.pending ≡ t.pending = ap (λ (x : Still). x.pending) e in
-    let ou : t'.out ≡ t.out = ap (λ (x : Still). x.out) e in
-    let ta : t'.tables ≡ t.tables = ap (λ (x : Still). x.tables) e in
-    let cl : t'.classes ≡ t.classes = ap (λ (x : Still). x.classes) e in
-    let co : t'.count ≡ t.count = ap (λ (x : Still). x.count) e in
+    let s : seen_task t' ≡ seen_task t = ap (λ (x : TaskCore). x.seen) e in
+    let ks : t'.kinds ≡ t.kinds = ap (λ (x : TaskCore). x.kinds) e in
+    let st : t'.states ≡ t.states = ap (λ (x : TaskCore). x.states) e in
+    let pe : t'.pending ≡ t.pending = ap (λ (x : TaskCore). x.pending) e in
+    let ou : t'.out ≡ t.out = ap (λ (x : TaskCore). x.out) e in
+    let ta : t'.tables ≡ t.tables = ap (λ (x : TaskCore). x.tables) e in
+    let cl : t'.classes ≡ t.classes = ap (λ (x : TaskCore). x.classes) e in
+    let co : t'.count ≡ t.count = ap (λ (x : TaskCore). x.count) e in
     record {
       op = k.op;
       op_is = ap (slice_get p.ops) o ∙ k.op_is;
@@ -59,25 +59,25 @@ still_task p adds t t' e k =
     }
 
 -- and what it fired on
-pub still_word : (p : PlanForm) (adds : ℕ → List (List ℤ)) (t t' : Task) (w : Word) → still t' ≡ still t → HasWord p adds t w → HasWord p adds t' w
+pub still_word : (p : PlanForm) (adds : ℕ → List (List ℤ)) (t t' : Task) (w : Word) → task_core t' ≡ task_core t → HasWord p adds t w → HasWord p adds t' w
 unfolding still_task
 still_word p adds t t' w e k = record { task = still_task p adds t t' e k.task; word = k.word }
 
 -- and keep their facts
-pub still_tasks : (p : PlanForm) (adds : ℕ → ℕ → List (List ℤ)) (ts ts' : List Task) → map still ts' ≡ map still ts → AreTasks p adds ts → AreTasks p adds ts'
+pub still_tasks : (p : PlanForm) (adds : ℕ → ℕ → List (List ℤ)) (ts ts' : List Task) → map task_core ts' ≡ map task_core ts → AreTasks p adds ts → AreTasks p adds ts'
 still_tasks p adds ts ts' e k = record {
   each = λ i d lt.
-      let g = same_got still ts' ts e i (get_or ts' i d) (slice_get-get_or ts' i d lt) in
-      let l = map_long still ts' ts e in
-      let o : (get_or ts' i d).op ≡ g.0.op = ap (λ (s : Still). s.ends.op) g.2 in
+      let g = same_got task_core ts' ts e i (get_or ts' i d) (slice_get-get_or ts' i d lt) in
+      let l = map_long task_core ts' ts e in
+      let o : (get_or ts' i d).op ≡ g.0.op = ap (λ (s : TaskCore). s.ends.op) g.2 in
       subst (λ n. IsTask p (adds n) (get_or ts' i d)) (sym o)
       (still_task p (adds g.0.op) g.0 (get_or ts' i d) g.2
       (subst (λ (x : Task). IsTask p (adds x.op) x) (get_or_from_slice_get ts i g.0 d g.1) (k.each i d (omega (arith, lt, l)))));
 }
 
 -- and the same ends
-pub still_ends : (ts ts' : List Task) → map still ts' ≡ map still ts → all_ends ts' ≡ all_ends ts
-still_ends ts ts' e = map_through still (λ (s : Still). s.ends) ts' ts e
+pub still_ends : (ts ts' : List Task) → map task_core ts' ≡ map task_core ts → all_ends ts' ≡ all_ends ts
+still_ends ts ts' e = map_through task_core (λ (s : TaskCore). s.ends) ts' ts e
 
 pub sent_same : (xs ys : List outlet.Outlet) → sent_in xs ≡ sent_in ys → sent_count xs ≡ sent_count ys
 sent_same [] [] e = refl
@@ -90,21 +90,21 @@ sent_same (x ∷ xs) (y ∷ ys) e =
     let i = sent_same xs ys t in
     omega (arith, a, i)
 
-pub still_moves : (t t' : Task) → still t' ≡ still t → moves t' ≡ moves t
+pub still_moves : (t t' : Task) → task_core t' ≡ task_core t → moves t' ≡ moves t
 still_moves t t' e =
-    let s : seen_task t' ≡ seen_task t = ap (λ (x : Still). x.seen) e in
+    let s : seen_task t' ≡ seen_task t = ap (λ (x : TaskCore). x.seen) e in
     let a = count_same t'.ins t.ins (ap (λ (x : SeenTask). x.received) s) in
     let b = sent_same t'.outs t.outs (ap (λ (x : SeenTask). x.sent) s) in
     omega (arith, a, b)
 
 -- tasks that are still have the same number of moves
-pub still_all_moves : (ts ts' : List Task) → map still ts' ≡ map still ts → all_moves ts' ≡ all_moves ts
+pub still_all_moves : (ts ts' : List Task) → map task_core ts' ≡ map task_core ts → all_moves ts' ≡ all_moves ts
 still_all_moves [] [] e = refl
 still_all_moves [] (y ∷ ys) e = absurd (cc e)
 still_all_moves (x ∷ xs) [] e = absurd (cc e)
 still_all_moves (x ∷ xs) (y ∷ ys) e =
-    let h : still y ≡ still x = cc e in
-    let t : map still ys ≡ map still xs = cc e in
+    let h : task_core y ≡ task_core x = cc e in
+    let t : map task_core ys ≡ map task_core xs = cc e in
     let a = still_moves x y h in
     let i = still_all_moves xs ys t in
     omega (arith, a, i)

@@ -5,4 +5,4 @@ pub mod Links
 pub mod Rings
 pub mod Settling
 pub mod Sources
-pub mod Still
+pub mod TaskCores

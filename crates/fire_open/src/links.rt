@@ -11,16 +11,16 @@ use std::alloc::Global;
 
 /// Where a queue is written: by which operator, at which of its ports.
 #[derive(Clone, Copy)]
-pub struct Source {
+pub struct OutPort {
     pub writer: usize,
     pub out: usize,
 }
 
 /// For each queue where it is written, if it is.
-pub type Sources = Listed<Option<Source>>;
+pub type OutPorts = Listed<Option<OutPort>>;
 
 // So many queues of which no writer is known.
-fn add_unknown(sources: &mut Sources, count: usize) -> Result<(), NoMemory>
+fn add_unknown(sources: &mut OutPorts, count: usize) -> Result<(), NoMemory>
     ensures { OnOk result (sources.new ≡ sources.old ++ replicate count None) }
 {
     for _i in 0..count {
@@ -30,7 +30,7 @@ fn add_unknown(sources: &mut Sources, count: usize) -> Result<(), NoMemory>
 }
 
 // The queues that an operator writes are known to be written by it.
-fn add_writes(plan: &Plan, sources: &mut Sources, writer: usize)
+fn add_writes(plan: &Plan, sources: &mut OutPorts, writer: usize)
     requires valid { IsPlan plan.now }
     requires there { writer < length plan.now.ops }
     requires before { KnowWriters plan.now writer 0 sources.old }
@@ -38,16 +38,16 @@ fn add_writes(plan: &Plan, sources: &mut Sources, writer: usize)
 {
     let places = plan.writes_of(writer);
     for out in 0..places.len() {
-        *sources.at_mut(places[out]) = Some(Source { writer, out });
+        *sources.at_mut(places[out]) = Some(OutPort { writer, out });
     }
 }
 
 // Where each queue is written.
-fn sources_of(alloc: Global, plan: &Plan) -> Result<Sources, NoMemory>
+fn sources_of(alloc: Global, plan: &Plan) -> Result<OutPorts, NoMemory>
     ensures { IfOk result (KnowWriters plan.now (length plan.now.ops) 0) }
 {
     let raw = plan.raw();
-    let mut sources = Sources::new(alloc);
+    let mut sources = OutPorts::new(alloc);
     add_unknown(&mut sources, raw.outputs.len())?;
     add_unknown(&mut sources, raw.inputs.len())?;
     add_unknown(&mut sources, raw.queues.len())?;
@@ -60,7 +60,7 @@ fn sources_of(alloc: Global, plan: &Plan) -> Result<Sources, NoMemory>
 // Links for the queues that an operator reads, where another writes them.
 fn add_links(
     plan: &Plan,
-    sources: &Sources,
+    sources: &OutPorts,
     links: &mut Listed<Link>,
     reader: usize,
 ) -> Result<(), NoMemory>

@@ -3,7 +3,7 @@ ghost use Rattle.std.specs.Prelude.{◌≡◌, ◌<◌, length, map, slice_index
 ghost use Rattle.fire_tasks.specs.Ports.{IsPair};
 ghost use Rattle.fire_open.specs.Links.{ArePaired, ShareNoEnd, AreMet};
 ghost use Rattle.fire_open.specs.Settling.{Met};
-ghost use Rattle.fire_open.specs.Still.{still};
+ghost use Rattle.fire_open.specs.TaskCores.{task_core};
 
 use fire_tasks::Task;
 use river_base::Listed;
@@ -38,7 +38,7 @@ fn settle_one(tasks: &mut Listed<Task>, link: Link)
 pub fn settle_all(tasks: &mut Listed<Task>, links: &Listed<Link>)
     requires paired { ArePaired tasks.old links.now }
     requires apart { ShareNoEnd links.now }
-    ensures still { map still tasks.new ≡ map still tasks.old }
+    ensures task_core { map task_core tasks.new ≡ map task_core tasks.old }
     ensures met { AreMet tasks.new links.now (length links.now) }
 {
     for place in 0..links.len() {

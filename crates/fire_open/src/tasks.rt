@@ -17,7 +17,7 @@ ghost use Rattle.fire_open.specs.Homes.{AreTableClasses};
 use crate::homes::{Places, homes_of, table_classes};
 use brooklet_step::{Emit, Lines, States, first_queues, first_states};
 use fire_tasks::{Inlet, Outlet, TablePort, Task};
-use kern_rows::Line;
+use kern_rows::ItemLine;
 use plan_check::queue_kinds;
 use river_base::{Listed, NoMemory, QueueType};
 use river_plan::Plan;
@@ -30,7 +30,7 @@ fn whole_list(alloc: Global, queues: &mut Lines, place: usize) -> Inlet
     ensures inlet { result ≡ whole_list queues.old place }
     ensures left { queues.new ≡ slice_set queues.old place [] }
 {
-    let line = replace(queues.at_mut(place), Line::new(alloc));
+    let line = replace(queues.at_mut(place), ItemLine::new(alloc));
     Inlet::kept(line)
 }
 
@@ -126,7 +126,7 @@ pub fn blank_lines(alloc: Global, count: usize) -> Result<Lines, NoMemory>
 {
     let mut lines = Lines::new(alloc);
     for _i in 0..count {
-        lines.push(Line::new(alloc))?;
+        lines.push(ItemLine::new(alloc))?;
     }
     Ok(lines)
 }

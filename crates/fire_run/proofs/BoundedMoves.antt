@@ -23,7 +23,7 @@ use Rattle.fire_laws.specs.Layout.{left_in, seen_at}
 use Rattle.fire_laws.specs.Steps.{HasMovedState, IsQuiet, SeenSend, SeenTake}
 use Rattle.fire_laws.proofs.Stepping.{joins_with, moves_law, ports-append, quiet_done}
 use Rattle.fire_laws.proofs.NetLemmas.{seen_here}
-use Rattle.fire_open.specs.Still.{Still, still}
+use Rattle.fire_open.specs.TaskCores.{TaskCore, task_core}
 use Rattle.fire_open.proofs.Lists.{same_got, set_got_is, set_got_other}
 use Rattle.fire_open.proofs.StillLemmas.{still_word}
 use Rattle.fire_run.specs.declared.net.Net.{Net}
@@ -31,12 +31,12 @@ use Rattle.fire_run.specs.NetOf.{IsNetOf}
 use Rattle.fire_run.specs.OneMove.{LastMoved, Sends, Takes, TakesFront}
 
 -- what the laws see of tasks stays where they looked
-seen_looked : (ts us : List Task) (o : ℕ) → map still us ≡ map still ts → seen_at us o ≡ seen_at ts o
+seen_looked : (ts us : List Task) (o : ℕ) → map task_core us ≡ map task_core ts → seen_at us o ≡ seen_at ts o
 seen_looked [] [] o e = refl
 seen_looked [] (u ∷ us) o e = absurd (cc e)
 seen_looked (t ∷ ts) [] o e = absurd (cc e)
-seen_looked (t ∷ ts) (u ∷ us) zero e = let h : still u ≡ still t = cc e in ap (λ (s : Still). s.seen) h
-seen_looked (t ∷ ts) (u ∷ us) (suc o) e = let h : map still us ≡ map still ts = cc e in seen_looked ts us o h
+seen_looked (t ∷ ts) (u ∷ us) zero e = let h : task_core u ≡ task_core t = cc e in ap (λ (s : TaskCore). s.seen) h
+seen_looked (t ∷ ts) (u ∷ us) (suc o) e = let h : map task_core us ≡ map task_core ts = cc e in seen_looked ts us o h
 
 seen_set : (ts : List Task) (i : ℕ) (t : Task) → i < length ts → seen_at (set ts i t) i ≡ seen_task t
 seen_set [] i t lt = absurd (omega (arith, lt))
@@ -94,12 +94,12 @@ module _ (p : PlanForm) (inputs : List (List item.Item)) (caps : Capacities) (ne
   behind : (adds' : ℕ → ℕ → List (List ℤ)) (is : ℕ → Word) → HasWord p (adds' h.at) h.task (is h.at)
       → ((o : ℕ) → (h.at ≡ o → ⊥) → (adds' o ≡ adds o) × (is o ≡ words o)) → (o : ℕ) (t : Task) → slice_get net'.tasks o ≡ Some t → HasWord p (adds' o) t (is o)
   behind adds' is here else o t g =
-      let s = same_got still net'.tasks (set net.tasks h.at h.task) h.others o t g in
+      let s = same_got task_core net'.tasks (set net.tasks h.at h.task) h.others o t g in
       ⊎_elim
       (λ q.
       let e : s.0 ≡ h.task = set_got_is net.tasks h.at s.0 h.task (ap (slice_get (set net.tasks h.at h.task)) q ∙ s.1) in
       subst (λ i. HasWord p (adds' i) t (is i)) q
-      (still_word p (adds' h.at) h.task t (is h.at) (s.2 ∙ ap still e) here))
+      (still_word p (adds' h.at) h.task t (is h.at) (s.2 ∙ ap task_core e) here))
       (λ ne.
       let f = else o ne in
       subst (λ a. HasWord p a t (is o)) (sym f.0)

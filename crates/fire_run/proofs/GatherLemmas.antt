@@ -12,7 +12,7 @@ use Rattle.class_locks.proofs.Owns.{own-append}
 use Rattle.fire_tasks.specs.declared.bundle.Bundle.{Bundle}
 use Rattle.fire_tasks.specs.declared.task.Task.{Task}
 use Rattle.fire_run.specs.Cells.{AreSingle}
-use Rattle.fire_run.specs.Shares.{AreAtRest, AreWithin, merged_view, put_all, put_each, seats_of}
+use Rattle.fire_run.specs.Shares.{AreAtRest, AreWithin, merged_view, put_bundles, put_each, seats_of}
 
 -- TASKS AT THEIR PLACES
 
@@ -80,17 +80,17 @@ putting_all own0 ts0 own ts h e = h.put ∙ ap (λ l. put_each l ts0) (sym (h.al
 -- BUNDLE BY BUNDLE
 
 -- as many tasks as before
-pub all_many : (bs : List Bundle) (ts : List Task) → length (put_all bs ts) ≡ length ts
+pub all_many : (bs : List Bundle) (ts : List Task) → length (put_bundles bs ts) ≡ length ts
 all_many [] ts = refl
 all_many (b ∷ bs) ts = all_many bs (put_each b.tasks ts) ∙ each_many b.tasks ts
 
-put_all-last : (bs : List Bundle) (b : Bundle) (ts : List Task) → put_all (bs ++ b ∷ []) ts ≡ put_each b.tasks (put_all bs ts)
+put_all-last : (bs : List Bundle) (b : Bundle) (ts : List Task) → put_bundles (bs ++ b ∷ []) ts ≡ put_each b.tasks (put_bundles bs ts)
 put_all-last [] b ts = refl
 put_all-last (c ∷ bs) b ts = put_all-last bs b (put_each c.tasks ts)
 
 -- the tasks of the first bundles are put, and the other bundles are as they were
 pub record Gathering (bs0 : List Bundle) (ts0 : List Task) (i : ℕ) (bs : List Bundle) (ts : List Task) : Type 0 where
-  pub put : ts ≡ put_all (take i bs0) ts0
+  pub put : ts ≡ put_bundles (take i bs0) ts0
   pub rest : (j : ℕ) (d : Bundle) → i ≤ j → get_or bs j d ≡ get_or bs0 j d
   pub seats : seats_of bs ≡ seats_of bs0
 
@@ -98,7 +98,7 @@ pub record Gathering (bs0 : List Bundle) (ts0 : List Task) (i : ℕ) (bs : List 
 pub gathering_first : (bs : List Bundle) (ts : List Task) → Gathering bs ts 0 bs ts
 gathering_first bs ts = record { put = none bs; rest = λ j d le. refl; seats = refl }
   where
-    none : (us : List Bundle) → ts ≡ put_all (take 0 us) ts
+    none : (us : List Bundle) → ts ≡ put_bundles (take 0 us) ts
     none [] = refl
     none (u ∷ us) = refl
 
@@ -124,7 +124,7 @@ gathering_next bs0 bs ts0 ts ts' i b b' h lt e s p =
     let next : suc i ≡ i + 1 = omega arith in
     let taken : take (i + 1) bs0 ≡ take i bs0 ++ b ∷ [] = ap (λ k. take k bs0) (sym next) ∙ take-suc bs0 i b lt ∙ ap (λ x. take i bs0 ++ x ∷ []) (sym there) in
     record {
-      put = p ∙ ap (put_each b.tasks) h.put ∙ sym (put_all-last (take i bs0) b ts0) ∙ ap (λ l. put_all l ts0) (sym taken);
+      put = p ∙ ap (put_each b.tasks) h.put ∙ sym (put_all-last (take i bs0) b ts0) ∙ ap (λ l. put_bundles l ts0) (sym taken);
       rest = λ j d le. get_or-set_other bs i j b' d (λ z. omega (arith, z, le)) ∙ h.rest j d (omega (arith, le));
       seats = set_seat bs i there_now (s ∙ ap (λ (x : Bundle). x.seat) (e ∙ get_or_default bs i b b' there_now)) ∙ h.seats;
     }
@@ -135,13 +135,13 @@ gathering_next bs0 bs ts0 ts ts' i b b' h lt e s p =
     set_seat (x ∷ xs) (suc j) l q = ap (λ cs. x.seat ∷ cs) (set_seat xs j (omega (arith, l)) q)
 
 -- behind the last one all are
-pub gathering_all : (bs0 bs : List Bundle) (ts0 ts : List Task) (i : ℕ) → Gathering bs0 ts0 i bs ts → length bs0 ≤ i → ts ≡ put_all bs0 ts0
-gathering_all bs0 bs ts0 ts i h le = h.put ∙ ap (λ l. put_all l ts0) (take_all i bs0 le)
+pub gathering_all : (bs0 bs : List Bundle) (ts0 ts : List Task) (i : ℕ) → Gathering bs0 ts0 i bs ts → length bs0 ≤ i → ts ≡ put_bundles bs0 ts0
+gathering_all bs0 bs ts0 ts i h le = h.put ∙ ap (λ l. put_bundles l ts0) (take_all i bs0 le)
 
 -- a place of none of the bundles' tasks is as it was
 all_other : (bs : List Bundle) (ts : List Task) (o : ℕ) (d : Task)
     → ((k : ℕ) (e : Bundle) (i : ℕ) (c : Task) → k < length bs → i < length (get_or bs k e).tasks → (get_or (get_or bs k e).tasks i c).op ≡ o → ⊥)
-    → get_or (put_all bs ts) o d ≡ get_or ts o d
+    → get_or (put_bundles bs ts) o d ≡ get_or ts o d
 all_other [] ts o d ne = refl
 all_other (b ∷ bs) ts o d ne =
     all_other bs (put_each b.tasks ts) o d (λ k e i c lk li. ne (suc k) e i c (omega (arith, lk)) li)
@@ -155,7 +155,7 @@ pub record AreApart (n m p : ℕ) (bs : List Bundle) : Type 0 where
 
 -- each task of each bundle is at its place
 pub all_here : (n m : ℕ) (bs : List Bundle) (ts : List Task) (k i : ℕ) (e : Bundle) (c d : Task) → AreApart n m (length ts) bs → k < length bs
-    → i < length (get_or bs k e).tasks → get_or (put_all bs ts) (get_or (get_or bs k e).tasks i c).op d ≡ get_or (get_or bs k e).tasks i c
+    → i < length (get_or bs k e).tasks → get_or (put_bundles bs ts) (get_or (get_or bs k e).tasks i c).op d ≡ get_or (get_or bs k e).tasks i c
 all_here n m [] ts k i e c d h lk li = absurd (omega (arith, lk))
 all_here n m (b ∷ bs) ts zero i e c d h lk li =
     let here = h.parts 0 e i c (omega arith) li in

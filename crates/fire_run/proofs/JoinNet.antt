@@ -11,8 +11,8 @@ use lib.ListN.{get_elem?}
 use Rattle.river_plan.specs.Forms.{PlanForm}
 use Rattle.class_locks.specs.declared.view.Claim.{Claim}
 use Rattle.class_locks.specs.declared.view.View.{View}
-use Rattle.class_locks.specs.Logs.{Holding, part}
-use Rattle.class_locks.specs.Seats.{Chair, HasAll, HasGrown}
+use Rattle.class_locks.specs.Logs.{Holding, entries_of_part}
+use Rattle.class_locks.specs.Seats.{Chair, HasAll, LogsHaveGrown}
 use Rattle.class_locks.specs.Views.{StandsIn, own}
 use Rattle.class_locks.proofs.Owns.{own_none}
 use Rattle.fire_tasks.specs.Adds.{AreClaims, AreEntries, AreOwn, IsEntryOf, added, logs_at, logs_of, table_class}
@@ -26,13 +26,13 @@ use Rattle.fire_tasks.proofs.TaskLemmas.{table_there, tables_many, with_adds}
 use Rattle.fire_laws.specs.Layout as layout
 use Rattle.fire_open.specs.Homes.{AreClassCells}
 use Rattle.fire_open.specs.Links.{ShareNoEnd, AreMet, ArePaired}
-use Rattle.fire_open.specs.Still.{Still, still}
+use Rattle.fire_open.specs.TaskCores.{TaskCore, task_core}
 use Rattle.fire_open.proofs.Laid.{apart_net, laid_same, paired_net, settled_by}
 use Rattle.fire_open.proofs.StillLemmas.{still_all_moves, still_ends, still_tasks}
 use Rattle.fire_run.specs.declared.net.Net.{Net}
 use Rattle.fire_run.specs.Frames.{AreBundlesOf, AreSeatedIn, AreTasksOf, Framed, HaveGrownBy, bundle_moves, ends_of_part, tasks_of_part}
 use Rattle.fire_run.specs.NetOf.{Stays}
-use Rattle.fire_run.specs.Shares.{AreAtRest, AreWithin, merged_view, put_all, seats_of}
+use Rattle.fire_run.specs.Shares.{AreAtRest, AreWithin, merged_view, put_bundles, seats_of}
 use Rattle.fire_run.proofs.GatherLemmas.{AreApart as AreSharesApart, IsRound, OwnAlone, all_here, all_many, belongs, merged_all, merged_own, merged_parts, merged_round}
 use Rattle.fire_run.proofs.PartLemmas.{eq_told, filter_finds, filter_stood, map_at, moves_of_parts, part_ends}
 use Rattle.fire_run.proofs.RowLemmas.{class_has}
@@ -148,7 +148,7 @@ module _ (p : PlanForm) (f : Framed) (bs : List Bundle) (h : AreBundlesOf p f bs
 
   module _ (ts0 : List Task) (as_long : length ts0 ≡ length f.net.tasks) where
     abbrev ts : List Task
-    ts = put_all bs ts0
+    ts = put_bundles bs ts0
 
     apart : AreSharesApart f.workers 0 (length ts0) bs
     unfolding keep known all_within
@@ -159,12 +159,12 @@ module _ (p : PlanForm) (f : Framed) (bs : List Bundle) (h : AreBundlesOf p f bs
     }
 
     here : (k : ℕ) (b : Bundle) (i : ℕ) (c d : Task) → k < length bs → i < length (get_or bs k b).tasks
-        → get_or (put_all bs ts0) (get_or (get_or bs k b).tasks i c).op d ≡ get_or (get_or bs k b).tasks i c
+        → get_or (put_bundles bs ts0) (get_or (get_or bs k b).tasks i c).op d ≡ get_or (get_or bs k b).tasks i c
     unfolding apart
     here k b i c d lk li = all_here f.workers 0 bs ts0 k i b c d apart lk li
 
     -- each operator of the net has its task in the bundle of its part
-    pub found : (o : ℕ) (d : Task) → o < length f.net.tasks → IsFound bs f.workers o (get_or (put_all bs ts0) o d)
+    pub found : (o : ℕ) (d : Task) → o < length f.net.tasks → IsFound bs f.workers o (get_or (put_bundles bs ts0) o d)
     unfolding here known
     found o d lt =
         let k = o % f.workers in
@@ -202,7 +202,7 @@ module _ (p : PlanForm) (f : Framed) (bs : List Bundle) (h : AreBundlesOf p f bs
         })
 
     -- what is known of the task of an operator in its bundle is known of it in the list
-    found_known : (o : ℕ) (d : Task) → o < length f.net.tasks → IsKnown f (o % f.workers) (get_or (put_all bs ts0) o d)
+    found_known : (o : ℕ) (d : Task) → o < length f.net.tasks → IsKnown f (o % f.workers) (get_or (put_bundles bs ts0) o d)
     unfolding found known
     found_known o d lt =
         let x = found o d lt in
@@ -212,7 +212,7 @@ module _ (p : PlanForm) (f : Framed) (bs : List Bundle) (h : AreBundlesOf p f bs
         (λ li. known (o % f.workers) x.bundle x.place t x.below li) x.there)
 
     -- the list has the ends of the net's tasks
-    pub joined_ends : all_ends (put_all bs ts0) ≡ all_ends f.net.tasks
+    pub joined_ends : all_ends (put_bundles bs ts0) ≡ all_ends f.net.tasks
     unfolding found found_known
     joined_ends = map_at ends_of ts f.net.tasks (all_many bs ts0 ∙ as_long) (λ o d lt.
         let m = all_many bs ts0 in
@@ -220,7 +220,7 @@ module _ (p : PlanForm) (f : Framed) (bs : List Bundle) (h : AreBundlesOf p f bs
         (found_known o d l).ends d ∙ ap (λ (q : ℕ). ends_of (get_or f.net.tasks q d)) (found o d l).op_is)
 
     -- dealt again, it gives each bundle's tasks
-    pub joined_parts : (k : ℕ) (b : Bundle) → k < length bs → tasks_of_part f.workers k (put_all bs ts0) ≡ (get_or bs k b).tasks
+    pub joined_parts : (k : ℕ) (b : Bundle) → k < length bs → tasks_of_part f.workers k (put_bundles bs ts0) ≡ (get_or bs k b).tasks
     unfolding found here joined_ends
     joined_parts k b lk =
         let own = tasks_of_part f.workers k ts in
@@ -242,7 +242,7 @@ module _ (p : PlanForm) (f : Framed) (bs : List Bundle) (h : AreBundlesOf p f bs
         ∙ here k b i d d lk (omega (arith, li, la, lb, ls)))
 
     -- it took and sent what the bundles did
-    pub joined_moves : all_moves (put_all bs ts0) ≡ bundle_moves bs
+    pub joined_moves : all_moves (put_bundles bs ts0) ≡ bundle_moves bs
     unfolding joined_parts
     joined_moves = sym (moves_of_parts f.workers ts bs h.seated.some h.seated.many (λ k b lk. ap all_moves (sym (joined_parts k b lk))))
 
@@ -277,7 +277,7 @@ module _ (p : PlanForm) (f : Framed) (bs : List Bundle) (h : AreBundlesOf p f bs
       subst (λ j. own f.workers j c (all_views bs).claims ≡ own f.workers j c (get_or (seats_of bs) k b.seat).view.claims) z r
       ∙ ap (λ (s : Chair). own f.workers k c s.view.claims) (seat_is bs k b.seat b lk)
 
-  module _ (cells : List Holding) (grown : HasGrown (all_views bs) cells) where
+  module _ (cells : List Holding) (grown : LogsHaveGrown (all_views bs) cells) where
     abbrev round : IsRound f.workers f.net.cells (all_views bs)
     round = one_round f bs h.seated
 
@@ -298,8 +298,8 @@ module _ (p : PlanForm) (f : Framed) (bs : List Bundle) (h : AreBundlesOf p f bs
             parts = λ k b lk.
                 let m = h.seated.many in
                 let o = l.owns 0 (all_views bs) refl k (has_every f bs h.seated k (omega (arith, lk, m))) in
-                subst (λ j. part j k l.growth ≡ own j k c (get_or bs k b).seat.view.claims) (sym m)
-                (subst (λ j. part j k l.growth ≡ own j k c (all_views bs).claims) round.seats o ∙ own_is k b c lk);
+                subst (λ j. entries_of_part j k l.growth ≡ own j k c (get_or bs k b).seat.view.claims) (sym m)
+                (subst (λ j. entries_of_part j k l.growth ≡ own j k c (all_views bs).claims) round.seats o ∙ own_is k b c lk);
           };
     }
 
@@ -357,14 +357,14 @@ module _ (p : PlanForm) (f : Framed) (bs : List Bundle) (h : AreBundlesOf p f bs
         (ap (λ (q : ℕ). get_elem? cells (table_class p q)) is ∙ elem_of cells (table_class p port.0.table) x.0 x.1))
 
     -- so does each task of the list
-    pub joined_tasks : (ts0 : List Task) → length ts0 ≡ length f.net.tasks → layout.AreTasks p (added p (logs_of cells)) (put_all bs ts0)
+    pub joined_tasks : (ts0 : List Task) → length ts0 ≡ length f.net.tasks → layout.AreTasks p (added p (logs_of cells)) (put_bundles bs ts0)
     unfolding keeps_on
     joined_tasks ts0 as_long = record {
       each = λ o d lt.
           let m = all_many bs ts0 in
           let l : o < length f.net.tasks = omega (arith, lt, m, as_long) in
           let x = found p f bs h ts0 as_long o d l in
-          let t = get_or (put_all bs ts0) o d in
+          let t = get_or (put_bundles bs ts0) o d in
           let k = o % f.workers in
           let b = x.bundle in
           let li : x.place < length (get_or bs k b).tasks = subst (λ (c : Bundle). x.place < length c.tasks) (sym x.bundle_is) x.there in
@@ -375,47 +375,47 @@ module _ (p : PlanForm) (f : Framed) (bs : List Bundle) (h : AreBundlesOf p f bs
 
 -- THE NET
 
-part_still : (n k : ℕ) (ts ts' : List Task) → map still ts' ≡ map still ts → map still (tasks_of_part n k ts') ≡ map still (tasks_of_part n k ts)
+part_still : (n k : ℕ) (ts ts' : List Task) → map task_core ts' ≡ map task_core ts → map task_core (tasks_of_part n k ts') ≡ map task_core (tasks_of_part n k ts)
 part_still n k [] [] e = refl
 part_still n k [] (y ∷ ys) e = absurd (cc e)
 part_still n k (x ∷ xs) [] e = absurd (cc e)
 part_still n k (x ∷ xs) (y ∷ ys) e =
-    let a : still y ≡ still x = cc e in
-    let r : map still ys ≡ map still xs = cc e in
-    let o : y.op ≡ x.op = ap (λ (s : Still). s.ends.op) a in
-    ap (λ (q : ℕ). map still (cond ((q % n) == k) (y ∷ tasks_of_part n k ys) (tasks_of_part n k ys))) o ∙ by ((x.op % n) == k) a (part_still n k xs ys r)
+    let a : task_core y ≡ task_core x = cc e in
+    let r : map task_core ys ≡ map task_core xs = cc e in
+    let o : y.op ≡ x.op = ap (λ (s : TaskCore). s.ends.op) a in
+    ap (λ (q : ℕ). map task_core (cond ((q % n) == k) (y ∷ tasks_of_part n k ys) (tasks_of_part n k ys))) o ∙ by ((x.op % n) == k) a (part_still n k xs ys r)
   where
-    by : (b : Bool) → still y ≡ still x → map still (tasks_of_part n k ys) ≡ map still (tasks_of_part n k xs)
-        → map still (cond b (y ∷ tasks_of_part n k ys) (tasks_of_part n k ys)) ≡ map still (cond b (x ∷ tasks_of_part n k xs) (tasks_of_part n k xs))
-    by true a r = ap (λ s. s ∷ map still (tasks_of_part n k ys)) a ∙ ap (λ ss. still x ∷ ss) r
+    by : (b : Bool) → task_core y ≡ task_core x → map task_core (tasks_of_part n k ys) ≡ map task_core (tasks_of_part n k xs)
+        → map task_core (cond b (y ∷ tasks_of_part n k ys) (tasks_of_part n k ys)) ≡ map task_core (cond b (x ∷ tasks_of_part n k xs) (tasks_of_part n k xs))
+    by true a r = ap (λ s. s ∷ map task_core (tasks_of_part n k ys)) a ∙ ap (λ ss. task_core x ∷ ss) r
     by false a r = r
 
 module _ (p : PlanForm) (f : Framed) (bs : List Bundle) (h : AreBundlesOf p f bs) (ts0 ts : List Task) (cells : List Holding)
     (as_long : length ts0 ≡ length f.net.tasks)
-    (same : map still ts ≡ map still (put_all bs ts0)) where
+    (same : map task_core ts ≡ map task_core (put_bundles bs ts0)) where
   -- the net has the ends of the net that was split
   pub net_ends : all_ends ts ≡ all_ends f.net.tasks
-  net_ends = still_ends (put_all bs ts0) ts same ∙ joined_ends p f bs h ts0 as_long
+  net_ends = still_ends (put_bundles bs ts0) ts same ∙ joined_ends p f bs h ts0 as_long
 
   -- it took and sent what the bundles did
   pub net_moves : all_moves ts ≡ bundle_moves bs
-  net_moves = still_all_moves (put_all bs ts0) ts same ∙ joined_moves p f bs h ts0 as_long
+  net_moves = still_all_moves (put_bundles bs ts0) ts same ∙ joined_moves p f bs h ts0 as_long
 
   -- its tasks are those of the bundles
   pub net_tasks : AreTasksOf bs ts
   net_tasks = record {
     each = λ k b lk.
         let m = h.seated.many in
-        ap (λ (n : ℕ). map still (tasks_of_part n k ts)) m ∙ part_still f.workers k (put_all bs ts0) ts same
-        ∙ ap (map still) (joined_parts p f bs h ts0 as_long k b lk);
+        ap (λ (n : ℕ). map task_core (tasks_of_part n k ts)) m ∙ part_still f.workers k (put_bundles bs ts0) ts same
+        ∙ ap (map task_core) (joined_parts p f bs h ts0 as_long k b lk);
   }
 
   -- the ends of its rings are pairs
-  pub net_paired : HasGrown (all_views bs) cells → ArePaired (put_all bs ts0) f.net.links
+  pub net_paired : LogsHaveGrown (all_views bs) cells → ArePaired (put_bundles bs ts0) f.net.links
   net_paired grown =
       let n = h.net.is in
-      paired_net p h.net.inputs h.net.caps (added p (logs_of cells)) (put_all bs ts0) f.net.links h.valid
-      (laid_same p h.net.inputs h.net.caps f.net.tasks (put_all bs ts0) (joined_ends p f bs h ts0 as_long) n.laid)
+      paired_net p h.net.inputs h.net.caps (added p (logs_of cells)) (put_bundles bs ts0) f.net.links h.valid
+      (laid_same p h.net.inputs h.net.caps f.net.tasks (put_bundles bs ts0) (joined_ends p f bs h ts0 as_long) n.laid)
       (joined_tasks p f bs h cells grown ts0 as_long) n.links
 
   -- and no two rings share one
@@ -423,7 +423,7 @@ module _ (p : PlanForm) (f : Framed) (bs : List Bundle) (h : AreBundlesOf p f bs
   net_apart = apart_net p f.net.links h.valid h.net.is.links
 
   -- whatever inputs and capacities the net that was split had, this one has
-  pub net_stays : (net : Net) → net ≡ record { tasks = ts; links = f.net.links; cells = cells; refused = false } → HasGrown (all_views bs) cells
+  pub net_stays : (net : Net) → net ≡ record { tasks = ts; links = f.net.links; cells = cells; refused = false } → LogsHaveGrown (all_views bs) cells
       → AreMet ts f.net.links (length f.net.links) → Stays p f.net net
   unfolding net_ends
   net_stays net e grown met = subst (Stays p f.net) (sym e) (record {
@@ -432,7 +432,7 @@ module _ (p : PlanForm) (f : Framed) (bs : List Bundle) (h : AreBundlesOf p f bs
       typed = n.typed;
       room = n.room;
       laid = laid_same p inputs caps f.net.tasks ts net_ends n.laid;
-      tasks = still_tasks p (added p (logs_of cells)) (put_all bs ts0) ts same (joined_tasks p f bs h cells grown ts0 as_long);
+      tasks = still_tasks p (added p (logs_of cells)) (put_bundles bs ts0) ts same (joined_tasks p f bs h cells grown ts0 as_long);
       settled = settled_by p ts f.net.links n.links met;
       links = n.links;
       cells = joined_cells p f bs h cells grown;

@@ -16,14 +16,14 @@ use Rattle.fire_tasks.specs.Rows.{cells_grown}
 use Rattle.fire_run.specs.Cells.{AreSingle, HaveAdded, HaveMoved}
 use Rattle.fire_run.specs.Moves.{CanSend, CanSendFrom}
 use Rattle.fire_run.specs.NetOf.{AreIdle, OneMore}
-use Rattle.fire_open.specs.Still.{Still, still}
+use Rattle.fire_open.specs.TaskCores.{TaskCore, task_core}
 use Rattle.fire_open.proofs.Lists.{map_set, map_long, same_got}
 use Rattle.fire_open.proofs.StillLemmas.{still_all_moves, still_ends, still_tasks}
 use Rattle.fire_open.proofs.SettleLemmas.{still_by}
 use Rattle.fire_tasks.proofs.PassLemmas.{with_ins}
 
 -- a look changes nothing else
-pub still_ins : (t : Task) (ins : List inlet.Inlet) → in_ends ins ≡ in_ends t.ins → received_in ins ≡ received_in t.ins → still (with_ins t ins) ≡ still t
+pub still_ins : (t : Task) (ins : List inlet.Inlet) → in_ends ins ≡ in_ends t.ins → received_in ins ≡ received_in t.ins → task_core (with_ins t ins) ≡ task_core t
 still_ins t ins e r = still_by (with_ins t ins) t refl e refl r refl refl refl refl refl refl refl refl refl refl
 
 -- a number grew by 1
@@ -38,7 +38,7 @@ one_false a b e = record { one = λ t. absurd (cc t); none = λ f. e }
 
 -- the last tasks have nothing to do
 pub record Walked (ts0 : List Task) (back : ℕ) (ts : List Task) : Type 0 where
-  pub same : map still ts ≡ map still ts0
+  pub same : map task_core ts ≡ map task_core ts0
   pub rest : (i : ℕ) (d : Task) → i + back < length ts0 → get_or ts i d ≡ get_or ts0 i d
   pub done : (i : ℕ) (d : Task) → i < length ts0 → length ts0 ≤ i + back → IsDone (get_or ts0 i d)
 
@@ -47,7 +47,7 @@ pub walked_first : (ts : List Task) → Walked ts 0 ts
 walked_first ts = record { same = refl; rest = λ i d lt. refl; done = λ i d lt le. absurd (omega (arith, lt, le)) }
 
 pub walked_long : (ts0 ts : List Task) (back : ℕ) → Walked ts0 back ts → length ts ≡ length ts0
-walked_long ts0 ts back h = map_long still ts ts0 h.same
+walked_long ts0 ts back h = map_long task_core ts ts0 h.same
 
 -- the task whose turn it is
 pub record Turn (p : PlanForm) (adds : ℕ → ℕ → List (List ℤ)) (t : Task) : Type 0 where
@@ -72,13 +72,13 @@ turn_of p adds ts0 ts back o t k s h e is =
 
 -- one task more has nothing to do
 pub walked_next : (ts0 ts : List Task) (back o : ℕ) (old new : Task) → Walked ts0 back ts → o + back + 1 ≡ length ts0 → old ≡ get_or ts o old
-    → still new ≡ still old → IsDone old → Walked ts0 (back + 1) (set ts o new)
+    → task_core new ≡ task_core old → IsDone old → Walked ts0 (back + 1) (set ts o new)
 walked_next ts0 ts back o old new h e is s d =
     let l = walked_long ts0 ts back h in
     let lt : o < length ts = omega (arith, e, l) in
     let q : old ≡ get_or ts0 o old = is ∙ h.rest o old (omega (arith, e)) in
     record {
-      same = map_set still ts o new (s ∙ ap still (is ∙ get_or_default ts o old new lt)) ∙ h.same;
+      same = map_set task_core ts o new (s ∙ ap task_core (is ∙ get_or_default ts o old new lt)) ∙ h.same;
       rest = λ i c li. get_or-set_other ts o i new c (λ z. omega (arith, z, li, e)) ∙ h.rest i c (omega (arith, li));
       done = λ i c li le. ⊎_elim
           (λ b. let z : o ≡ i = omega (arith, le, e, b) in subst (λ n. IsDone (get_or ts0 n c)) z
@@ -108,10 +108,10 @@ set_moves (y ∷ ts) zero t lt e = omega (arith, e)
 set_moves (y ∷ ts) (suc i) t lt e = let h = set_moves ts i t (omega (arith, lt)) e in omega (arith, h)
 
 -- the operators of tasks that are still are the same
-still_op : (ts0 ts : List Task) (i : ℕ) (d : Task) → map still ts ≡ map still ts0 → i < length ts → (get_or ts i d).op ≡ (get_or ts0 i d).op
+still_op : (ts0 ts : List Task) (i : ℕ) (d : Task) → map task_core ts ≡ map task_core ts0 → i < length ts → (get_or ts i d).op ≡ (get_or ts0 i d).op
 still_op ts0 ts i d e lt =
-    let x = same_got still ts ts0 e i (get_or ts i d) (slice_get-get_or ts i d lt) in
-    ap (λ (s : Still). s.ends.op) x.2 ∙ ap (λ (t : Task). t.op) (sym (get_or_from_slice_get ts0 i x.0 d x.1))
+    let x = same_got task_core ts ts0 e i (get_or ts i d) (slice_get-get_or ts i d lt) in
+    ap (λ (s : TaskCore). s.ends.op) x.2 ∙ ap (λ (t : Task). t.op) (sym (get_or_from_slice_get ts0 i x.0 d x.1))
 
 -- the tasks and the cells after one task moved
 pub moved_one : (p : PlanForm) (cells0 cells : List Holding) (ts0 ts : List Task) (back o : ℕ) (old new : Task) (m : Bool)

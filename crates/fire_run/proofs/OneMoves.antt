@@ -19,9 +19,9 @@ use Rattle.fire_tasks.proofs.BundleLemmas.{ends_many}
 use Rattle.fire_tasks.specs.Turns.{HasFiredAt, logged}
 use Rattle.fire_tasks.proofs.PassLemmas.{looked_task, looked_word, with_ins}
 use Rattle.fire_tasks.proofs.PortLemmas.{ins_many}
-use Rattle.fire_open.specs.Still.{Still, still}
+use Rattle.fire_open.specs.TaskCores.{TaskCore, task_core}
 use Rattle.fire_tasks.specs.Rows.{CanAddTo, cells_grown}
-use Rattle.fire_run.specs.OneMove.{LastMoved, MayHaveMoved, Moves, Takes, TakesFront}
+use Rattle.fire_run.specs.OneMove.{LastMoved, MayHaveMoved, TaskMoves, Takes, TakesFront}
 use Rattle.fire_open.proofs.Lists.{map_set}
 use Rattle.fire_run.specs.declared.net.Net.{Net}
 use Rattle.fire_run.specs.NetOf.{AreIdle, IsNetOf}
@@ -69,14 +69,14 @@ takes_looked p t t' ins cells cells' e r h = record {
       (h.word none (looked_task p (added p (logs_of cells) t.op) t ins k e r));
 }
 
-still_set : (ts : List Task) (i : ℕ) (t : Task) → map still (set ts i t) ≡ set (map still ts) i (still t)
+still_set : (ts : List Task) (i : ℕ) (t : Task) → map task_core (set ts i t) ≡ set (map task_core ts) i (task_core t)
 still_set [] i t = refl
 still_set (x ∷ ts) zero t = refl
-still_set (x ∷ ts) (suc i) t = ap (λ l. still x ∷ l) (still_set ts i t)
+still_set (x ∷ ts) (suc i) t = ap (λ l. task_core x ∷ l) (still_set ts i t)
 
 -- the move of the last task that has one
 pub last_moved : (p : PlanForm) (cells0 cells : List Holding) (ts0 ts : List Task) (back o : ℕ) (old new : Task)
-    → Walked ts0 back ts → o + back + 1 ≡ length ts0 → old ≡ get_or ts o old → Moves p old new cells0 cells
+    → Walked ts0 back ts → o + back + 1 ≡ length ts0 → old ≡ get_or ts o old → TaskMoves p old new cells0 cells
     → MayHaveMoved p ts0 (set ts o new) cells0 cells
 last_moved p cells0 cells ts0 ts back o old new h e is m =
     let l = walked_long ts0 ts back h in
@@ -88,37 +88,37 @@ last_moved p cells0 cells ts0 ts back o old new h e is m =
       last = λ i d lo li. h.done i d li (omega (arith, e, lo));
       task = new;
       stands = λ d. get_or-set_same ts o new d (omega (arith, lt, l));
-      move = λ d. subst (λ t. Moves p t new cells0 cells) (q ∙ get_or_default ts0 o old d lt) m;
-      others = still_set ts o new ∙ ap (λ s. set s o (still new)) h.same ∙ sym (still_set ts0 o new);
+      move = λ d. subst (λ t. TaskMoves p t new cells0 cells) (q ∙ get_or_default ts0 o old d lt) m;
+      others = still_set ts o new ∙ ap (λ s. set s o (task_core new)) h.same ∙ sym (still_set ts0 o new);
     }
 
-still_bad : (ts us : List Task) (i : ℕ) (d : Task) → map still us ≡ map still ts → (get_or us i d).bad ≡ (get_or ts i d).bad
+still_bad : (ts us : List Task) (i : ℕ) (d : Task) → map task_core us ≡ map task_core ts → (get_or us i d).bad ≡ (get_or ts i d).bad
 still_bad [] [] i d e = refl
 still_bad [] (u ∷ us) i d e = absurd (cc e)
 still_bad (t ∷ ts) [] i d e = absurd (cc e)
-still_bad (t ∷ ts) (u ∷ us) zero d e = let h : still u ≡ still t = cc e in ap (λ (s : Still). s.seen.bad) h
-still_bad (t ∷ ts) (u ∷ us) (suc i) d e = let h : map still us ≡ map still ts = cc e in still_bad ts us i d h
+still_bad (t ∷ ts) (u ∷ us) zero d e = let h : task_core u ≡ task_core t = cc e in ap (λ (s : TaskCore). s.seen.bad) h
+still_bad (t ∷ ts) (u ∷ us) (suc i) d e = let h : map task_core us ≡ map task_core ts = cc e in still_bad ts us i d h
 
-still_sents : (ts us : List Task) → map still us ≡ map still ts → sents us ≡ sents ts
+still_sents : (ts us : List Task) → map task_core us ≡ map task_core ts → sents us ≡ sents ts
 still_sents [] [] e = refl
 still_sents [] (u ∷ us) e = absurd (cc e)
 still_sents (t ∷ ts) [] e = absurd (cc e)
 still_sents (t ∷ ts) (u ∷ us) e =
-    let h : still u ≡ still t = cc e in
-    let r : map still us ≡ map still ts = cc e in
-    ap (λ (s : Still). s.seen.sent ∷ sents us) h ∙ ap (λ ls. sent_in t.outs ∷ ls) (still_sents ts us r)
+    let h : task_core u ≡ task_core t = cc e in
+    let r : map task_core us ≡ map task_core ts = cc e in
+    ap (λ (s : TaskCore). s.seen.sent ∷ sents us) h ∙ ap (λ ls. sent_in t.outs ∷ ls) (still_sents ts us r)
 
-still_received : (ts us : List Task) (i : ℕ) (d : Task) → map still us ≡ map still ts → received_in (get_or us i d).ins ≡ received_in (get_or ts i d).ins
+still_received : (ts us : List Task) (i : ℕ) (d : Task) → map task_core us ≡ map task_core ts → received_in (get_or us i d).ins ≡ received_in (get_or ts i d).ins
 still_received [] [] i d e = refl
 still_received [] (u ∷ us) i d e = absurd (cc e)
 still_received (t ∷ ts) [] i d e = absurd (cc e)
-still_received (t ∷ ts) (u ∷ us) zero d e = let h : still u ≡ still t = cc e in ap (λ (s : Still). s.seen.received) h
-still_received (t ∷ ts) (u ∷ us) (suc i) d e = let h : map still us ≡ map still ts = cc e in still_received ts us i d h
+still_received (t ∷ ts) (u ∷ us) zero d e = let h : task_core u ≡ task_core t = cc e in ap (λ (s : TaskCore). s.seen.received) h
+still_received (t ∷ ts) (u ∷ us) (suc i) d e = let h : map task_core us ≡ map task_core ts = cc e in still_received ts us i d h
 
 -- no item failed its test, since what the tasks are is a net; what was taken is the front of what was there; and the ends of the rings
 -- looked
 module _ (p : PlanForm) (inputs : List (List item.Item)) (caps : Capacities) (net net' : Net) (ts : List Task) (v : IsPlan p) (n : IsNetOf p inputs caps net)
-    (n' : IsNetOf p inputs caps net') (ends : all_ends net'.tasks ≡ all_ends net.tasks) (e : map still net'.tasks ≡ map still ts)
+    (n' : IsNetOf p inputs caps net') (ends : all_ends net'.tasks ≡ all_ends net.tasks) (e : map task_core net'.tasks ≡ map task_core ts)
     (h : MayHaveMoved p net.tasks ts net.cells net'.cells) where
   long : h.at < length net'.tasks
   long = let m = ends_many net.tasks net'.tasks ends in let lt = h.there in omega (arith, m, lt)

@@ -7,7 +7,7 @@ use Rattle.std.proofs.lemmas.Option.{get_or_from_slice_get, slice_get_within, sa
 use Rattle.river_base.proofs.Lists.{there_is, got_map}
 use Rattle.river_base.specs.Places.{list_at}
 use Rattle.kern_tables.specs.declared.kind.TableKind.{TableKind}
-use Rattle.kern_tables.specs.declared.kept.Kept.{Kept}
+use Rattle.kern_tables.specs.declared.kept.Aggregate.{Aggregate}
 use Rattle.river_plan.specs.declared.plan.TableDecl.{TableDecl}
 use Rattle.river_plan.specs.Forms.{PlanForm}
 use Rattle.class_locks.specs.declared.log.LogEntry.{LogEntry}
@@ -21,19 +21,19 @@ use Rattle.fire_run.specs.Closed.{AreSorted, ArePlaced, tables_at}
 -- LISTS AT CLASSES
 
 -- the list at a class
-pub at_here : (ls : List (Vec Kept Global)) (c : ℕ) (d : Vec Kept Global) → c < length ls → tables_at ls c ≡ (get_or ls c d).items
+pub at_here : (ls : List (Vec Aggregate Global)) (c : ℕ) (d : Vec Aggregate Global) → c < length ls → tables_at ls c ≡ (get_or ls c d).items
 at_here [] c d lt = absurd (omega (arith, lt))
 at_here (l ∷ ls) zero d lt = refl
 at_here (l ∷ ls) (suc c) d lt = at_here ls c d (omega (arith, lt))
 
 -- and what was put there
-pub at_same : (ls : List (Vec Kept Global)) (c : ℕ) (v : Vec Kept Global) → c < length ls → tables_at (set ls c v) c ≡ v.items
+pub at_same : (ls : List (Vec Aggregate Global)) (c : ℕ) (v : Vec Aggregate Global) → c < length ls → tables_at (set ls c v) c ≡ v.items
 at_same [] c v lt = absurd (omega (arith, lt))
 at_same (l ∷ ls) zero v lt = refl
 at_same (l ∷ ls) (suc c) v lt = at_same ls c v (omega (arith, lt))
 
 -- the other lists stay
-pub at_other : (ls : List (Vec Kept Global)) (c e : ℕ) (v : Vec Kept Global) → e ≢ c → tables_at (set ls c v) e ≡ tables_at ls e
+pub at_other : (ls : List (Vec Aggregate Global)) (c e : ℕ) (v : Vec Aggregate Global) → e ≢ c → tables_at (set ls c v) e ≡ tables_at ls e
 at_other [] c e v ne = refl
 at_other (l ∷ ls) zero zero v ne = absurd (ne refl)
 at_other (l ∷ ls) zero (suc e) v ne = refl
@@ -47,13 +47,13 @@ snoc_some (y ∷ xs) x e = cc e
 -- FROM THE LAST TABLE TO THE FIRST
 
 -- the first n tables stand in the lists of their classes, and the others at their places
-pub record Going (class : ℕ → ℕ) (logs : ℕ → List LogEntry) (n : ℕ) (decls : List TableDecl) (lists : List (Vec Kept Global))
-    (tables : List Kept) : Type 0 where
+pub record Going (class : ℕ → ℕ) (logs : ℕ → List LogEntry) (n : ℕ) (decls : List TableDecl) (lists : List (Vec Aggregate Global))
+    (tables : List Aggregate) : Type 0 where
   pub sorted : AreSorted class logs (take n decls) lists
   pub placed : ArePlaced class logs n decls tables
 
 -- at first all tables stand in lists
-pub going_first : (class : ℕ → ℕ) (logs : ℕ → List LogEntry) (n : ℕ) (decls : List TableDecl) (lists : List (Vec Kept Global)) (tables : List Kept)
+pub going_first : (class : ℕ → ℕ) (logs : ℕ → List LogEntry) (n : ℕ) (decls : List TableDecl) (lists : List (Vec Aggregate Global)) (tables : List Aggregate)
     → AreSorted class logs decls lists → length tables ≡ length decls → n ≡ length decls → Going class logs n decls lists tables
 going_first class logs n decls lists tables s l e = record {
   sorted = subst (λ ds. AreSorted class logs ds lists) (sym (take_all n decls (omega (arith, e)))) s;
@@ -61,12 +61,12 @@ going_first class logs n decls lists tables s l e = record {
 }
 
 -- the next table is the last of those that are not placed
-pub turn_of : (class : ℕ → ℕ) (logs : ℕ → List LogEntry) (count back k : ℕ) (decls : List TableDecl) (lists : List (Vec Kept Global)) (tables : List Kept)
+pub turn_of : (class : ℕ → ℕ) (logs : ℕ → List LogEntry) (count back k : ℕ) (decls : List TableDecl) (lists : List (Vec Aggregate Global)) (tables : List Aggregate)
     → Going class logs (count - back) decls lists tables → back < count → k ≡ count - 1 - back → Going class logs (k + 1) decls lists tables
 turn_of class logs count back k decls lists tables g lt e = subst (λ n. Going class logs n decls lists tables) (omega (arith, lt, e)) g
 
-module _ (class : ℕ → ℕ) (logs : ℕ → List LogEntry) (k : ℕ) (decls : List TableDecl) (lists : List (Vec Kept Global))
-    (tables : List Kept) (lt : k < length decls) (g : Going class logs (k + 1) decls lists tables) where
+module _ (class : ℕ → ℕ) (logs : ℕ → List LogEntry) (k : ℕ) (decls : List TableDecl) (lists : List (Vec Aggregate Global))
+    (tables : List Aggregate) (lt : k < length decls) (g : Going class logs (k + 1) decls lists tables) where
   decl : (t : TableDecl) × (slice_get decls k ≡ Some t)
   decl = there_is decls k lt
 
@@ -98,7 +98,7 @@ module _ (class : ℕ → ℕ) (logs : ℕ → List LogEntry) (k : ℕ) (decls :
   some_there e = snoc_some _ _ (sym (last_is decl.0 decl.1) ∙ e)
 
   -- one table more comes to its place
-  pub going_next : (lists' : List (Vec Kept Global)) (x : Kept) → length lists' ≡ length lists
+  pub going_next : (lists' : List (Vec Aggregate Global)) (x : Aggregate) → length lists' ≡ length lists
       → tables_at lists (class k) ≡ tables_at lists' (class k) ++ x ∷ [] → ((c : ℕ) → c ≢ class k → tables_at lists' c ≡ tables_at lists c)
       → Going class logs k decls lists' (set tables k x)
   going_next lists' x long last others =
@@ -132,14 +132,14 @@ module _ (class : ℕ → ℕ) (logs : ℕ → List LogEntry) (k : ℕ) (decls :
       }
 
 -- at the end all are placed
-pub going_end : (class : ℕ → ℕ) (logs : ℕ → List LogEntry) (n : ℕ) (decls : List TableDecl) (lists : List (Vec Kept Global)) (tables : List Kept)
+pub going_end : (class : ℕ → ℕ) (logs : ℕ → List LogEntry) (n : ℕ) (decls : List TableDecl) (lists : List (Vec Aggregate Global)) (tables : List Aggregate)
     → Going class logs n decls lists tables → n ≡ 0 → ArePlaced class logs 0 decls tables
 going_end class logs n decls lists tables g e = subst (λ m. ArePlaced class logs m decls tables) e g.placed
 
 -- BY THE LIST OF ALL CLASSES
 
 -- the lists of a plan's tables, by the list of their classes
-pub sorted_by : (p : PlanForm) (classes : List ℕ) (logs : ℕ → List LogEntry) (lists : List (Vec Kept Global)) → AreTableClasses p classes
+pub sorted_by : (p : PlanForm) (classes : List ℕ) (logs : ℕ → List LogEntry) (lists : List (Vec Aggregate Global)) → AreTableClasses p classes
     → AreSorted (table_class p) logs p.tables lists → AreSorted (λ n. slice_index_or classes n 0) logs p.tables lists
 sorted_by p classes logs lists h s = record {
   there = λ m lm.
@@ -150,7 +150,7 @@ sorted_by p classes logs lists h s = record {
 }
 
 -- and the tables at their places
-pub placed_by : (p : PlanForm) (classes : List ℕ) (logs : ℕ → List LogEntry) (tables : List Kept) → AreTableClasses p classes
+pub placed_by : (p : PlanForm) (classes : List ℕ) (logs : ℕ → List LogEntry) (tables : List Aggregate) → AreTableClasses p classes
     → ArePlaced (λ n. slice_index_or classes n 0) logs 0 p.tables tables → ArePlaced (table_class p) logs 0 p.tables tables
 placed_by p classes logs tables h s = record {
   many = s.many;
@@ -159,11 +159,11 @@ placed_by p classes logs tables h s = record {
 }
 
 -- the tables of cells stand in the lists of their classes
-pub cells_sorted : (p : PlanForm) (cells : List Holding) (lists : List (Vec Kept Global)) → AreClassCells p cells
-    → map (λ (l : Vec Kept Global). l.items) lists ≡ map (λ (x : Holding). map (replay x.log) x.kinds) cells
+pub cells_sorted : (p : PlanForm) (cells : List Holding) (lists : List (Vec Aggregate Global)) → AreClassCells p cells
+    → map (λ (l : Vec Aggregate Global). l.items) lists ≡ map (λ (x : Holding). map (replay x.log) x.kinds) cells
     → AreSorted (table_class p) (logs_of cells) p.tables lists
 cells_sorted p cells lists h e =
-    let long : length lists ≡ length cells = sym (length-map lists (λ (l : Vec Kept Global). l.items)) ∙ ap length e
+    let long : length lists ≡ length cells = sym (length-map lists (λ (l : Vec Aggregate Global). l.items)) ∙ ap length e
     ∙ length-map cells (λ (x : Holding). map (replay x.log) x.kinds) in
     record {
       there = λ m lm. let a = h.all m lm in omega (arith, a, long);

@@ -30,7 +30,7 @@ use Rattle.fire_tasks.specs.Tasks.{IsTask, IsDone, all_ends}
 use Rattle.fire_tasks.specs.Adds.{added, logs_of}
 use Rattle.fire_laws.proofs.NetLemmas.{make_net, seen_here, settled_ring, kept_input, received_here, sent_here}
 use Rattle.fire_open.specs.Links.{AreLinks, AreMet}
-use Rattle.fire_open.specs.Still.{Still, still}
+use Rattle.fire_open.specs.TaskCores.{TaskCore, task_core}
 use Rattle.fire_open.proofs.Lists.{same_got, map_long}
 use Rattle.fire_open.proofs.StillLemmas.{still_tasks, still_ends}
 use Rattle.river_kernels.specs.declared.limit.Limit.TheVariants.{Ports}
@@ -137,7 +137,7 @@ single_tasks p inputs caps ts laid i k d li lk e =
 
 -- a net whose tasks moved, and whose ends looked since
 pub net_again : (p : PlanForm) (inputs : List (List item.Item)) (caps : Capacities) (net net' : Net) (ts : List Task) → IsPlan p → IsNetOf p inputs caps net
-    → AreTasks p (added p (logs_of net'.cells)) ts → all_ends ts ≡ all_ends net.tasks → map still net'.tasks ≡ map still ts → net'.links ≡ net.links
+    → AreTasks p (added p (logs_of net'.cells)) ts → all_ends ts ≡ all_ends net.tasks → map task_core net'.tasks ≡ map task_core ts → net'.links ≡ net.links
     → AreMet net'.tasks net.links (length net.links) → HaveMoved p net.cells net'.cells → IsNetOf p inputs caps net'
 net_again p inputs caps net net' ts v n k e s l m h = record {
   typed = n.typed;
@@ -170,15 +170,15 @@ input_left : (xs : List item.Item) (i i' : inlet.Inlet) → IsInput xs i → IsI
 input_left xs i i' h h' er z = none_more (received_of i) (received_of i') (known_of i) (known_of i') (kept_input xs i h ∙ sym (kept_input xs i' h')) (sym er) z
 
 module _ (p : PlanForm) (inputs : List (List item.Item)) (caps : Capacities) (net net' : Net) (v : IsPlan p) (n : IsNetOf p inputs caps net)
-    (n' : IsNetOf p inputs caps net') (same : map still net'.tasks ≡ map still net.tasks) where
-  done_again : (o : ℕ) (t t' : Task) → slice_get net.tasks o ≡ Some t → slice_get net'.tasks o ≡ Some t' → still t' ≡ still t → IsDone t → IsDone t'
+    (n' : IsNetOf p inputs caps net') (same : map task_core net'.tasks ≡ map task_core net.tasks) where
+  done_again : (o : ℕ) (t t' : Task) → slice_get net.tasks o ≡ Some t → slice_get net'.tasks o ≡ Some t' → task_core t' ≡ task_core t → IsDone t → IsDone t'
   done_again o t t' g g' s d = record {
-    idle = λ j. ap (λ (x : Still). list_at x.pending j) s ∙ d.idle j;
+    idle = λ j. ap (λ (x : TaskCore). list_at x.pending j) s ∙ d.idle j;
     received = λ port x lt.
         let i' = there_is t'.ins port lt in
-        let lt0 : port < length t.ins = (let e = map_long in_end t'.ins t.ins (ap (λ (x : Still). x.ends.ins) s) in omega (arith, lt, e)) in
+        let lt0 : port < length t.ins = (let e = map_long in_end t'.ins t.ins (ap (λ (x : TaskCore). x.ends.ins) s) in omega (arith, lt, e)) in
         let i = there_is t.ins port lt0 in
-        let er : received_of i'.0 ≡ received_of i.0 = sym (received_here t'.ins port i'.0 i'.1) ∙ ap (λ (x : Still). list_at x.seen.received port) s
+        let er : received_of i'.0 ≡ received_of i.0 = sym (received_here t'.ins port i'.0 i'.1) ∙ ap (λ (x : TaskCore). list_at x.seen.received port) s
         ∙ received_here t.ins port i.0 i.1 in
         let z : known_of i.0 ≡ [] = ap known_of (sym (get_or_from_slice_get t.ins port i.0 x i.1)) ∙ d.received port x lt0 in
         let k = n.tasks.each o t (slice_get_within net.tasks o t g) in
@@ -205,10 +205,10 @@ module _ (p : PlanForm) (inputs : List (List item.Item)) (caps : Capacities) (ne
           let b = task_at p inputs caps (added p (logs_of net'.cells)) net'.tasks n'.laid n'.tasks wr.0 wr.1 wr.2 in
           let f = there_is a.t.outs j.0 (let e = a.outs in let c = slice_get_within wr.1.writes j.0 q j.1 in omega (arith, e, c)) in
           let f' = there_is b.t.outs j.0 (let e = b.outs in let c = slice_get_within wr.1.writes j.0 q j.1 in omega (arith, e, c)) in
-          let x = same_got still net'.tasks net.tasks same wr.0 b.t b.t_is in
+          let x = same_got task_core net'.tasks net.tasks same wr.0 b.t b.t_is in
           let u : x.0 ≡ a.t = same_Some x.0 a.t (sym x.1 ∙ a.t_is) in
-          let st : still b.t ≡ still a.t = x.2 ∙ ap still u in
-          let es : sent_of f'.0 ≡ sent_of f.0 = sym (sent_here b.t.outs j.0 f'.0 f'.1) ∙ ap (λ (y : Still). list_at y.seen.sent j.0) st
+          let st : task_core b.t ≡ task_core a.t = x.2 ∙ ap task_core u in
+          let es : sent_of f'.0 ≡ sent_of f.0 = sym (sent_here b.t.outs j.0 f'.0 f'.1) ∙ ap (λ (y : TaskCore). list_at y.seen.sent j.0) st
           ∙ sent_here a.t.outs j.0 f.0 f.1 in
           ring_left f.0 f'.0 i i'
           (n.settled.each o wr.0 port j.0 q f.0 i
@@ -250,7 +250,7 @@ module _ (p : PlanForm) (inputs : List (List item.Item)) (caps : Capacities) (ne
   idle_again h = record {
     each = λ o d lt.
         let g' = slice_get-get_or net'.tasks o d lt in
-        let x = same_got still net'.tasks net.tasks same o (get_or net'.tasks o d) g' in
+        let x = same_got task_core net'.tasks net.tasks same o (get_or net'.tasks o d) g' in
         let l = slice_get_within net.tasks o x.0 x.1 in
         done_again o x.0 (get_or net'.tasks o d) x.1 g' x.2 (subst IsDone (get_or_from_slice_get net.tasks o x.0 d x.1) (h.each o d l));
   }

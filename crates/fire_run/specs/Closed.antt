@@ -4,7 +4,7 @@ use Rattle.std.specs.Prelude.{◌≡◌, ℕ, pos, ◌+◌, ◌*◌, ◌<◌, �
 use Rattle.river_base.specs.Bags.{SameBag}
 use Rattle.river_base.specs.Places.{list_at}
 use Rattle.river_base.specs.declared.item.Item as item
-use Rattle.kern_tables.specs.declared.kept.Kept.{Kept}
+use Rattle.kern_tables.specs.declared.kept.Aggregate.{Aggregate}
 use Rattle.kern_tables.specs.Kept.{kept_of, rows_of}
 use Rattle.river_plan.specs.Forms.{Name, OpForm, PlanForm, queue_names}
 use Rattle.river_plan.specs.Places.{place}
@@ -45,7 +45,7 @@ pub record AreLogsOf (p : PlanForm) (inputs : List (List item.Item)) (logs : Lis
   pub entries : AreEntries p (log_at logs)
 
 -- each table keeps what its class's log makes of it
-abbrev pub AreReplayed : PlanForm → (ℕ → List LogEntry) → List Kept → Type 0
+abbrev pub AreReplayed : PlanForm → (ℕ → List LogEntry) → List Aggregate → Type 0
 AreReplayed p logs tables = (n : ℕ) (t : TableDecl) → slice_get p.tables n ≡ Some t
     → slice_get tables n ≡ Some (kept_of t.kind (rows_to n (logs (table_class p n))))
 
@@ -102,15 +102,15 @@ pub record HaveOuts (p : PlanForm) (h : History) (o : ℕ) (ts : List Task) : Ty
 -- TABLES
 
 -- the tables at a class
-abbrev pub tables_at : List (Vec Kept Global) → ℕ → List Kept
-tables_at lists c = list_at (map (λ (l : Vec Kept Global). l.items) lists) c
+abbrev pub tables_at : List (Vec Aggregate Global) → ℕ → List Aggregate
+tables_at lists c = list_at (map (λ (l : Vec Aggregate Global). l.items) lists) c
 
 -- each of these tables stands in the list of its class, in order, as the class's log left it
-pub record AreSorted (class : ℕ → ℕ) (logs : ℕ → List LogEntry) (decls : List TableDecl) (lists : List (Vec Kept Global)) : Type 0 where
+pub record AreSorted (class : ℕ → ℕ) (logs : ℕ → List LogEntry) (decls : List TableDecl) (lists : List (Vec Aggregate Global)) : Type 0 where
   pub there : (m : ℕ) → m < length decls → class m < length lists
   pub each : (c : ℕ) → c < length lists → tables_at lists c ≡ map (replay (logs c)) (kinds_from class c 0 decls)
 
 -- the tables from number n on stand at their places
-pub record ArePlaced (class : ℕ → ℕ) (logs : ℕ → List LogEntry) (n : ℕ) (decls : List TableDecl) (tables : List Kept) : Type 0 where
+pub record ArePlaced (class : ℕ → ℕ) (logs : ℕ → List LogEntry) (n : ℕ) (decls : List TableDecl) (tables : List Aggregate) : Type 0 where
   pub many : length tables ≡ length decls
   pub each : (m : ℕ) (t : TableDecl) → n ≤ m → slice_get decls m ≡ Some t → slice_get tables m ≡ Some (replay (logs (class m)) (m, t.kind))

@@ -4,14 +4,14 @@ use Rattle.river_plan.specs.Forms.{PlanForm, plan_form}
 use Rattle.river_plan.specs.declared.plan.RawPlan.{RawPlan}
 use Rattle.river_plan.specs.Valid.{IsPlan}
 use Rattle.class_locks.specs.declared.log.LogEntry.{LogEntry}
-use Rattle.class_locks.specs.Logs.{Holding, part}
+use Rattle.class_locks.specs.Logs.{Holding, entries_of_part}
 use Rattle.class_locks.specs.Seats.{Chair, TableId, with_parts}
 use Rattle.class_locks.specs.Views.{own}
 use Rattle.fire_tasks.specs.declared.bundle.Bundle.{Bundle}
 use Rattle.fire_tasks.specs.declared.task.Task.{Task}
-use Rattle.fire_tasks.specs.Bundles.{IsBundle, HasEnded, HasGone, HasMadeRound}
+use Rattle.fire_tasks.specs.Bundles.{IsBundle, HasRoundEnded, HasGone, HasMadeRound}
 use Rattle.fire_tasks.specs.Tasks.{TaskEnds, all_ends, all_moves}
-use Rattle.fire_open.specs.Still.{still}
+use Rattle.fire_open.specs.TaskCores.{task_core}
 use Rattle.fire_run.specs.declared.net.Net.{Net}
 use Rattle.fire_run.specs.declared.splitting.SplitFault as fault
 use Rattle.fire_run.specs.declared.splitting.SplitFault.TheVariants.{Begun, NoMemory}
@@ -102,7 +102,7 @@ AreCalm bundles = All (λ b. b.refused ≡ false) bundles
 pub record HasToldMoves (bundles bundles' : List Bundle) : Type 0 where
   pub each : (i : ℕ) (d : Bundle) → i < length bundles
       → HasGone (slice_index_or bundles i d) (slice_index_or bundles' i d) (slice_index_or bundles' i d).moved
-  pub ended : (i : ℕ) (d : Bundle) → i < length bundles → HasEnded (slice_index_or bundles i d) (slice_index_or bundles' i d)
+  pub ended : (i : ℕ) (d : Bundle) → i < length bundles → HasRoundEnded (slice_index_or bundles i d) (slice_index_or bundles' i d)
   pub never_fall : bundle_moves bundles ≤ bundle_moves bundles'
   pub grew : (i : ℕ) (d : Bundle) → i < length bundles' → (slice_index_or bundles' i d).moved ≡ true → bundle_moves bundles < bundle_moves bundles'
   pub stayed : All (λ b. b.moved ≡ false) bundles' → bundle_moves bundles' ≡ bundle_moves bundles
@@ -126,7 +126,7 @@ RoundsTellMoves = (raw : RawPlan) (bs bs' : List Bundle) → HaveWorked raw bs b
 -- each task of the net is that of its bundle, which looked at its rings since
 pub record AreTasksOf (bundles : List Bundle) (ts : List Task) : Type 0 where
   pub each : (k : ℕ) (d : Bundle) → k < length bundles
-      → map still (tasks_of_part (length bundles) k ts) ≡ map still (slice_index_or bundles k d).tasks
+      → map task_core (tasks_of_part (length bundles) k ts) ≡ map task_core (slice_index_or bundles k d).tasks
 
 -- the cell of class c has grown by entries of which those of each part are, in order, what the seat of this part's bundle put at the class
 pub record HasGrownBy (bundles : List Bundle) (c : ℕ) (old new : Holding) : Type 0 where
@@ -134,7 +134,7 @@ pub record HasGrownBy (bundles : List Bundle) (c : ℕ) (old new : Holding) : Ty
   pub kinds : new.kinds ≡ old.kinds
   pub log : new.log ≡ old.log ++ growth
   pub parts : (k : ℕ) (d : Bundle) → k < length bundles
-      → part (length bundles) k growth ≡ own (length bundles) k c (slice_index_or bundles k d).seat.view.claims
+      → entries_of_part (length bundles) k growth ≡ own (length bundles) k c (slice_index_or bundles k d).seat.view.claims
 
 -- so has each cell
 pub record HaveGrownBy (bundles : List Bundle) (cells cells' : List Holding) : Type 0 where

@@ -13,7 +13,7 @@ use Rattle.fire_tasks.specs.Ports.{HasRoom, HasSentFront, IsIdle, known_of, rece
 use Rattle.fire_tasks.specs.Adds.{added, logs_of}
 use Rattle.fire_tasks.specs.Tasks.{HasWord, IsDone, IsTask}
 use Rattle.fire_tasks.specs.Turns.{logged}
-use Rattle.fire_open.specs.Still.{still}
+use Rattle.fire_open.specs.TaskCores.{task_core}
 use Rattle.fire_tasks.specs.Rows.{cells_grown}
 
 -- a send: the front of what is pending at a port goes to what was sent there, where its ring has room; all else of the task stays, and
@@ -44,8 +44,8 @@ pub record Takes (p : PlanForm) (t t' : Task) (cells cells' : List Holding) : Ty
       → HasWord p (added p (logs_of cells') t.op) t' (k.word ++ (port, item) ∷ [])
 
 -- one or the other; a send leaves the logs as they are
-abbrev pub Moves : PlanForm → Task → Task → List Holding → List Holding → Type 0
-Moves p t t' cells cells' = (Sends t t' × (cells' ≡ cells)) ⊎ Takes p t t' cells cells'
+abbrev pub TaskMoves : PlanForm → Task → Task → List Holding → List Holding → Type 0
+TaskMoves p t t' cells cells' = (Sends t t' × (cells' ≡ cells)) ⊎ Takes p t t' cells cells'
 
 -- a move of the last task that has something to do, whether or not its item failed its test
 pub record MayHaveMoved (p : PlanForm) (ts ts' : List Task) (cells cells' : List Holding) : Type 0 where
@@ -54,8 +54,8 @@ pub record MayHaveMoved (p : PlanForm) (ts ts' : List Task) (cells cells' : List
   pub last : (o : ℕ) (d : Task) → at < o → o < length ts → IsDone (slice_index_or ts o d)
   pub task : Task
   pub stands : (d : Task) → slice_index_or ts' at d ≡ task
-  pub move : (d : Task) → Moves p (slice_index_or ts at d) task cells cells'
-  pub others : map still ts' ≡ map still (slice_set ts at task)
+  pub move : (d : Task) → TaskMoves p (slice_index_or ts at d) task cells cells'
+  pub others : map task_core ts' ≡ map task_core (slice_set ts at task)
 
 -- a take of an item that is the front of what is known to be there and was not received
 pub record TakesFront (p : PlanForm) (t t' : Task) (cells cells' : List Holding) : Type 0 where
@@ -70,4 +70,4 @@ pub record LastMoved (p : PlanForm) (ts ts' : List Task) (cells cells' : List Ho
   pub task : Task
   pub fine : task.bad ≡ None
   pub move : (d : Task) → (Sends (slice_index_or ts at d) task × (cells' ≡ cells)) ⊎ TakesFront p (slice_index_or ts at d) task cells cells'
-  pub others : map still ts' ≡ map still (slice_set ts at task)
+  pub others : map task_core ts' ≡ map task_core (slice_set ts at task)

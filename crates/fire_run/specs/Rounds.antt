@@ -2,10 +2,10 @@
 use Rattle.std.specs.Prelude.{◌≡◌, ◌⊎◌, ℕ, ◌<◌, ◌≤◌, Bool, true, List, length, map, slice_index_or}
 use Rattle.river_plan.specs.Forms.{PlanForm}
 use Rattle.fire_tasks.specs.declared.bundle.Bundle.{Bundle}
-use Rattle.fire_tasks.specs.Bundles.{AllGoOn, AllStay, HasEnded, SomeGrew}
+use Rattle.fire_tasks.specs.Bundles.{AllGoOn, AllStay, HasRoundEnded, SomeGrew}
 use Rattle.fire_tasks.specs.Ports.{HasMoved}
 use Rattle.fire_tasks.specs.Tasks.{all_ends, all_moves}
-use Rattle.fire_open.specs.Still.{still}
+use Rattle.fire_open.specs.TaskCores.{task_core}
 use Rattle.fire_run.specs.declared.net.Net.{Net}
 use Rattle.fire_run.specs.declared.running.Round.{Round}
 use Rattle.fire_run.specs.declared.running.Round.TheVariants.{Late, Moved}
@@ -24,7 +24,7 @@ pub record SomeMoved (bundles : List Bundle) : Type 0 where
 pub record HaveEnded (bundles : List Bundle) (net : Net) : Type 0 where
   pub worked : List Bundle
   pub many : length worked ≡ length bundles
-  pub ended : (i : ℕ) (d : Bundle) → i < length bundles → HasEnded (slice_index_or bundles i d) (slice_index_or worked i d)
+  pub ended : (i : ℕ) (d : Bundle) → i < length bundles → HasRoundEnded (slice_index_or bundles i d) (slice_index_or worked i d)
   pub tasks : AreTasksOf worked net.tasks
 
 -- the bundles of a frame worked and are a net again, of the same plan, inputs and capacities. Port by port no number fell; `moved` says
@@ -50,7 +50,7 @@ pub record NetGoesOn (p : PlanForm) (net net' : Net) (round : Round) : Type 0 wh
 
 -- one move, or a look at which nothing moved
 abbrev pub OnceMoved : PlanForm → Net → Net → Type 0
-OnceMoved p net net' = LastMoved p net.tasks net'.tasks net.cells net'.cells ⊎ (map still net'.tasks ≡ map still net.tasks)
+OnceMoved p net net' = LastMoved p net.tasks net'.tasks net.cells net'.cells ⊎ (map task_core net'.tasks ≡ map task_core net.tasks)
 
 -- the tasks of the net were dealt to n bundles, each worked, with a cause for the end of its round, and they became a net again; behind it
 -- came one move, a look, or nothing

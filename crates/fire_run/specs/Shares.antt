@@ -35,9 +35,9 @@ put_each [] ts = ts
 put_each (t ∷ own) ts = slice_set (put_each own ts) t.op t
 
 -- the list, with the tasks of all these bundles at their places
-abbrev pub put_all : List Bundle → List Task → List Task
-put_all [] ts = ts
-put_all (b ∷ bs) ts = put_all bs (put_each b.tasks ts)
+abbrev pub put_bundles : List Bundle → List Task → List Task
+put_bundles [] ts = ts
+put_bundles (b ∷ bs) ts = put_bundles bs (put_each b.tasks ts)
 
 -- each of these tasks has its place in a list of n
 abbrev pub AreWithin : ℕ → List Task → Type 0

@@ -14,7 +14,7 @@ use brooklet_step::{Lines, Outcome};
 use class_locks::LogEntry;
 use fire_open::blank_lines;
 use fire_tasks::{Outlet, Task};
-use kern_rows::Line;
+use kern_rows::ItemLine;
 use river_base::{Listed, NoMemory, Numbers};
 use river_plan::Plan;
 use std::alloc::Global;
@@ -57,7 +57,7 @@ impl Ran {
 }
 
 // What was kept at an end that nobody reads; nothing is left there.
-fn take_kept(alloc: Global, outlet: &mut Outlet) -> Line
+fn take_kept(alloc: Global, outlet: &mut Outlet) -> ItemLine
     requires { IsStored outlet.old }
     ensures { result ≡ sent_of outlet.old }
 {

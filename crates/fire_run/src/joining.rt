@@ -4,7 +4,7 @@ ghost use Rattle.river_plan.specs.Forms.{PlanForm};
 ghost use Rattle.fire_tasks.specs.Tasks.{all_ends, all_moves};
 ghost use Rattle.fire_run.specs.Frames.{AreBundlesOf, AreSeatedIn, AreTasksOf, HaveGrownBy, bundle_moves};
 ghost use Rattle.fire_run.specs.NetOf.{Stays};
-ghost use Rattle.fire_run.specs.Shares.{AreAtRest, AreWithin, merged_view, put_all, put_each, seats_of};
+ghost use Rattle.fire_run.specs.Shares.{AreAtRest, AreWithin, merged_view, put_bundles, put_each, seats_of};
 
 use crate::frame::{Bundles, Frame};
 use crate::net::Net;
@@ -36,7 +36,7 @@ fn put_task(tasks: &mut Listed<Task>, task: Task)
 // Puts the tasks of all bundles at their places.
 fn gather(tasks: &mut Listed<Task>, bundles: &mut Bundles)
     requires { All (λ b. AreWithin (length tasks.old) b.tasks) bundles.old.items }
-    ensures tasks { tasks.new ≡ put_all bundles.old.items tasks.old }
+    ensures tasks { tasks.new ≡ put_bundles bundles.old.items tasks.old }
     ensures seats { seats_of bundles.new.items ≡ seats_of bundles.old.items }
 {
     for place in 0..bundles.len() {

@@ -12,7 +12,7 @@ use Rattle.fire_tasks.specs.Outlet as outlet
 use Rattle.fire_tasks.specs.declared.task.Task.{Task}
 use Rattle.fire_tasks.specs.Bundles.{AllGoOn, AllStay, HasGone, SomeGrew}
 use Rattle.fire_tasks.specs.Ports.{AreFronts, HasMoved, in_end, in_ends, out_end, out_ends, received_count, received_in, received_of, sent_count, sent_in, sent_of}
-use Rattle.fire_tasks.specs.Tasks.{GoesOn, HasGrown, TaskEnds, all_ends, all_moves, ends_of, moves}
+use Rattle.fire_tasks.specs.Tasks.{ExtendsFronts, HasMovedMore, TaskEnds, all_ends, all_moves, ends_of, moves}
 
 -- FRONTS OF ONE LIST
 
@@ -63,21 +63,21 @@ fronts_sent (y ∷ ys) (suc i) x more e (suc j) = fronts_sent ys i x more e j
 
 -- TASKS
 
-pub goes_same : (t : Task) → GoesOn t t
+pub goes_same : (t : Task) → ExtendsFronts t t
 goes_same t = record { received = fronts_same (received_in t.ins); sent = fronts_same (sent_in t.outs) }
 
-pub goes_then : (t t1 t2 : Task) → GoesOn t t1 → GoesOn t1 t2 → GoesOn t t2
+pub goes_then : (t t1 t2 : Task) → ExtendsFronts t t1 → ExtendsFronts t1 t2 → ExtendsFronts t t2
 goes_then t t1 t2 a b = record {
   received = fronts_then (received_in t.ins) (received_in t1.ins) (received_in t2.ins) a.received b.received;
   sent = fronts_then (sent_in t.outs) (sent_in t1.outs) (sent_in t2.outs) a.sent b.sent;
 }
 
 -- a task that sent, and whose looks received nothing
-pub goes_sent : (t t' : Task) → received_in t'.ins ≡ received_in t.ins → AreFronts (sent_in t.outs) (sent_in t'.outs) → GoesOn t t'
+pub goes_sent : (t t' : Task) → received_in t'.ins ≡ received_in t.ins → AreFronts (sent_in t.outs) (sent_in t'.outs) → ExtendsFronts t t'
 goes_sent t t' e s = record { received = fronts_is (received_in t.ins) (received_in t'.ins) e; sent = s }
 
 -- a task that took an item
-pub goes_took : (t t' : Task) (port : ℕ) (x : item.Item) → received_in t'.ins ≡ append_at (received_in t.ins) port (x ∷ []) → t'.outs ≡ t.outs → GoesOn t t'
+pub goes_took : (t t' : Task) (port : ℕ) (x : item.Item) → received_in t'.ins ≡ append_at (received_in t.ins) port (x ∷ []) → t'.outs ≡ t.outs → ExtendsFronts t t'
 goes_took t t' port x r s = record {
   received = subst (AreFronts (received_in t.ins)) (sym r) (fronts_more (received_in t.ins) port (x ∷ []));
   sent = fronts_is (sent_in t.outs) (sent_in t'.outs) (ap sent_in s);
@@ -92,13 +92,13 @@ pub all_then : (ts ts1 ts2 : List Task) → length ts1 ≡ length ts → AllGoOn
 all_then ts ts1 ts2 n a b i d lt = goes_then (get_or ts i d) (get_or ts1 i d) (get_or ts2 i d) (a i d lt) (b i d (omega (arith, n, lt)))
 
 -- one task had its turn
-pub all_set : (ts : List Task) (i : ℕ) (old new : Task) → i < length ts → old ≡ get_or ts i old → GoesOn old new → AllGoOn ts (set ts i new)
+pub all_set : (ts : List Task) (i : ℕ) (old new : Task) → i < length ts → old ≡ get_or ts i old → ExtendsFronts old new → AllGoOn ts (set ts i new)
 all_set ts i old new lt e g j d lj = ⊎_elim
     (λ q.
     let here : old ≡ get_or ts j d = e ∙ get_or_default ts i old d lt ∙ ap (λ k. get_or ts k d) q in
     let there : get_or (set ts i new) j d ≡ new = ap (λ k. get_or (set ts i new) k d) (sym q) ∙ get_or-set_same ts i new d lt in
-    subst (λ x. GoesOn x (get_or (set ts i new) j d)) here (subst (GoesOn old) (sym there) g))
-    (λ ne. subst (GoesOn (get_or ts j d)) (sym (get_or-set_other ts i j new d (λ q. ne (sym q)))) (goes_same (get_or ts j d)))
+    subst (λ x. ExtendsFronts x (get_or (set ts i new) j d)) here (subst (ExtendsFronts old) (sym there) g))
+    (λ ne. subst (ExtendsFronts (get_or ts j d)) (sym (get_or-set_other ts i j new d (λ q. ne (sym q)))) (goes_same (get_or ts j d)))
     (cases_eq i j)
 
 -- WHERE A NUMBER GREW
@@ -130,7 +130,7 @@ ins_as_many xs ys e = sym (length-map ys in_end) ∙ ap length e ∙ length-map 
 outs_as_many : (xs ys : List outlet.Outlet) → out_ends ys ≡ out_ends xs → length ys ≡ length xs
 outs_as_many xs ys e = sym (length-map ys out_end) ∙ ap length e ∙ length-map xs out_end
 
-task_grew : (t t' : Task) → ends_of t' ≡ ends_of t → moves t < moves t' → HasGrown t t'
+task_grew : (t t' : Task) → ends_of t' ≡ ends_of t → moves t < moves t' → HasMovedMore t t'
 task_grew t t' e lt = ⊎_elim
     (λ l. inl (received_grew t.ins t'.ins (ins_as_many t.ins t'.ins (ap (λ (x : TaskEnds). x.ins) e)) l))
     (λ ge. inr (sent_grew t.outs t'.outs (outs_as_many t.outs t'.outs (ap (λ (x : TaskEnds). x.outs) e)) (omega (arith, lt, ge))))
@@ -192,7 +192,7 @@ sent_stays (x ∷ xs) (y ∷ ys) n f le =
     let s = sent_stays xs ys (omega (arith, n)) (λ j. f (suc j)) (omega (arith, le, h)) in
     ap (λ l. l ∷ sent_in ys) e ∙ ap (λ ls. sent_of x ∷ ls) s
 
-task_short : (t t' : Task) → ends_of t' ≡ ends_of t → GoesOn t t' → moves t ≤ moves t'
+task_short : (t t' : Task) → ends_of t' ≡ ends_of t → ExtendsFronts t t' → moves t ≤ moves t'
 task_short t t' e g =
     let r = received_short t.ins t'.ins (ins_as_many t.ins t'.ins (ap (λ (x : TaskEnds). x.ins) e)) g.received in
     let s = sent_short t.outs t'.outs (outs_as_many t.outs t'.outs (ap (λ (x : TaskEnds). x.outs) e)) g.sent in
@@ -210,7 +210,7 @@ tasks_short (t ∷ ts) (u ∷ us) e g =
     let b = tasks_short ts us r (λ i d lt. g (suc i) d (omega (arith, lt))) in
     omega (arith, a, b)
 
-task_stays : (t t' : Task) → ends_of t' ≡ ends_of t → GoesOn t t' → moves t' ≤ moves t
+task_stays : (t t' : Task) → ends_of t' ≡ ends_of t → ExtendsFronts t t' → moves t' ≤ moves t
     → (received_in t'.ins ≡ received_in t.ins) × (sent_in t'.outs ≡ sent_in t.outs)
 task_stays t t' e g le =
     let n = ins_as_many t.ins t'.ins (ap (λ (x : TaskEnds). x.ins) e) in

@@ -11,8 +11,8 @@ use Rattle.river_plan.specs.Forms.{PlanForm}
 use Rattle.class_locks.specs.declared.log.LogEntry.{LogEntry}
 use Rattle.class_locks.specs.declared.view.Claim.{Claim}
 use Rattle.class_locks.specs.declared.view.View.{View}
-use Rattle.class_locks.specs.Logs.{Holding, part, part_of_op, rows_in, rows_to}
-use Rattle.class_locks.specs.Seats.{HasAll, HasGrown}
+use Rattle.class_locks.specs.Logs.{Holding, entries_of_part, part_of_op, rows_in, rows_to}
+use Rattle.class_locks.specs.Seats.{HasAll, LogsHaveGrown}
 use Rattle.class_locks.specs.Views.{StandsIn, entries_of, is_claim_of, own}
 use Rattle.fire_tasks.specs.Adds.{AreClaims, AreEntries, IsEntryOf, added, logs_at, logs_of, rows_by, table_at, table_class}
 
@@ -22,10 +22,10 @@ skipped o e true r ne = ap (λ (b : Bool). cond b (e ∷ part_of_op o r) (part_o
 skipped o e false r ne = refl
 
 -- the entries of an operator are all in its part
-pub part_of_part : (n o : ℕ) (es : List LogEntry) → part_of_op o (part n (o % n) es) ≡ part_of_op o es
+pub part_of_part : (n o : ℕ) (es : List LogEntry) → part_of_op o (entries_of_part n (o % n) es) ≡ part_of_op o es
 part_of_part n o [] = refl
 part_of_part n o (e ∷ es) =
-    let rest = part n (o % n) es in
+    let rest = entries_of_part n (o % n) es in
     ⊎_elim
     (λ q.
     ap (λ (b : Bool). part_of_op o (cond b (e ∷ rest) rest)) (eq-eqb (e.op % n) (o % n) (ap (λ (k : ℕ). k % n) q))
@@ -48,7 +48,7 @@ rows-append o table xs ys = ap (rows_to table) (filter-append (λ e. e.op == o) 
 
 -- Let v be what the seat of operator o knew, and w what the seat that closed the round knows: it has o's part, and of this part claims
 -- what v does. Then the cells' logs have of o, at a table whose class is there, what v knew.
-pub joined_adds : (p : PlanForm) (v w : View) (cells : List Holding) (o j : ℕ) → HasGrown w cells → w.seats ≡ v.seats → w.starts ≡ v.starts
+pub joined_adds : (p : PlanForm) (v w : View) (cells : List Holding) (o j : ℕ) → LogsHaveGrown w cells → w.seats ≡ v.seats → w.starts ≡ v.starts
     → StandsIn (o % v.seats) w.parts
     → ((c : ℕ) → own v.seats (o % v.seats) c w.claims ≡ own v.seats (o % v.seats) c v.claims)
     → (x : Holding) → get_elem? cells (table_class p (table_at p o j)) ≡ some x → added p (logs_of cells) o j ≡ added p (logs_at v o) o j
@@ -57,8 +57,8 @@ joined_adds p v w cells o j grown seats starts has claims x g =
     let c = table_class p t in
     let n = v.seats in
     let l = grown.each c x g in
-    let owns : part n (o % n) l.growth ≡ own n (o % n) c v.claims =
-    subst (λ (m : ℕ). part m (o % n) l.growth ≡ own m (o % n) c w.claims) seats (l.owns 0 w refl (o % n) has) ∙ claims c in
+    let owns : entries_of_part n (o % n) l.growth ≡ own n (o % n) c v.claims =
+    subst (λ (m : ℕ). entries_of_part m (o % n) l.growth ≡ own m (o % n) c w.claims) seats (l.owns 0 w refl (o % n) has) ∙ claims c in
     let start : logs_of v.starts c ≡ l.start.log = log_is v.starts c l.start (sym (ap (λ (s : List Holding). get_elem? s c) starts) ∙ l.given) in
     ap (rows_by o t) (log_is cells c x g ∙ l.log) ∙ rows-append o t l.start.log l.growth
     ∙ ap (λ (r : List LogEntry). rows_by o t r ++ rows_by o t l.growth) (sym start)
@@ -68,16 +68,16 @@ joined_adds p v w cells o j grown seats starts has claims x g =
 -- ENTRIES
 
 -- what holds of the entries of each part holds of all
-all_parts : (P : LogEntry → Type 0) (n : ℕ) → 0 < n → (es : List LogEntry) → ((k : ℕ) → k < n → All P (part n k es)) → All P es
+all_parts : (P : LogEntry → Type 0) (n : ℕ) → 0 < n → (es : List LogEntry) → ((k : ℕ) → k < n → All P (entries_of_part n k es)) → All P es
 all_parts P n lt [] h = All-nil P
 all_parts P n lt (e ∷ es) h =
     let k = e.op % n in
-    let here : All P (e ∷ part n k es) =
-    subst (All P) (ap (λ (b : Bool). cond b (e ∷ part n k es) (part n k es)) (eq-eqb k k refl)) (h k (mod_below e.op n lt)) in
-    All-cons P e es (All-head P e (part n k es) here) (all_parts P n lt es (λ m lm. rest ((e.op % n) == m) m (h m lm)))
+    let here : All P (e ∷ entries_of_part n k es) =
+    subst (All P) (ap (λ (b : Bool). cond b (e ∷ entries_of_part n k es) (entries_of_part n k es)) (eq-eqb k k refl)) (h k (mod_below e.op n lt)) in
+    All-cons P e es (All-head P e (entries_of_part n k es) here) (all_parts P n lt es (λ m lm. rest ((e.op % n) == m) m (h m lm)))
   where
-    rest : (b : Bool) (m : ℕ) → All P (cond b (e ∷ part n m es) (part n m es)) → All P (part n m es)
-    rest true m a = All-tail P e (part n m es) a
+    rest : (b : Bool) (m : ℕ) → All P (cond b (e ∷ entries_of_part n m es) (entries_of_part n m es)) → All P (entries_of_part n m es)
+    rest true m a = All-tail P e (entries_of_part n m es) a
     rest false m a = a
 
 -- the claims of a class are of that class
@@ -108,7 +108,7 @@ each_log P (y ∷ ys) h (suc c) = each_log (λ (k : ℕ). P (suc k)) ys (λ k x 
 
 -- at the end of a round, closed by a seat with every part, the logs have right entries where they had such at its beginning and the
 -- claims are right
-pub joined_entries : (p : PlanForm) (w : View) (cells : List Holding) → HasGrown w cells → 0 < w.seats → HasAll w → AreEntries p (logs_of w.starts)
+pub joined_entries : (p : PlanForm) (w : View) (cells : List Holding) → LogsHaveGrown w cells → 0 < w.seats → HasAll w → AreEntries p (logs_of w.starts)
     → AreClaims p w.claims
     → AreEntries p (logs_of cells)
 joined_entries p w cells grown lt all starts claims = each_log (IsEntryOf p) cells (λ c x g.

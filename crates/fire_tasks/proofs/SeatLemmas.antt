@@ -11,7 +11,7 @@ use Rattle.class_locks.specs.declared.log.LogEntry.{LogEntry}
 use Rattle.class_locks.specs.declared.view.View.{View}
 use Rattle.class_locks.specs.declared.view.Held.{Held}
 use Rattle.class_locks.specs.declared.view.Claim.{Claim}
-use Rattle.class_locks.specs.Logs.{part}
+use Rattle.class_locks.specs.Logs.{entries_of_part}
 use Rattle.class_locks.specs.Piles.{Piled, AllBelow, Matches, IsPile, HasGained, HasTaken, HasPut, gained}
 use Rattle.class_locks.specs.Views.{StandsIn, Belong, own, claims_of}
 use Rattle.class_locks.proofs.Owns.{own-append, own_same, own_other}
@@ -100,7 +100,7 @@ module _ (n : ℕ) (parts : List ℕ) (more : ℕ → List LogEntry) where
 
   -- at a class what is claimed is the part of what its cell has more; at another there is none
   claimed_at : (k c m : ℕ) (ps : List Piled) (hs : List Held) → AllBelow m hs → Matches n parts ps hs → gained ps hs ≡ []
-      → (own n k c (gained (pile_grown more ps) hs) ≡ part n k (more c)) ⊎ ((own n k c (gained (pile_grown more ps) hs) ≡ []) × All (λ (x : Piled). x.0 ≢ c) ps)
+      → (own n k c (gained (pile_grown more ps) hs) ≡ entries_of_part n k (more c)) ⊎ ((own n k c (gained (pile_grown more ps) hs) ≡ []) × All (λ (x : Piled). x.0 ≢ c) ps)
   claimed_at k c m [] hs b ma g = inr (refl, All-nil (λ (x : Piled). x.0 ≢ c))
   claimed_at k c m (p ∷ ps) [] b ma g = absurd ma
   claimed_at k c m (p ∷ ps) (h ∷ hs) b ma g =
@@ -114,7 +114,7 @@ module _ (n : ℕ) (parts : List ℕ) (more : ℕ → List LogEntry) where
       split
       ∙ ap (λ (l : List LogEntry). own n k c (claims_of p.0 es) ++ l) (claimed_past k c h.class ps hs (omega (arith, q, e)) b.1 ma.2)
       ∙ append-nil (own n k c (claims_of p.0 es))
-      ∙ ap (λ (d : ℕ). own n k d (claims_of p.0 es)) (sym q) ∙ own_same n k p.0 es ∙ ap (part n k) one ∙ ap (λ (d : ℕ). part n k (more d)) q))
+      ∙ ap (λ (d : ℕ). own n k d (claims_of p.0 es)) (sym q) ∙ own_same n k p.0 es ∙ ap (entries_of_part n k) one ∙ ap (λ (d : ℕ). entries_of_part n k (more d)) q))
       (λ ne.
       let gone = split ∙ ap (λ (l : List LogEntry). l ++ own n k c rest) (own_other n k p.0 c es (λ q. ne (sym q))) in
       ⊎_elim
@@ -164,18 +164,18 @@ module _ (v u w : View) (classes : List ℕ) (pile pile' : List Piled) (more : �
 
   -- each own list has the part of what the cell of its class has more
   pub own_grew : ((c : ℕ) → ((i : ℕ) (x : Piled) → slice_get pile i ≡ Some x → x.0 ≢ c) → more c ≡ []) → (k c : ℕ)
-      → own w.seats k c w.claims ≡ own v.seats k c v.claims ++ part v.seats k (more c)
+      → own w.seats k c w.claims ≡ own v.seats k c v.claims ++ entries_of_part v.seats k (more c)
   own_grew none k c =
       let n = u.seats in
       let seats : u.seats ≡ v.seats = t.looked.seats in
-      let at : own n k c (gained (pile_grown more (reverse pile)) u.held) ≡ part n k (more c) = ⊎_elim
+      let at : own n k c (gained (pile_grown more (reverse pile)) u.held) ≡ entries_of_part n k (more c) = ⊎_elim
       (λ here. here)
-      (λ there. there.0 ∙ sym (ap (part n k) (none c (λ i x g. got_all (λ (y : Piled). y.0 ≢ c) pile i x (turned_all (λ (y : Piled). y.0 ≢ c) pile there.1) g))))
+      (λ there. there.0 ∙ sym (ap (entries_of_part n k) (none c (λ i x g. got_all (λ (y : Piled). y.0 ≢ c) pile i x (turned_all (λ (y : Piled). y.0 ≢ c) pile there.1) g))))
       (claimed_at n u.parts more k c (length u.starts) (reverse pile) u.held t.pile.descend t.pile.matches t.as_taken) in
       ap (λ (m : ℕ). own m k c w.claims) (put.seats ∙ seats) ∙ ap (own v.seats k c) came
       ∙ own-append v.seats k c v.claims (gained (pile_grown more (reverse pile)) u.held)
       ∙ ap (λ (l : List LogEntry). own v.seats k c v.claims ++ l)
-      (subst (λ (m : ℕ). own m k c (gained (pile_grown more (reverse pile)) u.held) ≡ part m k (more c)) seats at)
+      (subst (λ (m : ℕ). own m k c (gained (pile_grown more (reverse pile)) u.held) ≡ entries_of_part m k (more c)) seats at)
 
   -- what holds of the entries, and of the claims before, holds of all claims
   pub claims_all : (P : ℕ → LogEntry → Type 0) → ((c : ℕ) → All (P c) (more c)) → All (λ (q : Claim). P q.class q.entry) v.claims
@@ -189,18 +189,18 @@ module _ (v u w : View) (classes : List ℕ) (pile pile' : List Piled) (more : �
   claims_grew p a h = claims_all (IsEntryOf p) a h
 
 -- the part of an operator's entries that is its own
-pub part_own : (n o : ℕ) (es : List LogEntry) → All (λ e. e.op ≡ o) es → part n (o % n) es ≡ es
+pub part_own : (n o : ℕ) (es : List LogEntry) → All (λ e. e.op ≡ o) es → entries_of_part n (o % n) es ≡ es
 part_own n o [] h = refl
 part_own n o (e ∷ es) h =
-    ap (λ (b : Bool). cond b (e ∷ part n (o % n) es) (part n (o % n) es))
+    ap (λ (b : Bool). cond b (e ∷ entries_of_part n (o % n) es) (entries_of_part n (o % n) es))
     (eq-eqb (e.op % n) (o % n) (ap (λ (k : ℕ). k % n) (All-head (λ (x : LogEntry). x.op ≡ o) e es h)))
     ∙ ap (λ (l : List LogEntry). e ∷ l) (part_own n o es (All-tail (λ (x : LogEntry). x.op ≡ o) e es h))
 
 -- the part of some entries has only what they have
-pub part_within : (P : LogEntry → Type 0) (n k : ℕ) (es : List LogEntry) → All P es → All P (part n k es)
+pub part_within : (P : LogEntry → Type 0) (n k : ℕ) (es : List LogEntry) → All P es → All P (entries_of_part n k es)
 part_within P n k [] h = All-nil P
 part_within P n k (e ∷ es) h = by ((e.op % n) == k) (part_within P n k es (All-tail P e es h))
   where
-    by : (b : Bool) → All P (part n k es) → All P (cond b (e ∷ part n k es) (part n k es))
-    by true a = All-cons P e (part n k es) (All-head P e es h) a
+    by : (b : Bool) → All P (entries_of_part n k es) → All P (cond b (e ∷ entries_of_part n k es) (entries_of_part n k es))
+    by true a = All-cons P e (entries_of_part n k es) (All-head P e es h) a
     by false a = a

@@ -13,7 +13,7 @@ use Rattle.class_locks.specs.declared.log.LogEntry.{LogEntry}
 use Rattle.class_locks.specs.declared.view.View.{View}
 use Rattle.class_locks.specs.declared.view.Claim.{Claim}
 use Rattle.class_locks.specs.declared.view.Tried.{Tried}
-use Rattle.class_locks.specs.Logs.{Holding, HasKind, part}
+use Rattle.class_locks.specs.Logs.{Holding, HasKind, entries_of_part}
 use Rattle.class_locks.specs.Rule.{IsLogged}
 use Rattle.class_locks.specs.Piles.{Piled, HasLooked, HasTaken, HasPut, HasMoreTries, FoundTaken}
 use Rattle.class_locks.specs.Views.{StandsIn, own}
@@ -24,7 +24,7 @@ use Rattle.fire_tasks.specs.Outlet as outlet
 use Rattle.fire_tasks.specs.declared.task.Task.{Task}
 use Rattle.fire_tasks.specs.Adds.{AreCells, AreClaims, AreOwn, added, logs_at, logs_of, table_class}
 use Rattle.fire_tasks.specs.Ports.{HasMoved, InEnd, OutEnd, AllReceived, IsIdle, RefusedAll, Sent, in_ends, out_ends, received_count, received_in, sent_count}
-use Rattle.fire_tasks.specs.Tasks.{GoesOn, IsTask, IsTaskAt, TaskEnds, ends_of, moves}
+use Rattle.fire_tasks.specs.Tasks.{ExtendsFronts, IsTask, IsTaskAt, TaskEnds, ends_of, moves}
 use Rattle.fire_tasks.specs.Turns.{AreCellsOf, HasSat, HasTakenAt, HasTried, HasTurned, IsSeatOf, SameRound, StillSits, classes_of, logged}
 use Rattle.fire_tasks.proofs.AddLemmas.{added_else, added_more, class_is, entries_logged, logged_none, logged_own}
 use Rattle.fire_tasks.proofs.Fronts.{goes_same, goes_sent, goes_then}
@@ -183,7 +183,7 @@ tried_took p valid v u w t t' pile pile' k mine ht at put m q =
       sat = record {
         round = same_round v u w t.classes pile pile' more ht at.logs put;
         rests = put.rests;
-        others = λ n ne j. added_else p (logs_at v n) (logs_at w n) (λ c. part v.seats (n % v.seats) (more c)) o n (λ c. logs_grew n c)
+        others = λ n ne j. added_else p (logs_at v n) (logs_at w n) (λ c. entries_of_part v.seats (n % v.seats) (more c)) o n (λ c. logs_grew n c)
             (λ c. part_within (λ (e : LogEntry). e.op ≡ o) v.seats (n % v.seats) (more c) (logged_own o t.classes t.tables at.rows c)) ne j;
         claims = claims_grew v u w t.classes pile pile' more ht at.logs put p (λ c. entries_logged p valid o k.op k.op_is t.tables t.classes k.homes at.rows c);
         own = own_right;
@@ -227,13 +227,13 @@ tried_took p valid v u w t t' pile pile' k mine ht at put m q =
         cell (y ∷ ys) zero c g = (y, refl, same_Some y.0 c g)
         cell (y ∷ ys) (suc i) c g = cell ys i c g
 
-    logs_grew : (n c : ℕ) → logs_at w n c ≡ logs_at v n c ++ part v.seats (n % v.seats) (more c)
+    logs_grew : (n c : ℕ) → logs_at w n c ≡ logs_at v n c ++ entries_of_part v.seats (n % v.seats) (more c)
     logs_grew n c =
         let r = same_round v u w t.classes pile pile' more ht at.logs put in
         ap (λ (l : List Holding). logs_of l c ++ own w.seats (n % w.seats) c w.claims) r.starts
         ∙ ap (λ (l : List LogEntry). logs_of v.starts c ++ l)
         (ap (λ (d : ℕ). own w.seats (n % d) c w.claims) r.seats ∙ own_grew v u w t.classes pile pile' more ht at.logs put absent (n % v.seats) c)
-        ∙ sym (append_assoc (logs_of v.starts c) (own v.seats (n % v.seats) c v.claims) (part v.seats (n % v.seats) (more c)))
+        ∙ sym (append_assoc (logs_of v.starts c) (own v.seats (n % v.seats) c v.claims) (entries_of_part v.seats (n % v.seats) (more c)))
 
     own_logs : (c : ℕ) → logs_at w t.op c ≡ logs_at v t.op c ++ more c
     own_logs c = logs_grew t.op c
@@ -318,7 +318,7 @@ pub record Passed (p : PlanForm) (v w : View) (t t' : Task) : Type 0 where
   pub task : IsTaskAt p w t'
   pub ends : ends_of t' ≡ ends_of t
   pub sat : HasSat p t.op v w
-  pub goes_on : GoesOn t t'
+  pub goes_on : ExtendsFronts t t'
   pub grows : moves t ≤ moves t'
 
 pub passed_none : (p : PlanForm) (v : View) (t : Task) → IsTaskAt p v t → v.held ≡ [] → Passed p v v t t

@@ -10,7 +10,7 @@ use Rattle.fire_tasks.specs.declared.bundle.Bundle.{Bundle}
 use Rattle.fire_tasks.specs.declared.task.Task.{Task}
 use Rattle.fire_tasks.specs.Adds.{AreCells, AreClaims, AreOwn}
 use Rattle.fire_tasks.specs.Ports.{HasMoved, received_in, sent_in}
-use Rattle.fire_tasks.specs.Tasks.{GoesOn, HasGrown, IsTaskAt, IsDone, HaveFewPorts, all_ends, all_moves}
+use Rattle.fire_tasks.specs.Tasks.{ExtendsFronts, HasMovedMore, IsTaskAt, IsDone, HaveFewPorts, all_ends, all_moves}
 use Rattle.fire_tasks.specs.Turns.{SameRound, IsStuckSince, LooksSame}
 
 -- each task keeps what it keeps of itself, with the rows that the seat knows of its operator; no two are of one operator, and the seat has
@@ -51,13 +51,13 @@ pub record AllDone (ts : List Task) : Type 0 where
 
 -- port by port, what each received and sent is a front of what it received and sent afterwards
 abbrev pub AllGoOn : List Task → List Task → Type 0
-AllGoOn ts ts' = (i : ℕ) (d : Task) → i < length ts → GoesOn (slice_index_or ts i d) (slice_index_or ts' i d)
+AllGoOn ts ts' = (i : ℕ) (d : Task) → i < length ts → ExtendsFronts (slice_index_or ts i d) (slice_index_or ts' i d)
 
 -- one of them received or sent more at one of its ports
 pub record SomeGrew (ts ts' : List Task) : Type 0 where
   pub which : ℕ
   pub there : which < length ts
-  pub grew : (d : Task) → HasGrown (slice_index_or ts which d) (slice_index_or ts' which d)
+  pub grew : (d : Task) → HasMovedMore (slice_index_or ts which d) (slice_index_or ts' which d)
 
 -- none received or sent anything
 abbrev pub AllStay : List Task → List Task → Type 0
@@ -117,8 +117,8 @@ ManyPasses zero b b' = b'.tasks ≡ b.tasks
 ManyPasses (suc n) b b' = (m : Bundle) × ManyPasses n b m × SameSeat m b' × HasGone m b' true
 
 -- why a round ended: so its last pass moved nothing, or as many passes were made as may be, of which each moved something
-abbrev pub HasEnded : Bundle → Bundle → Type 0
-HasEnded b b' = HasEndedStuck b b' ⊎ ManyPasses most_passes b b'
+abbrev pub HasRoundEnded : Bundle → Bundle → Type 0
+HasRoundEnded b b' = HasEndedStuck b b' ⊎ ManyPasses most_passes b b'
 
 -- after a round it still is one, at the same seat; and where it is not refused, `moved` says whether a number grew, and the round has a cause
 -- for its end
@@ -126,4 +126,4 @@ pub record HasMadeRound (raw : RawPlan) (b b' : Bundle) : Type 0 where
   pub bundle : IsBundle (plan_form raw) b'
   pub seat : SameSeat b b'
   pub went : b'.refused ≡ false → HasGone b b' b'.moved
-  pub ended : b'.refused ≡ false → HasEnded b b'
+  pub ended : b'.refused ≡ false → HasRoundEnded b b'

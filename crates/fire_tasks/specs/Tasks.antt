@@ -84,13 +84,13 @@ abbrev pub moves : Task → ℕ
 moves t = received_count t.ins + sent_count t.outs
 
 -- port by port, what it received and sent is a front of what it received and sent afterwards
-pub record GoesOn (t t' : Task) : Type 0 where
+pub record ExtendsFronts (t t' : Task) : Type 0 where
   pub received : AreFronts (received_in t.ins) (received_in t'.ins)
   pub sent : AreFronts (sent_in t.outs) (sent_in t'.outs)
 
 -- at one of its ports it received or sent more
-abbrev pub HasGrown : Task → Task → Type 0
-HasGrown t t' = ((port : ℕ) × (length (list_at (received_in t.ins) port) < length (list_at (received_in t'.ins) port)))
+abbrev pub HasMovedMore : Task → Task → Type 0
+HasMovedMore t t' = ((port : ℕ) × (length (list_at (received_in t.ins) port) < length (list_at (received_in t'.ins) port)))
     ⊎ ((port : ℕ) × (length (list_at (sent_in t.outs) port) < length (list_at (sent_in t'.outs) port)))
 
 -- a task with another end at a port

@@ -19,7 +19,7 @@ use Rattle.fire_tasks.specs.declared.task.TablePort.{TablePort}
 use Rattle.fire_tasks.specs.Adds.{AreCells, AreClaims, AreOwn, added, logs_at, table_class}
 use Rattle.fire_tasks.specs.Inlet as inlet
 use Rattle.fire_tasks.specs.Ports.{HasMoved, in_ends, received_in}
-use Rattle.fire_tasks.specs.Tasks.{GoesOn, HasWord, IsTask, IsTaskAt, Waits, ends_of, moves}
+use Rattle.fire_tasks.specs.Tasks.{ExtendsFronts, HasWord, IsTask, IsTaskAt, Waits, ends_of, moves}
 
 -- ROWS
 
@@ -102,7 +102,7 @@ pub record HasFiredAt (p : PlanForm) (t t' : Task) : Type 0 where
   pub word : t'.bad ≡ None → (adds : ℕ → List (List ℤ)) (k : IsTask p adds t)
       → HasWord p (λ j. adds j ++ list_at t'.out.adds j) (without_rows t') (k.word ++ (did.port, did.item) ∷ [])
   pub ends : ends_of t' ≡ ends_of t
-  pub goes_on : GoesOn t t'
+  pub goes_on : ExtendsFronts t t'
   pub one : moves t' ≡ moves t + 1
   pub homes : (t'.tables ≡ t.tables) × (t'.classes ≡ t.classes)
 
@@ -112,7 +112,7 @@ pub record HasTakenAt (p : PlanForm) (t t' : Task) (pile pile' : List Piled) : T
   pub logs : pile' ≡ pile_grown (logged t.op t.classes t.tables rows) pile
   pub task : (adds : ℕ → List (List ℤ)) → IsTask p adds t → IsTask p (λ j. adds j ++ rows j) t'
   pub ends : ends_of t' ≡ ends_of t
-  pub goes_on : GoesOn t t'
+  pub goes_on : ExtendsFronts t t'
   pub one : moves t' ≡ moves t + 1
   pub homes : (t'.tables ≡ t.tables) × (t'.classes ≡ t.classes)
 
@@ -150,7 +150,7 @@ pub record HasTurned (p : PlanForm) (v w : View) (t t' : Task) (moved : Bool) : 
   pub task : IsTaskAt p w t'
   pub ends : ends_of t' ≡ ends_of t
   pub sat : HasSat p t.op v w
-  pub goes_on : GoesOn t t'
+  pub goes_on : ExtendsFronts t t'
   pub number : HasMoved (moves t) (moves t') moved
   pub stuck : IsFalse moved → IsStuckSince v w t'
 
@@ -164,7 +164,7 @@ pub record HasTried (p : PlanForm) (v w : View) (t t' : Task) (taken : Bool) : T
   pub task : IsTaskAt p w t'
   pub ends : ends_of t' ≡ ends_of t
   pub sat : HasSat p t.op v w
-  pub goes_on : GoesOn t t'
+  pub goes_on : ExtendsFronts t t'
   pub number : HasMoved (moves t) (moves t') taken
   pub found : IsFalse taken → FoundTaken t.classes v w
   pub stays : IsFalse taken → t' ≡ t

@@ -8,7 +8,7 @@ ghost use Rattle.river_rings.specs.Ends.{SameSending, SameTaking, HasRingRoom};
 ghost use Rattle.river_rings.specs.Rows.{row_item};
 
 use brooklet_step::Lines;
-use kern_rows::Line;
+use kern_rows::ItemLine;
 use river_base::{Flat, FlatType, Item, Listed, NoMemory, QueueType, Row};
 use river_rings::{Feed, RowFeed, RowTake, Take, beside, rows_beside};
 use std::alloc::Global;
@@ -31,7 +31,7 @@ enum InletEnd {
 // A kept list, and how many of its items were taken.
 #[derive(Drop)]
 struct Kept {
-    line: Line,
+    line: ItemLine,
     taken: usize,
 }
 
@@ -45,7 +45,7 @@ pub struct Outlet {
 enum OutletEnd {
     Items(Feed),
     Rows(RowFeed),
-    Kept(Line),
+    Kept(ItemLine),
 }
 
 impl Model for Inlet {
@@ -84,7 +84,7 @@ impl Inlet {
     }
 
     /// The whole list of an input, of which nothing is taken.
-    pub fn kept(line: Line) -> Inlet
+    pub fn kept(line: ItemLine) -> Inlet
         ensures { result ≡ Given (record { line = line; taken = 0 }) }
     {
         Inlet {
@@ -206,7 +206,7 @@ fn kept_row(kept: &mut Kept, row: &mut [i64]) -> bool
 }
 
 // Copies the row at a place of a line, where there is one of as many values as `row` that is kept as these.
-fn copy_row(line: &Line, place: usize, row: &mut [i64]) -> bool
+fn copy_row(line: &ItemLine, place: usize, row: &mut [i64]) -> bool
     ensures { IsTrue result → slice_get line.now place ≡ Some (row_item row.new) }
 {
     let Some(values) = line.row_at(place) else {
@@ -245,17 +245,17 @@ impl Outlet {
         ensures { result ≡ Stored [] }
     {
         Outlet {
-            end: OutletEnd::Kept(Line::new(alloc)),
+            end: OutletEnd::Kept(ItemLine::new(alloc)),
         }
     }
 
     /// What was kept for nobody to read; nothing is left there.
-    pub fn take_line(&mut self, alloc: Global) -> Line
+    pub fn take_line(&mut self, alloc: Global) -> ItemLine
         requires { IsStored self.old }
         ensures { result ≡ sent_of self.old }
     {
         match &mut self.end {
-            OutletEnd::Kept(line) => replace(line, Line::new(alloc)),
+            OutletEnd::Kept(line) => replace(line, ItemLine::new(alloc)),
             _ => unreachable!(),
         }
     }

@@ -8,7 +8,7 @@ ghost use Rattle.kern_bags.specs.Takes.{CanCrossChanges, CanCrossFlat, CanJoinBo
 
 use crate::Cross;
 use crate::given::{change_of, give_changes};
-use crate::line::{Changes, Line};
+use crate::line::{Changes, ChangeLine};
 use crate::product::join_all;
 use kern_changes::{Content, settle};
 use river_base::{Change, Flat, Items, NoMemory, Rows};
@@ -19,8 +19,8 @@ use std::marker::Model;
 /// last, each as a bag.
 #[derive(Drop)]
 pub struct CrossState {
-    left: Line,
-    right: Line,
+    left: ChangeLine,
+    right: ChangeLine,
     lefts: Content,
     rights: Content,
 }
@@ -162,8 +162,8 @@ impl Cross {
         ensures { IfOk result (λ state. state ≡ cross_start) }
     {
         Ok(CrossState {
-            left: Line::new(alloc),
-            right: Line::new(alloc),
+            left: ChangeLine::new(alloc),
+            right: ChangeLine::new(alloc),
             lefts: Content::new(alloc),
             rights: Content::new(alloc),
         })

@@ -12,11 +12,11 @@ pub type Changes = Listed<Change>;
 /// Changes in a line: new ones come to its end, and each leaves at its front. Contracts see the
 /// list of those that are there.
 #[derive(Drop)]
-pub struct Line {
+pub struct ChangeLine {
     changes: VecDeque<Change>,
 }
 
-impl Model for Line {
+impl Model for ChangeLine {
     ghost use Rattle.std.specs.Prelude.{List};
     ghost use Rattle.river_base.specs.declared.item.Change.{Change};
 
@@ -25,12 +25,12 @@ impl Model for Line {
     ghost view = { λ l. l.changes.items };
 }
 
-impl Line {
+impl ChangeLine {
     /// The empty line.
-    pub fn new(alloc: Global) -> Line
+    pub fn new(alloc: Global) -> ChangeLine
         ensures { result ≡ [] }
     {
-        Line {
+        ChangeLine {
             changes: VecDeque::new(alloc),
         }
     }

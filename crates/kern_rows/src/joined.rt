@@ -3,7 +3,7 @@ ghost use Rattle.std.specs.Prelude.{◌≡◌, ◌<◌, length, IfOk, OnOk, Matc
 ghost use Rattle.kern_rows.specs.Turns.{turns_start, put as put_in};
 ghost use Rattle.kern_rows.specs.Passing.{PassesFront, IsStuck};
 
-use crate::line::Line;
+use crate::line::ItemLine;
 use crate::turn::next_turn;
 use river_base::{Item, NoMemory};
 use std::alloc::Global;
@@ -15,7 +15,7 @@ use std::marker::Model;
 pub struct Joined {
     port: usize,
     had: u64,
-    lines: Vec<Line>,
+    lines: Vec<ItemLine>,
 }
 
 impl Model for Joined {
@@ -33,7 +33,7 @@ impl Joined {
     {
         let mut lines = Vec::new(alloc);
         for _i in 0..ports {
-            lines.push(Line::new(alloc))?;
+            lines.push(ItemLine::new(alloc))?;
         }
         Ok(Joined {
             port: 0,

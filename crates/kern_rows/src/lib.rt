@@ -21,6 +21,6 @@ pub use collect::CollectState;
 pub use even::EvenRows;
 pub use filter::FilterState;
 pub use kernel::{CodeKernel, Collect, Deal, Filter, First, Unpack};
-pub use line::Line;
+pub use line::ItemLine;
 pub use turn::DealState;
 pub use unpack::UnpackState;

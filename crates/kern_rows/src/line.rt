@@ -17,14 +17,14 @@ const KEPT: usize = 16;
 /// Items in a line: new ones come to its end, and each leaves at its front. As long as all are rows
 /// of one width, their values alone are kept. Contracts see the list of the items that are there.
 #[derive(Drop)]
-pub struct Line {
+pub struct ItemLine {
     // the rows in front
     rows: EvenRows,
     // the items behind them
     others: VecDeque<Item>,
 }
 
-impl Model for Line {
+impl Model for ItemLine {
     ghost use Rattle.std.specs.Prelude.{List, ◌++◌};
     ghost use Rattle.river_base.specs.declared.item.Item as item;
     ghost use Rattle.kern_rows.specs.Even.{row_items};
@@ -34,32 +34,32 @@ impl Model for Line {
     ghost view = { λ l. row_items l.rows ++ l.others.items };
 }
 
-impl Line {
+impl ItemLine {
     /// The empty line.
-    pub fn new(alloc: Global) -> Line
+    pub fn new(alloc: Global) -> ItemLine
         ensures { result ≡ [] }
     {
-        Line {
+        ItemLine {
             rows: EvenRows::new(alloc),
             others: VecDeque::new(alloc),
         }
     }
 
     /// The line of these items.
-    pub fn from_items(alloc: Global, items: Items) -> Line
+    pub fn from_items(alloc: Global, items: Items) -> ItemLine
         ensures { result ≡ items }
     {
-        Line {
+        ItemLine {
             rows: EvenRows::new(alloc),
             others: VecDeque::from_vec(items.into_vec()),
         }
     }
 
     /// The line of these rows.
-    pub fn from_rows(alloc: Global, rows: EvenRows) -> Line
+    pub fn from_rows(alloc: Global, rows: EvenRows) -> ItemLine
         ensures { result ≡ row_items rows }
     {
-        Line {
+        ItemLine {
             rows,
             others: VecDeque::new(alloc),
         }
@@ -186,7 +186,7 @@ impl Line {
 
     /// The items of another line come to the end, in order, and leave that one, which keeps its
     /// memory. Where there is no memory, nothing is said of the two.
-    pub fn take_from(&mut self, other: &mut Line) -> Result<(), NoMemory>
+    pub fn take_from(&mut self, other: &mut ItemLine) -> Result<(), NoMemory>
         ensures ok { OnOk result (self.new ≡ self.old ++ other.old) }
         ensures left { OnOk result (other.new ≡ []) }
     {

@@ -45,12 +45,12 @@ pub fn next_turn(share: u64, ports: usize, port: usize, had: u64) -> (usize, u64
 
 /// The port in turn, and how many items it had.
 #[derive(Drop)]
-struct Turn {
+struct PortTurn {
     port: u32,
     had: u64,
 }
 
-impl Model for Turn {
+impl Model for PortTurn {
     ghost use Rattle.kern_rows.specs.Dealing.{PortInTurn};
 
     ghost Value = { PortInTurn };
@@ -60,7 +60,7 @@ impl Model for Turn {
     ghost inverse = { λ d. record { port = d.port; had = d.had } };
 }
 
-impl Turn {
+impl PortTurn {
     // The port in turn, which has one item more.
     fn pass(&mut self, weights: &Numbers) -> u32
         requires few { length weights.now < 2 ^ 32 }
@@ -82,7 +82,7 @@ impl Turn {
 /// a relation what each list owes.
 #[derive(Drop)]
 pub struct DealState {
-    turn: Turn,
+    turn: PortTurn,
     owed: Owed,
 }
 
@@ -100,7 +100,7 @@ impl Deal {
         ensures { IfOk result (λ state. state ≡ dealt_start (length weights.now)) }
     {
         Ok(DealState {
-            turn: Turn { port: 0, had: 0 },
+            turn: PortTurn { port: 0, had: 0 },
             owed: Owed::start(alloc, weights.len())?,
         })
     }

@@ -12,7 +12,7 @@ use Rattle.river_base.proofs.Lists.{count_by-append}
 use Rattle.river_base.proofs.Rows.{in_order_bag}
 use Rattle.kern_tables.specs.declared.kind.TableKind.{TableKind}
 use Rattle.kern_tables.specs.declared.kind.TableKind.TheVariants.{Sum, Collection, Maximum}
-use Rattle.kern_tables.specs.declared.kept.Kept.TheVariants.{Sums, Maxima}
+use Rattle.kern_tables.specs.declared.kept.Aggregate.TheVariants.{Sums, Maxima}
 use Rattle.kern_tables.specs.declared.ranked.Ranked.{Ranked}
 use Rattle.kern_tables.specs.Entries.{sum_rows, maximum_rows}
 use Rattle.kern_tables.specs.Kept.{kept_of, added_all, rows_of}

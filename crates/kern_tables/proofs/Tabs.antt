@@ -18,8 +18,8 @@ use Rattle.river_base.specs.Keyed.{keyed, put}
 use Rattle.std.proofs.lemmas.List.{map-append}
 use Rattle.std.proofs.lemmas.List.Sums.{fold-append}
 use Rattle.kern_tables.specs.Kept.{kept_of, with_row, added_all, rows_of, kind_of_table}
-use Rattle.kern_tables.specs.declared.kept.Kept.{Kept}
-use Rattle.kern_tables.specs.declared.kept.Kept.TheVariants.{Sums, Rows, Maxima}
+use Rattle.kern_tables.specs.declared.kept.Aggregate.{Aggregate}
+use Rattle.kern_tables.specs.declared.kept.Aggregate.TheVariants.{Sums, Rows, Maxima}
 use Rattle.river_base.specs.Number.{wrap}
 use Rattle.river_base.specs.Row.{row_eq, row_cmp, row_lt, row_total, in_order}
 use Rattle.river_base.proofs.Ascending as order
@@ -212,7 +212,7 @@ kept_kind (Collection keys) adds = refl
 kept_kind (Maximum best keys) adds = refl
 
 -- adding a row keeps the kind
-pub added_kind : (t : Kept) (row : List ℤ) → kind_of_table (with_row t row) ≡ kind_of_table t
+pub added_kind : (t : Aggregate) (row : List ℤ) → kind_of_table (with_row t row) ≡ kind_of_table t
 added_kind (Sums keys es) row = refl
 added_kind (Rows keys rows) row = refl
 added_kind (Maxima best keys es) row = refl
@@ -222,15 +222,15 @@ pub tables_keep_adds : TablesKeepAdds
 tables_keep_adds kind = record { rows = kept_rows kind; more = kept_more kind; of_bag = kept_of_bag kind; kind_is = kept_kind kind }
 
 -- one more at the end
-pub added_more : (t : Kept) (rows : List (List ℤ)) (row : List ℤ) → added_all t (rows ++ row ∷ []) ≡ with_row (added_all t rows) row
+pub added_more : (t : Aggregate) (rows : List (List ℤ)) (row : List ℤ) → added_all t (rows ++ row ∷ []) ≡ with_row (added_all t rows) row
 added_more t rows row = fold-append with_row t rows (row ∷ [])
 
 -- the first rows, and then the others
-pub added_in_two : (t u : Kept) (n : ℕ) (rows : List (List ℤ)) → u ≡ added_all t (take n rows) → added_all u (drop n rows) ≡ added_all t rows
-added_in_two t u n rows e = ap (λ (k : Kept). added_all k (drop n rows)) e
+pub added_in_two : (t u : Aggregate) (n : ℕ) (rows : List (List ℤ)) → u ≡ added_all t (take n rows) → added_all u (drop n rows) ≡ added_all t rows
+added_in_two t u n rows e = ap (λ (k : Aggregate). added_all k (drop n rows)) e
     ∙ (sym (fold-append with_row t (take n rows) (drop n rows)) ∙ ap (added_all t) (take-append-drop n rows))
 
 -- adding rows keeps the kind
-pub added_all_kind : (t : Kept) (rows : List (List ℤ)) → kind_of_table (added_all t rows) ≡ kind_of_table t
+pub added_all_kind : (t : Aggregate) (rows : List (List ℤ)) → kind_of_table (added_all t rows) ≡ kind_of_table t
 added_all_kind t [] = refl
 added_all_kind t (row ∷ rows) = added_all_kind (with_row t row) rows ∙ added_kind t row

@@ -12,7 +12,7 @@ mod sums;
 mod table;
 
 use best::Best;
-pub use kept::Kept;
+pub use kept::Aggregate;
 use key::{Key, key_of, row_of};
 pub use kind::TableKind;
 use maxima::Maxima;

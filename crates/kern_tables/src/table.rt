@@ -2,7 +2,7 @@
 ghost use Rattle.std.specs.Prelude.{◌≡◌, ◌≤◌, ◌+◌, ◌++◌, [], take, length, IfOk, OnOk, OnErr, All, vec_capacity};
 ghost use Rattle.kern_tables.specs.Kept.{kept_of, with_row, added_all, shown, rows_of, kind_of_table, width_of_table};
 
-use crate::{Kept, Maxima, Sums, TableKind};
+use crate::{Aggregate, Maxima, Sums, TableKind};
 use river_base::{Duplicate, NoMemory, Row, Rows};
 use std::alloc::Global;
 use std::marker::Model;
@@ -11,14 +11,14 @@ use std::marker::Model;
 /// while some do, the table answers every call with want of memory.
 #[derive(Drop)]
 pub struct Table {
-    kept: Kept,
+    kept: Aggregate,
     waiting: Vec<Row>,
 }
 
 impl Model for Table {
-    ghost use Rattle.kern_tables.specs.declared.kept.Kept as kept_type;
+    ghost use Rattle.kern_tables.specs.declared.kept.Aggregate as kept_type;
 
-    ghost Value = { kept_type.Kept };
+    ghost Value = { kept_type.Aggregate };
 
     ghost use Rattle.kern_tables.specs.Kept.{shown, added_all};
 
@@ -31,15 +31,15 @@ impl Table {
         ensures { result ≡ kept_of kind [] }
     {
         let kept = match kind {
-            TableKind::Sum { keys } => Kept::Sums {
+            TableKind::Sum { keys } => Aggregate::Sums {
                 keys,
                 sums: Sums::new(alloc),
             },
-            TableKind::Collection { keys } => Kept::Rows {
+            TableKind::Collection { keys } => Aggregate::Rows {
                 keys,
                 rows: Rows::new(alloc),
             },
-            TableKind::Maximum { best, keys } => Kept::Maxima {
+            TableKind::Maximum { best, keys } => Aggregate::Maxima {
                 best,
                 keys,
                 maxima: Maxima::new(alloc),
@@ -89,35 +89,35 @@ impl Table {
             return Err(NoMemory);
         }
         match &self.kept {
-            Kept::Sums { sums, .. } => sums.rows(alloc),
-            Kept::Rows { rows, .. } => {
+            Aggregate::Sums { sums, .. } => sums.rows(alloc),
+            Aggregate::Rows { rows, .. } => {
                 let mut all = rows.copy(alloc)?;
                 all.sort()?;
                 Ok(all)
             }
-            Kept::Maxima { maxima, .. } => maxima.rows(alloc),
+            Aggregate::Maxima { maxima, .. } => maxima.rows(alloc),
         }
     }
 }
 
 // One more row, in place; changes nothing where there is no memory.
 #[tactic(auto, using(crate::proofs::Tabs::in_order_more, crate::proofs::Tabs::added_kind))]
-fn place(kept: &mut Kept, row: &Row) -> Result<(), NoMemory>
+fn place(kept: &mut Aggregate, row: &Row) -> Result<(), NoMemory>
     requires { length row.now ≡ width_of_table (shown kept.old) }
     ensures ok { OnOk result (shown kept.new ≡ with_row (shown kept.old) row.now) }
     ensures err { OnErr result (shown kept.new ≡ shown kept.old) }
     ensures kind { kind_of_table (shown kept.new) ≡ kind_of_table (shown kept.old) }
 {
     match kept {
-        Kept::Sums { keys, sums } => sums.add(*keys as usize, row),
-        Kept::Rows { rows, .. } => rows.push(*row),
-        Kept::Maxima { best, keys, maxima } => maxima.add(*best as usize, *keys as usize, row),
+        Aggregate::Sums { keys, sums } => sums.add(*keys as usize, row),
+        Aggregate::Rows { rows, .. } => rows.push(*row),
+        Aggregate::Maxima { best, keys, maxima } => maxima.add(*best as usize, *keys as usize, row),
     }
 }
 
 // Places rows, up to the first that there is no memory for; answers how many.
 #[tactic(auto, using(crate::proofs::Tabs::added_kind, crate::proofs::Tabs::added_more))]
-fn place_some(kept: &mut Kept, rows: &[Row]) -> usize
+fn place_some(kept: &mut Aggregate, rows: &[Row]) -> usize
     requires { All (λ row. length row ≡ width_of_table (shown kept.old)) rows.now }
     ensures at_most { result ≤ length rows.now }
     ensures rows { shown kept.new ≡ added_all (shown kept.old) (take result rows.now) }

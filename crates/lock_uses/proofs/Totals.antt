@@ -7,9 +7,9 @@ use Rattle.kern_tables.specs.declared.kind.TableKind.TheVariants.{Sum}
 use Rattle.class_locks.specs.declared.log.LogEntry.{LogEntry}
 use Rattle.class_locks.specs.declared.view.View.{View}
 use Rattle.class_locks.specs.declared.view.Claim.{Claim}
-use Rattle.class_locks.specs.Logs.{Holding, part}
+use Rattle.class_locks.specs.Logs.{Holding, entries_of_part}
 use Rattle.class_locks.specs.Rule.{IsLogged}
-use Rattle.class_locks.specs.Seats.{HasAll, HasGrown}
+use Rattle.class_locks.specs.Seats.{HasAll, LogsHaveGrown}
 use Rattle.class_locks.specs.Views.{StandsIn, own, claims_of, both_views}
 use Rattle.class_locks.proofs.Lists.{at_within}
 use Rattle.class_locks.proofs.Owns.{own-append}
@@ -78,17 +78,17 @@ module _ (a b : ℕ) (v w : View) (one : HasWorked 0 a (first_view 0) v) (two : 
   pub has_all : HasAll (both_views v w)
   has_all k lt = has_part k (subst (λ (n : ℕ). k < n) seats_are lt)
 
-  part_is : (c k : ℕ) (x : Holding) → k < 2 → IsLogged (both_views v w) c x → part 2 k x.log ≡ own 2 k c (visits 0 a ++ visits 1 b)
+  part_is : (c k : ℕ) (x : Holding) → k < 2 → IsLogged (both_views v w) c x → entries_of_part 2 k x.log ≡ own 2 k c (visits 0 a ++ visits 1 b)
   part_is c k x lt l =
       let start = blank_there c l.start (ap (λ (s : List Holding). get_elem? s c) (sym starts_are) ∙ l.given) in
       let log : x.log ≡ l.growth = l.log ∙ ap (λ (g : List LogEntry). g ++ l.growth) start.1 in
-      ap (part 2 k) log
-      ∙ (ap (λ (n : ℕ). part n k l.growth) (sym seats_are)
+      ap (entries_of_part 2 k) log
+      ∙ (ap (λ (n : ℕ). entries_of_part n k l.growth) (sym seats_are)
       ∙ (l.owns 0 (both_views v w) refl k (has_part k lt)
       ∙ (ap (λ (n : ℕ). own n k c (both_views v w).claims) seats_are ∙ ap (own 2 k c) claims_are)))
 
   -- cells that have grown as both views tell have the total of the visits
-  pub total : (cells : List Holding) → HasGrown (both_views v w) cells → HasTotal a b cells
+  pub total : (cells : List Holding) → LogsHaveGrown (both_views v w) cells → HasTotal a b cells
   total cells h =
       let many : length cells ≡ 2 = h.as_many ∙ ap length starts_are in
       record {

@@ -5,7 +5,7 @@ use lib.ListN.{get_elem?}
 use Rattle.kern_tables.specs.declared.kind.TableKind.TheVariants.{Sum}
 use Rattle.class_locks.specs.declared.log.LogEntry.{LogEntry}
 use Rattle.class_locks.specs.declared.view.View.{View}
-use Rattle.class_locks.specs.Logs.{Holding, part}
+use Rattle.class_locks.specs.Logs.{Holding, entries_of_part}
 use Rattle.class_locks.specs.Seats.{TableId}
 use Rattle.class_locks.specs.Views.{fresh_view}
 use Rattle.lock_uses.specs.declared.crew.Worker.{Worker}
@@ -33,8 +33,8 @@ two_blank = blank_cell 0 ∷ blank_cell 1 ∷ []
 pub record HasTotal (a b : ℕ) (cells : List Holding) : Type 0 where
   pub as_many : length cells ≡ 2
   pub kinds : (c : ℕ) (x : Holding) → get_elem? cells c ≡ some x → x.kinds ≡ (c, Sum 0) ∷ []
-  pub first : (c : ℕ) (x : Holding) → get_elem? cells c ≡ some x → part 2 0 x.log ≡ entry_times a (entry 0 c)
-  pub second : (c : ℕ) (x : Holding) → get_elem? cells c ≡ some x → part 2 1 x.log ≡ entry_times b (entry 1 c)
+  pub first : (c : ℕ) (x : Holding) → get_elem? cells c ≡ some x → entries_of_part 2 0 x.log ≡ entry_times a (entry 0 c)
+  pub second : (c : ℕ) (x : Holding) → get_elem? cells c ≡ some x → entries_of_part 2 1 x.log ≡ entry_times b (entry 1 c)
 
 -- the view of seat k at the beginning
 abbrev pub first_view : ℕ → View

@@ -5,8 +5,8 @@ use Rattle.river_base.proofs.Lists.{map_next, map_none}
 use Rattle.streamit_text.specs.Tree.{statement, in_turn}
 use Rattle.streamit_text.specs.declared.tree.Statement as written
 use Rattle.params_text.specs.Params.{is_one_of}
-use Rattle.params_text.specs.Program.{steps_in_turn, step_of, declared_of, program_of, ParamProgram}
-use Rattle.params_text.specs.declared.program.ParamUnit.{ParamUnit}
+use Rattle.params_text.specs.Program.{steps_in_turn, step_of, unit_form, unit_forms, ParamProgram}
+use Rattle.params_text.specs.declared.program.Unit as code_unit
 use Rattle.params_text.specs.declared.program.Step.{Step}
 use Rattle.params_model.specs.Judged.{Above, Judgement, judged_then, no_fault, statement_judged, block_judged, step_judged, steps_judged, new_names, unit_judged}
 use Rattle.params_model.specs.Judged.{units_judged}
@@ -66,10 +66,10 @@ names-place k names i n lt is =
     ∙ ap (λ j. judged_then (demand (not (is_one_of (take i names) n)) k NameTwice) (new_names k (take j names) (drop j names))) (sym (add-one i))
 
 -- the units from a place on, below these streams
-pub units-place : (k : ℕ) (us : Above) (units : List ParamUnit) (i : ℕ) (u : ParamUnit) → i < length units → u ≡ get_or units i u
-    → units_judged k us (program_of (drop i units))
-    ≡ judged_then (unit_judged k us (declared_of u)) (units_judged (suc k) ((u.name, length u.params.items) ∷ us) (program_of (drop (i + 1) units)))
-units-place k us units i u lt is = ap (units_judged k us) (map_next declared_of units i u lt is)
+pub units-place : (k : ℕ) (us : Above) (units : List code_unit.Unit) (i : ℕ) (u : code_unit.Unit) → i < length units → u ≡ get_or units i u
+    → units_judged k us (unit_forms (drop i units))
+    ≡ judged_then (unit_judged k us (unit_form u)) (units_judged (suc k) ((u.name, length u.params.items) ∷ us) (unit_forms (drop (i + 1) units)))
+units-place k us units i u lt is = ap (units_judged k us) (map_next unit_form units i u lt is)
 
 -- what is known behind some units, and what is left to judge then
 pub record Judging (whole : Judgement) (i : ℕ) (rest : ParamProgram) (streams : StreamsAbove) : Type 0 where
@@ -78,17 +78,17 @@ pub record Judging (whole : Judgement) (i : ℕ) (rest : ParamProgram) (streams 
   pub judged : units_judged (suc i) above rest ≡ whole
 
 -- one unit more is judged
-pub judging-next : (whole : Judgement) (i : ℕ) (units : List ParamUnit) (u : ParamUnit) (old new : StreamsAbove) → i < length units → u ≡ get_or units i u
-    → Judging whole i (program_of (drop i units)) old → ((us : Above) → CountsParameters old us → unit_judged (suc i) us (declared_of u) ≡ no_fault)
+pub judging-next : (whole : Judgement) (i : ℕ) (units : List code_unit.Unit) (u : code_unit.Unit) (old new : StreamsAbove) → i < length units → u ≡ get_or units i u
+    → Judging whole i (unit_forms (drop i units)) old → ((us : Above) → CountsParameters old us → unit_judged (suc i) us (unit_form u) ≡ no_fault)
     → ((us : Above) → CountsParameters old us → CountsParameters new ((u.name, length u.params.items) ∷ us))
-    → Judging whole (i + 1) (program_of (drop (i + 1) units)) new
+    → Judging whole (i + 1) (unit_forms (drop (i + 1) units)) new
 judging-next whole i units u old new lt is j passed known =
     let above : Above = (u.name, length u.params.items) ∷ j.above in
-    let rest = program_of (drop (i + 1) units) in
+    let rest = unit_forms (drop (i + 1) units) in
     record {
       above = above;
       knows = known j.above j.knows;
       judged = ap (λ k. units_judged (suc k) above rest) (add-one i)
-          ∙ sym (passed-over (unit_judged (suc i) j.above (declared_of u)) _ (passed j.above j.knows))
+          ∙ sym (passed-over (unit_judged (suc i) j.above (unit_form u)) _ (passed j.above j.knows))
           ∙ sym (units-place (suc i) j.above units i u lt is) ∙ j.judged;
     }

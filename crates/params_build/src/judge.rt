@@ -1,6 +1,6 @@
 // Programs judged: their units, one after another, and the last of them.
 ghost use Rattle.std.specs.Prelude.{◌≡◌, ◌<◌, ◌^◌, ℕ, List, [], ◌∷◌, length, OnOk};
-ghost use Rattle.params_text.specs.Program.{declared_of, program_of};
+ghost use Rattle.params_text.specs.Program.{unit_form, unit_forms};
 ghost use Rattle.params_model.specs.Judged.{Above, source_units, top_judged, unit_judged, units_judged};
 ghost use Rattle.params_build.specs.Above.{CountsParameters};
 ghost use Rattle.params_build.specs.Told.{Judges, JudgesAll};
@@ -8,7 +8,7 @@ ghost use Rattle.params_build.specs.Told.{Judges, JudgesAll};
 use crate::above::StreamsAbove;
 use crate::unit::unit;
 use crate::{Fault, Refusal};
-use params_text::ParamUnit;
+use params_text::Unit;
 use std::alloc::Global;
 
 /// All units of a program, one after another.
@@ -17,18 +17,18 @@ use std::alloc::Global;
 ///
 /// The first fault in reading order, where the block of a loop of steps is read once, with its unit;
 /// `NoMemory` where there is no memory.
-pub fn judged(alloc: Global, units: &[ParamUnit]) -> Result<(), Refusal>
+pub fn judged(alloc: Global, units: &[Unit]) -> Result<(), Refusal>
     requires { length units.now < 2 ^ 32 }
-    ensures { JudgesAll result (units_judged 1 [] (program_of units.now)) }
+    ensures { JudgesAll result (units_judged 1 [] (unit_forms units.now)) }
 {
     let mut above = StreamsAbove::new(alloc);
     each_unit(alloc, &mut above, units)
 }
 
 // The units, below these streams.
-fn each_unit(alloc: Global, above: &mut StreamsAbove, units: &[ParamUnit]) -> Result<(), Refusal>
+fn each_unit(alloc: Global, above: &mut StreamsAbove, units: &[Unit]) -> Result<(), Refusal>
     requires { length units.now < 2 ^ 32 }
-    ensures { (us : Above) → CountsParameters above.old us → JudgesAll result (units_judged 1 us (program_of units.now)) }
+    ensures { (us : Above) → CountsParameters above.old us → JudgesAll result (units_judged 1 us (unit_forms units.now)) }
 {
     'units: for i in 0..units.len() {
         match unit_and_name(alloc, above, &units[i]) {
@@ -45,8 +45,8 @@ fn each_unit(alloc: Global, above: &mut StreamsAbove, units: &[ParamUnit]) -> Re
 }
 
 // A unit, which is declared then.
-fn unit_and_name(alloc: Global, above: &mut StreamsAbove, one: &ParamUnit) -> Result<(), Fault>
-    ensures judged { (k : ℕ) (us : Above) → CountsParameters above.old us → Judges k result (unit_judged k us (declared_of one.now)) }
+fn unit_and_name(alloc: Global, above: &mut StreamsAbove, one: &Unit) -> Result<(), Fault>
+    ensures judged { (k : ℕ) (us : Above) → CountsParameters above.old us → Judges k result (unit_judged k us (unit_form one.now)) }
     ensures known { (us : Above) → CountsParameters above.old us → OnOk result (CountsParameters above.new ((one.now.name, length one.now.params.items) ∷ us)) }
 {
     unit(alloc, above, one)?;
@@ -59,9 +59,9 @@ fn unit_and_name(alloc: Global, above: &mut StreamsAbove, one: &ParamUnit) -> Re
 /// # Errors
 ///
 /// `Top` with its number, where it has.
-pub fn top(units: &[ParamUnit]) -> Result<(), Refusal>
+pub fn top(units: &[Unit]) -> Result<(), Refusal>
     requires { length units.now < 2 ^ 32 }
-    ensures { (sizes : List ℕ) → JudgesAll result (top_judged (source_units (program_of units.now) sizes)) }
+    ensures { (sizes : List ℕ) → JudgesAll result (top_judged (source_units (unit_forms units.now) sizes)) }
 {
     let count = units.len();
     if count == 0 {

@@ -1,6 +1,6 @@
 // Units judged: the name of the stream, its parameters, and what is declared.
 ghost use Rattle.std.specs.Prelude.{◌≡◌, ℕ, [], OnOk};
-ghost use Rattle.params_text.specs.Program.{body_of, dealing_of, declared_of, rounds_of, steps_of};
+ghost use Rattle.params_text.specs.Program.{body_of, dealing_of, unit_form, rounds_of, steps_of};
 ghost use Rattle.params_model.specs.Judged.{Above, judged_then, all_known_option, body_judged, dealing_judged, new_names, steps_judged, unit_judged};
 ghost use Rattle.params_model.specs.Making.{UnknownName, demand};
 ghost use Rattle.params_build.specs.Above.{CountsParameters};
@@ -12,7 +12,7 @@ use crate::constant::all_known_option;
 use crate::filter::filter;
 use crate::names::KnownNames;
 use crate::step::steps;
-use params_text::{ParamBody, ParamSplit, ParamSplitJoin, ParamUnit, Rounds};
+use params_text::{ParamBody, ParamSplit, ParamSplitJoin, Unit, Rounds};
 use river_base::Name;
 use std::alloc::Global;
 
@@ -87,7 +87,7 @@ fn body(above: &StreamsAbove, params: &mut KnownNames, body: &ParamBody) -> Resu
 }
 
 // The parameters, and what is declared.
-fn inner(alloc: Global, above: &StreamsAbove, unit: &ParamUnit) -> Result<(), Fault>
+fn inner(alloc: Global, above: &StreamsAbove, unit: &Unit) -> Result<(), Fault>
     ensures { (k : ℕ) (us : Above) → CountsParameters above.now us
         → Judges k result (judged_then (new_names k [] unit.now.params.items) (body_judged k us unit.now.params.items (body_of unit.now.body))) }
 {
@@ -97,8 +97,8 @@ fn inner(alloc: Global, above: &StreamsAbove, unit: &ParamUnit) -> Result<(), Fa
 }
 
 /// A unit, below these streams.
-pub fn unit(alloc: Global, above: &StreamsAbove, unit: &ParamUnit) -> Result<(), Fault>
-    ensures { (k : ℕ) (us : Above) → CountsParameters above.now us → Judges k result (unit_judged k us (declared_of unit.now)) }
+pub fn unit(alloc: Global, above: &StreamsAbove, unit: &Unit) -> Result<(), Fault>
+    ensures { (k : ℕ) (us : Above) → CountsParameters above.now us → Judges k result (unit_judged k us (unit_form unit.now)) }
 {
     above.is_new(&unit.name)?;
     inner(alloc, above, unit)

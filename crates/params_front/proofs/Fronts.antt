@@ -19,10 +19,10 @@ use Rattle.streamit_text.proofs.Texts.{one_program}
 use Rattle.params_text.specs.Faults.{StandFor, Refuses}
 use Rattle.params_text.specs.Grammar.{AreUnits, IsText, IsUnitAt, next_unit}
 use Rattle.params_text.specs.Laws.{IsBadAt}
-use Rattle.params_text.specs.Program.{ParamProgram, declared_of, program_of}
+use Rattle.params_text.specs.Program.{ParamProgram, unit_form, unit_forms}
 use Rattle.params_text.specs.Reading.{some_units, unit_from}
 use Rattle.params_text.specs.Toks.{plain_text}
-use Rattle.params_text.specs.declared.program.ParamUnit.{ParamUnit}
+use Rattle.params_text.specs.declared.program.Unit as code_unit
 use Rattle.params_text.proofs.ParamTexts.{text-reads, units-read, units-bad, units-reads}
 use Rattle.params_text.proofs.UnitReads.{exact-unit_from}
 use Rattle.params_model.specs.Constants.{AreFitUnits}
@@ -190,8 +190,8 @@ read-bad marks unit h = ap (then_elaborated (sizes_of marks)) (bad-units (cut_un
 pub ruleset readings = (read-bad)
 
 -- the units have values for numbers, and there are no more of them than tokens
-pub read-fit : (marks : List Mark) (ds : List ParamUnit) → StandFor marks (program_of ds) → AreFitUnits (program_of ds)
-read-fit marks ds h = units-fit (program_of ds) (cut_units (toks marks)) h.0
+pub read-fit : (marks : List Mark) (ds : List code_unit.Unit) → StandFor marks (unit_forms ds) → AreFitUnits (unit_forms ds)
+read-fit marks ds h = units-fit (unit_forms ds) (cut_units (toks marks)) h.0
 
 formed-few : (p : ParamProgram) (units : List (List Tok)) → AreUnits p units → length p ≡ length units
 formed-few [] [] h = refl
@@ -199,30 +199,30 @@ formed-few [] (u ∷ us) h = absurd h
 formed-few (d ∷ ds) [] h = absurd h
 formed-few (d ∷ ds) (u ∷ us) h = ap suc (formed-few ds us h.1)
 
-pub read-few : (marks : List Mark) (ds : List ParamUnit) → StandFor marks (program_of ds) → length ds ≤ length marks
+pub read-few : (marks : List Mark) (ds : List code_unit.Unit) → StandFor marks (unit_forms ds) → length ds ≤ length marks
 read-few marks ds e =
-    let same = formed-few (program_of ds) (cut_units (toks marks)) e.0 in
-    let each = length-map ds declared_of in
+    let same = formed-few (unit_forms ds) (cut_units (toks marks)) e.0 in
+    let each = length-map ds unit_form in
     let few = units-few marks in
     omega (arith, same, each, few)
 
 -- what was made of the units is made of the tokens
-pub read-written : (marks : List Mark) (ds : List ParamUnit) (sizes : List ℕ) (w : Written) → StandFor marks (program_of ds) → sizes ≡ sizes_of marks
-    → MakesText (Ok w) (elaborated_program (program_of ds) sizes) → WritesPlainText (of_tokens marks) (program_of ds) w.plain w.from
+pub read-written : (marks : List Mark) (ds : List code_unit.Unit) (sizes : List ℕ) (w : Written) → StandFor marks (unit_forms ds) → sizes ≡ sizes_of marks
+    → MakesText (Ok w) (elaborated_program (unit_forms ds) sizes) → WritesPlainText (of_tokens marks) (unit_forms ds) w.plain w.from
 read-written marks ds sizes w h are made = (
   made.0,
-  tokens-made marks (program_of ds) h ∙ ap (λ l. or_fault (program_of ds) (elaborated_program (program_of ds) l)) (sym are)
-      ∙ ap (or_fault (program_of ds)) made.1,
+  tokens-made marks (unit_forms ds) h ∙ ap (λ l. or_fault (unit_forms ds) (elaborated_program (unit_forms ds) l)) (sym are)
+      ∙ ap (or_fault (unit_forms ds)) made.1,
   made.2,
   made.3,
 )
 
 -- the fault of a program is the fault of the tokens that stand for it
-pub read-refused : (marks : List Mark) (ds : List ParamUnit) (sizes : List ℕ) (fault : ParamFault) → StandFor marks (program_of ds) → sizes ≡ sizes_of marks
-    → Refused (or_fault (program_of ds) (elaborated_program (program_of ds) sizes)) fault → Refused (of_tokens marks) fault
+pub read-refused : (marks : List Mark) (ds : List code_unit.Unit) (sizes : List ℕ) (fault : ParamFault) → StandFor marks (unit_forms ds) → sizes ≡ sizes_of marks
+    → Refused (or_fault (unit_forms ds) (elaborated_program (unit_forms ds) sizes)) fault → Refused (of_tokens marks) fault
 read-refused marks ds sizes fault h are is =
     subst (λ (r : Result Elaboration ParamFault). Refused r fault)
-    (sym (tokens-made marks (program_of ds) h ∙ ap (λ l. or_fault (program_of ds) (elaborated_program (program_of ds) l)) (sym are))) is
+    (sym (tokens-made marks (unit_forms ds) h ∙ ap (λ l. or_fault (unit_forms ds) (elaborated_program (unit_forms ds) l)) (sym are))) is
 
 pub ruleset writings = (read-fit, read-few, read-written, read-refused)
 

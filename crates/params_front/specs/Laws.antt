@@ -8,7 +8,7 @@ use Rattle.river_plan.specs.InTurn.{IsInTurn}
 use Rattle.river_plan.specs.Valid.{IsPlan}
 use Rattle.river_print.specs.Printable.{IsPrintable}
 use Rattle.brooklet_model.specs.Meaning.{meaning}
-use Rattle.streamit_model.specs.Build.{plan_of}
+use Rattle.streamit_model.specs.Plan.{plan_of}
 use Rattle.streamit_model.specs.Laws.{as_items}
 use Rattle.streamit_model.specs.Meaning.{program_outputs}
 use Rattle.streamit_front.specs.Laws as streamit
@@ -17,7 +17,7 @@ use Rattle.params_text.specs.Grammar.{IsText}
 use Rattle.params_text.specs.Laws.{IsBadAt}
 use Rattle.params_text.specs.Program.{ParamProgram}
 use Rattle.params_text.specs.Toks.{plain_text}
-use Rattle.params_model.specs.Faulty.{IsRight, IsFaultOf}
+use Rattle.params_model.specs.Faults.{IsFaultless, IsFaultOf}
 use Rattle.params_model.specs.Judged.{source_units, top_judged, elaborated_program}
 use Rattle.params_model.specs.Making.{Made, on_fine, last_made}
 use Rattle.params_model.specs.Making as model
@@ -33,7 +33,7 @@ use Rattle.params_front.specs.Meaning.{Elaboration, Accepted, fault_at, unit_in,
 abbrev pub IsProgramFault : ParamProgram → List ℕ → ℕ → model.Fault → Type 0
 IsProgramFault p sizes unit f =
     IsFaultOf p unit f
-    ⊎ (AllByRecursion IsRight (places_of p)
+    ⊎ (AllByRecursion IsFaultless (places_of p)
     × (on_fine (top_judged (source_units p sizes)) (λ x. last_made (source_units p sizes)) ≡ Err (record { unit = unit; fault = f })))
 
 -- the grammar has the text for a program whose first fault this is

@@ -11,11 +11,11 @@ use Rattle.river_plan.specs.Forms.{PlanForm}
 use Rattle.streamit_text.specs.Grammar.{IsText}
 use Rattle.streamit_text.specs.Program as plain
 use Rattle.streamit_model.specs.Unrolled.{Stream}
-use Rattle.streamit_model.specs.Build.{plan_of}
+use Rattle.streamit_model.specs.Plan.{plan_of}
 use Rattle.streamit_front.specs.Meaning as streamit
 use Rattle.streamit_front.specs.declared.fault.StreamitFault.{StreamitFault}
 use Rattle.streamit_front.specs.declared.fault.StreamitFault.TheVariants as inner
-use Rattle.params_text.specs.Program.{ParamProgram, program_of}
+use Rattle.params_text.specs.Program.{ParamProgram, unit_forms}
 use Rattle.params_text.specs.Reading.{some_units}
 use Rattle.params_text.specs.Toks.{plain_text}
 use Rattle.params_model.specs.Making.{Made, Refusal}
@@ -115,7 +115,7 @@ abbrev pub WritesPlainText : Result Elaboration ParamFault → ParamProgram → 
 WritesPlainText meant p text from = (m : Made) × (meant ≡ Ok (record { tree = p; made = m })) × (text ≡ plain_text m.units) × (from ≡ map pos m.from)
 
 abbrev pub Elaborates : Result Elaboration ParamFault → Elaborated → Type 0
-Elaborates meant e = WritesPlainText meant (program_of e.tree.units.items) e.plain e.from
+Elaborates meant e = WritesPlainText meant (unit_forms e.tree.units.items) e.plain e.from
 
 -- the text stands for the plain program that is made, and for no other
 abbrev pub StandsForMade : Result Elaboration ParamFault → List ℕ → Type 0

@@ -3,7 +3,7 @@ ghost use Rattle.std.specs.Prelude.{◌≡◌, ◌<◌, ◌^◌, ◌-◌, ℕ, �
 ghost use Rattle.streamit_text.specs.Program as plain;
 ghost use Rattle.streamit_model.specs.Meaning.{program_outputs};
 ghost use Rattle.streamit_front.specs.Meaning as streamit;
-ghost use Rattle.params_text.specs.Program.{program_of};
+ghost use Rattle.params_text.specs.Program.{unit_forms};
 ghost use Rattle.params_model.specs.Meaning.{params_outputs};
 ghost use Rattle.params_front.specs.Meaning.{Elaboration, or_inner, source_unit, unit_in, compiled, Plans, Refused};
 
@@ -29,9 +29,9 @@ pub fn compile_params(
     text: &Bytes,
 ) -> Result<(ParamProgram, StreamitProgram, Plan), ParamFault>
     requires { length text.now < 2 ^ 32 }
-    ensures plan { IfOk result (λ made. Plans (compiled text.now) (program_of made.0.units.items) (plain.program_of made.1.units.items) made.2) }
+    ensures plan { IfOk result (λ made. Plans (compiled text.now) (unit_forms made.0.units.items) (plain.unit_forms made.1.units.items) made.2) }
     ensures means { IfOk result (λ made. (xs : List ℤ)
-        → program_outputs (plain.program_of made.1.units.items) xs ≡ params_outputs (program_of made.0.units.items) xs) }
+        → program_outputs (plain.unit_forms made.1.units.items) xs ≡ params_outputs (unit_forms made.0.units.items) xs) }
     ensures refused { IfErr result (Refused (compiled text.now)) }
 {
     let Elaborated { tree, plain, from } = elaborate(alloc, text)?;
@@ -46,7 +46,7 @@ fn compile_plain(
     text: &Bytes,
     from: &[i64],
 ) -> Result<(StreamitProgram, Plan), ParamFault>
-    ensures plan { IfOk result (λ made. streamit.Plans (streamit.compiled text.now) (plain.program_of made.0.units.items) made.1) }
+    ensures plan { IfOk result (λ made. streamit.Plans (streamit.compiled text.now) (plain.unit_forms made.0.units.items) made.1) }
     ensures refused { IfErr result (λ f. (e : Elaboration) → from.now ≡ map pos e.made.from → Refused (or_inner e (streamit.compiled text.now)) f) }
 {
     // A plain text of 2^32 bytes cannot be: its places would have no numbers.

@@ -1,7 +1,7 @@
 // From the text of a program to the text of its plain program.
 ghost use Rattle.std.specs.Prelude.{◌≡◌, ◌<◌, ◌^◌, length, IfOk, IfErr, Result, Ok};
 ghost use Rattle.params_text.specs.Faults.{StandFor};
-ghost use Rattle.params_text.specs.Program.{program_of};
+ghost use Rattle.params_text.specs.Program.{unit_forms};
 ghost use Rattle.params_text.specs.Program as text;
 ghost use Rattle.params_model.specs.Constants.{AreFitUnits};
 ghost use Rattle.params_model.specs.Judged.{elaborated_program};
@@ -16,7 +16,7 @@ use crate::sizes::sizes;
 use crate::{Elaborated, ParamProgram};
 use params_build::{Fault, Refusal, judged, top};
 use params_make::{Written, made};
-use params_text::{ParamUnit, read_params};
+use params_text::{Unit, read_params};
 use river_base::Bytes;
 use std::alloc::Global;
 use text_forms::{Refusal as TextRefusal, UnitFault};
@@ -65,9 +65,9 @@ fn elaborate_tokens(alloc: Global, tokens: &Tokens<'_>) -> Result<Elaborated, Pa
 
 // The units of the tokens of a text.
 #[tactic(auto, using(crate::proofs::Fronts::readings))]
-fn read(alloc: Global, tokens: &Tokens<'_>) -> Result<Vec<ParamUnit>, ParamFault>
+fn read(alloc: Global, tokens: &Tokens<'_>) -> Result<Vec<Unit>, ParamFault>
     requires { length tokens.now < 2 ^ 32 }
-    ensures read { IfOk result (λ units. StandFor tokens.now (program_of units.items)) }
+    ensures read { IfOk result (λ units. StandFor tokens.now (unit_forms units.items)) }
     ensures refused { IfErr result (Refused (of_tokens tokens.now)) }
 {
     match read_params(alloc, tokens) {
@@ -79,10 +79,10 @@ fn read(alloc: Global, tokens: &Tokens<'_>) -> Result<Vec<ParamUnit>, ParamFault
 
 // What is made of the units that were read of these tokens.
 #[tactic(auto, using(crate::proofs::Fronts::writings))]
-fn written(alloc: Global, tokens: &Tokens<'_>, units: &[ParamUnit]) -> Result<Written, ParamFault>
+fn written(alloc: Global, tokens: &Tokens<'_>, units: &[Unit]) -> Result<Written, ParamFault>
     requires few { length tokens.now < 2 ^ 32 }
-    requires read { StandFor tokens.now (program_of units.now) }
-    ensures made { IfOk result (λ w. WritesPlainText (of_tokens tokens.now) (program_of units.now) w.plain w.from) }
+    requires read { StandFor tokens.now (unit_forms units.now) }
+    ensures made { IfOk result (λ w. WritesPlainText (of_tokens tokens.now) (unit_forms units.now) w.plain w.from) }
     ensures refused { IfErr result (Refused (of_tokens tokens.now)) }
 {
     let sizes = sizes(alloc, tokens)?;
@@ -94,10 +94,10 @@ fn written(alloc: Global, tokens: &Tokens<'_>, units: &[ParamUnit]) -> Result<Wr
 
 // What is made of units that have so many bytes.
 #[tactic(auto, using(crate::proofs::Fronts::makings))]
-fn made_of(alloc: Global, units: &[ParamUnit], sizes: &[usize]) -> Result<Written, Refusal>
-    requires fit { AreFitUnits (program_of units.now) }
+fn made_of(alloc: Global, units: &[Unit], sizes: &[usize]) -> Result<Written, Refusal>
+    requires fit { AreFitUnits (unit_forms units.now) }
     requires few { length units.now < 2 ^ 32 }
-    ensures { MakesText result (elaborated_program (program_of units.now) sizes.now) }
+    ensures { MakesText result (elaborated_program (unit_forms units.now) sizes.now) }
 {
     judged(alloc, units)?;
     top(units)?;

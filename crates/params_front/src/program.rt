@@ -1,12 +1,12 @@
 // The tree of a program, and what is made of it.
-use params_text::ParamUnit;
+use params_text::Unit;
 use river_base::{Bytes, Numbers};
 
 /// A program as it is written: streams that are declared one after another, with whole numbers as
 /// parameters. The last of them, which has none, is run.
 #[derive(Drop)]
 pub struct ParamProgram {
-    pub units: Vec<ParamUnit>,
+    pub units: Vec<Unit>,
 }
 
 /// What is made of a program.

@@ -5,8 +5,8 @@ use Rattle.river_plan.specs.Forms.{Name}
 use Rattle.streamit_text.specs.Program as plain
 use Rattle.streamit_text.specs.Tree.{Expression}
 use Rattle.streamit_model.specs.Meaning.{numbers_from, turns_between}
-use Rattle.params_text.specs.Program.{Add, Loop, Steps, declared_of}
-use Rattle.params_text.specs.declared.program.ParamUnit.{ParamUnit}
+use Rattle.params_text.specs.Program.{Add, Loop, Steps, unit_form}
+use Rattle.params_text.specs.declared.program.Unit as code_unit
 use Rattle.params_model.specs.Environment.{Environment, value}
 use Rattle.params_model.specs.Making.{SourceUnit, Made, nothing_made, Adding, Range, Empty, on_fine, demand, begin, turn, made_once, steps_made, turns_made, some_adds, children_made, make, last_made}
 use Rattle.params_model.specs.Making as model
@@ -132,31 +132,31 @@ module _ (add : Adding) (u : SourceUnit) (depth : ℕ) (env : Environment) (m : 
 
 -- THE LAST STREAM
 
-pub top-is : (us : List ParamUnit) (i : ℕ) (u : ParamUnit) (sizes : List ℕ) → i + 1 ≡ length us → u ≡ get_or us i u
-    → last_made (sources us sizes) ≡ on_fine (make (adding (take i us) sizes 2) (source_at i sizes (declared_of u)) 1 [] nothing_made) (λ x. fine x.1)
+pub top-is : (us : List code_unit.Unit) (i : ℕ) (u : code_unit.Unit) (sizes : List ℕ) → i + 1 ≡ length us → u ≡ get_or us i u
+    → last_made (sources us sizes) ≡ on_fine (make (adding (take i us) sizes 2) (source_at i sizes (unit_form u)) 1 [] nothing_made) (λ x. fine x.1)
 top-is us i u sizes len e =
     let all : take (i + 1) us ≡ us = take_all (i + 1) us (omega (arith, len)) in
     ap (λ l. last_made (sources l sizes)) (sym all) ∙ ap last_made (sources-more us i u sizes (omega (arith, len)) e)
 
 -- what the last stream makes without arguments is what the units make
-pub top-made : (us : List ParamUnit) (i j : ℕ) (u : ParamUnit) (sizes : List ℕ) (env : Environment) (name : Name) (m : Made) → i + 1 ≡ length us
+pub top-made : (us : List code_unit.Unit) (i j : ℕ) (u : code_unit.Unit) (sizes : List ℕ) (env : Environment) (name : Name) (m : Made) → i + 1 ≡ length us
     → u ≡ get_or us i u
-    → j ≡ i → env ≡ [] → make (adding (take i us) sizes 2) (source_at j sizes (declared_of u)) 1 env nothing_made ≡ Ok (name, m)
+    → j ≡ i → env ≡ [] → make (adding (take i us) sizes 2) (source_at j sizes (unit_form u)) 1 env nothing_made ≡ Ok (name, m)
     → last_made (sources us sizes) ≡ Ok m
 top-made us i j u sizes env name m len is e none h =
     top-is us i u sizes len is
-    ∙ ap (λ n. on_fine (make (adding (take i us) sizes 2) (source_at n sizes (declared_of u)) 1 [] nothing_made) (λ x. fine x.1)) (sym e)
-    ∙ ap (λ v. on_fine (make (adding (take i us) sizes 2) (source_at j sizes (declared_of u)) 1 v nothing_made) (λ x. fine x.1)) (sym none)
+    ∙ ap (λ n. on_fine (make (adding (take i us) sizes 2) (source_at n sizes (unit_form u)) 1 [] nothing_made) (λ x. fine x.1)) (sym e)
+    ∙ ap (λ v. on_fine (make (adding (take i us) sizes 2) (source_at j sizes (unit_form u)) 1 v nothing_made) (λ x. fine x.1)) (sym none)
     ∙ ap (λ q. on_fine q (λ x. fine x.1)) h
 
 -- the fault of the last stream is the fault of the units
-pub top-told : (us : List ParamUnit) (i j : ℕ) (u : ParamUnit) (sizes : List ℕ) (env : Environment) (r : Refusal) → i + 1 ≡ length us → u ≡ get_or us i u
-    → j ≡ i → env ≡ [] → Told r.unit r.fault (make (adding (take i us) sizes 2) (source_at j sizes (declared_of u)) 1 env nothing_made)
+pub top-told : (us : List code_unit.Unit) (i j : ℕ) (u : code_unit.Unit) (sizes : List ℕ) (env : Environment) (r : Refusal) → i + 1 ≡ length us → u ≡ get_or us i u
+    → j ≡ i → env ≡ [] → Told r.unit r.fault (make (adding (take i us) sizes 2) (source_at j sizes (unit_form u)) 1 env nothing_made)
     → Told r.unit r.fault (last_made (sources us sizes))
 top-told us i j u sizes env r len is e none h =
     subst (λ q. Told r.unit r.fault q)
     (sym
     (top-is us i u sizes len is
-    ∙ ap (λ n. on_fine (make (adding (take i us) sizes 2) (source_at n sizes (declared_of u)) 1 [] nothing_made) (λ x. fine x.1)) (sym e)
-    ∙ ap (λ v. on_fine (make (adding (take i us) sizes 2) (source_at j sizes (declared_of u)) 1 v nothing_made) (λ x. fine x.1)) (sym none)))
-    (told-on r.unit r.fault (make (adding (take i us) sizes 2) (source_at j sizes (declared_of u)) 1 env nothing_made) (λ x. fine x.1) h)
+    ∙ ap (λ n. on_fine (make (adding (take i us) sizes 2) (source_at n sizes (unit_form u)) 1 [] nothing_made) (λ x. fine x.1)) (sym e)
+    ∙ ap (λ v. on_fine (make (adding (take i us) sizes 2) (source_at j sizes (unit_form u)) 1 v nothing_made) (λ x. fine x.1)) (sym none)))
+    (told-on r.unit r.fault (make (adding (take i us) sizes 2) (source_at j sizes (unit_form u)) 1 env nothing_made) (λ x. fine x.1) h)

@@ -4,7 +4,7 @@ use Rattle.std.specs.Prelude.{nat_lt, nat_le, ◌&&◌, IfOk, OnOk}
 use Rattle.std.proofs.lemmas.List.{map-append, length-append}
 use Rattle.river_plan.specs.Forms.{Name}
 use Rattle.streamit_text.specs.Program as plain
-use Rattle.params_text.specs.Program.{ParamFilter, Dealing, Steps, Declared, AFilter, APipeline, ASplitJoin}
+use Rattle.params_text.specs.Program.{ParamFilter, Dealing, Steps, UnitForm, AFilter, APipeline, ASplitJoin}
 use Rattle.streamit_text.specs.Tree.{Expression}
 use Rattle.work_text.specs.Spaced.{spaced}
 use Rattle.params_text.specs.Toks.{unit_toks, units_toks, plain_text}
@@ -24,7 +24,7 @@ use Rattle.params_make.proofs.Faults.{fine, told-on, told-behind}
 -- COUNTS
 
 -- an instance that may be begun
-pub begun-stands : (s : Making) (m : Made) (k size depth : ℕ) (d : Declared) → Stands s m
+pub begun-stands : (s : Making) (m : Made) (k size depth : ℕ) (d : UnitForm) → Stands s m
     → demand (nat_lt s.begun 1024 && (nat_le depth 64 && nat_le (s.bytes + size) 1048576)) k Budget ≡ Ok tt
     → Begins (Ok tt) (record s { begun = s.begun + 1; bytes = s.bytes + size }) (begin (record { unit = k; bytes = size; stream = d }) depth m)
 begun-stands s m k size depth d h is =
@@ -44,7 +44,7 @@ begun-stands s m k size depth d h is =
     )
 
 -- one that may not
-pub begun-told : (s : Making) (m : Made) (k size depth : ℕ) (d : Declared) (e : Refusal) → Stands s m
+pub begun-told : (s : Making) (m : Made) (k size depth : ℕ) (d : UnitForm) (e : Refusal) → Stands s m
     → Told e.unit e.fault (demand (nat_lt s.begun 1024 && (nat_le depth 64 && nat_le (s.bytes + size) 1048576)) k Budget)
     → Told e.unit e.fault (begin (record { unit = k; bytes = size; stream = d }) depth m)
 begun-told s m k size depth d e h t =
@@ -86,7 +86,7 @@ toks-append [] vs = refl
 toks-append (u ∷ us) vs = ap (λ l. unit_toks u ++ l) (toks-append us vs) ∙ sym (append_assoc (unit_toks u) (units_toks us) (units_toks vs))
 
 -- the text of one unit more
-text-more : (us : plain.Program) (u : plain.Declared) → plain_text (us ++ u ∷ []) ≡ plain_text us ++ spaced (unit_toks u)
+text-more : (us : plain.Program) (u : plain.UnitForm) → plain_text (us ++ u ∷ []) ≡ plain_text us ++ spaced (unit_toks u)
 text-more us u =
     ap spaced (toks-append us (u ∷ []) ∙ ap (λ l. units_toks us ++ l) (append-nil (unit_toks u)))
     ∙ spaced-append (units_toks us) (unit_toks u)
@@ -114,7 +114,7 @@ written-stands s mid new m k stream b i h one two is w =
       },
     )
   where
-    length-next : (us : plain.Program) (u : plain.Declared) → length (us ++ u ∷ []) ≡ suc (length us)
+    length-next : (us : plain.Program) (u : plain.UnitForm) → length (us ++ u ∷ []) ≡ suc (length us)
     length-next us u = length-append us (u ∷ []) ∙ (let e : length us + 1 ≡ suc (length us) = omega arith in e)
 
 -- BODIES

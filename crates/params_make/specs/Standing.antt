@@ -3,9 +3,9 @@ use Rattle.std.specs.Prelude.{◌≡◌, ℕ, suc, pos, List, [], ◌∷◌, ◌
 use Rattle.std.proofs.Common.{get_or}
 use Rattle.river_plan.specs.Forms.{Name}
 use Rattle.streamit_text.specs.Program as plain
-use Rattle.params_text.specs.Program.{Steps, Body, Declared, program_of}
+use Rattle.params_text.specs.Program.{Steps, Body, UnitForm, unit_forms}
 use Rattle.params_text.specs.Toks.{plain_text}
-use Rattle.params_text.specs.declared.program.ParamUnit.{ParamUnit}
+use Rattle.params_text.specs.declared.program.Unit as code_unit
 use Rattle.params_model.specs.Environment.{Environment}
 use Rattle.params_model.specs.Plain.{instance_name}
 use Rattle.params_model.specs.Judged.{source_units}
@@ -23,15 +23,15 @@ use Rattle.params_make.specs.declared.body.Scope.{Scope}
 -- THE STREAMS ABOVE
 
 -- the streams of these units, the newest first
-abbrev pub sources : List ParamUnit → List ℕ → List SourceUnit
-sources us sizes = source_units (program_of us) sizes
+abbrev pub sources : List code_unit.Unit → List ℕ → List SourceUnit
+sources us sizes = source_units (unit_forms us) sizes
 
 -- the unit behind so many
-abbrev pub source_at : ℕ → List ℕ → Declared → SourceUnit
+abbrev pub source_at : ℕ → List ℕ → UnitForm → SourceUnit
 source_at i sizes d = record { unit = suc i; bytes = get_or sizes i 0; stream = d }
 
 -- what an `add` makes below these units, where its instance lies so deep
-abbrev pub adding : List ParamUnit → List ℕ → ℕ → Adding
+abbrev pub adding : List code_unit.Unit → List ℕ → ℕ → Adding
 adding us sizes depth = instance (sources us sizes) depth
 
 -- INSTANCES

@@ -1,6 +1,6 @@
 // The bodies of instances: their children, and then their own text.
 ghost use Rattle.std.specs.Prelude.{◌≡◌, ◌-◌, [], ◌∷◌, ℕ, pos, suc, length, OnOk};
-ghost use Rattle.params_text.specs.Program.{program_of, body_of, declared_of, filter_of, steps_of, step_of, expressions, Add, AFilter, APipeline};
+ghost use Rattle.params_text.specs.Program.{unit_forms, body_of, unit_form, filter_of, steps_of, step_of, expressions, Add, AFilter, APipeline};
 ghost use Rattle.params_text.specs.View.{split_join_of};
 ghost use Rattle.streamit_model.specs.Meaning.{numbers_from};
 ghost use Rattle.params_model.specs.Laws.{AreFit};
@@ -17,7 +17,7 @@ use crate::ranges::{is_ranged_filter, is_ranged_round, is_ranged_split};
 use crate::span::{Span, span_between, value_or, values};
 use params_build::{Fault, Refusal};
 use params_print::{Bindings, Instance};
-use params_text::{ParamBody, ParamFilter, ParamSplitJoin, ParamUnit, Step, Steps};
+use params_text::{ParamBody, ParamFilter, ParamSplitJoin, Unit, Step, Steps};
 use river_base::{Listed, Name};
 use std::alloc::Global;
 use streamit_text::Expr;
@@ -26,7 +26,7 @@ use streamit_text::Expr;
 /// or, in its body, how deep its children lie.
 #[derive(Clone, Copy)]
 pub struct Seen<'a> {
-    pub units: &'a [ParamUnit],
+    pub units: &'a [Unit],
     pub sizes: &'a [usize],
     pub depth: u32,
 }
@@ -55,7 +55,7 @@ impl Making {
         stream: Name,
         values: &[i64],
     ) -> Result<Instance, Refusal>
-        requires { AreFitUnits (program_of seen.units.now) }
+        requires { AreFitUnits (unit_forms seen.units.now) }
         ensures { (m : Made) → Stands self.old m
             → MakesOne result self.new (adding seen.entry.units.now seen.entry.sizes.now seen.entry.depth stream values.now m) }
     {
@@ -81,14 +81,14 @@ impl Making {
         &mut self,
         alloc: Global,
         seen: Seen<'_>,
-        unit: &ParamUnit,
+        unit: &Unit,
         known: Bindings,
     ) -> Result<Instance, Refusal>
-        requires above { AreFitUnits (program_of seen.units.now) }
+        requires above { AreFitUnits (unit_forms seen.units.now) }
         requires unit { IsFitUnit (body_of unit.now.body) }
         ensures { (m : Made) → Stands self.old m
             → MakesOne result self.new (make (adding seen.entry.units.now seen.entry.sizes.now (suc seen.entry.depth))
-            (source_at (length seen.entry.units.now) seen.entry.sizes.now (declared_of unit.now)) seen.entry.depth known m) }
+            (source_at (length seen.entry.units.now) seen.entry.sizes.now (unit_form unit.now)) seen.entry.depth known m) }
     {
         let size = size_at(seen.sizes, seen.units.len());
         self.begin(seen.units, size, seen.depth)?;
@@ -113,7 +113,7 @@ impl Making {
         name: Name,
         body: &ParamBody,
     ) -> Result<Instance, Refusal>
-        requires above { AreFitUnits (program_of seen.units.now) }
+        requires above { AreFitUnits (unit_forms seen.units.now) }
         requires body { IsFitUnit (body_of body.now) }
         requires none { scope.old.children ≡ [] }
         ensures { (m : Made) → Stands self.old m
@@ -131,7 +131,7 @@ impl Making {
     fn filter(
         &mut self,
         alloc: Global,
-        above: &[ParamUnit],
+        above: &[Unit],
         known: &Bindings,
         name: Name,
         tree: &ParamFilter,
@@ -155,7 +155,7 @@ impl Making {
         name: Name,
         steps: &Steps,
     ) -> Result<Instance, Refusal>
-        requires above { AreFitUnits (program_of seen.units.now) }
+        requires above { AreFitUnits (unit_forms seen.units.now) }
         requires steps { HaveFitConstants (steps_of steps.now) }
         requires none { scope.old.children ≡ [] }
         ensures { (m : Made) → Stands self.old m
@@ -177,7 +177,7 @@ impl Making {
         name: Name,
         all: &ParamSplitJoin,
     ) -> Result<Instance, Refusal>
-        requires above { AreFitUnits (program_of seen.units.now) }
+        requires above { AreFitUnits (unit_forms seen.units.now) }
         requires body { IsFitUnit (split_join_of all.now) }
         requires none { scope.old.children ≡ [] }
         ensures { (m : Made) → Stands self.old m
@@ -209,7 +209,7 @@ impl Making {
         scope: &mut Scope,
         steps: &Steps,
     ) -> Result<(), Refusal>
-        requires above { AreFitUnits (program_of seen.units.now) }
+        requires above { AreFitUnits (unit_forms seen.units.now) }
         requires steps { HaveFitConstants (steps_of steps.now) }
         requires none { scope.old.children ≡ [] }
         ensures { (m : Made) → Stands self.old m
@@ -230,7 +230,7 @@ impl Making {
         bounds: &[Bounds],
         steps: &Steps,
     ) -> Result<(), Refusal>
-        requires above { AreFitUnits (program_of seen.units.now) }
+        requires above { AreFitUnits (unit_forms seen.units.now) }
         requires steps { HaveFitConstants (steps_of steps.now) }
         requires bounds { AreValued scope.old.known (steps_of steps.now) bounds.now }
         requires none { scope.old.children ≡ [] }
@@ -255,7 +255,7 @@ impl Making {
         bounds: &[Bounds],
         steps: &Steps,
     ) -> Result<(), Refusal>
-        requires above { AreFitUnits (program_of seen.units.now) }
+        requires above { AreFitUnits (unit_forms seen.units.now) }
         requires steps { HaveFitConstants (steps_of steps.now) }
         requires bounds { AreValued scope.old.known (steps_of steps.now) bounds.now }
         ensures made { (m : Made) → Stands self.old m
@@ -283,7 +283,7 @@ impl Making {
         bounds: &Bounds,
         step: &Step,
     ) -> Result<(), Refusal>
-        requires above { AreFitUnits (program_of seen.units.now) }
+        requires above { AreFitUnits (unit_forms seen.units.now) }
         requires step { HasFitConstants (step_of step.now) }
         requires bounds { IsValued scope.old.known (step_of step.now) bounds.now }
         ensures made { (m : Made) → Stands self.old m
@@ -323,7 +323,7 @@ impl Making {
         stream: Name,
         args: &Vec<Expr>,
     ) -> Result<(), Refusal>
-        requires above { AreFitUnits (program_of seen.units.now) }
+        requires above { AreFitUnits (unit_forms seen.units.now) }
         requires args { AreFit (expressions args.now) }
         ensures made { (m : Made) → Stands self.old m
             → MakesMore result scope.old scope.new self.new (made_once (adding seen.entry.units.now seen.entry.sizes.now seen.entry.depth)
@@ -347,7 +347,7 @@ impl Making {
         bounds: &[Bounds],
         steps: &Steps,
     ) -> Result<(), Refusal>
-        requires above { AreFitUnits (program_of seen.units.now) }
+        requires above { AreFitUnits (unit_forms seen.units.now) }
         requires steps { HaveFitConstants (steps_of steps.now) }
         requires bounds { (v : ℕ) → AreValued ((turns.name, pos v) ∷ scope.old.known) (steps_of steps.now) bounds.now }
         ensures made { (m : Made) → Stands self.old m
@@ -378,7 +378,7 @@ impl Making {
         bounds: &[Bounds],
         steps: &Steps,
     ) -> Result<(), Refusal>
-        requires above { AreFitUnits (program_of seen.units.now) }
+        requires above { AreFitUnits (unit_forms seen.units.now) }
         requires steps { HaveFitConstants (steps_of steps.now) }
         requires bounds { AreValued ((name, pos value) ∷ scope.old.known) (steps_of steps.now) bounds.now }
         ensures made { (m : Made) → Stands self.old m

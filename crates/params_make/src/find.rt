@@ -3,11 +3,11 @@ ghost use Rattle.std.specs.Prelude.{◌≡◌};
 ghost use Rattle.std.proofs.Common.{get_or};
 ghost use Rattle.params_make.specs.Finding.{Finds};
 
-use params_text::ParamUnit;
+use params_text::Unit;
 use river_base::Name;
 
 /// The last of these units that declares a stream of this name.
-pub fn find(units: &[ParamUnit], name: &Name) -> Option<usize>
+pub fn find(units: &[Unit], name: &Name) -> Option<usize>
     ensures { Finds units.now name.now result }
 {
     let mut i = units.len();

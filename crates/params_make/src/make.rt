@@ -1,5 +1,5 @@
 // The instances of a program's last stream and of all that it adds.
-ghost use Rattle.params_text.specs.Program.{program_of};
+ghost use Rattle.params_text.specs.Program.{unit_forms};
 ghost use Rattle.params_model.specs.Making.{last_made};
 ghost use Rattle.params_make.specs.Standing.{sources};
 ghost use Rattle.params_model.specs.Constants.{AreFitUnits};
@@ -9,7 +9,7 @@ use crate::Making;
 use crate::body::Seen;
 use params_build::{Fault, Refusal};
 use params_print::Bindings;
-use params_text::ParamUnit;
+use params_text::Unit;
 use river_base::{Bytes, Numbers};
 use std::alloc::Global;
 
@@ -29,8 +29,8 @@ pub struct Written {
 /// The first fault in the order in which instances are made, with the unit that is being made:
 /// `Range`, `Empty` or `Budget`; `UnknownName` where an `add` names no stream above, which a program
 /// that was judged has not; `NoMemory` where there is no memory.
-pub fn made(alloc: Global, units: &[ParamUnit], sizes: &[usize]) -> Result<Written, Refusal>
-    requires { AreFitUnits (program_of units.now) }
+pub fn made(alloc: Global, units: &[Unit], sizes: &[usize]) -> Result<Written, Refusal>
+    requires { AreFitUnits (unit_forms units.now) }
     ensures { MakesText result (last_made (sources units.now sizes.now)) }
 {
     let count = units.len();

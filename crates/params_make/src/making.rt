@@ -1,13 +1,13 @@
 // What was made so far: the text, the source unit of each instance, and what was counted.
 ghost use Rattle.std.specs.Prelude.{◌≡◌, ◌≤◌, ◌+◌, ◌&&◌, suc, length, nat_lt, nat_le, IfOk, OnOk};
-ghost use Rattle.params_text.specs.Program.{Declared};
+ghost use Rattle.params_text.specs.Program.{UnitForm};
 ghost use Rattle.params_model.specs.Making.{Made, nothing_made, begin, turn, demand};
 ghost use Rattle.params_build.specs.Told.{JudgesAll};
 ghost use Rattle.params_make.specs.Standing.{Stands, Begins, Wrote, Blames, tested_fault};
 
 use params_build::{Fault, Refusal};
 use params_print::Instance;
-use params_text::ParamUnit;
+use params_text::Unit;
 use river_base::{Bytes, Name, NoMemory, Numbers};
 use std::alloc::Global;
 
@@ -39,8 +39,8 @@ impl Making {
     }
 
     /// An instance of the unit behind these is begun: it has so many bytes, and lies so deep.
-    pub fn begin(&mut self, above: &[ParamUnit], size: usize, depth: u32) -> Result<(), Refusal>
-        ensures begun { (m : Made) (d : Declared) → Stands self.old m
+    pub fn begin(&mut self, above: &[Unit], size: usize, depth: u32) -> Result<(), Refusal>
+        ensures begun { (m : Made) (d : UnitForm) → Stands self.old m
             → Begins result self.new (begin (record { unit = suc (length above.now); bytes = size; stream = d }) depth m) }
         ensures deep { OnOk result (depth ≤ 64) }
     {
@@ -60,7 +60,7 @@ impl Making {
     }
 
     /// A turn of a loop is begun, in the unit behind these.
-    pub fn begin_turn(&mut self, above: &[ParamUnit]) -> Result<(), Refusal>
+    pub fn begin_turn(&mut self, above: &[Unit]) -> Result<(), Refusal>
         ensures { (m : Made) → Stands self.old m → Begins result self.new (turn (suc (length above.now)) m) }
     {
         demand(above, self.turns < 65_536, Fault::Budget)?;
@@ -78,7 +78,7 @@ impl Making {
     }
 
     /// The instance was written, of the unit behind these.
-    pub fn wrote(&mut self, above: &[ParamUnit], instance: Instance) -> Result<Instance, NoMemory>
+    pub fn wrote(&mut self, above: &[Unit], instance: Instance) -> Result<Instance, NoMemory>
         ensures same { IfOk result (λ i. i ≡ instance) }
         ensures noted { OnOk result (Wrote self.old self.new (suc (length above.now)) instance.number) }
     {
@@ -90,7 +90,7 @@ impl Making {
 }
 
 // The number of the unit behind these.
-fn unit_behind(above: &[ParamUnit]) -> Result<u32, NoMemory>
+fn unit_behind(above: &[Unit]) -> Result<u32, NoMemory>
     ensures { IfOk result (λ unit. unit ≡ suc (length above.now)) }
 {
     match u32::try_from(above.len()) {
@@ -100,7 +100,7 @@ fn unit_behind(above: &[ParamUnit]) -> Result<u32, NoMemory>
 }
 
 /// The fault of the unit behind these.
-pub fn refuse(above: &[ParamUnit], fault: Fault) -> Refusal
+pub fn refuse(above: &[Unit], fault: Fault) -> Refusal
     ensures { Blames result (suc (length above.now)) (tested_fault fault) }
 {
     match unit_behind(above) {
@@ -110,7 +110,7 @@ pub fn refuse(above: &[ParamUnit], fault: Fault) -> Refusal
 }
 
 /// The fault of the unit behind these, where a test fails.
-pub fn demand(above: &[ParamUnit], holds: bool, fault: Fault) -> Result<(), Refusal>
+pub fn demand(above: &[Unit], holds: bool, fault: Fault) -> Result<(), Refusal>
     ensures { JudgesAll result (demand holds (suc (length above.now)) (tested_fault fault)) }
 {
     if holds {

@@ -12,7 +12,7 @@ ghost use Rattle.params_model.specs.Constants.{IsFitFilter, IsFitDealing, AreFit
 use crate::Making;
 use crate::body::Scope;
 use params_print::{Bindings, Instance, print_filter, print_pipeline, print_split_join};
-use params_text::{ParamFilter, ParamSplitJoin, ParamUnit};
+use params_text::{ParamFilter, ParamSplitJoin, Unit};
 use river_base::{Name, NoMemory};
 use std::alloc::Global;
 
@@ -21,7 +21,7 @@ impl Making {
     pub fn write_filter(
         &mut self,
         alloc: Global,
-        above: &[ParamUnit],
+        above: &[Unit],
         stream: Name,
         known: &Bindings,
         tree: &ParamFilter,
@@ -39,7 +39,7 @@ impl Making {
     pub fn write_pipeline(
         &mut self,
         alloc: Global,
-        above: &[ParamUnit],
+        above: &[Unit],
         stream: Name,
         children: &[Instance],
     ) -> Result<Instance, NoMemory>
@@ -55,7 +55,7 @@ impl Making {
     pub fn write_split_join(
         &mut self,
         alloc: Global,
-        above: &[ParamUnit],
+        above: &[Unit],
         stream: Name,
         scope: &Scope,
         all: &ParamSplitJoin,

@@ -17,35 +17,35 @@ use Rattle.params_model.specs.Making.{is_ranged_option, are_ranged_option, is_ra
 use Rattle.params_model.specs.Making.{turns_made, made_once, steps_made, some_adds, children_made, body_made, finish, make, instance, last_made}
 use Rattle.params_model.specs.Events.{Event, Tops, Begins, Goes, Counts, Closes, option_value, option_values, dealing_values, work_values, prework_values, filter_values}
 use Rattle.params_model.specs.Events.{in_turns, step_children, steps_children, Adds, turn_events, step_events, steps_events, children_events, body_events, make_events}
-use Rattle.params_model.specs.Events.{instance_events, program_events, Before, nothing, after, IsOut, SomeOut, IsWrong, refusal_at, AllRight, IsFirstWrong}
+use Rattle.params_model.specs.Events.{instance_events, program_events, Before, nothing, after_event, IsOut, SomeOut, IsWrong, refusal_at, AllRight, IsFirstWrong}
 use Rattle.params_model.specs.Events.{MakingRefusalsAre, MakingIsDone}
 
 -- EVENTS ONE AFTER ANOTHER
 
 abbrev after_all : Before → List Event → Before
 after_all t [] = t
-after_all t (e ∷ es) = after_all (after t e) es
+after_all t (e ∷ es) = after_all (after_event t e) es
 
 after_both : (t : Before) (a b : List Event) → after_all t (a ++ b) ≡ after_all (after_all t a) b
 after_both t [] b = refl
-after_both t (e ∷ a) b = after_both (after t e) a b
+after_both t (e ∷ a) b = after_both (after_event t e) a b
 
 right_both : (t : Before) (a b : List Event) → AllRight t a → AllRight (after_all t a) b → AllRight t (a ++ b)
 right_both t [] b h g = g
-right_both t (e ∷ a) b h g = (h.0, right_both (after t e) a b h.1 g)
+right_both t (e ∷ a) b h g = (h.0, right_both (after_event t e) a b h.1 g)
 
 wrong_front : (t : Before) (a b : List Event) (r : Refusal) → IsFirstWrong t a r → IsFirstWrong t (a ++ b) r
 wrong_front t [] b r h = absurd h
-wrong_front t (e ∷ a) b r h = ⊎_elim (λ w. inl w) (λ w. inr (w.0, wrong_front (after t e) a b r w.1)) h
+wrong_front t (e ∷ a) b r h = ⊎_elim (λ w. inl w) (λ w. inr (w.0, wrong_front (after_event t e) a b r w.1)) h
 
 wrong_behind : (t : Before) (a b : List Event) (r : Refusal) → AllRight t a → IsFirstWrong (after_all t a) b r → IsFirstWrong t (a ++ b) r
 wrong_behind t [] b r h g = g
-wrong_behind t (e ∷ a) b r h g = inr (h.0, wrong_behind (after t e) a b r h.1 g)
+wrong_behind t (e ∷ a) b r h g = inr (h.0, wrong_behind (after_event t e) a b r h.1 g)
 
 -- nothing is wrong, or something is first
 not_both : (t : Before) (es : List Event) (r : Refusal) → AllRight t es → IsFirstWrong t es r → ⊥
 not_both t [] r h g = g
-not_both t (e ∷ es) r h g = ⊎_elim (λ w. h.0 w.0) (λ w. not_both (after t e) es r h.1 w.1) g
+not_both t (e ∷ es) r h g = ⊎_elim (λ w. h.0 w.0) (λ w. not_both (after_event t e) es r h.1 w.1) g
 
 -- there is one first
 first_is : (t : Before) (es : List Event) (r q : Refusal) → IsFirstWrong t es r → IsFirstWrong t es q → r ≡ q
@@ -53,7 +53,7 @@ first_is t [] r q h g = absurd h
 first_is t (e ∷ es) r q h g =
     ⊎_elim
     (λ w. ⊎_elim (λ v. w.1 ∙ sym v.1) (λ v. absurd (v.0 w.0)) g)
-    (λ w. ⊎_elim (λ v. absurd (w.0 v.0)) (λ v. first_is (after t e) es r q w.1 v.1) g)
+    (λ w. ⊎_elim (λ v. absurd (w.0 v.0)) (λ v. first_is (after_event t e) es r q w.1 v.1) g)
     h
 
 -- one number is below the other, or is not
@@ -96,10 +96,10 @@ follows_then made holds made' holds' t a b (Ok x) f h g = by (f x) (g x h.1 h.2)
 follows_demand : {B : Type 0} (made : B → Made) (holds : B → Type 0) (t : Before) (e : Event) (es : List Event) (b : Bool) (unit : ℕ) (fault : Fault)
     (f : Unit {0} → Result B Refusal)
     → refusal_at e ≡ record { unit = unit; fault = fault } → (b ≡ true → IsWrong t e → ⊥) → (b ≡ false → IsWrong t e)
-    → (b ≡ true → Follows made holds (after t e) es (f tt)) → Follows made holds t (e ∷ es) (on_fine (demand b unit fault) f)
+    → (b ≡ true → Follows made holds (after_event t e) es (f tt)) → Follows made holds t (e ∷ es) (on_fine (demand b unit fault) f)
 follows_demand made holds t e es true unit fault f is right wrong g = by (f tt) (g refl)
   where
-    by : (y : Result _ Refusal) → Follows made holds (after t e) es y → Follows made holds t (e ∷ es) y
+    by : (y : Result _ Refusal) → Follows made holds (after_event t e) es y → Follows made holds t (e ∷ es) y
     by (Ok y) k = ((right refl, k.0), k.1, k.2)
     by (Err r) k = inr (right refl, k)
 follows_demand made holds t e es false unit fault f is right wrong g = inl (wrong refl, sym is)
@@ -184,7 +184,7 @@ follows_counts made holds t es b unit zs f h g = follows_demand made holds t (Co
 
 -- what happens and is right, and what comes behind
 follows_right : {B : Type 0} (made : B → Made) (holds : B → Type 0) (t : Before) (e : Event) (es : List Event) (y : Result B Refusal) → (IsWrong t e → ⊥)
-    → Follows made holds (after t e) es y → Follows made holds t (e ∷ es) y
+    → Follows made holds (after_event t e) es y → Follows made holds t (e ∷ es) y
 follows_right made holds t e es (Ok y) right k = ((right, k.0), k.1, k.2)
 follows_right made holds t e es (Err r) right k = inr (right, k)
 

@@ -13,7 +13,7 @@ use Rattle.streamit_text.specs.Leaves.{IsLeaf}
 use Rattle.streamit_text.specs.Tree.{Expression}
 use Rattle.streamit_text.specs.Words.{is_own}
 use Rattle.params_text.specs.Grammar.{Rate, push, pop, peek, IsRate, Rates, unwritten, fresh, with_rate, rates_in, AreRates, IsWork, IsPrework, InFilter, IsStep, IsPipe, SplitAfter, InBoth, BodyAfter, IsUnit, AreUnits}
-use Rattle.params_text.specs.Program.{ParamWork, ParamFilter, Step, Steps, steps_in_turn, Dealing, Body, Declared, ParamProgram}
+use Rattle.params_text.specs.Program.{ParamWork, ParamFilter, Step, Steps, steps_in_turn, Dealing, Body, UnitForm, ParamProgram}
 use Rattle.params_text.specs.Steps.{or_none, StepHead, StepAfter, style, holes}
 use Rattle.params_text.specs.Steps as step
 use Rattle.params_model.specs.Laws.{HasValues, AreFit}
@@ -162,12 +162,12 @@ body-fit n w ps b ts h =
     chosen (IsFitUnit b) _ _ (bytes_eq w (codes "pipeline")) b ts h (λ e f. subst IsFitUnit (sym f.is) (pipe-has n f.value ts f.formed)) (λ h.
     chosen (IsFitUnit b) _ _ (bytes_eq w (codes "splitjoin")) b ts h (λ e f. enclosed IsFitUnit _ _ _ n b ts f (λ m us g. both-fit m b us g)) (λ h. absurd h)))
 
-unit-fit : (u : Declared) (ts : List Tok) → IsUnit u ts → IsFitUnit u.body
+unit-fit : (u : UnitForm) (ts : List Tok) → IsUnit u ts → IsFitUnit u.body
 unit-fit u ts h =
     let k = h.formed.formed.formed in
     let v = k.formed.value in
     let parts = k.formed.formed.second in
-    subst (λ (d : Declared). IsFitUnit d.body) (sym k.formed.is) (body-fit 128 k.word v.1.0 v.1.1 parts.back parts.second)
+    subst (λ (d : UnitForm). IsFitUnit d.body) (sym k.formed.is) (body-fit 128 k.word v.1.0 v.1.1 parts.back parts.second)
 
 -- in units that tokens stand for, every constant is a value
 pub units-fit : (p : ParamProgram) (us : List (List Tok)) → AreUnits p us → AreFitUnits p

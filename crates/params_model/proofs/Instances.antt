@@ -400,13 +400,13 @@ pub record MadeBy (f : Works) (s : Made) (x : Name × Made) : Type 0 where
   pub grew : Grew s x.1
   pub number : number_in x.0 ≡ suc (length before)
 
-pub all_last : (before : plain.Program) (u : plain.Declared)
+pub all_last : (before : plain.Program) (u : plain.UnitForm)
     → all_work [] (before ++ u ∷ []) ≡ (u.name, body_works (all_work [] before) u.body) ∷ all_work [] before
 all_last before u = all_work-append before (u ∷ []) []
 
 made_does : (f : Works) (s : Made) (x : Name × Made) → MadeBy f s x → Does x.1.units x.0 f
 made_does f s x m =
-    let u : plain.Declared = record { name = x.0; body = m.body } in
+    let u : plain.UnitForm = record { name = x.0; body = m.body } in
     subst (λ l. Does l x.0 f) (sym m.units) (record {
       number = let e = m.number in omega (arith, e, length-append m.before (u ∷ []));
       same =
@@ -432,7 +432,7 @@ module _ (all : Streams) (add : Adding) (right : Right all add) where
       let ok_r = grew_small t q.0.1 c.grew ok_t in
       let k = length q.0.1.units in
       let name = instance_name u.stream.name (suc k) in
-      let new : plain.Declared = record { name = name; body = q.0.0 } in
+      let new : plain.UnitForm = record { name = name; body = q.0.0 } in
       let small_k : suc k < 2 ^ 64 = (let a = ok_r.made in let b = ok_r.few in omega (arith, a, b)) in
       let number : number_in name ≡ suc k = number_is u.stream.name (suc k) small_k in
       let all_units : q.0.1.units ≡ s.units ++ c.grew.more = c.grew.units ∙ ap (λ l. l ++ c.grew.more) (sym g.1) in
@@ -516,7 +516,7 @@ elaboration_means (u ∷ us) m xs ok h =
     let p = ok_parts (make (instance us 2) u 1 [] nothing_made) (λ x. fine x.1) m h in
     let b = make_right all (instance us 2) (instance_right us 2 ok.1) u 1 [] [] nothing_made p.0 tt (top u.stream.body ok.0)
     (record { made = omega arith; few = omega arith }) p.1 in
-    let new : plain.Declared = record { name = p.0.0; body = b.body } in
+    let new : plain.UnitForm = record { name = p.0.0; body = b.body } in
     ap (λ (r : Made). program_outputs r.units xs) (sym (ok_is p.0.1 m p.2))
     ∙ ap (λ l. program_outputs l xs) b.units
     ∙ ap (λ w. or_same (last_of w) xs) (all_last b.before new)

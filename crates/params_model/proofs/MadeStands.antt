@@ -180,7 +180,7 @@ module _ (all : Streams) (add : Adding) (right : Right all add) (fitting : Fitti
       let c = body_fit add u.unit fitting ps zs b t q.0 fits ok wb (record { told = subst IsToldProgram d.1 g.told; few = few_t }) q.1 in
       let k = length q.0.1.units in
       let name = instance_name u.stream.name (suc k) in
-      let new : plain.Declared = record { name = name; body = q.0.0 } in
+      let new : plain.UnitForm = record { name = name; body = q.0.0 } in
       let small_k : suc k < 10000 = (let a = c.fit.few.made in let b = c.fit.few.few in omega (arith, a, b)) in
       let own : IsOwnName name = instance_own u.stream.name (suc k) w.name w.short small_k in
       let e = ok_is (finish u q.0) x q.2 in
@@ -216,7 +216,7 @@ instance_fit (u ∷ us) depth ok w n zs s x fits g h =
 
 -- THE PROGRAM
 
-some_append : (us : plain.Program) (u : plain.Declared) → IsSome (us ++ u ∷ [])
+some_append : (us : plain.Program) (u : plain.UnitForm) → IsSome (us ++ u ∷ [])
 some_append [] u = tt
 some_append (v ∷ us) u = tt
 

@@ -14,11 +14,11 @@ use Rattle.river_plan.specs.Forms.{Name}
 use Rattle.river_plan.proofs.NameLemmas.{cases_name, name_sym}
 use Rattle.brooklet_model.specs.Machine.{at_name}
 use Rattle.streamit_text.specs.Tree.{Statement, Declare, Assign, Push, Discard, If, For, Block, End, Then, Optional, Unwritten, Written}
-use Rattle.streamit_model.specs.Meaning.{or_work, runs_in, start_at, waits_for, looked_at, pops, Values, eval, State, turns_between, each_turn, first_value, first_pops, exec, exec_all, exec_optional, pop_of, peek_of, at_start, fires, fires_from, pushed_by, look}
+use Rattle.streamit_model.specs.Meaning.{or_work, runs_in, start_at, waits_for, looked_at, pops, Store, eval, State, turns_between, each_turn, first_value, first_pops, exec, exec_all, exec_optional, pop_of, peek_of, at_start, fires, fires_from, pushed_by, look}
 use Rattle.streamit_text.specs.Program.{WorkTree, FilterTree}
 use Rattle.params_model.specs.Environment.{Environment, bound, under}
 use Rattle.params_model.specs.Meaning.{started, initial_under, fires_under, fires_from_under, pushed_under}
-use Rattle.params_model.specs.Plain.{literal, literal_or, put_in, put_option, put_once, put_all, put_optional, put_work, put_prework, put_filter}
+use Rattle.params_model.specs.Plain.{literal, literal_or, put_in, put_option, put_statement, put_block, put_optional, put_work, put_prework, put_filter}
 use Rattle.params_model.specs.Laws.{Differs, AllDiffer, SparesOnce, SparesAll, SparesOptional}
 use Rattle.params_model.proofs.Values.{Fits, said_literal_or, not_given}
 
@@ -40,7 +40,7 @@ look_rest e env n h = ⊎_elim
     some_none h = cc h
 
 -- what is set under an environment that exec not give it
-pub under_set : (env : Environment) (vs : Values) (n : Name) (z : ℤ) (m : Name) → look env n ≡ None
+pub under_set : (env : Environment) (vs : Store) (n : Name) (z : ℤ) (m : Name) → look env n ≡ None
     → under env (at_name n z vs) m ≡ at_name n z (under env vs) m
 under_set [] vs n z m h = refl
 under_set (e ∷ env) vs n z m h =
@@ -60,7 +60,7 @@ under_set (e ∷ env) vs n z m h =
 -- EXPRESSIONS
 
 -- the values of the source are those of the plain block under the environment
-abbrev pub Sees : Environment → Values → Values → Type 0
+abbrev pub Sees : Environment → Store → Store → Type 0
 Sees env plain source = (n : Name) → source n ≡ under env plain n
 
 either_pops : (b : Bool) (n : ℕ)
@@ -86,7 +86,7 @@ put_pops env (tree.Not t) = put_pops env t
 put_pops env (tree.Bin o a b) = ap (λ k. k + pops (put_in env b)) (put_pops env a) ∙ ap (λ k. pops a + k) (put_pops env b)
 
 module _ (env : Environment) (fits : Fits env) where
-  pub put_said : (t : Expression) (xs : List ℤ) (plain source : Values) (k : ℕ) → Sees env plain source → eval (put_in env t) xs plain k ≡ eval t xs source k
+  pub put_said : (t : Expression) (xs : List ℤ) (plain source : Store) (k : ℕ) → Sees env plain source → eval (put_in env t) xs plain k ≡ eval t xs source k
   put_said (tree.Number v) xs plain source k h = refl
   put_said (tree.Name n) xs plain source k h = said_literal_or env n xs plain k fits ∙ sym (h n)
   put_said (tree.Peek t) xs plain source k h = ap (λ z. slice_index_or xs (k + count_of z) (pos 0)) (put_said t xs plain source k h)
@@ -108,7 +108,7 @@ module _ (env : Environment) (fits : Fits env) where
   said_alike : (t : Expression) (xs : List ℤ) (p s : State) → Alike p s → eval (put_in env t) xs p.values p.popped ≡ eval t xs s.values s.popped
   said_alike t xs p s h = put_said t xs p.values s.values p.popped h.values ∙ ap (eval t xs s.values) h.popped
 
-  set_sees : (n : Name) (y z : ℤ) (plain source : Values) → look env n ≡ None → y ≡ z → Sees env plain source
+  set_sees : (n : Name) (y z : ℤ) (plain source : Store) → look env n ≡ None → y ≡ z → Sees env plain source
       → Sees env (at_name n y plain) (at_name n z source)
   set_sees n y z plain source free e h =
       λ m. ap (λ w. if name_eq n m then z else w) (h m) ∙ ap (λ w. if name_eq n m then w else under env plain m) (sym e) ∙ sym (under_set env plain n y m free)
@@ -143,7 +143,7 @@ module _ (env : Environment) (fits : Fits env) where
     either_alike false false p q s t e h g = g
 
     mutual
-      once_alike : (c : Statement) (xs : List ℤ) (p s : State) → SparesOnce ps c → Alike p s → Alike (exec (put_once env c) xs p) (exec c xs s)
+      once_alike : (c : Statement) (xs : List ℤ) (p s : State) → SparesOnce ps c → Alike p s → Alike (exec (put_statement env c) xs p) (exec c xs s)
       once_alike (Declare n t) xs p s d h = record {
         values = set_sees n _ _ p.values s.values (free n d) (first_alike t xs p s h) h.values;
         popped = first_popping t p s h;
@@ -166,14 +166,14 @@ module _ (env : Environment) (fits : Fits env) where
           either_alike (is_true (eval (put_in env t) xs p.values p.popped)) (is_true (eval t xs s.values s.popped)) _ _ _ _ (ap is_true (said_alike t xs p s h))
           (all_alike a xs _ _ d.0 on) (optional_alike b xs _ _ d.1 on)
       once_alike (For n low upto high b) xs p s d h =
-          subst (λ vs. Alike (each_turn (exec_all (put_all env b) xs) n vs p)
+          subst (λ vs. Alike (each_turn (exec_all (put_block env b) xs) n vs p)
           (each_turn (exec_all b xs) n (turns_between (eval low xs s.values s.popped) upto (eval high xs s.values s.popped)) s))
           (sym (ap (λ l. turns_between l upto (eval (put_in env high) xs p.values p.popped)) (said_alike low xs p s h)
           ∙ ap (λ k. turns_between (eval low xs s.values s.popped) upto k) (said_alike high xs p s h)))
-          (turns_alike (exec_all (put_all env b) xs) (exec_all b xs) n d.0 (λ q t g. all_alike b xs q t d.1 g)
+          (turns_alike (exec_all (put_block env b) xs) (exec_all b xs) n d.0 (λ q t g. all_alike b xs q t d.1 g)
           (turns_between (eval low xs s.values s.popped) upto (eval high xs s.values s.popped)) p s h)
 
-      pub all_alike : (b : Block) (xs : List ℤ) (p s : State) → SparesAll ps b → Alike p s → Alike (exec_all (put_all env b) xs p) (exec_all b xs s)
+      pub all_alike : (b : Block) (xs : List ℤ) (p s : State) → SparesAll ps b → Alike p s → Alike (exec_all (put_block env b) xs p) (exec_all b xs s)
       all_alike End xs p s d h = h
       all_alike (Then c b) xs p s d h = all_alike b xs _ _ d.1 (once_alike c xs p s d.0 h)
 
@@ -188,7 +188,7 @@ module _ (env : Environment) (fits : Fits env) where
     start_alike fields kept = record { values = λ n. refl; popped = refl; pushed = refl }
 
     -- fields are no parameters
-    fields_same : (fields : List Name) (p s : Values) → AllDiffer ps fields → Sees env p s → map p fields ≡ map s fields
+    fields_same : (fields : List Name) (p s : Store) → AllDiffer ps fields → Sees env p s → map p fields ≡ map s fields
     fields_same [] p s d h = refl
     fields_same (f ∷ fs) p s d h =
         ap (λ z. z ∷ map p fs) (sym (h f ∙ not_given env p f (free f d.0))) ∙ ap (λ l. s f ∷ l) (fields_same fs p s d.1 h)
@@ -216,10 +216,10 @@ module _ (env : Environment) (fits : Fits env) where
           ∙ ap (λ k. take (peek_of (runs_in t j)) (drop k xs)) (starts_put j)
 
       fires_put : (j : ℕ) (kept xs : List ℤ)
-          → fires (put_filter env t) j kept xs ≡ exec_all (put_all env (runs_in t j).block) (looked_at t j xs) (at_start t.fields kept)
+          → fires (put_filter env t) j kept xs ≡ exec_all (put_block env (runs_in t j).block) (looked_at t j xs) (at_start t.fields kept)
       fires_put j kept xs =
           ap (λ w. exec_all w.block (looked_at (put_filter env t) j xs) (at_start t.fields kept)) (runs_put j)
-          ∙ ap (λ l. exec_all (put_all env (runs_in t j).block) l (at_start t.fields kept)) (looked_put j xs)
+          ∙ ap (λ l. exec_all (put_block env (runs_in t j).block) l (at_start t.fields kept)) (looked_put j xs)
 
       firings_same : (n j : ℕ) (kept xs : List ℤ) → fires_from (put_filter env t) n j kept xs ≡ fires_from_under env t n j kept xs
       firings_same zero j kept xs = refl

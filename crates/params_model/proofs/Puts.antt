@@ -13,7 +13,7 @@ use Rattle.streamit_model.specs.Meaning.{look}
 use Rattle.streamit_text.specs.Grammar.{is_still, is_still_first, stays, stay, stay_optional}
 use Rattle.params_text.specs.Program.{ParamWork, ParamFilter}
 use Rattle.params_model.specs.Environment.{Environment, bound, value, option_count, rated_work, rated_prework}
-use Rattle.params_model.specs.Plain.{literal, literal_or, put_in, put_option, put_once, put_all, put_optional, put_work, put_prework, plain_filter}
+use Rattle.params_model.specs.Plain.{literal, literal_or, put_in, put_option, put_statement, put_block, put_optional, put_work, put_prework, plain_filter}
 use Rattle.params_model.specs.Making.{is_ranged, is_ranged_option, is_ranged_work, is_ranged_prework, is_ranged_filter}
 use Rattle.params_model.proofs.Values.{AllFit, bound_fits, look_fits}
 use Rattle.params_text.specs.Told.{IsOwnName, IsToldTree, IsToldExpr, FirstBy, OnceBy, AllBy, OptionalBy, IsToldRate, IsToldWork, IsToldPrework, IsToldFilter}
@@ -109,7 +109,7 @@ module _ (ps : List Name) (zs : List ℤ) (fits : AllFit zs) where
   first_by (Some t) h = put_expr t h
 
   mutual
-    once_by : (nest : ℕ) (c : Statement) → OnceBy (IsWrittenExpr ps) nest c → OnceBy IsToldExpr nest (put_once env c)
+    once_by : (nest : ℕ) (c : Statement) → OnceBy (IsWrittenExpr ps) nest c → OnceBy IsToldExpr nest (put_statement env c)
     once_by nest (Declare n t) h = (h.0, first_by t h.1)
     once_by nest (Assign n t) h = (h.0, put_expr t h.1)
     once_by nest (Push t) h = put_expr t h
@@ -119,7 +119,7 @@ module _ (ps : List Name) (zs : List ℤ) (fits : AllFit zs) where
     once_by zero (For n low upto high b) h = absurd h
     once_by (suc nest) (For n low upto high b) h = (h.0, put_expr low h.1, put_expr high h.2, all_by nest b h.3)
 
-    all_by : (nest : ℕ) (b : Block) → AllBy (IsWrittenExpr ps) nest b → AllBy IsToldExpr nest (put_all env b)
+    all_by : (nest : ℕ) (b : Block) → AllBy (IsWrittenExpr ps) nest b → AllBy IsToldExpr nest (put_block env b)
     all_by nest End h = tt
     all_by nest (Then c b) h = (once_by nest c h.0, all_by nest b h.1)
 
@@ -153,23 +153,23 @@ module _ (ps : List Name) (zs : List ℤ) (fits : AllFit zs) where
   first_still (Some t) = put_still t
 
   mutual
-    once_stays : (c : Statement) → stays (put_once env c) ≡ stays c
+    once_stays : (c : Statement) → stays (put_statement env c) ≡ stays c
     once_stays (Declare n t) = first_still t
     once_stays (Assign n t) = put_still t
     once_stays (Push t) = refl
     once_stays Discard = refl
     once_stays (If t a b) =
-        ap (λ x. x && (stay (put_all env a) && stay_optional (put_optional env b))) (put_still t)
+        ap (λ x. x && (stay (put_block env a) && stay_optional (put_optional env b))) (put_still t)
         ∙ ap (λ x. is_still t && (x && stay_optional (put_optional env b))) (all_stay a)
         ∙ ap (λ x. is_still t && (stay a && x)) (optional_stay b)
     once_stays (For n low upto high b) =
-        ap (λ x. x && (is_still (put_in env high) && stay (put_all env b))) (put_still low)
-        ∙ ap (λ x. is_still low && (x && stay (put_all env b))) (put_still high)
+        ap (λ x. x && (is_still (put_in env high) && stay (put_block env b))) (put_still low)
+        ∙ ap (λ x. is_still low && (x && stay (put_block env b))) (put_still high)
         ∙ ap (λ x. is_still low && (is_still high && x)) (all_stay b)
 
-    all_stay : (b : Block) → stay (put_all env b) ≡ stay b
+    all_stay : (b : Block) → stay (put_block env b) ≡ stay b
     all_stay End = refl
-    all_stay (Then c b) = ap (λ x. x && stay (put_all env b)) (once_stays c) ∙ ap (λ x. stays c && x) (all_stay b)
+    all_stay (Then c b) = ap (λ x. x && stay (put_block env b)) (once_stays c) ∙ ap (λ x. stays c && x) (all_stay b)
 
     optional_stay : (b : Optional) → stay_optional (put_optional env b) ≡ stay_optional b
     optional_stay Unwritten = refl

@@ -29,7 +29,7 @@ use Rattle.params_text.specs.Grammar.{IsBlock, IsInit, IsWork, IsPrework, InFilt
 use Rattle.params_text.specs.Parameters.{IsLeafWith, leaf_with}
 use Rattle.params_text.specs.Parameters as rule
 use Rattle.params_text.specs.Params.{low, lows, low_optional, is_low, is_low_first, param_depth}
-use Rattle.params_text.specs.Program.{ParamWork, ParamFilter, Step, Steps, steps_in_turn, Body, Declared, ParamProgram}
+use Rattle.params_text.specs.Program.{ParamWork, ParamFilter, Step, Steps, steps_in_turn, Body, UnitForm, ParamProgram}
 use Rattle.params_text.specs.Steps.{Constant, or_none, Constants, StepHead, StepAfter, style, holes}
 use Rattle.params_text.specs.Steps as step
 use Rattle.params_text.specs.Told.{IsOwnName, AreOwnNames, IsToldTree, FirstBy, OnceBy, AllBy, OptionalBy}
@@ -306,10 +306,10 @@ body-written n w ps b ts h =
     chosen (BodyWritten ps b) _ _ (bytes_eq w (codes "splitjoin")) b ts h
     (λ e f. enclosed (BodyWritten ps) _ _ _ n b ts f (λ m us g. both-written ps m b us g)) (λ h. absurd h)))
 
-abbrev UnitWritten : Declared → Type 0
+abbrev UnitWritten : UnitForm → Type 0
 UnitWritten u = IsWrittenUnit u × IsFitBody u.body
 
-unit-written : (u : Declared) (ts : List Tok) → IsUnit u ts → UnitWritten u
+unit-written : (u : UnitForm) (ts : List Tok) → IsUnit u ts → UnitWritten u
 unit-written u ts h =
     let k = h.formed.formed.formed in
     let v = k.formed.value in

@@ -9,8 +9,8 @@ use Rattle.streamit_model.specs.Meaning.{look}
 use Rattle.streamit_text.specs.Tree.{Expression, Statement, Declare, Assign, Push, Discard, If, For, Block, Optional, Unwritten, Written}
 use Rattle.streamit_text.specs.Tree as tree
 use Rattle.params_text.specs.Params.{is_one_of}
-use Rattle.params_text.specs.Program.{ParamWork, ParamFilter, Step, Add, Loop, Steps, End, Then, Dealing, Copies, Turns, Body, AFilter, APipeline, ASplitJoin, Declared, ParamProgram}
-use Rattle.params_model.specs.Faulty.{IsAmong, IsAbove, IsWrong, spot_fault, IsRight, RefusalsAre, AcceptedAre}
+use Rattle.params_text.specs.Program.{ParamWork, ParamFilter, Step, Add, Loop, Steps, End, Then, Dealing, Copies, Turns, Body, AFilter, APipeline, ASplitJoin, UnitForm, ParamProgram}
+use Rattle.params_model.specs.Faults.{IsAmong, IsAbove, IsWrong, spot_fault, IsFaultless, RefusalsAre, AcceptedAre}
 use Rattle.params_model.specs.Judged.{Judgement, judged_then, no_fault, are_known, all_known, known_option, all_known_option, new_names, other_names, statement_judged}
 use Rattle.params_model.specs.Judged.{block_judged, optional_judged, rates_judged, work_judged, prework_judged, filter_judged, Above, has_arity, is_there}
 use Rattle.params_model.specs.Judged.{step_judged, steps_judged, dealing_judged, body_judged, unit_judged, units_judged}
@@ -226,7 +226,7 @@ body-is k above ps (ASplitJoin d ss ws) =
     parts k (dealing_spots ps d) _ _ _ (dealing-is k ps d)
     (parts k (steps_spots above ps ss) (option_all_uses ps ws) _ _ (steps-are k above ps ss) (option-all-are k ps ws))
 
-unit-is : (k : ℕ) (above : Above) (u : Declared) → tested k (unit_spots above u) ≡ unit_judged k above u
+unit-is : (k : ℕ) (above : Above) (u : UnitForm) → tested k (unit_spots above u) ≡ unit_judged k above u
 unit-is k above u =
     first-of k (Names u.name above) (parameter_spots [] u.params ++ body_spots above u.params u.body) _
     (parts k (parameter_spots [] u.params) (body_spots above u.params u.body) _ _ (takes-are k [] u.params) (body-is k above u.params u.body))
@@ -255,7 +255,7 @@ record Parted (ps : List Place) (r : Refusal) : Type 0 where
   place : Place
   behind : List Place
   is : ps ≡ before ++ place ∷ behind
-  all : AllByRecursion IsRight before
+  all : AllByRecursion IsFaultless before
   bad : IsWrong place.spot
   fault : r.fault ≡ spot_fault place.spot
   there : r.unit ≡ place.unit
@@ -299,25 +299,25 @@ fails s h = by (test s) refl where
   by true e = absurd (right s e h)
   by false e = refl
 
-refuses : (before : List Place) (p : Place) (behind : List Place) → AllByRecursion IsRight before → IsWrong p.spot
+refuses : (before : List Place) (p : Place) (behind : List Place) → AllByRecursion IsFaultless before → IsWrong p.spot
     → all_tested (before ++ p ∷ behind) ≡ Err (record { unit = p.unit; fault = spot_fault p.spot })
 refuses [] p behind a w = ap (λ b. judged_then (demand b p.unit (spot_fault p.spot)) (all_tested behind)) (fails p.spot w)
 refuses (q ∷ qs) p behind a w =
     ap (λ b. judged_then (demand b q.unit (spot_fault q.spot)) (all_tested (qs ++ p ∷ behind))) (passes q.spot a.0) ∙ refuses qs p behind a.1 w
 
-all-right : (ps : List Place) → all_tested ps ≡ Ok tt → AllByRecursion IsRight ps
+all-right : (ps : List Place) → all_tested ps ≡ Ok tt → AllByRecursion IsFaultless ps
 all-right [] h = tt
 all-right (p ∷ ps) h = by (all-right ps) (test p.spot) refl where
   here : Bool → Judgement
   here b = judged_then (demand b p.unit (spot_fault p.spot)) (all_tested ps)
 
-  by : (all_tested ps ≡ Ok tt → AllByRecursion IsRight ps) → (b : Bool) → test p.spot ≡ b → AllByRecursion IsRight (p ∷ ps)
+  by : (all_tested ps ≡ Ok tt → AllByRecursion IsFaultless ps) → (b : Bool) → test p.spot ≡ b → AllByRecursion IsFaultless (p ∷ ps)
   by more true e = (right p.spot e, more (sym (ap here e) ∙ h))
   by more false e = absurd (no (sym (ap here e) ∙ h)) where
     no : ◌≡◌ {A = Judgement} (Err (record { unit = p.unit; fault = spot_fault p.spot })) (Ok tt) → ⊥
     no g = cc g
 
-right-all : (ps : List Place) → AllByRecursion IsRight ps → all_tested ps ≡ Ok tt
+right-all : (ps : List Place) → AllByRecursion IsFaultless ps → all_tested ps ≡ Ok tt
 right-all [] h = refl
 right-all (p ∷ ps) h = ap (λ b. judged_then (demand b p.unit (spot_fault p.spot)) (all_tested ps)) (passes p.spot h.0) ∙ right-all ps h.1
 

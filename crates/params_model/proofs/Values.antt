@@ -16,7 +16,7 @@ use Rattle.streamit_text.specs.Tree.{Expression}
 use Rattle.streamit_text.specs.Tree as tree
 use Rattle.river_plan.specs.Forms.{Name}
 use Rattle.river_plan.proofs.NameLemmas.{cases_name}
-use Rattle.streamit_model.specs.Meaning.{Values, eval, nought, look}
+use Rattle.streamit_model.specs.Meaning.{Store, eval, nought, look}
 use Rattle.params_model.specs.Environment.{Environment, bound, under, value}
 use Rattle.params_model.specs.Laws.{HasValues, AreFit}
 use Rattle.params_model.specs.Plain.{literal, literal_or}
@@ -93,7 +93,7 @@ values_fit env (c ∷ cs) h f = (said_fits env c 0 h f.0, values_fit env cs h f.
 
 -- WHAT AN ENVIRONMENT GIVES
 
-pub given : (env : Environment) (vs : Values) (n : Name) (z : ℤ) → look env n ≡ Some z → under env vs n ≡ z
+pub given : (env : Environment) (vs : Store) (n : Name) (z : ℤ) → look env n ≡ Some z → under env vs n ≡ z
 given [] vs n z h = absurd (cc h)
 given (e ∷ env) vs n z h = ⊎_elim
     (λ s. at_here e.0 n e.1 (under env vs) s.1 ∙ same_Some e.1 z (sym (ap (λ b. if b then Some e.1 else look env n) s.1) ∙ h))
@@ -101,7 +101,7 @@ given (e ∷ env) vs n z h = ⊎_elim
     (cases_name e.0 n)
 
 -- a name that the environment does not have is as it was
-pub not_given : (env : Environment) (vs : Values) (n : Name) → look env n ≡ None → under env vs n ≡ vs n
+pub not_given : (env : Environment) (vs : Store) (n : Name) → look env n ≡ None → under env vs n ≡ vs n
 not_given [] vs n h = refl
 not_given (e ∷ env) vs n h = ⊎_elim
     (λ s. absurd (some_none (sym (ap (λ b. if b then Some e.1 else look env n) s.1) ∙ h)))
@@ -123,7 +123,7 @@ least =
     let all : wrap (negsuc 9223372036854775807) ≡ negsuc 9223372036854775807 = int_wrap_fits w64 (negsuc 9223372036854775807) (grind arith) in
     ap (λ a. wrap (a -ℤ pos 1)) one ∙ all
 
-said_literal : (z : ℤ) (xs : List ℤ) (vs : Values) (k : ℕ) → IsValue z → eval (literal z) xs vs k ≡ z
+said_literal : (z : ℤ) (xs : List ℤ) (vs : Store) (k : ℕ) → IsValue z → eval (literal z) xs vs k ≡ z
 said_literal (pos n) xs vs k h = refl
 said_literal (negsuc n) xs vs k h = negative (nat_eq n 9223372036854775807) refl
   where
@@ -139,7 +139,7 @@ said_literal (negsuc n) xs vs k h = negative (nat_eq n 9223372036854775807) refl
         ∙ int_wrap_fits w64 (negsuc n) h
 
 -- the literal of a name's value, or the name, says what the name does under the environment
-pub said_literal_or : (env : Environment) (n : Name) (xs : List ℤ) (vs : Values) (k : ℕ) → Fits env
+pub said_literal_or : (env : Environment) (n : Name) (xs : List ℤ) (vs : Store) (k : ℕ) → Fits env
     → eval (literal_or n (look env n)) xs vs k ≡ under env vs n
 said_literal_or env n xs vs k h = go (look env n) refl
   where

@@ -4,7 +4,7 @@ use Rattle.river_base.specs.Number.{count_of}
 use Rattle.streamit_text.specs.Tree.{Expression}
 use Rattle.river_plan.specs.Forms.{Name}
 use Rattle.brooklet_model.specs.Machine.{at_name}
-use Rattle.streamit_model.specs.Meaning.{Values, eval, nought}
+use Rattle.streamit_model.specs.Meaning.{Store, eval, nought}
 use Rattle.streamit_text.specs.Program.{WorkTree, FilterTree}
 use Rattle.params_text.specs.Program.{ParamWork, ParamFilter, Dealing, Copies, Turns}
 use Rattle.streamit_text.specs.Program as plain
@@ -20,7 +20,7 @@ bound (p ∷ ps) [] = []
 bound (p ∷ ps) (z ∷ zs) = (p, z) ∷ bound ps zs
 
 -- the values of all names, of which the environment's have those that it gives
-abbrev pub under : Environment → Values → Values
+abbrev pub under : Environment → Store → Store
 under [] values = values
 under (e ∷ env) values = at_name e.0 e.1 (under env values)
 

@@ -120,13 +120,13 @@ pub record Before : Type 0 where
 abbrev pub nothing : Before
 nothing = record { begun = 0; bytes = 0; turns = 0 }
 
-abbrev pub after : Before → Event → Before
-after t (Tops unit ps) = t
-after t (Begins unit bytes depth) = record t { begun = suc t.begun; bytes = t.bytes + bytes }
-after t (Goes unit) = record t { turns = suc t.turns }
-after t (Counts unit zs) = t
-after t (Closes unit n) = t
-after t Lacks = t
+abbrev pub after_event : Before → Event → Before
+after_event t (Tops unit ps) = t
+after_event t (Begins unit bytes depth) = record t { begun = suc t.begun; bytes = t.bytes + bytes }
+after_event t (Goes unit) = record t { turns = suc t.turns }
+after_event t (Counts unit zs) = t
+after_event t (Closes unit n) = t
+after_event t Lacks = t
 
 -- a number is below 0 or above 65,536
 abbrev pub IsOut : ℤ → Type 0
@@ -160,12 +160,12 @@ refusal_at Lacks = record { unit = 0; fault = UnknownName }
 -- nothing of it is wrong
 abbrev pub AllRight : Before → List Event → Type 0
 AllRight t [] = Unit {0}
-AllRight t (e ∷ es) = (IsWrong t e → ⊥) × AllRight (after t e) es
+AllRight t (e ∷ es) = (IsWrong t e → ⊥) × AllRight (after_event t e) es
 
 -- the first that is wrong is refused so
 abbrev pub IsFirstWrong : Before → List Event → Refusal → Type 0
 IsFirstWrong t [] r = ⊥
-IsFirstWrong t (e ∷ es) r = (IsWrong t e × (r ≡ refusal_at e)) ⊎ ((IsWrong t e → ⊥) × IsFirstWrong (after t e) es r)
+IsFirstWrong t (e ∷ es) r = (IsWrong t e × (r ≡ refusal_at e)) ⊎ ((IsWrong t e → ⊥) × IsFirstWrong (after_event t e) es r)
 
 -- THE LAWS: a program whose text has no fault is refused exactly where something is wrong, with the first that is, and made exactly
 -- where nothing is

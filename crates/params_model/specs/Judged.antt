@@ -7,7 +7,7 @@ use Rattle.streamit_text.specs.Tree.{Statement, Declare, Assign, Push, Discard, 
 use Rattle.streamit_model.specs.Meaning.{look}
 use Rattle.params_text.specs.Params.{is_one_of}
 use Rattle.params_text.specs.Program.{ParamWork, ParamFilter, Step, Add, Loop, Steps, End, Then}
-use Rattle.params_text.specs.Program.{Dealing, Copies, Turns, Body, AFilter, APipeline, ASplitJoin, Declared, ParamProgram}
+use Rattle.params_text.specs.Program.{Dealing, Copies, Turns, Body, AFilter, APipeline, ASplitJoin, UnitForm, ParamProgram}
 use Rattle.params_model.specs.Making.{UnknownName, NameTwice, Arity, NotConstant, Top, Refusal, on_fine, demand, SourceUnit, Made, last_made}
 
 -- the unit has no fault here, or this is its first one
@@ -123,7 +123,7 @@ body_judged unit above ps (ASplitJoin d ss ws) =
 
 -- UNITS: the stream's name, its parameters, and then the rest
 
-abbrev pub unit_judged : ℕ → Above → Declared → Judgement
+abbrev pub unit_judged : ℕ → Above → UnitForm → Judgement
 unit_judged unit above u =
     judged_then (demand (not (is_there (look above u.name))) unit NameTwice) (judged_then (new_names unit [] u.params) (body_judged unit above u.params u.body))
 

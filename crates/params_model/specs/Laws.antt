@@ -6,7 +6,7 @@ use Rattle.streamit_text.specs.Tree as tree
 use Rattle.river_plan.specs.Forms.{Name}
 use Rattle.streamit_text.specs.Tree.{Statement, Declare, Assign, Push, Discard, If, For, Block, Optional, Unwritten, Written}
 use Rattle.streamit_model.specs.Meaning.{program_outputs}
-use Rattle.params_text.specs.Program.{Step, Add, Loop, Steps, End, Then, ParamWork, ParamFilter, Body, AFilter, APipeline, ASplitJoin, Declared, ParamProgram}
+use Rattle.params_text.specs.Program.{Step, Add, Loop, Steps, End, Then, ParamWork, ParamFilter, Body, AFilter, APipeline, ASplitJoin, UnitForm, ParamProgram}
 use Rattle.params_model.specs.Meaning.{last_works, params_outputs}
 use Rattle.params_model.specs.Making.{SourceUnit, Made, last_made}
 use Rattle.params_model.specs.Judged.{elaborated_program}
@@ -86,7 +86,7 @@ abbrev pub AreFine : List SourceUnit → Type 0
 AreFine [] = Unit {0}
 AreFine (u ∷ us) = IsFine u.stream.params u.stream.body × AreFine us
 
-abbrev pub unit_streams : List SourceUnit → List Declared
+abbrev pub unit_streams : List SourceUnit → List UnitForm
 unit_streams us = map (λ u. u.stream) us
 
 -- the plain program that is made means what the program with parameters means

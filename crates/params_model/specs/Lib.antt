@@ -1,7 +1,7 @@
 pub mod Constants
 pub mod Environment
 pub mod Events
-pub mod Faulty
+pub mod Faults
 pub mod Judged
 pub mod Laws
 pub mod Making

@@ -6,7 +6,7 @@ use Rattle.streamit_text.specs.Tree.{Expression}
 use Rattle.river_plan.specs.Forms.{Name}
 use Rattle.streamit_model.specs.Meaning.{turns_between}
 use Rattle.streamit_text.specs.Program as plain
-use Rattle.params_text.specs.Program.{ParamWork, ParamFilter, Step, Add, Loop, Steps, End, Then, Dealing, Copies, Turns, Body, AFilter, APipeline, ASplitJoin, Declared}
+use Rattle.params_text.specs.Program.{ParamWork, ParamFilter, Step, Add, Loop, Steps, End, Then, Dealing, Copies, Turns, Body, AFilter, APipeline, ASplitJoin, UnitForm}
 use Rattle.params_model.specs.Environment.{Environment, bound, value, option_counts, dealing}
 use Rattle.params_model.specs.Plain.{plain_filter, instance_name}
 
@@ -37,7 +37,7 @@ demand b unit e = if b then Ok tt else Err (record { unit = unit; fault = e })
 pub record SourceUnit : Type 0 where
   pub unit : ℕ
   pub bytes : ℕ
-  pub stream : Declared
+  pub stream : UnitForm
 
 -- what was made: the plain units, and the source unit of each; how many instances were begun, the bytes of their units, and how many
 -- turns of loops were begun

@@ -5,7 +5,7 @@ use Rattle.river_plan.specs.Forms.{Name}
 use Rattle.brooklet_model.specs.ByIndex.{collected}
 use Rattle.streamit_model.specs.Meaning.{State, exec_all, exec_optional, turns_between, runs_in, start_at, waits_for, looked_at, nought, with_fields, Works, weights_for, share_of}
 use Rattle.streamit_text.specs.Program.{FilterTree}
-use Rattle.params_text.specs.Program.{Step, Add, Loop, Steps, End, Then, Body, AFilter, APipeline, ASplitJoin, Declared, ParamProgram}
+use Rattle.params_text.specs.Program.{Step, Add, Loop, Steps, End, Then, Body, AFilter, APipeline, ASplitJoin, UnitForm, ParamProgram}
 use Rattle.params_model.specs.Environment.{Environment, bound, under, value, option_counts, rated, dealing}
 
 -- A FILTER: its firings as without parameters, where each parameter has its value all along
@@ -76,12 +76,12 @@ works_under all env (ASplitJoin d ss ws) xs =
     collected (weights_for (option_counts env ws) n) (side_by_side all cs (λ p. share_of (dealing env d) n p xs))
 
 -- what the stream of this name does under the values of its arguments; the streams are given with the newest first
-abbrev pub stream_works : List Declared → Streams
+abbrev pub stream_works : List UnitForm → Streams
 stream_works [] n zs xs = xs
 stream_works (u ∷ us) n zs xs = if name_eq u.name n then works_under (stream_works us) (bound u.params zs) u.body xs else stream_works us n zs xs
 
 -- the last stream, under the empty environment
-abbrev pub last_works : List Declared → Works
+abbrev pub last_works : List UnitForm → Works
 last_works [] xs = xs
 last_works (u ∷ us) xs = works_under (stream_works us) [] u.body xs
 

@@ -5,7 +5,7 @@ use Rattle.river_plan.specs.Forms.{Name}
 use Rattle.streamit_text.specs.Tree.{Expression, Statement, Declare, Assign, Push, Discard, If, For, Block, Optional, Unwritten, Written}
 use Rattle.streamit_text.specs.Tree as tree
 use Rattle.params_text.specs.Program.{ParamWork, ParamFilter, Step, Add, Loop, Steps, End, Then}
-use Rattle.params_text.specs.Program.{Dealing, Copies, Turns, Body, AFilter, APipeline, ASplitJoin, Declared, ParamProgram}
+use Rattle.params_text.specs.Program.{Dealing, Copies, Turns, Body, AFilter, APipeline, ASplitJoin, UnitForm, ParamProgram}
 use Rattle.params_model.specs.Judged.{Above}
 
 -- what stands at a place
@@ -117,7 +117,7 @@ abbrev pub parameter_spots : List Name → List Name → List Spot
 parameter_spots ks [] = []
 parameter_spots ks (n ∷ ns) = Takes n ks ∷ parameter_spots (ks ++ n ∷ []) ns
 
-abbrev pub unit_spots : Above → Declared → List Spot
+abbrev pub unit_spots : Above → UnitForm → List Spot
 unit_spots above u = Names u.name above ∷ (parameter_spots [] u.params ++ body_spots above u.params u.body)
 
 abbrev pub spots_in_unit : ℕ → List Spot → List Place

@@ -37,24 +37,24 @@ put_option env None = None
 put_option env (Some t) = Some (put_in env t)
 
 abbrev mutual
-  pub put_once : Environment → Statement → Statement
-  put_once env (Declare n t) = Declare n (put_option env t)
-  put_once env (Assign n t) = Assign n (put_in env t)
-  put_once env (Push t) = Push (put_in env t)
-  put_once env Discard = Discard
-  put_once env (If t a b) = If (put_in env t) (put_all env a) (put_optional env b)
-  put_once env (For n low upto high b) = For n (put_in env low) upto (put_in env high) (put_all env b)
+  pub put_statement : Environment → Statement → Statement
+  put_statement env (Declare n t) = Declare n (put_option env t)
+  put_statement env (Assign n t) = Assign n (put_in env t)
+  put_statement env (Push t) = Push (put_in env t)
+  put_statement env Discard = Discard
+  put_statement env (If t a b) = If (put_in env t) (put_block env a) (put_optional env b)
+  put_statement env (For n low upto high b) = For n (put_in env low) upto (put_in env high) (put_block env b)
 
-  pub put_all : Environment → Block → Block
-  put_all env End = End
-  put_all env (Then c b) = Then (put_once env c) (put_all env b)
+  pub put_block : Environment → Block → Block
+  put_block env End = End
+  put_block env (Then c b) = Then (put_statement env c) (put_block env b)
 
   pub put_optional : Environment → Optional → Optional
   put_optional env Unwritten = Unwritten
-  put_optional env (Written b) = Written (put_all env b)
+  put_optional env (Written b) = Written (put_block env b)
 
 abbrev pub put_work : Environment → WorkTree → WorkTree
-put_work env w = record w { block = put_all env w.block }
+put_work env w = record w { block = put_block env w.block }
 
 abbrev pub put_prework : Environment → Option WorkTree → Option WorkTree
 put_prework env None = None

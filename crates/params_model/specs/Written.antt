@@ -4,7 +4,7 @@ use Rattle.std.specs.Prelude.{◌≡◌, ◌≤◌, true, List, [], ◌∷◌, l
 use Rattle.streamit_text.specs.Tree.{Expression}
 use Rattle.river_plan.specs.Forms.{Name}
 use Rattle.streamit_text.specs.Grammar.{stay_optional}
-use Rattle.params_text.specs.Program.{ParamWork, ParamFilter, Body, AFilter, APipeline, ASplitJoin, Declared, ParamProgram}
+use Rattle.params_text.specs.Program.{ParamWork, ParamFilter, Body, AFilter, APipeline, ASplitJoin, UnitForm, ParamProgram}
 use Rattle.params_model.specs.Making.{SourceUnit}
 use Rattle.params_text.specs.Params.{param_depth}
 use Rattle.params_text.specs.Told.{IsOwnName, AreOwnNames, IsToldTree, AllBy, OptionalBy}
@@ -29,7 +29,7 @@ IsWrittenBody ps (APipeline ss) = Unit {0}
 IsWrittenBody ps (ASplitJoin d ss ws) = Unit {0}
 
 -- a stream's name has at most 32 bytes, so that of an instance has at most 40
-pub record IsWrittenUnit (u : Declared) : Type 0 where
+pub record IsWrittenUnit (u : UnitForm) : Type 0 where
   pub name : IsOwnName u.name
   pub short : length u.name ≤ 32
   pub body : IsWrittenBody u.params u.body

@@ -1,7 +1,7 @@
 //! Laws over the definitions alone.
 ghost use Rattle.params_model.specs.Constants.{ConstantsAreFit};
 ghost use Rattle.params_model.specs.Events.{MakingRefusalsAre, MakingIsDone};
-ghost use Rattle.params_model.specs.Faulty.{RefusalsAre, AcceptedAre};
+ghost use Rattle.params_model.specs.Faults.{RefusalsAre, AcceptedAre};
 ghost use Rattle.params_model.specs.Laws.{ElaborationMeans, ElaboratedMeans, MadeStands, ElaboratedStands, TextsAreWritten};
 
 /// The plain program that is made of a program with parameters means what that means.

@@ -10,18 +10,18 @@ use Rattle.work_text.specs.Spaced.{spaced}
 use Rattle.params_text.specs.Toks.{statement_toks, statements_toks, block_toks}
 use Rattle.work_text.proofs.Spacing.{spaced-append}
 use Rattle.params_model.specs.Environment.{Environment}
-use Rattle.params_model.specs.Plain.{put_once, put_all}
+use Rattle.params_model.specs.Plain.{put_statement, put_block}
 
 -- the text of statements under values
 abbrev pub listed : Environment → List Statement → List ℕ
-listed env ss = spaced (statements_toks (put_all env (in_turn ss)))
+listed env ss = spaced (statements_toks (put_block env (in_turn ss)))
 
 -- that of a statement, and of those behind it
 pub listed-next : (env : Environment) (items : List written.Statement) (i : ℕ) (c : written.Statement) → i < length items → c ≡ get_or items i c
-    → listed env (map statement (drop i items)) ≡ spaced (statement_toks (put_once env (statement c))) ++ listed env (map statement (drop (i + 1) items))
+    → listed env (map statement (drop i items)) ≡ spaced (statement_toks (put_statement env (statement c))) ++ listed env (map statement (drop (i + 1) items))
 listed-next env items i c lt is =
     ap (listed env) (map_next statement items i c lt is)
-    ∙ spaced-append (statement_toks (put_once env (statement c))) (statements_toks (put_all env (in_turn (map statement (drop (i + 1) items)))))
+    ∙ spaced-append (statement_toks (put_statement env (statement c))) (statements_toks (put_block env (in_turn (map statement (drop (i + 1) items)))))
 
 -- behind the last statement nothing is left to print
 pub listed-end : (env : Environment) (items : List written.Statement) (i : ℕ) → length items ≤ i → listed env (map statement (drop i items)) ≡ []
@@ -34,14 +34,14 @@ part-more now new first rest more all start is split = ap (λ l. l ++ more) is �
 -- a block, whose braces stand around its statements
 pub block-closed : (env : Environment) (items : List Statement) (old opened now new rest : List ℕ) → opened ≡ old ++ spaced (symbol s.OpenBrace ∷ [])
     → now ++ rest ≡ opened ++ listed env items → rest ≡ [] → new ≡ now ++ spaced (symbol s.CloseBrace ∷ [])
-    → new ≡ old ++ spaced (block_toks (put_all env (in_turn items)))
+    → new ≡ old ++ spaced (block_toks (put_block env (in_turn items)))
 block-closed env items old opened now new rest first all none last =
     let begun = spaced (symbol s.OpenBrace ∷ []) in
     let ended = spaced (symbol s.CloseBrace ∷ []) in
     let within = listed env items in
     last ∙ ap (λ l. l ++ ended) (sym (append-nil now) ∙ ap (λ l. now ++ l) (sym none) ∙ all ∙ ap (λ l. l ++ within) first)
     ∙ append_assoc (old ++ begun) within ended ∙ append_assoc old begun (within ++ ended)
-    ∙ ap (λ l. old ++ (begun ++ l)) (sym (spaced-append (statements_toks (put_all env (in_turn items))) (symbol s.CloseBrace ∷ [])))
+    ∙ ap (λ l. old ++ (begun ++ l)) (sym (spaced-append (statements_toks (put_block env (in_turn items))) (symbol s.CloseBrace ∷ [])))
 
 -- three texts that are appended one after another
 pub three-parts : (a b c : List Tok) (old x y z : List ℕ) → x ≡ old ++ spaced a → y ≡ x ++ spaced b → z ≡ y ++ spaced c → z ≡ old ++ spaced (a ++ (b ++ c))

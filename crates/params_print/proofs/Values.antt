@@ -13,7 +13,7 @@ use Rattle.streamit_text.specs.declared.tree.Expr.{Expr, fold-roll-Expr}
 use Rattle.streamit_text.specs.declared.tree.Expr as written
 use Rattle.streamit_text.specs.declared.tree.Expr.TheVariants.{rolls-Bin}
 use Rattle.streamit_text.specs.declared.tree.Expr.TheOpen as layer
-use Rattle.streamit_model.specs.Meaning.{Values, eval, pops, nought, look}
+use Rattle.streamit_model.specs.Meaning.{Store, eval, pops, nought, look}
 use Rattle.params_model.specs.Environment.{Environment, under, value}
 
 -- the value of a name that is known, or of one that is not
@@ -29,7 +29,7 @@ under-look (e ∷ env) n = either (name_eq e.0 n) e.1 (under env nought n) (look
   either false z w o h = h
 
 -- where there are no items, it does not matter how many were popped
-pub eval-none : (c : Expression) (f : Values) (k : ℕ) → eval c [] f k ≡ eval c [] f 0
+pub eval-none : (c : Expression) (f : Store) (k : ℕ) → eval c [] f k ≡ eval c [] f 0
 eval-none (tree.Number v) f k = refl
 eval-none (tree.Name n) f k = refl
 eval-none (tree.Peek t) f k = refl

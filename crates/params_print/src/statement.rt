@@ -3,7 +3,7 @@ ghost use Rattle.std.specs.Prelude.{◌≡◌, ◌++◌, OnOk};
 ghost use Rattle.streamit_text.specs.Tree.{Declare, Assign, Push, Discard, expression, option_expression, is_turn, statement, block, optional_block};
 ghost use Rattle.work_text.specs.Spaced.{spaced};
 ghost use Rattle.params_text.specs.Toks.{below, statement_toks, block_toks, else_toks};
-ghost use Rattle.params_model.specs.Plain.{put_in, put_option, put_once, put_all, put_optional};
+ghost use Rattle.params_model.specs.Plain.{put_in, put_option, put_statement, put_block, put_optional};
 ghost use Rattle.params_print.specs.Heads.{if_toks, for_toks};
 
 use crate::Bindings;
@@ -164,7 +164,7 @@ fn statement(
     one: &Statement,
     to: &mut Bytes,
 ) -> Result<(), NoMemory>
-    ensures { OnOk result (to.new ≡ to.old ++ spaced (statement_toks (put_once known.now (statement one.now)))) }
+    ensures { OnOk result (to.new ≡ to.old ++ spaced (statement_toks (put_statement known.now (statement one.now)))) }
 {
     match one {
         Statement::Declare { name, value } => declare(alloc, known, name, value, to),
@@ -213,7 +213,7 @@ fn otherwise(
 #[cycle(statement)]
 #[tactic(auto, using(crate::proofs::Texts::blocks))]
 pub fn block(alloc: Global, known: &Bindings, all: &Block, to: &mut Bytes) -> Result<(), NoMemory>
-    ensures { OnOk result (to.new ≡ to.old ++ spaced (block_toks (put_all known.now (block all.now)))) }
+    ensures { OnOk result (to.new ≡ to.old ++ spaced (block_toks (put_block known.now (block all.now)))) }
 {
     tokens(alloc, &[Token::Sign(Symbol::OpenBrace)], to)?;
     'items: for each in all.items.as_slice() {

@@ -7,7 +7,7 @@ use Rattle.work_text.specs.Tok.{Tok, name, symbol}
 use Rattle.work_text.specs.declared.sign.Symbol.TheVariants as s
 use Rattle.work_text.proofs.Spelled.{is_name_text, spells-whole}
 use Rattle.work_text.proofs.Insides.{Inside, all_first}
-use Rattle.streamit_text.specs.Program.{Body, AFilter, APipeline, ASplitJoin, Declared, Program}
+use Rattle.streamit_text.specs.Program.{Body, AFilter, APipeline, ASplitJoin, UnitForm, Program}
 use Rattle.streamit_text.specs.Grammar.{IsText, IsSome, AreUnits}
 use Rattle.streamit_text.proofs.Texts.{one_program}
 use Rattle.params_text.specs.Toks.{kind_word, inner_toks, unit_toks, units_toks, plain_text}
@@ -45,7 +45,7 @@ head-cut : (kind n : List ℕ) (ts : List Tok) → cut 0 (name (codes "int") ∷
 unfolding cut ends_unit braces_after
 head-cut kind n ts = refl
 
-unit-whole : (u : Declared) (rest : List Tok) → IsToldUnit u → is_else rest ≡ false → cut 0 (unit_toks u ++ rest) ≡ unit_toks u ∷ cut 0 rest
+unit-whole : (u : UnitForm) (rest : List Tok) → IsToldUnit u → is_else rest ≡ false → cut 0 (unit_toks u ++ rest) ≡ unit_toks u ∷ cut 0 rest
 unit-whole u rest h none =
     head-cut (kind_word u.body) u.name (symbol s.OpenBrace ∷ ((inner_toks u.body ++ symbol s.CloseBrace ∷ []) ++ rest))
     ∙ ap (λ l. to_first (name (codes "int"))

@@ -9,7 +9,7 @@ use Rattle.work_text.proofs.Spelled.{is_name_text}
 use Rattle.text_forms.specs.Parse.{is_count}
 use Rattle.text_forms.specs.Forms.{After, Many, Listing, Headed}
 use Rattle.streamit_text.specs.Tree.{Optional, Unwritten, Written}
-use Rattle.streamit_text.specs.Program.{WorkTree, FilterTree, Dealing, Copies, Turns, Adds, Body, AFilter, APipeline, ASplitJoin, Declared}
+use Rattle.streamit_text.specs.Program.{WorkTree, FilterTree, Dealing, Copies, Turns, Adds, Body, AFilter, APipeline, ASplitJoin, UnitForm}
 use Rattle.streamit_text.specs.Grammar.{Weight, IsWork, IsPrework, IsInit, IsField, Rate, push, pop, peek, IsRate, Rates, unwritten, rates_in, AreRates, InFilter, Braces, Called, IsAdd, AreAdds, Weights, SplitAfter, IsSplit, IsJoin, InBoth, BodyAfter, IsUnit, stay_optional}
 use Rattle.work_text.proofs.Insides.{plain-Semicolon, plain-Comma}
 use Rattle.params_text.specs.Toks.{block_toks, field_toks, fields_toks, init_toks, rate_toks, rates_toks, work_toks, prework_toks, filter_toks, add_toks, other_toks, adds_toks, more_numbers, numbers_toks, weights_toks, dealing_toks, split_toks, join_toks, kind_word, inner_toks, unit_toks}
@@ -364,7 +364,7 @@ body-formed (APipeline a) h = record { value = a; is = refl; formed = braced-for
 body-formed (ASplitJoin d a ws) h = braced-formed InBoth 127 (ASplitJoin d a ws) _ (both-formed 127 d a ws (omega arith) h.0 h.1 h.2)
 
 -- a unit that a text can stand for is in the grammar, by its tokens
-pub unit-formed : (u : Declared) → IsToldUnit u → IsUnit u (unit_toks u)
+pub unit-formed : (u : UnitForm) → IsToldUnit u → IsUnit u (unit_toks u)
 unit-formed u h =
     let body : List Tok = braced (inner_toks u.body) in
     record {

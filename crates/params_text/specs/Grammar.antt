@@ -29,7 +29,7 @@ use Rattle.params_text.specs.Chained.{Chained}
 use Rattle.params_text.specs.Parameters.{IsLeafWith, leaf_with}
 use Rattle.params_text.specs.Params.{low}
 use Rattle.params_text.specs.Steps.{Constant, StreamName, Params, Constants, style, holes}
-use Rattle.params_text.specs.Program.{ParamWork, ParamFilter, Step, Steps, steps_in_turn, Dealing, Copies, Turns, Body, AFilter, APipeline, ASplitJoin, Declared, ParamProgram}
+use Rattle.params_text.specs.Program.{ParamWork, ParamFilter, Step, Steps, steps_in_turn, Dealing, Copies, Turns, Body, AFilter, APipeline, ASplitJoin, UnitForm, ParamProgram}
 
 -- a step, in which loops nest at most 16 deep, and steps in braces
 abbrev pub IsStep : ℕ → Step → List Tok → Type 0
@@ -143,21 +143,21 @@ BodyAfter n w ps =
     (Choose (bytes_eq w (codes "splitjoin")) (Braces InBoth n) Never))
 
 -- "filter" NAME [params] filter, and so on
-abbrev pub made_unit : List ℕ × (List (List ℕ) × Body) → Declared
+abbrev pub made_unit : List ℕ × (List (List ℕ) × Body) → UnitForm
 made_unit v = record { name = v.0; params = v.1.0; body = v.1.1 }
 
-abbrev pub KindAfter : ℕ → List ℕ → Declared → List Tok → Type 0
+abbrev pub KindAfter : ℕ → List ℕ → UnitForm → List Tok → Type 0
 KindAfter n w = Seen made_unit (Both StreamName (Chained (Params n) (BodyAfter n w)))
 
 -- unit = "int" "->" "int" .., where 128 brackets may be open
-abbrev pub IsUnit : Declared → List Tok → Type 0
+abbrev pub IsUnit : UnitForm → List Tok → Type 0
 IsUnit = AfterWord (codes "int") (After (s.Arrow ∷ []) (AfterWord (codes "int") (Headed (KindAfter 128))))
 
 -- no unit depends on those before it
-abbrev pub IsUnitAt : Unit {0} → Declared → List Tok → Type 0
+abbrev pub IsUnitAt : Unit {0} → UnitForm → List Tok → Type 0
 IsUnitAt u = IsUnit
 
-abbrev pub next_unit : Unit {0} → Declared → Unit {0}
+abbrev pub next_unit : Unit {0} → UnitForm → Unit {0}
 next_unit u d = tt
 
 abbrev pub AreUnits : ParamProgram → List (List Tok) → Type 0

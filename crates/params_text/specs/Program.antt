@@ -17,7 +17,7 @@ use Rattle.params_text.specs.declared.program.ParamSplit.{ParamSplit}
 use Rattle.params_text.specs.declared.program.ParamSplit.TheVariants as split
 use Rattle.params_text.specs.declared.program.ParamBody.{ParamBody}
 use Rattle.params_text.specs.declared.program.ParamBody.TheVariants as body
-use Rattle.params_text.specs.declared.program.ParamUnit.{ParamUnit}
+use Rattle.params_text.specs.declared.program.Unit as code_unit
 
 -- `work` or `prework`: its rates, which are expressions and may be left out, and its block
 pub record ParamWork : Type 0 where
@@ -56,13 +56,13 @@ pub data Body : Type 0 where
   ASplitJoin : Dealing → Steps → Option (List Expression) → Body
 
 -- a stream that is declared, with its parameters: one unit of the text
-pub record Declared : Type 0 where
+pub record UnitForm : Type 0 where
   pub name : List ℕ
   pub params : List (List ℕ)
   pub body : Body
 
 abbrev pub ParamProgram : Type 0
-ParamProgram = List Declared
+ParamProgram = List UnitForm
 
 -- WHAT THE CODE'S TREES STAND FOR
 
@@ -107,8 +107,8 @@ body_of (body.Filter t) = AFilter (filter_of t)
 body_of (body.Pipeline ss) = APipeline (steps_of ss)
 body_of (body.SplitJoin b) = ASplitJoin (dealing_of b.split) (steps_of b.steps) (rounds_of b.join)
 
-abbrev pub declared_of : ParamUnit → Declared
-declared_of u = record { name = u.name; params = u.params.items; body = body_of u.body }
+abbrev pub unit_form : code_unit.Unit → UnitForm
+unit_form u = record { name = u.name; params = u.params.items; body = body_of u.body }
 
-abbrev pub program_of : List ParamUnit → ParamProgram
-program_of us = map declared_of us
+abbrev pub unit_forms : List code_unit.Unit → ParamProgram
+unit_forms us = map unit_form us

@@ -16,7 +16,7 @@ use Rattle.params_text.specs.Parameters.{leaf_with}
 use Rattle.params_text.specs.Params.{low}
 use Rattle.params_text.specs.Steps.{constant_at, stream_name_at, params_at, constants_at, style}
 use Rattle.params_text.specs.Grammar.{Rate, push, pop, peek, Rates, unwritten, rates_in, made_work, made_filter, copying, made_both, made_unit, next_unit}
-use Rattle.params_text.specs.Program.{ParamWork, ParamFilter, Step, Steps, Dealing, Turns, Body, AFilter, APipeline, Declared}
+use Rattle.params_text.specs.Program.{ParamWork, ParamFilter, Step, Steps, Dealing, Turns, Body, AFilter, APipeline, UnitForm}
 
 unfoldable pub step_at : ℕ → Parse Step
 step_at n ts = blocks.stmt_at style 16 n ts
@@ -104,16 +104,16 @@ body_after n w ps ts =
 unfoldable pub with_params_at : ℕ → List ℕ → Parse (List (List ℕ) × Body)
 with_params_at n w ts = chained (params_at n) (body_after n w) ts
 
-unfoldable pub kind_after : ℕ → List ℕ → Parse Declared
+unfoldable pub kind_after : ℕ → List ℕ → Parse UnitForm
 kind_after n w ts = seen made_unit (both stream_name_at (with_params_at n w)) ts
 
-unfoldable pub unit_at : Parse Declared
+unfoldable pub unit_at : Parse UnitForm
 unit_at ts = after_word (codes "int") (after (s.Arrow ∷ []) (after_word (codes "int") (headed (kind_after 128)))) ts
 
-abbrev pub unit_from : Unit {0} → Parse Declared
+abbrev pub unit_from : Unit {0} → Parse UnitForm
 unit_from u = unit_at
 
 -- the units of a text, of which there has to be one
-abbrev pub some_units : List (List Tok) → Result (List Declared) ℕ
+abbrev pub some_units : List (List Tok) → Result (List UnitForm) ℕ
 some_units [] = Err 1
 some_units (u ∷ us) = read_units unit_from next_unit tt 1 (u ∷ us)

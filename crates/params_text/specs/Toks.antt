@@ -8,7 +8,7 @@ use Rattle.text_blocks.specs.Seven.{sign_of}
 use Rattle.streamit_text.specs.Tree.{Expression}
 use Rattle.streamit_text.specs.Tree as tree
 use Rattle.streamit_text.specs.Tree.{Statement, Declare, Assign, Push, Discard, If, For, Block, End, Then, Optional, Unwritten, Written}
-use Rattle.streamit_text.specs.Program.{WorkTree, FilterTree, Dealing, Copies, Turns, Adds, Body, AFilter, APipeline, ASplitJoin, Declared, Program}
+use Rattle.streamit_text.specs.Program.{WorkTree, FilterTree, Dealing, Copies, Turns, Adds, Body, AFilter, APipeline, ASplitJoin, UnitForm, Program}
 
 -- THE TOKENS
 
@@ -132,7 +132,7 @@ inner_toks (AFilter t) = filter_toks t
 inner_toks (APipeline a) = adds_toks a
 inner_toks (ASplitJoin d a ws) = split_toks d ++ (adds_toks a ++ join_toks ws)
 
-abbrev pub unit_toks : Declared → List Tok
+abbrev pub unit_toks : UnitForm → List Tok
 unit_toks u =
     name (codes "int") ∷ symbol s.Arrow ∷ name (codes "int") ∷ name (kind_word u.body) ∷ name u.name
     ∷ symbol s.OpenBrace ∷ (inner_toks u.body ++ symbol s.CloseBrace ∷ [])

@@ -3,7 +3,7 @@ use Rattle.std.specs.Prelude.{◌≡◌, ◌≤◌, ℕ, zero, suc, true, List, 
 use Rattle.streamit_text.specs.Tree.{Expression, depth_of}
 use Rattle.streamit_text.specs.Tree as tree
 use Rattle.streamit_text.specs.Tree.{Statement, Declare, Assign, Push, Discard, If, For, Block, End, Then, Optional, Unwritten, Written}
-use Rattle.streamit_text.specs.Program.{WorkTree, FilterTree, Dealing, Copies, Turns, Adds, Body, AFilter, APipeline, ASplitJoin, Declared, Program}
+use Rattle.streamit_text.specs.Program.{WorkTree, FilterTree, Dealing, Copies, Turns, Adds, Body, AFilter, APipeline, ASplitJoin, UnitForm, Program}
 use Rattle.streamit_text.specs.Grammar.{stay_optional}
 use Rattle.streamit_text.specs.Words.{is_own}
 
@@ -105,7 +105,7 @@ IsToldBody (AFilter t) = IsToldFilter t
 IsToldBody (APipeline a) = AreToldAdds a
 IsToldBody (ASplitJoin d a ws) = IsToldDealing d × AreToldAdds a × AreToldWeights ws
 
-abbrev pub IsToldUnit : Declared → Type 0
+abbrev pub IsToldUnit : UnitForm → Type 0
 IsToldUnit u = IsOwnName u.name × IsToldBody u.body
 
 abbrev pub IsToldProgram : Program → Type 0

@@ -10,7 +10,7 @@ use crate::step::steps;
 use crate::{ParamSplit, ParamSplitJoin, Rounds, Steps};
 use std::alloc::Global;
 use streamit_text::parens;
-use text_forms::{Fault, Reader, closed, is};
+use text_forms::{ParseFault, Reader, closed, is};
 use work_text::Symbol;
 
 // What stands behind `split`.
@@ -20,7 +20,7 @@ fn split_after(
     alloc: Global,
     brackets: u32,
     word: &[u8],
-) -> Result<ParamSplit, Fault>
+) -> Result<ParamSplit, ParseFault>
     ensures { Gives dealing_of result reader.new (split_after brackets word.now reader.old) }
 {
     if is(word, b"duplicate") {
@@ -31,12 +31,12 @@ fn split_after(
         let weights = constants(reader, alloc, brackets)?;
         return Ok(ParamSplit::RoundRobin(Rounds { weights }));
     }
-    Err(Fault::Syntax)
+    Err(ParseFault::Syntax)
 }
 
 // `split ..;`
 #[tactic(auto, unfolding(crate::specs::Reading::split_at))]
-fn split(reader: &mut Reader<'_>, alloc: Global, brackets: u32) -> Result<ParamSplit, Fault>
+fn split(reader: &mut Reader<'_>, alloc: Global, brackets: u32) -> Result<ParamSplit, ParseFault>
     ensures { Gives dealing_of result reader.new (split_at brackets reader.old) }
 {
     reader.word(b"split")?;
@@ -47,7 +47,7 @@ fn split(reader: &mut Reader<'_>, alloc: Global, brackets: u32) -> Result<ParamS
 
 // `join roundrobin ..;`
 #[tactic(auto, unfolding(crate::specs::Reading::join_at))]
-fn join(reader: &mut Reader<'_>, alloc: Global, brackets: u32) -> Result<Rounds, Fault>
+fn join(reader: &mut Reader<'_>, alloc: Global, brackets: u32) -> Result<Rounds, ParseFault>
     ensures { Gives rounds_of result reader.new (join_at brackets reader.old) }
 {
     reader.word(b"join")?;
@@ -58,7 +58,7 @@ fn join(reader: &mut Reader<'_>, alloc: Global, brackets: u32) -> Result<Rounds,
 
 // The splitter, the steps, and the joiner.
 #[tactic(auto, unfolding(crate::specs::Reading::in_both_at), using(crate::proofs::StepTrees::steps))]
-fn in_both(reader: &mut Reader<'_>, alloc: Global, brackets: u32) -> Result<ParamSplitJoin, Fault>
+fn in_both(reader: &mut Reader<'_>, alloc: Global, brackets: u32) -> Result<ParamSplitJoin, ParseFault>
     ensures { Gives split_join_of result reader.new (in_both_at brackets reader.old) }
 {
     let split = split(reader, alloc, brackets)?;
@@ -73,7 +73,7 @@ fn in_both(reader: &mut Reader<'_>, alloc: Global, brackets: u32) -> Result<Para
 
 /// `{` the splitter, the steps, and the joiner `}`
 #[tactic(auto, unfolding(crate::specs::Reading::both_at))]
-pub fn both(reader: &mut Reader<'_>, alloc: Global, brackets: u32) -> Result<ParamSplitJoin, Fault>
+pub fn both(reader: &mut Reader<'_>, alloc: Global, brackets: u32) -> Result<ParamSplitJoin, ParseFault>
     ensures { Gives split_join_of result reader.new (both_at brackets reader.old) }
 {
     let inner = reader.opens(Symbol::OpenBrace, brackets)?;

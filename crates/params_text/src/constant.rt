@@ -9,27 +9,27 @@ ghost use Rattle.params_text.specs.Steps.{round_constants_at, constants_at};
 
 use river_base::Name;
 use std::alloc::Global;
-use streamit_text::{Expr, Plain, Streamit, is_still, name};
+use streamit_text::{Expr, Plain, StreamitGrammar, is_still, name};
 use text_blocks::term;
-use text_forms::{Fault, Reader, closed};
+use text_forms::{ParseFault, Reader, closed};
 use work_text::Symbol;
 
 /// An expression without `push`, `pop` and `peek`.
 #[tactic(auto, unfolding(crate::specs::Steps::constant_at))]
-pub fn constant(reader: &mut Reader<'_>, alloc: Global, brackets: u32) -> Result<Expr, Fault>
+pub fn constant(reader: &mut Reader<'_>, alloc: Global, brackets: u32) -> Result<Expr, ParseFault>
     ensures { Gives expression result reader.new (constant_at brackets reader.old) }
 {
-    let value = term(&Streamit { leaves: Plain }, reader, alloc, brackets)?;
+    let value = term(&StreamitGrammar { leaves: Plain }, reader, alloc, brackets)?;
     if is_still(&value) {
         Ok(value)
     } else {
-        Err(Fault::Syntax)
+        Err(ParseFault::Syntax)
     }
 }
 
 /// The name of a stream, of at most 32 bytes.
 #[tactic(auto, unfolding(crate::specs::Steps::stream_name_at), using(crate::proofs::Lists::briefs))]
-pub fn stream_name(reader: &mut Reader<'_>) -> Result<Name, Fault>
+pub fn stream_name(reader: &mut Reader<'_>) -> Result<Name, ParseFault>
     ensures reads { Gives (λ name. name) result reader.new (stream_name_at reader.old) }
     ensures brief { IfOk result (λ name. length name ≤ 32) }
 {
@@ -37,13 +37,13 @@ pub fn stream_name(reader: &mut Reader<'_>) -> Result<Name, Fault>
     if name.as_slice().len() <= 32 {
         Ok(name)
     } else {
-        Err(Fault::Syntax)
+        Err(ParseFault::Syntax)
     }
 }
 
 // `int NAME`
 #[tactic(auto, unfolding(crate::specs::Steps::param_at))]
-fn param(reader: &mut Reader<'_>) -> Result<Name, Fault>
+fn param(reader: &mut Reader<'_>) -> Result<Name, ParseFault>
     ensures { Gives (λ name. name) result reader.new (param_at reader.old) }
 {
     reader.word(b"int")?;
@@ -52,7 +52,7 @@ fn param(reader: &mut Reader<'_>) -> Result<Name, Fault>
 
 // Parameters with commas between them, at least one.
 #[tactic(auto, unfolding(crate::specs::Steps::some_params_at), using(crate::proofs::Lists::params))]
-fn some_params(reader: &mut Reader<'_>, alloc: Global) -> Result<Vec<Name>, Fault>
+fn some_params(reader: &mut Reader<'_>, alloc: Global) -> Result<Vec<Name>, ParseFault>
     ensures { Gives (λ names. names.items) result reader.new (some_params_at reader.old) }
 {
     let mut list = Vec::new(alloc);
@@ -65,7 +65,7 @@ fn some_params(reader: &mut Reader<'_>, alloc: Global) -> Result<Vec<Name>, Faul
 
 // Parameters in brackets, or none in them.
 #[tactic(auto, unfolding(crate::specs::Steps::round_params_at, crate::specs::Steps::some_params_at, text_blocks::specs::Parts::round_at))]
-fn round_params(reader: &mut Reader<'_>, alloc: Global, brackets: u32) -> Result<Vec<Name>, Fault>
+fn round_params(reader: &mut Reader<'_>, alloc: Global, brackets: u32) -> Result<Vec<Name>, ParseFault>
     ensures { Gives (λ names. names.items) result reader.new (round_params_at brackets reader.old) }
 {
     reader.opens(Symbol::Open, brackets)?;
@@ -79,7 +79,7 @@ fn round_params(reader: &mut Reader<'_>, alloc: Global, brackets: u32) -> Result
 
 /// Parameters in brackets, or no brackets.
 #[tactic(auto, unfolding(crate::specs::Steps::params_at))]
-pub fn params(reader: &mut Reader<'_>, alloc: Global, brackets: u32) -> Result<Vec<Name>, Fault>
+pub fn params(reader: &mut Reader<'_>, alloc: Global, brackets: u32) -> Result<Vec<Name>, ParseFault>
     ensures { Gives (λ names. names.items) result reader.new (params_at brackets reader.old) }
 {
     if reader.is_at(Symbol::Open) {
@@ -91,7 +91,7 @@ pub fn params(reader: &mut Reader<'_>, alloc: Global, brackets: u32) -> Result<V
 
 // Constants with commas between them, at least one.
 #[tactic(auto, unfolding(crate::specs::Steps::some_constants_at), using(crate::proofs::Lists::constants))]
-fn some_constants(reader: &mut Reader<'_>, alloc: Global, brackets: u32) -> Result<Vec<Expr>, Fault>
+fn some_constants(reader: &mut Reader<'_>, alloc: Global, brackets: u32) -> Result<Vec<Expr>, ParseFault>
     ensures { Gives expressions result reader.new (some_constants_at brackets reader.old) }
 {
     let mut list = Vec::new(alloc);
@@ -108,7 +108,7 @@ fn round_constants(
     reader: &mut Reader<'_>,
     alloc: Global,
     brackets: u32,
-) -> Result<Vec<Expr>, Fault>
+) -> Result<Vec<Expr>, ParseFault>
     ensures { Gives expressions result reader.new (round_constants_at brackets reader.old) }
 {
     let inner = reader.opens(Symbol::Open, brackets)?;
@@ -126,7 +126,7 @@ pub fn constants(
     reader: &mut Reader<'_>,
     alloc: Global,
     brackets: u32,
-) -> Result<Option<Vec<Expr>>, Fault>
+) -> Result<Option<Vec<Expr>>, ParseFault>
     ensures { Gives (optional expressions) result reader.new (constants_at brackets reader.old) }
 {
     if reader.is_at(Symbol::Open) {

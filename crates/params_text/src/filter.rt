@@ -16,8 +16,8 @@ use crate::parameters::WithParameters;
 use crate::{ParamFilter, ParamRates, ParamWork, Parameters};
 use river_base::Name;
 use std::alloc::Global;
-use streamit_text::{Block, Expr, Streamit, fields, stay};
-use text_forms::{Fault, Reader, closed, is};
+use streamit_text::{Block, Expr, StreamitGrammar, fields, stay};
+use text_forms::{ParseFault, Reader, closed, is};
 use work_text::Symbol;
 
 // A rate that is written.
@@ -35,7 +35,7 @@ fn rate_after(
     alloc: Global,
     brackets: u32,
     word: &[u8],
-) -> Result<Rate, Fault>
+) -> Result<Rate, ParseFault>
     ensures { Gives rate_of result reader.new (rate_after brackets word.now reader.old) }
 {
     if is(word, b"push") {
@@ -47,12 +47,12 @@ fn rate_after(
     if is(word, b"peek") {
         return Ok(Rate::Peek(constant(reader, alloc, brackets)?));
     }
-    Err(Fault::Syntax)
+    Err(ParseFault::Syntax)
 }
 
 // A word and a constant.
 #[tactic(auto, unfolding(crate::specs::Reading::rate_at))]
-fn one_rate(reader: &mut Reader<'_>, alloc: Global, brackets: u32) -> Result<Rate, Fault>
+fn one_rate(reader: &mut Reader<'_>, alloc: Global, brackets: u32) -> Result<Rate, ParseFault>
     ensures { Gives rate_of result reader.new (rate_at brackets reader.old) }
 {
     let word = reader.name()?;
@@ -60,18 +60,18 @@ fn one_rate(reader: &mut Reader<'_>, alloc: Global, brackets: u32) -> Result<Rat
 }
 
 // A rate that is written now, and may not be written yet.
-fn write(place: &mut Option<Expr>, new: Expr) -> Result<(), Fault>
+fn write(place: &mut Option<Expr>, new: Expr) -> Result<(), ParseFault>
     ensures { Makes (λ _. option_expression place.new) result (fresh (option_expression place.old) (Some (expression new))) }
 {
     if place.is_some() {
-        return Err(Fault::Syntax);
+        return Err(ParseFault::Syntax);
     }
     *place = Some(new);
     Ok(())
 }
 
 // One rate more, which may not be among them yet.
-fn note(rates: &mut ParamRates, rate: Rate) -> Result<(), Fault>
+fn note(rates: &mut ParamRates, rate: Rate) -> Result<(), ParseFault>
     ensures { Makes (λ _. rates_of rates.new) result (with_rate (rates_of rates.old) (rate_of rate)) }
 {
     match rate {
@@ -88,7 +88,7 @@ fn all_rates(
     alloc: Global,
     brackets: u32,
     rates: &mut ParamRates,
-) -> Result<(), Fault>
+) -> Result<(), ParseFault>
     requires { rates_of rates.old ≡ unwritten }
     ensures { Gives (λ _. rates_of rates.new) result reader.new (rates_at brackets reader.old) }
 {
@@ -100,7 +100,7 @@ fn all_rates(
 }
 
 // The rates, each of them once at most.
-fn rates(reader: &mut Reader<'_>, alloc: Global, brackets: u32) -> Result<ParamRates, Fault>
+fn rates(reader: &mut Reader<'_>, alloc: Global, brackets: u32) -> Result<ParamRates, ParseFault>
     ensures { Gives rates_of result reader.new (rates_at brackets reader.old) }
 {
     let mut rates = ParamRates {
@@ -119,14 +119,14 @@ fn statements(
     alloc: Global,
     params: &Parameters,
     brackets: u32,
-) -> Result<Block, Fault>
+) -> Result<Block, ParseFault>
     ensures { Gives block result reader.new (statements_at params.now brackets reader.old) }
 {
-    let language = Streamit {
+    let language = StreamitGrammar {
         leaves: WithParameters { names: params },
     };
     let all = text_blocks::block(&language, reader, alloc, 16, brackets);
-    let Streamit { leaves: _ } = language;
+    let StreamitGrammar { leaves: _ } = language;
     all
 }
 
@@ -137,14 +137,14 @@ fn block(
     alloc: Global,
     params: &Parameters,
     brackets: u32,
-) -> Result<Block, Fault>
+) -> Result<Block, ParseFault>
     ensures { Gives block result reader.new (block_at params.now brackets reader.old) }
 {
     let all = statements(reader, alloc, params, brackets)?;
     if low(params, &all) {
         Ok(all)
     } else {
-        Err(Fault::Syntax)
+        Err(ParseFault::Syntax)
     }
 }
 
@@ -155,14 +155,14 @@ fn still(
     alloc: Global,
     params: &Parameters,
     brackets: u32,
-) -> Result<Block, Fault>
+) -> Result<Block, ParseFault>
     ensures { Gives block result reader.new (still_at params.now brackets reader.old) }
 {
     let all = block(reader, alloc, params, brackets)?;
     if stay(&all) {
         Ok(all)
     } else {
-        Err(Fault::Syntax)
+        Err(ParseFault::Syntax)
     }
 }
 
@@ -173,7 +173,7 @@ fn init(
     alloc: Global,
     params: &Parameters,
     brackets: u32,
-) -> Result<Option<Block>, Fault>
+) -> Result<Option<Block>, ParseFault>
     ensures { Gives optional_block result reader.new (init_at params.now brackets reader.old) }
 {
     if !reader.is_at_word(b"init") {
@@ -190,7 +190,7 @@ fn work(
     alloc: Global,
     params: &Parameters,
     brackets: u32,
-) -> Result<ParamWork, Fault>
+) -> Result<ParamWork, ParseFault>
     ensures { Gives work_of result reader.new (work_at params.now brackets reader.old) }
 {
     let rates = rates(reader, alloc, brackets)?;
@@ -205,7 +205,7 @@ fn prework(
     alloc: Global,
     params: &Parameters,
     brackets: u32,
-) -> Result<Option<ParamWork>, Fault>
+) -> Result<Option<ParamWork>, ParseFault>
     ensures { Gives (optional work_of) result reader.new (prework_at params.now brackets reader.old) }
 {
     if !reader.is_at_word(b"prework") {
@@ -221,7 +221,7 @@ fn main_work(
     alloc: Global,
     params: &Parameters,
     brackets: u32,
-) -> Result<ParamWork, Fault>
+) -> Result<ParamWork, ParseFault>
     ensures { Gives work_of result reader.new (after_word (codes "work") (work_at params.now brackets) reader.old) }
 {
     reader.word(b"work")?;
@@ -235,7 +235,7 @@ fn works(
     alloc: Global,
     params: &Parameters,
     brackets: u32,
-) -> Result<(Option<ParamWork>, ParamWork), Fault>
+) -> Result<(Option<ParamWork>, ParamWork), ParseFault>
     ensures { Gives both_works result reader.new (works_at params.now brackets reader.old) }
 {
     let prework = prework(reader, alloc, params, brackets)?;
@@ -250,7 +250,7 @@ fn in_filter(
     alloc: Global,
     params: &Parameters,
     brackets: u32,
-) -> Result<ParamFilter, Fault>
+) -> Result<ParamFilter, ParseFault>
     ensures { Gives filter_of result reader.new (in_filter_at params.now brackets reader.old) }
 {
     let fields = fields(reader, alloc)?;
@@ -271,7 +271,7 @@ fn braced(
     alloc: Global,
     params: &Parameters,
     brackets: u32,
-) -> Result<ParamFilter, Fault>
+) -> Result<ParamFilter, ParseFault>
     ensures { Gives filter_of result reader.new (filter_at params.now brackets reader.old) }
 {
     let inner = reader.opens(Symbol::OpenBrace, brackets)?;
@@ -285,7 +285,7 @@ pub fn filter(
     alloc: Global,
     params: &[Name],
     brackets: u32,
-) -> Result<ParamFilter, Fault>
+) -> Result<ParamFilter, ParseFault>
     ensures { Gives filter_of result reader.new (filter_at params.now brackets reader.old) }
 {
     let params = Parameters::of(alloc, params)?;

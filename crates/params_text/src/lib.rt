@@ -17,7 +17,7 @@ mod unit;
 pub use known::Parameters;
 pub use parameters::WithParameters;
 pub use program::{
-    ParamBody, ParamFilter, ParamRates, ParamSplit, ParamSplitJoin, ParamUnit, ParamWork, Rounds,
+    ParamBody, ParamFilter, ParamRates, ParamSplit, ParamSplitJoin, Unit, ParamWork, Rounds,
     Step, Steps,
 };
 pub use read::read_params;

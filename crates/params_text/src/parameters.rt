@@ -9,7 +9,7 @@ ghost use Rattle.params_text.specs.Params.{is_one_of};
 use crate::Parameters;
 use river_base::Name;
 use streamit_text::{Expr, Leaves, own, pop};
-use text_forms::{Fault, Reader, is};
+use text_forms::{ParseFault, Reader, is};
 use work_text::Token;
 
 /// StreamIt's leaves, where a name that is one of these parameters counts as one open bracket.
@@ -20,12 +20,12 @@ pub struct WithParameters<'p> {
 
 // A name, where no more brackets may be open.
 #[tactic(auto, using(crate::proofs::Places::places))]
-fn last_place(names: &Parameters, name: Name) -> Result<Expr, Fault>
+fn last_place(names: &Parameters, name: Name) -> Result<Expr, ParseFault>
     ensures reads { (ts : List Tok) → Gives expression result ts (place_at names.now 0 name ts) }
     ensures depth { IfOk result (λ e. depth_of (expression e) ≡ 1) }
 {
     if names.has(&name) {
-        Err(Fault::Syntax)
+        Err(ParseFault::Syntax)
     } else {
         Ok(Expr::Name(name))
     }
@@ -38,7 +38,7 @@ fn place(
     names: &Parameters,
     brackets: u32,
     name: Name,
-) -> Result<Expr, Fault>
+) -> Result<Expr, ParseFault>
     ensures reads { Gives expression result reader.new (place_at names.now brackets name reader.old) }
     ensures depth { IfOk result (λ e. depth_of (expression e) ≡ 1) }
 {
@@ -55,7 +55,7 @@ fn named_with(
     names: &Parameters,
     brackets: u32,
     text: &[u8],
-) -> Result<Expr, Fault>
+) -> Result<Expr, ParseFault>
     ensures reads { Gives expression result reader.new (named_with names.now brackets text.now reader.old) }
     ensures depth { IfOk result (λ e. depth_of (expression e) ≡ 1) }
 {
@@ -64,7 +64,7 @@ fn named_with(
     }
     match own(text) {
         Some(name) => place(reader, names, brackets, name),
-        None => Err(Fault::Syntax),
+        None => Err(ParseFault::Syntax),
     }
 }
 
@@ -77,14 +77,14 @@ impl<'p> Leaves for WithParameters<'p> {
 
     ghost apart = { λ l. apart-with l.names.now };
 
-    fn leaf(&self, reader: &mut Reader<'_>, brackets: u32) -> Result<Expr, Fault>
+    fn leaf(&self, reader: &mut Reader<'_>, brackets: u32) -> Result<Expr, ParseFault>
         ensures reads { Gives expression result reader.new (leaf_with self.now.names.now brackets reader.old) }
         ensures depth { IfOk result (λ e. depth_of (expression e) ≡ 1) }
     {
         match reader.peek() {
             Some(Token::Number(value)) => {
                 if value > 9_223_372_036_854_775_807 {
-                    return Err(Fault::Syntax);
+                    return Err(ParseFault::Syntax);
                 }
                 reader.skip();
                 Ok(Expr::Number(value))
@@ -93,7 +93,7 @@ impl<'p> Leaves for WithParameters<'p> {
                 reader.skip();
                 named_with(reader, self.names, brackets, text)
             }
-            _ => Err(Fault::Syntax),
+            _ => Err(ParseFault::Syntax),
         }
     }
 }

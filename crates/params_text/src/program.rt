@@ -7,7 +7,7 @@ use streamit_text::{Block, Expr, Until};
 /// A unit of a program: a stream that is declared, with its parameters. Its name has at most 32
 /// bytes.
 #[derive(Drop)]
-pub struct ParamUnit {
+pub struct Unit {
     pub name: Name,
     pub params: Vec<Name>,
     pub body: ParamBody,

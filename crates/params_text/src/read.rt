@@ -3,10 +3,10 @@ ghost use Rattle.std.specs.Prelude.{◌≡◌, ◌<◌, ◌^◌, length, map, If
 ghost use Rattle.work_text.specs.Cut.{unit_tokens};
 ghost use Rattle.text_forms.specs.AllUnits.{GivesUnits};
 ghost use Rattle.params_text.specs.Faults.{StandFor, Refuses};
-ghost use Rattle.params_text.specs.Program.{declared_of, program_of};
+ghost use Rattle.params_text.specs.Program.{unit_form, unit_forms};
 ghost use Rattle.params_text.specs.Reading.{some_units};
 
-use crate::ParamUnit;
+use crate::Unit;
 use crate::unit::ParamUnits;
 use std::alloc::Global;
 use text_forms::{UnitFault, read_units};
@@ -20,9 +20,9 @@ use work_text::{Lexeme, Tokens, units};
 /// `Syntax` with the first unit, from 1, that is not in the grammar, which is 1 where there is no
 /// unit; `NoMemory` where there is no memory.
 #[tactic(auto, using(crate::proofs::Programs::programs, work_text::proofs::Counts::counts))]
-pub fn read_params(alloc: Global, tokens: &Tokens<'_>) -> Result<Vec<ParamUnit>, UnitFault>
+pub fn read_params(alloc: Global, tokens: &Tokens<'_>) -> Result<Vec<Unit>, UnitFault>
     requires { length tokens.now < 2 ^ 32 }
-    ensures read { IfOk result (λ units. StandFor tokens.now (program_of units.items)) }
+    ensures read { IfOk result (λ units. StandFor tokens.now (unit_forms units.items)) }
     ensures refused { IfErr result (Refuses tokens.now) }
 {
     let units = units(alloc, tokens)?;
@@ -31,9 +31,9 @@ pub fn read_params(alloc: Global, tokens: &Tokens<'_>) -> Result<Vec<ParamUnit>,
 
 // The program of the units of a text, of which there has to be one.
 #[tactic(auto, using(crate::proofs::Programs::some))]
-fn some_units(alloc: Global, parts: &[&[Lexeme<'_>]]) -> Result<Vec<ParamUnit>, UnitFault>
+fn some_units(alloc: Global, parts: &[&[Lexeme<'_>]]) -> Result<Vec<Unit>, UnitFault>
     requires { length parts.now < 2 ^ 32 }
-    ensures { GivesUnits declared_of result (some_units (map unit_tokens parts.now)) }
+    ensures { GivesUnits unit_form result (some_units (map unit_tokens parts.now)) }
 {
     if parts.is_empty() {
         return Err(UnitFault::Syntax { unit: 1 });

@@ -11,9 +11,9 @@ use crate::constant::{constants, stream_name};
 use crate::{Step, Steps};
 use river_base::{Name, NoMemory};
 use std::alloc::Global;
-use streamit_text::{Expr, ForHead, Plain, Streamit, is_still, round_head};
+use streamit_text::{Expr, ForHead, Plain, StreamitGrammar, is_still, round_head};
 use text_blocks::{Blocks, Opening, rest};
-use text_forms::{Fault, Reader, closed, is};
+use text_forms::{ParseFault, Reader, closed, is};
 use work_text::Symbol;
 
 /// Steps, for the reader of the statements of any language.
@@ -35,7 +35,7 @@ fn added(alloc: Global, name: Name, args: Option<Vec<Expr>>) -> Step
 
 // What stands behind `add`.
 #[tactic(auto, unfolding(crate::specs::Steps::add_at))]
-fn add(reader: &mut Reader<'_>, alloc: Global, brackets: u32) -> Result<Step, Fault>
+fn add(reader: &mut Reader<'_>, alloc: Global, brackets: u32) -> Result<Step, ParseFault>
     ensures { Gives step_of result reader.new (add_at brackets reader.old) }
 {
     let name = stream_name(reader)?;
@@ -45,14 +45,14 @@ fn add(reader: &mut Reader<'_>, alloc: Global, brackets: u32) -> Result<Step, Fa
 
 // The head of a loop of steps, behind `for`.
 #[tactic(auto, unfolding(crate::specs::Steps::step_head_at))]
-fn step_head(reader: &mut Reader<'_>, alloc: Global, brackets: u32) -> Result<ForHead, Fault>
+fn step_head(reader: &mut Reader<'_>, alloc: Global, brackets: u32) -> Result<ForHead, ParseFault>
     ensures { Gives head_of result reader.new (step_head_at brackets reader.old) }
 {
-    let head = round_head(&Streamit { leaves: Plain }, reader, alloc, brackets)?;
+    let head = round_head(&StreamitGrammar { leaves: Plain }, reader, alloc, brackets)?;
     if is_still(&head.low) && is_still(&head.upper.high) {
         Ok(head)
     } else {
-        Err(Fault::Syntax)
+        Err(ParseFault::Syntax)
     }
 }
 
@@ -109,8 +109,8 @@ impl Blocks for StepWords {
         _reader: &mut Reader<'_>,
         _alloc: Global,
         _brackets: u32,
-    ) -> Result<Step, Fault> {
-        Err(Fault::Syntax)
+    ) -> Result<Step, ParseFault> {
+        Err(ParseFault::Syntax)
     }
 
     fn head(
@@ -119,7 +119,7 @@ impl Blocks for StepWords {
         alloc: Global,
         brackets: u32,
         _word: &[u8],
-    ) -> Result<ForHead, Fault>
+    ) -> Result<ForHead, ParseFault>
         ensures { Gives head_of result reader.new (step_head_at brackets reader.old) }
     {
         step_head(reader, alloc, brackets)
@@ -132,13 +132,13 @@ impl Blocks for StepWords {
         alloc: Global,
         brackets: u32,
         word: &[u8],
-    ) -> Result<Step, Fault>
+    ) -> Result<Step, ParseFault>
         ensures { Gives step_of result reader.new (step_after brackets word.now reader.old) }
     {
         if is(word, b"add") {
             add(reader, alloc, brackets)
         } else {
-            Err(Fault::Syntax)
+            Err(ParseFault::Syntax)
         }
     }
 
@@ -177,7 +177,7 @@ impl Blocks for StepWords {
 
 // A step, in which loops nest at most 16 deep.
 #[tactic(auto, unfolding(crate::specs::Reading::step_at, text_blocks::specs::Reading::stmt_at))]
-fn step(reader: &mut Reader<'_>, alloc: Global, brackets: u32) -> Result<Step, Fault>
+fn step(reader: &mut Reader<'_>, alloc: Global, brackets: u32) -> Result<Step, ParseFault>
     ensures { Gives step_of result reader.new (step_at brackets reader.old) }
 {
     let word = reader.name()?;
@@ -186,7 +186,7 @@ fn step(reader: &mut Reader<'_>, alloc: Global, brackets: u32) -> Result<Step, F
 
 /// `{` steps `}`
 #[tactic(auto, unfolding(crate::specs::Reading::pipe_at))]
-pub fn pipe(reader: &mut Reader<'_>, alloc: Global, brackets: u32) -> Result<Steps, Fault>
+pub fn pipe(reader: &mut Reader<'_>, alloc: Global, brackets: u32) -> Result<Steps, ParseFault>
     ensures { Gives steps_of result reader.new (pipe_at brackets reader.old) }
 {
     text_blocks::block(&StepWords, reader, alloc, 16, brackets)
@@ -194,7 +194,7 @@ pub fn pipe(reader: &mut Reader<'_>, alloc: Global, brackets: u32) -> Result<Ste
 
 /// Steps up to a joiner.
 #[tactic(auto, unfolding(crate::specs::Reading::steps_at), using(crate::proofs::Lists::steps))]
-pub fn steps(reader: &mut Reader<'_>, alloc: Global, brackets: u32) -> Result<Vec<Step>, Fault>
+pub fn steps(reader: &mut Reader<'_>, alloc: Global, brackets: u32) -> Result<Vec<Step>, ParseFault>
     ensures { Gives (λ list. map step_of list.items) result reader.new (steps_at brackets reader.old) }
 {
     let mut list = Vec::new(alloc);

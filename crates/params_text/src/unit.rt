@@ -1,17 +1,17 @@
 // Units read.
 ghost use Rattle.std.specs.Prelude.{◌≡◌};
 ghost use Rattle.text_forms.specs.Gives.{Gives};
-ghost use Rattle.params_text.specs.Program.{body_of, declared_of};
+ghost use Rattle.params_text.specs.Program.{body_of, unit_form};
 ghost use Rattle.params_text.specs.Reading.{body_after, kind_after, unit_at};
 
 use crate::both::both;
 use crate::constant::{params, stream_name};
 use crate::filter::filter;
 use crate::step::pipe;
-use crate::{ParamBody, ParamUnit};
+use crate::{ParamBody, Unit};
 use river_base::Name;
 use std::alloc::Global;
-use text_forms::{Fault, Reader, Units, is};
+use text_forms::{ParseFault, Reader, Units, is};
 use work_text::Symbol;
 
 // What stands behind the name and the parameters of a stream of this kind.
@@ -22,7 +22,7 @@ fn body_after(
     brackets: u32,
     word: &[u8],
     params: &[Name],
-) -> Result<ParamBody, Fault>
+) -> Result<ParamBody, ParseFault>
     ensures { Gives body_of result reader.new (body_after brackets word.now params.now reader.old) }
 {
     if is(word, b"filter") {
@@ -34,7 +34,7 @@ fn body_after(
     if is(word, b"splitjoin") {
         return Ok(ParamBody::SplitJoin(both(reader, alloc, brackets)?));
     }
-    Err(Fault::Syntax)
+    Err(ParseFault::Syntax)
 }
 
 // What stands behind the kind of a stream.
@@ -44,19 +44,19 @@ fn kind_after(
     alloc: Global,
     brackets: u32,
     word: &[u8],
-) -> Result<ParamUnit, Fault>
-    ensures { Gives declared_of result reader.new (kind_after brackets word.now reader.old) }
+) -> Result<Unit, ParseFault>
+    ensures { Gives unit_form result reader.new (kind_after brackets word.now reader.old) }
 {
     let name = stream_name(reader)?;
     let params = params(reader, alloc, brackets)?;
     let body = body_after(reader, alloc, brackets, word, params.as_slice())?;
-    Ok(ParamUnit { name, params, body })
+    Ok(Unit { name, params, body })
 }
 
 // A unit.
 #[tactic(auto, unfolding(crate::specs::Reading::unit_at))]
-fn unit(reader: &mut Reader<'_>, alloc: Global) -> Result<ParamUnit, Fault>
-    ensures { Gives declared_of result reader.new (unit_at reader.old) }
+fn unit(reader: &mut Reader<'_>, alloc: Global) -> Result<Unit, ParseFault>
+    ensures { Gives unit_form result reader.new (unit_at reader.old) }
 {
     reader.word(b"int")?;
     reader.expect(&[Symbol::Arrow])?;
@@ -69,18 +69,18 @@ fn unit(reader: &mut Reader<'_>, alloc: Global) -> Result<ParamUnit, Fault>
 pub struct ParamUnits;
 
 impl Units for ParamUnits {
-    ghost use Rattle.params_text.specs.Program.{Declared, declared_of};
+    ghost use Rattle.params_text.specs.Program.{UnitForm, unit_form};
     ghost use Rattle.params_text.specs.Reading.{unit_at};
 
-    type Unit = ParamUnit;
+    type Unit = Unit;
 
-    ghost UnitTree = { Declared };
+    ghost UnitTree = { UnitForm };
 
-    ghost unit_tree = { declared_of };
+    ghost unit_tree = { unit_form };
 
     ghost unit = { λ _. unit_at };
 
-    fn unit(&self, reader: &mut Reader<'_>, alloc: Global) -> Result<ParamUnit, Fault> {
+    fn unit(&self, reader: &mut Reader<'_>, alloc: Global) -> Result<Unit, ParseFault> {
         unit(reader, alloc)
     }
 }

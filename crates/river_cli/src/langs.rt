@@ -8,7 +8,7 @@ ghost use Rattle.river_cli.specs.Points.{source_in, takes_more};
 
 use command_line::{InWords, Lang, RunWords};
 use river_base::{Bytes, Text};
-use river_langs::{Cql, Params, RiverText, Sawzall, Streamit};
+use river_langs::{Cql, Params, River, Sawzall, Streamit};
 use river_order::Stop;
 use river_outside::Shelf;
 use river_road::{Gathered, gather_run, mean, show};
@@ -21,7 +21,7 @@ pub fn gather_in<S: Shelf>(alloc: Global, words: &RunWords, shelf: &mut S) -> Re
         (Rose S.stays_at_last (S.faults shelf.old) (S.faults shelf.new)) result }
 {
     match words.lang {
-        Lang::River => gather_run::<RiverText, S>(alloc, words, shelf),
+        Lang::River => gather_run::<River, S>(alloc, words, shelf),
         Lang::Streamit => gather_run::<Streamit, S>(alloc, words, shelf),
         Lang::Params => gather_run::<Params, S>(alloc, words, shelf),
         Lang::Sawzall => gather_run::<Sawzall, S>(alloc, words, shelf),
@@ -42,7 +42,7 @@ pub fn show_in<S: Shelf>(
         (Rose S.stays_at_last (S.faults shelf.old) (S.faults shelf.new)) result }
 {
     match lang {
-        Lang::River => show::<RiverText, S>(alloc, file, script, shelf),
+        Lang::River => show::<River, S>(alloc, file, script, shelf),
         Lang::Streamit => show::<Streamit, S>(alloc, file, script, shelf),
         Lang::Params => show::<Params, S>(alloc, file, script, shelf),
         Lang::Sawzall => show::<Sawzall, S>(alloc, file, script, shelf),
@@ -64,7 +64,7 @@ pub fn mean_in<S: Shelf>(
         (Rose S.stays_at_last (S.faults shelf.old) (S.faults shelf.new)) result }
 {
     match lang {
-        Lang::River => mean::<RiverText, S>(alloc, file, ins, header, shelf),
+        Lang::River => mean::<River, S>(alloc, file, ins, header, shelf),
         Lang::Streamit => mean::<Streamit, S>(alloc, file, ins, header, shelf),
         Lang::Params => mean::<Params, S>(alloc, file, ins, header, shelf),
         Lang::Sawzall => mean::<Sawzall, S>(alloc, file, ins, header, shelf),

@@ -15,7 +15,7 @@ use crate::runs::{run_by_tasks, run_by_workers};
 use command_line::{Capacity, Command, RunBy, RunWords, WordFault, Workers, read_words};
 use free_runs::free;
 use river_base::{Bytes, Gate, Text};
-use river_langs::{RiverText, Sawzall};
+use river_langs::{River, Sawzall};
 use river_order::Stop;
 use river_outside::Shelf;
 use river_road::{gather_load, upgrade};
@@ -68,7 +68,7 @@ fn answered<R: Threads + Sync, S: Shelf, G: Gate + Sync>(
             ins,
             header,
         } => mean_in(alloc, *lang, file, ins, *header, shelf),
-        Command::Upgrade { file } => upgrade::<RiverText, S>(alloc, file, shelf),
+        Command::Upgrade { file } => upgrade::<River, S>(alloc, file, shelf),
         Command::Load { number } => load(rt, alloc, *number, gate),
         Command::Free(words) => free(rt, alloc, words, shelf, gate),
     }

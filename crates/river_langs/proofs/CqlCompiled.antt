@@ -14,8 +14,8 @@ use Rattle.cql_model.specs.Instants.{inputs_for}
 use Rattle.cql_model.specs.Laws.{AreFiles}
 use Rattle.cql_text.specs.Tree.{Register, AQuery, Program}
 use Rattle.cql_model.specs.Scopes.{Named}
-use Rattle.cql_model.specs.Translation.{input_decls, output_decls, query_named, plan_of}
-use Rattle.cql_text.specs.Tree.{Part, program_of}
+use Rattle.cql_model.specs.Plan.{input_decls, output_decls, query_named, plan_of}
+use Rattle.cql_text.specs.Tree.{UnitForm, program_of}
 use Rattle.cql_text.specs.declared.tree.CqlProgram.{CqlProgram}
 use Rattle.cql_front.specs.Meaning.{compiled, Plans}
 use Rattle.cql_front.specs.Words.{cql_words}
@@ -26,8 +26,8 @@ use Rattle.river_road.specs.Contents.{AreContents}
 use Rattle.river_road.specs.Inputs.{timed_files, items_at, all_items}
 use Rattle.river_road.specs.Source.{source_or_refused, IsPlanOf, IsCompiled}
 use Rattle.river_langs.specs.Sources.{asked_names, cql_source, IsCql}
-use Rattle.river_road.specs.declared.content.Content.{Content}
-use Rattle.river_road.specs.declared.content.Content.TheVariants.{Rows as Plain, Timed}
+use Rattle.river_road.specs.declared.content.FileContent.{FileContent}
+use Rattle.river_road.specs.declared.content.FileContent.TheVariants.{Rows as Plain, Timed}
 
 -- the outputs of the plan are the queries
 outputs-are : (ks : List Named) (p : Program) → decl_names (output_decls ks p) ≡ asked_names p
@@ -43,7 +43,7 @@ widths-are w (e ∷ rows) h =
     All-cons (λ (f : Entry). length f.1 ≡ w) e rows (All-head (λ l. length l ≡ w) e.1 all h) (widths-are w rows (All-tail (λ l. length l ≡ w) e.1 all h))
 
 -- files that have what the inputs ask are files of the program
-pub files-are : (p : Program) (files : List Content) → AreContents (input_decls p) files → AreFiles p (timed_files files)
+pub files-are : (p : Program) (files : List FileContent) → AreContents (input_decls p) files → AreFiles p (timed_files files)
 files-are [] [] h = tt
 files-are [] (f ∷ files) h = absurd h
 files-are (Register name fields ∷ ps) [] h = absurd h
@@ -52,7 +52,7 @@ files-are (Register name fields ∷ ps) (Timed rows ∷ files) h = (widths-are (
 files-are (AQuery q ∷ ps) files h = files-are ps files h
 
 -- and its items are batches at the instants
-items-are : (ts : List ℤ) (p : Program) (files : List Content) → AreContents (input_decls p) files
+items-are : (ts : List ℤ) (p : Program) (files : List FileContent) → AreContents (input_decls p) files
     → map (items_at ts) files ≡ map (λ f. base.spread ts (base.at_instant f)) (timed_files files)
 items-are ts [] [] h = refl
 items-are ts [] (f ∷ files) h = absurd h
@@ -61,14 +61,14 @@ items-are ts (Register name fields ∷ ps) (Plain rows ∷ files) h = absurd h.0
 items-are ts (Register name fields ∷ ps) (Timed rows ∷ files) h = ap (λ l. base.spread ts (base.at_instant rows) ∷ l) (items-are ts ps files h.1)
 items-are ts (AQuery q ∷ ps) files h = items-are ts ps files h
 
-program_means : (text : List ℕ) (p : List Part) → compiled text ≡ Ok p → (files : List Content) → AreContents (input_decls p) files
+program_means : (text : List ℕ) (p : List UnitForm) → compiled text ≡ Ok p → (files : List FileContent) → AreContents (input_decls p) files
     → meaning (plan_of p) (all_items files) ≡ (cql_source p).means files
 program_means text p e files h =
     let timed = timed_files files in
     let items : all_items files ≡ inputs_for timed = items-are (base.instants timed) p files h in
     ap (meaning (plan_of p)) items ∙ (plans_mean text p e).1 timed (files-are p files h)
 
-program_plan : (text : List ℕ) (p : List Part) → compiled text ≡ Ok p → IsPlanOf (cql_source p) (plan_of p)
+program_plan : (text : List ℕ) (p : List UnitForm) → compiled text ≡ Ok p → IsPlanOf (cql_source p) (plan_of p)
 program_plan text p e = record { plan = refl; inputs = refl; outputs = outputs-are [] p; tables = refl; means = program_means text p e }
 
 -- the program and the plan that were compiled stand for what the text means
@@ -76,7 +76,7 @@ pub cql-compiled : (text : List ℕ) (t : CqlProgram) (plan : PlanForm) → Plan
     → StandsFor (IsCompiled (λ s t. IsCql s (program_of t))) (source_or_refused cql_source cql_words (compiled text))
     (record { plan = plan; caps = []; program = t })
 cql-compiled text t plan h =
-    subst (λ (r : Result (List Part) CqlFault). StandsFor (IsCompiled (λ s t. IsCql s (program_of t))) (source_or_refused cql_source cql_words r)
+    subst (λ (r : Result (List UnitForm) CqlFault). StandsFor (IsCompiled (λ s t. IsCql s (program_of t))) (source_or_refused cql_source cql_words r)
     (record { plan = plan; caps = []; program = t }))
     (sym h.accepted)
     (record {

@@ -7,7 +7,7 @@ use Rattle.river_plan.specs.Caps.{IsCap}
 use Rattle.river_plan.specs.Forms.{PlanForm}
 use Rattle.river_plan.specs.declared.caps.Cap.{Cap}
 use Rattle.brooklet_model.specs.Meaning.{meaning}
-use Rattle.streamit_model.specs.Build.{plan_of}
+use Rattle.streamit_model.specs.Plan.{plan_of}
 use Rattle.streamit_model.specs.Laws.{as_items}
 use Rattle.streamit_text.specs.Program as streamit_tree
 use Rattle.streamit_front.specs.declared.program.StreamitProgram.{StreamitProgram}
@@ -20,11 +20,11 @@ use Rattle.river_road.specs.Contents.{AreContents}
 use Rattle.river_road.specs.Inputs.{all_items}
 use Rattle.river_road.specs.Source.{source_or_refused, IsPlanOf, IsCompiled}
 use Rattle.river_langs.specs.Sources.{params_source, values, IsStreamit}
-use Rattle.river_road.specs.declared.content.Content.{Content}
-use Rattle.river_road.specs.declared.content.Content.TheVariants.{Rows as Plain, Timed}
+use Rattle.river_road.specs.declared.content.FileContent.{FileContent}
+use Rattle.river_road.specs.declared.content.FileContent.TheVariants.{Rows as Plain, Timed}
 use Rattle.river_langs.proofs.Single.{values-are}
 
-params_mean : (text : List ℕ) (a : params.Accepted) → params.compiled text ≡ Ok a → (files : List Content) → AreContents (plan_of a.stream).inputs files
+params_mean : (text : List ℕ) (a : params.Accepted) → params.compiled text ≡ Ok a → (files : List FileContent) → AreContents (plan_of a.stream).inputs files
     → meaning (plan_of a.stream) (all_items files) ≡ (params_source a).means files
 params_mean text a e [] t = absurd t
 params_mean text a e (f ∷ g ∷ more) t = absurd t.1
@@ -34,12 +34,12 @@ params_mean text a e (Plain r ∷ []) t =
 
 -- the plan that was compiled is the program's, and the plain program means what the program means
 pub params-compiled : (text : List ℕ) (tree : params_tree.ParamProgram) (t : StreamitProgram) (plan : PlanForm)
-    → params.Plans (params.compiled text) tree (streamit_tree.program_of t.units.items) plan
-    → StandsFor (IsCompiled (λ s t. IsStreamit s (streamit_tree.program_of t.units.items)))
+    → params.Plans (params.compiled text) tree (streamit_tree.unit_forms t.units.items) plan
+    → StandsFor (IsCompiled (λ s t. IsStreamit s (streamit_tree.unit_forms t.units.items)))
     (source_or_refused params_source params_words (params.compiled text)) (record { plan = plan; caps = []; program = t })
 params-compiled text tree t plan (s, is, made) =
-    let a : params.Accepted = record { tree = tree; program = streamit_tree.program_of t.units.items; stream = s } in
-    subst (λ (r : Result params.Accepted ParamFault). StandsFor (IsCompiled (λ s t. IsStreamit s (streamit_tree.program_of t.units.items)))
+    let a : params.Accepted = record { tree = tree; program = streamit_tree.unit_forms t.units.items; stream = s } in
+    subst (λ (r : Result params.Accepted ParamFault). StandsFor (IsCompiled (λ s t. IsStreamit s (streamit_tree.unit_forms t.units.items)))
     (source_or_refused params_source params_words r) (record { plan = plan; caps = []; program = t })) (sym is)
     (record {
       planned = record {

@@ -24,8 +24,8 @@ use Rattle.saw_front.specs.declared.fault.SawFault.{SawFault}
 use Rattle.saw_front.specs.declared.program.SawProgram.{SawProgram}
 use Rattle.saw_front.proofs.Fronts.{compiled-valued, compiled-judged, plans_mean as saw_plans_mean}
 use Rattle.saw_text.specs.Tree.{unit_forms}
-use Rattle.river_road.specs.declared.content.Content.{Content}
-use Rattle.river_road.specs.declared.content.Content.TheVariants.{Rows as Plain, Timed}
+use Rattle.river_road.specs.declared.content.FileContent.{FileContent}
+use Rattle.river_road.specs.declared.content.FileContent.TheVariants.{Rows as Plain, Timed}
 
 -- rows of the width are read whole
 taken : (n : ℕ) (row : List ℤ) → length row ≡ n → take n row ≡ row
@@ -38,7 +38,7 @@ rows-are n (row ∷ r) t =
     let here : row ≡ take n row = sym (taken n row (All-head (λ l. length l ≡ n) row r t)) in
     λ i. Flat (One (here i)) ∷ later i
 
-plan_means : (text : List ℕ) (a : saw.Accepted) → saw.compiled text ≡ Ok a → (files : List Content) → AreContents (saw.plan_in a).inputs files
+plan_means : (text : List ℕ) (a : saw.Accepted) → saw.compiled text ≡ Ok a → (files : List FileContent) → AreContents (saw.plan_in a).inputs files
     → meaning (saw.plan_in a) (all_items files) ≡ (saw_source a).means files
 plan_means text a e [] t = absurd t
 plan_means text a e (f ∷ g ∷ more) t = absurd t.1

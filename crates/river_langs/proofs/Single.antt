@@ -7,7 +7,7 @@ use Rattle.river_base.specs.Held.{HaveWidth}
 use Rattle.streamit_model.specs.Laws.{as_items}
 use Rattle.kern_rows.specs.Even.{row_items}
 use Rattle.river_langs.specs.Sources.{values}
-use Rattle.river_road.specs.declared.content.Content.TheVariants.{Rows as Plain}
+use Rattle.river_road.specs.declared.content.FileContent.TheVariants.{Rows as Plain}
 
 -- rows of one value are the items of their values
 pub values-are : (r : List (List ℤ)) → HaveWidth 1 r → row_items r ≡ as_items (values (Plain r ∷ []))

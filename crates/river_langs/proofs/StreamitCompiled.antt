@@ -7,7 +7,7 @@ use Rattle.river_plan.specs.Caps.{IsCap}
 use Rattle.river_plan.specs.Forms.{PlanForm}
 use Rattle.river_plan.specs.declared.caps.Cap.{Cap}
 use Rattle.brooklet_model.specs.Meaning.{meaning}
-use Rattle.streamit_model.specs.Build.{plan_of}
+use Rattle.streamit_model.specs.Plan.{plan_of}
 use Rattle.streamit_front.specs.Meaning.{Accepted, compiled, Plans}
 use Rattle.streamit_front.specs.Words.{streamit_words}
 use Rattle.streamit_front.specs.declared.fault.StreamitFault.{StreamitFault}
@@ -18,11 +18,11 @@ use Rattle.river_road.specs.Contents.{AreContents}
 use Rattle.river_road.specs.Inputs.{all_items}
 use Rattle.river_road.specs.Source.{source_or_refused, IsPlanOf, IsCompiled}
 use Rattle.river_langs.specs.Sources.{streamit_source, values, IsStreamit}
-use Rattle.river_road.specs.declared.content.Content.{Content}
-use Rattle.river_road.specs.declared.content.Content.TheVariants.{Rows as Plain, Timed}
+use Rattle.river_road.specs.declared.content.FileContent.{FileContent}
+use Rattle.river_road.specs.declared.content.FileContent.TheVariants.{Rows as Plain, Timed}
 use Rattle.river_langs.proofs.Single.{values-are}
 
-program_means : (text : List ℕ) (a : Accepted) → compiled text ≡ Ok a → (files : List Content) → AreContents (plan_of a.stream).inputs files
+program_means : (text : List ℕ) (a : Accepted) → compiled text ≡ Ok a → (files : List FileContent) → AreContents (plan_of a.stream).inputs files
     → meaning (plan_of a.stream) (all_items files) ≡ (streamit_source a).means files
 program_means text a e [] t = absurd t
 program_means text a e (f ∷ g ∷ more) t = absurd t.1
@@ -33,12 +33,12 @@ program_plan : (text : List ℕ) (a : Accepted) → compiled text ≡ Ok a → I
 program_plan text a e = record { plan = refl; inputs = refl; outputs = refl; tables = refl; means = program_means text a e }
 
 -- the plan that was compiled is the program's, and so is the tree
-pub streamit-compiled : (text : List ℕ) (t : StreamitProgram) (plan : PlanForm) → Plans (compiled text) (streamit_tree.program_of t.units.items) plan
-    → StandsFor (IsCompiled (λ s t. IsStreamit s (streamit_tree.program_of t.units.items)))
+pub streamit-compiled : (text : List ℕ) (t : StreamitProgram) (plan : PlanForm) → Plans (compiled text) (streamit_tree.unit_forms t.units.items) plan
+    → StandsFor (IsCompiled (λ s t. IsStreamit s (streamit_tree.unit_forms t.units.items)))
     (source_or_refused streamit_source streamit_words (compiled text)) (record { plan = plan; caps = []; program = t })
 streamit-compiled text t plan (s, is, made) =
-    let a : Accepted = record { program = streamit_tree.program_of t.units.items; stream = s } in
-    subst (λ (r : Result Accepted StreamitFault). StandsFor (IsCompiled (λ s t. IsStreamit s (streamit_tree.program_of t.units.items)))
+    let a : Accepted = record { program = streamit_tree.unit_forms t.units.items; stream = s } in
+    subst (λ (r : Result Accepted StreamitFault). StandsFor (IsCompiled (λ s t. IsStreamit s (streamit_tree.unit_forms t.units.items)))
     (source_or_refused streamit_source streamit_words r) (record { plan = plan; caps = []; program = t })) (sym is)
     (record {
       planned = record {

@@ -6,7 +6,7 @@ use Rattle.saw_front.specs.Meaning.{Accepted, compiled, plan_in}
 use Rattle.river_road.specs.Load.{load_program, load_script, load_records}
 use Rattle.river_road.specs.Points.{load_supplied}
 use Rattle.river_road.specs.Source.{SourceProgram}
-use Rattle.river_road.specs.declared.content.Content.TheVariants.{Rows as Plain}
+use Rattle.river_road.specs.declared.content.FileContent.TheVariants.{Rows as Plain}
 use Rattle.river_langs.specs.Sources.{saw_in, saw_source}
 
 -- a Sawzall program with this plan in place of its own

@@ -5,7 +5,7 @@ use Rattle.river_text.specs.Meaning.{plan_in}
 use Rattle.river_text.specs.Plans.{TextForm}
 use Rattle.river_text.specs.Words.{river_words}
 use Rattle.brooklet_model.specs.Meaning.{Results, meaning}
-use Rattle.streamit_model.specs.Build.{plan_of, values_in}
+use Rattle.streamit_model.specs.Plan.{plan_of, values_in}
 use Rattle.streamit_model.specs.Laws.{as_items}
 use Rattle.streamit_model.specs.Meaning.{program_outputs}
 use Rattle.streamit_text.specs.Program as streamit
@@ -17,24 +17,24 @@ use Rattle.params_model.specs.Meaning.{params_outputs}
 use Rattle.params_front.specs.Meaning as params_front
 use Rattle.params_front.specs.Words.{params_words}
 use Rattle.cql_model.specs.Instants.{program_means}
-use Rattle.cql_text.specs.Tree.{Register, AQuery, Part}
+use Rattle.cql_text.specs.Tree.{Register, AQuery, UnitForm}
 use Rattle.cql_text.specs.Tree as cql_text
-use Rattle.cql_model.specs.Translation.{input_decls}
-use Rattle.cql_model.specs.Translation as cql
+use Rattle.cql_model.specs.Plan.{input_decls}
+use Rattle.cql_model.specs.Plan as cql
 use Rattle.cql_front.specs.Meaning as cql_front
 use Rattle.cql_front.specs.Words.{cql_words}
 use Rattle.river_kernels.specs.Fits.{rows}
 use Rattle.saw_model.specs.Meaning.{tables_in, width, program_tables}
 use Rattle.saw_text.specs.Tree as saw_text
-use Rattle.saw_build.specs.Valued.{AreValuedParts}
+use Rattle.saw_build.specs.Valued.{AreValuedUnits}
 use Rattle.slow_cql.specs.Contents.{HaveColumns}
 use Rattle.slow_sawzall.specs.Sawzall.{IsAccepted}
 use Rattle.saw_front.specs.Meaning as saw
 use Rattle.saw_front.specs.Words.{saw_words}
 use Rattle.river_road.specs.Inputs.{timed_files, all_items}
 use Rattle.river_road.specs.Source.{SourceProgram, source_or_refused}
-use Rattle.river_road.specs.declared.content.Content.{Content}
-use Rattle.river_road.specs.declared.content.Content.TheVariants.{Rows as Plain, Timed}
+use Rattle.river_road.specs.declared.content.FileContent.{FileContent}
+use Rattle.river_road.specs.declared.content.FileContent.TheVariants.{Rows as Plain, Timed}
 
 -- the program of a River text is its plan
 abbrev pub river_source : TextForm → SourceProgram
@@ -52,12 +52,12 @@ abbrev pub first_of_rows : List (List ℤ) → List ℤ
 first_of_rows rows = map (λ row. slice_index_or row 0 (pos 0)) rows
 
 -- the values of the first input, of which each row has one
-abbrev pub values : List Content → List ℤ
+abbrev pub values : List FileContent → List ℤ
 values [] = []
 values (Plain rows ∷ others) = first_of_rows rows
 values (Timed rows ∷ others) = []
 
-abbrev pub streamit_means : streamit.Program → List Content → Results
+abbrev pub streamit_means : streamit.Program → List FileContent → Results
 streamit_means p files = record { outs = as_items (program_outputs p (values files)) ∷ []; tables = [] }
 
 -- a StreamIt program, by its own definition
@@ -71,7 +71,7 @@ streamit_source a = record {
   caps = [];
 }
 
-abbrev pub params_means : params.ParamProgram → List Content → Results
+abbrev pub params_means : params.ParamProgram → List FileContent → Results
 params_means p files = record { outs = as_items (params_outputs p (values files)) ∷ []; tables = [] }
 
 -- a StreamIt program with parameters, by its own definition
@@ -86,12 +86,12 @@ params_source a = record {
 }
 
 -- the rows of the first input, which are the first fields of its records
-abbrev pub records : List Content → List (List ℤ)
+abbrev pub records : List FileContent → List (List ℤ)
 records [] = []
 records (Plain rows ∷ others) = rows
 records (Timed rows ∷ others) = []
 
-abbrev pub saw_means : saw_text.Program → List Content → Results
+abbrev pub saw_means : saw_text.Program → List FileContent → Results
 saw_means p files = record { outs = []; tables = program_tables p (records files) }
 
 -- a Sawzall program, by its own definition
@@ -111,11 +111,11 @@ asked_names [] = []
 asked_names (Register name fields ∷ ps) = asked_names ps
 asked_names (AQuery q ∷ ps) = q.name ∷ asked_names ps
 
-abbrev pub cql_means : cql_text.Program → List Content → Results
+abbrev pub cql_means : cql_text.Program → List FileContent → Results
 cql_means p files = record { outs = program_means p (timed_files files); tables = [] }
 
 -- a CQL program, by its own definition: a registered stream is an input, and a query an output
-abbrev pub cql_source : List Part → SourceProgram
+abbrev pub cql_source : List UnitForm → SourceProgram
 cql_source p = record {
   inputs = input_decls p;
   outputs = asked_names p;
@@ -148,14 +148,14 @@ cql_in text = source_or_refused cql_source cql_words (cql_front.compiled text)
 -- this is the program as it was read: it is accepted, and the meaning is its own
 pub record IsStreamit (s : SourceProgram) (p : streamit.Program) : Type 0 where
   pub readable : AreReadable p
-  pub means : (files : List Content) → s.means files ≡ streamit_means p files
+  pub means : (files : List FileContent) → s.means files ≡ streamit_means p files
 
 pub record IsSawzall (s : SourceProgram) (p : saw_text.Program) : Type 0 where
   pub accepted : IsAccepted p
-  pub valued : AreValuedParts p
-  pub means : (files : List Content) → s.means files ≡ saw_means p files
+  pub valued : AreValuedUnits p
+  pub means : (files : List FileContent) → s.means files ≡ saw_means p files
 
 pub record IsCql (s : SourceProgram) (p : cql_text.Program) : Type 0 where
   pub columns : HaveColumns [] p
   pub inputs : s.inputs ≡ input_decls p
-  pub means : (files : List Content) → s.means files ≡ cql_means p files
+  pub means : (files : List FileContent) → s.means files ≡ cql_means p files

@@ -10,7 +10,7 @@ use cql_text::CqlProgram;
 use river_base::{Bytes, Listed, NoMemory};
 use river_order::Stop;
 use river_plan::Caps;
-use river_road::{Compiled, Content, Language, refused_program};
+use river_road::{Compiled, FileContent, Language, refused_program};
 use slow_mean::mean_cql;
 use std::alloc::Global;
 
@@ -46,7 +46,7 @@ impl Language for Cql {
     fn mean(
         alloc: Global,
         compiled: &Compiled<CqlProgram>,
-        files: Listed<Content>,
+        files: Listed<FileContent>,
     ) -> Result<Outcome, NoMemory> {
         mean_cql(alloc, &compiled.program, &timed_files_of(alloc, files)?)
     }

@@ -12,6 +12,6 @@ mod streamit;
 
 pub use cql::Cql;
 pub use params::Params;
-pub use plan_text::RiverText;
+pub use plan_text::River;
 pub use sawzall::Sawzall;
 pub use streamit::Streamit;

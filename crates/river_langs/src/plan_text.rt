@@ -6,15 +6,15 @@ use brooklet_run::run_lines;
 use brooklet_step::Outcome;
 use river_base::{Bytes, Listed, NoMemory};
 use river_order::Stop;
-use river_road::{Compiled, Content, Language, inputs_of, refused_program};
+use river_road::{Compiled, FileContent, Language, inputs_of, refused_program};
 use river_text::{RiverFault, RiverPlan, compile_river};
 use std::alloc::Global;
 
 /// River text, which is a plan; it alone gives capacities to queues.
 #[derive(Clone, Copy)]
-pub struct RiverText;
+pub struct River;
 
-impl Language for RiverText {
+impl Language for River {
     type Program = ();
 
     ghost source = { river_in };
@@ -42,7 +42,7 @@ impl Language for RiverText {
     fn mean(
         alloc: Global,
         compiled: &Compiled<()>,
-        files: Listed<Content>,
+        files: Listed<FileContent>,
     ) -> Result<Outcome, NoMemory> {
         run_lines(alloc, &compiled.plan, inputs_of(alloc, files)?)
     }

@@ -5,15 +5,15 @@ ghost use Rattle.river_langs.specs.Sources.{first_of_rows, records};
 
 use kern_rows::EvenRows;
 use river_base::{Listed, NoMemory, Numbers, Rows, TimedFiles};
-use river_road::Content;
+use river_road::FileContent;
 use std::alloc::Global;
 
 /// The rows of the first input.
-pub(crate) fn rows_of(alloc: Global, files: Listed<Content>) -> EvenRows
+pub(crate) fn rows_of(alloc: Global, files: Listed<FileContent>) -> EvenRows
     ensures { result ≡ records files }
 {
     match files.into_vec().into_iter().next() {
-        Some(Content::Rows(rows)) => rows,
+        Some(FileContent::Rows(rows)) => rows,
         _ => EvenRows::new(alloc),
     }
 }
@@ -41,7 +41,7 @@ pub(crate) fn listed(alloc: Global, mut rows: EvenRows) -> Result<Rows, NoMemory
 }
 
 /// The rows of the files whose rows have timestamps.
-pub(crate) fn timed_files_of(alloc: Global, files: Listed<Content>) -> Result<TimedFiles, NoMemory>
+pub(crate) fn timed_files_of(alloc: Global, files: Listed<FileContent>) -> Result<TimedFiles, NoMemory>
     ensures { IfOk result (λ all. all ≡ inputs.timed_files files) }
 {
     let mut all = TimedFiles::new(alloc);
@@ -52,12 +52,12 @@ pub(crate) fn timed_files_of(alloc: Global, files: Listed<Content>) -> Result<Ti
 }
 
 // A file comes to the others, if its rows have timestamps.
-fn add_timed(file: Content, all: &mut TimedFiles) -> Result<(), NoMemory>
+fn add_timed(file: FileContent, all: &mut TimedFiles) -> Result<(), NoMemory>
     ensures { OnOk result (all.new ≡ all.old ++ inputs.timed_files (file ∷ [])) }
 {
     match file {
-        Content::Rows(_) => Ok(()),
-        Content::Timed(rows) => {
+        FileContent::Rows(_) => Ok(()),
+        FileContent::Timed(rows) => {
             all.push(rows)?;
             Ok(())
         }

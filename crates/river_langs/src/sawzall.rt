@@ -8,7 +8,7 @@ use brooklet_step::Outcome;
 use river_base::{Bytes, Listed, NoMemory};
 use river_order::Stop;
 use river_plan::Caps;
-use river_road::{Compiled, Content, Language, refused_program};
+use river_road::{Compiled, FileContent, Language, refused_program};
 use saw_front::{SawFault, SawProgram, compile_sawzall};
 use slow_mean::mean_sawzall;
 use std::alloc::Global;
@@ -45,7 +45,7 @@ impl Language for Sawzall {
     fn mean(
         alloc: Global,
         compiled: &Compiled<SawProgram>,
-        files: Listed<Content>,
+        files: Listed<FileContent>,
     ) -> Result<Outcome, NoMemory> {
         mean_sawzall(
             alloc,

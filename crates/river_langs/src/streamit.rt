@@ -1,14 +1,14 @@
 // StreamIt as a language of the road.
 ghost use Rattle.std.specs.Prelude.{false};
 ghost use Rattle.river_langs.specs.Sources.{streamit_in, IsStreamit};
-ghost use Rattle.streamit_text.specs.Program.{program_of};
+ghost use Rattle.streamit_text.specs.Program.{unit_forms};
 
 use crate::records::{rows_of, values_of};
 use brooklet_step::Outcome;
 use river_base::{Bytes, Listed, NoMemory};
 use river_order::Stop;
 use river_plan::Caps;
-use river_road::{Compiled, Content, Language, refused_program};
+use river_road::{Compiled, FileContent, Language, refused_program};
 use slow_mean::mean_streamit;
 use std::alloc::Global;
 use streamit_front::{StreamitFault, StreamitProgram, compile_streamit};
@@ -22,7 +22,7 @@ impl Language for Streamit {
 
     ghost source = { streamit_in };
 
-    ghost stands = { λ s t. IsStreamit s (program_of t.units.items) };
+    ghost stands = { λ s t. IsStreamit s (unit_forms t.units.items) };
 
     ghost more = { false };
 
@@ -45,7 +45,7 @@ impl Language for Streamit {
     fn mean(
         alloc: Global,
         compiled: &Compiled<StreamitProgram>,
-        files: Listed<Content>,
+        files: Listed<FileContent>,
     ) -> Result<Outcome, NoMemory> {
         mean_streamit(
             alloc,

@@ -8,12 +8,12 @@ use Rattle.river_plan.specs.Forms.{decl_names}
 use Rattle.river_plan.specs.Names.{count, one_if}
 use Rattle.river_plan.proofs.NameLemmas.{name_same, name_sym}
 use Rattle.river_road.specs.Inputs.{content_named, contents_in_order, NamesPlace}
-use Rattle.river_road.specs.declared.content.Content.{Content}
-use Rattle.river_road.specs.declared.content.Content.TheVariants.{Rows as Plain}
+use Rattle.river_road.specs.declared.content.FileContent.{FileContent}
+use Rattle.river_road.specs.declared.content.FileContent.TheVariants.{Rows as Plain}
 use Rattle.command_line.specs.declared.command.InWord.{InWord}
 
 -- another content at the place of a word is none of another name
-pub other-kept : (ins : List InWord) (all : List Content) (i : ℕ) (w : InWord) (x : Content) (q : List ℕ) → i < length ins → w ≡ get_or ins i w
+pub other-kept : (ins : List InWord) (all : List FileContent) (i : ℕ) (w : InWord) (x : FileContent) (q : List ℕ) → i < length ins → w ≡ get_or ins i w
     → name_eq w.name q ≡ false
     → content_named ins (slice_set all i x) q ≡ content_named ins all q
 other-kept [] all i w x q lt e other = absurd (omega (arith, lt))
@@ -25,7 +25,7 @@ other-kept (v ∷ ins) (content ∷ all) (suc i) w x q lt e other =
     ap (λ t. if name_eq v.name q then content else t) (other-kept ins all i w x q (omega (arith, lt)) e other)
 
 -- the content at the place of the first word of a name
-pub named-at : (ins : List InWord) (all : List Content) (name : List ℕ) (i : ℕ) (w : InWord) (whole d : Content) → i < length ins → length all ≡ length ins
+pub named-at : (ins : List InWord) (all : List FileContent) (name : List ℕ) (i : ℕ) (w : InWord) (whole d : FileContent) → i < length ins → length all ≡ length ins
     → w ≡ get_or ins i w
     → name_eq w.name name ≡ true → content_named (drop i ins) (drop i all) name ≡ whole → whole ≡ get_or all i d
 named-at ins all name i w whole d lt same w_is here so_far =
@@ -38,12 +38,12 @@ named-at ins all name i w whole d lt same w_is here so_far =
     ∙ ap (λ b. if b then get_or all i d else content_named rest (drop (i + 1) all) name) here
 
 -- no word is left
-pub named-none : (ins : List InWord) (all : List Content) (name : List ℕ) (i : ℕ) (whole : Content) → length ins ≤ i
+pub named-none : (ins : List InWord) (all : List FileContent) (name : List ℕ) (i : ℕ) (whole : FileContent) → length ins ≤ i
     → content_named (drop i ins) (drop i all) name ≡ whole → whole ≡ Plain []
 named-none ins all name i whole le so_far = sym so_far ∙ ap (λ l. content_named l (drop i all) name) (drop_all i ins le)
 
 -- another content stands at the place of a name
-pub taken-there : (ins : List InWord) (all : List Content) (name : List ℕ) (i : ℕ) (x : Content) (q : List ℕ) → NamesPlace ins name i → name_eq name q ≡ false
+pub taken-there : (ins : List InWord) (all : List FileContent) (name : List ℕ) (i : ℕ) (x : FileContent) (q : List ℕ) → NamesPlace ins name i → name_eq name q ≡ false
     → content_named ins (slice_set all i x) q ≡ content_named ins all q
 taken-there ins all name i x q p other = other-kept ins all i p.word x q p.within p.word_is (ap (λ n. name_eq n q) p.named ∙ other)
 
@@ -52,7 +52,7 @@ no_name true n e = absurd (omega (arith, e))
 no_name false n e = (refl, omega (arith, e))
 
 -- inputs of other names have what they had
-others-kept : (ds : List Decl) (ins : List InWord) (all all' : List Content) (name : List ℕ) → count name (decl_names ds) ≡ 0
+others-kept : (ds : List Decl) (ins : List InWord) (all all' : List FileContent) (name : List ℕ) → count name (decl_names ds) ≡ 0
     → ((q : List ℕ) → name_eq name q ≡ false → content_named ins all' q ≡ content_named ins all q)
     → contents_in_order ds ins all' ≡ contents_in_order ds ins all
 others-kept [] ins all all' name none same = refl
@@ -82,7 +82,7 @@ later_apart (v ∷ ds) (suc i) d lt e apart =
     ∙ later_apart ds i d (omega (arith, lt)) e (λ q. less (name_eq v.name q) (count q (decl_names ds)) (apart q))
 
 -- one input more has what the words give to it
-pub arranged-next : (ds : List Decl) (ins : List InWord) (all all' files files' whole : List Content) (i : ℕ) (d : Decl) (x : Content) → i < length ds
+pub arranged-next : (ds : List Decl) (ins : List InWord) (all all' files files' whole : List FileContent) (i : ℕ) (d : Decl) (x : FileContent) → i < length ds
     → d ≡ get_or ds i d
     → ((q : List ℕ) → count q (decl_names ds) ≤ 1) → x ≡ content_named ins all d.name
     → ((q : List ℕ) → name_eq d.name q ≡ false → content_named ins all' q ≡ content_named ins all q)
@@ -98,7 +98,7 @@ arranged-next ds ins all all' files files' whole i d x lt is apart taken others 
     ∙ so_far
 
 -- all inputs have it
-pub arranged-all : (ds : List Decl) (ins : List InWord) (all files whole : List Content) (i : ℕ) → length ds ≤ i
+pub arranged-all : (ds : List Decl) (ins : List InWord) (all files whole : List FileContent) (i : ℕ) → length ds ≤ i
     → files ++ contents_in_order (drop i ds) ins all ≡ whole
     → files ≡ whole
 arranged-all ds ins all files whole i le so_far =

@@ -23,19 +23,19 @@ use Rattle.csv_streams.proofs.TimedWritten.{timed_have_width}
 use Rattle.csv_streams.proofs.WrittenRows.{read_rows-width}
 use Rattle.river_road.specs.Contents.{IsContent, AreContents}
 use Rattle.river_road.specs.Inputs.{names, names_fit, or_told, read_as, file_content, content_reader, file_read, with_first, all_read, content_named, contents_in_order}
-use Rattle.river_road.specs.declared.content.Content.{Content}
-use Rattle.river_road.specs.declared.content.Content.TheVariants.{Rows as Plain, Timed}
+use Rattle.river_road.specs.declared.content.FileContent.{FileContent}
+use Rattle.river_road.specs.declared.content.FileContent.TheVariants.{Rows as Plain, Timed}
 use Rattle.command_line.specs.declared.command.InWord.{InWord}
 use Rattle.river_road.specs.declared.layout.Layout.{Layout}
 use Rattle.river_road.proofs.Inputs.{IsNamed, all-named}
 
 -- WHAT IS READ FITS ITS TYPE
 
-was_read : {A : Type 0} (content : A → Content) (r : Result A InFault) (x : Content) → read_as content r ≡ Ok x → (y : A) × (r ≡ Ok y) × (x ≡ content y)
+was_read : {A : Type 0} (content : A → FileContent) (r : Result A InFault) (x : FileContent) → read_as content r ≡ Ok x → (y : A) × (r ≡ Ok y) × (x ≡ content y)
 was_read content (Ok y) x e = let is : x ≡ content y = cc in (y, refl, is)
 was_read content (Err f) x e = cc
 
-content_is : (t : QueueType) (layout : Layout) (bytes : List ℕ) (x : Content) → IsRowsOrStream t → file_content t layout bytes ≡ Ok x → IsContent t x
+content_is : (t : QueueType) (layout : Layout) (bytes : List ℕ) (x : FileContent) → IsRowsOrStream t → file_content t layout bytes ≡ Ok x → IsContent t x
 content_is (FlatOf (Rows w)) layout bytes x o e =
     let (rs, read, is) = was_read Plain (rows_of_file bytes w layout.header layout.more) x e in
     subst (IsContent (FlatOf (Rows w))) (sym is) (read_rows-width bytes w layout.header layout.more rs read)
@@ -45,18 +45,18 @@ content_is (FlatOf (Stream w)) layout bytes x o e =
 content_is (FlatOf (Relation w)) layout bytes x o e = absurd o
 content_is (PackOf t) layout bytes x o e = absurd o
 
-told_content : (name : List ℕ) (r : Result Content InFault) (x : Content) → or_told name r ≡ Ok x → r ≡ Ok x
-told_content name (Ok y) x e = let is : y ≡ x = cc in ap (λ (c : Content). Ok c) is
+told_content : (name : List ℕ) (r : Result FileContent InFault) (x : FileContent) → or_told name r ≡ Ok x → r ≡ Ok x
+told_content name (Ok y) x e = let is : y ≡ x = cc in ap (λ (c : FileContent). Ok c) is
 told_content name (Err f) x e = cc
 
-first_and_others : (r : Result Content (List ℕ)) (later : Result (List Content) (List ℕ)) (all : List Content) → with_first r later ≡ Ok all
-    → (x : Content) × (others : List Content) × (r ≡ Ok x) × (later ≡ Ok others) × (all ≡ x ∷ others)
+first_and_others : (r : Result FileContent (List ℕ)) (later : Result (List FileContent) (List ℕ)) (all : List FileContent) → with_first r later ≡ Ok all
+    → (x : FileContent) × (others : List FileContent) × (r ≡ Ok x) × (later ≡ Ok others) × (all ≡ x ∷ others)
 first_and_others (Err text) later all e = cc
 first_and_others (Ok x) (Err text) all e = cc
 first_and_others (Ok x) (Ok others) all e = let is : all ≡ x ∷ others = cc in (x, others, refl, refl, is)
 
 module _ (decls : List Decl) (layout : Layout) where
-  named_content : (ins : List InWord) (files : List (List ℕ)) (all : List Content) (name : List ℕ) → length files ≡ length ins
+  named_content : (ins : List InWord) (files : List (List ℕ)) (all : List FileContent) (name : List ℕ) → length files ≡ length ins
       → all_read (content_reader decls layout) ins files ≡ Ok all
       → 0 < count name (names ins) → IsRowsOrStream (kind_of decls name) → IsContent (kind_of decls name) (content_named ins all name)
   named_content [] files all name same e lt o = absurd (omega (arith, lt))
@@ -109,7 +109,7 @@ inputs-apart p v q =
 
 -- EACH INPUT HAS A CONTENT OF ITS TYPE
 
-module _ (decls : List Decl) (layout : Layout) (ins : List InWord) (files : List (List ℕ)) (all : List Content)
+module _ (decls : List Decl) (layout : Layout) (ins : List InWord) (files : List (List ℕ)) (all : List FileContent)
     (same : length files ≡ length ins) (read : all_read (content_reader decls layout) ins files ≡ Ok all) where
   each_content : (ds : List Decl) → Known (kind_of decls) ds → All IsOuter ds → All (λ d. IsNamed ins d) ds → AreContents ds (contents_in_order ds ins all)
   each_content [] k o n = tt
@@ -121,7 +121,7 @@ module _ (decls : List Decl) (layout : Layout) (ins : List InWord) (files : List
       )
 
 -- the files that were read have what the inputs ask
-pub read-contents : (decls : List Decl) (layout : Layout) (ins : List InWord) (files : List (List ℕ)) (result : Result (List Content) Stop) → All IsOuter decls
+pub read-contents : (decls : List Decl) (layout : Layout) (ins : List InWord) (files : List (List ℕ)) (result : Result (List FileContent) Stop) → All IsOuter decls
     → ((q : Name) → count q (decl_names decls) ≤ 1)
     → names_fit decls ins ≡ Ok tt → length files ≡ length ins
     → AnswersAs (λ all contents. contents ≡ contents_in_order decls ins all) (all_read (content_reader decls layout) ins files) result
@@ -129,7 +129,7 @@ pub read-contents : (decls : List Decl) (layout : Layout) (ins : List InWord) (f
 read-contents decls layout ins files (Err s) o apart fit same told = tt
 read-contents decls layout ins files (Ok contents) o apart fit same told = by (all_read (content_reader decls layout) ins files) refl told
   where
-    by : (r : Result (List Content) (List ℕ)) → all_read (content_reader decls layout) ins files ≡ r
+    by : (r : Result (List FileContent) (List ℕ)) → all_read (content_reader decls layout) ins files ≡ r
         → StandsFor (λ all found. found ≡ contents_in_order decls ins all) r contents → AreContents decls contents
     by (Ok all) is told =
         subst (AreContents decls) (sym told) (each_content decls layout ins files all same is decls (known_all decls apart) o (all-named decls ins fit))

@@ -21,8 +21,8 @@ use Rattle.river_plan.specs.Names.{count}
 use Rattle.river_road.specs.Inputs.{names, unknown, missing, first_told, names_fit, Reader, file_read, fetch_each, width_named, content_reader, with_first}
 use Rattle.river_road.specs.Inputs.{all_read, content_named, contents_in_order, of_inputs}
 use Rattle.river_road.specs.Text.{unknown_input, missing_input}
-use Rattle.river_road.specs.declared.content.Content.{Content}
-use Rattle.river_road.specs.declared.content.Content.TheVariants.{Rows as Plain}
+use Rattle.river_road.specs.declared.content.FileContent.{FileContent}
+use Rattle.river_road.specs.declared.content.FileContent.TheVariants.{Rows as Plain}
 use Rattle.command_line.specs.declared.command.InWord.{InWord}
 use Rattle.river_road.specs.declared.layout.Layout.{Layout}
 
@@ -169,7 +169,7 @@ module _ {A : Type 0} (reader : Reader A) (ins : List InWord) (files : List (Lis
       sym so_far ∙ ap (λ l. put_before all (all_read reader l (drop i files))) (drop_all i ins le) ∙ before-none all
 
 -- a word of another name
-pub content-skip : (ins : List InWord) (all : List Content) (name : List ℕ) (i : ℕ) (w : InWord) (whole : Content)
+pub content-skip : (ins : List InWord) (all : List FileContent) (name : List ℕ) (i : ℕ) (w : InWord) (whole : FileContent)
     → i < length ins → length all ≡ length ins → w ≡ get_or ins i w → name_eq (get_or ins i w).name name ≡ false
     → content_named (drop i ins) (drop i all) name ≡ whole → content_named (drop (i + 1) ins) (drop (i + 1) all) name ≡ whole
 content-skip ins all name i w whole lt same w_is other so_far =
@@ -185,45 +185,45 @@ content-skip ins all name i w whole lt same w_is other so_far =
 -- ---- FROM THE NAMES TO THE FILES
 
 module _ (decls : List Decl) (ins : List InWord) (layout : Layout) (held : Option Held) where
-  abbrev reader : Reader Content
+  abbrev reader : Reader FileContent
   reader = content_reader decls layout
 
   -- after the names: the files are fetched, and then read
-  abbrev from_files : (List Content → Order) → Order
+  abbrev from_files : (List FileContent → Order) → Order
   from_files next = fetch_each ins (λ files. past (all_read reader ins files) (λ all. next (contents_in_order decls ins all)))
 
-  past_names : (next : List Content → Order) → names_fit decls ins ≡ Ok tt → of_inputs decls ins layout next ≡ from_files next
+  past_names : (next : List FileContent → Order) → names_fit decls ins ≡ Ok tt → of_inputs decls ins layout next ≡ from_files next
   unfolding of_inputs
   past_names next fit = ap (λ r. past r (λ _. from_files next)) fit
 
   -- a name refuses
-  pub names-stop : (rose : Type 0) (s : Stop) → RefusesPoint (names_fit decls ins) s → (next : List Content → Order)
+  pub names-stop : (rose : Type 0) (s : Stop) → RefusesPoint (names_fit decls ins) s → (next : List FileContent → Order)
       → Stops (Some (of_inputs decls ins layout next)) held rose s
   unfolding of_inputs
   names-stop rose s told next = past-refused (names_fit decls ins) s held rose told (λ _. from_files next)
 
   -- a fetch stops
   pub fetch-stop : (rose : Type 0) (s : Stop) → names_fit decls ins ≡ Ok tt → ((next : List (List ℕ) → Order) → Stops (Some (fetch_each ins next)) held rose s)
-      → (next : List Content → Order) → Stops (Some (of_inputs decls ins layout next)) held rose s
+      → (next : List FileContent → Order) → Stops (Some (of_inputs decls ins layout next)) held rose s
   fetch-stop rose s fit stops next =
       subst (λ (o : Order). Stops (Some o) held rose s) (sym (past_names next fit))
       (stops (λ files. past (all_read reader ins files) (λ all. next (contents_in_order decls ins all))))
 
   -- the files are read
-  read_passes : (rose : Type 0) (files : List (List ℕ)) (result : Result (List Content) Stop)
+  read_passes : (rose : Type 0) (files : List (List ℕ)) (result : Result (List FileContent) Stop)
       → AnswersAs (λ all rows. rows ≡ contents_in_order decls ins all) (all_read reader ins files) result
       → Passes (λ next. past (all_read reader ins files) (λ all. next (contents_in_order decls ins all))) held rose result
   read_passes rose files (Ok rows) told = found (all_read reader ins files) refl told
     where
-      found : (r : Result (List Content) (List ℕ)) → all_read reader ins files ≡ r → StandsFor (λ all rows. rows ≡ contents_in_order decls ins all) r rows
-          → (next : List Content → Order) → Comes (past r (λ all. next (contents_in_order decls ins all))) held (next rows)
+      found : (r : Result (List FileContent) (List ℕ)) → all_read reader ins files ≡ r → StandsFor (λ all rows. rows ≡ contents_in_order decls ins all) r rows
+          → (next : List FileContent → Order) → Comes (past r (λ all. next (contents_in_order decls ins all))) held (next rows)
       found (Ok all) is told next =
           subst (λ l. Comes (next (contents_in_order decls ins all)) held (next l)) (sym told) (Comes-same (next (contents_in_order decls ins all)) held)
       found (Err text) is told next = absurd told
   read_passes rose files (Err s) told = λ next. past-refused (all_read reader ins files) s held rose told (λ all. next (contents_in_order decls ins all))
 
   -- what is read of the files passes on as the order of points says
-  pub files-pass : (rose : Type 0) (files : List (List ℕ)) (result : Result (List Content) Stop) → names_fit decls ins ≡ Ok tt
+  pub files-pass : (rose : Type 0) (files : List (List ℕ)) (result : Result (List FileContent) Stop) → names_fit decls ins ≡ Ok tt
       → ((next : List (List ℕ) → Order) → Comes (fetch_each ins next) held (next files))
       → AnswersAs (λ all rows. rows ≡ contents_in_order decls ins all) (all_read reader ins files) result → Passes (of_inputs decls ins layout) held rose result
   files-pass rose files (Ok rows) fit far told = λ next.

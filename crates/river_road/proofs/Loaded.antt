@@ -19,8 +19,8 @@ use Rattle.river_road.specs.Points.{then_made, supplied_by, scripted_supplied, l
 use Rattle.river_road.specs.Source.{SourceProgram, IsPlanOf, IsPlanned, IsCompiled}
 use Rattle.river_road.specs.declared.gathered.Gathered.{Gathered}
 use Rattle.river_road.specs.declared.language.Compiled.{Compiled}
-use Rattle.river_road.specs.declared.content.Content.{Content}
-use Rattle.river_road.specs.declared.content.Content.TheVariants.{Rows as Plain}
+use Rattle.river_road.specs.declared.content.FileContent.{FileContent}
+use Rattle.river_road.specs.declared.content.FileContent.TheVariants.{Rows as Plain}
 
 -- ---- THE RECORDS
 
@@ -96,11 +96,11 @@ module _ (n : ℕ) (plan : PlanForm) (source : SourceProgram) (of : IsPlanOf sou
       (subst (λ (ds : List Decl). RefusesPoint (load_files n ds) s) of.inputs told)
 
   -- they are
-  pub files-given : (files : List Content) (g : Gathered) → load_files n plan.inputs ≡ Ok files → IsGathered (record { source = source; files = files }) g
+  pub files-given : (files : List FileContent) (g : Gathered) → load_files n plan.inputs ≡ Ok files → IsGathered (record { source = source; files = files }) g
       → StandsFor IsGathered (supplied_by n source) g
   files-given files g told is =
       let same : load_files n source.inputs ≡ Ok files = subst (λ (ds : List Decl). load_files n ds ≡ Ok files) of.inputs told in
-      subst (λ (r : Result (List Content) (List ℕ)). StandsFor IsGathered (then_made r (λ fs. Ok (record { source = source; files = fs }))) g) (sym same) is
+      subst (λ (r : Result (List FileContent) (List ℕ)). StandsFor IsGathered (then_made r (λ fs. Ok (record { source = source; files = fs }))) g) (sym same) is
 
 -- what is printed of what was gathered
 pub loaded-printed : (found : Result Supplied (List ℕ)) (g : Gathered) (text : List ℕ) → StandsFor IsGathered found g

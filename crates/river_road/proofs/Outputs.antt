@@ -11,11 +11,11 @@ use Rattle.river_road.specs.Contents.{AreContents}
 use Rattle.river_road.specs.Supplied.{Supplied, IsGathered, printed_for}
 use Rattle.river_road.specs.Inputs.{all_items}
 use Rattle.river_road.specs.Source.{SourceProgram, IsPlanOf, printed}
-use Rattle.river_road.specs.declared.content.Content.{Content}
+use Rattle.river_road.specs.declared.content.FileContent.{FileContent}
 use Rattle.river_road.specs.declared.gathered.Gathered.{Gathered}
 
 -- what the plan prints is what the program prints
-output-printed : (source : SourceProgram) (plan : PlanForm) (counted : Bool) (all : List Content) → IsPlanOf source plan → AreContents plan.inputs all
+output-printed : (source : SourceProgram) (plan : PlanForm) (counted : Bool) (all : List FileContent) → IsPlanOf source plan → AreContents plan.inputs all
     → printed_outcome plan (meaning plan (all_items all)).outs (meaning plan (all_items all)).tables
     (asked_counts counted (map pos (firings plan (all_items all)))) ≡ printed source counted all
 output-printed source plan counted all is typed =

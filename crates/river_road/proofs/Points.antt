@@ -21,7 +21,7 @@ use Rattle.river_road.specs.Points.{of_program, of_supplied, of_meaning, of_scri
 use Rattle.river_road.specs.Source.{SourceProgram, IsPlanOf, IsPlanned, IsCompiled, printed}
 use Rattle.river_road.specs.declared.language.Compiled.{Compiled}
 use Rattle.river_road.specs.Text.{large_program}
-use Rattle.river_road.specs.declared.content.Content.{Content}
+use Rattle.river_road.specs.declared.content.FileContent.{FileContent}
 use Rattle.river_road.specs.declared.gathered.Gathered.{Gathered}
 use Rattle.command_line.specs.declared.command.InWord.{InWord}
 use Rattle.command_line.specs.declared.command.RunWords.{RunWords}
@@ -165,7 +165,7 @@ module _ (source_of : List ℕ → Result SourceProgram (List ℕ)) (more : Bool
 
 module _ (ins : List InWord) (layout : Layout) (source : SourceProgram) (plan : PlanForm) (held : Option Held) (is : IsPlanOf source plan) where
   -- its inputs stop it
-  pub supplied-stops : (rose : Type 0) (s : Stop) → ((next : List Content → Order) → Stops (Some (of_inputs plan.inputs ins layout next)) held rose s)
+  pub supplied-stops : (rose : Type 0) (s : Stop) → ((next : List FileContent → Order) → Stops (Some (of_inputs plan.inputs ins layout next)) held rose s)
       → (next : Supplied → Order) → Stops (Some (of_supplied ins layout source next)) held rose s
   unfolding of_supplied
   supplied-stops rose s stops next =
@@ -173,7 +173,7 @@ module _ (ins : List InWord) (layout : Layout) (source : SourceProgram) (plan : 
       (stops (λ files. next (record { source = source; files = files })))
 
   -- they were read
-  pub supplied-comes : (files : List Content) → ((next : List Content → Order) → Comes (of_inputs plan.inputs ins layout next) held (next files))
+  pub supplied-comes : (files : List FileContent) → ((next : List FileContent → Order) → Comes (of_inputs plan.inputs ins layout next) held (next files))
       → (next : Supplied → Order) → Comes (of_supplied ins layout source next) held (next (record { source = source; files = files }))
   unfolding of_supplied
   supplied-comes files comes next =
@@ -182,8 +182,8 @@ module _ (ins : List InWord) (layout : Layout) (source : SourceProgram) (plan : 
       is.inputs (comes (λ fs. next (record { source = source; files = fs })))
 
   -- and its meaning is printed
-  pub meaning-comes : (files : List Content) (text : List ℕ)
-      → ((next : List Content → Order) → Comes (of_inputs plan.inputs ins layout next) held (next files)) → text ≡ printed source false files
+  pub meaning-comes : (files : List FileContent) (text : List ℕ)
+      → ((next : List FileContent → Order) → Comes (of_inputs plan.inputs ins layout next) held (next files)) → text ≡ printed source false files
       → (next : List ℕ → Order) → Comes (of_meaning ins layout source next) held (next text)
   meaning-comes files text comes says next =
       subst (λ t. Comes (of_meaning ins layout source next) held (next t)) (sym says) (supplied-comes files comes (λ s. next (printed_for false s)))

@@ -10,12 +10,12 @@ use Rattle.river_plan.specs.declared.caps.Cap.{Cap}
 use Rattle.river_road.specs.Contents.{AreContents}
 use Rattle.river_road.specs.Supplied.{Supplied, HasFiles, IsGathered, IsReady}
 use Rattle.river_road.specs.Source.{SourceProgram, IsPlanned}
-use Rattle.river_road.specs.declared.content.Content.{Content}
+use Rattle.river_road.specs.declared.content.FileContent.{FileContent}
 use Rattle.river_road.specs.declared.gathered.Gathered.{Gathered}
 use Rattle.river_road.proofs.Items.{contents-fit}
 
 -- a plan with the files of a program's inputs is ready to be run in its place
-pub files-gathered : (source : SourceProgram) (plan : PlanForm) (caps : List Cap) (files : List Content) (g : Gathered) → IsPlanned caps source plan
+pub files-gathered : (source : SourceProgram) (plan : PlanForm) (caps : List Cap) (files : List FileContent) (g : Gathered) → IsPlanned caps source plan
     → AreContents plan.inputs files → HasFiles plan caps files g → IsGathered (record { source = source; files = files }) g
 files-gathered source plan caps files g of typed has = record {
   planned =

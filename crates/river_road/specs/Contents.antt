@@ -6,11 +6,11 @@ use Rattle.river_base.specs.declared.kind.QueueType.{QueueType}
 use Rattle.river_base.specs.declared.kind.QueueType.TheVariants.{Flat as FlatOf, Pack as PackOf}
 use Rattle.csv_streams.specs.Timed.{Entry}
 use Rattle.river_plan.specs.declared.plan.Decl.{Decl}
-use Rattle.river_road.specs.declared.content.Content.{Content}
-use Rattle.river_road.specs.declared.content.Content.TheVariants.{Rows as Plain, Timed}
+use Rattle.river_road.specs.declared.content.FileContent.{FileContent}
+use Rattle.river_road.specs.declared.content.FileContent.TheVariants.{Rows as Plain, Timed}
 
 -- rows of the width, and those of a stream with timestamps; no input is of another type
-abbrev pub IsContent : QueueType → Content → Type 0
+abbrev pub IsContent : QueueType → FileContent → Type 0
 IsContent (FlatOf (Rows w)) (Plain rows) = HaveWidth w rows
 IsContent (FlatOf (Rows w)) (Timed rows) = ⊥
 IsContent (FlatOf (Stream w)) (Plain rows) = ⊥
@@ -19,7 +19,7 @@ IsContent (FlatOf (Relation w)) content = ⊥
 IsContent (PackOf t) content = ⊥
 
 -- there is one for each input, which fits its type
-abbrev pub AreContents : List Decl → List Content → Type 0
+abbrev pub AreContents : List Decl → List FileContent → Type 0
 AreContents [] [] = Unit {0}
 AreContents [] (f ∷ files) = ⊥
 AreContents (d ∷ ds) [] = ⊥

@@ -21,8 +21,8 @@ use Rattle.river_plan.specs.Names.{count}
 use Rattle.csv_streams.specs.FaultWords.{in_words}
 use Rattle.river_road.specs.Limits.{most_input}
 use Rattle.river_road.specs.Text.{unknown_input, missing_input, large_input, input_refused}
-use Rattle.river_road.specs.declared.content.Content.{Content}
-use Rattle.river_road.specs.declared.content.Content.TheVariants.{Rows as Plain, Timed}
+use Rattle.river_road.specs.declared.content.FileContent.{FileContent}
+use Rattle.river_road.specs.declared.content.FileContent.TheVariants.{Rows as Plain, Timed}
 use Rattle.command_line.specs.declared.command.InWord.{InWord}
 use Rattle.river_road.specs.declared.layout.Layout.{Layout}
 
@@ -89,29 +89,29 @@ of_files decls ins reader make next =
 abbrev pub width_named : List Decl → List ℕ → ℕ
 width_named decls name = type_width (kind_of decls name)
 
-abbrev pub read_as : {A : Type 0} → (A → Content) → Result A InFault → Result Content InFault
+abbrev pub read_as : {A : Type 0} → (A → FileContent) → Result A InFault → Result FileContent InFault
 read_as content (Ok x) = Ok (content x)
 read_as content (Err fault) = Err fault
 
 -- an input has rows of its width, and those of a stream have timestamps
-abbrev pub file_content : QueueType → Layout → List ℕ → Result Content InFault
+abbrev pub file_content : QueueType → Layout → List ℕ → Result FileContent InFault
 file_content (FlatOf (Stream w)) layout bytes = read_as Timed (timed_of bytes w layout.header)
 file_content (FlatOf (Rows w)) layout bytes = read_as Plain (rows_of_file bytes w layout.header layout.more)
 file_content (FlatOf (Relation w)) layout bytes = read_as Plain (rows_of_file bytes w layout.header layout.more)
 file_content (PackOf t) layout bytes = read_as Plain (rows_of_file bytes (type_width (PackOf t)) layout.header layout.more)
 
-abbrev pub content_reader : List Decl → Layout → Reader Content
+abbrev pub content_reader : List Decl → Layout → Reader FileContent
 content_reader decls layout name bytes = file_content (kind_of decls name) layout bytes
 
 -- what the words give to an input
-abbrev pub content_named : List InWord → List Content → List ℕ → Content
+abbrev pub content_named : List InWord → List FileContent → List ℕ → FileContent
 content_named [] all name = Plain []
 content_named (w ∷ ins) [] name = Plain []
 content_named (w ∷ ins) (content ∷ all) name = if name_eq w.name name then content else content_named ins all name
 
 -- no word has this name
 pub record NamesNone (ins : List InWord) (name : List ℕ) : Type 0 where
-  pub gives : (all : List Content) → length all ≡ length ins → content_named ins all name ≡ Plain []
+  pub gives : (all : List FileContent) → length all ≡ length ins → content_named ins all name ≡ Plain []
 
 -- the first word of this name stands at this place
 pub record NamesPlace (ins : List InWord) (name : List ℕ) (place : ℕ) : Type 0 where
@@ -119,31 +119,31 @@ pub record NamesPlace (ins : List InWord) (name : List ℕ) (place : ℕ) : Type
   pub word : InWord
   pub word_is : word ≡ slice_index_or ins place word
   pub named : word.name ≡ name
-  pub gives : (all : List Content) (d : Content) → length all ≡ length ins → content_named ins all name ≡ slice_index_or all place d
+  pub gives : (all : List FileContent) (d : FileContent) → length all ≡ length ins → content_named ins all name ≡ slice_index_or all place d
 
 -- what each input has, in the order of the program's inputs
-abbrev pub contents_in_order : List Decl → List InWord → List Content → List Content
+abbrev pub contents_in_order : List Decl → List InWord → List FileContent → List FileContent
 contents_in_order decls ins all = map (content_named ins all) (decl_names decls)
 
-unfoldable pub of_inputs : List Decl → List InWord → Layout → (List Content → Order) → Order
+unfoldable pub of_inputs : List Decl → List InWord → Layout → (List FileContent → Order) → Order
 of_inputs decls ins layout next = of_files decls ins (content_reader decls layout) (contents_in_order decls ins) next
 
 -- ---- THE ITEMS OF INPUTS
 
 -- the rows of the files whose rows have timestamps
-abbrev pub timed_files : List Content → List (List Entry)
+abbrev pub timed_files : List FileContent → List (List Entry)
 timed_files [] = []
 timed_files (Plain rows ∷ files) = timed_files files
 timed_files (Timed rows ∷ files) = rows ∷ timed_files files
 
 -- the instants of a run: the timestamps of all its files
-abbrev pub instants_of : List Content → List ℤ
+abbrev pub instants_of : List FileContent → List ℤ
 instants_of files = instants (timed_files files)
 
 -- the items of an input: its rows, or a batch of its rows for each instant
-abbrev pub items_at : List ℤ → Content → List item.Item
+abbrev pub items_at : List ℤ → FileContent → List item.Item
 items_at ts (Plain rows) = row_items rows
 items_at ts (Timed rows) = spread ts (at_instant rows)
 
-abbrev pub all_items : List Content → List (List item.Item)
+abbrev pub all_items : List FileContent → List (List item.Item)
 all_items files = map (items_at (instants_of files)) files

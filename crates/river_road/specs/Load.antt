@@ -5,8 +5,8 @@ use Rattle.river_base.specs.declared.kind.QueueType.{QueueType}
 use Rattle.river_base.specs.declared.kind.QueueType.TheVariants.{Flat as FlatOf, Pack as PackOf}
 use Rattle.river_plan.specs.declared.plan.Decl.{Decl}
 use Rattle.river_road.specs.Text.{missing_input}
-use Rattle.river_road.specs.declared.content.Content.{Content}
-use Rattle.river_road.specs.declared.content.Content.TheVariants.{Rows as Plain}
+use Rattle.river_road.specs.declared.content.FileContent.{FileContent}
+use Rattle.river_road.specs.declared.content.FileContent.TheVariants.{Rows as Plain}
 
 -- the program, in Sawzall: how many records there are, the sum of second fields for each first one, and the first fields that stand
 -- beside the two greatest second ones
@@ -40,5 +40,5 @@ takes_pairs (d ∷ []) = is_of_pairs d.kind
 takes_pairs decls = false
 
 -- the records are what the one input of a program has; of another program it is told that it lacks this input
-abbrev pub load_files : ℕ → List Decl → Result (List Content) (List ℕ)
+abbrev pub load_files : ℕ → List Decl → Result (List FileContent) (List ℕ)
 load_files n decls = if takes_pairs decls then Ok (Plain (load_records n) ∷ []) else Err (missing_input (codes "in"))

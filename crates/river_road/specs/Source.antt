@@ -12,7 +12,7 @@ use Rattle.brooklet_model.specs.Meaning.{Results, meaning}
 use Rattle.river_road.specs.Contents.{AreContents}
 use Rattle.river_road.specs.Inputs.{all_items}
 use Rattle.river_road.specs.Text.{program_refused}
-use Rattle.river_road.specs.declared.content.Content.{Content}
+use Rattle.river_road.specs.declared.content.FileContent.{FileContent}
 use Rattle.river_road.specs.declared.language.Compiled.{Compiled}
 
 -- a program: its inputs, the names of its outputs and of its tables, what these have for the files of its inputs, its plan, and the
@@ -21,7 +21,7 @@ pub record SourceProgram : Type 0 where
   pub inputs : List Decl
   pub outputs : List Name
   pub tables : List Name
-  pub means : List Content → Results
+  pub means : List FileContent → Results
   pub plan : PlanForm
   pub caps : List Cap
 
@@ -32,7 +32,7 @@ pub record IsPlanOf (s : SourceProgram) (p : PlanForm) : Type 0 where
   pub inputs : p.inputs ≡ s.inputs
   pub outputs : decl_names p.outputs ≡ s.outputs
   pub tables : table_names p.tables ≡ s.tables
-  pub means : (files : List Content) → AreContents p.inputs files → meaning p (all_items files) ≡ s.means files
+  pub means : (files : List FileContent) → AreContents p.inputs files → meaning p (all_items files) ≡ s.means files
 
 -- such a plan, and the capacities that the program gives to its queues
 pub record IsPlanned (caps : List Cap) (s : SourceProgram) (p : PlanForm) : Type 0 where
@@ -61,7 +61,7 @@ pub record GivesResults (o : Outcome) (r : Results) : Type 0 where
 
 -- what is printed for the files of a program's inputs: its outputs, its tables, and then the firings of its plan where they are
 -- asked for
-abbrev pub printed : SourceProgram → Bool → List Content → List ℕ
+abbrev pub printed : SourceProgram → Bool → List FileContent → List ℕ
 printed s counted files =
     outputs_text s.outputs (s.means files).outs
     ++ (tables_text s.tables (s.means files).tables ++ firings_text (labels s.plan.ops) (asked_counts counted (map pos (firings s.plan (all_items files)))))

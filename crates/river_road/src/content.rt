@@ -5,7 +5,7 @@ use river_base::TimedRows;
 
 /// The rows of a file; those of a stream have timestamps.
 #[derive(Drop)]
-pub enum Content {
+pub enum FileContent {
     Rows(EvenRows),
     Timed(TimedRows),
 }

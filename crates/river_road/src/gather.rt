@@ -8,7 +8,7 @@ ghost use Rattle.river_plan.specs.Names.{count};
 ghost use Rattle.river_road.specs.Contents.{AreContents};
 ghost use Rattle.river_road.specs.Inputs.{of_inputs};
 
-use crate::content::Content;
+use crate::content::FileContent;
 use crate::fetched::fetch_all;
 use crate::layout::Layout;
 use crate::names::check_names;
@@ -27,7 +27,7 @@ pub fn gather<S: Shelf>(
     ins: &[InWord],
     layout: Layout,
     shelf: &mut S,
-) -> Result<Listed<Content>, Stop>
+) -> Result<Listed<FileContent>, Stop>
     requires outer { All IsOuter decls.now }
     requires apart { (q : List ℕ) → count q (decl_names decls.now) ≤ 1 }
     ensures later { S.faults shelf.old ≤ S.faults shelf.new }

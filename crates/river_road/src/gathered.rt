@@ -2,7 +2,7 @@
 ghost use Rattle.std.specs.Prelude.{IfOk};
 ghost use Rattle.river_road.specs.Supplied.{HasFiles};
 
-use crate::content::Content;
+use crate::content::FileContent;
 use crate::item_lists::inputs_of;
 use brooklet_step::Lines;
 use river_base::{Listed, NoMemory};
@@ -26,7 +26,7 @@ impl Gathered {
         alloc: Global,
         plan: Plan,
         caps: Caps,
-        files: Listed<Content>,
+        files: Listed<FileContent>,
     ) -> Result<Gathered, NoMemory>
         ensures { IfOk result (HasFiles plan caps files) }
     {

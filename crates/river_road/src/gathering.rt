@@ -9,7 +9,7 @@ ghost use Rattle.river_road.specs.Inputs.{of_inputs};
 ghost use Rattle.river_road.specs.Points.{of_gathered, of_scripted, of_supplied};
 ghost use Rattle.river_road.specs.Source.{SourceProgram, IsPlanned};
 
-use crate::content::Content;
+use crate::content::FileContent;
 use crate::gather::gather;
 use crate::gathered::Gathered;
 use crate::language::Language;
@@ -80,7 +80,7 @@ pub(crate) fn files_for<S: Shelf>(
     layout: Layout,
     plan: &Plan,
     shelf: &mut S,
-) -> Result<Listed<Content>, Stop>
+) -> Result<Listed<FileContent>, Stop>
     ensures later { S.faults shelf.old ≤ S.faults shelf.new }
     ensures valid { IsPlan plan.now }
     ensures contents { IfOk result (AreContents plan.now.inputs) }

@@ -3,15 +3,15 @@ ghost use Rattle.std.specs.Prelude.{◌≡◌, [], ◌∷◌, ◌++◌, map, IfO
 ghost use Rattle.river_base.specs.Instants.{stamps};
 ghost use Rattle.river_road.specs.Inputs as inputs;
 
-use crate::content::Content;
+use crate::content::FileContent;
 use brooklet_step::Lines;
 use csv_streams::{add_stamps, spread};
-use kern_rows::Line;
+use kern_rows::ItemLine;
 use river_base::{Listed, NoMemory, Numbers};
 use std::alloc::Global;
 
 /// The items of each input.
-pub fn inputs_of(alloc: Global, files: Listed<Content>) -> Result<Lines, NoMemory>
+pub fn inputs_of(alloc: Global, files: Listed<FileContent>) -> Result<Lines, NoMemory>
     ensures { IfOk result (λ all. all ≡ inputs.all_items files) }
 {
     let instants = instants_of(alloc, files.as_slice())?;
@@ -19,7 +19,7 @@ pub fn inputs_of(alloc: Global, files: Listed<Content>) -> Result<Lines, NoMemor
 }
 
 // The instants of the run.
-fn instants_of(alloc: Global, files: &[Content]) -> Result<Numbers, NoMemory>
+fn instants_of(alloc: Global, files: &[FileContent]) -> Result<Numbers, NoMemory>
     ensures { IfOk result (λ ts. ts ≡ inputs.instants_of files.now) }
 {
     let mut stamps = Numbers::new(alloc);
@@ -31,17 +31,17 @@ fn instants_of(alloc: Global, files: &[Content]) -> Result<Numbers, NoMemory>
 }
 
 // Appends the timestamps of a file, if it has any.
-fn add_stamps_of(file: &Content, all: &mut Numbers) -> Result<(), NoMemory>
+fn add_stamps_of(file: &FileContent, all: &mut Numbers) -> Result<(), NoMemory>
     ensures { OnOk result (all.new ≡ all.old ++ stamps (inputs.timed_files (file.now ∷ []))) }
 {
     match file {
-        Content::Rows(_) => Ok(()),
-        Content::Timed(rows) => add_stamps(rows, all),
+        FileContent::Rows(_) => Ok(()),
+        FileContent::Timed(rows) => add_stamps(rows, all),
     }
 }
 
 // The items of each input at these instants; what the files have is let go one after another.
-fn inputs_at(alloc: Global, files: Listed<Content>, instants: &Numbers) -> Result<Lines, NoMemory>
+fn inputs_at(alloc: Global, files: Listed<FileContent>, instants: &Numbers) -> Result<Lines, NoMemory>
     ensures { IfOk result (λ all. all ≡ map (inputs.items_at instants.now) files) }
 {
     let mut all = Lines::new(alloc);
@@ -52,11 +52,11 @@ fn inputs_at(alloc: Global, files: Listed<Content>, instants: &Numbers) -> Resul
 }
 
 // The items of an input: its rows, or a batch of its rows for each instant.
-fn items_at(alloc: Global, file: Content, instants: &Numbers) -> Result<Line, NoMemory>
+fn items_at(alloc: Global, file: FileContent, instants: &Numbers) -> Result<ItemLine, NoMemory>
     ensures { IfOk result (λ items. items ≡ inputs.items_at instants.now file) }
 {
     match file {
-        Content::Rows(rows) => Ok(Line::from_rows(alloc, rows)),
-        Content::Timed(rows) => Ok(Line::from_items(alloc, spread(alloc, &rows, instants)?)),
+        FileContent::Rows(rows) => Ok(ItemLine::from_rows(alloc, rows)),
+        FileContent::Timed(rows) => Ok(ItemLine::from_items(alloc, spread(alloc, &rows, instants)?)),
     }
 }

@@ -6,7 +6,7 @@ ghost use Rattle.river_road.specs.Contents.{AreContents};
 ghost use Rattle.river_road.specs.Limits.{most_program};
 ghost use Rattle.river_road.specs.Source.{SourceProgram, IsCompiled, HasSource, GivesResults};
 
-use crate::content::Content;
+use crate::content::FileContent;
 use brooklet_step::Outcome;
 use river_base::{Bytes, Listed, NoMemory};
 use river_order::Stop;
@@ -51,7 +51,7 @@ pub trait Language {
     fn mean(
         alloc: Global,
         compiled: &Compiled<Self::Program>,
-        files: Listed<Content>,
+        files: Listed<FileContent>,
     ) -> Result<Outcome, NoMemory>
         requires valid { IsPlan compiled.now.plan }
         requires known { HasSource stands compiled.now }

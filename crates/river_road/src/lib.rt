@@ -21,7 +21,7 @@ mod rows;
 mod script;
 mod text;
 
-pub use content::Content;
+pub use content::FileContent;
 pub use gather::gather as gather_contents;
 pub use gathered::Gathered;
 pub use gathering::gather_run;

@@ -8,10 +8,10 @@ ghost use Rattle.river_road.specs.Limits.{most_program, most_script};
 ghost use Rattle.river_road.specs.Load.{load_program, load_script, load_records, load_files, takes_pairs, is_of_pairs};
 ghost use Rattle.river_road.specs.Points.{load_supplied, scripted_supplied, supplied_by, with_plan};
 ghost use Rattle.river_road.specs.Source.{SourceProgram, IsPlanned, IsCompiled};
-ghost use Rattle.river_road.specs.declared.content.Content.TheVariants.{Rows as Plain};
+ghost use Rattle.river_road.specs.declared.content.FileContent.TheVariants.{Rows as Plain};
 ghost use Rattle.river_script.specs.Meaning.{rewritten};
 
-use crate::content::Content;
+use crate::content::FileContent;
 use crate::gathered::Gathered;
 use crate::language::{Compiled, Language};
 use crate::script::applied;
@@ -92,7 +92,7 @@ fn script(alloc: Global) -> Result<Bytes, NoMemory>
 }
 
 // The records, as what the one input of a program has.
-fn files_for(alloc: Global, decls: &[Decl], number: u32) -> Result<Listed<Content>, Stop>
+fn files_for(alloc: Global, decls: &[Decl], number: u32) -> Result<Listed<FileContent>, Stop>
     ensures contents { IfOk result (AreContents decls.now) }
     ensures answers { Answers (load_files number decls.now) result }
 {
@@ -103,11 +103,11 @@ fn files_for(alloc: Global, decls: &[Decl], number: u32) -> Result<Listed<Conten
 }
 
 // What the one input has.
-fn files_of(alloc: Global, rows: EvenRows) -> Result<Listed<Content>, NoMemory>
+fn files_of(alloc: Global, rows: EvenRows) -> Result<Listed<FileContent>, NoMemory>
     ensures { IfOk result (λ files. files ≡ Plain rows ∷ []) }
 {
     let mut files = Listed::new(alloc);
-    files.push(Content::Rows(rows))?;
+    files.push(FileContent::Rows(rows))?;
     Ok(files)
 }
 

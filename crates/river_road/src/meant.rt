@@ -4,7 +4,7 @@ ghost use Rattle.river_plan.specs.Valid.{IsPlan};
 ghost use Rattle.river_road.specs.Contents.{AreContents};
 ghost use Rattle.river_road.specs.Source.{SourceProgram, IsCompiled, HasSource, printed};
 
-use crate::content::Content;
+use crate::content::FileContent;
 use crate::language::{Compiled, Language};
 use csv_streams::print_outcome;
 use river_base::{Bytes, Listed, NoMemory};
@@ -14,7 +14,7 @@ use std::alloc::Global;
 pub fn mean_text<L: Language>(
     alloc: Global,
     compiled: &Compiled<L::Program>,
-    files: Listed<Content>,
+    files: Listed<FileContent>,
 ) -> Result<Bytes, NoMemory>
     requires valid { IsPlan compiled.now.plan }
     requires known { HasSource L.stands compiled.now }

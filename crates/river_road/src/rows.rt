@@ -11,9 +11,9 @@ ghost use Rattle.river_plan.specs.Forms.{decl_names};
 ghost use Rattle.river_plan.specs.Kinds.{kind_of};
 ghost use Rattle.river_plan.specs.Names.{count};
 ghost use Rattle.river_road.specs.Inputs.{width_named, file_read, read_as, file_content, content_reader, all_read, content_named, contents_in_order, NamesNone, NamesPlace};
-ghost use Rattle.river_road.specs.declared.content.Content.TheVariants.{Rows as Plain, Timed};
+ghost use Rattle.river_road.specs.declared.content.FileContent.TheVariants.{Rows as Plain, Timed};
 
-use crate::content::Content;
+use crate::content::FileContent;
 use crate::layout::Layout;
 use crate::text;
 use command_line::InWord;
@@ -32,7 +32,7 @@ pub fn read_inputs(
     layout: Layout,
     ins: &[InWord],
     files: &[Bytes],
-) -> Result<Listed<Content>, Stop>
+) -> Result<Listed<FileContent>, Stop>
     requires count { length files.now ≡ length ins.now }
     requires widths { All (λ w. IsTrue (is_width (width_named decls.now w.name))) ins.now }
     requires apart { (q : List ℕ) → count q (decl_names decls.now) ≤ 1 }
@@ -49,7 +49,7 @@ fn read_all(
     layout: Layout,
     ins: &[InWord],
     files: &[Bytes],
-) -> Result<Listed<Content>, Stop>
+) -> Result<Listed<FileContent>, Stop>
     requires count { length files.now ≡ length ins.now }
     requires widths { All (λ w. IsTrue (is_width (width_named decls.now w.name))) ins.now }
     ensures count { IfOk result (λ all. length all ≡ length ins.now) }
@@ -69,7 +69,7 @@ fn read_one(
     layout: Layout,
     word: &InWord,
     bytes: &Bytes,
-) -> Result<Content, Stop>
+) -> Result<FileContent, Stop>
     requires { IsTrue (is_width (width_named decls.now word.now.name)) }
     ensures { Answers (file_read (content_reader decls.now layout) word.now bytes.now) result }
 {
@@ -99,7 +99,7 @@ fn read_content(
     kind: QueueType,
     layout: Layout,
     bytes: &Bytes,
-) -> Result<Content, InFault>
+) -> Result<FileContent, InFault>
     requires { IsTrue (is_width (type_width kind)) }
     ensures { IsAnswer (file_content kind layout bytes.now) result }
 {
@@ -119,18 +119,18 @@ fn width_of(flat: FlatType) -> u32
     }
 }
 
-fn read_plain(alloc: Global, bytes: &Bytes, width: u32, layout: Layout) -> Result<Content, InFault>
+fn read_plain(alloc: Global, bytes: &Bytes, width: u32, layout: Layout) -> Result<FileContent, InFault>
     requires { IsTrue (is_width width) }
     ensures { IsAnswer (read_as Plain (rows_of_file bytes.now width layout.header layout.more)) result }
 {
-    Ok(Content::Rows(read_even(alloc, bytes, width, layout.header, layout.more)?))
+    Ok(FileContent::Rows(read_even(alloc, bytes, width, layout.header, layout.more)?))
 }
 
-fn read_stream(alloc: Global, bytes: &Bytes, width: u32, header: bool) -> Result<Content, InFault>
+fn read_stream(alloc: Global, bytes: &Bytes, width: u32, header: bool) -> Result<FileContent, InFault>
     requires { IsTrue (is_width width) }
     ensures { IsAnswer (read_as Timed (timed_of bytes.now width header)) result }
 {
-    Ok(Content::Timed(read_timed(alloc, bytes, width, header)?))
+    Ok(FileContent::Timed(read_timed(alloc, bytes, width, header)?))
 }
 
 // What each input has, in the order of the program's inputs: it moves there. Each input has its own name.
@@ -138,8 +138,8 @@ fn arrange(
     alloc: Global,
     decls: &[Decl],
     ins: &[InWord],
-    all: &mut Listed<Content>,
-) -> Result<Listed<Content>, NoMemory>
+    all: &mut Listed<FileContent>,
+) -> Result<Listed<FileContent>, NoMemory>
     requires count { length all.old ≡ length ins.now }
     requires apart { (q : List ℕ) → count q (decl_names decls.now) ≤ 1 }
     ensures { IfOk result (λ files. files ≡ contents_in_order decls.now ins.now all.old) }
@@ -152,13 +152,13 @@ fn arrange(
 }
 
 // What the words give to an input; no row is left there.
-fn take_named(alloc: Global, ins: &[InWord], all: &mut Listed<Content>, name: &[u8]) -> Content
+fn take_named(alloc: Global, ins: &[InWord], all: &mut Listed<FileContent>, name: &[u8]) -> FileContent
     requires { length all.old ≡ length ins.now }
     ensures count { length all.new ≡ length all.old }
     ensures taken { result ≡ content_named ins.now all.old name.now }
     ensures others { (q : List ℕ) → name_eq name.now q ≡ false → content_named ins.now all.new q ≡ content_named ins.now all.old q }
 {
-    let none = Content::Rows(EvenRows::new(alloc));
+    let none = FileContent::Rows(EvenRows::new(alloc));
     match place_named(ins, name) {
         Some(place) => replace(all.at_mut(place), none),
         None => none,

@@ -1,5 +1,5 @@
 pub mod Fronts
-pub mod Instances
+pub mod Examples
 pub mod Judging
 pub mod Loops
 pub mod Printable

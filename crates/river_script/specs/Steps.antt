@@ -1,7 +1,7 @@
 -- Steps that were read.
 use Rattle.std.specs.Prelude.{◌≡◌, ℕ, List, map, Option, Some, None, Result, Ok, Err}
-use Rattle.text_forms.specs.declared.fault.Fault.{Fault}
-use Rattle.text_forms.specs.declared.fault.Fault.TheVariants.{Syntax, NoMemory}
+use Rattle.text_forms.specs.declared.fault.ParseFault.{ParseFault}
+use Rattle.text_forms.specs.declared.fault.ParseFault.TheVariants.{Syntax, NoMemory}
 use Rattle.text_forms.specs.declared.refusal.Refusal.TheVariants as text
 use Rattle.river_script.specs.declared.fault.ScriptFault.{ScriptFault}
 use Rattle.river_script.specs.declared.fault.ScriptFault.TheVariants as fault
@@ -18,7 +18,7 @@ abbrev pub step_forms : List Step → List StepForm
 step_forms steps = map step_form steps
 
 -- the reading gives a step exactly where there is one
-abbrev pub MakesStep : Result Step Fault → Option StepForm → Type 0
+abbrev pub MakesStep : Result Step ParseFault → Option StepForm → Type 0
 MakesStep (Ok x) made = made ≡ Some (step_form x)
 MakesStep (Err Syntax) made = made ≡ None
 MakesStep (Err NoMemory) made = Unit {0}

@@ -11,7 +11,7 @@ use crate::ScriptFault;
 use crate::step::{Steps, whole_step};
 use river_base::Bytes;
 use std::alloc::Global;
-use text_forms::{Fault, Refusal};
+use text_forms::{ParseFault, Refusal};
 use work_text::{Tokens, Units, lex, units};
 
 /// The steps that a text stands for.
@@ -46,8 +46,8 @@ fn read_units(alloc: Global, units: &Units<'_>) -> Result<Steps, ScriptFault>
     'items: for i in 0..parts.len() {
         match whole_step(parts[i]) {
             Ok(step) => steps.push(step)?,
-            Err(Fault::Syntax) => return Err(bad_unit(i as u32 + 1)),
-            Err(Fault::NoMemory) => return Err(ScriptFault::NoMemory),
+            Err(ParseFault::Syntax) => return Err(bad_unit(i as u32 + 1)),
+            Err(ParseFault::NoMemory) => return Err(ScriptFault::NoMemory),
         }
     }
     Ok(steps)

@@ -7,7 +7,7 @@ ghost use Rattle.river_script.specs.Steps.{MakesStep, step_form};
 ghost use Rattle.river_script.specs.Reading.{step_name_at, named_at, counted_at, step_after, step_at};
 
 use river_base::{Listed, Name};
-use text_forms::{Fault, Reader};
+use text_forms::{ParseFault, Reader};
 use work_text::{Lexeme, Symbol};
 
 /// A step of a script.
@@ -26,19 +26,19 @@ pub type Steps = Listed<Step>;
 
 // A name of at most 64 bytes.
 #[tactic(auto, unfolding(crate::specs::Reading::step_name_at))]
-fn step_name(reader: &mut Reader<'_>) -> Result<Name, Fault>
+fn step_name(reader: &mut Reader<'_>) -> Result<Name, ParseFault>
     ensures { Gives (λ name. name) result reader.new (step_name_at reader.old) }
 {
     let text = reader.name()?;
     match Name::from_slice(text) {
         Some(name) => Ok(name),
-        None => Err(Fault::Syntax),
+        None => Err(ParseFault::Syntax),
     }
 }
 
 // The name that is the rest of a step.
 #[tactic(auto, unfolding(crate::specs::Reading::named_at))]
-fn named(reader: &mut Reader<'_>) -> Result<Name, Fault>
+fn named(reader: &mut Reader<'_>) -> Result<Name, ParseFault>
     ensures { Gives (λ name. name) result reader.new (named_at reader.old) }
 {
     let name = step_name(reader)?;
@@ -48,7 +48,7 @@ fn named(reader: &mut Reader<'_>) -> Result<Name, Fault>
 
 // The name and the number that are the rest of a step.
 #[tactic(auto, unfolding(crate::specs::Reading::counted_at))]
-fn counted(reader: &mut Reader<'_>) -> Result<(Name, u32), Fault>
+fn counted(reader: &mut Reader<'_>) -> Result<(Name, u32), ParseFault>
     ensures { Gives (λ v. v) result reader.new (counted_at reader.old) }
 {
     let name = step_name(reader)?;
@@ -59,7 +59,7 @@ fn counted(reader: &mut Reader<'_>) -> Result<(Name, u32), Fault>
 
 // What stands behind the word of a step.
 #[tactic(auto, unfolding(crate::specs::Reading::step_after))]
-fn step_after(reader: &mut Reader<'_>, word: &[u8]) -> Result<Step, Fault>
+fn step_after(reader: &mut Reader<'_>, word: &[u8]) -> Result<Step, ParseFault>
     ensures { Gives step_form result reader.new (step_after word.now reader.old) }
 {
     if word == b"fuse".as_slice() {
@@ -72,12 +72,12 @@ fn step_after(reader: &mut Reader<'_>, word: &[u8]) -> Result<Step, Fault>
         let (label, n) = counted(reader)?;
         return Ok(Step::Fission { label, n });
     }
-    Err(Fault::Syntax)
+    Err(ParseFault::Syntax)
 }
 
 // A step.
 #[tactic(auto, unfolding(crate::specs::Reading::step_at))]
-fn any_step(reader: &mut Reader<'_>) -> Result<Step, Fault>
+fn any_step(reader: &mut Reader<'_>) -> Result<Step, ParseFault>
     ensures { Gives step_form result reader.new (step_at reader.old) }
 {
     let word = reader.name()?;
@@ -86,13 +86,13 @@ fn any_step(reader: &mut Reader<'_>) -> Result<Step, Fault>
 
 /// The step that a whole unit is.
 #[tactic(auto, using(crate::proofs::Wholes::wholes))]
-pub(crate) fn whole_step(tokens: &[Lexeme<'_>]) -> Result<Step, Fault>
+pub(crate) fn whole_step(tokens: &[Lexeme<'_>]) -> Result<Step, ParseFault>
     ensures { MakesStep result (whole step_at (tokens_of tokens.now)) }
 {
     let mut reader = Reader::new(tokens);
     let step = any_step(&mut reader)?;
     if !reader.is_at_end() {
-        return Err(Fault::Syntax);
+        return Err(ParseFault::Syntax);
     }
     Ok(step)
 }

@@ -4,8 +4,8 @@ use Rattle.std.specs.Prelude.{◌↔◌}
 use Rattle.work_text.specs.Tok.{Tok}
 use Rattle.text_forms.specs.Gives.{Makes}
 use Rattle.text_forms.specs.Texts.{whole, ended}
-use Rattle.text_forms.specs.declared.fault.Fault.{Fault}
-use Rattle.text_forms.specs.declared.fault.Fault.TheVariants.{Syntax}
+use Rattle.text_forms.specs.declared.fault.ParseFault.{ParseFault}
+use Rattle.text_forms.specs.declared.fault.ParseFault.TheVariants.{Syntax}
 use Rattle.river_text.specs.declared.entry.Entry as read
 use Rattle.river_text.specs.Entries.{entry_form}
 use Rattle.river_text.specs.Plans.{EntryForm, may_stand}
@@ -44,7 +44,7 @@ whole-unfit at ts [] e read unfit = by (may_stand at e) refl where
   by false is = whole-early at ts [] e read is
 
 -- an entry is given where it fits
-pub whole-kept : (at : Place) (ts rest : List Tok) (x : read.Entry) (fits : Bool) (r : Result read.Entry Fault) → unit_at ts ≡ Some (entry_form x, rest)
+pub whole-kept : (at : Place) (ts rest : List Tok) (x : read.Entry) (fits : Bool) (r : Result read.Entry ParseFault) → unit_at ts ≡ Some (entry_form x, rest)
     → (fits ≡ true) ↔ ((rest ≡ []) × (may_stand at (entry_form x) ≡ true)) → r ≡ cond fits (Ok x) (Err Syntax) → Makes entry_form r (whole (unit_from at) ts)
 whole-kept at ts rest x true r read fits is =
     let fit = fits.0 refl in

@@ -10,13 +10,13 @@ use crate::term::{River, exprs};
 use river_base::NoMemory;
 use std::alloc::Global;
 use text_blocks::{Blocks, Opening, ended, place, round};
-use text_forms::{Fault, Reader, closed, is};
+use text_forms::{ParseFault, Reader, closed, is};
 use work_code::{Body, Expr, Stmt, Stmts};
 use work_text::Symbol;
 
 // What stands behind `slot`.
 #[tactic(auto, unfolding(crate::specs::Bodies::set_at))]
-fn set(reader: &mut Reader<'_>, alloc: Global, brackets: u32) -> Result<Stmt, Fault>
+fn set(reader: &mut Reader<'_>, alloc: Global, brackets: u32) -> Result<Stmt, ParseFault>
     ensures { Gives step result reader.new (set_at brackets reader.old) }
 {
     let slot = place(reader, brackets)?;
@@ -27,7 +27,7 @@ fn set(reader: &mut Reader<'_>, alloc: Global, brackets: u32) -> Result<Stmt, Fa
 
 // What stands behind `push`.
 #[tactic(auto, unfolding(crate::specs::Bodies::push_at))]
-fn push(reader: &mut Reader<'_>, alloc: Global, brackets: u32) -> Result<Stmt, Fault>
+fn push(reader: &mut Reader<'_>, alloc: Global, brackets: u32) -> Result<Stmt, ParseFault>
     ensures { Gives step result reader.new (push_at brackets reader.old) }
 {
     let port = reader.count()?;
@@ -37,7 +37,7 @@ fn push(reader: &mut Reader<'_>, alloc: Global, brackets: u32) -> Result<Stmt, F
 
 // What stands behind the first word of a statement that is no `if`.
 #[tactic(auto, unfolding(crate::specs::Bodies::plain_at))]
-fn plain(reader: &mut Reader<'_>, alloc: Global, brackets: u32, word: &[u8]) -> Result<Stmt, Fault>
+fn plain(reader: &mut Reader<'_>, alloc: Global, brackets: u32, word: &[u8]) -> Result<Stmt, ParseFault>
     ensures { Gives step result reader.new (plain_at brackets word.now reader.old) }
 {
     if is(word, b"slot") {
@@ -46,7 +46,7 @@ fn plain(reader: &mut Reader<'_>, alloc: Global, brackets: u32, word: &[u8]) -> 
     if is(word, b"push") {
         return push(reader, alloc, brackets);
     }
-    Err(Fault::Syntax)
+    Err(ParseFault::Syntax)
 }
 
 // The statements behind `else`, or none.
@@ -123,7 +123,7 @@ impl Blocks for River {
         reader: &mut Reader<'_>,
         alloc: Global,
         brackets: u32,
-    ) -> Result<Expr, Fault>
+    ) -> Result<Expr, ParseFault>
         ensures { Gives term result reader.new (condition_at brackets reader.old) }
     {
         round(self, reader, alloc, brackets)
@@ -135,8 +135,8 @@ impl Blocks for River {
         _alloc: Global,
         _brackets: u32,
         _word: &[u8],
-    ) -> Result<Stmt, Fault> {
-        Err(Fault::Syntax)
+    ) -> Result<Stmt, ParseFault> {
+        Err(ParseFault::Syntax)
     }
 
     fn plain(
@@ -145,7 +145,7 @@ impl Blocks for River {
         alloc: Global,
         brackets: u32,
         word: &[u8],
-    ) -> Result<Stmt, Fault> {
+    ) -> Result<Stmt, ParseFault> {
         plain(reader, alloc, brackets, word)
     }
 
@@ -178,7 +178,7 @@ impl Blocks for River {
 
 /// `{` statements `}`, in which `if` nests at most 16 deep.
 #[tactic(auto, unfolding(crate::specs::Bodies::body_at))]
-pub fn body(reader: &mut Reader<'_>, alloc: Global, brackets: u32) -> Result<Body, Fault>
+pub fn body(reader: &mut Reader<'_>, alloc: Global, brackets: u32) -> Result<Body, ParseFault>
     ensures { Gives steps result reader.new (body_at brackets reader.old) }
 {
     let stmts = text_blocks::block(&River, reader, alloc, 16, brackets)?;

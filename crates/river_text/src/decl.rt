@@ -8,7 +8,7 @@ use crate::number::{number, pair};
 use kern_tables::TableKind;
 use river_base::{FlatType, Name, QueueType};
 use river_plan::{Decl, TableDecl};
-use text_forms::{Fault, Reader, closed, is, kept};
+use text_forms::{ParseFault, Reader, closed, is, kept};
 use work_text::Symbol;
 
 /// How many brackets may be open in a unit.
@@ -16,31 +16,31 @@ pub const BRACKETS: u32 = 128;
 
 /// A name of at most 64 bytes.
 #[tactic(auto, unfolding(crate::specs::ReadPlans::river_name_at))]
-pub fn river_name(reader: &mut Reader<'_>) -> Result<Name, Fault>
+pub fn river_name(reader: &mut Reader<'_>) -> Result<Name, ParseFault>
     ensures { Gives (λ name. name) result reader.new (river_name_at reader.old) }
 {
     let text = reader.name()?;
     match Name::from_slice(text) {
         Some(name) => Ok(name),
-        None => Err(Fault::Syntax),
+        None => Err(ParseFault::Syntax),
     }
 }
 
 /// A variable, whose name has at most 64 bytes.
 #[tactic(auto, unfolding(crate::specs::ReadPlans::river_var_at))]
-pub fn river_var(reader: &mut Reader<'_>) -> Result<Name, Fault>
+pub fn river_var(reader: &mut Reader<'_>) -> Result<Name, ParseFault>
     ensures { Gives (λ name. name) result reader.new (river_var_at reader.old) }
 {
     let text = reader.var()?;
     match Name::from_slice(text) {
         Some(name) => Ok(name),
-        None => Err(Fault::Syntax),
+        None => Err(ParseFault::Syntax),
     }
 }
 
 // What stands behind the word of a flat type.
 #[tactic(auto, unfolding(crate::specs::ReadPlans::flat_after))]
-fn flat_after(reader: &mut Reader<'_>, brackets: u32, word: &[u8]) -> Result<FlatType, Fault>
+fn flat_after(reader: &mut Reader<'_>, brackets: u32, word: &[u8]) -> Result<FlatType, ParseFault>
     ensures { Gives (λ kind. kind) result reader.new (flat_after brackets word.now reader.old) }
 {
     if is(word, b"rows") {
@@ -52,12 +52,12 @@ fn flat_after(reader: &mut Reader<'_>, brackets: u32, word: &[u8]) -> Result<Fla
     if is(word, b"relation") {
         return Ok(FlatType::Relation(number(reader, brackets)?));
     }
-    Err(Fault::Syntax)
+    Err(ParseFault::Syntax)
 }
 
 // A flat type.
 #[tactic(auto, unfolding(crate::specs::ReadPlans::flat_at))]
-fn flat(reader: &mut Reader<'_>, brackets: u32) -> Result<FlatType, Fault>
+fn flat(reader: &mut Reader<'_>, brackets: u32) -> Result<FlatType, ParseFault>
     ensures { Gives (λ kind. kind) result reader.new (flat_at brackets reader.old) }
 {
     let word = reader.name()?;
@@ -66,7 +66,7 @@ fn flat(reader: &mut Reader<'_>, brackets: u32) -> Result<FlatType, Fault>
 
 // A flat type in brackets.
 #[tactic(auto, unfolding(crate::specs::ReadPlans::packed_at))]
-fn packed(reader: &mut Reader<'_>) -> Result<FlatType, Fault>
+fn packed(reader: &mut Reader<'_>) -> Result<FlatType, ParseFault>
     ensures { Gives (λ kind. kind) result reader.new (packed_at reader.old) }
 {
     let inner = reader.opens(Symbol::Open, BRACKETS)?;
@@ -76,7 +76,7 @@ fn packed(reader: &mut Reader<'_>) -> Result<FlatType, Fault>
 
 // A type.
 #[tactic(auto, unfolding(crate::specs::ReadPlans::type_at, crate::specs::ReadPlans::type_after))]
-fn queue_type(reader: &mut Reader<'_>) -> Result<QueueType, Fault>
+fn queue_type(reader: &mut Reader<'_>) -> Result<QueueType, ParseFault>
     ensures { Gives (λ kind. kind) result reader.new (type_at reader.old) }
 {
     let word = reader.name()?;
@@ -88,7 +88,7 @@ fn queue_type(reader: &mut Reader<'_>) -> Result<QueueType, Fault>
 
 /// The declaration of a queue, behind its first word.
 #[tactic(auto, unfolding(crate::specs::ReadPlans::decl_at))]
-pub fn decl(reader: &mut Reader<'_>) -> Result<Decl, Fault>
+pub fn decl(reader: &mut Reader<'_>) -> Result<Decl, ParseFault>
     ensures { Gives (λ decl. decl) result reader.new (decl_at reader.old) }
 {
     let name = river_name(reader)?;
@@ -108,7 +108,7 @@ pub struct QueueDecl {
 
 // `cap(N)`, or nothing.
 #[tactic(auto, unfolding(crate::specs::ReadPlans::cap_at))]
-fn cap(reader: &mut Reader<'_>) -> Result<Option<u32>, Fault>
+fn cap(reader: &mut Reader<'_>) -> Result<Option<u32>, ParseFault>
     ensures { Gives (λ most. most) result reader.new (cap_at reader.old) }
 {
     if !reader.is_at_word(b"cap") {
@@ -120,7 +120,7 @@ fn cap(reader: &mut Reader<'_>) -> Result<Option<u32>, Fault>
 
 /// The declaration of a queue that may have a capacity, behind its first word.
 #[tactic(auto, unfolding(crate::specs::ReadPlans::queue_at))]
-pub fn queue(reader: &mut Reader<'_>) -> Result<QueueDecl, Fault>
+pub fn queue(reader: &mut Reader<'_>) -> Result<QueueDecl, ParseFault>
     ensures { Gives (λ queue. queue) result reader.new (queue_at reader.old) }
 {
     let name = river_name(reader)?;
@@ -133,7 +133,7 @@ pub fn queue(reader: &mut Reader<'_>) -> Result<QueueDecl, Fault>
 
 /// The header of version 2, behind its first word.
 #[tactic(auto, unfolding(crate::specs::ReadPlans::header_at))]
-pub fn header(reader: &mut Reader<'_>) -> Result<u64, Fault>
+pub fn header(reader: &mut Reader<'_>) -> Result<u64, ParseFault>
     ensures { Gives (λ version. version) result reader.new (header_at reader.old) }
 {
     let number = reader.number()?;
@@ -143,7 +143,7 @@ pub fn header(reader: &mut Reader<'_>) -> Result<u64, Fault>
 
 // The kind of a table.
 #[tactic(auto, unfolding(crate::specs::ReadPlans::kind_at, crate::specs::ReadPlans::kind_after))]
-fn table_kind(reader: &mut Reader<'_>) -> Result<TableKind, Fault>
+fn table_kind(reader: &mut Reader<'_>) -> Result<TableKind, ParseFault>
     ensures { Gives (λ kind. kind) result reader.new (kind_at reader.old) }
 {
     let word = reader.name()?;
@@ -159,12 +159,12 @@ fn table_kind(reader: &mut Reader<'_>) -> Result<TableKind, Fault>
         let (best, keys) = pair(reader, BRACKETS)?;
         return Ok(TableKind::Maximum { best, keys });
     }
-    Err(Fault::Syntax)
+    Err(ParseFault::Syntax)
 }
 
 /// The declaration of a table, behind its first word.
 #[tactic(auto, unfolding(crate::specs::ReadPlans::table_at))]
-pub fn table(reader: &mut Reader<'_>) -> Result<TableDecl, Fault>
+pub fn table(reader: &mut Reader<'_>) -> Result<TableDecl, ParseFault>
     ensures { Gives (λ table. table) result reader.new (table_at reader.old) }
 {
     let name = river_var(reader)?;
@@ -175,7 +175,7 @@ pub fn table(reader: &mut Reader<'_>) -> Result<TableDecl, Fault>
 
 /// The declaration of a private variable, behind its first word.
 #[tactic(auto, unfolding(crate::specs::ReadPlans::private_at))]
-pub fn private(reader: &mut Reader<'_>) -> Result<Name, Fault>
+pub fn private(reader: &mut Reader<'_>) -> Result<Name, ParseFault>
     ensures { Gives (λ name. name) result reader.new (private_at reader.old) }
 {
     let name = river_var(reader)?;

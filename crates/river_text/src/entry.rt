@@ -13,7 +13,7 @@ use crate::op::operator;
 use river_base::{Name, NoMemory};
 use river_plan::{Cap, Caps, Decl, Op, RawPlan, TableDecl};
 use std::alloc::Global;
-use text_forms::{Fault, Reader, is, kept};
+use text_forms::{ParseFault, Reader, is, kept};
 use work_text::Lexeme;
 
 /// What a unit says: that the text is of version 2, or what is added to a plan.
@@ -132,7 +132,7 @@ fn cap_stands(headed: bool, most: Option<u32>) -> bool
 
 // A unit.
 #[tactic(auto, unfolding(crate::specs::ReadPlans::unit_at, crate::specs::ReadPlans::unit_after))]
-fn unit(reader: &mut Reader<'_>, alloc: Global) -> Result<Entry, Fault>
+fn unit(reader: &mut Reader<'_>, alloc: Global) -> Result<Entry, ParseFault>
     ensures { Gives entry_form result reader.new (unit_at reader.old) }
 {
     let word = reader.name()?;
@@ -150,7 +150,7 @@ fn unit(reader: &mut Reader<'_>, alloc: Global) -> Result<Entry, Fault>
 
 // What stands behind the first word of a unit that declares no queue.
 #[tactic(auto, unfolding(crate::specs::ReadPlans::other_after))]
-fn other_after(reader: &mut Reader<'_>, alloc: Global, word: &[u8]) -> Result<Entry, Fault>
+fn other_after(reader: &mut Reader<'_>, alloc: Global, word: &[u8]) -> Result<Entry, ParseFault>
     ensures { Gives entry_form result reader.new (other_after word.now reader.old) }
 {
     if is(word, b"table") {
@@ -166,7 +166,7 @@ fn other_after(reader: &mut Reader<'_>, alloc: Global, word: &[u8]) -> Result<En
         let _version = header(reader)?;
         return Ok(Entry::Header);
     }
-    Err(Fault::Syntax)
+    Err(ParseFault::Syntax)
 }
 
 // Whether an entry may stand there, and no token is left behind it.
@@ -178,7 +178,7 @@ fn fits(entry: &Entry, reader: &Reader<'_>, at: Place) -> bool
 
 /// The entry of a whole unit that stands there.
 #[tactic(auto, using(crate::proofs::Wholes::whole_none))]
-pub fn whole_entry(alloc: Global, tokens: &[Lexeme<'_>], at: Place) -> Result<Entry, Fault>
+pub fn whole_entry(alloc: Global, tokens: &[Lexeme<'_>], at: Place) -> Result<Entry, ParseFault>
     ensures { Makes entry_form result (whole (unit_from at) (tokens_of tokens.now)) }
 {
     let mut reader = Reader::new(tokens);

@@ -16,13 +16,13 @@ use kern_rows::{CodeKernel, Filter, First};
 use river_kernels::Kernel;
 use std::alloc::Global;
 use text_blocks::round;
-use text_forms::{Fault, Reader, closed, is};
+use text_forms::{ParseFault, Reader, closed, is};
 use work_code::{Body, Code};
 use work_text::Symbol;
 
 // What stands behind `code`.
 #[tactic(auto, unfolding(crate::specs::ReadKernels::code_at))]
-fn code(reader: &mut Reader<'_>, alloc: Global, brackets: u32) -> Result<Kernel, Fault>
+fn code(reader: &mut Reader<'_>, alloc: Global, brackets: u32) -> Result<Kernel, ParseFault>
     ensures { Gives kern_of result reader.new (code_at brackets reader.old) }
 {
     let (inputs, slots) = pair(reader, brackets)?;
@@ -43,7 +43,7 @@ fn first(
     reader: &mut Reader<'_>,
     alloc: Global,
     brackets: u32,
-) -> Result<Option<((u32, u32, u32), Body)>, Fault>
+) -> Result<Option<((u32, u32, u32), Body)>, ParseFault>
     ensures { Gives (optional (λ run. ((run.0.0, (run.0.1, run.0.2)), steps run.1))) result reader.new (first_at brackets reader.old) }
 {
     if !reader.is_at_word(b"first") {
@@ -74,7 +74,7 @@ fn first_run(run: Option<((u32, u32, u32), Body)>, slots: u32) -> Option<First>
 
 // What stands behind `filter`.
 #[tactic(auto, unfolding(crate::specs::ReadKernels::filter_at))]
-fn filter(reader: &mut Reader<'_>, alloc: Global, brackets: u32) -> Result<Kernel, Fault>
+fn filter(reader: &mut Reader<'_>, alloc: Global, brackets: u32) -> Result<Kernel, ParseFault>
     ensures { Gives kern_of result reader.new (filter_at brackets reader.old) }
 {
     let (peek, pop, push, slots) = rates(reader, brackets)?;
@@ -98,7 +98,7 @@ fn filter(reader: &mut Reader<'_>, alloc: Global, brackets: u32) -> Result<Kerne
 
 // What stands behind `range`.
 #[tactic(auto, unfolding(crate::specs::ReadKernels::range_at))]
-fn range(reader: &mut Reader<'_>, brackets: u32) -> Result<i64, Fault>
+fn range(reader: &mut Reader<'_>, brackets: u32) -> Result<i64, ParseFault>
     ensures { Gives (λ value. value) result reader.new (range_at brackets reader.old) }
 {
     reader.opens(Symbol::Open, brackets)?;
@@ -108,7 +108,7 @@ fn range(reader: &mut Reader<'_>, brackets: u32) -> Result<i64, Fault>
 
 // What stands behind the word of a streamer or of a tally.
 #[tactic(auto, unfolding(crate::specs::ReadKernels::stream_after))]
-fn stream_after(reader: &mut Reader<'_>, word: &[u8]) -> Result<Kernel, Fault>
+fn stream_after(reader: &mut Reader<'_>, word: &[u8]) -> Result<Kernel, ParseFault>
     ensures { Gives kern_of result reader.new (stream_after word.now reader.old) }
 {
     if is(word, b"istream") {
@@ -123,7 +123,7 @@ fn stream_after(reader: &mut Reader<'_>, word: &[u8]) -> Result<Kernel, Fault>
     if is(word, b"tally") {
         return Ok(Kernel::Tally);
     }
-    Err(Fault::Syntax)
+    Err(ParseFault::Syntax)
 }
 
 // That, or behind the word of a kernel on relations.
@@ -133,7 +133,7 @@ fn relation_after(
     alloc: Global,
     brackets: u32,
     word: &[u8],
-) -> Result<Kernel, Fault>
+) -> Result<Kernel, ParseFault>
     ensures { Gives kern_of result reader.new (relation_after brackets word.now reader.old) }
 {
     if is(word, b"select") {
@@ -155,7 +155,7 @@ fn bag_after(
     alloc: Global,
     brackets: u32,
     word: &[u8],
-) -> Result<Kernel, Fault>
+) -> Result<Kernel, ParseFault>
     ensures { Gives kern_of result reader.new (bag_after brackets word.now reader.old) }
 {
     if is(word, b"now") {
@@ -175,7 +175,7 @@ fn bag_after(
 
 // A kernel in braces, in a box.
 #[cycle(kernel)]
-fn boxed(reader: &mut Reader<'_>, alloc: Global, brackets: u32) -> Result<Box<Kernel>, Fault>
+fn boxed(reader: &mut Reader<'_>, alloc: Global, brackets: u32) -> Result<Box<Kernel>, ParseFault>
     ensures { Gives (λ boxed. kern_of boxed.value) result reader.new (braced_at brackets reader.old) }
 {
     Ok(Box::new(alloc, braced(reader, alloc, brackets)?)?)
@@ -184,7 +184,7 @@ fn boxed(reader: &mut Reader<'_>, alloc: Global, brackets: u32) -> Result<Box<Ke
 // What stands behind `fused`.
 #[cycle(kernel)]
 #[tactic(auto, unfolding(crate::specs::ReadKernels::fused_at))]
-fn fused(reader: &mut Reader<'_>, alloc: Global, brackets: u32) -> Result<Kernel, Fault>
+fn fused(reader: &mut Reader<'_>, alloc: Global, brackets: u32) -> Result<Kernel, ParseFault>
     ensures { Gives kern_of result reader.new (fused_at (braced_at brackets) brackets reader.old) }
 {
     let at = number(reader, brackets)?;
@@ -201,7 +201,7 @@ fn packed_after(
     alloc: Global,
     brackets: u32,
     word: &[u8],
-) -> Result<Kernel, Fault>
+) -> Result<Kernel, ParseFault>
     ensures { Gives kern_of result reader.new (packed_after (braced_at brackets) brackets word.now reader.old) }
 {
     if is(word, b"packed") {
@@ -224,7 +224,7 @@ fn ports_after(
     alloc: Global,
     brackets: u32,
     word: &[u8],
-) -> Result<Kernel, Fault>
+) -> Result<Kernel, ParseFault>
     ensures { Gives kern_of result reader.new (ports_after (braced_at brackets) brackets word.now reader.old) }
 {
     if is(word, b"duplicate") {
@@ -242,7 +242,7 @@ fn ports_after(
 /// `{` kernel `}`, where so many more brackets may be open.
 #[cycle(kernel)]
 #[tactic(auto, using(crate::proofs::Braces::braces))]
-pub fn braced(reader: &mut Reader<'_>, alloc: Global, brackets: u32) -> Result<Kernel, Fault>
+pub fn braced(reader: &mut Reader<'_>, alloc: Global, brackets: u32) -> Result<Kernel, ParseFault>
     ensures { Gives kern_of result reader.new (braced_at brackets reader.old) }
 {
     let inner = reader.opens(Symbol::OpenBrace, brackets)?;
@@ -253,7 +253,7 @@ pub fn braced(reader: &mut Reader<'_>, alloc: Global, brackets: u32) -> Result<K
 // A kernel, where `brackets` more brackets may be open.
 #[cycle(kernel)]
 #[tactic(auto, unfolding(crate::specs::ReadKernels::kernel_at, crate::specs::ReadKernels::kernel_after))]
-fn kernel(reader: &mut Reader<'_>, alloc: Global, brackets: u32) -> Result<Kernel, Fault>
+fn kernel(reader: &mut Reader<'_>, alloc: Global, brackets: u32) -> Result<Kernel, ParseFault>
     ensures { Gives kern_of result reader.new (kernel_at brackets reader.old) }
 {
     let word = reader.name()?;

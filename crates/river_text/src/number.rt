@@ -8,7 +8,7 @@ ghost use Rattle.river_text.specs.ReadKernels.{widths_at, weights_at, number_at,
 
 use river_base::Numbers;
 use std::alloc::Global;
-use text_forms::{Fault, Reader, closed};
+use text_forms::{ParseFault, Reader, closed};
 use work_text::Symbol;
 
 /// What a number in a list is.
@@ -23,7 +23,7 @@ pub enum Kind {
 }
 
 // A number of this kind.
-fn number_of(reader: &mut Reader<'_>, kind: Kind) -> Result<i64, Fault>
+fn number_of(reader: &mut Reader<'_>, kind: Kind) -> Result<i64, ParseFault>
     ensures { Gives (λ value. value) result reader.new (kind_number_at kind reader.old) }
 {
     match kind {
@@ -34,7 +34,7 @@ fn number_of(reader: &mut Reader<'_>, kind: Kind) -> Result<i64, Fault>
 }
 
 // The width of a port.
-fn width(reader: &mut Reader<'_>) -> Result<i64, Fault>
+fn width(reader: &mut Reader<'_>) -> Result<i64, ParseFault>
     ensures { Gives (λ value. value) result reader.new (width_at reader.old) }
 {
     Ok(i64::from(reader.count()?))
@@ -42,7 +42,7 @@ fn width(reader: &mut Reader<'_>) -> Result<i64, Fault>
 
 /// A value that may be below 0, or `min`.
 #[tactic(auto, unfolding(crate::specs::ReadKernels::signed_at))]
-pub fn signed(reader: &mut Reader<'_>) -> Result<i64, Fault>
+pub fn signed(reader: &mut Reader<'_>) -> Result<i64, ParseFault>
     ensures { Gives (λ value. value) result reader.new (signed_at reader.old) }
 {
     if reader.takes(Symbol::Minus) {
@@ -56,7 +56,7 @@ pub fn signed(reader: &mut Reader<'_>) -> Result<i64, Fault>
 }
 
 // Puts a number of this kind at the end of a list.
-fn add_number(reader: &mut Reader<'_>, kind: Kind, to: &mut Numbers) -> Result<(), Fault>
+fn add_number(reader: &mut Reader<'_>, kind: Kind, to: &mut Numbers) -> Result<(), ParseFault>
     ensures { Gives (λ _. to.new) result reader.new (seen (λ v. to.old ++ v ∷ []) (kind_number_at kind) reader.old) }
 {
     let number = number_of(reader, kind)?;
@@ -65,7 +65,7 @@ fn add_number(reader: &mut Reader<'_>, kind: Kind, to: &mut Numbers) -> Result<(
 
 // Numbers of this kind with commas between them, at least one.
 #[tactic(auto, using(crate::proofs::Steps::numbers))]
-fn some_numbers(reader: &mut Reader<'_>, alloc: Global, kind: Kind) -> Result<Numbers, Fault>
+fn some_numbers(reader: &mut Reader<'_>, alloc: Global, kind: Kind) -> Result<Numbers, ParseFault>
     ensures { Gives (λ list. list) result reader.new (commas (kind_number_at kind) reader.old) }
 {
     let mut list = Numbers::new(alloc);
@@ -77,7 +77,7 @@ fn some_numbers(reader: &mut Reader<'_>, alloc: Global, kind: Kind) -> Result<Nu
 }
 
 // Numbers of this kind with commas between them, or none before a closing bracket.
-fn numbers(reader: &mut Reader<'_>, alloc: Global, kind: Kind) -> Result<Numbers, Fault>
+fn numbers(reader: &mut Reader<'_>, alloc: Global, kind: Kind) -> Result<Numbers, ParseFault>
     ensures { Gives (λ list. list) result reader.new (listing s.Close (kind_number_at kind) reader.old) }
 {
     if reader.is_at(Symbol::Close) {
@@ -92,7 +92,7 @@ fn round_numbers(
     alloc: Global,
     brackets: u32,
     kind: Kind,
-) -> Result<Numbers, Fault>
+) -> Result<Numbers, ParseFault>
     ensures { Gives (λ list. list) result reader.new (round (λ m. listing s.Close (kind_number_at kind)) brackets reader.old) }
 {
     reader.opens(Symbol::Open, brackets)?;
@@ -102,7 +102,7 @@ fn round_numbers(
 
 /// `(` the kept values at the start `)`
 #[tactic(auto, unfolding(crate::specs::ReadKernels::starts_at))]
-pub fn starts(reader: &mut Reader<'_>, alloc: Global, brackets: u32) -> Result<Numbers, Fault>
+pub fn starts(reader: &mut Reader<'_>, alloc: Global, brackets: u32) -> Result<Numbers, ParseFault>
     ensures { Gives (λ list. list) result reader.new (starts_at brackets reader.old) }
 {
     round_numbers(reader, alloc, brackets, Kind::Signed)
@@ -110,7 +110,7 @@ pub fn starts(reader: &mut Reader<'_>, alloc: Global, brackets: u32) -> Result<N
 
 /// `(` the widths of the output ports `)`
 #[tactic(auto, unfolding(crate::specs::ReadKernels::widths_at))]
-pub fn widths(reader: &mut Reader<'_>, alloc: Global, brackets: u32) -> Result<Numbers, Fault>
+pub fn widths(reader: &mut Reader<'_>, alloc: Global, brackets: u32) -> Result<Numbers, ParseFault>
     ensures { Gives (λ list. list) result reader.new (widths_at brackets reader.old) }
 {
     round_numbers(reader, alloc, brackets, Kind::Width)
@@ -118,7 +118,7 @@ pub fn widths(reader: &mut Reader<'_>, alloc: Global, brackets: u32) -> Result<N
 
 /// `(` the weights of the ports `)`
 #[tactic(auto, unfolding(crate::specs::ReadKernels::weights_at))]
-pub fn weights(reader: &mut Reader<'_>, alloc: Global, brackets: u32) -> Result<Numbers, Fault>
+pub fn weights(reader: &mut Reader<'_>, alloc: Global, brackets: u32) -> Result<Numbers, ParseFault>
     ensures { Gives (λ list. list) result reader.new (weights_at brackets reader.old) }
 {
     reader.opens(Symbol::Open, brackets)?;
@@ -128,7 +128,7 @@ pub fn weights(reader: &mut Reader<'_>, alloc: Global, brackets: u32) -> Result<
 
 /// `(N)`
 #[tactic(auto, unfolding(crate::specs::ReadKernels::number_at))]
-pub fn number(reader: &mut Reader<'_>, brackets: u32) -> Result<u32, Fault>
+pub fn number(reader: &mut Reader<'_>, brackets: u32) -> Result<u32, ParseFault>
     ensures { Gives (λ value. value) result reader.new (number_at brackets reader.old) }
 {
     reader.opens(Symbol::Open, brackets)?;
@@ -138,7 +138,7 @@ pub fn number(reader: &mut Reader<'_>, brackets: u32) -> Result<u32, Fault>
 
 // `N, N`
 #[tactic(auto, unfolding(crate::specs::ReadKernels::two_at))]
-fn two(reader: &mut Reader<'_>) -> Result<(u32, u32), Fault>
+fn two(reader: &mut Reader<'_>) -> Result<(u32, u32), ParseFault>
     ensures { Gives (λ value. value) result reader.new (two_at reader.old) }
 {
     let first = reader.count()?;
@@ -149,7 +149,7 @@ fn two(reader: &mut Reader<'_>) -> Result<(u32, u32), Fault>
 
 /// `(N, N)`
 #[tactic(auto, unfolding(crate::specs::ReadKernels::pair_at))]
-pub fn pair(reader: &mut Reader<'_>, brackets: u32) -> Result<(u32, u32), Fault>
+pub fn pair(reader: &mut Reader<'_>, brackets: u32) -> Result<(u32, u32), ParseFault>
     ensures { Gives (λ value. value) result reader.new (pair_at brackets reader.old) }
 {
     reader.opens(Symbol::Open, brackets)?;
@@ -159,7 +159,7 @@ pub fn pair(reader: &mut Reader<'_>, brackets: u32) -> Result<(u32, u32), Fault>
 
 // `N, N, N`
 #[tactic(auto, unfolding(crate::specs::ReadKernels::three_at))]
-fn three(reader: &mut Reader<'_>) -> Result<(u32, u32, u32), Fault>
+fn three(reader: &mut Reader<'_>) -> Result<(u32, u32, u32), ParseFault>
     ensures { Gives (λ value. (value.0, (value.1, value.2))) result reader.new (three_at reader.old) }
 {
     let first = reader.count()?;
@@ -170,7 +170,7 @@ fn three(reader: &mut Reader<'_>) -> Result<(u32, u32, u32), Fault>
 
 /// `(N, N, N)`
 #[tactic(auto, unfolding(crate::specs::ReadKernels::triple_at))]
-pub fn triple(reader: &mut Reader<'_>, brackets: u32) -> Result<(u32, u32, u32), Fault>
+pub fn triple(reader: &mut Reader<'_>, brackets: u32) -> Result<(u32, u32, u32), ParseFault>
     ensures { Gives (λ value. (value.0, (value.1, value.2))) result reader.new (triple_at brackets reader.old) }
 {
     reader.opens(Symbol::Open, brackets)?;
@@ -180,7 +180,7 @@ pub fn triple(reader: &mut Reader<'_>, brackets: u32) -> Result<(u32, u32, u32),
 
 /// `(N, N, N, N)`
 #[tactic(auto, unfolding(crate::specs::ReadKernels::rates_at))]
-pub fn rates(reader: &mut Reader<'_>, brackets: u32) -> Result<(u32, u32, u32, u32), Fault>
+pub fn rates(reader: &mut Reader<'_>, brackets: u32) -> Result<(u32, u32, u32, u32), ParseFault>
     ensures { Gives (λ value. (value.0, (value.1, (value.2, value.3)))) result reader.new (rates_at brackets reader.old) }
 {
     reader.opens(Symbol::Open, brackets)?;

@@ -15,12 +15,12 @@ use river_base::Name;
 use river_kernels::Kernel;
 use river_plan::Op;
 use std::alloc::Global;
-use text_forms::{Fault, Reader, kept};
+use text_forms::{ParseFault, Reader, kept};
 use work_text::Symbol;
 
 /// An operator, behind its first word.
 #[tactic(auto, unfolding(crate::specs::ReadPlans::op_at))]
-pub fn operator(reader: &mut Reader<'_>, alloc: Global) -> Result<Op, Fault>
+pub fn operator(reader: &mut Reader<'_>, alloc: Global) -> Result<Op, ParseFault>
     ensures { Gives op_form result reader.new (op_at reader.old) }
 {
     let label = river_name(reader)?;
@@ -31,7 +31,7 @@ pub fn operator(reader: &mut Reader<'_>, alloc: Global) -> Result<Op, Fault>
 
 // The operator, behind what it writes.
 #[tactic(auto, unfolding(crate::specs::ReadPlans::op_from_at), using(crate::proofs::Ports::steps))]
-fn op_from(reader: &mut Reader<'_>, alloc: Global, label: Name, outs: Ports) -> Result<Op, Fault>
+fn op_from(reader: &mut Reader<'_>, alloc: Global, label: Name, outs: Ports) -> Result<Op, ParseFault>
     ensures { Gives op_form result reader.new (op_from_at label (pair_of outs) reader.old) }
 {
     let ins = sources(reader, alloc)?;
@@ -40,7 +40,7 @@ fn op_from(reader: &mut Reader<'_>, alloc: Global, label: Name, outs: Ports) -> 
 }
 
 // `<-` and what an operator reads.
-fn sources(reader: &mut Reader<'_>, alloc: Global) -> Result<Ports, Fault>
+fn sources(reader: &mut Reader<'_>, alloc: Global) -> Result<Ports, ParseFault>
     ensures { Gives pair_of result reader.new (after (s.Less ∷ s.Minus ∷ []) ports_at reader.old) }
 {
     reader.expect(&[Symbol::Less, Symbol::Minus])?;
@@ -48,7 +48,7 @@ fn sources(reader: &mut Reader<'_>, alloc: Global) -> Result<Ports, Fault>
 }
 
 // An operator, where it reads and writes the same variables.
-fn made_op(label: Name, outs: Ports, ins: Ports, kernel: Kernel) -> Result<Op, Fault>
+fn made_op(label: Name, outs: Ports, ins: Ports, kernel: Kernel) -> Result<Op, ParseFault>
     ensures { Makes op_form result (op_of_parts label (pair_of outs) (pair_of ins) (kern_of kernel)) }
 {
     let same = outs.vars.as_slice() == ins.vars.as_slice();

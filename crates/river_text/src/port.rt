@@ -10,7 +10,7 @@ use crate::decl::{BRACKETS, river_name, river_var};
 use river_base::{Listed, Name};
 use river_plan::Names;
 use std::alloc::Global;
-use text_forms::{Fault, Reader, closed};
+use text_forms::{ParseFault, Reader, closed};
 use work_text::{Symbol, Token};
 
 /// A queue or a variable.
@@ -29,7 +29,7 @@ pub struct Ports {
 
 // A queue or a variable.
 #[tactic(auto, unfolding(crate::specs::ReadPlans::port_at))]
-fn one_port(reader: &mut Reader<'_>) -> Result<Port, Fault>
+fn one_port(reader: &mut Reader<'_>) -> Result<Port, ParseFault>
     ensures { Gives port_of result reader.new (port_at reader.old) }
 {
     if let Some(Token::Var(_)) = reader.peek() {
@@ -40,7 +40,7 @@ fn one_port(reader: &mut Reader<'_>) -> Result<Port, Fault>
 
 // Queues and variables with commas between them, at least one.
 #[tactic(auto, using(crate::proofs::Ports::port_steps))]
-fn some_ports(reader: &mut Reader<'_>, alloc: Global) -> Result<Listed<Port>, Fault>
+fn some_ports(reader: &mut Reader<'_>, alloc: Global) -> Result<Listed<Port>, ParseFault>
     ensures { Gives (λ list. map port_of list) result reader.new (commas port_at reader.old) }
 {
     let mut list = Listed::new(alloc);
@@ -53,7 +53,7 @@ fn some_ports(reader: &mut Reader<'_>, alloc: Global) -> Result<Listed<Port>, Fa
 
 // Queues and variables with commas between them, or none before a closing bracket.
 #[tactic(auto, unfolding(crate::specs::ReadPlans::port_list_at))]
-fn port_list(reader: &mut Reader<'_>, alloc: Global) -> Result<Listed<Port>, Fault>
+fn port_list(reader: &mut Reader<'_>, alloc: Global) -> Result<Listed<Port>, ParseFault>
     ensures { Gives (λ list. map port_of list) result reader.new (port_list_at reader.old) }
 {
     if reader.is_at(Symbol::Close) {
@@ -64,7 +64,7 @@ fn port_list(reader: &mut Reader<'_>, alloc: Global) -> Result<Listed<Port>, Fau
 
 // Queues and then variables, taken apart.
 #[tactic(auto, using(crate::proofs::Ports::splits))]
-fn split(alloc: Global, list: &[Port]) -> Result<Ports, Fault>
+fn split(alloc: Global, list: &[Port]) -> Result<Ports, ParseFault>
     ensures { Makes pair_of result (split_from [] [] (map port_of list.now)) }
 {
     let mut queues = Names::new(alloc);
@@ -74,7 +74,7 @@ fn split(alloc: Global, list: &[Port]) -> Result<Ports, Fault>
             Port::Variable(name) => vars.push(name)?,
             Port::Queue(name) => {
                 if !vars.is_empty() {
-                    return Err(Fault::Syntax);
+                    return Err(ParseFault::Syntax);
                 }
                 queues.push(name)?;
             }
@@ -85,7 +85,7 @@ fn split(alloc: Global, list: &[Port]) -> Result<Ports, Fault>
 
 /// `(` queues and then variables `)`
 #[tactic(auto, unfolding(crate::specs::ReadPlans::ports_at))]
-pub fn both_lists(reader: &mut Reader<'_>, alloc: Global) -> Result<Ports, Fault>
+pub fn both_lists(reader: &mut Reader<'_>, alloc: Global) -> Result<Ports, ParseFault>
     ensures { Gives pair_of result reader.new (ports_at reader.old) }
 {
     reader.opens(Symbol::Open, BRACKETS)?;

@@ -12,7 +12,7 @@ use crate::entry::{Place, RiverText, whole_entry};
 use river_base::Bytes;
 use river_plan::{Caps, RawPlan};
 use std::alloc::Global;
-use text_forms::Fault;
+use text_forms::ParseFault;
 use work_text::{Lexeme, Tokens, Units, lex, units};
 
 /// The lists of the plan that a text stands for (the River language of Soulé and others, DEBS 2012), and
@@ -97,8 +97,8 @@ fn add_units(
                 place = entry.next_place(place);
                 entry.add_to(text)?;
             }
-            Err(Fault::Syntax) => return Err(TextFault::Syntax { unit: i as u32 + 1 }),
-            Err(Fault::NoMemory) => return Err(TextFault::NoMemory),
+            Err(ParseFault::Syntax) => return Err(TextFault::Syntax { unit: i as u32 + 1 }),
+            Err(ParseFault::NoMemory) => return Err(TextFault::NoMemory),
         }
     }
     Ok(())

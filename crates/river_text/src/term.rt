@@ -8,13 +8,13 @@ ghost use Rattle.river_text.specs.Expressions.{constant_at, named, leaf_at};
 use river_base::NoMemory;
 use std::alloc::Global;
 use text_blocks::{Sign, Terms, place, take_sign, term};
-use text_forms::{Fault, Reader, closed, is};
+use text_forms::{ParseFault, Reader, closed, is};
 use work_code::{BinOp, Expr, Exprs};
 use work_text::{Symbol, Token};
 
 // A number as it is written.
 #[tactic(auto, unfolding(crate::specs::Expressions::constant_at))]
-fn constant(reader: &mut Reader<'_>) -> Result<Expr, Fault>
+fn constant(reader: &mut Reader<'_>) -> Result<Expr, ParseFault>
     ensures reads { Gives term result reader.new (constant_at reader.old) }
     ensures depth { IfOk result (λ e. depth_of (term e) ≡ 1) }
 {
@@ -23,7 +23,7 @@ fn constant(reader: &mut Reader<'_>) -> Result<Expr, Fault>
 
 // A leaf that begins with this name.
 #[tactic(auto, unfolding(crate::specs::Expressions::named))]
-fn named(reader: &mut Reader<'_>, brackets: u32, text: &[u8]) -> Result<Expr, Fault>
+fn named(reader: &mut Reader<'_>, brackets: u32, text: &[u8]) -> Result<Expr, ParseFault>
     ensures reads { Gives term result reader.new (named brackets text.now reader.old) }
     ensures depth { IfOk result (λ e. depth_of (term e) ≡ 1) }
 {
@@ -33,11 +33,11 @@ fn named(reader: &mut Reader<'_>, brackets: u32, text: &[u8]) -> Result<Expr, Fa
     if is(text, b"slot") {
         return Ok(Expr::Slot(place(reader, brackets)?));
     }
-    Err(Fault::Syntax)
+    Err(ParseFault::Syntax)
 }
 
 // A number, a place of the input or a slot.
-fn leaf(reader: &mut Reader<'_>, brackets: u32) -> Result<Expr, Fault>
+fn leaf(reader: &mut Reader<'_>, brackets: u32) -> Result<Expr, ParseFault>
     ensures reads { Gives term result reader.new (leaf_at brackets reader.old) }
     ensures depth { IfOk result (λ e. depth_of (term e) ≡ 1) }
 {
@@ -47,7 +47,7 @@ fn leaf(reader: &mut Reader<'_>, brackets: u32) -> Result<Expr, Fault>
             reader.skip();
             named(reader, brackets, text)
         }
-        _ => Err(Fault::Syntax),
+        _ => Err(ParseFault::Syntax),
     }
 }
 
@@ -81,7 +81,7 @@ impl Terms for River {
         None
     }
 
-    fn leaf(&self, reader: &mut Reader<'_>, brackets: u32) -> Result<Expr, Fault> {
+    fn leaf(&self, reader: &mut Reader<'_>, brackets: u32) -> Result<Expr, ParseFault> {
         leaf(reader, brackets)
     }
 
@@ -106,7 +106,7 @@ impl Terms for River {
 
 // Expressions with commas between them, at least one.
 #[tactic(auto, unfolding(crate::specs::Bodies::some_terms_at), using(crate::proofs::Steps::term_steps))]
-fn some_exprs(reader: &mut Reader<'_>, alloc: Global, brackets: u32) -> Result<Exprs, Fault>
+fn some_exprs(reader: &mut Reader<'_>, alloc: Global, brackets: u32) -> Result<Exprs, ParseFault>
     ensures { Gives terms result reader.new (some_terms_at brackets reader.old) }
 {
     let mut list = Exprs::new(alloc);
@@ -119,7 +119,7 @@ fn some_exprs(reader: &mut Reader<'_>, alloc: Global, brackets: u32) -> Result<E
 
 /// `(e, ..)`
 #[tactic(auto, unfolding(crate::specs::Bodies::terms_at, text_blocks::specs::Parts::round_at))]
-pub fn exprs(reader: &mut Reader<'_>, alloc: Global, brackets: u32) -> Result<Exprs, Fault>
+pub fn exprs(reader: &mut Reader<'_>, alloc: Global, brackets: u32) -> Result<Exprs, ParseFault>
     ensures { Gives terms result reader.new (terms_at brackets reader.old) }
 {
     let inner = reader.opens(Symbol::Open, brackets)?;

@@ -23,8 +23,8 @@ use Rattle.river_road.specs.Points.{of_program, of_script, of_supplied, of_scrip
 use Rattle.river_road.specs.Source.{SourceProgram, source_or_refused}
 use Rattle.river_road.specs.Supplied.{Supplied, printed_for}
 use Rattle.river_road.specs.Text.{large_program, large_input}
-use Rattle.river_road.specs.declared.content.Content.{Content}
-use Rattle.river_road.specs.declared.content.Content.TheVariants.{Rows as Plain}
+use Rattle.river_road.specs.declared.content.FileContent.{FileContent}
+use Rattle.river_road.specs.declared.content.FileContent.TheVariants.{Rows as Plain}
 use Rattle.river_langs.specs.Sources.{saw_source, saw_in}
 use Rattle.river_pieces.specs.Refused.{HasFault}
 use Rattle.river_pieces.specs.Whole.{Prints}
@@ -67,23 +67,23 @@ module _ (h : Held) (v : Verdict) where
   names_are w file = refl
 
   -- what is read of its one input
-  abbrev content-of : List ℕ → List ℕ → ℕ → Bool → Result (List Content) (List ℕ)
+  abbrev content-of : List ℕ → List ℕ → ℕ → Bool → Result (List FileContent) (List ℕ)
   content-of file bytes w header = all_read (content_reader (one_input w) (layout_of true header)) (one_word file) (bytes ∷ [])
 
   -- the bytes of its input are found
-  inputs-found : (file bytes : List ℕ) (w : ℕ) (header : Bool) (next : List Content → Order) → h file ≡ Some bytes → length bytes ≤ most_input
+  inputs-found : (file bytes : List ℕ) (w : ℕ) (header : Bool) (next : List FileContent → Order) → h file ≡ Some bytes → length bytes ≤ most_input
       → EndsSo (past (content-of file bytes w header) (λ all. next (contents_in_order (one_input w) (one_word file) all)))
       → EndsSo (of_inputs (one_input w) (one_word file) (layout_of true header) next)
   unfolding of_inputs fetch_each
   inputs-found file bytes w header next is le done =
       let reader = content_reader (one_input w) (layout_of true header) in
-      let then : List Content → Order = λ all. next (contents_in_order (one_input w) (one_word file) all) in
+      let then : List FileContent → Order = λ all. next (contents_in_order (one_input w) (one_word file) all) in
       let later : List (List ℕ) → Order = λ files. past (all_read reader (one_word file) files) then in
       past-on (names_fit (one_input w) (one_word file)) (λ _. fetch_each (one_word file) later) tt (names_are w file)
       (fetch-on file most_input (large_input (codes "in")) (λ b. later (b ∷ [])) bytes is le done)
 
   -- its rows are read
-  inputs-on : (file bytes : List ℕ) (w : ℕ) (header : Bool) (next : List Content → Order) (rows : List (List ℤ)) → h file ≡ Some bytes
+  inputs-on : (file bytes : List ℕ) (w : ℕ) (header : Bool) (next : List FileContent → Order) (rows : List (List ℤ)) → h file ≡ Some bytes
       → length bytes ≤ most_input → rows_of_file bytes w header true ≡ Ok rows → EndsSo (next (Plain rows ∷ []))
       → EndsSo (of_inputs (one_input w) (one_word file) (layout_of true header) next)
   inputs-on file bytes w header next rows is le read done =
@@ -93,7 +93,7 @@ module _ (h : Held) (v : Verdict) where
       (past-on (content-of file bytes w header) (λ all. next (contents_in_order (one_input w) (one_word file) all)) (Plain rows ∷ []) made done)
 
   -- or its fault is told
-  inputs-off : (file bytes : List ℕ) (w : ℕ) (header : Bool) (next : List Content → Order) (f : InFault) → h file ≡ Some bytes
+  inputs-off : (file bytes : List ℕ) (w : ℕ) (header : Bool) (next : List FileContent → Order) (f : InFault) → h file ≡ Some bytes
       → length bytes ≤ most_input → rows_of_file bytes w header true ≡ Err f → Refused (told_of f) ≡ v
       → EndsSo (of_inputs (one_input w) (one_word file) (layout_of true header) next)
   inputs-off file bytes w header next f is le read end =

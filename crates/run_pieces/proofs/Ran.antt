@@ -30,8 +30,8 @@ use Rattle.river_road.specs.Points.{of_program, with_plan, of_script, of_supplie
 use Rattle.river_road.specs.Source.{SourceProgram, source_or_refused, printed}
 use Rattle.river_road.specs.Supplied.{Supplied, printed_for}
 use Rattle.river_road.specs.Text.{large_program, large_script, large_input}
-use Rattle.river_road.specs.declared.content.Content.{Content}
-use Rattle.river_road.specs.declared.content.Content.TheVariants.{Rows as Plain}
+use Rattle.river_road.specs.declared.content.FileContent.{FileContent}
+use Rattle.river_road.specs.declared.content.FileContent.TheVariants.{Rows as Plain}
 use Rattle.river_langs.specs.Sources.{saw_source, saw_in}
 use Rattle.river_pieces.specs.Whole.{Prints}
 use Rattle.river_pieces.proofs.Compiled.{compiled_runs_print}
@@ -55,7 +55,7 @@ plan-found source later (Ok plan) e = (plan, cc e)
 plan-found source later (Err fault) e = cc e
 
 -- what was read of the one file are its rows
-rows-found : (r : Result (List (List ℤ)) InFault) (all : List Content) → with_first (or_told (codes "in") (read_as Plain r)) (Ok []) ≡ Ok all
+rows-found : (r : Result (List (List ℤ)) InFault) (all : List FileContent) → with_first (or_told (codes "in") (read_as Plain r)) (Ok []) ≡ Ok all
     → (rows : List (List ℤ)) × (r ≡ Ok rows) × (Plain rows ∷ [] ≡ all)
 rows-found (Ok rows) all e = (rows, refl, cc e)
 rows-found (Err fault) all e = cc e
@@ -92,19 +92,19 @@ module _ (h : Held) (out : List ℕ) where
       (made.0, subst (λ (s : SourceProgram). IsDone h out (next s)) (sym made.1) found.2)
 
   -- the rows of its input were read
-  inputs-done : (file bytes : List ℕ) (w : ℕ) (header : Bool) (next : List Content → Order) → h file ≡ Some bytes
+  inputs-done : (file bytes : List ℕ) (w : ℕ) (header : Bool) (next : List FileContent → Order) → h file ≡ Some bytes
       → IsDone h out (of_inputs (one_input w) (one_word file) (layout_of true header) next)
       → (rows : List (List ℤ)) × (rows_of_file bytes w header true ≡ Ok rows) × IsDone h out (next (Plain rows ∷ []))
   unfolding of_inputs fetch_each
   inputs-done file bytes w header next is done =
       let reader = content_reader (one_input w) (layout_of true header) in
-      let then : List Content → Order = λ all. next (contents_in_order (one_input w) (one_word file) all) in
+      let then : List FileContent → Order = λ all. next (contents_in_order (one_input w) (one_word file) all) in
       let read : List (List ℕ) → Order = λ files. past (all_read reader (one_word file) files) then in
       let named = past-done h out (names_fit (one_input w) (one_word file)) (λ _. fetch_each (one_word file) read) done in
       let later = fetched-done h out file most_input (large_input (codes "in")) (λ b. read (b ∷ [])) bytes is named.2 in
       let found = past-done h out (all_read reader (one_word file) (bytes ∷ [])) then later in
       let made = rows-found (rows_of_file bytes w header true) found.0 found.1 in
-      (made.0, made.1, subst (λ (all : List Content). IsDone h out (then all)) (sym made.2) found.2)
+      (made.0, made.1, subst (λ (all : List FileContent). IsDone h out (then all)) (sym made.2) found.2)
 
 -- ---- THE RUN
 

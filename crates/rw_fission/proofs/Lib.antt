@@ -11,7 +11,7 @@ pub mod FissionJudged
 pub mod FissionLaw
 pub mod Flatness
 pub mod FormJudged
-pub mod Instances
+pub mod Examples
 pub mod MadeNames
 pub mod OtherKernels
 pub mod Packs

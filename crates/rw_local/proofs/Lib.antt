@@ -12,7 +12,7 @@ pub mod HoistJudged
 pub mod HoistLaw
 pub mod HoistLemmas
 pub mod HoistSteps
-pub mod Instances
+pub mod Examples
 pub mod OpLemmas
 pub mod OtherKernels
 pub mod PassCases

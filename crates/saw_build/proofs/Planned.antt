@@ -21,7 +21,7 @@ use Rattle.saw_model.proofs.Parts.{parts_read, reads_parts, tabled_parts, split_
 use Rattle.saw_text.specs.declared.tree.Unit as tree
 use Rattle.saw_text.specs.Tree.{UnitForm, unit_form, unit_forms}
 use Rattle.saw_build.specs.Plans.{AreListed}
-use Rattle.saw_build.specs.Valued.{AreValuedParts}
+use Rattle.saw_build.specs.Valued.{AreValuedUnits}
 
 -- LISTS
 
@@ -56,7 +56,7 @@ tally_is_name name h len = longer_name name (codes "@tally") refl (omega arith) 
 
 -- WHAT JUDGING SEES TO
 
-listed_from : (p : Program) (s : At) (y : Steps × At) → AreValuedParts p → parts_read p s ≡ fine y → AreListed (tables_in p)
+listed_from : (p : Program) (s : At) (y : Steps × At) → AreValuedUnits p → parts_read p s ≡ fine y → AreListed (tables_in p)
 listed_from [] s y v h = tt
 listed_from (TableUnit tb ∷ ps) s y v h =
     let d = split_parts (TableUnit tb) ps s y h in
@@ -65,7 +65,7 @@ listed_from (TableUnit tb ∷ ps) s y v h =
 listed_from (StatementUnit c ∷ ps) s y v h = let d = split_parts (StatementUnit c) ps s y h in listed_from ps d.first.1 d.others v.1 d.others_is
 
 -- the tables of a program that is accepted have short names and few keys
-pub judged_listed : (p : Program) (y : Steps × At) → AreValuedParts p → judged p ≡ Ok y → AreListed (tables_in p)
+pub judged_listed : (p : Program) (y : Steps × At) → AreValuedUnits p → judged p ≡ Ok y → AreListed (tables_in p)
 judged_listed p y v h = listed_from p nothing_read y v (reads_parts 1 p nothing_read y h)
 
 -- and it reads few fields

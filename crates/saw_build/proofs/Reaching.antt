@@ -4,7 +4,7 @@ use Rattle.std.specs.Prelude.{max}
 use Rattle.saw_text.specs.Tree.{Expression}
 use Rattle.saw_text.specs.Tree.{UnitForm, TableUnit, StatementUnit}
 use Rattle.saw_model.specs.Meaning.{reach, reach_all, reach_parts, listed, emit_row}
-use Rattle.saw_build.specs.Reach.{reach_part}
+use Rattle.saw_build.specs.Reach.{reach_unit}
 
 max_assoc : (a b c : ℕ) → max (max a b) c ≡ max a (max b c)
 max_assoc a b c = omega arith
@@ -26,7 +26,7 @@ reach-emit is v w = reach_all-append is (v ∷ listed w)
 pub ruleset reaches = (reach-emit)
 
 -- what a program reads is the most that its units read
-pub reach-parts : (c : UnitForm) (ps : List UnitForm) → reach_parts (c ∷ ps) ≡ max (reach_part c) (reach_parts ps)
+pub reach-parts : (c : UnitForm) (ps : List UnitForm) → reach_parts (c ∷ ps) ≡ max (reach_unit c) (reach_parts ps)
 reach-parts (TableUnit tb) ps = sym (zero_max (reach_parts ps))
 reach-parts (StatementUnit c) ps = refl
 

@@ -33,10 +33,10 @@ abbrev mutual
   AreValuedOptional Unwritten = Unit {0}
   AreValuedOptional (Written b) = AreValued b
 
-abbrev pub IsValuedPart : UnitForm → Type 0
-IsValuedPart (TableUnit tb) = length tb.name ≤ 40
-IsValuedPart (StatementUnit c) = IsValued c
+abbrev pub IsValuedUnit : UnitForm → Type 0
+IsValuedUnit (TableUnit tb) = length tb.name ≤ 40
+IsValuedUnit (StatementUnit c) = IsValued c
 
-abbrev pub AreValuedParts : Program → Type 0
-AreValuedParts [] = Unit {0}
-AreValuedParts (c ∷ ps) = IsValuedPart c × AreValuedParts ps
+abbrev pub AreValuedUnits : Program → Type 0
+AreValuedUnits [] = Unit {0}
+AreValuedUnits (c ∷ ps) = IsValuedUnit c × AreValuedUnits ps

@@ -2,7 +2,7 @@
 ghost use Rattle.saw_model.specs.Judged.{judged};
 ghost use Rattle.saw_text.specs.Tree.{unit_forms};
 ghost use Rattle.saw_build.specs.Building.{PlansBy};
-ghost use Rattle.saw_build.specs.Valued.{AreValuedParts};
+ghost use Rattle.saw_build.specs.Valued.{AreValuedUnits};
 
 use crate::judge::Judge;
 use crate::plan::lists;
@@ -19,7 +19,7 @@ use work_code::Stmts;
 ///
 /// The fault that comes first, with its unit, from 1; `NoMemory` where there is no memory.
 pub fn raw_plan(alloc: Global, units: &[Unit]) -> Result<RawPlan, Refusal>
-    requires { AreValuedParts (unit_forms units.now) }
+    requires { AreValuedUnits (unit_forms units.now) }
     ensures { PlansBy result (unit_forms units.now) (judged (unit_forms units.now)) }
 {
     let mut judge = Judge::new(alloc);

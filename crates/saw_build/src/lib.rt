@@ -6,7 +6,7 @@ mod build;
 mod fault;
 mod judge;
 mod names;
-mod parts;
+mod units;
 mod plan;
 mod reach;
 mod simple;

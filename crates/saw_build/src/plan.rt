@@ -12,7 +12,7 @@ ghost use Rattle.saw_model.specs.Plan.{queue_name, tally_name, queues_of, queue_
 ghost use Rattle.saw_text.specs.Tree.{unit_form, unit_forms};
 ghost use Rattle.saw_build.specs.Plans.{IsListed, AreListed, widths, tally_ops, map_form, plan_lists};
 
-use crate::parts::kind_of;
+use crate::units::kind_of;
 use crate::reach::reach_units;
 use kern_rows::CodeKernel;
 use kern_tables::TableKind;

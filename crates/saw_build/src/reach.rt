@@ -3,7 +3,7 @@ ghost use Rattle.std.specs.Prelude.{◌≡◌, max};
 ghost use Rattle.saw_model.specs.Meaning.{reach, reach_all, reach_statement, reach_block, reach_optional, reach_parts, listed, emit_row};
 ghost use Rattle.saw_text.specs.Tree.{expression, option_expression, statement, block, or_unwritten, unit_form, unit_forms};
 ghost use Rattle.saw_text.specs.View.{expressions, option_block};
-ghost use Rattle.saw_build.specs.Reach.{reach_part};
+ghost use Rattle.saw_build.specs.Reach.{reach_unit};
 
 use saw_text::{Block, Expr, Statement, Unit};
 
@@ -104,7 +104,7 @@ fn reach_else(no: &Option<Block>) -> u64
 
 // Those that a unit reads.
 fn reach_unit(unit: &Unit) -> u64
-    ensures { result ≡ reach_part (unit_form unit.now) }
+    ensures { result ≡ reach_unit (unit_form unit.now) }
 {
     match unit {
         Unit::Table(_) => 0,

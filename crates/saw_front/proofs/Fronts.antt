@@ -19,16 +19,16 @@ use Rattle.river_plan.proofs.JudgeLemmas.{fault_of-is}
 use Rattle.river_plan.proofs.ValidLaw.{valid-no_fault}
 use Rattle.saw_model.specs.Elaborate as model
 use Rattle.saw_model.specs.Elaborate.{At}
-use Rattle.saw_model.specs.Faults.{IsFaultAt}
+use Rattle.saw_model.specs.Faults.{IsFaultOf}
 use Rattle.saw_model.specs.Judged.{Refusal, judged}
-use Rattle.saw_model.specs.Shallow.{AreShallowParts}
+use Rattle.saw_model.specs.Shallow.{AreShallowUnits}
 use Rattle.saw_model.proofs.Means.{translation_means}
 use Rattle.saw_model.proofs.Refused.{refused_at_first}
 use Rattle.saw_model.proofs.Valid.{plans_are_valid}
 use Rattle.saw_text.specs.Faults.{StandFor, Refuses}
 use Rattle.saw_text.specs.Grammar.{IsText}
 use Rattle.saw_text.specs.Laws.{IsBadAt}
-use Rattle.saw_text.specs.Reading.{all_saw_units}
+use Rattle.saw_text.specs.Reading.{units_in}
 use Rattle.saw_text.specs.Tree.{UnitForm, unit_forms}
 use Rattle.text_forms.specs.declared.unit_fault.UnitFault.TheVariants.{Syntax as Syntax_at}
 use Rattle.saw_text.specs.declared.tree.Unit as tree
@@ -38,11 +38,11 @@ use Rattle.saw_front.specs.declared.fault.SawFault.TheVariants.{Text, UnknownNam
 use Rattle.saw_front.specs.Laws.{HasFault, Has, MeansWhatItHas, PlansMean}
 use Rattle.saw_front.specs.Meaning.{Accepted, program_in, fault_at, or_fault, accepted, then_judged, of_tokens, then_read, compiled, Plans, Refused}
 use Rattle.saw_build.specs.Building.{PlansBy}
-use Rattle.saw_build.specs.Valued.{AreValuedParts}
+use Rattle.saw_build.specs.Valued.{AreValuedUnits}
 use Rattle.saw_front.proofs.Readable.{units-fine}
 
 abbrev read_of : List Mark → Result (List UnitForm) ℕ
-read_of marks = all_saw_units (cut_units (toks marks))
+read_of marks = units_in (cut_units (toks marks))
 
 -- ---- FROM THE GRAMMAR
 
@@ -79,7 +79,7 @@ has-means text (Err NoMemory) h = absurd h
 
 fault-has : (text : List ℕ) (us : List UnitForm) (e : Refusal) → IsText text us → judged us ≡ Err e → Has text (Err (fault_at e.unit e.fault))
 fault-has text us e t j = by e.fault refl where
-  first : IsFaultAt us e.unit e.fault
+  first : IsFaultOf us e.unit e.fault
   first = (refused_at_first us e).0 j
 
   by : (f : model.Fault) → e.fault ≡ f → Has text (Err (fault_at e.unit f))
@@ -119,7 +119,7 @@ plans_mean text a records e =
     (plans_are_valid (program_in a) a.read fine.1 h.1, translation_means (program_in a) a.read records h.1)
 
 -- a program that is accepted is as the grammar and the judge see to
-pub compiled-valued : (text : List ℕ) (a : Accepted) → compiled text ≡ Ok a → AreValuedParts (program_in a)
+pub compiled-valued : (text : List ℕ) (a : Accepted) → compiled text ≡ Ok a → AreValuedUnits (program_in a)
 compiled-valued text a e =
     let h : Has text (Ok a) = subst (Has text) e (means-has text) in
     (units-fine a.units (cut_units (toks h.0.marks)) h.0.formed).0
@@ -145,10 +145,10 @@ pub read-refused : (marks : List Mark) (us : List tree.Unit) (fault : SawFault) 
     → Refused (of_tokens marks) fault
 read-refused marks us fault e h = subst (λ (r : Result Accepted SawFault). Refused r fault) (sym (tokens-mean marks (unit_forms us) e)) h
 
-pub read-valued : (marks : List Mark) (us : List tree.Unit) → StandFor marks (unit_forms us) → AreValuedParts (unit_forms us)
+pub read-valued : (marks : List Mark) (us : List tree.Unit) → StandFor marks (unit_forms us) → AreValuedUnits (unit_forms us)
 read-valued marks us e = (units-fine (unit_forms us) (cut_units (toks marks)) e).0
 
-pub read-shallow : (marks : List Mark) (us : List tree.Unit) → StandFor marks (unit_forms us) → AreShallowParts (unit_forms us)
+pub read-shallow : (marks : List Mark) (us : List tree.Unit) → StandFor marks (unit_forms us) → AreShallowUnits (unit_forms us)
 read-shallow marks us e = (units-fine (unit_forms us) (cut_units (toks marks)) e).1
 
 -- tokens with a unit that is not in the grammar mean the first of them
@@ -160,7 +160,7 @@ pub ruleset readings = (read-bad)
 pub ruleset fronts = (read-planned, read-refused, read-valued, read-shallow)
 
 -- the plan that was made of judged units is valid, and is the program's
-pub planned-valid : (us : List UnitForm) (raw : RawPlan) → AreShallowParts us → PlansBy (Ok raw) us (judged us)
+pub planned-valid : (us : List UnitForm) (raw : RawPlan) → AreShallowUnits us → PlansBy (Ok raw) us (judged us)
     → IsPlan (plan_form raw)
 planned-valid us raw low h = subst IsPlan (sym h.2) (plans_are_valid us h.0 low h.1)
 

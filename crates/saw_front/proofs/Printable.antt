@@ -20,8 +20,8 @@ use Rattle.saw_text.specs.Tree.{Statement, Declare, Assign, Emit, If, Block, End
 use Rattle.saw_model.specs.Meaning.{tables_in, table_kind}
 use Rattle.saw_model.specs.Elaborate.{Fault, Limit, Shape, At, on_ok, demand, counted, is_new, has_slot, first_term, declared, slot_of}
 use Rattle.saw_model.specs.Elaborate.{table_port, indexes_of, term_of, weight_of, keys_in, emitted, is_best, tabled, table_of, find, step_of, steps_of, steps_optional}
-use Rattle.saw_model.specs.Elaborate.{part_judged as read_part, nothing_read}
-use Rattle.saw_model.specs.Judged.{Refusal, on_fine, in_unit, all_parts}
+use Rattle.saw_model.specs.Elaborate.{unit_judged as read_part, nothing_read}
+use Rattle.saw_model.specs.Judged.{Refusal, on_fine, in_unit, units_judged}
 use Rattle.saw_model.specs.Plan.{tally_op, plan_of}
 use Rattle.saw_model.proofs.Elaborated.{fine, ok_parts, ok_is}
 use Rattle.saw_text.specs.Tree.{in_turn, or_unwritten, UnitForm}
@@ -214,12 +214,12 @@ fine-parts : {A B : Type 0} (r : Result A Refusal) (f : A → Result B Refusal) 
 fine-parts (Ok x) f y h = (x, refl, h)
 fine-parts (Err e) f y h = absurd (cc h)
 
-parts-below : (k : ℕ) (p : Program) (s : At) (y : Steps × At) → AreNestedParts p → all_parts k p s ≡ took y → depths y.0 ≤ 16
+parts-below : (k : ℕ) (p : Program) (s : At) (y : Steps × At) → AreNestedParts p → units_judged k p s ≡ took y → depths y.0 ≤ 16
 parts-below k [] s y low h = subst (λ (r : Steps × At). depths r.0 ≤ 16) (took-is (Done, s) y h) (omega arith)
 parts-below k (c ∷ ps) s y low h =
-    let more = λ (p : Steps × At). on_fine (all_parts (suc k) ps p.1) (λ q. took (both_steps p.0 q.0, q.1)) in
+    let more = λ (p : Steps × At). on_fine (units_judged (suc k) ps p.1) (λ q. took (both_steps p.0 q.0, q.1)) in
     let a = unit-parts k (read_part c s) more y h in
-    let b = fine-parts (all_parts (suc k) ps a.0.1) (λ q. took (both_steps a.0.0 q.0, q.1)) y a.2 in
+    let b = fine-parts (units_judged (suc k) ps a.0.1) (λ q. took (both_steps a.0.0 q.0, q.1)) y a.2 in
     subst (λ (r : Steps × At). depths r.0 ≤ 16) (took-is (both_steps a.0.0 b.0.0, b.0.1) y b.2)
     (joined-below 16 a.0.0 b.0.0 (part-below c s a.0 low.0 a.1) (parts-below (suc k) ps a.0.1 b.0 low.1 b.1))
 

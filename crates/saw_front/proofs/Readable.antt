@@ -14,7 +14,7 @@ use Rattle.text_forms.specs.Parse.{is_value}
 use Rattle.saw_text.specs.Tree.{Expression}
 use Rattle.saw_text.specs.Tree.{Statement, If, Block, UnitForm}
 use Rattle.saw_model.specs.Meaning.{listed}
-use Rattle.saw_model.specs.Shallow.{IsLow, AreLow, IsShallow, AreShallow, IsShallowPart, AreShallowParts}
+use Rattle.saw_model.specs.Shallow.{IsLow, AreLow, IsShallow, AreShallow, IsShallowPart, AreShallowUnits}
 use Rattle.saw_text.specs.Tree.{in_turn, or_unwritten, TableForm, UnitForm, TableUnit}
 use Rattle.text_blocks.specs.Statements.{IsRest}
 use Rattle.text_blocks.specs.Parts.{Round, Square}
@@ -28,7 +28,7 @@ use Rattle.saw_text.specs.Expressions.{syntax, marked, IsLeaf, IsExpression}
 use Rattle.saw_text.specs.Expressions as rule
 use Rattle.saw_text.specs.Words.{is_plain, is_user}
 use Rattle.saw_text.specs.Grammar.{TypedAfter, UnitNamed, IsUnit, AreUnits}
-use Rattle.saw_build.specs.Valued.{AreValues, AllValues, IsValued, AreValued, IsValuedPart, AreValuedParts}
+use Rattle.saw_build.specs.Valued.{AreValues, AllValues, IsValued, AreValued, IsValuedUnit, AreValuedUnits}
 
 -- ---- EXPRESSIONS
 
@@ -128,7 +128,7 @@ rest-fine = every-rest style holes (λ k. IsFineStep) (λ k. AreFine) branch-fin
 -- ---- UNITS
 
 abbrev IsFinePart : UnitForm → Type 0
-IsFinePart c = IsValuedPart c × IsShallowPart c
+IsFinePart c = IsValuedUnit c × IsShallowPart c
 
 -- a name that users may give is short
 user-short : (w : List ℕ) → is_user w ≡ true → length w ≤ 40
@@ -159,7 +159,7 @@ unit-fine u ts h =
     subst IsFinePart (sym f.is) (rest-fine 16 128 h.word f.value h.back f.formed))
 
 -- units that the grammar has are readable, and their expressions are not too deep
-pub units-fine : (us : List UnitForm) (units : List (List Tok)) → AreUnits us units → AreValuedParts us × AreShallowParts us
+pub units-fine : (us : List UnitForm) (units : List (List Tok)) → AreUnits us units → AreValuedUnits us × AreShallowUnits us
 units-fine [] units h = (tt, tt)
 units-fine (u ∷ us) [] h = absurd h
 units-fine (u ∷ us) (t ∷ ts) h =

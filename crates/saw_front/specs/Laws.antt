@@ -6,7 +6,7 @@ use Rattle.text_forms.specs.declared.refusal.Refusal.TheVariants.{BadByte, BigNu
 use Rattle.river_plan.specs.Valid.{IsPlan}
 use Rattle.river_print.specs.Printable.{IsPrintable}
 use Rattle.brooklet_model.specs.Meaning.{meaning}
-use Rattle.saw_model.specs.Faults.{IsFaultAt}
+use Rattle.saw_model.specs.Faults.{IsFaultOf}
 use Rattle.saw_model.specs.Judged.{Refusal, judged}
 use Rattle.saw_model.specs.Plan.{rows_as_items}
 use Rattle.saw_model.specs.Meaning.{width, program_tables}
@@ -19,7 +19,7 @@ use Rattle.saw_front.specs.Meaning.{Accepted, program_in, plan_in, fault_at, com
 
 -- the grammar has the text for units, and the first of their places that has a fault has this one, in this unit
 abbrev pub HasFault : List ℕ → SawFault → Type 0
-HasFault text fault = (us : List UnitForm) × (e : Refusal) × IsText text us × IsFaultAt us e.unit e.fault × (fault ≡ fault_at e.unit e.fault)
+HasFault text fault = (us : List UnitForm) × (e : Refusal) × IsText text us × IsFaultOf us e.unit e.fault × (fault ≡ fault_at e.unit e.fault)
 
 -- the grammar has the text for units that are accepted, or that have a fault; or it has a first unit that is not in the grammar, or a
 -- first fault of its bytes

@@ -5,12 +5,12 @@ ghost use Rattle.river_plan.specs.Forms.{plan_form};
 ghost use Rattle.river_plan.specs.Valid.{IsPlan};
 ghost use Rattle.saw_model.specs.Elaborate.{At};
 ghost use Rattle.saw_model.specs.Judged as model;
-ghost use Rattle.saw_model.specs.Shallow.{AreShallowParts};
+ghost use Rattle.saw_model.specs.Shallow.{AreShallowUnits};
 ghost use Rattle.saw_text.specs.Faults.{StandFor};
 ghost use Rattle.saw_text.specs.Tree.{UnitForm, unit_forms};
 ghost use Rattle.saw_build.specs.Judging.{Told};
 ghost use Rattle.saw_front.specs.Meaning.{accepted, or_fault, of_tokens, compiled, Plans, Refused};
-ghost use Rattle.saw_build.specs.Valued.{AreValuedParts};
+ghost use Rattle.saw_build.specs.Valued.{AreValuedUnits};
 
 use crate::{SawFault, SawProgram};
 use plan_check::check;
@@ -72,8 +72,8 @@ fn read(alloc: Global, tokens: &Tokens<'_>) -> Result<Vec<Unit>, SawFault>
 // The plan of these units.
 #[tactic(auto, using(crate::proofs::Fronts::plans))]
 fn planned(alloc: Global, units: &[Unit]) -> Result<Plan, SawFault>
-    requires valued { AreValuedParts (unit_forms units.now) }
-    requires shallow { AreShallowParts (unit_forms units.now) }
+    requires valued { AreValuedUnits (unit_forms units.now) }
+    requires shallow { AreShallowUnits (unit_forms units.now) }
     ensures plan { IfOk result (Plans (accepted (unit_forms units.now)) (unit_forms units.now)) }
     ensures refused { IfErr result (Refused (accepted (unit_forms units.now))) }
 {

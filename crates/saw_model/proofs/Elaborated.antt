@@ -22,7 +22,7 @@ use Rattle.river_plan.proofs.NameLemmas.{cases_name}
 use Rattle.brooklet_model.specs.Machine.{at_name}
 use Rattle.saw_text.specs.Tree.{Expression}
 use Rattle.saw_text.specs.Tree as tree
-use Rattle.saw_model.specs.Meaning.{Values, eval, Emitted, State, eval_or, eval_all, listed, reach, reach_all}
+use Rattle.saw_model.specs.Meaning.{Store, eval, Emitted, State, eval_or, eval_all, listed, reach, reach_all}
 use Rattle.saw_model.specs.Elaborate.{Fault, Limit, on_ok, demand, KnownName, Var, Port, Scope, find, named, term_of, At, counted, first_term, indexes_of}
 use Rattle.saw_model.specs.Elaborate.{weight_of}
 
@@ -67,7 +67,7 @@ found_other n m b sc e = ap (λ t. if t then Some b else find sc m) e
 -- WHAT IS KNOWN
 
 -- the slots of known locals have their values
-pub record Agrees (sc : Scope) (env : Values) (mem : List ℤ) : Type 0 where
+pub record Agrees (sc : Scope) (env : Store) (mem : List ℤ) : Type 0 where
   pub each : (n : Name) (i : ℕ) → find sc n ≡ Some (Var i) → slice_index_or mem i (pos 0) ≡ env n
 
 -- the slots of known locals are there, and each is one local's
@@ -84,7 +84,7 @@ abbrev pub Keeps : Scope → Scope → Type 0
 Keeps sc sc' = (n : Name) (b : KnownName) → find sc n ≡ Some b → find sc' n ≡ Some b
 
 -- values that agree with more names agree with fewer
-pub agrees_within : (sc sc' : Scope) (env : Values) (mem : List ℤ) → Keeps sc sc' → Agrees sc' env mem → Agrees sc env mem
+pub agrees_within : (sc sc' : Scope) (env : Store) (mem : List ℤ) → Keeps sc sc' → Agrees sc' env mem → Agrees sc env mem
 agrees_within sc sc' env mem k a = record { each = λ n i f. a.each n i (k n (Var i) f) }
 
 -- names stay sound with more slots
@@ -161,7 +161,7 @@ sound_port n p k sc slots s = record {
 }
 
 -- a slot is set to its name's new value
-pub agrees_set : (n : Name) (i : ℕ) (z : ℤ) (sc : Scope) (slots : ℕ) (env : Values) (mem : List ℤ) → IsSound sc slots → slots ≤ length mem
+pub agrees_set : (n : Name) (i : ℕ) (z : ℤ) (sc : Scope) (slots : ℕ) (env : Store) (mem : List ℤ) → IsSound sc slots → slots ≤ length mem
     → find sc n ≡ Some (Var i)
     → ((m : Name) (j : ℕ) → name_eq n m ≡ false → find sc m ≡ Some (Var j) → slice_index_or mem j (pos 0) ≡ env m)
     → Agrees sc (at_name n z env) (slice_set mem i z)
@@ -195,7 +195,7 @@ module _ (w : ℕ) (r : List ℤ) where
   fields = take w r
 
   -- a term has the value of its expression
-  pub term_is : (sc : Scope) (t : Expression) (env : Values) (mem : List ℤ) (u : Term) → reach t ≤ w → Agrees sc env mem → term_of sc t ≡ Ok u
+  pub term_is : (sc : Scope) (t : Expression) (env : Store) (mem : List ℤ) (u : Term) → reach t ≤ w → Agrees sc env mem → term_of sc t ≡ Ok u
       → eval t r env ≡ val u fields mem
   term_is sc (tree.Number v) env mem u h a c = ap (λ t. val t fields mem) (ok_is (term.Const (pos v)) u c)
   term_is sc (tree.Name n) env mem u h a c = named_is (find sc n) u (env n) fields mem (a.each n) c
@@ -219,13 +219,13 @@ module _ (w : ℕ) (r : List ℤ) where
   vals us mem = map (λ t. val t fields mem) us
 
   -- the first value of a local
-  pub first_is : (t : Option Expression) (sc : Scope) (env : Values) (mem : List ℤ) (u : Term) → reach_all (listed t) ≤ w → Agrees sc env mem
+  pub first_is : (t : Option Expression) (sc : Scope) (env : Store) (mem : List ℤ) (u : Term) → reach_all (listed t) ≤ w → Agrees sc env mem
       → first_term t sc ≡ Ok u → eval_or (pos 0) t r env ≡ val u fields mem
   first_is None sc env mem u h a c = ap (λ t. val t fields mem) (ok_is (term.Const (pos 0)) u c)
   first_is (Some t) sc env mem u h a c = term_is sc t env mem u (omega (arith, h)) a c
 
   -- the values of indexes
-  pub indexes_are : (sc : Scope) (n : ℕ) (ts : List Expression) (env : Values) (mem : List ℤ) (us : List Term) → reach_all ts ≤ w → Agrees sc env mem
+  pub indexes_are : (sc : Scope) (n : ℕ) (ts : List Expression) (env : Store) (mem : List ℤ) (us : List Term) → reach_all ts ≤ w → Agrees sc env mem
       → indexes_of sc n ts ≡ Ok us → eval_all ts r env ≡ vals us mem
   indexes_are sc n [] env mem us h a c = ap (λ l. vals l mem) (ok_is [] us c)
   indexes_are sc n (t ∷ ts) env mem us h a c =
@@ -237,7 +237,7 @@ module _ (w : ℕ) (r : List ℤ) where
       (λ i. one i ∷ more i) ∙ ap (λ l. vals l mem) (ok_is (p.0 ∷ q.0) us q.2)
 
   -- the value of a weight
-  pub weight_is : (k : TableKind) (t : Option Expression) (sc : Scope) (env : Values) (mem : List ℤ) (us : List Term) → reach_all (listed t) ≤ w
+  pub weight_is : (k : TableKind) (t : Option Expression) (sc : Scope) (env : Store) (mem : List ℤ) (us : List Term) → reach_all (listed t) ≤ w
       → Agrees sc env mem
       → weight_of k t sc ≡ Ok us → eval_all (listed t) r env ≡ vals us mem
   weight_is (Sum keys) None sc env mem us h a c = ap (λ l. vals l mem) (ok_is [] us c)
@@ -251,7 +251,7 @@ module _ (w : ℕ) (r : List ℤ) where
       (λ i. one i ∷ []) ∙ ap (λ l. vals l mem) (ok_is (p.0 ∷ []) us p.2)
 
   -- the values of expressions in a row are the values of the first and then of the others
-  pub eval_all-append : (xs ys : List Expression) (env : Values) → eval_all (xs ++ ys) r env ≡ eval_all xs r env ++ eval_all ys r env
+  pub eval_all-append : (xs ys : List Expression) (env : Store) → eval_all (xs ++ ys) r env ≡ eval_all xs r env ++ eval_all ys r env
   eval_all-append [] ys env = refl
   eval_all-append (x ∷ xs) ys env = ap (λ l. eval x r env ∷ l) (eval_all-append xs ys env)
 

@@ -18,7 +18,7 @@ use Rattle.river_plan.specs.declared.plan.TableDecl.{TableDecl}
 use Rattle.river_plan.proofs.NameLemmas.{cases_name}
 use Rattle.saw_text.specs.Tree.{Expression}
 use Rattle.saw_text.specs.Tree.{Statement, Declare, Assign, Emit, If, Block, End, Then, Optional, Unwritten, Written, TableUnit, StatementUnit, Program}
-use Rattle.saw_model.specs.Meaning.{tables_in, table_kind, table_decl, eval, Values, Emitted, State, eval_all, listed, emit_row}
+use Rattle.saw_model.specs.Meaning.{tables_in, table_kind, table_decl, eval, Store, Emitted, State, eval_all, listed, emit_row}
 use Rattle.saw_model.specs.Meaning.{exec, exec_block, exec_optional, exec_units, fresh_state, emits, rows_for}
 use Rattle.saw_model.specs.Elaborate.{Scope, term_of, At, keys_in, weight_of, step_of, steps_of, steps_optional, nothing_read}
 use Rattle.saw_model.specs.Pieces.{EmitsAreRows}
@@ -52,7 +52,7 @@ module _ (ts : List TableDecl) where
   AllFor now = All IsFor now.emitted
 
   module _ (r : List ℤ) where
-    evals : (xs : List Expression) (env : Values) → length (eval_all xs r env) ≡ length xs
+    evals : (xs : List Expression) (env : Store) → length (eval_all xs r env) ≡ length xs
     evals [] env = refl
     evals (x ∷ xs) env = ap suc (evals xs env)
 

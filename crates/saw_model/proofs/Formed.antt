@@ -23,9 +23,9 @@ use Rattle.saw_text.specs.Tree as tree
 use Rattle.saw_text.specs.Tree.{Statement, Declare, Assign, Emit, If, Block, End, Then, Optional, Unwritten, Written, UnitForm, TableUnit, StatementUnit, Program}
 use Rattle.saw_model.specs.Meaning.{tables_in, listed, emit_row, reach, table_kind, table_decl}
 use Rattle.saw_model.specs.Meaning.{reach_all, reach_statement, reach_block, reach_optional, reach_parts}
-use Rattle.saw_model.specs.Shallow.{IsLow, AreLow, IsShallow, AreShallow, AreShallowOptional, AreShallowParts}
+use Rattle.saw_model.specs.Shallow.{IsLow, AreLow, IsShallow, AreShallow, AreShallowOptional, AreShallowUnits}
 use Rattle.saw_model.specs.Elaborate.{Limit, on_ok, KnownName, Var, Port, Scope, find, named, term_of, At, first_term, indexes_of, keys_in, weight_of}
-use Rattle.saw_model.specs.Elaborate.{step_of, steps_of, steps_optional, part_judged}
+use Rattle.saw_model.specs.Elaborate.{step_of, steps_of, steps_optional, unit_judged}
 use Rattle.saw_model.proofs.Elaborated.{fine, ok_is, ok_parts, if_ok, if_both, IsSound, ArePorts, more_slots, sound_port, one_more}
 use Rattle.saw_model.proofs.Statements.{second_at, declared_parts, assigned_parts, sent_parts, forked_parts, followed_parts, grows, grows_all, grows_optional}
 use Rattle.saw_model.proofs.Parts.{parts_read, tabled_parts, split_parts, parts_slots, ports_new}
@@ -155,7 +155,7 @@ mutual
   optional_counts Unwritten s y h = subst (Counts s) (ok_is (Done, s) y h) (record { size = omega arith; small = λ h. h; few = λ h. h })
   optional_counts (Written b) s y h = steps_count b s y h
 
-part_counts : (c : UnitForm) (s : At) (y : Steps × At) → part_judged c s ≡ fine y → Counts s y
+part_counts : (c : UnitForm) (s : At) (y : Steps × At) → unit_judged c s ≡ fine y → Counts s y
 part_counts (TableUnit tb) s y h = let d =
     tabled_parts tb.name (table_kind tb) s y h in subst (Counts s) d.is (record { size = omega arith; small = λ h. h; few = λ h. h })
 part_counts (StatementUnit c) s y h = step_counts c s y h
@@ -360,7 +360,7 @@ module _ (w m : ℕ) (ts : List TableDecl) where
     optional_formed (Written b) s y low le h ok ports sl = steps_formed b s y low le h ok ports sl
 
   -- its body is right in itself
-  pub parts_formed : (p : Program) (s : At) (y : Steps × At) (done : List TableDecl) → AreShallowParts p → reach_parts p ≤ w → parts_read p s ≡ fine y
+  pub parts_formed : (p : Program) (s : At) (y : Steps × At) (done : List TableDecl) → AreShallowUnits p → reach_parts p ≤ w → parts_read p s ≡ fine y
       → IsSound s.scope s.slots → ArePorts ts s.scope → y.1.slots ≤ m
       → ts ≡ done ++ tables_in p → s.tables ≡ length done → Formed y
   parts_formed [] s y done low le h ok ports sl t e = subst Formed (ok_is (Done, s) y h) refl

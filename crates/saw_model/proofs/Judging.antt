@@ -22,11 +22,11 @@ use Rattle.saw_model.specs.Elaborate.{Fault, UnknownName, NameTwice, Shape, Limi
 use Rattle.saw_model.specs.Elaborate.{counted, has_slot, is_new}
 use Rattle.saw_model.specs.Elaborate.{slot_of, table_port, first_term, indexes_of, keys_in, weight_of, declared, emitted, step_of}
 use Rattle.saw_model.specs.Elaborate.{steps_of, steps_optional, is_best, tabled}
-use Rattle.saw_model.specs.Elaborate.{part_judged}
+use Rattle.saw_model.specs.Elaborate.{unit_judged}
 use Rattle.saw_model.specs.Faults.{IsTwice, IsMaximum, IsNoBest}
 use Rattle.saw_model.specs.Places.{ReadMark, Begins, Enters, Leaves, Names, Reads, Declares, Local, Sets, Emits, Index, Indexed, Weighted}
 use Rattle.saw_model.specs.Places.{Unweighted, Tables}
-use Rattle.saw_model.specs.Places.{term_marks, value_marks, index_marks, weight_marks, statement_marks, block_marks, optional_marks, part_marks, What, ALocal, ATable}
+use Rattle.saw_model.specs.Places.{term_marks, value_marks, index_marks, weight_marks, statement_marks, block_marks, optional_marks, unit_marks, What, ALocal, ATable}
 use Rattle.saw_model.specs.Places.{known_from_here, stays, IsKnownAs}
 use Rattle.saw_model.specs.Places.{is_statement, is_local, is_table, how_many}
 use Rattle.saw_model.proofs.Marks.{many_append, steady_stays, known_parts, known_first, known_second, known_behind, quiet_alone, IsPlain, IsAlong}
@@ -484,7 +484,7 @@ no_best (Maximum best keys) f = ⊎_elim
     (and_cases (nat_le 1 best) (nat_le best 1000000) f)
 
 -- a unit is read mark by mark
-pub part_read : (c : UnitForm) (b : List ReadMark) (s : At) → IsAt b s → Verdict AtEnd b (part_marks c) (part_judged c s)
+pub part_read : (c : UnitForm) (b : List ReadMark) (s : At) → IsAt b s → Verdict AtEnd b (unit_marks c) (unit_judged c s)
 part_read (StatementUnit c) b s a = statement_read c b s a
 part_read (TableUnit tb) b s a =
     let n = tb.name in

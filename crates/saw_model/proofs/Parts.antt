@@ -18,8 +18,8 @@ use Rattle.river_plan.proofs.NameLemmas.{name_same, cases_name}
 use Rattle.saw_text.specs.Tree.{UnitForm, TableUnit, StatementUnit, Program}
 use Rattle.saw_model.specs.Meaning.{tables_in, State, exec, exec_units, fresh_state, emits, reach_statement, reach_parts, table_kind, table_decl}
 use Rattle.saw_model.specs.Elaborate.{Limit, on_ok, demand, KnownName, Var, Port, Scope, find, At, is_new, keys_in, Read, is_best, tabled, table_of}
-use Rattle.saw_model.specs.Elaborate.{part_judged, nothing_read}
-use Rattle.saw_model.specs.Judged.{Refusal, on_fine, in_unit, all_parts}
+use Rattle.saw_model.specs.Elaborate.{unit_judged, nothing_read}
+use Rattle.saw_model.specs.Judged.{Refusal, on_fine, in_unit, units_judged}
 use Rattle.saw_model.proofs.Elaborated.{fine, ok_is, ok_parts, demanded, found_here, found_other, Agrees, ArePorts, Keeps, keeps_new, sound_port, Matches}
 use Rattle.saw_model.proofs.Elaborated.{met_more, none_met}
 use Rattle.saw_model.proofs.Statements.{new_is, grows, met, Ready, MetBy, ready_after}
@@ -27,22 +27,22 @@ use Rattle.saw_model.proofs.Statements.{new_is, grows, met, Ready, MetBy, ready_
 -- what is read of all units, whichever their numbers
 abbrev pub parts_read : Program → At → Read
 parts_read [] s = Ok (Done, s)
-parts_read (c ∷ ps) s = on_ok (part_judged c s) (λ p. on_ok (parts_read ps p.1) (λ q. Ok (both_steps p.0 q.0, q.1)))
+parts_read (c ∷ ps) s = on_ok (unit_judged c s) (λ p. on_ok (parts_read ps p.1) (λ q. Ok (both_steps p.0 q.0, q.1)))
 
 -- units are read one after another
-pub reads_parts : (k : ℕ) (p : Program) (s : At) (y : Steps × At) → all_parts k p s ≡ Ok y → parts_read p s ≡ Ok y
+pub reads_parts : (k : ℕ) (p : Program) (s : At) (y : Steps × At) → units_judged k p s ≡ Ok y → parts_read p s ≡ Ok y
 reads_parts k [] s y h = cc h
-reads_parts k (c ∷ ps) s y h = first (λ p q e. reads_parts (suc k) ps p.1 q e) (part_judged c s) h where
+reads_parts k (c ∷ ps) s y h = first (λ p q e. reads_parts (suc k) ps p.1 q e) (unit_judged c s) h where
   more : (p : Steps × At) (r : Result (Steps × At) Refusal) → ((q : Steps × At) → r ≡ Ok q → parts_read ps p.1 ≡ Ok q)
       → on_fine r (λ q. Ok (both_steps p.0 q.0, q.1)) ≡ Ok y
       → on_ok (parts_read ps p.1) (λ q. Ok (both_steps p.0 q.0, q.1)) ≡ Ok y
   more p (Ok q) f g = ap (λ r. on_ok r (λ q. Ok (both_steps p.0 q.0, q.1))) (f q refl) ∙ cc g
   more p (Err e) f g = absurd (cc g)
 
-  first : ((p q : Steps × At) → all_parts (suc k) ps p.1 ≡ Ok q → parts_read ps p.1 ≡ Ok q) → (r : Read)
-      → in_unit k r (λ p. on_fine (all_parts (suc k) ps p.1) (λ q. Ok (both_steps p.0 q.0, q.1))) ≡ Ok y
+  first : ((p q : Steps × At) → units_judged (suc k) ps p.1 ≡ Ok q → parts_read ps p.1 ≡ Ok q) → (r : Read)
+      → in_unit k r (λ p. on_fine (units_judged (suc k) ps p.1) (λ q. Ok (both_steps p.0 q.0, q.1))) ≡ Ok y
       → on_ok r (λ p. on_ok (parts_read ps p.1) (λ q. Ok (both_steps p.0 q.0, q.1))) ≡ Ok y
-  first f (Ok p) g = more p (all_parts (suc k) ps p.1) (f p) g
+  first f (Ok p) g = more p (units_judged (suc k) ps p.1) (f p) g
   first f (Err e) g = absurd (cc g)
 
 pub record Tabled (n : Name) (k : TableKind) (s : At) (y : Steps × At) : Type 0 where
@@ -72,7 +72,7 @@ tabled_parts n k s y h =
 
 pub record Split (c : UnitForm) (ps : Program) (s : At) (y : Steps × At) : Type 0 where
   pub first : Steps × At
-  pub first_is : part_judged c s ≡ Ok first
+  pub first_is : unit_judged c s ≡ Ok first
   pub others : Steps × At
   pub others_is : parts_read ps first.1 ≡ Ok others
   pub is : (both_steps first.0 others.0, others.1) ≡ y
@@ -80,12 +80,12 @@ pub record Split (c : UnitForm) (ps : Program) (s : At) (y : Steps × At) : Type
 -- the first unit and the others
 pub split_parts : (c : UnitForm) (ps : Program) (s : At) (y : Steps × At) → parts_read (c ∷ ps) s ≡ fine y → Split c ps s y
 split_parts c ps s y h =
-    let p = ok_parts (part_judged c s) (λ p. on_ok (parts_read ps p.1) (λ q. Ok (both_steps p.0 q.0, q.1))) y h in
+    let p = ok_parts (unit_judged c s) (λ p. on_ok (parts_read ps p.1) (λ q. Ok (both_steps p.0 q.0, q.1))) y h in
     let q = ok_parts (parts_read ps p.0.1) (λ q. Ok (both_steps p.0.0 q.0, q.1)) y p.2 in
     record { first = p.0; first_is = p.1; others = q.0; others_is = q.1; is = ok_is _ y q.2 }
 
 -- slots are never given back
-pub part_slots : (c : UnitForm) (s : At) (y : Steps × At) → part_judged c s ≡ fine y → s.slots ≤ y.1.slots
+pub part_slots : (c : UnitForm) (s : At) (y : Steps × At) → unit_judged c s ≡ fine y → s.slots ≤ y.1.slots
 part_slots (TableUnit tb) s y h = let d = tabled_parts tb.name (table_kind tb) s y h in subst (λ (q : Steps × At). s.slots ≤ q.1.slots) d.is (omega arith)
 part_slots (StatementUnit c) s y h = (grows c s y h).slots
 
@@ -99,7 +99,7 @@ parts_slots (c ∷ ps) s y h =
     subst (λ (q : Steps × At). s.slots ≤ q.1.slots) d.is (omega (arith, a, b))
 
 -- what is known stays known
-part_keeps : (c : UnitForm) (s : At) (y : Steps × At) → part_judged c s ≡ fine y → Keeps s.scope y.1.scope
+part_keeps : (c : UnitForm) (s : At) (y : Steps × At) → unit_judged c s ≡ fine y → Keeps s.scope y.1.scope
 part_keeps (TableUnit tb) s y h =
     let d = tabled_parts tb.name (table_kind tb) s y h in subst (λ (q : Steps × At). Keeps s.scope q.1.scope) d.is
     (keeps_new tb.name (Port s.tables (table_kind tb)) s.scope d.new)

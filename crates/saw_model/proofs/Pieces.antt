@@ -21,11 +21,11 @@ use Rattle.river_plan.proofs.NameLemmas.{name_same}
 use Rattle.saw_text.specs.Tree.{Expression}
 use Rattle.saw_text.specs.Tree as tree
 use Rattle.saw_text.specs.Tree.{TableUnit, StatementUnit, Program}
-use Rattle.saw_model.specs.Meaning.{tables_in, width, table_kind, table_kind_of, table_decl, program_tables, eval_all, emit_row, Values, Emitted, emits, rows_for}
+use Rattle.saw_model.specs.Meaning.{tables_in, width, table_kind, table_kind_of, table_decl, program_tables, eval_all, emit_row, Store, Emitted, emits, rows_for}
 use Rattle.saw_model.specs.Meaning.{fresh_state, reach_all}
 use Rattle.saw_model.specs.Elaborate.{Fault, Limit, Shape, on_ok, demand, Port, Scope, find, term_of, At, keys_in, is_best, table_of, nothing_read}
-use Rattle.saw_model.specs.Elaborate.{indexes_of, weight_of, emitted, step_of, table_port, part_judged, Read}
-use Rattle.saw_model.specs.Judged.{judged, in_unit, on_fine, all_parts, Refusal}
+use Rattle.saw_model.specs.Elaborate.{indexes_of, weight_of, emitted, step_of, table_port, unit_judged, Read}
+use Rattle.saw_model.specs.Judged.{judged, in_unit, on_fine, units_judged, Refusal}
 use Rattle.saw_model.specs.Pieces.{all_unnamed, written_kind, merge_table, fields_from, read_weight, merge_emit, merge_program, IsMergeProgram}
 use Rattle.saw_model.specs.Pieces.{TablesHaveMergePrograms, Answer, first_table, other_tables, IsMergedBy, AtOnce, InPieces, InOrder, AreMergedBy, PiecesMerge, merged, PiecesMergeAtOnce}
 use Rattle.saw_model.proofs.Elaborated.{fine, found_here, one_more}
@@ -74,7 +74,7 @@ at_seam : (pre : List ℤ) (x : ℤ) (xs : List ℤ) → slice_index_or (pre ++ 
 at_seam [] x xs = refl
 at_seam (y ∷ ys) x xs = at_seam ys x xs
 
-fields_read : (pre row : List ℤ) (env : Values) → eval_all (fields_from (length pre) (length row)) (pre ++ row) env ≡ row
+fields_read : (pre row : List ℤ) (env : Store) → eval_all (fields_from (length pre) (length row)) (pre ++ row) env ≡ row
 fields_read pre [] env = refl
 fields_read pre (x ∷ xs) env =
     let longer : length pre + 1 ≡ length (pre ++ x ∷ []) = (let l = length-append pre (x ∷ []) in omega (arith, l)) in
@@ -183,11 +183,11 @@ table_read t b h =
 merge_accepted : (t : TableDecl) → is_best t.kind ≡ true → keys_in t.kind ≤ 8 → (read : Steps × At) × (judged (merge_program t) ≡ Ok read)
 merge_accepted t b h =
     let y = emit_read t h in
-    let first : part_judged (TableUnit (merge_table t)) nothing_read ≡ Ok (Done, known t) =
+    let first : unit_judged (TableUnit (merge_table t)) nothing_read ≡ Ok (Done, known t) =
     ap (λ k. table_of t.name k nothing_read) (kind_again t.kind) ∙ table_read t b h in
     let rest : Steps × At → Result (Steps × At) Refusal =
-    λ p. on_fine (all_parts 2 (StatementUnit (merge_emit t) ∷ []) p.1) (λ q. Ok (both_steps p.0 q.0, q.1)) in
-    let last : Steps × At → Result (Steps × At) Refusal = λ p. on_fine (all_parts 3 [] p.1) (λ q. Ok (both_steps p.0 q.0, q.1)) in (
+    λ p. on_fine (units_judged 2 (StatementUnit (merge_emit t) ∷ []) p.1) (λ q. Ok (both_steps p.0 q.0, q.1)) in
+    let last : Steps × At → Result (Steps × At) Refusal = λ p. on_fine (units_judged 3 [] p.1) (λ q. Ok (both_steps p.0 q.0, q.1)) in (
       (both_steps Done (both_steps y.0.0 Done), y.0.1),
       ap (λ r. in_unit 1 r rest) first ∙ ap (λ r. on_fine (in_unit 2 r last) (λ q. Ok (both_steps Done q.0, q.1))) y.1,
     )

@@ -4,38 +4,38 @@ use Rattle.std.specs.Prelude.{Result, Ok, Err}
 use Rattle.std.proofs.lemmas.List.{append-nil}
 use Rattle.work_code.specs.Steps.{Steps, both_steps}
 use Rattle.saw_text.specs.Tree.{UnitForm, Program}
-use Rattle.saw_model.specs.Elaborate.{Fault, At, part_judged, nothing_read}
-use Rattle.saw_model.specs.Judged.{Refusal, on_fine, in_unit, all_parts, judged}
-use Rattle.saw_model.specs.Faults.{IsFirstFault, IsFaultless, IsFaultAt, RefusedAtFirst, AcceptedFaultless}
-use Rattle.saw_model.specs.Places.{ReadMark, part_marks, program_marks}
+use Rattle.saw_model.specs.Elaborate.{Fault, At, unit_judged, nothing_read}
+use Rattle.saw_model.specs.Judged.{Refusal, on_fine, in_unit, units_judged, judged}
+use Rattle.saw_model.specs.Faults.{IsFirstFault, IsFaultless, IsFaultOf, RefusalsAre, AcceptedAre}
+use Rattle.saw_model.specs.Places.{ReadMark, unit_marks, program_marks}
 use Rattle.saw_model.proofs.Judging.{IsAt, AtEnd, part_read, nothing_at}
 use Rattle.saw_model.proofs.Verdicts.{AreFine, HasFirst, Verdict, fine_both, not_both, one_fault, first_stands, stands_first, faultless_is, is_faultless}
 
 -- of the units, numbered from k, this is the first that has a fault, and its first
 abbrev FirstIn : List ReadMark → ℕ → Program → Refusal → Type 0
 FirstIn b k [] r = ⊥
-FirstIn b k (c ∷ ps) r = ((r.unit ≡ k) × HasFirst b (part_marks c) r.fault) ⊎ (AreFine b (part_marks c) × FirstIn (b ++ part_marks c) (suc k) ps r)
+FirstIn b k (c ∷ ps) r = ((r.unit ≡ k) × HasFirst b (unit_marks c) r.fault) ⊎ (AreFine b (unit_marks c) × FirstIn (b ++ unit_marks c) (suc k) ps r)
 
 -- what is answered of the units
 abbrev Answers : List ReadMark → ℕ → Program → Result (Steps × At) Refusal → Type 0
 Answers b k ps (Ok read) = AreFine b (program_marks ps)
 Answers b k ps (Err r) = FirstIn b k ps r
 
-later : (b : List ReadMark) (k : ℕ) (c : UnitForm) (ps : Program) (p : Steps × At) → AreFine b (part_marks c) → (r : Result (Steps × At) Refusal)
-    → Answers (b ++ part_marks c) (suc k) ps r
+later : (b : List ReadMark) (k : ℕ) (c : UnitForm) (ps : Program) (p : Steps × At) → AreFine b (unit_marks c) → (r : Result (Steps × At) Refusal)
+    → Answers (b ++ unit_marks c) (suc k) ps r
     → Answers b k (c ∷ ps) (on_fine r (λ q. Ok (both_steps p.0 q.0, q.1)))
-later b k c ps p f (Ok q) a = fine_both b (part_marks c) (program_marks ps) f a
+later b k c ps p f (Ok q) a = fine_both b (unit_marks c) (program_marks ps) f a
 later b k c ps p f (Err e) a = inr (f, a)
 
-unit_read : (b : List ReadMark) (k : ℕ) (c : UnitForm) (ps : Program) (r : Result (Steps × At) Fault) → Verdict AtEnd b (part_marks c) r
-    → ((s : At) → IsAt (b ++ part_marks c) s → Answers (b ++ part_marks c) (suc k) ps (all_parts (suc k) ps s))
-    → Answers b k (c ∷ ps) (in_unit k r (λ p. on_fine (all_parts (suc k) ps p.1) (λ q. Ok (both_steps p.0 q.0, q.1))))
-unit_read b k c ps (Ok p) v more = later b k c ps p v.0 (all_parts (suc k) ps p.1) (more p.1 v.1)
+unit_read : (b : List ReadMark) (k : ℕ) (c : UnitForm) (ps : Program) (r : Result (Steps × At) Fault) → Verdict AtEnd b (unit_marks c) r
+    → ((s : At) → IsAt (b ++ unit_marks c) s → Answers (b ++ unit_marks c) (suc k) ps (units_judged (suc k) ps s))
+    → Answers b k (c ∷ ps) (in_unit k r (λ p. on_fine (units_judged (suc k) ps p.1) (λ q. Ok (both_steps p.0 q.0, q.1))))
+unit_read b k c ps (Ok p) v more = later b k c ps p v.0 (units_judged (suc k) ps p.1) (more p.1 v.1)
 unit_read b k c ps (Err e) v more = inl (refl, v)
 
-units_read : (b : List ReadMark) (k : ℕ) (ps : Program) (s : At) → IsAt b s → Answers b k ps (all_parts k ps s)
+units_read : (b : List ReadMark) (k : ℕ) (ps : Program) (s : At) → IsAt b s → Answers b k ps (units_judged k ps s)
 units_read b k [] s a = tt
-units_read b k (c ∷ ps) s a = unit_read b k c ps (part_judged c s) (part_read c b s a) (λ t h. units_read (b ++ part_marks c) (suc k) ps t h)
+units_read b k (c ∷ ps) s a = unit_read b k c ps (unit_judged c s) (part_read c b s a) (λ t h. units_read (b ++ unit_marks c) (suc k) ps t h)
 
 program_read : (p : Program) → Answers [] 1 p (judged p)
 program_read p = units_read [] 1 p nothing_read nothing_at
@@ -51,7 +51,7 @@ record Told (b : List ReadMark) (k : ℕ) (ps : Program) (r : Refusal) : Type 0 
   read : List ReadMark
   here : ReadMark
   left : List ReadMark
-  marks : part_marks unit ≡ read ++ here ∷ left
+  marks : unit_marks unit ≡ read ++ here ∷ left
   fine : AreFine b (program_marks units ++ read)
   fault : IsFirstFault (b ++ (program_marks units ++ read)) here r.fault
 
@@ -59,7 +59,7 @@ told : (b : List ReadMark) (k : ℕ) (ps : Program) (r : Refusal) → FirstIn b 
 told b k [] r h = absurd h
 told b k (c ∷ ps) r h = ⊎_elim
     (λ x.
-    let s = first_stands b (part_marks c) r.fault x.1 in
+    let s = first_stands b (unit_marks c) r.fault x.1 in
     record {
       units = [];
       unit = c;
@@ -74,7 +74,7 @@ told b k (c ∷ ps) r h = ⊎_elim
       fault = s.fault;
     })
     (λ x.
-    let s = told (b ++ part_marks c) (suc k) ps r x.1 in
+    let s = told (b ++ unit_marks c) (suc k) ps r x.1 in
     let n = s.counted in
     record {
       units = c ∷ s.units;
@@ -86,12 +86,12 @@ told b k (c ∷ ps) r h = ⊎_elim
       here = s.here;
       left = s.left;
       marks = s.marks;
-      fine = subst (AreFine b) (sym (append_assoc (part_marks c) (program_marks s.units) s.read))
-          (fine_both b (part_marks c) (program_marks s.units ++ s.read) x.0 s.fine);
+      fine = subst (AreFine b) (sym (append_assoc (unit_marks c) (program_marks s.units) s.read))
+          (fine_both b (unit_marks c) (program_marks s.units ++ s.read) x.0 s.fine);
       fault =
           subst (λ y. IsFirstFault y s.here r.fault)
-          (append_assoc b (part_marks c) (program_marks s.units ++ s.read) ∙ ap (λ y. b ++ y) (sym
-          (append_assoc (part_marks c) (program_marks s.units) s.read)))
+          (append_assoc b (unit_marks c) (program_marks s.units ++ s.read) ∙ ap (λ y. b ++ y) (sym
+          (append_assoc (unit_marks c) (program_marks s.units) s.read)))
           s.fault;
     })
     h
@@ -104,7 +104,7 @@ fine_parts b (m ∷ ms) ns a =
 is_told : (b : List ReadMark) (k : ℕ) (units : Program) (unit : UnitForm) (others : Program) (read : List ReadMark) (here : ReadMark) (left : List ReadMark)
     (r : Refusal)
     → r.unit ≡ length units + k
-    → part_marks unit ≡ read ++ here ∷ left
+    → unit_marks unit ≡ read ++ here ∷ left
     → AreFine b (program_marks units ++ read)
     → IsFirstFault (b ++ (program_marks units ++ read)) here r.fault
     → FirstIn b k (units ++ unit ∷ others) r
@@ -114,12 +114,12 @@ is_told b k [] unit others read here left r n e f h = inl (
       (stands_first b read here left r.fault f h),
 )
 is_told b k (c ∷ cs) unit others read here left r n e f h =
-    let a = append_assoc (part_marks c) (program_marks cs) read in
-    let s = fine_parts b (part_marks c) (program_marks cs ++ read) (subst (AreFine b) a f) in
+    let a = append_assoc (unit_marks c) (program_marks cs) read in
+    let s = fine_parts b (unit_marks c) (program_marks cs ++ read) (subst (AreFine b) a f) in
     inr (
       s.0,
-      is_told (b ++ part_marks c) (suc k) cs unit others read here left r (omega (arith, n)) e s.1
-          (subst (λ y. IsFirstFault y here r.fault) (ap (λ y. b ++ y) a ∙ sym (append_assoc b (part_marks c) (program_marks cs ++ read))) h),
+      is_told (b ++ unit_marks c) (suc k) cs unit others read here left r (omega (arith, n)) e s.1
+          (subst (λ y. IsFirstFault y here r.fault) (ap (λ y. b ++ y) a ∙ sym (append_assoc b (unit_marks c) (program_marks cs ++ read))) h),
     )
 
 -- there is one
@@ -129,36 +129,36 @@ one_told b k (c ∷ ps) r q x y = ⊎_elim
     (λ a. ⊎_elim
     (λ d.
     let u = a.0 ∙ sym d.0 in
-    let f = one_fault b (part_marks c) r.fault q.fault a.1 d.1 in
+    let f = one_fault b (unit_marks c) r.fault q.fault a.1 d.1 in
     λ i. record { unit = u i; fault = f i })
-    (λ d. absurd (not_both b (part_marks c) r.fault d.0 a.1)) y)
+    (λ d. absurd (not_both b (unit_marks c) r.fault d.0 a.1)) y)
     (λ a. ⊎_elim
-    (λ d. absurd (not_both b (part_marks c) q.fault a.0 d.1))
-    (λ d. one_told (b ++ part_marks c) (suc k) ps r q a.1 d.1) y)
+    (λ d. absurd (not_both b (unit_marks c) q.fault a.0 d.1))
+    (λ d. one_told (b ++ unit_marks c) (suc k) ps r q a.1 d.1) y)
     x
 
 -- where no place has a fault, none is told
 none_told : (b : List ReadMark) (k : ℕ) (ps : Program) (r : Refusal) → AreFine b (program_marks ps) → FirstIn b k ps r → ⊥
 none_told b k [] r f x = x
 none_told b k (c ∷ ps) r f x =
-    let s = fine_parts b (part_marks c) (program_marks ps) f in ⊎_elim
-    (λ a. not_both b (part_marks c) r.fault s.0 a.1)
-    (λ a. none_told (b ++ part_marks c) (suc k) ps r s.1 a.1)
+    let s = fine_parts b (unit_marks c) (program_marks ps) f in ⊎_elim
+    (λ a. not_both b (unit_marks c) r.fault s.0 a.1)
+    (λ a. none_told (b ++ unit_marks c) (suc k) ps r s.1 a.1)
     x
 
 -- THE LAWS
 
-fault_in : (p : Program) (r : Refusal) → IsFaultAt p r.unit r.fault → FirstIn [] 1 p r
+fault_in : (p : Program) (r : Refusal) → IsFaultOf p r.unit r.fault → FirstIn [] 1 p r
 fault_in p r h =
     subst (λ ps. FirstIn [] 1 ps r) (sym h.parts)
     (is_told [] 1 h.units h.unit h.others h.read h.here h.left r h.counted h.marks (is_faultless (program_marks h.units ++ h.read) h.faultless) h.fault)
 
-refused_by : (p : Program) (r : Refusal) → IsFaultAt p r.unit r.fault → (told : Result (Steps × At) Refusal) → Answers [] 1 p told → told ≡ Err r
+refused_by : (p : Program) (r : Refusal) → IsFaultOf p r.unit r.fault → (told : Result (Steps × At) Refusal) → Answers [] 1 p told → told ≡ Err r
 refused_by p r h (Ok q) a = absurd (none_told [] 1 p r a (fault_in p r h))
 refused_by p r h (Err e) a = ap (λ x. Err x) (one_told [] 1 p e r a (fault_in p r h))
 
 -- a program is refused by its first fault
-pub refused_at_first : RefusedAtFirst
+pub refused_at_first : RefusalsAre
 refused_at_first p r = (
   (λ e.
       let t = told [] 1 p r (subst (Answers [] 1 p) e (program_read p)) in
@@ -184,7 +184,7 @@ accepted_by p h (Ok read) e a = (read, e)
 accepted_by p h (Err r) e a = absurd (none_told [] 1 p r (is_faultless (program_marks p) h) a)
 
 -- it is accepted where it has none
-pub accepted_faultless : AcceptedFaultless
+pub accepted_faultless : AcceptedAre
 accepted_faultless p = (
   (λ r. faultless_is (program_marks p) (subst (Answers [] 1 p) r.1 (program_read p))),
   (λ h. accepted_by p h (judged p) refl (program_read p)),

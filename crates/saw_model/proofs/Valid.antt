@@ -35,7 +35,7 @@ use Rattle.saw_text.specs.Tree.{Program}
 use Rattle.saw_model.specs.Meaning.{tables_in, width}
 use Rattle.saw_model.specs.Elaborate.{At, KnownName, Var, Port, find, keys_in, is_best, nothing_read}
 use Rattle.saw_model.specs.Plan.{queue_name, queues_of, queue_decls, tally_op, map_op, plan_of}
-use Rattle.saw_model.specs.Shallow.{AreShallowParts}
+use Rattle.saw_model.specs.Shallow.{AreShallowUnits}
 use Rattle.saw_model.specs.Laws.{PlansAreValid}
 use Rattle.saw_model.proofs.Elaborated.{fine, IsSound, ArePorts}
 use Rattle.saw_model.proofs.Formed.{widths_of, parts_reach, parts_count, parts_formed}
@@ -214,7 +214,7 @@ in_and_queues ts once q = ⊎_elim
     (λ c. let e = ap one_if c.1 in let n = end_once (codes "@q") ts once q in omega (arith, e, n))
     (cases_name (codes "in") q)
 
-module _ (p : Program) (read : Steps × At) (low : AreShallowParts p) (h : parts_read p nothing_read ≡ fine read) where
+module _ (p : Program) (read : Steps × At) (low : AreShallowUnits p) (h : parts_read p nothing_read ≡ fine read) where
   abbrev ts : List TableDecl
   ts = tables_in p
 

@@ -159,9 +159,9 @@ table_of n k s =
     on_ok (demand (is_best k) Limit) (λ w.
     on_ok (demand (nat_le (keys_in k) 8) Limit) (λ x. Ok (tabled n k s)))))
 
-abbrev pub part_judged : UnitForm → At → Read
-part_judged (TableUnit tb) s = table_of tb.name (table_kind tb) s
-part_judged (StatementUnit c) s = step_of c s
+abbrev pub unit_judged : UnitForm → At → Read
+unit_judged (TableUnit tb) s = table_of tb.name (table_kind tb) s
+unit_judged (StatementUnit c) s = step_of c s
 
 -- before all units
 abbrev pub nothing_read : At

@@ -7,7 +7,7 @@ use Rattle.saw_model.specs.Elaborate.{Fault, UnknownName, NameTwice, Shape, Limi
 use Rattle.saw_model.specs.Judged.{Refusal, judged}
 use Rattle.saw_model.specs.Places.{ReadMark, Begins, Names, Reads, Declares, Sets, Emits, Index, Indexed, Weighted, Unweighted, Tables, What}
 use Rattle.saw_model.specs.Places.{ALocal, ATable}
-use Rattle.saw_model.specs.Places.{IsKnownAs, is_statement, is_local, is_table, how_many, part_marks, program_marks}
+use Rattle.saw_model.specs.Places.{IsKnownAs, is_statement, is_local, is_table, how_many, unit_marks, program_marks}
 use Rattle.saw_text.specs.Tree.{UnitForm, Program}
 
 -- a value's name or a name that is set is no known local, or the name behind emit is no table that is declared above
@@ -74,7 +74,7 @@ abbrev pub IsFaultless : List ReadMark → Type 0
 IsFaultless text = (before : List ReadMark) (m : ReadMark) (after : List ReadMark) → text ≡ before ++ m ∷ after → (f : Fault) → HasFault before m f → ⊥
 
 -- the first place of the program that has a fault stands in this unit, counted from 1, and this is its first fault
-pub record IsFaultAt (p : Program) (number : ℕ) (f : Fault) : Type 0 where
+pub record IsFaultOf (p : Program) (number : ℕ) (f : Fault) : Type 0 where
   pub units : Program
   pub unit : UnitForm
   pub others : Program
@@ -83,14 +83,14 @@ pub record IsFaultAt (p : Program) (number : ℕ) (f : Fault) : Type 0 where
   pub read : List ReadMark
   pub here : ReadMark
   pub left : List ReadMark
-  pub marks : part_marks unit ≡ read ++ here ∷ left
+  pub marks : unit_marks unit ≡ read ++ here ∷ left
   pub faultless : IsFaultless (program_marks units ++ read)
   pub fault : IsFirstFault (program_marks units ++ read) here f
 
 -- a program is refused with a fault at a unit exactly where the first place that has one has it, and stands there
-abbrev pub RefusedAtFirst : Type 0
-RefusedAtFirst = (p : Program) (r : Refusal) → (judged p ≡ Err r) ↔ IsFaultAt p r.unit r.fault
+abbrev pub RefusalsAre : Type 0
+RefusalsAre = (p : Program) (r : Refusal) → (judged p ≡ Err r) ↔ IsFaultOf p r.unit r.fault
 
 -- it is accepted exactly where no place has a fault
-abbrev pub AcceptedFaultless : Type 0
-AcceptedFaultless = (p : Program) → ((read : Steps × At) × (judged p ≡ Ok read)) ↔ IsFaultless (program_marks p)
+abbrev pub AcceptedAre : Type 0
+AcceptedAre = (p : Program) → ((read : Steps × At) × (judged p ≡ Ok read)) ↔ IsFaultless (program_marks p)

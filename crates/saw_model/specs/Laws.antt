@@ -8,11 +8,11 @@ use Rattle.saw_model.specs.Meaning.{width, program_tables}
 use Rattle.saw_model.specs.Elaborate.{At}
 use Rattle.saw_model.specs.Judged.{judged}
 use Rattle.saw_model.specs.Plan.{plan_of, rows_as_items}
-use Rattle.saw_model.specs.Shallow.{AreShallowParts}
+use Rattle.saw_model.specs.Shallow.{AreShallowUnits}
 
 -- the plan is valid
 abbrev pub PlansAreValid : Type 0
-PlansAreValid = (p : Program) (read : Steps × At) → AreShallowParts p → judged p ≡ Ok read → IsPlan (plan_of p read)
+PlansAreValid = (p : Program) (read : Steps × At) → AreShallowUnits p → judged p ≡ Ok read → IsPlan (plan_of p read)
 
 -- it means what the program means: each table of what all records emit. The plan reads the first fields of the records
 abbrev pub TranslationMeans : Type 0

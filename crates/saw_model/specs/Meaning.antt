@@ -41,11 +41,11 @@ tables_in (StatementUnit c ∷ ps) = tables_in ps
 
 -- WHAT ONE RECORD EMITS
 
-abbrev pub Values : Type 0
-Values = Name → ℤ
+abbrev pub Store : Type 0
+Store = Name → ℤ
 
 -- the value of an expression, for a record and the values of names
-abbrev pub eval : Expression → List ℤ → Values → ℤ
+abbrev pub eval : Expression → List ℤ → Store → ℤ
 eval (tree.Number v) r env = pos v
 eval (tree.Name n) r env = env n
 eval (tree.Input p) r env = slice_index_or r p (pos 0)
@@ -59,14 +59,14 @@ Emitted = Name × List ℤ
 
 -- where the run of a program stands
 pub record State : Type 0 where
-  pub values : Values
+  pub values : Store
   pub emitted : List Emitted
 
-abbrev pub eval_or : ℤ → Option Expression → List ℤ → Values → ℤ
+abbrev pub eval_or : ℤ → Option Expression → List ℤ → Store → ℤ
 eval_or z None r env = z
 eval_or z (Some t) r env = eval t r env
 
-abbrev pub eval_all : List Expression → List ℤ → Values → List ℤ
+abbrev pub eval_all : List Expression → List ℤ → Store → List ℤ
 eval_all [] r env = []
 eval_all (t ∷ ts) r env = eval t r env ∷ eval_all ts r env
 

@@ -71,14 +71,14 @@ abbrev mutual
   optional_marks Unwritten = []
   optional_marks (Written b) = block_marks b
 
-abbrev pub part_marks : UnitForm → List ReadMark
-part_marks (TableUnit tb) = Tables tb.name (table_kind tb) ∷ []
-part_marks (StatementUnit c) = statement_marks c
+abbrev pub unit_marks : UnitForm → List ReadMark
+unit_marks (TableUnit tb) = Tables tb.name (table_kind tb) ∷ []
+unit_marks (StatementUnit c) = statement_marks c
 
 -- the places of a program, in reading order
 abbrev pub program_marks : Program → List ReadMark
 program_marks [] = []
-program_marks (c ∷ ps) = part_marks c ++ program_marks ps
+program_marks (c ∷ ps) = unit_marks c ++ program_marks ps
 
 -- WHAT IS KNOWN
 

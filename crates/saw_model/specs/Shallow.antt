@@ -30,6 +30,6 @@ abbrev pub IsShallowPart : UnitForm → Type 0
 IsShallowPart (TableUnit tb) = Unit {0}
 IsShallowPart (StatementUnit c) = IsShallow c
 
-abbrev pub AreShallowParts : Program → Type 0
-AreShallowParts [] = Unit {0}
-AreShallowParts (c ∷ ps) = IsShallowPart c × AreShallowParts ps
+abbrev pub AreShallowUnits : Program → Type 0
+AreShallowUnits [] = Unit {0}
+AreShallowUnits (c ∷ ps) = IsShallowPart c × AreShallowUnits ps

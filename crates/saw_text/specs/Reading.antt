@@ -85,5 +85,5 @@ abbrev pub unit_from : Unit {0} → Parse UnitForm
 unit_from u = unit_at
 
 -- the units of a text
-abbrev pub all_saw_units : List (List Tok) → Result (List UnitForm) ℕ
-all_saw_units us = read_units unit_from next_unit tt 1 us
+abbrev pub units_in : List (List Tok) → Result (List UnitForm) ℕ
+units_in us = read_units unit_from next_unit tt 1 us

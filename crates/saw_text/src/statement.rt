@@ -7,12 +7,12 @@ ghost use Rattle.saw_text.specs.Tree.{expression, statement, block, in_turn};
 ghost use Rattle.saw_text.specs.View.{expressions};
 
 use crate::names::{user, user_name};
-use crate::term::Sawzall;
+use crate::term::SawzallGrammar;
 use crate::{Block, Expr, Statement};
 use river_base::{Name, NoMemory};
 use std::alloc::Global;
 use text_blocks::{Blocks, Opening, ended, first_value, round, square, term};
-use text_forms::{Fault, Reader, closed, is};
+use text_forms::{ParseFault, Reader, closed, is};
 use work_text::Symbol;
 
 /// What stands behind `NAME: int`.
@@ -22,10 +22,10 @@ pub fn declare(
     alloc: Global,
     brackets: u32,
     name: Name,
-) -> Result<Statement, Fault>
+) -> Result<Statement, ParseFault>
     ensures { Gives statement result reader.new (declare_at name brackets reader.old) }
 {
-    let value = first_value(&Sawzall, reader, alloc, brackets)?;
+    let value = first_value(&SawzallGrammar, reader, alloc, brackets)?;
     closed(
         reader,
         Statement::Declare { name, value },
@@ -40,47 +40,47 @@ pub fn assign(
     alloc: Global,
     brackets: u32,
     name: Name,
-) -> Result<Statement, Fault>
+) -> Result<Statement, ParseFault>
     ensures { Gives statement result reader.new (assign_at name brackets reader.old) }
 {
     reader.expect(&[Symbol::Assign])?;
-    let value = ended(&Sawzall, reader, alloc, brackets)?;
+    let value = ended(&SawzallGrammar, reader, alloc, brackets)?;
     Ok(Statement::Assign { name, value })
 }
 
 // Expressions in square brackets.
 #[tactic(auto, unfolding(crate::specs::Blocks::indexes_at), using(crate::proofs::Lists::indexes))]
-fn indexes(reader: &mut Reader<'_>, alloc: Global, brackets: u32) -> Result<Vec<Expr>, Fault>
+fn indexes(reader: &mut Reader<'_>, alloc: Global, brackets: u32) -> Result<Vec<Expr>, ParseFault>
     ensures { Gives (λ es. expressions es.items) result reader.new (indexes_at brackets reader.old) }
 {
     let mut list = Vec::new(alloc);
     'items: while reader.is_at(Symbol::OpenBracket) {
-        list.push(square(&Sawzall, reader, alloc, brackets)?)?;
+        list.push(square(&SawzallGrammar, reader, alloc, brackets)?)?;
     }
     Ok(list)
 }
 
 // `weight e`, or nothing.
 #[tactic(auto, unfolding(crate::specs::Blocks::weight_at))]
-fn weight(reader: &mut Reader<'_>, alloc: Global, brackets: u32) -> Result<Option<Expr>, Fault>
+fn weight(reader: &mut Reader<'_>, alloc: Global, brackets: u32) -> Result<Option<Expr>, ParseFault>
     ensures { Gives (optional expression) result reader.new (weight_at brackets reader.old) }
 {
     if !reader.is_at_word(b"weight") {
         return Ok(None);
     }
     reader.skip();
-    Ok(Some(term(&Sawzall, reader, alloc, brackets)?))
+    Ok(Some(term(&SawzallGrammar, reader, alloc, brackets)?))
 }
 
 // What stands behind `emit`.
 #[tactic(auto, unfolding(crate::specs::Blocks::emit_at), using(crate::proofs::Trees::trees))]
-fn emit(reader: &mut Reader<'_>, alloc: Global, brackets: u32) -> Result<Statement, Fault>
+fn emit(reader: &mut Reader<'_>, alloc: Global, brackets: u32) -> Result<Statement, ParseFault>
     ensures { Gives statement result reader.new (emit_at brackets reader.old) }
 {
     let table = user_name(reader)?;
     let indexes = indexes(reader, alloc, brackets)?;
     reader.expect(&[Symbol::Less, Symbol::Minus])?;
-    let value = term(&Sawzall, reader, alloc, brackets)?;
+    let value = term(&SawzallGrammar, reader, alloc, brackets)?;
     let weight = weight(reader, alloc, brackets)?;
     let emit = Statement::Emit {
         table,
@@ -98,7 +98,7 @@ fn named(
     alloc: Global,
     brackets: u32,
     name: Name,
-) -> Result<Statement, Fault>
+) -> Result<Statement, ParseFault>
     ensures { Gives statement result reader.new (named_after name brackets reader.old) }
 {
     if !reader.is_at(Symbol::Colon) {
@@ -116,7 +116,7 @@ fn plain(
     alloc: Global,
     brackets: u32,
     word: &[u8],
-) -> Result<Statement, Fault>
+) -> Result<Statement, ParseFault>
     ensures { Gives statement result reader.new (plain_at brackets word.now reader.old) }
 {
     if is(word, b"emit") {
@@ -124,11 +124,11 @@ fn plain(
     }
     match user(word) {
         Some(name) => named(reader, alloc, brackets, name),
-        None => Err(Fault::Syntax),
+        None => Err(ParseFault::Syntax),
     }
 }
 
-impl Blocks for Sawzall {
+impl Blocks for SawzallGrammar {
     ghost use Rattle.saw_text.specs.Blocks.{style, holes, opening, condition_at};
     ghost use Rattle.saw_text.specs.Tree.{Expression, Statement, Block, expression, statement, block};
     ghost use Rattle.saw_text.specs.ExactStatements.{exact-sawzall};
@@ -179,7 +179,7 @@ impl Blocks for Sawzall {
         reader: &mut Reader<'_>,
         alloc: Global,
         brackets: u32,
-    ) -> Result<Expr, Fault>
+    ) -> Result<Expr, ParseFault>
         ensures { Gives expression result reader.new (condition_at brackets reader.old) }
     {
         round(self, reader, alloc, brackets)
@@ -191,8 +191,8 @@ impl Blocks for Sawzall {
         _alloc: Global,
         _brackets: u32,
         _word: &[u8],
-    ) -> Result<Statement, Fault> {
-        Err(Fault::Syntax)
+    ) -> Result<Statement, ParseFault> {
+        Err(ParseFault::Syntax)
     }
 
     fn plain(
@@ -201,7 +201,7 @@ impl Blocks for Sawzall {
         alloc: Global,
         brackets: u32,
         word: &[u8],
-    ) -> Result<Statement, Fault> {
+    ) -> Result<Statement, ParseFault> {
         plain(reader, alloc, brackets, word)
     }
 

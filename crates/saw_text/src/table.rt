@@ -9,12 +9,12 @@ use crate::names::user;
 use crate::{Field, Kind, Table};
 use river_base::Name;
 use std::alloc::Global;
-use text_forms::{Fault, Reader, closed, is};
+use text_forms::{ParseFault, Reader, closed, is};
 use work_text::Symbol;
 
 // What stands behind the name of a field.
 #[tactic(auto, unfolding(crate::specs::Reading::named_field_at))]
-fn named_field(reader: &mut Reader<'_>, name: Name) -> Result<Field, Fault>
+fn named_field(reader: &mut Reader<'_>, name: Name) -> Result<Field, ParseFault>
     ensures { Gives (λ f. f) result reader.new (named_field_at name reader.old) }
 {
     reader.expect(&[Symbol::Colon])?;
@@ -24,7 +24,7 @@ fn named_field(reader: &mut Reader<'_>, name: Name) -> Result<Field, Fault>
 
 // A field.
 #[tactic(auto, unfolding(crate::specs::Reading::field_at, crate::specs::Reading::field_after))]
-fn field(reader: &mut Reader<'_>) -> Result<Field, Fault>
+fn field(reader: &mut Reader<'_>) -> Result<Field, ParseFault>
     ensures { Gives (λ f. f) result reader.new (field_at reader.old) }
 {
     let word = reader.name()?;
@@ -33,13 +33,13 @@ fn field(reader: &mut Reader<'_>) -> Result<Field, Fault>
     }
     match user(word) {
         Some(name) => named_field(reader, name),
-        None => Err(Fault::Syntax),
+        None => Err(ParseFault::Syntax),
     }
 }
 
 // A field in square brackets.
 #[tactic(auto, unfolding(crate::specs::Reading::column_at, text_blocks::specs::Parts::square_at))]
-fn column(reader: &mut Reader<'_>, brackets: u32) -> Result<Field, Fault>
+fn column(reader: &mut Reader<'_>, brackets: u32) -> Result<Field, ParseFault>
     ensures { Gives (λ f. f) result reader.new (column_at brackets reader.old) }
 {
     reader.opens(Symbol::OpenBracket, brackets)?;
@@ -50,7 +50,7 @@ fn column(reader: &mut Reader<'_>, brackets: u32) -> Result<Field, Fault>
 
 // Fields in square brackets.
 #[tactic(auto, unfolding(crate::specs::Reading::columns_at), using(crate::proofs::Lists::columns))]
-fn columns(reader: &mut Reader<'_>, alloc: Global, brackets: u32) -> Result<Vec<Field>, Fault>
+fn columns(reader: &mut Reader<'_>, alloc: Global, brackets: u32) -> Result<Vec<Field>, ParseFault>
     ensures { Gives (λ fs. fs.items) result reader.new (columns_at brackets reader.old) }
 {
     let mut list = Vec::new(alloc);
@@ -63,7 +63,7 @@ fn columns(reader: &mut Reader<'_>, alloc: Global, brackets: u32) -> Result<Vec<
 
 // How many rows a maximum keeps, in brackets.
 #[tactic(auto, unfolding(crate::specs::Reading::best_at, text_blocks::specs::Parts::round_at))]
-fn best(reader: &mut Reader<'_>, brackets: u32) -> Result<u32, Fault>
+fn best(reader: &mut Reader<'_>, brackets: u32) -> Result<u32, ParseFault>
     ensures { Gives (λ n. n) result reader.new (best_at brackets reader.old) }
 {
     reader.opens(Symbol::Open, brackets)?;
@@ -73,7 +73,7 @@ fn best(reader: &mut Reader<'_>, brackets: u32) -> Result<u32, Fault>
 
 // The kind of a table.
 #[tactic(auto, unfolding(crate::specs::Reading::kind_at, crate::specs::Reading::kind_after))]
-fn kind(reader: &mut Reader<'_>, brackets: u32) -> Result<Kind, Fault>
+fn kind(reader: &mut Reader<'_>, brackets: u32) -> Result<Kind, ParseFault>
     ensures { Gives (λ k. k) result reader.new (kind_at brackets reader.old) }
 {
     let word = reader.name()?;
@@ -86,12 +86,12 @@ fn kind(reader: &mut Reader<'_>, brackets: u32) -> Result<Kind, Fault>
     if is(word, b"maximum") {
         return Ok(Kind::Maximum(best(reader, brackets)?));
     }
-    Err(Fault::Syntax)
+    Err(ParseFault::Syntax)
 }
 
 // `weight` and a field, or nothing.
 #[tactic(auto, unfolding(crate::specs::Reading::weight_field_at))]
-fn weight_field(reader: &mut Reader<'_>) -> Result<Option<Field>, Fault>
+fn weight_field(reader: &mut Reader<'_>) -> Result<Option<Field>, ParseFault>
     ensures { Gives (λ f. f) result reader.new (weight_field_at reader.old) }
 {
     if !reader.is_at_word(b"weight") {
@@ -118,7 +118,7 @@ fn in_table(
     alloc: Global,
     brackets: u32,
     name: Name,
-) -> Result<Table, Fault>
+) -> Result<Table, ParseFault>
     ensures { Gives table_form result reader.new (in_table_at name brackets reader.old) }
 {
     let kind = kind(reader, brackets)?;
@@ -143,13 +143,13 @@ pub fn table(
     alloc: Global,
     brackets: u32,
     name: Name,
-) -> Result<Table, Fault>
+) -> Result<Table, ParseFault>
     ensures { Gives table_form result reader.new (table_at name brackets reader.old) }
 {
     let table = in_table(reader, alloc, brackets, name)?;
     if is_maximum(table.kind) == table.weight.is_some() {
         Ok(table)
     } else {
-        Err(Fault::Syntax)
+        Err(ParseFault::Syntax)
     }
 }

@@ -9,13 +9,13 @@ use crate::names::user;
 use river_base::NoMemory;
 use std::alloc::Global;
 use text_blocks::{Sign, Terms, place, take_sign};
-use text_forms::{Fault, Reader, is};
+use text_forms::{ParseFault, Reader, is};
 use work_code::BinOp;
 use work_text::Token;
 
 // A leaf that begins with this name.
 #[tactic(auto, unfolding(crate::specs::Expressions::named))]
-fn named(reader: &mut Reader<'_>, brackets: u32, text: &[u8]) -> Result<Expr, Fault>
+fn named(reader: &mut Reader<'_>, brackets: u32, text: &[u8]) -> Result<Expr, ParseFault>
     ensures reads { Gives expression result reader.new (named brackets text.now reader.old) }
     ensures depth { IfOk result (λ e. depth_of (expression e) ≡ 1) }
 {
@@ -24,19 +24,19 @@ fn named(reader: &mut Reader<'_>, brackets: u32, text: &[u8]) -> Result<Expr, Fa
     }
     match user(text) {
         Some(name) => Ok(Expr::Name(name)),
-        None => Err(Fault::Syntax),
+        None => Err(ParseFault::Syntax),
     }
 }
 
 // A number, a name, or a field of the record.
-fn leaf(reader: &mut Reader<'_>, brackets: u32) -> Result<Expr, Fault>
+fn leaf(reader: &mut Reader<'_>, brackets: u32) -> Result<Expr, ParseFault>
     ensures reads { Gives expression result reader.new (leaf_at brackets reader.old) }
     ensures depth { IfOk result (λ e. depth_of (expression e) ≡ 1) }
 {
     match reader.peek() {
         Some(Token::Number(value)) => {
             if value > 9_223_372_036_854_775_807 {
-                return Err(Fault::Syntax);
+                return Err(ParseFault::Syntax);
             }
             reader.skip();
             Ok(Expr::Number(value))
@@ -45,14 +45,14 @@ fn leaf(reader: &mut Reader<'_>, brackets: u32) -> Result<Expr, Fault>
             reader.skip();
             named(reader, brackets, text)
         }
-        _ => Err(Fault::Syntax),
+        _ => Err(ParseFault::Syntax),
     }
 }
 
 /// The language, for the readers of expressions and of statements of any language.
-pub struct Sawzall;
+pub struct SawzallGrammar;
 
-impl Terms for Sawzall {
+impl Terms for SawzallGrammar {
     ghost use Rattle.saw_text.specs.Expressions.{marks, deepest, leaf_at};
     ghost use Rattle.saw_text.specs.Tree.{Expression, expression};
 
@@ -79,7 +79,7 @@ impl Terms for Sawzall {
         None
     }
 
-    fn leaf(&self, reader: &mut Reader<'_>, brackets: u32) -> Result<Expr, Fault> {
+    fn leaf(&self, reader: &mut Reader<'_>, brackets: u32) -> Result<Expr, ParseFault> {
         leaf(reader, brackets)
     }
 

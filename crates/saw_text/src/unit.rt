@@ -8,16 +8,16 @@ use crate::Unit;
 use crate::names::user;
 use crate::statement::{assign, declare};
 use crate::table::table;
-use crate::term::Sawzall;
+use crate::term::SawzallGrammar;
 use river_base::Name;
 use std::alloc::Global;
 use text_blocks::rest;
-use text_forms::{Fault, Reader, Units, is};
+use text_forms::{ParseFault, Reader, Units, is};
 use work_text::Symbol;
 
 // What stands behind `NAME:`.
 #[tactic(auto, unfolding(crate::specs::Reading::typed_at, crate::specs::Reading::typed_after))]
-fn typed(reader: &mut Reader<'_>, alloc: Global, brackets: u32, name: Name) -> Result<Unit, Fault>
+fn typed(reader: &mut Reader<'_>, alloc: Global, brackets: u32, name: Name) -> Result<Unit, ParseFault>
     ensures { Gives unit_form result reader.new (typed_at name brackets reader.old) }
 {
     let word = reader.name()?;
@@ -27,12 +27,12 @@ fn typed(reader: &mut Reader<'_>, alloc: Global, brackets: u32, name: Name) -> R
     if is(word, b"int") {
         return Ok(Unit::Statement(declare(reader, alloc, brackets, name)?));
     }
-    Err(Fault::Syntax)
+    Err(ParseFault::Syntax)
 }
 
 // What stands behind the name of a table or a local.
 #[tactic(auto, unfolding(crate::specs::Reading::unit_named))]
-fn named(reader: &mut Reader<'_>, alloc: Global, brackets: u32, name: Name) -> Result<Unit, Fault>
+fn named(reader: &mut Reader<'_>, alloc: Global, brackets: u32, name: Name) -> Result<Unit, ParseFault>
     ensures { Gives unit_form result reader.new (unit_named name brackets reader.old) }
 {
     if !reader.is_at(Symbol::Colon) {
@@ -44,17 +44,17 @@ fn named(reader: &mut Reader<'_>, alloc: Global, brackets: u32, name: Name) -> R
 
 // A unit.
 #[tactic(auto, unfolding(crate::specs::Reading::unit_at, crate::specs::Reading::unit_after))]
-fn unit(reader: &mut Reader<'_>, alloc: Global) -> Result<Unit, Fault>
+fn unit(reader: &mut Reader<'_>, alloc: Global) -> Result<Unit, ParseFault>
     ensures { Gives unit_form result reader.new (unit_at reader.old) }
 {
     let word = reader.name()?;
     match user(word) {
         Some(name) => named(reader, alloc, 128, name),
-        None => Ok(Unit::Statement(rest(&Sawzall, reader, alloc, 16, 128, word)?)),
+        None => Ok(Unit::Statement(rest(&SawzallGrammar, reader, alloc, 16, 128, word)?)),
     }
 }
 
-impl Units for Sawzall {
+impl Units for SawzallGrammar {
     ghost use Rattle.saw_text.specs.Reading.{unit_at};
     ghost use Rattle.saw_text.specs.Tree.{UnitForm, unit_form};
 
@@ -66,7 +66,7 @@ impl Units for Sawzall {
 
     ghost unit = { λ _. unit_at };
 
-    fn unit(&self, reader: &mut Reader<'_>, alloc: Global) -> Result<Unit, Fault> {
+    fn unit(&self, reader: &mut Reader<'_>, alloc: Global) -> Result<Unit, ParseFault> {
         unit(reader, alloc)
     }
 }

@@ -5,7 +5,7 @@ use Rattle.work_text.specs.Tok.{toks}
 use Rattle.cql_model.specs.Plannable.{AreQueries}
 use Rattle.cql_text.specs.Tree.{Register, AQuery, Program}
 use Rattle.cql_model.specs.Scopes.{Named}
-use Rattle.cql_model.specs.Translation.{query_named}
+use Rattle.cql_model.specs.Plan.{query_named}
 use Rattle.cql_model.proofs.Judged.{accepted_plannable}
 use Rattle.slow_cql.specs.Contents.{HaveColumns}
 use Rattle.slow_cql.specs.Laws.{CompiledHaveColumns}

@@ -8,7 +8,7 @@ use Rattle.river_kernels.specs.Formed.{is_width}
 use Rattle.cql_text.specs.Tree.{Scalar, Column, Columns, Star, Chosen, Query}
 use Rattle.cql_model.specs.Scopes.{Named, scope_of}
 use Rattle.cql_model.specs.Meaning.{KnownStream, named_of, Tuple, eval, product_of, where_true, all_values, selected_row, windows_at, content}
-use Rattle.cql_model.specs.Translation.{widths_of, columns_width}
+use Rattle.cql_model.specs.Plan.{widths_of, columns_width}
 use Rattle.cql_model.proofs.Values.{Fits}
 use Rattle.cql_model.proofs.Widths.{AllWide, tuples_fit}
 use Rattle.slow_cql.specs.declared.kept.Input.{Input}

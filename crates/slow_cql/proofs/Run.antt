@@ -9,8 +9,8 @@ use Rattle.cql_text.specs.Tree.{Query, Register, AQuery, Program}
 use Rattle.cql_model.specs.Streams.{spread}
 use Rattle.cql_model.specs.Meaning.{KnownStream, named_of, stream_known, other_files, answer, query_known, answers}
 use Rattle.cql_model.proofs.Widths.{AllWide, answer_wide, file_wide}
-use Rattle.cql_text.specs.declared.tree.Part as tree
-use Rattle.cql_text.specs.Tree.{part_of, parts_of}
+use Rattle.cql_text.specs.declared.tree.Unit as tree
+use Rattle.cql_text.specs.Tree.{unit_form, unit_forms}
 use Rattle.slow_cql.specs.declared.kept.Kept.{Kept}
 use Rattle.slow_cql.specs.Kept.{Entry, StandsKept}
 use Rattle.slow_cql.specs.Contents.{AreNarrow, HaveColumns}
@@ -93,8 +93,8 @@ rest_same ts ps fs gs old new outs more whole a b c r =
     (subst (λ l. Rest ts ps fs old l whole) (sym c) r))
 
 -- the part at a place of the program
-pub part_at : (parts : List tree.Part) (i : ℕ) (x : tree.Part) → i < length parts → x ≡ get_or parts i x
-    → drop i (parts_of parts) ≡ part_of x ∷ drop (i + 1) (parts_of parts)
+pub part_at : (parts : List tree.Unit) (i : ℕ) (x : tree.Unit) → i < length parts → x ≡ get_or parts i x
+    → drop i (unit_forms parts) ≡ unit_form x ∷ drop (i + 1) (unit_forms parts)
 part_at parts i x lt e =
-    let less : i < length (parts_of parts) = (let l = length-map parts part_of in omega (arith, l, lt)) in
-    drop_next (parts_of parts) i (part_of x) less (map_at part_of parts i x lt e)
+    let less : i < length (unit_forms parts) = (let l = length-map parts unit_form in omega (arith, l, lt)) in
+    drop_next (unit_forms parts) i (unit_form x) less (map_at unit_form parts i x lt e)

@@ -6,7 +6,7 @@ use Rattle.cql_text.specs.Tree.{Scalar, Columns, Query, Register, AQuery, Progra
 use Rattle.cql_model.specs.Scopes.{Named, scope_of}
 use Rattle.cql_model.specs.Streams.{Timed}
 use Rattle.cql_model.specs.Meaning.{KnownStream, named_of, windows_at, Tuple, eval, product_of, where_true, selected_row}
-use Rattle.cql_model.specs.Translation.{columns_width, query_named}
+use Rattle.cql_model.specs.Plan.{columns_width, query_named}
 use Rattle.slow_cql.specs.Kept.{input_scope, input_content}
 use Rattle.slow_cql.specs.declared.kept.Input.{Input}
 

@@ -4,7 +4,7 @@ ghost use Rattle.cql_model.specs.Instants.{program_means};
 ghost use Rattle.cql_model.specs.Laws.{AreFiles};
 ghost use Rattle.cql_model.specs.Meaning.{KnownStream, stream_known, first_file, other_files, answer, query_known, answers};
 ghost use Rattle.cql_model.specs.Streams.{Timed, Rises, at_instant, spread};
-ghost use Rattle.cql_text.specs.Tree.{query_of, parts_of, program_of};
+ghost use Rattle.cql_text.specs.Tree.{query_of, unit_forms, program_of};
 ghost use Rattle.slow_cql.specs.Kept.{StandsKept};
 ghost use Rattle.slow_cql.specs.Contents.{AreNarrow, HaveColumns};
 
@@ -12,9 +12,9 @@ use crate::answer::{answer, names};
 use crate::kept::{Kept, declare};
 use crate::names::add_names;
 use brooklet_step::{Lines, Outcome, Tables};
-use cql_text::{CqlProgram, Part, Query, Stream};
+use cql_text::{CqlProgram, Unit, Query, Stream};
 use csv_streams::{instants, spread};
-use kern_rows::Line;
+use kern_rows::ItemLine;
 use river_base::{Items, Listed, NoMemory, Numbers, TimedFiles, TimedRows};
 use std::alloc::Global;
 
@@ -32,7 +32,7 @@ pub fn mean_cql(
     ensures counts { IfOk result (λ outcome. outcome.counts ≡ []) }
 {
     let instants = instants(alloc, files)?;
-    let outs = outputs(alloc, program.parts.as_slice(), files.as_slice(), &instants)?;
+    let outs = outputs(alloc, program.units.as_slice(), files.as_slice(), &instants)?;
     Ok(Outcome {
         outs,
         tables: Tables::new(alloc),
@@ -43,25 +43,25 @@ pub fn mean_cql(
 // The outputs at these instants.
 fn outputs(
     alloc: Global,
-    parts: &[Part],
+    units: &[Unit],
     files: &[TimedRows],
     instants: &Numbers,
 ) -> Result<Lines, NoMemory>
     requires rises { Rises instants.now }
-    requires columns { HaveColumns [] (parts_of parts.now) }
-    requires files { AreFiles (parts_of parts.now) files.now }
-    ensures { IfOk result (λ outs. outs ≡ map (spread instants.now) (answers instants.now [] (parts_of parts.now) files.now)) }
+    requires columns { HaveColumns [] (unit_forms units.now) }
+    requires files { AreFiles (unit_forms units.now) files.now }
+    ensures { IfOk result (λ outs. outs ≡ map (spread instants.now) (answers instants.now [] (unit_forms units.now) files.now)) }
 {
     let mut known = Listed::new(alloc);
     let mut outs = Lines::new(alloc);
-    answered(alloc, parts, files, instants, &mut known, &mut outs)?;
+    answered(alloc, units, files, instants, &mut known, &mut outs)?;
     Ok(outs)
 }
 
 // The same, where nothing is known and there is no output yet.
 fn answered(
     alloc: Global,
-    parts: &[Part],
+    units: &[Unit],
     files: &[TimedRows],
     instants: &Numbers,
     known: &mut Listed<Kept>,
@@ -70,18 +70,18 @@ fn answered(
     requires none { known.old ≡ [] }
     requires no_output { outs.old ≡ [] }
     requires rises { Rises instants.now }
-    requires columns { HaveColumns [] (parts_of parts.now) }
-    requires files { AreFiles (parts_of parts.now) files.now }
-    ensures { OnOk result (outs.new ≡ map (spread instants.now) (answers instants.now [] (parts_of parts.now) files.now)) }
+    requires columns { HaveColumns [] (unit_forms units.now) }
+    requires files { AreFiles (unit_forms units.now) files.now }
+    ensures { OnOk result (outs.new ≡ map (spread instants.now) (answers instants.now [] (unit_forms units.now) files.now)) }
 {
     let mut rest = files;
-    for part in parts {
+    for part in units {
         match part {
-            Part::Register(stream) => {
+            Unit::Register(stream) => {
                 register(alloc, stream, rest, instants, known)?;
                 rest = other_files(rest);
             }
-            Part::Query(query) => add_query(alloc, query, instants, known, outs)?,
+            Unit::Query(query) => add_query(alloc, query, instants, known, outs)?,
         }
     }
     Ok(())
@@ -154,7 +154,7 @@ fn add_query(
 {
     let items = answer(alloc, known.as_slice(), query, instants.as_slice())?;
     declare_answer(alloc, query, instants, &items, known)?;
-    outs.push(Line::from_items(alloc, items))
+    outs.push(ItemLine::from_items(alloc, items))
 }
 
 // A query is known besides, where these items are its answer.

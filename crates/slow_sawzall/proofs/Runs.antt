@@ -7,7 +7,7 @@ use Rattle.river_base.proofs.Lists.{map_next, map_none, map_more}
 use Rattle.work_code.specs.Value.{is_true}
 use Rattle.saw_text.specs.Tree.{Expression}
 use Rattle.saw_text.specs.Tree.{Statement, Declare, Assign, Emit, If, Block, End, Then, Optional, Unwritten, Written, UnitForm, TableUnit, StatementUnit, Program}
-use Rattle.saw_model.specs.Meaning.{Values, eval, eval_all, Emitted, State}
+use Rattle.saw_model.specs.Meaning.{Store, eval, eval_all, Emitted, State}
 use Rattle.saw_model.specs.Meaning.{emit_row, listed, exec, exec_block, exec_optional, exec_units, fresh_state, emits}
 use Rattle.saw_model.proofs.Elaborated.{eval_all-append}
 use Rattle.saw_text.specs.declared.tree.Expr.{Expr}
@@ -137,7 +137,7 @@ pub pushed_value : (a b : List ℤ) (z y : ℤ) → FitsSigned w64 z → b ≡ a
 pushed_value a b z y f h e = h ∙ ap (λ x. a ++ x ∷ []) (to_z-of_z w64 z f ∙ e)
 
 -- one value more
-pub values_next : (es : List Expr) (i : ℕ) (e : Expr) (r : List ℤ) (env : Values) (old now next : List ℤ) → i < length es → e ≡ get_or es i e
+pub values_next : (es : List Expr) (i : ℕ) (e : Expr) (r : List ℤ) (env : Store) (old now next : List ℤ) → i < length es → e ≡ get_or es i e
     → next ≡ now ++ eval (spoken e) r env ∷ [] → now ≡ old ++ eval_all (expressions (take i es)) r env
     → next ≡ old ++ eval_all (expressions (take (i + 1) es)) r env
 values_next es i e r env old now next lt is n h =
@@ -146,7 +146,7 @@ values_next es i e r env old now next lt is n h =
     ∙ ap (λ l. old ++ l) (sym (ap (λ l. eval_all l r env) (map_more spoken es i e lt is) ∙ eval_all-append 0 r (expressions (take i es)) (spoken e ∷ []) env))
 
 -- the values of an emit, part by part
-pub emit_values : (is : List Expression) (v : Expression) (w : Option Expression) (r : List ℤ) (env : Values) (a b c : List ℤ) → a ≡ eval_all is r env
+pub emit_values : (is : List Expression) (v : Expression) (w : Option Expression) (r : List ℤ) (env : Store) (a b c : List ℤ) → a ≡ eval_all is r env
     → b ≡ a ++ eval v r env ∷ [] → c ≡ b ++ eval_all (listed w) r env → c ≡ eval_all (emit_row is v w) r env
 emit_values is v w r env a b c ea eb ec =
     ec ∙ ap (λ l. l ++ eval_all (listed w) r env) (eb ∙ ap (λ l. l ++ eval v r env ∷ []) ea)
@@ -154,11 +154,11 @@ emit_values is v w r env a b c ea eb ec =
     ∙ sym (eval_all-append 0 r is (v ∷ listed w) env)
 
 -- a list of expressions has as many values
-pub evals_many : (ts : List Expression) (r : List ℤ) (env : Values) → length (eval_all ts r env) ≡ length ts
+pub evals_many : (ts : List Expression) (r : List ℤ) (env : Store) → length (eval_all ts r env) ≡ length ts
 evals_many [] r env = refl
 evals_many (t ∷ ts) r env = let e = evals_many ts r env in omega (arith, e)
 
 -- the row of an emit is as long as it has parts
-pub row_few : (is : List Expression) (v : Expression) (w : Option Expression) (r : List ℤ) (env : Values) (xs : List ℤ) → xs ≡ eval_all (emit_row is v w) r env
+pub row_few : (is : List Expression) (v : Expression) (w : Option Expression) (r : List ℤ) (env : Store) (xs : List ℤ) → xs ≡ eval_all (emit_row is v w) r env
     → length (emit_row is v w) ≤ 16 → length xs ≤ 16
 row_few is v w r env xs e le = let m = evals_many (emit_row is v w) r env in let l = ap length e in omega (arith, m, l, le)

@@ -26,7 +26,7 @@ use Rattle.saw_model.proofs.Elaborated.{fine, ok_parts, if_both, ArePorts, one_m
 use Rattle.saw_model.proofs.Fed.{AreOnce, one_place}
 use Rattle.saw_model.proofs.Parts.{parts_read, reads_parts, tabled_parts, split_parts, tables_once, ports_new}
 use Rattle.saw_model.proofs.Statements.{second_at, Sent, sent_parts, forked_parts, followed_parts, grows}
-use Rattle.saw_build.specs.Valued.{IsValued, AreValued, AreValuedOptional, AreValuedParts}
+use Rattle.saw_build.specs.Valued.{IsValued, AreValued, AreValuedOptional, AreValuedUnits}
 use Rattle.slow_sawzall.specs.Sawzall.{IsAccepted, IsRunnable, AreRunnable, AreRunnableOptional, AreRunnableParts, AreAllWide, AreWideFor}
 use Rattle.slow_sawzall.proofs.Runs.{evals_many}
 
@@ -88,7 +88,7 @@ mutual
   optional_runs Unwritten s y h v = tt
   optional_runs (Written b) s y h v = steps_run b s y h v
 
-parts_run : (p : Program) (s : At) (y : Steps × At) → parts_read p s ≡ fine y → AreValuedParts p → AreRunnableParts p
+parts_run : (p : Program) (s : At) (y : Steps × At) → parts_read p s ≡ fine y → AreValuedUnits p → AreRunnableParts p
 parts_run [] s y h v = tt
 parts_run (TableUnit tb ∷ ps) s y h v = let d = split_parts (TableUnit tb) ps s y h in (tt, parts_run ps d.first.1 d.others d.others_is v.1)
 parts_run (StatementUnit c ∷ ps) s y h v =
@@ -96,7 +96,7 @@ parts_run (StatementUnit c ∷ ps) s y h v =
     (step_runs c s d.first d.first_is v.0, parts_run ps d.first.1 d.others d.others_is v.1)
 
 -- an accepted program can be run
-pub accepted_runs : (p : Program) → IsAccepted p → AreValuedParts p → AreRunnableParts p
+pub accepted_runs : (p : Program) → IsAccepted p → AreValuedUnits p → AreRunnableParts p
 accepted_runs p a v = parts_run p nothing_read a.0 (reads_parts 1 p nothing_read a.0 a.1) v
 
 -- HOW WIDE A TABLE IS

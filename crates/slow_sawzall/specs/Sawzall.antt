@@ -7,7 +7,7 @@ use Rattle.river_plan.specs.Forms.{Name}
 use Rattle.brooklet_model.specs.Machine.{at_name}
 use Rattle.saw_text.specs.Tree.{Expression}
 use Rattle.saw_text.specs.Tree.{Statement, Declare, Assign, Emit, If, Block, End, Then, Optional, Unwritten, Written, UnitForm, TableUnit, StatementUnit, Program}
-use Rattle.saw_model.specs.Meaning.{tables_in, Values, Emitted, State, listed, table_kind}
+use Rattle.saw_model.specs.Meaning.{tables_in, Store, Emitted, State, listed, table_kind}
 use Rattle.saw_model.specs.Meaning.{emit_row, exec, rows_for}
 use Rattle.saw_model.specs.Elaborate.{At}
 use Rattle.saw_model.specs.Judged.{judged}
@@ -21,7 +21,7 @@ IsAccepted p = (read : Steps × At) × (judged p ≡ Ok read)
 -- WHAT IS KEPT
 
 -- the values of names, of which the first that is listed counts; a name that is not listed has 0
-abbrev pub named_values : List (Name × ℤ) → Values
+abbrev pub named_values : List (Name × ℤ) → Store
 named_values [] = λ n. pos 0
 named_values (e ∷ es) = at_name e.0 e.1 (named_values es)
 

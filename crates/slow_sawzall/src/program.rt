@@ -4,7 +4,7 @@ ghost use Rattle.kern_tables.specs.Tables.{tab, table_width};
 ghost use Rattle.kern_tables.specs.Kept.{kept_of, rows_of, width_of_table, kind_of_table as kind_kept};
 ghost use Rattle.saw_model.specs.Meaning.{table_kind_of, rows_for, program_tables};
 ghost use Rattle.saw_text.specs.Tree.{unit_form, unit_forms};
-ghost use Rattle.saw_build.specs.Valued.{AreValuedParts};
+ghost use Rattle.saw_build.specs.Valued.{AreValuedUnits};
 ghost use Rattle.slow_sawzall.specs.Sawzall.{IsAccepted, tables_for, AreAllWide, IsWideFor, AreWideFor};
 
 use crate::run::Run;
@@ -22,7 +22,7 @@ use std::alloc::Global;
 /// `NoMemory` where there is no memory.
 pub fn mean_sawzall(alloc: Global, program: &SawProgram, rows: &Rows) -> Result<Outcome, NoMemory>
     requires accepted { IsAccepted (unit_forms program.now.units.items) }
-    requires valued { AreValuedParts (unit_forms program.now.units.items) }
+    requires valued { AreValuedUnits (unit_forms program.now.units.items) }
     ensures outs { IfOk result (λ outcome. outcome.outs ≡ []) }
     ensures tables { IfOk result (λ outcome. map rows_of outcome.tables ≡ program_tables (unit_forms program.now.units.items) rows.now) }
     ensures counts { IfOk result (λ outcome. outcome.counts ≡ []) }
@@ -38,7 +38,7 @@ pub fn mean_sawzall(alloc: Global, program: &SawProgram, rows: &Rows) -> Result<
 // The tables, each of what all records emit to it.
 fn meant_tables(alloc: Global, units: &[Unit], rows: &Rows) -> Result<Tables, NoMemory>
     requires accepted { IsAccepted (unit_forms units.now) }
-    requires valued { AreValuedParts (unit_forms units.now) }
+    requires valued { AreValuedUnits (unit_forms units.now) }
     ensures { IfOk result (λ tables. map rows_of tables ≡ program_tables (unit_forms units.now) rows.now) }
 {
     let mut run = Run::new(alloc);

@@ -6,16 +6,16 @@ use Rattle.river_base.proofs.Tests.{le_true, le_false, one_less}
 use Rattle.river_base.proofs.Lists.{drop_next}
 use Rattle.river_plan.specs.Forms.{Name}
 use Rattle.brooklet_model.specs.Machine.{at_name}
-use Rattle.streamit_model.specs.Meaning.{Values, pop_of, peek_of, with_fields, runs_in, start_at, waits_for, looked_at, fires, fires_from}
+use Rattle.streamit_model.specs.Meaning.{Store, pop_of, peek_of, with_fields, runs_in, start_at, waits_for, looked_at, fires, fires_from}
 use Rattle.streamit_text.specs.Program.{FilterTree}
 
 -- FIELDS
 
 -- setting the fields that are left sets all
-abbrev pub FieldsSoFar : List Name → List ℤ → ℕ → Values → Values → Type 0
+abbrev pub FieldsSoFar : List Name → List ℤ → ℕ → Store → Store → Type 0
 FieldsSoFar fs zs i first now = with_fields (drop i fs) (drop i zs) now ≡ with_fields fs zs first
 
-pub fields_next : (fs : List Name) (zs : List ℤ) (i : ℕ) (f : Name) (z : ℤ) (first now next : Values) → i < length fs → i < length zs → f ≡ get_or fs i f
+pub fields_next : (fs : List Name) (zs : List ℤ) (i : ℕ) (f : Name) (z : ℤ) (first now next : Store) → i < length fs → i < length zs → f ≡ get_or fs i f
     → z ≡ get_or zs i z → next ≡ at_name f z now → FieldsSoFar fs zs i first now → FieldsSoFar fs zs (i + 1) first next
 fields_next fs zs i f z first now next lf lz ef ez e s =
     ap (with_fields (drop (i + 1) fs) (drop (i + 1) zs)) e
@@ -23,7 +23,7 @@ fields_next fs zs i f z first now next lf lz ef ez e s =
     ∙ ap (λ l. with_fields (drop i fs) l now) (sym (drop_next zs i z lz ez))
     ∙ s
 
-pub fields_end : (fs : List Name) (zs : List ℤ) (i : ℕ) (first now : Values) → length fs ≤ i → FieldsSoFar fs zs i first now → now ≡ with_fields fs zs first
+pub fields_end : (fs : List Name) (zs : List ℤ) (i : ℕ) (first now : Store) → length fs ≤ i → FieldsSoFar fs zs i first now → now ≡ with_fields fs zs first
 fields_end fs zs i first now le s = ap (λ l. with_fields l (drop i zs) now) (sym (drop_all i fs le)) ∙ s
 
 -- FIRINGS

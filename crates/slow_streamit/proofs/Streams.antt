@@ -7,8 +7,8 @@ use Rattle.river_base.proofs.Lists.{drop_next}
 use Rattle.river_base.specs.Name.{name_eq}
 use Rattle.river_plan.specs.Forms.{Name}
 use Rattle.streamit_model.specs.Meaning.{Works, look, or_same, known_works, piped, branched, body_works, all_work, last_of, program_outputs}
-use Rattle.streamit_text.specs.Program.{Program, Declared, body_of, declared_of, program_of}
-use Rattle.streamit_text.specs.declared.program.Declaration.{Declaration}
+use Rattle.streamit_text.specs.Program.{Program, UnitForm, body_of, unit_form, unit_forms}
+use Rattle.streamit_text.specs.declared.program.Unit as code_unit
 use Rattle.streamit_build.specs.Readable.{IsReadableBody, AreReadable}
 use Rattle.slow_streamit.specs.Works.{works_of}
 
@@ -17,35 +17,35 @@ Env = List (Name × Works)
 
 -- ONE STREAM MORE
 
-all_work-last : (env : Env) (us : Program) (u : Declared) → all_work env (us ++ u ∷ []) ≡ (u.name, body_works (all_work env us) u.body) ∷ all_work env us
+all_work-last : (env : Env) (us : Program) (u : UnitForm) → all_work env (us ++ u ∷ []) ≡ (u.name, body_works (all_work env us) u.body) ∷ all_work env us
 all_work-last env [] u = refl
 all_work-last env (v ∷ us) u = all_work-last ((v.name, body_works env v.body) ∷ env) us u
 
-pub works-last : (us : List Declaration) (i : ℕ) (d : Declaration) → i < length us → d ≡ get_or us i d
+pub works-last : (us : List code_unit.Unit) (i : ℕ) (d : code_unit.Unit) → i < length us → d ≡ get_or us i d
     → works_of (take (i + 1) us) ≡ (d.name, body_works (works_of (take i us)) (body_of d.body)) ∷ works_of (take i us)
 works-last us i d lt e =
     ap works_of (take_more us i d lt ∙ ap (λ x. take i us ++ x ∷ []) (sym e))
-    ∙ ap (all_work []) (map-append declared_of (take i us) (d ∷ []))
-    ∙ all_work-last [] (program_of (take i us)) (declared_of d)
+    ∙ ap (all_work []) (map-append unit_form (take i us) (d ∷ []))
+    ∙ all_work-last [] (unit_forms (take i us)) (unit_form d)
 
 -- LOOKING UP
 
 -- the name is among the first ones, if it is there
-pub record PlaceSoFar (us : List Declaration) (n : Name) (i : ℕ) : Type 0 where
+pub record PlaceSoFar (us : List code_unit.Unit) (n : Name) (i : ℕ) : Type 0 where
   pub within : i ≤ length us
   pub same : look (works_of (take i us)) n ≡ look (works_of us) n
 
-pub place_start : (us : List Declaration) (n : Name) → PlaceSoFar us n (length us)
+pub place_start : (us : List code_unit.Unit) (n : Name) → PlaceSoFar us n (length us)
 place_start us n = record { within = omega arith; same = ap (λ l. look (works_of l) n) (take_all (length us) us (omega arith)) }
 
-look-at : (us : List Declaration) (n : Name) (i : ℕ) (d : Declaration) (b : Bool) → i < length us → d ≡ get_or us i d → name_eq d.name n ≡ b
+look-at : (us : List code_unit.Unit) (n : Name) (i : ℕ) (d : code_unit.Unit) (b : Bool) → i < length us → d ≡ get_or us i d → name_eq d.name n ≡ b
     → look (works_of (take (i + 1) us)) n ≡ (if b then Some (body_works (works_of (take i us)) (body_of d.body)) else look (works_of (take i us)) n)
 look-at us n i d b lt e t =
     ap (λ env. look env n) (works-last us i d lt e)
     ∙ ap (λ c. if c then Some (body_works (works_of (take i us)) (body_of d.body)) else look (works_of (take i us)) n) t
 
 -- the name is not at this place
-pub place_next : (us : List Declaration) (n : Name) (k i : ℕ) (d : Declaration) → k ≡ i + 1 → d ≡ get_or us i d → name_eq d.name n ≡ false
+pub place_next : (us : List code_unit.Unit) (n : Name) (k i : ℕ) (d : code_unit.Unit) → k ≡ i + 1 → d ≡ get_or us i d → name_eq d.name n ≡ false
     → PlaceSoFar us n k → PlaceSoFar us n i
 place_next us n k i d ek e t f = record {
   within = let w = f.within in omega (arith, w, ek);
@@ -53,37 +53,37 @@ place_next us n k i d ek e t f = record {
 }
 
 -- it is at this place
-pub place_here : (us : List Declaration) (n : Name) (k i : ℕ) (d : Declaration) → k ≡ i + 1 → d ≡ get_or us i d → name_eq d.name n ≡ true
+pub place_here : (us : List code_unit.Unit) (n : Name) (k i : ℕ) (d : code_unit.Unit) → k ≡ i + 1 → d ≡ get_or us i d → name_eq d.name n ≡ true
     → PlaceSoFar us n k → look (works_of us) n ≡ Some (body_works (works_of (take i us)) (body_of d.body))
 place_here us n k i d ek e t f = let w = f.within in sym f.same ∙ ap (λ j. look (works_of (take j us)) n) ek ∙ look-at us n i d true (omega (arith, w, ek)) e t
 
-pub place_none : (us : List Declaration) (n : Name) (i : ℕ) → i ≡ 0 → PlaceSoFar us n i → look (works_of us) n ≡ None
+pub place_none : (us : List code_unit.Unit) (n : Name) (i : ℕ) → i ≡ 0 → PlaceSoFar us n i → look (works_of us) n ≡ None
 place_none us n i z f = sym f.same ∙ ap (λ j. look (works_of (take j us)) n) z
 
 -- the program's stream is the last
-pub outputs-last : (us : List Declaration) (i : ℕ) (d : Declaration) (xs : List ℤ) → i + 1 ≡ length us → d ≡ get_or us i d
-    → program_outputs (program_of us) xs ≡ body_works (works_of (take i us)) (body_of d.body) xs
+pub outputs-last : (us : List code_unit.Unit) (i : ℕ) (d : code_unit.Unit) (xs : List ℤ) → i + 1 ≡ length us → d ≡ get_or us i d
+    → program_outputs (unit_forms us) xs ≡ body_works (works_of (take i us)) (body_of d.body) xs
 outputs-last us i d xs el e =
-    ap (λ l. program_outputs (program_of l) xs) (sym (take_all (i + 1) us (omega (arith, el))))
+    ap (λ l. program_outputs (unit_forms l) xs) (sym (take_all (i + 1) us (omega (arith, el))))
     ∙ ap (λ env. or_same (last_of env) xs) (works-last us i d (omega (arith, el)) e)
 
-pub outputs-none : (us : List Declaration) (xs : List ℤ) → length us ≡ 0 → program_outputs (program_of us) xs ≡ xs
+pub outputs-none : (us : List code_unit.Unit) (xs : List ℤ) → length us ≡ 0 → program_outputs (unit_forms us) xs ≡ xs
 outputs-none [] xs e = refl
 outputs-none (u ∷ us) xs e = absurd (omega (arith, e))
 
 -- WHAT THE GRAMMAR SEES TO
 
 -- what the grammar sees to, of the first units
-pub readable-front : (us : List Declaration) (i : ℕ) → AreReadable (program_of us) → AreReadable (program_of (take i us))
+pub readable-front : (us : List code_unit.Unit) (i : ℕ) → AreReadable (unit_forms us) → AreReadable (unit_forms (take i us))
 readable-front us zero h = tt
 readable-front [] (suc i) h = tt
 readable-front (u ∷ us) (suc i) h = (h.0, readable-front us i h.1)
 
 -- and of one unit
-pub readable-at : (us : List Declaration) (i : ℕ) (d : Declaration) → i < length us → d ≡ get_or us i d → AreReadable (program_of us)
+pub readable-at : (us : List code_unit.Unit) (i : ℕ) (d : code_unit.Unit) → i < length us → d ≡ get_or us i d → AreReadable (unit_forms us)
     → IsReadableBody (body_of d.body)
 readable-at [] i d lt e h = absurd (omega (arith, lt))
-readable-at (u ∷ us) zero d lt e h = subst (λ (x : Declaration). IsReadableBody (body_of x.body)) (sym e) h.0
+readable-at (u ∷ us) zero d lt e h = subst (λ (x : code_unit.Unit). IsReadableBody (body_of x.body)) (sym e) h.0
 readable-at (u ∷ us) (suc i) d lt e h = readable-at us i d (omega (arith, lt)) e h.1
 
 -- PIPELINES

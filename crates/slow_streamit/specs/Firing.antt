@@ -4,7 +4,7 @@ use Rattle.indexmap.specs.IndexMap.{get}
 use Rattle.river_base.specs.Name.{name_eq}
 use Rattle.streamit_model.specs.Meaning as meaning
 use Rattle.streamit_model.specs.Meaning.{State}
-use Rattle.slow_streamit.specs.declared.firing.Values.{Values}
+use Rattle.slow_streamit.specs.declared.firing.Store.{Store}
 use Rattle.slow_streamit.specs.declared.firing.Firing.{Firing}
 
 -- a name that has no value stands for 0
@@ -12,9 +12,9 @@ abbrev pub or_nought : Option ℤ → ℤ
 or_nought None = pos 0
 or_nought (Some z) = z
 
-abbrev pub named_values : Values → meaning.Values
+abbrev pub named_values : Store → meaning.Store
 named_values v n = or_nought (get name_eq v.known n)
 
 -- where the firing stands
-abbrev pub state_of : Firing → State
-state_of f = record { values = named_values f.values; popped = f.popped; pushed = f.pushed }
+abbrev pub firing_state : Firing → State
+firing_state f = record { values = named_values f.values; popped = f.popped; pushed = f.pushed }

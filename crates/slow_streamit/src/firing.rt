@@ -8,7 +8,7 @@ ghost use Rattle.streamit_model.specs.Meaning.{eval, pops, numbers_from, first_v
 ghost use Rattle.streamit_model.specs.Meaning.{at_start};
 ghost use Rattle.streamit_unroll.specs.Numbers.{AreValues};
 ghost use Rattle.streamit_unroll.specs.Unrolling.{AreOptional, AreWritten, AreWrittenOptional, IsWritten};
-ghost use Rattle.slow_streamit.specs.Firing.{named_values, state_of};
+ghost use Rattle.slow_streamit.specs.Firing.{named_values, firing_state};
 
 use indexmap::IndexMap;
 use river_base::{Name, NoMemory, Numbers};
@@ -18,16 +18,16 @@ use work_code::{BinOp, apply, negate, truth_of};
 
 /// The values of names. A name that has none stands for 0.
 #[derive(Drop)]
-pub struct Values {
+pub struct Store {
     known: IndexMap<Name, i64>,
 }
 
-impl Values {
+impl Store {
     /// No name has a value.
-    pub fn new(alloc: Global) -> Values
+    pub fn new(alloc: Global) -> Store
         ensures { named_values result ≡ nought }
     {
-        Values {
+        Store {
             known: IndexMap::new(alloc),
         }
     }
@@ -54,14 +54,14 @@ impl Values {
 /// Where a firing stands: the values of names, how many items it popped, and the values that it pushed.
 #[derive(Drop)]
 pub struct Firing {
-    pub values: Values,
+    pub values: Store,
     pub popped: usize,
     pub pushed: Numbers,
 }
 
 // The value of an expression, from left to right; its pops are counted.
 #[cycle(eval)]
-fn eval(e: &Expr, items: &[i64], values: &Values, popped: &mut usize) -> Result<i64, NoMemory>
+fn eval(e: &Expr, items: &[i64], values: &Store, popped: &mut usize) -> Result<i64, NoMemory>
     requires { AreValues (expression e.now) }
     ensures value { IfOk result (λ value. value ≡ eval (expression e.now) items.now (named_values values.now) popped.old) }
     ensures popped { OnOk result (popped.new ≡ popped.old + pops (expression e.now)) }
@@ -98,7 +98,7 @@ fn both(
     left: &Expr,
     right: &Expr,
     items: &[i64],
-    values: &Values,
+    values: &Store,
     popped: &mut usize,
 ) -> Result<i64, NoMemory>
     requires left { AreValues (expression left.now) }
@@ -167,7 +167,7 @@ impl Firing {
         ensures pushed { result.pushed ≡ [] }
     {
         Firing {
-            values: Values::new(alloc),
+            values: Store::new(alloc),
             popped: 0,
             pushed: Numbers::new(alloc),
         }
@@ -179,14 +179,14 @@ impl Firing {
         requires popped { self.old.popped ≡ 0 }
         requires pushed { self.old.pushed ≡ [] }
         requires kept { length kept.now ≡ length fields.now }
-        ensures { OnOk result (state_of self.new ≡ at_start fields.now kept.now) }
+        ensures { OnOk result (firing_state self.new ≡ at_start fields.now kept.now) }
     {
         set_all(&mut self.values, fields, kept)
     }
 
     /// The values of the fields.
     pub fn fields(&self, alloc: Global, fields: &[Name]) -> Result<Numbers, NoMemory>
-        ensures { IfOk result (λ kept. kept ≡ map (state_of self.now).values fields.now) }
+        ensures { IfOk result (λ kept. kept ≡ map (firing_state self.now).values fields.now) }
     {
         let mut kept = Numbers::new(alloc);
         for name in fields {
@@ -199,7 +199,7 @@ impl Firing {
     #[cycle(exec)]
     pub fn block(&mut self, b: &Block, items: &[i64]) -> Result<(), NoMemory>
         requires { AreWritten (block b.now) }
-        ensures { OnOk result (state_of self.new ≡ exec_all (block b.now) items.now (state_of self.old)) }
+        ensures { OnOk result (firing_state self.new ≡ exec_all (block b.now) items.now (firing_state self.old)) }
     {
         for s in b.items.as_slice() {
             self.statement(s, items)?;
@@ -211,7 +211,7 @@ impl Firing {
     #[cycle(exec)]
     pub fn optional(&mut self, b: &Option<Block>, items: &[i64]) -> Result<(), NoMemory>
         requires { AreWrittenOptional (optional_block b.now) }
-        ensures { OnOk result (state_of self.new ≡ exec_optional (optional_block b.now) items.now (state_of self.old)) }
+        ensures { OnOk result (firing_state self.new ≡ exec_optional (optional_block b.now) items.now (firing_state self.old)) }
     {
         match b {
             None => Ok(()),
@@ -223,7 +223,7 @@ impl Firing {
     #[cycle(exec)]
     fn statement(&mut self, s: &Statement, items: &[i64]) -> Result<(), NoMemory>
         requires { IsWritten (statement s.now) }
-        ensures { OnOk result (state_of self.new ≡ exec (statement s.now) items.now (state_of self.old)) }
+        ensures { OnOk result (firing_state self.new ≡ exec (statement s.now) items.now (firing_state self.old)) }
     {
         match s {
             Statement::Declare { name, value } => self.declare(*name, value, items),
@@ -253,7 +253,7 @@ impl Firing {
         requires cond { AreValues (expression cond.now) }
         requires yes { AreWritten (block yes.now) }
         requires no { AreWrittenOptional (optional_block no.now) }
-        ensures { OnOk result (state_of self.new ≡ exec (If (expression cond.now) (block yes.now) (optional_block no.now)) items.now (state_of self.old)) }
+        ensures { OnOk result (firing_state self.new ≡ exec (If (expression cond.now) (block yes.now) (optional_block no.now)) items.now (firing_state self.old)) }
     {
         let cond = self.value(cond, items)?;
         if cond != 0 {
@@ -277,8 +277,8 @@ impl Firing {
         requires low { AreValues (expression low.now) }
         requires high { AreValues (expression high.now) }
         requires body { AreWritten (block body.now) }
-        ensures { OnOk result (state_of self.new
-            ≡ exec (For name (expression low.now) (is_turn until) (expression high.now) (block body.now)) items.now (state_of self.old)) }
+        ensures { OnOk result (firing_state self.new
+            ≡ exec (For name (expression low.now) (is_turn until) (expression high.now) (block body.now)) items.now (firing_state self.old)) }
     {
         let low = self.bound(low, items)?;
         let high = self.bound(high, items)?;
@@ -297,7 +297,7 @@ impl Firing {
     ) -> Result<(), NoMemory>
         requires end { end ≤ 2 ^ 63 }
         requires body { AreWritten (block body.now) }
-        ensures { OnOk result (state_of self.new ≡ each_turn (exec_all (block body.now) items.now) name (numbers_from low (end - low)) (state_of self.old)) }
+        ensures { OnOk result (firing_state self.new ≡ each_turn (exec_all (block body.now) items.now) name (numbers_from low (end - low)) (firing_state self.old)) }
     {
         for v in low..end {
             self.values.set(name, v as i64)?;
@@ -309,7 +309,7 @@ impl Firing {
     // `int NAME = e;`
     fn declare(&mut self, name: Name, value: &Option<Expr>, items: &[i64]) -> Result<(), NoMemory>
         requires { AreOptional (option_expression value.now) }
-        ensures { OnOk result (state_of self.new ≡ exec (Declare name (option_expression value.now)) items.now (state_of self.old)) }
+        ensures { OnOk result (firing_state self.new ≡ exec (Declare name (option_expression value.now)) items.now (firing_state self.old)) }
     {
         let value = self.first_value(value, items)?;
         self.values.set(name, value)
@@ -318,7 +318,7 @@ impl Firing {
     // The first value of a local.
     fn first_value(&mut self, value: &Option<Expr>, items: &[i64]) -> Result<i64, NoMemory>
         requires { AreOptional (option_expression value.now) }
-        ensures value { IfOk result (λ z. z ≡ first_value (option_expression value.now) items.now (state_of self.old)) }
+        ensures value { IfOk result (λ z. z ≡ first_value (option_expression value.now) items.now (firing_state self.old)) }
         ensures popped { OnOk result (self.new.popped ≡ self.old.popped + first_pops (option_expression value.now)) }
         ensures values { self.new.values ≡ self.old.values }
         ensures pushed { self.new.pushed ≡ self.old.pushed }
@@ -332,7 +332,7 @@ impl Firing {
     // `NAME = e;`
     fn assign(&mut self, name: Name, value: &Expr, items: &[i64]) -> Result<(), NoMemory>
         requires { AreValues (expression value.now) }
-        ensures { OnOk result (state_of self.new ≡ exec (Assign name (expression value.now)) items.now (state_of self.old)) }
+        ensures { OnOk result (firing_state self.new ≡ exec (Assign name (expression value.now)) items.now (firing_state self.old)) }
     {
         let value = self.value(value, items)?;
         self.values.set(name, value)
@@ -341,7 +341,7 @@ impl Firing {
     // `push(e);`
     fn push(&mut self, value: &Expr, items: &[i64]) -> Result<(), NoMemory>
         requires { AreValues (expression value.now) }
-        ensures { OnOk result (state_of self.new ≡ exec (Push (expression value.now)) items.now (state_of self.old)) }
+        ensures { OnOk result (firing_state self.new ≡ exec (Push (expression value.now)) items.now (firing_state self.old)) }
     {
         let value = self.value(value, items)?;
         self.pushed.push(value)
@@ -349,7 +349,7 @@ impl Firing {
 
     // `pop();`
     fn pop(&mut self, items: &[i64]) -> Result<(), NoMemory>
-        ensures { OnOk result (state_of self.new ≡ exec Discard items.now (state_of self.old)) }
+        ensures { OnOk result (firing_state self.new ≡ exec Discard items.now (firing_state self.old)) }
     {
         self.popped = next(self.popped)?;
         Ok(())
@@ -377,7 +377,7 @@ impl Firing {
 }
 
 // The fields have these values from here on.
-fn set_all(values: &mut Values, fields: &[Name], kept: &[i64]) -> Result<(), NoMemory>
+fn set_all(values: &mut Store, fields: &[Name], kept: &[i64]) -> Result<(), NoMemory>
     requires { length kept.now ≡ length fields.now }
     ensures { OnOk result (named_values values.new ≡ with_fields fields.now kept.now (named_values values.old)) }
 {

@@ -3,18 +3,18 @@ ghost use Rattle.std.specs.Prelude.{◌≡◌, ◌≤◌, ◌+◌, suc, length, 
 ghost use Rattle.streamit_model.specs.Laws.{as_items};
 ghost use Rattle.brooklet_model.specs.ByIndex.{collected};
 ghost use Rattle.streamit_model.specs.Meaning.{known_works, body_works, piped, share_of, weights_for, program_outputs};
-ghost use Rattle.streamit_text.specs.Program.{program_of, body_of, adds_of, dealing_of, weights_of};
+ghost use Rattle.streamit_text.specs.Program.{unit_forms, body_of, adds_of, dealing_of, weights_of};
 ghost use Rattle.streamit_build.specs.Readable.{IsReadableBody, AreReadable};
 ghost use Rattle.slow_streamit.specs.Works.{works_of, branch_works, IsNewestPlace};
 
 use crate::filter::{add_values, pushed_by};
 use crate::round::{collected, dealt, weights_for};
 use brooklet_step::{Lines, Outcome, Tables};
-use kern_rows::Line;
+use kern_rows::ItemLine;
 use river_base::{Flat, Item, Items, Listed, Name, NoMemory, Numbers, Row};
 use std::alloc::Global;
 use streamit_front::StreamitProgram;
-use streamit_text::{Adds, Body, Declaration, RoundRobin, Split, SplitJoin};
+use streamit_text::{Adds, Body, Unit, RoundRobin, Split, SplitJoin};
 
 /// What a program means by the definition of StreamIt for these values of its input: the items of its output. There are no
 /// tables, and no firings are counted.
@@ -23,18 +23,18 @@ pub fn mean_streamit(
     program: &StreamitProgram,
     values: &Numbers,
 ) -> Result<Outcome, NoMemory>
-    requires { AreReadable (program_of program.now.units.items) }
-    ensures outs { IfOk result (λ o. o.outs ≡ as_items (program_outputs (program_of program.now.units.items) values.now) ∷ []) }
+    requires { AreReadable (unit_forms program.now.units.items) }
+    ensures outs { IfOk result (λ o. o.outs ≡ as_items (program_outputs (unit_forms program.now.units.items) values.now) ∷ []) }
     ensures tables { IfOk result (λ o. o.tables ≡ []) }
     ensures counts { IfOk result (λ o. o.counts ≡ []) }
 {
     let out = outputs(alloc, program.units.as_slice(), values.as_slice())?;
     let items = items(alloc, out.as_slice())?;
-    outcome(alloc, Line::from_items(alloc, items))
+    outcome(alloc, ItemLine::from_items(alloc, items))
 }
 
 // The one output, and nothing else.
-fn outcome(alloc: Global, line: Line) -> Result<Outcome, NoMemory>
+fn outcome(alloc: Global, line: ItemLine) -> Result<Outcome, NoMemory>
     ensures outs { IfOk result (λ o. o.outs ≡ line ∷ []) }
     ensures tables { IfOk result (λ o. o.tables ≡ []) }
     ensures counts { IfOk result (λ o. o.counts ≡ []) }
@@ -69,9 +69,9 @@ fn add_items(values: &[i64], items: &mut Items) -> Result<(), NoMemory>
 }
 
 // What the last of these streams gives, which is the program's. No streams give back what they are given.
-fn outputs(alloc: Global, units: &[Declaration], items: &[i64]) -> Result<Numbers, NoMemory>
-    requires { AreReadable (program_of units.now) }
-    ensures { IfOk result (λ out. out ≡ program_outputs (program_of units.now) items.now) }
+fn outputs(alloc: Global, units: &[Unit], items: &[i64]) -> Result<Numbers, NoMemory>
+    requires { AreReadable (unit_forms units.now) }
+    ensures { IfOk result (λ out. out ≡ program_outputs (unit_forms units.now) items.now) }
 {
     match units.len().checked_sub(1) {
         Some(last) => works(alloc, &units[..last], &units[last].body, items),
@@ -93,11 +93,11 @@ fn copied(alloc: Global, items: &[i64]) -> Result<Numbers, NoMemory>
 #[cycle(works)]
 fn named(
     alloc: Global,
-    above: &[Declaration],
+    above: &[Unit],
     name: Name,
     items: &[i64],
 ) -> Result<Numbers, NoMemory>
-    requires { AreReadable (program_of above.now) }
+    requires { AreReadable (unit_forms above.now) }
     ensures { IfOk result (λ out. out ≡ known_works (works_of above.now) name items.now) }
 {
     match place(above, name) {
@@ -107,7 +107,7 @@ fn named(
 }
 
 // Where the newest stream of a name stands.
-fn place(above: &[Declaration], name: Name) -> Option<usize>
+fn place(above: &[Unit], name: Name) -> Option<usize>
     ensures { IsNewestPlace above.now name result }
 {
     let mut i = above.len();
@@ -124,11 +124,11 @@ fn place(above: &[Declaration], name: Name) -> Option<usize>
 #[cycle(works)]
 fn works(
     alloc: Global,
-    above: &[Declaration],
+    above: &[Unit],
     body: &Body,
     items: &[i64],
 ) -> Result<Numbers, NoMemory>
-    requires above { AreReadable (program_of above.now) }
+    requires above { AreReadable (unit_forms above.now) }
     requires body { IsReadableBody (body_of body.now) }
     ensures { IfOk result (λ out. out ≡ body_works (works_of above.now) (body_of body.now) items.now) }
 {
@@ -143,11 +143,11 @@ fn works(
 #[cycle(works)]
 fn piped(
     alloc: Global,
-    above: &[Declaration],
+    above: &[Unit],
     adds: &Adds,
     items: &[i64],
 ) -> Result<Numbers, NoMemory>
-    requires { AreReadable (program_of above.now) }
+    requires { AreReadable (unit_forms above.now) }
     ensures { IfOk result (λ out. out ≡ piped (works_of above.now) adds.now.first adds.now.others.items items.now) }
 {
     let mut out = named(alloc, above, adds.first, items)?;
@@ -161,11 +161,11 @@ fn piped(
 #[cycle(works)]
 fn joined(
     alloc: Global,
-    above: &[Declaration],
+    above: &[Unit],
     parts: &SplitJoin,
     items: &[i64],
 ) -> Result<Numbers, NoMemory>
-    requires { AreReadable (program_of above.now) }
+    requires { AreReadable (unit_forms above.now) }
     ensures { IfOk result (λ out. out ≡ body_works (works_of above.now) (body_of (Body.SplitJoin parts.now)) items.now) }
 {
     let mut lists = Listed::new(alloc);
@@ -185,12 +185,12 @@ fn joined_by(alloc: Global, written: &RoundRobin, lists: &[Numbers]) -> Result<N
 #[cycle(works)]
 fn branches(
     alloc: Global,
-    above: &[Declaration],
+    above: &[Unit],
     parts: &SplitJoin,
     items: &[i64],
     lists: &mut Listed<Numbers>,
 ) -> Result<(), NoMemory>
-    requires { AreReadable (program_of above.now) }
+    requires { AreReadable (unit_forms above.now) }
     ensures { OnOk result (lists.new ≡ lists.old ++ branch_works above.now (dealing_of parts.now.split) (adds_of parts.now.adds) items.now) }
 {
     let others = parts.adds.others.as_slice();

@@ -57,22 +57,22 @@ fn cycle(weights: &[u64]) -> Result<u64, NoMemory>
 
 // Where an item stands: in which cycle, and at which place of it. A cycle of no items has all places.
 #[derive(Clone, Copy)]
-struct Turn {
+struct CyclePlace {
     cycle: u64,
     place: u64,
 }
 
-impl Turn {
+impl CyclePlace {
     // Of item x, for the size of a cycle.
-    fn of(x: usize, cycle: u64) -> Turn
+    fn of(x: usize, cycle: u64) -> CyclePlace
         ensures cycle { result.cycle ≡ x / cycle }
         ensures place { result.place ≡ x % cycle }
     {
         let x = x as u64;
         if cycle == 0 {
-            Turn { cycle: 0, place: x }
+            CyclePlace { cycle: 0, place: x }
         } else {
-            Turn {
+            CyclePlace {
                 cycle: x / cycle,
                 place: x % cycle,
             }
@@ -133,7 +133,7 @@ fn is_dealt(weights: &[u64], size: u64, x: usize, p: usize) -> bool
     requires { size ≡ cycle weights.now }
     ensures { result ≡ nat_eq (branch weights.now x) p }
 {
-    let place = Turn::of(x, size).place;
+    let place = CyclePlace::of(x, size).place;
     Spot::of(weights, place).branch == p
 }
 
@@ -163,7 +163,7 @@ fn item_at(
     requires { size ≡ cycle weights.now }
     ensures { IfOk result (λ item. item ≡ collected_at weights.now branches.now x) }
 {
-    let turn = Turn::of(x, size);
+    let turn = CyclePlace::of(x, size);
     let spot = Spot::of(weights, turn.place);
     let weight = weight_at(weights, spot.branch);
     let number = number(turn.cycle, weight, spot.within)?;

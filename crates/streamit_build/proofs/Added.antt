@@ -5,7 +5,7 @@ use Rattle.std.specs.Prelude.{min, max}
 use Rattle.std.specs.List.{AllByRecursion}
 use Rattle.river_plan.specs.Forms.{Name}
 use Rattle.streamit_model.specs.Unrolled.{Stream, Streams, Last, Then, nesting, deepest}
-use Rattle.streamit_model.specs.Build.{ops_in, ops_of}
+use Rattle.streamit_model.specs.Plan.{ops_in, ops_of}
 use Rattle.streamit_model.specs.Elaborate.{Fault, on_ok}
 use Rattle.streamit_model.specs.Judged.{Streamed, stream_added, streams_added}
 use Rattle.streamit_unroll.specs.declared.fault.Fault as fault
@@ -13,7 +13,7 @@ use Rattle.streamit_unroll.specs.View.{Tells}
 use Rattle.streamit_unroll.proofs.SoFar.{tells_more}
 use Rattle.streamit_build.specs.declared.streams.Entry.{Entry}
 use Rattle.streamit_build.specs.declared.streams.Children.{Children}
-use Rattle.streamit_build.specs.Units.{UnitForm, IsTree, AreTrees}
+use Rattle.streamit_build.specs.Units.{DeclaredForm, IsTree, AreTrees}
 use Rattle.streamit_build.specs.Knowing.{AddsOne, AreChildren, AddsAll}
 
 -- a result without a fault
@@ -57,7 +57,7 @@ onto_err : (ss : List Stream) (g : Fault) → onto ss (Err g) ≡ Err g
 onto_err [] g = refl
 onto_err (s ∷ ss) g = ap (λ q. on_ok q (λ x. fine (Then s x))) (onto_err ss g)
 
-trees_more : (us : List UnitForm) (front : List ℕ) (last next : ℕ) (ss : List Stream) (l s : Stream) → AreTrees us front last (chain ss l) → IsTree us next s
+trees_more : (us : List DeclaredForm) (front : List ℕ) (last next : ℕ) (ss : List Stream) (l s : Stream) → AreTrees us front last (chain ss l) → IsTree us next s
     → AreTrees us (front ++ last ∷ []) next (chain (ss ++ l ∷ []) s)
 trees_more us [] last next [] l s h t = (h, t)
 trees_more us [] last next (x ∷ ss) l s h t = absurd h
@@ -80,7 +80,7 @@ lower_more n [] j h lt = (lt, tt)
 lower_more n (i ∷ js) j h lt = (h.0, lower_more n js j h.1 lt)
 
 -- so far: what was added, and that the whole is what is read from the last one on
-pub record SoFar (us : List UnitForm) (may : ℕ → Bool) (known : Streamed) (whole : Result Streams Fault) (i : ℕ) (rest : List Name)
+pub record SoFar (us : List DeclaredForm) (may : ℕ → Bool) (known : Streamed) (whole : Result Streams Fault) (i : ℕ) (rest : List Name)
     (c : Children) : Type 0 where
   pub prior : List Stream
   pub last : Stream
@@ -88,7 +88,7 @@ pub record SoFar (us : List UnitForm) (may : ℕ → Bool) (known : Streamed) (w
   pub whole_is : whole ≡ onto prior (going_on may known i last rest)
 
 -- the first stream was added
-pub adds_start : (us : List UnitForm) (may : ℕ → Bool) (known : Streamed) (n : Name) (ms : List Name) (k : Entry) (c : Children)
+pub adds_start : (us : List DeclaredForm) (may : ℕ → Bool) (known : Streamed) (n : Name) (ms : List Name) (k : Entry) (c : Children)
     → AddsOne us (Ok k) (stream_added may known 0 n)
     → c.front.items ≡ [] → c.last ≡ k.number → c.ops ≡ k.ops → c.deepest ≡ k.nesting → SoFar us may known (streams_added may known 0 n ms) 0 ms c
 adds_start us may known n ms k c (s, e, h) f l o d = record {
@@ -105,7 +105,7 @@ adds_start us may known n ms k c (s, e, h) f l o d = record {
 }
 
 -- one stream more
-pub adds_next : (us : List UnitForm) (may : ℕ → Bool) (known : Streamed) (whole : Result Streams Fault) (i : ℕ) (m : Name) (ms : List Name) (c c' : Children)
+pub adds_next : (us : List DeclaredForm) (may : ℕ → Bool) (known : Streamed) (whole : Result Streams Fault) (i : ℕ) (m : Name) (ms : List Name) (c c' : Children)
     (k : Entry)
     → SoFar us may known whole i (m ∷ ms) c → AddsOne us (Ok k) (stream_added may known (i + 1) m)
     → c'.front.items ≡ c.front.items ++ c.last ∷ [] → c'.last ≡ k.number → c'.ops ≡ min (c.ops + k.ops) 257 → c'.deepest ≡ max c.deepest k.nesting
@@ -134,7 +134,7 @@ adds_next us may known whole i m ms c c' k f (s, e, h) fr la op de =
     }
 
 -- a stream that is refused
-pub adds_fault : (us : List UnitForm) (may : ℕ → Bool) (known : Streamed) (whole : Result Streams Fault) (i : ℕ) (m : Name) (ms : List Name) (c : Children)
+pub adds_fault : (us : List DeclaredForm) (may : ℕ → Bool) (known : Streamed) (whole : Result Streams Fault) (i : ℕ) (m : Name) (ms : List Name) (c : Children)
     (f : fault.Fault)
     → SoFar us may known whole i (m ∷ ms) c → Tells f (stream_added may known (i + 1) m) → Tells f whole
 adds_fault us may known whole i m ms c f s h =
@@ -149,6 +149,6 @@ pub first_fault : (may : ℕ → Bool) (known : Streamed) (n : Name) (ms : List 
 first_fault may known n ms f h = tells_more f (stream_added may known 0 n) (streams_added may known 0 n ms) (λ g e. streams_err may known 0 n ms g e) h
 
 -- all streams
-pub adds_end : (us : List UnitForm) (may : ℕ → Bool) (known : Streamed) (whole : Result Streams Fault) (i : ℕ) (c : Children) → SoFar us may known whole i [] c
+pub adds_end : (us : List DeclaredForm) (may : ℕ → Bool) (known : Streamed) (whole : Result Streams Fault) (i : ℕ) (c : Children) → SoFar us may known whole i [] c
     → AddsAll us (Ok c) whole
 adds_end us may known whole i c f = (chain f.prior f.last, f.whole_is ∙ onto_last f.prior f.last, f.are)

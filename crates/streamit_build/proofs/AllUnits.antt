@@ -1,7 +1,7 @@
 -- Units that are judged one after another.
 use Rattle.std.proofs.Common.{◌≡◌, ℕ, suc, ◌+◌, [], ◌∷◌, Result, Ok, Err, refl, sym, ap, ◌∙◌, add-one}
 use Rattle.streamit_model.specs.Elaborate as spec
-use Rattle.streamit_text.specs.Program.{Declared, Program}
+use Rattle.streamit_text.specs.Program.{UnitForm, Program}
 use Rattle.streamit_model.specs.Judged.{Refusal, Streamed, in_unit, unit_of, all_streams}
 use Rattle.streamit_unroll.specs.declared.fault.Fault as fault
 use Rattle.streamit_unroll.specs.declared.fault.Fault.TheVariants as faults
@@ -37,7 +37,7 @@ pub judging_start : (start : Streamed) (p : Program) (now : Known) → Knows now
 judging_start start p now k = record { known = start; knows = k; whole_is = refl }
 
 -- one unit more
-pub judging_next : (whole : Result Streamed Refusal) (i : ℕ) (u : Declared) (us : Program) (now next : Known) (j : Judging whole (i + 1) (u ∷ us) now)
+pub judging_next : (whole : Result Streamed Refusal) (i : ℕ) (u : UnitForm) (us : Program) (now next : Known) (j : Judging whole (i + 1) (u ∷ us) now)
     → Declares (Ok tt) next j.known u.name (unit_of j.known u) → Judging whole (i + 1 + 1) us next
 judging_next whole i u us now next j (s, e, k) = record {
   known = (u.name, s) ∷ j.known;
@@ -48,7 +48,7 @@ judging_next whole i u us now next j (s, e, k) = record {
 }
 
 -- a unit that is refused
-pub judging_fault : (whole : Result Streamed Refusal) (i : ℕ) (u : Declared) (us : Program) (now next : Known) (f : fault.Fault)
+pub judging_fault : (whole : Result Streamed Refusal) (i : ℕ) (u : UnitForm) (us : Program) (now next : Known) (f : fault.Fault)
     (j : Judging whole (i + 1) (u ∷ us) now)
     → Tells f (unit_of j.known u) → Told (i + 1) f whole
 judging_fault whole i u us now next f j h =

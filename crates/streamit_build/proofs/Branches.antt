@@ -6,12 +6,12 @@ use Rattle.std.specs.List.{AllByRecursion}
 use Rattle.kern_rows.specs.Forms.{FilterForm}
 use Rattle.river_plan.specs.Forms.{Name, OpForm, op_forms}
 use Rattle.streamit_model.specs.Unrolled.{Splitter, Stream, Streams, Last, Then, Filter, Pipeline, SplitJoin, number_of}
-use Rattle.streamit_model.specs.Build.{numbered, queue, queues, splitter, joiner, build, build_branches, ops_in, ops_of, queues_in, queues_within}
+use Rattle.streamit_model.specs.Plan.{numbered, queue, queues, splitter, joiner, build, build_branches, ops_in, ops_of, queues_in, queues_within}
 use Rattle.streamit_build.specs.declared.builder.Made.{Made}
-use Rattle.streamit_build.specs.Units.{UnitForm, AFilter, APipe, ASplit, IsTree, AreTrees, Built}
+use Rattle.streamit_build.specs.Units.{DeclaredForm, AFilter, APipe, ASplit, IsTree, AreTrees, Built}
 
 -- the branches that are still to be built, from and to queues number a and b on
-pub record Rest (us : List UnitForm) (rest : List ℕ) (last : ℕ) (ss : Streams) (old now : Made) (a0 b0 a b : ℕ) : Type 0 where
+pub record Rest (us : List DeclaredForm) (rest : List ℕ) (last : ℕ) (ss : Streams) (old now : Made) (a0 b0 a b : ℕ) : Type 0 where
   pub left : Streams
   pub trees : AreTrees us rest last left
   pub added : List OpForm
@@ -20,19 +20,19 @@ pub record Rest (us : List UnitForm) (rest : List ℕ) (last : ℕ) (ss : Stream
   pub ops : now.next_op + ops_of left ≡ old.next_op + ops_of ss
   pub queues : now.next_queue + queues_within left ≡ old.next_queue + queues_within ss
 
-pub record RestSoFar (us : List UnitForm) (front rest : List ℕ) (last i : ℕ) (old now : Made) (a0 b0 a b : ℕ) : Type 0 where
+pub record RestSoFar (us : List DeclaredForm) (front rest : List ℕ) (last i : ℕ) (old now : Made) (a0 b0 a b : ℕ) : Type 0 where
   pub lower : AllByRecursion (λ j. j < i) rest
   pub branches : (ss : Streams) → AreTrees us front last ss → Rest us rest last ss old now a0 b0 a b
 
 -- no branch was built
-pub rest_start : (us : List UnitForm) (front : List ℕ) (last i : ℕ) (old : Made) (a b : ℕ) → AllByRecursion (λ j. j < i) front
+pub rest_start : (us : List DeclaredForm) (front : List ℕ) (last i : ℕ) (old : Made) (a b : ℕ) → AllByRecursion (λ j. j < i) front
     → RestSoFar us front front last i old old a b a b
 rest_start us front last i old a b low = record {
   lower = low;
   branches = λ ss t. record { left = ss; trees = t; added = []; grew = sym (append-nil (op_forms old.ops)); all = refl; ops = refl; queues = refl };
 }
 
-go_on : (us : List UnitForm) (j : ℕ) (js : List ℕ) (last : ℕ) (ss : Streams) (old now next : Made) (a0 b0 a b a' b' : ℕ) (start end : Name) (left : Streams)
+go_on : (us : List DeclaredForm) (j : ℕ) (js : List ℕ) (last : ℕ) (ss : Streams) (old now next : Made) (a0 b0 a b a' b' : ℕ) (start end : Name) (left : Streams)
     (added : List OpForm)
     → AreTrees us (j ∷ js) last left → op_forms now.ops ≡ op_forms old.ops ++ added
     → build_branches ss old.next_op old.next_queue a0 b0 ≡ added ++ build_branches left now.next_op now.next_queue a b
@@ -67,7 +67,7 @@ go_on us j js last ss old now next a0 b0 a b a' b' start end (Then s left) added
     }
 
 -- one branch more
-pub rest_next : (us : List UnitForm) (front : List ℕ) (j : ℕ) (js : List ℕ) (last i : ℕ) (old now next : Made) (a0 b0 a b a' b' : ℕ) (start end : Name)
+pub rest_next : (us : List DeclaredForm) (front : List ℕ) (j : ℕ) (js : List ℕ) (last i : ℕ) (old now next : Made) (a0 b0 a b a' b' : ℕ) (start end : Name)
     → RestSoFar us front (j ∷ js) last i old now a0 b0 a b
     → start ≡ queue a → end ≡ queue b → a' ≡ a + 1 → b' ≡ b + 1
     → ((s : Stream) → IsTree us j s → Built now next (build s now.next_op now.next_queue start end) (ops_in s) (queues_in s))
@@ -78,7 +78,7 @@ rest_next us front j js last i old now next a0 b0 a b a' b' start end f e1 e2 e3
       λ ss t. let l = f.branches ss t in go_on us j js last ss old now next a0 b0 a b a' b' start end l.left l.added l.trees l.grew l.all l.ops l.queues e1 e2 e3 e4 bu;
 }
 
-end_on : (us : List UnitForm) (last : ℕ) (ss : Streams) (old now next : Made) (a0 b0 a b : ℕ) (start end : Name) (left : Streams) (added : List OpForm)
+end_on : (us : List DeclaredForm) (last : ℕ) (ss : Streams) (old now next : Made) (a0 b0 a b : ℕ) (start end : Name) (left : Streams) (added : List OpForm)
     → AreTrees us [] last left → op_forms now.ops ≡ op_forms old.ops ++ added
     → build_branches ss old.next_op old.next_queue a0 b0 ≡ added ++ build_branches left now.next_op now.next_queue a b
     → now.next_op + ops_of left ≡ old.next_op + ops_of ss → now.next_queue + queues_within left ≡ old.next_queue + queues_within ss
@@ -101,7 +101,7 @@ end_on us last ss old now next a0 b0 a b start end (Last s) added t g al o q e1 
 end_on us last ss old now next a0 b0 a b start end (Then s left) added t g al o q e1 e2 bu = absurd t
 
 -- all branches
-pub rest_end : (us : List UnitForm) (front : List ℕ) (last i : ℕ) (old now next : Made) (a0 b0 a b : ℕ) (start end : Name) (ss : Streams)
+pub rest_end : (us : List DeclaredForm) (front : List ℕ) (last i : ℕ) (old now next : Made) (a0 b0 a b : ℕ) (start end : Name) (ss : Streams)
     → RestSoFar us front [] last i old now a0 b0 a b → AreTrees us front last ss
     → start ≡ queue a → end ≡ queue b
     → ((s : Stream) → IsTree us last s → Built now next (build s now.next_op now.next_queue start end) (ops_in s) (queues_in s))
@@ -109,7 +109,7 @@ pub rest_end : (us : List UnitForm) (front : List ℕ) (last i : ℕ) (old now n
 rest_end us front last i old now next a0 b0 a b start end ss f t e1 e2 bu =
     let l = f.branches ss t in end_on us last ss old now next a0 b0 a b start end l.left l.added l.trees l.grew l.all l.ops l.queues e1 e2 bu
 
-number_is : (us : List UnitForm) (front : List ℕ) (last : ℕ) (ss : Streams) → AreTrees us front last ss → number_of ss ≡ suc (length front)
+number_is : (us : List DeclaredForm) (front : List ℕ) (last : ℕ) (ss : Streams) → AreTrees us front last ss → number_of ss ≡ suc (length front)
 number_is us [] last (Last s) t = refl
 number_is us (j ∷ js) last (Last s) t = absurd t
 number_is us [] last (Then s ss) t = absurd t
@@ -125,7 +125,7 @@ pipe_split : (f : List ℕ) (l : ℕ) (d : Splitter) (g : List ℕ) (m : ℕ) (w
 pipe_split f l d g m ws h = cc h
 
 -- a splitter, the branches, a joiner
-pub split_built : {E : Type 0} (us : List UnitForm) (i : ℕ) (d : Splitter) (front : List ℕ) (last : ℕ) (ws : List ℕ) (old first mid new : Made)
+pub split_built : {E : Type 0} (us : List DeclaredForm) (i : ℕ) (d : Splitter) (front : List ℕ) (last : ℕ) (ws : List ℕ) (old first mid new : Made)
     (from to : Name) (n : ℕ) (sop jop : OpForm) (r : Result (Unit {0}) E)
     → slice_get us i ≡ Some (ASplit d front last ws) → n ≡ suc (length front)
     → sop ≡ splitter d n (numbered (codes "split") old.next_op) from (queues old.next_queue n)
@@ -175,7 +175,7 @@ split_built us i d front last ws old first mid new from to n sop jop (Ok x) u en
     }
 
 -- the last branch was built
-pub rest_returns : {E : Type 0} (us : List UnitForm) (front : List ℕ) (last i : ℕ) (old now next : Made) (a0 b0 a b : ℕ) (r : Result (Unit {0}) E)
+pub rest_returns : {E : Type 0} (us : List DeclaredForm) (front : List ℕ) (last i : ℕ) (old now next : Made) (a0 b0 a b : ℕ) (r : Result (Unit {0}) E)
     → RestSoFar us front [] last i old now a0 b0 a b
     → ((s : Stream) → IsTree us last s → OnOk r (Built now next (build s now.next_op now.next_queue (queue a) (queue b)) (ops_in s) (queues_in s)))
     → (ss : Streams) → AreTrees us front last ss → OnOk r (Built old next (build_branches ss old.next_op old.next_queue a0 b0) (ops_of ss) (queues_within ss))

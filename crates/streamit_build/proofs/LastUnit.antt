@@ -6,13 +6,13 @@ use Rattle.river_plan.specs.Forms.{Name}
 use Rattle.river_plan.specs.declared.plan.RawPlan.{RawPlan}
 use Rattle.streamit_model.specs.Elaborate as spec
 use Rattle.streamit_model.specs.Unrolled.{Stream}
-use Rattle.streamit_model.specs.Build.{ops_in}
-use Rattle.streamit_text.specs.Program.{Declared, Program, declared_of, program_of}
+use Rattle.streamit_model.specs.Plan.{ops_in}
+use Rattle.streamit_text.specs.Program.{UnitForm, Program, unit_form, unit_forms}
 use Rattle.streamit_model.specs.Judged.{Refusal, Streamed, on_fine, in_unit, unit_of, all_streams, few_operators, judged}
 use Rattle.streamit_unroll.specs.declared.fault.Fault as fault
 use Rattle.streamit_unroll.specs.declared.fault.Fault.TheVariants as faults
 use Rattle.streamit_build.specs.declared.judge.Refusal as code
-use Rattle.streamit_text.specs.declared.program.Declaration.{Declaration}
+use Rattle.streamit_text.specs.declared.program.Unit as code_unit
 use Rattle.streamit_build.specs.Told.{refused, Told, few_in, PlansLast, PlansBy}
 
 -- a result without a refusal
@@ -40,17 +40,17 @@ told_on k faults.Limit r r' h e = h spec.Limit e
 told_on k faults.Weights r r' h e = h spec.Weights e
 told_on k faults.NoMemory r r' h e = tt
 
-abbrev last_unit : Declared → Program → Declared
+abbrev last_unit : UnitForm → Program → UnitForm
 last_unit u [] = u
 last_unit u (v ∷ us) = last_unit v us
 
 -- the newest stream is that of the last unit
-record Newest (u : Declared) (us : Program) (known : Streamed) : Type 0 where
+record Newest (u : UnitForm) (us : Program) (known : Streamed) : Type 0 where
   stream : Stream
   others : Streamed
   is : known ≡ ((last_unit u us).name, stream) ∷ others
 
-newest : (u : Declared) (us : Program) (k : ℕ) (start known : Streamed) → all_streams k start (u ∷ us) ≡ took known → Newest u us known
+newest : (u : UnitForm) (us : Program) (k : ℕ) (start known : Streamed) → all_streams k start (u ∷ us) ≡ took known → Newest u us known
 newest u [] k start known h =
     let p = unit_parts k (unit_of start u) (λ s. all_streams (suc k) ((u.name, s) ∷ start) []) known h in
     record { stream = p.0; others = start; is = sym (took_is ((u.name, p.0) ∷ start) known p.2) }
@@ -60,20 +60,20 @@ newest u (v ∷ us) k start known h =
     record { stream = n.stream; others = n.others; is = n.is }
 
 -- it stands at the last place
-last_at : {D : Type 0} (f : D → Declared) (d : D) (ds : List D) (x : D) → f (slice_index_or (d ∷ ds) (length ds) x) ≡ last_unit (f d) (map f ds)
+last_at : {D : Type 0} (f : D → UnitForm) (d : D) (ds : List D) (x : D) → f (slice_index_or (d ∷ ds) (length ds) x) ≡ last_unit (f d) (map f ds)
 last_at f d [] x = refl
 last_at f d (e ∷ ds) x = last_at f e ds x
 
 -- the stream of the last unit is the newest
-pub last_known : (units : List Declaration) (d : Declaration) (known : Streamed) → 0 < length units → all_streams 1 [] (program_of units) ≡ took known
+pub last_known : (units : List code_unit.Unit) (d : code_unit.Unit) (known : Streamed) → 0 < length units → all_streams 1 [] (unit_forms units) ≡ took known
     → (s : Stream) × (others : Streamed) × (known ≡ ((slice_index_or units (length units - 1) d).name, s) ∷ others)
 last_known [] d known lt h = absurd (omega (arith, lt))
 last_known (u ∷ us) d known lt h =
-    let n = newest (declared_of u) (program_of us) 1 [] known h in
+    let n = newest (unit_form u) (unit_forms us) 1 [] known h in
     let e : length (u ∷ us) - 1 ≡ length us = omega arith in (
       n.stream,
       n.others,
-      n.is ∙ ap (λ (x : Declared). (x.name, n.stream) ∷ n.others) (sym (last_at declared_of u us d))
+      n.is ∙ ap (λ (x : UnitForm). (x.name, n.stream) ∷ n.others) (sym (last_at unit_form u us d))
           ∙ ap (λ i. ((slice_index_or (u ∷ us) i d).name, n.stream) ∷ n.others) (sym e),
     )
 

@@ -8,14 +8,14 @@ use Rattle.streamit_build.specs.declared.builder.Declared.{Declared}
 use Rattle.std.specs.List.{AllByRecursion}
 use Rattle.river_plan.specs.Forms.{Name, OpForm, op_forms}
 use Rattle.streamit_model.specs.Unrolled.{Splitter, Stream, Streams, Last, Then, Filter, Pipeline, SplitJoin}
-use Rattle.streamit_model.specs.Build.{numbered, with_own, queue, build, build_line, ops_in, ops_of, queues_in, queues_between}
+use Rattle.streamit_model.specs.Plan.{numbered, with_own, queue, build, build_line, ops_in, ops_of, queues_in, queues_between}
 use Rattle.streamit_build.specs.declared.builder.Made.{Made}
-use Rattle.streamit_build.specs.Units.{UnitForm, AFilter, APipe, ASplit, unit_form, unit_forms, AreBelow, AreLower, IsLower, HaveShortFilters, HasShortFilters, IsTree}
+use Rattle.streamit_build.specs.Units.{DeclaredForm, AFilter, APipe, ASplit, declared_form, declared_forms, AreBelow, AreLower, IsLower, HaveShortFilters, HasShortFilters, IsTree}
 use Rattle.streamit_build.specs.Units.{AreTrees}
 use Rattle.streamit_build.specs.Units.{Built}
 
 -- the streams that are still to be built
-pub record Line (us : List UnitForm) (rest : List ℕ) (last : ℕ) (ss : Streams) (old now : Made) (from start to : Name) : Type 0 where
+pub record Line (us : List DeclaredForm) (rest : List ℕ) (last : ℕ) (ss : Streams) (old now : Made) (from start to : Name) : Type 0 where
   pub left : Streams
   pub trees : AreTrees us rest last left
   pub added : List OpForm
@@ -24,19 +24,19 @@ pub record Line (us : List UnitForm) (rest : List ℕ) (last : ℕ) (ss : Stream
   pub ops : now.next_op + ops_of left ≡ old.next_op + ops_of ss
   pub queues : now.next_queue + queues_between left ≡ old.next_queue + queues_between ss
 
-pub record LineSoFar (us : List UnitForm) (front rest : List ℕ) (last i : ℕ) (old now : Made) (from start to : Name) : Type 0 where
+pub record LineSoFar (us : List DeclaredForm) (front rest : List ℕ) (last i : ℕ) (old now : Made) (from start to : Name) : Type 0 where
   pub lower : AllByRecursion (λ j. j < i) rest
   pub line : (ss : Streams) → AreTrees us front last ss → Line us rest last ss old now from start to
 
 -- no stream was built
-pub line_start : (us : List UnitForm) (front : List ℕ) (last i : ℕ) (old : Made) (from to : Name) → AllByRecursion (λ j. j < i) front
+pub line_start : (us : List DeclaredForm) (front : List ℕ) (last i : ℕ) (old : Made) (from to : Name) → AllByRecursion (λ j. j < i) front
     → LineSoFar us front front last i old old from from to
 line_start us front last i old from to low = record {
   lower = low;
   line = λ ss t. record { left = ss; trees = t; added = []; grew = sym (append-nil (op_forms old.ops)); all = refl; ops = refl; queues = refl };
 }
 
-go_on : (us : List UnitForm) (j : ℕ) (js : List ℕ) (last : ℕ) (ss : Streams) (old now mid next : Made) (from start to end : Name) (left : Streams)
+go_on : (us : List DeclaredForm) (j : ℕ) (js : List ℕ) (last : ℕ) (ss : Streams) (old now mid next : Made) (from start to end : Name) (left : Streams)
     (added : List OpForm)
     → AreTrees us (j ∷ js) last left → op_forms now.ops ≡ op_forms old.ops ++ added
     → build_line ss old.next_op old.next_queue from to ≡ added ++ build_line left now.next_op now.next_queue start to
@@ -74,7 +74,7 @@ go_on us j js last ss old now mid next from start to end (Then s left) added t g
     }
 
 -- one stream more
-pub line_next : (us : List UnitForm) (front : List ℕ) (j : ℕ) (js : List ℕ) (last i : ℕ) (old now mid next : Made) (from start to end : Name)
+pub line_next : (us : List DeclaredForm) (front : List ℕ) (j : ℕ) (js : List ℕ) (last i : ℕ) (old now mid next : Made) (from start to end : Name)
     → LineSoFar us front (j ∷ js) last i old now from start to
     → end ≡ queue now.next_queue → mid.next_queue ≡ now.next_queue + 1 → mid.next_op ≡ now.next_op → mid.ops ≡ now.ops
     → ((s : Stream) → IsTree us j s → Built mid next (build s mid.next_op mid.next_queue start end) (ops_in s) (queues_in s))
@@ -85,7 +85,7 @@ line_next us front j js last i old now mid next from start to end f e1 e2 e3 e4 
       λ ss t. let l = f.line ss t in go_on us j js last ss old now mid next from start to end l.left l.added l.trees l.grew l.all l.ops l.queues e1 e2 e3 e4 b;
 }
 
-end_on : (us : List UnitForm) (last : ℕ) (ss : Streams) (old now next : Made) (from start to : Name) (left : Streams) (added : List OpForm)
+end_on : (us : List DeclaredForm) (last : ℕ) (ss : Streams) (old now next : Made) (from start to : Name) (left : Streams) (added : List OpForm)
     → AreTrees us [] last left → op_forms now.ops ≡ op_forms old.ops ++ added
     → build_line ss old.next_op old.next_queue from to ≡ added ++ build_line left now.next_op now.next_queue start to
     → now.next_op + ops_of left ≡ old.next_op + ops_of ss → now.next_queue + queues_between left ≡ old.next_queue + queues_between ss
@@ -105,7 +105,7 @@ end_on us last ss old now next from start to (Last s) added t g a o q b =
 end_on us last ss old now next from start to (Then s left) added t g a o q b = absurd t
 
 -- all streams
-pub line_end : (us : List UnitForm) (front : List ℕ) (last i : ℕ) (old now next : Made) (from start to : Name) (ss : Streams)
+pub line_end : (us : List DeclaredForm) (front : List ℕ) (last i : ℕ) (old now next : Made) (from start to : Name) (ss : Streams)
     → LineSoFar us front [] last i old now from start to → AreTrees us front last ss
     → ((s : Stream) → IsTree us last s → Built now next (build s now.next_op now.next_queue start to) (ops_in s) (queues_in s))
     → Built old next (build_line ss old.next_op old.next_queue from to) (ops_of ss) (queues_between ss)
@@ -120,16 +120,16 @@ got f (y ∷ ys) zero x lt e = ap (λ z. Some (f z)) (sym e)
 got f (y ∷ ys) (suc i) x lt e = got f ys i x (omega (arith, lt)) e
 
 -- the unit at a place
-pub unit_at : (us : List Declared) (i : ℕ) (x y : Declared) → i < length us → x ≡ get_or us i x → x ≡ y → slice_get (unit_forms us) i ≡ Some (unit_form y)
-unit_at us i x y lt e f = got unit_form us i x lt e ∙ ap (λ z. Some (unit_form z)) f
+pub unit_at : (us : List Declared) (i : ℕ) (x y : Declared) → i < length us → x ≡ get_or us i x → x ≡ y → slice_get (declared_forms us) i ≡ Some (declared_form y)
+unit_at us i x y lt e f = got declared_form us i x lt e ∙ ap (λ z. Some (declared_form z)) f
 
 -- the children of a pipeline are lower
-pub lower_of : (us : List UnitForm) (i : ℕ) (front : List ℕ) (last : ℕ) → AreLower us → slice_get us i ≡ Some (APipe front last)
+pub lower_of : (us : List DeclaredForm) (i : ℕ) (front : List ℕ) (last : ℕ) → AreLower us → slice_get us i ≡ Some (APipe front last)
     → AllByRecursion (λ j. j < i) front × (last < i)
 lower_of us i front last low e = subst (IsLower i) e (low i)
 
 -- those of a split-join are
-pub lower_split : (us : List UnitForm) (i : ℕ) (d : Splitter) (front : List ℕ) (last : ℕ) (ws : List ℕ) → AreLower us
+pub lower_split : (us : List DeclaredForm) (i : ℕ) (d : Splitter) (front : List ℕ) (last : ℕ) (ws : List ℕ) → AreLower us
     → slice_get us i ≡ Some (ASplit d front last ws) → AllByRecursion (λ j. j < i) front × (last < i)
 lower_split us i d front last ws low e = subst (IsLower i) e (low i)
 
@@ -138,7 +138,7 @@ pub below_same : (i : ℕ) (f g : List ℕ) (l m : ℕ) → f ≡ g → l ≡ m 
 below_same i f g l m e d low = subst (λ n. AreBelow i f n) (sym d) (subst (λ h. AreBelow i h m) (sym e) low)
 
 -- and have the same trees
-pub trees_same : (us : List UnitForm) (f g : List ℕ) (l m : ℕ) (ss : Streams) → f ≡ g → l ≡ m → AreTrees us g m ss → AreTrees us f l ss
+pub trees_same : (us : List DeclaredForm) (f g : List ℕ) (l m : ℕ) (ss : Streams) → f ≡ g → l ≡ m → AreTrees us g m ss → AreTrees us f l ss
 trees_same us f g l m ss e d t = subst (λ n. AreTrees us f n ss) (sym d) (subst (λ h. AreTrees us h m ss) (sym e) t)
 
 pipe_front : (f g : List ℕ) (l m : ℕ) → Some (APipe f l) ≡ Some (APipe g m) → (f ≡ g) × (l ≡ m)
@@ -154,7 +154,7 @@ filter_split : (n : Name) (f : FilterForm) (d : Splitter) (g : List ℕ) (m : �
 filter_split n f d g m ws h = cc h
 
 -- a pipeline's tree is one of its children
-pub pipe_returns : {E : Type 0} (us : List UnitForm) (i : ℕ) (front : List ℕ) (last : ℕ) (old new : Made) (from to : Name) (r : Result (Unit {0}) E)
+pub pipe_returns : {E : Type 0} (us : List DeclaredForm) (i : ℕ) (front : List ℕ) (last : ℕ) (old new : Made) (from to : Name) (r : Result (Unit {0}) E)
     → slice_get us i ≡ Some (APipe front last)
     → ((ss : Streams) → AreTrees us front last ss → OnOk r (Built old new (build_line ss old.next_op old.next_queue from to) (ops_of ss) (queues_between ss)))
     → (s : Stream) → IsTree us i s → OnOk r (Built old new (build s old.next_op old.next_queue from to) (ops_in s) (queues_in s))
@@ -165,7 +165,7 @@ pipe_returns us i front last old new from to r u h (Pipeline ss) t =
 pipe_returns us i front last old new from to r u h (SplitJoin d ss ws) t = absurd (pipe_split front last d t.0 t.1 ws (sym u ∙ t.2))
 
 -- the last stream was built
-pub last_returns : {E : Type 0} (us : List UnitForm) (front : List ℕ) (last i : ℕ) (old now next : Made) (from start to : Name) (r : Result (Unit {0}) E)
+pub last_returns : {E : Type 0} (us : List DeclaredForm) (front : List ℕ) (last i : ℕ) (old now next : Made) (from start to : Name) (r : Result (Unit {0}) E)
     → LineSoFar us front [] last i old now from start to
     → ((s : Stream) → IsTree us last s → OnOk r (Built now next (build s now.next_op now.next_queue start to) (ops_in s) (queues_in s)))
     → (ss : Streams) → AreTrees us front last ss → OnOk r (Built old next (build_line ss old.next_op old.next_queue from to) (ops_of ss) (queues_between ss))
@@ -173,7 +173,7 @@ last_returns us front last i old now next from start to (Ok x) f b ss t = line_e
 last_returns us front last i old now next from start to (Err x) f b ss t = tt
 
 -- a filter was built
-pub filter_returns : {E : Type 0} (us : List UnitForm) (i : ℕ) (name : Name) (f : FilterForm) (old new : Made) (op : OpForm) (from to : Name)
+pub filter_returns : {E : Type 0} (us : List DeclaredForm) (i : ℕ) (name : Name) (f : FilterForm) (old new : Made) (op : OpForm) (from to : Name)
     (r : Result (Unit {0}) E)
     → slice_get us i ≡ Some (AFilter name f)
     → op ≡ with_own (numbered name old.next_op) (filter f) (from ∷ []) (to ∷ []) → OnOk r (op_forms new.ops ≡ op_forms old.ops ++ op ∷ [])
@@ -198,5 +198,5 @@ filter_returns us i name f old new op from to (Ok x) u e o n q (Pipeline ss) t =
 filter_returns us i name f old new op from to (Ok x) u e o n q (SplitJoin d ss ws) t = absurd (filter_split name f d t.0 t.1 ws (sym u ∙ t.2))
 
 -- the name of a filter has at most 40 bytes
-pub short_of : (us : List UnitForm) (i : ℕ) (name : Name) (f : FilterForm) → HaveShortFilters us → slice_get us i ≡ Some (AFilter name f) → length name ≤ 40
+pub short_of : (us : List DeclaredForm) (i : ℕ) (name : Name) (f : FilterForm) → HaveShortFilters us → slice_get us i ≡ Some (AFilter name f) → length name ≤ 40
 short_of us i name f a e = subst HasShortFilters e (a i)

@@ -11,7 +11,7 @@ use Rattle.std.proofs.lemmas.List.Folds.{list_all-append}
 use Rattle.river_base.proofs.Tests.{le_true}
 use Rattle.river_base.specs.Name.{is_letter, is_digit, is_word, is_name}
 use Rattle.river_plan.specs.Forms.{Name}
-use Rattle.streamit_model.specs.Build.{numbered, queue, queues, weights}
+use Rattle.streamit_model.specs.Plan.{numbered, queue, queues, weights}
 use Rattle.streamit_model.proofs.Named.{decimal_goes}
 
 queues-suc : (k n : ℕ) → queues k (suc n) ≡ queues k n ++ queue (k + n) ∷ []

@@ -5,7 +5,7 @@ use Rattle.std.proofs.lemmas.List.{take_more, map-append}
 use Rattle.river_plan.specs.Forms.{Name, OpForm, op_form}
 use Rattle.river_plan.specs.Uses.{all_writes}
 use Rattle.river_plan.specs.declared.op.Op.{Op}
-use Rattle.streamit_model.specs.Build.{is_own_queue, own_queues, values_in}
+use Rattle.streamit_model.specs.Plan.{is_own_queue, own_queues, values_in}
 
 -- another fact of a value that is there
 pub if_ok_then : {X E : Type 0} {P Q : X → Type 0} (r : Result X E) → ((x : X) → P x → Q x) → IfOk r P → IfOk r Q

@@ -2,7 +2,7 @@
 use Rattle.std.specs.Prelude.{List, [], ◌∷◌, map, codes}
 use Rattle.river_plan.specs.Forms.{OpForm, PlanForm}
 use Rattle.river_plan.specs.Uses.{all_vars}
-use Rattle.streamit_model.specs.Build.{own_queues, values_in}
+use Rattle.streamit_model.specs.Plan.{own_queues, values_in}
 
 -- with these operators
 abbrev pub plan_lists : List OpForm → PlanForm

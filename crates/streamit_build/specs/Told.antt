@@ -3,7 +3,7 @@ use Rattle.std.specs.Prelude.{◌≡◌, ◌≤◌, ℕ, ◌∷◌, nat_le, Resu
 use Rattle.river_plan.specs.Forms.{Name, plan_form}
 use Rattle.river_plan.specs.declared.plan.RawPlan.{RawPlan}
 use Rattle.streamit_model.specs.Unrolled.{Stream}
-use Rattle.streamit_model.specs.Build.{ops_in, plan_of}
+use Rattle.streamit_model.specs.Plan.{ops_in, plan_of}
 use Rattle.streamit_model.specs.Elaborate as spec
 use Rattle.streamit_model.specs.Judged.{Streamed}
 use Rattle.streamit_model.specs.Judged as judged

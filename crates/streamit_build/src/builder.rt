@@ -4,8 +4,8 @@ ghost use Rattle.kern_rows.specs.Forms.{filter_form};
 ghost use Rattle.river_kernels.specs.Kern.{filter};
 ghost use Rattle.river_plan.specs.Forms.{op_form, op_forms};
 ghost use Rattle.streamit_model.specs.Unrolled.{Stream, Streams};
-ghost use Rattle.streamit_model.specs.Build.{numbered, queue, queues, with_own, splitter, joiner, build, ops_in, queues_in};
-ghost use Rattle.streamit_build.specs.Units.{splitter_form, unit_forms, AreBelow, AreLower, HaveShortFilters, IsTree, AreTrees, AddsSplitter, Built, BuiltLine, BuiltBranches};
+ghost use Rattle.streamit_model.specs.Plan.{numbered, queue, queues, with_own, splitter, joiner, build, ops_in, queues_in};
+ghost use Rattle.streamit_build.specs.Units.{splitter_form, declared_forms, AreBelow, AreLower, HaveShortFilters, IsTree, AreTrees, AddsSplitter, Built, BuiltLine, BuiltBranches};
 
 use crate::names::{queue, sum};
 use crate::operators::{filter_op, join_op, split_op};
@@ -45,18 +45,18 @@ pub struct Made {
 
 // The streams that one has: all but the last, and the last.
 #[derive(Clone, Copy)]
-struct Parts<'a> {
+struct FrontAndLast<'a> {
     front: &'a [u32],
     last: u32,
 }
 
-impl<'a> Parts<'a> {
+impl<'a> FrontAndLast<'a> {
     // These streams.
     fn of(front: &'a Vec<u32>, last: u32) -> Self
         ensures front { result.front.now ≡ front.now.items }
         ensures last { result.last ≡ last }
     {
-        Parts {
+        FrontAndLast {
             front: front.as_slice(),
             last,
         }
@@ -136,7 +136,7 @@ impl Made {
         &mut self,
         alloc: Global,
         split: &Option<Vec<u32>>,
-        parts: Parts<'_>,
+        parts: FrontAndLast<'_>,
         from: Name,
     ) -> Result<Lanes, NoMemory>
         ensures count { IfOk result (λ lanes. lanes.count ≡ suc (length parts.entry.front.now)) }
@@ -182,15 +182,15 @@ pub fn build(
     made: &mut Made,
 ) -> Result<(), NoMemory>
     requires there { i < length units.now }
-    requires lower { AreLower (unit_forms units.now) }
-    requires named { HaveShortFilters (unit_forms units.now) }
-    ensures { (s : Stream) → IsTree (unit_forms units.now) i s
+    requires lower { AreLower (declared_forms units.now) }
+    requires named { HaveShortFilters (declared_forms units.now) }
+    ensures { (s : Stream) → IsTree (declared_forms units.now) i s
         → OnOk result (Built made.old made.new (build s made.old.next_op made.old.next_queue from to) (ops_in s) (queues_in s)) }
 {
     match &units[i] {
         Declared::Filter { name, filter } => made.filter(alloc, name, filter, from, to),
         Declared::Pipeline { front, last } => {
-            let parts = Parts::of(front, *last);
+            let parts = FrontAndLast::of(front, *last);
             line(alloc, units, i, parts, from, to, made)
         }
         Declared::SplitJoin {
@@ -199,7 +199,7 @@ pub fn build(
             last,
             join,
         } => {
-            let parts = Parts::of(front, *last);
+            let parts = FrontAndLast::of(front, *last);
             let lanes = made.split(alloc, split, parts, from)?;
             branches(alloc, units, i, parts, lanes, made)?;
             made.join(alloc, join, lanes, to)
@@ -213,16 +213,16 @@ fn line(
     alloc: Global,
     units: &[Declared],
     i: usize,
-    parts: Parts<'_>,
+    parts: FrontAndLast<'_>,
     from: Name,
     to: Name,
     made: &mut Made,
 ) -> Result<(), NoMemory>
     requires there { i < length units.now }
     requires below { AreBelow i parts.front.now parts.last }
-    requires lower { AreLower (unit_forms units.now) }
-    requires named { HaveShortFilters (unit_forms units.now) }
-    ensures { (ss : Streams) → AreTrees (unit_forms units.now) parts.entry.front.now parts.entry.last ss
+    requires lower { AreLower (declared_forms units.now) }
+    requires named { HaveShortFilters (declared_forms units.now) }
+    ensures { (ss : Streams) → AreTrees (declared_forms units.now) parts.entry.front.now parts.entry.last ss
         → OnOk result (BuiltLine ss from to made.old made.new) }
 {
     let mut start = from;
@@ -240,15 +240,15 @@ fn branches(
     alloc: Global,
     units: &[Declared],
     i: usize,
-    parts: Parts<'_>,
+    parts: FrontAndLast<'_>,
     lanes: Lanes,
     made: &mut Made,
 ) -> Result<(), NoMemory>
     requires there { i < length units.now }
     requires below { AreBelow i parts.front.now parts.last }
-    requires lower { AreLower (unit_forms units.now) }
-    requires named { HaveShortFilters (unit_forms units.now) }
-    ensures { (ss : Streams) → AreTrees (unit_forms units.now) parts.entry.front.now parts.entry.last ss
+    requires lower { AreLower (declared_forms units.now) }
+    requires named { HaveShortFilters (declared_forms units.now) }
+    ensures { (ss : Streams) → AreTrees (declared_forms units.now) parts.entry.front.now parts.entry.last ss
         → OnOk result (BuiltBranches ss lanes.first lanes.second made.old made.new) }
 {
     let mut a = lanes.first;
@@ -272,9 +272,9 @@ fn lane(
     made: &mut Made,
 ) -> Result<(), NoMemory>
     requires there { i < length units.now }
-    requires lower { AreLower (unit_forms units.now) }
-    requires named { HaveShortFilters (unit_forms units.now) }
-    ensures { (s : Stream) → IsTree (unit_forms units.now) i s
+    requires lower { AreLower (declared_forms units.now) }
+    requires named { HaveShortFilters (declared_forms units.now) }
+    ensures { (s : Stream) → IsTree (declared_forms units.now) i s
         → OnOk result (Built made.old made.new (build s made.old.next_op made.old.next_queue (queue a) (queue b)) (ops_in s) (queues_in s)) }
 {
     let start = queue(alloc, a)?;

@@ -1,7 +1,7 @@
 // Judges the units of a program, one after another.
 ghost use Rattle.std.specs.Prelude.{◌≡◌, ◌<◌, ◌≤◌, ◌^◌, length};
 ghost use Rattle.streamit_model.specs.Judged.{Streamed, splitter_of, stream_of, unit_of, all_streams};
-ghost use Rattle.streamit_text.specs.Program.{AFilter, APipeline, filter_tree, dealing_of, adds_of, body_of, declared_of, program_of};
+ghost use Rattle.streamit_text.specs.Program.{AFilter, APipeline, filter_tree, dealing_of, adds_of, body_of, unit_form, unit_forms};
 ghost use Rattle.streamit_text.specs.declared.program.Body.TheVariants as tree;
 ghost use Rattle.streamit_unroll.specs.Filter.{IsReadable};
 ghost use Rattle.streamit_unroll.specs.View.{Judges};
@@ -16,7 +16,7 @@ use crate::streams::few;
 use crate::{Declared, Known};
 use river_base::Name;
 use std::alloc::Global;
-use streamit_text::{Adds, Body, Declaration, FilterTree, Split, SplitJoin};
+use streamit_text::{Adds, Body, Unit, FilterTree, Split, SplitJoin};
 use streamit_unroll::{Fault, filter};
 
 /// The fault that comes first, and the number of its unit, from 1.
@@ -28,10 +28,10 @@ pub struct Refusal {
 
 impl Known {
     /// All units of a program, one after another.
-    pub fn units(&mut self, alloc: Global, units: &[Declaration]) -> Result<(), Refusal>
-        requires readable { AreReadable (program_of units.now) }
+    pub fn units(&mut self, alloc: Global, units: &[Unit]) -> Result<(), Refusal>
+        requires readable { AreReadable (unit_forms units.now) }
         requires few { length units.now < 2 ^ 32 }
-        ensures { (start : Streamed) → Knows self.old start → JudgesAll result self.new (all_streams 1 start (program_of units.now)) }
+        ensures { (start : Streamed) → Knows self.old start → JudgesAll result self.new (all_streams 1 start (unit_forms units.now)) }
     {
         for i in 0..units.len() {
             match self.unit(alloc, &units[i]) {
@@ -48,9 +48,9 @@ impl Known {
     }
 
     // A unit of the program.
-    fn unit(&mut self, alloc: Global, unit: &Declaration) -> Result<(), Fault>
+    fn unit(&mut self, alloc: Global, unit: &Unit) -> Result<(), Fault>
         requires { IsReadableBody (body_of unit.now.body) }
-        ensures { (known : Streamed) → Knows self.old known → Declares result self.new known unit.now.name (unit_of known (declared_of unit.now)) }
+        ensures { (known : Streamed) → Knows self.old known → Declares result self.new known unit.now.name (unit_of known (unit_form unit.now)) }
     {
         if self.find(unit.name).is_some() {
             return Err(Fault::NameTwice);

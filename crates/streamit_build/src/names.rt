@@ -1,7 +1,7 @@
 // Names with numbers behind them, and lists of names.
 ghost use Rattle.std.specs.Prelude.{◌≡◌, ◌≤◌, ◌+◌, IsTrue, IfOk, [], ◌∷◌, length};
 ghost use Rattle.river_base.specs.Name.{is_name};
-ghost use Rattle.streamit_model.specs.Build.{numbered, queue, queues};
+ghost use Rattle.streamit_model.specs.Plan.{numbered, queue, queues};
 
 use river_base::{Bytes, Name, NoMemory};
 use river_plan::Names;

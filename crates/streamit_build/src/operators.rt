@@ -3,7 +3,7 @@ ghost use Rattle.std.specs.Prelude.{◌≡◌, ◌≤◌, IfOk, [], ◌∷◌, c
 ghost use Rattle.kern_rows.specs.Forms.{filter_form};
 ghost use Rattle.river_kernels.specs.Kern.{filter, duplicate, deal, collect};
 ghost use Rattle.river_plan.specs.Forms.{op_form};
-ghost use Rattle.streamit_model.specs.Build.{numbered, queues, with_own, weights, splitter, joiner};
+ghost use Rattle.streamit_model.specs.Plan.{numbered, queues, with_own, weights, splitter, joiner};
 ghost use Rattle.streamit_build.specs.Units.{splitter_form};
 
 use crate::names::{numbered, one, queues};

@@ -3,12 +3,12 @@ ghost use Rattle.std.specs.Prelude.{◌≡◌, ◌<◌, [], ◌∷◌, ◌++◌,
 ghost use Rattle.river_plan.specs.Forms.{plan_form, op_forms, empty_form};
 ghost use Rattle.river_plan.specs.Uses.{all_vars};
 ghost use Rattle.streamit_model.specs.Unrolled.{Stream};
-ghost use Rattle.streamit_model.specs.Build.{values_in as queue_of, is_own_queue, own_queues, ops_from, plan_of};
-ghost use Rattle.streamit_build.specs.Units.{unit_forms, AreLower, HaveShortFilters, IsTree};
+ghost use Rattle.streamit_model.specs.Plan.{values_in as queue_of, is_own_queue, own_queues, ops_from, plan_of};
+ghost use Rattle.streamit_build.specs.Units.{declared_forms, AreLower, HaveShortFilters, IsTree};
 ghost use Rattle.streamit_model.specs.Judged.{Streamed, judged};
 ghost use Rattle.streamit_build.specs.Knowing.{IsEntry, Knows};
 ghost use Rattle.streamit_build.specs.Plans.{plan_lists};
-ghost use Rattle.streamit_text.specs.Program.{program_of};
+ghost use Rattle.streamit_text.specs.Program.{unit_forms};
 ghost use Rattle.streamit_build.specs.Readable.{AreReadable};
 ghost use Rattle.streamit_build.specs.Told.{KnowsLast, PlansLast, PlansBy};
 
@@ -18,15 +18,15 @@ use crate::{Entry, Known, Made, Refusal};
 use river_base::{FlatType, Name, NoMemory, QueueType};
 use river_plan::{Decl, Decls, Names, Ops, RawPlan};
 use std::alloc::Global;
-use streamit_text::Declaration;
+use streamit_text::Unit;
 use streamit_unroll::Fault;
 
 /// The plan of a program, as lists: that of its last stream; or the fault that comes first, with its unit.
-pub fn plan(alloc: Global, units: &[Declaration]) -> Result<RawPlan, Refusal>
-    requires readable { AreReadable (program_of units.now) }
+pub fn plan(alloc: Global, units: &[Unit]) -> Result<RawPlan, Refusal>
+    requires readable { AreReadable (unit_forms units.now) }
     requires some { 0 < length units.now }
     requires few { length units.now < 2 ^ 32 }
-    ensures { PlansBy result (judged (program_of units.now)) }
+    ensures { PlansBy result (judged (unit_forms units.now)) }
 {
     let mut known = Known::new(alloc);
     known.program(alloc, units)
@@ -34,12 +34,12 @@ pub fn plan(alloc: Global, units: &[Declaration]) -> Result<RawPlan, Refusal>
 
 impl Known {
     // The same, where no stream is known.
-    fn program(&mut self, alloc: Global, units: &[Declaration]) -> Result<RawPlan, Refusal>
+    fn program(&mut self, alloc: Global, units: &[Unit]) -> Result<RawPlan, Refusal>
         requires nothing { Knows self.old [] }
-        requires readable { AreReadable (program_of units.now) }
+        requires readable { AreReadable (unit_forms units.now) }
         requires some { 0 < length units.now }
         requires few { length units.now < 2 ^ 32 }
-        ensures { PlansBy result (judged (program_of units.now)) }
+        ensures { PlansBy result (judged (unit_forms units.now)) }
     {
         self.units(alloc, units)?;
         let count = units.len();
@@ -60,9 +60,9 @@ impl Known {
     // The plan of the stream with this entry, in this unit.
     fn plan_at(&self, alloc: Global, unit: u32, top: Entry) -> Result<RawPlan, Refusal>
         requires there { top.number < length self.now.declared.items }
-        requires lower { AreLower (unit_forms self.now.declared.items) }
-        requires short { HaveShortFilters (unit_forms self.now.declared.items) }
-        ensures { (s : Stream) → IsEntry (unit_forms self.now.declared.items) top s → PlansLast result unit s }
+        requires lower { AreLower (declared_forms self.now.declared.items) }
+        requires short { HaveShortFilters (declared_forms self.now.declared.items) }
+        ensures { (s : Stream) → IsEntry (declared_forms self.now.declared.items) top s → PlansLast result unit s }
     {
         if top.ops > 256 {
             return Err(Refusal {
@@ -82,9 +82,9 @@ impl Known {
     // The plan of the stream with this number, as lists.
     fn plan(&self, alloc: Global, top: usize) -> Result<RawPlan, NoMemory>
         requires there { top < length self.now.declared.items }
-        requires lower { AreLower (unit_forms self.now.declared.items) }
-        requires short { HaveShortFilters (unit_forms self.now.declared.items) }
-        ensures { (s : Stream) → IsTree (unit_forms self.now.declared.items) top s → IfOk result (λ raw. plan_form raw ≡ plan_of s) }
+        requires lower { AreLower (declared_forms self.now.declared.items) }
+        requires short { HaveShortFilters (declared_forms self.now.declared.items) }
+        ensures { (s : Stream) → IsTree (declared_forms self.now.declared.items) top s → IfOk result (λ raw. plan_form raw ≡ plan_of s) }
     {
         let ops = self.operators(alloc, top)?;
         lists(alloc, ops)
@@ -94,9 +94,9 @@ impl Known {
     #[tactic(auto, unfolding(river_base::specs::Name::is_word, river_base::specs::Name::is_letter, river_base::specs::Name::is_digit))]
     fn operators(&self, alloc: Global, top: usize) -> Result<Ops, NoMemory>
         requires there { top < length self.now.declared.items }
-        requires lower { AreLower (unit_forms self.now.declared.items) }
-        requires short { HaveShortFilters (unit_forms self.now.declared.items) }
-        ensures { (s : Stream) → IsTree (unit_forms self.now.declared.items) top s → IfOk result (λ ops. op_forms ops ≡ ops_from s) }
+        requires lower { AreLower (declared_forms self.now.declared.items) }
+        requires short { HaveShortFilters (declared_forms self.now.declared.items) }
+        ensures { (s : Stream) → IsTree (declared_forms self.now.declared.items) top s → IfOk result (λ ops. op_forms ops ≡ ops_from s) }
     {
         let mut made = Made {
             ops: Ops::new(alloc),

@@ -5,7 +5,7 @@ ghost use Rattle.river_base.specs.Name.{name_eq};
 ghost use Rattle.river_plan.specs.Forms.{Name};
 ghost use Rattle.streamit_model.specs.Unrolled.{Stream};
 ghost use Rattle.streamit_model.specs.Judged.{Streamed, stream_added, streams_added};
-ghost use Rattle.streamit_build.specs.Units.{unit_forms};
+ghost use Rattle.streamit_build.specs.Units.{declared_forms};
 ghost use Rattle.streamit_build.specs.Knowing.{Knows, IfNext, may, AddsOne, AddsAll};
 
 use crate::Declared;
@@ -59,7 +59,7 @@ impl Known {
 
     // The stream that is added as number `place`.
     fn added(&self, branch: bool, place: usize, name: Name) -> Result<Entry, Fault>
-        ensures { (known : Streamed) → Knows self.now known → AddsOne (unit_forms self.now.declared.items) result (stream_added (may branch) known place name) }
+        ensures { (known : Streamed) → Knows self.now known → AddsOne (declared_forms self.now.declared.items) result (stream_added (may branch) known place name) }
     {
         if branch && place >= 64 {
             return Err(Fault::Limit);
@@ -81,7 +81,7 @@ impl Known {
         adds: &Adds,
     ) -> Result<Children, Fault>
         ensures { (known : Streamed) → Knows self.now known
-            → AddsAll (unit_forms self.now.declared.items) result (streams_added (may branch) known 0 adds.now.first adds.now.others.items) }
+            → AddsAll (declared_forms self.now.declared.items) result (streams_added (may branch) known 0 adds.now.first adds.now.others.items) }
     {
         let first = self.added(branch, 0, adds.first)?;
         let mut children = Children::one(alloc, first);

@@ -22,13 +22,13 @@ use Rattle.river_plan.proofs.ValidLaw.{valid-no_fault}
 use Rattle.river_plan.specs.declared.plan.RawPlan.{RawPlan}
 use Rattle.streamit_model.specs.Elaborate as model
 use Rattle.streamit_model.specs.Unrolled.{Stream}
-use Rattle.streamit_text.specs.Program.{Program, declared_of, program_of}
+use Rattle.streamit_text.specs.Program.{Program, unit_form, unit_forms}
 use Rattle.streamit_model.specs.Shallow.{AreShallowUnits}
 use Rattle.streamit_model.specs.Judged.{Streamed, Refusal, on_fine, in_unit, unit_of, all_streams, few_operators, judged}
-use Rattle.streamit_model.specs.Faulty.{IsFaultOf}
+use Rattle.streamit_model.specs.Faults.{IsFaultOf}
 use Rattle.streamit_model.proofs.Programs.{programs_mean}
 use Rattle.streamit_model.proofs.Refused.{refusals_are}
-use Rattle.streamit_text.specs.declared.program.Declaration.{Declaration}
+use Rattle.streamit_text.specs.declared.program.Unit as code_unit
 use Rattle.streamit_build.specs.Readable.{AreReadable}
 use Rattle.streamit_build.specs.Told.{PlansBy}
 use Rattle.streamit_text.specs.Grammar.{AreUnits, IsText, IsSome, IsUnitAt, next_unit}
@@ -184,23 +184,23 @@ tokens-mean : (marks : List Mark) (p : Program) → StandFor marks p → of_toke
 tokens-mean marks p h = ap then_judged (units-reads (cut_units (toks marks)) p h.0 h.1)
 
 -- units that were read are planned and told as their tokens are
-pub read-planned : (marks : List Mark) (ds : List Declaration) (plan : PlanForm) → StandFor marks (program_of ds)
-    → Plans (accepted (program_of ds)) (program_of ds) plan → Plans (of_tokens marks) (program_of ds) plan
-read-planned marks ds plan e h = (h.0, tokens-mean marks (program_of ds) e ∙ h.1, h.2)
+pub read-planned : (marks : List Mark) (ds : List code_unit.Unit) (plan : PlanForm) → StandFor marks (unit_forms ds)
+    → Plans (accepted (unit_forms ds)) (unit_forms ds) plan → Plans (of_tokens marks) (unit_forms ds) plan
+read-planned marks ds plan e h = (h.0, tokens-mean marks (unit_forms ds) e ∙ h.1, h.2)
 
-pub read-refused : (marks : List Mark) (ds : List Declaration) (fault : StreamitFault) → StandFor marks (program_of ds)
-    → Refused (accepted (program_of ds)) fault → Refused (of_tokens marks) fault
-read-refused marks ds fault e h = subst (λ (r : Result Accepted StreamitFault). Refused r fault) (sym (tokens-mean marks (program_of ds) e)) h
+pub read-refused : (marks : List Mark) (ds : List code_unit.Unit) (fault : StreamitFault) → StandFor marks (unit_forms ds)
+    → Refused (accepted (unit_forms ds)) fault → Refused (of_tokens marks) fault
+read-refused marks ds fault e h = subst (λ (r : Result Accepted StreamitFault). Refused r fault) (sym (tokens-mean marks (unit_forms ds) e)) h
 
-pub read-readable : (marks : List Mark) (ds : List Declaration) → StandFor marks (program_of ds) → AreReadable (program_of ds)
-read-readable marks ds e = (units-fine (program_of ds) (cut_units (toks marks)) e.0).0
+pub read-readable : (marks : List Mark) (ds : List code_unit.Unit) → StandFor marks (unit_forms ds) → AreReadable (unit_forms ds)
+read-readable marks ds e = (units-fine (unit_forms ds) (cut_units (toks marks)) e.0).0
 
-pub read-shallow : (marks : List Mark) (ds : List Declaration) → StandFor marks (program_of ds) → AreShallowUnits (program_of ds)
-read-shallow marks ds e = (units-fine (program_of ds) (cut_units (toks marks)) e.0).1
+pub read-shallow : (marks : List Mark) (ds : List code_unit.Unit) → StandFor marks (unit_forms ds) → AreShallowUnits (unit_forms ds)
+read-shallow marks ds e = (units-fine (unit_forms ds) (cut_units (toks marks)) e.0).1
 
-pub read-some : (marks : List Mark) (ds : List Declaration) → StandFor marks (program_of ds) → 0 < length ds
+pub read-some : (marks : List Mark) (ds : List code_unit.Unit) → StandFor marks (unit_forms ds) → 0 < length ds
 read-some marks ds e = by ds e.1 where
-  by : (us : List Declaration) → IsSome (program_of us) → 0 < length us
+  by : (us : List code_unit.Unit) → IsSome (unit_forms us) → 0 < length us
   by [] h = absurd h
   by (u ∷ us) h = omega arith
 
@@ -217,10 +217,10 @@ formed-few [] (u ∷ us) h = absurd h
 formed-few (d ∷ ds) [] h = absurd h
 formed-few (d ∷ ds) (u ∷ us) h = ap suc (formed-few ds us h.1)
 
-pub read-few : (marks : List Mark) (ds : List Declaration) → StandFor marks (program_of ds) → length ds ≤ length marks
+pub read-few : (marks : List Mark) (ds : List code_unit.Unit) → StandFor marks (unit_forms ds) → length ds ≤ length marks
 read-few marks ds e =
-    let same = formed-few (program_of ds) (cut_units (toks marks)) e.0 in
-    let each = length-map ds declared_of in
+    let same = formed-few (unit_forms ds) (cut_units (toks marks)) e.0 in
+    let each = length-map ds unit_form in
     let few = units-few marks in
     omega (arith, same, each, few)
 

@@ -11,11 +11,11 @@ use Rattle.river_plan.specs.Forms.{Name}
 use Rattle.river_print.specs.Printable.{IsShallowFirst, IsPrintable}
 use Rattle.river_print.specs.Writable.{Every, depths}
 use Rattle.river_print.proofs.Spoken.{IsSpoken, every-joined, spoken-printable}
-use Rattle.streamit_model.specs.Build.{numbered, queue, queues, ops_in, ops_of, queues_in, splitter, joiner, build, build_line, build_branches, plan_of}
+use Rattle.streamit_model.specs.Plan.{numbered, queue, queues, ops_in, ops_of, queues_in, splitter, joiner, build, build_line, build_branches, plan_of}
 use Rattle.streamit_model.specs.Elaborate.{Fault, on_ok, demand, Limit}
-use Rattle.streamit_text.specs.Program.{WorkTree, FilterTree, Body, AFilter, APipeline, ASplitJoin, Declared, Program}
+use Rattle.streamit_text.specs.Program.{WorkTree, FilterTree, Body, AFilter, APipeline, ASplitJoin, UnitForm, Program}
 use Rattle.streamit_model.specs.ElaborateFilter.{elaborated}
-use Rattle.streamit_model.specs.Judged.{Refusal, Streamed, on_fine, in_unit, found, stream_added, streams_added, any, branches, round_of, splitter_of, stream_of}
+use Rattle.streamit_model.specs.Judged.{Refusal, Streamed, on_fine, in_unit, found_stream, stream_added, streams_added, any, branches, round_of, splitter_of, stream_of}
 use Rattle.streamit_model.specs.Judged.{not_there, unit_of, all_streams, few_operators, judged}
 use Rattle.streamit_model.specs.Meaning.{look, branch_count}
 use Rattle.streamit_model.specs.Unrolled.{Splitter, Duplicate, RoundRobin, Stream, Filter, Pipeline, SplitJoin, Streams, Last, Then, number_of, nesting}
@@ -64,11 +64,11 @@ body-nested n w b ts h =
     chosen (IsNestedBody b) _ _ (bytes_eq w (codes "splitjoin")) b ts h
     (λ e f. enclosed IsNestedBody _ _ _ n b ts f (λ m us g. subst IsNestedBody (sym g.is) tt)) (λ h. absurd h)))
 
-unit-nested : (d : Declared) (ts : List Tok) → IsUnit d ts → IsNestedBody d.body
+unit-nested : (d : UnitForm) (ts : List Tok) → IsUnit d ts → IsNestedBody d.body
 unit-nested d ts h =
     let g = h.formed.formed.formed in
     let k = g.formed in
-    subst (λ (e : Declared). IsNestedBody e.body) (sym k.is) (body-nested 128 g.word k.value.1 k.formed.back k.formed.second)
+    subst (λ (e : UnitForm). IsNestedBody e.body) (sym k.is) (body-nested 128 g.word k.value.1 k.formed.back k.formed.second)
 
 units-nested : (p : Program) (units : List (List Tok)) → AreUnits p units → AreNestedUnits p
 units-nested [] units h = tt
@@ -107,15 +107,15 @@ looked-low (k ∷ ks) n s a h = by (name_eq k.0 n) h (looked-low ks n s a.1)
     by true e later = subst IsLowStream (let q : k.1 ≡ s = cc in q) a.0
     by false e later = later e
 
-found-is : (o : Option Stream) (s : Stream) → found o ≡ fine s → o ≡ Some s
+found-is : (o : Option Stream) (s : Stream) → found_stream o ≡ fine s → o ≡ Some s
 found-is None s h = absurd (cc h)
 found-is (Some t) s h = ap Some (ok_is t s h)
 
 added-low : (may : ℕ → Bool) (known : Streamed) (i : ℕ) (n : Name) (s : Stream) → AllLow known → stream_added may known i n ≡ fine s → IsLowStream s
 added-low may known i n s a h =
     let f2 = λ (s : Stream). on_ok (demand (nat_lt (nesting s) 64) Limit) (λ v. fine s) in
-    let p = ok_parts (demand (may i) Limit) (λ u. on_ok (found (look known n)) f2) s h in
-    let q = ok_parts (found (look known n)) f2 s p.2 in
+    let p = ok_parts (demand (may i) Limit) (λ u. on_ok (found_stream (look known n)) f2) s h in
+    let q = ok_parts (found_stream (look known n)) f2 s p.2 in
     let r = ok_parts (demand (nat_lt (nesting q.0) 64) Limit) (λ v. fine q.0) s q.2 in
     looked-low known n s a (found-is (look known n) s (q.1 ∙ ap fine (ok_is q.0 s r.2)))
 

@@ -17,7 +17,7 @@ use Rattle.streamit_text.specs.Blocks.{IsDeclare, IsAssign, IsPush, IsDiscard, I
 use Rattle.streamit_text.specs.Expressions.{syntax, marked, IsExpression, expr_at}
 use Rattle.streamit_text.specs.Leaves.{IsLeaf, leaf_at}
 use Rattle.streamit_text.specs.Leaves as rule
-use Rattle.streamit_text.specs.Program.{WorkTree, FilterTree, Body, Declared, Program}
+use Rattle.streamit_text.specs.Program.{WorkTree, FilterTree, Body, UnitForm, Program}
 use Rattle.streamit_text.specs.Tree.{Expression, Statement, Declare, Assign, Push, Discard, If, For, Block, End, Then, Optional, Unwritten, Written, in_turn}
 use Rattle.streamit_text.specs.Tree.{or_unwritten}
 use Rattle.streamit_text.specs.Tree as tree
@@ -217,11 +217,11 @@ body-fine n w b ts h =
     chosen (IsFineBody b) _ _ (bytes_eq w (codes "splitjoin")) b ts h
     (λ e f. enclosed IsFineBody _ _ _ n b ts f (λ m us g. subst IsFineBody (sym g.is) (tt, tt))) (λ h. absurd h)))
 
-unit-fine : (d : Declared) (ts : List Tok) → IsUnit d ts → IsFineBody d.body
+unit-fine : (d : UnitForm) (ts : List Tok) → IsUnit d ts → IsFineBody d.body
 unit-fine d ts h =
     let g = h.formed.formed.formed in
     let k = g.formed in
-    subst (λ (e : Declared). IsFineBody e.body) (sym k.is) (body-fine 128 g.word k.value.1 k.formed.back k.formed.second)
+    subst (λ (e : UnitForm). IsFineBody e.body) (sym k.is) (body-fine 128 g.word k.value.1 k.formed.back k.formed.second)
 
 -- units that the grammar has are readable, and their expressions are not too deep
 pub units-fine : (p : Program) (units : List (List Tok)) → AreUnits p units → AreReadable p × AreShallowUnits p

@@ -9,9 +9,9 @@ use Rattle.river_plan.specs.InTurn.{IsInTurn}
 use Rattle.river_plan.specs.Valid.{IsPlan}
 use Rattle.river_print.specs.Printable.{IsPrintable}
 use Rattle.brooklet_model.specs.Meaning.{meaning}
-use Rattle.streamit_model.specs.Build.{plan_of}
+use Rattle.streamit_model.specs.Plan.{plan_of}
 use Rattle.streamit_model.specs.Elaborate as model
-use Rattle.streamit_model.specs.Faulty.{IsRight, IsFaultOf}
+use Rattle.streamit_model.specs.Faults.{IsFaultless, IsFaultOf}
 use Rattle.streamit_model.specs.Places.{places_of}
 use Rattle.streamit_text.specs.Program.{Program}
 use Rattle.streamit_model.specs.Meaning.{program_outputs}
@@ -53,7 +53,7 @@ PlansArePrintable = (text : List ℕ) (a : Accepted) → compiled text ≡ Ok a 
 
 -- a text is accepted exactly where the grammar has it for a program of which no place has a fault
 abbrev pub TextsAreAccepted : Type 0
-TextsAreAccepted = (text : List ℕ) → ((a : Accepted) × (compiled text ≡ Ok a)) ↔ ((p : Program) × IsText text p × AllByRecursion IsRight (places_of p))
+TextsAreAccepted = (text : List ℕ) → ((a : Accepted) × (compiled text ≡ Ok a)) ↔ ((p : Program) × IsText text p × AllByRecursion IsFaultless (places_of p))
 
 -- the plan of a text's program declares queues and variables in the order in which its operators first use them
 abbrev pub PlansInTurn : Type 0

@@ -10,7 +10,7 @@ use Rattle.text_forms.specs.declared.refusal.Refusal.TheVariants.{Syntax}
 use Rattle.river_plan.specs.Forms.{PlanForm}
 use Rattle.streamit_model.specs.Elaborate as model
 use Rattle.streamit_model.specs.Unrolled.{Stream}
-use Rattle.streamit_model.specs.Build.{plan_of}
+use Rattle.streamit_model.specs.Plan.{plan_of}
 use Rattle.streamit_text.specs.Program.{Program}
 use Rattle.streamit_model.specs.Judged.{Streamed, Refusal, judged}
 use Rattle.streamit_text.specs.Reading.{some_units}

@@ -2,7 +2,7 @@
 ghost use Rattle.std.specs.Prelude.{◌≡◌, ◌<◌, ◌^◌, length, IfOk, IfErr, Result, Ok};
 ghost use Rattle.river_plan.specs.Forms.{plan_form};
 ghost use Rattle.river_plan.specs.Valid.{IsPlan};
-ghost use Rattle.streamit_text.specs.Program.{Program, program_of};
+ghost use Rattle.streamit_text.specs.Program.{Program, unit_forms};
 ghost use Rattle.streamit_model.specs.Shallow.{AreShallowUnits};
 ghost use Rattle.streamit_model.specs.Judged.{Streamed};
 ghost use Rattle.streamit_model.specs.Judged as model;
@@ -18,7 +18,7 @@ use river_base::{Bytes, NoMemory};
 use river_plan::{Plan, PlanFault, RawPlan};
 use std::alloc::Global;
 use streamit_build::{Refusal, plan};
-use streamit_text::{Declaration, read_streamit};
+use streamit_text::{Unit, read_streamit};
 use streamit_unroll::Fault;
 use text_forms::{Refusal as TextRefusal, UnitFault};
 use work_text::{LexFault, Tokens, lex};
@@ -36,7 +36,7 @@ pub fn compile_streamit(
     text: &Bytes,
 ) -> Result<(StreamitProgram, Plan), StreamitFault>
     requires { length text.now < 2 ^ 32 }
-    ensures plan { IfOk result (λ made. Plans (compiled text.now) (program_of made.0.units.items) made.1) }
+    ensures plan { IfOk result (λ made. Plans (compiled text.now) (unit_forms made.0.units.items) made.1) }
     ensures refused { IfErr result (Refused (compiled text.now)) }
 {
     match lex(alloc, text) {
@@ -54,7 +54,7 @@ fn compile_tokens(
     tokens: &Tokens<'_>,
 ) -> Result<(StreamitProgram, Plan), StreamitFault>
     requires { length tokens.now < 2 ^ 32 }
-    ensures plan { IfOk result (λ made. Plans (of_tokens tokens.now) (program_of made.0.units.items) made.1) }
+    ensures plan { IfOk result (λ made. Plans (of_tokens tokens.now) (unit_forms made.0.units.items) made.1) }
     ensures refused { IfErr result (Refused (of_tokens tokens.now)) }
 {
     let units = read(alloc, tokens)?;
@@ -64,9 +64,9 @@ fn compile_tokens(
 
 // The units of the tokens of a text.
 #[tactic(auto, using(crate::proofs::Fronts::readings))]
-fn read(alloc: Global, tokens: &Tokens<'_>) -> Result<Vec<Declaration>, StreamitFault>
+fn read(alloc: Global, tokens: &Tokens<'_>) -> Result<Vec<Unit>, StreamitFault>
     requires { length tokens.now < 2 ^ 32 }
-    ensures read { IfOk result (λ units. StandFor tokens.now (program_of units.items)) }
+    ensures read { IfOk result (λ units. StandFor tokens.now (unit_forms units.items)) }
     ensures refused { IfErr result (Refused (of_tokens tokens.now)) }
 {
     match read_streamit(alloc, tokens) {
@@ -78,13 +78,13 @@ fn read(alloc: Global, tokens: &Tokens<'_>) -> Result<Vec<Declaration>, Streamit
 
 // The plan of the last of these units.
 #[tactic(auto, using(crate::proofs::Fronts::plans))]
-fn planned(alloc: Global, units: &[Declaration]) -> Result<Plan, StreamitFault>
-    requires readable { AreReadable (program_of units.now) }
-    requires shallow { AreShallowUnits (program_of units.now) }
+fn planned(alloc: Global, units: &[Unit]) -> Result<Plan, StreamitFault>
+    requires readable { AreReadable (unit_forms units.now) }
+    requires shallow { AreShallowUnits (unit_forms units.now) }
     requires some { 0 < length units.now }
     requires few { length units.now < 2 ^ 32 }
-    ensures plan { IfOk result (Plans (accepted (program_of units.now)) (program_of units.now)) }
-    ensures refused { IfErr result (Refused (accepted (program_of units.now))) }
+    ensures plan { IfOk result (Plans (accepted (unit_forms units.now)) (unit_forms units.now)) }
+    ensures refused { IfErr result (Refused (accepted (unit_forms units.now))) }
 {
     match plan(alloc, units) {
         Ok(raw) => {

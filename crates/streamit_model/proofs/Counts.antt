@@ -7,8 +7,8 @@ use Rattle.river_plan.specs.Forms.{Name}
 use Rattle.river_plan.specs.Names.{one_if, count}
 use Rattle.river_plan.specs.Uses.{total, writes_it, reads_it, named_it}
 use Rattle.streamit_model.specs.Unrolled.{Splitter, Duplicate, RoundRobin, Stream, Filter, Pipeline, SplitJoin, Streams, Last, Then, number_of}
-use Rattle.streamit_model.specs.Build.{numbered, queue, queues, ops_in, ops_of, queues_in, queues_between, queues_within, splitter, joiner, build, build_line}
-use Rattle.streamit_model.specs.Build.{build_branches}
+use Rattle.streamit_model.specs.Plan.{numbered, queue, queues, ops_in, ops_of, queues_in, queues_between, queues_within, splitter, joiner, build, build_line}
+use Rattle.streamit_model.specs.Plan.{build_branches}
 use Rattle.streamit_model.proofs.Numbers.{number_in, sum_from, sum_split, meets, named_le, queue_count}
 
 -- queue number j is x

@@ -10,7 +10,7 @@ use Rattle.river_plan.proofs.ShareLemmas.{each_append}
 use Rattle.brooklet_model.specs.ByIndex.{cycle}
 use Rattle.streamit_model.specs.Unrolled.{Splitter, Stream, Filter, Pipeline, SplitJoin, Streams, Last, Then, number_of, IsStream, AreStreams, IsSplitter}
 use Rattle.streamit_model.specs.Unrolled.{IsRound, IsSmall, AreSmall, IsSmallFilter, IsSmallSplitter}
-use Rattle.streamit_model.specs.Build.{numbered, queue, queues, ops_in, ops_of, queues_in, with_own, splitter, joiner, build, build_line, build_branches}
+use Rattle.streamit_model.specs.Plan.{numbered, queue, queues, ops_in, ops_of, queues_in, with_own, splitter, joiner, build, build_line, build_branches}
 
 pub record OfEach (P : OpForm → Type 0) : Type 0 where
   pub filters : (label : Name) (f : FilterForm) (from to : Name) → IsTrue (is_filter f) → IsSmallFilter f → P (with_own label (filter f) (from ∷ []) (to ∷ []))

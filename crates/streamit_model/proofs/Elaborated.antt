@@ -23,7 +23,7 @@ use Rattle.river_plan.proofs.NameLemmas.{cases_name, name_same as name_self}
 use Rattle.brooklet_model.specs.Machine.{at_name}
 use Rattle.streamit_text.specs.Tree.{Expression, Statement, Declare, Assign, Push, Discard, If, For, Block, End, Then, Optional, Unwritten, Written}
 use Rattle.streamit_text.specs.Tree as tree
-use Rattle.streamit_model.specs.Meaning.{pops, Values, eval, State, numbers_from, turns_between, each_turn, first_value, first_pops, exec, exec_all, exec_optional}
+use Rattle.streamit_model.specs.Meaning.{pops, Store, eval, State, numbers_from, turns_between, each_turn, first_value, first_pops, exec, exec_all, exec_optional}
 use Rattle.streamit_model.specs.Elaborate.{Fault, Limit, BranchRates, PeekRange, on_ok, demand, KnownName, Var, Turn, Scope, find, constant_of, constant}
 use Rattle.streamit_model.specs.Elaborate.{named_term}
 use Rattle.streamit_model.specs.Elaborate.{peeked, term_of, At, counted, has_slot, is_new, slot_of, bound_of, first_term, first_popped, Read}
@@ -68,7 +68,7 @@ abbrev pub Holds : KnownName → ℤ → List ℤ → Type 0
 Holds (Var i) z mem = slice_index_or mem i (pos 0) ≡ z
 Holds (Turn v) z mem = pos v ≡ z
 
-pub record Agrees (sc : Scope) (env : Values) (mem : List ℤ) : Type 0 where
+pub record Agrees (sc : Scope) (env : Store) (mem : List ℤ) : Type 0 where
   pub each : (n : Name) (b : KnownName) → find sc n ≡ Some b → Holds b (env n) mem
 
 -- the slots of known names are there, and each is one name's
@@ -80,7 +80,7 @@ pub record IsSound (sc : Scope) (slots : ℕ) : Type 0 where
 abbrev pub Keeps : Scope → Scope → Type 0
 Keeps sc sc' = (n : Name) (b : KnownName) → find sc n ≡ Some b → find sc' n ≡ Some b
 
-agrees_within : (sc sc' : Scope) (env : Values) (mem : List ℤ) → Keeps sc sc' → Agrees sc' env mem → Agrees sc env mem
+agrees_within : (sc sc' : Scope) (env : Store) (mem : List ℤ) → Keeps sc sc' → Agrees sc' env mem → Agrees sc env mem
 agrees_within sc sc' env mem k a = record { each = λ n b f. a.each n b (k n b f) }
 
 -- more slots are as sound
@@ -141,7 +141,7 @@ sound_turn n v sc slots s = record {
 }
 
 -- the loop's variable has its turn's value
-agrees_turn : (n : Name) (v : ℕ) (sc : Scope) (env : Values) (mem : List ℤ) → Agrees sc env mem → Agrees ((n, Turn v) ∷ sc) (at_name n (pos v) env) mem
+agrees_turn : (n : Name) (v : ℕ) (sc : Scope) (env : Store) (mem : List ℤ) → Agrees sc env mem → Agrees ((n, Turn v) ∷ sc) (at_name n (pos v) env) mem
 agrees_turn n v sc env mem a = record {
   each = λ m b f. ⊎_elim
       (λ e. subst (λ c. Holds c (at_name n (pos v) env m) mem) (same_Some (Turn v) b (sym (found_here n m (Turn v) sc e.1) ∙ f))
@@ -155,7 +155,7 @@ holds_set : (b : KnownName) (z w : ℤ) (i : ℕ) (mem : List ℤ) → ((j : ℕ
 holds_set (Var j) z w i mem ne h = get_or-set_other mem i j w (pos 0) (ne j refl) ∙ h
 holds_set (Turn v) z w i mem ne h = h
 
-agrees_set : (n : Name) (i : ℕ) (z : ℤ) (sc : Scope) (slots : ℕ) (env : Values) (mem : List ℤ) → IsSound sc slots → slots ≤ length mem
+agrees_set : (n : Name) (i : ℕ) (z : ℤ) (sc : Scope) (slots : ℕ) (env : Store) (mem : List ℤ) → IsSound sc slots → slots ≤ length mem
     → find sc n ≡ Some (Var i)
     → ((m : Name) (b : KnownName) → name_eq n m ≡ false → find sc m ≡ Some b → Holds b (env m) mem) → Agrees sc (at_name n z env) (slice_set mem i z)
 agrees_set n i z sc slots env mem s len f others = record {
@@ -177,7 +177,7 @@ constant_found None z w mem h c = absurd (cc c)
 constant_found (Some (Var i)) z w mem h c = absurd (cc c)
 constant_found (Some (Turn v)) z w mem h c = sym (h (Turn v) refl) ∙ ok_is (pos v) z c
 
-constant_is : (sc : Scope) (t : Expression) (xs : List ℤ) (env : Values) (mem : List ℤ) (k : ℕ) (z : ℤ) → Agrees sc env mem → constant sc t ≡ Ok z
+constant_is : (sc : Scope) (t : Expression) (xs : List ℤ) (env : Store) (mem : List ℤ) (k : ℕ) (z : ℤ) → Agrees sc env mem → constant sc t ≡ Ok z
     → eval t xs env k ≡ z
 constant_is sc (tree.Number v) xs env mem k z a c = ok_is (pos v) z c
 constant_is sc (tree.Name n) xs env mem k z a c = constant_found (find sc n) z (env n) mem (a.each n) c
@@ -205,7 +205,7 @@ peeked_is : (e k : ℕ) (i : ℤ) (u : Term) (xs mem : List ℤ) → peeked e k 
 peeked_is e k (pos i) u xs mem h = ap (λ t. val t xs mem) (if_ok (nat_lt (k + i) e) (term.Input (k + i)) u (PeekRange (pos i) e) h).1
 peeked_is e k (negsuc i) u xs mem h = absurd (cc h)
 
-term_is : (e : ℕ) (sc : Scope) (t : Expression) (xs : List ℤ) (env : Values) (mem : List ℤ) (k : ℕ) (u : Term) → Agrees sc env mem → term_of e sc t k ≡ Ok u
+term_is : (e : ℕ) (sc : Scope) (t : Expression) (xs : List ℤ) (env : Store) (mem : List ℤ) (k : ℕ) (u : Term) → Agrees sc env mem → term_of e sc t k ≡ Ok u
     → eval t xs env k ≡ val u xs mem
 term_is e sc (tree.Number v) xs env mem k u a c = ap (λ t. val t xs mem) (ok_is (term.Const (pos v)) u c)
 term_is e sc (tree.Name n) xs env mem k u a c = named_is (find sc n) u (env n) xs mem (a.each n) c

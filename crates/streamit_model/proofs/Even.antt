@@ -7,7 +7,7 @@ use Rattle.streamit_text.specs.Tree.{Expression, Statement, Declare, Assign, Pus
 use Rattle.streamit_text.specs.Tree as tree
 use Rattle.brooklet_model.specs.Machine.{at_name}
 use Rattle.std.specs.Prelude.{pos}
-use Rattle.streamit_model.specs.Meaning.{Values, turns_between}
+use Rattle.streamit_model.specs.Meaning.{Store, turns_between}
 use Rattle.streamit_model.specs.Words.{ReadWord, Knows, Leaves, Uses, Fixes, Varies, Pops, Peeks, Bounds, Loops, Exits, Pushes, Otherwise, Joins, over, knows}
 use Rattle.streamit_model.specs.Words.{leaves, enters, exits, popped_in, pushed_in}
 use Rattle.streamit_model.specs.Text.{fixed, fixed_value, spelled, spelled_first, locals_of, with_end, turning, arms, read_of, all_read, optional_read}
@@ -29,7 +29,7 @@ even_fixed (tree.Neg t) = even_fixed t
 even_fixed (tree.Not t) = even_fixed t
 even_fixed (tree.Bin o l r) = even-append (fixed l) (fixed r) (even_fixed l) (even_fixed r)
 
-pub even_spelled : (t : Expression) (turns : Values) → IsEven (spelled t turns)
+pub even_spelled : (t : Expression) (turns : Store) → IsEven (spelled t turns)
 even_spelled (tree.Number v) turns = even_nil
 even_spelled (tree.Name m) turns = even_cons (Uses m) [] (λ n. (refl, refl)) even_nil
 even_spelled (tree.Peek t) turns =
@@ -39,7 +39,7 @@ even_spelled (tree.Neg t) turns = even_spelled t turns
 even_spelled (tree.Not t) turns = even_spelled t turns
 even_spelled (tree.Bin o l r) turns = even-append (spelled l turns) (spelled r turns) (even_spelled l turns) (even_spelled r turns)
 
-even_first : (t : Option Expression) (turns : Values) → IsEven (spelled_first t turns)
+even_first : (t : Option Expression) (turns : Store) → IsEven (spelled_first t turns)
 even_first None turns = even_nil
 even_first (Some t) turns = even_spelled t turns
 
@@ -62,7 +62,7 @@ even_enclosed b ws h n =
     let e0 = leaves_nothing (enters n) ns (λ m. refl) in let x0 = leaves_nothing (exits n) ns (λ m. refl) in
     (omega (arith, p, k, l, k0, l0), omega (arith, q, e, x, e0, x0))
 
-pub even_turns : (n : Name) (block : Values → List ReadWord) (vs : List ℕ) (turns : Values) → ((inner : Values) → IsEven (block inner))
+pub even_turns : (n : Name) (block : Store → List ReadWord) (vs : List ℕ) (turns : Store) → ((inner : Store) → IsEven (block inner))
     → IsEven (turning n block vs turns)
 even_turns n block [] turns h m = (refl, refl)
 even_turns n block (v ∷ vs) turns h m =
@@ -88,7 +88,7 @@ even_arms xs ys a b =
     (even-append ys (Joins p q p' q' ∷ []) b (even_cons (Joins p q p' q') [] (λ n. (refl, refl)) even_nil)))
 
 mutual
-  pub even_statement : (c : Statement) (turns : Values) → IsStatementEven (read_of c turns) c
+  pub even_statement : (c : Statement) (turns : Store) → IsStatementEven (read_of c turns) c
   even_statement (Declare m t) turns n b =
       let sf = spelled_first t turns in
       let p = (even_first t turns n).0 in let q = (even_first t turns n).1 in
@@ -117,7 +117,7 @@ mutual
       (even_cons (Bounds h) _ (λ n. (refl, refl)) inside)))) in
       let p = (even n).0 in let q = (even n).1 in (omega (arith, p), omega (arith, q))
 
-  pub even_all : (b : Block) (turns : Values) → IsBlockEven (all_read b turns) b
+  pub even_all : (b : Block) (turns : Store) → IsBlockEven (all_read b turns) b
   even_all End turns n = (refl, refl)
   even_all (Then c b) turns n =
       let s = (even_statement c turns n b).0 in let t = (even_statement c turns n b).1 in
@@ -126,10 +126,10 @@ mutual
       let e = over-append (enters n) (read_of c turns) (all_read b turns) in let x = over-append (exits n) (read_of c turns) (all_read b turns) in
       (omega (arith, s, p, k, l), omega (arith, t, q, e, x))
 
-  pub even_optional : (o : Optional) (turns : Values) → IsEven (optional_read o turns)
+  pub even_optional : (o : Optional) (turns : Store) → IsEven (optional_read o turns)
   even_optional Unwritten turns = even_nil
   even_optional (Written b) turns = even_enclosed b (all_read b turns) (even_all b turns)
 
 -- behind a block as much is known as before it
-pub even_block : (b : Block) (turns : Values) → IsEven (with_end b (all_read b turns))
+pub even_block : (b : Block) (turns : Store) → IsEven (with_end b (all_read b turns))
 even_block b turns = even_enclosed b (all_read b turns) (even_all b turns)

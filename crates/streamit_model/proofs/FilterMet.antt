@@ -17,7 +17,7 @@ use Rattle.river_plan.specs.Forms.{Name}
 use Rattle.river_plan.proofs.NameLemmas.{cases_name, name_same}
 use Rattle.brooklet_model.specs.Machine.{at_name}
 use Rattle.streamit_text.specs.Tree.{Block, End, Optional, Unwritten, Written}
-use Rattle.streamit_model.specs.Meaning.{Values, exec_all, State, exec_optional, push_of, pop_of, peek_of, nought, with_fields, at_start, initial, fires}
+use Rattle.streamit_model.specs.Meaning.{Store, exec_all, State, exec_optional, push_of, pop_of, peek_of, nought, with_fields, at_start, initial, fires}
 use Rattle.streamit_model.specs.Meaning.{or_work, runs_in, start_at, waits_for, looked_at, fires_from, pushed_by}
 use Rattle.streamit_model.specs.Elaborate.{Rates, Limit, on_ok, demand, Var, Scope, find, is_new, has_slot, At, steps_of, optional_of}
 use Rattle.streamit_text.specs.Program.{WorkTree, FilterTree}
@@ -84,7 +84,7 @@ fields_few (f ∷ fs) s s' h le = let p = field f fs s s' h in fields_few fs (ne
     below e = grind (arith, e)
 
 -- the fields have the values of their slots
-fields_agree : (fs : List Name) (kept : List ℤ) (s s' : At) (env : Values) (mem : List ℤ) → read_fields fs s ≡ Ok s' → length kept ≡ length fs
+fields_agree : (fs : List Name) (kept : List ℤ) (s s' : At) (env : Store) (mem : List ℤ) → read_fields fs s ≡ Ok s' → length kept ≡ length fs
     → ((i : ℕ) → i < length fs → slice_index_or mem (s.slots + i) (pos 0) ≡ slice_index_or kept i (pos 0)) → Agrees s.scope env mem
     → Agrees s'.scope (with_fields fs kept env) mem
 unfolding next
@@ -110,7 +110,7 @@ taken_one (z ∷ mem) zero n lt = refl
 taken_one (z ∷ mem) (suc k) n lt = taken_one mem k n (omega (arith, lt))
 
 -- what the fields have afterwards are the first slots
-fields_kept : (fs : List Name) (s s' : At) (sc : Scope) (env : Values) (mem : List ℤ) → read_fields fs s ≡ Ok s' → Keeps s'.scope sc → Agrees sc env mem
+fields_kept : (fs : List Name) (s s' : At) (sc : Scope) (env : Store) (mem : List ℤ) → read_fields fs s ≡ Ok s' → Keeps s'.scope sc → Agrees sc env mem
     → s.slots + length fs ≤ length mem → map env fs ≡ take (length fs) (drop s.slots mem)
 unfolding next
 fields_kept [] s s' sc env mem h k a le = refl
@@ -131,7 +131,7 @@ at_first [] ys i lt = absurd (omega (arith, lt))
 at_first (x ∷ xs) ys zero lt = refl
 at_first (x ∷ xs) ys (suc i) lt = at_first xs ys i (omega (arith, lt))
 
-no_scope : (env : Values) (mem : List ℤ) → Agrees [] env mem
+no_scope : (env : Store) (mem : List ℤ) → Agrees [] env mem
 no_scope env mem = record { each = λ n b f. absurd (cc f) }
 
 -- where nothing is known, all that is known has a slot

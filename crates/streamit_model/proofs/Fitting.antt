@@ -25,7 +25,7 @@ use Rattle.river_plan.specs.Limits.{most_of, port_numbers, kernel_numbers, nesti
 use Rattle.river_plan.proofs.NameLemmas.{one_same, more_or_zero}
 use Rattle.brooklet_model.specs.ByIndex.{cycle}
 use Rattle.streamit_model.specs.Unrolled.{Splitter, Duplicate, RoundRobin, IsSplitter, IsRound, IsSmallFilter, IsSmallRun, IsSmallFirst, IsSmallSplitter}
-use Rattle.streamit_model.specs.Build.{queue, queues, weights, splitter}
+use Rattle.streamit_model.specs.Plan.{queue, queues, weights, splitter}
 use Rattle.streamit_model.proofs.EachOp.{OfEach}
 
 -- THE VARIABLE

@@ -12,7 +12,7 @@ use Rattle.river_plan.specs.Names.{one_if, count, with_name}
 use Rattle.river_plan.specs.Uses.{total, writes_it, and_writes, ReadsBefore, all_writes, all_vars}
 use Rattle.river_plan.proofs.NameLemmas.{cases_name, count-append, one_same, more_or_zero, there_stays, all_new}
 use Rattle.river_plan.proofs.ShareLemmas.{total-vars}
-use Rattle.streamit_model.specs.Build.{is_own_queue, own_queues, ops_from}
+use Rattle.streamit_model.specs.Plan.{is_own_queue, own_queues, ops_from}
 use Rattle.streamit_model.specs.Laws.{PlansInTurn}
 use Rattle.streamit_model.proofs.OwnQueues.{kept, left, is-out, no-out, own_other}
 use Rattle.streamit_model.proofs.Valid.{valid, names_of}

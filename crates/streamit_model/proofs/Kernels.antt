@@ -16,7 +16,7 @@ use Rattle.brooklet_model.proofs.Feeds.{one_input}
 use Rattle.streamit_model.specs.Unrolled.{IsRound}
 use Rattle.brooklet_model.specs.ByIndex.{dealt, collected}
 use Rattle.streamit_model.specs.UnrolledFilters.{filtered}
-use Rattle.streamit_model.specs.Build.{weights}
+use Rattle.streamit_model.specs.Plan.{weights}
 use Rattle.streamit_model.specs.Laws.{as_items}
 use Rattle.river_kernels.proofs.WellFormed.{can_filter}
 use Rattle.streamit_model.proofs.FilterFed.{filter_fed}

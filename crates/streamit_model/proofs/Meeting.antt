@@ -4,35 +4,35 @@ use Rattle.std.proofs.Common.{append_assoc}
 use Rattle.std.specs.Prelude.{if◌then◌else◌, ℤ}
 use Rattle.std.proofs.lemmas.List.{append-nil}
 use Rattle.streamit_model.specs.Elaborate.{Fault, UnknownName, NameTwice, Rates, PeekRange, NotConstant, BranchRates, Limit, Weights, on_ok}
-use Rattle.streamit_text.specs.Program.{Declared}
+use Rattle.streamit_text.specs.Program.{UnitForm}
 use Rattle.streamit_model.specs.Words.{ReadWord}
 use Rattle.streamit_model.specs.Places.{Spot, Reads, each_word}
-use Rattle.streamit_model.specs.Faulty.{IsUnknown, IsTwice, AreRatesApart, IsOutside, IsVariable, AreArmsApart, IsOverLimit, AreWeightsWrong, HasFault, rank}
-use Rattle.streamit_model.specs.Faulty.{IsFirstFault}
+use Rattle.streamit_model.specs.Faults.{IsUnknown, IsTwice, AreRatesApart, IsOutside, IsVariable, AreArmsApart, IsOverLimit, AreWeightsWrong, HasFault, rank}
+use Rattle.streamit_model.specs.Faults.{IsFirstFault}
 
 -- the spot has no fault
-abbrev pub IsFree : List Declared → Spot → Type 0
+abbrev pub IsFree : List UnitForm → Spot → Type 0
 IsFree above s = (f : Fault) → HasFault above s f → ⊥
 
 -- places without a fault
-abbrev pub AllFree : List Declared → List Spot → Type 0
+abbrev pub AllFree : List UnitForm → List Spot → Type 0
 AllFree above [] = Unit {0}
 AllFree above (s ∷ ss) = IsFree above s × AllFree above ss
 
 -- it is the first fault of the first spot that has one
-abbrev pub FirstIn : List Declared → List Spot → Fault → Type 0
+abbrev pub FirstIn : List UnitForm → List Spot → Fault → Type 0
 FirstIn above [] f = ⊥
 FirstIn above (s ∷ ss) f = IsFirstFault above s f ⊎ (IsFree above s × FirstIn above ss f)
 
 -- what is read has no fault, or its first one
-abbrev pub Meets : {A : Type 0} → List Declared → List Spot → Result A Fault → (A → Type 0) → Type 0
+abbrev pub Meets : {A : Type 0} → List UnitForm → List Spot → Result A Fault → (A → Type 0) → Type 0
 Meets above ss (Ok x) P = AllFree above ss × P x
 Meets above ss (Err f) P = FirstIn above ss f
 
 -- ONE SPOT
 
 -- no row of the table holds there
-pub free : (above : List Declared) (s : Spot) → (IsUnknown above s → ⊥) → (IsTwice above s → ⊥) → ((d c : ℕ) → AreRatesApart d c s → ⊥)
+pub free : (above : List UnitForm) (s : Spot) → (IsUnknown above s → ⊥) → (IsTwice above s → ⊥) → ((d c : ℕ) → AreRatesApart d c s → ⊥)
     → ((i : ℤ) (r : ℕ) → IsOutside i r s → ⊥) → (IsVariable s → ⊥) → (AreArmsApart s → ⊥) → (IsOverLimit above s → ⊥) → (AreWeightsWrong s → ⊥)
     → IsFree above s
 free above s u t r p v a l w UnknownName h = u h
@@ -45,11 +45,11 @@ free above s u t r p v a l w Limit h = l h
 free above s u t r p v a l w Weights h = w h
 
 -- a fault that is told before all others
-pub first_twice : (above : List Declared) (s : Spot) → IsTwice above s → IsFirstFault above s NameTwice
+pub first_twice : (above : List UnitForm) (s : Spot) → IsTwice above s → IsFirstFault above s NameTwice
 first_twice above s h = record { has = h; first = λ g lt k. absurd (omega (arith, lt)) }
 
 -- an unknown name is told first, where no name is declared twice
-pub first_unknown : (above : List Declared) (s : Spot) → IsUnknown above s → (IsTwice above s → ⊥) → IsFirstFault above s UnknownName
+pub first_unknown : (above : List UnitForm) (s : Spot) → IsUnknown above s → (IsTwice above s → ⊥) → IsFirstFault above s UnknownName
 first_unknown above s h t = record { has = h; first = others }
   where
     others : (g : Fault) → rank g < 1 → HasFault above s g → ⊥
@@ -63,7 +63,7 @@ first_unknown above s h t = record { has = h; first = others }
     others BranchRates lt k = omega (arith, lt)
 
 -- what is no constant is told first, where no fault of names is
-pub first_variable : (above : List Declared) (s : Spot) → IsVariable s → (IsTwice above s → ⊥) → (IsUnknown above s → ⊥) → IsFirstFault above s NotConstant
+pub first_variable : (above : List UnitForm) (s : Spot) → IsVariable s → (IsTwice above s → ⊥) → (IsUnknown above s → ⊥) → IsFirstFault above s NotConstant
 first_variable above s h t u = record { has = h; first = others }
   where
     others : (g : Fault) → rank g < 2 → HasFault above s g → ⊥
@@ -77,7 +77,7 @@ first_variable above s h t u = record { has = h; first = others }
     others BranchRates lt k = omega (arith, lt)
 
 -- wrong weights are told first, where no fault of names or constants is
-pub first_weights : (above : List Declared) (s : Spot) → AreWeightsWrong s → (IsTwice above s → ⊥) → (IsUnknown above s → ⊥) → (IsVariable s → ⊥)
+pub first_weights : (above : List UnitForm) (s : Spot) → AreWeightsWrong s → (IsTwice above s → ⊥) → (IsUnknown above s → ⊥) → (IsVariable s → ⊥)
     → IsFirstFault above s Weights
 first_weights above s h t u v = record { has = h; first = others }
   where
@@ -92,7 +92,7 @@ first_weights above s h t u v = record { has = h; first = others }
     others BranchRates lt k = omega (arith, lt)
 
 -- an item out of reach is told first, where none of these is
-pub first_peek : (above : List Declared) (s : Spot) (i : ℤ) (e : ℕ) → IsOutside i e s → (IsTwice above s → ⊥) → (IsUnknown above s → ⊥) → (IsVariable s → ⊥)
+pub first_peek : (above : List UnitForm) (s : Spot) (i : ℤ) (e : ℕ) → IsOutside i e s → (IsTwice above s → ⊥) → (IsUnknown above s → ⊥) → (IsVariable s → ⊥)
     → (AreWeightsWrong s → ⊥) → IsFirstFault above s (PeekRange i e)
 first_peek above s i e h t u v w = record { has = h; first = others }
   where
@@ -107,7 +107,7 @@ first_peek above s i e h t u v w = record { has = h; first = others }
     others BranchRates lt k = omega (arith, lt)
 
 -- a limit is told first, where none of these is
-pub first_limit : (above : List Declared) (s : Spot) → IsOverLimit above s → (IsTwice above s → ⊥) → (IsUnknown above s → ⊥) → (IsVariable s → ⊥)
+pub first_limit : (above : List UnitForm) (s : Spot) → IsOverLimit above s → (IsTwice above s → ⊥) → (IsUnknown above s → ⊥) → (IsVariable s → ⊥)
     → (AreWeightsWrong s → ⊥) → ((i : ℤ) (e : ℕ) → IsOutside i e s → ⊥) → IsFirstFault above s Limit
 first_limit above s h t u v w p = record { has = h; first = others }
   where
@@ -122,7 +122,7 @@ first_limit above s h t u v w p = record { has = h; first = others }
     others BranchRates lt k = omega (arith, lt)
 
 -- rates apart are told first, where none of these is
-pub first_rates : (above : List Declared) (s : Spot) (d c : ℕ) → AreRatesApart d c s → (IsTwice above s → ⊥) → (IsUnknown above s → ⊥) → (IsVariable s → ⊥)
+pub first_rates : (above : List UnitForm) (s : Spot) (d c : ℕ) → AreRatesApart d c s → (IsTwice above s → ⊥) → (IsUnknown above s → ⊥) → (IsVariable s → ⊥)
     → (AreWeightsWrong s → ⊥) → ((i : ℤ) (e : ℕ) → IsOutside i e s → ⊥) → (IsOverLimit above s → ⊥) → IsFirstFault above s (Rates d c)
 first_rates above s d c h t u v w p l = record { has = h; first = others }
   where
@@ -137,7 +137,7 @@ first_rates above s d c h t u v w p l = record { has = h; first = others }
     others BranchRates lt k = omega (arith, lt)
 
 -- arms apart are told first, where nothing else is
-pub first_arms : (above : List Declared) (s : Spot) → AreArmsApart s → (IsTwice above s → ⊥) → (IsUnknown above s → ⊥) → (IsVariable s → ⊥)
+pub first_arms : (above : List UnitForm) (s : Spot) → AreArmsApart s → (IsTwice above s → ⊥) → (IsUnknown above s → ⊥) → (IsVariable s → ⊥)
     → (AreWeightsWrong s → ⊥) → ((i : ℤ) (e : ℕ) → IsOutside i e s → ⊥) → (IsOverLimit above s → ⊥) → ((d c : ℕ) → AreRatesApart d c s → ⊥)
     → IsFirstFault above s BranchRates
 first_arms above s h t u v w p l r = record { has = h; first = others }
@@ -154,7 +154,7 @@ first_arms above s h t u v w p l r = record { has = h; first = others }
 
 -- ONE AFTER ANOTHER
 
-module _ (above : List Declared) where
+module _ (above : List UnitForm) where
   free_join : (ss ts : List Spot) → AllFree above ss → AllFree above ts → AllFree above (ss ++ ts)
   free_join [] ts a b = b
   free_join (s ∷ ss) ts a b = (a.0, free_join ss ts a.1 b)

@@ -9,7 +9,7 @@ use Rattle.std.proofs.lemmas.Nat.{mod_below}
 use Rattle.std.proofs.lemmas.Bool.Decides.{nat_tests}
 use Rattle.std.proofs.lemmas.Bool.{and_from, le-leb}
 use Rattle.river_base.specs.Name.{is_letter, is_digit, is_word, is_name}
-use Rattle.streamit_model.specs.Build.{numbered}
+use Rattle.streamit_model.specs.Plan.{numbered}
 
 one_digit : (c : ℕ) → 48 ≤ c → c ≤ 57 → is_word c ≡ true
 unfolding is_word is_letter is_digit

@@ -11,7 +11,7 @@ use Rattle.river_base.specs.Name.{name_eq}
 use Rattle.river_plan.specs.Forms.{Name}
 use Rattle.river_plan.specs.Names.{one_if, count}
 use Rattle.river_plan.proofs.NameLemmas.{cases_name, one_small}
-use Rattle.streamit_model.specs.Build.{numbered, queue, queues}
+use Rattle.streamit_model.specs.Plan.{numbered, queue, queues}
 use Rattle.streamit_model.specs.Meaning.{numbers_from}
 
 -- the number that stands behind the last `@`; n is the number so far

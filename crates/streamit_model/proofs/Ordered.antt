@@ -6,7 +6,7 @@ use Rattle.river_plan.specs.Names.{one_if, count}
 use Rattle.river_plan.specs.Uses.{total, writes_it, AreAllKnown, and_writes, ReadsBefore}
 use Rattle.river_plan.proofs.NameLemmas.{cases_name, one_same, more_or_zero}
 use Rattle.streamit_model.specs.Unrolled.{Splitter, Duplicate, RoundRobin, Stream, Filter, Pipeline, SplitJoin, Streams, Last, Then, number_of}
-use Rattle.streamit_model.specs.Build.{numbered, queue, queues, ops_in, ops_of, queues_in, splitter, joiner, build, build_line, build_branches}
+use Rattle.streamit_model.specs.Plan.{numbered, queue, queues, ops_in, ops_of, queues_in, splitter, joiner, build, build_line, build_branches}
 use Rattle.streamit_model.proofs.Numbers.{queue_count}
 use Rattle.streamit_model.proofs.Counts.{writes, writes_branches, split_writes}
 

@@ -9,8 +9,8 @@ use Rattle.river_plan.specs.Names.{one_if, count}
 use Rattle.river_plan.specs.Uses.{total, writes_it, all_writes}
 use Rattle.river_plan.proofs.NameLemmas.{cases_name, count-append, name_sym}
 use Rattle.streamit_model.specs.Unrolled.{Splitter, Duplicate, RoundRobin, Stream, Filter, Pipeline, SplitJoin, Streams, Last, Then, number_of}
-use Rattle.streamit_model.specs.Build.{numbered, queue, queues, ops_in, ops_of, queues_in, queues_between, queues_within, splitter, joiner, build, build_line}
-use Rattle.streamit_model.specs.Build.{build_branches, is_own_queue}
+use Rattle.streamit_model.specs.Plan.{numbered, queue, queues, ops_in, ops_of, queues_in, queues_between, queues_within, splitter, joiner, build, build_line}
+use Rattle.streamit_model.specs.Plan.{build_branches, is_own_queue}
 
 pub length-queues : (n k : ℕ) → length (queues k n) ≡ n
 length-queues zero k = refl

@@ -13,12 +13,12 @@ use Rattle.brooklet_model.specs.ByIndex.{cycle, dealt, collected}
 use Rattle.streamit_model.specs.UnrolledMeans.{branch_input, outputs, in_line, side_by_side}
 use Rattle.streamit_model.specs.Elaborate.{Fault, Limit, Weights, on_ok, demand}
 use Rattle.streamit_model.specs.ElaborateFilter.{elaborated}
-use Rattle.streamit_model.specs.Build.{ops_in}
+use Rattle.streamit_model.specs.Plan.{ops_in}
 use Rattle.streamit_text.specs.Program.{Dealing, Copies, Turns, Body, AFilter, APipeline, ASplitJoin, Program}
 use Rattle.streamit_model.specs.Meaning.{weights_for, Works, look, or_same, known_works, piped, branched, branch_count, share_of, body_works, all_work, last_of}
 use Rattle.streamit_model.specs.Meaning.{program_outputs}
 use Rattle.streamit_model.specs.Shallow.{IsShallowBody, AreShallowUnits}
-use Rattle.streamit_model.specs.Judged.{Refusal, on_fine, in_unit, Streamed, found, stream_added, streams_added, any, branches, round_of, splitter_of, stream_of}
+use Rattle.streamit_model.specs.Judged.{Refusal, on_fine, in_unit, Streamed, found_stream, stream_added, streams_added, any, branches, round_of, splitter_of, stream_of}
 use Rattle.streamit_model.specs.Judged.{not_there, unit_of, all_streams, few_operators, judged}
 use Rattle.streamit_model.proofs.Elaborated.{fine, ok_is, ok_parts, demanded}
 use Rattle.streamit_model.proofs.FilterMet.{filter_met}
@@ -36,7 +36,7 @@ AllFit [] (e ∷ es) = ⊥
 AllFit (k ∷ ks) [] = ⊥
 AllFit (k ∷ ks) (e ∷ es) = (k.0 ≡ e.0) × Fits k.1 e.1 × AllFit ks es
 
-found_is : (o : Option Stream) (s : Stream) → found o ≡ Ok s → o ≡ Some s
+found_is : (o : Option Stream) (s : Stream) → found_stream o ≡ Ok s → o ≡ Some s
 found_is None s h = absurd (cc h)
 found_is (Some t) s h = ap Some (ok_is t s h)
 
@@ -63,9 +63,9 @@ record AddsFit (ss : Streams) (env : List (Name × Works)) (n : Name) (ms : List
 added_is : (may : ℕ → Bool) (known : Streamed) (i : ℕ) (n : Name) (s : Stream) → stream_added may known i n ≡ Ok s → (may i ≡ true) × (look known n ≡ Some s)
 added_is may known i n s h =
     let f2 = λ (s : Stream). on_ok (demand (nat_lt (nesting s) 64) Limit) (λ v. fine s) in
-    let f1 = λ (u : Unit {0}). on_ok (found (look known n)) f2 in
+    let f1 = λ (u : Unit {0}). on_ok (found_stream (look known n)) f2 in
     let p = ok_parts (demand (may i) Limit) f1 s h in
-    let q = ok_parts (found (look known n)) f2 s p.2 in
+    let q = ok_parts (found_stream (look known n)) f2 s p.2 in
     let r = ok_parts (demand (nat_lt (nesting q.0) 64) Limit) (λ v. fine q.0) s q.2 in
     (demanded (may i) Limit p.0 p.1, found_is (look known n) s (q.1 ∙ ap fine (ok_is q.0 s r.2)))
 

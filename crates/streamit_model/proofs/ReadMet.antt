@@ -11,11 +11,11 @@ use Rattle.work_code.specs.Steps as steps
 use Rattle.river_plan.specs.Forms.{Name}
 use Rattle.streamit_text.specs.Tree.{Expression, Statement, Declare, Assign, Push, Discard, If, For, Block, End, Then, Optional, Unwritten, Written}
 use Rattle.brooklet_model.specs.Machine.{at_name}
-use Rattle.streamit_model.specs.Meaning.{Values, pops, numbers_from, turns_between}
+use Rattle.streamit_model.specs.Meaning.{Store, pops, numbers_from, turns_between}
 use Rattle.streamit_model.specs.Elaborate.{Fault, BranchRates, Limit, on_ok, KnownName, Var, Turn, find, constant, term_of, At, counted, has_slot, is_new, slot_of}
 use Rattle.streamit_model.specs.Elaborate.{bound_of, first_term, first_popped, Read, declared, after_arms, unrolled, step_of, steps_of}
 use Rattle.streamit_model.specs.Elaborate.{optional_of}
-use Rattle.streamit_text.specs.Program.{Declared}
+use Rattle.streamit_text.specs.Program.{UnitForm}
 use Rattle.streamit_model.specs.Words.{ReadWord, Begins, Declares, Knows, Leaves, Sets, Drops, Bounds, Loops, Enters, Exits, Pushes, Otherwise, Joins, knows}
 use Rattle.streamit_model.specs.Words.{leaves, enters, exits, takes, begins_one, pops_one, pushes_one, pops_beside, pushes_beside, popped_in, pushed_in}
 use Rattle.streamit_model.specs.Text.{fixed, fixed_value, spelled, spelled_first, locals_of, with_end, turning, arms, read_of, all_read, optional_read}
@@ -37,7 +37,7 @@ other_numbers a b c d h e = let x = e.0 in let y = e.1 in grind (arith, x, y, h)
 pub regroup : (before : List ReadWord) (w : ReadWord) (ws : List ReadWord) → (before ++ w ∷ []) ++ ws ≡ before ++ w ∷ ws
 regroup before w ws = append_assoc before (w ∷ []) ws
 
-module _ (above : List Declared) (e : ℕ) where
+module _ (above : List UnitForm) (e : ℕ) where
   -- WORDS THAT ARE ALWAYS RIGHT
 
   -- where a name becomes known there is no fault
@@ -68,7 +68,7 @@ module _ (above : List Declared) (e : ℕ) where
 
   -- ONE CHECK, AND WHAT COMES THEN
 
-  begins_met : {B : Type 0} (before ws : List ReadWord) (s : At) (turns : Values) (g : At → Result B Fault) (Q : B → Type 0) → Stands before s turns
+  begins_met : {B : Type 0} (before ws : List ReadWord) (s : At) (turns : Store) (g : At → Result B Fault) (Q : B → Type 0) → Stands before s turns
       → (Stands (before ++ Begins ∷ []) (record s { size = s.size + 1 }) turns → Meets above (each_word e (before ++ Begins ∷ []) ws)
       (g (record s { size = s.size + 1 })) Q)
       → Meets above (each_word e before (Begins ∷ ws)) (on_ok (counted s) g) Q
@@ -86,7 +86,7 @@ module _ (above : List Declared) (e : ℕ) where
       (λ f. let le = ltb-false s.size 16384 f in inl (first_limit above spot (omega (arith, le, z)) (λ h. h) (λ h. h) (λ h. h) (λ h. h) (λ i r h. h)))
 
   -- where a name is declared, reading tells what the table has
-  pub declares_met : {B : Type 0} (before ws : List ReadWord) (s : At) (turns : Values) (n : Name) (o : Option KnownName) (r : Result B Fault) (Q : B → Type 0)
+  pub declares_met : {B : Type 0} (before ws : List ReadWord) (s : At) (turns : Store) (n : Name) (o : Option KnownName) (r : Result B Fault) (Q : B → Type 0)
       → find s.scope n ≡ o
       → Stands before s turns
       → (find s.scope n ≡ None → Stands (before ++ Declares n ∷ []) s turns → Meets above (each_word e (before ++ Declares n ∷ []) ws) r Q)
@@ -106,7 +106,7 @@ module _ (above : List Declared) (e : ℕ) where
       (k f (unmoved before (Declares n) s turns h (λ m. (refl, refl)) refl refl refl refl refl refl)))
       (λ t. let le = ltb-false s.slots 256 t in inl (first_limit above spot (omega (arith, le, z)) new (λ h. h) (λ h. h) (λ h. h) (λ i r h. h)))
 
-  loops_met : {B : Type 0} (before ws : List ReadWord) (s : At) (turns : Values) (n : Name) (o : Option KnownName) (r : Result B Fault) (Q : B → Type 0)
+  loops_met : {B : Type 0} (before ws : List ReadWord) (s : At) (turns : Store) (n : Name) (o : Option KnownName) (r : Result B Fault) (Q : B → Type 0)
       → find s.scope n ≡ o
       → Stands before s turns
       → (find s.scope n ≡ None → Stands (before ++ Loops n ∷ []) s turns → Meets above (each_word e (before ++ Loops n ∷ []) ws) r Q)
@@ -119,7 +119,7 @@ module _ (above : List Declared) (e : ℕ) where
       (free above spot (λ h. h) (none_known before s.scope turns n f (h.names n)) (λ d c h. h) (λ i r h. h) (λ h. h) (λ h. h) (λ h. h) (λ h. h), tt)
       (k f (unmoved before (Loops n) s turns h (λ m. (refl, refl)) refl refl refl refl refl refl))
 
-  sets_met : {B : Type 0} (before ws : List ReadWord) (s : At) (turns : Values) (n : Name) (o : Option KnownName) (g : ℕ → Result B Fault) (Q : B → Type 0)
+  sets_met : {B : Type 0} (before ws : List ReadWord) (s : At) (turns : Store) (n : Name) (o : Option KnownName) (g : ℕ → Result B Fault) (Q : B → Type 0)
       → find s.scope n ≡ o
       → Stands before s turns → ((i : ℕ) → Stands (before ++ Sets n ∷ []) s turns → Meets above (each_word e (before ++ Sets n ∷ []) ws) (g i) Q)
       → Meets above (each_word e before (Sets n ∷ ws)) (on_ok (slot_of o) g) Q
@@ -135,7 +135,7 @@ module _ (above : List Declared) (e : ℕ) where
       (free above spot (λ h. h (inl l.0)) (λ h. h) (λ d c h. h) (λ i r h. h) (λ h. l.1 h) (λ h. h) (λ h. h) (λ h. h), tt)
       (k i (unmoved before (Sets n) s turns h (λ m. (refl, refl)) refl refl refl refl refl refl))
 
-  bounds_at : {B : Type 0} (before ws : List ReadWord) (s : At) (turns : Values) (x : ℤ) (g : ℕ → Result B Fault) (Q : B → Type 0) → Stands before s turns
+  bounds_at : {B : Type 0} (before ws : List ReadWord) (s : At) (turns : Store) (x : ℤ) (g : ℕ → Result B Fault) (Q : B → Type 0) → Stands before s turns
       → ((l : ℕ) → x ≡ pos l → Stands (before ++ Bounds x ∷ []) s turns → Meets above (each_word e (before ++ Bounds x ∷ []) ws) (g l) Q)
       → Meets above (each_word e before (Bounds x ∷ ws)) (on_ok (bound_of x) g) Q
   bounds_at before ws s turns (pos m) g Q h k =
@@ -156,24 +156,24 @@ module _ (above : List Declared) (e : ℕ) where
   -- WHAT WAS READ
 
   -- behind these words, and no pop or push is taken back
-  pub record Went (before ws : List ReadWord) (s : At) (turns : Values) (y : Steps × At) : Type 0 where
+  pub record Went (before ws : List ReadWord) (s : At) (turns : Store) (y : Steps × At) : Type 0 where
     pub stands : Stands (before ++ ws) y.1 turns
     pub popped : s.popped ≤ y.1.popped
     pub pushed : s.pushed ≤ y.1.pushed
 
   -- the same of a block with its end, behind which the names are those before it
-  pub record Within (before ws : List ReadWord) (s : At) (turns : Values) (y : Steps × At) : Type 0 where
+  pub record Within (before ws : List ReadWord) (s : At) (turns : Store) (y : Steps × At) : Type 0 where
     pub stands : Stands (before ++ ws) (record y.1 { scope = s.scope }) turns
     pub popped : s.popped ≤ y.1.popped
     pub pushed : s.pushed ≤ y.1.pushed
 
-  went_by : (before xs ys : List ReadWord) (s : At) (turns : Values) (y : Steps × At) → xs ≡ before ++ ys → Stands xs y.1 turns → s.popped ≤ y.1.popped
+  went_by : (before xs ys : List ReadWord) (s : At) (turns : Store) (y : Steps × At) → xs ≡ before ++ ys → Stands xs y.1 turns → s.popped ≤ y.1.popped
       → s.pushed ≤ y.1.pushed → Went before ys s turns y
   went_by before xs ys s turns y eq h a b = record { stands = regrouped xs (before ++ ys) y.1 turns eq h; popped = a; pushed = b }
 
   -- DECLARATIONS, ASSIGNMENTS, PUSHES
 
-  declare_met : (n : Name) (t : Option Expression) (before : List ReadWord) (s : At) (turns : Values) → e ≤ 65536 → Stands before s turns
+  declare_met : (n : Name) (t : Option Expression) (before : List ReadWord) (s : At) (turns : Store) → e ≤ 65536 → Stands before s turns
       → Meets above (each_word e before (read_of (Declare n t) turns)) (step_of e (Declare n t) s) (Went before (read_of (Declare n t) turns) s turns)
   declare_met n t before s turns small h =
       let sf = spelled_first t turns in
@@ -194,7 +194,7 @@ module _ (above : List Declared) (e : ℕ) where
             (omega arith) (omega arith),
       ))))
 
-  assign_met : (n : Name) (t : Expression) (before : List ReadWord) (s : At) (turns : Values) → e ≤ 65536 → Stands before s turns
+  assign_met : (n : Name) (t : Expression) (before : List ReadWord) (s : At) (turns : Store) → e ≤ 65536 → Stands before s turns
       → Meets above (each_word e before (read_of (Assign n t) turns)) (step_of e (Assign n t) s) (Went before (read_of (Assign n t) turns) s turns)
   assign_met n t before s turns small h =
       let sp = spelled t turns in
@@ -212,7 +212,7 @@ module _ (above : List Declared) (e : ℕ) where
       (λ v f. went_by before (b2 ++ sp) (read_of (Assign n t) turns) s turns (one_step (steps.Set i v), record o { popped = o.popped + pops t })
       (regroup b1 (Sets n) sp ∙ regroup before Begins (Sets n ∷ sp)) f (omega arith) (omega arith))))
 
-  push_met : (t : Expression) (before : List ReadWord) (s : At) (turns : Values) → e ≤ 65536 → Stands before s turns
+  push_met : (t : Expression) (before : List ReadWord) (s : At) (turns : Store) → e ≤ 65536 → Stands before s turns
       → Meets above (each_word e before (read_of (Push t) turns)) (step_of e (Push t) s) (Went before (read_of (Push t) turns) s turns)
   push_met t before s turns small h =
       let sp = spelled t turns in
@@ -235,7 +235,7 @@ module _ (above : List Declared) (e : ℕ) where
             (omega arith) (omega arith),
       )))
 
-  drop_met : (before : List ReadWord) (s : At) (turns : Values) → Stands before s turns
+  drop_met : (before : List ReadWord) (s : At) (turns : Store) → Stands before s turns
       → Meets above (each_word e before (read_of Discard turns)) (step_of e Discard s) (Went before (read_of Discard turns) s turns)
   drop_met before s turns h = (
     (drops_free before, tt),
@@ -250,7 +250,7 @@ module _ (above : List Declared) (e : ℕ) where
   -- ARMS
 
   -- where the second arm begins
-  second_stands : (before ws : List ReadWord) (s t : At) (turns : Values) → IsEven ws → Stands before s turns
+  second_stands : (before ws : List ReadWord) (s t : At) (turns : Store) → IsEven ws → Stands before s turns
       → Stands (before ++ ws) (record t { scope = s.scope }) turns
       → s.popped ≤ t.popped → s.pushed ≤ t.pushed
       → Stands ((before ++ ws) ++ Otherwise (popped_in ws) (pushed_in ws) ∷ []) (record s { slots = t.slots; size = t.size }) turns
@@ -274,21 +274,21 @@ module _ (above : List Declared) (e : ℕ) where
       }
 
   -- what an arm pops
-  arm_pops : (before ws : List ReadWord) (s t : At) (turns : Values) → Stands before s turns → Stands (before ++ ws) t turns
+  arm_pops : (before ws : List ReadWord) (s t : At) (turns : Store) → Stands before s turns → Stands (before ++ ws) t turns
       → popped_in ws ≡ t.popped - s.popped
   arm_pops before ws s t turns h g =
       let c = g.counts.pops_are in let d = h.counts.pops_are in
       let u = over-append pops_one before ws in let v = over-append pops_beside before ws in
       omega (arith, c, d, u, v)
 
-  arm_pushes : (before ws : List ReadWord) (s t : At) (turns : Values) → Stands before s turns → Stands (before ++ ws) t turns
+  arm_pushes : (before ws : List ReadWord) (s t : At) (turns : Store) → Stands before s turns → Stands (before ++ ws) t turns
       → pushed_in ws ≡ t.pushed - s.pushed
   arm_pushes before ws s t turns h g =
       let c = g.counts.pushes_are in let d = h.counts.pushes_are in
       let u = over-append pushes_one before ws in let v = over-append pushes_beside before ws in
       omega (arith, c, d, u, v)
 
-  joins_met : (before : List ReadWord) (s : At) (turns : Values) (c : Term) (p q : Steps × At) (a b a' b' : ℕ) (Q : Steps × At → Type 0)
+  joins_met : (before : List ReadWord) (s : At) (turns : Store) (c : Term) (p q : Steps × At) (a b a' b' : ℕ) (Q : Steps × At → Type 0)
       → (a ≡ a' → p.1.popped ≡ q.1.popped) → (p.1.popped ≡ q.1.popped → a ≡ a') → (b ≡ b' → p.1.pushed ≡ q.1.pushed) → (p.1.pushed ≡ q.1.pushed → b ≡ b')
       → Q (one_step (steps.If c p.0 q.0), record q.1 { scope = s.scope })
       → Meets above (Reads e before (Joins a b a' b') ∷ []) (after_arms s c p q) Q
@@ -307,13 +307,13 @@ module _ (above : List Declared) (e : ℕ) where
 
   -- TURNS
 
-  abbrev pub IsRead : (Values → List ReadWord) → (At → Read) → Type 0
+  abbrev pub IsRead : (Store → List ReadWord) → (At → Read) → Type 0
   IsRead block f =
-      (before : List ReadWord) (s : At) (turns : Values) → Stands before s turns → Meets above (each_word e before (block turns)) (f s)
+      (before : List ReadWord) (s : At) (turns : Store) → Stands before s turns → Meets above (each_word e before (block turns)) (f s)
       (Within before (block turns) s turns)
 
-  turns_met : (block : Values → List ReadWord) (f : At → Read) → IsRead block f → ((inner : Values) → IsEven (block inner)) → (n : Name) (vs : List ℕ)
-      → (before : List ReadWord) (s : At) (turns : Values) → find s.scope n ≡ None → Stands before s turns
+  turns_met : (block : Store → List ReadWord) (f : At → Read) → IsRead block f → ((inner : Store) → IsEven (block inner)) → (n : Name) (vs : List ℕ)
+      → (before : List ReadWord) (s : At) (turns : Store) → find s.scope n ≡ None → Stands before s turns
       → Meets above (each_word e before (turning n block vs turns)) (unrolled f n vs s) (Went before (turning n block vs turns) s turns)
   turns_met block f reads even n [] before s turns new h =
       (tt, record { stands = regrouped before (before ++ []) s turns (sym (append-nil before)) h; popped = omega arith; pushed = omega arith })
@@ -366,7 +366,7 @@ module _ (above : List Declared) (e : ℕ) where
   -- STATEMENTS AND BLOCKS
 
   -- a block that was read, with its end
-  block_by : (b : Block) (before : List ReadWord) (s : At) (turns : Values) → Stands before s turns
+  block_by : (b : Block) (before : List ReadWord) (s : At) (turns : Store) → Stands before s turns
       → Meets above (each_word e before (all_read b turns)) (steps_of e b s) (Went before (all_read b turns) s turns)
       → Meets above (each_word e before (with_end b (all_read b turns))) (steps_of e b s) (Within before (with_end b (all_read b turns)) s turns)
   block_by b before s turns h m =
@@ -389,7 +389,7 @@ module _ (above : List Declared) (e : ℕ) where
         pushed = w.pushed;
       })
 
-  then_met : (xs ys : List ReadWord) (r : Read) (g : At → Read) (before : List ReadWord) (s : At) (turns : Values)
+  then_met : (xs ys : List ReadWord) (r : Read) (g : At → Read) (before : List ReadWord) (s : At) (turns : Store)
       → Meets above (each_word e before xs) r (Went before xs s turns)
       → ((b : List ReadWord) (t : At) → Stands b t turns → Meets above (each_word e b ys) (g t) (Went b ys t turns))
       → Meets above (each_word e before (xs ++ ys)) (on_ok r (λ p. on_ok (g p.1) (λ q. Ok (both_steps p.0 q.0, q.1)))) (Went before (xs ++ ys) s turns)
@@ -403,7 +403,7 @@ module _ (above : List Declared) (e : ℕ) where
       went_by before ((before ++ xs) ++ ys) (xs ++ ys) s turns (both_steps p.0 q.0, q.1) (append_assoc before xs ys) z.stands (omega (arith, wp, zp))
       (omega (arith, wq, zq))))
 
-  if_met : (t : Expression) (a : Block) (b : Optional) (before : List ReadWord) (s : At) (turns : Values) → e ≤ 65536 → Stands before s turns
+  if_met : (t : Expression) (a : Block) (b : Optional) (before : List ReadWord) (s : At) (turns : Store) → e ≤ 65536 → Stands before s turns
       → ((x : List ReadWord) (u : At) → Stands x u turns → Meets above (each_word e x (all_read a turns)) (steps_of e a u) (Went x (all_read a turns) u turns))
       → ((x : List ReadWord) (u : At) → Stands x u turns → Meets above (each_word e x (optional_read b turns)) (optional_of e b u)
       (Within x (optional_read b turns) u turns))
@@ -452,9 +452,9 @@ module _ (above : List Declared) (e : ℕ) where
       (unmoved b5 J (record q.1 { scope = s.scope }) turns z.stands (λ n. (refl, refl)) refl refl refl refl refl refl)
       (omega (arith, zp)) (omega (arith, zq))))))))
 
-  for_met : (n : Name) (low : Expression) (upto : Bool) (high : Expression) (b : Block) (before : List ReadWord) (s : At) (turns : Values)
+  for_met : (n : Name) (low : Expression) (upto : Bool) (high : Expression) (b : Block) (before : List ReadWord) (s : At) (turns : Store)
       → Stands before s turns
-      → ((x : List ReadWord) (u : At) (inner : Values) → Stands x u inner → Meets above (each_word e x (all_read b inner)) (steps_of e b u)
+      → ((x : List ReadWord) (u : At) (inner : Store) → Stands x u inner → Meets above (each_word e x (all_read b inner)) (steps_of e b u)
       (Went x (all_read b inner) u inner))
       → Meets above (each_word e before (read_of (For n low upto high b) turns)) (step_of e (For n low upto high b) s)
       (Went before (read_of (For n low upto high b) turns) s turns)
@@ -463,7 +463,7 @@ module _ (above : List Declared) (e : ℕ) where
       let fh = fixed high in
       let lv = fixed_value low turns in
       let hv = fixed_value high turns in
-      let block = λ (inner : Values). with_end b (all_read b inner) in
+      let block = λ (inner : Store). with_end b (all_read b inner) in
       let T = turning n block (turns_between lv upto hv) turns in
       let b1 = before ++ Loops n ∷ [] in
       let b2 = b1 ++ fl in
@@ -497,7 +497,7 @@ module _ (above : List Declared) (e : ℕ) where
       w.stands w.popped w.pushed)))))))))
 
   mutual
-    pub statement_met : (c : Statement) (before : List ReadWord) (s : At) (turns : Values) → e ≤ 65536 → Stands before s turns
+    pub statement_met : (c : Statement) (before : List ReadWord) (s : At) (turns : Store) → e ≤ 65536 → Stands before s turns
         → Meets above (each_word e before (read_of c turns)) (step_of e c s) (Went before (read_of c turns) s turns)
     statement_met (Declare n t) before s turns small h = declare_met n t before s turns small h
     statement_met (Assign n t) before s turns small h = assign_met n t before s turns small h
@@ -509,7 +509,7 @@ module _ (above : List Declared) (e : ℕ) where
         for_met n low upto high b before s turns h (λ x u inner st. all_met b x u inner small st)
 
     -- reading a block tells the first fault of its words, or goes on behind them
-    pub all_met : (b : Block) (before : List ReadWord) (s : At) (turns : Values) → e ≤ 65536 → Stands before s turns
+    pub all_met : (b : Block) (before : List ReadWord) (s : At) (turns : Store) → e ≤ 65536 → Stands before s turns
         → Meets above (each_word e before (all_read b turns)) (steps_of e b s) (Went before (all_read b turns) s turns)
     all_met End before s turns small h =
         (tt, record { stands = regrouped before (before ++ []) s turns (sym (append-nil before)) h; popped = omega arith; pushed = omega arith })
@@ -518,7 +518,7 @@ module _ (above : List Declared) (e : ℕ) where
         (λ x u st. all_met b x u turns small st)
 
     -- and so does reading one that may be left out
-    pub optional_met : (o : Optional) (before : List ReadWord) (s : At) (turns : Values) → e ≤ 65536 → Stands before s turns
+    pub optional_met : (o : Optional) (before : List ReadWord) (s : At) (turns : Store) → e ≤ 65536 → Stands before s turns
         → Meets above (each_word e before (optional_read o turns)) (optional_of e o s) (Within before (optional_read o turns) s turns)
     optional_met Unwritten before s turns small h =
         (tt, record { stands = regrouped before (before ++ []) s turns (sym (append-nil before)) h; popped = omega arith; pushed = omega arith })

@@ -4,13 +4,13 @@ use Rattle.std.proofs.Common.{nat_le, Bool, true, false}
 use Rattle.std.specs.List.{AllByRecursion}
 use Rattle.std.proofs.lemmas.Bool.{cases_lt, leb-true, leb-false}
 use Rattle.streamit_model.specs.Unrolled.{Stream}
-use Rattle.streamit_model.specs.Build.{ops_in}
+use Rattle.streamit_model.specs.Plan.{ops_in}
 use Rattle.streamit_model.specs.Elaborate.{Fault, UnknownName, NameTwice, Rates, PeekRange, NotConstant, BranchRates, Limit, Weights, demand}
-use Rattle.streamit_text.specs.Program.{Declared, Program}
+use Rattle.streamit_text.specs.Program.{UnitForm, Program}
 use Rattle.streamit_model.specs.Judged.{Streamed, Refusal, on_fine, in_unit, unit_of, all_streams, few_operators, judged}
 use Rattle.streamit_model.specs.Words.{Peeks}
 use Rattle.streamit_model.specs.Places.{Spot, Reads, Rated, Counts, Finishes, Place, place_of_spot, places_behind, places_of, unit_spots, last_operators}
-use Rattle.streamit_model.specs.Faulty.{AreRatesApart, IsOutside, HasFault, rank, IsFirstFault, IsRight, RefusalsAre, AcceptedAre}
+use Rattle.streamit_model.specs.Faults.{AreRatesApart, IsOutside, HasFault, rank, IsFirstFault, IsFaultless, RefusalsAre, AcceptedAre}
 use Rattle.streamit_model.proofs.Meeting.{AllFree, FirstIn, Meets, free, first_limit}
 use Rattle.streamit_model.proofs.UnitMet.{LastIs, KnowsAbove, one_more, IsBodyAs, unit_met}
 
@@ -25,7 +25,7 @@ same_peeks : (i : ℤ) (e : ℕ) (i' : ℤ) (e' : ℕ) (s : Spot) → IsOutside 
 same_peeks i e i' e' (Reads peek before (Peeks j)) h g = ap (λ x. PeekRange x e) (h.1 ∙ sym g.1) ∙ ap (PeekRange i') (h.2 ∙ sym g.2)
 same_peeks i e i' e' s h g = absurd h
 
-same_rank : (above : List Declared) (s : Spot) (f g : Fault) → rank f ≡ rank g → HasFault above s f → HasFault above s g → f ≡ g
+same_rank : (above : List UnitForm) (s : Spot) (f g : Fault) → rank f ≡ rank g → HasFault above s f → HasFault above s g → f ≡ g
 same_rank above s UnknownName UnknownName r h g = refl
 same_rank above s UnknownName NameTwice r h g = absurd (omega (arith, r))
 same_rank above s UnknownName (Rates d' c') r h g = absurd (omega (arith, r))
@@ -91,7 +91,7 @@ same_rank above s Weights BranchRates r h g = absurd (omega (arith, r))
 same_rank above s Weights Limit r h g = absurd (omega (arith, r))
 same_rank above s Weights Weights r h g = refl
 
-same_fault : (above : List Declared) (s : Spot) (f g : Fault) → IsFirstFault above s f → IsFirstFault above s g → f ≡ g
+same_fault : (above : List UnitForm) (s : Spot) (f g : Fault) → IsFirstFault above s f → IsFirstFault above s g → f ≡ g
 same_fault above s f g h k = ⊎_elim
     (λ lt. absurd (k.first f lt h.has))
     (λ le. ⊎_elim
@@ -104,13 +104,13 @@ same_fault above s f g h k = ⊎_elim
 
 abbrev FirstPlace : List Place → Refusal → Type 0
 FirstPlace [] r = ⊥
-FirstPlace (p ∷ ps) r = (IsFirstFault p.above p.spot r.fault × (r.unit ≡ p.unit)) ⊎ (IsRight p × FirstPlace ps r)
+FirstPlace (p ∷ ps) r = (IsFirstFault p.above p.spot r.fault × (r.unit ≡ p.unit)) ⊎ (IsFaultless p × FirstPlace ps r)
 
 abbrev Told : {A : Type 0} → List Place → Result A Refusal → Type 0
-Told ps (Ok x) = AllByRecursion IsRight ps
+Told ps (Ok x) = AllByRecursion IsFaultless ps
 Told ps (Err r) = FirstPlace ps r
 
-right_join : (ps qs : List Place) → AllByRecursion IsRight ps → AllByRecursion IsRight qs → AllByRecursion IsRight (ps ++ qs)
+right_join : (ps qs : List Place) → AllByRecursion IsFaultless ps → AllByRecursion IsFaultless qs → AllByRecursion IsFaultless (ps ++ qs)
 right_join [] qs a b = b
 right_join (p ∷ ps) qs a b = (a.0, right_join ps qs a.1 b)
 
@@ -119,19 +119,19 @@ first_front [] qs r h = absurd h
 first_front (p ∷ ps) qs r (inl h) = inl h
 first_front (p ∷ ps) qs r (inr h) = inr (h.0, first_front ps qs r h.1)
 
-first_back : (ps qs : List Place) (r : Refusal) → AllByRecursion IsRight ps → FirstPlace qs r → FirstPlace (ps ++ qs) r
+first_back : (ps qs : List Place) (r : Refusal) → AllByRecursion IsFaultless ps → FirstPlace qs r → FirstPlace (ps ++ qs) r
 first_back [] qs r a h = h
 first_back (p ∷ ps) qs r a h = inr (a.0, first_back ps qs r a.1 h)
 
-behind : {A : Type 0} (ps qs : List Place) (r : Result A Refusal) → AllByRecursion IsRight ps → Told qs r → Told (ps ++ qs) r
+behind : {A : Type 0} (ps qs : List Place) (r : Result A Refusal) → AllByRecursion IsFaultless ps → Told qs r → Told (ps ++ qs) r
 behind ps qs (Ok x) a h = right_join ps qs a h
 behind ps qs (Err r) a h = first_back ps qs r a h
 
-right_map : (k : ℕ) (above : List Declared) (ss : List Spot) → AllFree above ss → AllByRecursion IsRight (map (place_of_spot k above) ss)
+right_map : (k : ℕ) (above : List UnitForm) (ss : List Spot) → AllFree above ss → AllByRecursion IsFaultless (map (place_of_spot k above) ss)
 right_map k above [] h = tt
 right_map k above (s ∷ ss) h = (h.0, right_map k above ss h.1)
 
-first_map : (k : ℕ) (above : List Declared) (ss : List Spot) (f : Fault) → FirstIn above ss f
+first_map : (k : ℕ) (above : List UnitForm) (ss : List Spot) (f : Fault) → FirstIn above ss f
     → FirstPlace (map (place_of_spot k above) ss) (record { unit = k; fault = f })
 first_map k above [] f h = absurd h
 first_map k above (s ∷ ss) f (inl h) = inl (h, refl)
@@ -146,7 +146,7 @@ fine x = Ok x
 abbrev ends : ℕ → Streamed → Result Streamed Refusal
 ends n known = in_unit n (few_operators known) (λ u. Ok known)
 
-finishes : (k n : ℕ) (above : List Declared) (known : Streamed) → n ≡ k → LastIs known (last_operators above)
+finishes : (k n : ℕ) (above : List UnitForm) (known : Streamed) → n ≡ k → LastIs known (last_operators above)
     → Told (place_of_spot k above Finishes ∷ []) (ends n known)
 finishes k n above [] same h =
     (free above Finishes (λ h. h) (λ h. h) (λ d c h. h) (λ i r h. h) (λ h. h) (λ h. h) (λ x. omega (arith, h, x)) (λ h. h), tt)
@@ -156,13 +156,13 @@ finishes k n above (e ∷ known) same h = by_test (nat_le (ops_in e.1) 256)
     (λ f. let lt = leb-false (ops_in e.1) 256 f in
     inl (first_limit above Finishes (omega (arith, h, lt)) (λ h. h) (λ h. h) (λ h. h) (λ h. h) (λ i r h. h), same))
   where
-    by_test : (b : Bool) → (b ≡ true → AllByRecursion IsRight (place_of_spot k above Finishes ∷ []))
+    by_test : (b : Bool) → (b ≡ true → AllByRecursion IsFaultless (place_of_spot k above Finishes ∷ []))
         → (b ≡ false → FirstPlace (place_of_spot k above Finishes ∷ []) (record { unit = n; fault = Limit }))
         → Told (place_of_spot k above Finishes ∷ []) (in_unit n (demand b Limit) (λ u. fine (e ∷ known)))
     by_test true good bad = good refl
     by_test false good bad = bad refl
 
-unit_told : (k n : ℕ) (above : List Declared) (known : Streamed) (u : Declared) (us : Program) (r : Result Stream Fault)
+unit_told : (k n : ℕ) (above : List UnitForm) (known : Streamed) (u : UnitForm) (us : Program) (r : Result Stream Fault)
     → Meets above (unit_spots u) r (IsBodyAs above u.body)
     → ((s : Stream) → IsBodyAs above u.body s
     → Told (places_behind (suc k) (u ∷ above) us) (on_fine (all_streams (suc (suc k)) ((u.name, s) ∷ known) us) (ends n)))
@@ -176,7 +176,7 @@ unit_told k n above known u us (Err f) m go =
     first_front (map (place_of_spot (suc k) above) (unit_spots u)) (places_behind (suc k) (u ∷ above) us) (record { unit = suc k; fault = f })
     (first_map (suc k) above (unit_spots u) f m)
 
-units_told : (us : Program) (k n : ℕ) (above : List Declared) (known : Streamed) → KnowsAbove above known → n ≡ k + length us
+units_told : (us : Program) (k n : ℕ) (above : List UnitForm) (known : Streamed) → KnowsAbove above known → n ≡ k + length us
     → Told (places_behind k above us) (on_fine (all_streams (suc k) known us) (ends n))
 units_told [] k n above known h same = finishes k n above known (omega (arith, same)) h.last
 units_told (u ∷ us) k n above known h same =
@@ -188,7 +188,7 @@ judged_told p = units_told p 0 (length p) [] [] (record { each = λ n. refl; las
 
 -- THE LAWS
 
-first_right : (ps : List Place) (r : Refusal) → FirstPlace ps r → AllByRecursion IsRight ps → ⊥
+first_right : (ps : List Place) (r : Refusal) → FirstPlace ps r → AllByRecursion IsFaultless ps → ⊥
 first_right [] r h a = h
 first_right (p ∷ ps) r (inl h) a = a.0 r.fault h.0.has
 first_right (p ∷ ps) r (inr h) a = first_right ps r h.1 a.1
@@ -207,7 +207,7 @@ record Parted (ps : List Place) (r : Refusal) : Type 0 where
   at : Place
   rest : List Place
   parts : ps ≡ before ++ at ∷ rest
-  right : AllByRecursion IsRight before
+  right : AllByRecursion IsFaultless before
   faulty : IsFirstFault at.above at.spot r.fault
   there : r.unit ≡ at.unit
 
@@ -222,7 +222,7 @@ refused_as : (ps : List Place) (x : Result Streamed Refusal) (r : Refusal) → T
 refused_as ps (Ok known) r h g = absurd (first_right ps r g h)
 refused_as ps (Err q) r h g = ap Err (same_first ps q r h g)
 
-accepted_as : (ps : List Place) (x : Result Streamed Refusal) → Told ps x → AllByRecursion IsRight ps → (known : Streamed) × (x ≡ Ok known)
+accepted_as : (ps : List Place) (x : Result Streamed Refusal) → Told ps x → AllByRecursion IsFaultless ps → (known : Streamed) × (x ≡ Ok known)
 accepted_as ps (Ok known) h a = (known, refl)
 accepted_as ps (Err q) h a = absurd (first_right ps q h a)
 

@@ -15,7 +15,7 @@ use Rattle.brooklet_model.specs.Fire.{fire}
 use Rattle.brooklet_model.specs.Firings.{feed}
 use Rattle.brooklet_model.proofs.Cycles.{positive_cycle}
 use Rattle.brooklet_model.proofs.Longest.{longest}
-use Rattle.streamit_model.specs.Build.{weights}
+use Rattle.streamit_model.specs.Plan.{weights}
 use Rattle.streamit_model.specs.Laws.{CollectsLongest}
 
 -- COPIES

@@ -10,7 +10,7 @@ use Rattle.river_plan.proofs.ShareLemmas.{each_front, each_back}
 use Rattle.streamit_model.specs.Unrolled.{Splitter, Duplicate, RoundRobin, Stream, Filter, Pipeline, SplitJoin, Streams, Last, Then, number_of, IsStream}
 use Rattle.streamit_model.specs.Unrolled.{AreStreams, IsSplitter, IsRound}
 use Rattle.streamit_model.specs.UnrolledMeans.{branch_input, outputs, in_line, side_by_side}
-use Rattle.streamit_model.specs.Build.{numbered, queue, queues, ops_in, queues_in, splitter, build, build_line, build_branches}
+use Rattle.streamit_model.specs.Plan.{numbered, queue, queues, ops_in, queues_in, splitter, build, build_line, build_branches}
 use Rattle.streamit_model.specs.Laws.{as_items, SolutionsMean}
 use Rattle.streamit_model.proofs.Kernels.{filter_means, duplicate_means, deal_means, collect_means}
 

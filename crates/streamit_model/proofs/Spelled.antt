@@ -12,11 +12,11 @@ use Rattle.work_code.specs.Value.{applied, truth}
 use Rattle.river_plan.specs.Forms.{Name}
 use Rattle.streamit_text.specs.Tree.{Expression}
 use Rattle.streamit_text.specs.Tree as tree
-use Rattle.streamit_model.specs.Meaning.{Values, eval, pops}
+use Rattle.streamit_model.specs.Meaning.{Store, eval, pops}
 use Rattle.streamit_model.specs.Elaborate.{NotConstant, PeekRange, Limit, on_ok, KnownName, Var, Turn, find, constant_of, constant, named_term}
 use Rattle.streamit_model.specs.Elaborate.{peeked}
 use Rattle.streamit_model.specs.Elaborate.{term_of, At, first_term, first_popped}
-use Rattle.streamit_text.specs.Program.{Declared}
+use Rattle.streamit_text.specs.Program.{UnitForm}
 use Rattle.streamit_model.specs.Words.{ReadWord, Uses, Fixes, Varies, Pops, Peeks, over, knows, leaves, enters, exits, IsLocal, IsLoopVariable, IsKnown, popped_in}
 use Rattle.streamit_model.specs.Text.{fixed, fixed_value, spelled, spelled_first}
 use Rattle.streamit_model.specs.Places.{Reads, each_word}
@@ -49,7 +49,7 @@ pub some_known : (before : List ReadWord) (n : Name) (o : Option KnownName) (b :
 some_known before n o (Var i) z f h = inl (local_known before n o i z f h).0
 some_known before n o (Turn v) z f h = inr (turn_known before n o v z f h).0
 
-module _ (above : List Declared) (e : ℕ) where
+module _ (above : List UnitForm) (e : ℕ) where
   -- NAMES AND LEAVES
 
   fixes : (before : List ReadWord) (n : Name) (o : Option KnownName) (z : ℤ) → ((o ≡ None) → IsKnown before n → ⊥)
@@ -81,13 +81,13 @@ module _ (above : List Declared) (e : ℕ) where
 
   -- BOUNDS AND INDEXES
 
-  pub record Fixed (before : List ReadWord) (t : Expression) (s : At) (turns : Values) (z : ℤ) : Type 0 where
+  pub record Fixed (before : List ReadWord) (t : Expression) (s : At) (turns : Store) (z : ℤ) : Type 0 where
     pub stands : Stands (before ++ fixed t) s turns
     pub value : (xs : List ℤ) (k : ℕ) → eval t xs turns k ≡ z
     pub none : pops t ≡ 0
 
   -- judging a bound or an index tells the first fault of its words, or its value
-  pub fixed_met : (t : Expression) (before : List ReadWord) (s : At) (turns : Values) → Stands before s turns
+  pub fixed_met : (t : Expression) (before : List ReadWord) (s : At) (turns : Store) → Stands before s turns
       → Meets above (each_word e before (fixed t)) (constant s.scope t) (Fixed before t s turns)
   fixed_met (tree.Number v) before s turns h =
       (tt, record { stands = regrouped before (before ++ []) s turns (sym (append-nil before)) h; value = λ xs k. refl; none = refl })
@@ -119,7 +119,7 @@ module _ (above : List Declared) (e : ℕ) where
 
   -- PEEKS AND POPS
 
-  abbrev After : List ReadWord → List ReadWord → At → Values → ℕ → Type 0
+  abbrev After : List ReadWord → List ReadWord → At → Store → ℕ → Type 0
   After before ws s turns k = Stands (before ++ ws) (record s { popped = s.popped + k }) turns
 
   peeks_at : (before : List ReadWord) (i : ℕ) (k : ℕ) (Q : Term → Type 0) → e ≤ 65536 → popped_in before ≡ k → ((u : Term) → Q u)
@@ -165,7 +165,7 @@ module _ (above : List Declared) (e : ℕ) where
   -- EXPRESSIONS
 
   -- judging an expression tells the first fault of its words, or its term
-  pub spelled_met : (t : Expression) (before : List ReadWord) (s : At) (turns : Values) → e ≤ 65536 → Stands before s turns
+  pub spelled_met : (t : Expression) (before : List ReadWord) (s : At) (turns : Store) → e ≤ 65536 → Stands before s turns
       → Meets above (each_word e before (spelled t turns)) (term_of e s.scope t s.popped) (λ u. After before (spelled t turns) s turns (pops t))
   spelled_met (tree.Number v) before s turns small h = (
     tt,
@@ -212,7 +212,7 @@ module _ (above : List Declared) (e : ℕ) where
       (repopped ((before ++ ls) ++ rs) s turns (k + pops r) (s.popped + (pops l + pops r)) (omega arith) g)))
 
   -- the first value of a local
-  pub first_met : (t : Option Expression) (before : List ReadWord) (s : At) (turns : Values) → e ≤ 65536 → Stands before s turns
+  pub first_met : (t : Option Expression) (before : List ReadWord) (s : At) (turns : Store) → e ≤ 65536 → Stands before s turns
       → Meets above (each_word e before (spelled_first t turns)) (first_term e t s) (λ u. After before (spelled_first t turns) s turns (first_popped t))
   first_met None before s turns small h = (
     tt,

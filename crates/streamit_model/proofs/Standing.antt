@@ -5,7 +5,7 @@ use Rattle.river_plan.specs.Forms.{Name}
 use Rattle.river_plan.specs.Names.{one_if}
 use Rattle.river_plan.proofs.NameLemmas.{cases_name}
 use Rattle.brooklet_model.specs.Machine.{at_name}
-use Rattle.streamit_model.specs.Meaning.{Values}
+use Rattle.streamit_model.specs.Meaning.{Store}
 use Rattle.streamit_model.specs.Elaborate.{KnownName, Var, Turn, Scope, find, At}
 use Rattle.streamit_model.specs.Words.{ReadWord, Knows, Leaves, Enters, over, knows, leaves, enters, exits, takes, begins_one, pops_one, pushes_one, pops_beside}
 use Rattle.streamit_model.specs.Words.{pushes_beside, IsKnown, popped_in, pushed_in}
@@ -22,7 +22,7 @@ NameIs None k l e x z = (k ≡ l) × (e ≡ x)
 NameIs (Some (Var i)) k l e x z = (k ≡ suc l) × (e ≡ x)
 NameIs (Some (Turn v)) k l e x z = (k ≡ l) × (e ≡ suc x) × (z ≡ pos v)
 
-abbrev pub NameStands : List ReadWord → Scope → Values → Name → Type 0
+abbrev pub NameStands : List ReadWord → Scope → Store → Name → Type 0
 NameStands before sc turns n = NameIs (find sc n) (over (knows n) before) (over (leaves n) before) (over (enters n) before) (over (exits n) before) (turns n)
 
 -- the words before take so many slots, have so many statements and turns, and so many pops and pushes run before
@@ -32,15 +32,15 @@ pub record Counted (before : List ReadWord) (slots size popped pushed : ℕ) : T
   pub pops_are : popped + over pops_beside before ≡ over pops_one before
   pub pushes_are : pushed + over pushes_beside before ≡ over pushes_one before
 
-pub record Stands (before : List ReadWord) (s : At) (turns : Values) : Type 0 where
+pub record Stands (before : List ReadWord) (s : At) (turns : Store) : Type 0 where
   pub counts : Counted before s.slots s.size s.popped s.pushed
   pub names : (n : Name) → NameStands before s.scope turns n
 
 -- the pops of the words are those that were counted
-pub stands_popped : (before : List ReadWord) (s : At) (turns : Values) → Stands before s turns → popped_in before ≡ s.popped
+pub stands_popped : (before : List ReadWord) (s : At) (turns : Store) → Stands before s turns → popped_in before ≡ s.popped
 stands_popped before s turns h = let e = h.counts.pops_are in omega (arith, e)
 
-pub stands_pushed : (before : List ReadWord) (s : At) (turns : Values) → Stands before s turns → pushed_in before ≡ s.pushed
+pub stands_pushed : (before : List ReadWord) (s : At) (turns : Store) → Stands before s turns → pushed_in before ≡ s.pushed
 stands_pushed before s turns h = let e = h.counts.pushes_are in omega (arith, e)
 
 -- NAMES
@@ -63,7 +63,7 @@ even-append xs ys a b n =
     (omega (arith, p, q, k, l), omega (arith, r, s, e, x))
 
 -- names stand as they did behind such words
-pub names_on : (before ws : List ReadWord) (sc : Scope) (turns : Values) → IsEven ws → ((n : Name) → NameStands before sc turns n)
+pub names_on : (before ws : List ReadWord) (sc : Scope) (turns : Store) → IsEven ws → ((n : Name) → NameStands before sc turns n)
     → (n : Name) → NameStands (before ++ ws) sc turns n
 names_on before ws sc turns even h n =
     let p = (even n).0 in let q = (even n).1 in
@@ -72,7 +72,7 @@ names_on before ws sc turns even h n =
     name_moves (find sc n) _ _ _ _ _ _ _ _ (turns n) (omega (arith, p, k, l)) (omega (arith, q, e, x)) (h n)
 
 -- a name that is not known
-pub none_known : (before : List ReadWord) (sc : Scope) (turns : Values) (n : Name) → find sc n ≡ None → NameStands before sc turns n → IsKnown before n → ⊥
+pub none_known : (before : List ReadWord) (sc : Scope) (turns : Store) (n : Name) → find sc n ≡ None → NameStands before sc turns n → IsKnown before n → ⊥
 none_known before sc turns n f h k =
     let d = subst (λ o. NameIs o (over (knows n) before) (over (leaves n) before) (over (enters n) before) (over (exits n) before) (turns n)) f h in
     let a = d.0 in let b = d.1 in ⊎_elim (λ lt. omega (arith, a, lt)) (λ lt. omega (arith, b, lt)) k
@@ -96,7 +96,7 @@ counted_on before ws slots size popped pushed slots' size' popped' pushed' h a b
     }
 
 -- the reading goes on by these words, of which none changes what is known
-pub moved : (before ws : List ReadWord) (s : At) (turns : Values) (slots popped pushed size : ℕ) → Stands before s turns → IsEven ws
+pub moved : (before ws : List ReadWord) (s : At) (turns : Store) (slots popped pushed size : ℕ) → Stands before s turns → IsEven ws
     → s.slots + over takes ws ≡ slots → s.size + over begins_one ws ≡ size → popped + over pops_beside ws ≡ s.popped + over pops_one ws
     → pushed + over pushes_beside ws ≡ s.pushed + over pushes_one ws
     → Stands (before ++ ws) (record s { slots = slots; popped = popped; pushed = pushed; size = size }) turns
@@ -109,7 +109,7 @@ pub even_one : (w : ReadWord) → ((n : Name) → (knows n w ≡ leaves n w) × 
 even_one w h n = let a = (h n).0 in let b = (h n).1 in (omega (arith, a), omega (arith, b))
 
 -- a word that counts for nothing
-pub unmoved : (before : List ReadWord) (w : ReadWord) (s : At) (turns : Values) → Stands before s turns
+pub unmoved : (before : List ReadWord) (w : ReadWord) (s : At) (turns : Store) → Stands before s turns
     → ((n : Name) → (knows n w ≡ leaves n w) × (enters n w ≡ exits n w))
     → takes w ≡ 0 → begins_one w ≡ 0 → pops_one w ≡ 0 → pops_beside w ≡ 0 → pushes_one w ≡ 0 → pushes_beside w ≡ 0 → Stands (before ++ w ∷ []) s turns
 unmoved before w s turns h even a b c d e f =
@@ -117,18 +117,18 @@ unmoved before w s turns h even a b c d e f =
     (omega (arith, e, f))
 
 -- the same place, with the words before it in another grouping
-pub regrouped : (xs ys : List ReadWord) (s : At) (turns : Values) → xs ≡ ys → Stands xs s turns → Stands ys s turns
+pub regrouped : (xs ys : List ReadWord) (s : At) (turns : Store) → xs ≡ ys → Stands xs s turns → Stands ys s turns
 regrouped xs ys s turns e h = subst (λ b. Stands b s turns) e h
 
 -- the pops by another sum
-pub repopped : (before : List ReadWord) (s : At) (turns : Values) (a b : ℕ) → a ≡ b → Stands before (record s { popped = a }) turns
+pub repopped : (before : List ReadWord) (s : At) (turns : Store) (a b : ℕ) → a ≡ b → Stands before (record s { popped = a }) turns
     → Stands before (record s { popped = b }) turns
 repopped before s turns a b e h = subst (λ k. Stands before (record s { popped = k }) turns) e h
 
 -- NAMES THAT BEGIN
 
 -- a new local is known, in the next slot
-pub with_local : (before : List ReadWord) (s : At) (turns : Values) (n : Name) → find s.scope n ≡ None → Stands before s turns
+pub with_local : (before : List ReadWord) (s : At) (turns : Store) (n : Name) → find s.scope n ≡ None → Stands before s turns
     → Stands (before ++ Knows n ∷ []) (record s { scope = (n, Var s.slots) ∷ s.scope; slots = s.slots + 1 }) turns
 with_local before s turns n new h =
     let ws = Knows n ∷ [] in
@@ -156,7 +156,7 @@ with_local before s turns n new h =
     }
 
 -- the variable of a loop has its turn's value
-pub with_turn : (before : List ReadWord) (s : At) (turns : Values) (n : Name) (v : ℕ) → find s.scope n ≡ None → Stands before s turns
+pub with_turn : (before : List ReadWord) (s : At) (turns : Store) (n : Name) (v : ℕ) → find s.scope n ≡ None → Stands before s turns
     → Stands (before ++ Enters n ∷ []) (record s { scope = (n, Turn v) ∷ s.scope }) (at_name n (pos v) turns)
 with_turn before s turns n v new h =
     let ws = Enters n ∷ [] in
@@ -193,7 +193,7 @@ leaves_nothing f [] h = refl
 leaves_nothing f (n ∷ ns) h = let a = h n in let b = leaves_nothing f ns h in omega (arith, a, b)
 
 -- behind words that are even, the names are those before them
-pub left_behind : (before ws : List ReadWord) (s : At) (turns : Values) (slots size popped pushed : ℕ) → Stands before s turns → IsEven ws
+pub left_behind : (before ws : List ReadWord) (s : At) (turns : Store) (slots size popped pushed : ℕ) → Stands before s turns → IsEven ws
     → Counted (before ++ ws) slots size popped pushed
     → Stands (before ++ ws) (record s { slots = slots; popped = popped; pushed = pushed; size = size }) turns
 left_behind before ws s turns slots size popped pushed h even c = record { counts = c; names = names_on before ws s.scope turns even h.names }

@@ -5,7 +5,7 @@ use Rattle.brooklet_model.specs.Histories.{hist}
 use Rattle.brooklet_model.proofs.Solutions.{solve_law}
 use Rattle.streamit_model.specs.Unrolled.{Stream, IsStream, IsSmall}
 use Rattle.streamit_model.specs.UnrolledMeans.{outputs}
-use Rattle.streamit_model.specs.Build.{ops_in, plan_of}
+use Rattle.streamit_model.specs.Plan.{ops_in, plan_of}
 use Rattle.streamit_model.specs.Laws.{as_items, TranslationMeans}
 use Rattle.streamit_model.proofs.Solved.{solved}
 use Rattle.streamit_model.proofs.Valid.{valid}

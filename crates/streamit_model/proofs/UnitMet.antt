@@ -11,13 +11,13 @@ use Rattle.river_plan.specs.Names.{one_if, count}
 use Rattle.river_plan.proofs.NameLemmas.{cases_name}
 use Rattle.brooklet_model.specs.ByIndex.{cycle}
 use Rattle.streamit_model.specs.Unrolled.{RoundRobin, Stream, Filter, Pipeline, SplitJoin, Streams, Last, Then, nesting, deepest, IsRound}
-use Rattle.streamit_model.specs.Build.{ops_in, ops_of}
+use Rattle.streamit_model.specs.Plan.{ops_in, ops_of}
 use Rattle.streamit_model.specs.Elaborate.{Fault, Rates, Limit, Weights, on_ok, demand, Var, find, At, steps_of, optional_of}
-use Rattle.streamit_text.specs.Program.{WorkTree, FilterTree, Dealing, Copies, Turns, Body, AFilter, APipeline, ASplitJoin, Declared}
+use Rattle.streamit_text.specs.Program.{WorkTree, FilterTree, Dealing, Copies, Turns, Body, AFilter, APipeline, ASplitJoin, UnitForm}
 use Rattle.streamit_model.specs.Meaning.{push_of, pop_of, peek_of, nought, weights_for, look, branch_count}
 use Rattle.streamit_model.specs.ElaborateFilter.{read_field, read_fields, nothing_read, elaborated_form, judged_rates, kept_rates, elaborated}
 use Rattle.streamit_model.specs.ElaborateFilter.{run_of, read_work, read_prework}
-use Rattle.streamit_model.specs.Judged.{Streamed, found, stream_added, streams_added, any, branches, round_of, splitter_of, stream_of, not_there, unit_of}
+use Rattle.streamit_model.specs.Judged.{Streamed, found_stream, stream_added, streams_added, any, branches, round_of, splitter_of, stream_of, not_there, unit_of}
 use Rattle.streamit_model.specs.Words.{ReadWord, Declares, Knows, pops_one, pushes_one, pops_beside, pushes_beside, popped_in, pushed_in}
 use Rattle.streamit_model.specs.Text.{all_read, optional_read}
 use Rattle.streamit_model.specs.Places.{Names, Rated, Counts, Branch, Added, Weighs, each_word, fields_read, work_spots, prework_spots, filter_spots, branch_spots, split_spots}
@@ -38,7 +38,7 @@ one_false false b c h = inl refl
 
 -- FILTERS
 
-module _ (above : List Declared) where
+module _ (above : List UnitForm) where
   field_met : (n : Name) (before : List ReadWord) (s : At) → Stands before s nought
       → Meets above (each_word 0 before (Declares n ∷ Knows n ∷ [])) (read_field n s)
       (λ t. Stands ((before ++ Declares n ∷ []) ++ Knows n ∷ []) t nought × (t.popped ≡ s.popped) × (t.pushed ≡ s.pushed))
@@ -178,7 +178,7 @@ abbrev pub IsSaid : Option Stream → ℕ → ℕ → ℕ → Type 0
 IsSaid None times depth operators = times ≡ 0
 IsSaid (Some s) times depth operators = (0 < times) × (nesting s ≡ depth) × (ops_in s ≡ operators)
 
-abbrev pub SaysOf : List Declared → Option Stream → Name → Type 0
+abbrev pub SaysOf : List UnitForm → Option Stream → Name → Type 0
 SaysOf above o n = IsSaid o (count n (map (λ u. u.name) above)) (depth_above above n) (operators_above above n)
 
 -- how many operators the newest stream has
@@ -187,12 +187,12 @@ LastIs [] operators = operators ≡ 0
 LastIs (e ∷ known) operators = ops_in e.1 ≡ operators
 
 -- the trees of streams are as nested, and have as many operators, as is said of those that are declared above
-pub record KnowsAbove (above : List Declared) (known : Streamed) : Type 0 where
+pub record KnowsAbove (above : List UnitForm) (known : Streamed) : Type 0 where
   pub each : (n : Name) → SaysOf above (look known n) n
   pub last : LastIs known (last_operators above)
 
 -- one stream more
-pub one_more : (above : List Declared) (known : Streamed) (u : Declared) (s : Stream) → KnowsAbove above known
+pub one_more : (above : List UnitForm) (known : Streamed) (u : UnitForm) (s : Stream) → KnowsAbove above known
     → nesting s ≡ body_depth (depth_above above) u.body
     → ops_in s ≡ body_operators (operators_above above) u.body → KnowsAbove (u ∷ above) ((u.name, s) ∷ known)
 one_more above known u s k d o = record {
@@ -223,17 +223,17 @@ one_more above known u s k d o = record {
     other (Some s) times here depth depth' operators operators' z a b h = let p = h.0 in (omega (arith, p), h.1 ∙ a, h.2 ∙ b)
 
 -- the tree of a stream is as nested, and has as many operators, as is said of what is declared
-abbrev pub IsBodyAs : List Declared → Body → Stream → Type 0
+abbrev pub IsBodyAs : List UnitForm → Body → Stream → Type 0
 IsBodyAs above b s = (nesting s ≡ body_depth (depth_above above) b) × (ops_in s ≡ body_operators (operators_above above) b)
 
-module _ (above : List Declared) (known : Streamed) (k : KnowsAbove above known) where
+module _ (above : List UnitForm) (known : Streamed) (k : KnowsAbove above known) where
   -- ADDED STREAMS
 
   abbrev IsAs : Name → Stream → Type 0
   IsAs n s = (nesting s ≡ depth_above above n) × (ops_in s ≡ operators_above above n)
 
   added_by : (n : Name) (o : Option Stream) → SaysOf above o n
-      → Meets above (Added n ∷ []) (on_ok (found o) (λ s. on_ok (demand (nat_lt (nesting s) 64) Limit) (λ v. Ok s))) (IsAs n)
+      → Meets above (Added n ∷ []) (on_ok (found_stream o) (λ s. on_ok (demand (nat_lt (nesting s) 64) Limit) (λ v. Ok s))) (IsAs n)
   added_by n None h = inl (first_unknown above (Added n) (λ a. omega (arith, a, h)) (λ h. h))
   added_by n (Some s) h =
       let spot = Added n in
@@ -256,11 +256,11 @@ module _ (above : List Declared) (known : Streamed) (k : KnowsAbove above known)
   branch_added : (i : ℕ) (n : Name) → Meets above (Branch i ∷ Added n ∷ []) (stream_added branches known i n) (IsAs n)
   branch_added i n =
       let spot = Branch i in
-      test above (spot ∷ Added n ∷ []) (nat_lt i 64) tt Limit (λ u. on_ok (found (look known n))
+      test above (spot ∷ Added n ∷ []) (nat_lt i 64) tt Limit (λ u. on_ok (found_stream (look known n))
       (λ s. on_ok (demand (nat_lt (nesting s) 64) Limit) (λ v. Ok s))) (IsAs n)
       (λ t.
       let lt = ltb-true i 64 t in
-      behind above (spot ∷ []) (Added n ∷ []) (on_ok (found (look known n)) (λ s. on_ok (demand (nat_lt (nesting s) 64) Limit) (λ v. Ok s))) (IsAs n)
+      behind above (spot ∷ []) (Added n ∷ []) (on_ok (found_stream (look known n)) (λ s. on_ok (demand (nat_lt (nesting s) 64) Limit) (λ v. Ok s))) (IsAs n)
       (free above spot (λ h. h) (λ h. h) (λ d c h. h) (λ i r h. h) (λ h. h) (λ h. h) (λ h. omega (arith, lt, h)) (λ h. h), tt)
       (added_by n (look known n) (k.each n)))
       (λ f. let le = ltb-false i 64 f in inl (first_limit above spot (omega (arith, le)) (λ h. h) (λ h. h) (λ h. h) (λ h. h) (λ i r h. h)))
@@ -352,7 +352,7 @@ module _ (above : List Declared) (known : Streamed) (k : KnowsAbove above known)
       (λ ss h. finish above (Weighs ws n ∷ []) (round_of ws n) (λ vs. SplitJoin p ss vs) (λ vs. Unit {0}) Q (weights_met ws n)
       (λ vs v. (ap suc h.0, ap (λ x. 1 + (x + 1)) h.1))))
 
-  name_met : (u : Declared) (o : Option Stream) → SaysOf above o u.name → (r : Result Stream Fault) (Q : Stream → Type 0) → Meets above (body_spots u.body) r Q
+  name_met : (u : UnitForm) (o : Option Stream) → SaysOf above o u.name → (r : Result Stream Fault) (Q : Stream → Type 0) → Meets above (body_spots u.body) r Q
       → Meets above (unit_spots u) (on_ok (not_there o) (λ z. r)) Q
   name_met u None h r Q m =
       behind above (Names u.name ∷ []) (body_spots u.body) r Q
@@ -360,5 +360,5 @@ module _ (above : List Declared) (known : Streamed) (k : KnowsAbove above known)
   name_met u (Some s) h r Q m = inl (first_twice above (Names u.name) h.0)
 
   -- judging a unit tells the first fault of its places, or its stream
-  pub unit_met : (u : Declared) → Meets above (unit_spots u) (unit_of known u) (IsBodyAs above u.body)
+  pub unit_met : (u : UnitForm) → Meets above (unit_spots u) (unit_of known u) (IsBodyAs above u.body)
   unit_met u = name_met u (look known u.name) (k.each u.name) (stream_of known u.name u.body) (IsBodyAs above u.body) (body_met u.name u.body)

@@ -18,7 +18,7 @@ use Rattle.river_plan.specs.Valid.{IsPlan}
 use Rattle.river_plan.proofs.NameLemmas.{cases_name, one_same}
 use Rattle.river_plan.proofs.ShareLemmas.{total-vars}
 use Rattle.streamit_model.specs.Unrolled.{Stream, IsStream, IsSmall}
-use Rattle.streamit_model.specs.Build.{queues, ops_in, queues_in, values_in, ops_from, own_queues, plan_of}
+use Rattle.streamit_model.specs.Plan.{queues, ops_in, queues_in, values_in, ops_from, own_queues, plan_of}
 use Rattle.streamit_model.specs.Laws.{PlansAreValid}
 use Rattle.streamit_model.proofs.Numbers.{number_in, meets_once, queue_count, queues_once}
 use Rattle.streamit_model.proofs.Counts.{writes, reads, named, operators, few_queues}

@@ -4,10 +4,10 @@ use Rattle.std.specs.List.{list_all}
 use Rattle.river_plan.specs.Forms.{Name}
 use Rattle.streamit_model.specs.Unrolled.{Splitter, Duplicate, RoundRobin, Stream, Filter, Pipeline, SplitJoin, Streams, Last, Then, nesting}
 use Rattle.brooklet_model.specs.ByIndex.{cycle}
-use Rattle.streamit_model.specs.Build.{ops_in}
+use Rattle.streamit_model.specs.Plan.{ops_in}
 use Rattle.streamit_model.specs.Elaborate.{Fault, UnknownName, NameTwice, Limit, Weights, on_ok, demand}
 use Rattle.streamit_model.specs.ElaborateFilter.{elaborated}
-use Rattle.streamit_text.specs.Program.{Dealing, Copies, Turns, Body, AFilter, APipeline, ASplitJoin, Declared, Program}
+use Rattle.streamit_text.specs.Program.{Dealing, Copies, Turns, Body, AFilter, APipeline, ASplitJoin, UnitForm, Program}
 use Rattle.streamit_model.specs.Meaning.{weights_for, look, branch_count}
 
 -- the first fault, and the number of its unit
@@ -29,13 +29,13 @@ in_unit k (Err e) f = Err (record { unit = k; fault = e })
 abbrev pub Streamed : Type 0
 Streamed = List (Name × Stream)
 
-abbrev pub found : Option Stream → Result Stream Fault
-found None = Err UnknownName
-found (Some s) = Ok s
+abbrev pub found_stream : Option Stream → Result Stream Fault
+found_stream None = Err UnknownName
+found_stream (Some s) = Ok s
 
 -- the stream that is added as number i, from 0: whether there may be so many, then its name, then how deep it is nested
 abbrev pub stream_added : (ℕ → Bool) → Streamed → ℕ → Name → Result Stream Fault
-stream_added may known i n = on_ok (demand (may i) Limit) (λ u. on_ok (found (look known n)) (λ s. on_ok (demand (nat_lt (nesting s) 64) Limit) (λ v. Ok s)))
+stream_added may known i n = on_ok (demand (may i) Limit) (λ u. on_ok (found_stream (look known n)) (λ s. on_ok (demand (nat_lt (nesting s) 64) Limit) (λ v. Ok s)))
 
 abbrev pub streams_added : (ℕ → Bool) → Streamed → ℕ → Name → List Name → Result Streams Fault
 streams_added may known i n [] = on_ok (stream_added may known i n) (λ s. Ok (Last s))
@@ -74,7 +74,7 @@ not_there None = Ok tt
 not_there (Some s) = Err NameTwice
 
 -- a stream's name is judged first
-abbrev pub unit_of : Streamed → Declared → Result Stream Fault
+abbrev pub unit_of : Streamed → UnitForm → Result Stream Fault
 unit_of known u = on_ok (not_there (look known u.name)) (λ z. stream_of known u.name u.body)
 
 -- unit k and those after it

@@ -18,7 +18,7 @@ use Rattle.brooklet_model.specs.ByIndex.{collected_at, dealt, collected}
 use Rattle.streamit_model.specs.Unrolled.{Stream, IsRound, IsStream, IsSmall}
 use Rattle.streamit_model.specs.UnrolledFilters.{filtered}
 use Rattle.streamit_model.specs.UnrolledMeans.{outputs}
-use Rattle.streamit_model.specs.Build.{weights, build, ops_in, plan_of}
+use Rattle.streamit_model.specs.Plan.{weights, build, ops_in, plan_of}
 use Rattle.streamit_model.specs.Shallow.{IsShallowFilter, AreShallowUnits}
 use Rattle.streamit_text.specs.Program.{FilterTree, Program}
 use Rattle.streamit_model.specs.Meaning.{pushed_by, program_outputs}

@@ -1,12 +1,12 @@
-pub mod Build
 pub mod Elaborate
 pub mod ElaborateFilter
-pub mod Faulty
+pub mod Faults
 pub mod Firings
 pub mod Judged
 pub mod Laws
 pub mod Meaning
 pub mod Places
+pub mod Plan
 pub mod Shallow
 pub mod Text
 pub mod Unrolled

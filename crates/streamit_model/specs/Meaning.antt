@@ -30,11 +30,11 @@ pops (tree.Not t) = pops t
 pops (tree.Bin o a b) = pops a + pops b
 
 -- the values of all names
-abbrev pub Values : Type 0
-Values = Name → ℤ
+abbrev pub Store : Type 0
+Store = Name → ℤ
 
 -- the value of an expression, for the items that the firing looks at, the values of names, and k pops before it; from left to right
-abbrev pub eval : Expression → List ℤ → Values → ℕ → ℤ
+abbrev pub eval : Expression → List ℤ → Store → ℕ → ℤ
 eval (tree.Number v) xs env k = pos v
 eval (tree.Name n) xs env k = env n
 eval (tree.Peek t) xs env k = slice_index_or xs (k + count_of (eval t xs env k)) (pos 0)
@@ -45,7 +45,7 @@ eval (tree.Bin o a b) xs env k = applied o (eval a xs env k) (eval b xs env (k +
 
 -- where a firing stands: the values of names, the items that it popped and the values that it pushed
 pub record State : Type 0 where
-  pub values : Values
+  pub values : Store
   pub popped : ℕ
   pub pushed : List ℤ
 
@@ -129,11 +129,11 @@ waits_for t zero = max (peek_of (runs_in t 0)) 1
 waits_for t (suc j) = peek_of t.work
 
 -- nothing has a value yet
-abbrev pub nought : Values
+abbrev pub nought : Store
 nought n = pos 0
 
 -- the values of the fields
-abbrev pub with_fields : List Name → List ℤ → Values → Values
+abbrev pub with_fields : List Name → List ℤ → Store → Store
 with_fields [] zs env = env
 with_fields (f ∷ fs) [] env = env
 with_fields (f ∷ fs) (z ∷ zs) env = with_fields fs zs (at_name f z env)

@@ -2,7 +2,7 @@
 use Rattle.std.specs.Prelude.{ℕ, suc, ◌+◌, max, List, [], ◌∷◌, ◌++◌, map, Option, Some, None, if◌then◌else◌}
 use Rattle.river_base.specs.Name.{name_eq}
 use Rattle.river_plan.specs.Forms.{Name}
-use Rattle.streamit_text.specs.Program.{WorkTree, FilterTree, Dealing, Copies, Turns, Body, AFilter, APipeline, ASplitJoin, Declared, Program}
+use Rattle.streamit_text.specs.Program.{WorkTree, FilterTree, Dealing, Copies, Turns, Body, AFilter, APipeline, ASplitJoin, UnitForm, Program}
 use Rattle.streamit_model.specs.Meaning.{push_of, pop_of, peek_of, nought, branch_count}
 use Rattle.streamit_model.specs.Words.{ReadWord, Declares, Knows, popped_in, pushed_in}
 use Rattle.streamit_model.specs.Text.{all_read, optional_read}
@@ -29,7 +29,7 @@ pub data Spot : Type 0 where
 -- `above` has the streams that are declared above, the nearest first
 pub record Place : Type 0 where
   pub unit : ℕ
-  pub above : List Declared
+  pub above : List UnitForm
   pub spot : Spot
 
 -- WORDS
@@ -81,16 +81,16 @@ body_spots (APipeline a) = map Added (a.first ∷ a.others)
 body_spots (ASplitJoin d a ws) = split_spots d (branch_count a) ++ (branch_spots 0 (a.first ∷ a.others) ++ Weighs ws (branch_count a) ∷ [])
 
 -- a stream's name, and then what is declared
-abbrev pub unit_spots : Declared → List Spot
+abbrev pub unit_spots : UnitForm → List Spot
 unit_spots u = Names u.name ∷ body_spots u.body
 
 -- THE PROGRAM
 
-abbrev pub place_of_spot : ℕ → List Declared → Spot → Place
+abbrev pub place_of_spot : ℕ → List UnitForm → Spot → Place
 place_of_spot k above s = record { unit = k; above = above; spot = s }
 
 -- the units behind the first k; the end of the program counts for the last
-abbrev pub places_behind : ℕ → List Declared → Program → List Place
+abbrev pub places_behind : ℕ → List UnitForm → Program → List Place
 places_behind k above [] = place_of_spot k above Finishes ∷ []
 places_behind k above (u ∷ us) = map (place_of_spot (suc k) above) (unit_spots u) ++ places_behind (suc k) (u ∷ above) us
 
@@ -115,7 +115,7 @@ body_depth f (AFilter t) = 1
 body_depth f (APipeline a) = suc (greatest_said f a.first a.others)
 body_depth f (ASplitJoin d a ws) = suc (greatest_said f a.first a.others)
 
-abbrev pub depth_above : List Declared → Name → ℕ
+abbrev pub depth_above : List UnitForm → Name → ℕ
 depth_above [] n = 0
 depth_above (u ∷ us) n = if name_eq u.name n then body_depth (depth_above us) u.body else depth_above us n
 
@@ -125,11 +125,11 @@ body_operators f (AFilter t) = 1
 body_operators f (APipeline a) = in_all f a.first a.others
 body_operators f (ASplitJoin d a ws) = 1 + (in_all f a.first a.others + 1)
 
-abbrev pub operators_above : List Declared → Name → ℕ
+abbrev pub operators_above : List UnitForm → Name → ℕ
 operators_above [] n = 0
 operators_above (u ∷ us) n = if name_eq u.name n then body_operators (operators_above us) u.body else operators_above us n
 
 -- the operators of the nearest stream
-abbrev pub last_operators : List Declared → ℕ
+abbrev pub last_operators : List UnitForm → ℕ
 last_operators [] = 0
 last_operators (u ∷ us) = body_operators (operators_above us) u.body

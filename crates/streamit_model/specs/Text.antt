@@ -4,7 +4,7 @@ use Rattle.streamit_text.specs.Tree.{Expression, Statement, Declare, Assign, Pus
 use Rattle.streamit_text.specs.Tree as tree
 use Rattle.river_plan.specs.Forms.{Name}
 use Rattle.brooklet_model.specs.Machine.{at_name}
-use Rattle.streamit_model.specs.Meaning.{Values, eval, turns_between}
+use Rattle.streamit_model.specs.Meaning.{Store, eval, turns_between}
 use Rattle.streamit_model.specs.Words.{ReadWord, Begins, Declares, Knows, Leaves, Sets, Uses, Fixes, Varies, Pops, Drops, Peeks, Bounds, Loops, Enters, Exits}
 use Rattle.streamit_model.specs.Words.{Pushes, Otherwise, Joins, popped_in, pushed_in}
 
@@ -19,11 +19,11 @@ fixed (tree.Not t) = fixed t
 fixed (tree.Bin o l r) = fixed l ++ fixed r
 
 -- the value of a bound or an index, where the variables of loops have these values
-abbrev pub fixed_value : Expression → Values → ℤ
+abbrev pub fixed_value : Expression → Store → ℤ
 fixed_value t turns = eval t [] turns 0
 
 -- the words of an expression
-abbrev pub spelled : Expression → Values → List ReadWord
+abbrev pub spelled : Expression → Store → List ReadWord
 spelled (tree.Number v) turns = []
 spelled (tree.Name n) turns = Uses n ∷ []
 spelled (tree.Peek t) turns = fixed t ++ Peeks (fixed_value t turns) ∷ []
@@ -33,7 +33,7 @@ spelled (tree.Not t) turns = spelled t turns
 spelled (tree.Bin o l r) turns = spelled l turns ++ spelled r turns
 
 -- those of a local's first value, where it has one
-abbrev pub spelled_first : Option Expression → Values → List ReadWord
+abbrev pub spelled_first : Option Expression → Store → List ReadWord
 spelled_first None turns = []
 spelled_first (Some t) turns = spelled t turns
 
@@ -48,7 +48,7 @@ abbrev pub with_end : Block → List ReadWord → List ReadWord
 with_end b ws = ws ++ map Leaves (locals_of b)
 
 -- the turns of a loop, of which each is its block with another value of the variable
-abbrev pub turning : Name → (Values → List ReadWord) → List ℕ → Values → List ReadWord
+abbrev pub turning : Name → (Store → List ReadWord) → List ℕ → Store → List ReadWord
 turning n block [] turns = []
 turning n block (v ∷ vs) turns = Begins ∷ Enters n ∷ (block (at_name n (pos v) turns) ++ Exits n ∷ turning n block vs turns)
 
@@ -59,7 +59,7 @@ arms first second =
 
 abbrev mutual
   -- the words of a statement; a declaration's first value is read before its name is known
-  pub read_of : Statement → Values → List ReadWord
+  pub read_of : Statement → Store → List ReadWord
   read_of (Declare n t) turns = Begins ∷ Declares n ∷ (spelled_first t turns ++ Knows n ∷ [])
   read_of (Assign n t) turns = Begins ∷ Sets n ∷ spelled t turns
   read_of (Push t) turns = Begins ∷ (spelled t turns ++ Pushes ∷ [])
@@ -71,11 +71,11 @@ abbrev mutual
       Loops n ∷ (fixed low ++ Bounds l ∷ (fixed high ++ Bounds h ∷ turning n (λ inner. with_end b (all_read b inner)) (turns_between l upto h) turns))
 
   -- those of a block, without its end
-  pub all_read : Block → Values → List ReadWord
+  pub all_read : Block → Store → List ReadWord
   all_read End turns = []
   all_read (Then c b) turns = read_of c turns ++ all_read b turns
 
   -- a block that is not written has no words
-  pub optional_read : Optional → Values → List ReadWord
+  pub optional_read : Optional → Store → List ReadWord
   optional_read Unwritten turns = []
   optional_read (Written b) turns = with_end b (all_read b turns)

@@ -1,7 +1,7 @@
 //! Laws over the definitions alone.
 ghost use Rattle.streamit_model.specs.Laws.{FedFilters, FedSplitters, FedJoiners, CollectsLongest, FiltersMean, SolutionsMean, PlansAreValid, PlansInTurn};
 ghost use Rattle.streamit_model.specs.Laws.{FiringsAre, TranslationMeans, ProgramsMean};
-ghost use Rattle.streamit_model.specs.Faulty.{RefusalsAre, AcceptedAre};
+ghost use Rattle.streamit_model.specs.Faults.{RefusalsAre, AcceptedAre};
 
 /// Of a filter those firings take place, and no others, whose items are there, and it gives what they push.
 pub fn firings_are()

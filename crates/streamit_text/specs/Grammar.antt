@@ -15,7 +15,7 @@ use Rattle.text_blocks.specs.Statements as statements
 use Rattle.streamit_text.specs.Blocks.{Own, Empty, style, holes}
 use Rattle.streamit_text.specs.Expressions.{IsExpression, expr_at}
 use Rattle.streamit_text.specs.Leaves.{IsLeaf, leaf_at}
-use Rattle.streamit_text.specs.Program.{WorkTree, FilterTree, Dealing, Copies, Turns, Adds, Body, AFilter, APipeline, ASplitJoin, Declared, Program}
+use Rattle.streamit_text.specs.Program.{WorkTree, FilterTree, Dealing, Copies, Turns, Adds, Body, AFilter, APipeline, ASplitJoin, UnitForm, Program}
 use Rattle.streamit_text.specs.Tree.{Expression, Statement, Declare, Assign, Push, Discard, If, For, Block, End, Then, Optional, Unwritten, Written}
 use Rattle.streamit_text.specs.Tree.{or_unwritten}
 use Rattle.streamit_text.specs.Tree as tree
@@ -193,21 +193,21 @@ BodyAfter n w =
     (Choose (bytes_eq w (codes "splitjoin")) (Braces InBoth n) Never))
 
 -- "filter" NAME ["(" ")"] filter, and so on
-abbrev pub made_unit : List ℕ × Body → Declared
+abbrev pub made_unit : List ℕ × Body → UnitForm
 made_unit v = record { name = v.0; body = v.1 }
 
-abbrev pub KindAfter : ℕ → List ℕ → Declared → List Tok → Type 0
+abbrev pub KindAfter : ℕ → List ℕ → UnitForm → List Tok → Type 0
 KindAfter n w = Seen made_unit (Both (Called n) (BodyAfter n w))
 
 -- unit = "int" "->" "int" .., where 128 brackets may be open
-abbrev pub IsUnit : Declared → List Tok → Type 0
+abbrev pub IsUnit : UnitForm → List Tok → Type 0
 IsUnit = AfterWord (codes "int") (After (s.Arrow ∷ []) (AfterWord (codes "int") (Headed (KindAfter 128))))
 
 -- no unit depends on those before it
-abbrev pub IsUnitAt : Unit {0} → Declared → List Tok → Type 0
+abbrev pub IsUnitAt : Unit {0} → UnitForm → List Tok → Type 0
 IsUnitAt u = IsUnit
 
-abbrev pub next_unit : Unit {0} → Declared → Unit {0}
+abbrev pub next_unit : Unit {0} → UnitForm → Unit {0}
 next_unit u d = tt
 
 abbrev pub AreUnits : Program → List (List Tok) → Type 0

@@ -11,7 +11,7 @@ use Rattle.streamit_text.specs.declared.program.Split.TheVariants as split
 use Rattle.streamit_text.specs.declared.program.Adds as written
 use Rattle.streamit_text.specs.declared.program.Body as tree
 use Rattle.streamit_text.specs.declared.program.Body.TheVariants as body
-use Rattle.streamit_text.specs.declared.program.Declaration.{Declaration}
+use Rattle.streamit_text.specs.declared.program.Unit as code_unit
 
 -- `work` or `prework`: its rates, which may be left out, and its block
 pub record WorkTree : Type 0 where
@@ -44,13 +44,13 @@ pub data Body : Type 0 where
   ASplitJoin : Dealing → Adds → Option (List ℕ) → Body
 
 -- a stream that is declared: one unit of the text
-pub record Declared : Type 0 where
+pub record UnitForm : Type 0 where
   pub name : List ℕ
   pub body : Body
 
 -- the last is the stream that is run
 abbrev pub Program : Type 0
-Program = List Declared
+Program = List UnitForm
 
 -- WHAT THE CODE'S TREES STAND FOR
 
@@ -79,8 +79,8 @@ body_of (body.Filter t) = AFilter (filter_tree t)
 body_of (body.Pipeline a) = APipeline (adds_of a)
 body_of (body.SplitJoin b) = ASplitJoin (dealing_of b.split) (adds_of b.adds) (weights_of b.join)
 
-abbrev pub declared_of : Declaration → Declared
-declared_of d = record { name = d.name; body = body_of d.body }
+abbrev pub unit_form : code_unit.Unit → UnitForm
+unit_form d = record { name = d.name; body = body_of d.body }
 
-abbrev pub program_of : List Declaration → Program
-program_of ds = map declared_of ds
+abbrev pub unit_forms : List code_unit.Unit → Program
+unit_forms ds = map unit_form ds

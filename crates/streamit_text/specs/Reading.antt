@@ -11,7 +11,7 @@ use Rattle.text_blocks.specs.Reading as blocks
 use Rattle.streamit_text.specs.Blocks.{own_at, empty_at, style}
 use Rattle.streamit_text.specs.Expressions.{expr_at}
 use Rattle.streamit_text.specs.Leaves.{leaf_at}
-use Rattle.streamit_text.specs.Program.{WorkTree, FilterTree, Dealing, Turns, Adds, Body, AFilter, APipeline, Declared}
+use Rattle.streamit_text.specs.Program.{WorkTree, FilterTree, Dealing, Turns, Adds, Body, AFilter, APipeline, UnitForm}
 use Rattle.streamit_text.specs.Tree.{Block, Optional, or_unwritten}
 use Rattle.streamit_text.specs.Grammar.{stay, Rate, push, pop, peek, Rates, unwritten, rates_in, made_work, made_filter, none_there, the_name, made_adds, copying}
 use Rattle.streamit_text.specs.Grammar.{made_both, made_unit, next_unit}
@@ -130,16 +130,16 @@ body_after n w ts =
     else if bytes_eq w (codes "splitjoin") then both_at n ts
     else None
 
-unfoldable pub kind_after : ℕ → List ℕ → Parse Declared
+unfoldable pub kind_after : ℕ → List ℕ → Parse UnitForm
 kind_after n w ts = seen made_unit (both (called_at n) (body_after n w)) ts
 
-unfoldable pub unit_at : Parse Declared
+unfoldable pub unit_at : Parse UnitForm
 unit_at ts = after_word (codes "int") (after (s.Arrow ∷ []) (after_word (codes "int") (headed (kind_after 128)))) ts
 
-abbrev pub unit_from : Unit {0} → Parse Declared
+abbrev pub unit_from : Unit {0} → Parse UnitForm
 unit_from u = unit_at
 
 -- the units of a text, of which there has to be one
-abbrev pub some_units : List (List Tok) → Result (List Declared) ℕ
+abbrev pub some_units : List (List Tok) → Result (List UnitForm) ℕ
 some_units [] = Err 1
 some_units (u ∷ us) = read_units unit_from next_unit tt 1 (u ∷ us)

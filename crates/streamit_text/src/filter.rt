@@ -15,12 +15,12 @@ use crate::still::stay;
 use crate::{Block, FilterTree, Rates, WorkTree};
 use river_base::Name;
 use std::alloc::Global;
-use text_forms::{Fault, Reader, closed, is};
+use text_forms::{ParseFault, Reader, closed, is};
 use work_text::Symbol;
 
 // `int NAME;`
 #[tactic(auto, unfolding(crate::specs::Reading::field_at))]
-fn field(reader: &mut Reader<'_>) -> Result<Name, Fault>
+fn field(reader: &mut Reader<'_>) -> Result<Name, ParseFault>
     ensures { Gives (λ name. name) result reader.new (field_at reader.old) }
 {
     reader.word(b"int")?;
@@ -30,7 +30,7 @@ fn field(reader: &mut Reader<'_>) -> Result<Name, Fault>
 
 /// The fields of a filter: `int NAME;` as often as it comes.
 #[tactic(auto, unfolding(crate::specs::Reading::fields_at), using(crate::proofs::FieldSteps::fields))]
-pub fn fields(reader: &mut Reader<'_>, alloc: Global) -> Result<Vec<Name>, Fault>
+pub fn fields(reader: &mut Reader<'_>, alloc: Global) -> Result<Vec<Name>, ParseFault>
     ensures { Gives (λ names. names.items) result reader.new (fields_at reader.old) }
 {
     let mut names = Vec::new(alloc);
@@ -50,7 +50,7 @@ enum Rate {
 
 // What stands behind the word of a rate.
 #[tactic(auto, unfolding(crate::specs::Reading::rate_after))]
-fn rate_after(reader: &mut Reader<'_>, word: &[u8]) -> Result<Rate, Fault>
+fn rate_after(reader: &mut Reader<'_>, word: &[u8]) -> Result<Rate, ParseFault>
     ensures { Gives rate_of result reader.new (rate_after word.now reader.old) }
 {
     if is(word, b"push") {
@@ -62,12 +62,12 @@ fn rate_after(reader: &mut Reader<'_>, word: &[u8]) -> Result<Rate, Fault>
     if is(word, b"peek") {
         return Ok(Rate::Peek(reader.count()?));
     }
-    Err(Fault::Syntax)
+    Err(ParseFault::Syntax)
 }
 
 // A word and a number.
 #[tactic(auto, unfolding(crate::specs::Reading::rate_at))]
-fn one_rate(reader: &mut Reader<'_>) -> Result<Rate, Fault>
+fn one_rate(reader: &mut Reader<'_>) -> Result<Rate, ParseFault>
     ensures { Gives rate_of result reader.new (rate_at reader.old) }
 {
     let word = reader.name()?;
@@ -97,7 +97,7 @@ fn with_rate(rates: Rates, rate: Rate) -> Option<Rates>
 
 // The rates, each of them once at most.
 #[tactic(auto, using(crate::proofs::RateSteps::rates))]
-fn rates(reader: &mut Reader<'_>) -> Result<Rates, Fault>
+fn rates(reader: &mut Reader<'_>) -> Result<Rates, ParseFault>
     ensures { Gives rates_of result reader.new (rates_at reader.old) }
 {
     let mut rates = Rates {
@@ -109,7 +109,7 @@ fn rates(reader: &mut Reader<'_>) -> Result<Rates, Fault>
         let rate = one_rate(reader)?;
         match with_rate(rates, rate) {
             Some(more) => rates = more,
-            None => return Err(Fault::Syntax),
+            None => return Err(ParseFault::Syntax),
         }
     }
     Ok(rates)
@@ -117,20 +117,20 @@ fn rates(reader: &mut Reader<'_>) -> Result<Rates, Fault>
 
 // A block without `push`, `pop` and `peek`.
 #[tactic(auto, unfolding(crate::specs::Reading::still_at))]
-fn still(reader: &mut Reader<'_>, alloc: Global, brackets: u32) -> Result<Block, Fault>
+fn still(reader: &mut Reader<'_>, alloc: Global, brackets: u32) -> Result<Block, ParseFault>
     ensures { Gives block result reader.new (still_at brackets reader.old) }
 {
     let all = block(reader, alloc, brackets)?;
     if stay(&all) {
         Ok(all)
     } else {
-        Err(Fault::Syntax)
+        Err(ParseFault::Syntax)
     }
 }
 
 // `init` and its block, or nothing.
 #[tactic(auto, unfolding(crate::specs::Reading::init_at))]
-fn init(reader: &mut Reader<'_>, alloc: Global, brackets: u32) -> Result<Option<Block>, Fault>
+fn init(reader: &mut Reader<'_>, alloc: Global, brackets: u32) -> Result<Option<Block>, ParseFault>
     ensures { Gives optional_block result reader.new (init_at brackets reader.old) }
 {
     if !reader.is_at_word(b"init") {
@@ -142,7 +142,7 @@ fn init(reader: &mut Reader<'_>, alloc: Global, brackets: u32) -> Result<Option<
 
 // Rates and a block.
 #[tactic(auto, unfolding(crate::specs::Reading::work_at), using(crate::proofs::RateSteps::filters))]
-fn work(reader: &mut Reader<'_>, alloc: Global, brackets: u32) -> Result<WorkTree, Fault>
+fn work(reader: &mut Reader<'_>, alloc: Global, brackets: u32) -> Result<WorkTree, ParseFault>
     ensures { Gives work_tree result reader.new (work_at brackets reader.old) }
 {
     let rates = rates(reader)?;
@@ -152,7 +152,7 @@ fn work(reader: &mut Reader<'_>, alloc: Global, brackets: u32) -> Result<WorkTre
 
 // `prework`, its rates and its block, or nothing.
 #[tactic(auto, unfolding(crate::specs::Reading::prework_at))]
-fn prework(reader: &mut Reader<'_>, alloc: Global, brackets: u32) -> Result<Option<WorkTree>, Fault>
+fn prework(reader: &mut Reader<'_>, alloc: Global, brackets: u32) -> Result<Option<WorkTree>, ParseFault>
     ensures { Gives (optional work_tree) result reader.new (prework_at brackets reader.old) }
 {
     if !reader.is_at_word(b"prework") {
@@ -163,7 +163,7 @@ fn prework(reader: &mut Reader<'_>, alloc: Global, brackets: u32) -> Result<Opti
 }
 
 // `work`, its rates and its block.
-fn main_work(reader: &mut Reader<'_>, alloc: Global, brackets: u32) -> Result<WorkTree, Fault>
+fn main_work(reader: &mut Reader<'_>, alloc: Global, brackets: u32) -> Result<WorkTree, ParseFault>
     ensures { Gives work_tree result reader.new (after_word (codes "work") (work_at brackets) reader.old) }
 {
     reader.word(b"work")?;
@@ -176,7 +176,7 @@ fn works(
     reader: &mut Reader<'_>,
     alloc: Global,
     brackets: u32,
-) -> Result<(Option<WorkTree>, WorkTree), Fault>
+) -> Result<(Option<WorkTree>, WorkTree), ParseFault>
     ensures { Gives works_tree result reader.new (works_at brackets reader.old) }
 {
     let prework = prework(reader, alloc, brackets)?;
@@ -186,7 +186,7 @@ fn works(
 
 // What stands between the braces of a filter.
 #[tactic(auto, unfolding(crate::specs::Reading::in_filter_at), using(crate::proofs::RateSteps::filters))]
-fn in_filter(reader: &mut Reader<'_>, alloc: Global, brackets: u32) -> Result<FilterTree, Fault>
+fn in_filter(reader: &mut Reader<'_>, alloc: Global, brackets: u32) -> Result<FilterTree, ParseFault>
     ensures { Gives filter_tree result reader.new (in_filter_at brackets reader.old) }
 {
     let fields = fields(reader, alloc)?;
@@ -202,7 +202,7 @@ fn in_filter(reader: &mut Reader<'_>, alloc: Global, brackets: u32) -> Result<Fi
 
 /// `{` what a filter has `}`
 #[tactic(auto, unfolding(crate::specs::Reading::filter_at))]
-pub fn filter(reader: &mut Reader<'_>, alloc: Global, brackets: u32) -> Result<FilterTree, Fault>
+pub fn filter(reader: &mut Reader<'_>, alloc: Global, brackets: u32) -> Result<FilterTree, ParseFault>
     ensures { Gives filter_tree result reader.new (filter_at brackets reader.old) }
 {
     let inner = reader.opens(Symbol::OpenBrace, brackets)?;

@@ -9,7 +9,7 @@ ghost use Rattle.streamit_text.specs.Tree.{Expression, expression, depth_of};
 
 use crate::Expr;
 use crate::names::own;
-use text_forms::{Fault, Reader, is};
+use text_forms::{ParseFault, Reader, is};
 use work_text::{Symbol, Token};
 
 /// The leaves of StreamIt's expressions, or of those of a language that has others.
@@ -21,7 +21,7 @@ pub trait Leaves {
     ghost form: { Self → ℕ → Expression → List Tok → Type 0 };
 
     /// The leaf that has to come next.
-    fn leaf(&self, reader: &mut Reader<'_>, brackets: u32) -> Result<Expr, Fault>
+    fn leaf(&self, reader: &mut Reader<'_>, brackets: u32) -> Result<Expr, ParseFault>
         ensures reads { Gives expression result reader.new (leaf self.now brackets reader.old) }
         ensures depth { IfOk result (λ e. depth_of (expression e) ≡ 1) };
 
@@ -33,7 +33,7 @@ pub struct Plain;
 
 /// What stands behind the word `pop`: `()`.
 #[tactic(auto, unfolding(crate::specs::Leaves::pop_at))]
-pub fn pop(reader: &mut Reader<'_>, brackets: u32) -> Result<Expr, Fault>
+pub fn pop(reader: &mut Reader<'_>, brackets: u32) -> Result<Expr, ParseFault>
     ensures reads { Gives expression result reader.new (pop_at brackets reader.old) }
     ensures depth { IfOk result (λ e. depth_of (expression e) ≡ 1) }
 {
@@ -44,7 +44,7 @@ pub fn pop(reader: &mut Reader<'_>, brackets: u32) -> Result<Expr, Fault>
 
 // A leaf that begins with this name.
 #[tactic(auto, unfolding(crate::specs::Leaves::named_leaf))]
-fn named_leaf(reader: &mut Reader<'_>, brackets: u32, text: &[u8]) -> Result<Expr, Fault>
+fn named_leaf(reader: &mut Reader<'_>, brackets: u32, text: &[u8]) -> Result<Expr, ParseFault>
     ensures reads { Gives expression result reader.new (named_leaf brackets text.now reader.old) }
     ensures depth { IfOk result (λ e. depth_of (expression e) ≡ 1) }
 {
@@ -53,7 +53,7 @@ fn named_leaf(reader: &mut Reader<'_>, brackets: u32, text: &[u8]) -> Result<Exp
     }
     match own(text) {
         Some(name) => Ok(Expr::Name(name)),
-        None => Err(Fault::Syntax),
+        None => Err(ParseFault::Syntax),
     }
 }
 
@@ -66,14 +66,14 @@ impl Leaves for Plain {
 
     ghost apart = { λ _. apart };
 
-    fn leaf(&self, reader: &mut Reader<'_>, brackets: u32) -> Result<Expr, Fault>
+    fn leaf(&self, reader: &mut Reader<'_>, brackets: u32) -> Result<Expr, ParseFault>
         ensures reads { Gives expression result reader.new (leaf_at brackets reader.old) }
         ensures depth { IfOk result (λ e. depth_of (expression e) ≡ 1) }
     {
         match reader.peek() {
             Some(Token::Number(value)) => {
                 if value > 9_223_372_036_854_775_807 {
-                    return Err(Fault::Syntax);
+                    return Err(ParseFault::Syntax);
                 }
                 reader.skip();
                 Ok(Expr::Number(value))
@@ -82,7 +82,7 @@ impl Leaves for Plain {
                 reader.skip();
                 named_leaf(reader, brackets, text)
             }
-            _ => Err(Fault::Syntax),
+            _ => Err(ParseFault::Syntax),
         }
     }
 }

@@ -11,7 +11,7 @@ use crate::Adds;
 use crate::statement::empty;
 use river_base::Name;
 use std::alloc::Global;
-use text_forms::{Fault, Reader, closed, is_free};
+use text_forms::{ParseFault, Reader, closed, is_free};
 use work_text::Symbol;
 
 const KEYWORDS: &[&[u8]] = &[
@@ -56,20 +56,20 @@ pub fn own(word: &[u8]) -> Option<Name>
 
 /// A name that users may give.
 #[tactic(auto, unfolding(crate::specs::Blocks::own_at), using(crate::proofs::Adding::names))]
-pub fn name(reader: &mut Reader<'_>) -> Result<Name, Fault>
+pub fn name(reader: &mut Reader<'_>) -> Result<Name, ParseFault>
     ensures reads { Gives (λ name. name) result reader.new (own_at reader.old) }
     ensures short { IfOk result (λ name. length name ≤ 40) }
 {
     let text = reader.name()?;
     match own(text) {
         Some(name) => Ok(name),
-        None => Err(Fault::Syntax),
+        None => Err(ParseFault::Syntax),
     }
 }
 
 /// `()`, or nothing.
 #[tactic(auto, unfolding(crate::specs::Reading::parens_at))]
-pub fn parens(reader: &mut Reader<'_>, brackets: u32) -> Result<(), Fault>
+pub fn parens(reader: &mut Reader<'_>, brackets: u32) -> Result<(), ParseFault>
     ensures { Gives (λ u. u) result reader.new (parens_at brackets reader.old) }
 {
     if reader.is_at(Symbol::Open) {
@@ -80,7 +80,7 @@ pub fn parens(reader: &mut Reader<'_>, brackets: u32) -> Result<(), Fault>
 
 /// A stream's name, and `()` or nothing.
 #[tactic(auto, unfolding(crate::specs::Reading::called_at))]
-pub fn called(reader: &mut Reader<'_>, brackets: u32) -> Result<Name, Fault>
+pub fn called(reader: &mut Reader<'_>, brackets: u32) -> Result<Name, ParseFault>
     ensures reads { Gives (λ name. name) result reader.new (called_at brackets reader.old) }
     ensures short { IfOk result (λ name. length name ≤ 40) }
 {
@@ -91,7 +91,7 @@ pub fn called(reader: &mut Reader<'_>, brackets: u32) -> Result<Name, Fault>
 
 // `add NAME;`
 #[tactic(auto, unfolding(crate::specs::Reading::add_at))]
-fn add(reader: &mut Reader<'_>, brackets: u32) -> Result<Name, Fault>
+fn add(reader: &mut Reader<'_>, brackets: u32) -> Result<Name, ParseFault>
     ensures { Gives (λ name. name) result reader.new (add_at brackets reader.old) }
 {
     reader.word(b"add")?;
@@ -101,7 +101,7 @@ fn add(reader: &mut Reader<'_>, brackets: u32) -> Result<Name, Fault>
 
 // As often as `add` comes.
 #[tactic(auto, unfolding(crate::specs::Reading::more_adds_at), using(crate::proofs::Adding::more))]
-fn more_adds(reader: &mut Reader<'_>, alloc: Global, brackets: u32) -> Result<Vec<Name>, Fault>
+fn more_adds(reader: &mut Reader<'_>, alloc: Global, brackets: u32) -> Result<Vec<Name>, ParseFault>
     ensures { Gives (λ names. names.items) result reader.new (more_adds_at brackets reader.old) }
 {
     let mut names = Vec::new(alloc);
@@ -113,7 +113,7 @@ fn more_adds(reader: &mut Reader<'_>, alloc: Global, brackets: u32) -> Result<Ve
 
 /// What is added, once or more.
 #[tactic(auto, unfolding(crate::specs::Reading::adds_at))]
-pub fn adds(reader: &mut Reader<'_>, alloc: Global, brackets: u32) -> Result<Adds, Fault>
+pub fn adds(reader: &mut Reader<'_>, alloc: Global, brackets: u32) -> Result<Adds, ParseFault>
     ensures { Gives adds_of result reader.new (adds_at brackets reader.old) }
 {
     let first = add(reader, brackets)?;
@@ -123,7 +123,7 @@ pub fn adds(reader: &mut Reader<'_>, alloc: Global, brackets: u32) -> Result<Add
 
 /// `{` what is added `}`
 #[tactic(auto, unfolding(crate::specs::Reading::pipe_at))]
-pub fn pipe(reader: &mut Reader<'_>, alloc: Global, brackets: u32) -> Result<Adds, Fault>
+pub fn pipe(reader: &mut Reader<'_>, alloc: Global, brackets: u32) -> Result<Adds, ParseFault>
     ensures { Gives adds_of result reader.new (pipe_at brackets reader.old) }
 {
     let inner = reader.opens(Symbol::OpenBrace, brackets)?;

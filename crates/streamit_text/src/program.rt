@@ -6,7 +6,7 @@ use river_base::Name;
 
 /// A unit of a program: a stream that is declared. Its name has at most 40 bytes.
 #[derive(Drop)]
-pub struct Declaration {
+pub struct Unit {
     pub name: Name,
     pub body: Body,
     ghost short: { length name ≤ 40 },

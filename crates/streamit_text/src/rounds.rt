@@ -8,25 +8,25 @@ ghost use Rattle.streamit_text.specs.View.{split_join_of};
 use crate::names::{adds, parens};
 use crate::{RoundRobin, Split, SplitJoin};
 use std::alloc::Global;
-use text_forms::{Fault, Reader, closed, is};
+use text_forms::{ParseFault, Reader, closed, is};
 use work_text::Symbol;
 
 // A weight.
 #[tactic(auto, unfolding(crate::specs::Reading::weight_at))]
-fn weight(reader: &mut Reader<'_>) -> Result<u64, Fault>
+fn weight(reader: &mut Reader<'_>) -> Result<u64, ParseFault>
     ensures { Gives (λ w. w) result reader.new (weight_at reader.old) }
 {
     let value = reader.number()?;
     if value <= 9_223_372_036_854_775_807 {
         Ok(value)
     } else {
-        Err(Fault::Syntax)
+        Err(ParseFault::Syntax)
     }
 }
 
 // Weights with commas between them, at least one.
 #[tactic(auto, unfolding(crate::specs::Reading::some_weights_at), using(crate::proofs::Weighing::weights))]
-fn some_weights(reader: &mut Reader<'_>, alloc: Global) -> Result<Vec<u64>, Fault>
+fn some_weights(reader: &mut Reader<'_>, alloc: Global) -> Result<Vec<u64>, ParseFault>
     ensures { Gives (λ ws. ws.items) result reader.new (some_weights_at reader.old) }
 {
     let mut list = Vec::new(alloc);
@@ -39,7 +39,7 @@ fn some_weights(reader: &mut Reader<'_>, alloc: Global) -> Result<Vec<u64>, Faul
 
 // Weights in brackets, or none in them.
 #[tactic(auto, unfolding(crate::specs::Reading::listed_at, crate::specs::Reading::some_weights_at, text_blocks::specs::Parts::round_at))]
-fn listed(reader: &mut Reader<'_>, alloc: Global, brackets: u32) -> Result<Vec<u64>, Fault>
+fn listed(reader: &mut Reader<'_>, alloc: Global, brackets: u32) -> Result<Vec<u64>, ParseFault>
     ensures { Gives (λ ws. ws.items) result reader.new (listed_at brackets reader.old) }
 {
     reader.opens(Symbol::Open, brackets)?;
@@ -53,7 +53,7 @@ fn listed(reader: &mut Reader<'_>, alloc: Global, brackets: u32) -> Result<Vec<u
 
 // Weights in brackets, or no brackets.
 #[tactic(auto, unfolding(crate::specs::Reading::weights_at))]
-fn weights(reader: &mut Reader<'_>, alloc: Global, brackets: u32) -> Result<RoundRobin, Fault>
+fn weights(reader: &mut Reader<'_>, alloc: Global, brackets: u32) -> Result<RoundRobin, ParseFault>
     ensures { Gives weights_of result reader.new (weights_at brackets reader.old) }
 {
     if !reader.is_at(Symbol::Open) {
@@ -72,7 +72,7 @@ fn split_after(
     alloc: Global,
     brackets: u32,
     word: &[u8],
-) -> Result<Split, Fault>
+) -> Result<Split, ParseFault>
     ensures { Gives dealing_of result reader.new (split_after brackets word.now reader.old) }
 {
     if is(word, b"duplicate") {
@@ -82,12 +82,12 @@ fn split_after(
     if is(word, b"roundrobin") {
         return Ok(Split::RoundRobin(weights(reader, alloc, brackets)?));
     }
-    Err(Fault::Syntax)
+    Err(ParseFault::Syntax)
 }
 
 // `split ..;`
 #[tactic(auto, unfolding(crate::specs::Reading::split_at))]
-fn split(reader: &mut Reader<'_>, alloc: Global, brackets: u32) -> Result<Split, Fault>
+fn split(reader: &mut Reader<'_>, alloc: Global, brackets: u32) -> Result<Split, ParseFault>
     ensures { Gives dealing_of result reader.new (split_at brackets reader.old) }
 {
     reader.word(b"split")?;
@@ -98,7 +98,7 @@ fn split(reader: &mut Reader<'_>, alloc: Global, brackets: u32) -> Result<Split,
 
 // `join roundrobin ..;`
 #[tactic(auto, unfolding(crate::specs::Reading::join_at))]
-fn join(reader: &mut Reader<'_>, alloc: Global, brackets: u32) -> Result<RoundRobin, Fault>
+fn join(reader: &mut Reader<'_>, alloc: Global, brackets: u32) -> Result<RoundRobin, ParseFault>
     ensures { Gives weights_of result reader.new (join_at brackets reader.old) }
 {
     reader.word(b"join")?;
@@ -109,7 +109,7 @@ fn join(reader: &mut Reader<'_>, alloc: Global, brackets: u32) -> Result<RoundRo
 
 // The splitter, what is added, and the joiner.
 #[tactic(auto, unfolding(crate::specs::Reading::in_both_at))]
-fn in_both(reader: &mut Reader<'_>, alloc: Global, brackets: u32) -> Result<SplitJoin, Fault>
+fn in_both(reader: &mut Reader<'_>, alloc: Global, brackets: u32) -> Result<SplitJoin, ParseFault>
     ensures { Gives split_join_of result reader.new (in_both_at brackets reader.old) }
 {
     let split = split(reader, alloc, brackets)?;
@@ -120,7 +120,7 @@ fn in_both(reader: &mut Reader<'_>, alloc: Global, brackets: u32) -> Result<Spli
 
 /// `{` the splitter, what is added, and the joiner `}`
 #[tactic(auto, unfolding(crate::specs::Reading::both_at))]
-pub fn both(reader: &mut Reader<'_>, alloc: Global, brackets: u32) -> Result<SplitJoin, Fault>
+pub fn both(reader: &mut Reader<'_>, alloc: Global, brackets: u32) -> Result<SplitJoin, ParseFault>
     ensures { Gives split_join_of result reader.new (both_at brackets reader.old) }
 {
     let inner = reader.opens(Symbol::OpenBrace, brackets)?;

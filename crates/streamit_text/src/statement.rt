@@ -10,17 +10,17 @@ ghost use Rattle.streamit_text.specs.Tree.{expression, is_turn, statement, block
 ghost use Rattle.streamit_text.specs.View.{head_of, upper_of};
 
 use crate::names::{name, own};
-use crate::term::Streamit;
+use crate::term::StreamitGrammar;
 use crate::{Block, Expr, Leaves, Plain, Statement, Until};
 use river_base::{Name, NoMemory};
 use std::alloc::Global;
 use text_blocks::{Blocks, Opening, ended, first_value, round};
-use text_forms::{Fault, Reader, closed, is};
+use text_forms::{ParseFault, Reader, closed, is};
 use work_text::Symbol;
 
 /// `()`
 #[tactic(auto, unfolding(crate::specs::Blocks::empty_at, text_blocks::specs::Parts::round_at))]
-pub fn empty(reader: &mut Reader<'_>, brackets: u32) -> Result<(), Fault>
+pub fn empty(reader: &mut Reader<'_>, brackets: u32) -> Result<(), ParseFault>
     ensures { Gives (λ u. u) result reader.new (empty_at brackets reader.old) }
 {
     reader.opens(Symbol::Open, brackets)?;
@@ -31,11 +31,11 @@ pub fn empty(reader: &mut Reader<'_>, brackets: u32) -> Result<(), Fault>
 // What stands behind `int`.
 #[tactic(auto, unfolding(crate::specs::Blocks::declare_at), using(crate::proofs::Trees::trees))]
 fn declare<L: Leaves>(
-    language: &Streamit<L>,
+    language: &StreamitGrammar<L>,
     reader: &mut Reader<'_>,
     alloc: Global,
     brackets: u32,
-) -> Result<Statement, Fault>
+) -> Result<Statement, ParseFault>
     ensures { Gives statement result reader.new (declare_at (expr_at (L.leaf language.now.leaves)) brackets reader.old) }
 {
     let name = name(reader)?;
@@ -50,12 +50,12 @@ fn declare<L: Leaves>(
 // What stands behind the name of an assignment.
 #[tactic(auto, unfolding(crate::specs::Blocks::assign_at), using(crate::proofs::Trees::trees))]
 fn assign<L: Leaves>(
-    language: &Streamit<L>,
+    language: &StreamitGrammar<L>,
     reader: &mut Reader<'_>,
     alloc: Global,
     brackets: u32,
     name: Name,
-) -> Result<Statement, Fault>
+) -> Result<Statement, ParseFault>
     ensures { Gives statement result reader.new (assign_at (expr_at (L.leaf language.now.leaves)) name brackets reader.old) }
 {
     reader.expect(&[Symbol::Assign])?;
@@ -66,11 +66,11 @@ fn assign<L: Leaves>(
 // What stands behind `push`.
 #[tactic(auto, unfolding(crate::specs::Blocks::push_at), using(crate::proofs::Trees::trees))]
 fn push<L: Leaves>(
-    language: &Streamit<L>,
+    language: &StreamitGrammar<L>,
     reader: &mut Reader<'_>,
     alloc: Global,
     brackets: u32,
-) -> Result<Statement, Fault>
+) -> Result<Statement, ParseFault>
     ensures { Gives statement result reader.new (push_at (expr_at (L.leaf language.now.leaves)) brackets reader.old) }
 {
     let value = round(language, reader, alloc, brackets)?;
@@ -79,7 +79,7 @@ fn push<L: Leaves>(
 
 // What stands behind `pop`.
 #[tactic(auto, unfolding(crate::specs::Blocks::discard_at), using(crate::proofs::Trees::trees))]
-fn discard(reader: &mut Reader<'_>, brackets: u32) -> Result<Statement, Fault>
+fn discard(reader: &mut Reader<'_>, brackets: u32) -> Result<Statement, ParseFault>
     ensures { Gives statement result reader.new (discard_at brackets reader.old) }
 {
     empty(reader, brackets)?;
@@ -89,12 +89,12 @@ fn discard(reader: &mut Reader<'_>, brackets: u32) -> Result<Statement, Fault>
 // What stands behind the first word of a statement that is no `if` and no `for`.
 #[tactic(auto, unfolding(crate::specs::Blocks::plain_at))]
 fn plain<L: Leaves>(
-    language: &Streamit<L>,
+    language: &StreamitGrammar<L>,
     reader: &mut Reader<'_>,
     alloc: Global,
     brackets: u32,
     word: &[u8],
-) -> Result<Statement, Fault>
+) -> Result<Statement, ParseFault>
     ensures { Gives statement result reader.new (plain_at (expr_at (L.leaf language.now.leaves)) brackets word.now reader.old) }
 {
     if is(word, b"int") {
@@ -108,7 +108,7 @@ fn plain<L: Leaves>(
     }
     match own(word) {
         Some(name) => assign(language, reader, alloc, brackets, name),
-        None => Err(Fault::Syntax),
+        None => Err(ParseFault::Syntax),
     }
 }
 
@@ -129,7 +129,7 @@ pub struct Upper {
 
 // `<`, or `<=`, which stands for one turn more.
 #[tactic(auto, unfolding(crate::specs::Blocks::upto_at))]
-fn until(reader: &mut Reader<'_>) -> Result<Until, Fault>
+fn until(reader: &mut Reader<'_>) -> Result<Until, ParseFault>
     ensures { Gives is_turn result reader.new (upto_at reader.old) }
 {
     if reader.is_at(Symbol::Less) {
@@ -142,7 +142,7 @@ fn until(reader: &mut Reader<'_>) -> Result<Until, Fault>
 
 // NAME `++`
 #[tactic(auto, unfolding(crate::specs::Blocks::step_at))]
-fn step(reader: &mut Reader<'_>, name: Name) -> Result<(), Fault>
+fn step(reader: &mut Reader<'_>, name: Name) -> Result<(), ParseFault>
     ensures { Gives (λ u. u) result reader.new (step_at name reader.old) }
 {
     reader.word(name.as_slice())?;
@@ -153,12 +153,12 @@ fn step(reader: &mut Reader<'_>, name: Name) -> Result<(), Fault>
 // What stands behind the first semicolon of a head.
 #[tactic(auto, unfolding(crate::specs::Blocks::upper_at))]
 fn upper_bound<L: Leaves>(
-    language: &Streamit<L>,
+    language: &StreamitGrammar<L>,
     reader: &mut Reader<'_>,
     alloc: Global,
     brackets: u32,
     name: Name,
-) -> Result<Upper, Fault>
+) -> Result<Upper, ParseFault>
     ensures { Gives upper_of result reader.new (upper_at (expr_at (L.leaf language.now.leaves)) brackets name reader.old) }
 {
     reader.word(name.as_slice())?;
@@ -171,12 +171,12 @@ fn upper_bound<L: Leaves>(
 // What stands behind the first name of a head.
 #[tactic(auto, unfolding(crate::specs::Blocks::head_after))]
 fn after_name<L: Leaves>(
-    language: &Streamit<L>,
+    language: &StreamitGrammar<L>,
     reader: &mut Reader<'_>,
     alloc: Global,
     brackets: u32,
     name: Name,
-) -> Result<ForHead, Fault>
+) -> Result<ForHead, ParseFault>
     ensures { Gives head_of result reader.new (head_after (expr_at (L.leaf language.now.leaves)) brackets name reader.old) }
 {
     reader.expect(&[Symbol::Assign])?;
@@ -188,29 +188,29 @@ fn after_name<L: Leaves>(
 // The head of a `for`, without its brackets.
 #[tactic(auto, unfolding(crate::specs::Blocks::head_at, crate::specs::Blocks::named_head_at))]
 fn inner_head<L: Leaves>(
-    language: &Streamit<L>,
+    language: &StreamitGrammar<L>,
     reader: &mut Reader<'_>,
     alloc: Global,
     brackets: u32,
-) -> Result<ForHead, Fault>
+) -> Result<ForHead, ParseFault>
     ensures { Gives head_of result reader.new (head_at (expr_at (L.leaf language.now.leaves)) brackets reader.old) }
 {
     reader.word(b"int")?;
     let word = reader.name()?;
     match own(word) {
         Some(name) => after_name(language, reader, alloc, brackets, name),
-        None => Err(Fault::Syntax),
+        None => Err(ParseFault::Syntax),
     }
 }
 
 /// The head of a `for` in its brackets.
 #[tactic(auto, unfolding(crate::specs::Blocks::round_head_at, text_blocks::specs::Parts::round_at))]
 pub fn round_head<L: Leaves>(
-    language: &Streamit<L>,
+    language: &StreamitGrammar<L>,
     reader: &mut Reader<'_>,
     alloc: Global,
     brackets: u32,
-) -> Result<ForHead, Fault>
+) -> Result<ForHead, ParseFault>
     ensures { Gives head_of result reader.new (round_head_at (expr_at (L.leaf language.now.leaves)) brackets reader.old) }
 {
     let inner = reader.opens(Symbol::Open, brackets)?;
@@ -218,7 +218,7 @@ pub fn round_head<L: Leaves>(
     closed(reader, head, Symbol::Close)
 }
 
-impl<L: Leaves> Blocks for Streamit<L> {
+impl<L: Leaves> Blocks for StreamitGrammar<L> {
     ghost use Rattle.streamit_text.specs.Blocks.{Head, holes};
     ghost use Rattle.streamit_text.specs.ExactStatements.{exact-streamit};
     ghost use Rattle.streamit_text.specs.Expressions.{IsExpression};
@@ -271,7 +271,7 @@ impl<L: Leaves> Blocks for Streamit<L> {
         reader: &mut Reader<'_>,
         alloc: Global,
         brackets: u32,
-    ) -> Result<Expr, Fault>
+    ) -> Result<Expr, ParseFault>
         ensures { Gives expression result reader.new (round_at (expr_at (L.leaf self.now.leaves)) brackets reader.old) }
     {
         round(self, reader, alloc, brackets)
@@ -283,7 +283,7 @@ impl<L: Leaves> Blocks for Streamit<L> {
         alloc: Global,
         brackets: u32,
         _word: &[u8],
-    ) -> Result<ForHead, Fault>
+    ) -> Result<ForHead, ParseFault>
         ensures { Gives head_of result reader.new (round_head_at (expr_at (L.leaf self.now.leaves)) brackets reader.old) }
     {
         round_head(self, reader, alloc, brackets)
@@ -295,7 +295,7 @@ impl<L: Leaves> Blocks for Streamit<L> {
         alloc: Global,
         brackets: u32,
         word: &[u8],
-    ) -> Result<Statement, Fault>
+    ) -> Result<Statement, ParseFault>
         ensures { Gives statement result reader.new (plain_at (expr_at (L.leaf self.now.leaves)) brackets word.now reader.old) }
     {
         plain(self, reader, alloc, brackets, word)
@@ -337,8 +337,8 @@ impl<L: Leaves> Blocks for Streamit<L> {
 
 /// `{` statements `}`, in which `if` and `for` together nest at most 16 deep.
 #[tactic(auto, unfolding(crate::specs::Reading::block_at))]
-pub fn block(reader: &mut Reader<'_>, alloc: Global, brackets: u32) -> Result<Block, Fault>
+pub fn block(reader: &mut Reader<'_>, alloc: Global, brackets: u32) -> Result<Block, ParseFault>
     ensures { Gives block result reader.new (block_at brackets reader.old) }
 {
-    text_blocks::block(&Streamit { leaves: Plain }, reader, alloc, 16, brackets)
+    text_blocks::block(&StreamitGrammar { leaves: Plain }, reader, alloc, 16, brackets)
 }

@@ -9,7 +9,7 @@ use crate::{Expr, Leaves};
 use river_base::NoMemory;
 use std::alloc::Global;
 use text_blocks::{Terms, take_sign};
-use text_forms::{Fault, Reader, is};
+use text_forms::{ParseFault, Reader, is};
 use work_code::BinOp;
 use work_text::Token;
 
@@ -53,11 +53,11 @@ fn own_call(reader: &mut Reader<'_>) -> Option<Sign>
 }
 
 /// The language with these leaves, for the readers of expressions and of statements of any language.
-pub struct Streamit<L> {
+pub struct StreamitGrammar<L> {
     pub leaves: L,
 }
 
-impl<L: Leaves> Terms for Streamit<L> {
+impl<L: Leaves> Terms for StreamitGrammar<L> {
     ghost use Rattle.streamit_text.specs.Expressions.{marks, is_deeper};
     ghost use Rattle.streamit_text.specs.Tree.{Expression, expression};
 
@@ -83,7 +83,7 @@ impl<L: Leaves> Terms for Streamit<L> {
         own_call(reader)
     }
 
-    fn leaf(&self, reader: &mut Reader<'_>, brackets: u32) -> Result<Expr, Fault> {
+    fn leaf(&self, reader: &mut Reader<'_>, brackets: u32) -> Result<Expr, ParseFault> {
         self.leaves.leaf(reader, brackets)
     }
 

@@ -1,15 +1,15 @@
 // Units read.
 ghost use Rattle.std.specs.Prelude.{◌≡◌};
 ghost use Rattle.text_forms.specs.Gives.{Gives};
-ghost use Rattle.streamit_text.specs.Program.{body_of, declared_of};
+ghost use Rattle.streamit_text.specs.Program.{body_of, unit_form};
 ghost use Rattle.streamit_text.specs.Reading.{body_after, kind_after, unit_at};
 
 use crate::filter::filter;
 use crate::names::{called, pipe};
 use crate::rounds::both;
-use crate::{Body, Declaration, Plain, Streamit};
+use crate::{Body, Unit, Plain, StreamitGrammar};
 use std::alloc::Global;
-use text_forms::{Fault, Reader, Units, is};
+use text_forms::{ParseFault, Reader, Units, is};
 use work_text::Symbol;
 
 // What stands behind the name of a stream of this kind.
@@ -19,7 +19,7 @@ fn body_after(
     alloc: Global,
     brackets: u32,
     word: &[u8],
-) -> Result<Body, Fault>
+) -> Result<Body, ParseFault>
     ensures { Gives body_of result reader.new (body_after brackets word.now reader.old) }
 {
     if is(word, b"filter") {
@@ -31,7 +31,7 @@ fn body_after(
     if is(word, b"splitjoin") {
         return Ok(Body::SplitJoin(both(reader, alloc, brackets)?));
     }
-    Err(Fault::Syntax)
+    Err(ParseFault::Syntax)
 }
 
 // What stands behind the kind of a stream.
@@ -41,18 +41,18 @@ fn kind_after(
     alloc: Global,
     brackets: u32,
     word: &[u8],
-) -> Result<Declaration, Fault>
-    ensures { Gives declared_of result reader.new (kind_after brackets word.now reader.old) }
+) -> Result<Unit, ParseFault>
+    ensures { Gives unit_form result reader.new (kind_after brackets word.now reader.old) }
 {
     let name = called(reader, brackets)?;
     let body = body_after(reader, alloc, brackets, word)?;
-    Ok(Declaration { name, body })
+    Ok(Unit { name, body })
 }
 
 // A unit.
 #[tactic(auto, unfolding(crate::specs::Reading::unit_at))]
-fn unit(reader: &mut Reader<'_>, alloc: Global) -> Result<Declaration, Fault>
-    ensures { Gives declared_of result reader.new (unit_at reader.old) }
+fn unit(reader: &mut Reader<'_>, alloc: Global) -> Result<Unit, ParseFault>
+    ensures { Gives unit_form result reader.new (unit_at reader.old) }
 {
     reader.word(b"int")?;
     reader.expect(&[Symbol::Arrow])?;
@@ -61,19 +61,19 @@ fn unit(reader: &mut Reader<'_>, alloc: Global) -> Result<Declaration, Fault>
     kind_after(reader, alloc, 128, word)
 }
 
-impl Units for Streamit<Plain> {
-    ghost use Rattle.streamit_text.specs.Program.{Declared, declared_of};
+impl Units for StreamitGrammar<Plain> {
+    ghost use Rattle.streamit_text.specs.Program.{UnitForm, unit_form};
     ghost use Rattle.streamit_text.specs.Reading.{unit_at};
 
-    type Unit = Declaration;
+    type Unit = Unit;
 
-    ghost UnitTree = { Declared };
+    ghost UnitTree = { UnitForm };
 
-    ghost unit_tree = { declared_of };
+    ghost unit_tree = { unit_form };
 
     ghost unit = { λ _. unit_at };
 
-    fn unit(&self, reader: &mut Reader<'_>, alloc: Global) -> Result<Declaration, Fault> {
+    fn unit(&self, reader: &mut Reader<'_>, alloc: Global) -> Result<Unit, ParseFault> {
         unit(reader, alloc)
     }
 }

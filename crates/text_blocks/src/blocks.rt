@@ -9,7 +9,7 @@ ghost use Rattle.text_blocks.specs.Parts.{optional};
 use crate::Opening;
 use river_base::NoMemory;
 use std::alloc::Global;
-use text_forms::{Fault, Reader, closed};
+use text_forms::{ParseFault, Reader, closed};
 use work_text::Symbol;
 
 /// A language's statements and blocks: what it hands in for them to be read.
@@ -55,7 +55,7 @@ pub trait Blocks {
         reader: &mut Reader<'_>,
         alloc: Global,
         brackets: u32,
-    ) -> Result<Self::Condition, Fault>
+    ) -> Result<Self::Condition, ParseFault>
         ensures { Gives condition_tree result reader.new ((style self.now).condition brackets reader.old) };
 
     /// The head of a loop behind this word.
@@ -65,7 +65,7 @@ pub trait Blocks {
         alloc: Global,
         brackets: u32,
         word: &[u8],
-    ) -> Result<Self::Head, Fault>
+    ) -> Result<Self::Head, ParseFault>
         ensures { Gives head_tree result reader.new ((style self.now).head brackets word.now reader.old) };
 
     /// What stands behind this word of a statement without blocks.
@@ -75,7 +75,7 @@ pub trait Blocks {
         alloc: Global,
         brackets: u32,
         word: &[u8],
-    ) -> Result<Self::Statement, Fault>
+    ) -> Result<Self::Statement, ParseFault>
         ensures { Gives statement result reader.new ((style self.now).plain brackets word.now reader.old) };
 
     /// A branch of these parts.
@@ -115,7 +115,7 @@ fn made_branch<L: Blocks>(
     cond: L::Condition,
     yes: L::Block,
     no: Option<L::Block>,
-) -> Result<L::Statement, Fault>
+) -> Result<L::Statement, ParseFault>
     ensures { Makes L.statement result (Some ((L.style language.now).branch (L.condition_tree cond) (L.block yes) (optional L.block no))) }
 {
     Ok(language.branch(alloc, cond, yes, no)?)
@@ -127,7 +127,7 @@ fn made_loop<L: Blocks>(
     alloc: Global,
     head: L::Head,
     body: L::Block,
-) -> Result<L::Statement, Fault>
+) -> Result<L::Statement, ParseFault>
     ensures { Makes L.statement result (Some ((L.style language.now).loop (L.head_tree head) (L.block body))) }
 {
     Ok(language.repeat(alloc, head, body)?)
@@ -138,7 +138,7 @@ fn made_block<L: Blocks>(
     language: &L,
     alloc: Global,
     statements: Vec<L::Statement>,
-) -> Result<L::Block, Fault>
+) -> Result<L::Block, ParseFault>
     ensures { Makes L.block result (Some ((L.style language.now).block (map L.statement statements.items))) }
 {
     Ok(language.block(alloc, statements)?)
@@ -153,7 +153,7 @@ fn statement<L: Blocks>(
     alloc: Global,
     nest: u32,
     brackets: u32,
-) -> Result<L::Statement, Fault>
+) -> Result<L::Statement, ParseFault>
     ensures { Gives L.statement result reader.new (stmt_at (L.style language.now) nest brackets reader.old) }
 {
     let word = reader.name()?;
@@ -175,7 +175,7 @@ pub fn rest<L: Blocks>(
     nest: u32,
     brackets: u32,
     word: &[u8],
-) -> Result<L::Statement, Fault>
+) -> Result<L::Statement, ParseFault>
     ensures { Gives L.statement result reader.new (rest_at (L.style language.now) nest brackets word.now reader.old) }
 {
     match language.opening(word) {
@@ -194,11 +194,11 @@ fn branch<L: Blocks>(
     alloc: Global,
     nest: u32,
     brackets: u32,
-) -> Result<L::Statement, Fault>
+) -> Result<L::Statement, ParseFault>
     ensures { Gives L.statement result reader.new (branch_at (L.style language.now) nest brackets reader.old) }
 {
     if nest == 0 {
-        return Err(Fault::Syntax);
+        return Err(ParseFault::Syntax);
     }
     let cond = language.condition(reader, alloc, brackets)?;
     let yes = block(language, reader, alloc, nest - 1, brackets)?;
@@ -216,11 +216,11 @@ fn repeat<L: Blocks>(
     nest: u32,
     brackets: u32,
     word: &[u8],
-) -> Result<L::Statement, Fault>
+) -> Result<L::Statement, ParseFault>
     ensures { Gives L.statement result reader.new (loop_at (L.style language.now) nest brackets word.now reader.old) }
 {
     if nest == 0 {
-        return Err(Fault::Syntax);
+        return Err(ParseFault::Syntax);
     }
     let head = language.head(reader, alloc, brackets, word)?;
     let body = block(language, reader, alloc, nest - 1, brackets)?;
@@ -236,7 +236,7 @@ fn otherwise<L: Blocks>(
     alloc: Global,
     nest: u32,
     brackets: u32,
-) -> Result<Option<L::Block>, Fault>
+) -> Result<Option<L::Block>, ParseFault>
     ensures { Gives (optional L.block) result reader.new (else_at (block_at (L.style language.now) nest) brackets reader.old) }
 {
     if !reader.is_at_word(b"else") {
@@ -260,7 +260,7 @@ pub fn block<L: Blocks>(
     alloc: Global,
     nest: u32,
     brackets: u32,
-) -> Result<L::Block, Fault>
+) -> Result<L::Block, ParseFault>
     ensures { Gives L.block result reader.new (block_at (L.style language.now) nest brackets reader.old) }
 {
     let inner = reader.opens(Symbol::OpenBrace, brackets)?;
@@ -277,7 +277,7 @@ fn statements<L: Blocks>(
     alloc: Global,
     nest: u32,
     brackets: u32,
-) -> Result<L::Block, Fault>
+) -> Result<L::Block, ParseFault>
     ensures { Gives L.block result reader.new (stmts_at (L.style language.now) nest brackets reader.old) }
 {
     let mut list = Vec::new(alloc);

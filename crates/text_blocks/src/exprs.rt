@@ -6,7 +6,7 @@ ghost use Rattle.text_blocks.specs.Seven.{term_at};
 
 use crate::{Terms, term};
 use std::alloc::Global;
-use text_forms::{Fault, Reader, closed};
+use text_forms::{ParseFault, Reader, closed};
 use work_text::Symbol;
 
 /// `e;`
@@ -16,7 +16,7 @@ pub fn ended<T: Terms>(
     reader: &mut Reader<'_>,
     alloc: Global,
     brackets: u32,
-) -> Result<T::Tree, Fault>
+) -> Result<T::Tree, ParseFault>
     ensures { Gives T.view result reader.new (ended_at (term_at (T.marks language.now) (T.leaf language.now)) brackets reader.old) }
 {
     let expr = term(language, reader, alloc, brackets)?;
@@ -30,7 +30,7 @@ pub fn round<T: Terms>(
     reader: &mut Reader<'_>,
     alloc: Global,
     brackets: u32,
-) -> Result<T::Tree, Fault>
+) -> Result<T::Tree, ParseFault>
     ensures { Gives T.view result reader.new (round_at (term_at (T.marks language.now) (T.leaf language.now)) brackets reader.old) }
 {
     let inner = reader.opens(Symbol::Open, brackets)?;
@@ -45,7 +45,7 @@ pub fn square<T: Terms>(
     reader: &mut Reader<'_>,
     alloc: Global,
     brackets: u32,
-) -> Result<T::Tree, Fault>
+) -> Result<T::Tree, ParseFault>
     ensures { Gives T.view result reader.new (square_at (term_at (T.marks language.now) (T.leaf language.now)) brackets reader.old) }
 {
     let inner = reader.opens(Symbol::OpenBracket, brackets)?;
@@ -60,7 +60,7 @@ pub fn first_value<T: Terms>(
     reader: &mut Reader<'_>,
     alloc: Global,
     brackets: u32,
-) -> Result<Option<T::Tree>, Fault>
+) -> Result<Option<T::Tree>, ParseFault>
     ensures { Gives (optional T.view) result reader.new (first_value_at (term_at (T.marks language.now) (T.leaf language.now)) brackets reader.old) }
 {
     if !reader.takes(Symbol::Assign) {
@@ -71,7 +71,7 @@ pub fn first_value<T: Terms>(
 
 /// `[N]`, where N counts something: at most 2^32 - 1.
 #[tactic(auto, unfolding(crate::specs::Parts::square_at))]
-pub fn place(reader: &mut Reader<'_>, brackets: u32) -> Result<u32, Fault>
+pub fn place(reader: &mut Reader<'_>, brackets: u32) -> Result<u32, ParseFault>
     ensures { Gives (λ value. value) result reader.new (square_at (λ m. count_at) brackets reader.old) }
 {
     reader.opens(Symbol::OpenBracket, brackets)?;

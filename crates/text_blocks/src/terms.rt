@@ -10,7 +10,7 @@ ghost use Rattle.text_blocks.specs.Seven.{Marks, with_seven, term_at};
 use crate::sign::take_operator;
 use river_base::NoMemory;
 use std::alloc::Global;
-use text_forms::{Dialect, Fault, Form, Reader, read};
+use text_forms::{Dialect, ParseFault, Form, Reader, read};
 use work_code::BinOp;
 
 /// A language of expressions with the seven levels: what it hands in for them to be read.
@@ -42,7 +42,7 @@ pub trait Terms {
         ensures rest { reader.new ≡ (if is_some result then tail reader.old else reader.old) };
 
     /// The leaf that has to come next.
-    fn leaf(&self, reader: &mut Reader<'_>, brackets: u32) -> Result<Self::Tree, Fault>
+    fn leaf(&self, reader: &mut Reader<'_>, brackets: u32) -> Result<Self::Tree, ParseFault>
         ensures reads { Gives view result reader.new (leaf self.now brackets reader.old) }
         ensures depth { IfOk result (λ t. (marks self.now).depth (view t) ≡ 1) };
 
@@ -132,7 +132,7 @@ impl<'a, 'l, L: Terms> Dialect<Reader<'a>> for Seven<'l, L> {
         self.language.call(reader)
     }
 
-    fn leaf(&self, reader: &mut Reader<'a>, brackets: u32) -> Result<L::Tree, Fault> {
+    fn leaf(&self, reader: &mut Reader<'a>, brackets: u32) -> Result<L::Tree, ParseFault> {
         self.language.leaf(reader, brackets)
     }
 
@@ -167,7 +167,7 @@ pub fn term<L: Terms>(
     reader: &mut Reader<'_>,
     alloc: Global,
     brackets: u32,
-) -> Result<L::Tree, Fault>
+) -> Result<L::Tree, ParseFault>
     ensures { Gives L.view result reader.new (term_at (L.marks language.now) (L.leaf language.now) brackets reader.old) }
 {
     read(&Seven { language }, reader, alloc, brackets)

@@ -11,8 +11,8 @@ use Rattle.text_forms.specs.Gives.{Makes}
 use Rattle.text_forms.specs.Parse.{Parse}
 use Rattle.text_forms.specs.Texts.{whole, after_unit, put_first}
 use Rattle.text_forms.specs.AllUnits.{units_from}
-use Rattle.text_forms.specs.declared.fault.Fault.{Fault}
-use Rattle.text_forms.specs.declared.fault.Fault.TheVariants.{Syntax}
+use Rattle.text_forms.specs.declared.fault.ParseFault.{ParseFault}
+use Rattle.text_forms.specs.declared.fault.ParseFault.TheVariants.{Syntax}
 
 -- what is read behind some units
 abbrev pub behind : {A : Type 0} → List A → Result (List A) ℕ → Result (List A) ℕ
@@ -37,7 +37,7 @@ module _ {A : Type 0} (unit : Parse A) where
   whole-more ts (t ∷ rest) v read more = rw read refl
 
   -- a unit is given where no token is left behind it
-  pub whole-kept : {X : Type 0} (view : X → A) (ts rest : List Tok) (x : X) (end : Bool) (r : Result X Fault) → unit ts ≡ Some (view x, rest)
+  pub whole-kept : {X : Type 0} (view : X → A) (ts rest : List Tok) (x : X) (end : Bool) (r : Result X ParseFault) → unit ts ≡ Some (view x, rest)
       → (end ≡ true) ↔ (rest ≡ []) → r ≡ cond end (Ok x) (Err Syntax) → Makes view r (whole unit ts)
   whole-kept view ts rest x true r read end is =
       subst (λ q. Makes view q (whole unit ts)) (sym is) (whole-all ts (view x) (read ∙ ap (λ l. Some (view x, l)) (end.0 refl)))

@@ -3,8 +3,8 @@ use Rattle.std.proofs.Common.{◌≡◌, ℕ, ◌<◌, ◌-◌, List, [], ◌∷
 use Rattle.work_text.specs.Tok.{Tok}
 use Rattle.work_text.specs.declared.sign.Symbol.TheVariants as s
 use Rattle.text_forms.proofs.Climbs.{ladder-base, once-at, prefix-none, prefix-at, base-none, base-at, within-none, within-at, grown-taken, chained-stop}
-use Rattle.text_forms.specs.declared.fault.Fault.{Fault}
-use Rattle.text_forms.specs.declared.fault.Fault.TheVariants.{Syntax as NoSyntax, NoMemory}
+use Rattle.text_forms.specs.declared.fault.ParseFault.{ParseFault}
+use Rattle.text_forms.specs.declared.fault.ParseFault.TheVariants.{Syntax as NoSyntax, NoMemory}
 use Rattle.text_forms.specs.Gives.{Gives, Keeps, Makes}
 use Rattle.text_forms.specs.Levels.{Syntax}
 use Rattle.text_forms.specs.Parse as parse
@@ -12,7 +12,7 @@ use Rattle.text_forms.specs.ReadLevels.{first, operator_at, sign_of_level, joine
 use Rattle.text_forms.specs.Tail.{tail}
 
 -- what was made of what came is given
-pub made-gives : {X A : Type 0} (view : X → A) (a : A) (r : Result X Fault) {rest : List Tok} {read : Option (A × List Tok)} → Makes view r (Some a)
+pub made-gives : {X A : Type 0} (view : X → A) (a : A) (r : Result X ParseFault) {rest : List Tok} {read : Option (A × List Tok)} → Makes view r (Some a)
     → read ≡ Some (a, rest) → Gives view r rest read
 made-gives view a (Ok x) made is = cc
 made-gives view a (Err NoSyntax) made is = absurd cc
@@ -132,7 +132,7 @@ module _ {T O P : Type 0} (S : Syntax T O P) where
       (within-at S leaf n room ts some ∙ ap (λ (k : ℕ). ladder S (leaf (n - 1)) (within S leaf (n - 1)) k room ts) (sym is) ∙ read)
 
   -- an expression came, and is kept where the bracket that closes it comes
-  pub closed-gives : {X : Type 0} (view : X → T) (x : X) (r : Result X Fault) (leaf : ℕ → parse.Parse T) (n h room : ℕ) (ts us vs : List Tok) → 0 < n
+  pub closed-gives : {X : Type 0} (view : X → T) (x : X) (r : Result X ParseFault) (leaf : ℕ → parse.Parse T) (n h room : ℕ) (ts us vs : List Tok) → 0 < n
       → h ≡ length S.levels
       → ladder S (leaf (n - 1)) (within S leaf (n - 1)) h room ts ≡ Some (view x, us) → Keeps x r vs (parse.symbols_at (s.Close ∷ []) us)
       → Gives view r vs (closed (within S leaf n) room ts)

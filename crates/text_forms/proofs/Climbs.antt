@@ -10,7 +10,7 @@ use Rattle.text_forms.specs.Levels.{Level, Chain, Once, Prefix, Syntax, level_of
 use Rattle.text_forms.specs.Parse as parse
 use Rattle.text_forms.specs.ReadLevels.{first, operator_at, sign_of_level, joined_read, grown, turn_read, chain_on, chain_turn, chained, chain_level, once_on, once_level}
 use Rattle.text_forms.specs.ReadLevels.{prefix_on, prefix_level, closed, base_on, base, on_level, ladder, within}
-use Rattle.text_forms.specs.Repeat.{Turn, Stop, Fail, Next, after_turn, turns}
+use Rattle.text_forms.specs.Repeat.{ReadTurn, Stop, Fail, Next, after_turn, turns}
 use Rattle.text_forms.specs.Tail.{tail}
 use Rattle.text_forms.specs.declared.form.Form.TheVariants as form
 
@@ -134,14 +134,14 @@ module _ {T O P : Type 0} (S : Syntax T O P) where
       ∙ ap (λ r. after_turn (turns (chain_turn S k right room) room) left ts (turn_read r)) none
 
 -- what falls with each turn is a bound on how many there are
-module _ {A : Type 0} (step : A → List Tok → Turn A) (m : A → ℕ)
+module _ {A : Type 0} (step : A → List Tok → ReadTurn A) (m : A → ℕ)
     (falls : (x : A) (ts : List Tok) (y : A) (us : List Tok) → step x ts ≡ Next y us → m y < m x) where
   pub enough : (n k : ℕ) (x : A) (ts : List Tok) → m x < n → m x < k → turns step n x ts ≡ turns step k x ts
   unfolding turns
   enough zero k x ts a b = absurd (omega (arith, a))
   enough (suc n) zero x ts a b = absurd (omega (arith, b))
   enough (suc n) (suc k) x ts a b = by (λ y us c d. enough n k y us c d) (step x ts) refl where
-    by : ((y : A) (us : List Tok) → m y < n → m y < k → turns step n y us ≡ turns step k y us) → (turn : Turn A) → step x ts ≡ turn
+    by : ((y : A) (us : List Tok) → m y < n → m y < k → turns step n y us ≡ turns step k y us) → (turn : ReadTurn A) → step x ts ≡ turn
         → after_turn (turns step n) x ts turn ≡ after_turn (turns step k) x ts turn
     by more Stop is = refl
     by more Fail is = refl

@@ -5,7 +5,7 @@ use Rattle.std.specs.Prelude.{not, map}
 use Rattle.std.proofs.lemmas.List.{map-append}
 use Rattle.work_text.specs.Tok.{Tok, symbol}
 use Rattle.work_text.specs.declared.sign.Symbol.TheVariants.{Comma}
-use Rattle.text_forms.specs.Repeat.{Turn, Stop, Fail, Next, after_turn, turns, repeated}
+use Rattle.text_forms.specs.Repeat.{ReadTurn, Stop, Fail, Next, after_turn, turns, repeated}
 use Rattle.text_forms.specs.Tail.{tail}
 use Rattle.text_forms.specs.Parse as parse
 use Rattle.text_forms.specs.Forms as form
@@ -64,7 +64,7 @@ module _ {A : Type 0} {F : A → List Tok → Type 0} {p : parse.Parse A} {E : L
       ∙ sym (append_assoc so.0 f.front vs) in
       (so.0 ++ f.front, all, subst (λ (w : List A). form.Many F w (so.0 ++ f.front)) (sym t.3) (Each-more F done so.0 t.1.0 f.front so.2 f.formed))
 
-  stopped : (b : Bool) (t : Turn (List A)) → cond b Stop t ≡ Stop → (t ≡ Stop → ⊥) → b ≡ true
+  stopped : (b : Bool) (t : ReadTurn (List A)) → cond b Stop t ≡ Stop → (t ≡ Stop → ⊥) → b ≡ true
   stopped true t e goes = refl
   stopped false t e goes = absurd (goes e)
 
@@ -104,7 +104,7 @@ module _ {A : Type 0} {F : A → List Tok → Type 0} {p : parse.Parse A} {E : L
   }
 
 -- a turn and a reading with one item more at the front
-abbrev on_turn : {A : Type 0} → A → Turn (List A) → Turn (List A)
+abbrev on_turn : {A : Type 0} → A → ReadTurn (List A) → ReadTurn (List A)
 on_turn first Stop = Stop
 on_turn first Fail = Fail
 on_turn first (Next done us) = Next (first ∷ done) us
@@ -159,7 +159,7 @@ module _ {A : Type 0} {F : A → List Tok → Type 0} {p : parse.Parse A} {E : L
       ap (after_turn (turns (parse.comma_turn p) n) (first ∷ done) ts) (same_turn first done ts)
       ∙ by (parse.many_turn parse.no_comma (parse.after (Comma ∷ []) p) done ts) (λ more us. same_turns n first more us)
     where
-      by : (t : Turn (List A))
+      by : (t : ReadTurn (List A))
           → ((more : List A) (us : List Tok)
           → turns (parse.comma_turn p) n (first ∷ more) us ≡ on_read first (turns (parse.many_turn parse.no_comma (parse.after (Comma ∷ []) p)) n more us))
           → after_turn (turns (parse.comma_turn p) n) (first ∷ done) ts (on_turn first t) ≡ on_read first

@@ -7,7 +7,7 @@ use Rattle.work_text.specs.Tok.{Tok, name, var, number, symbol}
 use Rattle.work_text.specs.Symbols.{code_of}
 use Rattle.work_text.specs.declared.sign.Symbol.{Symbol}
 use Rattle.work_text.specs.declared.sign.Symbol.TheVariants.{Comma}
-use Rattle.text_forms.specs.Repeat.{Turn, Stop, Fail, Next, repeated}
+use Rattle.text_forms.specs.Repeat.{ReadTurn, Stop, Fail, Next, repeated}
 
 -- a value and the tokens behind it; None where the front is no such value
 abbrev pub Parse : Type 0 → Type 0
@@ -127,11 +127,11 @@ abbrev pub maybe : {A : Type 0} → (List Tok → Bool) → Parse A → Parse (O
 maybe test p ts = if test ts then then_parsed (p ts) (λ a us. Some (Some a, us)) else Some (None, ts)
 
 -- one more item of a list that goes on until a test holds
-abbrev pub item_turn : {A : Type 0} → List A → Option (A × List Tok) → Turn (List A)
+abbrev pub item_turn : {A : Type 0} → List A → Option (A × List Tok) → ReadTurn (List A)
 item_turn done None = Fail
 item_turn done (Some read) = Next (done ++ read.0 ∷ []) read.1
 
-abbrev pub many_turn : {A : Type 0} → (List Tok → Bool) → Parse A → List A → List Tok → Turn (List A)
+abbrev pub many_turn : {A : Type 0} → (List Tok → Bool) → Parse A → List A → List Tok → ReadTurn (List A)
 many_turn stop p done ts = if stop ts then Stop else item_turn done (p ts)
 
 -- items until a test holds
@@ -143,7 +143,7 @@ abbrev pub no_comma : List Tok → Bool
 no_comma ts = not (begins_with Comma ts)
 
 -- one more item behind a comma
-unfoldable pub comma_turn : {A : Type 0} → Parse A → List A → List Tok → Turn (List A)
+unfoldable pub comma_turn : {A : Type 0} → Parse A → List A → List Tok → ReadTurn (List A)
 comma_turn p done ts = if begins_with Comma ts then item_turn done (p (tail ts)) else Stop
 
 -- items with commas between them, at least one

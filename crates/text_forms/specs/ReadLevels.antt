@@ -4,7 +4,7 @@ use Rattle.work_text.specs.Tok.{Tok}
 use Rattle.work_text.specs.declared.sign.Symbol.TheVariants as s
 use Rattle.text_forms.specs.Levels.{Level, Chain, Once, Prefix, Syntax, level_of, operator, sign}
 use Rattle.text_forms.specs.Parse.{Parse, begins_with, then_parsed, seen, after, before}
-use Rattle.text_forms.specs.Repeat.{Turn, Stop, Fail, Next, turns}
+use Rattle.text_forms.specs.Repeat.{ReadTurn, Stop, Fail, Next, turns}
 use Rattle.text_forms.specs.Tail.{tail}
 
 -- what the first token is
@@ -30,16 +30,16 @@ grown S right room o left ts = if nat_lt (S.depth left) room then joined_read S 
 
 -- CHAINS
 
-abbrev pub turn_read : {T : Type 0} → Option (T × List Tok) → Turn T
+abbrev pub turn_read : {T : Type 0} → Option (T × List Tok) → ReadTurn T
 turn_read None = Fail
 turn_read (Some read) = Next read.0 read.1
 
-abbrev pub chain_on : {T O P : Type 0} → Syntax T O P → Parse T → ℕ → T → List Tok → Option O → Turn T
+abbrev pub chain_on : {T O P : Type 0} → Syntax T O P → Parse T → ℕ → T → List Tok → Option O → ReadTurn T
 chain_on S right room left ts None = Stop
 chain_on S right room left ts (Some o) = turn_read (grown S right room o left (tail ts))
 
 -- one operator more
-unfoldable pub chain_turn : {T O P : Type 0} → Syntax T O P → ℕ → Parse T → ℕ → T → List Tok → Turn T
+unfoldable pub chain_turn : {T O P : Type 0} → Syntax T O P → ℕ → Parse T → ℕ → T → List Tok → ReadTurn T
 chain_turn S k right room left ts = chain_on S right room left ts (operator_at S k ts)
 
 -- operators as long as they come: each makes the tree deeper, so that there are no more than there is room

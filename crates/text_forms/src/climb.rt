@@ -5,7 +5,7 @@ ghost use Rattle.work_text.specs.declared.sign.Symbol.TheVariants as s;
 ghost use Rattle.text_forms.specs.ReadLevels.{level_at, chain_at, once_at, prefix_at, base_at, grown_at, called_at, closed_at, whole_at};
 ghost use Rattle.text_forms.specs.Parse.{symbols_at};
 
-use crate::{Dialect, Fault, Form, TokenSource};
+use crate::{Dialect, ParseFault, Form, TokenSource};
 use std::alloc::Global;
 use work_text::Symbol;
 
@@ -17,18 +17,18 @@ struct Measured<T> {
 }
 
 // Passes over this symbol, which has to come next.
-fn expect<R: TokenSource>(reader: &mut R, symbol: Symbol) -> Result<(), Fault>
+fn expect<R: TokenSource>(reader: &mut R, symbol: Symbol) -> Result<(), ParseFault>
     ensures { PassesOver result (R.rest reader.new) (symbols_at (symbol ∷ []) (R.rest reader.old)) }
 {
     if reader.takes(symbol) {
         Ok(())
     } else {
-        Err(Fault::Syntax)
+        Err(ParseFault::Syntax)
     }
 }
 
 // A value, where the closing bracket stands behind it.
-fn closing<R: TokenSource, T: Drop>(reader: &mut R, value: T) -> Result<T, Fault>
+fn closing<R: TokenSource, T: Drop>(reader: &mut R, value: T) -> Result<T, ParseFault>
     ensures { Keeps value result (R.rest reader.new) (symbols_at (s.Close ∷ []) (R.rest reader.old)) }
 {
     expect(reader, Symbol::Close)?;
@@ -41,7 +41,7 @@ fn marked<R: TokenSource, D: Dialect<R>>(
     alloc: Global,
     sign: D::Sign,
     inner: Measured<D::Tree>,
-) -> Result<Measured<D::Tree>, Fault>
+) -> Result<Measured<D::Tree>, ParseFault>
     requires room { inner.depth ≤ 64 }
     requires exact { inner.depth ≡ (D.syntax dialect.now).depth (D.view inner.tree) }
     ensures reads { Makes (λ m. D.view m.tree) result (Some ((D.syntax dialect.now).mark sign (D.view inner.tree))) }
@@ -62,7 +62,7 @@ fn joined<R: TokenSource, D: Dialect<R>>(
     op: D::Operator,
     left: Measured<D::Tree>,
     right: Measured<D::Tree>,
-) -> Result<Measured<D::Tree>, Fault>
+) -> Result<Measured<D::Tree>, ParseFault>
     requires left_room { left.depth ≤ 64 }
     requires right_room { right.depth ≤ 64 }
     requires left { left.depth ≡ (D.syntax dialect.now).depth (D.view left.tree) }
@@ -86,7 +86,7 @@ fn ladder<R: TokenSource, D: Dialect<R>>(
     brackets: u32,
     rank: u32,
     room: u32,
-) -> Result<Measured<D::Tree>, Fault>
+) -> Result<Measured<D::Tree>, ParseFault>
     requires room { room ≤ 64 }
     requires rank { rank ≤ 16 }
     ensures reads { Gives (λ m. D.view m.tree) result (R.rest reader.new)
@@ -115,7 +115,7 @@ fn chain<R: TokenSource, D: Dialect<R>>(
     brackets: u32,
     level: u32,
     room: u32,
-) -> Result<Measured<D::Tree>, Fault>
+) -> Result<Measured<D::Tree>, ParseFault>
     requires room { room ≤ 64 }
     requires level { level < 16 }
     ensures reads { Gives (λ m. D.view m.tree) result (R.rest reader.new)
@@ -142,7 +142,7 @@ fn grown<R: TokenSource, D: Dialect<R>>(
     room: u32,
     left: Measured<D::Tree>,
     op: D::Operator,
-) -> Result<Measured<D::Tree>, Fault>
+) -> Result<Measured<D::Tree>, ParseFault>
     requires room { room ≤ 64 }
     requires level { level < 16 }
     requires exact { left.depth ≡ (D.syntax dialect.now).depth (D.view left.tree) }
@@ -153,7 +153,7 @@ fn grown<R: TokenSource, D: Dialect<R>>(
     ensures more { IfOk result (λ m. left.depth < m.depth) }
 {
     if left.depth >= room {
-        return Err(Fault::Syntax);
+        return Err(ParseFault::Syntax);
     }
     let right = ladder(dialect, reader, alloc, brackets, level, room - 1)?;
     joined(dialect, alloc, op, left, right)
@@ -169,7 +169,7 @@ fn once<R: TokenSource, D: Dialect<R>>(
     brackets: u32,
     level: u32,
     room: u32,
-) -> Result<Measured<D::Tree>, Fault>
+) -> Result<Measured<D::Tree>, ParseFault>
     requires room { room ≤ 64 }
     requires level { level < 16 }
     ensures reads { Gives (λ m. D.view m.tree) result (R.rest reader.new)
@@ -194,7 +194,7 @@ fn prefix<R: TokenSource, D: Dialect<R>>(
     brackets: u32,
     level: u32,
     room: u32,
-) -> Result<Measured<D::Tree>, Fault>
+) -> Result<Measured<D::Tree>, ParseFault>
     requires room { room ≤ 64 }
     requires level { level < 16 }
     ensures reads { Gives (λ m. D.view m.tree) result (R.rest reader.new)
@@ -203,7 +203,7 @@ fn prefix<R: TokenSource, D: Dialect<R>>(
     ensures depth { IfOk result (λ m. m.depth ≡ (D.syntax dialect.now).depth (D.view m.tree)) }
 {
     if room == 0 {
-        return Err(Fault::Syntax);
+        return Err(ParseFault::Syntax);
     }
     let Some(sign) = dialect.sign(reader, level) else {
         return ladder(dialect, reader, alloc, brackets, level, room);
@@ -221,7 +221,7 @@ fn base<R: TokenSource, D: Dialect<R>>(
     alloc: Global,
     brackets: u32,
     room: u32,
-) -> Result<Measured<D::Tree>, Fault>
+) -> Result<Measured<D::Tree>, ParseFault>
     requires room { room ≤ 64 }
     ensures reads { Gives (λ m. D.view m.tree) result (R.rest reader.new)
         (base_at (D.syntax dialect.now) (D.leaf dialect.now) brackets room (R.rest reader.old)) }
@@ -229,7 +229,7 @@ fn base<R: TokenSource, D: Dialect<R>>(
     ensures depth { IfOk result (λ m. m.depth ≡ (D.syntax dialect.now).depth (D.view m.tree)) }
 {
     if room == 0 {
-        return Err(Fault::Syntax);
+        return Err(ParseFault::Syntax);
     }
     if reader.takes(Symbol::Open) {
         return enclosed(dialect, reader, alloc, brackets, room);
@@ -245,7 +245,7 @@ fn leaf<R: TokenSource, D: Dialect<R>>(
     dialect: &D,
     reader: &mut R,
     brackets: u32,
-) -> Result<Measured<D::Tree>, Fault>
+) -> Result<Measured<D::Tree>, ParseFault>
     ensures reads { Gives (λ m. D.view m.tree) result (R.rest reader.new) (D.leaf dialect.now brackets (R.rest reader.old)) }
     ensures small { IfOk result (λ m. m.depth ≡ 1) }
     ensures depth { IfOk result (λ m. m.depth ≡ (D.syntax dialect.now).depth (D.view m.tree)) }
@@ -263,7 +263,7 @@ fn called<R: TokenSource, D: Dialect<R>>(
     brackets: u32,
     room: u32,
     sign: D::Sign,
-) -> Result<Measured<D::Tree>, Fault>
+) -> Result<Measured<D::Tree>, ParseFault>
     requires room { room < 64 }
     ensures reads { Gives (λ m. D.view m.tree) result (R.rest reader.new)
         (called_at (D.syntax dialect.now) (D.leaf dialect.now) brackets room sign (R.rest reader.old)) }
@@ -284,7 +284,7 @@ fn enclosed<R: TokenSource, D: Dialect<R>>(
     alloc: Global,
     brackets: u32,
     room: u32,
-) -> Result<Measured<D::Tree>, Fault>
+) -> Result<Measured<D::Tree>, ParseFault>
     requires room { room ≤ 64 }
     ensures reads { Gives (λ m. D.view m.tree) result (R.rest reader.new)
         (closed_at (D.syntax dialect.now) (D.leaf dialect.now) brackets room (R.rest reader.old)) }
@@ -292,7 +292,7 @@ fn enclosed<R: TokenSource, D: Dialect<R>>(
     ensures depth { IfOk result (λ m. m.depth ≡ (D.syntax dialect.now).depth (D.view m.tree)) }
 {
     if brackets == 0 {
-        return Err(Fault::Syntax);
+        return Err(ParseFault::Syntax);
     }
     let inner = ladder(dialect, reader, alloc, brackets - 1, dialect.height(), room)?;
     closing(reader, inner)
@@ -309,7 +309,7 @@ pub fn read<R: TokenSource, D: Dialect<R>>(
     reader: &mut R,
     alloc: Global,
     brackets: u32,
-) -> Result<D::Tree, Fault>
+) -> Result<D::Tree, ParseFault>
     ensures { Gives D.view result (R.rest reader.new) (whole_at (D.syntax dialect.now) (D.leaf dialect.now) brackets (R.rest reader.old)) }
 {
     Ok(ladder(dialect, reader, alloc, brackets, dialect.height(), 64)?.tree)

@@ -8,7 +8,7 @@ ghost use Rattle.text_forms.specs.Parse.{Parse, begins_with};
 ghost use Rattle.text_forms.specs.ReadLevels.{first, operator_at, sign_of_level};
 ghost use Rattle.text_forms.specs.Tail.{tail};
 
-use crate::{Fault, Form};
+use crate::{ParseFault, Form};
 use river_base::NoMemory;
 use std::alloc::Global;
 use work_text::Symbol;
@@ -67,7 +67,7 @@ pub trait Dialect<R: TokenSource> {
         ensures rest { R.rest reader.new ≡ (if is_some result then tail (R.rest reader.old) else R.rest reader.old) };
 
     /// The leaf that has to come next.
-    fn leaf(&self, reader: &mut R, brackets: u32) -> Result<Self::Tree, Fault>
+    fn leaf(&self, reader: &mut R, brackets: u32) -> Result<Self::Tree, ParseFault>
         ensures reads { Gives view result (R.rest reader.new) (leaf self.now brackets (R.rest reader.old)) }
         ensures depth { IfOk result (λ t. (syntax self.now).depth (view t) ≡ 1) };
 

@@ -3,9 +3,9 @@ ghost use Rattle.std.specs.Prelude.{◌≡◌, [], ◌∷◌, Ok, Err, if◌then
 ghost use Rattle.std.specs.Str.{bytes_eq};
 ghost use Rattle.text_forms.specs.Gives.{Keeps};
 ghost use Rattle.text_forms.specs.Parse.{symbols_at};
-ghost use Rattle.text_forms.specs.declared.fault.Fault.TheVariants as fault;
+ghost use Rattle.text_forms.specs.declared.fault.ParseFault.TheVariants as fault;
 
-use crate::{Fault, Reader};
+use crate::{ParseFault, Reader};
 use work_text::Symbol;
 
 /// Whether a word is this one.
@@ -20,7 +20,7 @@ pub fn is(word: &[u8], name: &[u8]) -> bool
 /// # Errors
 ///
 /// `Syntax` where another token comes next, or none.
-pub fn closed<T: Drop>(reader: &mut Reader<'_>, value: T, symbol: Symbol) -> Result<T, Fault>
+pub fn closed<T: Drop>(reader: &mut Reader<'_>, value: T, symbol: Symbol) -> Result<T, ParseFault>
     ensures { Keeps value result reader.new (symbols_at (symbol ∷ []) reader.old) }
 {
     reader.expect(&[symbol])?;
@@ -32,8 +32,8 @@ pub fn closed<T: Drop>(reader: &mut Reader<'_>, value: T, symbol: Symbol) -> Res
 /// # Errors
 ///
 /// `Syntax` where it does not.
-pub fn kept<T: Drop>(value: T, test: bool) -> Result<T, Fault>
+pub fn kept<T: Drop>(value: T, test: bool) -> Result<T, ParseFault>
     ensures { result ≡ (if test then Ok value else Err fault.Syntax) }
 {
-    if test { Ok(value) } else { Err(Fault::Syntax) }
+    if test { Ok(value) } else { Err(ParseFault::Syntax) }
 }

@@ -5,42 +5,42 @@ use std::alloc::{AllocError, AllocFailed};
 
 /// Why a reader stops.
 #[derive(Clone, Copy)]
-pub enum Fault {
+pub enum ParseFault {
     /// The tokens are not in the grammar.
     Syntax,
     /// There was no memory.
     NoMemory,
 }
 
-impl From<NoMemory> for Fault {
+impl From<NoMemory> for ParseFault {
     ghost use Rattle.std.specs.Prelude.{◌≡◌};
-    ghost use Rattle.text_forms.specs.declared.fault.Fault.TheVariants as fault;
+    ghost use Rattle.text_forms.specs.declared.fault.ParseFault.TheVariants as fault;
 
     ghost from_gives = { λ _ f. f ≡ fault.NoMemory };
 
     fn from(_: NoMemory) -> Self {
-        Fault::NoMemory
+        ParseFault::NoMemory
     }
 }
 
-impl From<AllocError> for Fault {
+impl From<AllocError> for ParseFault {
     ghost use Rattle.std.specs.Prelude.{◌≡◌};
-    ghost use Rattle.text_forms.specs.declared.fault.Fault.TheVariants as fault;
+    ghost use Rattle.text_forms.specs.declared.fault.ParseFault.TheVariants as fault;
 
     ghost from_gives = { λ _ f. f ≡ fault.NoMemory };
 
     fn from(_: AllocError) -> Self {
-        Fault::NoMemory
+        ParseFault::NoMemory
     }
 }
 
-impl<T: Drop> From<AllocFailed<T>> for Fault {
+impl<T: Drop> From<AllocFailed<T>> for ParseFault {
     ghost use Rattle.std.specs.Prelude.{◌≡◌};
-    ghost use Rattle.text_forms.specs.declared.fault.Fault.TheVariants as fault;
+    ghost use Rattle.text_forms.specs.declared.fault.ParseFault.TheVariants as fault;
 
     ghost from_gives = { λ _ f. f ≡ fault.NoMemory };
 
     fn from(_: AllocFailed<T>) -> Self {
-        Fault::NoMemory
+        ParseFault::NoMemory
     }
 }

@@ -16,7 +16,7 @@ mod units;
 pub use climb::read;
 pub use dialect::{Dialect, TokenSource};
 pub use end::{closed, is, kept};
-pub use fault::Fault;
+pub use fault::ParseFault;
 pub use form::Form;
 pub use names::is_free;
 pub use reader::Reader;

@@ -5,7 +5,7 @@ ghost use Rattle.text_forms.specs.Tail.{tail};
 ghost use Rattle.text_forms.specs.Parse.{begins_with, is_word_at, word_at, symbols_at, name_at, var_at, number_at, count_at, open_at, value_at};
 ghost use Rattle.text_forms.specs.Gives.{Gives, PassesOver};
 
-use crate::{Fault, TokenSource};
+use crate::{ParseFault, TokenSource};
 use std::marker::Model;
 use work_text::{Lexeme, Symbol, Token};
 
@@ -80,12 +80,12 @@ impl<'a> Reader<'a> {
     }
 
     /// Passes over these symbols, which have to come next.
-    pub fn expect(&mut self, run: &[Symbol]) -> Result<(), Fault>
+    pub fn expect(&mut self, run: &[Symbol]) -> Result<(), ParseFault>
         ensures { PassesOver result self.new (symbols_at run.now self.old) }
     {
         for symbol in run {
             if !self.takes(*symbol) {
-                return Err(Fault::Syntax);
+                return Err(ParseFault::Syntax);
             }
         }
         Ok(())
@@ -94,13 +94,13 @@ impl<'a> Reader<'a> {
     /// Passes over this opening bracket, which has to come next, where so many more brackets may be open; gives how many
     /// may be open behind it.
     #[tactic(auto, using(crate::proofs::Choices::opens))]
-    pub fn opens(&mut self, symbol: Symbol, brackets: u32) -> Result<u32, Fault>
+    pub fn opens(&mut self, symbol: Symbol, brackets: u32) -> Result<u32, ParseFault>
         ensures passes { PassesOver result self.new (open_at symbol brackets self.old) }
         ensures fewer { IfOk result (λ n. n ≡ brackets - 1) }
         ensures some { OnOk result (0 < brackets) }
     {
         if brackets == 0 {
-            return Err(Fault::Syntax);
+            return Err(ParseFault::Syntax);
         }
         self.expect(&[symbol])?;
         Ok(brackets - 1)
@@ -117,70 +117,70 @@ impl<'a> Reader<'a> {
     }
 
     /// Passes over this word, which has to come next.
-    pub fn word(&mut self, word: &[u8]) -> Result<(), Fault>
+    pub fn word(&mut self, word: &[u8]) -> Result<(), ParseFault>
         ensures { PassesOver result self.new (word_at word.now self.old) }
     {
         if self.is_at_word(word) {
             self.skip();
             Ok(())
         } else {
-            Err(Fault::Syntax)
+            Err(ParseFault::Syntax)
         }
     }
 
     /// The name that has to come next.
-    pub fn name(&mut self) -> Result<&'a [u8], Fault>
+    pub fn name(&mut self) -> Result<&'a [u8], ParseFault>
         ensures { Gives (λ text. text.now) result self.new (name_at self.old) }
     {
         let Some(Token::Name(text)) = self.peek() else {
-            return Err(Fault::Syntax);
+            return Err(ParseFault::Syntax);
         };
         self.skip();
         Ok(text)
     }
 
     /// The variable that has to come next, without its `$`.
-    pub fn var(&mut self) -> Result<&'a [u8], Fault>
+    pub fn var(&mut self) -> Result<&'a [u8], ParseFault>
         ensures { Gives (λ text. text.now) result self.new (var_at self.old) }
     {
         let Some(Token::Var(text)) = self.peek() else {
-            return Err(Fault::Syntax);
+            return Err(ParseFault::Syntax);
         };
         self.skip();
         Ok(text)
     }
 
     /// The number that has to come next.
-    pub fn number(&mut self) -> Result<u64, Fault>
+    pub fn number(&mut self) -> Result<u64, ParseFault>
         ensures { Gives (λ value. value) result self.new (number_at self.old) }
     {
         let Some(Token::Number(value)) = self.peek() else {
-            return Err(Fault::Syntax);
+            return Err(ParseFault::Syntax);
         };
         self.skip();
         Ok(value)
     }
 
     /// The number that has to come next, which counts something: at most 2^32 - 1.
-    pub fn count(&mut self) -> Result<u32, Fault>
+    pub fn count(&mut self) -> Result<u32, ParseFault>
         ensures { Gives (λ value. value) result self.new (count_at self.old) }
     {
         let value = self.number()?;
         match u32::try_from(value) {
             Ok(count) => Ok(count),
-            Err(_) => Err(Fault::Syntax),
+            Err(_) => Err(ParseFault::Syntax),
         }
     }
 
     /// The number that has to come next, as a value.
-    pub fn value(&mut self) -> Result<i64, Fault>
+    pub fn value(&mut self) -> Result<i64, ParseFault>
         ensures reads { Gives (λ value. value) result self.new (value_at self.old) }
         ensures natural { IfOk result IsNonNegative }
     {
         let value = self.number()?;
         match i64::try_from(value) {
             Ok(value) => Ok(value),
-            Err(_) => Err(Fault::Syntax),
+            Err(_) => Err(ParseFault::Syntax),
         }
     }
 }

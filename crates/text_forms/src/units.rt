@@ -8,7 +8,7 @@ ghost use Rattle.text_forms.specs.Texts.{whole};
 ghost use Rattle.text_forms.specs.AllUnits.{all_units, GivesUnits};
 
 use crate::end::kept;
-use crate::{Fault, Reader, UnitFault};
+use crate::{ParseFault, Reader, UnitFault};
 use std::alloc::Global;
 use work_text::{Lexeme, Tokens, units};
 
@@ -25,7 +25,7 @@ pub trait Units {
     ghost unit: { Self → Parse UnitTree };
 
     /// The unit that has to come next.
-    fn unit(&self, reader: &mut Reader<'_>, alloc: Global) -> Result<Self::Unit, Fault>
+    fn unit(&self, reader: &mut Reader<'_>, alloc: Global) -> Result<Self::Unit, ParseFault>
         ensures { Gives unit_tree result reader.new (unit self.now reader.old) };
 }
 
@@ -35,7 +35,7 @@ fn whole_unit<L: Units>(
     language: &L,
     alloc: Global,
     tokens: &[Lexeme<'_>],
-) -> Result<L::Unit, Fault>
+) -> Result<L::Unit, ParseFault>
     ensures { Makes L.unit_tree result (whole (L.unit language.now) (tokens_of tokens.now)) }
 {
     let mut reader = Reader::new(tokens);
@@ -61,8 +61,8 @@ pub fn read_units<L: Units>(
     'items: for i in 0..parts.len() {
         match whole_unit(language, alloc, parts[i]) {
             Ok(unit) => list.push(unit)?,
-            Err(Fault::Syntax) => return Err(UnitFault::Syntax { unit: i as u32 + 1 }),
-            Err(Fault::NoMemory) => return Err(UnitFault::NoMemory),
+            Err(ParseFault::Syntax) => return Err(UnitFault::Syntax { unit: i as u32 + 1 }),
+            Err(ParseFault::NoMemory) => return Err(UnitFault::NoMemory),
         }
     }
     Ok(list)

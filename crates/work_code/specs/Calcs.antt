@@ -25,9 +25,9 @@ further Denied t = Not t
 further (Applied op right) t = Bin op t right
 
 -- the tree after all steps
-abbrev pub made : Term → List Further → Term
-made t [] = t
-made t (x ∷ xs) = made (further x t) xs
+abbrev pub tree_after : Term → List Further → Term
+tree_after t [] = t
+tree_after t (x ∷ xs) = tree_after (further x t) xs
 
 abbrev pub leaf_term : Leaf → Term
 leaf_term (leaf.Const z) = Const z
@@ -45,7 +45,7 @@ further_at (open_step.Deep op right) = Applied op right
 
 -- one layer of an expression in the form in which it is run
 abbrev pub calc_at : Calc-F Further Term → Term
-calc_at c = made (leaf_term c.first) c.steps.items
+calc_at c = tree_after (leaf_term c.first) c.steps.items
 
 -- what a step makes of the tree so far
 abbrev pub further_of : CalcStep → Further
@@ -56,10 +56,10 @@ abbrev pub calc_term : Calc → Term
 calc_term c = fold-Calc Further Term further_at calc_at c
 
 -- the value after a step, where this was the value before it
-abbrev pub after : Further → ℤ → List ℤ → List ℤ → ℤ
-after Negated value input slots = negate value
-after Denied value input slots = truth (int_eq value (pos 0))
-after (Applied op right) value input slots = applied op value (val right input slots)
+abbrev pub calc_after : Further → ℤ → List ℤ → List ℤ → ℤ
+calc_after Negated value input slots = negate value
+calc_after Denied value input slots = truth (int_eq value (pos 0))
+calc_after (Applied op right) value input slots = applied op value (val right input slots)
 
 -- every place and slot of the right side of a step is below these
 abbrev pub IsRightWithin : ℕ → ℕ → Further → Type 0

@@ -2,7 +2,7 @@
 ghost use Rattle.std.specs.Prelude.{◌≡◌, length, IfOk};
 ghost use Rattle.work_code.specs.Term.{term};
 ghost use Rattle.work_code.specs.Value.{val, IsWithin};
-ghost use Rattle.work_code.specs.Calcs.{Applied, calc_term, leaf_term, further, further_of, after, IsRightWithin};
+ghost use Rattle.work_code.specs.Calcs.{Applied, calc_term, leaf_term, further, further_of, calc_after, IsRightWithin};
 
 use crate::{BinOp, Expr, apply, negate, truth_of};
 use river_base::NoMemory;
@@ -106,7 +106,7 @@ pub(crate) fn value_of(c: &Calc, input: &[i64], slots: &[i64]) -> i64
 #[cycle(value)]
 fn after_step(step: &CalcStep, value: i64, input: &[i64], slots: &[i64]) -> i64
     requires { IsRightWithin (length input.now) (length slots.now) (further_of step.now) }
-    ensures { result ≡ after (further_of step.now) value input.now slots.now }
+    ensures { result ≡ calc_after (further_of step.now) value input.now slots.now }
 {
     match step {
         CalcStep::Neg => negate(value),

@@ -4,7 +4,7 @@ use Rattle.std.specs.Prelude.{Ok}
 use Rattle.std.specs.List.{concat}
 use Rattle.std.proofs.lemmas.List.{drop-drop, length-drop, take-append-drop}
 use Rattle.work_text.specs.Lexis.{Piece, blank, token, bad, big, marks, piece_at}
-use Rattle.work_text.specs.Pieces.{FitsIn}
+use Rattle.work_text.specs.Pieces.{PieceFits}
 use Rattle.work_text.specs.Tok.{Mark}
 use Rattle.work_text.specs.Laws.{IsPassedOver, IsBlankBetween, AreApart, TokensAreApart}
 use Rattle.work_text.proofs.Gaps.{Passed, piece-passed}
@@ -33,7 +33,7 @@ more : (text : List ℕ) (at len : ℕ) (s : List ℕ) (ms : List Mark) → s �
 more text at len s [] here passed a = one_more text at len (length text) s here passed a
 more text at len s (m ∷ ms) here passed a = (one_more text at len m.start s here passed a.0, a.1)
 
-from_piece : (text : List ℕ) (at c : ℕ) (cs : List ℕ) (p : Piece) (ms : List Mark) → c ∷ cs ≡ drop at text → FitsIn (length (c ∷ cs)) p → Passed (c ∷ cs) p
+from_piece : (text : List ℕ) (at c : ℕ) (cs : List ℕ) (p : Piece) (ms : List Mark) → c ∷ cs ≡ drop at text → PieceFits (length (c ∷ cs)) p → Passed (c ∷ cs) p
     → ((skip : ℕ) (ks : List Mark) → skip ≤ length cs → marks skip (at + 1) cs ≡ Ok ks → AreApart text (at + 1 + skip) ks)
     → after_piece at cs p ≡ Ok ms → AreApart text at ms
 from_piece text at c cs (blank len) ms here fits passed later e =

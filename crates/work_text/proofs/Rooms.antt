@@ -10,10 +10,10 @@ use Rattle.work_text.specs.Symbols.{short_symbol, long_symbol}
 use Rattle.work_text.specs.Lexis.{Piece, token, big, piece_at, first_is, begins_with, block_end, block_piece, is_blank, is_letter, is_digit}
 use Rattle.work_text.specs.Lexis.{is_word, is_in_line, var_piece, number_piece, symbol_piece, short_piece, long_piece, most}
 use Rattle.work_text.specs.Tok.{number}
-use Rattle.work_text.specs.Pieces.{FitsIn}
+use Rattle.work_text.specs.Pieces.{PieceFits}
 
 -- a choice fits if each side fits where it is taken
-choose : (room : ℕ) (b : Bool) (p q : Piece) → (b ≡ true → FitsIn room p) → (b ≡ false → FitsIn room q) → FitsIn room (if b then p else q)
+choose : (room : ℕ) (b : Bool) (p q : Piece) → (b ≡ true → PieceFits room p) → (b ≡ false → PieceFits room q) → PieceFits room (if b then p else q)
 choose room true p q f g = f refl
 choose room false p q f g = g refl
 
@@ -78,36 +78,36 @@ block_ends n (c ∷ cs) =
     record { within = λ m e. at_end n (length (c ∷ cs)) (n + 2) m (omega arith) (omega arith) e })
     (record { within = λ m e. let w = more.within m e in (omega arith, omega arith) })
 
-block_fits : (room : ℕ) (end : Option ℕ) (s : List ℕ) → Ends 2 (length s) end → length s + 2 ≤ room → FitsIn room (block_piece end)
+block_fits : (room : ℕ) (end : Option ℕ) (s : List ℕ) → Ends 2 (length s) end → length s + 2 ≤ room → PieceFits room (block_piece end)
 block_fits room None s e h = tt
 block_fits room (Some m) s e h = let w = e.within m refl in (omega arith, omega arith)
 
-var_fits : (room : ℕ) (s : List ℕ) → length s < room → FitsIn room (var_piece s)
+var_fits : (room : ℕ) (s : List ℕ) → length s < room → PieceFits room (var_piece s)
 unfolding var_piece
 var_fits room s h =
     let le : prefix_len is_word s ≤ length s = prefix_len-le-length is_word s in
     choose room (first_is is_letter s) _ _ (λ _. (omega arith, omega arith)) (λ _. tt)
 
-number_fits : (room value len : ℕ) → 0 < len → len ≤ room → FitsIn room (number_piece value len)
+number_fits : (room value len : ℕ) → 0 < len → len ≤ room → PieceFits room (number_piece value len)
 unfolding number_piece
 number_fits room value len h k = choose room (nat_lt most value) big (token (number value) len) (λ _. tt) (λ _. (h, k))
 
-short_fits : (room : ℕ) (o : Option Symbol) → 0 < room → FitsIn room (short_piece o)
+short_fits : (room : ℕ) (o : Option Symbol) → 0 < room → PieceFits room (short_piece o)
 short_fits room None h = tt
 short_fits room (Some s) h = (omega arith, omega arith)
 
-long_fits : (room c : ℕ) (o : Option Symbol) → 1 < room → FitsIn room (long_piece c o)
+long_fits : (room c : ℕ) (o : Option Symbol) → 1 < room → PieceFits room (long_piece c o)
 long_fits room c None h = short_fits room (short_symbol c) (omega arith)
 long_fits room c (Some s) h = (omega arith, omega arith)
 
-symbol_fits : (s : List ℕ) → FitsIn (length s) (symbol_piece s)
+symbol_fits : (s : List ℕ) → PieceFits (length s) (symbol_piece s)
 unfolding symbol_piece
 symbol_fits [] = tt
 symbol_fits (c ∷ []) = short_fits 1 (short_symbol c) (omega arith)
 symbol_fits (c ∷ d ∷ ds) = long_fits (length (c ∷ d ∷ ds)) c (long_symbol c d) (omega arith)
 
 -- a piece has a byte and is no longer than the text
-pub piece_fits : (s : List ℕ) → 0 < length s → FitsIn (length s) (piece_at s)
+pub piece_fits : (s : List ℕ) → 0 < length s → PieceFits (length s) (piece_at s)
 unfolding piece_at
 piece_fits s pos =
     let room = length s in
@@ -125,7 +125,7 @@ piece_fits s pos =
     choose room (first_is is_digit s) _ _ (λ h. number_fits room _ (prefix_len is_digit s) (digits_has s h) digits) (λ _.
     symbol_fits s)))))))
 
-pub room : (s : List ℕ) (p : Piece) → 0 < length s → p ≡ piece_at s → FitsIn (length s) p
-room s p pos same = subst (FitsIn (length s)) (sym same) (piece_fits s pos)
+pub room : (s : List ℕ) (p : Piece) → 0 < length s → p ≡ piece_at s → PieceFits (length s) p
+room s p pos same = subst (PieceFits (length s)) (sym same) (piece_fits s pos)
 
 pub ruleset rooms = (room, piece_fits)

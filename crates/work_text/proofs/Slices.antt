@@ -13,7 +13,7 @@ use Rattle.work_text.specs.Symbols.{short_symbol, long_symbol, symbol_bytes}
 use Rattle.work_text.specs.Lexis.{Piece, blank, token, bad, big, marks, with_mark, piece_at, first_is, begins_with, is_blank, is_letter, is_digit, is_word}
 use Rattle.work_text.specs.Lexis.{block_end, block_piece, var_piece, number_piece, symbol_piece, short_piece, long_piece, decimal_from}
 use Rattle.work_text.specs.Lexis.{most, tokens_in}
-use Rattle.work_text.specs.Pieces.{FitsIn}
+use Rattle.work_text.specs.Pieces.{PieceFits}
 use Rattle.work_text.specs.Tok.{Tok, Mark, number}
 use Rattle.work_text.specs.Laws.{IsWord, IsWrittenAs, IsSmall, begins_comment, StandInTextOrder, AllSpans, TokensAreSlices, FaultsAreThere}
 use Rattle.work_text.proofs.Gaps.{front-all}
@@ -215,7 +215,7 @@ after_piece at cs bad = Err (BadByte at)
 after_piece at cs big = Err (BigNumber at)
 
 -- from a piece on
-from_piece : (text : List ℕ) (at c : ℕ) (cs : List ℕ) (p : Piece) (ms : List Mark) → c ∷ cs ≡ drop at text → piece_at (c ∷ cs) ≡ p → FitsIn (length (c ∷ cs)) p
+from_piece : (text : List ℕ) (at c : ℕ) (cs : List ℕ) (p : Piece) (ms : List Mark) → c ∷ cs ≡ drop at text → piece_at (c ∷ cs) ≡ p → PieceFits (length (c ∷ cs)) p
     → Right (c ∷ cs) p
     → ((skip : ℕ) (ks : List Mark) → marks skip (at + 1) cs ≡ Ok ks → Known text (at + 1 + skip) ks)
     → after_piece at cs p ≡ Ok ms → Known text at ms

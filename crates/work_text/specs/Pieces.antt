@@ -13,8 +13,8 @@ piece_of Bad = lexis.bad
 piece_of Big = lexis.big
 
 -- a piece has a byte and is no longer than the text
-abbrev pub FitsIn : ℕ → lexis.Piece → Type 0
-FitsIn room (lexis.blank len) = (0 < len) × (len ≤ room)
-FitsIn room (lexis.token t len) = (0 < len) × (len ≤ room)
-FitsIn room lexis.bad = Unit {0}
-FitsIn room lexis.big = Unit {0}
+abbrev pub PieceFits : ℕ → lexis.Piece → Type 0
+PieceFits room (lexis.blank len) = (0 < len) × (len ≤ room)
+PieceFits room (lexis.token t len) = (0 < len) × (len ≤ room)
+PieceFits room lexis.bad = Unit {0}
+PieceFits room lexis.big = Unit {0}

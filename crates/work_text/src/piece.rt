@@ -3,7 +3,7 @@ ghost use Rattle.std.specs.Prelude.{◌≡◌, ◌<◌, ◌≤◌, ◌+◌, take
 ghost use Rattle.std.specs.List.{prefix_len};
 ghost use Rattle.work_text.specs.Symbols.{short_symbol};
 ghost use Rattle.work_text.specs.Lexis.{is_word, is_digit, begins_with, block_end, block_piece, decimal_from, name_piece, number_piece, var_piece, short_piece, symbol_piece, piece_at, Limited};
-ghost use Rattle.work_text.specs.Pieces.{piece_of, FitsIn};
+ghost use Rattle.work_text.specs.Pieces.{piece_of, PieceFits};
 
 use crate::Token;
 use crate::byte::{Class, first_is, run_len};
@@ -142,7 +142,7 @@ fn short_piece<'a>(first: u8) -> Piece<'a>
 pub fn next_piece<'a>(text: &'a [u8]) -> Piece<'a>
     requires { 0 < length text.now }
     ensures piece { piece_of result ≡ piece_at text.now }
-    ensures room { FitsIn (length text.now) (piece_of result) }
+    ensures room { PieceFits (length text.now) (piece_of result) }
 {
     first_piece(text)
 }

@@ -1,5 +1,5 @@
 // A case: what is run, and what it is to give.
-use crate::fault::Fault;
+use crate::fault::CaseFault;
 use river_base::{Bytes, Listed, Numbers, Text};
 use river_outside::Files;
 use std::alloc::Global;
@@ -69,7 +69,7 @@ impl Case {
 }
 
 /// Puts a file in place of the one of its name, if there is one.
-pub fn put(files: &mut Files, file: (Bytes, Bytes)) -> Result<(), Fault> {
+pub fn put(files: &mut Files, file: (Bytes, Bytes)) -> Result<(), CaseFault> {
     for other in files.as_mut_slice() {
         if other.0 == file.0 {
             other.1 = file.1;

@@ -1,5 +1,5 @@
 // Lines of a content, whose bytes may be written by a backslash.
-use crate::fault::Fault;
+use crate::fault::CaseFault;
 use river_base::Bytes;
 use std::alloc::Global;
 
@@ -17,7 +17,7 @@ enum Next {
 }
 
 /// Appends a line in its turn, from 1, and a line feed, unless the line ends with a backslash.
-pub fn append_line(alloc: Global, line: &[u8], turn: u32, to: &mut Bytes) -> Result<(), Fault> {
+pub fn append_line(alloc: Global, line: &[u8], turn: u32, to: &mut Bytes) -> Result<(), CaseFault> {
     if append(alloc, line, turn, to)? {
         to.push(b'\n')?;
     }
@@ -25,7 +25,7 @@ pub fn append_line(alloc: Global, line: &[u8], turn: u32, to: &mut Bytes) -> Res
 }
 
 /// Appends a text in its turn, and says whether it is whole: it is not where it ends with a backslash.
-pub fn append(alloc: Global, text: &[u8], turn: u32, to: &mut Bytes) -> Result<bool, Fault> {
+pub fn append(alloc: Global, text: &[u8], turn: u32, to: &mut Bytes) -> Result<bool, CaseFault> {
     let mut next = Next::Plain;
     for &byte in text {
         next = take(alloc, next, byte, turn, to)?;
@@ -33,12 +33,12 @@ pub fn append(alloc: Global, text: &[u8], turn: u32, to: &mut Bytes) -> Result<b
     match next {
         Next::Plain => Ok(true),
         Next::Behind => Ok(false),
-        Next::High | Next::Low(_) => Err(Fault::Line),
+        Next::High | Next::Low(_) => Err(CaseFault::Line),
     }
 }
 
 // Takes a byte, and says what comes next.
-fn take(alloc: Global, next: Next, byte: u8, turn: u32, to: &mut Bytes) -> Result<Next, Fault> {
+fn take(alloc: Global, next: Next, byte: u8, turn: u32, to: &mut Bytes) -> Result<Next, CaseFault> {
     match next {
         Next::Plain if byte == b'\\' => Ok(Next::Behind),
         Next::Plain => push(byte, to),
@@ -48,13 +48,13 @@ fn take(alloc: Global, next: Next, byte: u8, turn: u32, to: &mut Bytes) -> Resul
     }
 }
 
-fn push(byte: u8, to: &mut Bytes) -> Result<Next, Fault> {
+fn push(byte: u8, to: &mut Bytes) -> Result<Next, CaseFault> {
     to.push(byte)?;
     Ok(Next::Plain)
 }
 
 // What stands behind a backslash: a byte in two digits, a number, or what stands for another byte.
-fn behind(alloc: Global, byte: u8, turn: u32, to: &mut Bytes) -> Result<Next, Fault> {
+fn behind(alloc: Global, byte: u8, turn: u32, to: &mut Bytes) -> Result<Next, CaseFault> {
     match byte {
         b'x' => Ok(Next::High),
         b'i' => number(alloc, turn, to),
@@ -64,33 +64,33 @@ fn behind(alloc: Global, byte: u8, turn: u32, to: &mut Bytes) -> Result<Next, Fa
 }
 
 // The byte that this one stands for.
-fn meant(byte: u8) -> Result<u8, Fault> {
+fn meant(byte: u8) -> Result<u8, CaseFault> {
     match byte {
         b't' => Ok(b'\t'),
         b'r' => Ok(b'\r'),
         b'n' => Ok(b'\n'),
         b's' => Ok(b' '),
         b'\\' => Ok(b'\\'),
-        _ => Err(Fault::Line),
+        _ => Err(CaseFault::Line),
     }
 }
 
-fn number(alloc: Global, number: u32, to: &mut Bytes) -> Result<Next, Fault> {
+fn number(alloc: Global, number: u32, to: &mut Bytes) -> Result<Next, CaseFault> {
     let Ok(text) = number.to_string(alloc) else {
-        return Err(Fault::NoMemory);
+        return Err(CaseFault::NoMemory);
     };
     to.extend(text.as_bytes())?;
     Ok(Next::Plain)
 }
 
-fn both(high: u8, low: u8, to: &mut Bytes) -> Result<Next, Fault> {
+fn both(high: u8, low: u8, to: &mut Bytes) -> Result<Next, CaseFault> {
     push(high.wrapping_mul(16).wrapping_add(digit(low)?), to)
 }
 
-fn digit(byte: u8) -> Result<u8, Fault> {
+fn digit(byte: u8) -> Result<u8, CaseFault> {
     match byte {
         b'0'..=b'9' => Ok(byte - b'0'),
         b'a'..=b'f' => Ok(byte - b'a' + 10),
-        _ => Err(Fault::Line),
+        _ => Err(CaseFault::Line),
     }
 }

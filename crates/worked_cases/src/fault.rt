@@ -4,7 +4,7 @@ use std::io;
 
 /// What is wrong with a line, or with the machine.
 #[derive(Clone, Copy)]
-pub enum Fault {
+pub enum CaseFault {
     /// The line is none that is known, or stands where it may not.
     Line,
     /// There was no memory.
@@ -13,14 +13,14 @@ pub enum Fault {
     Output,
 }
 
-impl From<NoMemory> for Fault {
+impl From<NoMemory> for CaseFault {
     fn from(_: NoMemory) -> Self {
-        Fault::NoMemory
+        CaseFault::NoMemory
     }
 }
 
-impl From<io::Error> for Fault {
+impl From<io::Error> for CaseFault {
     fn from(_: io::Error) -> Self {
-        Fault::Output
+        CaseFault::Output
     }
 }

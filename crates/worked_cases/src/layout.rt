@@ -5,25 +5,25 @@ ghost use Rattle.std.specs.Str.{bytes_eq};
 ghost use Rattle.river_outside.specs.Memory.{distinct_names};
 
 use crate::case::{Case, Device};
-use crate::fault::Fault;
+use crate::fault::CaseFault;
 use river_base::{Bytes, NoMemory, Numbers};
 use river_outside::{Files, MemShelf, MemSink};
 use std::alloc::Global;
 
 /// The files of a case.
-pub fn shelf_of(alloc: Global, case: &Case) -> Result<MemShelf, Fault> {
+pub fn shelf_of(alloc: Global, case: &Case) -> Result<MemShelf, CaseFault> {
     let fails = numbers_of(alloc, &case.reads.fails)?;
     let files = files_of(alloc, &case.files)?;
     if case.reads.piece == 0 || !have_distinct_names(files.as_slice()) {
-        return Err(Fault::Line);
+        return Err(CaseFault::Line);
     }
     Ok(MemShelf::new(files, case.reads.piece, fails))
 }
 
 /// A sink that goes on as the device.
-pub fn sink_of(alloc: Global, device: &Device) -> Result<MemSink, Fault> {
+pub fn sink_of(alloc: Global, device: &Device) -> Result<MemSink, CaseFault> {
     if device.piece == 0 {
-        return Err(Fault::Line);
+        return Err(CaseFault::Line);
     }
     let fails = numbers_of(alloc, &device.fails)?;
     Ok(MemSink::new(alloc, device.piece, fails, device.room)?)

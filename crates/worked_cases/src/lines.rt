@@ -1,5 +1,5 @@
 // Goes through the lines of the cases.
-use crate::fault::Fault;
+use crate::fault::CaseFault;
 use crate::reader::Reader;
 use crate::report::{Tally, show_fault, show_tally};
 use crate::run::{Runner, tries};
@@ -46,7 +46,7 @@ fn take_line<R: Print + Threads + Wait + Sync, T: Runner>(
     reader: &mut Reader,
     tally: &mut Tally,
     line: &str,
-) -> Result<(), Fault> {
+) -> Result<(), CaseFault> {
     if reader.take(line)? {
         let is_right = tries(rt, alloc, runner, reader.case(), reader.besides())?;
         tally.count(is_right);
@@ -55,7 +55,7 @@ fn take_line<R: Print + Threads + Wait + Sync, T: Runner>(
 }
 
 // What is said of a line that ends all.
-fn faulty<R: Print>(rt: &R, line: u32, fault: Fault) -> io::Result<bool> {
+fn faulty<R: Print>(rt: &R, line: u32, fault: CaseFault) -> io::Result<bool> {
     show_fault(rt, line, fault)?;
     Ok(false)
 }

@@ -1,7 +1,7 @@
 // Reads the cases, a line at a time.
 use crate::case::{Case, Device, Words, find, put};
 use crate::content::{append, append_line};
-use crate::fault::Fault;
+use crate::fault::CaseFault;
 use river_base::{Bytes, Listed};
 use river_outside::Files;
 use std::alloc::Global;
@@ -69,7 +69,7 @@ impl Reader {
     }
 
     /// Takes a line, and says whether a case ended there.
-    pub fn take(&mut self, line: &str) -> Result<bool, Fault> {
+    pub fn take(&mut self, line: &str) -> Result<bool, CaseFault> {
         let (first, rest) = cut(line);
         match first {
             "" | "#" => Ok(false),
@@ -80,7 +80,7 @@ impl Reader {
     }
 
     // Takes a line that stands several times, or a line that is none of content, which ends there.
-    fn take_other(&mut self, first: &str, rest: &str) -> Result<bool, Fault> {
+    fn take_other(&mut self, first: &str, rest: &str) -> Result<bool, CaseFault> {
         if let Ok(times) = first.parse::<u32>() {
             return self.add_times(times, rest);
         }
@@ -93,7 +93,7 @@ impl Reader {
     }
 
     // Takes a line that stands between cases.
-    fn take_outer(&mut self, first: &str, rest: &str) -> Result<bool, Fault> {
+    fn take_outer(&mut self, first: &str, rest: &str) -> Result<bool, CaseFault> {
         match first {
             "cases" => self.count(rest),
             "workers" => self.add_workers(rest),
@@ -101,12 +101,12 @@ impl Reader {
             "case" => self.begin_anew(rest),
             "also" => self.begin_also(rest),
             "same" => self.begin(rest),
-            _ => Err(Fault::Line),
+            _ => Err(CaseFault::Line),
         }
     }
 
     // Takes a line that stands within a case.
-    fn take_inner(&mut self, first: &str, rest: &str) -> Result<bool, Fault> {
+    fn take_inner(&mut self, first: &str, rest: &str) -> Result<bool, CaseFault> {
         match first {
             "words" => read_words(self.alloc, rest, &mut self.case.words),
             "file" => self.open_file(rest),
@@ -117,14 +117,14 @@ impl Reader {
             "out" => self.open_at(Place::Out, rest),
             "err" => self.open_at(Place::Err, rest),
             "end" => self.end(),
-            _ => Err(Fault::Line),
+            _ => Err(CaseFault::Line),
         }
     }
 
     // Appends a line so many times.
-    fn add(&mut self, times: u32, line: &str) -> Result<bool, Fault> {
+    fn add(&mut self, times: u32, line: &str) -> Result<bool, CaseFault> {
         if matches!(self.place, Place::Nothing) {
-            return Err(Fault::Line);
+            return Err(CaseFault::Line);
         }
         for turn in 1..=times {
             append_line(self.alloc, line.as_bytes(), turn, &mut self.open.1)?;
@@ -133,26 +133,26 @@ impl Reader {
     }
 
     // The same where the line stands behind a bar.
-    fn add_times(&mut self, times: u32, text: &str) -> Result<bool, Fault> {
+    fn add_times(&mut self, times: u32, text: &str) -> Result<bool, CaseFault> {
         match text.split_once(' ') {
             Some(("|", line)) => self.add(times, line),
-            _ => Err(Fault::Line),
+            _ => Err(CaseFault::Line),
         }
     }
 
     // Appends a text that was named.
-    fn add_named(&mut self, name: &str) -> Result<bool, Fault> {
+    fn add_named(&mut self, name: &str) -> Result<bool, CaseFault> {
         match find(&self.texts, name.as_bytes()) {
             Some(text) if !matches!(self.place, Place::Nothing) => {
                 self.open.1.extend(text.as_slice())?;
                 Ok(false)
             }
-            _ => Err(Fault::Line),
+            _ => Err(CaseFault::Line),
         }
     }
 
     // Puts what was read of a content where it belongs.
-    fn close(&mut self) -> Result<(), Fault> {
+    fn close(&mut self) -> Result<(), CaseFault> {
         let place = mem::replace(&mut self.place, Place::Nothing);
         let open = mem::replace(&mut self.open, nothing(self.alloc));
         match place {
@@ -170,30 +170,30 @@ impl Reader {
         }
     }
 
-    fn count(&mut self, number: &str) -> Result<bool, Fault> {
+    fn count(&mut self, number: &str) -> Result<bool, CaseFault> {
         self.wanted = read_number(number)?;
         Ok(false)
     }
 
     // Each case from here on that runs a program is tried with these words besides.
-    fn add_workers(&mut self, text: &str) -> Result<bool, Fault> {
+    fn add_workers(&mut self, text: &str) -> Result<bool, CaseFault> {
         let mut words = Words::new(self.alloc);
         read_words(self.alloc, text, &mut words)?;
         self.besides.push(words)?;
         Ok(false)
     }
 
-    fn begin_anew(&mut self, title: &str) -> Result<bool, Fault> {
+    fn begin_anew(&mut self, title: &str) -> Result<bool, CaseFault> {
         self.case = Case::new(self.alloc);
         self.begin(title)
     }
 
-    fn begin_also(&mut self, title: &str) -> Result<bool, Fault> {
+    fn begin_also(&mut self, title: &str) -> Result<bool, CaseFault> {
         self.case.again(self.alloc);
         self.begin(title)
     }
 
-    fn begin(&mut self, title: &str) -> Result<bool, Fault> {
+    fn begin(&mut self, title: &str) -> Result<bool, CaseFault> {
         self.case.title.truncate(0);
         self.case.title.extend(title.as_bytes())?;
         self.within = true;
@@ -201,29 +201,29 @@ impl Reader {
     }
 
     // A case ends only where it says with which status.
-    fn end(&mut self) -> Result<bool, Fault> {
+    fn end(&mut self) -> Result<bool, CaseFault> {
         if self.case.status.is_none() {
-            return Err(Fault::Line);
+            return Err(CaseFault::Line);
         }
         self.within = false;
         Ok(true)
     }
 
-    fn open_text(&mut self, name: &str) -> Result<bool, Fault> {
+    fn open_text(&mut self, name: &str) -> Result<bool, CaseFault> {
         self.open.0.extend(name.as_bytes())?;
         self.place = Place::Text;
         Ok(false)
     }
 
     // A file, whose first line may stand beside its name.
-    fn open_file(&mut self, text: &str) -> Result<bool, Fault> {
+    fn open_file(&mut self, text: &str) -> Result<bool, CaseFault> {
         let (name, line) = cut(text);
         append(self.alloc, name.as_bytes(), 1, &mut self.open.0)?;
         self.open_at(Place::File, line)
     }
 
     // Opens a content whose first line may stand there.
-    fn open_at(&mut self, place: Place, line: &str) -> Result<bool, Fault> {
+    fn open_at(&mut self, place: Place, line: &str) -> Result<bool, CaseFault> {
         self.place = place;
         if line.is_empty() {
             return Ok(false);
@@ -231,10 +231,10 @@ impl Reader {
         self.add_times(1, line)
     }
 
-    fn set_status(&mut self, text: &str) -> Result<bool, Fault> {
+    fn set_status(&mut self, text: &str) -> Result<bool, CaseFault> {
         match text.parse::<u8>() {
             Ok(status) => self.case.status = Some(status),
-            Err(_) => return Err(Fault::Line),
+            Err(_) => return Err(CaseFault::Line),
         }
         Ok(false)
     }
@@ -254,7 +254,7 @@ fn cut(line: &str) -> (&str, &str) {
 }
 
 // Words are separated by single spaces; `""` is the empty one.
-fn read_words(alloc: Global, text: &str, words: &mut Words) -> Result<bool, Fault> {
+fn read_words(alloc: Global, text: &str, words: &mut Words) -> Result<bool, CaseFault> {
     words.truncate(0);
     for word in text.split_whitespace() {
         words.push(read_word(alloc, word)?)?;
@@ -262,7 +262,7 @@ fn read_words(alloc: Global, text: &str, words: &mut Words) -> Result<bool, Faul
     Ok(false)
 }
 
-fn read_word(alloc: Global, word: &str) -> Result<Bytes, Fault> {
+fn read_word(alloc: Global, word: &str) -> Result<Bytes, CaseFault> {
     let mut bytes = Bytes::new(alloc);
     if word != "\"\"" {
         append(alloc, word.as_bytes(), 1, &mut bytes)?;
@@ -271,7 +271,7 @@ fn read_word(alloc: Global, word: &str) -> Result<Bytes, Fault> {
 }
 
 // A device by words such as `piece 5`, `room 7` and `fails 1`, in any order.
-fn read_device(alloc: Global, text: &str, device: &mut Device) -> Result<bool, Fault> {
+fn read_device(alloc: Global, text: &str, device: &mut Device) -> Result<bool, CaseFault> {
     *device = Device::new(alloc);
     let mut words = text.split_whitespace();
     while let Some(word) = words.next() {
@@ -280,20 +280,20 @@ fn read_device(alloc: Global, text: &str, device: &mut Device) -> Result<bool, F
     Ok(false)
 }
 
-fn read_part(word: &str, number: &str, device: &mut Device) -> Result<(), Fault> {
+fn read_part(word: &str, number: &str, device: &mut Device) -> Result<(), CaseFault> {
     let number = read_number(number)?;
     match word {
         "piece" => device.piece = number,
         "room" => device.room = number,
         "fails" => return Ok(device.fails.push(i64::from(number))?),
-        _ => return Err(Fault::Line),
+        _ => return Err(CaseFault::Line),
     }
     Ok(())
 }
 
-fn read_number(text: &str) -> Result<u32, Fault> {
+fn read_number(text: &str) -> Result<u32, CaseFault> {
     match text.parse::<u32>() {
         Ok(number) => Ok(number),
-        Err(_) => Err(Fault::Line),
+        Err(_) => Err(CaseFault::Line),
     }
 }

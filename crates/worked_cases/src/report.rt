@@ -1,5 +1,5 @@
 // What is printed of the cases.
-use crate::fault::Fault;
+use crate::fault::CaseFault;
 use river_base::Text;
 use std::alloc::Global;
 use std::io;
@@ -39,9 +39,9 @@ pub fn show_wrong<R: Print>(
     alloc: Global,
     title: &[u8],
     ran: Ran<'_>,
-) -> Result<(), Fault> {
+) -> Result<(), CaseFault> {
     let Ok(status) = ran.status.to_string(alloc) else {
-        return Err(Fault::NoMemory);
+        return Err(CaseFault::NoMemory);
     };
     let parts: [&[u8]; 8] = [
         b"wrong: ",
@@ -56,7 +56,7 @@ pub fn show_wrong<R: Print>(
     show(rt, &parts)
 }
 
-fn show<R: Print>(rt: &R, parts: &[&[u8]]) -> Result<(), Fault> {
+fn show<R: Print>(rt: &R, parts: &[&[u8]]) -> Result<(), CaseFault> {
     let mut to = io::writer(rt);
     for part in parts {
         to.write_all(part)?;
@@ -66,7 +66,7 @@ fn show<R: Print>(rt: &R, parts: &[&[u8]]) -> Result<(), Fault> {
 }
 
 /// Prints which words stood behind those of a case.
-pub fn show_more<R: Print>(rt: &R, more: &[Text]) -> Result<(), Fault> {
+pub fn show_more<R: Print>(rt: &R, more: &[Text]) -> Result<(), CaseFault> {
     let mut to = io::writer(rt);
     to.write_all(b"behind its words")?;
     for word in more {
@@ -83,11 +83,11 @@ fn first(bytes: &[u8]) -> &[u8] {
 }
 
 /// Prints why the cases cannot be gone through.
-pub fn show_fault<R: Print>(rt: &R, line: u32, fault: Fault) -> io::Result<()> {
+pub fn show_fault<R: Print>(rt: &R, line: u32, fault: CaseFault) -> io::Result<()> {
     match fault {
-        Fault::Line => println!(rt; "line {line} cannot be read, or may not stand there"),
-        Fault::NoMemory => println!(rt; "line {line}: out of memory"),
-        Fault::Output => Ok(()),
+        CaseFault::Line => println!(rt; "line {line} cannot be read, or may not stand there"),
+        CaseFault::NoMemory => println!(rt; "line {line}: out of memory"),
+        CaseFault::Output => Ok(()),
     }
 }
 

@@ -2,7 +2,7 @@
 ghost use Rattle.std.specs.Thread.{IsSync};
 
 use crate::case::{Case, Words};
-use crate::fault::Fault;
+use crate::fault::CaseFault;
 use crate::layout::{shelf_of, sink_of};
 use crate::report::{Ran, show_more, show_wrong};
 use river_base::{NoMemory, Text};
@@ -33,7 +33,7 @@ pub fn tries<R: Print + Threads + Wait + Sync, T: Runner>(
     runner: &T,
     case: &Case,
     besides: &[Words],
-) -> Result<bool, Fault> {
+) -> Result<bool, CaseFault> {
     let is_right = tries_by(rt, alloc, runner, case, case.words.as_slice())?;
     if !is_right || !is_run(case) {
         return Ok(is_right);
@@ -53,7 +53,7 @@ fn tries_with<R: Print + Threads + Wait + Sync, T: Runner>(
     runner: &T,
     case: &Case,
     more: &[Text],
-) -> Result<bool, Fault> {
+) -> Result<bool, CaseFault> {
     let words = joined(alloc, case.words.as_slice(), more)?;
     let is_right = tries_by(rt, alloc, runner, case, words.as_slice())?;
     if !is_right {
@@ -102,7 +102,7 @@ fn tries_by<R: Print + Threads + Wait + Sync, T: Runner>(
     runner: &T,
     case: &Case,
     words: &[Text],
-) -> Result<bool, Fault> {
+) -> Result<bool, CaseFault> {
     let mut shelf = shelf_of(alloc, case)?;
     tries_over(rt, alloc, runner, case, words, &mut shelf)
 }
@@ -114,7 +114,7 @@ fn tries_over<R: Print + Threads + Wait + Sync, T: Runner>(
     case: &Case,
     words: &[Text],
     shelf: &mut MemShelf,
-) -> Result<bool, Fault> {
+) -> Result<bool, CaseFault> {
     let mut out = sink_of(alloc, &case.writes)?;
     tries_writing(rt, alloc, runner, case, words, shelf, &mut out)
 }
@@ -127,7 +127,7 @@ fn tries_writing<R: Print + Threads + Wait + Sync, T: Runner>(
     words: &[Text],
     shelf: &mut MemShelf,
     out: &mut MemSink,
-) -> Result<bool, Fault> {
+) -> Result<bool, CaseFault> {
     let mut err = sink_of(alloc, &case.tells)?;
     let status = runner.run(rt, words, shelf, out, &mut err);
     let ran = Ran {
@@ -139,7 +139,7 @@ fn tries_writing<R: Print + Threads + Wait + Sync, T: Runner>(
 }
 
 // Prints what a run gave where it is not just what the case says.
-fn judge<R: Print>(rt: &R, alloc: Global, case: &Case, ran: Ran<'_>) -> Result<bool, Fault> {
+fn judge<R: Print>(rt: &R, alloc: Global, case: &Case, ran: Ran<'_>) -> Result<bool, CaseFault> {
     if is_right(case, ran) {
         return Ok(true);
     }

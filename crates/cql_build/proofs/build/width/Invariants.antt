@@ -1,5 +1,5 @@
 use Rattle.std.proofs.Common.{◌≡◌, ◌+◌, drop}
-use Rattle.cql_model.specs.Translation.{widths_of}
+use Rattle.cql_model.specs.Plan.{widths_of}
 use Rattle.cql_build.specs.Views.{scope}
 use Rattle.cql_build.proofs.build.width.Given as goal
 

@@ -3,4 +3,4 @@ use Rattle.cql_build.proofs.Units.{Judging}
 use Rattle.cql_build.proofs.judge.fault_among.Given as goal
 
 abbrev pub invariant-loop-i : goal.invariant-loop-i
-invariant-loop-i l = record { low : l.many ≤ l.i; judging : Judging l.parts l.i l.many l.known }
+invariant-loop-i l = record { low : l.many ≤ l.i; judging : Judging l.units l.i l.many l.known }

@@ -1,5 +1,5 @@
 use Rattle.std.proofs.Common.{◌≡◌, [], drop, take}
-use Rattle.cql_model.specs.Faults.{fields_fault}
+use Rattle.cql_model.specs.Judged.{fields_fault}
 use Rattle.cql_build.proofs.judge.fields_fault.Given as goal
 
 abbrev pub invariant-loop-i : goal.invariant-loop-i

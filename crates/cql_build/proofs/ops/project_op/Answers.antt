@@ -1,7 +1,7 @@
 use Rattle.std.proofs.Common.{ap, ◌∙◌}
 use Rattle.river_kernels.proofs.KernLemmas.{kern_of-project}
 use Rattle.river_kernels.specs.Kern.{project}
-use Rattle.cql_model.specs.Translation.{op}
+use Rattle.cql_model.specs.Plan.{op}
 use Rattle.cql_build.proofs.ops.project_op.Goals as goal
 
 pub returns : goal.returns

@@ -1,7 +1,7 @@
 use Rattle.std.proofs.Common.{ap, ◌∙◌}
 use Rattle.river_kernels.proofs.KernLemmas.{kern_of-streamer}
 use Rattle.river_kernels.specs.Kern.{streamer}
-use Rattle.cql_model.specs.Translation.{op}
+use Rattle.cql_model.specs.Plan.{op}
 use Rattle.cql_build.proofs.ops.stream_op.Goals as goal
 
 pub returns : goal.returns

@@ -1,6 +1,6 @@
 use Rattle.std.proofs.Common.{◌≡◌, take}
 use Rattle.work_code.specs.Term.{terms}
-use Rattle.cql_model.specs.Translation.{terms_of}
+use Rattle.cql_model.specs.Plan.{terms_of}
 use Rattle.cql_text.specs.Tree.{chosen_of}
 use Rattle.cql_build.specs.Views.{scope}
 use Rattle.cql_build.proofs.ops.values.Given as goal

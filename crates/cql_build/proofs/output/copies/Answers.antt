@@ -1,5 +1,5 @@
 use Rattle.std.proofs.Common.{◌+◌, ◌-◌, [], ◌∷◌, ◌++◌, sym, ap, ◌∙◌, append_assoc}
-use Rattle.cql_model.specs.Translation.{copy_names}
+use Rattle.cql_model.specs.Plan.{copy_names}
 use Rattle.cql_build.proofs.Growing.{copies_next}
 use Rattle.cql_build.proofs.output.copies.Goals as goal
 

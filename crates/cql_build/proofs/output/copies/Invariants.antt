@@ -1,5 +1,5 @@
 use Rattle.std.proofs.Common.{◌≡◌, ◌-◌, ◌++◌}
-use Rattle.cql_model.specs.Translation.{copy_names}
+use Rattle.cql_model.specs.Plan.{copy_names}
 use Rattle.cql_build.proofs.output.copies.Given as goal
 
 abbrev pub invariant-loop-k : goal.invariant-loop-k

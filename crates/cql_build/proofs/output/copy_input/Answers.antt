@@ -1,6 +1,6 @@
 use Rattle.std.proofs.Common.{◌≤◌, ◌++◌, length, ap, ◌∙◌, arith}
 use Rattle.river_plan.specs.Names.{count}
-use Rattle.cql_model.specs.Translation.{copy_names, decls_of}
+use Rattle.cql_model.specs.Plan.{copy_names, decls_of}
 use Rattle.cql_build.proofs.Growing.{on_ok_then, copied_input, copies_few, count_few}
 use Rattle.cql_build.proofs.output.copy_input.Goals as goal
 

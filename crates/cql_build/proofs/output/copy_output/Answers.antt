@@ -1,5 +1,5 @@
 use Rattle.std.proofs.Common.{◌++◌, ap, ◌∙◌}
-use Rattle.cql_model.specs.Translation.{decls_of}
+use Rattle.cql_model.specs.Plan.{decls_of}
 use Rattle.cql_build.proofs.Growing.{on_ok_then, copied_output, copies_few_more}
 use Rattle.cql_build.proofs.output.copy_output.Goals as goal
 

@@ -1,5 +1,5 @@
 use Rattle.std.proofs.Common.{◌≡◌, ◌++◌, take}
-use Rattle.cql_model.specs.Translation.{decls_of}
+use Rattle.cql_model.specs.Plan.{decls_of}
 use Rattle.cql_build.proofs.output.declare.Given as goal
 
 abbrev pub invariant-loop-name : goal.invariant-loop-name

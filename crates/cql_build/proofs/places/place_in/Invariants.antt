@@ -1,5 +1,5 @@
 use Rattle.std.proofs.Common.{◌≡◌, drop}
-use Rattle.cql_model.specs.Translation.{plus, place_among}
+use Rattle.cql_model.specs.Plan.{plus, place_among}
 use Rattle.cql_build.proofs.places.place_in.Given as goal
 
 abbrev pub invariant-loop-i : goal.invariant-loop-i

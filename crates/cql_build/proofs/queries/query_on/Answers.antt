@@ -1,6 +1,6 @@
 use Rattle.std.proofs.Common.{◌<◌, List, [], length, ap, subst, ◌∙◌, arith, drop}
 use Rattle.cql_text.specs.declared.tree.Source.{Source}
-use Rattle.cql_model.specs.Translation.{queues_of_uses, window_ops, window_decls, cross_ops, cross_last, w_name}
+use Rattle.cql_model.specs.Plan.{queues_of_uses, window_ops, window_decls, cross_ops, cross_last, w_name}
 use Rattle.cql_model.specs.Program.{streams_of}
 use Rattle.cql_build.specs.Grown.{Grew, product_decls}
 use Rattle.cql_text.specs.Tree.{query_of, sources_of}

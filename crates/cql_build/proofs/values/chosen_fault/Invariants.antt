@@ -1,5 +1,5 @@
 use Rattle.std.proofs.Common.{◌≡◌, drop}
-use Rattle.cql_model.specs.Faults.{chosen_fault}
+use Rattle.cql_model.specs.Judged.{chosen_fault}
 use Rattle.cql_text.specs.Tree.{chosen_of}
 use Rattle.cql_build.specs.Views.{scope}
 use Rattle.cql_build.proofs.values.chosen_fault.Given as goal

@@ -1,6 +1,6 @@
 use Rattle.std.proofs.Common.{◌≡◌, take}
 use Rattle.std.specs.Prelude.{min}
-use Rattle.cql_model.specs.Faults.{item_places}
+use Rattle.cql_model.specs.Judged.{item_places}
 use Rattle.cql_build.specs.Views.{scope}
 use Rattle.cql_build.proofs.values.item_places.Given as goal
 

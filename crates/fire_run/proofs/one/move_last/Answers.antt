@@ -5,7 +5,7 @@ use Rattle.fire_tasks.specs.Tasks.{IsTask, all_moves}
 use Rattle.fire_laws.specs.Layout.{AreTasks}
 use Rattle.fire_open.specs.Homes.{AreClassCells}
 use Rattle.fire_run.specs.Cells.{HaveAdded, HaveMoved}
-use Rattle.fire_run.specs.OneMove.{Moves}
+use Rattle.fire_run.specs.OneMove.{TaskMoves}
 use Rattle.fire_run.proofs.OneMoves.{last_moved}
 use Rattle.fire_run.proofs.MoveLemmas.{walked_first, turn_of, walked_next, walked_all, moved_one, one_false, none_moved}
 use Rattle.fire_open.proofs.StillLemmas.{still_tasks, still_ends, still_all_moves}
@@ -121,4 +121,4 @@ returns-then-branch-clause-step g c =
     let t = c.at_mut.result.now in
     λ m. last_moved p c.args.cells.now c.move_one.new.cells c.args.tasks.now c.loop-back.tasks c.loop-back.back
     (c.len-count.result - 1 - c.loop-back.back) t c.move_one.new.task c.loop-back.invariant.walked (omega arith) (c.at_mut.ensures.value t)
-    (subst (λ cells. Moves p t c.move_one.new.task cells c.move_one.new.cells) c.loop-back.invariant.stay (c.in_ok-move_one.ensures.step c.if-branch.true))
+    (subst (λ cells. TaskMoves p t c.move_one.new.task cells c.move_one.new.cells) c.loop-back.invariant.stay (c.in_ok-move_one.ensures.step c.if-branch.true))

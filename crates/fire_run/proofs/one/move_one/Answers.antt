@@ -4,7 +4,7 @@ use Rattle.std.proofs.lemmas.Result.{IfOk-weaker}
 use Rattle.river_plan.specs.Forms.{plan_form}
 use Rattle.fire_tasks.specs.Adds.{added, logs_of}
 use Rattle.fire_tasks.proofs.PassLemmas.{task_may}
-use Rattle.fire_run.specs.OneMove.{Moves, Takes}
+use Rattle.fire_run.specs.OneMove.{TaskMoves, Takes}
 use Rattle.fire_run.proofs.MoveLemmas.{none_added}
 use Rattle.fire_run.proofs.one.move_one.Goals as goal
 
@@ -23,5 +23,5 @@ returns-in_ok-send_first-in-Some-clause-step g c = λ m. inl (c.in_ok-send_first
 pub returns-in-None-clause-step : goal.returns-in-None-clause-step
 returns-in-None-clause-step g c =
     IfOk-weaker c.take_next.result (λ moved. IsTrue moved → Takes (plan_form c.args.plan.now) c.args.task.now c.take_next.new.task c.args.cells.now c.take_next.new.cells)
-    (λ moved. IsTrue moved → Moves (plan_form c.args.plan.now) c.args.task.now c.take_next.new.task c.args.cells.now c.take_next.new.cells)
+    (λ moved. IsTrue moved → TaskMoves (plan_form c.args.plan.now) c.args.task.now c.take_next.new.task c.args.cells.now c.take_next.new.cells)
     (λ moved h m. inr (h m)) c.take_next.ensures.takes

@@ -7,7 +7,7 @@ use Rattle.fire_tasks.specs.Ports.{InEnd, IsIdle, out_ends, received_count, sent
 use Rattle.fire_tasks.specs.Tasks.{IsTask, TaskEnds, ends_of, moves}
 use Rattle.fire_tasks.proofs.PassLemmas.{looked_task}
 use Rattle.fire_tasks.proofs.PortLemmas.{count_same}
-use Rattle.fire_open.specs.Still.{still}
+use Rattle.fire_open.specs.TaskCores.{task_core}
 use Rattle.fire_run.specs.Cells.{HaveAdded}
 use Rattle.fire_run.specs.OneMove.{Takes}
 use Rattle.fire_run.proofs.OneMoves.{takes_looked}
@@ -82,7 +82,7 @@ pub returns-in-None-clause-still : goal.returns-in-None-clause-still
 returns-in-None-clause-still g c = λ f.
     let t = c.args.task.now in
     let u = c.first_ready.new.self in
-    let looked : still u ≡ still (record t { ins = u.ins }) = ap still c.first_ready.ensures.rest in
+    let looked : task_core u ≡ task_core (record t { ins = u.ins }) = ap task_core c.first_ready.ensures.rest in
     looked ∙ still_ins t u.ins c.first_ready.ensures.same c.first_ready.ensures.received
 
 pub returns-in-None-clause-done : goal.returns-in-None-clause-done

@@ -1,5 +1,5 @@
 use Rattle.std.proofs.Common.{suc}
-use Rattle.params_text.specs.Program.{program_of}
+use Rattle.params_text.specs.Program.{unit_forms}
 use Rattle.params_model.specs.Judged.{units_judged}
 use Rattle.params_build.proofs.Judging.{judging-next}
 use Rattle.params_build.proofs.judge.each_unit.Goals as goal
@@ -9,5 +9,5 @@ units-preserved c = λ us h.
     let units = c.args.units.now in
     let i = c.units.i in
     judging-next (units_judged 1 us
-    (program_of units)) i units c.index-units-i.result c.units.above c.unit_and_name.new.above c.units-test.true c.index-units-i.is (c.units.invariant us h)
+    (unit_forms units)) i units c.index-units-i.result c.units.above c.unit_and_name.new.above c.units-test.true c.index-units-i.is (c.units.invariant us h)
     (λ above k. c.in-Ok.ensures.judged (suc i) above k) (λ above k. c.in-Ok.ensures.known above k)

@@ -1,5 +1,5 @@
 use Rattle.std.proofs.Common.{◌∙◌}
-use Rattle.params_text.specs.Program.{program_of}
+use Rattle.params_text.specs.Program.{unit_forms}
 use Rattle.params_model.specs.Judged.{elaborated_program}
 use Rattle.params_front.proofs.Fronts.{read-written, read-refused}
 use Rattle.params_front.proofs.elaboration.written.Goals as goal
@@ -14,5 +14,5 @@ returns-in-Ok-clause-made c =
 pub returns-clause-refused : goal.returns-clause-refused
 returns-clause-refused c =
     let are = c.as_slice.ensures.value ∙ c.in_ok-sizes.ensures in
-    let told = c.refused.ensures (program_of c.args.units.now) (elaborated_program (program_of c.args.units.now) c.as_slice.result.now) c.in-Err.ensures in
+    let told = c.refused.ensures (unit_forms c.args.units.now) (elaborated_program (unit_forms c.args.units.now) c.as_slice.result.now) c.in-Err.ensures in
     read-refused c.args.tokens.now c.args.units.now c.as_slice.result.now c.refused.result c.requires.read are told

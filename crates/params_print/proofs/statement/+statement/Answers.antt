@@ -4,7 +4,7 @@ use Rattle.streamit_text.specs.Tree.{expression, statement, block, optional_bloc
 use Rattle.streamit_text.proofs.Trees.{block-is, statement-if}
 use Rattle.work_text.specs.Spaced.{spaced}
 use Rattle.params_text.specs.Toks.{statement_toks, block_toks, else_toks}
-use Rattle.params_model.specs.Plain.{put_in, put_once, put_all, put_optional}
+use Rattle.params_model.specs.Plain.{put_in, put_statement, put_block, put_optional}
 use Rattle.params_print.specs.Heads.{if_toks}
 use Rattle.params_print.proofs.Blocks.{listed, listed-next, listed-end, part-more, block-closed, three-parts}
 use Rattle.params_print.proofs.statement.+statement.Goals as goal
@@ -15,7 +15,7 @@ block-items-preserved t c =
     let items = c.as_slice-each-items.result.now in
     let i = c.items.each-index in
     let one = c.each-item.result in
-    part-more c.items.to c.statement.new.to (spaced (statement_toks (put_once env (statement one)))) (listed env (map statement (drop i items))) _ _
+    part-more c.items.to c.statement.new.to (spaced (statement_toks (put_statement env (statement one)))) (listed env (map statement (drop i items))) _ _
     c.items.invariant c.in_ok-statement.ensures (listed-next env items i one (omega arith) c.each-item.is)
 
 pub block-returns : goal.block-returns
@@ -36,7 +36,7 @@ statement-returns-in_ok-block-in-If t c =
     let yes = c.in-If.yes in
     let no = c.in-If.no in
     on_ok_weaker c.otherwise.result (λ third.
-    three-parts (if_toks (put_in env (expression cond))) (block_toks (put_all env (block yes))) (else_toks (put_optional env (optional_block no)))
+    three-parts (if_toks (put_in env (expression cond))) (block_toks (put_block env (block yes))) (else_toks (put_optional env (optional_block no)))
     c.args.to.now c.condition.new.to c.block.new.to c.otherwise.new.to c.in_ok-condition-in-If.ensures c.in_ok-block-in-If.ensures third
-    ∙ ap (λ s. c.args.to.now ++ spaced (statement_toks (put_once env s))) (sym (ap statement c.in-If.is ∙ statement-if cond yes no)))
+    ∙ ap (λ s. c.args.to.now ++ spaced (statement_toks (put_statement env s))) (sym (ap statement c.in-If.is ∙ statement-if cond yes no)))
     c.otherwise.ensures

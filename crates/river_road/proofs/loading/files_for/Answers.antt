@@ -1,6 +1,6 @@
 use Rattle.std.proofs.Common.{rules, ◌≡◌, true, List, ℤ, [], ◌∷◌, ap, ◌∙◌}
 use Rattle.river_road.specs.Load.{load_records, takes_pairs}
-use Rattle.river_road.specs.declared.content.Content.TheVariants.{Rows as Plain}
+use Rattle.river_road.specs.declared.content.FileContent.TheVariants.{Rows as Plain}
 use Rattle.river_road.proofs.Loaded.{load_records-wide, pairs-fit}
 use Rattle.river_road.proofs.loading.files_for.Goals as goal
 

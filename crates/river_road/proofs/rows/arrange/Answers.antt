@@ -1,14 +1,14 @@
 use Rattle.std.proofs.Common.{◌≡◌, ◌++◌, List, sym, ap, ◌∙◌, arith}
 use Rattle.river_plan.specs.declared.plan.Decl.{Decl}
 use Rattle.river_road.specs.Inputs.{contents_in_order}
-use Rattle.river_road.specs.declared.content.Content.{Content}
+use Rattle.river_road.specs.declared.content.FileContent.{FileContent}
 use Rattle.river_road.proofs.Arranged.{arranged-next, arranged-all}
 use Rattle.river_road.proofs.rows.arrange.Goals as goal
 
 pub loop-place-init : goal.loop-place-init
 loop-place-init c = record {
   count = c.requires.count;
-  arranged = ap (λ (l : List Content). l ++ contents_in_order c.args.decls.now c.args.ins.now c.args.all.now) c.new-files.ensures;
+  arranged = ap (λ (l : List FileContent). l ++ contents_in_order c.args.decls.now c.args.ins.now c.args.all.now) c.new-files.ensures;
 }
 
 pub loop-place-preserved : goal.loop-place-preserved

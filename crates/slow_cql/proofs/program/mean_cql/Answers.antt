@@ -6,6 +6,6 @@ outputs-requires-clause-rises c = sorted_rise c.args.files.now c.in_ok-instants.
 
 pub returns-clause-outs : goal.returns-clause-outs
 returns-clause-outs c =
-    sorted_mean c.as_slice.result.now c.args.program.now.parts.items c.as_slice-2.result.now c.args.files.now c.in_ok-instants.instants c.in_ok-outs.outs
+    sorted_mean c.as_slice.result.now c.args.program.now.units.items c.as_slice-2.result.now c.args.files.now c.in_ok-instants.instants c.in_ok-outs.outs
     c.in_ok-instants.ensures c.as_slice.ensures.value
     c.as_slice-2.ensures c.in_ok-outs.ensures

@@ -5,9 +5,9 @@ use Rattle.river_base.proofs.Lists.{drop_next}
 use Rattle.kern_rows.specs.Forms.{filter_form}
 use Rattle.river_kernels.specs.Kern.{filter}
 use Rattle.streamit_model.specs.Unrolled.{Streams}
-use Rattle.streamit_model.specs.Build.{numbered, queue, queues, with_own, splitter, joiner, build_branches, ops_of, queues_within}
+use Rattle.streamit_model.specs.Plan.{numbered, queue, queues, with_own, splitter, joiner, build_branches, ops_of, queues_within}
 use Rattle.streamit_build.specs.declared.builder.Declared.TheVariants as made
-use Rattle.streamit_build.specs.Units.{unit_forms, splitter_form, AreTrees, Built}
+use Rattle.streamit_build.specs.Units.{declared_forms, splitter_form, AreTrees, Built}
 use Rattle.streamit_build.proofs.Branches.{RestSoFar, rest_start, rest_next, rest_returns, split_built}
 use Rattle.streamit_build.proofs.Lines.{short_of, lower_split, LineSoFar, line_start, line_next, unit_at, lower_of, pipe_returns, last_returns}
 use Rattle.streamit_build.proofs.Lines.{filter_returns, below_same, trees_same}
@@ -15,11 +15,11 @@ use Rattle.streamit_build.proofs.builder.+build.Goals as goal
 
 pub line-loop-child-init : goal.line-loop-child-init
 line-loop-child-init t c =
-    line_start (unit_forms c.args.units.now) c.args.parts.front.now c.args.parts.last c.args.i c.args.made.now c.args.from c.args.to c.requires.below.0
+    line_start (declared_forms c.args.units.now) c.args.parts.front.now c.args.parts.last c.args.i c.args.made.now c.args.from c.args.to c.requires.below.0
 
 pub line-loop-child-preserved : goal.line-loop-child-preserved
 line-loop-child-preserved t c =
-    let us = unit_forms c.args.units.now in
+    let us = declared_forms c.args.units.now in
     let items = c.args.parts.front.now in
     let child = get_or items c.loop-child.child-index 0 in
     let f = subst (λ l. LineSoFar us items l c.args.parts.last c.args.i c.args.made.now c.loop-child.made c.args.from c.loop-child.start c.args.to)
@@ -31,7 +31,7 @@ line-loop-child-preserved t c =
 
 pub line-returns : goal.line-returns
 line-returns t c =
-    let us = unit_forms c.args.units.now in
+    let us = declared_forms c.args.units.now in
     let items = c.args.parts.front.now in
     let f = subst (λ l. LineSoFar us items l c.args.parts.last c.args.i c.args.made.now c.loop-child.made c.args.from c.loop-child.start c.args.to)
     (drop_all c.loop-child.child-index items (search rules)) c.loop-child.invariant in
@@ -40,12 +40,12 @@ line-returns t c =
 
 pub branches-loop-child-init : goal.branches-loop-child-init
 branches-loop-child-init t c =
-    rest_start (unit_forms c.args.units.now) c.args.parts.front.now c.args.parts.last c.args.i c.args.made.now c.args.lanes.first c.args.lanes.second
+    rest_start (declared_forms c.args.units.now) c.args.parts.front.now c.args.parts.last c.args.i c.args.made.now c.args.lanes.first c.args.lanes.second
     c.requires.below.0
 
 pub branches-loop-child-preserved : goal.branches-loop-child-preserved
 branches-loop-child-preserved t c =
-    let us = unit_forms c.args.units.now in
+    let us = declared_forms c.args.units.now in
     let items = c.args.parts.front.now in
     let child = get_or items c.loop-child.child-index 0 in
     let a0 = c.args.lanes.first in
@@ -59,7 +59,7 @@ branches-loop-child-preserved t c =
 
 pub branches-returns : goal.branches-returns
 branches-returns t c =
-    let us = unit_forms c.args.units.now in
+    let us = declared_forms c.args.units.now in
     let items = c.args.parts.front.now in
     let a0 = c.args.lanes.first in
     let b0 = c.args.lanes.second in
@@ -70,14 +70,14 @@ branches-returns t c =
 
 pub build-filter-requires : goal.build-filter-requires
 build-filter-requires t c =
-    let us = unit_forms c.args.units.now in
+    let us = declared_forms c.args.units.now in
     let u = unit_at c.args.units.now c.args.i c.index-units-i.result
     (made.Filter c.in-Filter.name c.in-Filter.filter) c.requires.there c.index-units-i.is c.in-Filter.is in
     short_of us c.args.i c.in-Filter.name (filter_form c.in-Filter.filter) c.requires.named u
 
 pub build-returns-in-Filter : goal.build-returns-in-Filter
 build-returns-in-Filter t c =
-    let us = unit_forms c.args.units.now in
+    let us = declared_forms c.args.units.now in
     let old = c.args.made.now in
     let name = c.in-Filter.name in
     let f = filter_form c.in-Filter.filter in
@@ -88,7 +88,7 @@ build-returns-in-Filter t c =
 
 pub build-line-requires : goal.build-line-requires
 build-line-requires t c =
-    let us = unit_forms c.args.units.now in
+    let us = declared_forms c.args.units.now in
     let front = c.in-Pipeline.front.items in
     let last = c.in-Pipeline.last in
     let p = c.of-parts.result in
@@ -105,7 +105,7 @@ build-line-requires t c =
 
 pub build-returns-in-Pipeline : goal.build-returns-in-Pipeline
 build-returns-in-Pipeline t c =
-    let us = unit_forms c.args.units.now in
+    let us = declared_forms c.args.units.now in
     let front = c.in-Pipeline.front.items in
     let last = c.in-Pipeline.last in
     let p = c.of-parts.result in
@@ -116,7 +116,7 @@ build-returns-in-Pipeline t c =
 
 pub build-branches-requires : goal.build-branches-requires
 build-branches-requires t c =
-    let us = unit_forms c.args.units.now in
+    let us = declared_forms c.args.units.now in
     let split = c.in-SplitJoin in
     let front = split.front.items in
     let p = c.of-parts-in-SplitJoin.result in
@@ -129,7 +129,7 @@ build-branches-requires t c =
 
 pub build-returns-in_ok-branches-in-SplitJoin : goal.build-returns-in_ok-branches-in-SplitJoin
 build-returns-in_ok-branches-in-SplitJoin t c =
-    let us = unit_forms c.args.units.now in
+    let us = declared_forms c.args.units.now in
     let split = c.in-SplitJoin in
     let front = split.front.items in
     let ws = split.join.items in

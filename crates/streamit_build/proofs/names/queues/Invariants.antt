@@ -1,5 +1,5 @@
 use Rattle.std.proofs.Common.{◌≡◌}
-use Rattle.streamit_model.specs.Build.{queues}
+use Rattle.streamit_model.specs.Plan.{queues}
 use Rattle.streamit_build.proofs.names.queues.Given as goal
 
 abbrev pub invariant-loop-i : goal.invariant-loop-i

@@ -1,7 +1,7 @@
 use Rattle.std.proofs.Common.{[], sym, ap, ◌∙◌}
 use Rattle.std.specs.Prelude.{codes}
 use Rattle.river_kernels.specs.Kern.{duplicate, deal}
-use Rattle.streamit_model.specs.Build.{numbered, queues, with_own, weights, splitter}
+use Rattle.streamit_model.specs.Plan.{numbered, queues, with_own, weights, splitter}
 use Rattle.streamit_build.specs.Units.{splitter_form}
 use Rattle.streamit_build.proofs.Owning.{if_ok_then}
 use Rattle.streamit_build.proofs.operators.split_op.Goals as goal

@@ -1,6 +1,6 @@
 use Rattle.std.proofs.Common.{◌++◌, map, take, sym, ap, ◌∙◌, append_assoc}
 use Rattle.river_plan.specs.Forms.{op_form}
-use Rattle.streamit_model.specs.Build.{own_queues, values_in}
+use Rattle.streamit_model.specs.Plan.{own_queues, values_in}
 use Rattle.streamit_build.proofs.Owning.{own, own_next}
 use Rattle.streamit_build.proofs.planning.declare_queues.Goals as goal
 

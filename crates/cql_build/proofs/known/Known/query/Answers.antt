@@ -1,6 +1,6 @@
 use Rattle.std.proofs.Common.{◌≤◌, sym, ap, ◌∙◌, subst, arith}
 use Rattle.cql_model.specs.Scopes.{scope_of}
-use Rattle.cql_model.specs.Translation.{widths_of}
+use Rattle.cql_model.specs.Plan.{widths_of}
 use Rattle.cql_text.specs.Tree.{sources_of}
 use Rattle.cql_build.specs.Views.{scope}
 use Rattle.cql_build.proofs.Querying.{items_are, sources_length}

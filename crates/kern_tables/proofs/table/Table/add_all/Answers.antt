@@ -1,6 +1,6 @@
 use Rattle.std.proofs.Common.{◌≡◌, ◌-◌, ◌∙◌, sym, ap, drop, take, length, eqb-true, arith, List, [], ◌++◌, ℤ}
 use Rattle.std.proofs.lemmas.List.{nil_from_length, take_rest}
-use Rattle.kern_tables.specs.declared.kept.Kept.{Kept}
+use Rattle.kern_tables.specs.declared.kept.Aggregate.{Aggregate}
 use Rattle.kern_tables.specs.Kept.{added_all, shown}
 use Rattle.kern_tables.proofs.Tabs.{added_in_two}
 use Rattle.kern_tables.proofs.table.Table.add_all.Goals as goal
@@ -16,4 +16,4 @@ returns-clause-ok c =
     let shown_is : shown c.self.inside.kept ≡ c.args.self.now = sym (ap (added_all (shown c.self.inside.kept)) empty) ∙ c.self.view_is in
     ap (added_all (shown c.place_some-placed.new.kept)) waits
     ∙ (added_in_two (shown c.self.inside.kept) (shown c.place_some-placed.new.kept) n c.args.rows.now c.place_some-placed.ensures.rows
-    ∙ ap (λ (k : Kept). added_all k c.args.rows.now) shown_is)
+    ∙ ap (λ (k : Aggregate). added_all k c.args.rows.now) shown_is)

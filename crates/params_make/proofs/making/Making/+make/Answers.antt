@@ -2,7 +2,7 @@ use Rattle.std.proofs.Common.{◌≡◌, ◌+◌, ◌-◌, ◌<◌, ◌≤◌, s
 use Rattle.streamit_text.specs.Tree.{expression, is_turn}
 use Rattle.streamit_text.specs.Program as plain
 use Rattle.streamit_model.specs.Meaning.{numbers_from}
-use Rattle.params_text.specs.Program.{steps_in_turn, step_of, steps_of, expressions, declared_of, body_of, dealing_of, rounds_of, Step}
+use Rattle.params_text.specs.Program.{steps_in_turn, step_of, steps_of, expressions, unit_form, body_of, dealing_of, rounds_of, Step}
 use Rattle.params_text.proofs.StepTrees.{steps-are, step-loop}
 use Rattle.params_model.specs.Constants.{HaveFitConstants}
 use Rattle.params_model.specs.Environment.{dealing, option_counts, value}
@@ -226,7 +226,7 @@ make-returns t c = λ m h.
     let us = c.args.seen.units.now in
     let sizes = c.args.seen.sizes.now in
     let depth = c.args.seen.depth in
-    let d = declared_of c.args.unit.now in
+    let d = unit_form c.args.unit.now in
     let env = c.args.known in
     let b = c.in_ok-begin.ensures.begun m d h in
     let size : c.size_at-size.result ≡ get_or sizes (length us) 0 = search rules in

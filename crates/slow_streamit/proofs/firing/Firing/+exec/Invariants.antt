@@ -4,7 +4,7 @@ use Rattle.streamit_model.specs.Meaning.{exec_all}
 use Rattle.streamit_text.specs.declared.tree.Block.{size-Block}
 use Rattle.streamit_text.proofs.Trees.{optional_size}
 use Rattle.streamit_text.specs.Tree.{statement, block}
-use Rattle.slow_streamit.specs.Firing.{state_of}
+use Rattle.slow_streamit.specs.Firing.{firing_state}
 use Rattle.slow_streamit.proofs.Blocks.{BlockSoFar, TurnsSoFar}
 use Rattle.slow_streamit.proofs.firing.Firing.+exec.Given as goal
 
@@ -27,7 +27,7 @@ abbrev pub decreases-turns : goal.decreases-turns
 decreases-turns l = size-Block l.body.now * 5 + 1
 
 abbrev pub invariant-block-loop-s : goal.invariant-block-loop-s
-invariant-block-loop-s l = BlockSoFar l.items (map statement l.s-items) (map statement (drop l.s-index l.s-items)) (state_of l.initial.self) (state_of l.self)
+invariant-block-loop-s l = BlockSoFar l.items (map statement l.s-items) (map statement (drop l.s-index l.s-items)) (firing_state l.initial.self) (firing_state l.self)
 
 abbrev pub invariant-turns-loop-v : goal.invariant-turns-loop-v
-invariant-turns-loop-v l = TurnsSoFar (exec_all (block l.body) l.items) l.name l.low l.v l.end (state_of l.initial.self) (state_of l.self)
+invariant-turns-loop-v l = TurnsSoFar (exec_all (block l.body) l.items) l.name l.low l.v l.end (firing_state l.initial.self) (firing_state l.self)

@@ -2,7 +2,7 @@ use Rattle.std.proofs.Common.{◌≡◌, ◌≤◌, ◌<◌, ◌+◌, Err, lengt
 use Rattle.std.proofs.lemmas.List.{drop_all}
 use Rattle.river_base.proofs.Lists.{drop_next}
 use Rattle.streamit_model.specs.Judged.{streams_added}
-use Rattle.streamit_build.specs.Units.{unit_forms}
+use Rattle.streamit_build.specs.Units.{declared_forms}
 use Rattle.streamit_build.specs.Knowing.{may, AddsAll}
 use Rattle.streamit_build.proofs.Added.{SoFar, adds_start, adds_next, adds_fault, adds_end, first_fault}
 use Rattle.streamit_build.proofs.streams.Known.children.Goals as goal
@@ -11,20 +11,20 @@ pub returns-in_err-first : goal.returns-in_err-first
 returns-in_err-first c = λ known k.
     let adds = c.args.adds.now in
     let is : c.from_residual.result ≡ Err c.in_err-first.field-0.0 = search rules in
-    subst (λ r. AddsAll (unit_forms c.args.self.now.declared.items) r (streams_added (may c.args.branch) known 0 adds.first adds.others.items)) (sym is)
+    subst (λ r. AddsAll (declared_forms c.args.self.now.declared.items) r (streams_added (may c.args.branch) known 0 adds.first adds.others.items)) (sym is)
     (first_fault (may c.args.branch) known adds.first adds.others.items c.in_err-first.field-0.0 (c.in_err-first.ensures known k))
 
 pub loop-i-init : goal.loop-i-init
 loop-i-init c = λ known k.
     let adds = c.args.adds.now in
     let e = c.one-children.ensures in
-    adds_start (unit_forms c.args.self.now.declared.items) (may c.args.branch) known adds.first adds.others.items c.in_ok-first.first c.one-children.result
+    adds_start (declared_forms c.args.self.now.declared.items) (may c.args.branch) known adds.first adds.others.items c.in_ok-first.first c.one-children.result
     (c.in_ok-first.ensures known k) e.front e.last e.ops e.deepest
 
 pub loop-i-preserved : goal.loop-i-preserved
 loop-i-preserved c = λ known k.
     let adds = c.args.adds.now in
-    let us = unit_forms c.args.self.now.declared.items in
+    let us = declared_forms c.args.self.now.declared.items in
     let others = adds.others.items in
     let whole = streams_added (may c.args.branch) known 0 adds.first others in
     let i = c.loop-i.i in
@@ -39,7 +39,7 @@ loop-i-preserved c = λ known k.
 pub returns-in_err-next : goal.returns-in_err-next
 returns-in_err-next c = λ known k.
     let adds = c.args.adds.now in
-    let us = unit_forms c.args.self.now.declared.items in
+    let us = declared_forms c.args.self.now.declared.items in
     let others = adds.others.items in
     let whole = streams_added (may c.args.branch) known 0 adds.first others in
     let i = c.loop-i.i in
@@ -54,7 +54,7 @@ returns-in_err-next c = λ known k.
 pub returns : goal.returns
 returns c = λ known k.
     let adds = c.args.adds.now in
-    let us = unit_forms c.args.self.now.declared.items in
+    let us = declared_forms c.args.self.now.declared.items in
     let others = adds.others.items in
     let whole = streams_added (may c.args.branch) known 0 adds.first others in
     let i = c.loop-i.i in

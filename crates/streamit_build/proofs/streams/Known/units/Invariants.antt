@@ -1,6 +1,6 @@
 use Rattle.std.proofs.Common.{◌+◌, drop}
 use Rattle.streamit_model.specs.Judged.{Streamed, all_streams}
-use Rattle.streamit_text.specs.Program.{program_of}
+use Rattle.streamit_text.specs.Program.{unit_forms}
 use Rattle.streamit_build.specs.Knowing.{Knows}
 use Rattle.streamit_build.specs.Readable.{AreReadable}
 use Rattle.streamit_build.proofs.AllUnits.{Judging}
@@ -8,7 +8,7 @@ use Rattle.streamit_build.proofs.streams.Known.units.Given as goal
 
 abbrev pub invariant-loop-i : goal.invariant-loop-i
 invariant-loop-i l = record {
-  readable : AreReadable (program_of (drop l.i l.units));
+  readable : AreReadable (unit_forms (drop l.i l.units));
   judged : (start : Streamed) → Knows l.initial.self start
-      → Judging (all_streams 1 start (program_of l.units)) (l.i + 1) (program_of (drop l.i l.units)) l.self;
+      → Judging (all_streams 1 start (unit_forms l.units)) (l.i + 1) (unit_forms (drop l.i l.units)) l.self;
 }

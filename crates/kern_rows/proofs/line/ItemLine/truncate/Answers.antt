@@ -4,7 +4,7 @@ use Rattle.river_base.specs.declared.item.Item as item
 use Rattle.river_base.specs.declared.item.Flat.TheVariants.{One}
 use Rattle.river_base.specs.declared.item.Item.TheVariants.{Flat as FlatItem}
 use Rattle.kern_rows.specs.Even.{row_items}
-use Rattle.kern_rows.proofs.line.Line.truncate.Goals as goal
+use Rattle.kern_rows.proofs.line.ItemLine.truncate.Goals as goal
 
 -- the first of the rows, and of the others as many as are left
 first_of : (n : ℕ) (rows : List (List ℤ)) (others : List item.Item)

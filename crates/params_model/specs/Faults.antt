@@ -44,8 +44,8 @@ spot_fault (Adds n above) = UnknownName
 spot_fault (Gives n count above) = Arity
 
 -- the place has no fault
-abbrev pub IsRight : Place → Type 0
-IsRight p = IsWrong p.spot → ⊥
+abbrev pub IsFaultless : Place → Type 0
+IsFaultless p = IsWrong p.spot → ⊥
 
 -- the first fault of a program, and the unit that it stands in
 pub record IsFaultOf (p : ParamProgram) (unit : ℕ) (f : Fault) : Type 0 where
@@ -53,7 +53,7 @@ pub record IsFaultOf (p : ParamProgram) (unit : ℕ) (f : Fault) : Type 0 where
   pub place : Place
   pub behind : List Place
   pub parts : places_of p ≡ before ++ place ∷ behind
-  pub right : AllByRecursion IsRight before
+  pub right : AllByRecursion IsFaultless before
   pub wrong : IsWrong place.spot
   pub fault : f ≡ spot_fault place.spot
   pub there : unit ≡ place.unit
@@ -64,4 +64,4 @@ RefusalsAre = (p : ParamProgram) (unit : ℕ) (f : Fault) → (units_judged 1 []
 
 -- and it is not exactly where no place has a fault
 abbrev pub AcceptedAre : Type 0
-AcceptedAre = (p : ParamProgram) → (units_judged 1 [] p ≡ Ok tt) ↔ AllByRecursion IsRight (places_of p)
+AcceptedAre = (p : ParamProgram) → (units_judged 1 [] p ≡ Ok tt) ↔ AllByRecursion IsFaultless (places_of p)

@@ -10,7 +10,7 @@ use Rattle.fire_tasks.specs.declared.task.Task.{Task}
 use Rattle.fire_tasks.specs.Tasks.{TaskEnds, ends_of, seen_task}
 
 -- all but what the ends of its rings know
-pub record Still : Type 0 where
+pub record TaskCore : Type 0 where
   pub ends : TaskEnds
   pub seen : SeenTask
   pub kinds : List QueueType
@@ -21,8 +21,8 @@ pub record Still : Type 0 where
   pub classes : List ℕ
   pub count : ℕ
 
-abbrev pub still : Task → Still
-still t = record {
+abbrev pub task_core : Task → TaskCore
+task_core t = record {
   ends = ends_of t;
   seen = seen_task t;
   kinds = t.kinds;

@@ -7,7 +7,7 @@ use Rattle.river_plan.specs.Names.{count}
 use Rattle.brooklet_model.specs.ByIndex.{cycle}
 use Rattle.streamit_model.specs.Unrolled.{IsRound}
 use Rattle.streamit_model.specs.Elaborate.{Fault, UnknownName, NameTwice, Rates, PeekRange, NotConstant, BranchRates, Limit, Weights}
-use Rattle.streamit_text.specs.Program.{Declared, Program}
+use Rattle.streamit_text.specs.Program.{UnitForm, Program}
 use Rattle.streamit_model.specs.Meaning.{weights_for}
 use Rattle.streamit_model.specs.Judged.{Streamed, judged}
 use Rattle.streamit_model.specs.Words.{Begins, Declares, Sets, Uses, Fixes, Varies, Pops, Peeks, Bounds, Loops, Joins, IsLocal, IsLoopVariable, IsKnown, slots_in}
@@ -17,11 +17,11 @@ use Rattle.streamit_model.specs.Places.{Spot, Names, Reads, Rated, Counts, Branc
 -- THE TABLE: what stands above, what stands there
 
 -- a stream is declared above by this name
-abbrev pub IsAbove : List Declared → Name → Type 0
+abbrev pub IsAbove : List UnitForm → Name → Type 0
 IsAbove above n = 0 < count n (map (λ u. u.name) above)
 
 -- `add` names no stream declared above, or an expression or an assignment names nothing that is known there
-abbrev pub IsUnknown : List Declared → Spot → Type 0
+abbrev pub IsUnknown : List UnitForm → Spot → Type 0
 IsUnknown above (Added n) = IsAbove above n → ⊥
 IsUnknown above (Reads peek before (Sets n)) = IsKnown before n → ⊥
 IsUnknown above (Reads peek before (Uses n)) = IsKnown before n → ⊥
@@ -29,7 +29,7 @@ IsUnknown above (Reads peek before (Fixes n)) = IsKnown before n → ⊥
 IsUnknown above s = ⊥
 
 -- a stream, or a name that is known there, is declared again
-abbrev pub IsTwice : List Declared → Spot → Type 0
+abbrev pub IsTwice : List UnitForm → Spot → Type 0
 IsTwice above (Names n) = IsAbove above n
 IsTwice above (Reads peek before (Declares n)) = IsKnown before n
 IsTwice above (Reads peek before (Loops n)) = IsKnown before n
@@ -67,7 +67,7 @@ IsBound z = (n : ℕ) × (z ≡ pos n) × (n ≤ 65536)
 
 -- a rate above 65,536; no pop in `work`; more than 16,384 statements; more than 256 slots; an index above 65,536; a bound not 0 to
 -- 65,536; more than 64 branches; streams nested above 64 deep; weights that sum above 65,536; a plan of more than 256 operators
-abbrev pub IsOverLimit : List Declared → Spot → Type 0
+abbrev pub IsOverLimit : List UnitForm → Spot → Type 0
 IsOverLimit above (Rated least push pop peek) = (65536 < push) ⊎ (65536 < pop) ⊎ (65536 < peek) ⊎ (pop < least)
 IsOverLimit above (Reads peek before Begins) = 16384 < statements_in before + 1
 IsOverLimit above (Reads peek before (Declares n)) = 256 < slots_in before + 1
@@ -86,7 +86,7 @@ AreWeightsWrong (Weighs ws n) = IsRound (weights_for ws n) n → ⊥
 AreWeightsWrong s = ⊥
 
 -- what stands there has this fault, whichever others it has
-abbrev pub HasFault : List Declared → Spot → Fault → Type 0
+abbrev pub HasFault : List UnitForm → Spot → Fault → Type 0
 HasFault above s UnknownName = IsUnknown above s
 HasFault above s NameTwice = IsTwice above s
 HasFault above s (Rates declared counted) = AreRatesApart declared counted s
@@ -110,13 +110,13 @@ rank (Rates declared counted) = 6
 rank BranchRates = 7
 
 -- it is the first fault of the place
-pub record IsFirstFault (above : List Declared) (s : Spot) (f : Fault) : Type 0 where
+pub record IsFirstFault (above : List UnitForm) (s : Spot) (f : Fault) : Type 0 where
   pub has : HasFault above s f
   pub first : (g : Fault) → rank g < rank f → HasFault above s g → ⊥
 
 -- the place has no fault
-abbrev pub IsRight : Place → Type 0
-IsRight p = (f : Fault) → HasFault p.above p.spot f → ⊥
+abbrev pub IsFaultless : Place → Type 0
+IsFaultless p = (f : Fault) → HasFault p.above p.spot f → ⊥
 
 -- the first fault of a program, and the unit that it stands in
 pub record IsFaultOf (p : Program) (unit : ℕ) (f : Fault) : Type 0 where
@@ -124,7 +124,7 @@ pub record IsFaultOf (p : Program) (unit : ℕ) (f : Fault) : Type 0 where
   pub place : Place
   pub behind : List Place
   pub parts : places_of p ≡ before ++ place ∷ behind
-  pub right : AllByRecursion IsRight before
+  pub right : AllByRecursion IsFaultless before
   pub faulty : IsFirstFault place.above place.spot f
   pub there : unit ≡ place.unit
 
@@ -134,4 +134,4 @@ RefusalsAre = (p : Program) (unit : ℕ) (f : Fault) → (judged p ≡ Err (reco
 
 -- and it is accepted exactly where no place has a fault
 abbrev pub AcceptedAre : Type 0
-AcceptedAre = (p : Program) → ((known : Streamed) × (judged p ≡ Ok known)) ↔ AllByRecursion IsRight (places_of p)
+AcceptedAre = (p : Program) → ((known : Streamed) × (judged p ≡ Ok known)) ↔ AllByRecursion IsFaultless (places_of p)

@@ -5,7 +5,7 @@ use Rattle.river_base.specs.declared.item.Flat.TheVariants.{One}
 use Rattle.river_base.specs.declared.item.Item.TheVariants.{Flat as FlatItem}
 use Rattle.river_base.proofs.Lists.{take_next}
 use Rattle.kern_rows.specs.Even.{row_items}
-use Rattle.kern_rows.proofs.line.Line.push_rows.Goals as goal
+use Rattle.kern_rows.proofs.line.ItemLine.push_rows.Goals as goal
 
 -- one row more is an item more
 one_more : (old : List item.Item) (rows : List (List ℤ)) (i : ℕ) (row : List ℤ) (now new : List item.Item) → i < length rows → row ≡ get_or rows i row

@@ -4,7 +4,7 @@ use Rattle.river_base.specs.declared.item.Item as item
 use Rattle.river_base.specs.declared.item.Flat.TheVariants.{One}
 use Rattle.river_base.specs.declared.item.Item.TheVariants.{Flat as FlatItem}
 use Rattle.kern_rows.specs.Even.{row_items}
-use Rattle.kern_rows.proofs.line.Line.row_at.Goals as goal
+use Rattle.kern_rows.proofs.line.ItemLine.row_at.Goals as goal
 
 -- a row in front
 in_front : (rows : List (List ℤ)) (others : List item.Item) (i : ℕ) → i < length rows

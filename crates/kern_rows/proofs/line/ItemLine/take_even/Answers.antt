@@ -5,7 +5,7 @@ use Rattle.river_base.specs.declared.item.Item as item
 use Rattle.river_base.specs.declared.item.Flat.TheVariants.{One}
 use Rattle.river_base.specs.declared.item.Item.TheVariants.{Flat as FlatItem}
 use Rattle.kern_rows.specs.Even.{row_items}
-use Rattle.kern_rows.proofs.line.Line.take_even.Goals as goal
+use Rattle.kern_rows.proofs.line.ItemLine.take_even.Goals as goal
 
 -- rows that moved to the end of others, where nothing is behind those
 moved : (rs ss rs2 ss2 : List (List ℤ)) (others old : List item.Item) → others ≡ [] → row_items rs ++ others ≡ old → rs2 ++ ss2 ≡ rs ++ ss

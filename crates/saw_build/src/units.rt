@@ -1,12 +1,12 @@
 // Units, one after another.
 ghost use Rattle.std.specs.Prelude.{◌≡◌, ◌<◌, length, OnOk};
-ghost use Rattle.saw_model.specs.Elaborate.{is_best, table_of, part_judged as read_part};
-ghost use Rattle.saw_model.specs.Judged.{all_parts};
+ghost use Rattle.saw_model.specs.Elaborate.{is_best, table_of, unit_judged as read_part};
+ghost use Rattle.saw_model.specs.Judged.{units_judged};
 ghost use Rattle.saw_model.specs.Meaning.{table_kind_of};
 ghost use Rattle.saw_text.specs.Tree.{unit_form, unit_forms};
 ghost use Rattle.saw_build.specs.View.{Judges};
 ghost use Rattle.saw_build.specs.Judging.{at_of, fits_of, kind_within, Reads, ReadsTable, JudgesAll};
-ghost use Rattle.saw_build.specs.Valued.{IsValuedPart, AreValuedParts};
+ghost use Rattle.saw_build.specs.Valued.{IsValuedUnit, AreValuedUnits};
 
 use crate::fault::Fault;
 use crate::judge::{Judge, Refusal};
@@ -55,8 +55,8 @@ fn within(table: &Table) -> Result<TableKind, Fault>
 impl Judge {
     /// All units of a program, one after another; their statements are appended.
     pub fn parts(&mut self, alloc: Global, units: &[Unit], out: &mut Stmts) -> Result<(), Refusal>
-        requires { AreValuedParts (unit_forms units.now) }
-        ensures { JudgesAll result out.old out.new self.new (all_parts 1 (unit_forms units.now) (at_of self.old)) }
+        requires { AreValuedUnits (unit_forms units.now) }
+        ensures { JudgesAll result out.old out.new self.new (units_judged 1 (unit_forms units.now) (at_of self.old)) }
     {
         for i in 0..units.len() {
             match self.part(alloc, &units[i], out) {
@@ -71,7 +71,7 @@ impl Judge {
 
     // A unit of the program.
     fn part(&mut self, alloc: Global, unit: &Unit, out: &mut Stmts) -> Result<(), Fault>
-        requires { IsValuedPart (unit_form unit.now) }
+        requires { IsValuedUnit (unit_form unit.now) }
         ensures { Reads result out.old out.new self.old self.new (read_part (unit_form unit.now) (at_of self.old)) }
     {
         match unit {

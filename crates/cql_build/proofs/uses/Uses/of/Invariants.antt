@@ -1,5 +1,0 @@
-use Rattle.cql_build.proofs.Noting.{Noted}
-use Rattle.cql_build.proofs.uses.Uses.of.Given as goal
-
-abbrev pub invariant-loop-part : goal.invariant-loop-part
-invariant-loop-part l = Noted l.parts l.part-index l.uses
