@@ -5,8 +5,8 @@ use Rattle.std.proofs.lemmas.Bool.{and_parts}
 use Rattle.std.proofs.Common.{append-nil}
 use Rattle.std.specs.Prelude.{IsTrue}
 use Rattle.std.specs.List.{AllByRecursion}
-use Rattle.work_text.specs.Tok.{Tok}
-use Rattle.work_text.specs.declared.sign.Symbol.TheVariants as sign
+use Rattle.text_tokens.specs.Tok.{Tok}
+use Rattle.text_tokens.specs.declared.sign.Symbol.TheVariants as sign
 use Rattle.text_forms.specs.Forms as form
 use Rattle.text_forms.specs.Parse.{is_short}
 use Rattle.cql_model.specs.Plannable.{has_no_at, AreShallowColumns, IsShallowCondition, declared_names}

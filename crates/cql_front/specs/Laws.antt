@@ -1,7 +1,7 @@
 -- What is true of all texts.
 use Rattle.std.specs.Prelude.{◌≡◌, ◌↔◌, ℕ, ℤ, List, [], Result, Ok, Err}
-use Rattle.work_text.specs.Lexis.{tokens_in}
-use Rattle.work_text.specs.declared.fault.LexFault.TheVariants as lex
+use Rattle.text_tokens.specs.Lexis.{tokens_in}
+use Rattle.text_tokens.specs.declared.fault.LexFault.TheVariants as lex
 use Rattle.text_forms.specs.declared.refusal.Refusal.TheVariants.{BadByte, BigNumber, Syntax}
 use Rattle.river_plan.specs.Valid.{IsPlan}
 use Rattle.river_print.specs.Printable.{IsPrintable}

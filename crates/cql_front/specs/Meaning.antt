@@ -1,9 +1,9 @@
 -- What a text of CQL means: the program that it stands for, or why it has none. It is lexed, then read, then judged.
 use Rattle.std.specs.Prelude.{◌≡◌, ℕ, List, Option, Some, None, Result, Ok, Err}
-use Rattle.work_text.specs.Cut.{units_of}
-use Rattle.work_text.specs.Lexis.{tokens_in}
-use Rattle.work_text.specs.Tok.{Mark, toks}
-use Rattle.work_text.specs.declared.fault.LexFault.{LexFault}
+use Rattle.text_tokens.specs.Cut.{units_of}
+use Rattle.text_tokens.specs.Lexis.{tokens_in}
+use Rattle.text_tokens.specs.Tok.{Mark, toks}
+use Rattle.text_tokens.specs.declared.fault.LexFault.{LexFault}
 use Rattle.text_forms.specs.Refusals.{of_lexer}
 use Rattle.text_forms.specs.declared.refusal.Refusal.TheVariants.{Syntax}
 use Rattle.river_plan.specs.Forms.{PlanForm}

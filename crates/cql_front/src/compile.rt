@@ -14,7 +14,7 @@ use river_base::Bytes;
 use river_plan::Plan;
 use std::alloc::Global;
 use text_forms::{Refusal as TextRefusal, UnitFault};
-use work_text::{LexFault, Tokens, lex};
+use text_tokens::{LexFault, Tokens, lex};
 
 /// The program of a text, and its plan.
 ///
@@ -23,7 +23,7 @@ use work_text::{LexFault, Tokens, lex};
 /// `Text` with the first fault of the bytes where they have no tokens; otherwise with `Syntax` and the first unit, from
 /// 1, that is not in the grammar; otherwise the first fault of the program in the order in which it is read, with its
 /// unit; `NoMemory` where there is no memory.
-#[tactic(auto, unfolding(crate::specs::Meaning::compiled), using(work_text::proofs::Counts::counts))]
+#[tactic(auto, unfolding(crate::specs::Meaning::compiled), using(text_tokens::proofs::Counts::counts))]
 pub fn compile_cql(alloc: Global, text: &Bytes) -> Result<(CqlProgram, Plan), CqlFault>
     requires { length text.now < 2 ^ 32 }
     ensures plan { IfOk result (λ made. Plans (compiled text.now) (program_of made.0) made.1) }
@@ -50,7 +50,7 @@ fn compile_tokens(alloc: Global, tokens: &Tokens<'_>) -> Result<(CqlProgram, Pla
 }
 
 // The program of the tokens of a text.
-#[tactic(auto, using(crate::proofs::Fronts::readings, work_text::proofs::Counts::counts))]
+#[tactic(auto, using(crate::proofs::Fronts::readings, text_tokens::proofs::Counts::counts))]
 fn read(alloc: Global, tokens: &Tokens<'_>) -> Result<CqlProgram, CqlFault>
     requires { length tokens.now < 2 ^ 32 }
     ensures read { IfOk result (λ program. StandFor tokens.now (program_of program)) }

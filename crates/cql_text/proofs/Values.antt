@@ -1,8 +1,8 @@
 -- The reading of values is exact.
 use Rattle.std.proofs.Common.{◌≡◌, ℕ, ◌<◌, ◌≤◌, List, [], ◌∷◌, ◌++◌, true, false, Option, Some, None, refl, sym, ap, ◌∙◌, subst, arith}
-use Rattle.work_text.specs.Tok.{Tok, name, var, number, symbol}
-use Rattle.work_text.specs.declared.sign.Symbol.{Symbol}
-use Rattle.work_text.specs.declared.sign.Symbol.TheVariants as s
+use Rattle.text_tokens.specs.Tok.{Tok, name, var, number, symbol}
+use Rattle.text_tokens.specs.declared.sign.Symbol.{Symbol}
+use Rattle.text_tokens.specs.declared.sign.Symbol.TheVariants as s
 use Rattle.text_forms.specs.Forms as form
 use Rattle.text_forms.specs.Levels.{level_of, operator}
 use Rattle.text_forms.specs.Parse as parse

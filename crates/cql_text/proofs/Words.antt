@@ -7,7 +7,7 @@ use Rattle.std.specs.Str.{str_to_ascii_lowercase as lower}
 use Rattle.std.proofs.lemmas.Bool.{and_parts, or_parts, not-true}
 use Rattle.std.proofs.lemmas.Slice.Eq.{bytes_eq-Decides}
 use Rattle.river_base.specs.Name.{is_name}
-use Rattle.work_text.specs.Tok.{Tok, name, var, number, symbol}
+use Rattle.text_tokens.specs.Tok.{Tok, name, var, number, symbol}
 use Rattle.text_forms.specs.Names.{is_free}
 use Rattle.text_forms.specs.Parse as parse
 use Rattle.text_forms.specs.Tail.{tail}

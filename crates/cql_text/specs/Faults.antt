@@ -1,7 +1,7 @@
 -- What the reading of tokens gives, and what a refusal says of them.
 use Rattle.std.specs.Prelude.{ℕ, List}
-use Rattle.work_text.specs.Cut.{units_of}
-use Rattle.work_text.specs.Tok.{Tok, Mark, toks}
+use Rattle.text_tokens.specs.Cut.{units_of}
+use Rattle.text_tokens.specs.Tok.{Tok, Mark, toks}
 use Rattle.text_forms.specs.Texts.{IsFirstBad}
 use Rattle.text_forms.specs.declared.unit_fault.UnitFault.{UnitFault}
 use Rattle.text_forms.specs.declared.unit_fault.UnitFault.TheVariants.{Syntax, NoMemory}

@@ -1,8 +1,8 @@
 -- What is true of all texts.
 use Rattle.std.specs.Prelude.{◌≡◌, ◌↔◌, ℕ, List, Some, Ok}
-use Rattle.work_text.specs.Cut.{units_of}
-use Rattle.work_text.specs.Lexis.{tokens_in}
-use Rattle.work_text.specs.Tok.{Tok, Mark, toks}
+use Rattle.text_tokens.specs.Cut.{units_of}
+use Rattle.text_tokens.specs.Lexis.{tokens_in}
+use Rattle.text_tokens.specs.Tok.{Tok, Mark, toks}
 use Rattle.text_forms.specs.Texts.{IsFirstBad, whole}
 use Rattle.cql_text.specs.Grammar.{IsText, IsUnit, IsUnitAt, next_unit}
 use Rattle.cql_text.specs.Reading.{unit_at}

@@ -1,7 +1,7 @@
 -- How units are read: the grammar in the words of reading functions.
 use Rattle.std.specs.Prelude.{ℕ, Bool, false, ◌||◌, List, [], ◌∷◌, codes, Option, Result, None, if◌then◌else◌}
-use Rattle.work_text.specs.Tok.{Tok, name, var, number, symbol}
-use Rattle.work_text.specs.declared.sign.Symbol.TheVariants as s
+use Rattle.text_tokens.specs.Tok.{Tok, name, var, number, symbol}
+use Rattle.text_tokens.specs.declared.sign.Symbol.TheVariants as s
 use Rattle.text_forms.specs.Parse.{Parse, begins_with, both, after, before, seen, known, merged, maybe, headed, commas, nothing_at, name_at, count_at}
 use Rattle.text_forms.specs.AllUnits.{all_units}
 use Rattle.cql_text.specs.Grammar.{kind_named, time_named, made_span, made_source, made_column, Behind, Selected, made_query, made_stream}

@@ -1,7 +1,7 @@
 -- How a value is read.
 use Rattle.std.specs.Prelude.{ℕ, if◌then◌else◌, List, [], ◌∷◌, Option, None, Some}
-use Rattle.work_text.specs.Tok.{Tok, name, var, number, symbol}
-use Rattle.work_text.specs.declared.sign.Symbol.TheVariants as s
+use Rattle.text_tokens.specs.Tok.{Tok, name, var, number, symbol}
+use Rattle.text_tokens.specs.declared.sign.Symbol.TheVariants as s
 use Rattle.text_forms.specs.Parse.{Parse, seen, tested, begins_with, is_value, number_at}
 use Rattle.text_forms.specs.ReadLevels.{first, whole_at}
 use Rattle.text_forms.specs.Tail.{tail}

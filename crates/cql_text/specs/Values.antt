@@ -10,10 +10,10 @@
 --     base = "(" or ")" | leaf
 --     leaf = NUMBER | NAME | NAME "." NAME
 use Rattle.std.specs.Prelude.{◌≡◌, ℕ, true, ◌==◌, if◌then◌else◌, List, [], ◌∷◌, codes, Option, Some, None}
-use Rattle.work_text.specs.Tok.{Tok}
-use Rattle.work_text.specs.Tok as tok
-use Rattle.work_text.specs.declared.sign.Symbol.{Symbol}
-use Rattle.work_text.specs.declared.sign.Symbol.TheVariants as s
+use Rattle.text_tokens.specs.Tok.{Tok}
+use Rattle.text_tokens.specs.Tok as tok
+use Rattle.text_tokens.specs.declared.sign.Symbol.{Symbol}
+use Rattle.text_tokens.specs.declared.sign.Symbol.TheVariants as s
 use Rattle.text_forms.specs.Levels.{Level, Chain, Once, Prefix, Syntax, IsWhole}
 use Rattle.text_forms.specs.Levels as levels
 use Rattle.text_forms.specs.Parse.{begins_with, is_value}

@@ -3,7 +3,7 @@ use Rattle.std.specs.Prelude.{◌≡◌, ℕ, Bool, true, false, not, ◌&&◌, 
 use Rattle.std.specs.List.{list_any}
 use Rattle.std.specs.Str.{str_eq_ignore_ascii_case}
 use Rattle.river_base.specs.Name.{is_name}
-use Rattle.work_text.specs.Tok.{Tok, name, var, number, symbol}
+use Rattle.text_tokens.specs.Tok.{Tok, name, var, number, symbol}
 use Rattle.text_forms.specs.Forms as form
 use Rattle.text_forms.specs.Names.{is_free}
 use Rattle.text_forms.specs.Parse.{Parse, tested, name_at}

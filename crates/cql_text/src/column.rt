@@ -10,7 +10,7 @@ use crate::{Column, Columns};
 use river_base::Name;
 use std::alloc::Global;
 use text_forms::{ParseFault, Reader};
-use work_text::Symbol;
+use text_tokens::Symbol;
 
 // `As` and a name, or nothing.
 #[tactic(auto, unfolding(crate::specs::Reading::as_at))]

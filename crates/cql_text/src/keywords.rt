@@ -9,7 +9,7 @@ ghost use Rattle.cql_text.specs.Words.{is_keyword, is_keyword_at, keyword_at, is
 
 use river_base::Name;
 use text_forms::{ParseFault, Reader, is_free};
-use work_text::Token;
+use text_tokens::Token;
 
 const WORDS: &[&[u8]] = &[
     b"register",

@@ -6,7 +6,7 @@ ghost use Rattle.cql_text.specs.Values.{op_of, word_op, rank_of};
 
 use crate::keywords::is_keyword;
 use text_forms::Reader;
-use work_text::{Symbol, Token};
+use text_tokens::{Symbol, Token};
 
 /// An operator between two values, as it is written.
 #[derive(Clone, Copy)]

@@ -1,7 +1,7 @@
 // From the tokens of a text to its program.
 ghost use Rattle.std.specs.Prelude.{◌≡◌, ◌<◌, ◌^◌, length, IfOk, IfErr};
-ghost use Rattle.work_text.specs.Cut.{units_of};
-ghost use Rattle.work_text.specs.Tok.{toks};
+ghost use Rattle.text_tokens.specs.Cut.{units_of};
+ghost use Rattle.text_tokens.specs.Tok.{toks};
 ghost use Rattle.cql_text.specs.Faults.{StandFor, Refuses};
 ghost use Rattle.cql_text.specs.Tree.{program_of};
 
@@ -9,7 +9,7 @@ use crate::CqlProgram;
 use crate::unit::CqlGrammar;
 use std::alloc::Global;
 use text_forms::{UnitFault, read_text};
-use work_text::Tokens;
+use text_tokens::Tokens;
 
 /// The program that the units of these tokens stand for (CQL of Arasu, Babu and Widom, 2006, cut to one grammar of streams,
 /// windows and queries).

@@ -14,7 +14,7 @@ use crate::{Columns, Kind, Unit, Query, Scalar, Source, Stream};
 use river_base::Name;
 use std::alloc::Global;
 use text_forms::{ParseFault, Reader, Units};
-use work_text::Symbol;
+use text_tokens::Symbol;
 
 // The kind of this word.
 fn kind_of(text: &[u8]) -> Option<Kind>

@@ -10,7 +10,7 @@ use crate::{Numeral, Operator, Scalar};
 use river_base::NoMemory;
 use std::alloc::Global;
 use text_forms::{Dialect, ParseFault, Form, Reader, TokenSource, read};
-use work_text::{Symbol, Token};
+use text_tokens::{Symbol, Token};
 
 /// A number of at most 63 bits.
 #[tactic(auto, unfolding(crate::specs::ValueReading::numeral_at))]

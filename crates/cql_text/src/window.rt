@@ -11,7 +11,7 @@ use crate::{Source, TimeUnit, Window};
 use river_base::Name;
 use std::alloc::Global;
 use text_forms::{ParseFault, Reader};
-use work_text::{Symbol, Token};
+use text_tokens::{Symbol, Token};
 
 // The unit of time of this word.
 fn unit_of(text: &[u8]) -> Option<TimeUnit>

@@ -32,7 +32,7 @@ use Rattle.brooklet_step.proofs.StartLemmas.{first_hist, queues_many}
 use Rattle.fire_tasks.specs.Fired.{ports_of, kinds_in, kinds_out, bad_at, IsBad}
 use Rattle.fire_tasks.specs.Outlet.{Stored}
 use Rattle.fire_tasks.specs.declared.task.Task.{Task}
-use Rattle.fire_laws.specs.Layout.{IsInput, IsStored}
+use Rattle.fire_tasks.specs.Layout.{IsInput, IsStored}
 use Rattle.fire_tasks.specs.Ports.{OutEnd, SendsRows, out_end, out_ends, received_of, received_in, sent_of, sent_in}
 use Rattle.fire_tasks.specs.Adds.{AreHomes}
 use Rattle.fire_open.specs.First.{first_lines, whole_list, IsFirstTask, AreFirstTasks}

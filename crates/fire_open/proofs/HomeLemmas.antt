@@ -12,9 +12,9 @@ use Rattle.river_plan.specs.declared.plan.TableDecl.{TableDecl}
 use Rattle.river_plan.specs.Forms.{PlanForm, table_names, variable_names}
 use Rattle.river_plan.specs.Places.{place, places, var_places}
 use Rattle.river_plan.proofs.PlaceLemmas.{place_below}
-use Rattle.lock_assign.specs.Classes.{AreClasses, class_of}
-use Rattle.lock_assign.specs.Numbered.{class_numbers}
-use Rattle.lock_assign.proofs.Numbers.{are_numbers}
+use Rattle.plan_classes.specs.Classes.{AreClasses, class_of}
+use Rattle.plan_classes.specs.Numbered.{class_numbers}
+use Rattle.plan_classes.proofs.Numbers.{are_numbers}
 use Rattle.plan_classes.specs.Users.{having, table_users}
 use Rattle.brooklet_model.specs.Histories.{tables_of}
 use Rattle.brooklet_model.proofs.Traces.{got_count}

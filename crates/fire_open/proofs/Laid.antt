@@ -15,7 +15,7 @@ use Rattle.fire_tasks.specs.Outlet as outlet
 use Rattle.fire_tasks.specs.Outlet.{SendsTo, Stored}
 use Rattle.fire_open.specs.declared.settling.Link.{Link}
 use Rattle.fire_tasks.specs.declared.task.Task.{Task}
-use Rattle.fire_laws.specs.Layout.{IsStored, AreLaid, AreTasks, AreSettled, HasEnds}
+use Rattle.fire_tasks.specs.Layout.{IsStored, AreLaid, AreTasks, AreSettled, HasEnds}
 use Rattle.fire_tasks.specs.Ports.{in_end, out_end}
 use Rattle.fire_tasks.specs.Tasks.{TaskEnds, IsTask, ends_of, all_ends}
 use Rattle.fire_open.specs.Links.{IsLinkOf, AreLinks, LinkEnds, IsPaired, ArePaired, ShareAnEnd, ShareNoEnd, AreMet}

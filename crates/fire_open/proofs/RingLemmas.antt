@@ -13,10 +13,10 @@ use Rattle.fire_tasks.specs.Outlet.{SendsTo}
 use Rattle.river_rings.specs.Ends.{Sending, Taking}
 use Rattle.fire_open.specs.declared.settling.Link.{Link}
 use Rattle.fire_tasks.specs.declared.task.Task.{Task}
-use Rattle.fire_laws.specs.Layout.{IsLink, IsSettled}
+use Rattle.fire_tasks.specs.Layout.{IsLink, IsSettled}
 use Rattle.fire_tasks.specs.Ports.{SendsRows, out_end, rows_of, width_of, sent_of, sent_in, received_of, received_in}
 use Rattle.fire_open.specs.Settling.{with_out, with_in}
-use Rattle.fire_laws.proofs.NetLemmas.{received_here, sent_here}
+use Rattle.fire_tasks.proofs.NetLemmas.{received_here, sent_here}
 use Rattle.fire_tasks.proofs.PortLemmas.{received_same}
 use Rattle.fire_open.specs.Links.{FitsLink, IsBlankRing, LinkEnds, IsThere, Put, ShareAnEnd}
 use Rattle.fire_open.specs.Rings.{AreUnmoved, AreThere, TaskBody, body, AreRung}

@@ -7,7 +7,7 @@ use Rattle.fire_tasks.specs.Inlet as inlet
 use Rattle.fire_tasks.specs.Outlet as outlet
 use Rattle.fire_open.specs.declared.settling.Link.{Link}
 use Rattle.fire_tasks.specs.declared.task.Task.{Task}
-use Rattle.fire_laws.specs.Layout.{IsPair, IsSettled}
+use Rattle.fire_tasks.specs.Layout.{IsPair, IsSettled}
 use Rattle.fire_tasks.specs.Ports.{in_end, out_end, in_ends, out_ends, sent_of, sent_in, received_in}
 use Rattle.fire_open.specs.Settling.{Met, with_out, with_in}
 use Rattle.fire_tasks.proofs.PortLemmas.{ins_set, outs_set, received_same}

@@ -16,7 +16,7 @@ use Rattle.fire_tasks.specs.Outlet as outlet
 use Rattle.fire_tasks.specs.Outlet.{SendsTo, Stored}
 use Rattle.fire_tasks.specs.Ports.{in_end, out_end, in_ends, out_ends, sent_in, sent_of, sent_count, RingIn, RingOut}
 use Rattle.river_rings.specs.Ends.{RingId}
-use Rattle.fire_laws.specs.Layout.{IsLink, IsPair, IsInput, AreTasks}
+use Rattle.fire_tasks.specs.Layout.{IsLink, IsPair, IsInput, AreTasks}
 use Rattle.fire_tasks.specs.Adds.{AreHomes}
 use Rattle.fire_tasks.specs.Tasks.{FitRings, HasWord, TaskEnds, IsTask, ends_of, all_ends, moves, all_moves, seen_task}
 use Rattle.fire_tasks.proofs.PortLemmas.{count_same}

@@ -6,7 +6,7 @@ use Rattle.brooklet_model.specs.Laws.{given_to}
 use Rattle.fire_tasks.specs.Inlet as inlet
 use Rattle.fire_tasks.specs.Outlet as outlet
 use Rattle.fire_tasks.specs.declared.task.Task.{Task}
-use Rattle.fire_laws.specs.Layout.{IsInput, IsStored}
+use Rattle.fire_tasks.specs.Layout.{IsInput, IsStored}
 use Rattle.fire_tasks.specs.Ports.{received_of, sent_of}
 use Rattle.fire_tasks.specs.Tasks.{IsTask}
 

@@ -6,7 +6,7 @@ use Rattle.fire_tasks.specs.Inlet as inlet
 use Rattle.fire_tasks.specs.Outlet as outlet
 use Rattle.fire_open.specs.declared.settling.Link.{Link}
 use Rattle.fire_tasks.specs.declared.task.Task.{Task}
-use Rattle.fire_laws.specs.Layout.{IsLink, IsPair, IsSettled}
+use Rattle.fire_tasks.specs.Layout.{IsLink, IsPair, IsSettled}
 use Rattle.fire_tasks.specs.Ports.{SendsRows, rows_of, width_of, out_end, received_of, sent_of}
 use Rattle.fire_open.specs.Settling.{with_out, with_in}
 

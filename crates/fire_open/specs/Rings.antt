@@ -10,7 +10,7 @@ use Rattle.fire_tasks.specs.Outlet as outlet
 use Rattle.fire_open.specs.declared.settling.Link.{Link}
 use Rattle.fire_tasks.specs.declared.task.TablePort.{TablePort}
 use Rattle.fire_tasks.specs.declared.task.Task.{Task}
-use Rattle.fire_laws.specs.Layout.{IsLink, IsSettled}
+use Rattle.fire_tasks.specs.Layout.{IsLink, IsSettled}
 use Rattle.fire_tasks.specs.Ports.{received_of, sent_of}
 use Rattle.fire_tasks.specs.Tasks.{seen_task}
 use Rattle.fire_open.specs.Links.{FitsLink, LinkEnds, IsThere, ShareNoEnd}

@@ -19,10 +19,10 @@ use Rattle.fire_tasks.specs.Adds.{added, logs_of}
 use Rattle.fire_tasks.specs.Fired.{SeenTask, ports_of}
 use Rattle.fire_tasks.specs.Ports.{received_in, received_of, sent_in, sent_of}
 use Rattle.fire_tasks.specs.Tasks.{HasWord, IsDone, IsTask, seen_task}
-use Rattle.fire_laws.specs.Layout.{left_in, seen_at}
-use Rattle.fire_laws.specs.Steps.{HasMovedState, IsQuiet, SeenSend, SeenTake}
-use Rattle.fire_laws.proofs.Stepping.{joins_with, moves_law, ports-append, quiet_done}
-use Rattle.fire_laws.proofs.NetLemmas.{seen_here}
+use Rattle.fire_tasks.specs.Layout.{left_in, seen_at}
+use Rattle.fire_tasks.specs.Steps.{HasMovedState, IsQuiet, SeenSend, SeenTake}
+use Rattle.fire_tasks.proofs.Stepping.{joins_with, moves_law, ports-append, quiet_done}
+use Rattle.fire_tasks.proofs.NetLemmas.{seen_here}
 use Rattle.fire_open.specs.TaskCores.{TaskCore, task_core}
 use Rattle.fire_open.proofs.Lists.{same_got, set_got_is, set_got_other}
 use Rattle.fire_open.proofs.StillLemmas.{still_word}

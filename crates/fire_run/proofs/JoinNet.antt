@@ -23,7 +23,7 @@ use Rattle.fire_tasks.specs.Tasks.{IsTask, IsTaskAt, TaskEnds, all_ends, all_mov
 use Rattle.fire_tasks.proofs.AddLemmas.{table_is}
 use Rattle.fire_tasks.proofs.JoinLemmas.{joined_adds, joined_entries}
 use Rattle.fire_tasks.proofs.TaskLemmas.{table_there, tables_many, with_adds}
-use Rattle.fire_laws.specs.Layout as layout
+use Rattle.fire_tasks.specs.Layout as layout
 use Rattle.fire_open.specs.Homes.{AreClassCells}
 use Rattle.fire_open.specs.Links.{ShareNoEnd, AreMet, ArePaired}
 use Rattle.fire_open.specs.TaskCores.{TaskCore, task_core}

@@ -10,7 +10,7 @@ use Rattle.fire_tasks.specs.declared.task.Task.{Task}
 use Rattle.fire_tasks.specs.Adds.{added, logs_of}
 use Rattle.fire_tasks.specs.Ports.{in_ends, received_in}
 use Rattle.fire_tasks.specs.Tasks.{IsTask, IsDone, TaskEnds, ends_of, all_ends, moves, all_moves}
-use Rattle.fire_laws.specs.Layout.{AreTasks}
+use Rattle.fire_tasks.specs.Layout.{AreTasks}
 use Rattle.class_locks.specs.Logs.{Holding}
 use Rattle.fire_tasks.specs.Rows.{cells_grown}
 use Rattle.fire_run.specs.Cells.{AreSingle, HaveAdded, HaveMoved}

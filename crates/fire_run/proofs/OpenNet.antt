@@ -7,7 +7,7 @@ use Rattle.river_plan.specs.Caps.{IsCap, AreCaps, capacity, first_cap}
 use Rattle.river_plan.specs.Forms.{Name, OpForm, PlanForm}
 use Rattle.river_plan.specs.declared.caps.Cap.{Cap}
 use Rattle.river_plan.proofs.CapLemmas.{capacity_fits, first_fits}
-use Rattle.fire_laws.specs.Layout.{IsLink}
+use Rattle.fire_tasks.specs.Layout.{IsLink}
 use Rattle.river_plan.specs.Uses.{total, reads_it, writes_it}
 use Rattle.river_plan.specs.Valid.{IsPlan}
 use Rattle.brooklet_model.specs.Typed.{AreInputs}

@@ -29,8 +29,8 @@ use Rattle.brooklet_step.proofs.ReadLemmas.{places_at}
 use Rattle.fire_tasks.specs.Outlet as outlet
 use Rattle.fire_tasks.specs.declared.task.Task.{Task}
 use Rattle.fire_tasks.specs.Ports.{sent_of}
-use Rattle.fire_laws.specs.Layout.{IsStored}
-use Rattle.fire_laws.proofs.Joining.{place_of}
+use Rattle.fire_tasks.specs.Layout.{IsStored}
+use Rattle.fire_tasks.proofs.Joining.{place_of}
 use Rattle.fire_open.specs.Sources.{ComesBefore}
 use Rattle.fire_open.proofs.Lists.{set_got_other}
 use Rattle.fire_open.proofs.SourceLemmas.{PortAt, before_next}

@@ -28,7 +28,7 @@ use Rattle.brooklet_step.proofs.QueuePlaces.{place_is}
 use Rattle.class_locks.specs.declared.log.LogEntry.{LogEntry}
 use Rattle.class_locks.specs.Logs.{rows_in, rows_to, part_of_op}
 use Rattle.fire_tasks.specs.Adds.{AreEntries, IsEntryOf, added, rows_by, table_at, table_class, table_numbers}
-use Rattle.fire_laws.proofs.Joining.{place_of}
+use Rattle.fire_tasks.proofs.Joining.{place_of}
 
 -- ONE ENTRY
 

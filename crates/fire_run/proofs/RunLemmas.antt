@@ -17,7 +17,7 @@ use Rattle.fire_tasks.specs.Ports.{HasMoved}
 use Rattle.fire_tasks.specs.Tasks.{all_ends, all_moves}
 use Rattle.fire_tasks.proofs.BundleLemmas.{ends_many}
 use Rattle.fire_tasks.proofs.Fronts.{all_same, all_then, tasks_grew, tasks_short, tasks_stay}
-use Rattle.fire_laws.proofs.Numbers.{numbers_law}
+use Rattle.fire_tasks.proofs.Numbers.{numbers_law}
 use Rattle.fire_run.specs.declared.closing.Ran.{Ran}
 use Rattle.fire_run.specs.declared.net.Net.{Net}
 use Rattle.fire_run.specs.Closed.{AreLogsIn, HasClosed}

@@ -17,18 +17,18 @@ use Rattle.brooklet_model.specs.Bounded.{Capacities}
 use Rattle.brooklet_model.specs.Laws.{given_to}
 use Rattle.brooklet_model.proofs.BoundedMoves.{reader_behind, reader_of}
 use Rattle.brooklet_model.proofs.Received.{writer_of}
-use Rattle.fire_laws.proofs.Joining.{place_of}
+use Rattle.fire_tasks.proofs.Joining.{place_of}
 use Rattle.fire_tasks.specs.Fired.{SeenTask}
 use Rattle.fire_tasks.specs.Inlet as inlet
 use Rattle.fire_tasks.specs.Inlet.{TakesFrom, Given}
 use Rattle.fire_tasks.specs.Outlet as outlet
 use Rattle.fire_tasks.specs.Outlet.{SendsTo, Stored}
 use Rattle.fire_tasks.specs.declared.task.Task.{Task}
-use Rattle.fire_laws.specs.Layout.{IsLink, IsSettled, IsInput, IsStored, AreLaid, AreTasks, HasEnds}
+use Rattle.fire_tasks.specs.Layout.{IsLink, IsSettled, IsInput, IsStored, AreLaid, AreTasks, HasEnds}
 use Rattle.fire_tasks.specs.Ports.{in_end, received_of, known_of, sent_of, HasRoom}
 use Rattle.fire_tasks.specs.Tasks.{IsTask, IsDone, all_ends}
 use Rattle.fire_tasks.specs.Adds.{added, logs_of}
-use Rattle.fire_laws.proofs.NetLemmas.{make_net, seen_here, settled_ring, kept_input, received_here, sent_here}
+use Rattle.fire_tasks.proofs.NetLemmas.{make_net, seen_here, settled_ring, kept_input, received_here, sent_here}
 use Rattle.fire_open.specs.Links.{AreLinks, AreMet}
 use Rattle.fire_open.specs.TaskCores.{TaskCore, task_core}
 use Rattle.fire_open.proofs.Lists.{same_got, map_long}

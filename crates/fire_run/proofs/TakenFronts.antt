@@ -20,8 +20,8 @@ use Rattle.fire_tasks.specs.Adds.{added, logs_of}
 use Rattle.fire_tasks.specs.Ports.{known_of, received_in, received_of, sent_in, sent_of}
 use Rattle.fire_tasks.specs.Tasks.{IsTask, TaskEnds, all_ends, ends_of}
 use Rattle.fire_tasks.proofs.PortLemmas.{ins_many}
-use Rattle.fire_laws.proofs.Joining.{place_of}
-use Rattle.fire_laws.proofs.NetLemmas.{settled_ring, kept_input, received_here, sent_here}
+use Rattle.fire_tasks.proofs.Joining.{place_of}
+use Rattle.fire_tasks.proofs.NetLemmas.{settled_ring, kept_input, received_here, sent_here}
 use Rattle.fire_open.proofs.Laid.{task_at}
 use Rattle.fire_open.proofs.Lists.{same_got}
 use Rattle.fire_run.specs.declared.net.Net.{Net}

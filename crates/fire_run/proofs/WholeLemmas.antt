@@ -21,17 +21,17 @@ use Rattle.brooklet_model.specs.Traced.{ran}
 use Rattle.brooklet_model.specs.Words.{Word, at_port}
 use Rattle.brooklet_step.specs.Given.{held_by}
 use Rattle.fire_tasks.specs.Fired.{SeenTask}
-use Rattle.fire_laws.specs.Joins.{bounded}
+use Rattle.fire_tasks.specs.Joins.{bounded}
 use Rattle.brooklet_model.proofs.Received.{writer_of, by_words, unwritten_by}
 use Rattle.brooklet_model.proofs.RunsEnd.{done_law}
-use Rattle.fire_laws.proofs.Joining.{lists_at, place_of}
+use Rattle.fire_tasks.proofs.Joining.{lists_at, place_of}
 use Rattle.fire_tasks.specs.declared.task.Task.{Task}
-use Rattle.fire_laws.specs.Layout.{MakeNet, seen_at, left_in}
-use Rattle.fire_laws.proofs.Numbers.{numbers_law}
+use Rattle.fire_tasks.specs.Layout.{MakeNet, seen_at, left_in}
+use Rattle.fire_tasks.proofs.Numbers.{numbers_law}
 use Rattle.fire_tasks.specs.Ports.{known_of, sent_in}
 use Rattle.fire_tasks.specs.Tasks.{IsDone}
 use Rattle.fire_tasks.specs.Adds.{added, logs_of}
-use Rattle.fire_laws.proofs.NetLemmas.{make_net, seen_here, left_read, inlet_of, task_of, beside}
+use Rattle.fire_tasks.proofs.NetLemmas.{make_net, seen_here, left_read, inlet_of, task_of, beside}
 use Rattle.fire_run.specs.declared.net.Net.{Net}
 use Rattle.fire_run.specs.NetOf.{IsNetOf, AreIdle}
 use Rattle.fire_run.specs.Whole.{IsWholeNet, IdleNetIsWhole, NetsMoveFew}

@@ -21,7 +21,7 @@ use Rattle.fire_tasks.specs.Outlet as outlet
 use Rattle.fire_tasks.specs.declared.task.Task.{Task}
 use Rattle.fire_tasks.specs.Adds.{AreEntries, added, table_class}
 use Rattle.fire_tasks.specs.Ports.{sent_of}
-use Rattle.fire_laws.specs.Layout.{IsStored}
+use Rattle.fire_tasks.specs.Layout.{IsStored}
 use Rattle.fire_open.specs.Homes.{kinds_from}
 use Rattle.fire_open.specs.Sources.{ComesBefore}
 use Rattle.fire_run.specs.declared.closing.Ran.{Ran}

@@ -7,7 +7,7 @@ use Rattle.brooklet_model.specs.Typed.{AreInputs}
 use Rattle.fire_tasks.specs.declared.task.Task.{Task}
 use Rattle.fire_tasks.specs.Adds.{AreEntries, added, logs_of}
 use Rattle.fire_tasks.specs.Tasks.{IsDone}
-use Rattle.fire_laws.specs.Layout.{AreLaid, AreTasks, AreSettled}
+use Rattle.fire_tasks.specs.Layout.{AreLaid, AreTasks, AreSettled}
 use Rattle.fire_open.specs.Homes.{AreClassCells}
 use Rattle.fire_open.specs.Links.{AreLinks}
 use Rattle.fire_run.specs.declared.net.Net.{Net}

@@ -4,7 +4,7 @@ ghost use Rattle.river_plan.specs.Valid.{IsPlan};
 ghost use Rattle.brooklet_model.specs.Histories.{History};
 ghost use Rattle.fire_tasks.specs.Ports.{sent_of};
 ghost use Rattle.fire_tasks.specs.Tasks.{all_moves};
-ghost use Rattle.fire_laws.specs.Layout.{IsStored};
+ghost use Rattle.fire_tasks.specs.Layout.{IsStored};
 ghost use Rattle.fire_run.specs.Closed.{AreLogsIn, AreOuts, HasOuts, HaveOuts, OutsGo, IsRanOf};
 ghost use Rattle.fire_run.specs.NetOf.{HasNet, IsNetOf, AreIdle};
 

@@ -10,3 +10,8 @@ pub mod SeatLemmas
 pub mod TaskLemmas
 pub mod TurnLemmas
 pub mod WordLemmas
+pub mod HeldWords
+pub mod Joining
+pub mod NetLemmas
+pub mod Numbers
+pub mod Stepping

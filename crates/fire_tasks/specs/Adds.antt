@@ -4,8 +4,8 @@ use Rattle.std.specs.List.Sorted.{IsStrictlyIncreasing}
 use mathlib.Core.Option.{some}
 use lib.ListN.{get_elem?}
 use Rattle.river_base.specs.Places.{list_at}
-use Rattle.lock_assign.specs.Classes.{class_of}
-use Rattle.lock_assign.specs.Numbered.{class_numbers}
+use Rattle.plan_classes.specs.Classes.{class_of}
+use Rattle.plan_classes.specs.Numbered.{class_numbers}
 use Rattle.river_plan.specs.declared.plan.TableDecl.{TableDecl}
 use Rattle.river_plan.specs.Forms.{OpForm, PlanForm, table_names}
 use Rattle.river_plan.specs.Places.{places}

@@ -1,9 +1,13 @@
 pub mod Adds
 pub mod Bundles
+pub mod Facts
 pub mod Fired
 pub mod Inlet
+pub mod Joins
+pub mod Layout
 pub mod Outlet
 pub mod Ports
 pub mod Rows
+pub mod Steps
 pub mod Tasks
 pub mod Turns

@@ -3,6 +3,7 @@
 
 mod adding;
 mod bundle;
+pub mod laws;
 mod passing;
 mod ports;
 mod rounds;

@@ -4,9 +4,9 @@ use Rattle.std.proofs.Common.{Bor, append_assoc, length-drop}
 use Rattle.std.specs.Prelude.{◌==◌, map, min}
 use Rattle.std.proofs.Math.Nat.{min-le_right}
 use Rattle.std.proofs.lemmas.List.{length-map, take-map, take_min, drop-map, drop_min, drop-drop, drop_more}
-use Rattle.work_text.specs.Cut.{unit_tokens}
-use Rattle.work_text.specs.Tok.{Mark, mark_of, token_of}
-use Rattle.work_text.specs.declared.token.Lexeme.{Lexeme}
+use Rattle.text_tokens.specs.Cut.{unit_tokens}
+use Rattle.text_tokens.specs.Tok.{Mark, mark_of, token_of}
+use Rattle.text_tokens.specs.declared.token.Lexeme.{Lexeme}
 use Rattle.params_front.specs.Sizes.{end_of_last, bytes_of, bytes_of_each}
 
 end-is : (l : Lexeme) (ls : List Lexeme) (last : Lexeme) → (get_or (l ∷ ls) (length ls) last).end ≡ end_of_last (mark_of l) (map mark_of ls)

@@ -1,13 +1,13 @@
 -- What is made of a text is made of the program that it has in the grammar, and is what the front answers.
 use Rattle.std.proofs.Common.{◌≡◌, ◌⊎◌, ℕ, ℤ, suc, ◌≤◌, List, [], ◌∷◌, length, Result, Ok, Err, refl, sym, ap, ◌∙◌, subst, inl, inr, arith}
 use Rattle.std.proofs.lemmas.List.{length-map}
-use Rattle.work_text.specs.Cut.{units_of as cut_units}
-use Rattle.work_text.specs.Lexis.{tokens_in}
-use Rattle.work_text.specs.Tok.{Tok, Mark, toks}
-use Rattle.work_text.specs.declared.fault.LexFault.{LexFault}
-use Rattle.work_text.specs.declared.fault.LexFault.TheVariants as lex
-use Rattle.work_text.proofs.Slices.{no_want}
-use Rattle.work_text.proofs.Counts.{units-few}
+use Rattle.text_tokens.specs.Cut.{units_of as cut_units}
+use Rattle.text_tokens.specs.Lexis.{tokens_in}
+use Rattle.text_tokens.specs.Tok.{Tok, Mark, toks}
+use Rattle.text_tokens.specs.declared.fault.LexFault.{LexFault}
+use Rattle.text_tokens.specs.declared.fault.LexFault.TheVariants as lex
+use Rattle.text_tokens.proofs.Slices.{no_want}
+use Rattle.text_tokens.proofs.Counts.{units-few}
 use Rattle.text_forms.specs.Refusals.{of_lexer}
 use Rattle.text_forms.specs.Texts.{read_units, IsFirstBad, IsEmpty}
 use Rattle.text_forms.specs.declared.refusal.Refusal.TheVariants.{BadByte, BigNumber, Syntax}
@@ -37,8 +37,8 @@ use Rattle.params_build.specs.declared.fault.Fault.{Fault}
 use Rattle.params_build.specs.declared.fault.Fault.TheVariants as told
 use Rattle.params_build.specs.declared.fault.Refusal as code
 use Rattle.params_build.specs.Told.{Told, JudgesAll}
-use Rattle.params_make.specs.Written.{MakesText}
-use Rattle.params_make.specs.declared.make.Written.{Written}
+use Rattle.params_front.specs.Written.{MakesText}
+use Rattle.params_front.specs.declared.make.Written.{Written}
 use Rattle.params_front.specs.Laws.{IsProgramFault, HasFault, HasMade, ElaborationHas}
 use Rattle.params_front.specs.Meaning.{Elaboration, fault_at, or_fault, then_elaborated, of_tokens, then_read, elaboration, WritesPlainText, StandsForMade, Refused}
 use Rattle.params_front.specs.Sizes.{sizes_of}

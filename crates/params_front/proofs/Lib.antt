@@ -1,3 +1,9 @@
 pub mod Bytes
 pub mod Compiling
 pub mod Fronts
+pub mod Bodies
+pub mod Faults
+pub mod Growing
+pub mod Parts
+pub mod Sources
+pub mod Valued

@@ -1,4 +1,9 @@
+pub mod Finding
 pub mod Laws
 pub mod Meaning
 pub mod Sizes
+pub mod Standing
+pub mod Turning
+pub mod Valued
 pub mod Words
+pub mod Written

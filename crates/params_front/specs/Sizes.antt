@@ -1,7 +1,7 @@
 -- How many bytes the units of a text have.
 use Rattle.std.specs.Prelude.{ℕ, ◌-◌, List, [], ◌∷◌, length, take, drop}
-use Rattle.work_text.specs.Cut.{units_of}
-use Rattle.work_text.specs.Tok.{Tok, Mark, toks}
+use Rattle.text_tokens.specs.Cut.{units_of}
+use Rattle.text_tokens.specs.Tok.{Tok, Mark, toks}
 
 -- where the last token ends
 abbrev pub end_of_last : Mark → List Mark → ℕ

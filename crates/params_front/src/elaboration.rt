@@ -8,19 +8,19 @@ ghost use Rattle.params_model.specs.Judged.{elaborated_program};
 ghost use Rattle.params_model.specs.Making.{Made};
 ghost use Rattle.params_model.specs.Making as model;
 ghost use Rattle.params_build.specs.Told.{Told};
-ghost use Rattle.params_make.specs.Written.{MakesText};
+ghost use Rattle.params_front.specs.Written.{MakesText};
 ghost use Rattle.params_front.specs.Meaning.{or_fault, of_tokens, elaboration, WritesPlainText, Elaborates, StandsForMade, Refused};
 
 use crate::fault::ParamFault;
 use crate::sizes::sizes;
 use crate::{Elaborated, ParamProgram};
 use params_build::{Fault, Refusal, judged, top};
-use params_make::{Written, made};
+use crate::{Written, made};
 use params_text::{Unit, read_params};
 use river_base::Bytes;
 use std::alloc::Global;
 use text_forms::{Refusal as TextRefusal, UnitFault};
-use work_text::{LexFault, Tokens, lex};
+use text_tokens::{LexFault, Tokens, lex};
 
 /// The program of a text, and the text of the plain program that is made of it: an instance of its last
 /// stream, and one for each `add` that is met, children before their parent. It means what the program
@@ -32,7 +32,7 @@ use work_text::{LexFault, Tokens, lex};
 /// unit, from 1, that is not in the grammar; otherwise the first fault of the program in the order in which
 /// it is read, with its unit; otherwise `Top`; otherwise the first fault in the order in which instances are
 /// made, with the unit of which one was to be made; `NoMemory` where there is no memory.
-#[tactic(auto, unfolding(crate::specs::Meaning::elaboration), using(work_text::proofs::Counts::counts))]
+#[tactic(auto, unfolding(crate::specs::Meaning::elaboration), using(text_tokens::proofs::Counts::counts))]
 pub fn elaborate(alloc: Global, text: &Bytes) -> Result<Elaborated, ParamFault>
     requires { length text.now < 2 ^ 32 }
     ensures made { IfOk result (Elaborates (elaboration text.now)) }

@@ -69,7 +69,7 @@ impl Told for ParamFault {
 }
 
 // Appends the unit, and what is told of the plain program.
-#[tactic(auto, using(work_text::proofs::Joined::joins))]
+#[tactic(auto, using(text_tokens::proofs::Joined::joins))]
 fn inner(alloc: Global, unit: u32, fault: StreamitFault, to: &mut Bytes) -> Result<(), NoMemory>
     ensures { OnOk result (to.new ≡ to.old ++ ((codes "Inner " ++ decimal unit) ++ (codes " " ++ streamit_words fault))) }
 {

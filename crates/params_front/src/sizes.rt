@@ -1,12 +1,12 @@
 // How many bytes the units of a text have.
 ghost use Rattle.std.specs.Prelude.{◌≡◌, map, IfOk, ◌∷◌, ◌++◌};
-ghost use Rattle.work_text.specs.Cut.{unit_tokens};
-ghost use Rattle.work_text.specs.Tok.{mark_of};
+ghost use Rattle.text_tokens.specs.Cut.{unit_tokens};
+ghost use Rattle.text_tokens.specs.Tok.{mark_of};
 ghost use Rattle.params_front.specs.Sizes.{bytes_of, bytes_of_each, sizes_of};
 
 use river_base::NoMemory;
 use std::alloc::Global;
-use work_text::{Lexeme, Tokens, units};
+use text_tokens::{Lexeme, Tokens, units};
 
 /// How many bytes each unit of these tokens has, from the first byte of its first token to the last
 /// byte of its last.

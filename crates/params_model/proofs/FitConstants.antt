@@ -3,7 +3,7 @@ use Rattle.std.proofs.Common.{◌≡◌, ℕ, suc, List, [], ◌∷◌, Option, 
 use Rattle.std.specs.Prelude.{codes}
 use Rattle.std.specs.List.{AllByRecursion}
 use Rattle.std.specs.Str.{bytes_eq}
-use Rattle.work_text.specs.Tok.{Tok}
+use Rattle.text_tokens.specs.Tok.{Tok}
 use Rattle.text_forms.specs.Forms as form
 use Rattle.text_blocks.proofs.Every.{chosen, enclosed, IfThere, every-block, every-rest}
 use Rattle.streamit_text.specs.Blocks.{Head, HeadAfter, IsHead}

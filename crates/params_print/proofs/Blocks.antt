@@ -2,13 +2,13 @@
 use Rattle.std.proofs.Common.{◌≡◌, ℕ, ◌+◌, ◌<◌, ◌≤◌, List, [], ◌∷◌, ◌++◌, length, drop, map, get_or, sym, ap, ◌∙◌, append_assoc}
 use Rattle.std.proofs.lemmas.List.{append-nil}
 use Rattle.river_base.proofs.Lists.{map_next, map_none}
-use Rattle.work_text.specs.Tok.{Tok, symbol}
-use Rattle.work_text.specs.declared.sign.Symbol.TheVariants as s
+use Rattle.text_tokens.specs.Tok.{Tok, symbol}
+use Rattle.text_tokens.specs.declared.sign.Symbol.TheVariants as s
 use Rattle.streamit_text.specs.Tree.{Statement, statement, in_turn}
 use Rattle.streamit_text.specs.declared.tree.Statement as written
-use Rattle.work_text.specs.Spaced.{spaced}
+use Rattle.text_tokens.specs.Spaced.{spaced}
 use Rattle.params_text.specs.Toks.{statement_toks, statements_toks, block_toks}
-use Rattle.work_text.proofs.Spacing.{spaced-append}
+use Rattle.text_tokens.proofs.Spacing.{spaced-append}
 use Rattle.params_model.specs.Environment.{Environment}
 use Rattle.params_model.specs.Plain.{put_statement, put_block}
 

@@ -1,7 +1,7 @@
 -- Texts of tokens one after another.
 use Rattle.std.proofs.Common.{append_assoc}
 use Rattle.streamit_text.proofs.Trees.{block-is, statement-declare, statement-assign, statement-push, statement-pop, statement-if, statement-for}
-use Rattle.work_text.proofs.Spacing.{spaced-append}
+use Rattle.text_tokens.proofs.Spacing.{spaced-append}
 
 pub ruleset joins = (append_assoc)
 

@@ -1,7 +1,7 @@
 -- The names of instances, and the tokens before blocks and bodies.
 use Rattle.std.specs.Prelude.{ℕ, Bool, List, [], ◌∷◌, ◌++◌, map, Option, codes}
-use Rattle.work_text.specs.Tok.{Tok, name, symbol}
-use Rattle.work_text.specs.declared.sign.Symbol.TheVariants as s
+use Rattle.text_tokens.specs.Tok.{Tok, name, symbol}
+use Rattle.text_tokens.specs.declared.sign.Symbol.TheVariants as s
 use Rattle.river_plan.specs.Forms.{Name}
 use Rattle.streamit_text.specs.Tree.{Expression}
 use Rattle.params_text.specs.Toks.{expr_toks, rate_toks}

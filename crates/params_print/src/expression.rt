@@ -1,11 +1,11 @@
 // Expressions under values: each parameter is written as its value.
 ghost use Rattle.std.specs.Prelude.{◌≡◌, ◌++◌, map, OnOk};
 ghost use Rattle.river_base.specs.Number.{least_value};
-ghost use Rattle.work_text.specs.Tok.{token_of};
+ghost use Rattle.text_tokens.specs.Tok.{token_of};
 ghost use Rattle.text_blocks.specs.Seven.{sign_of};
 ghost use Rattle.streamit_text.specs.Tree.{Bin, expression};
 ghost use Rattle.streamit_model.specs.Meaning.{look};
-ghost use Rattle.work_text.specs.Spaced.{spaced};
+ghost use Rattle.text_tokens.specs.Spaced.{spaced};
 ghost use Rattle.params_text.specs.Toks.{expr_toks};
 ghost use Rattle.params_model.specs.Plain.{literal, literal_or, put_in};
 
@@ -15,7 +15,7 @@ use river_base::{Bytes, Name, NoMemory};
 use std::alloc::Global;
 use streamit_text::Expr;
 use work_code::BinOp;
-use work_text::{Symbol, Token};
+use text_tokens::{Symbol, Token};
 
 // The symbol of an operator.
 fn sign_of(op: BinOp) -> Symbol

@@ -3,7 +3,7 @@ ghost use Rattle.std.specs.Prelude.{◌≡◌, ◌++◌, OnOk};
 ghost use Rattle.text_blocks.specs.Parts.{optional};
 ghost use Rattle.streamit_text.specs.Tree.{expression, optional_block};
 ghost use Rattle.params_text.specs.Program.{work_of, filter_of};
-ghost use Rattle.work_text.specs.Spaced.{spaced};
+ghost use Rattle.text_tokens.specs.Spaced.{spaced};
 ghost use Rattle.params_text.specs.Toks.{fields_toks, init_toks, rate_toks, work_toks, prework_toks, filter_toks};
 ghost use Rattle.params_model.specs.Constants.{IsFitOption, IsFitWork, IsFitPrework, IsFitFilter};
 ghost use Rattle.params_model.specs.Environment.{option_count, rated_work, rated_prework};
@@ -17,7 +17,7 @@ use params_text::{ParamFilter, ParamRates, ParamWork};
 use river_base::{Bytes, Name, NoMemory};
 use std::alloc::Global;
 use streamit_text::{Block, Expr};
-use work_text::{Symbol, Token};
+use text_tokens::{Symbol, Token};
 
 // Appends the fields.
 #[tactic(auto, using(crate::proofs::Texts::texts))]

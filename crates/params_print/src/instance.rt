@@ -1,15 +1,15 @@
 // Instances of streams, and lists of those that are added.
 ghost use Rattle.std.specs.Prelude.{◌≡◌, ◌++◌, [], ◌∷◌, OnOk};
-ghost use Rattle.work_text.specs.Tok as tok;
-ghost use Rattle.work_text.specs.declared.sign.Symbol.TheVariants as s;
-ghost use Rattle.work_text.specs.Spaced.{spaced};
+ghost use Rattle.text_tokens.specs.Tok as tok;
+ghost use Rattle.text_tokens.specs.declared.sign.Symbol.TheVariants as s;
+ghost use Rattle.text_tokens.specs.Spaced.{spaced};
 ghost use Rattle.params_text.specs.Toks.{other_toks};
 ghost use Rattle.params_print.specs.Heads.{opening_toks, name_written, names_written};
 
 use crate::token::{digits, tokens};
 use river_base::{Bytes, Name, NoMemory};
 use std::alloc::Global;
-use work_text::{Symbol, Token};
+use text_tokens::{Symbol, Token};
 
 /// An instance of a stream: the stream's name, and the number of the instance.
 #[derive(Clone, Copy)]

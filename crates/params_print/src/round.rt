@@ -2,7 +2,7 @@
 ghost use Rattle.std.specs.Prelude.{◌≡◌, ◌++◌, map, OnOk};
 ghost use Rattle.streamit_text.specs.Tree.{expression};
 ghost use Rattle.params_text.specs.Program.{dealing_of, rounds_of};
-ghost use Rattle.work_text.specs.Spaced.{spaced};
+ghost use Rattle.text_tokens.specs.Spaced.{spaced};
 ghost use Rattle.params_text.specs.Toks.{more_numbers, numbers_toks, weights_toks, dealing_toks, split_toks, join_toks};
 ghost use Rattle.params_model.specs.Constants.{AreFitOption, IsFitDealing};
 ghost use Rattle.params_model.specs.Environment.{counts_in, option_counts, dealing};
@@ -14,7 +14,7 @@ use params_text::{ParamSplit, Rounds};
 use river_base::{Bytes, NoMemory};
 use std::alloc::Global;
 use streamit_text::Expr;
-use work_text::{Symbol, Token};
+use text_tokens::{Symbol, Token};
 
 // Appends the value of each weight behind a comma.
 #[tactic(auto, using(crate::proofs::Texts::texts))]

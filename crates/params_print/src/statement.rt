@@ -1,7 +1,7 @@
 // Statements and blocks under values.
 ghost use Rattle.std.specs.Prelude.{◌≡◌, ◌++◌, OnOk};
 ghost use Rattle.streamit_text.specs.Tree.{Declare, Assign, Push, Discard, expression, option_expression, is_turn, statement, block, optional_block};
-ghost use Rattle.work_text.specs.Spaced.{spaced};
+ghost use Rattle.text_tokens.specs.Spaced.{spaced};
 ghost use Rattle.params_text.specs.Toks.{below, statement_toks, block_toks, else_toks};
 ghost use Rattle.params_model.specs.Plain.{put_in, put_option, put_statement, put_block, put_optional};
 ghost use Rattle.params_print.specs.Heads.{if_toks, for_toks};
@@ -12,7 +12,7 @@ use crate::token::tokens;
 use river_base::{Bytes, Name, NoMemory};
 use std::alloc::Global;
 use streamit_text::{Block, Expr, Statement, Until};
-use work_text::{Symbol, Token};
+use text_tokens::{Symbol, Token};
 
 // The symbol between a loop's variable and its upper bound.
 fn below(until: Until) -> Symbol

@@ -1,13 +1,13 @@
 // Tokens written out, each with a blank behind it.
 ghost use Rattle.std.specs.Prelude.{◌≡◌, ◌++◌, map, OnOk};
 ghost use Rattle.std.specs.Fmt.{decimal};
-ghost use Rattle.work_text.specs.Symbols.{symbol_bytes};
-ghost use Rattle.work_text.specs.Tok.{token_of};
-ghost use Rattle.work_text.specs.Spaced.{token_bytes, spaced};
+ghost use Rattle.text_tokens.specs.Symbols.{symbol_bytes};
+ghost use Rattle.text_tokens.specs.Tok.{token_of};
+ghost use Rattle.text_tokens.specs.Spaced.{token_bytes, spaced};
 
 use river_base::{Bytes, NoMemory};
 use std::alloc::Global;
-use work_text::{Symbol, Token};
+use text_tokens::{Symbol, Token};
 
 // The bytes of a symbol.
 fn bytes_of(symbol: Symbol) -> &'static [u8]

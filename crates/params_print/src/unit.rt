@@ -2,7 +2,7 @@
 ghost use Rattle.std.specs.Prelude.{◌≡◌, ◌++◌, ◌∷◌, OnOk};
 ghost use Rattle.streamit_text.specs.Program.{Adds, AFilter, APipeline, ASplitJoin};
 ghost use Rattle.params_text.specs.Program.{filter_of, dealing_of, rounds_of};
-ghost use Rattle.work_text.specs.Spaced.{spaced};
+ghost use Rattle.text_tokens.specs.Spaced.{spaced};
 ghost use Rattle.params_text.specs.Toks.{unit_toks};
 ghost use Rattle.params_model.specs.Constants.{AreFitOption, IsFitDealing, IsFitFilter};
 ghost use Rattle.params_model.specs.Environment.{option_counts, dealing};

@@ -1,6 +1,6 @@
 -- The reading of a part that depends on the one before it is exact, where both are.
 use Rattle.std.proofs.Common.{◌≡◌, List, ◌++◌, Some, refl, sym, ap, ◌∙◌, subst, append_assoc}
-use Rattle.work_text.specs.Tok.{Tok}
+use Rattle.text_tokens.specs.Tok.{Tok}
 use Rattle.text_forms.specs.Parse.{Parse}
 use Rattle.text_forms.proofs.Exact.{Exact, Front, then_read-some}
 use Rattle.text_forms.proofs.Pairs.{pair_inj}

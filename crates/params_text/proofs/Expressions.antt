@@ -6,11 +6,11 @@ use Rattle.std.proofs.lemmas.Bool.{and_parts}
 use Rattle.text_forms.proofs.Symbols.{value_is}
 use Rattle.work_code.specs.declared.expr.BinOp.{BinOp}
 use Rattle.work_code.specs.declared.expr.BinOp.TheVariants as op
-use Rattle.work_text.specs.declared.sign.Symbol.{Symbol}
-use Rattle.work_text.specs.declared.sign.Symbol.TheVariants as s
-use Rattle.work_text.specs.Tok.{Tok, name, symbol}
-use Rattle.work_text.specs.Lexis as lexis
-use Rattle.work_text.proofs.Spelled.{is_name_text}
+use Rattle.text_tokens.specs.declared.sign.Symbol.{Symbol}
+use Rattle.text_tokens.specs.declared.sign.Symbol.TheVariants as s
+use Rattle.text_tokens.specs.Tok.{Tok, name, symbol}
+use Rattle.text_tokens.specs.Lexis as lexis
+use Rattle.text_tokens.proofs.Spelled.{is_name_text}
 use Rattle.river_base.specs.Name.{is_name}
 use Rattle.river_base.specs.Name as river
 use Rattle.streamit_text.specs.Tree.{Expression, depth_of}
@@ -25,10 +25,10 @@ use Rattle.streamit_text.specs.Leaves as rule
 use Rattle.streamit_text.specs.Words.{is_plain}
 use Rattle.streamit_text.specs.declared.term.Sign.{Sign}
 use Rattle.streamit_text.specs.declared.term.Sign.TheVariants as sign
-use Rattle.work_text.proofs.Insides.{IsPlain, plain-Open, plain-Close, plain-Minus, plain-Not}
+use Rattle.text_tokens.proofs.Insides.{IsPlain, plain-Open, plain-Close, plain-Minus, plain-Not}
 use Rattle.params_text.specs.Toks.{expr_toks}
 use Rattle.params_text.specs.Told.{IsOwnName, IsToldTree, IsToldExpr}
-use Rattle.work_text.proofs.Good.{IsPiece, piece-nothing, piece-then, piece-symbol, piece-name, piece-number, piece-last}
+use Rattle.text_tokens.proofs.Good.{IsPiece, piece-nothing, piece-then, piece-symbol, piece-name, piece-number, piece-last}
 
 -- a name of a program
 pub own_plain : (n : List ℕ) → IsOwnName n → is_plain n ≡ true

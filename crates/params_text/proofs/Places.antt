@@ -1,6 +1,6 @@
 -- A name, where so many more brackets may be open.
 use Rattle.std.proofs.Common.{◌≡◌, ◌≢◌, ℕ, zero, suc, true, false, List, Option, Some, None, refl, sym, ap, ◌∙◌}
-use Rattle.work_text.specs.Tok.{Tok}
+use Rattle.text_tokens.specs.Tok.{Tok}
 use Rattle.streamit_text.specs.Tree.{Expression, Name, expression, expression_layer}
 use Rattle.streamit_text.specs.declared.tree.Expr as written
 use Rattle.streamit_text.specs.declared.tree.Expr.{fold-roll-Expr}

@@ -4,10 +4,10 @@ use Rattle.std.specs.Prelude.{codes, ◌&&◌}
 use Rattle.std.specs.Str.{bytes_eq}
 use Rattle.std.specs.List.{list_any, list_all}
 use Rattle.std.proofs.lemmas.Bool.{and_parts, not-true}
-use Rattle.work_text.specs.declared.sign.Symbol.TheVariants as s
-use Rattle.work_text.specs.Tok.{Tok, name, symbol}
-use Rattle.work_text.specs.Lexis as lexis
-use Rattle.work_text.proofs.Spelled.{is_name_text}
+use Rattle.text_tokens.specs.declared.sign.Symbol.TheVariants as s
+use Rattle.text_tokens.specs.Tok.{Tok, name, symbol}
+use Rattle.text_tokens.specs.Lexis as lexis
+use Rattle.text_tokens.proofs.Spelled.{is_name_text}
 use Rattle.text_forms.specs.Parse.{is_short}
 use Rattle.text_forms.specs.Forms.{After, Before, AfterWord, Maybe, Many, Choose, Never}
 use Rattle.text_blocks.specs.Parts.{Round}
@@ -21,11 +21,11 @@ use Rattle.streamit_text.specs.Grammar.{IsBlock}
 use Rattle.streamit_text.specs.Leaves.{IsLeaf, leaf_at}
 use Rattle.streamit_text.specs.Tree.{Expression, Statement, Declare, Assign, Push, Discard, If, For, Block, End, Then, Optional, Unwritten, Written, in_turn, or_unwritten}
 use Rattle.streamit_text.specs.Words.{is_plain, is_own, keywords}
-use Rattle.work_text.proofs.Insides as inside
-use Rattle.work_text.proofs.Insides.{plain-Open, plain-Close, plain-Semicolon, plain-Assign, plain-Less, plain-LessEqual, plain-Increment}
+use Rattle.text_tokens.proofs.Insides as inside
+use Rattle.text_tokens.proofs.Insides.{plain-Open, plain-Close, plain-Semicolon, plain-Assign, plain-Less, plain-LessEqual, plain-Increment}
 use Rattle.params_text.specs.Toks.{expr_toks, first_toks, below, head_toks, statement_toks, statements_toks, block_toks, else_toks}
 use Rattle.params_text.specs.Told.{IsOwnName, IsToldExpr, IsToldFirst, IsToldOnce, IsToldAll, IsToldOptional}
-use Rattle.work_text.proofs.Good.{IsPiece, piece-nothing, piece-then, piece-symbol, piece-name, piece-braces, piece-last}
+use Rattle.text_tokens.proofs.Good.{IsPiece, piece-nothing, piece-then, piece-symbol, piece-name, piece-braces, piece-last}
 use Rattle.params_text.proofs.Expressions.{own_plain, own_text, pop_is, round, told-piece, told-formed}
 
 -- A NAME IS NO KEYWORD

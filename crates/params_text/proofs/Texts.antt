@@ -1,19 +1,19 @@
 -- The text of a program stands for it and for no other.
 use Rattle.std.proofs.Common.{◌≡◌, ℕ, true, false, List, [], ◌∷◌, ◌++◌, map, refl, sym, ap, ◌∙◌, subst, append_assoc}
 use Rattle.std.specs.Prelude.{codes}
-use Rattle.work_text.specs.Cut.{cut, to_first, ends_unit, braces_after, is_else, units_of}
-use Rattle.work_text.specs.Lexis as lexis
-use Rattle.work_text.specs.Tok.{Tok, name, symbol}
-use Rattle.work_text.specs.declared.sign.Symbol.TheVariants as s
-use Rattle.work_text.proofs.Spelled.{is_name_text, spells-whole}
-use Rattle.work_text.proofs.Insides.{Inside, all_first}
+use Rattle.text_tokens.specs.Cut.{cut, to_first, ends_unit, braces_after, is_else, units_of}
+use Rattle.text_tokens.specs.Lexis as lexis
+use Rattle.text_tokens.specs.Tok.{Tok, name, symbol}
+use Rattle.text_tokens.specs.declared.sign.Symbol.TheVariants as s
+use Rattle.text_tokens.proofs.Spelled.{is_name_text, spells-whole}
+use Rattle.text_tokens.proofs.Insides.{Inside, all_first}
 use Rattle.streamit_text.specs.Program.{Body, AFilter, APipeline, ASplitJoin, UnitForm, Program}
 use Rattle.streamit_text.specs.Grammar.{IsText, IsSome, AreUnits}
 use Rattle.streamit_text.proofs.Texts.{one_program}
 use Rattle.params_text.specs.Toks.{kind_word, inner_toks, unit_toks, units_toks, plain_text}
 use Rattle.params_text.specs.Told.{IsToldProgram, IsToldUnit}
 use Rattle.params_text.specs.Laws.{TextStands}
-use Rattle.work_text.proofs.Good.{AreGood, good-append, spaced-spells}
+use Rattle.text_tokens.proofs.Good.{AreGood, good-append, spaced-spells}
 use Rattle.params_text.proofs.Expressions.{own_text}
 use Rattle.params_text.proofs.Statements.{int_is}
 use Rattle.params_text.proofs.Units.{inner-piece, unit-formed}

@@ -2,19 +2,19 @@
 use Rattle.std.proofs.Common.{◌≡◌, ℕ, zero, suc, ◌≤◌, Option, Some, None, true, List, [], ◌∷◌, ◌++◌, refl, ap, ◌∙◌, arith, inl, inr, append_assoc}
 use Rattle.std.specs.Prelude.{codes}
 use Rattle.text_forms.proofs.Symbols.{value_is}
-use Rattle.work_text.specs.declared.sign.Symbol.TheVariants as s
-use Rattle.work_text.specs.Tok.{Tok, name, number, symbol}
-use Rattle.work_text.specs.Lexis as lexis
-use Rattle.work_text.proofs.Spelled.{is_name_text}
+use Rattle.text_tokens.specs.declared.sign.Symbol.TheVariants as s
+use Rattle.text_tokens.specs.Tok.{Tok, name, number, symbol}
+use Rattle.text_tokens.specs.Lexis as lexis
+use Rattle.text_tokens.proofs.Spelled.{is_name_text}
 use Rattle.text_forms.specs.Parse.{is_count}
 use Rattle.text_forms.specs.Forms.{After, Many, Listing, Headed}
 use Rattle.streamit_text.specs.Tree.{Optional, Unwritten, Written}
 use Rattle.streamit_text.specs.Program.{WorkTree, FilterTree, Dealing, Copies, Turns, Adds, Body, AFilter, APipeline, ASplitJoin, UnitForm}
 use Rattle.streamit_text.specs.Grammar.{Weight, IsWork, IsPrework, IsInit, IsField, Rate, push, pop, peek, IsRate, Rates, unwritten, rates_in, AreRates, InFilter, Braces, Called, IsAdd, AreAdds, Weights, SplitAfter, IsSplit, IsJoin, InBoth, BodyAfter, IsUnit, stay_optional}
-use Rattle.work_text.proofs.Insides.{plain-Semicolon, plain-Comma}
+use Rattle.text_tokens.proofs.Insides.{plain-Semicolon, plain-Comma}
 use Rattle.params_text.specs.Toks.{block_toks, field_toks, fields_toks, init_toks, rate_toks, rates_toks, work_toks, prework_toks, filter_toks, add_toks, other_toks, adds_toks, more_numbers, numbers_toks, weights_toks, dealing_toks, split_toks, join_toks, kind_word, inner_toks, unit_toks}
 use Rattle.params_text.specs.Told.{IsOwnName, AreOwnNames, IsToldRate, IsToldOptional, IsToldWork, IsToldPrework, IsToldFilter, AreToldAdds, AreToldNumbers, AreToldWeights, IsToldDealing, IsToldBody, IsToldUnit}
-use Rattle.work_text.proofs.Good.{IsPiece, piece-nothing, piece-then, piece-symbol, piece-name, piece-number, piece-last}
+use Rattle.text_tokens.proofs.Good.{IsPiece, piece-nothing, piece-then, piece-symbol, piece-name, piece-number, piece-last}
 use Rattle.params_text.proofs.Expressions.{own_text, pop_is, peek_is, round}
 use Rattle.params_text.proofs.Statements.{int_is, push_is, block-piece, block-formed, plain-formed}
 

@@ -1,7 +1,7 @@
 -- An expression begins with no closing bracket.
 use Rattle.std.proofs.Common.{◌≡◌, ℕ, suc, Bool, true, false, Option, Some, None, List, ◌∷◌, ◌++◌, refl, ap, ◌∙◌, append_assoc}
-use Rattle.work_text.specs.Tok.{Tok, symbol}
-use Rattle.work_text.specs.declared.sign.Symbol.TheVariants as s
+use Rattle.text_tokens.specs.Tok.{Tok, symbol}
+use Rattle.text_tokens.specs.declared.sign.Symbol.TheVariants as s
 use Rattle.text_forms.specs.Levels.{level_of}
 use Rattle.text_forms.specs.Levels as levels
 use Rattle.text_forms.specs.Parse.{begins_with}

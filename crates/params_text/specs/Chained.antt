@@ -1,6 +1,6 @@
 -- A part whose grammar depends on the value of the part before it.
 use Rattle.std.specs.Prelude.{◌≡◌, List, ◌++◌, Some}
-use Rattle.work_text.specs.Tok.{Tok}
+use Rattle.text_tokens.specs.Tok.{Tok}
 use Rattle.text_forms.specs.Parse.{Parse, then_parsed}
 
 -- the first part stands for the first value, and the second for the second by what the first says

@@ -1,8 +1,8 @@
 -- What is true of all texts of programs with parameters, and of the texts of plain programs.
 use Rattle.std.specs.Prelude.{◌≡◌, ◌⊎◌, ℕ, List, Ok}
-use Rattle.work_text.specs.Cut.{units_of}
-use Rattle.work_text.specs.Lexis.{tokens_in}
-use Rattle.work_text.specs.Tok.{Mark, toks}
+use Rattle.text_tokens.specs.Cut.{units_of}
+use Rattle.text_tokens.specs.Lexis.{tokens_in}
+use Rattle.text_tokens.specs.Tok.{Mark, toks}
 use Rattle.text_forms.specs.Texts.{IsFirstBad, IsEmpty}
 use Rattle.streamit_text.specs.Grammar as plain
 use Rattle.streamit_text.specs.Program.{Program}

@@ -3,9 +3,9 @@ use Rattle.std.specs.Prelude.{◌≡◌, ℕ, zero, suc, true, false, List, [], 
 use Rattle.std.specs.List.{list_any}
 use Rattle.std.specs.Str.{bytes_eq}
 use Rattle.river_base.specs.Name.{name_eq}
-use Rattle.work_text.specs.Tok.{Tok}
-use Rattle.work_text.specs.Tok as tok
-use Rattle.work_text.specs.declared.sign.Symbol.TheVariants as s
+use Rattle.text_tokens.specs.Tok.{Tok}
+use Rattle.text_tokens.specs.Tok as tok
+use Rattle.text_tokens.specs.declared.sign.Symbol.TheVariants as s
 use Rattle.text_forms.specs.Parse.{Parse, is_value}
 use Rattle.streamit_text.specs.Leaves.{pop_at}
 use Rattle.streamit_text.specs.Tree.{Expression, Number, Name, Pop}

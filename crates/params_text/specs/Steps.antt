@@ -1,8 +1,8 @@
 -- Constants, parameters and steps: the grammar, and how they are read. `n` is how many more brackets may be open.
 use Rattle.std.specs.Prelude.{ℕ, ◌&&◌, Bool, List, [], ◌∷◌, Option, Some, None, codes, if◌then◌else◌}
 use Rattle.std.specs.Str.{bytes_eq}
-use Rattle.work_text.specs.Tok.{Tok}
-use Rattle.work_text.specs.declared.sign.Symbol.TheVariants as s
+use Rattle.text_tokens.specs.Tok.{Tok}
+use Rattle.text_tokens.specs.declared.sign.Symbol.TheVariants as s
 use Rattle.text_forms.specs.Forms.{Never, Both, Before, AfterWord, Tested, Seen, Maybe, Listing, Choose}
 use Rattle.text_forms.specs.Parse.{Parse, is_short, nowhere, begins_with, both, before, after_word, tested, seen, maybe, commas, listing}
 use Rattle.text_blocks.specs.Parts.{Round, round_at}

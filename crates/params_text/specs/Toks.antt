@@ -1,9 +1,9 @@
 -- The tokens of a program that is written out, and its text. Each operation stands in brackets of its own.
 use Rattle.std.specs.Prelude.{ℕ, Bool, true, false, List, [], ◌∷◌, ◌++◌, Option, Some, None, codes}
-use Rattle.work_text.specs.Spaced.{spaced}
-use Rattle.work_text.specs.Tok.{Tok, name, number, symbol}
-use Rattle.work_text.specs.declared.sign.Symbol.{Symbol}
-use Rattle.work_text.specs.declared.sign.Symbol.TheVariants as s
+use Rattle.text_tokens.specs.Spaced.{spaced}
+use Rattle.text_tokens.specs.Tok.{Tok, name, number, symbol}
+use Rattle.text_tokens.specs.declared.sign.Symbol.{Symbol}
+use Rattle.text_tokens.specs.declared.sign.Symbol.TheVariants as s
 use Rattle.text_blocks.specs.Seven.{sign_of}
 use Rattle.streamit_text.specs.Tree.{Expression}
 use Rattle.streamit_text.specs.Tree as tree

@@ -11,7 +11,7 @@ use crate::{ParamSplit, ParamSplitJoin, Rounds, Steps};
 use std::alloc::Global;
 use streamit_text::parens;
 use text_forms::{ParseFault, Reader, closed, is};
-use work_text::Symbol;
+use text_tokens::Symbol;
 
 // What stands behind `split`.
 #[tactic(auto, unfolding(crate::specs::Reading::split_after))]

@@ -12,7 +12,7 @@ use std::alloc::Global;
 use streamit_text::{Expr, Plain, StreamitGrammar, is_still, name};
 use text_blocks::term;
 use text_forms::{ParseFault, Reader, closed};
-use work_text::Symbol;
+use text_tokens::Symbol;
 
 /// An expression without `push`, `pop` and `peek`.
 #[tactic(auto, unfolding(crate::specs::Steps::constant_at))]

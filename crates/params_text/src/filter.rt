@@ -18,7 +18,7 @@ use river_base::Name;
 use std::alloc::Global;
 use streamit_text::{Block, Expr, StreamitGrammar, fields, stay};
 use text_forms::{ParseFault, Reader, closed, is};
-use work_text::Symbol;
+use text_tokens::Symbol;
 
 // A rate that is written.
 #[derive(Drop)]

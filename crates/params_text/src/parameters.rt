@@ -1,7 +1,7 @@
 // The leaves of expressions in the blocks of a filter, some of whose names are parameters.
 ghost use Rattle.std.specs.Prelude.{◌≡◌, List, IfOk};
 ghost use Rattle.text_forms.specs.Gives.{Gives};
-ghost use Rattle.work_text.specs.Tok.{Tok};
+ghost use Rattle.text_tokens.specs.Tok.{Tok};
 ghost use Rattle.streamit_text.specs.Tree.{expression, depth_of};
 ghost use Rattle.params_text.specs.Parameters.{place_at, named_with, leaf_with, IsLeafWith};
 ghost use Rattle.params_text.specs.Params.{is_one_of};
@@ -10,7 +10,7 @@ use crate::Parameters;
 use river_base::Name;
 use streamit_text::{Expr, Leaves, own, pop};
 use text_forms::{ParseFault, Reader, is};
-use work_text::Token;
+use text_tokens::Token;
 
 /// StreamIt's leaves, where a name that is one of these parameters counts as one open bracket.
 #[derive(Clone, Copy)]

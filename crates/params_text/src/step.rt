@@ -14,7 +14,7 @@ use std::alloc::Global;
 use streamit_text::{Expr, ForHead, Plain, StreamitGrammar, is_still, round_head};
 use text_blocks::{Blocks, Opening, rest};
 use text_forms::{ParseFault, Reader, closed, is};
-use work_text::Symbol;
+use text_tokens::Symbol;
 
 /// Steps, for the reader of the statements of any language.
 pub struct StepWords;

@@ -12,7 +12,7 @@ use crate::{ParamBody, Unit};
 use river_base::Name;
 use std::alloc::Global;
 use text_forms::{ParseFault, Reader, Units, is};
-use work_text::Symbol;
+use text_tokens::Symbol;
 
 // What stands behind the name and the parameters of a stream of this kind.
 #[tactic(auto, unfolding(crate::specs::Reading::body_after))]

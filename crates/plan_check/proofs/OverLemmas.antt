@@ -6,7 +6,7 @@ use Rattle.std.specs.Option.{option_map}
 use Rattle.std.proofs.lemmas.List.{drop_more, drop_all}
 use borrow.Author.Tests.{ltb-true, ltb-false}
 use Rattle.river_kernels.specs.Limits.{told, either, first_above}
-use Rattle.kernel_check.proofs.LimitLemmas.{first_above-append}
+use Rattle.kern_check.proofs.LimitLemmas.{first_above-append}
 use Rattle.river_plan.specs.First.{As, IsFirst, Along, Unless}
 
 -- the numbers of a list of elements, of which each has its own

@@ -7,7 +7,7 @@ ghost use Rattle.river_plan.specs.First.{Along};
 ghost use Rattle.river_plan.specs.Limits.{most_of, numbers, port_numbers, kernel_numbers, nestings, best_rows, OverLimit, OverLimitAt};
 
 use kern_tables::TableKind;
-use kernel_check::{first_above, nesting};
+use kern_check::{first_above, nesting};
 use river_kernels::{Kernel, Limit};
 use river_plan::{Op, Ops, PlanFault, RawPlan, TableDecls};
 
@@ -170,7 +170,7 @@ fn nestings_over(ops: &Ops, most: u64) -> Option<u128>
 }
 
 // The nesting of a kernel, where it is above the most.
-#[tactic(auto, using(kernel_check::proofs::LimitLemmas::tellings))]
+#[tactic(auto, using(kern_check::proofs::LimitLemmas::tellings))]
 fn nesting_over(kernel: &Kernel, most: u64) -> Option<u128>
     ensures { result ≡ above.first_above most (above.nesting (kern_of kernel.now) ∷ []) }
 {

@@ -8,7 +8,7 @@ ghost use Rattle.river_plan.specs.ByPlace.{kind_at, var_kind_at, queue_kinds, va
 ghost use Rattle.river_plan.specs.Wired.{IsWired};
 
 use crate::kinds::{queue_kinds, var_kinds};
-use kernel_check::fits;
+use kern_check::fits;
 use river_base::{FlatType, Listed, NoMemory, QueueType};
 use river_kernels::{Kernel, VarKind};
 use river_plan::{Named, Places, RawPlan, Wiring};

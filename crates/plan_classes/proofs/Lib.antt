@@ -1,2 +1,5 @@
 pub mod Joined
 pub mod Named
+pub mod Numbering
+pub mod Numbers
+pub mod Unique

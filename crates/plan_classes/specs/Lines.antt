@@ -2,7 +2,7 @@
 use Rattle.std.specs.Prelude.{ℕ, suc, ℤ, pos, List, [], ◌∷◌, ◌++◌, codes, if◌then◌else◌}
 use Rattle.std.specs.Fmt.{decimal}
 use Rattle.std.specs.Ordering.{int_eq}
-use Rattle.lock_assign.specs.Numbered.{class_numbers}
+use Rattle.plan_classes.specs.Numbered.{class_numbers}
 use Rattle.river_plan.specs.Forms.{Name, PlanForm, table_names}
 use Rattle.plan_classes.specs.Users.{table_users}
 

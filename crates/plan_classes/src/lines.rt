@@ -5,7 +5,7 @@ ghost use Rattle.river_plan.specs.Forms.{table_names};
 ghost use Rattle.plan_classes.specs.Lines.{class_tables, class_line, class_lines, classes_text};
 
 use crate::users::table_users;
-use lock_assign::classes;
+use crate::classes;
 use river_base::{Bytes, NoMemory};
 use river_plan::{Plan, TableDecl};
 use std::alloc::Global;

@@ -2,7 +2,7 @@
 ghost use Rattle.std.specs.Prelude.{◌≡◌, ◌<◌, ◌^◌, pos, All, map, IfOk};
 ghost use Rattle.plan_classes.specs.Users.{table_users};
 
-use lock_assign::UserLists;
+use crate::UserLists;
 use river_base::{NoMemory, Numbers};
 use river_plan::Plan;
 use std::alloc::Global;

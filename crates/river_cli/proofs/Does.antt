@@ -3,10 +3,10 @@ use Rattle.std.proofs.Common.{◌≡◌, ◌⊎◌, ℕ, List, refl, sym, subst,
 use Rattle.std.specs.Prelude.{Option, None, Some, Result, Ok, Err, IsErrOf}
 use Rattle.river_outside.specs.Held.{Held}
 use Rattle.river_outside.specs.Taken.{TookPart}
-use Rattle.river_order.specs.Decides.{Decides, FailedAt, AbsentAt}
-use Rattle.river_order.specs.Order.{Order, Verdict, Usage, Refused, Unread, Done, IsVerdict, IsFetchTurn, verdict}
-use Rattle.river_order.specs.declared.stop.Stop.{Stop}
-use Rattle.river_order.specs.declared.stop.Stop.TheVariants as stop
+use Rattle.river_outside.specs.Decides.{Decides, FailedAt, AbsentAt}
+use Rattle.river_outside.specs.Order.{Order, Verdict, Usage, Refused, Unread, Done, IsVerdict, IsFetchTurn, verdict}
+use Rattle.river_outside.specs.declared.stop.Stop.{Stop}
+use Rattle.river_outside.specs.declared.stop.Stop.TheVariants as stop
 use Rattle.river_cli.specs.Answer.{TookNothing, TookText, Stopped, StoppedUsage, HasStatus}
 use Rattle.river_cli.specs.Does.{Does, Wrote, Tells}
 use Rattle.river_cli.specs.Text.{usage_text}

@@ -9,10 +9,10 @@ use Rattle.command_line.specs.declared.command.RunBy.{RunBy}
 use Rattle.command_line.specs.declared.command.RunBy.TheVariants.{Workers, Tasks}
 use Rattle.command_line.specs.declared.command.RunWords.{RunWords}
 use Rattle.river_outside.specs.Held.{Held}
-use Rattle.river_order.specs.Decides.{Decides}
-use Rattle.river_order.specs.Passes.{Passes}
-use Rattle.river_order.specs.declared.stop.Stop.{Stop}
-use Rattle.river_order.specs.declared.stop.Stop.TheVariants as stop
+use Rattle.river_outside.specs.Decides.{Decides}
+use Rattle.river_outside.specs.Passes.{Passes}
+use Rattle.river_outside.specs.declared.stop.Stop.{Stop}
+use Rattle.river_outside.specs.declared.stop.Stop.TheVariants as stop
 use Rattle.river_road.specs.Points.{of_run}
 use Rattle.river_cli.specs.Points.{source_in, takes_more, of_command, points_of, live_asked}
 use Rattle.river_cli.proofs.Points.{run-answers, command-decides, never-usage}

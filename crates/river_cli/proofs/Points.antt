@@ -8,12 +8,12 @@ use Rattle.command_line.specs.declared.command.FreeWords.{FreeWords}
 use Rattle.command_line.specs.declared.command.Lang.{Lang}
 use Rattle.command_line.specs.declared.command.RunWords.{RunWords}
 use Rattle.river_outside.specs.Held.{Held}
-use Rattle.river_order.specs.Order.{Order, Ends, Done}
-use Rattle.river_order.specs.Decides.{Decides, Stops}
-use Rattle.river_order.specs.Passes.{Answers, Passes, PassesAs}
-use Rattle.river_order.specs.declared.stop.Stop.{Stop}
-use Rattle.river_order.specs.declared.stop.Stop.TheVariants as stop
-use Rattle.river_order.proofs.Passes.{past-passes, passed-decides}
+use Rattle.river_outside.specs.Order.{Order, Ends, Done}
+use Rattle.river_outside.specs.Decides.{Decides, Stops}
+use Rattle.river_outside.specs.Passes.{Answers, Passes, PassesAs}
+use Rattle.river_outside.specs.declared.stop.Stop.{Stop}
+use Rattle.river_outside.specs.declared.stop.Stop.TheVariants as stop
+use Rattle.river_outside.proofs.Passes.{past-passes, passed-decides}
 use Rattle.free_runs.specs.Points.{of_free}
 use Rattle.river_langs.specs.Sources.{river_in, saw_in}
 use Rattle.river_road.specs.Points.{of_gathered, of_run, loaded, of_show, of_mean, of_upgrade}

@@ -2,8 +2,8 @@
 use Rattle.std.proofs.Common.{ℕ, IfSome}
 use Rattle.std.specs.Prelude.{Option, None, Some}
 use Rattle.river_outside.specs.Held.{Held}
-use Rattle.river_order.specs.Order.{Order, Verdict, IsVerdict, verdict}
-use Rattle.river_order.proofs.Told.{verdict-told}
+use Rattle.river_outside.specs.Order.{Order, Verdict, IsVerdict, verdict}
+use Rattle.river_outside.proofs.Told.{verdict-told}
 use Rattle.river_cli.specs.Answer.{HasStatus}
 
 -- the status of the verdict, where one is known

@@ -4,8 +4,8 @@ use Rattle.std.specs.Io.KnownBytes.{append_known}
 use Rattle.river_outside.specs.Held.{Held}
 use Rattle.river_outside.specs.Taken.{TookPart}
 use Rattle.river_cli.specs.Text.{usage_text}
-use Rattle.river_order.specs.Order.{Order, IsVerdict, Verdict, Usage, Refused, Unread, Done}
-use Rattle.river_order.specs.Decides.{FailedAt, AbsentAt}
+use Rattle.river_outside.specs.Order.{Order, IsVerdict, Verdict, Usage, Refused, Unread, Done}
+use Rattle.river_outside.specs.Decides.{FailedAt, AbsentAt}
 
 -- a sink took nothing
 abbrev pub TookNothing : Option (List ℕ) → Option (List ℕ) → Type 0

@@ -2,9 +2,9 @@
 use Rattle.std.specs.Prelude.{◌≡◌, ◌≤◌, ◌⊎◌, ℕ, List, Option, None, IfSome, Result, Ok, Err}
 use Rattle.river_outside.specs.Held.{Held}
 use Rattle.river_outside.specs.Taken.{TookPart}
-use Rattle.river_order.specs.Order.{Order, verdict, Refused, Done}
-use Rattle.river_order.specs.declared.stop.Stop.{Stop}
-use Rattle.river_order.specs.declared.stop.Stop.TheVariants as stop
+use Rattle.river_outside.specs.Order.{Order, verdict, Refused, Done}
+use Rattle.river_outside.specs.declared.stop.Stop.{Stop}
+use Rattle.river_outside.specs.declared.stop.Stop.TheVariants as stop
 use Rattle.river_cli.specs.Answer.{TookNothing, TookText, WroteEnd, WroteUsage, WroteFault, Stopped, StoppedUsage, HasStatus}
 use Rattle.river_cli.specs.Text.{usage_text}
 

@@ -9,8 +9,8 @@ use Rattle.command_line.specs.declared.command.Lang.TheVariants.{River, Streamit
 use Rattle.command_line.specs.declared.command.RunWords.{RunWords}
 use Rattle.free_runs.specs.Points.{of_free}
 use Rattle.river_langs.specs.Sources.{river_in, streamit_in, params_in, saw_in, cql_in}
-use Rattle.river_order.specs.Order.{Order, Ends, Done}
-use Rattle.river_order.specs.Passes.{past}
+use Rattle.river_outside.specs.Order.{Order, Ends, Done}
+use Rattle.river_outside.specs.Passes.{past}
 use Rattle.river_road.specs.Points.{of_run, loaded, of_show, of_mean, of_upgrade}
 use Rattle.river_road.specs.Source.{SourceProgram}
 

@@ -1,7 +1,7 @@
 // The commands over any source language, each in the language that its words name.
 ghost use Rattle.std.specs.Prelude.{◌≤◌};
 ghost use Rattle.river_outside.specs.Causes.{Rose};
-ghost use Rattle.river_order.specs.Passes.{Passes, PassesAs};
+ghost use Rattle.river_outside.specs.Passes.{Passes, PassesAs};
 ghost use Rattle.river_road.specs.Supplied.{IsGathered};
 ghost use Rattle.river_road.specs.Points.{of_gathered, of_mean, of_show};
 ghost use Rattle.river_cli.specs.Points.{source_in, takes_more};
@@ -9,7 +9,7 @@ ghost use Rattle.river_cli.specs.Points.{source_in, takes_more};
 use command_line::{InWords, Lang, RunWords};
 use river_base::{Bytes, Text};
 use river_langs::{Cql, Params, River, Sawzall, Streamit};
-use river_order::Stop;
+use river_outside::Stop;
 use river_outside::Shelf;
 use river_road::{Gathered, gather_run, mean, show};
 use std::alloc::Global;

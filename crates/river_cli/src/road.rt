@@ -5,8 +5,8 @@ ghost use Rattle.command_line.specs.Sentences.{command_of};
 ghost use Rattle.command_line.specs.declared.command.Command.{Command};
 ghost use Rattle.river_langs.specs.Sources.{saw_in};
 ghost use Rattle.river_outside.specs.Causes.{Rose};
-ghost use Rattle.river_order.specs.Decides.{Decides};
-ghost use Rattle.river_order.specs.Passes.{Answers, Passes};
+ghost use Rattle.river_outside.specs.Decides.{Decides};
+ghost use Rattle.river_outside.specs.Passes.{Answers, Passes};
 ghost use Rattle.river_road.specs.Points.{loaded, of_run};
 ghost use Rattle.river_cli.specs.Points.{points_of, of_command, source_in, takes_more};
 
@@ -16,7 +16,7 @@ use command_line::{Capacity, Command, RunBy, RunWords, WordFault, Workers, read_
 use free_runs::free;
 use river_base::{Bytes, Gate, Text};
 use river_langs::{River, Sawzall};
-use river_order::Stop;
+use river_outside::Stop;
 use river_outside::Shelf;
 use river_road::{gather_load, upgrade};
 use std::alloc::Global;

@@ -4,7 +4,7 @@ ghost use Rattle.river_outside.specs.Causes.{Rose};
 ghost use Rattle.river_cli.specs.Does.{Tells, ToldFault, Wrote};
 
 use river_base::Bytes;
-use river_order::Stop;
+use river_outside::Stop;
 use river_outside::{Failed, Sink, put_all};
 
 // What is written where the words are no sentence.

@@ -4,7 +4,7 @@ use Rattle.std.specs.Prelude.{map, Result, Ok, All}
 use Rattle.std.proofs.lemmas.List.Elements.{All-nil, All-cons, All-head, All-tail}
 use Rattle.river_base.specs.Instants as base
 use Rattle.river_base.specs.Held.{HaveWidth}
-use Rattle.river_order.specs.Passes.{StandsFor}
+use Rattle.river_outside.specs.Passes.{StandsFor}
 use Rattle.csv_streams.specs.Timed.{Entry}
 use Rattle.river_plan.specs.Caps.{IsCap}
 use Rattle.river_plan.specs.declared.caps.Cap.{Cap}

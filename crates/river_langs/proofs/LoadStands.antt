@@ -7,9 +7,9 @@ use Rattle.river_script.specs.Reading.{step_name_at, named_at, counted_at, step_
 use Rattle.river_base.specs.Name.{is_letter, is_digit, is_word}
 use Rattle.text_forms.specs.Parse.{comma_turn, open_at}
 use Rattle.text_forms.specs.Repeat.{turns, repeated}
-use Rattle.work_text.specs.Symbols.{short_symbol, long_symbol}
-use Rattle.work_text.specs.Lexis.{is_blank, is_in_line, begins_with, block_end, decimal_from, number_piece, first_is, var_piece, symbol_piece, piece_at, marks}
-use Rattle.work_text.specs.Cut.{ends_unit, braces_after, cut}
+use Rattle.text_tokens.specs.Symbols.{short_symbol, long_symbol}
+use Rattle.text_tokens.specs.Lexis.{is_blank, is_in_line, begins_with, block_end, decimal_from, number_piece, first_is, var_piece, symbol_piece, piece_at, marks}
+use Rattle.text_tokens.specs.Cut.{ends_unit, braces_after, cut}
 use Rattle.text_blocks.specs.Parts.{round_at, square_at, ended_at, first_value_at}
 use Rattle.saw_text.specs.Reading.{named_field_at, field_after, field_at, column_at, columns_at, best_at, kind_after, kind_at, weight_field_at, in_table_at, table_at, typed_after, typed_at, unit_named, unit_after, unit_at}
 use Rattle.saw_text.specs.Words.{is_plain}

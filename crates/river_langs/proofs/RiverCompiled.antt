@@ -1,7 +1,7 @@
 -- What was compiled of a River text stands for what the text means.
 use Rattle.std.proofs.Common.{◌≡◌, List, refl}
 use Rattle.std.specs.Prelude.{Result, Ok}
-use Rattle.river_order.specs.Passes.{StandsFor}
+use Rattle.river_outside.specs.Passes.{StandsFor}
 use Rattle.river_plan.specs.Caps.{AreCaps}
 use Rattle.river_plan.specs.Forms.{PlanForm}
 use Rattle.river_plan.specs.declared.caps.Cap.{Cap}

@@ -5,7 +5,7 @@ use Rattle.std.proofs.lemmas.List.Elements.{All-nil, All-head, All-tail}
 use Rattle.river_base.specs.declared.item.Flat.TheVariants.{One}
 use Rattle.river_base.specs.declared.item.Item.TheVariants.{Flat}
 use Rattle.river_base.specs.Held.{HaveWidth}
-use Rattle.river_order.specs.Passes.{StandsFor}
+use Rattle.river_outside.specs.Passes.{StandsFor}
 use Rattle.river_plan.specs.Caps.{IsCap}
 use Rattle.river_plan.specs.Forms.{PlanForm}
 use Rattle.river_plan.specs.declared.caps.Cap.{Cap}

@@ -2,7 +2,7 @@
 use Rattle.std.proofs.Common.{◌≡◌, ℕ, List, [], ◌∷◌, refl, sym, ap, ◌∙◌, subst}
 use Rattle.std.specs.Prelude.{Result, Ok}
 use Rattle.std.proofs.lemmas.List.Elements.{All-nil}
-use Rattle.river_order.specs.Passes.{StandsFor}
+use Rattle.river_outside.specs.Passes.{StandsFor}
 use Rattle.river_plan.specs.Caps.{IsCap}
 use Rattle.river_plan.specs.Forms.{PlanForm}
 use Rattle.river_plan.specs.declared.caps.Cap.{Cap}

@@ -26,7 +26,7 @@ use Rattle.cql_front.specs.Words.{cql_words}
 use Rattle.river_kernels.specs.Fits.{rows}
 use Rattle.saw_model.specs.Meaning.{tables_in, width, program_tables}
 use Rattle.saw_text.specs.Tree as saw_text
-use Rattle.saw_build.specs.Valued.{AreValuedUnits}
+use Rattle.saw_front.specs.Valued.{AreValuedUnits}
 use Rattle.slow_cql.specs.Contents.{HaveColumns}
 use Rattle.slow_sawzall.specs.Sawzall.{IsAccepted}
 use Rattle.saw_front.specs.Meaning as saw

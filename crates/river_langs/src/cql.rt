@@ -8,10 +8,10 @@ use brooklet_step::Outcome;
 use cql_front::{CqlFault, compile_cql};
 use cql_text::CqlProgram;
 use river_base::{Bytes, Listed, NoMemory};
-use river_order::Stop;
+use river_outside::Stop;
 use river_plan::Caps;
 use river_road::{Compiled, FileContent, Language, refused_program};
-use slow_mean::mean_cql;
+use crate::mean_cql;
 use std::alloc::Global;
 
 /// CQL.

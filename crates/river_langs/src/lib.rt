@@ -15,3 +15,6 @@ pub use params::Params;
 pub use plan_text::River;
 pub use sawzall::Sawzall;
 pub use streamit::Streamit;
+pub use slow_cql::mean_cql;
+pub use slow_sawzall::mean_sawzall;
+pub use slow_streamit::mean_streamit;

@@ -7,10 +7,10 @@ use crate::records::{rows_of, values_of};
 use brooklet_step::Outcome;
 use params_front::{ParamFault, compile_params};
 use river_base::{Bytes, Listed, NoMemory};
-use river_order::Stop;
+use river_outside::Stop;
 use river_plan::Caps;
 use river_road::{Compiled, FileContent, Language, refused_program};
-use slow_mean::mean_streamit;
+use crate::mean_streamit;
 use std::alloc::Global;
 use streamit_front::StreamitProgram;
 

@@ -5,7 +5,7 @@ ghost use Rattle.river_langs.specs.Sources.{river_in};
 use brooklet_run::run_lines;
 use brooklet_step::Outcome;
 use river_base::{Bytes, Listed, NoMemory};
-use river_order::Stop;
+use river_outside::Stop;
 use river_road::{Compiled, FileContent, Language, inputs_of, refused_program};
 use river_text::{RiverFault, RiverPlan, compile_river};
 use std::alloc::Global;

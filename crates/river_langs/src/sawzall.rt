@@ -6,11 +6,11 @@ ghost use Rattle.saw_text.specs.Tree.{unit_forms};
 use crate::records::{listed, rows_of};
 use brooklet_step::Outcome;
 use river_base::{Bytes, Listed, NoMemory};
-use river_order::Stop;
+use river_outside::Stop;
 use river_plan::Caps;
 use river_road::{Compiled, FileContent, Language, refused_program};
 use saw_front::{SawFault, SawProgram, compile_sawzall};
-use slow_mean::mean_sawzall;
+use crate::mean_sawzall;
 use std::alloc::Global;
 
 /// Sawzall. A record may have further fields, which are not looked at.

@@ -6,10 +6,10 @@ ghost use Rattle.streamit_text.specs.Program.{unit_forms};
 use crate::records::{rows_of, values_of};
 use brooklet_step::Outcome;
 use river_base::{Bytes, Listed, NoMemory};
-use river_order::Stop;
+use river_outside::Stop;
 use river_plan::Caps;
 use river_road::{Compiled, FileContent, Language, refused_program};
-use slow_mean::mean_streamit;
+use crate::mean_streamit;
 use std::alloc::Global;
 use streamit_front::{StreamitFault, StreamitProgram, compile_streamit};
 

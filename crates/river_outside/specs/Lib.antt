@@ -1,6 +1,11 @@
 pub mod Causes
+pub mod Decides
 pub mod Fetched
 pub mod Files
 pub mod Held
+pub mod Laws
 pub mod Memory
+pub mod Order
+pub mod Passes
 pub mod Taken
+pub mod Text

@@ -2,12 +2,12 @@
 use Rattle.std.proofs.Common.{◌≡◌, ℕ, zero, suc, ◌+◌, ◌≤◌, true, List, [], ◌∷◌, ◌++◌, refl, sym, ap, ◌∙◌, subst, arith, append_assoc, append-nil}
 use Rattle.std.specs.Prelude.{codes, map, ℤ, Option, None, Some}
 use Rattle.std.specs.Fmt.{decimal, signed_decimal}
-use Rattle.work_text.specs.Lexis.{is_letter, is_word, is_digit}
+use Rattle.text_tokens.specs.Lexis.{is_letter, is_word, is_digit}
 use Rattle.work_code.specs.Printed.{text_of, body_text}
 use Rattle.work_code.specs.Steps.{Steps}
-use Rattle.work_text.specs.Tok.{Tok, name, number, symbol}
-use Rattle.work_text.specs.declared.sign.Symbol.TheVariants as s
-use Rattle.work_text.proofs.Spelled.{is_name_text}
+use Rattle.text_tokens.specs.Tok.{Tok, name, number, symbol}
+use Rattle.text_tokens.specs.declared.sign.Symbol.TheVariants as s
+use Rattle.text_tokens.proofs.Spelled.{is_name_text}
 use Rattle.kern_rows.specs.Forms.{CodeForm, FilterForm, RunForm}
 use Rattle.kern_bags.specs.declared.kernel.Window.{Window}
 use Rattle.kern_bags.specs.declared.kernel.Window.TheVariants.{Now, Range, Unbounded, Latest}

@@ -5,16 +5,16 @@ use Rattle.std.specs.Ordering.{int_eq}
 use Rattle.std.specs.Fmt.{decimal, signed_decimal}
 use Rattle.std.proofs.lemmas.Bool.Decides.{Decides-int_eq}
 use Rattle.text_forms.proofs.Symbols.{value_is}
-use Rattle.work_text.specs.Lexis.{most, is_letter, is_word, is_digit}
-use Rattle.work_text.specs.Tok.{Tok, name, number, symbol}
-use Rattle.work_text.specs.declared.sign.Symbol.TheVariants as s
-use Rattle.work_text.proofs.Spelled.{is_name_text, spells-name, spells-number, minus_follows, decimal-first}
+use Rattle.text_tokens.specs.Lexis.{most, is_letter, is_word, is_digit}
+use Rattle.text_tokens.specs.Tok.{Tok, name, number, symbol}
+use Rattle.text_tokens.specs.declared.sign.Symbol.TheVariants as s
+use Rattle.text_tokens.proofs.Spelled.{is_name_text, spells-name, spells-number, minus_follows, decimal-first}
 use Rattle.text_forms.specs.Forms as form
 use Rattle.river_print.specs.Printed.{start_text}
 use Rattle.river_text.specs.Kernels as g
 use Rattle.river_print.specs.Writable as w
 use Rattle.river_print.proofs.PrintedExpr.{natural, is_count-below}
-use Rattle.work_text.proofs.Insides.{inside-name, inside-number, plain-Minus}
+use Rattle.text_tokens.proofs.Insides.{inside-name, inside-number, plain-Minus}
 use Rattle.river_print.proofs.Pieces.{Piece, AllPieces, more_toks, items_toks, symbol-first}
 
 -- a value whose printed text has tokens that stand for it

@@ -2,16 +2,16 @@
 use Rattle.std.proofs.Common.{◌≡◌, ℕ, ◌≤◌, true, List, [], ◌∷◌, ◌++◌, refl, sym, ap, subst, append_assoc}
 use Rattle.std.specs.Prelude.{codes}
 use Rattle.std.specs.Fmt.{decimal}
-use Rattle.work_text.specs.Lexis.{most, first_is, is_word, is_letter, is_digit, is_blank}
+use Rattle.text_tokens.specs.Lexis.{most, first_is, is_word, is_letter, is_digit, is_blank}
 use Rattle.work_code.specs.Printed.{items_text, more_items}
-use Rattle.work_text.specs.Symbols.{symbol_bytes}
-use Rattle.work_text.specs.Tok.{Tok, name, var, number, symbol}
-use Rattle.work_text.specs.declared.sign.Symbol.{Symbol}
-use Rattle.work_text.specs.declared.sign.Symbol.TheVariants as s
-use Rattle.work_text.proofs.Spelled.{Spells, NoWord, MayFollow, is_name_text, spells-nothing, spells-then, spells-less, spells-blank, spells-symbol}
-use Rattle.work_text.proofs.Spelled.{spells-name, spells-var, spells-number}
-use Rattle.work_text.proofs.Insides.{Inside, IsPlain, inside-nothing, inside-then, inside-symbol, inside-name, inside-var, inside-number, inside-braces}
-use Rattle.work_text.proofs.Insides.{plain-Open, plain-Close, plain-OpenBracket, plain-CloseBracket, plain-Comma, plain-Semicolon}
+use Rattle.text_tokens.specs.Symbols.{symbol_bytes}
+use Rattle.text_tokens.specs.Tok.{Tok, name, var, number, symbol}
+use Rattle.text_tokens.specs.declared.sign.Symbol.{Symbol}
+use Rattle.text_tokens.specs.declared.sign.Symbol.TheVariants as s
+use Rattle.text_tokens.proofs.Spelled.{Spells, NoWord, MayFollow, is_name_text, spells-nothing, spells-then, spells-less, spells-blank, spells-symbol}
+use Rattle.text_tokens.proofs.Spelled.{spells-name, spells-var, spells-number}
+use Rattle.text_tokens.proofs.Insides.{Inside, IsPlain, inside-nothing, inside-then, inside-symbol, inside-name, inside-var, inside-number, inside-braces}
+use Rattle.text_tokens.proofs.Insides.{plain-Open, plain-Close, plain-OpenBracket, plain-CloseBracket, plain-Comma, plain-Semicolon}
 use Rattle.river_print.specs.Printed.{list_text}
 use Rattle.river_print.proofs.PrintedExpr.{blank-then}
 

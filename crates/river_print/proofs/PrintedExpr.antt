@@ -6,15 +6,15 @@ use Rattle.std.specs.Fmt.{decimal}
 use Rattle.text_forms.proofs.Symbols.{value_is}
 use Rattle.work_code.specs.declared.expr.BinOp.{BinOp}
 use Rattle.work_code.specs.declared.expr.BinOp.TheVariants as op
-use Rattle.work_text.specs.declared.sign.Symbol.{Symbol}
-use Rattle.work_text.specs.declared.sign.Symbol.TheVariants as s
+use Rattle.text_tokens.specs.declared.sign.Symbol.{Symbol}
+use Rattle.text_tokens.specs.declared.sign.Symbol.TheVariants as s
 use Rattle.work_code.specs.Term.{Term, Const, Input, Slot, Neg, Not, Bin, depth_of}
 use Rattle.work_code.specs.Printed.{text_of, sign_text}
-use Rattle.work_text.specs.Lexis.{is_blank, first_is, is_word, is_letter, is_digit}
-use Rattle.work_text.specs.Symbols.{symbol_bytes}
-use Rattle.work_text.specs.Tok.{Tok, name, number, symbol}
-use Rattle.work_text.proofs.Spelled.{Spells, Anything, NoWord, NoSign, MayFollow, is_name_text, spells-then, spells-less, spells-blank, spells-symbol}
-use Rattle.work_text.proofs.Spelled.{spells-name, spells-number, blank_follows, minus_follows, not_follows, decimal-first}
+use Rattle.text_tokens.specs.Lexis.{is_blank, first_is, is_word, is_letter, is_digit}
+use Rattle.text_tokens.specs.Symbols.{symbol_bytes}
+use Rattle.text_tokens.specs.Tok.{Tok, name, number, symbol}
+use Rattle.text_tokens.proofs.Spelled.{Spells, Anything, NoWord, NoSign, MayFollow, is_name_text, spells-then, spells-less, spells-blank, spells-symbol}
+use Rattle.text_tokens.proofs.Spelled.{spells-name, spells-number, blank_follows, minus_follows, not_follows, decimal-first}
 use Rattle.text_forms.specs.Levels.{level_of, form_of, operator}
 use Rattle.text_forms.specs.Levels as levels
 use Rattle.text_forms.specs.Parse.{is_count}

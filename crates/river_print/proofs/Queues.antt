@@ -3,13 +3,13 @@ use Rattle.std.proofs.Common.{◌≡◌, ℕ, ◌<◌, true, List, [], ◌∷◌
 use Rattle.std.specs.Prelude.{codes}
 use Rattle.std.specs.Fmt.{decimal}
 use Rattle.std.proofs.lemmas.Fmt.{decimal-digits_of}
-use Rattle.work_text.specs.Cut.{cut, ends_unit, braces_after}
-use Rattle.work_text.specs.Lexis.{is_letter, is_word, is_digit, is_blank, first_is, begins_with, piece_at, number_piece, decimal_from, symbol_piece, marks, tokens_in, with_mark}
-use Rattle.work_text.specs.Symbols.{long_symbol, short_symbol}
-use Rattle.work_text.specs.Tok.{Tok, Mark, name, number, symbol}
-use Rattle.work_text.specs.declared.fault.LexFault.{LexFault}
-use Rattle.work_text.specs.declared.sign.Symbol.TheVariants as s
-use Rattle.work_text.proofs.Spelled.{is_name_text}
+use Rattle.text_tokens.specs.Cut.{cut, ends_unit, braces_after}
+use Rattle.text_tokens.specs.Lexis.{is_letter, is_word, is_digit, is_blank, first_is, begins_with, piece_at, number_piece, decimal_from, symbol_piece, marks, tokens_in, with_mark}
+use Rattle.text_tokens.specs.Symbols.{long_symbol, short_symbol}
+use Rattle.text_tokens.specs.Tok.{Tok, Mark, name, number, symbol}
+use Rattle.text_tokens.specs.declared.fault.LexFault.{LexFault}
+use Rattle.text_tokens.specs.declared.sign.Symbol.TheVariants as s
+use Rattle.text_tokens.proofs.Spelled.{is_name_text}
 use Rattle.river_base.specs.declared.kind.FlatType.TheVariants.{Rows, Stream, Relation}
 use Rattle.river_base.specs.declared.kind.QueueType.{QueueType}
 use Rattle.river_base.specs.declared.kind.QueueType.TheVariants.{Flat, Pack}

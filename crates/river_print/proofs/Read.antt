@@ -4,11 +4,11 @@ use Rattle.std.specs.Prelude.{neg_ℤ, codes}
 use Rattle.std.specs.List.{AllByRecursion}
 use Rattle.std.specs.Str.{bytes_eq}
 use Rattle.river_base.proofs.Tests.{le_by}
-use Rattle.work_text.specs.Tok.{Tok}
+use Rattle.text_tokens.specs.Tok.{Tok}
 use Rattle.work_code.specs.Term.{Term}
 use Rattle.work_code.specs.Steps.{Step, Steps, If, in_turn}
-use Rattle.work_text.specs.declared.sign.Symbol.{Symbol}
-use Rattle.work_text.specs.declared.sign.Symbol.TheVariants as s
+use Rattle.text_tokens.specs.declared.sign.Symbol.{Symbol}
+use Rattle.text_tokens.specs.declared.sign.Symbol.TheVariants as s
 use Rattle.river_base.specs.Name.{is_name}
 use Rattle.river_base.specs.declared.kind.FlatType.TheVariants.{Rows, Stream, Relation}
 use Rattle.river_base.specs.declared.kind.QueueType.TheVariants.{Flat, Pack}

@@ -3,11 +3,11 @@ use Rattle.std.proofs.Common.{◌≡◌, ℕ, suc, ◌≤◌, Bool, true, false,
 use Rattle.std.specs.Prelude.{codes, map, nat_le, ◌&&◌, ◌==◌, if◌then◌else◌}
 use Rattle.std.proofs.lemmas.Bool.Decides.{nat_tests}
 use Rattle.river_base.proofs.Tests.{le_true}
-use Rattle.work_text.specs.Laws.{joined_units}
-use Rattle.work_text.specs.Cut.{cut, units_of, is_else}
-use Rattle.work_text.specs.Lexis.{is_letter, is_word, is_digit}
-use Rattle.work_text.specs.Tok.{Tok, toks}
-use Rattle.work_text.proofs.Spelled.{Spells, Anything, is_name_text, spells-nothing, spells-then, spells-whole}
+use Rattle.text_tokens.specs.Laws.{joined_units}
+use Rattle.text_tokens.specs.Cut.{cut, units_of, is_else}
+use Rattle.text_tokens.specs.Lexis.{is_letter, is_word, is_digit}
+use Rattle.text_tokens.specs.Tok.{Tok, toks}
+use Rattle.text_tokens.proofs.Spelled.{Spells, Anything, is_name_text, spells-nothing, spells-then, spells-whole}
 use Rattle.river_plan.specs.Caps.{OwnCaps, IsOwnCap, cap_of, caps_of}
 use Rattle.river_plan.specs.Forms.{Name, OpForm, PlanForm, empty_form}
 use Rattle.river_plan.specs.declared.caps.Cap.{Cap}

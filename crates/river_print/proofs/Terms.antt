@@ -2,15 +2,15 @@
 use Rattle.std.proofs.Common.{◌≡◌, ℕ, zero, suc, ◌+◌, ◌<◌, ◌≤◌, true, List, [], ◌∷◌, ◌++◌, length, refl, sym, ap, subst, arith, append_assoc}
 use Rattle.std.specs.Prelude.{codes, map, Option, Some, None}
 use Rattle.std.specs.Fmt.{decimal}
-use Rattle.work_text.specs.Lexis.{is_letter, is_word, is_digit}
+use Rattle.text_tokens.specs.Lexis.{is_letter, is_word, is_digit}
 use Rattle.work_code.specs.Printed.{text_of, items_text, step_text, body_text, more_text, else_text}
 use Rattle.work_code.specs.Steps.{Step, Steps, Set, Push, If, Done, Then, in_turn}
 use Rattle.work_code.specs.Term.{Term, Const, Input, Slot, Neg, Not, Bin}
-use Rattle.work_text.specs.Tok.{Tok, name, number, symbol}
+use Rattle.text_tokens.specs.Tok.{Tok, name, number, symbol}
 use Rattle.work_code.specs.declared.expr.BinOp.{BinOp}
 use Rattle.work_code.specs.declared.expr.BinOp.TheVariants as op
-use Rattle.work_text.specs.declared.sign.Symbol.TheVariants as s
-use Rattle.work_text.proofs.Spelled.{is_name_text, blank_follows}
+use Rattle.text_tokens.specs.declared.sign.Symbol.TheVariants as s
+use Rattle.text_tokens.proofs.Spelled.{is_name_text, blank_follows}
 use Rattle.text_forms.specs.Forms as form
 use Rattle.text_blocks.specs.Parts.{Round}
 use Rattle.text_blocks.specs.Seven.{sign_of}
@@ -21,8 +21,8 @@ use Rattle.river_text.specs.Expressions as exprs
 use Rattle.river_print.specs.Writable as w
 use Rattle.river_print.proofs.Listings.{Item, pieces, items-commas, count-formed}
 use Rattle.river_print.proofs.PrintedExpr.{printed, printed-is, spells-term}
-use Rattle.work_text.proofs.Insides.{Inside, inside-then, inside-name, inside-number, inside-symbol, IsPlain, plain-Open, plain-Close, plain-OpenBracket}
-use Rattle.work_text.proofs.Insides.{plain-CloseBracket, plain-Minus, plain-Assign}
+use Rattle.text_tokens.proofs.Insides.{Inside, inside-then, inside-name, inside-number, inside-symbol, IsPlain, plain-Open, plain-Close, plain-OpenBracket}
+use Rattle.text_tokens.proofs.Insides.{plain-CloseBracket, plain-Minus, plain-Assign}
 use Rattle.river_print.proofs.Pieces.{Piece, EndsWord, piece-nothing, ends-nothing, piece-then, symbol-first}
 use Rattle.river_print.proofs.Pieces.{word-first, number-first, blank-first, open-first, close-first, semicolon-first, square-first, square_close-first, braced}
 use Rattle.river_print.proofs.Pieces.{braced-nothing, ends-blank, ends-close, ends-square, ends-square_close, ends-semicolon, items_toks, pieces-items}

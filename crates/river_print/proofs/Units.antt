@@ -6,14 +6,14 @@ use Rattle.std.specs.List.{list_all}
 use Rattle.std.specs.Fmt.{decimal}
 use Rattle.std.specs.Cmp.Lexicographic.{pointwise}
 use Rattle.std.proofs.lemmas.Slice.Eq.{bytes_eq-Decides}
-use Rattle.work_text.specs.Cut.{cut, to_first, ends_unit, braces_after, is_else}
-use Rattle.work_text.specs.Lexis.{first_is, is_letter, is_word, is_digit}
-use Rattle.work_text.specs.Tok.{Tok, name, var, number, symbol}
-use Rattle.work_text.specs.declared.sign.Symbol.{Symbol}
-use Rattle.work_text.specs.declared.sign.Symbol.TheVariants as s
-use Rattle.work_text.proofs.Spelled.{Spells, Anything, NoWord, MayFollow, is_name_text, spells-then, spells-blank, spells-symbol, spells-name, spells-var}
-use Rattle.work_text.proofs.Spelled.{blank_follows}
-use Rattle.work_text.specs.Symbols.{symbol_bytes, long_symbol}
+use Rattle.text_tokens.specs.Cut.{cut, to_first, ends_unit, braces_after, is_else}
+use Rattle.text_tokens.specs.Lexis.{first_is, is_letter, is_word, is_digit}
+use Rattle.text_tokens.specs.Tok.{Tok, name, var, number, symbol}
+use Rattle.text_tokens.specs.declared.sign.Symbol.{Symbol}
+use Rattle.text_tokens.specs.declared.sign.Symbol.TheVariants as s
+use Rattle.text_tokens.proofs.Spelled.{Spells, Anything, NoWord, MayFollow, is_name_text, spells-then, spells-blank, spells-symbol, spells-name, spells-var}
+use Rattle.text_tokens.proofs.Spelled.{blank_follows}
+use Rattle.text_tokens.specs.Symbols.{symbol_bytes, long_symbol}
 use Rattle.std.specs.Str.{bytes_eq}
 use Rattle.river_base.specs.Name.{is_name, name_eq}
 use Rattle.river_base.specs.declared.kind.FlatType.{FlatType}
@@ -32,7 +32,7 @@ use Rattle.river_print.specs.Printed.{list_text, flat_text, type_text, table_tex
 use Rattle.river_text.specs.Plans as p
 use Rattle.river_print.specs.Writable as w
 use Rattle.river_print.proofs.Listings.{Item, pieces, items-listing, count_tok, count-formed, count-item}
-use Rattle.work_text.proofs.Insides.{all_first, all_first-append, Inside, inside-name, inside-var}
+use Rattle.text_tokens.proofs.Insides.{all_first, all_first-append, Inside, inside-name, inside-var}
 use Rattle.river_print.proofs.Pieces.{line_is, Piece, AllPieces, braced, more_toks, items_toks}
 use Rattle.river_print.proofs.Kernels.{listed, list-last, worded, kernel_toks, kernel-piece, braced-formed}
 use Rattle.river_print.proofs.Terms.{round-formed, behind_round}

@@ -9,7 +9,7 @@ ghost use Rattle.river_print.specs.Styles.{text_in};
 use river_base::{Bytes, Name, NoMemory};
 use std::alloc::Global;
 use work_code::Expr;
-use work_text::print_expr;
+use crate::print::print_expr;
 
 /// Appends a number in decimal.
 pub fn number(alloc: Global, number: u32, to: &mut Bytes) -> Result<(), NoMemory>

@@ -17,7 +17,8 @@ use river_base::{Bytes, NoMemory};
 use river_kernels::Kernel;
 use std::alloc::Global;
 use work_code::{Code, Expr, Exprs};
-use work_text::{print_code, print_expr};
+use crate::printing::print_code;
+use crate::print::print_expr;
 
 // Appends the text of a kernel; where there is no memory, maybe a part of it.
 #[cycle(print_kernel)]

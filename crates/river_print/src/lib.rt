@@ -5,6 +5,8 @@ mod items;
 mod kernel;
 pub mod laws;
 mod plan;
+mod print;
+mod printing;
 mod ranges;
 
 pub use plan::{print_raw, print_river};

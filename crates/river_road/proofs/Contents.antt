@@ -6,8 +6,8 @@ use Rattle.river_base.specs.declared.kind.FlatType.TheVariants.{Rows, Stream, Re
 use Rattle.river_base.specs.declared.kind.QueueType.{QueueType}
 use Rattle.river_base.specs.declared.kind.QueueType.TheVariants.{Flat as FlatOf, Pack as PackOf}
 use Rattle.river_base.specs.Name.{name_eq}
-use Rattle.river_order.specs.Passes.{StandsFor, AnswersAs}
-use Rattle.river_order.specs.declared.stop.Stop.{Stop}
+use Rattle.river_outside.specs.Passes.{StandsFor, AnswersAs}
+use Rattle.river_outside.specs.declared.stop.Stop.{Stop}
 use Rattle.river_kernels.specs.Fits.{rows}
 use Rattle.river_plan.specs.declared.plan.Decl.{Decl}
 use Rattle.river_plan.specs.Faults.{IsOuter, IsRowsOrStream}

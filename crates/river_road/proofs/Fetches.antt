@@ -4,11 +4,11 @@ use Rattle.std.specs.Prelude.{Option, Some}
 use Rattle.std.proofs.lemmas.List.{append_assoc, append-nil}
 use Rattle.brooklet_model.proofs.Lists.{funext}
 use Rattle.river_outside.specs.Held.{Held}
-use Rattle.river_order.specs.Order.{Order, Fetch, Comes}
-use Rattle.river_order.specs.Decides.{Stops}
-use Rattle.river_order.specs.declared.stop.Stop.{Stop}
-use Rattle.river_order.proofs.Comes.{Comes-same, Comes-on}
-use Rattle.river_order.proofs.Turns.{Stops-later}
+use Rattle.river_outside.specs.Order.{Order, Fetch, Comes}
+use Rattle.river_outside.specs.Decides.{Stops}
+use Rattle.river_outside.specs.declared.stop.Stop.{Stop}
+use Rattle.river_outside.proofs.Comes.{Comes-same, Comes-on}
+use Rattle.river_outside.proofs.Turns.{Stops-later}
 use Rattle.river_road.specs.Inputs.{fetch_each}
 use Rattle.river_road.specs.Limits.{most_input}
 use Rattle.river_road.specs.Text.{large_input}

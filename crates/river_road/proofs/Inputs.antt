@@ -6,13 +6,13 @@ use Rattle.std.proofs.lemmas.List.{append_assoc, append-nil, drop_more, drop_all
 use Rattle.std.proofs.lemmas.Bool.Decides.{nat_tests}
 use Rattle.river_base.specs.Name.{name_eq}
 use Rattle.river_outside.specs.Held.{Held}
-use Rattle.river_order.specs.Order.{Order, Comes}
-use Rattle.river_order.specs.Decides.{Stops}
-use Rattle.river_order.specs.Passes.{past, RefusesPoint, StandsFor, AnswersAs, Passes}
-use Rattle.river_order.specs.declared.stop.Stop.{Stop}
-use Rattle.river_order.specs.declared.stop.Stop.TheVariants as stop
-use Rattle.river_order.proofs.Comes.{Comes-same}
-use Rattle.river_order.proofs.Passes.{past-refused, then-passes}
+use Rattle.river_outside.specs.Order.{Order, Comes}
+use Rattle.river_outside.specs.Decides.{Stops}
+use Rattle.river_outside.specs.Passes.{past, RefusesPoint, StandsFor, AnswersAs, Passes}
+use Rattle.river_outside.specs.declared.stop.Stop.{Stop}
+use Rattle.river_outside.specs.declared.stop.Stop.TheVariants as stop
+use Rattle.river_outside.proofs.Comes.{Comes-same}
+use Rattle.river_outside.proofs.Passes.{past-refused, then-passes}
 use Rattle.river_kernels.specs.Formed.{is_width}
 use Rattle.river_plan.specs.declared.plan.Decl.{Decl}
 use Rattle.river_plan.specs.Faults.{HasWidth, IsOuter}

@@ -7,9 +7,9 @@ use Rattle.river_base.specs.Held.{HaveWidth}
 use Rattle.river_base.specs.declared.kind.FlatType.TheVariants.{Rows, Stream, Relation}
 use Rattle.river_base.specs.declared.kind.QueueType.{QueueType}
 use Rattle.river_base.specs.declared.kind.QueueType.TheVariants.{Flat as FlatOf, Pack as PackOf}
-use Rattle.river_order.specs.Passes.{RefusesPoint, StandsFor, AnswersAs}
-use Rattle.river_order.specs.declared.stop.Stop.{Stop}
-use Rattle.river_order.specs.declared.stop.Stop.TheVariants as stop
+use Rattle.river_outside.specs.Passes.{RefusesPoint, StandsFor, AnswersAs}
+use Rattle.river_outside.specs.declared.stop.Stop.{Stop}
+use Rattle.river_outside.specs.declared.stop.Stop.TheVariants as stop
 use Rattle.river_plan.specs.declared.plan.Decl.{Decl}
 use Rattle.river_plan.specs.Forms.{PlanForm}
 use Rattle.river_road.specs.Contents.{IsContent, AreContents}

@@ -2,13 +2,13 @@
 use Rattle.std.proofs.Common.{◌≡◌, ℕ, List, Bool, false, sym, subst}
 use Rattle.std.specs.Prelude.{Option, Some, Result, Ok, Err}
 use Rattle.river_outside.specs.Held.{Held}
-use Rattle.river_order.specs.Order.{Order, Fetch, Comes}
-use Rattle.river_order.specs.Decides.{Stops}
-use Rattle.river_order.specs.Passes.{past, Answers, AnswersAs, Passes, PassesAs}
-use Rattle.river_order.specs.declared.stop.Stop.{Stop}
-use Rattle.river_order.proofs.Comes.{Comes-on}
-use Rattle.river_order.proofs.Turns.{Stops-later}
-use Rattle.river_order.proofs.Passes.{past-refused, past-passes, then-passes}
+use Rattle.river_outside.specs.Order.{Order, Fetch, Comes}
+use Rattle.river_outside.specs.Decides.{Stops}
+use Rattle.river_outside.specs.Passes.{past, Answers, AnswersAs, Passes, PassesAs}
+use Rattle.river_outside.specs.declared.stop.Stop.{Stop}
+use Rattle.river_outside.proofs.Comes.{Comes-on}
+use Rattle.river_outside.proofs.Turns.{Stops-later}
+use Rattle.river_outside.proofs.Passes.{past-refused, past-passes, then-passes}
 use Rattle.river_plan.specs.Caps.{first_cap}
 use Rattle.river_plan.specs.declared.caps.Cap.{Cap}
 use Rattle.river_plan.specs.Forms.{PlanForm}

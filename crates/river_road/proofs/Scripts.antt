@@ -2,13 +2,13 @@
 use Rattle.std.proofs.Common.{◌≡◌, ℕ, List, refl, sym, ap, ◌∙◌, subst}
 use Rattle.std.specs.Prelude.{Option, Some, None, Result, Ok, Err}
 use Rattle.river_outside.specs.Held.{Held}
-use Rattle.river_order.specs.Order.{Order, Fetch, Comes}
-use Rattle.river_order.specs.Decides.{Stops}
-use Rattle.river_order.specs.Passes.{past, RefusesPoint, StandsFor, AnswersAs, PassesAs}
-use Rattle.river_order.specs.declared.stop.Stop.{Stop}
-use Rattle.river_order.proofs.Comes.{Comes-same, Comes-on}
-use Rattle.river_order.proofs.Passes.{past-refused}
-use Rattle.river_order.proofs.Turns.{Stops-later}
+use Rattle.river_outside.specs.Order.{Order, Fetch, Comes}
+use Rattle.river_outside.specs.Decides.{Stops}
+use Rattle.river_outside.specs.Passes.{past, RefusesPoint, StandsFor, AnswersAs, PassesAs}
+use Rattle.river_outside.specs.declared.stop.Stop.{Stop}
+use Rattle.river_outside.proofs.Comes.{Comes-same, Comes-on}
+use Rattle.river_outside.proofs.Passes.{past-refused}
+use Rattle.river_outside.proofs.Turns.{Stops-later}
 use Rattle.river_plan.specs.Forms.{PlanForm, decl_names, table_names}
 use Rattle.river_plan.specs.Valid.{IsPlan}
 use Rattle.river_script.specs.Meaning.{rewritten}

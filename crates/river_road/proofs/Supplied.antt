@@ -3,7 +3,7 @@ use Rattle.std.proofs.Common.{List, sym, subst}
 use Rattle.std.specs.Prelude.{ℕ, Result, Ok, Err}
 use Rattle.brooklet_model.specs.Fit.{Fit}
 use Rattle.river_base.specs.declared.item.Item as item
-use Rattle.river_order.specs.Passes.{StandsFor}
+use Rattle.river_outside.specs.Passes.{StandsFor}
 use Rattle.river_plan.specs.Caps.{AreCaps}
 use Rattle.river_plan.specs.Forms.{PlanForm}
 use Rattle.river_plan.specs.declared.caps.Cap.{Cap}

@@ -11,8 +11,8 @@ use Rattle.kern_rows.specs.Even.{row_items}
 use Rattle.csv_streams.specs.Rows.{rows_of_file}
 use Rattle.csv_streams.specs.Timed.{Entry, timed_of}
 use Rattle.csv_streams.specs.declared.fault.InFault.{InFault}
-use Rattle.river_order.specs.Order.{Order, Fetch}
-use Rattle.river_order.specs.Passes.{past}
+use Rattle.river_outside.specs.Order.{Order, Fetch}
+use Rattle.river_outside.specs.Passes.{past}
 use Rattle.river_plan.specs.declared.plan.Decl.{Decl}
 use Rattle.river_plan.specs.Forms.{decl_names}
 use Rattle.river_plan.specs.Faults.{type_width}

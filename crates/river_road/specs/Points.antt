@@ -1,8 +1,8 @@
 -- The road from the file of a program to the text: the points of what a command does, in order. Each point is told what comes after it.
 -- A language is here what the text of a program is: its program, or the text that refuses it.
 use Rattle.std.specs.Prelude.{ℕ, List, ◌++◌, Bool, false, Option, Some, None, Result, Ok, Err}
-use Rattle.river_order.specs.Order.{Order, Fetch}
-use Rattle.river_order.specs.Passes.{past}
+use Rattle.river_outside.specs.Order.{Order, Fetch}
+use Rattle.river_outside.specs.Passes.{past}
 use Rattle.plan_classes.specs.Lines.{classes_text}
 use Rattle.river_plan.specs.Caps.{first_cap}
 use Rattle.river_plan.specs.Forms.{PlanForm}

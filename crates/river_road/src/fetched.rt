@@ -1,8 +1,8 @@
 // The files of a program's inputs.
 ghost use Rattle.std.specs.Prelude.{◌≡◌, ◌≤◌, length, IfOk};
 ghost use Rattle.river_outside.specs.Causes.{Rose};
-ghost use Rattle.river_order.specs.Order.{Fetch};
-ghost use Rattle.river_order.specs.Passes.{Passes};
+ghost use Rattle.river_outside.specs.Order.{Fetch};
+ghost use Rattle.river_outside.specs.Passes.{Passes};
 ghost use Rattle.river_road.specs.Inputs.{fetch_each};
 ghost use Rattle.river_road.specs.Limits.{most_input};
 ghost use Rattle.river_road.specs.Text.{large_input};
@@ -10,7 +10,7 @@ ghost use Rattle.river_road.specs.Text.{large_input};
 use crate::text;
 use command_line::InWord;
 use river_base::{Bytes, Listed};
-use river_order::{Stop, fetch_turn};
+use river_outside::{Stop, fetch_turn};
 use river_outside::Shelf;
 use std::alloc::Global;
 

@@ -1,7 +1,7 @@
 // From the words to what the files of a program's inputs have.
 ghost use Rattle.std.specs.Prelude.{◌≤◌, ℕ, List, All, IfOk};
 ghost use Rattle.river_outside.specs.Causes.{Rose};
-ghost use Rattle.river_order.specs.Passes.{Passes};
+ghost use Rattle.river_outside.specs.Passes.{Passes};
 ghost use Rattle.river_plan.specs.Faults.{IsOuter};
 ghost use Rattle.river_plan.specs.Forms.{decl_names};
 ghost use Rattle.river_plan.specs.Names.{count};
@@ -15,7 +15,7 @@ use crate::names::check_names;
 use crate::rows::read_inputs;
 use command_line::InWord;
 use river_base::Listed;
-use river_order::Stop;
+use river_outside::Stop;
 use river_outside::Shelf;
 use river_plan::Decl;
 use std::alloc::Global;

@@ -1,7 +1,7 @@
 // From the words of `run` to a plan that is ready to be run.
 ghost use Rattle.std.specs.Prelude.{◌≤◌, IfOk};
 ghost use Rattle.river_outside.specs.Causes.{Rose};
-ghost use Rattle.river_order.specs.Passes.{Passes, PassesAs};
+ghost use Rattle.river_outside.specs.Passes.{Passes, PassesAs};
 ghost use Rattle.river_plan.specs.Valid.{IsPlan};
 ghost use Rattle.river_road.specs.Contents.{AreContents};
 ghost use Rattle.river_road.specs.Supplied.{IsGathered};
@@ -17,7 +17,7 @@ use crate::layout::Layout;
 use crate::road::{compiled, scripted};
 use command_line::{InWords, RunWords};
 use river_base::Listed;
-use river_order::Stop;
+use river_outside::Stop;
 use river_outside::Shelf;
 use river_plan::{Caps, Plan};
 use std::alloc::Global;

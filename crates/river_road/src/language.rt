@@ -1,6 +1,6 @@
 // What is asked of a source language.
 ghost use Rattle.std.specs.Prelude.{◌≡◌, ◌≤◌, ℕ, List, length, Bool, Result, IfOk};
-ghost use Rattle.river_order.specs.Passes.{AnswersAs};
+ghost use Rattle.river_outside.specs.Passes.{AnswersAs};
 ghost use Rattle.river_plan.specs.Valid.{IsPlan};
 ghost use Rattle.river_road.specs.Contents.{AreContents};
 ghost use Rattle.river_road.specs.Limits.{most_program};
@@ -9,7 +9,7 @@ ghost use Rattle.river_road.specs.Source.{SourceProgram, IsCompiled, HasSource, 
 use crate::content::FileContent;
 use brooklet_step::Outcome;
 use river_base::{Bytes, Listed, NoMemory};
-use river_order::Stop;
+use river_outside::Stop;
 use river_plan::{Caps, Plan};
 use std::alloc::Global;
 

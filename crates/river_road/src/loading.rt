@@ -1,6 +1,6 @@
 // `load`: a program in Sawzall, and the records that are made for it.
 ghost use Rattle.std.specs.Prelude.{◌≡◌, ◌≤◌, [], ◌∷◌, List, length, IfOk};
-ghost use Rattle.river_order.specs.Passes.{Answers, AnswersAs};
+ghost use Rattle.river_outside.specs.Passes.{Answers, AnswersAs};
 ghost use Rattle.river_plan.specs.declared.caps.Cap.{Cap};
 ghost use Rattle.river_road.specs.Contents.{AreContents};
 ghost use Rattle.river_road.specs.Supplied.{IsGathered};
@@ -18,7 +18,7 @@ use crate::script::applied;
 use crate::text;
 use kern_rows::EvenRows;
 use river_base::{Bytes, FlatType, Listed, NoMemory, QueueType};
-use river_order::Stop;
+use river_outside::Stop;
 use river_plan::{Caps, Decl, Plan};
 use std::alloc::Global;
 

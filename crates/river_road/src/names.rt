@@ -1,13 +1,13 @@
 // The names of a program's inputs, and those that the words give.
 ghost use Rattle.std.specs.Prelude.{◌≡◌, nat_lt, None, Some, MatchOption};
-ghost use Rattle.river_order.specs.Passes.{Answers};
+ghost use Rattle.river_outside.specs.Passes.{Answers};
 ghost use Rattle.river_plan.specs.Forms.{decl_names};
 ghost use Rattle.river_plan.specs.Names.{count};
 ghost use Rattle.river_road.specs.Inputs.{names, unknown, missing, names_fit};
 
 use crate::text;
 use command_line::InWord;
-use river_order::Stop;
+use river_outside::Stop;
 use river_plan::Decl;
 use std::alloc::Global;
 

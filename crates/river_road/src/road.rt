@@ -1,8 +1,8 @@
 // The road from a program's file to the text that is written: each function is a point, or hands on to those of the next.
 ghost use Rattle.std.specs.Prelude.{◌≡◌, ◌≤◌, List, length, IfOk, Some, Ok as found};
 ghost use Rattle.river_outside.specs.Causes.{Rose};
-ghost use Rattle.river_order.specs.Order.{Fetch};
-ghost use Rattle.river_order.specs.Passes.{Answers, Passes, PassesAs};
+ghost use Rattle.river_outside.specs.Order.{Fetch};
+ghost use Rattle.river_outside.specs.Passes.{Answers, Passes, PassesAs};
 ghost use Rattle.river_plan.specs.Caps.{AreCaps, first_cap};
 ghost use Rattle.river_plan.specs.declared.caps.Cap.{Cap};
 ghost use Rattle.river_print.specs.Printed.{plan_text};
@@ -20,7 +20,7 @@ use crate::text;
 use command_line::InWords;
 use plan_classes::print_classes;
 use river_base::{Bytes, Text};
-use river_order::{Stop, fetch_turn};
+use river_outside::{Stop, fetch_turn};
 use river_outside::Shelf;
 use river_plan::{Caps, Plan};
 use river_print::print_river;

@@ -3,7 +3,7 @@ ghost use Rattle.std.specs.Prelude.{◌≡◌, ◌≤◌, ℕ, List, false, leng
 ghost use Rattle.csv_streams.specs.Rows.{rows_of_file, IsAnswer};
 ghost use Rattle.csv_streams.specs.Timed.{timed_of};
 ghost use Rattle.river_base.specs.declared.kind.QueueType.TheVariants.{Pack as PackOf};
-ghost use Rattle.river_order.specs.Passes.{Answers, AnswersAs};
+ghost use Rattle.river_outside.specs.Passes.{Answers, AnswersAs};
 ghost use Rattle.river_kernels.specs.Formed.{is_width};
 ghost use Rattle.river_base.specs.Name.{name_eq};
 ghost use Rattle.river_plan.specs.Faults.{type_width};
@@ -20,7 +20,7 @@ use command_line::InWord;
 use csv_streams::{InFault, read_even, read_timed};
 use kern_rows::EvenRows;
 use river_base::{Bytes, FlatType, Listed, NoMemory, QueueType};
-use river_order::Stop;
+use river_outside::Stop;
 use river_plan::Decl;
 use std::alloc::Global;
 use std::mem::replace;

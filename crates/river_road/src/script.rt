@@ -1,6 +1,6 @@
 // A script, applied to a plan.
 ghost use Rattle.std.specs.Prelude.{◌≤◌, List, length};
-ghost use Rattle.river_order.specs.Passes.{AnswersAs};
+ghost use Rattle.river_outside.specs.Passes.{AnswersAs};
 ghost use Rattle.river_script.specs.Meaning.{rewritten as rewritten_plan};
 ghost use Rattle.river_road.specs.Limits.{most_script};
 ghost use Rattle.river_road.specs.Points.{with_plan};
@@ -9,7 +9,7 @@ ghost use Rattle.river_plan.specs.declared.caps.Cap.{Cap};
 
 use crate::text;
 use river_base::Bytes;
-use river_order::Stop;
+use river_outside::Stop;
 use river_plan::Plan;
 use river_script::{ScriptFault, apply_script};
 use std::alloc::Global;

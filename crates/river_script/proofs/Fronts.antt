@@ -2,17 +2,17 @@
 use Rattle.std.proofs.Common.{◌≡◌, ℕ, ◌<◌, ◌^◌, List, [], length, Result, Ok, Err, refl, ap, ◌∙◌, subst, arith}
 use Rattle.std.specs.Prelude.{IfOk}
 use Rattle.std.proofs.lemmas.List.{length-map}
-use Rattle.work_text.specs.Cut.{units_of}
-use Rattle.work_text.specs.Lexis.{tokens_in}
-use Rattle.work_text.specs.Tok.{Mark, toks}
-use Rattle.work_text.specs.declared.fault.LexFault.{LexFault}
-use Rattle.work_text.specs.declared.fault.LexFault.TheVariants as lex
-use Rattle.work_text.proofs.Slices.{no_want}
+use Rattle.text_tokens.specs.Cut.{units_of}
+use Rattle.text_tokens.specs.Lexis.{tokens_in}
+use Rattle.text_tokens.specs.Tok.{Mark, toks}
+use Rattle.text_tokens.specs.declared.fault.LexFault.{LexFault}
+use Rattle.text_tokens.specs.declared.fault.LexFault.TheVariants as lex
+use Rattle.text_tokens.proofs.Slices.{no_want}
 use Rattle.river_plan.specs.Forms.{PlanForm}
 use Rattle.plan_edits.specs.declared.unfit.Unfit.{Unfit as Why}
 use Rattle.text_forms.proofs.Texts.{bad-read}
 use Rattle.text_forms.specs.declared.refusal.Refusal.TheVariants.{BadByte, BigNumber, Syntax}
-use Rattle.work_text.proofs.Counts.{tokens-few, units-few}
+use Rattle.text_tokens.proofs.Counts.{tokens-few, units-few}
 use Rattle.river_script.specs.Grammar.{IsScript, IsBadAt, go_on}
 use Rattle.river_script.specs.Laws.{Has, MakesWhatItHas}
 use Rattle.river_script.specs.Meaning.{from_lexer, script_ended, then_applied, then_read, rewritten, Refused, IsEnded, IsUnread, at_unit}

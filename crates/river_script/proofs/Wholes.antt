@@ -1,6 +1,6 @@
 -- The steps by which code reads whole units.
 use Rattle.std.proofs.Common.{◌≡◌, List, [], ◌∷◌, Some, None, refl}
-use Rattle.work_text.specs.Tok.{Tok}
+use Rattle.text_tokens.specs.Tok.{Tok}
 use Rattle.text_forms.specs.Texts.{whole}
 use Rattle.river_script.specs.Script.{StepForm}
 use Rattle.river_script.specs.Reading.{step_at}

@@ -5,10 +5,10 @@
 -- A NAME has at most 64 bytes, and an N is at most 4294967295. Each step is one unit of the text.
 use Rattle.std.specs.Prelude.{◌≡◌, ℕ, List, [], ◌∷◌, Ok, codes}
 use Rattle.std.specs.Str.{bytes_eq}
-use Rattle.work_text.specs.Cut.{units_of}
-use Rattle.work_text.specs.Lexis.{tokens_in}
-use Rattle.work_text.specs.Tok.{Tok, Mark, toks}
-use Rattle.work_text.specs.declared.sign.Symbol.TheVariants as s
+use Rattle.text_tokens.specs.Cut.{units_of}
+use Rattle.text_tokens.specs.Lexis.{tokens_in}
+use Rattle.text_tokens.specs.Tok.{Tok, Mark, toks}
+use Rattle.text_tokens.specs.declared.sign.Symbol.TheVariants as s
 use Rattle.river_base.specs.Name.{is_name}
 use Rattle.text_forms.specs.Forms.{NameToken, Number, Never, Both, Before, Tested, Seen, Choose, Headed}
 use Rattle.text_forms.specs.Parse.{is_count}

@@ -1,9 +1,9 @@
 -- What a script makes of a plan: its text is lexed, then read, and then its steps are applied one after another.
 use Rattle.std.specs.Prelude.{◌≡◌, ℕ, List, [], Result, Ok, Err}
-use Rattle.work_text.specs.Cut.{units_of}
-use Rattle.work_text.specs.Lexis.{tokens_in}
-use Rattle.work_text.specs.Tok.{Mark, toks}
-use Rattle.work_text.specs.declared.fault.LexFault.{LexFault}
+use Rattle.text_tokens.specs.Cut.{units_of}
+use Rattle.text_tokens.specs.Lexis.{tokens_in}
+use Rattle.text_tokens.specs.Tok.{Mark, toks}
+use Rattle.text_tokens.specs.declared.fault.LexFault.{LexFault}
 use Rattle.river_plan.specs.Forms.{PlanForm}
 use Rattle.plan_edits.specs.declared.unfit.Unfit.{Unfit as Why}
 use Rattle.plan_edits.specs.declared.unfit.Unfit.TheVariants as why

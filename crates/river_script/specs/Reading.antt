@@ -1,8 +1,8 @@
 -- How scripts are read: the grammar in the words of reading functions.
 use Rattle.std.specs.Prelude.{ℕ, ◌+◌, ◌++◌, List, [], ◌∷◌, Option, None, Some, Result, Ok, Err, codes, if◌then◌else◌}
 use Rattle.std.specs.Str.{bytes_eq}
-use Rattle.work_text.specs.Tok.{Tok}
-use Rattle.work_text.specs.declared.sign.Symbol.TheVariants as s
+use Rattle.text_tokens.specs.Tok.{Tok}
+use Rattle.text_tokens.specs.declared.sign.Symbol.TheVariants as s
 use Rattle.river_base.specs.Name.{is_name}
 use Rattle.text_forms.specs.Parse.{Parse, name_at, count_at, both, before, tested, seen, headed}
 use Rattle.text_forms.specs.Texts.{whole}

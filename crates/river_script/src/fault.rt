@@ -11,7 +11,7 @@ use plan_edits::Unfit;
 use river_base::{Bytes, NoMemory};
 use std::alloc::Global;
 use text_forms::{Refusal, Told, numbered};
-use work_text::LexFault;
+use text_tokens::LexFault;
 
 /// Why a script makes no plan.
 #[derive(Clone, Copy)]
@@ -57,7 +57,7 @@ impl Told for ScriptFault {
 }
 
 // Appends why the text is not read.
-#[tactic(auto, using(work_text::proofs::Joined::joins))]
+#[tactic(auto, using(text_tokens::proofs::Joined::joins))]
 fn put_refusal(alloc: Global, refusal: Refusal, to: &mut Bytes) -> Result<(), NoMemory>
     ensures { OnOk result (to.new ≡ to.old ++ (codes "script: " ++ refusal_words refusal)) }
 {
@@ -66,7 +66,7 @@ fn put_refusal(alloc: Global, refusal: Refusal, to: &mut Bytes) -> Result<(), No
 }
 
 // Appends the number of a step and its condition.
-#[tactic(auto, using(work_text::proofs::Joined::joins))]
+#[tactic(auto, using(text_tokens::proofs::Joined::joins))]
 fn put_step(alloc: Global, step: u32, why: Unfit, to: &mut Bytes) -> Result<(), NoMemory>
     ensures { OnOk result (to.new ≡ to.old ++ (codes "rewrite " ++ (decimal step ++ (codes ": " ++ unfit_word why)))) }
 {

@@ -1,7 +1,7 @@
 // From a text to steps.
 ghost use Rattle.std.specs.Prelude.{◌≡◌, ◌<◌, ◌^◌, [], length, IfOk, IfErr};
-ghost use Rattle.work_text.specs.Cut.{units_of};
-ghost use Rattle.work_text.specs.Tok.{toks};
+ghost use Rattle.text_tokens.specs.Cut.{units_of};
+ghost use Rattle.text_tokens.specs.Tok.{toks};
 ghost use Rattle.river_script.specs.Grammar.{IsScript};
 ghost use Rattle.river_script.specs.Meaning.{IsUnread, at_unit};
 ghost use Rattle.river_script.specs.Reading.{read_steps};
@@ -12,10 +12,10 @@ use crate::step::{Steps, whole_step};
 use river_base::Bytes;
 use std::alloc::Global;
 use text_forms::{ParseFault, Refusal};
-use work_text::{Tokens, Units, lex, units};
+use text_tokens::{Tokens, Units, lex, units};
 
 /// The steps that a text stands for.
-#[tactic(auto, using(crate::proofs::Fronts::reads, work_text::proofs::Counts::counts))]
+#[tactic(auto, using(crate::proofs::Fronts::reads, text_tokens::proofs::Counts::counts))]
 pub(crate) fn read_script(alloc: Global, text: &Bytes) -> Result<Steps, ScriptFault>
     requires { length text.now < 2 ^ 32 }
     ensures read { IfOk result (λ steps. IsScript text.now (step_forms steps)) }
@@ -27,7 +27,7 @@ pub(crate) fn read_script(alloc: Global, text: &Bytes) -> Result<Steps, ScriptFa
 }
 
 // The steps of the tokens of a text.
-#[tactic(auto, using(work_text::proofs::Counts::counts))]
+#[tactic(auto, using(text_tokens::proofs::Counts::counts))]
 fn read_tokens(alloc: Global, tokens: &Tokens<'_>) -> Result<Steps, ScriptFault>
     requires { length tokens.now < 2 ^ 32 }
     ensures { GivesSteps result (read_steps 1 [] (units_of (toks tokens.now))) }

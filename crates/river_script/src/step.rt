@@ -2,13 +2,13 @@
 ghost use Rattle.std.specs.Prelude.{◌≡◌};
 ghost use Rattle.text_forms.specs.Gives.{Gives};
 ghost use Rattle.text_forms.specs.Texts.{whole};
-ghost use Rattle.work_text.specs.Tok.{tokens_of};
+ghost use Rattle.text_tokens.specs.Tok.{tokens_of};
 ghost use Rattle.river_script.specs.Steps.{MakesStep, step_form};
 ghost use Rattle.river_script.specs.Reading.{step_name_at, named_at, counted_at, step_after, step_at};
 
 use river_base::{Listed, Name};
 use text_forms::{ParseFault, Reader};
-use work_text::{Lexeme, Symbol};
+use text_tokens::{Lexeme, Symbol};
 
 /// A step of a script.
 #[derive(Clone, Copy)]

@@ -1,8 +1,8 @@
 -- The steps by which code reads kernels in braces.
 use Rattle.std.proofs.Common.{◌≡◌, ℕ, zero, suc, ◌-◌, List, [], ◌∷◌, None, refl, sym, ap}
 use Rattle.river_base.proofs.Tests.{less-one}
-use Rattle.work_text.specs.Tok.{Tok}
-use Rattle.work_text.specs.declared.sign.Symbol.TheVariants as s
+use Rattle.text_tokens.specs.Tok.{Tok}
+use Rattle.text_tokens.specs.declared.sign.Symbol.TheVariants as s
 use Rattle.text_forms.specs.Parse as parse
 use Rattle.river_text.specs.ReadKernels.{braced_at, kernel_at, kernel_after}
 

@@ -1,11 +1,11 @@
 -- What a River text means is what it has in the grammar, and what the front answers.
 use Rattle.std.proofs.Common.{◌≡◌, ℕ, List, Option, Some, None, Result, Ok, Err, refl, sym, ap, ◌∙◌, subst}
-use Rattle.work_text.specs.Cut.{units_of}
-use Rattle.work_text.specs.Lexis.{tokens_in}
-use Rattle.work_text.specs.Tok.{Mark, toks}
-use Rattle.work_text.specs.declared.fault.LexFault.{LexFault}
-use Rattle.work_text.specs.declared.fault.LexFault.TheVariants as lex
-use Rattle.work_text.proofs.Slices.{no_want}
+use Rattle.text_tokens.specs.Cut.{units_of}
+use Rattle.text_tokens.specs.Lexis.{tokens_in}
+use Rattle.text_tokens.specs.Tok.{Mark, toks}
+use Rattle.text_tokens.specs.declared.fault.LexFault.{LexFault}
+use Rattle.text_tokens.specs.declared.fault.LexFault.TheVariants as lex
+use Rattle.text_tokens.proofs.Slices.{no_want}
 use Rattle.river_plan.specs.Forms.{PlanForm}
 use Rattle.river_plan.specs.Told.{fault_of, first_fault_found, IsTold}
 use Rattle.river_plan.specs.Valid.{FirstFault, IsPlan}

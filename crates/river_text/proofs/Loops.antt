@@ -3,8 +3,8 @@ use Rattle.std.proofs.Common.{◌≡◌, ℕ, ◌<◌, ◌≤◌, ◌+◌, List,
 use Rattle.std.specs.Prelude.{map}
 use Rattle.std.specs.Borrow.{Bor}
 use Rattle.std.proofs.lemmas.List.{drop_more, drop_all}
-use Rattle.work_text.specs.Cut.{unit_tokens}
-use Rattle.work_text.specs.declared.token.Lexeme.{Lexeme}
+use Rattle.text_tokens.specs.Cut.{unit_tokens}
+use Rattle.text_tokens.specs.declared.token.Lexeme.{Lexeme}
 use Rattle.text_forms.specs.Texts.{whole}
 use Rattle.river_text.specs.Plans.{EntryForm, TextForm, add_entry, next_place}
 use Rattle.river_text.specs.declared.entry.Place.{Place}

@@ -3,8 +3,8 @@ use Rattle.std.proofs.Common.{◌≡◌, ℕ, ◌<◌, ◌≤◌, ◌+◌, List,
 use Rattle.std.specs.Prelude.{map}
 use Rattle.std.proofs.lemmas.List.{drop_more, drop_all}
 use Rattle.text_forms.proofs.Symbols.{taken-shorter}
-use Rattle.work_text.specs.Tok.{Tok}
-use Rattle.work_text.specs.declared.sign.Symbol.{Symbol}
+use Rattle.text_tokens.specs.Tok.{Tok}
+use Rattle.text_tokens.specs.declared.sign.Symbol.{Symbol}
 use Rattle.text_forms.specs.Parse.{Parse, symbols_at, then_rest, then_parsed, after}
 use Rattle.text_forms.proofs.Many.{comma-stop, comma-bad}
 use Rattle.river_text.specs.declared.port.Port as read

@@ -1,7 +1,7 @@
 -- Reading functions whose parts are grouped in another way.
 use Rattle.std.proofs.Common.{◌≡◌, List, [], ◌∷◌, Bool, true, false, cond, Option, None, Some, refl}
-use Rattle.work_text.specs.Tok.{Tok}
-use Rattle.work_text.specs.declared.sign.Symbol.TheVariants as s
+use Rattle.text_tokens.specs.Tok.{Tok}
+use Rattle.text_tokens.specs.declared.sign.Symbol.TheVariants as s
 use Rattle.text_forms.specs.Parse.{count_at, then_parsed, then_rest, answer_at, both, after, seen, tested}
 use Rattle.river_text.specs.Plans.{brackets, same_vars, made_op}
 use Rattle.river_text.specs.ReadKernels.{two_at, four, braced_at}

@@ -1,9 +1,9 @@
 -- River text as a whole.
 use Rattle.std.proofs.Common.{◌≡◌, ℕ, ◌+◌, List, [], ◌∷◌, Option, Some, None, Result, Ok, Err, refl, sym, ap, ◌∙◌}
-use Rattle.work_text.specs.Cut.{units_of}
-use Rattle.work_text.specs.Lexis.{tokens_in}
-use Rattle.work_text.specs.Tok.{Tok, Mark, toks}
-use Rattle.work_text.specs.declared.fault.LexFault.{LexFault}
+use Rattle.text_tokens.specs.Cut.{units_of}
+use Rattle.text_tokens.specs.Lexis.{tokens_in}
+use Rattle.text_tokens.specs.Tok.{Tok, Mark, toks}
+use Rattle.text_tokens.specs.declared.fault.LexFault.{LexFault}
 use Rattle.text_forms.specs.Texts.{whole, after_unit, put_first, read_units}
 use Rattle.text_forms.proofs.Texts.{all-formed, formed-read, first-bad}
 use Rattle.river_text.specs.Plans.{EntryForm, TextForm, add_entry, add_all, empty_text, first_place, next_place, IsText}

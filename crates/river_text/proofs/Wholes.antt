@@ -1,7 +1,7 @@
 -- The steps by which code reads whole units.
 use Rattle.std.proofs.Common.{◌≡◌, List, [], ◌∷◌, Bool, true, false, cond, Some, None, Result, Ok, Err, refl, sym, ap, ◌∙◌, subst}
 use Rattle.std.specs.Prelude.{◌↔◌}
-use Rattle.work_text.specs.Tok.{Tok}
+use Rattle.text_tokens.specs.Tok.{Tok}
 use Rattle.text_forms.specs.Gives.{Makes}
 use Rattle.text_forms.specs.Texts.{whole, ended}
 use Rattle.text_forms.specs.declared.fault.ParseFault.{ParseFault}

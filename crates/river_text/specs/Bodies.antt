@@ -4,8 +4,8 @@ use Rattle.std.specs.Prelude.{ℕ, List, [], ◌∷◌, Option, None, Some, code
 use Rattle.std.specs.Str.{bytes_eq}
 use Rattle.work_code.specs.Steps.{Step, Steps, Set, Push, If, Done, in_turn}
 use Rattle.work_code.specs.Term.{Term}
-use Rattle.work_text.specs.Tok.{Tok}
-use Rattle.work_text.specs.declared.sign.Symbol.TheVariants as s
+use Rattle.text_tokens.specs.Tok.{Tok}
+use Rattle.text_tokens.specs.declared.sign.Symbol.TheVariants as s
 use Rattle.text_forms.specs.Forms.{Count, Never, Both, After, Before, Seen, Commas, Choose}
 use Rattle.text_forms.specs.Parse.{Parse, count_at, both, after, before, seen, commas, nowhere}
 use Rattle.text_blocks.specs.Parts.{Round, Square, Ended, round_at, square_at, ended_at}

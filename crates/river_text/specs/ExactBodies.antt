@@ -2,7 +2,7 @@
 use Rattle.std.proofs.Common.{ℕ, List, [], ◌∷◌, refl}
 use Rattle.std.specs.Prelude.{codes}
 use Rattle.std.specs.Str.{bytes_eq}
-use Rattle.work_text.specs.declared.sign.Symbol.TheVariants as s
+use Rattle.text_tokens.specs.declared.sign.Symbol.TheVariants as s
 use Rattle.text_forms.specs.Forms as form
 use Rattle.text_forms.specs.Parse as parse
 use Rattle.text_forms.proofs.Exact.{Exact, Any, exact-both, exact-after, exact-before, exact-tested, exact-seen, exact-number}

@@ -2,10 +2,10 @@
 use Rattle.std.specs.Prelude.{◌≡◌, ℕ, suc, true, pos, List, [], ◌∷◌, None, codes, if◌then◌else◌, refl}
 use Rattle.std.specs.Str.{bytes_eq}
 use Rattle.work_code.specs.Term.{Term, Const, Input, Slot, Neg, Not, Bin, depth_of}
-use Rattle.work_text.specs.Tok.{Tok}
-use Rattle.work_text.specs.Tok as tok
+use Rattle.text_tokens.specs.Tok.{Tok}
+use Rattle.text_tokens.specs.Tok as tok
 use Rattle.work_code.specs.declared.expr.BinOp.{BinOp}
-use Rattle.work_text.specs.declared.sign.Symbol.TheVariants as s
+use Rattle.text_tokens.specs.declared.sign.Symbol.TheVariants as s
 use Rattle.text_forms.specs.Deep.{IsDeeper}
 use Rattle.text_forms.specs.Levels.{Syntax}
 use Rattle.text_forms.specs.Parse.{Parse, is_count, is_value, count_at, value_at, seen}

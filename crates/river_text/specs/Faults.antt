@@ -1,8 +1,8 @@
 -- What a refusal of River text says.
 use Rattle.std.specs.Prelude.{◌≡◌, ℕ, List, Result, Ok, Err}
-use Rattle.work_text.specs.Lexis.{tokens_in}
-use Rattle.work_text.specs.declared.fault.LexFault.{LexFault}
-use Rattle.work_text.specs.declared.fault.LexFault.TheVariants as lexical
+use Rattle.text_tokens.specs.Lexis.{tokens_in}
+use Rattle.text_tokens.specs.declared.fault.LexFault.{LexFault}
+use Rattle.text_tokens.specs.declared.fault.LexFault.TheVariants as lexical
 use Rattle.river_text.specs.Entries.{text_form}
 use Rattle.river_text.specs.declared.entry.RiverText.{RiverText}
 use Rattle.river_text.specs.declared.fault.TextFault.{TextFault}

@@ -1,9 +1,9 @@
 -- The grammar of kernels in River text. `n` is how many more brackets may be open.
 use Rattle.std.specs.Prelude.{ℕ, zero, suc, ℤ, pos, negsuc, neg_ℤ, List, [], ◌∷◌, Option, codes}
 use Rattle.std.specs.Str.{bytes_eq}
-use Rattle.work_text.specs.Tok.{Tok}
+use Rattle.text_tokens.specs.Tok.{Tok}
 use Rattle.work_code.specs.Steps.{Steps}
-use Rattle.work_text.specs.declared.sign.Symbol.TheVariants as s
+use Rattle.text_tokens.specs.declared.sign.Symbol.TheVariants as s
 use Rattle.kern_bags.specs.declared.kernel.Window.TheVariants.{Now, Range, Unbounded, Latest}
 use Rattle.kern_bags.specs.declared.kernel.Streamer.TheVariants.{Istream, Dstream, Rstream}
 use Rattle.kern_rows.specs.Forms.{RunForm}

@@ -1,9 +1,9 @@
 -- Laws of River text, over the definitions alone.
 use Rattle.std.specs.Prelude.{◌≡◌, ◌↔◌, ℕ, List, Result, Ok, Err, Some}
-use Rattle.work_text.specs.Cut.{units_of}
-use Rattle.work_text.specs.Lexis.{tokens_in}
-use Rattle.work_text.specs.Tok.{Mark, toks}
-use Rattle.work_text.specs.declared.fault.LexFault.TheVariants as lex
+use Rattle.text_tokens.specs.Cut.{units_of}
+use Rattle.text_tokens.specs.Lexis.{tokens_in}
+use Rattle.text_tokens.specs.Tok.{Mark, toks}
+use Rattle.text_tokens.specs.declared.fault.LexFault.TheVariants as lex
 use Rattle.river_plan.specs.Caps.{AreCaps}
 use Rattle.river_plan.specs.Valid.{IsPlan, FirstFault}
 use Rattle.text_forms.specs.Texts.{IsFirstBad}

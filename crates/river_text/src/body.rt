@@ -12,7 +12,7 @@ use std::alloc::Global;
 use text_blocks::{Blocks, Opening, ended, place, round};
 use text_forms::{ParseFault, Reader, closed, is};
 use work_code::{Body, Expr, Stmt, Stmts};
-use work_text::Symbol;
+use text_tokens::Symbol;
 
 // What stands behind `slot`.
 #[tactic(auto, unfolding(crate::specs::Bodies::set_at))]

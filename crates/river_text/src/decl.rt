@@ -9,7 +9,7 @@ use kern_tables::TableKind;
 use river_base::{FlatType, Name, QueueType};
 use river_plan::{Decl, TableDecl};
 use text_forms::{ParseFault, Reader, closed, is, kept};
-use work_text::Symbol;
+use text_tokens::Symbol;
 
 /// How many brackets may be open in a unit.
 pub const BRACKETS: u32 = 128;

@@ -2,7 +2,7 @@
 ghost use Rattle.std.specs.Prelude.{◌≡◌, ◌↔◌, [], true, IsTrue, OnOk};
 ghost use Rattle.text_forms.specs.Gives.{Gives};
 ghost use Rattle.text_forms.specs.Texts.{whole};
-ghost use Rattle.work_text.specs.Tok.{tokens_of};
+ghost use Rattle.text_tokens.specs.Tok.{tokens_of};
 ghost use Rattle.river_text.specs.Plans.{add_entry, cap_stands, inner, may_stand, entry_cap, next_place, stage_of};
 ghost use Rattle.river_text.specs.ReadPlans.{other_after, unit_at, unit_from};
 ghost use Rattle.river_text.specs.Entries.{entry_form, text_form};
@@ -14,7 +14,7 @@ use river_base::{Name, NoMemory};
 use river_plan::{Cap, Caps, Decl, Op, RawPlan, TableDecl};
 use std::alloc::Global;
 use text_forms::{ParseFault, Reader, is, kept};
-use work_text::Lexeme;
+use text_tokens::Lexeme;
 
 /// What a unit says: that the text is of version 2, or what is added to a plan.
 #[derive(Drop)]

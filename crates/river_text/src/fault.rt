@@ -4,7 +4,7 @@ ghost use Rattle.river_text.specs.Faults.{text_from_lexer};
 ghost use Rattle.river_text.specs.declared.fault.TextFault.TheVariants as fault;
 
 use river_base::NoMemory;
-use work_text::LexFault;
+use text_tokens::LexFault;
 
 /// Why a text stands for no plan.
 #[derive(Clone, Copy)]

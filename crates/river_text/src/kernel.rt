@@ -18,7 +18,7 @@ use std::alloc::Global;
 use text_blocks::round;
 use text_forms::{ParseFault, Reader, closed, is};
 use work_code::{Body, Code};
-use work_text::Symbol;
+use text_tokens::Symbol;
 
 // What stands behind `code`.
 #[tactic(auto, unfolding(crate::specs::ReadKernels::code_at))]

@@ -2,14 +2,14 @@
 ghost use Rattle.std.specs.Prelude.{◌≡◌, ◌++◌, [], ◌∷◌};
 ghost use Rattle.text_forms.specs.Gives.{Gives};
 ghost use Rattle.text_forms.specs.Parse.{commas, listing, seen};
-ghost use Rattle.work_text.specs.declared.sign.Symbol.TheVariants as s;
+ghost use Rattle.text_tokens.specs.declared.sign.Symbol.TheVariants as s;
 ghost use Rattle.river_text.specs.ReadKernels.{kind_number_at, signed_at, width_at, round, starts_at};
 ghost use Rattle.river_text.specs.ReadKernels.{widths_at, weights_at, number_at, two_at, pair_at, three_at, triple_at, rates_at};
 
 use river_base::Numbers;
 use std::alloc::Global;
 use text_forms::{ParseFault, Reader, closed};
-use work_text::Symbol;
+use text_tokens::Symbol;
 
 /// What a number in a list is.
 #[derive(Clone, Copy)]

@@ -1,6 +1,6 @@
 // Operators read.
 ghost use Rattle.std.specs.Prelude.{◌≡◌, [], ◌∷◌};
-ghost use Rattle.work_text.specs.declared.sign.Symbol.TheVariants as s;
+ghost use Rattle.text_tokens.specs.declared.sign.Symbol.TheVariants as s;
 ghost use Rattle.text_forms.specs.Gives.{Gives, Makes};
 ghost use Rattle.text_forms.specs.Parse.{after};
 ghost use Rattle.river_kernels.specs.Kern.{kern_of};
@@ -16,7 +16,7 @@ use river_kernels::Kernel;
 use river_plan::Op;
 use std::alloc::Global;
 use text_forms::{ParseFault, Reader, kept};
-use work_text::Symbol;
+use text_tokens::Symbol;
 
 /// An operator, behind its first word.
 #[tactic(auto, unfolding(crate::specs::ReadPlans::op_at))]

@@ -11,7 +11,7 @@ use river_base::{Listed, Name};
 use river_plan::Names;
 use std::alloc::Global;
 use text_forms::{ParseFault, Reader, closed};
-use work_text::{Symbol, Token};
+use text_tokens::{Symbol, Token};
 
 /// A queue or a variable.
 #[derive(Clone, Copy)]

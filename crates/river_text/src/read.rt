@@ -1,7 +1,7 @@
 // From a text to the lists of a plan.
 ghost use Rattle.std.specs.Prelude.{◌≡◌, ◌<◌, ◌^◌, length, map, IfOk, IfErr};
-ghost use Rattle.work_text.specs.Cut.{units_of, unit_tokens};
-ghost use Rattle.work_text.specs.Tok.{toks, mark_of};
+ghost use Rattle.text_tokens.specs.Cut.{units_of, unit_tokens};
+ghost use Rattle.text_tokens.specs.Tok.{toks, mark_of};
 ghost use Rattle.river_text.specs.Entries.{text_form};
 ghost use Rattle.river_text.specs.Plans.{IsText, empty_text, first_place, is_second_short};
 ghost use Rattle.river_text.specs.ReadPlans.{read_plan};
@@ -13,7 +13,7 @@ use river_base::Bytes;
 use river_plan::{Caps, RawPlan};
 use std::alloc::Global;
 use text_forms::ParseFault;
-use work_text::{Lexeme, Tokens, Units, lex, units};
+use text_tokens::{Lexeme, Tokens, Units, lex, units};
 
 /// The lists of the plan that a text stands for (the River language of Soulé and others, DEBS 2012), and
 /// the capacities of its queues, an entry for each `cap`, in order.
@@ -22,7 +22,7 @@ use work_text::{Lexeme, Tokens, Units, lex, units};
 ///
 /// `Lex` where the text has a fault in its bytes; otherwise `Syntax` with the first unit, from 1, that is not in the
 /// grammar; `NoMemory` where there is no memory.
-#[tactic(auto, using(crate::proofs::Texts::texts, work_text::proofs::Counts::counts))]
+#[tactic(auto, using(crate::proofs::Texts::texts, text_tokens::proofs::Counts::counts))]
 pub fn read_river(alloc: Global, text: &Bytes) -> Result<RiverText, TextFault>
     requires { length text.now < 2 ^ 32 }
     ensures read { IfOk result (λ read. IsText text.now (text_form read)) }
@@ -33,7 +33,7 @@ pub fn read_river(alloc: Global, text: &Bytes) -> Result<RiverText, TextFault>
 }
 
 // What the tokens of a text stand for.
-#[tactic(auto, using(work_text::proofs::Counts::counts))]
+#[tactic(auto, using(text_tokens::proofs::Counts::counts))]
 fn read_tokens(alloc: Global, tokens: &Tokens<'_>) -> Result<RiverText, TextFault>
     requires { length tokens.now < 2 ^ 32 }
     ensures { GivesPlan result (read_plan (first_place tokens.now) 1 empty_text (units_of (toks tokens.now))) }

@@ -9,7 +9,7 @@ use river_base::{Bytes, NoMemory};
 use river_plan::{Limit, Named, PlanFault};
 use std::alloc::Global;
 use text_forms::{Refusal, Told};
-use work_text::LexFault;
+use text_tokens::LexFault;
 
 /// Why a River text has no plan.
 #[derive(Clone, Copy)]
@@ -79,7 +79,7 @@ fn put_fault(alloc: Global, fault: PlanFault, to: &mut Bytes) -> Result<(), NoMe
 }
 
 // Appends the name of a fault and the name at fault.
-#[tactic(auto, using(work_text::proofs::Joined::joins))]
+#[tactic(auto, using(text_tokens::proofs::Joined::joins))]
 fn put_named(fault: &[u8], name: Named, to: &mut Bytes) -> Result<(), NoMemory>
     ensures { OnOk result (to.new ≡ to.old ++ (fault.now ++ name_words name)) }
 {
@@ -88,7 +88,7 @@ fn put_named(fault: &[u8], name: Named, to: &mut Bytes) -> Result<(), NoMemory>
 }
 
 // Appends a name; that of a variable has its dollar sign.
-#[tactic(auto, using(work_text::proofs::Joined::joins))]
+#[tactic(auto, using(text_tokens::proofs::Joined::joins))]
 fn put_name(name: Named, to: &mut Bytes) -> Result<(), NoMemory>
     ensures { OnOk result (to.new ≡ to.old ++ name_words name) }
 {
@@ -102,7 +102,7 @@ fn put_name(name: Named, to: &mut Bytes) -> Result<(), NoMemory>
 }
 
 // Appends a limit and the number that exceeds it.
-#[tactic(auto, using(work_text::proofs::Joined::joins))]
+#[tactic(auto, using(text_tokens::proofs::Joined::joins))]
 fn put_limit(alloc: Global, limit: Limit, number: u128, to: &mut Bytes) -> Result<(), NoMemory>
     ensures { OnOk result (to.new ≡ to.old ++ (codes "P8 " ++ (limit_word limit ++ (codes " " ++ decimal number)))) }
 {

@@ -10,7 +10,7 @@ use std::alloc::Global;
 use text_blocks::{Sign, Terms, place, take_sign, term};
 use text_forms::{ParseFault, Reader, closed, is};
 use work_code::{BinOp, Expr, Exprs};
-use work_text::{Symbol, Token};
+use text_tokens::{Symbol, Token};
 
 // A number as it is written.
 #[tactic(auto, unfolding(crate::specs::Expressions::constant_at))]

@@ -9,8 +9,8 @@ use Rattle.csv_streams.specs.declared.fault.InFault.{InFault}
 use Rattle.csv_streams.proofs.WrittenRows.{written_rows-read}
 use Rattle.river_base.proofs.Tests.{lt_false}
 use Rattle.river_outside.specs.Held.{Held}
-use Rattle.river_order.specs.Order.{Order, Ends, Fetch, Verdict, Done, Refused, end_of, verdict}
-use Rattle.river_order.specs.Passes.{past}
+use Rattle.river_outside.specs.Order.{Order, Ends, Fetch, Verdict, Done, Refused, end_of, verdict}
+use Rattle.river_outside.specs.Passes.{past}
 use Rattle.saw_model.specs.Meaning.{width}
 use Rattle.saw_front.specs.Meaning.{Accepted, program_in, compiled}
 use Rattle.saw_front.proofs.Fronts.{means_what_it_has}

@@ -11,9 +11,9 @@ use Rattle.csv_streams.specs.Outcome.{tables_text}
 use Rattle.csv_streams.specs.Rows.{rows_of_file}
 use Rattle.csv_streams.specs.declared.fault.InFault.{InFault}
 use Rattle.river_outside.specs.Held.{Held}
-use Rattle.river_order.specs.Order.{IsVerdict, Order, Ends, Done, verdict}
-use Rattle.river_order.specs.Passes.{past}
-use Rattle.river_order.proofs.Told.{verdict-told}
+use Rattle.river_outside.specs.Order.{IsVerdict, Order, Ends, Done, verdict}
+use Rattle.river_outside.specs.Passes.{past}
+use Rattle.river_outside.proofs.Told.{verdict-told}
 use Rattle.river_kernels.specs.Fits.{rows}
 use Rattle.river_plan.specs.declared.plan.Decl.{Decl}
 use Rattle.river_plan.specs.Forms.{PlanForm, table_names}

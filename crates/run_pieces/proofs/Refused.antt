@@ -7,8 +7,8 @@ use Rattle.csv_cuts.specs.Faults.{header_behind}
 use Rattle.csv_streams.specs.Rows.{rows_of_file}
 use Rattle.csv_streams.specs.declared.fault.InFault.{InFault}
 use Rattle.river_outside.specs.Held.{Held}
-use Rattle.river_order.specs.Order.{IsVerdict, Verdict, Usage, Refused, Unread, Done, verdict}
-use Rattle.river_order.proofs.Told.{verdict-told}
+use Rattle.river_outside.specs.Order.{IsVerdict, Verdict, Usage, Refused, Unread, Done, verdict}
+use Rattle.river_outside.proofs.Told.{verdict-told}
 use Rattle.saw_model.specs.Meaning.{width}
 use Rattle.saw_front.specs.Meaning.{program_in}
 use Rattle.saw_front.proofs.Fronts.{means_what_it_has}

@@ -7,7 +7,7 @@ use Rattle.command_line.specs.declared.command.Lang.TheVariants.{Sawzall}
 use Rattle.command_line.specs.declared.command.RunBy.{RunBy}
 use Rattle.command_line.specs.declared.command.RunWords.{RunWords}
 use Rattle.river_outside.specs.Held.{Held}
-use Rattle.river_order.specs.Order.{verdict, Done}
+use Rattle.river_outside.specs.Order.{verdict, Done}
 use Rattle.river_road.specs.Limits.{most_program, most_input}
 use Rattle.river_pieces.specs.Whole.{Prints}
 use Rattle.river_cli.specs.Answer.{WroteEnd}

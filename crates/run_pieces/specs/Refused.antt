@@ -5,7 +5,7 @@ use Rattle.csv_cuts.specs.Faults.{IsOfRecord, moved, records_of, header_behind}
 use Rattle.csv_streams.specs.FaultWords.{in_words}
 use Rattle.csv_streams.specs.declared.fault.InFault.{InFault}
 use Rattle.river_outside.specs.Held.{Held}
-use Rattle.river_order.specs.Order.{verdict, Refused}
+use Rattle.river_outside.specs.Order.{verdict, Refused}
 use Rattle.river_road.specs.Limits.{most_program, most_input}
 use Rattle.river_road.specs.Text.{input_refused}
 use Rattle.saw_front.specs.Meaning.{Accepted, compiled}

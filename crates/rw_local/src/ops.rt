@@ -8,7 +8,7 @@ ghost use Rattle.plan_edits.specs.Lists.{first_with, replaced};
 ghost use Rattle.rw_local.specs.Fuse.{fused_op, is_large};
 
 use crate::names::{contains, joined, place, spliced};
-use kernel_check::nesting;
+use kern_check::nesting;
 use river_base::{Duplicate, Name, NoMemory};
 use river_plan::{Kernel, Op, Ops};
 use std::alloc::Global;

@@ -1,12 +1,12 @@
 -- What a text of Sawzall means is what it has in the grammar, and what the front answers.
 use Rattle.std.proofs.Common.{◌≡◌, ℕ, List, Option, Some, None, Result, Ok, Err, refl, sym, ap, ◌∙◌, subst}
-use Rattle.work_text.specs.Cut.{units_of as cut_units}
-use Rattle.work_text.specs.Lexis.{tokens_in}
+use Rattle.text_tokens.specs.Cut.{units_of as cut_units}
+use Rattle.text_tokens.specs.Lexis.{tokens_in}
 use Rattle.work_code.specs.Steps.{Steps}
-use Rattle.work_text.specs.Tok.{Mark, toks}
-use Rattle.work_text.specs.declared.fault.LexFault.{LexFault}
-use Rattle.work_text.specs.declared.fault.LexFault.TheVariants as lex
-use Rattle.work_text.proofs.Slices.{no_want}
+use Rattle.text_tokens.specs.Tok.{Mark, toks}
+use Rattle.text_tokens.specs.declared.fault.LexFault.{LexFault}
+use Rattle.text_tokens.specs.declared.fault.LexFault.TheVariants as lex
+use Rattle.text_tokens.proofs.Slices.{no_want}
 use Rattle.text_forms.specs.Refusals.{of_lexer}
 use Rattle.text_forms.specs.declared.refusal.Refusal.TheVariants.{BadByte, BigNumber, Syntax}
 use Rattle.river_plan.specs.Forms.{PlanForm, plan_form}
@@ -37,8 +37,8 @@ use Rattle.saw_front.specs.declared.fault.SawFault.{SawFault}
 use Rattle.saw_front.specs.declared.fault.SawFault.TheVariants.{Text, UnknownName, NameTwice, Shape, Limit, NoMemory}
 use Rattle.saw_front.specs.Laws.{HasFault, Has, MeansWhatItHas, PlansMean}
 use Rattle.saw_front.specs.Meaning.{Accepted, program_in, fault_at, or_fault, accepted, then_judged, of_tokens, then_read, compiled, Plans, Refused}
-use Rattle.saw_build.specs.Building.{PlansBy}
-use Rattle.saw_build.specs.Valued.{AreValuedUnits}
+use Rattle.saw_front.specs.Building.{PlansBy}
+use Rattle.saw_front.specs.Valued.{AreValuedUnits}
 use Rattle.saw_front.proofs.Readable.{units-fine}
 
 abbrev read_of : List Mark → Result (List UnitForm) ℕ

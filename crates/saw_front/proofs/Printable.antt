@@ -4,11 +4,11 @@ use Rattle.std.proofs.Common.{◌≡◌, ℕ, suc, ◌≤◌, List, [], ◌∷�
 use Rattle.std.specs.Prelude.{max, codes, map, nat_eq, nat_lt, nat_le, length}
 use Rattle.std.specs.List.{AllByRecursion}
 use Rattle.std.specs.Str.{bytes_eq}
-use Rattle.work_text.specs.Cut.{units_of as cut_units}
+use Rattle.text_tokens.specs.Cut.{units_of as cut_units}
 use Rattle.work_code.specs.Steps.{Steps, Done, both_steps, one_step}
 use Rattle.work_code.specs.Steps as steps
 use Rattle.work_code.specs.Term.{Term}
-use Rattle.work_text.specs.Tok.{Tok, toks}
+use Rattle.text_tokens.specs.Tok.{Tok, toks}
 use Rattle.saw_text.specs.Tree.{Expression}
 use Rattle.kern_tables.specs.declared.kind.TableKind.{TableKind}
 use Rattle.river_plan.specs.declared.plan.TableDecl.{TableDecl}

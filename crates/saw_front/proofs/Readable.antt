@@ -7,8 +7,8 @@ use Rattle.std.specs.List.{AllByRecursion}
 use Rattle.std.specs.Str.{bytes_eq}
 use Rattle.river_base.proofs.Tests.{le_by}
 use Rattle.river_base.specs.Name.{is_name}
-use Rattle.work_text.specs.Tok.{Tok}
-use Rattle.work_text.specs.declared.sign.Symbol.TheVariants as s
+use Rattle.text_tokens.specs.Tok.{Tok}
+use Rattle.text_tokens.specs.declared.sign.Symbol.TheVariants as s
 use Rattle.text_forms.specs.Forms as form
 use Rattle.text_forms.specs.Parse.{is_value}
 use Rattle.saw_text.specs.Tree.{Expression}
@@ -28,7 +28,7 @@ use Rattle.saw_text.specs.Expressions.{syntax, marked, IsLeaf, IsExpression}
 use Rattle.saw_text.specs.Expressions as rule
 use Rattle.saw_text.specs.Words.{is_plain, is_user}
 use Rattle.saw_text.specs.Grammar.{TypedAfter, UnitNamed, IsUnit, AreUnits}
-use Rattle.saw_build.specs.Valued.{AreValues, AllValues, IsValued, AreValued, IsValuedUnit, AreValuedUnits}
+use Rattle.saw_front.specs.Valued.{AreValues, AllValues, IsValued, AreValued, IsValuedUnit, AreValuedUnits}
 
 -- ---- EXPRESSIONS
 

@@ -8,19 +8,19 @@ ghost use Rattle.saw_model.specs.Judged as model;
 ghost use Rattle.saw_model.specs.Shallow.{AreShallowUnits};
 ghost use Rattle.saw_text.specs.Faults.{StandFor};
 ghost use Rattle.saw_text.specs.Tree.{UnitForm, unit_forms};
-ghost use Rattle.saw_build.specs.Judging.{Told};
+ghost use Rattle.saw_front.specs.Judging.{Told};
 ghost use Rattle.saw_front.specs.Meaning.{accepted, or_fault, of_tokens, compiled, Plans, Refused};
-ghost use Rattle.saw_build.specs.Valued.{AreValuedUnits};
+ghost use Rattle.saw_front.specs.Valued.{AreValuedUnits};
 
 use crate::{SawFault, SawProgram};
 use plan_check::check;
 use river_base::{Bytes, NoMemory};
 use river_plan::{Plan, PlanFault, RawPlan};
-use saw_build::{Fault, Refusal, raw_plan};
+use crate::{Fault, Refusal, raw_plan};
 use saw_text::{Unit, read_sawzall};
 use std::alloc::Global;
 use text_forms::{Refusal as TextRefusal, UnitFault};
-use work_text::{LexFault, Tokens, lex};
+use text_tokens::{LexFault, Tokens, lex};
 
 /// The program of a text, and its plan.
 ///
@@ -29,7 +29,7 @@ use work_text::{LexFault, Tokens, lex};
 /// `Text` with the first fault of the bytes where they have no tokens; otherwise with `Syntax` and the first unit, from
 /// 1, that is not in the grammar; otherwise the first fault of the program in the order in which it is read, with its
 /// unit; `NoMemory` where there is no memory.
-#[tactic(auto, unfolding(crate::specs::Meaning::compiled), using(work_text::proofs::Counts::counts))]
+#[tactic(auto, unfolding(crate::specs::Meaning::compiled), using(text_tokens::proofs::Counts::counts))]
 pub fn compile_sawzall(alloc: Global, text: &Bytes) -> Result<(SawProgram, Plan), SawFault>
     requires { length text.now < 2 ^ 32 }
     ensures plan { IfOk result (λ made. Plans (compiled text.now) (unit_forms made.0.units.items) made.1) }

@@ -2,8 +2,8 @@
 -- `n` is how many more brackets may be open.
 use Rattle.std.specs.Prelude.{ℕ, Bool, not, List, [], ◌∷◌, Option, None, codes, if◌then◌else◌}
 use Rattle.std.specs.Str.{bytes_eq}
-use Rattle.work_text.specs.Tok.{Tok}
-use Rattle.work_text.specs.declared.sign.Symbol.TheVariants as s
+use Rattle.text_tokens.specs.Tok.{Tok}
+use Rattle.text_tokens.specs.declared.sign.Symbol.TheVariants as s
 use Rattle.text_forms.specs.Forms.{NameToken, Never, Both, After, Before, AfterWord, Tested, Seen, Merged, Maybe, Many, Choose}
 use Rattle.text_forms.specs.Parse.{Parse, begins_with, is_word_at, name_at, both, after, before, after_word, tested, seen, merged, maybe, many, nowhere}
 use Rattle.text_blocks.specs.Statements.{Style, Holes}

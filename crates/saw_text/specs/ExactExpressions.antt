@@ -3,8 +3,8 @@ use Rattle.std.proofs.Common.{◌≡◌, ℕ, zero, suc, List, [], ◌∷◌, �
 use Rattle.std.specs.Prelude.{codes}
 use Rattle.std.specs.Str.{bytes_eq}
 use Rattle.std.proofs.lemmas.Slice.Eq.{bytes_eq-Decides}
-use Rattle.work_text.specs.Tok.{Tok, name, var, number, symbol}
-use Rattle.work_text.specs.declared.sign.Symbol.TheVariants as s
+use Rattle.text_tokens.specs.Tok.{Tok, name, var, number, symbol}
+use Rattle.text_tokens.specs.declared.sign.Symbol.TheVariants as s
 use Rattle.text_forms.specs.Parse as parse
 use Rattle.text_forms.specs.Forms as form
 use Rattle.text_forms.proofs.Exact.{Exact, Front, Any, exact-seen}

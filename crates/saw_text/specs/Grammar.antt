@@ -2,10 +2,10 @@
 -- `collection` and `maximum`). `n` is how many more brackets may be open.
 use Rattle.std.specs.Prelude.{◌≡◌, ℕ, Bool, true, false, not, List, [], ◌∷◌, Option, Some, None, Ok, codes, is_some, if◌then◌else◌}
 use Rattle.std.specs.Str.{bytes_eq}
-use Rattle.work_text.specs.Cut.{units_of}
-use Rattle.work_text.specs.Lexis.{tokens_in}
-use Rattle.work_text.specs.Tok.{Tok, Mark, toks}
-use Rattle.work_text.specs.declared.sign.Symbol.TheVariants as s
+use Rattle.text_tokens.specs.Cut.{units_of}
+use Rattle.text_tokens.specs.Lexis.{tokens_in}
+use Rattle.text_tokens.specs.Tok.{Tok, Mark, toks}
+use Rattle.text_tokens.specs.declared.sign.Symbol.TheVariants as s
 use Rattle.text_forms.specs.Texts.{AllFormed}
 use Rattle.text_forms.specs.Forms.{Nothing, Never, Both, After, Before, AfterWord, Tested, Seen, Merged, Maybe, Many, Choose, Headed, Count}
 use Rattle.saw_text.specs.declared.tree.Kind.{Kind}

@@ -1,8 +1,8 @@
 -- How programs are read: the grammar in the words of reading functions.
 use Rattle.std.specs.Prelude.{ℕ, List, [], ◌∷◌, Option, None, Result, codes, if◌then◌else◌}
 use Rattle.std.specs.Str.{bytes_eq}
-use Rattle.work_text.specs.Tok.{Tok}
-use Rattle.work_text.specs.declared.sign.Symbol.TheVariants as s
+use Rattle.text_tokens.specs.Tok.{Tok}
+use Rattle.text_tokens.specs.declared.sign.Symbol.TheVariants as s
 use Rattle.text_forms.specs.Texts.{read_units}
 use Rattle.text_forms.specs.Parse.{Parse, begins_with, is_word_at, count_at, nothing_at, both, after, before, after_word, tested, seen, merged, maybe}
 use Rattle.text_forms.specs.Parse.{many, headed}

@@ -13,7 +13,7 @@ use river_base::{Name, NoMemory};
 use std::alloc::Global;
 use text_blocks::{Blocks, Opening, ended, first_value, round, square, term};
 use text_forms::{ParseFault, Reader, closed, is};
-use work_text::Symbol;
+use text_tokens::Symbol;
 
 /// What stands behind `NAME: int`.
 #[tactic(auto, unfolding(crate::specs::Blocks::declare_at), using(crate::proofs::Trees::trees))]

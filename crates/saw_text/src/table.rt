@@ -10,7 +10,7 @@ use crate::{Field, Kind, Table};
 use river_base::Name;
 use std::alloc::Global;
 use text_forms::{ParseFault, Reader, closed, is};
-use work_text::Symbol;
+use text_tokens::Symbol;
 
 // What stands behind the name of a field.
 #[tactic(auto, unfolding(crate::specs::Reading::named_field_at))]

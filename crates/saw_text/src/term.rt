@@ -11,7 +11,7 @@ use std::alloc::Global;
 use text_blocks::{Sign, Terms, place, take_sign};
 use text_forms::{ParseFault, Reader, is};
 use work_code::BinOp;
-use work_text::Token;
+use text_tokens::Token;
 
 // A leaf that begins with this name.
 #[tactic(auto, unfolding(crate::specs::Expressions::named))]

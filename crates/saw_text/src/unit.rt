@@ -13,7 +13,7 @@ use river_base::Name;
 use std::alloc::Global;
 use text_blocks::rest;
 use text_forms::{ParseFault, Reader, Units, is};
-use work_text::Symbol;
+use text_tokens::Symbol;
 
 // What stands behind `NAME:`.
 #[tactic(auto, unfolding(crate::specs::Reading::typed_at, crate::specs::Reading::typed_after))]

@@ -1,7 +1,7 @@
 -- The program of a text that is not refused has what its meaning asks for.
 use Rattle.std.proofs.Common.{Ok, List, [], ◌∷◌}
-use Rattle.work_text.specs.Cut.{units_of}
-use Rattle.work_text.specs.Tok.{toks}
+use Rattle.text_tokens.specs.Cut.{units_of}
+use Rattle.text_tokens.specs.Tok.{toks}
 use Rattle.cql_model.specs.Plannable.{AreQueries}
 use Rattle.cql_text.specs.Tree.{Register, AQuery, Program}
 use Rattle.cql_model.specs.Scopes.{Named}

@@ -26,7 +26,7 @@ use Rattle.saw_model.proofs.Elaborated.{fine, ok_parts, if_both, ArePorts, one_m
 use Rattle.saw_model.proofs.Fed.{AreOnce, one_place}
 use Rattle.saw_model.proofs.Parts.{parts_read, reads_parts, tabled_parts, split_parts, tables_once, ports_new}
 use Rattle.saw_model.proofs.Statements.{second_at, Sent, sent_parts, forked_parts, followed_parts, grows}
-use Rattle.saw_build.specs.Valued.{IsValued, AreValued, AreValuedOptional, AreValuedUnits}
+use Rattle.saw_front.specs.Valued.{IsValued, AreValued, AreValuedOptional, AreValuedUnits}
 use Rattle.slow_sawzall.specs.Sawzall.{IsAccepted, IsRunnable, AreRunnable, AreRunnableOptional, AreRunnableParts, AreAllWide, AreWideFor}
 use Rattle.slow_sawzall.proofs.Runs.{evals_many}
 

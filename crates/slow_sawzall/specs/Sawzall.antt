@@ -11,7 +11,7 @@ use Rattle.saw_model.specs.Meaning.{tables_in, Store, Emitted, State, listed, ta
 use Rattle.saw_model.specs.Meaning.{emit_row, exec, rows_for}
 use Rattle.saw_model.specs.Elaborate.{At}
 use Rattle.saw_model.specs.Judged.{judged}
-use Rattle.saw_build.specs.Valued.{AreValues, AllValues}
+use Rattle.saw_front.specs.Valued.{AreValues, AllValues}
 use Rattle.slow_sawzall.specs.declared.run.Run.{Run}
 
 -- the program has no fault

@@ -4,7 +4,7 @@ ghost use Rattle.kern_tables.specs.Tables.{tab, table_width};
 ghost use Rattle.kern_tables.specs.Kept.{kept_of, rows_of, width_of_table, kind_of_table as kind_kept};
 ghost use Rattle.saw_model.specs.Meaning.{table_kind_of, rows_for, program_tables};
 ghost use Rattle.saw_text.specs.Tree.{unit_form, unit_forms};
-ghost use Rattle.saw_build.specs.Valued.{AreValuedUnits};
+ghost use Rattle.saw_front.specs.Valued.{AreValuedUnits};
 ghost use Rattle.slow_sawzall.specs.Sawzall.{IsAccepted, tables_for, AreAllWide, IsWideFor, AreWideFor};
 
 use crate::run::Run;

@@ -4,7 +4,7 @@ ghost use Rattle.saw_text.specs.Tree.{Declare, Assign, Emit};
 ghost use Rattle.saw_model.specs.Meaning.{eval_all, emit_row, listed, exec, exec_block, exec_optional, exec_units, emits};
 ghost use Rattle.saw_text.specs.Tree.{expression, option_expression, statement, block, or_unwritten, unit_form, unit_forms};
 ghost use Rattle.saw_text.specs.View.{expressions, option_block};
-ghost use Rattle.saw_build.specs.Valued.{AreValues, AllValues};
+ghost use Rattle.saw_front.specs.Valued.{AreValues, AllValues};
 ghost use Rattle.slow_sawzall.specs.Sawzall.{named_values, run_state, do_part, AreEmitted, IsRunnable, AreRunnable, AreRunnableOptional, IsRunnablePart, AreRunnableParts};
 
 use crate::value::{first_value, set, value};

@@ -3,7 +3,7 @@ ghost use Rattle.std.specs.Prelude.{◌≡◌, pos, OnOk, slice_index_or};
 ghost use Rattle.brooklet_model.specs.Machine.{at_name};
 ghost use Rattle.saw_model.specs.Meaning.{eval as value_said, eval_or, listed};
 ghost use Rattle.saw_text.specs.Tree.{expression, option_expression};
-ghost use Rattle.saw_build.specs.Valued.{AreValues, AllValues};
+ghost use Rattle.saw_front.specs.Valued.{AreValues, AllValues};
 ghost use Rattle.slow_sawzall.specs.Sawzall.{named_values};
 
 use river_base::{Name, NoMemory, Row};

@@ -1,7 +1,7 @@
 -- Which texts are accepted, and the order of declarations in their plans.
 use Rattle.std.proofs.Common.{◌≡◌, ℕ, List, [], ◌∷◌, Ok, ap, ◌∙◌, subst}
-use Rattle.work_text.specs.Cut.{units_of as cut_units}
-use Rattle.work_text.specs.Tok.{toks}
+use Rattle.text_tokens.specs.Cut.{units_of as cut_units}
+use Rattle.text_tokens.specs.Tok.{toks}
 use Rattle.streamit_text.specs.Program.{Program}
 use Rattle.streamit_model.specs.Judged.{Streamed, judged}
 use Rattle.streamit_model.proofs.InTurn as turn

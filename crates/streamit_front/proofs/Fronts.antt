@@ -2,12 +2,12 @@
 use Rattle.std.proofs.Common.{◌≡◌, ◌⊎◌, ℕ, suc, ◌<◌, ◌≤◌, List, [], ◌∷◌, length, Option, Some, None, Result, Ok, Err, refl, sym, ap, ◌∙◌, subst, inl, inr}
 use Rattle.std.proofs.Common.{arith}
 use Rattle.std.proofs.lemmas.List.{length-map}
-use Rattle.work_text.specs.Cut.{units_of as cut_units}
-use Rattle.work_text.specs.Lexis.{tokens_in}
-use Rattle.work_text.specs.Tok.{Tok, Mark, toks}
-use Rattle.work_text.specs.declared.fault.LexFault.{LexFault}
-use Rattle.work_text.specs.declared.fault.LexFault.TheVariants as lex
-use Rattle.work_text.proofs.Slices.{no_want}
+use Rattle.text_tokens.specs.Cut.{units_of as cut_units}
+use Rattle.text_tokens.specs.Lexis.{tokens_in}
+use Rattle.text_tokens.specs.Tok.{Tok, Mark, toks}
+use Rattle.text_tokens.specs.declared.fault.LexFault.{LexFault}
+use Rattle.text_tokens.specs.declared.fault.LexFault.TheVariants as lex
+use Rattle.text_tokens.proofs.Slices.{no_want}
 use Rattle.text_forms.specs.Refusals.{of_lexer}
 use Rattle.text_forms.specs.Texts.{read_units, IsFirstBad, IsEmpty}
 use Rattle.text_forms.specs.declared.refusal.Refusal.TheVariants.{BadByte, BigNumber, Syntax}
@@ -36,7 +36,7 @@ use Rattle.streamit_text.specs.Laws.{IsBadAt}
 use Rattle.streamit_text.specs.Reading.{some_units, unit_from}
 use Rattle.streamit_text.specs.Faults.{StandFor, Refuses}
 use Rattle.text_forms.specs.declared.unit_fault.UnitFault.TheVariants.{Syntax as Syntax_at}
-use Rattle.work_text.proofs.Counts.{units-few}
+use Rattle.text_tokens.proofs.Counts.{units-few}
 use Rattle.streamit_text.proofs.Texts.{text-read, text-reads, units-bad, units-reads}
 use Rattle.streamit_text.proofs.Units.{exact-unit_from}
 use Rattle.streamit_front.specs.declared.fault.StreamitFault.{StreamitFault}

@@ -4,8 +4,8 @@ use Rattle.std.proofs.Common.{arith}
 use Rattle.std.specs.Prelude.{codes, if◌then◌else◌, nat_lt}
 use Rattle.std.specs.Str.{bytes_eq}
 use Rattle.river_base.specs.Name.{name_eq}
-use Rattle.work_text.specs.Cut.{units_of as cut_units}
-use Rattle.work_text.specs.Tok.{Tok, toks}
+use Rattle.text_tokens.specs.Cut.{units_of as cut_units}
+use Rattle.text_tokens.specs.Tok.{Tok, toks}
 use Rattle.kern_rows.specs.Forms.{FilterForm, RunForm}
 use Rattle.river_plan.specs.Forms.{Name}
 use Rattle.river_print.specs.Printable.{IsShallowFirst, IsPrintable}

@@ -1,8 +1,8 @@
 -- What is true of all texts.
 use Rattle.std.specs.Prelude.{◌≡◌, ◌↔◌, ℕ, ℤ, List, [], ◌∷◌, Result, Ok, Err}
 use Rattle.std.specs.List.{AllByRecursion}
-use Rattle.work_text.specs.Lexis.{tokens_in}
-use Rattle.work_text.specs.declared.fault.LexFault.TheVariants as lex
+use Rattle.text_tokens.specs.Lexis.{tokens_in}
+use Rattle.text_tokens.specs.declared.fault.LexFault.TheVariants as lex
 use Rattle.text_forms.specs.declared.refusal.Refusal.TheVariants.{BadByte, BigNumber, Syntax}
 use Rattle.river_plan.specs.Forms.{Name}
 use Rattle.river_plan.specs.InTurn.{IsInTurn}

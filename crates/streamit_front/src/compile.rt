@@ -21,7 +21,7 @@ use streamit_build::{Refusal, plan};
 use streamit_text::{Unit, read_streamit};
 use streamit_unroll::Fault;
 use text_forms::{Refusal as TextRefusal, UnitFault};
-use work_text::{LexFault, Tokens, lex};
+use text_tokens::{LexFault, Tokens, lex};
 
 /// The program of a text, and the plan of the stream that it declares last.
 ///
@@ -30,7 +30,7 @@ use work_text::{LexFault, Tokens, lex};
 /// `Text` with the first fault of the bytes where they have no tokens; otherwise with `Syntax` and the first unit, from
 /// 1, that is not in the grammar; otherwise the first fault of the program in the order in which it is read, with its
 /// unit; `NoMemory` where there is no memory.
-#[tactic(auto, unfolding(crate::specs::Meaning::compiled), using(work_text::proofs::Counts::counts))]
+#[tactic(auto, unfolding(crate::specs::Meaning::compiled), using(text_tokens::proofs::Counts::counts))]
 pub fn compile_streamit(
     alloc: Global,
     text: &Bytes,

@@ -89,7 +89,7 @@ impl Told for StreamitFault {
 }
 
 // Appends the unit, and the rates that are declared and counted.
-#[tactic(auto, using(work_text::proofs::Joined::joins))]
+#[tactic(auto, using(text_tokens::proofs::Joined::joins))]
 fn rates(
     alloc: Global,
     unit: u32,
@@ -105,7 +105,7 @@ fn rates(
 }
 
 // Appends the unit, the index, and the rate of `peek`.
-#[tactic(auto, using(work_text::proofs::Joined::joins))]
+#[tactic(auto, using(text_tokens::proofs::Joined::joins))]
 fn peek_range(
     alloc: Global,
     unit: u32,

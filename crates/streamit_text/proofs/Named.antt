@@ -5,10 +5,10 @@ use Rattle.std.specs.List.{list_all}
 use Rattle.std.proofs.lemmas.Bool.{and_parts}
 use Rattle.std.proofs.lemmas.Bool.Decides.{nat_tests}
 use Rattle.river_base.specs.Name.{is_letter, is_word, is_name}
-use Rattle.work_text.specs.Laws.{IsWord, IsWrittenAs, AllSpans}
-use Rattle.work_text.specs.Lexis.{first_is}
-use Rattle.work_text.specs.Tok.{Tok, name, var, number, symbol, Mark}
-use Rattle.work_text.proofs.Slices.{tokens_are_slices}
+use Rattle.text_tokens.specs.Laws.{IsWord, IsWrittenAs, AllSpans}
+use Rattle.text_tokens.specs.Lexis.{first_is}
+use Rattle.text_tokens.specs.Tok.{Tok, name, var, number, symbol, Mark}
+use Rattle.text_tokens.proofs.Slices.{tokens_are_slices}
 use Rattle.streamit_text.specs.Words.{is_plain, is_own}
 use Rattle.streamit_text.specs.Laws.{IsOwn, AreOwnMarks, NamesAreNames}
 use Rattle.streamit_text.proofs.Adding.{plain-short}

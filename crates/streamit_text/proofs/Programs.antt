@@ -2,9 +2,9 @@
 use Rattle.std.proofs.Common.{◌≡◌, ℕ, List, [], ◌∷◌, length, Result, Ok, Err, refl, sym, ◌∙◌}
 use Rattle.std.specs.Borrow.{Bor}
 use Rattle.std.specs.Prelude.{map}
-use Rattle.work_text.specs.Cut.{unit_tokens, units_of}
-use Rattle.work_text.specs.Tok.{Mark, toks}
-use Rattle.work_text.specs.declared.token.Lexeme.{Lexeme}
+use Rattle.text_tokens.specs.Cut.{unit_tokens, units_of}
+use Rattle.text_tokens.specs.Tok.{Mark, toks}
+use Rattle.text_tokens.specs.declared.token.Lexeme.{Lexeme}
 use Rattle.text_forms.specs.AllUnits.{all_units}
 use Rattle.streamit_text.specs.Program.{Program}
 use Rattle.streamit_text.specs.Faults.{StandFor, IsBadUnit}

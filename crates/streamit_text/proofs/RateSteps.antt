@@ -1,7 +1,7 @@
 -- The steps by which code reads rates.
 use Rattle.std.proofs.Common.{◌≡◌, ℕ, zero, suc, ◌<◌, ◌+◌, List, [], ◌∷◌, ◌++◌, length, Bool, true, false, cond, Option, Some, None, refl, sym, ap, ◌∙◌, arith}
 use Rattle.std.proofs.Common.{length-append, append_assoc}
-use Rattle.work_text.specs.Tok.{Tok}
+use Rattle.text_tokens.specs.Tok.{Tok}
 use Rattle.text_forms.specs.Parse as parse
 use Rattle.text_forms.specs.Repeat.{Stop, after_turn, turns, repeated}
 use Rattle.text_forms.proofs.Many.{many-shortens}

@@ -1,7 +1,7 @@
 -- The signs that StreamIt shares with all languages.
 use Rattle.std.proofs.Common.{◌≡◌, List, [], ◌∷◌, Some, None, refl}
-use Rattle.work_text.specs.Tok.{Tok, name, var, number, symbol}
-use Rattle.work_text.specs.declared.sign.Symbol.TheVariants as s
+use Rattle.text_tokens.specs.Tok.{Tok, name, var, number, symbol}
+use Rattle.text_tokens.specs.declared.sign.Symbol.TheVariants as s
 use Rattle.text_forms.specs.ReadLevels.{first}
 use Rattle.text_blocks.specs.Seven as shared_signs
 use Rattle.text_blocks.specs.declared.sign.Sign.TheVariants as shared_sign

@@ -1,9 +1,9 @@
 -- Texts of StreamIt as a whole.
 use Rattle.std.proofs.Common.{◌≡◌, ◌⊎◌, ℕ, List, [], ◌∷◌, Result, Ok, Err, inl, inr, refl, sym, ap, ◌∙◌}
-use Rattle.work_text.specs.Cut.{units_of}
-use Rattle.work_text.specs.Lexis.{tokens_in}
-use Rattle.work_text.specs.Tok.{Tok, Mark, toks}
-use Rattle.work_text.specs.declared.fault.LexFault.{LexFault}
+use Rattle.text_tokens.specs.Cut.{units_of}
+use Rattle.text_tokens.specs.Lexis.{tokens_in}
+use Rattle.text_tokens.specs.Tok.{Tok, Mark, toks}
+use Rattle.text_tokens.specs.declared.fault.LexFault.{LexFault}
 use Rattle.text_forms.specs.Texts.{IsFirstBad, IsEmpty}
 use Rattle.text_forms.proofs.Texts.{all-formed, formed-read, first-bad}
 use Rattle.streamit_text.specs.Program.{Program}

@@ -2,8 +2,8 @@
 -- `n` is how many more brackets may be open; `F` says which tokens are an expression, and `e` reads one.
 use Rattle.std.specs.Prelude.{ℕ, Bool, true, false, List, [], ◌∷◌, Option, None, codes, if◌then◌else◌}
 use Rattle.std.specs.Str.{bytes_eq}
-use Rattle.work_text.specs.Tok.{Tok}
-use Rattle.work_text.specs.declared.sign.Symbol.TheVariants as s
+use Rattle.text_tokens.specs.Tok.{Tok}
+use Rattle.text_tokens.specs.declared.sign.Symbol.TheVariants as s
 use Rattle.text_forms.specs.Forms.{NameToken, Nothing, Never, Both, After, Before, AfterWord, Tested, Seen, Merged, Choose, Headed}
 use Rattle.text_forms.specs.Parse.{Parse, begins_with, name_at, nothing_at, both, after, before, after_word, tested, seen, merged, headed}
 use Rattle.text_blocks.specs.Statements.{Style, Holes}

@@ -1,10 +1,10 @@
 -- The expressions of StreamIt, or of a language that has other leaves: the seven levels above the leaves, with `peek`.
 use Rattle.std.specs.Prelude.{◌≡◌, ℕ, suc, List, Option, None, Some, codes, if◌then◌else◌, refl}
 use Rattle.std.specs.Str.{bytes_eq}
-use Rattle.work_text.specs.Tok.{Tok, name, var, number, symbol}
+use Rattle.text_tokens.specs.Tok.{Tok, name, var, number, symbol}
 use Rattle.work_code.specs.declared.expr.BinOp.{BinOp}
-use Rattle.work_text.specs.declared.sign.Symbol.{Symbol}
-use Rattle.work_text.specs.declared.sign.Symbol.TheVariants as s
+use Rattle.text_tokens.specs.declared.sign.Symbol.{Symbol}
+use Rattle.text_tokens.specs.declared.sign.Symbol.TheVariants as s
 use Rattle.text_forms.specs.Deep.{IsDeeper}
 use Rattle.text_forms.specs.Levels.{Syntax}
 use Rattle.text_forms.specs.Parse.{Parse}

@@ -1,9 +1,9 @@
 -- StreamIt's own leaves: NUMBER, NAME and "pop" "(" ")".
 use Rattle.std.specs.Prelude.{◌≡◌, ℕ, suc, true, List, [], ◌∷◌, None, Some, codes, if◌then◌else◌}
 use Rattle.std.specs.Str.{bytes_eq}
-use Rattle.work_text.specs.Tok.{Tok}
-use Rattle.work_text.specs.Tok as tok
-use Rattle.work_text.specs.declared.sign.Symbol.TheVariants as s
+use Rattle.text_tokens.specs.Tok.{Tok}
+use Rattle.text_tokens.specs.Tok as tok
+use Rattle.text_tokens.specs.declared.sign.Symbol.TheVariants as s
 use Rattle.text_forms.specs.Parse.{Parse, is_value, nothing_at, enclosed}
 use Rattle.streamit_text.specs.Tree.{Expression, Number, Name, Pop}
 use Rattle.streamit_text.specs.Words.{is_own}

@@ -1,8 +1,8 @@
 -- How units are read: the grammar in the words of reading functions.
 use Rattle.std.specs.Prelude.{ℕ, not, Bool, List, [], ◌∷◌, Option, None, Result, Err, codes, if◌then◌else◌}
 use Rattle.std.specs.Str.{bytes_eq}
-use Rattle.work_text.specs.Tok.{Tok}
-use Rattle.work_text.specs.declared.sign.Symbol.TheVariants as s
+use Rattle.text_tokens.specs.Tok.{Tok}
+use Rattle.text_tokens.specs.declared.sign.Symbol.TheVariants as s
 use Rattle.text_forms.specs.Texts.{read_units}
 use Rattle.text_forms.specs.Parse.{Parse, begins_with, is_word_at, is_value, count_at, number_at, both, after, before, after_word, tested, seen, known, maybe}
 use Rattle.text_forms.specs.Parse.{many, commas, listing, headed, enclosed}

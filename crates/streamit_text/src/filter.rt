@@ -16,7 +16,7 @@ use crate::{Block, FilterTree, Rates, WorkTree};
 use river_base::Name;
 use std::alloc::Global;
 use text_forms::{ParseFault, Reader, closed, is};
-use work_text::Symbol;
+use text_tokens::Symbol;
 
 // `int NAME;`
 #[tactic(auto, unfolding(crate::specs::Reading::field_at))]

@@ -1,6 +1,6 @@
 // The leaves of expressions.
 ghost use Rattle.std.specs.Prelude.{◌≡◌, ℕ, List, IfOk};
-ghost use Rattle.work_text.specs.Tok.{Tok};
+ghost use Rattle.text_tokens.specs.Tok.{Tok};
 ghost use Rattle.text_forms.specs.Gives.{Gives};
 ghost use Rattle.text_forms.specs.Parse.{Parse};
 ghost use Rattle.streamit_text.specs.Expressions.{AreLeaves};
@@ -10,7 +10,7 @@ ghost use Rattle.streamit_text.specs.Tree.{Expression, expression, depth_of};
 use crate::Expr;
 use crate::names::own;
 use text_forms::{ParseFault, Reader, is};
-use work_text::{Symbol, Token};
+use text_tokens::{Symbol, Token};
 
 /// The leaves of StreamIt's expressions, or of those of a language that has others.
 pub trait Leaves {

@@ -12,7 +12,7 @@ use crate::statement::empty;
 use river_base::Name;
 use std::alloc::Global;
 use text_forms::{ParseFault, Reader, closed, is_free};
-use work_text::Symbol;
+use text_tokens::Symbol;
 
 const KEYWORDS: &[&[u8]] = &[
     b"int",

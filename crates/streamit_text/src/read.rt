@@ -1,6 +1,6 @@
 // From the tokens of a text to its program.
 ghost use Rattle.std.specs.Prelude.{◌≡◌, ◌<◌, ◌^◌, length, map, IfOk, IfErr};
-ghost use Rattle.work_text.specs.Cut.{unit_tokens};
+ghost use Rattle.text_tokens.specs.Cut.{unit_tokens};
 ghost use Rattle.text_forms.specs.AllUnits.{GivesUnits};
 ghost use Rattle.streamit_text.specs.Faults.{StandFor, Refuses};
 ghost use Rattle.streamit_text.specs.Program.{unit_form, unit_forms};
@@ -9,7 +9,7 @@ ghost use Rattle.streamit_text.specs.Reading.{some_units};
 use crate::{Unit, Plain, StreamitGrammar};
 use std::alloc::Global;
 use text_forms::{UnitFault, read_units};
-use work_text::{Lexeme, Tokens, units};
+use text_tokens::{Lexeme, Tokens, units};
 
 /// The program that the units of these tokens stand for (the StreamIt language of Thies,
 /// Karczmarek and Amarasinghe, cut to filters on whole numbers, pipelines and split-joins).
@@ -18,7 +18,7 @@ use work_text::{Lexeme, Tokens, units};
 ///
 /// `Syntax` with the first unit, from 1, that is not in the grammar, which is 1 where there is no
 /// unit; `NoMemory` where there is no memory.
-#[tactic(auto, using(crate::proofs::Programs::programs, work_text::proofs::Counts::counts))]
+#[tactic(auto, using(crate::proofs::Programs::programs, text_tokens::proofs::Counts::counts))]
 pub fn read_streamit(alloc: Global, tokens: &Tokens<'_>) -> Result<Vec<Unit>, UnitFault>
     requires { length tokens.now < 2 ^ 32 }
     ensures read { IfOk result (λ units. StandFor tokens.now (unit_forms units.items)) }

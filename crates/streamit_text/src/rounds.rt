@@ -9,7 +9,7 @@ use crate::names::{adds, parens};
 use crate::{RoundRobin, Split, SplitJoin};
 use std::alloc::Global;
 use text_forms::{ParseFault, Reader, closed, is};
-use work_text::Symbol;
+use text_tokens::Symbol;
 
 // A weight.
 #[tactic(auto, unfolding(crate::specs::Reading::weight_at))]

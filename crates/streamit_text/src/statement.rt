@@ -16,7 +16,7 @@ use river_base::{Name, NoMemory};
 use std::alloc::Global;
 use text_blocks::{Blocks, Opening, ended, first_value, round};
 use text_forms::{ParseFault, Reader, closed, is};
-use work_text::Symbol;
+use text_tokens::Symbol;
 
 /// `()`
 #[tactic(auto, unfolding(crate::specs::Blocks::empty_at, text_blocks::specs::Parts::round_at))]

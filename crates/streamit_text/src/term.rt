@@ -11,7 +11,7 @@ use std::alloc::Global;
 use text_blocks::{Terms, take_sign};
 use text_forms::{ParseFault, Reader, is};
 use work_code::BinOp;
-use work_text::Token;
+use text_tokens::Token;
 
 /// What stands before an expression.
 #[derive(Clone, Copy)]

@@ -10,7 +10,7 @@ use crate::rounds::both;
 use crate::{Body, Unit, Plain, StreamitGrammar};
 use std::alloc::Global;
 use text_forms::{ParseFault, Reader, Units, is};
-use work_text::Symbol;
+use text_tokens::Symbol;
 
 // What stands behind the name of a stream of this kind.
 #[tactic(auto, unfolding(crate::specs::Reading::body_after))]

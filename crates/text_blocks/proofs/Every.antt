@@ -1,8 +1,8 @@
 -- What holds of all statements that the grammar has, by induction on how deep branches and loops nest.
 use Rattle.std.proofs.Common.{◌≡◌, ℕ, zero, suc, List, [], ◌∷◌, Bool, true, false, Option, Some, None, refl, sym, subst}
 use Rattle.std.specs.List.{AllByRecursion}
-use Rattle.work_text.specs.Tok.{Tok}
-use Rattle.work_text.specs.declared.sign.Symbol.{Symbol}
+use Rattle.text_tokens.specs.Tok.{Tok}
+use Rattle.text_tokens.specs.declared.sign.Symbol.{Symbol}
 use Rattle.text_forms.specs.Forms as form
 use Rattle.text_blocks.specs.Statements.{Style, Holes, ByOpening, IsBlockOf, IsBranch, IsLoop, IsRest, IsStatement, IsBlock}
 use Rattle.text_blocks.specs.declared.opening.Opening.{Opening}

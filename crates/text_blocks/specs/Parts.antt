@@ -1,8 +1,8 @@
 -- The parts that statements have of expressions: the grammar, and how they are read. `n` is how many more brackets may be
 -- open.
 use Rattle.std.specs.Prelude.{ℕ, List, [], ◌∷◌, Option, None, Some}
-use Rattle.work_text.specs.Tok.{Tok}
-use Rattle.work_text.specs.declared.sign.Symbol.TheVariants as s
+use Rattle.text_tokens.specs.Tok.{Tok}
+use Rattle.text_tokens.specs.declared.sign.Symbol.TheVariants as s
 use Rattle.text_forms.specs.Forms.{Before, After, Maybe, Enclosed}
 use Rattle.text_forms.specs.Parse.{Parse, begins_with, after, before, maybe, enclosed}
 

@@ -10,7 +10,7 @@ use crate::Opening;
 use river_base::NoMemory;
 use std::alloc::Global;
 use text_forms::{ParseFault, Reader, closed};
-use work_text::Symbol;
+use text_tokens::Symbol;
 
 /// A language's statements and blocks: what it hands in for them to be read.
 pub trait Blocks {

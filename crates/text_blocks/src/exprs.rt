@@ -7,7 +7,7 @@ ghost use Rattle.text_blocks.specs.Seven.{term_at};
 use crate::{Terms, term};
 use std::alloc::Global;
 use text_forms::{ParseFault, Reader, closed};
-use work_text::Symbol;
+use text_tokens::Symbol;
 
 /// `e;`
 #[tactic(auto, unfolding(crate::specs::Parts::ended_at))]

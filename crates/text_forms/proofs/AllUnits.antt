@@ -4,9 +4,9 @@ use Rattle.std.proofs.Common.{ap, ◌∙◌, subst, append_assoc, append-nil}
 use Rattle.std.specs.Prelude.{map, ◌↔◌}
 use Rattle.std.specs.Borrow.{Bor}
 use Rattle.std.proofs.lemmas.List.{drop_more, drop_all}
-use Rattle.work_text.specs.Cut.{unit_tokens}
-use Rattle.work_text.specs.Tok.{Tok}
-use Rattle.work_text.specs.declared.token.Lexeme.{Lexeme}
+use Rattle.text_tokens.specs.Cut.{unit_tokens}
+use Rattle.text_tokens.specs.Tok.{Tok}
+use Rattle.text_tokens.specs.declared.token.Lexeme.{Lexeme}
 use Rattle.text_forms.specs.Gives.{Makes}
 use Rattle.text_forms.specs.Parse.{Parse}
 use Rattle.text_forms.specs.Texts.{whole, after_unit, put_first}

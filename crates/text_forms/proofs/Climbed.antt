@@ -1,7 +1,7 @@
 -- What the expressions of a ladder are, by the steps that code took.
 use Rattle.std.proofs.Common.{◌≡◌, ℕ, ◌<◌, ◌-◌, List, [], ◌∷◌, length, true, false, cond, Option, Some, None, Result, Ok, Err, sym, ap, ◌∙◌}
-use Rattle.work_text.specs.Tok.{Tok}
-use Rattle.work_text.specs.declared.sign.Symbol.TheVariants as s
+use Rattle.text_tokens.specs.Tok.{Tok}
+use Rattle.text_tokens.specs.declared.sign.Symbol.TheVariants as s
 use Rattle.text_forms.proofs.Climbs.{ladder-base, once-at, prefix-none, prefix-at, base-none, base-at, within-none, within-at, grown-taken, chained-stop}
 use Rattle.text_forms.specs.declared.fault.ParseFault.{ParseFault}
 use Rattle.text_forms.specs.declared.fault.ParseFault.TheVariants.{Syntax as NoSyntax, NoMemory}

@@ -2,8 +2,8 @@
 use Rattle.std.proofs.Common.{◌≡◌, ℕ, zero, suc, ◌<◌, ◌≤◌, ◌-◌, List, length, Bool, true, false, cond, Option, Some, None, refl, sym, ap, ◌∙◌, arith}
 use Rattle.std.specs.Prelude.{nat_lt, max}
 use Rattle.river_base.proofs.Tests.{less-one}
-use Rattle.work_text.specs.Tok.{Tok}
-use Rattle.work_text.specs.declared.sign.Symbol.TheVariants as s
+use Rattle.text_tokens.specs.Tok.{Tok}
+use Rattle.text_tokens.specs.declared.sign.Symbol.TheVariants as s
 use Rattle.text_forms.proofs.Pairs.{pair_inj}
 use Rattle.text_forms.specs.Deep.{IsDeeper}
 use Rattle.text_forms.specs.Levels.{Level, Chain, Once, Prefix, Syntax, level_of, form_of}

@@ -3,8 +3,8 @@ use Rattle.std.proofs.Common.{◌≡◌, ℕ, List, [], ◌∷◌, ◌++◌, Boo
 use Rattle.std.specs.Prelude.{ℤ, pos}
 use Rattle.std.proofs.lemmas.Slice.Eq.{bytes_eq-Decides}
 use Rattle.std.proofs.lemmas.Option.{same_Some}
-use Rattle.work_text.specs.Tok.{Tok, name, var, number, symbol}
-use Rattle.work_text.specs.declared.sign.Symbol.{Symbol}
+use Rattle.text_tokens.specs.Tok.{Tok, name, var, number, symbol}
+use Rattle.text_tokens.specs.declared.sign.Symbol.{Symbol}
 use Rattle.text_forms.specs.Tail.{tail}
 use Rattle.text_forms.specs.Parse as parse
 use Rattle.text_forms.specs.Forms as form

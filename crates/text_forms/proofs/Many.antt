@@ -3,8 +3,8 @@ use Rattle.std.proofs.Common.{◌≡◌, ℕ, zero, suc, ◌<◌, ◌+◌, List,
 use Rattle.std.proofs.Common.{arith, append_assoc, append-nil, length-append}
 use Rattle.std.specs.Prelude.{not, map}
 use Rattle.std.proofs.lemmas.List.{map-append}
-use Rattle.work_text.specs.Tok.{Tok, symbol}
-use Rattle.work_text.specs.declared.sign.Symbol.TheVariants.{Comma}
+use Rattle.text_tokens.specs.Tok.{Tok, symbol}
+use Rattle.text_tokens.specs.declared.sign.Symbol.TheVariants.{Comma}
 use Rattle.text_forms.specs.Repeat.{ReadTurn, Stop, Fail, Next, after_turn, turns, repeated}
 use Rattle.text_forms.specs.Tail.{tail}
 use Rattle.text_forms.specs.Parse as parse

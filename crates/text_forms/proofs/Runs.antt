@@ -1,8 +1,8 @@
 -- Runs of symbols, one after another.
 use Rattle.std.proofs.Common.{◌≡◌, ℕ, ◌<◌, ◌+◌, List, length, drop, get_or, true, false, cond, None, refl, ap}
 use Rattle.std.proofs.lemmas.List.{drop_more}
-use Rattle.work_text.specs.Tok.{Tok}
-use Rattle.work_text.specs.declared.sign.Symbol.{Symbol}
+use Rattle.text_tokens.specs.Tok.{Tok}
+use Rattle.text_tokens.specs.declared.sign.Symbol.{Symbol}
 use Rattle.text_forms.specs.Tail.{tail}
 use Rattle.text_forms.specs.Parse.{begins_with, symbols_at}
 

@@ -1,7 +1,7 @@
 -- The units of a text, read one after another, where each unit's reading is exact up to its end.
 use Rattle.std.proofs.Common.{◌≡◌, ℕ, ◌+◌, List, [], ◌∷◌, ◌++◌, length, Option, Some, None, Result, Ok, Err, refl, sym, ap, ◌∙◌, subst, arith, append-nil}
 use Rattle.std.proofs.lemmas.Option.{same_Some, none-some}
-use Rattle.work_text.specs.Tok.{Tok}
+use Rattle.text_tokens.specs.Tok.{Tok}
 use Rattle.text_forms.specs.Parse.{Parse, nothing_at}
 use Rattle.text_forms.specs.Texts.{at_end, ended, whole, put_first, after_unit, read_units, AllFormed, IsFirstBad, state_after}
 use Rattle.text_forms.proofs.Exact.{Exact}

@@ -1,7 +1,7 @@
 -- A whole text's tokens, with and without their places.
 use Rattle.std.proofs.Common.{◌≡◌, List, [], ◌∷◌, Some, None, refl, sym, ap, ◌∙◌, map}
-use Rattle.work_text.specs.Tok.{Tok, Mark, toks, tokens_of, token_of, mark_of}
-use Rattle.work_text.specs.declared.token.Lexeme.{Lexeme}
+use Rattle.text_tokens.specs.Tok.{Tok, Mark, toks, tokens_of, token_of, mark_of}
+use Rattle.text_tokens.specs.declared.token.Lexeme.{Lexeme}
 use Rattle.text_forms.specs.Parse.{Parse}
 use Rattle.text_forms.specs.Texts.{whole, ended, at_end}
 

@@ -1,7 +1,7 @@
 -- How texts are read whose units depend on none before them.
 use Rattle.std.specs.Prelude.{◌≡◌, ℕ, List, map, Result, Ok, Err}
 use Rattle.std.proofs.Common.{Vec, Global}
-use Rattle.work_text.specs.Tok.{Tok}
+use Rattle.text_tokens.specs.Tok.{Tok}
 use Rattle.text_forms.specs.Parse.{Parse}
 use Rattle.text_forms.specs.Texts.{read_units}
 use Rattle.text_forms.specs.declared.unit_fault.UnitFault.{UnitFault}

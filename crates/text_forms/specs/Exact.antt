@@ -1,6 +1,6 @@
 -- When a reading function is exact for a form: it gives what the tokens stand for, and reads all that stands for something.
 use Rattle.std.specs.Prelude.{◌≡◌, List, ◌++◌, Some}
-use Rattle.work_text.specs.Tok.{Tok}
+use Rattle.text_tokens.specs.Tok.{Tok}
 use Rattle.text_forms.specs.Parse.{Parse}
 
 -- the front of these tokens, up to `rest`, stands for v

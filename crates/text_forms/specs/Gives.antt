@@ -1,6 +1,6 @@
 -- How code that reads stands to a reading function.
 use Rattle.std.specs.Prelude.{◌≡◌, List, Option, None, Some, Result, Ok, Err}
-use Rattle.work_text.specs.Tok.{Tok}
+use Rattle.text_tokens.specs.Tok.{Tok}
 use Rattle.text_forms.specs.declared.fault.ParseFault.{ParseFault}
 use Rattle.text_forms.specs.declared.fault.ParseFault.TheVariants.{Syntax, NoMemory}
 

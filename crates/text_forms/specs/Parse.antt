@@ -3,10 +3,10 @@ use Rattle.std.specs.Prelude.{ℕ, zero, suc, ◌-◌, nat_le, length, List, [],
 use Rattle.std.specs.Prelude.{ℤ, pos}
 use Rattle.std.specs.Str.{bytes_eq}
 use Rattle.text_forms.specs.Tail.{tail}
-use Rattle.work_text.specs.Tok.{Tok, name, var, number, symbol}
-use Rattle.work_text.specs.Symbols.{code_of}
-use Rattle.work_text.specs.declared.sign.Symbol.{Symbol}
-use Rattle.work_text.specs.declared.sign.Symbol.TheVariants.{Comma}
+use Rattle.text_tokens.specs.Tok.{Tok, name, var, number, symbol}
+use Rattle.text_tokens.specs.Symbols.{code_of}
+use Rattle.text_tokens.specs.declared.sign.Symbol.{Symbol}
+use Rattle.text_tokens.specs.declared.sign.Symbol.TheVariants.{Comma}
 use Rattle.text_forms.specs.Repeat.{ReadTurn, Stop, Fail, Next, repeated}
 
 -- a value and the tokens behind it; None where the front is no such value

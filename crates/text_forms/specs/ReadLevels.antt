@@ -1,7 +1,7 @@
 -- How the expressions of a ladder are read.
 use Rattle.std.specs.Prelude.{ℕ, zero, suc, ◌-◌, nat_lt, if◌then◌else◌, List, [], ◌∷◌, length, Option, None, Some}
-use Rattle.work_text.specs.Tok.{Tok}
-use Rattle.work_text.specs.declared.sign.Symbol.TheVariants as s
+use Rattle.text_tokens.specs.Tok.{Tok}
+use Rattle.text_tokens.specs.declared.sign.Symbol.TheVariants as s
 use Rattle.text_forms.specs.Levels.{Level, Chain, Once, Prefix, Syntax, level_of, operator, sign}
 use Rattle.text_forms.specs.Parse.{Parse, begins_with, then_parsed, seen, after, before}
 use Rattle.text_forms.specs.Repeat.{ReadTurn, Stop, Fail, Next, turns}

@@ -1,6 +1,6 @@
 -- Loops of a reader.
 use Rattle.std.specs.Prelude.{ℕ, zero, suc, List, length, Option, None, Some}
-use Rattle.work_text.specs.Tok.{Tok}
+use Rattle.text_tokens.specs.Tok.{Tok}
 
 -- what a turn of a loop comes to: the end, no reading at all, or a value and the tokens behind it
 pub data ReadTurn (A : Type 0) : Type 0 where

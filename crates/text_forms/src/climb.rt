@@ -1,13 +1,13 @@
 // The expressions of any language read, level by level.
 ghost use Rattle.std.specs.Prelude.{◌≡◌, ◌<◌, ◌≤◌, ◌+◌, max, Some, IfOk, ◌-◌, [], ◌∷◌};
 ghost use Rattle.text_forms.specs.Gives.{Gives, Keeps, Makes, PassesOver};
-ghost use Rattle.work_text.specs.declared.sign.Symbol.TheVariants as s;
+ghost use Rattle.text_tokens.specs.declared.sign.Symbol.TheVariants as s;
 ghost use Rattle.text_forms.specs.ReadLevels.{level_at, chain_at, once_at, prefix_at, base_at, grown_at, called_at, closed_at, whole_at};
 ghost use Rattle.text_forms.specs.Parse.{symbols_at};
 
 use crate::{Dialect, ParseFault, Form, TokenSource};
 use std::alloc::Global;
-use work_text::Symbol;
+use text_tokens::Symbol;
 
 // A tree and how deep it is.
 #[derive(Drop)]

@@ -1,6 +1,6 @@
 // What a language hands in for its expressions to be read.
 ghost use Rattle.std.specs.Prelude.{◌≡◌, ◌≤◌, IfOk, ℕ, List, length, is_some, if◌then◌else◌};
-ghost use Rattle.work_text.specs.Tok.{Tok};
+ghost use Rattle.text_tokens.specs.Tok.{Tok};
 ghost use Rattle.text_forms.specs.Deep.{IsDeeper};
 ghost use Rattle.text_forms.specs.Gives.{Gives};
 ghost use Rattle.text_forms.specs.Levels.{Syntax, level_of, form_of};
@@ -11,7 +11,7 @@ ghost use Rattle.text_forms.specs.Tail.{tail};
 use crate::{ParseFault, Form};
 use river_base::NoMemory;
 use std::alloc::Global;
-use work_text::Symbol;
+use text_tokens::Symbol;
 
 /// What reads tokens, one behind the other.
 pub trait TokenSource {

@@ -6,7 +6,7 @@ ghost use Rattle.text_forms.specs.Parse.{symbols_at};
 ghost use Rattle.text_forms.specs.declared.fault.ParseFault.TheVariants as fault;
 
 use crate::{ParseFault, Reader};
-use work_text::Symbol;
+use text_tokens::Symbol;
 
 /// Whether a word is this one.
 pub fn is(word: &[u8], name: &[u8]) -> bool

@@ -7,7 +7,7 @@ ghost use Rattle.text_forms.specs.Gives.{Gives, PassesOver};
 
 use crate::{ParseFault, TokenSource};
 use std::marker::Model;
-use work_text::{Lexeme, Symbol, Token};
+use text_tokens::{Lexeme, Symbol, Token};
 
 /// A reader of tokens, which contracts see as the tokens that are left.
 #[derive(Drop)]
@@ -17,7 +17,7 @@ pub struct Reader<'a> {
 
 impl<'a> Model for Reader<'a> {
     ghost use Rattle.std.specs.Prelude.{List};
-    ghost use Rattle.work_text.specs.Tok.{Tok, tokens_of};
+    ghost use Rattle.text_tokens.specs.Tok.{Tok, tokens_of};
 
     ghost Value = { List Tok };
 
@@ -25,7 +25,7 @@ impl<'a> Model for Reader<'a> {
 }
 
 impl<'a> Reader<'a> {
-    ghost use Rattle.work_text.specs.Tok.{token_of, tokens_of};
+    ghost use Rattle.text_tokens.specs.Tok.{token_of, tokens_of};
 
     /// A reader of these tokens.
     pub fn new(tokens: &'a [Lexeme<'a>]) -> Self

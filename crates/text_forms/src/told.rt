@@ -26,7 +26,7 @@ pub fn words<F: Told>(alloc: Global, fault: F) -> Result<Bytes, NoMemory>
 
 /// Appends a word and a number in decimal digits; where there is no memory, a part of them may be
 /// appended.
-#[tactic(auto, using(work_text::proofs::Joined::joins))]
+#[tactic(auto, using(text_tokens::proofs::Joined::joins))]
 pub fn numbered(alloc: Global, word: &[u8], number: u32, to: &mut Bytes) -> Result<(), NoMemory>
     ensures { OnOk result (to.new ≡ to.old ++ (word.now ++ decimal number)) }
 {

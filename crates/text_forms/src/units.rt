@@ -1,7 +1,7 @@
 // The units of a text read, one after another.
 ghost use Rattle.std.specs.Prelude.{◌≡◌, ◌<◌, ◌^◌, length, map};
-ghost use Rattle.work_text.specs.Cut.{units_of, unit_tokens};
-ghost use Rattle.work_text.specs.Tok.{tokens_of, toks};
+ghost use Rattle.text_tokens.specs.Cut.{units_of, unit_tokens};
+ghost use Rattle.text_tokens.specs.Tok.{tokens_of, toks};
 ghost use Rattle.text_forms.specs.Gives.{Gives, Makes};
 ghost use Rattle.text_forms.specs.Parse.{Parse};
 ghost use Rattle.text_forms.specs.Texts.{whole};
@@ -10,7 +10,7 @@ ghost use Rattle.text_forms.specs.AllUnits.{all_units, GivesUnits};
 use crate::end::kept;
 use crate::{ParseFault, Reader, UnitFault};
 use std::alloc::Global;
-use work_text::{Lexeme, Tokens, units};
+use text_tokens::{Lexeme, Tokens, units};
 
 /// A language whose texts are units, of which none depends on those before it.
 pub trait Units {

@@ -2,7 +2,7 @@ use Rattle.std.proofs.Common.{arith, ◌-◌, refl, subst, sym, ◌∙◌}
 use Rattle.river_plan.specs.Forms.{plan_form}
 use Rattle.fire_tasks.specs.Adds.{added, logs_of}
 use Rattle.fire_tasks.specs.Tasks.{IsTask, all_moves}
-use Rattle.fire_laws.specs.Layout.{AreTasks}
+use Rattle.fire_tasks.specs.Layout.{AreTasks}
 use Rattle.fire_open.specs.Homes.{AreClassCells}
 use Rattle.fire_run.specs.Cells.{HaveAdded, HaveMoved}
 use Rattle.fire_run.specs.OneMove.{TaskMoves}

@@ -1,6 +1,6 @@
 use Rattle.std.proofs.Common.{◌≡◌, ◌≤◌, ◌++◌, drop, length, map}
-use Rattle.work_text.specs.Cut.{unit_tokens}
-use Rattle.work_text.specs.Tok.{mark_of}
+use Rattle.text_tokens.specs.Cut.{unit_tokens}
+use Rattle.text_tokens.specs.Tok.{mark_of}
 use Rattle.params_front.specs.Sizes.{bytes_of_each}
 use Rattle.params_front.proofs.sizes.each_size.Given as goal
 

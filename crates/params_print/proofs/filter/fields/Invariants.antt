@@ -1,5 +1,5 @@
 use Rattle.std.proofs.Common.{◌≡◌, ◌++◌, drop}
-use Rattle.work_text.specs.Spaced.{spaced}
+use Rattle.text_tokens.specs.Spaced.{spaced}
 use Rattle.params_text.specs.Toks.{fields_toks}
 use Rattle.params_print.proofs.filter.fields.Given as goal
 

@@ -1,5 +1,5 @@
 use Rattle.std.proofs.Common.{◌≡◌, ◌++◌, drop}
-use Rattle.work_text.specs.Spaced.{spaced}
+use Rattle.text_tokens.specs.Spaced.{spaced}
 use Rattle.params_text.specs.Toks.{other_toks}
 use Rattle.params_print.specs.Heads.{names_written}
 use Rattle.params_print.proofs.instance.adds.Given as goal

@@ -1,9 +1,9 @@
 use Rattle.std.proofs.Common.{◌∷◌, [], ◌++◌, sym, ap, ◌∙◌}
 use Rattle.std.specs.Prelude.{codes}
 use Rattle.std.proofs.lemmas.Result.{on_ok_weaker}
-use Rattle.work_text.specs.Tok.{name}
+use Rattle.text_tokens.specs.Tok.{name}
 use Rattle.params_text.specs.Program.{dealing_of, rounds_of}
-use Rattle.work_text.specs.Spaced.{spaced}
+use Rattle.text_tokens.specs.Spaced.{spaced}
 use Rattle.params_text.specs.Toks.{weights_toks, dealing_toks}
 use Rattle.params_model.specs.Environment.{option_counts, dealing}
 use Rattle.params_print.proofs.Blocks.{two-parts}

@@ -1,6 +1,6 @@
 use Rattle.std.proofs.Common.{◌≡◌, ◌++◌, drop, map}
 use Rattle.streamit_text.specs.Tree.{expression}
-use Rattle.work_text.specs.Spaced.{spaced}
+use Rattle.text_tokens.specs.Spaced.{spaced}
 use Rattle.params_text.specs.Toks.{more_numbers}
 use Rattle.params_model.specs.Environment.{counts_in}
 use Rattle.params_model.specs.Laws.{AreFit}

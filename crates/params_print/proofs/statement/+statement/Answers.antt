@@ -2,7 +2,7 @@ use Rattle.std.proofs.Common.{◌++◌, map, drop, sym, ap, ◌∙◌, arith}
 use Rattle.std.proofs.lemmas.Result.{on_ok_weaker}
 use Rattle.streamit_text.specs.Tree.{expression, statement, block, optional_block}
 use Rattle.streamit_text.proofs.Trees.{block-is, statement-if}
-use Rattle.work_text.specs.Spaced.{spaced}
+use Rattle.text_tokens.specs.Spaced.{spaced}
 use Rattle.params_text.specs.Toks.{statement_toks, block_toks, else_toks}
 use Rattle.params_model.specs.Plain.{put_in, put_statement, put_block, put_optional}
 use Rattle.params_print.specs.Heads.{if_toks}

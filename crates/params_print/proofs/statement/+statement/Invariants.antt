@@ -1,6 +1,6 @@
 use Rattle.std.proofs.Common.{◌≡◌, ◌++◌, drop, map}
 use Rattle.streamit_text.specs.Tree.{statement, in_turn}
-use Rattle.work_text.specs.Spaced.{spaced}
+use Rattle.text_tokens.specs.Spaced.{spaced}
 use Rattle.params_text.specs.Toks.{statements_toks}
 use Rattle.params_model.specs.Plain.{put_block}
 use Rattle.params_print.proofs.statement.+statement.Given as goal

@@ -1,6 +1,6 @@
 use Rattle.std.proofs.Common.{◌≡◌, ◌++◌, drop, map}
-use Rattle.work_text.specs.Tok.{token_of}
-use Rattle.work_text.specs.Spaced.{spaced}
+use Rattle.text_tokens.specs.Tok.{token_of}
+use Rattle.text_tokens.specs.Spaced.{spaced}
 use Rattle.params_print.proofs.token.tokens.Given as goal
 
 abbrev pub invariant-all : goal.invariant-all

@@ -1,6 +1,6 @@
 use Rattle.std.proofs.Common.{cond, length, ap, sym, ◌∙◌, arith}
 use Rattle.text_forms.proofs.Symbols.{taken-shorter}
-use Rattle.work_text.specs.declared.sign.Symbol.TheVariants as s
+use Rattle.text_tokens.specs.declared.sign.Symbol.TheVariants as s
 use Rattle.text_forms.specs.Tail.{tail}
 use Rattle.streamit_text.specs.Tree.{expression}
 use Rattle.params_text.proofs.Lists.{constants-next, constant-shorter}

@@ -1,8 +1,8 @@
 use Rattle.std.proofs.Common.{◌≡◌, length, sym, ap, ◌∙◌, arith}
 use Rattle.std.proofs.lemmas.List.{length-map}
-use Rattle.work_text.specs.Cut.{unit_tokens, units_of}
-use Rattle.work_text.specs.Tok.{toks}
-use Rattle.work_text.proofs.Counts.{units-few}
+use Rattle.text_tokens.specs.Cut.{unit_tokens, units_of}
+use Rattle.text_tokens.specs.Tok.{toks}
+use Rattle.text_tokens.proofs.Counts.{units-few}
 use Rattle.params_text.proofs.read.read_params.Goals as goal
 
 -- a text has no more units than tokens

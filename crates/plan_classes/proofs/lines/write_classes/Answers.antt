@@ -2,8 +2,8 @@ use Rattle.std.proofs.Common.{◌≡◌, ◌++◌, ℤ, List, length, ap, ◌∙
 use Rattle.std.specs.Prelude.{OnOk}
 use Rattle.std.proofs.lemmas.List.{length-map}
 use Rattle.river_plan.specs.Forms.{Name, PlanForm, table_names}
-use Rattle.lock_assign.proofs.Numbers.{are_numbers}
-use Rattle.lock_assign.specs.Numbered.{class_numbers}
+use Rattle.plan_classes.proofs.Numbers.{are_numbers}
+use Rattle.plan_classes.specs.Numbered.{class_numbers}
 use Rattle.plan_classes.specs.Users.{table_users, having}
 use Rattle.plan_classes.specs.Lines.{class_lines}
 use Rattle.plan_classes.proofs.Named.{few_tables}

@@ -1,7 +1,7 @@
 use Rattle.std.proofs.Common.{◌+◌, [], ◌∷◌, drop, sym, ap, ◌∙◌, subst, Err}
 use Rattle.std.specs.Prelude.{map}
 use Rattle.std.proofs.lemmas.List.{map-append}
-use Rattle.work_text.specs.Cut.{unit_tokens}
+use Rattle.text_tokens.specs.Cut.{unit_tokens}
 use Rattle.river_script.specs.Reading.{read_steps}
 use Rattle.river_script.specs.Steps.{step_form, step_forms, GivesSteps}
 use Rattle.river_script.proofs.Units.{steps-next, steps-bad, steps-end}

@@ -1,6 +1,6 @@
 use Rattle.std.proofs.Common.{◌≡◌, ◌+◌, [], drop}
 use Rattle.std.specs.Prelude.{map}
-use Rattle.work_text.specs.Cut.{unit_tokens}
+use Rattle.text_tokens.specs.Cut.{unit_tokens}
 use Rattle.river_script.specs.Reading.{read_steps}
 use Rattle.river_script.specs.Steps.{step_forms}
 use Rattle.river_script.proofs.read.read_units.Given as goal

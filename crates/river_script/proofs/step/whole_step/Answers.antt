@@ -1,5 +1,5 @@
 use Rattle.std.proofs.Common.{◌≡◌, sym, ap, ◌∙◌, true, false}
-use Rattle.work_text.specs.Tok.{tokens_of}
+use Rattle.text_tokens.specs.Tok.{tokens_of}
 use Rattle.river_script.specs.Steps.{step_form}
 use Rattle.river_script.specs.Reading.{step_at}
 use Rattle.river_script.proofs.Wholes.{whole-more}

@@ -1,5 +1,5 @@
 use Rattle.std.proofs.Common.{sym, ap, ◌∙◌}
-use Rattle.work_text.specs.Tok.{tokens_of}
+use Rattle.text_tokens.specs.Tok.{tokens_of}
 use Rattle.river_text.specs.ReadPlans.{unit_at}
 use Rattle.river_text.proofs.Wholes.{whole-kept}
 use Rattle.river_text.proofs.entry.whole_entry.Goals as goal

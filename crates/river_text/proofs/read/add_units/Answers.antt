@@ -1,6 +1,6 @@
 use Rattle.std.proofs.Common.{◌+◌, drop, sym, ap, ◌∙◌}
 use Rattle.std.specs.Prelude.{map}
-use Rattle.work_text.specs.Cut.{unit_tokens}
+use Rattle.text_tokens.specs.Cut.{unit_tokens}
 use Rattle.river_text.specs.Entries.{entry_form, text_form}
 use Rattle.river_text.specs.Plans.{next_place}
 use Rattle.river_text.specs.ReadPlans.{read_plan}

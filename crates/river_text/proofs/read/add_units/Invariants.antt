@@ -1,6 +1,6 @@
 use Rattle.std.proofs.Common.{◌≡◌, ◌+◌, drop}
 use Rattle.std.specs.Prelude.{map}
-use Rattle.work_text.specs.Cut.{unit_tokens}
+use Rattle.text_tokens.specs.Cut.{unit_tokens}
 use Rattle.river_text.specs.Entries.{text_form}
 use Rattle.river_text.specs.ReadPlans.{read_plan}
 use Rattle.river_text.proofs.read.add_units.Given as goal

@@ -1,6 +1,6 @@
 use Rattle.std.proofs.Common.{cond, length, ap, sym, ◌∙◌, arith}
 use Rattle.text_forms.proofs.Symbols.{taken-shorter}
-use Rattle.work_text.specs.declared.sign.Symbol.TheVariants as s
+use Rattle.text_tokens.specs.declared.sign.Symbol.TheVariants as s
 use Rattle.text_forms.specs.Parse.{comma_turn}
 use Rattle.text_forms.specs.Repeat.{repeated}
 use Rattle.text_forms.specs.Tail.{tail}

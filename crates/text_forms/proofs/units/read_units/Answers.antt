@@ -1,7 +1,7 @@
 use Rattle.std.proofs.Common.{◌∙◌, ◌+◌, List, drop, sym, ap}
 use Rattle.std.specs.Prelude.{map}
 use Rattle.std.proofs.lemmas.List.{map-append}
-use Rattle.work_text.specs.Cut.{unit_tokens}
+use Rattle.text_tokens.specs.Cut.{unit_tokens}
 use Rattle.text_forms.specs.AllUnits.{units_from}
 use Rattle.text_forms.proofs.AllUnits.{behind, units-next, units-bad, units-end}
 use Rattle.text_forms.proofs.units.read_units.Goals as goal

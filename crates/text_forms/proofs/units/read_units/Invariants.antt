@@ -1,6 +1,6 @@
 use Rattle.std.proofs.Common.{◌≡◌, ◌+◌, drop}
 use Rattle.std.specs.Prelude.{map}
-use Rattle.work_text.specs.Cut.{unit_tokens}
+use Rattle.text_tokens.specs.Cut.{unit_tokens}
 use Rattle.text_forms.specs.AllUnits.{units_from}
 use Rattle.text_forms.proofs.AllUnits.{behind}
 use Rattle.text_forms.proofs.units.read_units.Given as goal

@@ -1,7 +1,7 @@
 use Rattle.std.proofs.Common.{false, subst, sym, refl, ◌∙◌}
 use Rattle.fire_tasks.specs.Adds.{added, logs_of}
 use Rattle.fire_tasks.specs.Tasks.{all_moves}
-use Rattle.fire_laws.specs.Layout.{AreTasks}
+use Rattle.fire_tasks.specs.Layout.{AreTasks}
 use Rattle.fire_open.specs.Homes.{AreClassCells}
 use Rattle.fire_open.proofs.Laid.{paired_net, apart_net, laid_same}
 use Rattle.fire_open.proofs.StillLemmas.{still_all_moves, still_ends}

@@ -1,5 +1,5 @@
 use Rattle.std.proofs.Common.{◌∙◌, ◌+◌, sym, ap, drop, List}
-use Rattle.work_text.specs.Tok.{Tok}
+use Rattle.text_tokens.specs.Tok.{Tok}
 use Rattle.text_forms.specs.Parse.{symbols_at}
 use Rattle.text_forms.proofs.Runs.{run_at-taken, run_at-other}
 use Rattle.text_forms.proofs.reader.Reader.expect.Goals as goal

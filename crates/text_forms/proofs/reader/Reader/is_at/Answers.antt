@@ -1,5 +1,5 @@
 use Rattle.std.proofs.Common.{◌∙◌, List, sym, ap}
-use Rattle.work_text.specs.Tok.{Tok}
+use Rattle.text_tokens.specs.Tok.{Tok}
 use Rattle.text_forms.specs.Parse.{begins_with}
 use Rattle.text_forms.proofs.Symbols.{same_code}
 use Rattle.text_forms.proofs.reader.Reader.is_at.Goals as goal

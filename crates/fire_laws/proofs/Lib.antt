@@ -1,5 +1,0 @@
-pub mod HeldWords
-pub mod Joining
-pub mod NetLemmas
-pub mod Numbers
-pub mod Stepping

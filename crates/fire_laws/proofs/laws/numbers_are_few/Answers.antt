@@ -1,5 +1,0 @@
-use Rattle.fire_laws.proofs.Numbers.{numbers_law}
-use Rattle.fire_laws.proofs.laws.numbers_are_few.Goals as goal
-
-pub returns : goal.returns
-returns c = numbers_law

@@ -1,5 +1,0 @@
-use Rattle.fire_laws.proofs.NetLemmas.{settled_law}
-use Rattle.fire_laws.proofs.laws.settled_is_net.Goals as goal
-
-pub returns : goal.returns
-returns c = settled_law

@@ -1,4 +1,0 @@
-pub mod Facts
-pub mod Joins
-pub mod Layout
-pub mod Steps

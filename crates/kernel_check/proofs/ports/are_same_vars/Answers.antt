@@ -1,9 +1,0 @@
-use Rattle.std.proofs.Common.{sym, ◌∙◌}
-use Rattle.std.specs.Cmp.Lexicographic.{pointwise_decides}
-use Rattle.river_kernels.proofs.EqualLemmas.{var_decides}
-use Rattle.kernel_check.proofs.ports.are_same_vars.Goals as goal
-
-pub returns : goal.returns
-returns c =
-    let d = pointwise_decides var_decides c.args.a.now c.args.b.now in
-    (λ h. d.0 (sym c.eq.ensures ∙ h), λ e. c.eq.ensures ∙ d.1 e)

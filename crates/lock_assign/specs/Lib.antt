@@ -1,3 +1,0 @@
-pub mod Classes
-pub mod Numbered
-pub mod Sets

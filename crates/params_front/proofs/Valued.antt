@@ -1,0 +1,71 @@
+-- Constants in which no variable of a loop stands have one value, whatever those variables are.
+use Rattle.std.proofs.Common.{◌≡◌, ℕ, zero, suc, ℤ, ◌+◌, ◌<◌, true, Some, List, [], ◌∷◌, ◌++◌, length, drop, get_or}
+use Rattle.std.proofs.Common.{refl, sym, ap, ◌∙◌, subst, arith, ⊎_elim}
+use Rattle.std.specs.Prelude.{if◌then◌else◌}
+use Rattle.std.proofs.lemmas.Bool.{and_parts}
+use Rattle.river_plan.specs.Forms.{Name}
+use Rattle.river_plan.proofs.NameLemmas.{cases_name}
+use Rattle.streamit_text.specs.Tree.{Expression}
+use Rattle.streamit_text.specs.Tree as tree
+use Rattle.streamit_model.specs.Meaning.{eval, pops, nought, look}
+use Rattle.streamit_text.proofs.Trees.{expression-peek}
+use Rattle.params_build.proofs.Trees.{expression-name}
+use Rattle.params_print.proofs.Values.{expression-bin}
+use Rattle.params_text.specs.Program.{Step, Steps, Then, steps_in_turn}
+use Rattle.params_model.specs.Environment.{Environment, under, value}
+use Rattle.params_front.specs.declared.bounds.Bounds.{Bounds}
+use Rattle.params_front.specs.Valued.{is_none, is_free, IsOver, IsValued, AreValued}
+
+-- a name that is no variable's is what it is without them
+other-name : (vars known env : Environment) (n : Name) → is_none (look vars n) ≡ true → IsOver vars known env → under env nought n ≡ under known nought n
+other-name [] known env n h o = ap (λ e. under e nought n) o
+other-name (e ∷ vars) known env n h o = ⊎_elim
+    (λ s. absurd (found (sym (ap (λ b. is_none (if b then Some e.1 else look vars n)) s.1) ∙ h)))
+    (λ d. ap (λ x. under x nought n) o.2 ∙ ap (λ b. if b then o.0 else under o.1 nought n) d.1
+    ∙ other-name vars known o.1 n (sym (ap (λ b. is_none (if b then Some e.1 else look vars n)) d.1) ∙ h) o.3)
+    (cases_name e.0 n)
+  where
+    found : is_none (Some e.1) ≡ true → ⊥
+    found h = cc h
+
+free-eval : (vars known env : Environment) (c : Expression) (k : ℕ) → is_free vars c ≡ true → IsOver vars known env
+    → eval c [] (under env nought) k ≡ eval c [] (under known nought) k
+free-eval vars known env (tree.Number v) k h o = refl
+free-eval vars known env (tree.Name n) k h o = other-name vars known env n h o
+free-eval vars known env (tree.Peek t) k h o = refl
+free-eval vars known env tree.Pop k h o = refl
+free-eval vars known env (tree.Neg t) k h o = rw (free-eval vars known env t k h o) refl
+free-eval vars known env (tree.Not t) k h o = rw (free-eval vars known env t k h o) refl
+free-eval vars known env (tree.Bin f a b) k h o =
+    let p = and_parts (is_free vars a) (is_free vars b) h in
+    rw (free-eval vars known env a k p.0 o, free-eval vars known env b (k + pops a) p.1 o) refl
+
+-- a constant in which none of the variables stands has the value that it has without them
+pub free-fixed : (vars known : Environment) (c : Expression) (z : ℤ) → is_free vars c ≡ true → z ≡ value known c
+    → (env : Environment) → IsOver vars known env → z ≡ value env c
+free-fixed vars known c z h is env o = is ∙ sym (free-eval vars known env c 0 h o)
+
+-- what is noted of one step more stands behind what is noted of those before it
+pub valued-more : (env : Environment) (ss : List Step) (bs : List Bounds) (s : Step) (b : Bounds) → AreValued env (steps_in_turn ss) bs → IsValued env s b
+    → AreValued env (steps_in_turn (ss ++ s ∷ [])) (bs ++ b ∷ [])
+valued-more env [] [] s b h g = (g, tt)
+valued-more env [] (c ∷ bs) s b h g = absurd h
+valued-more env (x ∷ ss) [] s b h g = absurd h
+valued-more env (x ∷ ss) (c ∷ bs) s b h g = (h.0, valued-more env ss bs s b h.1 g)
+
+at-place : (env : Environment) (s : Step) (ss : Steps) (bs : List Bounds) (i : ℕ) → AreValued env (Then s ss) (drop i bs)
+    → (i < length bs) × ((b : Bounds) → b ≡ get_or bs i b → IsValued env s b) × AreValued env ss (drop (suc i) bs)
+at-place env s ss [] zero h = absurd h
+at-place env s ss [] (suc i) h = absurd h
+at-place env s ss (b ∷ bs) zero h = (omega arith, λ c is. subst (IsValued env s) (sym is) h.0, h.1)
+at-place env s ss (b ∷ bs) (suc i) h = let r = at-place env s ss bs i h in (omega (arith, r.0), r.1, r.2)
+
+-- the step at a place has what is noted at that place, and those behind it have the rest
+pub valued-at : (env : Environment) (s : Step) (ss : Steps) (bs : List Bounds) (i : ℕ) → AreValued env (Then s ss) (drop i bs)
+    → (i < length bs) × ((b : Bounds) → b ≡ get_or bs i b → IsValued env s b) × AreValued env ss (drop (i + 1) bs)
+valued-at env s ss bs i h =
+    let r = at-place env s ss bs i h in
+    let on : suc i ≡ i + 1 = omega arith in
+    (r.0, r.1, subst (λ n. AreValued env ss (drop n bs)) on r.2)
+
+pub ruleset trees = (expression-name, expression-peek, expression-bin)

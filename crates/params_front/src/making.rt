@@ -1,0 +1,121 @@
+// What was made so far: the text, the source unit of each instance, and what was counted.
+ghost use Rattle.std.specs.Prelude.{◌≡◌, ◌≤◌, ◌+◌, ◌&&◌, suc, length, nat_lt, nat_le, IfOk, OnOk};
+ghost use Rattle.params_text.specs.Program.{UnitForm};
+ghost use Rattle.params_model.specs.Making.{Made, nothing_made, begin, turn, demand};
+ghost use Rattle.params_build.specs.Told.{JudgesAll};
+ghost use Rattle.params_front.specs.Standing.{Stands, Begins, Wrote, Blames, tested_fault};
+
+use params_build::{Fault, Refusal};
+use params_print::Instance;
+use params_text::Unit;
+use river_base::{Bytes, Name, NoMemory, Numbers};
+use std::alloc::Global;
+
+/// What was made so far: the text, the source unit of each instance, and the number of the last one;
+/// and how many instances were begun, the bytes of their units, and how many turns were begun.
+#[derive(Drop)]
+pub struct Making {
+    pub text: Bytes,
+    pub from: Numbers,
+    pub number: u32,
+    pub begun: u32,
+    pub bytes: usize,
+    pub turns: u32,
+}
+
+impl Making {
+    /// Nothing was made.
+    pub fn new(alloc: Global) -> Making
+        ensures { Stands result nothing_made }
+    {
+        Making {
+            text: Bytes::new(alloc),
+            from: Numbers::new(alloc),
+            number: 0,
+            begun: 0,
+            bytes: 0,
+            turns: 0,
+        }
+    }
+
+    /// An instance of the unit behind these is begun: it has so many bytes, and lies so deep.
+    pub fn begin(&mut self, above: &[Unit], size: usize, depth: u32) -> Result<(), Refusal>
+        ensures begun { (m : Made) (d : UnitForm) → Stands self.old m
+            → Begins result self.new (begin (record { unit = suc (length above.now); bytes = size; stream = d }) depth m) }
+        ensures deep { OnOk result (depth ≤ 64) }
+    {
+        let fits = self.has_room(size, depth);
+        demand(above, fits, Fault::Budget)?;
+        self.begun += 1;
+        self.bytes += size;
+        Ok(())
+    }
+
+    // Whether one more instance may be begun, with so many bytes and so deep.
+    fn has_room(&self, size: usize, depth: u32) -> bool
+        ensures { result ≡ (nat_lt self.now.begun 1024 && (nat_le depth 64 && nat_le (self.now.bytes + size) 1048576)) }
+    {
+        let has_bytes = size <= 1_048_576 && self.bytes <= 1_048_576 - size;
+        self.begun < 1024 && depth <= 64 && has_bytes
+    }
+
+    /// A turn of a loop is begun, in the unit behind these.
+    pub fn begin_turn(&mut self, above: &[Unit]) -> Result<(), Refusal>
+        ensures { (m : Made) → Stands self.old m → Begins result self.new (turn (suc (length above.now)) m) }
+    {
+        demand(above, self.turns < 65_536, Fault::Budget)?;
+        self.turns += 1;
+        Ok(())
+    }
+
+    /// The next instance, which is one of this stream.
+    pub fn next(&self, stream: Name) -> Result<Instance, NoMemory>
+        ensures stream { IfOk result (λ i. i.stream ≡ stream) }
+        ensures number { IfOk result (λ i. i.number ≡ suc self.now.number) }
+    {
+        let number = self.number.checked_add(1).ok_or(NoMemory)?;
+        Ok(Instance { stream, number })
+    }
+
+    /// The instance was written, of the unit behind these.
+    pub fn wrote(&mut self, above: &[Unit], instance: Instance) -> Result<Instance, NoMemory>
+        ensures same { IfOk result (λ i. i ≡ instance) }
+        ensures noted { OnOk result (Wrote self.old self.new (suc (length above.now)) instance.number) }
+    {
+        let unit = unit_behind(above)?;
+        self.from.push(i64::from(unit))?;
+        self.number = instance.number;
+        Ok(instance)
+    }
+}
+
+// The number of the unit behind these.
+fn unit_behind(above: &[Unit]) -> Result<u32, NoMemory>
+    ensures { IfOk result (λ unit. unit ≡ suc (length above.now)) }
+{
+    match u32::try_from(above.len()) {
+        Ok(unit) => unit.checked_add(1).ok_or(NoMemory),
+        Err(_) => Err(NoMemory),
+    }
+}
+
+/// The fault of the unit behind these.
+pub fn refuse(above: &[Unit], fault: Fault) -> Refusal
+    ensures { Blames result (suc (length above.now)) (tested_fault fault) }
+{
+    match unit_behind(above) {
+        Ok(unit) => Refusal { unit, fault },
+        Err(no_memory) => Refusal::from(no_memory),
+    }
+}
+
+/// The fault of the unit behind these, where a test fails.
+pub fn demand(above: &[Unit], holds: bool, fault: Fault) -> Result<(), Refusal>
+    ensures { JudgesAll result (demand holds (suc (length above.now)) (tested_fault fault)) }
+{
+    if holds {
+        Ok(())
+    } else {
+        Err(refuse(above, fault))
+    }
+}

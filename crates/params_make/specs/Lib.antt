@@ -1,5 +1,0 @@
-pub mod Finding
-pub mod Standing
-pub mod Turning
-pub mod Valued
-pub mod Written

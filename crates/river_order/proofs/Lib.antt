@@ -1,4 +1,0 @@
-pub mod Comes
-pub mod Passes
-pub mod Told
-pub mod Turns

@@ -1,5 +1,0 @@
-use Rattle.river_order.proofs.Told.{verdict-is}
-use Rattle.river_order.proofs.laws.told_files_have_a_verdict.Goals as goal
-
-pub returns : goal.returns
-returns c = verdict-is

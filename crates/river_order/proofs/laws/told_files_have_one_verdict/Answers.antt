@@ -1,5 +1,0 @@
-use Rattle.river_order.proofs.Told.{verdict-told}
-use Rattle.river_order.proofs.laws.told_files_have_one_verdict.Goals as goal
-
-pub returns : goal.returns
-returns c = verdict-told

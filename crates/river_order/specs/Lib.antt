@@ -1,5 +1,0 @@
-pub mod Decides
-pub mod Laws
-pub mod Order
-pub mod Passes
-pub mod Text

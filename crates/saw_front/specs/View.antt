@@ -1,0 +1,44 @@
+-- What the code's values stand for.
+use Rattle.std.specs.Prelude.{◌≡◌, List, [], ◌∷◌, map, reverse, Option, Some, None, Result, Ok, Err}
+use Rattle.work_code.specs.Term.{Term, term}
+use Rattle.work_code.specs.declared.expr.Expr as work
+use Rattle.river_plan.specs.Forms.{Name}
+use Rattle.saw_model.specs.Elaborate.{Scope}
+use Rattle.saw_model.specs.Elaborate as spec
+use Rattle.saw_front.specs.declared.unit_fault.Fault.{Fault}
+use Rattle.saw_front.specs.declared.unit_fault.Fault.TheVariants as fault
+use Rattle.saw_front.specs.declared.names.Known.{Known}
+use Rattle.saw_front.specs.declared.names.Known.TheVariants as code
+
+abbrev pub known_form : Known → spec.KnownName
+known_form (code.Slot i) = spec.Var i
+known_form (code.Table place kind) = spec.Port place kind
+
+abbrev pub option_known : Option Known → Option spec.KnownName
+option_known None = None
+option_known (Some k) = Some (known_form k)
+
+abbrev pub entry_of : Name × Known → Name × spec.KnownName
+entry_of e = (e.0, known_form e.1)
+
+-- the newest name is the last in memory
+abbrev pub scope_of : List (Name × Known) → Scope
+scope_of es = reverse (map entry_of es)
+
+-- no term, or one
+abbrev pub option_terms : Option work.Expr → List Term
+option_terms None = []
+option_terms (Some e) = term e ∷ []
+
+-- the fault is the one that is defined; of want of memory nothing is expression
+abbrev pub Tells : {A : Type 0} → Fault → Result A spec.Fault → Type 0
+Tells fault.UnknownName r = r ≡ Err spec.UnknownName
+Tells fault.NameTwice r = r ≡ Err spec.NameTwice
+Tells fault.Shape r = r ≡ Err spec.Shape
+Tells fault.Limit r = r ≡ Err spec.Limit
+Tells fault.NoMemory r = Unit {0}
+
+-- the answer is the one that is defined, or there was no memory
+abbrev pub Judges : {X A : Type 0} → (X → A) → Result X Fault → Result A spec.Fault → Type 0
+Judges view (Ok x) r = r ≡ Ok (view x)
+Judges view (Err f) r = Tells f r

@@ -1,0 +1,21 @@
+//! Texts: the tokens of all the languages, the units of a text, and how expressions and statements are printed.
+#![tactic(auto)]
+
+mod byte;
+mod cut;
+mod fault;
+pub mod laws;
+mod lexer;
+mod piece;
+mod sign;
+mod token;
+mod tokens;
+mod unit;
+
+pub use cut::Units;
+pub use fault::LexFault;
+pub use lexer::lex;
+pub use sign::Symbol;
+pub use token::{Lexeme, Token};
+pub use tokens::Tokens;
+pub use unit::units;

@@ -1,6 +1,0 @@
-use Rattle.std.proofs.Common.{◌≡◌, ◌≤◌, drop}
-use Rattle.work_text.specs.Lexis.{decimal_from, most}
-use Rattle.work_text.proofs.piece.decimal.Given as goal
-
-abbrev pub invariant-loop-n : goal.invariant-loop-n
-invariant-loop-n l = record { same : decimal_from l.value (drop l.n l.digits) ≡ decimal_from 0 l.digits; small : l.value ≤ most }
