@@ -27,13 +27,20 @@ use Rattle.brooklet_model.specs.Histories.{History, lists_of, given_on, hist, jo
 use Rattle.brooklet_model.specs.Laws.{HistoriesAreTyped}
 use Rattle.brooklet_model.specs.Machine.{Machine, at_key, fired, Step, first_kept_of, start}
 use Rattle.brooklet_model.specs.Shapes.{HasShape}
-use Rattle.brooklet_model.specs.Typed.{IsTyped, IsOf, AreOf, IsWordOf, AreInputs, Holds, IsTypedState}
+use Rattle.brooklet_model.specs.Typed.{IsTyped, IsOf, AreOf, IsWordOf, AreInputs, Holds}
 use Rattle.brooklet_model.specs.Words.{Word, run, word_of, port_by_port}
 use Rattle.brooklet_model.proofs.Ports.{shaped}
 use Rattle.brooklet_model.proofs.Shapes.{fire_shape, first_shape}
 use Rattle.brooklet_model.proofs.Solutions.{count_here, written_out, stays, plan_solves}
 use Rattle.brooklet_model.proofs.Traces.{each_at, each_of, at_key_same, at_key_other, at_same}
 use Rattle.brooklet_model.proofs.Typing.{fire_typed, first_holds}
+
+-- a state of the machine in which all items are of their queues' types, and each operator has states for its variables
+-- that keep items of the types of its inputs
+pub record IsTypedState (p : PlanForm) (s : Machine) : Type 0 where
+  pub queues : (q : Name) → All (HasType (kind_of (all_decls p) q)) (s.hist q)
+  pub shapes : (o : ℕ) (op : OpForm) → slice_get p.ops o ≡ Some op → HasShape op.kernel (s.kept o)
+  pub holds : (o : ℕ) (op : OpForm) → slice_get p.ops o ≡ Some op → Holds op.kernel (map (kind_of (all_decls p)) op.reads) (s.kept o)
 
 -- what holds of the inputs, and passes from what an operator reads to what it writes, holds of all that is written
 pub by_order : (Q : Name → Type 0) (ops : List OpForm) (known : Name → ℕ) → ReadsBefore known ops → ((q : Name) → 0 < known q → Q q)

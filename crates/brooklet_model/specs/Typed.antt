@@ -1,12 +1,10 @@
 -- Items of the types of their ports, and states that keep such items.
-use Rattle.std.specs.Prelude.{◌≡◌, ℕ, ℤ, List, [], ◌∷◌, All, Option, Some, None, length, slice_get, map, take, drop}
+use Rattle.std.specs.Prelude.{◌≡◌, ℕ, ℤ, List, [], ◌∷◌, All, Option, Some, None, length, slice_get, take, drop}
 use Rattle.river_base.specs.declared.item.Item as item
 use Rattle.river_base.specs.declared.kind.QueueType.{QueueType}
 use Rattle.river_base.specs.Held.{HasType}
 use Rattle.river_base.specs.Places.{list_at}
 use Rattle.river_plan.specs.declared.plan.Decl.{Decl}
-use Rattle.river_plan.specs.Forms.{Name, OpForm, PlanForm, all_decls}
-use Rattle.river_plan.specs.Kinds.{kind_of}
 use Rattle.river_kernels.specs.declared.types.Types.{Types}
 use Rattle.river_kernels.specs.declared.types.VarKind.{VarKind}
 use Rattle.river_kernels.specs.declared.types.VarKind.TheVariants.{Private, Table}
@@ -14,7 +12,6 @@ use Rattle.river_kernels.specs.Types.{types_of}
 use Rattle.river_kernels.specs.Kern.{Kern, collect, packed, unpack, window, cross, streamer, fused}
 use Rattle.brooklet_model.specs.Firings.{Kept, Joining, Received, Crossing}
 use Rattle.brooklet_model.specs.Fire.{privates}
-use Rattle.brooklet_model.specs.Machine.{Machine}
 use Rattle.brooklet_model.specs.Shapes.{HasShape}
 use Rattle.brooklet_model.specs.Words.{Word}
 
@@ -82,13 +79,6 @@ AreInputs [] [] = Unit {0}
 AreInputs [] (xs ∷ ls) = ⊥
 AreInputs (d ∷ ds) [] = ⊥
 AreInputs (d ∷ ds) (xs ∷ ls) = All (HasType d.kind) xs × AreInputs ds ls
-
--- a state of the machine in which all items are of their queues' types, and each operator has states for its variables
--- that keep items of the types of its inputs
-pub record IsTypedState (p : PlanForm) (s : Machine) : Type 0 where
-  pub queues : (q : Name) → All (HasType (kind_of (all_decls p) q)) (s.hist q)
-  pub shapes : (o : ℕ) (op : OpForm) → slice_get p.ops o ≡ Some op → HasShape op.kernel (s.kept o)
-  pub holds : (o : ℕ) (op : OpForm) → slice_get p.ops o ≡ Some op → Holds op.kernel (map (kind_of (all_decls p)) op.reads) (s.kept o)
 
 -- the widths of the tables among these variables
 abbrev pub widths_in : List VarKind → List ℕ

@@ -3,7 +3,7 @@ ghost use Rattle.std.specs.Prelude.{◌≡◌, pos, map, take, length, IfOk, ◌
 ghost use Rattle.river_plan.specs.Forms.{decl_names};
 ghost use Rattle.brooklet_step.specs.Works.{IsRunning, AreCounts, queue_of};
 
-use brooklet_step::{Lines, Outcome, MachineState, Sizes, Tables};
+use brooklet_step::{Lines, MachineState, Outcome, Sizes, Tables};
 use kern_rows::ItemLine;
 use river_base::{NoMemory, Numbers};
 use std::alloc::Global;

@@ -9,7 +9,7 @@ use crate::Inputs;
 use crate::ending::outcome_of;
 use crate::opening::{first_parts, lines_of};
 use crate::turn::{fire_next, fire_turn, is_enabled};
-use brooklet_step::{Lines, Outcome, MachineState};
+use brooklet_step::{Lines, MachineState, Outcome};
 use river_base::NoMemory;
 use river_plan::Plan;
 use std::alloc::Global;

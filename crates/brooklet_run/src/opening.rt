@@ -13,7 +13,11 @@ use river_plan::{Ops, Plan};
 use std::alloc::Global;
 
 /// What a machine keeps before the first firing.
-pub(crate) fn first_parts(alloc: Global, plan: &Plan, inputs: Lines) -> Result<MachineState, NoMemory>
+pub(crate) fn first_parts(
+    alloc: Global,
+    plan: &Plan,
+    inputs: Lines,
+) -> Result<MachineState, NoMemory>
     requires { Fit plan.now inputs }
     ensures starts { IfOk result (λ parts. Starts plan.now inputs parts) }
     ensures goes_on { IfOk result IsRunning }

@@ -13,15 +13,13 @@ ghost use Rattle.brooklet_step.specs.Reading.{IsPlaceRead, IsFrontItem, CanFire,
 
 use crate::add::add_all;
 use brooklet_step::{
-    Emit, Lines, MachineState, Sizes, Spare, States, Tables, blank_for, clear_all, fire_op, fire_values,
+    Emit, Lines, MachineState, Sizes, Spare, States, Tables, blank_for, clear_all, fire_op,
+    fire_values, next_count,
 };
 use kern_rows::ItemLine;
 use river_base::{Item, NoMemory};
 use river_plan::Plan;
 use std::alloc::Global;
-
-/// The most firings that are counted: 2^63 - 1.
-const MOST: usize = 9223372036854775807;
 
 /// Whether the operator has an item at this port.
 pub(crate) fn is_enabled(parts: &MachineState, op: usize, port: usize) -> bool
@@ -370,10 +368,4 @@ fn count_one(counts: &mut Sizes, op: usize)
 {
     let count = *counts.at(op);
     *counts.at_mut(op) = next_count(count);
-}
-
-fn next_count(count: usize) -> usize
-    ensures { result ≡ min most_firings (count + 1) }
-{
-    if count < MOST { count + 1 } else { MOST }
 }

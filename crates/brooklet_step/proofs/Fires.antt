@@ -12,8 +12,6 @@ use Rattle.river_base.specs.declared.item.Item.TheVariants.{Flat, Pack}
 use Rattle.river_base.specs.Held.{flats}
 use Rattle.river_base.specs.Places.{append_at, each_grew, list_at}
 use Rattle.river_base.proofs.PlaceLemmas.{if_lt, each_grew_cong, each_grew-none, each_grew-blanks}
-use Rattle.river_kernels.specs.declared.kernel.Kernel.TheVariants as kernel
-use Rattle.river_kernels.specs.declared.kernel.Kernel.TheOpen as layer
 use Rattle.river_kernels.specs.Kern.{Kern, filter, duplicate}
 use Rattle.kern_rows.specs.declared.kernel.Filter.{Filter}
 use Rattle.kern_rows.specs.Forms.{FilterForm}

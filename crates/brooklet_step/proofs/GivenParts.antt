@@ -11,9 +11,9 @@ use Rattle.river_base.specs.declared.item.Flat as flat
 use Rattle.river_base.specs.declared.kind.FlatType.{FlatType}
 use Rattle.river_base.specs.declared.kind.QueueType.{QueueType}
 use Rattle.river_base.specs.declared.kind.QueueType.TheVariants.{Flat as FlatOf, Pack as PackOf}
-use Rattle.river_base.specs.Held.{held, HasType, IsHeld, flats, flats_as_items, opened}
+use Rattle.river_base.specs.Held.{held, HasType, IsHeld, flats, flats_as_items}
+use Rattle.river_base.proofs.HeldLemmas.{opened, held-pack, is_held-pack}
 use Rattle.river_base.specs.Places.{each_grew, only, none, list_at}
-use Rattle.river_base.proofs.HeldLemmas.{held-pack, is_held-pack}
 use Rattle.river_base.proofs.PlaceLemmas.{each_grew_cong, length-each_grew}
 use Rattle.river_kernels.specs.declared.types.VarKind.{VarKind}
 use Rattle.river_kernels.specs.Fits.{Fits, spliced}

@@ -1,7 +1,7 @@
 -- A run in the order of the operators is complete.
 use Rattle.std.proofs.Common.{◌≡◌, ℕ, ℤ, pos, zero, suc, ◌+◌, ◌-◌, ◌<◌, ◌≤◌, false, Some, List, [], ◌∷◌, ◌++◌, length, take, drop, map, refl, sym, ap, ◌∙◌}
 use Rattle.std.proofs.Common.{subst, arith, get_or, ⊎_elim, length-append, length-drop}
-use Rattle.std.specs.Prelude.{All, min, slice_get, unwrap_or}
+use Rattle.std.specs.Prelude.{All, min, slice_get, unwrap_or, Option, None}
 use Rattle.std.proofs.lemmas.Bool.{cases_lt}
 use Rattle.std.proofs.lemmas.List.{append-nil, length-map}
 use Rattle.std.proofs.lemmas.List.Elements.{All-head, All-tail}
@@ -33,13 +33,22 @@ use Rattle.brooklet_model.proofs.Complete.{runs_law}
 use Rattle.brooklet_model.proofs.RunMeaning.{outs_are, firings_are}
 use Rattle.brooklet_model.proofs.Traces.{at_most, got_count, joined_out}
 use Rattle.brooklet_step.specs.declared.parts.MachineState.{MachineState}
-use Rattle.brooklet_step.specs.Drained.{IsDrained, read_in, left_at, Follows, RunsOn, DrainedBefore, HasPorts, HasRun}
+use Rattle.brooklet_step.specs.Drained.{IsDrained, Follows, RunsOn, DrainedBefore, HasPorts, HasRun}
 use Rattle.brooklet_step.specs.Works.{queue_of, kinds_of, StandsForMachine, ReadsAt, IsEnabled, StandsAfterRun, IsRunning, Starts, Steps, AreCounts}
 use Rattle.brooklet_step.specs.Tables.{defined_tables}
 use Rattle.brooklet_step.proofs.Edges.{output_held}
 use Rattle.brooklet_step.proofs.KeptTables.{kept_of_bags, defined_rows}
 use Rattle.brooklet_step.proofs.QueuePlaces.{place_is, lists_in_order}
 use Rattle.brooklet_step.proofs.StepLemmas.{run_next, read_declared}
+
+-- the queue that an operator reads at a port; an empty name where there is none
+abbrev pub read_in : Option OpForm → ℕ → Name
+read_in None port = []
+read_in (Some op) port = unwrap_or (slice_get op.reads port) []
+
+-- how many items wait there
+abbrev pub left_at : MachineState → ℕ → ℕ → ℕ
+left_at m o port = length (queue_of m (read_in (slice_get m.plan.ops o) port))
 
 -- THE ORDER OF THE OPERATORS
 

@@ -3,8 +3,6 @@ use Rattle.std.proofs.Common.{◌≡◌, ℕ, ◌<◌, List, [], ◌∷◌, leng
 use Rattle.river_base.specs.declared.item.Item as item
 use Rattle.river_base.specs.Places.{each_grew, only}
 use Rattle.river_base.proofs.PlaceLemmas.{each_grew-none}
-use Rattle.river_kernels.specs.declared.kernel.Kernel.TheVariants as kernel
-use Rattle.river_kernels.specs.declared.kernel.Kernel.TheOpen as layer
 use Rattle.river_kernels.specs.Kern.{Kern, tally}
 use Rattle.brooklet_model.specs.Fire.{fire, values_of, tabs}
 use Rattle.brooklet_step.specs.declared.emit.Emit.{Emit}

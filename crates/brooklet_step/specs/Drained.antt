@@ -1,5 +1,5 @@
 -- Runs that go on, and operators whose ports are drained.
-use Rattle.std.specs.Prelude.{◌≡◌, ℕ, ◌<◌, ◌≤◌, false, List, [], length, Option, Some, None, unwrap_or, slice_get}
+use Rattle.std.specs.Prelude.{◌≡◌, ℕ, ◌<◌, ◌≤◌, false, List, length, Some, slice_get}
 use Rattle.river_base.specs.declared.item.Item as item
 use Rattle.river_plan.specs.Forms.{Name, OpForm, PlanForm}
 use Rattle.brooklet_step.specs.declared.parts.MachineState.{MachineState}
@@ -8,15 +8,6 @@ use Rattle.brooklet_step.specs.Works.{queue_of, ReadsAt, StandsAfterRun}
 -- nothing is left at this port
 abbrev pub IsDrained : MachineState → ℕ → ℕ → Type 0
 IsDrained m o port = (q : Name) → ReadsAt m.plan o port q → length (queue_of m q) ≡ 0
-
--- the queue that an operator reads at a port; an empty name where there is none
-abbrev pub read_in : Option OpForm → ℕ → Name
-read_in None port = []
-read_in (Some op) port = unwrap_or (slice_get op.reads port) []
-
--- how many items wait there
-abbrev pub left_at : MachineState → ℕ → ℕ → ℕ
-left_at m o port = length (queue_of m (read_in (slice_get m.plan.ops o) port))
 
 -- the machine stands for the state after some run
 pub record HasRun (m : MachineState) : Type 0 where

@@ -12,7 +12,7 @@ use crate::state::State;
 use kern_bags::{Cross, Streamer, Window, project, select};
 use river_base::{Batch, Flat, Item, NoMemory};
 use std::alloc::Global;
-use work_code::{Expr, Exprs};
+use work_code::{Formula, Formulas};
 
 // The batch that an item is.
 fn batch_of(item: Item) -> Batch
@@ -37,7 +37,7 @@ fn flat_of(item: Item) -> Flat
 }
 
 /// A batch comes to a window, which gives the change of its content.
-pub fn fire_window(
+pub(crate) fn fire_window(
     alloc: Global,
     window: &Window,
     item: Item,
@@ -59,9 +59,9 @@ pub fn fire_window(
 }
 
 /// A batch of a stream, or a change of a relation, comes to a selection.
-pub fn fire_select(
+pub(crate) fn fire_select(
     alloc: Global,
-    cond: &Expr,
+    cond: &Formula,
     item: Item,
     out: &mut Emit,
     spare: &mut Spare,
@@ -75,9 +75,9 @@ pub fn fire_select(
 }
 
 /// A change comes to a projection.
-pub fn fire_project(
+pub(crate) fn fire_project(
     alloc: Global,
-    list: &Exprs,
+    list: &Formulas,
     item: Item,
     out: &mut Emit,
     spare: &mut Spare,
@@ -91,7 +91,7 @@ pub fn fire_project(
 }
 
 /// A change comes to a port of a product.
-pub fn fire_cross(
+pub(crate) fn fire_cross(
     alloc: Global,
     port: u32,
     item: Item,
@@ -113,7 +113,7 @@ pub fn fire_cross(
 }
 
 /// A change comes to a streamer, which gives a batch.
-pub fn fire_streamer(
+pub(crate) fn fire_streamer(
     alloc: Global,
     streamer: &Streamer,
     item: Item,

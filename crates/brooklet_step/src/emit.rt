@@ -2,7 +2,7 @@
 ghost use Rattle.std.specs.Prelude.{◌≡◌, ◌+◌, ◌<◌, ◌≤◌, ◌^◌, [], ◌∷◌, ◌++◌, length, replicate, reverse, slice_set, All, IfOk, OnOk};
 ghost use Rattle.river_base.specs.declared.item.Item.TheVariants as variant;
 ghost use Rattle.river_base.specs.declared.item.Flat.TheVariants as flat;
-ghost use Rattle.river_base.specs.Places.{append_at, each_grew, upto, only, none, list_at};
+ghost use Rattle.river_base.specs.Places.{append_at, each_grew, upto, only, list_at};
 ghost use Rattle.kern_rows.specs.Runs.{pushed_to};
 ghost use Rattle.brooklet_model.specs.Firings.{gives, splice as splice_lem, beside};
 ghost use Rattle.brooklet_step.specs.Took.{Took, StayApart};

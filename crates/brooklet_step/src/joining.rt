@@ -23,7 +23,7 @@ fn pack_of(item: Item) -> Flats
 }
 
 /// An item comes to a joiner, a change as the others.
-pub fn fire_collect(
+pub(crate) fn fire_collect(
     alloc: Global,
     weights: &Numbers,
     port: u32,
@@ -46,7 +46,7 @@ pub fn fire_collect(
 }
 
 /// A pack comes to a joiner of packs, of changes or not.
-pub fn fire_unpack(
+pub(crate) fn fire_unpack(
     alloc: Global,
     ports: u32,
     port: u32,

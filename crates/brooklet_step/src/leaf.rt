@@ -91,7 +91,7 @@ fn push_all(
 }
 
 /// A body runs on a row.
-pub fn fire_code(
+pub(crate) fn fire_code(
     alloc: Global,
     kernel: &CodeKernel,
     item: Item,
@@ -107,7 +107,7 @@ pub fn fire_code(
 }
 
 /// A body runs on the row of these values.
-pub fn run_row(
+pub(crate) fn run_row(
     alloc: Global,
     kernel: &CodeKernel,
     row: &[i64],
@@ -144,7 +144,7 @@ fn give_values(values: &Numbers, out: &mut Emit) -> Result<(), NoMemory>
 }
 
 /// A value comes to a filter.
-pub fn fire_filter(
+pub(crate) fn fire_filter(
     alloc: Global,
     filter: &Filter,
     item: Item,
@@ -160,7 +160,7 @@ pub fn fire_filter(
 }
 
 /// The row of this value comes to a filter.
-pub fn filter_row(
+pub(crate) fn filter_row(
     alloc: Global,
     filter: &Filter,
     row: &[i64],
@@ -211,7 +211,7 @@ fn deal_item(
 }
 
 /// A splitter passes an item; a number of ports that is no u32 is want of memory.
-pub fn fire_deal(
+pub(crate) fn fire_deal(
     alloc: Global,
     weights: &Numbers,
     item: Item,
@@ -234,7 +234,7 @@ pub fn fire_deal(
 }
 
 /// A row is added to the table.
-pub fn fire_tally(item: Item, out: &mut Emit) -> Result<(), NoMemory>
+pub(crate) fn fire_tally(item: Item, out: &mut Emit) -> Result<(), NoMemory>
     requires row { IsRow item }
     requires room { 0 < length out.old.adds }
     ensures outs { OnOk result (out.new.outs ≡ out.old.outs) }

@@ -2,6 +2,7 @@
 #![tactic(auto)]
 
 mod bag;
+mod count;
 mod emit;
 mod firing;
 mod initial;
@@ -16,6 +17,7 @@ mod start;
 mod state;
 mod step;
 
+pub use count::next_count;
 pub use emit::{Emit, RowLists, Spare, clear_all};
 pub use firing::{blank_for, fire};
 pub use initial::{first_queues, first_tables};

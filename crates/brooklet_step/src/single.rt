@@ -1,5 +1,5 @@
 // One firing of a kernel that has no kernel inside.
-ghost use Rattle.std.specs.Prelude.{◌≡◌, ◌↔◌, IsTrue, OnOk};
+ghost use Rattle.std.specs.Prelude.{◌↔◌, IsTrue, OnOk};
 ghost use Rattle.river_kernels.specs.Kern.{kern_of};
 ghost use Rattle.brooklet_step.specs.Given.{IsLeafKernel, CanTake, FiresAt};
 
@@ -13,7 +13,7 @@ use river_plan::Kernel;
 use std::alloc::Global;
 
 /// Whether a kernel has no kernel inside.
-pub fn is_leaf(kernel: &Kernel) -> bool
+pub(crate) fn is_leaf(kernel: &Kernel) -> bool
     ensures { IsTrue result ↔ IsLeafKernel (kern_of kernel.now) }
 {
     match kernel {
@@ -23,7 +23,7 @@ pub fn is_leaf(kernel: &Kernel) -> bool
 }
 
 /// Such a kernel fires, under whatever types fit.
-pub fn fire_leaf(
+pub(crate) fn fire_leaf(
     alloc: Global,
     kernel: &Kernel,
     port: u32,

@@ -1,5 +1,5 @@
 // The beginning of a round.
-ghost use Rattle.std.specs.Prelude.{◌≡◌, ◌<◌, ◌≤◌, ◌+◌, ◌^◌, ◌++◌, ◌∷◌, [], ℕ, List, All, length, replicate, IfOk, OnErr, vec_len, vec_capacity};
+ghost use Rattle.std.specs.Prelude.{◌≡◌, ◌<◌, ◌≤◌, ◌+◌, ◌^◌, ◌∷◌, [], ℕ, List, All, length, replicate, IfOk, OnErr, vec_len, vec_capacity};
 ghost use Rattle.std.specs.Arc.{arc_value};
 ghost use Rattle.class_locks.specs.Views.{count_up, held_at_classes};
 ghost use Rattle.class_locks.specs.Seats.{TableId, IsSeated, IsLaid, seats_from, with_parts};

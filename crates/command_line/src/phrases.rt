@@ -1,5 +1,5 @@
 // What stands behind a program's file: options and words NAME=FILE, in any order.
-ghost use Rattle.std.specs.Prelude.{◌≡◌, ◌≤◌, ◌<◌, ◌+◌, ◌-◌, ◌^◌, [], ◌∷◌, length, take, drop, Some, None, IfOk, OnOk, IsErrOf, IsSome, IfSome, codes};
+ghost use Rattle.std.specs.Prelude.{◌≡◌, ◌≤◌, ◌<◌, ◌+◌, ◌-◌, ◌^◌, [], length, take, drop, Some, None, IfOk, OnOk, IsErrOf, IsSome, IfSome, codes};
 ghost use Rattle.command_line.specs.Limits.{most_workers, most_cap, most_start};
 ghost use Rattle.command_line.specs.Words.{name_part, rest_part, in_word_of};
 ghost use Rattle.command_line.specs.Commands.{with_header, with_counts, with_workers, with_cap, with_start, with_tasks};
@@ -11,11 +11,15 @@ use crate::command::{Command, InWord, WordFault};
 use crate::number::{read_from_zero, read_number};
 use crate::word_set::WordSet;
 use crate::words::is_file;
-use river_base::{NoMemory, Text};
+use river_base::{MOST_CAPACITY, NoMemory, Text};
 use std::alloc::Global;
 
 /// Adds to a command what the words behind its file say, if they are phrases that it takes, of which none stands twice.
-pub fn read_phrases(alloc: Global, words: &[Text], command: &mut Command) -> Result<(), WordFault>
+pub(crate) fn read_phrases(
+    alloc: Global,
+    words: &[Text],
+    command: &mut Command,
+) -> Result<(), WordFault>
     ensures ok { OnOk result (with_phrases command.old (phrases 0 words.now) ≡ Some command.new) }
     ensures usage { IsErrOf result WordFault.Usage → with_phrases command.old (phrases 0 words.now) ≡ None }
 {
@@ -65,8 +69,6 @@ const START: &[u8] = b"-s";
 const TASKS: &[u8] = b"-L";
 
 const MOST_WORKERS: u32 = 64;
-
-const MOST_CAP: u32 = 65_536;
 
 const MOST_START: u32 = 999_999_999;
 
@@ -207,7 +209,7 @@ fn add_cap(
     ensures usage { IsErrOf result WordFault.Usage
         → with_phrase (with_number word.now with_cap (number_ahead most_cap behind.now)) said.old command.old ≡ None }
 {
-    let Some(number) = number_ahead(behind, MOST_CAP) else {
+    let Some(number) = number_ahead(behind, MOST_CAPACITY) else {
         return Err(WordFault::Usage);
     };
     let fits = command.set_cap(Capacity::new(number));

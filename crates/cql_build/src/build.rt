@@ -1,5 +1,5 @@
 // The queues and operators of a query.
-ghost use Rattle.std.specs.Prelude.{◌≡◌, ◌≤◌, ◌<◌, ◌^◌, ◌+◌, ◌++◌, ◌∷◌, [], IfOk, OnOk, length, drop};
+ghost use Rattle.std.specs.Prelude.{◌≡◌, ◌≤◌, ◌<◌, ◌^◌, ◌+◌, ◌∷◌, [], IfOk, OnOk, length, drop};
 ghost use Rattle.std.specs.List.{AllByRecursion};
 ghost use Rattle.river_kernels.specs.Fits.{stream, relation};
 ghost use Rattle.river_kernels.specs.Kern.{window, cross};

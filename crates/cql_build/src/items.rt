@@ -13,7 +13,7 @@ use crate::Known;
 use crate::item::item_name;
 use cql_model::Fault;
 use cql_text::{Source, Window};
-use river_base::Name;
+use river_base::{MOST_KEPT, Name};
 
 impl Known {
     /// The first fault of a query's items.
@@ -64,7 +64,7 @@ fn is_rows_fault(window: Window) -> bool
     ensures { result ≡ is_rows_fault (window_of window) }
 {
     match window {
-        Window::Rows(n) => n == 0 || n > 1_000_000,
+        Window::Rows(n) => n == 0 || n > MOST_KEPT,
         Window::Now | Window::Range(_, _) | Window::Unbounded => false,
     }
 }

@@ -11,7 +11,7 @@ use crate::Known;
 use crate::columns::{column_names, copied};
 use crate::values::{count, selected_fault};
 use cql_model::{Fault, Refusal};
-use cql_text::{Unit, Query, Stream};
+use cql_text::{Query, Stream, Unit};
 use river_base::{Name, NoMemory};
 use river_plan::Names;
 use std::alloc::Global;

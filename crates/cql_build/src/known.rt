@@ -1,5 +1,5 @@
 // The streams and queries that are known.
-ghost use Rattle.std.specs.Prelude.{◌≡◌, ◌<◌, [], ◌∷◌, List, OnOk};
+ghost use Rattle.std.specs.Prelude.{◌<◌, [], ◌∷◌, List, OnOk};
 ghost use Rattle.std.specs.Option.{option_copied};
 ghost use Rattle.cql_model.specs.Scopes.{Named};
 ghost use Rattle.cql_build.specs.Knowing.{Knows, IsFound};

@@ -16,7 +16,7 @@ use river_base::{Name, NoMemory};
 use river_kernels::Kernel;
 use river_plan::{Names, Op};
 use std::alloc::Global;
-use work_code::Exprs;
+use work_code::{Exprs, Formula, Formulas};
 
 /// The list of one name.
 pub(crate) fn one(alloc: Global, name: Name) -> Result<Names, NoMemory>
@@ -87,7 +87,7 @@ pub(crate) fn select_op(
     let writes = one(alloc, name)?;
     Ok(Op {
         label: name,
-        kernel: Kernel::Select(resolve(alloc, items, value)?),
+        kernel: Kernel::Select(Formula::of(alloc, resolve(alloc, items, value)?)?),
         reads,
         writes,
         vars: Names::new(alloc),
@@ -109,7 +109,7 @@ pub(crate) fn project_op(
     let writes = one(alloc, name)?;
     Ok(Op {
         label: name,
-        kernel: Kernel::Project(values(alloc, items, columns)?),
+        kernel: Kernel::Project(Formulas::of(alloc, values(alloc, items, columns)?)?),
         reads,
         writes,
         vars: Names::new(alloc),

@@ -22,7 +22,7 @@ use crate::uses::StreamUses;
 use cql_model::{Fault, Refusal};
 use cql_text::Unit;
 use plan_check::check;
-use river_base::NoMemory;
+use river_base::{MOST_OPERATORS, NoMemory};
 use river_plan::{Decl, Decls, Names, Ops, Plan, PlanFault, RawPlan};
 use std::alloc::Global;
 
@@ -69,7 +69,7 @@ fn faultless(alloc: Global, units: &[Unit]) -> Result<Plan, Refused>
     ensures refused { IfErr result (IsWhyRefused (unit_forms units.now)) }
 {
     let mut uses = StreamUses::of(alloc, units)?;
-    if uses.all.len() > 256 {
+    if uses.all.len() > MOST_OPERATORS as usize {
         return Err(limited(units.len()));
     }
     let raw = lists(alloc, &mut uses, units)?;
@@ -132,7 +132,12 @@ fn lists(alloc: Global, uses: &mut StreamUses, units: &[Unit]) -> Result<RawPlan
 }
 
 // Fills lists that are empty.
-fn fill(alloc: Global, raw: &mut RawPlan, uses: &mut StreamUses, units: &[Unit]) -> Result<(), NoMemory>
+fn fill(
+    alloc: Global,
+    raw: &mut RawPlan,
+    uses: &mut StreamUses,
+    units: &[Unit],
+) -> Result<(), NoMemory>
     requires empty { plan_form raw.old ≡ empty_form }
     requires accepted { IsPlannable (unit_forms units.now) }
     requires short { HaveShortNames (unit_forms units.now) }
@@ -192,7 +197,12 @@ fn copy_inputs(
 }
 
 // One of them.
-fn copy_unit(alloc: Global, raw: &mut RawPlan, uses: &StreamUses, part: &Unit) -> Result<(), NoMemory>
+fn copy_unit(
+    alloc: Global,
+    raw: &mut RawPlan,
+    uses: &StreamUses,
+    part: &Unit,
+) -> Result<(), NoMemory>
     requires short { IsShortRegistered (unit_form part.now) }
     requires few { length uses.now.all ≤ 256 }
     requires narrow { IsNarrow (unit_form part.now) }

@@ -15,7 +15,7 @@ use crate::build::{crosses, project, select, width, windows};
 use crate::output::output;
 use crate::uses::StreamUses;
 use crate::{Item, Known};
-use cql_text::{Columns, Unit, Query};
+use cql_text::{Columns, Query, Unit};
 use river_base::{Name, NoMemory};
 use river_plan::RawPlan;
 use std::alloc::Global;

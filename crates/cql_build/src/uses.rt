@@ -8,7 +8,7 @@ ghost use Rattle.cql_build.specs.Grown.{Notes};
 
 use crate::names::{Mark, marked};
 use crate::values::count;
-use cql_text::{Unit, Source};
+use cql_text::{Source, Unit};
 use river_base::{Name, NoMemory};
 use river_plan::Names;
 use std::alloc::Global;

@@ -18,7 +18,7 @@ use Rattle.cql_text.specs.Grammar.{IsUnit, IsUnitAt}
 use Rattle.cql_text.specs.Reading.{kind_at, is_time, is_time_at, time_at, span_at, range_at, rows_at, window_after, window_at, in_brackets_at, alias_at}
 use Rattle.cql_text.specs.Reading.{is_alias_at, called_at, source_at, sources_at, as_at, column_at, chosen_at, columns_at, in_round_at, where_at, behind_at}
 use Rattle.cql_text.specs.Reading.{selected_at, query_at, names_at, fields_at, stream_at, unit_at}
-use Rattle.cql_text.specs.Values.{word_op, of_rank, IsLeaf, Spells, IsScalar}
+use Rattle.cql_text.specs.Values.{word_op, of_rank, IsLeaf, IsScalar, syntax}
 use Rattle.cql_text.specs.Values as rule
 use Rattle.cql_text.specs.Words.{is_keyword, is_keyword_at, is_plain, Plain, Keyword}
 use Rattle.cql_text.specs.declared.tree.TimeUnit.{TimeUnit}
@@ -26,6 +26,10 @@ use Rattle.cql_text.specs.declared.tree.TimeUnit.TheVariants as time
 use Rattle.cql_text.proofs.Seven.{sign-no_star}
 use Rattle.cql_text.proofs.Values.{Ends, exact-numeral, exact-scalar}
 use Rattle.cql_text.proofs.Words.{exact-plain, exact-keyword, keyword-at, other_word, plain-as, where-not_plain}
+
+-- the tokens stand for the value, on the level above `rank` others, where `n` more brackets may be open
+abbrev pub Spells : (n rank : ℕ) → Scalar → List Tok → Type 0
+Spells n rank t ts = levels.Spells syntax IsLeaf n rank t ts
 
 -- WINDOWS
 

@@ -8,7 +8,7 @@ use Rattle.std.proofs.lemmas.Bool.{and_parts, or_parts, not-true}
 use Rattle.std.proofs.lemmas.Slice.Eq.{bytes_eq-Decides}
 use Rattle.river_base.specs.Name.{is_name}
 use Rattle.text_tokens.specs.Tok.{Tok, name, var, number, symbol}
-use Rattle.text_forms.specs.Names.{is_free}
+use Rattle.text_forms.specs.Names.{is_free_name}
 use Rattle.text_forms.specs.Parse as parse
 use Rattle.text_forms.specs.Tail.{tail}
 use Rattle.text_forms.proofs.Exact.{Exact, Front, Any, exact-tested, exact-name, if-some}
@@ -28,19 +28,19 @@ among_none P [] e = tt
 among_none P (w ∷ ws) e = let p = or_parts (P w) (list_any P ws) e in (p.0, among_none P ws p.1)
 
 -- a name that users may give is a name, at most 40 bytes and without `@`
-pub plain-parts : (text : List ℕ) → is_plain text ≡ true → (is_name text ≡ true) × (is_free [] text ≡ true)
+pub plain-parts : (text : List ℕ) → is_plain text ≡ true → (is_name text ≡ true) × (is_free_name [] text ≡ true)
 unfolding is_plain
 plain-parts text h =
-    let a = and_parts (is_name text) (is_free [] text && not (list_any (λ word. is_keyword word text) keywords)) h in
-    (a.0, (and_parts (is_free [] text) (not (list_any (λ word. is_keyword word text) keywords)) a.1).0)
+    let a = and_parts (is_name text) (is_free_name [] text && not (list_any (λ word. is_keyword word text) keywords)) h in
+    (a.0, (and_parts (is_free_name [] text) (not (list_any (λ word. is_keyword word text) keywords)) a.1).0)
 
 -- a name that users may give is no keyword
 pub plain-words : (text : List ℕ) → is_plain text ≡ true → AllFalse (λ word. is_keyword word text) keywords
 unfolding is_plain
 plain-words text h =
-    let a = and_parts (is_name text) (is_free [] text && not (list_any (λ word. is_keyword word text) keywords)) h in
+    let a = and_parts (is_name text) (is_free_name [] text && not (list_any (λ word. is_keyword word text) keywords)) h in
     among_none (λ word. is_keyword word text) keywords
-    (not-true (list_any (λ word. is_keyword word text) keywords) (and_parts (is_free [] text) (not (list_any (λ word. is_keyword word text) keywords)) a.1).1)
+    (not-true (list_any (λ word. is_keyword word text) keywords) (and_parts (is_free_name [] text) (not (list_any (λ word. is_keyword word text) keywords)) a.1).1)
 
 -- the name of a user is not the word `Not`
 pub plain-not : (text : List ℕ) → is_plain text ≡ true → is_keyword (codes "not") text ≡ false

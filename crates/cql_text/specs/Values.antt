@@ -15,7 +15,6 @@ use Rattle.text_tokens.specs.Tok as tok
 use Rattle.text_tokens.specs.declared.sign.Symbol.{Symbol}
 use Rattle.text_tokens.specs.declared.sign.Symbol.TheVariants as s
 use Rattle.text_forms.specs.Levels.{Level, Chain, Once, Prefix, Syntax, IsWhole}
-use Rattle.text_forms.specs.Levels as levels
 use Rattle.text_forms.specs.Parse.{begins_with, is_value}
 use Rattle.cql_text.specs.Tree.{Scalar, Number, Field, ItemField, Neg, Not, Bin, scalar_depth}
 use Rattle.cql_text.specs.Words.{is_keyword, is_keyword_at, is_plain}
@@ -101,10 +100,6 @@ pub data IsLeaf : (n : ℕ) (t : Scalar) (ts : List Tok) → Type 0 where
   number : (n v : ℕ) → is_value v ≡ true → IsLeaf n (Number v) (tok.number v ∷ [])
   field : (n : ℕ) (f : List ℕ) → is_plain f ≡ true → IsLeaf n (Field f) (tok.name f ∷ [])
   of_item : (n : ℕ) (a f : List ℕ) → is_plain a ≡ true → is_plain f ≡ true → IsLeaf n (ItemField a f) (tok.name a ∷ tok.symbol s.Dot ∷ tok.name f ∷ [])
-
--- the tokens stand for the value, on the level above `rank` others, where `n` more brackets may be open
-abbrev pub Spells : (n rank : ℕ) → Scalar → List Tok → Type 0
-Spells n rank t ts = levels.Spells syntax IsLeaf n rank t ts
 
 -- a value, where `n` more brackets may be open: at most 64 deep
 abbrev pub IsScalar : ℕ → Scalar → List Tok → Type 0

@@ -5,7 +5,7 @@ use Rattle.std.specs.Str.{str_eq_ignore_ascii_case}
 use Rattle.river_base.specs.Name.{is_name}
 use Rattle.text_tokens.specs.Tok.{Tok, name, var, number, symbol}
 use Rattle.text_forms.specs.Forms as form
-use Rattle.text_forms.specs.Names.{is_free}
+use Rattle.text_forms.specs.Names.{is_free_name}
 use Rattle.text_forms.specs.Parse.{Parse, tested, name_at}
 use Rattle.text_forms.specs.Tail.{tail}
 
@@ -21,7 +21,7 @@ keywords =
 
 -- a name that users may give: at most 40 bytes, no @, and no keyword
 unfoldable pub is_plain : List ℕ → Bool
-is_plain text = is_name text && (is_free [] text && not (list_any (λ word. is_keyword word text) keywords))
+is_plain text = is_name text && (is_free_name [] text && not (list_any (λ word. is_keyword word text) keywords))
 
 abbrev pub Plain : List ℕ → List Tok → Type 0
 Plain = form.Tested is_plain form.NameToken

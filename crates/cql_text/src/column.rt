@@ -1,5 +1,5 @@
 // Columns read.
-ghost use Rattle.std.specs.Prelude.{◌≡◌, map};
+ghost use Rattle.std.specs.Prelude.{map};
 ghost use Rattle.text_forms.specs.Gives.{Gives};
 ghost use Rattle.cql_text.specs.Reading.{as_at, column_at, chosen_at, columns_at, in_round_at};
 ghost use Rattle.cql_text.specs.Tree.{column_of, columns_of};
@@ -60,7 +60,7 @@ fn columns(reader: &mut Reader<'_>, alloc: Global) -> Result<Columns, ParseFault
 
 /// What a query selects, in its brackets.
 #[tactic(auto, unfolding(crate::specs::Reading::in_round_at))]
-pub fn in_round(reader: &mut Reader<'_>, alloc: Global) -> Result<Columns, ParseFault>
+pub(crate) fn in_round(reader: &mut Reader<'_>, alloc: Global) -> Result<Columns, ParseFault>
     ensures { Gives columns_of result reader.new (in_round_at reader.old) }
 {
     reader.expect(&[Symbol::Open])?;

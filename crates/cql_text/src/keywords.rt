@@ -34,14 +34,14 @@ const WORDS: &[&[u8]] = &[
 ];
 
 /// Whether this text is this word, in any letter case.
-pub fn is_keyword(text: &[u8], word: &[u8]) -> bool
+pub(crate) fn is_keyword(text: &[u8], word: &[u8]) -> bool
     ensures { result ≡ is_keyword word.now text.now }
 {
     text.eq_ignore_ascii_case(word)
 }
 
 /// Whether this word comes next.
-pub fn is_at_keyword(reader: &Reader<'_>, word: &[u8]) -> bool
+pub(crate) fn is_at_keyword(reader: &Reader<'_>, word: &[u8]) -> bool
     ensures { result ≡ is_keyword_at word.now reader.now }
 {
     let Some(Token::Name(text)) = reader.peek() else {
@@ -51,7 +51,7 @@ pub fn is_at_keyword(reader: &Reader<'_>, word: &[u8]) -> bool
 }
 
 /// Passes over this word where it comes next, and says whether it did.
-pub fn takes_keyword(reader: &mut Reader<'_>, word: &[u8]) -> bool
+pub(crate) fn takes_keyword(reader: &mut Reader<'_>, word: &[u8]) -> bool
     ensures taken { result ≡ is_keyword_at word.now reader.old }
     ensures rest { reader.new ≡ (if result then tail reader.old else reader.old) }
 {
@@ -63,7 +63,7 @@ pub fn takes_keyword(reader: &mut Reader<'_>, word: &[u8]) -> bool
 }
 
 /// Passes over this word, which has to come next.
-pub fn keyword(reader: &mut Reader<'_>, word: &[u8]) -> Result<(), ParseFault>
+pub(crate) fn keyword(reader: &mut Reader<'_>, word: &[u8]) -> Result<(), ParseFault>
     ensures { PassesOver result reader.new (keyword_at word.now reader.old) }
 {
     if takes_keyword(reader, word) {
@@ -87,7 +87,7 @@ fn is_among(text: &[u8], words: &[&[u8]]) -> bool
 
 /// The name of this text, where users may give it: at most 40 bytes, no `@`, and no keyword.
 #[tactic(auto, unfolding(crate::specs::Words::is_plain))]
-pub fn plain(text: &[u8]) -> Option<Name>
+pub(crate) fn plain(text: &[u8]) -> Option<Name>
     ensures { SomeIff result (IsTrue (is_plain text.now)) text.now }
 {
     if is_free(text, &[]) && !is_among(text, WORDS) {
@@ -99,7 +99,7 @@ pub fn plain(text: &[u8]) -> Option<Name>
 
 /// The name that has to come next, which is one that users may give.
 #[tactic(auto, unfolding(crate::specs::Words::plain_at))]
-pub fn plain_name(reader: &mut Reader<'_>) -> Result<Name, ParseFault>
+pub(crate) fn plain_name(reader: &mut Reader<'_>) -> Result<Name, ParseFault>
     ensures { Gives (λ name. name) result reader.new (plain_at reader.old) }
 {
     let text = reader.name()?;
@@ -110,7 +110,7 @@ pub fn plain_name(reader: &mut Reader<'_>) -> Result<Name, ParseFault>
 }
 
 /// Whether a name of its own comes next, behind `As` or not.
-pub fn is_at_alias(reader: &Reader<'_>) -> bool
+pub(crate) fn is_at_alias(reader: &Reader<'_>) -> bool
     ensures { result ≡ is_alias_at reader.now }
 {
     let Some(Token::Name(text)) = reader.peek() else {

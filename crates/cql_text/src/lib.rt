@@ -14,6 +14,6 @@ mod window;
 pub use operator::Operator;
 pub use read::read_cql;
 pub use tree::{
-    Column, Columns, CqlProgram, Kind, Numeral, Unit, Query, Scalar, Source, Stream, TimeUnit,
+    Column, Columns, CqlProgram, Kind, Numeral, Query, Scalar, Source, Stream, TimeUnit, Unit,
     Window,
 };

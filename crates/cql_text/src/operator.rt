@@ -112,7 +112,7 @@ fn operator_at(reader: &Reader<'_>, rank: u32) -> Option<Operator>
 }
 
 /// Passes over the operator of this level, where one comes next.
-pub fn take_operator(reader: &mut Reader<'_>, rank: u32) -> Option<Operator>
+pub(crate) fn take_operator(reader: &mut Reader<'_>, rank: u32) -> Option<Operator>
     ensures found { result ≡ operator_at rank reader.old }
     ensures rest { reader.new ≡ (if is_some result then tail reader.old else reader.old) }
 {

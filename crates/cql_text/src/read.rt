@@ -1,5 +1,5 @@
 // From the tokens of a text to its program.
-ghost use Rattle.std.specs.Prelude.{◌≡◌, ◌<◌, ◌^◌, length, IfOk, IfErr};
+ghost use Rattle.std.specs.Prelude.{◌<◌, ◌^◌, length, IfOk, IfErr};
 ghost use Rattle.text_tokens.specs.Cut.{units_of};
 ghost use Rattle.text_tokens.specs.Tok.{toks};
 ghost use Rattle.cql_text.specs.Faults.{StandFor, Refuses};

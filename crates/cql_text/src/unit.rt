@@ -10,7 +10,7 @@ use crate::column::in_round;
 use crate::keywords::{is_at_keyword, is_keyword, keyword, plain_name, takes_keyword};
 use crate::value::value;
 use crate::window::sources;
-use crate::{Columns, Kind, Unit, Query, Scalar, Source, Stream};
+use crate::{Columns, Kind, Query, Scalar, Source, Stream, Unit};
 use river_base::Name;
 use std::alloc::Global;
 use text_forms::{ParseFault, Reader, Units};
@@ -162,7 +162,7 @@ fn unit(reader: &mut Reader<'_>, alloc: Global) -> Result<Unit, ParseFault>
 }
 
 /// CQL, for the reader that reads the units of any language.
-pub struct CqlGrammar;
+pub(crate) struct CqlGrammar;
 
 impl Units for CqlGrammar {
     ghost use Rattle.cql_text.specs.Reading.{unit_at};

@@ -9,12 +9,12 @@ use crate::operator::{Sign, take_operator};
 use crate::{Numeral, Operator, Scalar};
 use river_base::NoMemory;
 use std::alloc::Global;
-use text_forms::{Dialect, ParseFault, Form, Reader, TokenSource, read};
+use text_forms::{Dialect, Form, ParseFault, Reader, TokenSource, read};
 use text_tokens::{Symbol, Token};
 
 /// A number of at most 63 bits.
 #[tactic(auto, unfolding(crate::specs::ValueReading::numeral_at))]
-pub fn numeral(reader: &mut Reader<'_>) -> Result<Numeral, ParseFault>
+pub(crate) fn numeral(reader: &mut Reader<'_>) -> Result<Numeral, ParseFault>
     ensures { Gives (λ n. n.value) result reader.new (numeral_at reader.old) }
 {
     let value = reader.number()?;
@@ -153,7 +153,11 @@ impl<'a> Dialect<Reader<'a>> for Scalars {
 
 /// A value, at most 64 deep, where `brackets` more brackets may be open.
 #[tactic(auto, unfolding(crate::specs::ValueReading::scalar_at))]
-pub fn value(reader: &mut Reader<'_>, alloc: Global, brackets: u32) -> Result<Scalar, ParseFault>
+pub(crate) fn value(
+    reader: &mut Reader<'_>,
+    alloc: Global,
+    brackets: u32,
+) -> Result<Scalar, ParseFault>
     ensures { Gives scalar result reader.new (scalar_at brackets reader.old) }
 {
     read(&Scalars, reader, alloc, brackets)

@@ -137,7 +137,7 @@ fn source(reader: &mut Reader<'_>) -> Result<Source, ParseFault>
 
 /// From items, at least one.
 #[tactic(auto, unfolding(crate::specs::Reading::sources_at), using(crate::proofs::Lists::sources))]
-pub fn sources(reader: &mut Reader<'_>, alloc: Global) -> Result<Vec<Source>, ParseFault>
+pub(crate) fn sources(reader: &mut Reader<'_>, alloc: Global) -> Result<Vec<Source>, ParseFault>
     ensures { Gives (λ list. map source_of list.items) result reader.new (sources_at reader.old) }
 {
     let mut list = Vec::new(alloc);

@@ -1,5 +1,5 @@
 // The loop that cuts a file.
-ghost use Rattle.std.specs.Prelude.{◌≡◌, ◌≤◌, ◌<◌, ◌-◌, ◌⊎◌, [], ◌∷◌, drop, length, ℕ, Bool, List, Option, OnOk, OnErr};
+ghost use Rattle.std.specs.Prelude.{◌≡◌, ◌≤◌, ◌<◌, ◌-◌, [], ◌∷◌, drop, length, ℕ, Bool, List, Option, OnOk, OnErr};
 ghost use Rattle.csv_cuts.specs.Cut as cut;
 ghost use Rattle.river_outside.specs.Causes.{Rose};
 

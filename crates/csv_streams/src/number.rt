@@ -1,5 +1,5 @@
 // The number that a field writes.
-ghost use Rattle.std.specs.Prelude.{◌≡◌, ◌-◌, ◌^◌, ◌≤◌, length, take, drop, option_map};
+ghost use Rattle.std.specs.Prelude.{◌≡◌, ◌-◌, ◌≤◌, length, take, drop, option_map};
 ghost use Rattle.std.specs.List.{list_all};
 ghost use Rattle.csv_streams.specs.Number as number;
 

@@ -80,7 +80,12 @@ pub fn print_outputs(
 }
 
 #[tactic(auto, using(crate::proofs::Texts::joins))]
-fn print_output(alloc: Global, name: &Name, items: &ItemLine, to: &mut Bytes) -> Result<(), NoMemory>
+fn print_output(
+    alloc: Global,
+    name: &Name,
+    items: &ItemLine,
+    to: &mut Bytes,
+) -> Result<(), NoMemory>
     ensures { OnOk result (to.new ≡ to.old ++ text.output_text name.now items.now) }
 {
     print_head(name, to)?;

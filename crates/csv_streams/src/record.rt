@@ -16,7 +16,7 @@ use std::alloc::Global;
 const MAX_FIELDS: usize = MAX_ROW + 1;
 
 /// A reader of the records of these bytes, with commas and double quotes, none of which is a header.
-pub fn reader_of(alloc: Global, bytes: &Bytes) -> Reader<&[u8]>
+pub(crate) fn reader_of(alloc: Global, bytes: &Bytes) -> Reader<&[u8]>
     ensures { IsBehind bytes.now [] result }
 {
     ReaderBuilder::new()
@@ -26,7 +26,7 @@ pub fn reader_of(alloc: Global, bytes: &Bytes) -> Reader<&[u8]>
 }
 
 /// Reads the next record, if there is one; a reader of bytes fails for want of memory alone.
-pub fn read_record(rdr: &mut Reader<&[u8]>, raw: &mut ByteRecord) -> Result<bool, InFault>
+pub(crate) fn read_record(rdr: &mut Reader<&[u8]>, raw: &mut ByteRecord) -> Result<bool, InFault>
     requires { (bytes : List ℕ) × (recs : List (List (List ℕ))) × IsBehind bytes recs rdr.old }
     ensures ok { IfOk result (λ found. (bytes : List ℕ) (recs : _) → IsBehind bytes recs rdr.old → ReadsRecord bytes recs (fields_of raw.new) rdr.new found) }
     ensures fault { IfErr result (λ f. f ≡ fault.NoMemory) }
@@ -38,14 +38,14 @@ pub fn read_record(rdr: &mut Reader<&[u8]>, raw: &mut ByteRecord) -> Result<bool
 }
 
 /// How many records are passed over at the front.
-pub fn headers(skip_first: bool) -> u32
+pub(crate) fn headers(skip_first: bool) -> u32
     ensures { result ≡ headers skip_first }
 {
     if skip_first { 1 } else { 0 }
 }
 
 /// The first values of record number `rec`, as many as `width`, where `last` is the number of the last record that may be.
-pub fn values_in(
+pub(crate) fn values_in(
     raw: &ByteRecord,
     rec: u32,
     last: u32,

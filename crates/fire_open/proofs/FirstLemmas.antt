@@ -35,8 +35,12 @@ use Rattle.fire_tasks.specs.declared.task.Task.{Task}
 use Rattle.fire_tasks.specs.Layout.{IsInput, IsStored}
 use Rattle.fire_tasks.specs.Ports.{OutEnd, SendsRows, out_end, out_ends, received_of, received_in, sent_of, sent_in}
 use Rattle.fire_tasks.specs.Adds.{AreHomes}
-use Rattle.fire_open.specs.First.{first_lines, whole_list, IsFirstTask, AreFirstTasks}
+use Rattle.fire_open.specs.First.{whole_list, IsFirstTask, AreFirstTasks}
 use Rattle.fire_open.specs.Fresh.{IsFresh, AreFresh}
+
+-- the items of each queue: the outputs, the inputs, the others
+abbrev pub first_lines : PlanForm → List (List item.Item) → List (List item.Item)
+first_lines p inputs = replicate (length p.outputs) [] ++ (inputs ++ replicate (length p.queues) [])
 
 -- an element of a mapped list comes from one of the list
 pub map_got : {A B : Type 0} (f : A → B) (xs : List A) (n : ℕ) (y : B) → slice_get (map f xs) n ≡ Some y → (x : A) × (slice_get xs n ≡ Some x) × (f x ≡ y)

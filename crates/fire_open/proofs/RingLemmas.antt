@@ -14,7 +14,8 @@ use Rattle.river_rings.specs.Ends.{Sending, Taking}
 use Rattle.fire_open.specs.declared.settling.Link.{Link}
 use Rattle.fire_tasks.specs.declared.task.Task.{Task}
 use Rattle.fire_tasks.specs.Layout.{IsLink, IsSettled}
-use Rattle.fire_tasks.specs.Ports.{SendsRows, out_end, rows_of, width_of, sent_of, sent_in, received_of, received_in}
+use Rattle.fire_tasks.specs.Ports.{SendsRows, out_end, ring_width, sent_of, sent_in, received_of, received_in}
+use Rattle.river_base.specs.WideRows.{rows_type}
 use Rattle.fire_open.specs.Settling.{with_out, with_in}
 use Rattle.fire_tasks.proofs.NetLemmas.{received_here, sent_here}
 use Rattle.fire_tasks.proofs.PortLemmas.{received_same}
@@ -204,7 +205,7 @@ rung_next room ts0 ts ts' ls n l th g h put = record {
 -- an empty ring was put there
 pub put_is : (cap : ℕ) (ts : List Task) (l : Link) (out : outlet.Outlet) (in_ : inlet.Inlet) (w r : Task) → w ≡ get_or ts l.writer w
     → r ≡ get_or (set ts l.writer (with_out w l.out out)) l.reader r → l.writer < l.reader → l.reader < length ts → IsBlankRing cap out in_
-    → ((d : Task) → SendsRows (out_end out) → slice_get (get_or ts l.reader d).kinds l.port ≡ Some (rows_of (width_of (out_end out))))
+    → ((d : Task) → SendsRows (out_end out) → slice_get (get_or ts l.reader d).kinds l.port ≡ Some (rows_type (ring_width (out_end out))))
     → Put cap ts (set (set ts l.writer (with_out w l.out out)) l.reader (with_in r l.port in_)) l
 put_is cap ts l out in_ w r wi ri lt lr h fit = record {
   out = out;
@@ -218,7 +219,7 @@ put_is cap ts l out in_ w r wi ri lt lr h fit = record {
   };
   link = h.link;
   settled = h.settled;
-  fits = λ rows. subst (λ (y : Task). slice_get y.kinds l.port ≡ Some (rows_of (width_of (out_end out)))) (sym reader_is) (fit r rows);
+  fits = λ rows. subst (λ (y : Task). slice_get y.kinds l.port ≡ Some (rows_type (ring_width (out_end out)))) (sym reader_is) (fit r rows);
   sent = h.sent;
   received = h.received;
 }

@@ -8,7 +8,8 @@ use Rattle.river_plan.specs.Forms.{OpForm, PlanForm, all_decls}
 use Rattle.river_plan.specs.Kinds.{kind_of}
 use Rattle.fire_tasks.specs.declared.task.Task.{Task}
 use Rattle.fire_tasks.specs.Fired.{kinds_in, kinds_out}
-use Rattle.fire_tasks.specs.Ports.{SendsRows, rows_of, width_of, out_end, out_ends}
+use Rattle.fire_tasks.specs.Ports.{SendsRows, ring_width, out_end, out_ends}
+use Rattle.river_base.specs.WideRows.{rows_type}
 use Rattle.fire_tasks.specs.Tasks.{FitRings, IsTask}
 use Rattle.fire_open.specs.declared.settling.Link.{Link}
 use Rattle.fire_open.specs.Fresh.{AreFresh}
@@ -60,16 +61,16 @@ module _ (p : PlanForm) (inputs : List (List item.Item)) (room : Link → ℕ) (
     lk : IsLinkOf p l
     lk = links.right m l gl
 
-    read_kind : SendsRows (out_end here.out) → slice_get (kinds_in p lk.read) l.port ≡ Some (rows_of (width_of (out_end here.out)))
+    read_kind : SendsRows (out_end here.out) → slice_get (kinds_in p lk.read) l.port ≡ Some (rows_type (ring_width (out_end here.out)))
     read_kind rows =
         let x = here.ends in
         let w = r.rung m l here.out here.in_ (slice_get_within ls m l gl) gl x in
         sym (ap (λ ks. slice_get ks l.port) (kinds_here l.reader x.t lk.read x.t_is lk.read_is)) ∙ w.2 rows
 
-    write_kind : SendsRows (out_end here.out) → slice_get (kinds_out p lk.write) l.out ≡ Some (rows_of (width_of (out_end here.out)))
+    write_kind : SendsRows (out_end here.out) → slice_get (kinds_out p lk.write) l.out ≡ Some (rows_type (ring_width (out_end here.out)))
     write_kind rows =
         let kind = kind_of (all_decls p) in
-        let wide = rows_of (width_of (out_end here.out)) in
+        let wide = rows_type (ring_width (out_end here.out)) in
         let q : kind lk.queue ≡ wide =
         same_Some (kind lk.queue) wide (sym (got_map kind lk.read.reads l.port lk.queue lk.reads) ∙ read_kind rows) in
         got_map kind lk.write.writes l.out lk.queue lk.writes ∙ ap Some q
@@ -94,7 +95,7 @@ module _ (p : PlanForm) (inputs : List (List item.Item)) (room : Link → ℕ) (
       let eo : (lk f.0 l f.2).write ≡ op = same_Some (lk f.0 l f.2).write op (sym (lk f.0 l f.2).write_is ∙ ap (slice_get p.ops) f.3 ∙ op_is) in
       sym (ap (λ (y : OpForm). slice_get (kinds_out p y) j) eo) ∙ sym (ap (slice_get (kinds_out p (lk f.0 l f.2).write)) f.4)
       ∙ write_kind f.0 l f.2 sends
-      ∙ ap (λ x. Some (rows_of (width_of x))) end)
+      ∙ ap (λ x. Some (rows_type (ring_width x))) end)
       (find_link (λ l. l.writer) (λ l. l.out) ls o j)
     where
       k : IsTask p (λ j. []) t0

@@ -15,8 +15,13 @@ use Rattle.brooklet_model.proofs.Traces.{one_place, place_once, got_count, at_mo
 use Rattle.brooklet_step.proofs.ReadLemmas.{places_at}
 use Rattle.fire_tasks.specs.Inlet as inlet
 use Rattle.fire_tasks.specs.declared.task.Task.{Task}
-use Rattle.fire_open.specs.First.{whole_list, IsNoneOf, HasLeft, AreUnread, IsFirstTask, AreFirstTasks}
+use Rattle.fire_open.specs.First.{whole_list, IsNoneOf, HasLeft, IsFirstTask, AreFirstTasks}
 use Rattle.fire_open.proofs.FirstLemmas.{map_got, reads_there, first_none, first_more}
+
+-- the lines that no operator before number o reads are as they were at first
+pub record AreUnread (p : PlanForm) (qs0 : List (List item.Item)) (o : ℕ) (qs : List (List item.Item)) : Type 0 where
+  pub many : length qs ≡ length qs0
+  pub each : (n : ℕ) → ((m : ℕ) → m < o → IsNoneOf (list_at (read_places p) m) n) → list_at qs n ≡ list_at qs0 n
 
 -- ONE PORT FOR EACH PLACE
 

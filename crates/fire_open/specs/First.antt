@@ -1,5 +1,5 @@
 -- What the code makes of a plan before anything moves.
-use Rattle.std.specs.Prelude.{◌≡◌, ℕ, ◌<◌, ◌++◌, List, [], None, Some, length, map, replicate, slice_get}
+use Rattle.std.specs.Prelude.{◌≡◌, ℕ, ◌<◌, List, [], None, Some, length, map, replicate, slice_get}
 use Rattle.river_base.specs.declared.item.Item as item
 use Rattle.river_base.specs.declared.kind.QueueType.{QueueType}
 use Rattle.river_base.specs.Places.{list_at}
@@ -14,10 +14,6 @@ use Rattle.fire_tasks.specs.Outlet.{Stored}
 use Rattle.fire_tasks.specs.declared.task.Task.{Task}
 use Rattle.fire_tasks.specs.Adds.{AreHomes}
 
--- the items of each queue: the outputs, the inputs, the others
-abbrev pub first_lines : PlanForm → List (List item.Item) → List (List item.Item)
-first_lines p inputs = replicate (length p.outputs) [] ++ (inputs ++ replicate (length p.queues) [])
-
 -- the place n is none of these
 abbrev pub IsNoneOf : List ℕ → ℕ → Type 0
 IsNoneOf ps n = (port : ℕ) → slice_get ps port ≡ Some n → ⊥
@@ -26,11 +22,6 @@ IsNoneOf ps n = (port : ℕ) → slice_get ps port ≡ Some n → ⊥
 pub record HasLeft (ps : List ℕ) (qs qs' : List (List item.Item)) : Type 0 where
   pub many : length qs' ≡ length qs
   pub others : (n : ℕ) → IsNoneOf ps n → list_at qs' n ≡ list_at qs n
-
--- the lines that no operator before number o reads are as they were at first
-pub record AreUnread (p : PlanForm) (qs0 : List (List item.Item)) (o : ℕ) (qs : List (List item.Item)) : Type 0 where
-  pub many : length qs ≡ length qs0
-  pub each : (n : ℕ) → ((m : ℕ) → m < o → IsNoneOf (list_at (read_places p) m) n) → list_at qs n ≡ list_at qs0 n
 
 -- a kept list of the items of the queue at a place
 abbrev pub whole_list : List (List item.Item) → ℕ → inlet.Inlet

@@ -7,7 +7,8 @@ use Rattle.fire_tasks.specs.Outlet as outlet
 use Rattle.fire_open.specs.declared.settling.Link.{Link}
 use Rattle.fire_tasks.specs.declared.task.Task.{Task}
 use Rattle.fire_tasks.specs.Layout.{IsLink, IsPair, IsSettled}
-use Rattle.fire_tasks.specs.Ports.{SendsRows, rows_of, width_of, out_end, received_of, sent_of}
+use Rattle.fire_tasks.specs.Ports.{SendsRows, ring_width, out_end, received_of, sent_of}
+use Rattle.river_base.specs.WideRows.{rows_type}
 use Rattle.fire_open.specs.Settling.{with_out, with_in}
 
 -- the writer's port writes the queue that the reader's port reads
@@ -70,7 +71,7 @@ pub record IsBlankRing (cap : ℕ) (out : outlet.Outlet) (in_ : inlet.Inlet) : T
 
 -- a ring of rows was put only where the reader's port has rows of its width
 abbrev pub FitsLink : Task → Link → outlet.Outlet → Type 0
-FitsLink reader l f = SendsRows (out_end f) → slice_get reader.kinds l.port ≡ Some (rows_of (width_of (out_end f)))
+FitsLink reader l f = SendsRows (out_end f) → slice_get reader.kinds l.port ≡ Some (rows_type (ring_width (out_end f)))
 
 -- an empty ring was put there
 pub record Put (cap : ℕ) (ts ts' : List Task) (l : Link) : Type 0 where

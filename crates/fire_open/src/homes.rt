@@ -5,8 +5,7 @@ ghost use Rattle.fire_tasks.specs.Adds.{AreHomes, table_numbers};
 ghost use Rattle.fire_open.specs.Homes.{AreTableClasses, AreClassesOf, HasClass};
 
 use fire_tasks::TablePort;
-use plan_classes::classes;
-use plan_classes::table_users;
+use plan_classes::{classes, table_users};
 use river_base::{Listed, NoMemory, Numbers};
 use river_plan::Plan;
 use std::alloc::Global;

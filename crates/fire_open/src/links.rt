@@ -11,13 +11,13 @@ use std::alloc::Global;
 
 /// Where a queue is written: by which operator, at which of its ports.
 #[derive(Clone, Copy)]
-pub struct OutPort {
+pub(crate) struct OutPort {
     pub writer: usize,
     pub out: usize,
 }
 
 /// For each queue where it is written, if it is.
-pub type OutPorts = Listed<Option<OutPort>>;
+pub(crate) type OutPorts = Listed<Option<OutPort>>;
 
 // So many queues of which no writer is known.
 fn add_unknown(sources: &mut OutPorts, count: usize) -> Result<(), NoMemory>

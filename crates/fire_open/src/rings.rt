@@ -1,6 +1,7 @@
 // The rings of a net.
 ghost use Rattle.std.specs.Prelude.{◌≡◌, ◌<◌, ◌≤◌, Some, length, IfOk, OnOk, slice_get, slice_index_or, slice_set};
-ghost use Rattle.fire_tasks.specs.Ports.{SendsRows, out_end, rows_of, width_of};
+ghost use Rattle.fire_tasks.specs.Ports.{SendsRows, out_end, ring_width};
+ghost use Rattle.river_base.specs.WideRows.{rows_type};
 ghost use Rattle.river_plan.specs.Caps.{IsCap, AreCaps, IsOwnCap, first_cap, own_of};
 ghost use Rattle.river_plan.specs.Forms.{Name};
 ghost use Rattle.fire_open.specs.Links.{AreLinks, IsBlankRing, IsLinkOf, Put, room_of};
@@ -23,7 +24,7 @@ fn ring_for(
 ) -> Result<(Outlet, Inlet), NoMemory>
     requires { (1 ≤ cap) × (cap ≤ 65536) }
     ensures ring { IfOk result (λ r. IsBlankRing cap r.0 r.1) }
-    ensures fits { IfOk result (λ r. SendsRows (out_end r.0) → slice_get reader.now.kinds port ≡ Some (rows_of (width_of (out_end r.0)))) }
+    ensures fits { IfOk result (λ r. SendsRows (out_end r.0) → slice_get reader.now.kinds port ≡ Some (rows_type (ring_width (out_end r.0)))) }
 {
     match reader.width_at(port) {
         Some(width) => row_ring(alloc, width, cap),
@@ -35,7 +36,7 @@ fn ring_for(
 fn item_ring(alloc: Global, cap: u32) -> Result<(Outlet, Inlet), NoMemory>
     requires { (1 ≤ cap) × (cap ≤ 65536) }
     ensures ring { IfOk result (λ r. IsBlankRing cap r.0 r.1) }
-    ensures width { IfOk result (λ r. width_of (out_end r.0) ≡ 0) }
+    ensures width { IfOk result (λ r. ring_width (out_end r.0) ≡ 0) }
 {
     let (feed, take) = ring(alloc, cap)?;
     Ok((Outlet::of_items(feed), Inlet::of_items(take)))
@@ -46,7 +47,7 @@ fn row_ring(alloc: Global, width: u32, cap: u32) -> Result<(Outlet, Inlet), NoMe
     requires width { (1 ≤ width) × (width ≤ 16) }
     requires cap { (1 ≤ cap) × (cap ≤ 65536) }
     ensures ring { IfOk result (λ r. IsBlankRing cap r.0 r.1) }
-    ensures width { IfOk result (λ r. width_of (out_end r.0) ≡ width) }
+    ensures width { IfOk result (λ r. ring_width (out_end r.0) ≡ width) }
 {
     let (feed, take) = ring_of_rows(alloc, width, cap)?;
     Ok((Outlet::of_rows(feed), Inlet::of_rows(take)))

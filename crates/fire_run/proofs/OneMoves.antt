@@ -1,5 +1,5 @@
 -- What one move is.
-use Rattle.std.proofs.Common.{◌≡◌, ℕ, ℤ, ◌++◌, zero, suc, ◌+◌, ◌<◌, List, [], ◌∷◌, length, map, refl, sym, ap, ◌∙◌, arith, subst, length-append, Some, inl, inr, ⊎_elim, get_or, set}
+use Rattle.std.proofs.Common.{◌≡◌, ℕ, ℤ, ◌++◌, zero, suc, ◌+◌, ◌<◌, List, [], ◌∷◌, length, map, refl, sym, ap, ◌∙◌, arith, subst, Some, inl, inr, ⊎_elim, get_or, set}
 use Rattle.std.specs.Prelude.{None, replicate, slice_get}
 use Rattle.std.proofs.lemmas.List.{get_or-set_same, get_or_default}
 use Rattle.std.proofs.lemmas.Option.{slice_get-get_or}

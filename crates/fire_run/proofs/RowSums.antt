@@ -26,13 +26,13 @@ use Rattle.brooklet_step.proofs.NextLemmas.{got_place}
 use Rattle.brooklet_step.proofs.OpTables.{among_known, mine_many}
 use Rattle.brooklet_step.proofs.QueuePlaces.{place_is}
 use Rattle.class_locks.specs.declared.log.LogEntry.{LogEntry}
-use Rattle.class_locks.specs.Logs.{rows_in, rows_to, part_of_op}
+use Rattle.class_locks.specs.Logs.{rows_of_entry, rows_to, part_of_op}
 use Rattle.fire_tasks.specs.Adds.{AreEntries, IsEntryOf, added, rows_by, table_at, table_class, table_numbers}
 use Rattle.fire_tasks.proofs.Joining.{place_of}
 
 -- ONE ENTRY
 
-own_entry : (o table : ℕ) (e : LogEntry) (log : List LogEntry) → e.op ≡ o → rows_by o table (e ∷ log) ≡ rows_in table e ++ rows_by o table log
+own_entry : (o table : ℕ) (e : LogEntry) (log : List LogEntry) → e.op ≡ o → rows_by o table (e ∷ log) ≡ rows_of_entry table e ++ rows_by o table log
 own_entry o table e log q = ap (λ (b : Bool). rows_to table (if b then e ∷ part_of_op o log else part_of_op o log)) (eq-eqb e.op o q)
 
 other_entry : (o table : ℕ) (e : LogEntry) (log : List LogEntry) → e.op ≢ o → rows_by o table (e ∷ log) ≡ rows_by o table log
@@ -54,14 +54,14 @@ entry_away table e log o (suc m) lt =
     ∙ ap (λ l. rows_by o table log ++ l) (entry_away table e log (suc o) m (omega (arith, lt)))
 
 entry_here : (test : List ℤ → Bool) (table : ℕ) (e : LogEntry) (log : List LogEntry) (o m : ℕ) → o ≤ e.op → e.op < o + m
-    → count_by test (rows_of_all table (e ∷ log) o m) ≡ count_by test (rows_in table e) + count_by test (rows_of_all table log o m)
+    → count_by test (rows_of_all table (e ∷ log) o m) ≡ count_by test (rows_of_entry table e) + count_by test (rows_of_all table log o m)
 entry_here test table e log o zero le lt = absurd (omega (arith, le, lt))
 entry_here test table e log o (suc m) le lt = ⊎_elim
     (λ q.
     let a = ap (count_by test) (ap (λ l. l ++ rows_of_all table (e ∷ log) (suc o) m) (own_entry o table e log q)
-    ∙ ap (λ l. (rows_in table e ++ rows_by o table log) ++ l) (entry_away table e log (suc o) m (omega (arith, q)))) in
-    let b = count_by-append test (rows_in table e ++ rows_by o table log) (rows_of_all table log (suc o) m) in
-    let c = count_by-append test (rows_in table e) (rows_by o table log) in
+    ∙ ap (λ l. (rows_of_entry table e ++ rows_by o table log) ++ l) (entry_away table e log (suc o) m (omega (arith, q)))) in
+    let b = count_by-append test (rows_of_entry table e ++ rows_by o table log) (rows_of_all table log (suc o) m) in
+    let c = count_by-append test (rows_of_entry table e) (rows_by o table log) in
     let d = count_by-append test (rows_by o table log) (rows_of_all table log (suc o) m) in
     omega (arith, a, b, c, d))
     (λ ne.
@@ -79,7 +79,7 @@ log_rows : (table : ℕ) (log : List LogEntry) (m : ℕ) → All (λ (e : LogEnt
 log_rows table [] m h test = ap (count_by test) (sym (none_yet table 0 m))
 log_rows table (e ∷ log) m h test =
     let r = log_rows table log m (All-tail (λ (x : LogEntry). x.op < m) e log h) test in
-    let a = count_by-append test (rows_in table e) (rows_to table log) in
+    let a = count_by-append test (rows_of_entry table e) (rows_to table log) in
     let below = All-head (λ (x : LogEntry). x.op < m) e log h in
     let b = entry_here test table e log 0 m (omega arith) (omega (arith, below)) in
     omega (arith, r, a, b)

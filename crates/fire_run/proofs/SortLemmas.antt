@@ -16,7 +16,7 @@ use Rattle.fire_tasks.specs.Adds.{logs_of, table_class}
 use Rattle.fire_open.specs.Homes.{AreTableClasses, AreClassCells, kinds_from, class_kinds}
 use Rattle.fire_open.proofs.ClassLemmas.{kinds_next, class_kinds_are}
 use Rattle.fire_open.proofs.Lists.{set_got_same, set_got_other}
-use Rattle.fire_run.specs.Closed.{AreSorted, ArePlaced, tables_at}
+use Rattle.fire_run.specs.Closed.{AreInClassLists, ArePlaced, tables_at}
 
 -- LISTS AT CLASSES
 
@@ -49,14 +49,14 @@ snoc_some (y ∷ xs) x e = cc e
 -- the first n tables stand in the lists of their classes, and the others at their places
 pub record Going (class : ℕ → ℕ) (logs : ℕ → List LogEntry) (n : ℕ) (decls : List TableDecl) (lists : List (Vec Aggregate Global))
     (tables : List Aggregate) : Type 0 where
-  pub sorted : AreSorted class logs (take n decls) lists
+  pub sorted : AreInClassLists class logs (take n decls) lists
   pub placed : ArePlaced class logs n decls tables
 
 -- at first all tables stand in lists
 pub going_first : (class : ℕ → ℕ) (logs : ℕ → List LogEntry) (n : ℕ) (decls : List TableDecl) (lists : List (Vec Aggregate Global)) (tables : List Aggregate)
-    → AreSorted class logs decls lists → length tables ≡ length decls → n ≡ length decls → Going class logs n decls lists tables
+    → AreInClassLists class logs decls lists → length tables ≡ length decls → n ≡ length decls → Going class logs n decls lists tables
 going_first class logs n decls lists tables s l e = record {
-  sorted = subst (λ ds. AreSorted class logs ds lists) (sym (take_all n decls (omega (arith, e)))) s;
+  sorted = subst (λ ds. AreInClassLists class logs ds lists) (sym (take_all n decls (omega (arith, e)))) s;
   placed = record { many = l; each = λ m t le g. absurd (let w = slice_get_within decls m t g in omega (arith, w, le, e)) };
 }
 
@@ -140,7 +140,7 @@ going_end class logs n decls lists tables g e = subst (λ m. ArePlaced class log
 
 -- the lists of a plan's tables, by the list of their classes
 pub sorted_by : (p : PlanForm) (classes : List ℕ) (logs : ℕ → List LogEntry) (lists : List (Vec Aggregate Global)) → AreTableClasses p classes
-    → AreSorted (table_class p) logs p.tables lists → AreSorted (λ n. slice_index_or classes n 0) logs p.tables lists
+    → AreInClassLists (table_class p) logs p.tables lists → AreInClassLists (λ n. slice_index_or classes n 0) logs p.tables lists
 sorted_by p classes logs lists h s = record {
   there = λ m lm.
       let a = s.there m lm in
@@ -161,7 +161,7 @@ placed_by p classes logs tables h s = record {
 -- the tables of cells stand in the lists of their classes
 pub cells_sorted : (p : PlanForm) (cells : List Holding) (lists : List (Vec Aggregate Global)) → AreClassCells p cells
     → map (λ (l : Vec Aggregate Global). l.items) lists ≡ map (λ (x : Holding). map (replay x.log) x.kinds) cells
-    → AreSorted (table_class p) (logs_of cells) p.tables lists
+    → AreInClassLists (table_class p) (logs_of cells) p.tables lists
 cells_sorted p cells lists h e =
     let long : length lists ≡ length cells = sym (length-map lists (λ (l : Vec Aggregate Global). l.items)) ∙ ap length e
     ∙ length-map cells (λ (x : Holding). map (replay x.log) x.kinds) in

@@ -106,7 +106,7 @@ abbrev pub tables_at : List (Vec Aggregate Global) → ℕ → List Aggregate
 tables_at lists c = list_at (map (λ (l : Vec Aggregate Global). l.items) lists) c
 
 -- each of these tables stands in the list of its class, in order, as the class's log left it
-pub record AreSorted (class : ℕ → ℕ) (logs : ℕ → List LogEntry) (decls : List TableDecl) (lists : List (Vec Aggregate Global)) : Type 0 where
+pub record AreInClassLists (class : ℕ → ℕ) (logs : ℕ → List LogEntry) (decls : List TableDecl) (lists : List (Vec Aggregate Global)) : Type 0 where
   pub there : (m : ℕ) → m < length decls → class m < length lists
   pub each : (c : ℕ) → c < length lists → tables_at lists c ≡ map (replay (logs c)) (kinds_from class c 0 decls)
 

@@ -23,7 +23,7 @@ use std::thread::Threads;
 
 /// How a round came out.
 #[derive(Clone, Copy)]
-pub enum Round {
+pub(crate) enum Round {
     /// Something moved.
     Moved,
     /// Nothing moved, and nothing is left to move.

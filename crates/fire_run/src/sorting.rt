@@ -4,7 +4,7 @@ ghost use Rattle.river_plan.specs.Valid.{IsPlan};
 ghost use Rattle.class_locks.specs.Logs.{replay};
 ghost use Rattle.fire_tasks.specs.Adds.{logs_of, table_class};
 ghost use Rattle.fire_open.specs.Homes.{AreClassCells};
-ghost use Rattle.fire_run.specs.Closed.{AreSorted, ArePlaced, tables_at};
+ghost use Rattle.fire_run.specs.Closed.{AreInClassLists, ArePlaced, tables_at};
 
 use crate::closing::Logs;
 use brooklet_step::{Tables, first_tables};
@@ -60,8 +60,8 @@ fn take_last(lists: &mut TableLists, class: usize) -> Table
 fn place_all(decls: &TableDecls, classes: &Places, lists: &mut TableLists, tables: &mut Tables)
     requires many { length tables.old ≡ length decls.now }
     requires classes { length classes.now ≡ length decls.now }
-    requires sorted { (logs : _) × AreSorted (λ n. slice_index_or classes.now n 0) logs decls.now lists.old }
-    ensures { (logs : _) → AreSorted (λ n. slice_index_or classes.now n 0) logs decls.now lists.old
+    requires sorted { (logs : _) × AreInClassLists (λ n. slice_index_or classes.now n 0) logs decls.now lists.old }
+    ensures { (logs : _) → AreInClassLists (λ n. slice_index_or classes.now n 0) logs decls.now lists.old
         → ArePlaced (λ n. slice_index_or classes.now n 0) logs 0 decls.now tables.new }
 {
     let count = decls.len();
@@ -80,8 +80,8 @@ fn in_order(
     lists: &mut TableLists,
 ) -> Result<Tables, NoMemory>
     requires decls { decls.now ≡ plan.now.tables }
-    requires sorted { (logs : _) × AreSorted (table_class plan.now) logs plan.now.tables lists.old }
-    ensures { (logs : _) → AreSorted (table_class plan.now) logs plan.now.tables lists.old
+    requires sorted { (logs : _) × AreInClassLists (table_class plan.now) logs plan.now.tables lists.old }
+    ensures { (logs : _) → AreInClassLists (table_class plan.now) logs plan.now.tables lists.old
         → IfOk result (ArePlaced (table_class plan.now) logs 0 plan.now.tables) }
 {
     let classes = table_classes(alloc, plan)?;

@@ -22,7 +22,7 @@ use Rattle.brooklet_model.proofs.Traces.{got_count, place_once, each_at}
 use Rattle.brooklet_step.proofs.NextLemmas.{got_place}
 use Rattle.brooklet_step.proofs.OpTables.{among_known}
 use Rattle.class_locks.specs.declared.log.LogEntry.{LogEntry}
-use Rattle.class_locks.specs.Logs.{TakesRows, rows_in, rows_to, part_of_op}
+use Rattle.class_locks.specs.Logs.{TakesRows, rows_of_entry, rows_to, part_of_op}
 use Rattle.class_locks.specs.Piles.{Piled}
 use Rattle.fire_tasks.specs.declared.task.TablePort.{TablePort}
 use Rattle.fire_tasks.specs.Adds.{AreHomes, IsEntryOf, added, rows_by, table_at, table_class, table_numbers}
@@ -91,7 +91,7 @@ rows_absent o classes [] rows c table ne = refl
 rows_absent o classes (h ∷ hs) rows c table ne =
     let first = if nat_eq (slice_index_or classes h.place 0) c then entries_for o h.table (rows 0) else [] in
     let rest = logged o classes hs (λ j. rows (suc j)) c in
-    flat_map-append (rows_in table) first rest
+    flat_map-append (rows_of_entry table) first rest
     ∙ ap (λ l. l ++ rows_to table rest) (⊎_elim
     (λ e. ap (rows_to table) (if_eq (slice_index_or classes h.place 0) c (entries_for o h.table (rows 0)) [] e)
     ∙ rows_other o table h.table (rows 0) (ne 0 h refl))
@@ -108,7 +108,7 @@ rows_present o classes (k ∷ hs) rows c zero h once g e =
     let is : k ≡ h = same_Some k h g in
     let first = if nat_eq (slice_index_or classes k.place 0) c then entries_for o k.table (rows 0) else [] in
     let rest = logged o classes hs (λ j. rows (suc j)) c in
-    flat_map-append (rows_in h.table) first rest
+    flat_map-append (rows_of_entry h.table) first rest
     ∙ ap (λ l. rows_to h.table first ++ l)
     (rows_absent o classes hs (λ j. rows (suc j)) c h.table
     (λ i a ga same. absurd (let q = once (suc i) 0 a k ga refl (same ∙ sym (ap (λ (y : TablePort). y.table) is)) in omega (arith, q))))
@@ -121,7 +121,7 @@ rows_present o classes (k ∷ hs) rows c (suc j) h once g e =
     let first = if nat_eq (slice_index_or classes k.place 0) c then entries_for o k.table (rows 0) else [] in
     let rest = logged o classes hs (λ i. rows (suc i)) c in
     let ne : k.table ≢ h.table = λ same. absurd (let q = once 0 (suc j) k h refl g same in omega (arith, q)) in
-    flat_map-append (rows_in h.table) first rest
+    flat_map-append (rows_of_entry h.table) first rest
     ∙ ap (λ l. l ++ rows_to h.table rest) (⊎_elim
     (λ q. ap (rows_to h.table) (if_eq (slice_index_or classes k.place 0) c (entries_for o k.table (rows 0)) [] q) ∙ rows_other o h.table k.table (rows 0) ne)
     (λ q. ap (rows_to h.table) (if_ne (slice_index_or classes k.place 0) c (entries_for o k.table (rows 0)) [] q))

@@ -11,7 +11,7 @@ use Rattle.river_plan.specs.Forms.{PlanForm}
 use Rattle.class_locks.specs.declared.log.LogEntry.{LogEntry}
 use Rattle.class_locks.specs.declared.view.Claim.{Claim}
 use Rattle.class_locks.specs.declared.view.View.{View}
-use Rattle.class_locks.specs.Logs.{Holding, entries_of_part, part_of_op, rows_in, rows_to}
+use Rattle.class_locks.specs.Logs.{Holding, entries_of_part, part_of_op, rows_of_entry, rows_to}
 use Rattle.class_locks.specs.Seats.{HasAll, LogsHaveGrown}
 use Rattle.class_locks.specs.Views.{StandsIn, entries_of, is_claim_of, own}
 use Rattle.fire_tasks.specs.Adds.{AreClaims, AreEntries, IsEntryOf, added, logs_at, logs_of, rows_by, table_at, table_class}
@@ -44,7 +44,7 @@ log_is (y ∷ ys) zero x g = ap (λ (z : Holding). z.log) (some-injective y x g)
 log_is (y ∷ ys) (suc c) x g = log_is ys c x g
 
 pub rows-append : (o table : ℕ) (xs ys : List LogEntry) → rows_by o table (xs ++ ys) ≡ rows_by o table xs ++ rows_by o table ys
-rows-append o table xs ys = ap (rows_to table) (filter-append (λ e. e.op == o) xs ys) ∙ flat_map-append (rows_in table) (part_of_op o xs) (part_of_op o ys)
+rows-append o table xs ys = ap (rows_to table) (filter-append (λ e. e.op == o) xs ys) ∙ flat_map-append (rows_of_entry table) (part_of_op o xs) (part_of_op o ys)
 
 -- Let v be what the seat of operator o knew, and w what the seat that closed the round knows: it has o's part, and of this part claims
 -- what v does. Then the cells' logs have of o, at a table whose class is there, what v knew.

@@ -16,7 +16,8 @@ use Rattle.fire_tasks.specs.Fired.{kinds_out}
 use Rattle.fire_tasks.specs.declared.task.Task.{Task}
 use Rattle.fire_tasks.specs.Inlet as inlet
 use Rattle.fire_tasks.specs.Outlet as outlet
-use Rattle.fire_tasks.specs.Ports.{AreFronts, HasMoved, MaySend, MaySendAll, IsRowOf, rows_of, width_of, in_ends, out_ends, given_at, sent_in, sent_of, sent_count, received_count, received_in, IsFull, IsHeldBack, RefusedAll, Sent, SentAt}
+use Rattle.fire_tasks.specs.Ports.{AreFronts, HasMoved, MaySend, MaySendAll, IsRowOf, ring_width, in_ends, out_ends, given_at, sent_in, sent_of, sent_count, received_count, received_in, IsFull, IsHeldBack, RefusedAll, Sent, SentAt}
+use Rattle.river_base.specs.WideRows.{rows_type}
 use Rattle.fire_tasks.specs.Tasks.{FitRings, IsTask, moves}
 use Rattle.fire_tasks.proofs.Fronts.{fronts_is, fronts_same, fronts_sent, fronts_then}
 use Rattle.fire_tasks.proofs.PortLemmas.{outs_many, ins_many, count_same, given_moved, sent_more, sent_count_same}
@@ -231,7 +232,7 @@ pub may_still : (os : List outlet.Outlet) (ls : List (List item.Item)) (os' : Li
 may_still os ls os' ls' e g h j x at = subst (All (MaySend x)) (sym (g j)) (h j x (ap (λ l. slice_get l j) (sym e) ∙ at))
 
 -- a row of this width
-row_of : (w : ℕ) (x : item.Item) → IsHeld (rows_of w) x → IsRowOf w x
+row_of : (w : ℕ) (x : item.Item) → IsHeld (rows_type w) x → IsRowOf w x
 unfolding IsHeld
 row_of w (Flat (One row)) h = (row, refl, h)
 row_of w (Flat (Batched b)) h = absurd h
@@ -241,7 +242,7 @@ row_of w (Pack fs) h = absurd h
 -- a task may send what it gave
 pub task_may : (p : PlanForm) (adds : ℕ → List (List ℤ)) (t : Task) → IsTask p adds t → MaySendAll t.outs t.pending
 task_may p adds t k j e at = All-weaker (IsHeldOf (kinds_out p k.op) j) (MaySend e)
-    (λ x h rows. row_of (width_of e) x (subst (λ o. IsHeldBy o x) (k.rings j e at rows) h)) (given_at t.outs t.pending j) (k.fired.held j)
+    (λ x h rows. row_of (ring_width e) x (subst (λ o. IsHeldBy o x) (k.rings j e at rows) h)) (given_at t.outs t.pending j) (k.fired.held j)
 
 -- A TASK
 

@@ -44,7 +44,8 @@ use Rattle.fire_tasks.specs.declared.task.TablePort.{TablePort}
 use Rattle.fire_tasks.specs.declared.task.Task.{Task}
 use Rattle.fire_tasks.specs.Adds.{table_numbers}
 use Rattle.fire_tasks.specs.Fired.{bad_at, kinds_in, kinds_out}
-use Rattle.fire_tasks.specs.Ports.{received_of, received_in, sent_in, InEnd, IsIdle, rows_of, in_ends, out_ends}
+use Rattle.fire_tasks.specs.Ports.{received_of, received_in, sent_in, InEnd, IsIdle, in_ends, out_ends}
+use Rattle.river_base.specs.WideRows.{rows_type}
 use Rattle.fire_tasks.specs.Tasks.{HasWord, IsTask}
 use Rattle.fire_tasks.proofs.Fronts.{goes_took}
 use Rattle.fire_tasks.specs.Turns.{AreRowsFor, HasFiredAt, HasTakenAt, Owes, classes_of, pile_grown, logged}
@@ -159,12 +160,12 @@ module _ (p : PlanForm) (v : IsPlan p) (t : Task) (adds : ℕ → List (List ℤ
   pub blank_op : IsBlankOf p t.op t.out
   blank_op = record { blank = λ op g. let e : k.op ≡ op = same_Some k.op op (sym k.op_is ∙ g) in subst (λ (o : OpForm). IsBlank o.kernel t.out) e k.blank }
 
-held_row : (row : List ℤ) → IsHeld (rows_of (length row)) (row_item row)
+held_row : (row : List ℤ) → IsHeld (rows_type (length row)) (row_item row)
 unfolding IsHeld
 held_row row = refl
 
 -- a row is what a queue of rows as wide may hold
-pub fits_row : (kinds : List QueueType) (port : ℕ) (row : List ℤ) → slice_get kinds port ≡ Some (rows_of (length row)) → IsHeldOf kinds port (row_item row)
+pub fits_row : (kinds : List QueueType) (port : ℕ) (row : List ℤ) → slice_get kinds port ≡ Some (rows_type (length row)) → IsHeldOf kinds port (row_item row)
 fits_row kinds port row e = subst (λ o. IsHeldBy o (row_item row)) (sym e) (held_row row)
 
 module _ (p : PlanForm) (v : IsPlan p) (t : Task) (adds : ℕ → List (List ℤ)) (k : IsTask p adds t) (fine : t.bad ≡ None) where

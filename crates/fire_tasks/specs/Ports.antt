@@ -2,9 +2,6 @@
 use Rattle.std.specs.Prelude.{◌≡◌, ℕ, ℤ, ◌+◌, ◌<◌, ◌≤◌, Bool, IsTrue, IsFalse, All, Some, List, [], ◌∷◌, ◌++◌, length, take, drop, map, ◌⊎◌, slice_get, slice_index_or, slice_set}
 use mathlib.Core.List.{IsPrefix}
 use Rattle.river_base.specs.declared.item.Item as item
-use Rattle.river_base.specs.declared.kind.FlatType.TheVariants.{Rows}
-use Rattle.river_base.specs.declared.kind.QueueType.{QueueType}
-use Rattle.river_base.specs.declared.kind.QueueType.TheVariants.{Flat as FlatOf}
 use Rattle.river_base.specs.Places.{append_at, list_at}
 use Rattle.river_rings.specs.Ends.{RingId}
 use Rattle.river_rings.specs.Ends as rings
@@ -63,18 +60,14 @@ out_end (Stored line) = ListOut
 
 -- RINGS OF ROWS
 
--- the type of a queue of rows of this width
-abbrev pub rows_of : ℕ → QueueType
-rows_of width = FlatOf (Rows width)
-
 -- how many values each row has at the end of a ring of rows; 0 at all other ends
-abbrev pub width_of : OutEnd → ℕ
-width_of (RingOut id cap) = id.width
-width_of ListOut = 0
+abbrev pub ring_width : OutEnd → ℕ
+ring_width (RingOut id cap) = id.width
+ring_width ListOut = 0
 
 -- it is the end of a ring of rows
 abbrev pub SendsRows : OutEnd → Type 0
-SendsRows e = 1 ≤ width_of e
+SendsRows e = 1 ≤ ring_width e
 
 -- the item is a row of this width
 abbrev pub IsRowOf : ℕ → item.Item → Type 0
@@ -82,7 +75,7 @@ IsRowOf width x = (row : List ℤ) × (x ≡ row_item row) × (length row ≡ wi
 
 -- the item may be sent there: a ring of rows is sent rows of its width
 abbrev pub MaySend : OutEnd → item.Item → Type 0
-MaySend e x = SendsRows e → IsRowOf (width_of e) x
+MaySend e x = SendsRows e → IsRowOf (ring_width e) x
 
 -- BOTH ENDS
 

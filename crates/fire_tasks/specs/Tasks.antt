@@ -15,7 +15,8 @@ use Rattle.fire_tasks.specs.declared.task.Task.{Task}
 use Rattle.fire_tasks.specs.Adds.{AreHomes, added, logs_at}
 use Rattle.river_base.specs.declared.kind.QueueType.{QueueType}
 use Rattle.fire_tasks.specs.Fired.{SeenTask, HasFired, IsHeldAs, kinds_in, kinds_out}
-use Rattle.fire_tasks.specs.Ports.{AreFronts, received_in, received_of, sent_in, sent_of, rows_of, width_of, SendsRows, InEnd, OutEnd, in_end, in_ends, out_end, out_ends, received_count, sent_count, IsIdle, IsSettled, RefusedAll, AllReceived}
+use Rattle.fire_tasks.specs.Ports.{AreFronts, received_in, received_of, sent_in, sent_of, ring_width, SendsRows, InEnd, OutEnd, in_end, in_ends, out_end, out_ends, received_count, sent_count, IsIdle, IsSettled, RefusedAll, AllReceived}
+use Rattle.river_base.specs.WideRows.{rows_type}
 
 -- what the laws see of a task
 abbrev pub seen_task : Task → SeenTask
@@ -29,7 +30,7 @@ pub record StatesStand (p : PlanForm) (op : OpForm) (t : Task) (is : Word) : Typ
 
 -- a ring of rows stands only where the queue has rows of its width
 abbrev pub FitRings : List QueueType → List OutEnd → Type 0
-FitRings writes outs = (j : ℕ) (e : OutEnd) → slice_get outs j ≡ Some e → SendsRows e → slice_get writes j ≡ Some (rows_of (width_of e))
+FitRings writes outs = (j : ℕ) (e : OutEnd) → slice_get outs j ≡ Some e → SendsRows e → slice_get writes j ≡ Some (rows_type (ring_width e))
 
 -- the task of an operator of a plan, which added these rows, table by table: it fired on some items, and its states stand for those
 -- after them

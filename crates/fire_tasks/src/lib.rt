@@ -1,4 +1,5 @@
-//! Operators at the ends of their queues: what each keeps of itself, and what a worker does with those that it has.
+//! Operators at the ends of their queues: what each keeps of itself, and what a worker does with those that it has. Its laws say that
+//! what tasks keep of themselves alone, and what the rings between them tell, is a run of the plan.
 #![tactic(auto)]
 
 mod adding;

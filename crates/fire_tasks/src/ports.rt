@@ -3,7 +3,8 @@ ghost use Rattle.std.specs.Prelude.{◌≡◌, ◌+◌, ◌<◌, ◌≤◌, ℕ,
 ghost use Rattle.river_base.specs.Places.{append_at, list_at};
 ghost use Rattle.fire_tasks.specs.Inlet.{TakesFrom, Given};
 ghost use Rattle.fire_tasks.specs.Outlet.{SendsTo, Stored};
-ghost use Rattle.fire_tasks.specs.Ports.{received_of, known_of, in_end, in_ends, sent_of, sent_in, sent_count, IsFull, HasRoom, out_end, out_ends, received_in, HasSentFront, SentAt, rows_of, width_of, IsRowOf, IsPair, IsSettled, IsStored, MaySend, MaySendAll};
+ghost use Rattle.fire_tasks.specs.Ports.{received_of, known_of, in_end, in_ends, sent_of, sent_in, sent_count, IsFull, HasRoom, out_end, out_ends, received_in, HasSentFront, SentAt, ring_width, IsRowOf, IsPair, IsSettled, IsStored, MaySend, MaySendAll};
+ghost use Rattle.river_base.specs.WideRows.{rows_type};
 ghost use Rattle.river_rings.specs.Ends.{SameSending, SameTaking, HasRingRoom};
 ghost use Rattle.river_rings.specs.Rows.{row_item};
 
@@ -223,7 +224,7 @@ impl Outlet {
     /// The end of a ring of items.
     pub fn of_items(feed: Feed) -> Outlet
         ensures is { result ≡ SendsTo feed }
-        ensures any { width_of (out_end result) ≡ 0 }
+        ensures any { ring_width (out_end result) ≡ 0 }
     {
         feed.width();
         Outlet {
@@ -387,7 +388,7 @@ pub(crate) fn pop_at(alloc: Global, ins: &mut Listed<Inlet>, port: usize) -> Res
 
 /// How many values the rows of a port's queue have, 1 to 16; None where it has no such rows.
 pub(crate) fn width_at(kinds: &Listed<QueueType>, port: usize) -> Option<u32>
-    ensures kind { IfSome result (λ width. slice_get kinds.now port ≡ Some (rows_of width)) }
+    ensures kind { IfSome result (λ width. slice_get kinds.now port ≡ Some (rows_type width)) }
     ensures some { IfSome result (λ width. 1 ≤ width) }
     ensures at_most { IfSome result (λ width. width ≤ 16) }
 {

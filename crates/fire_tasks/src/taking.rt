@@ -1,9 +1,9 @@
 // Taking an item, and firing on it.
-ghost use Rattle.std.specs.Prelude.{◌≡◌, ◌+◌, ◌<◌, ◌≤◌, min, ℕ, ℤ, List, length, IfOk, OnOk, IfSome, IfNone, IsTrue, IsFalse, ◌↔◌, slice_get, slice_index_or, Some, None};
-ghost use Rattle.brooklet_model.specs.Histories.{most_firings};
+ghost use Rattle.std.specs.Prelude.{◌≡◌, ◌+◌, ◌<◌, ◌≤◌, ℕ, ℤ, List, length, IfOk, OnOk, IfSome, IfNone, IsTrue, IsFalse, ◌↔◌, slice_get, slice_index_or, Some, None};
 ghost use Rattle.river_plan.specs.Forms.{plan_form};
 ghost use Rattle.river_plan.specs.Valid.{IsPlan};
-ghost use Rattle.fire_tasks.specs.Ports.{IsIdle, known_of, in_ends, received_in, rows_of, AllReceived};
+ghost use Rattle.fire_tasks.specs.Ports.{IsIdle, known_of, in_ends, received_in, AllReceived};
+ghost use Rattle.river_base.specs.WideRows.{rows_type};
 ghost use Rattle.fire_tasks.specs.Tasks.{IsTask};
 ghost use Rattle.brooklet_step.specs.Given.{IsHeldOf};
 ghost use Rattle.fire_tasks.specs.Turns.{HasFiredAt, HasTakenAt, HaveGained, AreCellsOf};
@@ -11,15 +11,12 @@ ghost use Rattle.fire_tasks.specs.Turns.{HasFiredAt, HasTakenAt, HaveGained, Are
 use crate::adding::add_rows;
 use crate::ports::{pop_at, pop_row_at, ready_at, width_at};
 use crate::{Inlet, Task};
-use brooklet_step::{fire_op, fire_values, item_fits};
+use brooklet_step::{fire_op, fire_values, item_fits, next_count};
 use class_locks::Pile;
 use river_base::{Gate, Item, Listed, NoMemory, QueueType};
 use river_plan::RawPlan;
 use std::alloc::Global;
 use std::mem::swap;
-
-/// The greatest count of firings.
-const MOST: usize = 0x7fff_ffff_ffff_ffff;
 
 /// The first port at which an item is there.
 pub(crate) fn first_ready(ins: &mut Listed<Inlet>) -> Option<usize>
@@ -43,13 +40,6 @@ fn is_fit(kinds: &Listed<QueueType>, port: usize, item: &Item) -> bool
     ensures { IsTrue result ↔ IsHeldOf kinds.now port item.now }
 {
     item_fits(kinds.at(port), item)
-}
-
-// The next count: the greatest stays.
-fn next_count(count: usize) -> usize
-    ensures { result ≡ min most_firings (count + 1) }
-{
-    if count < MOST { count + 1 } else { MOST }
 }
 
 /// Takes the item at a port, and fires on it where its port's queue may hold it. The rows of the firing are left in the task's lists.
@@ -89,7 +79,7 @@ fn fire_wide<G: Gate>(
     requires fine { task.old.bad ≡ None }
     requires port { port < length task.old.ins }
     requires known { (d : _) → 0 < length (known_of (slice_index_or task.old.ins port d)) }
-    requires kind { slice_get task.old.kinds port ≡ Some (rows_of width) }
+    requires kind { slice_get task.old.kinds port ≡ Some (rows_type width) }
     requires some { 1 ≤ width }
     requires at_most { width ≤ 16 }
     ensures { OnOk result (HasFiredAt (plan_form plan.now) task.old task.new) }
@@ -117,7 +107,7 @@ fn fire_row<G: Gate>(
     requires fine { task.old.bad ≡ None }
     requires port { port < length task.old.ins }
     requires known { (d : _) → 0 < length (known_of (slice_index_or task.old.ins port d)) }
-    requires kind { slice_get task.old.kinds port ≡ Some (rows_of (length row.old)) }
+    requires kind { slice_get task.old.kinds port ≡ Some (rows_type (length row.old)) }
     requires some { 1 ≤ length row.old }
     requires at_most { length row.old ≤ 16 }
     ensures fired { IfOk result (λ fired. IsTrue fired → HasFiredAt (plan_form plan.now) task.old task.new) }

@@ -1,7 +1,8 @@
 // A task: what one operator has.
 ghost use Rattle.std.specs.Prelude.{◌≡◌, ◌+◌, ◌<◌, ◌≤◌, [], None, length, IfOk, IfSome, IfNone, IsTrue, Some, slice_get, slice_index_or};
 ghost use Rattle.river_base.specs.Places.{list_at};
-ghost use Rattle.fire_tasks.specs.Ports.{AllReceived, HasRoom, HasSentFront, IsIdle, IsPair, MaySendAll, SentAt, in_ends, known_of, received_in, rows_of, sent_count};
+ghost use Rattle.fire_tasks.specs.Ports.{AllReceived, HasRoom, HasSentFront, IsIdle, IsPair, MaySendAll, SentAt, in_ends, known_of, received_in, sent_count};
+ghost use Rattle.river_base.specs.WideRows.{rows_type};
 ghost use Rattle.fire_tasks.specs.Tasks.{HaveMet, with_in, with_out};
 
 use crate::ports::{meet, send_at, width_at};
@@ -136,7 +137,7 @@ impl Task {
 
     /// How many values the rows have that it takes at a port, 1 to 16; None where it takes no such rows there.
     pub fn width_at(&self, port: usize) -> Option<u32>
-        ensures kind { IfSome result (λ width. slice_get self.now.kinds port ≡ Some (rows_of width)) }
+        ensures kind { IfSome result (λ width. slice_get self.now.kinds port ≡ Some (rows_type width)) }
         ensures some { IfSome result (λ width. 1 ≤ width) }
         ensures at_most { IfSome result (λ width. width ≤ 16) }
     {

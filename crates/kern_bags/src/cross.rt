@@ -8,7 +8,7 @@ ghost use Rattle.kern_bags.specs.Takes.{CanCrossChanges, CanCrossFlat, CanJoinBo
 
 use crate::Cross;
 use crate::given::{change_of, give_changes};
-use crate::line::{Changes, ChangeLine};
+use crate::line::{ChangeLine, Changes};
 use crate::product::join_all;
 use kern_changes::{Content, settle};
 use river_base::{Change, Flat, Items, NoMemory, Rows};

@@ -10,7 +10,7 @@ use crate::line::Changes;
 use river_base::{Batch, Change, Flat, Item, Items, NoMemory};
 
 /// One more batch; nothing where there is no memory.
-pub fn give_batch(batch: Batch, out: &mut Items) -> Result<(), NoMemory>
+pub(crate) fn give_batch(batch: Batch, out: &mut Items) -> Result<(), NoMemory>
     ensures ok { OnOk result (out.new ≡ out.old ++ flat_item (batched batch) ∷ []) }
     ensures err { OnErr result (out.new ≡ out.old) }
 {
@@ -19,7 +19,7 @@ pub fn give_batch(batch: Batch, out: &mut Items) -> Result<(), NoMemory>
 }
 
 /// One more change; nothing where there is no memory.
-pub fn give_change(change: Change, out: &mut Items) -> Result<(), NoMemory>
+pub(crate) fn give_change(change: Change, out: &mut Items) -> Result<(), NoMemory>
     ensures ok { OnOk result (out.new ≡ out.old ++ flat_item (changed change) ∷ []) }
     ensures err { OnErr result (out.new ≡ out.old) }
 {
@@ -28,7 +28,7 @@ pub fn give_change(change: Change, out: &mut Items) -> Result<(), NoMemory>
 }
 
 /// More changes; a part of them where there is no memory.
-pub fn give_changes(changes: Changes, out: &mut Items) -> Result<(), NoMemory>
+pub(crate) fn give_changes(changes: Changes, out: &mut Items) -> Result<(), NoMemory>
     ensures ok { OnOk result (out.new ≡ out.old ++ as_changes changes) }
     ensures err { OnErr result (GrewByPrefix out.old (as_changes changes) out.new) }
 {
@@ -39,7 +39,7 @@ pub fn give_changes(changes: Changes, out: &mut Items) -> Result<(), NoMemory>
 }
 
 /// The change that an item is.
-pub fn change_of(item: Flat) -> Change
+pub(crate) fn change_of(item: Flat) -> Change
     requires { IsChanged item }
     ensures { changed result ≡ item }
 {

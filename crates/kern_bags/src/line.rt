@@ -7,12 +7,12 @@ use std::collections::VecDeque;
 use std::marker::Model;
 
 /// A list of changes.
-pub type Changes = Listed<Change>;
+pub(crate) type Changes = Listed<Change>;
 
 /// Changes in a line: new ones come to its end, and each leaves at its front. Contracts see the
 /// list of those that are there.
 #[derive(Drop)]
-pub struct ChangeLine {
+pub(crate) struct ChangeLine {
     changes: VecDeque<Change>,
 }
 

@@ -17,7 +17,7 @@ fn join_each(left: &Row, rights: &[Row], all: &mut Rows) -> Result<(), NoMemory>
 }
 
 /// All pairs of rows, joined.
-pub fn join_all(lefts: &[Row], rights: &[Row], all: &mut Rows) -> Result<(), NoMemory>
+pub(crate) fn join_all(lefts: &[Row], rights: &[Row], all: &mut Rows) -> Result<(), NoMemory>
     requires { CanJoin lefts.now rights.now }
     ensures { OnOk result (all.new ≡ all.old ++ all_pairs lefts.now rights.now) }
 {

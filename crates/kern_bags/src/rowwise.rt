@@ -13,13 +13,13 @@ use crate::given::{change_of, give_batch, give_change};
 use kern_changes::settle;
 use river_base::{Change, Flat, Items, MAX_ROW, NoMemory, Row, Rows};
 use std::alloc::Global;
-use work_code::{Expr, Exprs, eval};
+use work_code::{Formula, Formulas};
 
 /// An item comes to a selection. Of a stream it gives the rows for which the condition is not 0, in
 /// their order; of a relation the change of these, which is both parts without the others. Either is
 /// at the item's instant. A row gives nothing. Touches each row of the item once. Where there is no
 /// memory, nothing was given.
-pub fn select(cond: &Expr, item: Flat, out: &mut Items) -> Result<(), NoMemory>
+pub fn select(cond: &Formula, item: Flat, out: &mut Items) -> Result<(), NoMemory>
     requires { CanReadFlat (term cond.now) item }
     ensures ok { OnOk result (SelectsFlat (term cond.now) item out.old out.new) }
     ensures err { OnErr result (out.new ≡ out.old) }
@@ -36,7 +36,7 @@ pub fn select(cond: &Expr, item: Flat, out: &mut Items) -> Result<(), NoMemory>
 }
 
 // The change of a selection: both parts without the rows for which the condition is 0.
-fn select_change(cond: &Expr, change: Change) -> Change
+fn select_change(cond: &Formula, change: Change) -> Change
     requires { CanReadBoth (term cond.now) change }
     ensures { Selects (term cond.now) change result }
 {
@@ -52,7 +52,7 @@ fn select_change(cond: &Expr, change: Change) -> Change
 }
 
 // Keeps the rows for which the condition is not 0, in their order, in place.
-fn keep_rows(cond: &Expr, rows: &mut Rows)
+fn keep_rows(cond: &Formula, rows: &mut Rows)
     requires { CanRead (term cond.now) rows.old }
     ensures { rows.new ≡ selected (term cond.now) rows.old }
 {
@@ -68,17 +68,17 @@ fn keep_rows(cond: &Expr, rows: &mut Rows)
 }
 
 // Whether the condition is not 0.
-fn passes(cond: &Expr, row: &Row) -> bool
+fn passes(cond: &Formula, row: &Row) -> bool
     requires { IsWithin (length row.now) 0 (term cond.now) }
     ensures { result ≡ is_true (val (term cond.now) row.now []) }
 {
-    eval(cond, row.values(), &[]) != 0
+    cond.value(row.values()) != 0
 }
 
 /// A change comes to a projection, which gives the change of what it projects: for the rows of both
 /// parts their values of the 1 to 16 expressions, without those that then come and go, at the same
 /// instant. Costs n log n of the change's rows. Where there is no memory, nothing was given.
-pub fn project(alloc: Global, list: &Exprs, item: Flat, out: &mut Items) -> Result<(), NoMemory>
+pub fn project(alloc: Global, list: &Formulas, item: Flat, out: &mut Items) -> Result<(), NoMemory>
     requires change { IsChanged item }
     requires fits { CanProjectFlat (terms list.now) item }
     ensures ok { OnOk result (ProjectsFlat (terms list.now) item out.old out.new) }
@@ -90,7 +90,7 @@ pub fn project(alloc: Global, list: &Exprs, item: Flat, out: &mut Items) -> Resu
 
 // The change of a projection: for the rows of both parts their values of the expressions, without
 // those that then come and go.
-fn project_change(alloc: Global, list: &Exprs, change: Change) -> Result<Change, NoMemory>
+fn project_change(alloc: Global, list: &Formulas, change: Change) -> Result<Change, NoMemory>
     requires { CanProjectBoth (terms list.now) change }
     ensures { IfOk result (λ d. Projects (terms list.now) change d) }
 {
@@ -102,7 +102,7 @@ fn project_change(alloc: Global, list: &Exprs, change: Change) -> Result<Change,
 }
 
 // In the place of each row come its values of the expressions, of which there are 1 to 16.
-fn project_rows(list: &Exprs, rows: &mut Rows)
+fn project_rows(list: &Formulas, rows: &mut Rows)
     requires { CanProject (terms list.now) rows.old }
     ensures { rows.new ≡ map (λ row. map (λ t. val t row []) (terms list.now)) rows.old }
 {
@@ -113,15 +113,13 @@ fn project_rows(list: &Exprs, rows: &mut Rows)
 }
 
 // A row's values of the expressions.
-fn project_row(list: &Exprs, row: &Row) -> Row
+fn project_row(list: &Formulas, row: &Row) -> Row
     requires some { 1 ≤ length (terms list.now) }
     requires at_most { length (terms list.now) ≤ 16 }
     requires within { AllByRecursion (IsWithin (length row.now) 0) (terms list.now) }
     ensures { result ≡ map (λ t. val t row.now []) (terms list.now) }
 {
     let mut all = [0; MAX_ROW];
-    for (i, e) in list.as_slice().iter().enumerate() {
-        all[i] = eval(e, row.values(), &[]);
-    }
+    list.put_values(row.values(), &mut all);
     Row::from_slice(&all[..list.len()])
 }

@@ -12,7 +12,7 @@ use std::mem;
 /// What a list owes: the rows that came and went since it was last written, in any order, and how
 /// many of them were left when those that did both were last left out.
 #[derive(Drop)]
-pub struct Debt {
+pub(crate) struct Debt {
     plus: Rows,
     minus: Rows,
     left: usize,

@@ -1,6 +1,6 @@
 // The numbers of a kernel that are above a limit.
 ghost use Rattle.std.specs.Prelude.{◌≡◌, [], ◌∷◌, ◌++◌};
-ghost use Rattle.work_code.specs.Steps.{step, steps, statements, code_body};
+ghost use Rattle.work_code.specs.Steps.{step, steps, code_body};
 ghost use Rattle.kern_rows.specs.Forms.{filter_form, run_form, optional_run};
 ghost use Rattle.river_base.specs.Number.{count_of};
 ghost use Rattle.river_kernels.specs.Kern.{kern_of};

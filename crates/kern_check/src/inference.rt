@@ -1,10 +1,10 @@
 // The types of what a kernel writes, from the types of what it reads.
-ghost use Rattle.std.specs.Prelude.{◌≡◌, ◌<◌, IfOk, OnOk, ◌↔◌, Option, Some, None, length, [], ◌∷◌, ◌++◌, ◌+◌, ◌&&◌, nat_eq};
+ghost use Rattle.std.specs.Prelude.{◌≡◌, ◌<◌, IfOk, OnOk, Option, Some, None, length, [], ◌∷◌, ◌++◌, ◌+◌, ◌&&◌, nat_eq};
 ghost use Rattle.work_code.specs.Term.{term, terms};
 ghost use Rattle.kern_rows.specs.Forms.{code_form, filter_form};
 ghost use Rattle.river_kernels.specs.Formed.{is_width, is_code};
 ghost use Rattle.river_kernels.specs.Kern.{code, filter, duplicate, deal, collect, unpack, window, select, project, cross, streamer, tally};
-ghost use Rattle.river_kernels.specs.Fits.{is_bag, ports, are_widths, kept, spliced};
+ghost use Rattle.river_kernels.specs.Fits.{is_bag, are_widths, kept, spliced};
 ghost use Rattle.river_kernels.specs.Types.{given_if, only_type, rows_width, stream_width, relation_width, all_flat, all_packs};
 ghost use Rattle.river_kernels.specs.Types.{two_relations, types_of, packed_outs, MayAnswer};
 ghost use Rattle.river_kernels.specs.declared.types.VarKind.TheVariants.{Private, Table};

@@ -1,5 +1,5 @@
 // The types of ports, compared and made.
-ghost use Rattle.std.specs.Prelude.{◌≡◌, IfOk, IsTrue, ◌↔◌, ◌∷◌, ◌++◌, replicate};
+ghost use Rattle.std.specs.Prelude.{◌≡◌, IfOk, IsTrue, ◌↔◌, replicate};
 ghost use Rattle.std.specs.List.{list_all};
 ghost use Rattle.river_base.specs.Number.{count_of};
 ghost use Rattle.river_kernels.specs.Formed.{is_width};

@@ -10,7 +10,30 @@ use Rattle.river_base.specs.Grew.{GrewByPrefix}
 use Rattle.kern_rows.specs.Forms.{FilterForm, RunForm}
 use Rattle.kern_rows.specs.Needs.{CanFilter, CanRunOnce, CanRunFirst}
 use Rattle.kern_rows.specs.Runs.{Filtering, buffer_of, filter_one, filter_turns, next_run, after_run, with_pushes, received, run_at, run_or, first_run, usual_run, begins, needs, run_kept}
-use Rattle.kern_rows.specs.Stands.{Waiting, KeepsFor, StandsForFiltering, Filters, GaveUp, first_values, is_fresh, run_now, needs_now, ran_now, IsBetween, RunsOnce, Between, runs_left}
+use Rattle.kern_rows.specs.Stands.{Waiting, KeepsFor, StandsForFiltering, Filters, GaveUp, first_values, is_fresh, run_now, needs_now, ran_now, RunsOnce}
+
+-- s came after some of the runs, which gave this, and n runs at most are left
+pub record IsReached (f : FilterForm) (v : ℤ) (start s : Filtering) (n : ℕ) (given : List (ℕ × List ℤ)) : Type 0 where
+  pub seen : s.seen ≡ (received v start).seen
+  pub all : filter_one f v start ≡ with_pushes given (filter_turns f n s)
+  pub enough : length s.seen < n + s.fired
+
+-- a value came, and some of its runs were
+pub record IsBetween (f : FilterForm) (v : ℤ) (now : Waiting) (start : Filtering) (out out' : List ℤ) : Type 0 where
+  pub s : Filtering
+  pub n : ℕ
+  pub given : List (ℕ × List ℤ)
+  pub reached : IsReached f v start s n given
+  pub keeps : KeepsFor f now s
+  pub grew : out' ≡ out ++ first_values given
+
+-- the same from any state that the value was put to
+pub record Between (f : FilterForm) (v : ℤ) (put now : Waiting) (out out' : List ℤ) : Type 0 where
+  pub each : (s : Filtering) → KeepsFor f put (received v s) → IsBetween f v now s out out'
+
+-- at most so many runs are left before another value comes: each but a first one of its own takes a value
+abbrev pub runs_left : Waiting → ℕ
+runs_left w = length w.buffer + (if w.fresh then 1 else 0)
 
 -- what is at least 1 is the greater of it and 1
 pub max-least : (a : ℕ) → 1 ≤ a → max a 1 ≡ a

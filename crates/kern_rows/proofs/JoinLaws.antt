@@ -20,7 +20,8 @@ use Rattle.river_base.specs.Places.{list_at}
 use Rattle.river_base.proofs.HeldLemmas.{content-append}
 use Rattle.river_base.proofs.LoopLemmas.{grew_by_map}
 use Rattle.kern_rows.specs.Needs.{HaveShares, IsJoiner}
-use Rattle.kern_rows.specs.Passing.{PassesFront, IsStuck, SoFar, passed_by, port_after, had_after}
+use Rattle.kern_rows.specs.Passing.{PassesFront, IsStuck, passed_by, port_after, had_after}
+use Rattle.kern_rows.proofs.Passed.{SoFar}
 use Rattle.kern_rows.specs.Turns.{Turns, front_at, rest_at, rest_in, waiting, passed, settled, itself}
 use Rattle.kern_rows.proofs.Passed.{front_is, front_none, length-rest_at, joined_put, so_far_start, so_far_step, so_far_next, so_far_less, so_far_end}
 use Rattle.kern_rows.proofs.Passed.{grew_by_none, grew_on}

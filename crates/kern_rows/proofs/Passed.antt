@@ -12,8 +12,16 @@ use Rattle.river_base.specs.Drain.{drain, pass_on}
 use Rattle.river_base.specs.Grew.{GrewByPrefix}
 use Rattle.river_base.proofs.PlaceLemmas.{if_lt, if_ge, length-append_at}
 use Rattle.kern_rows.specs.Needs.{HaveShares, IsJoiner}
-use Rattle.kern_rows.specs.Passing.{PassesFront, IsStuck, SoFar, passed_by}
+use Rattle.kern_rows.specs.Passing.{PassesFront, IsStuck, passed_by}
 use Rattle.kern_rows.specs.Turns.{Turns, IsTurn, next_port, next_had, front_in, front_at, rest_in, rest_at, front_of, passed, waiting, put, settled, ones}
+
+-- what passed so far, and what passes after it, is what passes from the start
+pub record SoFar (give : item.Item → List item.Item) (ws : List ℕ) (start now : Turns) (out out' : List item.Item) : Type 0 where
+  pub given : List item.Item
+  pub grew : out' ≡ out ++ given
+  pub all : given ++ (settled give ws now).0 ≡ (settled give ws start).0
+  pub last : (settled give ws now).1 ≡ (settled give ws start).1
+  pub joined : IsJoiner ws now
 
 -- WHAT IS IN FRONT
 

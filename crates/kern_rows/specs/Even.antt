@@ -1,13 +1,8 @@
 -- Rows of one width, kept as their values one after another.
-use Rattle.std.specs.Prelude.{◌≡◌, ℕ, zero, suc, ℤ, ◌*◌, ◌≤◌, List, [], ◌∷◌, All, length, map, take, drop}
+use Rattle.std.specs.Prelude.{◌≡◌, ℕ, ℤ, ◌*◌, ◌≤◌, List, All, length, map}
 use Rattle.river_base.specs.declared.item.Item as item
 use Rattle.river_base.specs.declared.item.Flat.TheVariants.{One}
 use Rattle.river_base.specs.declared.item.Item.TheVariants.{Flat}
-
--- so many rows of this width, cut off the values from the front
-abbrev pub cut : ℕ → ℕ → List ℤ → List (List ℤ)
-cut width zero values = []
-cut width (suc n) values = take width values ∷ cut width n (drop width values)
 
 -- the values are those of so many rows, each of 1 to 16 values
 pub record AreEven (width count : ℕ) (values : List ℤ) : Type 0 where

@@ -1,8 +1,7 @@
 -- How one item passes a joiner.
-use Rattle.std.specs.Prelude.{◌≡◌, ℕ, ◌+◌, nat_lt, if◌then◌else◌, List, ◌++◌, length, Some, None}
+use Rattle.std.specs.Prelude.{◌≡◌, ℕ, ◌+◌, nat_lt, if◌then◌else◌, List, length, Some, None}
 use Rattle.river_base.specs.declared.item.Item as item
-use Rattle.kern_rows.specs.Turns.{Turns, front_of, rest_at, settled}
-use Rattle.kern_rows.specs.Needs.{IsJoiner}
+use Rattle.kern_rows.specs.Turns.{Turns, front_of, rest_at}
 
 -- the port in turn, of so many, and how many items it had, after one more; `share` is the share of the port
 abbrev pub port_after : ℕ → ℕ → ℕ → ℕ → ℕ
@@ -24,11 +23,3 @@ pub record PassesFront (share : ℕ) (old new : Turns) (x : item.Item) : Type 0 
 pub record IsStuck (old new : Turns) : Type 0 where
   pub front : (give : item.Item → List item.Item) → front_of give old ≡ None
   pub same : new ≡ old
-
--- what passed so far, and what passes after it, is what passes from the start
-pub record SoFar (give : item.Item → List item.Item) (ws : List ℕ) (start now : Turns) (out out' : List item.Item) : Type 0 where
-  pub given : List item.Item
-  pub grew : out' ≡ out ++ given
-  pub all : given ++ (settled give ws now).0 ≡ (settled give ws start).0
-  pub last : (settled give ws now).1 ≡ (settled give ws start).1
-  pub joined : IsJoiner ws now

@@ -1,8 +1,8 @@
 -- What kept states stand for, and what steps do to each state that they stand for.
-use Rattle.std.specs.Prelude.{◌≡◌, ℕ, zero, suc, ℤ, pos, Bool, true, false, ◌+◌, ◌<◌, ◌≤◌, List, ◌++◌, length, map, take, drop, max, slice_index_or, if◌then◌else◌, Option, Some, None}
+use Rattle.std.specs.Prelude.{◌≡◌, ℕ, zero, suc, ℤ, pos, Bool, true, false, ◌+◌, ◌<◌, ◌≤◌, List, ◌++◌, length, map, take, drop, max, slice_index_or, Option, Some, None}
 use Rattle.river_base.specs.Grew.{GrewByPrefix}
 use Rattle.kern_rows.specs.Forms.{FilterForm, RunForm}
-use Rattle.kern_rows.specs.Runs.{Filtering, buffer_of, begins, usual_run, first_run, received, filter_turns, filter_one, with_pushes, run_kept}
+use Rattle.kern_rows.specs.Runs.{Filtering, buffer_of, begins, usual_run, first_run, filter_one, run_kept}
 use Rattle.work_code.specs.Ran.{Ran}
 use Rattle.work_code.specs.Steps.{BodyForm}
 
@@ -52,32 +52,9 @@ pub record Filters (f : FilterForm) (v : ℤ) (old new : Waiting) (out out' : Li
 pub record GaveUp (f : FilterForm) (v : ℤ) (old : Waiting) (out out' : List ℤ) : Type 0 where
   pub each : (s : Filtering) → StandsForFiltering f old s → GrewByPrefix out (first_values (filter_one f v s).pushes) out'
 
--- s came after some of the runs, which gave this, and n runs at most are left
-pub record IsReached (f : FilterForm) (v : ℤ) (start s : Filtering) (n : ℕ) (given : List (ℕ × List ℤ)) : Type 0 where
-  pub seen : s.seen ≡ (received v start).seen
-  pub all : filter_one f v start ≡ with_pushes given (filter_turns f n s)
-  pub enough : length s.seen < n + s.fired
-
--- a value came, and some of its runs were
-pub record IsBetween (f : FilterForm) (v : ℤ) (now : Waiting) (start : Filtering) (out out' : List ℤ) : Type 0 where
-  pub s : Filtering
-  pub n : ℕ
-  pub given : List (ℕ × List ℤ)
-  pub reached : IsReached f v start s n given
-  pub keeps : KeepsFor f now s
-  pub grew : out' ≡ out ++ first_values given
-
--- the same from any state that the value was put to
-pub record Between (f : FilterForm) (v : ℤ) (put now : Waiting) (out out' : List ℤ) : Type 0 where
-  pub each : (s : Filtering) → KeepsFor f put (received v s) → IsBetween f v now s out out'
-
 -- what the next run does
 abbrev pub ran_now : FilterForm → Waiting → Ran
 ran_now f w = run_kept (run_now f w.fresh).body w.kept (take (run_now f w.fresh).peek w.buffer)
-
--- at most so many runs are left before another value comes: each but a first one of its own takes a value
-abbrev pub runs_left : Waiting → ℕ
-runs_left w = length w.buffer + (if w.fresh then 1 else 0)
 
 -- one run of a body, which looks at `peek` values and takes `pop` of them
 pub record RunIs (peek pop : ℕ) (b : BodyForm) (old new : Waiting) (out out' : List ℤ) : Type 0 where

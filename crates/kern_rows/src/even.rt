@@ -18,11 +18,12 @@ pub struct EvenRows {
 
 impl Model for EvenRows {
     ghost use Rattle.std.specs.Prelude.{ℤ, List};
-    ghost use Rattle.kern_rows.specs.Even.{cut, AreEven};
+    ghost use Rattle.kern_rows.specs.Even.{AreEven};
+    ghost use Rattle.river_base.specs.WideRows.{cut_rows};
 
     ghost Value = { List (List ℤ) };
 
-    ghost view = { λ r. cut r.width r.count r.values };
+    ghost view = { λ r. cut_rows r.width r.count r.values };
 
     ghost invariant = { λ r. AreEven r.width r.count r.values };
 }

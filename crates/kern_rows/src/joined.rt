@@ -12,7 +12,7 @@ use std::marker::Model;
 /// What a joiner keeps between items: the port in turn, how many items it had, and what waits at
 /// each port.
 #[derive(Drop)]
-pub struct Joined {
+pub(crate) struct Joined {
     port: usize,
     had: u64,
     lines: Vec<ItemLine>,

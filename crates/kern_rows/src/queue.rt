@@ -11,7 +11,7 @@ const KEPT: usize = 64;
 /// Values of which the first can be read as a slice and taken out. Contracts see the list of those
 /// that are there.
 #[derive(Drop)]
-pub struct Queue {
+pub(crate) struct Queue {
     items: Vec<i64>,
     // how many at the front of `items` were taken out; they are dropped once they are more than the
     // others

@@ -20,7 +20,7 @@ fn count(number: i64) -> u64
 }
 
 /// How many items a port has in its turn, by the weights of the ports.
-pub fn share(weights: &Numbers, port: usize) -> u64
+pub(crate) fn share(weights: &Numbers, port: usize) -> u64
     requires { port < length weights.now }
     ensures { result ≡ slice_index_or (shares weights.now) port 0 }
 {
@@ -28,7 +28,7 @@ pub fn share(weights: &Numbers, port: usize) -> u64
 }
 
 /// The port in turn and how many items it had, after one more, where `share` is its share.
-pub fn next_turn(share: u64, ports: usize, port: usize, had: u64) -> (usize, u64)
+pub(crate) fn next_turn(share: u64, ports: usize, port: usize, had: u64) -> (usize, u64)
     requires port { port < ports }
     requires had { had < share }
     ensures port { result.0 ≡ (if nat_lt (had + 1) share then port else (if nat_lt (port + 1) ports then port + 1 else 0)) }

@@ -17,10 +17,10 @@ use Rattle.std.proofs.lemmas.List.Elements.{All-head, All-tail}
 use Rattle.std.proofs.lemmas.List.Sums.{fold-append}
 use Rattle.std.proofs.lemmas.Map.Keys.{sorted_head, sorted_tail}
 use Rattle.river_base.specs.Bags.{put_in_order, ascending}
-use Rattle.river_base.specs.Keyed.{put, keyed}
+use Rattle.kern_tables.specs.Keyed.{put, keyed}
 use Rattle.river_base.specs.Row.{row_cmp, row_total}
 use Rattle.river_base.proofs.Ascending as order
-use Rattle.river_base.proofs.KeyedLookups as lookups
+use Rattle.kern_tables.proofs.RisingKeys as rising
 use Rattle.river_base.proofs.Rows.{exact_rows}
 use Rattle.kern_tables.specs.declared.ranked.Ranked.{Ranked}
 use Rattle.kern_tables.specs.Entries.{split, splits, best_more, sum_rows, maximum_rows}
@@ -182,7 +182,7 @@ sums_again keys adds long =
     let es = sums keys adds in
     let a = sums_at keys adds long in
     ap (keyed row_cmp (pos 0) add_value) (sums_shown keys es a)
-    ∙ made_again (pos 0) add_value sum_shown es (lookups.keyed_sorted row_cmp row_total exact_rows (pos 0) add_value sums_commute (splits keys adds))
+    ∙ made_again (pos 0) add_value sum_shown es (rising.keyed_sorted row_cmp row_total exact_rows (pos 0) add_value sums_commute (splits keys adds))
     (sums_made keys es a)
 
 -- MAXIMA
@@ -277,5 +277,5 @@ maxima_again n keys adds long =
     let a = maxima_at n keys adds long in
     ap (keyed row_cmp [] (best_more (suc n))) (maxima_shown (suc n) keys es a)
     ∙ made_again [] (best_more (suc n)) best_shown es
-    (lookups.keyed_sorted row_cmp row_total exact_rows [] (best_more (suc n)) (maxima_commute (suc n)) (splits keys adds))
+    (rising.keyed_sorted row_cmp row_total exact_rows [] (best_more (suc n)) (maxima_commute (suc n)) (splits keys adds))
     (maxima_made (suc n) keys es a)

@@ -11,7 +11,7 @@ use Rattle.std.proofs.lemmas.List.Elements.{All-head, All-tail, All-cons, All-ni
 use Rattle.std.proofs.lemmas.List.Sorted.{All-permutation, IsPermutation-append}
 use Rattle.std.proofs.lemmas.List.Sums.{fold-append}
 use Rattle.river_base.specs.Bags.{put_in_order}
-use Rattle.river_base.specs.Keyed.{keyed}
+use Rattle.kern_tables.specs.Keyed.{keyed}
 use Rattle.river_base.specs.Row.{row_cmp, row_lt, row_total, in_order}
 use Rattle.river_base.proofs.Ascending as order
 use Rattle.river_base.proofs.Rows.{rows_ranked, apart_rows, in_order_bag, in_order-IsPermutation}

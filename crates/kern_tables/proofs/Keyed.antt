@@ -14,11 +14,11 @@ use Rattle.std.proofs.lemmas.List.Sums.{fold-append}
 use Rattle.std.proofs.lemmas.List.Sorted.{IsPermutation-sym, All-permutation}
 use Rattle.std.proofs.lemmas.Map.Keys.{sorted_head, sorted_tail}
 use Rattle.river_base.specs.Bags.{put_in_order}
-use Rattle.river_base.specs.Keyed.{put, keyed}
+use Rattle.kern_tables.specs.Keyed.{put, keyed}
 use Rattle.river_base.specs.Row.{row_eq, row_cmp, row_lt, row_total, row_ties, in_order}
 use Rattle.river_base.proofs.Counts.{same_row, row_itself}
 use Rattle.river_base.proofs.Rows.{exact_rows, in_order_bag}
-use Rattle.river_base.proofs.KeyedLookups as lookups
+use Rattle.kern_tables.proofs.RisingKeys as rising
 use Rattle.kern_tables.specs.Entries.{split, splits}
 use Rattle.kern_tables.specs.Tables.{once_after, each_row_once, keys_of, under_key, has_key}
 
@@ -253,7 +253,7 @@ module _ {V : Type 0} (start : V) (merge : V → List ℤ → V) where
         → IsStrictlySortedBy row_cmp (keys_of keys done)
     sorted_keys keys done h =
         subst (IsStrictlySortedBy row_cmp) (ap map.keys_of (sym h) ∙ keys_grouped keys done (keys_of keys done))
-        (lookups.keyed_sorted row_cmp row_total exact_rows start merge commutes (splits keys done))
+        (rising.keyed_sorted row_cmp row_total exact_rows start merge commutes (splits keys done))
 
     grouped_more : (keys : ℕ) (done : List (List ℤ)) (x : List ℤ) → IsStrictlySortedBy row_cmp (keys_of keys done)
         → grouped keys (done ++ x ∷ []) ≡ put row_cmp start merge (grouped keys done) (split keys x)

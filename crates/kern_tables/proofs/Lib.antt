@@ -2,9 +2,11 @@ pub mod Again
 pub mod Apart
 pub mod Examples
 pub mod Keyed
+pub mod KeyedPuts
 pub mod Meant
 pub mod Pieces
 pub mod Ranking
+pub mod RisingKeys
 pub mod Shortness
 pub mod Tabs
 pub mod Written

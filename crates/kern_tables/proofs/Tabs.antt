@@ -14,7 +14,7 @@ use Rattle.std.proofs.lemmas.Map.Lookups.{CmpEqualImpliesEq, exact_signed}
 use Rattle.kern_tables.specs.declared.kind.TableKind.{TableKind}
 use Rattle.kern_tables.specs.declared.kind.TableKind.TheVariants.{Sum, Collection, Maximum}
 use Rattle.river_base.specs.Bags.{put_in_order}
-use Rattle.river_base.specs.Keyed.{keyed, put}
+use Rattle.kern_tables.specs.Keyed.{keyed, put}
 use Rattle.std.proofs.lemmas.List.{map-append}
 use Rattle.std.proofs.lemmas.List.Sums.{fold-append}
 use Rattle.kern_tables.specs.Kept.{kept_of, with_row, added_all, rows_of, kind_of_table}
@@ -23,7 +23,7 @@ use Rattle.kern_tables.specs.declared.kept.Aggregate.TheVariants.{Sums, Rows, Ma
 use Rattle.river_base.specs.Number.{wrap}
 use Rattle.river_base.specs.Row.{row_eq, row_cmp, row_lt, row_total, in_order}
 use Rattle.river_base.proofs.Ascending as order
-use Rattle.river_base.proofs.Keyed as tables
+use Rattle.kern_tables.proofs.KeyedPuts as tables
 use Rattle.river_base.proofs.Rows.{exact_rows, in_order-IsPermutation, in_order_bag, in_order_ascends}
 use Rattle.kern_tables.specs.declared.ranked.Ranked.{Ranked}
 use Rattle.river_base.specs.Bags.{SameBag}

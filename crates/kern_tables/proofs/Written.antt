@@ -9,7 +9,7 @@ use Rattle.std.specs.List.Sorted.{IsStrictlySortedBy}
 use Rattle.std.proofs.lemmas.Map.Keys.{sorted_tail}
 use Rattle.std.proofs.lemmas.Map.Entries.{lookup_at_gap, lookup_head, lookup_tail}
 use Rattle.std.proofs.lemmas.Option.{same_Some}
-use Rattle.river_base.specs.Keyed.{put}
+use Rattle.kern_tables.specs.Keyed.{put}
 use Rattle.river_base.specs.Row.{row_cmp, row_total}
 use Rattle.kern_tables.specs.Entries.{AreShort}
 

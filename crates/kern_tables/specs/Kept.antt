@@ -3,7 +3,7 @@ use Rattle.std.specs.Prelude.{ℕ, ℤ, pos, List, [], fold}
 use Rattle.kern_tables.specs.declared.kind.TableKind.{TableKind}
 use Rattle.kern_tables.specs.declared.kind.TableKind.TheVariants.{Sum, Collection, Maximum}
 use Rattle.river_base.specs.Bags.{put_in_order}
-use Rattle.river_base.specs.Keyed.{put, keyed}
+use Rattle.kern_tables.specs.Keyed.{put, keyed}
 use Rattle.river_base.specs.Row.{row_cmp, row_lt, in_order}
 use Rattle.kern_tables.specs.declared.kept.Aggregate.{Aggregate}
 use Rattle.kern_tables.specs.declared.kept.Aggregate.TheVariants.{Sums, Rows, Maxima}

@@ -1,5 +1,6 @@
 pub mod Entries
 pub mod Kept
+pub mod Keyed
 pub mod Laws
 pub mod Pieces
 pub mod Ranks

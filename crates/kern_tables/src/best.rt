@@ -12,7 +12,7 @@ use std::marker::Model;
 
 /// Values and their weights, the worst of which is at hand. Contracts see it as the list by rank.
 #[derive(Drop)]
-pub struct Best {
+pub(crate) struct Best {
     heap: BinaryHeap<Ranked>,
 }
 

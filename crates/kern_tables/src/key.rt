@@ -4,10 +4,10 @@ ghost use Rattle.std.specs.Prelude.{◌≡◌, ◌≤◌, ◌<◌, [], ◌∷◌
 use river_base::{Row, Values};
 
 /// A key of at most 16 values.
-pub type Key = Values;
+pub(crate) type Key = Values;
 
 /// The key of a row: its first values.
-pub fn key_of(row: &Row, keys: usize) -> Key
+pub(crate) fn key_of(row: &Row, keys: usize) -> Key
     requires { keys ≤ length row.now }
     ensures { result ≡ take keys row.now }
 {
@@ -15,7 +15,7 @@ pub fn key_of(row: &Row, keys: usize) -> Key
 }
 
 /// The row of a key and a value; the key has fewer than 16.
-pub fn row_of(key: &Key, value: i64) -> Row
+pub(crate) fn row_of(key: &Key, value: i64) -> Row
     requires { length key.now < 16 }
     ensures { result ≡ key.now ++ value ∷ [] }
 {

@@ -1,6 +1,6 @@
 // The best for each key.
 ghost use Rattle.std.specs.Prelude.{◌≡◌, ◌≤◌, ◌<◌, ◌+◌, ◌++◌, map, [], length, IfOk, OnOk, OnErr};
-ghost use Rattle.river_base.specs.Keyed.{put};
+ghost use Rattle.kern_tables.specs.Keyed.{put};
 ghost use Rattle.river_base.specs.Row.{row_cmp};
 ghost use Rattle.kern_tables.specs.Tables.{ranked_row};
 ghost use Rattle.kern_tables.specs.Entries.{split, best_more, maximum_rows};

@@ -15,7 +15,7 @@ pub struct Ranked {
 }
 
 /// The order by rank.
-pub fn compare_ranks(a: &Ranked, b: &Ranked) -> Ordering
+pub(crate) fn compare_ranks(a: &Ranked, b: &Ranked) -> Ordering
     ensures { result ≡ rank_cmp a.now b.now }
 {
     match b.weight.cmp(&a.weight) {

@@ -1,6 +1,6 @@
 // A sum for each key.
-ghost use Rattle.std.specs.Prelude.{◌≡◌, ◌≤◌, ◌<◌, pos, [], length, IfOk, OnOk, OnErr};
-ghost use Rattle.river_base.specs.Keyed.{put};
+ghost use Rattle.std.specs.Prelude.{◌≡◌, ◌<◌, pos, [], length, IfOk, OnOk, OnErr};
+ghost use Rattle.kern_tables.specs.Keyed.{put};
 ghost use Rattle.river_base.specs.Row.{row_cmp};
 ghost use Rattle.kern_tables.specs.Tables.{add_value};
 ghost use Rattle.kern_tables.specs.Entries.{split, sum_rows};

@@ -1,5 +1,5 @@
 // Two workers on two threads, which add to the tables of the same two classes.
-ghost use Rattle.std.specs.Prelude.{◌≡◌, ◌≤◌, ◌<◌, ◌+◌, ◌^◌, ℕ, length, slice_index_or, All, IfSome};
+ghost use Rattle.std.specs.Prelude.{◌≡◌, ◌<◌, ◌+◌, ◌^◌, ℕ, length, slice_index_or, All, IfSome};
 ghost use Rattle.class_locks.specs.declared.view.View.{View};
 ghost use Rattle.lock_uses.specs.Uses.{IsReadyToAdd, HasWorked};
 ghost use Rattle.lock_uses.specs.Crews.{HasTakenTurn};

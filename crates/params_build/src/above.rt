@@ -15,7 +15,7 @@ use std::alloc::Global;
 
 /// The streams above, and how many parameters the nearest of each name has.
 #[derive(Drop)]
-pub struct StreamsAbove {
+pub(crate) struct StreamsAbove {
     pub arities: IndexMap<Name, usize>,
 }
 

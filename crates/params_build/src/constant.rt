@@ -11,7 +11,7 @@ use streamit_text::Expr;
 
 /// Whether each name of the constant is one of these.
 #[tactic(auto, using(crate::proofs::Trees::names))]
-pub fn are_known(names: &KnownNames, c: &Expr) -> bool
+pub(crate) fn are_known(names: &KnownNames, c: &Expr) -> bool
     ensures { result ≡ are_known names.now (expression c.now) }
 {
     match c {
@@ -23,7 +23,7 @@ pub fn are_known(names: &KnownNames, c: &Expr) -> bool
 }
 
 /// Whether each name of the constants is.
-pub fn all_known(names: &KnownNames, cs: &Vec<Expr>) -> bool
+pub(crate) fn all_known(names: &KnownNames, cs: &Vec<Expr>) -> bool
     ensures { result ≡ all_known names.now (expressions cs.now) }
 {
     'items: for each in cs.as_slice() {
@@ -35,7 +35,7 @@ pub fn all_known(names: &KnownNames, cs: &Vec<Expr>) -> bool
 }
 
 /// Whether each name of a rate is, where it is written.
-pub fn known_option(names: &KnownNames, c: &Option<Expr>) -> bool
+pub(crate) fn known_option(names: &KnownNames, c: &Option<Expr>) -> bool
     ensures { result ≡ known_option names.now (optional expression c.now) }
 {
     match c {
@@ -45,7 +45,7 @@ pub fn known_option(names: &KnownNames, c: &Option<Expr>) -> bool
 }
 
 /// Whether each name of the weights is, where there are brackets.
-pub fn all_known_option(names: &KnownNames, rounds: &Rounds) -> bool
+pub(crate) fn all_known_option(names: &KnownNames, rounds: &Rounds) -> bool
     ensures { result ≡ all_known_option names.now (rounds_of rounds.now) }
 {
     match &rounds.weights {

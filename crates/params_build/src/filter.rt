@@ -143,7 +143,7 @@ fn blocks(params: &KnownNames, tree: &ParamFilter) -> Result<(), Fault>
 }
 
 /// A filter with these parameters.
-pub fn filter(params: &KnownNames, tree: &ParamFilter) -> Result<(), Fault>
+pub(crate) fn filter(params: &KnownNames, tree: &ParamFilter) -> Result<(), Fault>
     ensures { (k : ℕ) → Judges k result (filter_judged k params.now (filter_of tree.now)) }
 {
     other_names(params, tree.fields.as_slice())?;

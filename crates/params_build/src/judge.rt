@@ -1,5 +1,5 @@
 // Programs judged: their units, one after another, and the last of them.
-ghost use Rattle.std.specs.Prelude.{◌≡◌, ◌<◌, ◌^◌, ℕ, List, [], ◌∷◌, length, OnOk};
+ghost use Rattle.std.specs.Prelude.{◌<◌, ◌^◌, ℕ, List, [], ◌∷◌, length, OnOk};
 ghost use Rattle.params_text.specs.Program.{unit_form, unit_forms};
 ghost use Rattle.params_model.specs.Judged.{Above, source_units, top_judged, unit_judged, units_judged};
 ghost use Rattle.params_build.specs.Above.{CountsParameters};

@@ -9,7 +9,7 @@ use std::marker::Model;
 
 /// Names that are known, each of them once, the newest last. Contracts see them in order.
 #[derive(Drop)]
-pub struct KnownNames {
+pub(crate) struct KnownNames {
     names: IndexSet<Name>,
 }
 

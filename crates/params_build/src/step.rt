@@ -116,7 +116,7 @@ fn turn(
 
 /// Steps, one after another, with the names that are known there, which they leave as they are.
 #[cycle(judged)]
-pub fn steps(above: &StreamsAbove, known: &mut KnownNames, all: &Steps) -> Result<(), Fault>
+pub(crate) fn steps(above: &StreamsAbove, known: &mut KnownNames, all: &Steps) -> Result<(), Fault>
     ensures judged { (k : ℕ) (us : Above) → CountsParameters above.now us → Judges k result (steps_judged k us known.old (steps_of all.now)) }
     ensures kept { OnOk result (known.new ≡ known.old) }
 {

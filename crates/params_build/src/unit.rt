@@ -12,7 +12,7 @@ use crate::constant::all_known_option;
 use crate::filter::filter;
 use crate::names::KnownNames;
 use crate::step::steps;
-use params_text::{ParamBody, ParamSplit, ParamSplitJoin, Unit, Rounds};
+use params_text::{ParamBody, ParamSplit, ParamSplitJoin, Rounds, Unit};
 use river_base::Name;
 use std::alloc::Global;
 
@@ -97,7 +97,7 @@ fn inner(alloc: Global, above: &StreamsAbove, unit: &Unit) -> Result<(), Fault>
 }
 
 /// A unit, below these streams.
-pub fn unit(alloc: Global, above: &StreamsAbove, unit: &Unit) -> Result<(), Fault>
+pub(crate) fn unit(alloc: Global, above: &StreamsAbove, unit: &Unit) -> Result<(), Fault>
     ensures { (k : ℕ) (us : Above) → CountsParameters above.now us → Judges k result (unit_judged k us (unit_form unit.now)) }
 {
     above.is_new(&unit.name)?;

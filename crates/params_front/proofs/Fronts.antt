@@ -39,7 +39,7 @@ use Rattle.params_build.specs.declared.fault.Refusal as code
 use Rattle.params_build.specs.Told.{Told, JudgesAll}
 use Rattle.params_front.specs.Written.{MakesText}
 use Rattle.params_front.specs.declared.make.Written.{Written}
-use Rattle.params_front.specs.Laws.{IsProgramFault, HasFault, HasMade, ElaborationHas}
+use Rattle.params_front.specs.Laws.{IsProgramFault, HasProgramFault, HasMade, ElaborationHas}
 use Rattle.params_front.specs.Meaning.{Elaboration, fault_at, or_fault, then_elaborated, of_tokens, then_read, elaboration, WritesPlainText, StandsForMade, Refused}
 use Rattle.params_front.specs.Sizes.{sizes_of}
 use Rattle.params_front.specs.declared.fault.ParamFault.{ParamFault}
@@ -81,7 +81,7 @@ first-told p sizes unit f (inl h) =
 first-told p sizes unit f (inr h) =
     ap (λ r. on_fine r (λ x. on_fine (top_judged (source_units p sizes)) (λ y. last_made (source_units p sizes)))) ((accepted_are p).1 h.0) ∙ h.1
 
-fault-made : (text : List ℕ) (fault : ParamFault) → HasFault text fault → elaboration text ≡ Err fault
+fault-made : (text : List ℕ) (fault : ParamFault) → HasProgramFault text fault → elaboration text ≡ Err fault
 fault-made text fault h =
     stands-made text h.tree h.stands ∙ ap (or_fault h.tree) (first-told h.tree (sizes_of h.stands.marks) h.unit h.told h.first) ∙ ap Err (sym h.is)
 
@@ -120,7 +120,7 @@ told-first p sizes e is = by (units_judged 1 [] p) refl is where
 fault-has : (text : List ℕ) (p : ParamProgram) (e : Refusal) (t : IsText text p) → elaborated_program p (sizes_of t.marks) ≡ Err e
     → HasMade text (Err (fault_at e.unit e.fault))
 fault-has text p e t is = by e.fault (told-first p (sizes_of t.marks) e is) where
-  has : (f : model.Fault) → IsProgramFault p (sizes_of t.marks) e.unit f → HasFault text (fault_at e.unit f)
+  has : (f : model.Fault) → IsProgramFault p (sizes_of t.marks) e.unit f → HasProgramFault text (fault_at e.unit f)
   has f first = record { tree = p; unit = e.unit; told = f; stands = t; first = first; is = refl }
 
   by : (f : model.Fault) → IsProgramFault p (sizes_of t.marks) e.unit f → HasMade text (Err (fault_at e.unit f))

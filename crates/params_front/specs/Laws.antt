@@ -37,7 +37,7 @@ IsProgramFault p sizes unit f =
     × (on_fine (top_judged (source_units p sizes)) (λ x. last_made (source_units p sizes)) ≡ Err (record { unit = unit; fault = f })))
 
 -- the grammar has the text for a program whose first fault this is
-pub record HasFault (text : List ℕ) (fault : ParamFault) : Type 0 where
+pub record HasProgramFault (text : List ℕ) (fault : ParamFault) : Type 0 where
   pub tree : ParamProgram
   pub unit : ℕ
   pub told : model.Fault
@@ -54,7 +54,7 @@ HasMade text (Err (Text (BigNumber at))) = tokens_in text ≡ Err (lex.BigNumber
 HasMade text (Err (Text (Syntax unit))) = IsBadAt text unit
 HasMade text (Err NoMemory) = ⊥
 HasMade text (Err (Inner unit fault)) = ⊥
-HasMade text (Err fault) = HasFault text fault
+HasMade text (Err fault) = HasProgramFault text fault
 
 -- that is what is made of a text
 abbrev pub ElaborationHas : Type 0

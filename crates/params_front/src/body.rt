@@ -17,7 +17,7 @@ use crate::ranges::{is_ranged_filter, is_ranged_round, is_ranged_split};
 use crate::span::{Span, span_between, value_or, values};
 use params_build::{Fault, Refusal};
 use params_print::{Bindings, Instance};
-use params_text::{ParamBody, ParamFilter, ParamSplitJoin, Unit, Step, Steps};
+use params_text::{ParamBody, ParamFilter, ParamSplitJoin, Step, Steps, Unit};
 use river_base::{Listed, Name};
 use std::alloc::Global;
 use streamit_text::Expr;
@@ -25,7 +25,7 @@ use streamit_text::Expr;
 /// What an instance sees: the units above its own and the bytes of all units; and how deep it lies,
 /// or, in its body, how deep its children lie.
 #[derive(Clone, Copy)]
-pub struct Seen<'a> {
+pub(crate) struct Seen<'a> {
     pub units: &'a [Unit],
     pub sizes: &'a [usize],
     pub depth: u32,
@@ -33,7 +33,7 @@ pub struct Seen<'a> {
 
 /// A body that is being made: the values that are known, and the children so far.
 #[derive(Drop)]
-pub struct Scope {
+pub(crate) struct Scope {
     pub known: Bindings,
     pub children: Listed<Instance>,
 }

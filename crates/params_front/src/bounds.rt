@@ -17,7 +17,7 @@ use streamit_text::Expr;
 /// What is known of a step before any loop turns: of a loop its bounds, where no variable of a loop
 /// stands in them, and what is known of its steps; of an `add` nothing.
 #[derive(Drop)]
-pub struct Bounds {
+pub(crate) struct Bounds {
     pub low: Option<i64>,
     pub high: Option<i64>,
     pub inner: Vec<Bounds>,
@@ -132,7 +132,11 @@ fn of_steps(
 }
 
 /// What is known of the steps of a body under the values of its parameters.
-pub fn fixed_bounds(alloc: Global, known: &Bindings, steps: &Steps) -> Result<Vec<Bounds>, NoMemory>
+pub(crate) fn fixed_bounds(
+    alloc: Global,
+    known: &Bindings,
+    steps: &Steps,
+) -> Result<Vec<Bounds>, NoMemory>
     requires { HaveFitConstants (steps_of steps.now) }
     ensures { IfOk result (λ all. AreValued known.now (steps_of steps.now) all.items) }
 {

@@ -1,5 +1,5 @@
 // From the text of a program to the text of its plain program.
-ghost use Rattle.std.specs.Prelude.{◌≡◌, ◌<◌, ◌^◌, length, IfOk, IfErr, Result, Ok};
+ghost use Rattle.std.specs.Prelude.{◌<◌, ◌^◌, length, IfOk, IfErr, Result, Ok};
 ghost use Rattle.params_text.specs.Faults.{StandFor};
 ghost use Rattle.params_text.specs.Program.{unit_forms};
 ghost use Rattle.params_text.specs.Program as text;
@@ -13,9 +13,8 @@ ghost use Rattle.params_front.specs.Meaning.{or_fault, of_tokens, elaboration, W
 
 use crate::fault::ParamFault;
 use crate::sizes::sizes;
-use crate::{Elaborated, ParamProgram};
+use crate::{Elaborated, ParamProgram, Written, made};
 use params_build::{Fault, Refusal, judged, top};
-use crate::{Written, made};
 use params_text::{Unit, read_params};
 use river_base::Bytes;
 use std::alloc::Global;

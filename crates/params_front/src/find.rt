@@ -7,7 +7,7 @@ use params_text::Unit;
 use river_base::Name;
 
 /// The last of these units that declares a stream of this name.
-pub fn find(units: &[Unit], name: &Name) -> Option<usize>
+pub(crate) fn find(units: &[Unit], name: &Name) -> Option<usize>
     ensures { Finds units.now name.now result }
 {
     let mut i = units.len();
@@ -21,7 +21,7 @@ pub fn find(units: &[Unit], name: &Name) -> Option<usize>
 }
 
 /// The bytes of the unit behind so many.
-pub fn size_at(sizes: &[usize], i: usize) -> usize
+pub(crate) fn size_at(sizes: &[usize], i: usize) -> usize
     ensures { result ≡ get_or sizes.now i 0 }
 {
     match sizes.get(i) {

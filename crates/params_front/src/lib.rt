@@ -19,6 +19,6 @@ mod write;
 pub use compile::compile_params;
 pub use elaboration::elaborate;
 pub use fault::ParamFault;
-pub use program::{Elaborated, ParamProgram};
 pub use make::{Written, made};
 use making::Making;
+pub use program::{Elaborated, ParamProgram};

@@ -14,7 +14,7 @@ use std::alloc::Global;
 /// What was made so far: the text, the source unit of each instance, and the number of the last one;
 /// and how many instances were begun, the bytes of their units, and how many turns were begun.
 #[derive(Drop)]
-pub struct Making {
+pub(crate) struct Making {
     pub text: Bytes,
     pub from: Numbers,
     pub number: u32,
@@ -100,7 +100,7 @@ fn unit_behind(above: &[Unit]) -> Result<u32, NoMemory>
 }
 
 /// The fault of the unit behind these.
-pub fn refuse(above: &[Unit], fault: Fault) -> Refusal
+pub(crate) fn refuse(above: &[Unit], fault: Fault) -> Refusal
     ensures { Blames result (suc (length above.now)) (tested_fault fault) }
 {
     match unit_behind(above) {
@@ -110,7 +110,7 @@ pub fn refuse(above: &[Unit], fault: Fault) -> Refusal
 }
 
 /// The fault of the unit behind these, where a test fails.
-pub fn demand(above: &[Unit], holds: bool, fault: Fault) -> Result<(), Refusal>
+pub(crate) fn demand(above: &[Unit], holds: bool, fault: Fault) -> Result<(), Refusal>
     ensures { JudgesAll result (demand holds (suc (length above.now)) (tested_fault fault)) }
 {
     if holds {

@@ -10,6 +10,7 @@ ghost use Rattle.params_model.specs.Constants.{IsFitOption, AreFitOption, IsFitD
 
 use params_print::{Bindings, value};
 use params_text::{ParamFilter, ParamSplit, ParamWork, Rounds};
+use river_base::MOST_ITEMS;
 use streamit_text::Expr;
 
 // A rate, a weight or a bound.
@@ -18,7 +19,7 @@ fn is_ranged(known: &Bindings, c: &Expr) -> bool
     ensures { result ≡ is_ranged (value known.now (expression c.now)) }
 {
     let value = value(known, c);
-    0 <= value && value <= 65_536
+    0 <= value && value <= MOST_ITEMS as i64
 }
 
 // Weights.
@@ -46,7 +47,7 @@ fn is_ranged_option(known: &Bindings, c: &Option<Expr>) -> bool
 }
 
 /// Weights, where there are brackets.
-pub fn is_ranged_round(known: &Bindings, rounds: &Rounds) -> bool
+pub(crate) fn is_ranged_round(known: &Bindings, rounds: &Rounds) -> bool
     requires { AreFitOption (rounds_of rounds.now) }
     ensures { result ≡ are_ranged_option known.now (rounds_of rounds.now) }
 {
@@ -57,7 +58,7 @@ pub fn is_ranged_round(known: &Bindings, rounds: &Rounds) -> bool
 }
 
 /// The weights of a splitter.
-pub fn is_ranged_split(known: &Bindings, split: &ParamSplit) -> bool
+pub(crate) fn is_ranged_split(known: &Bindings, split: &ParamSplit) -> bool
     requires { IsFitDealing (dealing_of split.now) }
     ensures { result ≡ is_ranged_dealing known.now (dealing_of split.now) }
 {
@@ -89,7 +90,7 @@ fn is_ranged_prework(known: &Bindings, prework: &Option<ParamWork>) -> bool
 }
 
 /// The rates of a filter.
-pub fn is_ranged_filter(known: &Bindings, tree: &ParamFilter) -> bool
+pub(crate) fn is_ranged_filter(known: &Bindings, tree: &ParamFilter) -> bool
     requires { IsFitFilter (filter_of tree.now) }
     ensures { result ≡ is_ranged_filter known.now (filter_of tree.now) }
 {

@@ -1,5 +1,5 @@
 // How many bytes the units of a text have.
-ghost use Rattle.std.specs.Prelude.{◌≡◌, map, IfOk, ◌∷◌, ◌++◌};
+ghost use Rattle.std.specs.Prelude.{◌≡◌, map, IfOk};
 ghost use Rattle.text_tokens.specs.Cut.{unit_tokens};
 ghost use Rattle.text_tokens.specs.Tok.{mark_of};
 ghost use Rattle.params_front.specs.Sizes.{bytes_of, bytes_of_each, sizes_of};
@@ -10,7 +10,7 @@ use text_tokens::{Lexeme, Tokens, units};
 
 /// How many bytes each unit of these tokens has, from the first byte of its first token to the last
 /// byte of its last.
-pub fn sizes(alloc: Global, tokens: &Tokens<'_>) -> Result<Vec<usize>, NoMemory>
+pub(crate) fn sizes(alloc: Global, tokens: &Tokens<'_>) -> Result<Vec<usize>, NoMemory>
     ensures { IfOk result (λ sizes. sizes.items ≡ sizes_of tokens.now) }
 {
     let units = units(alloc, tokens)?;

@@ -8,19 +8,19 @@ ghost use Rattle.params_front.specs.Turning.{IsRangedBound, Spans};
 ghost use Rattle.params_front.specs.Valued.{IsFixed};
 
 use params_print::{Bindings, value};
-use river_base::{NoMemory, Numbers};
+use river_base::{MOST_ITEMS, NoMemory, Numbers};
 use std::alloc::Global;
 use streamit_text::{Expr, Until};
 
 /// The turns of a loop: the first value of its variable, and the one behind the last.
 #[derive(Clone, Copy)]
-pub struct Span {
+pub(crate) struct Span {
     pub low: u32,
     pub end: u32,
 }
 
 /// The value of a bound, which may be known before.
-pub fn value_or(known: &Bindings, fixed: Option<i64>, c: &Expr) -> i64
+pub(crate) fn value_or(known: &Bindings, fixed: Option<i64>, c: &Expr) -> i64
     requires values { HasValues (expression c.now) }
     requires fixed { IsFixed fixed (value known.now (expression c.now)) }
     ensures { result ≡ value known.now (expression c.now) }
@@ -35,7 +35,7 @@ pub fn value_or(known: &Bindings, fixed: Option<i64>, c: &Expr) -> i64
 fn bound(value: i64) -> Option<u32>
     ensures { IsRangedBound result value }
 {
-    if 0 <= value && value <= 65_536 {
+    if 0 <= value && value <= MOST_ITEMS as i64 {
         Some(value as u32)
     } else {
         None
@@ -43,7 +43,7 @@ fn bound(value: i64) -> Option<u32>
 }
 
 /// The turns of a loop between these bounds, where both are in range.
-pub fn span_between(low: i64, until: Until, high: i64) -> Option<Span>
+pub(crate) fn span_between(low: i64, until: Until, high: i64) -> Option<Span>
     ensures { Spans result low (is_turn until) high }
 {
     let low = bound(low)?;
@@ -56,7 +56,7 @@ pub fn span_between(low: i64, until: Until, high: i64) -> Option<Span>
 }
 
 /// The values of arguments.
-pub fn values(alloc: Global, known: &Bindings, args: &Vec<Expr>) -> Result<Numbers, NoMemory>
+pub(crate) fn values(alloc: Global, known: &Bindings, args: &Vec<Expr>) -> Result<Numbers, NoMemory>
     requires { AreFit (expressions args.now) }
     ensures { IfOk result (λ all. all ≡ map (value known.now) (expressions args.now)) }
 {

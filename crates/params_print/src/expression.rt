@@ -14,8 +14,8 @@ use crate::token::tokens;
 use river_base::{Bytes, Name, NoMemory};
 use std::alloc::Global;
 use streamit_text::Expr;
-use work_code::BinOp;
 use text_tokens::{Symbol, Token};
+use work_code::BinOp;
 
 // The symbol of an operator.
 fn sign_of(op: BinOp) -> Symbol
@@ -93,7 +93,12 @@ fn named(alloc: Global, known: &Bindings, name: &Name, to: &mut Bytes) -> Result
 // Appends an expression.
 #[cycle(expression)]
 #[tactic(auto, using(crate::proofs::Texts::texts))]
-pub fn expression(alloc: Global, known: &Bindings, e: &Expr, to: &mut Bytes) -> Result<(), NoMemory>
+pub(crate) fn expression(
+    alloc: Global,
+    known: &Bindings,
+    e: &Expr,
+    to: &mut Bytes,
+) -> Result<(), NoMemory>
     ensures { OnOk result (to.new ≡ to.old ++ spaced (expr_toks (put_in known.now (expression e.now)))) }
 {
     let open = Token::Sign(Symbol::Open);
@@ -145,7 +150,7 @@ fn operation(
 /// Appends an expression between tokens.
 #[cycle(expression)]
 #[tactic(auto, using(crate::proofs::Texts::texts))]
-pub fn between(
+pub(crate) fn between(
     alloc: Global,
     known: &Bindings,
     before: &[Token<'_>],

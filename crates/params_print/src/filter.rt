@@ -121,7 +121,7 @@ fn prework(
 
 // Appends the rest of the unit of a filter.
 #[tactic(auto, using(crate::proofs::Texts::texts))]
-pub fn filter(
+pub(crate) fn filter(
     alloc: Global,
     known: &Bindings,
     tree: &ParamFilter,

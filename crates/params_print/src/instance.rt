@@ -31,7 +31,12 @@ fn named(alloc: Global, instance: &Instance, to: &mut Bytes) -> Result<(), NoMem
 
 // Appends the head of a unit.
 #[tactic(auto, using(crate::proofs::Texts::texts))]
-pub fn head(alloc: Global, kind: &[u8], instance: &Instance, to: &mut Bytes) -> Result<(), NoMemory>
+pub(crate) fn head(
+    alloc: Global,
+    kind: &[u8],
+    instance: &Instance,
+    to: &mut Bytes,
+) -> Result<(), NoMemory>
     ensures { OnOk result (to.new ≡ to.old ++ spaced (opening_toks kind.now (name_written instance.now))) }
 {
     let before = [
@@ -46,7 +51,7 @@ pub fn head(alloc: Global, kind: &[u8], instance: &Instance, to: &mut Bytes) -> 
 }
 
 // Appends the last token of a unit.
-pub fn end(alloc: Global, to: &mut Bytes) -> Result<(), NoMemory>
+pub(crate) fn end(alloc: Global, to: &mut Bytes) -> Result<(), NoMemory>
     ensures { OnOk result (to.new ≡ to.old ++ spaced (tok.symbol s.CloseBrace ∷ [])) }
 {
     tokens(alloc, &[Token::Sign(Symbol::CloseBrace)], to)
@@ -54,7 +59,7 @@ pub fn end(alloc: Global, to: &mut Bytes) -> Result<(), NoMemory>
 
 // Appends an `add` for each instance.
 #[tactic(auto, using(crate::proofs::Texts::texts))]
-pub fn adds(alloc: Global, children: &[Instance], to: &mut Bytes) -> Result<(), NoMemory>
+pub(crate) fn adds(alloc: Global, children: &[Instance], to: &mut Bytes) -> Result<(), NoMemory>
     ensures { OnOk result (to.new ≡ to.old ++ spaced (other_toks (names_written children.now))) }
 {
     'children: for each in children {

@@ -80,7 +80,7 @@ fn deal(alloc: Global, known: &Bindings, split: &ParamSplit, to: &mut Bytes) -> 
 
 // Appends a splitter.
 #[tactic(auto, using(crate::proofs::Texts::texts))]
-pub fn split(
+pub(crate) fn split(
     alloc: Global,
     known: &Bindings,
     split: &ParamSplit,
@@ -96,7 +96,7 @@ pub fn split(
 
 // Appends a joiner.
 #[tactic(auto, using(crate::proofs::Texts::texts))]
-pub fn join(
+pub(crate) fn join(
     alloc: Global,
     known: &Bindings,
     rounds: &Rounds,

@@ -212,7 +212,12 @@ fn otherwise(
 /// Appends a block.
 #[cycle(statement)]
 #[tactic(auto, using(crate::proofs::Texts::blocks))]
-pub fn block(alloc: Global, known: &Bindings, all: &Block, to: &mut Bytes) -> Result<(), NoMemory>
+pub(crate) fn block(
+    alloc: Global,
+    known: &Bindings,
+    all: &Block,
+    to: &mut Bytes,
+) -> Result<(), NoMemory>
     ensures { OnOk result (to.new ≡ to.old ++ spaced (block_toks (put_block known.now (block all.now)))) }
 {
     tokens(alloc, &[Token::Sign(Symbol::OpenBrace)], to)?;

@@ -46,7 +46,7 @@ fn bytes_of(symbol: Symbol) -> &'static [u8]
 }
 
 // Appends a number in decimal.
-pub fn digits(alloc: Global, number: u64, to: &mut Bytes) -> Result<(), NoMemory>
+pub(crate) fn digits(alloc: Global, number: u64, to: &mut Bytes) -> Result<(), NoMemory>
     ensures { OnOk result (to.new ≡ to.old ++ decimal number) }
 {
     let text = number.to_string(alloc)?;
@@ -71,7 +71,7 @@ fn token(alloc: Global, token: &Token<'_>, to: &mut Bytes) -> Result<(), NoMemor
 
 /// Appends tokens, each with a blank behind it.
 #[tactic(auto, using(crate::proofs::Texts::joins))]
-pub fn tokens(alloc: Global, all: &[Token<'_>], to: &mut Bytes) -> Result<(), NoMemory>
+pub(crate) fn tokens(alloc: Global, all: &[Token<'_>], to: &mut Bytes) -> Result<(), NoMemory>
     ensures { OnOk result (to.new ≡ to.old ++ spaced (map token_of all.now)) }
 {
     'all: for each in all {

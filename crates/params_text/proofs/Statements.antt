@@ -24,9 +24,15 @@ use Rattle.streamit_text.specs.Words.{is_plain, is_own, keywords}
 use Rattle.text_tokens.proofs.Insides as inside
 use Rattle.text_tokens.proofs.Insides.{plain-Open, plain-Close, plain-Semicolon, plain-Assign, plain-Less, plain-LessEqual, plain-Increment}
 use Rattle.params_text.specs.Toks.{expr_toks, first_toks, below, head_toks, statement_toks, statements_toks, block_toks, else_toks}
-use Rattle.params_text.specs.Told.{IsOwnName, IsToldExpr, IsToldFirst, IsToldOnce, IsToldAll, IsToldOptional}
+use Rattle.params_text.specs.Told.{IsOwnName, IsToldExpr, IsToldAll, IsToldOptional, FirstBy, OnceBy}
 use Rattle.text_tokens.proofs.Good.{IsPiece, piece-nothing, piece-then, piece-symbol, piece-name, piece-braces, piece-last}
 use Rattle.params_text.proofs.Expressions.{own_plain, own_text, pop_is, round, told-piece, told-formed}
+
+abbrev pub IsToldFirst : Option Expression → Type 0
+IsToldFirst t = FirstBy IsToldExpr t
+
+abbrev pub IsToldOnce : ℕ → Statement → Type 0
+IsToldOnce nest c = OnceBy IsToldExpr nest c
 
 -- A NAME IS NO KEYWORD
 

@@ -12,7 +12,7 @@ use Rattle.text_forms.proofs.Exact.{Exact, Any, exact-less, exact-both, exact-af
 use Rattle.text_forms.proofs.Exact.{is_word_at-is}
 use Rattle.text_forms.proofs.Many.{Listed, exact-many}
 use Rattle.text_forms.proofs.Choices.{exact-never, exact-choose, exact-headed, exact-known, exact-enclosed}
-use Rattle.text_blocks.specs.Exact.{NoElse}
+use Rattle.text_blocks.proofs.Statements.{NoElse}
 use Rattle.text_blocks.specs.Seven.{Ends}
 use Rattle.text_blocks.specs.Statements.{IsRest}
 use Rattle.text_blocks.specs.Statements as statements

@@ -52,12 +52,6 @@ abbrev mutual
   OptionalBy E nest Unwritten = Unit {0}
   OptionalBy E nest (Written b) = AllBy E nest b
 
-abbrev pub IsToldFirst : Option Expression → Type 0
-IsToldFirst t = FirstBy IsToldExpr t
-
-abbrev pub IsToldOnce : ℕ → Statement → Type 0
-IsToldOnce nest c = OnceBy IsToldExpr nest c
-
 abbrev pub IsToldAll : ℕ → Block → Type 0
 IsToldAll nest b = AllBy IsToldExpr nest b
 

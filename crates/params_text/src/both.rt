@@ -1,5 +1,4 @@
 // Split-joins read.
-ghost use Rattle.std.specs.Prelude.{◌≡◌};
 ghost use Rattle.text_forms.specs.Gives.{Gives};
 ghost use Rattle.params_text.specs.Program.{dealing_of, rounds_of};
 ghost use Rattle.params_text.specs.Reading.{split_after, split_at, join_at, in_both_at, both_at};
@@ -58,7 +57,11 @@ fn join(reader: &mut Reader<'_>, alloc: Global, brackets: u32) -> Result<Rounds,
 
 // The splitter, the steps, and the joiner.
 #[tactic(auto, unfolding(crate::specs::Reading::in_both_at), using(crate::proofs::StepTrees::steps))]
-fn in_both(reader: &mut Reader<'_>, alloc: Global, brackets: u32) -> Result<ParamSplitJoin, ParseFault>
+fn in_both(
+    reader: &mut Reader<'_>,
+    alloc: Global,
+    brackets: u32,
+) -> Result<ParamSplitJoin, ParseFault>
     ensures { Gives split_join_of result reader.new (in_both_at brackets reader.old) }
 {
     let split = split(reader, alloc, brackets)?;
@@ -73,7 +76,11 @@ fn in_both(reader: &mut Reader<'_>, alloc: Global, brackets: u32) -> Result<Para
 
 /// `{` the splitter, the steps, and the joiner `}`
 #[tactic(auto, unfolding(crate::specs::Reading::both_at))]
-pub fn both(reader: &mut Reader<'_>, alloc: Global, brackets: u32) -> Result<ParamSplitJoin, ParseFault>
+pub(crate) fn both(
+    reader: &mut Reader<'_>,
+    alloc: Global,
+    brackets: u32,
+) -> Result<ParamSplitJoin, ParseFault>
     ensures { Gives split_join_of result reader.new (both_at brackets reader.old) }
 {
     let inner = reader.opens(Symbol::OpenBrace, brackets)?;

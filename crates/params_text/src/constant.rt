@@ -1,5 +1,5 @@
 // Constants, parameters, and lists of them.
-ghost use Rattle.std.specs.Prelude.{◌≡◌, ◌≤◌, length, IfOk};
+ghost use Rattle.std.specs.Prelude.{◌≤◌, length, IfOk};
 ghost use Rattle.text_blocks.specs.Parts.{optional};
 ghost use Rattle.text_forms.specs.Gives.{Gives};
 ghost use Rattle.streamit_text.specs.Tree.{expression};
@@ -16,7 +16,11 @@ use text_tokens::Symbol;
 
 /// An expression without `push`, `pop` and `peek`.
 #[tactic(auto, unfolding(crate::specs::Steps::constant_at))]
-pub fn constant(reader: &mut Reader<'_>, alloc: Global, brackets: u32) -> Result<Expr, ParseFault>
+pub(crate) fn constant(
+    reader: &mut Reader<'_>,
+    alloc: Global,
+    brackets: u32,
+) -> Result<Expr, ParseFault>
     ensures { Gives expression result reader.new (constant_at brackets reader.old) }
 {
     let value = term(&StreamitGrammar { leaves: Plain }, reader, alloc, brackets)?;
@@ -29,7 +33,7 @@ pub fn constant(reader: &mut Reader<'_>, alloc: Global, brackets: u32) -> Result
 
 /// The name of a stream, of at most 32 bytes.
 #[tactic(auto, unfolding(crate::specs::Steps::stream_name_at), using(crate::proofs::Lists::briefs))]
-pub fn stream_name(reader: &mut Reader<'_>) -> Result<Name, ParseFault>
+pub(crate) fn stream_name(reader: &mut Reader<'_>) -> Result<Name, ParseFault>
     ensures reads { Gives (λ name. name) result reader.new (stream_name_at reader.old) }
     ensures brief { IfOk result (λ name. length name ≤ 32) }
 {
@@ -65,7 +69,11 @@ fn some_params(reader: &mut Reader<'_>, alloc: Global) -> Result<Vec<Name>, Pars
 
 // Parameters in brackets, or none in them.
 #[tactic(auto, unfolding(crate::specs::Steps::round_params_at, crate::specs::Steps::some_params_at, text_blocks::specs::Parts::round_at))]
-fn round_params(reader: &mut Reader<'_>, alloc: Global, brackets: u32) -> Result<Vec<Name>, ParseFault>
+fn round_params(
+    reader: &mut Reader<'_>,
+    alloc: Global,
+    brackets: u32,
+) -> Result<Vec<Name>, ParseFault>
     ensures { Gives (λ names. names.items) result reader.new (round_params_at brackets reader.old) }
 {
     reader.opens(Symbol::Open, brackets)?;
@@ -79,7 +87,11 @@ fn round_params(reader: &mut Reader<'_>, alloc: Global, brackets: u32) -> Result
 
 /// Parameters in brackets, or no brackets.
 #[tactic(auto, unfolding(crate::specs::Steps::params_at))]
-pub fn params(reader: &mut Reader<'_>, alloc: Global, brackets: u32) -> Result<Vec<Name>, ParseFault>
+pub(crate) fn params(
+    reader: &mut Reader<'_>,
+    alloc: Global,
+    brackets: u32,
+) -> Result<Vec<Name>, ParseFault>
     ensures { Gives (λ names. names.items) result reader.new (params_at brackets reader.old) }
 {
     if reader.is_at(Symbol::Open) {
@@ -91,7 +103,11 @@ pub fn params(reader: &mut Reader<'_>, alloc: Global, brackets: u32) -> Result<V
 
 // Constants with commas between them, at least one.
 #[tactic(auto, unfolding(crate::specs::Steps::some_constants_at), using(crate::proofs::Lists::constants))]
-fn some_constants(reader: &mut Reader<'_>, alloc: Global, brackets: u32) -> Result<Vec<Expr>, ParseFault>
+fn some_constants(
+    reader: &mut Reader<'_>,
+    alloc: Global,
+    brackets: u32,
+) -> Result<Vec<Expr>, ParseFault>
     ensures { Gives expressions result reader.new (some_constants_at brackets reader.old) }
 {
     let mut list = Vec::new(alloc);
@@ -122,7 +138,7 @@ fn round_constants(
 
 /// Constants in brackets, or no brackets.
 #[tactic(auto, unfolding(crate::specs::Steps::constants_at))]
-pub fn constants(
+pub(crate) fn constants(
     reader: &mut Reader<'_>,
     alloc: Global,
     brackets: u32,

@@ -280,7 +280,7 @@ fn braced(
 }
 
 /// `{` what a filter with these parameters has `}`
-pub fn filter(
+pub(crate) fn filter(
     reader: &mut Reader<'_>,
     alloc: Global,
     params: &[Name],

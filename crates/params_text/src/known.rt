@@ -1,7 +1,5 @@
 // The parameters of a stream.
 ghost use Rattle.std.specs.Prelude.{◌≡◌, [], IfOk, OnOk};
-ghost use Rattle.std.specs.List.{list_any};
-ghost use Rattle.river_base.specs.Name.{name_eq};
 ghost use Rattle.params_text.specs.Params.{is_one_of};
 ghost use Rattle.params_text.specs.Parameters.{Finds};
 

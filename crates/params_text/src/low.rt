@@ -75,7 +75,7 @@ fn lows(names: &Parameters, one: &Statement) -> bool
 /// Whether each expression of the block is at most 64 deep, where a parameter counts as 3 deep.
 #[cycle(low)]
 #[tactic(auto, using(streamit_text::proofs::Trees::trees))]
-pub fn low(names: &Parameters, all: &Block) -> bool
+pub(crate) fn low(names: &Parameters, all: &Block) -> bool
     ensures { result ≡ low names.now (block all.now) }
 {
     'items: for each in all.items.as_slice() {

@@ -4,7 +4,6 @@ ghost use Rattle.text_forms.specs.Gives.{Gives};
 ghost use Rattle.text_tokens.specs.Tok.{Tok};
 ghost use Rattle.streamit_text.specs.Tree.{expression, depth_of};
 ghost use Rattle.params_text.specs.Parameters.{place_at, named_with, leaf_with, IsLeafWith};
-ghost use Rattle.params_text.specs.Params.{is_one_of};
 
 use crate::Parameters;
 use river_base::Name;

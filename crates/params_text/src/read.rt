@@ -1,5 +1,5 @@
 // From the tokens of a text to its program.
-ghost use Rattle.std.specs.Prelude.{◌≡◌, ◌<◌, ◌^◌, length, map, IfOk, IfErr};
+ghost use Rattle.std.specs.Prelude.{◌<◌, ◌^◌, length, map, IfOk, IfErr};
 ghost use Rattle.text_tokens.specs.Cut.{unit_tokens};
 ghost use Rattle.text_forms.specs.AllUnits.{GivesUnits};
 ghost use Rattle.params_text.specs.Faults.{StandFor, Refuses};

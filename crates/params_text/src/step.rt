@@ -186,7 +186,11 @@ fn step(reader: &mut Reader<'_>, alloc: Global, brackets: u32) -> Result<Step, P
 
 /// `{` steps `}`
 #[tactic(auto, unfolding(crate::specs::Reading::pipe_at))]
-pub fn pipe(reader: &mut Reader<'_>, alloc: Global, brackets: u32) -> Result<Steps, ParseFault>
+pub(crate) fn pipe(
+    reader: &mut Reader<'_>,
+    alloc: Global,
+    brackets: u32,
+) -> Result<Steps, ParseFault>
     ensures { Gives steps_of result reader.new (pipe_at brackets reader.old) }
 {
     text_blocks::block(&StepWords, reader, alloc, 16, brackets)
@@ -194,7 +198,11 @@ pub fn pipe(reader: &mut Reader<'_>, alloc: Global, brackets: u32) -> Result<Ste
 
 /// Steps up to a joiner.
 #[tactic(auto, unfolding(crate::specs::Reading::steps_at), using(crate::proofs::Lists::steps))]
-pub fn steps(reader: &mut Reader<'_>, alloc: Global, brackets: u32) -> Result<Vec<Step>, ParseFault>
+pub(crate) fn steps(
+    reader: &mut Reader<'_>,
+    alloc: Global,
+    brackets: u32,
+) -> Result<Vec<Step>, ParseFault>
     ensures { Gives (λ list. map step_of list.items) result reader.new (steps_at brackets reader.old) }
 {
     let mut list = Vec::new(alloc);

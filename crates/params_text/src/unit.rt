@@ -1,5 +1,4 @@
 // Units read.
-ghost use Rattle.std.specs.Prelude.{◌≡◌};
 ghost use Rattle.text_forms.specs.Gives.{Gives};
 ghost use Rattle.params_text.specs.Program.{body_of, unit_form};
 ghost use Rattle.params_text.specs.Reading.{body_after, kind_after, unit_at};
@@ -66,7 +65,7 @@ fn unit(reader: &mut Reader<'_>, alloc: Global) -> Result<Unit, ParseFault>
 }
 
 /// The units of a program with parameters.
-pub struct ParamUnits;
+pub(crate) struct ParamUnits;
 
 impl Units for ParamUnits {
     ghost use Rattle.params_text.specs.Program.{UnitForm, unit_form};

@@ -1,5 +1,5 @@
 // Cuts a file.
-ghost use Rattle.std.specs.Prelude.{◌≡◌, length, IfOk, OnOk, IfSome, Some};
+ghost use Rattle.std.specs.Prelude.{◌≡◌, length, IfOk, OnOk, IfSome};
 ghost use Rattle.csv_streams.specs.Records.{csv_records};
 ghost use Rattle.piece_work.specs.Held.{CutHeld, bytes_of};
 
@@ -9,7 +9,7 @@ use river_outside::{Shelf, fetch};
 use std::alloc::Global;
 
 /// How many bytes of a file are read at most: 1 TiB.
-pub const MOST: u64 = 1_099_511_627_776;
+pub(crate) const MOST: u64 = 1_099_511_627_776;
 
 /// Cuts a file into pieces, which are taken one behind another. The first has the header, if there is one.
 #[tactic(auto, using(crate::proofs::Fetches::fetches))]

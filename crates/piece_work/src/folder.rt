@@ -1,5 +1,5 @@
 // Pieces as files of a folder.
-ghost use Rattle.std.specs.Prelude.{◌≡◌, ◌≤◌, true, None};
+ghost use Rattle.std.specs.Prelude.{◌≤◌, true, None};
 ghost use Rattle.river_outside.specs.Causes.{Rose};
 
 use csv_cuts::PieceSink;

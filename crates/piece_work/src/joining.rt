@@ -1,5 +1,5 @@
 // Writes files as one.
-ghost use Rattle.std.specs.Prelude.{◌≡◌, ◌∷◌, OnOk, IfSome, Option};
+ghost use Rattle.std.specs.Prelude.{◌≡◌, OnOk, IfSome};
 ghost use Rattle.std.specs.Io.KnownBytes.{append_known};
 ghost use Rattle.piece_work.specs.Held.{texts_held, bytes_of};
 

@@ -6,8 +6,11 @@ ghost use Rattle.river_plan.specs.Forms.{plan_form, op_forms};
 ghost use Rattle.river_plan.specs.First.{Along};
 ghost use Rattle.river_plan.specs.Limits.{most_of, numbers, port_numbers, kernel_numbers, nestings, best_rows, OverLimit, OverLimitAt};
 
-use kern_tables::TableKind;
 use kern_check::{first_above, nesting};
+use kern_tables::TableKind;
+use river_base::{
+    MOST_ITEMS, MOST_KEPT, MOST_OPERATORS, MOST_SLOTS, MOST_STATEMENTS, MOST_VARIABLES,
+};
 use river_kernels::{Kernel, Limit};
 use river_plan::{Op, Ops, PlanFault, RawPlan, TableDecls};
 
@@ -83,17 +86,17 @@ fn most_of(limit: Limit) -> u64
 {
     match limit {
         Limit::Inputs => 8,
-        Limit::Operators => 256,
+        Limit::Operators => MOST_OPERATORS as u64,
         Limit::Queues => 512,
-        Limit::Variables => 256,
+        Limit::Variables => MOST_VARIABLES as u64,
         Limit::Ports => 64,
-        Limit::Statements => 16384,
-        Limit::Slots => 256,
-        Limit::Rates => 65536,
-        Limit::Weights => 65536,
+        Limit::Statements => MOST_STATEMENTS as u64,
+        Limit::Slots => MOST_SLOTS as u64,
+        Limit::Rates => MOST_ITEMS as u64,
+        Limit::Weights => MOST_ITEMS as u64,
         Limit::Nesting => 32,
-        Limit::Latest => 1000000,
-        Limit::Best => 1000000,
+        Limit::Latest => MOST_KEPT as u64,
+        Limit::Best => MOST_KEPT as u64,
     }
 }
 

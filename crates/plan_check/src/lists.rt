@@ -1,5 +1,5 @@
 // The names in the lists of a plan.
-ghost use Rattle.std.specs.Prelude.{◌≡◌, ◌++◌, ◌∷◌, IfOk, OnOk};
+ghost use Rattle.std.specs.Prelude.{◌≡◌, ◌++◌, IfOk, OnOk};
 ghost use Rattle.river_plan.specs.Forms.{plan_form, op_forms, decl_names, table_names, labels, queue_names, variable_names};
 
 use river_base::NoMemory;

@@ -1,5 +1,5 @@
 -- The classes of tables as a function of the lists of their users.
-use Rattle.std.specs.Prelude.{ℕ, ℤ, pos, List, [], ◌∷◌, length, fold}
+use Rattle.std.specs.Prelude.{ℤ, pos, List, [], ◌∷◌}
 use Rattle.plan_classes.specs.Classes.{AreClasses}
 use Rattle.plan_classes.specs.Sets.{place_in, with_list}
 
@@ -10,10 +10,6 @@ numbered_classes first (ops ∷ users) = pos (place_in first ops) ∷ numbered_c
 
 abbrev pub class_numbers : List (List ℤ) → List ℤ
 class_numbers users = numbered_classes [] users
-
--- how many classes there are: as many as different lists
-abbrev pub class_count : List (List ℤ) → ℕ
-class_count users = length (fold with_list [] users)
 
 -- these numbers are the classes
 abbrev pub NumbersAreClasses : Type 0

@@ -1,11 +1,11 @@
 // The lines of lock classes.
-ghost use Rattle.std.specs.Prelude.{◌≡◌, ◌≤◌, ◌<◌, ◌^◌, ◌++◌, ◌∷◌, [], pos, length, codes, OnOk, OnErr, if◌then◌else◌};
+ghost use Rattle.std.specs.Prelude.{◌≡◌, ◌<◌, ◌^◌, ◌++◌, [], pos, length, codes, OnOk, OnErr, if◌then◌else◌};
 ghost use Rattle.std.specs.Ordering.{int_eq};
 ghost use Rattle.river_plan.specs.Forms.{table_names};
 ghost use Rattle.plan_classes.specs.Lines.{class_tables, class_line, class_lines, classes_text};
 
+use crate::class_numbers::classes;
 use crate::users::table_users;
-use crate::classes;
 use river_base::{Bytes, NoMemory};
 use river_plan::{Plan, TableDecl};
 use std::alloc::Global;

@@ -1,10 +1,5 @@
-pub mod Edit
 pub mod Judging
 pub mod KindLoops
 pub mod Lookups
 pub mod MeaningSame
-pub mod NameLoops
-pub mod OpLoops
 pub mod Surgery
-pub mod Swap
-pub mod Types

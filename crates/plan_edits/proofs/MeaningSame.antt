@@ -4,12 +4,19 @@ use Rattle.river_base.specs.declared.item.Item as item
 use Rattle.kern_tables.specs.Tables.{tab}
 use Rattle.kern_tables.proofs.Tabs.{tables_are_of_bags}
 use Rattle.river_plan.specs.declared.plan.TableDecl.{TableDecl}
-use Rattle.river_plan.specs.Forms.{Name, PlanForm, decl_names}
+use Rattle.river_plan.specs.Forms.{Name, PlanForm, decl_names, all_decls}
 use Rattle.brooklet_model.specs.Histories.{hist, all_adds}
 use Rattle.brooklet_model.specs.Meaning.{meaning}
 use Rattle.river_base.specs.Bags.{SameBag}
 use Rattle.plan_edits.specs.Meaning.{SameOuter, SameMeaning}
 use Rattle.plan_edits.proofs.Lookups.{map_agree}
+use Rattle.std.specs.Prelude.{All}
+use Rattle.river_base.specs.Held.{HasType}
+use Rattle.river_plan.specs.Kinds.{kind_of}
+
+-- all items in the plan are of their queues' types
+abbrev pub AreTypedHistories : PlanForm → List (List item.Item) → Type 0
+AreTypedHistories p inputs = (q : Name) → All (HasType (kind_of (all_decls p) q)) (hist p inputs q)
 
 tables_same : (f g : Name → List (List ℤ)) (ts : List TableDecl) → ((x : Name) → SameBag (f x) (g x))
     → map (λ (t : TableDecl). tab t.kind (f t.name)) ts ≡ map (λ (t : TableDecl). tab t.kind (g t.name)) ts

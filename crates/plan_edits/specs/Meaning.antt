@@ -1,9 +1,7 @@
 -- When two plans mean the same.
-use Rattle.std.specs.Prelude.{◌≡◌, ◌<◌, All, List}
+use Rattle.std.specs.Prelude.{◌≡◌, ◌<◌, List}
 use Rattle.river_base.specs.declared.item.Item as item
-use Rattle.river_base.specs.Held.{HasType}
-use Rattle.river_plan.specs.Forms.{Name, PlanForm, decl_names, all_decls}
-use Rattle.river_plan.specs.Kinds.{kind_of}
+use Rattle.river_plan.specs.Forms.{Name, PlanForm, decl_names}
 use Rattle.river_plan.specs.Names.{count}
 use Rattle.river_base.specs.Bags.{SameBag}
 use Rattle.brooklet_model.specs.Histories.{hist, all_adds}
@@ -18,7 +16,3 @@ pub record SameOuter (p p' : PlanForm) : Type 0 where
 pub record SameMeaning (p p' : PlanForm) (inputs : List (List item.Item)) : Type 0 where
   pub hist : (q : Name) → 0 < count q (decl_names p.outputs) → hist p' inputs q ≡ hist p inputs q
   pub adds : (t : Name) → SameBag (all_adds p' inputs t) (all_adds p inputs t)
-
--- all items in the plan are of their queues' types
-abbrev pub AreTypedHistories : PlanForm → List (List item.Item) → Type 0
-AreTypedHistories p inputs = (q : Name) → All (HasType (kind_of (all_decls p) q)) (hist p inputs q)

@@ -9,7 +9,7 @@ use Rattle.river_base.specs.declared.kind.FlatType as flat_type
 use Rattle.river_base.specs.declared.kind.FlatType.TheVariants.{Rows, Stream, Relation}
 use Rattle.river_base.specs.declared.kind.QueueType as queue_type
 use Rattle.river_base.specs.declared.kind.QueueType.TheVariants.{Flat as FlatOf, Pack as PackOf}
-use Rattle.river_base.specs.Held.{held, held_by_type, held_from, held_item, held_flat, held_flats, content_from, after_item, after_flat, after_flats, MayHold, IsHeld, IsPlain, flats_as_items, opened, flats}
+use Rattle.river_base.specs.Held.{held, held_by_type, held_from, held_item, held_flat, held_flats, content_from, after_item, after_flat, after_flats, MayHold, IsHeld, IsPlain, flats_as_items, items_of, flats}
 
 from-append : (before : List (List ℤ)) (xs ys : List item.Item) → held_from before (xs ++ ys) ≡ held_from before xs ++ held_from (content_from before xs) ys
 from-append before [] ys = refl
@@ -90,6 +90,11 @@ content_pack : (before : List (List ℤ)) (fs : List flat.Flat) (is : List item.
     → content_from before (flats_as_items fs ++ is) ≡ content_from (after_flats before fs) is
 content_pack before [] is = refl
 content_pack before (f ∷ fs) is = content_pack (after_flat before f) fs is
+
+-- the items of a list of packs, joined
+abbrev pub opened : List item.Item → List item.Item
+opened [] = []
+opened (i ∷ is) = items_of i ++ opened is
 
 -- packs joined have the content of the packs
 pub content_opened : (before : List (List ℤ)) (ps : List item.Item) → content_from before (opened ps) ≡ content_from before ps

@@ -1,11 +1,10 @@
 pub mod Ascending
 pub mod Bags
 pub mod Counts
+pub mod CutRows
 pub mod Division
 pub mod HeldLemmas
 pub mod Instants
-pub mod Keyed
-pub mod KeyedLookups
 pub mod Lists
 pub mod LoopLemmas
 pub mod NameLemmas

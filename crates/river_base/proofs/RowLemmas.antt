@@ -1,9 +1,9 @@
 -- Lemmas on a row that is filled from the front.
-use Rattle.std.proofs.Common.{◌≡◌, ℕ, ◌<◌, ◌≤◌, ◌+◌, ◌-◌, suc, List, [], ◌++◌, ◌∷◌, length, get_or, take, drop, sym, ap, subst, ◌∙◌, arith, refl, append_assoc}
+use Rattle.std.proofs.Common.{◌≡◌, ℕ, ◌<◌, ◌≤◌, ◌+◌, ◌-◌, suc, List, [], ◌++◌, ◌∷◌, length, get_or, take, drop, sym, ap, subst, ◌∙◌, arith, refl, append_assoc, length-append}
 use Rattle.std.proofs.Math.ListN.{replicate, set}
-use Rattle.std.proofs.Math.Seq.{set-append_seam, take-append_seam}
-use Rattle.river_base.specs.Short.{IsShort, IsShort-padded, padded}
-use Rattle.std.proofs.lemmas.List.{take_more, length-take-le, take_all, drop-set-lt, length-set, take_more_set, drop-drop, drop-replicate}
+use Rattle.std.proofs.Math.Seq.{drop-append_seam, set-append_seam, take-append_seam}
+use Rattle.river_base.specs.Short.{IsShort, padded}
+use Rattle.std.proofs.lemmas.List.{take_more, length-take-le, take_all, drop-set-lt, length-set, take_more_set, drop-drop, drop-replicate, length-replicate}
 
 -- one more element is written over the first of the fillers
 pub filled_more : {X : Type 0} (z : X) (vs : List X) (i n : ℕ) (d : X) → i < length vs → i < n
@@ -25,6 +25,15 @@ filled_all most z vs i h g =
 pub shown : {X : Type 0} (most : ℕ) (z : X) (vs all : List X) (i : ℕ) → length vs ≤ i → i ≤ length vs → all ≡ take i vs ++ replicate (most - i) z
     → take (length vs) all ≡ vs
 shown most z vs all i h g e = ap (take (length vs)) (e ∙ filled_all most z vs i h g) ∙ take-append_seam vs (replicate (most - length vs) z)
+
+-- the array that holds a list is one
+IsShort-padded : {X : Type 0} (cap : ℕ) (z : X) (xs : List X) → length xs ≤ cap → IsShort cap z (length xs) (padded cap z xs)
+IsShort-padded cap z xs h =
+    record {
+      at_most = h;
+      full = length-append xs (replicate (cap - length xs) z) ∙ omega (arith, length-replicate (cap - length xs) z);
+      rest = drop-append_seam xs (replicate (cap - length xs) z);
+    }
 
 -- the first values, filled up with zeros
 pub short : {X : Type 0} (most : ℕ) (z : X) (vs all : List X) (i : ℕ) → length vs ≤ most → length vs ≤ i → i ≤ length vs

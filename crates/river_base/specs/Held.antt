@@ -1,5 +1,5 @@
 -- The items of a queue's type, and what a queue holds for a list of them.
-use Rattle.std.specs.Prelude.{◌≡◌, ℤ, List, [], ◌∷◌, ◌++◌, All, length, map}
+use Rattle.std.specs.Prelude.{◌≡◌, ℤ, List, [], ◌∷◌, All, length, map}
 use Rattle.river_base.specs.declared.item.Batch.{Batch}
 use Rattle.river_base.specs.declared.item.Flat as flat
 use Rattle.river_base.specs.declared.item.Item as item
@@ -103,17 +103,13 @@ IsRelation (FlatOf (Relation w)) = Unit {0}
 IsRelation (PackOf (Relation w)) = Unit {0}
 IsRelation t = ⊥
 
--- the items of a pack, and those of a list of packs, joined
+-- the items of a pack
 abbrev pub flats_as_items : List flat.Flat → List item.Item
 flats_as_items fs = map (λ f. Flat f) fs
 
 abbrev pub items_of : item.Item → List item.Item
 items_of (Flat f) = Flat f ∷ []
 items_of (Pack fs) = flats_as_items fs
-
-abbrev pub opened : List item.Item → List item.Item
-opened [] = []
-opened (i ∷ is) = items_of i ++ opened is
 
 -- the items that are no packs
 abbrev pub flats : List item.Item → List flat.Flat

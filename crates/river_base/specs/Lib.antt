@@ -4,10 +4,10 @@ pub mod Drain
 pub mod Grew
 pub mod Held
 pub mod Instants
-pub mod Keyed
 pub mod Listed
 pub mod Name
 pub mod Number
 pub mod Places
 pub mod Row
 pub mod Short
+pub mod WideRows

@@ -12,6 +12,7 @@ ghost use Rattle.river_base.specs.Row.{row_cmp, in_order};
 ghost use Rattle.river_base.specs.Instants.{each_once};
 
 use crate::{NoMemory, Row};
+use itoa::{Buffer, Integer};
 use std::alloc::Global;
 use std::hash::{Hash, Hasher};
 use std::marker::Model;
@@ -138,6 +139,15 @@ impl<T> Listed<T> {
 
 // What may let an element go. The rest asks for less, so that who only reads a list need not be able to drop its elements.
 impl<T: Drop> Listed<T> {
+    /// The list of one element.
+    pub fn one(alloc: Global, x: T) -> Result<Self, NoMemory>
+        ensures { IfOk result (λ list. list ≡ x ∷ []) }
+    {
+        let mut list = Listed::new(alloc);
+        list.push(x)?;
+        Ok(list)
+    }
+
     /// Appends an element; changes nothing where there is no memory.
     pub fn push(&mut self, x: T) -> Result<(), NoMemory>
         ensures ok { OnOk result (self.new ≡ self.old ++ x ∷ []) }
@@ -218,6 +228,14 @@ impl Listed<u8> {
     {
         self.items.extend_from_slice(bytes)?;
         Ok(())
+    }
+
+    /// Appends a number in decimal digits, with its sign where it is below 0.
+    pub fn put_number<I: Integer>(&mut self, number: I) -> Result<(), NoMemory>
+        ensures { OnOk result (self.new ≡ self.old ++ I.text number) }
+    {
+        let mut digits = Buffer::new();
+        self.extend(digits.format(number).as_bytes())
     }
 }
 

@@ -44,14 +44,14 @@ impl Name {
         ensures { SomeIff result (IsTrue (is_name bytes.now)) bytes.now }
     {
         if is_name(bytes) {
-            Some(Name::of_word(bytes))
+            Some(Name::of(bytes))
         } else {
             None
         }
     }
 
-    // The name of bytes that are one.
-    fn of_word(bytes: &[u8]) -> Name
+    /// The name of bytes that are one.
+    pub fn of(bytes: &[u8]) -> Name
         requires { IsTrue (is_name bytes.now) }
         ensures { result ≡ bytes.now }
     {
@@ -86,17 +86,17 @@ fn is_name(bytes: &[u8]) -> bool
     }
 }
 
-// Whether this byte is a letter or `_`, with which a name begins.
+/// Whether this byte is a letter or `_`, with which a name begins.
 #[tactic(auto, unfolding(crate::specs::Name::is_letter))]
-fn is_letter(byte: u8) -> bool
+pub fn is_letter(byte: u8) -> bool
     ensures { result ≡ is_letter byte }
 {
     byte.is_ascii_alphabetic() || byte == b'_'
 }
 
-// Whether this byte may stand in a name after its first.
+/// Whether this byte may stand in a name after its first: a letter, a digit, `_` or `@`.
 #[tactic(auto, unfolding(crate::specs::Name::is_word, crate::specs::Name::is_digit))]
-fn is_word(byte: u8) -> bool
+pub fn is_word(byte: u8) -> bool
     ensures { result ≡ is_word byte }
 {
     is_letter(byte) || byte.is_ascii_digit() || byte == b'@'

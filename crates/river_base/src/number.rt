@@ -36,3 +36,10 @@ pub fn rem(a: i64, b: i64) -> i64
 {
     if b == 0 { 0 } else { a.wrapping_rem(b) }
 }
+
+/// A number of ports, values or items; one below 0 counts as 0.
+pub fn count_of(n: i64) -> u64
+    ensures { result ≡ number.count_of n }
+{
+    if n < 0 { 0 } else { n as u64 }
+}

@@ -9,13 +9,16 @@ ghost use Rattle.river_cli.specs.Points.{source_in, takes_more};
 use command_line::{InWords, Lang, RunWords};
 use river_base::{Bytes, Text};
 use river_langs::{Cql, Params, River, Sawzall, Streamit};
-use river_outside::Stop;
-use river_outside::Shelf;
+use river_outside::{Shelf, Stop};
 use river_road::{Gathered, gather_run, mean, show};
 use std::alloc::Global;
 
 /// What is to be run for the words of `run`.
-pub fn gather_in<S: Shelf>(alloc: Global, words: &RunWords, shelf: &mut S) -> Result<Gathered, Stop>
+pub(crate) fn gather_in<S: Shelf>(
+    alloc: Global,
+    words: &RunWords,
+    shelf: &mut S,
+) -> Result<Gathered, Stop>
     ensures later { S.faults shelf.old ≤ S.faults shelf.new }
     ensures passes { PassesAs IsGathered (of_gathered (source_in words.now.lang) (takes_more words.now.lang) words.now) (S.held shelf.old)
         (Rose S.stays_at_last (S.faults shelf.old) (S.faults shelf.new)) result }
@@ -30,7 +33,7 @@ pub fn gather_in<S: Shelf>(alloc: Global, words: &RunWords, shelf: &mut S) -> Re
 }
 
 /// What `plan` prints.
-pub fn show_in<S: Shelf>(
+pub(crate) fn show_in<S: Shelf>(
     alloc: Global,
     lang: Lang,
     file: &Text,
@@ -51,7 +54,7 @@ pub fn show_in<S: Shelf>(
 }
 
 /// What `mean` prints.
-pub fn mean_in<S: Shelf>(
+pub(crate) fn mean_in<S: Shelf>(
     alloc: Global,
     lang: Lang,
     file: &Text,

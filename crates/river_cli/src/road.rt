@@ -1,5 +1,5 @@
 // The road from the words to the text.
-ghost use Rattle.std.specs.Prelude.{◌≡◌, ◌≤◌, Some, false, true, IsErrOf};
+ghost use Rattle.std.specs.Prelude.{◌≡◌, ◌≤◌, Some, false, IsErrOf};
 ghost use Rattle.command_line.specs.Commands.{by_tasks, is_live};
 ghost use Rattle.command_line.specs.Sentences.{command_of};
 ghost use Rattle.command_line.specs.declared.command.Command.{Command};
@@ -16,8 +16,7 @@ use command_line::{Capacity, Command, RunBy, RunWords, WordFault, Workers, read_
 use free_runs::free;
 use river_base::{Bytes, Gate, Text};
 use river_langs::{River, Sawzall};
-use river_outside::Stop;
-use river_outside::Shelf;
+use river_outside::{Shelf, Stop};
 use river_road::{gather_load, upgrade};
 use std::alloc::Global;
 use std::sync::Wait;
@@ -28,7 +27,7 @@ const LOAD_WORKERS: u32 = 4;
 const LOAD_CAP: u32 = 64;
 
 /// The text that is the output of words without `-L`, or why there is none.
-pub fn decide<R: Threads + Sync, S: Shelf, G: Gate + Sync>(
+pub(crate) fn decide<R: Threads + Sync, S: Shelf, G: Gate + Sync>(
     rt: &R,
     alloc: Global,
     words: &[Text],
@@ -118,7 +117,7 @@ fn load<R: Threads + Sync, G: Gate + Sync>(
 }
 
 /// What `run -L` prints, by tasks that wait.
-pub fn run_waiting<R: Threads + Wait + Sync, S: Shelf, G: Gate + Sync>(
+pub(crate) fn run_waiting<R: Threads + Wait + Sync, S: Shelf, G: Gate + Sync>(
     rt: &R,
     alloc: Global,
     words: &RunWords,

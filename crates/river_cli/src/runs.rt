@@ -14,7 +14,7 @@ use std::thread::Threads;
 
 /// What is printed of a run by so many workers, on threads that `rt` starts, which enter the gate at each firing. A queue between two
 /// operators that has no capacity of its own holds at most `cap` items.
-pub fn run_by_workers<R: Threads + Sync, G: Gate + Sync>(
+pub(crate) fn run_by_workers<R: Threads + Sync, G: Gate + Sync>(
     rt: &R,
     alloc: Global,
     gathered: Gathered,
@@ -41,7 +41,7 @@ pub fn run_by_workers<R: Threads + Sync, G: Gate + Sync>(
 }
 
 /// The same of a run by tasks that wait, one for each operator, on a thread each.
-pub fn run_by_tasks<R: Threads + Wait + Sync, G: Gate + Sync>(
+pub(crate) fn run_by_tasks<R: Threads + Wait + Sync, G: Gate + Sync>(
     rt: &R,
     alloc: Global,
     gathered: Gathered,

@@ -1,17 +1,15 @@
 // What was decided is written, and the status that tells it.
-ghost use Rattle.std.specs.Prelude.{◌≡◌};
 ghost use Rattle.river_outside.specs.Causes.{Rose};
 ghost use Rattle.river_cli.specs.Does.{Tells, ToldFault, Wrote};
 
 use river_base::Bytes;
-use river_outside::Stop;
-use river_outside::{Failed, Sink, put_all};
+use river_outside::{Failed, Sink, Stop, put_all};
 
 // What is written where the words are no sentence.
 const USAGE: &[u8] = b"usage: river run|plan|mean|load|upgrade|free\n";
 
 /// Writes what was decided to the sink that takes it, and answers the status to end with.
-pub fn tell<O: Sink, E: Sink>(decided: Result<Bytes, Stop>, out: &mut O, err: &mut E) -> u8
+pub(crate) fn tell<O: Sink, E: Sink>(decided: Result<Bytes, Stop>, out: &mut O, err: &mut E) -> u8
     ensures { Tells decided (O.taken out.old) (O.taken out.new) (Rose O.stays_at_last (O.faults out.old) (O.faults out.new))
         (E.taken err.old) (E.taken err.new) (Rose E.stays_at_last (E.faults err.old) (E.faults err.new)) result }
 {

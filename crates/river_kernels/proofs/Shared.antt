@@ -2,7 +2,7 @@
 use denote.Param.Send.{IsSync, sendable}
 use Rattle.std.proofs.Crossing.{crosses}
 use Rattle.work_code.specs.contracts.code.Code as Code
-use Rattle.work_code.proofs.Shared.{expression, expressions, code_shared}
+use Rattle.work_code.proofs.Shared.{formula, formulas, code_shared}
 use Rattle.kern_rows.specs.contracts.kernel.CodeKernel as CodeKernel
 use Rattle.kern_rows.specs.contracts.kernel.Filter as Filter
 use Rattle.kern_rows.specs.contracts.kernel.First as First
@@ -33,5 +33,5 @@ filter =
 -- a kernel may be shared among threads
 pub kernel_shared : IsSync (Kernel.the_field).row
 kernel_shared =
-    kernel.sync-Kernel code_kernel filter (search sendable) numbers (λ h s. search crosses) (search (sendable, window.the_field_sync)) expression expressions
+    kernel.sync-Kernel code_kernel filter (search sendable) numbers (λ h s. search crosses) (search (sendable, window.the_field_sync)) formula formulas
     (search (sendable, streamer.the_field_sync))

@@ -8,7 +8,7 @@ use kern_bags::{Streamer, Window};
 use kern_rows::{CodeKernel, Filter};
 use river_base::{Duplicate, NoMemory, Numbers};
 use std::alloc::Global;
-use work_code::{Expr, Exprs};
+use work_code::{Formula, Formulas};
 
 /// What an operator does when it takes an item, after the wrapped functions of the Brooklet calculus (Soulé and
 /// others, ESOP 2010).
@@ -31,9 +31,9 @@ pub enum Kernel {
     /// Makes a relation of the window of a stream.
     Window(Window),
     /// Keeps the rows for which the expression is not 0.
-    Select(Expr),
+    Select(Formula),
     /// Gives for each row the values of the expressions.
-    Project(Exprs),
+    Project(Formulas),
     /// Joins the rows of two relations in all pairs.
     Cross,
     /// Makes a stream of a relation.
@@ -124,14 +124,14 @@ fn copy_collect(alloc: Global, weights: &Numbers) -> Result<Kernel, NoMemory>
 }
 
 // A kernel that keeps the same rows.
-fn copy_select(alloc: Global, cond: &Expr) -> Result<Kernel, NoMemory>
+fn copy_select(alloc: Global, cond: &Formula) -> Result<Kernel, NoMemory>
     ensures { IfOk result (λ copy. kern_of copy ≡ select (term cond.now)) }
 {
     Ok(Kernel::Select(cond.copy(alloc)?))
 }
 
 // A kernel that gives the same values.
-fn copy_project(alloc: Global, list: &Exprs) -> Result<Kernel, NoMemory>
+fn copy_project(alloc: Global, list: &Formulas) -> Result<Kernel, NoMemory>
     ensures { IfOk result (λ copy. kern_of copy ≡ project (terms list.now)) }
 {
     Ok(Kernel::Project(list.copy(alloc)?))

@@ -25,7 +25,7 @@ use Rattle.river_script.specs.declared.fault.ScriptFault.{ScriptFault}
 use Rattle.river_road.specs.Text.{missing_input}
 use Rattle.river_road.specs.Load.{load_program, load_script, load_records, takes_pairs}
 use Rattle.river_road.specs.Points.{load_supplied, scripted_supplied, supplied_by, then_made, with_plan}
-use Rattle.river_road.specs.Source.{SourceProgram, source_or_refused}
+use Rattle.river_road.specs.Source.{source_or_refused}
 use Rattle.river_road.specs.declared.content.FileContent.TheVariants.{Rows as Plain}
 use Rattle.saw_front.specs.Words.{saw_words}
 use Rattle.river_langs.specs.Sources.{saw_in, saw_source}

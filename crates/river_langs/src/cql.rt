@@ -3,6 +3,7 @@ ghost use Rattle.std.specs.Prelude.{false};
 ghost use Rattle.river_langs.specs.Sources.{cql_in, IsCql};
 ghost use Rattle.cql_text.specs.Tree.{program_of};
 
+use crate::mean_cql;
 use crate::records::timed_files_of;
 use brooklet_step::Outcome;
 use cql_front::{CqlFault, compile_cql};
@@ -11,7 +12,6 @@ use river_base::{Bytes, Listed, NoMemory};
 use river_outside::Stop;
 use river_plan::Caps;
 use river_road::{Compiled, FileContent, Language, refused_program};
-use crate::mean_cql;
 use std::alloc::Global;
 
 /// CQL.

@@ -1,5 +1,5 @@
 //! The source languages, as the road from a program to its output asks for them: River text, StreamIt, StreamIt with parameters,
-//! Sawzall and CQL.
+//! Sawzall and CQL; and what their programs mean by the definitions of the languages, by plain evaluation of their trees.
 #![tactic(auto)]
 
 mod cql;
@@ -14,7 +14,7 @@ pub use cql::Cql;
 pub use params::Params;
 pub use plan_text::River;
 pub use sawzall::Sawzall;
-pub use streamit::Streamit;
 pub use slow_cql::mean_cql;
 pub use slow_sawzall::mean_sawzall;
 pub use slow_streamit::mean_streamit;
+pub use streamit::Streamit;

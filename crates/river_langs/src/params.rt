@@ -3,6 +3,7 @@ ghost use Rattle.std.specs.Prelude.{false};
 ghost use Rattle.river_langs.specs.Sources.{params_in, IsStreamit};
 ghost use Rattle.streamit_text.specs.Program.{unit_forms};
 
+use crate::mean_streamit;
 use crate::records::{rows_of, values_of};
 use brooklet_step::Outcome;
 use params_front::{ParamFault, compile_params};
@@ -10,7 +11,6 @@ use river_base::{Bytes, Listed, NoMemory};
 use river_outside::Stop;
 use river_plan::Caps;
 use river_road::{Compiled, FileContent, Language, refused_program};
-use crate::mean_streamit;
 use std::alloc::Global;
 use streamit_front::StreamitProgram;
 

@@ -41,7 +41,10 @@ pub(crate) fn listed(alloc: Global, mut rows: EvenRows) -> Result<Rows, NoMemory
 }
 
 /// The rows of the files whose rows have timestamps.
-pub(crate) fn timed_files_of(alloc: Global, files: Listed<FileContent>) -> Result<TimedFiles, NoMemory>
+pub(crate) fn timed_files_of(
+    alloc: Global,
+    files: Listed<FileContent>,
+) -> Result<TimedFiles, NoMemory>
     ensures { IfOk result (λ all. all ≡ inputs.timed_files files) }
 {
     let mut all = TimedFiles::new(alloc);

@@ -3,6 +3,7 @@ ghost use Rattle.std.specs.Prelude.{true};
 ghost use Rattle.river_langs.specs.Sources.{saw_in, IsSawzall};
 ghost use Rattle.saw_text.specs.Tree.{unit_forms};
 
+use crate::mean_sawzall;
 use crate::records::{listed, rows_of};
 use brooklet_step::Outcome;
 use river_base::{Bytes, Listed, NoMemory};
@@ -10,7 +11,6 @@ use river_outside::Stop;
 use river_plan::Caps;
 use river_road::{Compiled, FileContent, Language, refused_program};
 use saw_front::{SawFault, SawProgram, compile_sawzall};
-use crate::mean_sawzall;
 use std::alloc::Global;
 
 /// Sawzall. A record may have further fields, which are not looked at.

@@ -1,5 +1,5 @@
 // A shelf of named files.
-ghost use Rattle.std.specs.Prelude.{◌≡◌, ◌≢◌, ◌≤◌, ◌<◌, ◌⊎◌, ℕ, Bool, length, Option, IfSome, IfOk, MatchOption, IsErrOf, None};
+ghost use Rattle.std.specs.Prelude.{◌≡◌, ◌≤◌, ◌<◌, ℕ, Bool, length, Option, IfSome, IfOk, MatchOption, IsErrOf, None};
 ghost use Rattle.river_outside.specs.Causes.{Rose};
 ghost use Rattle.river_outside.specs.Held.{Held, ReadsHeld, EndsBy};
 

@@ -6,14 +6,14 @@ use river_base::{Bytes, NoMemory};
 use std::alloc::Global;
 
 /// A file failed.
-pub fn failed(alloc: Global, file: &[u8]) -> Result<Bytes, NoMemory>
+pub(crate) fn failed(alloc: Global, file: &[u8]) -> Result<Bytes, NoMemory>
     ensures { IfOk result (λ text. text ≡ failed_text file.now) }
 {
     line(alloc, b"fault: read ", file)
 }
 
 /// A file is not there.
-pub fn absent(alloc: Global, file: &[u8]) -> Result<Bytes, NoMemory>
+pub(crate) fn absent(alloc: Global, file: &[u8]) -> Result<Bytes, NoMemory>
     ensures { IfOk result (λ text. text ≡ absent_text file.now) }
 {
     line(alloc, b"fault: absent ", file)

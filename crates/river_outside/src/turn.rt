@@ -5,9 +5,8 @@ ghost use Rattle.river_outside.specs.Fetched.{FetchesAll};
 ghost use Rattle.river_outside.specs.Order.{Fetch};
 ghost use Rattle.river_outside.specs.Passes.{Passes};
 
-use crate::{Stop, text};
+use crate::{FetchFault, Shelf, Stop, fetch, text};
 use river_base::Bytes;
-use crate::{FetchFault, Shelf, fetch};
 use std::alloc::Global;
 
 /// The bytes of a file whose turn has come. Where it has more than `limit` it is refused with the text `large`.

@@ -14,7 +14,7 @@ use Rattle.saw_model.specs.Meaning.{width}
 use Rattle.river_pieces.specs.Whole.{Means, ArePrinted}
 
 -- The text of a program is accepted, and of the file no rows are read for it, since it has this fault.
-pub record HasFault (text bytes : List ℕ) (skip_first : Bool) (f : InFault) : Type 0 where
+pub record HasFileFault (text bytes : List ℕ) (skip_first : Bool) (f : InFault) : Type 0 where
   pub units : Program
   pub read : Steps × At
   pub is_text : IsText text units
@@ -33,7 +33,7 @@ pub record HasFaultOfAll (text bytes : List ℕ) (skip_first : Bool) (f : InFaul
 abbrev pub WholeHasFault : Type 0
 WholeHasFault =
     (text bytes : List ℕ) (skip_first : Bool) (f : InFault)
-    → HasFaultOfAll text bytes skip_first f → length (csv_records bytes) ≤ headers skip_first + most_rows → HasFault text bytes skip_first f
+    → HasFaultOfAll text bytes skip_first f → length (csv_records bytes) ≤ headers skip_first + most_rows → HasFileFault text bytes skip_first f
 
 -- A file has one such fault at most, and where it has one the program means nothing for it.
 abbrev pub OneFault : Type 0
@@ -52,6 +52,6 @@ FirstFaultIsTheWholes =
     (text bytes : List ℕ) (skip_first : Bool) (before : List (List ℕ)) (piece : List ℕ) (after outs : List (List ℕ)) (f : InFault)
     → AreCut bytes skip_first (before ++ piece ∷ after)
     → ArePrinted text skip_first before outs
-    → HasFault text piece (header_behind skip_first before) f
+    → HasFileFault text piece (header_behind skip_first before) f
     → IsOfRecord f
     → HasFaultOfAll text bytes skip_first (moved (records_of before) f)

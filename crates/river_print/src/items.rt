@@ -6,13 +6,13 @@ ghost use Rattle.work_code.specs.Printed.{text_of, items_text, more_items};
 ghost use Rattle.river_print.specs.Printed.{start_text, list_text, var_text, ports_text};
 ghost use Rattle.river_print.specs.Styles.{text_in};
 
+use crate::print::print_expr;
 use river_base::{Bytes, Name, NoMemory};
 use std::alloc::Global;
 use work_code::Expr;
-use crate::print::print_expr;
 
 /// Appends a number in decimal.
-pub fn number(alloc: Global, number: u32, to: &mut Bytes) -> Result<(), NoMemory>
+pub(crate) fn number(alloc: Global, number: u32, to: &mut Bytes) -> Result<(), NoMemory>
     ensures { OnOk result (to.new ≡ to.old ++ decimal number) }
 {
     let text = number.to_string(alloc)?;
@@ -20,7 +20,7 @@ pub fn number(alloc: Global, number: u32, to: &mut Bytes) -> Result<(), NoMemory
 }
 
 /// Appends a value in decimal, with its sign where it is below 0.
-pub fn value(alloc: Global, value: i64, to: &mut Bytes) -> Result<(), NoMemory>
+pub(crate) fn value(alloc: Global, value: i64, to: &mut Bytes) -> Result<(), NoMemory>
     ensures { OnOk result (to.new ≡ to.old ++ signed_decimal value) }
 {
     let text = value.to_string(alloc)?;
@@ -28,7 +28,7 @@ pub fn value(alloc: Global, value: i64, to: &mut Bytes) -> Result<(), NoMemory>
 }
 
 /// Appends a start; the least value is `min`.
-pub fn start(alloc: Global, start: i64, to: &mut Bytes) -> Result<(), NoMemory>
+pub(crate) fn start(alloc: Global, start: i64, to: &mut Bytes) -> Result<(), NoMemory>
     ensures { OnOk result (to.new ≡ to.old ++ start_text start) }
 {
     if start == i64::MIN {
@@ -39,7 +39,7 @@ pub fn start(alloc: Global, start: i64, to: &mut Bytes) -> Result<(), NoMemory>
 
 /// Appends one number in brackets.
 #[tactic(auto, using(crate::proofs::Joined::joins))]
-pub fn in_brackets(alloc: Global, n: u32, to: &mut Bytes) -> Result<(), NoMemory>
+pub(crate) fn in_brackets(alloc: Global, n: u32, to: &mut Bytes) -> Result<(), NoMemory>
     ensures { OnOk result (to.new ≡ to.old ++ list_text (decimal n ∷ [])) }
 {
     to.extend(b"(")?;
@@ -49,7 +49,7 @@ pub fn in_brackets(alloc: Global, n: u32, to: &mut Bytes) -> Result<(), NoMemory
 
 /// Appends a number behind a comma and a space.
 #[tactic(auto, using(crate::proofs::Joined::joins))]
-pub fn next_number(alloc: Global, n: u32, to: &mut Bytes) -> Result<(), NoMemory>
+pub(crate) fn next_number(alloc: Global, n: u32, to: &mut Bytes) -> Result<(), NoMemory>
     ensures { OnOk result (to.new ≡ to.old ++ (codes ", " ++ decimal n)) }
 {
     to.extend(b", ")?;
@@ -58,7 +58,7 @@ pub fn next_number(alloc: Global, n: u32, to: &mut Bytes) -> Result<(), NoMemory
 
 /// Appends two numbers in brackets.
 #[tactic(auto, using(crate::proofs::Joined::joins))]
-pub fn two_in_brackets(alloc: Global, a: u32, b: u32, to: &mut Bytes) -> Result<(), NoMemory>
+pub(crate) fn two_in_brackets(alloc: Global, a: u32, b: u32, to: &mut Bytes) -> Result<(), NoMemory>
     ensures { OnOk result (to.new ≡ to.old ++ list_text (decimal a ∷ decimal b ∷ [])) }
 {
     to.extend(b"(")?;
@@ -69,7 +69,13 @@ pub fn two_in_brackets(alloc: Global, a: u32, b: u32, to: &mut Bytes) -> Result<
 
 /// Appends an opening bracket and three numbers.
 #[tactic(auto, using(crate::proofs::Joined::joins))]
-pub fn begin_three(alloc: Global, a: u32, b: u32, c: u32, to: &mut Bytes) -> Result<(), NoMemory>
+pub(crate) fn begin_three(
+    alloc: Global,
+    a: u32,
+    b: u32,
+    c: u32,
+    to: &mut Bytes,
+) -> Result<(), NoMemory>
     ensures { OnOk result (to.new ≡ to.old ++ (codes "(" ++ (decimal a ++ (codes ", " ++ (decimal b ++ (codes ", " ++ decimal c)))))) }
 {
     to.extend(b"(")?;
@@ -80,7 +86,12 @@ pub fn begin_three(alloc: Global, a: u32, b: u32, c: u32, to: &mut Bytes) -> Res
 
 /// Appends a word and one number in brackets.
 #[tactic(auto, using(crate::proofs::Joined::joins))]
-pub fn counted(alloc: Global, word: &[u8], count: u32, to: &mut Bytes) -> Result<(), NoMemory>
+pub(crate) fn counted(
+    alloc: Global,
+    word: &[u8],
+    count: u32,
+    to: &mut Bytes,
+) -> Result<(), NoMemory>
     ensures { OnOk result (to.new ≡ to.old ++ (word.now ++ list_text (decimal count ∷ []))) }
 {
     to.extend(word)?;
@@ -89,7 +100,7 @@ pub fn counted(alloc: Global, word: &[u8], count: u32, to: &mut Bytes) -> Result
 
 /// Appends a word, a name and a colon.
 #[tactic(auto, using(crate::proofs::Joined::joins))]
-pub fn titled(word: &[u8], name: &Name, to: &mut Bytes) -> Result<(), NoMemory>
+pub(crate) fn titled(word: &[u8], name: &Name, to: &mut Bytes) -> Result<(), NoMemory>
     ensures { OnOk result (to.new ≡ to.old ++ (word.now ++ (name.now ++ codes ": "))) }
 {
     to.extend(word)?;
@@ -99,7 +110,7 @@ pub fn titled(word: &[u8], name: &Name, to: &mut Bytes) -> Result<(), NoMemory>
 
 /// How the numbers of a list are written.
 #[derive(Clone, Copy)]
-pub enum Style {
+pub(crate) enum Style {
     /// In decimal.
     Value,
     /// In decimal, but the least one is `min`.
@@ -118,7 +129,12 @@ fn item(alloc: Global, number: i64, style: Style, to: &mut Bytes) -> Result<(), 
 
 /// Appends numbers in brackets.
 #[tactic(auto, using(crate::proofs::Joined::joins))]
-pub fn numbers(alloc: Global, items: &[i64], style: Style, to: &mut Bytes) -> Result<(), NoMemory>
+pub(crate) fn numbers(
+    alloc: Global,
+    items: &[i64],
+    style: Style,
+    to: &mut Bytes,
+) -> Result<(), NoMemory>
     ensures { OnOk result (to.new ≡ to.old ++ list_text (map (text_in style) items.now)) }
 {
     to.extend(b"(")?;
@@ -142,7 +158,7 @@ fn more_numbers(alloc: Global, items: &[i64], style: Style, to: &mut Bytes) -> R
 
 /// Appends expressions in brackets.
 #[tactic(auto, using(crate::proofs::Joined::joins))]
-pub fn exprs(alloc: Global, items: &[Expr], to: &mut Bytes) -> Result<(), NoMemory>
+pub(crate) fn exprs(alloc: Global, items: &[Expr], to: &mut Bytes) -> Result<(), NoMemory>
     ensures { OnOk result (to.new ≡ to.old ++ list_text (map text_of (map term items.now))) }
 {
     to.extend(b"(")?;
@@ -166,7 +182,7 @@ fn more_exprs(alloc: Global, items: &[Expr], to: &mut Bytes) -> Result<(), NoMem
 
 /// Appends the names of queues and then those of variables, in brackets.
 #[tactic(auto, using(crate::proofs::Joined::joins))]
-pub fn ports(queues: &[Name], vars: &[Name], to: &mut Bytes) -> Result<(), NoMemory>
+pub(crate) fn ports(queues: &[Name], vars: &[Name], to: &mut Bytes) -> Result<(), NoMemory>
     ensures { OnOk result (to.new ≡ to.old ++ ports_text queues.now vars.now) }
 {
     to.extend(b"(")?;
@@ -199,7 +215,7 @@ fn var_items(vars: &[Name], to: &mut Bytes) -> Result<(), NoMemory>
 
 /// Appends a variable with its dollar sign.
 #[tactic(auto, using(crate::proofs::Joined::joins))]
-pub fn var(name: &Name, to: &mut Bytes) -> Result<(), NoMemory>
+pub(crate) fn var(name: &Name, to: &mut Bytes) -> Result<(), NoMemory>
     ensures { OnOk result (to.new ≡ to.old ++ var_text name.now) }
 {
     to.extend(b"$")?;

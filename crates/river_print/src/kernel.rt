@@ -11,14 +11,14 @@ ghost use Rattle.river_print.specs.Printed.{kernel_text, list_text, values_text,
 use crate::items::{
     Style, begin_three, counted, exprs, in_brackets, next_number, numbers, two_in_brackets, value,
 };
+use crate::print::print_expr;
+use crate::printing::print_code;
 use kern_bags::{Streamer, Window};
 use kern_rows::{CodeKernel, Filter, First};
 use river_base::{Bytes, NoMemory};
 use river_kernels::Kernel;
 use std::alloc::Global;
 use work_code::{Code, Expr, Exprs};
-use crate::printing::print_code;
-use crate::print::print_expr;
 
 // Appends the text of a kernel; where there is no memory, maybe a part of it.
 #[cycle(print_kernel)]
@@ -35,8 +35,8 @@ fn print_kernel(alloc: Global, kernel: &Kernel, to: &mut Bytes) -> Result<(), No
         Kernel::Packed(inner) => print_between(alloc, b"packed { ", inner, b" }", to),
         Kernel::Unpack(ports) => counted(alloc, b"unpack", *ports, to),
         Kernel::Window(window) => print_window(alloc, *window, to),
-        Kernel::Select(cond) => print_select(alloc, cond, to),
-        Kernel::Project(list) => print_project(alloc, list, to),
+        Kernel::Select(cond) => print_select(alloc, cond.expr(), to),
+        Kernel::Project(list) => print_project(alloc, list.exprs(), to),
         Kernel::Cross => to.extend(b"cross"),
         Kernel::Streamer(streamer) => print_streamer(*streamer, to),
         Kernel::Tally => to.extend(b"tally"),
@@ -47,7 +47,7 @@ fn print_kernel(alloc: Global, kernel: &Kernel, to: &mut Bytes) -> Result<(), No
 /// Appends the text of a kernel between two texts; where there is no memory, maybe a part of them.
 #[cycle(print_kernel)]
 #[tactic(auto, using(crate::proofs::Joined::joins))]
-pub fn print_between(
+pub(crate) fn print_between(
     alloc: Global,
     before: &[u8],
     kernel: &Kernel,

@@ -1,4 +1,4 @@
-//! Prints plans as River text.
+//! Prints plans as River text, with their expressions and statements.
 #![tactic(auto)]
 
 mod items;

@@ -9,7 +9,7 @@ use std::alloc::Global;
 use work_code::{BinOp, Expr};
 
 /// Appends the text of an expression; nothing where there is no memory.
-pub fn print_expr(alloc: Global, e: &Expr, to: &mut Bytes) -> Result<(), NoMemory>
+pub(crate) fn print_expr(alloc: Global, e: &Expr, to: &mut Bytes) -> Result<(), NoMemory>
     ensures ok { OnOk result (to.new ≡ to.old ++ text_of (term e.now)) }
     ensures err { OnErr result (to.new ≡ to.old) }
 {
@@ -21,7 +21,7 @@ pub fn print_expr(alloc: Global, e: &Expr, to: &mut Bytes) -> Result<(), NoMemor
 // Appends the text of an expression; where there is no memory, maybe a part of it.
 #[cycle(write_expr)]
 #[tactic(auto, using(text_tokens::proofs::Joined::joins))]
-pub fn write_expr(alloc: Global, e: &Expr, to: &mut Bytes) -> Result<(), NoMemory>
+pub(crate) fn write_expr(alloc: Global, e: &Expr, to: &mut Bytes) -> Result<(), NoMemory>
     ensures { OnOk result (to.new ≡ to.old ++ text_of (term e.now)) }
 {
     match e {
@@ -41,7 +41,7 @@ pub fn write_expr(alloc: Global, e: &Expr, to: &mut Bytes) -> Result<(), NoMemor
 // Appends the text of an expression between two texts.
 #[cycle(write_expr)]
 #[tactic(auto, using(text_tokens::proofs::Joined::joins))]
-pub fn write_between(
+pub(crate) fn write_between(
     alloc: Global,
     before: &[u8],
     e: &Expr,
@@ -66,7 +66,7 @@ fn write_place(alloc: Global, word: &[u8], place: u32, to: &mut Bytes) -> Result
 }
 
 // Appends a number in decimal.
-pub fn write_number(alloc: Global, number: u32, to: &mut Bytes) -> Result<(), NoMemory>
+pub(crate) fn write_number(alloc: Global, number: u32, to: &mut Bytes) -> Result<(), NoMemory>
     ensures { OnOk result (to.new ≡ to.old ++ decimal number) }
 {
     let text = number.to_string(alloc)?;
@@ -74,7 +74,7 @@ pub fn write_number(alloc: Global, number: u32, to: &mut Bytes) -> Result<(), No
 }
 
 // Appends a value in decimal, with its sign where it is below 0.
-pub fn write_value(alloc: Global, value: i64, to: &mut Bytes) -> Result<(), NoMemory>
+pub(crate) fn write_value(alloc: Global, value: i64, to: &mut Bytes) -> Result<(), NoMemory>
     ensures { OnOk result (to.new ≡ to.old ++ signed_decimal value) }
 {
     let text = value.to_string(alloc)?;

@@ -11,7 +11,7 @@ use std::alloc::Global;
 use work_code::{Code, Expr, Exprs, Stmt, Stmts};
 
 /// Appends the text of a body; nothing where there is no memory.
-pub fn print_code(alloc: Global, c: &Code, to: &mut Bytes) -> Result<(), NoMemory>
+pub(crate) fn print_code(alloc: Global, c: &Code, to: &mut Bytes) -> Result<(), NoMemory>
     ensures ok { OnOk result (to.new ≡ to.old ++ body_text (steps c.now.body)) }
     ensures err { OnErr result (to.new ≡ to.old) }
 {
@@ -106,7 +106,7 @@ fn write_else(alloc: Global, body: &Stmts, to: &mut Bytes) -> Result<(), NoMemor
 
 // Appends expressions with commas between them.
 #[tactic(auto, using(text_tokens::proofs::Joined::joins))]
-pub fn write_items(alloc: Global, items: &Exprs, to: &mut Bytes) -> Result<(), NoMemory>
+pub(crate) fn write_items(alloc: Global, items: &Exprs, to: &mut Bytes) -> Result<(), NoMemory>
     ensures { OnOk result (to.new ≡ to.old ++ items_text (map text_of (terms items.now))) }
 {
     let Some((first, rest)) = items.as_slice().split_first() else {

@@ -20,7 +20,7 @@ use river_plan::{Decl, Op, RawPlan, TableDecl};
 use work_code::{Code, Expr, Stmt, Stmts};
 
 /// Reads the numbers and names of these lists.
-pub fn read_plan(plan: &RawPlan)
+pub(crate) fn read_plan(plan: &RawPlan)
     ensures { IsRanged (plan_form plan.now) }
 {
     read_decls(plan.outputs.as_slice());
@@ -131,8 +131,8 @@ fn read_kernel(kernel: &Kernel)
         Kernel::Deal(weights) | Kernel::Collect(weights) => read_values(weights.as_slice()),
         Kernel::Packed(inner) => read_kernel(inner),
         Kernel::Window(window) => read_window(*window),
-        Kernel::Select(cond) => read_expr(cond),
-        Kernel::Project(list) => read_exprs(list.as_slice()),
+        Kernel::Select(cond) => read_expr(cond.expr()),
+        Kernel::Project(list) => read_exprs(list.exprs().as_slice()),
         Kernel::Cross | Kernel::Streamer(_) | Kernel::Tally => {}
         Kernel::Fused { first, second, at } => {
             read_count(*at);

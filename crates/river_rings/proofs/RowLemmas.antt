@@ -1,7 +1,7 @@
 -- Rows of one width, and the values of them.
-use Rattle.std.proofs.Common.{rules, ◌≡◌, ℕ, zero, suc, ℤ, ◌+◌, ◌-◌, ◌*◌, ◌/◌, ◌<◌, ◌≤◌, List, [], ◌∷◌, ◌++◌, length, take, drop, map, refl, sym, ap, ◌∙◌, subst, arith}
-use Rattle.std.proofs.Common.{length-append, length-drop}
-use Rattle.std.proofs.lemmas.List.{map-append, length-map, drop-drop, drop-append-le, take-append-le, take_all, drop_at}
+use Rattle.std.proofs.Common.{rules, ◌≡◌, ℕ, ℤ, ◌+◌, ◌-◌, ◌*◌, ◌/◌, ◌<◌, ◌≤◌, List, [], ◌∷◌, ◌++◌, length, drop, map, refl, sym, ap, ◌∙◌, subst, arith}
+use Rattle.std.proofs.Common.{length-append}
+use Rattle.std.proofs.lemmas.List.{map-append, length-map, take_all, drop_at}
 use Rattle.std.proofs.lemmas.Nat.{le-div, div-mul-add}
 use Rattle.std.proofs.Math.Nat.{add-mul-div_right, div-mul-le_self, mul-add-div_right, mul-div_cancel, mul-le-mul_right}
 use Rattle.std.specs.declared.alloc.Global.{Global}
@@ -11,38 +11,9 @@ use Rattle.rtrb.specs.declared.consumer.Consumer.{Consumer}
 use Rattle.rtrb.specs.declared.producer.Producer.{Producer}
 use Rattle.rtrb.specs.Ring.{sent, known_free, producer_capacity, known_items, consumer_capacity, ConsumerLooked, ProducerLooked}
 use Rattle.river_rings.specs.Ends.{HasRingRoom, HasSeen, HasSeenTaken, IsFullRing}
-use Rattle.river_rings.specs.Rows.{AreWhole, cut, row_item, rows_in, row_sending, row_taking}
-
--- CUTS
-
--- n + m rows are n of them, and m behind these
-cut-both : (w n m : ℕ) (vs : List ℤ) → cut w (n + m) vs ≡ cut w n vs ++ cut w m (drop (n * w) vs)
-cut-both w zero m vs =
-    let e : 0 + m ≡ m = omega arith in
-    let z : 0 * w ≡ 0 = omega arith in
-    ap (λ k. cut w k vs) e ∙ ap (λ k. cut w m (drop k vs)) (sym z)
-cut-both w (suc n) m vs =
-    let e : suc n + m ≡ suc (n + m) = omega arith in
-    let s : w + n * w ≡ suc n * w = omega arith in
-    ap (λ k. cut w k vs) e
-    ∙ ap (λ t. take w vs ∷ t) (cut-both w n m (drop w vs))
-    ∙ ap (λ l. take w vs ∷ (cut w n (drop w vs) ++ cut w m l)) (drop-drop (n * w) w vs)
-    ∙ ap (λ k. take w vs ∷ (cut w n (drop w vs) ++ cut w m (drop k vs))) s
-
--- rows that are there stay what they are, whatever follows
-cut-front : (w n : ℕ) (vs us : List ℤ) → n * w ≤ length vs → cut w n (vs ++ us) ≡ cut w n vs
-cut-front w zero vs us h = refl
-cut-front w (suc n) vs us h =
-    let s : suc n * w ≡ w + n * w = omega arith in
-    let le : w ≤ length vs = omega (arith, h, s) in
-    let l : n * w ≤ length (drop w vs) = omega (arith, h, s, length-drop w vs) in
-    ap (λ t. take w (vs ++ us) ∷ cut w n t) (drop-append-le w vs us le)
-    ∙ ap (λ t. t ∷ cut w n (drop w vs ++ us)) (take-append-le w vs us le)
-    ∙ ap (λ t. take w vs ∷ t) (cut-front w n (drop w vs) us l)
-
-length-cut : (w n : ℕ) (vs : List ℤ) → length (cut w n vs) ≡ n
-length-cut w zero vs = refl
-length-cut w (suc n) vs = ap suc (length-cut w n (drop w vs))
+use Rattle.river_rings.specs.Rows.{AreWhole, row_item, rows_in, row_sending, row_taking}
+use Rattle.river_base.specs.WideRows.{cut_rows}
+use Rattle.river_base.proofs.CutRows.{length-cut, cut-both, cut-front}
 
 -- COUNTS
 
@@ -52,7 +23,7 @@ div-more w m n some le = let h = div-mul-le_self m w in le-div (m / w) n w (omeg
 
 -- as many rows as whole ones
 pub as_many : (w : ℕ) (vs : List ℤ) → length (rows_in w vs) ≡ length vs / w
-as_many w vs = length-map (cut w (length vs / w) vs) row_item ∙ length-cut w (length vs / w) vs
+as_many w vs = length-map (cut_rows w (length vs / w) vs) row_item ∙ length-cut w (length vs / w) vs
 
 -- values of rows, and others, make as many rows as both
 rows_of_both : (w : ℕ) (vs us : List ℤ) → AreWhole w vs → length (vs ++ us) / w ≡ length vs / w + length us / w
@@ -68,18 +39,18 @@ rows-both w vs us h =
     let n = length vs / w in
     let m = length us / w in
     let le : n * w ≤ length vs = div-mul-le_self (length vs) w in
-    ap (λ k. map row_item (cut w k (vs ++ us))) (rows_of_both w vs us h)
+    ap (λ k. map row_item (cut_rows w k (vs ++ us))) (rows_of_both w vs us h)
     ∙ ap (map row_item)
     (cut-both w n m (vs ++ us)
-    ∙ ap (λ t. t ++ cut w m (drop (n * w) (vs ++ us))) (cut-front w n vs us le)
-    ∙ ap (λ t. cut w n vs ++ cut w m t) (drop_at vs us (n * w) h.whole))
-    ∙ map-append row_item (cut w n vs) (cut w m us)
+    ∙ ap (λ t. t ++ cut_rows w m (drop (n * w) (vs ++ us))) (cut-front w n vs us le)
+    ∙ ap (λ t. cut_rows w n vs ++ cut_rows w m t) (drop_at vs us (n * w) h.whole))
+    ∙ map-append row_item (cut_rows w n vs) (cut_rows w m us)
 
 -- the values of one row
 pub one_row : (w : ℕ) (row : List ℤ) → 1 ≤ w → length row ≡ w → rows_in w row ≡ row_item row ∷ []
 one_row w row some l =
     let one : length row / w ≡ 1 = ap (λ n. n / w) (l ∙ (let e : w ≡ 1 * w = omega arith in e)) ∙ mul-div_cancel 1 {n = w} (omega (arith, some)) in
-    ap (λ k. map row_item (cut w k row)) one ∙ ap (λ t. row_item t ∷ []) (take_all w row (omega (arith, l)))
+    ap (λ k. map row_item (cut_rows w k row)) one ∙ ap (λ t. row_item t ∷ []) (take_all w row (omega (arith, l)))
 
 -- they are those of rows with one row more
 pub whole_more : (w : ℕ) (vs row ws : List ℤ) → AreWhole w vs → length row ≡ w → ws ≡ vs ++ row → AreWhole w ws
@@ -105,7 +76,7 @@ whole_none w some most =
 pub rows_none : (w : ℕ) → 1 ≤ w → rows_in w [] ≡ []
 rows_none w some =
     let z : 0 / w ≡ 0 = ap (λ n. n / w) (let e : 0 ≡ 0 * w = omega arith in e) ∙ mul-div_cancel 0 {n = w} (omega (arith, some)) in
-    ap (λ k. map row_item (cut w k [])) z
+    ap (λ k. map row_item (cut_rows w k [])) z
 
 -- a row behind the values of rows
 pub row-more : (w : ℕ) (vs row ws : List ℤ) → AreWhole w vs → length row ≡ w → ws ≡ vs ++ row → rows_in w ws ≡ rows_in w vs ++ row_item row ∷ []
@@ -125,12 +96,12 @@ rows-front w vs ws some h =
     let more : n ≤ all = div-more w (length vs) (length (vs ++ us)) some (let l = length-append vs us in omega (arith, l)) in
     let m = all - n in
     let s : all ≡ n + m = omega (arith, more) in
-    let rest = cut w m (drop (n * w) (vs ++ us)) in (
+    let rest = cut_rows w m (drop (n * w) (vs ++ us)) in (
       map row_item rest,
-      sym (map-append row_item (cut w n vs) rest)
+      sym (map-append row_item (cut_rows w n vs) rest)
           ∙ ap (λ t. map row_item (t ++ rest)) (sym (cut-front w n vs us (div-mul-le_self (length vs) w)))
           ∙ ap (map row_item) (sym (cut-both w n m (vs ++ us)))
-          ∙ ap (λ k. map row_item (cut w k (vs ++ us))) (sym s)
+          ∙ ap (λ k. map row_item (cut_rows w k (vs ++ us))) (sym s)
           ∙ ap (rows_in w) h.1,
     )
 
@@ -161,7 +132,7 @@ few w n lt = ap (λ k. k / w) (let e : n ≡ 0 * w + n = omega arith in e) ∙ d
 
 -- they make no row
 pub rows_few : (w : ℕ) (vs : List ℤ) → length vs < w → rows_in w vs ≡ []
-rows_few w vs lt = ap (λ k. map row_item (cut w k vs)) (few w (length vs) lt)
+rows_few w vs lt = ap (λ k. map row_item (cut_rows w k vs)) (few w (length vs) lt)
 
 -- as many as a row has make one
 pub rows_some : (w : ℕ) (vs : List ℤ) → 1 ≤ w → w ≤ length vs → 0 < length (rows_in w vs)

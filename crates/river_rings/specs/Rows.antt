@@ -1,5 +1,5 @@
 -- What contracts see of the two ends of a ring of rows of one width: the items that these rows are.
-use Rattle.std.specs.Prelude.{◌≡◌, ℕ, zero, suc, ℤ, ◌*◌, ◌/◌, ◌-◌, ◌≤◌, List, [], ◌∷◌, length, map, take, drop}
+use Rattle.std.specs.Prelude.{◌≡◌, ℕ, ℤ, ◌*◌, ◌/◌, ◌-◌, ◌≤◌, List, length, map}
 use Rattle.std.specs.declared.alloc.Global.{Global}
 use Rattle.rtrb.specs.declared.consumer.Consumer.{Consumer}
 use Rattle.rtrb.specs.declared.producer.Producer.{Producer}
@@ -7,20 +7,16 @@ use Rattle.rtrb.specs.Ring.{sent, known_free, producer_capacity, received, known
 use Rattle.river_base.specs.declared.item.Item as item
 use Rattle.river_base.specs.declared.item.Item.TheVariants.{Flat}
 use Rattle.river_base.specs.declared.item.Flat.TheVariants.{One}
+use Rattle.river_base.specs.WideRows.{cut_rows}
 use Rattle.river_rings.specs.Ends.{Sending, Taking, ring_of}
 
 -- a row as an item
 abbrev pub row_item : List ℤ → item.Item
 row_item row = Flat (One row)
 
--- so many rows of a width, cut off the values from the front
-abbrev pub cut : ℕ → ℕ → List ℤ → List (List ℤ)
-cut width zero values = []
-cut width (suc n) values = take width values ∷ cut width n (drop width values)
-
 -- all whole rows of a width that values begin with, as items
 abbrev pub rows_in : ℕ → List ℤ → List item.Item
-rows_in width values = map row_item (cut width (length values / width) values)
+rows_in width values = map row_item (cut_rows width (length values / width) values)
 
 -- the values are those of rows of this width, of 1 to 16 values each
 pub record AreWhole (width : ℕ) (values : List ℤ) : Type 0 where

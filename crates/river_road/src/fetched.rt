@@ -10,14 +10,13 @@ ghost use Rattle.river_road.specs.Text.{large_input};
 use crate::text;
 use command_line::InWord;
 use river_base::{Bytes, Listed};
-use river_outside::{Stop, fetch_turn};
-use river_outside::Shelf;
+use river_outside::{Shelf, Stop, fetch_turn};
 use std::alloc::Global;
 
 const MOST_INPUT: u64 = 67_108_864;
 
 /// The bytes of all files that the words name, in the order of the words.
-pub fn fetch_all<S: Shelf>(
+pub(crate) fn fetch_all<S: Shelf>(
     alloc: Global,
     shelf: &mut S,
     ins: &[InWord],

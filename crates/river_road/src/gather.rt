@@ -15,8 +15,7 @@ use crate::names::check_names;
 use crate::rows::read_inputs;
 use command_line::InWord;
 use river_base::Listed;
-use river_outside::Stop;
-use river_outside::Shelf;
+use river_outside::{Shelf, Stop};
 use river_plan::Decl;
 use std::alloc::Global;
 

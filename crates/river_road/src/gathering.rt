@@ -17,8 +17,7 @@ use crate::layout::Layout;
 use crate::road::{compiled, scripted};
 use command_line::{InWords, RunWords};
 use river_base::Listed;
-use river_outside::Stop;
-use river_outside::Shelf;
+use river_outside::{Shelf, Stop};
 use river_plan::{Caps, Plan};
 use std::alloc::Global;
 

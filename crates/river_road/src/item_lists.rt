@@ -41,7 +41,11 @@ fn add_stamps_of(file: &FileContent, all: &mut Numbers) -> Result<(), NoMemory>
 }
 
 // The items of each input at these instants; what the files have is let go one after another.
-fn inputs_at(alloc: Global, files: Listed<FileContent>, instants: &Numbers) -> Result<Lines, NoMemory>
+fn inputs_at(
+    alloc: Global,
+    files: Listed<FileContent>,
+    instants: &Numbers,
+) -> Result<Lines, NoMemory>
     ensures { IfOk result (λ all. all ≡ map (inputs.items_at instants.now) files) }
 {
     let mut all = Lines::new(alloc);
@@ -57,6 +61,9 @@ fn items_at(alloc: Global, file: FileContent, instants: &Numbers) -> Result<Item
 {
     match file {
         FileContent::Rows(rows) => Ok(ItemLine::from_rows(alloc, rows)),
-        FileContent::Timed(rows) => Ok(ItemLine::from_items(alloc, spread(alloc, &rows, instants)?)),
+        FileContent::Timed(rows) => Ok(ItemLine::from_items(
+            alloc,
+            spread(alloc, &rows, instants)?,
+        )),
     }
 }

@@ -11,7 +11,7 @@ use river_base::{Bytes, Listed, NoMemory};
 use std::alloc::Global;
 
 /// What is printed of the slow meaning of a program for what the files of its inputs have.
-pub fn mean_text<L: Language>(
+pub(crate) fn mean_text<L: Language>(
     alloc: Global,
     compiled: &Compiled<L::Program>,
     files: Listed<FileContent>,

@@ -13,7 +13,7 @@ use std::alloc::Global;
 
 /// Whether each name of the words is an input of the program, and each input has a word; otherwise what is told of the
 /// first word whose name is unknown, or else of the first input that is missing.
-pub fn check_names(alloc: Global, decls: &[Decl], ins: &[InWord]) -> Result<(), Stop>
+pub(crate) fn check_names(alloc: Global, decls: &[Decl], ins: &[InWord]) -> Result<(), Stop>
     ensures { Answers (names_fit decls.now ins.now) result }
 {
     if let Some(word) = unknown(decls, ins) {

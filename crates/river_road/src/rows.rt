@@ -26,7 +26,7 @@ use std::alloc::Global;
 use std::mem::replace;
 
 /// What each input has, in the order of the program's inputs, of the files in the order of the words.
-pub fn read_inputs(
+pub(crate) fn read_inputs(
     alloc: Global,
     decls: &[Decl],
     layout: Layout,
@@ -119,14 +119,24 @@ fn width_of(flat: FlatType) -> u32
     }
 }
 
-fn read_plain(alloc: Global, bytes: &Bytes, width: u32, layout: Layout) -> Result<FileContent, InFault>
+fn read_plain(
+    alloc: Global,
+    bytes: &Bytes,
+    width: u32,
+    layout: Layout,
+) -> Result<FileContent, InFault>
     requires { IsTrue (is_width width) }
     ensures { IsAnswer (read_as Plain (rows_of_file bytes.now width layout.header layout.more)) result }
 {
     Ok(FileContent::Rows(read_even(alloc, bytes, width, layout.header, layout.more)?))
 }
 
-fn read_stream(alloc: Global, bytes: &Bytes, width: u32, header: bool) -> Result<FileContent, InFault>
+fn read_stream(
+    alloc: Global,
+    bytes: &Bytes,
+    width: u32,
+    header: bool,
+) -> Result<FileContent, InFault>
     requires { IsTrue (is_width width) }
     ensures { IsAnswer (read_as Timed (timed_of bytes.now width header)) result }
 {
@@ -152,7 +162,12 @@ fn arrange(
 }
 
 // What the words give to an input; no row is left there.
-fn take_named(alloc: Global, ins: &[InWord], all: &mut Listed<FileContent>, name: &[u8]) -> FileContent
+fn take_named(
+    alloc: Global,
+    ins: &[InWord],
+    all: &mut Listed<FileContent>,
+    name: &[u8],
+) -> FileContent
     requires { length all.old ≡ length ins.now }
     ensures count { length all.new ≡ length all.old }
     ensures taken { result ≡ content_named ins.now all.old name.now }

@@ -15,7 +15,7 @@ use river_script::{ScriptFault, apply_script};
 use std::alloc::Global;
 
 /// The plan that a script makes of a plan, or its refusal.
-pub fn applied(alloc: Global, plan: &Plan, text: &Bytes) -> Result<Plan, Stop>
+pub(crate) fn applied(alloc: Global, plan: &Plan, text: &Bytes) -> Result<Plan, Stop>
     requires { length text.now ≤ most_script }
     ensures { (caps : List Cap) (source : SourceProgram) → IsPlanned caps source plan.now
         → AnswersAs (IsPlanned caps) (with_plan source (rewritten_plan source.plan text.now)) result }

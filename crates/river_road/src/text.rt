@@ -9,10 +9,10 @@ use std::alloc::Global;
 use text_forms::{Told, words};
 
 /// What refuses a program of too many bytes.
-pub const LARGE_PROGRAM: &[u8] = b"refused: program: Large\n";
+pub(crate) const LARGE_PROGRAM: &[u8] = b"refused: program: Large\n";
 
 /// What refuses a script of too many bytes.
-pub const LARGE_SCRIPT: &[u8] = b"refused: script: Large\n";
+pub(crate) const LARGE_SCRIPT: &[u8] = b"refused: script: Large\n";
 
 /// What refuses a program.
 pub fn program<F: Told>(alloc: Global, fault: F) -> Result<Bytes, NoMemory>
@@ -23,7 +23,7 @@ pub fn program<F: Told>(alloc: Global, fault: F) -> Result<Bytes, NoMemory>
 }
 
 /// What refuses a script.
-pub fn script<F: Told>(alloc: Global, fault: F) -> Result<Bytes, NoMemory>
+pub(crate) fn script<F: Told>(alloc: Global, fault: F) -> Result<Bytes, NoMemory>
     ensures { IfOk result (λ text. text ≡ script_refused (F.told fault)) }
 {
     let words = words(alloc, fault)?;
@@ -59,28 +59,28 @@ fn input(alloc: Global, name: &[u8], words: &[u8]) -> Result<Bytes, NoMemory>
 }
 
 /// An input has too many bytes.
-pub fn large(alloc: Global, name: &[u8]) -> Result<Bytes, NoMemory>
+pub(crate) fn large(alloc: Global, name: &[u8]) -> Result<Bytes, NoMemory>
     ensures { IfOk result (λ text. text ≡ large_input name.now) }
 {
     input(alloc, name, b"Large")
 }
 
 /// No input of the program has this name.
-pub fn unknown(alloc: Global, name: &[u8]) -> Result<Bytes, NoMemory>
+pub(crate) fn unknown(alloc: Global, name: &[u8]) -> Result<Bytes, NoMemory>
     ensures { IfOk result (λ text. text ≡ unknown_input name.now) }
 {
     input(alloc, name, b"Unknown")
 }
 
 /// No word names this input.
-pub fn missing(alloc: Global, name: &[u8]) -> Result<Bytes, NoMemory>
+pub(crate) fn missing(alloc: Global, name: &[u8]) -> Result<Bytes, NoMemory>
     ensures { IfOk result (λ text. text ≡ missing_input name.now) }
 {
     input(alloc, name, b"Missing")
 }
 
 /// What is told of the first record at fault of an input.
-pub fn in_fault(alloc: Global, name: &[u8], fault: InFault) -> Result<Bytes, NoMemory>
+pub(crate) fn in_fault(alloc: Global, name: &[u8], fault: InFault) -> Result<Bytes, NoMemory>
     ensures { IfOk result (λ text. text ≡ input_refused name.now (in_words fault)) }
 {
     let words = fault.words(alloc)?;

@@ -1,5 +1,4 @@
 // Steps, and how one is read.
-ghost use Rattle.std.specs.Prelude.{◌≡◌};
 ghost use Rattle.text_forms.specs.Gives.{Gives};
 ghost use Rattle.text_forms.specs.Texts.{whole};
 ghost use Rattle.text_tokens.specs.Tok.{tokens_of};
@@ -12,7 +11,7 @@ use text_tokens::{Lexeme, Symbol};
 
 /// A step of a script.
 #[derive(Clone, Copy)]
-pub enum Step {
+pub(crate) enum Step {
     /// The writer and the reader of this queue become one operator.
     Fuse(Name),
     /// The selection of this label changes places with the operator that feeds it.
@@ -22,7 +21,7 @@ pub enum Step {
 }
 
 /// A list of steps.
-pub type Steps = Listed<Step>;
+pub(crate) type Steps = Listed<Step>;
 
 // A name of at most 64 bytes.
 #[tactic(auto, unfolding(crate::specs::Reading::step_name_at))]

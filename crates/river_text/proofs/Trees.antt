@@ -4,8 +4,6 @@ use Rattle.std.specs.Prelude.{map}
 use Rattle.work_code.proofs.Texts.{steps-is}
 use Rattle.work_code.proofs.Running.{step-if}
 use Rattle.work_code.specs.declared.code.Stmt.{Stmt}
-use Rattle.work_code.specs.declared.code.Stmt as built
-use Rattle.work_code.specs.declared.code.Stmt.TheOpen as layer
 use Rattle.work_code.specs.declared.code.Stmts.{Stmts}
 use Rattle.work_code.specs.Steps.{Done, step, steps, statements, in_turn}
 

@@ -11,8 +11,8 @@ use river_base::NoMemory;
 use std::alloc::Global;
 use text_blocks::{Blocks, Opening, ended, place, round};
 use text_forms::{ParseFault, Reader, closed, is};
-use work_code::{Body, Expr, Stmt, Stmts};
 use text_tokens::Symbol;
+use work_code::{Body, Expr, Stmt, Stmts};
 
 // What stands behind `slot`.
 #[tactic(auto, unfolding(crate::specs::Bodies::set_at))]
@@ -37,7 +37,12 @@ fn push(reader: &mut Reader<'_>, alloc: Global, brackets: u32) -> Result<Stmt, P
 
 // What stands behind the first word of a statement that is no `if`.
 #[tactic(auto, unfolding(crate::specs::Bodies::plain_at))]
-fn plain(reader: &mut Reader<'_>, alloc: Global, brackets: u32, word: &[u8]) -> Result<Stmt, ParseFault>
+fn plain(
+    reader: &mut Reader<'_>,
+    alloc: Global,
+    brackets: u32,
+    word: &[u8],
+) -> Result<Stmt, ParseFault>
     ensures { Gives step result reader.new (plain_at brackets word.now reader.old) }
 {
     if is(word, b"slot") {

@@ -1,5 +1,4 @@
 // Declarations read.
-ghost use Rattle.std.specs.Prelude.{◌≡◌};
 ghost use Rattle.text_forms.specs.Gives.{Gives};
 ghost use Rattle.river_text.specs.ReadPlans.{river_name_at, river_var_at, flat_after, flat_at, packed_at, type_at, decl_at};
 ghost use Rattle.river_text.specs.ReadPlans.{cap_at, queue_at, header_at, kind_at, table_at, private_at};
@@ -99,7 +98,7 @@ pub fn decl(reader: &mut Reader<'_>) -> Result<Decl, ParseFault>
 
 /// The declaration of a queue that is neither an output nor an input.
 #[derive(Clone, Copy)]
-pub struct QueueDecl {
+pub(crate) struct QueueDecl {
     /// Its name and what it carries.
     pub decl: Decl,
     /// How many items it holds at most, where the text says so.
@@ -120,7 +119,7 @@ fn cap(reader: &mut Reader<'_>) -> Result<Option<u32>, ParseFault>
 
 /// The declaration of a queue that may have a capacity, behind its first word.
 #[tactic(auto, unfolding(crate::specs::ReadPlans::queue_at))]
-pub fn queue(reader: &mut Reader<'_>) -> Result<QueueDecl, ParseFault>
+pub(crate) fn queue(reader: &mut Reader<'_>) -> Result<QueueDecl, ParseFault>
     ensures { Gives (λ queue. queue) result reader.new (queue_at reader.old) }
 {
     let name = river_name(reader)?;
@@ -133,7 +132,7 @@ pub fn queue(reader: &mut Reader<'_>) -> Result<QueueDecl, ParseFault>
 
 /// The header of version 2, behind its first word.
 #[tactic(auto, unfolding(crate::specs::ReadPlans::header_at))]
-pub fn header(reader: &mut Reader<'_>) -> Result<u64, ParseFault>
+pub(crate) fn header(reader: &mut Reader<'_>) -> Result<u64, ParseFault>
     ensures { Gives (λ version. version) result reader.new (header_at reader.old) }
 {
     let number = reader.number()?;
@@ -164,7 +163,7 @@ fn table_kind(reader: &mut Reader<'_>) -> Result<TableKind, ParseFault>
 
 /// The declaration of a table, behind its first word.
 #[tactic(auto, unfolding(crate::specs::ReadPlans::table_at))]
-pub fn table(reader: &mut Reader<'_>) -> Result<TableDecl, ParseFault>
+pub(crate) fn table(reader: &mut Reader<'_>) -> Result<TableDecl, ParseFault>
     ensures { Gives (λ table. table) result reader.new (table_at reader.old) }
 {
     let name = river_var(reader)?;
@@ -175,7 +174,7 @@ pub fn table(reader: &mut Reader<'_>) -> Result<TableDecl, ParseFault>
 
 /// The declaration of a private variable, behind its first word.
 #[tactic(auto, unfolding(crate::specs::ReadPlans::private_at))]
-pub fn private(reader: &mut Reader<'_>) -> Result<Name, ParseFault>
+pub(crate) fn private(reader: &mut Reader<'_>) -> Result<Name, ParseFault>
     ensures { Gives (λ name. name) result reader.new (private_at reader.old) }
 {
     let name = river_var(reader)?;

@@ -10,7 +10,7 @@ ghost use Rattle.text_forms.specs.Gives.{Makes};
 
 use crate::decl::{QueueDecl, decl, header, private, queue, table};
 use crate::op::operator;
-use river_base::{Name, NoMemory};
+use river_base::{MOST_CAPACITY, Name, NoMemory};
 use river_plan::{Cap, Caps, Decl, Op, RawPlan, TableDecl};
 use std::alloc::Global;
 use text_forms::{ParseFault, Reader, is, kept};
@@ -18,7 +18,7 @@ use text_tokens::Lexeme;
 
 /// What a unit says: that the text is of version 2, or what is added to a plan.
 #[derive(Drop)]
-pub enum Entry {
+pub(crate) enum Entry {
     Header,
     Output(Decl),
     Input(Decl),
@@ -30,7 +30,7 @@ pub enum Entry {
 
 /// A place in a text, between its units.
 #[derive(Clone, Copy)]
-pub struct Place {
+pub(crate) struct Place {
     /// The least place of units that may come.
     pub stage: u32,
     /// Whether there is a header before it.
@@ -126,7 +126,7 @@ fn cap_stands(headed: bool, most: Option<u32>) -> bool
 {
     match most {
         None => true,
-        Some(most) => headed && 1 <= most && most <= 65_536,
+        Some(most) => headed && 1 <= most && most <= MOST_CAPACITY,
     }
 }
 
@@ -178,7 +178,11 @@ fn fits(entry: &Entry, reader: &Reader<'_>, at: Place) -> bool
 
 /// The entry of a whole unit that stands there.
 #[tactic(auto, using(crate::proofs::Wholes::whole_none))]
-pub fn whole_entry(alloc: Global, tokens: &[Lexeme<'_>], at: Place) -> Result<Entry, ParseFault>
+pub(crate) fn whole_entry(
+    alloc: Global,
+    tokens: &[Lexeme<'_>],
+    at: Place,
+) -> Result<Entry, ParseFault>
     ensures { Makes entry_form result (whole (unit_from at) (tokens_of tokens.now)) }
 {
     let mut reader = Reader::new(tokens);

@@ -17,8 +17,8 @@ use river_kernels::Kernel;
 use std::alloc::Global;
 use text_blocks::round;
 use text_forms::{ParseFault, Reader, closed, is};
-use work_code::{Body, Code};
 use text_tokens::Symbol;
+use work_code::{Body, Code, Formula, Formulas};
 
 // What stands behind `code`.
 #[tactic(auto, unfolding(crate::specs::ReadKernels::code_at))]
@@ -137,10 +137,12 @@ fn relation_after(
     ensures { Gives kern_of result reader.new (relation_after brackets word.now reader.old) }
 {
     if is(word, b"select") {
-        return Ok(Kernel::Select(round(&River, reader, alloc, brackets)?));
+        let cond = round(&River, reader, alloc, brackets)?;
+        return Ok(Kernel::Select(Formula::of(alloc, cond)?));
     }
     if is(word, b"project") {
-        return Ok(Kernel::Project(exprs(reader, alloc, brackets)?));
+        let list = exprs(reader, alloc, brackets)?;
+        return Ok(Kernel::Project(Formulas::of(alloc, list)?));
     }
     if is(word, b"cross") {
         return Ok(Kernel::Cross);
@@ -242,7 +244,11 @@ fn ports_after(
 /// `{` kernel `}`, where so many more brackets may be open.
 #[cycle(kernel)]
 #[tactic(auto, using(crate::proofs::Braces::braces))]
-pub fn braced(reader: &mut Reader<'_>, alloc: Global, brackets: u32) -> Result<Kernel, ParseFault>
+pub(crate) fn braced(
+    reader: &mut Reader<'_>,
+    alloc: Global,
+    brackets: u32,
+) -> Result<Kernel, ParseFault>
     ensures { Gives kern_of result reader.new (braced_at brackets reader.old) }
 {
     let inner = reader.opens(Symbol::OpenBrace, brackets)?;

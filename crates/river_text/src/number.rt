@@ -1,5 +1,5 @@
 // Numbers read.
-ghost use Rattle.std.specs.Prelude.{◌≡◌, ◌++◌, [], ◌∷◌};
+ghost use Rattle.std.specs.Prelude.{◌++◌, [], ◌∷◌};
 ghost use Rattle.text_forms.specs.Gives.{Gives};
 ghost use Rattle.text_forms.specs.Parse.{commas, listing, seen};
 ghost use Rattle.text_tokens.specs.declared.sign.Symbol.TheVariants as s;
@@ -13,7 +13,7 @@ use text_tokens::Symbol;
 
 /// What a number in a list is.
 #[derive(Clone, Copy)]
-pub enum Kind {
+pub(crate) enum Kind {
     /// The width of a port.
     Width,
     /// A value that may be below 0, or `min`.
@@ -102,7 +102,11 @@ fn round_numbers(
 
 /// `(` the kept values at the start `)`
 #[tactic(auto, unfolding(crate::specs::ReadKernels::starts_at))]
-pub fn starts(reader: &mut Reader<'_>, alloc: Global, brackets: u32) -> Result<Numbers, ParseFault>
+pub(crate) fn starts(
+    reader: &mut Reader<'_>,
+    alloc: Global,
+    brackets: u32,
+) -> Result<Numbers, ParseFault>
     ensures { Gives (λ list. list) result reader.new (starts_at brackets reader.old) }
 {
     round_numbers(reader, alloc, brackets, Kind::Signed)
@@ -110,7 +114,11 @@ pub fn starts(reader: &mut Reader<'_>, alloc: Global, brackets: u32) -> Result<N
 
 /// `(` the widths of the output ports `)`
 #[tactic(auto, unfolding(crate::specs::ReadKernels::widths_at))]
-pub fn widths(reader: &mut Reader<'_>, alloc: Global, brackets: u32) -> Result<Numbers, ParseFault>
+pub(crate) fn widths(
+    reader: &mut Reader<'_>,
+    alloc: Global,
+    brackets: u32,
+) -> Result<Numbers, ParseFault>
     ensures { Gives (λ list. list) result reader.new (widths_at brackets reader.old) }
 {
     round_numbers(reader, alloc, brackets, Kind::Width)
@@ -118,7 +126,11 @@ pub fn widths(reader: &mut Reader<'_>, alloc: Global, brackets: u32) -> Result<N
 
 /// `(` the weights of the ports `)`
 #[tactic(auto, unfolding(crate::specs::ReadKernels::weights_at))]
-pub fn weights(reader: &mut Reader<'_>, alloc: Global, brackets: u32) -> Result<Numbers, ParseFault>
+pub(crate) fn weights(
+    reader: &mut Reader<'_>,
+    alloc: Global,
+    brackets: u32,
+) -> Result<Numbers, ParseFault>
     ensures { Gives (λ list. list) result reader.new (weights_at brackets reader.old) }
 {
     reader.opens(Symbol::Open, brackets)?;
@@ -170,7 +182,7 @@ fn three(reader: &mut Reader<'_>) -> Result<(u32, u32, u32), ParseFault>
 
 /// `(N, N, N)`
 #[tactic(auto, unfolding(crate::specs::ReadKernels::triple_at))]
-pub fn triple(reader: &mut Reader<'_>, brackets: u32) -> Result<(u32, u32, u32), ParseFault>
+pub(crate) fn triple(reader: &mut Reader<'_>, brackets: u32) -> Result<(u32, u32, u32), ParseFault>
     ensures { Gives (λ value. (value.0, (value.1, value.2))) result reader.new (triple_at brackets reader.old) }
 {
     reader.opens(Symbol::Open, brackets)?;
@@ -180,7 +192,10 @@ pub fn triple(reader: &mut Reader<'_>, brackets: u32) -> Result<(u32, u32, u32),
 
 /// `(N, N, N, N)`
 #[tactic(auto, unfolding(crate::specs::ReadKernels::rates_at))]
-pub fn rates(reader: &mut Reader<'_>, brackets: u32) -> Result<(u32, u32, u32, u32), ParseFault>
+pub(crate) fn rates(
+    reader: &mut Reader<'_>,
+    brackets: u32,
+) -> Result<(u32, u32, u32, u32), ParseFault>
     ensures { Gives (λ value. (value.0, (value.1, (value.2, value.3)))) result reader.new (rates_at brackets reader.old) }
 {
     reader.opens(Symbol::Open, brackets)?;

@@ -1,5 +1,5 @@
 // Operators read.
-ghost use Rattle.std.specs.Prelude.{◌≡◌, [], ◌∷◌};
+ghost use Rattle.std.specs.Prelude.{[], ◌∷◌};
 ghost use Rattle.text_tokens.specs.declared.sign.Symbol.TheVariants as s;
 ghost use Rattle.text_forms.specs.Gives.{Gives, Makes};
 ghost use Rattle.text_forms.specs.Parse.{after};
@@ -20,7 +20,7 @@ use text_tokens::Symbol;
 
 /// An operator, behind its first word.
 #[tactic(auto, unfolding(crate::specs::ReadPlans::op_at))]
-pub fn operator(reader: &mut Reader<'_>, alloc: Global) -> Result<Op, ParseFault>
+pub(crate) fn operator(reader: &mut Reader<'_>, alloc: Global) -> Result<Op, ParseFault>
     ensures { Gives op_form result reader.new (op_at reader.old) }
 {
     let label = river_name(reader)?;
@@ -31,7 +31,12 @@ pub fn operator(reader: &mut Reader<'_>, alloc: Global) -> Result<Op, ParseFault
 
 // The operator, behind what it writes.
 #[tactic(auto, unfolding(crate::specs::ReadPlans::op_from_at), using(crate::proofs::Ports::steps))]
-fn op_from(reader: &mut Reader<'_>, alloc: Global, label: Name, outs: Ports) -> Result<Op, ParseFault>
+fn op_from(
+    reader: &mut Reader<'_>,
+    alloc: Global,
+    label: Name,
+    outs: Ports,
+) -> Result<Op, ParseFault>
     ensures { Gives op_form result reader.new (op_from_at label (pair_of outs) reader.old) }
 {
     let ins = sources(reader, alloc)?;

@@ -1,5 +1,5 @@
 // What operators read and write.
-ghost use Rattle.std.specs.Prelude.{◌≡◌, map, []};
+ghost use Rattle.std.specs.Prelude.{map, []};
 ghost use Rattle.text_forms.specs.Gives.{Gives};
 ghost use Rattle.text_forms.specs.Parse.{commas};
 ghost use Rattle.text_forms.specs.Gives.{Makes};
@@ -15,7 +15,7 @@ use text_tokens::{Symbol, Token};
 
 /// A queue or a variable.
 #[derive(Clone, Copy)]
-pub enum Port {
+pub(crate) enum Port {
     Queue(Name),
     Variable(Name),
 }

@@ -9,8 +9,8 @@ use river_base::NoMemory;
 use std::alloc::Global;
 use text_blocks::{Sign, Terms, place, take_sign, term};
 use text_forms::{ParseFault, Reader, closed, is};
-use work_code::{BinOp, Expr, Exprs};
 use text_tokens::{Symbol, Token};
+use work_code::{BinOp, Expr, Exprs};
 
 // A number as it is written.
 #[tactic(auto, unfolding(crate::specs::Expressions::constant_at))]
@@ -52,7 +52,7 @@ fn leaf(reader: &mut Reader<'_>, brackets: u32) -> Result<Expr, ParseFault>
 }
 
 /// River text, for the readers of expressions and of statements of any language.
-pub struct River;
+pub(crate) struct River;
 
 impl Terms for River {
     ghost use Rattle.work_code.specs.Term.{Term, term};
@@ -119,7 +119,11 @@ fn some_exprs(reader: &mut Reader<'_>, alloc: Global, brackets: u32) -> Result<E
 
 /// `(e, ..)`
 #[tactic(auto, unfolding(crate::specs::Bodies::terms_at, text_blocks::specs::Parts::round_at))]
-pub fn exprs(reader: &mut Reader<'_>, alloc: Global, brackets: u32) -> Result<Exprs, ParseFault>
+pub(crate) fn exprs(
+    reader: &mut Reader<'_>,
+    alloc: Global,
+    brackets: u32,
+) -> Result<Exprs, ParseFault>
     ensures { Gives terms result reader.new (terms_at brackets reader.old) }
 {
     let inner = reader.opens(Symbol::Open, brackets)?;

@@ -26,7 +26,7 @@ use Rattle.river_road.specs.Text.{large_program, large_input}
 use Rattle.river_road.specs.declared.content.FileContent.{FileContent}
 use Rattle.river_road.specs.declared.content.FileContent.TheVariants.{Rows as Plain}
 use Rattle.river_langs.specs.Sources.{saw_source, saw_in}
-use Rattle.river_pieces.specs.Refused.{HasFault}
+use Rattle.river_pieces.specs.Refused.{HasFileFault}
 use Rattle.river_pieces.specs.Whole.{Prints}
 use Rattle.river_pieces.proofs.Compiled.{means_is_compiled}
 use Rattle.river_cli.specs.Points.{of_command, ended, points_of}
@@ -140,7 +140,7 @@ run-refused h program input text bytes header by cap a f program_is input_is sho
     input_is small fault refl)
 
 -- what is compiled of a text of which the input has a fault
-fault-compiled : (text bytes : List ℕ) (header : Bool) (f : InFault) (m : HasFault text bytes header f)
+fault-compiled : (text bytes : List ℕ) (header : Bool) (f : InFault) (m : HasFileFault text bytes header f)
     → compiled text ≡ Ok (record { units = m.units; read = m.read })
 fault-compiled text bytes header f m = (means_what_it_has text (Ok (record { units = m.units; read = m.read }))).1 (m.is_text, m.accepted)
 

@@ -12,7 +12,7 @@ use Rattle.river_outside.proofs.Told.{verdict-told}
 use Rattle.saw_model.specs.Meaning.{width}
 use Rattle.saw_front.specs.Meaning.{program_in}
 use Rattle.saw_front.proofs.Fronts.{means_what_it_has}
-use Rattle.river_pieces.specs.Refused.{HasFault}
+use Rattle.river_pieces.specs.Refused.{HasFileFault}
 use Rattle.river_pieces.proofs.Compiled.{compiled_runs_print}
 use Rattle.river_pieces.proofs.Refused.{first_fault_is_the_wholes}
 use Rattle.river_cli.specs.Answer.{WroteEnd}
@@ -41,7 +41,7 @@ refusals_are_faults words program input header h text bytes told a asks none pro
     by (rows_of_file bytes (width (program_in a)) header true) refl
   where
     by : (r : Result (List (List ℤ)) InFault) → rows_of_file bytes (width (program_in a)) header true ≡ r
-        → (f : InFault) × (told ≡ told_of f) × HasFault text bytes header f
+        → (f : InFault) × (told ≡ told_of f) × HasFileFault text bytes header f
     by (Ok rows) read =
         let prints = compiled_runs_print text bytes header a rows compiles read in
         absurd
@@ -49,7 +49,7 @@ refusals_are_faults words program input header h text bytes told a asks none pro
         (runs_are_done words program input header h text bytes _ asks none program_is input_is short small prints) refused)
     by (Err f) read =
         let has = (means_what_it_has text (Ok a)).0 compiles in
-        let m : HasFault text bytes header f = record { units = a.units; read = a.read; is_text = has.0; accepted = has.1; fault = read } in (
+        let m : HasFileFault text bytes header f = record { units = a.units; read = a.read; is_text = has.0; accepted = has.1; fault = read } in (
           f,
           one-refusal (verdict (points_of words) h) told (told_of f) refused
               (runs_tell_faults words program input header h text bytes f asks none program_is input_is short small m),

@@ -9,7 +9,7 @@ use Rattle.river_outside.specs.Order.{verdict, Refused}
 use Rattle.river_road.specs.Limits.{most_program, most_input}
 use Rattle.river_road.specs.Text.{input_refused}
 use Rattle.saw_front.specs.Meaning.{Accepted, compiled}
-use Rattle.river_pieces.specs.Refused.{HasFault, HasFaultOfAll}
+use Rattle.river_pieces.specs.Refused.{HasFileFault, HasFaultOfAll}
 use Rattle.river_cli.specs.Answer.{WroteEnd}
 use Rattle.river_cli.specs.Points.{points_of}
 use Rattle.run_pieces.specs.Ran.{AsksFor}
@@ -31,7 +31,7 @@ RunsTellFaults =
     → h input ≡ Some bytes
     → length text ≤ most_program
     → length bytes ≤ most_input
-    → HasFault text bytes header f
+    → HasFileFault text bytes header f
     → verdict (points_of words) h ≡ Refused (told_of f)
 
 -- And where such a run of a program that is compiled is refused, it is for the fault of its input that is told.
@@ -46,7 +46,7 @@ RefusalsAreFaults =
     → length bytes ≤ most_input
     → compiled text ≡ Ok a
     → verdict (points_of words) h ≡ Refused told
-    → (f : InFault) × (told ≡ told_of f) × HasFault text bytes header f
+    → (f : InFault) × (told ≡ told_of f) × HasFileFault text bytes header f
 
 -- THE CALL
 

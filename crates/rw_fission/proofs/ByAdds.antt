@@ -28,7 +28,8 @@ use Rattle.brooklet_model.proofs.Solutions.{count_here}
 use Rattle.rw_fission.specs.Fission.{Way, each_op, by_adds, replica_op, joiner_ops, split_ops, split_by}
 use Rattle.plan_edits.specs.Lists.{first_with}
 use Rattle.rw_fission.specs.Made.{FissionNames}
-use Rattle.rw_fission.specs.May.{MayAdd, IsApartPlan}
+use Rattle.rw_fission.specs.May.{MayAdd}
+use Rattle.rw_fission.proofs.ApartPlan.{IsApartPlan}
 use Rattle.rw_fission.specs.Splits.{Splits, dealt_to, sum_below}
 use Rattle.rw_fission.proofs.BlockLaw.{shares_are, are_shares}
 use Rattle.rw_fission.proofs.Dealt.{in_turns, dealt_is, turns_below}
@@ -37,7 +38,7 @@ use Rattle.rw_fission.proofs.Packs.{none_first}
 use Rattle.rw_fission.proofs.Sized.{named_sized}
 use Rattle.rw_fission.proofs.SplitLaw.{sum_same}
 use Rattle.plan_edits.proofs.Surgery.{found, at_most_all}
-use Rattle.plan_edits.proofs.Swap.{it_is, swap_of}
+use Rattle.rw_fission.proofs.Swap.{it_is, swap_of}
 use Rattle.rw_fission.proofs.WayLemmas.{deal_fits, copies_none, all_tables}
 use Rattle.rw_fission.proofs.Weighed.{weigh, weigh_ports, items_turns, one_adds, fed_adds}
 

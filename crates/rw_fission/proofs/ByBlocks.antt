@@ -24,12 +24,13 @@ use Rattle.brooklet_model.proofs.Solutions.{count_here}
 use Rattle.rw_fission.specs.Fission.{Way, equal_weights, each_op, by_blocks, replica_op, joiner_ops, split_ops, split_by}
 use Rattle.plan_edits.specs.Lists.{first_with}
 use Rattle.rw_fission.specs.Made.{FissionNames, each_name}
-use Rattle.rw_fission.specs.May.{MayBlock, IsApartPlan}
+use Rattle.rw_fission.specs.May.{MayBlock}
+use Rattle.rw_fission.proofs.ApartPlan.{IsApartPlan}
 use Rattle.rw_fission.specs.Splits.{Splits, JoinerGives, dealt_to}
 use Rattle.rw_fission.proofs.BlockLaw.{TakesBlocks, blocks_undo}
 use Rattle.rw_fission.proofs.Declared.{count_each}
 use Rattle.plan_edits.proofs.Surgery.{found}
-use Rattle.plan_edits.proofs.Swap.{it_is, swap_of}
+use Rattle.rw_fission.proofs.Swap.{it_is, swap_of}
 use Rattle.rw_fission.proofs.WayLemmas.{one_at_most, deal_fits, collect_fits, sum_zero, copies_vars, count-without, no_table, one_name}
 
 -- an operator's only variable is no table

@@ -25,13 +25,14 @@ use Rattle.brooklet_model.proofs.Solutions.{count_here}
 use Rattle.rw_fission.specs.Fission.{Way, each_op, by_packs, replica_op, joiner_ops, split_ops, split_by}
 use Rattle.plan_edits.specs.Lists.{first_with}
 use Rattle.rw_fission.specs.Made.{FissionNames}
-use Rattle.rw_fission.specs.May.{MayPack, IsApartPlan}
+use Rattle.rw_fission.specs.May.{MayPack}
+use Rattle.rw_fission.proofs.ApartPlan.{IsApartPlan}
 use Rattle.rw_fission.specs.Splits.{Splits, JoinerGives, dealt_to}
 use Rattle.rw_fission.proofs.BlockLaw.{shares_are, are_shares}
 use Rattle.rw_fission.proofs.Packs.{GivesFlat, packs_of, packed_is, packs_undo, none_first}
 use Rattle.rw_fission.proofs.Sized.{named_sized}
 use Rattle.plan_edits.proofs.Surgery.{found, at_most_all}
-use Rattle.plan_edits.proofs.Swap.{it_is, swap_of}
+use Rattle.rw_fission.proofs.Swap.{it_is, swap_of}
 use Rattle.rw_fission.proofs.WayLemmas.{deal_fits, sum_zero, copies_none}
 
 module _ (p : PlanForm) (l : Name) (op : OpForm) (m : FissionNames) (n : ℕ) (source out : Name) (t u : FlatType) (v : IsPlan p)

@@ -26,14 +26,14 @@ use Rattle.plan_edits.specs.Judged.{rank, IsJudgedBy}
 use Rattle.plan_edits.specs.Lists.{first_with, swapped}
 use Rattle.plan_edits.proofs.Judging.{rank_most, judged_law, by_if}
 use Rattle.plan_edits.proofs.Surgery.{first_past, found}
-use Rattle.plan_edits.proofs.Swap.{swapped_past}
+use Rattle.rw_fission.proofs.Swap.{swapped_past}
 use Rattle.rw_fission.specs.Asked.{all_made, are_short, way_of, by_way, by_reads, by_op, fission_of}
 use Rattle.rw_fission.specs.Code.{longest}
 use Rattle.rw_fission.specs.Fission.{Way, replica_op, each_op, joiner_ops, split_ops, split_by}
 use Rattle.rw_fission.specs.Made.{FissionNames, made_of, each_name, digits}
 use Rattle.rw_fission.specs.May.{is_apart, is_within, stand_once}
 use Rattle.rw_fission.specs.Splits.{given_names}
-use Rattle.rw_fission.specs.Splitting.{IsLabelled, SplitsBy, IsSplitInto, IsOver, HasTwice, all_made_names, HasLong, FissionFails, FissionIsJudged}
+use Rattle.rw_fission.specs.Splitting.{IsLabelled, SplitsBy, IsSplitInto, IsAboveLimit, HasTwice, all_made_names, HasLong, FissionFails, FissionIsJudged}
 use Rattle.rw_fission.proofs.ByBlocks as blocking
 use Rattle.rw_fission.proofs.FissionLaw.{limit_in}
 use Rattle.rw_fission.proofs.FormJudged.{WayJudged, way_judged, one_way}
@@ -66,14 +66,14 @@ once ws x h lt =
     let le = leb-true (count x ws) 1 e in
     omega (arith, lt, le)
 
-over : (r : PlanForm) → list_all (is_within r) limits ≡ false → IsOver r
+over : (r : PlanForm) → list_all (is_within r) limits ≡ false → IsAboveLimit r
 over r h =
     let a = some_fails (is_within r) limits h in
     let b = some_fails (λ k. nat_le k (most_of a.1)) (numbers a.1 r) a.3 in
     (a.1, b.0, b.1, b.2, leb-false b.1 (most_of a.1) b.3)
 
 -- what the test of a result says
-apart_fails : (r : PlanForm) → is_apart r ≡ false → IsOver r ⊎ HasTwice r
+apart_fails : (r : PlanForm) → is_apart r ≡ false → IsAboveLimit r ⊎ HasTwice r
 apart_fails r h = ⊎_elim
     (λ e. let x = twice (queue_names r) e in inr (x.0, inl x.1))
     (λ e. ⊎_elim
@@ -85,7 +85,7 @@ apart_fails r h = ⊎_elim
     (and_cases (stand_once (variable_names r)) (stand_once (labels r.ops) && list_all (is_within r) limits) e))
     (and_cases (stand_once (queue_names r)) (stand_once (variable_names r) && (stand_once (labels r.ops) && list_all (is_within r) limits)) h)
 
-not_over : (r : PlanForm) → is_apart r ≡ true → IsOver r → ⊥
+not_over : (r : PlanForm) → is_apart r ≡ true → IsAboveLimit r → ⊥
 not_over r h o =
     let a = and_parts (stand_once (queue_names r)) (stand_once (variable_names r) && (stand_once (labels r.ops) && list_all (is_within r) limits)) h in
     let b = and_parts (stand_once (variable_names r)) (stand_once (labels r.ops) && list_all (is_within r) limits) a.1 in
@@ -341,14 +341,14 @@ module _ (p : PlanForm) (l : Name) (n : ℕ) (v : IsPlan p) where
           no5 short apart h =
               let e = one_split h.0 whole h.1 is_split in
               ⊎_elim
-              (λ o. not_over whole apart (subst IsOver e o))
+              (λ o. not_over whole apart (subst IsAboveLimit e o))
               (λ r. ⊎_elim
               (λ o. no_long l n h.1.op h.1.way (omega (arith, many)) (new_short p l h.1.op n h.1.source h.1.way h.1.takes) short o)
               (λ o. not_twice whole apart (subst HasTwice e o))
               r)
               h.2
 
-          fails5 : are_short (all_made (made_of l) n) && is_apart whole ≡ false → IsOver whole ⊎ (HasLong (all_made_names op (made_of l) n w) ⊎ HasTwice whole)
+          fails5 : are_short (all_made (made_of l) n) && is_apart whole ≡ false → IsAboveLimit whole ⊎ (HasLong (all_made_names op (made_of l) n w) ⊎ HasTwice whole)
           fails5 h = ⊎_elim
               (λ e. inr (inl (long_name l n op w (omega (arith, many)) e)))
               (λ e. ⊎_elim (λ o. inl o) (λ o. inr (inr o)) (apart_fails whole e))

@@ -24,13 +24,15 @@ use Rattle.river_plan.specs.Valid.{IsPlan}
 use Rattle.brooklet_model.specs.Histories.{hist}
 use Rattle.rw_fission.specs.Fission.{Way, split_by, by_packs, by_blocks, by_adds}
 use Rattle.plan_edits.specs.Lists.{first_with}
-use Rattle.plan_edits.specs.Meaning.{SameOuter, AreTypedHistories, SameMeaning}
+use Rattle.plan_edits.specs.Meaning.{SameOuter, SameMeaning}
+use Rattle.plan_edits.proofs.MeaningSame.{AreTypedHistories}
 use Rattle.brooklet_model.proofs.TypedPlan.{typed_law}
 use Rattle.plan_edits.proofs.MeaningSame.{meaning_same}
 use Rattle.rw_fission.specs.Asked.{fission_of}
 use Rattle.rw_fission.specs.Laws.{FissionKeeps, FissionApart}
 use Rattle.rw_fission.specs.Made.{FissionNames, made_of}
-use Rattle.rw_fission.specs.May.{IsApartPlan, is_apart, is_within, stand_once}
+use Rattle.rw_fission.specs.May.{is_apart, is_within, stand_once}
+use Rattle.rw_fission.proofs.ApartPlan.{IsApartPlan}
 use Rattle.rw_fission.proofs.Accepted.{accepted, IsPacks, IsBlocks, IsAdds, IsWay, way_is}
 use Rattle.rw_fission.proofs.ByAdds as adding
 use Rattle.rw_fission.proofs.ByBlocks as blocking

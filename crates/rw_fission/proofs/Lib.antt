@@ -1,4 +1,5 @@
 pub mod Accepted
+pub mod ApartPlan
 pub mod BlockLaw
 pub mod Blocks
 pub mod ByAdds
@@ -7,11 +8,11 @@ pub mod ByPacks
 pub mod CodeLemmas
 pub mod Dealt
 pub mod Declared
+pub mod Examples
 pub mod FissionJudged
 pub mod FissionLaw
 pub mod Flatness
 pub mod FormJudged
-pub mod Examples
 pub mod MadeNames
 pub mod OtherKernels
 pub mod Packs
@@ -20,6 +21,7 @@ pub mod Sized
 pub mod SplitLaw
 pub mod SplitValid
 pub mod StepLemmas
+pub mod Swap
 pub mod Undone
 pub mod WayLemmas
 pub mod Weighed

@@ -25,7 +25,7 @@ use Rattle.plan_edits.specs.Lists.{first_with}
 use Rattle.rw_fission.specs.Made.{FissionNames, each_name}
 use Rattle.rw_fission.specs.Splits.{Splits, JoinerFits, JoinerGives, given_names, dealt_to, sum_below}
 use Rattle.plan_edits.specs.Meaning.{SameMeaning}
-use Rattle.plan_edits.proofs.Swap.{it_is, stay, swapped_hist, swapped_adds}
+use Rattle.rw_fission.proofs.Swap.{it_is, stay, swapped_hist, swapped_adds}
 use Rattle.rw_fission.proofs.SplitValid as split
 
 -- the lists at names by place, and the other way

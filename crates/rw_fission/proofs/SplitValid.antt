@@ -29,7 +29,7 @@ use Rattle.rw_fission.specs.Made.{FissionNames, each_name}
 use Rattle.rw_fission.specs.Splits.{Splits, JoinerFits, given_types, given_names}
 use Rattle.plan_edits.proofs.Surgery.{before_append, found}
 use Rattle.river_plan.proofs.ShareLemmas.{each_append}
-use Rattle.plan_edits.proofs.Swap.{Swap, swap_of, stay, sum_old, sum_new, it_is, together, reordered}
+use Rattle.rw_fission.proofs.Swap.{Swap, swap_of, stay, sum_old, sum_new, it_is, together, reordered}
 use Rattle.plan_edits.proofs.Lookups.{map_agree, kind_sized, private_is, table_is}
 use Rattle.rw_fission.proofs.Declared.{names_of_decls, kind_decls, count_each, map_each, decls_sized}
 

@@ -64,8 +64,8 @@ pub record IsSplitInto (p : PlanForm) (l : Name) (n : ℕ) (p' : PlanForm) : Typ
   pub tables : p'.tables ≡ p.tables
 
 -- a number of the plan is above its limit
-abbrev pub IsOver : PlanForm → Type 0
-IsOver r = (limit : Limit) × (i : ℕ) × (k : ℕ) × (slice_get (numbers limit r) i ≡ Some k) × (most_of limit < k)
+abbrev pub IsAboveLimit : PlanForm → Type 0
+IsAboveLimit r = (limit : Limit) × (i : ℕ) × (k : ℕ) × (slice_get (numbers limit r) i ≡ Some k) × (most_of limit < k)
 
 -- two queues, two variables or two operators of the plan have one name
 abbrev pub HasTwice : PlanForm → Type 0
@@ -95,7 +95,7 @@ FissionFails p l n N4 =
     × (CanPack p op source → ⊥) × (CanBlock p op source → ⊥) × (CanAdd p op source → ⊥)
 -- the result exceeds a limit, or a name that is made is longer than 64 bytes, or a name stands twice in it
 FissionFails p l n N5 =
-    (p' : PlanForm) × (s : IsSplitInto p l n p') × (IsOver p' ⊎ (HasLong (all_made_names s.op (made_of l) n s.way) ⊎ HasTwice p'))
+    (p' : PlanForm) × (s : IsSplitInto p l n p') × (IsAboveLimit p' ⊎ (HasLong (all_made_names s.op (made_of l) n s.way) ⊎ HasTwice p'))
 FissionFails p l n U1 = ⊥
 FissionFails p l n U2 = ⊥
 FissionFails p l n U3 = ⊥

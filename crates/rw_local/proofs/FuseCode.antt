@@ -18,7 +18,7 @@ use Rattle.plan_edits.specs.Lists.{place_of_name, undeclared, first_with}
 use Rattle.rw_local.specs.Fuse.{fused_op, fused_plan, share, is_large, fuse_two, fuse_found, fuse_of}
 use Rattle.plan_edits.specs.declared.unfit.Unfit.TheVariants.{U2}
 use Rattle.plan_edits.proofs.Surgery.{found}
-use Rattle.plan_edits.proofs.Types.{flat_each}
+use Rattle.rw_local.proofs.Types.{flat_each}
 use Rattle.rw_local.proofs.FuseLaw.{names_of, fuse_keeps}
 use Rattle.rw_local.proofs.FuseSteps.{shares_none}
 

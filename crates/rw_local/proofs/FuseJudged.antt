@@ -20,7 +20,7 @@ use Rattle.plan_edits.specs.declared.unfit.Unfit.{Unfit}
 use Rattle.plan_edits.specs.declared.unfit.Unfit.TheVariants.{U1, U2, U3, U4, U5, H1, H2, H3, H4, N1, N2, N3, N4, N5, NoMemory}
 use Rattle.plan_edits.specs.Judged.{rank, IsJudgedBy}
 use Rattle.plan_edits.specs.Lists.{first_with, place_of_name, undeclared}
-use Rattle.plan_edits.proofs.Edit.{Cut, cut_of, replaced_is}
+use Rattle.rw_local.proofs.Edit.{Cut, cut_of, replaced_is}
 use Rattle.plan_edits.proofs.Judging.{rank_most, judged_law, by_if}
 use Rattle.plan_edits.proofs.Surgery.{first_past}
 use Rattle.rw_local.specs.Fuse.{fused_op, fused_plan, share, is_large, fuse_two, fuse_found, fuse_of}

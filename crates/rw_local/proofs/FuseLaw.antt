@@ -1,6 +1,6 @@
 -- Fusing keeps a plan valid, and what it means.
 use Rattle.std.proofs.Common.{◌≡◌, ℕ, ℤ, ◌+◌, ◌<◌, ◌≤◌, Bool, false, List, [], ◌∷◌, ◌++◌, length, sym, ap, ◌∙◌, subst, arith, ⊎_elim, map, nat_lt}
-use Rattle.std.specs.Prelude.{count_by, All, flat_map}
+use Rattle.std.specs.Prelude.{count_by, All, flat_map, Some}
 use Rattle.std.proofs.lemmas.List.{map-append, length-map}
 use Rattle.std.proofs.lemmas.List.Elements.{All-append, filter-append}
 use Rattle.river_base.proofs.PlaceLemmas.{if_true}
@@ -10,8 +10,7 @@ use Rattle.river_base.specs.Name.{name_eq}
 use Rattle.river_base.specs.Places.{list_at}
 use Rattle.river_base.specs.declared.kind.QueueType.{QueueType}
 use Rattle.river_kernels.specs.declared.limit.Limit.{Limit}
-use Rattle.river_kernels.specs.declared.limit.Limit.TheVariants.{Inputs, Operators, Queues, Variables, Ports, Statements, Slots, Rates, Weights, Nesting}
-use Rattle.river_kernels.specs.declared.limit.Limit.TheVariants.{Latest, Best}
+use Rattle.river_kernels.specs.declared.limit.Limit.TheVariants.{Inputs, Operators, Queues, Variables, Ports, Statements, Slots, Rates, Weights, Nesting, Latest, Best}
 use Rattle.river_kernels.specs.Limits.{part_numbers, nesting}
 use Rattle.river_kernels.specs.Fits.{Fits}
 use Rattle.river_kernels.specs.declared.types.VarKind.{VarKind}
@@ -29,14 +28,23 @@ use Rattle.brooklet_model.specs.Histories.{History, given_on, written, histories
 use Rattle.brooklet_model.proofs.Ports.{Counts, counts, shaped}
 use Rattle.brooklet_model.proofs.Solutions.{stays, written_out, plan_solves}
 use Rattle.brooklet_model.proofs.Traces.{adds_it, joined_cong, lists_cong}
-use Rattle.plan_edits.specs.Lists.{place_of_name, undeclared}
+use Rattle.plan_edits.specs.Lists.{place_of_name, undeclared, first_with}
 use Rattle.plan_edits.specs.Meaning.{SameMeaning}
-use Rattle.rw_local.specs.Fuse.{fused_op, fused_plan, MayFuse}
-use Rattle.plan_edits.proofs.Edit.{Edit, Cut, cut_of, edit_of, Stays, sum_old, sum_new, Parts, parts, together, reordered, edited, edited_adds}
+use Rattle.rw_local.specs.Fuse.{fused_op, fused_plan}
+use Rattle.rw_local.proofs.Edit.{Edit, Cut, cut_of, edit_of, Stays, sum_old, sum_new, Parts, parts, together, reordered, edited, edited_adds}
 use Rattle.plan_edits.proofs.Surgery.{all_agree, adds_it_same}
-use Rattle.plan_edits.proofs.Types.{each_fits, undeclared_count, undeclared_kind, kind_last, all_undeclared, undeclared_length, tables_length, flat_each}
-use Rattle.plan_edits.proofs.Types.{each_flat, map_each, each_map, all_one, all_here, total_length}
+use Rattle.rw_local.proofs.Types.{each_fits, undeclared_count, undeclared_kind, kind_last, all_undeclared, undeclared_length, tables_length, flat_each}
+use Rattle.rw_local.proofs.Types.{each_flat, map_each, each_map, all_one, all_here, total_length}
 use Rattle.rw_local.proofs.FuseLemmas.{map-spliced, lists_spliced, place_below, place_of, list_at_place, count_spliced, joined_beside, fused_given, one_counted}
+
+-- the step is accepted, with this writer and this reader
+pub record MayFuse (p : PlanForm) (q : Name) (w r : OpForm) : Type 0 where
+  pub writer : first_with (writes_it q) p.ops ≡ Some w
+  pub reader : first_with (reads_it q) p.ops ≡ Some r
+  pub only_input : length r.reads ≡ 1
+  pub nested : nesting (fused_op q w r).kernel ≤ 32
+  pub ports : length (fused_op q w r).writes ≤ 64
+  pub apart : (v : Name) → 0 < count v w.vars → count v r.vars ≡ 0
 
 -- how often a name is declared in three lists
 pub names_of : (os is qs : List Name) (x : Name) → count x (os ++ (is ++ qs)) ≡ count x os + (count x is + count x qs)

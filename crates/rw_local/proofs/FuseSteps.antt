@@ -15,7 +15,8 @@ use Rattle.plan_edits.specs.declared.unfit.Unfit.TheVariants.{U1, U2, U3, U4, U5
 use Rattle.plan_edits.specs.Lists.{first_with}
 use Rattle.plan_edits.specs.Meaning.{SameOuter, SameMeaning}
 use Rattle.plan_edits.proofs.MeaningSame.{meaning_same}
-use Rattle.rw_local.specs.Fuse.{fused_op, fused_plan, share, is_large, fuse_two, fuse_found, fuse_of, MayFuse, FuseKeeps}
+use Rattle.rw_local.specs.Fuse.{fused_op, fused_plan, share, is_large, fuse_two, fuse_found, fuse_of, FuseKeeps}
+use Rattle.rw_local.proofs.FuseLaw.{MayFuse}
 use Rattle.rw_local.proofs.FuseLaw.{fuse_keeps}
 
 -- lists that share no name

@@ -27,8 +27,9 @@ use Rattle.plan_edits.specs.Lists.{place_of_name, first_with, replaced, retyped}
 use Rattle.plan_edits.specs.Answered.{IsAnswered}
 use Rattle.rw_local.specs.HoistCode.{IsPassing, SelectsAt}
 use Rattle.rw_local.specs.Hoist.{plain_field, of_projection, first_side_width, first_width, passes, hoisted_plan, hoist_passed, hoist_past, hoist_between}
-use Rattle.rw_local.specs.Hoist.{hoist_kernel, hoist_found, hoist_of, MayHoist}
-use Rattle.plan_edits.proofs.OpLoops.{forms_next}
+use Rattle.rw_local.specs.Hoist.{hoist_kernel, hoist_found, hoist_of}
+use Rattle.rw_local.proofs.HoistLaw.{MayHoist}
+use Rattle.rw_local.proofs.OpLoops.{forms_next}
 use Rattle.rw_local.proofs.HoistLaw.{hoist_keeps, mid_inner}
 
 -- the field of which a field of a projection is a copy

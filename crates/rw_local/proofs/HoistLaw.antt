@@ -1,6 +1,6 @@
 -- Hoisting keeps a plan valid, and what it means.
 use Rattle.std.proofs.Common.{◌≡◌, ℕ, ℤ, ◌+◌, ◌<◌, ◌≤◌, Bool, false, Some, List, [], ◌∷◌, ◌++◌, length, refl, sym, ap, ◌∙◌, subst, arith, ⊎_elim, map}
-use Rattle.std.specs.Prelude.{count_by, All, flat_map, slice_get, IsTrue, filter, nat_lt, ◌&&◌}
+use Rattle.std.specs.Prelude.{count_by, All, flat_map, slice_get, IsTrue, filter, nat_lt, ◌&&◌, Ok}
 use Rattle.std.proofs.lemmas.Bool.{and_parts}
 use Rattle.std.proofs.lemmas.List.{length-map, nil_from_length}
 use Rattle.std.proofs.lemmas.List.Elements.{All-nil, All-cons}
@@ -15,8 +15,7 @@ use Rattle.river_base.specs.declared.kind.QueueType.{QueueType}
 use Rattle.river_base.specs.declared.kind.QueueType.TheVariants.{Flat}
 use Rattle.work_code.specs.Term.{Term}
 use Rattle.river_kernels.specs.declared.limit.Limit.{Limit}
-use Rattle.river_kernels.specs.declared.limit.Limit.TheVariants.{Inputs, Operators, Queues, Variables, Ports, Statements, Slots, Rates, Weights, Nesting}
-use Rattle.river_kernels.specs.declared.limit.Limit.TheVariants.{Latest, Best}
+use Rattle.river_kernels.specs.declared.limit.Limit.TheVariants.{Inputs, Operators, Queues, Variables, Ports, Statements, Slots, Rates, Weights, Nesting, Latest, Best}
 use Rattle.river_kernels.specs.Limits.{part_numbers, nesting}
 use Rattle.river_kernels.specs.Formed.{is_width, is_term}
 use Rattle.river_kernels.specs.Fits.{Fits, spliced, is_sized, is_bag, width_of}
@@ -36,18 +35,30 @@ use Rattle.brooklet_model.specs.Histories.{History, lists_of, given_on, written,
 use Rattle.brooklet_model.proofs.Lists.{funext}
 use Rattle.brooklet_model.proofs.Ports.{counts, length-spliced}
 use Rattle.brooklet_model.proofs.Solutions.{stays, written_out, plan_solves}
-use Rattle.plan_edits.specs.Lists.{retyped}
-use Rattle.plan_edits.specs.Meaning.{SameMeaning, AreTypedHistories}
-use Rattle.rw_local.specs.Hoist.{first_width, raised, lowered, hoisted_plan, MayHoist}
-use Rattle.plan_edits.proofs.Edit.{Edit, Cut, cut_of, edit_of, Stays, sum_old, sum_new, Parts, parts, together, reordered, edited, edited_adds}
+use Rattle.plan_edits.specs.Lists.{retyped, first_with}
+use Rattle.plan_edits.specs.Meaning.{SameMeaning}
+use Rattle.plan_edits.proofs.MeaningSame.{AreTypedHistories}
+use Rattle.rw_local.specs.Hoist.{first_width, raised, lowered, hoisted_plan, passes}
+use Rattle.rw_local.proofs.Edit.{Edit, Cut, cut_of, edit_of, Stays, sum_old, sum_new, Parts, parts, together, reordered, edited, edited_adds}
 use Rattle.plan_edits.proofs.Lookups.{map_agree}
-use Rattle.plan_edits.proofs.Types.{each_fits, kind_last, tables_length, flat_each, each_flat, map_each, each_map, all_one, total_length}
+use Rattle.rw_local.proofs.Types.{each_fits, kind_last, tables_length, flat_each, each_flat, map_each, each_map, all_one, total_length}
 use Rattle.rw_local.proofs.FuseLaw.{names_of}
 use Rattle.rw_local.proofs.FuseLemmas.{map-spliced, one_counted}
 use Rattle.rw_local.proofs.HoistLemmas.{moved_count, spliced_same, lists_moved, reads_of, found_too, only_one}
 use Rattle.rw_local.proofs.HoistLemmas.{retyped_names, retyped_other, retyped_here, kind_there, retyped_length, all_retyped}
 use Rattle.rw_local.proofs.PassCases.{with_at, Passed, passed, passed_tables, passed_fits, passed_commutes, Commutes}
 use Rattle.rw_local.proofs.Passing.{sift, all_select}
+
+-- the step is accepted, with this selection and the operator that feeds it
+pub record MayHoist (p : PlanForm) (l : Name) (u b : OpForm) (t : Term) (side : ℕ) (t' : Term) (src mid out : Name) : Type 0 where
+  pub here : first_with (named_it l) p.ops ≡ Some u
+  pub selects : u.kernel ≡ select t
+  pub reads : slice_get u.reads 0 ≡ Some mid
+  pub writes : slice_get u.writes 0 ≡ Some out
+  pub below : first_with (writes_it mid) p.ops ≡ Some b
+  pub only : length b.writes ≡ 1
+  pub passes : passes (first_width (map (kind_of (all_decls p)) b.reads)) b.kernel t ≡ Ok (side, t')
+  pub source : slice_get b.reads side ≡ Some src
 
 -- a selection has one input, one output and no variable, and both queues have its type
 pub record IsSelection (kind : Name → QueueType) (var : Name → VarKind) (u : OpForm) (mid out : Name) : Type 0 where

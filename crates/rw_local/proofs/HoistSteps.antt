@@ -14,11 +14,13 @@ use Rattle.river_plan.specs.Valid.{IsPlan}
 use Rattle.plan_edits.specs.declared.unfit.Unfit.{Unfit}
 use Rattle.plan_edits.specs.declared.unfit.Unfit.TheVariants.{H1, H2}
 use Rattle.plan_edits.specs.Lists.{first_with}
-use Rattle.plan_edits.specs.Meaning.{SameOuter, SameMeaning, AreTypedHistories}
+use Rattle.plan_edits.specs.Meaning.{SameOuter, SameMeaning}
+use Rattle.plan_edits.proofs.MeaningSame.{AreTypedHistories}
 use Rattle.brooklet_model.proofs.TypedPlan.{typed_law}
 use Rattle.plan_edits.proofs.MeaningSame.{meaning_same}
 use Rattle.rw_local.specs.Hoist.{first_width, passes, hoisted_plan, hoist_at, hoist_passed, hoist_past, hoist_between, hoist_kernel, hoist_found, hoist_of}
-use Rattle.rw_local.specs.Hoist.{HoistKeeps, MayHoist}
+use Rattle.rw_local.specs.Hoist.{HoistKeeps}
+use Rattle.rw_local.proofs.HoistLaw.{MayHoist}
 use Rattle.rw_local.proofs.HoistLaw.{hoist_keeps}
 
 -- what an accepted hoisting found

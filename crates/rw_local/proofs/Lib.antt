@@ -1,6 +1,8 @@
 pub mod Becoming
 pub mod CodeLemmas
 pub mod Cuts
+pub mod Edit
+pub mod Examples
 pub mod Fields
 pub mod FuseCode
 pub mod FuseJudged
@@ -12,9 +14,11 @@ pub mod HoistJudged
 pub mod HoistLaw
 pub mod HoistLemmas
 pub mod HoistSteps
-pub mod Examples
+pub mod NameLoops
 pub mod OpLemmas
+pub mod OpLoops
 pub mod OtherKernels
 pub mod PassCases
 pub mod Passing
 pub mod Selected
+pub mod Types

@@ -1,5 +1,5 @@
 -- Two operators become one.
-use Rattle.std.specs.Prelude.{◌≡◌, ◌<◌, ◌≤◌, Bool, ◌||◌, nat_lt, nat_eq, if◌then◌else◌, Option, Some, None, Result, Ok, Err, List, [], ◌∷◌, ◌++◌, length}
+use Rattle.std.specs.Prelude.{◌≡◌, Bool, ◌||◌, nat_lt, nat_eq, if◌then◌else◌, Option, Some, None, Result, Ok, Err, List, [], ◌∷◌, ◌++◌, length}
 use Rattle.std.specs.List.{list_any}
 use Rattle.river_base.specs.declared.item.Item as item
 use Rattle.river_kernels.specs.Kern.{fused}
@@ -52,15 +52,6 @@ fuse_found p q (Some w) (Some r) = fuse_two p q w r
 -- the plan with the writer and the reader of a queue in one, or the first condition that fails
 abbrev pub fuse_of : PlanForm → Name → Result PlanForm Unfit
 fuse_of p q = if nat_lt 0 (count q (queue_names p)) then fuse_found p q (first_with (writes_it q) p.ops) (first_with (reads_it q) p.ops) else Err U1
-
--- the step is accepted, with this writer and this reader
-pub record MayFuse (p : PlanForm) (q : Name) (w r : OpForm) : Type 0 where
-  pub writer : first_with (writes_it q) p.ops ≡ Some w
-  pub reader : first_with (reads_it q) p.ops ≡ Some r
-  pub only_input : length r.reads ≡ 1
-  pub nested : nesting (fused_op q w r).kernel ≤ 32
-  pub ports : length (fused_op q w r).writes ≤ 64
-  pub apart : (v : Name) → 0 < count v w.vars → count v r.vars ≡ 0
 
 -- What is fused is a valid plan with the same inputs, outputs and tables, and means the same on all inputs that fit.
 abbrev pub FuseKeeps : Type 0

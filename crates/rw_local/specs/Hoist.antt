@@ -159,14 +159,3 @@ abbrev pub HoistKeeps : Type 0
 HoistKeeps =
     (p p' : PlanForm) (l : Name) → IsPlan p → hoist_of p l ≡ Ok p'
     → IsPlan p' × SameOuter p p' × ((inputs : List (List item.Item)) → AreInputs p.inputs inputs → meaning p' inputs ≡ meaning p inputs)
-
--- the step is accepted, with this selection and the operator that feeds it
-pub record MayHoist (p : PlanForm) (l : Name) (u b : OpForm) (t : Term) (side : ℕ) (t' : Term) (src mid out : Name) : Type 0 where
-  pub here : first_with (named_it l) p.ops ≡ Some u
-  pub selects : u.kernel ≡ select t
-  pub reads : slice_get u.reads 0 ≡ Some mid
-  pub writes : slice_get u.writes 0 ≡ Some out
-  pub below : first_with (writes_it mid) p.ops ≡ Some b
-  pub only : length b.writes ≡ 1
-  pub passes : passes (first_width (map (kind_of (all_decls p)) b.reads)) b.kernel t ≡ Ok (side, t')
-  pub source : slice_get b.reads side ≡ Some src

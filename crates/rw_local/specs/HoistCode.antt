@@ -1,16 +1,16 @@
 -- What the code of hoisting speaks of.
-use Rattle.std.specs.Prelude.{◌≡◌, ℕ, Option, Some, None, Result, Ok, Err, slice_get}
+use Rattle.std.specs.Prelude.{◌≡◌, ℕ, Option, Some, Result, Ok, Err, slice_get}
 use Rattle.work_code.specs.declared.expr.Expr.{Expr}
 use Rattle.work_code.specs.Term.{Term, term, terms}
-use Rattle.river_kernels.specs.Kern.{Kern, select}
+use Rattle.river_kernels.specs.Kern.{select}
 use Rattle.river_plan.specs.Forms.{Name, OpForm, PlanForm}
 use Rattle.river_plan.specs.Uses.{named_it}
 use Rattle.plan_edits.specs.Lists.{first_with}
 use Rattle.plan_edits.specs.declared.unfit.Unfit.{Unfit}
-use Rattle.plan_edits.specs.declared.unfit.Unfit.TheVariants.{NoMemory, H1}
+use Rattle.plan_edits.specs.declared.unfit.Unfit.TheVariants.{NoMemory}
 use Rattle.rw_local.specs.declared.exprs.Fields.{Fields}
 use Rattle.rw_local.specs.declared.exprs.Fields.TheVariants.{Projection, First, Second}
-use Rattle.rw_local.specs.Hoist.{of_projection, of_first, of_second, hoist_kernel}
+use Rattle.rw_local.specs.Hoist.{of_projection, of_first, of_second}
 
 abbrev pub field_behind : Fields → ℕ → Option ℕ
 field_behind (Projection es) = of_projection (terms es.now)
@@ -22,11 +22,6 @@ abbrev pub IsPassing : Result (ℕ × Term) Unfit → Result (ℕ × Expr) Unfit
 IsPassing told (Ok x) = told ≡ Ok (x.0, term x.1)
 IsPassing told (Err NoMemory) = Unit {0}
 IsPassing told (Err f) = told ≡ Err f
-
--- the condition of a selection; of other kernels the step is refused
-abbrev pub IsCondition : Kern → Option Expr → Type 0
-IsCondition k (Some e) = k ≡ select (term e)
-IsCondition k None = (p : PlanForm) (u : OpForm) → hoist_kernel p u k ≡ Err H1
 
 -- the first operator of this label selects by this condition, and these are the first queues that it reads and writes
 pub record SelectsAt (p : PlanForm) (l : Name) (u : OpForm) (t : Term) (mid out : Name) : Type 0 where

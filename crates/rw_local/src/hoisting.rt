@@ -22,7 +22,7 @@ use plan_edits::{Unfit, kind_of, plan_of};
 use river_base::{Duplicate, Name, NoMemory};
 use river_plan::{Decl, Decls, Kernel, Names, Op, Ops, Plan, QueueType, RawPlan};
 use std::alloc::Global;
-use work_code::Expr;
+use work_code::{Expr, Formula};
 
 // A selection, with its condition, its input and its output.
 #[derive(Clone, Copy)]
@@ -189,12 +189,13 @@ fn add_pair(alloc: Global, all: &mut Ops, pair: &Pair<'_>) -> Result<(), NoMemor
 fn raised(alloc: Global, pair: &Pair<'_>) -> Result<Op, NoMemory>
     ensures { let x = pair.now in IfOk result (λ op. op_form op ≡ raised (op_form x.above.now) (term x.cond.now) x.src x.mid) }
 {
+    let cond = Formula::of(alloc, pair.cond.copy(alloc)?)?;
     Ok(Op {
         label: pair.above.label,
-        reads: one(alloc, pair.src)?,
-        writes: one(alloc, pair.mid)?,
+        reads: Names::one(alloc, pair.src)?,
+        writes: Names::one(alloc, pair.mid)?,
         vars: pair.above.vars.copy(alloc)?,
-        kernel: Kernel::Select(pair.cond.copy(alloc)?),
+        kernel: Kernel::Select(cond),
     })
 }
 
@@ -207,19 +208,10 @@ fn lowered(alloc: Global, pair: &Pair<'_>) -> Result<Op, NoMemory>
     Ok(Op {
         label: below.label,
         reads: spliced(alloc, pair.side, &below.reads, &[pair.mid])?,
-        writes: one(alloc, pair.out)?,
+        writes: Names::one(alloc, pair.out)?,
         vars: below.vars.copy(alloc)?,
         kernel: below.kernel.copy(alloc)?,
     })
-}
-
-// The list of this name.
-fn one(alloc: Global, name: Name) -> Result<Names, NoMemory>
-    ensures { IfOk result (λ names. names ≡ name ∷ []) }
-{
-    let mut names = Names::new(alloc);
-    names.push(name)?;
-    Ok(names)
 }
 
 // The first name.
@@ -272,7 +264,7 @@ fn condition(kernel: &Kernel) -> Option<&Expr>
         (λ e. kern_of kernel.now ≡ select (term e.now)) }
 {
     match kernel {
-        Kernel::Select(cond) => Some(cond),
+        Kernel::Select(cond) => Some(cond.expr()),
         _ => None,
     }
 }

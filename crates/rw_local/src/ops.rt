@@ -1,5 +1,5 @@
 // Operators that write and read a queue, and two as one.
-ghost use Rattle.std.specs.Prelude.{◌≡◌, ◌<◌, ◌≤◌, ◌^◌, IfOk, OnOk, [], ◌∷◌, ◌++◌, MatchOption, Some, None, length};
+ghost use Rattle.std.specs.Prelude.{◌≡◌, ◌<◌, ◌^◌, IfOk, OnOk, [], ◌∷◌, ◌++◌, MatchOption, Some, None, length};
 ghost use Rattle.river_kernels.specs.Kern.{kern_of, fused};
 ghost use Rattle.river_plan.specs.Forms.{op_form, op_forms};
 ghost use Rattle.river_plan.specs.Names.{count};

@@ -1,5 +1,4 @@
 // Which operators a selection passes.
-ghost use Rattle.std.specs.Prelude.{◌≡◌};
 ghost use Rattle.work_code.specs.Term.{term, terms};
 ghost use Rattle.river_kernels.specs.Kern.{kern_of};
 ghost use Rattle.rw_local.specs.Hoist.{passes, refielded, of_projection, of_first, of_second, at_side, either_side, or_h4};
@@ -24,7 +23,7 @@ pub(crate) fn passes(
     match kernel {
         Kernel::Window(Window::Latest(_)) => Err(Unfit::H3),
         Kernel::Window(_) | Kernel::Streamer(_) => Ok((0, cond.copy(alloc)?)),
-        Kernel::Project(exprs) => past_projection(alloc, exprs, cond),
+        Kernel::Project(list) => past_projection(alloc, list.exprs(), cond),
         Kernel::Cross => past_cross(alloc, width, cond),
         _ => Err(Unfit::H3),
     }

@@ -35,7 +35,7 @@ use Rattle.saw_text.specs.declared.tree.Unit as tree
 use Rattle.saw_text.proofs.Texts.{text-read, text-reads, units-first, units-told, units-reads}
 use Rattle.saw_front.specs.declared.fault.SawFault.{SawFault}
 use Rattle.saw_front.specs.declared.fault.SawFault.TheVariants.{Text, UnknownName, NameTwice, Shape, Limit, NoMemory}
-use Rattle.saw_front.specs.Laws.{HasFault, Has, MeansWhatItHas, PlansMean}
+use Rattle.saw_front.specs.Laws.{HasProgramFault, Has, MeansWhatItHas, PlansMean}
 use Rattle.saw_front.specs.Meaning.{Accepted, program_in, fault_at, or_fault, accepted, then_judged, of_tokens, then_read, compiled, Plans, Refused}
 use Rattle.saw_front.specs.Building.{PlansBy}
 use Rattle.saw_front.specs.Valued.{AreValuedUnits}
@@ -61,7 +61,7 @@ lexed-means : (text : List ℕ) (fault : LexFault) → tokens_in text ≡ Err fa
 unfolding compiled
 lexed-means text fault e = ap then_read e
 
-fault-means : (text : List ℕ) (fault : SawFault) → HasFault text fault → compiled text ≡ Err fault
+fault-means : (text : List ℕ) (fault : SawFault) → HasProgramFault text fault → compiled text ≡ Err fault
 fault-means text fault (us, e, t, j, is) = stands-means text us t ∙ ap (or_fault us) ((refused_at_first us e).1 j) ∙ ap Err (sym is)
 
 has-means : (text : List ℕ) (meant : Result Accepted SawFault) → Has text meant → compiled text ≡ meant

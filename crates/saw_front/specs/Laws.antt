@@ -18,8 +18,8 @@ use Rattle.saw_front.specs.declared.fault.SawFault.TheVariants.{Text, NoMemory}
 use Rattle.saw_front.specs.Meaning.{Accepted, program_in, plan_in, fault_at, compiled}
 
 -- the grammar has the text for units, and the first of their places that has a fault has this one, in this unit
-abbrev pub HasFault : List ℕ → SawFault → Type 0
-HasFault text fault = (us : List UnitForm) × (e : Refusal) × IsText text us × IsFaultOf us e.unit e.fault × (fault ≡ fault_at e.unit e.fault)
+abbrev pub HasProgramFault : List ℕ → SawFault → Type 0
+HasProgramFault text fault = (us : List UnitForm) × (e : Refusal) × IsText text us × IsFaultOf us e.unit e.fault × (fault ≡ fault_at e.unit e.fault)
 
 -- the grammar has the text for units that are accepted, or that have a fault; or it has a first unit that is not in the grammar, or a
 -- first fault of its bytes
@@ -29,7 +29,7 @@ Has text (Err (Text (BadByte at))) = tokens_in text ≡ Err (lex.BadByte at)
 Has text (Err (Text (BigNumber at))) = tokens_in text ≡ Err (lex.BigNumber at)
 Has text (Err (Text (Syntax unit))) = IsBadAt text unit
 Has text (Err NoMemory) = ⊥
-Has text (Err fault) = HasFault text fault
+Has text (Err fault) = HasProgramFault text fault
 
 -- that is what a text means
 abbrev pub MeansWhatItHas : Type 0

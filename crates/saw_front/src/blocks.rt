@@ -1,14 +1,13 @@
 // Blocks.
-ghost use Rattle.std.specs.Prelude.{◌≡◌};
 ghost use Rattle.saw_model.specs.Elaborate.{step_of, steps_of, steps_optional};
 ghost use Rattle.saw_text.specs.Tree.{statement, block, or_unwritten};
 ghost use Rattle.saw_text.specs.View.{option_block};
 ghost use Rattle.saw_front.specs.Judging.{at_of, Reads, ReadsArm};
 ghost use Rattle.saw_front.specs.Valued.{IsValued, AreValued, AreValuedOptional};
 
-use crate::unit_fault::Fault;
 use crate::judge::Judge;
 use crate::term::term;
+use crate::unit_fault::Fault;
 use saw_text::{Block, Statement};
 use std::alloc::Global;
 use work_code::{Stmt, Stmts};

@@ -12,11 +12,10 @@ ghost use Rattle.saw_front.specs.Judging.{Told};
 ghost use Rattle.saw_front.specs.Meaning.{accepted, or_fault, of_tokens, compiled, Plans, Refused};
 ghost use Rattle.saw_front.specs.Valued.{AreValuedUnits};
 
-use crate::{SawFault, SawProgram};
+use crate::{Fault, Refusal, SawFault, SawProgram, raw_plan};
 use plan_check::check;
 use river_base::{Bytes, NoMemory};
 use river_plan::{Plan, PlanFault, RawPlan};
-use crate::{Fault, Refusal, raw_plan};
 use saw_text::{Unit, read_sawzall};
 use std::alloc::Global;
 use text_forms::{Refusal as TextRefusal, UnitFault};

@@ -4,10 +4,10 @@ ghost use Rattle.saw_model.specs.Elaborate.{counted, find, is_new, slot_of, tabl
 ghost use Rattle.saw_front.specs.View.{Judges};
 ghost use Rattle.saw_front.specs.Judging.{at_of};
 
-use crate::unit_fault::Fault;
 use crate::names::{Known, Names};
+use crate::unit_fault::Fault;
 use kern_tables::TableKind;
-use river_base::Name;
+use river_base::{MOST_STATEMENTS, Name};
 use std::alloc::Global;
 
 /// What is known where the reading stands, and how many slots, statements and tables there were.
@@ -46,7 +46,7 @@ impl Judge {
         ensures judged { Judges (λ _. at_of self.new) result (counted (at_of self.old)) }
         ensures names { self.new.names ≡ self.old.names }
     {
-        if self.size < 16384 {
+        if self.size < MOST_STATEMENTS {
             self.size += 1;
             Ok(())
         } else {

@@ -12,8 +12,8 @@ ghost use Rattle.saw_model.specs.Plan.{queue_name, tally_name, queues_of, queue_
 ghost use Rattle.saw_text.specs.Tree.{unit_form, unit_forms};
 ghost use Rattle.saw_front.specs.Plans.{IsListed, AreListed, widths, tally_ops, map_form, plan_lists};
 
-use crate::units::kind_of;
 use crate::reach::reach_units;
+use crate::units::kind_of;
 use kern_rows::CodeKernel;
 use kern_tables::TableKind;
 use river_base::{Bytes, FlatType, Name, NoMemory, Numbers, QueueType};
@@ -243,7 +243,12 @@ fn width(units: &[Unit]) -> u32
 }
 
 /// The lists of the plan of a program whose body is this, with so many slots.
-pub fn lists(alloc: Global, units: &[Unit], body: Stmts, slots: u32) -> Result<RawPlan, NoMemory>
+pub(crate) fn lists(
+    alloc: Global,
+    units: &[Unit],
+    body: Stmts,
+    slots: u32,
+) -> Result<RawPlan, NoMemory>
     requires listed { AreListed (tables_in (unit_forms units.now)) }
     requires wide { width (unit_forms units.now) < 2 ^ 32 }
     ensures { (at : At) → at.slots ≡ slots → IfOk result (λ raw. plan_form raw ≡ plan_of (unit_forms units.now) (steps body, at)) }

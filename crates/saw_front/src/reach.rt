@@ -113,7 +113,7 @@ fn reach_unit(unit: &Unit) -> u64
 }
 
 /// Those that all units read.
-pub fn reach_units(units: &[Unit]) -> u64
+pub(crate) fn reach_units(units: &[Unit]) -> u64
     ensures { result ≡ reach_parts (unit_forms units.now) }
 {
     let mut most = 0;

@@ -10,12 +10,12 @@ ghost use Rattle.saw_front.specs.View.{option_terms, Judges};
 ghost use Rattle.saw_front.specs.Judging.{at_of, Reads, row_of};
 ghost use Rattle.saw_front.specs.Valued.{AreValues, AllValues};
 
-use crate::unit_fault::Fault;
 use crate::judge::Judge;
 use crate::names::Known;
 use crate::term::term;
+use crate::unit_fault::Fault;
 use kern_tables::TableKind;
-use river_base::Name;
+use river_base::{MOST_SLOTS, Name};
 use saw_text::Expr as Written;
 use std::alloc::Global;
 use work_code::{Expr, Exprs, Stmt, Stmts};
@@ -46,7 +46,7 @@ impl Judge {
         self.counted()?;
         self.new_name(&name)?;
         let slot = self.slots;
-        if slot >= 256 {
+        if slot >= MOST_SLOTS {
             return Err(Fault::Limit);
         }
         let value = self.first_term(alloc, value)?;

@@ -1,13 +1,13 @@
 // Expressions, where names are known.
-ghost use Rattle.std.specs.Prelude.{◌≡◌, ◌<◌, ◌^◌};
+ghost use Rattle.std.specs.Prelude.{◌<◌};
 ghost use Rattle.work_code.specs.Term.{term};
 ghost use Rattle.saw_model.specs.Elaborate.{term_of};
 ghost use Rattle.saw_text.specs.Tree.{expression};
 ghost use Rattle.saw_front.specs.View.{scope_of, Judges};
 ghost use Rattle.saw_front.specs.Valued.{AreValues};
 
-use crate::unit_fault::Fault;
 use crate::names::{Known, Names};
+use crate::unit_fault::Fault;
 use saw_text::Expr as Written;
 use std::alloc::Global;
 use work_code::Expr;

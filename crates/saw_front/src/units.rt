@@ -8,16 +8,17 @@ ghost use Rattle.saw_front.specs.View.{Judges};
 ghost use Rattle.saw_front.specs.Judging.{at_of, fits_of, kind_within, Reads, ReadsTable, JudgesAll};
 ghost use Rattle.saw_front.specs.Valued.{IsValuedUnit, AreValuedUnits};
 
-use crate::unit_fault::Fault;
 use crate::judge::{Judge, Refusal};
 use crate::names::Known;
+use crate::unit_fault::Fault;
 use kern_tables::TableKind;
+use river_base::MOST_KEPT;
 use saw_text::{Kind, Table, Unit};
 use std::alloc::Global;
 use work_code::Stmts;
 
 /// The kind of a table that has so many keys.
-pub fn kind_of(kind: Kind, keys: u32) -> TableKind
+pub(crate) fn kind_of(kind: Kind, keys: u32) -> TableKind
     ensures { result ≡ table_kind_of kind keys }
 {
     match kind {
@@ -33,7 +34,7 @@ fn is_best(kind: TableKind) -> bool
 {
     match kind {
         TableKind::Sum { .. } | TableKind::Collection { .. } => true,
-        TableKind::Maximum { best, .. } => 1 <= best && best <= 1_000_000,
+        TableKind::Maximum { best, .. } => 1 <= best && best <= MOST_KEPT,
     }
 }
 

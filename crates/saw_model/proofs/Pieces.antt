@@ -18,7 +18,6 @@ use Rattle.kern_tables.proofs.Pieces.{tables_merge, all_printed, first_rows, sam
 use Rattle.kern_tables.proofs.Tabs.{tables_are_of_bags}
 use Rattle.river_plan.specs.declared.plan.TableDecl.{TableDecl}
 use Rattle.river_plan.proofs.NameLemmas.{name_same}
-use Rattle.saw_text.specs.Tree.{Expression}
 use Rattle.saw_text.specs.Tree as tree
 use Rattle.saw_text.specs.Tree.{TableUnit, StatementUnit, Program}
 use Rattle.saw_model.specs.Meaning.{tables_in, width, table_kind, table_kind_of, table_decl, program_tables, eval_all, emit_row, Store, Emitted, emits, rows_for}

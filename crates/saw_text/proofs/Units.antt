@@ -16,7 +16,7 @@ use Rattle.saw_text.specs.Grammar.{nameless, field_named, IsField, IsKind, is_fi
 use Rattle.saw_text.specs.Grammar.{IsUnit, IsUnitAt}
 use Rattle.saw_text.specs.Reading.{named_field_at, field_after, field_at, column_at, columns_at, best_at, kind_after, kind_at}
 use Rattle.saw_text.specs.Reading.{weight_field_at, in_table_at, table_at, typed_after, typed_at, unit_named, unit_after, unit_at, unit_from}
-use Rattle.text_blocks.specs.Exact.{NoElse}
+use Rattle.text_blocks.proofs.Statements.{NoElse}
 use Rattle.text_blocks.specs.Parts.{Round, Square}
 use Rattle.text_blocks.proofs.Parts.{exact-round, exact-square}
 use Rattle.text_blocks.proofs.Statements.{exact-rest}

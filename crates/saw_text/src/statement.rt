@@ -17,7 +17,7 @@ use text_tokens::Symbol;
 
 /// What stands behind `NAME: int`.
 #[tactic(auto, unfolding(crate::specs::Blocks::declare_at), using(crate::proofs::Trees::trees))]
-pub fn declare(
+pub(crate) fn declare(
     reader: &mut Reader<'_>,
     alloc: Global,
     brackets: u32,
@@ -35,7 +35,7 @@ pub fn declare(
 
 /// What stands behind the name of an assignment.
 #[tactic(auto, unfolding(crate::specs::Blocks::assign_at), using(crate::proofs::Trees::trees))]
-pub fn assign(
+pub(crate) fn assign(
     reader: &mut Reader<'_>,
     alloc: Global,
     brackets: u32,

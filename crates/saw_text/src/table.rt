@@ -138,7 +138,7 @@ fn in_table(
 
 /// What stands behind `NAME: table`.
 #[tactic(auto, unfolding(crate::specs::Reading::table_at))]
-pub fn table(
+pub(crate) fn table(
     reader: &mut Reader<'_>,
     alloc: Global,
     brackets: u32,

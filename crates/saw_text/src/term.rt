@@ -10,8 +10,8 @@ use river_base::NoMemory;
 use std::alloc::Global;
 use text_blocks::{Sign, Terms, place, take_sign};
 use text_forms::{ParseFault, Reader, is};
-use work_code::BinOp;
 use text_tokens::Token;
+use work_code::BinOp;
 
 // A leaf that begins with this name.
 #[tactic(auto, unfolding(crate::specs::Expressions::named))]
@@ -50,7 +50,7 @@ fn leaf(reader: &mut Reader<'_>, brackets: u32) -> Result<Expr, ParseFault>
 }
 
 /// The language, for the readers of expressions and of statements of any language.
-pub struct SawzallGrammar;
+pub(crate) struct SawzallGrammar;
 
 impl Terms for SawzallGrammar {
     ghost use Rattle.saw_text.specs.Expressions.{marks, deepest, leaf_at};

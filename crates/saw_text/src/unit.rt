@@ -1,5 +1,4 @@
 // Units read.
-ghost use Rattle.std.specs.Prelude.{◌≡◌};
 ghost use Rattle.text_forms.specs.Gives.{Gives};
 ghost use Rattle.saw_text.specs.Reading.{typed_at, unit_named, unit_at};
 ghost use Rattle.saw_text.specs.Tree.{unit_form};
@@ -17,7 +16,12 @@ use text_tokens::Symbol;
 
 // What stands behind `NAME:`.
 #[tactic(auto, unfolding(crate::specs::Reading::typed_at, crate::specs::Reading::typed_after))]
-fn typed(reader: &mut Reader<'_>, alloc: Global, brackets: u32, name: Name) -> Result<Unit, ParseFault>
+fn typed(
+    reader: &mut Reader<'_>,
+    alloc: Global,
+    brackets: u32,
+    name: Name,
+) -> Result<Unit, ParseFault>
     ensures { Gives unit_form result reader.new (typed_at name brackets reader.old) }
 {
     let word = reader.name()?;
@@ -32,7 +36,12 @@ fn typed(reader: &mut Reader<'_>, alloc: Global, brackets: u32, name: Name) -> R
 
 // What stands behind the name of a table or a local.
 #[tactic(auto, unfolding(crate::specs::Reading::unit_named))]
-fn named(reader: &mut Reader<'_>, alloc: Global, brackets: u32, name: Name) -> Result<Unit, ParseFault>
+fn named(
+    reader: &mut Reader<'_>,
+    alloc: Global,
+    brackets: u32,
+    name: Name,
+) -> Result<Unit, ParseFault>
     ensures { Gives unit_form result reader.new (unit_named name brackets reader.old) }
 {
     if !reader.is_at(Symbol::Colon) {

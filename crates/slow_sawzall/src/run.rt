@@ -15,7 +15,7 @@ use std::alloc::Global;
 /// Where the run stands: the values of the locals that were set for a record, and the rows that all records emitted so far,
 /// each with its table.
 #[derive(Drop)]
-pub struct Run {
+pub(crate) struct Run {
     pub locals: Vec<(Name, i64)>,
     pub emitted: Vec<(Name, Row)>,
 }

@@ -33,7 +33,7 @@ fn value_of(locals: &[(Name, i64)], name: &Name) -> i64
 }
 
 /// Sets a local to a value.
-pub fn set(locals: &mut Vec<(Name, i64)>, name: Name, value: i64) -> Result<(), NoMemory>
+pub(crate) fn set(locals: &mut Vec<(Name, i64)>, name: Name, value: i64) -> Result<(), NoMemory>
     ensures { OnOk result (named_values locals.new.items ≡ at_name name value (named_values locals.old.items)) }
 {
     for i in 0..locals.len() {
@@ -47,7 +47,7 @@ pub fn set(locals: &mut Vec<(Name, i64)>, name: Name, value: i64) -> Result<(), 
 }
 
 /// The value of an expression.
-pub fn value(e: &Expr, row: &Row, locals: &[(Name, i64)]) -> i64
+pub(crate) fn value(e: &Expr, row: &Row, locals: &[(Name, i64)]) -> i64
     requires { AreValues (expression e.now) }
     ensures { result ≡ value_said (expression e.now) row.now (named_values locals.now) }
 {
@@ -66,7 +66,7 @@ pub fn value(e: &Expr, row: &Row, locals: &[(Name, i64)]) -> i64
 }
 
 /// The value of an expression, where there is one; otherwise 0.
-pub fn first_value(e: &Option<Expr>, row: &Row, locals: &[(Name, i64)]) -> i64
+pub(crate) fn first_value(e: &Option<Expr>, row: &Row, locals: &[(Name, i64)]) -> i64
     requires { AllValues (listed (option_expression e.now)) }
     ensures { result ≡ eval_or (pos 0) (option_expression e.now) row.now (named_values locals.now) }
 {

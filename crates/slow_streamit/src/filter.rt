@@ -13,7 +13,11 @@ use std::alloc::Global;
 use streamit_text::{Block, FilterTree, Rates, WorkTree};
 
 /// What a filter pushes.
-pub fn pushed_by(alloc: Global, tree: &FilterTree, items: &[i64]) -> Result<Numbers, NoMemory>
+pub(crate) fn pushed_by(
+    alloc: Global,
+    tree: &FilterTree,
+    items: &[i64],
+) -> Result<Numbers, NoMemory>
     requires { IsReadable (filter_tree tree.now) }
     ensures { IfOk result (λ out. out ≡ pushed_by (filter_tree tree.now) items.now) }
 {
@@ -197,7 +201,7 @@ fn fire_anew(
 }
 
 /// Appends values.
-pub fn add_values(more: &[i64], values: &mut Numbers) -> Result<(), NoMemory>
+pub(crate) fn add_values(more: &[i64], values: &mut Numbers) -> Result<(), NoMemory>
     ensures { OnOk result (values.new ≡ values.old ++ more.now) }
 {
     for value in more {

@@ -18,7 +18,7 @@ use work_code::{BinOp, apply, negate, truth_of};
 
 /// The values of names. A name that has none stands for 0.
 #[derive(Drop)]
-pub struct Store {
+pub(crate) struct Store {
     known: IndexMap<Name, i64>,
 }
 
@@ -53,7 +53,7 @@ impl Store {
 
 /// Where a firing stands: the values of names, how many items it popped, and the values that it pushed.
 #[derive(Drop)]
-pub struct Firing {
+pub(crate) struct Firing {
     pub values: Store,
     pub popped: usize,
     pub pushed: Numbers,

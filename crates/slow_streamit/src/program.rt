@@ -1,5 +1,5 @@
 // What a StreamIt program means: each stream by itself, on all the items of its input at once.
-ghost use Rattle.std.specs.Prelude.{◌≡◌, ◌≤◌, ◌+◌, suc, length, [], ◌∷◌, ◌++◌, IfOk, OnOk};
+ghost use Rattle.std.specs.Prelude.{◌≡◌, ◌+◌, suc, length, [], ◌∷◌, ◌++◌, IfOk, OnOk};
 ghost use Rattle.streamit_model.specs.Laws.{as_items};
 ghost use Rattle.brooklet_model.specs.ByIndex.{collected};
 ghost use Rattle.streamit_model.specs.Meaning.{known_works, body_works, piped, share_of, weights_for, program_outputs};
@@ -14,7 +14,7 @@ use kern_rows::ItemLine;
 use river_base::{Flat, Item, Items, Listed, Name, NoMemory, Numbers, Row};
 use std::alloc::Global;
 use streamit_front::StreamitProgram;
-use streamit_text::{Adds, Body, Unit, RoundRobin, Split, SplitJoin};
+use streamit_text::{Adds, Body, RoundRobin, Split, SplitJoin, Unit};
 
 /// What a program means by the definition of StreamIt for these values of its input: the items of its output. There are no
 /// tables, and no firings are counted.
@@ -91,12 +91,7 @@ fn copied(alloc: Global, items: &[i64]) -> Result<Numbers, NoMemory>
 // What the stream of a name gives, among these that are declared: the newest that has the name. A name of no stream gives
 // back what it is given.
 #[cycle(works)]
-fn named(
-    alloc: Global,
-    above: &[Unit],
-    name: Name,
-    items: &[i64],
-) -> Result<Numbers, NoMemory>
+fn named(alloc: Global, above: &[Unit], name: Name, items: &[i64]) -> Result<Numbers, NoMemory>
     requires { AreReadable (unit_forms above.now) }
     ensures { IfOk result (λ out. out ≡ known_works (works_of above.now) name items.now) }
 {
@@ -122,12 +117,7 @@ fn place(above: &[Unit], name: Name) -> Option<usize>
 
 // What is declared gives this, below these streams.
 #[cycle(works)]
-fn works(
-    alloc: Global,
-    above: &[Unit],
-    body: &Body,
-    items: &[i64],
-) -> Result<Numbers, NoMemory>
+fn works(alloc: Global, above: &[Unit], body: &Body, items: &[i64]) -> Result<Numbers, NoMemory>
     requires above { AreReadable (unit_forms above.now) }
     requires body { IsReadableBody (body_of body.now) }
     ensures { IfOk result (λ out. out ≡ body_works (works_of above.now) (body_of body.now) items.now) }
@@ -141,12 +131,7 @@ fn works(
 
 // One stream after another.
 #[cycle(works)]
-fn piped(
-    alloc: Global,
-    above: &[Unit],
-    adds: &Adds,
-    items: &[i64],
-) -> Result<Numbers, NoMemory>
+fn piped(alloc: Global, above: &[Unit], adds: &Adds, items: &[i64]) -> Result<Numbers, NoMemory>
     requires { AreReadable (unit_forms above.now) }
     ensures { IfOk result (λ out. out ≡ piped (works_of above.now) adds.now.first adds.now.others.items items.now) }
 {

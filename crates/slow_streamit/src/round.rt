@@ -1,5 +1,5 @@
 // Splitters and joiners, by the numbers of their items.
-ghost use Rattle.std.specs.Prelude.{◌≡◌, ◌+◌, ◌*◌, ◌/◌, ◌%◌, ◌∷◌, [], replicate, IfOk, nat_eq, slice_index_or};
+ghost use Rattle.std.specs.Prelude.{◌≡◌, ◌+◌, ◌*◌, ◌/◌, ◌%◌, [], replicate, IfOk, nat_eq, slice_index_or};
 ghost use Rattle.brooklet_model.specs.ByIndex.{cycle, part_of_cycle, within, branch, dealt, collected_at, size_of, collected};
 ghost use Rattle.streamit_model.specs.Meaning.{weights_for};
 ghost use Rattle.streamit_text.specs.Program.{weights_of};
@@ -9,7 +9,7 @@ use std::alloc::Global;
 use streamit_text::RoundRobin;
 
 /// The weights of so many branches, where these are written: none stands for 1 each, one for as many each.
-pub fn weights_for(
+pub(crate) fn weights_for(
     alloc: Global,
     written: &RoundRobin,
     branches: usize,
@@ -110,7 +110,7 @@ impl Spot {
 }
 
 /// What a splitter deals to a branch: the items of which it is the branch.
-pub fn dealt(
+pub(crate) fn dealt(
     alloc: Global,
     weights: &[u64],
     branch: usize,
@@ -138,7 +138,11 @@ fn is_dealt(weights: &[u64], size: u64, x: usize, p: usize) -> bool
 }
 
 /// What a joiner collects from its branches: as many places as have their items.
-pub fn collected(alloc: Global, weights: &[u64], branches: &[Numbers]) -> Result<Numbers, NoMemory>
+pub(crate) fn collected(
+    alloc: Global,
+    weights: &[u64],
+    branches: &[Numbers],
+) -> Result<Numbers, NoMemory>
     ensures { IfOk result (λ out. out ≡ collected weights.now branches.now) }
 {
     let cycle = cycle(weights)?;

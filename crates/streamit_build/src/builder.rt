@@ -4,7 +4,7 @@ ghost use Rattle.kern_rows.specs.Forms.{filter_form};
 ghost use Rattle.river_kernels.specs.Kern.{filter};
 ghost use Rattle.river_plan.specs.Forms.{op_form, op_forms};
 ghost use Rattle.streamit_model.specs.Unrolled.{Stream, Streams};
-ghost use Rattle.streamit_model.specs.Plan.{numbered, queue, queues, with_own, splitter, joiner, build, ops_in, queues_in};
+ghost use Rattle.streamit_model.specs.Plan.{numbered, queue, queues, with_own, joiner, build, ops_in, queues_in};
 ghost use Rattle.streamit_build.specs.Units.{splitter_form, declared_forms, AreBelow, AreLower, HaveShortFilters, IsTree, AreTrees, AddsSplitter, Built, BuiltLine, BuiltBranches};
 
 use crate::names::{queue, sum};
@@ -16,7 +16,7 @@ use std::alloc::Global;
 
 /// A stream that is declared; those that it adds are named by their numbers.
 #[derive(Drop)]
-pub enum Declared {
+pub(crate) enum Declared {
     Filter {
         name: Name,
         filter: Filter,
@@ -37,7 +37,7 @@ pub enum Declared {
 
 /// What was built.
 #[derive(Drop)]
-pub struct Made {
+pub(crate) struct Made {
     pub ops: Ops,
     pub next_op: u32,
     pub next_queue: u32,
@@ -173,7 +173,7 @@ impl Made {
 
 /// The operators of stream number i, from one queue to another, behind those that are there.
 #[cycle(build)]
-pub fn build(
+pub(crate) fn build(
     alloc: Global,
     units: &[Declared],
     i: usize,

@@ -1,5 +1,5 @@
 // Judges the units of a program, one after another.
-ghost use Rattle.std.specs.Prelude.{◌≡◌, ◌<◌, ◌≤◌, ◌^◌, length};
+ghost use Rattle.std.specs.Prelude.{◌<◌, ◌≤◌, ◌^◌, length};
 ghost use Rattle.streamit_model.specs.Judged.{Streamed, splitter_of, stream_of, unit_of, all_streams};
 ghost use Rattle.streamit_text.specs.Program.{AFilter, APipeline, filter_tree, dealing_of, adds_of, body_of, unit_form, unit_forms};
 ghost use Rattle.streamit_text.specs.declared.program.Body.TheVariants as tree;
@@ -16,7 +16,7 @@ use crate::streams::few;
 use crate::{Declared, Known};
 use river_base::Name;
 use std::alloc::Global;
-use streamit_text::{Adds, Body, Unit, FilterTree, Split, SplitJoin};
+use streamit_text::{Adds, Body, FilterTree, Split, SplitJoin, Unit};
 use streamit_unroll::{Fault, filter};
 
 /// The fault that comes first, and the number of its unit, from 1.

@@ -8,7 +8,7 @@ use river_plan::Names;
 use std::alloc::Global;
 
 /// A name with a number behind it.
-pub fn numbered(alloc: Global, name: &[u8], number: u32) -> Result<Name, NoMemory>
+pub(crate) fn numbered(alloc: Global, name: &[u8], number: u32) -> Result<Name, NoMemory>
     requires named { IsTrue (is_name name.now) }
     requires short { length name.now ≤ 40 }
     ensures { IfOk result (λ made. made ≡ numbered name.now number) }
@@ -28,7 +28,7 @@ fn text(alloc: Global, name: &[u8], number: u32) -> Result<Bytes, NoMemory>
 }
 
 // The name that has these bytes.
-pub fn name_of(bytes: &[u8]) -> Name
+pub(crate) fn name_of(bytes: &[u8]) -> Name
     requires { IsTrue (is_name bytes.now) }
     ensures { result ≡ bytes.now }
 {
@@ -40,14 +40,14 @@ pub fn name_of(bytes: &[u8]) -> Name
 
 /// The queue with a number.
 #[tactic(auto, unfolding(river_base::specs::Name::is_word, river_base::specs::Name::is_letter, river_base::specs::Name::is_digit))]
-pub fn queue(alloc: Global, number: u32) -> Result<Name, NoMemory>
+pub(crate) fn queue(alloc: Global, number: u32) -> Result<Name, NoMemory>
     ensures { IfOk result (λ name. name ≡ queue number) }
 {
     numbered(alloc, b"q", number)
 }
 
 /// So many queues, the first of which has this number.
-pub fn queues(alloc: Global, first: u32, count: u32) -> Result<Names, NoMemory>
+pub(crate) fn queues(alloc: Global, first: u32, count: u32) -> Result<Names, NoMemory>
     ensures { IfOk result (λ names. names ≡ queues first count) }
 {
     let mut names = Names::new(alloc);
@@ -59,7 +59,7 @@ pub fn queues(alloc: Global, first: u32, count: u32) -> Result<Names, NoMemory>
 }
 
 /// The list of one name.
-pub fn one(alloc: Global, name: Name) -> Result<Names, NoMemory>
+pub(crate) fn one(alloc: Global, name: Name) -> Result<Names, NoMemory>
     ensures { IfOk result (λ names. names ≡ name ∷ []) }
 {
     let mut names = Names::new(alloc);
@@ -68,7 +68,7 @@ pub fn one(alloc: Global, name: Name) -> Result<Names, NoMemory>
 }
 
 /// The sum of two numbers; a plan has not so many parts that there is memory for it where this has no place.
-pub fn sum(a: u32, b: u32) -> Result<u32, NoMemory>
+pub(crate) fn sum(a: u32, b: u32) -> Result<u32, NoMemory>
     ensures { IfOk result (λ n. n ≡ a + b) }
 {
     match a.checked_add(b) {

@@ -14,7 +14,7 @@ use river_plan::{Names, Op};
 use std::alloc::Global;
 
 /// The operator of a filter.
-pub fn filter_op(
+pub(crate) fn filter_op(
     alloc: Global,
     name: &Name,
     body: &Filter,
@@ -54,7 +54,7 @@ fn filtering(
 
 /// The operator of a splitter, which writes n queues from number k on.
 #[tactic(auto, unfolding(river_base::specs::Name::is_word, river_base::specs::Name::is_letter, river_base::specs::Name::is_digit))]
-pub fn split_op(
+pub(crate) fn split_op(
     alloc: Global,
     split: &Option<Vec<u32>>,
     n: u32,
@@ -109,7 +109,7 @@ fn dealing(
 
 /// The operator of a joiner, which reads n queues from number k on.
 #[tactic(auto, unfolding(river_base::specs::Name::is_word, river_base::specs::Name::is_letter, river_base::specs::Name::is_digit))]
-pub fn join_op(
+pub(crate) fn join_op(
     alloc: Global,
     join: &Vec<u32>,
     n: u32,

@@ -15,7 +15,7 @@ ghost use Rattle.streamit_build.specs.Told.{KnowsLast, PlansLast, PlansBy};
 use crate::builder::build;
 use crate::names::name_of;
 use crate::{Entry, Known, Made, Refusal};
-use river_base::{FlatType, Name, NoMemory, QueueType};
+use river_base::{FlatType, MOST_OPERATORS, Name, NoMemory, QueueType};
 use river_plan::{Decl, Decls, Names, Ops, RawPlan};
 use std::alloc::Global;
 use streamit_text::Unit;
@@ -64,7 +64,7 @@ impl Known {
         requires short { HaveShortFilters (declared_forms self.now.declared.items) }
         ensures { (s : Stream) → IsEntry (declared_forms self.now.declared.items) top s → PlansLast result unit s }
     {
-        if top.ops > 256 {
+        if top.ops > MOST_OPERATORS {
             return Err(Refusal {
                 unit,
                 fault: Fault::Limit,

@@ -6,13 +6,13 @@ ghost use Rattle.streamit_model.specs.Judged.{round_of, fitting_round};
 ghost use Rattle.streamit_unroll.specs.View.{Judges};
 ghost use Rattle.streamit_text.specs.Program.{numbers_in, weights_of};
 
-use river_base::NoMemory;
+use river_base::{MOST_ITEMS, NoMemory};
 use std::alloc::Global;
 use streamit_text::RoundRobin;
 use streamit_unroll::Fault;
 
 /// The weights of so many branches, where these are written: none stands for 1 each, one for as many each.
-pub fn round(alloc: Global, written: &RoundRobin, branches: usize) -> Result<Vec<u32>, Fault>
+pub(crate) fn round(alloc: Global, written: &RoundRobin, branches: usize) -> Result<Vec<u32>, Fault>
     requires { 1 ≤ branches }
     ensures { Judges numbers_in result (round_of (weights_of written.now) branches) }
 {
@@ -42,13 +42,13 @@ fn equal(alloc: Global, weight: u64, branches: usize) -> Result<Vec<u32>, Fault>
     if weight == 0 {
         return Err(Fault::Weights);
     }
-    if weight > 65536 {
+    if weight > MOST_ITEMS as u64 {
         return Err(Fault::Limit);
     }
-    if branches > 65536 {
+    if branches > MOST_ITEMS as usize {
         return Err(Fault::Limit);
     }
-    if weight * branches as u64 > 65536 {
+    if weight * branches as u64 > MOST_ITEMS as u64 {
         return Err(Fault::Limit);
     }
     Ok(copies(alloc, weight as u32, branches)?)
@@ -94,7 +94,7 @@ fn has_zero(written: &[u64]) -> bool
 fn is_low(written: &[u64]) -> bool
     ensures { IsTrue result ↔ (cycle written.now ≤ 65536) }
 {
-    let mut left: u64 = 65536;
+    let mut left = MOST_ITEMS as u64;
     for weight in written {
         if *weight > left {
             return false;

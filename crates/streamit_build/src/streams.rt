@@ -17,7 +17,7 @@ use streamit_unroll::Fault;
 
 /// A stream that is known: its number, its operators (257 stands for more), and how deep it is nested.
 #[derive(Clone, Copy)]
-pub struct Entry {
+pub(crate) struct Entry {
     pub number: u32,
     pub ops: u32,
     pub nesting: u32,
@@ -25,14 +25,14 @@ pub struct Entry {
 
 /// The streams that are known.
 #[derive(Drop)]
-pub struct Known {
+pub(crate) struct Known {
     pub entries: IndexMap<Name, Entry>,
     pub declared: Vec<Declared>,
 }
 
 /// The streams that are added to one: all but the last, and the last.
 #[derive(Drop)]
-pub struct Children {
+pub(crate) struct Children {
     pub front: Vec<u32>,
     pub last: u32,
     pub ops: u32,

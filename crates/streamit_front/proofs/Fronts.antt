@@ -42,7 +42,7 @@ use Rattle.streamit_text.proofs.Units.{exact-unit_from}
 use Rattle.streamit_front.specs.declared.fault.StreamitFault.{StreamitFault}
 use Rattle.streamit_front.specs.declared.fault.StreamitFault.TheVariants.{Text, UnknownName, NameTwice, Rates, PeekRange, NotConstant, BranchRates, Limit}
 use Rattle.streamit_front.specs.declared.fault.StreamitFault.TheVariants.{Weights, NoMemory}
-use Rattle.streamit_front.specs.Laws.{HasFault, Has, MeansWhatItHas, PlansMean}
+use Rattle.streamit_front.specs.Laws.{HasProgramFault, Has, MeansWhatItHas, PlansMean}
 use Rattle.streamit_front.specs.Meaning.{Accepted, fault_at, or_fault, accepted, then_judged, of_tokens, then_read, compiled, Plans, Refused}
 use Rattle.streamit_front.proofs.Readable.{units-fine}
 
@@ -73,7 +73,7 @@ pub lexed-means : (text : List ℕ) (fault : LexFault) → tokens_in text ≡ Er
 unfolding compiled
 lexed-means text fault e = ap then_read e
 
-fault-means : (text : List ℕ) (fault : StreamitFault) → HasFault text fault → compiled text ≡ Err fault
+fault-means : (text : List ℕ) (fault : StreamitFault) → HasProgramFault text fault → compiled text ≡ Err fault
 fault-means text fault (p, unit, f, t, first, is) = stands-means text p t ∙ ap (or_fault p) ((refusals_are p unit f).1 first) ∙ ap Err (sym is)
 
 has-means : (text : List ℕ) (meant : Result Accepted StreamitFault) → Has text meant → compiled text ≡ meant

@@ -24,8 +24,8 @@ use Rattle.streamit_front.specs.declared.fault.StreamitFault.TheVariants.{Text, 
 use Rattle.streamit_front.specs.Meaning.{Accepted, fault_at, compiled}
 
 -- the grammar has the text for a program whose first fault this is
-abbrev pub HasFault : List ℕ → StreamitFault → Type 0
-HasFault text fault = (p : Program) × (unit : ℕ) × (f : model.Fault) × IsText text p × IsFaultOf p unit f × (fault ≡ fault_at unit f)
+abbrev pub HasProgramFault : List ℕ → StreamitFault → Type 0
+HasProgramFault text fault = (p : Program) × (unit : ℕ) × (f : model.Fault) × IsText text p × IsFaultOf p unit f × (fault ≡ fault_at unit f)
 
 -- the grammar has the text for a program that is accepted, whose last stream this is; or for one that has a fault; or it has a
 -- first unit that is not in the grammar, or a first fault of its bytes
@@ -35,7 +35,7 @@ Has text (Err (Text (BadByte at))) = tokens_in text ≡ Err (lex.BadByte at)
 Has text (Err (Text (BigNumber at))) = tokens_in text ≡ Err (lex.BigNumber at)
 Has text (Err (Text (Syntax unit))) = IsBadAt text unit
 Has text (Err NoMemory) = ⊥
-Has text (Err fault) = HasFault text fault
+Has text (Err fault) = HasProgramFault text fault
 
 -- that is what a text means
 abbrev pub MeansWhatItHas : Type 0

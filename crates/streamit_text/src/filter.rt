@@ -152,7 +152,11 @@ fn work(reader: &mut Reader<'_>, alloc: Global, brackets: u32) -> Result<WorkTre
 
 // `prework`, its rates and its block, or nothing.
 #[tactic(auto, unfolding(crate::specs::Reading::prework_at))]
-fn prework(reader: &mut Reader<'_>, alloc: Global, brackets: u32) -> Result<Option<WorkTree>, ParseFault>
+fn prework(
+    reader: &mut Reader<'_>,
+    alloc: Global,
+    brackets: u32,
+) -> Result<Option<WorkTree>, ParseFault>
     ensures { Gives (optional work_tree) result reader.new (prework_at brackets reader.old) }
 {
     if !reader.is_at_word(b"prework") {
@@ -186,7 +190,11 @@ fn works(
 
 // What stands between the braces of a filter.
 #[tactic(auto, unfolding(crate::specs::Reading::in_filter_at), using(crate::proofs::RateSteps::filters))]
-fn in_filter(reader: &mut Reader<'_>, alloc: Global, brackets: u32) -> Result<FilterTree, ParseFault>
+fn in_filter(
+    reader: &mut Reader<'_>,
+    alloc: Global,
+    brackets: u32,
+) -> Result<FilterTree, ParseFault>
     ensures { Gives filter_tree result reader.new (in_filter_at brackets reader.old) }
 {
     let fields = fields(reader, alloc)?;
@@ -202,7 +210,11 @@ fn in_filter(reader: &mut Reader<'_>, alloc: Global, brackets: u32) -> Result<Fi
 
 /// `{` what a filter has `}`
 #[tactic(auto, unfolding(crate::specs::Reading::filter_at))]
-pub fn filter(reader: &mut Reader<'_>, alloc: Global, brackets: u32) -> Result<FilterTree, ParseFault>
+pub fn filter(
+    reader: &mut Reader<'_>,
+    alloc: Global,
+    brackets: u32,
+) -> Result<FilterTree, ParseFault>
     ensures { Gives filter_tree result reader.new (filter_at brackets reader.old) }
 {
     let inner = reader.opens(Symbol::OpenBrace, brackets)?;

@@ -80,7 +80,7 @@ pub fn parens(reader: &mut Reader<'_>, brackets: u32) -> Result<(), ParseFault>
 
 /// A stream's name, and `()` or nothing.
 #[tactic(auto, unfolding(crate::specs::Reading::called_at))]
-pub fn called(reader: &mut Reader<'_>, brackets: u32) -> Result<Name, ParseFault>
+pub(crate) fn called(reader: &mut Reader<'_>, brackets: u32) -> Result<Name, ParseFault>
     ensures reads { Gives (λ name. name) result reader.new (called_at brackets reader.old) }
     ensures short { IfOk result (λ name. length name ≤ 40) }
 {
@@ -113,7 +113,11 @@ fn more_adds(reader: &mut Reader<'_>, alloc: Global, brackets: u32) -> Result<Ve
 
 /// What is added, once or more.
 #[tactic(auto, unfolding(crate::specs::Reading::adds_at))]
-pub fn adds(reader: &mut Reader<'_>, alloc: Global, brackets: u32) -> Result<Adds, ParseFault>
+pub(crate) fn adds(
+    reader: &mut Reader<'_>,
+    alloc: Global,
+    brackets: u32,
+) -> Result<Adds, ParseFault>
     ensures { Gives adds_of result reader.new (adds_at brackets reader.old) }
 {
     let first = add(reader, brackets)?;
@@ -123,7 +127,11 @@ pub fn adds(reader: &mut Reader<'_>, alloc: Global, brackets: u32) -> Result<Add
 
 /// `{` what is added `}`
 #[tactic(auto, unfolding(crate::specs::Reading::pipe_at))]
-pub fn pipe(reader: &mut Reader<'_>, alloc: Global, brackets: u32) -> Result<Adds, ParseFault>
+pub(crate) fn pipe(
+    reader: &mut Reader<'_>,
+    alloc: Global,
+    brackets: u32,
+) -> Result<Adds, ParseFault>
     ensures { Gives adds_of result reader.new (pipe_at brackets reader.old) }
 {
     let inner = reader.opens(Symbol::OpenBrace, brackets)?;

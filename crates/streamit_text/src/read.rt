@@ -1,12 +1,12 @@
 // From the tokens of a text to its program.
-ghost use Rattle.std.specs.Prelude.{◌≡◌, ◌<◌, ◌^◌, length, map, IfOk, IfErr};
+ghost use Rattle.std.specs.Prelude.{◌<◌, ◌^◌, length, map, IfOk, IfErr};
 ghost use Rattle.text_tokens.specs.Cut.{unit_tokens};
 ghost use Rattle.text_forms.specs.AllUnits.{GivesUnits};
 ghost use Rattle.streamit_text.specs.Faults.{StandFor, Refuses};
 ghost use Rattle.streamit_text.specs.Program.{unit_form, unit_forms};
 ghost use Rattle.streamit_text.specs.Reading.{some_units};
 
-use crate::{Unit, Plain, StreamitGrammar};
+use crate::{Plain, StreamitGrammar, Unit};
 use std::alloc::Global;
 use text_forms::{UnitFault, read_units};
 use text_tokens::{Lexeme, Tokens, units};

@@ -1,5 +1,4 @@
 // Splitters and joiners read.
-ghost use Rattle.std.specs.Prelude.{◌≡◌};
 ghost use Rattle.text_forms.specs.Gives.{Gives};
 ghost use Rattle.streamit_text.specs.Program.{weights_of, dealing_of};
 ghost use Rattle.streamit_text.specs.Reading.{weight_at, some_weights_at, listed_at, weights_at, split_after, split_at, join_at, in_both_at, both_at};
@@ -120,7 +119,11 @@ fn in_both(reader: &mut Reader<'_>, alloc: Global, brackets: u32) -> Result<Spli
 
 /// `{` the splitter, what is added, and the joiner `}`
 #[tactic(auto, unfolding(crate::specs::Reading::both_at))]
-pub fn both(reader: &mut Reader<'_>, alloc: Global, brackets: u32) -> Result<SplitJoin, ParseFault>
+pub(crate) fn both(
+    reader: &mut Reader<'_>,
+    alloc: Global,
+    brackets: u32,
+) -> Result<SplitJoin, ParseFault>
     ensures { Gives split_join_of result reader.new (both_at brackets reader.old) }
 {
     let inner = reader.opens(Symbol::OpenBrace, brackets)?;

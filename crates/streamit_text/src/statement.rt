@@ -20,7 +20,7 @@ use text_tokens::Symbol;
 
 /// `()`
 #[tactic(auto, unfolding(crate::specs::Blocks::empty_at, text_blocks::specs::Parts::round_at))]
-pub fn empty(reader: &mut Reader<'_>, brackets: u32) -> Result<(), ParseFault>
+pub(crate) fn empty(reader: &mut Reader<'_>, brackets: u32) -> Result<(), ParseFault>
     ensures { Gives (λ u. u) result reader.new (empty_at brackets reader.old) }
 {
     reader.opens(Symbol::Open, brackets)?;
@@ -337,8 +337,18 @@ impl<L: Leaves> Blocks for StreamitGrammar<L> {
 
 /// `{` statements `}`, in which `if` and `for` together nest at most 16 deep.
 #[tactic(auto, unfolding(crate::specs::Reading::block_at))]
-pub fn block(reader: &mut Reader<'_>, alloc: Global, brackets: u32) -> Result<Block, ParseFault>
+pub(crate) fn block(
+    reader: &mut Reader<'_>,
+    alloc: Global,
+    brackets: u32,
+) -> Result<Block, ParseFault>
     ensures { Gives block result reader.new (block_at brackets reader.old) }
 {
-    text_blocks::block(&StreamitGrammar { leaves: Plain }, reader, alloc, 16, brackets)
+    text_blocks::block(
+        &StreamitGrammar { leaves: Plain },
+        reader,
+        alloc,
+        16,
+        brackets,
+    )
 }

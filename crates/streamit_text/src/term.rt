@@ -10,8 +10,8 @@ use river_base::NoMemory;
 use std::alloc::Global;
 use text_blocks::{Terms, take_sign};
 use text_forms::{ParseFault, Reader, is};
-use work_code::BinOp;
 use text_tokens::Token;
+use work_code::BinOp;
 
 /// What stands before an expression.
 #[derive(Clone, Copy)]

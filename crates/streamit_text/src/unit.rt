@@ -1,5 +1,4 @@
 // Units read.
-ghost use Rattle.std.specs.Prelude.{◌≡◌};
 ghost use Rattle.text_forms.specs.Gives.{Gives};
 ghost use Rattle.streamit_text.specs.Program.{body_of, unit_form};
 ghost use Rattle.streamit_text.specs.Reading.{body_after, kind_after, unit_at};
@@ -7,7 +6,7 @@ ghost use Rattle.streamit_text.specs.Reading.{body_after, kind_after, unit_at};
 use crate::filter::filter;
 use crate::names::{called, pipe};
 use crate::rounds::both;
-use crate::{Body, Unit, Plain, StreamitGrammar};
+use crate::{Body, Plain, StreamitGrammar, Unit};
 use std::alloc::Global;
 use text_forms::{ParseFault, Reader, Units, is};
 use text_tokens::Symbol;

@@ -1,5 +1,5 @@
 // Filters: their fields, `init`, `prework` and `work`.
-ghost use Rattle.std.specs.Prelude.{◌≡◌, ◌≤◌, replicate, take, pos, length, [], Ok, IfOk, OnOk};
+ghost use Rattle.std.specs.Prelude.{◌≡◌, replicate, take, pos, length, [], Ok, IfOk, OnOk};
 ghost use Rattle.work_code.specs.Steps.{steps, code_body};
 ghost use Rattle.work_code.specs.Ran.{IsBodyWithin, ran};
 ghost use Rattle.kern_rows.specs.Forms.{run_form, optional_run, filter_form};
@@ -17,7 +17,7 @@ ghost use Rattle.streamit_unroll.specs.View.{Judges};
 
 use crate::{Fault, Known, Names, Unroller};
 use kern_rows::{Filter, First};
-use river_base::{Name, NoMemory, Numbers};
+use river_base::{MOST_ITEMS, MOST_SLOTS, Name, NoMemory, Numbers};
 use std::alloc::Global;
 use streamit_text::{Block, FilterTree, Rates, WorkTree};
 use work_code::{Body, Code, Emitted, Stmts, run_code};
@@ -58,7 +58,11 @@ impl Counts {
     fn judged(self, least: u32) -> Result<(), Fault>
         ensures { Judges (λ u. u) result (judged_rates least self.push self.pop self.peek) }
     {
-        if self.push > 65536 || self.pop > 65536 || self.peek > 65536 || self.pop < least {
+        if self.push > MOST_ITEMS
+            || self.pop > MOST_ITEMS
+            || self.peek > MOST_ITEMS
+            || self.pop < least
+        {
             return Err(Fault::Limit);
         }
         if self.peek < self.pop {
@@ -126,7 +130,7 @@ impl Unroller {
     {
         self.new_name(name)?;
         let slot = self.slots;
-        if slot >= 256 {
+        if slot >= MOST_SLOTS {
             return Err(Fault::Limit);
         }
         self.slots = slot + 1;

@@ -11,7 +11,7 @@ use streamit_text::{Block, Expr, Statement, Until};
 /// A statement, where a run of `pop();` is one.
 #[derive(Drop)]
 #[cycle(lean)]
-pub enum Lean<'t> {
+pub(crate) enum Lean<'t> {
     /// `int NAME = e;`
     Declare {
         name: Name,
@@ -45,20 +45,20 @@ pub enum Lean<'t> {
 /// A list of such statements.
 #[derive(Drop)]
 #[cycle(lean)]
-pub struct LeanBlock<'t> {
+pub(crate) struct LeanBlock<'t> {
     pub items: Vec<Lean<'t>>,
 }
 
 /// Statements that are put together, and how many `pop();` stand behind them so far.
 #[derive(Drop)]
-pub struct Building<'t> {
+pub(crate) struct Building<'t> {
     pub items: Vec<Lean<'t>>,
     pub pops: u32,
 }
 
 /// A block, whose runs of `pop();` are counted.
 #[cycle(built)]
-pub fn lean_block<'t>(alloc: Global, b: &'t Block) -> Result<LeanBlock<'t>, NoMemory>
+pub(crate) fn lean_block<'t>(alloc: Global, b: &'t Block) -> Result<LeanBlock<'t>, NoMemory>
     ensures { IfOk result (λ l. lean_block l ≡ block b.now) }
 {
     let mut out = Building {

@@ -1,5 +1,5 @@
 // Names that are known.
-ghost use Rattle.std.specs.Prelude.{◌≡◌, ◌∷◌};
+ghost use Rattle.std.specs.Prelude.{◌≡◌};
 ghost use Rattle.streamit_model.specs.Elaborate.{find};
 ghost use Rattle.streamit_unroll.specs.View.{scope_of, option_known};
 
@@ -7,7 +7,7 @@ use river_base::Name;
 
 /// What a name stands for.
 #[derive(Clone, Copy)]
-pub enum Known {
+pub(crate) enum Known {
     /// A slot.
     Var(u32),
     /// The variable of a loop, in this turn.
@@ -16,7 +16,7 @@ pub enum Known {
 
 /// The names that are known, the newest last.
 #[derive(Drop)]
-pub struct Names {
+pub(crate) struct Names {
     pub items: Vec<(Name, Known)>,
 }
 

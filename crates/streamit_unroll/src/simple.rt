@@ -1,5 +1,5 @@
 // Statements that hold no block.
-ghost use Rattle.std.specs.Prelude.{◌≡◌, ◌<◌, ◌≤◌, ◌+◌, ◌^◌, OnOk, IfOk};
+ghost use Rattle.std.specs.Prelude.{◌≡◌, ◌<◌, ◌≤◌, ◌+◌, OnOk, IfOk};
 ghost use Rattle.work_code.specs.Term.{term};
 ghost use Rattle.streamit_model.specs.Elaborate.{find, is_new, slot_of, step_of, steps_of, constant, bound_of, on_ok, first_term, first_popped};
 ghost use Rattle.streamit_text.specs.Tree.{Declare, Assign, Push, expression, option_expression, in_turn};
@@ -10,7 +10,7 @@ ghost use Rattle.streamit_unroll.specs.Numbers.{AreValues};
 
 use crate::term::{constant, term};
 use crate::{Fault, Known, Unroller};
-use river_base::{Name, NoMemory};
+use river_base::{MOST_ITEMS, MOST_SLOTS, Name, NoMemory};
 use std::alloc::Global;
 use streamit_text::Expr as Written;
 use work_code::{Expr, Exprs, Stmt, Stmts};
@@ -33,7 +33,7 @@ impl Unroller {
         ensures small { IfOk result (λ n. n ≤ 65536) }
     {
         let value = constant(&self.names, tree)?;
-        if 0 <= value && value <= 65536 {
+        if 0 <= value && value <= MOST_ITEMS as i64 {
             Ok(value as u32)
         } else {
             Err(Fault::Limit)
@@ -118,7 +118,7 @@ impl Unroller {
         self.counted()?;
         self.new_name(name)?;
         let slot = self.slots;
-        if slot >= 256 {
+        if slot >= MOST_SLOTS {
             return Err(Fault::Limit);
         }
         let value = self.first_term(alloc, peek, value)?;
@@ -148,7 +148,7 @@ impl Unroller {
 }
 
 // The number behind this one.
-pub fn next(number: u32) -> Result<u32, NoMemory>
+pub(crate) fn next(number: u32) -> Result<u32, NoMemory>
     ensures { IfOk result (λ n. n ≡ number + 1) }
 {
     match number.checked_add(1) {

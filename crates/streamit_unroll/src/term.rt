@@ -1,5 +1,5 @@
 // Expressions of a filter, where names are known.
-ghost use Rattle.std.specs.Prelude.{◌≡◌, ◌<◌, ◌≤◌, ◌+◌, ◌^◌, OnOk};
+ghost use Rattle.std.specs.Prelude.{◌≡◌, ◌<◌, ◌+◌, OnOk};
 ghost use Rattle.streamit_text.specs.Tree.{Bin, expression};
 ghost use Rattle.work_code.specs.Term.{term};
 ghost use Rattle.streamit_model.specs.Meaning.{pops};
@@ -8,14 +8,14 @@ ghost use Rattle.streamit_unroll.specs.View.{scope_of, Judges};
 ghost use Rattle.streamit_unroll.specs.Numbers.{AreValues, value_itself};
 
 use crate::{Fault, Known, Names};
-use river_base::Name;
+use river_base::{MOST_ITEMS, Name};
 use std::alloc::Global;
 use streamit_text::Expr as Written;
 use work_code::{BinOp, Expr, apply, negate, truth_of};
 
 // The value of a constant expression.
 #[cycle(constant)]
-pub fn constant(names: &Names, e: &Written) -> Result<i64, Fault>
+pub(crate) fn constant(names: &Names, e: &Written) -> Result<i64, Fault>
     requires { AreValues (expression e.now) }
     ensures { Judges value_itself result (constant (scope_of names.now.items.items) (expression e.now)) }
 {
@@ -60,7 +60,7 @@ fn constants(names: &Names, op: BinOp, left: &Written, right: &Written) -> Resul
 
 // An expression on the items and the slots; the pops that stand in it are counted.
 #[cycle(term)]
-pub fn term(
+pub(crate) fn term(
     alloc: Global,
     names: &Names,
     peek: u32,
@@ -80,7 +80,7 @@ pub fn term(
         }
         Written::Pop => {
             let place = *popped;
-            if place > 65536 {
+            if place > MOST_ITEMS {
                 return Err(Fault::Limit);
             }
             *popped = place + 1;

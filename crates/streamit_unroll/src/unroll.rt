@@ -5,10 +5,11 @@ ghost use Rattle.streamit_unroll.specs.View.{Judges};
 ghost use Rattle.streamit_unroll.specs.Unrolling.{at_of};
 
 use crate::{Fault, Names};
+use river_base::MOST_STATEMENTS;
 
 /// What is known where the reading stands, and what was counted.
 #[derive(Drop)]
-pub struct Unroller {
+pub(crate) struct Unroller {
     pub names: Names,
     pub slots: u32,
     pub popped: u32,
@@ -22,7 +23,7 @@ impl Unroller {
         ensures judged { Judges (λ _. at_of self.new) result (counted (at_of self.old)) }
         ensures names { self.new.names ≡ self.old.names }
     {
-        if self.size < 16384 {
+        if self.size < MOST_STATEMENTS {
             self.size += 1;
             Ok(())
         } else {

@@ -15,7 +15,7 @@ const CHOICES: u32 = 5_000;
 
 /// Why a plan did not come to what is printed of it.
 #[derive(Clone, Copy, Debug)]
-pub enum Broken {
+pub(crate) enum Broken {
     /// There was no memory.
     NoMemory,
     /// The text is no plan.
@@ -39,11 +39,11 @@ impl From<NoMemory> for Broken {
 }
 
 /// An operator, one of its ports, and whether it is enabled there: if so it is fired, otherwise passed over.
-pub type Step = (u32, u32, bool);
+pub(crate) type Step = (u32, u32, bool);
 
 /// How a machine is driven.
 #[derive(Clone, Copy)]
-pub enum Drive<'a> {
+pub(crate) enum Drive<'a> {
     /// By these steps, in their order.
     By(&'a [Step]),
     /// By firings of the first twelve operators at their first two ports, as the seed has it.
@@ -88,7 +88,7 @@ fn inputs_of(alloc: Global, lists: Lists<'_>) -> Result<Inputs, Broken> {
 }
 
 /// Whether the inputs fit the plan of a text.
-pub fn fit(alloc: Global, text: &[u8], lists: Lists<'_>) -> Result<bool, Broken> {
+pub(crate) fn fit(alloc: Global, text: &[u8], lists: Lists<'_>) -> Result<bool, Broken> {
     let plan = plan_of(alloc, text)?;
     fit_into(alloc, &plan, lists)
 }
@@ -207,7 +207,7 @@ fn printed(
 }
 
 /// Whether this text is printed of the plan of a text whose machine is driven.
-pub fn gives(
+pub(crate) fn gives(
     alloc: Global,
     text: &[u8],
     lists: Lists<'_>,

@@ -1,7 +1,10 @@
 //! What the cases of `river_cases` cannot say: what no contract says of the files, the streams and the threads of the system, who fires
-//! when, and calls of queues and locks that a run makes in ways of its own. There is no code here besides the tests.
+//! when, calls of queues and locks that a run makes in ways of its own, and the machine, driven by hand through plans that are written
+//! as River text. There is no code here besides the tests.
 #![tactic(auto)]
 
+#[cfg(test)]
+mod cases;
 #[cfg(test)]
 mod classes;
 #[cfg(test)]
@@ -9,9 +12,13 @@ mod counting;
 #[cfg(test)]
 mod cutting;
 #[cfg(test)]
+mod driver;
+#[cfg(test)]
 mod lists;
 #[cfg(test)]
 mod meeting;
+#[cfg(test)]
+mod plans;
 #[cfg(test)]
 mod rings;
 #[cfg(test)]
@@ -20,9 +27,3 @@ mod round;
 mod system;
 #[cfg(test)]
 mod turns;
-#[cfg(test)]
-mod cases;
-#[cfg(test)]
-mod driver;
-#[cfg(test)]
-mod plans;

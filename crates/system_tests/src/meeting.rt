@@ -74,7 +74,7 @@ end
 
 /// Holds the first firing of each of two operators until the other was entered.
 #[derive(Drop)]
-pub struct Meeting {
+pub(crate) struct Meeting {
     first: AtomicU64,
     second: AtomicU64,
     // How many gave up.
@@ -123,7 +123,7 @@ impl Gate for Meeting {
 
 /// The top call with this gate.
 #[derive(Drop)]
-pub struct Meets {
+pub(crate) struct Meets {
     alloc: Global,
     pub gate: Meeting,
 }

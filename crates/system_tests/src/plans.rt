@@ -1,7 +1,7 @@
 // Texts of plans, the rows of their inputs, and the text that is printed of what they give.
 
 /// Two operators, one behind the other.
-pub const CHAIN: &[u8] = b"output out: rows(1);
+pub(crate) const CHAIN: &[u8] = b"output out: rows(1);
 input in: rows(1);
 queue q: rows(1);
 op a: (q) <- (in) { code(1, 0) (1) () { push 0 (-input[0]); } }
@@ -9,7 +9,7 @@ op b: (out) <- (q) { code(1, 0) (1) () { push 0 (input[0] + 1); } }
 ";
 
 /// The same with a body that keeps a slot.
-pub const SUMS: &[u8] = b"output out: rows(1);
+pub(crate) const SUMS: &[u8] = b"output out: rows(1);
 input in: rows(1);
 queue q: rows(1);
 var $n;
@@ -18,7 +18,7 @@ op b: (out) <- (q) { code(1, 0) (1) () { push 0 (input[0] + 1); } }
 ";
 
 /// A join with shares.
-pub const JOIN: &[u8] = b"output out: rows(1);
+pub(crate) const JOIN: &[u8] = b"output out: rows(1);
 input a: rows(1);
 input b: rows(1);
 var $j;
@@ -26,7 +26,7 @@ op join: (out, $j) <- (a, b, $j) { collect(1, 2) }
 ";
 
 /// A split and a join with shares, and a filter. A copy of each queue between them goes to an output.
-pub const SPLITS: &[u8] = b"output out: rows(1);
+pub(crate) const SPLITS: &[u8] = b"output out: rows(1);
 output ta: rows(1);
 output tb: rows(1);
 output tc: rows(1);
@@ -59,7 +59,7 @@ op sum: (out, $f) <- (e1, $f) { filter(3, 2, 1, 0) () { push 0 (input[0] + input
 ";
 
 /// Packs of two inputs that are joined. The packs of the first are made once more, and opened alone to an output.
-pub const PACKS: &[u8] = b"output out: rows(1);
+pub(crate) const PACKS: &[u8] = b"output out: rows(1);
 output alone: rows(1);
 output tx: rows(1);
 output tz: rows(1);
@@ -83,13 +83,13 @@ op alone: (alone, $v) <- (q, $v) { unpack(1) }
 ";
 
 /// The rows of each input of a plan.
-pub type Lists<'a> = &'a [&'a [&'a [i64]]];
+pub(crate) type Lists<'a> = &'a [&'a [&'a [i64]]];
 
 /// The rows of the input of `SUMS`.
-pub const FOUR: Lists<'_> = &[&[&[4], &[-9]]];
+pub(crate) const FOUR: Lists<'_> = &[&[&[4], &[-9]]];
 
 /// What `SUMS` gives for it.
-pub const SUMS_TEXT: &[u8] = b"# out
+pub(crate) const SUMS_TEXT: &[u8] = b"# out
 10
 1
 ## firings
@@ -98,10 +98,10 @@ b,2
 ";
 
 /// The rows of the inputs of `JOIN`.
-pub const FIVE: Lists<'_> = &[&[&[1], &[2]], &[&[7], &[8], &[9]]];
+pub(crate) const FIVE: Lists<'_> = &[&[&[1], &[2]], &[&[7], &[8], &[9]]];
 
 /// What `JOIN` gives for them.
-pub const JOIN_TEXT: &[u8] = b"# out
+pub(crate) const JOIN_TEXT: &[u8] = b"# out
 1
 7
 8
@@ -112,10 +112,10 @@ join,5
 ";
 
 /// The rows of the input of `SPLITS`.
-pub const SEVEN: Lists<'_> = &[&[&[1], &[2], &[3], &[4], &[5], &[6], &[7]]];
+pub(crate) const SEVEN: Lists<'_> = &[&[&[1], &[2], &[3], &[4], &[5], &[6], &[7]]];
 
 /// What `SPLITS` gives for it.
-pub const SPLITS_TEXT: &[u8] = b"# out
+pub(crate) const SPLITS_TEXT: &[u8] = b"# out
 9
 12
 15
@@ -159,10 +159,10 @@ sum,7
 ";
 
 /// The rows of the inputs of `PACKS`.
-pub const TWO: Lists<'_> = &[&[&[10], &[20], &[30]], &[&[7], &[8]]];
+pub(crate) const TWO: Lists<'_> = &[&[&[10], &[20], &[30]], &[&[7], &[8]]];
 
 /// What `PACKS` gives for them.
-pub const PACKS_TEXT: &[u8] = b"# out
+pub(crate) const PACKS_TEXT: &[u8] = b"# out
 10
 11
 7
@@ -196,7 +196,7 @@ alone,3
 ";
 
 /// Two operators that add to one table, the second two rows for each item.
-pub const SHARED: &[u8] = b"input a: rows(1);
+pub(crate) const SHARED: &[u8] = b"input a: rows(1);
 input b: rows(1);
 queue p: rows(2);
 queue q: rows(2);
@@ -208,7 +208,7 @@ op tb: ($best) <- (q, $best) { tally }
 ";
 
 /// What `SHARED` gives for the rows of `TWO`.
-pub const SHARED_TEXT: &[u8] = b"# best
+pub(crate) const SHARED_TEXT: &[u8] = b"# best
 7,5
 8,5
 10,5

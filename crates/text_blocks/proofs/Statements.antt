@@ -6,16 +6,20 @@ use Rattle.std.proofs.lemmas.Slice.Eq.{bytes_eq-Decides}
 use Rattle.text_tokens.specs.Tok.{Tok}
 use Rattle.text_tokens.specs.declared.sign.Symbol.TheVariants as s
 use Rattle.text_forms.specs.Parse as parse
-use Rattle.text_forms.specs.Parse.{Parse}
+use Rattle.text_forms.specs.Parse.{Parse, is_word_at}
 use Rattle.text_forms.specs.Forms as form
 use Rattle.text_forms.proofs.Exact.{Exact, Any, exact-less, exact-both, exact-after_word, exact-seen, exact-maybe}
 use Rattle.text_forms.proofs.Many.{Listed, exact-many}
 use Rattle.text_forms.proofs.Choices.{exact-never, exact-headed, exact-enclosed}
-use Rattle.text_blocks.specs.Exact.{AreExact, NoElse}
+use Rattle.text_blocks.specs.Exact.{AreExact}
 use Rattle.text_blocks.specs.Reading.{by_opening, at_close, stmts_of, block_of, else_at, branch_of, loop_of, rest_at, stmt_at, stmts_at, block_at}
 use Rattle.text_blocks.specs.Statements.{Style, Holes, ByOpening, IsBlockOf, made_branch, IsBranch, made_loop, IsLoop, IsRest, IsStatement, IsBlock}
 use Rattle.text_blocks.specs.declared.opening.Opening.{Opening}
 use Rattle.text_blocks.specs.declared.opening.Opening.TheVariants.{Branch, Loop, Plain}
+
+-- no `else` comes
+abbrev pub NoElse : List Tok → Type 0
+NoElse rest = is_word_at (codes "else") rest ≡ false
 
 -- a choice by what a word opens
 exact-by : {S : Type 0} {B L P : S → List Tok → Type 0} {b l p : Parse S} {E : List Tok → Type 0} (o : Opening) → Exact B b E → Exact L l E → Exact P p E

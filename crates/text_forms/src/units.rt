@@ -1,5 +1,5 @@
 // The units of a text read, one after another.
-ghost use Rattle.std.specs.Prelude.{◌≡◌, ◌<◌, ◌^◌, length, map};
+ghost use Rattle.std.specs.Prelude.{◌<◌, ◌^◌, length, map};
 ghost use Rattle.text_tokens.specs.Cut.{units_of, unit_tokens};
 ghost use Rattle.text_tokens.specs.Tok.{tokens_of, toks};
 ghost use Rattle.text_forms.specs.Gives.{Gives, Makes};

@@ -1,12 +1,14 @@
 // Classes of bytes.
 ghost use Rattle.std.specs.Prelude.{◌≡◌};
 ghost use Rattle.std.specs.List.{prefix_len};
-ghost use Rattle.text_tokens.specs.Lexis.{is_letter, first_is};
+ghost use Rattle.text_tokens.specs.Lexis.{first_is};
 ghost use Rattle.text_tokens.specs.Classes.{belongs};
+
+use river_base::{is_letter, is_word};
 
 /// A class of bytes.
 #[derive(Clone, Copy)]
-pub enum Class {
+pub(crate) enum Class {
     /// What separates tokens: a space, a tab, a carriage return or a line feed.
     Blank,
     /// What a name can begin with: a letter or `_`.
@@ -19,31 +21,23 @@ pub enum Class {
     Digit,
 }
 
-/// Whether this byte is a letter or `_`.
-#[tactic(auto, unfolding(crate::specs::Lexis::is_letter))]
-fn is_letter(byte: u8) -> bool
-    ensures { result ≡ is_letter byte }
-{
-    byte.is_ascii_alphabetic() || byte == b'_'
-}
-
 /// Whether this byte is of the class.
-#[tactic(auto, unfolding(crate::specs::Lexis::is_blank, crate::specs::Lexis::is_digit, crate::specs::Lexis::is_in_line, crate::specs::Lexis::is_word))]
-pub fn belongs(class: Class, byte: u8) -> bool
+#[tactic(auto, unfolding(crate::specs::Lexis::is_blank, crate::specs::Lexis::is_digit, crate::specs::Lexis::is_in_line))]
+pub(crate) fn belongs(class: Class, byte: u8) -> bool
     ensures { result ≡ belongs class byte }
 {
     match class {
         Class::Blank => byte == b' ' || byte == b'\t' || byte == b'\r' || byte == b'\n',
         Class::Letter => is_letter(byte),
         Class::InLine => byte != b'\n',
-        Class::Word => is_letter(byte) || byte.is_ascii_digit() || byte == b'@',
+        Class::Word => is_word(byte),
         Class::Digit => byte.is_ascii_digit(),
     }
 }
 
 /// Whether the text begins with a byte of the class.
 #[tactic(auto, unfolding(crate::specs::Lexis::first_is))]
-pub fn first_is(class: Class, text: &[u8]) -> bool
+pub(crate) fn first_is(class: Class, text: &[u8]) -> bool
     ensures { result ≡ first_is (belongs class) text.now }
 {
     match text {
@@ -53,7 +47,7 @@ pub fn first_is(class: Class, text: &[u8]) -> bool
 }
 
 /// How many bytes at the front are of the class.
-pub fn run_len(class: Class, text: &[u8]) -> usize
+pub(crate) fn run_len(class: Class, text: &[u8]) -> usize
     ensures { result ≡ prefix_len (belongs class) text.now }
 {
     for n in 0..text.len() {

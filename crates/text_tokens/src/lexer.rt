@@ -1,5 +1,5 @@
 // From bytes to tokens.
-ghost use Rattle.std.specs.Prelude.{◌≡◌, ◌<◌, ◌^◌, length};
+ghost use Rattle.std.specs.Prelude.{◌<◌, ◌^◌, length};
 ghost use Rattle.text_tokens.specs.Lexis.{Lexes};
 
 use crate::piece::{Piece, next_piece};

@@ -1,4 +1,4 @@
-//! Texts: the tokens of all the languages, the units of a text, and how expressions and statements are printed.
+//! Texts: the tokens of all the languages, and the units of a text.
 #![tactic(auto)]
 
 mod byte;

@@ -11,7 +11,7 @@ use crate::sign::{long_symbol, short_symbol};
 
 /// What a text begins with, and of how many bytes it is.
 #[derive(Clone, Copy)]
-pub enum Piece<'a> {
+pub(crate) enum Piece<'a> {
     /// A separator or a comment.
     Blank(usize),
     /// A token.
@@ -139,7 +139,7 @@ fn short_piece<'a>(first: u8) -> Piece<'a>
 
 /// The piece at the front of a text that is not empty; it is no longer than the text.
 #[tactic(auto, using(crate::proofs::Rooms::rooms))]
-pub fn next_piece<'a>(text: &'a [u8]) -> Piece<'a>
+pub(crate) fn next_piece<'a>(text: &'a [u8]) -> Piece<'a>
     requires { 0 < length text.now }
     ensures piece { piece_of result ≡ piece_at text.now }
     ensures room { PieceFits (length text.now) (piece_of result) }

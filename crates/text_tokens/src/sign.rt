@@ -37,7 +37,7 @@ pub enum Symbol {
 
 /// The symbol that is this byte alone.
 #[tactic(auto, unfolding(crate::specs::Symbols::short_symbol))]
-pub fn short_symbol(first: u8) -> Option<Symbol>
+pub(crate) fn short_symbol(first: u8) -> Option<Symbol>
     ensures { result ≡ short_symbol first }
 {
     match first {
@@ -66,7 +66,7 @@ pub fn short_symbol(first: u8) -> Option<Symbol>
 
 /// The symbol that is these two bytes.
 #[tactic(auto, unfolding(crate::specs::Symbols::long_symbol))]
-pub fn long_symbol(first: u8, second: u8) -> Option<Symbol>
+pub(crate) fn long_symbol(first: u8, second: u8) -> Option<Symbol>
     ensures { result ≡ long_symbol first second }
 {
     match (first, second) {

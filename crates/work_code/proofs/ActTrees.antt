@@ -1,7 +1,7 @@
 -- Statements in the form in which they are run.
 use Rattle.std.proofs.Common.{Vec, Global, ◌≡◌, map, sym, ap, ◌∙◌}
 use Rattle.std.specs.Prelude.{ℕ}
-use Rattle.work_code.specs.declared.acts.Act.{Act, fold-roll-Act}
+use Rattle.work_code.specs.declared.acts.Act.{fold-roll-Act}
 use Rattle.work_code.specs.declared.acts.Act as built
 use Rattle.work_code.specs.declared.acts.Act.TheVariants.{rolls-Push}
 use Rattle.work_code.specs.declared.acts.Act.TheOpen as layer

@@ -7,6 +7,8 @@ use Rattle.work_code.specs.contracts.calc.Calc as Calc
 use Rattle.work_code.specs.contracts.acts.Acts as Acts
 use Rattle.work_code.specs.contracts.code.Stmts as Stmts
 use Rattle.work_code.specs.contracts.body.Body as Body
+use Rattle.work_code.specs.contracts.formula.Formula as Formula
+use Rattle.work_code.specs.contracts.formula.Formulas as Formulas
 use Rattle.work_code.specs.contracts.code.Code as Code
 use Rattle.work_code.proofs.calc.Leaf.TheSendSync as leaf
 use Rattle.work_code.proofs.expr.BinOp.TheSendSync as binop
@@ -40,3 +42,11 @@ body = let s : IsSync (Stmts.the_field).row = statements in let a : IsSync (Acts
 -- a body with its inputs and slots may be shared among threads
 pub code_shared : IsSync (Code.the_field).row
 code_shared = let b : IsSync (Body.the_field).row = body in search (sendable, crosses) depth 40
+
+-- an expression with the steps in which it is run may be shared
+pub formula : IsSync (Formula.the_field).row
+formula = let e : IsSync (Expr.the_field).row = expression in let c : IsSync (Calc.the_field).row = calc in search (sendable, crosses) depth 40
+
+-- a list of such may be shared
+pub formulas : IsSync (Formulas.the_field).row
+formulas = let e : IsSync (Exprs.the_field).row = expressions in let c : IsSync (Calc.the_field).row = calc in search (sendable, crosses) depth 40

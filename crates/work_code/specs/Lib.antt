@@ -1,6 +1,7 @@
 pub mod Acts
 pub mod Calcs
 pub mod Emitted
+pub mod ExprsCode
 pub mod Lent
 pub mod Printed
 pub mod Ran

@@ -74,7 +74,7 @@ fn act_of(alloc: Global, s: &Stmt) -> Result<Act, NoMemory>
 
 // The forms in which expressions are run.
 #[tactic(auto, using(crate::proofs::Lists::copies))]
-fn calcs_of(alloc: Global, values: &Exprs) -> Result<Vec<Calc>, NoMemory>
+pub(crate) fn calcs_of(alloc: Global, values: &Exprs) -> Result<Vec<Calc>, NoMemory>
     ensures { IfOk result (λ calcs. map calc_term calcs.items ≡ terms values.now) }
 {
     let mut calcs = Vec::new(alloc);

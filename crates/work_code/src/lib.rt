@@ -8,6 +8,7 @@ mod code;
 mod emitted;
 mod evaluate;
 mod expr;
+mod formula;
 mod run;
 
 pub use body::Body;
@@ -15,4 +16,5 @@ pub use code::{Code, Stmt, Stmts};
 pub use emitted::Emitted;
 pub use evaluate::{apply, eval, negate, truth_of};
 pub use expr::{BinOp, Expr, Exprs};
+pub use formula::{Formula, Formulas};
 pub use run::run_code;

@@ -5,12 +5,12 @@ use river_outside::Files;
 use std::alloc::Global;
 
 /// Words of a command line.
-pub type Words = Listed<Text>;
+pub(crate) type Words = Listed<Text>;
 
 /// How a device goes on: at most how many bytes a call moves, for how many bytes it has room, and the numbers of the calls
 /// that fail.
 #[derive(Drop)]
-pub struct Device {
+pub(crate) struct Device {
     pub piece: u32,
     pub room: u32,
     pub fails: Numbers,
@@ -29,7 +29,7 @@ impl Device {
 
 /// What is run, and what it is to give.
 #[derive(Drop)]
-pub struct Case {
+pub(crate) struct Case {
     pub title: Bytes,
     pub words: Words,
     pub files: Files,
@@ -69,7 +69,7 @@ impl Case {
 }
 
 /// Puts a file in place of the one of its name, if there is one.
-pub fn put(files: &mut Files, file: (Bytes, Bytes)) -> Result<(), CaseFault> {
+pub(crate) fn put(files: &mut Files, file: (Bytes, Bytes)) -> Result<(), CaseFault> {
     for other in files.as_mut_slice() {
         if other.0 == file.0 {
             other.1 = file.1;
@@ -80,7 +80,7 @@ pub fn put(files: &mut Files, file: (Bytes, Bytes)) -> Result<(), CaseFault> {
 }
 
 /// The content under a name.
-pub fn find<'a>(files: &'a Files, name: &[u8]) -> Option<&'a Bytes> {
+pub(crate) fn find<'a>(files: &'a Files, name: &[u8]) -> Option<&'a Bytes> {
     for file in files.as_slice() {
         if file.0.as_slice() == name {
             return Some(&file.1);

@@ -17,7 +17,12 @@ enum Next {
 }
 
 /// Appends a line in its turn, from 1, and a line feed, unless the line ends with a backslash.
-pub fn append_line(alloc: Global, line: &[u8], turn: u32, to: &mut Bytes) -> Result<(), CaseFault> {
+pub(crate) fn append_line(
+    alloc: Global,
+    line: &[u8],
+    turn: u32,
+    to: &mut Bytes,
+) -> Result<(), CaseFault> {
     if append(alloc, line, turn, to)? {
         to.push(b'\n')?;
     }
@@ -25,7 +30,12 @@ pub fn append_line(alloc: Global, line: &[u8], turn: u32, to: &mut Bytes) -> Res
 }
 
 /// Appends a text in its turn, and says whether it is whole: it is not where it ends with a backslash.
-pub fn append(alloc: Global, text: &[u8], turn: u32, to: &mut Bytes) -> Result<bool, CaseFault> {
+pub(crate) fn append(
+    alloc: Global,
+    text: &[u8],
+    turn: u32,
+    to: &mut Bytes,
+) -> Result<bool, CaseFault> {
     let mut next = Next::Plain;
     for &byte in text {
         next = take(alloc, next, byte, turn, to)?;

@@ -4,7 +4,7 @@ use std::io;
 
 /// What is wrong with a line, or with the machine.
 #[derive(Clone, Copy)]
-pub enum CaseFault {
+pub(crate) enum CaseFault {
     /// The line is none that is known, or stands where it may not.
     Line,
     /// There was no memory.

@@ -11,7 +11,7 @@ use river_outside::{Files, MemShelf, MemSink};
 use std::alloc::Global;
 
 /// The files of a case.
-pub fn shelf_of(alloc: Global, case: &Case) -> Result<MemShelf, CaseFault> {
+pub(crate) fn shelf_of(alloc: Global, case: &Case) -> Result<MemShelf, CaseFault> {
     let fails = numbers_of(alloc, &case.reads.fails)?;
     let files = files_of(alloc, &case.files)?;
     if case.reads.piece == 0 || !have_distinct_names(files.as_slice()) {
@@ -21,7 +21,7 @@ pub fn shelf_of(alloc: Global, case: &Case) -> Result<MemShelf, CaseFault> {
 }
 
 /// A sink that goes on as the device.
-pub fn sink_of(alloc: Global, device: &Device) -> Result<MemSink, CaseFault> {
+pub(crate) fn sink_of(alloc: Global, device: &Device) -> Result<MemSink, CaseFault> {
     if device.piece == 0 {
         return Err(CaseFault::Line);
     }

@@ -19,7 +19,7 @@ enum Place {
 
 /// The case that is read, and what was read before.
 #[derive(Drop)]
-pub struct Reader {
+pub(crate) struct Reader {
     alloc: Global,
     wanted: u32,
     texts: Files,

@@ -7,7 +7,7 @@ use std::io::Write;
 
 /// How many cases were tried, and how many of them were right.
 #[derive(Clone, Copy)]
-pub struct Tally {
+pub(crate) struct Tally {
     pub tried: u32,
     pub right: u32,
 }
@@ -27,14 +27,14 @@ impl Tally {
 
 /// What a run ended with, and what it wrote.
 #[derive(Clone, Copy)]
-pub struct Ran<'a> {
+pub(crate) struct Ran<'a> {
     pub status: u8,
     pub out: &'a [u8],
     pub err: &'a [u8],
 }
 
 /// Prints what a case gave that is not what it says.
-pub fn show_wrong<R: Print>(
+pub(crate) fn show_wrong<R: Print>(
     rt: &R,
     alloc: Global,
     title: &[u8],
@@ -66,7 +66,7 @@ fn show<R: Print>(rt: &R, parts: &[&[u8]]) -> Result<(), CaseFault> {
 }
 
 /// Prints which words stood behind those of a case.
-pub fn show_more<R: Print>(rt: &R, more: &[Text]) -> Result<(), CaseFault> {
+pub(crate) fn show_more<R: Print>(rt: &R, more: &[Text]) -> Result<(), CaseFault> {
     let mut to = io::writer(rt);
     to.write_all(b"behind its words")?;
     for word in more {
@@ -83,7 +83,7 @@ fn first(bytes: &[u8]) -> &[u8] {
 }
 
 /// Prints why the cases cannot be gone through.
-pub fn show_fault<R: Print>(rt: &R, line: u32, fault: CaseFault) -> io::Result<()> {
+pub(crate) fn show_fault<R: Print>(rt: &R, line: u32, fault: CaseFault) -> io::Result<()> {
     match fault {
         CaseFault::Line => println!(rt; "line {line} cannot be read, or may not stand there"),
         CaseFault::NoMemory => println!(rt; "line {line}: out of memory"),
@@ -92,7 +92,7 @@ pub fn show_fault<R: Print>(rt: &R, line: u32, fault: CaseFault) -> io::Result<(
 }
 
 /// Prints how many were right.
-pub fn show_tally<R: Print>(rt: &R, tally: Tally, wanted: u32) -> io::Result<()> {
+pub(crate) fn show_tally<R: Print>(rt: &R, tally: Tally, wanted: u32) -> io::Result<()> {
     let Tally { tried, right } = tally;
     if tried != wanted {
         return println!(rt; "{tried} cases, where the first line says {wanted}");

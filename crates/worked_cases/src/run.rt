@@ -27,7 +27,7 @@ pub trait Runner {
 
 /// Whether a case gives what it says; where it runs a program, also with each of these lists of words behind its own. What it
 /// gave is printed where it does not.
-pub fn tries<R: Print + Threads + Wait + Sync, T: Runner>(
+pub(crate) fn tries<R: Print + Threads + Wait + Sync, T: Runner>(
     rt: &R,
     alloc: Global,
     runner: &T,

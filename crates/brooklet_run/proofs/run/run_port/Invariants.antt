@@ -1,4 +1,5 @@
-use Rattle.brooklet_step.specs.Drained.{Follows, left_at}
+use Rattle.brooklet_step.specs.Drained.{Follows}
+use Rattle.brooklet_step.proofs.RunLemmas.{left_at}
 use Rattle.brooklet_run.proofs.run.run_port.Given as goal
 
 abbrev pub invariant-loop-alloc : goal.invariant-loop-alloc

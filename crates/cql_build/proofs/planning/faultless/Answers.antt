@@ -6,11 +6,11 @@ use Rattle.cql_text.specs.Tree.{unit_forms}
 use Rattle.cql_build.proofs.Filled.{if_err_then, many_exceed, told_limit, over_limit, limited_refused}
 use Rattle.cql_build.proofs.planning.faultless.Goals as goal
 
-pub returns-then-len-gt256-clause-refused : goal.returns-then-len-gt256-clause-refused
-returns-then-len-gt256-clause-refused c =
+pub returns-then-len-clause-refused : goal.returns-then-len-clause-refused
+returns-then-len-clause-refused c =
     let p = unit_forms c.args.units.now in
     let n = ap (λ (l : List Name). length l) c.in_ok-uses.ensures.all in
-    let many : 256 < length (all_uses p) = let a = c.if-len-gt256.true in let b = c.len.ensures in omega (arith, a, b, n) in
+    let many : 256 < length (all_uses p) = let a = c.if-len.true in let b = c.len.ensures in omega (arith, a, b, n) in
     subst (IsWhyRefused p) (sym c.limited.ensures) (over_limit c.args.units.now c.requires.none (many_exceed p many))
 
 pub checked-requires : goal.checked-requires

@@ -4,7 +4,7 @@ use Rattle.river_plan.specs.ByPlace.{queue_kinds}
 use Rattle.river_plan.specs.Forms.{PlanForm}
 use Rattle.brooklet_step.proofs.ReadLemmas.{ops_many}
 use Rattle.brooklet_step.proofs.RunLemmas.{ops_few}
-use Rattle.fire_open.specs.First.{first_lines}
+use Rattle.fire_open.proofs.FirstLemmas.{first_lines}
 use Rattle.fire_open.proofs.FirstLemmas.{all_fresh, queues_long, kinds_many}
 use Rattle.fire_open.proofs.tasks.tasks_of.Goals as goal
 

@@ -1,7 +1,7 @@
 use Rattle.std.proofs.Common.{sym, ap, arith}
 use Rattle.river_plan.specs.Names.{one_if}
 use Rattle.river_plan.specs.Uses.{named_it}
-use Rattle.plan_edits.proofs.OpLoops.{total_next, found_at, found_none}
+use Rattle.rw_local.proofs.OpLoops.{total_next, found_at, found_none}
 use Rattle.rw_local.proofs.hoisting.labelled.Goals as goal
 
 pub returns-then-eq : goal.returns-then-eq

@@ -1,7 +1,7 @@
 use Rattle.std.proofs.Common.{◌<◌, List, refl, sym, subst}
 use Rattle.river_plan.specs.Forms.{Name}
 use Rattle.river_plan.specs.Names.{count}
-use Rattle.plan_edits.proofs.NameLoops.{none_next, there_at}
+use Rattle.rw_local.proofs.NameLoops.{none_next, there_at}
 use Rattle.rw_local.proofs.names.contains.Goals as goal
 
 pub returns-then-eq : goal.returns-then-eq

@@ -1,6 +1,6 @@
 use Rattle.std.proofs.Common.{◌+◌, sym, ap, ◌∙◌}
 use Rattle.plan_edits.specs.Lists.{place_of_name}
-use Rattle.plan_edits.proofs.NameLoops.{none_next, place_at, place_past}
+use Rattle.rw_local.proofs.NameLoops.{none_next, place_at, place_past}
 use Rattle.rw_local.proofs.names.place.Goals as goal
 
 pub returns-then-eq : goal.returns-then-eq

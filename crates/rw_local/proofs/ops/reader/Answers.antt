@@ -1,7 +1,7 @@
 use Rattle.river_plan.specs.Uses.{reads_it}
 use Rattle.river_plan.proofs.NameLemmas.{nat_zero, not_false}
 use Rattle.std.proofs.Common.{refl}
-use Rattle.plan_edits.proofs.OpLoops.{total_next, found_at, found_none}
+use Rattle.rw_local.proofs.OpLoops.{total_next, found_at, found_none}
 use Rattle.rw_local.proofs.ops.reader.Goals as goal
 
 pub returns-then-contains : goal.returns-then-contains

@@ -4,8 +4,8 @@ use Rattle.streamit_build.proofs.Weights.{equal_high, equal_fits, product_above}
 use Rattle.streamit_build.proofs.Added.{fine}
 use Rattle.streamit_build.proofs.rounds.equal.Goals as goal
 
-pub returns-then-weight-gt65536 : goal.returns-then-weight-gt65536
-returns-then-weight-gt65536 c =
+pub returns-then-weight : goal.returns-then-weight
+returns-then-weight c =
     let w = c.args.weight in
     let n = c.args.branches in
     let pos : 1 ≤ w = omega arith in
@@ -13,8 +13,8 @@ returns-then-weight-gt65536 c =
     let high : 65536 < w = omega arith in
     equal_high w n pos (product_above 65536 n w some high)
 
-pub returns-then-branches-gt65536 : goal.returns-then-branches-gt65536
-returns-then-branches-gt65536 c =
+pub returns-then-branches : goal.returns-then-branches
+returns-then-branches c =
     let w = c.args.weight in
     let n = c.args.branches in
     let pos : 1 ≤ w = omega arith in
@@ -23,12 +23,12 @@ returns-then-branches-gt65536 c =
     let e = mul_comm w n in
     equal_high w n pos (omega (arith, p, e))
 
-pub returns-then-weight-branches-gt65536 : goal.returns-then-weight-branches-gt65536
-returns-then-weight-branches-gt65536 c =
+pub returns-then-weight-branches : goal.returns-then-weight-branches
+returns-then-weight-branches c =
     let w = c.args.weight in
     let n = c.args.branches in
     let pos : 1 ≤ w = omega arith in
-    let h = c.if-weight-branches-gt65536.true in
+    let h = c.if-weight-branches.true in
     let e = mul_comm w n in
     equal_high w n pos (omega (arith, e, h))
 
@@ -37,6 +37,6 @@ returns c =
     let w = c.args.weight in
     let n = c.args.branches in
     let pos : 1 ≤ w = omega arith in
-    let h = c.if-weight-branches-gt65536.false in
+    let h = c.if-weight-branches.false in
     let e = mul_comm w n in
     equal_fits w n pos (omega (arith, e, h)) ∙ ap fine (sym (c.in_ok-copies.ensures {u = tt}))

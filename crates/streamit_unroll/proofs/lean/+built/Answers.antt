@@ -1,6 +1,6 @@
 use Rattle.std.proofs.Common.{◌≡◌, ◌∙◌, ◌++◌, ◌∷◌, [], sym, ap, append_assoc, append-nil, map, take, arith}
 use Rattle.std.proofs.lemmas.List.{map-append, take_more, take_all}
-use Rattle.streamit_text.specs.Tree.{statement, block, in_turn, expression, optional_block}
+use Rattle.streamit_text.specs.Tree.{statement, in_turn, expression}
 use Rattle.streamit_text.specs.Tree as source
 use Rattle.streamit_text.proofs.Trees.{block-is}
 use Rattle.streamit_unroll.specs.Lean.{discards, flat, lean, told}

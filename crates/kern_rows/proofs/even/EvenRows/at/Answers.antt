@@ -1,6 +1,7 @@
 use Rattle.std.proofs.Common.{◌≡◌, ◌<◌, ◌-◌, ◌+◌, ◌*◌, length, take, drop, get_or, sym, ap, ◌∙◌, arith, length-drop}
 use Rattle.std.proofs.lemmas.List.{length-take-le}
-use Rattle.kern_rows.proofs.Cuts.{length-cut, cut-at, behind}
+use Rattle.kern_rows.proofs.Cuts.{cut-at, behind}
+use Rattle.river_base.proofs.CutRows.{length-cut}
 use Rattle.kern_rows.proofs.even.EvenRows.at.Goals as goal
 
 pub overflow_sub-behind : goal.overflow_sub-behind

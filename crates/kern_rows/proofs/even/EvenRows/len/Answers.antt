@@ -1,5 +1,5 @@
 use Rattle.std.proofs.Common.{sym, ap, ◌∙◌, length}
-use Rattle.kern_rows.proofs.Cuts.{length-cut}
+use Rattle.river_base.proofs.CutRows.{length-cut}
 use Rattle.kern_rows.proofs.even.EvenRows.len.Goals as goal
 
 pub returns : goal.returns

@@ -1,7 +1,9 @@
 use Rattle.std.proofs.Common.{◌≡◌, ℕ, ℤ, List, ◌<◌, ◌-◌, ◌*◌, length, take, sym, ap, ◌∙◌, subst, arith}
 use Rattle.std.proofs.lemmas.List.{take_all}
-use Rattle.kern_rows.specs.Even.{cut, AreEven}
-use Rattle.kern_rows.proofs.Cuts.{length-cut, parted, cut-front, even-front}
+use Rattle.kern_rows.specs.Even.{AreEven}
+use Rattle.river_base.specs.WideRows.{cut_rows}
+use Rattle.kern_rows.proofs.Cuts.{parted, cut-take, even-front}
+use Rattle.river_base.proofs.CutRows.{length-cut}
 use Rattle.kern_rows.proofs.even.EvenRows.truncate.Goals as goal
 
 -- what is kept are the values of the first rows
@@ -31,7 +33,7 @@ returns-then-count-self c =
     let n = c.args.count in
     let e = kept-is r.width r.count n c.len-all.result r.values c.truncate.new.self c.if-count-self.true c.self.invariant c.len-all.ensures
     c.truncate.ensures in
-    ap (cut r.width n) e ∙ cut-front r.width r.count n r.values (omega arith) ∙ ap (take n) c.self.view_is
+    ap (cut_rows r.width n) e ∙ cut-take r.width r.count n r.values (omega arith) ∙ ap (take n) c.self.view_is
 
 pub returns-else-count-self : goal.returns-else-count-self
 returns-else-count-self c =

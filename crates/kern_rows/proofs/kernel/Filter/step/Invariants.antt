@@ -1,6 +1,6 @@
 use Rattle.std.proofs.Common.{◌≡◌, length}
 use Rattle.kern_rows.specs.Forms.{filter_form}
-use Rattle.kern_rows.specs.Stands.{Between, runs_left}
+use Rattle.kern_rows.proofs.Filtered.{Between, runs_left}
 use Rattle.kern_rows.proofs.kernel.Filter.step.Given as goal
 
 abbrev pub invariant-runs : goal.invariant-runs

@@ -4,9 +4,9 @@ use Rattle.std.specs.BTreeMap.{is_at, insert_entry}
 use Rattle.std.specs.Map.{lookup, set_value}
 use Rattle.std.proofs.lemmas.List.{length-take-le}
 use Rattle.river_base.specs.Bags.{put_in_order}
-use Rattle.river_base.specs.Keyed.{put}
+use Rattle.kern_tables.specs.Keyed.{put}
 use Rattle.river_base.specs.Row.{row_cmp, row_total}
-use Rattle.river_base.proofs.Keyed.{put_is_insert}
+use Rattle.kern_tables.proofs.KeyedPuts.{put_is_insert}
 use Rattle.river_base.proofs.Rows.{exact_rows}
 use Rattle.kern_tables.specs.Entries.{AreShort, best_more}
 use Rattle.kern_tables.specs.Tables.{ranked_in, ranks_before}

@@ -35,9 +35,9 @@ returns-in_err-new_name c =
     (declare_name_fault c.args.name (option_expression c.args.value.now) s (at_of c.counted.new.self) c.in_ok-counted.ensures.judged f
     c.in_err-new_name.ensures)
 
-pub returns-then-slot-ge256 : goal.returns-then-slot-ge256
-returns-then-slot-ge256 c = declare_slot_fault c.args.name (option_expression c.args.value.now) (at_of c.args.self.now) (at_of c.counted.new.self)
-    c.in_ok-counted.ensures.judged c.in_ok-new_name.ensures c.if-slot-ge256.true
+pub returns-then-slot-ge-MOST_SLOTS : goal.returns-then-slot-ge-MOST_SLOTS
+returns-then-slot-ge-MOST_SLOTS c = declare_slot_fault c.args.name (option_expression c.args.value.now) (at_of c.args.self.now) (at_of c.counted.new.self)
+    c.in_ok-counted.ensures.judged c.in_ok-new_name.ensures c.if-slot-ge-MOST_SLOTS.true
 
 pub returns-in_err-value : goal.returns-in_err-value
 returns-in_err-value c =
@@ -46,13 +46,13 @@ returns-in_err-value c =
     reads_err c.from_residual-in_err-value.result f c.args.out.now c.args.out.now c.args.self.now c.counted.new.self
     (step_of (source.Declare c.args.name (option_expression c.args.value.now)) s) (search rules)
     (declare_value_fault c.args.name (option_expression c.args.value.now) s (at_of c.counted.new.self) c.in_ok-counted.ensures.judged
-    c.in_ok-new_name.ensures c.if-slot-ge256.false f c.in_err-value.ensures)
+    c.in_ok-new_name.ensures c.if-slot-ge-MOST_SLOTS.false f c.in_err-value.ensures)
 
 pub returns : goal.returns
 returns c =
     let value = c.in_ok-value.value in
     let read = declare_read c.args.name (option_expression c.args.value.now) (at_of c.args.self.now) (at_of c.counted.new.self)
-    c.in_ok-counted.ensures.judged c.in_ok-new_name.ensures c.if-slot-ge256.false (term value) c.in_ok-value.ensures in
+    c.in_ok-counted.ensures.judged c.in_ok-new_name.ensures c.if-slot-ge-MOST_SLOTS.false (term value) c.in_ok-value.ensures in
     let old = c.counted.new.self in
     let known : List (Name × Known) = old.names.items.items in
     let one : Name × Known = (c.args.name, code.Slot old.slots) in

@@ -36,10 +36,10 @@ returns-in_err-new_name c =
     (step_of c.args.peek (source.Declare c.args.name t) s) (search rules)
     (declare_name_fault c.args.peek c.args.name t s (at_of c.counted.new.self) c.in_ok-counted.ensures.judged f c.in_err-new_name.ensures)
 
-pub returns-then-slot-ge256 : goal.returns-then-slot-ge256
-returns-then-slot-ge256 c =
+pub returns-then-slot-ge-MOST_SLOTS : goal.returns-then-slot-ge-MOST_SLOTS
+returns-then-slot-ge-MOST_SLOTS c =
     declare_slot_fault c.args.peek c.args.name (option_expression c.args.value.now) (at_of c.args.self.now)
-    (at_of c.counted.new.self) c.in_ok-counted.ensures.judged c.in_ok-new_name.ensures c.if-slot-ge256.true
+    (at_of c.counted.new.self) c.in_ok-counted.ensures.judged c.in_ok-new_name.ensures c.if-slot-ge-MOST_SLOTS.true
 
 pub returns-in_err-value : goal.returns-in_err-value
 returns-in_err-value c =
@@ -49,7 +49,7 @@ returns-in_err-value c =
     reads_err c.from_residual-in_err-value.result f c.args.out.now c.args.out.now c.args.self.now c.first_term.new.self
     (step_of c.args.peek (source.Declare c.args.name t) s) (search rules)
     (declare_value_fault c.args.peek c.args.name t s
-    (at_of c.counted.new.self) c.in_ok-counted.ensures.judged c.in_ok-new_name.ensures c.if-slot-ge256.false f c.in_err-value.ensures.judged)
+    (at_of c.counted.new.self) c.in_ok-counted.ensures.judged c.in_ok-new_name.ensures c.if-slot-ge-MOST_SLOTS.false f c.in_err-value.ensures.judged)
 
 pub returns : goal.returns
 returns c =
@@ -57,7 +57,7 @@ returns c =
     let old = c.counted.new.self in
     let behind = c.first_term.new.self in
     let read = declare_read c.args.peek c.args.name (option_expression c.args.value.now) (at_of c.args.self.now)
-    (at_of old) c.in_ok-counted.ensures.judged c.in_ok-new_name.ensures c.if-slot-ge256.false (term value) c.in_ok-value.ensures.judged in
+    (at_of old) c.in_ok-counted.ensures.judged c.in_ok-new_name.ensures c.if-slot-ge-MOST_SLOTS.false (term value) c.in_ok-value.ensures.judged in
     let names : behind.names.items.items ≡ old.names.items.items = ap (λ n. n.items.items) c.in_ok-value.ensures.names in
     let known : List (Name × Known) = behind.names.items.items in
     let one : Name × Known = (c.args.name, code.Var old.slots) in

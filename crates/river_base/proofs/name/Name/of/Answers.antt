@@ -3,7 +3,7 @@ use Rattle.std.proofs.Common.{ap, ◌∙◌, get_or, arith, sym, subst, IsTrue}
 use Rattle.river_base.specs.Name.{is_name}
 use Rattle.river_base.proofs.RowLemmas.{filled_more, shown, short}
 use Rattle.river_base.proofs.NameLemmas.{name_at_most}
-use Rattle.river_base.proofs.name.Name.of_word.Goals as goal
+use Rattle.river_base.proofs.name.Name.of.Goals as goal
 
 pub invariant_of-result : goal.invariant_of-result
 invariant_of-result c =

@@ -4,7 +4,7 @@ use Rattle.std.proofs.lemmas.Int.{to_z-of_z}
 use Rattle.std.proofs.lemmas.List.{take_all}
 use Rattle.plan_classes.specs.Sets.{place_in, with_list}
 use Rattle.plan_classes.proofs.Numbering.{IsNumbered, one_more, are_classes}
-use Rattle.plan_classes.proofs.classes.Goals as goal
+use Rattle.plan_classes.proofs.class_numbers.classes.Goals as goal
 
 pub loop-list-preserved : goal.loop-list-preserved
 loop-list-preserved c =

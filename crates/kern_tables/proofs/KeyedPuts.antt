@@ -13,7 +13,7 @@ use Rattle.std.specs.List.Sorted.{IsStrictlySortedBy}
 use Rattle.std.proofs.lemmas.Map.Keys.{sorted_tail}
 use Rattle.std.proofs.lemmas.Map.Entries.{lookup_at_gap, lookup_head, lookup_tail}
 use Rattle.river_base.proofs.Bags.{fold-IsPermutation}
-use Rattle.river_base.specs.Keyed as table
+use Rattle.kern_tables.specs.Keyed as table
 
 module _ {K V W : Type 0} (R : K → K → Ordering) (o : IsTotalOrder R) (exact : CmpEqualImpliesEq R) (start : V) (merge : V → W → V)
     (commutes : (v : V) (w u : W) → merge (merge v w) u ≡ merge (merge v u) w) where

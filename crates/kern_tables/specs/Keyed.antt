@@ -1,6 +1,6 @@
 -- Tables that keep a value for each key.
-use Rattle.std.specs.Prelude.{List, [], ◌∷◌, fold, Option, Some, None, unwrap_or, if◌then◌else◌}
-use Rattle.std.specs.Ordering.{match_ordering, is_eq}
+use Rattle.std.specs.Prelude.{List, [], ◌∷◌, fold}
+use Rattle.std.specs.Ordering.{match_ordering}
 use Rattle.std.specs.declared.cmp.Ordering.{Ordering}
 
 module _ {K V W : Type 0} (cmp : K → K → Ordering) (start : V) (merge : V → W → V) where
@@ -12,7 +12,3 @@ module _ {K V W : Type 0} (cmp : K → K → Ordering) (start : V) (merge : V �
   -- the table of the pairs that were added
   abbrev pub keyed : List (K × W) → List (K × V)
   keyed adds = fold put [] adds
-
-  -- what was merged at a key, in the order of the adds; None where nothing was added there
-  abbrev pub merged : K → List (K × W) → Option V
-  merged k adds = fold (λ so_far a. if is_eq (cmp k a.0) then Some (merge (unwrap_or so_far start) a.1) else so_far) None adds
