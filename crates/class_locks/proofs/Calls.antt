@@ -14,7 +14,7 @@ use Rattle.class_locks.specs.Rule.{Locks, Mine, IsKept, IsLogged, took, took_by,
 use Rattle.class_locks.specs.Seats.{IsSeated, MayPut}
 use Rattle.class_locks.proofs.Lists.{find_took, has_left}
 use Rattle.class_locks.proofs.Takes.{takes_ok, parks_ok, fetches_ok, frees_ok}
-use Rattle.class_locks.proofs.Arrivals.{joins_ok}
+use Rattle.class_locks.proofs.Joins.{joins_ok}
 
 -- a place at the table of the locks
 abbrev pub Place : Type 0

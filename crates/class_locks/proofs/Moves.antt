@@ -156,127 +156,139 @@ module _ (n : ℕ) (starts : List Holding) where
       w = record v { hand = hand; held = held; takes = ts; claims = claims }
 
       -- the step of a seat at class c, with which the word becomes b and the home h
-      pub moves : (p : ℕ) → StandsIn p v.parts → (c : ℕ) → c < length starts → (b : ℕ) → b < 2 → (h : maybe.Option (Option Holding))
-          → (class_word s.words c ≡ 1 → o.holder c ≡ j)
-          → (b ≡ 0 → (x : Holding) × (h ≡ some (Some x)) × Logged n starts (set s.views j w) c x)
-          → ((g : Bool) (d : ℕ) (x : Holding) → Grip g d x w
+      module _ (p : ℕ) (has : StandsIn p v.parts) (c : ℕ) (lt : c < length starts) (b : ℕ) (small : b < 2) (h : maybe.Option (Option Holding))
+          (mine : class_word s.words c ≡ 1 → o.holder c ≡ j)
+          (free : b ≡ 0 → (x : Holding) × (h ≡ some (Some x)) × Logged n starts (set s.views j w) c x)
+          (grip : (g : Bool) (d : ℕ) (x : Holding) → Grip g d x w
           → ((d ≢ c) × Grip g d x v) ⊎ ((d ≡ c) × (h ≡ lies g) × (b ≡ 1) × Logged n starts (set s.views j w) d x))
-          → ((g : Bool) (d : ℕ) (x : Holding) → d ≢ c → Grip g d x v → Grip g d x w)
-          → (b ≡ 1 → (g : Bool) × (x : Holding) × Grip g c x w)
-          → Belong n v.parts (entries_of claims)
-          → ((d : ℕ) (x : Holding) → d ≢ c → Logged n starts s.views d x → Logged n starts (set s.views j w) d x)
-          → IsKept n starts (record { words = set s.words (suc c) b; homes = set s.homes c h; views = set s.views j w })
-      moves p has c lt b small h mine free grip keep hold claimed others = record {
-        wide = length-set s.words (suc c) b ∙ wide;
-        deep = length-set s.homes c h ∙ deep;
-        state = inr (record {
-          owner = o.owner;
-          holder = put o.holder c j;
-          open_word = get_or-set_other s.words (suc c) 0 b 0 (λ e. omega arith) ∙ o.open_word;
-          classes = classes;
-          owners = λ k kn. longer (o.owner k) (o.owners k kn);
-          seats = seats;
-        });
-      }
-        where
-          s' : Locks
-          s' = record { words = set s.words (suc c) b; homes = set s.homes c h; views = set s.views j w }
+          (keep : (g : Bool) (d : ℕ) (x : Holding) → d ≢ c → Grip g d x v → Grip g d x w)
+          (hold : b ≡ 1 → (g : Bool) × (x : Holding) × Grip g c x w)
+          (claimed : Belong n v.parts (entries_of claims))
+          (others : (d : ℕ) (x : Holding) → d ≢ c → Logged n starts s.views d x → Logged n starts (set s.views j w) d x) where
+        -- the table afterwards, and who holds which class
+        abbrev s' : Locks
+        s' = record { words = set s.words (suc c) b; homes = set s.homes c h; views = set s.views j w }
 
-          longer : (m : ℕ) → m < length s.views → m < length (set s.views j w)
-          longer m q = subst (λ r. m < r) (sym (length-set s.views j w)) q
+        abbrev holder : ℕ → ℕ
+        holder = put o.holder c j
 
-          word_here : class_word (set s.words (suc c) b) c ≡ b
-          word_here = get_or-set_same s.words (suc c) b 0 (subst (λ m. suc c < m) (sym wide) (omega arith))
+        -- there are as many seats
+        longer : (m : ℕ) → m < length s.views → m < length (set s.views j w)
+        longer m q = subst (λ r. m < r) (sym (length-set s.views j w)) q
 
-          word_else : (d : ℕ) → d ≢ c → class_word (set s.words (suc c) b) d ≡ class_word s.words d
-          word_else d ne = get_or-set_other s.words (suc c) (suc d) b 0 (λ e. ne (omega arith))
+        -- the word and the home of the class, and those of the others
+        word_here : class_word (set s.words (suc c) b) c ≡ b
+        word_here = get_or-set_same s.words (suc c) b 0 (subst (λ m. suc c < m) (sym wide) (omega arith))
 
-          home_here : get_elem? (set s.homes c h) c ≡ some h
-          home_here = set_here s.homes c h (subst (λ m. c < m) (sym deep) lt)
+        word_else : (d : ℕ) → d ≢ c → class_word (set s.words (suc c) b) d ≡ class_word s.words d
+        word_else d ne = get_or-set_other s.words (suc c) (suc d) b 0 (λ e. ne (omega arith))
 
-          home_else : (d : ℕ) → d ≢ c → get_elem? (set s.homes c h) d ≡ get_elem? s.homes d
-          home_else d ne = set_else s.homes c d h ne
+        home_here : get_elem? (set s.homes c h) c ≡ some h
+        home_here = set_here s.homes c h (subst (λ m. c < m) (sym deep) lt)
 
-          class_here : ClassOk n starts s' o.owner (put o.holder c j) c
-          class_here = record {
-            small = subst (λ m. m < 2) (sym word_here) small;
-            free = λ z. let f = free (sym word_here ∙ z) in (f.0, home_here ∙ ap some f.1, f.2);
-            taken = λ z. subst (λ m. m < length (set s.views j w)) (sym (put_here o.holder c j)) (longer j (at_within s.views j v at));
-          }
+        home_else : (d : ℕ) → d ≢ c → get_elem? (set s.homes c h) d ≡ get_elem? s.homes d
+        home_else d ne = set_else s.homes c d h ne
 
-          classes : (d : ℕ) → d < length starts → ClassOk n starts s' o.owner (put o.holder c j) d
-          classes d dl = dite (ℕ_discrete d c)
-              (λ e. subst (ClassOk n starts s' o.owner (put o.holder c j)) (sym e) class_here)
-              (λ ne. let q = o.classes d dl in record {
-                small = subst (λ m. m < 2) (sym (word_else d ne)) q.small;
-                free = λ z. let f = q.free (sym (word_else d ne) ∙ z) in (f.0, home_else d ne ∙ f.1, others d f.0 ne f.2);
-                taken = λ z. subst (λ m. m < length (set s.views j w)) (sym (put_else o.holder c j d ne))
-                    (longer (o.holder d) (q.taken (sym (word_else d ne) ∙ z)));
-              })
+        -- the class
+        class_here : ClassOk n starts s' o.owner holder c
+        class_here = record {
+          small = subst (λ m. m < 2) (sym word_here) small;
+          free = λ z. let f = free (sym word_here ∙ z) in (f.0, home_here ∙ ap some f.1, f.2);
+          taken = λ z. subst (λ m. m < length (set s.views j w)) (sym (put_here o.holder c j)) (longer j (at_within s.views j v at));
+        }
 
-          there : (i : ℕ) (u : View) → i ≢ j → get_elem? s.views i ≡ some u → SeatOk n starts s' o.owner (put o.holder c j) i u
-          there i u ni e = let q = o.seats i u e in record {
-            same = q.same;
-            parts_in = q.parts_in;
-            parts_all = q.parts_all;
-            grips = λ g d x r.
-                let y = q.grips g d x r in
-                let ne : d ≢ c = λ z. ni (sym y.0.mine ∙ (ap o.holder z ∙ mine (subst (λ m. class_word s.words m ≡ 1) z y.0.word))) in (
-                  record {
-                    there = y.0.there;
-                    word = word_else d ne ∙ y.0.word;
-                    mine = put_else o.holder c j d ne
-                        ∙ y.0.mine;
-                    logged = others d x ne y.0.logged;
-                  },
-                  home_else d ne ∙ y.1,
-                );
-            holds = λ d dl z m.
-                let ne : d ≢ c = λ r. ni (sym m ∙ (ap (put o.holder c j) r ∙ put_here o.holder c j)) in
-                q.holds d dl (sym (word_else d ne) ∙ z) (sym (put_else o.holder c j d ne) ∙ m);
-            claimed = q.claimed;
-            idle = q.idle;
-          }
+        -- and the others are as they were
+        classes : (d : ℕ) → d < length starts → ClassOk n starts s' o.owner holder d
+        classes d dl = dite (ℕ_discrete d c)
+            (λ e. subst (ClassOk n starts s' o.owner holder) (sym e) class_here)
+            (λ ne. let q = o.classes d dl in record {
+              small = subst (λ m. m < 2) (sym (word_else d ne)) q.small;
+              free = λ z. let f = q.free (sym (word_else d ne) ∙ z) in (f.0, home_else d ne ∙ f.1, others d f.0 ne f.2);
+              taken = λ z. subst (λ m. m < length (set s.views j w)) (sym (put_else o.holder c j d ne))
+                  (longer (o.holder d) (q.taken (sym (word_else d ne) ∙ z)));
+            })
 
-          here : SeatOk n starts s' o.owner (put o.holder c j) j w
-          here = let q = o.seats j v at in record {
-            same = q.same;
-            parts_in = q.parts_in;
-            parts_all = q.parts_all;
-            grips = λ g d x r. ⊎_elim
-                (λ t. let y = q.grips g d x t.1 in (
-                  record {
-                    there = y.0.there;
-                    word = word_else d t.0 ∙ y.0.word;
-                    mine = put_else o.holder c j d t.0
-                        ∙ y.0.mine;
-                    logged = others d x t.0 y.0.logged;
-                  },
-                  home_else d t.0 ∙ y.1,
-                ))
-                (λ t. (
-                  record {
-                    there = subst (λ m. m < length starts) (sym t.0) lt;
-                    word = ap (class_word (set s.words (suc c) b)) t.0 ∙ (word_here ∙ t.2);
-                    mine = ap (put o.holder c j) t.0 ∙ put_here o.holder c j;
-                    logged = t.3;
-                  },
-                  ap (get_elem? (set s.homes c h)) t.0 ∙ (home_here ∙ ap some t.1),
-                ))
-                (grip g d x r);
-            holds = λ d dl z m. dite (ℕ_discrete d c)
-                (λ e. let r = hold (sym word_here ∙ (ap (class_word (set s.words (suc c) b)) (sym e) ∙ z)) in
-                (r.0, r.1, subst (λ k. Grip r.0 k r.1 w) (sym e) r.2))
-                (λ ne. let r = q.holds d dl (sym (word_else d ne) ∙ z) (sym (put_else o.holder c j d ne) ∙ m) in (r.0, r.1, keep r.0 d r.1 ne r.2));
-            claimed = claimed;
-            idle = λ e. absurd (subst (StandsIn p) e has);
-          }
+        -- the other seats
+        there : (i : ℕ) (u : View) → i ≢ j → get_elem? s.views i ≡ some u → SeatOk n starts s' o.owner holder i u
+        there i u ni e = let q = o.seats i u e in record {
+          same = q.same;
+          parts_in = q.parts_in;
+          parts_all = q.parts_all;
+          grips = λ g d x r.
+              let y = q.grips g d x r in
+              let ne : d ≢ c = λ z. ni (sym y.0.mine ∙ (ap o.holder z ∙ mine (subst (λ m. class_word s.words m ≡ 1) z y.0.word))) in (
+                record {
+                  there = y.0.there;
+                  word = word_else d ne ∙ y.0.word;
+                  mine = put_else o.holder c j d ne
+                      ∙ y.0.mine;
+                  logged = others d x ne y.0.logged;
+                },
+                home_else d ne ∙ y.1,
+              );
+          holds = λ d dl z m.
+              let ne : d ≢ c = λ r. ni (sym m ∙ (ap (put o.holder c j) r ∙ put_here o.holder c j)) in
+              q.holds d dl (sym (word_else d ne) ∙ z) (sym (put_else o.holder c j d ne) ∙ m);
+          claimed = q.claimed;
+          idle = q.idle;
+        }
 
-          seats : (i : ℕ) (u : View) → get_elem? (set s.views j w) i ≡ some u → SeatOk n starts s' o.owner (put o.holder c j) i u
-          seats i u e = ⊎_elim
-              (λ t. subst (SeatOk n starts s' o.owner (put o.holder c j) i) t.1 (subst (λ m. SeatOk n starts s' o.owner (put o.holder c j) m w) (sym t.0) here))
-              (λ t. there i u t.0 t.1)
-              (at_set s.views j i w u e)
+        -- the seat that makes the step
+        here : SeatOk n starts s' o.owner holder j w
+        here = let q = o.seats j v at in record {
+          same = q.same;
+          parts_in = q.parts_in;
+          parts_all = q.parts_all;
+          grips = λ g d x r. ⊎_elim
+              (λ t. let y = q.grips g d x t.1 in (
+                record {
+                  there = y.0.there;
+                  word = word_else d t.0 ∙ y.0.word;
+                  mine = put_else o.holder c j d t.0
+                      ∙ y.0.mine;
+                  logged = others d x t.0 y.0.logged;
+                },
+                home_else d t.0 ∙ y.1,
+              ))
+              (λ t. (
+                record {
+                  there = subst (λ m. m < length starts) (sym t.0) lt;
+                  word = ap (class_word (set s.words (suc c) b)) t.0 ∙ (word_here ∙ t.2);
+                  mine = ap (put o.holder c j) t.0 ∙ put_here o.holder c j;
+                  logged = t.3;
+                },
+                ap (get_elem? (set s.homes c h)) t.0 ∙ (home_here ∙ ap some t.1),
+              ))
+              (grip g d x r);
+          holds = λ d dl z m. dite (ℕ_discrete d c)
+              (λ e. let r = hold (sym word_here ∙ (ap (class_word (set s.words (suc c) b)) (sym e) ∙ z)) in
+              (r.0, r.1, subst (λ k. Grip r.0 k r.1 w) (sym e) r.2))
+              (λ ne. let r = q.holds d dl (sym (word_else d ne) ∙ z) (sym (put_else o.holder c j d ne) ∙ m) in (r.0, r.1, keep r.0 d r.1 ne r.2));
+          claimed = claimed;
+          idle = λ e. absurd (subst (StandsIn p) e has);
+        }
+
+        -- so all seats keep the rule
+        seats : (i : ℕ) (u : View) → get_elem? (set s.views j w) i ≡ some u → SeatOk n starts s' o.owner holder i u
+        seats i u e = ⊎_elim
+            (λ t. subst (SeatOk n starts s' o.owner holder i) t.1 (subst (λ m. SeatOk n starts s' o.owner holder m w) (sym t.0) here))
+            (λ t. there i u t.0 t.1)
+            (at_set s.views j i w u e)
+
+        -- and the table does
+        pub moves : IsKept n starts s'
+        moves = record {
+          wide = length-set s.words (suc c) b ∙ wide;
+          deep = length-set s.homes c h ∙ deep;
+          state = inr (record {
+            owner = o.owner;
+            holder = holder;
+            open_word = get_or-set_other s.words (suc c) 0 b 0 (λ e. omega arith) ∙ o.open_word;
+            classes = classes;
+            owners = λ k kn. longer (o.owner k) (o.owners k kn);
+            seats = seats;
+          });
+        }
 
     -- the cell goes home with entries of this seat's parts
     pub logged_with : (w : View) (c : ℕ) (x y : Holding) (es : List LogEntry) → w.parts ≡ v.parts → w.claims ≡ v.claims ++ claims_of c es → y.kinds ≡ x.kinds

@@ -117,7 +117,6 @@ dealing_next n ts0 ts ts' seats0 seats seats' bs seat b h e s o =
         λ d. record {
           tasks = s.tasks ∙ h.left (length seats') (omega (arith, long));
           seat = s.seat ∙ sym (ap (λ l. get_or l (length seats') d) all ∙ here seats' d);
-          blank = s.blank;
           unmoved = s.unmoved;
           calm = s.calm;
         },

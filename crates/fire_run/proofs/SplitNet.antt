@@ -200,7 +200,6 @@ module _ (z : TableId) (net : Net) (w : ℕ) (seats : List Chair) (bs : List Bun
         record {
           bundle = record {
             rests = ap (λ (x : View). x.held) e;
-            blank = s.blank;
             keeps = λ calm. subst (λ x. AreTasksAt p x (get_or bs k d).tasks) (sym e)
                 (subst (AreTasksAt p (with_parts w net.cells (k ∷ []) [])) (sym s.tasks) (share_tasks p h.inputs h.caps net w k v h.is));
           };

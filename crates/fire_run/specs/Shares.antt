@@ -18,7 +18,6 @@ pub record OthersStay (n k : ℕ) (ts ts' : List Task) : Type 0 where
 pub record IsShare (n : ℕ) (ts : List Task) (k : ℕ) (chair : Chair) (b : Bundle) : Type 0 where
   pub tasks : b.tasks ≡ tasks_of_part n k ts
   pub seat : b.seat ≡ chair
-  pub blank : b.pile.items ≡ []
   pub unmoved : b.moved ≡ false
   pub calm : b.refused ≡ false
 

@@ -70,7 +70,7 @@ fn move_one<G: Gate>(
     ensures same { OnOk result (ends_of task.new ≡ ends_of task.old) }
     ensures moved { IfOk result (OneMore (moves task.old) (moves task.new)) }
     ensures cells { OnOk result (HaveAdded (plan_form plan.now) task.old.op cells.old cells.new) }
-    ensures task_core { IfOk result (λ moved. IsFalse moved → task_core task.new ≡ task_core task.old) }
+    ensures still { IfOk result (λ moved. IsFalse moved → task_core task.new ≡ task_core task.old) }
     ensures stay { IfOk result (λ moved. IsFalse moved → cells.new ≡ cells.old) }
     ensures done { IfOk result (λ moved. IsFalse moved → IsDone task.old) }
     ensures step { IfOk result (λ moved. IsTrue moved → TaskMoves (plan_form plan.now) task.old task.new cells.old cells.new) }
@@ -102,7 +102,7 @@ fn take_next<G: Gate>(
     ensures same { OnOk result (ends_of task.new ≡ ends_of task.old) }
     ensures moved { IfOk result (OneMore (moves task.old) (moves task.new)) }
     ensures cells { OnOk result (HaveAdded (plan_form plan.now) task.old.op cells.old cells.new) }
-    ensures task_core { IfOk result (λ moved. IsFalse moved → task_core task.new ≡ task_core task.old) }
+    ensures still { IfOk result (λ moved. IsFalse moved → task_core task.new ≡ task_core task.old) }
     ensures stay { IfOk result (λ moved. IsFalse moved → cells.new ≡ cells.old) }
     ensures done { IfOk result (λ moved. IsFalse moved → IsDone task.old) }
     ensures takes { IfOk result (λ moved. IsTrue moved → Takes (plan_form plan.now) task.old task.new cells.old cells.new) }
@@ -149,7 +149,7 @@ fn move_last<G: Gate>(
     ensures same { OnOk result (all_ends tasks.new ≡ all_ends tasks.old) }
     ensures moved { IfOk result (OneMore (all_moves tasks.old) (all_moves tasks.new)) }
     ensures cells { OnOk result (HaveMoved (plan_form plan.now) cells.old cells.new) }
-    ensures task_core { IfOk result (λ moved. IsFalse moved → map task_core tasks.new ≡ map task_core tasks.old) }
+    ensures still { IfOk result (λ moved. IsFalse moved → map task_core tasks.new ≡ map task_core tasks.old) }
     ensures stay { IfOk result (λ moved. IsFalse moved → cells.new ≡ cells.old) }
     ensures idle { IfOk result (λ moved. IsFalse moved → AreIdle tasks.old) }
     ensures step { IfOk result (λ moved. IsTrue moved → MayHaveMoved (plan_form plan.now) tasks.old tasks.new cells.old cells.new) }
@@ -173,7 +173,7 @@ impl Net {
         ensures same { OnOk result (all_ends self.new.tasks ≡ all_ends self.old.tasks) }
         ensures goes { OnOk result (AllGoOn self.old.tasks self.new.tasks) }
         ensures logs { OnOk result (HaveMoved plan.now self.old.cells self.new.cells) }
-        ensures task_core { IfOk result (λ moved. IsFalse moved → map task_core self.new.tasks ≡ map task_core self.old.tasks) }
+        ensures still { IfOk result (λ moved. IsFalse moved → map task_core self.new.tasks ≡ map task_core self.old.tasks) }
         ensures stay { IfOk result (λ moved. IsFalse moved → self.new.cells ≡ self.old.cells) }
         ensures idle { IfOk result (λ moved. IsFalse moved → AreIdle self.new.tasks) }
         ensures step { IfOk result (λ moved. IsTrue moved → LastMoved plan.now self.old.tasks self.new.tasks self.old.cells self.new.cells) }

@@ -27,7 +27,6 @@ pub record AreTasksAt (p : PlanForm) (v : View) (ts : List Task) : Type 0 where
 -- a bundle of a plan: between passes its seat holds no class; and where no pass was refused its tasks keep what tasks keep
 pub record IsBundle (p : PlanForm) (b : Bundle) : Type 0 where
   pub rests : b.seat.view.held ≡ []
-  pub blank : b.pile.items ≡ []
   pub keeps : b.refused ≡ false → AreTasksAt p b.seat.view b.tasks
 
 -- the bundle of the same seat and round, whether it was refused or not

@@ -9,7 +9,7 @@ ghost use Rattle.fire_tasks.specs.Turns.{StillSits, LooksSame};
 use crate::Task;
 use crate::passing::{is_idle, pass_task};
 use crate::taking::first_ready;
-use class_locks::{Pile, Seat};
+use class_locks::{Room, Seat};
 use river_base::{Gate, Listed, NoMemory};
 use river_plan::RawPlan;
 use std::alloc::Global;
@@ -42,8 +42,8 @@ pub struct Bundle {
     alloc: Global,
     tasks: Listed<Task>,
     seat: Seat,
-    /// Room for the cells of a task's classes. Between two takes there is none in it.
-    pile: Pile,
+    /// Room for the cells of a task's classes.
+    room: Room,
     /// How often a pass looks at its tasks, at most, for something that moves.
     looks: u32,
     /// Whether a pass of the last round moved something.
@@ -58,21 +58,19 @@ fn sweep<G: Gate>(
     plan: &RawPlan,
     tasks: &mut Listed<Task>,
     seat: &mut Seat,
-    pile: &mut Pile,
+    room: &mut Room,
     gate: &G,
 ) -> Result<bool, NoMemory>
     requires valid { IsPlan (plan_form plan.now) }
     requires tasks { AreTasksAt (plan_form plan.now) seat.old.view tasks.old }
     requires rests { seat.old.view.held ≡ [] }
-    requires blank { pile.old.items ≡ [] }
     ensures lot { seat.new.lot ≡ seat.old.lot }
     ensures sits { StillSits seat.old.view seat.new.view }
-    ensures blank { pile.new.items ≡ [] }
     ensures swept { IfOk result (HasSwept (plan_form plan.now) seat.old.view seat.new.view tasks.old tasks.new) }
 {
     let mut moved = false;
     for place in 0..tasks.len() {
-        if pass_task(alloc, plan, tasks.at_mut(place), seat, pile, gate)? {
+        if pass_task(alloc, plan, tasks.at_mut(place), seat, room, gate)? {
             moved = true;
         }
     }
@@ -120,30 +118,28 @@ fn look_on<G: Gate>(
     tasks: &mut Listed<Task>,
     looks: u32,
     seat: &mut Seat,
-    pile: &mut Pile,
+    room: &mut Room,
     gate: &G,
     busy: &AtomicU64,
 ) -> Result<bool, NoMemory>
     requires valid { IsPlan (plan_form plan.now) }
     requires tasks { AreTasksAt (plan_form plan.now) seat.old.view tasks.old }
     requires rests { seat.old.view.held ≡ [] }
-    requires blank { pile.old.items ≡ [] }
     ensures lot { seat.new.lot ≡ seat.old.lot }
     ensures sits { StillSits seat.old.view seat.new.view }
-    ensures blank { pile.new.items ≡ [] }
     ensures swept { IfOk result (HasSwept (plan_form plan.now) seat.old.view seat.new.view tasks.old tasks.new) }
 {
     for look in 1..looks {
         let left = looks - look;
-        if sweep(alloc, plan, tasks, seat, pile, gate)? {
+        if sweep(alloc, plan, tasks, seat, room, gate)? {
             tell_crowded(busy, left);
             return Ok(true);
         }
         if is_over_then(busy, left) {
-            return sweep(alloc, plan, tasks, seat, pile, gate);
+            return sweep(alloc, plan, tasks, seat, room, gate);
         }
     }
-    sweep(alloc, plan, tasks, seat, pile, gate)
+    sweep(alloc, plan, tasks, seat, room, gate)
 }
 
 // A look at these tasks, and where nothing moves more looks.
@@ -153,23 +149,21 @@ fn look_first<G: Gate>(
     tasks: &mut Listed<Task>,
     looks: u32,
     seat: &mut Seat,
-    pile: &mut Pile,
+    room: &mut Room,
     gate: &G,
     busy: &AtomicU64,
 ) -> Result<bool, NoMemory>
     requires valid { IsPlan (plan_form plan.now) }
     requires tasks { AreTasksAt (plan_form plan.now) seat.old.view tasks.old }
     requires rests { seat.old.view.held ≡ [] }
-    requires blank { pile.old.items ≡ [] }
     ensures lot { seat.new.lot ≡ seat.old.lot }
     ensures sits { StillSits seat.old.view seat.new.view }
-    ensures blank { pile.new.items ≡ [] }
     ensures swept { IfOk result (HasSwept (plan_form plan.now) seat.old.view seat.new.view tasks.old tasks.new) }
 {
-    if sweep(alloc, plan, tasks, seat, pile, gate)? {
+    if sweep(alloc, plan, tasks, seat, room, gate)? {
         return Ok(true);
     }
-    look_on(alloc, plan, tasks, looks, seat, pile, gate, busy)
+    look_on(alloc, plan, tasks, looks, seat, room, gate, busy)
 }
 
 // A pass over these tasks: looks, for as long as something moves, at most so many.
@@ -179,24 +173,22 @@ fn pass_all<G: Gate>(
     tasks: &mut Listed<Task>,
     looks: u32,
     seat: &mut Seat,
-    pile: &mut Pile,
+    room: &mut Room,
     gate: &G,
     busy: &AtomicU64,
 ) -> Result<bool, NoMemory>
     requires valid { IsPlan (plan_form plan.now) }
     requires tasks { AreTasksAt (plan_form plan.now) seat.old.view tasks.old }
     requires rests { seat.old.view.held ≡ [] }
-    requires blank { pile.old.items ≡ [] }
     ensures lot { seat.new.lot ≡ seat.old.lot }
     ensures sits { StillSits seat.old.view seat.new.view }
-    ensures blank { pile.new.items ≡ [] }
     ensures swept { IfOk result (HasSwept (plan_form plan.now) seat.old.view seat.new.view tasks.old tasks.new) }
 {
-    if !look_first(alloc, plan, tasks, looks, seat, pile, gate, busy)? {
+    if !look_first(alloc, plan, tasks, looks, seat, room, gate, busy)? {
         return Ok(false);
     }
     for _more in 1..SWEEPS {
-        if !look_first(alloc, plan, tasks, looks, seat, pile, gate, busy)? {
+        if !look_first(alloc, plan, tasks, looks, seat, room, gate, busy)? {
             return Ok(true);
         }
     }
@@ -247,14 +239,14 @@ impl Bundle {
         looks: u32,
     ) -> Result<Bundle, NoMemory>
         ensures parts { IfOk result (λ b. (b.tasks ≡ tasks) × (b.seat ≡ seat) × (b.looks ≡ looks)) }
-        ensures fresh { IfOk result (λ b. (b.pile.items ≡ []) × (b.moved ≡ false) × (b.refused ≡ false)) }
+        ensures fresh { IfOk result (λ b. (b.moved ≡ false) × (b.refused ≡ false)) }
     {
-        let pile = Pile::with_capacity(alloc, most_classes(&tasks))?;
+        let room = Room::new(alloc, most_classes(&tasks))?;
         Ok(Bundle {
             alloc,
             tasks,
             seat,
-            pile,
+            room,
             looks,
             moved: false,
             refused: false,
@@ -304,7 +296,7 @@ impl Bundle {
             &mut self.tasks,
             self.looks,
             &mut self.seat,
-            &mut self.pile,
+            &mut self.room,
             gate,
             busy,
         )?;

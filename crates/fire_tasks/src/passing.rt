@@ -10,7 +10,7 @@ use crate::ports::send_at;
 use crate::taking::{first_ready, take_at};
 use crate::{Outlet, Task};
 use brooklet_step::Lines;
-use class_locks::{Pile, Seat, put_all, take_all};
+use class_locks::{Room, Seat, put_all, take_all};
 use river_base::{Gate, Listed, NoMemory};
 use river_plan::RawPlan;
 use std::alloc::Global;
@@ -68,28 +68,26 @@ fn take_locked<G: Gate>(
     task: &mut Task,
     port: u32,
     seat: &mut Seat,
-    pile: &mut Pile,
+    room: &mut Room,
     gate: &G,
 ) -> Result<bool, NoMemory>
     requires valid { IsPlan (plan_form plan.now) }
     requires task { IsTaskAt (plan_form plan.now) seat.old.view task.old }
     requires seat { IsSeatOf (plan_form plan.now) task.old.op seat.old.view }
-    requires blank { pile.old.items ≡ [] }
     requires idle { IsIdle task.old.pending }
     requires fine { task.old.bad ≡ None }
     requires port { port < length task.old.ins }
     requires known { (d : _) → 0 < length (known_of (slice_index_or task.old.ins port d)) }
     ensures lot { seat.new.lot ≡ seat.old.lot }
     ensures sits { StillSits seat.old.view seat.new.view }
-    ensures blank { pile.new.items ≡ [] }
     ensures tried { IfOk result (HasTried (plan_form plan.now) seat.old.view seat.new.view task.old task.new) }
 {
-    pile.reserve(task.classes.len())?;
-    let Ok(()) = take_all(seat, task.classes.as_slice(), pile) else {
+    room.reserve(task.classes.len())?;
+    let Ok(mut pile) = take_all(seat, task.classes.as_slice(), room) else {
         return Ok(false);
     };
-    let taken = take_at(alloc, plan, task, port, pile, gate);
-    put_all(seat, pile);
+    let taken = take_at(alloc, plan, task, port, &mut pile, gate);
+    put_all(seat, pile, room);
     taken?;
     Ok(true)
 }
@@ -100,18 +98,16 @@ fn take_turn<G: Gate>(
     plan: &RawPlan,
     task: &mut Task,
     seat: &mut Seat,
-    pile: &mut Pile,
+    room: &mut Room,
     gate: &G,
 ) -> Result<bool, NoMemory>
     requires valid { IsPlan (plan_form plan.now) }
     requires task { IsTaskAt (plan_form plan.now) seat.old.view task.old }
     requires seat { IsSeatOf (plan_form plan.now) task.old.op seat.old.view }
-    requires blank { pile.old.items ≡ [] }
     requires fine { task.old.bad ≡ None }
     requires few { length task.old.ins < 2 ^ 32 }
     ensures lot { seat.new.lot ≡ seat.old.lot }
     ensures sits { StillSits seat.old.view seat.new.view }
-    ensures blank { pile.new.items ≡ [] }
     ensures turned { IfOk result (HasTurned (plan_form plan.now) seat.old.view seat.new.view task.old task.new) }
 {
     let sent = send_all(&mut task.outs, &mut task.pending)?;
@@ -120,7 +116,7 @@ fn take_turn<G: Gate>(
     }
     match first_ready(&mut task.ins) {
         Some(port) => {
-            if take_locked(alloc, plan, task, port as u32, seat, pile, gate)? {
+            if take_locked(alloc, plan, task, port as u32, seat, room, gate)? {
                 return Ok(true);
             }
             Ok(sent)
@@ -136,30 +132,28 @@ pub(crate) fn pass_task<G: Gate>(
     plan: &RawPlan,
     task: &mut Task,
     seat: &mut Seat,
-    pile: &mut Pile,
+    room: &mut Room,
     gate: &G,
 ) -> Result<bool, NoMemory>
     requires valid { IsPlan (plan_form plan.now) }
     requires task { IsTaskAt (plan_form plan.now) seat.old.view task.old }
     requires seat { IsSeatOf (plan_form plan.now) task.old.op seat.old.view }
-    requires blank { pile.old.items ≡ [] }
     requires few { length task.old.ins < 2 ^ 32 }
     ensures lot { seat.new.lot ≡ seat.old.lot }
     ensures sits { StillSits seat.old.view seat.new.view }
-    ensures blank { pile.new.items ≡ [] }
     ensures turned { IfOk result (HasTurned (plan_form plan.now) seat.old.view seat.new.view task.old task.new) }
 {
     if task.bad.is_some() {
         return Ok(false);
     }
-    if !take_turn(alloc, plan, task, seat, pile, gate)? {
+    if !take_turn(alloc, plan, task, seat, room, gate)? {
         return Ok(false);
     }
     for _turn in 1..TURN {
         if task.bad.is_some() {
             return Ok(true);
         }
-        if !take_turn(alloc, plan, task, seat, pile, gate)? {
+        if !take_turn(alloc, plan, task, seat, room, gate)? {
             return Ok(true);
         }
     }

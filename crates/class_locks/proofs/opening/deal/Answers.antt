@@ -3,7 +3,7 @@ use Rattle.class_locks.specs.declared.view.View.{View}
 use Rattle.class_locks.specs.Views.{count_up, other_parts, first_part}
 use Rattle.class_locks.specs.Rule.{Mine}
 use Rattle.class_locks.proofs.Lists.{counted}
-use Rattle.class_locks.proofs.Arrivals.{splits_ok}
+use Rattle.class_locks.proofs.Splits.{splits_ok}
 use Rattle.class_locks.proofs.Rounds.{two_parts, dealt, dealt_first, sits}
 use Rattle.class_locks.proofs.opening.deal.Goals as goal
 

@@ -9,7 +9,6 @@ use Rattle.fire_tasks.proofs.bundle.look_on.Goals as goal
 pub loop-look-init : goal.loop-look-init
 loop-look-init g c = record {
   lot = refl;
-  blank = c.requires.blank;
   swept =
       swept_none (plan_form c.args.plan.now) c.args.seat.now.view c.args.tasks.now c.requires.tasks c.requires.rests;
 }
@@ -38,7 +37,6 @@ returns-then-branch-clause-swept g c =
 pub loop-look-preserved : goal.loop-look-preserved
 loop-look-preserved g c = record {
   lot = c.sweep.ensures.lot ∙ c.loop-look.invariant.lot;
-  blank = c.sweep.ensures.blank;
   swept = swept_more (plan_form c.args.plan.now) c.args.seat.now.view c.loop-look.seat.view c.sweep.new.seat.view c.args.tasks.now c.loop-look.tasks
       c.sweep.new.tasks
       c.in_ok-sweep.field-0 c.loop-look.invariant.swept c.sweep.ensures.sits c.in_ok-sweep.ensures.swept c.if-branch.false;

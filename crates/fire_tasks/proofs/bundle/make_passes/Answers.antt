@@ -10,7 +10,7 @@ loop-pass-init g c =
     let n = gone_none b in
     record {
       calm = c.if-bundle.false;
-      bundle = record { rests = c.requires.1.rests; blank = c.requires.1.blank; keeps = c.requires.1.keeps };
+      bundle = record { rests = c.requires.1.rests; keeps = c.requires.1.keeps };
       seat = record { lot = refl; round = record { seats = refl; starts = refl; parts = refl }; looks = refl };
       many = passes_none b _ refl;
       gone = record { ends = n.ends; goes_on = n.goes_on; number = n.number; grew = n.grew; stayed = n.stayed };
@@ -27,7 +27,7 @@ loop-pass-preserved g c =
     let seat = seat_then b u w c.loop-pass.invariant.seat e.seat in
     record {
       calm = c.in-Ok.ensures.calm;
-      bundle = record { rests = e.bundle.rests; blank = e.bundle.blank; keeps = e.bundle.keeps };
+      bundle = record { rests = e.bundle.rests; keeps = e.bundle.keeps };
       seat = record { lot = seat.lot; round = seat.round; looks = seat.looks };
       many = passes_next c.loop-pass._pass b u _ c.loop-pass.invariant.many
           (record { lot = e.seat.lot; round = e.seat.round; looks = e.seat.looks })

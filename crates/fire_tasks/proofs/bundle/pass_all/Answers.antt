@@ -13,7 +13,6 @@ returns-then-not-branch-clause-swept g c =
 pub loop-more-init : goal.loop-more-init
 loop-more-init g c = record {
   lot = refl;
-  blank = c.look_first.ensures.blank;
   went =
       went_none (plan_form c.args.plan.now) c.look_first.new.seat.view c.look_first.new.tasks c.in_ok-look_first.ensures.swept.tasks
       c.look_first.ensures.sits.rests;
@@ -22,7 +21,6 @@ loop-more-init g c = record {
 pub loop-more-preserved : goal.loop-more-preserved
 loop-more-preserved g c = record {
   lot = c.look_first-in-loop-more.ensures.lot ∙ c.loop-more.invariant.lot;
-  blank = c.look_first-in-loop-more.ensures.blank;
   went = went_on (plan_form c.args.plan.now) c.look_first.new.seat.view c.loop-more.seat.view c.look_first-in-loop-more.new.seat.view
       c.look_first.new.tasks c.loop-more.tasks c.look_first-in-loop-more.new.tasks c.in_ok-look_first-2.field-0 c.loop-more.invariant.went
       c.look_first-in-loop-more.ensures.sits c.in_ok-look_first-2.ensures.swept;

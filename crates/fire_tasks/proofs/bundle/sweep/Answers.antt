@@ -42,7 +42,6 @@ loop-place-preserved g c =
     let e = c.in_ok-pass_task.ensures in
     record {
       lot = c.pass_task.ensures.lot ∙ c.loop-place.invariant.lot;
-      blank = c.pass_task.ensures.blank;
       passed = elim c.if-branch.branch [
         | then-branch x ↦ subst (HavePassed p v0 w (i + 1) c.args.tasks.now (set now i new)) (sym x.moved-is)
             (passed_moved p v0 v w c.args.tasks.now now i old new c.loop-place.moved c.in_ok-pass_task.field-0 c.loop-place.invariant.passed
@@ -61,7 +60,6 @@ returns-clause-swept g c =
 pub loop-place-init : goal.loop-place-init
 loop-place-init g c = record {
   lot = refl;
-  blank = c.requires.blank;
   passed =
       passed_first (plan_form c.args.plan.now) c.args.seat.now.view c.args.tasks.now c.requires.tasks c.requires.rests;
 }

@@ -23,7 +23,6 @@ returns-then-not-branch-2-clause-turned g c =
 pub loop-turn-preserved : goal.loop-turn-preserved
 loop-turn-preserved g c = record {
   lot = c.take_turn-in-loop-turn.ensures.lot ∙ c.loop-turn.invariant.lot;
-  blank = c.take_turn-in-loop-turn.ensures.blank;
   passed = passed_on (plan_form c.args.plan.now) c.take_turn.new.seat.view c.loop-turn.seat.view c.take_turn-in-loop-turn.new.seat.view
       c.take_turn.new.task c.loop-turn.task
       c.take_turn-in-loop-turn.new.task c.in_ok-take_turn-2.field-0 c.loop-turn.invariant.passed c.in_ok-take_turn-2.ensures.turned;

@@ -1,4 +1,4 @@
-use Rattle.std.proofs.Common.{◌≡◌, []}
+use Rattle.std.proofs.Common.{◌≡◌}
 use Rattle.river_plan.specs.Forms.{plan_form}
 use Rattle.fire_tasks.proofs.TurnLemmas.{Passed}
 use Rattle.fire_tasks.proofs.passing.pass_task.Given as goal
@@ -6,6 +6,5 @@ use Rattle.fire_tasks.proofs.passing.pass_task.Given as goal
 abbrev pub invariant-loop-turn : goal.invariant-loop-turn
 invariant-loop-turn g l = record {
   lot : l.seat.lot ≡ l.initial.seat.lot;
-  blank : l.pile.items ≡ [];
   passed : Passed (plan_form l.plan) l.initial.seat.view l.seat.view l.initial.task l.task;
 }

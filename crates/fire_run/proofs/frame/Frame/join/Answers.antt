@@ -65,22 +65,22 @@ returns-clause-stays c = λ p h.
     let met = subst (λ l. AreMet c.settle_all.new.tasks l (length l)) links c.settle_all.ensures.met in
     let net : Net = record { tasks = c.settle_all.new.tasks; links = c.self.inside.links; cells = c.close.new.cells; refused = false } in
     let is = ap (λ l. record net { links = l }) links in
-    net_stays p f bs h ts0 c.settle_all.new.tasks c.close.new.cells long (c.settle_all.ensures.still ∙ ap (map task_core) c.gather.ensures.tasks) net is grown met
+    net_stays p f bs h ts0 c.settle_all.new.tasks c.close.new.cells long (c.settle_all.ensures.task_core ∙ ap (map task_core) c.gather.ensures.tasks) net is grown met
 
 pub returns-clause-ends : goal.returns-clause-ends
 returns-clause-ends c =
     net_ends c.requires.0 c.args.self c.args.bundles.items c.requires.1 c.self.inside.tasks c.settle_all.new.tasks c.close.new.cells
-    (c.self.invariant.0 ∙ ap (λ (g : Framed). length g.net.tasks) c.self.view_is) (c.settle_all.ensures.still ∙ ap (map task_core) c.gather.ensures.tasks)
+    (c.self.invariant.0 ∙ ap (λ (g : Framed). length g.net.tasks) c.self.view_is) (c.settle_all.ensures.task_core ∙ ap (map task_core) c.gather.ensures.tasks)
 
 pub returns-clause-tasks : goal.returns-clause-tasks
 returns-clause-tasks c =
     net_tasks c.requires.0 c.args.self c.args.bundles.items c.requires.1 c.self.inside.tasks c.settle_all.new.tasks c.close.new.cells
-    (c.self.invariant.0 ∙ ap (λ (g : Framed). length g.net.tasks) c.self.view_is) (c.settle_all.ensures.still ∙ ap (map task_core) c.gather.ensures.tasks)
+    (c.self.invariant.0 ∙ ap (λ (g : Framed). length g.net.tasks) c.self.view_is) (c.settle_all.ensures.task_core ∙ ap (map task_core) c.gather.ensures.tasks)
 
 pub returns-clause-moves : goal.returns-clause-moves
 returns-clause-moves c =
     net_moves c.requires.0 c.args.self c.args.bundles.items c.requires.1 c.self.inside.tasks c.settle_all.new.tasks c.close.new.cells
-    (c.self.invariant.0 ∙ ap (λ (g : Framed). length g.net.tasks) c.self.view_is) (c.settle_all.ensures.still ∙ ap (map task_core) c.gather.ensures.tasks)
+    (c.self.invariant.0 ∙ ap (λ (g : Framed). length g.net.tasks) c.self.view_is) (c.settle_all.ensures.task_core ∙ ap (map task_core) c.gather.ensures.tasks)
 
 pub returns-clause-logs : goal.returns-clause-logs
 returns-clause-logs c =

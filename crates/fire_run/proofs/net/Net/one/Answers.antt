@@ -52,22 +52,22 @@ returns-clause-stays g c =
     record {
       fine = refl;
       is = λ inputs caps n. net_again p inputs caps c.args.self.now _ c.move_last.new.tasks c.raw.ensures.valid n k c.in_ok-moved.ensures.same
-          c.settle_all.ensures.still refl c.settle_all.ensures.met m;
+          c.settle_all.ensures.task_core refl c.settle_all.ensures.met m;
     }
 
 pub returns-clause-moved : goal.returns-clause-moved
 returns-clause-moved g c =
     subst (λ n. OneMore (all_moves c.args.self.now.tasks) n c.in_ok-moved.moved)
-    (sym (still_all_moves c.move_last.new.tasks c.settle_all.new.tasks c.settle_all.ensures.still)) c.in_ok-moved.ensures.moved
+    (sym (still_all_moves c.move_last.new.tasks c.settle_all.new.tasks c.settle_all.ensures.task_core)) c.in_ok-moved.ensures.moved
 
 pub returns-clause-same : goal.returns-clause-same
-returns-clause-same g c = still_ends c.move_last.new.tasks c.settle_all.new.tasks c.settle_all.ensures.still ∙ c.in_ok-moved.ensures.same
+returns-clause-same g c = still_ends c.move_last.new.tasks c.settle_all.new.tasks c.settle_all.ensures.task_core ∙ c.in_ok-moved.ensures.same
 
 pub returns-clause-logs : goal.returns-clause-logs
 returns-clause-logs g c = subst (λ q. HaveMoved q c.args.self.now.cells c.move_last.new.cells) c.raw.ensures.raw c.in_ok-moved.ensures.cells
 
 pub returns-clause-still : goal.returns-clause-still
-returns-clause-still g c = λ f. c.settle_all.ensures.still ∙ c.in_ok-moved.ensures.still f
+returns-clause-still g c = λ f. c.settle_all.ensures.task_core ∙ c.in_ok-moved.ensures.still f
 
 pub returns-clause-idle : goal.returns-clause-idle
 returns-clause-idle g c =
@@ -79,9 +79,9 @@ returns-clause-idle g c =
     subst (λ q. HaveMoved q c.args.self.now.cells c.move_last.new.cells) c.raw.ensures.raw c.in_ok-moved.ensures.cells in
     λ f. idle_again p r.inputs r.caps c.args.self.now
     (record { tasks = c.settle_all.new.tasks; links = c.args.self.now.links; cells = c.move_last.new.cells; refused = false }) c.raw.ensures.valid r.is
-    (net_again p r.inputs r.caps c.args.self.now _ c.move_last.new.tasks c.raw.ensures.valid r.is k c.in_ok-moved.ensures.same c.settle_all.ensures.still refl
+    (net_again p r.inputs r.caps c.args.self.now _ c.move_last.new.tasks c.raw.ensures.valid r.is k c.in_ok-moved.ensures.same c.settle_all.ensures.task_core refl
     c.settle_all.ensures.met m)
-    (c.settle_all.ensures.still ∙ c.in_ok-moved.ensures.still f) (c.in_ok-moved.ensures.idle f)
+    (c.settle_all.ensures.task_core ∙ c.in_ok-moved.ensures.still f) (c.in_ok-moved.ensures.idle f)
 
 pub returns-clause-step : goal.returns-clause-step
 returns-clause-step g c =
@@ -92,12 +92,12 @@ returns-clause-step g c =
     let m : HaveMoved p c.args.self.now.cells c.move_last.new.cells =
     subst (λ q. HaveMoved q c.args.self.now.cells c.move_last.new.cells) c.raw.ensures.raw c.in_ok-moved.ensures.cells in
     let net : Net = record { tasks = c.settle_all.new.tasks; links = c.args.self.now.links; cells = c.move_last.new.cells; refused = false } in
-    let ends = still_ends c.move_last.new.tasks c.settle_all.new.tasks c.settle_all.ensures.still ∙ c.in_ok-moved.ensures.same in
+    let ends = still_ends c.move_last.new.tasks c.settle_all.new.tasks c.settle_all.ensures.task_core ∙ c.in_ok-moved.ensures.same in
     λ t.
     one_moved p r.inputs r.caps c.args.self.now net c.move_last.new.tasks c.raw.ensures.valid r.is
-    (net_again p r.inputs r.caps c.args.self.now net c.move_last.new.tasks c.raw.ensures.valid r.is k c.in_ok-moved.ensures.same c.settle_all.ensures.still refl
+    (net_again p r.inputs r.caps c.args.self.now net c.move_last.new.tasks c.raw.ensures.valid r.is k c.in_ok-moved.ensures.same c.settle_all.ensures.task_core refl
     c.settle_all.ensures.met m)
-    ends c.settle_all.ensures.still
+    ends c.settle_all.ensures.task_core
     (subst (λ q. MayHaveMoved q c.args.self.now.tasks c.move_last.new.tasks c.args.self.now.cells c.move_last.new.cells) c.raw.ensures.raw
     (c.in_ok-moved.ensures.step t))
 
@@ -110,15 +110,15 @@ returns-clause-goes g c =
     let m : HaveMoved p c.args.self.now.cells c.move_last.new.cells =
     subst (λ q. HaveMoved q c.args.self.now.cells c.move_last.new.cells) c.raw.ensures.raw c.in_ok-moved.ensures.cells in
     let net : Net = record { tasks = c.settle_all.new.tasks; links = c.args.self.now.links; cells = c.move_last.new.cells; refused = false } in
-    let ends = still_ends c.move_last.new.tasks c.settle_all.new.tasks c.settle_all.ensures.still ∙ c.in_ok-moved.ensures.same in
+    let ends = still_ends c.move_last.new.tasks c.settle_all.new.tasks c.settle_all.ensures.task_core ∙ c.in_ok-moved.ensures.same in
     one_goes p c.args.self.now.tasks c.settle_all.new.tasks c.args.self.now.cells c.move_last.new.cells c.in_ok-moved.moved
     (λ t. one_moved p r.inputs r.caps c.args.self.now net c.move_last.new.tasks c.raw.ensures.valid r.is
-    (net_again p r.inputs r.caps c.args.self.now net c.move_last.new.tasks c.raw.ensures.valid r.is k c.in_ok-moved.ensures.same c.settle_all.ensures.still refl
+    (net_again p r.inputs r.caps c.args.self.now net c.move_last.new.tasks c.raw.ensures.valid r.is k c.in_ok-moved.ensures.same c.settle_all.ensures.task_core refl
     c.settle_all.ensures.met m)
-    ends c.settle_all.ensures.still
+    ends c.settle_all.ensures.task_core
     (subst (λ q. MayHaveMoved q c.args.self.now.tasks c.move_last.new.tasks c.args.self.now.cells c.move_last.new.cells) c.raw.ensures.raw
     (c.in_ok-moved.ensures.step t)))
-    (λ f. c.settle_all.ensures.still ∙ c.in_ok-moved.ensures.still f)
+    (λ f. c.settle_all.ensures.task_core ∙ c.in_ok-moved.ensures.still f)
 
 pub returns-clause-bounded : goal.returns-clause-bounded
 returns-clause-bounded g c = λ inputs caps n t.
@@ -128,11 +128,11 @@ returns-clause-bounded g c = λ inputs caps n t.
     let m : HaveMoved p c.args.self.now.cells c.move_last.new.cells =
     subst (λ q. HaveMoved q c.args.self.now.cells c.move_last.new.cells) c.raw.ensures.raw c.in_ok-moved.ensures.cells in
     let net : Net = record { tasks = c.settle_all.new.tasks; links = c.args.self.now.links; cells = c.move_last.new.cells; refused = false } in
-    let ends = still_ends c.move_last.new.tasks c.settle_all.new.tasks c.settle_all.ensures.still ∙ c.in_ok-moved.ensures.same in
-    let again = net_again p inputs caps c.args.self.now net c.move_last.new.tasks c.raw.ensures.valid n k c.in_ok-moved.ensures.same c.settle_all.ensures.still
+    let ends = still_ends c.move_last.new.tasks c.settle_all.new.tasks c.settle_all.ensures.task_core ∙ c.in_ok-moved.ensures.same in
+    let again = net_again p inputs caps c.args.self.now net c.move_last.new.tasks c.raw.ensures.valid n k c.in_ok-moved.ensures.same c.settle_all.ensures.task_core
     refl c.settle_all.ensures.met m in
     moved_state p inputs caps c.args.self.now net c.raw.ensures.valid n again
-    (one_moved p inputs caps c.args.self.now net c.move_last.new.tasks c.raw.ensures.valid n again ends c.settle_all.ensures.still
+    (one_moved p inputs caps c.args.self.now net c.move_last.new.tasks c.raw.ensures.valid n again ends c.settle_all.ensures.task_core
     (subst (λ q. MayHaveMoved q c.args.self.now.tasks c.move_last.new.tasks c.args.self.now.cells c.move_last.new.cells) c.raw.ensures.raw
     (c.in_ok-moved.ensures.step t)))
 
@@ -145,12 +145,12 @@ returns-clause-busy g c =
     let m : HaveMoved p c.args.self.now.cells c.move_last.new.cells =
     subst (λ q. HaveMoved q c.args.self.now.cells c.move_last.new.cells) c.raw.ensures.raw c.in_ok-moved.ensures.cells in
     let net : Net = record { tasks = c.settle_all.new.tasks; links = c.args.self.now.links; cells = c.move_last.new.cells; refused = false } in
-    let ends = still_ends c.move_last.new.tasks c.settle_all.new.tasks c.settle_all.ensures.still ∙ c.in_ok-moved.ensures.same in
+    let ends = still_ends c.move_last.new.tasks c.settle_all.new.tasks c.settle_all.ensures.task_core ∙ c.in_ok-moved.ensures.same in
     λ t.
     moved_busy p c.args.self.now.tasks c.settle_all.new.tasks c.args.self.now.cells c.move_last.new.cells
     (one_moved p r.inputs r.caps c.args.self.now net c.move_last.new.tasks c.raw.ensures.valid r.is
-    (net_again p r.inputs r.caps c.args.self.now net c.move_last.new.tasks c.raw.ensures.valid r.is k c.in_ok-moved.ensures.same c.settle_all.ensures.still refl
+    (net_again p r.inputs r.caps c.args.self.now net c.move_last.new.tasks c.raw.ensures.valid r.is k c.in_ok-moved.ensures.same c.settle_all.ensures.task_core refl
     c.settle_all.ensures.met m)
-    ends c.settle_all.ensures.still
+    ends c.settle_all.ensures.task_core
     (subst (λ q. MayHaveMoved q c.args.self.now.tasks c.move_last.new.tasks c.args.self.now.cells c.move_last.new.cells) c.raw.ensures.raw
     (c.in_ok-moved.ensures.step t)))

@@ -10,7 +10,7 @@ use Rattle.live_run.proofs.bundle.BundlePartRawPlan.advance.Goals as goal
 pub pass-requires-clause-bundle : goal.pass-requires-clause-bundle
 pass-requires-clause-bundle g c =
     subst (IsBundle (plan_form c.args.plan.now)) (sym c.set_looks.ensures)
-    (record { rests = c.requires.bundle.rests; blank = c.requires.bundle.blank; keeps = c.requires.bundle.keeps })
+    (record { rests = c.requires.bundle.rests; keeps = c.requires.bundle.keeps })
 
 pub pass-requires-clause-calm : goal.pass-requires-clause-calm
 pass-requires-clause-calm g c = subst (λ (b : Bundle). b.refused ≡ false) (sym c.set_looks.ensures) c.requires.calm
