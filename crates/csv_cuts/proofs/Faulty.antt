@@ -83,11 +83,13 @@ fault-or-rows : (r : Result (List (List ℤ)) InFault) (f : InFault) (rows : Lis
 fault-or-rows (Ok x) f rows e h = cc e
 fault-or-rows (Err x) f rows e h = cc h
 
+-- a file has one fault at most, however many records it has
 pub one_fault_of_all : OneFaultOfAll
 one_fault_of_all bytes w skip more f g h k =
     let last = headers skip + 1 + length h.read + (headers skip + 1 + length k.read) in
     fault-same (read-to bytes w skip more last) f g (told-all bytes w skip more f last h (omega arith)) (told-all bytes w skip more g last k (omega arith))
 
+-- and where it has one, its records do not all write rows
 pub fault_or_rows : FaultOrRows
 fault_or_rows bytes w skip more f rows h written =
     let last = headers skip + 1 + length h.read + length rows in

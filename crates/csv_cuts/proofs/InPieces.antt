@@ -93,6 +93,7 @@ front-last bytes skip_first header from old before now front took = record {
   all : take (length bytes - from) (drop from bytes) ≡ drop from bytes
   all = let n = length-drop from bytes in take_all (length bytes - from) (drop from bytes) (omega (arith, n))
 
+-- what holds of a good answer, weakened
 pub ok-on : {A E P Q : Type 0} (r : Result A E) → (P → Q) → OnOk r P → OnOk r Q
 ok-on (Ok a) f h = f h
 ok-on (Err e) f h = h

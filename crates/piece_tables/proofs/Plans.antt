@@ -1,5 +1,5 @@
 -- From the text of a program to what is taken of its tables.
-use Rattle.std.proofs.Common.{◌≡◌, ℕ, ◌+◌, ◌<◌, ◌≤◌, List, [], ◌∷◌, ◌++◌, length, map, drop, refl, sym, ap, ◌∙◌, subst, append_assoc}
+use Rattle.std.proofs.Common.{◌≡◌, ℕ, ◌+◌, ◌<◌, ◌≤◌, Bool, inl, inr, List, [], ◌∷◌, ◌++◌, length, map, drop, refl, sym, ap, ◌∙◌, subst, append_assoc}
 use Rattle.std.specs.Prelude.{All, get_or, Option, None, Some, IfSome}
 use Rattle.std.proofs.lemmas.List.{append-nil, drop_more}
 use Rattle.std.proofs.lemmas.List.Elements.{All-get_or}
@@ -7,7 +7,7 @@ use Rattle.std.proofs.Math.ListN.{drop_of_length-le}
 use Rattle.river_plan.specs.declared.plan.TableDecl.{TableDecl}
 use Rattle.river_outside.specs.Fetched.{FetchesAll}
 use Rattle.river_outside.specs.Held.{Held}
-use Rattle.river_plan.specs.Forms.{PlanForm, table_names}
+use Rattle.river_plan.specs.Forms.{Name, PlanForm, table_names}
 use Rattle.table_texts.specs.Split.{AreSplit}
 use Rattle.piece_work.specs.Held.{bytes_of, rows_from}
 use Rattle.saw_model.specs.Elaborate.{keys_in}
@@ -17,6 +17,16 @@ use Rattle.saw_front.proofs.Fronts.{compiled-judged}
 use Rattle.csv_cuts.specs.Cut.{append_pieces}
 use Rattle.river_pieces.specs.MergeText.{merge_text}
 use Rattle.river_pieces.proofs.MergeText.{keys_fit}
+use Rattle.piece_work.specs.declared.fault.WorkFault.{WorkFault}
+use Rattle.piece_work.specs.declared.fault.WorkFault.TheVariants as why
+use Rattle.piece_work.specs.Faults.{Reads, WhyUnread, AreRead, HaveSplits}
+use Rattle.piece_work.proofs.Firsts.{not_all-sooner}
+use Rattle.river_outside.specs.Causes.{Rose}
+use Rattle.saw_front.specs.declared.fault.SawFault.{SawFault}
+use Rattle.saw_front.specs.declared.fault.SawFault.TheVariants as saw
+use Rattle.text_forms.specs.declared.text_fault.TextFault.TheVariants as unread
+use Rattle.saw_front.specs.Meaning.{Refused}
+use Rattle.piece_tables.specs.Faults.{most_text, of_text, WhyRefused, HasPlan, WhyNoPlan, WhyNoRows, WhyNotByTables}
 use Rattle.piece_tables.specs.Split.{IsPlanOf, SplitRows, SplitHeld}
 
 -- PLANS
@@ -24,7 +34,46 @@ use Rattle.piece_tables.specs.Split.{IsPlanOf, SplitRows, SplitHeld}
 pub plan-is : (text : List ℕ) (units : List UnitForm) (plan : PlanForm) → Plans (compiled text) units plan → IsPlanOf text plan
 plan-is text units plan (read, is, made) = record { program = record { units = units; read = read }; compiles = is; is = made }
 
-pub ruleset plans = (plan-is)
+-- a text that is refused has no plan
+pub refused-is : (text : List ℕ) (fault : SawFault) → Refused (compiled text) fault → WhyRefused text (of_text fault)
+refused-is text (saw.Text (unread.BadByte at)) is = record { fault = saw.Text (unread.BadByte at); is = is }
+refused-is text (saw.Text (unread.BigNumber at)) is = record { fault = saw.Text (unread.BigNumber at); is = is }
+refused-is text (saw.Text (unread.Syntax u)) is = record { fault = saw.Text (unread.Syntax u); is = is }
+refused-is text (saw.Text unread.NoMemory) is = tt
+refused-is text (saw.UnknownName u) is = record { fault = saw.UnknownName u; is = is }
+refused-is text (saw.NameTwice u) is = record { fault = saw.NameTwice u; is = is }
+refused-is text (saw.Shape u) is = record { fault = saw.Shape u; is = is }
+refused-is text (saw.Limit u) is = record { fault = saw.Limit u; is = is }
+
+pub ruleset plans = (plan-is, refused-is)
+
+-- the text of a program is read, and has a plan
+pub has-plan : (held : Option Held) (program text : List ℕ) (plan : PlanForm) → Reads held most_text program text → IsPlanOf text plan → HasPlan held program plan
+has-plan held program text plan r h = record { text = text; reads = r; is = h }
+
+pub ruleset reading = (has-plan)
+
+-- or is not read
+pub unread-no_plan : (held : Option Held) (rose : Type 0) (program : List ℕ) (fault : WorkFault) → WhyUnread held rose most_text program fault
+    → WhyNoPlan held rose program fault
+unread-no_plan held rose program why.Absent w = w
+unread-no_plan held rose program why.Unread w = w
+unread-no_plan held rose program why.Large w = w
+unread-no_plan held rose program why.NoMemory w = w
+unread-no_plan held rose program why.Unwritten w = w
+unread-no_plan held rose program why.Program w = absurd w
+unread-no_plan held rose program why.Other w = w
+
+-- or is refused
+pub refused-no_plan : (held : Option Held) (rose : Type 0) (program text : List ℕ) (fault : WorkFault) → Reads held most_text program text
+    → WhyRefused text fault → WhyNoPlan held rose program fault
+refused-no_plan held rose program text why.Absent r w = absurd w
+refused-no_plan held rose program text why.Unread r w = absurd w
+refused-no_plan held rose program text why.Large r w = absurd w
+refused-no_plan held rose program text why.NoMemory r w = tt
+refused-no_plan held rose program text why.Unwritten r w = absurd w
+refused-no_plan held rose program text why.Program r w = record { text = text; reads = r; refused = w }
+refused-no_plan held rose program text why.Other r w = absurd w
 
 -- PROGRAMS
 
@@ -54,7 +103,7 @@ pub ruleset programs = (keys-at, programs-next, programs-all)
 
 -- THE WHOLE
 
-pub plan-keys : (text : List ℕ) (plan : PlanForm) → IsPlanOf text plan → All (λ t. keys_in t.kind ≤ 8) plan.tables
+plan-keys : (text : List ℕ) (plan : PlanForm) → IsPlanOf text plan → All (λ t. keys_in t.kind ≤ 8) plan.tables
 plan-keys text plan h =
     subst (λ (p : PlanForm). All (λ t. keys_in t.kind ≤ 8) p.tables) (sym h.is) (keys_fit (program_in h.program) h.program.read (compiled-judged text h.program h.compiles))
 
@@ -87,18 +136,41 @@ is-held text bytes plan outs p q r s is h programs rows = record {
   rows = subst (λ (f : PlanForm). SplitRows f.tables outs r s) h.is rows;
 }
 
--- a program is fetched, and what the files hold is split by its tables
-pub held-is : (held there : Option Held) (program : List ℕ) (limit : ℕ) (bytes : List ℕ) (plan : PlanForm) (files : List (List ℕ))
-    (p q r s : Option (List (List ℕ))) → IfSome held (λ h. FetchesAll (h program) limit bytes) → IsPlanOf bytes plan
+-- the text of a program is read, and what the files hold is split by its tables
+pub held-is : (held there : Option Held) (program : List ℕ) (plan : PlanForm) (files : List (List ℕ))
+    (p q r s : Option (List (List ℕ))) → HasPlan held program plan
     → q ≡ append_pieces p (map merge_text plan.tables) → there ≡ held
     → IfSome there (λ h. SplitRows plan.tables (map (λ file. bytes_of (h file)) files) r s)
     → IfSome held (λ h. SplitHeld (h program) (map (λ file. bytes_of (h file)) files) p q r s)
-held-is held there program limit bytes plan files p q r s f h programs same rows =
-    by held f (subst (λ (o : Option Held). IfSome o (λ h. SplitRows plan.tables (outs h files) r s)) same rows)
+held-is held there program plan files p q r s h programs same rows =
+    by held h.reads (subst (λ (o : Option Held). IfSome o (λ h. SplitRows plan.tables (outs h files) r s)) same rows)
   where
-    by : (o : Option Held) → IfSome o (λ h. FetchesAll (h program) limit bytes) → IfSome o (λ h. SplitRows plan.tables (outs h files) r s)
+    by : (o : Option Held) → Reads o most_text program h.text → IfSome o (λ h. SplitRows plan.tables (outs h files) r s)
         → IfSome o (λ h. SplitHeld (h program) (outs h files) p q r s)
     by None f rows = tt
-    by (Some g) f rows = is-held (g program) bytes plan (outs g files) p q r s (is-some (g program) limit bytes f) h programs rows
+    by (Some g) f rows = is-held (g program) h.text plan (outs g files) p q r s (is-some (g program) most_text h.text f) h.is programs rows
 
-pub ruleset held = (plan-keys, held-is)
+pub tables-keys : (held : Option Held) (program : List ℕ) (plan : PlanForm) → HasPlan held program plan → All (λ t. keys_in t.kind ≤ 8) plan.tables
+tables-keys held program plan h = plan-keys h.text plan h.is
+
+-- files that are split are read
+pub all-read : (held there : Option Held) (names : List Name) (files : List (List ℕ)) → there ≡ held → HaveSplits there names files → AreRead held files
+all-read held there names files same all = by files (subst (λ (o : Option Held). HaveSplits o names files) same all) where
+  by : (files : List (List ℕ)) → HaveSplits held names files → AreRead held files
+  by [] h = tt
+  by (file ∷ files) h = (record { bytes = h.0.bytes; reads = h.0.reads }, by files h.1)
+
+pub ruleset held = (tables-keys, held-is, all-read)
+
+-- WHY NOT
+
+-- the rows were not all written, and so not all was
+pub no_rows-cause : (held there : Option Held) (s : Bool) (first before now : ℕ) (lost_programs lost_rows : Type 0) (program : List ℕ) (files : List (List ℕ))
+    (plan : PlanForm) (fault : WorkFault) → there ≡ held → first ≤ before → HasPlan held program plan
+    → WhyNoRows there (Rose s before now) lost_rows (table_names plan.tables) files fault
+    → WhyNotByTables held (Rose s first now) lost_programs lost_rows program files fault
+no_rows-cause held there s first before now lost_programs lost_rows program files plan fault same later h w = inr (plan, h, inr (by w)) where
+  by : WhyNoRows there (Rose s before now) lost_rows (table_names plan.tables) files fault
+      → WhyNoRows held (Rose s first now) lost_rows (table_names plan.tables) files fault
+  by (inl u) = inl (not_all-sooner held there s first before now (table_names plan.tables) files fault same later u)
+  by (inr u) = inr (subst (λ (o : Option Held). HaveSplits o (table_names plan.tables) files) same u.0, u.1)

@@ -8,6 +8,7 @@ use Rattle.river_plan.specs.Forms.{Name}
 use Rattle.csv_cuts.specs.Cut.{append_pieces}
 use Rattle.table_texts.specs.Split.{IsSplit, AreSplit, rows_of_table}
 use Rattle.piece_work.specs.Held.{bytes_of, rows_from}
+use Rattle.piece_work.proofs.Firsts.{splits-first, splits-next, splits-all}
 
 -- FILE BY FILE
 
@@ -46,7 +47,7 @@ files-all names (Some h) files i splits l so =
     subst (AreSplit names (outs h files)) (append-nil splits)
     (so [] (subst (λ (fs : List (List ℕ)). AreSplit names (outs h fs) []) (sym (drop_of_length-le files l)) tt))
 
-pub ruleset files = (files-first, files-next, files-all)
+pub ruleset files = (files-first, files-next, files-all, splits-first, splits-next, splits-all)
 
 -- TABLE BY TABLE
 

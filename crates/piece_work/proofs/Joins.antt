@@ -6,6 +6,7 @@ use Rattle.std.proofs.lemmas.List.{append-nil, drop_more}
 use Rattle.std.proofs.Math.ListN.{drop_of_length-le}
 use Rattle.river_outside.specs.Held.{Held}
 use Rattle.piece_work.specs.Held.{texts_held, bytes_of}
+use Rattle.piece_work.proofs.Firsts.{puts-first, puts-next, puts-all}
 
 twice : (taken : Option (List ℕ)) (xs ys : List ℕ) → append_known (append_known taken xs) ys ≡ append_known taken (xs ++ ys)
 twice None xs ys = refl
@@ -43,4 +44,4 @@ joined-all None files i first now l so = tt
 joined-all (Some h) files i first now l so =
     sym (ap (λ (fs : List (List ℕ)). append_known now (texts_held h fs)) (drop_of_length-le files l) ∙ none now) ∙ so
 
-pub ruleset joins = (joined-first, joined-next, joined-all)
+pub ruleset joins = (joined-first, joined-next, joined-all, puts-first, puts-next, puts-all)

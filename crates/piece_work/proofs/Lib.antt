@@ -1,3 +1,5 @@
+pub mod Decided
 pub mod Fetches
 pub mod FileByFile
+pub mod Firsts
 pub mod Joins

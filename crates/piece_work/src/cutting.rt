@@ -1,17 +1,18 @@
 // Cuts a file.
-ghost use Rattle.std.specs.Prelude.{◌≡◌, length, IfOk, OnOk, IfSome};
+ghost use Rattle.std.specs.Prelude.{◌≡◌, length, IfOk, IfErr, OnOk, IfSome};
 ghost use Rattle.csv_streams.specs.Records.{csv_records};
+ghost use Rattle.river_outside.specs.Causes.{Rose};
+ghost use Rattle.piece_work.specs.Faults.{IsRead, WhyNotPut, WhyUnread, most_file};
 ghost use Rattle.piece_work.specs.Held.{CutHeld, bytes_of};
 
 use crate::WorkFault;
+use crate::reading::{MOST, read_file};
 use csv_cuts::{PieceSink, Size, cut_file, records_in};
-use river_outside::{Shelf, fetch};
+use river_outside::Shelf;
 use std::alloc::Global;
 
-/// How many bytes of a file are read at most: 1 TiB.
-pub(crate) const MOST: u64 = 1_099_511_627_776;
-
-/// Cuts a file into pieces, which are taken one behind another. The first has the header, if there is one.
+/// Cuts a file into pieces, which are taken one behind another. The first has the header, if there
+/// is one.
 #[tactic(auto, using(crate::proofs::Fetches::fetches))]
 pub fn cut_held<S: Shelf, P: PieceSink>(
     alloc: Global,
@@ -21,9 +22,11 @@ pub fn cut_held<S: Shelf, P: PieceSink>(
     size: Size,
     to: &mut P,
 ) -> Result<(), WorkFault>
-    ensures { OnOk result (IfSome (S.held shelf.old) (λ h. CutHeld (h file.now) skip_first (P.taken to.old) (P.taken to.new))) }
+    ensures cut { OnOk result (IfSome (S.held shelf.old) (λ h. CutHeld (h file.now) skip_first (P.taken to.old) (P.taken to.new))) }
+    ensures refused { IfErr result (λ fault. WhyNotPut (S.held shelf.old)
+        (Rose S.stays_at_last (S.faults shelf.old) (S.faults shelf.new)) (Rose P.stays_at_last (P.faults to.old) (P.faults to.new)) fault file.now) }
 {
-    let bytes = fetch(alloc, shelf, file, MOST)?;
+    let bytes = read_file(alloc, shelf, file, MOST)?;
     cut_file(bytes.as_slice(), skip_first, size, to)?;
     Ok(())
 }
@@ -35,8 +38,10 @@ pub fn count_records<S: Shelf>(
     shelf: &mut S,
     file: &[u8],
 ) -> Result<usize, WorkFault>
-    ensures { IfOk result (λ count. IfSome (S.held shelf.old) (λ h. count ≡ length (csv_records (bytes_of (h file.now))))) }
+    ensures count { IfOk result (λ count. IfSome (S.held shelf.old) (λ h. count ≡ length (csv_records (bytes_of (h file.now))))) }
+    ensures read { OnOk result (IsRead (S.held shelf.old) file.now) }
+    ensures refused { IfErr result (WhyUnread (S.held shelf.old) (Rose S.stays_at_last (S.faults shelf.old) (S.faults shelf.new)) most_file file.now) }
 {
-    let bytes = fetch(alloc, shelf, file, MOST)?;
+    let bytes = read_file(alloc, shelf, file, MOST)?;
     Ok(records_in(bytes.as_slice()))
 }

@@ -1,6 +1,8 @@
 // Why a step was not done.
+ghost use Rattle.std.specs.Prelude.{◌≡◌};
+
 use river_base::NoMemory;
-use river_outside::{Failed, FetchFault};
+use river_outside::Failed;
 
 /// Why a step was not done.
 #[derive(Clone, Copy, Debug, PartialEq, Eq)]
@@ -21,24 +23,21 @@ pub enum WorkFault {
     Other,
 }
 
-impl From<FetchFault> for WorkFault {
-    fn from(fault: FetchFault) -> Self {
-        match fault {
-            FetchFault::Absent => WorkFault::Absent,
-            FetchFault::Failed => WorkFault::Unread,
-            FetchFault::Large => WorkFault::Large,
-            FetchFault::NoMemory => WorkFault::NoMemory,
-        }
-    }
-}
-
 impl From<NoMemory> for WorkFault {
+    ghost use Rattle.piece_work.specs.declared.fault.WorkFault.TheVariants as why;
+
+    ghost from_gives = { λ _ f. f ≡ why.NoMemory };
+
     fn from(_fault: NoMemory) -> Self {
         WorkFault::NoMemory
     }
 }
 
 impl From<Failed> for WorkFault {
+    ghost use Rattle.piece_work.specs.declared.fault.WorkFault.TheVariants as why;
+
+    ghost from_gives = { λ _ f. f ≡ why.Unwritten };
+
     fn from(_fault: Failed) -> Self {
         WorkFault::Unwritten
     }

@@ -1,29 +1,23 @@
 // Splits what runs printed, file by file, and writes it table by table.
-ghost use Rattle.std.specs.Prelude.{◌≡◌, map, OnOk, IfOk, IfSome};
+ghost use Rattle.std.specs.Prelude.{◌≡◌, ◌≤◌, map, OnOk, IfOk, IfErr, IfSome};
 ghost use Rattle.csv_cuts.specs.Cut.{append_pieces};
+ghost use Rattle.river_outside.specs.Causes.{Rose};
 ghost use Rattle.river_plan.specs.Forms.{table_names};
 ghost use Rattle.table_texts.specs.Split.{IsSplit, AreSplit};
+ghost use Rattle.piece_work.specs.Faults.{HasSplit, HaveSplits, WhyNotAllSplit, WhyUnsplit, WhyUnwritten};
 ghost use Rattle.piece_work.specs.Held.{bytes_of, rows_from};
 
 use crate::WorkFault;
-use crate::cutting::MOST;
+use crate::reading::{MOST, read_file};
 use csv_cuts::PieceSink;
 use river_base::{Bytes, Listed};
-use river_outside::{Shelf, fetch};
+use river_outside::Shelf;
 use river_plan::TableDecl;
 use std::alloc::Global;
 use table_texts::{SplitFault, rows_of_table, split_tables};
 
-impl From<SplitFault> for WorkFault {
-    fn from(fault: SplitFault) -> Self {
-        match fault {
-            SplitFault::Other => WorkFault::Other,
-            SplitFault::NoMemory => WorkFault::NoMemory,
-        }
-    }
-}
-
-/// Splits what the files hold at the lines of the tables' names.
+/// Splits what the files hold at the lines of the tables' names, or tells why the first file that
+/// is not split is not.
 #[tactic(auto, using(crate::proofs::FileByFile::files))]
 pub fn split_files<S: Shelf>(
     alloc: Global,
@@ -32,8 +26,12 @@ pub fn split_files<S: Shelf>(
     files: &[Bytes],
 ) -> Result<Listed<Listed<Bytes>>, WorkFault>
     ensures stays { S.held shelf.new ≡ S.held shelf.old }
+    ensures later { S.faults shelf.old ≤ S.faults shelf.new }
     ensures split { IfOk result (λ splits. IfSome (S.held shelf.old) (λ h.
         AreSplit (table_names tables.now) (map (λ file. bytes_of (h file)) files.now) splits)) }
+    ensures all { OnOk result (HaveSplits (S.held shelf.old) (table_names tables.now) files.now) }
+    ensures refused { IfErr result (WhyNotAllSplit (S.held shelf.old)
+        (Rose S.stays_at_last (S.faults shelf.old) (S.faults shelf.new)) (table_names tables.now) files.now) }
 {
     let mut splits = Listed::new(alloc);
     for i in 0..files.len() {
@@ -51,10 +49,18 @@ fn split_file<S: Shelf>(
     file: &[u8],
 ) -> Result<Listed<Bytes>, WorkFault>
     ensures stays { S.held shelf.new ≡ S.held shelf.old }
+    ensures later { S.faults shelf.old ≤ S.faults shelf.new }
     ensures split { IfOk result (λ sections. IfSome (S.held shelf.old) (λ h. IsSplit (table_names tables.now) (bytes_of (h file.now)) sections)) }
+    ensures has { OnOk result (HasSplit (S.held shelf.old) (table_names tables.now) file.now) }
+    ensures refused { IfErr result (λ fault. WhyUnsplit (S.held shelf.old)
+        (Rose S.stays_at_last (S.faults shelf.old) (S.faults shelf.new)) (table_names tables.now) fault file.now) }
 {
-    let bytes = fetch(alloc, shelf, file, MOST)?;
-    Ok(split_tables(alloc, tables, bytes.as_slice())?)
+    let bytes = read_file(alloc, shelf, file, MOST)?;
+    match split_tables(alloc, tables, bytes.as_slice()) {
+        Ok(sections) => Ok(sections),
+        Err(SplitFault::Other) => Err(WorkFault::Other),
+        Err(SplitFault::NoMemory) => Err(WorkFault::NoMemory),
+    }
 }
 
 /// Writes the rows of each table, which all the files have of it, one behind another.
@@ -65,7 +71,9 @@ pub fn write_rows<P: PieceSink>(
     tables: usize,
     to: &mut P,
 ) -> Result<(), WorkFault>
-    ensures { OnOk result (P.taken to.new ≡ append_pieces (P.taken to.old) (rows_from 0 tables splits.now)) }
+    ensures later { P.faults to.old ≤ P.faults to.new }
+    ensures wrote { OnOk result (P.taken to.new ≡ append_pieces (P.taken to.old) (rows_from 0 tables splits.now)) }
+    ensures refused { IfErr result (WhyUnwritten (Rose P.stays_at_last (P.faults to.old) (P.faults to.new))) }
 {
     for table in 0..tables {
         let rows = rows_of_table(alloc, splits, table)?;

@@ -168,6 +168,7 @@ split-over tables out i place sections l left front = λ all h.
     let within = front.within in
     left (omega (arith, short, many, within))
 
+-- behind the last table nothing is left: the sections are the split
 pub split-last : (tables : List TableDecl) (out : List ℕ) (i place : ℕ) (sections : List (List ℕ)) → length tables ≤ i → place ≡ length out
     → SplitFront tables out i place sections → IsSplit (table_names tables) out sections
 split-last tables out i place sections l e front = subst (IsSplit (table_names tables) out) (append-nil sections) (front.rest [] none) where
