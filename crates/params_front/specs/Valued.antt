@@ -1,4 +1,4 @@
--- Bounds that are valued before the loops around them turn, since no variable of a loop stands in them.
+-- Bounds that are valued before loops around them turn, since no variable of these loops stands in them.
 use Rattle.std.specs.Prelude.{◌≡◌, ℕ, ℤ, pos, Bool, true, false, ◌&&◌, List, [], ◌∷◌, Option, Some, None}
 use Rattle.streamit_text.specs.Tree.{Expression}
 use Rattle.streamit_text.specs.Tree as tree
@@ -22,10 +22,10 @@ is_free vars (tree.Neg t) = is_free vars t
 is_free vars (tree.Not t) = is_free vars t
 is_free vars (tree.Bin o a b) = is_free vars a && is_free vars b
 
--- these variables have some values, the newest first, over an environment
+-- these variables of loops have some values, the newest first, over an environment
 abbrev pub IsOver : Environment → Environment → Environment → Type 0
 IsOver [] known env = env ≡ known
-IsOver (e ∷ vars) known env = (z : ℤ) × (rest : Environment) × (env ≡ (e.0, z) ∷ rest) × IsOver vars known rest
+IsOver (e ∷ vars) known env = (v : ℕ) × (rest : Environment) × (env ≡ (e.0, pos v) ∷ rest) × IsOver vars known rest
 
 -- where a value is noted, it is this one
 abbrev pub IsFixed : Option ℤ → ℤ → Type 0
@@ -45,3 +45,28 @@ abbrev mutual
   AreValued env End (b ∷ bs) = ⊥
   AreValued env (Then s ss) [] = ⊥
   AreValued env (Then s ss) (b ∷ bs) = IsValued env s b × AreValued env ss bs
+
+-- WHAT WAS NOTED BEFORE
+
+abbrev pub low_noted : Option Bounds → Option ℤ
+low_noted None = None
+low_noted (Some b) = (out-Bounds b).low
+
+abbrev pub high_noted : Option Bounds → Option ℤ
+high_noted None = None
+high_noted (Some b) = (out-Bounds b).high
+
+abbrev pub inner_noted : Option Bounds → List Bounds
+inner_noted None = []
+inner_noted (Some b) = (out-Bounds b).inner.items
+
+-- what was noted of a step, if anything, is so
+abbrev pub IsNoted : Environment → Step → Option Bounds → Type 0
+IsNoted env s None = Unit {0}
+IsNoted env s (Some b) = IsValued env s b
+
+-- what was noted of steps, of the first ones at least, is so
+abbrev pub AreNoted : Environment → Steps → List Bounds → Type 0
+AreNoted env End bs = Unit {0}
+AreNoted env (Then s ss) [] = Unit {0}
+AreNoted env (Then s ss) (b ∷ bs) = IsValued env s b × AreNoted env ss bs

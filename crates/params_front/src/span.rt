@@ -19,6 +19,13 @@ pub(crate) struct Span {
     pub end: u32,
 }
 
+impl Span {
+    /// Whether there is at most one turn.
+    pub(crate) fn is_short(&self) -> bool {
+        self.end.saturating_sub(self.low) <= 1
+    }
+}
+
 /// The value of a bound, which may be known before.
 pub(crate) fn value_or(known: &Bindings, fixed: Option<i64>, c: &Expr) -> i64
     requires values { HasValues (expression c.now) }

@@ -1,18 +1,35 @@
--- Names and their values, as a list in memory.
-use Rattle.std.proofs.Common.{◌≡◌, ℕ, ℤ, ◌+◌, ◌<◌, ◌≤◌, List, [], ◌∷◌, ◌++◌, length, take, drop, get_or, Some, refl, sym, ap, ◌∙◌, drop-cons, add-one}
-use Rattle.std.specs.Prelude.{reverse, if◌then◌else◌}
-use Rattle.std.proofs.lemmas.List.{take_more, drop_all}
-use Rattle.river_base.proofs.Lists.{reverse-push}
+-- Names and their values in memory.
+use Rattle.std.proofs.Common.{◌≡◌, ℕ, ℤ, ◌+◌, ◌<◌, ◌≤◌, List, [], ◌∷◌, length, drop, get_or, Some}
+use Rattle.std.proofs.Common.{refl, ap, ◌∙◌, subst, ⊎_elim, drop-cons, add-one}
+use Rattle.std.specs.Prelude.{if◌then◌else◌}
+use Rattle.std.proofs.lemmas.List.{drop_all}
+use Rattle.indexmap.specs.IndexMap.{IndexMap, get}
 use Rattle.river_base.specs.Name.{name_eq}
 use Rattle.river_plan.specs.Forms.{Name}
+use Rattle.river_plan.proofs.NameLemmas.{cases_name}
 use Rattle.streamit_model.specs.Meaning.{look}
 use Rattle.params_model.specs.Environment.{bound}
+use Rattle.params_print.specs.Known.{known_in, IsByName}
+use Rattle.params_print.specs.declared.bindings.Binding.{Binding}
 
--- a name among the first ones
-pub look-take : (es : List (Name × ℤ)) (i : ℕ) (e : Name × ℤ) (n : Name) → i < length es → e ≡ get_or es i e
-    → look (reverse (take (i + 1) es)) n ≡ (if name_eq e.0 n then Some e.1 else look (reverse (take i es)) n)
-look-take es i e n lt g =
-    ap (λ l. look (reverse l) n) (take_more es i e lt ∙ ap (λ x. take i es ++ x ∷ []) (sym g)) ∙ ap (λ sc. look sc n) (reverse-push (take i es) e)
+-- the newest has a value
+pub by_name-there : {S : Type 0} (bs : List Binding) (b : Binding) (newest : IndexMap Name ℤ S) → IsByName (b ∷ bs) newest
+    → get name_eq newest b.name ≡ Some b.value
+by_name-there bs b newest h = ⊎_elim
+    (λ s. h.found b.name ∙ ap (λ t. if t then Some b.value else look (known_in bs) b.name) s.1)
+    (λ d. absurd (d.0 refl))
+    (cases_name b.name b.name)
+
+-- without the newest its name has what it hid
+pub by_name-pop : {S : Type 0} (bs : List Binding) (b : Binding) (old new : IndexMap Name ℤ S) → IsByName (b ∷ bs) old
+    → ((n : Name) → get name_eq new n ≡ (if name_eq b.name n then b.hidden else get name_eq old n)) → IsByName bs new
+by_name-pop bs b old new h is = record {
+  found = λ n. is n ∙ ⊎_elim
+      (λ s. ap (λ t. if t then b.hidden else get name_eq old n) s.1 ∙ subst (λ m. b.hidden ≡ look (known_in bs) m) s.0 h.hidden.0)
+      (λ d. ap (λ t. if t then b.hidden else get name_eq old n) d.1 ∙ h.found n ∙ ap (λ t. if t then Some b.value else look (known_in bs) n) d.1)
+      (cases_name b.name n);
+  hidden = h.hidden.1;
+}
 
 bound-nil : (ps : List Name) → bound ps [] ≡ []
 bound-nil [] = refl

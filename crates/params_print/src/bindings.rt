@@ -1,8 +1,12 @@
 // Values of names.
-ghost use Rattle.std.specs.Prelude.{◌≡◌, ◌≤◌, [], ◌∷◌, length, drop, reverse, IfOk, OnOk, OnErr};
+ghost use Rattle.std.specs.Prelude.{◌≡◌, ◌≤◌, [], ◌∷◌, ℤ, length, drop, Some, IfOk, OnOk, OnErr, if◌then◌else◌};
+ghost use Rattle.indexmap.specs.IndexMap.{get};
+ghost use Rattle.river_base.specs.Name.{name_eq};
+ghost use Rattle.river_plan.specs.Forms as plan;
 ghost use Rattle.streamit_model.specs.Meaning.{look};
 ghost use Rattle.params_model.specs.Environment.{bound};
 
+use indexmap::IndexMap;
 use river_base::{Name, NoMemory};
 use std::alloc::Global;
 use std::marker::Model;
@@ -12,16 +16,29 @@ use std::marker::Model;
 #[derive(Drop)]
 pub struct Bindings {
     // The newest last.
-    items: Vec<(Name, i64)>,
+    items: Vec<Binding>,
+    // The newest value of each name that has one.
+    newest: IndexMap<Name, i64>,
+}
+
+/// A value of a name, and the value that the name had before, which it hides.
+#[derive(Clone, Copy)]
+pub(crate) struct Binding {
+    pub name: Name,
+    pub value: i64,
+    pub hidden: Option<i64>,
 }
 
 impl Model for Bindings {
     ghost use Rattle.std.specs.Prelude.{reverse};
     ghost use Rattle.params_model.specs.Environment.{Environment};
+    ghost use Rattle.params_print.specs.Known.{known_in, IsByName};
 
     ghost Value = { Environment };
 
-    ghost view = { λ b. reverse b.items.items };
+    ghost view = { λ b. known_in (reverse b.items.items) };
+
+    ghost invariant = { λ b. IsByName (reverse b.items.items) b.newest };
 }
 
 impl Bindings {
@@ -31,6 +48,7 @@ impl Bindings {
     {
         Bindings {
             items: Vec::new(alloc),
+            newest: IndexMap::new(alloc),
         }
     }
 
@@ -52,7 +70,13 @@ impl Bindings {
         ensures ok { OnOk result (self.new ≡ (name, value) ∷ self.old) }
         ensures err { OnErr result (self.new ≡ self.old) }
     {
-        self.items.push((name, value))?;
+        self.items.reserve(1)?;
+        let hidden = self.newest.insert(name, value)?;
+        self.items.push_reserved(Binding {
+            name,
+            value,
+            hidden,
+        });
         Ok(())
     }
 
@@ -60,14 +84,34 @@ impl Bindings {
     pub fn pop(&mut self)
         ensures { self.new ≡ drop 1 self.old }
     {
-        self.items.pop();
+        if let Some(last) = self.items.pop() {
+            bring_back(&mut self.newest, last.name, last.hidden);
+        }
     }
 
     /// The newest value of a name.
     pub fn get(&self, name: &Name) -> Option<i64>
         ensures { result ≡ look self.now name.now }
     {
-        newest(self.items.as_slice(), name)
+        self.newest.get(name).copied()
+    }
+}
+
+// A name that has a value has the hidden one from here on, or none.
+fn bring_back(newest: &mut IndexMap<Name, i64>, name: Name, hidden: Option<i64>)
+    requires { (z : ℤ) × (get name_eq newest.old name ≡ Some z) }
+    ensures { (n : plan.Name) → get name_eq newest.new n ≡ (if name_eq name n then hidden else get name_eq newest.old n) }
+{
+    match hidden {
+        Some(value) => {
+            // The name is there, so that no memory is taken.
+            let Ok(_) = newest.insert(name, value) else {
+                unreachable!()
+            };
+        }
+        None => {
+            newest.swap_remove(&name);
+        }
     }
 }
 
@@ -83,19 +127,4 @@ fn bound_count(params: &[Name], values: &[i64]) -> usize
     } else {
         values.len()
     }
-}
-
-// The last value of a name in a list.
-fn newest(items: &[(Name, i64)], name: &Name) -> Option<i64>
-    ensures { result ≡ look (reverse items.now) name.now }
-{
-    let mut i = items.len();
-    while i > 0 {
-        i -= 1;
-        let (known, value) = items[i];
-        if known == *name {
-            return Some(value);
-        }
-    }
-    None
 }

@@ -6,7 +6,7 @@ use Rattle.params_front.proofs.Valued.{free-fixed}
 use Rattle.params_front.proofs.bounds.fixed.Goals as goal
 
 pub returns-then-is_free : goal.returns-then-is_free
-returns-then-is_free c = λ env o.
+returns-then-is_free c = λ noted env o.
     let vars = c.args.vars.now in
     let known = c.args.known.now in
     let e = expression c.args.c.now in
