@@ -1,66 +1,52 @@
 -- What a text of CQL means is what it has in the grammar, and what the front answers.
 use Rattle.std.proofs.Common.{◌≡◌, ℕ, List, Option, Some, None, Result, Ok, Err, refl, sym, ap, ◌∙◌, subst, arith, [], ◌∷◌, length, ◌≤◌}
 use Rattle.text_tokens.specs.Cut.{units_of}
-use Rattle.text_tokens.specs.Lexis.{tokens_in}
-use Rattle.text_tokens.specs.Tok.{Tok, Mark, toks}
-use Rattle.text_tokens.specs.declared.fault.LexFault.{LexFault}
-use Rattle.text_tokens.specs.declared.fault.LexFault.TheVariants as lex
-use Rattle.text_tokens.proofs.Counts.{units-few}
-use Rattle.text_tokens.proofs.Slices.{no_want}
-use Rattle.text_forms.specs.Refusals.{of_lexer}
-use Rattle.text_forms.specs.declared.refusal.Refusal.TheVariants.{BadByte, BigNumber, Syntax}
+use Rattle.text_tokens.specs.Tok.{Tok, toks}
+use Rattle.text_tokens.proofs.Counts.{tokens-few, units-few}
+use Rattle.text_forms.specs.declared.text_fault.TextFault.{TextFault}
+use Rattle.text_forms.specs.declared.text_fault.TextFault.TheVariants.{BadByte, BigNumber, Syntax, NoMemory}
 use Rattle.river_plan.specs.Forms.{PlanForm}
 use Rattle.cql_model.specs.Judged.{refusal_of, AreSpoken, HaveShortNames}
 use Rattle.cql_model.specs.declared.fault.Fault as model
 use Rattle.cql_model.specs.declared.fault.Fault.TheVariants as model_fault
 use Rattle.cql_model.specs.declared.fault.Refusal.{Refusal}
 use Rattle.cql_model.specs.Plan.{plan_of}
-use Rattle.cql_text.specs.Faults.{StandFor, Refuses}
+use Rattle.cql_text.specs.Faults.{HasFault, Refuses}
 use Rattle.cql_text.specs.Grammar.{IsText, AreUnits}
-use Rattle.cql_text.specs.Laws.{IsBadAt}
-use Rattle.cql_text.specs.Reading.{units_in}
+use Rattle.cql_text.specs.Reading.{program_in}
 use Rattle.cql_text.specs.Tree.{UnitForm}
-use Rattle.text_forms.specs.declared.unit_fault.UnitFault.TheVariants.{Syntax as Syntax_at}
 use Rattle.cql_front.proofs.Spoken.{spoken, shortened}
-use Rattle.cql_text.proofs.Texts.{text-read, text-reads, units-bad, units-reads, units-told}
+use Rattle.cql_text.proofs.Texts.{text-read, text-reads, text-faulty, faulty-told}
 use Rattle.cql_model.proofs.Accepted.{accepted_are_valid, accepted_mean}
 use Rattle.cql_model.proofs.Judged.{refusals_are, accepted_are, unit_low}
 use Rattle.cql_front.specs.declared.fault.CqlFault.{CqlFault}
-use Rattle.cql_front.specs.declared.fault.CqlFault.TheVariants.{Text, UnknownStream, UnknownField, AmbiguousField, NameTwice, Limit, NoMemory}
+use Rattle.cql_front.specs.declared.fault.CqlFault.TheVariants.{Text, UnknownStream, UnknownField, AmbiguousField, NameTwice, Limit}
 use Rattle.cql_front.specs.Laws.{HasRefusal, Has, MeansWhatItHas, PlansMean}
-use Rattle.cql_front.specs.Meaning.{fault_at, or_refused, accepted, then_judged, of_tokens, then_read, compiled, Plans, Refused}
+use Rattle.cql_front.specs.Meaning.{fault_at, or_refused, accepted, then_judged, compiled, Plans, Refused}
 
 -- ---- FROM THE GRAMMAR
 
 -- a text that stands for a program means what judging says
 stands-means : (text : List ℕ) (p : List UnitForm) → IsText text p → compiled text ≡ accepted p
 unfolding compiled
-stands-means text p t = ap then_read t.lexed ∙ ap then_judged (text-reads text p t)
+stands-means text p t = ap then_judged (text-reads text p t)
 
--- one with a unit that is not in the grammar means the first of them
-bad-means : (text : List ℕ) (unit : ℕ) → IsBadAt text unit → compiled text ≡ Err (Text (Syntax unit))
+-- one that is not read means the fault that it has
+faulty-means : (text : List ℕ) (fault : TextFault) → HasFault text fault → compiled text ≡ Err (Text fault)
 unfolding compiled
-bad-means text unit b = ap then_read b.lexed ∙ ap then_judged (units-told (units_of (toks b.marks)) unit b.first)
-
--- one with a fault of its bytes means this fault
-lexed-means : (text : List ℕ) (fault : LexFault) → tokens_in text ≡ Err fault → compiled text ≡ Err (of_lexer Text NoMemory fault)
-unfolding compiled
-lexed-means text fault e = ap then_read e
+faulty-means text fault h = ap then_judged (faulty-told text fault h)
 
 fault-means : (text : List ℕ) (fault : CqlFault) → HasRefusal text fault → compiled text ≡ Err fault
 fault-means text fault h = stands-means text h.program h.stands ∙ ap (or_refused h.program) ((refusals_are h.program h.refusal).1 h.refused) ∙ ap Err (sym h.is)
 
 has-means : (text : List ℕ) (meant : Result (List UnitForm) CqlFault) → Has text meant → compiled text ≡ meant
 has-means text (Ok p) h = stands-means text p h.0 ∙ ap (or_refused p) ((accepted_are p).1 h.1)
-has-means text (Err (Text (BadByte at))) h = lexed-means text (lex.BadByte at) h
-has-means text (Err (Text (BigNumber at))) h = lexed-means text (lex.BigNumber at) h
-has-means text (Err (Text (Syntax unit))) h = bad-means text unit h
+has-means text (Err (Text fault)) h = faulty-means text fault h
 has-means text (Err (UnknownStream unit)) h = fault-means text (UnknownStream unit) h
 has-means text (Err (UnknownField unit)) h = fault-means text (UnknownField unit) h
 has-means text (Err (AmbiguousField unit)) h = fault-means text (AmbiguousField unit) h
 has-means text (Err (NameTwice unit)) h = fault-means text (NameTwice unit) h
 has-means text (Err (Limit unit)) h = fault-means text (Limit unit) h
-has-means text (Err NoMemory) h = absurd h
 
 -- ---- TO THE GRAMMAR
 
@@ -84,16 +70,10 @@ accepted-has text p t = by (refusal_of p) refl where
 
 means-has : (text : List ℕ) → Has text (compiled text)
 unfolding compiled
-means-has text = by (tokens_in text) refl where
-  read : (marks : List Mark) → tokens_in text ≡ Ok marks → (r : Result (List UnitForm) ℕ) → units_in (units_of (toks marks)) ≡ r → Has text (then_judged r)
-  read marks lexed (Ok p) e = accepted-has text p (text-read text marks p lexed e)
-  read marks lexed (Err unit) e = record { marks = marks; lexed = lexed; first = units-bad (units_of (toks marks)) unit e }
-
-  by : (r : Result (List Mark) LexFault) → tokens_in text ≡ r → Has text (then_read r)
-  by (Ok marks) e = read marks e (units_in (units_of (toks marks))) refl
-  by (Err (lex.BadByte at)) e = e
-  by (Err (lex.BigNumber at)) e = e
-  by (Err lex.NoMemory) e = absurd (no_want text e)
+means-has text = by (program_in text) refl where
+  by : (r : Result (List UnitForm) TextFault) → program_in text ≡ r → Has text (then_judged r)
+  by (Ok p) e = accepted-has text p (text-read text p e)
+  by (Err fault) e = text-faulty text fault e
 
 -- the law: a text means what it has
 pub means_what_it_has : MeansWhatItHas
@@ -108,25 +88,21 @@ plans_mean text p e =
 
 -- ---- WHAT THE FRONT ANSWERS
 
--- tokens that stand for a program mean what judging says
-tokens-mean : (marks : List Mark) (p : List UnitForm) → StandFor marks p → of_tokens marks ≡ accepted p
-tokens-mean marks p h = ap then_judged (units-reads (units_of (toks marks)) p h)
+-- a program that was read is planned and refused as its text is
+pub read-planned : (text : List ℕ) (p : List UnitForm) (plan : PlanForm) → IsText text p → Plans (accepted p) p plan → Plans (compiled text) p plan
+read-planned text p plan t h = record { accepted = stands-means text p t ∙ h.accepted; planned = h.planned }
 
--- a program that was read is planned and refused as its tokens are
-pub read-planned : (marks : List Mark) (p : List UnitForm) (plan : PlanForm) → StandFor marks p → Plans (accepted p) p plan → Plans (of_tokens marks) p plan
-read-planned marks p plan e h = record { accepted = tokens-mean marks p e ∙ h.accepted; planned = h.planned }
-
--- a program that is refused is refused as its tokens are
-pub read-refused : (marks : List Mark) (p : List UnitForm) (fault : CqlFault) → StandFor marks p → Refused (accepted p) fault → Refused (of_tokens marks) fault
-read-refused marks p fault e h = subst (λ (r : Result (List UnitForm) CqlFault). Refused r fault) (sym (tokens-mean marks p e)) h
+-- a program that is refused is refused as its text is
+pub read-refused : (text : List ℕ) (p : List UnitForm) (fault : CqlFault) → IsText text p → Refused (accepted p) fault → Refused (compiled text) fault
+read-refused text p fault t h = subst (λ (r : Result (List UnitForm) CqlFault). Refused r fault) (sym (stands-means text p t)) h
 
 -- what was read has what the grammar gives
-pub read-spoken : (marks : List Mark) (p : List UnitForm) → StandFor marks p → AreSpoken p
-read-spoken marks p e = spoken p (units_of (toks marks)) e
+pub read-spoken : (text : List ℕ) (p : List UnitForm) → IsText text p → AreSpoken p
+read-spoken text p t = spoken p (units_of (toks t.marks)) t.formed
 
 -- and its names are short
-pub read-short : (marks : List Mark) (p : List UnitForm) → StandFor marks p → HaveShortNames p
-read-short marks p e = shortened p (units_of (toks marks)) e
+pub read-short : (text : List ℕ) (p : List UnitForm) → IsText text p → HaveShortNames p
+read-short text p t = shortened p (units_of (toks t.marks)) t.formed
 
 parts-many : (p : List UnitForm) (units : List (List Tok)) → AreUnits p units → length p ≡ length units
 parts-many [] [] h = refl
@@ -134,17 +110,22 @@ parts-many [] (u ∷ us) h = absurd h
 parts-many (p ∷ ps) [] h = absurd h
 parts-many (p ∷ ps) (u ∷ us) h = let m = parts-many ps us h.1 in omega (arith, m)
 
--- a program has no more units than its text has tokens
-pub read-few : (marks : List Mark) (p : List UnitForm) → StandFor marks p → length p ≤ length marks
-read-few marks p e = let m = parts-many p (units_of (toks marks)) e in let f = units-few marks in omega (arith, m, f)
+-- a program has no more units than its text has bytes
+pub read-few : (text : List ℕ) (p : List UnitForm) → IsText text p → length p ≤ length text
+read-few text p t =
+    let m = parts-many p (units_of (toks t.marks)) t.formed in
+    let f = units-few t.marks in
+    let b = tokens-few text t.marks t.lexed in
+    omega (arith, m, f, b)
 
-pub ruleset fronts = (read-planned, read-refused, read-spoken, read-short)
+-- a text that is not read means the fault that is told
+pub read-faulty : (text : List ℕ) (fault : TextFault) → Refuses text fault → Refused (compiled text) (Text fault)
+read-faulty text (BadByte at) h = faulty-means text (BadByte at) h.0
+read-faulty text (BigNumber at) h = faulty-means text (BigNumber at) h.0
+read-faulty text (Syntax unit) h = faulty-means text (Syntax unit) h.0
+read-faulty text NoMemory h = tt
 
--- tokens with a unit that is not in the grammar mean the first of them
-pub read-bad : (marks : List Mark) (unit : ℕ) → Refuses marks (Syntax_at unit) → of_tokens marks ≡ Err (Text (Syntax unit))
-read-bad marks unit h = ap then_judged (units-told (units_of (toks marks)) unit h.0)
-
-pub ruleset readings = (read-bad)
+pub ruleset fronts = (read-planned, read-refused, read-spoken, read-short, read-faulty)
 
 -- a program that is not refused is the one that is meant, and this is its plan
 pub planned-plans : (p : List UnitForm) (plan : PlanForm) → refusal_of p ≡ None → plan ≡ plan_of p → Plans (accepted p) p plan

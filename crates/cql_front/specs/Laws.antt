@@ -1,8 +1,5 @@
 -- What is true of all texts.
 use Rattle.std.specs.Prelude.{◌≡◌, ◌↔◌, ℕ, ℤ, List, [], Result, Ok, Err}
-use Rattle.text_tokens.specs.Lexis.{tokens_in}
-use Rattle.text_tokens.specs.declared.fault.LexFault.TheVariants as lex
-use Rattle.text_forms.specs.declared.refusal.Refusal.TheVariants.{BadByte, BigNumber, Syntax}
 use Rattle.river_plan.specs.Valid.{IsPlan}
 use Rattle.river_print.specs.Printable.{IsPrintable}
 use Rattle.brooklet_model.specs.Meaning.{meaning}
@@ -11,11 +8,11 @@ use Rattle.cql_model.specs.Laws.{AreFiles}
 use Rattle.cql_model.specs.Faults.{IsRefused, IsAccepted}
 use Rattle.cql_model.specs.Plan.{plan_of}
 use Rattle.cql_model.specs.declared.fault.Refusal.{Refusal}
+use Rattle.cql_text.specs.Faults.{HasFault}
 use Rattle.cql_text.specs.Grammar.{IsText}
-use Rattle.cql_text.specs.Laws.{IsBadAt}
 use Rattle.cql_text.specs.Tree.{UnitForm}
 use Rattle.cql_front.specs.declared.fault.CqlFault.{CqlFault}
-use Rattle.cql_front.specs.declared.fault.CqlFault.TheVariants.{Text, NoMemory}
+use Rattle.cql_front.specs.declared.fault.CqlFault.TheVariants.{Text}
 use Rattle.cql_front.specs.Meaning.{fault_at, compiled}
 
 -- the grammar has the text for a program that is refused for this
@@ -30,10 +27,7 @@ pub record HasRefusal (text : List ℕ) (fault : CqlFault) : Type 0 where
 -- grammar, or a first fault of its bytes
 abbrev pub Has : List ℕ → Result (List UnitForm) CqlFault → Type 0
 Has text (Ok p) = IsText text p × IsAccepted p
-Has text (Err (Text (BadByte at))) = tokens_in text ≡ Err (lex.BadByte at)
-Has text (Err (Text (BigNumber at))) = tokens_in text ≡ Err (lex.BigNumber at)
-Has text (Err (Text (Syntax unit))) = IsBadAt text unit
-Has text (Err NoMemory) = ⊥
+Has text (Err (Text fault)) = HasFault text fault
 Has text (Err fault) = HasRefusal text fault
 
 -- that is what a text means

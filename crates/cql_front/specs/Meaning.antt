@@ -1,21 +1,17 @@
--- What a text of CQL means: the program that it stands for, or why it has none. It is lexed, then read, then judged.
+-- What a text of CQL means: the program that it stands for, or why it has none. It is read, then judged.
 use Rattle.std.specs.Prelude.{◌≡◌, ℕ, List, Option, Some, None, Result, Ok, Err}
-use Rattle.text_tokens.specs.Cut.{units_of}
-use Rattle.text_tokens.specs.Lexis.{tokens_in}
-use Rattle.text_tokens.specs.Tok.{Mark, toks}
-use Rattle.text_tokens.specs.declared.fault.LexFault.{LexFault}
-use Rattle.text_forms.specs.Refusals.{of_lexer}
-use Rattle.text_forms.specs.declared.refusal.Refusal.TheVariants.{Syntax}
+use Rattle.text_forms.specs.declared.text_fault.TextFault.{TextFault}
+use Rattle.text_forms.specs.declared.text_fault.TextFault.TheVariants.{NoMemory}
 use Rattle.river_plan.specs.Forms.{PlanForm}
 use Rattle.cql_model.specs.Judged.{refusal_of}
 use Rattle.cql_model.specs.Plan.{plan_of}
 use Rattle.cql_model.specs.declared.fault.Fault as model
 use Rattle.cql_model.specs.declared.fault.Fault.TheVariants as model_fault
 use Rattle.cql_model.specs.declared.fault.Refusal.{Refusal}
-use Rattle.cql_text.specs.Reading.{units_in}
+use Rattle.cql_text.specs.Reading.{program_in}
 use Rattle.cql_text.specs.Tree.{UnitForm}
 use Rattle.cql_front.specs.declared.fault.CqlFault.{CqlFault}
-use Rattle.cql_front.specs.declared.fault.CqlFault.TheVariants.{Text, UnknownStream, UnknownField, AmbiguousField, NameTwice, Limit, NoMemory}
+use Rattle.cql_front.specs.declared.fault.CqlFault.TheVariants.{Text, UnknownStream, UnknownField, AmbiguousField, NameTwice, Limit}
 
 -- the fault of a unit
 abbrev pub fault_at : ℕ → model.Fault → CqlFault
@@ -35,22 +31,13 @@ abbrev pub accepted : List UnitForm → Result (List UnitForm) CqlFault
 accepted p = or_refused p (refusal_of p)
 
 -- what is read is judged
-abbrev pub then_judged : Result (List UnitForm) ℕ → Result (List UnitForm) CqlFault
+abbrev pub then_judged : Result (List UnitForm) TextFault → Result (List UnitForm) CqlFault
 then_judged (Ok p) = accepted p
-then_judged (Err unit) = Err (Text (Syntax unit))
-
--- the tokens of a text are read
-abbrev pub of_tokens : List Mark → Result (List UnitForm) CqlFault
-of_tokens marks = then_judged (units_in (units_of (toks marks)))
-
--- what is lexed is read
-abbrev pub then_read : Result (List Mark) LexFault → Result (List UnitForm) CqlFault
-then_read (Ok marks) = of_tokens marks
-then_read (Err fault) = Err (of_lexer Text NoMemory fault)
+then_judged (Err fault) = Err (Text fault)
 
 -- the program of a text, or why it has none
 unfoldable pub compiled : List ℕ → Result (List UnitForm) CqlFault
-compiled text = then_read (tokens_in text)
+compiled text = then_judged (program_in text)
 
 -- the program is accepted, and this is its plan
 pub record Plans (meant : Result (List UnitForm) CqlFault) (p : List UnitForm) (plan : PlanForm) : Type 0 where
@@ -59,5 +46,5 @@ pub record Plans (meant : Result (List UnitForm) CqlFault) (p : List UnitForm) (
 
 -- this is why there is no program; want of memory says nothing
 abbrev pub Refused : Result (List UnitForm) CqlFault → CqlFault → Type 0
-Refused meant NoMemory = Unit {0}
+Refused meant (Text NoMemory) = Unit {0}
 Refused meant fault = meant ≡ Err fault

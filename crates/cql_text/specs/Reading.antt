@@ -3,7 +3,8 @@ use Rattle.std.specs.Prelude.{ℕ, Bool, false, ◌||◌, List, [], ◌∷◌, c
 use Rattle.text_tokens.specs.Tok.{Tok, name, var, number, symbol}
 use Rattle.text_tokens.specs.declared.sign.Symbol.TheVariants as s
 use Rattle.text_forms.specs.Parse.{Parse, begins_with, both, after, before, seen, known, merged, maybe, headed, commas, nothing_at, name_at, count_at}
-use Rattle.text_forms.specs.AllUnits.{all_units}
+use Rattle.text_forms.specs.AllUnits.{all_units, by_units, text_by}
+use Rattle.text_forms.specs.declared.text_fault.TextFault.{TextFault}
 use Rattle.cql_text.specs.Grammar.{kind_named, time_named, made_span, made_source, made_column, Behind, Selected, made_query, made_stream}
 use Rattle.cql_text.specs.Tree.{Name, Scalar, Window, Now, Unbounded, Latest, Source, Column, Columns, Star, Chosen, UnitForm}
 use Rattle.cql_text.specs.ValueReading.{numeral_at, scalar_at}
@@ -119,3 +120,7 @@ unit_at ts = merged (is_keyword_at (codes "register")) stream_at query_at ts
 -- the units of a text
 abbrev pub units_in : List (List Tok) → Result (List UnitForm) ℕ
 units_in units = all_units unit_at units
+
+-- what is read of a text
+abbrev pub program_in : List ℕ → Result (List UnitForm) TextFault
+program_in text = text_by (by_units units_in) text

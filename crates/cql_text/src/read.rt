@@ -1,28 +1,28 @@
-// From the tokens of a text to its program.
+// From a text to its program.
 ghost use Rattle.std.specs.Prelude.{◌<◌, ◌^◌, length, IfOk, IfErr};
-ghost use Rattle.text_tokens.specs.Cut.{units_of};
-ghost use Rattle.text_tokens.specs.Tok.{toks};
-ghost use Rattle.cql_text.specs.Faults.{StandFor, Refuses};
+ghost use Rattle.cql_text.specs.Faults.{Refuses};
+ghost use Rattle.cql_text.specs.Grammar.{IsText};
 ghost use Rattle.cql_text.specs.Tree.{program_of};
 
 use crate::CqlProgram;
 use crate::unit::CqlGrammar;
+use river_base::Bytes;
 use std::alloc::Global;
-use text_forms::{UnitFault, read_text};
-use text_tokens::Tokens;
+use text_forms::{TextFault, read_bytes};
 
-/// The program that the units of these tokens stand for (CQL of Arasu, Babu and Widom, 2006, cut to one grammar of streams,
-/// windows and queries).
+/// The program that a text stands for (CQL of Arasu, Babu and Widom, 2006, cut to one grammar of streams, windows and
+/// queries).
 ///
 /// # Errors
 ///
-/// `Syntax` with the first unit, from 1, that is not in the grammar; `NoMemory` where there is no memory.
+/// `BadByte` or `BigNumber` with the first fault of the bytes where they have no tokens; otherwise `Syntax` with the first
+/// unit, from 1, that is not in the grammar; `NoMemory` where there is no memory.
 #[tactic(auto, using(crate::proofs::Texts::programs))]
-pub fn read_cql(alloc: Global, tokens: &Tokens<'_>) -> Result<CqlProgram, UnitFault>
-    requires { length (units_of (toks tokens.now)) < 2 ^ 32 }
-    ensures read { IfOk result (λ program. StandFor tokens.now (program_of program)) }
-    ensures refused { IfErr result (Refuses tokens.now) }
+pub fn read_cql(alloc: Global, text: &Bytes) -> Result<CqlProgram, TextFault>
+    requires { length text.now < 2 ^ 32 }
+    ensures read { IfOk result (λ program. IsText text.now (program_of program)) }
+    ensures refused { IfErr result (Refuses text.now) }
 {
-    let units = read_text(&CqlGrammar, alloc, tokens)?;
+    let units = read_bytes(&CqlGrammar, alloc, text)?;
     Ok(CqlProgram { units })
 }

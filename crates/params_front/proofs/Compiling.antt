@@ -1,6 +1,7 @@
 -- What a text means is what is made of it, compiled.
 use Rattle.std.proofs.Common.{◌≡◌, ℕ, ℤ, List, [], ◌∷◌, Result, Ok, Err, refl, sym, ap, ◌∙◌, subst, pos}
 use Rattle.std.specs.Prelude.{map}
+use Rattle.text_forms.specs.declared.text_fault.TextFault.TheVariants as text_fault
 use Rattle.river_plan.specs.Forms.{PlanForm}
 use Rattle.streamit_text.specs.Program as plain
 use Rattle.streamit_model.specs.Laws.{as_items}
@@ -23,7 +24,6 @@ use Rattle.params_front.specs.Meaning.{Elaboration, Accepted, elaboration, unit_
 use Rattle.params_front.specs.Sizes.{sizes_of}
 use Rattle.params_front.specs.declared.fault.ParamFault.{ParamFault}
 use Rattle.params_front.specs.declared.fault.ParamFault.TheVariants.{Text, UnknownName, NameTwice, Arity, NotConstant, Top, Range, Empty, Budget, Inner}
-use Rattle.params_front.specs.declared.fault.ParamFault.TheVariants.{NoMemory}
 use Rattle.params_front.proofs.Fronts.{elaboration_has}
 
 abbrev plain_accepted : Accepted → streamit.Accepted
@@ -105,7 +105,6 @@ nothing-has text (Range unit) h = h
 nothing-has text (Empty unit) h = h
 nothing-has text (Budget unit) h = h
 nothing-has text (Inner unit fault) h = absurd h
-nothing-has text NoMemory h = h
 
 means-has : (text : List ℕ) → Has text (compiled text)
 unfolding compiled
@@ -142,7 +141,6 @@ has-means text (Err (Top unit)) h = nothing-means text (Top unit) h
 has-means text (Err (Range unit)) h = nothing-means text (Range unit) h
 has-means text (Err (Empty unit)) h = nothing-means text (Empty unit) h
 has-means text (Err (Budget unit)) h = nothing-means text (Budget unit) h
-has-means text (Err NoMemory) h = absurd h
 
 -- the law: what a text means
 pub means_what_it_has : MeansWhatItHas
@@ -151,13 +149,16 @@ means_what_it_has text meant = (λ e. subst (Has text) e (means-has text), has-m
 -- ---- WHAT THE FRONT ANSWERS
 
 -- the plain text is refused, and so is the text
-pub inner-refused : (r : Result streamit.Accepted StreamitFault) (fault : StreamitFault) (unit : ℕ) (from : List ℤ) → (fault ≡ inner.NoMemory → ⊥)
+pub inner-refused : (r : Result streamit.Accepted StreamitFault) (fault : StreamitFault) (unit : ℕ) (from : List ℤ) → (fault ≡ inner.Text text_fault.NoMemory → ⊥)
     → streamit.Refused r fault → ((units : List ℕ) → from ≡ map pos units → unit ≡ source_unit units (unit_in fault))
     → (e : Elaboration) → from ≡ map pos e.made.from → Refused (or_inner e r) (Inner unit fault)
 inner-refused r fault unit from some told source e are = ap (or_inner e) (by fault some told)
     ∙ ap (λ k. Err (Inner k fault)) (sym (source e.made.from are)) where
-      by : (f : StreamitFault) → (f ≡ inner.NoMemory → ⊥) → streamit.Refused r f → r ≡ Err f
-      by (inner.Text refusal) s h = h
+      by : (f : StreamitFault) → (f ≡ inner.Text text_fault.NoMemory → ⊥) → streamit.Refused r f → r ≡ Err f
+      by (inner.Text (text_fault.BadByte at)) s h = h
+      by (inner.Text (text_fault.BigNumber at)) s h = h
+      by (inner.Text (text_fault.Syntax unit)) s h = h
+      by (inner.Text text_fault.NoMemory) s h = absurd (s refl)
       by (inner.UnknownName n) s h = h
       by (inner.NameTwice n) s h = h
       by (inner.Rates n declared counted) s h = h
@@ -166,7 +167,6 @@ inner-refused r fault unit from some told source e are = ap (or_inner e) (by fau
       by (inner.BranchRates n) s h = h
       by (inner.Limit n) s h = h
       by (inner.Weights n) s h = h
-      by inner.NoMemory s h = absurd (s refl)
 
 pub ruleset inners = (inner-refused)
 
@@ -186,7 +186,10 @@ plans-give text tree q plan (s, is, made) xs = plain_means text (record { tree =
 -- what is told where nothing is made
 pub made-refused : (text : List ℕ) (f : ParamFault) → Refused (elaboration text) f → Refused (compiled text) f
 unfolding compiled
-made-refused text (Text refusal) h = ap then_compiled h
+made-refused text (Text (text_fault.BadByte at)) h = ap then_compiled h
+made-refused text (Text (text_fault.BigNumber at)) h = ap then_compiled h
+made-refused text (Text (text_fault.Syntax unit)) h = ap then_compiled h
+made-refused text (Text text_fault.NoMemory) h = tt
 made-refused text (UnknownName unit) h = ap then_compiled h
 made-refused text (NameTwice unit) h = ap then_compiled h
 made-refused text (Arity unit) h = ap then_compiled h
@@ -196,7 +199,6 @@ made-refused text (Range unit) h = ap then_compiled h
 made-refused text (Empty unit) h = ap then_compiled h
 made-refused text (Budget unit) h = ap then_compiled h
 made-refused text (Inner unit fault) h = ap then_compiled h
-made-refused text NoMemory h = tt
 
 -- and where the plain text is refused
 pub plain-refused : (text : List ℕ) (tree : ParamProgram) (plain_bytes : List ℕ) (from : List ℤ) (f : ParamFault)

@@ -2,16 +2,17 @@
 use Rattle.std.proofs.Common.{◌≡◌, ◌⊎◌, ℕ, ℤ, suc, ◌≤◌, List, [], ◌∷◌, length, Result, Ok, Err, refl, sym, ap, ◌∙◌, subst, inl, inr, arith}
 use Rattle.std.proofs.lemmas.List.{length-map}
 use Rattle.text_tokens.specs.Cut.{units_of as cut_units}
-use Rattle.text_tokens.specs.Lexis.{tokens_in}
+use Rattle.text_tokens.specs.Lexis.{tokens_in, Lexes}
 use Rattle.text_tokens.specs.Tok.{Tok, Mark, toks}
 use Rattle.text_tokens.specs.declared.fault.LexFault.{LexFault}
 use Rattle.text_tokens.specs.declared.fault.LexFault.TheVariants as lex
 use Rattle.text_tokens.proofs.Slices.{no_want}
 use Rattle.text_tokens.proofs.Counts.{units-few}
-use Rattle.text_forms.specs.Refusals.{of_lexer}
+use Rattle.text_forms.specs.AllUnits.{or_syntax}
+use Rattle.text_forms.specs.TextFaults.{of_lexer}
 use Rattle.text_forms.specs.Texts.{read_units, IsFirstBad, IsEmpty}
-use Rattle.text_forms.specs.declared.refusal.Refusal.TheVariants.{BadByte, BigNumber, Syntax}
-use Rattle.text_forms.specs.declared.unit_fault.UnitFault.TheVariants.{Syntax as Syntax_at}
+use Rattle.text_forms.specs.declared.text_fault.TextFault.{TextFault}
+use Rattle.text_forms.specs.declared.text_fault.TextFault.TheVariants.{BadByte, BigNumber, Syntax, NoMemory}
 use Rattle.text_forms.proofs.Texts.{bad-read}
 use Rattle.streamit_text.specs.Grammar as plain_text_of
 use Rattle.streamit_text.specs.Program as plain
@@ -44,7 +45,6 @@ use Rattle.params_front.specs.Meaning.{Elaboration, fault_at, or_fault, then_ela
 use Rattle.params_front.specs.Sizes.{sizes_of}
 use Rattle.params_front.specs.declared.fault.ParamFault.{ParamFault}
 use Rattle.params_front.specs.declared.fault.ParamFault.TheVariants.{Text, UnknownName, NameTwice, Arity, NotConstant, Top, Range, Empty, Budget, Inner}
-use Rattle.params_front.specs.declared.fault.ParamFault.TheVariants.{NoMemory}
 
 abbrev read_of : List Mark → Result ParamProgram ℕ
 read_of marks = some_units (cut_units (toks marks))
@@ -54,7 +54,7 @@ read_of marks = some_units (cut_units (toks marks))
 -- of a text that stands for a program is made what is made of that
 pub stands-made : (text : List ℕ) (p : ParamProgram) (t : IsText text p) → elaboration text ≡ or_fault p (elaborated_program p (sizes_of t.marks))
 unfolding elaboration
-stands-made text p t = ap then_read t.lexed ∙ ap (then_elaborated (sizes_of t.marks)) (text-reads text p t)
+stands-made text p t = ap then_read t.lexed ∙ ap (λ r. then_elaborated (sizes_of t.marks) (or_syntax r)) (text-reads text p t)
 
 bad-units : (units : List (List Tok)) (n : ℕ) → IsFirstBad IsUnitAt next_unit tt units n ⊎ IsEmpty units n → some_units units ≡ Err n
 bad-units units n (inl b) = by units (bad-read tt next_unit exact-unit_from tt units n b) where
@@ -66,10 +66,10 @@ bad-units units n (inr e) = ap some_units e.0 ∙ ap Err (sym e.1)
 -- of one with a unit that is not in the grammar, the first of them is told
 pub bad-made : (text : List ℕ) (unit : ℕ) → IsBadAt text unit → elaboration text ≡ Err (Text (Syntax unit))
 unfolding elaboration
-bad-made text unit b = ap then_read b.lexed ∙ ap (then_elaborated (sizes_of b.marks)) (bad-units (cut_units (toks b.marks)) unit b.first)
+bad-made text unit b = ap then_read b.lexed ∙ ap (λ r. then_elaborated (sizes_of b.marks) (or_syntax r)) (bad-units (cut_units (toks b.marks)) unit b.first)
 
 -- of one with a fault of its bytes, this fault
-pub lexed-made : (text : List ℕ) (fault : LexFault) → tokens_in text ≡ Err fault → elaboration text ≡ Err (of_lexer Text NoMemory fault)
+pub lexed-made : (text : List ℕ) (fault : LexFault) → tokens_in text ≡ Err fault → elaboration text ≡ Err (Text (of_lexer fault))
 unfolding elaboration
 lexed-made text fault e = ap then_read e
 
@@ -90,6 +90,7 @@ has-made text (Ok e) (t, made) = stands-made text e.tree t ∙ ap (or_fault e.tr
 has-made text (Err (Text (BadByte at))) h = lexed-made text (lex.BadByte at) h
 has-made text (Err (Text (BigNumber at))) h = lexed-made text (lex.BigNumber at) h
 has-made text (Err (Text (Syntax unit))) h = bad-made text unit h
+has-made text (Err (Text NoMemory)) h = absurd h
 has-made text (Err (UnknownName unit)) h = fault-made text (UnknownName unit) h
 has-made text (Err (NameTwice unit)) h = fault-made text (NameTwice unit) h
 has-made text (Err (Arity unit)) h = fault-made text (Arity unit) h
@@ -99,7 +100,6 @@ has-made text (Err (Range unit)) h = fault-made text (Range unit) h
 has-made text (Err (Empty unit)) h = fault-made text (Empty unit) h
 has-made text (Err (Budget unit)) h = fault-made text (Budget unit) h
 has-made text (Err (Inner unit fault)) h = absurd h
-has-made text (Err NoMemory) h = absurd h
 
 -- ---- TO THE GRAMMAR
 
@@ -142,7 +142,7 @@ accepted-has text p t = by (elaborated_program p (sizes_of t.marks)) refl where
 made-has : (text : List ℕ) → HasMade text (elaboration text)
 unfolding elaboration
 made-has text = by (tokens_in text) refl where
-  read : (marks : List Mark) → tokens_in text ≡ Ok marks → (r : Result ParamProgram ℕ) → read_of marks ≡ r → HasMade text (then_elaborated (sizes_of marks) r)
+  read : (marks : List Mark) → tokens_in text ≡ Ok marks → (r : Result ParamProgram ℕ) → read_of marks ≡ r → HasMade text (then_elaborated (sizes_of marks) (or_syntax r))
   read marks lexed (Ok p) e =
       let f = units-read (cut_units (toks marks)) p e in
       accepted-has text p (record { marks = marks; lexed = lexed; formed = f.0; some = f.1 })
@@ -177,17 +177,16 @@ written-stands text p plain from (m, is, same, units) =
     subst (λ (r : Result Elaboration ParamFault). StandsForMade r plain) (sym is)
     (subst (λ (l : List ℕ). StandsForMade (Ok e) l) (sym same) (made-stands text e is))
 
-pub ruleset fronts = (written-stands)
-
 -- tokens that stand for a program mean what is made of it
 tokens-made : (marks : List Mark) (p : ParamProgram) → StandFor marks p → of_tokens marks ≡ or_fault p (elaborated_program p (sizes_of marks))
-tokens-made marks p h = ap (then_elaborated (sizes_of marks)) (units-reads (cut_units (toks marks)) p h.0 h.1)
+tokens-made marks p h = ap (λ r. then_elaborated (sizes_of marks) (or_syntax r)) (units-reads (cut_units (toks marks)) p h.0 h.1)
 
--- tokens with a unit that is not in the grammar mean the first of them
-pub read-bad : (marks : List Mark) (unit : ℕ) → Refuses marks (Syntax_at unit) → of_tokens marks ≡ Err (Text (Syntax unit))
-read-bad marks unit h = ap (then_elaborated (sizes_of marks)) (bad-units (cut_units (toks marks)) unit h.0)
-
-pub ruleset readings = (read-bad)
+-- what is told of tokens that are not read is what they mean
+pub read-faulty : (marks : List Mark) (fault : TextFault) → Refuses marks fault → Refused (of_tokens marks) (Text fault)
+read-faulty marks (BadByte at) h = absurd h
+read-faulty marks (BigNumber at) h = absurd h
+read-faulty marks (Syntax unit) h = ap (λ r. then_elaborated (sizes_of marks) (or_syntax r)) (bad-units (cut_units (toks marks)) unit h.0)
+read-faulty marks NoMemory h = tt
 
 -- the units have values for numbers, and there are no more of them than tokens
 pub read-fit : (marks : List Mark) (ds : List code_unit.Unit) → StandFor marks (unit_forms ds) → AreFitUnits (unit_forms ds)
@@ -223,6 +222,16 @@ pub read-refused : (marks : List Mark) (ds : List code_unit.Unit) (sizes : List 
 read-refused marks ds sizes fault h are is =
     subst (λ (r : Result Elaboration ParamFault). Refused r fault)
     (sym (tokens-made marks (unit_forms ds) h ∙ ap (λ l. or_fault (unit_forms ds) (elaborated_program (unit_forms ds) l)) (sym are))) is
+
+-- what is told of bytes that have no tokens is what they mean
+pub lexed-refused : (text : List ℕ) (fault : LexFault) → Lexes (Err fault) text → Refused (then_read (tokens_in text)) (Text (of_lexer fault))
+lexed-refused text (lex.BadByte at) h = ap then_read h
+lexed-refused text (lex.BigNumber at) h = ap then_read h
+lexed-refused text lex.NoMemory h = tt
+
+pub ruleset lexings = (lexed-refused)
+
+pub ruleset fronts = (written-stands, read-faulty)
 
 pub ruleset writings = (read-fit, read-few, read-written, read-refused)
 

@@ -1,9 +1,7 @@
 -- What is true of all texts.
 use Rattle.std.specs.Prelude.{◌≡◌, ◌⊎◌, ◌↔◌, ℕ, ℤ, List, [], ◌∷◌, Result, Ok, Err}
 use Rattle.std.specs.List.{AllByRecursion}
-use Rattle.text_tokens.specs.Lexis.{tokens_in}
-use Rattle.text_tokens.specs.declared.fault.LexFault.TheVariants as lex
-use Rattle.text_forms.specs.declared.refusal.Refusal.TheVariants.{BadByte, BigNumber, Syntax}
+use Rattle.text_forms.specs.TextFaults.{HasTextFault}
 use Rattle.river_plan.specs.InTurn.{IsInTurn}
 use Rattle.river_plan.specs.Valid.{IsPlan}
 use Rattle.river_print.specs.Printable.{IsPrintable}
@@ -25,7 +23,7 @@ use Rattle.params_model.specs.Meaning.{params_outputs}
 use Rattle.params_model.specs.Places.{places_of}
 use Rattle.params_front.specs.Sizes.{sizes_of}
 use Rattle.params_front.specs.declared.fault.ParamFault.{ParamFault}
-use Rattle.params_front.specs.declared.fault.ParamFault.TheVariants.{Text, Inner, NoMemory}
+use Rattle.params_front.specs.declared.fault.ParamFault.TheVariants.{Text, Inner}
 use Rattle.params_front.specs.Meaning.{Elaboration, Accepted, fault_at, unit_in, source_unit, elaboration, compiled}
 
 -- this is the first fault of a program whose units have so many bytes: that of the first place that has one; or no place has one, and
@@ -49,10 +47,7 @@ pub record HasProgramFault (text : List ℕ) (fault : ParamFault) : Type 0 where
 -- the grammar, or a first fault of its bytes
 abbrev pub HasMade : List ℕ → Result Elaboration ParamFault → Type 0
 HasMade text (Ok e) = (t : IsText text e.tree) × (elaborated_program e.tree (sizes_of t.marks) ≡ Ok e.made)
-HasMade text (Err (Text (BadByte at))) = tokens_in text ≡ Err (lex.BadByte at)
-HasMade text (Err (Text (BigNumber at))) = tokens_in text ≡ Err (lex.BigNumber at)
-HasMade text (Err (Text (Syntax unit))) = IsBadAt text unit
-HasMade text (Err NoMemory) = ⊥
+HasMade text (Err (Text fault)) = HasTextFault (IsBadAt text) text fault
 HasMade text (Err (Inner unit fault)) = ⊥
 HasMade text (Err fault) = HasProgramFault text fault
 

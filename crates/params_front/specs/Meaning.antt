@@ -5,8 +5,10 @@ use Rattle.text_tokens.specs.Cut.{units_of}
 use Rattle.text_tokens.specs.Lexis.{tokens_in}
 use Rattle.text_tokens.specs.Tok.{Mark, toks}
 use Rattle.text_tokens.specs.declared.fault.LexFault.{LexFault}
-use Rattle.text_forms.specs.Refusals.{of_lexer}
-use Rattle.text_forms.specs.declared.refusal.Refusal.TheVariants as text
+use Rattle.text_forms.specs.AllUnits.{or_syntax}
+use Rattle.text_forms.specs.TextFaults.{of_lexer}
+use Rattle.text_forms.specs.declared.text_fault.TextFault.{TextFault}
+use Rattle.text_forms.specs.declared.text_fault.TextFault.TheVariants as text
 use Rattle.river_plan.specs.Forms.{PlanForm}
 use Rattle.streamit_text.specs.Grammar.{IsText}
 use Rattle.streamit_text.specs.Program as plain
@@ -24,7 +26,6 @@ use Rattle.params_model.specs.Judged.{elaborated_program}
 use Rattle.params_front.specs.Sizes.{sizes_of}
 use Rattle.params_front.specs.declared.fault.ParamFault.{ParamFault}
 use Rattle.params_front.specs.declared.fault.ParamFault.TheVariants.{Text, UnknownName, NameTwice, Arity, NotConstant, Top, Range, Empty, Budget, Inner}
-use Rattle.params_front.specs.declared.fault.ParamFault.TheVariants.{NoMemory}
 use Rattle.params_front.specs.declared.program.Elaborated.{Elaborated}
 
 -- ---- WHAT IS MADE
@@ -51,18 +52,18 @@ or_fault p (Ok m) = Ok (record { tree = p; made = m })
 or_fault p (Err e) = Err (fault_at e.unit e.fault)
 
 -- what is read is judged, and its plain program is made; the units have so many bytes
-abbrev pub then_elaborated : List ℕ → Result ParamProgram ℕ → Result Elaboration ParamFault
+abbrev pub then_elaborated : List ℕ → Result ParamProgram TextFault → Result Elaboration ParamFault
 then_elaborated sizes (Ok p) = or_fault p (elaborated_program p sizes)
-then_elaborated sizes (Err unit) = Err (Text (text.Syntax unit))
+then_elaborated sizes (Err fault) = Err (Text fault)
 
 -- the tokens of a text are read
 abbrev pub of_tokens : List Mark → Result Elaboration ParamFault
-of_tokens marks = then_elaborated (sizes_of marks) (some_units (units_of (toks marks)))
+of_tokens marks = then_elaborated (sizes_of marks) (or_syntax (some_units (units_of (toks marks))))
 
 -- what is lexed is read
 abbrev pub then_read : Result (List Mark) LexFault → Result Elaboration ParamFault
 then_read (Ok marks) = of_tokens marks
-then_read (Err fault) = Err (of_lexer Text NoMemory fault)
+then_read (Err fault) = Err (Text (of_lexer fault))
 
 -- the program of a text and what is made of it, or why there is none
 unfoldable pub elaboration : List ℕ → Result Elaboration ParamFault
@@ -70,11 +71,12 @@ elaboration text = then_read (tokens_in text)
 
 -- ---- WHAT IS COMPILED
 
--- the unit that a fault of the plain program names; one of its bytes, which no plain text has, names none
+-- the unit that a fault of the plain program names; one of its bytes, which no plain text has, and want of memory name none
 abbrev pub unit_in : StreamitFault → ℕ
 unit_in (inner.Text (text.BadByte at)) = 0
 unit_in (inner.Text (text.BigNumber at)) = 0
 unit_in (inner.Text (text.Syntax unit)) = unit
+unit_in (inner.Text text.NoMemory) = 0
 unit_in (inner.UnknownName unit) = unit
 unit_in (inner.NameTwice unit) = unit
 unit_in (inner.Rates unit declared counted) = unit
@@ -83,7 +85,6 @@ unit_in (inner.NotConstant unit) = unit
 unit_in (inner.BranchRates unit) = unit
 unit_in (inner.Limit unit) = unit
 unit_in (inner.Weights unit) = unit
-unit_in inner.NoMemory = 0
 
 -- of which unit the plain unit with this number, from 1, is an instance
 abbrev pub source_unit : List ℕ → ℕ → ℕ
@@ -128,5 +129,5 @@ Plans meant p q plan = (s : Stream) × (meant ≡ Ok (record { tree = p; program
 
 -- this is why there is none; want of memory says nothing
 abbrev pub Refused : {A : Type 0} → Result A ParamFault → ParamFault → Type 0
-Refused meant NoMemory = Unit {0}
+Refused meant (Text text.NoMemory) = Unit {0}
 Refused meant fault = meant ≡ Err fault

@@ -10,7 +10,7 @@ ghost use Rattle.params_front.specs.Standing.{Stands, MakesOne, MakesMore, Makes
 ghost use Rattle.params_model.specs.Constants.{AreFitUnits, IsFitUnit, IsFitFilter, HasFitConstants, HaveFitConstants};
 
 use crate::Making;
-use crate::bounds::{Bounds, fixed_bounds};
+use crate::bounds::{Bounds, are_open, entered_bounds, fixed_bounds};
 use crate::find::{find, size_at};
 use crate::making::{demand, refuse};
 use crate::ranges::{is_ranged_filter, is_ranged_round, is_ranged_split};
@@ -305,7 +305,7 @@ impl Making {
                 match span_between(low, *until, high) {
                     Some(span) => {
                         let turns = Turns { name: *name, span };
-                        self.turns(alloc, seen, scope, turns, bounds.inner.as_slice(), steps)
+                        self.enter(alloc, seen, scope, turns, bounds.inner.as_slice(), steps)
                     }
                     None => Err(refuse(seen.units, Fault::Range)),
                 }
@@ -334,6 +334,35 @@ impl Making {
         let child = self.instance(alloc, seen, stream, values.as_slice())?;
         scope.children.push(child)?;
         Ok(())
+    }
+
+    // Steps for each turn of a loop that is entered. Where it has several turns, a bound of a loop
+    // within is valued before the first, unless the loop's variable or one further in stands in it.
+    #[cycle(make)]
+    fn enter(
+        &mut self,
+        alloc: Global,
+        seen: Seen<'_>,
+        scope: &mut Scope,
+        turns: Turns,
+        bounds: &[Bounds],
+        steps: &Steps,
+    ) -> Result<(), Refusal>
+        requires above { AreFitUnits (unit_forms seen.units.now) }
+        requires steps { HaveFitConstants (steps_of steps.now) }
+        requires bounds { (v : ℕ) → AreValued ((turns.name, pos v) ∷ scope.old.known) (steps_of steps.now) bounds.now }
+        ensures made { (m : Made) → Stands self.old m
+            → MakesMore result scope.old scope.new self.new (turns_made (suc (length seen.entry.units.now))
+            (turn_steps (adding seen.entry.units.now seen.entry.sizes.now seen.entry.depth)
+            (suc (length seen.entry.units.now)) scope.old.known turns.name (steps_of steps.now))
+            (numbers_from turns.span.low (turns.span.end - turns.span.low)) m) }
+        ensures same { OnOk result (scope.new.known ≡ scope.old.known) }
+    {
+        if turns.span.is_short() || !are_open(bounds) {
+            return self.turns(alloc, seen, scope, turns, bounds, steps);
+        }
+        let all = entered_bounds(alloc, &scope.known, turns.name, steps, bounds)?;
+        self.turns(alloc, seen, scope, turns, all.as_slice(), steps)
     }
 
     // Steps for each turn of a loop.

@@ -13,8 +13,9 @@ use crate::{Elaborated, ParamProgram};
 use river_base::{Bytes, NoMemory, Numbers};
 use river_plan::Plan;
 use std::alloc::Global;
-use streamit_front::{StreamitFault, StreamitProgram, compile_streamit};
-use text_forms::Refusal;
+use streamit_front::{StreamitFault, compile_streamit};
+use streamit_text::StreamitProgram;
+use text_forms::TextFault;
 
 /// The program of a text, the plain program that is made of it, and the plan of that. For each input the
 /// plain program gives what the program gives.
@@ -22,7 +23,7 @@ use text_forms::Refusal;
 /// # Errors
 ///
 /// Those of `elaborate`, and otherwise `Inner` with what the plain program is refused for, and the unit of
-/// whose instance that is; `NoMemory` where there is no memory.
+/// whose instance that is; `Text` with `NoMemory` where there is no memory.
 #[tactic(auto, unfolding(crate::specs::Meaning::compiled), using(crate::proofs::Compiling::compilings))]
 pub fn compile_params(
     alloc: Global,
@@ -51,11 +52,13 @@ fn compile_plain(
 {
     // A plain text of 2^32 bytes cannot be: its places would have no numbers.
     if u32::try_from(text.as_slice().len()).is_err() {
-        return Err(ParamFault::NoMemory);
+        return Err(ParamFault::Text(TextFault::NoMemory));
     }
     match compile_streamit(alloc, text) {
         Ok(made) => Ok(made),
-        Err(StreamitFault::NoMemory) => Err(ParamFault::NoMemory),
+        Err(StreamitFault::Text(TextFault::NoMemory)) => {
+            Err(ParamFault::Text(TextFault::NoMemory))
+        }
         Err(fault) => {
             let unit = source_unit(from, unit_in(fault))?;
             Err(ParamFault::Inner { unit, fault })
@@ -68,7 +71,7 @@ fn unit_in(fault: StreamitFault) -> u32
     ensures { result ≡ unit_in fault }
 {
     match fault {
-        StreamitFault::Text(Refusal::Syntax { unit })
+        StreamitFault::Text(TextFault::Syntax { unit })
         | StreamitFault::UnknownName { unit }
         | StreamitFault::NameTwice { unit }
         | StreamitFault::Rates { unit, .. }
@@ -77,7 +80,7 @@ fn unit_in(fault: StreamitFault) -> u32
         | StreamitFault::BranchRates { unit }
         | StreamitFault::Limit { unit }
         | StreamitFault::Weights { unit } => unit,
-        StreamitFault::Text(_) | StreamitFault::NoMemory => 0,
+        StreamitFault::Text(_) => 0,
     }
 }
 

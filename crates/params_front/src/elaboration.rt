@@ -18,8 +18,8 @@ use params_build::{Fault, Refusal, judged, top};
 use params_text::{Unit, read_params};
 use river_base::Bytes;
 use std::alloc::Global;
-use text_forms::{Refusal as TextRefusal, UnitFault};
-use text_tokens::{LexFault, Tokens, lex};
+use text_forms::TextFault;
+use text_tokens::{Tokens, lex};
 
 /// The program of a text, and the text of the plain program that is made of it: an instance of its last
 /// stream, and one for each `add` that is met, children before their parent. It means what the program
@@ -30,8 +30,8 @@ use text_tokens::{LexFault, Tokens, lex};
 /// `Text` with the first fault of the bytes where they have no tokens; otherwise with `Syntax` and the first
 /// unit, from 1, that is not in the grammar; otherwise the first fault of the program in the order in which
 /// it is read, with its unit; otherwise `Top`; otherwise the first fault in the order in which instances are
-/// made, with the unit of which one was to be made; `NoMemory` where there is no memory.
-#[tactic(auto, unfolding(crate::specs::Meaning::elaboration), using(text_tokens::proofs::Counts::counts))]
+/// made, with the unit of which one was to be made; `Text` with `NoMemory` where there is no memory.
+#[tactic(auto, unfolding(crate::specs::Meaning::elaboration), using(text_tokens::proofs::Counts::counts, crate::proofs::Fronts::lexings))]
 pub fn elaborate(alloc: Global, text: &Bytes) -> Result<Elaborated, ParamFault>
     requires { length text.now < 2 ^ 32 }
     ensures made { IfOk result (Elaborates (elaboration text.now)) }
@@ -40,9 +40,7 @@ pub fn elaborate(alloc: Global, text: &Bytes) -> Result<Elaborated, ParamFault>
 {
     match lex(alloc, text) {
         Ok(tokens) => elaborate_tokens(alloc, &tokens),
-        Err(LexFault::BadByte { at }) => Err(ParamFault::Text(TextRefusal::BadByte { at })),
-        Err(LexFault::BigNumber { at }) => Err(ParamFault::Text(TextRefusal::BigNumber { at })),
-        Err(LexFault::NoMemory) => Err(ParamFault::NoMemory),
+        Err(lexical) => Err(ParamFault::Text(TextFault::from(lexical))),
     }
 }
 
@@ -53,27 +51,13 @@ fn elaborate_tokens(alloc: Global, tokens: &Tokens<'_>) -> Result<Elaborated, Pa
     ensures made { IfOk result (Elaborates (of_tokens tokens.now)) }
     ensures refused { IfErr result (Refused (of_tokens tokens.now)) }
 {
-    let units = read(alloc, tokens)?;
+    let units = read_params(alloc, tokens)?;
     let Written { plain, from } = written(alloc, tokens, units.as_slice())?;
     Ok(Elaborated {
         tree: ParamProgram { units },
         plain,
         from,
     })
-}
-
-// The units of the tokens of a text.
-#[tactic(auto, using(crate::proofs::Fronts::readings))]
-fn read(alloc: Global, tokens: &Tokens<'_>) -> Result<Vec<Unit>, ParamFault>
-    requires { length tokens.now < 2 ^ 32 }
-    ensures read { IfOk result (λ units. StandFor tokens.now (unit_forms units.items)) }
-    ensures refused { IfErr result (Refused (of_tokens tokens.now)) }
-{
-    match read_params(alloc, tokens) {
-        Ok(units) => Ok(units),
-        Err(UnitFault::Syntax { unit }) => Err(ParamFault::Text(TextRefusal::Syntax { unit })),
-        Err(UnitFault::NoMemory) => Err(ParamFault::NoMemory),
-    }
 }
 
 // What is made of the units that were read of these tokens.
@@ -117,6 +101,6 @@ fn refused(refusal: Refusal) -> ParamFault
         Fault::Range => ParamFault::Range { unit },
         Fault::Empty => ParamFault::Empty { unit },
         Fault::Budget => ParamFault::Budget { unit },
-        Fault::NoMemory => ParamFault::NoMemory,
+        Fault::NoMemory => ParamFault::Text(TextFault::NoMemory),
     }
 }

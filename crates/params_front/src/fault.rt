@@ -5,16 +5,15 @@ ghost use Rattle.streamit_front.specs.Words.{streamit_words};
 ghost use Rattle.params_front.specs.Words.{params_words};
 
 use river_base::{Bytes, NoMemory};
-use std::alloc::Global;
 use streamit_front::StreamitFault;
-use text_forms::{Refusal, Told, numbered};
+use text_forms::{TextFault, Told, numbered};
 
 /// Why a text is no program with parameters. The unit, from 1, is the one in whose reading the fault
 /// comes, or of which an instance was to be made.
 #[derive(Clone, Copy)]
 pub enum ParamFault {
-    /// The text is not read.
-    Text(Refusal),
+    /// The text is not read, or there was no memory.
+    Text(TextFault),
     /// `add` names no stream declared above, or a constant has a name that is not known there.
     UnknownName { unit: u32 },
     /// A name that is known is declared again.
@@ -33,47 +32,56 @@ pub enum ParamFault {
     Budget { unit: u32 },
     /// The plain program is refused, in an instance of this unit.
     Inner { unit: u32, fault: StreamitFault },
-    /// There was no memory.
-    NoMemory,
+}
+
+impl From<TextFault> for ParamFault {
+    ghost use Rattle.std.specs.Prelude.{◌≡◌};
+    ghost use Rattle.params_front.specs.declared.fault.ParamFault.TheVariants as fault;
+
+    ghost from_gives = { λ text f. f ≡ fault.Text text };
+
+    fn from(text: TextFault) -> Self {
+        ParamFault::Text(text)
+    }
 }
 
 impl From<NoMemory> for ParamFault {
     ghost use Rattle.std.specs.Prelude.{◌≡◌};
+    ghost use Rattle.text_forms.specs.declared.text_fault.TextFault.TheVariants as text_fault;
     ghost use Rattle.params_front.specs.declared.fault.ParamFault.TheVariants as fault;
 
-    ghost from_gives = { λ _ f. f ≡ fault.NoMemory };
+    ghost from_gives = { λ _ f. f ≡ fault.Text text_fault.NoMemory };
 
     fn from(_: NoMemory) -> Self {
-        ParamFault::NoMemory
+        ParamFault::Text(TextFault::NoMemory)
     }
 }
 
 impl Told for ParamFault {
     ghost told = { params_words };
 
-    fn write(self, alloc: Global, to: &mut Bytes) -> Result<(), NoMemory> {
+    fn write(self, to: &mut Bytes) -> Result<(), NoMemory> {
         match self {
-            ParamFault::Text(refusal) => refusal.write(alloc, to),
-            ParamFault::UnknownName { unit } => numbered(alloc, b"UnknownName ", unit, to),
-            ParamFault::NameTwice { unit } => numbered(alloc, b"NameTwice ", unit, to),
-            ParamFault::Arity { unit } => numbered(alloc, b"Arity ", unit, to),
-            ParamFault::NotConstant { unit } => numbered(alloc, b"NotConstant ", unit, to),
-            ParamFault::Top { unit } => numbered(alloc, b"Top ", unit, to),
-            ParamFault::Range { unit } => numbered(alloc, b"Range ", unit, to),
-            ParamFault::Empty { unit } => numbered(alloc, b"Empty ", unit, to),
-            ParamFault::Budget { unit } => numbered(alloc, b"Budget ", unit, to),
-            ParamFault::Inner { unit, fault } => inner(alloc, unit, fault, to),
-            ParamFault::NoMemory => to.extend(b"NoMemory"),
+            ParamFault::Text(fault) => fault.write(to),
+            ParamFault::UnknownName { unit } => numbered(b"UnknownName ", unit, to),
+            ParamFault::NameTwice { unit } => numbered(b"NameTwice ", unit, to),
+            ParamFault::Arity { unit } => numbered(b"Arity ", unit, to),
+            ParamFault::NotConstant { unit } => numbered(b"NotConstant ", unit, to),
+            ParamFault::Top { unit } => numbered(b"Top ", unit, to),
+            ParamFault::Range { unit } => numbered(b"Range ", unit, to),
+            ParamFault::Empty { unit } => numbered(b"Empty ", unit, to),
+            ParamFault::Budget { unit } => numbered(b"Budget ", unit, to),
+            ParamFault::Inner { unit, fault } => inner(unit, fault, to),
         }
     }
 }
 
 // Appends the unit, and what is told of the plain program.
 #[tactic(auto, using(text_tokens::proofs::Joined::joins))]
-fn inner(alloc: Global, unit: u32, fault: StreamitFault, to: &mut Bytes) -> Result<(), NoMemory>
+fn inner(unit: u32, fault: StreamitFault, to: &mut Bytes) -> Result<(), NoMemory>
     ensures { OnOk result (to.new ≡ to.old ++ ((codes "Inner " ++ decimal unit) ++ (codes " " ++ streamit_words fault))) }
 {
-    numbered(alloc, b"Inner ", unit, to)?;
+    numbered(b"Inner ", unit, to)?;
     to.extend(b" ")?;
-    fault.write(alloc, to)
+    fault.write(to)
 }

@@ -392,8 +392,10 @@ done_by : (es : List Event) (y : Result Made Refusal) → Follows itself Any not
 done_by es (Ok m) k = ((λ _. k.0), (λ _. (m, refl)))
 done_by es (Err q) k = ((λ x. absurd (cc x.1)), (λ a. absurd (not_both nothing es q a k)))
 
+-- a program is refused exactly where something is wrong, with the first that is
 pub making_refusals_are : MakingRefusalsAre
 making_refusals_are = λ p sizes r judged. refused_by (program_events (source_units p sizes)) (elaborated_program p sizes) r (follows_it p sizes judged)
 
+-- and it is made exactly where nothing is wrong
 pub making_is_done : MakingIsDone
 making_is_done = λ p sizes judged. done_by (program_events (source_units p sizes)) (elaborated_program p sizes) (follows_it p sizes judged)

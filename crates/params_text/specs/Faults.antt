@@ -3,8 +3,8 @@ use Rattle.std.specs.Prelude.{◌⊎◌, ℕ, List}
 use Rattle.text_tokens.specs.Cut.{units_of}
 use Rattle.text_tokens.specs.Tok.{Tok, Mark, toks}
 use Rattle.text_forms.specs.Texts.{IsFirstBad, IsEmpty}
-use Rattle.text_forms.specs.declared.unit_fault.UnitFault.{UnitFault}
-use Rattle.text_forms.specs.declared.unit_fault.UnitFault.TheVariants.{Syntax, NoMemory}
+use Rattle.text_forms.specs.declared.text_fault.TextFault.{TextFault}
+use Rattle.text_forms.specs.declared.text_fault.TextFault.TheVariants.{BadByte, BigNumber, Syntax, NoMemory}
 use Rattle.params_text.specs.Program.{ParamProgram}
 use Rattle.params_text.specs.Grammar.{AreUnits, IsSome, IsUnitAt, next_unit}
 
@@ -16,7 +16,9 @@ StandFor marks p = AreUnits p (units_of (toks marks)) × IsSome p
 abbrev pub IsBadUnit : List (List Tok) → ℕ → Type 0
 IsBadUnit units n = IsFirstBad IsUnitAt next_unit tt units n ⊎ IsEmpty units n
 
--- the unit is the first that is not in the grammar, and the tokens stand for no program
-abbrev pub Refuses : List Mark → UnitFault → Type 0
+-- the unit is the first that is not in the grammar, and the tokens stand for no program; of its bytes a text with tokens has no fault
+abbrev pub Refuses : List Mark → TextFault → Type 0
+Refuses marks (BadByte at) = ⊥
+Refuses marks (BigNumber at) = ⊥
 Refuses marks (Syntax unit) = IsBadUnit (units_of (toks marks)) unit × ((p : ParamProgram) → StandFor marks p → ⊥)
 Refuses marks NoMemory = Unit {0}

@@ -1,9 +1,9 @@
 -- How units are read: the grammar in the words of reading functions.
-use Rattle.std.specs.Prelude.{ℕ, Bool, List, [], ◌∷◌, Option, None, Result, Err, codes, if◌then◌else◌}
+use Rattle.std.specs.Prelude.{ℕ, Bool, List, [], ◌∷◌, Option, None, Result, codes, if◌then◌else◌}
 use Rattle.std.specs.Str.{bytes_eq}
 use Rattle.text_tokens.specs.Tok.{Tok}
 use Rattle.text_tokens.specs.declared.sign.Symbol.TheVariants as s
-use Rattle.text_forms.specs.Texts.{read_units}
+use Rattle.text_forms.specs.AllUnits as form
 use Rattle.text_forms.specs.Parse.{Parse, is_word_at, both, after, before, after_word, tested, seen, known, maybe, many, headed}
 use Rattle.text_blocks.specs.Reading as blocks
 use Rattle.streamit_text.specs.Blocks as streamit
@@ -15,7 +15,7 @@ use Rattle.params_text.specs.Chained.{chained}
 use Rattle.params_text.specs.Parameters.{leaf_with}
 use Rattle.params_text.specs.Params.{low}
 use Rattle.params_text.specs.Steps.{constant_at, stream_name_at, params_at, constants_at, style}
-use Rattle.params_text.specs.Grammar.{Rate, push, pop, peek, Rates, unwritten, rates_in, made_work, made_filter, copying, made_both, made_unit, next_unit}
+use Rattle.params_text.specs.Grammar.{Rate, push, pop, peek, Rates, unwritten, rates_in, made_work, made_filter, copying, made_both, made_unit}
 use Rattle.params_text.specs.Program.{ParamWork, ParamFilter, Step, Steps, Dealing, Turns, Body, AFilter, APipeline, UnitForm}
 
 unfoldable pub step_at : ℕ → Parse Step
@@ -115,5 +115,4 @@ unit_from u = unit_at
 
 -- the units of a text, of which there has to be one
 abbrev pub some_units : List (List Tok) → Result (List UnitForm) ℕ
-some_units [] = Err 1
-some_units (u ∷ us) = read_units unit_from next_unit tt 1 (u ∷ us)
+some_units us = form.some_units unit_at us

@@ -10,7 +10,7 @@ use Rattle.brooklet_model.specs.Meaning.{meaning}
 use Rattle.streamit_model.specs.Plan.{plan_of}
 use Rattle.streamit_model.specs.Laws.{as_items}
 use Rattle.streamit_text.specs.Program as streamit_tree
-use Rattle.streamit_front.specs.declared.program.StreamitProgram.{StreamitProgram}
+use Rattle.streamit_text.specs.declared.program.StreamitProgram.{StreamitProgram}
 use Rattle.params_text.specs.Program as params_tree
 use Rattle.params_front.specs.Meaning as params
 use Rattle.params_front.specs.Words.{params_words}

@@ -21,9 +21,9 @@ use Rattle.saw_model.specs.Meaning.{width}
 use Rattle.saw_front.specs.Meaning as saw
 use Rattle.saw_front.specs.Words.{saw_words}
 use Rattle.saw_front.specs.declared.fault.SawFault.{SawFault}
-use Rattle.saw_front.specs.declared.program.SawProgram.{SawProgram}
 use Rattle.saw_front.proofs.Fronts.{compiled-valued, compiled-judged, plans_mean as saw_plans_mean}
-use Rattle.saw_text.specs.Tree.{unit_forms}
+use Rattle.saw_text.specs.Tree.{program_of}
+use Rattle.saw_text.specs.declared.tree.SawProgram.{SawProgram}
 use Rattle.river_road.specs.declared.content.FileContent.{FileContent}
 use Rattle.river_road.specs.declared.content.FileContent.TheVariants.{Rows as Plain, Timed}
 
@@ -46,12 +46,12 @@ plan_means text a e (Timed es ∷ []) t = absurd t.0
 plan_means text a e (Plain r ∷ []) t = ap (λ l. meaning (saw.plan_in a) (l ∷ [])) (rows-are (width (saw.program_in a)) r t.0) ∙ (saw_plans_mean text a r e).1
 
 -- and so does what was compiled of a Sawzall text
-pub saw-compiled : (text : List ℕ) (t : SawProgram) (plan : PlanForm) → saw.Plans (saw.compiled text) (unit_forms t.units.items) plan
-    → StandsFor (IsCompiled (λ s t. IsSawzall s (unit_forms t.units.items))) (source_or_refused saw_source saw_words (saw.compiled text))
+pub saw-compiled : (text : List ℕ) (t : SawProgram) (plan : PlanForm) → saw.Plans (saw.compiled text) (program_of t) plan
+    → StandsFor (IsCompiled (λ s t. IsSawzall s (program_of t))) (source_or_refused saw_source saw_words (saw.compiled text))
     (record { plan = plan; caps = []; program = t })
 saw-compiled text t plan (read, is, made) =
-    let a : saw.Accepted = record { units = unit_forms t.units.items; read = read } in
-    subst (λ (r : Result saw.Accepted SawFault). StandsFor (IsCompiled (λ s t. IsSawzall s (unit_forms t.units.items)))
+    let a : saw.Accepted = record { units = program_of t; read = read } in
+    subst (λ (r : Result saw.Accepted SawFault). StandsFor (IsCompiled (λ s t. IsSawzall s (program_of t)))
     (source_or_refused saw_source saw_words r) (record { plan = plan; caps = []; program = t }))
     (sym is)
     (record {

@@ -12,7 +12,7 @@ use Rattle.streamit_front.specs.Meaning.{Accepted, compiled, Plans}
 use Rattle.streamit_front.specs.Words.{streamit_words}
 use Rattle.streamit_front.specs.declared.fault.StreamitFault.{StreamitFault}
 use Rattle.streamit_text.specs.Program as streamit_tree
-use Rattle.streamit_front.specs.declared.program.StreamitProgram.{StreamitProgram}
+use Rattle.streamit_text.specs.declared.program.StreamitProgram.{StreamitProgram}
 use Rattle.streamit_front.proofs.Fronts.{compiled-readable, plans_mean}
 use Rattle.river_road.specs.Contents.{AreContents}
 use Rattle.river_road.specs.Inputs.{all_items}

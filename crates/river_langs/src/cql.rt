@@ -13,6 +13,7 @@ use river_outside::Stop;
 use river_plan::Caps;
 use river_road::{Compiled, FileContent, Language, refused_program};
 use std::alloc::Global;
+use text_forms::TextFault;
 
 /// CQL.
 #[derive(Clone, Copy)]
@@ -38,7 +39,7 @@ impl Language for Cql {
                 caps: Caps::new(alloc),
                 program,
             }),
-            Err(CqlFault::NoMemory) => Err(Stop::NoMemory),
+            Err(CqlFault::Text(TextFault::NoMemory)) => Err(Stop::NoMemory),
             Err(fault) => Err(Stop::Refused(refused_program(alloc, fault)?)),
         }
     }

@@ -12,7 +12,8 @@ use river_outside::Stop;
 use river_plan::Caps;
 use river_road::{Compiled, FileContent, Language, refused_program};
 use std::alloc::Global;
-use streamit_front::StreamitProgram;
+use streamit_text::StreamitProgram;
+use text_forms::TextFault;
 
 /// StreamIt with parameters. Its program is the plain one that is made of it.
 #[derive(Clone, Copy)]
@@ -38,7 +39,7 @@ impl Language for Params {
                 caps: Caps::new(alloc),
                 program,
             }),
-            Err(ParamFault::NoMemory) => Err(Stop::NoMemory),
+            Err(ParamFault::Text(TextFault::NoMemory)) => Err(Stop::NoMemory),
             Err(fault) => Err(Stop::Refused(refused_program(alloc, fault)?)),
         }
     }

@@ -9,6 +9,7 @@ use river_outside::Stop;
 use river_road::{Compiled, FileContent, Language, inputs_of, refused_program};
 use river_text::{RiverFault, RiverPlan, compile_river};
 use std::alloc::Global;
+use text_forms::TextFault;
 
 /// River text, which is a plan; it alone gives capacities to queues.
 #[derive(Clone, Copy)]
@@ -34,7 +35,7 @@ impl Language for River {
                 caps,
                 program: (),
             }),
-            Err(RiverFault::NoMemory) => Err(Stop::NoMemory),
+            Err(RiverFault::Text(TextFault::NoMemory)) => Err(Stop::NoMemory),
             Err(fault) => Err(Stop::Refused(refused_program(alloc, fault)?)),
         }
     }

@@ -1,7 +1,7 @@
 // Sawzall as a language of the road.
 ghost use Rattle.std.specs.Prelude.{true};
 ghost use Rattle.river_langs.specs.Sources.{saw_in, IsSawzall};
-ghost use Rattle.saw_text.specs.Tree.{unit_forms};
+ghost use Rattle.saw_text.specs.Tree.{program_of};
 
 use crate::mean_sawzall;
 use crate::records::{listed, rows_of};
@@ -10,8 +10,10 @@ use river_base::{Bytes, Listed, NoMemory};
 use river_outside::Stop;
 use river_plan::Caps;
 use river_road::{Compiled, FileContent, Language, refused_program};
-use saw_front::{SawFault, SawProgram, compile_sawzall};
+use saw_front::{SawFault, compile_sawzall};
+use saw_text::SawProgram;
 use std::alloc::Global;
+use text_forms::TextFault;
 
 /// Sawzall. A record may have further fields, which are not looked at.
 #[derive(Clone, Copy)]
@@ -22,7 +24,7 @@ impl Language for Sawzall {
 
     ghost source = { saw_in };
 
-    ghost stands = { λ s t. IsSawzall s (unit_forms t.units.items) };
+    ghost stands = { λ s t. IsSawzall s (program_of t) };
 
     ghost more = { true };
 
@@ -37,7 +39,7 @@ impl Language for Sawzall {
                 caps: Caps::new(alloc),
                 program,
             }),
-            Err(SawFault::NoMemory) => Err(Stop::NoMemory),
+            Err(SawFault::Text(TextFault::NoMemory)) => Err(Stop::NoMemory),
             Err(fault) => Err(Stop::Refused(refused_program(alloc, fault)?)),
         }
     }

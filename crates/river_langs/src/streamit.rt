@@ -11,7 +11,9 @@ use river_outside::Stop;
 use river_plan::Caps;
 use river_road::{Compiled, FileContent, Language, refused_program};
 use std::alloc::Global;
-use streamit_front::{StreamitFault, StreamitProgram, compile_streamit};
+use streamit_front::{StreamitFault, compile_streamit};
+use streamit_text::StreamitProgram;
+use text_forms::TextFault;
 
 /// StreamIt.
 #[derive(Clone, Copy)]
@@ -37,7 +39,7 @@ impl Language for Streamit {
                 caps: Caps::new(alloc),
                 program,
             }),
-            Err(StreamitFault::NoMemory) => Err(Stop::NoMemory),
+            Err(StreamitFault::Text(TextFault::NoMemory)) => Err(Stop::NoMemory),
             Err(fault) => Err(Stop::Refused(refused_program(alloc, fault)?)),
         }
     }

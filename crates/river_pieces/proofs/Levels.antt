@@ -31,6 +31,7 @@ use Rattle.river_pieces.proofs.Values.{texts_keep_values}
 -- What is merged by runs of one kind is merged by those of another, where each run of the one is a run of the other.
 module _ (run other : List ℕ → List ℕ → Type 0) (t : TableDecl) (same : (rows out : List ℕ) → run rows out → other rows out) where
   mutual
+    -- what is merged by runs of one kind is merged by those of another, where each run of the one is one of the other
     pub merged-as : (rows out : List ℕ) → IsMergedText run t rows out → IsMergedText other t rows out
     merged-as rows out (AtOnce x y r) = AtOnce x y (same x y r)
     merged-as rows out (InParts x y parts tables bag merged later) =

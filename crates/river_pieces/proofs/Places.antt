@@ -24,6 +24,7 @@ shift k (t ∷ ts) splits [] h = absurd h
 shift k (t ∷ ts) splits (m ∷ ms) h =
     (subst (λ (rows : List ℕ). IsMergedText (IsMergeRun t) t rows m) (other-is k splits) h.0, shift (suc k) ts splits ms h.1)
 
+-- tables that are merged by their places are merged
 pub merged_by_place : MergedByPlace
 merged_by_place [] splits [] h = h
 merged_by_place [] splits (m ∷ ms) h = absurd h

@@ -23,11 +23,13 @@ whole_has_fault text bytes skip f h few = record {
   fault = faults_within_the_limit bytes (width h.units) skip true f h.fault few;
 }
 
+-- a file has one fault at most
 pub one_fault : OneFault
 one_fault text bytes skip f g a b =
     let e = one_program text b.units a.units b.is_text a.is_text in
     one_fault_of_all bytes (width a.units) skip true f g a.fault (subst (λ (p : Program). IsFaultOfAll bytes (width p) skip true g) e b.fault)
 
+-- and where it has one, the program means nothing for it
 pub fault_or_meaning : FaultOrMeaning
 fault_or_meaning text bytes skip f out a m =
     let e = one_program text m.units a.units m.is_text a.is_text in

@@ -43,6 +43,7 @@ wrote-row [] (x ∷ xs) h = absurd h
 wrote-row (f ∷ fs) [] h = absurd h
 wrote-row (f ∷ fs) (x ∷ xs) h = All-cons IsValue x xs (wrote-value f x h.0) (wrote-row fs xs h.1)
 
+-- a row of values
 abbrev pub IsValuedRow : List ℤ → Type 0
 IsValuedRow row = All IsValue row
 

@@ -13,6 +13,7 @@ use river_outside::Stop;
 use river_plan::Plan;
 use river_script::{ScriptFault, apply_script};
 use std::alloc::Global;
+use text_forms::TextFault;
 
 /// The plan that a script makes of a plan, or its refusal.
 pub(crate) fn applied(alloc: Global, plan: &Plan, text: &Bytes) -> Result<Plan, Stop>
@@ -24,7 +25,7 @@ pub(crate) fn applied(alloc: Global, plan: &Plan, text: &Bytes) -> Result<Plan, 
     let _lists = plan.raw();
     match apply_script(alloc, plan, text) {
         Ok(made) => Ok(made),
-        Err(ScriptFault::NoMemory) => Err(Stop::NoMemory),
+        Err(ScriptFault::Text(TextFault::NoMemory)) => Err(Stop::NoMemory),
         Err(fault) => Err(Stop::Refused(text::script(alloc, fault)?)),
     }
 }

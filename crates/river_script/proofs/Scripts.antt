@@ -7,17 +7,21 @@ use Rattle.std.proofs.lemmas.List.{length_push}
 use Rattle.text_tokens.specs.Cut.{units_of}
 use Rattle.text_tokens.specs.Lexis.{tokens_in}
 use Rattle.text_tokens.specs.Tok.{Tok, Mark, toks}
-use Rattle.text_tokens.specs.declared.fault.LexFault.{LexFault}
 use Rattle.text_tokens.specs.declared.sign.Symbol.TheVariants as s
 use Rattle.river_base.specs.Name.{is_name}
+use Rattle.text_forms.specs.AllUnits.{or_syntax, then_read, by_units}
 use Rattle.text_forms.specs.Parse.{Parse, is_count}
+use Rattle.text_forms.specs.TextFaults.{HasTextFault}
+use Rattle.text_forms.specs.declared.text_fault.TextFault.{TextFault}
+use Rattle.text_forms.specs.declared.text_fault.TextFault.TheVariants.{Syntax}
 use Rattle.text_forms.specs.Texts.{whole, after_unit, put_first, read_units}
 use Rattle.text_forms.proofs.Choices.{exact-never, exact-choose, exact-headed}
 use Rattle.text_forms.proofs.Exact.{Exact, Any, exact-both, exact-before, exact-tested, exact-seen, exact-name, exact-number}
-use Rattle.text_forms.proofs.Texts.{all-formed, formed-read, first-bad}
+use Rattle.text_forms.proofs.Texts.{all-formed, formed-read, first-bad, bad-read}
+use Rattle.text_forms.proofs.TextsBy.{text-stands, text-has, text-tells, one-value}
 use Rattle.river_script.specs.Script.{StepForm, fusing, hoisting}
 use Rattle.river_script.specs.Grammar.{NameAndEnd, Counted, split_into, IsStep, StepIn, go_on, IsScript, IsBadAt, OneScript}
-use Rattle.river_script.specs.Reading.{step_name_at, named_at, counted_at, step_after, step_at, with_step, read_steps}
+use Rattle.river_script.specs.Reading.{step_name_at, named_at, counted_at, step_after, step_at, with_step, read_steps, steps_of, steps_in}
 
 exact-named : Exact NameAndEnd named_at Any
 unfolding named_at step_name_at
@@ -91,9 +95,8 @@ pub script-few : (ss : List StepForm) (units : List (List Tok)) → read_steps 1
 script-few ss units e = let k = steps-many 1 [] ss units e in omega (arith, k)
 
 -- what was read is in the grammar
-pub script-read : (text : List ℕ) (marks : List Mark) (ss : List StepForm) → tokens_in text ≡ Ok marks → read_steps 1 [] (units_of (toks marks)) ≡ Ok ss
-    → IsScript text ss
-script-read text marks ss lexed read =
+script-sound : (text : List ℕ) (marks : List Mark) (ss : List StepForm) → tokens_in text ≡ Ok marks → by_units steps_of marks ≡ Ok ss → IsScript text ss
+script-sound text marks ss lexed read =
     record {
       marks = marks;
       lexed = lexed;
@@ -102,23 +105,34 @@ script-read text marks ss lexed read =
     }
 
 -- the unit that is told is the first that is no step
-pub script-bad : (text : List ℕ) (marks : List Mark) (m : ℕ) → tokens_in text ≡ Ok marks → read_steps 1 [] (units_of (toks marks)) ≡ Err m → IsBadAt text m
-script-bad text marks m lexed read =
+script-first : (text : List ℕ) (marks : List Mark) (m : ℕ) → tokens_in text ≡ Ok marks → by_units steps_of marks ≡ Err m → IsBadAt text m
+script-first text marks m lexed read =
     record { marks = marks; lexed = lexed; first = first-bad tt go_on exact-in tt (units_of (toks marks)) m (sym (units-read (units_of (toks marks))) ∙ read) }
 
 -- what a text stands for is read
-pub script-reads : (text : List ℕ) (ss : List StepForm) (t : IsScript text ss) → read_steps 1 [] (units_of (toks t.marks)) ≡ Ok ss
-script-reads text ss t = units-read (units_of (toks t.marks)) ∙ formed-read tt go_on exact-in tt 1 (units_of (toks t.marks)) ss t.formed
+pub script-reads : (text : List ℕ) (ss : List StepForm) → IsScript text ss → steps_in text ≡ Ok ss
+script-reads text ss t =
+    ap (then_read (by_units steps_of)) t.lexed
+    ∙ ap or_syntax (units-read (units_of (toks t.marks)) ∙ formed-read tt go_on exact-in tt 1 (units_of (toks t.marks)) ss t.formed)
 
-same_marks : (text : List ℕ) (ms ns : List Mark) → tokens_in text ≡ Ok ms → tokens_in text ≡ Ok ns → ms ≡ ns
-same_marks text ms ns e f = same (sym e ∙ f) where
-  same : ◌≡◌ {A = Result (List Mark) LexFault} (Ok ms) (Ok ns) → ms ≡ ns
-  same g = cc
+-- the first unit that is no step is told
+script-told : (text : List ℕ) (n : ℕ) → IsBadAt text n → steps_in text ≡ Err (Syntax n)
+script-told text n b =
+    ap (then_read (by_units steps_of)) b.lexed
+    ∙ ap or_syntax (units-read (units_of (toks b.marks)) ∙ bad-read tt go_on exact-in tt (units_of (toks b.marks)) n b.first)
+
+-- a text stands for what is read of it
+pub script-read : (text : List ℕ) (ss : List StepForm) → steps_in text ≡ Ok ss → IsScript text ss
+script-read text ss e = text-stands (by_units steps_of) IsScript IsBadAt script-sound script-reads script-first script-told text ss e
+
+-- a text that is not read has the fault that is told
+pub script-faulty : (text : List ℕ) (f : TextFault) → steps_in text ≡ Err f → HasTextFault (IsBadAt text) text f
+script-faulty text f e = text-has (by_units steps_of) IsScript IsBadAt script-sound script-reads script-first script-told text f e
+
+-- and the fault that it has is told
+pub faulty-told : (text : List ℕ) (f : TextFault) → HasTextFault (IsBadAt text) text f → steps_in text ≡ Err f
+faulty-told text f h = text-tells (by_units steps_of) IsScript IsBadAt script-sound script-reads script-first script-told text f h
 
 -- a text stands for one script at most
 pub one_script : OneScript
-one_script text ss ts t u =
-    same (sym (script-reads text ss t) ∙ ap (λ (ms : List Mark). read_steps 1 [] (units_of (toks ms))) (same_marks text t.marks u.marks t.lexed u.lexed)
-    ∙ script-reads text ts u) where
-      same : ◌≡◌ {A = Result (List StepForm) ℕ} (Ok ss) (Ok ts) → ss ≡ ts
-      same e = cc
+one_script text ss ts t u = one-value (by_units steps_of) IsScript IsBadAt script-sound script-reads script-first script-told text ss ts t u

@@ -1,11 +1,9 @@
 -- Laws of scripts, over the definitions alone.
 use Rattle.std.specs.Prelude.{◌≡◌, ◌↔◌, ℕ, List, Result, Ok, Err}
-use Rattle.text_tokens.specs.Lexis.{tokens_in}
-use Rattle.text_tokens.specs.declared.fault.LexFault.TheVariants as lex
 use Rattle.river_plan.specs.Forms.{PlanForm}
-use Rattle.text_forms.specs.declared.refusal.Refusal.TheVariants.{BadByte, BigNumber, Syntax}
+use Rattle.text_forms.specs.TextFaults.{HasTextFault}
 use Rattle.river_script.specs.declared.fault.ScriptFault.{ScriptFault}
-use Rattle.river_script.specs.declared.fault.ScriptFault.TheVariants.{Text, Unfit, NoMemory}
+use Rattle.river_script.specs.declared.fault.ScriptFault.TheVariants.{Text, Unfit}
 use Rattle.river_script.specs.Grammar.{IsScript, IsBadAt}
 use Rattle.river_script.specs.Meaning.{rewritten}
 use Rattle.river_script.specs.Script.{StepForm, script_of}
@@ -15,11 +13,8 @@ use Rattle.river_script.specs.Script.{StepForm, script_of}
 -- of which it is the first that fails. It is never want of memory.
 abbrev pub Has : PlanForm → List ℕ → Result PlanForm ScriptFault → Type 0
 Has p text (Ok q) = (ss : List StepForm) × IsScript text ss × (script_of p ss ≡ Ok q)
-Has p text (Err (Text (BadByte at))) = tokens_in text ≡ Err (lex.BadByte at)
-Has p text (Err (Text (BigNumber at))) = tokens_in text ≡ Err (lex.BigNumber at)
-Has p text (Err (Text (Syntax unit))) = IsBadAt text unit
+Has p text (Err (Text fault)) = HasTextFault (IsBadAt text) text fault
 Has p text (Err (Unfit step why)) = (ss : List StepForm) × IsScript text ss × (script_of p ss ≡ Err (step, why))
-Has p text (Err NoMemory) = ⊥
 
 -- what a script makes of a plan is what it has, and nothing else
 abbrev pub MakesWhatItHas : Type 0

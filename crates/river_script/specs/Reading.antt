@@ -4,8 +4,10 @@ use Rattle.std.specs.Str.{bytes_eq}
 use Rattle.text_tokens.specs.Tok.{Tok}
 use Rattle.text_tokens.specs.declared.sign.Symbol.TheVariants as s
 use Rattle.river_base.specs.Name.{is_name}
+use Rattle.text_forms.specs.AllUnits.{by_units, text_by}
 use Rattle.text_forms.specs.Parse.{Parse, name_at, count_at, both, before, tested, seen, headed}
 use Rattle.text_forms.specs.Texts.{whole}
+use Rattle.text_forms.specs.declared.text_fault.TextFault.{TextFault}
 use Rattle.river_script.specs.Script.{StepForm, fusing, hoisting}
 use Rattle.river_script.specs.Grammar.{split_into}
 
@@ -36,3 +38,11 @@ with_step n more (Some e) = more e
 unfoldable pub read_steps : ℕ → List StepForm → List (List Tok) → Result (List StepForm) ℕ
 read_steps n done [] = Ok done
 read_steps n done (u ∷ us) = with_step n (λ e. read_steps (n + 1) (done ++ e ∷ []) us) (whole step_at u)
+
+-- the steps of the units of a text, or which unit is the first that is none
+abbrev pub steps_of : List (List Tok) → Result (List StepForm) ℕ
+steps_of units = read_steps 1 [] units
+
+-- the steps of a text, or why it is not read
+abbrev pub steps_in : List ℕ → Result (List StepForm) TextFault
+steps_in text = text_by (by_units steps_of) text

@@ -2,9 +2,6 @@
 use Rattle.std.specs.Prelude.{◌≡◌, ℕ, List, map, Option, Some, None, Result, Ok, Err}
 use Rattle.text_forms.specs.declared.fault.ParseFault.{ParseFault}
 use Rattle.text_forms.specs.declared.fault.ParseFault.TheVariants.{Syntax, NoMemory}
-use Rattle.text_forms.specs.declared.refusal.Refusal.TheVariants as text
-use Rattle.river_script.specs.declared.fault.ScriptFault.{ScriptFault}
-use Rattle.river_script.specs.declared.fault.ScriptFault.TheVariants as fault
 use Rattle.river_script.specs.declared.step.Step.{Step}
 use Rattle.river_script.specs.declared.step.Step.TheVariants.{Fuse, Hoist, Fission}
 use Rattle.river_script.specs.Script.{StepForm, fusing, hoisting, splitting}
@@ -22,12 +19,3 @@ abbrev pub MakesStep : Result Step ParseFault → Option StepForm → Type 0
 MakesStep (Ok x) made = made ≡ Some (step_form x)
 MakesStep (Err Syntax) made = made ≡ None
 MakesStep (Err NoMemory) made = Unit {0}
-
--- the steps that were read, or the unit that is none
-abbrev pub GivesSteps : Result (List Step) ScriptFault → Result (List StepForm) ℕ → Type 0
-GivesSteps (Ok steps) read = read ≡ Ok (step_forms steps)
-GivesSteps (Err (fault.Text (text.BadByte at))) read = ⊥
-GivesSteps (Err (fault.Text (text.BigNumber at))) read = ⊥
-GivesSteps (Err (fault.Text (text.Syntax unit))) read = read ≡ Err unit
-GivesSteps (Err (fault.Unfit step w)) read = ⊥
-GivesSteps (Err fault.NoMemory) read = Unit {0}

@@ -14,23 +14,21 @@ use river_plan::Plan;
 use rw_fission::fission;
 use rw_local::{fuse, hoist};
 use std::alloc::Global;
+use text_forms::TextFault;
 
 /// The plan after the steps of a script, of which the whole is read before its first step is applied.
 ///
 /// # Errors
 ///
 /// `Text` where the text is not in the grammar; otherwise `Unfit` with the first step that fails and its condition;
-/// `NoMemory` where there is no memory.
+/// `Text` with `NoMemory` where there is no memory.
 #[tactic(auto, using(crate::proofs::Fronts::fronts))]
 pub fn apply_script(alloc: Global, plan: &Plan, text: &Bytes) -> Result<Plan, ScriptFault>
     requires { length text.now < 2 ^ 32 }
     ensures plan { IfOk result (λ made. rewritten plan.now text.now ≡ Ok made) }
     ensures refused { IfErr result (Refused (rewritten plan.now text.now)) }
 {
-    let steps = match read_script(alloc, text) {
-        Ok(steps) => steps,
-        Err(fault) => return Err(fault),
-    };
+    let steps = read_script(alloc, text)?;
     apply_steps(alloc, plan, &steps)
 }
 
@@ -56,7 +54,7 @@ fn failed(step: u32, why: Unfit) -> ScriptFault
     ensures { result ≡ from_step step why }
 {
     match why {
-        Unfit::NoMemory => ScriptFault::NoMemory,
+        Unfit::NoMemory => ScriptFault::Text(TextFault::NoMemory),
         why => ScriptFault::Unfit { step, why },
     }
 }

@@ -1,16 +1,24 @@
 -- River text as a whole.
 use Rattle.std.proofs.Common.{◌≡◌, ℕ, ◌+◌, List, [], ◌∷◌, Option, Some, None, Result, Ok, Err, refl, sym, ap, ◌∙◌}
 use Rattle.text_tokens.specs.Cut.{units_of}
-use Rattle.text_tokens.specs.Lexis.{tokens_in}
+use Rattle.text_tokens.specs.Lexis.{tokens_in, Lexes}
 use Rattle.text_tokens.specs.Tok.{Tok, Mark, toks}
 use Rattle.text_tokens.specs.declared.fault.LexFault.{LexFault}
+use Rattle.text_tokens.specs.declared.fault.LexFault.TheVariants as lex
+use Rattle.text_forms.specs.AllUnits.{or_syntax, then_read, GivesText}
+use Rattle.text_forms.specs.TextFaults.{of_lexer}
 use Rattle.text_forms.specs.Texts.{whole, after_unit, put_first, read_units}
-use Rattle.text_forms.proofs.Texts.{all-formed, formed-read, first-bad}
-use Rattle.river_text.specs.Plans.{EntryForm, TextForm, add_entry, add_all, empty_text, first_place, next_place, IsText}
+use Rattle.text_forms.specs.declared.text_fault.TextFault.{TextFault}
+use Rattle.text_forms.specs.declared.text_fault.TextFault.TheVariants.{BadByte, BigNumber, Syntax}
+use Rattle.text_forms.proofs.Texts.{all-formed, formed-read, first-bad, bad-read}
+use Rattle.text_forms.proofs.TextsBy.{text-stands, text-has, text-tells, one-value, text-refused, given-fault}
+use Rattle.river_text.specs.Entries.{text_form}
+use Rattle.river_text.specs.Faults.{HasFault, Refuses}
+use Rattle.river_text.specs.Laws.{OnePlan}
+use Rattle.river_text.specs.Plans.{EntryForm, TextForm, add_entry, add_all, empty_text, first_place, next_place, IsText, IsBadAt}
+use Rattle.river_text.specs.ReadPlans.{unit_from, with_entry, read_plan, lists_of, lists_in}
 use Rattle.river_text.specs.declared.entry.Place.{Place}
-use Rattle.river_text.specs.ReadPlans.{unit_from, with_entry, read_plan}
-use Rattle.river_text.specs.Faults.{StandsForNone}
-use Rattle.river_text.specs.Laws.{OnePlan, IsBadAt}
+use Rattle.river_text.specs.declared.entry.RiverText.{RiverText}
 use Rattle.river_text.proofs.Plans.{exact-unit_from}
 
 -- the entries of a reading, added to what was read
@@ -49,11 +57,9 @@ added-err p (Err n) m e = same e where
   same : added p (Err n) ≡ Err m → ◌≡◌ {A = Result (List EntryForm) ℕ} (Err n) (Err m)
   same f = cc
 
--- the text stands for the lists that are read of it
-pub text-read : (text : List ℕ) (marks : List Mark) (q : TextForm) → tokens_in text ≡ Ok marks
-    → read_plan (first_place marks) 1 empty_text (units_of (toks marks)) ≡ Ok q
-    → IsText text q
-text-read text marks q lexed read =
+-- the text stands for the lists that are read of its tokens
+text-sound : (text : List ℕ) (marks : List Mark) (q : TextForm) → tokens_in text ≡ Ok marks → lists_of marks ≡ Ok q → IsText text q
+text-sound text marks q lexed read =
     let (es, is_es, is_q) =
     added-ok empty_text (read_units unit_from next_place (first_place marks) 1 (units_of (toks marks))) q
     (sym (plan-read (first_place marks) 1 empty_text (units_of (toks marks))) ∙ read) in
@@ -67,10 +73,8 @@ text-read text marks q lexed read =
     }
 
 -- the unit that is told is the first that is not in the grammar
-pub text-bad : (text : List ℕ) (marks : List Mark) (m : ℕ) → tokens_in text ≡ Ok marks
-    → read_plan (first_place marks) 1 empty_text (units_of (toks marks)) ≡ Err m
-    → IsBadAt text m
-text-bad text marks m lexed read =
+text-first : (text : List ℕ) (marks : List Mark) (m : ℕ) → tokens_in text ≡ Ok marks → lists_of marks ≡ Err m → IsBadAt text m
+text-first text marks m lexed read =
     record {
       marks = marks;
       lexed = lexed;
@@ -81,48 +85,58 @@ text-bad text marks m lexed read =
     }
 
 -- what a text stands for is read
-pub text-reads : (text : List ℕ) (q : TextForm) (t : IsText text q) → read_plan (first_place t.marks) 1 empty_text (units_of (toks t.marks)) ≡ Ok q
-text-reads text q t =
-    plan-read (first_place t.marks) 1 empty_text (units_of (toks t.marks))
-    ∙ ap (added empty_text) (formed-read tt next_place exact-unit_from (first_place t.marks) 1 (units_of (toks t.marks)) t.entries t.formed)
-    ∙ ap (λ (p : TextForm). Ok p) (sym t.is)
+pub text-reads : (text : List ℕ) (q : TextForm) → IsText text q → lists_in text ≡ Ok q
+text-reads text q t = ap (then_read lists_of) t.lexed ∙ ap or_syntax read where
+  read : lists_of t.marks ≡ Ok q
+  read =
+      plan-read (first_place t.marks) 1 empty_text (units_of (toks t.marks))
+      ∙ ap (added empty_text) (formed-read tt next_place exact-unit_from (first_place t.marks) 1 (units_of (toks t.marks)) t.entries t.formed)
+      ∙ ap (λ (p : TextForm). Ok p) (sym t.is)
 
-pub same_marks : (text : List ℕ) (ms ns : List Mark) → tokens_in text ≡ Ok ms → tokens_in text ≡ Ok ns → ms ≡ ns
-same_marks text ms ns e f = same (sym e ∙ f) where
-  same : ◌≡◌ {A = Result (List Mark) LexFault} (Ok ms) (Ok ns) → ms ≡ ns
-  same g = cc
+-- the first unit that is not in the grammar is told
+text-told : (text : List ℕ) (n : ℕ) → IsBadAt text n → lists_in text ≡ Err (Syntax n)
+text-told text n b = ap (then_read lists_of) b.lexed ∙ ap or_syntax read where
+  read : lists_of b.marks ≡ Err n
+  read =
+      plan-read (first_place b.marks) 1 empty_text (units_of (toks b.marks))
+      ∙ ap (added empty_text) (bad-read tt next_place exact-unit_from (first_place b.marks) (units_of (toks b.marks)) n b.first)
+
+-- the text stands for what is read of it
+pub text-read : (text : List ℕ) (q : TextForm) → lists_in text ≡ Ok q → IsText text q
+text-read text q e = text-stands lists_of IsText IsBadAt text-sound text-reads text-first text-told text q e
+
+-- a text that is not read has the fault that is told
+pub text-faulty : (text : List ℕ) (f : TextFault) → lists_in text ≡ Err f → HasFault text f
+text-faulty text f e = text-has lists_of IsText IsBadAt text-sound text-reads text-first text-told text f e
+
+-- and the fault that it has is told
+pub faulty-told : (text : List ℕ) (f : TextFault) → HasFault text f → lists_in text ≡ Err f
+faulty-told text f h = text-tells lists_of IsText IsBadAt text-sound text-reads text-first text-told text f h
 
 -- the law: a text stands for one plan at most
 pub one_plan : OnePlan
-one_plan text p q t u =
-    same (sym (text-reads text p t)
-    ∙ ap (λ (ms : List Mark). read_plan (first_place ms) 1 empty_text (units_of (toks ms))) (same_marks text t.marks u.marks t.lexed u.lexed)
-    ∙ text-reads text q u) where
-      same : ◌≡◌ {A = Result TextForm ℕ} (Ok p) (Ok q) → p ≡ q
-      same e = cc
+one_plan text p q t u = one-value lists_of IsText IsBadAt text-sound text-reads text-first text-told text p q t u
 
--- a text with a fault stands for no plan
-pub faulty : (text : List ℕ) (fault : LexFault) (p : TextForm) → tokens_in text ≡ Err fault → IsText text p → ⊥
-faulty text fault p e t = never (sym e ∙ t.lexed) where
-  never : ◌≡◌ {A = Result (List Mark) LexFault} (Err fault) (Ok t.marks) → ⊥
-  never f = cc
+-- a text of which a fault is told stands for no plan
+refused : (text : List ℕ) (f : TextFault) → lists_in text ≡ Err f → Refuses text f
+refused text f e = text-refused lists_of IsText IsBadAt text-sound text-reads text-first text-told text f e
 
--- nor does one with a unit that is not in the grammar
-pub unreadable : (text : List ℕ) (marks : List Mark) (m : ℕ) (p : TextForm) → tokens_in text ≡ Ok marks
-    → read_plan (first_place marks) 1 empty_text (units_of (toks marks)) ≡ Err m → IsText text p → ⊥
-unreadable text marks m p lexed read t =
-    never (sym read ∙ ap (λ (ms : List Mark). read_plan (first_place ms) 1 empty_text (units_of (toks ms))) (same_marks text marks t.marks lexed t.lexed)
-    ∙ text-reads text p t) where
-      never : ◌≡◌ {A = Result TextForm ℕ} (Err m) (Ok p) → ⊥
-      never f = cc
+-- what the lexer tells is a fault of the text
+pub lexed-refused : (text : List ℕ) (f : LexFault) → Lexes (Err f) text → Refuses text (of_lexer f)
+lexed-refused text (lex.BadByte at) h = refused text (BadByte at) (ap (then_read lists_of) h)
+lexed-refused text (lex.BigNumber at) h = refused text (BigNumber at) (ap (then_read lists_of) h)
+lexed-refused text lex.NoMemory h = tt
 
--- a text of which a unit is told stands for no plan
-pub refused : (text : List ℕ) (marks : List Mark) (m : ℕ) → tokens_in text ≡ Ok marks
-    → read_plan (first_place marks) 1 empty_text (units_of (toks marks)) ≡ Err m
-    → IsBadAt text m × StandsForNone text
-refused text marks m lexed read = (text-bad text marks m lexed read, λ p t. unreadable text marks m p lexed read t)
+-- what is read of its tokens is what the text stands for
+pub tokens-read : (text : List ℕ) (marks : List Mark) (t : RiverText) → tokens_in text ≡ Ok marks → or_syntax (lists_of marks) ≡ Ok (text_form t)
+    → IsText text (text_form t)
+tokens-read text marks t lexed read = text-read text (text_form t) (ap (then_read lists_of) lexed ∙ read)
 
-pub faulted : (text : List ℕ) (fault : LexFault) → tokens_in text ≡ Err fault → (tokens_in text ≡ Err fault) × StandsForNone text
-faulted text fault e = (e, λ p t. faulty text fault p e t)
+-- and what is told of them is a fault of the text
+pub tokens-refused : (text : List ℕ) (marks : List Mark) (f : TextFault) → tokens_in text ≡ Ok marks
+    → GivesText {X = RiverText} text_form (Err f) (or_syntax (lists_of marks)) → Refuses text f
+tokens-refused text marks f lexed h =
+    given-fault {X = RiverText} text_form (or_syntax (lists_of marks)) (Refuses text) f tt
+    (λ g e. refused text g (ap (then_read lists_of) lexed ∙ e)) h
 
-pub ruleset texts = (text-read, refused, faulted)
+pub ruleset texts = (lexed-refused, tokens-read, tokens-refused)

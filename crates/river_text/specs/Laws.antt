@@ -1,17 +1,12 @@
 -- Laws of River text, over the definitions alone.
 use Rattle.std.specs.Prelude.{◌≡◌, ◌↔◌, ℕ, List, Result, Ok, Err, Some}
-use Rattle.text_tokens.specs.Cut.{units_of}
-use Rattle.text_tokens.specs.Lexis.{tokens_in}
-use Rattle.text_tokens.specs.Tok.{Mark, toks}
-use Rattle.text_tokens.specs.declared.fault.LexFault.TheVariants as lex
 use Rattle.river_plan.specs.Caps.{AreCaps}
 use Rattle.river_plan.specs.Valid.{IsPlan, FirstFault}
-use Rattle.text_forms.specs.Texts.{IsFirstBad}
-use Rattle.text_forms.specs.declared.refusal.Refusal.TheVariants.{BadByte, BigNumber, Syntax}
+use Rattle.river_text.specs.Faults.{HasFault}
 use Rattle.river_text.specs.Meaning.{plan_in}
-use Rattle.river_text.specs.Plans.{IsText, IsUnitAt, TextForm, first_place, next_place}
+use Rattle.river_text.specs.Plans.{IsText, TextForm}
 use Rattle.river_text.specs.declared.river_fault.RiverFault.{RiverFault}
-use Rattle.river_text.specs.declared.river_fault.RiverFault.TheVariants.{Text, Plan, NoMemory}
+use Rattle.river_text.specs.declared.river_fault.RiverFault.TheVariants.{Text, Plan}
 use Rattle.text_forms.specs.Exact.{Exact}
 use Rattle.text_blocks.specs.Seven.{Ends}
 use Rattle.river_text.specs.Expressions.{IsTerm, term_at}
@@ -24,22 +19,13 @@ OnePlan = (text : List ℕ) (t u : TextForm) → IsText text t → IsText text u
 abbrev pub CapsFit : Type 0
 CapsFit = (text : List ℕ) (t : TextForm) → IsText text t → AreCaps t.caps
 
--- the text has tokens, and this unit, from 1, is the first that is not in the grammar
-pub record IsBadAt (text : List ℕ) (unit : ℕ) : Type 0 where
-  pub marks : List Mark
-  pub lexed : tokens_in text ≡ Ok marks
-  pub first : IsFirstBad IsUnitAt next_place (first_place marks) (units_of (toks marks)) unit
-
 -- What a text has, in the words of the grammar. A plan: it stands for these lists, and they are valid. A fault of its
 -- bytes: that is its first; a unit: that is the first that is not in the grammar; a fault of a plan: the text stands
 -- for lists of which it is the first. It is never want of memory.
 abbrev pub Has : List ℕ → Result TextForm RiverFault → Type 0
 Has text (Ok t) = IsText text t × IsPlan t.plan
-Has text (Err (Text (BadByte at))) = tokens_in text ≡ Err (lex.BadByte at)
-Has text (Err (Text (BigNumber at))) = tokens_in text ≡ Err (lex.BigNumber at)
-Has text (Err (Text (Syntax unit))) = IsBadAt text unit
+Has text (Err (Text fault)) = HasFault text fault
 Has text (Err (Plan fault)) = (t : TextForm) × IsText text t × FirstFault t.plan (Some fault)
-Has text (Err NoMemory) = ⊥
 
 -- what is read is the grammar: the meaning of a text is what the text has, and nothing else
 abbrev pub MeansWhatItHas : Type 0

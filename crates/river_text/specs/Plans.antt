@@ -34,7 +34,7 @@ use Rattle.river_plan.specs.declared.caps.Cap.{Cap}
 use Rattle.river_plan.specs.declared.plan.Decl.{Decl}
 use Rattle.river_plan.specs.declared.plan.TableDecl.{TableDecl}
 use Rattle.text_forms.specs.Forms.{Count, NameToken, Number, Var, Never, Both, After, AfterWord, Before, Tested, Seen, Maybe, Merged, Listing, Choose, Headed}
-use Rattle.text_forms.specs.Texts.{AllFormed}
+use Rattle.text_forms.specs.Texts.{AllFormed, IsFirstBad}
 use Rattle.text_blocks.specs.Parts.{Round}
 use Rattle.river_text.specs.Kernels.{IsBraced}
 use Rattle.river_text.specs.declared.decl.QueueDecl.{QueueDecl}
@@ -244,3 +244,9 @@ pub record IsText (text : List ℕ) (t : TextForm) : Type 0 where
   pub entries : List EntryForm
   pub formed : AreUnits (first_place marks) entries (units_of (toks marks))
   pub is : t ≡ add_all empty_text entries
+
+-- the text has tokens, and this unit, from 1, is the first that is not in the grammar
+pub record IsBadAt (text : List ℕ) (unit : ℕ) : Type 0 where
+  pub marks : List Mark
+  pub lexed : tokens_in text ≡ Ok marks
+  pub first : IsFirstBad IsUnitAt next_place (first_place marks) (units_of (toks marks)) unit

@@ -1,7 +1,8 @@
 -- How River text is read: the grammar in the words of reading functions.
 use Rattle.std.specs.Prelude.{ℕ, ◌+◌, ◌++◌, Bool, true, false, List, [], ◌∷◌, Option, None, Some, Result, Ok, Err, codes, if◌then◌else◌}
 use Rattle.std.specs.Str.{bytes_eq}
-use Rattle.text_tokens.specs.Tok.{Tok, name, var, number, symbol}
+use Rattle.text_tokens.specs.Cut.{units_of}
+use Rattle.text_tokens.specs.Tok.{Tok, name, var, number, symbol, Mark, toks}
 use Rattle.text_tokens.specs.declared.sign.Symbol.TheVariants as s
 use Rattle.river_base.specs.Name.{is_name}
 use Rattle.river_base.specs.declared.kind.FlatType.{FlatType}
@@ -18,9 +19,11 @@ use Rattle.text_forms.specs.Parse.{Parse, is_word_at, name_at, var_at, symbols_a
 use Rattle.text_forms.specs.Parse.{answer_at, both, after, after_word, before, maybe, tested, seen, known, merged, listing}
 use Rattle.text_forms.specs.Parse as parse
 use Rattle.text_forms.specs.Parse.{headed}
+use Rattle.text_forms.specs.AllUnits.{text_by}
 use Rattle.text_forms.specs.Texts.{whole}
+use Rattle.text_forms.specs.declared.text_fault.TextFault.{TextFault}
 use Rattle.river_text.specs.Plans.{brackets, made_decl, made_maximum, made_table, Port, queue, variable, Ports, same_vars, made_op, EntryForm, output, input, inner}
-use Rattle.river_text.specs.Plans.{table, private, operator, made_queue, is_two, as_header, may_stand, next_place, TextForm, add_entry}
+use Rattle.river_text.specs.Plans.{table, private, operator, made_queue, is_two, as_header, may_stand, first_place, next_place, TextForm, add_entry, empty_text}
 use Rattle.river_text.specs.declared.decl.QueueDecl.{QueueDecl}
 use Rattle.river_text.specs.declared.entry.Place.{Place}
 use Rattle.river_text.specs.ReadKernels.{round, number_at, pair_at, braced_at}
@@ -148,3 +151,11 @@ with_entry n more (Some e) = more e
 unfoldable pub read_plan : Place → (n : ℕ) → TextForm → List (List Tok) → Result TextForm ℕ
 read_plan at n t [] = Ok t
 read_plan at n t (u ∷ us) = with_entry n (λ e. read_plan (next_place at e) (n + 1) (add_entry t e) us) (whole (unit_from at) u)
+
+-- the lists of the units of some tokens, or which unit is the first that is none
+abbrev pub lists_of : List Mark → Result TextForm ℕ
+lists_of marks = read_plan (first_place marks) 1 empty_text (units_of (toks marks))
+
+-- the lists of a text, or why it is not read
+abbrev pub lists_in : List ℕ → Result TextForm TextFault
+lists_in text = text_by lists_of text

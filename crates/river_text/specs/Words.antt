@@ -7,9 +7,9 @@ use Rattle.river_plan.specs.declared.fault.Named.{Named}
 use Rattle.river_plan.specs.declared.fault.Named.TheVariants.{Queue, Variable, Label}
 use Rattle.river_plan.specs.declared.fault.PlanFault.{PlanFault}
 use Rattle.river_plan.specs.declared.fault.PlanFault.TheVariants as plan
-use Rattle.text_forms.specs.Refusals.{refusal_words}
+use Rattle.text_forms.specs.TextFaults.{text_words}
 use Rattle.river_text.specs.declared.river_fault.RiverFault.{RiverFault}
-use Rattle.river_text.specs.declared.river_fault.RiverFault.TheVariants.{Text, Plan, NoMemory}
+use Rattle.river_text.specs.declared.river_fault.RiverFault.TheVariants.{Text, Plan}
 
 -- a name at fault; that of a variable has its dollar sign
 abbrev pub name_words : Named → List ℕ
@@ -46,6 +46,5 @@ plan_words (plan.P9 name) = codes "P9 " ++ name_words name
 plan_words plan.NoMemory = codes "NoMemory"
 
 abbrev pub river_words : RiverFault → List ℕ
-river_words (Text refusal) = refusal_words refusal
+river_words (Text fault) = text_words fault
 river_words (Plan fault) = plan_words fault
-river_words NoMemory = codes "NoMemory"

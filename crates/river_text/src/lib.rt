@@ -4,7 +4,6 @@
 mod body;
 mod decl;
 mod entry;
-mod fault;
 mod front;
 mod kernel;
 pub mod laws;
@@ -18,7 +17,6 @@ mod term;
 pub use body::body as braced_body;
 pub use decl::{BRACKETS, river_name, river_var};
 pub use entry::RiverText;
-pub use fault::TextFault;
 pub use front::{RiverPlan, compile_river};
 pub use number::{number as round_number, pair as round_pair, signed};
 pub use port::{Ports as TwoLists, both_lists};

@@ -2,17 +2,17 @@
 ghost use Rattle.std.specs.Prelude.{◌≡◌, ◌<◌, ◌^◌, length, map, IfOk, IfErr};
 ghost use Rattle.text_tokens.specs.Cut.{units_of, unit_tokens};
 ghost use Rattle.text_tokens.specs.Tok.{toks, mark_of};
+ghost use Rattle.text_forms.specs.AllUnits.{or_syntax, GivesText};
 ghost use Rattle.river_text.specs.Entries.{text_form};
 ghost use Rattle.river_text.specs.Plans.{IsText, empty_text, first_place, is_second_short};
-ghost use Rattle.river_text.specs.ReadPlans.{read_plan};
-ghost use Rattle.river_text.specs.Faults.{Refuses, GivesPlan, AddsUnits};
+ghost use Rattle.river_text.specs.ReadPlans.{read_plan, lists_of};
+ghost use Rattle.river_text.specs.Faults.{Refuses};
 
-use crate::TextFault;
 use crate::entry::{Place, RiverText, whole_entry};
 use river_base::Bytes;
 use river_plan::{Caps, RawPlan};
 use std::alloc::Global;
-use text_forms::ParseFault;
+use text_forms::{ParseFault, TextFault};
 use text_tokens::{Lexeme, Tokens, Units, lex, units};
 
 /// The lists of the plan that a text stands for (the River language of Soulé and others, DEBS 2012), and
@@ -20,7 +20,7 @@ use text_tokens::{Lexeme, Tokens, Units, lex, units};
 ///
 /// # Errors
 ///
-/// `Lex` where the text has a fault in its bytes; otherwise `Syntax` with the first unit, from 1, that is not in the
+/// `BadByte` or `BigNumber` with the first fault of the bytes where they have no tokens; otherwise `Syntax` with the first unit, from 1, that is not in the
 /// grammar; `NoMemory` where there is no memory.
 #[tactic(auto, using(crate::proofs::Texts::texts, text_tokens::proofs::Counts::counts))]
 pub fn read_river(alloc: Global, text: &Bytes) -> Result<RiverText, TextFault>
@@ -36,7 +36,7 @@ pub fn read_river(alloc: Global, text: &Bytes) -> Result<RiverText, TextFault>
 #[tactic(auto, using(text_tokens::proofs::Counts::counts))]
 fn read_tokens(alloc: Global, tokens: &Tokens<'_>) -> Result<RiverText, TextFault>
     requires { length tokens.now < 2 ^ 32 }
-    ensures { GivesPlan result (read_plan (first_place tokens.now) 1 empty_text (units_of (toks tokens.now))) }
+    ensures { GivesText text_form result (or_syntax (lists_of tokens.now)) }
 {
     let first = first_place(tokens);
     let units = units(alloc, tokens)?;
@@ -70,7 +70,7 @@ fn is_second_short(lexemes: &[Lexeme<'_>]) -> bool
 // What the units of a text stand for.
 fn read_units(alloc: Global, units: &Units<'_>, first: Place) -> Result<RiverText, TextFault>
     requires { length units.now < 2 ^ 32 }
-    ensures { GivesPlan result (read_plan first 1 empty_text units.now) }
+    ensures { GivesText text_form result (or_syntax (read_plan first 1 empty_text units.now)) }
 {
     let mut text = RiverText {
         raw: RawPlan::new(alloc),
@@ -88,7 +88,7 @@ fn add_units(
     text: &mut RiverText,
 ) -> Result<(), TextFault>
     requires { length parts.now < 2 ^ 32 }
-    ensures { AddsUnits result text.new (read_plan first 1 (text_form text.old) (map unit_tokens parts.now)) }
+    ensures { GivesText (λ u. text_form text.new) result (or_syntax (read_plan first 1 (text_form text.old) (map unit_tokens parts.now))) }
 {
     let mut place = first;
     'items: for i in 0..parts.len() {

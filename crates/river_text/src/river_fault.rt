@@ -1,39 +1,28 @@
 // Why a River text has no plan, and what is told of it.
 ghost use Rattle.std.specs.Prelude.{◌≡◌, ◌++◌, codes, OnOk};
 ghost use Rattle.std.specs.Fmt.{decimal};
-ghost use Rattle.river_text.specs.Meaning.{from_text, from_plan};
+ghost use Rattle.river_text.specs.declared.river_fault.RiverFault.TheVariants as fault;
+ghost use Rattle.river_text.specs.Meaning.{from_plan};
 ghost use Rattle.river_text.specs.Words.{limit_word, name_words, plan_words, river_words};
 
-use crate::TextFault;
 use river_base::{Bytes, NoMemory};
 use river_plan::{Limit, Named, PlanFault};
-use std::alloc::Global;
-use text_forms::{Refusal, Told};
-use text_tokens::LexFault;
+use text_forms::{TextFault, Told};
 
 /// Why a River text has no plan.
 #[derive(Clone, Copy)]
 pub enum RiverFault {
-    /// The text is not read.
-    Text(Refusal),
+    /// The text is not read, or there was no memory.
+    Text(TextFault),
     /// The lists of the text are no valid plan; this is their first fault.
     Plan(PlanFault),
-    /// There was no memory.
-    NoMemory,
 }
 
 impl From<TextFault> for RiverFault {
-    ghost from_gives = { λ fault f. f ≡ from_text fault };
+    ghost from_gives = { λ text f. f ≡ fault.Text text };
 
-    fn from(fault: TextFault) -> Self {
-        match fault {
-            TextFault::Lex(LexFault::BadByte { at }) => RiverFault::Text(Refusal::BadByte { at }),
-            TextFault::Lex(LexFault::BigNumber { at }) => {
-                RiverFault::Text(Refusal::BigNumber { at })
-            }
-            TextFault::Syntax { unit } => RiverFault::Text(Refusal::Syntax { unit }),
-            TextFault::Lex(LexFault::NoMemory) | TextFault::NoMemory => RiverFault::NoMemory,
-        }
+    fn from(text: TextFault) -> Self {
+        RiverFault::Text(text)
     }
 }
 
@@ -42,7 +31,7 @@ impl From<PlanFault> for RiverFault {
 
     fn from(fault: PlanFault) -> Self {
         match fault {
-            PlanFault::NoMemory => RiverFault::NoMemory,
+            PlanFault::NoMemory => RiverFault::Text(TextFault::NoMemory),
             fault => RiverFault::Plan(fault),
         }
     }
@@ -51,17 +40,16 @@ impl From<PlanFault> for RiverFault {
 impl Told for RiverFault {
     ghost told = { river_words };
 
-    fn write(self, alloc: Global, to: &mut Bytes) -> Result<(), NoMemory> {
+    fn write(self, to: &mut Bytes) -> Result<(), NoMemory> {
         match self {
-            RiverFault::Text(refusal) => refusal.write(alloc, to),
-            RiverFault::Plan(fault) => put_fault(alloc, fault, to),
-            RiverFault::NoMemory => to.extend(b"NoMemory"),
+            RiverFault::Text(fault) => fault.write(to),
+            RiverFault::Plan(fault) => put_fault(fault, to),
         }
     }
 }
 
 // Appends what is told of a fault of a plan.
-fn put_fault(alloc: Global, fault: PlanFault, to: &mut Bytes) -> Result<(), NoMemory>
+fn put_fault(fault: PlanFault, to: &mut Bytes) -> Result<(), NoMemory>
     ensures { OnOk result (to.new ≡ to.old ++ plan_words fault) }
 {
     match fault {
@@ -72,7 +60,7 @@ fn put_fault(alloc: Global, fault: PlanFault, to: &mut Bytes) -> Result<(), NoMe
         PlanFault::P5(name) => put_named(b"P5 ", name, to),
         PlanFault::P6(name) => put_named(b"P6 ", name, to),
         PlanFault::P7(name) => put_named(b"P7 ", name, to),
-        PlanFault::P8 { limit, number } => put_limit(alloc, limit, number, to),
+        PlanFault::P8 { limit, number } => put_limit(limit, number, to),
         PlanFault::P9(name) => put_named(b"P9 ", name, to),
         PlanFault::NoMemory => to.extend(b"NoMemory"),
     }
@@ -103,14 +91,13 @@ fn put_name(name: Named, to: &mut Bytes) -> Result<(), NoMemory>
 
 // Appends a limit and the number that exceeds it.
 #[tactic(auto, using(text_tokens::proofs::Joined::joins))]
-fn put_limit(alloc: Global, limit: Limit, number: u128, to: &mut Bytes) -> Result<(), NoMemory>
+fn put_limit(limit: Limit, number: u128, to: &mut Bytes) -> Result<(), NoMemory>
     ensures { OnOk result (to.new ≡ to.old ++ (codes "P8 " ++ (limit_word limit ++ (codes " " ++ decimal number)))) }
 {
     to.extend(b"P8 ")?;
     to.extend(limit_word(limit))?;
     to.push(b' ')?;
-    let digits = number.to_string(alloc)?;
-    to.extend(digits.as_bytes())
+    to.put_number(number)
 }
 
 // What is limited.

@@ -120,6 +120,7 @@ run-done h program input text bytes out header by cap program_is input_is short 
     (inputs-on h (Done out) input bytes (width m.units) header (λ files. at_last (record { source = saw_source a; files = files })) m.rows input_is small
     read (ap (λ (t : List ℕ). Done t) (tables-printed a (saw_source a).plan m.rows ∙ sym m.is)))
 
+-- a run without a script whose program prints something is done
 pub runs_are_done : RunsAreDone
 unfolding points_of
 runs_are_done words program input header h text bytes out asks none program_is input_is short small prints =
@@ -144,6 +145,7 @@ fault-compiled : (text bytes : List ℕ) (header : Bool) (f : InFault) (m : HasF
     → compiled text ≡ Ok (record { units = m.units; read = m.read })
 fault-compiled text bytes header f m = (means_what_it_has text (Ok (record { units = m.units; read = m.read }))).1 (m.is_text, m.accepted)
 
+-- and one whose input has a fault is refused, and tells it
 pub runs_tell_faults : RunsTellFaults
 unfolding points_of
 runs_tell_faults words program input header h text bytes f asks none program_is input_is short small m =

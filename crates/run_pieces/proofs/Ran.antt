@@ -66,6 +66,7 @@ rows-found (Err fault) all e = cc e
 abbrev pub one_input : ℕ → List Decl
 one_input w = record { name = codes "in"; kind = rows w } ∷ []
 
+-- the word that asks for the one input of a tally
 abbrev pub one_word : List ℕ → List InWord
 one_word file = record { name = codes "in"; file = file } ∷ []
 
@@ -132,6 +133,7 @@ run-prints h program input text bytes out header script by cap program_is input_
     of_scripted_then : (Supplied → Order) → SourceProgram → Order
     of_scripted_then last source = of_scripted script (one_word input) (layout_of true header) source last
 
+-- where a run is done, its text is what a run on the bytes of its input prints
 pub runs_print : RunsPrint
 unfolding points_of
 runs_print words program input header h text bytes out asks program_is input_is done =
@@ -146,6 +148,7 @@ same-taken before a b e =
     let f : before ++ a ≡ before ++ b = cc e in
     sym (append_cancel_left before a b f)
 
+-- what a call wrote that ended with status 0 is what a run on these bytes prints
 pub ran_prints : RanPrints
 ran_prints text bytes header out ran =
     let wrote = ran.wrote in

@@ -36,6 +36,7 @@ one-refusal v a b e g = same a b (sym e ∙ g) where
   same : (a b : List ℕ) → Refused a ≡ Refused b → a ≡ b
   same a b e = cc e
 
+-- a run of a compiled program is refused for the fault of its input that it tells
 pub refusals_are_faults : RefusalsAreFaults
 refusals_are_faults words program input header h text bytes told a asks none program_is input_is short small compiles refused =
     by (rows_of_file bytes (width (program_in a)) header true) refl
@@ -86,6 +87,7 @@ gives_refusal words held old new wrote program input text bytes before header h 
 
 -- THE WHOLE
 
+-- the fault of a record that the first refused call tells is that of the whole file, with its number there
 pub first_refusal_is_the_wholes : FirstRefusalIsTheWholes
 first_refusal_is_the_wholes text bytes skip a before piece after outs told compiles short small took ran call =
     let wrote = call.wrote in

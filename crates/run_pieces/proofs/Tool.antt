@@ -24,6 +24,7 @@ merge-runs k (t ∷ ts) splits [] h = absurd h
 merge-runs k (t ∷ ts) splits (m ∷ ms) h =
     (h.0, merge-runs (suc k) ts splits ms (subst (λ (n : ℕ). AreRunOn ts (map merge_text ts) (rows_from n (length ts) splits) ms) (add-one k) h.1))
 
+-- what the calls on pieces that were taken, and the merge calls, write is what the program means for the file
 pub tool_gives_the_whole : ToolGivesTheWhole
 tool_gives_the_whole text bytes skip_first pieces outs programs rows merges cut ran split merge_ran =
     let tables = tables_in (program_in split.program) in

@@ -29,6 +29,7 @@ merged k (t ∷ ts) splits (m ∷ ms) h = (
   merged (suc k) ts splits ms h.1,
 )
 
+-- what calls of `river` write of the pieces, split and merged, is what the program means for the file
 pub river_gives_the_whole : RiverGivesTheWhole
 river_gives_the_whole text bytes skip_first a pieces outs merges splits compiles cut ran split merge_ran =
     let tables = tables_in (program_in a) in

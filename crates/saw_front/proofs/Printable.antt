@@ -18,10 +18,13 @@ use Rattle.river_print.specs.Writable.{Every, depths}
 use Rattle.river_print.proofs.Spoken.{IsSpoken, spoken-printable}
 use Rattle.saw_text.specs.Tree.{Statement, Declare, Assign, Emit, If, Block, End, Then, Optional, Unwritten, Written, UnitForm, TableUnit, StatementUnit, Program}
 use Rattle.saw_model.specs.Meaning.{tables_in, table_kind}
-use Rattle.saw_model.specs.Elaborate.{Fault, Limit, Shape, At, on_ok, demand, counted, is_new, has_slot, first_term, declared, slot_of}
+use Rattle.saw_model.specs.declared.fault.Fault.{Fault}
+use Rattle.saw_model.specs.declared.fault.Fault.TheVariants.{Limit, Shape}
+use Rattle.saw_model.specs.declared.fault.Refusal.{Refusal}
+use Rattle.saw_model.specs.Elaborate.{At, on_ok, demand, counted, is_new, has_slot, first_term, declared, slot_of}
 use Rattle.saw_model.specs.Elaborate.{table_port, indexes_of, term_of, weight_of, keys_in, emitted, is_best, tabled, table_of, find, step_of, steps_of, steps_optional}
 use Rattle.saw_model.specs.Elaborate.{unit_judged as read_part, nothing_read}
-use Rattle.saw_model.specs.Judged.{Refusal, on_fine, in_unit, units_judged}
+use Rattle.saw_model.specs.Judged.{on_fine, in_unit, units_judged}
 use Rattle.saw_model.specs.Plan.{tally_op, plan_of}
 use Rattle.saw_model.proofs.Elaborated.{fine, ok_parts, ok_is}
 use Rattle.saw_text.specs.Tree.{in_turn, or_unwritten, UnitForm}

@@ -8,14 +8,16 @@ use Rattle.river_base.proofs.Lists.{map_next, map_none}
 use Rattle.work_code.specs.Term.{Term, term}
 use Rattle.work_code.specs.declared.expr.Expr as work
 use Rattle.saw_text.specs.Tree.{Expression}
-use Rattle.saw_model.specs.Elaborate.{Fault, Limit, Scope, on_ok, term_of, indexes_of}
+use Rattle.saw_model.specs.declared.fault.Fault.{Fault}
+use Rattle.saw_model.specs.declared.fault.Fault.TheVariants.{Limit}
+use Rattle.saw_model.specs.Elaborate.{Scope, on_ok, term_of, indexes_of}
 use Rattle.saw_text.specs.declared.tree.Expr.{Expr}
 use Rattle.saw_text.specs.Tree.{expression}
 use Rattle.saw_text.specs.View.{expressions}
-use Rattle.saw_front.specs.declared.unit_fault.Fault as fault
+use Rattle.saw_front.specs.declared.refused.RefusedUnit.{RefusedUnit}
 use Rattle.saw_front.specs.Valued.{AllValues}
-use Rattle.saw_front.specs.View.{Tells}
-use Rattle.saw_front.proofs.SoFar.{good, tells_more}
+use Rattle.saw_front.specs.View.{IsWhyUnit}
+use Rattle.saw_front.proofs.SoFar.{good, why_more}
 
 -- what is read of a list of expressions
 abbrev pub Terms : Type 0
@@ -71,9 +73,9 @@ module _ (sc : Scope) (all : List Expr) (i : ℕ) (e : Expr) (done : List Term) 
   }
 
   -- an index that is refused
-  pub index_fault : i < 8 → (k : fault.Fault) → Tells k (term_of sc (expression e)) → Tells k (indexes_of sc 0 (expressions all))
+  pub index_fault : i < 8 → (k : RefusedUnit) → IsWhyUnit k (term_of sc (expression e)) → IsWhyUnit k (indexes_of sc 0 (expressions all))
   index_fault h k t =
-      tells_more k (term_of sc (expression e)) (indexes_of sc 0 (expressions all))
+      why_more k (term_of sc (expression e)) (indexes_of sc 0 (expressions all))
       (λ g q. index_on h ∙ ap (λ r. behind_terms done (on_ok r (λ u. on_ok (indexes_of sc (i + 1) rest) (λ us. good (u ∷ us))))) q) t
 
 drop_some : (xs : List Expr) (i : ℕ) → i < length xs → 0 < length (drop i xs)

@@ -11,15 +11,15 @@ use Rattle.work_code.specs.Steps as steps
 use Rattle.work_code.specs.Term.{Term}
 use Rattle.saw_text.specs.Tree.{Expression}
 use Rattle.saw_text.specs.Tree as source
-use Rattle.saw_model.specs.Elaborate.{Fault, At, Read, on_ok, step_of, steps_of, steps_optional, counted, term_of}
-use Rattle.saw_model.specs.Elaborate as spec
+use Rattle.saw_model.specs.declared.fault.Fault.{Fault}
+use Rattle.saw_model.specs.Elaborate.{At, Read, on_ok, step_of, steps_of, steps_optional, counted, term_of}
 use Rattle.saw_model.proofs.Statements.{grows_all}
 use Rattle.saw_front.specs.declared.judge.Judge.{Judge}
-use Rattle.saw_front.specs.declared.unit_fault.Fault as fault
-use Rattle.saw_front.specs.declared.unit_fault.Fault.TheVariants as faults
+use Rattle.saw_front.specs.declared.refused.RefusedUnit.{RefusedUnit}
+use Rattle.saw_front.specs.declared.refused.RefusedUnit.TheVariants as why
 use Rattle.saw_front.specs.Judging.{at_of, KeepsNames, Reads, ReadsArm}
 use Rattle.saw_front.specs.Valued.{AreValued}
-use Rattle.saw_front.specs.View.{Tells}
+use Rattle.saw_front.specs.View.{IsWhyUnit}
 
 -- an answer without a fault
 abbrev pub good : {A : Type 0} → A → Result A Fault
@@ -54,12 +54,10 @@ pub behind_done : (a : Steps) (s : At) → behind a (Ok (Done, s)) ≡ Ok (a, s)
 behind_done a s = ap (λ t. Ok (t, s)) (joined-done a)
 
 -- a fault of one reading is one of another
-pub tells_more : {A B : Type 0} (f : fault.Fault) (r : Result A Fault) (r' : Result B Fault) → ((g : Fault) → r ≡ Err g → r' ≡ Err g) → Tells f r → Tells f r'
-tells_more faults.UnknownName r r' h e = h spec.UnknownName e
-tells_more faults.NameTwice r r' h e = h spec.NameTwice e
-tells_more faults.Shape r r' h e = h spec.Shape e
-tells_more faults.Limit r r' h e = h spec.Limit e
-tells_more faults.NoMemory r r' h e = tt
+pub why_more : {A B : Type 0} (e : RefusedUnit) (r : Result A Fault) (r' : Result B Fault) → ((f : Fault) → r ≡ Err f → r' ≡ Err f) → IsWhyUnit e r
+    → IsWhyUnit e r'
+why_more (why.Fault f) r r' h e = h f e
+why_more why.NoMemory r r' h e = tt
 
 -- A BLOCK
 
@@ -106,12 +104,12 @@ block_next all c rest first now next out out' out'' f r = record {
 
 -- a statement that is refused
 pub block_err : (all : List source.Statement) (c : source.Statement) (rest : List source.Statement) (first now next x y : Judge) (out out' out'' o n : Stmts)
-    (result : Result (Unit {0}) fault.Fault) (f : fault.Fault)
-    → result ≡ Err f → BlockSoFar all (c ∷ rest) first now out out' → Reads (Err f) out' out'' now next (step_of c (at_of now))
+    (result : Result (Unit {0}) RefusedUnit) (e : RefusedUnit)
+    → result ≡ Err e → BlockSoFar all (c ∷ rest) first now out out' → Reads (Err e) out' out'' now next (step_of c (at_of now))
     → Reads result o n x y (steps_of (source.in_turn all) (at_of first))
-block_err all c rest first now next x y out out' out'' o n result f is s r =
+block_err all c rest first now next x y out out' out'' o n result e is s r =
     subst (λ t. Reads t o n x y (steps_of (source.in_turn all) (at_of first))) (sym is)
-    (tells_more f (step_of c (at_of now)) (steps_of (source.in_turn all) (at_of first))
+    (why_more e (step_of c (at_of now)) (steps_of (source.in_turn all) (at_of first))
     (λ g h. s.all_is ∙ ap (behind (in_turn (map step s.added))) (steps_err c (source.in_turn rest) (at_of now) g h)) r)
 
 -- all statements
@@ -155,8 +153,8 @@ module _ (t : Expression) (a : source.Block) (b : source.Optional) (s s1 m1 la :
       ∙ ap (λ m. good (one_step (steps.If cond f g), m)) (sym em2)
 
   -- an `if` whose second arm is refused
-  pub if_fault : (k : fault.Fault) → Tells k (steps_optional b m1) → Tells k (step_of (source.If t a b) s)
-  if_fault k h = tells_more k (steps_optional b m1) (step_of (source.If t a b) s) (λ g e. if_on ∙ ap (λ r. on_ok r last) e) h
+  pub if_fault : (k : RefusedUnit) → IsWhyUnit k (steps_optional b m1) → IsWhyUnit k (step_of (source.If t a b) s)
+  if_fault k h = why_more k (steps_optional b m1) (step_of (source.If t a b) s) (λ g e. if_on ∙ ap (λ r. on_ok r last) e) h
 
 -- AN ARM
 
@@ -172,6 +170,6 @@ arm_none o body j e n =
     (at_of j, ap (λ p. steps_optional (source.or_unwritten p) (at_of j)) e ∙ ap (λ l. good (in_turn (map step l), at_of j)) (sym n), refl, refl)
 
 -- an answer that is a fault
-pub reads_err : (result : Result (Unit {0}) fault.Fault) (f : fault.Fault) (o n : Stmts) (x y : Judge) (r : Read) → result ≡ Err f → Tells f r
+pub reads_err : (result : Result (Unit {0}) RefusedUnit) (e : RefusedUnit) (o n : Stmts) (x y : Judge) (r : Read) → result ≡ Err e → IsWhyUnit e r
     → Reads result o n x y r
-reads_err result f o n x y r is t = subst (λ q. Reads q o n x y r) (sym is) t
+reads_err result e o n x y r is t = subst (λ q. Reads q o n x y r) (sym is) t

@@ -1,20 +1,18 @@
 -- What is true of all texts.
 use Rattle.std.specs.Prelude.{◌≡◌, ◌↔◌, ℕ, ℤ, List, [], ◌∷◌, map, take, Result, Ok, Err}
-use Rattle.text_tokens.specs.Lexis.{tokens_in}
-use Rattle.text_tokens.specs.declared.fault.LexFault.TheVariants as lex
-use Rattle.text_forms.specs.declared.refusal.Refusal.TheVariants.{BadByte, BigNumber, Syntax}
 use Rattle.river_plan.specs.Valid.{IsPlan}
 use Rattle.river_print.specs.Printable.{IsPrintable}
 use Rattle.brooklet_model.specs.Meaning.{meaning}
 use Rattle.saw_model.specs.Faults.{IsFaultOf}
-use Rattle.saw_model.specs.Judged.{Refusal, judged}
+use Rattle.saw_model.specs.declared.fault.Refusal.{Refusal}
+use Rattle.saw_model.specs.Judged.{judged}
 use Rattle.saw_model.specs.Plan.{rows_as_items}
 use Rattle.saw_model.specs.Meaning.{width, program_tables}
+use Rattle.saw_text.specs.Faults.{HasFault}
 use Rattle.saw_text.specs.Grammar.{IsText}
-use Rattle.saw_text.specs.Laws.{IsBadAt}
 use Rattle.saw_text.specs.Tree.{UnitForm}
 use Rattle.saw_front.specs.declared.fault.SawFault.{SawFault}
-use Rattle.saw_front.specs.declared.fault.SawFault.TheVariants.{Text, NoMemory}
+use Rattle.saw_front.specs.declared.fault.SawFault.TheVariants.{Text}
 use Rattle.saw_front.specs.Meaning.{Accepted, program_in, plan_in, fault_at, compiled}
 
 -- the grammar has the text for units, and the first of their places that has a fault has this one, in this unit
@@ -25,10 +23,7 @@ HasProgramFault text fault = (us : List UnitForm) × (e : Refusal) × IsText tex
 -- first fault of its bytes
 abbrev pub Has : List ℕ → Result Accepted SawFault → Type 0
 Has text (Ok a) = IsText text a.units × (judged (program_in a) ≡ Ok a.read)
-Has text (Err (Text (BadByte at))) = tokens_in text ≡ Err (lex.BadByte at)
-Has text (Err (Text (BigNumber at))) = tokens_in text ≡ Err (lex.BigNumber at)
-Has text (Err (Text (Syntax unit))) = IsBadAt text unit
-Has text (Err NoMemory) = ⊥
+Has text (Err (Text fault)) = HasFault text fault
 Has text (Err fault) = HasProgramFault text fault
 
 -- that is what a text means

@@ -5,8 +5,9 @@ use Rattle.work_code.specs.declared.expr.Expr as work
 use Rattle.river_plan.specs.Forms.{Name}
 use Rattle.saw_model.specs.Elaborate.{Scope}
 use Rattle.saw_model.specs.Elaborate as spec
-use Rattle.saw_front.specs.declared.unit_fault.Fault.{Fault}
-use Rattle.saw_front.specs.declared.unit_fault.Fault.TheVariants as fault
+use Rattle.saw_model.specs.declared.fault.Fault.{Fault}
+use Rattle.saw_front.specs.declared.refused.RefusedUnit.{RefusedUnit}
+use Rattle.saw_front.specs.declared.refused.RefusedUnit.TheVariants as refused
 use Rattle.saw_front.specs.declared.names.Known.{Known}
 use Rattle.saw_front.specs.declared.names.Known.TheVariants as code
 
@@ -30,15 +31,17 @@ abbrev pub option_terms : Option work.Expr → List Term
 option_terms None = []
 option_terms (Some e) = term e ∷ []
 
--- the fault is the one that is defined; of want of memory nothing is expression
-abbrev pub Tells : {A : Type 0} → Fault → Result A spec.Fault → Type 0
-Tells fault.UnknownName r = r ≡ Err spec.UnknownName
-Tells fault.NameTwice r = r ≡ Err spec.NameTwice
-Tells fault.Shape r = r ≡ Err spec.Shape
-Tells fault.Limit r = r ≡ Err spec.Limit
-Tells fault.NoMemory r = Unit {0}
+-- the answer is the one that is defined
+abbrev pub Decides : {X A : Type 0} → (X → A) → Result X Fault → Result A Fault → Type 0
+Decides view (Ok x) r = r ≡ Ok (view x)
+Decides view (Err f) r = r ≡ Err f
+
+-- this is why a unit is refused; want of memory says nothing
+abbrev pub IsWhyUnit : {A : Type 0} → RefusedUnit → Result A Fault → Type 0
+IsWhyUnit (refused.Fault f) r = r ≡ Err f
+IsWhyUnit refused.NoMemory r = Unit {0}
 
 -- the answer is the one that is defined, or there was no memory
-abbrev pub Judges : {X A : Type 0} → (X → A) → Result X Fault → Result A spec.Fault → Type 0
+abbrev pub Judges : {X A : Type 0} → (X → A) → Result X RefusedUnit → Result A Fault → Type 0
 Judges view (Ok x) r = r ≡ Ok (view x)
-Judges view (Err f) r = Tells f r
+Judges view (Err e) r = IsWhyUnit e r

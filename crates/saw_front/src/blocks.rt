@@ -6,8 +6,8 @@ ghost use Rattle.saw_front.specs.Judging.{at_of, Reads, ReadsArm};
 ghost use Rattle.saw_front.specs.Valued.{IsValued, AreValued, AreValuedOptional};
 
 use crate::judge::Judge;
+use crate::refused::RefusedUnit;
 use crate::term::term;
-use crate::unit_fault::Fault;
 use saw_text::{Block, Statement};
 use std::alloc::Global;
 use work_code::{Stmt, Stmts};
@@ -15,7 +15,7 @@ use work_code::{Stmt, Stmts};
 impl Judge {
     // The statements of a block, behind those that are there.
     #[cycle(judge)]
-    pub fn block(&mut self, alloc: Global, b: &Block, out: &mut Stmts) -> Result<(), Fault>
+    pub fn block(&mut self, alloc: Global, b: &Block, out: &mut Stmts) -> Result<(), RefusedUnit>
         requires { AreValued (block b.now) }
         ensures { Reads result out.old out.new self.old self.new (steps_of (block b.now) (at_of self.old)) }
     {
@@ -27,7 +27,12 @@ impl Judge {
 
     // A statement, behind those that are there.
     #[cycle(judge)]
-    pub fn statement(&mut self, alloc: Global, s: &Statement, out: &mut Stmts) -> Result<(), Fault>
+    pub fn statement(
+        &mut self,
+        alloc: Global,
+        s: &Statement,
+        out: &mut Stmts,
+    ) -> Result<(), RefusedUnit>
         requires { IsValued (statement s.now) }
         ensures { Reads result out.old out.new self.old self.new (step_of (statement s.now) (at_of self.old)) }
     {
@@ -57,7 +62,7 @@ impl Judge {
 
     // The statements of an arm of an `if`; what was declared there is not known afterwards.
     #[cycle(judge)]
-    fn arm(&mut self, alloc: Global, b: &Block) -> Result<Stmts, Fault>
+    fn arm(&mut self, alloc: Global, b: &Block) -> Result<Stmts, RefusedUnit>
         requires { AreValued (block b.now) }
         ensures { ReadsArm result self.old self.new (steps_of (block b.now) (at_of self.old)) }
     {
@@ -70,7 +75,7 @@ impl Judge {
 
     // Those behind `else`, where it is written.
     #[cycle(judge)]
-    fn otherwise(&mut self, alloc: Global, no: &Option<Block>) -> Result<Stmts, Fault>
+    fn otherwise(&mut self, alloc: Global, no: &Option<Block>) -> Result<Stmts, RefusedUnit>
         requires { AreValuedOptional (or_unwritten (option_block no.now)) }
         ensures { ReadsArm result self.old self.new (steps_optional (or_unwritten (option_block no.now)) (at_of self.old)) }
     {

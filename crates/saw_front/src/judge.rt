@@ -1,13 +1,13 @@
 // Judges names and numbers, one statement after another.
 ghost use Rattle.std.specs.Prelude.{◌≡◌, ◌<◌};
 ghost use Rattle.saw_model.specs.Elaborate.{counted, find, is_new, slot_of, table_port, nothing_read};
-ghost use Rattle.saw_front.specs.View.{Judges};
+ghost use Rattle.saw_front.specs.View.{Decides};
 ghost use Rattle.saw_front.specs.Judging.{at_of};
 
 use crate::names::{Known, Names};
-use crate::unit_fault::Fault;
 use kern_tables::TableKind;
 use river_base::{MOST_STATEMENTS, Name};
+use saw_model::Fault;
 use std::alloc::Global;
 
 /// What is known where the reading stands, and how many slots, statements and tables there were.
@@ -17,13 +17,6 @@ pub(crate) struct Judge {
     pub(crate) slots: u32,
     pub(crate) size: u32,
     pub(crate) tables: u32,
-}
-
-/// The fault that comes first, and the number of its unit, from 1.
-#[derive(Clone, Copy)]
-pub struct Refusal {
-    pub unit: usize,
-    pub fault: Fault,
 }
 
 impl Judge {
@@ -43,7 +36,7 @@ impl Judge {
 
     /// One statement more.
     pub(crate) fn counted(&mut self) -> Result<(), Fault>
-        ensures judged { Judges (λ _. at_of self.new) result (counted (at_of self.old)) }
+        ensures judged { Decides (λ _. at_of self.new) result (counted (at_of self.old)) }
         ensures names { self.new.names ≡ self.old.names }
     {
         if self.size < MOST_STATEMENTS {
@@ -56,7 +49,7 @@ impl Judge {
 
     /// A name is not known yet.
     pub(crate) fn new_name(&self, name: &Name) -> Result<(), Fault>
-        ensures { Judges (λ u. u) result (is_new (find (at_of self.now).scope name.now)) }
+        ensures { Decides (λ u. u) result (is_new (find (at_of self.now).scope name.now)) }
     {
         match self.names.find(name) {
             None => Ok(()),
@@ -66,7 +59,7 @@ impl Judge {
 
     /// The slot that an assignment sets.
     pub(crate) fn slot_of(&self, name: &Name) -> Result<u32, Fault>
-        ensures { Judges (λ n. n) result (slot_of (find (at_of self.now).scope name.now)) }
+        ensures { Decides (λ n. n) result (slot_of (find (at_of self.now).scope name.now)) }
     {
         match self.names.find(name) {
             Some(Known::Slot(slot)) => Ok(slot),
@@ -76,7 +69,7 @@ impl Judge {
 
     /// The place and the kind of a table.
     pub(crate) fn port_of(&self, name: &Name) -> Result<(u32, TableKind), Fault>
-        ensures { Judges (λ p. p) result (table_port (find (at_of self.now).scope name.now)) }
+        ensures { Decides (λ p. p) result (table_port (find (at_of self.now).scope name.now)) }
     {
         match self.names.find(name) {
             Some(Known::Table { place, kind }) => Ok((place, kind)),

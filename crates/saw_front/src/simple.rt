@@ -12,10 +12,11 @@ ghost use Rattle.saw_front.specs.Valued.{AreValues, AllValues};
 
 use crate::judge::Judge;
 use crate::names::Known;
+use crate::refused::RefusedUnit;
 use crate::term::term;
-use crate::unit_fault::Fault;
 use kern_tables::TableKind;
 use river_base::{MOST_SLOTS, Name};
+use saw_model::Fault;
 use saw_text::Expr as Written;
 use std::alloc::Global;
 use work_code::{Expr, Exprs, Stmt, Stmts};
@@ -39,7 +40,7 @@ impl Judge {
         name: Name,
         value: &Option<Written>,
         out: &mut Stmts,
-    ) -> Result<(), Fault>
+    ) -> Result<(), RefusedUnit>
         requires { AllValues (listed (option_expression value.now)) }
         ensures { Reads result out.old out.new self.old self.new (step_of (Declare name (option_expression value.now)) (at_of self.old)) }
     {
@@ -47,7 +48,7 @@ impl Judge {
         self.new_name(&name)?;
         let slot = self.slots;
         if slot >= MOST_SLOTS {
-            return Err(Fault::Limit);
+            return Err(RefusedUnit::Fault(Fault::Limit));
         }
         let value = self.first_term(alloc, value)?;
         self.slots = slot + 1;
@@ -57,7 +58,7 @@ impl Judge {
     }
 
     // The first value of a local.
-    fn first_term(&self, alloc: Global, value: &Option<Written>) -> Result<Expr, Fault>
+    fn first_term(&self, alloc: Global, value: &Option<Written>) -> Result<Expr, RefusedUnit>
         requires { AllValues (listed (option_expression value.now)) }
         ensures { Judges term result (first_term (option_expression value.now) (at_of self.now).scope) }
     {
@@ -74,7 +75,7 @@ impl Judge {
         name: &Name,
         value: &Written,
         out: &mut Stmts,
-    ) -> Result<(), Fault>
+    ) -> Result<(), RefusedUnit>
         requires { AreValues (expression value.now) }
         ensures { Reads result out.old out.new self.old self.new (step_of (Assign name.now (expression value.now)) (at_of self.old)) }
     {
@@ -94,7 +95,7 @@ impl Judge {
         value: &Written,
         weight: &Option<Written>,
         out: &mut Stmts,
-    ) -> Result<(), Fault>
+    ) -> Result<(), RefusedUnit>
         requires indexes { AllValues (expressions indexes.now) }
         requires value { AreValues (expression value.now) }
         requires weight { AllValues (listed (option_expression weight.now)) }
@@ -116,7 +117,7 @@ impl Judge {
         indexes: &[Written],
         value: &Written,
         weight: &Option<Written>,
-    ) -> Result<Exprs, Fault>
+    ) -> Result<Exprs, RefusedUnit>
         requires indexes { AllValues (expressions indexes.now) }
         requires value { AreValues (expression value.now) }
         requires weight { AllValues (listed (option_expression weight.now)) }
@@ -124,7 +125,7 @@ impl Judge {
     {
         let mut values = self.indexes(alloc, indexes)?;
         if indexes.len() != keys_in(kind) as usize {
-            return Err(Fault::Shape);
+            return Err(RefusedUnit::Fault(Fault::Shape));
         }
         values.push(term(alloc, &self.names, value)?)?;
         if let Some(weight) = self.weight(alloc, kind, weight)? {
@@ -134,14 +135,14 @@ impl Judge {
     }
 
     // The indexes of an emit.
-    fn indexes(&self, alloc: Global, indexes: &[Written]) -> Result<Exprs, Fault>
+    fn indexes(&self, alloc: Global, indexes: &[Written]) -> Result<Exprs, RefusedUnit>
         requires { AllValues (expressions indexes.now) }
         ensures { Judges terms result (indexes_of (at_of self.now).scope 0 (expressions indexes.now)) }
     {
         let mut list = Exprs::new(alloc);
         for i in 0..indexes.len() {
             if i >= 8 {
-                return Err(Fault::Limit);
+                return Err(RefusedUnit::Fault(Fault::Limit));
             }
             list.push(term(alloc, &self.names, &indexes[i])?)?;
         }
@@ -154,7 +155,7 @@ impl Judge {
         alloc: Global,
         kind: TableKind,
         weight: &Option<Written>,
-    ) -> Result<Option<Expr>, Fault>
+    ) -> Result<Option<Expr>, RefusedUnit>
         requires { AllValues (listed (option_expression weight.now)) }
         ensures { Judges option_terms result (weight_of kind (option_expression weight.now) (at_of self.now).scope) }
     {
@@ -165,7 +166,7 @@ impl Judge {
                 weight,
             )?)),
             (TableKind::Sum { .. } | TableKind::Collection { .. }, None) => Ok(None),
-            _ => Err(Fault::Shape),
+            _ => Err(RefusedUnit::Fault(Fault::Shape)),
         }
     }
 }

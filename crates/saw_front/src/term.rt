@@ -7,14 +7,15 @@ ghost use Rattle.saw_front.specs.View.{scope_of, Judges};
 ghost use Rattle.saw_front.specs.Valued.{AreValues};
 
 use crate::names::{Known, Names};
-use crate::unit_fault::Fault;
+use crate::refused::RefusedUnit;
+use saw_model::Fault;
 use saw_text::Expr as Written;
 use std::alloc::Global;
 use work_code::Expr;
 
 // An expression on the fields of a record and the slots, in a box.
 #[cycle(term)]
-fn boxed(alloc: Global, names: &Names, written: &Written) -> Result<Box<Expr>, Fault>
+fn boxed(alloc: Global, names: &Names, written: &Written) -> Result<Box<Expr>, RefusedUnit>
     requires { AreValues (expression written.now) }
     ensures { Judges (λ boxed. term boxed.value) result (term_of (scope_of names.now.items.items) (expression written.now)) }
 {
@@ -23,7 +24,7 @@ fn boxed(alloc: Global, names: &Names, written: &Written) -> Result<Box<Expr>, F
 
 /// An expression on the fields of a record and the slots.
 #[cycle(term)]
-pub(crate) fn term(alloc: Global, names: &Names, written: &Written) -> Result<Expr, Fault>
+pub(crate) fn term(alloc: Global, names: &Names, written: &Written) -> Result<Expr, RefusedUnit>
     requires { AreValues (expression written.now) }
     ensures { Judges term result (term_of (scope_of names.now.items.items) (expression written.now)) }
 {
@@ -31,13 +32,13 @@ pub(crate) fn term(alloc: Global, names: &Names, written: &Written) -> Result<Ex
         Written::Number(value) => Ok(Expr::Const(*value as i64)),
         Written::Name(name) => match names.find(name) {
             Some(Known::Slot(slot)) => Ok(Expr::Slot(slot)),
-            Some(Known::Table { .. }) | None => Err(Fault::UnknownName),
+            Some(Known::Table { .. }) | None => Err(RefusedUnit::Fault(Fault::UnknownName)),
         },
         Written::Input(place) => {
             if *place <= 15 {
                 Ok(Expr::Input(*place))
             } else {
-                Err(Fault::Limit)
+                Err(RefusedUnit::Fault(Fault::Limit))
             }
         }
         Written::Neg(inner) => Ok(Expr::Neg(boxed(alloc, names, inner)?)),

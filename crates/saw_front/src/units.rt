@@ -4,15 +4,16 @@ ghost use Rattle.saw_model.specs.Elaborate.{is_best, table_of, unit_judged as re
 ghost use Rattle.saw_model.specs.Judged.{units_judged};
 ghost use Rattle.saw_model.specs.Meaning.{table_kind_of};
 ghost use Rattle.saw_text.specs.Tree.{unit_form, unit_forms};
-ghost use Rattle.saw_front.specs.View.{Judges};
+ghost use Rattle.saw_front.specs.View.{Decides};
 ghost use Rattle.saw_front.specs.Judging.{at_of, fits_of, kind_within, Reads, ReadsTable, JudgesAll};
 ghost use Rattle.saw_front.specs.Valued.{IsValuedUnit, AreValuedUnits};
 
-use crate::judge::{Judge, Refusal};
+use crate::judge::Judge;
 use crate::names::Known;
-use crate::unit_fault::Fault;
+use crate::refused::{Refused, RefusedUnit};
 use kern_tables::TableKind;
 use river_base::MOST_KEPT;
+use saw_model::{Fault, Refusal};
 use saw_text::{Kind, Table, Unit};
 use std::alloc::Global;
 use work_code::Stmts;
@@ -40,7 +41,7 @@ fn is_best(kind: TableKind) -> bool
 
 // The kind of a table, which is within its limits.
 fn within(table: &Table) -> Result<TableKind, Fault>
-    ensures { Judges (λ k. k) result (kind_within (table_kind_of table.now.kind (length table.now.indexes.items))) }
+    ensures { Decides (λ k. k) result (kind_within (table_kind_of table.now.kind (length table.now.indexes.items))) }
 {
     let Ok(keys) = u32::try_from(table.indexes.len()) else {
         return Err(Fault::Limit);
@@ -55,23 +56,24 @@ fn within(table: &Table) -> Result<TableKind, Fault>
 
 impl Judge {
     /// All units of a program, one after another; their statements are appended.
-    pub fn parts(&mut self, alloc: Global, units: &[Unit], out: &mut Stmts) -> Result<(), Refusal>
+    pub fn parts(&mut self, alloc: Global, units: &[Unit], out: &mut Stmts) -> Result<(), Refused>
         requires { AreValuedUnits (unit_forms units.now) }
         ensures { JudgesAll result out.old out.new self.new (units_judged 1 (unit_forms units.now) (at_of self.old)) }
     {
         for i in 0..units.len() {
             match self.part(alloc, &units[i], out) {
                 Ok(()) => {}
-                Err(fault) => {
-                    return Err(Refusal { unit: i + 1, fault });
+                Err(RefusedUnit::Fault(fault)) => {
+                    return Err(Refused::Program(Refusal { unit: i + 1, fault }));
                 }
+                Err(RefusedUnit::NoMemory) => return Err(Refused::NoMemory),
             }
         }
         Ok(())
     }
 
     // A unit of the program.
-    fn part(&mut self, alloc: Global, unit: &Unit, out: &mut Stmts) -> Result<(), Fault>
+    fn part(&mut self, alloc: Global, unit: &Unit, out: &mut Stmts) -> Result<(), RefusedUnit>
         requires { IsValuedUnit (unit_form unit.now) }
         ensures { Reads result out.old out.new self.old self.new (read_part (unit_form unit.now) (at_of self.old)) }
     {
@@ -82,7 +84,7 @@ impl Judge {
     }
 
     // A table, which is known from here on.
-    fn table(&mut self, table: &Table) -> Result<(), Fault>
+    fn table(&mut self, table: &Table) -> Result<(), RefusedUnit>
         ensures { ReadsTable result self.old self.new
             (table_of table.now.name (table_kind_of table.now.kind (length table.now.indexes.items)) (at_of self.old)) }
     {
@@ -97,7 +99,7 @@ impl Judge {
 
     // The kind of a table whose name is new, where there may be one more.
     fn fits(&self, table: &Table) -> Result<TableKind, Fault>
-        ensures judged { Judges (λ k. k) result (fits_of (at_of self.now) table.now.name (table_kind_of table.now.kind (length table.now.indexes.items))) }
+        ensures judged { Decides (λ k. k) result (fits_of (at_of self.now) table.now.name (table_kind_of table.now.kind (length table.now.indexes.items))) }
         ensures few { OnOk result (self.now.tables < 64) }
     {
         self.new_name(&table.name)?;

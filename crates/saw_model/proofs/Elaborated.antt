@@ -23,7 +23,9 @@ use Rattle.brooklet_model.specs.Machine.{at_name}
 use Rattle.saw_text.specs.Tree.{Expression}
 use Rattle.saw_text.specs.Tree as tree
 use Rattle.saw_model.specs.Meaning.{Store, eval, Emitted, State, eval_or, eval_all, listed, reach, reach_all}
-use Rattle.saw_model.specs.Elaborate.{Fault, Limit, on_ok, demand, KnownName, Var, Port, Scope, find, named, term_of, At, counted, first_term, indexes_of}
+use Rattle.saw_model.specs.declared.fault.Fault.{Fault}
+use Rattle.saw_model.specs.declared.fault.Fault.TheVariants.{Limit}
+use Rattle.saw_model.specs.Elaborate.{on_ok, demand, KnownName, Var, Port, Scope, find, named, term_of, At, counted, first_term, indexes_of}
 use Rattle.saw_model.specs.Elaborate.{weight_of}
 
 -- ANSWERS

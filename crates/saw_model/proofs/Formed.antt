@@ -24,7 +24,8 @@ use Rattle.saw_text.specs.Tree.{Statement, Declare, Assign, Emit, If, Block, End
 use Rattle.saw_model.specs.Meaning.{tables_in, listed, emit_row, reach, table_kind, table_decl}
 use Rattle.saw_model.specs.Meaning.{reach_all, reach_statement, reach_block, reach_optional, reach_parts}
 use Rattle.saw_model.specs.Shallow.{IsLow, AreLow, IsShallow, AreShallow, AreShallowOptional, AreShallowUnits}
-use Rattle.saw_model.specs.Elaborate.{Limit, on_ok, KnownName, Var, Port, Scope, find, named, term_of, At, first_term, indexes_of, keys_in, weight_of}
+use Rattle.saw_model.specs.declared.fault.Fault.TheVariants.{Limit}
+use Rattle.saw_model.specs.Elaborate.{on_ok, KnownName, Var, Port, Scope, find, named, term_of, At, first_term, indexes_of, keys_in, weight_of}
 use Rattle.saw_model.specs.Elaborate.{step_of, steps_of, steps_optional, unit_judged}
 use Rattle.saw_model.proofs.Elaborated.{fine, ok_is, ok_parts, if_ok, if_both, IsSound, ArePorts, more_slots, sound_port, one_more}
 use Rattle.saw_model.proofs.Statements.{second_at, declared_parts, assigned_parts, sent_parts, forked_parts, followed_parts, grows, grows_all, grows_optional}

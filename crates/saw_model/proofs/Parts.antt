@@ -17,9 +17,11 @@ use Rattle.river_plan.specs.declared.plan.TableDecl.{TableDecl}
 use Rattle.river_plan.proofs.NameLemmas.{name_same, cases_name}
 use Rattle.saw_text.specs.Tree.{UnitForm, TableUnit, StatementUnit, Program}
 use Rattle.saw_model.specs.Meaning.{tables_in, State, exec, exec_units, fresh_state, emits, reach_statement, reach_parts, table_kind, table_decl}
-use Rattle.saw_model.specs.Elaborate.{Limit, on_ok, demand, KnownName, Var, Port, Scope, find, At, is_new, keys_in, Read, is_best, tabled, table_of}
+use Rattle.saw_model.specs.declared.fault.Fault.TheVariants.{Limit}
+use Rattle.saw_model.specs.declared.fault.Refusal.{Refusal}
+use Rattle.saw_model.specs.Elaborate.{on_ok, demand, KnownName, Var, Port, Scope, find, At, is_new, keys_in, Read, is_best, tabled, table_of}
 use Rattle.saw_model.specs.Elaborate.{unit_judged, nothing_read}
-use Rattle.saw_model.specs.Judged.{Refusal, on_fine, in_unit, units_judged}
+use Rattle.saw_model.specs.Judged.{on_fine, in_unit, units_judged}
 use Rattle.saw_model.proofs.Elaborated.{fine, ok_is, ok_parts, demanded, found_here, found_other, Agrees, ArePorts, Keeps, keeps_new, sound_port, Matches}
 use Rattle.saw_model.proofs.Elaborated.{met_more, none_met}
 use Rattle.saw_model.proofs.Statements.{new_is, grows, met, Ready, MetBy, ready_after}

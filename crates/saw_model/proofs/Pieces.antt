@@ -22,9 +22,12 @@ use Rattle.saw_text.specs.Tree as tree
 use Rattle.saw_text.specs.Tree.{TableUnit, StatementUnit, Program}
 use Rattle.saw_model.specs.Meaning.{tables_in, width, table_kind, table_kind_of, table_decl, program_tables, eval_all, emit_row, Store, Emitted, emits, rows_for}
 use Rattle.saw_model.specs.Meaning.{fresh_state, reach_all}
-use Rattle.saw_model.specs.Elaborate.{Fault, Limit, Shape, on_ok, demand, Port, Scope, find, term_of, At, keys_in, is_best, table_of, nothing_read}
+use Rattle.saw_model.specs.declared.fault.Fault.{Fault}
+use Rattle.saw_model.specs.declared.fault.Fault.TheVariants.{Limit, Shape}
+use Rattle.saw_model.specs.declared.fault.Refusal.{Refusal}
+use Rattle.saw_model.specs.Elaborate.{on_ok, demand, Port, Scope, find, term_of, At, keys_in, is_best, table_of, nothing_read}
 use Rattle.saw_model.specs.Elaborate.{indexes_of, weight_of, emitted, step_of, table_port, unit_judged, Read}
-use Rattle.saw_model.specs.Judged.{judged, in_unit, on_fine, units_judged, Refusal}
+use Rattle.saw_model.specs.Judged.{judged, in_unit, on_fine, units_judged}
 use Rattle.saw_model.specs.Pieces.{all_unnamed, written_kind, merge_table, fields_from, read_weight, merge_emit, merge_program, IsMergeProgram}
 use Rattle.saw_model.specs.Pieces.{TablesHaveMergePrograms, Answer, first_table, other_tables, IsMergedBy, AtOnce, InPieces, InOrder, AreMergedBy, PiecesMerge, merged, PiecesMergeAtOnce}
 use Rattle.saw_model.proofs.Elaborated.{fine, found_here, one_more}

@@ -18,7 +18,8 @@ use Rattle.saw_text.specs.Tree.{Expression}
 use Rattle.saw_text.specs.Tree.{Statement, Declare, Assign, Emit, If, Block, End, Then, Optional, Unwritten, Written}
 use Rattle.saw_model.specs.Meaning.{eval, State, eval_or, eval_all, listed, emit_row, exec, exec_block, exec_optional, reach}
 use Rattle.saw_model.specs.Meaning.{reach_all, reach_statement, reach_block, reach_optional}
-use Rattle.saw_model.specs.Elaborate.{Shape, Limit, on_ok, demand, has_slot, KnownName, Var, Port, Scope, find, term_of, At, is_new, slot_of, table_port, first_term}
+use Rattle.saw_model.specs.declared.fault.Fault.TheVariants.{Shape, Limit}
+use Rattle.saw_model.specs.Elaborate.{on_ok, demand, has_slot, KnownName, Var, Port, Scope, find, term_of, At, is_new, slot_of, table_port, first_term}
 use Rattle.saw_model.specs.Elaborate.{indexes_of, keys_in, weight_of, Read, declared, emitted, step_of, steps_of, steps_optional}
 use Rattle.saw_model.proofs.Elaborated.{fine, ok_is, ok_parts, demanded, room_for, found_here, found_other, Agrees, IsSound, ArePorts, Keeps, agrees_within}
 use Rattle.saw_model.proofs.Elaborated.{more_slots, keeps_new, sound_var, ports_var, agrees_set, term_is, vals, first_is, indexes_are, weight_is}

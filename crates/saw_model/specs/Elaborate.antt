@@ -12,14 +12,9 @@ use Rattle.river_plan.specs.Forms.{Name}
 use Rattle.saw_text.specs.Tree.{Expression}
 use Rattle.saw_text.specs.Tree as tree
 use Rattle.saw_text.specs.Tree.{Statement, Declare, Assign, Emit, If, Block, End, Then, Optional, Unwritten, Written, UnitForm, TableUnit, StatementUnit}
+use Rattle.saw_model.specs.declared.fault.Fault.{Fault}
+use Rattle.saw_model.specs.declared.fault.Fault.TheVariants.{UnknownName, NameTwice, Shape, Limit}
 use Rattle.saw_model.specs.Meaning.{table_kind}
-
--- why a program is refused
-pub data Fault : Type 0 where
-  UnknownName : Fault
-  NameTwice : Fault
-  Shape : Fault
-  Limit : Fault
 
 -- what f gives for the value that is there
 abbrev pub on_ok : {A B : Type 0} → Result A Fault → (A → Result B Fault) → Result B Fault

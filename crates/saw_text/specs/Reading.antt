@@ -3,7 +3,8 @@ use Rattle.std.specs.Prelude.{ℕ, List, [], ◌∷◌, Option, None, Result, co
 use Rattle.std.specs.Str.{bytes_eq}
 use Rattle.text_tokens.specs.Tok.{Tok}
 use Rattle.text_tokens.specs.declared.sign.Symbol.TheVariants as s
-use Rattle.text_forms.specs.Texts.{read_units}
+use Rattle.text_forms.specs.AllUnits.{all_units, by_units, text_by}
+use Rattle.text_forms.specs.declared.text_fault.TextFault.{TextFault}
 use Rattle.text_forms.specs.Parse.{Parse, begins_with, is_word_at, count_at, nothing_at, both, after, before, after_word, tested, seen, merged, maybe}
 use Rattle.text_forms.specs.Parse.{many, headed}
 use Rattle.saw_text.specs.declared.tree.Kind.{Kind}
@@ -14,7 +15,7 @@ use Rattle.text_blocks.specs.Parts.{round_at, square_at}
 use Rattle.saw_text.specs.Blocks.{no_bracket, declare_at, assign_at, style}
 use Rattle.saw_text.specs.Words.{is_user}
 use Rattle.saw_text.specs.Tree.{TableForm, UnitForm, TableUnit, StatementUnit}
-use Rattle.saw_text.specs.Grammar.{nameless, field_named, is_fitting, made_table, next_unit}
+use Rattle.saw_text.specs.Grammar.{nameless, field_named, is_fitting, made_table}
 
 -- TABLES
 
@@ -86,4 +87,8 @@ unit_from u = unit_at
 
 -- the units of a text
 abbrev pub units_in : List (List Tok) → Result (List UnitForm) ℕ
-units_in us = read_units unit_from next_unit tt 1 us
+units_in us = all_units unit_at us
+
+-- what is read of a text
+abbrev pub program_in : List ℕ → Result (List UnitForm) TextFault
+program_in text = text_by (by_units units_in) text

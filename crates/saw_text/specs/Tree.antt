@@ -11,6 +11,7 @@ use Rattle.saw_text.specs.declared.tree.Statement.TheOpen as layer
 use Rattle.saw_text.specs.declared.tree.Statement.{fold-Statement}
 use Rattle.saw_text.specs.declared.tree.Block as made_block
 use Rattle.saw_text.specs.declared.tree.Block.{fold-Block}
+use Rattle.saw_text.specs.declared.tree.SawProgram.{SawProgram}
 use Rattle.saw_text.specs.declared.tree.Kind.{Kind}
 use Rattle.saw_text.specs.declared.tree.Field.{Field}
 use Rattle.saw_text.specs.declared.tree.Table as made_table
@@ -117,3 +118,6 @@ unit_form (unit_of.Statement s) = StatementUnit (statement s)
 
 abbrev pub unit_forms : List unit.Unit → Program
 unit_forms us = map unit_form us
+
+abbrev pub program_of : SawProgram → Program
+program_of p = unit_forms p.units.items

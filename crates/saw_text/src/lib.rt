@@ -1,4 +1,4 @@
-//! Sawzall programs as they are written: the grammar, and the code that reads programs from tokens.
+//! Sawzall programs as they are written: the grammar, and the code that reads programs from texts.
 #![tactic(auto)]
 
 pub mod laws;
@@ -11,4 +11,4 @@ mod tree;
 mod unit;
 
 pub use read::read_sawzall;
-pub use tree::{Block, Expr, Field, Kind, Statement, Table, Unit};
+pub use tree::{Block, Expr, Field, Kind, SawProgram, Statement, Table, Unit};

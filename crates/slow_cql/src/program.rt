@@ -12,7 +12,7 @@ use crate::answer::{answer, names};
 use crate::kept::{Kept, declare};
 use crate::names::add_names;
 use brooklet_step::{Lines, Outcome, Tables};
-use cql_text::{CqlProgram, Unit, Query, Stream};
+use cql_text::{CqlProgram, Query, Stream, Unit};
 use csv_streams::{instants, spread};
 use kern_rows::ItemLine;
 use river_base::{Items, Listed, NoMemory, Numbers, TimedFiles, TimedRows};

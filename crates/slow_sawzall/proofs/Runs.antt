@@ -16,7 +16,7 @@ use Rattle.saw_text.specs.declared.tree.Unit as unit
 use Rattle.saw_text.specs.Tree.{expression as spoken, statement, in_turn, unit_form, unit_forms}
 use Rattle.saw_text.specs.View.{expressions}
 use Rattle.saw_front.specs.Valued.{AreValues, AllValues}
-use Rattle.saw_front.proofs.Units.{parts_at, parts_none}
+use Rattle.saw_front.proofs.JudgedUnits.{parts_at, parts_none}
 use Rattle.slow_sawzall.specs.declared.run.Run.{Run}
 use Rattle.slow_sawzall.specs.Sawzall.{named_values, run_state, do_part, AreRunnable, IsRunnable, IsRunnablePart, AreRunnableParts}
 

@@ -16,7 +16,7 @@ use Rattle.saw_text.specs.Tree.{UnitForm, TableUnit, StatementUnit, Program}
 use Rattle.saw_model.specs.Meaning.{Emitted, rows_for}
 use Rattle.saw_text.specs.declared.tree.Unit as unit
 use Rattle.saw_text.specs.Tree.{unit_form, unit_forms}
-use Rattle.saw_front.proofs.Units.{parts_at, parts_none}
+use Rattle.saw_front.proofs.JudgedUnits.{parts_at, parts_none}
 use Rattle.slow_sawzall.specs.Sawzall.{tables_for, AreAllWide, IsWideFor, AreWideFor}
 
 -- ONE TABLE

@@ -21,7 +21,8 @@ use Rattle.saw_text.specs.Tree.{Expression}
 use Rattle.saw_text.specs.Tree.{Statement, Declare, Assign, Emit, If, Block, End, Then, Optional, Unwritten, Written, TableUnit, StatementUnit, Program}
 use Rattle.saw_model.specs.Meaning.{tables_in, eval, eval_all, Emitted, State, table_kind, table_decl}
 use Rattle.saw_model.specs.Meaning.{emit_row, listed, exec, exec_block, exec_optional, exec_units, fresh_state, emits, rows_for}
-use Rattle.saw_model.specs.Elaborate.{Limit, on_ok, Scope, term_of, At, indexes_of, keys_in, weight_of, step_of, steps_of, steps_optional, nothing_read}
+use Rattle.saw_model.specs.declared.fault.Fault.TheVariants.{Limit}
+use Rattle.saw_model.specs.Elaborate.{on_ok, Scope, term_of, At, indexes_of, keys_in, weight_of, step_of, steps_of, steps_optional, nothing_read}
 use Rattle.saw_model.proofs.Elaborated.{fine, ok_parts, if_both, ArePorts, one_more}
 use Rattle.saw_model.proofs.Fed.{AreOnce, one_place}
 use Rattle.saw_model.proofs.Parts.{parts_read, reads_parts, tabled_parts, split_parts, tables_once, ports_new}

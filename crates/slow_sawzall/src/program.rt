@@ -3,7 +3,7 @@ ghost use Rattle.std.specs.Prelude.{◌≡◌, [], ◌∷◌, ◌++◌, map, IfO
 ghost use Rattle.kern_tables.specs.Tables.{tab, table_width};
 ghost use Rattle.kern_tables.specs.Kept.{kept_of, rows_of, width_of_table, kind_of_table as kind_kept};
 ghost use Rattle.saw_model.specs.Meaning.{table_kind_of, rows_for, program_tables};
-ghost use Rattle.saw_text.specs.Tree.{unit_form, unit_forms};
+ghost use Rattle.saw_text.specs.Tree.{unit_form, unit_forms, program_of};
 ghost use Rattle.saw_front.specs.Valued.{AreValuedUnits};
 ghost use Rattle.slow_sawzall.specs.Sawzall.{IsAccepted, tables_for, AreAllWide, IsWideFor, AreWideFor};
 
@@ -11,8 +11,7 @@ use crate::run::Run;
 use brooklet_step::{Lines, Outcome, Tables};
 use kern_tables::{Table, TableKind};
 use river_base::{Name, NoMemory, Numbers, Row, Rows};
-use saw_front::SawProgram;
-use saw_text::{Kind, Unit};
+use saw_text::{Kind, SawProgram, Unit};
 use std::alloc::Global;
 
 /// What a program that is accepted means for these records, by its language's own definition.
@@ -21,10 +20,10 @@ use std::alloc::Global;
 ///
 /// `NoMemory` where there is no memory.
 pub fn mean_sawzall(alloc: Global, program: &SawProgram, rows: &Rows) -> Result<Outcome, NoMemory>
-    requires accepted { IsAccepted (unit_forms program.now.units.items) }
-    requires valued { AreValuedUnits (unit_forms program.now.units.items) }
+    requires accepted { IsAccepted (program_of program.now) }
+    requires valued { AreValuedUnits (program_of program.now) }
     ensures outs { IfOk result (λ outcome. outcome.outs ≡ []) }
-    ensures tables { IfOk result (λ outcome. map rows_of outcome.tables ≡ program_tables (unit_forms program.now.units.items) rows.now) }
+    ensures tables { IfOk result (λ outcome. map rows_of outcome.tables ≡ program_tables (program_of program.now) rows.now) }
     ensures counts { IfOk result (λ outcome. outcome.counts ≡ []) }
 {
     let tables = meant_tables(alloc, program.units.as_slice(), rows)?;

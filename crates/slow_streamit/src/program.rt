@@ -13,8 +13,7 @@ use brooklet_step::{Lines, Outcome, Tables};
 use kern_rows::ItemLine;
 use river_base::{Flat, Item, Items, Listed, Name, NoMemory, Numbers, Row};
 use std::alloc::Global;
-use streamit_front::StreamitProgram;
-use streamit_text::{Adds, Body, RoundRobin, Split, SplitJoin, Unit};
+use streamit_text::{Adds, Body, RoundRobin, Split, SplitJoin, StreamitProgram, Unit};
 
 /// What a program means by the definition of StreamIt for these values of its input: the items of its output. There are no
 /// tables, and no firings are counted.

@@ -6,10 +6,11 @@ use Rattle.std.specs.List.{AllByRecursion}
 use Rattle.river_plan.specs.Forms.{Name}
 use Rattle.streamit_model.specs.Unrolled.{Stream, Streams, Last, Then, nesting, deepest}
 use Rattle.streamit_model.specs.Plan.{ops_in, ops_of}
-use Rattle.streamit_model.specs.Elaborate.{Fault, on_ok}
+use Rattle.streamit_model.specs.Elaborate.{on_ok}
+use Rattle.streamit_model.specs.declared.fault.Fault.{Fault}
 use Rattle.streamit_model.specs.Judged.{Streamed, stream_added, streams_added}
-use Rattle.streamit_unroll.specs.declared.fault.Fault as fault
-use Rattle.streamit_unroll.specs.View.{Tells}
+use Rattle.streamit_unroll.specs.declared.refused.RefusedUnit.{RefusedUnit}
+use Rattle.streamit_unroll.specs.View.{IsWhyUnit}
 use Rattle.streamit_unroll.proofs.SoFar.{tells_more}
 use Rattle.streamit_build.specs.declared.streams.Entry.{Entry}
 use Rattle.streamit_build.specs.declared.streams.Children.{Children}
@@ -135,8 +136,8 @@ adds_next us may known whole i m ms c c' k f (s, e, h) fr la op de =
 
 -- a stream that is refused
 pub adds_fault : (us : List DeclaredForm) (may : ℕ → Bool) (known : Streamed) (whole : Result Streams Fault) (i : ℕ) (m : Name) (ms : List Name) (c : Children)
-    (f : fault.Fault)
-    → SoFar us may known whole i (m ∷ ms) c → Tells f (stream_added may known (i + 1) m) → Tells f whole
+    (f : RefusedUnit)
+    → SoFar us may known whole i (m ∷ ms) c → IsWhyUnit f (stream_added may known (i + 1) m) → IsWhyUnit f whole
 adds_fault us may known whole i m ms c f s h =
     tells_more f (stream_added may known (i + 1) m) whole
     (λ g e. s.whole_is ∙ ap (λ r. onto s.prior (on_ok r (λ ss. fine (Then s.last ss))))
@@ -144,8 +145,8 @@ adds_fault us may known whole i m ms c f s h =
     h
 
 -- the first one is refused
-pub first_fault : (may : ℕ → Bool) (known : Streamed) (n : Name) (ms : List Name) (f : fault.Fault) → Tells f (stream_added may known 0 n)
-    → Tells f (streams_added may known 0 n ms)
+pub first_fault : (may : ℕ → Bool) (known : Streamed) (n : Name) (ms : List Name) (f : RefusedUnit) → IsWhyUnit f (stream_added may known 0 n)
+    → IsWhyUnit f (streams_added may known 0 n ms)
 first_fault may known n ms f h = tells_more f (stream_added may known 0 n) (streams_added may known 0 n ms) (λ g e. streams_err may known 0 n ms g e) h
 
 -- all streams

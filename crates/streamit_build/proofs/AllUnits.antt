@@ -1,30 +1,24 @@
 -- Units that are judged one after another.
 use Rattle.std.proofs.Common.{◌≡◌, ℕ, suc, ◌+◌, [], ◌∷◌, Result, Ok, Err, refl, sym, ap, ◌∙◌, add-one}
-use Rattle.streamit_model.specs.Elaborate as spec
 use Rattle.streamit_text.specs.Program.{UnitForm, Program}
-use Rattle.streamit_model.specs.Judged.{Refusal, Streamed, in_unit, unit_of, all_streams}
-use Rattle.streamit_unroll.specs.declared.fault.Fault as fault
-use Rattle.streamit_unroll.specs.declared.fault.Fault.TheVariants as faults
-use Rattle.streamit_unroll.specs.View.{Tells}
+use Rattle.streamit_model.specs.Judged.{Streamed, in_unit, unit_of, all_streams}
+use Rattle.streamit_model.specs.declared.fault.Fault.{Fault}
+use Rattle.streamit_model.specs.declared.fault.Refusal.{Refusal}
+use Rattle.streamit_unroll.specs.declared.refused.RefusedUnit.{RefusedUnit}
+use Rattle.streamit_unroll.specs.declared.refused.RefusedUnit.TheVariants as of_unit
+use Rattle.streamit_unroll.specs.View.{IsWhyUnit}
 use Rattle.streamit_build.specs.declared.streams.Known.{Known}
 use Rattle.streamit_build.specs.Knowing.{Knows, Declares}
-use Rattle.streamit_build.specs.Told.{refused, Told, JudgesAll}
+use Rattle.streamit_build.specs.Planned.{IsWhyRefused, refused_in, JudgesAll}
 
 abbrev took : {A : Type 0} → A → Result A Refusal
 took x = Ok x
 
 -- the fault of a unit is the program's
-told_more : {A B : Type 0} (k : ℕ) (f : fault.Fault) (r : Result A spec.Fault) (r' : Result B Refusal) → ((g : spec.Fault) → r ≡ Err g → r' ≡ refused k g)
-    → Tells f r → Told k f r'
-told_more k faults.UnknownName r r' h e = h spec.UnknownName e
-told_more k faults.NameTwice r r' h e = h spec.NameTwice e
-told_more k (faults.Rates d c) r r' h e = h (spec.Rates d c) e
-told_more k (faults.PeekRange i p) r r' h e = h (spec.PeekRange i p) e
-told_more k faults.NotConstant r r' h e = h spec.NotConstant e
-told_more k faults.BranchRates r r' h e = h spec.BranchRates e
-told_more k faults.Limit r r' h e = h spec.Limit e
-told_more k faults.Weights r r' h e = h spec.Weights e
-told_more k faults.NoMemory r r' h e = tt
+unit_told : {A B : Type 0} (k : ℕ) (f : RefusedUnit) (r : Result A Fault) (r' : Result B Refusal)
+    → ((g : Fault) → r ≡ Err g → r' ≡ Err (record { unit = k; fault = g })) → IsWhyUnit f r → IsWhyRefused r' (refused_in k f)
+unit_told k (of_unit.Fault f) r r' h e = h f e
+unit_told k of_unit.NoMemory r r' h e = tt
 
 -- so far: what is known now, and that the whole is what is judged from here on
 pub record Judging (whole : Result Streamed Refusal) (k : ℕ) (rest : Program) (now : Known) : Type 0 where
@@ -48,11 +42,11 @@ judging_next whole i u us now next j (s, e, k) = record {
 }
 
 -- a unit that is refused
-pub judging_fault : (whole : Result Streamed Refusal) (i : ℕ) (u : UnitForm) (us : Program) (now next : Known) (f : fault.Fault)
+pub judging_fault : (whole : Result Streamed Refusal) (i : ℕ) (u : UnitForm) (us : Program) (now next : Known) (f : RefusedUnit)
     (j : Judging whole (i + 1) (u ∷ us) now)
-    → Tells f (unit_of j.known u) → Told (i + 1) f whole
+    → IsWhyUnit f (unit_of j.known u) → IsWhyRefused whole (refused_in (i + 1) f)
 judging_fault whole i u us now next f j h =
-    told_more (i + 1) f (unit_of j.known u) whole
+    unit_told (i + 1) f (unit_of j.known u) whole
     (λ g e. j.whole_is ∙ ap (λ r. in_unit (i + 1) r (λ s. all_streams (suc (i + 1)) ((u.name, s) ∷ j.known) us)) e) h
 
 -- all units

@@ -9,13 +9,14 @@ use Rattle.kern_rows.specs.Forms.{FilterForm}
 use Rattle.river_plan.specs.Forms.{Name}
 use Rattle.streamit_model.specs.Unrolled.{Splitter, Stream, Streams, Filter, Pipeline, SplitJoin, nesting}
 use Rattle.streamit_model.specs.Plan.{ops_in}
-use Rattle.streamit_model.specs.Elaborate.{Fault, on_ok}
+use Rattle.streamit_model.specs.Elaborate.{on_ok}
+use Rattle.streamit_model.specs.declared.fault.Fault.{Fault}
 use Rattle.streamit_text.specs.Program.{FilterTree, Dealing, Adds, AFilter, APipeline, ASplitJoin}
 use Rattle.streamit_model.specs.ElaborateFilter.{elaborated}
 use Rattle.streamit_model.specs.Meaning.{branch_count}
 use Rattle.streamit_model.specs.Judged.{Streamed, any, branches, round_of, splitter_of, streams_added, stream_of}
-use Rattle.streamit_unroll.specs.declared.fault.Fault as fault
-use Rattle.streamit_unroll.specs.View.{Tells}
+use Rattle.streamit_unroll.specs.declared.refused.RefusedUnit.{RefusedUnit}
+use Rattle.streamit_unroll.specs.View.{IsWhyUnit}
 use Rattle.streamit_unroll.proofs.SoFar.{tells_more}
 use Rattle.streamit_build.specs.declared.streams.Children.{Children}
 use Rattle.streamit_build.specs.declared.streams.Known.{Known}
@@ -26,7 +27,7 @@ use Rattle.streamit_build.proofs.Added.{fine}
 use Rattle.streamit_build.proofs.Knowing.{trees_kept}
 
 -- a fault stays the fault of what is made of the value
-pub tells_on : {A B : Type 0} (f : fault.Fault) (r : Result A Fault) (k : A → Result B Fault) → Tells f r → Tells f (on_ok r k)
+pub tells_on : {A B : Type 0} (f : RefusedUnit) (r : Result A Fault) (k : A → Result B Fault) → IsWhyUnit f r → IsWhyUnit f (on_ok r k)
 tells_on f r k h = tells_more f r (on_ok r k) (λ g e. ap (λ x. on_ok x k) e) h
 
 -- what a call ensures of every stream: that it is known besides
@@ -109,15 +110,15 @@ split_declared old new d name g a ws vs sp c ops depth ss known e op dp made k h
     )
 
 -- the faults of a split-join: of its splitter, its branches, its joiner
-pub split_fault : (f : fault.Fault) (known : Streamed) (name : Name) (g : Dealing) (a : Adds) (ws : Option (List ℕ)) → Tells f (splitter_of g (branch_count a))
-    → Tells f (stream_of known name (ASplitJoin g a ws))
+pub split_fault : (f : RefusedUnit) (known : Streamed) (name : Name) (g : Dealing) (a : Adds) (ws : Option (List ℕ)) → IsWhyUnit f (splitter_of g (branch_count a))
+    → IsWhyUnit f (stream_of known name (ASplitJoin g a ws))
 split_fault f known name g a ws h =
     tells_on f (splitter_of g (branch_count a))
     (λ p. on_ok (streams_added branches known 0 a.first a.others) (λ ss. on_ok (round_of ws (branch_count a)) (λ vs. fine (SplitJoin p ss vs)))) h
 
 -- that of its branches
-pub branch_fault : (f : fault.Fault) (known : Streamed) (name : Name) (g : Dealing) (a : Adds) (ws : Option (List ℕ)) (sp : Splitter)
-    → splitter_of g (branch_count a) ≡ Ok sp → Tells f (streams_added branches known 0 a.first a.others) → Tells f (stream_of known name (ASplitJoin g a ws))
+pub branch_fault : (f : RefusedUnit) (known : Streamed) (name : Name) (g : Dealing) (a : Adds) (ws : Option (List ℕ)) (sp : Splitter)
+    → splitter_of g (branch_count a) ≡ Ok sp → IsWhyUnit f (streams_added branches known 0 a.first a.others) → IsWhyUnit f (stream_of known name (ASplitJoin g a ws))
 branch_fault f known name g a ws sp hs h =
     let n = branch_count a in
     let f2 = λ (p : Splitter) (ss : Streams). on_ok (round_of ws n) (λ vs. fine (SplitJoin p ss vs)) in
@@ -126,9 +127,9 @@ branch_fault f known name g a ws sp hs h =
     (λ e he. ap (λ r. on_ok r f1) hs ∙ ap (λ r. on_ok r (f2 sp)) he) h
 
 -- that of its joiner
-pub join_fault : (f : fault.Fault) (known : Streamed) (name : Name) (g : Dealing) (a : Adds) (ws : Option (List ℕ)) (sp : Splitter) (ss : Streams)
-    → splitter_of g (branch_count a) ≡ Ok sp → streams_added branches known 0 a.first a.others ≡ Ok ss → Tells f (round_of ws (branch_count a))
-    → Tells f (stream_of known name (ASplitJoin g a ws))
+pub join_fault : (f : RefusedUnit) (known : Streamed) (name : Name) (g : Dealing) (a : Adds) (ws : Option (List ℕ)) (sp : Splitter) (ss : Streams)
+    → splitter_of g (branch_count a) ≡ Ok sp → streams_added branches known 0 a.first a.others ≡ Ok ss → IsWhyUnit f (round_of ws (branch_count a))
+    → IsWhyUnit f (stream_of known name (ASplitJoin g a ws))
 join_fault f known name g a ws sp ss hs hb h =
     let n = branch_count a in
     let f2 = λ (p : Splitter) (ss : Streams). on_ok (round_of ws n) (λ vs. fine (SplitJoin p ss vs)) in

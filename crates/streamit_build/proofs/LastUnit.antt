@@ -2,18 +2,20 @@
 use Rattle.std.proofs.Common.{◌≡◌, ℕ, suc, ◌-◌, ◌<◌, ◌≤◌, Bool, true, false, List, [], ◌∷◌, length, map, Result, Ok, Err, refl, sym, ap, ◌∙◌, arith, nat_le}
 use Rattle.std.specs.Prelude.{slice_index_or}
 use Rattle.river_base.proofs.Tests.{le_true}
-use Rattle.river_plan.specs.Forms.{Name}
+use Rattle.river_plan.specs.Forms.{Name, plan_form}
 use Rattle.river_plan.specs.declared.plan.RawPlan.{RawPlan}
-use Rattle.streamit_model.specs.Elaborate as spec
+use Rattle.streamit_model.specs.Elaborate.{demand}
 use Rattle.streamit_model.specs.Unrolled.{Stream}
 use Rattle.streamit_model.specs.Plan.{ops_in}
 use Rattle.streamit_text.specs.Program.{UnitForm, Program, unit_form, unit_forms}
-use Rattle.streamit_model.specs.Judged.{Refusal, Streamed, on_fine, in_unit, unit_of, all_streams, few_operators, judged}
-use Rattle.streamit_unroll.specs.declared.fault.Fault as fault
-use Rattle.streamit_unroll.specs.declared.fault.Fault.TheVariants as faults
-use Rattle.streamit_build.specs.declared.judge.Refusal as code
+use Rattle.streamit_model.specs.Judged.{Streamed, on_fine, in_unit, unit_of, all_streams, few_operators, judged}
+use Rattle.streamit_model.specs.declared.fault.Fault.{Fault}
+use Rattle.streamit_model.specs.declared.fault.Fault.TheVariants.{Limit}
+use Rattle.streamit_model.specs.declared.fault.Refusal.{Refusal}
+use Rattle.streamit_build.specs.declared.planning.Refused.{Refused}
+use Rattle.streamit_build.specs.declared.planning.Refused.TheVariants as refused
 use Rattle.streamit_text.specs.declared.program.Unit as code_unit
-use Rattle.streamit_build.specs.Told.{refused, Told, few_in, PlansLast, PlansBy}
+use Rattle.streamit_build.specs.Planned.{IsWhyRefused, few_in, PlansLast, PlansBy}
 
 -- a result without a refusal
 abbrev pub took : {A : Type 0} → A → Result A Refusal
@@ -22,23 +24,16 @@ took x = Ok x
 took_is : {A : Type 0} (x y : A) → took x ≡ took y → x ≡ y
 took_is x y h = cc
 
-unit_parts : {A B : Type 0} (k : ℕ) (r : Result A spec.Fault) (f : A → Result B Refusal) (y : B) → in_unit k r f ≡ took y
+unit_parts : {A B : Type 0} (k : ℕ) (r : Result A Fault) (f : A → Result B Refusal) (y : B) → in_unit k r f ≡ took y
     → (x : A) × (r ≡ Ok x) × (f x ≡ took y)
 unit_parts k (Ok x) f y h = (x, refl, h)
 unit_parts k (Err e) f y h = absurd (cc h)
 
--- a fault of a program is one of another
-told_on : {A B : Type 0} (k : ℕ) (f : fault.Fault) (r : Result A Refusal) (r' : Result B Refusal) → ((g : spec.Fault) → r ≡ refused k g → r' ≡ refused k g)
-    → Told k f r → Told k f r'
-told_on k faults.UnknownName r r' h e = h spec.UnknownName e
-told_on k faults.NameTwice r r' h e = h spec.NameTwice e
-told_on k (faults.Rates d c) r r' h e = h (spec.Rates d c) e
-told_on k (faults.PeekRange i p) r r' h e = h (spec.PeekRange i p) e
-told_on k faults.NotConstant r r' h e = h spec.NotConstant e
-told_on k faults.BranchRates r r' h e = h spec.BranchRates e
-told_on k faults.Limit r r' h e = h spec.Limit e
-told_on k faults.Weights r r' h e = h spec.Weights e
-told_on k faults.NoMemory r r' h e = tt
+-- why a program is refused is why another is
+refused_on : {A B : Type 0} (e : Refused) (r : Result A Refusal) (r' : Result B Refusal) → ((g : Refusal) → r ≡ Err g → r' ≡ Err g)
+    → IsWhyRefused r e → IsWhyRefused r' e
+refused_on (refused.Program g) r r' h is = h g is
+refused_on refused.NoMemory r r' h is = tt
 
 abbrev last_unit : UnitForm → Program → UnitForm
 last_unit u [] = u
@@ -83,7 +78,7 @@ judged_ok : (p : Program) (name : Name) (s : Stream) (others : Streamed) → all
     → judged p ≡ took ((name, s) ∷ others)
 judged_ok p name s others h le =
     ap (λ r. on_fine r (λ known. in_unit (length p) (few_operators known) (λ u. took known))) h
-    ∙ ap (λ b. in_unit (length p) (spec.demand b spec.Limit) (λ u. took ((name, s) ∷ others))) (le_true (ops_in s) 256 le)
+    ∙ ap (λ b. in_unit (length p) (demand b Limit) (λ u. took ((name, s) ∷ others))) (le_true (ops_in s) 256 le)
 
 abbrev stopped : Refusal → Result (Unit {0}) Refusal
 stopped a = Err a
@@ -91,22 +86,22 @@ stopped a = Err a
 err_is : (a b : Refusal) → stopped a ≡ stopped b → a ≡ b
 err_is a b h = cc
 
-few_err : {A : Type 0} (k j : ℕ) (b : Bool) (x : A) (g : spec.Fault) → in_unit k (spec.demand b spec.Limit) (λ u. took u) ≡ refused j g
-    → in_unit k (spec.demand b spec.Limit) (λ u. took x) ≡ refused j g
-few_err k j true x g h = absurd (cc h)
-few_err k j false x g h = ap Err (err_is (record { unit = k; fault = spec.Limit }) (record { unit = j; fault = g }) h)
+few_err : {A : Type 0} (k : ℕ) (b : Bool) (x : A) (g : Refusal) → in_unit k (demand b Limit) (λ u. took u) ≡ Err g
+    → in_unit k (demand b Limit) (λ u. took x) ≡ Err g
+few_err k true x g h = absurd (cc h)
+few_err k false x g h = ap Err (err_is (record { unit = k; fault = Limit }) g h)
 
-judged_many : (p : Program) (k j : ℕ) (f : fault.Fault) (name : Name) (s : Stream) (others : Streamed) → all_streams 1 [] p ≡ took ((name, s) ∷ others)
-    → k ≡ length p → Told j f (few_in k s) → Told j f (judged p)
-judged_many p k j f name s others h e t =
-    told_on j f (few_in k s) (judged p)
+judged_many : (p : Program) (k : ℕ) (e : Refused) (name : Name) (s : Stream) (others : Streamed) → all_streams 1 [] p ≡ took ((name, s) ∷ others)
+    → k ≡ length p → IsWhyRefused (few_in k s) e → IsWhyRefused (judged p) e
+judged_many p k e name s others h n t =
+    refused_on e (few_in k s) (judged p)
     (λ g d. ap (λ r. on_fine r (λ known. in_unit (length p) (few_operators known) (λ u. took known))) h
-    ∙ ap (λ n. in_unit n (spec.demand (nat_le (ops_in s) 256) spec.Limit) (λ u. took ((name, s) ∷ others))) (sym e)
-    ∙ few_err k j (nat_le (ops_in s) 256) ((name, s) ∷ others) g d)
+    ∙ ap (λ m. in_unit m (demand (nat_le (ops_in s) 256) Limit) (λ u. took ((name, s) ∷ others))) (sym n)
+    ∙ few_err k (nat_le (ops_in s) 256) ((name, s) ∷ others) g d)
     t
 
 -- the plan of the newest stream is the program's
-pub planned : (result : Result RawPlan code.Refusal) (p : Program) (k : ℕ) (name : Name) (s : Stream) (others : Streamed)
-    → all_streams 1 [] p ≡ took ((name, s) ∷ others) → k ≡ length p → PlansLast result k s → PlansBy result (judged p)
+pub planned : (result : Result RawPlan Refused) (p : Program) (k : ℕ) (name : Name) (s : Stream) (others : Streamed)
+    → all_streams 1 [] p ≡ took ((name, s) ∷ others) → k ≡ length p → PlansLast result k s → PlansBy plan_form result (judged p)
 planned (Ok raw) p k name s others h e t = (name, s, others, judged_ok p name s others h t.0, t.1)
-planned (Err r) p k name s others h e t = judged_many p k r.unit r.fault name s others h e t
+planned (Err r) p k name s others h e t = judged_many p k r name s others h e t

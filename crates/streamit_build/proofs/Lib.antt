@@ -1,6 +1,7 @@
 pub mod Added
 pub mod AllUnits
 pub mod Branches
+pub mod Checked
 pub mod Judging
 pub mod Knowing
 pub mod LastUnit

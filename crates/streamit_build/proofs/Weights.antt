@@ -8,7 +8,8 @@ use Rattle.std.proofs.lemmas.List.{length-replicate, take_more}
 use Rattle.std.proofs.lemmas.List.Folds.{list_all-append}
 use Rattle.river_base.proofs.Tests.{le_true, le_false}
 use Rattle.brooklet_model.specs.ByIndex.{cycle}
-use Rattle.streamit_model.specs.Elaborate.{Limit, Weights, on_ok, demand}
+use Rattle.streamit_model.specs.Elaborate.{on_ok, demand}
+use Rattle.streamit_model.specs.declared.fault.Fault.TheVariants.{Limit, Weights}
 use Rattle.streamit_model.specs.Judged.{fitting_round}
 
 first_false : (a b : Bool) → a ≡ false → a && b ≡ false

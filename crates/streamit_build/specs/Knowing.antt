@@ -6,11 +6,11 @@ use Rattle.river_base.specs.Name.{name_eq}
 use Rattle.river_plan.specs.Forms.{Name}
 use Rattle.streamit_model.specs.Unrolled.{Stream, Streams, nesting, deepest}
 use Rattle.streamit_model.specs.Plan.{ops_in, ops_of}
-use Rattle.streamit_model.specs.Elaborate as spec
 use Rattle.streamit_model.specs.Meaning.{look}
 use Rattle.streamit_model.specs.Judged.{Streamed, any, branches}
-use Rattle.streamit_unroll.specs.declared.fault.Fault.{Fault}
-use Rattle.streamit_unroll.specs.View.{Tells}
+use Rattle.streamit_model.specs.declared.fault.Fault.{Fault}
+use Rattle.streamit_unroll.specs.declared.refused.RefusedUnit.{RefusedUnit}
+use Rattle.streamit_unroll.specs.View.{IsWhyUnit}
 use Rattle.streamit_build.specs.declared.builder.Declared.{Declared}
 use Rattle.streamit_build.specs.declared.streams.Entry.{Entry}
 use Rattle.streamit_build.specs.declared.streams.Children.{Children}
@@ -49,9 +49,9 @@ abbrev pub may : Bool → ℕ → Bool
 may b = if b then branches else any
 
 -- the stream that is added
-abbrev pub AddsOne : List DeclaredForm → Result Entry Fault → Result Stream spec.Fault → Type 0
+abbrev pub AddsOne : List DeclaredForm → Result Entry RefusedUnit → Result Stream Fault → Type 0
 AddsOne us (Ok k) r = (s : Stream) × (r ≡ Ok s) × IsEntry us k s
-AddsOne us (Err f) r = Tells f r
+AddsOne us (Err f) r = IsWhyUnit f r
 
 pub record AreChildren (us : List DeclaredForm) (c : Children) (ss : Streams) : Type 0 where
   pub trees : AreTrees us c.front.items c.last ss
@@ -61,11 +61,11 @@ pub record AreChildren (us : List DeclaredForm) (c : Children) (ss : Streams) : 
   pub deepest : c.deepest ≡ deepest ss
 
 -- the streams that are added
-abbrev pub AddsAll : List DeclaredForm → Result Children Fault → Result Streams spec.Fault → Type 0
+abbrev pub AddsAll : List DeclaredForm → Result Children RefusedUnit → Result Streams Fault → Type 0
 AddsAll us (Ok c) r = (ss : Streams) × (r ≡ Ok ss) × AreChildren us c ss
-AddsAll us (Err f) r = Tells f r
+AddsAll us (Err f) r = IsWhyUnit f r
 
 -- a stream is known besides
-abbrev pub Declares : Result (Unit {0}) Fault → code.Known → Streamed → Name → Result Stream spec.Fault → Type 0
+abbrev pub Declares : Result (Unit {0}) RefusedUnit → code.Known → Streamed → Name → Result Stream Fault → Type 0
 Declares (Ok u) new known name r = (s : Stream) × (r ≡ Ok s) × Knows new ((name, s) ∷ known)
-Declares (Err f) new known name r = Tells f r
+Declares (Err f) new known name r = IsWhyUnit f r

@@ -1,5 +1,5 @@
 // Judges the units of a program, one after another.
-ghost use Rattle.std.specs.Prelude.{◌<◌, ◌≤◌, ◌^◌, length};
+ghost use Rattle.std.specs.Prelude.{◌≡◌, ◌<◌, ◌≤◌, ◌^◌, length};
 ghost use Rattle.streamit_model.specs.Judged.{Streamed, splitter_of, stream_of, unit_of, all_streams};
 ghost use Rattle.streamit_text.specs.Program.{AFilter, APipeline, filter_tree, dealing_of, adds_of, body_of, unit_form, unit_forms};
 ghost use Rattle.streamit_text.specs.declared.program.Body.TheVariants as tree;
@@ -8,27 +8,21 @@ ghost use Rattle.streamit_unroll.specs.View.{Judges};
 ghost use Rattle.streamit_build.specs.Units.{splitter_form};
 ghost use Rattle.streamit_build.specs.Readable.{IsReadableBody, AreReadable};
 ghost use Rattle.streamit_build.specs.Knowing.{Knows, Declares};
-ghost use Rattle.streamit_build.specs.Told.{JudgesAll};
+ghost use Rattle.streamit_build.specs.Planned.{refused_in, JudgesAll};
 
 use crate::names::sum;
 use crate::rounds::round;
 use crate::streams::few;
-use crate::{Declared, Known};
+use crate::{Declared, Known, Refused};
 use river_base::Name;
 use std::alloc::Global;
+use streamit_model::{Fault, Refusal};
 use streamit_text::{Adds, Body, FilterTree, Split, SplitJoin, Unit};
-use streamit_unroll::{Fault, filter};
-
-/// The fault that comes first, and the number of its unit, from 1.
-#[derive(Clone, Copy)]
-pub struct Refusal {
-    pub unit: u32,
-    pub fault: Fault,
-}
+use streamit_unroll::{RefusedUnit, filter};
 
 impl Known {
     /// All units of a program, one after another.
-    pub fn units(&mut self, alloc: Global, units: &[Unit]) -> Result<(), Refusal>
+    pub fn units(&mut self, alloc: Global, units: &[Unit]) -> Result<(), Refused>
         requires readable { AreReadable (unit_forms units.now) }
         requires few { length units.now < 2 ^ 32 }
         ensures { (start : Streamed) → Knows self.old start → JudgesAll result self.new (all_streams 1 start (unit_forms units.now)) }
@@ -36,30 +30,25 @@ impl Known {
         for i in 0..units.len() {
             match self.unit(alloc, &units[i]) {
                 Ok(()) => {}
-                Err(fault) => {
-                    return Err(Refusal {
-                        unit: i as u32 + 1,
-                        fault,
-                    });
-                }
+                Err(why) => return Err(refused_in(i as u32 + 1, why)),
             }
         }
         Ok(())
     }
 
     // A unit of the program.
-    fn unit(&mut self, alloc: Global, unit: &Unit) -> Result<(), Fault>
+    fn unit(&mut self, alloc: Global, unit: &Unit) -> Result<(), RefusedUnit>
         requires { IsReadableBody (body_of unit.now.body) }
         ensures { (known : Streamed) → Knows self.old known → Declares result self.new known unit.now.name (unit_of known (unit_form unit.now)) }
     {
         if self.find(unit.name).is_some() {
-            return Err(Fault::NameTwice);
+            return Err(RefusedUnit::Fault(Fault::NameTwice));
         }
         self.body(alloc, unit.name, &unit.body)
     }
 
     // What is declared.
-    fn body(&mut self, alloc: Global, name: Name, body: &Body) -> Result<(), Fault>
+    fn body(&mut self, alloc: Global, name: Name, body: &Body) -> Result<(), RefusedUnit>
         requires readable { IsReadableBody (body_of body.now) }
         requires short { length name ≤ 40 }
         ensures { (known : Streamed) → Knows self.old known → Declares result self.new known name (stream_of known name (body_of body.now)) }
@@ -72,7 +61,7 @@ impl Known {
     }
 
     // A filter.
-    fn filter(&mut self, alloc: Global, name: Name, tree: &FilterTree) -> Result<(), Fault>
+    fn filter(&mut self, alloc: Global, name: Name, tree: &FilterTree) -> Result<(), RefusedUnit>
         requires readable { IsReadable (filter_tree tree.now) }
         requires short { length name ≤ 40 }
         ensures { (known : Streamed) → Knows self.old known → Declares result self.new known name (stream_of known name (AFilter (filter_tree tree.now))) }
@@ -83,7 +72,7 @@ impl Known {
     }
 
     // Streams in a line.
-    fn pipeline(&mut self, alloc: Global, name: Name, adds: &Adds) -> Result<(), Fault>
+    fn pipeline(&mut self, alloc: Global, name: Name, adds: &Adds) -> Result<(), RefusedUnit>
         ensures { (known : Streamed) → Knows self.old known → Declares result self.new known name (stream_of known name (APipeline (adds_of adds.now))) }
     {
         let children = self.children(alloc, false, adds)?;
@@ -97,7 +86,7 @@ impl Known {
     }
 
     // A splitter, branches and a joiner.
-    fn split_join(&mut self, alloc: Global, name: Name, all: &SplitJoin) -> Result<(), Fault>
+    fn split_join(&mut self, alloc: Global, name: Name, all: &SplitJoin) -> Result<(), RefusedUnit>
         ensures { (known : Streamed) → Knows self.old known → Declares result self.new known name (stream_of known name (body_of (tree.SplitJoin all.now))) }
     {
         let count = all.adds.others.len() + 1;
@@ -117,8 +106,18 @@ impl Known {
     }
 }
 
+// Why a program is refused whose unit with this number is.
+fn refused_in(unit: u32, why: RefusedUnit) -> Refused
+    ensures { result ≡ refused_in unit why }
+{
+    match why {
+        RefusedUnit::Fault(fault) => Refused::Program(Refusal { unit, fault }),
+        RefusedUnit::NoMemory => Refused::NoMemory,
+    }
+}
+
 // The weights of a splitter, or none where it copies.
-fn splitter(alloc: Global, split: &Split, branches: usize) -> Result<Option<Vec<u32>>, Fault>
+fn splitter(alloc: Global, split: &Split, branches: usize) -> Result<Option<Vec<u32>>, RefusedUnit>
     requires { 1 ≤ branches }
     ensures { Judges splitter_form result (splitter_of (dealing_of split.now) branches) }
 {

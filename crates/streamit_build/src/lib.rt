@@ -10,6 +10,5 @@ mod rounds;
 mod streams;
 
 use builder::{Declared, Made};
-pub use judge::Refusal;
-pub use planning::plan;
+pub use planning::{Refused, plan};
 use streams::{Entry, Known};

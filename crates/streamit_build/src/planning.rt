@@ -2,44 +2,94 @@
 ghost use Rattle.std.specs.Prelude.{◌≡◌, ◌<◌, [], ◌∷◌, ◌++◌, ◌^◌, codes, filter, length, map, OnOk, IfOk};
 ghost use Rattle.river_plan.specs.Forms.{plan_form, op_forms, empty_form};
 ghost use Rattle.river_plan.specs.Uses.{all_vars};
+ghost use Rattle.river_plan.specs.Valid.{IsPlan};
 ghost use Rattle.streamit_model.specs.Unrolled.{Stream};
 ghost use Rattle.streamit_model.specs.Plan.{values_in as queue_of, is_own_queue, own_queues, ops_from, plan_of};
 ghost use Rattle.streamit_build.specs.Units.{declared_forms, AreLower, HaveShortFilters, IsTree};
 ghost use Rattle.streamit_model.specs.Judged.{Streamed, judged};
+ghost use Rattle.streamit_model.specs.Shallow.{AreShallowUnits};
 ghost use Rattle.streamit_build.specs.Knowing.{IsEntry, Knows};
 ghost use Rattle.streamit_build.specs.Plans.{plan_lists};
 ghost use Rattle.streamit_text.specs.Program.{unit_forms};
 ghost use Rattle.streamit_build.specs.Readable.{AreReadable};
-ghost use Rattle.streamit_build.specs.Told.{KnowsLast, PlansLast, PlansBy};
+ghost use Rattle.streamit_build.specs.Planned.{KnowsLast, PlansLast, PlansBy};
 
 use crate::builder::build;
 use crate::names::name_of;
-use crate::{Entry, Known, Made, Refusal};
+use crate::{Entry, Known, Made};
+use plan_check::check;
 use river_base::{FlatType, MOST_OPERATORS, Name, NoMemory, QueueType};
-use river_plan::{Decl, Decls, Names, Ops, RawPlan};
+use river_plan::{Decl, Decls, Names, Ops, Plan, PlanFault, RawPlan};
 use std::alloc::Global;
+use streamit_model::{Fault, Refusal};
 use streamit_text::Unit;
-use streamit_unroll::Fault;
 
-/// The plan of a program, as lists: that of its last stream; or the fault that comes first, with its unit.
-pub fn plan(alloc: Global, units: &[Unit]) -> Result<RawPlan, Refusal>
+/// Why a program has no plan.
+#[derive(Clone, Copy)]
+pub enum Refused {
+    /// The program is refused.
+    Program(Refusal),
+    /// There was no memory.
+    NoMemory,
+}
+
+impl From<NoMemory> for Refused {
+    ghost use Rattle.std.specs.Prelude.{◌≡◌};
+    ghost use Rattle.streamit_build.specs.declared.planning.Refused.TheVariants as refused;
+
+    ghost from_gives = { λ _ r. r ≡ refused.NoMemory };
+
+    fn from(_: NoMemory) -> Self {
+        Refused::NoMemory
+    }
+}
+
+/// The plan of a program, which is that of its last stream; or the fault that comes first, with its unit.
+#[tactic(auto, using(crate::proofs::Checked::plans))]
+pub fn plan(alloc: Global, units: &[Unit]) -> Result<Plan, Refused>
+    requires readable { AreReadable (unit_forms units.now) }
+    requires shallow { AreShallowUnits (unit_forms units.now) }
+    requires some { 0 < length units.now }
+    requires few { length units.now < 2 ^ 32 }
+    ensures { PlansBy (λ plan. plan) result (judged (unit_forms units.now)) }
+{
+    let raw = raw_plan(alloc, units)?;
+    let plan = checked(alloc, raw)?;
+    Ok(plan)
+}
+
+// The same, as lists.
+fn raw_plan(alloc: Global, units: &[Unit]) -> Result<RawPlan, Refused>
     requires readable { AreReadable (unit_forms units.now) }
     requires some { 0 < length units.now }
     requires few { length units.now < 2 ^ 32 }
-    ensures { PlansBy result (judged (unit_forms units.now)) }
+    ensures { PlansBy plan_form result (judged (unit_forms units.now)) }
 {
     let mut known = Known::new(alloc);
     known.program(alloc, units)
 }
 
+// The plan of lists that are valid.
+#[tactic(auto, using(crate::proofs::Checked::faultless))]
+fn checked(alloc: Global, raw: RawPlan) -> Result<Plan, NoMemory>
+    requires valid { IsPlan (plan_form raw) }
+    ensures { IfOk result (λ plan. plan ≡ plan_form raw) }
+{
+    match check(alloc, raw) {
+        Ok(plan) => Ok(plan),
+        Err(PlanFault::NoMemory) => Err(NoMemory),
+        Err(_) => unreachable!(),
+    }
+}
+
 impl Known {
-    // The same, where no stream is known.
-    fn program(&mut self, alloc: Global, units: &[Unit]) -> Result<RawPlan, Refusal>
+    // The lists of the plan, where no stream is known.
+    fn program(&mut self, alloc: Global, units: &[Unit]) -> Result<RawPlan, Refused>
         requires nothing { Knows self.old [] }
         requires readable { AreReadable (unit_forms units.now) }
         requires some { 0 < length units.now }
         requires few { length units.now < 2 ^ 32 }
-        ensures { PlansBy result (judged (unit_forms units.now)) }
+        ensures { PlansBy plan_form result (judged (unit_forms units.now)) }
     {
         self.units(alloc, units)?;
         let count = units.len();
@@ -47,7 +97,7 @@ impl Known {
     }
 
     // The plan of the stream that is declared last, in this unit.
-    fn plan_last(&self, alloc: Global, unit: u32, last: Name) -> Result<RawPlan, Refusal>
+    fn plan_last(&self, alloc: Global, unit: u32, last: Name) -> Result<RawPlan, Refused>
         requires { KnowsLast self.now last }
         ensures { (s : Stream) (others : Streamed) → Knows self.now ((last, s) ∷ others) → PlansLast result unit s }
     {
@@ -58,25 +108,20 @@ impl Known {
     }
 
     // The plan of the stream with this entry, in this unit.
-    fn plan_at(&self, alloc: Global, unit: u32, top: Entry) -> Result<RawPlan, Refusal>
+    fn plan_at(&self, alloc: Global, unit: u32, top: Entry) -> Result<RawPlan, Refused>
         requires there { top.number < length self.now.declared.items }
         requires lower { AreLower (declared_forms self.now.declared.items) }
         requires short { HaveShortFilters (declared_forms self.now.declared.items) }
         ensures { (s : Stream) → IsEntry (declared_forms self.now.declared.items) top s → PlansLast result unit s }
     {
         if top.ops > MOST_OPERATORS {
-            return Err(Refusal {
+            return Err(Refused::Program(Refusal {
                 unit,
                 fault: Fault::Limit,
-            });
+            }));
         }
-        match self.plan(alloc, top.number as usize) {
-            Ok(raw) => Ok(raw),
-            Err(NoMemory) => Err(Refusal {
-                unit,
-                fault: Fault::NoMemory,
-            }),
-        }
+        let raw = self.plan(alloc, top.number as usize)?;
+        Ok(raw)
     }
 
     // The plan of the stream with this number, as lists.

@@ -8,11 +8,16 @@ ghost use Rattle.streamit_text.specs.Program.{numbers_in, weights_of};
 
 use river_base::{MOST_ITEMS, NoMemory};
 use std::alloc::Global;
+use streamit_model::Fault;
 use streamit_text::RoundRobin;
-use streamit_unroll::Fault;
+use streamit_unroll::RefusedUnit;
 
 /// The weights of so many branches, where these are written: none stands for 1 each, one for as many each.
-pub(crate) fn round(alloc: Global, written: &RoundRobin, branches: usize) -> Result<Vec<u32>, Fault>
+pub(crate) fn round(
+    alloc: Global,
+    written: &RoundRobin,
+    branches: usize,
+) -> Result<Vec<u32>, RefusedUnit>
     requires { 1 ≤ branches }
     ensures { Judges numbers_in result (round_of (weights_of written.now) branches) }
 {
@@ -23,7 +28,7 @@ pub(crate) fn round(alloc: Global, written: &RoundRobin, branches: usize) -> Res
 }
 
 // The weights of so many branches, where these stand in the brackets.
-fn listed(alloc: Global, written: &[u64], branches: usize) -> Result<Vec<u32>, Fault>
+fn listed(alloc: Global, written: &[u64], branches: usize) -> Result<Vec<u32>, RefusedUnit>
     requires { 1 ≤ branches }
     ensures { Judges numbers_in result (round_of (Some written.now) branches) }
 {
@@ -35,21 +40,21 @@ fn listed(alloc: Global, written: &[u64], branches: usize) -> Result<Vec<u32>, F
 }
 
 // One weight for each branch.
-fn equal(alloc: Global, weight: u64, branches: usize) -> Result<Vec<u32>, Fault>
+fn equal(alloc: Global, weight: u64, branches: usize) -> Result<Vec<u32>, RefusedUnit>
     requires { 1 ≤ branches }
     ensures { Judges numbers_in result (fitting_round (replicate branches weight) branches) }
 {
     if weight == 0 {
-        return Err(Fault::Weights);
+        return Err(RefusedUnit::Fault(Fault::Weights));
     }
     if weight > MOST_ITEMS as u64 {
-        return Err(Fault::Limit);
+        return Err(RefusedUnit::Fault(Fault::Limit));
     }
     if branches > MOST_ITEMS as usize {
-        return Err(Fault::Limit);
+        return Err(RefusedUnit::Fault(Fault::Limit));
     }
     if weight * branches as u64 > MOST_ITEMS as u64 {
-        return Err(Fault::Limit);
+        return Err(RefusedUnit::Fault(Fault::Limit));
     }
     Ok(copies(alloc, weight as u32, branches)?)
 }
@@ -66,14 +71,14 @@ fn copies(alloc: Global, weight: u32, count: usize) -> Result<Vec<u32>, NoMemory
 }
 
 // The weights as they are written.
-fn each(alloc: Global, written: &[u64], branches: usize) -> Result<Vec<u32>, Fault>
+fn each(alloc: Global, written: &[u64], branches: usize) -> Result<Vec<u32>, RefusedUnit>
     ensures { Judges numbers_in result (fitting_round written.now branches) }
 {
     if written.len() != branches || has_zero(written) {
-        return Err(Fault::Weights);
+        return Err(RefusedUnit::Fault(Fault::Weights));
     }
     if !is_low(written) {
-        return Err(Fault::Limit);
+        return Err(RefusedUnit::Fault(Fault::Limit));
     }
     Ok(taken(alloc, written)?)
 }

@@ -12,8 +12,9 @@ use crate::Declared;
 use indexmap::IndexMap;
 use river_base::{Name, NoMemory};
 use std::alloc::Global;
+use streamit_model::Fault;
 use streamit_text::Adds;
-use streamit_unroll::Fault;
+use streamit_unroll::RefusedUnit;
 
 /// A stream that is known: its number, its operators (257 stands for more), and how deep it is nested.
 #[derive(Clone, Copy)]
@@ -58,17 +59,17 @@ impl Known {
     }
 
     // The stream that is added as number `place`.
-    fn added(&self, branch: bool, place: usize, name: Name) -> Result<Entry, Fault>
+    fn added(&self, branch: bool, place: usize, name: Name) -> Result<Entry, RefusedUnit>
         ensures { (known : Streamed) → Knows self.now known → AddsOne (declared_forms self.now.declared.items) result (stream_added (may branch) known place name) }
     {
         if branch && place >= 64 {
-            return Err(Fault::Limit);
+            return Err(RefusedUnit::Fault(Fault::Limit));
         }
         let Some(entry) = self.find(name) else {
-            return Err(Fault::UnknownName);
+            return Err(RefusedUnit::Fault(Fault::UnknownName));
         };
         if entry.nesting >= 64 {
-            return Err(Fault::Limit);
+            return Err(RefusedUnit::Fault(Fault::Limit));
         }
         Ok(entry)
     }
@@ -79,7 +80,7 @@ impl Known {
         alloc: Global,
         branch: bool,
         adds: &Adds,
-    ) -> Result<Children, Fault>
+    ) -> Result<Children, RefusedUnit>
         ensures { (known : Streamed) → Knows self.now known
             → AddsAll (declared_forms self.now.declared.items) result (streams_added (may branch) known 0 adds.now.first adds.now.others.items) }
     {

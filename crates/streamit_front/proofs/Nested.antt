@@ -13,7 +13,8 @@ use Rattle.streamit_text.specs.Tree.{Statement, Declare, Assign, Push, Discard, 
 use Rattle.streamit_text.specs.Tree.{Expression}
 use Rattle.streamit_model.specs.Meaning.{pops, numbers_from, peek_of}
 use Rattle.streamit_model.specs.Elaborate.{At, Read, on_ok, counted, is_new, has_slot, first_term, declared, slot_of, term_of, constant}
-use Rattle.streamit_model.specs.Elaborate.{bound_of, after_arms, unrolled, step_of, steps_of, find, BranchRates, Turn, optional_of}
+use Rattle.streamit_model.specs.Elaborate.{bound_of, after_arms, unrolled, step_of, steps_of, find, Turn, optional_of}
+use Rattle.streamit_model.specs.declared.fault.Fault.TheVariants.{BranchRates}
 use Rattle.streamit_text.specs.Program.{WorkTree, FilterTree}
 use Rattle.streamit_model.specs.ElaborateFilter.{elaborated, slots_for, widened_first}
 use Rattle.streamit_model.proofs.FilterMet.{WorkRead, PreworkRead, elaborated_parts}

@@ -12,10 +12,13 @@ use Rattle.river_print.specs.Printable.{IsShallowFirst, IsPrintable}
 use Rattle.river_print.specs.Writable.{Every, depths}
 use Rattle.river_print.proofs.Spoken.{IsSpoken, every-joined, spoken-printable}
 use Rattle.streamit_model.specs.Plan.{numbered, queue, queues, ops_in, ops_of, queues_in, splitter, joiner, build, build_line, build_branches, plan_of}
-use Rattle.streamit_model.specs.Elaborate.{Fault, on_ok, demand, Limit}
+use Rattle.streamit_model.specs.Elaborate.{on_ok, demand}
+use Rattle.streamit_model.specs.declared.fault.Fault.{Fault}
+use Rattle.streamit_model.specs.declared.fault.Fault.TheVariants.{Limit}
 use Rattle.streamit_text.specs.Program.{WorkTree, FilterTree, Body, AFilter, APipeline, ASplitJoin, UnitForm, Program}
 use Rattle.streamit_model.specs.ElaborateFilter.{elaborated}
-use Rattle.streamit_model.specs.Judged.{Refusal, Streamed, on_fine, in_unit, found_stream, stream_added, streams_added, any, branches, round_of, splitter_of, stream_of}
+use Rattle.streamit_model.specs.Judged.{Streamed, on_fine, in_unit, found_stream, stream_added, streams_added, any, branches, round_of, splitter_of, stream_of}
+use Rattle.streamit_model.specs.declared.fault.Refusal.{Refusal}
 use Rattle.streamit_model.specs.Judged.{not_there, unit_of, all_streams, few_operators, judged}
 use Rattle.streamit_model.specs.Meaning.{look, branch_count}
 use Rattle.streamit_model.specs.Unrolled.{Splitter, Duplicate, RoundRobin, Stream, Filter, Pipeline, SplitJoin, Streams, Last, Then, number_of, nesting}

@@ -1,16 +1,13 @@
 -- What is true of all texts.
 use Rattle.std.specs.Prelude.{◌≡◌, ◌↔◌, ℕ, ℤ, List, [], ◌∷◌, Result, Ok, Err}
 use Rattle.std.specs.List.{AllByRecursion}
-use Rattle.text_tokens.specs.Lexis.{tokens_in}
-use Rattle.text_tokens.specs.declared.fault.LexFault.TheVariants as lex
-use Rattle.text_forms.specs.declared.refusal.Refusal.TheVariants.{BadByte, BigNumber, Syntax}
 use Rattle.river_plan.specs.Forms.{Name}
 use Rattle.river_plan.specs.InTurn.{IsInTurn}
 use Rattle.river_plan.specs.Valid.{IsPlan}
 use Rattle.river_print.specs.Printable.{IsPrintable}
 use Rattle.brooklet_model.specs.Meaning.{meaning}
 use Rattle.streamit_model.specs.Plan.{plan_of}
-use Rattle.streamit_model.specs.Elaborate as model
+use Rattle.streamit_model.specs.declared.fault.Fault as model
 use Rattle.streamit_model.specs.Faults.{IsFaultless, IsFaultOf}
 use Rattle.streamit_model.specs.Places.{places_of}
 use Rattle.streamit_text.specs.Program.{Program}
@@ -18,9 +15,9 @@ use Rattle.streamit_model.specs.Meaning.{program_outputs}
 use Rattle.streamit_model.specs.Judged.{Streamed, judged}
 use Rattle.streamit_model.specs.Laws.{as_items}
 use Rattle.streamit_text.specs.Grammar.{IsText}
-use Rattle.streamit_text.specs.Laws.{IsBadAt}
+use Rattle.streamit_text.specs.Faults as faults
 use Rattle.streamit_front.specs.declared.fault.StreamitFault.{StreamitFault}
-use Rattle.streamit_front.specs.declared.fault.StreamitFault.TheVariants.{Text, NoMemory}
+use Rattle.streamit_front.specs.declared.fault.StreamitFault.TheVariants.{Text}
 use Rattle.streamit_front.specs.Meaning.{Accepted, fault_at, compiled}
 
 -- the grammar has the text for a program whose first fault this is
@@ -31,10 +28,7 @@ HasProgramFault text fault = (p : Program) × (unit : ℕ) × (f : model.Fault) 
 -- first unit that is not in the grammar, or a first fault of its bytes
 abbrev pub Has : List ℕ → Result Accepted StreamitFault → Type 0
 Has text (Ok a) = (name : Name) × (others : Streamed) × IsText text a.program × (judged a.program ≡ Ok ((name, a.stream) ∷ others))
-Has text (Err (Text (BadByte at))) = tokens_in text ≡ Err (lex.BadByte at)
-Has text (Err (Text (BigNumber at))) = tokens_in text ≡ Err (lex.BigNumber at)
-Has text (Err (Text (Syntax unit))) = IsBadAt text unit
-Has text (Err NoMemory) = ⊥
+Has text (Err (Text fault)) = faults.HasFault text fault
 Has text (Err fault) = HasProgramFault text fault
 
 -- that is what a text means

@@ -4,14 +4,13 @@ ghost use Rattle.std.specs.Fmt.{decimal, signed_decimal};
 ghost use Rattle.streamit_front.specs.Words.{streamit_words};
 
 use river_base::{Bytes, NoMemory};
-use std::alloc::Global;
-use text_forms::{Refusal, Told, numbered};
+use text_forms::{TextFault, Told, numbered};
 
 /// Why a text is no program. The unit, from 1, is the one in whose reading the fault comes.
 #[derive(Clone, Copy)]
 pub enum StreamitFault {
-    /// The text is not read.
-    Text(Refusal),
+    /// The text is not read, or there was no memory.
+    Text(TextFault),
     /// A name that is not known where it stands.
     UnknownName {
         unit: u32,
@@ -48,76 +47,58 @@ pub enum StreamitFault {
     Weights {
         unit: u32,
     },
-    /// There was no memory.
-    NoMemory,
 }
 
-impl From<NoMemory> for StreamitFault {
+impl From<TextFault> for StreamitFault {
     ghost use Rattle.std.specs.Prelude.{◌≡◌};
     ghost use Rattle.streamit_front.specs.declared.fault.StreamitFault.TheVariants as fault;
 
-    ghost from_gives = { λ _ f. f ≡ fault.NoMemory };
+    ghost from_gives = { λ text f. f ≡ fault.Text text };
 
-    fn from(_: NoMemory) -> Self {
-        StreamitFault::NoMemory
+    fn from(text: TextFault) -> Self {
+        StreamitFault::Text(text)
     }
 }
 
 impl Told for StreamitFault {
     ghost told = { streamit_words };
 
-    fn write(self, alloc: Global, to: &mut Bytes) -> Result<(), NoMemory> {
+    fn write(self, to: &mut Bytes) -> Result<(), NoMemory> {
         match self {
-            StreamitFault::Text(refusal) => refusal.write(alloc, to),
-            StreamitFault::UnknownName { unit } => numbered(alloc, b"UnknownName ", unit, to),
-            StreamitFault::NameTwice { unit } => numbered(alloc, b"NameTwice ", unit, to),
+            StreamitFault::Text(fault) => fault.write(to),
+            StreamitFault::UnknownName { unit } => numbered(b"UnknownName ", unit, to),
+            StreamitFault::NameTwice { unit } => numbered(b"NameTwice ", unit, to),
             StreamitFault::Rates {
                 unit,
                 declared,
                 counted,
-            } => rates(alloc, unit, declared, counted, to),
-            StreamitFault::PeekRange { unit, index, peek } => {
-                peek_range(alloc, unit, index, peek, to)
-            }
-            StreamitFault::NotConstant { unit } => numbered(alloc, b"NotConstant ", unit, to),
-            StreamitFault::BranchRates { unit } => numbered(alloc, b"BranchRates ", unit, to),
-            StreamitFault::Limit { unit } => numbered(alloc, b"Limit ", unit, to),
-            StreamitFault::Weights { unit } => numbered(alloc, b"Weights ", unit, to),
-            StreamitFault::NoMemory => to.extend(b"NoMemory"),
+            } => rates(unit, declared, counted, to),
+            StreamitFault::PeekRange { unit, index, peek } => { peek_range(unit, index, peek, to) }
+            StreamitFault::NotConstant { unit } => numbered(b"NotConstant ", unit, to),
+            StreamitFault::BranchRates { unit } => numbered(b"BranchRates ", unit, to),
+            StreamitFault::Limit { unit } => numbered(b"Limit ", unit, to),
+            StreamitFault::Weights { unit } => numbered(b"Weights ", unit, to),
         }
     }
 }
 
 // Appends the unit, and the rates that are declared and counted.
 #[tactic(auto, using(text_tokens::proofs::Joined::joins))]
-fn rates(
-    alloc: Global,
-    unit: u32,
-    declared: u32,
-    counted: u32,
-    to: &mut Bytes,
-) -> Result<(), NoMemory>
+fn rates(unit: u32, declared: u32, counted: u32, to: &mut Bytes) -> Result<(), NoMemory>
     ensures { OnOk result (to.new ≡ to.old ++ ((codes "Rates " ++ decimal unit) ++ ((codes " " ++ decimal declared) ++ (codes " " ++ decimal counted)))) }
 {
-    numbered(alloc, b"Rates ", unit, to)?;
-    numbered(alloc, b" ", declared, to)?;
-    numbered(alloc, b" ", counted, to)
+    numbered(b"Rates ", unit, to)?;
+    numbered(b" ", declared, to)?;
+    numbered(b" ", counted, to)
 }
 
 // Appends the unit, the index, and the rate of `peek`.
 #[tactic(auto, using(text_tokens::proofs::Joined::joins))]
-fn peek_range(
-    alloc: Global,
-    unit: u32,
-    index: i64,
-    peek: u32,
-    to: &mut Bytes,
-) -> Result<(), NoMemory>
+fn peek_range(unit: u32, index: i64, peek: u32, to: &mut Bytes) -> Result<(), NoMemory>
     ensures { OnOk result (to.new ≡ to.old ++ ((codes "PeekRange " ++ decimal unit) ++ ((codes " " ++ signed_decimal index) ++ (codes " " ++ decimal peek)))) }
 {
-    numbered(alloc, b"PeekRange ", unit, to)?;
+    numbered(b"PeekRange ", unit, to)?;
     to.push(b' ')?;
-    let digits = index.to_string(alloc)?;
-    to.extend(digits.as_bytes())?;
-    numbered(alloc, b" ", peek, to)
+    to.put_number(index)?;
+    numbered(b" ", peek, to)
 }

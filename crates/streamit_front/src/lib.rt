@@ -4,8 +4,6 @@
 mod compile;
 mod fault;
 pub mod laws;
-mod program;
 
 pub use compile::compile_streamit;
 pub use fault::StreamitFault;
-pub use program::StreamitProgram;

@@ -24,7 +24,9 @@ use Rattle.brooklet_model.specs.Machine.{at_name}
 use Rattle.streamit_text.specs.Tree.{Expression, Statement, Declare, Assign, Push, Discard, If, For, Block, End, Then, Optional, Unwritten, Written}
 use Rattle.streamit_text.specs.Tree as tree
 use Rattle.streamit_model.specs.Meaning.{pops, Store, eval, State, numbers_from, turns_between, each_turn, first_value, first_pops, exec, exec_all, exec_optional}
-use Rattle.streamit_model.specs.Elaborate.{Fault, Limit, BranchRates, PeekRange, on_ok, demand, KnownName, Var, Turn, Scope, find, constant_of, constant}
+use Rattle.streamit_model.specs.Elaborate.{on_ok, demand, KnownName, Var, Turn, Scope, find, constant_of, constant}
+use Rattle.streamit_model.specs.declared.fault.Fault.{Fault}
+use Rattle.streamit_model.specs.declared.fault.Fault.TheVariants.{Limit, BranchRates, PeekRange}
 use Rattle.streamit_model.specs.Elaborate.{named_term}
 use Rattle.streamit_model.specs.Elaborate.{peeked, term_of, At, counted, has_slot, is_new, slot_of, bound_of, first_term, first_popped, Read}
 use Rattle.streamit_model.specs.Elaborate.{declared, after_arms, unrolled, step_of, steps_of, optional_of}

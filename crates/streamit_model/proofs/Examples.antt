@@ -6,7 +6,7 @@ use Rattle.work_code.specs.declared.expr.BinOp.TheVariants as op
 use Rattle.river_plan.specs.Forms.{Name}
 use Rattle.streamit_text.specs.Tree.{Expression, Number, Name as Named, Peek, Pop, Neg, Bin, Statement, Block, End, Unwritten, Written}
 use Rattle.streamit_text.specs.Tree as source
-use Rattle.streamit_model.specs.Elaborate.{UnknownName, Rates, PeekRange, NotConstant, BranchRates, Limit, Weights}
+use Rattle.streamit_model.specs.declared.fault.Fault.TheVariants.{UnknownName, Rates, PeekRange, NotConstant, BranchRates, Limit, Weights}
 use Rattle.streamit_text.specs.Program.{FilterTree, Program, AFilter, ASplitJoin, Turns}
 use Rattle.streamit_model.specs.Meaning.{pushed_by, program_outputs}
 use Rattle.streamit_model.specs.ElaborateFilter.{elaborated}

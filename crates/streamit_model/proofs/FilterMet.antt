@@ -19,7 +19,8 @@ use Rattle.brooklet_model.specs.Machine.{at_name}
 use Rattle.streamit_text.specs.Tree.{Block, End, Optional, Unwritten, Written}
 use Rattle.streamit_model.specs.Meaning.{Store, exec_all, State, exec_optional, push_of, pop_of, peek_of, nought, with_fields, at_start, initial, fires}
 use Rattle.streamit_model.specs.Meaning.{or_work, runs_in, start_at, waits_for, looked_at, fires_from, pushed_by}
-use Rattle.streamit_model.specs.Elaborate.{Rates, Limit, on_ok, demand, Var, Scope, find, is_new, has_slot, At, steps_of, optional_of}
+use Rattle.streamit_model.specs.Elaborate.{on_ok, demand, Var, Scope, find, is_new, has_slot, At, steps_of, optional_of}
+use Rattle.streamit_model.specs.declared.fault.Fault.TheVariants.{Rates, Limit}
 use Rattle.streamit_text.specs.Program.{WorkTree, FilterTree}
 use Rattle.streamit_model.specs.ElaborateFilter.{read_field, read_fields, nothing_read, starts_of, elaborated_form, judged_rates, kept_rates, elaborated}
 use Rattle.streamit_model.specs.ElaborateFilter.{run_of, read_work, read_prework, slots_for, widened, widened_first}

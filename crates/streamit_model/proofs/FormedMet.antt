@@ -19,7 +19,8 @@ use Rattle.streamit_model.specs.Unrolled.{IsSmallRun, IsSmallFirst, IsSmallFilte
 use Rattle.streamit_model.specs.Meaning.{pops, turns_between, push_of, peek_of}
 use Rattle.streamit_model.specs.Shallow.{IsLowFirst, IsShallow, AreShallow, IsItemlessFirst, KeepsItems, KeepAll, AreShallowOptional, KeepAllOptional}
 use Rattle.streamit_model.specs.Shallow.{IsShallowPrework, IsShallowFilter}
-use Rattle.streamit_model.specs.Elaborate.{Limit, PeekRange, on_ok, KnownName, Var, Turn, Scope, find, constant, named_term, peeked, term_of, At, first_term}
+use Rattle.streamit_model.specs.Elaborate.{on_ok, KnownName, Var, Turn, Scope, find, constant, named_term, peeked, term_of, At, first_term}
+use Rattle.streamit_model.specs.declared.fault.Fault.TheVariants.{Limit, PeekRange}
 use Rattle.streamit_model.specs.Elaborate.{first_popped, Read, unrolled, step_of, steps_of, optional_of}
 use Rattle.std.proofs.lemmas.List.{length-replicate}
 use Rattle.std.proofs.Math.Nat.{le_refl}

@@ -3,7 +3,9 @@ use Rattle.std.proofs.Common.{◌≡◌, ℕ, ◌<◌, ◌⊎◌, inl, inr, Bool
 use Rattle.std.proofs.Common.{append_assoc}
 use Rattle.std.specs.Prelude.{if◌then◌else◌, ℤ}
 use Rattle.std.proofs.lemmas.List.{append-nil}
-use Rattle.streamit_model.specs.Elaborate.{Fault, UnknownName, NameTwice, Rates, PeekRange, NotConstant, BranchRates, Limit, Weights, on_ok}
+use Rattle.streamit_model.specs.Elaborate.{on_ok}
+use Rattle.streamit_model.specs.declared.fault.Fault.{Fault}
+use Rattle.streamit_model.specs.declared.fault.Fault.TheVariants.{UnknownName, NameTwice, Rates, PeekRange, NotConstant, BranchRates, Limit, Weights}
 use Rattle.streamit_text.specs.Program.{UnitForm}
 use Rattle.streamit_model.specs.Words.{ReadWord}
 use Rattle.streamit_model.specs.Places.{Spot, Reads, each_word}

@@ -11,14 +11,17 @@ use Rattle.streamit_model.specs.Unrolled.{Splitter, Duplicate, RoundRobin, Strea
 use Rattle.streamit_model.specs.Unrolled.{IsStream, AreStreams, IsSmall, AreSmall, IsRound, IsSplitter, IsSmallSplitter}
 use Rattle.brooklet_model.specs.ByIndex.{cycle, dealt, collected}
 use Rattle.streamit_model.specs.UnrolledMeans.{branch_input, outputs, in_line, side_by_side}
-use Rattle.streamit_model.specs.Elaborate.{Fault, Limit, Weights, on_ok, demand}
+use Rattle.streamit_model.specs.Elaborate.{on_ok, demand}
+use Rattle.streamit_model.specs.declared.fault.Fault.{Fault}
+use Rattle.streamit_model.specs.declared.fault.Fault.TheVariants.{Limit, Weights}
 use Rattle.streamit_model.specs.ElaborateFilter.{elaborated}
 use Rattle.streamit_model.specs.Plan.{ops_in}
 use Rattle.streamit_text.specs.Program.{Dealing, Copies, Turns, Body, AFilter, APipeline, ASplitJoin, Program}
 use Rattle.streamit_model.specs.Meaning.{weights_for, Works, look, or_same, known_works, piped, branched, branch_count, share_of, body_works, all_work, last_of}
 use Rattle.streamit_model.specs.Meaning.{program_outputs}
 use Rattle.streamit_model.specs.Shallow.{IsShallowBody, AreShallowUnits}
-use Rattle.streamit_model.specs.Judged.{Refusal, on_fine, in_unit, Streamed, found_stream, stream_added, streams_added, any, branches, round_of, splitter_of, stream_of}
+use Rattle.streamit_model.specs.Judged.{on_fine, in_unit, Streamed, found_stream, stream_added, streams_added, any, branches, round_of, splitter_of, stream_of}
+use Rattle.streamit_model.specs.declared.fault.Refusal.{Refusal}
 use Rattle.streamit_model.specs.Judged.{not_there, unit_of, all_streams, few_operators, judged}
 use Rattle.streamit_model.proofs.Elaborated.{fine, ok_is, ok_parts, demanded}
 use Rattle.streamit_model.proofs.FilterMet.{filter_met}

@@ -12,7 +12,9 @@ use Rattle.river_plan.specs.Forms.{Name}
 use Rattle.streamit_text.specs.Tree.{Expression, Statement, Declare, Assign, Push, Discard, If, For, Block, End, Then, Optional, Unwritten, Written}
 use Rattle.brooklet_model.specs.Machine.{at_name}
 use Rattle.streamit_model.specs.Meaning.{Store, pops, numbers_from, turns_between}
-use Rattle.streamit_model.specs.Elaborate.{Fault, BranchRates, Limit, on_ok, KnownName, Var, Turn, find, constant, term_of, At, counted, has_slot, is_new, slot_of}
+use Rattle.streamit_model.specs.Elaborate.{on_ok, KnownName, Var, Turn, find, constant, term_of, At, counted, has_slot, is_new, slot_of}
+use Rattle.streamit_model.specs.declared.fault.Fault.{Fault}
+use Rattle.streamit_model.specs.declared.fault.Fault.TheVariants.{BranchRates, Limit}
 use Rattle.streamit_model.specs.Elaborate.{bound_of, first_term, first_popped, Read, declared, after_arms, unrolled, step_of, steps_of}
 use Rattle.streamit_model.specs.Elaborate.{optional_of}
 use Rattle.streamit_text.specs.Program.{UnitForm}

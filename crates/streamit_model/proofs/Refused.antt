@@ -5,9 +5,12 @@ use Rattle.std.specs.List.{AllByRecursion}
 use Rattle.std.proofs.lemmas.Bool.{cases_lt, leb-true, leb-false}
 use Rattle.streamit_model.specs.Unrolled.{Stream}
 use Rattle.streamit_model.specs.Plan.{ops_in}
-use Rattle.streamit_model.specs.Elaborate.{Fault, UnknownName, NameTwice, Rates, PeekRange, NotConstant, BranchRates, Limit, Weights, demand}
+use Rattle.streamit_model.specs.Elaborate.{demand}
+use Rattle.streamit_model.specs.declared.fault.Fault.{Fault}
+use Rattle.streamit_model.specs.declared.fault.Fault.TheVariants.{UnknownName, NameTwice, Rates, PeekRange, NotConstant, BranchRates, Limit, Weights}
 use Rattle.streamit_text.specs.Program.{UnitForm, Program}
-use Rattle.streamit_model.specs.Judged.{Streamed, Refusal, on_fine, in_unit, unit_of, all_streams, few_operators, judged}
+use Rattle.streamit_model.specs.Judged.{Streamed, on_fine, in_unit, unit_of, all_streams, few_operators, judged}
+use Rattle.streamit_model.specs.declared.fault.Refusal.{Refusal}
 use Rattle.streamit_model.specs.Words.{Peeks}
 use Rattle.streamit_model.specs.Places.{Spot, Reads, Rated, Counts, Finishes, Place, place_of_spot, places_behind, places_of, unit_spots, last_operators}
 use Rattle.streamit_model.specs.Faults.{AreRatesApart, IsOutside, HasFault, rank, IsFirstFault, IsFaultless, RefusalsAre, AcceptedAre}

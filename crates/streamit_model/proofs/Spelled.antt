@@ -13,7 +13,8 @@ use Rattle.river_plan.specs.Forms.{Name}
 use Rattle.streamit_text.specs.Tree.{Expression}
 use Rattle.streamit_text.specs.Tree as tree
 use Rattle.streamit_model.specs.Meaning.{Store, eval, pops}
-use Rattle.streamit_model.specs.Elaborate.{NotConstant, PeekRange, Limit, on_ok, KnownName, Var, Turn, find, constant_of, constant, named_term}
+use Rattle.streamit_model.specs.Elaborate.{on_ok, KnownName, Var, Turn, find, constant_of, constant, named_term}
+use Rattle.streamit_model.specs.declared.fault.Fault.TheVariants.{NotConstant, PeekRange, Limit}
 use Rattle.streamit_model.specs.Elaborate.{peeked}
 use Rattle.streamit_model.specs.Elaborate.{term_of, At, first_term, first_popped}
 use Rattle.streamit_text.specs.Program.{UnitForm}

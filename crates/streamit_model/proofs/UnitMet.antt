@@ -12,7 +12,9 @@ use Rattle.river_plan.proofs.NameLemmas.{cases_name}
 use Rattle.brooklet_model.specs.ByIndex.{cycle}
 use Rattle.streamit_model.specs.Unrolled.{RoundRobin, Stream, Filter, Pipeline, SplitJoin, Streams, Last, Then, nesting, deepest, IsRound}
 use Rattle.streamit_model.specs.Plan.{ops_in, ops_of}
-use Rattle.streamit_model.specs.Elaborate.{Fault, Rates, Limit, Weights, on_ok, demand, Var, find, At, steps_of, optional_of}
+use Rattle.streamit_model.specs.Elaborate.{on_ok, demand, Var, find, At, steps_of, optional_of}
+use Rattle.streamit_model.specs.declared.fault.Fault.{Fault}
+use Rattle.streamit_model.specs.declared.fault.Fault.TheVariants.{Rates, Limit, Weights}
 use Rattle.streamit_text.specs.Program.{WorkTree, FilterTree, Dealing, Copies, Turns, Body, AFilter, APipeline, ASplitJoin, UnitForm}
 use Rattle.streamit_model.specs.Meaning.{push_of, pop_of, peek_of, nought, weights_for, look, branch_count}
 use Rattle.streamit_model.specs.ElaborateFilter.{read_field, read_fields, nothing_read, elaborated_form, judged_rates, kept_rates, elaborated}

@@ -13,19 +13,8 @@ use Rattle.river_plan.specs.Forms.{Name}
 use Rattle.streamit_text.specs.Tree.{Expression, Statement, Declare, Assign, Push, Discard, If, For, Block, End, Then, Optional, Unwritten, Written}
 use Rattle.streamit_text.specs.Tree as tree
 use Rattle.streamit_model.specs.Meaning.{pops, numbers_from}
-
--- why a program is refused
-pub data Fault : Type 0 where
-  UnknownName : Fault
-  NameTwice : Fault
-  -- the rate that is declared, and the one that was counted
-  Rates : ℕ → ℕ → Fault
-  -- the index, and the rate of `peek`
-  PeekRange : ℤ → ℕ → Fault
-  NotConstant : Fault
-  BranchRates : Fault
-  Limit : Fault
-  Weights : Fault
+use Rattle.streamit_model.specs.declared.fault.Fault.{Fault}
+use Rattle.streamit_model.specs.declared.fault.Fault.TheVariants.{UnknownName, NameTwice, PeekRange, NotConstant, BranchRates, Limit}
 
 -- what f gives for the value that is there
 abbrev pub on_ok : {A B : Type 0} → Result A Fault → (A → Result B Fault) → Result B Fault

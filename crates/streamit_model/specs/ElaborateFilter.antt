@@ -6,7 +6,9 @@ use Rattle.kern_rows.specs.Forms.{FilterForm, RunForm}
 use Rattle.river_plan.specs.Forms.{Name}
 use Rattle.streamit_text.specs.Program.{WorkTree, FilterTree}
 use Rattle.streamit_model.specs.Meaning.{push_of, pop_of, peek_of}
-use Rattle.streamit_model.specs.Elaborate.{Fault, Rates, Limit, on_ok, demand, Var, find, is_new, has_slot, At, steps_of, optional_of}
+use Rattle.streamit_model.specs.Elaborate.{on_ok, demand, Var, find, is_new, has_slot, At, steps_of, optional_of}
+use Rattle.streamit_model.specs.declared.fault.Fault.{Fault}
+use Rattle.streamit_model.specs.declared.fault.Fault.TheVariants.{Rates, Limit}
 
 -- a field is known from here on, in a slot of its own
 abbrev pub read_field : Name → At → Result At Fault

@@ -6,7 +6,8 @@ use Rattle.river_plan.specs.Forms.{Name}
 use Rattle.river_plan.specs.Names.{count}
 use Rattle.brooklet_model.specs.ByIndex.{cycle}
 use Rattle.streamit_model.specs.Unrolled.{IsRound}
-use Rattle.streamit_model.specs.Elaborate.{Fault, UnknownName, NameTwice, Rates, PeekRange, NotConstant, BranchRates, Limit, Weights}
+use Rattle.streamit_model.specs.declared.fault.Fault.{Fault}
+use Rattle.streamit_model.specs.declared.fault.Fault.TheVariants.{UnknownName, NameTwice, Rates, PeekRange, NotConstant, BranchRates, Limit, Weights}
 use Rattle.streamit_text.specs.Program.{UnitForm, Program}
 use Rattle.streamit_model.specs.Meaning.{weights_for}
 use Rattle.streamit_model.specs.Judged.{Streamed, judged}

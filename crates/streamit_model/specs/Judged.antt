@@ -5,15 +5,13 @@ use Rattle.river_plan.specs.Forms.{Name}
 use Rattle.streamit_model.specs.Unrolled.{Splitter, Duplicate, RoundRobin, Stream, Filter, Pipeline, SplitJoin, Streams, Last, Then, nesting}
 use Rattle.brooklet_model.specs.ByIndex.{cycle}
 use Rattle.streamit_model.specs.Plan.{ops_in}
-use Rattle.streamit_model.specs.Elaborate.{Fault, UnknownName, NameTwice, Limit, Weights, on_ok, demand}
+use Rattle.streamit_model.specs.Elaborate.{on_ok, demand}
+use Rattle.streamit_model.specs.declared.fault.Fault.{Fault}
+use Rattle.streamit_model.specs.declared.fault.Refusal.{Refusal}
+use Rattle.streamit_model.specs.declared.fault.Fault.TheVariants.{UnknownName, NameTwice, Limit, Weights}
 use Rattle.streamit_model.specs.ElaborateFilter.{elaborated}
 use Rattle.streamit_text.specs.Program.{Dealing, Copies, Turns, Body, AFilter, APipeline, ASplitJoin, UnitForm, Program}
 use Rattle.streamit_model.specs.Meaning.{weights_for, look, branch_count}
-
--- the first fault, and the number of its unit
-pub record Refusal : Type 0 where
-  pub unit : ℕ
-  pub fault : Fault
 
 -- what f gives for the value that is there
 abbrev pub on_fine : {A B : Type 0} → Result A Refusal → (A → Result B Refusal) → Result B Refusal

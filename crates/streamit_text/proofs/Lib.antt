@@ -1,7 +1,6 @@
 pub mod Adding
 pub mod FieldSteps
 pub mod Named
-pub mod Programs
 pub mod RateSteps
 pub mod Signs
 pub mod Texts

@@ -11,6 +11,7 @@ use Rattle.streamit_text.specs.declared.program.Split.TheVariants as split
 use Rattle.streamit_text.specs.declared.program.Adds as written
 use Rattle.streamit_text.specs.declared.program.Body as tree
 use Rattle.streamit_text.specs.declared.program.Body.TheVariants as body
+use Rattle.streamit_text.specs.declared.program.StreamitProgram as code_program
 use Rattle.streamit_text.specs.declared.program.Unit as code_unit
 
 -- `work` or `prework`: its rates, which may be left out, and its block
@@ -84,3 +85,6 @@ unit_form d = record { name = d.name; body = body_of d.body }
 
 abbrev pub unit_forms : List code_unit.Unit → Program
 unit_forms ds = map unit_form ds
+
+abbrev pub program_of : code_program.StreamitProgram → Program
+program_of p = unit_forms p.units.items

@@ -1,9 +1,11 @@
 -- How units are read: the grammar in the words of reading functions.
-use Rattle.std.specs.Prelude.{ℕ, not, Bool, List, [], ◌∷◌, Option, None, Result, Err, codes, if◌then◌else◌}
+use Rattle.std.specs.Prelude.{ℕ, not, Bool, List, [], ◌∷◌, Option, None, Result, codes, if◌then◌else◌}
 use Rattle.std.specs.Str.{bytes_eq}
 use Rattle.text_tokens.specs.Tok.{Tok}
 use Rattle.text_tokens.specs.declared.sign.Symbol.TheVariants as s
-use Rattle.text_forms.specs.Texts.{read_units}
+use Rattle.text_forms.specs.AllUnits as form
+use Rattle.text_forms.specs.AllUnits.{by_units, text_by}
+use Rattle.text_forms.specs.declared.text_fault.TextFault.{TextFault}
 use Rattle.text_forms.specs.Parse.{Parse, begins_with, is_word_at, is_value, count_at, number_at, both, after, before, after_word, tested, seen, known, maybe}
 use Rattle.text_forms.specs.Parse.{many, commas, listing, headed, enclosed}
 use Rattle.text_blocks.specs.Parts.{round_at}
@@ -11,10 +13,10 @@ use Rattle.text_blocks.specs.Reading as blocks
 use Rattle.streamit_text.specs.Blocks.{own_at, empty_at, style}
 use Rattle.streamit_text.specs.Expressions.{expr_at}
 use Rattle.streamit_text.specs.Leaves.{leaf_at}
-use Rattle.streamit_text.specs.Program.{WorkTree, FilterTree, Dealing, Turns, Adds, Body, AFilter, APipeline, UnitForm}
+use Rattle.streamit_text.specs.Program.{WorkTree, FilterTree, Dealing, Turns, Adds, Body, AFilter, APipeline, UnitForm, Program}
 use Rattle.streamit_text.specs.Tree.{Block, Optional, or_unwritten}
 use Rattle.streamit_text.specs.Grammar.{stay, Rate, push, pop, peek, Rates, unwritten, rates_in, made_work, made_filter, none_there, the_name, made_adds, copying}
-use Rattle.streamit_text.specs.Grammar.{made_both, made_unit, next_unit}
+use Rattle.streamit_text.specs.Grammar.{made_both, made_unit}
 
 -- a block of a filter
 unfoldable pub block_at : ℕ → Parse Block
@@ -141,5 +143,8 @@ unit_from u = unit_at
 
 -- the units of a text, of which there has to be one
 abbrev pub some_units : List (List Tok) → Result (List UnitForm) ℕ
-some_units [] = Err 1
-some_units (u ∷ us) = read_units unit_from next_unit tt 1 (u ∷ us)
+some_units us = form.some_units unit_at us
+
+-- what is read of a text
+abbrev pub program_in : List ℕ → Result Program TextFault
+program_in text = text_by (by_units some_units) text

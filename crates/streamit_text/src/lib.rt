@@ -17,7 +17,7 @@ mod unit;
 pub use filter::fields;
 pub use leaves::{Leaves, Plain, pop};
 pub use names::{name, own, parens};
-pub use program::{Adds, Body, RoundRobin, Split, SplitJoin, Unit};
+pub use program::{Adds, Body, RoundRobin, Split, SplitJoin, StreamitProgram, Unit};
 pub use read::read_streamit;
 pub use statement::{ForHead, Upper, round_head};
 pub use still::{is_still, stay};

@@ -4,6 +4,13 @@ ghost use Rattle.std.specs.Prelude.{◌≤◌, length};
 use crate::FilterTree;
 use river_base::Name;
 
+/// A program as it is written: streams that are declared one after another, of which the last is run
+/// (the StreamIt language of Thies, Karczmarek and Amarasinghe).
+#[derive(Drop)]
+pub struct StreamitProgram {
+    pub units: Vec<Unit>,
+}
+
 /// A unit of a program: a stream that is declared. Its name has at most 40 bytes.
 #[derive(Drop)]
 pub struct Unit {

@@ -6,8 +6,8 @@ use Rattle.streamit_text.specs.Tree.{Expression}
 use Rattle.streamit_text.specs.Tree as source
 use Rattle.streamit_model.specs.Meaning.{pops}
 use Rattle.streamit_model.specs.Elaborate.{At, Read, on_ok, counted, term_of, steps_of, optional_of, after_arms, step_of}
-use Rattle.streamit_unroll.specs.declared.fault.Fault as fault
-use Rattle.streamit_unroll.specs.View.{Tells}
+use Rattle.streamit_unroll.specs.declared.refused.RefusedUnit.{RefusedUnit}
+use Rattle.streamit_unroll.specs.View.{IsWhyUnit}
 use Rattle.streamit_unroll.proofs.SoFar.{tells_more}
 
 module _ (e : ℕ) (t : Expression) (a : source.Block) (b : source.Optional) (s : At) where
@@ -23,21 +23,24 @@ module _ (e : ℕ) (t : Expression) (a : source.Block) (b : source.Optional) (s 
   abbrev first : At → Read
   first m = on_ok (term_of e m.scope t m.popped) (next m)
 
-  pub if_count_fault : (f : fault.Fault) → Tells f (counted s) → Tells f whole
+  -- a statement too many is the fault of the whole
+  pub if_count_fault : (f : RefusedUnit) → IsWhyUnit f (counted s) → IsWhyUnit f whole
   if_count_fault f h = tells_more f (counted s) whole (λ g q. ap (λ r. on_ok r first) q) h
 
   module _ (s1 : At) (hc : counted s ≡ Ok s1) where
     cond_on : whole ≡ first s1
     cond_on = ap (λ r. on_ok r first) hc
 
-    pub if_cond_fault : (f : fault.Fault) → Tells f (term_of e s1.scope t s1.popped) → Tells f whole
+    -- so is one of the condition
+    pub if_cond_fault : (f : RefusedUnit) → IsWhyUnit f (term_of e s1.scope t s1.popped) → IsWhyUnit f whole
     if_cond_fault f h = tells_more f (term_of e s1.scope t s1.popped) whole (λ g q. cond_on ∙ ap (λ r. on_ok r (next s1)) q) h
 
     module _ (c : Term) (k : ℕ) (ht : term_of e s1.scope t s1.popped ≡ Ok c) (hk : k ≡ s1.popped + pops t) where
       arms_on : whole ≡ on_ok (steps_of e a (record s1 { popped = k })) (third s1 c)
       arms_on = cond_on ∙ ap (λ r. on_ok r (next s1)) ht ∙ ap (λ j. on_ok (steps_of e a (record s1 { popped = j })) (third s1 c)) (sym hk)
 
-      pub if_first_fault : (f : fault.Fault) → Tells f (steps_of e a (record s1 { popped = k })) → Tells f whole
+      -- one of the first branch
+      pub if_first_fault : (f : RefusedUnit) → IsWhyUnit f (steps_of e a (record s1 { popped = k })) → IsWhyUnit f whole
       if_first_fault f h = tells_more f (steps_of e a (record s1 { popped = k })) whole (λ g q. arms_on ∙ ap (λ r. on_ok r (third s1 c)) q) h
 
       module _ (f1 : Steps) (la m1 : At) (ha : steps_of e a (record s1 { popped = k }) ≡ Ok (f1, la)) (em1 : m1 ≡ record la { scope = s1.scope }) where
@@ -48,7 +51,8 @@ module _ (e : ℕ) (t : Expression) (a : source.Block) (b : source.Optional) (s 
             ∙ ap (λ (m : At). record m { popped = k; pushed = s1.pushed }) (sym em1) in
             arms_on ∙ ap (λ r. on_ok r (third s1 c)) ha ∙ ap (λ m. on_ok (optional_of e b m) (after_arms s1 c (f1, la))) at
 
-        pub if_second_fault : (f : fault.Fault) → Tells f (optional_of e b (record m1 { popped = k; pushed = s1.pushed })) → Tells f whole
+        -- and one of the second
+        pub if_second_fault : (f : RefusedUnit) → IsWhyUnit f (optional_of e b (record m1 { popped = k; pushed = s1.pushed })) → IsWhyUnit f whole
         if_second_fault f h =
             tells_more f (optional_of e b (record m1 { popped = k; pushed = s1.pushed })) whole
             (λ g q. second_on ∙ ap (λ r. on_ok r (after_arms s1 c (f1, la))) q) h

@@ -61,6 +61,7 @@ discards_suc : (n : ℕ) → discards (suc n) ≡ discards n ++ source.Discard �
 discards_suc zero = refl
 discards_suc (suc n) = ap (λ l. source.Discard ∷ l) (discards_suc n)
 
+-- one more `pop();` stands behind the others
 pub discards_more : (n : ℕ) → discards (n + 1) ≡ discards n ++ source.Discard ∷ []
 discards_more n = ap discards (add-one n) ∙ discards_suc n
 

@@ -8,7 +8,9 @@ use Rattle.work_code.specs.Steps as steps
 use Rattle.streamit_text.specs.Tree as source
 use Rattle.river_plan.specs.Forms.{Name}
 use Rattle.streamit_model.specs.Meaning.{numbers_from, pops}
-use Rattle.streamit_model.specs.Elaborate.{Fault, At, Read, on_ok, step_of, steps_of, unrolled, counted, is_new, find, constant, bound_of, term_of}
+use Rattle.streamit_model.specs.Elaborate.{At, Read, on_ok, step_of, steps_of, unrolled, counted, is_new, find, constant, bound_of, term_of}
+use Rattle.streamit_model.specs.declared.fault.Fault.{Fault}
+use Rattle.streamit_model.specs.declared.fault.Fault.TheVariants.{BranchRates}
 use Rattle.streamit_model.specs.Elaborate.{after_arms, optional_of}
 use Rattle.streamit_text.specs.Tree.{Expression}
 use Rattle.work_code.specs.Term.{Term}
@@ -17,11 +19,11 @@ use Rattle.streamit_unroll.specs.declared.unroll.Unroller.{Unroller}
 use Rattle.streamit_unroll.specs.declared.names.Known.{Known}
 use Rattle.streamit_unroll.specs.declared.names.Known.TheVariants as known
 use Rattle.streamit_unroll.specs.Lean.{discards}
-use Rattle.streamit_unroll.specs.View.{scope_of, Tells}
+use Rattle.streamit_unroll.specs.View.{scope_of, IsWhyUnit}
 use Rattle.streamit_unroll.proofs.Scopes.{scope-push}
 use Rattle.streamit_unroll.specs.Unrolling.{at_of, KeepsNames, AreWritten, Reads, turn_of, turns_of, ReadsTurn}
-use Rattle.streamit_unroll.specs.declared.fault.Fault as fault
-use Rattle.streamit_unroll.specs.declared.fault.Fault.TheVariants as faults
+use Rattle.streamit_unroll.specs.declared.refused.RefusedUnit.{RefusedUnit}
+use Rattle.streamit_unroll.specs.declared.refused.RefusedUnit.TheVariants as refused
 use Rattle.streamit_model.specs.Elaborate as spec
 use Rattle.std.proofs.lemmas.List.{map-append, take_all}
 use Rattle.std.proofs.lemmas.Bool.{and_from, eq-eqb}
@@ -72,6 +74,7 @@ pub record BlockSoFar (e : ℕ) (all rest : List source.Statement) (first now : 
 
 -- TURNS
 
+-- some turns of a loop were read, and what they give stands before what the others will
 pub record TurnsSoFar (e : ℕ) (b : source.Block) (n : Name) (low v end : ℕ) (first now : Unroller) (out out' : Stmts) : Type 0 where
   pub added : List Stmt
   pub grew : statements out' ≡ statements out ++ added
@@ -80,16 +83,9 @@ pub record TurnsSoFar (e : ℕ) (b : source.Block) (n : Name) (low v end : ℕ) 
   pub names : now.names.items.items ≡ first.names.items.items
 
 -- a fault of one reading is one of another
-pub tells_more : {A B : Type 0} (f : fault.Fault) (r : Result A Fault) (r' : Result B Fault) → ((g : Fault) → r ≡ Err g → r' ≡ Err g) → Tells f r → Tells f r'
-tells_more faults.UnknownName r r' h e = h spec.UnknownName e
-tells_more faults.NameTwice r r' h e = h spec.NameTwice e
-tells_more (faults.Rates d c) r r' h e = h (spec.Rates d c) e
-tells_more (faults.PeekRange i p) r r' h e = h (spec.PeekRange i p) e
-tells_more faults.NotConstant r r' h e = h spec.NotConstant e
-tells_more faults.BranchRates r r' h e = h spec.BranchRates e
-tells_more faults.Limit r r' h e = h spec.Limit e
-tells_more faults.Weights r r' h e = h spec.Weights e
-tells_more faults.NoMemory r r' h e = tt
+pub tells_more : {A B : Type 0} (f : RefusedUnit) (r : Result A Fault) (r' : Result B Fault) → ((g : Fault) → r ≡ Err g → r' ≡ Err g) → IsWhyUnit f r → IsWhyUnit f r'
+tells_more (refused.Fault f) r r' h e = h f e
+tells_more refused.NoMemory r r' h e = tt
 
 -- the statements of two lists
 steps_append : (e : ℕ) (cs rest : List source.Statement) (s : At)
@@ -163,9 +159,9 @@ block_more e all cs rest first now next out out' out'' f r = record {
 }
 
 -- some statements are refused
-pub block_fault : (e : ℕ) (all cs rest : List source.Statement) (first now x y : Unroller) (out out' o n : Stmts) (result : Result (Unit {0}) fault.Fault)
-    (f : fault.Fault)
-    → result ≡ Err f → BlockSoFar e all (cs ++ rest) first now out out' → Tells f (steps_of e (source.in_turn cs) (at_of now))
+pub block_fault : (e : ℕ) (all cs rest : List source.Statement) (first now x y : Unroller) (out out' o n : Stmts) (result : Result (Unit {0}) RefusedUnit)
+    (f : RefusedUnit)
+    → result ≡ Err f → BlockSoFar e all (cs ++ rest) first now out out' → IsWhyUnit f (steps_of e (source.in_turn cs) (at_of now))
     → Reads result o n x y (steps_of e (source.in_turn all) (at_of first))
 block_fault e all cs rest first now x y out out' o n result f is s r =
     subst (λ t. Reads t o n x y (steps_of e (source.in_turn all) (at_of first))) (sym is)
@@ -181,6 +177,7 @@ block_end e all first now out out' f = (f.added, f.grew, f.all_is ∙ behind_don
 
 -- TURNS
 
+-- two steps behind an answer, in either grouping
 pub on_ok-assoc : {A B C : Type 0} (r : Result A Fault) (f : A → Result B Fault) (g : B → Result C Fault) → on_ok (on_ok r f) g ≡ on_ok r (λ x. on_ok (f x) g)
 on_ok-assoc (Ok x) f g = refl
 on_ok-assoc (Err e) f g = refl
@@ -232,7 +229,7 @@ turns_next e b n low v end first now next out out' out'' lt f r = record {
 
 -- a turn that is refused
 pub turns_fault : (e : ℕ) (b : source.Block) (n : Name) (low v end : ℕ) (first now next x y : Unroller) (out out' out'' o k : Stmts) (whole : Read)
-    (result : Result (Unit {0}) fault.Fault) (f : fault.Fault)
+    (result : Result (Unit {0}) RefusedUnit) (f : RefusedUnit)
     → result ≡ Err f → v < end → whole ≡ unrolled (steps_of e b) n (numbers_from low (end - low)) (at_of first) → TurnsSoFar e b n low v end first now out out'
     → ReadsTurn (Err f) out' out'' now next (turn_of (steps_of e b) n v (at_of now)) → Reads result o k x y whole
 turns_fault e b n low v end first now next x y out out' out'' o k whole result f is lt w s r =
@@ -276,8 +273,8 @@ pub for_turns : (e : ℕ) (n : Name) (lo hi : Expression) (upto : Bool) (b : sou
 for_turns e n lo hi upto b s l end h = for_is e n lo hi upto b s ∙ ap (λ r. on_ok r (λ p. unrolled (steps_of e b) n (numbers_from p.0 (p.1 - p.0)) s)) h
 
 -- a loop whose turns are refused
-pub for_fault : (e : ℕ) (n : Name) (lo hi : Expression) (upto : Bool) (b : source.Block) (s : At) (f : fault.Fault)
-    → Tells f (turns_of s.scope n lo upto hi) → Tells f (step_of e (source.For n lo upto hi b) s)
+pub for_fault : (e : ℕ) (n : Name) (lo hi : Expression) (upto : Bool) (b : source.Block) (s : At) (f : RefusedUnit)
+    → IsWhyUnit f (turns_of s.scope n lo upto hi) → IsWhyUnit f (step_of e (source.For n lo upto hi b) s)
 for_fault e n lo hi upto b s f h =
     tells_more f (turns_of s.scope n lo upto hi) (step_of e (source.For n lo upto hi b) s)
     (λ g r. for_is e n lo hi upto b s ∙ ap (λ q. on_ok q (λ p. unrolled (steps_of e b) n (numbers_from p.0 (p.1 - p.0)) s)) r) h
@@ -297,7 +294,7 @@ if_is e t a b s s1 cond f g la lb hc ht ha hb p q =
     ∙ ap (λ r. on_ok r f2) ht
     ∙ ap (λ r. on_ok r (f3 cond)) ha
     ∙ ap (λ r. on_ok r (after_arms s1 cond (f, la))) hb
-    ∙ ap (λ t. if t then good (one_step (steps.If cond f g), record lb { scope = s1.scope }) else Err spec.BranchRates)
+    ∙ ap (λ t. if t then good (one_step (steps.If cond f g), record lb { scope = s1.scope }) else Err BranchRates)
     (and_from (nat_eq la.popped lb.popped) (nat_eq la.pushed lb.pushed) (eq-eqb la.popped lb.popped p) (eq-eqb la.pushed lb.pushed q))
 
 abbrev Entry : Type 0
@@ -337,12 +334,12 @@ if_read e t a b s s1 m1 m2 la lb cond k f g hc ht hk ha em1 hb em2 p q =
     ∙ ap (λ m. good (one_step (steps.If cond f g), m)) (sym em2)
 
 -- an answer that is a fault
-pub reads_err : (result : Result (Unit {0}) fault.Fault) (f : fault.Fault) (o n : Stmts) (x y : Unroller) (r : Read) → result ≡ Err f → Tells f r
+pub reads_err : (result : Result (Unit {0}) RefusedUnit) (f : RefusedUnit) (o n : Stmts) (x y : Unroller) (r : Read) → result ≡ Err f → IsWhyUnit f r
     → Reads result o n x y r
 reads_err result f o n x y r is t = subst (λ q. Reads q o n x y r) (sym is) t
 
 -- an answer about a statement that is one alone
-pub reads_as : (result : Result (Unit {0}) fault.Fault) (o n : Stmts) (x y : Unroller) (e : ℕ) (s : At) {cs : List source.Statement} {d : source.Statement}
+pub reads_as : (result : Result (Unit {0}) RefusedUnit) (o n : Stmts) (x y : Unroller) (e : ℕ) (s : At) {cs : List source.Statement} {d : source.Statement}
     → cs ≡ d ∷ [] → Reads result o n x y (step_of e d s) → Reads result o n x y (steps_of e (source.in_turn cs) s)
 reads_as result o n x y e s {cs} {d} is h =
     subst (λ l. Reads result o n x y (steps_of e (source.in_turn l) s)) (sym is) (subst (Reads result o n x y) (sym (one_read e d s)) h)

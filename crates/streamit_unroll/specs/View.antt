@@ -1,12 +1,13 @@
 -- What the code's values stand for.
 use Rattle.std.specs.Prelude.{◌≡◌, List, map, reverse, Option, Some, None, Result, Ok, Err}
 use Rattle.river_plan.specs.Forms.{Name}
-use Rattle.streamit_unroll.specs.declared.fault.Fault.{Fault}
-use Rattle.streamit_unroll.specs.declared.fault.Fault.TheVariants as fault
 use Rattle.streamit_unroll.specs.declared.names.Known.{Known}
 use Rattle.streamit_unroll.specs.declared.names.Known.TheVariants as code
 use Rattle.streamit_model.specs.Elaborate.{Scope}
 use Rattle.streamit_model.specs.Elaborate as spec
+use Rattle.streamit_model.specs.declared.fault.Fault.{Fault}
+use Rattle.streamit_unroll.specs.declared.refused.RefusedUnit.{RefusedUnit}
+use Rattle.streamit_unroll.specs.declared.refused.RefusedUnit.TheVariants as refused
 
 abbrev pub known_form : Known → spec.KnownName
 known_form (code.Var i) = spec.Var i
@@ -23,19 +24,12 @@ entry_of e = (e.0, known_form e.1)
 abbrev pub scope_of : List (Name × Known) → Scope
 scope_of es = reverse (map entry_of es)
 
--- the fault is the one that is defined; of want of memory nothing is said
-abbrev pub Tells : {A : Type 0} → Fault → Result A spec.Fault → Type 0
-Tells fault.UnknownName r = r ≡ Err spec.UnknownName
-Tells fault.NameTwice r = r ≡ Err spec.NameTwice
-Tells (fault.Rates declared counted) r = r ≡ Err (spec.Rates declared counted)
-Tells (fault.PeekRange index peek) r = r ≡ Err (spec.PeekRange index peek)
-Tells fault.NotConstant r = r ≡ Err spec.NotConstant
-Tells fault.BranchRates r = r ≡ Err spec.BranchRates
-Tells fault.Limit r = r ≡ Err spec.Limit
-Tells fault.Weights r = r ≡ Err spec.Weights
-Tells fault.NoMemory r = Unit {0}
+-- the fault is the one that is defined; want of memory says nothing
+abbrev pub IsWhyUnit : {A : Type 0} → RefusedUnit → Result A Fault → Type 0
+IsWhyUnit (refused.Fault f) r = r ≡ Err f
+IsWhyUnit refused.NoMemory r = Unit {0}
 
 -- the answer is the one that is defined, or there was no memory
-abbrev pub Judges : {X A : Type 0} → (X → A) → Result X Fault → Result A spec.Fault → Type 0
+abbrev pub Judges : {X A : Type 0} → (X → A) → Result X RefusedUnit → Result A Fault → Type 0
 Judges view (Ok x) r = r ≡ Ok (view x)
-Judges view (Err f) r = Tells f r
+Judges view (Err f) r = IsWhyUnit f r

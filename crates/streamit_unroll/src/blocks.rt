@@ -10,15 +10,22 @@ ghost use Rattle.streamit_unroll.specs.Unrolling.{at_of, Reads, ReadsArm, ReadsT
 
 use crate::lean::{Lean, LeanBlock, lean_block};
 use crate::term::term;
-use crate::{Fault, Known, Unroller};
+use crate::{Known, RefusedUnit, Unroller};
 use river_base::Name;
 use std::alloc::Global;
+use streamit_model::Fault;
 use streamit_text::{Block, Expr, Until};
 use work_code::{Stmt, Stmts};
 
 impl Unroller {
     // The statements of a block, behind those that are there.
-    pub fn all(&mut self, alloc: Global, peek: u32, b: &Block, out: &mut Stmts) -> Result<(), Fault>
+    pub fn all(
+        &mut self,
+        alloc: Global,
+        peek: u32,
+        b: &Block,
+        out: &mut Stmts,
+    ) -> Result<(), RefusedUnit>
         requires { AreWritten (block b.now) }
         ensures { Reads result out.old out.new self.old self.new (steps_of peek (block b.now) (at_of self.old)) }
     {
@@ -34,7 +41,7 @@ impl Unroller {
         peek: u32,
         b: &LeanBlock<'_>,
         out: &mut Stmts,
-    ) -> Result<(), Fault>
+    ) -> Result<(), RefusedUnit>
         requires { AreWritten (lean_block b.now) }
         ensures { Reads result out.old out.new self.old self.new (steps_of peek (lean_block b.now) (at_of self.old)) }
     {
@@ -52,7 +59,7 @@ impl Unroller {
         peek: u32,
         s: &Lean<'_>,
         out: &mut Stmts,
-    ) -> Result<(), Fault>
+    ) -> Result<(), RefusedUnit>
         requires { AreWritten (in_turn (lean s.now)) }
         ensures { Reads result out.old out.new self.old self.new (steps_of peek (in_turn (lean s.now)) (at_of self.old)) }
     {
@@ -85,7 +92,7 @@ impl Unroller {
         yes: &LeanBlock<'_>,
         no: &Option<LeanBlock<'_>>,
         out: &mut Stmts,
-    ) -> Result<(), Fault>
+    ) -> Result<(), RefusedUnit>
         requires cond { AreValues (expression cond.now) }
         requires yes { AreWritten (lean_block yes.now) }
         requires no { AreWrittenOptional (lean_optional no.now) }
@@ -110,7 +117,7 @@ impl Unroller {
             })?;
             Ok(())
         } else {
-            Err(Fault::BranchRates)
+            Err(RefusedUnit::Fault(Fault::BranchRates))
         }
     }
 
@@ -121,7 +128,7 @@ impl Unroller {
         alloc: Global,
         peek: u32,
         no: &Option<LeanBlock<'_>>,
-    ) -> Result<Stmts, Fault>
+    ) -> Result<Stmts, RefusedUnit>
         requires { AreWrittenOptional (lean_optional no.now) }
         ensures { ReadsArm result self.old self.new (optional_of peek (lean_optional no.now) (at_of self.old)) }
     {
@@ -133,7 +140,7 @@ impl Unroller {
 
     // The statements of an arm of an `if`; what was declared there is not known afterwards.
     #[cycle(unroll)]
-    fn arm(&mut self, alloc: Global, peek: u32, b: &LeanBlock<'_>) -> Result<Stmts, Fault>
+    fn arm(&mut self, alloc: Global, peek: u32, b: &LeanBlock<'_>) -> Result<Stmts, RefusedUnit>
         requires { AreWritten (lean_block b.now) }
         ensures { ReadsArm result self.old self.new (steps_of peek (lean_block b.now) (at_of self.old)) }
     {
@@ -145,7 +152,7 @@ impl Unroller {
     }
 
     // The turns of a loop, whose variable has a new name.
-    fn span(&self, name: Name, low: &Expr, until: Until, high: &Expr) -> Result<Span, Fault>
+    fn span(&self, name: Name, low: &Expr, until: Until, high: &Expr) -> Result<Span, RefusedUnit>
         requires low { AreValues (expression low.now) }
         requires high { AreValues (expression high.now) }
         ensures { Judges span result (turns_of (at_of self.now).scope name (expression low.now) (is_turn until) (expression high.now)) }
@@ -169,7 +176,7 @@ impl Unroller {
         span: Span,
         b: &LeanBlock<'_>,
         out: &mut Stmts,
-    ) -> Result<(), Fault>
+    ) -> Result<(), RefusedUnit>
         requires { AreWritten (lean_block b.now) }
         ensures { Reads result out.old out.new self.old self.new
             (unrolled (steps_of peek (lean_block b.now)) name (numbers_from span.low (span.end - span.low)) (at_of self.old)) }
@@ -190,7 +197,7 @@ impl Unroller {
         v: u32,
         b: &LeanBlock<'_>,
         out: &mut Stmts,
-    ) -> Result<(), Fault>
+    ) -> Result<(), RefusedUnit>
         requires { AreWritten (lean_block b.now) }
         ensures { ReadsTurn result out.old out.new self.old self.new (turn_of (steps_of peek (lean_block b.now)) name v (at_of self.old)) }
     {

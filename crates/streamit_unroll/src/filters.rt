@@ -15,15 +15,16 @@ ghost use Rattle.streamit_unroll.specs.Unrolling.{at_of, worked, Reads, KeepsNam
 ghost use Rattle.streamit_text.specs.Tree.{block, optional_block};
 ghost use Rattle.streamit_unroll.specs.View.{Judges};
 
-use crate::{Fault, Known, Names, Unroller};
+use crate::{Known, Names, RefusedUnit, Unroller};
 use kern_rows::{Filter, First};
 use river_base::{MOST_ITEMS, MOST_SLOTS, Name, NoMemory, Numbers};
 use std::alloc::Global;
+use streamit_model::Fault;
 use streamit_text::{Block, FilterTree, Rates, WorkTree};
 use work_code::{Body, Code, Emitted, Stmts, run_code};
 
 /// The filter of a plan for a filter as it is written, or the first fault in reading order.
-pub fn filter(alloc: Global, tree: &FilterTree) -> Result<Filter, Fault>
+pub fn filter(alloc: Global, tree: &FilterTree) -> Result<Filter, RefusedUnit>
     requires { IsReadable (filter_tree tree.now) }
     ensures { Judges filter_form result (elaborated (filter_tree tree.now)) }
 {
@@ -55,7 +56,7 @@ impl Counts {
     }
 
     // Whether they may stand there, where a firing pops so many items at least.
-    fn judged(self, least: u32) -> Result<(), Fault>
+    fn judged(self, least: u32) -> Result<(), RefusedUnit>
         ensures { Judges (λ u. u) result (judged_rates least self.push self.pop self.peek) }
     {
         if self.push > MOST_ITEMS
@@ -63,13 +64,13 @@ impl Counts {
             || self.peek > MOST_ITEMS
             || self.pop < least
         {
-            return Err(Fault::Limit);
+            return Err(RefusedUnit::Fault(Fault::Limit));
         }
         if self.peek < self.pop {
-            return Err(Fault::Rates {
+            return Err(RefusedUnit::Fault(Fault::Rates {
                 declared: self.peek,
                 counted: self.pop,
-            });
+            }));
         }
         Ok(())
     }
@@ -102,7 +103,7 @@ impl Unroller {
     }
 
     // The filter, where nothing was read.
-    fn filter(&mut self, alloc: Global, tree: &FilterTree) -> Result<Filter, Fault>
+    fn filter(&mut self, alloc: Global, tree: &FilterTree) -> Result<Filter, RefusedUnit>
         requires nothing { at_of self.old ≡ nothing_read }
         requires readable { IsReadable (filter_tree tree.now) }
         ensures { Judges filter_form result (elaborated (filter_tree tree.now)) }
@@ -115,7 +116,7 @@ impl Unroller {
     }
 
     // The fields, one after another.
-    fn fields(&mut self, fields: &[Name]) -> Result<(), Fault>
+    fn fields(&mut self, fields: &[Name]) -> Result<(), RefusedUnit>
         ensures { Judges (λ _. at_of self.new) result (read_fields fields.now (at_of self.old)) }
     {
         for name in fields {
@@ -125,13 +126,13 @@ impl Unroller {
     }
 
     // A field, in the next slot.
-    fn field(&mut self, name: Name) -> Result<(), Fault>
+    fn field(&mut self, name: Name) -> Result<(), RefusedUnit>
         ensures { Judges (λ _. at_of self.new) result (read_field name (at_of self.old)) }
     {
         self.new_name(name)?;
         let slot = self.slots;
         if slot >= MOST_SLOTS {
-            return Err(Fault::Limit);
+            return Err(RefusedUnit::Fault(Fault::Limit));
         }
         self.slots = slot + 1;
         self.names.items.push((name, Known::Var(slot)))?;
@@ -139,7 +140,7 @@ impl Unroller {
     }
 
     // What the fields are after `init`; all that is known is as it was before.
-    fn starts(&mut self, alloc: Global, tree: &FilterTree) -> Result<Numbers, Fault>
+    fn starts(&mut self, alloc: Global, tree: &FilterTree) -> Result<Numbers, RefusedUnit>
         requires fields { read_fields (filter_tree tree.now).fields nothing_read ≡ Ok (at_of self.old) }
         requires readable { IsReadable (filter_tree tree.now) }
         ensures starts { Judges (λ zs. zs) result
@@ -192,7 +193,7 @@ impl Unroller {
         alloc: Global,
         init: &Option<Block>,
         out: &mut Stmts,
-    ) -> Result<(), Fault>
+    ) -> Result<(), RefusedUnit>
         requires { AreWrittenOptional (optional_block init.now) }
         ensures { Reads result out.old out.new self.old self.new (optional_of 0 (optional_block init.now) (at_of self.old)) }
     {
@@ -203,7 +204,7 @@ impl Unroller {
     }
 
     // The first run, where there is a `prework`; all that is known is as it was before.
-    fn prework(&mut self, alloc: Global, tree: &FilterTree) -> Result<Option<First>, Fault>
+    fn prework(&mut self, alloc: Global, tree: &FilterTree) -> Result<Option<First>, RefusedUnit>
         requires { IsReadable (filter_tree tree.now) }
         ensures read { Judges optional_run result (read_prework (filter_tree tree.now).prework (at_of self.old)) }
         ensures back { OnOk result (at_of self.new ≡ at_of self.old) }
@@ -215,7 +216,7 @@ impl Unroller {
     }
 
     // The run of `prework` or `work`, which pops so many items at least; all that is known is as it was before.
-    fn run(&mut self, alloc: Global, least: u32, tree: &WorkTree) -> Result<First, Fault>
+    fn run(&mut self, alloc: Global, least: u32, tree: &WorkTree) -> Result<First, RefusedUnit>
         requires { AreWritten (work_tree tree.now).block }
         ensures read { Judges run_form result (read_work least (work_tree tree.now) (at_of self.old)) }
         ensures back { OnOk result (at_of self.new ≡ at_of self.old) }
@@ -234,7 +235,7 @@ impl Unroller {
     }
 
     // The body of a block, and whether it keeps the rates.
-    fn work(&mut self, alloc: Global, rates: Counts, work: &Block) -> Result<Code, Fault>
+    fn work(&mut self, alloc: Global, rates: Counts, work: &Block) -> Result<Code, RefusedUnit>
         requires { AreWritten (block work.now) }
         ensures read { Judges code_body result (worked rates.peek rates.push rates.pop (block work.now) (at_of self.old)) }
         ensures names { OnOk result (KeepsNames self.old self.new) }
@@ -250,20 +251,20 @@ impl Unroller {
     }
 
     // Whether as many items were popped and pushed as is declared.
-    fn kept(&self, rates: Counts) -> Result<(), Fault>
+    fn kept(&self, rates: Counts) -> Result<(), RefusedUnit>
         ensures { Judges (λ u. u) result (kept_rates rates.push rates.pop (at_of self.now)) }
     {
         if self.popped != rates.pop {
-            return Err(Fault::Rates {
+            return Err(RefusedUnit::Fault(Fault::Rates {
                 declared: rates.pop,
                 counted: self.popped,
-            });
+            }));
         }
         if self.pushed != rates.push {
-            return Err(Fault::Rates {
+            return Err(RefusedUnit::Fault(Fault::Rates {
                 declared: rates.push,
                 counted: self.pushed,
-            });
+            }));
         }
         Ok(())
     }

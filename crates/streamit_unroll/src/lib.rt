@@ -2,15 +2,15 @@
 #![tactic(auto)]
 
 mod blocks;
-mod fault;
 mod filters;
 mod lean;
 mod names;
+mod refused;
 mod simple;
 mod term;
 mod unroll;
 
-pub use fault::Fault;
 pub use filters::filter;
 use names::{Known, Names};
+pub use refused::RefusedUnit;
 use unroll::Unroller;

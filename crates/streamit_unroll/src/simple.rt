@@ -9,25 +9,26 @@ ghost use Rattle.streamit_unroll.specs.Unrolling.{at_of, Reads, AreOptional};
 ghost use Rattle.streamit_unroll.specs.Numbers.{AreValues};
 
 use crate::term::{constant, term};
-use crate::{Fault, Known, Unroller};
+use crate::{Known, RefusedUnit, Unroller};
 use river_base::{MOST_ITEMS, MOST_SLOTS, Name, NoMemory};
 use std::alloc::Global;
+use streamit_model::Fault;
 use streamit_text::Expr as Written;
 use work_code::{Expr, Exprs, Stmt, Stmts};
 
 impl Unroller {
     // A name is not known yet.
-    pub fn new_name(&self, name: Name) -> Result<(), Fault>
+    pub fn new_name(&self, name: Name) -> Result<(), RefusedUnit>
         ensures { Judges (λ u. u) result (is_new (find (at_of self.now).scope name)) }
     {
         match self.names.find(name) {
             None => Ok(()),
-            Some(_) => Err(Fault::NameTwice),
+            Some(_) => Err(RefusedUnit::Fault(Fault::NameTwice)),
         }
     }
 
     // A bound of a loop.
-    pub fn bound(&self, tree: &Written) -> Result<u32, Fault>
+    pub fn bound(&self, tree: &Written) -> Result<u32, RefusedUnit>
         requires { AreValues (expression tree.now) }
         ensures judged { Judges (λ n. n) result (on_ok (constant (at_of self.now).scope (expression tree.now)) bound_of) }
         ensures small { IfOk result (λ n. n ≤ 65536) }
@@ -36,7 +37,7 @@ impl Unroller {
         if 0 <= value && value <= MOST_ITEMS as i64 {
             Ok(value as u32)
         } else {
-            Err(Fault::Limit)
+            Err(RefusedUnit::Fault(Fault::Limit))
         }
     }
 
@@ -47,7 +48,7 @@ impl Unroller {
         peek: u32,
         value: &Written,
         out: &mut Stmts,
-    ) -> Result<(), Fault>
+    ) -> Result<(), RefusedUnit>
         requires { AreValues (expression value.now) }
         ensures { Reads result out.old out.new self.old self.new (step_of peek (Push (expression value.now)) (at_of self.old)) }
     {
@@ -61,7 +62,7 @@ impl Unroller {
     }
 
     // So many `pop();`, one after another.
-    pub fn pops(&mut self, peek: u32, count: u32, out: &mut Stmts) -> Result<(), Fault>
+    pub fn pops(&mut self, peek: u32, count: u32, out: &mut Stmts) -> Result<(), RefusedUnit>
         ensures { Reads result out.old out.new self.old self.new (steps_of peek (in_turn (discards count)) (at_of self.old)) }
     {
         match self.popped.checked_add(count) {
@@ -69,7 +70,7 @@ impl Unroller {
                 self.popped = popped;
                 Ok(())
             }
-            None => Err(Fault::NoMemory),
+            None => Err(RefusedUnit::NoMemory),
         }
     }
 
@@ -81,7 +82,7 @@ impl Unroller {
         name: Name,
         value: &Written,
         out: &mut Stmts,
-    ) -> Result<(), Fault>
+    ) -> Result<(), RefusedUnit>
         requires { AreValues (expression value.now) }
         ensures { Reads result out.old out.new self.old self.new (step_of peek (Assign name (expression value.now)) (at_of self.old)) }
     {
@@ -93,13 +94,13 @@ impl Unroller {
     }
 
     // The slot that an assignment sets.
-    fn slot_of(&self, name: Name) -> Result<u32, Fault>
+    fn slot_of(&self, name: Name) -> Result<u32, RefusedUnit>
         ensures { Judges (λ n. n) result (slot_of (find (at_of self.now).scope name)) }
     {
         match self.names.find(name) {
-            None => Err(Fault::UnknownName),
+            None => Err(RefusedUnit::Fault(Fault::UnknownName)),
             Some(Known::Var(slot)) => Ok(slot),
-            Some(Known::Turn(_)) => Err(Fault::NotConstant),
+            Some(Known::Turn(_)) => Err(RefusedUnit::Fault(Fault::NotConstant)),
         }
     }
 
@@ -111,7 +112,7 @@ impl Unroller {
         name: Name,
         value: &Option<Written>,
         out: &mut Stmts,
-    ) -> Result<(), Fault>
+    ) -> Result<(), RefusedUnit>
         requires { AreOptional (option_expression value.now) }
         ensures { Reads result out.old out.new self.old self.new (step_of peek (Declare name (option_expression value.now)) (at_of self.old)) }
     {
@@ -119,7 +120,7 @@ impl Unroller {
         self.new_name(name)?;
         let slot = self.slots;
         if slot >= MOST_SLOTS {
-            return Err(Fault::Limit);
+            return Err(RefusedUnit::Fault(Fault::Limit));
         }
         let value = self.first_term(alloc, peek, value)?;
         out.push(Stmt::Set { slot, value })?;
@@ -134,7 +135,7 @@ impl Unroller {
         alloc: Global,
         peek: u32,
         value: &Option<Written>,
-    ) -> Result<Expr, Fault>
+    ) -> Result<Expr, RefusedUnit>
         requires { AreOptional (option_expression value.now) }
         ensures judged { Judges term result (first_term peek (option_expression value.now) (at_of self.old)) }
         ensures popped { OnOk result (at_of self.new ≡ record (at_of self.old) { popped = self.old.popped + first_popped (option_expression value.now) }) }

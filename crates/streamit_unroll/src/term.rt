@@ -7,22 +7,23 @@ ghost use Rattle.streamit_model.specs.Elaborate.{find, constant, constant_of, na
 ghost use Rattle.streamit_unroll.specs.View.{scope_of, Judges};
 ghost use Rattle.streamit_unroll.specs.Numbers.{AreValues, value_itself};
 
-use crate::{Fault, Known, Names};
+use crate::{Known, Names, RefusedUnit};
 use river_base::{MOST_ITEMS, Name};
 use std::alloc::Global;
+use streamit_model::Fault;
 use streamit_text::Expr as Written;
 use work_code::{BinOp, Expr, apply, negate, truth_of};
 
 // The value of a constant expression.
 #[cycle(constant)]
-pub(crate) fn constant(names: &Names, e: &Written) -> Result<i64, Fault>
+pub(crate) fn constant(names: &Names, e: &Written) -> Result<i64, RefusedUnit>
     requires { AreValues (expression e.now) }
     ensures { Judges value_itself result (constant (scope_of names.now.items.items) (expression e.now)) }
 {
     match e {
         Written::Number(value) => Ok(*value as i64),
         Written::Name(name) => known_constant(names, *name),
-        Written::Peek(_) | Written::Pop => Err(Fault::NotConstant),
+        Written::Peek(_) | Written::Pop => Err(RefusedUnit::Fault(Fault::NotConstant)),
         Written::Neg(inner) => {
             let inner = constant(names, inner)?;
             Ok(negate(inner))
@@ -36,19 +37,19 @@ pub(crate) fn constant(names: &Names, e: &Written) -> Result<i64, Fault>
 }
 
 // The value of a name, which is the variable of a loop.
-fn known_constant(names: &Names, name: Name) -> Result<i64, Fault>
+fn known_constant(names: &Names, name: Name) -> Result<i64, RefusedUnit>
     ensures { Judges value_itself result (constant_of (find (scope_of names.now.items.items) name)) }
 {
     match names.find(name) {
-        None => Err(Fault::UnknownName),
-        Some(Known::Var(_)) => Err(Fault::NotConstant),
+        None => Err(RefusedUnit::Fault(Fault::UnknownName)),
+        Some(Known::Var(_)) => Err(RefusedUnit::Fault(Fault::NotConstant)),
         Some(Known::Turn(v)) => Ok(i64::from(v)),
     }
 }
 
 // The value of an operation on two constant expressions.
 #[cycle(constant)]
-fn constants(names: &Names, op: BinOp, left: &Written, right: &Written) -> Result<i64, Fault>
+fn constants(names: &Names, op: BinOp, left: &Written, right: &Written) -> Result<i64, RefusedUnit>
     requires left { AreValues (expression left.now) }
     requires right { AreValues (expression right.now) }
     ensures { Judges value_itself result (constant (scope_of names.now.items.items) (Bin op (expression left.now) (expression right.now))) }
@@ -66,7 +67,7 @@ pub(crate) fn term(
     peek: u32,
     e: &Written,
     popped: &mut u32,
-) -> Result<Expr, Fault>
+) -> Result<Expr, RefusedUnit>
     requires { AreValues (expression e.now) }
     ensures judged { Judges term result (term_of peek (scope_of names.now.items.items) (expression e.now) popped.old) }
     ensures popped { OnOk result (popped.new ≡ popped.old + pops (expression e.now)) }
@@ -81,7 +82,7 @@ pub(crate) fn term(
         Written::Pop => {
             let place = *popped;
             if place > MOST_ITEMS {
-                return Err(Fault::Limit);
+                return Err(RefusedUnit::Fault(Fault::Limit));
             }
             *popped = place + 1;
             Ok(Expr::Input(place))
@@ -99,11 +100,11 @@ pub(crate) fn term(
 }
 
 // What a name stands for: its slot, or the value of the variable of a loop.
-fn known_term(names: &Names, name: Name) -> Result<Expr, Fault>
+fn known_term(names: &Names, name: Name) -> Result<Expr, RefusedUnit>
     ensures { Judges term result (named_term (find (scope_of names.now.items.items) name)) }
 {
     match names.find(name) {
-        None => Err(Fault::UnknownName),
+        None => Err(RefusedUnit::Fault(Fault::UnknownName)),
         Some(Known::Var(slot)) => Ok(Expr::Slot(slot)),
         Some(Known::Turn(v)) => Ok(Expr::Const(i64::from(v))),
     }
@@ -119,7 +120,7 @@ fn terms(
     left: &Written,
     right: &Written,
     popped: &mut u32,
-) -> Result<Expr, Fault>
+) -> Result<Expr, RefusedUnit>
     requires left { AreValues (expression left.now) }
     requires right { AreValues (expression right.now) }
     ensures judged { Judges term result (term_of peek (scope_of names.now.items.items) (Bin op (expression left.now) (expression right.now)) popped.old) }
@@ -131,16 +132,16 @@ fn terms(
 }
 
 // The item at an index, behind those that were popped.
-fn peeked(peek: u32, popped: u32, index: i64) -> Result<Expr, Fault>
+fn peeked(peek: u32, popped: u32, index: i64) -> Result<Expr, RefusedUnit>
     ensures { Judges term result (peeked peek popped index) }
 {
     if index < 0 {
-        return Err(Fault::PeekRange { index, peek });
+        return Err(RefusedUnit::Fault(Fault::PeekRange { index, peek }));
     }
     let place = u64::from(popped) + index as u64;
     if place < u64::from(peek) {
         Ok(Expr::Input(place as u32))
     } else {
-        Err(Fault::PeekRange { index, peek })
+        Err(RefusedUnit::Fault(Fault::PeekRange { index, peek }))
     }
 }

@@ -4,8 +4,9 @@ ghost use Rattle.streamit_model.specs.Elaborate.{counted};
 ghost use Rattle.streamit_unroll.specs.View.{Judges};
 ghost use Rattle.streamit_unroll.specs.Unrolling.{at_of};
 
-use crate::{Fault, Names};
+use crate::{Names, RefusedUnit};
 use river_base::MOST_STATEMENTS;
+use streamit_model::Fault;
 
 /// What is known where the reading stands, and what was counted.
 #[derive(Drop)]
@@ -19,7 +20,7 @@ pub(crate) struct Unroller {
 
 impl Unroller {
     // One statement or turn more.
-    pub fn counted(&mut self) -> Result<(), Fault>
+    pub fn counted(&mut self) -> Result<(), RefusedUnit>
         ensures judged { Judges (λ _. at_of self.new) result (counted (at_of self.old)) }
         ensures names { self.new.names ≡ self.old.names }
     {
@@ -27,7 +28,7 @@ impl Unroller {
             self.size += 1;
             Ok(())
         } else {
-            Err(Fault::Limit)
+            Err(RefusedUnit::Fault(Fault::Limit))
         }
     }
 }

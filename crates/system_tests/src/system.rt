@@ -14,7 +14,7 @@ fn files_of_the_system(rt: HostRuntime) -> Result<(), Fail> {
     let alloc = rt.alloc();
     let folder = env::temp_dir(&rt)?;
     let folder = folder.to_str().ok_or("no text")?;
-    let name = format!(in alloc; "{folder}/system_rows_{}", process::id(rt.process()))?;
+    let name = format!(in alloc; "{folder}/system_tests_{}", process::id(rt.process()))?;
     fs::write(&rt, name.as_str(), TWICE)?;
     let absent = format!(in alloc; "{}_absent", name.as_str())?;
 

@@ -10,7 +10,7 @@ ghost use Rattle.text_blocks.specs.Seven.{Marks, with_seven, term_at};
 use crate::sign::take_operator;
 use river_base::NoMemory;
 use std::alloc::Global;
-use text_forms::{Dialect, ParseFault, Form, Reader, read};
+use text_forms::{Dialect, Form, ParseFault, Reader, read};
 use work_code::BinOp;
 
 /// A language of expressions with the seven levels: what it hands in for them to be read.

@@ -1,18 +1,25 @@
 -- The steps by which code reads whole units, one behind the other.
 use Rattle.std.proofs.Common.{◌≡◌, ℕ, ◌<◌, ◌≤◌, ◌+◌, List, [], ◌∷◌, ◌++◌, length, drop, get_or, Some, None, Result, Ok, Err, Bool, true, false, cond, refl, sym}
-use Rattle.std.proofs.Common.{ap, ◌∙◌, subst, append_assoc, append-nil}
+use Rattle.std.proofs.Common.{ap, ◌∙◌, subst, append_assoc, append-nil, arith}
 use Rattle.std.specs.Prelude.{map, ◌↔◌}
 use Rattle.std.specs.Borrow.{Bor}
-use Rattle.std.proofs.lemmas.List.{drop_more, drop_all}
-use Rattle.text_tokens.specs.Cut.{unit_tokens}
-use Rattle.text_tokens.specs.Tok.{Tok}
+use Rattle.std.proofs.lemmas.List.{drop_more, drop_all, length-map}
+use Rattle.text_tokens.specs.Cut.{unit_tokens, units_of}
+use Rattle.text_tokens.specs.Tok.{Tok, Mark, toks}
 use Rattle.text_tokens.specs.declared.token.Lexeme.{Lexeme}
+use Rattle.text_tokens.proofs.Counts.{units-few}
 use Rattle.text_forms.specs.Gives.{Makes}
 use Rattle.text_forms.specs.Parse.{Parse}
 use Rattle.text_forms.specs.Texts.{whole, after_unit, put_first}
-use Rattle.text_forms.specs.AllUnits.{units_from}
+use Rattle.text_forms.specs.AllUnits.{units_from, all_units, some_units}
 use Rattle.text_forms.specs.declared.fault.ParseFault.{ParseFault}
 use Rattle.text_forms.specs.declared.fault.ParseFault.TheVariants.{Syntax}
+
+-- there are no more units than tokens
+pub parts-few : (ms : List Mark) (parts : List (Bor (List Lexeme))) → map unit_tokens parts ≡ units_of (toks ms) → length parts ≤ length ms
+parts-few ms parts cut =
+    let same : length parts ≡ length (units_of (toks ms)) = sym (length-map parts unit_tokens) ∙ ap length cut in
+    omega (arith, same, units-few ms)
 
 -- what is read behind some units
 abbrev pub behind : {A : Type 0} → List A → Result (List A) ℕ → Result (List A) ℕ
@@ -71,3 +78,10 @@ module _ {A : Type 0} (unit : Parse A) where
       → behind done (units_from unit n (map unit_tokens (drop i parts))) ≡ Ok done
   units-end done n parts i h =
       ap (λ (l : List (Bor (List Lexeme))). behind done (units_from unit n (map unit_tokens l))) (drop_all i parts h) ∙ ap Ok (append-nil done)
+
+  -- where there is a unit, all units are read
+  pub units-some : (parts : List (Bor (List Lexeme))) → (length parts ≡ 0 → ⊥) → some_units unit (map unit_tokens parts) ≡ all_units unit (map unit_tokens parts)
+  units-some [] h = absurd (h refl)
+  units-some (u ∷ us) h = refl
+
+pub ruleset some = (units-some)

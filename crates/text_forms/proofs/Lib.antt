@@ -10,4 +10,5 @@ pub mod Repeat
 pub mod Runs
 pub mod Symbols
 pub mod Texts
+pub mod TextsBy
 pub mod Tokens

@@ -7,7 +7,7 @@ pub mod Levels
 pub mod Names
 pub mod Parse
 pub mod ReadLevels
-pub mod Refusals
 pub mod Repeat
 pub mod Tail
+pub mod TextFaults
 pub mod Texts

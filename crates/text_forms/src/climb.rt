@@ -5,7 +5,7 @@ ghost use Rattle.text_tokens.specs.declared.sign.Symbol.TheVariants as s;
 ghost use Rattle.text_forms.specs.ReadLevels.{level_at, chain_at, once_at, prefix_at, base_at, grown_at, called_at, closed_at, whole_at};
 ghost use Rattle.text_forms.specs.Parse.{symbols_at};
 
-use crate::{Dialect, ParseFault, Form, TokenSource};
+use crate::{Dialect, Form, ParseFault, TokenSource};
 use std::alloc::Global;
 use text_tokens::Symbol;
 

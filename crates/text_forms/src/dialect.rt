@@ -8,7 +8,7 @@ ghost use Rattle.text_forms.specs.Parse.{Parse, begins_with};
 ghost use Rattle.text_forms.specs.ReadLevels.{first, operator_at, sign_of_level};
 ghost use Rattle.text_forms.specs.Tail.{tail};
 
-use crate::{ParseFault, Form};
+use crate::{Form, ParseFault};
 use river_base::NoMemory;
 use std::alloc::Global;
 use text_tokens::Symbol;

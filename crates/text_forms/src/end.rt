@@ -35,5 +35,9 @@ pub fn closed<T: Drop>(reader: &mut Reader<'_>, value: T, symbol: Symbol) -> Res
 pub fn kept<T: Drop>(value: T, test: bool) -> Result<T, ParseFault>
     ensures { result ≡ (if test then Ok value else Err fault.Syntax) }
 {
-    if test { Ok(value) } else { Err(ParseFault::Syntax) }
+    if test {
+        Ok(value)
+    } else {
+        Err(ParseFault::Syntax)
+    }
 }

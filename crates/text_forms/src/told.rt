@@ -11,7 +11,7 @@ pub trait Told: Copy {
     ghost told: { Self → List ℕ };
 
     /// Appends what is told of it; where there is no memory, a part of it may be appended.
-    fn write(self, alloc: Global, to: &mut Bytes) -> Result<(), NoMemory>
+    fn write(self, to: &mut Bytes) -> Result<(), NoMemory>
         ensures { OnOk result (to.new ≡ to.old ++ told self) };
 }
 
@@ -20,17 +20,16 @@ pub fn words<F: Told>(alloc: Global, fault: F) -> Result<Bytes, NoMemory>
     ensures { IfOk result (λ text. text ≡ F.told fault) }
 {
     let mut text = Bytes::new(alloc);
-    fault.write(alloc, &mut text)?;
+    fault.write(&mut text)?;
     Ok(text)
 }
 
 /// Appends a word and a number in decimal digits; where there is no memory, a part of them may be
 /// appended.
 #[tactic(auto, using(text_tokens::proofs::Joined::joins))]
-pub fn numbered(alloc: Global, word: &[u8], number: u32, to: &mut Bytes) -> Result<(), NoMemory>
+pub fn numbered(word: &[u8], number: u32, to: &mut Bytes) -> Result<(), NoMemory>
     ensures { OnOk result (to.new ≡ to.old ++ (word.now ++ decimal number)) }
 {
     to.extend(word)?;
-    let digits = number.to_string(alloc)?;
-    to.extend(digits.as_bytes())
+    to.put_number(number)
 }

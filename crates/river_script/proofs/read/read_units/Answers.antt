@@ -1,9 +1,10 @@
-use Rattle.std.proofs.Common.{◌+◌, [], ◌∷◌, drop, sym, ap, ◌∙◌, subst, Err}
+use Rattle.std.proofs.Common.{◌+◌, [], ◌∷◌, drop, sym, ap, ◌∙◌}
 use Rattle.std.specs.Prelude.{map}
 use Rattle.std.proofs.lemmas.List.{map-append}
 use Rattle.text_tokens.specs.Cut.{unit_tokens}
+use Rattle.text_forms.specs.AllUnits.{or_syntax}
 use Rattle.river_script.specs.Reading.{read_steps}
-use Rattle.river_script.specs.Steps.{step_form, step_forms, GivesSteps}
+use Rattle.river_script.specs.Steps.{step_form, step_forms}
 use Rattle.river_script.proofs.Units.{steps-next, steps-bad, steps-end}
 use Rattle.river_script.proofs.read.read_units.Goals as goal
 
@@ -11,7 +12,7 @@ use Rattle.river_script.proofs.read.read_units.Goals as goal
 pub returns-in-Err-Syntax : goal.returns-in-Err-Syntax
 returns-in-Err-Syntax c =
     let parts = c.as_slice-parts.result.now in
-    subst (λ f. GivesSteps (Err f) (read_steps 1 [] c.args.units.now)) (sym c.bad_unit.ensures)
+    ap or_syntax
     (ap (read_steps 1 []) (sym c.as_slice-parts.ensures)
     ∙ sym c.items.invariant
     ∙ steps-bad (c.items.i + 1) (step_forms c.items.steps) parts c.items.i _ c.items-test.true (rw c.in-Err-Syntax.field-0-is at c.in-Err-Syntax.ensures))
@@ -27,6 +28,7 @@ items-preserved c =
 
 pub returns : goal.returns
 returns c =
-    ap (read_steps 1 []) (sym c.as_slice-parts.ensures)
+    ap or_syntax
+    (ap (read_steps 1 []) (sym c.as_slice-parts.ensures)
     ∙ sym c.items.invariant
-    ∙ steps-end (c.items.i + 1) (step_forms c.items.steps) c.as_slice-parts.result.now c.items.i c.items-test.false
+    ∙ steps-end (c.items.i + 1) (step_forms c.items.steps) c.as_slice-parts.result.now c.items.i c.items-test.false)

@@ -1,6 +1,7 @@
 use Rattle.std.proofs.Common.{◌+◌, drop, sym, ap, ◌∙◌}
 use Rattle.std.specs.Prelude.{map}
 use Rattle.text_tokens.specs.Cut.{unit_tokens}
+use Rattle.text_forms.specs.AllUnits.{or_syntax}
 use Rattle.river_text.specs.Entries.{entry_form, text_form}
 use Rattle.river_text.specs.Plans.{next_place}
 use Rattle.river_text.specs.ReadPlans.{read_plan}
@@ -10,9 +11,10 @@ use Rattle.river_text.proofs.read.add_units.Goals as goal
 -- a unit that is not in the grammar
 pub returns-in-Err-Syntax : goal.returns-in-Err-Syntax
 returns-in-Err-Syntax c =
-    sym c.items.invariant
+    ap or_syntax
+    (sym c.items.invariant
     ∙ plan-bad c.items.place (c.items.i + 1) (text_form c.items.text) c.args.parts.now c.items.i _ c.items-test.true
-    (rw c.in-Err-Syntax.field-0-is at c.in-Err-Syntax.ensures)
+    (rw c.in-Err-Syntax.field-0-is at c.in-Err-Syntax.ensures))
 
 -- one entry more
 pub items-preserved : goal.items-preserved
@@ -26,5 +28,6 @@ items-preserved c =
 
 pub returns : goal.returns
 returns c =
-    sym c.items.invariant
-    ∙ plan-end c.items.place (c.items.i + 1) (text_form c.items.text) c.args.parts.now c.items.i c.items-test.false
+    ap or_syntax
+    (sym c.items.invariant
+    ∙ plan-end c.items.place (c.items.i + 1) (text_form c.items.text) c.args.parts.now c.items.i c.items-test.false)

@@ -4,7 +4,7 @@ use Rattle.saw_model.specs.Meaning.{reach_parts}
 use Rattle.saw_text.specs.Tree.{unit_form, unit_forms}
 use Rattle.saw_front.specs.Reach.{reach_unit}
 use Rattle.saw_front.proofs.Reaching.{reach-parts, so_far_next, so_far_end}
-use Rattle.saw_front.proofs.Units.{parts_at, parts_none}
+use Rattle.saw_front.proofs.JudgedUnits.{parts_at, parts_none}
 use Rattle.saw_front.proofs.reach.reach_units.Goals as goal
 
 pub loop-unit-preserved : goal.loop-unit-preserved

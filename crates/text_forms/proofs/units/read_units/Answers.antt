@@ -2,7 +2,7 @@ use Rattle.std.proofs.Common.{◌∙◌, ◌+◌, List, drop, sym, ap}
 use Rattle.std.specs.Prelude.{map}
 use Rattle.std.proofs.lemmas.List.{map-append}
 use Rattle.text_tokens.specs.Cut.{unit_tokens}
-use Rattle.text_forms.specs.AllUnits.{units_from}
+use Rattle.text_forms.specs.AllUnits.{units_from, or_syntax}
 use Rattle.text_forms.proofs.AllUnits.{behind, units-next, units-bad, units-end}
 use Rattle.text_forms.proofs.units.read_units.Goals as goal
 
@@ -21,11 +21,12 @@ items-preserved g c =
 pub returns : goal.returns
 returns g c =
     let unit = g.L.Units.unit c.args.language.now in
-    sym c.items.invariant ∙ units-end unit (map g.L.Units.unit_tree c.items.list.items) (c.items.i + 1) c.args.parts.now c.items.i c.items-test.false
+    ap or_syntax (sym c.items.invariant ∙ units-end unit (map g.L.Units.unit_tree c.items.list.items) (c.items.i + 1) c.args.parts.now c.items.i c.items-test.false)
 
 -- one that is none
 pub returns-in-Err-Syntax : goal.returns-in-Err-Syntax
 returns-in-Err-Syntax g c =
     let unit = g.L.Units.unit c.args.language.now in
     let read = rw c.in-Err-Syntax.field-0-is at c.in-Err-Syntax.ensures in
-    sym c.items.invariant ∙ units-bad unit (map g.L.Units.unit_tree c.items.list.items) (c.items.i + 1) c.args.parts.now c.items.i _ c.items-test.true read
+    ap or_syntax
+    (sym c.items.invariant ∙ units-bad unit (map g.L.Units.unit_tree c.items.list.items) (c.items.i + 1) c.args.parts.now c.items.i _ c.items-test.true read)

@@ -181,7 +181,7 @@ step-returns-in-Some-clause-made t c = λ m h.
     ap (λ s. made_once add k env s m) (ap step_of c.in-Loop.is ∙ step-loop c.in-Loop.name c.in-Loop.low c.in-Loop.until c.in-Loop.high c.in-Loop.steps)
     ∙ loop-is add k env c.in-Loop.name (expression c.in-Loop.low) (is_turn c.in-Loop.until) (expression c.in-Loop.high)
     (steps_of c.in-Loop.steps) m c.in-Some.span spans in
-    subst (MakesMore c.turns.result c.args.scope.now c.turns.new.scope c.turns.new.self) (sym is) (c.turns.ensures.made m h)
+    subst (MakesMore c.enter.result c.args.scope.now c.enter.new.scope c.enter.new.self) (sym is) (c.enter.ensures.made m h)
 
 pub some_children-returns : goal.some_children-returns
 some_children-returns t c = λ m h.

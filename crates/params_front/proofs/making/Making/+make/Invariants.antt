@@ -41,6 +41,9 @@ decreases-step l = room l.seen.units.now + (size-Step l.step.now * 8 + 3)
 abbrev pub decreases-add : goal.decreases-add
 decreases-add l = room l.seen.units.now + 1
 
+abbrev pub decreases-enter : goal.decreases-enter
+decreases-enter l = room l.seen.units.now + (size-Steps l.steps.now * 8 + 7)
+
 abbrev pub decreases-turns : goal.decreases-turns
 decreases-turns l = room l.seen.units.now + (size-Steps l.steps.now * 8 + 6)
 

@@ -13,7 +13,7 @@ use Rattle.saw_text.specs.View.{option_block}
 use Rattle.saw_text.proofs.Trees.{block-is, statement-if}
 use Rattle.saw_front.specs.Judging.{at_of}
 use Rattle.saw_front.specs.Valued.{AreValuedOptional}
-use Rattle.saw_front.specs.View.{Tells}
+use Rattle.saw_front.specs.View.{IsWhyUnit}
 use Rattle.saw_front.proofs.SoFar.{BlockSoFar, block_next, block_err, block_end, if_read, if_fault, reads_err, arm_none}
 use Rattle.saw_front.proofs.SoFar.{good as answered}
 use Rattle.saw_front.proofs.judge.Judge.+judge.Goals as goal
@@ -56,7 +56,7 @@ statement-returns-in_err-second-in-If t c =
     ap (λ x. step_of x (at_of c.args.self.now)) (ap statement c.in-If.is ∙ statement-if c.in-If.cond c.in-If.yes c.in-If.no) in
     reads_err c.from_residual-in_err-second-in-If.result c.in_err-second-in-If.field-0.0 c.args.out.now c.args.out.now c.args.self.now c.otherwise.new.self
     (step_of (statement c.args.s.now) (at_of c.args.self.now)) (search rules)
-    (subst (Tells c.in_err-second-in-If.field-0.0) (sym w)
+    (subst (IsWhyUnit c.in_err-second-in-If.field-0.0) (sym w)
     (if_fault cond yes no (at_of c.args.self.now) (at_of c.counted.new.self) (at_of c.arm.new.self) one.0 (term c.in_ok-cond-in-If.cond)
     (in_turn (map step (statements c.in_ok-first-in-If.first)))
     c.in_ok-counted-in-If.ensures.judged c.in_ok-cond-in-If.ensures one.1 one.2 c.in_err-second-in-If.field-0.0 (c.in_err-second-in-If.ensures {u = tt})))

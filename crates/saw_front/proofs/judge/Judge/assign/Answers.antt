@@ -11,13 +11,14 @@ use Rattle.saw_front.specs.Judging.{at_of}
 use Rattle.saw_front.proofs.Statements.{counted_fault, assign_slot_fault, assign_value_fault, assign_read}
 use Rattle.saw_front.proofs.SoFar.{reads_err}
 use Rattle.saw_front.proofs.SoFar.{good as answered}
+use Rattle.saw_front.specs.declared.refused.RefusedUnit.TheVariants as why
 use Rattle.saw_front.proofs.judge.Judge.assign.Goals as goal
 
 pub returns-in_err-counted : goal.returns-in_err-counted
 returns-in_err-counted c =
     let f = c.in_err-counted.field-0.0 in
     let s = at_of c.args.self.now in
-    reads_err c.from_residual.result f c.args.out.now c.args.out.now c.args.self.now c.counted.new.self
+    reads_err c.from_residual.result (why.Fault f) c.args.out.now c.args.out.now c.args.self.now c.counted.new.self
     (step_of (source.Assign c.args.name.now (expression c.args.value.now)) s) (search rules)
     (counted_fault (source.Assign c.args.name.now (expression c.args.value.now)) s f c.in_err-counted.ensures.judged)
 
@@ -25,7 +26,7 @@ pub returns-in_err-slot : goal.returns-in_err-slot
 returns-in_err-slot c =
     let f = c.in_err-slot.field-0.0 in
     let s = at_of c.args.self.now in
-    reads_err c.from_residual-in_err-slot.result f c.args.out.now c.args.out.now c.args.self.now c.counted.new.self
+    reads_err c.from_residual-in_err-slot.result (why.Fault f) c.args.out.now c.args.out.now c.args.self.now c.counted.new.self
     (step_of (source.Assign c.args.name.now (expression c.args.value.now)) s) (search rules)
     (assign_slot_fault c.args.name.now (expression c.args.value.now) s (at_of c.counted.new.self) c.in_ok-counted.ensures.judged f c.in_err-slot.ensures)
 

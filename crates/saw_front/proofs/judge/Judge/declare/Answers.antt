@@ -16,13 +16,14 @@ use Rattle.saw_front.proofs.Scopes.{scope-push}
 use Rattle.saw_front.proofs.Statements.{counted_fault, declare_name_fault, declare_slot_fault, declare_value_fault, declare_read}
 use Rattle.saw_front.proofs.SoFar.{reads_err}
 use Rattle.saw_front.proofs.SoFar.{good as answered}
+use Rattle.saw_front.specs.declared.refused.RefusedUnit.TheVariants as why
 use Rattle.saw_front.proofs.judge.Judge.declare.Goals as goal
 
 pub returns-in_err-counted : goal.returns-in_err-counted
 returns-in_err-counted c =
     let f = c.in_err-counted.field-0.0 in
     let s = at_of c.args.self.now in
-    reads_err c.from_residual.result f c.args.out.now c.args.out.now c.args.self.now c.counted.new.self
+    reads_err c.from_residual.result (why.Fault f) c.args.out.now c.args.out.now c.args.self.now c.counted.new.self
     (step_of (source.Declare c.args.name (option_expression c.args.value.now)) s) (search rules)
     (counted_fault (source.Declare c.args.name (option_expression c.args.value.now)) s f c.in_err-counted.ensures.judged)
 
@@ -30,7 +31,7 @@ pub returns-in_err-new_name : goal.returns-in_err-new_name
 returns-in_err-new_name c =
     let f = c.in_err-new_name.field-0.0 in
     let s = at_of c.args.self.now in
-    reads_err c.from_residual-in_err-new_name.result f c.args.out.now c.args.out.now c.args.self.now c.counted.new.self
+    reads_err c.from_residual-in_err-new_name.result (why.Fault f) c.args.out.now c.args.out.now c.args.self.now c.counted.new.self
     (step_of (source.Declare c.args.name (option_expression c.args.value.now)) s) (search rules)
     (declare_name_fault c.args.name (option_expression c.args.value.now) s (at_of c.counted.new.self) c.in_ok-counted.ensures.judged f
     c.in_err-new_name.ensures)

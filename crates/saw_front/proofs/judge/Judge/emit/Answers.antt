@@ -12,13 +12,14 @@ use Rattle.saw_front.specs.Judging.{at_of}
 use Rattle.saw_front.proofs.Statements.{counted_fault, emit_table_fault, emit_row_fault, emit_read}
 use Rattle.saw_front.proofs.SoFar.{reads_err}
 use Rattle.saw_front.proofs.SoFar.{good as answered}
+use Rattle.saw_front.specs.declared.refused.RefusedUnit.TheVariants as why
 use Rattle.saw_front.proofs.judge.Judge.emit.Goals as goal
 
 pub returns-in_err-counted : goal.returns-in_err-counted
 returns-in_err-counted c =
     let f = c.in_err-counted.field-0.0 in
     let s = at_of c.args.self.now in
-    reads_err c.from_residual.result f c.args.out.now c.args.out.now c.args.self.now c.counted.new.self
+    reads_err c.from_residual.result (why.Fault f) c.args.out.now c.args.out.now c.args.self.now c.counted.new.self
     (step_of (source.Emit c.args.table.now (expressions c.args.indexes.now) (expression c.args.value.now) (option_expression c.args.weight.now))
     s) (search rules)
     (counted_fault (source.Emit c.args.table.now (expressions c.args.indexes.now) (expression c.args.value.now)
@@ -28,7 +29,7 @@ pub returns-in_err-port : goal.returns-in_err-port
 returns-in_err-port c =
     let f = c.in_err-port.field-0.0 in
     let s = at_of c.args.self.now in
-    reads_err c.from_residual-in_err-port.result f c.args.out.now c.args.out.now c.args.self.now c.counted.new.self
+    reads_err c.from_residual-in_err-port.result (why.Fault f) c.args.out.now c.args.out.now c.args.self.now c.counted.new.self
     (step_of (source.Emit c.args.table.now (expressions c.args.indexes.now) (expression c.args.value.now) (option_expression c.args.weight.now))
     s) (search rules)
     (emit_table_fault c.args.table.now (expressions c.args.indexes.now) (expression c.args.value.now) (option_expression c.args.weight.now) s

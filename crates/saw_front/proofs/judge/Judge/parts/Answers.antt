@@ -3,7 +3,7 @@ use Rattle.saw_text.specs.Tree.{Program}
 use Rattle.saw_model.specs.Judged.{units_judged}
 use Rattle.saw_text.specs.Tree.{unit_form, unit_forms}
 use Rattle.saw_front.specs.Judging.{at_of}
-use Rattle.saw_front.proofs.Units.{PartsSoFar, parts_next, parts_end, parts_at, parts_none}
+use Rattle.saw_front.proofs.JudgedUnits.{PartsSoFar, parts_next, parts_end, parts_at, parts_none}
 use Rattle.saw_front.proofs.judge.Judge.parts.Goals as goal
 
 -- one unit more

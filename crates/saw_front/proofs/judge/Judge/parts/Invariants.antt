@@ -2,7 +2,7 @@ use Rattle.std.proofs.Common.{drop}
 use Rattle.saw_model.specs.Judged.{units_judged}
 use Rattle.saw_text.specs.Tree.{unit_forms}
 use Rattle.saw_front.specs.Judging.{at_of}
-use Rattle.saw_front.proofs.Units.{PartsSoFar}
+use Rattle.saw_front.proofs.JudgedUnits.{PartsSoFar}
 use Rattle.saw_front.proofs.judge.Judge.parts.Given as goal
 
 abbrev pub invariant-loop-i : goal.invariant-loop-i

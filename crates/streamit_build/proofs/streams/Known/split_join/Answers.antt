@@ -2,7 +2,7 @@ use Rattle.std.proofs.Common.{◌≡◌, ◌+◌, Ok, Err, refl, sym, subst, rul
 use Rattle.streamit_text.specs.Program.{ASplitJoin, weights_of, dealing_of, adds_of}
 use Rattle.streamit_model.specs.Meaning.{branch_count}
 use Rattle.streamit_model.specs.Judged.{splitter_of, round_of, stream_of}
-use Rattle.streamit_unroll.specs.View.{Tells}
+use Rattle.streamit_unroll.specs.View.{IsWhyUnit}
 use Rattle.streamit_build.specs.Units.{splitter_form}
 use Rattle.streamit_build.specs.Knowing.{Declares}
 use Rattle.streamit_build.specs.declared.builder.Declared.TheVariants as made
@@ -31,10 +31,10 @@ returns-in_err-join c = λ known k.
     let hs = subst (λ m. splitter_of g m ≡ Ok sp) n c.in_ok-split.ensures in
     let ch = c.in_ok-children.ensures known k in
     let f = c.in_err-join.field-0.0 in
-    let h : Tells f (round_of (weights_of all.join) (c.len-count.result + 1)) = c.in_err-join.ensures in
+    let h : IsWhyUnit f (round_of (weights_of all.join) (c.len-count.result + 1)) = c.in_err-join.ensures in
     let is : c.from_residual-in_err-join.result ≡ Err f = search rules in
     subst (λ x. Declares x c.args.self.now known c.args.name (stream_of known c.args.name (ASplitJoin g a (weights_of all.join)))) (sym is)
-    (join_fault f known c.args.name g a (weights_of all.join) sp ch.0 hs ch.1 (subst (λ m. Tells f (round_of (weights_of all.join) m)) n h))
+    (join_fault f known c.args.name g a (weights_of all.join) sp ch.0 hs ch.1 (subst (λ m. IsWhyUnit f (round_of (weights_of all.join) m)) n h))
 
 pub returns : goal.returns
 returns c = λ known k.

@@ -1,7 +1,8 @@
-use Rattle.std.proofs.Common.{◌≡◌, ◌+◌, ◌≤◌, ◌∷◌, length, drop, rules, subst}
+use Rattle.std.proofs.Common.{◌≡◌, ◌+◌, ◌≤◌, ◌∷◌, length, drop, rules, sym, subst}
 use Rattle.river_base.proofs.Lists.{map_next, map_none}
 use Rattle.streamit_model.specs.Judged.{all_streams}
 use Rattle.streamit_text.specs.Program.{unit_form, unit_forms}
+use Rattle.streamit_build.specs.Planned.{IsWhyRefused}
 use Rattle.streamit_build.specs.Readable.{AreReadable}
 use Rattle.streamit_build.proofs.AllUnits.{Judging, judging_start, judging_next, judging_fault, judging_end}
 use Rattle.streamit_build.proofs.streams.Known.units.Goals as goal
@@ -39,7 +40,8 @@ returns-in-Err c = λ start k.
     map_next unit_form units i u c.loop-i-test.true c.index-units-i.is in
     let whole = all_streams 1 start (unit_forms units) in
     let j = subst (λ p. Judging whole (i + 1) p c.loop-i.self) at (c.loop-i.invariant.judged start k) in
-    judging_fault whole i (unit_form u) (unit_forms (drop (i + 1) units)) c.loop-i.self c.unit.new.self c.in-Err.fault j (c.in-Err.ensures j.known j.knows)
+    subst (IsWhyRefused whole) (sym c.refused_in.ensures)
+    (judging_fault whole i (unit_form u) (unit_forms (drop (i + 1) units)) c.loop-i.self c.unit.new.self c.in-Err.why j (c.in-Err.ensures j.known j.knows))
 
 pub returns : goal.returns
 returns c = λ start k.

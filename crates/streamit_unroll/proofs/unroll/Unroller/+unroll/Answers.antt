@@ -1,6 +1,6 @@
 use Rattle.streamit_text.specs.Tree.{expression, is_turn}
 use Rattle.streamit_unroll.specs.Lean.{flat, lean, lean_block, lean_optional}
-use Rattle.streamit_unroll.specs.View.{Tells}
+use Rattle.streamit_unroll.specs.View.{IsWhyUnit}
 use Rattle.streamit_model.specs.Meaning.{numbers_from}
 use Rattle.streamit_model.specs.Elaborate.{step_of, steps_of, unrolled}
 use Rattle.streamit_unroll.specs.Unrolling.{at_of, Reads, AreWritten}
@@ -151,7 +151,7 @@ statement-returns-in_err-span-in-For t c =
     ∙ one_read c.args.peek
     (source.For c.in-For.name (expression c.in-For.low.now) (is_turn c.in-For.until) (expression c.in-For.high.now) (lean_block c.in-For.body)) at in
     subst (λ r. Reads r c.args.out.now c.args.out.now c.args.self.now c.args.self.now (steps_of c.args.peek (source.in_turn (lean c.args.s.now)) at)) (sym is)
-    (subst (Tells f) (sym w)
+    (subst (IsWhyUnit f) (sym w)
     (for_fault c.args.peek c.in-For.name (expression c.in-For.low.now) (expression c.in-For.high.now) (is_turn c.in-For.until) (lean_block c.in-For.body) at f
     (c.in_err-span-in-For.ensures {u = tt})))
 

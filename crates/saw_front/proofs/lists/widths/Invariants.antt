@@ -1,0 +1,6 @@
+use Rattle.std.proofs.Common.{◌≡◌, take}
+use Rattle.saw_front.specs.Plans.{widths as made}
+use Rattle.saw_front.proofs.lists.widths.Given as goal
+
+abbrev pub invariant-loop-table : goal.invariant-loop-table
+invariant-loop-table l = l.list ≡ made (take l.table-index l.table-items)

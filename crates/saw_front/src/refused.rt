@@ -1,0 +1,78 @@
+// Why a unit is refused, and why a program is.
+
+use river_base::NoMemory;
+use saw_model::{Fault, Refusal};
+use std::alloc::{AllocError, AllocFailed};
+
+/// Why a program has no plan.
+#[derive(Clone, Copy)]
+pub enum Refused {
+    /// The program is refused.
+    Program(Refusal),
+    /// There was no memory.
+    NoMemory,
+}
+
+/// Why a unit is not read.
+#[derive(Clone, Copy)]
+pub(crate) enum RefusedUnit {
+    /// The unit is refused.
+    Fault(Fault),
+    /// There was no memory.
+    NoMemory,
+}
+
+impl From<NoMemory> for Refused {
+    ghost use Rattle.std.specs.Prelude.{◌≡◌};
+    ghost use Rattle.saw_front.specs.declared.refused.Refused.TheVariants as refused;
+
+    ghost from_gives = { λ _ r. r ≡ refused.NoMemory };
+
+    fn from(_: NoMemory) -> Self {
+        Refused::NoMemory
+    }
+}
+
+impl From<Fault> for RefusedUnit {
+    ghost use Rattle.std.specs.Prelude.{◌≡◌};
+    ghost use Rattle.saw_front.specs.declared.refused.RefusedUnit.TheVariants as refused;
+
+    ghost from_gives = { λ f r. r ≡ refused.Fault f };
+
+    fn from(fault: Fault) -> Self {
+        RefusedUnit::Fault(fault)
+    }
+}
+
+impl From<NoMemory> for RefusedUnit {
+    ghost use Rattle.std.specs.Prelude.{◌≡◌};
+    ghost use Rattle.saw_front.specs.declared.refused.RefusedUnit.TheVariants as refused;
+
+    ghost from_gives = { λ _ r. r ≡ refused.NoMemory };
+
+    fn from(_: NoMemory) -> Self {
+        RefusedUnit::NoMemory
+    }
+}
+
+impl From<AllocError> for RefusedUnit {
+    ghost use Rattle.std.specs.Prelude.{◌≡◌};
+    ghost use Rattle.saw_front.specs.declared.refused.RefusedUnit.TheVariants as refused;
+
+    ghost from_gives = { λ _ r. r ≡ refused.NoMemory };
+
+    fn from(_: AllocError) -> Self {
+        RefusedUnit::NoMemory
+    }
+}
+
+impl<T: Drop> From<AllocFailed<T>> for RefusedUnit {
+    ghost use Rattle.std.specs.Prelude.{◌≡◌};
+    ghost use Rattle.saw_front.specs.declared.refused.RefusedUnit.TheVariants as refused;
+
+    ghost from_gives = { λ _ r. r ≡ refused.NoMemory };
+
+    fn from(_: AllocFailed<T>) -> Self {
+        RefusedUnit::NoMemory
+    }
+}
