@@ -1,7 +1,7 @@
 -- Every complete run has the plan's histories.
 use Rattle.std.proofs.Common.{◌≡◌, ◌≢◌, ℕ, ◌+◌, ◌<◌, ◌≤◌, Some, List, [], ◌∷◌, ◌++◌, length, take, refl, sym, ap, ◌∙◌, subst, arith, length-append, ⊎_elim}
 use Rattle.std.proofs.Common.{ℤ, map, nat_eq, false}
-use Rattle.std.specs.Prelude.{if◌then◌else◌, count_by, slice_get}
+use Rattle.std.specs.Prelude.{Bool, if◌then◌else◌, count_by, slice_get}
 use Rattle.std.proofs.lemmas.Bool.{cases_eq}
 use Rattle.std.proofs.lemmas.List.{append-nil, take-append-le, length-map}
 use Rattle.std.proofs.Math.Seq.{take-length}
@@ -25,7 +25,7 @@ use Rattle.brooklet_model.specs.Fire.{fire, ins, first_kept}
 use Rattle.brooklet_model.specs.Histories.{History, lists_of, given_on, histories, joined, tables_of, adds, all_adds, inputs_of, lengths, Lists, Solves}
 use Rattle.brooklet_model.specs.Laws.{given_to, RunsAgree}
 use Rattle.brooklet_model.specs.Machine.{Machine, at_key, fired, Run, IsComplete, first_kept_of, times}
-use Rattle.brooklet_model.specs.Traced.{ran, Traced}
+use Rattle.brooklet_model.specs.Traced.{ran, sum_numbered, Traced}
 use Rattle.river_base.specs.Bags.{SameBag}
 use Rattle.brooklet_model.specs.Words.{Word, run, at_port, PortsBelow, Alike}
 use Rattle.brooklet_model.proofs.Free.{order_is_free, at_port-append, below-append}
@@ -100,16 +100,102 @@ module _ (pl : PlanForm) (inputs : History) (v : IsPlan pl) (empty : (q : Name) 
       zeros (x ∷ xs) = let e = zeros xs in omega (arith, e)
 
   -- a state that is traced by words stays so, where an operator fires once more
-  pub traced_fired : (s : Machine) (ws : ℕ → Word) (o p : ℕ) (op : OpForm) (q : Name) (x : item.Item) → Traced tables ops inputs s ws
-      → slice_get ops o ≡ Some op → slice_get op.reads p ≡ Some q → slice_get (s.hist q) (s.taken q) ≡ Some x
-      → Traced tables ops inputs (fired tables o op p q x s) (at_key o (ws o ++ (p, x) ∷ []) ws)
-  traced_fired s ws o p op q x t g pq is = record {
-    kept = λ o' op' g'. ⊎_elim
+  module _ (s : Machine) (ws : ℕ → Word) (o p : ℕ) (op : OpForm) (q : Name) (x : item.Item) (t : Traced tables ops inputs s ws) (g : slice_get ops o ≡ Some op)
+      (pq : slice_get op.reads p ≡ Some q) (is : slice_get (s.hist q) (s.taken q) ≡ Some x) where
+    -- what the operator does with an item
+    abbrev f : ℕ → item.Item → List Kept → Fired
+    f = fire op.kernel
+
+    abbrev first : List Kept
+    first = first_kept op.kernel
+
+    -- this firing, and those before it
+    abbrev r : Fired
+    r = f p x (s.kept o)
+
+    abbrev before : Fired
+    before = run f (ws o) first
+
+    -- the words afterwards
+    abbrev ws' : ℕ → Word
+    ws' = at_key o (ws o ++ (p, x) ∷ []) ws
+
+    here : ws' o ≡ ws o ++ (p, x) ∷ []
+    here = at_key_same o (ws o ++ (p, x) ∷ []) ws
+
+    there : (o' : ℕ) → o ≢ o' → ws' o' ≡ ws o'
+    there o' n = at_key_other o (ws o ++ (p, x) ∷ []) ws o' n
+
+    -- the firings so far and this one are the run of the longer word
+    more : Same (run f (ws o ++ (p, x) ∷ []) first) (and_then before (f p x before.states))
+    more = run_more f (ws o) p x first
+
+    -- the state afterwards
+    abbrev s' : Machine
+    s' = fired tables o op p q x s
+
+    -- what it does not write grows by nothing
+    not_here : (n : Name) → count n op.writes ≡ 0 → s'.hist n ≡ s.hist n
+    not_here n z = ap (λ l. s.hist n ++ l) (joined_out op.writes r.outs n z) ∙ append-nil (s.hist n)
+
+    -- what it writes
+    written_here : Lists op.writes (ran op (ws' o)).outs s'.hist
+    written_here =
+        lists_cong op.writes (λ j. before.outs j ++ r.outs j) (ran op (ws' o)).outs s'.hist
+        (λ j. ap (λ us. before.outs j ++ (f p x us).outs j) (t.kept o op g) ∙ sym (more.outs j) ∙ ap (λ w. (ran op w).outs j) (sym here))
+        (lists_more op.writes before.outs r.outs s.hist (joined op.writes r.outs)
+        (λ n. let m = at_most (writes_it n) ops o op g in let w = v.written_once n in omega (arith, m, w))
+        (λ n lt. refl) (t.written_by o op g))
+
+    -- what is known of a queue that an operator reads
+    abbrev Taken : ℕ → OpForm → ℕ → Name → Type 0
+    Taken i j l n = (at_port l (ws' i) ≡ take (s'.taken n) (s'.hist n)) × (s'.taken n ≤ length (s'.hist n))
+
+    -- one more item is taken
+    n_is : s'.taken q ≡ s.taken q + 1
+    n_is = ⊎_elim (λ c. if_true (name_eq q q) (s.taken q + 1) (s.taken q) c.1) (λ c. absurd (c.0 refl)) (cases_name q q)
+
+    taken_here : Taken o op p q
+    taken_here =
+        let g1 = joined op.writes r.outs q in
+        let lt = slice_get_within (s.hist q) (s.taken q) x is in (
+          ap (at_port p) here ∙ at_port-append p (ws o) ((p, x) ∷ []) ∙ ap (λ l. at_port p (ws o) ++ l) (at_port_here p (p, x) [] refl)
+              ∙ ap (λ l. l ++ x ∷ []) (t.taken o op g p q pq).0
+              ∙ sym (take_next (s.hist q) g1 (s.taken q) x is) ∙ ap (λ n. take n (s.hist q ++ g1)) (sym n_is),
+          omega (arith, n_is, lt, length-append (s.hist q) g1),
+        )
+
+    -- the other queues
+    taken_there : (o' : ℕ) (op' : OpForm) → slice_get ops o' ≡ Some op' → (p' : ℕ) (q' : Name) → slice_get op'.reads p' ≡ Some q' → (q ≡ q' → ⊥)
+        → name_eq q q' ≡ false → Taken o' op' p' q'
+    taken_there o' op' g' p' q' pq' n nf =
+        let g1 = joined op.writes r.outs q' in
+        let old = t.taken o' op' g' p' q' pq' in
+        let m_is : s'.taken q' ≡ s.taken q' = if_false (name_eq q q') (s.taken q + 1) (s.taken q') nf in
+        let w_is : at_port p' (ws' o') ≡ at_port p' (ws o') = ⊎_elim
+        (λ e.
+        at_same ops (λ i j. slice_get j.reads p' ≡ Some q' → at_port p' (ws' i) ≡ at_port p' (ws i)) o o' op op' g g' e
+        (λ h.
+        let np : p ≢ p' = λ ep. n (same_Some q q' (sym pq ∙ ap (slice_get op.reads) ep ∙ h)) in
+        ap (at_port p') here ∙ at_port-append p' (ws o) ((p, x) ∷ []) ∙ ap (λ l. at_port p' (ws o) ++ l) (at_port_past p' (p, x) [] np)
+        ∙ append-nil (at_port p' (ws o))) pq')
+        (λ ne. ap (at_port p') (there o' ne))
+        (cases_eq o o') in (
+          w_is ∙ old.0 ∙ sym (take-append-le (s.taken q') (s.hist q') g1 old.1) ∙ ap (λ k. take k (s.hist q' ++ g1)) (sym m_is),
+          omega (arith, m_is, old.1, length-append (s.hist q') g1),
+        )
+
+    -- THE STEPS
+
+    kept_after : (o' : ℕ) (op' : OpForm) → slice_get ops o' ≡ Some op' → s'.kept o' ≡ (ran op' (ws' o')).states
+    kept_after o' op' g' = ⊎_elim
         (λ e. at_same ops (λ i j. at_key o r.states s.kept i ≡ (ran j (ws' i)).states) o o' op op' g g' e
         (at_key_same o r.states s.kept ∙ ap (λ us. (f p x us).states) (t.kept o op g) ∙ sym (more.states) ∙ ap (λ w. (run f w first).states) (sym here)))
         (λ n. at_key_other o r.states s.kept o' n ∙ t.kept o' op' g' ∙ ap (λ w. (ran op' w).states) (sym (there o' n)))
-        (cases_eq o o');
-    written_by = λ o' op' g'. ⊎_elim
+        (cases_eq o o')
+
+    written_after : (o' : ℕ) (op' : OpForm) → slice_get ops o' ≡ Some op' → Lists op'.writes (ran op' (ws' o')).outs s'.hist
+    written_after o' op' g' = ⊎_elim
         (λ e. at_same ops (λ i j. Lists j.writes (ran j (ws' i)).outs s'.hist) o o' op op' g g' e written_here)
         (λ n. subst (λ w. Lists op'.writes (ran op' w).outs s'.hist) (sym (there o' n))
         (lists_agree op'.writes (ran op' (ws o')).outs s.hist s'.hist
@@ -117,15 +203,19 @@ module _ (pl : PlanForm) (inputs : History) (v : IsPlan pl) (empty : (q : Name) 
         (⊎_elim (λ h. absurd (n (one_place (writes_it n') ops o o' op op' (let w = v.written_once n' in omega (arith, w)) g g' h lt))) (λ z. z)
         (more_or_zero (count n' op.writes)))))
         (t.written_by o' op' g')))
-        (cases_eq o o');
-    unwritten = λ n z. not_here n (let m = at_most (writes_it n) ops o op g in omega (arith, m, z)) ∙ t.unwritten n z;
-    below = λ o' op' g'. ⊎_elim
+        (cases_eq o o')
+
+    below_after : (o' : ℕ) (op' : OpForm) → slice_get ops o' ≡ Some op' → PortsBelow (length op'.reads) (ws' o')
+    below_after o' op' g' = ⊎_elim
         (λ e. at_same ops (λ i j. PortsBelow (length j.reads) (ws' i)) o o' op op' g g' e
         (subst (PortsBelow (length op.reads)) (sym here)
         (below-append (length op.reads) (ws o) ((p, x) ∷ []) (t.below o op g) (slice_get_within op.reads p q pq, tt))))
         (λ n. subst (PortsBelow (length op'.reads)) (sym (there o' n)) (t.below o' op' g'))
-        (cases_eq o o');
-    taken = λ o' op' g' p' q' pq'. ⊎_elim
+        (cases_eq o o')
+
+    -- of the queue that was read no other port takes
+    taken_after : (o' : ℕ) (op' : OpForm) → slice_get ops o' ≡ Some op' → (p' : ℕ) (q' : Name) → slice_get op'.reads p' ≡ Some q' → Taken o' op' p' q'
+    taken_after o' op' g' p' q' pq' = ⊎_elim
         (λ c.
         let lt : 0 < count q op.reads = got_count op.reads p q pq in
         let pq2 : slice_get op'.reads p' ≡ Some q = pq' ∙ ap Some (sym c.0) in
@@ -136,96 +226,41 @@ module _ (pl : PlanForm) (inputs : History) (v : IsPlan pl) (empty : (q : Name) 
         (λ h. subst (λ k. Taken o op k q)
         (place_once op.reads p p' q (let m = at_most (reads_it q) ops o op g in let w = v.read_once q in omega (arith, m, w)) pq h) taken_here) pq2))
         (λ c. taken_there o' op' g' p' q' pq' c.0 c.1)
-        (cases_name q q');
-    rows = λ u test.
+        (cases_name q q')
+
+    -- what this firing adds to a table is added to what the operator's word adds
+    added_here : (u : Name) (test : List ℤ → Bool)
+        → count_by test (joined (tabs op) (ran op (ws' o)).adds u) ≡ count_by test (joined (tabs op) (ran op (ws o)).adds u) + count_by test
+        (joined (tabs op) (f p x before.states).adds u)
+    added_here u test =
+        ap (λ w. count_by test (joined (tabs op) (ran op w).adds u)) here
+        ∙ ap (count_by test) (joined_cong (tabs op) (ran op (ws o ++ (p, x) ∷ [])).adds (λ j. before.adds j ++ (f p x before.states).adds j) u more.adds)
+        ∙ joined-append test (tabs op) before.adds (f p x before.states).adds u
+
+    rows_after : (u : Name) (test : List ℤ → Bool) → count_by test (s'.rows u) ≡ sum_numbered (λ i j. count_by test (joined (tabs j) (ran j (ws' i)).adds u)) 0 ops
+    rows_after u test =
+        let z : 0 + o ≡ o = omega arith in
         let a = count_by-append test (s.rows u) (joined (tabs op) r.adds u) in
         let b = t.rows u test in
         let k = ap (λ us. count_by test (joined (tabs op) (f p x us).adds u)) (t.kept o op g) in
         let d = numbered_more (λ i j. count_by test (joined (tabs j) (ran j (ws i)).adds u))
         (λ i j. count_by test (joined (tabs j) (ran j (ws' i)).adds u)) ops 0 o
         (count_by test (joined (tabs op) (f p x before.states).adds u)) op g
-        (let z : 0 + o ≡ o = omega arith in
-        subst (λ i. count_by test (joined (tabs op) (ran op (ws' i)).adds u) ≡ count_by test (joined (tabs op) (ran op (ws i)).adds u) + count_by test
-        (joined (tabs op) (f p x before.states).adds u)) (sym z)
-        (ap (λ w. count_by test (joined (tabs op) (ran op w).adds u)) here
-        ∙ ap (count_by test) (joined_cong (tabs op) (ran op (ws o ++ (p, x) ∷ [])).adds (λ j. before.adds j ++ (f p x before.states).adds j) u more.adds)
-        ∙ joined-append test (tabs op) before.adds (f p x before.states).adds u))
-        (λ i j ne. ap (λ w. count_by test (joined (tabs j) (ran j w).adds u)) (sym (there i (λ e. ne (let z : 0 + o ≡ o = omega arith in sym e ∙ sym z))))) in
-        omega (arith, a, b, k, d);
-  }
-    where
-      f : ℕ → item.Item → List Kept → Fired
-      f = fire op.kernel
+        (subst (λ i. count_by test (joined (tabs op) (ran op (ws' i)).adds u) ≡ count_by test (joined (tabs op) (ran op (ws i)).adds u) + count_by test
+        (joined (tabs op) (f p x before.states).adds u)) (sym z) (added_here u test))
+        (λ i j ne. ap (λ w. count_by test (joined (tabs j) (ran j w).adds u)) (sym (there i (λ e. ne (sym e ∙ sym z))))) in
+        omega (arith, a, b, k, d)
 
-      first : List Kept
-      first = first_kept op.kernel
-
-      r : Fired
-      r = f p x (s.kept o)
-
-      before : Fired
-      before = run f (ws o) first
-
-      ws' : ℕ → Word
-      ws' = at_key o (ws o ++ (p, x) ∷ []) ws
-
-      here : ws' o ≡ ws o ++ (p, x) ∷ []
-      here = at_key_same o (ws o ++ (p, x) ∷ []) ws
-
-      there : (o' : ℕ) → o ≢ o' → ws' o' ≡ ws o'
-      there o' n = at_key_other o (ws o ++ (p, x) ∷ []) ws o' n
-
-      more : Same (run f (ws o ++ (p, x) ∷ []) first) (and_then before (f p x before.states))
-      more = run_more f (ws o) p x first
-
-      s' : Machine
-      s' = fired tables o op p q x s
-
-      not_here : (n : Name) → count n op.writes ≡ 0 → s'.hist n ≡ s.hist n
-      not_here n z = ap (λ l. s.hist n ++ l) (joined_out op.writes r.outs n z) ∙ append-nil (s.hist n)
-
-      written_here : Lists op.writes (ran op (ws' o)).outs s'.hist
-      written_here =
-          lists_cong op.writes (λ j. before.outs j ++ r.outs j) (ran op (ws' o)).outs s'.hist
-          (λ j. ap (λ us. before.outs j ++ (f p x us).outs j) (t.kept o op g) ∙ sym (more.outs j) ∙ ap (λ w. (ran op w).outs j) (sym here))
-          (lists_more op.writes before.outs r.outs s.hist (joined op.writes r.outs)
-          (λ n. let m = at_most (writes_it n) ops o op g in let w = v.written_once n in omega (arith, m, w))
-          (λ n lt. refl) (t.written_by o op g))
-
-      Taken : ℕ → OpForm → ℕ → Name → Type 0
-      Taken i j l n = (at_port l (ws' i) ≡ take (s'.taken n) (s'.hist n)) × (s'.taken n ≤ length (s'.hist n))
-
-      n_is : s'.taken q ≡ s.taken q + 1
-      n_is = ⊎_elim (λ c. if_true (name_eq q q) (s.taken q + 1) (s.taken q) c.1) (λ c. absurd (c.0 refl)) (cases_name q q)
-
-      taken_here : Taken o op p q
-      taken_here =
-          let g1 = joined op.writes r.outs q in
-          let lt = slice_get_within (s.hist q) (s.taken q) x is in (
-            ap (at_port p) here ∙ at_port-append p (ws o) ((p, x) ∷ []) ∙ ap (λ l. at_port p (ws o) ++ l) (at_port_here p (p, x) [] refl)
-                ∙ ap (λ l. l ++ x ∷ []) (t.taken o op g p q pq).0
-                ∙ sym (take_next (s.hist q) g1 (s.taken q) x is) ∙ ap (λ n. take n (s.hist q ++ g1)) (sym n_is),
-            omega (arith, n_is, lt, length-append (s.hist q) g1),
-          )
-
-      taken_there : (o' : ℕ) (op' : OpForm) → slice_get ops o' ≡ Some op' → (p' : ℕ) (q' : Name) → slice_get op'.reads p' ≡ Some q' → (q ≡ q' → ⊥)
-          → name_eq q q' ≡ false → Taken o' op' p' q'
-      taken_there o' op' g' p' q' pq' n nf =
-          let g1 = joined op.writes r.outs q' in
-          let old = t.taken o' op' g' p' q' pq' in
-          let m_is : s'.taken q' ≡ s.taken q' = if_false (name_eq q q') (s.taken q + 1) (s.taken q') nf in
-          let w_is : at_port p' (ws' o') ≡ at_port p' (ws o') = ⊎_elim
-          (λ e.
-          at_same ops (λ i j. slice_get j.reads p' ≡ Some q' → at_port p' (ws' i) ≡ at_port p' (ws i)) o o' op op' g g' e
-          (λ h.
-          let np : p ≢ p' = λ ep. n (same_Some q q' (sym pq ∙ ap (slice_get op.reads) ep ∙ h)) in
-          ap (at_port p') here ∙ at_port-append p' (ws o) ((p, x) ∷ []) ∙ ap (λ l. at_port p' (ws o) ++ l) (at_port_past p' (p, x) [] np)
-          ∙ append-nil (at_port p' (ws o))) pq')
-          (λ ne. ap (at_port p') (there o' ne))
-          (cases_eq o o') in (
-            w_is ∙ old.0 ∙ sym (take-append-le (s.taken q') (s.hist q') g1 old.1) ∙ ap (λ k. take k (s.hist q' ++ g1)) (sym m_is),
-            omega (arith, m_is, old.1, length-append (s.hist q') g1),
-          )
+    -- the words, with this firing, trace the state afterwards
+    pub traced_fired : Traced tables ops inputs s' ws'
+    traced_fired = record {
+      kept = kept_after;
+      written_by = written_after;
+      unwritten = λ n z. not_here n (let m = at_most (writes_it n) ops o op g in omega (arith, m, z)) ∙ t.unwritten n z;
+      below = below_after;
+      taken = taken_after;
+      rows = rows_after;
+    }
 
   -- the firings of each operator, as many more as it stands in the run
   pub traced_run : (es : List (ℕ × ℕ)) (s s' : Machine) (ws : ℕ → Word) → Traced tables ops inputs s ws → Run pl s es s'

@@ -99,124 +99,148 @@ module _ (p : PlanForm) (inputs : List (List item.Item)) (caps : Capacities) (v 
         within = subst (IsWithinCapacities p caps) m.after (sends_keep p caps b b' o port m n.within);
       })
 
-  net_takes : (ws : ℕ → Word) (b b' : Bounded) (o port : ℕ) → (m : Take p b o port b') → IsNet p inputs caps ws b
-      → IsNet p inputs caps (and_took o port m.item ws) b'
-  net_takes ws b b' o port m n =
-      subst (IsNet p inputs caps ws') (sym m.after) (record {
-        words = w.0;
-        histories = hist_is;
-        taken = taken_is;
-        unread = λ n' z. ⊎_elim
-            (λ c. absurd (let l = got_count m.op.reads port q m.queue_is in let a = at_most (reads_it q) p.ops o m.op m.op_is in
-            let y = ap (λ x. total (reads_it x) p.ops) c.0 in omega (arith, l, a, y, z)))
-            (λ c. if_false (name_eq q n') (b.taken q ++ m.item ∷ []) (b.taken n') c.1 ∙ n.unread n' z)
-            (cases_name q n');
-        unwritten = λ x z.
-            ap (λ l. l ++ joined m.op.writes r.outs x) (n.unwritten x z)
-            ∙ joined_out m.op.writes r.outs x (let a = at_most (writes_it x) p.ops o m.op m.op_is in omega (arith, a, z));
-        kept = λ o' op' g'. ⊎_elim
-            (λ e. at_same p.ops (λ i j. at_key o r.states b.kept i ≡ (ran j (ws' i)).states) o o' m.op op' m.op_is g' e
-            (at_key_same o r.states b.kept ∙ sym (at_key_same o (fire m.op.kernel port m.item (s.kept o)).states s.kept
-            ∙ ap (λ us. (fire m.op.kernel port m.item us).states) kept_is) ∙ t1.kept o m.op m.op_is))
-            (λ ne. at_key_other o r.states b.kept o' ne ∙ n.kept o' op' g'
-            ∙ sym (ap (λ u. (ran op' u).states) (at_key_other o (ws o ++ (port, m.item) ∷ []) ws o' ne)))
-            (cases_eq o o');
-        rows = λ u test.
-            let a = t1.rows u test in
-            let c = added_numbered tables p.ops 0 ws' u test in
-            let d = count_by-append test (s.rows u) (joined (tables_of tables m.op) (fire m.op.kernel port m.item (s.kept o)).adds u) in
-            let e = count_by-append test (b.rows u) (joined (tables_of tables m.op) r.adds u) in
-            let f = ap (λ us. count_by test (joined (tables_of tables m.op) (fire m.op.kernel port m.item us).adds u)) kept_is in
-            let x = t.rows u test in
-            let y = added_numbered tables p.ops 0 ws u test in
-            let z = n.rows u test in
-            omega (arith, a, c, d, e, f, x, y, z);
-        within = subst (IsWithinCapacities p caps) m.after (takes_keep p caps b b' o port m n.within);
-      })
-    where
-      q : Name
-      q = m.queue
+  -- an item is taken
+  module _ (ws : ℕ → Word) (b b' : Bounded) (o port : ℕ) (m : Take p b o port b') (n : IsNet p inputs caps ws b) where
+    -- the queue that is taken from
+    abbrev q : Name
+    q = m.queue
 
-      ws' : ℕ → Word
-      ws' = and_took o port m.item ws
+    -- the words afterwards
+    abbrev ws' : ℕ → Word
+    ws' = and_took o port m.item ws
 
-      r : Fired
-      r = fire m.op.kernel port m.item (b.kept o)
+    -- this firing
+    abbrev r : Fired
+    r = fire m.op.kernel port m.item (b.kept o)
 
-      all : (s : Machine) × Run p (start p inputs) (named_run p ws) s × Traced (table_names p.tables) p.ops (given_to p inputs) s ws
-      all = reached p inputs v ws n.words
+    -- a machine that has made the firings so far
+    abbrev all : (s : Machine) × Run p (start p inputs) (named_run p ws) s × Traced (table_names p.tables) p.ops (given_to p inputs) s ws
+    all = reached p inputs v ws n.words
 
-      s : Machine
-      s = all.0
+    abbrev s : Machine
+    s = all.0
 
-      t : Traced (table_names p.tables) p.ops (given_to p inputs) s ws
-      t = all.2
+    t : Traced (table_names p.tables) p.ops (given_to p inputs) s ws
+    t = all.2
 
-      same : (x : Name) → s.hist x ≡ hist_by p inputs ws x
-      same = only_words p inputs ws s.hist v t.written_by t.unwritten
+    same : (x : Name) → s.hist x ≡ hist_by p inputs ws x
+    same = only_words p inputs ws s.hist v t.written_by t.unwritten
 
-      kept_is : s.kept o ≡ b.kept o
-      kept_is = t.kept o m.op m.op_is ∙ sym (n.kept o m.op m.op_is)
+    -- it keeps what the net keeps
+    kept_is : s.kept o ≡ b.kept o
+    kept_is = t.kept o m.op m.op_is ∙ sym (n.kept o m.op m.op_is)
 
-      -- the item is the front of what is not taken
-      got : slice_get (s.hist q) (s.taken q) ≡ Some m.item
-      got =
-          let old = t.taken o m.op m.op_is port q m.queue_is in
-          let long : length (b.taken q) ≡ s.taken q =
-          (let x = ap length (n.taken o m.op m.op_is port q m.queue_is) in let y = ap length old.0 in let c = length-take (s.taken q) (s.hist q) in
-          let d = old.1 in omega (arith, x, y, c, d)) in
-          ap (λ l. slice_get l (s.taken q)) (same q ∙ sym (n.histories q) ∙ ap (λ l. (b.taken q ++ l) ++ b.pending q) m.item_is
-          ∙ append_assoc (b.taken q) (m.item ∷ m.rest) (b.pending q))
-          ∙ got_mid (b.taken q) (m.rest ++ b.pending q) m.item (s.taken q) long
+    -- the item is the front of what is not taken
+    got : slice_get (s.hist q) (s.taken q) ≡ Some m.item
+    got =
+        let old = t.taken o m.op m.op_is port q m.queue_is in
+        let long : length (b.taken q) ≡ s.taken q =
+        (let x = ap length (n.taken o m.op m.op_is port q m.queue_is) in let y = ap length old.0 in let c = length-take (s.taken q) (s.hist q) in
+        let d = old.1 in omega (arith, x, y, c, d)) in
+        ap (λ l. slice_get l (s.taken q)) (same q ∙ sym (n.histories q) ∙ ap (λ l. (b.taken q ++ l) ++ b.pending q) m.item_is
+        ∙ append_assoc (b.taken q) (m.item ∷ m.rest) (b.pending q))
+        ∙ got_mid (b.taken q) (m.rest ++ b.pending q) m.item (s.taken q) long
 
-      s1 : Machine
-      s1 = fired (table_names p.tables) o m.op port q m.item s
+    -- the machine after this firing
+    abbrev s1 : Machine
+    s1 = fired (table_names p.tables) o m.op port q m.item s
 
-      t1 : Traced (table_names p.tables) p.ops (given_to p inputs) s1 ws'
-      t1 = traced_fired p (given_to p inputs) v empty s ws o port m.op q m.item t m.op_is m.queue_is got
+    t1 : Traced (table_names p.tables) p.ops (given_to p inputs) s1 ws'
+    t1 = traced_fired p (given_to p inputs) v empty s ws o port m.op q m.item t m.op_is m.queue_is got
 
-      w : AreWords p inputs ws' × ((x : Name) → s1.hist x ≡ hist_by p inputs ws' x)
-      w = traced_words p inputs s1 ws' v t1
+    -- what is known of it, as words
+    w : AreWords p inputs ws' × ((x : Name) → s1.hist x ≡ hist_by p inputs ws' x)
+    w = traced_words p inputs s1 ws' v t1
 
-      hist_is : (x : Name) → history (after_taking (table_names p.tables) o m.op port q m.item m.rest b) x ≡ hist_by p inputs ws' x
-      hist_is x =
-          ap (λ l. l ++ (b.pending x ++ joined m.op.writes r.outs x)) (took_sent q m.item m.rest b m.item_is x)
-          ∙ sym (append_assoc (b.taken x ++ b.left x) (b.pending x) (joined m.op.writes r.outs x))
-          ∙ ap (λ l. l ++ joined m.op.writes r.outs x) (n.histories x ∙ sym (same x))
-          ∙ ap (λ us. s.hist x ++ joined m.op.writes (fire m.op.kernel port m.item us).outs x) (sym kept_is)
-          ∙ w.1 x
+    -- the histories are those of the words
+    hist_is : (x : Name) → history (after_taking (table_names p.tables) o m.op port q m.item m.rest b) x ≡ hist_by p inputs ws' x
+    hist_is x =
+        ap (λ l. l ++ (b.pending x ++ joined m.op.writes r.outs x)) (took_sent q m.item m.rest b m.item_is x)
+        ∙ sym (append_assoc (b.taken x ++ b.left x) (b.pending x) (joined m.op.writes r.outs x))
+        ∙ ap (λ l. l ++ joined m.op.writes r.outs x) (n.histories x ∙ sym (same x))
+        ∙ ap (λ us. s.hist x ++ joined m.op.writes (fire m.op.kernel port m.item us).outs x) (sym kept_is)
+        ∙ w.1 x
 
-      here : b.taken q ++ m.item ∷ [] ≡ at_port port (ws' o)
-      here =
-          ap (λ l. l ++ m.item ∷ []) (n.taken o m.op m.op_is port q m.queue_is)
-          ∙ sym (ap (at_port port) (at_key_same o (ws o ++ (port, m.item) ∷ []) ws) ∙ at_port-append port (ws o) ((port, m.item) ∷ [])
-          ∙ ap (λ l. at_port port (ws o) ++ l) (at_port_here port (port, m.item) [] refl))
+    -- of the queue one more item is taken
+    here : b.taken q ++ m.item ∷ [] ≡ at_port port (ws' o)
+    here =
+        ap (λ l. l ++ m.item ∷ []) (n.taken o m.op m.op_is port q m.queue_is)
+        ∙ sym (ap (at_port port) (at_key_same o (ws o ++ (port, m.item) ∷ []) ws) ∙ at_port-append port (ws o) ((port, m.item) ∷ [])
+        ∙ ap (λ l. at_port port (ws o) ++ l) (at_port_here port (port, m.item) [] refl))
 
-      taken_is : (o' : ℕ) (op' : OpForm) → slice_get p.ops o' ≡ Some op' → (port' : ℕ) (x : Name) → slice_get op'.reads port' ≡ Some x
-          → at_name q (b.taken q ++ m.item ∷ []) b.taken x ≡ at_port port' (ws' o')
-      taken_is o' op' g' port' x is = ⊎_elim
-          (λ c.
-          let lt : 0 < count q m.op.reads = got_count m.op.reads port q m.queue_is in
-          let is2 : slice_get op'.reads port' ≡ Some q = is ∙ ap Some (sym c.0) in
-          let lt' : 0 < count q op'.reads = got_count op'.reads port' q is2 in
-          let eo = one_place (reads_it q) p.ops o o' m.op op' (let u = v.read_once q in omega (arith, u)) m.op_is g' lt lt' in
-          if_true (name_eq q x) (b.taken q ++ m.item ∷ []) (b.taken x) c.1
-          ∙ at_same p.ops (λ i j. slice_get j.reads port' ≡ Some q → b.taken q ++ m.item ∷ [] ≡ at_port port' (ws' i)) o o' m.op op' m.op_is g' eo
-          (λ h. subst (λ k. b.taken q ++ m.item ∷ [] ≡ at_port k (ws' o))
-          (place_once m.op.reads port port' q (let a = at_most (reads_it q) p.ops o m.op m.op_is in let u = v.read_once q in
-          omega (arith, a, u)) m.queue_is h) here) is2)
-          (λ c.
-          if_false (name_eq q x) (b.taken q ++ m.item ∷ []) (b.taken x) c.1 ∙ n.taken o' op' g' port' x is
-          ∙ sym (⊎_elim
-          (λ e.
-          at_same p.ops (λ i j. slice_get j.reads port' ≡ Some x → at_port port' (ws' i) ≡ at_port port' (ws i)) o o' m.op op' m.op_is g' e
-          (λ h.
-          let np : port ≢ port' = λ ep. c.0 (same_Some q x (sym m.queue_is ∙ ap (slice_get m.op.reads) ep ∙ h)) in
-          ap (at_port port') (at_key_same o (ws o ++ (port, m.item) ∷ []) ws) ∙ at_port-append port' (ws o) ((port, m.item) ∷ [])
-          ∙ ap (λ l. at_port port' (ws o) ++ l) (at_port_past port' (port, m.item) [] np) ∙ append-nil (at_port port' (ws o))) is)
-          (λ ne. ap (at_port port') (at_key_other o (ws o ++ (port, m.item) ∷ []) ws o' ne))
-          (cases_eq o o')))
-          (cases_name q x)
+    -- at the port of another queue no more is taken
+    word_there : (o' : ℕ) (op' : OpForm) → slice_get p.ops o' ≡ Some op' → (port' : ℕ) (x : Name) → slice_get op'.reads port' ≡ Some x → (q ≡ x → ⊥)
+        → at_port port' (ws' o') ≡ at_port port' (ws o')
+    word_there o' op' g' port' x is apart = ⊎_elim
+        (λ e.
+        at_same p.ops (λ i j. slice_get j.reads port' ≡ Some x → at_port port' (ws' i) ≡ at_port port' (ws i)) o o' m.op op' m.op_is g' e
+        (λ h.
+        let np : port ≢ port' = λ ep. apart (same_Some q x (sym m.queue_is ∙ ap (slice_get m.op.reads) ep ∙ h)) in
+        ap (at_port port') (at_key_same o (ws o ++ (port, m.item) ∷ []) ws) ∙ at_port-append port' (ws o) ((port, m.item) ∷ [])
+        ∙ ap (λ l. at_port port' (ws o) ++ l) (at_port_past port' (port, m.item) [] np) ∙ append-nil (at_port port' (ws o))) is)
+        (λ ne. ap (at_port port') (at_key_other o (ws o ++ (port, m.item) ∷ []) ws o' ne))
+        (cases_eq o o')
+
+    -- so at each port as much is taken as its word has
+    taken_is : (o' : ℕ) (op' : OpForm) → slice_get p.ops o' ≡ Some op' → (port' : ℕ) (x : Name) → slice_get op'.reads port' ≡ Some x
+        → at_name q (b.taken q ++ m.item ∷ []) b.taken x ≡ at_port port' (ws' o')
+    taken_is o' op' g' port' x is = ⊎_elim
+        (λ c.
+        let lt : 0 < count q m.op.reads = got_count m.op.reads port q m.queue_is in
+        let is2 : slice_get op'.reads port' ≡ Some q = is ∙ ap Some (sym c.0) in
+        let lt' : 0 < count q op'.reads = got_count op'.reads port' q is2 in
+        let eo = one_place (reads_it q) p.ops o o' m.op op' (let u = v.read_once q in omega (arith, u)) m.op_is g' lt lt' in
+        if_true (name_eq q x) (b.taken q ++ m.item ∷ []) (b.taken x) c.1
+        ∙ at_same p.ops (λ i j. slice_get j.reads port' ≡ Some q → b.taken q ++ m.item ∷ [] ≡ at_port port' (ws' i)) o o' m.op op' m.op_is g' eo
+        (λ h. subst (λ k. b.taken q ++ m.item ∷ [] ≡ at_port k (ws' o))
+        (place_once m.op.reads port port' q (let a = at_most (reads_it q) p.ops o m.op m.op_is in let u = v.read_once q in
+        omega (arith, a, u)) m.queue_is h) here) is2)
+        (λ c.
+        if_false (name_eq q x) (b.taken q ++ m.item ∷ []) (b.taken x) c.1 ∙ n.taken o' op' g' port' x is ∙ sym (word_there o' op' g' port' x is c.0))
+        (cases_name q x)
+
+    -- a queue that nobody reads is not the one
+    unread_after : (x : Name) → total (reads_it x) p.ops ≡ 0 → at_name q (b.taken q ++ m.item ∷ []) b.taken x ≡ []
+    unread_after x z = ⊎_elim
+        (λ c. absurd (let l = got_count m.op.reads port q m.queue_is in let a = at_most (reads_it q) p.ops o m.op m.op_is in
+        let y = ap (λ x. total (reads_it x) p.ops) c.0 in omega (arith, l, a, y, z)))
+        (λ c. if_false (name_eq q x) (b.taken q ++ m.item ∷ []) (b.taken x) c.1 ∙ n.unread x z)
+        (cases_name q x)
+
+    -- each operator keeps what its word leaves
+    kept_after : (o' : ℕ) (op' : OpForm) → slice_get p.ops o' ≡ Some op' → at_key o r.states b.kept o' ≡ (ran op' (ws' o')).states
+    kept_after o' op' g' = ⊎_elim
+        (λ e. at_same p.ops (λ i j. at_key o r.states b.kept i ≡ (ran j (ws' i)).states) o o' m.op op' m.op_is g' e
+        (at_key_same o r.states b.kept ∙ sym (at_key_same o (fire m.op.kernel port m.item (s.kept o)).states s.kept
+        ∙ ap (λ us. (fire m.op.kernel port m.item us).states) kept_is) ∙ t1.kept o m.op m.op_is))
+        (λ ne. at_key_other o r.states b.kept o' ne ∙ n.kept o' op' g'
+        ∙ sym (ap (λ u. (ran op' u).states) (at_key_other o (ws o ++ (port, m.item) ∷ []) ws o' ne)))
+        (cases_eq o o')
+
+    -- the net takes
+    net_takes : IsNet p inputs caps ws' b'
+    net_takes =
+        subst (IsNet p inputs caps ws') (sym m.after) (record {
+          words = w.0;
+          histories = hist_is;
+          taken = taken_is;
+          unread = unread_after;
+          unwritten = λ x z.
+              ap (λ l. l ++ joined m.op.writes r.outs x) (n.unwritten x z)
+              ∙ joined_out m.op.writes r.outs x (let a = at_most (writes_it x) p.ops o m.op m.op_is in omega (arith, a, z));
+          kept = kept_after;
+          rows = λ u test.
+              let a = t1.rows u test in
+              let c = added_numbered tables p.ops 0 ws' u test in
+              let d = count_by-append test (s.rows u) (joined (tables_of tables m.op) (fire m.op.kernel port m.item (s.kept o)).adds u) in
+              let e = count_by-append test (b.rows u) (joined (tables_of tables m.op) r.adds u) in
+              let f = ap (λ us. count_by test (joined (tables_of tables m.op) (fire m.op.kernel port m.item us).adds u)) kept_is in
+              let x = t.rows u test in
+              let y = added_numbered tables p.ops 0 ws u test in
+              let z = n.rows u test in
+              omega (arith, a, c, d, e, f, x, y, z);
+          within = subst (IsWithinCapacities p caps) m.after (takes_keep p caps b b' o port m n.within);
+        })
 
   net_leads : (ws : ℕ → Word) (b : Bounded) → IsNet p inputs caps ws b → (s : Machine) × Leads p inputs ws b s
   net_leads ws b n =

@@ -23,7 +23,8 @@ use Rattle.work_code.specs.Steps.{Step, Steps, Set, Push, If, Done, Then, BodyFo
 use Rattle.work_code.specs.Ran.{Ran, ran, ran_once}
 use Rattle.work_code.specs.Value.{val, is_true}
 use Rattle.kern_rows.specs.Forms.{CodeForm, FilterForm, RunForm}
-use Rattle.kern_rows.specs.Runs.{slots_from, run_kept, pushed_to, Filtering, Filtered, filter_one, filter_turns, next_run, after_run, received, run_at, run_or, usual_run, needs, buffer_of}
+use Rattle.kern_rows.specs.Runs.{slots_from, run_kept, pushed_to, Filtering, Filtered, filter_one, filter_turns, next_run, after_run, received, run_at}
+use Rattle.kern_rows.specs.Runs.{run_or, usual_run, needs, buffer_of}
 use Rattle.kern_rows.specs.Turns.{Turns, shares, ones, front_in, rest_in, front_at, rest_at, front_of, passed, put, waiting, itself}
 use Rattle.river_kernels.specs.declared.types.VarKind.{VarKind}
 use Rattle.river_kernels.specs.Formed.{is_width, is_term, is_step, is_steps, has_port, is_code, has_rates, is_filter, is_usual, is_first, is_number, pushes}

@@ -1,5 +1,6 @@
 -- Several classes that a seat holds: what a put and a take make of them.
-use Rattle.std.proofs.Common.{◌≡◌, ℕ, ◌<◌, ◌≤◌, Bool, cond, not, Some, List, [], ◌∷◌, ◌++◌, length, drop, reverse, sym, refl, ap, ◌∙◌, subst, append_assoc, eq-eqb, ne_eqb, inl, inr, arith}
+use Rattle.std.proofs.Common.{◌≡◌, ℕ, ◌<◌, ◌≤◌, Bool, cond, not, Some, List, [], ◌∷◌, ◌++◌, length, drop, reverse, sym, refl, ap, ◌∙◌, subst, append_assoc, eq-eqb}
+use Rattle.std.proofs.Common.{ne_eqb, inl, inr, arith}
 use Rattle.std.specs.Prelude.{slice_get}
 use Rattle.std.proofs.lemmas.List.{append-nil, map-append, drop_all}
 use Rattle.std.proofs.lemmas.List.Elements.{All-nil, All-cons, All-append}

@@ -72,7 +72,8 @@ front-next bytes skip_first header from end old before now l w (inr c) front too
   pieces = front.pieces ++ piece ∷ [];
   took = took ∙ ap (λ (o : Option (List (List ℕ))). append_pieces o (piece ∷ [])) front.took ∙ taken-twice old front.pieces (piece ∷ []);
   rest = λ others h. subst (AreCut bytes skip_first) (sym (append_assoc front.pieces (piece ∷ []) others))
-      (front.rest (piece ∷ others) (joins (drop from bytes) piece (drop (end - from) (drop from bytes)) header others c (subst (λ (b : List ℕ). AreCut b false others) (sym place) h)));
+      (front.rest (piece ∷ others) (joins (drop from bytes) piece (drop (end - from) (drop from bytes)) header others c
+      (subst (λ (b : List ℕ). AreCut b false others) (sym place) h)));
 } where
   piece : List ℕ
   piece = take (end - from) (drop from bytes)

@@ -86,121 +86,133 @@ asks_there room ts0 ts ls n l th h g =
           (slice_get_within x.t.ins l.port p.in_ x.in_is);
     }
 
--- one link more has its ring
-pub rung_next : (room : Link → ℕ) (ts0 ts ts' : List Task) (ls : List Link) (n : ℕ) (l : Link) → AreThere ts0 ls → slice_get ls n ≡ Some l
-    → AreRung room ts0 ts ls n → Put (room l) ts ts' l → AreRung room ts0 ts' ls (n + 1)
-rung_next room ts0 ts ts' ls n l th g h put = record {
-  bodies = bodies_stay ∙ h.bodies;
-  rung = λ k l2 f i lt g2 x. each k l2 f i lt g2 x;
-  ins = λ o port t' t0 gt g0 no.
-      let a = after_task ts ts' l put.out put.in_ there put.swapped o t' gt in
-      a.ins port (no n l (omega arith) g) ∙ h.ins o port a.t t0 a.t_is g0 (λ m k lt. no m k (omega (arith, lt)));
-  outs = λ o j t' t0 gt g0 no.
-      let a = after_task ts ts' l put.out put.in_ there put.swapped o t' gt in
-      a.outs j (no n l (omega arith) g) ∙ h.outs o j a.t t0 a.t_is g0 (λ m k lt. no m k (omega (arith, lt)));
-}
-  where
-    there : IsThere ts l
-    there = rung_there ts0 ts l h.bodies (th.each n l g)
+-- ONE LINK MORE HAS ITS RING
 
-    unmoved : AreUnmoved ts
-    unmoved = bodies_unmoved ts0 ts h.bodies th.unmoved
+module _ (room : Link → ℕ) (ts0 ts ts' : List Task) (ls : List Link) (n : ℕ) (l : Link) (th : AreThere ts0 ls) (g : slice_get ls n ≡ Some l)
+    (h : AreRung room ts0 ts ls n) (put : Put (room l) ts ts' l) where
+  -- the link stands in the tasks
+  there : IsThere ts l
+  there = rung_there ts0 ts l h.bodies (th.each n l g)
 
-    old_out : sent_of (get_or put.swapped.writer.outs l.out put.out) ≡ []
-    old_out = ap (λ (y : Task). sent_of (get_or y.outs l.out put.out)) (writer_is ts ts' l put.out put.in_ there put.swapped)
-        ∙ ap sent_of (get_or_from_slice_get there.ends.t'.outs l.out there.out put.out there.ends.out_is)
-        ∙ unmoved.outs l.writer l.out there.ends.t' there.out there.ends.t_is' there.ends.out_is
+  -- nothing was moved yet
+  unmoved : AreUnmoved ts
+  unmoved = bodies_unmoved ts0 ts h.bodies th.unmoved
 
-    old_in : received_of (get_or put.swapped.reader.ins l.port put.in_) ≡ []
-    old_in = ap (λ (y : Task). received_of (get_or y.ins l.port put.in_)) (reader_is ts ts' l put.out put.in_ there put.swapped)
-        ∙ ap received_of (get_or_from_slice_get there.ends.t.ins l.port there.in_ put.in_ there.ends.in_is)
-        ∙ unmoved.ins l.reader l.port there.ends.t there.in_ there.ends.t_is there.ends.in_is
+  old_out : sent_of (get_or put.swapped.writer.outs l.out put.out) ≡ []
+  old_out = ap (λ (y : Task). sent_of (get_or y.outs l.out put.out)) (writer_is ts ts' l put.out put.in_ there put.swapped)
+      ∙ ap sent_of (get_or_from_slice_get there.ends.t'.outs l.out there.out put.out there.ends.out_is)
+      ∙ unmoved.outs l.writer l.out there.ends.t' there.out there.ends.t_is' there.ends.out_is
 
-    bodies_stay : map body ts' ≡ map body ts
-    bodies_stay =
-        let w = put.swapped.writer in
-        let r = put.swapped.reader in
-        let es = sent_stays w.outs l.out put.out (put.sent ∙ sym old_out) in
-        let er = received_same r.ins l.port put.in_ (put.received ∙ sym old_in) in
-        view_stays ts ts' l put.out put.in_ there put.swapped body
-        (λ j. record {
-          op = w.op;
-          seen = record { received = received_in w.ins; sent = es j; pending = w.pending; bad = w.bad };
-          kinds =
-              w.kinds;
-          states = w.states;
-          pending = w.pending;
-          out = w.out;
-          tables = w.tables;
-          classes = w.classes;
-          count = w.count;
-        })
-        (λ j. record {
-          op = r.op;
-          seen = record { received = er j; sent = sent_in r.outs; pending = r.pending; bad = r.bad };
-          kinds =
-              r.kinds;
-          states = r.states;
-          pending = r.pending;
-          out = r.out;
-          tables = r.tables;
-          classes = r.classes;
-          count = r.count;
-        })
+  old_in : received_of (get_or put.swapped.reader.ins l.port put.in_) ≡ []
+  old_in = ap (λ (y : Task). received_of (get_or y.ins l.port put.in_)) (reader_is ts ts' l put.out put.in_ there put.swapped)
+      ∙ ap received_of (get_or_from_slice_get there.ends.t.ins l.port there.in_ put.in_ there.ends.in_is)
+      ∙ unmoved.ins l.reader l.port there.ends.t there.in_ there.ends.t_is there.ends.in_is
 
-    -- a task has the kinds that it had
-    kinds_here : (o : ℕ) (t' t : Task) → slice_get ts' o ≡ Some t' → slice_get ts o ≡ Some t → t'.kinds ≡ t.kinds
-    kinds_here o t' t g' g =
-        let x = same_got body ts' ts bodies_stay o t' g' in
-        let e : x.0 ≡ t = same_Some x.0 t (sym x.1 ∙ g) in
-        ap (λ (b : TaskBody). b.kinds) x.2 ∙ ap (λ (y : Task). y.kinds) e
+  -- so the tasks do the same
+  bodies_stay : map body ts' ≡ map body ts
+  bodies_stay =
+      let w = put.swapped.writer in
+      let r = put.swapped.reader in
+      let es = sent_stays w.outs l.out put.out (put.sent ∙ sym old_out) in
+      let er = received_same r.ins l.port put.in_ (put.received ∙ sym old_in) in
+      view_stays ts ts' l put.out put.in_ there put.swapped body
+      (λ j. record {
+        op = w.op;
+        seen = record { received = received_in w.ins; sent = es j; pending = w.pending; bad = w.bad };
+        kinds =
+            w.kinds;
+        states = w.states;
+        pending = w.pending;
+        out = w.out;
+        tables = w.tables;
+        classes = w.classes;
+        count = w.count;
+      })
+      (λ j. record {
+        op = r.op;
+        seen = record { received = er j; sent = sent_in r.outs; pending = r.pending; bad = r.bad };
+        kinds =
+            r.kinds;
+        states = r.states;
+        pending = r.pending;
+        out = r.out;
+        tables = r.tables;
+        classes = r.classes;
+        count = r.count;
+      })
 
-    new_fits : (t' : Task) → slice_get ts' l.reader ≡ Some t' → FitsLink t' l put.out
-    new_fits t' g' values =
-        let e : put.swapped.reader ≡ there.ends.t =
-        sym (put.swapped.reader_is there.ends.t) ∙ get_or_from_slice_get ts l.reader there.ends.t there.ends.t there.ends.t_is in
-        ap (λ ks. slice_get ks l.port) (kinds_here l.reader t' there.ends.t g' there.ends.t_is ∙ ap (λ (y : Task). y.kinds) (sym e)) ∙ put.fits values
+  -- a task has the kinds that it had
+  kinds_here : (o : ℕ) (t' t : Task) → slice_get ts' o ≡ Some t' → slice_get ts o ≡ Some t → t'.kinds ≡ t.kinds
+  kinds_here o t' t g' g =
+      let x = same_got body ts' ts bodies_stay o t' g' in
+      let e : x.0 ≡ t = same_Some x.0 t (sym x.1 ∙ g) in
+      ap (λ (b : TaskBody). b.kinds) x.2 ∙ ap (λ (y : Task). y.kinds) e
 
-    itself : (f : outlet.Outlet) (i : inlet.Inlet) → (x : LinkEnds ts' l f i) → IsLink (room l) f i × IsSettled f i × FitsLink x.t l f
-    itself f i x =
-        let ar = after_task ts ts' l put.out put.in_ there put.swapped l.reader x.t x.t_is in
-        let aw = after_task ts ts' l put.out put.in_ there put.swapped l.writer x.t' x.t_is' in
-        subst (λ z. IsLink (room l) z i × IsSettled z i × FitsLink x.t l z) (sym (aw.new_out refl f x.out_is))
-        (subst (λ z. IsLink (room l) put.out z × IsSettled put.out z × FitsLink x.t l put.out) (sym (ar.new_in refl i x.in_is)) (put.link, put.settled, new_fits x.t x.t_is))
+  -- the new ring fits
+  new_fits : (t' : Task) → slice_get ts' l.reader ≡ Some t' → FitsLink t' l put.out
+  new_fits t' g' values =
+      let e : put.swapped.reader ≡ there.ends.t =
+      sym (put.swapped.reader_is there.ends.t) ∙ get_or_from_slice_get ts l.reader there.ends.t there.ends.t there.ends.t_is in
+      ap (λ ks. slice_get ks l.port) (kinds_here l.reader t' there.ends.t g' there.ends.t_is ∙ ap (λ (y : Task). y.kinds) (sym e)) ∙ put.fits values
 
-    -- where the link is the one that got its ring
-    by_link : (l2 : Link) → l ≡ l2 → (f : outlet.Outlet) (i : inlet.Inlet) (x : LinkEnds ts' l2 f i) → IsLink (room l2) f i × IsSettled f i × FitsLink x.t l2 f
-    by_link l2 e = subst (λ y. (f : outlet.Outlet) (i : inlet.Inlet) (x : LinkEnds ts' y f i) → IsLink (room y) f i × IsSettled f i × FitsLink x.t y f) e itself
+  -- the link that got its ring
+  itself : (f : outlet.Outlet) (i : inlet.Inlet) → (x : LinkEnds ts' l f i) → IsLink (room l) f i × IsSettled f i × FitsLink x.t l f
+  itself f i x =
+      let ar = after_task ts ts' l put.out put.in_ there put.swapped l.reader x.t x.t_is in
+      let aw = after_task ts ts' l put.out put.in_ there put.swapped l.writer x.t' x.t_is' in
+      subst (λ z. IsLink (room l) z i × IsSettled z i × FitsLink x.t l z) (sym (aw.new_out refl f x.out_is))
+      (subst (λ z. IsLink (room l) put.out z × IsSettled put.out z × FitsLink x.t l put.out) (sym (ar.new_in refl i x.in_is)) (put.link, put.settled, new_fits x.t x.t_is))
 
-    same_one : (k : ℕ) (l2 : Link) (f : outlet.Outlet) (i : inlet.Inlet) → slice_get ls k ≡ Some l2 → (x : LinkEnds ts' l2 f i) → ShareAnEnd l l2
-        → IsLink (room l2) f i × IsSettled f i × FitsLink x.t l2 f
-    same_one k l2 f i g2 x s = by_link l2 (th.apart.each n k l l2 g g2 s) f i x
+  -- where the link is the one that got its ring
+  by_link : (l2 : Link) → l ≡ l2 → (f : outlet.Outlet) (i : inlet.Inlet) (x : LinkEnds ts' l2 f i) → IsLink (room l2) f i × IsSettled f i × FitsLink x.t l2 f
+  by_link l2 e = subst (λ y. (f : outlet.Outlet) (i : inlet.Inlet) (x : LinkEnds ts' y f i) → IsLink (room y) f i × IsSettled f i × FitsLink x.t y f) e itself
 
-    each : (k : ℕ) (l2 : Link) (f : outlet.Outlet) (i : inlet.Inlet) → k < n + 1 → slice_get ls k ≡ Some l2 → (x : LinkEnds ts' l2 f i)
-        → IsLink (room l2) f i × IsSettled f i × FitsLink x.t l2 f
-    each k l2 f i lt g2 x = ⊎_elim
-        (λ e. same_one k l2 f i g2 x (inl e))
-        (λ nr. ⊎_elim
-        (λ e. same_one k l2 f i g2 x (inr e))
-        (λ nw.
-        let ar = after_task ts ts' l put.out put.in_ there put.swapped l2.reader x.t x.t_is in
-        let aw = after_task ts ts' l put.out put.in_ there put.swapped l2.writer x.t' x.t_is' in
-        let other : n ≡ k → ⊥ =
-        (λ e. nr (let q : l ≡ l2 = same_Some l l2 (sym g ∙ ap (slice_get ls) e ∙ g2) in (ap (λ (y : Link). y.reader) q, ap (λ (y : Link). y.port) q))) in
-        let was = h.rung k l2 f i (⊎_elim (λ z. z) (λ ge. absurd (other (omega (arith, ge, lt)))) (cases_lt k n)) g2 (record {
-          t = ar.t;
-          t' = aw.t;
-          t_is = ar.t_is;
-          t_is' = aw.t_is;
-          in_is = sym (ar.ins l2.port nr) ∙ x.in_is;
-          out_is = sym (aw.outs l2.out nw) ∙ x.out_is;
-        }) in (
-          was.0,
-          was.1,
-          λ values. ap (λ ks. slice_get ks l2.port) (kinds_here l2.reader x.t ar.t x.t_is ar.t_is) ∙ was.2 values,
-        ))
-        (same_or l.writer l2.writer l.out l2.out))
-        (same_or l.reader l2.reader l.port l2.port)
+  -- two links that share an end are one
+  same_one : (k : ℕ) (l2 : Link) (f : outlet.Outlet) (i : inlet.Inlet) → slice_get ls k ≡ Some l2 → (x : LinkEnds ts' l2 f i) → ShareAnEnd l l2
+      → IsLink (room l2) f i × IsSettled f i × FitsLink x.t l2 f
+  same_one k l2 f i g2 x s = by_link l2 (th.apart.each n k l l2 g g2 s) f i x
+
+  -- a link that shares no end with it is as it was
+  other_link : (k : ℕ) (l2 : Link) (f : outlet.Outlet) (i : inlet.Inlet) → k < n + 1 → slice_get ls k ≡ Some l2 → (x : LinkEnds ts' l2 f i)
+      → ((l.reader ≡ l2.reader) × (l.port ≡ l2.port) → ⊥) → ((l.writer ≡ l2.writer) × (l.out ≡ l2.out) → ⊥)
+      → IsLink (room l2) f i × IsSettled f i × FitsLink x.t l2 f
+  other_link k l2 f i lt g2 x nr nw =
+      let ar = after_task ts ts' l put.out put.in_ there put.swapped l2.reader x.t x.t_is in
+      let aw = after_task ts ts' l put.out put.in_ there put.swapped l2.writer x.t' x.t_is' in
+      let other : n ≡ k → ⊥ =
+      (λ e. nr (let q : l ≡ l2 = same_Some l l2 (sym g ∙ ap (slice_get ls) e ∙ g2) in (ap (λ (y : Link). y.reader) q, ap (λ (y : Link). y.port) q))) in
+      let was = h.rung k l2 f i (⊎_elim (λ z. z) (λ ge. absurd (other (omega (arith, ge, lt)))) (cases_lt k n)) g2 (record {
+        t = ar.t;
+        t' = aw.t;
+        t_is = ar.t_is;
+        t_is' = aw.t_is;
+        in_is = sym (ar.ins l2.port nr) ∙ x.in_is;
+        out_is = sym (aw.outs l2.out nw) ∙ x.out_is;
+      }) in (
+        was.0,
+        was.1,
+        λ values. ap (λ ks. slice_get ks l2.port) (kinds_here l2.reader x.t ar.t x.t_is ar.t_is) ∙ was.2 values,
+      )
+
+  each : (k : ℕ) (l2 : Link) (f : outlet.Outlet) (i : inlet.Inlet) → k < n + 1 → slice_get ls k ≡ Some l2 → (x : LinkEnds ts' l2 f i)
+      → IsLink (room l2) f i × IsSettled f i × FitsLink x.t l2 f
+  each k l2 f i lt g2 x = ⊎_elim
+      (λ e. same_one k l2 f i g2 x (inl e))
+      (λ nr. ⊎_elim (λ e. same_one k l2 f i g2 x (inr e)) (λ nw. other_link k l2 f i lt g2 x nr nw) (same_or l.writer l2.writer l.out l2.out))
+      (same_or l.reader l2.reader l.port l2.port)
+
+  -- all links up to this one have their rings
+  pub rung_next : AreRung room ts0 ts' ls (n + 1)
+  rung_next = record {
+    bodies = bodies_stay ∙ h.bodies;
+    rung = λ k l2 f i lt g2 x. each k l2 f i lt g2 x;
+    ins = λ o port t' t0 gt g0 no.
+        let a = after_task ts ts' l put.out put.in_ there put.swapped o t' gt in
+        a.ins port (no n l (omega arith) g) ∙ h.ins o port a.t t0 a.t_is g0 (λ m k lt. no m k (omega (arith, lt)));
+    outs = λ o j t' t0 gt g0 no.
+        let a = after_task ts ts' l put.out put.in_ there put.swapped o t' gt in
+        a.outs j (no n l (omega arith) g) ∙ h.outs o j a.t t0 a.t_is g0 (λ m k lt. no m k (omega (arith, lt)));
+  }
 
 -- an empty ring was put there
 pub put_is : (cap : ℕ) (ts : List Task) (l : Link) (out : outlet.Outlet) (in_ : inlet.Inlet) (w r : Task) → w ≡ get_or ts l.writer w

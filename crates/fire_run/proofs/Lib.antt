@@ -9,6 +9,7 @@ pub mod OneMoves
 pub mod OpenNet
 pub mod OutLemmas
 pub mod PartLemmas
+pub mod RingPairs
 pub mod RoundLemmas
 pub mod RowLemmas
 pub mod RowSums

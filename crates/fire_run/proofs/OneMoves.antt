@@ -26,7 +26,8 @@ use Rattle.fire_open.proofs.Lists.{map_set}
 use Rattle.fire_run.specs.declared.net.Net.{Net}
 use Rattle.fire_run.specs.NetOf.{AreIdle, IsNetOf}
 use Rattle.fire_run.proofs.Standing.{can_send}
-use Rattle.fire_run.proofs.TakenFronts.{front_taken, sents}
+use Rattle.fire_run.proofs.RingPairs.{sents}
+use Rattle.fire_run.proofs.TakenFronts.{front_taken}
 use Rattle.fire_run.proofs.MoveLemmas.{Walked, walked_long}
 use Rattle.fire_run.proofs.RowLemmas.{word_after}
 
@@ -144,6 +145,7 @@ module _ (p : PlanForm) (inputs : List (List item.Item)) (caps : Capacities) (ne
       ∙ map_set (λ (x : Task). sent_in x.outs) net.tasks h.at h.task (ap sent_in k.sent ∙ ap (λ (x : Task). sent_in x.outs) q) in
       record { takes = k; front = front_taken p inputs caps net net' v n n' ends same h.at k.port t t' k.item g g' k.there r }
 
+  -- so the last of these moves is one of the net's
   pub one_moved : LastMoved p net.tasks net'.tasks net.cells net'.cells
   one_moved = record {
     at = h.at;

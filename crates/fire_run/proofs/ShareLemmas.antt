@@ -1,5 +1,6 @@
 -- Tasks that are dealt to bundles, part by part.
-use Rattle.std.proofs.Common.{◌≡◌, ℕ, zero, suc, ◌+◌, ◌%◌, ◌==◌, ◌<◌, ◌≤◌, cond, List, [], ◌∷◌, ◌++◌, length, take, refl, sym, ap, ◌∙◌, subst, arith, get_or, set, get_or-set_other, eq-eqb, ne_eqb, append_assoc, length-append}
+use Rattle.std.proofs.Common.{◌≡◌, ℕ, zero, suc, ◌+◌, ◌%◌, ◌==◌, ◌<◌, ◌≤◌, cond, List, [], ◌∷◌, ◌++◌, length, take, refl, sym, ap, ◌∙◌, subst, arith, get_or, set}
+use Rattle.std.proofs.Common.{get_or-set_other, eq-eqb, ne_eqb, append_assoc, length-append}
 use mathlib.Core.List.{reverse}
 use Rattle.std.proofs.lemmas.List.{append-nil, length-set, reverse-append, take_all, get_or_default}
 use Rattle.std.proofs.lemmas.List.Elements.{filter-append}

@@ -2,21 +2,20 @@
 use Rattle.std.proofs.Common.{◌≡◌, ℕ, ℤ, ◌<◌, ⊎_elim, Some, None, List, [], ◌++◌, length, map, sym, ap, ◌∙◌, arith, subst, get_or, ◌^◌, length-append}
 use Rattle.std.specs.Prelude.{slice_get}
 use Rattle.std.proofs.lemmas.Bool.{cases_lt}
-use Rattle.std.proofs.lemmas.Option.{get_or_from_slice_get, slice_get-get_or, slice_get_within, same_Some}
+use Rattle.std.proofs.lemmas.Option.{get_or_from_slice_get, slice_get-get_or, slice_get_within}
 use Rattle.std.proofs.lemmas.List.{nil_from_length}
 use Rattle.river_base.proofs.PlaceLemmas.{list_past}
 use Rattle.river_plan.proofs.NameLemmas.{more_or_zero}
 use Rattle.river_base.proofs.Lists.{there_is}
 use Rattle.river_base.specs.declared.item.Item as item
 use Rattle.river_base.specs.Places.{list_at}
-use Rattle.river_plan.specs.Forms.{Name, OpForm, PlanForm}
+use Rattle.river_plan.specs.Forms.{PlanForm}
 use Rattle.river_plan.specs.Uses.{total, reads_it, writes_it}
 use Rattle.river_plan.specs.Valid.{IsPlan}
 use Rattle.brooklet_model.proofs.Traces.{got_count}
 use Rattle.brooklet_model.specs.Bounded.{Capacities}
 use Rattle.brooklet_model.specs.Laws.{given_to}
 use Rattle.brooklet_model.proofs.BoundedMoves.{reader_behind, reader_of}
-use Rattle.brooklet_model.proofs.Received.{writer_of}
 use Rattle.fire_tasks.proofs.Joining.{place_of}
 use Rattle.fire_tasks.specs.Fired.{SeenTask}
 use Rattle.fire_tasks.specs.Inlet as inlet
@@ -28,7 +27,7 @@ use Rattle.fire_tasks.specs.Layout.{IsLink, IsSettled, IsInput, IsStored, AreLai
 use Rattle.fire_tasks.specs.Ports.{in_end, received_of, known_of, sent_of, HasRoom}
 use Rattle.fire_tasks.specs.Tasks.{IsTask, IsDone, all_ends}
 use Rattle.fire_tasks.specs.Adds.{added, logs_of}
-use Rattle.fire_tasks.proofs.NetLemmas.{make_net, seen_here, settled_ring, kept_input, received_here, sent_here}
+use Rattle.fire_tasks.proofs.NetLemmas.{make_net, seen_here, settled_ring, kept_input, received_here}
 use Rattle.fire_open.specs.Links.{AreLinks, AreMet}
 use Rattle.fire_open.specs.TaskCores.{TaskCore, task_core}
 use Rattle.fire_open.proofs.Lists.{same_got, map_long}
@@ -42,6 +41,7 @@ use Rattle.fire_run.specs.Cells.{AreSingle, HaveMoved}
 use Rattle.fire_run.specs.Moves.{CanSendFrom}
 use Rattle.fire_run.specs.NetOf.{IsNetOf, AreIdle}
 use Rattle.fire_run.proofs.CellLemmas.{cells_again}
+use Rattle.fire_run.proofs.RingPairs.{ring_pair, same_sents}
 
 -- A MOVE THAT CAN BE MADE
 
@@ -188,62 +188,13 @@ module _ (p : PlanForm) (inputs : List (List item.Item)) (caps : Capacities) (ne
         let q = there_is k1.op.reads port (let e = k1.ins in omega (arith, e, lt0)) in
         ap known_of (get_or_from_slice_get t'.ins port i'.0 x i'.1)
         ∙ ⊎_elim
-        (λ w. by_ring o port k1.op q.0 t t' i.0 i'.0 op_is q.1 g g' i.1 i'.1 w er z)
+        (λ w. let r =
+        ring_pair p inputs caps net net' n n' (same_sents net'.tasks net.tasks same) o port k1.op q.0 t t' i.0 i'.0 op_is q.1 g g' i.1 i'.1 w in
+        ring_left r.out r.out' i.0 i'.0 r.settled r.settled' r.sent er z)
         (λ none. input_left (given_to p inputs q.0) i.0 i'.0 (n.laid.inputs_are o port k1.op q.0 t i.0 op_is q.1 none g i.1)
         (n'.laid.inputs_are o port k1.op q.0 t' i'.0 op_is q.1 none g' i'.1) er z)
         (more_or_zero (total (writes_it q.0) p.ops));
   }
-    where
-      by_ring : (o port : ℕ) (op : OpForm) (q : Name) (t t' : Task) (i i' : inlet.Inlet) → slice_get p.ops o ≡ Some op
-          → slice_get op.reads port ≡ Some q → slice_get net.tasks o ≡ Some t → slice_get net'.tasks o ≡ Some t' → slice_get t.ins port ≡ Some i
-          → slice_get t'.ins port ≡ Some i'
-          → 0 < total (writes_it q) p.ops → received_of i' ≡ received_of i → known_of i ≡ [] → known_of i' ≡ []
-      by_ring o port op q t t' i i' op_is r g g' gi gi' w er z =
-          let wr = writer_of p.ops q w in
-          let j = place_of wr.1.writes q wr.3 in
-          let a = task_at p inputs caps (added p (logs_of net.cells)) net.tasks n.laid n.tasks wr.0 wr.1 wr.2 in
-          let b = task_at p inputs caps (added p (logs_of net'.cells)) net'.tasks n'.laid n'.tasks wr.0 wr.1 wr.2 in
-          let f = there_is a.t.outs j.0 (let e = a.outs in let c = slice_get_within wr.1.writes j.0 q j.1 in omega (arith, e, c)) in
-          let f' = there_is b.t.outs j.0 (let e = b.outs in let c = slice_get_within wr.1.writes j.0 q j.1 in omega (arith, e, c)) in
-          let x = same_got task_core net'.tasks net.tasks same wr.0 b.t b.t_is in
-          let u : x.0 ≡ a.t = same_Some x.0 a.t (sym x.1 ∙ a.t_is) in
-          let st : task_core b.t ≡ task_core a.t = x.2 ∙ ap task_core u in
-          let es : sent_of f'.0 ≡ sent_of f.0 = sym (sent_here b.t.outs j.0 f'.0 f'.1) ∙ ap (λ (y : TaskCore). list_at y.seen.sent j.0) st
-          ∙ sent_here a.t.outs j.0 f.0 f.1 in
-          ring_left f.0 f'.0 i i'
-          (n.settled.each o wr.0 port j.0 q f.0 i
-          (record {
-            op = op;
-            op' = wr.1;
-            op_is = op_is;
-            reads = r;
-            op_is' = wr.2;
-            writes = j.1;
-            t = t;
-            t' = a.t;
-            t_is = g;
-            t_is' = a.t_is;
-            in_is =
-                gi;
-            out_is = f.1;
-          }))
-          (n'.settled.each o wr.0 port j.0 q f'.0 i'
-          (record {
-            op = op;
-            op' = wr.1;
-            op_is = op_is;
-            reads = r;
-            op_is' = wr.2;
-            writes = j.1;
-            t = t';
-            t' = b.t;
-            t_is = g';
-            t_is' = b.t_is;
-            in_is =
-                gi';
-            out_is = f'.1;
-          }))
-          es er z
 
   -- a net that looked at its rings is still idle
   pub idle_again : AreIdle net.tasks → AreIdle net'.tasks

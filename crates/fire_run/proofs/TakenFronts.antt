@@ -1,5 +1,5 @@
 -- What a take received is the front of what was known to be there.
-use Rattle.std.proofs.Common.{◌≡◌, ℕ, ◌<◌, Some, List, [], ◌∷◌, ◌++◌, length, map, sym, ap, ◌∙◌, arith, subst, ⊎_elim, append_assoc, get_or}
+use Rattle.std.proofs.Common.{◌≡◌, ℕ, ◌<◌, Some, List, [], ◌∷◌, ◌++◌, length, sym, ap, ◌∙◌, arith, subst, ⊎_elim, append_assoc, get_or}
 use Rattle.std.specs.Prelude.{slice_get}
 use Rattle.std.proofs.lemmas.List.{length-map}
 use Rattle.std.proofs.lemmas.Option.{get_or_from_slice_get, slice_get_within, same_Some}
@@ -8,28 +8,22 @@ use Rattle.river_base.proofs.PlaceLemmas.{append_here}
 use Rattle.river_base.specs.declared.item.Item as item
 use Rattle.river_base.specs.Places.{append_at, list_at}
 use Rattle.river_plan.proofs.NameLemmas.{more_or_zero}
-use Rattle.river_plan.specs.Forms.{Name, OpForm, PlanForm}
+use Rattle.river_plan.specs.Forms.{PlanForm}
 use Rattle.river_plan.specs.Uses.{total, writes_it}
 use Rattle.river_plan.specs.Valid.{IsPlan}
 use Rattle.brooklet_model.specs.Bounded.{Capacities}
 use Rattle.brooklet_model.specs.Laws.{given_to}
-use Rattle.brooklet_model.proofs.Received.{writer_of}
 use Rattle.fire_tasks.specs.Inlet as inlet
 use Rattle.fire_tasks.specs.declared.task.Task.{Task}
 use Rattle.fire_tasks.specs.Adds.{added, logs_of}
-use Rattle.fire_tasks.specs.Ports.{known_of, received_in, received_of, sent_in, sent_of}
+use Rattle.fire_tasks.specs.Ports.{known_of, received_in, received_of}
 use Rattle.fire_tasks.specs.Tasks.{IsTask, TaskEnds, all_ends, ends_of}
 use Rattle.fire_tasks.proofs.PortLemmas.{ins_many}
-use Rattle.fire_tasks.proofs.Joining.{place_of}
-use Rattle.fire_tasks.proofs.NetLemmas.{settled_ring, kept_input, received_here, sent_here}
-use Rattle.fire_open.proofs.Laid.{task_at}
+use Rattle.fire_tasks.proofs.NetLemmas.{settled_ring, kept_input, received_here}
 use Rattle.fire_open.proofs.Lists.{same_got}
 use Rattle.fire_run.specs.declared.net.Net.{Net}
 use Rattle.fire_run.specs.NetOf.{IsNetOf}
-
--- what each task sent
-abbrev pub sents : List Task → List (List (List item.Item))
-sents ts = map (λ (t : Task). sent_in t.outs) ts
+use Rattle.fire_run.proofs.RingPairs.{ring_pair, sents}
 
 cancel : (xs ys zs : List item.Item) → xs ++ ys ≡ xs ++ zs → ys ≡ zs
 cancel [] ys zs e = e
@@ -62,7 +56,8 @@ module _ (p : PlanForm) (inputs : List (List item.Item)) (caps : Capacities) (ne
       let op_is : slice_get p.ops o ≡ Some k1.op = ap (slice_get p.ops) (sym (n.laid.numbers o t g)) ∙ k1.op_is in
       let q = there_is k1.op.reads port (let e = k1.ins in omega (arith, e, lt)) in
       let both : received_of i.0 ++ known_of i.0 ≡ received_of i'.0 ++ known_of i'.0 = ⊎_elim
-      (λ w. by_ring o port k1.op q.0 t t' i.0 i'.0 op_is q.1 g g' i.1 i'.1 w)
+      (λ w. let r = ring_pair p inputs caps net net' n n' same o port k1.op q.0 t t' i.0 i'.0 op_is q.1 g g' i.1 i'.1 w in
+      settled_ring r.out i.0 r.settled ∙ sym r.sent ∙ sym (settled_ring r.out' i'.0 r.settled'))
       (λ none. kept_input (given_to p inputs q.0) i.0 (n.laid.inputs_are o port k1.op q.0 t i.0 op_is q.1 none g i.1)
       ∙ sym (kept_input (given_to p inputs q.0) i'.0 (n'.laid.inputs_are o port k1.op q.0 t' i'.0 op_is q.1 none g' i'.1)))
       (more_or_zero (total (writes_it q.0) p.ops)) in (
@@ -70,51 +65,3 @@ module _ (p : PlanForm) (inputs : List (List item.Item)) (caps : Capacities) (ne
         ap known_of (get_or_from_slice_get t.ins port i.0 d i.1)
             ∙ front_is (received_of i.0) (received_of i'.0) (known_of i.0) (known_of i'.0) x both er,
       )
-    where
-      by_ring : (o port : ℕ) (op : OpForm) (q : Name) (t t' : Task) (i i' : inlet.Inlet) → slice_get p.ops o ≡ Some op
-          → slice_get op.reads port ≡ Some q → slice_get net.tasks o ≡ Some t → slice_get net'.tasks o ≡ Some t' → slice_get t.ins port ≡ Some i
-          → slice_get t'.ins port ≡ Some i'
-          → 0 < total (writes_it q) p.ops → received_of i ++ known_of i ≡ received_of i' ++ known_of i'
-      by_ring o port op q t t' i i' op_is r g g' gi gi' w =
-          let wr = writer_of p.ops q w in
-          let j = place_of wr.1.writes q wr.3 in
-          let a = task_at p inputs caps (added p (logs_of net.cells)) net.tasks n.laid n.tasks wr.0 wr.1 wr.2 in
-          let b = task_at p inputs caps (added p (logs_of net'.cells)) net'.tasks n'.laid n'.tasks wr.0 wr.1 wr.2 in
-          let f = there_is a.t.outs j.0 (let e = a.outs in let c = slice_get_within wr.1.writes j.0 q j.1 in omega (arith, e, c)) in
-          let f' = there_is b.t.outs j.0 (let e = b.outs in let c = slice_get_within wr.1.writes j.0 q j.1 in omega (arith, e, c)) in
-          let y = same_got (λ (z : Task). sent_in z.outs) net'.tasks net.tasks same wr.0 b.t b.t_is in
-          let st : sent_in b.t.outs ≡ sent_in a.t.outs = y.2 ∙ ap (λ (z : Task). sent_in z.outs) (same_Some y.0 a.t (sym y.1 ∙ a.t_is)) in
-          let es : sent_of f'.0 ≡ sent_of f.0 = sym (sent_here b.t.outs j.0 f'.0 f'.1) ∙ ap (λ ls. list_at ls j.0) st ∙ sent_here a.t.outs j.0 f.0 f.1 in
-          settled_ring f.0 i
-          (n.settled.each o wr.0 port j.0 q f.0 i
-          (record {
-            op = op;
-            op' = wr.1;
-            op_is = op_is;
-            reads = r;
-            op_is' = wr.2;
-            writes = j.1;
-            t = t;
-            t' = a.t;
-            t_is = g;
-            t_is' = a.t_is;
-            in_is = gi;
-            out_is = f.1;
-          }))
-          ∙ sym es
-          ∙ sym (settled_ring f'.0 i'
-          (n'.settled.each o wr.0 port j.0 q f'.0 i'
-          (record {
-            op = op;
-            op' = wr.1;
-            op_is = op_is;
-            reads = r;
-            op_is' = wr.2;
-            writes = j.1;
-            t = t';
-            t' = b.t;
-            t_is = g';
-            t_is' = b.t_is;
-            in_is = gi';
-            out_is = f'.1;
-          })))

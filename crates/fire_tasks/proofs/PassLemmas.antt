@@ -16,7 +16,8 @@ use Rattle.fire_tasks.specs.Fired.{kinds_out}
 use Rattle.fire_tasks.specs.declared.task.Task.{Task}
 use Rattle.fire_tasks.specs.Inlet as inlet
 use Rattle.fire_tasks.specs.Outlet as outlet
-use Rattle.fire_tasks.specs.Ports.{AreFronts, HasMoved, MaySend, MaySendAll, IsRowOf, ring_width, in_ends, out_ends, given_at, sent_in, sent_of, sent_count, received_count, received_in, IsFull, IsHeldBack, RefusedAll, Sent, SentAt}
+use Rattle.fire_tasks.specs.Ports.{AreFronts, HasMoved, MaySend, MaySendAll, IsRowOf, ring_width, in_ends, out_ends, given_at, sent_in, sent_of, sent_count}
+use Rattle.fire_tasks.specs.Ports.{received_count, received_in, IsFull, IsHeldBack, RefusedAll, Sent, SentAt}
 use Rattle.river_base.specs.WideRows.{rows_type}
 use Rattle.fire_tasks.specs.Tasks.{FitRings, IsTask, moves}
 use Rattle.fire_tasks.proofs.Fronts.{fronts_is, fronts_same, fronts_sent, fronts_then}
@@ -122,7 +123,13 @@ sent_first os ls = record { ends = refl; many = refl; given = λ j. refl; fronts
 sent_then : (os : List outlet.Outlet) (ls : List (List item.Item)) (os1 : List outlet.Outlet) (ls1 : List (List item.Item)) (os2 : List outlet.Outlet)
     (ls2 : List (List item.Item)) (m n k : Bool)
     → Sent os ls os1 ls1 m → Sent os1 ls1 os2 ls2 n → HasMoved (sent_count os) (sent_count os2) k → Sent os ls os2 ls2 k
-sent_then os ls os1 ls1 os2 ls2 m n k a b h = record { ends = b.ends ∙ a.ends; many = b.many ∙ a.many; given = λ j. b.given j ∙ a.given j; fronts = fronts_then (sent_in os) (sent_in os1) (sent_in os2) a.fronts b.fronts; number = h }
+sent_then os ls os1 ls1 os2 ls2 m n k a b h = record {
+  ends = b.ends ∙ a.ends;
+  many = b.many ∙ a.many;
+  given = λ j. b.given j ∙ a.given j;
+  fronts = fronts_then (sent_in os) (sent_in os1) (sent_in os2) a.fronts b.fronts;
+  number = h;
+}
 
 -- the answer by its value
 pub at_is : (port : ℕ) (os : List outlet.Outlet) (ls : List (List item.Item)) (os1 : List outlet.Outlet) (ls1 : List (List item.Item)) (n : Bool)
@@ -141,7 +148,15 @@ pub record Goes (port : ℕ) (os : List outlet.Outlet) (ls : List (List item.Ite
 
 -- before the first item
 pub goes_first : (port : ℕ) (os : List outlet.Outlet) (ls : List (List item.Item)) → Goes port os ls os ls
-goes_first port os ls = record { ends = refl; many = refl; given = λ j. refl; fronts = fronts_same (sent_in os); grows = omega arith; lists = λ j ne. refl; others = λ j d ne. refl }
+goes_first port os ls = record {
+  ends = refl;
+  many = refl;
+  given = λ j. refl;
+  fronts = fronts_same (sent_in os);
+  grows = omega arith;
+  lists = λ j ne. refl;
+  others = λ j d ne. refl;
+}
 
 -- one item more, or none
 pub goes_next : (port : ℕ) (os : List outlet.Outlet) (ls : List (List item.Item)) (os1 : List outlet.Outlet) (ls1 : List (List item.Item))

@@ -15,14 +15,15 @@ use Rattle.river_base.proofs.PlaceLemmas.{each_grew-blanks, length-each_grew, if
 use Rattle.kern_tables.specs.Tables.{table_width}
 use Rattle.river_plan.specs.declared.plan.TableDecl.{TableDecl}
 use Rattle.river_plan.specs.Forms.{PlanForm, OpForm, all_decls, table_names}
-use Rattle.river_plan.specs.Kinds.{kind_of, var_kind}
+use Rattle.river_plan.specs.Kinds.{kind_of, var_kind, IsFit}
 use Rattle.river_plan.specs.Places.{place, places}
 use Rattle.river_plan.specs.Valid.{IsPlan}
 use Rattle.river_plan.proofs.PlaceLemmas.{place_below}
 use Rattle.brooklet_model.specs.Fire.{fire, outs, tabs, first_kept}
 use Rattle.brooklet_model.specs.Histories.{most_firings, tables_of}
 use Rattle.brooklet_model.specs.Traced.{ran}
-use Rattle.brooklet_model.specs.Typed.{IsStart, widths_in, IsWide}
+use Rattle.brooklet_model.specs.Firings.{Fired}
+use Rattle.brooklet_model.specs.Typed.{IsStart, IsWordOf, widths_in, IsWide}
 use Rattle.brooklet_model.specs.Words.{Word, at_port}
 use Rattle.brooklet_model.proofs.Free.{at_port-append, below-append}
 use Rattle.brooklet_model.proofs.Ports.{counts, shaped}
@@ -32,8 +33,8 @@ use Rattle.brooklet_model.proofs.TypedPlan.{op_fits}
 use Rattle.brooklet_step.specs.declared.emit.Emit.{Emit}
 use Rattle.brooklet_step.specs.declared.emit.Spare.{Spare}
 use Rattle.brooklet_step.specs.declared.state.State.{State}
-use Rattle.brooklet_step.specs.Given.{held_at, IsHeldBy, IsHeldOf, StandsAfter}
-use Rattle.brooklet_step.specs.Reading.{CanFire, IsBlankOf, FiredOp}
+use Rattle.brooklet_step.specs.Given.{held_at, Does, IsHeldBy, IsHeldOf, StandsAfter, TookHeld}
+use Rattle.brooklet_step.specs.Reading.{CameOf, CanFire, IsBlankOf, FiredOp}
 use Rattle.brooklet_step.specs.Took.{IsBlank}
 use Rattle.brooklet_step.proofs.GivenLemmas.{at-append, ran_more, at_next, first_is_start}
 use Rattle.brooklet_step.proofs.NextLemmas.{got_place}
@@ -43,14 +44,14 @@ use Rattle.fire_tasks.specs.Inlet as inlet
 use Rattle.fire_tasks.specs.declared.task.TablePort.{TablePort}
 use Rattle.fire_tasks.specs.declared.task.Task.{Task}
 use Rattle.fire_tasks.specs.Adds.{table_numbers}
-use Rattle.fire_tasks.specs.Fired.{bad_at, kinds_in, kinds_out}
+use Rattle.fire_tasks.specs.Fired.{bad_at, kinds_in, kinds_out, HasFired, IsHeldAs}
 use Rattle.fire_tasks.specs.Ports.{received_of, received_in, sent_in, InEnd, IsIdle, in_ends, out_ends}
 use Rattle.river_base.specs.WideRows.{rows_type}
 use Rattle.fire_tasks.specs.Tasks.{HasWord, IsTask}
 use Rattle.fire_tasks.proofs.Fronts.{goes_took}
 use Rattle.fire_tasks.specs.Turns.{AreRowsFor, HasFiredAt, HasTakenAt, Owes, classes_of, pile_grown, logged}
 use Rattle.fire_tasks.proofs.PortLemmas.{count_more, ins_many}
-use Rattle.fire_tasks.proofs.WordLemmas.{longer_word}
+use Rattle.fire_tasks.proofs.WordLemmas.{Longer, longer_word}
 
 -- LISTS AT PLACES
 
@@ -218,110 +219,159 @@ module _ (p : PlanForm) (v : IsPlan p) (t : Task) (adds : ℕ → List (List ℤ
     stands = record { fit = k.stands.fit; after = k.stands.after };
   }
 
-  -- a firing: the task owes the rows that came
-  pub took_task : (ins : List inlet.Inlet) (port : ℕ) (x : item.Item) (st : List State) (out blank : Emit) (pending : List (List item.Item)) (n : ℕ)
-      → received ins port x → length ins ≡ length t.ins → port < length t.ins → IsHeldOf t.kinds port x → IsIdle t.pending
-      → FiredOp p t.op port x t.states st out
-      → pending ≡ out.outs → blank.outs ≡ t.pending → blank.adds ≡ replicate (length out.adds) [] → n ≡ min most_firings (t.count + 1)
-      → HasWord p (λ j. adds j ++ list_at out.adds j) (record t { ins = ins; states = st; pending = pending; out = blank; count = n })
-      (k.word ++ (port, x) ∷ [])
-  took_task ins port x st out blank pending n e l lt i idle f ep eb ebr en =
-      let op = k.op in
-      let fired_is = f.fired op k.op_is in
-      let fits = op_fits p v t.op op k.op_is in
-      let held_x : IsHeldOf (kinds_in p op) port x = subst (λ y. IsHeldOf y port x) k.kinds i in
-      let does = fired_is.fires.each (kinds_in p op) (kinds_out p op) (map (var_kind p.tables p.vars) op.vars) fits k.stands.fit held_x in
-      let came = does.came in
-      let c = counts op.kernel _ _ _ fits in
-      let nw = length-map op.writes (kind_of (all_decls p)) in
-      let is_start : IsStart op.kernel (kinds_in p op) (first_kept op.kernel) = first_is_start op.kernel (kinds_in p op) (shaped op.kernel _ _ _ fits) in
-      let outs_are : out.outs ≡ each_grew (replicate (outs op.kernel) []) came.outs = came.outs_are
-      ∙ ap (λ ls. each_grew ls came.outs) fired_is.is_blank.outs in
-      let adds_are : out.adds ≡ each_grew (replicate (tabs op.kernel) []) came.adds = came.adds_are
-      ∙ ap (λ ls. each_grew ls came.adds) fired_is.is_blank.adds in
-      let outs_many : length out.outs ≡ outs op.kernel = ap length outs_are ∙ length-each_grew (replicate (outs op.kernel) []) came.outs
-      ∙ length-replicate (outs op.kernel) [] in
-      let adds_many : length out.adds ≡ tabs op.kernel = ap length adds_are ∙ length-each_grew (replicate (tabs op.kernel) []) came.adds
-      ∙ length-replicate (tabs op.kernel) [] in
-      let pending_is : (j : ℕ) → list_at pending j ≡ list_at out.outs j = (λ j. ap (λ ls. list_at ls j) ep) in
-      record {
-        task = record {
-          op = op;
-          op_is = k.op_is;
-          ins = l ∙ k.ins;
-          kinds = k.kinds;
-          outs = k.outs;
-          rings = k.rings;
-          pending = ap length ep ∙ outs_many ∙ sym c.outs ∙ nw;
-          blank = record {
-            outs = eb ∙ all_empty t.pending idle ∙ ap (λ n. replicate n []) (k.pending ∙ sym nw ∙ c.outs);
-            adds = ebr ∙ ap (λ n. replicate n []) adds_many;
-          };
-          homes = k.homes;
-          word = k.word ++ (port, x) ∷ [];
-          count = one_count most_firings n t.count (length k.word) (length (k.word ++ (port, x) ∷ [])) en k.count (length-append k.word ((port, x) ∷ []));
-          fired = record {
-            below = below-append (length op.reads) k.word ((port, x) ∷ []) k.fired.below (let n = k.ins in omega (arith, n, lt), tt);
-            received = λ n. longer ins port x e lt n
-                ∙ sym (ap (λ o. at_port n (k.word ++ (port, x) ∷ []) ++ bad_at n o) fine ∙ append-nil (at_port n (k.word ++ (port, x) ∷ [])));
-            bad = k.fired.bad;
-            held = λ j.
-                let was : All (IsHeldOf (kinds_out p op) j) (list_at (sent_in t.outs) j) =
-                subst (All (IsHeldOf (kinds_out p op) j)) (ap (λ y. list_at (sent_in t.outs) j ++ y) (idle j) ∙ append-nil (list_at (sent_in t.outs) j))
-                (k.fired.held j) in
-                All-append (IsHeldOf (kinds_out p op) j) (list_at (sent_in t.outs) j) (list_at pending j) was
-                (subst (All (IsHeldOf (kinds_out p op) j)) (sym (pending_is j)) (grown_held (outs op.kernel) came.outs out.outs j outs_are (came.held j)));
-            given = λ w a h.
-                let n = longer_word (kinds_in p op) w k.word port x a h in
-                let g = does.gives.given (first_kept op.kernel) n.before n.item is_start n.typed n.is_of (k.stands.after n.before n.typed n.held) n.next in
-                let before = ran op n.before in
-                let r = fire op.kernel port n.item before.states in
-                let more = ran_more op.kernel (first_kept op.kernel) n.before port n.item in
-                let gave = k.fired.given n.before n.typed n.held in
-                let new_outs : out.outs ≡ each_grew (replicate (outs op.kernel) []) (λ j. held_at (kinds_out p op) j (before.outs j) (r.outs j)) = g.0.outs
-                ∙ ap (λ ls. each_grew ls (λ j. held_at (kinds_out p op) j (before.outs j) (r.outs j))) fired_is.is_blank.outs in
-                let new_adds : out.adds ≡ each_grew (replicate (tabs op.kernel) []) r.adds = g.0.adds ∙ ap (λ ls. each_grew ls r.adds) fired_is.is_blank.adds in
-                record {
-                  outs = λ j lj.
-                      let co = c.outs in
-                      let lj' : j < outs op.kernel = omega (arith, lj, co, nw) in
-                      let old : list_at (sent_in t.outs) j ≡ held_at (kinds_out p op) j [] (before.outs j) = sym (append-nil (list_at (sent_in t.outs) j))
-                      ∙ ap (λ y. list_at (sent_in t.outs) j ++ y) (sym (idle j)) ∙ gave.outs j lj in
-                      ap (λ y. y ++ list_at pending j) old
-                      ∙ ap (λ y. held_at (kinds_out p op) j [] (before.outs j) ++ y)
-                      (pending_is j ∙ ap (λ ls. list_at ls j) new_outs
-                      ∙ each_grew-blanks (outs op.kernel) (λ m. held_at (kinds_out p op) m (before.outs m) (r.outs m)) j [] lj')
-                      ∙ sym (at-append (kinds_out p op) j [] (before.outs j) (r.outs j))
-                      ∙ ap (held_at (kinds_out p op) j []) (sym (more.outs j) ∙ ap (λ u. (ran op u).outs j) (sym n.splits));
-                  adds_are = λ j lj.
-                      ap (λ y. y ++ list_at out.adds j) (gave.adds_are j lj)
-                      ∙ ap (λ ls. before.adds j ++ list_at ls j) new_adds
-                      ∙ ap (λ y. before.adds j ++ y) (each_grew-blanks (tabs op.kernel) r.adds j [] lj)
-                      ∙ sym (more.adds j) ∙ ap (λ u. (ran op u).adds j) (sym n.splits);
-                };
-          };
-          stands = record {
-            fit = came.again;
-            after = λ w a h.
-                let n = longer_word (kinds_in p op) w k.word port x a h in
-                let g = does.gives.given (first_kept op.kernel) n.before n.item is_start n.typed n.is_of (k.stands.after n.before n.typed n.held) n.next in
-                subst (StandsAfter op.kernel (kinds_in p op) (first_kept op.kernel) st) (sym n.splits) g.1;
-          };
-        };
-        word = refl;
-      }
-    where
-      all_empty : (ls : List (List item.Item)) → IsIdle ls → ls ≡ replicate (length ls) []
-      all_empty [] h = refl
-      all_empty (m ∷ ls) h = ap (λ y. y ∷ ls) (h 0) ∙ ap (λ ys. [] ∷ ys) (all_empty ls (λ n. h (suc n)))
+  -- A FIRING
 
-      grown_held : (n : ℕ) (f : ℕ → List item.Item) (ls : List (List item.Item)) (j : ℕ) → ls ≡ each_grew (replicate n []) f
-          → All (IsHeldOf (kinds_out p k.op) j) (f j) → All (IsHeldOf (kinds_out p k.op) j) (list_at ls j)
-      grown_held n f ls j e h = ⊎_elim
-          (λ lj. subst (All (IsHeldOf (kinds_out p k.op) j)) (sym (ap (λ l. list_at l j) e ∙ each_grew-blanks n f j [] lj)) h)
-          (λ ge. subst (All (IsHeldOf (kinds_out p k.op) j)) (sym (ap (λ l. list_at l j) e ∙ beyond_blank n f j (omega (arith, ge))))
-          (All-nil (IsHeldOf (kinds_out p k.op) j)))
-          (cases_lt j n)
+  module _ (ins : List inlet.Inlet) (port : ℕ) (x : item.Item) (st : List State) (out blank : Emit) (pending : List (List item.Item)) (n : ℕ)
+      (e : received ins port x) (l : length ins ≡ length t.ins) (lt : port < length t.ins) (i : IsHeldOf t.kinds port x) (idle : IsIdle t.pending)
+      (f : FiredOp p t.op port x t.states st out) (ep : pending ≡ out.outs) (eb : blank.outs ≡ t.pending) (ebr : blank.adds ≡ replicate (length out.adds) [])
+      (en : n ≡ min most_firings (t.count + 1)) where
+    abbrev op : OpForm
+    op = k.op
+
+    abbrev word_now : Word
+    word_now = k.word ++ (port, x) ∷ []
+
+    -- the operator fired, from empty lists
+    fired_is : CameOf op.kernel port x t.states st out
+    fired_is = f.fired op k.op_is
+
+    fits : IsFit p op
+    fits = op_fits p v t.op op k.op_is
+
+    -- what that does
+    does : Does op.kernel (kinds_in p op) (kinds_out p op) (map (var_kind p.tables p.vars) op.vars) port x fired_is.blank out t.states st
+    does = fired_is.fires.each (kinds_in p op) (kinds_out p op) (map (var_kind p.tables p.vars) op.vars) fits k.stands.fit
+        (subst (λ y. IsHeldOf y port x) k.kinds i)
+
+    is_start : IsStart op.kernel (kinds_in p op) (first_kept op.kernel)
+    is_start = first_is_start op.kernel (kinds_in p op) (shaped op.kernel _ _ _ fits)
+
+    -- what came at each port, and for each table
+    outs_are : out.outs ≡ each_grew (replicate (outs op.kernel) []) does.came.outs
+    outs_are = does.came.outs_are ∙ ap (λ ls. each_grew ls does.came.outs) fired_is.is_blank.outs
+
+    adds_are : out.adds ≡ each_grew (replicate (tabs op.kernel) []) does.came.adds
+    adds_are = does.came.adds_are ∙ ap (λ ls. each_grew ls does.came.adds) fired_is.is_blank.adds
+
+    outs_many : length out.outs ≡ outs op.kernel
+    outs_many =
+        ap length outs_are ∙ length-each_grew (replicate (outs op.kernel) []) does.came.outs ∙ length-replicate (outs op.kernel) []
+
+    adds_many : length out.adds ≡ tabs op.kernel
+    adds_many =
+        ap length adds_are ∙ length-each_grew (replicate (tabs op.kernel) []) does.came.adds ∙ length-replicate (tabs op.kernel) []
+
+    pending_is : (j : ℕ) → list_at pending j ≡ list_at out.outs j
+    pending_is j = ap (λ ls. list_at ls j) ep
+
+    all_empty : (ls : List (List item.Item)) → IsIdle ls → ls ≡ replicate (length ls) []
+    all_empty [] h = refl
+    all_empty (m ∷ ls) h = ap (λ y. y ∷ ls) (h 0) ∙ ap (λ ys. [] ∷ ys) (all_empty ls (λ n. h (suc n)))
+
+    grown_held : (n : ℕ) (f : ℕ → List item.Item) (ls : List (List item.Item)) (j : ℕ) → ls ≡ each_grew (replicate n []) f
+        → All (IsHeldOf (kinds_out p op) j) (f j) → All (IsHeldOf (kinds_out p op) j) (list_at ls j)
+    grown_held n f ls j e h = ⊎_elim
+        (λ lj. subst (All (IsHeldOf (kinds_out p op) j)) (sym (ap (λ l. list_at l j) e ∙ each_grew-blanks n f j [] lj)) h)
+        (λ ge. subst (All (IsHeldOf (kinds_out p op) j)) (sym (ap (λ l. list_at l j) e ∙ beyond_blank n f j (omega (arith, ge))))
+        (All-nil (IsHeldOf (kinds_out p op) j)))
+        (cases_lt j n)
+
+    -- queues may hold what was sent and what is pending
+    held_after : (j : ℕ) → All (IsHeldOf (kinds_out p op) j) (list_at (sent_in t.outs) j ++ list_at pending j)
+    held_after j =
+        let was : All (IsHeldOf (kinds_out p op) j) (list_at (sent_in t.outs) j) =
+        subst (All (IsHeldOf (kinds_out p op) j)) (ap (λ y. list_at (sent_in t.outs) j ++ y) (idle j) ∙ append-nil (list_at (sent_in t.outs) j))
+        (k.fired.held j) in
+        All-append (IsHeldOf (kinds_out p op) j) (list_at (sent_in t.outs) j) (list_at pending j) was
+        (subst (All (IsHeldOf (kinds_out p op) j)) (sym (pending_is j)) (grown_held (outs op.kernel) does.came.outs out.outs j outs_are (does.came.held j)))
+
+    -- a word that the items stand for
+    module _ (w : Word) (typed : IsWordOf (kinds_in p op) w) (held : IsHeldAs (kinds_in p op) w word_now) where
+      -- it is one item longer than a word that those before stand for
+      split : Longer (kinds_in p op) w k.word port x
+      split = longer_word (kinds_in p op) w k.word port x typed held
+
+      abbrev before : Fired
+      before = ran op split.before
+
+      abbrev fires : Fired
+      fires = fire op.kernel port split.item before.states
+
+      -- what the firing gives for its last item
+      gave : TookHeld (kinds_out p op) before fired_is.blank out fires
+          × StandsAfter op.kernel (kinds_in p op) (first_kept op.kernel) st (split.before ++ (port, split.item) ∷ [])
+      gave = does.gives.given (first_kept op.kernel) split.before split.item is_start split.typed split.is_of
+          (k.stands.after split.before split.typed split.held) split.next
+
+      -- what was sent and what is pending is what queues hold for all that the word gives
+      outs_given : (j : ℕ) → j < length op.writes → list_at (sent_in t.outs) j ++ list_at pending j ≡ held_at (kinds_out p op) j [] ((ran op w).outs j)
+      outs_given j lj =
+          let co = (counts op.kernel _ _ _ fits).outs in
+          let nw = length-map op.writes (kind_of (all_decls p)) in
+          let lj' : j < outs op.kernel = omega (arith, lj, co, nw) in
+          let more = ran_more op.kernel (first_kept op.kernel) split.before port split.item in
+          let new_outs : out.outs ≡ each_grew (replicate (outs op.kernel) []) (λ j. held_at (kinds_out p op) j (before.outs j) (fires.outs j)) = gave.0.outs
+          ∙ ap (λ ls. each_grew ls (λ j. held_at (kinds_out p op) j (before.outs j) (fires.outs j))) fired_is.is_blank.outs in
+          let old : list_at (sent_in t.outs) j ≡ held_at (kinds_out p op) j [] (before.outs j) = sym (append-nil (list_at (sent_in t.outs) j))
+          ∙ ap (λ y. list_at (sent_in t.outs) j ++ y) (sym (idle j)) ∙ (k.fired.given split.before split.typed split.held).outs j lj in
+          ap (λ y. y ++ list_at pending j) old
+          ∙ ap (λ y. held_at (kinds_out p op) j [] (before.outs j) ++ y)
+          (pending_is j ∙ ap (λ ls. list_at ls j) new_outs
+          ∙ each_grew-blanks (outs op.kernel) (λ m. held_at (kinds_out p op) m (before.outs m) (fires.outs m)) j [] lj')
+          ∙ sym (at-append (kinds_out p op) j [] (before.outs j) (fires.outs j))
+          ∙ ap (held_at (kinds_out p op) j []) (sym (more.outs j) ∙ ap (λ u. (ran op u).outs j) (sym split.splits))
+
+      -- and the rows that were added, with those that are owed, are what the word adds
+      adds_given : (j : ℕ) → j < tabs op.kernel → adds j ++ list_at out.adds j ≡ (ran op w).adds j
+      adds_given j lj =
+          let more = ran_more op.kernel (first_kept op.kernel) split.before port split.item in
+          let new_adds : out.adds ≡ each_grew (replicate (tabs op.kernel) []) fires.adds = gave.0.adds ∙ ap (λ ls. each_grew ls fires.adds) fired_is.is_blank.adds in
+          ap (λ y. y ++ list_at out.adds j) ((k.fired.given split.before split.typed split.held).adds_are j lj)
+          ∙ ap (λ ls. before.adds j ++ list_at ls j) new_adds
+          ∙ ap (λ y. before.adds j ++ y) (each_grew-blanks (tabs op.kernel) fires.adds j [] lj)
+          ∙ sym (more.adds j) ∙ ap (λ u. (ran op u).adds j) (sym split.splits)
+
+      -- the states stand for those after the word
+      stands_after : StandsAfter op.kernel (kinds_in p op) (first_kept op.kernel) st w
+      stands_after = subst (StandsAfter op.kernel (kinds_in p op) (first_kept op.kernel) st) (sym split.splits) gave.1
+
+    -- the operator has fired on the longer word
+    fired_after : HasFired p op (λ j. adds j ++ list_at out.adds j)
+        (record { received = received_in ins; sent = sent_in t.outs; pending = pending; bad = t.bad }) word_now
+    fired_after = record {
+      below = below-append (length op.reads) k.word ((port, x) ∷ []) k.fired.below (let n = k.ins in omega (arith, n, lt), tt);
+      received = λ n. longer ins port x e lt n ∙ sym (ap (λ o. at_port n word_now ++ bad_at n o) fine ∙ append-nil (at_port n word_now));
+      bad = k.fired.bad;
+      held = held_after;
+      given = λ w a h. record { outs = outs_given w a h; adds_are = adds_given w a h };
+    }
+
+    -- the task owes the rows that came
+    pub took_task : HasWord p (λ j. adds j ++ list_at out.adds j) (record t { ins = ins; states = st; pending = pending; out = blank; count = n }) word_now
+    took_task =
+        let c = counts op.kernel _ _ _ fits in
+        let nw = length-map op.writes (kind_of (all_decls p)) in
+        record {
+          task = record {
+            op = op;
+            op_is = k.op_is;
+            ins = l ∙ k.ins;
+            kinds = k.kinds;
+            outs = k.outs;
+            rings = k.rings;
+            pending = ap length ep ∙ outs_many ∙ sym c.outs ∙ nw;
+            blank = record {
+              outs = eb ∙ all_empty t.pending idle ∙ ap (λ n. replicate n []) (k.pending ∙ sym nw ∙ c.outs);
+              adds = ebr ∙ ap (λ n. replicate n []) adds_many;
+            };
+            homes = k.homes;
+            word = word_now;
+            count = one_count most_firings n t.count (length k.word) (length word_now) en k.count (length-append k.word ((port, x) ∷ []));
+            fired = fired_after;
+            stands = record { fit = does.came.again; after = stands_after };
+          };
+          word = refl;
+        }
 
 -- the rows of a firing are for the operator's tables
 module _ (p : PlanForm) (v : IsPlan p) (t : Task) (adds : ℕ → List (List ℤ)) (k : IsTask p adds t) (port : ℕ) (x : item.Item) (st : List State) (out : Emit)

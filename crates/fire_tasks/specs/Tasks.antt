@@ -15,7 +15,8 @@ use Rattle.fire_tasks.specs.declared.task.Task.{Task}
 use Rattle.fire_tasks.specs.Adds.{AreHomes, added, logs_at}
 use Rattle.river_base.specs.declared.kind.QueueType.{QueueType}
 use Rattle.fire_tasks.specs.Fired.{SeenTask, HasFired, IsHeldAs, kinds_in, kinds_out}
-use Rattle.fire_tasks.specs.Ports.{AreFronts, received_in, received_of, sent_in, sent_of, ring_width, SendsRows, InEnd, OutEnd, in_end, in_ends, out_end, out_ends, received_count, sent_count, IsIdle, IsSettled, RefusedAll, AllReceived}
+use Rattle.fire_tasks.specs.Ports.{AreFronts, received_in, received_of, sent_in, sent_of, ring_width, SendsRows, InEnd, OutEnd, in_end, in_ends, out_end, out_ends}
+use Rattle.fire_tasks.specs.Ports.{received_count, sent_count, IsIdle, IsSettled, RefusedAll, AllReceived}
 use Rattle.river_base.specs.WideRows.{rows_type}
 
 -- what the laws see of a task

@@ -13,7 +13,8 @@ use Rattle.river_base.proofs.Counts.{permutation_from_copies}
 use Rattle.river_base.proofs.Rows.{in_order_bag, in_order_ascends, in_order-IsPermutation, same_from_sorted}
 use Rattle.kern_changes.proofs.Copies.{copies-in_order, copies-without, differences_are, sum-cong}
 use Rattle.river_base.specs.declared.item.Change.{Change}
-use Rattle.river_base.specs.Changes.{without, difference, content_after, ChangesInto, StandForContents, IsNormal, AllNormal, AllAscending, change_to, changes, last_content, cancelled, LeadsTo}
+use Rattle.river_base.specs.Changes.{without, difference, content_after, ChangesInto, StandForContents, IsNormal, AllNormal, AllAscending, change_to}
+use Rattle.river_base.specs.Changes.{changes, last_content, cancelled, LeadsTo}
 use Rattle.river_base.specs.Changes.{all_pairs}
 
 -- SUMS OVER LISTS

@@ -1,5 +1,6 @@
 -- Splitters and joiners of relations: what is owed leads from content to content, and is never much.
-use Rattle.std.proofs.Common.{zero, suc, ◌≡◌, ◌<◌, ◌≤◌, ◌+◌, ◌*◌, ℕ, ℤ, pos, Bool, true, false, List, [], ◌++◌, length, map, refl, sym, ap, ◌∙◌, arith, subst, append_assoc, ⊎_elim, inl}
+use Rattle.std.proofs.Common.{zero, suc, ◌≡◌, ◌<◌, ◌≤◌, ◌+◌, ◌*◌, ℕ, ℤ, pos, Bool, true, false, List, [], ◌++◌, length, map, refl, sym, ap, ◌∙◌, arith}
+use Rattle.std.proofs.Common.{subst, append_assoc, ⊎_elim, inl}
 use Rattle.std.specs.Prelude.{set, nat_le, if◌then◌else◌, ◌≢◌}
 use Rattle.std.proofs.lemmas.List.{length-set, length-map, get_or-set_same, get_or-set_other, get_or-map, append-nil}
 use Rattle.std.proofs.lemmas.List.Elements.{All-nil}
@@ -11,7 +12,8 @@ use Rattle.river_base.specs.Changes.{difference}
 use Rattle.river_base.specs.declared.item.Change.{Change}
 use Rattle.kern_changes.specs.declared.owed.Debt.{Debt}
 use Rattle.river_base.specs.Changes.{change_to, cancelled, LeadsTo, IsNormal, IsWideChange}
-use Rattle.kern_changes.specs.Owed.{no_debt, debt_at, owed_start, owing_more, netted, tidied, owing, BeginsNetted, OwesLittle, OweLittle, AreDebtsOf, but_at, DealsOwed, JoinsOwed, KeepsOwed}
+use Rattle.kern_changes.specs.Owed.{no_debt, debt_at, owed_start, owing_more, netted, tidied, owing, BeginsNetted, OwesLittle, OweLittle, AreDebtsOf}
+use Rattle.kern_changes.specs.Owed.{but_at, DealsOwed, JoinsOwed, KeepsOwed}
 use Rattle.kern_changes.proofs.Leading.{cancelled_is, cancelled_normal, change_leads, leads_back, leads_none}
 use Rattle.kern_changes.proofs.Widths.{wide_append, wide_difference}
 

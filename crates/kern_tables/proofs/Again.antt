@@ -40,6 +40,7 @@ abbrev AreBehind : {V : Type 0} → List (List ℤ × V) → List (List ℤ × V
 AreBehind done es = AllByRecursion (λ e. IsBehind e.0 done) es
 
 module _ {V : Type 0} (start : V) (merge : V → List ℤ → V) where
+  -- the table with one more pair
   abbrev pub add : List (List ℤ × V) → List ℤ × List ℤ → List (List ℤ × V)
   add es a = put row_cmp start merge es a
 
@@ -121,6 +122,7 @@ module _ {V : Type 0} (start : V) (merge : V → List ℤ → V) where
     pub new : (w : List ℤ) → P k (merge start w)
     pub more : (v : V) (w : List ℤ) → P k v → P k (merge v w)
 
+  -- what holds at all keys, and at a new one, holds once a pair is put
   pub put_keeps : (P : List ℤ → V → Type 0) (k w : List ℤ) (es : List (List ℤ × V)) → ((x : List ℤ) (v : V) (u : List ℤ) → P x v → P x (merge v u)) → P k (merge start w)
       → AllByRecursion (λ e. P e.0 e.1) es → AllByRecursion (λ e. P e.0 e.1) (add es (k, w))
   put_keeps P k w [] m n a = (n, tt)
@@ -160,6 +162,7 @@ sum_stays v w =
     let e : pos 0 +ℤ (v +ℤ value_in w) ≡ v +ℤ value_in w = omega (arith, ints) in
     int_wrap-add_right w64 (pos 0) (v +ℤ value_in w) ∙ ap (int_wrap w64) e
 
+-- at each key of a table of sums stands one value, and the key has its width
 pub sums_at : (keys : ℕ) (adds : List (List ℤ)) → AreLong keys adds → AllByRecursion (λ e. IsSumAt keys e.0 e.1) (sums keys adds)
 sums_at keys adds long =
     fold_keeps (pos 0) add_value (IsSumAt keys) keys adds []
@@ -248,6 +251,7 @@ ranked_more n l w r =
 abbrev IsBestAt : ℕ → ℕ → List ℤ → List Ranked → Type 0
 IsBestAt best keys k l = (length k ≡ keys) × AreRanked best l
 
+-- at each key of a table of maxima stand rows in their order, as many as are kept at most, and the key has its width
 pub maxima_at : (n keys : ℕ) (adds : List (List ℤ)) → AreLong keys adds → AllByRecursion (λ e. IsBestAt (suc n) keys e.0 e.1) (maxima (suc n) keys adds)
 maxima_at n keys adds long =
     fold_keeps [] (best_more (suc n)) (IsBestAt (suc n) keys) keys adds []

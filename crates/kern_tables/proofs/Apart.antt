@@ -156,6 +156,7 @@ rows_in_order xs ys a =
 
 -- TABLES
 
+-- rows behind others make a table that is behind theirs
 pub tables_stand_in_order : TablesStandInOrder
 tables_stand_in_order (Sum keys) xs ys a =
     sym (sums_keyed keys (xs ++ ys)) ∙ ap sum_rows (keyed_in_order (pos 0) add_value keys xs ys a)

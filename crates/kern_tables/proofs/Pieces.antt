@@ -96,6 +96,7 @@ each_of : {V : Type 0} (P Q : List ℤ → V → Type 0) (es : List (List ℤ ×
 each_of P Q [] f a = tt
 each_of P Q (e ∷ es) f a = (f e.0 e.1 a.0, each_of P Q es f a.1)
 
+-- what is printed of a table are rows for such a table
 pub tables_are_rows : TablesAreRows
 tables_are_rows (Sum keys) adds h =
     subst (HaveWidth (keys + 1)) (sums_keyed keys adds)
@@ -135,10 +136,12 @@ pieces_first kind (p ∷ ps) zs h =
     ∙ turned kind (joined ps ++ zs) p
     ∙ ap (tab kind) (sym (append_assoc p (joined ps) zs))
 
+-- the table of what is printed of some tables is that of all their rows
 pub tables_merge : TablesMerge
 tables_merge kind pieces h =
     ap (tab kind) (sym (append-nil (printed kind pieces))) ∙ pieces_first kind pieces [] h ∙ ap (tab kind) (append-nil (joined pieces))
 
+-- so is that of two
 pub two_tables_merge : TwoTablesMerge
 two_tables_merge kind xs ys h g =
     table_first kind xs (tab kind ys) h ∙ turned kind xs (tab kind ys) ∙ table_first kind ys xs g ∙ turned kind ys xs
@@ -156,6 +159,7 @@ all_printed kind (p ∷ ps) h =
 pub bag_rows : (kind : TableKind) (rows others : List (List ℤ)) → SameBag rows others → AreRowsFor kind rows → AreRowsFor kind others
 bag_rows kind rows others bag h = All-permutation (λ row. length row ≡ table_width kind) rows others (permutation_from_bag rows others bag) h
 
+-- however the rows are merged, in whichever levels, what comes is their table
 pub merges_are_tables : MergesAreTables
 merges_are_tables kind rows table h (AtOnce k r t e) = e
 merges_are_tables kind rows table h (InPieces k r t pieces bag more) =

@@ -33,6 +33,7 @@ by_recursion P (x ∷ xs) a = (All-head P x xs a, by_recursion P xs (All-tail P 
 first_stays : (x w : Ranked) (ws : List Ranked) → ranks_before w x ≡ false → put_in_order ranks_before x (w ∷ ws) ≡ x ∷ (w ∷ ws)
 first_stays x w ws h = ap (λ b. cond b (w ∷ put_in_order ranks_before x ws) (x ∷ (w ∷ ws))) h
 
+-- a row that none stands before is put first
 pub stays : (x : Ranked) (zs : List Ranked) → AllByRecursion (λ w. ranks_before w x ≡ false) zs → put_in_order ranks_before x zs ≡ x ∷ zs
 stays x [] a = refl
 stays x (w ∷ ws) a = first_stays x w ws a.0

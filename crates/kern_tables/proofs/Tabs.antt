@@ -120,14 +120,17 @@ take_nil : (n : ℕ) → take n none ≡ none
 take_nil zero = refl
 take_nil (suc n) = refl
 
+-- rows that are put one by one are the best of them
 pub best_is : (best : ℕ) (rests : List (List ℤ)) → fold (best_more best) [] rests ≡ best_of best rests
 best_is best rests = ap (λ l. fold (best_more best) l rests) (sym (take_nil best)) ∙ best_from best [] rests
 
 -- TABLES BY KEYS
 
+-- the sums at each key of these rows
 abbrev pub sums : ℕ → List (List ℤ) → List (List ℤ × ℤ)
 sums keys adds = keyed row_cmp (pos 0) add_value (splits keys adds)
 
+-- the best rows at each key
 abbrev pub maxima : ℕ → ℕ → List (List ℤ) → List (List ℤ × List Ranked)
 maxima best keys adds = keyed row_cmp [] (best_more best) (splits keys adds)
 
@@ -136,6 +139,7 @@ map_with : (keys : ℕ) (adds ks : List (List ℤ))
 map_with keys adds [] = refl
 map_with keys adds (k ∷ ks) = ap (λ l. sum_row k (sum_of (under_key keys k adds)) ∷ l) (map_with keys adds ks)
 
+-- the rows of the sums are the table
 pub sums_keyed : (keys : ℕ) (adds : List (List ℤ)) → sum_rows (sums keys adds) ≡ tab (Sum keys) adds
 sums_keyed keys adds = ap sum_rows (sym (grouped_keyed (pos 0) add_value sums_commute keys adds)) ∙ map_with keys adds (keys_of keys adds)
 
@@ -144,6 +148,7 @@ flat_with : (best keys : ℕ) (adds ks : List (List ℤ))
 flat_with best keys adds [] = refl
 flat_with best keys adds (k ∷ ks) = λ i. map (ranked_row k) (best_is best (under_key keys k adds) i) ++ flat_with best keys adds ks i
 
+-- and so are those of the maxima
 pub maxima_keyed : (best keys : ℕ) (adds : List (List ℤ)) → maximum_rows (maxima best keys adds) ≡ tab (Maximum best keys) adds
 maxima_keyed best keys adds =
     ap maximum_rows (sym (grouped_keyed [] (best_more best) (maxima_commute best) keys adds)) ∙ flat_with best keys adds (keys_of keys adds)

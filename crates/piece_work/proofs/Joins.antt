@@ -28,14 +28,16 @@ joined-first (Some h) files taken = refl
 pub joined-next : (held there : Option Held) (files : List (List ℕ)) (i : ℕ) (d : List ℕ) (first before now : Option (List ℕ)) → i < length files
     → there ≡ held → JoinedSo held files i first before → IfSome there (λ h. now ≡ append_known before (bytes_of (h (get_or files i d))))
     → JoinedSo held files (i + 1) first now
-joined-next held there files i d first before now l same so one = by held so (subst (λ (o : Option Held). IfSome o (λ h. now ≡ append_known before (bytes_of (h (get_or files i d))))) same one) where
-  by : (o : Option Held) → JoinedSo o files i first before → IfSome o (λ h. now ≡ append_known before (bytes_of (h (get_or files i d)))) → JoinedSo o files (i + 1) first now
-  by None so one = tt
-  by (Some h) so one =
-      ap (λ (o : Option (List ℕ)). append_known o (texts_held h (drop (i + 1) files))) one
-      ∙ twice before (bytes_of (h (get_or files i d))) (texts_held h (drop (i + 1) files))
-      ∙ ap (λ (fs : List (List ℕ)). append_known before (texts_held h fs)) (sym (drop_more files i d l))
-      ∙ so
+joined-next held there files i d first before now l same so one =
+    by held so (subst (λ (o : Option Held). IfSome o (λ h. now ≡ append_known before (bytes_of (h (get_or files i d))))) same one)
+  where
+    by : (o : Option Held) → JoinedSo o files i first before → IfSome o (λ h. now ≡ append_known before (bytes_of (h (get_or files i d)))) → JoinedSo o files (i + 1) first now
+    by None so one = tt
+    by (Some h) so one =
+        ap (λ (o : Option (List ℕ)). append_known o (texts_held h (drop (i + 1) files))) one
+        ∙ twice before (bytes_of (h (get_or files i d))) (texts_held h (drop (i + 1) files))
+        ∙ ap (λ (fs : List (List ℕ)). append_known before (texts_held h fs)) (sym (drop_more files i d l))
+        ∙ so
 
 -- all files
 pub joined-all : (held : Option Held) (files : List (List ℕ)) (i : ℕ) (first now : Option (List ℕ)) → length files ≤ i → JoinedSo held files i first now

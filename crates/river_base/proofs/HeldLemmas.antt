@@ -9,7 +9,8 @@ use Rattle.river_base.specs.declared.kind.FlatType as flat_type
 use Rattle.river_base.specs.declared.kind.FlatType.TheVariants.{Rows, Stream, Relation}
 use Rattle.river_base.specs.declared.kind.QueueType as queue_type
 use Rattle.river_base.specs.declared.kind.QueueType.TheVariants.{Flat as FlatOf, Pack as PackOf}
-use Rattle.river_base.specs.Held.{held, held_by_type, held_from, held_item, held_flat, held_flats, content_from, after_item, after_flat, after_flats, MayHold, IsHeld, IsPlain, flats_as_items, items_of, flats}
+use Rattle.river_base.specs.Held.{held, held_by_type, held_from, held_item, held_flat, held_flats, content_from, after_item, after_flat, after_flats, MayHold}
+use Rattle.river_base.specs.Held.{IsHeld, IsPlain, flats_as_items, items_of, flats}
 
 from-append : (before : List (List ℤ)) (xs ys : List item.Item) → held_from before (xs ++ ys) ≡ held_from before xs ++ held_from (content_from before xs) ys
 from-append before [] ys = refl

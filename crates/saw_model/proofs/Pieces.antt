@@ -29,7 +29,8 @@ use Rattle.saw_model.specs.Elaborate.{on_ok, demand, Port, Scope, find, term_of,
 use Rattle.saw_model.specs.Elaborate.{indexes_of, weight_of, emitted, step_of, table_port, unit_judged, Read}
 use Rattle.saw_model.specs.Judged.{judged, in_unit, on_fine, units_judged}
 use Rattle.saw_model.specs.Pieces.{all_unnamed, written_kind, merge_table, fields_from, read_weight, merge_emit, merge_program, IsMergeProgram}
-use Rattle.saw_model.specs.Pieces.{TablesHaveMergePrograms, Answer, first_table, other_tables, IsMergedBy, AtOnce, InPieces, InOrder, AreMergedBy, PiecesMerge, merged, PiecesMergeAtOnce}
+use Rattle.saw_model.specs.Pieces.{TablesHaveMergePrograms, Answer, first_table, other_tables, IsMergedBy, AtOnce, InPieces, InOrder}
+use Rattle.saw_model.specs.Pieces.{AreMergedBy, PiecesMerge, merged, PiecesMergeAtOnce}
 use Rattle.saw_model.proofs.Elaborated.{fine, found_here, one_more}
 use Rattle.saw_model.proofs.EmitRows.{emits_are_rows}
 use Rattle.saw_model.proofs.Means.{rows_for-append}

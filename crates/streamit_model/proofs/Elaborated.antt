@@ -669,88 +669,108 @@ first_pops_is : (t : Option Expression) → first_pops t ≡ first_popped t
 first_pops_is None = refl
 first_pops_is (Some t) = refl
 
+-- a variable is declared
+declare_met : (e : ℕ) (xs : List ℤ) (n : Name) (t : Option Expression) → Met xs (step_of e (Declare n t)) (exec (Declare n t) xs)
+declare_met e xs n t s y mem now h ok a q le =
+    let p = declared_parts e n t s y h in
+    let v = val p.value xs mem in
+    let same = first_value_is e t s p.value xs mem now a q p.value_is in
+    let sc = (n, Var s.slots) ∷ s.scope in
+    let le' : s.slots + 1 ≤ length mem = subst (λ (r : Steps × At). r.1.slots ≤ length mem) p.is le in
+    let holds = agrees_set n s.slots v sc (s.slots + 1) now.values mem (sound_var n s.scope s.slots ok) le'
+    (found_here n n (Var s.slots) s.scope (name_self n)) (λ m b ne f. a.each m b (sym (found_other n m (Var s.slots) s.scope ne) ∙ f)) in
+    subst (λ (r : Steps × At). DoesBy (ran r.0 xs mem) r.1 now (exec (Declare n t) xs now)) (sym p.is)
+    (does_one (steps.Set s.slots p.value) xs mem _ now (exec (Declare n t) xs now) (record {
+      pushed = sym (append-nil now.pushed);
+      popped = ap (λ k. k + first_pops t) q ∙ ap (λ k. s.popped + k) (first_pops_is t);
+      agrees = subst (λ z. Agrees sc (at_name n z now.values) (slice_set mem s.slots v)) (sym same) holds;
+    }))
+
+-- a variable is given a value
+assign_met : (e : ℕ) (xs : List ℤ) (n : Name) (t : Expression) → Met xs (step_of e (Assign n t)) (exec (Assign n t) xs)
+assign_met e xs n t s y mem now h ok a q le =
+    let p = assigned_parts e n t s y h in
+    let v = val p.value xs mem in
+    let same = ap (eval t xs now.values) q ∙ term_is e s.scope t xs now.values mem s.popped p.value a p.value_is in
+    let le' : s.slots ≤ length mem = subst (λ (r : Steps × At). r.1.slots ≤ length mem) p.is le in
+    let holds = agrees_set n p.slot v s.scope s.slots now.values mem ok le' p.found (λ m b ne f. a.each m b f) in
+    subst (λ (r : Steps × At). DoesBy (ran r.0 xs mem) r.1 now (exec (Assign n t) xs now)) (sym p.is)
+    (does_one (steps.Set p.slot p.value) xs mem _ now (exec (Assign n t) xs now) (record {
+      pushed = sym (append-nil now.pushed);
+      popped = ap (λ k. k + pops t) q;
+      agrees = subst (λ z. Agrees s.scope (at_name n z now.values) (slice_set mem p.slot v)) (sym same) holds;
+    }))
+
+-- an item is pushed
+push_met : (e : ℕ) (xs : List ℤ) (t : Expression) → Met xs (step_of e (Push t)) (exec (Push t) xs)
+push_met e xs t s y mem now h ok a q le =
+    let p = pushed_parts e t s y h in
+    let same = ap (eval t xs now.values) q ∙ term_is e s.scope t xs now.values mem s.popped p.value a p.value_is in
+    subst (λ (r : Steps × At). DoesBy (ran r.0 xs mem) r.1 now (exec (Push t) xs now)) (sym p.is)
+    (does_one (steps.Push 0 (p.value ∷ [])) xs mem _ now (exec (Push t) xs now) (record {
+      pushed = ap (λ z. now.pushed ++ z ∷ []) same;
+      popped = ap (λ k. k + pops t) q;
+      agrees = a;
+    }))
+
+-- an item is popped
+discard_met : (e : ℕ) (xs : List ℤ) → Met xs (step_of e Discard) (exec Discard xs)
+discard_met e xs s y mem now h ok a q le =
+    subst (λ (r : Steps × At). DoesBy (ran r.0 xs mem) r.1 now (exec Discard xs now)) (ok_is (Done, record s { popped = s.popped + 1 }) y h)
+    (record { pushed = sym (append-nil now.pushed); popped = ap (λ k. k + 1) q; agrees = a })
+
+-- `if`, where its branches do what they are to do
+if_met : (e : ℕ) (xs : List ℤ) (t : Expression) (a : Block) (b : Optional) → Met xs (steps_of e a) (exec_all a xs) → Met xs (optional_of e b) (exec_optional b xs)
+    → Met xs (step_of e (If t a b)) (exec (If t a b) xs)
+unfolding left at_arm at_second
+if_met e xs t a b first second s y mem now h ok ag q le =
+    let p = forked_parts e t a b s y h in
+    let ga = steps_grow e a (at_arm t s) p.one p.one_is in
+    let gb = optional_grows e b (at_second t s p.one.1) p.two p.two_is in
+    let la = ga.slots in
+    let lb = gb.slots in
+    let le' : p.two.1.slots ≤ length mem = subst (λ (r : Steps × At). r.1.slots ≤ length mem) p.is le in
+    let on = record now { popped = now.popped + pops t } in
+    let q' = ap (λ k. k + pops t) q in
+    let da = first (at_arm t s) p.one mem on p.one_is ok ag q' (omega (arith, le', lb)) in
+    let db = second (at_second t s p.one.1) p.two mem on p.two_is (more_slots s.scope s.slots p.one.1.slots la ok) ag q' le' in
+    let out = left s p.two.1 in
+    let kept_one = agrees_within s.scope p.one.1.scope (exec_all a xs on).values (ran p.one.0 xs mem).slots ga.keeps da.agrees in
+    let kept_two = agrees_within s.scope p.two.1.scope (exec_optional b xs on).values (ran p.two.0 xs mem).slots gb.keeps db.agrees in
+    let one : DoesBy (ran p.one.0 xs mem) out now (exec_all a xs on) =
+    record { pushed = da.pushed; popped = da.popped ∙ p.popped; agrees = kept_one } in
+    let two : DoesBy (ran p.two.0 xs mem) out now (exec_optional b xs on) =
+    record { pushed = db.pushed; popped = db.popped; agrees = kept_two } in
+    let same = ap (eval t xs now.values) q ∙ term_is e s.scope t xs now.values mem s.popped p.test ag p.test_is in
+    subst (λ (r : Steps × At). DoesBy (ran r.0 xs mem) r.1 now (exec (If t a b) xs now)) (sym p.is)
+    (does_one (steps.If p.test p.one.0 p.two.0) xs mem out now (exec (If t a b) xs now)
+    (subst (λ z. DoesBy (ran_once (steps.If p.test p.one.0 p.two.0) xs mem) out now (if is_true z then exec_all a xs on else exec_optional b xs on))
+    (sym same)
+    (does_arm (is_true (val p.test xs mem)) (ran p.one.0 xs mem) (ran p.two.0 xs mem) out now (exec_all a xs on) (exec_optional b xs on) one two)))
+
+-- `for`, where its block does what it is to do
+for_met : (e : ℕ) (xs : List ℤ) (n : Name) (low : Expression) (upto : Bool) (high : Expression) (b : Block) → Met xs (steps_of e b) (exec_all b xs)
+    → Met xs (step_of e (For n low upto high b)) (exec (For n low upto high b) xs)
+for_met e xs n low upto high b body s y mem now h ok a q le =
+    let p = looped_parts e n low upto high b s y h in
+    let l = constant_is s.scope low xs now.values mem now.popped p.first a p.first_is in
+    let u = constant_is s.scope high xs now.values mem now.popped p.last a p.last_is in
+    subst (λ vs. DoesBy (ran y.0 xs mem) y.1 now (each_turn (exec_all b xs) n vs now))
+    (ap (λ z. turns_between z upto p.last) (sym l) ∙ ap (turns_between (eval low xs now.values now.popped) upto) (sym u))
+    (unrolled_met xs (steps_of e b) (exec_all b xs) (steps_grow e b) body n
+    (turns_between p.first upto p.last) s y mem now p.new p.is ok a q le)
+
 mutual
   unfolding left at_arm at_second
 
+  -- the statements that a statement becomes do what it does
   pub step_met : (e : ℕ) (xs : List ℤ) (c : Statement) → Met xs (step_of e c) (exec c xs)
-  step_met e xs (Declare n t) s y mem now h ok a q le =
-      let p = declared_parts e n t s y h in
-      let v = val p.value xs mem in
-      let same = first_value_is e t s p.value xs mem now a q p.value_is in
-      let sc = (n, Var s.slots) ∷ s.scope in
-      let le' : s.slots + 1 ≤ length mem = subst (λ (r : Steps × At). r.1.slots ≤ length mem) p.is le in
-      let holds = agrees_set n s.slots v sc (s.slots + 1) now.values mem (sound_var n s.scope s.slots ok) le'
-      (found_here n n (Var s.slots) s.scope (name_self n)) (λ m b ne f. a.each m b (sym (found_other n m (Var s.slots) s.scope ne) ∙ f)) in
-      subst (λ (r : Steps × At). DoesBy (ran r.0 xs mem) r.1 now (exec (Declare n t) xs now)) (sym p.is)
-      (does_one (steps.Set s.slots p.value) xs mem _ now (exec (Declare n t) xs now) (record {
-        pushed = sym (append-nil now.pushed);
-        popped = ap (λ k. k + first_pops t) q ∙ ap (λ k. s.popped + k) (first_pops_is t);
-        agrees = subst (λ z. Agrees sc (at_name n z now.values) (slice_set mem s.slots v)) (sym same) holds;
-      }))
-  step_met e xs (Assign n t) s y mem now h ok a q le =
-      let p = assigned_parts e n t s y h in
-      let v = val p.value xs mem in
-      let same = ap (eval t xs now.values) q ∙ term_is e s.scope t xs now.values mem s.popped p.value a p.value_is in
-      let le' : s.slots ≤ length mem = subst (λ (r : Steps × At). r.1.slots ≤ length mem) p.is le in
-      let holds = agrees_set n p.slot v s.scope s.slots now.values mem ok le' p.found (λ m b ne f. a.each m b f) in
-      subst (λ (r : Steps × At). DoesBy (ran r.0 xs mem) r.1 now (exec (Assign n t) xs now)) (sym p.is)
-      (does_one (steps.Set p.slot p.value) xs mem _ now (exec (Assign n t) xs now) (record {
-        pushed = sym (append-nil now.pushed);
-        popped = ap (λ k. k + pops t) q;
-        agrees = subst (λ z. Agrees s.scope (at_name n z now.values) (slice_set mem p.slot v)) (sym same) holds;
-      }))
-  step_met e xs (Push t) s y mem now h ok a q le =
-      let p = pushed_parts e t s y h in
-      let same = ap (eval t xs now.values) q ∙ term_is e s.scope t xs now.values mem s.popped p.value a p.value_is in
-      subst (λ (r : Steps × At). DoesBy (ran r.0 xs mem) r.1 now (exec (Push t) xs now)) (sym p.is)
-      (does_one (steps.Push 0 (p.value ∷ [])) xs mem _ now (exec (Push t) xs now) (record {
-        pushed = ap (λ z. now.pushed ++ z ∷ []) same;
-        popped = ap (λ k. k + pops t) q;
-        agrees = a;
-      }))
-  step_met e xs Discard s y mem now h ok a q le =
-      subst (λ (r : Steps × At). DoesBy (ran r.0 xs mem) r.1 now (exec Discard xs now)) (ok_is (Done, record s { popped = s.popped + 1 }) y h)
-      (record { pushed = sym (append-nil now.pushed); popped = ap (λ k. k + 1) q; agrees = a })
-  step_met e xs (If t a b) s y mem now h ok ag q le =
-      let p = forked_parts e t a b s y h in
-      let ga = steps_grow e a (at_arm t s) p.one p.one_is in
-      let gb = optional_grows e b (at_second t s p.one.1) p.two p.two_is in
-      let la = ga.slots in
-      let lb = gb.slots in
-      let le' : p.two.1.slots ≤ length mem = subst (λ (r : Steps × At). r.1.slots ≤ length mem) p.is le in
-      let on = record now { popped = now.popped + pops t } in
-      let q' = ap (λ k. k + pops t) q in
-      let da = steps_met e xs a (at_arm t s) p.one mem on p.one_is ok ag q' (omega (arith, le', lb)) in
-      let db = optional_met e xs b (at_second t s p.one.1) p.two mem on p.two_is (more_slots s.scope s.slots p.one.1.slots la ok) ag q' le' in
-      let out = left s p.two.1 in
-      let one : DoesBy (ran p.one.0 xs mem) out now (exec_all a xs on) =
-      record {
-        pushed = da.pushed;
-        popped = da.popped
-            ∙ p.popped;
-        agrees = agrees_within s.scope p.one.1.scope (exec_all a xs on).values (ran p.one.0 xs mem).slots ga.keeps da.agrees;
-      } in
-      let two : DoesBy (ran p.two.0 xs mem) out now (exec_optional b xs on) =
-      record {
-        pushed = db.pushed;
-        popped = db.popped;
-        agrees =
-            agrees_within s.scope p.two.1.scope (exec_optional b xs on).values (ran p.two.0 xs mem).slots gb.keeps db.agrees;
-      } in
-      let same = ap (eval t xs now.values) q ∙ term_is e s.scope t xs now.values mem s.popped p.test ag p.test_is in
-      subst (λ (r : Steps × At). DoesBy (ran r.0 xs mem) r.1 now (exec (If t a b) xs now)) (sym p.is)
-      (does_one (steps.If p.test p.one.0 p.two.0) xs mem out now (exec (If t a b) xs now)
-      (subst (λ z. DoesBy (ran_once (steps.If p.test p.one.0 p.two.0) xs mem) out now (if is_true z then exec_all a xs on else exec_optional b xs on))
-      (sym same)
-      (does_arm (is_true (val p.test xs mem)) (ran p.one.0 xs mem) (ran p.two.0 xs mem) out now (exec_all a xs on) (exec_optional b xs on) one two)))
-  step_met e xs (For n low upto high b) s y mem now h ok a q le =
-      let p = looped_parts e n low upto high b s y h in
-      let l = constant_is s.scope low xs now.values mem now.popped p.first a p.first_is in
-      let u = constant_is s.scope high xs now.values mem now.popped p.last a p.last_is in
-      subst (λ vs. DoesBy (ran y.0 xs mem) y.1 now (each_turn (exec_all b xs) n vs now))
-      (ap (λ z. turns_between z upto p.last) (sym l) ∙ ap (turns_between (eval low xs now.values now.popped) upto) (sym u))
-      (unrolled_met xs (steps_of e b) (exec_all b xs) (steps_grow e b) (steps_met e xs b) n
-      (turns_between p.first upto p.last) s y mem now p.new p.is ok a q le)
+  step_met e xs (Declare n t) = declare_met e xs n t
+  step_met e xs (Assign n t) = assign_met e xs n t
+  step_met e xs (Push t) = push_met e xs t
+  step_met e xs Discard = discard_met e xs
+  step_met e xs (If t a b) = if_met e xs t a b (steps_met e xs a) (optional_met e xs b)
+  step_met e xs (For n low upto high b) = for_met e xs n low upto high b (steps_met e xs b)
 
   -- the statements that a block becomes do what the block does
   pub steps_met : (e : ℕ) (xs : List ℤ) (b : Block) → Met xs (steps_of e b) (exec_all b xs)

@@ -18,10 +18,12 @@ use Rattle.streamit_text.specs.ExactStatements.{exact-own, exact-empty, exact-st
 use Rattle.streamit_text.specs.Program.{WorkTree, Turns, Body, AFilter, APipeline}
 use Rattle.streamit_text.specs.Tree.{Block, Optional, or_unwritten}
 use Rattle.streamit_text.specs.Grammar.{Weight, stay, IsBlock, IsInit, IsField, push, pop, peek, IsRate, rates_in, unwritten, AreRates}
-use Rattle.streamit_text.specs.Grammar.{made_work, IsWork, IsPrework, AreWorks, made_filter, InFilter, Braces, none_there, Parens, the_name, Called, IsAdd, made_adds, AreAdds, Weights, copying}
+use Rattle.streamit_text.specs.Grammar.{made_work, IsWork, IsPrework, AreWorks, made_filter, InFilter, Braces, none_there, Parens, the_name, Called, IsAdd}
+use Rattle.streamit_text.specs.Grammar.{made_adds, AreAdds, Weights, copying}
 use Rattle.streamit_text.specs.Grammar.{IsSplit, IsJoin, made_both, InBoth, BodyAfter, made_unit, KindAfter, IsUnit, IsUnitAt}
 use Rattle.streamit_text.specs.Reading.{block_at, still_at, init_at, no_field, field_at, fields_at, rate_after, rate_at, at_block, rate_list_at, rates_at}
-use Rattle.streamit_text.specs.Reading.{work_at, prework_at, works_at, in_filter_at, filter_at, parens_at, called_at, add_at, no_add, more_adds_at, adds_at, weight_at, listed_at, weights_at}
+use Rattle.streamit_text.specs.Reading.{work_at, prework_at, works_at, in_filter_at, filter_at, parens_at, called_at, add_at, no_add, more_adds_at}
+use Rattle.streamit_text.specs.Reading.{adds_at, weight_at, listed_at, weights_at}
 use Rattle.streamit_text.specs.Reading.{split_after, split_at, join_at, in_both_at, pipe_at, both_at, body_after, kind_after, unit_at, unit_from}
 
 -- a block

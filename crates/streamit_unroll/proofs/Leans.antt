@@ -1,5 +1,6 @@
 -- Blocks whose runs of `pop();` are counted, layer by layer.
-use Rattle.std.proofs.Common.{◌≡◌, ℕ, zero, suc, ◌+◌, ◌<◌, List, [], ◌∷◌, ◌++◌, map, drop, length, get_or, Option, Some, None, refl, sym, ap, ◌∙◌, append_assoc, append-nil, Bor, add-one}
+use Rattle.std.proofs.Common.{◌≡◌, ℕ, zero, suc, ◌+◌, ◌<◌, List, [], ◌∷◌, ◌++◌, map, drop, length, get_or, Option, Some, None, refl, sym, ap, ◌∙◌}
+use Rattle.std.proofs.Common.{append_assoc, append-nil, Bor, add-one}
 use Rattle.std.proofs.lemmas.List.{map-append}
 use Rattle.river_base.proofs.Lists.{map_next}
 use Rattle.streamit_text.specs.declared.tree.Until.{Until}

@@ -5,7 +5,8 @@ use Rattle.text_tokens.specs.Symbols.{symbol_bytes}
 use Rattle.text_tokens.specs.Tok.{Tok, name, var, number, symbol}
 use Rattle.text_tokens.specs.declared.sign.Symbol.{Symbol}
 use Rattle.text_tokens.specs.declared.sign.Symbol.TheVariants as s
-use Rattle.text_tokens.proofs.Spelled.{Spells, Anything, NoWord, is_name_text, spells-nothing, spells-then, spells-name, spells-var, spells-number, spells-symbol, spells-blank, blank_follows}
+use Rattle.text_tokens.proofs.Spelled.{Spells, Anything, NoWord, is_name_text, spells-nothing, spells-then, spells-name, spells-var}
+use Rattle.text_tokens.proofs.Spelled.{spells-number, spells-symbol, spells-blank, blank_follows}
 use Rattle.text_tokens.proofs.Insides.{Inside, inside-nothing, inside-then, inside-symbol, inside-name, inside-number, inside-braces, IsPlain}
 use Rattle.text_tokens.specs.Spaced.{token_bytes, spaced}
 

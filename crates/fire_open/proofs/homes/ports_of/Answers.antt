@@ -18,4 +18,5 @@ pub loop-table-preserved : goal.loop-table-preserved
 loop-table-preserved c =
     ports_next c.args.classes.now c.args.own.now c.as_slice-table-items.result.now c.loop-table.table-index c.loop-table.ports c.push.new.self
     c.place_of-place.result c.at.result.now
-    c.loop-table.invariant c.loop-table-test.true (c.in_ok-push.ensures.ok ∙ ap (λ (h : TablePort). c.loop-table.ports ++ h ∷ []) c.new.ensures) c.place_of-place.ensures (c.at.ensures 0)
+    c.loop-table.invariant c.loop-table-test.true (c.in_ok-push.ensures.ok ∙ ap (λ (h : TablePort). c.loop-table.ports ++ h ∷ []) c.new.ensures)
+    c.place_of-place.ensures (c.at.ensures 0)

@@ -9,7 +9,8 @@ use Rattle.work_code.specs.Term as built
 use Rattle.streamit_model.specs.Meaning.{pops}
 use Rattle.streamit_model.specs.Elaborate.{term_of}
 use Rattle.streamit_unroll.proofs.SoFar.{good}
-use Rattle.streamit_unroll.proofs.Expressions.{expression-neg, expression-not, expression-bin, term-bin, judged_err, judged_as, popped_as, peek_fault, neg_fault, neg_read, not_fault, not_read, left_fault, right_fault, bin_read}
+use Rattle.streamit_unroll.proofs.Expressions.{expression-neg, expression-not, expression-bin, term-bin, judged_err, judged_as, popped_as, peek_fault, neg_fault}
+use Rattle.streamit_unroll.proofs.Expressions.{neg_read, not_fault, not_read, left_fault, right_fault, bin_read}
 use Rattle.streamit_unroll.proofs.term.+term.Goals as goal
 
 pub term-returns-in_ok-index-in-Peek-clause-popped : goal.term-returns-in_ok-index-in-Peek-clause-popped

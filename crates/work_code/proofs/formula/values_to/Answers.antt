@@ -1,4 +1,5 @@
-use Rattle.std.proofs.Common.{rules, w64, ◌≡◌, ℕ, ℤ, suc, List, [], ◌∷◌, ◌++◌, ◌+◌, ◌<◌, ◌≤◌, length, map, take, drop, get_or, slice_set, to_z, of_z, sym, ap, ◌∙◌, arith, append_assoc, add-one}
+use Rattle.std.proofs.Common.{rules, w64, ◌≡◌, ℕ, ℤ, suc, List, [], ◌∷◌, ◌++◌, ◌+◌, ◌<◌, ◌≤◌, length, map, take, drop, get_or, slice_set, to_z, of_z, sym, ap}
+use Rattle.std.proofs.Common.{◌∙◌, arith, append_assoc, add-one}
 use Rattle.std.proofs.lemmas.Int.{to_z-of_z}
 use Rattle.std.proofs.lemmas.List.{map-append, take_all, length-map, set-append_right, drop-set-add, drop-set}
 use Rattle.std.proofs.lemmas.Slice.{drop-append-drop}
@@ -21,8 +22,10 @@ values-next : (f : Term → ℤ) (old now : List ℤ) (cs : List Calc) (i : ℕ)
     → now ≡ map f (map calc_term (take i cs)) ++ drop i old → y ≡ f (calc_term x)
     → slice_set now i y ≡ map f (map calc_term (take (i + 1) cs)) ++ drop (i + 1) old
 values-next f old now cs i x y lt is fits n v =
-    ap (λ now. slice_set now i y) n ∙ put_next (map f (map calc_term (take i cs))) old i y (length-map (map calc_term (take i cs)) f ∙ length-map (take i cs) calc_term ∙ take_length cs i lt) (omega (arith, lt, fits))
-    ∙ ap (λ ys. ys ++ drop (i + 1) old) (ap (λ z. map f (map calc_term (take i cs)) ++ z ∷ []) v ∙ sym (ap (map f) (map_more calc_term cs i x lt is) ∙ map-append f (map calc_term (take i cs)) (calc_term x ∷ [])))
+    ap (λ now. slice_set now i y) n ∙ put_next (map f (map calc_term (take i cs))) old i y
+    (length-map (map calc_term (take i cs)) f ∙ length-map (take i cs) calc_term ∙ take_length cs i lt) (omega (arith, lt, fits))
+    ∙ ap (λ ys. ys ++ drop (i + 1) old) (ap (λ z. map f (map calc_term (take i cs)) ++ z ∷ []) v
+    ∙ sym (ap (map f) (map_more calc_term cs i x lt is) ∙ map-append f (map calc_term (take i cs)) (calc_term x ∷ [])))
 
 pub value_of-requires : goal.value_of-requires
 value_of-requires c =

@@ -24,7 +24,8 @@ invariant_of-self-2 c =
           (record { op = c.args.op; table = c.args.table; rows = c.args.rows }) c.self.invariant.0 c.self.invariant.1
           p.1 (λ d. c.in_ok-raise.ensures.ok d)
           (c.push_reserved.ensures.items
-          ∙ (ap (λ (rs : List (List ℤ)). c.reserve.new.self.items ++ record { op = c.args.op; table = c.args.table; rows = rs } ∷ []) (c.in_ok-packed.ensures ∙ c.as_slice-all.ensures)
+          ∙ (ap (λ (rs : List (List ℤ)). c.reserve.new.self.items ++ record { op = c.args.op; table = c.args.table; rows = rs } ∷ [])
+          (c.in_ok-packed.ensures ∙ c.as_slice-all.ensures)
           ∙ ap (λ (l : List LogEntry). l ++ record { op = c.args.op; table = c.args.table; rows = c.args.rows } ∷ []) c.in_ok-reserve.ensures.items)) refl
           (sym c.as_slice-all.ensures),
       c.self.invariant.1,

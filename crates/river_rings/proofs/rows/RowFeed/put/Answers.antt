@@ -26,7 +26,8 @@ returns-clause-sent c =
     let p = c.self.inside.end in
     let q = c.put_values.new.end in
     let row = c.args.row.now in
-    let l : length row ≡ w = c.requires.width (subst (λ (s : Sending). 1 ≤ s.id.width) c.self.view_is c.self.invariant.some) ∙ sym (ap (λ (s : Sending). s.id.width) c.self.view_is) in (
+    let l : length row ≡ w = c.requires.width (subst (λ (s : Sending). 1 ≤ s.id.width) c.self.view_is c.self.invariant.some)
+    ∙ sym (ap (λ (s : Sending). s.id.width) c.self.view_is) in (
       row-more w (sent p) row (sent q) c.self.invariant l c.put_values.ensures.sent ∙ ap (λ (s : Sending). s.sent ++ row_item row ∷ []) c.self.view_is,
       subst (λ (s : Sending). producer_capacity q / w - known_free q / w ≤ s.waiting + 1) c.self.view_is
           (room_less w p q c.self.invariant.some c.put_values.ensures.ring.1 (subst (λ n. known_free p ≤ known_free q + n) l c.put_values.ensures.free)),

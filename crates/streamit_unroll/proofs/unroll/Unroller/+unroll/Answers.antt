@@ -13,7 +13,8 @@ use Rattle.work_code.specs.declared.code.Stmt as built
 use Rattle.streamit_text.specs.Tree as source
 use Rattle.streamit_unroll.proofs.Leans.{lean_block-is, lean-pops, lean-declare, lean-assign, lean-push, lean-if, lean-for}
 use Rattle.streamit_unroll.proofs.Items.{EachWritten, each_written}
-use Rattle.streamit_unroll.proofs.SoFar.{BlockSoFar, block_start, block_more, block_fault, block_end, one_read, turns_start, turns_next, turns_fault, turns_end, for_turns, for_fault}
+use Rattle.streamit_unroll.proofs.SoFar.{BlockSoFar, block_start, block_more, block_fault, block_end, one_read, turns_start, turns_next}
+use Rattle.streamit_unroll.proofs.SoFar.{turns_fault, turns_end, for_turns, for_fault}
 use Rattle.streamit_unroll.proofs.SoFar.{good as answered, if_read, turn_is, reads_as, reads_err}
 use Rattle.streamit_unroll.proofs.Branches.{if_count_fault, if_cond_fault, if_first_fault, if_second_fault}
 use Rattle.std.proofs.Common.{subst, sym, ap, ◌∙◌, arith, refl, rules, ◌≡◌, ◌+◌, ◌-◌, Err, [], ◌∷◌, drop, map}
