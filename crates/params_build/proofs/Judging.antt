@@ -1,5 +1,5 @@
 -- Parts judged one after another.
-use Rattle.std.proofs.Common.{◌≡◌, ℕ, suc, List, [], ◌∷◌, ◌++◌, not, map, take, drop, length, ◌+◌, ◌<◌, ◌≤◌, get_or, sym, ap, ◌∙◌, drop-cons, add-one}
+use Rattle.std.proofs.Common.{◌≡◌, ℕ, suc, List, [], ◌∷◌, ◌++◌, not, map, take, drop, length, ◌+◌, ◌<◌, ◌≤◌, get_or, sym, ap, ◌∙◌, subst, drop-cons, add-one}
 use Rattle.std.proofs.Math.Seq.{take-suc}
 use Rattle.river_base.proofs.Lists.{map_next, map_none}
 use Rattle.streamit_text.specs.Tree.{statement, in_turn}
@@ -10,24 +10,18 @@ use Rattle.params_text.specs.declared.program.Unit as code_unit
 use Rattle.params_text.specs.declared.program.Step.{Step}
 use Rattle.params_model.specs.Judged.{Above, Judgement, judged_then, no_fault, statement_judged, block_judged, step_judged, steps_judged, new_names, unit_judged}
 use Rattle.params_model.specs.Judged.{units_judged}
-use Rattle.params_model.specs.Making.{NameTwice, demand}
+use Rattle.params_model.specs.declared.fault.Fault.TheVariants.{NameTwice}
+use Rattle.params_model.specs.Making.{demand}
 use Rattle.params_build.specs.Above.{CountsParameters}
 use Rattle.params_build.specs.declared.above.StreamsAbove.{StreamsAbove}
-use Rattle.params_build.specs.declared.fault.Fault.{Fault}
-use Rattle.params_build.specs.declared.fault.Fault.TheVariants as fault
-use Rattle.params_build.specs.Told.{Told}
+use Rattle.params_build.specs.declared.refused.RefusedUnit.{RefusedUnit}
+use Rattle.params_build.specs.declared.refused.RefusedUnit.TheVariants as of_unit
+use Rattle.params_build.specs.Judging.{IsWhyRefused, refused_in}
 
--- the fault of the first part is told
-pub told-first : (k : ℕ) (f : Fault) (a b : Judgement) → Told k f a → Told k f (judged_then a b)
-told-first k fault.UnknownName a b h = ap (λ x. judged_then x b) h
-told-first k fault.NameTwice a b h = ap (λ x. judged_then x b) h
-told-first k fault.Arity a b h = ap (λ x. judged_then x b) h
-told-first k fault.NotConstant a b h = ap (λ x. judged_then x b) h
-told-first k fault.Top a b h = ap (λ x. judged_then x b) h
-told-first k fault.Range a b h = ap (λ x. judged_then x b) h
-told-first k fault.Empty a b h = ap (λ x. judged_then x b) h
-told-first k fault.Budget a b h = ap (λ x. judged_then x b) h
-told-first k fault.NoMemory a b h = tt
+-- why the first part is refused is why both are
+pub refused-first : (k : ℕ) (e : RefusedUnit) (a b : Judgement) → IsWhyRefused a (refused_in k e) → IsWhyRefused (judged_then a b) (refused_in k e)
+refused-first k (of_unit.Fault f) a b h = ap (λ x. judged_then x b) h
+refused-first k of_unit.NoMemory a b h = tt
 
 -- a part without a fault is passed over
 pub passed-over : (a b : Judgement) → a ≡ no_fault → judged_then a b ≡ b
@@ -92,3 +86,13 @@ judging-next whole i units u old new lt is j passed known =
           ∙ sym (passed-over (unit_judged (suc i) j.above (unit_form u)) _ (passed j.above j.knows))
           ∙ sym (units-place (suc i) j.above units i u lt is) ∙ j.judged;
     }
+
+-- a unit that is refused
+pub judging-refused : (whole : Judgement) (i : ℕ) (units : List code_unit.Unit) (u : code_unit.Unit) (old : StreamsAbove) (e : RefusedUnit) → i < length units
+    → u ≡ get_or units i u
+    → Judging whole i (unit_forms (drop i units)) old
+    → ((us : Above) → CountsParameters old us → IsWhyRefused (unit_judged (suc i) us (unit_form u)) (refused_in (suc i) e))
+    → IsWhyRefused whole (refused_in (suc i) e)
+judging-refused whole i units u old e lt is j told =
+    subst (λ (x : Judgement). IsWhyRefused x (refused_in (suc i) e)) (sym (units-place (suc i) j.above units i u lt is) ∙ j.judged)
+    (refused-first (suc i) e (unit_judged (suc i) j.above (unit_form u)) _ (told j.above j.knows))

@@ -4,7 +4,8 @@ use Rattle.river_base.proofs.Lists.{reverse-cons}
 use Rattle.params_text.specs.Program.{UnitForm, ParamProgram, unit_form, unit_forms}
 use Rattle.params_text.specs.declared.program.Unit as code_unit
 use Rattle.params_model.specs.Judged.{no_fault, has_none, top_judged, head_or, tail_of, numbered_from, source_units}
-use Rattle.params_model.specs.Making.{SourceUnit, Top, demand}
+use Rattle.params_model.specs.declared.fault.Fault.TheVariants.{Top}
+use Rattle.params_model.specs.Making.{SourceUnit, demand}
 
 abbrev last_unit : UnitForm → ParamProgram → UnitForm
 last_unit u [] = u

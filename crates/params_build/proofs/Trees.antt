@@ -7,6 +7,7 @@ use Rattle.streamit_text.specs.declared.tree.Expr.TheVariants.{rolls-Name}
 use Rattle.streamit_text.specs.declared.tree.Expr.TheOpen as layer
 use Rattle.streamit_text.proofs.Trees.{expression-peek}
 
+-- the tree of a name
 pub expression-name : (n : List ℕ) → expression (written.Name n) ≡ Name n
 expression-name n = ap expression (sym (rolls-Name n)) ∙ fold-roll-Expr Expression expression_layer (layer.Name n)
 

@@ -1,15 +1,16 @@
 // The streams that are declared above, by their names.
 ghost use Rattle.std.specs.Prelude.{◌≡◌, [], ◌∷◌, OnOk};
 ghost use Rattle.params_model.specs.Judged.{Above};
-ghost use Rattle.params_model.specs.Making.{UnknownName, NameTwice, Arity, demand};
+ghost use Rattle.params_model.specs.declared.fault.Fault.TheVariants.{UnknownName, NameTwice, Arity};
+ghost use Rattle.params_model.specs.Making.{demand};
 ghost use Rattle.params_model.specs.Judged.{has_arity, is_there};
 ghost use Rattle.streamit_model.specs.Meaning.{look};
 ghost use Rattle.std.specs.Prelude.{ℕ, not};
 ghost use Rattle.params_build.specs.Above.{CountsParameters};
-ghost use Rattle.params_build.specs.Told.{Judges};
+ghost use Rattle.params_build.specs.Judging.{Decides};
 
-use crate::Fault;
 use indexmap::IndexMap;
+use params_model::Fault;
 use river_base::{Name, NoMemory};
 use std::alloc::Global;
 
@@ -38,7 +39,7 @@ impl StreamsAbove {
 
     /// Whether no stream above has this name.
     pub fn is_new(&self, name: &Name) -> Result<(), Fault>
-        ensures { (k : ℕ) (above : Above) → CountsParameters self.now above → Judges k result (demand (not (is_there (look above name.now))) k NameTwice) }
+        ensures { (k : ℕ) (above : Above) → CountsParameters self.now above → Decides k result (demand (not (is_there (look above name.now))) k NameTwice) }
     {
         match self.arity(name) {
             Some(_) => Err(Fault::NameTwice),
@@ -48,7 +49,7 @@ impl StreamsAbove {
 
     /// Whether a stream above has this name.
     pub fn has(&self, name: &Name) -> Result<(), Fault>
-        ensures { (k : ℕ) (above : Above) → CountsParameters self.now above → Judges k result (demand (is_there (look above name.now)) k UnknownName) }
+        ensures { (k : ℕ) (above : Above) → CountsParameters self.now above → Decides k result (demand (is_there (look above name.now)) k UnknownName) }
     {
         match self.arity(name) {
             Some(_) => Ok(()),
@@ -58,7 +59,7 @@ impl StreamsAbove {
 
     /// Whether the nearest stream of this name has so many parameters.
     pub fn takes(&self, name: &Name, count: usize) -> Result<(), Fault>
-        ensures { (k : ℕ) (above : Above) → CountsParameters self.now above → Judges k result (demand (has_arity (look above name.now) count) k Arity) }
+        ensures { (k : ℕ) (above : Above) → CountsParameters self.now above → Decides k result (demand (has_arity (look above name.now) count) k Arity) }
     {
         if self.arity(name) == Some(count) {
             Ok(())

@@ -3,12 +3,13 @@
 
 mod above;
 mod constant;
-mod fault;
 mod filter;
 mod judge;
 mod names;
+mod refused;
 mod step;
 mod unit;
 
-pub use fault::{Fault, Refusal};
 pub use judge::{judged, top};
+pub use refused::Refused;
+use refused::RefusedUnit;

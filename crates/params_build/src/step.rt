@@ -5,15 +5,17 @@ ghost use Rattle.streamit_text.specs.Tree.{expression};
 ghost use Rattle.params_text.specs.Params.{is_one_of};
 ghost use Rattle.params_text.specs.Program.{expressions, step_of, steps_of};
 ghost use Rattle.params_model.specs.Judged.{Above, judged_then, are_known, all_known, has_arity, is_there, step_judged, steps_judged};
-ghost use Rattle.params_model.specs.Making.{UnknownName, NameTwice, Arity, demand};
+ghost use Rattle.params_model.specs.declared.fault.Fault.TheVariants.{UnknownName, NameTwice, Arity};
+ghost use Rattle.params_model.specs.Making.{demand};
 ghost use Rattle.streamit_model.specs.Meaning.{look};
 ghost use Rattle.params_build.specs.Above.{CountsParameters};
-ghost use Rattle.params_build.specs.Told.{Judges};
+ghost use Rattle.params_build.specs.Judging.{Decides, Judges};
 
-use crate::Fault;
+use crate::RefusedUnit;
 use crate::above::StreamsAbove;
 use crate::constant::{all_known, are_known};
 use crate::names::KnownNames;
+use params_model::Fault;
 use params_text::{Step, Steps};
 use river_base::{Name, NoMemory};
 use streamit_text::Expr;
@@ -26,7 +28,7 @@ fn given(
     args: &Vec<Expr>,
 ) -> Result<(), Fault>
     ensures { (k : ℕ) (us : Above) → CountsParameters above.now us
-        → Judges k result (judged_then (demand (all_known known.now (expressions args.now)) k UnknownName)
+        → Decides k result (judged_then (demand (all_known known.now (expressions args.now)) k UnknownName)
         (demand (has_arity (look us name.now) (length args.now.items)) k Arity)) }
 {
     if !all_known(known, args) {
@@ -38,7 +40,7 @@ fn given(
 // An `add`.
 fn add(above: &StreamsAbove, known: &KnownNames, name: &Name, args: &Vec<Expr>) -> Result<(), Fault>
     ensures { (k : ℕ) (us : Above) → CountsParameters above.now us
-        → Judges k result (judged_then (demand (is_there (look us name.now)) k UnknownName)
+        → Decides k result (judged_then (demand (is_there (look us name.now)) k UnknownName)
         (judged_then (demand (all_known known.now (expressions args.now)) k UnknownName)
         (demand (has_arity (look us name.now) (length args.now.items)) k Arity))) }
 {
@@ -49,7 +51,7 @@ fn add(above: &StreamsAbove, known: &KnownNames, name: &Name, args: &Vec<Expr>) 
 // The head of a loop.
 fn head(known: &KnownNames, name: &Name, low: &Expr, high: &Expr) -> Result<(), Fault>
     ensures judged { (k : ℕ)
-        → Judges k result (judged_then (demand (not (is_one_of known.now name.now)) k NameTwice)
+        → Decides k result (judged_then (demand (not (is_one_of known.now name.now)) k NameTwice)
         (demand (are_known known.now (expression low.now) && are_known known.now (expression high.now)) k UnknownName)) }
     ensures new { OnOk result (is_one_of known.now name.now ≡ false) }
 {
@@ -75,12 +77,15 @@ fn more(known: &mut KnownNames, name: Name) -> Result<(), NoMemory>
 // A step, with the names that are known there, which it leaves as they are.
 #[cycle(judged)]
 #[tactic(auto, using(params_text::proofs::StepTrees::steps))]
-fn step(above: &StreamsAbove, known: &mut KnownNames, one: &Step) -> Result<(), Fault>
+fn step(above: &StreamsAbove, known: &mut KnownNames, one: &Step) -> Result<(), RefusedUnit>
     ensures judged { (k : ℕ) (us : Above) → CountsParameters above.now us → Judges k result (step_judged k us known.old (step_of one.now)) }
     ensures kept { OnOk result (known.new ≡ known.old) }
 {
     match one {
-        Step::Add { name, args } => add(above, known, name, args),
+        Step::Add { name, args } => {
+            add(above, known, name, args)?;
+            Ok(())
+        }
         Step::Loop {
             name,
             low,
@@ -101,7 +106,7 @@ fn turn(
     known: &mut KnownNames,
     name: &Name,
     body: &Steps,
-) -> Result<(), Fault>
+) -> Result<(), RefusedUnit>
     requires { is_one_of known.old name.now ≡ false }
     ensures judged { (k : ℕ) (us : Above) → CountsParameters above.now us
         → Judges k result (steps_judged k us (known.old ++ name.now ∷ []) (steps_of body.now)) }
@@ -116,14 +121,18 @@ fn turn(
 
 /// Steps, one after another, with the names that are known there, which they leave as they are.
 #[cycle(judged)]
-pub(crate) fn steps(above: &StreamsAbove, known: &mut KnownNames, all: &Steps) -> Result<(), Fault>
+pub(crate) fn steps(
+    above: &StreamsAbove,
+    known: &mut KnownNames,
+    all: &Steps,
+) -> Result<(), RefusedUnit>
     ensures judged { (k : ℕ) (us : Above) → CountsParameters above.now us → Judges k result (steps_judged k us known.old (steps_of all.now)) }
     ensures kept { OnOk result (known.new ≡ known.old) }
 {
     'items: for each in all.items.as_slice() {
         match step(above, known, each) {
             Ok(()) => {}
-            Err(fault) => return Err(fault),
+            Err(why) => return Err(why),
         }
     }
     Ok(())

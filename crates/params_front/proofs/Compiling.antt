@@ -38,6 +38,7 @@ pub record Parts (text : List ℕ) (a : Accepted) : Type 0 where
   pub tree : made.tree ≡ a.tree
   pub plain : streamit.compiled (plain_text made.made.units) ≡ Ok (plain_accepted a)
 
+-- a text that is accepted has both
 pub accepted-parts : (text : List ℕ) (a : Accepted) → compiled text ≡ Ok a → Parts text a
 unfolding compiled
 accepted-parts text a h = by (elaboration text) refl h where

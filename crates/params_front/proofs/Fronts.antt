@@ -28,16 +28,17 @@ use Rattle.params_text.proofs.ParamTexts.{text-reads, units-read, units-bad, uni
 use Rattle.params_text.proofs.UnitReads.{exact-unit_from}
 use Rattle.params_model.specs.Constants.{AreFitUnits}
 use Rattle.params_model.specs.Judged.{Judgement, no_fault, units_judged, source_units, top_judged, elaborated_program}
-use Rattle.params_model.specs.Making.{Made, Refusal, on_fine, last_made}
-use Rattle.params_model.specs.Making as model
+use Rattle.params_model.specs.declared.fault.Fault as model
+use Rattle.params_model.specs.declared.fault.Fault.TheVariants as model_fault
+use Rattle.params_model.specs.declared.fault.Refusal.{Refusal}
+use Rattle.params_model.specs.Making.{Made, on_fine, last_made}
 use Rattle.params_model.proofs.FitConstants.{units-fit}
 use Rattle.params_model.proofs.MadeStands.{elaborated_stands}
 use Rattle.params_model.proofs.Readable.{texts_are_written}
 use Rattle.params_model.proofs.Refused.{refusals_are, accepted_are}
-use Rattle.params_build.specs.declared.fault.Fault.{Fault}
-use Rattle.params_build.specs.declared.fault.Fault.TheVariants as told
-use Rattle.params_build.specs.declared.fault.Refusal as code
-use Rattle.params_build.specs.Told.{Told, JudgesAll}
+use Rattle.params_build.specs.declared.refused.Refused as code
+use Rattle.params_build.specs.Judging.{IsWhyRefused, JudgesAll}
+use Rattle.params_front.proofs.Faults.{told-on}
 use Rattle.params_front.specs.Written.{MakesText}
 use Rattle.params_front.specs.declared.make.Written.{Written}
 use Rattle.params_front.specs.Laws.{IsProgramFault, HasProgramFault, HasMade, ElaborationHas}
@@ -124,14 +125,14 @@ fault-has text p e t is = by e.fault (told-first p (sizes_of t.marks) e is) wher
   has f first = record { tree = p; unit = e.unit; told = f; stands = t; first = first; is = refl }
 
   by : (f : model.Fault) → IsProgramFault p (sizes_of t.marks) e.unit f → HasMade text (Err (fault_at e.unit f))
-  by model.UnknownName first = has model.UnknownName first
-  by model.NameTwice first = has model.NameTwice first
-  by model.Arity first = has model.Arity first
-  by model.NotConstant first = has model.NotConstant first
-  by model.Top first = has model.Top first
-  by model.Range first = has model.Range first
-  by model.Empty first = has model.Empty first
-  by model.Budget first = has model.Budget first
+  by model_fault.UnknownName first = has model_fault.UnknownName first
+  by model_fault.NameTwice first = has model_fault.NameTwice first
+  by model_fault.Arity first = has model_fault.Arity first
+  by model_fault.NotConstant first = has model_fault.NotConstant first
+  by model_fault.Top first = has model_fault.Top first
+  by model_fault.Range first = has model_fault.Range first
+  by model_fault.Empty first = has model_fault.Empty first
+  by model_fault.Budget first = has model_fault.Budget first
 
 accepted-has : (text : List ℕ) (p : ParamProgram) (t : IsText text p) → HasMade text (or_fault p (elaborated_program p (sizes_of t.marks)))
 accepted-has text p t = by (elaborated_program p (sizes_of t.marks)) refl where
@@ -188,7 +189,7 @@ read-faulty marks (BigNumber at) h = absurd h
 read-faulty marks (Syntax unit) h = ap (λ r. then_elaborated (sizes_of marks) (or_syntax r)) (bad-units (cut_units (toks marks)) unit h.0)
 read-faulty marks NoMemory h = tt
 
--- the units have values for numbers, and there are no more of them than tokens
+-- the units have values for numbers
 pub read-fit : (marks : List Mark) (ds : List code_unit.Unit) → StandFor marks (unit_forms ds) → AreFitUnits (unit_forms ds)
 read-fit marks ds h = units-fit (unit_forms ds) (cut_units (toks marks)) h.0
 
@@ -198,6 +199,7 @@ formed-few [] (u ∷ us) h = absurd h
 formed-few (d ∷ ds) [] h = absurd h
 formed-few (d ∷ ds) (u ∷ us) h = ap suc (formed-few ds us h.1)
 
+-- and there are no more of them than tokens
 pub read-few : (marks : List Mark) (ds : List code_unit.Unit) → StandFor marks (unit_forms ds) → length ds ≤ length marks
 read-few marks ds e =
     let same = formed-few (unit_forms ds) (cut_units (toks marks)) e.0 in
@@ -235,33 +237,24 @@ pub ruleset fronts = (written-stands, read-faulty)
 
 pub ruleset writings = (read-fit, read-few, read-written, read-refused)
 
--- a fault of the first part is told
-told-fine : {A B : Type 0} (k : ℕ) (f : Fault) (r : Result A Refusal) (g : A → Result B Refusal) → Told k f r → Told k f (on_fine r g)
-told-fine k told.UnknownName r g h = ap (λ x. on_fine x g) h
-told-fine k told.NameTwice r g h = ap (λ x. on_fine x g) h
-told-fine k told.Arity r g h = ap (λ x. on_fine x g) h
-told-fine k told.NotConstant r g h = ap (λ x. on_fine x g) h
-told-fine k told.Top r g h = ap (λ x. on_fine x g) h
-told-fine k told.Range r g h = ap (λ x. on_fine x g) h
-told-fine k told.Empty r g h = ap (λ x. on_fine x g) h
-told-fine k told.Budget r g h = ap (λ x. on_fine x g) h
-told-fine k told.NoMemory r g h = tt
-
-pub judged-refused : (p : ParamProgram) (sizes : List ℕ) (e : code.Refusal) → JudgesAll (Err e) (units_judged 1 [] p)
+-- units that are refused
+pub judged-refused : (p : ParamProgram) (sizes : List ℕ) (e : code.Refused) → JudgesAll (Err e) (units_judged 1 [] p)
     → MakesText (Err e) (elaborated_program p sizes)
-judged-refused p sizes e h = told-fine e.unit e.fault (units_judged 1 [] p) (λ x. behind p sizes) h
+judged-refused p sizes e h = told-on e (units_judged 1 [] p) (λ x. behind p sizes) h
 
 after-judged : (p : ParamProgram) (sizes : List ℕ) → units_judged 1 [] p ≡ no_fault → elaborated_program p sizes ≡ behind p sizes
 after-judged p sizes h = ap (λ r. on_fine r (λ x. behind p sizes)) h
 
-pub top-refused : (p : ParamProgram) (sizes : List ℕ) (e : code.Refusal) → units_judged 1 [] p ≡ no_fault
+-- units that are accepted, of which the last has parameters
+pub top-refused : (p : ParamProgram) (sizes : List ℕ) (e : code.Refused) → units_judged 1 [] p ≡ no_fault
     → JudgesAll (Err e) (top_judged (source_units p sizes))
     → MakesText (Err e) (elaborated_program p sizes)
 top-refused p sizes e j h =
-    subst (λ (r : Result Made Refusal). Told e.unit e.fault r) (sym (after-judged p sizes j))
-    (told-fine e.unit e.fault (top_judged (source_units p sizes)) (λ y. last_made (source_units p sizes)) h)
+    subst (λ (r : Result Made Refusal). IsWhyRefused r e) (sym (after-judged p sizes j))
+    (told-on e (top_judged (source_units p sizes)) (λ y. last_made (source_units p sizes)) h)
 
-pub judged-made : (p : ParamProgram) (sizes : List ℕ) (r : Result Written code.Refusal) → units_judged 1 [] p ≡ no_fault
+-- units that are accepted, of which the last has none
+pub judged-made : (p : ParamProgram) (sizes : List ℕ) (r : Result Written code.Refused) → units_judged 1 [] p ≡ no_fault
     → top_judged (source_units p sizes) ≡ no_fault
     → MakesText r (last_made (source_units p sizes)) → MakesText r (elaborated_program p sizes)
 judged-made p sizes r j t h =

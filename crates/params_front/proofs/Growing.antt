@@ -4,9 +4,9 @@ use Rattle.river_plan.specs.Forms.{Name}
 use Rattle.streamit_model.specs.Meaning.{numbers_from}
 use Rattle.params_model.specs.Environment.{Environment}
 use Rattle.params_model.specs.Making.{Made, Added, on_fine, also, turn, turns_made}
-use Rattle.params_model.specs.Making as model
-use Rattle.params_build.specs.declared.fault.Refusal.{Refusal}
-use Rattle.params_build.specs.Told.{Told}
+use Rattle.params_model.specs.declared.fault.Refusal.{Refusal}
+use Rattle.params_build.specs.declared.refused.Refused.{Refused}
+use Rattle.params_build.specs.Judging.{IsWhyRefused}
 use Rattle.params_print.specs.Heads.{names_written}
 use Rattle.params_front.specs.declared.body.Scope.{Scope}
 use Rattle.params_front.specs.declared.making.Making.{Making}
@@ -65,11 +65,11 @@ so-next whole one rest rest' first now next s s' h f r = record {
 }
 
 -- a part that is refused
-pub so-fault : (whole : Added) (one : Environment → Made → Added) (rest rest' : Made → Added) (first now : Scope) (s : Making) (e : Refusal)
-    → ((m : Made) → rest m ≡ also (one first.known m) rest') → (f : SoFar whole rest first now s) → Told e.unit e.fault (one now.known f.made)
-    → Told e.unit e.fault whole
+pub so-fault : (whole : Added) (one : Environment → Made → Added) (rest rest' : Made → Added) (first now : Scope) (s : Making) (e : Refused)
+    → ((m : Made) → rest m ≡ also (one first.known m) rest') → (f : SoFar whole rest first now s) → IsWhyRefused (one now.known f.made) e
+    → IsWhyRefused whole e
 so-fault whole one rest rest' first now s e h f t =
-    told-more e.unit e.fault (one now.known f.made) whole
+    told-more e (one now.known f.made) whole
     (λ g q. f.is ∙ ap (after f.names) (h f.made ∙ ap (λ a. also a rest') (ap (λ k. one k f.made) (sym f.known) ∙ q)))
     t
 
@@ -80,7 +80,7 @@ so-end whole rest first now s h f = (f.names, f.made, f.is ∙ ap (after f.names
 
 -- TURNS
 
-also-on : (r : Result Made model.Refusal) (f g : Made → Added) → on_fine r (λ t. also (f t) g) ≡ also (on_fine r f) g
+also-on : (r : Result Made Refusal) (f g : Made → Added) → on_fine r (λ t. also (f t) g) ≡ also (on_fine r f) g
 also-on (Ok t) f g = refl
 also-on (Err e) f g = refl
 

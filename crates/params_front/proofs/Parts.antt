@@ -11,10 +11,11 @@ use Rattle.params_text.specs.Toks.{unit_toks, units_toks, plain_text}
 use Rattle.text_tokens.proofs.Spacing.{spaced-append}
 use Rattle.params_model.specs.Environment.{Environment, dealing, option_counts}
 use Rattle.params_model.specs.Plain.{instance_name, plain_filter}
-use Rattle.params_model.specs.Making.{Made, Adding, Range, Budget, on_fine, demand, begin, turn, children_made, is_ranged_filter, is_ranged_dealing, are_ranged_option}
-use Rattle.params_model.specs.Making as model
-use Rattle.params_build.specs.declared.fault.Refusal.{Refusal}
-use Rattle.params_build.specs.Told.{Told}
+use Rattle.params_model.specs.declared.fault.Fault.TheVariants.{Range, Budget}
+use Rattle.params_model.specs.Making.{Made, Adding, on_fine, demand, begin, turn, children_made, is_ranged_filter, is_ranged_dealing, are_ranged_option}
+use Rattle.params_model.specs.declared.fault.Refusal.{Refusal}
+use Rattle.params_build.specs.declared.refused.Refused.{Refused}
+use Rattle.params_build.specs.Judging.{IsWhyRefused}
 use Rattle.params_print.specs.Heads.{name_written}
 use Rattle.params_print.specs.declared.instance.Instance.{Instance}
 use Rattle.params_front.specs.declared.making.Making.{Making}
@@ -44,14 +45,14 @@ begun-stands s m k size depth d h is =
     )
 
 -- one that may not
-pub begun-told : (s : Making) (m : Made) (k size depth : ℕ) (d : UnitForm) (e : Refusal) → Stands s m
-    → Told e.unit e.fault (demand (nat_lt s.begun 1024 && (nat_le depth 64 && nat_le (s.bytes + size) 1048576)) k Budget)
-    → Told e.unit e.fault (begin (record { unit = k; bytes = size; stream = d }) depth m)
+pub begun-told : (s : Making) (m : Made) (k size depth : ℕ) (d : UnitForm) (e : Refused) → Stands s m
+    → IsWhyRefused (demand (nat_lt s.begun 1024 && (nat_le depth 64 && nat_le (s.bytes + size) 1048576)) k Budget) e
+    → IsWhyRefused (begin (record { unit = k; bytes = size; stream = d }) depth m) e
 begun-told s m k size depth d e h t =
     let test = λ (b y : ℕ). demand (nat_lt b 1024 && (nat_le depth 64 && nat_le (y + size) 1048576)) k Budget in
     let next = record m { begun = suc m.begun; bytes = m.bytes + size } in
-    told-on e.unit e.fault (test m.begun m.bytes) (λ x. fine next)
-    (subst (λ r. Told e.unit e.fault r) (ap (λ b. test b s.bytes) h.begun ∙ ap (test m.begun) h.bytes) t)
+    told-on e (test m.begun m.bytes) (λ x. fine next)
+    (subst (λ r. IsWhyRefused r e) (ap (λ b. test b s.bytes) h.begun ∙ ap (test m.begun) h.bytes) t)
 
 -- a turn that may be begun
 pub turn-stands : (s : Making) (m : Made) (k : ℕ) → Stands s m → demand (nat_lt s.turns 65536) k Budget ≡ Ok tt
@@ -72,12 +73,12 @@ turn-stands s m k h is =
     )
 
 -- one that may not
-pub turn-told : (s : Making) (m : Made) (k : ℕ) (e : Refusal) → Stands s m → Told e.unit e.fault (demand (nat_lt s.turns 65536) k Budget)
-    → Told e.unit e.fault (turn k m)
+pub turn-told : (s : Making) (m : Made) (k : ℕ) (e : Refused) → Stands s m → IsWhyRefused (demand (nat_lt s.turns 65536) k Budget) e
+    → IsWhyRefused (turn k m) e
 turn-told s m k e h t =
     let next = record m { turns = suc m.turns } in
-    told-on e.unit e.fault (demand (nat_lt m.turns 65536) k Budget) (λ x. fine next)
-    (subst (λ n. Told e.unit e.fault (demand (nat_lt n 65536) k Budget)) h.turns t)
+    told-on e (demand (nat_lt m.turns 65536) k Budget) (λ x. fine next)
+    (subst (λ n. IsWhyRefused (demand (nat_lt n 65536) k Budget) e) h.turns t)
 
 -- TEXTS
 
@@ -131,12 +132,12 @@ filter-made add k name env t m i new h w =
     )
 
 -- one whose rates are not
-pub filter-told : (add : Adding) (k : ℕ) (name : Name) (env : Environment) (t : ParamFilter) (m : Made) (e : Refusal)
-    → Told e.unit e.fault (demand (is_ranged_filter env t) k Range) → Told e.unit e.fault (bodied add k name env (AFilter t) m)
+pub filter-told : (add : Adding) (k : ℕ) (name : Name) (env : Environment) (t : ParamFilter) (m : Made) (e : Refused)
+    → IsWhyRefused (demand (is_ranged_filter env t) k Range) e → IsWhyRefused (bodied add k name env (AFilter t) m) e
 filter-told add k name env t m e h =
     let b = plain.AFilter (plain_filter env t) in
-    told-on e.unit e.fault (on_fine (demand (is_ranged_filter env t) k Range) (λ x. fine (b, m))) (λ r. fine (finished k name r))
-    (told-on e.unit e.fault (demand (is_ranged_filter env t) k Range) (λ x. fine (b, m)) h)
+    told-on e (on_fine (demand (is_ranged_filter env t) k Range) (λ x. fine (b, m))) (λ r. fine (finished k name r))
+    (told-on e (demand (is_ranged_filter env t) k Range) (λ x. fine (b, m)) h)
 
 -- a pipeline with children
 pub pipeline-made : (add : Adding) (k : ℕ) (name : Name) (env : Environment) (ss : Steps) (m m1 : Made) (a : plain.Adds) (i : Instance) (new : Making)
@@ -151,40 +152,43 @@ pipeline-made add k name env ss m m1 a i new h w =
     )
 
 -- one whose children are refused
-pub pipeline-told : (add : Adding) (k : ℕ) (name : Name) (env : Environment) (ss : Steps) (m : Made) (e : Refusal)
-    → Told e.unit e.fault (children_made add k env ss m) → Told e.unit e.fault (bodied add k name env (APipeline ss) m)
+pub pipeline-told : (add : Adding) (k : ℕ) (name : Name) (env : Environment) (ss : Steps) (m : Made) (e : Refused)
+    → IsWhyRefused (children_made add k env ss m) e → IsWhyRefused (bodied add k name env (APipeline ss) m) e
 pipeline-told add k name env ss m e h =
-    told-on e.unit e.fault (on_fine (children_made add k env ss m) (λ x. fine (plain.APipeline x.0, x.1))) (λ r. fine (finished k name r))
-    (told-on e.unit e.fault (children_made add k env ss m) (λ x. fine (plain.APipeline x.0, x.1)) h)
+    told-on e (on_fine (children_made add k env ss m) (λ x. fine (plain.APipeline x.0, x.1))) (λ r. fine (finished k name r))
+    (told-on e (children_made add k env ss m) (λ x. fine (plain.APipeline x.0, x.1)) h)
 
 -- a split-join: its splitter's weights, its children, its joiner's weights
 module _ (add : Adding) (k : ℕ) (name : Name) (env : Environment) (d : Dealing) (ss : Steps) (ws : Option (List Expression)) (m : Made) where
-  abbrev joined : plain.Adds × Made → Result (plain.Body × Made) model.Refusal
+  abbrev joined : plain.Adds × Made → Result (plain.Body × Made) Refusal
   joined c = on_fine (demand (are_ranged_option env ws) k Range) (λ y. fine (plain.ASplitJoin (dealing env d) c.0 (option_counts env ws), c.1))
 
-  abbrev split : Result (plain.Body × Made) model.Refusal
+  abbrev split : Result (plain.Body × Made) Refusal
   split = on_fine (demand (is_ranged_dealing env d) k Range) (λ x. on_fine (children_made add k env ss m) joined)
 
-  pub split-told : (e : Refusal) → Told e.unit e.fault (demand (is_ranged_dealing env d) k Range)
-      → Told e.unit e.fault (bodied add k name env (ASplitJoin d ss ws) m)
+  -- the splitter's weights are out of range
+  pub split-told : (e : Refused) → IsWhyRefused (demand (is_ranged_dealing env d) k Range) e
+      → IsWhyRefused (bodied add k name env (ASplitJoin d ss ws) m) e
   split-told e h =
-      told-on e.unit e.fault split (λ r. fine (finished k name r))
-      (told-on e.unit e.fault (demand (is_ranged_dealing env d) k Range) (λ x. on_fine (children_made add k env ss m) joined) h)
+      told-on e split (λ r. fine (finished k name r))
+      (told-on e (demand (is_ranged_dealing env d) k Range) (λ x. on_fine (children_made add k env ss m) joined) h)
 
-  pub branches-told : (e : Refusal) → demand (is_ranged_dealing env d) k Range ≡ Ok tt → Told e.unit e.fault (children_made add k env ss m)
-      → Told e.unit e.fault (bodied add k name env (ASplitJoin d ss ws) m)
+  -- the children are refused
+  pub branches-told : (e : Refused) → demand (is_ranged_dealing env d) k Range ≡ Ok tt → IsWhyRefused (children_made add k env ss m) e
+      → IsWhyRefused (bodied add k name env (ASplitJoin d ss ws) m) e
   branches-told e h t =
-      told-on e.unit e.fault split (λ r. fine (finished k name r))
-      (told-behind e.unit e.fault (demand (is_ranged_dealing env d) k Range) tt (λ x. on_fine (children_made add k env ss m) joined) h
-      (told-on e.unit e.fault (children_made add k env ss m) joined t))
+      told-on e split (λ r. fine (finished k name r))
+      (told-behind e (demand (is_ranged_dealing env d) k Range) tt (λ x. on_fine (children_made add k env ss m) joined) h
+      (told-on e (children_made add k env ss m) joined t))
 
-  pub join-told : (c : plain.Adds × Made) (e : Refusal) → demand (is_ranged_dealing env d) k Range ≡ Ok tt → children_made add k env ss m ≡ Ok c
-      → Told e.unit e.fault (demand (are_ranged_option env ws) k Range) → Told e.unit e.fault (bodied add k name env (ASplitJoin d ss ws) m)
+  -- the joiner's weights are out of range
+  pub join-told : (c : plain.Adds × Made) (e : Refused) → demand (is_ranged_dealing env d) k Range ≡ Ok tt → children_made add k env ss m ≡ Ok c
+      → IsWhyRefused (demand (are_ranged_option env ws) k Range) e → IsWhyRefused (bodied add k name env (ASplitJoin d ss ws) m) e
   join-told c e h g t =
-      told-on e.unit e.fault split (λ r. fine (finished k name r))
-      (told-behind e.unit e.fault (demand (is_ranged_dealing env d) k Range) tt (λ x. on_fine (children_made add k env ss m) joined) h
-      (told-behind e.unit e.fault (children_made add k env ss m) c joined g
-      (told-on e.unit e.fault (demand (are_ranged_option env ws) k Range) (λ y. fine (plain.ASplitJoin (dealing env d) c.0 (option_counts env ws), c.1)) t)))
+      told-on e split (λ r. fine (finished k name r))
+      (told-behind e (demand (is_ranged_dealing env d) k Range) tt (λ x. on_fine (children_made add k env ss m) joined) h
+      (told-behind e (children_made add k env ss m) c joined g
+      (told-on e (demand (are_ranged_option env ws) k Range) (λ y. fine (plain.ASplitJoin (dealing env d) c.0 (option_counts env ws), c.1)) t)))
 
   -- where its weights are in range and its children are made, a split-join is made and written
   pub split-made : (a : plain.Adds) (m1 : Made) (i : Instance) (new : Making) → demand (is_ranged_dealing env d) k Range ≡ Ok tt

@@ -83,17 +83,19 @@ pub noted-at : (env : Environment) (all : List written.Step) (bs : List Bounds) 
     → AreNoted env (steps_in_turn (map step_of all)) bs → map step_of (drop i all) ≡ s ∷ rest → IsNoted env s (slice_get bs i)
 noted-at env all bs i s rest h e = found-at env (map step_of all) bs i s rest h (drop_steps i all ∙ e)
 
--- what was noted of a loop is so of its bounds, and of its steps whatever its variable is
+-- what was noted of a loop is so of its lower bound
 pub loop-low : (env : Environment) (n : Name) (low high : Expression) (upto : Bool) (ss : Steps) (o : Option Bounds) → IsNoted env (Loop n low upto high ss) o
     → IsFixed (low_noted o) (value env low)
 loop-low env n low high upto ss None h = tt
 loop-low env n low high upto ss (Some b) h = h.0
 
+-- and of its upper bound
 pub loop-high : (env : Environment) (n : Name) (low high : Expression) (upto : Bool) (ss : Steps) (o : Option Bounds) → IsNoted env (Loop n low upto high ss) o
     → IsFixed (high_noted o) (value env high)
 loop-high env n low high upto ss None h = tt
 loop-high env n low high upto ss (Some b) h = h.1
 
+-- and of its steps, whatever its variable is
 pub loop-inner : (env : Environment) (n : Name) (low high : Expression) (upto : Bool) (ss : Steps) (o : Option Bounds) → IsNoted env (Loop n low upto high ss) o
     → (v : ℕ) → AreNoted ((n, pos v) ∷ env) ss (inner_noted o)
 loop-inner env n low high upto ss None h v = noted-none ((n, pos v) ∷ env) ss

@@ -5,7 +5,8 @@ use Rattle.river_plan.specs.Forms.{Name}
 use Rattle.params_text.specs.Program.{unit_form}
 use Rattle.params_text.specs.declared.program.Unit as code_unit
 use Rattle.params_model.specs.Environment.{bound}
-use Rattle.params_model.specs.Making.{UnknownName, Made, make}
+use Rattle.params_model.specs.declared.fault.Fault.TheVariants.{UnknownName}
+use Rattle.params_model.specs.Making.{Made, make}
 use Rattle.params_front.specs.Standing.{adding, source_at}
 
 -- an instance of the stream is one of this unit, which sees the units above it; or there is no such stream

@@ -15,10 +15,10 @@ use Rattle.params_text.specs.Grammar.{IsText}
 use Rattle.params_text.specs.Laws.{IsBadAt}
 use Rattle.params_text.specs.Program.{ParamProgram}
 use Rattle.params_text.specs.Toks.{plain_text}
+use Rattle.params_model.specs.declared.fault.Fault as model
 use Rattle.params_model.specs.Faults.{IsFaultless, IsFaultOf}
 use Rattle.params_model.specs.Judged.{source_units, top_judged, elaborated_program}
 use Rattle.params_model.specs.Making.{Made, on_fine, last_made}
-use Rattle.params_model.specs.Making as model
 use Rattle.params_model.specs.Meaning.{params_outputs}
 use Rattle.params_model.specs.Places.{places_of}
 use Rattle.params_front.specs.Sizes.{sizes_of}

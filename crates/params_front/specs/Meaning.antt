@@ -17,11 +17,13 @@ use Rattle.streamit_model.specs.Plan.{plan_of}
 use Rattle.streamit_front.specs.Meaning as streamit
 use Rattle.streamit_front.specs.declared.fault.StreamitFault.{StreamitFault}
 use Rattle.streamit_front.specs.declared.fault.StreamitFault.TheVariants as inner
-use Rattle.params_text.specs.Program.{ParamProgram, unit_forms}
+use Rattle.params_text.specs.Program.{ParamProgram, program_of}
 use Rattle.params_text.specs.Reading.{some_units}
 use Rattle.params_text.specs.Toks.{plain_text}
-use Rattle.params_model.specs.Making.{Made, Refusal}
-use Rattle.params_model.specs.Making as model
+use Rattle.params_model.specs.declared.fault.Fault as model
+use Rattle.params_model.specs.declared.fault.Fault.TheVariants as model_fault
+use Rattle.params_model.specs.declared.fault.Refusal.{Refusal}
+use Rattle.params_model.specs.Making.{Made}
 use Rattle.params_model.specs.Judged.{elaborated_program}
 use Rattle.params_front.specs.Sizes.{sizes_of}
 use Rattle.params_front.specs.declared.fault.ParamFault.{ParamFault}
@@ -37,14 +39,14 @@ pub record Elaboration : Type 0 where
 
 -- the fault of a unit
 abbrev pub fault_at : ℕ → model.Fault → ParamFault
-fault_at unit model.UnknownName = UnknownName unit
-fault_at unit model.NameTwice = NameTwice unit
-fault_at unit model.Arity = Arity unit
-fault_at unit model.NotConstant = NotConstant unit
-fault_at unit model.Top = Top unit
-fault_at unit model.Range = Range unit
-fault_at unit model.Empty = Empty unit
-fault_at unit model.Budget = Budget unit
+fault_at unit model_fault.UnknownName = UnknownName unit
+fault_at unit model_fault.NameTwice = NameTwice unit
+fault_at unit model_fault.Arity = Arity unit
+fault_at unit model_fault.NotConstant = NotConstant unit
+fault_at unit model_fault.Top = Top unit
+fault_at unit model_fault.Range = Range unit
+fault_at unit model_fault.Empty = Empty unit
+fault_at unit model_fault.Budget = Budget unit
 
 -- the program with what is made of it, or its first fault
 abbrev pub or_fault : ParamProgram → Result Made Refusal → Result Elaboration ParamFault
@@ -116,7 +118,7 @@ abbrev pub WritesPlainText : Result Elaboration ParamFault → ParamProgram → 
 WritesPlainText meant p text from = (m : Made) × (meant ≡ Ok (record { tree = p; made = m })) × (text ≡ plain_text m.units) × (from ≡ map pos m.from)
 
 abbrev pub Elaborates : Result Elaboration ParamFault → Elaborated → Type 0
-Elaborates meant e = WritesPlainText meant (unit_forms e.tree.units.items) e.plain e.from
+Elaborates meant e = WritesPlainText meant (program_of e.tree) e.plain e.from
 
 -- the text stands for the plain program that is made, and for no other
 abbrev pub StandsForMade : Result Elaboration ParamFault → List ℕ → Type 0

@@ -10,11 +10,10 @@ use Rattle.params_model.specs.Environment.{Environment}
 use Rattle.params_model.specs.Plain.{instance_name}
 use Rattle.params_model.specs.Judged.{source_units}
 use Rattle.params_model.specs.Making.{SourceUnit, Made, Added, Adding, instance, on_fine, turn, steps_made, body_made}
-use Rattle.params_model.specs.Making as model
-use Rattle.params_build.specs.declared.fault.Fault.{Fault}
-use Rattle.params_build.specs.declared.fault.Fault.TheVariants as fault
-use Rattle.params_build.specs.declared.fault.Refusal.{Refusal}
-use Rattle.params_build.specs.Told.{refused, Told}
+use Rattle.params_model.specs.declared.fault.Fault.{Fault}
+use Rattle.params_model.specs.declared.fault.Refusal.{Refusal}
+use Rattle.params_build.specs.declared.refused.Refused.{Refused}
+use Rattle.params_build.specs.Judging.{IsWhyRefused}
 use Rattle.params_print.specs.Heads.{name_written, names_written}
 use Rattle.params_print.specs.declared.instance.Instance.{Instance}
 use Rattle.params_front.specs.declared.making.Making.{Making}
@@ -52,7 +51,7 @@ finished k stream r =
     (name, record r.1 { units = r.1.units ++ record { name = name; body = r.0 } ∷ []; from = r.1.from ++ k ∷ [] })
 
 -- an instance of this stream, once it is begun
-abbrev pub bodied : Adding → ℕ → Name → Environment → Body → Made → Result (Name × Made) model.Refusal
+abbrev pub bodied : Adding → ℕ → Name → Environment → Body → Made → Result (Name × Made) Refusal
 bodied add k stream env b s = on_fine (body_made add k env b s) (λ r. Ok (finished k stream r))
 
 -- the steps of a loop for this value of its variable
@@ -65,40 +64,28 @@ turn_made k f v s = on_fine (turn k s) (f v)
 
 -- ANSWERS
 
--- a fault that a test tells; no test tells want of memory
-abbrev pub tested_fault : Fault → model.Fault
-tested_fault fault.UnknownName = model.UnknownName
-tested_fault fault.NameTwice = model.NameTwice
-tested_fault fault.Arity = model.Arity
-tested_fault fault.NotConstant = model.NotConstant
-tested_fault fault.Top = model.Top
-tested_fault fault.Range = model.Range
-tested_fault fault.Empty = model.Empty
-tested_fault fault.Budget = model.Budget
-tested_fault fault.NoMemory = model.Budget
-
 -- this was made then
-abbrev pub Begins : Result (Unit {0}) Refusal → Making → Result Made model.Refusal → Type 0
+abbrev pub Begins : Result (Unit {0}) Refused → Making → Result Made Refusal → Type 0
 Begins (Ok u) new r = (m : Made) × (r ≡ Ok m) × Stands new m
-Begins (Err e) new r = Told e.unit e.fault r
+Begins (Err e) new r = IsWhyRefused r e
 
 -- an instance was made
-abbrev pub MakesOne : Result Instance Refusal → Making → Result (Name × Made) model.Refusal → Type 0
+abbrev pub MakesOne : Result Instance Refused → Making → Result (Name × Made) Refusal → Type 0
 MakesOne (Ok i) new r = (m : Made) × (r ≡ Ok (name_written i, m)) × Stands new m
-MakesOne (Err e) new r = Told e.unit e.fault r
+MakesOne (Err e) new r = IsWhyRefused r e
 
 -- children were made, and stand behind those that were there; the same names are known
-abbrev pub MakesMore : Result (Unit {0}) Refusal → Scope → Scope → Making → Added → Type 0
+abbrev pub MakesMore : Result (Unit {0}) Refused → Scope → Scope → Making → Added → Type 0
 MakesMore (Ok u) old scope new r =
     (names : List Name) × (m : Made) × (r ≡ Ok (names, m)) × Stands new m × (names_written scope.children ≡ names_written old.children ++ names)
     × (scope.known ≡ old.known)
-MakesMore (Err e) old scope new r = Told e.unit e.fault r
+MakesMore (Err e) old scope new r = IsWhyRefused r e
 
 -- the children of a body were made, where there were none before
-abbrev pub MakesAll : Result (Unit {0}) Refusal → Scope → Scope → Making → Result (plain.Adds × Made) model.Refusal → Type 0
+abbrev pub MakesAll : Result (Unit {0}) Refused → Scope → Scope → Making → Result (plain.Adds × Made) Refusal → Type 0
 MakesAll (Ok u) old scope new r =
     (a : plain.Adds) × (m : Made) × (r ≡ Ok (a, m)) × Stands new m × (names_written scope.children ≡ a.first ∷ a.others) × (scope.known ≡ old.known)
-MakesAll (Err e) old scope new r = Told e.unit e.fault r
+MakesAll (Err e) old scope new r = IsWhyRefused r e
 
 -- the number is counted, and the unit is noted
 pub record Wrote (old new : Making) (k n : ℕ) : Type 0 where
@@ -114,6 +101,6 @@ abbrev pub WritesInstance : {E : Type 0} → Result Instance E → Making → �
 WritesInstance (Ok i) new k stream b m = (name_written i ≡ (finished k stream (b, m)).0) × Stands new (finished k stream (b, m)).1
 WritesInstance (Err e) new k stream b m = Unit {0}
 
--- the refusal tells this fault of unit k, or want of memory
-abbrev pub Blames : Refusal → ℕ → model.Fault → Type 0
-Blames e k f = Told {A = Unit {0}} e.unit e.fault (refused k f)
+-- this fault of unit k is why, or want of memory
+abbrev pub Blames : Refused → ℕ → Fault → Type 0
+Blames e k f = IsWhyRefused {A = Unit {0}} (Err (record { unit = k; fault = f })) e

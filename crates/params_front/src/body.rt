@@ -15,7 +15,8 @@ use crate::find::{find, size_at};
 use crate::making::{demand, refuse};
 use crate::ranges::{is_ranged_filter, is_ranged_round, is_ranged_split};
 use crate::span::{Span, span_between, value_or, values};
-use params_build::{Fault, Refusal};
+use params_build::Refused;
+use params_model::{Fault, Refusal};
 use params_print::{Bindings, Instance};
 use params_text::{ParamBody, ParamFilter, ParamSplitJoin, Step, Steps, Unit};
 use river_base::{Listed, Name};
@@ -54,17 +55,17 @@ impl Making {
         seen: Seen<'_>,
         stream: Name,
         values: &[i64],
-    ) -> Result<Instance, Refusal>
+    ) -> Result<Instance, Refused>
         requires { AreFitUnits (unit_forms seen.units.now) }
         ensures { (m : Made) → Stands self.old m
             → MakesOne result self.new (adding seen.entry.units.now seen.entry.sizes.now seen.entry.depth stream values.now m) }
     {
         let units = seen.units;
         let Some(i) = find(units, &stream) else {
-            return Err(Refusal {
+            return Err(Refused::Program(Refusal {
                 unit: 0,
                 fault: Fault::UnknownName,
-            });
+            }));
         };
         let unit = &units[i];
         let known = Bindings::bound(alloc, unit.params.as_slice(), values)?;
@@ -83,7 +84,7 @@ impl Making {
         seen: Seen<'_>,
         unit: &Unit,
         known: Bindings,
-    ) -> Result<Instance, Refusal>
+    ) -> Result<Instance, Refused>
         requires above { AreFitUnits (unit_forms seen.units.now) }
         requires unit { IsFitUnit (body_of unit.now.body) }
         ensures { (m : Made) → Stands self.old m
@@ -112,7 +113,7 @@ impl Making {
         scope: &mut Scope,
         name: Name,
         body: &ParamBody,
-    ) -> Result<Instance, Refusal>
+    ) -> Result<Instance, Refused>
         requires above { AreFitUnits (unit_forms seen.units.now) }
         requires body { IsFitUnit (body_of body.now) }
         requires none { scope.old.children ≡ [] }
@@ -121,7 +122,7 @@ impl Making {
             (suc (length seen.entry.units.now)) name scope.old.known (body_of body.now) m) }
     {
         match body {
-            ParamBody::Filter(tree) => self.filter(alloc, seen.units, &scope.known, name, tree),
+            ParamBody::Filter(tree) => self.filter(seen.units, &scope.known, name, tree),
             ParamBody::Pipeline(steps) => self.pipeline(alloc, seen, scope, name, steps),
             ParamBody::SplitJoin(all) => self.split_join(alloc, seen, scope, name, all),
         }
@@ -130,18 +131,17 @@ impl Making {
     // A filter.
     fn filter(
         &mut self,
-        alloc: Global,
         above: &[Unit],
         known: &Bindings,
         name: Name,
         tree: &ParamFilter,
-    ) -> Result<Instance, Refusal>
+    ) -> Result<Instance, Refused>
         requires { IsFitFilter (filter_of tree.now) }
         ensures { (m : Made) (add : Adding) → Stands self.old m
             → MakesOne result self.new (bodied add (suc (length above.now)) name known.now (AFilter (filter_of tree.now)) m) }
     {
         demand(above, is_ranged_filter(known, tree), Fault::Range)?;
-        let instance = self.write_filter(alloc, above, name, known, tree)?;
+        let instance = self.write_filter(above, name, known, tree)?;
         Ok(instance)
     }
 
@@ -154,7 +154,7 @@ impl Making {
         scope: &mut Scope,
         name: Name,
         steps: &Steps,
-    ) -> Result<Instance, Refusal>
+    ) -> Result<Instance, Refused>
         requires above { AreFitUnits (unit_forms seen.units.now) }
         requires steps { HaveFitConstants (steps_of steps.now) }
         requires none { scope.old.children ≡ [] }
@@ -163,7 +163,7 @@ impl Making {
             (suc (length seen.entry.units.now)) name scope.old.known (APipeline (steps_of steps.now)) m) }
     {
         self.children(alloc, seen, scope, steps)?;
-        let instance = self.write_pipeline(alloc, seen.units, name, scope.children.as_slice())?;
+        let instance = self.write_pipeline(seen.units, name, scope.children.as_slice())?;
         Ok(instance)
     }
 
@@ -176,7 +176,7 @@ impl Making {
         scope: &mut Scope,
         name: Name,
         all: &ParamSplitJoin,
-    ) -> Result<Instance, Refusal>
+    ) -> Result<Instance, Refused>
         requires above { AreFitUnits (unit_forms seen.units.now) }
         requires body { IsFitUnit (split_join_of all.now) }
         requires none { scope.old.children ≡ [] }
@@ -196,7 +196,7 @@ impl Making {
             is_ranged_round(&scope.known, &all.join),
             Fault::Range,
         )?;
-        let instance = self.write_split_join(alloc, above, name, scope, all)?;
+        let instance = self.write_split_join(above, name, scope, all)?;
         Ok(instance)
     }
 
@@ -208,7 +208,7 @@ impl Making {
         seen: Seen<'_>,
         scope: &mut Scope,
         steps: &Steps,
-    ) -> Result<(), Refusal>
+    ) -> Result<(), Refused>
         requires above { AreFitUnits (unit_forms seen.units.now) }
         requires steps { HaveFitConstants (steps_of steps.now) }
         requires none { scope.old.children ≡ [] }
@@ -229,7 +229,7 @@ impl Making {
         scope: &mut Scope,
         bounds: &[Bounds],
         steps: &Steps,
-    ) -> Result<(), Refusal>
+    ) -> Result<(), Refused>
         requires above { AreFitUnits (unit_forms seen.units.now) }
         requires steps { HaveFitConstants (steps_of steps.now) }
         requires bounds { AreValued scope.old.known (steps_of steps.now) bounds.now }
@@ -254,7 +254,7 @@ impl Making {
         scope: &mut Scope,
         bounds: &[Bounds],
         steps: &Steps,
-    ) -> Result<(), Refusal>
+    ) -> Result<(), Refused>
         requires above { AreFitUnits (unit_forms seen.units.now) }
         requires steps { HaveFitConstants (steps_of steps.now) }
         requires bounds { AreValued scope.old.known (steps_of steps.now) bounds.now }
@@ -267,7 +267,7 @@ impl Making {
         'items: for each in steps.items.as_slice() {
             match self.step(alloc, seen, scope, &bounds[place], each) {
                 Ok(()) => place += 1,
-                Err(refusal) => return Err(refusal),
+                Err(why) => return Err(why),
             }
         }
         Ok(())
@@ -282,7 +282,7 @@ impl Making {
         scope: &mut Scope,
         bounds: &Bounds,
         step: &Step,
-    ) -> Result<(), Refusal>
+    ) -> Result<(), Refused>
         requires above { AreFitUnits (unit_forms seen.units.now) }
         requires step { HasFitConstants (step_of step.now) }
         requires bounds { IsValued scope.old.known (step_of step.now) bounds.now }
@@ -322,7 +322,7 @@ impl Making {
         scope: &mut Scope,
         stream: Name,
         args: &Vec<Expr>,
-    ) -> Result<(), Refusal>
+    ) -> Result<(), Refused>
         requires above { AreFitUnits (unit_forms seen.units.now) }
         requires args { AreFit (expressions args.now) }
         ensures made { (m : Made) → Stands self.old m
@@ -347,7 +347,7 @@ impl Making {
         turns: Turns,
         bounds: &[Bounds],
         steps: &Steps,
-    ) -> Result<(), Refusal>
+    ) -> Result<(), Refused>
         requires above { AreFitUnits (unit_forms seen.units.now) }
         requires steps { HaveFitConstants (steps_of steps.now) }
         requires bounds { (v : ℕ) → AreValued ((turns.name, pos v) ∷ scope.old.known) (steps_of steps.now) bounds.now }
@@ -375,7 +375,7 @@ impl Making {
         turns: Turns,
         bounds: &[Bounds],
         steps: &Steps,
-    ) -> Result<(), Refusal>
+    ) -> Result<(), Refused>
         requires above { AreFitUnits (unit_forms seen.units.now) }
         requires steps { HaveFitConstants (steps_of steps.now) }
         requires bounds { (v : ℕ) → AreValued ((turns.name, pos v) ∷ scope.old.known) (steps_of steps.now) bounds.now }
@@ -389,7 +389,7 @@ impl Making {
         'range: for each in turns.span.low..turns.span.end {
             match self.turn(alloc, seen, scope, turns.name, each, bounds, steps) {
                 Ok(()) => {}
-                Err(refusal) => return Err(refusal),
+                Err(why) => return Err(why),
             }
         }
         Ok(())
@@ -406,7 +406,7 @@ impl Making {
         value: u32,
         bounds: &[Bounds],
         steps: &Steps,
-    ) -> Result<(), Refusal>
+    ) -> Result<(), Refused>
         requires above { AreFitUnits (unit_forms seen.units.now) }
         requires steps { HaveFitConstants (steps_of steps.now) }
         requires bounds { AreValued ((name, pos value) ∷ scope.old.known) (steps_of steps.now) bounds.now }

@@ -3,13 +3,14 @@ ghost use Rattle.std.specs.Prelude.{◌≡◌, ◌<◌, ◌^◌, ◌-◌, ℕ, �
 ghost use Rattle.streamit_text.specs.Program as plain;
 ghost use Rattle.streamit_model.specs.Meaning.{program_outputs};
 ghost use Rattle.streamit_front.specs.Meaning as streamit;
-ghost use Rattle.params_text.specs.Program.{unit_forms};
+ghost use Rattle.params_text.specs.Program.{program_of};
 ghost use Rattle.params_model.specs.Meaning.{params_outputs};
 ghost use Rattle.params_front.specs.Meaning.{Elaboration, or_inner, source_unit, unit_in, compiled, Plans, Refused};
 
+use crate::Elaborated;
 use crate::elaboration::elaborate;
 use crate::fault::ParamFault;
-use crate::{Elaborated, ParamProgram};
+use params_text::ParamProgram;
 use river_base::{Bytes, NoMemory, Numbers};
 use river_plan::Plan;
 use std::alloc::Global;
@@ -30,9 +31,9 @@ pub fn compile_params(
     text: &Bytes,
 ) -> Result<(ParamProgram, StreamitProgram, Plan), ParamFault>
     requires { length text.now < 2 ^ 32 }
-    ensures plan { IfOk result (λ made. Plans (compiled text.now) (unit_forms made.0.units.items) (plain.unit_forms made.1.units.items) made.2) }
+    ensures plan { IfOk result (λ made. Plans (compiled text.now) (program_of made.0) (plain.program_of made.1) made.2) }
     ensures means { IfOk result (λ made. (xs : List ℤ)
-        → program_outputs (plain.unit_forms made.1.units.items) xs ≡ params_outputs (unit_forms made.0.units.items) xs) }
+        → program_outputs (plain.program_of made.1) xs ≡ params_outputs (program_of made.0) xs) }
     ensures refused { IfErr result (Refused (compiled text.now)) }
 {
     let Elaborated { tree, plain, from } = elaborate(alloc, text)?;
@@ -47,7 +48,7 @@ fn compile_plain(
     text: &Bytes,
     from: &[i64],
 ) -> Result<(StreamitProgram, Plan), ParamFault>
-    ensures plan { IfOk result (λ made. streamit.Plans (streamit.compiled text.now) (plain.unit_forms made.0.units.items) made.1) }
+    ensures plan { IfOk result (λ made. streamit.Plans (streamit.compiled text.now) (plain.program_of made.0) made.1) }
     ensures refused { IfErr result (λ f. (e : Elaboration) → from.now ≡ map pos e.made.from → Refused (or_inner e (streamit.compiled text.now)) f) }
 {
     // A plain text of 2^32 bytes cannot be: its places would have no numbers.

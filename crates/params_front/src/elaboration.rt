@@ -1,21 +1,19 @@
 // From the text of a program to the text of its plain program.
-ghost use Rattle.std.specs.Prelude.{◌<◌, ◌^◌, length, IfOk, IfErr, Result, Ok};
+ghost use Rattle.std.specs.Prelude.{◌≡◌, ◌<◌, ◌^◌, ℕ, List, length, IfOk, IfErr, Err};
 ghost use Rattle.params_text.specs.Faults.{StandFor};
 ghost use Rattle.params_text.specs.Program.{unit_forms};
 ghost use Rattle.params_text.specs.Program as text;
 ghost use Rattle.params_model.specs.Constants.{AreFitUnits};
 ghost use Rattle.params_model.specs.Judged.{elaborated_program};
-ghost use Rattle.params_model.specs.Making.{Made};
-ghost use Rattle.params_model.specs.Making as model;
-ghost use Rattle.params_build.specs.Told.{Told};
 ghost use Rattle.params_front.specs.Written.{MakesText};
 ghost use Rattle.params_front.specs.Meaning.{or_fault, of_tokens, elaboration, WritesPlainText, Elaborates, StandsForMade, Refused};
 
 use crate::fault::ParamFault;
 use crate::sizes::sizes;
-use crate::{Elaborated, ParamProgram, Written, made};
-use params_build::{Fault, Refusal, judged, top};
-use params_text::{Unit, read_params};
+use crate::{Elaborated, Written, made};
+use params_build::{judged, top};
+use params_model::{Fault, Refusal};
+use params_text::{ParamProgram, Unit, read_params};
 use river_base::Bytes;
 use std::alloc::Global;
 use text_forms::TextFault;
@@ -71,13 +69,14 @@ fn written(alloc: Global, tokens: &Tokens<'_>, units: &[Unit]) -> Result<Written
     let sizes = sizes(alloc, tokens)?;
     match made_of(alloc, units, sizes.as_slice()) {
         Ok(written) => Ok(written),
-        Err(refusal) => Err(refused(refusal)),
+        Err(params_build::Refused::Program(refusal)) => Err(fault(refusal)),
+        Err(params_build::Refused::NoMemory) => Err(ParamFault::Text(TextFault::NoMemory)),
     }
 }
 
 // What is made of units that have so many bytes.
 #[tactic(auto, using(crate::proofs::Fronts::makings))]
-fn made_of(alloc: Global, units: &[Unit], sizes: &[usize]) -> Result<Written, Refusal>
+fn made_of(alloc: Global, units: &[Unit], sizes: &[usize]) -> Result<Written, params_build::Refused>
     requires fit { AreFitUnits (unit_forms units.now) }
     requires few { length units.now < 2 ^ 32 }
     ensures { MakesText result (elaborated_program (unit_forms units.now) sizes.now) }
@@ -88,8 +87,8 @@ fn made_of(alloc: Global, units: &[Unit], sizes: &[usize]) -> Result<Written, Re
 }
 
 // The fault of a unit.
-fn refused(refusal: Refusal) -> ParamFault
-    ensures { (p : text.ParamProgram) (r : Result Made model.Refusal) → Told refusal.unit refusal.fault r → Refused (or_fault p r) result }
+fn fault(refusal: Refusal) -> ParamFault
+    ensures { (p : text.ParamProgram) (sizes : List ℕ) → elaborated_program p sizes ≡ Err refusal → Refused (or_fault p (elaborated_program p sizes)) result }
 {
     let unit = refusal.unit;
     match refusal.fault {
@@ -101,6 +100,5 @@ fn refused(refusal: Refusal) -> ParamFault
         Fault::Range => ParamFault::Range { unit },
         Fault::Empty => ParamFault::Empty { unit },
         Fault::Budget => ParamFault::Budget { unit },
-        Fault::NoMemory => ParamFault::Text(TextFault::NoMemory),
     }
 }

@@ -21,4 +21,4 @@ pub use elaboration::elaborate;
 pub use fault::ParamFault;
 pub use make::{Written, made};
 use making::Making;
-pub use program::{Elaborated, ParamProgram};
+pub use program::Elaborated;

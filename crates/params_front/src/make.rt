@@ -7,7 +7,8 @@ ghost use Rattle.params_front.specs.Written.{MakesText};
 
 use crate::Making;
 use crate::body::Seen;
-use params_build::{Fault, Refusal};
+use params_build::Refused;
+use params_model::{Fault, Refusal};
 use params_print::Bindings;
 use params_text::Unit;
 use river_base::{Bytes, Numbers};
@@ -29,16 +30,16 @@ pub struct Written {
 /// The first fault in the order in which instances are made, with the unit that is being made:
 /// `Range`, `Empty` or `Budget`; `UnknownName` where an `add` names no stream above, which a program
 /// that was judged has not; `NoMemory` where there is no memory.
-pub fn made(alloc: Global, units: &[Unit], sizes: &[usize]) -> Result<Written, Refusal>
+pub fn made(alloc: Global, units: &[Unit], sizes: &[usize]) -> Result<Written, Refused>
     requires { AreFitUnits (unit_forms units.now) }
     ensures { MakesText result (last_made (sources units.now sizes.now)) }
 {
     let count = units.len();
     if count == 0 {
-        return Err(Refusal {
+        return Err(Refused::Program(Refusal {
             unit: 0,
             fault: Fault::UnknownName,
-        });
+        }));
     }
     let last = count - 1;
     let mut making = Making::new(alloc);

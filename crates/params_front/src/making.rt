@@ -2,10 +2,11 @@
 ghost use Rattle.std.specs.Prelude.{◌≡◌, ◌≤◌, ◌+◌, ◌&&◌, suc, length, nat_lt, nat_le, IfOk, OnOk};
 ghost use Rattle.params_text.specs.Program.{UnitForm};
 ghost use Rattle.params_model.specs.Making.{Made, nothing_made, begin, turn, demand};
-ghost use Rattle.params_build.specs.Told.{JudgesAll};
-ghost use Rattle.params_front.specs.Standing.{Stands, Begins, Wrote, Blames, tested_fault};
+ghost use Rattle.params_build.specs.Judging.{JudgesAll};
+ghost use Rattle.params_front.specs.Standing.{Stands, Begins, Wrote, Blames};
 
-use params_build::{Fault, Refusal};
+use params_build::Refused;
+use params_model::{Fault, Refusal};
 use params_print::Instance;
 use params_text::Unit;
 use river_base::{Bytes, Name, NoMemory, Numbers};
@@ -39,7 +40,7 @@ impl Making {
     }
 
     /// An instance of the unit behind these is begun: it has so many bytes, and lies so deep.
-    pub fn begin(&mut self, above: &[Unit], size: usize, depth: u32) -> Result<(), Refusal>
+    pub fn begin(&mut self, above: &[Unit], size: usize, depth: u32) -> Result<(), Refused>
         ensures begun { (m : Made) (d : UnitForm) → Stands self.old m
             → Begins result self.new (begin (record { unit = suc (length above.now); bytes = size; stream = d }) depth m) }
         ensures deep { OnOk result (depth ≤ 64) }
@@ -60,7 +61,7 @@ impl Making {
     }
 
     /// A turn of a loop is begun, in the unit behind these.
-    pub fn begin_turn(&mut self, above: &[Unit]) -> Result<(), Refusal>
+    pub fn begin_turn(&mut self, above: &[Unit]) -> Result<(), Refused>
         ensures { (m : Made) → Stands self.old m → Begins result self.new (turn (suc (length above.now)) m) }
     {
         demand(above, self.turns < 65_536, Fault::Budget)?;
@@ -100,18 +101,18 @@ fn unit_behind(above: &[Unit]) -> Result<u32, NoMemory>
 }
 
 /// The fault of the unit behind these.
-pub(crate) fn refuse(above: &[Unit], fault: Fault) -> Refusal
-    ensures { Blames result (suc (length above.now)) (tested_fault fault) }
+pub(crate) fn refuse(above: &[Unit], fault: Fault) -> Refused
+    ensures { Blames result (suc (length above.now)) fault }
 {
     match unit_behind(above) {
-        Ok(unit) => Refusal { unit, fault },
-        Err(no_memory) => Refusal::from(no_memory),
+        Ok(unit) => Refused::Program(Refusal { unit, fault }),
+        Err(no_memory) => Refused::from(no_memory),
     }
 }
 
 /// The fault of the unit behind these, where a test fails.
-pub(crate) fn demand(above: &[Unit], holds: bool, fault: Fault) -> Result<(), Refusal>
-    ensures { JudgesAll result (demand holds (suc (length above.now)) (tested_fault fault)) }
+pub(crate) fn demand(above: &[Unit], holds: bool, fault: Fault) -> Result<(), Refused>
+    ensures { JudgesAll result (demand holds (suc (length above.now)) fault) }
 {
     if holds {
         Ok(())

@@ -1,13 +1,6 @@
-// The tree of a program, and what is made of it.
-use params_text::Unit;
+// What is made of a program.
+use params_text::ParamProgram;
 use river_base::{Bytes, Numbers};
-
-/// A program as it is written: streams that are declared one after another, with whole numbers as
-/// parameters. The last of them, which has none, is run.
-#[derive(Drop)]
-pub struct ParamProgram {
-    pub units: Vec<Unit>,
-}
 
 /// What is made of a program.
 #[derive(Drop)]

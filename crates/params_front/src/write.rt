@@ -14,13 +14,11 @@ use crate::body::Scope;
 use params_print::{Bindings, Instance, print_filter, print_pipeline, print_split_join};
 use params_text::{ParamFilter, ParamSplitJoin, Unit};
 use river_base::{Name, NoMemory};
-use std::alloc::Global;
 
 impl Making {
     /// A filter of the unit behind these.
     pub fn write_filter(
         &mut self,
-        alloc: Global,
         above: &[Unit],
         stream: Name,
         known: &Bindings,
@@ -31,14 +29,13 @@ impl Making {
             → WritesInstance result self.new (suc (length above.now)) stream (plain.AFilter (plain_filter known.now (filter_of tree.now))) m }
     {
         let instance = self.next(stream)?;
-        print_filter(alloc, &instance, known, tree, &mut self.text)?;
+        print_filter(&instance, known, tree, &mut self.text)?;
         self.wrote(above, instance)
     }
 
     /// A pipeline of the unit behind these, with these children.
     pub fn write_pipeline(
         &mut self,
-        alloc: Global,
         above: &[Unit],
         stream: Name,
         children: &[Instance],
@@ -47,14 +44,13 @@ impl Making {
             → WritesInstance result self.new (suc (length above.now)) stream (plain.APipeline a) m }
     {
         let instance = self.next(stream)?;
-        print_pipeline(alloc, &instance, children, &mut self.text)?;
+        print_pipeline(&instance, children, &mut self.text)?;
         self.wrote(above, instance)
     }
 
     /// A split-join of the unit behind these, with these children.
     pub fn write_split_join(
         &mut self,
-        alloc: Global,
         above: &[Unit],
         stream: Name,
         scope: &Scope,
@@ -68,7 +64,6 @@ impl Making {
     {
         let instance = self.next(stream)?;
         print_split_join(
-            alloc,
             &instance,
             &scope.known,
             all,

@@ -9,7 +9,9 @@ use Rattle.streamit_text.specs.Tree as block
 use Rattle.params_text.specs.Params.{is_one_of}
 use Rattle.params_text.specs.Program.{ParamWork, ParamFilter, Body, AFilter, APipeline, ASplitJoin, ParamProgram}
 use Rattle.params_model.specs.Meaning.{last_works}
-use Rattle.params_model.specs.Making.{Fault, NameTwice, NotConstant, on_fine, demand, SourceUnit, last_made}
+use Rattle.params_model.specs.declared.fault.Fault.{Fault}
+use Rattle.params_model.specs.declared.fault.Fault.TheVariants.{NameTwice, NotConstant}
+use Rattle.params_model.specs.Making.{on_fine, demand, SourceUnit, last_made}
 use Rattle.params_model.specs.Judged.{Judgement, judged_then, new_names, other_names, statement_judged, block_judged, optional_judged, rates_judged, work_judged, prework_judged, filter_judged, Above, body_judged, unit_judged, units_judged, top_judged, numbered_from, source_units, tail_of}
 use Rattle.params_model.specs.Laws.{Differs, AllDiffer, SparesOnce, SparesAll, SparesOptional, SparesPrework, SparesFilter, IsFine, AreFine, unit_streams, IsFitBody, IsFitProgram, ElaboratedMeans}
 use Rattle.params_model.proofs.Instances.{fine, ok_parts, demanded, elaboration_means}

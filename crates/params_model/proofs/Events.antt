@@ -12,7 +12,10 @@ use Rattle.params_text.specs.Program.{ParamWork, ParamFilter, Step, Add, Loop, S
 use Rattle.params_model.specs.Environment.{Environment, bound, value, option_counts, dealing}
 use Rattle.params_model.specs.Plain.{plain_filter}
 use Rattle.params_model.specs.Judged.{Judgement, no_fault, units_judged, has_none, top_judged, source_units, elaborated_program}
-use Rattle.params_model.specs.Making.{Fault, Top, Range, Budget, Refusal, SourceUnit, Made, nothing_made, on_fine, demand, begin, turn, is_ranged, are_ranged}
+use Rattle.params_model.specs.declared.fault.Fault.{Fault}
+use Rattle.params_model.specs.declared.fault.Fault.TheVariants.{Top, Range, Budget}
+use Rattle.params_model.specs.declared.fault.Refusal.{Refusal}
+use Rattle.params_model.specs.Making.{SourceUnit, Made, nothing_made, on_fine, demand, begin, turn, is_ranged, are_ranged}
 use Rattle.params_model.specs.Making.{is_ranged_option, are_ranged_option, is_ranged_dealing, is_ranged_work, is_ranged_prework, is_ranged_filter, Adding, Added, also}
 use Rattle.params_model.specs.Making.{turns_made, made_once, steps_made, some_adds, children_made, body_made, finish, make, instance, last_made}
 use Rattle.params_model.specs.Events.{Event, Tops, Begins, Goes, Counts, Closes, option_value, option_values, dealing_values, work_values, prework_values, filter_values}

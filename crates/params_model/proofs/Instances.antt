@@ -18,7 +18,11 @@ use Rattle.params_text.specs.Program.{ParamWork, ParamFilter, Step, Add, Loop, S
 use Rattle.params_model.specs.Environment.{Environment, bound, value, option_counts, dealing, rated_work, rated_prework, rated}
 use Rattle.params_model.specs.Meaning.{Child, Streams, children_each_turn, children_once, children, in_line, side_by_side, works_under, stream_works}
 use Rattle.params_model.specs.Plain.{instance_name, plain_filter}
-use Rattle.params_model.specs.Making.{Fault, Budget, Range, Refusal, on_fine, demand, SourceUnit, Made, nothing_made, begin, turn, is_ranged, are_ranged_option, is_ranged_dealing, is_ranged_filter, Adding, Added, also}
+use Rattle.params_model.specs.declared.fault.Fault.{Fault}
+use Rattle.params_model.specs.declared.fault.Fault.TheVariants.{Budget, Range}
+use Rattle.params_model.specs.declared.fault.Refusal.{Refusal}
+use Rattle.params_model.specs.Making.{on_fine, demand, SourceUnit, Made, nothing_made, begin, turn, is_ranged, are_ranged_option}
+use Rattle.params_model.specs.Making.{is_ranged_dealing, is_ranged_filter, Adding, Added, also}
 use Rattle.params_model.specs.Making.{turns_made, made_once, steps_made, some_adds, children_made, body_made, finish, make, instance}
 use Rattle.params_model.specs.Laws.{AllDiffer, SparesOnce, SparesAll, SparesOptional, SparesPrework, SparesFilter, IsFine, AreFine, IsFitStep, AreFitSteps, unit_streams, ElaborationMeans}
 use Rattle.params_model.proofs.Values.{Fits, AllFit, bound_fits, values_fit, small}
@@ -205,6 +209,7 @@ abbrev pub AllAtMost : ℕ → List ℕ → Type 0
 AllAtMost m [] = Unit {0}
 AllAtMost m (v ∷ vs) = (v ≤ m) × AllAtMost m vs
 
+-- numbers in turn are at most the last of them
 pub numbers_at_most : (m v n : ℕ) → v + n ≤ suc m → AllAtMost m (numbers_from v n)
 numbers_at_most m v zero h = tt
 numbers_at_most m v (suc n) h = (omega (arith, h), numbers_at_most m (suc v) n (omega (arith, h)))
@@ -235,6 +240,7 @@ runs_spare env ps t h zero = first t.prework h.prework where
 runs_spare env ps t h (suc j) = h.work
 
 module _ (all : Streams) (add : Adding) (unit : ℕ) (right : Right all add) where
+  -- a turn that is begun keeps the units that were made
   pub turn_grew : (s t : Made) → turn unit s ≡ fine t → Grew s t
   turn_grew s t h =
       let p = ok_parts (demand (nat_lt s.turns 65536) unit Budget) (λ x. fine (record s { turns = suc s.turns })) t h in
@@ -273,6 +279,7 @@ module _ (all : Streams) (add : Adding) (unit : ℕ) (right : Right all add) whe
         (λ v t y le ok e. steps_right ((n, pos v) ∷ env) ss t y (small v (omega (arith, le)), fits) fit ok e)
         (turns_between (value env low) upto (value env high)) s r (turns_small (value env low) (value env high) upto b.1 b.0) few p.2
 
+    -- steps make their children, one after another
     pub steps_right : (env : Environment) (ss : Steps) (s : Made) (r : List Name × Made) → Fits env → AreFitSteps ss → IsSmall s
         → steps_made add unit env ss s ≡ fine r
         → ChildrenBy all (children env ss) s r
@@ -400,6 +407,7 @@ pub record MadeBy (f : Works) (s : Made) (x : Name × Made) : Type 0 where
   pub grew : Grew s x.1
   pub number : number_in x.0 ≡ suc (length before)
 
+-- the stream that is declared last is the newest
 pub all_last : (before : plain.Program) (u : plain.UnitForm)
     → all_work [] (before ++ u ∷ []) ≡ (u.name, body_works (all_work [] before) u.body) ∷ all_work [] before
 all_last before u = all_work-append before (u ∷ []) []

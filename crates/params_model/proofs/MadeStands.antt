@@ -14,7 +14,10 @@ use Rattle.params_text.specs.Program.{Step, Add, Loop, Steps, End, Then, Dealing
 use Rattle.params_model.specs.Environment.{Environment, bound, value, counts_in, option_counts, dealing}
 use Rattle.params_model.specs.Meaning.{Streams, stream_works, last_works}
 use Rattle.params_model.specs.Plain.{instance_name, plain_filter}
-use Rattle.params_model.specs.Making.{Budget, Range, Refusal, on_fine, demand, SourceUnit, Made, nothing_made, begin, turn, is_ranged, are_ranged, are_ranged_option, is_ranged_dealing, is_ranged_filter, Adding, Added, also}
+use Rattle.params_model.specs.declared.fault.Fault.TheVariants.{Budget, Range}
+use Rattle.params_model.specs.declared.fault.Refusal.{Refusal}
+use Rattle.params_model.specs.Making.{on_fine, demand, SourceUnit, Made, nothing_made, begin, turn, is_ranged, are_ranged, are_ranged_option}
+use Rattle.params_model.specs.Making.{is_ranged_dealing, is_ranged_filter, Adding, Added, also}
 use Rattle.params_model.specs.Making.{turns_made, made_once, steps_made, some_adds, children_made, body_made, finish, make, instance, last_made}
 use Rattle.params_model.specs.Laws.{IsFine, AreFine, IsFitStep, AreFitSteps, unit_streams}
 use Rattle.params_model.proofs.Values.{Fits, AllFit, bound_fits, values_fit, small}
@@ -220,6 +223,7 @@ some_append : (us : plain.Program) (u : plain.UnitForm) → IsSome (us ++ u ∷ 
 some_append [] u = tt
 some_append (v ∷ us) u = tt
 
+-- what is made has a unit, and can be told as a text
 pub made_told : (us : List SourceUnit) (m : Made) → AreFine us → AreWritten us → last_made us ≡ Ok m → IsSome m.units × IsToldProgram m.units
 made_told [] m ok w h = absurd (cc h)
 made_told (u ∷ us) m ok w h =

@@ -76,6 +76,7 @@ literal_or_pops : (n : Name) (o : Option ℤ) → pops (literal_or n o) ≡ 0
 literal_or_pops n None = refl
 literal_or_pops n (Some z) = literal_pops z
 
+-- values in the place of names pop as often
 pub put_pops : (env : Environment) (t : Expression) → pops (put_in env t) ≡ pops t
 put_pops env (tree.Number v) = refl
 put_pops env (tree.Name n) = literal_or_pops n (look env n)
@@ -86,6 +87,7 @@ put_pops env (tree.Not t) = put_pops env t
 put_pops env (tree.Bin o a b) = ap (λ k. k + pops (put_in env b)) (put_pops env a) ∙ ap (λ k. pops a + k) (put_pops env b)
 
 module _ (env : Environment) (fits : Fits env) where
+  -- they give the same value
   pub put_said : (t : Expression) (xs : List ℤ) (plain source : Store) (k : ℕ) → Sees env plain source → eval (put_in env t) xs plain k ≡ eval t xs source k
   put_said (tree.Number v) xs plain source k h = refl
   put_said (tree.Name n) xs plain source k h = said_literal_or env n xs plain k fits ∙ sym (h n)
@@ -173,10 +175,12 @@ module _ (env : Environment) (fits : Fits env) where
           (turns_alike (exec_all (put_block env b) xs) (exec_all b xs) n d.0 (λ q t g. all_alike b xs q t d.1 g)
           (turns_between (eval low xs s.values s.popped) upto (eval high xs s.values s.popped)) p s h)
 
+      -- a block does the same
       pub all_alike : (b : Block) (xs : List ℤ) (p s : State) → SparesAll ps b → Alike p s → Alike (exec_all (put_block env b) xs p) (exec_all b xs s)
       all_alike End xs p s d h = h
       all_alike (Then c b) xs p s d h = all_alike b xs _ _ d.1 (once_alike c xs p s d.0 h)
 
+      -- and one that may be left out
       pub optional_alike : (b : Optional) (xs : List ℤ) (p s : State) → SparesOptional ps b → Alike p s
           → Alike (exec_optional (put_optional env b) xs p) (exec_optional b xs s)
       optional_alike Unwritten xs p s d h = h

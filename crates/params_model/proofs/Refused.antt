@@ -14,7 +14,10 @@ use Rattle.params_model.specs.Faults.{IsAmong, IsAbove, IsWrong, spot_fault, IsF
 use Rattle.params_model.specs.Judged.{Judgement, judged_then, no_fault, are_known, all_known, known_option, all_known_option, new_names, other_names, statement_judged}
 use Rattle.params_model.specs.Judged.{block_judged, optional_judged, rates_judged, work_judged, prework_judged, filter_judged, Above, has_arity, is_there}
 use Rattle.params_model.specs.Judged.{step_judged, steps_judged, dealing_judged, body_judged, unit_judged, units_judged}
-use Rattle.params_model.specs.Making.{Fault, UnknownName, Refusal, demand}
+use Rattle.params_model.specs.declared.fault.Fault.{Fault}
+use Rattle.params_model.specs.declared.fault.Fault.TheVariants.{UnknownName}
+use Rattle.params_model.specs.declared.fault.Refusal.{Refusal}
+use Rattle.params_model.specs.Making.{demand}
 use Rattle.params_model.specs.Places.{Spot, Names, Takes, Declares, Sets, Uses, Loops, Adds, Gives, Place, uses, uses_in_all, option_uses, option_all_uses, declared_spots}
 use Rattle.params_model.specs.Places.{statement_spots, block_spots, optional_spots, rate_spots, work_spots, prework_spots, filter_spots, step_spots, steps_spots}
 use Rattle.params_model.specs.Places.{dealing_spots, body_spots, parameter_spots, unit_spots, spots_in_unit, places_from, places_of}

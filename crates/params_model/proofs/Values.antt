@@ -25,10 +25,12 @@ use Rattle.params_model.specs.Plain.{literal, literal_or}
 pub small : (n : ℕ) → n ≤ 9223372036854775807 → IsValue (pos n)
 small n h = grind (arith, h)
 
+-- what a comparison gives is a value
 pub truth_fits : (b : Bool) → IsValue (truth b)
 truth_fits true = small 1 (omega arith)
 truth_fits false = small 0 (omega arith)
 
+-- so is one of two values
 pub if_fits : (b : Bool) (x y : ℤ) → IsValue x → IsValue y → IsValue (if b then x else y)
 if_fits true x y h g = h
 if_fits false x y h g = g
@@ -39,9 +41,11 @@ int_rem_fits (pos n) (negsuc d) h = grind (arith, h)
 int_rem_fits (negsuc n) (pos d) h = grind (arith, h)
 int_rem_fits (negsuc n) (negsuc d) h = grind (arith, h)
 
+-- so is a remainder
 pub rem_fits : (a b : ℤ) → IsValue a → IsValue (rem a b)
 rem_fits a b h = if_fits (int_eq b (pos 0)) (pos 0) (int_rem a b) (small 0 (omega arith)) (int_rem_fits a b h)
 
+-- so is what an operator gives for values
 pub applied_fits : (o : BinOp) (a b : ℤ) → IsValue a → IsValue b → IsValue (applied o a b)
 applied_fits op.Add a b h g = SFits-int_wrap w64 _
 applied_fits op.Sub a b h g = SFits-int_wrap w64 _
@@ -93,6 +97,7 @@ values_fit env (c ∷ cs) h f = (said_fits env c 0 h f.0, values_fit env cs h f.
 
 -- WHAT AN ENVIRONMENT GIVES
 
+-- a name has the value that is found for it
 pub given : (env : Environment) (vs : Store) (n : Name) (z : ℤ) → look env n ≡ Some z → under env vs n ≡ z
 given [] vs n z h = absurd (cc h)
 given (e ∷ env) vs n z h = ⊎_elim

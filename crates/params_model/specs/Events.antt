@@ -8,7 +8,9 @@ use Rattle.streamit_model.specs.Meaning.{turns_between}
 use Rattle.params_text.specs.Program.{ParamWork, ParamFilter, Step, Add, Loop, Steps, End, Then, Dealing, Copies, Turns, Body, AFilter, APipeline, ASplitJoin, ParamProgram}
 use Rattle.params_model.specs.Environment.{Environment, bound, value}
 use Rattle.params_model.specs.Judged.{no_fault, units_judged, source_units, elaborated_program}
-use Rattle.params_model.specs.Making.{UnknownName, Top, Range, Empty, Budget, Refusal, SourceUnit, Made}
+use Rattle.params_model.specs.declared.fault.Fault.TheVariants.{UnknownName, Top, Range, Empty, Budget}
+use Rattle.params_model.specs.declared.fault.Refusal.{Refusal}
+use Rattle.params_model.specs.Making.{SourceUnit, Made}
 
 pub data Event : Type 0 where
   -- the last unit, and its parameters

@@ -6,7 +6,8 @@ use Rattle.river_plan.specs.Forms.{Name}
 use Rattle.streamit_model.specs.Meaning.{look}
 use Rattle.params_text.specs.Program.{ParamProgram}
 use Rattle.params_model.specs.Judged.{Above, units_judged}
-use Rattle.params_model.specs.Making.{Fault, UnknownName, NameTwice, Arity, NotConstant}
+use Rattle.params_model.specs.declared.fault.Fault.{Fault}
+use Rattle.params_model.specs.declared.fault.Fault.TheVariants.{UnknownName, NameTwice, Arity, NotConstant}
 use Rattle.params_model.specs.Places.{Spot, Names, Takes, Declares, Sets, Uses, Loops, Adds, Gives, Place, places_of}
 
 -- the name is one of these

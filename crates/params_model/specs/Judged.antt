@@ -8,7 +8,9 @@ use Rattle.streamit_model.specs.Meaning.{look}
 use Rattle.params_text.specs.Params.{is_one_of}
 use Rattle.params_text.specs.Program.{ParamWork, ParamFilter, Step, Add, Loop, Steps, End, Then}
 use Rattle.params_text.specs.Program.{Dealing, Copies, Turns, Body, AFilter, APipeline, ASplitJoin, UnitForm, ParamProgram}
-use Rattle.params_model.specs.Making.{UnknownName, NameTwice, Arity, NotConstant, Top, Refusal, on_fine, demand, SourceUnit, Made, last_made}
+use Rattle.params_model.specs.declared.fault.Fault.TheVariants.{UnknownName, NameTwice, Arity, NotConstant, Top}
+use Rattle.params_model.specs.declared.fault.Refusal.{Refusal}
+use Rattle.params_model.specs.Making.{on_fine, demand, SourceUnit, Made, last_made}
 
 -- the unit has no fault here, or this is its first one
 abbrev pub Judgement : Type 0

@@ -7,23 +7,11 @@ use Rattle.river_plan.specs.Forms.{Name}
 use Rattle.streamit_model.specs.Meaning.{turns_between}
 use Rattle.streamit_text.specs.Program as plain
 use Rattle.params_text.specs.Program.{ParamWork, ParamFilter, Step, Add, Loop, Steps, End, Then, Dealing, Copies, Turns, Body, AFilter, APipeline, ASplitJoin, UnitForm}
+use Rattle.params_model.specs.declared.fault.Fault.{Fault}
+use Rattle.params_model.specs.declared.fault.Fault.TheVariants.{UnknownName, Range, Empty, Budget}
+use Rattle.params_model.specs.declared.fault.Refusal.{Refusal}
 use Rattle.params_model.specs.Environment.{Environment, bound, value, option_counts, dealing}
 use Rattle.params_model.specs.Plain.{plain_filter, instance_name}
-
-pub data Fault : Type 0 where
-  UnknownName : Fault
-  NameTwice : Fault
-  Arity : Fault
-  NotConstant : Fault
-  Top : Fault
-  Range : Fault
-  Empty : Fault
-  Budget : Fault
-
--- the first fault, and the number of its unit
-pub record Refusal : Type 0 where
-  pub unit : ℕ
-  pub fault : Fault
 
 abbrev pub on_fine : {A B : Type 0} → Result A Refusal → (A → Result B Refusal) → Result B Refusal
 on_fine (Ok x) f = f x

@@ -12,7 +12,6 @@ ghost use Rattle.params_model.specs.Plain.{literal, literal_or, put_in};
 use crate::Bindings;
 use crate::token::tokens;
 use river_base::{Bytes, Name, NoMemory};
-use std::alloc::Global;
 use streamit_text::Expr;
 use text_tokens::{Symbol, Token};
 use work_code::BinOp;
@@ -39,11 +38,10 @@ fn sign_of(op: BinOp) -> Symbol
 }
 
 // Appends the least value, which is no number with its sign turned.
-fn least(alloc: Global, to: &mut Bytes) -> Result<(), NoMemory>
+fn least(to: &mut Bytes) -> Result<(), NoMemory>
     ensures { OnOk result (to.new ≡ to.old ++ spaced (expr_toks (literal least_value))) }
 {
     tokens(
-        alloc,
         &[
             Token::Sign(Symbol::Open),
             Token::Sign(Symbol::Open),
@@ -59,17 +57,16 @@ fn least(alloc: Global, to: &mut Bytes) -> Result<(), NoMemory>
 }
 
 // Appends a value.
-fn literal(alloc: Global, value: i64, to: &mut Bytes) -> Result<(), NoMemory>
+fn literal(value: i64, to: &mut Bytes) -> Result<(), NoMemory>
     ensures { OnOk result (to.new ≡ to.old ++ spaced (expr_toks (literal value))) }
 {
     if value == i64::MIN {
-        return least(alloc, to);
+        return least(to);
     }
     if value >= 0 {
-        return tokens(alloc, &[Token::Number(value as u64)], to);
+        return tokens(&[Token::Number(value as u64)], to);
     }
     tokens(
-        alloc,
         &[
             Token::Sign(Symbol::Open),
             Token::Sign(Symbol::Minus),
@@ -81,51 +78,37 @@ fn literal(alloc: Global, value: i64, to: &mut Bytes) -> Result<(), NoMemory>
 }
 
 // Appends a name, or its value where it has one.
-fn named(alloc: Global, known: &Bindings, name: &Name, to: &mut Bytes) -> Result<(), NoMemory>
+fn named(known: &Bindings, name: &Name, to: &mut Bytes) -> Result<(), NoMemory>
     ensures { OnOk result (to.new ≡ to.old ++ spaced (expr_toks (literal_or name.now (look known.now name.now)))) }
 {
     match known.get(name) {
-        Some(value) => literal(alloc, value, to),
-        None => tokens(alloc, &[Token::Name(name.as_slice())], to),
+        Some(value) => literal(value, to),
+        None => tokens(&[Token::Name(name.as_slice())], to),
     }
 }
 
 // Appends an expression.
 #[cycle(expression)]
 #[tactic(auto, using(crate::proofs::Texts::texts))]
-pub(crate) fn expression(
-    alloc: Global,
-    known: &Bindings,
-    e: &Expr,
-    to: &mut Bytes,
-) -> Result<(), NoMemory>
+pub(crate) fn expression(known: &Bindings, e: &Expr, to: &mut Bytes) -> Result<(), NoMemory>
     ensures { OnOk result (to.new ≡ to.old ++ spaced (expr_toks (put_in known.now (expression e.now)))) }
 {
     let open = Token::Sign(Symbol::Open);
     let close = Token::Sign(Symbol::Close);
     match e {
-        Expr::Number(number) => tokens(alloc, &[Token::Number(*number)], to),
-        Expr::Name(name) => named(alloc, known, name, to),
-        Expr::Peek(inner) => {
-            between(
-                alloc,
-                known,
-                &[Token::Name(b"peek"), open],
-                inner,
-                &[close],
-                to,
-            )
-        }
-        Expr::Pop => tokens(alloc, &[Token::Name(b"pop"), open, close], to),
+        Expr::Number(number) => tokens(&[Token::Number(*number)], to),
+        Expr::Name(name) => named(known, name, to),
+        Expr::Peek(inner) => between(known, &[Token::Name(b"peek"), open], inner, &[close], to),
+        Expr::Pop => tokens(&[Token::Name(b"pop"), open, close], to),
         Expr::Neg(inner) => {
             let minus = Token::Sign(Symbol::Minus);
-            between(alloc, known, &[open, minus], inner, &[close], to)
+            between(known, &[open, minus], inner, &[close], to)
         }
         Expr::Not(inner) => {
             let not = Token::Sign(Symbol::Not);
-            between(alloc, known, &[open, not], inner, &[close], to)
+            between(known, &[open, not], inner, &[close], to)
         }
-        Expr::Bin { op, left, right } => operation(alloc, known, *op, left, right, to),
+        Expr::Bin { op, left, right } => operation(known, *op, left, right, to),
     }
 }
 
@@ -133,7 +116,6 @@ pub(crate) fn expression(
 #[cycle(expression)]
 #[tactic(auto, using(crate::proofs::Texts::texts))]
 fn operation(
-    alloc: Global,
     known: &Bindings,
     op: BinOp,
     left: &Expr,
@@ -143,15 +125,14 @@ fn operation(
     ensures { OnOk result (to.new ≡ to.old ++ spaced (expr_toks (Bin op (put_in known.now (expression left.now)) (put_in known.now (expression right.now))))) }
 {
     let sign = [Token::Sign(sign_of(op))];
-    between(alloc, known, &[Token::Sign(Symbol::Open)], left, &sign, to)?;
-    between(alloc, known, &[], right, &[Token::Sign(Symbol::Close)], to)
+    between(known, &[Token::Sign(Symbol::Open)], left, &sign, to)?;
+    between(known, &[], right, &[Token::Sign(Symbol::Close)], to)
 }
 
 /// Appends an expression between tokens.
 #[cycle(expression)]
 #[tactic(auto, using(crate::proofs::Texts::texts))]
 pub(crate) fn between(
-    alloc: Global,
     known: &Bindings,
     before: &[Token<'_>],
     e: &Expr,
@@ -161,7 +142,7 @@ pub(crate) fn between(
     ensures { OnOk result (to.new ≡ to.old
         ++ spaced (map token_of before.now ++ (expr_toks (put_in known.now (expression e.now)) ++ map token_of behind.now))) }
 {
-    tokens(alloc, before, to)?;
-    expression(alloc, known, e, to)?;
-    tokens(alloc, behind, to)
+    tokens(before, to)?;
+    expression(known, e, to)?;
+    tokens(behind, to)
 }

@@ -6,9 +6,8 @@ ghost use Rattle.text_tokens.specs.Spaced.{spaced};
 ghost use Rattle.params_text.specs.Toks.{other_toks};
 ghost use Rattle.params_print.specs.Heads.{opening_toks, name_written, names_written};
 
-use crate::token::{digits, tokens};
+use crate::token::tokens;
 use river_base::{Bytes, Name, NoMemory};
-use std::alloc::Global;
 use text_tokens::{Symbol, Token};
 
 /// An instance of a stream: the stream's name, and the number of the instance.
@@ -20,23 +19,18 @@ pub struct Instance {
 
 // Appends the name of an instance.
 #[tactic(auto, using(crate::proofs::Texts::joins))]
-fn named(alloc: Global, instance: &Instance, to: &mut Bytes) -> Result<(), NoMemory>
+fn named(instance: &Instance, to: &mut Bytes) -> Result<(), NoMemory>
     ensures { OnOk result (to.new ≡ to.old ++ spaced (tok.name (name_written instance.now) ∷ [])) }
 {
     to.extend(instance.stream.as_slice())?;
     to.extend(b"_")?;
-    digits(alloc, instance.number as u64, to)?;
+    to.put_number(instance.number)?;
     to.extend(b" ")
 }
 
 // Appends the head of a unit.
 #[tactic(auto, using(crate::proofs::Texts::texts))]
-pub(crate) fn head(
-    alloc: Global,
-    kind: &[u8],
-    instance: &Instance,
-    to: &mut Bytes,
-) -> Result<(), NoMemory>
+pub(crate) fn head(kind: &[u8], instance: &Instance, to: &mut Bytes) -> Result<(), NoMemory>
     ensures { OnOk result (to.new ≡ to.old ++ spaced (opening_toks kind.now (name_written instance.now))) }
 {
     let before = [
@@ -45,27 +39,27 @@ pub(crate) fn head(
         Token::Name(b"int"),
         Token::Name(kind),
     ];
-    tokens(alloc, &before, to)?;
-    named(alloc, instance, to)?;
-    tokens(alloc, &[Token::Sign(Symbol::OpenBrace)], to)
+    tokens(&before, to)?;
+    named(instance, to)?;
+    tokens(&[Token::Sign(Symbol::OpenBrace)], to)
 }
 
 // Appends the last token of a unit.
-pub(crate) fn end(alloc: Global, to: &mut Bytes) -> Result<(), NoMemory>
+pub(crate) fn end(to: &mut Bytes) -> Result<(), NoMemory>
     ensures { OnOk result (to.new ≡ to.old ++ spaced (tok.symbol s.CloseBrace ∷ [])) }
 {
-    tokens(alloc, &[Token::Sign(Symbol::CloseBrace)], to)
+    tokens(&[Token::Sign(Symbol::CloseBrace)], to)
 }
 
 // Appends an `add` for each instance.
 #[tactic(auto, using(crate::proofs::Texts::texts))]
-pub(crate) fn adds(alloc: Global, children: &[Instance], to: &mut Bytes) -> Result<(), NoMemory>
+pub(crate) fn adds(children: &[Instance], to: &mut Bytes) -> Result<(), NoMemory>
     ensures { OnOk result (to.new ≡ to.old ++ spaced (other_toks (names_written children.now))) }
 {
     'children: for each in children {
-        tokens(alloc, &[Token::Name(b"add")], to)?;
-        named(alloc, each, to)?;
-        tokens(alloc, &[Token::Sign(Symbol::Semicolon)], to)?;
+        tokens(&[Token::Name(b"add")], to)?;
+        named(each, to)?;
+        tokens(&[Token::Sign(Symbol::Semicolon)], to)?;
     }
     Ok(())
 }

@@ -10,7 +10,6 @@ use crate::Bindings;
 use crate::expression::between;
 use crate::token::tokens;
 use river_base::{Bytes, Name, NoMemory};
-use std::alloc::Global;
 use streamit_text::{Block, Expr, Statement, Until};
 use text_tokens::{Symbol, Token};
 
@@ -27,7 +26,6 @@ fn below(until: Until) -> Symbol
 // Appends a declaration.
 #[tactic(auto, using(crate::proofs::Texts::texts))]
 fn declare(
-    alloc: Global,
     known: &Bindings,
     name: &Name,
     value: &Option<Expr>,
@@ -42,7 +40,7 @@ fn declare(
                 Token::Name(name.as_slice()),
                 Token::Sign(Symbol::Semicolon),
             ];
-            tokens(alloc, &all, to)
+            tokens(&all, to)
         }
         Some(e) => {
             let before = [
@@ -50,14 +48,7 @@ fn declare(
                 Token::Name(name.as_slice()),
                 Token::Sign(Symbol::Assign),
             ];
-            between(
-                alloc,
-                known,
-                &before,
-                e,
-                &[Token::Sign(Symbol::Semicolon)],
-                to,
-            )
+            between(known, &before, e, &[Token::Sign(Symbol::Semicolon)], to)
         }
     }
 }
@@ -65,7 +56,6 @@ fn declare(
 // Appends the head of a loop.
 #[tactic(auto, using(crate::proofs::Texts::texts))]
 fn head(
-    alloc: Global,
     known: &Bindings,
     name: &Name,
     low: &Expr,
@@ -90,51 +80,31 @@ fn head(
         Token::Sign(Symbol::Increment),
         Token::Sign(Symbol::Close),
     ];
-    between(
-        alloc,
-        known,
-        &before,
-        low,
-        &[Token::Sign(Symbol::Semicolon)],
-        to,
-    )?;
-    between(alloc, known, &test, high, &next, to)
+    between(known, &before, low, &[Token::Sign(Symbol::Semicolon)], to)?;
+    between(known, &test, high, &next, to)
 }
 
 // Appends an assignment.
 #[tactic(auto, using(crate::proofs::Texts::texts))]
-fn assign(
-    alloc: Global,
-    known: &Bindings,
-    name: &Name,
-    value: &Expr,
-    to: &mut Bytes,
-) -> Result<(), NoMemory>
+fn assign(known: &Bindings, name: &Name, value: &Expr, to: &mut Bytes) -> Result<(), NoMemory>
     ensures { OnOk result (to.new ≡ to.old ++ spaced (statement_toks (Assign name.now (put_in known.now (expression value.now))))) }
 {
     let before = [Token::Name(name.as_slice()), Token::Sign(Symbol::Assign)];
-    between(
-        alloc,
-        known,
-        &before,
-        value,
-        &[Token::Sign(Symbol::Semicolon)],
-        to,
-    )
+    between(known, &before, value, &[Token::Sign(Symbol::Semicolon)], to)
 }
 
 // Appends a push.
 #[tactic(auto, using(crate::proofs::Texts::texts))]
-fn push(alloc: Global, known: &Bindings, value: &Expr, to: &mut Bytes) -> Result<(), NoMemory>
+fn push(known: &Bindings, value: &Expr, to: &mut Bytes) -> Result<(), NoMemory>
     ensures { OnOk result (to.new ≡ to.old ++ spaced (statement_toks (Push (put_in known.now (expression value.now))))) }
 {
     let before = [Token::Name(b"push"), Token::Sign(Symbol::Open)];
     let behind = [Token::Sign(Symbol::Close), Token::Sign(Symbol::Semicolon)];
-    between(alloc, known, &before, value, &behind, to)
+    between(known, &before, value, &behind, to)
 }
 
 // Appends a pop.
-fn discard(alloc: Global, to: &mut Bytes) -> Result<(), NoMemory>
+fn discard(to: &mut Bytes) -> Result<(), NoMemory>
     ensures { OnOk result (to.new ≡ to.old ++ spaced (statement_toks Discard)) }
 {
     let all = [
@@ -143,38 +113,33 @@ fn discard(alloc: Global, to: &mut Bytes) -> Result<(), NoMemory>
         Token::Sign(Symbol::Close),
         Token::Sign(Symbol::Semicolon),
     ];
-    tokens(alloc, &all, to)
+    tokens(&all, to)
 }
 
 // Appends the condition of an `if`.
 #[tactic(auto, using(crate::proofs::Texts::texts))]
-fn condition(alloc: Global, known: &Bindings, e: &Expr, to: &mut Bytes) -> Result<(), NoMemory>
+fn condition(known: &Bindings, e: &Expr, to: &mut Bytes) -> Result<(), NoMemory>
     ensures { OnOk result (to.new ≡ to.old ++ spaced (if_toks (put_in known.now (expression e.now)))) }
 {
     let before = [Token::Name(b"if"), Token::Sign(Symbol::Open)];
-    between(alloc, known, &before, e, &[Token::Sign(Symbol::Close)], to)
+    between(known, &before, e, &[Token::Sign(Symbol::Close)], to)
 }
 
 // Appends a statement.
 #[cycle(statement)]
 #[tactic(auto, using(crate::proofs::Texts::statements))]
-fn statement(
-    alloc: Global,
-    known: &Bindings,
-    one: &Statement,
-    to: &mut Bytes,
-) -> Result<(), NoMemory>
+fn statement(known: &Bindings, one: &Statement, to: &mut Bytes) -> Result<(), NoMemory>
     ensures { OnOk result (to.new ≡ to.old ++ spaced (statement_toks (put_statement known.now (statement one.now)))) }
 {
     match one {
-        Statement::Declare { name, value } => declare(alloc, known, name, value, to),
-        Statement::Assign { name, value } => assign(alloc, known, name, value, to),
-        Statement::Push(value) => push(alloc, known, value, to),
-        Statement::Pop => discard(alloc, to),
+        Statement::Declare { name, value } => declare(known, name, value, to),
+        Statement::Assign { name, value } => assign(known, name, value, to),
+        Statement::Push(value) => push(known, value, to),
+        Statement::Pop => discard(to),
         Statement::If { cond, yes, no } => {
-            condition(alloc, known, cond, to)?;
-            block(alloc, known, yes, to)?;
-            otherwise(alloc, known, no, to)
+            condition(known, cond, to)?;
+            block(known, yes, to)?;
+            otherwise(known, no, to)
         }
         Statement::For {
             name,
@@ -183,8 +148,8 @@ fn statement(
             high,
             body,
         } => {
-            head(alloc, known, name, low, *until, high, to)?;
-            block(alloc, known, body, to)
+            head(known, name, low, *until, high, to)?;
+            block(known, body, to)
         }
     }
 }
@@ -192,19 +157,14 @@ fn statement(
 // Appends the second arm, where there is one.
 #[cycle(statement)]
 #[tactic(auto, using(crate::proofs::Texts::blocks))]
-fn otherwise(
-    alloc: Global,
-    known: &Bindings,
-    no: &Option<Block>,
-    to: &mut Bytes,
-) -> Result<(), NoMemory>
+fn otherwise(known: &Bindings, no: &Option<Block>, to: &mut Bytes) -> Result<(), NoMemory>
     ensures { OnOk result (to.new ≡ to.old ++ spaced (else_toks (put_optional known.now (optional_block no.now)))) }
 {
     match no {
         None => Ok(()),
         Some(all) => {
-            tokens(alloc, &[Token::Name(b"else")], to)?;
-            block(alloc, known, all, to)
+            tokens(&[Token::Name(b"else")], to)?;
+            block(known, all, to)
         }
     }
 }
@@ -212,17 +172,12 @@ fn otherwise(
 /// Appends a block.
 #[cycle(statement)]
 #[tactic(auto, using(crate::proofs::Texts::blocks))]
-pub(crate) fn block(
-    alloc: Global,
-    known: &Bindings,
-    all: &Block,
-    to: &mut Bytes,
-) -> Result<(), NoMemory>
+pub(crate) fn block(known: &Bindings, all: &Block, to: &mut Bytes) -> Result<(), NoMemory>
     ensures { OnOk result (to.new ≡ to.old ++ spaced (block_toks (put_block known.now (block all.now)))) }
 {
-    tokens(alloc, &[Token::Sign(Symbol::OpenBrace)], to)?;
+    tokens(&[Token::Sign(Symbol::OpenBrace)], to)?;
     'items: for each in all.items.as_slice() {
-        statement(alloc, known, each, to)?;
+        statement(known, each, to)?;
     }
-    tokens(alloc, &[Token::Sign(Symbol::CloseBrace)], to)
+    tokens(&[Token::Sign(Symbol::CloseBrace)], to)
 }

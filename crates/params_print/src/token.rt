@@ -1,12 +1,10 @@
 // Tokens written out, each with a blank behind it.
 ghost use Rattle.std.specs.Prelude.{◌≡◌, ◌++◌, map, OnOk};
-ghost use Rattle.std.specs.Fmt.{decimal};
 ghost use Rattle.text_tokens.specs.Symbols.{symbol_bytes};
 ghost use Rattle.text_tokens.specs.Tok.{token_of};
 ghost use Rattle.text_tokens.specs.Spaced.{token_bytes, spaced};
 
 use river_base::{Bytes, NoMemory};
-use std::alloc::Global;
 use text_tokens::{Symbol, Token};
 
 // The bytes of a symbol.
@@ -45,17 +43,9 @@ fn bytes_of(symbol: Symbol) -> &'static [u8]
     }
 }
 
-// Appends a number in decimal.
-pub(crate) fn digits(alloc: Global, number: u64, to: &mut Bytes) -> Result<(), NoMemory>
-    ensures { OnOk result (to.new ≡ to.old ++ decimal number) }
-{
-    let text = number.to_string(alloc)?;
-    to.extend(text.as_bytes())
-}
-
 // Appends a token.
 #[tactic(auto, using(crate::proofs::Texts::joins))]
-fn token(alloc: Global, token: &Token<'_>, to: &mut Bytes) -> Result<(), NoMemory>
+fn token(token: &Token<'_>, to: &mut Bytes) -> Result<(), NoMemory>
     ensures { OnOk result (to.new ≡ to.old ++ token_bytes (token_of token.now)) }
 {
     match *token {
@@ -64,18 +54,18 @@ fn token(alloc: Global, token: &Token<'_>, to: &mut Bytes) -> Result<(), NoMemor
             to.extend(b"$")?;
             to.extend(text)
         }
-        Token::Number(number) => digits(alloc, number, to),
+        Token::Number(number) => to.put_number(number),
         Token::Sign(symbol) => to.extend(bytes_of(symbol)),
     }
 }
 
 /// Appends tokens, each with a blank behind it.
 #[tactic(auto, using(crate::proofs::Texts::joins))]
-pub(crate) fn tokens(alloc: Global, all: &[Token<'_>], to: &mut Bytes) -> Result<(), NoMemory>
+pub(crate) fn tokens(all: &[Token<'_>], to: &mut Bytes) -> Result<(), NoMemory>
     ensures { OnOk result (to.new ≡ to.old ++ spaced (map token_of all.now)) }
 {
     'all: for each in all {
-        token(alloc, each, to)?;
+        token(each, to)?;
         to.extend(b" ")?;
     }
     Ok(())

@@ -15,12 +15,10 @@ use crate::round::{join, split};
 use crate::{Bindings, Instance};
 use params_text::{ParamFilter, ParamSplitJoin};
 use river_base::{Bytes, NoMemory};
-use std::alloc::Global;
 
 /// Appends the unit of an instance of a filter under values.
 #[tactic(auto, using(crate::proofs::Texts::texts))]
 pub fn print_filter(
-    alloc: Global,
     instance: &Instance,
     known: &Bindings,
     tree: &ParamFilter,
@@ -30,15 +28,14 @@ pub fn print_filter(
     ensures { OnOk result (to.new ≡ to.old
         ++ spaced (unit_toks (record { name = name_written instance.now; body = AFilter (plain_filter known.now (filter_of tree.now)) }))) }
 {
-    head(alloc, b"filter", instance, to)?;
-    filter(alloc, known, tree, to)?;
-    end(alloc, to)
+    head(b"filter", instance, to)?;
+    filter(known, tree, to)?;
+    end(to)
 }
 
 /// Appends the unit of an instance of a pipeline, which adds these instances.
 #[tactic(auto, using(crate::proofs::Texts::texts))]
 pub fn print_pipeline(
-    alloc: Global,
     instance: &Instance,
     children: &[Instance],
     to: &mut Bytes,
@@ -46,15 +43,14 @@ pub fn print_pipeline(
     ensures { (a : Adds) → names_written children.now ≡ a.first ∷ a.others
         → OnOk result (to.new ≡ to.old ++ spaced (unit_toks (record { name = name_written instance.now; body = APipeline a }))) }
 {
-    head(alloc, b"pipeline", instance, to)?;
-    adds(alloc, children, to)?;
-    end(alloc, to)
+    head(b"pipeline", instance, to)?;
+    adds(children, to)?;
+    end(to)
 }
 
 /// Appends the unit of an instance of a split-join under values, which adds these instances.
 #[tactic(auto, using(crate::proofs::Texts::texts))]
 pub fn print_split_join(
-    alloc: Global,
     instance: &Instance,
     known: &Bindings,
     tree: &ParamSplitJoin,
@@ -71,9 +67,9 @@ pub fn print_split_join(
               (option_counts known.now (rounds_of tree.now.join));
         }))) }
 {
-    head(alloc, b"splitjoin", instance, to)?;
-    split(alloc, known, &tree.split, to)?;
-    adds(alloc, children, to)?;
-    join(alloc, known, &tree.join, to)?;
-    end(alloc, to)
+    head(b"splitjoin", instance, to)?;
+    split(known, &tree.split, to)?;
+    adds(children, to)?;
+    join(known, &tree.join, to)?;
+    end(to)
 }

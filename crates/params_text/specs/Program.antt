@@ -17,6 +17,7 @@ use Rattle.params_text.specs.declared.program.ParamSplit.{ParamSplit}
 use Rattle.params_text.specs.declared.program.ParamSplit.TheVariants as split
 use Rattle.params_text.specs.declared.program.ParamBody.{ParamBody}
 use Rattle.params_text.specs.declared.program.ParamBody.TheVariants as body
+use Rattle.params_text.specs.declared.program.ParamProgram as code_program
 use Rattle.params_text.specs.declared.program.Unit as code_unit
 
 -- `work` or `prework`: its rates, which are expressions and may be left out, and its block
@@ -112,3 +113,6 @@ unit_form u = record { name = u.name; params = u.params.items; body = body_of u.
 
 abbrev pub unit_forms : List code_unit.Unit → ParamProgram
 unit_forms us = map unit_form us
+
+abbrev pub program_of : code_program.ParamProgram → ParamProgram
+program_of p = unit_forms p.units.items

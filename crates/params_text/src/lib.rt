@@ -17,8 +17,8 @@ mod unit;
 pub use known::Parameters;
 pub use parameters::WithParameters;
 pub use program::{
-    ParamBody, ParamFilter, ParamRates, ParamSplit, ParamSplitJoin, ParamWork, Rounds, Step, Steps,
-    Unit,
+    ParamBody, ParamFilter, ParamProgram, ParamRates, ParamSplit, ParamSplitJoin, ParamWork,
+    Rounds, Step, Steps, Unit,
 };
 pub use read::read_params;
 pub use step::StepWords;

@@ -4,6 +4,13 @@ ghost use Rattle.std.specs.Prelude.{◌≤◌, length};
 use river_base::Name;
 use streamit_text::{Block, Expr, Until};
 
+/// A program as it is written: streams that are declared one after another, with whole numbers as
+/// parameters. The last of them, which has none, is run.
+#[derive(Drop)]
+pub struct ParamProgram {
+    pub units: Vec<Unit>,
+}
+
 /// A unit of a program: a stream that is declared, with its parameters. Its name has at most 32
 /// bytes.
 #[derive(Drop)]

@@ -1,7 +1,8 @@
 use Rattle.std.proofs.Common.{◌≡◌, not, drop, sym, ap, ◌∙◌, arith, rules, true, drop-cons, suc, ◌∷◌}
 use Rattle.params_text.specs.Params.{is_one_of}
 use Rattle.params_model.specs.Judged.{judged_then, other_names}
-use Rattle.params_model.specs.Making.{NameTwice, demand}
+use Rattle.params_model.specs.declared.fault.Fault.TheVariants.{NameTwice}
+use Rattle.params_model.specs.Making.{demand}
 use Rattle.params_build.proofs.filter.other_names.Goals as goal
 
 pub returns-then-has : goal.returns-then-has

@@ -1,6 +1,7 @@
 use Rattle.std.proofs.Common.{◌≡◌, true, false, length, ap, ◌∙◌, arith, rules}
 use Rattle.params_model.specs.Judged.{has_none}
-use Rattle.params_model.specs.Making.{Top, demand}
+use Rattle.params_model.specs.declared.fault.Fault.TheVariants.{Top}
+use Rattle.params_model.specs.Making.{demand}
 use Rattle.params_build.proofs.Last.{top-none, top-at, has-none, has-some}
 use Rattle.params_build.proofs.judge.top.Goals as goal
 

@@ -2,8 +2,8 @@ use Rattle.std.proofs.Common.{◌≡◌, sym, ◌∙◌, arith, subst}
 use Rattle.params_text.specs.Program.{step_of}
 use Rattle.params_text.proofs.StepTrees.{steps-are}
 use Rattle.params_model.specs.Judged.{Judgement, no_fault, step_judged}
-use Rattle.params_build.specs.Told.{Told}
-use Rattle.params_build.proofs.Judging.{told-first, passed-over, steps-place, steps-end}
+use Rattle.params_build.specs.Judging.{IsWhyRefused, refused_in}
+use Rattle.params_build.proofs.Judging.{refused-first, passed-over, steps-place, steps-end}
 use Rattle.params_build.proofs.step.+judged.Goals as goal
 
 pub steps-items-preserved : goal.steps-items-preserved
@@ -31,8 +31,9 @@ steps-returns-in-Err-clause-judged t c =
     let items = c.as_slice-each-items.result.now in
     let i = c.items.each-index in
     let ks = c.args.known.now in
-    let f = c.in-Err.fault in
+    let e = c.in-Err.why in
     λ k us h. rw (steps-are c.args.all.now, ← c.as_slice-each-items.ensures.value)
-    (subst (λ (j : Judgement). Told k f j) (sym (steps-place k us ks items i c.each-item.result (omega arith) c.each-item.is) ∙ c.items.invariant.judged k us h)
-    (told-first k f (step_judged k us ks (step_of c.each-item.result)) _
-    (subst (λ ns. Told k f (step_judged k us ns (step_of c.each-item.result))) c.items.invariant.kept (c.in-Err.ensures.judged k us h))))
+    (subst (λ (j : Judgement). IsWhyRefused j (refused_in k e))
+    (sym (steps-place k us ks items i c.each-item.result (omega arith) c.each-item.is) ∙ c.items.invariant.judged k us h)
+    (refused-first k e (step_judged k us ks (step_of c.each-item.result)) _
+    (subst (λ ns. IsWhyRefused (step_judged k us ns (step_of c.each-item.result)) (refused_in k e)) c.items.invariant.kept (c.in-Err.ensures.judged k us h))))

@@ -6,8 +6,9 @@ use Rattle.params_text.specs.Program.{steps_in_turn, step_of, steps_of, expressi
 use Rattle.params_text.proofs.StepTrees.{steps-are, step-loop}
 use Rattle.params_model.specs.Constants.{HaveFitConstants}
 use Rattle.params_model.specs.Environment.{dealing, option_counts, value}
-use Rattle.params_model.specs.Making.{Range, begin, demand, are_ranged_option, made_once, steps_made, turns_made}
-use Rattle.params_build.specs.Told.{Told}
+use Rattle.params_model.specs.declared.fault.Fault.TheVariants.{Range}
+use Rattle.params_model.specs.Making.{begin, demand, are_ranged_option, made_once, steps_made, turns_made}
+use Rattle.params_build.specs.Judging.{IsWhyRefused}
 use Rattle.std.specs.Prelude.{IsTrue}
 use Rattle.streamit_model.proofs.Numbers.{numbers_more}
 use Rattle.river_base.proofs.Lists.{map_next, map_none}
@@ -85,9 +86,9 @@ steps-returns-in-Err-clause-made t c = λ m h.
     let at = map_next step_of items i step (omega arith) c.each-item.is in
     let rest = λ (l : List Step). steps_made add k env (steps_in_turn l) in
     let same = ap (λ l. steps_in_turn (map step_of l)) c.as_slice-each-items.ensures.value ∙ sym (steps-are c.args.steps.now) in
-    let e = c.in-Err.refusal in
+    let e = c.in-Err.why in
     let f = c.items.invariant.far m h in
-    subst (λ ss. Told e.unit e.fault (steps_made add k env ss m)) same
+    subst (λ ss. IsWhyRefused (steps_made add k env ss m) e) same
     (so-fault (rest (map step_of items) m) (λ g. made_once add k g (step_of step)) (rest (map step_of (drop i items))) (rest (map step_of (drop (i + 1) items)))
     c.args.scope.now c.items.scope c.items.self e (λ q. ap (λ l. rest l q) at) f (c.in-Err.ensures.made f.made f.stands))
 
@@ -148,7 +149,7 @@ turns-returns-in-Err-clause-made t c = λ m h.
     let f = turn_steps add k c.args.scope.now.known name ss in
     let far = c.range.invariant.far m h in
     let lt : v < end = search rules in
-    let e = c.in-Err.refusal in
+    let e = c.in-Err.why in
     so-fault (turns_made k f (numbers_from low (end - low)) m) (λ g. turn_made k (turn_steps add k g name ss) v) (turns_made k f (numbers_from v (end - v)))
     (turns_made k f (numbers_from (v + 1) (end - (v + 1))))
     c.args.scope.now c.range.scope c.range.self e

@@ -1,5 +1,6 @@
 use Rattle.std.proofs.Common.{◌≡◌, suc, length, Ok, subst}
-use Rattle.params_model.specs.Making.{Budget, demand}
+use Rattle.params_model.specs.declared.fault.Fault.TheVariants.{Budget}
+use Rattle.params_model.specs.Making.{demand}
 use Rattle.params_front.proofs.Parts.{begun-stands}
 use Rattle.params_front.proofs.making.Making.begin.Goals as goal
 
