@@ -4,7 +4,7 @@ ghost use Rattle.kern_tables.specs.Kept.{rows_of};
 ghost use Rattle.river_plan.specs.Valid.{IsPlan};
 ghost use Rattle.brooklet_model.specs.Histories.{firings};
 ghost use Rattle.brooklet_model.specs.Meaning.{meaning};
-ghost use Rattle.brooklet_step.specs.Drained.{IsDrained, Follows, RunsOn, DrainedBefore, HasPorts, HasRun};
+ghost use Rattle.brooklet_step.specs.Drained.{IsDrained, Follows, RunsOn, DrainedBefore, HasPorts, StandsAfterSomeRun};
 ghost use Rattle.brooklet_model.specs.Fit.{Fit};
 ghost use Rattle.brooklet_step.specs.Tables.{defined_tables};
 
@@ -49,7 +49,7 @@ pub fn run_lines(alloc: Global, plan: &Plan, inputs: Lines) -> Result<Outcome, N
 fn run_all(alloc: Global, plan: &Plan, machine: &mut Machine) -> Result<(), NoMemory>
     requires plan { machine.old.plan ≡ plan.now }
     requires running { machine.old.stopped ≡ false }
-    requires ran { HasRun machine.old }
+    requires ran { StandsAfterSomeRun machine.old }
     ensures valid { IsPlan plan.now }
     ensures drained { OnOk result (DrainedBefore machine.old machine.new (length plan.now.ops)) }
 {
@@ -64,7 +64,7 @@ fn run_rounds(alloc: Global, plan: &Plan, machine: &mut Machine, ops: u32) -> Re
     requires valid { IsPlan plan.now }
     requires plan { machine.old.plan ≡ plan.now }
     requires running { machine.old.stopped ≡ false }
-    requires ran { HasRun machine.old }
+    requires ran { StandsAfterSomeRun machine.old }
     ensures { OnOk result (RunsOn machine.old machine.new) }
 {
     for _round in 0..usize::MAX {
@@ -81,7 +81,7 @@ fn run_round(alloc: Global, plan: &Plan, machine: &mut Machine, ops: u32) -> Res
     requires valid { IsPlan plan.now }
     requires plan { machine.old.plan ≡ plan.now }
     requires running { machine.old.stopped ≡ false }
-    requires ran { HasRun machine.old }
+    requires ran { StandsAfterSomeRun machine.old }
     ensures { OnOk result (RunsOn machine.old machine.new) }
 {
     let mut fired = false;
@@ -98,7 +98,7 @@ fn run_round(alloc: Global, plan: &Plan, machine: &mut Machine, ops: u32) -> Res
 fn take_turns(alloc: Global, machine: &mut Machine, op: u32, ports: u32) -> Result<bool, NoMemory>
     requires valid { IsPlan machine.old.plan }
     requires running { machine.old.stopped ≡ false }
-    requires ran { HasRun machine.old }
+    requires ran { StandsAfterSomeRun machine.old }
     ensures { OnOk result (RunsOn machine.old machine.new) }
 {
     let mut fired = false;
@@ -116,7 +116,7 @@ fn drain_all(alloc: Global, plan: &Plan, machine: &mut Machine, ops: u32) -> Res
     requires valid { IsPlan plan.now }
     requires plan { machine.old.plan ≡ plan.now }
     requires running { machine.old.stopped ≡ false }
-    requires ran { HasRun machine.old }
+    requires ran { StandsAfterSomeRun machine.old }
     ensures { OnOk result (DrainedBefore machine.old machine.new (length plan.now.ops)) }
 {
     for op in 0..ops {
@@ -146,7 +146,7 @@ fn port_count(plan: &Plan, op: u32) -> u32
 fn run_op(alloc: Global, machine: &mut Machine, op: u32, ports: u32) -> Result<(), NoMemory>
     requires valid { IsPlan machine.old.plan }
     requires running { machine.old.stopped ≡ false }
-    requires ran { HasRun machine.old }
+    requires ran { StandsAfterSomeRun machine.old }
     ensures follows { OnOk result (Follows machine.old machine.new op) }
     ensures drained { OnOk result ((port : ℕ) → port < ports → IsDrained machine.new op port) }
 {
@@ -160,7 +160,7 @@ fn run_op(alloc: Global, machine: &mut Machine, op: u32, ports: u32) -> Result<(
 fn run_port(alloc: Global, machine: &mut Machine, op: u32, port: u32) -> Result<(), NoMemory>
     requires valid { IsPlan machine.old.plan }
     requires running { machine.old.stopped ≡ false }
-    requires ran { HasRun machine.old }
+    requires ran { StandsAfterSomeRun machine.old }
     ensures follows { OnOk result (Follows machine.old machine.new op) }
     ensures drained { OnOk result (IsDrained machine.new op port) }
 {

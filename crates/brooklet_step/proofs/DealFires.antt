@@ -119,6 +119,27 @@ deal_needs ws i s old out e t =
 gave : {place : ℕ} {c : Change} {old new : List Debt} {g : item.Item} (h : DealsAsChange place c old new g) → g ≡ Flat (Changed h.deals.given)
 gave h = h.is ∙ ap (λ f. Flat f) h.deals.is
 
+-- where one list is given an item, each queue holds what came there
+sent_held : (t : QueueType) (place : ℕ) (g : item.Item) (xs : List item.Item) (prev : ℕ → List item.Item) → held t (prev place) xs ≡ g ∷ [] → (p : ℕ)
+    → only place (g ∷ []) p ≡ held t (prev p) (only place xs p)
+sent_held t place g xs prev e p = ⊎_elim
+    (λ q. subst (λ j. only place (g ∷ []) j ≡ held t (prev j) (only place xs j)) q
+    (only_same place (g ∷ []) ∙ sym e ∙ ap (held t (prev place)) (sym (only_same place xs))))
+    (λ q. only_other place p (g ∷ []) (λ z. q (sym z)) ∙ sym (held-nil t (prev p)) ∙ ap (held t (prev p)) (sym (only_other place p xs (λ z. q (sym z)))))
+    (cases_eq place p)
+
+-- where one list is given a batch, its content is that of the batch, and the others' are as they were
+content_after : (place : ℕ) (b : Batch) (prev : ℕ → List item.Item) (p : ℕ)
+    → content_from (content_from [] (prev p)) (only place (Flat (Batched b) ∷ []) p) ≡ but_at place b.rows (λ q. content_from [] (prev q)) p
+content_after place b prev p =
+    let last : ℕ → List (List ℤ) = λ q. content_from [] (prev q) in
+    let xs : List item.Item = Flat (Batched b) ∷ [] in
+    ⊎_elim
+    (λ q. subst (λ j. content_from (last j) (only place xs j) ≡ but_at place b.rows last j) q
+    (ap (content_from (last place)) (only_same place xs) ∙ sym (if_eq place place b.rows (last place) refl)))
+    (λ q. ap (content_from (last p)) (only_other place p xs (λ z. q (sym z))) ∙ sym (if_ne place p b.rows (last p) q))
+    (cases_eq place p)
+
 -- A FIRING
 
 module _ (ws : List ℤ) (i g : item.Item) (s s' : State) (old new : Dealt) (out out' : Emit) (room : HasLists (deal ws) out) (es : s ≡ state.Deal old)
@@ -262,20 +283,11 @@ module _ (ws : List ℤ) (i g : item.Item) (s s' : State) (old new : Dealt) (out
           fired_is (T ∷ []) start w sa x
           ∙ ap (λ (y : item.Item). gives place (y ∷ [])
           (Turn (next_port (shares ws) place old.turn.had) (next_had (shares ws) place old.turn.had) ∷ [])) xb.is in
-          let at_is : (p : ℕ) → only place (g ∷ []) p ≡ held T (prev p) (only place xs p) = λ p. ⊎_elim
-          (λ q. subst (λ j. only place (g ∷ []) j ≡ held T (prev j) (only place xs j)) q
-          (only_same place (g ∷ []) ∙ ap (λ (y : item.Item). y ∷ []) (gave like) ∙ sym (content_held n (prev place) b d r.0)
-          ∙ ap (held T (prev place)) (sym (only_same place xs))))
-          (λ q. only_other place p (g ∷ []) (λ z. q (sym z)) ∙ sym (held-nil T (prev p)) ∙ ap (held T (prev p)) (sym (only_other place p xs (λ z. q (sym z)))))
-          (cases_eq place p) in
+          let at_is = sent_held T place g xs prev (content_held n (prev place) b d r.0 ∙ ap (λ (y : item.Item). y ∷ []) (sym (gave like))) in
           let more = ran_more (deal ws) start w 0 x in
           let after : (p : ℕ) → content_from [] ((ran_from (deal ws) start (w ++ (0, x) ∷ [])).outs p) ≡ but_at place b.rows last p = λ p.
           ap (content_from []) (more.outs p ∙ ap (λ (u : Fired). prev p ++ u.outs p) fired) ∙ content-append [] (prev p) (only place xs p)
-          ∙ ⊎_elim
-          (λ q. subst (λ j. content_from (last j) (only place xs j) ≡ but_at place b.rows last j) q
-          (ap (content_from (last place)) (only_same place xs) ∙ sym (if_eq place place b.rows (last place) refl)))
-          (λ q. ap (content_from (last p)) (only_other place p xs (λ z. q (sym z))) ∙ sym (if_ne place p b.rows (last p) q))
-          (cases_eq place p) in
+          ∙ content_after place b prev p in
           let next : content_from [] (at_port 0 (w ++ (0, x) ∷ [])) ≡ b.rows =
           ap (content_from []) (at_next 0 w x ∙ ap (λ (y : item.Item). at_port 0 w ++ y ∷ []) xb.is) ∙ content-append [] (at_port 0 w) xs in (
             record {

@@ -1,5 +1,5 @@
 -- Firings after others: packs, and two kernels as one.
-use Rattle.std.proofs.Common.{◌≡◌, ℕ, zero, suc, ◌+◌, ◌-◌, ◌<◌, List, [], ◌∷◌, ◌++◌, length, take, drop, replicate, refl, sym, ap, ◌∙◌, subst, arith, ⊎_elim}
+use Rattle.std.proofs.Common.{◌≡◌, ℕ, ℤ, zero, suc, ◌+◌, ◌-◌, ◌<◌, List, [], ◌∷◌, ◌++◌, length, take, drop, replicate, refl, sym, ap, ◌∙◌, subst, arith, ⊎_elim}
 use Rattle.std.specs.Prelude.{All, slice_get, Some}
 use Rattle.std.proofs.lemmas.Bool.{cases_lt}
 use Rattle.std.proofs.lemmas.List.Elements.{All-head, All-tail, All-cons, All-nil}
@@ -22,8 +22,8 @@ use Rattle.river_kernels.specs.Kern.{Kern, packed, fused}
 use Rattle.brooklet_model.specs.Firings.{Kept, Fired, Same, feed, splice, beside, fused_of, gives}
 use Rattle.brooklet_model.specs.Fire.{fire, outs, tabs, privates}
 use Rattle.brooklet_model.specs.Shapes.{IsShaped, HasShape}
-use Rattle.brooklet_model.specs.Typed.{IsTyped, IsStart, Holds, between, widths_in, IsWide}
-use Rattle.brooklet_model.specs.Words.{Word, run, word_of}
+use Rattle.brooklet_model.specs.Typed.{IsOf, IsTyped, IsWordOf, IsStart, Holds, between, widths_in, IsWide}
+use Rattle.brooklet_model.specs.Words.{Word, at_port, run, word_of}
 use Rattle.brooklet_model.proofs.Feeds.{feed_word}
 use Rattle.brooklet_model.proofs.FusedRun.{fused_runs}
 use Rattle.brooklet_model.proofs.Ports.{shaped, counts}
@@ -34,7 +34,7 @@ use Rattle.brooklet_model.proofs.WideAdds.{fused_wide}
 use Rattle.brooklet_step.specs.declared.emit.Emit.{Emit}
 use Rattle.brooklet_step.specs.declared.state.State.{State}
 use Rattle.brooklet_step.specs.Took.{Took, HasLists, IsBlank}
-use Rattle.brooklet_step.specs.Given.{held_by, held_at, IsHeldBy, IsHeldOf, FitState, ran_from, StandsAfter, TookHeld, CameAsHeld, Does, FiresAt, FiresEach}
+use Rattle.brooklet_step.specs.Given.{held_by, held_at, IsHeldBy, IsHeldOf, FitState, ran_from, StandsAfter, TookHeld, CameAsHeld, Does, DoesAll, FiresAt, FiresEach}
 use Rattle.brooklet_step.proofs.Fires.{grown_list, flats-append, blank_room}
 use Rattle.brooklet_step.proofs.Fused.{splice_cong, beside_cong}
 use Rattle.brooklet_step.proofs.GivenLemmas.{word_append, ran_more, ran_length, ran_typed, fired_typed, fit_length, parts_fit, parts_after}
@@ -187,112 +187,192 @@ fused_ran a b at ss w s h =
     subst (λ (r : Fired). Same (ran_from k ss w) (fused_of at (outs b) (tabs a) ra (λ xs. r))) (sym (feed_word (fire b) 0 (ra.outs at) sb))
     (fused_runs a b at w ss s h)
 
--- what two parts do, one behind the other, is what the fused kernel does
-pub fused_does : (a b : Kern) (at port : ℕ) (i : item.Item) (st mine' rest' : List State) (out new mid0 mid last0 last : Emit) (items : List item.Item)
-    → HasLists (fused a b at) out → IsBlank a mid0 → FiresAt a port i mid0 mid (take (privates a) st) mine' → IsBlank b last0 → items ≡ list_at mid.outs at
-    → FiresEach b items last0 last (drop (privates a) st) rest'
-    → new.outs ≡ each_grew out.outs (splice at (length last.outs) (list_at mid.outs) (list_at last.outs))
-    → new.adds ≡ each_grew out.adds (beside (length mid.adds) (list_at mid.adds) (list_at last.adds))
-    → FiresAt (fused a b at) port i out new st (mine' ++ rest')
-fused_does a b at port i st mine' rest' out new mid0 mid last0 last items room bm fm bl is fl eo ea = record {
-  each = λ reads writes vars f fs hi.
-      subst (λ (vs : List VarKind). Does (fused a b at) reads writes vs port i out new st (mine' ++ rest')) (sym f.9)
-      (subst (λ (os : List QueueType). Does (fused a b at) reads os (f.3 ++ f.4) port i out new st (mine' ++ rest')) (sym f.8)
-      (both reads f.0 f.1 f.2 f.3 f.4 f.5 f.6 f.7 (shaped (fused a b at) reads writes vars f) fs hi));
-}
-  where
-    both : (reads ms : List QueueType) (m : QueueType) (bs : List QueueType) (us ws : List VarKind) → Fits a reads ms us → slice_get ms at ≡ Some m
-        → Fits b (m ∷ []) bs ws → IsShaped (fused a b at) → FitState (fused a b at) reads st → IsHeldOf reads port i
-        → Does (fused a b at) reads (spliced at ms bs) (us ++ ws) port i out new st (mine' ++ rest')
-    both reads ms m bs us ws fa g fb s fs hi =
-        let k = fused a b at in
-        let ca = counts a reads ms us fa in
-        let cb = counts b (m ∷ []) bs ws fb in
-        let at_ms : at < length ms = let e = ca.outs in omega (arith, e, s.2) in
-        let da = fm.each reads ms us fa fs.0 hi in
-        let mid_is : between at (types_of a reads) ≡ m ∷ [] = between_is a reads ms m us at fa g in
-        let items_are : items ≡ da.came.outs at = is ∙ grown_list (outs a) mid0.outs mid.outs da.came.outs at bm.outs da.came.outs_are s.2 in
-        let items_held : All (IsHeldOf (m ∷ []) 0) items =
-        subst (λ (l : List item.Item). All (IsHeldOf (m ∷ []) 0) l) (sym items_are) (subst (λ o. All (IsHeldBy o) (da.came.outs at)) g (da.came.held at)) in
-        let db = fl.each (m ∷ []) bs ws fb (subst (λ (l : List QueueType). FitState b l (drop (privates a) st)) mid_is fs.1) items_held in
-        let mid_room : HasLists a mid = came_room a reads ms us mid0 mid mine' (blank_room a mid0 bm) da.came in
-        let last_room : HasLists b last = came_room b (m ∷ []) bs ws last0 last rest' (blank_room b last0 bl) db.came in
-        let cut : (fa fb : ℕ → List item.Item) → mid.outs ≡ each_grew mid0.outs fa → last.outs ≡ each_grew last0.outs fb
-        → new.outs ≡ each_grew out.outs (splice at (length bs) fa fb) = λ ga gb ema emb.
-        eo ∙ ap (λ n. each_grew out.outs (splice at n (list_at mid.outs) (list_at last.outs))) (last_room.outs ∙ sym cb.outs)
+-- WHAT TWO PARTS DO, ONE BEHIND THE OTHER
+
+module _ (a b : Kern) (at port : ℕ) (i : item.Item) (st mine' rest' : List State) (out new mid0 mid last0 last : Emit) (items : List item.Item)
+    (room : HasLists (fused a b at) out) (bm : IsBlank a mid0) (fm : FiresAt a port i mid0 mid (take (privates a) st) mine') (bl : IsBlank b last0)
+    (is : items ≡ list_at mid.outs at) (fl : FiresEach b items last0 last (drop (privates a) st) rest')
+    (eo : new.outs ≡ each_grew out.outs (splice at (length last.outs) (list_at mid.outs) (list_at last.outs)))
+    (ea : new.adds ≡ each_grew out.adds (beside (length mid.adds) (list_at mid.adds) (list_at last.adds))) where
+  -- under each choice of types for the ports
+  module _ (reads ms : List QueueType) (m : QueueType) (bs : List QueueType) (us ws : List VarKind) (fa : Fits a reads ms us) (g : slice_get ms at ≡ Some m)
+      (fb : Fits b (m ∷ []) bs ws) (s : IsShaped (fused a b at)) (fs : FitState (fused a b at) reads st) (hi : IsHeldOf reads port i) where
+    -- there is a list for each port
+    at_ms : at < length ms
+    at_ms = let e = (counts a reads ms us fa).outs in omega (arith, e, s.2)
+
+    bs_many : length bs ≡ outs b
+    bs_many = (counts b (m ∷ []) bs ws fb).outs
+
+    -- what the first part does
+    first_does : Does a reads ms us port i mid0 mid (take (privates a) st) mine'
+    first_does = fm.each reads ms us fa fs.0 hi
+
+    mid_is : between at (types_of a reads) ≡ m ∷ []
+    mid_is = between_is a reads ms m us at fa g
+
+    -- what comes between the parts, and that a queue may hold it
+    items_are : items ≡ first_does.came.outs at
+    items_are = is ∙ grown_list (outs a) mid0.outs mid.outs first_does.came.outs at bm.outs first_does.came.outs_are s.2
+
+    items_held : All (IsHeldOf (m ∷ []) 0) items
+    items_held =
+        subst (λ (l : List item.Item). All (IsHeldOf (m ∷ []) 0) l) (sym items_are)
+        (subst (λ o. All (IsHeldBy o) (first_does.came.outs at)) g (first_does.came.held at))
+
+    -- what the second part does with it
+    second_does : DoesAll b (m ∷ []) bs ws items last0 last (drop (privates a) st) rest'
+    second_does = fl.each (m ∷ []) bs ws fb (subst (λ (l : List QueueType). FitState b l (drop (privates a) st)) mid_is fs.1) items_held
+
+    mid_room : HasLists a mid
+    mid_room = came_room a reads ms us mid0 mid mine' (blank_room a mid0 bm) first_does.came
+
+    last_room : HasLists b last
+    last_room = came_room b (m ∷ []) bs ws last0 last rest' (blank_room b last0 bl) second_does.came
+
+    -- where the lists of the parts grew by these, those of the whole grew by both
+    outs_grew : (ga gb : ℕ → List item.Item) → mid.outs ≡ each_grew mid0.outs ga → last.outs ≡ each_grew last0.outs gb
+        → new.outs ≡ each_grew out.outs (splice at (length bs) ga gb)
+    outs_grew ga gb ema emb =
+        eo ∙ ap (λ n. each_grew out.outs (splice at n (list_at mid.outs) (list_at last.outs))) (last_room.outs ∙ sym bs_many)
         ∙ each_grew_cong out.outs (splice at (length bs) (list_at mid.outs) (list_at last.outs)) (splice at (length bs) ga gb)
         (λ p h. splice_cong at (length bs) (outs a) (list_at mid.outs) ga (list_at last.outs) gb p s.2
-        (let e = room.outs in let e2 = cb.outs in omega (arith, h, s.2, e, e2))
+        (let e = room.outs in let e2 = bs_many in omega (arith, h, s.2, e, e2))
         (λ q hq. grown_list (outs a) mid0.outs mid.outs ga q bm.outs ema hq)
-        (λ q hq. grown_list (outs b) last0.outs last.outs gb q bl.outs emb (let e2 = cb.outs in omega (arith, hq, e2)))) in
-        let cut_adds : (fa fb : ℕ → List (List _)) → mid.adds ≡ each_grew mid0.adds fa → last.adds ≡ each_grew last0.adds fb
-        → new.adds ≡ each_grew out.adds (beside (tabs a) fa fb) = λ ga gb ema emb.
+        (λ q hq. grown_list (outs b) last0.outs last.outs gb q bl.outs emb (let e2 = bs_many in omega (arith, hq, e2))))
+
+    adds_grew : (ga gb : ℕ → List (List ℤ)) → mid.adds ≡ each_grew mid0.adds ga → last.adds ≡ each_grew last0.adds gb
+        → new.adds ≡ each_grew out.adds (beside (tabs a) ga gb)
+    adds_grew ga gb ema emb =
         ea ∙ ap (λ n. each_grew out.adds (beside n (list_at mid.adds) (list_at last.adds))) mid_room.adds
         ∙ each_grew_cong out.adds (beside (tabs a) (list_at mid.adds) (list_at last.adds)) (beside (tabs a) ga gb)
         (λ p h. beside_cong (tabs b) (tabs a) (list_at mid.adds) ga (list_at last.adds) gb p
         (let e = room.adds in omega (arith, h, e))
         (λ q hq. grown_list (tabs a) mid0.adds mid.adds ga q bm.adds ema hq)
-        (λ q hq. grown_list (tabs b) last0.adds last.adds gb q bl.adds emb hq)) in
-        record {
-          gives = record {
-            given = λ start w x is_start tw tx sa h.
-                let start_a = take (privates a) start in
-                let start_b = drop (privates a) start in
-                let is_a : IsStart a reads start_a = record { shape = is_start.shape.0; holds = is_start.holds.0 } in
-                let is_b : IsStart b (m ∷ []) start_b =
-                record { shape = is_start.shape.1; holds = subst (λ (l : List QueueType). Holds b l start_b) mid_is is_start.holds.1 } in
-                let one = da.gives.given start_a w x is_a tw tx sa.0 h in
-                let wa = ran_from a start_a w in
-                let past = wa.outs at in
-                let ra = fire a port x wa.states in
-                let xs = ra.outs at in
-                let wb = word_of 0 past in
-                let typed_past : All (HasType m) past = subst (λ o. All (IsTyped o) past) g (ran_typed a reads ms us start_a w fa is_a tw at) in
-                let typed_xs : All (HasType m) xs = subst (λ o. All (IsTyped o) xs) g (fired_typed a reads ms us start_a w port x fa is_a tw tx at) in
-                let came : items ≡ held m past xs = is
-                ∙ grown_list (outs a) mid0.outs mid.outs (λ p. held_at ms p (wa.outs p) (ra.outs p)) at bm.outs one.0.outs s.2
-                ∙ ap (λ o. held_by o past xs) g in
-                let before_b = ran_from b start_b wb in
-                let stands_b : StandsAfter b (m ∷ []) start_b (drop (privates a) st) wb =
-                subst (λ (l : List QueueType). StandsAfter b l start_b (drop (privates a) st) wb) mid_is sa.1 in
-                let two = db.gives.given start_b wb xs is_b (word_typed (m ∷ []) 0 past typed_past) typed_xs stands_b
-                (ap (λ l. held m l xs) (at_port-word_same 0 past) ∙ sym came) in
-                let rb = feed (fire b 0) xs before_b.states in
-                let whole = ran_from k start w in
-                let parts = fused_ran a b at start w s is_start.shape in
-                let la : length wa.states ≡ privates a = ran_length a start_a w s.0 is_start.shape.0 in
-                let ta : take (privates a) whole.states ≡ wa.states = ap (take (privates a)) parts.states
-                ∙ take_at wa.states before_b.states (privates a) la in
-                let tb : drop (privates a) whole.states ≡ before_b.states = ap (drop (privates a)) parts.states
-                ∙ drop_at wa.states before_b.states (privates a) la in
-                let r_is : fused_of at (outs b) (tabs a) ra (λ l. feed (fire b 0) l before_b.states) ≡ fire k port x whole.states =
-                ap (λ us. fused_of at (outs b) (tabs a) (fire a port x us) (λ l. feed (fire b 0) l before_b.states)) (sym ta)
-                ∙ ap (λ us. fused_of at (outs b) (tabs a) (fire a port x (take (privates a) whole.states)) (λ l. feed (fire b 0) l us)) (sym tb) in
-                let now : TookHeld (spliced at ms bs) whole out new (fused_of at (outs b) (tabs a) ra (λ l. feed (fire b 0) l before_b.states)) = record {
-                  outs = cut (λ p. held_at ms p (wa.outs p) (ra.outs p)) (λ p. held_at bs p (before_b.outs p) (rb.outs p)) one.0.outs two.0.outs
-                      ∙ each_grew_cong out.outs
-                      (splice at (length bs) (λ p. held_at ms p (wa.outs p) (ra.outs p)) (λ p. held_at bs p (before_b.outs p) (rb.outs p)))
-                      (λ p. held_at (spliced at ms bs) p (whole.outs p) (splice at (outs b) ra.outs rb.outs p))
-                      (λ p lt. splice_held ms bs at p wa.outs ra.outs before_b.outs rb.outs at_ms
-                      ∙ ap (λ n. held_at (spliced at ms bs) p (splice at n wa.outs before_b.outs p) (splice at n ra.outs rb.outs p)) cb.outs
-                      ∙ ap (λ l. held_at (spliced at ms bs) p l (splice at (outs b) ra.outs rb.outs p)) (sym (parts.outs p)));
-                  adds = cut_adds ra.adds rb.adds one.0.adds two.0.adds;
-                } in
-                let more = ran_more a start_a w port x in
-                let wb' = word_of 0 ((ran_from a start_a (w ++ (port, x) ∷ [])).outs at) in (
-                  subst (λ (r : Fired). TookHeld (spliced at ms bs) whole out new r) r_is now,
-                  parts_after a b at reads start mine' rest' (w ++ (port, x) ∷ []) (fit_length a reads mine' da.came.again) one.1
-                      (subst (λ (l : List QueueType). StandsAfter b l start_b rest' wb') (sym mid_is)
-                      (subst (StandsAfter b (m ∷ []) start_b rest') (sym (word_append 0 past xs) ∙ ap (word_of 0) (sym (more.outs at))) two.1)),
-                );
-          };
-          came = record {
-            outs = splice at (length bs) da.came.outs db.came.outs;
-            adds = beside (tabs a) da.came.adds db.came.adds;
-            outs_are = cut da.came.outs db.came.outs da.came.outs_are db.came.outs_are;
-            adds_are = cut_adds da.came.adds db.came.adds da.came.adds_are db.came.adds_are;
-            held = λ p. spliced_all IsHeldBy ms bs at p da.came.outs db.came.outs at_ms da.came.held db.came.held;
-            wide = fused_wide a reads ms us ws da.came.adds db.came.adds fa da.came.wide db.came.wide;
-            again = parts_fit a b at reads mine' rest' da.came.again (subst (λ (l : List QueueType). FitState b l rest') (sym mid_is) db.came.again);
-          };
-        }
+        (λ q hq. grown_list (tabs b) last0.adds last.adds gb q bl.adds emb hq))
+
+    -- wherever firings may begin, and whatever was received since
+    module _ (start : List Kept) (w : Word) (x : item.Item) (is_start : IsStart (fused a b at) reads start) (tw : IsWordOf reads w) (tx : IsOf reads port x)
+        (sa : StandsAfter (fused a b at) reads start st w) (h : held_at reads port (at_port port w) (x ∷ []) ≡ i ∷ []) where
+      abbrev start_a : List Kept
+      start_a = take (privates a) start
+
+      abbrev start_b : List Kept
+      start_b = drop (privates a) start
+
+      -- the first part, after the word and with the item
+      abbrev wa : Fired
+      wa = ran_from a start_a w
+
+      abbrev ra : Fired
+      ra = fire a port x wa.states
+
+      -- what came between the parts, before and now
+      abbrev past : List item.Item
+      past = wa.outs at
+
+      abbrev xs : List item.Item
+      xs = ra.outs at
+
+      -- the second part, after that and with that
+      abbrev wb : Fired
+      wb = ran_from b start_b (word_of 0 past)
+
+      abbrev rb : Fired
+      rb = feed (fire b 0) xs wb.states
+
+      -- the two as one
+      abbrev whole : Fired
+      whole = ran_from (fused a b at) start w
+
+      abbrev both_fire : Fired
+      both_fire = fused_of at (outs b) (tabs a) ra (λ l. feed (fire b 0) l wb.states)
+
+      is_a : IsStart a reads start_a
+      is_a = record { shape = is_start.shape.0; holds = is_start.holds.0 }
+
+      is_b : IsStart b (m ∷ []) start_b
+      is_b = record { shape = is_start.shape.1; holds = subst (λ (l : List QueueType). Holds b l start_b) mid_is is_start.holds.1 }
+
+      -- what the first part gives
+      one : TookHeld ms wa mid0 mid ra × StandsAfter a reads start_a mine' (w ++ (port, x) ∷ [])
+      one = first_does.gives.given start_a w x is_a tw tx sa.0 h
+
+      typed_past : All (HasType m) past
+      typed_past = subst (λ o. All (IsTyped o) past) g (ran_typed a reads ms us start_a w fa is_a tw at)
+
+      typed_xs : All (HasType m) xs
+      typed_xs = subst (λ o. All (IsTyped o) xs) g (fired_typed a reads ms us start_a w port x fa is_a tw tx at)
+
+      came : items ≡ held m past xs
+      came = is ∙ grown_list (outs a) mid0.outs mid.outs (λ p. held_at ms p (wa.outs p) (ra.outs p)) at bm.outs one.0.outs s.2 ∙ ap (λ o. held_by o past xs) g
+
+      stands_b : StandsAfter b (m ∷ []) start_b (drop (privates a) st) (word_of 0 past)
+      stands_b = subst (λ (l : List QueueType). StandsAfter b l start_b (drop (privates a) st) (word_of 0 past)) mid_is sa.1
+
+      -- what the second part gives
+      two : TookHeld bs wb last0 last rb × StandsAfter b (m ∷ []) start_b rest' (word_of 0 past ++ word_of 0 xs)
+      two = second_does.gives.given start_b (word_of 0 past) xs is_b (word_typed (m ∷ []) 0 past typed_past) typed_xs stands_b
+          (ap (λ l. held m l xs) (at_port-word_same 0 past) ∙ sym came)
+
+      parts : Same whole (fused_of at (outs b) (tabs a) wa (λ ys. ran_from b start_b (word_of 0 ys)))
+      parts = fused_ran a b at start w s is_start.shape
+
+      -- the firing of the two as one is that of both
+      fire_is : both_fire ≡ fire (fused a b at) port x whole.states
+      fire_is =
+          let la : length wa.states ≡ privates a = ran_length a start_a w s.0 is_start.shape.0 in
+          let ta : take (privates a) whole.states ≡ wa.states = ap (take (privates a)) parts.states ∙ take_at wa.states wb.states (privates a) la in
+          let tb : drop (privates a) whole.states ≡ wb.states = ap (drop (privates a)) parts.states ∙ drop_at wa.states wb.states (privates a) la in
+          ap (λ us. fused_of at (outs b) (tabs a) (fire a port x us) (λ l. feed (fire b 0) l wb.states)) (sym ta)
+          ∙ ap (λ us. fused_of at (outs b) (tabs a) (fire a port x (take (privates a) whole.states)) (λ l. feed (fire b 0) l us)) (sym tb)
+
+      -- so the lists of the whole grow by what queues hold for it
+      took : TookHeld (spliced at ms bs) whole out new both_fire
+      took = record {
+        outs = outs_grew (λ p. held_at ms p (wa.outs p) (ra.outs p)) (λ p. held_at bs p (wb.outs p) (rb.outs p)) one.0.outs two.0.outs
+            ∙ each_grew_cong out.outs
+            (splice at (length bs) (λ p. held_at ms p (wa.outs p) (ra.outs p)) (λ p. held_at bs p (wb.outs p) (rb.outs p)))
+            (λ p. held_at (spliced at ms bs) p (whole.outs p) (splice at (outs b) ra.outs rb.outs p))
+            (λ p lt. splice_held ms bs at p wa.outs ra.outs wb.outs rb.outs at_ms
+            ∙ ap (λ n. held_at (spliced at ms bs) p (splice at n wa.outs wb.outs p) (splice at n ra.outs rb.outs p)) bs_many
+            ∙ ap (λ l. held_at (spliced at ms bs) p l (splice at (outs b) ra.outs rb.outs p)) (sym (parts.outs p)));
+        adds = adds_grew ra.adds rb.adds one.0.adds two.0.adds;
+      }
+
+      -- and the states of both stand for those of the whole
+      given : TookHeld (spliced at ms bs) whole out new (fire (fused a b at) port x whole.states)
+          × StandsAfter (fused a b at) reads start (mine' ++ rest') (w ++ (port, x) ∷ [])
+      given =
+          let more = ran_more a start_a w port x in
+          let wb' = word_of 0 ((ran_from a start_a (w ++ (port, x) ∷ [])).outs at) in (
+            subst (λ (r : Fired). TookHeld (spliced at ms bs) whole out new r) fire_is took,
+            parts_after a b at reads start mine' rest' (w ++ (port, x) ∷ []) (fit_length a reads mine' first_does.came.again) one.1
+                (subst (λ (l : List QueueType). StandsAfter b l start_b rest' wb') (sym mid_is)
+                (subst (StandsAfter b (m ∷ []) start_b rest') (sym (word_append 0 past xs) ∙ ap (word_of 0) (sym (more.outs at))) two.1)),
+          )
+
+    -- what the two do under these types
+    both_do : Does (fused a b at) reads (spliced at ms bs) (us ++ ws) port i out new st (mine' ++ rest')
+    both_do = record {
+      gives = record { given = given };
+      came = record {
+        outs = splice at (length bs) first_does.came.outs second_does.came.outs;
+        adds = beside (tabs a) first_does.came.adds second_does.came.adds;
+        outs_are = outs_grew first_does.came.outs second_does.came.outs first_does.came.outs_are second_does.came.outs_are;
+        adds_are = adds_grew first_does.came.adds second_does.came.adds first_does.came.adds_are second_does.came.adds_are;
+        held = λ p. spliced_all IsHeldBy ms bs at p first_does.came.outs second_does.came.outs at_ms first_does.came.held second_does.came.held;
+        wide = fused_wide a reads ms us ws first_does.came.adds second_does.came.adds fa first_does.came.wide second_does.came.wide;
+        again = parts_fit a b at reads mine' rest' first_does.came.again
+            (subst (λ (l : List QueueType). FitState b l rest') (sym mid_is) second_does.came.again);
+      };
+    }
+
+  -- what two parts do, one behind the other, is what the fused kernel does
+  pub fused_does : FiresAt (fused a b at) port i out new st (mine' ++ rest')
+  fused_does = record {
+    each = λ reads writes vars f fs hi.
+        subst (λ (vs : List VarKind). Does (fused a b at) reads writes vs port i out new st (mine' ++ rest')) (sym f.9)
+        (subst (λ (os : List QueueType). Does (fused a b at) reads os (f.3 ++ f.4) port i out new st (mine' ++ rest')) (sym f.8)
+        (both_do reads f.0 f.1 f.2 f.3 f.4 f.5 f.6 f.7 (shaped (fused a b at) reads writes vars f) fs hi));
+  }

@@ -33,7 +33,7 @@ use Rattle.brooklet_model.proofs.Complete.{runs_law}
 use Rattle.brooklet_model.proofs.RunMeaning.{outs_are, firings_are}
 use Rattle.brooklet_model.proofs.Traces.{at_most, got_count, joined_out}
 use Rattle.brooklet_step.specs.declared.parts.MachineState.{MachineState}
-use Rattle.brooklet_step.specs.Drained.{IsDrained, Follows, RunsOn, DrainedBefore, HasPorts, HasRun}
+use Rattle.brooklet_step.specs.Drained.{IsDrained, Follows, RunsOn, DrainedBefore, HasPorts, StandsAfterSomeRun}
 use Rattle.brooklet_step.specs.Works.{queue_of, kinds_of, StandsForMachine, ReadsAt, IsEnabled, StandsAfterRun, IsRunning, Starts, Steps, AreCounts}
 use Rattle.brooklet_step.specs.Tables.{defined_tables}
 use Rattle.brooklet_step.proofs.Edges.{output_held}
@@ -244,7 +244,7 @@ ran_first p inputs m s = record {
   counts = s.counts;
 }
 
-pub has_run : (m m' : MachineState) (o : ℕ) → Follows m m' o → HasRun m → HasRun m'
+pub has_run : (m m' : MachineState) (o : ℕ) → Follows m m' o → StandsAfterSomeRun m → StandsAfterSomeRun m'
 has_run m m' o f r = record { inputs = r.inputs; ran = f.ran r.inputs r.ran }
 
 -- an equal plan is valid too
@@ -252,7 +252,8 @@ pub plan_valid : (p q : PlanForm) → p ≡ q → IsPlan q → IsPlan p
 plan_valid p q e v = subst IsPlan (sym e) v
 
 -- one port more is drained
-pub drained_next : (m0 m m' : MachineState) (o n : ℕ) → HasRun m0 → Follows m0 m o → Follows m m' o → ((port : ℕ) → port < n → IsDrained m o port) → IsDrained m' o n
+pub drained_next : (m0 m m' : MachineState) (o n : ℕ) → StandsAfterSomeRun m0 → Follows m0 m o → Follows m m' o
+    → ((port : ℕ) → port < n → IsDrained m o port) → IsDrained m' o n
     → (port : ℕ) → port < n + 1 → IsDrained m' o port
 drained_next m0 m m' o n r f g d last port lt = ⊎_elim
     (λ below. g.drained r.inputs (f.ran r.inputs r.ran) o port (omega arith) (d port below))

@@ -10,7 +10,7 @@ abbrev pub IsDrained : MachineState → ℕ → ℕ → Type 0
 IsDrained m o port = (q : Name) → ReadsAt m.plan o port q → length (queue_of m q) ≡ 0
 
 -- the machine stands for the state after some run
-pub record HasRun (m : MachineState) : Type 0 where
+pub record StandsAfterSomeRun (m : MachineState) : Type 0 where
   pub inputs : List (List item.Item)
   pub ran : StandsAfterRun m inputs
 

@@ -22,7 +22,7 @@ use Rattle.cql_model.proofs.Judged.{refusals_are, accepted_are, unit_low}
 use Rattle.cql_front.specs.declared.fault.CqlFault.{CqlFault}
 use Rattle.cql_front.specs.declared.fault.CqlFault.TheVariants.{Text, UnknownStream, UnknownField, AmbiguousField, NameTwice, Limit}
 use Rattle.cql_front.specs.Laws.{HasRefusal, Has, MeansWhatItHas, PlansMean}
-use Rattle.cql_front.specs.Meaning.{fault_at, or_refused, accepted, then_judged, compiled, Plans, Refused}
+use Rattle.cql_front.specs.Meaning.{fault_at, unless_refused, accepted, then_judged, compiled, Plans, Refused}
 
 -- ---- FROM THE GRAMMAR
 
@@ -37,10 +37,10 @@ unfolding compiled
 faulty-means text fault h = ap then_judged (faulty-told text fault h)
 
 fault-means : (text : List ℕ) (fault : CqlFault) → HasRefusal text fault → compiled text ≡ Err fault
-fault-means text fault h = stands-means text h.program h.stands ∙ ap (or_refused h.program) ((refusals_are h.program h.refusal).1 h.refused) ∙ ap Err (sym h.is)
+fault-means text fault h = stands-means text h.program h.stands ∙ ap (unless_refused h.program) ((refusals_are h.program h.refusal).1 h.refused) ∙ ap Err (sym h.is)
 
 has-means : (text : List ℕ) (meant : Result (List UnitForm) CqlFault) → Has text meant → compiled text ≡ meant
-has-means text (Ok p) h = stands-means text p h.0 ∙ ap (or_refused p) ((accepted_are p).1 h.1)
+has-means text (Ok p) h = stands-means text p h.0 ∙ ap (unless_refused p) ((accepted_are p).1 h.1)
 has-means text (Err (Text fault)) h = faulty-means text fault h
 has-means text (Err (UnknownStream unit)) h = fault-means text (UnknownStream unit) h
 has-means text (Err (UnknownField unit)) h = fault-means text (UnknownField unit) h
@@ -64,7 +64,7 @@ fault-has text p r t j = by r.fault refl where
 
 accepted-has : (text : List ℕ) (p : List UnitForm) → IsText text p → Has text (accepted p)
 accepted-has text p t = by (refusal_of p) refl where
-  by : (o : Option Refusal) → refusal_of p ≡ o → Has text (or_refused p o)
+  by : (o : Option Refusal) → refusal_of p ≡ o → Has text (unless_refused p o)
   by None j = (t, (accepted_are p).0 j)
   by (Some r) j = fault-has text p r t j
 
@@ -129,7 +129,7 @@ pub ruleset fronts = (read-planned, read-refused, read-spoken, read-short, read-
 
 -- a program that is not refused is the one that is meant, and this is its plan
 pub planned-plans : (p : List UnitForm) (plan : PlanForm) → refusal_of p ≡ None → plan ≡ plan_of p → Plans (accepted p) p plan
-planned-plans p plan e is = record { accepted = ap (or_refused p) e; planned = is }
+planned-plans p plan e is = record { accepted = ap (unless_refused p) e; planned = is }
 
 -- the unit of a refusal is one of the program
 pub planned-low : (p : List UnitForm) (r : Refusal) → refusal_of p ≡ Some r → r.unit ≤ length p
@@ -137,6 +137,6 @@ planned-low p r e = unit_low p r e
 
 -- a program that is refused means the fault
 pub planned-refused : (p : List UnitForm) (r : Refusal) → refusal_of p ≡ Some r → accepted p ≡ Err (fault_at r.unit r.fault)
-planned-refused p r e = ap (or_refused p) e
+planned-refused p r e = ap (unless_refused p) e
 
 pub ruleset plans = (planned-plans, planned-refused)

@@ -22,13 +22,13 @@ fault_at unit model_fault.NameTwice = NameTwice unit
 fault_at unit model_fault.Limit = Limit unit
 
 -- the program, or why it is refused
-abbrev pub or_refused : List UnitForm → Option Refusal → Result (List UnitForm) CqlFault
-or_refused p None = Ok p
-or_refused p (Some r) = Err (fault_at r.unit r.fault)
+abbrev pub unless_refused : List UnitForm → Option Refusal → Result (List UnitForm) CqlFault
+unless_refused p None = Ok p
+unless_refused p (Some r) = Err (fault_at r.unit r.fault)
 
 -- a program is judged
 abbrev pub accepted : List UnitForm → Result (List UnitForm) CqlFault
-accepted p = or_refused p (refusal_of p)
+accepted p = unless_refused p (refusal_of p)
 
 -- what is read is judged
 abbrev pub then_judged : Result (List UnitForm) TextFault → Result (List UnitForm) CqlFault

@@ -22,8 +22,8 @@ use Rattle.cql_model.specs.Scopes.{Named, alias_or, scope_of}
 use Rattle.cql_model.specs.Plan.{widths_of, plan_of}
 
 -- the name stands among these
-abbrev pub IsAmong : Name → List Name → Type 0
-IsAmong n names = 0 < count n names
+abbrev pub IsOneOf : Name → List Name → Type 0
+IsOneOf n names = 0 < count n names
 
 -- an item is called by its alias, or as its stream
 abbrev pub called : Source → Name
@@ -48,16 +48,16 @@ HasBadRows (Latest n) = (n ≡ 0) ⊎ (1000000 < n)
 -- the place, behind these units, has this fault, whichever others it has
 abbrev pub HasFault : Program → Spot → Fault → Type 0
 -- an item names no stream that is declared above
-HasFault before (ItemStream past i) UnknownStream = IsAmong i.stream (declared_names before) → ⊥
+HasFault before (ItemStream past i) UnknownStream = IsOneOf i.stream (declared_names before) → ⊥
 -- a field is in no item that it may mean, or no item is called so
 HasFault before (FieldUse items m) UnknownField = count (field_of m) (meant (scope_of (known_by before) items) m) ≡ 0
 -- a field is found more than once in the items that it may mean
 HasFault before (FieldUse items m) AmbiguousField = 1 < count (field_of m) (meant (scope_of (known_by before) items) m)
 -- a stream or query is declared again, a stream has a field twice, two items have one name
-HasFault before (StreamName n) NameTwice = IsAmong n (declared_names before)
-HasFault before (QueryName n) NameTwice = IsAmong n (declared_names before)
-HasFault before (FieldName past f) NameTwice = IsAmong f past
-HasFault before (ItemName past i) NameTwice = IsAmong (called i) (map called past)
+HasFault before (StreamName n) NameTwice = IsOneOf n (declared_names before)
+HasFault before (QueryName n) NameTwice = IsOneOf n (declared_names before)
+HasFault before (FieldName past f) NameTwice = IsOneOf f past
+HasFault before (ItemName past i) NameTwice = IsOneOf (called i) (map called past)
 -- more than 8 registered streams, 16 fields, 16 columns or 4 items; a product wider than 16; `Rows` of 0 or above 1,000,000
 HasFault before (StreamName n) Limit = 8 < length (registered before) + 1
 HasFault before (FieldName past f) Limit = 16 < length past + 1

@@ -22,13 +22,13 @@ of_text (saw.Text unread.NoMemory) = why.NoMemory
 of_text _ = why.Program
 
 -- the text has no program
-pub record IsRefused (text : List ℕ) : Type 0 where
+pub record HasNoProgram (text : List ℕ) : Type 0 where
   pub fault : SawFault
   pub is : compiled text ≡ Err fault
 
 -- why a text has no plan: it is refused
 abbrev pub WhyRefused : List ℕ → WorkFault → Type 0
-WhyRefused text why.Program = IsRefused text
+WhyRefused text why.Program = HasNoProgram text
 WhyRefused text why.NoMemory = ⊤
 WhyRefused text _ = ⊥
 
@@ -42,7 +42,7 @@ pub record HasPlan (held : Option Held) (program : List ℕ) (plan : PlanForm) :
 pub record HasNoPlan (held : Option Held) (program : List ℕ) : Type 0 where
   pub text : List ℕ
   pub reads : Reads held most_text program text
-  pub refused : IsRefused text
+  pub refused : HasNoProgram text
 
 -- why a program has no plan: its text is not read, or is refused
 abbrev pub WhyNoPlan : Option Held → Type 0 → List ℕ → WorkFault → Type 0

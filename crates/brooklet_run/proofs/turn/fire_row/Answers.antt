@@ -15,5 +15,6 @@ fire_values-requires-clause-blank c = subst (λ (p : PlanForm). IsBlankOf p c.ar
 
 pub returns : goal.returns
 returns c =
-    subst (λ (p : PlanForm). OnOk c.fire_values.result (FiredOp p c.args.op c.args.port (variant.Flat (flat.One c.args.row.now)) c.args.states.now c.fire_values.new.states c.fire_values.new.out))
+    subst (λ (p : PlanForm). OnOk c.fire_values.result
+    (FiredOp p c.args.op c.args.port (variant.Flat (flat.One c.args.row.now)) c.args.states.now c.fire_values.new.states c.fire_values.new.out))
     c.raw.ensures.raw c.fire_values.ensures

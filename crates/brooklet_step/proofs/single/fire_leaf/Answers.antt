@@ -1,5 +1,6 @@
 use Rattle.std.proofs.Common.{refl, ap, ◌∙◌, get_or, subst}
-use Rattle.river_kernels.proofs.KernLemmas.{kern_of-tally, kern_of-code, kern_of-deal, kern_of-collect, kern_of-window, kern_of-select, kern_of-project, kern_of-cross, kern_of-streamer, kern_of-unpack, kern_of-filter, kern_of-duplicate}
+use Rattle.river_kernels.proofs.KernLemmas.{kern_of-tally, kern_of-code, kern_of-deal, kern_of-collect, kern_of-window, kern_of-select, kern_of-project}
+use Rattle.river_kernels.proofs.KernLemmas.{kern_of-cross, kern_of-streamer, kern_of-unpack, kern_of-filter, kern_of-duplicate}
 use Rattle.kern_rows.specs.Forms.{code_form, filter_form}
 use Rattle.river_kernels.specs.Kern.{kern_of, code, filter, duplicate, deal, collect, unpack, window, select, project, cross, streamer, tally}
 use Rattle.work_code.specs.Term.{term, terms}
