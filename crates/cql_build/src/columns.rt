@@ -7,7 +7,7 @@ ghost use Rattle.cql_text.specs.Tree.{scalar, column_of, chosen_of, columns_of};
 ghost use Rattle.cql_build.specs.Views.{scope};
 
 use crate::Item;
-use crate::names::{name_of, put_number};
+use crate::names::put_number;
 use cql_text::{Column, Columns, Scalar};
 use river_base::{Bytes, Name, NoMemory};
 use river_plan::Names;
@@ -95,7 +95,7 @@ fn place_name(alloc: Global, place: usize) -> Result<Name, NoMemory>
     ensures { IfOk result (λ name. name ≡ codes "c" ++ decimal place) }
 {
     let text = place_text(alloc, place)?;
-    Ok(name_of(text.as_slice()))
+    Ok(Name::of(text.as_slice()))
 }
 
 // Its bytes.
@@ -103,6 +103,6 @@ fn place_text(alloc: Global, place: usize) -> Result<Bytes, NoMemory>
     ensures { IfOk result (λ text. text ≡ codes "c" ++ decimal place) }
 {
     let mut bytes = Bytes::new(alloc);
-    put_number(alloc, b"c", place, &mut bytes)?;
+    put_number(b"c", place, &mut bytes)?;
     Ok(bytes)
 }

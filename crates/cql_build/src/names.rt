@@ -34,7 +34,7 @@ pub(crate) fn marked(alloc: Global, base: Name, mark: Mark) -> Result<Name, NoMe
     ensures { IfOk result (λ name. name ≡ name_marked base mark) }
 {
     let text = text(alloc, base, mark)?;
-    Ok(name_of(text.as_slice()))
+    Ok(Name::of(text.as_slice()))
 }
 
 // Its bytes.
@@ -45,20 +45,20 @@ fn text(alloc: Global, base: Name, mark: Mark) -> Result<Bytes, NoMemory>
 {
     let mut bytes = Bytes::from_slice(alloc, base.as_slice())?;
     bytes.extend(b"@")?;
-    put_mark(alloc, mark, &mut bytes)?;
+    put_mark(mark, &mut bytes)?;
     Ok(bytes)
 }
 
 // Appends the word of a mark.
 #[tactic(auto, using(cql_model::proofs::Numerals::numeral_decimal))]
-fn put_mark(alloc: Global, mark: Mark, to: &mut Bytes) -> Result<(), NoMemory>
+fn put_mark(mark: Mark, to: &mut Bytes) -> Result<(), NoMemory>
     ensures put { OnOk result (to.new ≡ to.old ++ word mark) }
     ensures low { OnOk result (IsLowMark mark) }
 {
     match mark {
-        Mark::Window(number) => put_number(alloc, b"w", number, to),
-        Mark::Cross(number) => put_number(alloc, b"x", number, to),
-        Mark::Copy(number) => put_number(alloc, b"", number, to),
+        Mark::Window(number) => put_number(b"w", number, to),
+        Mark::Cross(number) => put_number(b"x", number, to),
+        Mark::Copy(number) => put_number(b"", number, to),
         Mark::Select => to.extend(b"s"),
         Mark::Project => to.extend(b"p"),
         Mark::Stream => to.extend(b"i"),
@@ -68,27 +68,10 @@ fn put_mark(alloc: Global, mark: Mark, to: &mut Bytes) -> Result<(), NoMemory>
 }
 
 /// Appends a letter, or none, and a number.
-pub(crate) fn put_number(
-    alloc: Global,
-    letter: &[u8],
-    number: usize,
-    to: &mut Bytes,
-) -> Result<(), NoMemory>
+pub(crate) fn put_number(letter: &[u8], number: usize, to: &mut Bytes) -> Result<(), NoMemory>
     ensures put { OnOk result (to.new ≡ to.old ++ (letter.now ++ decimal number)) }
     ensures low { number < 2 ^ 64 }
 {
     to.extend(letter)?;
-    let digits = number.to_string(alloc)?;
-    to.extend(digits.as_bytes())
-}
-
-/// The name that has these bytes.
-pub(crate) fn name_of(bytes: &[u8]) -> Name
-    requires { IsTrue (is_name bytes.now) }
-    ensures { result ≡ bytes.now }
-{
-    match Name::from_slice(bytes) {
-        Some(name) => name,
-        None => unreachable!(),
-    }
+    to.put_number(number)
 }

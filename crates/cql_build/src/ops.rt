@@ -18,22 +18,13 @@ use river_plan::{Names, Op};
 use std::alloc::Global;
 use work_code::{Exprs, Formula, Formulas};
 
-/// The list of one name.
-pub(crate) fn one(alloc: Global, name: Name) -> Result<Names, NoMemory>
-    ensures { IfOk result (λ names. names ≡ name ∷ []) }
-{
-    let mut names = Names::new(alloc);
-    names.push(name)?;
-    Ok(names)
-}
-
 /// The operator of a window.
 pub(crate) fn window_op(alloc: Global, name: Name, kept: Window, from: Name) -> Result<Op, NoMemory>
     ensures { IfOk result (λ made. op_form made ≡ op name (window (kernel_window (window_of kept))) (from ∷ []) (name ∷ []) (name ∷ [])) }
 {
-    let reads = one(alloc, from)?;
-    let writes = one(alloc, name)?;
-    let vars = one(alloc, name)?;
+    let reads = Names::one(alloc, from)?;
+    let writes = Names::one(alloc, name)?;
+    let vars = Names::one(alloc, name)?;
     Ok(Op {
         label: name,
         kernel: Kernel::Window(window_kernel(kept)),
@@ -59,10 +50,10 @@ fn window_kernel(window: Window) -> Kept
 pub(crate) fn cross_op(alloc: Global, name: Name, left: Name, right: Name) -> Result<Op, NoMemory>
     ensures { IfOk result (λ made. op_form made ≡ op name cross (left ∷ right ∷ []) (name ∷ []) (name ∷ [])) }
 {
-    let mut reads = one(alloc, left)?;
+    let mut reads = Names::one(alloc, left)?;
     reads.push(right)?;
-    let writes = one(alloc, name)?;
-    let vars = one(alloc, name)?;
+    let writes = Names::one(alloc, name)?;
+    let vars = Names::one(alloc, name)?;
     Ok(Op {
         label: name,
         kernel: Kernel::Cross,
@@ -83,8 +74,8 @@ pub(crate) fn select_op(
     requires { widths_of (scope items.now) ≤ 16 }
     ensures { IfOk result (λ made. op_form made ≡ op name (select (resolved (scope items.now) (scalar value.now))) (from ∷ []) (name ∷ []) []) }
 {
-    let reads = one(alloc, from)?;
-    let writes = one(alloc, name)?;
+    let reads = Names::one(alloc, from)?;
+    let writes = Names::one(alloc, name)?;
     Ok(Op {
         label: name,
         kernel: Kernel::Select(Formula::of(alloc, resolve(alloc, items, value)?)?),
@@ -105,8 +96,8 @@ pub(crate) fn project_op(
     requires { widths_of (scope items.now) ≤ 16 }
     ensures { IfOk result (λ made. op_form made ≡ op name (project (terms_of (scope items.now) (chosen_of columns.now))) (from ∷ []) (name ∷ []) []) }
 {
-    let reads = one(alloc, from)?;
-    let writes = one(alloc, name)?;
+    let reads = Names::one(alloc, from)?;
+    let writes = Names::one(alloc, name)?;
     Ok(Op {
         label: name,
         kernel: Kernel::Project(Formulas::of(alloc, values(alloc, items, columns)?)?),
@@ -138,9 +129,9 @@ pub(crate) fn stream_op(
 ) -> Result<Op, NoMemory>
     ensures { IfOk result (λ made. op_form made ≡ op name (streamer (streamer_of kind)) (from ∷ []) (to ∷ []) (name ∷ [])) }
 {
-    let reads = one(alloc, from)?;
-    let writes = one(alloc, to)?;
-    let vars = one(alloc, name)?;
+    let reads = Names::one(alloc, from)?;
+    let writes = Names::one(alloc, to)?;
+    let vars = Names::one(alloc, name)?;
     Ok(Op {
         label: name,
         kernel: Kernel::Streamer(streamer_kernel(kind)),
@@ -171,7 +162,7 @@ pub(crate) fn copy_op(
 ) -> Result<Op, NoMemory>
     ensures { IfOk result (λ made. op_form made ≡ op name (duplicate count) (from ∷ []) writes []) }
 {
-    let reads = one(alloc, from)?;
+    let reads = Names::one(alloc, from)?;
     Ok(Op {
         label: name,
         kernel: Kernel::Duplicate(count),

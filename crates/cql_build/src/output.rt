@@ -10,7 +10,7 @@ ghost use Rattle.cql_model.specs.KernelWords.{streamer_of};
 use crate::build::stream;
 use crate::columns::append;
 use crate::names::{Mark, marked};
-use crate::ops::{copy_op, one, stream_op};
+use crate::ops::{copy_op, stream_op};
 use crate::uses::StreamUses;
 use cql_text::{Kind, Stream};
 use river_base::{Name, NoMemory};
@@ -88,7 +88,7 @@ fn copy_output(
     ensures { OnOk result (AddsOwnCopies query from uses kind raw.old raw.new) }
 {
     raw.queues.push(Decl { name: from, kind })?;
-    let mut writes = one(alloc, query)?;
+    let mut writes = Names::one(alloc, query)?;
     let made = copies(alloc, query, uses)?;
     declare(&mut raw.queues, made.as_slice(), kind)?;
     append(&mut writes, made.as_slice())?;

@@ -1,6 +1,5 @@
 // The printed text of what a plan gave.
 ghost use Rattle.std.specs.Prelude.{◌≡◌, ◌++◌, ◌∷◌, [], true, length, map, Some, IfOk, OnOk};
-ghost use Rattle.std.specs.Fmt.{signed_decimal};
 ghost use Rattle.river_base.specs.Held.{IsAscending};
 ghost use Rattle.river_base.specs.Row.{in_order};
 ghost use Rattle.kern_tables.specs.Kept.{rows_of};
@@ -8,7 +7,6 @@ ghost use Rattle.river_plan.specs.Forms.{decl_names, table_names, labels, op_for
 ghost use Rattle.csv_streams.specs.Outcome as text;
 
 use brooklet_step::Outcome;
-use itoa::Buffer;
 use kern_rows::{EvenRows, ItemLine};
 use kern_tables::Table;
 use river_base::{Batch, Bytes, Duplicate, Flat, Item, Name, NoMemory, Row, Rows};
@@ -182,7 +180,7 @@ pub fn print_values(values: &[i64], to: &mut Bytes) -> Result<(), NoMemory>
     ensures { OnOk result (to.new ≡ to.old ++ text.row_line values.now) }
 {
     if let Some((first, rest)) = values.split_first() {
-        print_value(*first, to)?;
+        to.put_number(*first)?;
         print_more(rest, to)?;
     }
     to.extend(b"\n")
@@ -229,7 +227,7 @@ fn print_timed_rows(at: i64, rows: &[Row], to: &mut Bytes) -> Result<(), NoMemor
 fn print_timed(at: i64, row: &Row, to: &mut Bytes) -> Result<(), NoMemory>
     ensures { OnOk result (to.new ≡ to.old ++ text.row_line (at ∷ row.now)) }
 {
-    print_value(at, to)?;
+    to.put_number(at)?;
     print_more(row.values(), to)?;
     to.extend(b"\n")
 }
@@ -241,16 +239,9 @@ fn print_more(values: &[i64], to: &mut Bytes) -> Result<(), NoMemory>
 {
     for value in values {
         to.extend(b",")?;
-        print_value(*value, to)?;
+        to.put_number(*value)?;
     }
     Ok(())
-}
-
-fn print_value(value: i64, to: &mut Bytes) -> Result<(), NoMemory>
-    ensures { OnOk result (to.new ≡ to.old ++ signed_decimal value) }
-{
-    let mut digits = Buffer::new();
-    to.extend(digits.format(value).as_bytes())
 }
 
 fn print_firings(ops: &[Op], counts: &[i64], to: &mut Bytes) -> Result<(), NoMemory>
@@ -278,6 +269,6 @@ fn print_count(label: &Name, count: i64, to: &mut Bytes) -> Result<(), NoMemory>
 {
     to.extend(label.as_slice())?;
     to.extend(b",")?;
-    print_value(count, to)?;
+    to.put_number(count)?;
     to.extend(b"\n")
 }

@@ -2,14 +2,13 @@
 ghost use Rattle.std.specs.Prelude.{◌≡◌, [], ◌∷◌, ◌++◌};
 ghost use Rattle.work_code.specs.Steps.{step, steps, code_body};
 ghost use Rattle.kern_rows.specs.Forms.{filter_form, run_form, optional_run};
-ghost use Rattle.river_base.specs.Number.{count_of};
 ghost use Rattle.river_kernels.specs.Kern.{kern_of};
 ghost use Rattle.river_kernels.specs.Limits.{told, either, first_above, size_once, size, weight_sum, nesting};
 ghost use Rattle.river_kernels.specs.Limits.{body_numbers, rate_numbers, run_numbers, first_numbers, filter_numbers, weight_numbers, window_numbers, part_numbers};
 
 use kern_bags::Window;
 use kern_rows::{Filter, First};
-use river_base::Numbers;
+use river_base::{Numbers, count_of};
 use river_kernels::{Kernel, Limit};
 use work_code::{Code, Stmt, Stmts};
 
@@ -58,8 +57,8 @@ fn either(first: Option<u128>, second: Option<u128>) -> Option<u128>
     }
 }
 
-// The number, where it is above the most.
-fn above(number: u128, most: u64) -> Option<u128>
+/// The number, where it is above the most.
+pub fn one_above(number: u128, most: u64) -> Option<u128>
     ensures { result ≡ first_above most (number ∷ []) }
 {
     if (most as u128) < number {
@@ -69,14 +68,25 @@ fn above(number: u128, most: u64) -> Option<u128>
     }
 }
 
+/// The first of two numbers that is above the most.
+pub fn two_above(first: u128, second: u128, most: u64) -> Option<u128>
+    ensures { result ≡ first_above most (first ∷ second ∷ []) }
+{
+    if (most as u128) < first {
+        Some(first)
+    } else {
+        one_above(second, most)
+    }
+}
+
 /// The statements or slots of a body, where they are above the most; of other limits none is.
 #[tactic(auto, using(crate::proofs::LimitLemmas::tellings))]
 pub fn body_above(code: &Code, limit: Limit, most: u64) -> Option<u128>
     ensures { result ≡ first_above most (body_numbers limit (code_body code.now)) }
 {
     match limit {
-        Limit::Statements => above(size(code.body.stmts()), most),
-        Limit::Slots => above(code.slots as u128, most),
+        Limit::Statements => one_above(size(code.body.stmts()), most),
+        Limit::Slots => one_above(code.slots as u128, most),
         _ => None,
     }
 }
@@ -141,10 +151,8 @@ fn first_of_three(first: u128, second: u128, third: u128, most: u64) -> Option<u
 {
     if (most as u128) < first {
         Some(first)
-    } else if (most as u128) < second {
-        Some(second)
     } else {
-        above(third, most)
+        two_above(second, third, most)
     }
 }
 
@@ -154,7 +162,7 @@ fn weights_above(weights: &Numbers, limit: Limit, most: u64) -> Option<u128>
     ensures { result ≡ first_above most (weight_numbers limit weights.now) }
 {
     match limit {
-        Limit::Weights => above(weight_sum(weights), most),
+        Limit::Weights => one_above(weight_sum(weights), most),
         _ => None,
     }
 }
@@ -164,7 +172,7 @@ fn latest_above(window: Window, limit: Limit, most: u64) -> Option<u128>
     ensures { result ≡ first_above most (window_numbers limit window) }
 {
     match (limit, window) {
-        (Limit::Latest, Window::Latest(rows)) => above(rows as u128, most),
+        (Limit::Latest, Window::Latest(rows)) => one_above(rows as u128, most),
         _ => None,
     }
 }
@@ -176,16 +184,9 @@ fn weight_sum(weights: &Numbers) -> u128
 {
     let mut sum: u128 = 0;
     for weight in weights.as_slice() {
-        sum = sum.saturating_add(at_least_none(*weight));
+        sum = sum.saturating_add(count_of(*weight) as u128);
     }
     sum
-}
-
-// The weight, or 0 where it is below.
-fn at_least_none(weight: i64) -> u128
-    ensures { result ≡ count_of weight }
-{
-    if 0 < weight { weight as u128 } else { 0 }
 }
 
 // How many statements these are.

@@ -11,6 +11,7 @@ ghost use Rattle.river_kernels.specs.Fits.{are_widths};
 
 use kern_bags::Window;
 use kern_rows::{CodeKernel, Filter, First};
+use river_base::count_of;
 use work_code::{Expr, Exprs, Stmt, Stmts};
 
 /// How deep an expression may be.
@@ -64,19 +65,12 @@ pub(crate) fn are_formed_exprs(list: &Exprs, inputs: u32, slots: u32) -> bool
     true
 }
 
-// A number of ports, values or items; one below 0 counts as 0.
-pub(crate) fn count(number: i64) -> u64
-    ensures { result ≡ count_of number }
-{
-    if number < 0 { 0 } else { number as u64 }
-}
-
 // Whether the port is one of these, and its rows have n values.
 fn is_port(outs: &[i64], port: u32, n: usize) -> bool
     ensures { result ≡ has_port outs.now port n }
 {
     match outs.get(port as usize) {
-        Some(width) => count(*width) == n as u64,
+        Some(width) => count_of(*width) == n as u64,
         None => false,
     }
 }
@@ -153,7 +147,7 @@ pub(crate) fn is_row_width(width: u64) -> bool
 pub(crate) fn are_row_widths(outs: &[i64]) -> bool
     ensures { result ≡ are_widths outs.now }
 {
-    outs.iter().all(|width| is_row_width(count(*width)))
+    outs.iter().all(|width| is_row_width(count_of(*width)))
 }
 
 // Whether there are weights, and each is at least 1.
@@ -166,7 +160,7 @@ pub(crate) fn are_formed_weights(weights: &[i64]) -> bool
 fn are_positive(weights: &[i64]) -> bool
     ensures { result ≡ list_all (λ w. nat_le 1 (count_of w)) weights.now }
 {
-    weights.iter().all(|weight| count(*weight) >= 1)
+    weights.iter().all(|weight| count_of(*weight) >= 1)
 }
 
 // Whether a window of the last rows has at least 1.

@@ -7,6 +7,6 @@ mod formed;
 mod inference;
 mod ports;
 
-pub use above::{body_above, first_above, nesting};
+pub use above::{body_above, first_above, nesting, one_above, two_above};
 pub use fitting::fits;
 pub use formed::are_formed_stmts;

@@ -6,8 +6,8 @@ ghost use Rattle.river_kernels.specs.Formed.{is_width};
 ghost use Rattle.river_kernels.specs.Fits.{rows, width_of, is_sized, are_widths, ports};
 ghost use Rattle.river_kernels.specs.Types.{same_flat, same_type};
 
-use crate::formed::{count, is_row_width};
-use river_base::{FlatType, Listed, NoMemory, Numbers, QueueType};
+use crate::formed::is_row_width;
+use river_base::{FlatType, Listed, NoMemory, QueueType, count_of};
 use river_kernels::VarKind;
 use std::alloc::Global;
 
@@ -83,7 +83,7 @@ fn rows_of(width: i64) -> QueueType
     requires { IsTrue (is_width (count_of width)) }
     ensures { result ≡ rows (count_of width) }
 {
-    QueueType::Flat(FlatType::Rows(count(width) as u32))
+    QueueType::Flat(FlatType::Rows(count_of(width) as u32))
 }
 
 pub(crate) fn are_same_types(a: &[QueueType], b: &[QueueType]) -> bool

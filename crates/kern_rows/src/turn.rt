@@ -1,6 +1,5 @@
 // Ports that take turns.
 ghost use Rattle.std.specs.Prelude.{◌≡◌, ◌+◌, ◌<◌, ◌^◌, length, slice_index_or, nat_lt, if◌then◌else◌, IfOk, OnOk};
-ghost use Rattle.river_base.specs.Number.{count_of};
 ghost use Rattle.river_base.specs.Changes.{IsChanged};
 ghost use Rattle.kern_rows.specs.Dealing.{dealt_start, IsPortInTurn, TurnsOn, DealsFlat};
 ghost use Rattle.kern_rows.specs.Needs.{HaveShares};
@@ -8,23 +7,16 @@ ghost use Rattle.kern_rows.specs.Turns.{shares};
 
 use crate::Deal;
 use kern_changes::Owed;
-use river_base::{Flat, NoMemory, Numbers};
+use river_base::{Flat, NoMemory, Numbers, count_of};
 use std::alloc::Global;
 use std::marker::Model;
-
-// One below 0 counts as 0.
-fn count(number: i64) -> u64
-    ensures { result ≡ count_of number }
-{
-    if number < 0 { 0 } else { number as u64 }
-}
 
 /// How many items a port has in its turn, by the weights of the ports.
 pub(crate) fn share(weights: &Numbers, port: usize) -> u64
     requires { port < length weights.now }
     ensures { result ≡ slice_index_or (shares weights.now) port 0 }
 {
-    count(weights.as_slice()[port])
+    count_of(weights.as_slice()[port])
 }
 
 /// The port in turn and how many items it had, after one more, where `share` is its share.

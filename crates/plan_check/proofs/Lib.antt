@@ -1,3 +1,4 @@
+pub mod Faultless
 pub mod MapLoops
 pub mod Misused
 pub mod OverLemmas

@@ -13,9 +13,11 @@ mod order;
 mod search;
 mod types;
 mod uses;
+mod valid;
 mod wired;
 
 pub use judge::check;
 pub use kinds::queue_kinds;
 pub use search::name_again;
 pub use uses::check_uses;
+pub use valid::plan_of;

@@ -6,7 +6,7 @@ ghost use Rattle.river_plan.specs.Forms.{plan_form, op_forms};
 ghost use Rattle.river_plan.specs.First.{Along};
 ghost use Rattle.river_plan.specs.Limits.{most_of, numbers, port_numbers, kernel_numbers, nestings, best_rows, OverLimit, OverLimitAt};
 
-use kern_check::{first_above, nesting};
+use kern_check::{first_above, nesting, one_above, two_above};
 use kern_tables::TableKind;
 use river_base::{
     MOST_ITEMS, MOST_KEPT, MOST_OPERATORS, MOST_SLOTS, MOST_STATEMENTS, MOST_VARIABLES,
@@ -65,10 +65,10 @@ fn first_over(raw: &RawPlan, limit: Limit) -> Option<u128>
 {
     let most = most_of(limit);
     match limit {
-        Limit::Inputs => one_over(raw.inputs.len() as u128, most),
-        Limit::Operators => one_over(raw.ops.len() as u128, most),
-        Limit::Queues => one_over(queue_count(raw), most),
-        Limit::Variables => one_over(raw.tables.len() as u128 + raw.vars.len() as u128, most),
+        Limit::Inputs => one_above(raw.inputs.len() as u128, most),
+        Limit::Operators => one_above(raw.ops.len() as u128, most),
+        Limit::Queues => one_above(queue_count(raw), most),
+        Limit::Variables => one_above(raw.tables.len() as u128 + raw.vars.len() as u128, most),
         Limit::Ports => ports_over(&raw.ops, most),
         Limit::Statements => kernels_over(&raw.ops, Limit::Statements, most),
         Limit::Slots => kernels_over(&raw.ops, Limit::Slots, most),
@@ -107,28 +107,6 @@ fn queue_count(raw: &RawPlan) -> u128
     raw.outputs.len() as u128 + (raw.inputs.len() as u128 + raw.queues.len() as u128)
 }
 
-// The number, where it is above the most.
-fn one_over(number: u128, most: u64) -> Option<u128>
-    ensures { result ≡ above.first_above most (number ∷ []) }
-{
-    if (most as u128) < number {
-        Some(number)
-    } else {
-        None
-    }
-}
-
-// The first of two numbers that is above the most.
-fn two_over(first: u128, second: u128, most: u64) -> Option<u128>
-    ensures { result ≡ above.first_above most (first ∷ second ∷ []) }
-{
-    if (most as u128) < first {
-        Some(first)
-    } else {
-        one_over(second, most)
-    }
-}
-
 // The first number of ports that is above the most.
 fn ports_over(ops: &Ops, most: u64) -> Option<u128>
     ensures { result ≡ above.first_above most (port_numbers (op_forms ops.now)) }
@@ -145,7 +123,7 @@ fn ports_over(ops: &Ops, most: u64) -> Option<u128>
 fn port_over(op: &Op, most: u64) -> Option<u128>
     ensures { result ≡ above.first_above most (length op.now.reads ∷ length op.now.writes ∷ []) }
 {
-    two_over(op.reads.len() as u128, op.writes.len() as u128, most)
+    two_above(op.reads.len() as u128, op.writes.len() as u128, most)
 }
 
 // The first number in a kernel that is above the most.
@@ -177,7 +155,7 @@ fn nestings_over(ops: &Ops, most: u64) -> Option<u128>
 fn nesting_over(kernel: &Kernel, most: u64) -> Option<u128>
     ensures { result ≡ above.first_above most (above.nesting (kern_of kernel.now) ∷ []) }
 {
-    one_over(nesting(kernel), most)
+    one_above(nesting(kernel), most)
 }
 
 // The first number of rows that a table keeps that is above the most.
@@ -199,6 +177,6 @@ fn best_over(kind: TableKind, most: u64) -> Option<u128>
     match kind {
         TableKind::Sum { .. } => None,
         TableKind::Collection { .. } => None,
-        TableKind::Maximum { best, .. } => one_over(best as u128, most),
+        TableKind::Maximum { best, .. } => one_above(best as u128, most),
     }
 }

@@ -26,17 +26,12 @@ fn write_classes(alloc: Global, plan: &Plan, to: &mut Bytes) -> Result<(), NoMem
 {
     let users = table_users(alloc, plan)?;
     let classes = classes(alloc, &users)?;
-    print_lines(alloc, plan.raw().tables.as_slice(), classes.as_slice(), to)
+    print_lines(plan.raw().tables.as_slice(), classes.as_slice(), to)
 }
 
 // A line for each class, at the first table that has it.
 #[tactic(auto, using(crate::proofs::Joined::joins))]
-fn print_lines(
-    alloc: Global,
-    tables: &[TableDecl],
-    classes: &[i64],
-    to: &mut Bytes,
-) -> Result<(), NoMemory>
+fn print_lines(tables: &[TableDecl], classes: &[i64], to: &mut Bytes) -> Result<(), NoMemory>
     requires few { length classes.now < 2 ^ 32 }
     requires paired { length classes.now ≡ length tables.now }
     ensures { OnOk result (to.new ≡ to.old ++ class_lines 0 classes.now (table_names tables.now) classes.now) }
@@ -44,7 +39,7 @@ fn print_lines(
     let mut next: u32 = 0;
     for class in classes {
         if *class == i64::from(next) {
-            print_line(alloc, next, tables, classes, to)?;
+            print_line(next, tables, classes, to)?;
             next += 1;
         }
     }
@@ -53,7 +48,6 @@ fn print_lines(
 
 #[tactic(auto, using(crate::proofs::Joined::joins))]
 fn print_line(
-    alloc: Global,
     class: u32,
     tables: &[TableDecl],
     classes: &[i64],
@@ -63,7 +57,7 @@ fn print_line(
     ensures { OnOk result (to.new ≡ to.old ++ class_line class (table_names tables.now) classes.now) }
 {
     to.extend(b"# class ")?;
-    to.extend(class.to_string(alloc)?.as_bytes())?;
+    to.put_number(class)?;
     to.extend(b":")?;
     print_tables(class, tables, classes, to)?;
     to.extend(b"\n")

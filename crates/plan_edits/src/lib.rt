@@ -6,5 +6,5 @@ mod lists;
 mod unfit;
 
 pub use kinds::kind_of;
-pub use lists::{outer_lists, plan_of};
+pub use lists::outer_lists;
 pub use unfit::Unfit;

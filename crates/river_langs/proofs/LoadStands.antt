@@ -3,15 +3,16 @@ use Rattle.std.proofs.Common.{◌≡◌, ℕ, Bool, true, false, ◌&&◌, ◌�
 use Rattle.std.specs.Prelude.{codes, if◌then◌else◌}
 use Rattle.std.proofs.lemmas.Bool.{and_parts, true≢false}
 use Rattle.river_plan.specs.Forms.{PlanForm}
-use Rattle.river_script.specs.Reading.{step_name_at, named_at, counted_at, step_after, step_at, read_steps}
+use Rattle.river_script.specs.Reading.{named_at, counted_at, step_after, step_at, read_steps}
 use Rattle.river_base.specs.Name.{is_letter, is_digit, is_word}
-use Rattle.text_forms.specs.Parse.{comma_turn, open_at}
+use Rattle.text_forms.specs.Parse.{short_name_at, comma_turn, open_at}
 use Rattle.text_forms.specs.Repeat.{turns, repeated}
 use Rattle.text_tokens.specs.Symbols.{short_symbol, long_symbol}
 use Rattle.text_tokens.specs.Lexis.{is_blank, is_in_line, begins_with, block_end, decimal_from, number_piece, first_is, var_piece, symbol_piece, piece_at, marks}
 use Rattle.text_tokens.specs.Cut.{ends_unit, braces_after, cut}
 use Rattle.text_blocks.specs.Parts.{round_at, square_at, ended_at, first_value_at}
-use Rattle.saw_text.specs.Reading.{named_field_at, field_after, field_at, column_at, columns_at, best_at, kind_after, kind_at, weight_field_at, in_table_at, table_at, typed_after, typed_at, unit_named, unit_after, unit_at}
+use Rattle.saw_text.specs.Reading.{named_field_at, field_after, field_at, column_at, columns_at, best_at, kind_after, kind_at, weight_field_at, in_table_at}
+use Rattle.saw_text.specs.Reading.{table_at, typed_after, typed_at, unit_named, unit_after, unit_at}
 use Rattle.saw_text.specs.Words.{is_plain}
 use Rattle.saw_text.specs.Blocks.{user_name_at, declare_at, assign_at, indexes_at, weight_at, emit_at, named_after, plain_at}
 use Rattle.saw_text.specs.Expressions.{named}
@@ -42,7 +43,7 @@ is_loadable (Err fault) = false
 
 -- the text is such a program, as reading it shows
 load_read : is_loadable (compiled load_program) ≡ true
-unfolding rewritten step_name_at named_at counted_at step_after step_at read_steps is_letter is_digit is_word comma_turn open_at turns repeated
+unfolding rewritten short_name_at named_at counted_at step_after step_at read_steps is_letter is_digit is_word comma_turn open_at turns repeated
     short_symbol long_symbol is_blank is_in_line begins_with block_end decimal_from number_piece first_is var_piece symbol_piece piece_at marks
     ends_unit braces_after cut compiled round_at square_at ended_at first_value_at named_field_at field_after field_at column_at columns_at best_at
     kind_after kind_at weight_field_at in_table_at table_at typed_after typed_at unit_named unit_after unit_at is_plain user_name_at declare_at

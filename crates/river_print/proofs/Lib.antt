@@ -2,7 +2,6 @@ pub mod Joined
 pub mod Kernels
 pub mod Listings
 pub mod Pieces
-pub mod Places
 pub mod PrintedExpr
 pub mod Promise
 pub mod Queues

@@ -30,7 +30,8 @@ use Rattle.river_text.specs.Bodies as bodies
 use Rattle.river_text.specs.Expressions as rule
 use Rattle.river_text.specs.Kernels as g
 use Rattle.river_text.specs.Plans as t
-use Rattle.river_print.proofs.Places.{Place, QueueDecl}
+use Rattle.river_text.specs.declared.decl.QueueDecl.{QueueDecl}
+use Rattle.river_text.specs.declared.entry.Place.{Place}
 use Rattle.river_print.specs.Writable as w
 use Rattle.river_print.specs.Printable as r
 use Rattle.river_print.specs.Ranged as ranges

@@ -17,8 +17,8 @@ use Rattle.text_forms.specs.Texts.{AllFormed}
 use Rattle.river_print.specs.Printed.{header_line, decl_line, queue_line, table_line, var_line, op_line, lines, plan_text}
 use Rattle.river_text.specs.Plans.{EntryForm, header, output, input, inner, table, private, operator, stage_of, entry_cap, cap_stands, may_stand, IsUnit, IsUnitAt}
 use Rattle.river_text.specs.Plans.{TextForm, empty_text, add_entry, add_all, first_place, next_place, AreUnits, IsText}
+use Rattle.river_text.specs.declared.entry.Place.{Place}
 use Rattle.river_text.proofs.Texts.{one_plan}
-use Rattle.river_print.proofs.Places.{Place}
 use Rattle.river_print.specs.Laws.{HaveOwnCaps, stood, PrintedIsRead}
 use Rattle.river_print.specs.Writable as w
 use Rattle.river_print.proofs.Queues.{header_toks, header-unit, header-formed, header-short, queue_toks, queue-unit, queue-formed}

@@ -1,101 +1,70 @@
 // Prints numbers, and items joined by a comma and a space.
 ghost use Rattle.std.specs.Prelude.{◌≡◌, ◌++◌, [], ◌∷◌, map, codes, OnOk};
-ghost use Rattle.std.specs.Fmt.{decimal, signed_decimal};
-ghost use Rattle.work_code.specs.Term.{term};
-ghost use Rattle.work_code.specs.Printed.{text_of, items_text, more_items};
+ghost use Rattle.std.specs.Fmt.{decimal};
+ghost use Rattle.work_code.specs.Printed.{items_text, more_items};
 ghost use Rattle.river_print.specs.Printed.{start_text, list_text, var_text, ports_text};
 ghost use Rattle.river_print.specs.Styles.{text_in};
 
-use crate::print::print_expr;
 use river_base::{Bytes, Name, NoMemory};
-use std::alloc::Global;
-use work_code::Expr;
-
-/// Appends a number in decimal.
-pub(crate) fn number(alloc: Global, number: u32, to: &mut Bytes) -> Result<(), NoMemory>
-    ensures { OnOk result (to.new ≡ to.old ++ decimal number) }
-{
-    let text = number.to_string(alloc)?;
-    to.extend(text.as_bytes())
-}
-
-/// Appends a value in decimal, with its sign where it is below 0.
-pub(crate) fn value(alloc: Global, value: i64, to: &mut Bytes) -> Result<(), NoMemory>
-    ensures { OnOk result (to.new ≡ to.old ++ signed_decimal value) }
-{
-    let text = value.to_string(alloc)?;
-    to.extend(text.as_bytes())
-}
 
 /// Appends a start; the least value is `min`.
-pub(crate) fn start(alloc: Global, start: i64, to: &mut Bytes) -> Result<(), NoMemory>
+pub(crate) fn start(start: i64, to: &mut Bytes) -> Result<(), NoMemory>
     ensures { OnOk result (to.new ≡ to.old ++ start_text start) }
 {
     if start == i64::MIN {
         return to.extend(b"min");
     }
-    value(alloc, start, to)
+    to.put_number(start)
 }
 
 /// Appends one number in brackets.
 #[tactic(auto, using(crate::proofs::Joined::joins))]
-pub(crate) fn in_brackets(alloc: Global, n: u32, to: &mut Bytes) -> Result<(), NoMemory>
+pub(crate) fn in_brackets(n: u32, to: &mut Bytes) -> Result<(), NoMemory>
     ensures { OnOk result (to.new ≡ to.old ++ list_text (decimal n ∷ [])) }
 {
     to.extend(b"(")?;
-    number(alloc, n, to)?;
+    to.put_number(n)?;
     to.extend(b")")
 }
 
 /// Appends a number behind a comma and a space.
 #[tactic(auto, using(crate::proofs::Joined::joins))]
-pub(crate) fn next_number(alloc: Global, n: u32, to: &mut Bytes) -> Result<(), NoMemory>
+pub(crate) fn next_number(n: u32, to: &mut Bytes) -> Result<(), NoMemory>
     ensures { OnOk result (to.new ≡ to.old ++ (codes ", " ++ decimal n)) }
 {
     to.extend(b", ")?;
-    number(alloc, n, to)
+    to.put_number(n)
 }
 
 /// Appends two numbers in brackets.
 #[tactic(auto, using(crate::proofs::Joined::joins))]
-pub(crate) fn two_in_brackets(alloc: Global, a: u32, b: u32, to: &mut Bytes) -> Result<(), NoMemory>
+pub(crate) fn two_in_brackets(a: u32, b: u32, to: &mut Bytes) -> Result<(), NoMemory>
     ensures { OnOk result (to.new ≡ to.old ++ list_text (decimal a ∷ decimal b ∷ [])) }
 {
     to.extend(b"(")?;
-    number(alloc, a, to)?;
-    next_number(alloc, b, to)?;
+    to.put_number(a)?;
+    next_number(b, to)?;
     to.extend(b")")
 }
 
 /// Appends an opening bracket and three numbers.
 #[tactic(auto, using(crate::proofs::Joined::joins))]
-pub(crate) fn begin_three(
-    alloc: Global,
-    a: u32,
-    b: u32,
-    c: u32,
-    to: &mut Bytes,
-) -> Result<(), NoMemory>
+pub(crate) fn begin_three(a: u32, b: u32, c: u32, to: &mut Bytes) -> Result<(), NoMemory>
     ensures { OnOk result (to.new ≡ to.old ++ (codes "(" ++ (decimal a ++ (codes ", " ++ (decimal b ++ (codes ", " ++ decimal c)))))) }
 {
     to.extend(b"(")?;
-    number(alloc, a, to)?;
-    next_number(alloc, b, to)?;
-    next_number(alloc, c, to)
+    to.put_number(a)?;
+    next_number(b, to)?;
+    next_number(c, to)
 }
 
 /// Appends a word and one number in brackets.
 #[tactic(auto, using(crate::proofs::Joined::joins))]
-pub(crate) fn counted(
-    alloc: Global,
-    word: &[u8],
-    count: u32,
-    to: &mut Bytes,
-) -> Result<(), NoMemory>
+pub(crate) fn counted(word: &[u8], count: u32, to: &mut Bytes) -> Result<(), NoMemory>
     ensures { OnOk result (to.new ≡ to.old ++ (word.now ++ list_text (decimal count ∷ []))) }
 {
     to.extend(word)?;
-    in_brackets(alloc, count, to)
+    in_brackets(count, to)
 }
 
 /// Appends a word, a name and a colon.
@@ -118,64 +87,35 @@ pub(crate) enum Style {
 }
 
 // Appends a number of a list.
-fn item(alloc: Global, number: i64, style: Style, to: &mut Bytes) -> Result<(), NoMemory>
+fn item(number: i64, style: Style, to: &mut Bytes) -> Result<(), NoMemory>
     ensures { OnOk result (to.new ≡ to.old ++ text_in style number) }
 {
     match style {
-        Style::Value => value(alloc, number, to),
-        Style::Start => start(alloc, number, to),
+        Style::Value => to.put_number(number),
+        Style::Start => start(number, to),
     }
 }
 
 /// Appends numbers in brackets.
 #[tactic(auto, using(crate::proofs::Joined::joins))]
-pub(crate) fn numbers(
-    alloc: Global,
-    items: &[i64],
-    style: Style,
-    to: &mut Bytes,
-) -> Result<(), NoMemory>
+pub(crate) fn numbers(items: &[i64], style: Style, to: &mut Bytes) -> Result<(), NoMemory>
     ensures { OnOk result (to.new ≡ to.old ++ list_text (map (text_in style) items.now)) }
 {
     to.extend(b"(")?;
     if let Some((first, rest)) = items.split_first() {
-        item(alloc, *first, style, to)?;
-        more_numbers(alloc, rest, style, to)?;
+        item(*first, style, to)?;
+        more_numbers(rest, style, to)?;
     }
     to.extend(b")")
 }
 
 #[tactic(auto, using(crate::proofs::Joined::joins))]
-fn more_numbers(alloc: Global, items: &[i64], style: Style, to: &mut Bytes) -> Result<(), NoMemory>
+fn more_numbers(items: &[i64], style: Style, to: &mut Bytes) -> Result<(), NoMemory>
     ensures { OnOk result (to.new ≡ to.old ++ more_items (map (text_in style) items.now)) }
 {
     for number in items {
         to.extend(b", ")?;
-        item(alloc, *number, style, to)?;
-    }
-    Ok(())
-}
-
-/// Appends expressions in brackets.
-#[tactic(auto, using(crate::proofs::Joined::joins))]
-pub(crate) fn exprs(alloc: Global, items: &[Expr], to: &mut Bytes) -> Result<(), NoMemory>
-    ensures { OnOk result (to.new ≡ to.old ++ list_text (map text_of (map term items.now))) }
-{
-    to.extend(b"(")?;
-    if let Some((first, rest)) = items.split_first() {
-        print_expr(alloc, first, to)?;
-        more_exprs(alloc, rest, to)?;
-    }
-    to.extend(b")")
-}
-
-#[tactic(auto, using(crate::proofs::Joined::joins))]
-fn more_exprs(alloc: Global, items: &[Expr], to: &mut Bytes) -> Result<(), NoMemory>
-    ensures { OnOk result (to.new ≡ to.old ++ more_items (map text_of (map term items.now))) }
-{
-    for item in items {
-        to.extend(b", ")?;
-        print_expr(alloc, item, to)?;
+        item(*number, style, to)?;
     }
     Ok(())
 }

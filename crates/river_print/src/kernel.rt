@@ -9,10 +9,10 @@ ghost use Rattle.river_kernels.specs.Kern.{kern_of, select, project, fused};
 ghost use Rattle.river_print.specs.Printed.{kernel_text, list_text, values_text, code_text, filter_text, first_text, firsts_text, rates_text, run_text, window_text, streamer_text};
 
 use crate::items::{
-    Style, begin_three, counted, exprs, in_brackets, next_number, numbers, two_in_brackets, value,
+    Style, begin_three, counted, in_brackets, next_number, numbers, two_in_brackets,
 };
 use crate::print::print_expr;
-use crate::printing::print_code;
+use crate::printing::{print_code, write_items};
 use kern_bags::{Streamer, Window};
 use kern_rows::{CodeKernel, Filter, First};
 use river_base::{Bytes, NoMemory};
@@ -29,14 +29,14 @@ fn print_kernel(alloc: Global, kernel: &Kernel, to: &mut Bytes) -> Result<(), No
     match kernel {
         Kernel::Code(code) => print_code_kernel(alloc, code, to),
         Kernel::Filter(filter) => print_filter(alloc, filter, to),
-        Kernel::Duplicate(ports) => counted(alloc, b"duplicate", *ports, to),
-        Kernel::Deal(weights) => print_weights(alloc, b"deal", weights.as_slice(), to),
-        Kernel::Collect(weights) => print_weights(alloc, b"collect", weights.as_slice(), to),
+        Kernel::Duplicate(ports) => counted(b"duplicate", *ports, to),
+        Kernel::Deal(weights) => print_weights(b"deal", weights.as_slice(), to),
+        Kernel::Collect(weights) => print_weights(b"collect", weights.as_slice(), to),
         Kernel::Packed(inner) => print_between(alloc, b"packed { ", inner, b" }", to),
-        Kernel::Unpack(ports) => counted(alloc, b"unpack", *ports, to),
-        Kernel::Window(window) => print_window(alloc, *window, to),
+        Kernel::Unpack(ports) => counted(b"unpack", *ports, to),
+        Kernel::Window(window) => print_window(*window, to),
         Kernel::Select(cond) => print_select(alloc, cond.expr(), to),
-        Kernel::Project(list) => print_project(alloc, list.exprs(), to),
+        Kernel::Project(list) => print_project(list.exprs(), to),
         Kernel::Cross => to.extend(b"cross"),
         Kernel::Streamer(streamer) => print_streamer(*streamer, to),
         Kernel::Tally => to.extend(b"tally"),
@@ -73,23 +73,18 @@ fn print_fused(
 ) -> Result<(), NoMemory>
     ensures { OnOk result (to.new ≡ to.old ++ kernel_text (fused (kern_of first.now) (kern_of second.now) at)) }
 {
-    begin_fused(alloc, at, to)?;
+    begin_fused(at, to)?;
     print_kernel(alloc, first, to)?;
     print_between(alloc, b" } { ", second, b" }", to)
 }
 
 // A word and values in brackets.
 #[tactic(auto, using(crate::proofs::Joined::joins))]
-fn print_weights(
-    alloc: Global,
-    word: &[u8],
-    weights: &[i64],
-    to: &mut Bytes,
-) -> Result<(), NoMemory>
+fn print_weights(word: &[u8], weights: &[i64], to: &mut Bytes) -> Result<(), NoMemory>
     ensures { OnOk result (to.new ≡ to.old ++ (word.now ++ values_text weights.now)) }
 {
     to.extend(word)?;
-    numbers(alloc, weights, Style::Value, to)
+    numbers(weights, Style::Value, to)
 }
 
 #[tactic(auto, using(crate::proofs::Joined::joins))]
@@ -102,20 +97,21 @@ fn print_select(alloc: Global, cond: &Expr, to: &mut Bytes) -> Result<(), NoMemo
 }
 
 #[tactic(auto, using(crate::proofs::Joined::joins))]
-fn print_project(alloc: Global, list: &Exprs, to: &mut Bytes) -> Result<(), NoMemory>
+fn print_project(list: &Exprs, to: &mut Bytes) -> Result<(), NoMemory>
     ensures { OnOk result (to.new ≡ to.old ++ kernel_text (project (terms list.now))) }
 {
-    to.extend(b"project")?;
-    exprs(alloc, list.as_slice(), to)
+    to.extend(b"project(")?;
+    write_items(list, to)?;
+    to.extend(b")")
 }
 
 // What stands before the two kernels of a fused one.
 #[tactic(auto, using(crate::proofs::Joined::joins))]
-fn begin_fused(alloc: Global, at: u32, to: &mut Bytes) -> Result<(), NoMemory>
+fn begin_fused(at: u32, to: &mut Bytes) -> Result<(), NoMemory>
     ensures { OnOk result (to.new ≡ to.old ++ (codes "fused" ++ (list_text (decimal at ∷ []) ++ codes " { "))) }
 {
     to.extend(b"fused")?;
-    in_brackets(alloc, at, to)?;
+    in_brackets(at, to)?;
     to.extend(b" { ")
 }
 
@@ -124,9 +120,9 @@ fn print_code_kernel(alloc: Global, kernel: &CodeKernel, to: &mut Bytes) -> Resu
     ensures { OnOk result (to.new ≡ to.old ++ code_text (code_form kernel.now)) }
 {
     to.extend(b"code")?;
-    two_in_brackets(alloc, kernel.code.inputs, kernel.code.slots, to)?;
+    two_in_brackets(kernel.code.inputs, kernel.code.slots, to)?;
     to.extend(b" ")?;
-    numbers(alloc, kernel.outs.as_slice(), Style::Value, to)?;
+    numbers(kernel.outs.as_slice(), Style::Value, to)?;
     print_run(alloc, kernel.starts.as_slice(), &kernel.code, to)
 }
 
@@ -135,7 +131,7 @@ fn print_filter(alloc: Global, filter: &Filter, to: &mut Bytes) -> Result<(), No
     ensures { OnOk result (to.new ≡ to.old ++ filter_text (filter_form filter.now)) }
 {
     to.extend(b"filter")?;
-    print_rates(alloc, filter, to)?;
+    print_rates(filter, to)?;
     print_run(alloc, filter.starts.as_slice(), &filter.code, to)?;
     print_firsts(alloc, &filter.first, to)
 }
@@ -156,17 +152,17 @@ fn print_first(alloc: Global, run: &First, to: &mut Bytes) -> Result<(), NoMemor
     ensures { OnOk result (to.new ≡ to.old ++ first_text (run_form run.now)) }
 {
     to.extend(b" first")?;
-    print_first_rates(alloc, run, to)?;
+    print_first_rates(run, to)?;
     to.extend(b" ")?;
     print_code(alloc, &run.code, to)
 }
 
 // The rates of a first run, in brackets.
 #[tactic(auto, using(crate::proofs::Joined::joins))]
-fn print_first_rates(alloc: Global, run: &First, to: &mut Bytes) -> Result<(), NoMemory>
+fn print_first_rates(run: &First, to: &mut Bytes) -> Result<(), NoMemory>
     ensures { OnOk result (to.new ≡ to.old ++ list_text (decimal run.now.peek ∷ decimal run.now.pop ∷ decimal run.now.push ∷ [])) }
 {
-    begin_three(alloc, run.peek, run.pop, run.push, to)?;
+    begin_three(run.peek, run.pop, run.push, to)?;
     to.extend(b")")
 }
 
@@ -176,38 +172,38 @@ fn print_run(alloc: Global, kept: &[i64], code: &Code, to: &mut Bytes) -> Result
     ensures { OnOk result (to.new ≡ to.old ++ run_text kept.now (steps code.now.body)) }
 {
     to.extend(b" ")?;
-    numbers(alloc, kept, Style::Start, to)?;
+    numbers(kept, Style::Start, to)?;
     to.extend(b" ")?;
     print_code(alloc, code, to)
 }
 
 // The rates of a filter and how many slots it has, in brackets.
 #[tactic(auto, using(crate::proofs::Joined::joins))]
-fn print_rates(alloc: Global, filter: &Filter, to: &mut Bytes) -> Result<(), NoMemory>
+fn print_rates(filter: &Filter, to: &mut Bytes) -> Result<(), NoMemory>
     ensures { OnOk result (to.new ≡ to.old ++ rates_text (filter_form filter.now)) }
 {
-    begin_three(alloc, filter.peek, filter.pop, filter.push, to)?;
-    next_number(alloc, filter.code.slots, to)?;
+    begin_three(filter.peek, filter.pop, filter.push, to)?;
+    next_number(filter.code.slots, to)?;
     to.extend(b")")
 }
 
-fn print_window(alloc: Global, window: Window, to: &mut Bytes) -> Result<(), NoMemory>
+fn print_window(window: Window, to: &mut Bytes) -> Result<(), NoMemory>
     ensures { OnOk result (to.new ≡ to.old ++ window_text window) }
 {
     match window {
         Window::Now => to.extend(b"now"),
-        Window::Range(most) => print_range(alloc, most, to),
+        Window::Range(most) => print_range(most, to),
         Window::Unbounded => to.extend(b"unbounded"),
-        Window::Latest(count) => counted(alloc, b"latest", count, to),
+        Window::Latest(count) => counted(b"latest", count, to),
     }
 }
 
 #[tactic(auto, using(crate::proofs::Joined::joins))]
-fn print_range(alloc: Global, most: i64, to: &mut Bytes) -> Result<(), NoMemory>
+fn print_range(most: i64, to: &mut Bytes) -> Result<(), NoMemory>
     ensures { OnOk result (to.new ≡ to.old ++ window_text (window_kind.Range most)) }
 {
     to.extend(b"range(")?;
-    value(alloc, most, to)?;
+    to.put_number(most)?;
     to.extend(b")")
 }
 

@@ -56,149 +56,134 @@ fn plan_lines(
 ) -> Result<(), NoMemory>
     ensures { OnOk result (to.new ≡ to.old ++ plan_text (own_of own.now) (plan_form plan.now)) }
 {
-    queue_lines(alloc, plan, own, to)?;
-    table_lines(alloc, plan.tables.as_slice(), to)?;
+    queue_lines(plan, own, to)?;
+    table_lines(plan.tables.as_slice(), to)?;
     var_lines(plan.vars.as_slice(), to)?;
     op_lines(alloc, plan.ops.as_slice(), to)
 }
 
 // The header, and the queues.
 #[tactic(auto, using(crate::proofs::Joined::joins))]
-fn queue_lines(
-    alloc: Global,
-    plan: &RawPlan,
-    own: &CapsByName,
-    to: &mut Bytes,
-) -> Result<(), NoMemory>
+fn queue_lines(plan: &RawPlan, own: &CapsByName, to: &mut Bytes) -> Result<(), NoMemory>
     ensures { OnOk result (to.new ≡ to.old ++ queues_text (own_of own.now) (plan_form plan.now)) }
 {
     to.extend(b"river 2;\n")?;
-    decl_lines(alloc, b"output", plan.outputs.as_slice(), to)?;
-    decl_lines(alloc, b"input", plan.inputs.as_slice(), to)?;
-    inner_lines(alloc, plan.queues.as_slice(), own, to)
+    decl_lines(b"output", plan.outputs.as_slice(), to)?;
+    decl_lines(b"input", plan.inputs.as_slice(), to)?;
+    inner_lines(plan.queues.as_slice(), own, to)
 }
 
 #[tactic(auto, using(crate::proofs::Joined::joins))]
-fn inner_lines(
-    alloc: Global,
-    decls: &[Decl],
-    own: &CapsByName,
-    to: &mut Bytes,
-) -> Result<(), NoMemory>
+fn inner_lines(decls: &[Decl], own: &CapsByName, to: &mut Bytes) -> Result<(), NoMemory>
     ensures { OnOk result (to.new ≡ to.old ++ lines (queue_line (own_of own.now)) decls.now) }
 {
     for decl in decls {
-        print_queue(alloc, decl, own.own(decl.name), to)?;
+        print_queue(decl, own.own(decl.name), to)?;
     }
     Ok(())
 }
 
 #[tactic(auto, using(crate::proofs::Joined::joins))]
-fn print_queue(
-    alloc: Global,
-    decl: &Decl,
-    most: Option<u32>,
-    to: &mut Bytes,
-) -> Result<(), NoMemory>
+fn print_queue(decl: &Decl, most: Option<u32>, to: &mut Bytes) -> Result<(), NoMemory>
     ensures { OnOk result (to.new ≡ to.old ++ capped_line decl.now most) }
 {
     titled(b"queue ", &decl.name, to)?;
-    print_type(alloc, decl.kind, to)?;
-    print_cap(alloc, most, to)?;
+    print_type(decl.kind, to)?;
+    print_cap(most, to)?;
     to.extend(b";\n")
 }
 
 // A capacity behind a space, if there is one.
-fn print_cap(alloc: Global, most: Option<u32>, to: &mut Bytes) -> Result<(), NoMemory>
+fn print_cap(most: Option<u32>, to: &mut Bytes) -> Result<(), NoMemory>
     ensures { OnOk result (to.new ≡ to.old ++ cap_text most) }
 {
     match most {
-        Some(most) => counted(alloc, b" cap", most, to),
+        Some(most) => counted(b" cap", most, to),
         None => Ok(()),
     }
 }
 
 #[tactic(auto, using(crate::proofs::Joined::joins))]
-fn decl_lines(alloc: Global, word: &[u8], decls: &[Decl], to: &mut Bytes) -> Result<(), NoMemory>
+fn decl_lines(word: &[u8], decls: &[Decl], to: &mut Bytes) -> Result<(), NoMemory>
     ensures { OnOk result (to.new ≡ to.old ++ lines (decl_line word.now) decls.now) }
 {
     for decl in decls {
-        print_decl(alloc, word, decl, to)?;
+        print_decl(word, decl, to)?;
     }
     Ok(())
 }
 
 #[tactic(auto, using(crate::proofs::Joined::joins))]
-fn print_decl(alloc: Global, word: &[u8], decl: &Decl, to: &mut Bytes) -> Result<(), NoMemory>
+fn print_decl(word: &[u8], decl: &Decl, to: &mut Bytes) -> Result<(), NoMemory>
     ensures { OnOk result (to.new ≡ to.old ++ decl_line word.now decl.now) }
 {
     to.extend(word)?;
     titled(b" ", &decl.name, to)?;
-    print_type(alloc, decl.kind, to)?;
+    print_type(decl.kind, to)?;
     to.extend(b";\n")
 }
 
 #[tactic(auto, using(crate::proofs::Joined::joins))]
-fn print_type(alloc: Global, kind: QueueType, to: &mut Bytes) -> Result<(), NoMemory>
+fn print_type(kind: QueueType, to: &mut Bytes) -> Result<(), NoMemory>
     ensures { OnOk result (to.new ≡ to.old ++ type_text kind) }
 {
     match kind {
-        QueueType::Flat(flat) => print_flat(alloc, flat, to),
+        QueueType::Flat(flat) => print_flat(flat, to),
         QueueType::Pack(flat) => {
             to.extend(b"pack(")?;
-            print_flat(alloc, flat, to)?;
+            print_flat(flat, to)?;
             to.extend(b")")
         }
     }
 }
 
-fn print_flat(alloc: Global, flat: FlatType, to: &mut Bytes) -> Result<(), NoMemory>
+fn print_flat(flat: FlatType, to: &mut Bytes) -> Result<(), NoMemory>
     ensures { OnOk result (to.new ≡ to.old ++ flat_text flat) }
 {
     match flat {
-        FlatType::Rows(width) => counted(alloc, b"rows", width, to),
-        FlatType::Stream(width) => counted(alloc, b"stream", width, to),
-        FlatType::Relation(width) => counted(alloc, b"relation", width, to),
+        FlatType::Rows(width) => counted(b"rows", width, to),
+        FlatType::Stream(width) => counted(b"stream", width, to),
+        FlatType::Relation(width) => counted(b"relation", width, to),
     }
 }
 
 #[tactic(auto, using(crate::proofs::Joined::joins))]
-fn table_lines(alloc: Global, tables: &[TableDecl], to: &mut Bytes) -> Result<(), NoMemory>
+fn table_lines(tables: &[TableDecl], to: &mut Bytes) -> Result<(), NoMemory>
     ensures { OnOk result (to.new ≡ to.old ++ lines table_line tables.now) }
 {
     for table in tables {
-        print_table(alloc, table, to)?;
+        print_table(table, to)?;
     }
     Ok(())
 }
 
 #[tactic(auto, using(crate::proofs::Joined::joins))]
-fn print_table(alloc: Global, table: &TableDecl, to: &mut Bytes) -> Result<(), NoMemory>
+fn print_table(table: &TableDecl, to: &mut Bytes) -> Result<(), NoMemory>
     ensures { OnOk result (to.new ≡ to.old ++ table_line table.now) }
 {
     to.extend(b"table ")?;
     var(&table.name, to)?;
     to.extend(b": ")?;
-    print_kind(alloc, table.kind, to)?;
+    print_kind(table.kind, to)?;
     to.extend(b";\n")
 }
 
-fn print_kind(alloc: Global, kind: TableKind, to: &mut Bytes) -> Result<(), NoMemory>
+fn print_kind(kind: TableKind, to: &mut Bytes) -> Result<(), NoMemory>
     ensures { OnOk result (to.new ≡ to.old ++ table_text kind) }
 {
     match kind {
-        TableKind::Sum { keys } => counted(alloc, b"sum", keys, to),
-        TableKind::Collection { keys } => counted(alloc, b"collection", keys, to),
-        TableKind::Maximum { best, keys } => print_best(alloc, best, keys, to),
+        TableKind::Sum { keys } => counted(b"sum", keys, to),
+        TableKind::Collection { keys } => counted(b"collection", keys, to),
+        TableKind::Maximum { best, keys } => print_best(best, keys, to),
     }
 }
 
 #[tactic(auto, using(crate::proofs::Joined::joins))]
-fn print_best(alloc: Global, best: u32, keys: u32, to: &mut Bytes) -> Result<(), NoMemory>
+fn print_best(best: u32, keys: u32, to: &mut Bytes) -> Result<(), NoMemory>
     ensures { OnOk result (to.new ≡ to.old ++ table_text (table_kind.Maximum best keys)) }
 {
     to.extend(b"maximum")?;
-    two_in_brackets(alloc, best, keys, to)
+    two_in_brackets(best, keys, to)
 }
 
 #[tactic(auto, using(crate::proofs::Joined::joins))]

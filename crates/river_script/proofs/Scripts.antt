@@ -10,7 +10,7 @@ use Rattle.text_tokens.specs.Tok.{Tok, Mark, toks}
 use Rattle.text_tokens.specs.declared.sign.Symbol.TheVariants as s
 use Rattle.river_base.specs.Name.{is_name}
 use Rattle.text_forms.specs.AllUnits.{or_syntax, then_read, by_units}
-use Rattle.text_forms.specs.Parse.{Parse, is_count}
+use Rattle.text_forms.specs.Parse.{Parse, short_name_at, is_count}
 use Rattle.text_forms.specs.TextFaults.{HasTextFault}
 use Rattle.text_forms.specs.declared.text_fault.TextFault.{TextFault}
 use Rattle.text_forms.specs.declared.text_fault.TextFault.TheVariants.{Syntax}
@@ -21,14 +21,14 @@ use Rattle.text_forms.proofs.Texts.{all-formed, formed-read, first-bad, bad-read
 use Rattle.text_forms.proofs.TextsBy.{text-stands, text-has, text-tells, one-value}
 use Rattle.river_script.specs.Script.{StepForm, fusing, hoisting}
 use Rattle.river_script.specs.Grammar.{NameAndEnd, Counted, split_into, IsStep, StepIn, go_on, IsScript, IsBadAt, OneScript}
-use Rattle.river_script.specs.Reading.{step_name_at, named_at, counted_at, step_after, step_at, with_step, read_steps, steps_of, steps_in}
+use Rattle.river_script.specs.Reading.{named_at, counted_at, step_after, step_at, with_step, read_steps, steps_of, steps_in}
 
 exact-named : Exact NameAndEnd named_at Any
-unfolding named_at step_name_at
+unfolding named_at short_name_at
 exact-named = exact-before (s.Semicolon ∷ []) (exact-tested is_name exact-name) (λ rest. tt)
 
 exact-counted : Exact Counted counted_at Any
-unfolding counted_at step_name_at
+unfolding counted_at short_name_at
 exact-counted =
     exact-both (exact-tested is_name exact-name) (exact-before (s.Semicolon ∷ []) (exact-tested is_count exact-number) (λ rest. tt)) (λ y ts rest g d. tt)
 

@@ -31,7 +31,7 @@ StepsLeadTo p [] q = p ≡ q
 StepsLeadTo p (s ∷ ss) q = (p' : PlanForm) × Accepts p s p' × StepsLeadTo p' ss q
 
 -- the steps before this one, counted from 1, are accepted, and of its conditions this is the first that fails
-pub record IsRefused (p : PlanForm) (ss : List StepForm) (step : ℕ) (why : Unfit) : Type 0 where
+pub record IsRefusedAt (p : PlanForm) (ss : List StepForm) (step : ℕ) (why : Unfit) : Type 0 where
   pub done : List StepForm
   pub here : StepForm
   pub others : List StepForm
@@ -43,7 +43,7 @@ pub record IsRefused (p : PlanForm) (ss : List StepForm) (step : ℕ) (why : Unf
 
 abbrev pub JudgesSteps : PlanForm → List StepForm → Result PlanForm (ℕ × Unfit) → Type 0
 JudgesSteps p ss (Ok q) = StepsLeadTo p ss q
-JudgesSteps p ss (Err f) = IsRefused p ss f.0 f.1
+JudgesSteps p ss (Err f) = IsRefusedAt p ss f.0 f.1
 
 -- steps give the plan to which they lead, and otherwise the first that fails and the first of its conditions that does
 abbrev pub ScriptIsJudged : Type 0

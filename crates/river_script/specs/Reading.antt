@@ -3,22 +3,18 @@ use Rattle.std.specs.Prelude.{ℕ, ◌+◌, ◌++◌, List, [], ◌∷◌, Optio
 use Rattle.std.specs.Str.{bytes_eq}
 use Rattle.text_tokens.specs.Tok.{Tok}
 use Rattle.text_tokens.specs.declared.sign.Symbol.TheVariants as s
-use Rattle.river_base.specs.Name.{is_name}
 use Rattle.text_forms.specs.AllUnits.{by_units, text_by}
-use Rattle.text_forms.specs.Parse.{Parse, name_at, count_at, both, before, tested, seen, headed}
+use Rattle.text_forms.specs.Parse.{Parse, short_name_at, count_at, both, before, seen, headed}
 use Rattle.text_forms.specs.Texts.{whole}
 use Rattle.text_forms.specs.declared.text_fault.TextFault.{TextFault}
 use Rattle.river_script.specs.Script.{StepForm, fusing, hoisting}
 use Rattle.river_script.specs.Grammar.{split_into}
 
-unfoldable pub step_name_at : Parse (List ℕ)
-step_name_at ts = tested is_name name_at ts
-
 unfoldable pub named_at : Parse (List ℕ)
-named_at ts = before step_name_at (s.Semicolon ∷ []) ts
+named_at ts = before short_name_at (s.Semicolon ∷ []) ts
 
 unfoldable pub counted_at : Parse (List ℕ × ℕ)
-counted_at ts = both step_name_at (before count_at (s.Semicolon ∷ [])) ts
+counted_at ts = both short_name_at (before count_at (s.Semicolon ∷ [])) ts
 
 unfoldable pub step_after : List ℕ → Parse StepForm
 step_after w ts =

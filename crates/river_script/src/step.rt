@@ -3,7 +3,7 @@ ghost use Rattle.text_forms.specs.Gives.{Gives};
 ghost use Rattle.text_forms.specs.Texts.{whole};
 ghost use Rattle.text_tokens.specs.Tok.{tokens_of};
 ghost use Rattle.river_script.specs.Steps.{MakesStep, step_form};
-ghost use Rattle.river_script.specs.Reading.{step_name_at, named_at, counted_at, step_after, step_at};
+ghost use Rattle.river_script.specs.Reading.{named_at, counted_at, step_after, step_at};
 
 use river_base::{Listed, Name};
 use text_forms::{ParseFault, Reader};
@@ -23,24 +23,12 @@ pub(crate) enum Step {
 /// A list of steps.
 pub(crate) type Steps = Listed<Step>;
 
-// A name of at most 64 bytes.
-#[tactic(auto, unfolding(crate::specs::Reading::step_name_at))]
-fn step_name(reader: &mut Reader<'_>) -> Result<Name, ParseFault>
-    ensures { Gives (λ name. name) result reader.new (step_name_at reader.old) }
-{
-    let text = reader.name()?;
-    match Name::from_slice(text) {
-        Some(name) => Ok(name),
-        None => Err(ParseFault::Syntax),
-    }
-}
-
 // The name that is the rest of a step.
 #[tactic(auto, unfolding(crate::specs::Reading::named_at))]
 fn named(reader: &mut Reader<'_>) -> Result<Name, ParseFault>
     ensures { Gives (λ name. name) result reader.new (named_at reader.old) }
 {
-    let name = step_name(reader)?;
+    let name = reader.short_name()?;
     reader.expect(&[Symbol::Semicolon])?;
     Ok(name)
 }
@@ -50,7 +38,7 @@ fn named(reader: &mut Reader<'_>) -> Result<Name, ParseFault>
 fn counted(reader: &mut Reader<'_>) -> Result<(Name, u32), ParseFault>
     ensures { Gives (λ v. v) result reader.new (counted_at reader.old) }
 {
-    let name = step_name(reader)?;
+    let name = reader.short_name()?;
     let n = reader.count()?;
     reader.expect(&[Symbol::Semicolon])?;
     Ok((name, n))

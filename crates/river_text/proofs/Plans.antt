@@ -9,6 +9,7 @@ use Rattle.river_base.specs.declared.kind.FlatType.TheVariants.{Rows, Stream, Re
 use Rattle.river_base.specs.declared.kind.QueueType.TheVariants.{Flat, Pack}
 use Rattle.kern_tables.specs.declared.kind.TableKind.TheVariants.{Sum, Collection}
 use Rattle.text_forms.specs.Parse as parse
+use Rattle.text_forms.specs.Parse.{short_name_at, short_var_at}
 use Rattle.text_forms.specs.Forms as form
 use Rattle.text_forms.proofs.Exact.{Exact, Any, exact-as, exact-less, exact-both, exact-after, exact-before, exact-tested, exact-seen, exact-merged, exact-name}
 use Rattle.text_forms.proofs.Exact.{exact-var, exact-number, exact-maybe, exact-after_word}
@@ -21,19 +22,19 @@ use Rattle.river_text.specs.Plans.{made_queue, IsCapped, IsQueue, is_two, IsHead
 use Rattle.text_blocks.specs.Parts.{Round}
 use Rattle.river_text.specs.declared.entry.Place.{Place}
 use Rattle.river_text.specs.Plans.{IsUnitAt}
-use Rattle.river_text.specs.ReadPlans.{river_name_at, river_var_at, flat_after, flat_at, packed_at, type_after, type_at, decl_at, cap_at, queue_at, header_at, kind_after, kind_at, table_at}
+use Rattle.river_text.specs.ReadPlans.{flat_after, flat_at, packed_at, type_after, type_at, decl_at, cap_at, queue_at, header_at, kind_after, kind_at, table_at}
 use Rattle.river_text.specs.ReadPlans.{is_var_at, port_at, split_from, port_list_at, ports_at, op_at, private_at, other_after, unit_after, unit_at, unit_from}
 use Rattle.river_text.proofs.Kernels.{exact-counted, exact-pair, exact-round, exact-braced}
 use Rattle.river_text.proofs.Regroup.{op-same}
 
 -- names and variables of at most 64 bytes
-pub exact-river_name : Exact IsName river_name_at Any
-unfolding river_name_at
-exact-river_name = exact-tested is_name exact-name
+pub exact-short_name : Exact IsName short_name_at Any
+unfolding short_name_at
+exact-short_name = exact-tested is_name exact-name
 
-pub exact-river_var : Exact IsVar river_var_at Any
-unfolding river_var_at
-exact-river_var = exact-tested is_name exact-var
+pub exact-short_var : Exact IsVar short_var_at Any
+unfolding short_var_at
+exact-short_var = exact-tested is_name exact-var
 
 exact-flat_after : (n : ℕ) (w : List ℕ) → Exact (FlatAfter n w) (flat_after n w) Any
 unfolding flat_after
@@ -55,7 +56,7 @@ exact-type =
 exact-decl : Exact IsDecl decl_at Any
 unfolding decl_at
 exact-decl =
-    exact-seen made_decl (exact-both exact-river_name (exact-after (s.Colon ∷ []) (exact-before (s.Semicolon ∷ []) exact-type (λ rest. tt)))
+    exact-seen made_decl (exact-both exact-short_name (exact-after (s.Colon ∷ []) (exact-before (s.Semicolon ∷ []) exact-type (λ rest. tt)))
     (λ y ts rest g d. tt))
 
 -- a capacity does not come next
@@ -74,7 +75,7 @@ exact-cap =
 exact-queue : Exact IsQueue queue_at Any
 unfolding queue_at
 exact-queue =
-    exact-seen made_queue (exact-both exact-river_name
+    exact-seen made_queue (exact-both exact-short_name
     (exact-after (s.Colon ∷ []) (exact-before (s.Semicolon ∷ []) (exact-both exact-type exact-cap (λ y ts rest g d. tt)) (λ rest. refl)))
     (λ y ts rest g d. tt))
 
@@ -85,7 +86,7 @@ exact-header = exact-before (s.Semicolon ∷ []) (exact-tested is_two exact-numb
 exact-table : Exact IsTable table_at Any
 unfolding table_at kind_at kind_after
 exact-table =
-    exact-seen made_table (exact-both exact-river_var (exact-after (s.Colon ∷ []) (exact-before (s.Semicolon ∷ []) (exact-headed (λ w.
+    exact-seen made_table (exact-both exact-short_var (exact-after (s.Colon ∷ []) (exact-before (s.Semicolon ∷ []) (exact-headed (λ w.
     exact-choose (bytes_eq w (codes "sum")) (exact-seen Sum (exact-counted brackets))
     (exact-choose (bytes_eq w (codes "collection")) (exact-seen Collection (exact-counted brackets))
     (exact-choose (bytes_eq w (codes "maximum")) (exact-seen made_maximum (exact-pair brackets)) exact-never)))) (λ rest. tt))) (λ y ts rest g d. tt))
@@ -93,7 +94,7 @@ exact-table =
 -- a queue or a variable
 pub exact-port : Exact IsPort port_at Any
 unfolding port_at
-exact-port = exact-less (exact-merged is_var_at (exact-seen variable exact-river_var) (exact-seen queue exact-river_name) left right) (λ rest d. (tt, tt)) where
+exact-port = exact-less (exact-merged is_var_at (exact-seen variable exact-short_var) (exact-seen queue exact-short_name) left right) (λ rest d. (tt, tt)) where
   left : (v : Port) (ts rest : List Tok) → form.Seen variable IsVar v ts → Any rest → is_var_at (ts ++ rest) ≡ true
   left v ts rest h d = rw h.formed.formed refl
 
@@ -154,14 +155,14 @@ exact-ports = exact-round (λ m. exact-ports_inside) (λ rest. (refl, (tt, refl)
 
 exact-op : Exact IsOp op_at Any
 exact-op =
-    exact-as (exact-seen made_op (exact-tested same_vars (exact-both exact-river_name (exact-after (s.Colon ∷ []) (exact-both exact-ports
+    exact-as (exact-seen made_op (exact-tested same_vars (exact-both exact-short_name (exact-after (s.Colon ∷ []) (exact-both exact-ports
     (exact-after (s.Less ∷ s.Minus ∷ []) (exact-both exact-ports (exact-braced brackets) (λ y ts rest g d. tt))) (λ y ts rest g d. tt)))
     (λ y ts rest g d. tt))))
     (λ v ts h. h) (λ v ts h. h) op-same
 
 exact-private : Exact (form.Before IsVar (s.Semicolon ∷ [])) private_at Any
 unfolding private_at
-exact-private = exact-before (s.Semicolon ∷ []) exact-river_var (λ rest. tt)
+exact-private = exact-before (s.Semicolon ∷ []) exact-short_var (λ rest. tt)
 
 pub exact-unit : Exact IsUnit unit_at Any
 unfolding unit_at unit_after other_after

@@ -2,10 +2,10 @@
 use Rattle.std.proofs.Common.{◌≡◌, List, [], ◌∷◌, Bool, true, false, cond, Option, None, Some, refl}
 use Rattle.text_tokens.specs.Tok.{Tok}
 use Rattle.text_tokens.specs.declared.sign.Symbol.TheVariants as s
-use Rattle.text_forms.specs.Parse.{count_at, then_parsed, then_rest, answer_at, both, after, seen, tested}
+use Rattle.text_forms.specs.Parse.{count_at, short_name_at, then_parsed, then_rest, answer_at, both, after, seen, tested}
 use Rattle.river_text.specs.Plans.{brackets, same_vars, made_op}
 use Rattle.river_text.specs.ReadKernels.{two_at, four, braced_at}
-use Rattle.river_text.specs.ReadPlans.{river_name_at, ports_at, op_from_at, op_at}
+use Rattle.river_text.specs.ReadPlans.{ports_at, op_from_at, op_at}
 
 -- what is read behind a reading is read in it
 pub read-read : {A B C : Type 0} (o : Option (A × List Tok)) (f : A → List Tok → Option (B × List Tok)) (g : B → List Tok → Option (C × List Tok))
@@ -36,6 +36,6 @@ rates-same ts = simp (read-read, read-rest)
 -- an operator, part by part or as a whole
 pub op-same : (ts : List Tok) → op_at ts
     ≡ seen made_op (tested same_vars
-    (both river_name_at (after (s.Colon ∷ []) (both ports_at (after (s.Less ∷ s.Minus ∷ []) (both ports_at (braced_at brackets))))))) ts
+    (both short_name_at (after (s.Colon ∷ []) (both ports_at (after (s.Less ∷ s.Minus ∷ []) (both ports_at (braced_at brackets))))))) ts
 unfolding op_at op_from_at
 op-same ts = simp (read-read, read-rest, read-if, given-if)

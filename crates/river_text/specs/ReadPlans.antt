@@ -4,7 +4,6 @@ use Rattle.std.specs.Str.{bytes_eq}
 use Rattle.text_tokens.specs.Cut.{units_of}
 use Rattle.text_tokens.specs.Tok.{Tok, name, var, number, symbol, Mark, toks}
 use Rattle.text_tokens.specs.declared.sign.Symbol.TheVariants as s
-use Rattle.river_base.specs.Name.{is_name}
 use Rattle.river_base.specs.declared.kind.FlatType.{FlatType}
 use Rattle.river_base.specs.declared.kind.FlatType.TheVariants.{Rows, Stream, Relation}
 use Rattle.river_base.specs.declared.kind.QueueType.{QueueType}
@@ -15,7 +14,7 @@ use Rattle.river_plan.specs.Forms.{OpForm}
 use Rattle.river_plan.specs.declared.plan.Decl.{Decl}
 use Rattle.river_plan.specs.declared.plan.TableDecl.{TableDecl}
 use Rattle.river_kernels.specs.Kern.{Kern}
-use Rattle.text_forms.specs.Parse.{Parse, is_word_at, name_at, var_at, symbols_at, then_parsed, then_rest}
+use Rattle.text_forms.specs.Parse.{Parse, is_word_at, short_name_at, short_var_at, symbols_at, then_parsed, then_rest}
 use Rattle.text_forms.specs.Parse.{answer_at, both, after, after_word, before, maybe, tested, seen, known, merged, listing}
 use Rattle.text_forms.specs.Parse as parse
 use Rattle.text_forms.specs.Parse.{headed}
@@ -27,12 +26,6 @@ use Rattle.river_text.specs.Plans.{table, private, operator, made_queue, is_two,
 use Rattle.river_text.specs.declared.decl.QueueDecl.{QueueDecl}
 use Rattle.river_text.specs.declared.entry.Place.{Place}
 use Rattle.river_text.specs.ReadKernels.{round, number_at, pair_at, braced_at}
-
-unfoldable pub river_name_at : Parse (List ℕ)
-river_name_at ts = tested is_name name_at ts
-
-unfoldable pub river_var_at : Parse (List ℕ)
-river_var_at ts = tested is_name var_at ts
 
 unfoldable pub flat_after : ℕ → List ℕ → Parse FlatType
 flat_after n w ts =
@@ -54,14 +47,14 @@ unfoldable pub type_at : Parse QueueType
 type_at ts = headed type_after ts
 
 unfoldable pub decl_at : Parse Decl
-decl_at ts = seen made_decl (both river_name_at (after (s.Colon ∷ []) (before type_at (s.Semicolon ∷ [])))) ts
+decl_at ts = seen made_decl (both short_name_at (after (s.Colon ∷ []) (before type_at (s.Semicolon ∷ [])))) ts
 
 -- a capacity, or nothing
 unfoldable pub cap_at : Parse (Option ℕ)
 cap_at ts = maybe (is_word_at (codes "cap")) (after_word (codes "cap") (number_at brackets)) ts
 
 unfoldable pub queue_at : Parse QueueDecl
-queue_at ts = seen made_queue (both river_name_at (after (s.Colon ∷ []) (before (both type_at cap_at) (s.Semicolon ∷ [])))) ts
+queue_at ts = seen made_queue (both short_name_at (after (s.Colon ∷ []) (before (both type_at cap_at) (s.Semicolon ∷ [])))) ts
 
 unfoldable pub header_at : Parse ℕ
 header_at ts = before (tested is_two parse.number_at) (s.Semicolon ∷ []) ts
@@ -77,7 +70,7 @@ unfoldable pub kind_at : Parse TableKind
 kind_at ts = headed kind_after ts
 
 unfoldable pub table_at : Parse TableDecl
-table_at ts = seen made_table (both river_var_at (after (s.Colon ∷ []) (before kind_at (s.Semicolon ∷ [])))) ts
+table_at ts = seen made_table (both short_var_at (after (s.Colon ∷ []) (before kind_at (s.Semicolon ∷ [])))) ts
 
 -- a variable comes
 abbrev pub is_var_at : List Tok → Bool
@@ -88,7 +81,7 @@ is_var_at (number value ∷ ts) = false
 is_var_at (symbol x ∷ ts) = false
 
 unfoldable pub port_at : Parse Port
-port_at ts = merged is_var_at (seen variable river_var_at) (seen queue river_name_at) ts
+port_at ts = merged is_var_at (seen variable short_var_at) (seen queue short_name_at) ts
 
 -- queues and then variables, behind these
 unfoldable pub split_from : (qs vs : List (List ℕ)) → List Port → Option Ports
@@ -115,11 +108,11 @@ op_from_at label outs ts =
 
 unfoldable pub op_at : Parse OpForm
 op_at ts =
-    then_parsed (river_name_at ts) (λ label us. then_rest (symbols_at (s.Colon ∷ []) us)
+    then_parsed (short_name_at ts) (λ label us. then_rest (symbols_at (s.Colon ∷ []) us)
     (λ vs. then_parsed (ports_at vs) (λ outs ws. op_from_at label outs ws)))
 
 unfoldable pub private_at : Parse (List ℕ)
-private_at ts = before river_var_at (s.Semicolon ∷ []) ts
+private_at ts = before short_var_at (s.Semicolon ∷ []) ts
 
 -- what stands behind the first word of a unit that declares no queue
 unfoldable pub other_after : List ℕ → Parse EntryForm

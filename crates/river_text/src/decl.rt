@@ -1,6 +1,6 @@
 // Declarations read.
 ghost use Rattle.text_forms.specs.Gives.{Gives};
-ghost use Rattle.river_text.specs.ReadPlans.{river_name_at, river_var_at, flat_after, flat_at, packed_at, type_at, decl_at};
+ghost use Rattle.river_text.specs.ReadPlans.{flat_after, flat_at, packed_at, type_at, decl_at};
 ghost use Rattle.river_text.specs.ReadPlans.{cap_at, queue_at, header_at, kind_at, table_at, private_at};
 
 use crate::number::{number, pair};
@@ -12,30 +12,6 @@ use text_tokens::Symbol;
 
 /// How many brackets may be open in a unit.
 pub const BRACKETS: u32 = 128;
-
-/// A name of at most 64 bytes.
-#[tactic(auto, unfolding(crate::specs::ReadPlans::river_name_at))]
-pub fn river_name(reader: &mut Reader<'_>) -> Result<Name, ParseFault>
-    ensures { Gives (λ name. name) result reader.new (river_name_at reader.old) }
-{
-    let text = reader.name()?;
-    match Name::from_slice(text) {
-        Some(name) => Ok(name),
-        None => Err(ParseFault::Syntax),
-    }
-}
-
-/// A variable, whose name has at most 64 bytes.
-#[tactic(auto, unfolding(crate::specs::ReadPlans::river_var_at))]
-pub fn river_var(reader: &mut Reader<'_>) -> Result<Name, ParseFault>
-    ensures { Gives (λ name. name) result reader.new (river_var_at reader.old) }
-{
-    let text = reader.var()?;
-    match Name::from_slice(text) {
-        Some(name) => Ok(name),
-        None => Err(ParseFault::Syntax),
-    }
-}
 
 // What stands behind the word of a flat type.
 #[tactic(auto, unfolding(crate::specs::ReadPlans::flat_after))]
@@ -90,7 +66,7 @@ fn queue_type(reader: &mut Reader<'_>) -> Result<QueueType, ParseFault>
 pub fn decl(reader: &mut Reader<'_>) -> Result<Decl, ParseFault>
     ensures { Gives (λ decl. decl) result reader.new (decl_at reader.old) }
 {
-    let name = river_name(reader)?;
+    let name = reader.short_name()?;
     reader.expect(&[Symbol::Colon])?;
     let kind = queue_type(reader)?;
     closed(reader, Decl { name, kind }, Symbol::Semicolon)
@@ -98,7 +74,7 @@ pub fn decl(reader: &mut Reader<'_>) -> Result<Decl, ParseFault>
 
 /// The declaration of a queue that is neither an output nor an input.
 #[derive(Clone, Copy)]
-pub(crate) struct QueueDecl {
+pub struct QueueDecl {
     /// Its name and what it carries.
     pub decl: Decl,
     /// How many items it holds at most, where the text says so.
@@ -122,7 +98,7 @@ fn cap(reader: &mut Reader<'_>) -> Result<Option<u32>, ParseFault>
 pub(crate) fn queue(reader: &mut Reader<'_>) -> Result<QueueDecl, ParseFault>
     ensures { Gives (λ queue. queue) result reader.new (queue_at reader.old) }
 {
-    let name = river_name(reader)?;
+    let name = reader.short_name()?;
     reader.expect(&[Symbol::Colon])?;
     let kind = queue_type(reader)?;
     let most = cap(reader)?;
@@ -166,7 +142,7 @@ fn table_kind(reader: &mut Reader<'_>) -> Result<TableKind, ParseFault>
 pub(crate) fn table(reader: &mut Reader<'_>) -> Result<TableDecl, ParseFault>
     ensures { Gives (λ table. table) result reader.new (table_at reader.old) }
 {
-    let name = river_var(reader)?;
+    let name = reader.short_var()?;
     reader.expect(&[Symbol::Colon])?;
     let kind = table_kind(reader)?;
     closed(reader, TableDecl { name, kind }, Symbol::Semicolon)
@@ -177,6 +153,6 @@ pub(crate) fn table(reader: &mut Reader<'_>) -> Result<TableDecl, ParseFault>
 pub(crate) fn private(reader: &mut Reader<'_>) -> Result<Name, ParseFault>
     ensures { Gives (λ name. name) result reader.new (private_at reader.old) }
 {
-    let name = river_var(reader)?;
+    let name = reader.short_var()?;
     closed(reader, name, Symbol::Semicolon)
 }

@@ -30,7 +30,7 @@ pub(crate) enum Entry {
 
 /// A place in a text, between its units.
 #[derive(Clone, Copy)]
-pub(crate) struct Place {
+pub struct Place {
     /// The least place of units that may come.
     pub stage: u32,
     /// Whether there is a header before it.

@@ -15,7 +15,7 @@ mod river_fault;
 mod term;
 
 pub use body::body as braced_body;
-pub use decl::{BRACKETS, river_name, river_var};
+pub use decl::BRACKETS;
 pub use entry::RiverText;
 pub use front::{RiverPlan, compile_river};
 pub use number::{number as round_number, pair as round_pair, signed};

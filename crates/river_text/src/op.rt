@@ -8,7 +8,7 @@ ghost use Rattle.river_plan.specs.Forms.{op_form};
 ghost use Rattle.river_text.specs.Listed.{pair_of};
 ghost use Rattle.river_text.specs.ReadPlans.{ports_at, op_of_parts, op_from_at, op_at};
 
-use crate::decl::{BRACKETS, river_name};
+use crate::decl::BRACKETS;
 use crate::kernel::braced;
 use crate::port::{Ports, both_lists};
 use river_base::Name;
@@ -23,7 +23,7 @@ use text_tokens::Symbol;
 pub(crate) fn operator(reader: &mut Reader<'_>, alloc: Global) -> Result<Op, ParseFault>
     ensures { Gives op_form result reader.new (op_at reader.old) }
 {
-    let label = river_name(reader)?;
+    let label = reader.short_name()?;
     reader.expect(&[Symbol::Colon])?;
     let outs = both_lists(reader, alloc)?;
     op_from(reader, alloc, label, outs)

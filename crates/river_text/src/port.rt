@@ -6,7 +6,7 @@ ghost use Rattle.text_forms.specs.Gives.{Makes};
 ghost use Rattle.river_text.specs.ReadPlans.{port_at, split_from, port_list_at, ports_at};
 ghost use Rattle.river_text.specs.Listed.{port_of, pair_of};
 
-use crate::decl::{BRACKETS, river_name, river_var};
+use crate::decl::BRACKETS;
 use river_base::{Listed, Name};
 use river_plan::Names;
 use std::alloc::Global;
@@ -33,9 +33,9 @@ fn one_port(reader: &mut Reader<'_>) -> Result<Port, ParseFault>
     ensures { Gives port_of result reader.new (port_at reader.old) }
 {
     if let Some(Token::Var(_)) = reader.peek() {
-        return Ok(Port::Variable(river_var(reader)?));
+        return Ok(Port::Variable(reader.short_var()?));
     }
-    Ok(Port::Queue(river_name(reader)?))
+    Ok(Port::Queue(reader.short_name()?))
 }
 
 // Queues and variables with commas between them, at least one.

@@ -10,7 +10,8 @@ ghost use Rattle.plan_edits.specs.Answered.{IsAnswered};
 
 use crate::names::share;
 use crate::ops::{fused_ops, is_large, reader, writer};
-use plan_edits::{Unfit, outer_lists, plan_of};
+use plan_check::plan_of;
+use plan_edits::{Unfit, outer_lists};
 use river_base::{Duplicate, Name, NoMemory};
 use river_plan::{Decl, Decls, Op, Ops, Plan, RawPlan};
 use std::alloc::Global;

@@ -146,7 +146,7 @@ module _ (whole : Parts) (i : ℕ) (c : UnitForm) (rest : Program) (now next : J
 
   -- a unit that is refused
   pub parts_fault : (e : Fault) → Reads (Err (why.Fault e)) out' out'' now next (unit_judged c (at_of now))
-      → IsWhyRefused (RefusedProgram (record { unit = i + 1; fault = e })) whole
+      → IsWhyRefused whole (RefusedProgram (record { unit = i + 1; fault = e }))
   parts_fault e h = f.whole_is ∙ ap (λ x. behind_parts (in_turn (map step f.added)) (in_unit (i + 1) x after)) h
 
 -- all units

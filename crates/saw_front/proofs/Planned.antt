@@ -1,5 +1,5 @@
 -- The lists of a plan, and what is known of its tables.
-use Rattle.std.proofs.Common.{◌≡◌, ℕ, zero, suc, ◌+◌, ◌<◌, ◌≤◌, ◌^◌, true, List, [], ◌∷◌, ◌++◌, length, drop, get_or, Option, Some, None, Ok, Err, refl, sym, ap, ◌∙◌}
+use Rattle.std.proofs.Common.{◌≡◌, ℕ, zero, suc, ◌+◌, ◌<◌, ◌≤◌, ◌^◌, true, List, [], ◌∷◌, ◌++◌, length, drop, get_or, Ok, refl, sym, ap, ◌∙◌}
 use Rattle.std.proofs.Common.{subst, arith, append_assoc, append-nil, length-append}
 use Rattle.std.specs.Prelude.{◌&&◌, codes, nat_le}
 use Rattle.std.specs.List.{AllByRecursion, list_all}
@@ -8,13 +8,8 @@ use Rattle.std.proofs.lemmas.List.Folds.{list_all-append}
 use Rattle.river_base.proofs.Lists.{map_next, map_none}
 use Rattle.river_base.specs.Name.{is_letter, is_digit, is_word, is_name}
 use Rattle.river_plan.specs.Forms.{Name, PlanForm, plan_form}
-use Rattle.river_plan.specs.Told.{IsTold, fault_of}
 use Rattle.river_plan.specs.Valid.{IsPlan}
-use Rattle.river_plan.specs.declared.fault.PlanFault.{PlanFault}
-use Rattle.river_plan.specs.declared.fault.PlanFault.TheVariants as plan_fault
 use Rattle.river_plan.specs.declared.plan.RawPlan.{RawPlan}
-use Rattle.river_plan.proofs.JudgeLemmas.{fault_of-is}
-use Rattle.river_plan.proofs.ValidLaw.{valid-no_fault}
 use Rattle.river_plan.specs.declared.plan.TableDecl.{TableDecl}
 use Rattle.work_code.specs.Steps.{Steps}
 use Rattle.saw_text.specs.Tree.{Program}
@@ -103,32 +98,6 @@ pub tables_end : (us : List tree.Unit) (i : ℕ) (list whole : List TableDecl) �
 tables_end us i list whole le h = sym (append-nil list) ∙ ap (λ (p : List UnitForm). list ++ tables_in p) (sym (map_none unit_form us i le)) ∙ h
 
 -- THE PLAN OF LISTS THAT ARE VALID
-
--- a plan that is valid has no fault
-pub valid-faultless : (p : PlanForm) (f : PlanFault) → IsPlan p → (f ≡ plan_fault.NoMemory → ⊥) → IsTold p (Err f) → ⊥
-valid-faultless p f valid some told = by f some told where
-  none : fault_of p ≡ None
-  none = fault_of-is p None (valid-no_fault p valid)
-
-  not_some : {A : Type 0} {x : A} → ◌≡◌ {A = Option A} None (Some x) → ⊥
-  not_some h = cc
-
-  never : (g : PlanFault) → fault_of p ≡ Some g → ⊥
-  never g e = not_some (sym none ∙ e)
-
-  by : (g : PlanFault) → (g ≡ plan_fault.NoMemory → ⊥) → IsTold p (Err g) → ⊥
-  by (plan_fault.P1 n) s e = never (plan_fault.P1 n) e
-  by (plan_fault.P2 n) s e = never (plan_fault.P2 n) e
-  by (plan_fault.P3 n) s e = never (plan_fault.P3 n) e
-  by (plan_fault.P4 n) s e = never (plan_fault.P4 n) e
-  by (plan_fault.P5 n) s e = never (plan_fault.P5 n) e
-  by (plan_fault.P6 n) s e = never (plan_fault.P6 n) e
-  by (plan_fault.P7 n) s e = never (plan_fault.P7 n) e
-  by (plan_fault.P8 l n) s e = never (plan_fault.P8 l n) e
-  by (plan_fault.P9 n) s e = never (plan_fault.P9 n) e
-  by plan_fault.NoMemory s e = s refl
-
-pub ruleset faultless = (valid-faultless)
 
 -- the lists of a program that is accepted are valid, where no expression is too deep
 pub lists-valid : (us : Program) (raw : RawPlan) → AreShallowUnits us → PlansBy plan_form (Ok raw) us (judged us) → IsPlan (plan_form raw)

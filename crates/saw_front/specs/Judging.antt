@@ -61,4 +61,4 @@ ReadsTable (Err e) at at' r = IsWhyUnit e r
 -- all units are accepted, and their statements are appended; or the fault is the first
 abbrev pub JudgesAll : Result (Unit {0}) Refused → Stmts → Stmts → Judge → Result (Steps × At) Refusal → Type 0
 JudgesAll (Ok u) old new at' r = (added : List Stmt) × (statements new ≡ statements old ++ added) × (r ≡ Ok (in_turn (map step added), at_of at'))
-JudgesAll (Err e) old new at' r = IsWhyRefused e r
+JudgesAll (Err e) old new at' r = IsWhyRefused r e

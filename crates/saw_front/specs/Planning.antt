@@ -10,11 +10,11 @@ use Rattle.saw_front.specs.declared.refused.Refused.{Refused}
 use Rattle.saw_front.specs.declared.refused.Refused.TheVariants as refused
 
 -- this is why a program is refused; want of memory says nothing
-abbrev pub IsWhyRefused : {A : Type 0} → Refused → Result A Refusal → Type 0
-IsWhyRefused (refused.Program refusal) r = r ≡ Err refusal
-IsWhyRefused refused.NoMemory r = Unit {0}
+abbrev pub IsWhyRefused : {A : Type 0} → Result A Refusal → Refused → Type 0
+IsWhyRefused r (refused.Program refusal) = r ≡ Err refusal
+IsWhyRefused r refused.NoMemory = Unit {0}
 
 -- the plan of a program that is accepted, in the view of what was made; or why it is refused
 abbrev pub PlansBy : {X : Type 0} → (X → PlanForm) → Result X Refused → Program → Result (Steps × At) Refusal → Type 0
 PlansBy view (Ok x) p r = (read : Steps × At) × (r ≡ Ok read) × (view x ≡ plan_of p read)
-PlansBy view (Err e) p r = IsWhyRefused e r
+PlansBy view (Err e) p r = IsWhyRefused r e

@@ -1,7 +1,5 @@
 // From the units of a program to its plan.
-ghost use Rattle.std.specs.Prelude.{◌≡◌, IfOk};
 ghost use Rattle.river_plan.specs.Forms.{plan_form};
-ghost use Rattle.river_plan.specs.Valid.{IsPlan};
 ghost use Rattle.saw_model.specs.Judged.{judged};
 ghost use Rattle.saw_model.specs.Shallow.{AreShallowUnits};
 ghost use Rattle.saw_text.specs.Tree.{unit_forms};
@@ -11,9 +9,8 @@ ghost use Rattle.saw_front.specs.Valued.{AreValuedUnits};
 use crate::Refused;
 use crate::judge::Judge;
 use crate::lists::lists;
-use plan_check::check;
-use river_base::NoMemory;
-use river_plan::{Plan, PlanFault, RawPlan};
+use plan_check::plan_of;
+use river_plan::{Plan, RawPlan};
 use saw_text::Unit;
 use std::alloc::Global;
 use work_code::Stmts;
@@ -25,7 +22,7 @@ pub fn plan(alloc: Global, units: &[Unit]) -> Result<Plan, Refused>
     ensures { PlansBy (λ plan. plan) result (unit_forms units.now) (judged (unit_forms units.now)) }
 {
     let raw = raw(alloc, units)?;
-    let plan = valid(alloc, raw)?;
+    let plan = plan_of(alloc, raw)?;
     Ok(plan)
 }
 
@@ -39,17 +36,4 @@ fn raw(alloc: Global, units: &[Unit]) -> Result<RawPlan, Refused>
     judge.parts(alloc, units, &mut body)?;
     let raw = lists(alloc, units, body, judge.slots)?;
     Ok(raw)
-}
-
-// The plan of lists that are valid.
-#[tactic(auto, using(crate::proofs::Planned::faultless))]
-fn valid(alloc: Global, raw: RawPlan) -> Result<Plan, NoMemory>
-    requires { IsPlan (plan_form raw) }
-    ensures { IfOk result (λ plan. plan ≡ plan_form raw) }
-{
-    match check(alloc, raw) {
-        Ok(plan) => Ok(plan),
-        Err(PlanFault::NoMemory) => Err(NoMemory),
-        Err(_) => unreachable!(),
-    }
 }

@@ -1,8 +1,7 @@
 // The names of a query's columns.
-ghost use Rattle.std.specs.Prelude.{◌≡◌, ◌++◌, codes, IsTrue, IfOk, OnOk};
+ghost use Rattle.std.specs.Prelude.{◌≡◌, ◌++◌, codes, IfOk, OnOk};
 ghost use Rattle.std.specs.List.{flat_map};
 ghost use Rattle.std.specs.Fmt.{decimal};
-ghost use Rattle.river_base.specs.Name.{is_name};
 ghost use Rattle.cql_model.specs.Scopes.{column_name, column_names, names_from, plain_name};
 ghost use Rattle.cql_text.specs.Tree.{scalar, column_of, chosen_of, columns_of};
 ghost use Rattle.slow_cql.specs.Kept.{input_scope};
@@ -86,7 +85,7 @@ fn place_name(alloc: Global, place: usize) -> Result<Name, NoMemory>
     ensures { IfOk result (λ name. name ≡ codes "c" ++ decimal place) }
 {
     let text = place_text(alloc, place)?;
-    Ok(name_of(text.as_slice()))
+    Ok(Name::of(text.as_slice()))
 }
 
 // Its bytes.
@@ -94,17 +93,6 @@ fn place_text(alloc: Global, place: usize) -> Result<Bytes, NoMemory>
     ensures { IfOk result (λ text. text ≡ codes "c" ++ decimal place) }
 {
     let mut bytes = Bytes::from_slice(alloc, b"c")?;
-    bytes.extend(place.to_string(alloc)?.as_bytes())?;
+    bytes.put_number(place)?;
     Ok(bytes)
-}
-
-// The name that has these bytes.
-fn name_of(bytes: &[u8]) -> Name
-    requires { IsTrue (is_name bytes.now) }
-    ensures { result ≡ bytes.now }
-{
-    match Name::from_slice(bytes) {
-        Some(name) => name,
-        None => unreachable!(),
-    }
 }

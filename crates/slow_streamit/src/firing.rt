@@ -11,7 +11,7 @@ ghost use Rattle.streamit_unroll.specs.Unrolling.{AreOptional, AreWritten, AreWr
 ghost use Rattle.slow_streamit.specs.Firing.{named_values, firing_state};
 
 use indexmap::IndexMap;
-use river_base::{Name, NoMemory, Numbers};
+use river_base::{Name, NoMemory, Numbers, count_of};
 use std::alloc::Global;
 use streamit_text::{Block, Expr, Statement, Until};
 use work_code::{BinOp, apply, negate, truth_of};
@@ -115,7 +115,7 @@ fn both(
 fn peeked(items: &[i64], popped: usize, index: i64) -> i64
     ensures { result ≡ slice_index_or items.now (popped + count_of index) (pos 0) }
 {
-    match popped.checked_add(count(index)) {
+    match popped.checked_add(count_of(index) as usize) {
         Some(place) => item_at(items, place),
         None => 0,
     }
@@ -141,21 +141,14 @@ fn next(place: usize) -> Result<usize, NoMemory>
     }
 }
 
-// A bound or an index as a number of items: one below 0 counts as 0.
-fn count(bound: i64) -> usize
-    ensures { result ≡ count_of bound }
-{
-    if bound < 0 { 0 } else { bound as usize }
-}
-
 // Where the turns of a loop end.
 fn end_of(high: i64, until: Until) -> usize
     ensures is { result ≡ count_of high + (if is_turn until then 1 else 0) }
     ensures small { result ≤ 2 ^ 63 }
 {
     match until {
-        Until::Below => count(high),
-        Until::UpTo => count(high) + 1,
+        Until::Below => count_of(high) as usize,
+        Until::UpTo => count_of(high) as usize + 1,
     }
 }
 
@@ -282,7 +275,13 @@ impl Firing {
     {
         let low = self.bound(low, items)?;
         let high = self.bound(high, items)?;
-        self.turns(name, count(low), end_of(high, until), body, items)
+        self.turns(
+            name,
+            count_of(low) as usize,
+            end_of(high, until),
+            body,
+            items,
+        )
     }
 
     // A block for each value of a loop's variable.

@@ -1,5 +1,5 @@
 // Names with numbers behind them, and lists of names.
-ghost use Rattle.std.specs.Prelude.{◌≡◌, ◌≤◌, ◌+◌, IsTrue, IfOk, [], ◌∷◌, length};
+ghost use Rattle.std.specs.Prelude.{◌≡◌, ◌≤◌, ◌+◌, IsTrue, IfOk, length};
 ghost use Rattle.river_base.specs.Name.{is_name};
 ghost use Rattle.streamit_model.specs.Plan.{numbered, queue, queues};
 
@@ -14,7 +14,7 @@ pub(crate) fn numbered(alloc: Global, name: &[u8], number: u32) -> Result<Name, 
     ensures { IfOk result (λ made. made ≡ numbered name.now number) }
 {
     let text = text(alloc, name, number)?;
-    Ok(name_of(text.as_slice()))
+    Ok(Name::of(text.as_slice()))
 }
 
 // Its bytes.
@@ -23,19 +23,8 @@ fn text(alloc: Global, name: &[u8], number: u32) -> Result<Bytes, NoMemory>
 {
     let mut bytes = Bytes::from_slice(alloc, name)?;
     bytes.extend(b"@")?;
-    bytes.extend(number.to_string(alloc)?.as_bytes())?;
+    bytes.put_number(number)?;
     Ok(bytes)
-}
-
-// The name that has these bytes.
-pub(crate) fn name_of(bytes: &[u8]) -> Name
-    requires { IsTrue (is_name bytes.now) }
-    ensures { result ≡ bytes.now }
-{
-    match Name::from_slice(bytes) {
-        Some(name) => name,
-        None => unreachable!(),
-    }
 }
 
 /// The queue with a number.
@@ -55,15 +44,6 @@ pub(crate) fn queues(alloc: Global, first: u32, count: u32) -> Result<Names, NoM
         let number = sum(first, i)?;
         names.push(queue(alloc, number)?)?;
     }
-    Ok(names)
-}
-
-/// The list of one name.
-pub(crate) fn one(alloc: Global, name: Name) -> Result<Names, NoMemory>
-    ensures { IfOk result (λ names. names ≡ name ∷ []) }
-{
-    let mut names = Names::new(alloc);
-    names.push(name)?;
     Ok(names)
 }
 

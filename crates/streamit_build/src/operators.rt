@@ -6,7 +6,7 @@ ghost use Rattle.river_plan.specs.Forms.{op_form};
 ghost use Rattle.streamit_model.specs.Plan.{numbered, queues, with_own, weights, splitter, joiner};
 ghost use Rattle.streamit_build.specs.Units.{splitter_form};
 
-use crate::names::{numbered, one, queues};
+use crate::names::{numbered, queues};
 use kern_rows::Filter;
 use river_base::{Name, NoMemory, Numbers};
 use river_kernels::Kernel;
@@ -26,8 +26,8 @@ pub(crate) fn filter_op(
     ensures { IfOk result (λ op. op_form op ≡ with_own (numbered name.now number) (filter (filter_form body.now)) (from ∷ []) (to ∷ [])) }
 {
     let label = numbered(alloc, name.as_slice(), number)?;
-    let reads = one(alloc, from)?;
-    let writes = one(alloc, to)?;
+    let reads = Names::one(alloc, from)?;
+    let writes = Names::one(alloc, to)?;
     filtering(alloc, label, body, reads, writes)
 }
 
@@ -41,7 +41,7 @@ fn filtering(
 ) -> Result<Op, NoMemory>
     ensures { IfOk result (λ op. op_form op ≡ with_own label (filter (filter_form body.now)) reads writes) }
 {
-    let vars = one(alloc, label)?;
+    let vars = Names::one(alloc, label)?;
     let copy = body.copy(alloc)?;
     Ok(Op {
         label,
@@ -65,7 +65,7 @@ pub(crate) fn split_op(
     ensures { IfOk result (λ op. op_form op ≡ splitter (splitter_form split.now) n (numbered (codes "split") number) from (queues k n)) }
 {
     let label = numbered(alloc, b"split", number)?;
-    let reads = one(alloc, from)?;
+    let reads = Names::one(alloc, from)?;
     let writes = queues(alloc, k, n)?;
     match split {
         None => Ok(copying(alloc, label, n, reads, writes)),
@@ -96,7 +96,7 @@ fn dealing(
 ) -> Result<Op, NoMemory>
     ensures { IfOk result (λ op. op_form op ≡ with_own label (deal (weights shares.now)) reads writes) }
 {
-    let vars = one(alloc, label)?;
+    let vars = Names::one(alloc, label)?;
     let weights = weights(alloc, shares)?;
     Ok(Op {
         label,
@@ -121,7 +121,7 @@ pub(crate) fn join_op(
 {
     let label = numbered(alloc, b"join", number)?;
     let reads = queues(alloc, k, n)?;
-    let writes = one(alloc, to)?;
+    let writes = Names::one(alloc, to)?;
     collecting(alloc, label, join.as_slice(), reads, writes)
 }
 
@@ -135,7 +135,7 @@ fn collecting(
 ) -> Result<Op, NoMemory>
     ensures { IfOk result (λ op. op_form op ≡ with_own label (collect (weights shares.now)) reads writes) }
 {
-    let vars = one(alloc, label)?;
+    let vars = Names::one(alloc, label)?;
     let weights = weights(alloc, shares)?;
     Ok(Op {
         label,

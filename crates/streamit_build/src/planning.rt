@@ -2,7 +2,6 @@
 ghost use Rattle.std.specs.Prelude.{◌≡◌, ◌<◌, [], ◌∷◌, ◌++◌, ◌^◌, codes, filter, length, map, OnOk, IfOk};
 ghost use Rattle.river_plan.specs.Forms.{plan_form, op_forms, empty_form};
 ghost use Rattle.river_plan.specs.Uses.{all_vars};
-ghost use Rattle.river_plan.specs.Valid.{IsPlan};
 ghost use Rattle.streamit_model.specs.Unrolled.{Stream};
 ghost use Rattle.streamit_model.specs.Plan.{values_in as queue_of, is_own_queue, own_queues, ops_from, plan_of};
 ghost use Rattle.streamit_build.specs.Units.{declared_forms, AreLower, HaveShortFilters, IsTree};
@@ -15,11 +14,10 @@ ghost use Rattle.streamit_build.specs.Readable.{AreReadable};
 ghost use Rattle.streamit_build.specs.Planned.{KnowsLast, PlansLast, PlansBy};
 
 use crate::builder::build;
-use crate::names::name_of;
 use crate::{Entry, Known, Made};
-use plan_check::check;
+use plan_check::plan_of;
 use river_base::{FlatType, MOST_OPERATORS, Name, NoMemory, QueueType};
-use river_plan::{Decl, Decls, Names, Ops, Plan, PlanFault, RawPlan};
+use river_plan::{Decl, Decls, Names, Ops, Plan, RawPlan};
 use std::alloc::Global;
 use streamit_model::{Fault, Refusal};
 use streamit_text::Unit;
@@ -54,7 +52,7 @@ pub fn plan(alloc: Global, units: &[Unit]) -> Result<Plan, Refused>
     ensures { PlansBy (λ plan. plan) result (judged (unit_forms units.now)) }
 {
     let raw = raw_plan(alloc, units)?;
-    let plan = checked(alloc, raw)?;
+    let plan = plan_of(alloc, raw)?;
     Ok(plan)
 }
 
@@ -67,19 +65,6 @@ fn raw_plan(alloc: Global, units: &[Unit]) -> Result<RawPlan, Refused>
 {
     let mut known = Known::new(alloc);
     known.program(alloc, units)
-}
-
-// The plan of lists that are valid.
-#[tactic(auto, using(crate::proofs::Checked::faultless))]
-fn checked(alloc: Global, raw: RawPlan) -> Result<Plan, NoMemory>
-    requires valid { IsPlan (plan_form raw) }
-    ensures { IfOk result (λ plan. plan ≡ plan_form raw) }
-{
-    match check(alloc, raw) {
-        Ok(plan) => Ok(plan),
-        Err(PlanFault::NoMemory) => Err(NoMemory),
-        Err(_) => unreachable!(),
-    }
 }
 
 impl Known {
@@ -148,8 +133,8 @@ impl Known {
             next_op: 1,
             next_queue: 1,
         };
-        let from = name_of(b"in");
-        let to = name_of(b"out");
+        let from = Name::of(b"in");
+        let to = Name::of(b"out");
         build(alloc, self.declared.as_slice(), top, from, to, &mut made)?;
         Ok(made.ops)
     }
@@ -183,9 +168,9 @@ fn declare(raw: &mut RawPlan, ops: &Ops) -> Result<(), NoMemory>
     ensures vars { OnOk result (raw.new.vars ≡ raw.old.vars ++ all_vars (op_forms ops.now)) }
     ensures tables { raw.new.tables ≡ raw.old.tables }
 {
-    let out = name_of(b"out");
+    let out = Name::of(b"out");
     raw.outputs.push(values_in(out))?;
-    raw.inputs.push(values_in(name_of(b"in")))?;
+    raw.inputs.push(values_in(Name::of(b"in")))?;
     declare_queues(&mut raw.queues, ops, out)?;
     declare_vars(&mut raw.vars, ops)
 }

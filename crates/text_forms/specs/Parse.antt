@@ -3,6 +3,7 @@ use Rattle.std.specs.Prelude.{ℕ, zero, suc, ◌-◌, nat_le, length, List, [],
 use Rattle.std.specs.Prelude.{ℤ, pos}
 use Rattle.std.specs.Str.{bytes_eq}
 use Rattle.text_forms.specs.Tail.{tail}
+use Rattle.river_base.specs.Name.{is_name}
 use Rattle.text_tokens.specs.Tok.{Tok, name, var, number, symbol}
 use Rattle.text_tokens.specs.Symbols.{code_of}
 use Rattle.text_tokens.specs.declared.sign.Symbol.{Symbol}
@@ -68,6 +69,13 @@ number_at (name text ∷ ts) = None
 number_at (var text ∷ ts) = None
 number_at (number value ∷ ts) = Some (value, ts)
 number_at (symbol t ∷ ts) = None
+
+-- a name of at most 64 bytes, and a variable with such a name
+unfoldable pub short_name_at : Parse (List ℕ)
+short_name_at ts = tested is_name name_at ts
+
+unfoldable pub short_var_at : Parse (List ℕ)
+short_var_at ts = tested is_name var_at ts
 
 -- a number that counts something: at most 2^32 - 1
 abbrev pub is_count : ℕ → Bool

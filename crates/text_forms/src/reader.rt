@@ -2,10 +2,11 @@
 ghost use Rattle.std.specs.Prelude.{◌≡◌, ◌-◌, ◌<◌, IfOk, OnOk, MatchOption, List, [], ◌∷◌, if◌then◌else◌, IsTrue, ◌↔◌};
 ghost use Rattle.std.specs.Int.{IsNonNegative};
 ghost use Rattle.text_forms.specs.Tail.{tail};
-ghost use Rattle.text_forms.specs.Parse.{begins_with, is_word_at, word_at, symbols_at, name_at, var_at, number_at, count_at, open_at, value_at};
+ghost use Rattle.text_forms.specs.Parse.{begins_with, is_word_at, word_at, symbols_at, name_at, var_at, short_name_at, short_var_at, number_at, count_at, open_at, value_at};
 ghost use Rattle.text_forms.specs.Gives.{Gives, PassesOver};
 
 use crate::{ParseFault, TokenSource};
+use river_base::Name;
 use std::marker::Model;
 use text_tokens::{Lexeme, Symbol, Token};
 
@@ -148,6 +149,30 @@ impl<'a> Reader<'a> {
         };
         self.skip();
         Ok(text)
+    }
+
+    /// The name that has to come next, of at most 64 bytes.
+    #[tactic(auto, unfolding(crate::specs::Parse::short_name_at))]
+    pub fn short_name(&mut self) -> Result<Name, ParseFault>
+        ensures { Gives (λ name. name) result self.new (short_name_at self.old) }
+    {
+        let text = self.name()?;
+        match Name::from_slice(text) {
+            Some(name) => Ok(name),
+            None => Err(ParseFault::Syntax),
+        }
+    }
+
+    /// The variable that has to come next, without its `$`, whose name has at most 64 bytes.
+    #[tactic(auto, unfolding(crate::specs::Parse::short_var_at))]
+    pub fn short_var(&mut self) -> Result<Name, ParseFault>
+        ensures { Gives (λ name. name) result self.new (short_var_at self.old) }
+    {
+        let text = self.var()?;
+        match Name::from_slice(text) {
+            Some(name) => Ok(name),
+            None => Err(ParseFault::Syntax),
+        }
     }
 
     /// The number that has to come next.

@@ -1,7 +1,6 @@
 // Lines of a content, whose bytes may be written by a backslash.
 use crate::fault::CaseFault;
 use river_base::Bytes;
-use std::alloc::Global;
 
 // What comes next in a line.
 #[derive(Clone, Copy)]
@@ -17,28 +16,18 @@ enum Next {
 }
 
 /// Appends a line in its turn, from 1, and a line feed, unless the line ends with a backslash.
-pub(crate) fn append_line(
-    alloc: Global,
-    line: &[u8],
-    turn: u32,
-    to: &mut Bytes,
-) -> Result<(), CaseFault> {
-    if append(alloc, line, turn, to)? {
+pub(crate) fn append_line(line: &[u8], turn: u32, to: &mut Bytes) -> Result<(), CaseFault> {
+    if append(line, turn, to)? {
         to.push(b'\n')?;
     }
     Ok(())
 }
 
 /// Appends a text in its turn, and says whether it is whole: it is not where it ends with a backslash.
-pub(crate) fn append(
-    alloc: Global,
-    text: &[u8],
-    turn: u32,
-    to: &mut Bytes,
-) -> Result<bool, CaseFault> {
+pub(crate) fn append(text: &[u8], turn: u32, to: &mut Bytes) -> Result<bool, CaseFault> {
     let mut next = Next::Plain;
     for &byte in text {
-        next = take(alloc, next, byte, turn, to)?;
+        next = take(next, byte, turn, to)?;
     }
     match next {
         Next::Plain => Ok(true),
@@ -48,11 +37,11 @@ pub(crate) fn append(
 }
 
 // Takes a byte, and says what comes next.
-fn take(alloc: Global, next: Next, byte: u8, turn: u32, to: &mut Bytes) -> Result<Next, CaseFault> {
+fn take(next: Next, byte: u8, turn: u32, to: &mut Bytes) -> Result<Next, CaseFault> {
     match next {
         Next::Plain if byte == b'\\' => Ok(Next::Behind),
         Next::Plain => push(byte, to),
-        Next::Behind => behind(alloc, byte, turn, to),
+        Next::Behind => behind(byte, turn, to),
         Next::High => Ok(Next::Low(digit(byte)?)),
         Next::Low(high) => both(high, byte, to),
     }
@@ -64,11 +53,11 @@ fn push(byte: u8, to: &mut Bytes) -> Result<Next, CaseFault> {
 }
 
 // What stands behind a backslash: a byte in two digits, a number, or what stands for another byte.
-fn behind(alloc: Global, byte: u8, turn: u32, to: &mut Bytes) -> Result<Next, CaseFault> {
+fn behind(byte: u8, turn: u32, to: &mut Bytes) -> Result<Next, CaseFault> {
     match byte {
         b'x' => Ok(Next::High),
-        b'i' => number(alloc, turn, to),
-        b'h' => number(alloc, turn.saturating_sub(1), to),
+        b'i' => number(turn, to),
+        b'h' => number(turn.saturating_sub(1), to),
         _ => push(meant(byte)?, to),
     }
 }
@@ -85,11 +74,8 @@ fn meant(byte: u8) -> Result<u8, CaseFault> {
     }
 }
 
-fn number(alloc: Global, number: u32, to: &mut Bytes) -> Result<Next, CaseFault> {
-    let Ok(text) = number.to_string(alloc) else {
-        return Err(CaseFault::NoMemory);
-    };
-    to.extend(text.as_bytes())?;
+fn number(number: u32, to: &mut Bytes) -> Result<Next, CaseFault> {
+    to.put_number(number)?;
     Ok(Next::Plain)
 }
 

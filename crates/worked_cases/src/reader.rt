@@ -127,7 +127,7 @@ impl Reader {
             return Err(CaseFault::Line);
         }
         for turn in 1..=times {
-            append_line(self.alloc, line.as_bytes(), turn, &mut self.open.1)?;
+            append_line(line.as_bytes(), turn, &mut self.open.1)?;
         }
         Ok(false)
     }
@@ -218,7 +218,7 @@ impl Reader {
     // A file, whose first line may stand beside its name.
     fn open_file(&mut self, text: &str) -> Result<bool, CaseFault> {
         let (name, line) = cut(text);
-        append(self.alloc, name.as_bytes(), 1, &mut self.open.0)?;
+        append(name.as_bytes(), 1, &mut self.open.0)?;
         self.open_at(Place::File, line)
     }
 
@@ -265,7 +265,7 @@ fn read_words(alloc: Global, text: &str, words: &mut Words) -> Result<bool, Case
 fn read_word(alloc: Global, word: &str) -> Result<Bytes, CaseFault> {
     let mut bytes = Bytes::new(alloc);
     if word != "\"\"" {
-        append(alloc, word.as_bytes(), 1, &mut bytes)?;
+        append(word.as_bytes(), 1, &mut bytes)?;
     }
     Ok(bytes)
 }

@@ -1,6 +1,6 @@
 // What is printed of the cases.
 use crate::fault::CaseFault;
-use river_base::Text;
+use river_base::{Bytes, Text};
 use std::alloc::Global;
 use std::io;
 use std::io::Write;
@@ -40,14 +40,13 @@ pub(crate) fn show_wrong<R: Print>(
     title: &[u8],
     ran: Ran<'_>,
 ) -> Result<(), CaseFault> {
-    let Ok(status) = ran.status.to_string(alloc) else {
-        return Err(CaseFault::NoMemory);
-    };
+    let mut status = Bytes::new(alloc);
+    status.put_number(ran.status)?;
     let parts: [&[u8]; 8] = [
         b"wrong: ",
         title,
         b"\nstatus ",
-        status.as_bytes(),
+        status.as_slice(),
         b"\nout\n",
         first(ran.out),
         b"\nerr\n",

@@ -3,8 +3,8 @@ use Rattle.saw_front.proofs.Planned.{lists-valid, lists-plan}
 use Rattle.saw_front.proofs.planning.plan.Goals as goal
 
 -- the lists are those of a plan that is valid
-pub valid-requires : goal.valid-requires
-valid-requires c = lists-valid (unit_forms c.args.units.now) c.in_ok-raw.raw c.requires.shallow c.in_ok-raw.ensures
+pub plan_of-requires : goal.plan_of-requires
+plan_of-requires c = lists-valid (unit_forms c.args.units.now) c.in_ok-raw.raw c.requires.shallow c.in_ok-raw.ensures
 
 -- and the plan is theirs
 pub returns : goal.returns
