@@ -3,7 +3,7 @@ ghost use Rattle.std.specs.Prelude.{◌≡◌, ◌≤◌, ◌+◌, ◌++◌, ◌
 ghost use Rattle.river_plan.specs.Valid.{IsPlan};
 ghost use Rattle.fire_open.specs.Homes.{AreByFirst, AreTableClasses, AreClassCells, IsClassCount, kinds_from};
 
-use crate::homes::Places;
+use crate::homes::TableNumbers;
 use class_locks::{Cell, Cells, TableKinds};
 use kern_tables::TableKind;
 use river_base::NoMemory;
@@ -11,7 +11,7 @@ use river_plan::{Plan, TableDecls};
 use std::alloc::Global;
 
 // How many classes there are: classes are numbered by their first table.
-fn class_count(classes: &Places) -> u32
+fn class_count(classes: &TableNumbers) -> u32
     requires first { AreByFirst classes.now }
     requires few { length classes.now ≤ 256 }
     ensures { IsClassCount classes.now result }
@@ -35,7 +35,7 @@ fn counted(count: u32, class: u32) -> u32
 fn kinds_of(
     alloc: Global,
     tables: &TableDecls,
-    classes: &Places,
+    classes: &TableNumbers,
     class: u32,
 ) -> Result<TableKinds, NoMemory>
     requires many { length classes.now ≡ length tables.now }
@@ -70,7 +70,7 @@ fn add_kind(
 fn empty_cell(
     alloc: Global,
     tables: &TableDecls,
-    classes: &Places,
+    classes: &TableNumbers,
     class: u32,
 ) -> Result<Cell, NoMemory>
     requires many { length classes.now ≡ length tables.now }
@@ -82,7 +82,7 @@ fn empty_cell(
 }
 
 /// An empty cell for each lock class of a plan, in order.
-pub fn cells_of(alloc: Global, plan: &Plan, classes: &Places) -> Result<Cells, NoMemory>
+pub fn cells_of(alloc: Global, plan: &Plan, classes: &TableNumbers) -> Result<Cells, NoMemory>
     requires valid { IsPlan plan.now }
     requires classes { AreTableClasses plan.now classes.now }
     ensures cells { IfOk result (AreClassCells plan.now) }

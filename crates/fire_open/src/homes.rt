@@ -11,10 +11,10 @@ use river_plan::Plan;
 use std::alloc::Global;
 
 /// The numbers of tables, or of their classes.
-pub type Places = Listed<u32>;
+pub type TableNumbers = Listed<u32>;
 
 /// The lock class of each table of a plan.
-pub fn table_classes(alloc: Global, plan: &Plan) -> Result<Places, NoMemory>
+pub fn table_classes(alloc: Global, plan: &Plan) -> Result<TableNumbers, NoMemory>
     ensures { IfOk result (AreTableClasses plan.now) }
 {
     let users = table_users(alloc, plan)?;
@@ -34,10 +34,10 @@ fn as_place(number: i64) -> Result<u32, NoMemory>
 
 // These numbers of classes.
 #[tactic(auto, using(work_code::proofs::Lists::copies))]
-fn as_places(alloc: Global, numbers: &Numbers) -> Result<Places, NoMemory>
+fn as_places(alloc: Global, numbers: &Numbers) -> Result<TableNumbers, NoMemory>
     ensures { IfOk result (λ places. map pos places ≡ numbers.now) }
 {
-    let mut places = Places::new(alloc);
+    let mut places = TableNumbers::new(alloc);
     for number in numbers.as_slice() {
         places.push(as_place(*number)?)?;
     }
@@ -45,12 +45,12 @@ fn as_places(alloc: Global, numbers: &Numbers) -> Result<Places, NoMemory>
 }
 
 // The numbers of an operator's tables, in the order of its kernel.
-fn numbers_of(alloc: Global, plan: &Plan, op: usize) -> Result<Places, NoMemory>
+fn numbers_of(alloc: Global, plan: &Plan, op: usize) -> Result<TableNumbers, NoMemory>
     requires { op < length plan.now.ops }
     ensures { IfOk result (λ tables. tables ≡ table_numbers plan.now (slice_get plan.now.ops op)) }
 {
     let count = plan.raw().tables.len();
-    let mut tables = Places::new(alloc);
+    let mut tables = TableNumbers::new(alloc);
     for var in plan.vars_of(op) {
         if *var < count {
             tables.push(*var as u32)?;
@@ -60,7 +60,7 @@ fn numbers_of(alloc: Global, plan: &Plan, op: usize) -> Result<Places, NoMemory>
 }
 
 // Whether one of these tables is of the class.
-fn has_class(classes: &Places, tables: &Places, class: u32) -> bool
+fn has_class(classes: &TableNumbers, tables: &TableNumbers, class: u32) -> bool
     requires { All (λ m. m < length classes.now) tables.now }
     ensures yes { IsTrue result → HasClass classes.now tables.now class }
     ensures no { IsFalse result → HasClass classes.now tables.now class → ⊥ }
@@ -76,14 +76,14 @@ fn has_class(classes: &Places, tables: &Places, class: u32) -> bool
 // The classes below `count` that one of these tables has.
 fn classes_below(
     alloc: Global,
-    classes: &Places,
-    tables: &Places,
+    classes: &TableNumbers,
+    tables: &TableNumbers,
     count: u32,
-) -> Result<Places, NoMemory>
+) -> Result<TableNumbers, NoMemory>
     requires { All (λ m. m < length classes.now) tables.now }
     ensures { IfOk result (AreClassesOf classes.now tables.now count) }
 {
-    let mut own = Places::new(alloc);
+    let mut own = TableNumbers::new(alloc);
     for class in 0..count {
         let found = has_class(classes, tables, class);
         add_if(found, class, &mut own)?;
@@ -92,7 +92,7 @@ fn classes_below(
 }
 
 // The number comes to the others, if it was found.
-fn add_if(found: bool, class: u32, own: &mut Places) -> Result<(), NoMemory>
+fn add_if(found: bool, class: u32, own: &mut TableNumbers) -> Result<(), NoMemory>
     ensures { OnOk result (own.new ≡ (if found then own.old ++ class ∷ [] else own.old)) }
 {
     if found {
@@ -102,7 +102,7 @@ fn add_if(found: bool, class: u32, own: &mut Places) -> Result<(), NoMemory>
 }
 
 // The place of a class, which is there.
-fn place_of(own: &Places, class: u32) -> usize
+fn place_of(own: &TableNumbers, class: u32) -> usize
     requires { (i : ℕ) × (slice_get own.now i ≡ Some class) }
     ensures { slice_get own.now result ≡ Some class }
 {
@@ -117,9 +117,9 @@ fn place_of(own: &Places, class: u32) -> usize
 // Where an operator's rows go: the place of each table's class among its classes.
 fn ports_of(
     alloc: Global,
-    classes: &Places,
-    tables: &Places,
-    own: &Places,
+    classes: &TableNumbers,
+    tables: &TableNumbers,
+    own: &TableNumbers,
 ) -> Result<Listed<TablePort>, NoMemory>
     requires there { All (λ m. m < length classes.now) tables.now }
     requires own { All (λ m. (i : ℕ) × (slice_get own.now i ≡ Some (slice_index_or classes.now m 0))) tables.now }
@@ -140,8 +140,8 @@ pub(crate) fn homes_of(
     alloc: Global,
     plan: &Plan,
     op: usize,
-    classes: &Places,
-) -> Result<(Listed<TablePort>, Places), NoMemory>
+    classes: &TableNumbers,
+) -> Result<(Listed<TablePort>, TableNumbers), NoMemory>
     requires valid { IsPlan plan.now }
     requires there { op < length plan.now.ops }
     requires classes { AreTableClasses plan.now classes.now }

@@ -9,7 +9,7 @@ mod settling;
 mod tasks;
 
 pub use cells::cells_of;
-pub use homes::{Places, table_classes};
+pub use homes::{TableNumbers, table_classes};
 pub use links::links_of;
 pub use rings::put_rings;
 pub use settling::{Link, settle_all};

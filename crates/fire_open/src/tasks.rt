@@ -14,7 +14,7 @@ ghost use Rattle.fire_open.specs.First.{whole_list, IsFirstTask, AreFirstTasks, 
 ghost use Rattle.fire_open.specs.Fresh.{AreFresh};
 ghost use Rattle.fire_open.specs.Homes.{AreTableClasses};
 
-use crate::homes::{Places, homes_of, table_classes};
+use crate::homes::{TableNumbers, homes_of, table_classes};
 use brooklet_step::{Emit, Lines, States, first_queues, first_states};
 use fire_tasks::{Inlet, Outlet, TablePort, Task};
 use kern_rows::ItemLine;
@@ -84,7 +84,7 @@ fn task_of(
     op: u32,
     queues: &mut Lines,
     kinds: &Listed<QueueType>,
-    classes: &Places,
+    classes: &TableNumbers,
 ) -> Result<Task, NoMemory>
     requires there { op < length plan.now.ops }
     requires valid { IsPlan plan.now }
@@ -146,8 +146,8 @@ fn kept_of(
     alloc: Global,
     plan: &Plan,
     op: u32,
-    classes: &Places,
-) -> Result<((States, Emit), (Listed<TablePort>, Places)), NoMemory>
+    classes: &TableNumbers,
+) -> Result<((States, Emit), (Listed<TablePort>, TableNumbers)), NoMemory>
     requires there { op < length plan.now.ops }
     requires valid { IsPlan plan.now }
     requires classes { AreTableClasses plan.now classes.now }
@@ -167,7 +167,7 @@ fn tasks_by(
     count: u32,
     queues: &mut Lines,
     kinds: &Listed<QueueType>,
-    classes: &Places,
+    classes: &TableNumbers,
 ) -> Result<Listed<Task>, NoMemory>
     requires valid { IsPlan plan.now }
     requires count { count ≡ length plan.now.ops }

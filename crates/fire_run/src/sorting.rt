@@ -9,7 +9,7 @@ ghost use Rattle.fire_run.specs.Closed.{AreInClassLists, ArePlaced, tables_at};
 use crate::closing::Logs;
 use brooklet_step::{Tables, first_tables};
 use class_locks::{Cell, Cells};
-use fire_open::{Places, table_classes};
+use fire_open::{TableNumbers, table_classes};
 use kern_tables::Table;
 use river_base::{Listed, NoMemory};
 use river_plan::{Plan, TableDecls};
@@ -57,7 +57,12 @@ fn take_last(lists: &mut TableLists, class: usize) -> Table
 }
 
 // The tables go from the lists of their classes to their places, the last first.
-fn place_all(decls: &TableDecls, classes: &Places, lists: &mut TableLists, tables: &mut Tables)
+fn place_all(
+    decls: &TableDecls,
+    classes: &TableNumbers,
+    lists: &mut TableLists,
+    tables: &mut Tables,
+)
     requires many { length tables.old ≡ length decls.now }
     requires classes { length classes.now ≡ length decls.now }
     requires sorted { (logs : _) × AreInClassLists (λ n. slice_index_or classes.now n 0) logs decls.now lists.old }

@@ -19,9 +19,9 @@ refused_in k (of_unit.Fault f) = refused.Program (record { unit = k; fault = f }
 refused_in k of_unit.NoMemory = refused.NoMemory
 
 -- a part of unit k is judged as it is defined
-abbrev pub Decides : ℕ → Result (Unit {0}) Fault → Judgement → Type 0
-Decides k (Ok u) j = j ≡ no_fault
-Decides k (Err f) j = j ≡ Err (record { unit = k; fault = f })
+abbrev pub JudgesAlways : ℕ → Result (Unit {0}) Fault → Judgement → Type 0
+JudgesAlways k (Ok u) j = j ≡ no_fault
+JudgesAlways k (Err f) j = j ≡ Err (record { unit = k; fault = f })
 
 -- so it is, or there was no memory
 abbrev pub Judges : ℕ → Result (Unit {0}) RefusedUnit → Judgement → Type 0

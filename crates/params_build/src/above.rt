@@ -7,7 +7,7 @@ ghost use Rattle.params_model.specs.Judged.{has_arity, is_there};
 ghost use Rattle.streamit_model.specs.Meaning.{look};
 ghost use Rattle.std.specs.Prelude.{ℕ, not};
 ghost use Rattle.params_build.specs.Above.{CountsParameters};
-ghost use Rattle.params_build.specs.Judging.{Decides};
+ghost use Rattle.params_build.specs.Judging.{JudgesAlways};
 
 use indexmap::IndexMap;
 use params_model::Fault;
@@ -39,7 +39,7 @@ impl StreamsAbove {
 
     /// Whether no stream above has this name.
     pub fn is_new(&self, name: &Name) -> Result<(), Fault>
-        ensures { (k : ℕ) (above : Above) → CountsParameters self.now above → Decides k result (demand (not (is_there (look above name.now))) k NameTwice) }
+        ensures { (k : ℕ) (above : Above) → CountsParameters self.now above → JudgesAlways k result (demand (not (is_there (look above name.now))) k NameTwice) }
     {
         match self.arity(name) {
             Some(_) => Err(Fault::NameTwice),
@@ -49,7 +49,7 @@ impl StreamsAbove {
 
     /// Whether a stream above has this name.
     pub fn has(&self, name: &Name) -> Result<(), Fault>
-        ensures { (k : ℕ) (above : Above) → CountsParameters self.now above → Decides k result (demand (is_there (look above name.now)) k UnknownName) }
+        ensures { (k : ℕ) (above : Above) → CountsParameters self.now above → JudgesAlways k result (demand (is_there (look above name.now)) k UnknownName) }
     {
         match self.arity(name) {
             Some(_) => Ok(()),
@@ -59,7 +59,7 @@ impl StreamsAbove {
 
     /// Whether the nearest stream of this name has so many parameters.
     pub fn takes(&self, name: &Name, count: usize) -> Result<(), Fault>
-        ensures { (k : ℕ) (above : Above) → CountsParameters self.now above → Decides k result (demand (has_arity (look above name.now) count) k Arity) }
+        ensures { (k : ℕ) (above : Above) → CountsParameters self.now above → JudgesAlways k result (demand (has_arity (look above name.now) count) k Arity) }
     {
         if self.arity(name) == Some(count) {
             Ok(())

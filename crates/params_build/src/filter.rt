@@ -9,7 +9,7 @@ ghost use Rattle.params_model.specs.Judged.{filter_judged};
 ghost use Rattle.params_text.specs.Params.{is_one_of};
 ghost use Rattle.params_model.specs.declared.fault.Fault.TheVariants.{NameTwice};
 ghost use Rattle.params_model.specs.Making.{demand};
-ghost use Rattle.params_build.specs.Judging.{Decides};
+ghost use Rattle.params_build.specs.Judging.{JudgesAlways};
 
 use crate::constant::known_option;
 use crate::names::KnownNames;
@@ -20,7 +20,7 @@ use streamit_text::{Block, Statement};
 
 // The fields.
 fn other_names(params: &KnownNames, names: &[Name]) -> Result<(), Fault>
-    ensures { (k : ℕ) → Decides k result (other_names k params.now names.now) }
+    ensures { (k : ℕ) → JudgesAlways k result (other_names k params.now names.now) }
 {
     'names: for each in names {
         if params.has(each) {
@@ -32,7 +32,7 @@ fn other_names(params: &KnownNames, names: &[Name]) -> Result<(), Fault>
 
 // A name that is declared.
 fn declared(params: &KnownNames, name: &Name) -> Result<(), Fault>
-    ensures { (k : ℕ) → Decides k result (demand (not (is_one_of params.now name.now)) k NameTwice) }
+    ensures { (k : ℕ) → JudgesAlways k result (demand (not (is_one_of params.now name.now)) k NameTwice) }
 {
     if params.has(name) {
         Err(Fault::NameTwice)
@@ -45,7 +45,7 @@ fn declared(params: &KnownNames, name: &Name) -> Result<(), Fault>
 #[cycle(judged)]
 #[tactic(auto, using(streamit_text::proofs::Trees::trees))]
 fn statement(params: &KnownNames, one: &Statement) -> Result<(), Fault>
-    ensures { (k : ℕ) → Decides k result (statement_judged k params.now (statement one.now)) }
+    ensures { (k : ℕ) → JudgesAlways k result (statement_judged k params.now (statement one.now)) }
 {
     match one {
         Statement::Declare { name, .. } => declared(params, name),
@@ -71,7 +71,7 @@ fn statement(params: &KnownNames, one: &Statement) -> Result<(), Fault>
 // A block.
 #[cycle(judged)]
 fn block(params: &KnownNames, all: &Block) -> Result<(), Fault>
-    ensures { (k : ℕ) → Decides k result (block_judged k params.now (block all.now)) }
+    ensures { (k : ℕ) → JudgesAlways k result (block_judged k params.now (block all.now)) }
 {
     'items: for each in all.items.as_slice() {
         match statement(params, each) {
@@ -85,7 +85,7 @@ fn block(params: &KnownNames, all: &Block) -> Result<(), Fault>
 // A block that may be left out.
 #[cycle(judged)]
 fn optional_block(params: &KnownNames, all: &Option<Block>) -> Result<(), Fault>
-    ensures { (k : ℕ) → Decides k result (optional_judged k params.now (optional_block all.now)) }
+    ensures { (k : ℕ) → JudgesAlways k result (optional_judged k params.now (optional_block all.now)) }
 {
     match all {
         Some(all) => block(params, all),
@@ -106,7 +106,7 @@ fn rates(params: &KnownNames, rates: &ParamRates) -> bool
 
 // `work` or `prework`.
 fn work(params: &KnownNames, work: &ParamWork) -> Result<(), Fault>
-    ensures { (k : ℕ) → Decides k result (work_judged k params.now (work_of work.now)) }
+    ensures { (k : ℕ) → JudgesAlways k result (work_judged k params.now (work_of work.now)) }
 {
     if !rates(params, &work.rates) {
         return Err(Fault::UnknownName);
@@ -116,7 +116,7 @@ fn work(params: &KnownNames, work: &ParamWork) -> Result<(), Fault>
 
 // `prework`, which may be left out.
 fn prework(params: &KnownNames, prework: &Option<ParamWork>) -> Result<(), Fault>
-    ensures { (k : ℕ) → Decides k result (prework_judged k params.now (optional work_of prework.now)) }
+    ensures { (k : ℕ) → JudgesAlways k result (prework_judged k params.now (optional work_of prework.now)) }
 {
     match prework {
         Some(one) => work(params, one),
@@ -126,7 +126,7 @@ fn prework(params: &KnownNames, prework: &Option<ParamWork>) -> Result<(), Fault
 
 // `prework`, which may be left out, and `work`.
 fn works(params: &KnownNames, tree: &ParamFilter) -> Result<(), Fault>
-    ensures { (k : ℕ) → Decides k result (judged_then (prework_judged k params.now (optional work_of tree.now.prework))
+    ensures { (k : ℕ) → JudgesAlways k result (judged_then (prework_judged k params.now (optional work_of tree.now.prework))
         (work_judged k params.now (work_of tree.now.work))) }
 {
     prework(params, &tree.prework)?;
@@ -136,7 +136,7 @@ fn works(params: &KnownNames, tree: &ParamFilter) -> Result<(), Fault>
 // What stands behind the fields.
 fn blocks(params: &KnownNames, tree: &ParamFilter) -> Result<(), Fault>
     ensures { (k : ℕ)
-        → Decides k result (judged_then (optional_judged k params.now (optional_block tree.now.init))
+        → JudgesAlways k result (judged_then (optional_judged k params.now (optional_block tree.now.init))
         (judged_then (prework_judged k params.now (optional work_of tree.now.prework)) (work_judged k params.now (work_of tree.now.work)))) }
 {
     optional_block(params, &tree.init)?;
@@ -145,7 +145,7 @@ fn blocks(params: &KnownNames, tree: &ParamFilter) -> Result<(), Fault>
 
 /// A filter with these parameters.
 pub(crate) fn filter(params: &KnownNames, tree: &ParamFilter) -> Result<(), Fault>
-    ensures { (k : ℕ) → Decides k result (filter_judged k params.now (filter_of tree.now)) }
+    ensures { (k : ℕ) → JudgesAlways k result (filter_judged k params.now (filter_of tree.now)) }
 {
     other_names(params, tree.fields.as_slice())?;
     blocks(params, tree)

@@ -9,7 +9,7 @@ ghost use Rattle.params_model.specs.declared.fault.Fault.TheVariants.{UnknownNam
 ghost use Rattle.params_model.specs.Making.{demand};
 ghost use Rattle.streamit_model.specs.Meaning.{look};
 ghost use Rattle.params_build.specs.Above.{CountsParameters};
-ghost use Rattle.params_build.specs.Judging.{Decides, Judges};
+ghost use Rattle.params_build.specs.Judging.{JudgesAlways, Judges};
 
 use crate::RefusedUnit;
 use crate::above::StreamsAbove;
@@ -28,7 +28,7 @@ fn given(
     args: &Vec<Expr>,
 ) -> Result<(), Fault>
     ensures { (k : ℕ) (us : Above) → CountsParameters above.now us
-        → Decides k result (judged_then (demand (all_known known.now (expressions args.now)) k UnknownName)
+        → JudgesAlways k result (judged_then (demand (all_known known.now (expressions args.now)) k UnknownName)
         (demand (has_arity (look us name.now) (length args.now.items)) k Arity)) }
 {
     if !all_known(known, args) {
@@ -40,7 +40,7 @@ fn given(
 // An `add`.
 fn add(above: &StreamsAbove, known: &KnownNames, name: &Name, args: &Vec<Expr>) -> Result<(), Fault>
     ensures { (k : ℕ) (us : Above) → CountsParameters above.now us
-        → Decides k result (judged_then (demand (is_there (look us name.now)) k UnknownName)
+        → JudgesAlways k result (judged_then (demand (is_there (look us name.now)) k UnknownName)
         (judged_then (demand (all_known known.now (expressions args.now)) k UnknownName)
         (demand (has_arity (look us name.now) (length args.now.items)) k Arity))) }
 {
@@ -51,7 +51,7 @@ fn add(above: &StreamsAbove, known: &KnownNames, name: &Name, args: &Vec<Expr>) 
 // The head of a loop.
 fn head(known: &KnownNames, name: &Name, low: &Expr, high: &Expr) -> Result<(), Fault>
     ensures judged { (k : ℕ)
-        → Decides k result (judged_then (demand (not (is_one_of known.now name.now)) k NameTwice)
+        → JudgesAlways k result (judged_then (demand (not (is_one_of known.now name.now)) k NameTwice)
         (demand (are_known known.now (expression low.now) && are_known known.now (expression high.now)) k UnknownName)) }
     ensures new { OnOk result (is_one_of known.now name.now ≡ false) }
 {

@@ -5,7 +5,7 @@ ghost use Rattle.params_model.specs.Judged.{Above, judged_then, all_known_option
 ghost use Rattle.params_model.specs.declared.fault.Fault.TheVariants.{UnknownName};
 ghost use Rattle.params_model.specs.Making.{demand};
 ghost use Rattle.params_build.specs.Above.{CountsParameters};
-ghost use Rattle.params_build.specs.Judging.{Decides, Judges};
+ghost use Rattle.params_build.specs.Judging.{JudgesAlways, Judges};
 
 use crate::RefusedUnit;
 use crate::above::StreamsAbove;
@@ -34,7 +34,7 @@ fn new_names(known: &mut KnownNames, names: &[Name]) -> Result<(), RefusedUnit>
 
 // The weights in the brackets of `roundrobin`.
 fn weights(params: &KnownNames, rounds: &Rounds) -> Result<(), Fault>
-    ensures { (k : ℕ) → Decides k result (demand (all_known_option params.now (rounds_of rounds.now)) k UnknownName) }
+    ensures { (k : ℕ) → JudgesAlways k result (demand (all_known_option params.now (rounds_of rounds.now)) k UnknownName) }
 {
     if all_known_option(params, rounds) {
         Ok(())
@@ -45,7 +45,7 @@ fn weights(params: &KnownNames, rounds: &Rounds) -> Result<(), Fault>
 
 // The splitter.
 fn dealing(params: &KnownNames, split: &ParamSplit) -> Result<(), Fault>
-    ensures { (k : ℕ) → Decides k result (dealing_judged k params.now (dealing_of split.now)) }
+    ensures { (k : ℕ) → JudgesAlways k result (dealing_judged k params.now (dealing_of split.now)) }
 {
     match split {
         ParamSplit::Duplicate => Ok(()),

@@ -12,6 +12,18 @@ use params_text::Unit;
 use river_base::{Bytes, Name, NoMemory, Numbers};
 use std::alloc::Global;
 
+/// The most instances of one program.
+const MOST_INSTANCES: u32 = 1024;
+
+/// The deepest that an instance may lie; that of the last stream lies 1 deep.
+const MOST_DEPTH: u32 = 64;
+
+/// The most bytes of the units of all instances.
+const MOST_BYTES: usize = 1_048_576;
+
+/// The most turns of loops that are written out.
+const MOST_TURNS: u32 = 65_536;
+
 /// What was made so far: the text, the source unit of each instance, and the number of the last one;
 /// and how many instances were begun, the bytes of their units, and how many turns were begun.
 #[derive(Drop)]
@@ -56,15 +68,15 @@ impl Making {
     fn has_room(&self, size: usize, depth: u32) -> bool
         ensures { result ≡ (nat_lt self.now.begun 1024 && (nat_le depth 64 && nat_le (self.now.bytes + size) 1048576)) }
     {
-        let has_bytes = size <= 1_048_576 && self.bytes <= 1_048_576 - size;
-        self.begun < 1024 && depth <= 64 && has_bytes
+        let has_bytes = size <= MOST_BYTES && self.bytes <= MOST_BYTES - size;
+        self.begun < MOST_INSTANCES && depth <= MOST_DEPTH && has_bytes
     }
 
     /// A turn of a loop is begun, in the unit behind these.
     pub fn begin_turn(&mut self, above: &[Unit]) -> Result<(), Refused>
         ensures { (m : Made) → Stands self.old m → Begins result self.new (turn (suc (length above.now)) m) }
     {
-        demand(above, self.turns < 65_536, Fault::Budget)?;
+        demand(above, self.turns < MOST_TURNS, Fault::Budget)?;
         self.turns += 1;
         Ok(())
     }

@@ -6,7 +6,7 @@ ghost use Rattle.params_model.specs.Environment.{under, value, count_in};
 ghost use Rattle.params_model.specs.Laws.{HasValues};
 
 use crate::Bindings;
-use river_base::Name;
+use river_base::{Name, count_of};
 use streamit_text::Expr;
 use work_code::{apply, negate, truth_of};
 
@@ -46,6 +46,5 @@ pub fn count(known: &Bindings, c: &Expr) -> u64
     requires { HasValues (expression c.now) }
     ensures { result ≡ count_in known.now (expression c.now) }
 {
-    let value = value(known, c);
-    if value < 0 { 0 } else { value as u64 }
+    count_of(value(known, c))
 }

@@ -14,7 +14,7 @@ use river_base::{Bytes, Listed};
 use river_outside::Shelf;
 use river_plan::TableDecl;
 use std::alloc::Global;
-use table_texts::{SplitFault, rows_of_table, split_tables};
+use table_texts::{NoSplit, rows_of_table, split_tables};
 
 /// Splits what the files hold at the lines of the tables' names, or tells why the first file that
 /// is not split is not.
@@ -58,8 +58,8 @@ fn split_file<S: Shelf>(
     let bytes = read_file(alloc, shelf, file, MOST)?;
     match split_tables(alloc, tables, bytes.as_slice()) {
         Ok(sections) => Ok(sections),
-        Err(SplitFault::Other) => Err(WorkFault::Other),
-        Err(SplitFault::NoMemory) => Err(WorkFault::NoMemory),
+        Err(NoSplit::Other) => Err(WorkFault::Other),
+        Err(NoSplit::NoMemory) => Err(WorkFault::NoMemory),
     }
 }
 

@@ -7,7 +7,7 @@ ghost use Rattle.river_plan.specs.Wired.{AreUses, IsWired};
 
 use crate::name_set::NameSet;
 use river_base::{Listed, NoMemory};
-use river_plan::{Names, Op, Ops, Part, Places, RawPlan, Uses, Wiring};
+use river_plan::{Names, Op, Ops, Places, RawPlan, Role, Uses, Wiring};
 use std::alloc::Global;
 
 /// The wiring of these lists, of which the names are in sets.
@@ -21,9 +21,9 @@ pub(crate) fn wiring_by(
     requires variables { variables.now ≡ variable_names (plan_form raw.now) }
     ensures { IfOk result (IsWired (plan_form raw.now)) }
 {
-    let reads = uses_of(alloc, &raw.ops, queues, Part::Reads)?;
-    let writes = uses_of(alloc, &raw.ops, queues, Part::Writes)?;
-    let vars = uses_of(alloc, &raw.ops, variables, Part::Vars)?;
+    let reads = uses_of(alloc, &raw.ops, queues, Role::Reads)?;
+    let writes = uses_of(alloc, &raw.ops, queues, Role::Writes)?;
+    let vars = uses_of(alloc, &raw.ops, variables, Role::Vars)?;
     Ok(Wiring {
         reads,
         writes,
@@ -31,11 +31,11 @@ pub(crate) fn wiring_by(
     })
 }
 
-// What operators use by a part of their names, both ways.
-fn uses_of(alloc: Global, ops: &Ops, set: &NameSet, part: Part) -> Result<Uses, NoMemory>
-    ensures { IfOk result (AreUses (length set.now) (mapped (λ op. places set.now (names_of part op)) (op_forms ops.now))) }
+// What operators use by their names of one role, both ways.
+fn uses_of(alloc: Global, ops: &Ops, set: &NameSet, role: Role) -> Result<Uses, NoMemory>
+    ensures { IfOk result (AreUses (length set.now) (mapped (λ op. places set.now (names_of role op)) (op_forms ops.now))) }
 {
-    let by_op = op_places(alloc, ops, set, part)?;
+    let by_op = op_places(alloc, ops, set, role)?;
     let by_place = users(alloc, &by_op, set.len())?;
     Ok(Uses { by_op, by_place })
 }
@@ -71,30 +71,30 @@ fn add_at(all: &mut Listed<Places>, place: usize, number: usize) -> Result<(), N
     Ok(())
 }
 
-// The places of a part of each operator's names, one after another.
+// The places of each operator's names of one role, one after another.
 fn op_places(
     alloc: Global,
     ops: &Ops,
     set: &NameSet,
-    part: Part,
+    role: Role,
 ) -> Result<Listed<Places>, NoMemory>
-    ensures { IfOk result (λ all. all ≡ mapped (λ op. places set.now (names_of part op)) (op_forms ops.now)) }
+    ensures { IfOk result (λ all. all ≡ mapped (λ op. places set.now (names_of role op)) (op_forms ops.now)) }
 {
     let mut all = Listed::new(alloc);
     for op in ops.as_slice() {
-        all.push(places_in(alloc, set, names_of(op, part))?)?;
+        all.push(places_in(alloc, set, names_of(op, role))?)?;
     }
     Ok(all)
 }
 
-// A part of an operator's names.
-fn names_of(op: &Op, part: Part) -> &Names
-    ensures { result.now ≡ names_of part (op_form op.now) }
+// An operator's names of one role.
+fn names_of(op: &Op, role: Role) -> &Names
+    ensures { result.now ≡ names_of role (op_form op.now) }
 {
-    match part {
-        Part::Reads => &op.reads,
-        Part::Writes => &op.writes,
-        Part::Vars => &op.vars,
+    match role {
+        Role::Reads => &op.reads,
+        Role::Writes => &op.writes,
+        Role::Vars => &op.vars,
     }
 }
 

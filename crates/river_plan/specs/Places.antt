@@ -3,8 +3,8 @@ use Rattle.std.specs.Prelude.{ℕ, suc, List, [], ◌∷◌, ◌++◌, map, repl
 use Rattle.river_base.specs.Name.{name_eq}
 use Rattle.river_base.specs.Places.{only, each_grew}
 use Rattle.river_plan.specs.Forms.{Name, OpForm, PlanForm, queue_names, variable_names}
-use Rattle.river_plan.specs.declared.wiring.Part.{Part}
-use Rattle.river_plan.specs.declared.wiring.Part.TheVariants as part
+use Rattle.river_plan.specs.declared.wiring.Role.{Role}
+use Rattle.river_plan.specs.declared.wiring.Role.TheVariants as role
 
 -- where the name stands first; the length of the list where it does not stand there
 abbrev pub place : List Name → Name → ℕ
@@ -14,11 +14,11 @@ place (w ∷ ws) q = if name_eq w q then 0 else suc (place ws q)
 abbrev pub places : List Name → List Name → List ℕ
 places names qs = map (place names) qs
 
--- a part of an operator's names
-abbrev pub names_of : Part → OpForm → List Name
-names_of part.Reads op = op.reads
-names_of part.Writes op = op.writes
-names_of part.Vars op = op.vars
+-- the names that have this role at an operator
+abbrev pub names_of : Role → OpForm → List Name
+names_of role.Reads op = op.reads
+names_of role.Writes op = op.writes
+names_of role.Vars op = op.vars
 
 -- operator by operator, the places of the queues that it reads and writes, port by port, and of its variables
 abbrev pub read_places : PlanForm → List (List ℕ)

@@ -16,4 +16,4 @@ pub use plan::{Decl, Decls, RawPlan, TableDecl, TableDecls};
 pub use river_base::{FlatType, QueueType};
 pub use river_kernels::{Kernel, Limit};
 pub use valid::Plan;
-pub use wiring::{Part, Places, Uses, Wiring};
+pub use wiring::{Places, Role, Uses, Wiring};

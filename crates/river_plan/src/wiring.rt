@@ -7,9 +7,9 @@ use std::alloc::Global;
 /// Places among the queues, or among the variables, of a plan.
 pub type Places = Listed<usize>;
 
-/// A part of an operator's names: the queues that it reads or writes, or its variables.
+/// The role of a name at an operator: a queue that it reads or writes, or a variable of it.
 #[derive(Clone, Copy)]
-pub enum Part {
+pub enum Role {
     Reads,
     Writes,
     Vars,

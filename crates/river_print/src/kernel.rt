@@ -11,36 +11,35 @@ ghost use Rattle.river_print.specs.Printed.{kernel_text, list_text, values_text,
 use crate::items::{
     Style, begin_three, counted, in_brackets, next_number, numbers, two_in_brackets,
 };
-use crate::print::print_expr;
-use crate::printing::{print_code, write_items};
+use crate::print::write_expr;
+use crate::printing::{write_code, write_items};
 use kern_bags::{Streamer, Window};
 use kern_rows::{CodeKernel, Filter, First};
 use river_base::{Bytes, NoMemory};
 use river_kernels::Kernel;
-use std::alloc::Global;
 use work_code::{Code, Expr, Exprs};
 
 // Appends the text of a kernel; where there is no memory, maybe a part of it.
 #[cycle(print_kernel)]
 #[tactic(auto, using(crate::proofs::Joined::joins))]
-fn print_kernel(alloc: Global, kernel: &Kernel, to: &mut Bytes) -> Result<(), NoMemory>
+fn print_kernel(kernel: &Kernel, to: &mut Bytes) -> Result<(), NoMemory>
     ensures { OnOk result (to.new ≡ to.old ++ kernel_text (kern_of kernel.now)) }
 {
     match kernel {
-        Kernel::Code(code) => print_code_kernel(alloc, code, to),
-        Kernel::Filter(filter) => print_filter(alloc, filter, to),
+        Kernel::Code(code) => print_code_kernel(code, to),
+        Kernel::Filter(filter) => print_filter(filter, to),
         Kernel::Duplicate(ports) => counted(b"duplicate", *ports, to),
         Kernel::Deal(weights) => print_weights(b"deal", weights.as_slice(), to),
         Kernel::Collect(weights) => print_weights(b"collect", weights.as_slice(), to),
-        Kernel::Packed(inner) => print_between(alloc, b"packed { ", inner, b" }", to),
+        Kernel::Packed(inner) => print_between(b"packed { ", inner, b" }", to),
         Kernel::Unpack(ports) => counted(b"unpack", *ports, to),
         Kernel::Window(window) => print_window(*window, to),
-        Kernel::Select(cond) => print_select(alloc, cond.expr(), to),
+        Kernel::Select(cond) => print_select(cond.expr(), to),
         Kernel::Project(list) => print_project(list.exprs(), to),
         Kernel::Cross => to.extend(b"cross"),
         Kernel::Streamer(streamer) => print_streamer(*streamer, to),
         Kernel::Tally => to.extend(b"tally"),
-        Kernel::Fused { first, second, at } => print_fused(alloc, first, second, *at, to),
+        Kernel::Fused { first, second, at } => print_fused(first, second, *at, to),
     }
 }
 
@@ -48,7 +47,6 @@ fn print_kernel(alloc: Global, kernel: &Kernel, to: &mut Bytes) -> Result<(), No
 #[cycle(print_kernel)]
 #[tactic(auto, using(crate::proofs::Joined::joins))]
 pub(crate) fn print_between(
-    alloc: Global,
     before: &[u8],
     kernel: &Kernel,
     after: &[u8],
@@ -57,25 +55,19 @@ pub(crate) fn print_between(
     ensures { OnOk result (to.new ≡ to.old ++ (before.now ++ (kernel_text (kern_of kernel.now) ++ after.now))) }
 {
     to.extend(before)?;
-    print_kernel(alloc, kernel, to)?;
+    print_kernel(kernel, to)?;
     to.extend(after)
 }
 
 // The text of two kernels as one.
 #[cycle(print_kernel)]
 #[tactic(auto, using(crate::proofs::Joined::joins))]
-fn print_fused(
-    alloc: Global,
-    first: &Kernel,
-    second: &Kernel,
-    at: u32,
-    to: &mut Bytes,
-) -> Result<(), NoMemory>
+fn print_fused(first: &Kernel, second: &Kernel, at: u32, to: &mut Bytes) -> Result<(), NoMemory>
     ensures { OnOk result (to.new ≡ to.old ++ kernel_text (fused (kern_of first.now) (kern_of second.now) at)) }
 {
     begin_fused(at, to)?;
-    print_kernel(alloc, first, to)?;
-    print_between(alloc, b" } { ", second, b" }", to)
+    print_kernel(first, to)?;
+    print_between(b" } { ", second, b" }", to)
 }
 
 // A word and values in brackets.
@@ -88,11 +80,11 @@ fn print_weights(word: &[u8], weights: &[i64], to: &mut Bytes) -> Result<(), NoM
 }
 
 #[tactic(auto, using(crate::proofs::Joined::joins))]
-fn print_select(alloc: Global, cond: &Expr, to: &mut Bytes) -> Result<(), NoMemory>
+fn print_select(cond: &Expr, to: &mut Bytes) -> Result<(), NoMemory>
     ensures { OnOk result (to.new ≡ to.old ++ kernel_text (select (term cond.now))) }
 {
     to.extend(b"select(")?;
-    print_expr(alloc, cond, to)?;
+    write_expr(cond, to)?;
     to.extend(b")")
 }
 
@@ -116,45 +108,45 @@ fn begin_fused(at: u32, to: &mut Bytes) -> Result<(), NoMemory>
 }
 
 #[tactic(auto, using(crate::proofs::Joined::joins))]
-fn print_code_kernel(alloc: Global, kernel: &CodeKernel, to: &mut Bytes) -> Result<(), NoMemory>
+fn print_code_kernel(kernel: &CodeKernel, to: &mut Bytes) -> Result<(), NoMemory>
     ensures { OnOk result (to.new ≡ to.old ++ code_text (code_form kernel.now)) }
 {
     to.extend(b"code")?;
     two_in_brackets(kernel.code.inputs, kernel.code.slots, to)?;
     to.extend(b" ")?;
     numbers(kernel.outs.as_slice(), Style::Value, to)?;
-    print_run(alloc, kernel.starts.as_slice(), &kernel.code, to)
+    print_run(kernel.starts.as_slice(), &kernel.code, to)
 }
 
 #[tactic(auto, using(crate::proofs::Joined::joins))]
-fn print_filter(alloc: Global, filter: &Filter, to: &mut Bytes) -> Result<(), NoMemory>
+fn print_filter(filter: &Filter, to: &mut Bytes) -> Result<(), NoMemory>
     ensures { OnOk result (to.new ≡ to.old ++ filter_text (filter_form filter.now)) }
 {
     to.extend(b"filter")?;
     print_rates(filter, to)?;
-    print_run(alloc, filter.starts.as_slice(), &filter.code, to)?;
-    print_firsts(alloc, &filter.first, to)
+    print_run(filter.starts.as_slice(), &filter.code, to)?;
+    print_firsts(&filter.first, to)
 }
 
 // The first run where it is another than the others.
-fn print_firsts(alloc: Global, first: &Option<First>, to: &mut Bytes) -> Result<(), NoMemory>
+fn print_firsts(first: &Option<First>, to: &mut Bytes) -> Result<(), NoMemory>
     ensures { OnOk result (to.new ≡ to.old ++ firsts_text (optional_run first.now)) }
 {
     match first {
-        Some(run) => print_first(alloc, run, to),
+        Some(run) => print_first(run, to),
         None => Ok(()),
     }
 }
 
 // A space, the word `first`, the rates in brackets and the body.
 #[tactic(auto, using(crate::proofs::Joined::joins))]
-fn print_first(alloc: Global, run: &First, to: &mut Bytes) -> Result<(), NoMemory>
+fn print_first(run: &First, to: &mut Bytes) -> Result<(), NoMemory>
     ensures { OnOk result (to.new ≡ to.old ++ first_text (run_form run.now)) }
 {
     to.extend(b" first")?;
     print_first_rates(run, to)?;
     to.extend(b" ")?;
-    print_code(alloc, &run.code, to)
+    write_code(&run.code, to)
 }
 
 // The rates of a first run, in brackets.
@@ -168,13 +160,13 @@ fn print_first_rates(run: &First, to: &mut Bytes) -> Result<(), NoMemory>
 
 // The starts and the body, each behind a space.
 #[tactic(auto, using(crate::proofs::Joined::joins))]
-fn print_run(alloc: Global, kept: &[i64], code: &Code, to: &mut Bytes) -> Result<(), NoMemory>
+fn print_run(kept: &[i64], code: &Code, to: &mut Bytes) -> Result<(), NoMemory>
     ensures { OnOk result (to.new ≡ to.old ++ run_text kept.now (steps code.now.body)) }
 {
     to.extend(b" ")?;
     numbers(kept, Style::Start, to)?;
     to.extend(b" ")?;
-    print_code(alloc, code, to)
+    write_code(code, to)
 }
 
 // The rates of a filter and how many slots it has, in brackets.

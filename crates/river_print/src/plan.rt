@@ -43,23 +43,18 @@ fn print_with(alloc: Global, plan: &RawPlan, own: &CapsByName) -> Result<Bytes, 
     ensures { IfOk result (λ text. text ≡ plan_text (own_of own.now) (plan_form plan.now)) }
 {
     let mut text = Bytes::new(alloc);
-    plan_lines(alloc, plan, own, &mut text)?;
+    plan_lines(plan, own, &mut text)?;
     Ok(text)
 }
 
 #[tactic(auto, using(crate::proofs::Joined::joins))]
-fn plan_lines(
-    alloc: Global,
-    plan: &RawPlan,
-    own: &CapsByName,
-    to: &mut Bytes,
-) -> Result<(), NoMemory>
+fn plan_lines(plan: &RawPlan, own: &CapsByName, to: &mut Bytes) -> Result<(), NoMemory>
     ensures { OnOk result (to.new ≡ to.old ++ plan_text (own_of own.now) (plan_form plan.now)) }
 {
     queue_lines(plan, own, to)?;
     table_lines(plan.tables.as_slice(), to)?;
     var_lines(plan.vars.as_slice(), to)?;
-    op_lines(alloc, plan.ops.as_slice(), to)
+    op_lines(plan.ops.as_slice(), to)
 }
 
 // The header, and the queues.
@@ -206,21 +201,21 @@ fn print_var(name: &Name, to: &mut Bytes) -> Result<(), NoMemory>
 }
 
 #[tactic(auto, using(crate::proofs::Joined::joins))]
-fn op_lines(alloc: Global, ops: &[Op], to: &mut Bytes) -> Result<(), NoMemory>
+fn op_lines(ops: &[Op], to: &mut Bytes) -> Result<(), NoMemory>
     ensures { OnOk result (to.new ≡ to.old ++ lines op_line (map op_form ops.now)) }
 {
     for op in ops {
-        print_op(alloc, op, to)?;
+        print_op(op, to)?;
     }
     Ok(())
 }
 
 #[tactic(auto, using(crate::proofs::Joined::joins))]
-fn print_op(alloc: Global, op: &Op, to: &mut Bytes) -> Result<(), NoMemory>
+fn print_op(op: &Op, to: &mut Bytes) -> Result<(), NoMemory>
     ensures { OnOk result (to.new ≡ to.old ++ op_line (op_form op.now)) }
 {
     print_head(op, to)?;
-    print_between(alloc, b" { ", &op.kernel, b" }\n", to)
+    print_between(b" { ", &op.kernel, b" }\n", to)
 }
 
 // The operator's name and ports.

@@ -10,7 +10,7 @@ use crate::step::{Steps, whole_step};
 use river_base::Bytes;
 use std::alloc::Global;
 use text_forms::{ParseFault, TextFault};
-use text_tokens::{Tokens, Units, lex, units};
+use text_tokens::{Tokens, UnitList, lex, units};
 
 /// The steps that a text stands for.
 #[tactic(auto, using(crate::proofs::Fronts::reads, text_tokens::proofs::Counts::counts))]
@@ -35,7 +35,7 @@ fn read_tokens(alloc: Global, tokens: &Tokens<'_>) -> Result<Steps, TextFault>
 }
 
 // The steps of the units of a text.
-fn read_units(alloc: Global, units: &Units<'_>) -> Result<Steps, TextFault>
+fn read_units(alloc: Global, units: &UnitList<'_>) -> Result<Steps, TextFault>
     requires { length units.now < 2 ^ 32 }
     ensures { GivesText step_forms result (or_syntax (steps_of units.now)) }
 {

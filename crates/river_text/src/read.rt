@@ -13,7 +13,7 @@ use river_base::Bytes;
 use river_plan::{Caps, RawPlan};
 use std::alloc::Global;
 use text_forms::{ParseFault, TextFault};
-use text_tokens::{Lexeme, Tokens, Units, lex, units};
+use text_tokens::{Lexeme, Tokens, UnitList, lex, units};
 
 /// The lists of the plan that a text stands for (the River language of Soulé and others, DEBS 2012), and
 /// the capacities of its queues, an entry for each `cap`, in order.
@@ -68,7 +68,7 @@ fn is_second_short(lexemes: &[Lexeme<'_>]) -> bool
 }
 
 // What the units of a text stand for.
-fn read_units(alloc: Global, units: &Units<'_>, first: Place) -> Result<RiverText, TextFault>
+fn read_units(alloc: Global, units: &UnitList<'_>, first: Place) -> Result<RiverText, TextFault>
     requires { length units.now < 2 ^ 32 }
     ensures { GivesText text_form result (or_syntax (read_plan first 1 empty_text units.now)) }
 {

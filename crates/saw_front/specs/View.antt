@@ -32,9 +32,9 @@ option_terms None = []
 option_terms (Some e) = term e ∷ []
 
 -- the answer is the one that is defined
-abbrev pub Decides : {X A : Type 0} → (X → A) → Result X Fault → Result A Fault → Type 0
-Decides view (Ok x) r = r ≡ Ok (view x)
-Decides view (Err f) r = r ≡ Err f
+abbrev pub JudgesAlways : {X A : Type 0} → (X → A) → Result X Fault → Result A Fault → Type 0
+JudgesAlways view (Ok x) r = r ≡ Ok (view x)
+JudgesAlways view (Err f) r = r ≡ Err f
 
 -- this is why a unit is refused; want of memory says nothing
 abbrev pub IsWhyUnit : {A : Type 0} → RefusedUnit → Result A Fault → Type 0

@@ -1,7 +1,7 @@
 // Judges names and numbers, one statement after another.
 ghost use Rattle.std.specs.Prelude.{◌≡◌, ◌<◌};
 ghost use Rattle.saw_model.specs.Elaborate.{counted, find, is_new, slot_of, table_port, nothing_read};
-ghost use Rattle.saw_front.specs.View.{Decides};
+ghost use Rattle.saw_front.specs.View.{JudgesAlways};
 ghost use Rattle.saw_front.specs.Judging.{at_of};
 
 use crate::names::{Known, Names};
@@ -36,7 +36,7 @@ impl Judge {
 
     /// One statement more.
     pub(crate) fn counted(&mut self) -> Result<(), Fault>
-        ensures judged { Decides (λ _. at_of self.new) result (counted (at_of self.old)) }
+        ensures judged { JudgesAlways (λ _. at_of self.new) result (counted (at_of self.old)) }
         ensures names { self.new.names ≡ self.old.names }
     {
         if self.size < MOST_STATEMENTS {
@@ -49,7 +49,7 @@ impl Judge {
 
     /// A name is not known yet.
     pub(crate) fn new_name(&self, name: &Name) -> Result<(), Fault>
-        ensures { Decides (λ u. u) result (is_new (find (at_of self.now).scope name.now)) }
+        ensures { JudgesAlways (λ u. u) result (is_new (find (at_of self.now).scope name.now)) }
     {
         match self.names.find(name) {
             None => Ok(()),
@@ -59,7 +59,7 @@ impl Judge {
 
     /// The slot that an assignment sets.
     pub(crate) fn slot_of(&self, name: &Name) -> Result<u32, Fault>
-        ensures { Decides (λ n. n) result (slot_of (find (at_of self.now).scope name.now)) }
+        ensures { JudgesAlways (λ n. n) result (slot_of (find (at_of self.now).scope name.now)) }
     {
         match self.names.find(name) {
             Some(Known::Slot(slot)) => Ok(slot),
@@ -69,7 +69,7 @@ impl Judge {
 
     /// The place and the kind of a table.
     pub(crate) fn port_of(&self, name: &Name) -> Result<(u32, TableKind), Fault>
-        ensures { Decides (λ p. p) result (table_port (find (at_of self.now).scope name.now)) }
+        ensures { JudgesAlways (λ p. p) result (table_port (find (at_of self.now).scope name.now)) }
     {
         match self.names.find(name) {
             Some(Known::Table { place, kind }) => Ok((place, kind)),

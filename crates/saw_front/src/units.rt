@@ -4,7 +4,7 @@ ghost use Rattle.saw_model.specs.Elaborate.{is_best, table_of, unit_judged as re
 ghost use Rattle.saw_model.specs.Judged.{units_judged};
 ghost use Rattle.saw_model.specs.Meaning.{table_kind_of};
 ghost use Rattle.saw_text.specs.Tree.{unit_form, unit_forms};
-ghost use Rattle.saw_front.specs.View.{Decides};
+ghost use Rattle.saw_front.specs.View.{JudgesAlways};
 ghost use Rattle.saw_front.specs.Judging.{at_of, fits_of, kind_within, Reads, ReadsTable, JudgesAll};
 ghost use Rattle.saw_front.specs.Valued.{IsValuedUnit, AreValuedUnits};
 
@@ -41,7 +41,7 @@ fn is_best(kind: TableKind) -> bool
 
 // The kind of a table, which is within its limits.
 fn within(table: &Table) -> Result<TableKind, Fault>
-    ensures { Decides (λ k. k) result (kind_within (table_kind_of table.now.kind (length table.now.indexes.items))) }
+    ensures { JudgesAlways (λ k. k) result (kind_within (table_kind_of table.now.kind (length table.now.indexes.items))) }
 {
     let Ok(keys) = u32::try_from(table.indexes.len()) else {
         return Err(Fault::Limit);
@@ -99,7 +99,7 @@ impl Judge {
 
     // The kind of a table whose name is new, where there may be one more.
     fn fits(&self, table: &Table) -> Result<TableKind, Fault>
-        ensures judged { Decides (λ k. k) result (fits_of (at_of self.now) table.now.name (table_kind_of table.now.kind (length table.now.indexes.items))) }
+        ensures judged { JudgesAlways (λ k. k) result (fits_of (at_of self.now) table.now.name (table_kind_of table.now.kind (length table.now.indexes.items))) }
         ensures few { OnOk result (self.now.tables < 64) }
     {
         self.new_name(&table.name)?;

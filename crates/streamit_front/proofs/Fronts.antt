@@ -169,13 +169,14 @@ read-faulty text (BigNumber at) h = faulty-means text (BigNumber at) h.0
 read-faulty text (Syntax unit) h = faulty-means text (Syntax unit) h.0
 read-faulty text NoMemory h = tt
 
--- a text has no more units than bytes
+-- a program has as many declarations as its text has units
 formed-few : (p : Program) (units : List (List Tok)) → AreUnits p units → length p ≡ length units
 formed-few [] [] h = refl
 formed-few [] (u ∷ us) h = absurd h
 formed-few (d ∷ ds) [] h = absurd h
 formed-few (d ∷ ds) (u ∷ us) h = ap suc (formed-few ds us h.1)
 
+-- a text has no more declarations than bytes
 pub read-few : (text : List ℕ) (p : Program) → IsText text p → length p ≤ length text
 read-few text p e =
     let same = formed-few p (cut_units (toks e.marks)) e.formed in

@@ -8,8 +8,8 @@ use Rattle.river_plan.specs.declared.plan.TableDecl.{TableDecl}
 use Rattle.river_plan.specs.Forms.{table_names}
 use Rattle.csv_streams.specs.Outcome.{under_name}
 use Rattle.table_texts.specs.Split.{HasNoName, IsSplit, section_at, rows_of_table, StartsName, SaysNoSplit, SaysNoLine, IsNext}
-use Rattle.table_texts.specs.declared.split.SplitFault.{SplitFault}
-use Rattle.table_texts.specs.declared.split.SplitFault.TheVariants as why
+use Rattle.table_texts.specs.declared.split.NoSplit.{NoSplit}
+use Rattle.table_texts.specs.declared.split.NoSplit.TheVariants as why
 use Rattle.table_texts.proofs.OneSplit.{one-back, one-line}
 
 -- WORDS
@@ -147,7 +147,7 @@ split-next tables out i place end d old new l front w next = record {
 }
 
 -- the whole has no split where the line of the next name does not stand there
-pub split-none : (tables : List TableDecl) (out : List ℕ) (i place : ℕ) (d : TableDecl) (sections : List (List ℕ)) (fault : SplitFault) → i < length tables
+pub split-none : (tables : List TableDecl) (out : List ℕ) (i place : ℕ) (d : TableDecl) (sections : List (List ℕ)) (fault : NoSplit) → i < length tables
     → SplitFront tables out i place sections → SaysNoLine (get_or tables i d).name (drop place out) fault
     → SaysNoSplit (table_names tables) out fault
 split-none tables out i place d sections why.Other l front none = λ all h.

@@ -3,8 +3,8 @@ use Rattle.std.specs.Prelude.{◌≡◌, ⊤, ℕ, zero, suc, ◌==◌, true, fa
 use Rattle.river_plan.specs.Forms.{Name}
 use Rattle.csv_streams.specs.Outcome.{under_name}
 use Rattle.kern_tables.specs.Pieces.{joined}
-use Rattle.table_texts.specs.declared.split.SplitFault.{SplitFault}
-use Rattle.table_texts.specs.declared.split.SplitFault.TheVariants as fault
+use Rattle.table_texts.specs.declared.split.NoSplit.{NoSplit}
+use Rattle.table_texts.specs.declared.split.NoSplit.TheVariants as fault
 
 -- the texts of tables, each behind the line of its name
 abbrev pub under_names : List Name → List (List ℕ) → List ℕ
@@ -53,12 +53,12 @@ StartsName (c ∷ cs) = c == 35 ≡ true
 -- WHERE THERE IS NO SPLIT
 
 -- why a text is not split: it has no split, or memory was wanting
-abbrev pub SaysNoSplit : List Name → List ℕ → SplitFault → Type 0
+abbrev pub SaysNoSplit : List Name → List ℕ → NoSplit → Type 0
 SaysNoSplit names out fault.Other = (sections : List (List ℕ)) → IsSplit names out sections → ⊥
 SaysNoSplit names out fault.NoMemory = ⊤
 
 -- why no text of a table is split off: the line of its name does not stand there, or memory was wanting
-abbrev pub SaysNoLine : Name → List ℕ → SplitFault → Type 0
+abbrev pub SaysNoLine : Name → List ℕ → NoSplit → Type 0
 SaysNoLine name bytes fault.Other = (behind : List ℕ) → bytes ≡ under_name name behind → ⊥
 SaysNoLine name bytes fault.NoMemory = ⊤
 

@@ -4,5 +4,5 @@
 mod split;
 mod together;
 
-pub use split::{SplitFault, split_tables};
+pub use split::{NoSplit, split_tables};
 pub use together::rows_of_table;

@@ -10,20 +10,20 @@ use std::alloc::Global;
 
 /// Why a text is not split.
 #[derive(Clone, Copy, Debug, PartialEq, Eq)]
-pub enum SplitFault {
+pub enum NoSplit {
     /// It is not what a run prints of these tables.
     Other,
     /// There was no memory.
     NoMemory,
 }
 
-impl From<NoMemory> for SplitFault {
-    ghost use Rattle.table_texts.specs.declared.split.SplitFault.TheVariants as fault;
+impl From<NoMemory> for NoSplit {
+    ghost use Rattle.table_texts.specs.declared.split.NoSplit.TheVariants as fault;
 
     ghost from_gives = { λ _ e. e ≡ fault.NoMemory };
 
     fn from(_fault: NoMemory) -> Self {
-        SplitFault::NoMemory
+        NoSplit::NoMemory
     }
 }
 
@@ -33,7 +33,7 @@ pub fn split_tables(
     alloc: Global,
     tables: &[TableDecl],
     out: &[u8],
-) -> Result<Listed<Bytes>, SplitFault>
+) -> Result<Listed<Bytes>, NoSplit>
     ensures split { IfOk result (λ sections. split.IsSplit (table_names tables.now) out.now sections) }
     ensures none { IfErr result (split.SaysNoSplit (table_names tables.now) out.now) }
 {
@@ -45,7 +45,7 @@ pub fn split_tables(
     if place == out.len() {
         Ok(sections)
     } else {
-        Err(SplitFault::Other)
+        Err(NoSplit::Other)
     }
 }
 
@@ -57,14 +57,14 @@ fn split_next(
     out: &[u8],
     place: usize,
     sections: &mut Listed<Bytes>,
-) -> Result<usize, SplitFault>
+) -> Result<usize, NoSplit>
     requires { place ≤ length out.now }
     ensures within { IfOk result (λ end. end ≤ length out.now) }
     ensures next { IfOk result (λ end. split.IsNext name.now (drop place out.now) (drop end out.now) sections.old sections.new) }
     ensures none { IfErr result (split.SaysNoLine name.now (drop place out.now)) }
 {
     let Some(begin) = behind_line(name, out, place) else {
-        return Err(SplitFault::Other);
+        return Err(NoSplit::Other);
     };
     let end = section_end(out, begin);
     sections.push(Bytes::from_slice(alloc, &out[begin..end])?)?;

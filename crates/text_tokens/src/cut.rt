@@ -10,11 +10,11 @@ use std::marker::Model;
 
 /// The units of a text, in order. Contracts see the list of the units, each the list of its tokens.
 #[derive(Drop)]
-pub struct Units<'a> {
+pub struct UnitList<'a> {
     parts: Vec<&'a [Lexeme<'a>]>,
 }
 
-impl<'a> Model for Units<'a> {
+impl<'a> Model for UnitList<'a> {
     ghost use Rattle.std.specs.Prelude.{List, map};
     ghost use Rattle.text_tokens.specs.Tok.{Tok, tokens_of};
     ghost use Rattle.text_tokens.specs.Cut.{unit_tokens};
@@ -24,12 +24,12 @@ impl<'a> Model for Units<'a> {
     ghost view = { λ u. map unit_tokens u.parts.items };
 }
 
-impl<'a> Units<'a> {
+impl<'a> UnitList<'a> {
     // No unit.
     pub(crate) fn new(alloc: Global) -> Self
         ensures { result ≡ [] }
     {
-        Units {
+        UnitList {
             parts: Vec::new(alloc),
         }
     }

@@ -12,7 +12,7 @@ mod token;
 mod tokens;
 mod unit;
 
-pub use cut::Units;
+pub use cut::UnitList;
 pub use fault::LexFault;
 pub use lexer::lex;
 pub use sign::Symbol;

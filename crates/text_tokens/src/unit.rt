@@ -3,7 +3,7 @@ ghost use Rattle.std.specs.Prelude.{◌≡◌, ◌<◌, ◌+◌, ◌^◌, IfOk};
 ghost use Rattle.text_tokens.specs.Tok.{token_of, tokens_of, toks};
 ghost use Rattle.text_tokens.specs.Cut.{braces_after, ends_unit, is_else, unit_len, units_of};
 
-use crate::cut::Units;
+use crate::cut::UnitList;
 use crate::{Lexeme, Symbol, Token, Tokens};
 use river_base::NoMemory;
 use std::alloc::Global;
@@ -70,11 +70,11 @@ fn unit_len(lexemes: &[Lexeme<'_>]) -> usize
 ///
 /// `NoMemory` where there is no memory.
 #[tactic(auto, using(crate::proofs::Cuts::cuts))]
-pub fn units<'u>(alloc: Global, tokens: &'u Tokens<'_>) -> Result<Units<'u>, NoMemory>
+pub fn units<'u>(alloc: Global, tokens: &'u Tokens<'_>) -> Result<UnitList<'u>, NoMemory>
     ensures { IfOk result (λ units. units ≡ units_of (toks tokens.now)) }
 {
     let lexemes = tokens.as_slice();
-    let mut units = Units::new(alloc);
+    let mut units = UnitList::new(alloc);
     let mut at = 0;
     while at < lexemes.len() {
         let (_, rest) = lexemes.split_at(at);
