@@ -74,6 +74,7 @@ put_order (suc n) q g base s e =
 abbrev no_items : List item.Item
 no_items = []
 
+-- empty lists hold nothing that waits
 pub no_waiting : (n : ℕ) → waiting (replicate n []) ≡ 0
 no_waiting zero = refl
 no_waiting (suc n) = let e = no_waiting n in omega (arith, e)

@@ -13,15 +13,19 @@ use Rattle.brooklet_model.specs.ByIndex.{cycle, part_of_cycle, within, branch, n
 abbrev pub Positive : List ℕ → Type 0
 Positive ws = AllByRecursion (λ w. 0 < w) ws
 
+-- what comes before the first weight falls to the first part
 pub part_first : (w : ℕ) (ws : List ℕ) (m : ℕ) → m < w → part_of_cycle (w ∷ ws) m ≡ 0
 part_first w ws m lt = if_lt m w 0 (suc (part_of_cycle ws (m - w))) lt
 
+-- what comes behind it falls to a part of the other weights
 pub part_other : (w : ℕ) (ws : List ℕ) (m : ℕ) → w ≤ m → part_of_cycle (w ∷ ws) m ≡ suc (part_of_cycle ws (m - w))
 part_other w ws m le = if_ge m w 0 (suc (part_of_cycle ws (m - w))) le
 
+-- its place within the first part is its place
 pub within_first : (w : ℕ) (ws : List ℕ) (m : ℕ) → m < w → within (w ∷ ws) m ≡ m
 within_first w ws m lt = if_lt m w m (within ws (m - w)) lt
 
+-- its place within another part is the one among the other weights
 pub within_other : (w : ℕ) (ws : List ℕ) (m : ℕ) → w ≤ m → within (w ∷ ws) m ≡ within ws (m - w)
 within_other w ws m le = if_ge m w m (within ws (m - w)) le
 

@@ -93,10 +93,12 @@ at_port-append p (e ∷ es) v = ⊎_elim
     (λ h. at_port_past p e (es ++ v) h ∙ at_port-append p es v ∙ ap (λ t. t ++ at_port p v) (sym (at_port_past p e es h)))
     (cases_eq e.0 p)
 
+-- the word of a list at a port has that list there
 pub at_port-word_same : (p : ℕ) (xs : List item.Item) → at_port p (word_of p xs) ≡ xs
 at_port-word_same p [] = refl
 at_port-word_same p (x ∷ xs) = at_port_here p (p, x) (word_of p xs) refl ∙ ap (λ t. x ∷ t) (at_port-word_same p xs)
 
+-- a word of another port has nothing at this one
 pub at_port-word_other : (p q : ℕ) (xs : List item.Item) → q ≢ p → at_port p (word_of q xs) ≡ []
 at_port-word_other p q [] ne = refl
 at_port-word_other p q (x ∷ xs) ne = at_port_past p (q, x) (word_of q xs) ne ∙ at_port-word_other p q xs ne

@@ -43,5 +43,6 @@ feed_kept f P keep (x ∷ xs) ss h = feed_kept f P keep xs (f x ss).states (keep
 pub at_here : {A : Type 0} (n m : Name) (z : A) (f : Name → A) → name_eq n m ≡ true → at_name n z f m ≡ z
 at_here n m z f e = ap (λ b. if b then z else f m) e
 
+-- a change at one name leaves the others
 pub at_other : {A : Type 0} (n m : Name) (z : A) (f : Name → A) → name_eq n m ≡ false → at_name n z f m ≡ f m
 at_other n m z f e = ap (λ b. if b then z else f m) e

@@ -35,6 +35,7 @@ splice_next at n f g p = ⊎_elim
     (cases_lt (p - at) n))
     (cases_lt p at)
 
+-- a splice one place further on keeps the first
 pub spliced_next : {A : Type 0} (at : ℕ) (m : A) (ms bs : List A) → spliced (suc at) (m ∷ ms) bs ≡ m ∷ spliced at ms bs
 spliced_next at m ms bs = let e : suc at + 1 ≡ suc (at + 1) = omega arith in ap (λ n. m ∷ (take at ms ++ (bs ++ drop n (m ∷ ms)))) e
 

@@ -30,6 +30,7 @@ widths-append [] vs = refl
 widths-append (Private ∷ us) vs = widths-append us vs
 widths-append (Table n ∷ us) vs = ap (λ l. n ∷ l) (widths-append us vs)
 
+-- there is a width for each table among the variables
 pub widths_length : (us : List VarKind) → length (widths_in us) ≡ tables_in us
 widths_length [] = refl
 widths_length (Private ∷ us) = widths_length us

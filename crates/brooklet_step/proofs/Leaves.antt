@@ -57,6 +57,7 @@ row_is n p reads x e h = row_by n x (at_first (rows n) p x (subst (λ (l : List 
 
 -- BODIES
 
+-- an item that code may take is a row of its inputs
 pub code_row : (k : CodeForm) (x : item.Item) (st : List State) → MayTake (code k) 0 x st → IsRow x × (length (values_of x) ≡ k.body.inputs)
 code_row k x st t = row_is k.body.inputs 0 t.reads x t.fitted.fits.0 t.item
 
@@ -176,6 +177,7 @@ code_below k x st st' out pushes a p =
     let same : length t.writes ≡ length out.outs = (counts (code k) a.takes.reads t.writes t.vars t.fits).outs ∙ sym a.room.outs in
     subst (λ n. All (λ e. e.0 < n) pushes) same (ports_below t.writes pushes are)
 
+-- what was pushed, and no rows added, is a firing of code
 pub code_fires : (k : CodeForm) (x : item.Item) (st st' : List State) (out out' : Emit) (pushes : List (ℕ × List ℤ)) → Pushed k x st st' pushes
     → out'.outs ≡ each_grew out.outs (λ p. pushed_to p pushes) → out'.adds ≡ out.adds → Fires (code k) out out' st st' (fire (code k) 0 x)
 code_fires k x st st' out out' pushes p eo ea = record {

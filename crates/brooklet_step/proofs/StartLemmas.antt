@@ -113,6 +113,7 @@ zero_at (suc n) (suc i) = zero_at n i
 min_zero : (m : ℕ) → min m 0 ≡ 0
 min_zero m = omega arith
 
+-- there are as many lists of items as inputs
 pub inputs_many : (ds : List Decl) (ls : List (List item.Item)) → AreInputs ds ls → length ls ≡ length ds
 inputs_many [] [] a = refl
 inputs_many [] (xs ∷ ls) a = absurd a
@@ -187,6 +188,7 @@ module _ (p : PlanForm) (v : IsPlan p) (inputs : List (List item.Item)) (fit : F
 
 -- ALL OF IT
 
+-- the machine stands at the start of a run, and has not stopped
 pub record First (p : PlanForm) (inputs : List (List item.Item)) (m : MachineState) : Type 0 where
   pub starts : Starts p inputs m
   pub goes_on : IsRunning m

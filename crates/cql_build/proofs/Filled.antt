@@ -131,6 +131,7 @@ inputs_next parts i p start now later h lt e g =
 
 -- COPIES
 
+-- how far the copies of the inputs have come, at one unit
 pub record Copying (old now : RawPlan) (all : List Name) (parts : List code_unit.Unit) (i : ℕ) : Type 0 where
   pub left : Left old now [] [] (input_copies all (unit_forms parts)) (input_copies all (unit_forms (drop i parts))) (input_ops all (unit_forms parts))
       (input_ops all (unit_forms (drop i parts)))

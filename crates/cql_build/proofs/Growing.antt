@@ -111,6 +111,7 @@ pub record WindowsLeft (old now : RawPlan) (before after : StreamUses) (q : Name
   pub uses : after.all ≡ before.all
   pub short : AllByRecursion IsShortName (streams_of (sources_of (drop i all)))
 
+-- before the first item all windows are left
 pub windows_start : (raw : RawPlan) (uses : StreamUses) (q : Name) (all : List Source) (items : List Item) → AllByRecursion IsShortName (streams_of (sources_of all))
     → WindowsLeft raw raw uses uses q all items 0
 windows_start raw uses q all items s = record { left = left_start raw _ _ _; past = refl; inputs = refl; uses = refl; short = s }

@@ -193,6 +193,7 @@ at_item : (ks : List Named) (all : List Source) (i wide : ℕ) (x : Source) → 
     (items_fault ks (scope_of ks (sources_of (take i all)) ++ item_named ks (source_of x) ∷ []) (sources_of (drop (i + 1) all)))
 at_item ks all i wide x s lt e = s.whole ∙ ap (λ l. items_fault ks (scope_of ks (sources_of (take i all))) (sources_of l)) (drop_next all i x lt e)
 
+-- the sources of a list with one more at its end
 pub sources-append : (xs : List Source) (x : Source) → sources_of (xs ++ x ∷ []) ≡ sources_of xs ++ source_of x ∷ []
 sources-append [] x = refl
 sources-append (y ∷ ys) x = ap (λ l. source_of y ∷ l) (sources-append ys x)

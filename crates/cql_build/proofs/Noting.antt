@@ -51,5 +51,6 @@ noted_next parts i p u v s lt e n =
 pub noted_inputs : (parts : List code_unit.Unit) (i : ℕ) (u : StreamUses) → Noted parts i u → length parts ≤ i → u.inputs ≡ registered (unit_forms parts)
 noted_inputs parts i u s le = sym (s.inputs ∙ ap (λ l. u.inputs ++ registered (unit_forms l)) (drop_all i parts le) ∙ append-nil u.inputs)
 
+-- once all units are noted, all uses are
 pub noted_uses : (parts : List code_unit.Unit) (i : ℕ) (u : StreamUses) → Noted parts i u → length parts ≤ i → u.all ≡ all_uses (unit_forms parts)
 noted_uses parts i u s le = sym (s.all ∙ ap (λ l. u.all ++ all_uses (unit_forms l)) (drop_all i parts le) ∙ append-nil u.all)

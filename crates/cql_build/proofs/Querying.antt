@@ -80,6 +80,7 @@ items_are ks xs is e = sym (length-map is named_item) ∙ ap (λ (l : List Named
 
 -- ALL UNITS
 
+-- how far the queries have come, at one unit, with the names that are known there
 pub record Querying (old now : RawPlan) (before after : StreamUses) (parts : List code_unit.Unit) (i : ℕ) (k : Known) : Type 0 where
   pub ks : List Named
   pub knows : Knows k ks

@@ -100,6 +100,7 @@ pub record From (low : ℕ) (ts : List Tag) : Type 0 where
   pub once : (t : Tag) → tags t ts ≤ 1
   pub above : (t : Tag) → 0 < tags t ts → low ≤ class t
 
+-- tags of one class, each at most once
 pub record Of (n : ℕ) (ts : List Tag) : Type 0 where
   pub once : (t : Tag) → tags t ts ≤ 1
   pub only : (t : Tag) → 0 < tags t ts → class t ≡ n

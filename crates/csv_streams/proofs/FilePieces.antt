@@ -22,6 +22,7 @@ does s c = (step default_config s c).1
 
 -- ALL RECORDS IN ONE GO
 
+-- the records that a text has from a state on, with the fields and the field begun so far
 abbrev pub all_from : State → List (List ℕ) → List ℕ → List ℕ → List (List (List ℕ))
 all_from s fs f [] = if ends_at_end s then (fs ++ f ∷ []) ∷ [] else []
 all_from s fs f (c ∷ cs) =
@@ -200,6 +201,7 @@ strip_first (a ∷ b ∷ c ∷ r) ys e u = either (is_bom a b c) where
   either true = refl
   either false = refl
 
+-- the records of two texts are those of the one that they make
 pub records_in_pieces : RecordsInPieces
 records_in_pieces xs ys e u =
     ap (records default_config) (strip_first xs ys e u)
@@ -216,6 +218,7 @@ both_write w more [] ss (x ∷ xs) second a b = absurd a
 both_write w more (r ∷ rs) ss [] second a b = absurd a
 both_write w more (r ∷ rs) ss (x ∷ xs) second a b = (a.0, both_write w more rs ss xs second a.1 b)
 
+-- so are the rows that they write
 pub rows_in_pieces : RowsInPieces
 rows_in_pieces xs ys w skip more first second e u there a b =
     subst (λ recs. WriteRows w more recs (first ++ second))

@@ -213,6 +213,7 @@ rows_written w more (row ∷ rows) h v =
       rows_written w more rows (All-tail (λ row. length row ≡ w) row rows h) (All-tail V row rows v),
     )
 
+-- rows that are printed are read as themselves
 pub printed_rows_are_read : PrintedRowsAreRead
 printed_rows_are_read w more rows p h v few =
     written_rows-read (texts_of row_line rows) w false more rows (record {

@@ -25,6 +25,7 @@ use Rattle.fire_open.proofs.Lists.{set_got_same, set_got_is, set_got_other}
 
 -- PORTS BY PLACES
 
+-- an operator's port with this number, and the queue at it
 pub record PortAt (p : PlanForm) (qs : OpForm → List Name) (o j n : ℕ) : Type 0 where
   pub op : OpForm
   pub queue : Name
@@ -110,6 +111,7 @@ know_first p a b c s0 s1 s2 s3 e0 e1 e2 e3 ea eb ec =
       all = λ o' j' op q b' g w. absurd (⊎_elim (λ l. omega (arith, l)) (λ e. let l = e.1 in omega (arith, l)) b');
     }
 
+-- what comes before the next port comes before this one, or is this one
 pub before_next : (o j o' j' : ℕ) → ComesBefore o (j + 1) o' j' → ComesBefore o j o' j' ⊎ ((o ≡ o') × (j ≡ j'))
 before_next o j o' j' b = ⊎_elim
     (λ l. inl (inl l))

@@ -23,6 +23,7 @@ use Rattle.fire_tasks.proofs.PortLemmas.{count_same}
 use Rattle.fire_open.specs.TaskCores.{TaskCore, task_core}
 use Rattle.fire_open.proofs.Lists.{same_got, map_through, map_long}
 
+-- a task whose core is the same is the same operator's still
 pub still_task : (p : PlanForm) (adds : ℕ → List (List ℤ)) (t t' : Task) → task_core t' ≡ task_core t → IsTask p adds t → IsTask p adds t'
 still_task p adds t t' e k =
     let es : ends_of t' ≡ ends_of t = ap (λ (s : TaskCore). s.ends) e in

@@ -46,6 +46,7 @@ pub record Walked (ts0 : List Task) (back : ℕ) (ts : List Task) : Type 0 where
 pub walked_first : (ts : List Task) → Walked ts 0 ts
 walked_first ts = record { same = refl; rest = λ i d lt. refl; done = λ i d lt le. absurd (omega (arith, lt, le)) }
 
+-- a walk leaves as many tasks as there were
 pub walked_long : (ts0 ts : List Task) (back : ℕ) → Walked ts0 back ts → length ts ≡ length ts0
 walked_long ts0 ts back h = map_long task_core ts ts0 h.same
 

@@ -36,12 +36,15 @@ front_is xs ys a le = nothing a.0 a.1 (let n = length-append xs a.0 in let m = a
 
 -- FRONTS AT ALL PORTS
 
+-- lists begin with themselves
 pub fronts_same : (ls : List (List item.Item)) → AreFronts ls ls
 fronts_same ls j = front_same (list_at ls j)
 
+-- lists that are the same begin with each other
 pub fronts_is : (ls ls' : List (List item.Item)) → ls' ≡ ls → AreFronts ls ls'
 fronts_is ls ls' e = subst (AreFronts ls) (sym e) (fronts_same ls)
 
+-- what begins with lists that begin with others begins with these
 pub fronts_then : (ls ls1 ls2 : List (List item.Item)) → AreFronts ls ls1 → AreFronts ls1 ls2 → AreFronts ls ls2
 fronts_then ls ls1 ls2 a b j = front_then (list_at ls j) (list_at ls1 j) (list_at ls2 j) (a j) (b j)
 
@@ -64,9 +67,11 @@ fronts_sent (y ∷ ys) (suc i) x more e (suc j) = fronts_sent ys i x more e j
 
 -- TASKS
 
+-- a task goes on from itself
 pub goes_same : (t : Task) → ExtendsFronts t t
 goes_same t = record { received = fronts_same (received_in t.ins); sent = fronts_same (sent_in t.outs) }
 
+-- a task that goes on twice goes on
 pub goes_then : (t t1 t2 : Task) → ExtendsFronts t t1 → ExtendsFronts t1 t2 → ExtendsFronts t t2
 goes_then t t1 t2 a b = record {
   received = fronts_then (received_in t.ins) (received_in t1.ins) (received_in t2.ins) a.received b.received;
@@ -86,9 +91,11 @@ goes_took t t' port x r s = record {
 
 -- LISTS OF TASKS
 
+-- all tasks go on from themselves
 pub all_same : (ts : List Task) → AllGoOn ts ts
 all_same ts i d lt = goes_same (get_or ts i d)
 
+-- tasks that go on twice go on
 pub all_then : (ts ts1 ts2 : List Task) → length ts1 ≡ length ts → AllGoOn ts ts1 → AllGoOn ts1 ts2 → AllGoOn ts ts2
 all_then ts ts1 ts2 n a b i d lt = goes_then (get_or ts i d) (get_or ts1 i d) (get_or ts2 i d) (a i d lt) (b i d (omega (arith, n, lt)))
 
@@ -137,6 +144,7 @@ task_grew t t' e lt = ⊎_elim
     (λ ge. inr (sent_grew t.outs t'.outs (outs_as_many t.outs t'.outs (ap (λ (x : TaskEnds). x.outs) e)) (omega (arith, lt, ge))))
     (cases_lt (received_count t.ins) (received_count t'.ins))
 
+-- where there are more moves, some task has grown
 pub tasks_grew : (ts ts' : List Task) → all_ends ts' ≡ all_ends ts → all_moves ts < all_moves ts' → SomeGrew ts ts'
 tasks_grew [] [] e lt = absurd (omega (arith, lt))
 tasks_grew [] (u ∷ us) e lt = absurd (cc e)
@@ -220,6 +228,7 @@ task_stays t t' e g le =
     let s = sent_short t.outs t'.outs m g.sent in
     (received_stays t.ins t'.ins n g.received (omega (arith, le, s)), sent_stays t.outs t'.outs m g.sent (omega (arith, le, r)))
 
+-- where there are no more moves, each task stays
 pub tasks_stay : (ts ts' : List Task) → all_ends ts' ≡ all_ends ts → AllGoOn ts ts' → all_moves ts' ≤ all_moves ts → AllStay ts ts'
 tasks_stay [] ts' e g le i d lt = absurd (omega (arith, lt))
 tasks_stay (t ∷ ts) [] e g le i d lt = absurd (cc e)
@@ -236,6 +245,7 @@ tasks_stay (t ∷ ts) (u ∷ us) e g le (suc i) d lt =
 
 -- A PASS
 
+-- a bundle whose tasks go on, with the moves that are told, has gone on
 pub has_gone : (b b' : Bundle) (moved : Bool) → all_ends b'.tasks ≡ all_ends b.tasks → AllGoOn b.tasks b'.tasks
     → HasMoved (all_moves b.tasks) (all_moves b'.tasks) moved → HasGone b b' moved
 has_gone b b' moved e g n = record {

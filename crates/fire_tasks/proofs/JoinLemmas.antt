@@ -43,6 +43,7 @@ log_is [] c x g = absurd (cc g)
 log_is (y ∷ ys) zero x g = ap (λ (z : Holding). z.log) (some-injective y x g)
 log_is (y ∷ ys) (suc c) x g = log_is ys c x g
 
+-- the rows that an operator has in two logs are those of the one that they make
 pub rows-append : (o table : ℕ) (xs ys : List LogEntry) → rows_by o table (xs ++ ys) ≡ rows_by o table xs ++ rows_by o table ys
 rows-append o table xs ys = ap (rows_to table) (filter-append (λ e. e.op == o) xs ys) ∙ flat_map-append (rows_of_entry table) (part_of_op o xs) (part_of_op o ys)
 

@@ -110,6 +110,7 @@ pub ports_long : (w : Word) → length (ports_of w) ≡ length w
 ports_long [] = refl
 ports_long (e ∷ w) = ap suc (ports_long w)
 
+-- words with the same ports are as long
 pub as_long : (w is : Word) → ports_of w ≡ ports_of is → length w ≡ length is
 as_long w is e = sym (ports_long w) ∙ ap length e ∙ ports_long is
 

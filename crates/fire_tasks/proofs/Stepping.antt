@@ -58,6 +58,7 @@ no_length (x ∷ xs) e = absurd (omega (arith, e))
 
 -- WORDS BY THEIR PORTS
 
+-- the ports of two words are those of the one that they make
 pub ports-append : (u v : Word) → ports_of (u ++ v) ≡ ports_of u ++ ports_of v
 ports-append [] v = refl
 ports-append (e ∷ u) v = ap (λ ps. e.0 ∷ ps) (ports-append u v)

@@ -202,6 +202,7 @@ kept_later (Range span) t t' at rows es i h = since_inserted (later (pos 0) (t -
 kept_later Unbounded t t' at rows es i h = refl
 kept_later (Latest n) t t' at rows es i h = last_inserted n at rows es i
 
+-- of no rows none is in a window still
 pub still_none : (w : Window) (t : ℤ) → still_in w t [] ≡ []
 still_none Now t = refl
 still_none (Range span) t = refl

@@ -62,6 +62,7 @@ pub size-append : (xs ys : List Step) → size (in_turn (xs ++ ys)) ≡ size (in
 size-append [] ys = omega arith
 size-append (x ∷ xs) ys = let e = size-append xs ys in omega (arith, e)
 
+-- one more statement adds its own size
 pub size-more : (xs : List Stmt) (i : ℕ) (d : Stmt) → i < length xs
     → size (in_turn (map step (take (i + 1) xs))) ≡ size (in_turn (map step (take i xs))) + size_once (step (get_or xs i d))
 size-more xs i d lt =

@@ -42,6 +42,7 @@ pub less_in : (give : item.Item → List item.Item) (l : List item.Item) (o : Li
 less_in give [] o h = absurd (cc h)
 less_in give (x ∷ xs) o h = omega arith
 
+-- where an item is passed on, fewer wait
 pub less_at : (give : item.Item → List item.Item) (ls : List (List item.Item)) (p : ℕ) (o : List item.Item) → front_at give ls p ≡ Some o
     → waiting (rest_at ls p) < waiting ls
 less_at give [] p o h = absurd (cc h)
@@ -52,6 +53,7 @@ stuck_in : (give : item.Item → List item.Item) (l : List item.Item) → length
 stuck_in give [] h = refl
 stuck_in give (x ∷ xs) h = absurd (omega (arith, h))
 
+-- where nothing waits, nothing is passed on
 pub stuck_at : (give : item.Item → List item.Item) (ls : List (List item.Item)) (p : ℕ) → waiting ls ≡ 0 → front_at give ls p ≡ None
 stuck_at give [] p h = refl
 stuck_at give (l ∷ ls) zero h = stuck_in give l (omega (arith, h))
@@ -70,6 +72,7 @@ share_at [] p h lt = absurd (omega (arith, lt))
 share_at (w ∷ ws) zero h lt = h.0
 share_at (w ∷ ws) (suc p) h lt = share_at ws p h.1 (omega arith)
 
+-- a turn stays one where its numbers are written in another way
 pub turn_by : (ws : List ℕ) (p q p' q' : ℕ) → p ≡ p' → q ≡ q' → IsTurn ws p' q' → IsTurn ws p q
 turn_by ws p q p' q' e f h = rw (e, f) h
 

@@ -35,6 +35,7 @@ cases_name a b = ⊎_elim
     (λ f. inr ((λ e. true_false (sym (subst (λ c. name_eq a c ≡ true) e (name_same a)) ∙ f)), f))
     (cases_Bool (name_eq a b))
 
+-- whether two names are the same does not depend on their order
 pub name_sym : (a b : Name) → name_eq a b ≡ name_eq b a
 name_sym a b = ⊎_elim
     (λ c. c.1 ∙ sym (subst (λ x. name_eq x a ≡ true) c.0 (name_same a)))

@@ -39,10 +39,12 @@ shorter x ts us v e =
 
 -- PARAMETERS
 
+-- one more parameter behind a comma leaves the same to read
 pub params-next : (done : List (List ℕ)) (ts us : List Tok) (v : List ℕ) → parse.begins_with s.Comma ts ≡ true → param_at (tail ts) ≡ Some (v, us)
     → repeated (parse.comma_turn param_at) (done ++ v ∷ []) us ≡ repeated (parse.comma_turn param_at) done ts
 params-next = comma-next exact-param (λ rest. tt)
 
+-- so does a parameter
 pub param-shorter : (ts us : List Tok) (v : List ℕ) → param_at ts ≡ Some (v, us) → length us ≤ length ts
 param-shorter = shorter exact-param
 
@@ -57,6 +59,7 @@ pub constants-next : (n : ℕ) (old new : List Expr) (i : Expr) (ts mid us : Lis
     → repeated (parse.comma_turn (constant_at n)) (map expression new) us ≡ repeated (parse.comma_turn (constant_at n)) (map expression old) ts
 constants-next n = comma-more (exact-constant n) (λ rest j h. refl) expression
 
+-- a constant leaves no more than there was
 pub constant-shorter : (n : ℕ) (ts us : List Tok) (v : Expression) → constant_at n ts ≡ Some (v, us) → length us ≤ length ts
 constant-shorter n = shorter (exact-constant n)
 
@@ -80,6 +83,7 @@ steps-next n old new i ts us is e read =
     ∙ sym (repeated-next (parse.many_turn at_join (step_at n)) (many-shortens at_join (exact-step n) (listed-steps n)) (map step_of old) ts
     (map step_of old ++ step_of i ∷ []) us (rw (e, read) refl))
 
+-- a step takes a token at least
 pub step-shortens : (n : ℕ) (ts us : List Tok) (v : Step) → step_at n ts ≡ Some (v, us) → length us < length ts
 step-shortens n ts us v e =
     let f = (exact-step n).sound ts v us e in

@@ -52,10 +52,12 @@ listed-next n ts us v e read =
 abbrev pub rates_from : ℕ → Rates → parse.Parse Rates
 rates_from n r ts = parse.known (rates_in r) (rate_list_at n) ts
 
+-- rates are read from where none is written
 pub rates-start : (n : ℕ) (ts : List Tok) → rates_from n unwritten ts ≡ rates_at n ts
 unfolding rates_at
 rates-start n ts = refl
 
+-- at a block the rates are those that were read
 pub rates-stop : (n : ℕ) (r : Rates) (ts : List Tok) → at_block ts ≡ true → rates_from n r ts ≡ Some (r, ts)
 unfolding rate_list_at
 rates-stop n r ts e =
@@ -89,6 +91,7 @@ rates-twice n r ts us v e read none =
       by None = refl
       by (Some all) = ap (λ (m : Option Rates). parse.answer_at (on_some m (λ s. rates_in s all.0)) all.1) none
 
+-- a rate takes a token at least
 pub rate-shortens : (n : ℕ) (ts us : List Tok) (v : Rate) → rate_at n ts ≡ Some (v, us) → length us < length ts
 rate-shortens n ts us v e =
     let f = (exact-rate n).sound ts v us e in

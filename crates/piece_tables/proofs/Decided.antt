@@ -78,6 +78,7 @@ rows-decide h names files first second (inr a) b = inr (inl (unwritten-decides f
 
 -- THE WHOLE
 
+-- the program and the files decide why not all was written
 pub program_and_files_decide : ProgramAndFilesDecide
 program_and_files_decide h program files first second (inl a) (inl b) = program-decides h program first second a b
 program_and_files_decide h program files first second (inl a) (inr (q, has, b)) = inr (inl (plan-decides h program q first has a))
@@ -88,6 +89,7 @@ program_and_files_decide h program files first second (inr (p, has, inr a)) (inr
     rows-decide h (table_names p.tables) files first second a
     (subst (λ (f : PlanForm). WhyNoRows (Some h) ⊥ ⊥ (table_names f.tables) files second) (one-plan h program q p had has) b)
 
+-- with a plan, and a split of each file, nothing but want of memory is left
 pub plan_and_splits_decide : PlanAndSplitsDecide
 plan_and_splits_decide h program files plan fault has splits (inl w) = plan-decides h program plan fault has w
 plan_and_splits_decide h program files plan fault has splits (inr (q, had, inl w)) = unwritten-decides fault w

@@ -85,11 +85,13 @@ unwritten-decides why.Other w = absurd w
 
 -- SEVERAL FILES
 
+-- where all have a split, nothing but want of memory is left
 pub splits_decide : SplitsDecide
 splits_decide h names [] fault s w = absurd w
 splits_decide h names (file ∷ files) fault s (inl w) = split-decides h names file fault s.0 w
 splits_decide h names (file ∷ files) fault s (inr w) = splits_decide h names files fault s.1 w.1
 
+-- the files decide why they are not all split
 pub files_decide : FilesDecide
 files_decide h names [] first second a b = absurd a
 files_decide h names (file ∷ files) first second (inl a) (inl b) = file-decides h names file first second a b

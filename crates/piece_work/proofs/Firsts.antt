@@ -77,6 +77,7 @@ unwritten-sooner s first before now why.Other l w = w
 
 -- FILES THAT ARE SPLIT
 
+-- of no files all have a split
 pub splits-first : (held : Option Held) (names : List Name) (files : List (List ℕ)) → HaveSplits held names (take 0 files)
 splits-first held names files = none (HasSplit held names) files
 
@@ -118,6 +119,7 @@ not_all-sooner held there s first before now names files fault same later w =
 
 -- FILES THAT ARE WRITTEN
 
+-- of no files all are read
 pub puts-first : (held : Option Held) (files : List (List ℕ)) → AreRead held (take 0 files)
 puts-first held files = none (IsRead held) files
 

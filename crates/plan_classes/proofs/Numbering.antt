@@ -70,6 +70,7 @@ sorted x (y ∷ ys) = by (row_eq x y) refl (sorted x ys)
 
 -- NUMBERS
 
+-- each table has the number of the list of its users
 pub record IsNumbered (users lists : List (List ℤ)) (classes : List ℤ) : Type 0 where
   pub as_many : length classes ≡ length users
   pub placed : (t : ℕ) → t < length users → (n : ℕ) × (class_of classes t ≡ pos n) × (n < length lists) × (get_or lists n [] ≡ users_of users t)

@@ -46,6 +46,7 @@ got_first [] ys i x g = absurd (cc g)
 got_first (y ∷ xs) ys zero x g = g
 got_first (y ∷ xs) ys (suc i) x g = got_first xs ys i x g
 
+-- a place in the first of two lists has what the first has there
 pub got_append : {A : Type 0} (xs ys : List A) (i : ℕ) → i < length xs → slice_get (xs ++ ys) i ≡ slice_get xs i
 got_append [] ys i lt = absurd (omega (arith, lt))
 got_append (x ∷ xs) ys zero lt = refl
@@ -56,6 +57,7 @@ pub got_past : {A : Type 0} (xs ys : List A) (i : ℕ) → slice_get (xs ++ ys) 
 got_past [] ys i = let e : 0 + i ≡ i = omega arith in ap (slice_get ys) e
 got_past (x ∷ xs) ys i = let e : length (x ∷ xs) + i ≡ suc (length xs + i) = omega arith in ap (slice_get (x ∷ (xs ++ ys))) e ∙ got_past xs ys i
 
+-- the place behind the first list has what comes next
 pub got_mid : {A : Type 0} (xs : List A) (y : A) (ys : List A) → slice_get (xs ++ y ∷ ys) (length xs) ≡ Some y
 got_mid [] y ys = refl
 got_mid (x ∷ xs) y ys = got_mid xs y ys
@@ -73,6 +75,7 @@ got_drop [] (suc i) x rest e = absurd (cc e)
 got_drop (y ∷ xs) zero x rest e = let h : y ≡ x = cc in ap Some h
 got_drop (y ∷ xs) (suc i) x rest e = got_drop xs i x rest e
 
+-- what is behind the first of what is left
 pub dropped_one : {A : Type 0} (xs : List A) (i : ℕ) (x : A) (rest : List A) → drop i xs ≡ x ∷ rest → drop (i + 1) xs ≡ rest
 dropped_one [] zero x rest e = absurd (cc e)
 dropped_one [] (suc i) x rest e = absurd (cc e)
@@ -96,9 +99,11 @@ each_passes t (y ∷ ys) (suc i) x h e = each_passes t ys i x (and_parts (t y) (
 pub head_same : {A : Type 0} (x y : A) (xs ys : List A) → x ∷ xs ≡ y ∷ ys → x ≡ y
 head_same x y xs ys e = cc e
 
+-- lists that are the same have the same tails
 pub tail_same : {A : Type 0} (x y : A) (xs ys : List A) → x ∷ xs ≡ y ∷ ys → xs ≡ ys
 tail_same x y xs ys e = cc e
 
+-- lists of one element are the same where the elements are
 pub alone_same : {A : Type 0} (x y : A) → x ∷ [] ≡ y ∷ [] → x ≡ y
 alone_same x y e = cc e
 
@@ -117,6 +122,7 @@ fold-push f a (y ∷ ys) x = fold-push f (f a y) ys x
 pub reverse-push : {A : Type 0} (xs : List A) (x : A) → reverse (xs ++ x ∷ []) ≡ x ∷ reverse xs
 reverse-push xs x = reverse-append xs (x ∷ [])
 
+-- in reverse the first comes last
 pub reverse-cons : {A : Type 0} (x : A) (xs : List A) → reverse (x ∷ xs) ≡ reverse xs ++ x ∷ []
 reverse-cons x xs = reverse-append (x ∷ []) xs
 

@@ -146,6 +146,7 @@ each_grew-blanks (suc n) f (suc p) d h = each_grew-blanks n (λ q. f (suc q)) p 
 pub if_true : {A : Type 0} (b : Bool) (x y : A) → b ≡ true → (if b then x else y) ≡ x
 if_true b x y h = ap (λ c. if c then x else y) h
 
+-- a choice by what does not hold
 pub if_false : {A : Type 0} (b : Bool) (x y : A) → b ≡ false → (if b then x else y) ≡ y
 if_false b x y h = ap (λ c. if c then x else y) h
 
@@ -153,6 +154,7 @@ if_false b x y h = ap (λ c. if c then x else y) h
 pub if_eq : {A : Type 0} (a b : ℕ) (x y : A) → a ≡ b → (if nat_eq a b then x else y) ≡ x
 if_eq a b x y h = grind arith
 
+-- a choice by `the same` where it is not
 pub if_ne : {A : Type 0} (a b : ℕ) (x y : A) → a ≢ b → (if nat_eq a b then x else y) ≡ y
 if_ne a b x y h = grind arith
 
@@ -160,6 +162,7 @@ if_ne a b x y h = grind arith
 pub if_le : {A : Type 0} (a b : ℕ) (x y : A) → a ≤ b → (if nat_le a b then x else y) ≡ x
 if_le a b x y h = grind arith
 
+-- a choice by `at most` where it is more
 pub if_gt : {A : Type 0} (a b : ℕ) (x y : A) → b < a → (if nat_le a b then x else y) ≡ y
 if_gt a b x y h = grind arith
 
@@ -175,6 +178,7 @@ append_here [] n xs lt = absurd (omega (arith, lt))
 append_here (l ∷ ls) zero xs lt = refl
 append_here (l ∷ ls) (suc n) xs lt = append_here ls n xs (omega (arith, lt))
 
+-- what is appended at one place leaves the others
 pub append_else : {A : Type 0} (ls : List (List A)) (n i : ℕ) (xs : List A) → n ≢ i → list_at (append_at ls n xs) i ≡ list_at ls i
 append_else [] n i xs ne = refl
 append_else (l ∷ ls) zero zero xs ne = absurd (ne refl)

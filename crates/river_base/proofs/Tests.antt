@@ -10,9 +10,11 @@ use Rattle.std.specs.declared.cmp.Ordering.TheVariants.{Less}
 pub le_by : (a b : ℕ) → nat_le a b ≡ true → a ≤ b
 le_by a b h = grind (arith, h)
 
+-- what is at most passes it
 pub le_true : (a b : ℕ) → a ≤ b → nat_le a b ≡ true
 le_true a b h = grind (arith, h)
 
+-- what is above fails the test `at most`
 pub le_false : (a b : ℕ) → b < a → nat_le a b ≡ false
 le_false a b h = grind (arith, h)
 
@@ -20,9 +22,11 @@ le_false a b h = grind (arith, h)
 pub lt_by : (a b : ℕ) → nat_lt a b ≡ true → a < b
 lt_by a b h = grind (arith, h)
 
+-- what is below passes it
 pub lt_true : (a b : ℕ) → a < b → nat_lt a b ≡ true
 lt_true a b h = grind (arith, h)
 
+-- what is at least fails the test `below`
 pub lt_false : (a b : ℕ) → b ≤ a → nat_lt a b ≡ false
 lt_false a b h = grind (arith, h)
 
@@ -44,6 +48,7 @@ one_less n i lt = omega (arith, lt)
 pub pos_is : (a b : ℕ) → pos a ≡ pos b → a ≡ b
 pos_is a b e = cc
 
+-- no number below 0 is one that counts
 pub negative : (i n : ℕ) → negsuc i ≡ pos n → ⊥
 negative i n h = cc h
 
@@ -51,15 +56,19 @@ negative i n h = cc h
 pub int_lt_by : (t u : ℤ) → int_lt t u ≡ true → t <ℤ u
 int_lt_by t u h = grind (arith, h)
 
+-- what is not below is at least
 pub int_lt_not : (t u : ℤ) → int_lt t u ≡ false → u ≤ℤ t
 int_lt_not t u h = grind (arith, h)
 
+-- what is below passes the test
 pub int_lt_true : (t u : ℤ) → t <ℤ u → int_lt t u ≡ true
 int_lt_true t u h = grind (arith, h)
 
+-- what is at most is not above
 pub int_lt_false : (t u : ℤ) → u ≤ℤ t → int_lt t u ≡ false
 int_lt_false t u h = grind (arith, h)
 
+-- what is below is not above
 pub int_lt_back : (t u : ℤ) → int_lt u t ≡ true → int_lt t u ≡ false
 int_lt_back t u h = grind (arith, h)
 

@@ -134,6 +134,7 @@ top_steps (many ss ∷ st) = ss
 step_part_code : Coded StepPart
 step_part_code = hlevel (codes, term_code)
 
+-- steps are written as a list of their parts, from which they are read back
 pub steps_code : Coded Steps
 steps_code = code_by (List StepPart) (coded_list step_part_code) steps_parts (λ ks. top_steps (acts add_step ks [])) (λ ss. ap top_steps (steps_read ss []))
 

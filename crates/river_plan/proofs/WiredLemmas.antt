@@ -51,6 +51,7 @@ privates_in : (vs : List Name) (v : Name) → slice_index_or (private_kinds vs) 
 privates_in [] v = refl
 privates_in (w ∷ ws) v = found (name_eq w v) (Table 0) Private (private_kinds ws) (place ws v) (private_in ws v) (privates_in ws v)
 
+-- a choice before the first of two answers
 pub if_either : {A : Type 0} (b : Bool) (x : A) (o p : Option A) → (if b then Some x else either o p) ≡ either (if b then Some x else o) p
 if_either true x o p = refl
 if_either false x o p = refl

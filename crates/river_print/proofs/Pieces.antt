@@ -17,6 +17,7 @@ use Rattle.river_print.proofs.PrintedExpr.{blank-then}
 
 -- ---- pieces
 
+-- bytes that spell these tokens, which stay inside a unit
 pub record Piece (bytes : List ℕ) (ts : List Tok) : Type 0 where
   pub spells : Spells bytes ts NoWord
   pub inside : Inside ts

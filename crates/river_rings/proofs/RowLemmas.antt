@@ -73,6 +73,7 @@ whole_none w some most =
     let z : 0 / w ≡ 0 = ap (λ n. n / w) (let e : 0 ≡ 0 * w = omega arith in e) ∙ mul-div_cancel 0 {n = w} (omega (arith, some)) in
     record { some = some; at_most = most; whole = let e : 0 ≡ 0 * w = omega arith in e ∙ ap (λ k. k * w) (sym z) }
 
+-- no values make no rows
 pub rows_none : (w : ℕ) → 1 ≤ w → rows_in w [] ≡ []
 rows_none w some =
     let z : 0 / w ≡ 0 = ap (λ n. n / w) (let e : 0 ≡ 0 * w = omega arith in e) ∙ mul-div_cancel 0 {n = w} (omega (arith, some)) in

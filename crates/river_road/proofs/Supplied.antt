@@ -29,6 +29,7 @@ files-gathered source plan caps files g of typed has = record {
 pub ready-fits : (g : Gathered) → IsReady g → Fit g.plan g.inputs
 ready-fits g (s, is) = subst (λ (l : List (List item.Item)). Fit g.plan l) (sym is.items) (contents-fit g.plan s.files is.contents)
 
+-- where all is gathered, the capacities are within their limits
 pub ready-capped : (g : Gathered) → IsReady g → AreCaps g.caps
 ready-capped g (s, is) = is.planned.fit
 

@@ -32,6 +32,7 @@ pub exact-short_name : Exact IsName short_name_at Any
 unfolding short_name_at
 exact-short_name = exact-tested is_name exact-name
 
+-- the reader of a short variable reads exactly what one is
 pub exact-short_var : Exact IsVar short_var_at Any
 unfolding short_var_at
 exact-short_var = exact-tested is_name exact-var

@@ -13,16 +13,19 @@ pub read-read : {A B C : Type 0} (o : Option (A × List Tok)) (f : A → List To
 read-read None f g = refl
 read-read (Some read) f g = refl
 
+-- readers one behind another, grouped otherwise
 pub read-rest : {B C : Type 0} (o : Option (List Tok)) (f : List Tok → Option (B × List Tok)) (g : B → List Tok → Option (C × List Tok))
     → then_parsed (then_rest o f) g ≡ then_rest o (λ us. then_parsed (f us) g)
 read-rest None f g = refl
 read-rest (Some rest) f g = refl
 
+-- what is read behind a choice of two readers
 pub read-if : {A B : Type 0} (b : Bool) (x y : Option (A × List Tok)) (f : A → List Tok → Option (B × List Tok))
     → then_parsed (cond b x y) f ≡ cond b (then_parsed x f) (then_parsed y f)
 read-if true x y f = refl
 read-if false x y f = refl
 
+-- what a choice of two readers answers
 pub given-if : {A : Type 0} (b : Bool) (x y : Option A) (ts : List Tok) → answer_at (cond b x y) ts ≡ cond b (answer_at x ts) (answer_at y ts)
 given-if true x y ts = refl
 given-if false x y ts = refl

@@ -98,17 +98,20 @@ accepted p l n p' h = op_found p l n p' (first_with (named_it l) p.ops) refl h
 
 -- FORMS
 
+-- the split of an operator by packs is the way
 pub record IsPacks (p : PlanForm) (op : OpForm) (m : FissionNames) (n : ℕ) (source : Name) (t : FlatType) (w : Way) : Type 0 where
   pub out : Name
   pub type : FlatType
   pub may : MayPack p op source out t type
   pub is : w ≡ by_packs p op m n type
 
+-- the split of an operator by blocks is the way
 pub record IsBlocks (p : PlanForm) (op : OpForm) (m : FissionNames) (n : ℕ) (source : Name) (w : Way) : Type 0 where
   pub form : FilterForm
   pub may : MayBlock p op source form
   pub is : w ≡ by_blocks p op m n form.pop form.push
 
+-- the split of an operator by what it adds is the way
 pub record IsAdds (p : PlanForm) (op : OpForm) (m : FissionNames) (source : Name) (t : FlatType) (w : Way) : Type 0 where
   pub may : MayAdd p op source t
   pub is : w ≡ by_adds p op m

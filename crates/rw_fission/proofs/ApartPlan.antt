@@ -6,6 +6,7 @@ use Rattle.river_plan.specs.Limits.{most_of, numbers}
 use Rattle.river_plan.specs.Names.{count}
 use Rattle.river_plan.specs.Uses.{total, named_it}
 
+-- the names of a plan stand once each
 pub record IsApartPlan (r : PlanForm) : Type 0 where
   pub queues_once : (q : Name) → count q (queue_names r) ≤ 1
   pub variables_once : (x : Name) → count x (variable_names r) ≤ 1

@@ -167,6 +167,7 @@ fuse_found_two p q w r lt hw hr =
 pub no_writer : (p : PlanForm) (q : Name) → 0 < count q (queue_names p) → first_with (writes_it q) p.ops ≡ None → fuse_of p q ≡ Err U2
 no_writer p q lt hw = if_lt 0 (count q (queue_names p)) _ _ lt ∙ ap (λ o. fuse_found p q o (first_with (reads_it q) p.ops)) hw
 
+-- a queue that nobody reads is not fused at
 pub no_reader : (p : PlanForm) (q : Name) (w : OpForm) → 0 < count q (queue_names p) → first_with (writes_it q) p.ops ≡ Some w
     → first_with (reads_it q) p.ops ≡ None → fuse_of p q ≡ Err U2
 no_reader p q w lt hw hr =

@@ -123,11 +123,13 @@ pub for_writer : (q : Name) (news : List OpForm) (op : OpForm) (now new : List O
     → new ≡ now ++ replaced q news (op ∷ [])
 for_writer q news op now new lt e = e ∙ ap (λ l. now ++ l) (sym (if_lt 0 (count q op.writes) _ _ lt ∙ append-nil news))
 
+-- one that reads it is left out
 pub for_reader : (q : Name) (news : List OpForm) (op : OpForm) (now : List OpForm) → count q op.writes ≡ 0 → 0 < count q op.reads
     → now ≡ now ++ replaced q news (op ∷ [])
 for_reader q news op now z lt =
     sym (ap (λ l. now ++ l) (if_ge 0 (count q op.writes) _ _ (omega (arith, z)) ∙ if_lt 0 (count q op.reads) _ _ lt) ∙ append-nil now)
 
+-- an operator that does not touch the queue is taken over
 pub for_other : (q : Name) (news : List OpForm) (op : OpForm) (now new : List OpForm) → count q op.writes ≡ 0 → count q op.reads ≡ 0 → new ≡ now ++ op ∷ []
     → new ≡ now ++ replaced q news (op ∷ [])
 for_other q news op now new y z e =

@@ -25,6 +25,7 @@ use Rattle.saw_model.proofs.Elaborated.{fine}
 use Rattle.saw_model.proofs.Fed.{code_fed, tally_fed, written_queue, tallies_write_nothing, tallied, pushed_are}
 use Rattle.saw_model.proofs.Parts.{parts_read, reads_parts, record_met, tables_once}
 
+-- the rows of a table in two lists are those of the one that they make
 pub rows_for-append : (n : Name) (xs ys : List Emitted) → rows_for n (xs ++ ys) ≡ rows_for n xs ++ rows_for n ys
 rows_for-append n [] ys = refl
 rows_for-append n (x ∷ xs) ys = step (name_eq x.0 n) (rows_for-append n xs ys) where

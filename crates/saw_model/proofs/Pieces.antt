@@ -208,6 +208,7 @@ tables_merge_by (StatementUnit c ∷ ps) s y h =
     let d = split_parts (StatementUnit c) ps s y h in
     tables_merge_by ps d.first.1 d.others d.others_is
 
+-- each table of a program has a program that merges it
 pub tables_have_merge_programs : TablesHaveMergePrograms
 tables_have_merge_programs p read h = tables_merge_by p nothing_read read (reads_parts 1 p nothing_read read h)
 
@@ -316,10 +317,12 @@ for_all p (t ∷ ts) f =
     All-cons (HasRows p) t ts (λ records. All-head (λ t. AreRowsFor t.kind (sent p t records)) t ts (f records))
     (for_all p ts (λ records. All-tail (λ t. AreRowsFor t.kind (sent p t records)) t ts (f records)))
 
+-- the tables of the whole are those of the pieces, merged
 pub pieces_merge : PiecesMerge
 pieces_merge p read pieces answer h a =
     all_merged p (tables_in p) pieces answer (tables_have_merge_programs p read h) (for_all p (tables_in p) (λ records. emits_are_rows p read records h)) a
 
+-- so they are where all pieces are merged at once
 pub pieces_merge_at_once : PiecesMergeAtOnce
 pieces_merge_at_once p read pieces h =
     at_once p (tables_in p) pieces (tables_have_merge_programs p read h) (for_all p (tables_in p) (λ records. emits_are_rows p read records h))

@@ -87,6 +87,7 @@ assigned_parts n t s0 y h =
     let b = ok_parts (term_of s0.scope t) (λ v. Ok (one_step (steps.Set a.0 v), one_more s0)) y a.2 in
     record { room = room_for s0 f1 y h; slot = a.0; slot_there = slot_is (find s0.scope n) a.0 a.1; value = b.0; value_is = b.1; is = ok_is _ y b.2 }
 
+-- what an accepted `emit` has: room, a table, and indexes, value and weight that are made
 pub record Sent (t : Name) (is : List Expression) (v : Expression) (w : Option Expression) (s0 : At) (y : Steps × At) : Type 0 where
   pub room : nat_lt s0.size 16384 ≡ true
   pub port : ℕ × TableKind

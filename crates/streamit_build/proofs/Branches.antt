@@ -20,6 +20,7 @@ pub record Rest (us : List DeclaredForm) (rest : List ℕ) (last : ℕ) (ss : St
   pub ops : now.next_op + ops_of left ≡ old.next_op + ops_of ss
   pub queues : now.next_queue + queues_within left ≡ old.next_queue + queues_within ss
 
+-- how far the branches of a split have come
 pub record RestSoFar (us : List DeclaredForm) (front rest : List ℕ) (last i : ℕ) (old now : Made) (a0 b0 a b : ℕ) : Type 0 where
   pub lower : AllByRecursion (λ j. j < i) rest
   pub branches : (ss : Streams) → AreTrees us front last ss → Rest us rest last ss old now a0 b0 a b

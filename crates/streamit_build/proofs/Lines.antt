@@ -24,6 +24,7 @@ pub record Line (us : List DeclaredForm) (rest : List ℕ) (last : ℕ) (ss : St
   pub ops : now.next_op + ops_of left ≡ old.next_op + ops_of ss
   pub queues : now.next_queue + queues_between left ≡ old.next_queue + queues_between ss
 
+-- how far the streams of a line have come
 pub record LineSoFar (us : List DeclaredForm) (front rest : List ℕ) (last i : ℕ) (old now : Made) (from start to : Name) : Type 0 where
   pub lower : AllByRecursion (λ j. j < i) rest
   pub line : (ss : Streams) → AreTrees us front last ss → Line us rest last ss old now from start to

@@ -12,6 +12,7 @@ use Rattle.streamit_model.specs.Unrolled.{Splitter, Stream, Filter, Pipeline, Sp
 use Rattle.streamit_model.specs.Unrolled.{IsRound, IsSmall, AreSmall, IsSmallFilter, IsSmallSplitter}
 use Rattle.streamit_model.specs.Plan.{numbered, queue, queues, ops_in, ops_of, queues_in, with_own, splitter, joiner, build, build_line, build_branches}
 
+-- what holds of each operator that a program has
 pub record OfEach (P : OpForm → Type 0) : Type 0 where
   pub filters : (label : Name) (f : FilterForm) (from to : Name) → IsTrue (is_filter f) → IsSmallFilter f → P (with_own label (filter f) (from ∷ []) (to ∷ []))
   pub splits : (d : Splitter) (n k : ℕ) (label from : Name) → IsSplitter d n → IsSmallSplitter d → 0 < n → n ≤ 64 → P (splitter d n label from (queues k n))

@@ -70,6 +70,7 @@ abbrev pub Holds : KnownName → ℤ → List ℤ → Type 0
 Holds (Var i) z mem = slice_index_or mem i (pos 0) ≡ z
 Holds (Turn v) z mem = pos v ≡ z
 
+-- the names' values are those in the slots
 pub record Agrees (sc : Scope) (env : Store) (mem : List ℤ) : Type 0 where
   pub each : (n : Name) (b : KnownName) → find sc n ≡ Some b → Holds b (env n) mem
 

@@ -124,6 +124,7 @@ all_fit kind var (op ∷ ops) h r w v = (
 
 -- THE LIMITS
 
+-- an operator's ports are within their limits
 pub record IsWithin (op : OpForm) : Type 0 where
   pub reads : length op.reads ≤ 64
   pub writes : length op.writes ≤ 64

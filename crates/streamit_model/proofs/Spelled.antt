@@ -82,6 +82,7 @@ module _ (above : List UnitForm) (e : ℕ) where
 
   -- BOUNDS AND INDEXES
 
+  -- a fixed expression stands where it is read, and has this value everywhere
   pub record Fixed (before : List ReadWord) (t : Expression) (s : At) (turns : Store) (z : ℤ) : Type 0 where
     pub stands : Stands (before ++ fixed t) s turns
     pub value : (xs : List ℤ) (k : ℕ) → eval t xs turns k ≡ z

@@ -32,6 +32,7 @@ pub record Counted (before : List ReadWord) (slots size popped pushed : ℕ) : T
   pub pops_are : popped + over pops_beside before ≡ over pops_one before
   pub pushes_are : pushed + over pushes_beside before ≡ over pushes_one before
 
+-- what was read so far leaves this state
 pub record Stands (before : List ReadWord) (s : At) (turns : Store) : Type 0 where
   pub counts : Counted before s.slots s.size s.popped s.pushed
   pub names : (n : Name) → NameStands before s.scope turns n

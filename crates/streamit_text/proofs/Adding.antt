@@ -41,6 +41,7 @@ pub adds-next : (n : ℕ) (done : List (List ℕ)) (ts us : List Tok) (v : List 
 adds-next n done ts us v e read =
     sym (repeated-next (parse.many_turn no_add (add_at n)) (many-shortens no_add (exact-add n) (listed-adds n)) done ts (done ++ v ∷ []) us (rw (e, read) refl))
 
+-- an `add` takes a token at least
 pub add-shortens : (n : ℕ) (ts us : List Tok) (v : List ℕ) → add_at n ts ≡ Some (v, us) → length us < length ts
 add-shortens n ts us v e =
     let f = (exact-add n).sound ts v us e in

@@ -20,6 +20,7 @@ pub fields-next : (done : List (List ℕ)) (ts us : List Tok) (v : List ℕ) →
 fields-next done ts us v e read =
     sym (repeated-next (parse.many_turn no_field field_at) (many-shortens no_field exact-field listed-fields) done ts (done ++ v ∷ []) us (rw (e, read) refl))
 
+-- a field takes a token at least
 pub field-shortens : (ts us : List Tok) (v : List ℕ) → field_at ts ≡ Some (v, us) → length us < length ts
 field-shortens ts us v e =
     let f = exact-field.sound ts v us e in

@@ -53,10 +53,12 @@ listed-next ts us v e read =
 abbrev pub rates_from : Rates → parse.Parse Rates
 rates_from r ts = parse.known (rates_in r) rate_list_at ts
 
+-- rates are read from where none is written
 pub rates-start : (ts : List Tok) → rates_from unwritten ts ≡ rates_at ts
 unfolding rates_at
 rates-start ts = refl
 
+-- at a block the rates are those that were read
 pub rates-stop : (r : Rates) (ts : List Tok) → at_block ts ≡ true → rates_from r ts ≡ Some (r, ts)
 unfolding rate_list_at
 rates-stop r ts e =
@@ -89,6 +91,7 @@ rates-twice r ts us v e read none =
       by None = refl
       by (Some all) = ap (λ (m : Option Rates). parse.answer_at (on_some m (λ s. rates_in s all.0)) all.1) none
 
+-- a rate takes a token at least
 pub rate-shortens : (ts us : List Tok) (v : Rate) → rate_at ts ≡ Some (v, us) → length us < length ts
 rate-shortens ts us v e =
     let f = exact-rate.sound ts v us e in

@@ -90,6 +90,7 @@ then_rest-some : {B : Type 0} (r : Option (List Tok)) (more : List Tok → Optio
 then_rest-some None more v e = cc
 then_rest-some (Some q) more v e = (q, refl, e)
 
+-- a reader under a test that answers has passed the test
 pub if-some : {B : Type 0} (b : Bool) (r : Option B) (v : B) → cond b r None ≡ Some v → (b ≡ true) × (r ≡ Some v)
 if-some true r v e = (refl, e)
 if-some false r v e = cc

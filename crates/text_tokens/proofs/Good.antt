@@ -56,6 +56,7 @@ spaced-spells (symbol x ∷ ts) h =
 
 -- PIECES
 
+-- tokens of which each is good, and which stay inside a unit
 pub record IsPiece (ts : List Tok) : Type 0 where
   pub good : AreGood ts
   pub inside : Inside ts

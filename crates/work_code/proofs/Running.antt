@@ -96,6 +96,7 @@ step-push port values = ap step (sym (rolls-Push port values)) ∙ fold-roll-Stm
 pub step-if : (c : Expr) (a b : Stmts) → step (built.If c a b) ≡ If (term c) (steps a) (steps b)
 step-if c a b = ap step (sym (rolls-If c a b)) ∙ fold-roll-Stmt Step Steps step_at steps_at (layer.If c a b)
 
+-- an assignment is the step of its value
 pub step-set : (slot : ℕ) (value : Expr) → step (built.Set slot value) ≡ Set slot (term value)
 step-set slot value = ap step (sym (rolls-Set slot value)) ∙ fold-roll-Stmt Step Steps step_at steps_at (layer.Set slot value)
 
