@@ -30,7 +30,8 @@ const EMITS: &[u8] =
 
 const SCRIPT: &[u8] = b"fuse count@q;\nfuse total@q;\nfuse top@q;\nfission map 4;\n";
 
-/// The load program, compiled and rewritten by its script, over the first `number` records; `L` is the language that its text is in, Sawzall.
+/// The load program, compiled and rewritten by its script, over the first `number` records; `L` is
+/// the language that its text is in, Sawzall.
 pub fn gather_load<L: Language>(alloc: Global, number: u32) -> Result<Gathered, Stop>
     ensures { AnswersAs IsGathered (load_supplied L.source number) result }
 {

@@ -20,8 +20,9 @@ use text_tokens::{Lexeme, Tokens, UnitList, lex, units};
 ///
 /// # Errors
 ///
-/// `BadByte` or `BigNumber` with the first fault of the bytes where they have no tokens; otherwise `Syntax` with the first unit, from 1, that is not in the
-/// grammar; `NoMemory` where there is no memory.
+/// `BadByte` or `BigNumber` with the first fault of the bytes where they have no tokens; otherwise
+/// `Syntax` with the first unit, from 1, that is not in the grammar; `NoMemory` where there is no
+/// memory.
 #[tactic(auto, using(crate::proofs::Texts::texts, text_tokens::proofs::Counts::counts))]
 pub fn read_river(alloc: Global, text: &Bytes) -> Result<RiverText, TextFault>
     requires { length text.now < 2 ^ 32 }
