@@ -3,7 +3,7 @@ use Rattle.std.proofs.Common.{◌≡◌, ℕ, zero, suc, ℤ, ◌<◌, true, ◌
 use Rattle.std.specs.Prelude.{nat_le}
 use Rattle.std.specs.List.{AllByRecursion, list_all}
 use Rattle.std.proofs.lemmas.Bool.{and_parts}
-use Rattle.river_kernels.proofs.WellFormed.{within, term_within, terms_within}
+use Rattle.river_kernels.proofs.WellFormed.{term_within, terms_within}
 use Rattle.river_base.proofs.Tests.{le_by}
 use Rattle.river_base.specs.declared.item.Batch.{Batch}
 use Rattle.river_base.specs.declared.item.Change.{Change}
@@ -76,7 +76,7 @@ can_read n e rows g h = λ k d lt. subst (λ m. IsWithin m 0 e) (sym (h k d lt))
 
 -- SELECTIONS
 
-read_type : (t : FlatType) (n : ℕ) (e : Term) → (is_sized t && (is_bag t && is_term (width_of t) 0 e)) ≡ true → width_of t ≡ n → is_term n 0 e ≡ true
+pub read_type : (t : FlatType) (n : ℕ) (e : Term) → (is_sized t && (is_bag t && is_term (width_of t) 0 e)) ≡ true → width_of t ≡ n → is_term n 0 e ≡ true
 read_type t n e g h =
     let p = and_parts (is_sized t) (is_bag t && is_term (width_of t) 0 e) g in
     subst (λ w. is_term w 0 e ≡ true) h (and_parts (is_bag t) (is_term (width_of t) 0 e) p.1).1

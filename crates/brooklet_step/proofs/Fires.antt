@@ -13,7 +13,6 @@ use Rattle.river_base.specs.Held.{flats}
 use Rattle.river_base.specs.Places.{append_at, each_grew, list_at}
 use Rattle.river_base.proofs.PlaceLemmas.{if_lt, each_grew_cong, each_grew-none, each_grew-blanks}
 use Rattle.river_kernels.specs.Kern.{Kern, filter, duplicate}
-use Rattle.kern_rows.specs.declared.kernel.Filter.{Filter}
 use Rattle.kern_rows.specs.Forms.{FilterForm}
 use Rattle.brooklet_model.specs.Fire.{fire, outs, tabs}
 use Rattle.brooklet_step.specs.declared.emit.Emit.{Emit}

@@ -27,6 +27,7 @@ pub mod ReadLemmas
 pub mod RowFires
 pub mod RowwiseFires
 pub mod RunLemmas
+pub mod SelectedCross
 pub mod Size
 pub mod Standing
 pub mod StartLemmas

@@ -118,7 +118,7 @@ select_gives e n c d out out' f took = record {
 }
 
 -- a selection in both parts of a change is a firing
-select_does : (e : Term) (c d : Change) (out out' : Emit) → FollowsContent (selected e) c d → ((n : ℕ) → IsChangeOf n c → IsChangeOf n d)
+pub select_does : (e : Term) (c d : Change) (out out' : Emit) → FollowsContent (selected e) c d → ((n : ℕ) → IsChangeOf n c → IsChangeOf n d)
     → Took out out' (gives 0 (Flat (Changed d) ∷ []) []) → FiresAt (select e) 0 (Flat (Changed c)) out out' [] []
 select_does e c d out out' f fits took = record {
   each = λ reads writes vars t fs h.

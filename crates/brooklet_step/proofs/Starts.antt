@@ -14,7 +14,7 @@ use Rattle.kern_rows.specs.Dealing.{dealt_start}
 use Rattle.kern_rows.specs.Forms.{FilterForm}
 use Rattle.kern_rows.specs.Needs.{CanFilter, HaveShares}
 use Rattle.kern_rows.specs.Turns.{shares}
-use Rattle.river_kernels.specs.Kern.{Kern, code, filter, deal, collect, packed, unpack, window, cross, streamer, fused}
+use Rattle.river_kernels.specs.Kern.{Kern, filter, deal, collect, packed, unpack, window, cross, streamer, fused}
 use Rattle.brooklet_model.specs.Fire.{first_kept, first_slots, privates}
 use Rattle.brooklet_model.specs.Shapes.{IsFormed}
 use Rattle.brooklet_model.specs.Typed.{between}

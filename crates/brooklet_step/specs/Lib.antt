@@ -4,6 +4,7 @@ pub mod Drained
 pub mod Fit
 pub mod Given
 pub mod Initial
+pub mod Joins
 pub mod Laws
 pub mod PartsCode
 pub mod Reading

@@ -26,7 +26,7 @@ fn batch_of(item: Item) -> Batch
 }
 
 // What an item is that is no pack.
-fn flat_of(item: Item) -> Flat
+pub(crate) fn flat_of(item: Item) -> Flat
     requires { IsFlat item }
     ensures { variant.Flat result ≡ item }
 {

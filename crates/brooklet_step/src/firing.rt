@@ -12,6 +12,7 @@ ghost use Rattle.brooklet_step.specs.Took.{IsBlank, Took};
 ghost use Rattle.brooklet_step.specs.Given.{CanTake, CanTakeAll, CanTakeOn, FiresAt, FiresEach, TookOn};
 
 use crate::emit::{Emit, Spare};
+use crate::join::{fire_join, is_join};
 use crate::leaf::{filter_row, run_row};
 use crate::single::{fire_leaf, is_leaf};
 use crate::state::{State, States};
@@ -148,6 +149,9 @@ fn fire_on(
     match kernel {
         Kernel::Packed(inner) => fire_packed(alloc, inner, port, item, states, out, spare),
         Kernel::Fused { first, second, at } => {
+            if is_join(first, second) {
+                return fire_join(alloc, second, *at, port, item, states, out, spare);
+            }
             fire_fused(alloc, first, second, *at, port, item, states, out, spare)
         }
         _ => unreachable!(),

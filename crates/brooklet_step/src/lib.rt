@@ -6,6 +6,7 @@ mod count;
 mod emit;
 mod firing;
 mod initial;
+mod join;
 mod joining;
 mod kinds;
 pub mod laws;

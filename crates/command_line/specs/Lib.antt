@@ -4,3 +4,4 @@ pub mod Phrases
 pub mod Said
 pub mod Sentences
 pub mod Words
+pub mod Unasked

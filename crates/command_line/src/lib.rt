@@ -3,6 +3,7 @@
 
 mod bounds;
 mod command;
+pub mod laws;
 mod number;
 mod phrases;
 mod word_set;

@@ -30,7 +30,7 @@ module _ (w : ℕ) (more : Bool) (fields : List (List ℕ)) (last rec last' rec'
   back f first fault.NoMemory l h = absurd h
 
   -- the first fault of a record that stands behind so many more
-  moved-first : rec' ≡ n + rec → (f : InFault) → IsOfRecord f → IsFirstFault w more None last rec fields f
+  pub moved-first : rec' ≡ n + rec → (f : InFault) → IsOfRecord f → IsFirstFault w more None last rec fields f
       → IsFirstFault w more None last' rec' fields (moved n f)
   moved-first e (fault.Width r) o h =
       record { has = (ap (λ (k : ℕ). n + k) h.has.0 ∙ sym e, h.has.1); first = back (fault.Width r) h.first }

@@ -1,5 +1,5 @@
 //! Laws over the definitions alone.
-ghost use Rattle.csv_cuts.specs.Cut.{CountsAreRecords, FoundIsGreatest};
+ghost use Rattle.csv_cuts.specs.Cut.{CountsAreRecords, FoundIsGreatest, WindowsDecide};
 ghost use Rattle.csv_cuts.specs.Faults.{FaultsWithinTheLimit, OneFaultOfAll, FaultOrRows, FaultsInPieces};
 
 /// The place that is found is the greatest at which the bytes may be cut so that the piece has so few records.
@@ -30,4 +30,9 @@ pub fn fault_or_rows()
 /// The fault of the first piece that has one is that of the whole file, with the record's number in it.
 pub fn faults_in_pieces()
     ensures { FaultsInPieces }
+{}
+
+/// Whether a file may be cut is decided within a window of it.
+pub fn windows_decide()
+    ensures { WindowsDecide }
 {}

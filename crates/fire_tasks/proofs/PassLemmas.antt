@@ -1,6 +1,6 @@
 -- What a task keeps while it sends, and through a pass.
 use Rattle.std.proofs.Common.{◌≡◌, ℕ, ℤ, ◌+◌, ◌<◌, ◌≤◌, List, [], ◌∷◌, ◌++◌, length, refl, sym, ap, ◌∙◌, arith, subst, inl, inr, ⊎_elim, get_or, set, get_or-set_other}
-use Rattle.std.specs.Prelude.{Bool, true, false, IsFalse, All, slice_get}
+use Rattle.std.specs.Prelude.{Bool, true, false, IsFalse, All, slice_get, slice_index_or}
 use Rattle.std.proofs.lemmas.Bool.{cases_lt}
 use Rattle.std.proofs.lemmas.List.{length-set}
 use Rattle.std.proofs.lemmas.List.Elements.{All-weaker}
@@ -17,7 +17,7 @@ use Rattle.fire_tasks.specs.declared.task.Task.{Task}
 use Rattle.fire_tasks.specs.Inlet as inlet
 use Rattle.fire_tasks.specs.Outlet as outlet
 use Rattle.fire_tasks.specs.Ports.{AreFronts, HasMoved, MaySend, MaySendAll, IsRowOf, ring_width, in_ends, out_ends, given_at, sent_in, sent_of, sent_count}
-use Rattle.fire_tasks.specs.Ports.{received_count, received_in, IsFull, IsHeldBack, RefusedAll, Sent, SentAt}
+use Rattle.fire_tasks.specs.Ports.{Flushed, received_count, received_in, IsFull, IsHeldBack, RefusedAll, Sent, SentAt}
 use Rattle.river_base.specs.WideRows.{rows_type}
 use Rattle.fire_tasks.specs.Tasks.{FitRings, IsTask, moves}
 use Rattle.fire_tasks.proofs.Fronts.{fronts_is, fronts_same, fronts_sent, fronts_then}
@@ -238,6 +238,45 @@ to_all port os ls os' ls' moved a le f j = ⊎_elim
     (λ lt. a.stuck f j lt)
     (λ ge. inl (list_past ls' j (let m = a.sent.many in omega (arith, m, le, ge))))
     (cases_lt j port)
+
+-- WHAT WAITS IN THE ENDS
+
+-- nothing went
+pub flushed_none : (os : List outlet.Outlet) (ls : List (List item.Item)) → Flushed os ls os
+flushed_none os ls = record { ends = refl; sent = refl; refused = λ r. r }
+
+-- it went in several ends, one after another
+pub flushed_then : (os : List outlet.Outlet) (ls : List (List item.Item)) (os1 os2 : List outlet.Outlet)
+    → Flushed os ls os1 → Flushed os1 ls os2 → Flushed os ls os2
+flushed_then os ls os1 os2 a b = record { ends = b.ends ∙ a.ends; sent = b.sent ∙ a.sent; refused = λ r. b.refused (a.refused r) }
+
+-- it went at a port at which nothing is pending
+pub flushed_at : (port : ℕ) (os : List outlet.Outlet) (ls : List (List item.Item)) (os' : List outlet.Outlet) → list_at ls port ≡ []
+    → out_ends os' ≡ out_ends os → sent_in os' ≡ sent_in os
+    → ((j : ℕ) (d : outlet.Outlet) → (port ≡ j → ⊥) → slice_index_or os' j d ≡ slice_index_or os j d) → Flushed os ls os'
+flushed_at port os ls os' z e s others = record {
+  ends = e;
+  sent = s;
+  refused = λ r j.
+      let other : (port ≡ j → ⊥) → IsHeldBack j os' ls = λ ne. ⊎_elim (λ y. inl y) (λ full. inr (λ d. subst IsFull (sym (others j d ne)) (full d))) (r j) in
+      ⊎_elim
+      (λ lt. other (λ q. omega (arith, lt, q)))
+      (λ ge. ⊎_elim
+      (λ gt. other (λ q. omega (arith, gt, q)))
+      (λ le. let q : port ≡ j = omega (arith, ge, le) in inl (subst (λ k. list_at ls k ≡ []) q z))
+      (cases_lt port j))
+      (cases_lt j port);
+}
+
+-- nothing was sent by it
+pub flush_sent : (os : List outlet.Outlet) (ls : List (List item.Item)) (os' : List outlet.Outlet) → Flushed os ls os' → Sent os ls os' ls false
+flush_sent os ls os' h = record {
+  ends = h.ends;
+  many = refl;
+  given = λ j. ap (λ (l : List (List item.Item)). list_at l j ++ list_at ls j) h.sent;
+  fronts = subst (AreFronts (sent_in os)) (sym h.sent) (sent_first os ls).fronts;
+  number = moved_false (sent_count os) (sent_count os') (sent_count_same os' os h.sent);
+}
 
 -- WHAT MAY BE SENT
 

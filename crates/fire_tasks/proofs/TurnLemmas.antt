@@ -1,6 +1,6 @@
 -- Turns of a task at its seat.
 use Rattle.std.proofs.Common.{◌≡◌, ◌≢◌, ℕ, zero, suc, ◌+◌, ◌<◌, ◌≤◌, ◌%◌, Bool, true, false, Some, None, List, [], ◌∷◌, ◌++◌, length, refl, sym, ap, ◌∙◌, subst}
-use Rattle.std.proofs.Common.{arith, inl, inr, append_assoc}
+use Rattle.std.proofs.Common.{arith, inl, inr, ⊎_elim, append_assoc}
 use Rattle.std.specs.Prelude.{All, slice_get, slice_index_or, IsFalse}
 use Rattle.std.proofs.lemmas.List.{append-nil}
 use Rattle.std.proofs.lemmas.Option.{same_Some}
@@ -310,6 +310,21 @@ turned_busy p v w t t' os ls m n ins s e c h y = record {
   number = moved_first (moves t) (received_count ins + sent_count os) (moves t') m (turn_sent t os ls m ins s c)
       (subst (HasMoved (received_count ins + sent_count os) (moves t')) y h.number);
   stuck = λ f. inr (inr (subst (λ (x : Task). FoundTaken x.classes v w) (sym (h.stays y)) (h.found y)));
+}
+
+-- what waited in the ends went behind it
+pub flushed : (p : PlanForm) (v w : View) (t t' : Task) (os : List outlet.Outlet) (m : Bool) → HasTurned p v w t t' m
+    → Sent t'.outs t'.pending os t'.pending false → (RefusedAll t'.outs t'.pending → RefusedAll os t'.pending)
+    → HasTurned p v w t (record t' { outs = os }) m
+flushed p v w t t' os m h s r = record {
+  task = sent_task p (added p (logs_at w t'.op) t'.op) t' os t'.pending false h.task s;
+  ends = ap (λ (o : List OutEnd). record { op = t'.op; ins = in_ends t'.ins; outs = o }) s.ends ∙ h.ends;
+  sat = h.sat;
+  goes_on = goes_then t t' (record t' { outs = os }) h.goes_on (goes_sent t' (record t' { outs = os }) refl s.fronts);
+  number = moved_first (moves t) (moves t') (moves (record t' { outs = os })) m h.number (turn_sent t' os t'.pending false t'.ins s refl);
+  stuck = λ f. ⊎_elim (λ bad. inl bad)
+      (λ rest. ⊎_elim (λ waits. inr (inl (record { refused = r waits.refused; received = waits.received }))) (λ found. inr (inr found)) rest)
+      (h.stuck f);
 }
 
 -- TURNS OF ONE TASK

@@ -172,6 +172,12 @@ pub record SentAt (port : ℕ) (outs : List outlet.Outlet) (pending : List (List
   pub others : (j : ℕ) (d : outlet.Outlet) → (port ≡ j → ⊥) → slice_index_or outs' j d ≡ slice_index_or outs j d
   pub stuck : IsFalse moved → IsHeldBack port outs' pending'
 
+-- what waited in the ends went: the same was sent, and where something is pending its ring refuses it still
+pub record Flushed (outs : List outlet.Outlet) (pending : List (List item.Item)) (outs' : List outlet.Outlet) : Type 0 where
+  pub ends : out_ends outs' ≡ out_ends outs
+  pub sent : sent_in outs' ≡ sent_in outs
+  pub refused : RefusedAll outs pending → RefusedAll outs' pending
+
 -- the front of what is pending at a port was sent there, and all other ports are as they were
 pub record HasSentFront (port : ℕ) (outs : List outlet.Outlet) (pending : List (List item.Item)) (outs' : List outlet.Outlet)
     (pending' : List (List item.Item)) : Type 0 where

@@ -10,7 +10,7 @@ ghost use Rattle.fire_tasks.specs.Turns.{HasCells, HaveGained, classes_of, pile_
 use crate::{TablePort, Task};
 use brooklet_step::RowLists;
 use class_locks::{Cell, Cells, Pile};
-use river_base::{Listed, NoMemory, Rows};
+use river_base::{Listed, NoMemory, Row, Rows};
 use std::alloc::Global;
 
 // TO THE CELLS OF A PILE
@@ -52,7 +52,7 @@ fn add_at(
     ensures err { OnErr result (pile.new.items ≡ pile.old.items) }
 {
     let at = &mut pile[to.place];
-    add_to_cell(alloc, op, to.table, rows, &mut at.1)
+    add_to_cell(op, to.table, rows, &mut at.1)
 }
 
 // TO THE CELLS OF A NET
@@ -121,19 +121,13 @@ fn add_in(
     ensures ok { OnOk result (cells.new ≡ cells_with_rows op table class rows.old cells.old) }
     ensures blank { OnOk result (rows.new ≡ []) }
 {
-    add_to_cell(alloc, op, table, rows, cells.at_mut(class))
+    add_to_cell(op, table, rows, cells.at_mut(class))
 }
 
 // TO ONE CELL
 
 // Adds rows to a table of a cell: an entry, where there are any. None is left in the list, which keeps its memory.
-fn add_to_cell(
-    alloc: Global,
-    op: u32,
-    table: u32,
-    rows: &mut Rows,
-    cell: &mut Cell,
-) -> Result<(), NoMemory>
+fn add_to_cell(op: u32, table: u32, rows: &mut Rows, cell: &mut Cell) -> Result<(), NoMemory>
     requires { TakesRows cell.old.kinds table rows.old }
     ensures ok { OnOk result (cell.new ≡ cell_grown op table rows.old cell.old) }
     ensures blank { OnOk result (rows.new ≡ []) }
@@ -142,36 +136,16 @@ fn add_to_cell(
     if rows.is_empty() {
         return Ok(());
     }
-    let moved = moved_out(alloc, rows)?;
-    put_entry(op, table, moved, cell)
-}
-
-// The rows of a list, with room for no more. None is left in the list, which keeps its memory.
-fn moved_out(alloc: Global, rows: &mut Rows) -> Result<Rows, NoMemory>
-    ensures moved { IfOk result (λ moved. moved ≡ rows.old) }
-    ensures blank { OnOk result (rows.new ≡ []) }
-{
-    let moved = copy_exactly(alloc, rows)?;
+    put_entry(op, table, rows.as_slice(), cell)?;
     rows.truncate(0);
-    Ok(moved)
-}
-
-// A copy of the rows, with room for no more.
-fn copy_exactly(alloc: Global, rows: &Rows) -> Result<Rows, NoMemory>
-    ensures { IfOk result (λ copies. copies ≡ rows.now) }
-{
-    let mut copies = Rows::with_room(alloc, rows.len())?;
-    for row in rows.as_slice() {
-        copies.push(*row)?;
-    }
-    Ok(copies)
+    Ok(())
 }
 
 // Adds rows to a table of a cell, as an entry.
-fn put_entry(op: u32, table: u32, rows: Rows, cell: &mut Cell) -> Result<(), NoMemory>
-    requires some { rows ≡ [] → ⊥ }
-    requires takes { TakesRows cell.old.kinds table rows }
-    ensures ok { OnOk result (cell.new ≡ cell_grown op table rows cell.old) }
+fn put_entry(op: u32, table: u32, rows: &[Row], cell: &mut Cell) -> Result<(), NoMemory>
+    requires some { rows.now ≡ [] → ⊥ }
+    requires takes { TakesRows cell.old.kinds table rows.now }
+    ensures ok { OnOk result (cell.new ≡ cell_grown op table rows.now cell.old) }
     ensures err { OnErr result (cell.new ≡ cell.old) }
 {
     cell.add(op, table, rows)

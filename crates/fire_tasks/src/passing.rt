@@ -6,7 +6,7 @@ ghost use Rattle.fire_tasks.specs.Ports.{IsIdle, MaySendAll, RefusedAll, Sent, S
 ghost use Rattle.fire_tasks.specs.Tasks.{IsTaskAt};
 ghost use Rattle.fire_tasks.specs.Turns.{IsSeatOf, HasTurned, HasTried, StillSits};
 
-use crate::ports::send_at;
+use crate::ports::{flush_all, send_at};
 use crate::taking::{first_ready, take_at};
 use crate::{Outlet, Task};
 use brooklet_step::Lines;
@@ -125,9 +125,8 @@ fn take_turn<G: Gate>(
     }
 }
 
-/// A pass over a task: it sends, and takes items, each where all before it is sent and its classes are free; says whether anything
-/// moved.
-pub(crate) fn pass_task<G: Gate>(
+// Turns of a task, at most 64, for as long as something moves.
+fn take_turns<G: Gate>(
     alloc: Global,
     plan: &RawPlan,
     task: &mut Task,
@@ -158,4 +157,27 @@ pub(crate) fn pass_task<G: Gate>(
         }
     }
     Ok(true)
+}
+
+/// A pass over a task: it sends, and takes items, each where all before it is sent and its classes are free; says whether anything
+/// moved. Rows that wait in its ends for others go at the end of it.
+pub(crate) fn pass_task<G: Gate>(
+    alloc: Global,
+    plan: &RawPlan,
+    task: &mut Task,
+    seat: &mut Seat,
+    room: &mut Room,
+    gate: &G,
+) -> Result<bool, NoMemory>
+    requires valid { IsPlan (plan_form plan.now) }
+    requires task { IsTaskAt (plan_form plan.now) seat.old.view task.old }
+    requires seat { IsSeatOf (plan_form plan.now) task.old.op seat.old.view }
+    requires few { length task.old.ins < 2 ^ 32 }
+    ensures lot { seat.new.lot ≡ seat.old.lot }
+    ensures sits { StillSits seat.old.view seat.new.view }
+    ensures turned { IfOk result (HasTurned (plan_form plan.now) seat.old.view seat.new.view task.old task.new) }
+{
+    let moved = take_turns(alloc, plan, task, seat, room, gate)?;
+    flush_all(&mut task.outs, &task.pending);
+    Ok(moved)
 }

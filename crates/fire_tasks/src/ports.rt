@@ -3,7 +3,7 @@ ghost use Rattle.std.specs.Prelude.{◌≡◌, ◌+◌, ◌<◌, ◌≤◌, ℕ,
 ghost use Rattle.river_base.specs.Places.{append_at, list_at};
 ghost use Rattle.fire_tasks.specs.Inlet.{TakesFrom, Given};
 ghost use Rattle.fire_tasks.specs.Outlet.{SendsTo, Stored};
-ghost use Rattle.fire_tasks.specs.Ports.{received_of, known_of, in_end, in_ends, sent_of, sent_in, sent_count, IsFull, HasRoom, out_end, out_ends, received_in, HasSentFront, SentAt, ring_width, IsRowOf, IsPair, IsSettled, IsStored, MaySend, MaySendAll};
+ghost use Rattle.fire_tasks.specs.Ports.{Flushed, received_of, known_of, in_end, in_ends, sent_of, sent_in, sent_count, IsFull, HasRoom, out_end, out_ends, received_in, HasSentFront, SentAt, ring_width, IsRowOf, IsPair, IsSettled, IsStored, MaySend, MaySendAll};
 ghost use Rattle.river_base.specs.WideRows.{rows_type};
 ghost use Rattle.river_rings.specs.Ends.{SameSending, SameTaking, HasRingRoom};
 ghost use Rattle.river_rings.specs.Rows.{row_item};
@@ -276,6 +276,18 @@ impl Outlet {
         }
     }
 
+    /// What waits in the end of a ring of rows goes: the reader may see it from then on.
+    pub(crate) fn flush(&mut self)
+        ensures same { out_end self.new ≡ out_end self.old }
+        ensures sent { sent_of self.new ≡ sent_of self.old }
+    {
+        match &mut self.end {
+            OutletEnd::Items(_) => {}
+            OutletEnd::Rows(feed) => feed.flush(),
+            OutletEnd::Kept(_) => {}
+        }
+    }
+
     /// Sends an item that may be sent there, where there is room. Where there is no memory nothing is sent.
     pub(crate) fn put(&mut self, item: Item) -> Result<(), NoMemory>
         requires room { HasRoom self.old }
@@ -502,4 +514,35 @@ pub(crate) fn send_at(
     }
     send_front(outs, pending, port)?;
     Ok(true)
+}
+
+// What waits in the end at a port goes.
+#[tactic(auto, using(crate::proofs::PortLemmas::outs_set, crate::proofs::PortLemmas::sent_same))]
+fn flush_at(outs: &mut Listed<Outlet>, port: usize)
+    requires { port < length outs.old }
+    ensures same { out_ends outs.new ≡ out_ends outs.old }
+    ensures sent { sent_in outs.new ≡ sent_in outs.old }
+    ensures others { (j : ℕ) (d : _) → (port ≡ j → ⊥) → slice_index_or outs.new j d ≡ slice_index_or outs.old j d }
+{
+    outs.at_mut(port).flush();
+}
+
+// The same, where nothing is pending at the port.
+fn flush_port(outs: &mut Listed<Outlet>, pending: &Lines, port: usize)
+    requires { port < length outs.old }
+    ensures { Flushed outs.old pending.now outs.new }
+{
+    if port < pending.len() && pending.at(port).is_empty() {
+        flush_at(outs, port);
+    }
+}
+
+/// What waits in the ends goes, at each port at which nothing is pending.
+#[tactic(auto, using(crate::proofs::PassLemmas::flushed_none, crate::proofs::PassLemmas::flushed_then))]
+pub(crate) fn flush_all(outs: &mut Listed<Outlet>, pending: &Lines)
+    ensures { Flushed outs.old pending.now outs.new }
+{
+    for port in 0..outs.len() {
+        flush_port(outs, pending, port);
+    }
 }

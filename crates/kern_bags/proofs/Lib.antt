@@ -3,11 +3,15 @@ pub mod Crossed
 pub mod Flats
 pub mod Followed
 pub mod InTurn
+pub mod JoinLaws
+pub mod JoinedPairs
+pub mod JoinedRows
 pub mod KeptRows
 pub mod KeptWindows
 pub mod Leaving
 pub mod Meeting
 pub mod Pairs
+pub mod EqualPlaces
 pub mod Sliding
 pub mod Stepping
 pub mod Streaming

@@ -1,5 +1,6 @@
 pub mod Contents
 pub mod Following
+pub mod Joined
 pub mod Kept
 pub mod Laws
 pub mod Needs

@@ -1,19 +1,23 @@
 // A product of two relations that come as changes.
 ghost use Rattle.std.specs.Prelude.{◌≡◌, ◌++◌, IfOk, OnOk, OnErr, MatchOption};
 ghost use Rattle.river_base.specs.Changes.{all_pairs, IsChanged};
+ghost use Rattle.work_code.specs.Term.{term};
 ghost use Rattle.kern_changes.specs.Counted.{Changed};
 ghost use Rattle.kern_bags.specs.Following.{cross_start, put_change, Crosses, CrossFits, CrossesFlat, CrossesPart};
+ghost use Rattle.kern_bags.specs.Joined.{CanMakeWhere, CanJoinChanges, CanJoinFlat, JoinsWhere, JoinsPairs, JoinsFlat, JoinsPart};
 ghost use Rattle.kern_bags.specs.Needs.{CanJoin};
 ghost use Rattle.kern_bags.specs.Takes.{CanCrossChanges, CanCrossFlat, CanJoinBoth, CanMake, CanMeet, TakesChanges, HasNoChanges, JoinsChanges};
 
 use crate::Cross;
 use crate::given::{change_of, give_changes};
+use crate::joined::{meet_left_where, meet_right_where};
 use crate::line::{ChangeLine, Changes};
 use crate::product::join_all;
-use kern_changes::{Content, settle};
+use kern_changes::{KeyedContent, settle};
 use river_base::{Change, Flat, Items, NoMemory, Rows};
 use std::alloc::Global;
 use std::marker::Model;
+use work_code::Formula;
 
 /// What a product keeps: the changes that wait at each of its ports, and the contents that passed
 /// last, each as a bag.
@@ -21,8 +25,8 @@ use std::marker::Model;
 pub struct CrossState {
     left: ChangeLine,
     right: ChangeLine,
-    lefts: Content,
-    rights: Content,
+    lefts: KeyedContent,
+    rights: KeyedContent,
 }
 
 impl Model for CrossState {
@@ -37,7 +41,7 @@ impl Model for CrossState {
 fn meet_right(
     alloc: Global,
     change: &Change,
-    rights: &Content,
+    rights: &KeyedContent,
     plus: &mut Rows,
     minus: &mut Rows,
 ) -> Result<(), NoMemory>
@@ -60,7 +64,7 @@ fn meet_right(
 fn meet_left(
     alloc: Global,
     change: &Change,
-    lefts: &Content,
+    lefts: &KeyedContent,
     plus: &mut Rows,
     minus: &mut Rows,
 ) -> Result<(), NoMemory>
@@ -83,7 +87,7 @@ fn make_and_meet(
     alloc: Global,
     left: &Change,
     right: &Change,
-    lefts: &mut Content,
+    lefts: &mut KeyedContent,
     plus: &mut Rows,
     minus: &mut Rows,
 ) -> Result<(), NoMemory>
@@ -143,6 +147,45 @@ impl CrossState {
         Ok(())
     }
 
+    // Two changes are made, and the change of what a condition keeps of the product is given.
+    fn join_where(
+        &mut self,
+        alloc: Global,
+        cond: &Formula,
+        left: &Change,
+        right: &Change,
+        out: &mut Changes,
+    ) -> Result<(), NoMemory>
+        requires { CanMakeWhere (term cond.now) left.now right.now self.old }
+        ensures { OnOk result (JoinsWhere (term cond.now) left.now right.now self.old self.new out.old out.new) }
+    {
+        let mut plus = Rows::new(alloc);
+        let mut minus = Rows::new(alloc);
+        meet_right_where(alloc, cond, left, &mut self.rights, &mut plus, &mut minus)?;
+        self.lefts.make(left)?;
+        meet_left_where(alloc, cond, right, &mut self.lefts, &mut plus, &mut minus)?;
+        self.rights.make(right)?;
+        let change = settle(alloc, left.at, plus, minus)?;
+        out.push(change)?;
+        Ok(())
+    }
+
+    // Pairs pass as long as a change waits at both ports, and of each what the condition keeps.
+    fn pass_pairs_where(
+        &mut self,
+        alloc: Global,
+        cond: &Formula,
+        out: &mut Changes,
+    ) -> Result<(), NoMemory>
+        requires { CanJoinChanges (term cond.now) self.old }
+        ensures { OnOk result (JoinsPairs (term cond.now) self.old self.new out.old out.new) }
+    {
+        while let Some((left, right)) = self.take_pair() {
+            self.join_where(alloc, cond, &left, &right, out)?;
+        }
+        Ok(())
+    }
+
     // Pairs pass as long as a change waits at both ports.
     fn pass_pairs(&mut self, alloc: Global, out: &mut Changes) -> Result<(), NoMemory>
         requires { CanCrossChanges self.old }
@@ -164,8 +207,8 @@ impl Cross {
         Ok(CrossState {
             left: ChangeLine::new(alloc),
             right: ChangeLine::new(alloc),
-            lefts: Content::new(alloc),
-            rights: Content::new(alloc),
+            lefts: KeyedContent::new(alloc),
+            rights: KeyedContent::new(alloc),
         })
     }
 
@@ -190,6 +233,29 @@ impl Cross {
         let mut changes = Changes::new(alloc);
         state.put(port, change_of(item))?;
         state.pass_pairs(alloc, &mut changes)?;
+        give_changes(changes, out)
+    }
+
+    /// A change comes to a port as in `step`, and of each change that this gives what a selection
+    /// gives is given. Where the condition holds a column of the one side equal to one of the other,
+    /// each row that changes meets the rows of the other side alone that have its value: costs the
+    /// logarithm of what is kept for each row of a change, and n log n of the pairs that it meets.
+    pub fn step_where(
+        alloc: Global,
+        cond: &Formula,
+        state: &mut CrossState,
+        port: u32,
+        item: Flat,
+        out: &mut Items,
+    ) -> Result<(), NoMemory>
+        requires change { IsChanged item }
+        requires fits { CanJoinFlat (term cond.now) port item state.old }
+        ensures ok { OnOk result (JoinsFlat (term cond.now) port item state.old state.new out.old out.new) }
+        ensures err { OnErr result (JoinsPart (term cond.now) port item state.old out.old out.new) }
+    {
+        let mut changes = Changes::new(alloc);
+        state.put(port, change_of(item))?;
+        state.pass_pairs_where(alloc, cond, &mut changes)?;
         give_changes(changes, out)
     }
 }

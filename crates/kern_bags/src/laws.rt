@@ -1,4 +1,5 @@
 //! Laws of bags, each the contract of a function that does nothing.
+ghost use Rattle.kern_bags.specs.Joined.{JoinsAre};
 ghost use Rattle.kern_bags.specs.Laws.{DifferencesAre, StreamedRowsAre, SelectionsAre, ProjectionsAre, ProductsAre, ContentsAre, GreatestIsNow, LatestAre, Ascend, ProductsStartEmpty};
 
 /// A row is in a difference as often as in the first bag, less the times it is in the second, and not below 0.
@@ -49,4 +50,11 @@ pub fn relations_ascend()
 /// What a product keeps at the start stands for empty contents, of which none waits.
 pub fn products_start_empty()
     ensures { ProductsStartEmpty }
+{}
+
+/// What a selection keeps of a product is that of its pairs; a selection commutes with leaving out
+/// what comes and goes, and makes of changes the changes of what it keeps; and where its condition
+/// holds a column of the left equal to one of the right, it keeps only pairs that agree there.
+pub fn joins_are()
+    ensures { JoinsAre }
 {}

@@ -4,9 +4,11 @@
 
 mod cross;
 mod given;
+mod joined;
 mod kernel;
 pub mod laws;
 mod line;
+mod places;
 mod product;
 mod rowwise;
 mod stamped;

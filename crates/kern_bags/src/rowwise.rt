@@ -68,7 +68,7 @@ fn keep_rows(cond: &Formula, rows: &mut Rows)
 }
 
 // Whether the condition is not 0.
-fn passes(cond: &Formula, row: &Row) -> bool
+pub(crate) fn passes(cond: &Formula, row: &Row) -> bool
     requires { IsWithin (length row.now) 0 (term cond.now) }
     ensures { result ≡ is_true (val (term cond.now) row.now []) }
 {

@@ -6,4 +6,6 @@ pub mod Leading
 pub mod Making
 pub mod Merged
 pub mod OwedLaws
+pub mod Ranged
+pub mod Turning
 pub mod Widths

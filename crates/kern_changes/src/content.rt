@@ -1,12 +1,14 @@
 // The content of a relation, kept so that a change costs its own rows.
-ghost use Rattle.std.specs.Prelude.{◌≡◌, [], ◌++◌, replicate, IfOk, OnOk};
+ghost use Rattle.std.specs.Prelude.{◌≡◌, [], ◌++◌, length, map, replicate, IfOk, OnOk, MatchOption, Contains};
 ghost use Rattle.river_base.specs.Row.{copies};
 ghost use Rattle.kern_changes.specs.Counted.{CameOne, WentOne, CameAll, WentAll, Changed};
+ghost use Rattle.kern_changes.specs.Keyed.{begins, begun, end_of};
 
 use river_base::{Change, NoMemory, Row, Rows};
 use std::alloc::Global;
 use std::collections::BTreeMap;
 use std::marker::Model;
+use std::ops::Bound;
 
 /// A bag of rows by counts, which contracts see as a list of them. A row costs the logarithm of
 /// how many others there are.
@@ -48,7 +50,7 @@ impl Content {
     }
 
     // One more such row. So many that they cannot be counted are want of memory.
-    fn put(&mut self, row: &Row) -> Result<(), NoMemory>
+    pub(crate) fn put(&mut self, row: &Row) -> Result<(), NoMemory>
         ensures { OnOk result (CameOne row.now self.old self.new) }
     {
         let count = self.count(row);
@@ -60,7 +62,7 @@ impl Content {
     }
 
     // One such row less, where there is one.
-    fn take(&mut self, row: &Row) -> Result<(), NoMemory>
+    pub(crate) fn take(&mut self, row: &Row) -> Result<(), NoMemory>
         ensures { OnOk result (WentOne row.now self.old self.new) }
     {
         if self.counts.len() == 0 {
@@ -75,7 +77,7 @@ impl Content {
         Ok(())
     }
 
-    fn put_all(&mut self, rows: &[Row]) -> Result<(), NoMemory>
+    pub(crate) fn put_all(&mut self, rows: &[Row]) -> Result<(), NoMemory>
         ensures { OnOk result (CameAll rows.now self.old self.new) }
     {
         for row in rows {
@@ -113,6 +115,50 @@ impl Content {
             push_copies(row, *count, &mut rows)?;
         }
         Ok(rows)
+    }
+
+    // The rows whose first value this is, each as often as it is there.
+    pub(crate) fn push_begun(&self, value: i64, all: &mut Rows) -> Result<(), NoMemory>
+        ensures { OnOk result (all.new ≡ all.old ++ begun value self.now) }
+    {
+        let first = Bound::Included(Row::one(value));
+        for (row, count) in self.counts.range((first, behind(value))) {
+            if begins(row, value) {
+                push_copies(row, *count, all)?;
+            }
+        }
+        Ok(())
+    }
+
+    // How many values some row has; None where there is no row.
+    pub(crate) fn width(&self) -> Option<usize>
+        ensures { MatchOption result (self.now ≡ []) (λ width. Contains (map length self.now) width) }
+    {
+        for (row, count) in &self.counts {
+            if *count > 0 {
+                return Some(row.width());
+            }
+        }
+        None
+    }
+}
+
+// Whether the row's first value is this.
+#[tactic(auto, using(crate::proofs::Ranged::begins_first))]
+fn begins(row: &Row, value: i64) -> bool
+    ensures { result ≡ begins value row.now }
+{
+    row.values()[0] == value
+}
+
+// Where the rows end whose first value this is.
+fn behind(value: i64) -> Bound<Row>
+    ensures { result ≡ end_of value }
+{
+    if value == i64::MAX {
+        Bound::Unbounded
+    } else {
+        Bound::Excluded(Row::one(value + 1))
     }
 }
 

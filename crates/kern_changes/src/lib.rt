@@ -6,11 +6,13 @@
 
 mod content;
 mod difference;
+mod keyed;
 pub mod laws;
 mod owed;
 mod settling;
 
 pub use content::Content;
 pub use difference::without;
+pub use keyed::KeyedContent;
 pub use owed::Owed;
 pub use settling::settle;

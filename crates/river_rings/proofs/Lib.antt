@@ -1,2 +1,3 @@
+pub mod LotLemmas
 pub mod Looks
 pub mod RowLemmas

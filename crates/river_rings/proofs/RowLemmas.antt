@@ -8,8 +8,8 @@ use Rattle.std.specs.declared.alloc.Global.{Global}
 use Rattle.std.specs.Prelude.{slice_set}
 use mathlib.Core.List.{IsPrefix}
 use Rattle.rtrb.specs.declared.consumer.Consumer.{Consumer}
-use Rattle.rtrb.specs.declared.producer.Producer.{Producer}
-use Rattle.rtrb.specs.Ring.{sent, known_free, producer_capacity, known_items, consumer_capacity, ConsumerLooked, ProducerLooked}
+use Rattle.rtrb.specs.Ring.{known_items, consumer_capacity, ConsumerLooked}
+use Rattle.river_rings.specs.Lots.{Lotted, LotLooked}
 use Rattle.river_rings.specs.Ends.{HasRingRoom, HasSeen, HasSeenTaken, IsFullRing}
 use Rattle.river_rings.specs.Rows.{AreWhole, row_item, rows_in, row_sending, row_taking}
 use Rattle.river_base.specs.WideRows.{cut_rows}
@@ -109,14 +109,14 @@ rows-front w vs ws some h =
 -- ENDS
 
 -- a look at room for values is one at room for rows
-pub looked_feed : {P : Type 0} (w : ℕ) (p q : Producer ℤ Global P) → 1 ≤ w → ProducerLooked p q → HasSeenTaken (row_sending w p) (row_sending w q)
+pub looked_feed : (w : ℕ) (p q : Lotted) → 1 ≤ w → LotLooked p q → HasSeenTaken (row_sending w p) (row_sending w q)
 looked_feed w p q some h =
-    let more = div-more w (known_free p) (known_free q) some h.2 in
-    let cap : producer_capacity q ≡ producer_capacity p = h.0.1 in
+    let more = div-more w (p.free) (q.free) some h.2 in
+    let cap : q.capacity ≡ p.capacity = h.0.1 in
     record {
       same = search rules;
       sent = ap (rows_in w) h.1;
-      waiting = subst (λ n. n / w - known_free q / w ≤ producer_capacity p / w - known_free p / w) (sym cap) (omega (arith, more));
+      waiting = subst (λ n. n / w - q.free / w ≤ p.capacity / w - p.free / w) (sym cap) (omega (arith, more));
     }
 
 -- and one at values is one at rows
@@ -150,52 +150,48 @@ values_some w vs some lt =
     let le = div-mul-le_self (length vs) w in
     omega (arith, one, le)
 
--- no more slots are free than there are
-free_most : {P : Type 0} (q : Producer ℤ Global P) → known_free q ≤ producer_capacity q
-free_most q = let h = q.counts.2 in omega (arith, h)
-
 -- room for the values of a row is room for a row
-pub room_yes : {P : Type 0} (w : ℕ) (q : Producer ℤ Global P) → 1 ≤ w → w ≤ known_free q → HasRingRoom (row_sending w q)
-room_yes w q some le =
-    let one : 1 ≤ known_free q / w = le-div 1 (known_free q) w (omega (arith, some)) (omega (arith, le)) in
-    let most = div-more w (known_free q) (producer_capacity q) some (free_most q) in
+pub room_yes : (w : ℕ) (q : Lotted) → 1 ≤ w → q.free ≤ q.capacity → w ≤ q.free → HasRingRoom (row_sending w q)
+room_yes w q some most_free le =
+    let one : 1 ≤ q.free / w = le-div 1 (q.free) w (omega (arith, some)) (omega (arith, le)) in
+    let most = div-more w (q.free) (q.capacity) some most_free in
     omega (arith, one, most)
 
 -- where there is none there is none
-pub room_no : {P : Type 0} (w : ℕ) (q : Producer ℤ Global P) → known_free q < w → IsFullRing (row_sending w q)
-room_no w q lt = let z = few w (known_free q) lt in omega (arith, z)
+pub room_no : (w : ℕ) (q : Lotted) → q.free < w → IsFullRing (row_sending w q)
+room_no w q lt = let z = few w (q.free) lt in omega (arith, z)
 
 -- and room for a row is room for its values
-pub room_values : {P : Type 0} (w : ℕ) (q : Producer ℤ Global P) → 1 ≤ w → HasRingRoom (row_sending w q) → w ≤ known_free q
+pub room_values : (w : ℕ) (q : Lotted) → 1 ≤ w → HasRingRoom (row_sending w q) → w ≤ q.free
 room_values w q some lt =
-    let o : 1 ≤ known_free q / w = omega (arith, lt) in
-    let one : 1 * w ≤ known_free q / w * w = mul-le-mul_right w o in
-    let le = div-mul-le_self (known_free q) w in
+    let o : 1 ≤ q.free / w = omega (arith, lt) in
+    let one : 1 * w ≤ q.free / w * w = mul-le-mul_right w o in
+    let le = div-mul-le_self (q.free) w in
     omega (arith, one, le)
 
 -- a row more that waits
-pub room_less : {P : Type 0} (w : ℕ) (p q : Producer ℤ Global P) → 1 ≤ w → producer_capacity q ≡ producer_capacity p → known_free p ≤ known_free q + w
-    → producer_capacity q / w - known_free q / w ≤ producer_capacity p / w - known_free p / w + 1
+pub room_less : (w : ℕ) (p q : Lotted) → 1 ≤ w → q.capacity ≡ p.capacity → p.free ≤ q.free + w
+    → q.capacity / w - q.free / w ≤ p.capacity / w - p.free / w + 1
 room_less w p q some c le =
-    let one : known_free q + w ≡ known_free q + 1 * w = omega arith in
-    let more = div-more w (known_free p) (known_free q + 1 * w) some (omega (arith, le)) in
-    let sum = add-mul-div_right (known_free q) 1 {z = w} (omega (arith, some)) in
+    let one : q.free + w ≡ q.free + 1 * w = omega arith in
+    let more = div-more w (p.free) (q.free + 1 * w) some (omega (arith, le)) in
+    let sum = add-mul-div_right (q.free) 1 {z = w} (omega (arith, some)) in
     let same = ap (λ n. n / w) c in
     omega (arith, more, sum, same)
 
 -- what was sent waits until it was received
-pub room_behind : {P : Type 0} (w : ℕ) (q : Producer ℤ Global P) (rs : List ℤ) → AreWhole w (sent q) → AreWhole w rs
-    → known_free q + length (sent q) ≡ producer_capacity q + length rs
-    → producer_capacity q / w - known_free q / w + length (rows_in w rs) ≤ length (rows_in w (sent q))
-room_behind w q rs s r e =
+pub room_behind : (w : ℕ) (q : Lotted) (rs : List ℤ) → q.free ≤ q.capacity → AreWhole w q.sent → AreWhole w rs
+    → q.free + length q.sent ≡ q.capacity + length rs
+    → q.capacity / w - q.free / w + length (rows_in w rs) ≤ length (rows_in w q.sent)
+room_behind w q rs most_free s r e =
     let some : 0 < w = (let o = s.some in omega (arith, o)) in
-    let a = add-mul-div_right (known_free q) (length (sent q) / w) {z = w} some in
-    let b = add-mul-div_right (producer_capacity q) (length rs / w) {z = w} some in
-    let d : (known_free q + length (sent q) / w * w) / w ≡ (producer_capacity q + length rs / w * w) / w =
-    ap (λ n. n / w) (ap (λ n. known_free q + n) (sym s.whole) ∙ e ∙ ap (λ n. producer_capacity q + n) r.whole) in
-    let most = div-more w (known_free q) (producer_capacity q) s.some (free_most q) in
+    let a = add-mul-div_right (q.free) (length q.sent / w) {z = w} some in
+    let b = add-mul-div_right (q.capacity) (length rs / w) {z = w} some in
+    let d : (q.free + length q.sent / w * w) / w ≡ (q.capacity + length rs / w * w) / w =
+    ap (λ n. n / w) (ap (λ n. q.free + n) (sym s.whole) ∙ e ∙ ap (λ n. q.capacity + n) r.whole) in
+    let most = div-more w (q.free) (q.capacity) s.some most_free in
     let m = as_many w rs in
-    let n = as_many w (sent q) in
+    let n = as_many w q.sent in
     omega (arith, a, b, d, most, m, n)
 
 -- a ring for the values of so many rows is one for the rows

@@ -2,13 +2,13 @@
 use Rattle.std.specs.Prelude.{◌≡◌, ℕ, ℤ, ◌*◌, ◌/◌, ◌-◌, ◌≤◌, List, length, map}
 use Rattle.std.specs.declared.alloc.Global.{Global}
 use Rattle.rtrb.specs.declared.consumer.Consumer.{Consumer}
-use Rattle.rtrb.specs.declared.producer.Producer.{Producer}
-use Rattle.rtrb.specs.Ring.{sent, known_free, producer_capacity, received, known_items, consumer_capacity}
+use Rattle.rtrb.specs.Ring.{received, known_items, consumer_capacity}
 use Rattle.river_base.specs.declared.item.Item as item
 use Rattle.river_base.specs.declared.item.Item.TheVariants.{Flat}
 use Rattle.river_base.specs.declared.item.Flat.TheVariants.{One}
 use Rattle.river_base.specs.WideRows.{cut_rows}
 use Rattle.river_rings.specs.Ends.{Sending, Taking, ring_of}
+use Rattle.river_rings.specs.Lots.{Lotted}
 
 -- a row as an item
 abbrev pub row_item : List ℤ → item.Item
@@ -25,12 +25,12 @@ pub record AreWhole (width : ℕ) (values : List ℤ) : Type 0 where
   pub whole : length values ≡ length values / width * width
 
 -- these are seen of the ends: a row is there once all its values are, and there is room for it where there is for all of them
-abbrev pub row_sending : {P : Type 0} → ℕ → Producer ℤ Global P → Sending
-row_sending width p = record {
-  id = ring_of width p.end;
-  cap = producer_capacity p / width;
-  sent = rows_in width (sent p);
-  waiting = producer_capacity p / width - known_free p / width;
+abbrev pub row_sending : ℕ → Lotted → Sending
+row_sending width l = record {
+  id = record l.ring { width = width };
+  cap = l.capacity / width;
+  sent = rows_in width l.sent;
+  waiting = l.capacity / width - l.free / width;
 }
 
 abbrev pub row_taking : {P : Type 0} → ℕ → Consumer ℤ Global P → Taking

@@ -2,6 +2,7 @@
 #![tactic(auto)]
 
 mod ends;
+mod lots;
 mod rows;
 
 pub use ends::{Feed, Take, beside, ring};

@@ -3,18 +3,22 @@
 ghost use Rattle.std.specs.Prelude.{◌≡◌, ◌+◌, ◌<◌, ◌≤◌, [], ◌∷◌, ◌++◌, length, IsTrue, IsFalse, IfOk};
 ghost use Rattle.river_rings.specs.Ends.{AreEnds, SameSending, SameTaking, IsFullRing, HasRingRoom, HasSeenTaken, HasSeen};
 ghost use Rattle.river_rings.specs.Rows.{row_item};
-ghost use Rattle.rtrb.specs.Ring.{sent, known_free, received, known_items, SameProducer, SameConsumer, ProducerLooked, ConsumerLooked};
+ghost use Rattle.rtrb.specs.Ring.{received, known_items, SameConsumer, ConsumerLooked};
 ghost use mathlib.Core.List.{IsPrefix};
 
+use crate::lots::Lot;
 use river_base::NoMemory;
-use rtrb::{Consumer, Producer, RingBuffer};
+use rtrb::{Consumer, RingBuffer};
 use std::alloc::Global;
 use std::marker::Model;
 
-/// The end that sends rows.
+/// How many rows go with one store at most.
+const LOT: usize = 16;
+
+/// The end that sends rows. Some may wait in it: they are sent, but the taking end sees them after `flush` alone, or after as many more.
 #[derive(Drop)]
 pub struct RowFeed {
-    end: Producer<i64>,
+    end: Lot,
     width: usize,
 }
 
@@ -26,7 +30,7 @@ pub struct RowTake {
 }
 
 impl Model for RowFeed {
-    ghost use Rattle.rtrb.specs.Ring.{sent};
+    ghost use Rattle.std.specs.Prelude.{◌≤◌};
     ghost use Rattle.river_rings.specs.Ends.{Sending};
     ghost use Rattle.river_rings.specs.Rows.{AreWhole, row_sending};
 
@@ -34,7 +38,7 @@ impl Model for RowFeed {
 
     ghost view = { λ f. row_sending f.width f.end };
 
-    ghost invariant = { λ f. AreWhole f.width (sent f.end) };
+    ghost invariant = { λ f. AreWhole f.width f.end.sent × (f.end.free ≤ f.end.capacity) };
 }
 
 impl Model for RowTake {
@@ -60,18 +64,19 @@ pub fn ring_of_rows(alloc: Global, width: u32, cap: u32) -> Result<(RowFeed, Row
 {
     let width = width as usize;
     let (feed, take) = RingBuffer::new(alloc, cap as usize * width)?;
-    let feed = RowFeed { end: feed, width };
+    let feed = RowFeed {
+        end: Lot::new(alloc, feed, lot_of(cap) * width)?,
+        width,
+    };
     let take = RowTake { end: take, width };
     Ok((feed, take))
 }
 
-// Whether so many slots are free.
-fn has_slots(end: &mut Producer<i64>, count: usize) -> bool
-    ensures looked { ProducerLooked end.old end.new }
-    ensures yes { IsTrue result → count ≤ known_free end.new }
-    ensures no { IsFalse result → known_free end.new < count }
+// How many rows go with one store at most: 16, and no more than half of what a ring holds.
+fn lot_of(cap: u32) -> usize
+    ensures { result ≤ 16 }
 {
-    end.cached_slots() >= count || end.slots() >= count
+    ((cap / 2) as usize).min(LOT)
 }
 
 // Whether so many values are there.
@@ -81,23 +86,6 @@ fn has_values(end: &mut Consumer<i64>, count: usize) -> bool
     ensures no { IsFalse result → length (known_items end.new) < count }
 {
     end.cached_slots() >= count || end.slots() >= count
-}
-
-// Sends these values, for which there is room: one store for all, and the short way for a single one.
-fn put_values(end: &mut Producer<i64>, row: &[i64])
-    requires { length row.now ≤ known_free end.old }
-    ensures ring { SameProducer end.old end.new }
-    ensures sent { sent end.new ≡ sent end.old ++ row.now }
-    ensures free { known_free end.old ≤ known_free end.new + length row.now }
-{
-    if row.len() == 1 {
-        end.push_reserved(row[0]);
-        return;
-    }
-    match end.push_entire_slice(row) {
-        Ok(()) => {}
-        Err(_few) => unreachable!(),
-    }
 }
 
 // Takes as many values as `row` has, which are known to be there.
@@ -133,7 +121,14 @@ impl RowFeed {
         ensures yes { IsTrue result → HasRingRoom self.new }
         ensures no { IsFalse result → IsFullRing self.new }
     {
-        has_slots(&mut self.end, self.width)
+        self.end.has_slots(self.width)
+    }
+
+    /// What waits goes: the taking end may see it from then on. It takes no memory.
+    pub fn flush(&mut self)
+        ensures { HasSeenTaken self.old self.new }
+    {
+        self.end.flush();
     }
 
     /// Sends a row of these values, where the ring has room for it. They are as many as each of its rows has.
@@ -143,7 +138,7 @@ impl RowFeed {
         ensures ring { SameSending self.old self.new }
         ensures sent { (self.new.sent ≡ self.old.sent ++ row_item row.now ∷ []) × (self.new.waiting ≤ self.old.waiting + 1) }
     {
-        put_values(&mut self.end, row);
+        self.end.put(row);
     }
 }
 
@@ -185,7 +180,7 @@ fn look_for_room(feed: &mut RowFeed, take: &mut RowTake)
     ensures take { HasSeen take.old take.new }
     ensures room { feed.new.waiting + length take.new.received ≤ length feed.new.sent }
 {
-    feed.end.slots_beside(&mut take.end);
+    feed.end.look_beside(&mut take.end);
 }
 
 // The taking end looks: it learns of all that was sent.
@@ -197,7 +192,7 @@ fn look_for_rows(feed: &mut RowFeed, take: &mut RowTake)
     ensures order { take.new.received ++ take.new.known ≡ feed.new.sent }
     ensures bound { length take.new.known ≤ take.new.cap }
 {
-    take.end.slots_beside(&mut feed.end);
+    feed.end.show_beside(&mut take.end);
 }
 
 /// Both ends of one ring of rows look, as those of a ring of items do: afterwards the taking end knows all that was sent, and the

@@ -20,7 +20,7 @@ all-printed text skip_first (x ∷ xs) [] h = absurd h
 all-printed text skip_first (x ∷ xs) (o ∷ os) h = (ran_prints text x skip_first o h.0, all-printed text false xs os h.1)
 
 -- and so are the tables that are merged
-merged : (k : ℕ) (ts : List TableDecl) (splits : List (List (List ℕ))) (ms : List (List ℕ)) → AreMergeRuns k ts splits ms → AreMergedFrom k ts splits ms
+pub merged : (k : ℕ) (ts : List TableDecl) (splits : List (List (List ℕ))) (ms : List (List ℕ)) → AreMergeRuns k ts splits ms → AreMergedFrom k ts splits ms
 merged k [] splits [] h = h
 merged k [] splits (m ∷ ms) h = absurd h
 merged k (t ∷ ts) splits [] h = absurd h

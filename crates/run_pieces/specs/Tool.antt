@@ -1,6 +1,9 @@
 -- Tallies in pieces, by the calls of the program that cuts and splits, and by those of `river`.
-use Rattle.std.specs.Prelude.{⊤, ℕ, Bool, false, List, [], ◌∷◌, Some}
+use Rattle.std.specs.Prelude.{⊤, ℕ, ◌≤◌, Bool, false, List, [], ◌∷◌, ◌++◌, length, Some}
 use Rattle.csv_cuts.specs.Cut.{TookPieces}
+use Rattle.csv_streams.specs.FilePieces.{EndsRecord, IsUnmarked}
+use Rattle.csv_streams.specs.Records.{csv_records}
+use Rattle.csv_streams.specs.Rows.{headers}
 use Rattle.kern_tables.specs.Pieces.{joined}
 use Rattle.piece_tables.specs.Split.{SplitHeld}
 use Rattle.river_plan.specs.declared.plan.TableDecl.{TableDecl}
@@ -33,3 +36,17 @@ ToolGivesTheWhole =
     → (split : SplitHeld (Some text) outs (Some []) (Some programs) (Some []) (Some rows))
     → AreRunOn (tables_in (program_in split.program)) programs rows merges
     → Means text bytes skip_first (joined merges)
+
+-- A file has grown, behind a place where a record ended. What the program means for its old part is kept. The new part alone is cut and run
+-- by calls of `river`; what is kept is split before what these wrote, and the rows of each table are merged by such calls. What is written so
+-- is what the program means for the whole of the file.
+abbrev pub ToolGivesTheGrown : Type 0
+ToolGivesTheGrown =
+    (text old new : List ℕ) (skip_first : Bool) (kept : List ℕ) (pieces outs programs rows merges : List (List ℕ))
+    → Means text old skip_first kept
+    → EndsRecord old → IsUnmarked new → headers skip_first ≤ length (csv_records old)
+    → TookPieces new false (Some []) (Some pieces)
+    → AreRun text false pieces outs
+    → (split : SplitHeld (Some text) (kept ∷ outs) (Some []) (Some programs) (Some []) (Some rows))
+    → AreRunOn (tables_in (program_in split.program)) programs rows merges
+    → Means text (old ++ new) skip_first (joined merges)

@@ -5,7 +5,7 @@ ghost use Rattle.river_cli.specs.Does.{Does};
 ghost use Rattle.river_cli.specs.Points.{points_of};
 ghost use Rattle.run_pieces.specs.Ran.{WordsAsk, WordsAskForNoScript, RunsPrint, RunsAreDone, RanPrints, GivesRun};
 ghost use Rattle.run_pieces.specs.Refused.{RunsTellFaults, RefusalsAreFaults, GivesRefusal, FirstRefusalIsTheWholes};
-ghost use Rattle.run_pieces.specs.Tool.{ToolGivesTheWhole};
+ghost use Rattle.run_pieces.specs.Tool.{ToolGivesTheWhole, ToolGivesTheGrown};
 ghost use Rattle.run_pieces.specs.Whole.{RiverGivesTheWhole};
 
 use river_outside::{Shelf, Sink};
@@ -52,6 +52,11 @@ pub fn river_gives_the_whole()
 /// So do the calls that cut a file and split what was printed, with those of `river` between them.
 pub fn tool_gives_the_whole()
     ensures { ToolGivesTheWhole }
+{}
+
+/// And so do those on what a file has grown by, with what is kept of its old part.
+pub fn tool_gives_the_grown()
+    ensures { ToolGivesTheGrown }
 {}
 
 /// A run whose input has a fault is refused with it.

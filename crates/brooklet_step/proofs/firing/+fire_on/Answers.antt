@@ -2,11 +2,12 @@ use Rattle.std.specs.Result.{OnOk}
 use Rattle.std.proofs.Common.{◌≡◌, ℤ, List, [], length, refl, sym, ap, ◌∙◌, subst, arith}
 use Rattle.std.proofs.lemmas.List.{length-set}
 use Rattle.std.proofs.lemmas.Result.{on_ok_weaker}
-use Rattle.river_kernels.proofs.KernLemmas.{kern_of-packed, kern_of-fused}
+use Rattle.river_kernels.proofs.KernLemmas.{kern_of-packed, kern_of-fused, kern_of-cross}
 use Rattle.river_base.specs.declared.item.Item as item
 use Rattle.river_base.specs.Places.{each_grew, list_at}
-use Rattle.river_kernels.specs.Kern.{kern_of, fused, packed}
+use Rattle.river_kernels.specs.Kern.{kern_of, cross, fused, packed}
 use Rattle.brooklet_model.specs.Firings.{beside}
+use Rattle.brooklet_step.specs.Joins.{IsSelection}
 use Rattle.brooklet_step.specs.Given.{CanTake, CanTakeAll, FiresAt, FiresEach}
 use Rattle.brooklet_step.proofs.Counted.{privates_counted, blank_counted}
 use Rattle.brooklet_step.proofs.Size.{size}
@@ -42,14 +43,30 @@ fire_on-fire_packed-requires t c =
       subst (λ i. CanTake i c.args.port c.args.item c.args.states.now c.args.out.now) (ek ∙ ap packed (sym ej)) c.requires,
     )
 
+pub fire_on-fire_join-requires : goal.fire_on-fire_join-requires
+fire_on-fire_join-requires t c =
+    let at = c.in-Fused.at in
+    let j = c.is_join.ensures c.if-is_join.true in
+    let second = c.deref-then-is_join.result.now in
+    let same = c.deref-then-is_join.ensures ∙ sym c.deref-in-Fused-2.ensures in
+    let ea = ap kern_of c.deref-in-Fused.ensures in
+    let ep = ap kern_of j.product ∙ kern_of-cross in
+    let eb = ap kern_of c.deref-then-is_join.ensures in
+    let ek : kern_of c.args.kernel.now ≡ fused cross (kern_of second) at = ap kern_of c.in-Fused.is ∙ kern_of-fused c.in-Fused.first c.in-Fused.second at
+    ∙ ap (λ i. fused i (kern_of c.in-Fused.second.value) at) (sym ea ∙ ep) ∙ ap (λ i. fused cross i at) (sym eb) in
+    record {
+      selection = subst IsSelection (sym same) j.selection;
+      can = subst (λ i. CanTake i c.args.port c.args.item c.args.states.now c.args.out.now) ek c.requires;
+    }
+
 pub fire_on-fire_fused-requires : goal.fire_on-fire_fused-requires
 fire_on-fire_fused-requires t c =
     let k = kern_of c.args.kernel.now in
     let at = c.in-Fused.at in
-    let a = kern_of c.deref-in-Fused.result.now in
-    let b = kern_of c.deref-in-Fused-2.result.now in
-    let ea = ap kern_of c.deref-in-Fused.ensures in
-    let eb = ap kern_of c.deref-in-Fused-2.ensures in
+    let a = kern_of c.deref-in-Fused-3.result.now in
+    let b = kern_of c.deref-in-Fused-4.result.now in
+    let ea = ap kern_of c.deref-in-Fused-3.ensures in
+    let eb = ap kern_of c.deref-in-Fused-4.ensures in
     let ek : k ≡ fused a b at = ap kern_of c.in-Fused.is ∙ kern_of-fused c.in-Fused.first c.in-Fused.second at
     ∙ ap (λ i. fused i (kern_of c.in-Fused.second.value) at) (sym ea) ∙ ap (λ i. fused a i at) (sym eb) in
     (omega (arith, c.decreases, ap size ek), subst (λ i. CanTake i c.args.port c.args.item c.args.states.now c.args.out.now) ek c.requires)
@@ -60,18 +77,6 @@ fire_on-returns-in-Packed t c =
     ∙ ap (λ j. packed (kern_of j)) (sym c.deref.ensures) in
     subst (λ i. OnOk c.fire_packed.result (FiresAt i c.args.port c.args.item c.args.out.now c.fire_packed.new.out c.args.states.now
     c.fire_packed.new.states)) (sym ek) c.fire_packed.ensures
-
-pub fire_on-returns-in-Fused : goal.fire_on-returns-in-Fused
-fire_on-returns-in-Fused t c =
-    let at = c.in-Fused.at in
-    let a = kern_of c.deref-in-Fused.result.now in
-    let b = kern_of c.deref-in-Fused-2.result.now in
-    let ea = ap kern_of c.deref-in-Fused.ensures in
-    let eb = ap kern_of c.deref-in-Fused-2.ensures in
-    let ek : kern_of c.args.kernel.now ≡ fused a b at = ap kern_of c.in-Fused.is ∙ kern_of-fused c.in-Fused.first c.in-Fused.second at
-    ∙ ap (λ i. fused i (kern_of c.in-Fused.second.value) at) (sym ea) ∙ ap (λ i. fused a i at) (sym eb) in
-    subst (λ i. OnOk c.fire_fused.result (FiresAt i c.args.port c.args.item c.args.out.now c.fire_fused.new.out c.args.states.now
-    c.fire_fused.new.states)) (sym ek) c.fire_fused.ensures
 
 pub fire_blank-fire_on-requires : goal.fire_blank-fire_on-requires
 fire_blank-fire_on-requires t c = (omega (arith, c.decreases), c.requires c.in_ok-given.given c.in_ok-given.ensures.outs c.in_ok-given.ensures.adds)

@@ -11,9 +11,3 @@ returns-then-is_empty-clause-ok c =
     let none : c.args.rows.now ≡ [] = search rules in
     let x : Holding = c.args.cell.now in
     sym (ap (λ (r : List (List ℤ)). cell_grown c.args.op c.args.table r x) none ∙ ap (λ (es : List LogEntry). record x { log = es }) (append-nil x.log))
-
-pub returns-clause-ok : goal.returns-clause-ok
-returns-clause-ok c =
-    let x : Holding = c.args.cell.now in
-    subst (λ (r : List (List ℤ)). OnOk c.put_entry.result (c.put_entry.new.cell ≡ cell_grown c.args.op c.args.table r x)) c.in_ok-moved.ensures.moved
-    c.put_entry.ensures.ok

@@ -9,5 +9,5 @@ pub returns-clause-ok : goal.returns-clause-ok
 returns-clause-ok c =
     let x : Holding = c.args.cell.now in
     on_ok_weaker c.add.result
-    (λ e. e ∙ ap (λ (es : List LogEntry). record x { log = x.log ++ es }) (sym (some_rows c.args.op c.args.table c.args.rows c.requires.some)))
+    (λ e. e ∙ ap (λ (es : List LogEntry). record x { log = x.log ++ es }) (sym (some_rows c.args.op c.args.table c.args.rows.now c.requires.some)))
     c.add.ensures.ok

@@ -1,7 +1,7 @@
 use Rattle.std.proofs.Common.{◌≡◌}
 use Rattle.river_plan.specs.Forms.{plan_form}
 use Rattle.fire_tasks.proofs.TurnLemmas.{Passed}
-use Rattle.fire_tasks.proofs.passing.pass_task.Given as goal
+use Rattle.fire_tasks.proofs.passing.take_turns.Given as goal
 
 abbrev pub invariant-loop-turn : goal.invariant-loop-turn
 invariant-loop-turn g l = record {
