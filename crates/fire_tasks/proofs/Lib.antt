@@ -4,6 +4,7 @@ pub mod CellLemmas
 pub mod Fronts
 pub mod JoinLemmas
 pub mod Looking
+pub mod LotLemmas
 pub mod PassLemmas
 pub mod PortLemmas
 pub mod SeatLemmas

@@ -55,7 +55,8 @@ use Rattle.fire_tasks.proofs.WordLemmas.{Longer, longer_word}
 
 -- LISTS AT PLACES
 
-one_count : (m n c l l' : ℕ) → n ≡ min m (c + 1) → c ≡ min m l → l' ≡ l + 1 → n ≡ min m l'
+-- a count that grew by one firing, up to the most
+pub one_count : (m n c l l' : ℕ) → n ≡ min m (c + 1) → c ≡ min m l → l' ≡ l + 1 → n ≡ min m l'
 one_count m n c l l' en ec el = omega (arith, en, ec, el)
 
 -- the same rows for each of its tables, told otherwise
@@ -88,7 +89,8 @@ pub with_adds_word : (p : PlanForm) (f g : ℕ → List (List ℤ)) (t : Task) (
 unfolding with_adds
 with_adds_word p f g t w k e = record { task = with_adds p f g t k.task e; word = k.word }
 
-beyond_blank : {A : Type 0} (n : ℕ) (f : ℕ → List A) (j : ℕ) → n < suc j → list_at (each_grew (replicate n []) f) j ≡ []
+-- nothing lies beyond the last list
+pub beyond_blank : {A : Type 0} (n : ℕ) (f : ℕ → List A) (j : ℕ) → n < suc j → list_at (each_grew (replicate n []) f) j ≡ []
 beyond_blank zero f j lt = refl
 beyond_blank (suc n) f zero lt = absurd (omega (arith, lt))
 beyond_blank (suc n) f (suc j) lt = beyond_blank n (λ m. f (suc m)) j (omega (arith, lt))
@@ -508,6 +510,6 @@ taken_at p t t1 pile pile' adds' f e cs b = record {
       (f.owes adds k).task;
   ends = f.ends;
   goes_on = record { received = f.goes_on.received; sent = f.goes_on.sent };
-  one = f.one;
+  more = let one = f.one in omega (arith, one);
   homes = f.homes;
 }

@@ -174,7 +174,6 @@ pub tried_took : (p : PlanForm) → IsPlan p → (v u w : View) (t t' : Task) (p
     → HasTakenAt p t t' pile pile' → HasPut u w pile' → HasMoreTries v u → w.takes ≡ u.takes → HasTried p v w t t' true
 tried_took p valid v u w t t' pile pile' k mine ht at put m q =
     let ends = at.ends in
-    let one = at.one in
     record {
       task = subst (λ (o : ℕ). IsTask p (added p (logs_at w o) o) t') (sym op_same)
           (with_adds p (λ j. added p (logs_at v o) o j ++ at.rows j) (added p (logs_at w o) o) t' again (λ j lt.
@@ -192,7 +191,7 @@ tried_took p valid v u w t t' pile pile' k mine ht at put m q =
         takes = q ∙ m.takes;
       };
       goes_on = at.goes_on;
-      number = moved_true (moves t) (moves t') (omega (arith, one));
+      number = moved_true (moves t) (moves t') at.more;
       found = λ f. absurd (cc f);
       stays = λ f. absurd (cc f);
     }

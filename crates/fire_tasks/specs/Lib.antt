@@ -5,6 +5,7 @@ pub mod Fired
 pub mod Inlet
 pub mod Joins
 pub mod Layout
+pub mod Lots
 pub mod Outlet
 pub mod Ports
 pub mod Rows

@@ -106,14 +106,14 @@ pub record HasFiredAt (p : PlanForm) (t t' : Task) : Type 0 where
   pub one : moves t' ≡ moves t + 1
   pub homes : (t'.tables ≡ t.tables) × (t'.classes ≡ t.classes)
 
--- and the rows came to the cells of its classes
+-- it took some items, and fired on them; their rows came to the cells of its classes
 pub record HasTakenAt (p : PlanForm) (t t' : Task) (pile pile' : List Piled) : Type 0 where
   pub rows : ℕ → List (List ℤ)
   pub logs : pile' ≡ pile_grown (logged t.op t.classes t.tables rows) pile
   pub task : (adds : ℕ → List (List ℤ)) → IsTask p adds t → IsTask p (λ j. adds j ++ rows j) t'
   pub ends : ends_of t' ≡ ends_of t
   pub goes_on : ExtendsFronts t t'
-  pub one : moves t' ≡ moves t + 1
+  pub more : moves t < moves t'
   pub homes : (t'.tables ≡ t.tables) × (t'.classes ≡ t.classes)
 
 -- AT A SEAT

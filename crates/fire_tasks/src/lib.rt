@@ -5,6 +5,7 @@
 mod adding;
 mod bundle;
 pub mod laws;
+mod lots;
 mod passing;
 mod ports;
 mod rounds;

@@ -6,7 +6,7 @@ ghost use Rattle.fire_tasks.specs.Outlet.{SendsTo, Stored};
 ghost use Rattle.fire_tasks.specs.Ports.{Flushed, received_of, known_of, in_end, in_ends, sent_of, sent_in, sent_count, IsFull, HasRoom, out_end, out_ends, received_in, HasSentFront, SentAt, ring_width, IsRowOf, IsPair, IsSettled, IsStored, MaySend, MaySendAll};
 ghost use Rattle.river_base.specs.WideRows.{rows_type};
 ghost use Rattle.river_rings.specs.Ends.{SameSending, SameTaking, HasRingRoom};
-ghost use Rattle.river_rings.specs.Rows.{row_item};
+ghost use Rattle.river_rings.specs.Rows.{AreWhole, row_item, rows_in};
 
 use brooklet_step::Lines;
 use kern_rows::ItemLine;
@@ -123,6 +123,27 @@ impl Inlet {
         }
     }
 
+    /// Takes the next items, of which one is known to be there, where they are rows of `width` values that are kept as these: as many as
+    /// are there and have room in `rows`. Their values are written to the front of it; says how many these are. Where it is 0 nothing is
+    /// received.
+    pub(crate) fn pop_rows(&mut self, width: usize, rows: &mut [i64]) -> usize
+        requires known { 0 < length (known_of self.old) }
+        requires some { 1 ≤ width }
+        requires at_most { width ≤ 16 }
+        requires room { width ≤ length rows.old }
+        ensures same { in_end self.new ≡ in_end self.old }
+        ensures within { (result ≤ length rows.new) × (length rows.new ≡ length rows.old) }
+        ensures whole { AreWhole width (take result rows.new) }
+        ensures received { received_of self.new ≡ received_of self.old ++ rows_in width (take result rows.new) }
+        ensures none { result ≡ 0 → self.new ≡ self.old }
+    {
+        match &mut self.end {
+            InletEnd::Items(_) => 0,
+            InletEnd::Rows(take) => next_rows(take, width, rows),
+            InletEnd::Kept(kept) => kept_rows(kept, width, rows),
+        }
+    }
+
     /// The next item in the order sent, which is known to be there.
     pub(crate) fn pop(&mut self, alloc: Global) -> Result<Item, NoMemory>
         requires { 0 < length (known_of self.old) }
@@ -149,6 +170,24 @@ fn next_row(take: &mut RowTake, row: &mut [i64]) -> bool
     }
     take.next(row);
     true
+}
+
+// Takes the next rows of a ring, where each has `width` values; says how many values they are.
+fn next_rows(end: &mut RowTake, width: usize, rows: &mut [i64]) -> usize
+    requires known { 0 < length end.old.known }
+    requires some { 1 ≤ width }
+    requires at_most { width ≤ 16 }
+    requires room { width ≤ length rows.old }
+    ensures ring { SameTaking end.old end.new }
+    ensures within { (result ≤ length rows.new) × (length rows.new ≡ length rows.old) }
+    ensures whole { AreWhole width (take result rows.new) }
+    ensures received { end.new.received ≡ end.old.received ++ rows_in width (take result rows.new) }
+    ensures none { result ≡ 0 → end.new ≡ end.old }
+{
+    if end.width() != width {
+        return 0;
+    }
+    end.next_rows(rows)
 }
 
 // The next row of a ring, as an item.
@@ -204,6 +243,30 @@ fn kept_row(kept: &mut Kept, row: &mut [i64]) -> bool
     }
     kept.taken = after;
     true
+}
+
+// Takes the next items of a kept list, for as long as they are rows of `width` values that are kept as these and have room in `rows`;
+// says how many values they are.
+fn kept_rows(kept: &mut Kept, width: usize, rows: &mut [i64]) -> usize
+    requires some { 1 ≤ width }
+    requires at_most { width ≤ 16 }
+    ensures same { kept.new.line ≡ kept.old.line }
+    ensures within { (result ≤ length rows.new) × (length rows.new ≡ length rows.old) }
+    ensures whole { AreWhole width (take result rows.new) }
+    ensures taken { take kept.new.taken kept.new.line ≡ take kept.old.taken kept.old.line ++ rows_in width (take result rows.new) }
+    ensures none { result ≡ 0 → kept.new ≡ kept.old }
+{
+    let mut count = 0;
+    for _row in 0..rows.len() {
+        if rows.len() - count < width || !kept.line.has(kept.taken) {
+            return count;
+        }
+        if !kept_row(kept, &mut rows[count..count + width]) {
+            return count;
+        }
+        count += width;
+    }
+    count
 }
 
 // Copies the row at a place of a line, where there is one of as many values as `row` that is kept as these.
@@ -273,6 +336,17 @@ impl Outlet {
             OutletEnd::Items(feed) => feed.has_room(),
             OutletEnd::Rows(feed) => feed.has_room(),
             OutletEnd::Kept(_) => true,
+        }
+    }
+
+    /// How many rows a turn may take whose firings send here: as many as a ring has room for, for all that is known, and one where this
+    /// is not asked. So no more is pending than by turns of one item each, where a firing gives one row. A number without a limit is at
+    /// least `most`.
+    pub(crate) fn room(&self, most: usize) -> usize {
+        match &self.end {
+            OutletEnd::Items(_) => 1,
+            OutletEnd::Rows(feed) => feed.room(),
+            OutletEnd::Kept(_) => most,
         }
     }
 
@@ -437,6 +511,43 @@ pub(crate) fn pop_row_at(ins: &mut Listed<Inlet>, port: usize, row: &mut [i64]) 
     ensures none { IsFalse result → ins.new ≡ ins.old }
 {
     ins.at_mut(port).pop_row(row)
+}
+
+/// How many rows a turn may take whose firings send to these ends: at least one, and at most `most`.
+pub(crate) fn room_in(outs: &Listed<Outlet>, most: usize) -> usize
+    requires { 1 ≤ most }
+    ensures some { 1 ≤ result }
+    ensures at_most { result ≤ most }
+{
+    let mut room = most;
+    for port in 0..outs.len() {
+        room = room.min(outs.at(port).room(most));
+    }
+    room.max(1)
+}
+
+/// Takes the next items at a port, of which one is known to be there, where they are rows of `width` values that are kept as these: as
+/// many as are there and have room in `rows`. Their values are written to the front of it; says how many these are. Where it is 0
+/// nothing is received.
+#[tactic(auto, using(crate::proofs::PortLemmas::ins_set, crate::proofs::PortLemmas::received_more))]
+pub(crate) fn pop_rows_at(
+    ins: &mut Listed<Inlet>,
+    port: usize,
+    width: usize,
+    rows: &mut [i64],
+) -> usize
+    requires there { port < length ins.old }
+    requires known { (d : _) → 0 < length (known_of (slice_index_or ins.old port d)) }
+    requires some { 1 ≤ width }
+    requires at_most { width ≤ 16 }
+    requires room { width ≤ length rows.old }
+    ensures same { in_ends ins.new ≡ in_ends ins.old }
+    ensures within { (result ≤ length rows.new) × (length rows.new ≡ length rows.old) }
+    ensures whole { AreWhole width (take result rows.new) }
+    ensures received { received_in ins.new ≡ append_at (received_in ins.old) port (rows_in width (take result rows.new)) }
+    ensures none { result ≡ 0 → ins.new ≡ ins.old }
+{
+    ins.at_mut(port).pop_rows(width, rows)
 }
 
 // Whether an item can be sent at a port.

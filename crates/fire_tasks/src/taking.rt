@@ -9,6 +9,7 @@ ghost use Rattle.brooklet_step.specs.Given.{IsHeldOf};
 ghost use Rattle.fire_tasks.specs.Turns.{HasFiredAt, HasTakenAt, HaveGained, AreCellsOf};
 
 use crate::adding::add_rows;
+use crate::lots::take_lot;
 use crate::ports::{pop_at, pop_row_at, ready_at, width_at};
 use crate::{Inlet, Task};
 use brooklet_step::{fire_op, fire_values, item_fits, next_count};
@@ -176,9 +177,63 @@ fn keep_bad(bad: &mut Option<(u32, Item)>, port: u32, item: Item)
     *bad = Some((port, item));
 }
 
-/// Takes the item at a port, fires on it, and adds the rows of the firing to the cells of the task's classes. Where there is no memory
-/// the cells have no entries but the operator's.
+/// Takes the items at a port that can be taken at once, or the item there; fires on each, and adds the rows of the firings to the cells
+/// of the task's classes. Where there is no memory the cells have no entries but the operator's.
 pub(crate) fn take_at<G: Gate>(
+    alloc: Global,
+    plan: &RawPlan,
+    task: &mut Task,
+    port: u32,
+    pile: &mut Pile,
+    gate: &G,
+) -> Result<(), NoMemory>
+    requires valid { IsPlan (plan_form plan.now) }
+    requires task { (adds : ℕ → List (List ℤ)) × IsTask (plan_form plan.now) adds task.old }
+    requires idle { IsIdle task.old.pending }
+    requires fine { task.old.bad ≡ None }
+    requires port { port < length task.old.ins }
+    requires known { (d : _) → 0 < length (known_of (slice_index_or task.old.ins port d)) }
+    requires pile { AreCellsOf (plan_form plan.now) task.old.classes pile.old.items }
+    ensures gained { HaveGained task.old.op pile.old.items pile.new.items }
+    ensures taken { OnOk result (HasTakenAt (plan_form plan.now) task.old task.new pile.old.items pile.new.items) }
+{
+    match width_at(&task.kinds, port as usize) {
+        Some(width) => take_rows_at(alloc, plan, task, port, width, pile, gate),
+        None => take_item(alloc, plan, task, port, pile, gate),
+    }
+}
+
+// The same at a port whose queue has rows of this width.
+fn take_rows_at<G: Gate>(
+    alloc: Global,
+    plan: &RawPlan,
+    task: &mut Task,
+    port: u32,
+    width: u32,
+    pile: &mut Pile,
+    gate: &G,
+) -> Result<(), NoMemory>
+    requires valid { IsPlan (plan_form plan.now) }
+    requires task { (adds : ℕ → List (List ℤ)) × IsTask (plan_form plan.now) adds task.old }
+    requires idle { IsIdle task.old.pending }
+    requires fine { task.old.bad ≡ None }
+    requires port { port < length task.old.ins }
+    requires known { (d : _) → 0 < length (known_of (slice_index_or task.old.ins port d)) }
+    requires kind { slice_get task.old.kinds port ≡ Some (rows_type width) }
+    requires some { 1 ≤ width }
+    requires at_most { width ≤ 16 }
+    requires pile { AreCellsOf (plan_form plan.now) task.old.classes pile.old.items }
+    ensures gained { HaveGained task.old.op pile.old.items pile.new.items }
+    ensures taken { OnOk result (HasTakenAt (plan_form plan.now) task.old task.new pile.old.items pile.new.items) }
+{
+    if take_lot(alloc, plan, task, port, width, pile, gate)? {
+        return Ok(());
+    }
+    take_item(alloc, plan, task, port, pile, gate)
+}
+
+// Takes the item at a port, fires on it, and adds the rows of the firing to the cells of the task's classes.
+fn take_item<G: Gate>(
     alloc: Global,
     plan: &RawPlan,
     task: &mut Task,

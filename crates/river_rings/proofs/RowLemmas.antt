@@ -1,8 +1,8 @@
 -- Rows of one width, and the values of them.
-use Rattle.std.proofs.Common.{rules, ◌≡◌, ℕ, ℤ, ◌+◌, ◌-◌, ◌*◌, ◌/◌, ◌<◌, ◌≤◌, List, [], ◌∷◌, ◌++◌, length, drop, map, refl, sym, ap, ◌∙◌, subst, arith}
+use Rattle.std.proofs.Common.{rules, ◌≡◌, ℕ, ℤ, ◌+◌, ◌-◌, ◌*◌, ◌/◌, ◌%◌, ◌<◌, ◌≤◌, List, [], ◌∷◌, ◌++◌, length, drop, map, refl, sym, ap, ◌∙◌, subst, arith}
 use Rattle.std.proofs.Common.{length-append}
 use Rattle.std.proofs.lemmas.List.{map-append, length-map, take_all, drop_at}
-use Rattle.std.proofs.lemmas.Nat.{le-div, div-mul-add}
+use Rattle.std.proofs.lemmas.Nat.{le-div, div-mul-add, div-add-mod', mod_below}
 use Rattle.std.proofs.Math.Nat.{add-mul-div_right, div-mul-le_self, mul-add-div_right, mul-div_cancel, mul-le-mul_right}
 use Rattle.std.specs.declared.alloc.Global.{Global}
 use Rattle.std.specs.Prelude.{slice_set}
@@ -210,3 +210,35 @@ pub single_set : (xs : List ℤ) (v : ℤ) → length xs ≡ 1 → slice_set xs 
 single_set [] v l = absurd (cc l)
 single_set (x ∷ []) v l = refl
 single_set (x ∷ (y ∷ xs)) v l = absurd (cc l)
+
+-- SEVERAL ROWS
+
+-- as many values as whole rows have, of a number of values
+pub front_whole : (w n : ℕ) (vs : List ℤ) → 1 ≤ w → w ≤ 16 → length vs ≡ n - n % w → AreWhole w vs
+front_whole w n vs some most l =
+    let d = div-add-mod' n w in
+    let k : length vs ≡ n / w * w = omega (arith, l, d) in
+    record { some = some; at_most = most; whole = k ∙ ap (λ m. m * w) (sym (ap (λ m. m / w) k ∙ mul-div_cancel (n / w) {n = w} (omega (arith, some)))) }
+
+-- they are some where there are as many as a row has
+pub front_some : (w n : ℕ) → 1 ≤ w → w ≤ n → 1 ≤ n - n % w
+front_some w n some le = let m = mod_below n w (omega (arith, some)) in omega (arith, m, le)
+
+-- they are those of rows with other rows behind
+pub whole_both : (w : ℕ) (vs us ws : List ℤ) → AreWhole w vs → AreWhole w us → ws ≡ vs ++ us → AreWhole w ws
+whole_both w vs us ws h g e =
+    let a = h.whole in
+    let b = g.whole in
+    let n = length vs / w in
+    let m = length us / w in
+    let q : length (vs ++ us) / w ≡ n + m = rows_of_both w vs us h in
+    let p : (n + m) * w ≡ n * w + m * w = omega arith in
+    subst (λ l. AreWhole w l) (sym e) (record {
+      some = h.some;
+      at_most = h.at_most;
+      whole = length-append vs us ∙ (let s : length vs + length us ≡ (n + m) * w = omega (arith, a, b, p) in s) ∙ ap (λ k. k * w) (sym q);
+    })
+
+-- the values of rows behind the values of rows
+pub rows-more : (w : ℕ) (vs us ws : List ℤ) → AreWhole w vs → ws ≡ vs ++ us → rows_in w ws ≡ rows_in w vs ++ rows_in w us
+rows-more w vs us ws h e = ap (rows_in w) e ∙ rows-both w vs us h

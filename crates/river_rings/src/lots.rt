@@ -57,6 +57,15 @@ impl Lot {
         Ok(Lot { end, lot })
     }
 
+    /// How many places are free, for all that is known.
+    #[tactic(auto, using(crate::proofs::LotLemmas::lot_most))]
+    pub fn free(&self) -> usize
+        ensures free { result ≡ self.now.free }
+        ensures most { self.now.free ≤ self.now.capacity }
+    {
+        self.end.cached_slots() - self.lot.len()
+    }
+
     /// What waits goes. It is seen by the other end from then on.
     #[tactic(auto, using(crate::proofs::LotLemmas::lot_most))]
     pub fn flush(&mut self)

@@ -1,8 +1,8 @@
 // The two ends of a bounded queue of rows of one width, of which the values alone are kept. A row is sent with one store, and so is
 // there whole or not at all.
-ghost use Rattle.std.specs.Prelude.{◌≡◌, ◌+◌, ◌<◌, ◌≤◌, [], ◌∷◌, ◌++◌, length, IsTrue, IsFalse, IfOk};
+ghost use Rattle.std.specs.Prelude.{◌≡◌, ◌+◌, ◌<◌, ◌≤◌, [], ◌∷◌, ◌++◌, length, take, IsTrue, IsFalse, IfOk};
 ghost use Rattle.river_rings.specs.Ends.{AreEnds, SameSending, SameTaking, IsFullRing, HasRingRoom, HasSeenTaken, HasSeen};
-ghost use Rattle.river_rings.specs.Rows.{row_item};
+ghost use Rattle.river_rings.specs.Rows.{AreWhole, row_item, rows_in};
 ghost use Rattle.rtrb.specs.Ring.{received, known_items, SameConsumer, ConsumerLooked};
 ghost use mathlib.Core.List.{IsPrefix};
 
@@ -124,6 +124,13 @@ impl RowFeed {
         self.end.has_slots(self.width)
     }
 
+    /// For how many rows the ring has room, for all that is known. It does not look.
+    pub fn room(&self) -> usize
+        ensures { result + self.now.waiting ≡ self.now.cap }
+    {
+        self.end.free() / self.width
+    }
+
     /// What waits goes: the taking end may see it from then on. It takes no memory.
     pub fn flush(&mut self)
         ensures { HasSeenTaken self.old self.new }
@@ -170,6 +177,24 @@ impl RowTake {
         ensures known { IsPrefix self.old.known (row_item row.new ∷ self.new.known) }
     {
         next_values(&mut self.end, row);
+    }
+
+    /// The values of the next rows in the order sent, of which one is known to be there: of as many as are there now and have room in
+    /// `rows`. They are written to the front of it; says how many values they are.
+    pub fn next_rows(&mut self, rows: &mut [i64]) -> usize
+        requires known { 0 < length self.old.known }
+        requires room { self.old.id.width ≤ length rows.old }
+        ensures ring { SameTaking self.old self.new }
+        ensures some { 1 ≤ result }
+        ensures within { (result ≤ length rows.new) × (length rows.new ≡ length rows.old) }
+        ensures whole { AreWhole self.old.id.width (take result rows.new) }
+        ensures received { self.new.received ≡ self.old.received ++ rows_in self.old.id.width (take result rows.new) }
+    {
+        let there = self.end.slots();
+        let most = there.min(rows.len());
+        let count = most - most % self.width;
+        next_values(&mut self.end, &mut rows[..count]);
+        count
     }
 }
 

@@ -5,7 +5,7 @@ use Rattle.river_plan.specs.Forms.{plan_form}
 use Rattle.fire_tasks.specs.Turns.{AreRowsFor, HasCells}
 use Rattle.fire_tasks.proofs.AddLemmas.{can_add, none_gained}
 use Rattle.fire_tasks.proofs.TaskLemmas.{taken_at}
-use Rattle.fire_tasks.proofs.taking.take_at.Goals as goal
+use Rattle.fire_tasks.proofs.taking.take_item.Goals as goal
 
 pub returns-in_err-fire_at-clause-gained : goal.returns-in_err-fire_at-clause-gained
 returns-in_err-fire_at-clause-gained g c = none_gained c.args.task.now.op c.args.pile.now.items
