@@ -1,5 +1,7 @@
 pub mod Cuts
 pub mod Faulty
-pub mod Greatest
-pub mod InPieces
+pub mod Marks
+pub mod Fronts
 pub mod Windows
+pub mod Scan
+pub mod Sizes

@@ -1,9 +1,11 @@
-// The loop that cuts a file.
-ghost use Rattle.std.specs.Prelude.{◌≡◌, ◌≤◌, ◌<◌, ◌-◌, [], ◌∷◌, drop, length, ℕ, Bool, List, Option, OnOk, OnErr};
-ghost use Rattle.csv_cuts.specs.Cut as cut;
+// The loops that cut a file.
+ghost use Rattle.std.specs.Prelude.{◌≡◌, ◌≤◌, ◌<◌, ◌+◌, ◌-◌, min, [], ◌∷◌, take, drop, length, ℕ, Bool, List, Option, IfOk, OnOk, OnErr};
+ghost use Rattle.std.specs.Bool.{OnTrue, OnFalse};
+ghost use Rattle.csv_cuts.specs.Cut.{TookPieces, append_pieces};
+ghost use Rattle.csv_cuts.specs.Window.{CutsOff, NoneUpTo, TookFrom, IsUncut, IsWithin, TookWithin};
 ghost use Rattle.river_outside.specs.Causes.{Rose};
 
-use crate::cut::{cut_after, records_in};
+use crate::window::piece_end;
 use river_outside::Failed;
 
 /// What takes pieces, one behind another. Those that it took may be told to contracts; a count of faults, which never falls, tells
@@ -21,7 +23,7 @@ pub trait PieceSink {
     /// Takes a piece.
     fn take(&mut self, piece: &[u8]) -> Result<(), Failed>
         ensures later { faults self.old ≤ faults self.new }
-        ensures took { OnOk result (taken self.new ≡ cut.append_pieces (taken self.old) (piece.now ∷ [])) }
+        ensures took { OnOk result (taken self.new ≡ append_pieces (taken self.old) (piece.now ∷ [])) }
         ensures failed { OnErr result (Rose stays_at_last (faults self.old) (faults self.new)) };
 }
 
@@ -34,60 +36,92 @@ pub struct Size {
     pub bytes: usize,
 }
 
-/// Cuts the bytes into pieces, which are taken one behind another. The first has the header, if there is one.
-#[tactic(auto, using(crate::proofs::InPieces::front_first))]
-pub fn cut_file<P: PieceSink>(
-    bytes: &[u8],
-    skip_first: bool,
-    size: Size,
-    to: &mut P,
-) -> Result<(), Failed>
+/// Cuts pieces off the front of a window of a file of which more may come, and takes them one behind another. Says how many bytes
+/// they have: none only where no piece can be cut off.
+#[tactic(auto, using(crate::proofs::Sizes::sizes))]
+pub fn cut_front<P: PieceSink>(window: &[u8], size: Size, to: &mut P) -> Result<usize, Failed>
     ensures later { P.faults to.old ≤ P.faults to.new }
-    ensures cut { OnOk result (cut.TookPieces bytes.now skip_first (P.taken to.old) (P.taken to.new)) }
+    ensures cut { IfOk result (λ count. TookFrom window.now count (P.taken to.old) (P.taken to.new)) }
+    ensures within { OnOk result (TookWithin size.records size.bytes (P.taken to.old) (P.taken to.new)) }
+    ensures none { IfOk result (λ count. count ≡ 0 → NoneUpTo window.now (min size.bytes (length window.now - 3))) }
     ensures failed { OnErr result (Rose P.stays_at_last (P.faults to.old) (P.faults to.new)) }
 {
     let mut from = 0;
-    let mut header = skip_first;
-    let mut end = piece_end(bytes, from, header, size);
-    while end < bytes.len() {
-        to.take(&bytes[from..end])?;
+    let mut end = front_end(window, from, size);
+    while from < end {
+        to.take(&window[from..end])?;
         from = end;
-        header = false;
-        end = piece_end(bytes, from, header, size);
+        end = front_end(window, from, size);
     }
-    to.take(&bytes[from..])
+    Ok(from)
 }
 
-// Where the piece that begins at `from` ends. Where nothing may be cut off, it has all the rest.
-#[tactic(auto, using(crate::proofs::InPieces::piece))]
-fn piece_end(bytes: &[u8], from: usize, header: bool, size: Size) -> usize
-    requires { from ≤ length bytes.now }
+// Where the piece that begins at `from` ends; at `from` where there is none. A later piece is cut off only where what follows the
+// window cannot make it longer.
+#[tactic(auto, using(crate::proofs::Sizes::ends))]
+fn front_end(window: &[u8], from: usize, size: Size) -> usize
+    requires { from ≤ length window.now }
     ensures after { from ≤ result }
-    ensures within { result ≤ length bytes.now }
-    ensures moves { from < length bytes.now → from < result }
-    ensures first { cut.IsFirstPiece (drop from bytes.now) header (result - from) }
+    ensures within { from < result → result + 3 ≤ length window.now }
+    ensures cuts { from < result → CutsOff (drop from window.now) (result - from) }
+    ensures size { from < result → IsWithin size.records size.bytes (take (result - from) (drop from window.now)) }
+    ensures none { from ≡ 0 → result ≡ 0 → NoneUpTo window.now (min size.bytes (length window.now - 3)) }
 {
-    let end = fitting_end(bytes, from, size);
-    if end == from || (header && records_in(&bytes[from..end]) == 0) {
-        bytes.len()
+    let rest = &window[from..];
+    let most = size.bytes.min(rest.len().saturating_sub(3));
+    let end = piece_end(rest, size.records, most);
+    if from == 0 || end.full {
+        from + end.place
     } else {
-        end
+        from
     }
 }
 
-// A place from `from` on at which the bytes may be cut: the greatest within the size, or with half the records, and so on.
-#[tactic(auto, using(crate::proofs::InPieces::greatest))]
-fn fitting_end(bytes: &[u8], from: usize, size: Size) -> usize
+/// Cuts the rest of a file into pieces, which are taken one behind another. Says whether that is done: where it is not, what is left is
+/// larger than a piece, and no piece can be cut off.
+#[tactic(auto, using(crate::proofs::Sizes::sizes))]
+pub fn cut_rest<P: PieceSink>(rest: &[u8], size: Size, to: &mut P) -> Result<bool, Failed>
+    ensures later { P.faults to.old ≤ P.faults to.new }
+    ensures cut { IfOk result (λ done. OnTrue done ((skip_first : Bool) → TookPieces rest.now skip_first (P.taken to.old) (P.taken to.new))) }
+    ensures within { OnOk result (TookWithin size.records size.bytes (P.taken to.old) (P.taken to.new)) }
+    ensures uncut { IfOk result (λ done. OnFalse done (IsUncut rest.now size.bytes)) }
+    ensures failed { OnErr result (Rose P.stays_at_last (P.faults to.old) (P.faults to.new)) }
+{
+    let mut from = 0;
+    let mut end = rest_end(rest, from, size);
+    while from < end && end < rest.len() {
+        to.take(&rest[from..end])?;
+        from = end;
+        end = rest_end(rest, from, size);
+    }
+    if end < rest.len() {
+        return Ok(false);
+    }
+    to.take(&rest[from..])?;
+    Ok(true)
+}
+
+// Where the piece that begins at `from` ends; at `from` where there is none, though there are bytes.
+#[tactic(auto, using(crate::proofs::Sizes::ends))]
+fn rest_end(bytes: &[u8], from: usize, size: Size) -> usize
     requires { from ≤ length bytes.now }
     ensures after { from ≤ result }
     ensures within { result ≤ length bytes.now }
-    ensures may { cut.MayBeCut (drop from bytes.now) (result - from) }
+    ensures cuts { from < result → result < length bytes.now → CutsOff (drop from bytes.now) (result - from) }
+    ensures size { from < result → result < length bytes.now → IsWithin size.records size.bytes (take (result - from) (drop from bytes.now)) }
+    ensures whole { result ≡ length bytes.now → IsWithin size.records size.bytes (drop from bytes.now) }
+    ensures long { from ≡ result → result < length bytes.now → from + size.bytes < length bytes.now }
+    ensures none { from ≡ result → result < length bytes.now → NoneUpTo (drop from bytes.now) size.bytes }
 {
-    let mut records = size.records;
-    let mut end = cut_after(bytes, from, records);
-    while end - from > size.bytes && records > 1 {
-        records /= 2;
-        end = cut_after(bytes, from, records);
+    let rest = &bytes[from..];
+    let most = size.bytes.min(rest.len());
+    let end = piece_end(rest, size.records, most);
+    if end.full {
+        return from + end.place;
     }
-    end
+    if rest.len() > size.bytes {
+        from + end.place
+    } else {
+        bytes.len()
+    }
 }

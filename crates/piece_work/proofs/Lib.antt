@@ -1,5 +1,3 @@
+pub mod Blocks
 pub mod Decided
 pub mod Fetches
-pub mod FileByFile
-pub mod Firsts
-pub mod Joins

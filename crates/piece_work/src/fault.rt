@@ -11,7 +11,7 @@ pub enum WorkFault {
     Absent,
     /// A file could not be read.
     Unread,
-    /// A file has more bytes than are read.
+    /// A file has more bytes than are read, or a piece of it would have more than a piece may have.
     Large,
     /// There was no memory.
     NoMemory,
@@ -19,7 +19,8 @@ pub enum WorkFault {
     Unwritten,
     /// The program is refused.
     Program,
-    /// A file is not what a run of the program prints.
+    /// A file is not what a run of the program prints, or has fewer bytes than were read of it
+    /// before.
     Other,
 }
 

@@ -1,13 +1,13 @@
 //! Laws over the definitions alone.
-ghost use Rattle.piece_work.specs.Faults.{FilesDecide, SplitsDecide};
+ghost use Rattle.piece_work.specs.Faults.{FileDecides, ReadDecides};
 
-/// Over files that are told, and where no count rose, the files decide why they are not all split,
-/// but for want of memory.
-pub fn files_decide()
-    ensures { FilesDecide }
+/// Over files that are told, and where no count rose, the file decides why it is not read, but for
+/// want of memory.
+pub fn file_decides()
+    ensures { FileDecides }
 {}
 
-/// And where all have a split, nothing but want of memory is left.
-pub fn splits_decide()
-    ensures { SplitsDecide }
+/// And where it is read, nothing but want of memory is left.
+pub fn read_decides()
+    ensures { ReadDecides }
 {}

@@ -1,7 +1,9 @@
 pub mod Done
+pub mod Driver
 pub mod Found
 pub mod Ran
 pub mod Refused
+pub mod Tells
 pub mod Tool
 pub mod Whole
 pub mod Words

@@ -1,3 +1,4 @@
+pub mod Driver
 pub mod Ran
 pub mod Refused
 pub mod Tool

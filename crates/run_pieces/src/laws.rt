@@ -3,6 +3,7 @@ ghost use Rattle.std.specs.Prelude.{◌≡◌, ℕ, List};
 ghost use Rattle.river_outside.specs.Causes.{Rose};
 ghost use Rattle.river_cli.specs.Does.{Does};
 ghost use Rattle.river_cli.specs.Points.{points_of};
+ghost use Rattle.run_pieces.specs.Driver.{AgainStaysUnderWay, DriverGivesTheWhole, DriverTellsTheWhole};
 ghost use Rattle.run_pieces.specs.Ran.{WordsAsk, WordsAskForNoScript, RunsPrint, RunsAreDone, RanPrints, GivesRun};
 ghost use Rattle.run_pieces.specs.Refused.{RunsTellFaults, RefusalsAreFaults, GivesRefusal, FirstRefusalIsTheWholes};
 ghost use Rattle.run_pieces.specs.Tool.{ToolGivesTheWhole, ToolGivesTheGrown};
@@ -44,17 +45,17 @@ pub fn status_0_is_a_run<S: Shelf, O: Sink, E: Sink>()
         → GivesRun words (S.held shelf) (O.taken out) (O.taken out') }
 {}
 
-/// Calls on the pieces of a file, and calls that merge their tables, write what the program means for the whole file.
+/// What is merged of what calls on the pieces of a file wrote is what the program means for the whole file.
 pub fn river_gives_the_whole()
     ensures { RiverGivesTheWhole }
 {}
 
-/// So do the calls that cut a file and split what was printed, with those of `river` between them.
+/// So it is for the pieces that are taken of a file.
 pub fn tool_gives_the_whole()
     ensures { ToolGivesTheWhole }
 {}
 
-/// And so do those on what a file has grown by, with what is kept of its old part.
+/// And so for those of what a file has grown by, with what is kept of its old part.
 pub fn tool_gives_the_grown()
     ensures { ToolGivesTheGrown }
 {}
@@ -81,4 +82,19 @@ pub fn status_1_is_a_refusal<S: Shelf, O: Sink, E: Sink>()
 /// The fault that the first refused call tells is that of the whole file, with the record's number in it.
 pub fn first_refusal_is_the_wholes()
     ensures { FirstRefusalIsTheWholes }
+{}
+
+/// What the program `pieces` writes to be printed is what the program means for the whole file, where jobs that came whole are calls of `river`.
+pub fn driver_gives_the_whole()
+    ensures { DriverGivesTheWhole }
+{}
+
+/// Where some jobs are to be run once more, the work is still under way.
+pub fn again_stays_under_way()
+    ensures { AgainStaysUnderWay }
+{}
+
+/// What it tells of a refused job is the fault that the whole file has, with the record's number in it, or what the job told.
+pub fn driver_tells_the_whole()
+    ensures { DriverTellsTheWhole }
 {}

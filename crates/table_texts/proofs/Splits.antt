@@ -7,7 +7,7 @@ use Rattle.std.proofs.Math.Seq.{take-append_seam}
 use Rattle.river_plan.specs.declared.plan.TableDecl.{TableDecl}
 use Rattle.river_plan.specs.Forms.{table_names}
 use Rattle.csv_streams.specs.Outcome.{under_name}
-use Rattle.table_texts.specs.Split.{HasNoName, IsSplit, section_at, rows_of_table, StartsName, SaysNoSplit, SaysNoLine, IsNext}
+use Rattle.table_texts.specs.Split.{HasNoName, IsSplit, StartsName, SaysNoSplit, SaysNoLine, IsNext}
 use Rattle.table_texts.specs.declared.split.NoSplit.{NoSplit}
 use Rattle.table_texts.specs.declared.split.NoSplit.TheVariants as why
 use Rattle.table_texts.proofs.OneSplit.{one-back, one-line}
@@ -178,29 +178,3 @@ split-last tables out i place sections l e front = subst (IsSplit (table_names t
       (record { is = drop_of_length-le out (omega (arith, e)); are = tt })
 
 pub ruleset fronts = (split-first, split-next, split-last, split-none, split-over)
-
--- TABLE BY TABLE
-
-pub section-none : (k : ℕ) (ss : List (List ℕ)) → length ss ≤ k → section_at k ss ≡ []
-section-none k [] h = refl
-section-none zero (s ∷ ss) h = absurd (omega (arith, h))
-section-none (suc k) (s ∷ ss) h = section-none k ss (omega (arith, h))
-
-pub section-some : (k : ℕ) (ss : List (List ℕ)) (d : List ℕ) → k < length ss → section_at k ss ≡ get_or ss k d
-section-some k [] d h = absurd (omega (arith, h))
-section-some zero (s ∷ ss) d h = refl
-section-some (suc k) (s ∷ ss) d h = section-some k ss d (omega (arith, h))
-
-pub ruleset places = (section-none, section-some)
-
--- the texts of one run more
-pub rows-next : (k : ℕ) (splits : List (List (List ℕ))) (i : ℕ) (d : List (List ℕ)) (old : List ℕ) → i < length splits
-    → (old ++ section_at k (get_or splits i d)) ++ rows_of_table k (drop (i + 1) splits) ≡ old ++ rows_of_table k (drop i splits)
-rows-next k splits i d old l =
-    append_assoc old (section_at k (get_or splits i d)) (rows_of_table k (drop (i + 1) splits))
-    ∙ ap (λ (s : List (List (List ℕ))). old ++ rows_of_table k s) (sym (drop_more splits i d l))
-
-pub rows-end : (k : ℕ) (splits : List (List (List ℕ))) (i : ℕ) → length splits ≤ i → rows_of_table k (drop i splits) ≡ []
-rows-end k splits i l = ap (rows_of_table k) (drop_of_length-le splits l)
-
-pub ruleset rows = (rows-next, rows-end, append-nil, append_assoc)

@@ -1,8 +1,7 @@
 -- What a run prints of tables is split at the lines of their names.
-use Rattle.std.specs.Prelude.{◌≡◌, ⊤, ℕ, zero, suc, ◌==◌, true, false, List, [], ◌∷◌, ◌++◌, map}
+use Rattle.std.specs.Prelude.{◌≡◌, ⊤, ℕ, ◌==◌, true, false, List, [], ◌∷◌, ◌++◌}
 use Rattle.river_plan.specs.Forms.{Name}
 use Rattle.csv_streams.specs.Outcome.{under_name}
-use Rattle.kern_tables.specs.Pieces.{joined}
 use Rattle.table_texts.specs.declared.split.NoSplit.{NoSplit}
 use Rattle.table_texts.specs.declared.split.NoSplit.TheVariants as fault
 
@@ -34,16 +33,6 @@ AreSplit names [] [] = ⊤
 AreSplit names [] (x ∷ xs) = ⊥
 AreSplit names (o ∷ os) [] = ⊥
 AreSplit names (o ∷ os) (x ∷ xs) = IsSplit names o x × AreSplit names os xs
-
--- the text of the table at this place
-abbrev pub section_at : ℕ → List (List ℕ) → List ℕ
-section_at k [] = []
-section_at zero (s ∷ ss) = s
-section_at (suc k) (s ∷ ss) = section_at k ss
-
--- what all runs printed of the table at this place, one behind another
-abbrev pub rows_of_table : ℕ → List (List (List ℕ)) → List ℕ
-rows_of_table k splits = joined (map (section_at k) splits)
 
 -- nothing, or a text that begins with a #
 abbrev pub StartsName : List ℕ → Type 0

@@ -1,0 +1,11 @@
+pub mod Piece
+pub mod Whole
+pub mod Text
+pub mod Files
+pub mod Values
+pub mod Tool
+pub mod Beginning
+pub mod Lead
+pub mod Every
+pub mod Numbers
+pub mod Moved

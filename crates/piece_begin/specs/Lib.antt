@@ -1,0 +1,4 @@
+pub mod Begun
+pub mod Faults
+pub mod Laid
+pub mod Printed

@@ -1,0 +1,11 @@
+//! The top call of pieces: what the program does, over a shelf, a work folder and two sinks that are handed in.
+#![tactic(auto)]
+
+mod command;
+pub mod laws;
+mod number;
+mod tell;
+mod top;
+
+pub use command::{Command, command_of, folder_of};
+pub use top::pieces;

@@ -1,0 +1,4 @@
+pub mod Decimals
+pub mod Folders
+pub mod JobInputs
+pub mod Names

@@ -1,0 +1,4 @@
+pub mod Counts
+pub mod Held
+pub mod Inputs
+pub mod Names

@@ -1,0 +1,11 @@
+pub mod Came
+pub mod Fetched
+pub mod Jobs
+pub mod Looked
+pub mod Merged
+pub mod Next
+pub mod Plan
+pub mod Progress
+pub mod Told
+pub mod UnderWay
+pub mod Verdict

@@ -1,0 +1,5 @@
+pub mod Added
+pub mod Adding
+pub mod Once
+pub mod Records
+pub mod Sections
