@@ -102,7 +102,7 @@ again_stays_under_way text header pieces w (Some v) u n =
     let p = progress-is text header pieces w n.progress u n.reads in
     let retried = n.follows.3 in
     let few = n.follows.0 in (
-      tt,
+      refl,
       record {
         program = retried.others Program (λ e. cc e) (λ e. cc e) ∙ u.program;
         inputs = inputs-stay w v 1 pieces (λ job. retried.others (Input job) (λ e. cc e) (λ e. cc e)) u.inputs;

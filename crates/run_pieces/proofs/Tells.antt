@@ -85,6 +85,13 @@ records-are w k (x ∷ xs) h =
     let sum : (a b c d : ℕ) → b ≡ a + c → b + d ≡ a + (c + d) = λ a b c d e. omega (arith, e) in
     ap (records_held w) j ∙ more ∙ sum (records_held w k) (records_held w (suc k)) (length (csv_records x)) (records_of xs) here
 
+-- so many from the first on
+records-first : (w : HeldFiles) (before : List (List ℕ)) → HaveInputs w 1 before → records_held w (length before) ≡ records_of before
+records-first w before h =
+    let a : length before ≡ 0 + length before = omega arith in
+    let b : 0 + records_of before ≡ records_of before = omega arith in
+    ap (records_held w) a ∙ records-are w 0 before h ∙ b
+
 -- the header belongs to the first
 header-is : (header : Bool) (before : List (List ℕ)) (place : ℕ) → length before ≡ place → has_header header (place + 1) ≡ header_behind header before
 header-is true [] place many = ap (λ (n : ℕ). has_header true (n + 1)) (sym many)
@@ -153,6 +160,6 @@ driver_tells_the_whole text bytes header pieces w w' told cut u calls n = by n.f
       (subst (λ (ps : List (List ℕ)). AreCut bytes header ps) p.is cut) (all-printed text header p.before (outs_of w 1 verdict.before) runs)
       (file-fault text pieces header w place f u p has') has.of_record in
       let inputs = front-inputs w 1 p.before (p.piece ∷ p.after) (subst (HaveInputs w 1) p.is u.inputs) in
-      let records : records_held w place ≡ records_of p.before = ap (records_held w) (sym p.many) ∙ records-are w 0 p.before inputs in
+      let records : records_held w place ≡ records_of p.before = ap (records_held w) (sym p.many) ∙ records-first w p.before inputs in
       OfTheWhole (moved (records_of p.before) f) whole (moved-record (records_of p.before) f has.of_record)
       (e ∙ ap (λ (k : ℕ). told_of (moved k f)) records)
