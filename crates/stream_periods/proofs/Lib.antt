@@ -1,0 +1,12 @@
+pub mod Balance
+pub mod Examples
+pub mod Filters
+pub mod Joiners
+pub mod Late
+pub mod Numbers
+pub mod Plain
+pub mod Settled
+pub mod Splitters
+pub mod Texts
+pub mod Walk
+pub mod Whole

@@ -1,0 +1,3 @@
+pub mod ByPlan
+pub mod Faults
+pub mod Files
