@@ -1,16 +1,15 @@
 -- What is told where no choice is left is the journal.
-use Rattle.std.proofs.Common.{◌^◌, ◌≡◌, ℕ, ℤ, zero, suc, ◌<◌, ◌≤◌, true, Some, List, [], ◌∷◌, length, refl, sym, ap, ◌∙◌, subst, arith}
+use Rattle.std.proofs.Common.{◌≡◌, ℕ, ℤ, zero, suc, ◌<◌, ◌≤◌, true, Some, List, [], ◌∷◌, length, refl, sym, ap, ◌∙◌, subst, arith}
 use Rattle.std.specs.Prelude.{slice_get}
 use Rattle.std.proofs.lemmas.Bool.{and_parts}
 use Rattle.work_code.specs.Steps.{BodyForm}
-use Rattle.river_base.specs.declared.item.Item as item
 use Rattle.river_plan.specs.Forms.{Name}
 use Rattle.free_model.specs.Apart.{Every, IsApart, AreApart, Ready}
 use Rattle.free_model.specs.Forms.{FreeOpForm, FreeForm}
 use Rattle.free_model.specs.Valid.{IsFree, IsFit, EachFree, is_case, are_cases}
-use Rattle.free_model.specs.Machine.{State, Step, Run, fired, start}
-use Rattle.free_model.specs.Rounds.{choices, round_of, pick_at, Rounds, journal_of, IsJournal}
-use Rattle.free_model.specs.Told.{after_firing, after_all, Told, one_more, told_round, told, all_told, RoundsFire, ToldIsJournal}
+use Rattle.free_model.specs.Machine.{State, Step, Run, fired}
+use Rattle.free_model.specs.Rounds.{choices, round_of, pick_at, Rounds}
+use Rattle.free_model.specs.Told.{after_firing, after_all, Told, one_more, told_round, told, RoundsFire}
 use Rattle.free_model.proofs.Firings.{ready_after}
 use Rattle.free_model.proofs.Kept.{round_apart, round_ready}
 use Rattle.free_model.proofs.Lists.{every_map}
@@ -29,7 +28,7 @@ body_there p op (r ∷ qs) (b ∷ bs) zero q h g = (b, refl)
 body_there p op (r ∷ qs) (b ∷ bs) (suc port) q h g = body_there p op qs bs port q (and_parts (is_case p op r b) (are_cases p op qs bs) h).1 g
 
 -- what is ready can fire
-ready_fires : (p : FreeForm) → IsFree p → (s : State) (e : ℕ × ℕ) → Ready p s e → Step p s e.0 e.1 (after_firing p s e)
+pub ready_fires : (p : FreeForm) → IsFree p → (s : State) (e : ℕ × ℕ) → Ready p s e → Step p s e.0 e.1 (after_firing p s e)
 ready_fires p v s e r =
     let b = body_there p r.op r.op.reads r.op.cases e.1 r.queue (fit_at (IsFit p) p.ops e.0 r.op v.fits r.op_is).cases r.queue_is in
     let n : State = fired r.op b.0 r.queue r.item s in
@@ -48,7 +47,8 @@ all_fire p v (e ∷ es) s r a =
 pub rounds_fire : RoundsFire
 rounds_fire p workers pick s v = all_fire p v (round_of p workers pick s) s (round_ready p workers pick s) (round_apart p workers pick s)
 
-told_back : (p : FreeForm) (workers : ℕ) (picks : List ℤ) (n r : ℕ) (s : State) → IsFree p → choices p (told p workers picks n r s).last ≡ []
+-- what is told are the rounds, where no choice is left then
+pub told_back : (p : FreeForm) (workers : ℕ) (picks : List ℤ) (n r : ℕ) (s : State) → IsFree p → choices p (told p workers picks n r s).last ≡ []
     → Rounds p workers picks r s (told p workers picks n r s).rounds (told p workers picks n r s).last
 told_back p workers picks zero r s v h = (refl, h)
 told_back p workers picks (suc n) r s v h =
@@ -68,8 +68,3 @@ told_back p workers picks (suc n) r s v h =
     by (c ∷ cs) e k i =
         let l = ap length e in
         (omega (arith, l), refl, (after_all p s es, rounds_fire p workers (pick_at picks r) s v, i k))
-
-pub told_is_journal : ToldIsJournal
-unfolding all_told
-told_is_journal p workers picks inputs v h =
-    record { rounds = (told p workers picks (2 ^ 64) 0 (start p inputs)).rounds; follows = told_back p workers picks (2 ^ 64) 0 (start p inputs) v h; journal_is = refl }

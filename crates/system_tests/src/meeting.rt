@@ -1,4 +1,4 @@
-// Two operators on two workers: each is to begin its first firing while the other's is held.
+// Operators on workers and on tasks of their own: each is to begin its first firing while those of the others are held.
 ghost use Rattle.std.specs.Thread.{IsSync};
 
 use river_base::{Gate, Text};
@@ -72,51 +72,106 @@ out
 end
 ";
 
-/// Holds the first firing of each of two operators until the other was entered.
+// Three operators by tasks that wait.
+const THREE: &str = "\
+cases 1
+case three operators meet
+words run river three.river a=a.csv b=b.csv e=e.csv -L
+file three.river
+| output c: rows(1);
+| output d: rows(1);
+| output g: rows(1);
+| input a: rows(1);
+| input b: rows(1);
+| input e: rows(1);
+| op f: (c) <- (a) { code(1, 0) (1) () { push 0 ((input[0] + 1)); } }
+| op h: (d) <- (b) { code(1, 0) (1) () { push 0 ((input[0] * 2)); } }
+| op k: (g) <- (e) { code(1, 0) (1) () { push 0 ((input[0] - 1)); } }
+file a.csv
+| 1
+| 2
+file b.csv
+| 5
+| 6
+file e.csv
+| 8
+| 9
+status 0
+out
+| # c
+| 2
+| 3
+| # d
+| 10
+| 12
+| # g
+| 7
+| 8
+end
+";
+
+/// Holds the first firing of each of two or three operators until the others were entered.
 #[derive(Drop)]
 pub(crate) struct Meeting {
     first: AtomicU64,
     second: AtomicU64,
+    // Where there are but two, as if it had been entered.
+    third: AtomicU64,
     // How many gave up.
     missed: AtomicU64,
 }
 
 impl Meeting {
-    fn new() -> Self {
+    fn of_two() -> Self {
         Meeting {
             first: AtomicU64::new(0),
             second: AtomicU64::new(0),
+            third: AtomicU64::new(1),
             missed: AtomicU64::new(0),
         }
     }
 
-    // Holds the first firing of one until the other was entered, or all turns are over.
-    fn hold(&self, own: &AtomicU64, other: &AtomicU64) {
+    fn of_three() -> Self {
+        Meeting {
+            first: AtomicU64::new(0),
+            second: AtomicU64::new(0),
+            third: AtomicU64::new(0),
+            missed: AtomicU64::new(0),
+        }
+    }
+
+    // Whether each was entered.
+    fn all_entered(&self) -> bool {
+        self.first.load(Ordering::SeqCst) == 1
+            && self.second.load(Ordering::SeqCst) == 1
+            && self.third.load(Ordering::SeqCst) == 1
+    }
+
+    // Holds the first firing of one until the others were entered, or all turns are over.
+    fn hold(&self, own: &AtomicU64) {
         if own.swap(1, Ordering::SeqCst) == 1 {
             return;
         }
         for _turn in 0..TURNS {
-            if other.load(Ordering::SeqCst) == 1 {
+            if self.all_entered() {
                 return;
             }
         }
         self.missed.fetch_add(1, Ordering::SeqCst);
     }
 
-    /// Whether both were entered, and none gave up.
+    /// Whether all were entered, and none gave up.
     pub fn has_met(&self) -> bool {
-        self.first.load(Ordering::SeqCst) == 1
-            && self.second.load(Ordering::SeqCst) == 1
-            && self.missed.load(Ordering::SeqCst) == 0
+        self.all_entered() && self.missed.load(Ordering::SeqCst) == 0
     }
 }
 
 impl Gate for Meeting {
     fn enter(&self, op: u32) {
-        if op == 0 {
-            self.hold(&self.first, &self.second)
-        } else {
-            self.hold(&self.second, &self.first)
+        match op {
+            0 => self.hold(&self.first),
+            1 => self.hold(&self.second),
+            _ => self.hold(&self.third),
         }
     }
 }
@@ -129,10 +184,17 @@ pub(crate) struct Meets {
 }
 
 impl Meets {
-    pub fn new(alloc: Global) -> Self {
+    pub fn of_two(alloc: Global) -> Self {
         Meets {
             alloc,
-            gate: Meeting::new(),
+            gate: Meeting::of_two(),
+        }
+    }
+
+    fn of_three(alloc: Global) -> Self {
+        Meets {
+            alloc,
+            gate: Meeting::of_three(),
         }
     }
 }
@@ -154,7 +216,7 @@ impl Runner for Meets {
 
 #[test]
 fn two_must_meet(rt: HostRuntime) -> Result<(), Fail> {
-    let top = Meets::new(rt.alloc());
+    let top = Meets::of_two(rt.alloc());
     assert!(rt; go_through(&rt, rt.alloc(), &top, TWO)?);
     assert!(rt; top.gate.has_met());
     Ok(())
@@ -163,8 +225,17 @@ fn two_must_meet(rt: HostRuntime) -> Result<(), Fail> {
 /// Each of the two has a thread of its own, and begins its first firing while the other's is held.
 #[test]
 fn two_live(rt: HostRuntime) -> Result<(), Fail> {
-    let top = Meets::new(rt.alloc());
+    let top = Meets::of_two(rt.alloc());
     assert!(rt; go_through(&rt, rt.alloc(), &top, LIVE)?);
+    assert!(rt; top.gate.has_met());
+    Ok(())
+}
+
+/// Each of three has a thread of its own: two threads would leave one of them out.
+#[test]
+fn three_live(rt: HostRuntime) -> Result<(), Fail> {
+    let top = Meets::of_three(rt.alloc());
+    assert!(rt; go_through(&rt, rt.alloc(), &top, THREE)?);
     assert!(rt; top.gate.has_met());
     Ok(())
 }
