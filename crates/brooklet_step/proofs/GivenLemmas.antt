@@ -121,7 +121,8 @@ pub ran_more : (k : Kern) (ss : List Kept) (w : Word) (p : ℕ) (x : item.Item)
     → Same (ran_from k ss (w ++ (p, x) ∷ [])) (and_then (ran_from k ss w) (fire k p x (ran_from k ss w).states))
 ran_more k ss w p x = run_more (fire k) w p x ss
 
-all_right : (P : item.Item → Type 0) (xs ys : List item.Item) → All P (xs ++ ys) → All P ys
+-- what holds of two lists in a row holds of the second
+pub all_right : (P : item.Item → Type 0) (xs ys : List item.Item) → All P (xs ++ ys) → All P ys
 all_right P [] ys h = h
 all_right P (x ∷ xs) ys h = all_right P xs ys (All-tail P x (xs ++ ys) h)
 
@@ -303,7 +304,8 @@ simple_from (streamer s) is ss st w l h = absurd l
 simple_from (fused a b at) is ss st w l h = absurd l
 simple_from kernel is ss st w l h = h
 
-shape_ran : (k : Kern) (w : Word) (ss : List Kept) → IsShaped k → HasShape k ss → HasShape k (run (fire k) w ss).states
+-- a run keeps the shape of the states
+pub shape_ran : (k : Kern) (w : Word) (ss : List Kept) → IsShaped k → HasShape k ss → HasShape k (run (fire k) w ss).states
 shape_ran k [] ss s h = h
 shape_ran k (e ∷ es) ss s h = shape_ran k es (fire k e.0 e.1 ss).states s (fire_shape k e.0 e.1 ss s h)
 

@@ -150,7 +150,7 @@ packed_does j port i st st' out out' e e' items fs b f ei ef took = record {
 -- TWO KERNELS
 
 -- what the queues of both kernels hold is what the queues of the two as one hold
-splice_held : (ms bs : List QueueType) (at p : ℕ) (P R Q S : ℕ → List item.Item) → at < length ms
+pub splice_held : (ms bs : List QueueType) (at p : ℕ) (P R Q S : ℕ → List item.Item) → at < length ms
     → splice at (length bs) (λ q. held_at ms q (P q) (R q)) (λ q. held_at bs q (Q q) (S q)) p ≡ held_at (spliced at ms bs) p (splice at (length bs) P Q p)
     (splice at (length bs) R S p)
 splice_held ms bs at p P R Q S lt =

@@ -2,6 +2,7 @@ pub mod BagLeaves
 pub mod Counted
 pub mod CrossFires
 pub mod DealFires
+pub mod EachFused
 pub mod Edges
 pub mod Fires
 pub mod FitsLemmas
@@ -18,6 +19,7 @@ pub mod KindLemmas
 pub mod Leaves
 pub mod Moved
 pub mod Moving
+pub mod NestedJoin
 pub mod NextLemmas
 pub mod OnePort
 pub mod Ones

@@ -43,7 +43,8 @@ can_length k port i st out t = fit_length k t.reads st t.fitting.state
 pub some_state : (k j : Kern) (port : ℕ) (i : item.Item) (st : List State) (out : Emit) → k ≡ j → privates j ≡ 1 → CanTake k port i st out → 0 < length st
 some_state k j port i st out e one t = let l = can_length j port i st out (same_can k j port i st out e t) in omega (arith, l, one)
 
-only_one : (st : List State) (d s : State) → length st ≡ 1 → s ≡ get_or st 0 d → st ≡ s ∷ []
+-- a list of one state
+pub only_one : (st : List State) (d s : State) → length st ≡ 1 → s ≡ get_or st 0 d → st ≡ s ∷ []
 only_one [] d s l e = absurd (omega (arith, l))
 only_one (t ∷ []) d s l e = ap (λ (u : State). u ∷ []) (sym e)
 only_one (t ∷ u ∷ st) d s l e = absurd (omega (arith, l))

@@ -13,13 +13,13 @@ use Rattle.river_base.specs.declared.kind.FlatType.{FlatType}
 use Rattle.river_base.specs.declared.kind.FlatType.TheVariants.{Relation}
 use Rattle.river_base.specs.declared.kind.QueueType.{QueueType}
 use Rattle.river_base.specs.declared.kind.QueueType.TheVariants.{Flat as FlatOf}
-use Rattle.river_base.specs.Changes.{IsChanged}
 use Rattle.river_base.specs.Places.{only, none, list_at}
 use Rattle.work_code.specs.Term.{Term}
-use Rattle.kern_bags.specs.Following.{CrossKept, CrossSteps, IsCrossOf, as_changes, put_change}
+use Rattle.kern_bags.specs.Following.{CrossKept, CrossSteps, as_changes, put_change}
 use Rattle.kern_bags.specs.Joined.{kept_of, CanJoinChanges, CanJoinFlat, JoinsFlat}
 use Rattle.kern_bags.proofs.Stepping.{selects, select_fits}
-use Rattle.river_kernels.specs.Fits.{relation, width_of}
+use Rattle.river_kernels.specs.declared.types.VarKind.{VarKind}
+use Rattle.river_kernels.specs.Fits.{Fits, relation, width_of}
 use Rattle.river_kernels.specs.Formed.{is_term}
 use Rattle.river_kernels.specs.Kern.{Kern, cross, select, fused}
 use Rattle.brooklet_model.specs.Firings.{gives, splice, beside}
@@ -29,18 +29,15 @@ use Rattle.brooklet_step.specs.declared.state.State.{State}
 use Rattle.brooklet_step.specs.declared.state.State.TheVariants as state
 use Rattle.brooklet_step.specs.Stands.{IsChange}
 use Rattle.brooklet_step.specs.Took.{Took}
-use Rattle.brooklet_step.specs.Given.{IsHeldOf, FitCross, CanTake, FiresAt, FiresEach}
-use Rattle.brooklet_step.proofs.BagLeaves.{flat_changed, cross_item, read_type}
-use Rattle.brooklet_step.proofs.CrossFires.{same_crossing, put_wide, cross_flat_does}
+use Rattle.brooklet_step.specs.Given.{IsHeldOf, FitCross, FitState, CanTake, FiresAt, FiresEach}
+use Rattle.brooklet_step.specs.Joins.{one_port, CanKeep, KeptPairs}
+use Rattle.brooklet_step.proofs.BagLeaves.{cross_item, read_type}
+use Rattle.brooklet_step.proofs.CrossFires.{put_wide, cross_flat_does}
 use Rattle.brooklet_step.proofs.Fused.{Parts}
-use Rattle.brooklet_step.proofs.GivenCode.{first_taken, both_fire}
+use Rattle.brooklet_step.proofs.GivenCode.{both_fire}
 use Rattle.brooklet_step.proofs.GivenFires.{each_start, each_step}
 use Rattle.brooklet_step.proofs.OnePort.{one_list}
 use Rattle.brooklet_step.proofs.RowwiseFires.{select_does}
-
--- lists for the changes that one output port gives
-abbrev one_port : List Change → Emit
-one_port ds = record { outs = as_changes ds ∷ []; adds = [] }
 
 abbrev join : Term → ℕ → Kern
 join e at = fused cross (select e) at
@@ -51,47 +48,91 @@ parts e at s = record { kernel = refl; counted = refl; front = refl; back = refl
 same_some : (a b : QueueType) → Some a ≡ Some b → a ≡ b
 same_some a b e = cc
 
+same_change : (c d : Change) → Changed c ≡ Changed d → c ≡ d
+same_change c d e = cc
+
 same_types : (t : FlatType) (n : ℕ) (m : QueueType) → m ∷ [] ≡ FlatOf t ∷ [] → relation n ≡ m → t ≡ Relation n
 same_types t n m e g = let h : FlatOf t ∷ [] ≡ relation n ∷ [] = sym e ∙ ap (λ q. q ∷ []) (sym g) in cc
 
+same_state : (s t : State) → s ∷ [] ≡ t ∷ [] → s ≡ t
+same_state s t e = cc
+
+-- what the state of a product can take, where a selection stands behind the product
+pub can_keep : (e : Term) (at port : ℕ) (i : item.Item) (s : State) (reads ms : List QueueType) (m : QueueType) (us : List VarKind) (bs : List QueueType)
+    (ws : List VarKind)
+    → at ≡ 0 → Fits cross reads ms us → slice_get ms at ≡ Some m → Fits (select e) (m ∷ []) bs ws → FitState cross reads (s ∷ []) → IsHeldOf reads port i
+    → CanKeep e port i s
+can_keep e at port i s reads ms m us bs ws z f g k fs hi =
+    let n = f.0 + f.1 in
+    let it = cross_item port i s (one_port []) (record {
+      reads = reads;
+      fitting = record { writes = ms; vars = us; fits = f; state = fs };
+      item = hi;
+      room = record { outs = refl; adds = refl };
+    }) in
+    let h : FitCross (relation f.0 ∷ relation f.1 ∷ []) (s ∷ []) = subst (λ l. FitCross l (s ∷ [])) f.2 fs in
+    let here : IsHeldOf (relation f.0 ∷ relation f.1 ∷ []) port (Flat (Changed it.change)) =
+    subst (λ x. IsHeldOf (relation f.0 ∷ relation f.1 ∷ []) port x) it.is (subst (λ l. IsHeldOf l port i) f.2 hi) in
+    let mid : Some (relation n) ≡ Some m = (λ j. slice_get (sym f.3 j) (sym z j)) ∙ g in
+    let kind : k.0 ≡ Relation n = same_types k.0 n m k.1 (same_some (relation n) m mid) in
+    let reads_all : is_term n 0 e ≡ true = read_type k.0 n e k.4 (ap width_of kind) in
+    record {
+      now = h.now;
+      change = it.change;
+      code = same_state s (state.Cross h.now) h.code;
+      is = it.is;
+      can = record { left = f.0; right = f.1; wide = put_wide f.0 f.1 port it.change h.now here (h.wide f.0 f.1 refl); reads = term_within n 0 e reads_all };
+    }
+
 module _ (e : Term) (at port : ℕ) (i : item.Item) (s : State) (out : Emit) (t : CanTake (join e at) port i (s ∷ []) out) where
   -- it is behind the only port
-  pub join_at : at ≡ 0
+  join_at : at ≡ 0
   join_at = let h = (shaped (join e at) t.reads t.fitting.writes t.fitting.vars t.fitting.fits).2 in omega (arith, h)
 
-  -- the product can take what comes
-  pub product_takes : CanTake cross port i (s ∷ []) (one_port [])
-  product_takes =
-      first_taken (join e at) cross (select e) at 1 port i (s ∷ []) (s ∷ []) [] out (one_port []) (parts e at s) t (record { outs = refl; adds = refl })
-
-  -- it is a change
-  pub join_item : IsChange i
-  join_item = cross_item port i s (one_port []) product_takes
+  -- the state can take what comes
+  pub join_can : CanKeep e port i s
+  join_can =
+      let f = t.fitting.fits in
+      can_keep e at port i s t.reads f.0 f.1 f.3 f.2 f.4 join_at f.5 f.6 f.7 t.fitting.state.0 t.item
 
   -- there is a list for what is given
   pub join_room : 0 < length out.outs
   join_room = one_list (join e at) out refl t.room
 
-  join_can : (now : CrossKept) (c : Change) → s ≡ state.Cross now → Flat (Changed c) ≡ i → CanJoinChanges e (put_change port c now)
-  join_can now c is g =
-      let f = t.fitting.fits.5 in
-      let k = t.fitting.fits.7 in
-      let m = t.fitting.fits.1 in
-      let n = f.0 + f.1 in
-      let h : FitCross (relation f.0 ∷ relation f.1 ∷ []) (s ∷ []) = subst (λ l. FitCross l (s ∷ [])) f.2 t.fitting.state.0 in
-      let was : IsCrossOf f.0 f.1 now = subst (IsCrossOf f.0 f.1) (same_crossing h.now now (sym h.code ∙ ap (λ u. u ∷ []) is)) (h.wide f.0 f.1 refl) in
-      let here : IsHeldOf (relation f.0 ∷ relation f.1 ∷ []) port (Flat (Changed c)) =
-      subst (λ x. IsHeldOf (relation f.0 ∷ relation f.1 ∷ []) port x) (sym g) (subst (λ l. IsHeldOf l port i) f.2 t.item) in
-      let mid : Some (relation n) ≡ Some m = (λ j. slice_get (sym f.3 j) (sym join_at j)) ∙ t.fitting.fits.6 in
-      let kind : k.0 ≡ Relation n = same_types k.0 n m k.1 (same_some (relation n) m mid) in
-      let reads : is_term n 0 e ≡ true = read_type k.0 n e k.4 (ap width_of kind) in
-      record { left = f.0; right = f.1; wide = put_wide f.0 f.1 port c now here was; reads = term_within n 0 e reads }
+-- WHAT COMES, IN THE TERMS OF THE CODE
+
+module _ (e : Term) (port : ℕ) (i : item.Item) (s : State) (k : CanKeep e port i s) where
+  -- it is a change
+  pub keep_item : IsChange i
+  keep_item = record { change = k.change; is = k.is }
 
   -- and can come
-  pub join_flat_can : (now : CrossKept) (g : flat.Flat) → s ≡ state.Cross now → Flat g ≡ i → CanJoinFlat e port g now
-  join_flat_can now g is h =
-      let k = flat_changed g i h join_item in
-      subst (λ x. CanJoinFlat e port x now) (sym k.is) (join_can now k.change is (ap (λ x. Flat x) (sym k.is) ∙ h))
+  pub keep_flat : (now : CrossKept) (g : flat.Flat) → s ≡ state.Cross now → Flat g ≡ i → CanJoinFlat e port g now
+  keep_flat now g is h =
+      let same : now ≡ k.now = let c = k.code in cc in
+      let f : g ≡ Changed k.change = let w = k.is in cc in
+      subst (λ x. CanJoinFlat e port x now) (sym f) (subst (λ n. CanJoinChanges e (put_change port k.change n)) (sym same) k.can)
+
+  -- what was given is told by the changes that the product gives
+  pub keep_pairs : (now now' : CrossKept) (g : flat.Flat) (items : List item.Item) (out out' : Emit) → s ≡ state.Cross now → Flat g ≡ i
+      → JoinsFlat e port g now now' [] items → Took out out' (gives 0 items []) → KeptPairs e port i out out' s (state.Cross now')
+  keep_pairs now now' g items out out' is h j took =
+      let f : g ≡ Changed k.change = let w = k.is in cc in
+      let d = j.each k.change f in
+      record {
+        whole = d.whole;
+        took = subst (λ (l : List item.Item). Took out out' (gives 0 l [])) d.grew took;
+        fires =
+            subst (λ (x : item.Item). FiresAt cross port x (one_port []) (one_port d.whole) (s ∷ []) (state.Cross now' ∷ [])) h
+            (subst (λ (x : State). FiresAt cross port (Flat g) (one_port []) (one_port d.whole) (x ∷ []) (state.Cross now' ∷ [])) (sym is)
+            (cross_flat_does port g (as_changes d.whole) now now' (one_port []) (one_port d.whole) (record { change = k.change; is = f }) (record {
+              each = λ c same. record {
+                given = d.whole;
+                grew = refl;
+                is = subst (λ y. CrossSteps (put_change port y now) now' d.whole) (same_change k.change c (sym f ∙ same)) d.is;
+              };
+            }) (record { outs = refl; adds = refl })));
+      }
 
 -- WHAT THE SELECTION GIVES
 
@@ -115,52 +156,42 @@ each_kept e done (c ∷ cs) f =
     subst (λ l. FiresEach (select e) (as_changes l) (one_port []) (one_port (map (kept_of e) l)) [] []) (append_assoc done (c ∷ []) cs)
     (each_kept e (done ++ c ∷ []) cs more)
 
+-- of the changes of a list, what is kept
+pub all_kept : (e : Term) (ds : List Change) → FiresEach (select e) (as_changes ds) (one_port []) (one_port (map (kept_of e) ds)) [] []
+all_kept e ds = each_kept e [] ds (each_start (select e) (one_port []) [])
+
 -- BOTH
 
-same_change : (c d : Change) → Changed c ≡ Changed d → c ≡ d
-same_change c d e = cc
-
-join_does : (e : Term) (port : ℕ) (f : flat.Flat) (items : List item.Item) (now now' : CrossKept) (out out' : Emit)
-    → CanTake (join e 0) port (Flat f) (state.Cross now ∷ []) out → IsChanged f → JoinsFlat e port f now now' [] items → Took out out' (gives 0 items [])
-    → FiresAt (join e 0) port (Flat f) out out' (state.Cross now ∷ []) (state.Cross now' ∷ [])
-join_does e port f items now now' out out' t k j took =
-    let g = j.each k.change k.is in
-    let ds = g.whole in
+join_does : (e : Term) (port : ℕ) (i : item.Item) (s s' : State) (out out' : Emit) → CanTake (join e 0) port i (s ∷ []) out → KeptPairs e port i out out' s s'
+    → FiresAt (join e 0) port i out out' (s ∷ []) (s' ∷ [])
+join_does e port i s s' out out' t k =
+    let ds = k.whole in
     let ks = map (kept_of e) ds in
     let one = t.room.outs in
     let no = t.room.adds in
-    let product : FiresAt cross port (Flat f) (one_port []) (one_port ds) (state.Cross now ∷ []) (state.Cross now' ∷ []) =
-    cross_flat_does port f (as_changes ds) now now' (one_port []) (one_port ds) k (record {
-      each = λ c same. record {
-        given = ds;
-        grew = refl;
-        is = subst (λ y. CrossSteps (put_change port y now) now' ds) (same_change k.change c (sym k.is ∙ same)) g.is;
-      };
-    }) (record { outs = refl; adds = refl }) in
-    let each = each_kept e [] ds (each_start (select e) (one_port []) []) in
-    both_fire (join e 0) cross (select e) 0 1 port (Flat f) (state.Cross now ∷ []) (state.Cross now ∷ []) [] (state.Cross now' ∷ []) [] out out' (one_port [])
-    (one_port ds) (parts e 0 (state.Cross now)) t (record { outs = refl; adds = refl }) product (record {
+    both_fire (join e 0) cross (select e) 0 1 port i (s ∷ []) (s ∷ []) [] (s' ∷ []) [] out out' (one_port [])
+    (one_port ds) (parts e 0 s) t (record { outs = refl; adds = refl }) k.fires (record {
       blank = one_port [];
       last = one_port ks;
       is_blank = record { outs = refl; adds = refl };
-      fires = each;
+      fires = all_kept e ds;
       outs =
-          took.outs
-          ∙ each_grew_cong out.outs (only 0 items) (splice 0 1 (list_at (as_changes ds ∷ [])) (list_at (as_changes ks ∷ []))) (λ p lt. at p (omega (arith, one, lt)));
-      adds = took.adds ∙ each_grew_cong out.adds none (beside 0 (list_at []) (list_at [])) (λ p lt. absurd (omega (arith, no, lt)));
+          k.took.outs
+          ∙ each_grew_cong out.outs (only 0 (as_changes ks)) (splice 0 1 (list_at (as_changes ds ∷ [])) (list_at (as_changes ks ∷ [])))
+          (λ p lt. at p (omega (arith, one, lt)));
+      adds = k.took.adds ∙ each_grew_cong out.adds none (beside 0 (list_at []) (list_at [])) (λ p lt. absurd (omega (arith, no, lt)));
     })
   where
     at : (p : ℕ) → p < 1
-        → only 0 items p
-        ≡ splice 0 1 (list_at (as_changes (j.each k.change k.is).whole ∷ [])) (list_at (as_changes (map (kept_of e) (j.each k.change k.is).whole) ∷ [])) p
-    at zero lt = (j.each k.change k.is).grew
+        → only 0 (as_changes (map (kept_of e) k.whole)) p
+        ≡ splice 0 1 (list_at (as_changes k.whole ∷ [])) (list_at (as_changes (map (kept_of e) k.whole) ∷ [])) p
+    at zero lt = refl
     at (suc p) lt = absurd (omega (arith, lt))
 
 -- what a product with a selection behind it gives is the firing of both
-pub join_flat_does : (e : Term) (at port : ℕ) (f : flat.Flat) (items : List item.Item) (now now' : CrossKept) (out out' : Emit)
-    → CanTake (join e at) port (Flat f) (state.Cross now ∷ []) out → IsChanged f → JoinsFlat e port f now now' [] items → Took out out' (gives 0 items [])
-    → FiresAt (join e at) port (Flat f) out out' (state.Cross now ∷ []) (state.Cross now' ∷ [])
-join_flat_does e at port f items now now' out out' t k j took =
-    let z = join_at e at port (Flat f) (state.Cross now) out t in
-    subst (λ n. FiresAt (join e n) port (Flat f) out out' (state.Cross now ∷ []) (state.Cross now' ∷ [])) (sym z)
-    (join_does e port f items now now' out out' (subst (λ n. CanTake (join e n) port (Flat f) (state.Cross now ∷ []) out) z t) k j took)
+pub join_fires : (e : Term) (at port : ℕ) (i : item.Item) (s s' : State) (out out' : Emit) → CanTake (join e at) port i (s ∷ []) out
+    → KeptPairs e port i out out' s s' → FiresAt (join e at) port i out out' (s ∷ []) (s' ∷ [])
+join_fires e at port i s s' out out' t k =
+    let z = join_at e at port i s out t in
+    subst (λ n. FiresAt (join e n) port i out out' (s ∷ []) (s' ∷ [])) (sym z)
+    (join_does e port i s s' out out' (subst (λ n. CanTake (join e n) port i (s ∷ []) out) z t) k)

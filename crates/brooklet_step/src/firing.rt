@@ -5,14 +5,16 @@ ghost use Rattle.river_base.specs.declared.item.Item.TheVariants.{Pack};
 ghost use Rattle.river_base.specs.declared.item.Flat.TheVariants as flat;
 ghost use Rattle.river_base.specs.Held.{flats as flats_in};
 ghost use Rattle.river_base.specs.Places.{list_at};
-ghost use Rattle.river_kernels.specs.Kern.{kern_of, packed, fused};
+ghost use Rattle.work_code.specs.Term.{term};
+ghost use Rattle.river_kernels.specs.Kern.{kern_of, packed, select, cross, fused};
 ghost use Rattle.brooklet_model.specs.Firings.{gives};
 ghost use Rattle.brooklet_step.specs.declared.emit.Emit.{Emit};
 ghost use Rattle.brooklet_step.specs.Took.{IsBlank, Took};
+ghost use Rattle.brooklet_step.specs.Joins.{BeginsWithSelection, IsSelection};
 ghost use Rattle.brooklet_step.specs.Given.{CanTake, CanTakeAll, CanTakeOn, FiresAt, FiresEach, TookOn};
 
 use crate::emit::{Emit, Spare};
-use crate::join::{fire_join, is_join};
+use crate::join::{fire_join, is_join, is_nested_join, kept_pairs};
 use crate::leaf::{filter_row, run_row};
 use crate::single::{fire_leaf, is_leaf};
 use crate::state::{State, States};
@@ -20,6 +22,7 @@ use kern_rows::ItemLine;
 use river_base::{Flat, Flats, Item, NoMemory, Row};
 use river_plan::Kernel;
 use std::alloc::Global;
+use work_code::Formula;
 
 /// An empty list for each port and table of a kernel.
 #[tactic(auto, using(crate::proofs::Counted::outs_told, crate::proofs::Counted::tabs_told))]
@@ -152,6 +155,9 @@ fn fire_on(
             if is_join(first, second) {
                 return fire_join(alloc, second, *at, port, item, states, out, spare);
             }
+            if is_nested_join(first, second) {
+                return fire_nested(alloc, second, *at, port, item, states, out, spare);
+            }
             fire_fused(alloc, first, second, *at, port, item, states, out, spare)
         }
         _ => unreachable!(),
@@ -206,6 +212,84 @@ fn give_pack(alloc: Global, given: &mut Emit, out: &mut Emit) -> Result<(), NoMe
     let mut line = given.take_port(alloc, 0);
     let pack = flats_of(alloc, &mut line)?;
     out.give(0, Item::Pack(pack))
+}
+
+// A firing of a product with two kernels as one behind it, of which the first is a selection.
+#[cycle(fire_on)]
+fn fire_nested(
+    alloc: Global,
+    second: &Kernel,
+    at: u32,
+    port: u32,
+    item: Item,
+    states: &mut [State],
+    out: &mut Emit,
+    spare: &mut Spare,
+) -> Result<(), NoMemory>
+    requires nested { BeginsWithSelection second.now }
+    requires can { CanTake (fused cross (kern_of second.now) at) port item states.old out.old }
+    ensures { OnOk result (FiresAt (fused cross (kern_of second.now) at) port item out.old out.new states.old states.new) }
+{
+    match second {
+        Kernel::Fused {
+            first,
+            second: third,
+            at: inner,
+        } => fire_selected(
+            alloc, first, third, *inner, at, port, item, states, out, spare,
+        ),
+        _ => unreachable!(),
+    }
+}
+
+// The same, the two kernels apart.
+#[cycle(fire_on)]
+fn fire_selected(
+    alloc: Global,
+    second: &Kernel,
+    third: &Kernel,
+    inner: u32,
+    at: u32,
+    port: u32,
+    item: Item,
+    states: &mut [State],
+    out: &mut Emit,
+    spare: &mut Spare,
+) -> Result<(), NoMemory>
+    requires selection { IsSelection second.now }
+    requires can { CanTake (fused cross (fused (kern_of second.now) (kern_of third.now) inner) at) port item states.old out.old }
+    ensures { OnOk result (FiresAt (fused cross (fused (kern_of second.now) (kern_of third.now) inner) at) port item out.old out.new
+        states.old states.new) }
+{
+    match second {
+        Kernel::Select(cond) => fire_third(
+            alloc, cond, third, inner, at, port, item, states, out, spare,
+        ),
+        _ => unreachable!(),
+    }
+}
+
+// The same. The third kernel fires on what the condition keeps of the pairs, and no other pair is made.
+#[cycle(fire_on)]
+fn fire_third(
+    alloc: Global,
+    cond: &Formula,
+    third: &Kernel,
+    inner: u32,
+    at: u32,
+    port: u32,
+    item: Item,
+    states: &mut [State],
+    out: &mut Emit,
+    spare: &mut Spare,
+) -> Result<(), NoMemory>
+    requires { CanTake (fused cross (fused (select (term cond.now)) (kern_of third.now) inner) at) port item states.old out.old }
+    ensures { OnOk result (FiresAt (fused cross (fused (select (term cond.now)) (kern_of third.now) inner) at) port item out.old out.new
+        states.old states.new) }
+{
+    let (mine, rest) = states.split_at_mut(1);
+    let mut mid = kept_pairs(alloc, cond, port, item, &mut mine[0], spare)?;
+    fire_second(alloc, third, inner, rest, &mut mid, out, spare)
 }
 
 // A firing of two kernels, the second behind port `at` of the first.

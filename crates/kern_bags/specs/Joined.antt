@@ -1,5 +1,5 @@
 -- A product and a selection behind it, as one step that makes no pair which the selection does not keep.
-use Rattle.std.specs.Prelude.{◌≡◌, ◌<◌, ◌≤◌, ◌+◌, ◌-◌, ℕ, ℤ, true, ◌⊎◌, Option, Some, List, [], ◌∷◌, ◌++◌, map, flat_map}
+use Rattle.std.specs.Prelude.{◌≡◌, ◌<◌, ◌≤◌, ◌+◌, ◌-◌, ℕ, ℤ, true, ◌⊎◌, Option, Some, List, [], ◌∷◌, ◌++◌, map, flat_map, All}
 use Rattle.river_base.specs.Changes.{all_pairs, cancelled, changes, IsWideChange}
 use Rattle.river_base.specs.Grew.{GrewByPrefix}
 use Rattle.river_base.specs.Held.{HaveWidth}
@@ -9,7 +9,8 @@ use Rattle.river_base.specs.declared.item.Change.{Change}
 use Rattle.river_base.specs.declared.item.Flat as flat
 use Rattle.river_base.specs.declared.item.Flat.TheVariants.{Change as Changed}
 use Rattle.river_base.specs.declared.item.Item as item
-use Rattle.work_code.specs.Term.{Term}
+use Rattle.work_code.specs.declared.expr.BinOp.TheVariants as op
+use Rattle.work_code.specs.Term.{Term, Bin, Input}
 use Rattle.work_code.specs.Value.{val, is_true, IsWithin}
 use Rattle.kern_changes.specs.Counted as counted
 use Rattle.kern_changes.specs.Keyed.{at_place, rows_with}
@@ -41,6 +42,23 @@ pub record IsAcross (a b : Option ℕ) (left : ℕ) (places : ℕ × ℕ) : Type
   pub first : places.0 < left
   pub second : left ≤ places.1
   pub are : ((a ≡ Some places.0) × (b ≡ Some places.1)) ⊎ ((a ≡ Some places.1) × (b ≡ Some places.0))
+
+-- the expression is a test for equality of two places, of which one is below `left` and the other is not
+pub record ComparesAcross (left : ℕ) (t : Term) : Type 0 where
+  pub first : ℕ
+  pub second : ℕ
+  pub below : first < left
+  pub not_below : left ≤ second
+  pub is : (t ≡ Bin op.Eq (Input first) (Input second)) ⊎ (t ≡ Bin op.Eq (Input second) (Input first))
+
+-- the parts of a condition that `&&` joins
+abbrev pub conjuncts : Term → List Term
+conjuncts (Bin op.And a b) = conjuncts a ++ conjuncts b
+conjuncts t = t ∷ []
+
+-- none of them is such a test
+abbrev pub NoneComparesAcross : ℕ → Term → Type 0
+NoneComparesAcross left t = All (λ part. ComparesAcross left part → ⊥) (conjuncts t)
 
 -- each row joined with those that have at the one place what it has at the other
 abbrev pub pairs_by : ℕ → ℕ → List (List ℤ) → List (List ℤ) → List (List ℤ)

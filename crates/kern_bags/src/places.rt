@@ -1,7 +1,7 @@
 // Places of a joined row that a condition holds equal.
-ghost use Rattle.std.specs.Prelude.{◌≡◌, IfSome};
+ghost use Rattle.std.specs.Prelude.{◌≡◌, ℕ, IfNone, IfSome};
 ghost use Rattle.work_code.specs.Term.{term, Input};
-ghost use Rattle.kern_bags.specs.Joined.{HoldsEqual, IsAcross};
+ghost use Rattle.kern_bags.specs.Joined.{HoldsEqual, IsAcross, NoneComparesAcross};
 
 use work_code::{BinOp, Expr};
 
@@ -9,7 +9,8 @@ use work_code::{BinOp, Expr};
 /// wherever the expression is not 0: those of the first test for equality among the parts that `&&`
 /// joins. None where there is no such part. Takes no memory.
 pub(crate) fn equal_places(e: &Expr, left: usize) -> Option<(usize, usize)>
-    ensures { IfSome result (λ places. HoldsEqual left (term e.now) places.0 places.1) }
+    ensures some { IfSome result (λ places. HoldsEqual left (term e.now) places.0 places.1) }
+    ensures none { IfNone result (NoneComparesAcross left (term e.now)) }
 {
     match e {
         Expr::Bin {
@@ -30,7 +31,8 @@ pub(crate) fn equal_places(e: &Expr, left: usize) -> Option<(usize, usize)>
 
 // The place of the input that an expression is.
 fn input_of(e: &Expr) -> Option<usize>
-    ensures { IfSome result (λ place. term e.now ≡ Input place) }
+    ensures some { IfSome result (λ place. term e.now ≡ Input place) }
+    ensures none { IfNone result ((place : ℕ) → term e.now ≡ Input place → ⊥) }
 {
     match e {
         Expr::Input(place) => Some(*place as usize),
@@ -40,7 +42,8 @@ fn input_of(e: &Expr) -> Option<usize>
 
 // Two places, the lower first, of which one is below `left` and the other is not.
 fn across(a: Option<usize>, b: Option<usize>, left: usize) -> Option<(usize, usize)>
-    ensures { IfSome result (IsAcross a b left) }
+    ensures some { IfSome result (IsAcross a b left) }
+    ensures none { IfNone result ((places : ℕ × ℕ) → IsAcross a b left places → ⊥) }
 {
     match (a, b) {
         (Some(i), Some(j)) if i < left && left <= j => Some((i, j)),

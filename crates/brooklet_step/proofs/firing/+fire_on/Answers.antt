@@ -1,15 +1,19 @@
 use Rattle.std.specs.Result.{OnOk}
-use Rattle.std.proofs.Common.{◌≡◌, ℤ, List, [], length, refl, sym, ap, ◌∙◌, subst, arith}
+use Rattle.std.proofs.Common.{◌≡◌, ℤ, List, [], length, get_or, Box, Global, refl, sym, ap, ◌∙◌, subst, arith}
 use Rattle.std.proofs.lemmas.List.{length-set}
 use Rattle.std.proofs.lemmas.Result.{on_ok_weaker}
-use Rattle.river_kernels.proofs.KernLemmas.{kern_of-packed, kern_of-fused, kern_of-cross}
+use Rattle.river_kernels.proofs.KernLemmas.{kern_of-packed, kern_of-fused, kern_of-cross, kern_of-select}
+use Rattle.work_code.specs.Term.{term}
+use Rattle.river_kernels.specs.declared.kernel.Kernel.{Kernel}
 use Rattle.river_base.specs.declared.item.Item as item
 use Rattle.river_base.specs.Places.{each_grew, list_at}
 use Rattle.river_kernels.specs.Kern.{kern_of, cross, fused, packed}
 use Rattle.brooklet_model.specs.Firings.{beside}
-use Rattle.brooklet_step.specs.Joins.{IsSelection}
+use Rattle.brooklet_step.specs.Joins.{BeginsWithSelection, IsSelection}
 use Rattle.brooklet_step.specs.Given.{CanTake, CanTakeAll, FiresAt, FiresEach}
 use Rattle.brooklet_step.proofs.Counted.{privates_counted, blank_counted}
+use Rattle.brooklet_step.proofs.NestedJoin.{behind, opened, fused_first, nested_can, third_can, nested_fires}
+use Rattle.brooklet_step.proofs.Ones.{only_one}
 use Rattle.brooklet_step.proofs.Size.{size}
 use Rattle.brooklet_step.proofs.Fused.{Parts, spliced_taken, result_both}
 use Rattle.brooklet_step.proofs.GivenCode.{so_far_start, so_far_takes, so_far_step, packed_taken, packed_port, packed_whole, count_fits, first_taken, takes_on}
@@ -59,14 +63,105 @@ fire_on-fire_join-requires t c =
       can = subst (λ i. CanTake i c.args.port c.args.item c.args.states.now c.args.out.now) ek c.requires;
     }
 
+pub fire_on-fire_nested-requires : goal.fire_on-fire_nested-requires
+fire_on-fire_nested-requires t c =
+    let at = c.in-Fused.at in
+    let j = c.is_nested_join.ensures c.if-is_nested_join.true in
+    let second = c.deref-then-is_nested_join.result.now in
+    let same = c.deref-then-is_nested_join.ensures ∙ sym c.deref-in-Fused-4.ensures in
+    let ea = ap kern_of c.deref-in-Fused-3.ensures in
+    let ep = ap kern_of j.product ∙ kern_of-cross in
+    let eb = ap kern_of c.deref-then-is_nested_join.ensures in
+    let ek : kern_of c.args.kernel.now ≡ fused cross (kern_of second) at = ap kern_of c.in-Fused.is ∙ kern_of-fused c.in-Fused.first c.in-Fused.second at
+    ∙ ap (λ i. fused i (kern_of c.in-Fused.second.value) at) (sym ea ∙ ep) ∙ ap (λ i. fused cross i at) (sym eb) in (
+      omega (arith, c.decreases, ap size ek),
+      (subst BeginsWithSelection (sym same) j.nested, subst (λ i. CanTake i c.args.port c.args.item c.args.states.now c.args.out.now) ek c.requires),
+    )
+
+pub fire_nested-fire_selected-requires : goal.fire_nested-fire_selected-requires
+fire_nested-fire_selected-requires t c =
+    let at = c.args.at in
+    let n = c.requires.nested in
+    let same = fused_first n.first n.second n.at c.in-Fused.first c.in-Fused.third c.in-Fused.inner (sym n.is ∙ c.in-Fused.is) in
+    let ek = opened c.args.second.now c.deref.result.now c.deref-in-Fused.result.now c.in-Fused.first c.in-Fused.third c.in-Fused.inner c.in-Fused.is
+    c.deref.ensures c.deref-in-Fused.ensures in (
+      omega (arith, c.decreases, ap size ek),
+      (
+        subst IsSelection (ap (λ (b : Box Kernel Global). b.value) same ∙ sym c.deref.ensures) n.selection,
+        subst (λ i. CanTake (fused cross i at) c.args.port c.args.item c.args.states.now c.args.out.now) ek c.requires.can,
+      ),
+    )
+
+pub fire_nested-returns : goal.fire_nested-returns
+fire_nested-returns t c =
+    let at = c.args.at in
+    let ek = opened c.args.second.now c.deref.result.now c.deref-in-Fused.result.now c.in-Fused.first c.in-Fused.third c.in-Fused.inner c.in-Fused.is
+    c.deref.ensures c.deref-in-Fused.ensures in
+    subst (λ i. OnOk c.fire_selected.result (FiresAt (fused cross i at) c.args.port c.args.item c.args.out.now c.fire_selected.new.out c.args.states.now
+    c.fire_selected.new.states)) (sym ek) c.fire_selected.ensures
+
+pub fire_selected-fire_third-requires : goal.fire_selected-fire_third-requires
+fire_selected-fire_third-requires t c =
+    let e = ap kern_of c.in-Select.is ∙ kern_of-select c.in-Select.cond in (
+      omega (arith, c.decreases),
+      subst (λ i. CanTake (fused cross (fused i (kern_of c.args.third.now) c.args.inner) c.args.at) c.args.port c.args.item c.args.states.now c.args.out.now) e
+          c.requires.can,
+    )
+
+pub fire_selected-returns : goal.fire_selected-returns
+fire_selected-returns t c =
+    let e = ap kern_of c.in-Select.is ∙ kern_of-select c.in-Select.cond in
+    subst (λ i. OnOk c.fire_third.result (FiresAt (fused cross (fused i (kern_of c.args.third.now) c.args.inner) c.args.at) c.args.port c.args.item
+    c.args.out.now c.fire_third.new.out c.args.states.now c.fire_third.new.states)) (sym e) c.fire_third.ensures
+
+pub fire_third-split_at_mut-mine-requires : goal.fire_third-split_at_mut-mine-requires
+fire_third-split_at_mut-mine-requires t c =
+    let b = behind (term c.args.cond.now) (kern_of c.args.third.now) c.args.inner in
+    count_fits (fused cross b c.args.at) cross b c.args.at 1 c.args.port c.args.item c.args.states.now c.args.out.now refl refl c.requires
+
+pub fire_third-kept_pairs-requires : goal.fire_third-kept_pairs-requires
+fire_third-kept_pairs-requires t c =
+    let mine = c.split_at_mut-mine.result.0.now in
+    let d = c.index-mine-0.result in
+    let front_len = c.split_at_mut-mine.ensures.front_len in
+    nested_can (term c.args.cond.now) (kern_of c.args.third.now) c.args.inner c.args.at c.args.port c.args.item c.args.states.now mine
+    c.split_at_mut-mine.result.1.now (get_or mine 0 d) c.args.out.now
+    (record { kernel = refl; counted = refl; front = c.split_at_mut-mine.ensures.front; back = c.split_at_mut-mine.ensures.back })
+    (only_one mine d (get_or mine 0 d) (omega (arith, front_len)) refl) c.requires
+
+pub fire_third-fire_second-requires : goal.fire_third-fire_second-requires
+fire_third-fire_second-requires t c =
+    let mine = c.split_at_mut-mine.result.0.now in
+    let d = c.index-mine-0.result in
+    let front_len = c.split_at_mut-mine.ensures.front_len in (
+      omega (arith, c.decreases),
+      third_can (term c.args.cond.now) (kern_of c.args.third.now) c.args.inner c.args.at c.args.port c.args.item c.args.states.now mine
+          c.split_at_mut-mine.result.1.now (get_or mine 0 d) c.args.out.now
+          (record { kernel = refl; counted = refl; front = c.split_at_mut-mine.ensures.front; back = c.split_at_mut-mine.ensures.back })
+          (only_one mine d (get_or mine 0 d) (omega (arith, front_len)) refl) c.requires c.in_ok-mid.mid c.kept_pairs.new.state c.in_ok-mid.ensures,
+    )
+
+pub fire_third-returns : goal.fire_third-returns
+fire_third-returns t c =
+    let mine = c.split_at_mut-mine.result.0.now in
+    let d = c.index-mine-0.result in
+    let front_len = c.split_at_mut-mine.ensures.front_len in
+    on_ok_weaker c.fire_second.result
+    (nested_fires (term c.args.cond.now) (kern_of c.args.third.now) c.args.inner c.args.at c.args.port c.args.item c.args.states.now mine
+    c.split_at_mut-mine.result.1.now (get_or mine 0 d) c.args.out.now
+    (record { kernel = refl; counted = refl; front = c.split_at_mut-mine.ensures.front; back = c.split_at_mut-mine.ensures.back })
+    (only_one mine d (get_or mine 0 d) (omega (arith, front_len)) refl) c.requires c.in_ok-mid.mid c.kept_pairs.new.state c.in_ok-mid.ensures
+    c.fire_second.new.out c.fire_second.new.states)
+    c.fire_second.ensures
+
 pub fire_on-fire_fused-requires : goal.fire_on-fire_fused-requires
 fire_on-fire_fused-requires t c =
     let k = kern_of c.args.kernel.now in
     let at = c.in-Fused.at in
-    let a = kern_of c.deref-in-Fused-3.result.now in
-    let b = kern_of c.deref-in-Fused-4.result.now in
-    let ea = ap kern_of c.deref-in-Fused-3.ensures in
-    let eb = ap kern_of c.deref-in-Fused-4.ensures in
+    let a = kern_of c.deref-in-Fused-5.result.now in
+    let b = kern_of c.deref-in-Fused-6.result.now in
+    let ea = ap kern_of c.deref-in-Fused-5.ensures in
+    let eb = ap kern_of c.deref-in-Fused-6.ensures in
     let ek : k ≡ fused a b at = ap kern_of c.in-Fused.is ∙ kern_of-fused c.in-Fused.first c.in-Fused.second at
     ∙ ap (λ i. fused i (kern_of c.in-Fused.second.value) at) (sym ea) ∙ ap (λ i. fused a i at) (sym eb) in
     (omega (arith, c.decreases, ap size ek), subst (λ i. CanTake i c.args.port c.args.item c.args.states.now c.args.out.now) ek c.requires)

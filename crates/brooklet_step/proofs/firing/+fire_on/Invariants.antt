@@ -22,6 +22,15 @@ decreases-fire_fused l = 4 * (size (kern_of l.first.now) + size (kern_of l.secon
 abbrev pub decreases-fire_second : goal.decreases-fire_second
 decreases-fire_second l = 4 * size (kern_of l.second.now) + 2
 
+abbrev pub decreases-fire_nested : goal.decreases-fire_nested
+decreases-fire_nested l = 4 * size (kern_of l.second.now) + 3
+
+abbrev pub decreases-fire_selected : goal.decreases-fire_selected
+decreases-fire_selected l = 4 * size (kern_of l.third.now) + 4
+
+abbrev pub decreases-fire_third : goal.decreases-fire_third
+decreases-fire_third l = 4 * size (kern_of l.third.now) + 3
+
 abbrev pub invariant-fire_each-loop-item : goal.invariant-fire_each-loop-item
 invariant-fire_each-loop-item l = SoFar (kern_of l.kernel) l.initial.items l.items l.initial.out l.out l.initial.states l.states
 

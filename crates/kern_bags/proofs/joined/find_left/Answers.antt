@@ -13,14 +13,14 @@ holds w t u i j g h = subst (λ v. HoldsEqual w v i j) g h
 pub bounds-values-j : goal.bounds-values-j
 bounds-values-j c =
     let t = term c.args.cond.now in
-    let h = holds c.args.width t (term c.expr.result.now) c.in-Some.i c.in-Some.j (ap term c.expr.ensures) c.in-Some.ensures in
+    let h = holds c.args.width t (term c.expr.result.now) c.in-Some.i c.in-Some.j (ap term c.expr.ensures) c.in-Some.ensures.some in
     subst (λ (l : List ℤ). c.in-Some.j - c.args.width < length l) (sym c.values.ensures.values)
     (place_within c.args.width t c.in-Some.i c.in-Some.j c.args.lefts.now c.args.right.now h c.requires)
 
 pub offset_bounds-values-j : goal.offset_bounds-values-j
 offset_bounds-values-j c =
     let t = term c.args.cond.now in
-    let h = holds c.args.width t (term c.expr.result.now) c.in-Some.i c.in-Some.j (ap term c.expr.ensures) c.in-Some.ensures in
+    let h = holds c.args.width t (term c.expr.result.now) c.in-Some.i c.in-Some.j (ap term c.expr.ensures) c.in-Some.ensures.some in
     let w = place_within c.args.width t c.in-Some.i c.in-Some.j c.args.lefts.now c.args.right.now h c.requires in
     let m = c.values.ensures.at_most in
     omega (arith, w, m)
@@ -28,7 +28,7 @@ offset_bounds-values-j c =
 pub find_by-requires : goal.find_by-requires
 find_by-requires c =
     let t = term c.args.cond.now in
-    let h = holds c.args.width t (term c.expr.result.now) c.in-Some.i c.in-Some.j (ap term c.expr.ensures) c.in-Some.ensures in
+    let h = holds c.args.width t (term c.expr.result.now) c.in-Some.i c.in-Some.j (ap term c.expr.ensures) c.in-Some.ensures.some in
     column_left c.args.width t c.in-Some.i c.in-Some.j c.args.lefts.now h c.requires.lefts
 
 pub returns-in-Some-clause-found : goal.returns-in-Some-clause-found
@@ -39,7 +39,7 @@ returns-in-Some-clause-found c =
     let j = c.in-Some.j in
     let w = c.args.width in
     let lefts = c.args.lefts.now in
-    let h = holds w t (term c.expr.result.now) i j (ap term c.expr.ensures) c.in-Some.ensures in
+    let h = holds w t (term c.expr.result.now) i j (ap term c.expr.ensures) c.in-Some.ensures.some in
     let v : ℤ = to_z w64 (of_z w64 (get_or c.values.result.now (j - w) (pos 0))) in
     let same : v ≡ get_or c.values.result.now (j - w) (pos 0) = search rules in
     let value : v ≡ at_place (j - w) y = same ∙ ap (at_place (j - w)) c.values.ensures.values in

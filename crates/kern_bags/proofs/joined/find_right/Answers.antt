@@ -15,7 +15,7 @@ pub find_by-requires : goal.find_by-requires
 find_by-requires c =
     let t = term c.args.cond.now in
     let x = c.args.left.now in
-    let h = holds c.width.result x t (term c.expr.result.now) c.in-Some.i c.in-Some.j c.width.ensures.width (ap term c.expr.ensures) c.in-Some.ensures in
+    let h = holds c.width.result x t (term c.expr.result.now) c.in-Some.i c.in-Some.j c.width.ensures.width (ap term c.expr.ensures) c.in-Some.ensures.some in
     subst (λ n. All (λ (row : List ℤ). c.in-Some.j - n < length row) c.args.rights.now) (sym c.width-in-Some.ensures.width)
     (column_right t c.in-Some.i c.in-Some.j x c.args.rights.now h c.requires)
 
@@ -32,7 +32,7 @@ returns-in-Some-clause-found c =
     let i = c.in-Some.i in
     let j = c.in-Some.j in
     let rights = c.args.rights.now in
-    let h = holds c.width.result x t (term c.expr.result.now) i j c.width.ensures.width (ap term c.expr.ensures) c.in-Some.ensures in
+    let h = holds c.width.result x t (term c.expr.result.now) i j c.width.ensures.width (ap term c.expr.ensures) c.in-Some.ensures.some in
     let v : ℤ = to_z w64 (of_z w64 (get_or c.values.result.now i (pos 0))) in
     let same : v ≡ get_or c.values.result.now i (pos 0) = search rules in
     let value : v ≡ at_place i x = same ∙ ap (at_place i) c.values.ensures.values in
