@@ -76,6 +76,8 @@ pub fn take_all(seat: &mut Seat, classes: &[u32], room: &mut Room) -> Result<Pil
     ensures busy { OnErr result (HasLooked seat.old.view seat.new.view × (seat.new.view.held ≡ [])) }
     ensures tries { HasMoreTries seat.old.view seat.new.view }
     ensures found { OnErr result (FoundTaken classes.now seat.old.view seat.new.view) }
+    ensures lent { IfOk result (λ pile. vec_capacity pile ≡ room.old) }
+    ensures back { OnErr result (room.new ≡ room.old) }
 {
     let mut pile = room.lend();
     match take_each(seat, classes, &mut pile) {
@@ -94,6 +96,7 @@ pub fn put_all(seat: &mut Seat, pile: Pile, room: &mut Room)
     ensures lot { seat.new.lot ≡ seat.old.lot }
     ensures put { HasPut seat.old.view seat.new.view pile.items }
     ensures takes { seat.new.view.takes ≡ seat.old.view.takes }
+    ensures back { room.new ≡ vec_capacity pile }
 {
     let mut pile = pile;
     put_each(seat, &mut pile);
@@ -112,6 +115,7 @@ fn take_each(seat: &mut Seat, classes: &[u32], pile: &mut Pile) -> Result<(), Bu
     ensures busy { OnErr result (HasLooked seat.old.view seat.new.view × (seat.new.view.held ≡ []) × (pile.new.items ≡ [])) }
     ensures tries { HasMoreTries seat.old.view seat.new.view }
     ensures found { OnErr result (FoundTaken classes.now seat.old.view seat.new.view) }
+    ensures same { vec_capacity pile.new ≡ vec_capacity pile.old }
 {
     for class in classes {
         match seat.try_take(*class) {
@@ -132,6 +136,7 @@ fn put_each(seat: &mut Seat, pile: &mut Pile)
     ensures put { HasPut seat.old.view seat.new.view pile.old.items }
     ensures blank { pile.new.items ≡ [] }
     ensures takes { seat.new.view.takes ≡ seat.old.view.takes }
+    ensures same { vec_capacity pile.new ≡ vec_capacity pile.old }
 {
     while let Some((class, cell)) = pile.pop() {
         seat.put(class, cell);

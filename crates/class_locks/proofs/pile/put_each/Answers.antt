@@ -22,6 +22,7 @@ loop-class-preserved c =
       takes = ap (λ (v : View). v.takes) put ∙ inv.takes;
       parts = ap (λ (v : View). v.parts) put ∙ inv.parts;
       pile = subst (λ (v : View). IsPile v c.pop.new.self.items) (sym put) done.pile;
+      same = search rules;
       claims =
           ap (λ (v : View). v.claims ++ gained (reverse c.pop.new.self.items) v.held) put
           ∙ (done.claims ∙ (ap (λ l. c.loop-class.seat.view.claims ++ l)

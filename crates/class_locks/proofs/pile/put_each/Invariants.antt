@@ -1,4 +1,4 @@
-use Rattle.std.proofs.Common.{◌≡◌, ◌++◌, reverse}
+use Rattle.std.proofs.Common.{◌≡◌, ◌++◌, reverse, vec_capacity}
 use Rattle.class_locks.specs.Piles.{IsPile, gained}
 use Rattle.class_locks.proofs.pile.put_each.Given as goal
 
@@ -10,6 +10,7 @@ invariant-loop-class l = record {
   takes : l.seat.view.takes ≡ l.initial.seat.view.takes;
   parts : l.seat.view.parts ≡ l.initial.seat.view.parts;
   pile : IsPile l.seat.view l.pile.items;
+  same : vec_capacity l.pile ≡ vec_capacity l.initial.pile;
   claims : l.seat.view.claims ++ gained (reverse l.pile.items) l.seat.view.held ≡ l.initial.seat.view.claims ++ gained
       (reverse l.initial.pile.items) l.initial.seat.view.held;
 }

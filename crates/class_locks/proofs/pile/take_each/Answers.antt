@@ -18,6 +18,7 @@ loop-class-init c =
       below = λ lt. subst (λ (hs : List Held). AllBelow (slice_index c.args.classes.now 0) hs) (sym c.requires.rests) tt;
       count = ap length c.requires.blank;
       room = c.requires.room;
+      same = refl;
     }
 
 pub try_take-requires-clause-there : goal.try_take-requires-clause-there
@@ -71,6 +72,7 @@ loop-class-preserved c =
       below = λ lt'. subst (λ (hs : List Held). AllBelow (slice_index xs (i + 1)) hs) (sym held) (c.requires.ascend i lt', below);
       count = omega (arith, n, m, count);
       room = search rules;
+      same = c.push_reserved.ensures.capacity ∙ inv.same;
     }
 
 pub returns-clause-ok : goal.returns-clause-ok

@@ -11,4 +11,5 @@ invariant-loop-class l = record {
   below : l.class-index < length l.classes → AllBelow (slice_index l.classes l.class-index) l.seat.view.held;
   count : length l.pile.items ≡ l.class-index;
   room : length l.classes ≤ vec_capacity l.pile;
+  same : vec_capacity l.pile ≡ vec_capacity l.initial.pile;
 }
