@@ -198,7 +198,7 @@ fn fire_blank(
     ensures { IfOk result (λ given. (blank : Emit) × (blank.outs ≡ replicate ports []) × (blank.adds ≡ replicate tables [])
         × FiresAt (kern_of kernel.now) port item blank given states.old states.new) }
 {
-    let mut given = Emit::blank(alloc, ports, tables)?;
+    let mut given = Emit::blank_again(alloc, ports, tables, spare)?;
     fire_on(alloc, kernel, port, item, states, &mut given, spare)?;
     Ok(given)
 }
@@ -289,7 +289,7 @@ fn fire_third(
 {
     let (mine, rest) = states.split_at_mut(1);
     let mut mid = kept_pairs(alloc, cond, port, item, &mut mine[0], spare)?;
-    fire_second(alloc, third, inner, rest, &mut mid, out, spare)
+    fire_behind(alloc, third, inner, rest, &mut mid, out, spare)
 }
 
 // A firing of two kernels, the second behind port `at` of the first.
@@ -320,7 +320,31 @@ fn fire_fused(
         shape.tables,
         spare,
     )?;
-    fire_second(alloc, second, at, rest, &mut mid, out, spare)
+    let fired = fire_behind(alloc, second, at, rest, &mut mid, out, spare);
+    spare.put_lines(mid.outs);
+    fired
+}
+
+// The second of two kernels fires on what the first gave. Where the first has no other port and no table, what it gives goes to
+// the lists as they are.
+#[cycle(fire_on)]
+fn fire_behind(
+    alloc: Global,
+    second: &Kernel,
+    at: u32,
+    states: &mut [State],
+    mid: &mut Emit,
+    out: &mut Emit,
+    spare: &mut Spare,
+) -> Result<(), NoMemory>
+    requires { CanTakeOn (kern_of second.now) at states.old mid.old out.old }
+    ensures { OnOk result (TookOn (kern_of second.now) at mid.old out.old out.new states.old states.new) }
+{
+    if mid.outs.len() == 1 && mid.adds.is_empty() {
+        let between = mid.outs.at_mut(at as usize);
+        return fire_each(alloc, second, between, states, out, spare);
+    }
+    fire_second(alloc, second, at, states, mid, out, spare)
 }
 
 // The second of two kernels fires on each item that the first gave at port `at`, and what both gave is put together.

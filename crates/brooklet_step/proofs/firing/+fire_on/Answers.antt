@@ -12,6 +12,7 @@ use Rattle.brooklet_model.specs.Firings.{beside}
 use Rattle.brooklet_step.specs.Joins.{BeginsWithSelection, IsSelection}
 use Rattle.brooklet_step.specs.Given.{CanTake, CanTakeAll, FiresAt, FiresEach}
 use Rattle.brooklet_step.proofs.Counted.{privates_counted, blank_counted}
+use Rattle.brooklet_step.proofs.Growth.{through_can, through}
 use Rattle.brooklet_step.proofs.NestedJoin.{behind, opened, fused_first, nested_can, third_can, nested_fires}
 use Rattle.brooklet_step.proofs.Ones.{only_one}
 use Rattle.brooklet_step.proofs.Size.{size}
@@ -129,8 +130,8 @@ fire_third-kept_pairs-requires t c =
     (record { kernel = refl; counted = refl; front = c.split_at_mut-mine.ensures.front; back = c.split_at_mut-mine.ensures.back })
     (only_one mine d (get_or mine 0 d) (omega (arith, front_len)) refl) c.requires
 
-pub fire_third-fire_second-requires : goal.fire_third-fire_second-requires
-fire_third-fire_second-requires t c =
+pub fire_third-fire_behind-requires : goal.fire_third-fire_behind-requires
+fire_third-fire_behind-requires t c =
     let mine = c.split_at_mut-mine.result.0.now in
     let d = c.index-mine-0.result in
     let front_len = c.split_at_mut-mine.ensures.front_len in (
@@ -146,13 +147,13 @@ fire_third-returns t c =
     let mine = c.split_at_mut-mine.result.0.now in
     let d = c.index-mine-0.result in
     let front_len = c.split_at_mut-mine.ensures.front_len in
-    on_ok_weaker c.fire_second.result
+    on_ok_weaker c.fire_behind.result
     (nested_fires (term c.args.cond.now) (kern_of c.args.third.now) c.args.inner c.args.at c.args.port c.args.item c.args.states.now mine
     c.split_at_mut-mine.result.1.now (get_or mine 0 d) c.args.out.now
     (record { kernel = refl; counted = refl; front = c.split_at_mut-mine.ensures.front; back = c.split_at_mut-mine.ensures.back })
     (only_one mine d (get_or mine 0 d) (omega (arith, front_len)) refl) c.requires c.in_ok-mid.mid c.kept_pairs.new.state c.in_ok-mid.ensures
-    c.fire_second.new.out c.fire_second.new.states)
-    c.fire_second.ensures
+    c.fire_behind.new.out c.fire_behind.new.states)
+    c.fire_behind.ensures
 
 pub fire_on-fire_fused-requires : goal.fire_on-fire_fused-requires
 fire_on-fire_fused-requires t c =
@@ -233,8 +234,8 @@ fire_fused-fire_blank-requires t c =
           (blank_counted a shape e c.in_ok-shape.ensures o n),
     )
 
-pub fire_fused-fire_second-requires : goal.fire_fused-fire_second-requires
-fire_fused-fire_second-requires t c =
+pub fire_fused-fire_behind-fired-requires : goal.fire_fused-fire_behind-fired-requires
+fire_fused-fire_behind-fired-requires t c =
     let a = kern_of c.args.first.now in
     let b = kern_of c.args.second.now in
     let k = fused a b c.args.at in
@@ -276,10 +277,28 @@ fire_fused-returns t c =
       back =
           c.split_at_mut-mine.ensures.back;
     } in
-    on_ok_weaker c.fire_second.result
-    (λ r. both_fire k a b c.args.at count c.args.port c.args.item st mine rest c.fire_blank.new.states c.fire_second.new.states c.args.out.now
-    c.fire_second.new.out m.0 c.in_ok-mid.mid p c.requires (blank_counted a shape m.0 c.in_ok-shape.ensures m.1 m.2) m.3 r)
-    c.fire_second.ensures
+    on_ok_weaker c.fire_behind-fired.result
+    (λ r. both_fire k a b c.args.at count c.args.port c.args.item st mine rest c.fire_blank.new.states c.fire_behind-fired.new.states c.args.out.now
+    c.fire_behind-fired.new.out m.0 c.in_ok-mid.mid p c.requires (blank_counted a shape m.0 c.in_ok-shape.ensures m.1 m.2) m.3 r)
+    c.fire_behind-fired.ensures
+
+pub fire_behind-fire_each-requires : goal.fire_behind-fire_each-requires
+fire_behind-fire_each-requires t c = (
+  omega (arith, c.decreases),
+  subst (λ (l : List item.Item). CanTakeAll (kern_of c.args.second.now) l c.args.states.now c.args.out.now) (sym (c.at_mut-between.ensures.value []))
+      (through_can (kern_of c.args.second.now) c.args.at c.args.states.now c.args.mid.now c.args.out.now c.requires (sym c.len.ensures ∙ c.if-len-eq1.true)
+      (ap length (c.is_empty.ensures.0 c.if-is_empty.true))),
+)
+
+pub fire_behind-returns-then-is_empty : goal.fire_behind-returns-then-is_empty
+fire_behind-returns-then-is_empty t c =
+    let k = kern_of c.args.second.now in
+    on_ok_weaker c.fire_each.result
+    (λ f. through k c.args.at c.args.states.now c.args.mid.now c.args.out.now c.requires (sym c.len.ensures ∙ c.if-len-eq1.true)
+    (ap length (c.is_empty.ensures.0 c.if-is_empty.true)) c.fire_each.new.out c.fire_each.new.states
+    (subst (λ (l : List item.Item). FiresEach k l c.args.out.now c.fire_each.new.out c.args.states.now c.fire_each.new.states)
+    (c.at_mut-between.ensures.value []) f))
+    c.fire_each.ensures
 
 pub fire_second-take_port-between-requires : goal.fire_second-take_port-between-requires
 fire_second-take_port-between-requires t c = c.requires.place
