@@ -11,7 +11,7 @@ ghost use Rattle.brooklet_model.specs.Firings.{gives};
 ghost use Rattle.brooklet_step.specs.declared.emit.Emit.{Emit};
 ghost use Rattle.brooklet_step.specs.Took.{IsBlank, Took};
 ghost use Rattle.brooklet_step.specs.Joins.{BeginsWithSelection, IsSelection};
-ghost use Rattle.brooklet_step.specs.Given.{CanTake, CanTakeAll, CanTakeOn, FiresAt, FiresEach, TookOn};
+ghost use Rattle.brooklet_step.specs.Given.{CanTake, CanTakeAll, CanTakeOn, FiresAt, FiresEach, FiresFront, TookOn};
 
 use crate::emit::{Emit, Spare};
 use crate::join::{fire_join, is_join, is_nested_join, kept_pairs};
@@ -109,6 +109,7 @@ pub(crate) fn fire_row(
     fire_row_on(alloc, kernel, port, row, states.as_mut_slice(), out, spare)
 }
 
+#[cycle(fire_on)]
 fn fire_row_on(
     alloc: Global,
     kernel: &Kernel,
@@ -380,8 +381,33 @@ fn fire_each(
     requires { CanTakeAll (kern_of kernel.now) items.old states.old out.old }
     ensures { OnOk result (FiresEach (kern_of kernel.now) items.old out.old out.new states.old states.new) }
 {
-    while let Some(item) = items.pop() {
-        fire_on(alloc, kernel, 0, item, states, out, spare)?;
+    'front: while !items.is_empty() {
+        fire_front(alloc, kernel, items, states, out, spare)?;
     }
     Ok(())
+}
+
+// A firing on the item in front, at the first port. A row that is kept as values is fired on as it lies.
+#[cycle(fire_on)]
+fn fire_front(
+    alloc: Global,
+    kernel: &Kernel,
+    items: &mut ItemLine,
+    states: &mut [State],
+    out: &mut Emit,
+    spare: &mut Spare,
+) -> Result<(), NoMemory>
+    requires some { 0 < length items.old }
+    requires can { CanTakeAll (kern_of kernel.now) items.old states.old out.old }
+    ensures { OnOk result (FiresFront (kern_of kernel.now) items.old items.new out.old out.new states.old states.new) }
+{
+    if let Some(row) = items.front_values() {
+        fire_row_on(alloc, kernel, 0, row, states, out, spare)?;
+        items.drop_front();
+        return Ok(());
+    }
+    match items.pop() {
+        Some(item) => fire_on(alloc, kernel, 0, item, states, out, spare),
+        None => Ok(()),
+    }
 }

@@ -1,43 +1,53 @@
 use Rattle.std.specs.Result.{OnOk}
-use Rattle.std.proofs.Common.{◌≡◌, ℤ, List, [], length, get_or, Box, Global, refl, sym, ap, ◌∙◌, subst, arith}
-use Rattle.std.proofs.lemmas.List.{length-set}
+use Rattle.std.proofs.Common.{◌≡◌, ℤ, List, [], ◌∷◌, length, drop, get_or, Box, Global, refl, sym, ap, ◌∙◌, subst, arith}
+use Rattle.std.proofs.lemmas.List.{length-set, nil_from_length}
 use Rattle.std.proofs.lemmas.Result.{on_ok_weaker}
-use Rattle.river_kernels.proofs.KernLemmas.{kern_of-packed, kern_of-fused, kern_of-cross, kern_of-select}
+use Rattle.river_kernels.proofs.KernLemmas.{kern_of-packed, kern_of-fused, kern_of-cross, kern_of-select, kern_of-code, kern_of-filter}
 use Rattle.work_code.specs.Term.{term}
 use Rattle.river_kernels.specs.declared.kernel.Kernel.{Kernel}
 use Rattle.river_base.specs.declared.item.Item as item
 use Rattle.river_base.specs.Places.{each_grew, list_at}
-use Rattle.river_kernels.specs.Kern.{kern_of, cross, fused, packed}
+use Rattle.river_kernels.specs.Kern.{kern_of, code, filter, cross, fused, packed}
 use Rattle.brooklet_model.specs.Firings.{beside}
 use Rattle.brooklet_step.specs.Joins.{BeginsWithSelection, IsSelection}
 use Rattle.brooklet_step.specs.Given.{CanTake, CanTakeAll, FiresAt, FiresEach}
 use Rattle.brooklet_step.proofs.Counted.{privates_counted, blank_counted}
 use Rattle.brooklet_step.proofs.Growth.{through_can, through}
 use Rattle.brooklet_step.proofs.NestedJoin.{behind, opened, fused_first, nested_can, third_can, nested_fires}
-use Rattle.brooklet_step.proofs.Ones.{only_one}
+use Rattle.brooklet_step.proofs.Ones.{only_one, zero_can, zero_fires, first_can, first_fires}
+use Rattle.brooklet_step.proofs.RowFires.{code_applies, code_does, filter_applies, filter_does}
+use Rattle.brooklet_step.proofs.Fires.{on_ok}
+use Rattle.kern_rows.specs.Forms.{code_form, filter_form}
+use Rattle.river_base.specs.declared.item.Item.TheVariants as variant
+use Rattle.river_base.specs.declared.item.Flat.TheVariants as flat
 use Rattle.brooklet_step.proofs.Size.{size}
 use Rattle.brooklet_step.proofs.Fused.{Parts, spliced_taken, result_both}
-use Rattle.brooklet_step.proofs.GivenCode.{so_far_start, so_far_takes, so_far_step, packed_taken, packed_port, packed_whole, count_fits, first_taken, takes_on}
+use Rattle.brooklet_step.proofs.GivenCode.{some_left, so_far_start, so_far_takes, so_far_step, so_far_end, packed_taken, packed_port, packed_whole, count_fits, first_taken, takes_on}
 use Rattle.brooklet_step.proofs.GivenCode.{second_room, both_fire}
 use Rattle.brooklet_step.proofs.firing.+fire_on.Goals as goal
 
-pub fire_each-loop-item-init : goal.fire_each-loop-item-init
-fire_each-loop-item-init t c = so_far_start (kern_of c.args.kernel.now) c.args.items.now c.args.out.now c.args.states.now c.requires
+pub fire_each-front-init : goal.fire_each-front-init
+fire_each-front-init t c = so_far_start (kern_of c.args.kernel.now) c.args.items.now c.args.out.now c.args.states.now c.requires
 
-pub fire_each-fire_on-requires : goal.fire_each-fire_on-requires
-fire_each-fire_on-requires t c = (
+pub fire_each-fire_front-requires : goal.fire_each-fire_front-requires
+fire_each-fire_front-requires t c = (
   omega (arith, c.decreases),
-  so_far_takes (kern_of c.args.kernel.now) c.args.items.now c.loop-item.items c.pop.new.self c.in-Some.item
-      c.args.out.now c.loop-item.out c.args.states.now c.loop-item.states c.in-Some.ensures c.loop-item.invariant,
+  (some_left (length c.front.items) c.is_empty.result c.is_empty.ensures.1 c.front-test.true, c.front.invariant.takes),
 )
 
-pub fire_each-loop-item-smaller : goal.fire_each-loop-item-smaller
-fire_each-loop-item-smaller t c = let e = ap length c.in-Some.ensures in omega (arith, e)
+pub fire_each-front-smaller : goal.fire_each-front-smaller
+fire_each-front-smaller t c = let e = ap length c.in_ok-fire_front.ensures.is in omega (arith, e)
 
-pub fire_each-loop-item-preserved : goal.fire_each-loop-item-preserved
-fire_each-loop-item-preserved t c =
-    so_far_step (kern_of c.args.kernel.now) c.args.items.now c.loop-item.items c.pop.new.self c.in-Some.item c.args.out.now c.loop-item.out
-    c.fire_on.new.out c.args.states.now c.loop-item.states c.fire_on.new.states c.in-Some.ensures c.loop-item.invariant c.in_ok-fire_on.ensures
+pub fire_each-front-preserved : goal.fire_each-front-preserved
+fire_each-front-preserved t c =
+    let f = c.in_ok-fire_front.ensures in
+    so_far_step (kern_of c.args.kernel.now) c.args.items.now c.front.items c.fire_front.new.items f.front c.args.out.now c.front.out c.fire_front.new.out
+    c.args.states.now c.front.states c.fire_front.new.states f.is c.front.invariant f.fires
+
+pub fire_each-returns : goal.fire_each-returns
+fire_each-returns t c =
+    so_far_end (kern_of c.args.kernel.now) c.args.items.now c.front.items c.args.out.now c.front.out c.args.states.now c.front.states
+    (nil_from_length c.front.items (c.is_empty.ensures.0 c.front-test.false)) c.front.invariant
 
 pub fire_on-fire_packed-requires : goal.fire_on-fire_packed-requires
 fire_on-fire_packed-requires t c =
@@ -355,3 +365,92 @@ fire_second-returns t c =
           c.take_port-between.ensures.adds;
     })
     c.splice.ensures.outs c.splice.ensures.adds
+
+pub fire_row_on-run_row-requires : goal.fire_row_on-run_row-requires
+fire_row_on-run_row-requires t c =
+    let f = code_form c.in-Code.code in
+    let item = variant.Flat (flat.One c.args.row.now) in
+    code_applies f 0 item c.args.states.now c.args.out.now
+    (zero_can (kern_of c.args.kernel.now) (code f) c.args.port item c.args.states.now c.args.out.now
+    (ap kern_of c.in-Code.is ∙ kern_of-code c.in-Code.code) refl c.requires.can)
+
+pub fire_row_on-returns-in-Code : goal.fire_row_on-returns-in-Code
+fire_row_on-returns-in-Code t c =
+    let f = code_form c.in-Code.code in
+    let item = variant.Flat (flat.One c.args.row.now) in
+    on_ok _ _ c.run_row.result
+    (λ h. zero_fires (kern_of c.args.kernel.now) (code f) c.args.port item c.args.states.now c.run_row.new.states c.args.out.now c.run_row.new.out
+    (ap kern_of c.in-Code.is ∙ kern_of-code c.in-Code.code) refl c.requires.can
+    (code_does f 0 item c.args.out.now c.run_row.new.out c.args.states.now c.run_row.new.states h))
+    c.run_row.ensures
+
+pub fire_row_on-filter_row-requires-clause-applies : goal.fire_row_on-filter_row-requires-clause-applies
+fire_row_on-filter_row-requires-clause-applies t c =
+    let f = filter_form c.in-Filter.filter in
+    let item = variant.Flat (flat.One c.args.row.now) in
+    filter_applies f 0 item _ c.args.out.now
+    (first_can (kern_of c.args.kernel.now) (filter f) c.args.port item c.args.states.now c.index-states-0.result
+    (get_or c.args.states.now 0 c.index-states-0.result) c.args.out.now
+    (ap kern_of c.in-Filter.is ∙ kern_of-filter c.in-Filter.filter) refl refl refl c.requires.can)
+
+pub fire_row_on-returns-in-Filter : goal.fire_row_on-returns-in-Filter
+fire_row_on-returns-in-Filter t c =
+    let f = filter_form c.in-Filter.filter in
+    let item = variant.Flat (flat.One c.args.row.now) in
+    let s = get_or c.args.states.now 0 c.index-states-0.result in
+    on_ok _ _ c.filter_row.result
+    (λ h. first_fires (kern_of c.args.kernel.now)
+    (filter f) c.args.port item c.args.states.now c.index-states-0.result s c.filter_row.new.state c.args.out.now c.filter_row.new.out
+    (ap kern_of c.in-Filter.is ∙ kern_of-filter c.in-Filter.filter) refl refl refl c.requires.can
+    (filter_does f 0 item c.args.out.now c.filter_row.new.out _ _ h))
+    c.filter_row.ensures
+
+pub fire_row_on-fire_on-requires : goal.fire_row_on-fire_on-requires
+fire_row_on-fire_on-requires t c = (
+  omega (arith, c.decreases),
+  subst (λ (r : List ℤ). CanTake (kern_of c.args.kernel.now) c.args.port (variant.Flat (flat.One r)) c.args.states.now c.args.out.now)
+      (sym c.from_slice.ensures) c.requires.can,
+)
+
+pub fire_front-fire_row_on-requires : goal.fire_front-fire_row_on-requires
+fire_front-fire_row_on-requires t c =
+    let k = kern_of c.args.kernel.now in
+    let front = c.in-Some.ensures.front in (
+      omega (arith, c.decreases),
+      (
+        c.in-Some.ensures.some,
+        (
+          c.in-Some.ensures.at_most,
+          so_far_takes k c.args.items.now c.args.items.now front.0 (variant.Flat (flat.One c.in-Some.row.now)) c.args.out.now c.args.out.now
+              c.args.states.now c.args.states.now front.1 (so_far_start k c.args.items.now c.args.out.now c.args.states.now c.requires.can),
+        ),
+      ),
+    )
+
+pub fire_front-returns-in-Some : goal.fire_front-returns-in-Some
+fire_front-returns-in-Some t c =
+    let x = variant.Flat (flat.One c.in-Some.row.now) in
+    let front = c.in-Some.ensures.front in
+    record {
+      front = x;
+      is = front.1 ∙ ap (λ l. x ∷ l) (sym (c.drop_front.ensures ∙ ap (λ (l : List item.Item). drop 1 l) front.1));
+      fires = c.in_ok-fire_row_on.ensures;
+    }
+
+pub fire_front-fire_on-requires : goal.fire_front-fire_on-requires
+fire_front-fire_on-requires t c =
+    let k = kern_of c.args.kernel.now in (
+      omega (arith, c.decreases),
+      so_far_takes k c.args.items.now c.args.items.now c.pop.new.self c.in-Some-pop.item c.args.out.now c.args.out.now c.args.states.now c.args.states.now
+          c.in-Some-pop.ensures (so_far_start k c.args.items.now c.args.out.now c.args.states.now c.requires.can),
+    )
+
+pub fire_front-returns-in-Some-pop : goal.fire_front-returns-in-Some-pop
+fire_front-returns-in-Some-pop t c =
+    on_ok_weaker c.fire_on.result (λ f. record { front = c.in-Some-pop.item; is = c.in-Some-pop.ensures; fires = f }) c.fire_on.ensures
+
+pub fire_front-returns-in-None : goal.fire_front-returns-in-None
+fire_front-returns-in-None t c =
+    let e = ap length c.in-None.ensures.0 in
+    let s = c.requires.some in
+    absurd (omega (arith, e, s))
