@@ -13,6 +13,7 @@ ghost use Rattle.brooklet_step.specs.Took.{IsBlank, Took};
 ghost use Rattle.brooklet_step.specs.Joins.{BeginsWithSelection, IsSelection};
 ghost use Rattle.brooklet_step.specs.Given.{CanTake, CanTakeAll, CanTakeOn, FiresAt, FiresEach, FiresFront, TookOn};
 
+use crate::counts::first_counts;
 use crate::emit::{Emit, Spare};
 use crate::join::{fire_join, is_join, is_nested_join, kept_pairs};
 use crate::leaf::{filter_row, run_row};
@@ -309,16 +310,16 @@ fn fire_fused(
     requires { CanTake (fused (kern_of first.now) (kern_of second.now) at) port item states.old out.old }
     ensures { OnOk result (FiresAt (fused (kern_of first.now) (kern_of second.now) at) port item out.old out.new states.old states.new) }
 {
-    let shape = first.shape()?;
-    let (mine, rest) = states.split_at_mut(shape.privates);
+    let counts = first_counts(first, second, at, states, out)?;
+    let (mine, rest) = states.split_at_mut(counts.privates);
     let mut mid = fire_blank(
         alloc,
         first,
         port,
         item,
         mine,
-        shape.outs,
-        shape.tables,
+        counts.outs,
+        counts.tables,
         spare,
     )?;
     let fired = fire_behind(alloc, second, at, rest, &mut mid, out, spare);

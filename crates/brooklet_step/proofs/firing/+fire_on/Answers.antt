@@ -11,7 +11,9 @@ use Rattle.river_kernels.specs.Kern.{kern_of, code, filter, cross, fused, packed
 use Rattle.brooklet_model.specs.Firings.{beside}
 use Rattle.brooklet_step.specs.Joins.{BeginsWithSelection, IsSelection}
 use Rattle.brooklet_step.specs.Given.{CanTake, CanTakeAll, FiresAt, FiresEach}
-use Rattle.brooklet_step.proofs.Counted.{privates_counted, blank_counted}
+use Rattle.brooklet_step.proofs.Counted.{blank_by}
+use Rattle.brooklet_model.proofs.Ports.{shaped}
+use Rattle.brooklet_step.proofs.GivenLemmas.{fit_length}
 use Rattle.brooklet_step.proofs.Growth.{through_can, through}
 use Rattle.brooklet_step.proofs.NestedJoin.{behind, opened, fused_first, nested_can, third_can, nested_fires}
 use Rattle.brooklet_step.proofs.Ones.{only_one, zero_can, zero_fires, first_can, first_fires}
@@ -212,36 +214,47 @@ fire_packed-returns t c =
     given (list_at given.outs 0) _ refl refl c.requires g.1 g.3 refl refl took)
     c.give_pack.ensures
 
+pub fire_fused-first_counts-requires : goal.fire_fused-first_counts-requires
+fire_fused-first_counts-requires t c =
+    let k = fused (kern_of c.args.first.now) (kern_of c.args.second.now) c.args.at in
+    let can = c.requires in
+    record {
+      place = (shaped k can.reads can.fitting.writes can.fitting.vars can.fitting.fits).2;
+      states = fit_length k can.reads c.args.states.now can.fitting.state;
+      lists = can.room;
+    }
+
 pub fire_fused-split_at_mut-mine-requires : goal.fire_fused-split_at_mut-mine-requires
 fire_fused-split_at_mut-mine-requires t c =
     let a = kern_of c.args.first.now in
     let b = kern_of c.args.second.now in
     let k = fused a b c.args.at in
-    let shape = c.in_ok-shape.shape in
-    count_fits k a b c.args.at shape.privates c.args.port c.args.item c.args.states.now c.args.out.now refl
-    (privates_counted a shape c.in_ok-shape.ensures) c.requires
+    let is = c.in_ok-counts.ensures in
+    let count = c.in_ok-counts.counts.privates in
+    count_fits k a b c.args.at count c.args.port c.args.item c.args.states.now c.args.out.now refl
+    (is.privates_are) c.requires
 
 pub fire_fused-fire_blank-requires : goal.fire_fused-fire_blank-requires
 fire_fused-fire_blank-requires t c =
     let a = kern_of c.args.first.now in
     let b = kern_of c.args.second.now in
     let k = fused a b c.args.at in
-    let shape = c.in_ok-shape.shape in
-    let count = shape.privates in
+    let is = c.in_ok-counts.ensures in
+    let count = c.in_ok-counts.counts.privates in
     let st = c.args.states.now in
     let mine = c.split_at_mut-mine.result.0.now in
     let rest = c.split_at_mut-mine.result.1.now in
     let p : Parts k a b c.args.at count st mine rest =
     record {
       kernel = refl;
-      counted = privates_counted a shape c.in_ok-shape.ensures;
+      counted = is.privates_are;
       front = c.split_at_mut-mine.ensures.front;
       back =
           c.split_at_mut-mine.ensures.back;
     } in (
       omega (arith, c.decreases),
       λ e o n. first_taken k a b c.args.at count c.args.port c.args.item st mine rest c.args.out.now e p c.requires
-          (blank_counted a shape e c.in_ok-shape.ensures o n),
+          (blank_by a c.in_ok-counts.counts e is o n),
     )
 
 pub fire_fused-fire_behind-fired-requires : goal.fire_fused-fire_behind-fired-requires
@@ -249,8 +262,8 @@ fire_fused-fire_behind-fired-requires t c =
     let a = kern_of c.args.first.now in
     let b = kern_of c.args.second.now in
     let k = fused a b c.args.at in
-    let shape = c.in_ok-shape.shape in
-    let count = shape.privates in
+    let is = c.in_ok-counts.ensures in
+    let count = c.in_ok-counts.counts.privates in
     let st = c.args.states.now in
     let mine = c.split_at_mut-mine.result.0.now in
     let rest = c.split_at_mut-mine.result.1.now in
@@ -258,14 +271,14 @@ fire_fused-fire_behind-fired-requires t c =
     let p : Parts k a b c.args.at count st mine rest =
     record {
       kernel = refl;
-      counted = privates_counted a shape c.in_ok-shape.ensures;
+      counted = is.privates_are;
       front = c.split_at_mut-mine.ensures.front;
       back =
           c.split_at_mut-mine.ensures.back;
     } in (
       omega (arith, c.decreases),
       takes_on k a b c.args.at count c.args.port c.args.item st mine rest c.fire_blank.new.states c.args.out.now m.0
-          c.in_ok-mid.mid p c.requires (blank_counted a shape m.0 c.in_ok-shape.ensures m.1 m.2) m.3,
+          c.in_ok-mid.mid p c.requires (blank_by a c.in_ok-counts.counts m.0 is m.1 m.2) m.3,
     )
 
 pub fire_fused-returns : goal.fire_fused-returns
@@ -273,8 +286,8 @@ fire_fused-returns t c =
     let a = kern_of c.args.first.now in
     let b = kern_of c.args.second.now in
     let k = fused a b c.args.at in
-    let shape = c.in_ok-shape.shape in
-    let count = shape.privates in
+    let is = c.in_ok-counts.ensures in
+    let count = c.in_ok-counts.counts.privates in
     let st = c.args.states.now in
     let mine = c.split_at_mut-mine.result.0.now in
     let rest = c.split_at_mut-mine.result.1.now in
@@ -282,14 +295,14 @@ fire_fused-returns t c =
     let p : Parts k a b c.args.at count st mine rest =
     record {
       kernel = refl;
-      counted = privates_counted a shape c.in_ok-shape.ensures;
+      counted = is.privates_are;
       front = c.split_at_mut-mine.ensures.front;
       back =
           c.split_at_mut-mine.ensures.back;
     } in
     on_ok_weaker c.fire_behind-fired.result
     (λ r. both_fire k a b c.args.at count c.args.port c.args.item st mine rest c.fire_blank.new.states c.fire_behind-fired.new.states c.args.out.now
-    c.fire_behind-fired.new.out m.0 c.in_ok-mid.mid p c.requires (blank_counted a shape m.0 c.in_ok-shape.ensures m.1 m.2) m.3 r)
+    c.fire_behind-fired.new.out m.0 c.in_ok-mid.mid p c.requires (blank_by a c.in_ok-counts.counts m.0 is m.1 m.2) m.3 r)
     c.fire_behind-fired.ensures
 
 pub fire_behind-fire_each-requires : goal.fire_behind-fire_each-requires
