@@ -13,7 +13,7 @@ ghost use Rattle.brooklet_step.specs.Took.{IsBlank, Took};
 ghost use Rattle.brooklet_step.specs.Joins.{BeginsWithSelection, IsSelection};
 ghost use Rattle.brooklet_step.specs.Given.{CanTake, CanTakeAll, CanTakeOn, FiresAt, FiresEach, FiresFront, TookOn};
 
-use crate::counts::first_counts;
+use crate::counts::{Counts, first_counts};
 use crate::emit::{Emit, Spare};
 use crate::join::{fire_join, is_join, is_nested_join, kept_pairs};
 use crate::leaf::{filter_row, run_row};
@@ -128,6 +128,9 @@ fn fire_row_on(
     match kernel {
         Kernel::Code(code) => run_row(alloc, code, row, states, out, spare),
         Kernel::Filter(filter) => filter_row(alloc, filter, row, &mut states[0], out, spare),
+        Kernel::Fused { first, second, at } => {
+            fire_fused_row(alloc, first, second, *at, port, row, states, out, spare)
+        }
         _ => {
             let item = Item::Flat(Flat::One(Row::from_slice(row)));
             fire_on(alloc, kernel, port, item, states, out, spare)
@@ -202,6 +205,29 @@ fn fire_blank(
 {
     let mut given = Emit::blank_again(alloc, ports, tables, spare)?;
     fire_on(alloc, kernel, port, item, states, &mut given, spare)?;
+    Ok(given)
+}
+
+// The same, on the row of these values.
+#[cycle(fire_on)]
+fn fire_row_blank(
+    alloc: Global,
+    kernel: &Kernel,
+    port: u32,
+    row: &[i64],
+    states: &mut [State],
+    counts: Counts,
+    spare: &mut Spare,
+) -> Result<Emit, NoMemory>
+    requires some { 1 ≤ length row.now }
+    requires at_most { length row.now ≤ 16 }
+    requires can { (blank : Emit) → blank.outs ≡ replicate counts.outs [] → blank.adds ≡ replicate counts.tables []
+        → CanTake (kern_of kernel.now) port (variant.Flat (flat.One row.now)) states.old blank }
+    ensures { IfOk result (λ given. (blank : Emit) × (blank.outs ≡ replicate counts.outs []) × (blank.adds ≡ replicate counts.tables [])
+        × FiresAt (kern_of kernel.now) port (variant.Flat (flat.One row.now)) blank given states.old states.new) }
+{
+    let mut given = Emit::blank_again(alloc, counts.outs, counts.tables, spare)?;
+    fire_row_on(alloc, kernel, port, row, states, &mut given, spare)?;
     Ok(given)
 }
 
@@ -322,6 +348,33 @@ fn fire_fused(
         counts.tables,
         spare,
     )?;
+    let fired = fire_behind(alloc, second, at, rest, &mut mid, out, spare);
+    spare.put_lines(mid.outs);
+    fired
+}
+
+// The same, on the row of these values.
+#[cycle(fire_on)]
+fn fire_fused_row(
+    alloc: Global,
+    first: &Kernel,
+    second: &Kernel,
+    at: u32,
+    port: u32,
+    row: &[i64],
+    states: &mut [State],
+    out: &mut Emit,
+    spare: &mut Spare,
+) -> Result<(), NoMemory>
+    requires some { 1 ≤ length row.now }
+    requires at_most { length row.now ≤ 16 }
+    requires can { CanTake (fused (kern_of first.now) (kern_of second.now) at) port (variant.Flat (flat.One row.now)) states.old out.old }
+    ensures { OnOk result (FiresAt (fused (kern_of first.now) (kern_of second.now) at) port (variant.Flat (flat.One row.now)) out.old out.new
+        states.old states.new) }
+{
+    let counts = first_counts(first, second, at, states, out)?;
+    let (mine, rest) = states.split_at_mut(counts.privates);
+    let mut mid = fire_row_blank(alloc, first, port, row, mine, counts, spare)?;
     let fired = fire_behind(alloc, second, at, rest, &mut mid, out, spare);
     spare.put_lines(mid.outs);
     fired

@@ -192,6 +192,15 @@ fire_blank-fire_on-requires t c = (omega (arith, c.decreases), c.requires c.in_o
 pub fire_blank-returns : goal.fire_blank-returns
 fire_blank-returns t c = (c.in_ok-given.given, c.in_ok-given.ensures.outs, c.in_ok-given.ensures.adds, c.in_ok-fire_on.ensures)
 
+pub fire_row_blank-fire_row_on-requires : goal.fire_row_blank-fire_row_on-requires
+fire_row_blank-fire_row_on-requires t c = (
+  omega (arith, c.decreases),
+  (c.requires.some, (c.requires.at_most, c.requires.can c.in_ok-given.given c.in_ok-given.ensures.outs c.in_ok-given.ensures.adds)),
+)
+
+pub fire_row_blank-returns : goal.fire_row_blank-returns
+fire_row_blank-returns t c = (c.in_ok-given.given, c.in_ok-given.ensures.outs, c.in_ok-given.ensures.adds, c.in_ok-fire_row_on.ensures)
+
 pub fire_packed-fire_blank-requires : goal.fire_packed-fire_blank-requires
 fire_packed-fire_blank-requires t c =
     let j = kern_of c.args.inner.now in
@@ -303,6 +312,107 @@ fire_fused-returns t c =
     on_ok_weaker c.fire_behind-fired.result
     (λ r. both_fire k a b c.args.at count c.args.port c.args.item st mine rest c.fire_blank.new.states c.fire_behind-fired.new.states c.args.out.now
     c.fire_behind-fired.new.out m.0 c.in_ok-mid.mid p c.requires (blank_by a c.in_ok-counts.counts m.0 is m.1 m.2) m.3 r)
+    c.fire_behind-fired.ensures
+
+pub fire_fused_row-first_counts-requires : goal.fire_fused_row-first_counts-requires
+fire_fused_row-first_counts-requires t c =
+    let k = fused (kern_of c.args.first.now) (kern_of c.args.second.now) c.args.at in
+    let can = c.requires.can in
+    record {
+      place = (shaped k can.reads can.fitting.writes can.fitting.vars can.fitting.fits).2;
+      states = fit_length k can.reads c.args.states.now can.fitting.state;
+      lists = can.room;
+    }
+
+pub fire_fused_row-split_at_mut-mine-requires : goal.fire_fused_row-split_at_mut-mine-requires
+fire_fused_row-split_at_mut-mine-requires t c =
+    let item = variant.Flat (flat.One c.args.row.now) in
+    let a = kern_of c.args.first.now in
+    let b = kern_of c.args.second.now in
+    let k = fused a b c.args.at in
+    let is = c.in_ok-counts.ensures in
+    let count = c.in_ok-counts.counts.privates in
+    count_fits k a b c.args.at count c.args.port item c.args.states.now c.args.out.now refl
+    (is.privates_are) c.requires.can
+
+pub fire_fused_row-fire_row_blank-requires : goal.fire_fused_row-fire_row_blank-requires
+fire_fused_row-fire_row_blank-requires t c =
+    let item = variant.Flat (flat.One c.args.row.now) in
+    let a = kern_of c.args.first.now in
+    let b = kern_of c.args.second.now in
+    let k = fused a b c.args.at in
+    let is = c.in_ok-counts.ensures in
+    let count = c.in_ok-counts.counts.privates in
+    let st = c.args.states.now in
+    let mine = c.split_at_mut-mine.result.0.now in
+    let rest = c.split_at_mut-mine.result.1.now in
+    let p : Parts k a b c.args.at count st mine rest =
+    record {
+      kernel = refl;
+      counted = is.privates_are;
+      front = c.split_at_mut-mine.ensures.front;
+      back =
+          c.split_at_mut-mine.ensures.back;
+    } in (
+      omega (arith, c.decreases),
+      (
+        c.requires.some,
+        (
+          c.requires.at_most,
+          λ e o n. first_taken k a b c.args.at count c.args.port item st mine rest c.args.out.now e p c.requires.can
+              (blank_by a c.in_ok-counts.counts e is o n),
+        ),
+      ),
+    )
+
+pub fire_fused_row-fire_behind-fired-requires : goal.fire_fused_row-fire_behind-fired-requires
+fire_fused_row-fire_behind-fired-requires t c =
+    let item = variant.Flat (flat.One c.args.row.now) in
+    let a = kern_of c.args.first.now in
+    let b = kern_of c.args.second.now in
+    let k = fused a b c.args.at in
+    let is = c.in_ok-counts.ensures in
+    let count = c.in_ok-counts.counts.privates in
+    let st = c.args.states.now in
+    let mine = c.split_at_mut-mine.result.0.now in
+    let rest = c.split_at_mut-mine.result.1.now in
+    let m = c.in_ok-mid.ensures in
+    let p : Parts k a b c.args.at count st mine rest =
+    record {
+      kernel = refl;
+      counted = is.privates_are;
+      front = c.split_at_mut-mine.ensures.front;
+      back =
+          c.split_at_mut-mine.ensures.back;
+    } in (
+      omega (arith, c.decreases),
+      takes_on k a b c.args.at count c.args.port item st mine rest c.fire_row_blank.new.states c.args.out.now m.0
+          c.in_ok-mid.mid p c.requires.can (blank_by a c.in_ok-counts.counts m.0 is m.1 m.2) m.3,
+    )
+
+pub fire_fused_row-returns : goal.fire_fused_row-returns
+fire_fused_row-returns t c =
+    let item = variant.Flat (flat.One c.args.row.now) in
+    let a = kern_of c.args.first.now in
+    let b = kern_of c.args.second.now in
+    let k = fused a b c.args.at in
+    let is = c.in_ok-counts.ensures in
+    let count = c.in_ok-counts.counts.privates in
+    let st = c.args.states.now in
+    let mine = c.split_at_mut-mine.result.0.now in
+    let rest = c.split_at_mut-mine.result.1.now in
+    let m = c.in_ok-mid.ensures in
+    let p : Parts k a b c.args.at count st mine rest =
+    record {
+      kernel = refl;
+      counted = is.privates_are;
+      front = c.split_at_mut-mine.ensures.front;
+      back =
+          c.split_at_mut-mine.ensures.back;
+    } in
+    on_ok_weaker c.fire_behind-fired.result
+    (λ r. both_fire k a b c.args.at count c.args.port item st mine rest c.fire_row_blank.new.states c.fire_behind-fired.new.states c.args.out.now
+    c.fire_behind-fired.new.out m.0 c.in_ok-mid.mid p c.requires.can (blank_by a c.in_ok-counts.counts m.0 is m.1 m.2) m.3 r)
     c.fire_behind-fired.ensures
 
 pub fire_behind-fire_each-requires : goal.fire_behind-fire_each-requires
@@ -417,6 +527,27 @@ fire_row_on-returns-in-Filter t c =
     (ap kern_of c.in-Filter.is ∙ kern_of-filter c.in-Filter.filter) refl refl refl c.requires.can
     (filter_does f 0 item c.args.out.now c.filter_row.new.out _ _ h))
     c.filter_row.ensures
+
+pub fire_row_on-fire_fused_row-requires : goal.fire_row_on-fire_fused_row-requires
+fire_row_on-fire_fused_row-requires t c =
+    let ek = opened c.args.kernel.now c.deref.result.now c.deref-in-Fused.result.now c.in-Fused.first c.in-Fused.second c.in-Fused.at c.in-Fused.is
+    c.deref.ensures c.deref-in-Fused.ensures in (
+      omega (arith, c.decreases, ap size ek),
+      (
+        c.requires.some,
+        (
+          c.requires.at_most,
+          subst (λ i. CanTake i c.args.port (variant.Flat (flat.One c.args.row.now)) c.args.states.now c.args.out.now) ek c.requires.can,
+        ),
+      ),
+    )
+
+pub fire_row_on-returns-in-Fused : goal.fire_row_on-returns-in-Fused
+fire_row_on-returns-in-Fused t c =
+    let ek = opened c.args.kernel.now c.deref.result.now c.deref-in-Fused.result.now c.in-Fused.first c.in-Fused.second c.in-Fused.at c.in-Fused.is
+    c.deref.ensures c.deref-in-Fused.ensures in
+    subst (λ i. OnOk c.fire_fused_row.result (FiresAt i c.args.port (variant.Flat (flat.One c.args.row.now)) c.args.out.now c.fire_fused_row.new.out
+    c.args.states.now c.fire_fused_row.new.states)) (sym ek) c.fire_fused_row.ensures
 
 pub fire_row_on-fire_on-requires : goal.fire_row_on-fire_on-requires
 fire_row_on-fire_on-requires t c = (

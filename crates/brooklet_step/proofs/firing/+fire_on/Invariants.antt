@@ -45,3 +45,9 @@ decreases-fire_row_on l = 8 * size (kern_of l.kernel.now) + 1
 
 abbrev pub decreases-fire_front : goal.decreases-fire_front
 decreases-fire_front l = 8 * size (kern_of l.kernel.now) + 2
+
+abbrev pub decreases-fire_row_blank : goal.decreases-fire_row_blank
+decreases-fire_row_blank l = 8 * size (kern_of l.kernel.now) + 2
+
+abbrev pub decreases-fire_fused_row : goal.decreases-fire_fused_row
+decreases-fire_fused_row l = 8 * (size (kern_of l.first.now) + size (kern_of l.second.now)) + 6
