@@ -6,6 +6,8 @@ use Rattle.river_kernels.specs.Kern.{Kern, code, packed, fused}
 use Rattle.river_kernels.specs.Shape.{shape, kept_vars as kept_told}
 use Rattle.brooklet_model.specs.Fire.{outs, tabs, privates, kept_vars}
 use Rattle.brooklet_step.specs.declared.emit.Emit.{Emit}
+use Rattle.brooklet_step.specs.declared.counts.Counts.{Counts}
+use Rattle.brooklet_step.specs.Counts.{AreCountsOf}
 use Rattle.brooklet_step.specs.Took.{IsBlank}
 
 -- the number of outputs that the code counts
@@ -29,13 +31,14 @@ privates_told (packed k) = privates_told k
 privates_told (fused a b at) = ap₂ (λ m n. m + n) (privates_told a) (privates_told b)
 privates_told kernel = refl
 
--- what is counted is the number of private variables
-pub privates_counted : (k : Kern) (s : Shape) → s ≡ shape k → s.privates ≡ privates k
-privates_counted k s e = ap (λ (t : Shape). t.privates) e ∙ privates_told k
+-- so what a shape tells are the numbers of the kernel
+pub shape_counts : (k : Kern) (s : Shape) → s ≡ shape k → AreCountsOf k (record { outs = s.outs; tables = s.tables; privates = s.privates })
+shape_counts k s e = record {
+  outs_are = ap (λ (t : Shape). t.outs) e ∙ outs_told k;
+  tables_are = ap (λ (t : Shape). t.tables) e ∙ tabs_told k;
+  privates_are = ap (λ (t : Shape). t.privates) e ∙ privates_told k;
+}
 
 -- empty lists for the ports and tables that are counted are those of the kernel
-pub blank_counted : (k : Kern) (s : Shape) (e : Emit) → s ≡ shape k → e.outs ≡ replicate s.outs [] → e.adds ≡ replicate s.tables [] → IsBlank k e
-blank_counted k s e told o a = record {
-  outs = o ∙ ap (λ n. replicate n []) (ap (λ (t : Shape). t.outs) told ∙ outs_told k);
-  adds = a ∙ ap (λ n. replicate n []) (ap (λ (t : Shape). t.tables) told ∙ tabs_told k);
-}
+pub blank_by : (k : Kern) (c : Counts) (e : Emit) → AreCountsOf k c → e.outs ≡ replicate c.outs [] → e.adds ≡ replicate c.tables [] → IsBlank k e
+blank_by k c e h o a = record { outs = o ∙ ap (λ n. replicate n []) h.outs_are; adds = a ∙ ap (λ n. replicate n []) h.tables_are }

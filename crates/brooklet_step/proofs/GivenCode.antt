@@ -1,6 +1,6 @@
 -- The conditions of firings, in the terms of the code.
-use Rattle.std.proofs.Common.{◌≡◌, ℕ, ◌<◌, ◌≤◌, List, [], ◌∷◌, ◌++◌, length, drop, replicate, refl, sym, ap, ◌∙◌, subst, arith, append_assoc}
-use Rattle.std.specs.Prelude.{All}
+use Rattle.std.proofs.Common.{◌≡◌, ℕ, zero, suc, Bool, false, ◌<◌, ◌≤◌, List, [], ◌∷◌, ◌++◌, length, drop, replicate, refl, sym, ap, ◌∙◌, subst, arith, append_assoc}
+use Rattle.std.specs.Prelude.{All, IsTrue}
 use Rattle.std.proofs.lemmas.List.{append-nil}
 use Rattle.std.proofs.lemmas.List.Elements.{All-head, All-tail}
 use Rattle.river_base.specs.declared.item.Item as item
@@ -33,6 +33,11 @@ pub fires_again : (k : Kern) (p : ℕ) (i : item.Item) (e e' : Emit) (st st' : L
 fires_again k p i e e' st st' t f =
     let d = f.each t.reads t.fitting.writes t.fitting.vars t.fitting.fits t.fitting.state t.item in
     (d.came.again, came_room k t.reads t.fitting.writes t.fitting.vars e e' st' t.room d.came)
+
+-- where a list is not empty, some item is left
+pub some_left : (n : ℕ) (empty : Bool) → (n ≡ 0 → IsTrue empty) → empty ≡ false → 0 < n
+some_left zero empty h e = absurd (let t : IsTrue false = subst IsTrue e (h refl) in cc t)
+some_left (suc n) empty h e = omega arith
 
 -- of the items of a list those that are left are to be fired on
 pub record SoFar (k : Kern) (all left : List item.Item) (e e' : Emit) (st st' : List State) : Type 0 where

@@ -11,6 +11,7 @@ pub mod GivenCode
 pub mod GivenFires
 pub mod GivenLemmas
 pub mod GivenParts
+pub mod Growth
 pub mod HeldLaws
 pub mod HeldTyped
 pub mod JoinFires

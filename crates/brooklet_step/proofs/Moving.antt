@@ -3,7 +3,7 @@ use Rattle.std.proofs.Common.{◌≡◌, ℕ, suc, ◌+◌, ◌<◌, ◌≤◌, 
 use Rattle.std.proofs.Common.{replicate, reverse, ⊎_elim, length-append}
 use Rattle.std.specs.Prelude.{slice_set}
 use Rattle.std.proofs.lemmas.Bool.{cases_lt}
-use Rattle.std.proofs.lemmas.List.{take_more, length-set, get_or-set_same, reverse-append}
+use Rattle.std.proofs.lemmas.List.{take_more, length-set, get_or-set_same, reverse-append, replicate-append-replicate}
 use Rattle.river_base.specs.Places.{list_at}
 
 -- from this place on the lists are as they were
@@ -79,3 +79,9 @@ pub line_next : {A : Type 0} (line line' items items' all : List A) (x : A) → 
 line_next line line' items items' all x e l inv =
     ap (λ k. k ++ reverse items') l ∙ append_assoc line (x ∷ []) (reverse items')
     ∙ ap (λ k. line ++ k) (sym (ap reverse e ∙ reverse-append items' (x ∷ []))) ∙ inv
+
+-- empty lists, and as many more as are missing
+pub refilled : {A : Type 0} (count n m : ℕ) (now new : List (List A)) → now ≡ replicate n [] → new ≡ now ++ replicate m [] → n + m ≡ count
+    → new ≡ replicate count []
+refilled count n m now new e g h =
+    g ∙ ap (λ l. l ++ replicate m []) e ∙ replicate-append-replicate n m [] ∙ ap (λ k. replicate k []) h

@@ -31,6 +31,7 @@ use Rattle.brooklet_step.proofs.EachFused.{fused_each}
 use Rattle.brooklet_step.proofs.Fires.{grown_list, blank_room}
 use Rattle.brooklet_step.proofs.Fused.{Parts}
 use Rattle.brooklet_step.proofs.GivenCode.{takes_on, both_fire}
+use Rattle.brooklet_step.proofs.Growth.{blank_of}
 use Rattle.brooklet_step.proofs.SelectedCross.{can_keep, all_kept}
 
 -- IN THE TERMS OF THE CODE
@@ -57,10 +58,6 @@ behind e c inner = fused (select e) c inner
 
 abbrev nested : Term → Kern → ℕ → ℕ → Kern
 nested e c inner at = fused cross (behind e c inner) at
-
--- lists without anything for all that a kernel gives
-abbrev blank_of : Kern → Emit
-blank_of k = record { outs = replicate (outs k) []; adds = replicate (tabs k) [] }
 
 -- what comes to them of a selection and a kernel behind it
 abbrev last_of : Kern → ℕ → List Change → Emit → Emit

@@ -309,6 +309,12 @@ pub record CanTakeAll (k : Kern) (is : List item.Item) (st : List State) (out : 
   pub items : All (IsHeldOf reads 0) is
   pub room : HasLists k out
 
+-- a firing on the first of the items, at the first port; it is left out of them
+pub record FiresFront (k : Kern) (items left : List item.Item) (out new : Emit) (st st' : List State) : Type 0 where
+  pub front : item.Item
+  pub is : items ≡ front ∷ left
+  pub fires : FiresAt k 0 front out new st st'
+
 -- TWO KERNELS
 
 -- the second of two kernels can take what the first gave at port `at`, whatever empty lists there are for what it gives, and there

@@ -1,4 +1,5 @@
 pub mod ByPlace
+pub mod Counts
 pub mod Dealing
 pub mod Drained
 pub mod Fit

@@ -31,6 +31,7 @@ pub struct Spare {
     items: Items,
     pushes: Emitted,
     values: Numbers,
+    lines: Listed<Lines>,
 }
 
 impl Spare {
@@ -40,6 +41,7 @@ impl Spare {
             items: Items::new(alloc),
             pushes: Emitted::new(alloc),
             values: Numbers::new(alloc),
+            lines: Listed::new(alloc),
         }
     }
 
@@ -70,6 +72,21 @@ impl Spare {
     pub(crate) fn put_values(&mut self, values: Numbers) {
         self.values = values;
     }
+
+    /// So many empty lines, with the memory of such as were used before.
+    pub(crate) fn take_lines(&mut self, alloc: Global, count: usize) -> Result<Lines, NoMemory>
+        ensures { IfOk result (λ lines. lines ≡ replicate count []) }
+    {
+        match self.lines.pop() {
+            Some(used) => renewed(alloc, used, count),
+            None => blank_lines(alloc, count),
+        }
+    }
+
+    /// Lines that were used come back. Where there is no memory to keep them, they are gone.
+    pub(crate) fn put_lines(&mut self, lines: Lines) {
+        let _kept = self.lines.push(lines).is_ok();
+    }
 }
 
 impl Emit {
@@ -80,6 +97,22 @@ impl Emit {
     {
         Ok(Emit {
             outs: blank_lines(alloc, ports)?,
+            adds: Listed::blanks(alloc, tables)?,
+        })
+    }
+
+    /// The same, with lines that were used before.
+    pub(crate) fn blank_again(
+        alloc: Global,
+        ports: usize,
+        tables: usize,
+        spare: &mut Spare,
+    ) -> Result<Emit, NoMemory>
+        ensures outs { IfOk result (λ emit. emit.outs ≡ replicate ports []) }
+        ensures adds { IfOk result (λ emit. emit.adds ≡ replicate tables []) }
+    {
+        Ok(Emit {
+            outs: spare.take_lines(alloc, ports)?,
             adds: Listed::blanks(alloc, tables)?,
         })
     }
@@ -184,6 +217,34 @@ fn blank_lines(alloc: Global, count: usize) -> Result<Lines, NoMemory>
     let mut lines = Lines::new(alloc);
     add_empty(alloc, &mut lines, count)?;
     Ok(lines)
+}
+
+// These lines, so many and all empty.
+fn renewed(alloc: Global, mut lines: Lines, count: usize) -> Result<Lines, NoMemory>
+    ensures { IfOk result (λ lines. lines ≡ replicate count []) }
+{
+    lines.truncate(count);
+    clear_lines(&mut lines);
+    let missing = count - lines.len();
+    add_empty(alloc, &mut lines, missing)?;
+    Ok(lines)
+}
+
+// No item is left in any of the lines, which keep their memory.
+fn clear_lines(lines: &mut Lines)
+    ensures { lines.new ≡ replicate (length lines.old) [] }
+{
+    for place in 0..lines.len() {
+        clear_line(lines, place);
+    }
+}
+
+// Nothing is left in the line at a place.
+fn clear_line(lines: &mut Lines, place: usize)
+    requires { place < length lines.old }
+    ensures { lines.new ≡ slice_set lines.old place [] }
+{
+    lines.at_mut(place).clear();
 }
 
 // An item comes to the end of the line at a place.

@@ -11,8 +11,9 @@ ghost use Rattle.brooklet_model.specs.Firings.{gives};
 ghost use Rattle.brooklet_step.specs.declared.emit.Emit.{Emit};
 ghost use Rattle.brooklet_step.specs.Took.{IsBlank, Took};
 ghost use Rattle.brooklet_step.specs.Joins.{BeginsWithSelection, IsSelection};
-ghost use Rattle.brooklet_step.specs.Given.{CanTake, CanTakeAll, CanTakeOn, FiresAt, FiresEach, TookOn};
+ghost use Rattle.brooklet_step.specs.Given.{CanTake, CanTakeAll, CanTakeOn, FiresAt, FiresEach, FiresFront, TookOn};
 
+use crate::counts::{Counts, first_counts};
 use crate::emit::{Emit, Spare};
 use crate::join::{fire_join, is_join, is_nested_join, kept_pairs};
 use crate::leaf::{filter_row, run_row};
@@ -109,6 +110,7 @@ pub(crate) fn fire_row(
     fire_row_on(alloc, kernel, port, row, states.as_mut_slice(), out, spare)
 }
 
+#[cycle(fire_on)]
 fn fire_row_on(
     alloc: Global,
     kernel: &Kernel,
@@ -126,6 +128,9 @@ fn fire_row_on(
     match kernel {
         Kernel::Code(code) => run_row(alloc, code, row, states, out, spare),
         Kernel::Filter(filter) => filter_row(alloc, filter, row, &mut states[0], out, spare),
+        Kernel::Fused { first, second, at } => {
+            fire_fused_row(alloc, first, second, *at, port, row, states, out, spare)
+        }
         _ => {
             let item = Item::Flat(Flat::One(Row::from_slice(row)));
             fire_on(alloc, kernel, port, item, states, out, spare)
@@ -198,8 +203,31 @@ fn fire_blank(
     ensures { IfOk result (λ given. (blank : Emit) × (blank.outs ≡ replicate ports []) × (blank.adds ≡ replicate tables [])
         × FiresAt (kern_of kernel.now) port item blank given states.old states.new) }
 {
-    let mut given = Emit::blank(alloc, ports, tables)?;
+    let mut given = Emit::blank_again(alloc, ports, tables, spare)?;
     fire_on(alloc, kernel, port, item, states, &mut given, spare)?;
+    Ok(given)
+}
+
+// The same, on the row of these values.
+#[cycle(fire_on)]
+fn fire_row_blank(
+    alloc: Global,
+    kernel: &Kernel,
+    port: u32,
+    row: &[i64],
+    states: &mut [State],
+    counts: Counts,
+    spare: &mut Spare,
+) -> Result<Emit, NoMemory>
+    requires some { 1 ≤ length row.now }
+    requires at_most { length row.now ≤ 16 }
+    requires can { (blank : Emit) → blank.outs ≡ replicate counts.outs [] → blank.adds ≡ replicate counts.tables []
+        → CanTake (kern_of kernel.now) port (variant.Flat (flat.One row.now)) states.old blank }
+    ensures { IfOk result (λ given. (blank : Emit) × (blank.outs ≡ replicate counts.outs []) × (blank.adds ≡ replicate counts.tables [])
+        × FiresAt (kern_of kernel.now) port (variant.Flat (flat.One row.now)) blank given states.old states.new) }
+{
+    let mut given = Emit::blank_again(alloc, counts.outs, counts.tables, spare)?;
+    fire_row_on(alloc, kernel, port, row, states, &mut given, spare)?;
     Ok(given)
 }
 
@@ -289,7 +317,7 @@ fn fire_third(
 {
     let (mine, rest) = states.split_at_mut(1);
     let mut mid = kept_pairs(alloc, cond, port, item, &mut mine[0], spare)?;
-    fire_second(alloc, third, inner, rest, &mut mid, out, spare)
+    fire_behind(alloc, third, inner, rest, &mut mid, out, spare)
 }
 
 // A firing of two kernels, the second behind port `at` of the first.
@@ -308,19 +336,70 @@ fn fire_fused(
     requires { CanTake (fused (kern_of first.now) (kern_of second.now) at) port item states.old out.old }
     ensures { OnOk result (FiresAt (fused (kern_of first.now) (kern_of second.now) at) port item out.old out.new states.old states.new) }
 {
-    let shape = first.shape()?;
-    let (mine, rest) = states.split_at_mut(shape.privates);
+    let counts = first_counts(first, second, at, states, out)?;
+    let (mine, rest) = states.split_at_mut(counts.privates);
     let mut mid = fire_blank(
         alloc,
         first,
         port,
         item,
         mine,
-        shape.outs,
-        shape.tables,
+        counts.outs,
+        counts.tables,
         spare,
     )?;
-    fire_second(alloc, second, at, rest, &mut mid, out, spare)
+    let fired = fire_behind(alloc, second, at, rest, &mut mid, out, spare);
+    spare.put_lines(mid.outs);
+    fired
+}
+
+// The same, on the row of these values.
+#[cycle(fire_on)]
+fn fire_fused_row(
+    alloc: Global,
+    first: &Kernel,
+    second: &Kernel,
+    at: u32,
+    port: u32,
+    row: &[i64],
+    states: &mut [State],
+    out: &mut Emit,
+    spare: &mut Spare,
+) -> Result<(), NoMemory>
+    requires some { 1 ≤ length row.now }
+    requires at_most { length row.now ≤ 16 }
+    requires can { CanTake (fused (kern_of first.now) (kern_of second.now) at) port (variant.Flat (flat.One row.now)) states.old out.old }
+    ensures { OnOk result (FiresAt (fused (kern_of first.now) (kern_of second.now) at) port (variant.Flat (flat.One row.now)) out.old out.new
+        states.old states.new) }
+{
+    let counts = first_counts(first, second, at, states, out)?;
+    let (mine, rest) = states.split_at_mut(counts.privates);
+    let mut mid = fire_row_blank(alloc, first, port, row, mine, counts, spare)?;
+    let fired = fire_behind(alloc, second, at, rest, &mut mid, out, spare);
+    spare.put_lines(mid.outs);
+    fired
+}
+
+// The second of two kernels fires on what the first gave. Where the first has no other port and no table, what it gives goes to
+// the lists as they are.
+#[cycle(fire_on)]
+fn fire_behind(
+    alloc: Global,
+    second: &Kernel,
+    at: u32,
+    states: &mut [State],
+    mid: &mut Emit,
+    out: &mut Emit,
+    spare: &mut Spare,
+) -> Result<(), NoMemory>
+    requires { CanTakeOn (kern_of second.now) at states.old mid.old out.old }
+    ensures { OnOk result (TookOn (kern_of second.now) at mid.old out.old out.new states.old states.new) }
+{
+    if mid.outs.len() == 1 && mid.adds.is_empty() {
+        let between = mid.outs.at_mut(at as usize);
+        return fire_each(alloc, second, between, states, out, spare);
+    }
+    fire_second(alloc, second, at, states, mid, out, spare)
 }
 
 // The second of two kernels fires on each item that the first gave at port `at`, and what both gave is put together.
@@ -356,8 +435,33 @@ fn fire_each(
     requires { CanTakeAll (kern_of kernel.now) items.old states.old out.old }
     ensures { OnOk result (FiresEach (kern_of kernel.now) items.old out.old out.new states.old states.new) }
 {
-    while let Some(item) = items.pop() {
-        fire_on(alloc, kernel, 0, item, states, out, spare)?;
+    'front: while !items.is_empty() {
+        fire_front(alloc, kernel, items, states, out, spare)?;
     }
     Ok(())
+}
+
+// A firing on the item in front, at the first port. A row that is kept as values is fired on as it lies.
+#[cycle(fire_on)]
+fn fire_front(
+    alloc: Global,
+    kernel: &Kernel,
+    items: &mut ItemLine,
+    states: &mut [State],
+    out: &mut Emit,
+    spare: &mut Spare,
+) -> Result<(), NoMemory>
+    requires some { 0 < length items.old }
+    requires can { CanTakeAll (kern_of kernel.now) items.old states.old out.old }
+    ensures { OnOk result (FiresFront (kern_of kernel.now) items.old items.new out.old out.new states.old states.new) }
+{
+    if let Some(row) = items.front_values() {
+        fire_row_on(alloc, kernel, 0, row, states, out, spare)?;
+        items.drop_front();
+        return Ok(());
+    }
+    match items.pop() {
+        Some(item) => fire_on(alloc, kernel, 0, item, states, out, spare),
+        None => Ok(()),
+    }
 }

@@ -35,12 +35,14 @@ fn row_of(item: &Item) -> &Row
     }
 }
 
-// What a body without kept slots pushes comes to an empty list.
+// What a body without kept slots pushes comes to an empty list. Its other slots stand in a list that
+// is used again.
 fn push_once(
     alloc: Global,
     kernel: &CodeKernel,
     row: &[i64],
     pushes: &mut Emitted,
+    spare: &mut Spare,
 ) -> Result<(), NoMemory>
     requires formed { CanCode (code_form kernel.now) }
     requires none { (code_form kernel.now).starts ≡ [] }
@@ -48,8 +50,10 @@ fn push_once(
     requires empty { pushes.old ≡ [] }
     ensures { OnOk result (pushes.new ≡ (run_kept (code_form kernel.now).body [] row.now).pushes) }
 {
-    let mut none = Numbers::new(alloc);
-    kernel.step(&mut none, row, pushes)
+    let mut slots = spare.take_values(alloc);
+    let pushed = kernel.step(&mut slots, row, pushes);
+    spare.put_values(slots);
+    pushed
 }
 
 // What a body with kept slots pushes comes to an empty list.
@@ -78,13 +82,14 @@ fn push_all(
     row: &[i64],
     states: &mut [State],
     pushes: &mut Emitted,
+    spare: &mut Spare,
 ) -> Result<(), NoMemory>
     requires takes { MayTake (code_kern (code_form kernel.now)) 0 (variant.Flat (flat.One row.now)) states.old }
     requires empty { pushes.old ≡ [] }
     ensures { OnOk result (Pushed (code_form kernel.now) (variant.Flat (flat.One row.now)) states.old states.new pushes.new) }
 {
     if kernel.starts.is_empty() {
-        push_once(alloc, kernel, row, pushes)
+        push_once(alloc, kernel, row, pushes, spare)
     } else {
         push_kept(kernel, row, &mut states[0], pushes)
     }
@@ -120,7 +125,7 @@ pub(crate) fn run_row(
         (fire_lem (code_kern (code_form kernel.now)) 0 (variant.Flat (flat.One row.now)))) }
 {
     let mut pushes = spare.take_pushes(alloc);
-    push_all(alloc, kernel, row, states, &mut pushes)?;
+    push_all(alloc, kernel, row, states, &mut pushes, spare)?;
     out.give_pushes(pushes, spare)
 }
 

@@ -3,6 +3,7 @@
 
 mod bag;
 mod count;
+mod counts;
 mod emit;
 mod firing;
 mod initial;
