@@ -3,8 +3,11 @@ ghost use Rattle.std.specs.Prelude.{◌≡◌, false, IfOk, Some};
 ghost use Rattle.command_line.specs.Commands.{is_live};
 ghost use Rattle.command_line.specs.Sentences.{command_of};
 ghost use Rattle.command_line.specs.declared.command.Command.{Command};
+ghost use Rattle.command_line.specs.declared.command.Command.TheVariants.{Free};
+ghost use Rattle.command_line.specs.declared.command.FreeWords.{FreeWords};
 ghost use Rattle.river_outside.specs.Causes.{Rose};
 ghost use Rattle.river_cli.specs.Does.{Does};
+ghost use Rattle.river_cli.specs.Free.{WroteJournal};
 ghost use Rattle.river_cli.specs.Points.{points_of, live_asked};
 
 use crate::road::{decide, run_waiting};
@@ -27,9 +30,10 @@ pub fn river_now<R: Threads + Sync, S: Shelf, O: Sink, E: Sink, G: Gate + Sync>(
     gate: &G,
 ) -> u8
     requires now { (command : Command) → command_of words.now ≡ Some command → is_live command ≡ false }
-    ensures { Does (points_of words.now) (S.held shelf.old) (shelf.new ≡ shelf.old) (Rose S.stays_at_last (S.faults shelf.old) (S.faults shelf.new))
+    ensures does { Does (points_of words.now) (S.held shelf.old) (shelf.new ≡ shelf.old) (Rose S.stays_at_last (S.faults shelf.old) (S.faults shelf.new))
         (O.taken out.old) (O.taken out.new) (Rose O.stays_at_last (O.faults out.old) (O.faults out.new))
         (E.taken err.old) (E.taken err.new) (Rose E.stays_at_last (E.faults err.old) (E.faults err.new)) result }
+    ensures free { (w : FreeWords) → command_of words.now ≡ Some (Free w) → result ≡ 0 → WroteJournal w (S.held shelf.old) (O.taken out.old) (O.taken out.new) }
 {
     let decided = decide(rt, alloc, words, shelf, gate);
     tell(decided, out, err)
@@ -46,9 +50,10 @@ pub fn river<R: Threads + Wait + Sync, S: Shelf, O: Sink, E: Sink, G: Gate + Syn
     err: &mut E,
     gate: &G,
 ) -> u8
-    ensures { Does (points_of words.now) (S.held shelf.old) (shelf.new ≡ shelf.old) (Rose S.stays_at_last (S.faults shelf.old) (S.faults shelf.new))
+    ensures does { Does (points_of words.now) (S.held shelf.old) (shelf.new ≡ shelf.old) (Rose S.stays_at_last (S.faults shelf.old) (S.faults shelf.new))
         (O.taken out.old) (O.taken out.new) (Rose O.stays_at_last (O.faults out.old) (O.faults out.new))
         (E.taken err.old) (E.taken err.new) (Rose E.stays_at_last (E.faults err.old) (E.faults err.new)) result }
+    ensures free { (w : FreeWords) → command_of words.now ≡ Some (Free w) → result ≡ 0 → WroteJournal w (S.held shelf.old) (O.taken out.old) (O.taken out.new) }
 {
     match live_asked(alloc, words) {
         Ok(None) => river_now(rt, alloc, words, shelf, out, err, gate),
