@@ -1,4 +1,5 @@
 pub mod Follows
+pub mod Keeps
 pub mod Loops
 pub mod Merges
 pub mod Progressed

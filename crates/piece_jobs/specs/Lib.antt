@@ -1,6 +1,7 @@
 pub mod Came
 pub mod Fetched
 pub mod Jobs
+pub mod Keeping
 pub mod Looked
 pub mod Merged
 pub mod Next

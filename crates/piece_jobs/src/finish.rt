@@ -58,15 +58,15 @@ fn finish_by<J: JobFiles>(
     Ok(())
 }
 
-// The tables of a plan.
-fn tables_of(plan: &Plan) -> &[TableDecl]
+/// The tables of a plan.
+pub(crate) fn tables_of(plan: &Plan) -> &[TableDecl]
     ensures { result.now ≡ plan.now.tables }
 {
     plan.raw().tables.as_slice()
 }
 
-// What a run would print of the tables of all that was printed.
-fn merged<J: JobFiles>(
+/// What a run would print of the tables of all that was printed.
+pub(crate) fn merged<J: JobFiles>(
     alloc: Global,
     files: &mut J,
     tables: &[TableDecl],

@@ -1,0 +1,4 @@
+//! The laws of what is kept of a file that grows.
+#![tactic(auto)]
+
+pub mod laws;
