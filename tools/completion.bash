@@ -1,4 +1,4 @@
-# Completion of river's words in bash:  . tools/completion.bash
+# Completion of the words of river and of tools/pieces in bash:  . tools/completion.bash
 #
 # Completes commands, languages, files and options, and the names of a program's inputs, which its plan tells. What stands already is
 # not offered again. It asks the program that is built, as it is, and never builds one: without it there are no names.
@@ -75,3 +75,17 @@ _river() {
   _river_rest "$word" "${inputs[@]}" "${options[@]}"
 }
 complete -F _river river
+
+# tools/pieces: the language, the program, in=FILE, and options in any order.
+_river_pieces() {
+  local word=${COMP_WORDS[COMP_CWORD]} before=${COMP_WORDS[COMP_CWORD - 1]}
+  COMPREPLY=()
+  case $COMP_CWORD,$before,$word in
+  1,*) mapfile -t COMPREPLY < <(compgen -W sawzall -- "$word") && return ;;
+  2,*,[!-]* | 2,*, | *,=,* | *,--keep,*) _river_files "$word" && return ;;
+  *,=) _river_files '' && return ;;
+  *,--jobs,* | *,--size,* | *,--sshlogin,*) return ;;
+  esac
+  _river_rest "$word" in= -H --jobs --size --sshlogin --keep
+}
+complete -F _river_pieces pieces

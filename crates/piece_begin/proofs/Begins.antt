@@ -9,41 +9,43 @@ use Rattle.piece_files.specs.declared.file.JobFile.TheVariants as file
 use Rattle.piece_files.proofs.JobInputs.{inputs-length, inputs-have}
 use Rattle.piece_work.specs.Cutting.{CutHeld}
 use Rattle.piece_work.specs.Faults.{Reads}
+use Rattle.piece_jobs.specs.UnderWay.{progress_of}
 use Rattle.piece_begin.specs.Begun.{HasBegun, Begun, IsCutIn, CutIn}
 use Rattle.piece_begin.specs.Laid.{AreLaid, Laid}
 
 -- what was taken from none on are the records of jobs
-cut-in : (file : Option (List ℕ)) (header : Bool) (n : ℕ) (old new : Option HeldFiles) → CutHeld file 0 header (inputs_told old 0) (inputs_told new n)
-    → CutIn file header n old new
-cut-in file header n None new c = tt
-cut-in file header n (Some old) None c = cc c.took.took
-cut-in file header n (Some old) (Some w) c = record {
+cut-in : (file : Option (List ℕ)) (from : ℕ) (header : Bool) (n : ℕ) (old new : Option HeldFiles) → CutHeld file from header (inputs_told old 0) (inputs_told new n)
+    → CutIn file from header n old new
+cut-in file from header n None new c = tt
+cut-in file from header n (Some old) None c = cc c.took.took
+cut-in file from header n (Some old) (Some w) c = record {
   bytes = c.bytes;
   pieces = c.took.pieces;
   file_is = c.is;
+  within = c.within;
   cut = c.took.cut;
   count = inputs-length n w c.took.pieces c.took.took;
   inputs = inputs-have n w c.took.pieces c.took.took;
 }
 
 -- the same, where it is told what the shelf holds
-pub cut-in-told : (held : Option Held) (name : List ℕ) (header : Bool) (k n : ℕ) (old new : Option HeldFiles) → k ≡ 0
-    → IfSome held (λ h. CutHeld (h name) 0 header (inputs_told old k) (inputs_told new n)) → IfSome held (λ h. CutIn (h name) header n old new)
-cut-in-told None name header k n old new zero c = tt
-cut-in-told (Some h) name header k n old new zero c = cut-in (h name) header n old new (rw zero at c)
+pub cut-in-told : (held : Option Held) (name : List ℕ) (from : ℕ) (header : Bool) (k n : ℕ) (old new : Option HeldFiles) → k ≡ 0
+    → IfSome held (λ h. CutHeld (h name) from header (inputs_told old k) (inputs_told new n)) → IfSome held (λ h. CutIn (h name) from header n old new)
+cut-in-told None name from header k n old new zero c = tt
+cut-in-told (Some h) name from header k n old new zero c = cut-in (h name) from header n old new (rw zero at c)
 
 -- records of jobs stay where no file of them changes
-inputs-stay : (old new : HeldFiles) → ((job : ℕ) → new (file.Input job) ≡ old (file.Input job)) → (job : ℕ) (pieces : List (List ℕ)) → HaveInputs old job pieces
+pub inputs-stay : (old new : HeldFiles) → ((job : ℕ) → new (file.Input job) ≡ old (file.Input job)) → (job : ℕ) (pieces : List (List ℕ)) → HaveInputs old job pieces
     → HaveInputs new job pieces
 inputs-stay old new same job [] have = tt
 inputs-stay old new same job (x ∷ xs) have = (same job ∙ have.0, inputs-stay old new same (suc job) xs have.1)
 
-is-held : (o : Option (List ℕ)) (limit : ℕ) (got : List ℕ) → FetchesAll o limit got → o ≡ Some got
+pub is-held : (o : Option (List ℕ)) (limit : ℕ) (got : List ℕ) → FetchesAll o limit got → o ≡ Some got
 is-held None limit got f = absurd f
 is-held (Some bytes) limit got f = ap (λ (l : List ℕ). Some l) (sym f.0)
 
 has-begun : (program file : Option (List ℕ)) (text : List ℕ) (header : Bool) (jobs : ℕ) (b c : HeldFiles) → program ≡ Some text → jobs < 2 ^ 32
-    → IsCutIn file header jobs b → AreLaid text header jobs b c → HasBegun program file header jobs c
+    → IsCutIn file 0 header jobs b → AreLaid text (progress_of header None jobs 1) b c → HasBegun program file header jobs c
 has-begun program file text header jobs b c is few cut laid = record {
   text = text;
   bytes = cut.bytes;
@@ -55,7 +57,9 @@ has-begun program file text header jobs b c is few cut laid = record {
   under_way = record {
     program = laid.program;
     inputs = inputs-stay b c laid.inputs 1 cut.pieces cut.inputs;
+    has_old = tt;
     few = rw cut.count few;
+    few_old = omega arith;
     turn = 1;
     tries = omega arith;
     state = rw cut.count laid.state;
@@ -66,7 +70,7 @@ has-begun program file text header jobs b c is few cut laid = record {
 }
 
 begun-in : (program file : Option (List ℕ)) (text : List ℕ) (header : Bool) (jobs : ℕ) (a b c : Option HeldFiles) → program ≡ Some text → jobs < 2 ^ 32
-    → CutIn file header jobs a b → Laid text header jobs b c → Begun program file header jobs a c
+    → CutIn file 0 header jobs a b → Laid text (progress_of header None jobs 1) b c → Begun program file header jobs a c
 begun-in program file text header jobs None b c is few cut laid = tt
 begun-in program file text header jobs (Some a) None c is few cut laid = absurd cut
 begun-in program file text header jobs (Some a) (Some b) None is few cut laid = absurd laid
@@ -74,9 +78,9 @@ begun-in program file text header jobs (Some a) (Some b) (Some c) is few cut lai
 
 -- the program was read, then the file was cut, then the files were put
 pub begun-told : (held there : Option Held) (limit : ℕ) (program name text : List ℕ) (header : Bool) (jobs : ℕ) (a b c : Option HeldFiles) → there ≡ held
-    → Reads held limit program text → jobs < 2 ^ 32 → IfSome there (λ h. CutIn (h name) header jobs a b) → Laid text header jobs b c
+    → Reads held limit program text → jobs < 2 ^ 32 → IfSome there (λ h. CutIn (h name) 0 header jobs a b) → Laid text (progress_of header None jobs 1) b c
     → IfSome held (λ h. Begun (h program) (h name) header jobs a c)
 begun-told None there limit program name text header jobs a b c same reads few cut laid = tt
 begun-told (Some h) there limit program name text header jobs a b c same reads few cut laid =
     begun-in (h program) (h name) text header jobs a b c (is-held (h program) limit text reads) few
-    (subst (λ (o : Option Held). IfSome o (λ g. CutIn (g name) header jobs a b)) same cut) laid
+    (subst (λ (o : Option Held). IfSome o (λ g. CutIn (g name) 0 header jobs a b)) same cut) laid

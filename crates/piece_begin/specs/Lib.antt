@@ -1,4 +1,5 @@
 pub mod Begun
 pub mod Faults
+pub mod Grown
 pub mod Laid
 pub mod Printed

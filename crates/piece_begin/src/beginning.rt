@@ -6,7 +6,7 @@ ghost use Rattle.piece_begin.specs.Begun.{Begun};
 ghost use Rattle.piece_begin.specs.Faults.{WhyNotBegun};
 
 use crate::jobs::cut_jobs;
-use crate::putting::put_files;
+use crate::putting::{first_try, put_files};
 use csv_cuts::Size;
 use piece_files::{Inputs, JobFiles};
 use piece_work::{WorkFault, read_file};
@@ -14,7 +14,7 @@ use river_outside::Shelf;
 use std::alloc::Global;
 
 // How many bytes of a program are read at most: 64 MiB.
-const MOST: u64 = 67_108_864;
+pub(crate) const MOST: u64 = 67_108_864;
 
 /// What is to be run in pieces.
 #[derive(Clone, Copy)]
@@ -52,7 +52,8 @@ pub fn begin<S: Shelf, J: JobFiles>(
         call.now.size.bytes call.now.program.now call.now.file.now) }
 {
     let text = read_file(alloc, shelf, call.program, MOST)?;
-    let jobs = cut_jobs(alloc, shelf, call, inputs)?;
-    put_files(alloc, &mut inputs.files, text.as_slice(), call.header, jobs)?;
+    let jobs = cut_jobs(alloc, shelf, call, 0, call.header, inputs)?;
+    let progress = first_try(jobs, call.header, false, 0);
+    put_files(alloc, &mut inputs.files, text.as_slice(), progress)?;
     Ok(jobs)
 }

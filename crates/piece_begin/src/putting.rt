@@ -1,5 +1,5 @@
 // The files of jobs that are to be run.
-ghost use Rattle.std.specs.Prelude.{◌≡◌, ◌≤◌, false, OnOk, IfErr};
+ghost use Rattle.std.specs.Prelude.{◌≡◌, ◌≤◌, ◌<◌, ◌^◌, OnOk, IfErr};
 ghost use Rattle.river_outside.specs.Causes.{Rose};
 ghost use Rattle.piece_files.specs.Held.{Put};
 ghost use Rattle.piece_files.specs.declared.file.JobFile.TheVariants as the_file;
@@ -13,22 +13,35 @@ use piece_jobs::{Progress, list_of_all, words_of_job};
 use piece_work::WorkFault;
 use std::alloc::Global;
 
-/// Puts the text of the program, the words of so many jobs, the state of their first try, and the list of them all.
+/// Puts the text of the program, the words of the jobs, how far the work is, and the list of all jobs in their first try.
 pub(crate) fn put_files<J: JobFiles>(
     alloc: Global,
     files: &mut J,
     text: &[u8],
-    header: bool,
-    jobs: u32,
+    progress: Progress,
 ) -> Result<(), WorkFault>
     ensures later { J.faults files.old ≤ J.faults files.new }
-    ensures laid { OnOk result (Laid text.now header jobs (J.held files.old) (J.held files.new)) }
+    ensures laid { OnOk result (Laid text.now progress (J.held files.old) (J.held files.new)) }
+    ensures few { OnOk result (progress.before < 2 ^ 63) }
     ensures refused { IfErr result (WhyUnput (Rose J.stays_at_last (J.faults files.old) (J.faults files.new))) }
 {
     files.put(JobFile::Program, text)?;
-    put_words(alloc, files, header, jobs)?;
-    put_state(alloc, files, header, jobs)?;
-    put_list(alloc, files, jobs)
+    put_words(alloc, files, progress.header, progress.jobs)?;
+    put_state(alloc, files, progress)?;
+    put_list(alloc, files, progress.jobs)
+}
+
+/// So many jobs in their first try; the first may begin with a header, and something may be kept, of so many records.
+pub(crate) fn first_try(jobs: u32, header: bool, kept: bool, before: u64) -> Progress
+    ensures { result ≡ record { jobs = jobs; header = header; turn = 1; kept = kept; before = before } }
+{
+    Progress {
+        jobs,
+        header,
+        turn: 1,
+        kept,
+        before,
+    }
 }
 
 // Puts the words of each job.
@@ -51,22 +64,12 @@ fn put_words<J: JobFiles>(
 }
 
 // Puts the state.
-fn put_state<J: JobFiles>(
-    alloc: Global,
-    files: &mut J,
-    header: bool,
-    jobs: u32,
-) -> Result<(), WorkFault>
+fn put_state<J: JobFiles>(alloc: Global, files: &mut J, progress: Progress) -> Result<(), WorkFault>
     ensures later { J.faults files.old ≤ J.faults files.new }
-    ensures put { OnOk result (Put the_file.State (progress_text (record { jobs = jobs; header = header; turn = 1; kept = false })) (J.held files.old) (J.held files.new)) }
+    ensures put { OnOk result (Put the_file.State (progress_text progress) (J.held files.old) (J.held files.new)) }
+    ensures few { OnOk result (progress.before < 2 ^ 63) }
     ensures refused { IfErr result (WhyUnput (Rose J.stays_at_last (J.faults files.old) (J.faults files.new))) }
 {
-    let progress = Progress {
-        jobs,
-        header,
-        turn: 1,
-        kept: false,
-    };
     let text = progress.text(alloc)?;
     files.put(JobFile::State, text.as_slice())?;
     Ok(())

@@ -1,5 +1,5 @@
 -- What is told on the error output, and the status that goes with it.
-use Rattle.std.specs.Prelude.{◌≡◌, ◌⊎◌, ℕ, List, ◌++◌, codes, Option}
+use Rattle.std.specs.Prelude.{◌≡◌, ◌⊎◌, ℕ, List, [], ◌∷◌, ◌++◌, codes, Option}
 use Rattle.std.specs.Fmt.{decimal}
 use Rattle.std.specs.Io.KnownBytes.{append_known}
 use Rattle.river_outside.specs.Taken.{TookPart}
@@ -8,7 +8,7 @@ use Rattle.piece_work.specs.declared.fault.WorkFault.TheVariants as why
 
 -- where the words are no sentence
 abbrev pub usage_text : List ℕ
-usage_text = codes "usage: pieces begin DIR SIZE sawzall PROGRAM in=FILE [-H] | next DIR | print DIR\n"
+usage_text = codes "usage: pieces begin DIR SIZE sawzall PROGRAM in=FILE [-H] [--keep FOLDER] | next DIR [--keep FOLDER] | print DIR\n"
 
 -- where a step was not done
 abbrev pub fault_line : WorkFault → List ℕ
@@ -32,6 +32,15 @@ fault_status why.Other = 3
 -- where a job did not come in three tries; what its last try told stands behind it
 abbrev pub lost_text : ℕ → List ℕ → List ℕ
 lost_text job told = codes "pieces: job " ++ (decimal job ++ (codes " did not come whole, 3 times\n" ++ told))
+
+-- where a job was refused: what is told of it; a job that told nothing has a word too
+abbrev pub refused_text : List ℕ → List ℕ
+refused_text [] = codes "pieces: a job was refused, and told nothing\n"
+refused_text (c ∷ cs) = c ∷ cs
+
+-- where what is kept is of another file, header or program, so that all records are run
+abbrev pub changed_text : List ℕ
+changed_text = codes "pieces: what is kept is not of this file and program: all of it is run\n"
 
 -- WHAT A SINK TOOK, where it tells it: `old` and `new` are what it had taken before and has taken then
 

@@ -1,5 +1,5 @@
 -- What a word of the command line may be.
-use Rattle.std.specs.Prelude.{ℕ, List, [], ◌∷◌, length, nat_lt, nat_le, ◌&&◌, Bool, true, false, Option, None, Some, codes, if◌then◌else◌}
+use Rattle.std.specs.Prelude.{ℕ, List, [], ◌∷◌, length, nat_lt, nat_le, ◌&&◌, Bool, true, false, Option, None, Some, option_map, codes, if◌then◌else◌}
 use Rattle.std.specs.List.{list_all}
 use Rattle.std.specs.Str.{bytes_eq}
 use Rattle.river_base.specs.Name.{is_digit}
@@ -22,8 +22,16 @@ abbrev pub input_of : List ℕ → Option (List ℕ)
 input_of (i ∷ n ∷ e ∷ c ∷ cs) = if bytes_eq (i ∷ n ∷ e ∷ []) (codes "in=") then Some (c ∷ cs) else None
 input_of word = None
 
--- what may stand behind them: nothing, or `-H`, where the file begins with a header
-abbrev pub header_of : List (List ℕ) → Option Bool
-header_of [] = Some false
-header_of (word ∷ []) = if bytes_eq word (codes "-H") then Some true else None
-header_of words = None
+-- `--keep FOLDER`, where something is kept for the next call, or nothing
+abbrev pub keep_of : List (List ℕ) → Option (Option (List ℕ))
+keep_of [] = Some None
+keep_of (word ∷ folder ∷ []) = if bytes_eq word (codes "--keep") then Some (Some folder) else None
+keep_of words = None
+
+-- what may stand behind them: `-H`, where the file begins with a header, and then that
+abbrev pub with_keep : Bool → List (List ℕ) → Option (Bool × Option (List ℕ))
+with_keep header words = option_map (λ keep. (header, keep)) (keep_of words)
+
+abbrev pub options_of : List (List ℕ) → Option (Bool × Option (List ℕ))
+options_of [] = with_keep false []
+options_of (word ∷ words) = if bytes_eq word (codes "-H") then with_keep true words else with_keep false (word ∷ words)

@@ -1,11 +1,28 @@
 // The words of the command line.
 ghost use Rattle.std.specs.Prelude.{◌≡◌, None, Some, MatchOption};
 ghost use Rattle.std.specs.Option.{option_map};
-ghost use Rattle.piece_cli.specs.Words.{header_of, input_of};
-ghost use Rattle.piece_cli.specs.Sentences.{asked, asked_begin, asked_by, asked_next, asked_print, folder_of};
+ghost use Rattle.std.specs.Prelude.{option_and_then};
+ghost use Rattle.piece_cli.specs.Words.{input_of, keep_of, options_of, with_keep};
+ghost use Rattle.piece_cli.specs.Sentences.{asked, asked_begin, asked_by, asked_next, asked_options, asked_print, folder_of, keep_asked, kept_by};
 
 use crate::number::read_size;
 use river_base::Text;
+
+/// Where something is kept for the next call.
+#[derive(Clone, Copy)]
+pub enum Keeping<'a> {
+    /// Nowhere.
+    Nothing,
+    /// In this folder.
+    In(&'a [u8]),
+}
+
+// What stands behind the file.
+#[derive(Clone, Copy)]
+struct Options<'a> {
+    header: bool,
+    keep: Keeping<'a>,
+}
 
 /// What is to be done in a work folder.
 #[derive(Clone, Copy)]
@@ -18,10 +35,12 @@ pub enum Command<'a> {
         program: &'a [u8],
         file: &'a [u8],
         header: bool,
+        keep: Keeping<'a>,
     },
     /// What is next is done.
     Next {
         folder: &'a [u8],
+        keep: Keeping<'a>,
     },
     /// What was made is printed.
     Print {
@@ -39,8 +58,11 @@ const SAWZALL: &[u8] = b"sawzall";
 
 const HEADER: &[u8] = b"-H";
 
-/// What the words ask for: `begin DIR SIZE sawzall PROGRAM in=FILE`, perhaps with `-H` behind it, `next DIR` or `print DIR`. SIZE
-/// has 1 to 6 decimal digits and is from 1 to 100,000; FILE is not empty. None where they are no such sentence.
+const KEEP: &[u8] = b"--keep";
+
+/// What the words ask for: `begin DIR SIZE sawzall PROGRAM in=FILE`, perhaps with `-H` and `--keep FOLDER` behind it, `next DIR`,
+/// perhaps with `--keep FOLDER` behind it, or `print DIR`. SIZE has 1 to 6 decimal digits and is from 1 to 100,000; FILE is not empty.
+/// None where they are no such sentence.
 pub fn command_of(words: &[Text]) -> Option<Command<'_>>
     ensures { option_map asked_by result ≡ asked words.now }
 {
@@ -65,13 +87,35 @@ pub fn folder_of(words: &[Text]) -> Option<&[u8]>
 {
     match command_of(words) {
         Some(Command::Begin { folder, .. }) => Some(folder),
-        Some(Command::Next { folder }) => Some(folder),
+        Some(Command::Next { folder, .. }) => Some(folder),
         Some(Command::Print { folder }) => Some(folder),
         None => None,
     }
 }
 
-// `DIR SIZE sawzall PROGRAM in=FILE` and perhaps `-H`.
+/// The folder in which something is kept for the next call, where the words are a sentence that names one.
+pub fn keep_of(words: &[Text]) -> Option<&[u8]>
+    ensures { MatchOption result (option_and_then keep_asked (asked words.now) ≡ None) (λ folder. option_and_then keep_asked (asked words.now) ≡ Some folder.now) }
+{
+    match command_of(words) {
+        Some(Command::Begin { keep, .. }) => folder_in(keep),
+        Some(Command::Next { keep, .. }) => folder_in(keep),
+        Some(Command::Print { .. }) => None,
+        None => None,
+    }
+}
+
+// The folder, if there is one.
+fn folder_in(keep: Keeping<'_>) -> Option<&[u8]>
+    ensures { MatchOption result (kept_by keep.entry ≡ None) (λ folder. kept_by keep.entry ≡ Some folder.now) }
+{
+    match keep {
+        Keeping::Nothing => None,
+        Keeping::In(folder) => Some(folder),
+    }
+}
+
+// `DIR SIZE sawzall PROGRAM in=FILE`, and perhaps `-H` and `--keep FOLDER`.
 fn begin_of(words: &[Text]) -> Option<Command<'_>>
     ensures { option_map asked_by result ≡ asked_begin words.now }
 {
@@ -83,26 +127,29 @@ fn begin_of(words: &[Text]) -> Option<Command<'_>>
     }
     let size = read_size(size.as_slice())?;
     let file = input_of(input.as_slice())?;
-    let header = header_of(behind)?;
+    let options = options_of(behind)?;
     Some(Command::Begin {
         folder: folder.as_slice(),
         size,
         program: program.as_slice(),
         file,
-        header,
+        header: options.header,
+        keep: options.keep,
     })
 }
 
-// `DIR`, behind `next`.
+// `DIR`, behind `next`, and perhaps `--keep FOLDER`.
 fn next_of(words: &[Text]) -> Option<Command<'_>>
     ensures { option_map asked_by result ≡ asked_next words.now }
 {
-    match words {
-        [folder] => Some(Command::Next {
-            folder: folder.as_slice(),
-        }),
-        _ => None,
-    }
+    let [folder, behind @ ..] = words else {
+        return None;
+    };
+    let keep = kept_in(behind)?;
+    Some(Command::Next {
+        folder: folder.as_slice(),
+        keep,
+    })
 }
 
 // `DIR`, behind `print`.
@@ -127,13 +174,31 @@ fn input_of(word: &[u8]) -> Option<&[u8]>
     }
 }
 
-// Whether `-H` stands there and nothing else, or nothing.
-fn header_of(words: &[Text]) -> Option<bool>
-    ensures { result ≡ header_of words.now }
+// Perhaps `-H`, and perhaps `--keep FOLDER` behind it.
+fn options_of(words: &[Text]) -> Option<Options<'_>>
+    ensures { option_map asked_options result ≡ options_of words.now }
 {
     match words {
-        [] => Some(false),
-        [word] if word.as_slice() == HEADER => Some(true),
+        [word, behind @ ..] if word.as_slice() == HEADER => with_keep(true, behind),
+        _ => with_keep(false, words),
+    }
+}
+
+// Perhaps `--keep FOLDER`, where it is known whether there is a header.
+fn with_keep(header: bool, words: &[Text]) -> Option<Options<'_>>
+    ensures { option_map asked_options result ≡ with_keep header words.now }
+{
+    let keep = kept_in(words)?;
+    Some(Options { header, keep })
+}
+
+// Whether `--keep FOLDER` stands there and nothing else, or nothing.
+fn kept_in(words: &[Text]) -> Option<Keeping<'_>>
+    ensures { option_map kept_by result ≡ keep_of words.now }
+{
+    match words {
+        [] => Some(Keeping::Nothing),
+        [word, folder] if word.as_slice() == KEEP => Some(Keeping::In(folder.as_slice())),
         _ => None,
     }
 }

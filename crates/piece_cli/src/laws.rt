@@ -1,10 +1,16 @@
 //! Laws over the definitions alone: what a status says.
-ghost use Rattle.piece_cli.specs.Laws.{ElevenIsAgain, FourIsUnwritten, TenIsBegun, TwoIsUsage, ZeroIsDone, ZeroIsPrinted};
+ghost use Rattle.piece_cli.specs.Laws.{ElevenIsAgain, FourIsUnwritten, TenIsBegun, TenIsGrown, TwoIsUsage, ZeroIsDone, ZeroIsPrinted};
 
 /// The first call answers 10 only where the program has begun.
 #[tactic(auto, using(crate::proofs::Statuses::ten_is_begun))]
 pub fn ten_is_begun()
     ensures { TenIsBegun }
+{}
+
+/// So where something may be kept.
+#[tactic(auto, using(crate::proofs::Statuses::ten_is_grown))]
+pub fn ten_is_grown()
+    ensures { TenIsGrown }
 {}
 
 /// A call between answers 0 only where all is done.

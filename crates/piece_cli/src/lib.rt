@@ -1,4 +1,5 @@
-//! The top call of pieces: what the program does, over a shelf, a work folder and two sinks that are handed in.
+//! The top call of pieces: what the program does, over a shelf, a work folder, a folder of what is kept, and two sinks that are
+//! handed in.
 #![tactic(auto)]
 
 mod command;
@@ -7,5 +8,5 @@ mod number;
 mod tell;
 mod top;
 
-pub use command::{Command, command_of, folder_of};
+pub use command::{Command, Keeping, command_of, folder_of, keep_of};
 pub use top::pieces;

@@ -1,7 +1,7 @@
 // What is told on the error output.
 ghost use Rattle.std.specs.Prelude.{◌≡◌, ◌≤◌, IfOk};
-ghost use Rattle.piece_cli.specs.Does.{IsLostText, IsShown, TellsBegun, TellsLost, TellsNext, TellsPrinted};
-ghost use Rattle.piece_cli.specs.Text.{Told, ToldFault, fault_line, fault_status, lost_text};
+ghost use Rattle.piece_cli.specs.Does.{IsLostText, IsShown, TellsBegun, TellsGrown, TellsLost, TellsNext, TellsPrinted};
+ghost use Rattle.piece_cli.specs.Text.{Told, ToldFault, fault_line, fault_status, lost_text, refused_text};
 ghost use Rattle.river_outside.specs.Causes.{Rose};
 
 use piece_files::{JobFile, JobFiles};
@@ -45,6 +45,17 @@ const REFUSED: &[u8] = b"pieces: the program is refused\n";
 
 const OTHER: &[u8] = b"pieces: a job printed what no run of the program does\n";
 
+const SILENT: &[u8] = b"pieces: a job was refused, and told nothing\n";
+
+const CHANGED: &[u8] = b"pieces: what is kept is not of this file and program: all of it is run\n";
+
+// What is told of a refused job, which may have told nothing.
+fn refusal(told: &[u8]) -> &[u8]
+    ensures { result.now ≡ refused_text told.now }
+{
+    if told.is_empty() { SILENT } else { told }
+}
+
 // What is told of a fault.
 fn line_of(fault: WorkFault) -> &'static [u8]
     ensures { result.now ≡ fault_line fault }
@@ -82,6 +93,17 @@ pub(crate) fn tell_begun<E: Sink>(came: Result<u32, WorkFault>, err: &mut E) -> 
     }
 }
 
+/// Tells how the first call ended where something may be kept; `changed` says that it is of something else.
+pub(crate) fn tell_grown<E: Sink>(came: Result<bool, WorkFault>, err: &mut E) -> u8
+    ensures { TellsGrown came (E.taken err.old) (E.taken err.new) (Rose E.stays_at_last (E.faults err.old) (E.faults err.new)) result }
+{
+    match came {
+        Ok(false) => 10,
+        Ok(true) => tell(err, CHANGED, 10),
+        Err(fault) => tell_fault(err, fault),
+    }
+}
+
 /// Tells how the last call ended.
 pub(crate) fn tell_printed<E: Sink>(wrong: Option<WorkFault>, err: &mut E) -> u8
     ensures { TellsPrinted wrong (E.taken err.old) (E.taken err.new) (Rose E.stays_at_last (E.faults err.old) (E.faults err.new)) result }
@@ -107,7 +129,7 @@ pub(crate) fn tell_next<J: JobFiles, E: Sink>(
         Ok(Next::Done) => 0,
         Ok(Next::Again) => 11,
         Ok(Next::Lost { job }) => tell_lost(alloc, files, job, err),
-        Ok(Next::Refused { told }) => tell(err, told.as_slice(), 1),
+        Ok(Next::Refused { told }) => tell(err, refusal(told.as_slice()), 1),
         Err(fault) => tell_fault(err, fault),
     }
 }

@@ -32,10 +32,11 @@ file_of bytes =
     cond (nat_eq (get_or bytes 0 0) 112) file.Program
     (cond (nat_eq (get_or bytes 0 0) 108) file.List
     (cond (nat_eq (get_or bytes 0 0) 107) file.Kept
+    (cond (nat_eq (get_or bytes 0 0) 109) file.Mark
     (cond (nat_eq (get_or bytes 0 0) 105) (file.Input (digits_value 10 (drop 3 bytes)))
     (cond (nat_eq (get_or bytes 0 0) 111) (file.Out (digits_value 10 (before_dot (drop 4 bytes))) (digits_value 10 (after_dot (drop 4 bytes))))
     (cond (nat_eq (get_or bytes 0 0) 101) (file.Err (digits_value 10 (before_dot (drop 4 bytes))) (digits_value 10 (after_dot (drop 4 bytes))))
-    (cond (nat_eq (get_or bytes 0 0) 119) (file_of_w bytes) (file_of_s bytes)))))))
+    (cond (nat_eq (get_or bytes 0 0) 119) (file_of_w bytes) (file_of_s bytes))))))))
 
 -- the numbers before a dot and behind it
 two_numbers : (kind : ℕ → ℕ → JobFile) (job turn : ℕ) → IsTrue (nat_lt job (2 ^ 64) && nat_lt turn (2 ^ 32))
@@ -53,6 +54,7 @@ file_of-name file.Program fits = refl
 file_of-name file.State fits = refl
 file_of-name file.List fits = refl
 file_of-name file.Kept fits = refl
+file_of-name file.Mark fits = refl
 file_of-name file.Whole fits = refl
 file_of-name (file.Words job) fits = ap file.Words (value-decimal job (lt_by job (2 ^ 64) fits))
 file_of-name (file.Input job) fits = ap file.Input (value-decimal job (lt_by job (2 ^ 64) fits))

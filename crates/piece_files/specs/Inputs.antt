@@ -26,6 +26,7 @@ is_input file.Program = false
 is_input file.State = false
 is_input file.List = false
 is_input file.Kept = false
+is_input file.Mark = false
 is_input file.Whole = false
 is_input (file.Words job) = false
 is_input (file.Input job) = true

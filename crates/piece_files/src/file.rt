@@ -11,6 +11,8 @@ pub enum JobFile {
     List,
     /// What is kept of an earlier call, on the front of the file.
     Kept,
+    /// How far the file will be read by what may be kept of this call.
+    Mark,
     /// What is printed in the end.
     Whole,
     /// The words of a job.

@@ -11,8 +11,8 @@ use river_base::{Bytes, NoMemory};
 use river_outside::{Failed, FetchFault, fetch};
 use std::alloc::Global;
 
-/// The files of the work folder of this path: `PATH/program`, `PATH/state`, `PATH/list`, `PATH/kept`, `PATH/whole`; of job N
-/// `PATH/words.N` and `PATH/in.N`; of its try T `PATH/out.N.T`, `PATH/err.N.T` and `PATH/status.N.T`.
+/// The files of the work folder of this path: `PATH/program`, `PATH/state`, `PATH/list`, `PATH/kept`, `PATH/mark`, `PATH/whole`;
+/// of job N `PATH/words.N` and `PATH/in.N`; of its try T `PATH/out.N.T`, `PATH/err.N.T` and `PATH/status.N.T`.
 #[derive(Drop)]
 pub struct Folder<'a, S> {
     store: S,
@@ -66,6 +66,7 @@ fn put_name(name: &mut Bytes, file: JobFile) -> Result<(), NoMemory>
         JobFile::State => name.extend(b"state"),
         JobFile::List => name.extend(b"list"),
         JobFile::Kept => name.extend(b"kept"),
+        JobFile::Mark => name.extend(b"mark"),
         JobFile::Whole => name.extend(b"whole"),
         JobFile::Words { job } => put_job(name, b"words.", job),
         JobFile::Input { job } => put_job(name, b"in.", job),

@@ -13,7 +13,7 @@ use Rattle.csv_streams.proofs.PrintedRead.{printed_rows_are_read}
 use Rattle.piece_jobs.specs.Progress.{HasCounts, OneProgress, SaysProgress, TextsSayProgress, flag, progress_row}
 use Rattle.piece_jobs.specs.declared.progress.Progress.{Progress}
 
-count-value : (n : ℕ) → n < 2 ^ 32 → IsValue (pos n)
+count-value : (n : ℕ) → n < 2 ^ 63 → IsValue (pos n)
 count-value n l = omega (arith, l)
 
 flag-value : (b : Bool) → IsValue (flag b)
@@ -22,18 +22,21 @@ flag-value false = omega arith
 
 row-values : (p : Progress) → HasCounts p → All IsValue (progress_row p)
 row-values p few =
-    All-cons IsValue (pos p.jobs) (flag p.header ∷ pos p.turn ∷ flag p.kept ∷ []) (count-value p.jobs few.0)
-    (All-cons IsValue (flag p.header) (pos p.turn ∷ flag p.kept ∷ []) (flag-value p.header)
-    (All-cons IsValue (pos p.turn) (flag p.kept ∷ []) (count-value p.turn few.1)
-    (All-cons IsValue (flag p.kept) [] (flag-value p.kept) (All-nil IsValue))))
+    let jobs = few.0 in
+    let turn = few.1.0 in
+    All-cons IsValue (pos p.jobs) (flag p.header ∷ pos p.turn ∷ flag p.kept ∷ pos p.before ∷ []) (count-value p.jobs (omega (arith, jobs)))
+    (All-cons IsValue (flag p.header) (pos p.turn ∷ flag p.kept ∷ pos p.before ∷ []) (flag-value p.header)
+    (All-cons IsValue (pos p.turn) (flag p.kept ∷ pos p.before ∷ []) (count-value p.turn (omega (arith, turn)))
+    (All-cons IsValue (flag p.kept) (pos p.before ∷ []) (flag-value p.kept)
+    (All-cons IsValue (pos p.before) [] (count-value p.before few.1.1) (All-nil IsValue)))))
 
 -- what is written of a progress says it
 pub texts_say_progress : TextsSayProgress
 texts_say_progress p few =
     let row = progress_row p in
-    subst (λ (text : List ℕ). rows_of_file text 4 false false ≡ Ok (row ∷ [])) (append-nil (row_line row))
-    (printed_rows_are_read 4 false (row ∷ []) (omega arith)
-    (All-cons (λ (r : List ℤ). length r ≡ 4) row [] refl (All-nil (λ (r : List ℤ). length r ≡ 4)))
+    subst (λ (text : List ℕ). rows_of_file text 5 false false ≡ Ok (row ∷ [])) (append-nil (row_line row))
+    (printed_rows_are_read 5 false (row ∷ []) (omega arith)
+    (All-cons (λ (r : List ℤ). length r ≡ 5) row [] refl (All-nil (λ (r : List ℤ). length r ≡ 5)))
     (All-cons (λ (r : List ℤ). All IsValue r) row [] (row-values p few) (All-nil (λ (r : List ℤ). All IsValue r))) (omega arith))
 
 in-rows : Result (List (List ℤ)) InFault → List ℤ
@@ -57,12 +60,22 @@ same-count m n e = ap nat_abs e
 -- a text says one progress at most
 pub one_progress : OneProgress
 one_progress text p q h g =
-    let rows = same-row (rows_of_file text 4 false false) (progress_row p) (progress_row q) h g in
-    let a = same-count p.jobs q.jobs (head_same (pos p.jobs) (pos q.jobs) (flag p.header ∷ pos p.turn ∷ flag p.kept ∷ []) (flag q.header ∷ pos q.turn ∷ flag q.kept ∷ []) rows) in
-    let more = tail_same (pos p.jobs) (pos q.jobs) (flag p.header ∷ pos p.turn ∷ flag p.kept ∷ []) (flag q.header ∷ pos q.turn ∷ flag q.kept ∷ []) rows in
-    let b = same-flag p.header q.header (head_same (flag p.header) (flag q.header) (pos p.turn ∷ flag p.kept ∷ []) (pos q.turn ∷ flag q.kept ∷ []) more) in
-    let rest = tail_same (flag p.header) (flag q.header) (pos p.turn ∷ flag p.kept ∷ []) (pos q.turn ∷ flag q.kept ∷ []) more in
-    let c = same-count p.turn q.turn (head_same (pos p.turn) (pos q.turn) (flag p.kept ∷ []) (flag q.kept ∷ []) rest) in
-    let last = tail_same (pos p.turn) (pos q.turn) (flag p.kept ∷ []) (flag q.kept ∷ []) rest in
-    let d = same-flag p.kept q.kept (head_same (flag p.kept) (flag q.kept) [] [] last) in
-    λ i. record { jobs = a i; header = b i; turn = c i; kept = d i }
+    let rows = same-row (rows_of_file text 5 false false) (progress_row p) (progress_row q) h g in
+    let p4 = pos p.before ∷ [] in
+    let q4 = pos q.before ∷ [] in
+    let p3 = flag p.kept ∷ p4 in
+    let q3 = flag q.kept ∷ q4 in
+    let p2 = pos p.turn ∷ p3 in
+    let q2 = pos q.turn ∷ q3 in
+    let p1 = flag p.header ∷ p2 in
+    let q1 = flag q.header ∷ q2 in
+    let a = same-count p.jobs q.jobs (head_same (pos p.jobs) (pos q.jobs) p1 q1 rows) in
+    let r1 : p1 ≡ q1 = tail_same (pos p.jobs) (pos q.jobs) p1 q1 rows in
+    let b = same-flag p.header q.header (head_same (flag p.header) (flag q.header) p2 q2 r1) in
+    let r2 : p2 ≡ q2 = tail_same (flag p.header) (flag q.header) p2 q2 r1 in
+    let c = same-count p.turn q.turn (head_same (pos p.turn) (pos q.turn) p3 q3 r2) in
+    let r3 : p3 ≡ q3 = tail_same (pos p.turn) (pos q.turn) p3 q3 r2 in
+    let d = same-flag p.kept q.kept (head_same (flag p.kept) (flag q.kept) p4 q4 r3) in
+    let r4 : p4 ≡ q4 = tail_same (flag p.kept) (flag q.kept) p4 q4 r3 in
+    let e = same-count p.before q.before (head_same (pos p.before) (pos q.before) [] [] r4) in
+    λ i. record { jobs = a i; header = b i; turn = c i; kept = d i; before = e i }

@@ -25,7 +25,8 @@ use Rattle.saw_front.proofs.Fronts.{compiled-judged}
 use Rattle.piece_jobs.specs.Came.{Ended}
 use Rattle.piece_jobs.specs.Fetched.{IsFound, WhyUnfetched}
 use Rattle.piece_jobs.specs.Jobs.{has_header}
-use Rattle.piece_jobs.specs.Next.{WhyNotNext, HasFaultOf, HasFault, IsTold, OfRecord, AsTold, fault_text, records_held}
+use Rattle.piece_jobs.specs.Next.{WhyNotNext, HasFaultOf, HasFault, IsTold, OfRecord, AsTold, fault_text}
+use Rattle.piece_keep.specs.Fed.{records_held}
 use Rattle.piece_jobs.specs.Plan.{IsPlanOf, HasPlan, HasNoPlan, most_text}
 use Rattle.piece_jobs.specs.Told.{IsFaultIn, IsFaultOf, IsWidthOf}
 use Rattle.piece_jobs.specs.declared.came.Ending.{Ending}
@@ -188,22 +189,22 @@ told-there held there job turn ending text same ended found =
       by None ended found = tt
       by (Some h) ended found = absurd (found ended.err ended.came.told)
 
-pub told-of-record : (held there : Option HeldFiles) (header : Bool) (before turn : ℕ) (told : List ℕ) (f : InFault) → there ≡ held
+pub told-of-record : (held there : Option HeldFiles) (header : Bool) (kept before turn : ℕ) (told : List ℕ) (f : InFault) → there ≡ held
     → IfSome held (λ h. IsFaultOf h (has_header header (before + 1)) (before + 1) (Some f))
-    → IfSome there (λ h. told ≡ fault_text (records_held h before) f) → IfSome held (λ h. IsTold h header before turn told)
-told-of-record held there header before turn told f same has is =
-    by held has (subst (λ (o : Option HeldFiles). IfSome o (λ h. told ≡ fault_text (records_held h before) f)) same is) where
+    → IfSome there (λ h. told ≡ fault_text (kept + records_held h before) f) → IfSome held (λ h. IsTold h header kept before turn told)
+told-of-record held there header kept before turn told f same has is =
+    by held has (subst (λ (o : Option HeldFiles). IfSome o (λ h. told ≡ fault_text (kept + records_held h before) f)) same is) where
       by : (o : Option HeldFiles) → IfSome o (λ h. IsFaultOf h (has_header header (before + 1)) (before + 1) (Some f))
-          → IfSome o (λ h. told ≡ fault_text (records_held h before) f) → IfSome o (λ h. IsTold h header before turn told)
+          → IfSome o (λ h. told ≡ fault_text (kept + records_held h before) f) → IfSome o (λ h. IsTold h header kept before turn told)
       by None has is = tt
       by (Some h) has is = OfRecord f has is
 
-pub told-as : (held there : Option HeldFiles) (header : Bool) (before turn : ℕ) (told : List ℕ) → there ≡ held
+pub told-as : (held there : Option HeldFiles) (header : Bool) (kept before turn : ℕ) (told : List ℕ) → there ≡ held
     → IfSome held (λ h. IsFaultOf h (has_header header (before + 1)) (before + 1) None)
-    → IfSome there (λ h. FetchesAll (h (Told (before + 1) turn)) most_file told) → IfSome held (λ h. IsTold h header before turn told)
-told-as held there header before turn told same none is =
+    → IfSome there (λ h. FetchesAll (h (Told (before + 1) turn)) most_file told) → IfSome held (λ h. IsTold h header kept before turn told)
+told-as held there header kept before turn told same none is =
     by held none (subst (λ (o : Option HeldFiles). IfSome o (λ h. FetchesAll (h (Told (before + 1) turn)) most_file told)) same is) where
       by : (o : Option HeldFiles) → IfSome o (λ h. IsFaultOf h (has_header header (before + 1)) (before + 1) None)
-          → IfSome o (λ h. FetchesAll (h (Told (before + 1) turn)) most_file told) → IfSome o (λ h. IsTold h header before turn told)
+          → IfSome o (λ h. FetchesAll (h (Told (before + 1) turn)) most_file told) → IfSome o (λ h. IsTold h header kept before turn told)
       by None none is = tt
       by (Some h) none is = AsTold none is

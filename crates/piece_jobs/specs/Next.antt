@@ -3,12 +3,12 @@ use Rattle.std.specs.Prelude.{◌≡◌, ◌⊎◌, ⊤, ℕ, zero, suc, ◌+◌
 use Rattle.std.specs.List.{AllByRecursion}
 use Rattle.csv_cuts.specs.Faults.{IsOfRecord, moved}
 use Rattle.csv_streams.specs.FaultWords.{in_words}
-use Rattle.csv_streams.specs.Records.{csv_records}
 use Rattle.csv_streams.specs.Rows.{rows_of_file}
 use Rattle.csv_streams.specs.declared.fault.InFault.{InFault}
 use Rattle.piece_files.specs.Held.{HeldFiles, Put}
 use Rattle.piece_files.specs.declared.file.JobFile.{JobFile}
 use Rattle.piece_files.specs.declared.file.JobFile.TheVariants.{Program, State, List as JobList, Kept, Whole, Input, Out, Err as Told}
+use Rattle.piece_keep.specs.Fed.{records_held}
 use Rattle.piece_merge.specs.Added.{IsMergeOf, HasRows}
 use Rattle.piece_work.specs.declared.fault.WorkFault.{WorkFault}
 use Rattle.piece_work.specs.declared.fault.WorkFault.TheVariants as why
@@ -41,7 +41,7 @@ pub record ReadsProgress (h : HeldFiles) (p : Progress) : Type 0 where
 
 -- the same work, in the next try
 abbrev pub next_turn : Progress → Progress
-next_turn p = record { jobs = p.jobs; header = p.header; turn = p.turn + 1; kept = p.kept }
+next_turn p = record { jobs = p.jobs; header = p.header; turn = p.turn + 1; kept = p.kept; before = p.before }
 
 -- The progress says the next try, the list has the jobs that have not come, and no other file is changed.
 pub record IsRetried (h : HeldFiles) (p : Progress) (found : List (Option Came)) (w : HeldFiles) : Type 0 where
@@ -78,11 +78,6 @@ pub record IsFinished (h : HeldFiles) (kept : Bool) (found : List (Option Came))
 
 -- WHAT IS TOLD OF A REFUSED JOB
 
--- how many records so many jobs have, from the first on, with the header
-abbrev pub records_held : HeldFiles → ℕ → ℕ
-records_held h zero = 0
-records_held h (suc n) = records_held h n + length (csv_records (bytes_of (h (Input (suc n)))))
-
 -- The records of the job have this fault for the program, and it is that of a record. They may begin with the header.
 pub record HasFaultOf (h : HeldFiles) (begins : Bool) (job : ℕ) (f : InFault) : Type 0 where
   pub plan : PlanForm
@@ -100,10 +95,10 @@ abbrev pub fault_text : ℕ → InFault → List ℕ
 fault_text before f = codes "refused: input in: " ++ (in_words (moved before f) ++ codes "\n")
 
 -- What is told where job number `before` + 1 is the first that was refused: the fault of its record, with the record's number in the
--- whole file; or, where there is none, what the job told.
-pub data IsTold (h : HeldFiles) (header : Bool) (before turn : ℕ) (told : List ℕ) : Type 0 where
-  OfRecord : (f : InFault) → HasFault h header (before + 1) f → told ≡ fault_text (records_held h before) f → IsTold h header before turn told
-  AsTold : ((f : InFault) → HasFault h header (before + 1) f → ⊥) → FetchesAll (h (Told (before + 1) turn)) most_file told → IsTold h header before turn told
+-- whole file, where `kept` records stand before those of the first job; or, where there is none, what the job told.
+pub data IsTold (h : HeldFiles) (header : Bool) (kept before turn : ℕ) (told : List ℕ) : Type 0 where
+  OfRecord : (f : InFault) → HasFault h header (before + 1) f → told ≡ fault_text (kept + records_held h before) f → IsTold h header kept before turn told
+  AsTold : ((f : InFault) → HasFault h header (before + 1) f → ⊥) → FetchesAll (h (Told (before + 1) turn)) most_file told → IsTold h header kept before turn told
 
 -- WHAT IS NEXT
 
@@ -111,7 +106,7 @@ abbrev pub Follows : HeldFiles → Option HeldFiles → Progress → List (Optio
 Follows h w p found next.Again = (p.turn < 3) × (place : ℕ) × BehindSome IsThere place None found × MatchOption w ⊥ (IsRetried h p found)
 Follows h w p found (next.Lost job) = (3 ≤ p.turn) × (place : ℕ) × BehindSome IsThere place None found × (job ≡ place + 1) × (w ≡ Some h)
 Follows h w p found (next.Refused told) =
-    (place turn : ℕ) × IsVerdict found (verdict.Refused place turn) × IsTold h p.header place turn told × (w ≡ Some h)
+    (place turn : ℕ) × IsVerdict found (verdict.Refused place turn) × IsTold h p.header p.before place turn told × (w ≡ Some h)
 Follows h w p found next.Done = AllByRecursion IsDone found × IsFinished h p.kept found w
 
 -- The folder says how far the work is, and so it is next: some jobs are run once more, or one of them is lost, since it did not come in

@@ -11,20 +11,20 @@ abbrev pub flag : Bool → ℤ
 flag true = pos 1
 flag false = pos 0
 
--- the number of jobs, whether there is a header, the try, and whether something is kept
+-- the number of jobs, whether there is a header, the try, whether something is kept, and how many records are
 abbrev pub progress_row : Progress → List ℤ
-progress_row p = pos p.jobs ∷ flag p.header ∷ pos p.turn ∷ flag p.kept ∷ []
+progress_row p = pos p.jobs ∷ flag p.header ∷ pos p.turn ∷ flag p.kept ∷ pos p.before ∷ []
 
 abbrev pub progress_text : Progress → List ℕ
 progress_text p = row_line (progress_row p)
 
 -- the text is a file of one row, which says so
 abbrev pub SaysProgress : List ℕ → Progress → Type 0
-SaysProgress text p = rows_of_file text 4 false false ≡ Ok (progress_row p ∷ [])
+SaysProgress text p = rows_of_file text 5 false false ≡ Ok (progress_row p ∷ [])
 
--- its numbers are counts of 32 bits
+-- its numbers are counts of 32 bits, and that of records one of 63
 abbrev pub HasCounts : Progress → Type 0
-HasCounts p = (p.jobs < 2 ^ 32) × (p.turn < 2 ^ 32)
+HasCounts p = (p.jobs < 2 ^ 32) × ((p.turn < 2 ^ 32) × (p.before < 2 ^ 63))
 
 -- why a text says nothing: there is nothing that it says, or memory was wanting
 abbrev pub WhyNoProgress : List ℕ → WorkFault → Type 0

@@ -2,12 +2,14 @@
 ghost use Rattle.std.specs.Prelude.{◌≡◌, ◌≤◌, ◌<◌, ◌^◌, length, None, IfOk, IfErr, OnOk, OnErr, MatchOption};
 ghost use Rattle.piece_files.specs.Held.{IfHeld};
 ghost use Rattle.river_outside.specs.Causes.{Rose};
+ghost use Rattle.piece_jobs.specs.Keeping.{KeepsBy, KeepsNext, WhyNotKept};
 ghost use Rattle.piece_jobs.specs.Looked.{AreCame};
 ghost use Rattle.piece_jobs.specs.Next.{Follows, IsNext, PutBoth, ReadsProgress, WhyNotNext};
 ghost use Rattle.piece_jobs.specs.Verdict.{BehindSome, IsThere};
 
 use crate::fetched::fetch_file;
 use crate::finish::finish;
+use crate::keeping::keep_found;
 use crate::list::list_of_lacking;
 use crate::told::told;
 use crate::{Came, Progress, Verdict, judge, look};
@@ -50,6 +52,57 @@ pub fn go_on<J: JobFiles>(alloc: Global, files: &mut J) -> Result<Next, WorkFaul
     follow(alloc, files, progress, found.as_slice())
 }
 
+/// The same; and where all came, what is kept of an earlier call, if anything is, and what all jobs but the last printed is kept for the
+/// next call in the folder `keep`. Where there is one job, that folder stays as it is.
+///
+/// # Errors
+///
+/// Those, and `Absent` where the folder has no beginning of a mark; `Unwritten` where the other folder failed.
+pub fn go_on_keeping<J: JobFiles, K: JobFiles>(
+    alloc: Global,
+    files: &mut J,
+    keep: &mut K,
+) -> Result<Next, WorkFault>
+    ensures later { J.faults files.old ≤ J.faults files.new }
+    ensures keep_later { K.faults keep.old ≤ K.faults keep.new }
+    ensures next { IfOk result (λ next. IfHeld (J.held files.old) (λ h. IsNext h (J.held files.new) next)) }
+    ensures kept { IfOk result (λ next. IfHeld (J.held files.old) (λ h. KeepsNext h (K.held keep.old) (K.held keep.new) next)) }
+    ensures refused { IfErr result (WhyNotKept (J.held files.old) (Rose J.stays_at_last (J.faults files.old) (J.faults files.new))
+        (Rose K.stays_at_last (K.faults keep.old) (K.faults keep.new))) }
+{
+    let progress = read_progress(alloc, files)?;
+    let found = look(alloc, files, progress.jobs, progress.turn)?;
+    follow_keeping(alloc, files, keep, progress, found.as_slice())
+}
+
+// What follows from what came of the jobs, with what is kept.
+fn follow_keeping<J: JobFiles, K: JobFiles>(
+    alloc: Global,
+    files: &mut J,
+    keep: &mut K,
+    progress: Progress,
+    found: &[Option<Came>],
+) -> Result<Next, WorkFault>
+    requires many { length found.now ≡ progress.jobs }
+    requires came { IfHeld (J.held files.old) (λ h. AreCame h progress.turn 1 found.now) }
+    ensures later { J.faults files.old ≤ J.faults files.new }
+    ensures keep_later { K.faults keep.old ≤ K.faults keep.new }
+    ensures follows { IfOk result (λ next. IfHeld (J.held files.old) (λ h. Follows h (J.held files.new) progress found.now next)) }
+    ensures kept { IfOk result (λ next. IfHeld (J.held files.old) (λ h. KeepsBy h progress found.now (K.held keep.old) (K.held keep.new) next)) }
+    ensures refused { IfErr result (WhyNotKept (J.held files.old) (Rose J.stays_at_last (J.faults files.old) (J.faults files.new))
+        (Rose K.stays_at_last (K.faults keep.old) (K.faults keep.new))) }
+{
+    match judge(found) {
+        Verdict::Done => {
+            keep_found(alloc, files, keep, progress.kept, found)?;
+            finish(alloc, files, progress.kept, found)?;
+            Ok(Next::Done)
+        }
+        Verdict::Lacking { .. } => follow(alloc, files, progress, found),
+        Verdict::Refused { .. } => follow(alloc, files, progress, found),
+    }
+}
+
 // What the folder says of its progress.
 fn read_progress<J: JobFiles>(alloc: Global, files: &mut J) -> Result<Progress, WorkFault>
     ensures stays { J.held files.new ≡ J.held files.old }
@@ -78,7 +131,14 @@ fn follow<J: JobFiles>(
     match judge(found) {
         Verdict::Lacking { place } => again(alloc, files, progress, found, place as u64),
         Verdict::Refused { place, turn } => {
-            let told = told(alloc, files, progress.header, place as u64, turn)?;
+            let told = told(
+                alloc,
+                files,
+                progress.header,
+                progress.before,
+                place as u64,
+                turn,
+            )?;
             Ok(Next::Refused { told })
         }
         Verdict::Done => {

@@ -1,14 +1,15 @@
 // What is kept for the next call.
-ghost use Rattle.std.specs.Prelude.{◌≡◌, ◌≤◌, ◌<◌, ◌-◌, ◌++◌, codes, length, take, OnOk, IfErr};
+ghost use Rattle.std.specs.Prelude.{◌≡◌, ◌≤◌, ◌<◌, ◌-◌, ◌++◌, codes, length, take, OnOk, OnErr, IfErr};
 ghost use Rattle.std.specs.List.{AllByRecursion};
 ghost use Rattle.piece_files.specs.Held.{IfHeld};
 ghost use Rattle.piece_keep.specs.Mark.{sum_of};
 ghost use Rattle.river_outside.specs.Causes.{Rose};
-ghost use Rattle.piece_jobs.specs.Keeping.{IsKeptFrom, PutKept, WhyNotKept, WhyUnkept};
+ghost use Rattle.piece_jobs.specs.Keeping.{IsKept, IsKeptFrom, MaybePutKept, PutKept, WhyNotKept, WhyUnkept};
 ghost use Rattle.piece_jobs.specs.Merged.{HaveCome};
 ghost use Rattle.piece_jobs.specs.Verdict.{IsDone};
 
 use crate::Came;
+use crate::fetched::fetch_file;
 use crate::finish::{merged, tables_of};
 use crate::plan::read_plan;
 use piece_files::{JobFile, JobFiles};
@@ -17,9 +18,34 @@ use piece_work::WorkFault;
 use std::alloc::Global;
 
 /// Keeps, for the next call, the tables of what is kept of an earlier call, if anything is, and of what all jobs but the last
-/// printed. The mark of it begins with `front`.
+/// printed; nothing where there is one job.
+pub(crate) fn keep_found<J: JobFiles, K: JobFiles>(
+    alloc: Global,
+    files: &mut J,
+    keep: &mut K,
+    kept: bool,
+    found: &[Option<Came>],
+) -> Result<(), WorkFault>
+    requires came { IfHeld (J.held files.old) (λ h. HaveCome h found.now) }
+    requires done { AllByRecursion IsDone found.now }
+    ensures stays { J.held files.new ≡ J.held files.old }
+    ensures later { J.faults files.old ≤ J.faults files.new }
+    ensures keep_later { K.faults keep.old ≤ K.faults keep.new }
+    ensures kept { OnOk result (IfHeld (J.held files.old) (λ h. IsKept h kept found.now (K.held keep.old) (K.held keep.new))) }
+    ensures refused { IfErr result (WhyNotKept (J.held files.old) (Rose J.stays_at_last (J.faults files.old) (J.faults files.new))
+        (Rose K.stays_at_last (K.faults keep.old) (K.faults keep.new))) }
+{
+    if found.len() < 2 {
+        return Ok(());
+    }
+    let front = fetch_file(alloc, files, JobFile::Mark)?;
+    keep_front(alloc, files, keep, kept, found, front.as_slice())
+}
+
+// Keeps the tables of what is kept of an earlier call, if anything is, and of what all jobs but the last printed. The mark of it begins
+// with `front`.
 #[tactic(auto, using(crate::proofs::Keeps::fronts))]
-pub fn keep_front<J: JobFiles, K: JobFiles>(
+fn keep_front<J: JobFiles, K: JobFiles>(
     alloc: Global,
     files: &mut J,
     keep: &mut K,
@@ -72,6 +98,7 @@ fn put_kept<K: JobFiles>(
 ) -> Result<(), WorkFault>
     ensures later { K.faults keep.old ≤ K.faults keep.new }
     ensures put { OnOk result (PutKept tables.now (front.now ++ (sum_of tables.now ++ codes "\n")) (K.held keep.old) (K.held keep.new)) }
+    ensures order { OnErr result (MaybePutKept tables.now (K.held keep.old) (K.held keep.new)) }
     ensures refused { IfErr result (WhyUnkept (Rose K.stays_at_last (K.faults keep.old) (K.faults keep.new))) }
 {
     let mark = whole_mark(alloc, front, tables)?;

@@ -16,8 +16,7 @@ mod verdict;
 
 pub use came::{Ending, ended};
 pub use fetched::fetch_file;
-pub use going_on::{MOST_TURNS, Next, go_on};
-pub use keeping::keep_front;
+pub use going_on::{MOST_TURNS, Next, go_on, go_on_keeping};
 pub use list::{list_of_all, words_of_job};
 pub use looking::{Came, look};
 pub use plan::MOST_TEXT;

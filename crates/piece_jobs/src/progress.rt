@@ -1,5 +1,5 @@
 // How far the work is.
-ghost use Rattle.std.specs.Prelude.{◌≡◌, Bool, [], ◌∷◌, IfOk, IfErr, IfSome, IfNone};
+ghost use Rattle.std.specs.Prelude.{◌≡◌, ◌<◌, ◌^◌, Bool, pos, [], ◌∷◌, OnOk, IfOk, IfErr, IfSome, IfNone};
 ghost use Rattle.piece_jobs.specs.declared.progress.Progress.{Progress};
 ghost use Rattle.piece_jobs.specs.Progress.{HasCounts, flag, progress_row, progress_text, SaysProgress, WhyNoProgress};
 
@@ -20,12 +20,15 @@ pub struct Progress {
     pub turn: u32,
     /// Whether something is kept of an earlier call.
     pub kept: bool,
+    /// How many records are kept, with the header.
+    pub before: u64,
 }
 
 impl Progress {
-    /// The text that says so: a line of four numbers.
+    /// The text that says so: a line of five numbers; the last is below 2^63, else there is no memory.
     pub fn text(self, alloc: Global) -> Result<Bytes, NoMemory>
-        ensures { IfOk result (λ text. text ≡ progress_text self) }
+        ensures text { IfOk result (λ text. text ≡ progress_text self) }
+        ensures few { OnOk result (self.before < 2 ^ 63) }
     {
         let mut text = Bytes::new(alloc);
         let values = [
@@ -33,6 +36,7 @@ impl Progress {
             number_of(self.header),
             i64::from(self.turn),
             number_of(self.kept),
+            count_of(self.before)?,
         ];
         print_values(&values, &mut text)?;
         Ok(text)
@@ -43,7 +47,7 @@ impl Progress {
         ensures says { IfOk result (SaysProgress text.now) }
         ensures refused { IfErr result (WhyNoProgress text.now) }
     {
-        match read_even(alloc, text, 4, false, false) {
+        match read_even(alloc, text, 5, false, false) {
             Ok(rows) => match progress_in(&rows) {
                 Some(progress) => Ok(progress),
                 None => Err(WorkFault::Other),
@@ -71,19 +75,32 @@ fn of_row(values: &[i64]) -> Option<Progress>
     ensures some { IfSome result (λ p. values.now ≡ progress_row p) }
     ensures none { IfNone result ((p : Progress) → HasCounts p → values.now ≡ progress_row p → ⊥) }
 {
-    if values.len() != 4 {
+    if values.len() != 5 {
         return None;
     }
     let jobs = u32::try_from(values[0]).ok()?;
     let header = flag_of(values[1])?;
     let turn = u32::try_from(values[2]).ok()?;
     let kept = flag_of(values[3])?;
+    let before = u64::try_from(values[4]).ok()?;
     Some(Progress {
         jobs,
         header,
         turn,
         kept,
+        before,
     })
+}
+
+// A count as a number; one above 2^63 - 1 has no memory.
+fn count_of(count: u64) -> Result<i64, NoMemory>
+    ensures is { IfOk result (λ n. n ≡ pos count) }
+    ensures few { OnOk result (count < 2 ^ 63) }
+{
+    match i64::try_from(count) {
+        Ok(n) => Ok(n),
+        Err(_) => Err(NoMemory),
+    }
 }
 
 // 1 for yes, 0 for no.

@@ -6,6 +6,7 @@ ghost use Rattle.csv_streams.specs.FaultWords.{in_words};
 ghost use Rattle.csv_streams.specs.Records.{csv_records};
 ghost use Rattle.csv_streams.specs.Rows.{rows_of_file};
 ghost use Rattle.piece_files.specs.Held.{IfHeld};
+ghost use Rattle.piece_keep.specs.Fed.{records_held};
 ghost use Rattle.piece_files.specs.declared.file.JobFile.TheVariants.{Input, Err as Told};
 ghost use Rattle.piece_work.specs.Faults.{most_file};
 ghost use Rattle.piece_work.specs.Held.{bytes_of};
@@ -16,7 +17,7 @@ ghost use Rattle.saw_front.specs.Meaning.{program_in};
 ghost use Rattle.saw_model.specs.Meaning.{width};
 ghost use Rattle.piece_jobs.specs.Came.{Ended};
 ghost use Rattle.piece_jobs.specs.Jobs.{has_header};
-ghost use Rattle.piece_jobs.specs.Next.{IsTold, WhyNotNext, fault_text, records_held};
+ghost use Rattle.piece_jobs.specs.Next.{IsTold, WhyNotNext, fault_text};
 ghost use Rattle.piece_jobs.specs.Plan.{IsPlanOf};
 ghost use Rattle.piece_jobs.specs.Told.{IsFaultIn, IsFaultOf, IsWidthOf};
 ghost use Rattle.piece_jobs.specs.declared.came.Ending.TheVariants.{Refused};
@@ -32,11 +33,13 @@ use river_plan::Plan;
 use std::alloc::Global;
 
 /// What is told where the job behind so many is the first that was refused, in this try: the fault of its record, with the record's
-/// number in the whole file; or, where its records have no such fault, what the job told.
+/// number in the whole file, where `kept` records stand before those of the first job; or, where its records have no such fault, what
+/// the job told.
 pub(crate) fn told<J: JobFiles>(
     alloc: Global,
     files: &mut J,
     header: bool,
+    kept: u64,
     before: u64,
     turn: u32,
 ) -> Result<Bytes, WorkFault>
@@ -44,12 +47,12 @@ pub(crate) fn told<J: JobFiles>(
     requires ended { IfHeld (J.held files.old) (λ h. Ended h (before + 1) turn Refused) }
     ensures stays { J.held files.new ≡ J.held files.old }
     ensures later { J.faults files.old ≤ J.faults files.new }
-    ensures told { IfOk result (λ told. IfHeld (J.held files.old) (λ h. IsTold h header before turn told)) }
+    ensures told { IfOk result (λ told. IfHeld (J.held files.old) (λ h. IsTold h header kept before turn told)) }
     ensures refused { IfErr result (WhyNotNext (J.held files.old) (Rose J.stays_at_last (J.faults files.old) (J.faults files.new))) }
 {
     let job = before + 1;
     match fault_of_job(alloc, files, begins(header, job), job)? {
-        Some(fault) => told_of_record(alloc, files, fault, before),
+        Some(fault) => told_of_record(alloc, files, fault, kept, before),
         None => told_by_job(alloc, files, job, turn),
     }
 }
@@ -161,22 +164,24 @@ fn fault_in(
     }
 }
 
-// What is told of the fault of a record, where so many jobs stand before.
+// What is told of the fault of a record, where what is kept has so many records, and so many jobs stand before.
 fn told_of_record<J: JobFiles>(
     alloc: Global,
     files: &mut J,
     fault: InFault,
+    kept: u64,
     before: u64,
 ) -> Result<Bytes, WorkFault>
     requires record { IsOfRecord fault }
     requires few { before < 2 ^ 32 }
     ensures stays { J.held files.new ≡ J.held files.old }
     ensures later { J.faults files.old ≤ J.faults files.new }
-    ensures told { IfOk result (λ told. IfHeld (J.held files.old) (λ h. told ≡ fault_text (records_held h before) fault)) }
+    ensures told { IfOk result (λ told. IfHeld (J.held files.old) (λ h. told ≡ fault_text (kept + records_held h before) fault)) }
     ensures refused { IfErr result (WhyNotNext (J.held files.old) (Rose J.stays_at_last (J.faults files.old) (J.faults files.new))) }
 {
     let records = records_before(alloc, files, before)?;
-    Ok(fault_line(alloc, fault, records)?)
+    let all = added(kept, records)?;
+    Ok(fault_line(alloc, fault, all)?)
 }
 
 // How many records so many jobs have, from the first on, with the header.

@@ -1,5 +1,6 @@
 -- A hasher that is fed with bytes of a file. `Holds` says of bytes that it was fed with them, and `before` is what it was fed with before.
-use Rattle.std.specs.Prelude.{◌≡◌, ⊤, ℕ, zero, suc, ◌+◌, ◌≤◌, List, [], ◌∷◌, ◌++◌, length, take, drop, Option, None, Some, IfSome, MatchOption}
+use Rattle.std.specs.Prelude.{◌≡◌, ⊤, ℕ, zero, suc, ◌+◌, ◌≤◌, ◌==◌, Bool, false, List, [], ◌∷◌, ◌++◌, length, take, drop, Option, None, Some, IfSome, MatchOption}
+use Rattle.csv_streams.specs.Records.{csv_records}
 use Rattle.river_outside.specs.Fetched.{IsLarger}
 use Rattle.piece_files.specs.Held.{HeldFiles}
 use Rattle.piece_files.specs.Inputs.{HaveInputs}
@@ -9,6 +10,7 @@ use Rattle.piece_work.specs.Held.{bytes_of}
 use Rattle.piece_work.specs.declared.fault.WorkFault.{WorkFault}
 use Rattle.piece_work.specs.declared.fault.WorkFault.TheVariants as why
 use Rattle.piece_keep.specs.Fronts.{bytes_in}
+use Rattle.piece_keep.specs.declared.extent.Extent.{Extent}
 
 -- the file has so many bytes, and they came behind those before; where there is no such file, none came
 abbrev pub FedFront : (List ℕ → Type 0) → List ℕ → Option (List ℕ) → ℕ → Type 0
@@ -20,6 +22,14 @@ abbrev pub FedBlock : (List ℕ → Type 0) → List ℕ → Option (List ℕ) �
 FedBlock Holds before None from count = ⊥
 FedBlock Holds before (Some bytes) from count = (from + count ≤ length bytes) × Holds (before ++ take count (drop from bytes))
 
+-- the byte at this place of the file, if it has one, is this one
+abbrev pub is_first : List ℕ → ℕ → Bool
+is_first [] byte = false
+is_first (x ∷ xs) byte = x == byte
+
+abbrev pub has_byte : Option (List ℕ) → ℕ → ℕ → Bool
+has_byte file at byte = is_first (drop at (bytes_of file)) byte
+
 -- THE RECORDS OF JOBS
 
 -- those of a job, and those of so many jobs, from job 1 on
@@ -30,14 +40,21 @@ abbrev pub inputs_to : HeldFiles → ℕ → List ℕ
 inputs_to w zero = []
 inputs_to w (suc n) = inputs_to w n ++ input_of w (suc n)
 
--- the records of the job came behind those before; they begin and end at these places
-pub record FedInput (Holds : List ℕ → Type 0) (before : List ℕ) (w : HeldFiles) (job at end : ℕ) : Type 0 where
-  pub ends : end ≡ at + length (input_of w job)
+-- how many records so many jobs have, from the first on, with the header
+abbrev pub records_held : HeldFiles → ℕ → ℕ
+records_held w zero = 0
+records_held w (suc n) = records_held w n + length (csv_records (input_of w (suc n)))
+
+-- the records of the job came behind those before; they begin and end so far in the file
+pub record FedInput (Holds : List ℕ → Type 0) (before : List ℕ) (w : HeldFiles) (job : ℕ) (from end : Extent) : Type 0 where
+  pub ends : end.at ≡ from.at + length (input_of w job)
+  pub counts : end.records ≡ from.records + length (csv_records (input_of w job))
   pub holds : Holds (before ++ input_of w job)
 
 -- so of so many jobs
-pub record FedInputs (Holds : List ℕ → Type 0) (before : List ℕ) (w : HeldFiles) (jobs from end : ℕ) : Type 0 where
-  pub ends : end ≡ from + length (inputs_to w jobs)
+pub record FedInputs (Holds : List ℕ → Type 0) (before : List ℕ) (w : HeldFiles) (jobs : ℕ) (from end : Extent) : Type 0 where
+  pub ends : end.at ≡ from.at + length (inputs_to w jobs)
+  pub counts : end.records ≡ from.records + records_held w jobs
   pub holds : Holds (before ++ inputs_to w jobs)
 
 -- why a hasher was not fed: the records of a job are not there, or more than are read; or the folder failed, which says `rose`

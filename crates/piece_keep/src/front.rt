@@ -11,10 +11,10 @@ use sha2::Digest;
 use std::alloc::Global;
 
 // How many bytes are read at once: 256 KiB.
-const BLOCK: usize = 262_144;
+pub(crate) const BLOCK: usize = 262_144;
 
 // How many bytes of a file are read at most: 1 TiB.
-const MOST: u64 = 1_099_511_627_776;
+pub(crate) const MOST: u64 = 1_099_511_627_776;
 
 /// Feeds a hasher with the first bytes of a file, so many as `at` says; `Other` where the file has fewer.
 pub fn feed_front<S: Shelf, D: Digest>(
@@ -26,6 +26,7 @@ pub fn feed_front<S: Shelf, D: Digest>(
 ) -> Result<(), WorkFault>
     ensures stays { S.held shelf.new ≡ S.held shelf.old }
     ensures later { S.faults shelf.old ≤ S.faults shelf.new }
+    ensures within { OnOk result (at ≤ MOST + BLOCK) }
     ensures fed { OnOk result ((m : List ℕ) → D.holds to.old m → IfSome (S.held shelf.old) (λ h. FedFront (D.holds to.new) m (h file.now) at)) }
     ensures refused { IfErr result (λ fault. WhyNotPassed (S.held shelf.old)
         (Rose S.stays_at_last (S.faults shelf.old) (S.faults shelf.new)) at fault file.now) }
@@ -53,6 +54,7 @@ fn feed_blocks<S: Shelf, D: Digest>(
     requires most { length block.old ≤ BLOCK }
     ensures stays { S.held shelf.new ≡ S.held shelf.old }
     ensures later { S.faults shelf.old ≤ S.faults shelf.new }
+    ensures within { OnOk result (at ≤ MOST + BLOCK) }
     ensures fed { OnOk result ((m : List ℕ) → D.holds to.old m → IfSome (S.held shelf.old) (λ h. FedFront (D.holds to.new) m (h file.now) at)) }
     ensures refused { IfErr result (λ fault. WhyNotPassed (S.held shelf.old)
         (Rose S.stays_at_last (S.faults shelf.old) (S.faults shelf.new)) at fault file.now) }

@@ -1,27 +1,29 @@
 // What is written of what is kept.
 ghost use Rattle.std.specs.Prelude.{◌≡◌, ◌++◌, List, ℕ, codes, IfOk, OnOk};
+ghost use Rattle.std.specs.Fmt.{decimal};
 ghost use Rattle.hex.specs.Hex.{encode_lower};
 ghost use Rattle.sha2.specs.Hashers.{Holds256};
 ghost use Rattle.piece_keep.specs.Mark.{front_text, header_word, mark_text, sum_of};
 
+use crate::Extent;
 use hex::encode;
 use river_base::{Bytes, NoMemory};
 use sha2::{Digest, Sha256};
 use std::alloc::Global;
 
 /// How far the file was read, whether it begins with a header, and the sums of what was read of it and of the program. A hasher
-/// that was fed with the front gives the first of them.
+/// that was fed with what was read gives the first of them.
 pub fn mark_front(
     alloc: Global,
-    at: u64,
+    extent: Extent,
     header: bool,
     front: Sha256,
     program: &[u8],
 ) -> Result<Bytes, NoMemory>
-    ensures { IfOk result (λ text. (bytes : List ℕ) → Holds256 front bytes → text ≡ front_text at header bytes program.now) }
+    ensures { IfOk result (λ text. (bytes : List ℕ) → Holds256 front bytes → text ≡ front_text extent.at extent.records header bytes program.now) }
 {
     let mut text = Bytes::new(alloc);
-    text.put_number(at)?;
+    put_extent(extent, &mut text)?;
     add_header(header, &mut text)?;
     let digest = front.finalize();
     add_digest(alloc, digest.as_slice(), &mut text)?;
@@ -39,6 +41,15 @@ pub fn whole_mark(alloc: Global, front: &[u8], kept: &[u8]) -> Result<Bytes, NoM
     add_sum(alloc, kept, &mut text)?;
     text.push(b'\n')?;
     Ok(text)
+}
+
+// Appends both numbers.
+fn put_extent(extent: Extent, to: &mut Bytes) -> Result<(), NoMemory>
+    ensures { OnOk result (to.new ≡ to.old ++ (decimal extent.at ++ (codes " " ++ decimal extent.records))) }
+{
+    to.put_number(extent.at)?;
+    to.push(b' ')?;
+    to.put_number(extent.records)
 }
 
 fn add_header(header: bool, to: &mut Bytes) -> Result<(), NoMemory>

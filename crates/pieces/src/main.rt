@@ -1,7 +1,7 @@
 //! The program pieces: the top call over the real files and streams.
 #![tactic(auto)]
 
-use piece_cli::{folder_of, pieces};
+use piece_cli::{folder_of, keep_of, pieces};
 use piece_files::{FileStore, Folder, Inputs};
 use river_base::{Bytes, NoMemory, Text};
 use river_outside::{FileShelf, StdSink};
@@ -21,6 +21,11 @@ fn main(rt: HostRuntime) -> ExitCode {
     };
     let files = Folder::new(FileStore::new(&rt, alloc), alloc, folder);
     let mut inputs = Inputs::new(files);
+    let kept = match keep_of(words.as_slice()) {
+        Some(folder) => folder,
+        None => b"",
+    };
+    let mut keep = Folder::new(FileStore::new(&rt, alloc), alloc, kept);
     let mut shelf = FileShelf::new(&rt, alloc);
     let mut out = StdSink::new(rt.stdout());
     let mut err = StdSink::new(rt.stderr());
@@ -29,6 +34,7 @@ fn main(rt: HostRuntime) -> ExitCode {
         words.as_slice(),
         &mut shelf,
         &mut inputs,
+        &mut keep,
         &mut out,
         &mut err,
     );

@@ -6,14 +6,14 @@ use Rattle.csv_cuts.specs.Cut.{AreCut}
 use Rattle.piece_files.specs.Held.{HeldFiles}
 use Rattle.piece_files.specs.Inputs.{HaveInputs}
 use Rattle.piece_files.specs.declared.file.JobFile.{JobFile}
-use Rattle.piece_files.specs.declared.file.JobFile.TheVariants.{Program, State, List as JobList, Input, Out}
+use Rattle.piece_files.specs.declared.file.JobFile.TheVariants.{Program, State, List as JobList, Kept, Input, Out}
 use Rattle.piece_jobs.specs.Came.{Ended, CameWhole}
 use Rattle.piece_jobs.specs.Looked.{AreCame}
 use Rattle.piece_jobs.specs.Next.{IsNext, ReadsProgress, kept_texts, outs_of}
 use Rattle.piece_jobs.specs.Plan.{most_text}
 use Rattle.river_plan.specs.Forms.{PlanForm}
 use Rattle.piece_jobs.specs.Progress.{SaysProgress, progress_text}
-use Rattle.piece_jobs.specs.UnderWay.{IsUnderWay}
+use Rattle.piece_jobs.specs.UnderWay.{HasOld, IsUnderWay, OldPart, progress_of}
 use Rattle.piece_jobs.specs.Verdict.{IsDone}
 use Rattle.piece_jobs.specs.declared.came.Ending.{Ending}
 use Rattle.piece_jobs.specs.declared.came.Ending.TheVariants.{Done}
@@ -44,16 +44,13 @@ got-is (Some b) limit got f = sym f.0
 
 -- THE PROGRESS
 
-abbrev begun : Bool → List (List ℕ) → ℕ → Progress
-begun header pieces turn = record { jobs = length pieces; header = header; turn = turn; kept = false }
-
 -- the progress that is read is that which was written
-pub progress-is : (text : List ℕ) (header : Bool) (pieces : List (List ℕ)) (w : HeldFiles) (p : Progress) → (u : IsUnderWay text header pieces w) → ReadsProgress w p
-    → p ≡ begun header pieces u.turn
-progress-is text header pieces w p u r =
-    let q = begun header pieces u.turn in
+pub progress-is : (text : List ℕ) (header : Bool) (old : Option OldPart) (pieces : List (List ℕ)) (w : HeldFiles) (p : Progress)
+    → (u : IsUnderWay text header old pieces w) → ReadsProgress w p → p ≡ progress_of header old (length pieces) u.turn
+progress-is text header old pieces w p u r =
+    let q = progress_of header old (length pieces) u.turn in
     let same = held-is (w State) most_file r.text (progress_text q) r.reads u.state in
-    one_progress (progress_text q) p q (subst (λ (t : List ℕ). SaysProgress t p) same r.says) (texts_say_progress q (u.few, u.tries))
+    one_progress (progress_text q) p q (subst (λ (t : List ℕ). SaysProgress t p) same r.says) (texts_say_progress q (u.few, (u.tries, u.few_old)))
 
 -- THE RUNS
 
@@ -74,7 +71,7 @@ are-run text header w turns job (x ∷ xs) (Some c ∷ cs) many came done calls 
 -- what is written is what the program means for the whole file
 pub driver_gives_the_whole : DriverGivesTheWhole
 driver_gives_the_whole text bytes header pieces w w' cut u calls n =
-    let p = progress-is text header pieces w n.progress u n.reads in
+    let p = progress-is text header None pieces w n.progress u n.reads in
     let many : length n.found ≡ length pieces = n.many ∙ ap (λ (q : Progress). q.jobs) p in
     let runs = are-run text header w n.progress.turn 1 pieces n.found many n.came n.follows.0 calls in
     let fin = n.follows.1 in
@@ -95,20 +92,29 @@ inputs-stay : (w v : HeldFiles) (job : ℕ) (pieces : List (List ℕ)) → ((n :
 inputs-stay w v job [] same h = tt
 inputs-stay w v job (x ∷ xs) same h = (same job ∙ h.0, inputs-stay w v (suc job) xs same h.1)
 
+-- what is kept stays
+old-stays : (w v : HeldFiles) (old : Option OldPart) → v Kept ≡ w Kept → HasOld old w → HasOld old v
+old-stays w v None same h = tt
+old-stays w v (Some part) same h = same ∙ h
+
 -- the work is still under way
 pub again_stays_under_way : AgainStaysUnderWay
-again_stays_under_way text header pieces w None u n = absurd n.follows.3
-again_stays_under_way text header pieces w (Some v) u n =
-    let p = progress-is text header pieces w n.progress u n.reads in
+again_stays_under_way text header old pieces w None u n = absurd n.follows.3
+again_stays_under_way text header old pieces w (Some v) u n =
+    let p = progress-is text header old pieces w n.progress u n.reads in
     let retried = n.follows.3 in
     let few = n.follows.0 in (
       refl,
       record {
         program = retried.others Program (λ e. cc e) (λ e. cc e) ∙ u.program;
         inputs = inputs-stay w v 1 pieces (λ job. retried.others (Input job) (λ e. cc e) (λ e. cc e)) u.inputs;
+        has_old = old-stays w v old (retried.others Kept (λ e. cc e) (λ e. cc e)) u.has_old;
         few = u.few;
+        few_old = u.few_old;
         turn = n.progress.turn + 1;
         tries = omega (arith, few);
-        state = retried.state ∙ ap (λ (q : Progress). Some (progress_text (record { jobs = q.jobs; header = q.header; turn = n.progress.turn + 1; kept = q.kept }))) p;
+        state =
+            retried.state ∙ ap
+            (λ (q : Progress). Some (progress_text (record { jobs = q.jobs; header = q.header; turn = n.progress.turn + 1; kept = q.kept; before = q.before }))) p;
       },
     )

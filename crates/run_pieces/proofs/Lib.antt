@@ -1,6 +1,7 @@
 pub mod Done
 pub mod Driver
 pub mod Found
+pub mod Grows
 pub mod Ran
 pub mod Refused
 pub mod Tells

@@ -1,5 +1,5 @@
 -- Tallies in pieces, by the calls of the program `pieces` and those of `river`.
-use Rattle.std.specs.Prelude.{◌≡◌, ⊤, ℕ, suc, Bool, false, List, [], ◌∷◌, Option, Some, IsSome, IfSome}
+use Rattle.std.specs.Prelude.{◌≡◌, ⊤, ℕ, suc, Bool, false, List, [], ◌∷◌, Option, None, Some, IsSome, IfSome}
 use Rattle.csv_cuts.specs.Cut.{AreCut}
 use Rattle.csv_cuts.specs.Faults.{IsOfRecord, moved}
 use Rattle.csv_streams.specs.declared.fault.InFault.{InFault}
@@ -7,7 +7,7 @@ use Rattle.piece_files.specs.Held.{HeldFiles, Put}
 use Rattle.piece_files.specs.declared.file.JobFile.TheVariants.{Whole, Err as Told}
 use Rattle.piece_jobs.specs.Came.{CameWhole}
 use Rattle.piece_jobs.specs.Next.{IsNext}
-use Rattle.piece_jobs.specs.UnderWay.{IsUnderWay}
+use Rattle.piece_jobs.specs.UnderWay.{IsUnderWay, OldPart}
 use Rattle.piece_jobs.specs.declared.came.Ending.TheVariants.{Done}
 use Rattle.piece_jobs.specs.declared.going_on.Next.TheVariants as next
 use Rattle.piece_work.specs.Held.{bytes_of}
@@ -35,7 +35,7 @@ abbrev pub DriverGivesTheWhole : Type 0
 DriverGivesTheWhole =
     (text bytes : List ℕ) (header : Bool) (pieces : List (List ℕ)) (w : HeldFiles) (w' : Option HeldFiles)
     → AreCut bytes header pieces
-    → IsUnderWay text header pieces w
+    → IsUnderWay text header None pieces w
     → AreCalls text header w 1 pieces
     → IsNext w w' next.Done
     → WritesTheWhole text bytes header w w'
@@ -43,10 +43,10 @@ DriverGivesTheWhole =
 -- Where it says that some jobs are to be run once more, the work is still under way.
 abbrev pub AgainStaysUnderWay : Type 0
 AgainStaysUnderWay =
-    (text : List ℕ) (header : Bool) (pieces : List (List ℕ)) (w : HeldFiles) (w' : Option HeldFiles)
-    → IsUnderWay text header pieces w
+    (text : List ℕ) (header : Bool) (old : Option OldPart) (pieces : List (List ℕ)) (w : HeldFiles) (w' : Option HeldFiles)
+    → IsUnderWay text header old pieces w
     → IsNext w w' next.Again
-    → IsSome w' × IfSome w' (λ v. IsUnderWay text header pieces v)
+    → IsSome w' × IfSome w' (λ v. IsUnderWay text header old pieces v)
 
 -- What it tells of a refused job is what the whole file has: the fault of a record, with the record's number in the whole file. Or the
 -- job told something else.
@@ -58,7 +58,7 @@ abbrev pub DriverTellsTheWhole : Type 0
 DriverTellsTheWhole =
     (text bytes : List ℕ) (header : Bool) (pieces : List (List ℕ)) (w : HeldFiles) (w' : Option HeldFiles) (told : List ℕ)
     → AreCut bytes header pieces
-    → IsUnderWay text header pieces w
+    → IsUnderWay text header None pieces w
     → AreCalls text header w 1 pieces
     → IsNext w w' (next.Refused told)
     → TellsTheWhole text bytes header w told

@@ -1,4 +1,5 @@
 pub mod Driver
+pub mod Grown
 pub mod Ran
 pub mod Refused
 pub mod Tool

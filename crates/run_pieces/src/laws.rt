@@ -4,6 +4,7 @@ ghost use Rattle.river_outside.specs.Causes.{Rose};
 ghost use Rattle.river_cli.specs.Does.{Does};
 ghost use Rattle.river_cli.specs.Points.{points_of};
 ghost use Rattle.run_pieces.specs.Driver.{AgainStaysUnderWay, DriverGivesTheWhole, DriverTellsTheWhole};
+ghost use Rattle.run_pieces.specs.Grown.{AgainStaysGrowing, BegunIsGrowing, DriverGivesTheGrown, DriverKeepsTheFront, DriverTellsTheGrown};
 ghost use Rattle.run_pieces.specs.Ran.{WordsAsk, WordsAskForNoScript, RunsPrint, RunsAreDone, RanPrints, GivesRun};
 ghost use Rattle.run_pieces.specs.Refused.{RunsTellFaults, RefusalsAreFaults, GivesRefusal, FirstRefusalIsTheWholes};
 ghost use Rattle.run_pieces.specs.Tool.{ToolGivesTheWhole, ToolGivesTheGrown};
@@ -97,4 +98,29 @@ pub fn again_stays_under_way()
 /// What it tells of a refused job is the fault that the whole file has, with the record's number in it, or what the job told.
 pub fn driver_tells_the_whole()
     ensures { DriverTellsTheWhole }
+{}
+
+/// Where a program has begun on what a file has grown by, the work on that is under way.
+pub fn begun_is_growing()
+    ensures { BegunIsGrowing }
+{}
+
+/// And it still is where some jobs are to be run once more.
+pub fn again_stays_growing()
+    ensures { AgainStaysGrowing }
+{}
+
+/// What is written to be printed then, with what is kept, is what the program means for the whole of the file.
+pub fn driver_gives_the_grown()
+    ensures { DriverGivesTheGrown }
+{}
+
+/// What is kept then is right for a front of the file, whether something was kept before or not.
+pub fn driver_keeps_the_front()
+    ensures { DriverKeepsTheFront }
+{}
+
+/// What is told of a refused job then is the fault that the whole of the file has, with the record's number in it, or what the job told.
+pub fn driver_tells_the_grown()
+    ensures { DriverTellsTheGrown }
 {}

@@ -8,4 +8,4 @@ returns-clause-begun g c =
     begun-told (g.S.Shelf.held c.args.shelf.now) (g.S.Shelf.held c.read_file.new.shelf) 67108864 c.args.call.now.program.now c.args.call.now.file.now
     c.in_ok-text.text c.args.call.now.header c.in_ok-jobs.jobs (g.J.JobFiles.held c.args.inputs.now.files) (g.J.JobFiles.held c.cut_jobs.new.inputs.files)
     (g.J.JobFiles.held c.put_files.new.files) c.read_file.ensures.stays c.in_ok-text.ensures.reads few c.in_ok-jobs.ensures.cut
-    (rw c.as_slice.ensures at c.in_ok-put_files.ensures.laid)
+    (rw (c.as_slice.ensures, c.first_try-progress.ensures) at c.in_ok-put_files.ensures.laid)
