@@ -1,5 +1,5 @@
 -- What is kept of a file that grows.
-use Rattle.std.proofs.Common.{◌≡◌, ℕ, ◌+◌, ℤ, Bool, true, false, drop, refl, List, [], ◌∷◌, ◌++◌, length, sym, ap, ◌∙◌, subst, arith, length-append}
+use Rattle.std.proofs.Common.{◌≡◌, ℕ, ℤ, Bool, true, false, drop, refl, List, [], ◌∷◌, ◌++◌, length, sym, ap, ◌∙◌, subst, arith, length-append}
 use Rattle.std.proofs.lemmas.List.{append_assoc}
 use Rattle.csv_streams.specs.FilePieces.{IsUnmarked}
 use Rattle.csv_streams.specs.Records.{csv_records}

@@ -1,18 +1,15 @@
 -- What was cut behind a front, and what was put, are the beginning of the work on what a file has grown by.
-use Rattle.std.proofs.Common.{◌≡◌, ℕ, zero, suc, ◌+◌, ◌-◌, ◌<◌, ◌≤◌, ◌^◌, ◌⊎◌, inl, inr, List, [], ◌∷◌, ◌++◌, length, take, Bool, true, false, refl, sym, ap, ◌∙◌, subst, arith}
+use Rattle.std.proofs.Common.{◌≡◌, ℕ, zero, suc, ◌-◌, ◌<◌, ◌≤◌, ◌^◌, inl, inr, List, [], take, Bool, refl, sym, ap, ◌∙◌, subst, arith}
 use Rattle.std.specs.Prelude.{Option, None, Some, IfSome, Result, Ok, Err, OnOk, IfErr}
-use Rattle.sha2.specs.Hashers.{Holds256}
 use Rattle.river_outside.specs.Held.{Held}
 use Rattle.piece_files.specs.Held.{HeldFiles, IfHeld, Put}
 use Rattle.piece_files.specs.declared.file.JobFile.TheVariants as file
-use Rattle.piece_jobs.specs.Progress.{progress_text}
 use Rattle.piece_jobs.specs.UnderWay.{HasOld, OldPart, progress_of, records_of_old}
-use Rattle.piece_keep.specs.Fed.{input_of, inputs_to, records_held}
+use Rattle.piece_keep.specs.Fed.{inputs_to, records_held}
 use Rattle.piece_keep.specs.Found.{IsFoundIn}
 use Rattle.piece_keep.specs.declared.extent.Extent.{Extent}
 use Rattle.piece_keep.specs.declared.found.Found.{Found}
 use Rattle.piece_keep.specs.declared.found.Found.TheVariants as is
-use Rattle.piece_keep.specs.declared.found.Kept.{Kept}
 use Rattle.piece_work.specs.Cutting.{WhyNotCut}
 use Rattle.piece_work.specs.Faults.{Reads}
 use Rattle.piece_work.specs.declared.fault.WorkFault.{WorkFault}

@@ -1,13 +1,12 @@
 -- What follows from what came of the jobs.
-use Rattle.std.proofs.Common.{◌≡◌, ℕ, suc, ◌+◌, ◌<◌, ◌≤◌, List, [], ◌∷◌, ◌++◌, length, refl, sym, ap, ◌∙◌, subst, arith, inl, inr}
+use Rattle.std.proofs.Common.{◌≡◌, ℕ, suc, ◌+◌, ◌<◌, List, [], ◌∷◌, ◌++◌, length, ap, ◌∙◌, subst, arith}
 use Rattle.std.specs.Prelude.{Option, None, Some, IfSome}
-use Rattle.std.specs.List.{AllByRecursion}
 use Rattle.std.proofs.lemmas.List.{length-append}
 use Rattle.piece_files.specs.Held.{HeldFiles}
 use Rattle.piece_jobs.specs.Came.{Ended}
 use Rattle.piece_jobs.specs.Looked.{IsCame, AreCame}
 use Rattle.piece_jobs.specs.Merged.{HaveCome}
-use Rattle.piece_jobs.specs.Verdict.{BehindSome, IsVerdict, IsDone}
+use Rattle.piece_jobs.specs.Verdict.{BehindSome, IsVerdict}
 use Rattle.piece_jobs.specs.declared.came.Ending.TheVariants.{Refused}
 use Rattle.piece_jobs.specs.declared.looking.Came.{Came}
 use Rattle.piece_jobs.specs.declared.verdict.Verdict.TheVariants as verdict

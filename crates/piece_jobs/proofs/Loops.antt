@@ -10,10 +10,10 @@ use Rattle.piece_jobs.specs.declared.progress.Progress.{Progress}
 use Rattle.std.proofs.lemmas.List.{append-nil, length-append}
 use Rattle.piece_files.specs.Held.{HeldFiles}
 use Rattle.piece_jobs.specs.Came.{Ended, IsEnding}
-use Rattle.piece_jobs.specs.Jobs.{list_line, list_text, numbers_from, lacking}
+use Rattle.piece_jobs.specs.Jobs.{list_line, list_text, numbers_from}
 use Rattle.piece_jobs.specs.Verdict.{BehindSome, IsThere, IsDone}
 use Rattle.piece_jobs.specs.declared.came.Ending.TheVariants.{Done, Refused}
-use Rattle.piece_jobs.specs.Looked.{IsCame, AreCame, HasNotCome, HasCome}
+use Rattle.piece_jobs.specs.Looked.{IsCame, AreCame, HasNotCome}
 use Rattle.piece_jobs.specs.declared.came.Ending.{Ending}
 use Rattle.piece_jobs.specs.declared.looking.Came.{Came}
 

@@ -1,6 +1,6 @@
 -- What the jobs printed is merged.
 use Rattle.std.proofs.Common.{◌≡◌, ℕ, zero, suc, ◌+◌, ◌<◌, ◌≤◌, Bool, true, false, inl, inr, ◌⊎◌, List, [], ◌∷◌, ◌++◌, length, take, refl, sym, ap, ◌∙◌, subst, arith, append_assoc}
-use Rattle.std.specs.Prelude.{get_or, Option, None, Some, IfSome, All}
+use Rattle.std.specs.Prelude.{get_or, Option, None, Some, IfSome}
 use Rattle.std.specs.List.{AllByRecursion}
 use Rattle.std.proofs.lemmas.List.{append-nil, take_all}
 use Rattle.river_outside.specs.Fetched.{FetchesAll, IsLarger}
@@ -22,7 +22,6 @@ use Rattle.piece_jobs.specs.Merged.{HasTables, HaveCome, IsPrinted, IsPrintedBy,
 use Rattle.piece_jobs.specs.Next.{WhyNotNext, IsFinished, outs_of, kept_texts}
 use Rattle.piece_jobs.specs.Plan.{HasPlan}
 use Rattle.piece_jobs.specs.Verdict.{IsDone}
-use Rattle.piece_jobs.specs.declared.came.Ending.{Ending}
 use Rattle.piece_jobs.specs.declared.came.Ending.TheVariants.{Done}
 use Rattle.piece_jobs.specs.declared.looking.Came.{Came}
 

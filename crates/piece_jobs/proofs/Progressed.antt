@@ -4,13 +4,12 @@ use Rattle.std.specs.Prelude.{All, Result, Ok, Err, nat_abs}
 use Rattle.std.proofs.lemmas.List.{append-nil}
 use Rattle.std.proofs.lemmas.List.Elements.{All-cons, All-nil}
 use Rattle.river_base.specs.Number.{IsValue}
-use Rattle.river_base.specs.Row.{HaveWidth}
 use Rattle.river_base.proofs.Lists.{head_same, tail_same}
 use Rattle.csv_streams.specs.Outcome.{row_line}
 use Rattle.csv_streams.specs.Rows.{rows_of_file}
 use Rattle.csv_streams.specs.declared.fault.InFault.{InFault}
 use Rattle.csv_streams.proofs.PrintedRead.{printed_rows_are_read}
-use Rattle.piece_jobs.specs.Progress.{HasCounts, OneProgress, SaysProgress, TextsSayProgress, flag, progress_row}
+use Rattle.piece_jobs.specs.Progress.{HasCounts, OneProgress, TextsSayProgress, flag, progress_row}
 use Rattle.piece_jobs.specs.declared.progress.Progress.{Progress}
 
 count-value : (n : ℕ) → n < 2 ^ 63 → IsValue (pos n)

@@ -1,7 +1,7 @@
 -- What is told where a job was refused.
-use Rattle.std.proofs.Common.{◌≡◌, ℕ, zero, suc, ◌+◌, ◌<◌, ◌≤◌, ℤ, Bool, true, inl, inr, List, [], ◌∷◌, length, refl, sym, ap, ◌∙◌, subst, arith}
-use Rattle.std.specs.Prelude.{Option, None, Some, IfSome, Result, Ok, Err, max}
-use Rattle.river_outside.specs.Fetched.{FetchesAll, IsLarger}
+use Rattle.std.proofs.Common.{◌≡◌, ℕ, suc, ◌+◌, ◌≤◌, ℤ, Bool, true, inr, List, [], length, refl, sym, ap, ◌∙◌, subst, arith}
+use Rattle.std.specs.Prelude.{Option, None, Some, IfSome, Result, Ok, Err}
+use Rattle.river_outside.specs.Fetched.{FetchesAll}
 use Rattle.river_plan.specs.Forms.{PlanForm}
 use Rattle.csv_cuts.specs.Faults.{IsOfRecord}
 use Rattle.csv_cuts.proofs.Marks.{counts_are_records}
@@ -14,9 +14,8 @@ use Rattle.piece_work.specs.declared.fault.WorkFault.{WorkFault}
 use Rattle.piece_work.specs.declared.fault.WorkFault.TheVariants as why
 use Rattle.piece_work.specs.Faults.{most_file}
 use Rattle.piece_work.specs.Held.{bytes_of}
-use Rattle.saw_model.specs.Elaborate.{At, nothing_read}
-use Rattle.saw_model.specs.Judged.{judged}
-use Rattle.saw_model.specs.Meaning.{width, reach_parts}
+use Rattle.saw_model.specs.Elaborate.{nothing_read}
+use Rattle.saw_model.specs.Meaning.{width}
 use Rattle.saw_model.proofs.Formed.{parts_reach}
 use Rattle.saw_model.proofs.Parts.{reads_parts}
 use Rattle.saw_front.specs.Meaning.{Accepted, program_in, compiled}
@@ -25,7 +24,7 @@ use Rattle.saw_front.proofs.Fronts.{compiled-judged}
 use Rattle.piece_jobs.specs.Came.{Ended}
 use Rattle.piece_jobs.specs.Fetched.{IsFound, WhyUnfetched}
 use Rattle.piece_jobs.specs.Jobs.{has_header}
-use Rattle.piece_jobs.specs.Next.{WhyNotNext, HasFaultOf, HasFault, IsTold, OfRecord, AsTold, fault_text}
+use Rattle.piece_jobs.specs.Next.{WhyNotNext, IsTold, OfRecord, AsTold, fault_text}
 use Rattle.piece_keep.specs.Fed.{records_held}
 use Rattle.piece_jobs.specs.Plan.{IsPlanOf, HasPlan, HasNoPlan, most_text}
 use Rattle.piece_jobs.specs.Told.{IsFaultIn, IsFaultOf, IsWidthOf}

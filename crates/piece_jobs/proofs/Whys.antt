@@ -1,5 +1,5 @@
 -- Why it is not known what is next: what was so of a later step is so of the whole.
-use Rattle.std.proofs.Common.{◌≡◌, ℕ, ◌≤◌, Bool, List, inl, inr, subst, sym}
+use Rattle.std.proofs.Common.{◌≡◌, ℕ, ◌≤◌, Bool, List, inl, subst}
 use Rattle.std.specs.Prelude.{Option, None, Some, IfSome, Result, Ok, Err, IfOk, IfErr}
 use Rattle.river_outside.specs.Causes.{Rose}
 use Rattle.river_outside.specs.Fetched.{FetchesAll}
@@ -10,8 +10,8 @@ use Rattle.piece_work.specs.declared.fault.WorkFault.{WorkFault}
 use Rattle.piece_work.specs.declared.fault.WorkFault.TheVariants as why
 use Rattle.piece_work.specs.Faults.{most_file}
 use Rattle.piece_jobs.specs.Fetched.{WhyUnfetched, WhyUnseen}
-use Rattle.piece_jobs.specs.Next.{WhyNotNext, SaysNothing}
-use Rattle.piece_jobs.specs.Plan.{WhyRefused, HasNoPlan, most_text}
+use Rattle.piece_jobs.specs.Next.{WhyNotNext}
+use Rattle.piece_jobs.specs.Plan.{WhyRefused, most_text}
 use Rattle.piece_jobs.specs.Progress.{WhyNoProgress}
 
 -- so of what is given

@@ -1,13 +1,8 @@
 -- The jobs of a work folder: their words, their list, and what they are given.
-use Rattle.std.specs.Prelude.{◌≡◌, ⊤, ℕ, zero, suc, Bool, List, [], ◌∷◌, ◌++◌, codes, Option, None, Some, ◌&&◌, ◌==◌, if◌then◌else◌}
+use Rattle.std.specs.Prelude.{ℕ, zero, suc, Bool, List, [], ◌∷◌, ◌++◌, codes, Option, None, Some, ◌&&◌, ◌==◌, if◌then◌else◌}
 use Rattle.std.specs.Fmt.{decimal}
 use Rattle.csv_streams.specs.Outcome.{texts_of}
-use Rattle.piece_files.specs.Held.{HeldFiles}
-use Rattle.piece_files.specs.declared.file.JobFile.TheVariants.{Program, State, Kept, Input}
-use Rattle.piece_work.specs.Held.{bytes_of}
 use Rattle.piece_jobs.specs.declared.looking.Came.{Came}
-use Rattle.piece_jobs.specs.declared.progress.Progress.{Progress}
-use Rattle.piece_jobs.specs.Progress.{progress_text}
 
 -- a line `JOB,TRY` for each job
 abbrev pub list_line : ℕ → ℕ → List ℕ

@@ -1,5 +1,5 @@
 -- What came of the jobs.
-use Rattle.std.specs.Prelude.{◌≡◌, ⊤, ℕ, suc, ◌≤◌, List, [], ◌∷◌, Option, None, Some}
+use Rattle.std.specs.Prelude.{⊤, ℕ, suc, ◌≤◌, List, [], ◌∷◌, Option, None, Some}
 use Rattle.piece_files.specs.Held.{HeldFiles}
 use Rattle.piece_jobs.specs.Came.{Ended}
 use Rattle.piece_jobs.specs.declared.came.Ending.{Ending}

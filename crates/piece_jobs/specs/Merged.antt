@@ -1,5 +1,5 @@
 -- One step of merging what the jobs printed.
-use Rattle.std.specs.Prelude.{◌≡◌, ◌⊎◌, ⊤, ℕ, ℤ, List, [], ◌∷◌, ◌++◌, Option, None, Some}
+use Rattle.std.specs.Prelude.{◌≡◌, ⊤, ℕ, ℤ, List, [], ◌∷◌, ◌++◌, Option, None, Some}
 use Rattle.piece_files.specs.Held.{HeldFiles, Put}
 use Rattle.piece_files.specs.declared.file.JobFile.{JobFile}
 use Rattle.piece_files.specs.declared.file.JobFile.TheVariants.{Kept, Whole, Out}

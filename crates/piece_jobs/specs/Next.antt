@@ -1,5 +1,5 @@
 -- What is to be done next in a work folder, and what is written in the end.
-use Rattle.std.specs.Prelude.{◌≡◌, ◌⊎◌, ⊤, ℕ, zero, suc, ◌+◌, ◌<◌, ◌≤◌, ℤ, Bool, true, false, List, [], ◌∷◌, ◌++◌, length, codes, Option, None, Some, Err, IfSome, MatchOption}
+use Rattle.std.specs.Prelude.{◌≡◌, ◌⊎◌, ⊤, ℕ, suc, ◌+◌, ◌<◌, ◌≤◌, ℤ, Bool, true, false, List, [], ◌∷◌, ◌++◌, length, codes, Option, None, Some, Err, IfSome, MatchOption}
 use Rattle.std.specs.List.{AllByRecursion}
 use Rattle.csv_cuts.specs.Faults.{IsOfRecord, moved}
 use Rattle.csv_streams.specs.FaultWords.{in_words}

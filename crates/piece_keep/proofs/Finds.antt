@@ -1,11 +1,10 @@
 -- What a mark is of.
-use Rattle.std.proofs.Common.{◌≡◌, ℕ, ◌-◌, ◌≤◌, ◌^◌, Bool, true, false, List, [], length, take, drop, sym, ap, ◌∙◌, subst, arith}
+use Rattle.std.proofs.Common.{◌≡◌, ℕ, ◌≤◌, Bool, true, false, List, [], length, take, drop, sym, ap, ◌∙◌, subst, arith}
 use Rattle.std.specs.Prelude.{Option, None, Some, IfSome, ◌↔◌}
 use Rattle.std.proofs.lemmas.Bool.{true≢false}
 use Rattle.sha2.specs.Hashers.{Holds256}
 use Rattle.csv_cuts.specs.Cut.{is_marked}
 use Rattle.csv_cuts.proofs.Marks.{unmarked-strips, unmarked-test}
-use Rattle.csv_streams.specs.FilePieces.{IsUnmarked}
 use Rattle.river_outside.specs.Held.{Held}
 use Rattle.piece_work.specs.Cutting.{IsShorter}
 use Rattle.piece_work.specs.Held.{bytes_of}

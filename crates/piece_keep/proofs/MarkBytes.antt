@@ -1,5 +1,5 @@
 -- Whether a byte-order mark stands at a place of a file.
-use Rattle.std.proofs.Common.{◌≡◌, ℕ, zero, suc, ◌+◌, ◌-◌, ◌≤◌, ◌<◌, Bool, true, false, List, [], ◌∷◌, length, take, drop, refl, sym, ap, ◌∙◌, subst, arith}
+use Rattle.std.proofs.Common.{◌≡◌, ℕ, zero, suc, ◌+◌, ◌≤◌, ◌<◌, Bool, true, false, List, [], ◌∷◌, length, take, drop, refl, sym, ap, ◌∙◌, subst, arith}
 use Rattle.std.specs.Prelude.{Option, None, Some, IfSome, ◌==◌, ◌&&◌}
 use Rattle.csv_cuts.specs.Cut.{is_marked}
 use Rattle.river_outside.specs.Held.{Held, ReadsHeld, EndsBy}

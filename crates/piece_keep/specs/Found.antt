@@ -1,5 +1,5 @@
 -- What an earlier call kept of a file, and whether it is still of this file.
-use Rattle.std.specs.Prelude.{◌≡◌, ⊤, ℕ, ◌≤◌, ◌-◌, ◌^◌, Bool, List, take, drop, length, Option, None, Some}
+use Rattle.std.specs.Prelude.{◌≡◌, ℕ, ◌≤◌, ◌-◌, ◌^◌, Bool, List, take, drop, length, Option, None, Some}
 use Rattle.sha2.specs.Hashers.{Holds256}
 use Rattle.csv_streams.specs.FilePieces.{IsUnmarked}
 use Rattle.piece_files.specs.Held.{HeldFiles}

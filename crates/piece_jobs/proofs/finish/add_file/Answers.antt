@@ -1,4 +1,3 @@
-use Rattle.std.proofs.Common.{sym}
 use Rattle.river_outside.specs.Causes.{Rose}
 use Rattle.piece_jobs.specs.Merged.{WhyNotAdded}
 use Rattle.piece_jobs.specs.Next.{WhyNotNext}

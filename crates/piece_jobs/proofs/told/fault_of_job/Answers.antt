@@ -1,4 +1,3 @@
-use Rattle.std.specs.Prelude.{Some}
 use Rattle.piece_jobs.proofs.Tells.{piece-fault}
 use Rattle.piece_jobs.proofs.told.fault_of_job.Goals as goal
 

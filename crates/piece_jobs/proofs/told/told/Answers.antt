@@ -1,5 +1,5 @@
 use Rattle.std.proofs.Common.{List, ℕ, ◌+◌, ◌≡◌}
-use Rattle.std.specs.Prelude.{Some, None, IfSome}
+use Rattle.std.specs.Prelude.{IfSome}
 use Rattle.piece_files.specs.declared.file.JobFile.TheVariants.{Err as Told}
 use Rattle.piece_work.specs.Faults.{most_file}
 use Rattle.river_outside.specs.Fetched.{FetchesAll}
