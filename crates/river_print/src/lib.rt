@@ -10,3 +10,5 @@ mod printing;
 mod ranges;
 
 pub use plan::{print_raw, print_river};
+pub use print::print_expr;
+pub use printing::print_code;

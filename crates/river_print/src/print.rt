@@ -1,11 +1,22 @@
 // Prints expressions and bodies.
-ghost use Rattle.std.specs.Prelude.{◌≡◌, ◌++◌, codes, OnOk};
+ghost use Rattle.std.specs.Prelude.{◌≡◌, ◌++◌, codes, OnOk, OnErr};
 ghost use Rattle.std.specs.Fmt.{decimal};
 ghost use Rattle.work_code.specs.Term.{term};
 ghost use Rattle.work_code.specs.Printed.{text_of, sign_text};
 
 use river_base::{Bytes, NoMemory};
+use std::alloc::Global;
 use work_code::{BinOp, Expr};
+
+/// Appends the text of an expression, or nothing where there is no memory.
+pub fn print_expr(alloc: Global, e: &Expr, to: &mut Bytes) -> Result<(), NoMemory>
+    ensures ok { OnOk result (to.new ≡ to.old ++ text_of (term e.now)) }
+    ensures err { OnErr result (to.new ≡ to.old) }
+{
+    let mut text = Bytes::new(alloc);
+    write_expr(e, &mut text)?;
+    to.extend(text.as_slice())
+}
 
 /// Appends the text of an expression; where there is no memory, maybe a part of it.
 #[cycle(write_expr)]

@@ -1,5 +1,5 @@
 // Prints bodies.
-ghost use Rattle.std.specs.Prelude.{◌≡◌, ◌++◌, map, codes, OnOk};
+ghost use Rattle.std.specs.Prelude.{◌≡◌, ◌++◌, map, codes, OnOk, OnErr};
 ghost use Rattle.std.specs.Fmt.{decimal};
 ghost use Rattle.work_code.specs.Term.{term, terms};
 ghost use Rattle.work_code.specs.Steps.{step, steps};
@@ -7,7 +7,18 @@ ghost use Rattle.work_code.specs.Printed.{text_of, items_text, more_items, step_
 
 use crate::print::{write_between, write_expr};
 use river_base::{Bytes, NoMemory};
+use std::alloc::Global;
 use work_code::{Code, Expr, Exprs, Stmt, Stmts};
+
+/// Appends the text of a body, or nothing where there is no memory.
+pub fn print_code(alloc: Global, c: &Code, to: &mut Bytes) -> Result<(), NoMemory>
+    ensures ok { OnOk result (to.new ≡ to.old ++ body_text (steps c.now.body)) }
+    ensures err { OnErr result (to.new ≡ to.old) }
+{
+    let mut text = Bytes::new(alloc);
+    write_code(c, &mut text)?;
+    to.extend(text.as_slice())
+}
 
 /// Appends the text of a body; where there is no memory, maybe a part of it.
 pub(crate) fn write_code(c: &Code, to: &mut Bytes) -> Result<(), NoMemory>
