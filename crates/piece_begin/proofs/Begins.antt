@@ -1,15 +1,17 @@
 -- What was cut and what was put are the beginning of the work.
-use Rattle.std.proofs.Common.{◌≡◌, ℕ, suc, ◌<◌, ◌^◌, List, [], ◌∷◌, Bool, sym, ap, ◌∙◌, subst, arith}
+use Rattle.std.proofs.Common.{◌≡◌, ℕ, zero, suc, refl, ◌<◌, ◌^◌, List, [], ◌∷◌, Bool, sym, ap, ◌∙◌, subst, arith}
 use Rattle.std.specs.Prelude.{Option, None, Some, IfSome}
+use Rattle.csv_cuts.specs.Window.{TookWithin}
 use Rattle.river_outside.specs.Held.{Held}
 use Rattle.river_outside.specs.Fetched.{FetchesAll}
 use Rattle.piece_files.specs.Held.{HeldFiles}
-use Rattle.piece_files.specs.Inputs.{inputs_told, HaveInputs}
+use Rattle.piece_files.specs.Inputs.{inputs_of, inputs_told, HaveInputs}
 use Rattle.piece_files.specs.declared.file.JobFile.TheVariants as file
 use Rattle.piece_files.proofs.JobInputs.{inputs-length, inputs-have}
 use Rattle.piece_work.specs.Cutting.{CutHeld}
 use Rattle.piece_work.specs.Faults.{Reads}
 use Rattle.piece_jobs.specs.UnderWay.{progress_of}
+use Rattle.piece_jobs.specs.declared.progress.Progress.{Progress}
 use Rattle.piece_begin.specs.Begun.{HasBegun, Begun, IsCutIn, CutIn}
 use Rattle.piece_begin.specs.Laid.{AreLaid, Laid}
 
@@ -31,8 +33,8 @@ cut-in file from header n (Some old) (Some w) c = record {
 -- the same, where it is told what the shelf holds
 pub cut-in-told : (held : Option Held) (name : List ℕ) (from : ℕ) (header : Bool) (k n : ℕ) (old new : Option HeldFiles) → k ≡ 0
     → IfSome held (λ h. CutHeld (h name) from header (inputs_told old k) (inputs_told new n)) → IfSome held (λ h. CutIn (h name) from header n old new)
-cut-in-told None name from header k n old new zero c = tt
-cut-in-told (Some h) name from header k n old new zero c = cut-in (h name) from header n old new (rw zero at c)
+cut-in-told None name from header k n old new none c = tt
+cut-in-told (Some h) name from header k n old new none c = cut-in (h name) from header n old new (rw none at c)
 
 -- records of jobs stay where no file of them changes
 pub inputs-stay : (old new : HeldFiles) → ((job : ℕ) → new (file.Input job) ≡ old (file.Input job)) → (job : ℕ) (pieces : List (List ℕ)) → HaveInputs old job pieces
@@ -84,3 +86,16 @@ begun-told None there limit program name text header jobs a b c same reads few c
 begun-told (Some h) there limit program name text header jobs a b c same reads few cut laid =
     begun-in (h program) (h name) text header jobs a b c (is-held (h program) limit text reads) few
     (subst (λ (o : Option Held). IfSome o (λ g. CutIn (g name) 0 header jobs a b)) same cut) laid
+
+-- the records of the jobs are those that were taken
+inputs-of-stay : (old new : HeldFiles) (n : ℕ) → ((job : ℕ) → new (file.Input job) ≡ old (file.Input job)) → inputs_of new n ≡ inputs_of old n
+inputs-of-stay old new zero same = refl
+inputs-of-stay old new (suc n) same = rw (inputs-of-stay old new n same, same (suc n)) refl
+
+pub within-told : (records most : ℕ) (text : List ℕ) (p : Progress) (n : ℕ) (first : Option (List (List ℕ))) (b c : Option HeldFiles)
+    → Laid text p b c → TookWithin records most first (inputs_told b n) → TookWithin records most first (inputs_told c n)
+within-told records most text p n first None None laid took = took
+within-told records most text p n first None (Some c) laid took = cc laid
+within-told records most text p n first (Some b) None laid took = absurd laid
+within-told records most text p n first (Some b) (Some c) laid took =
+    subst (λ (o : Option (List (List ℕ))). TookWithin records most first o) (sym (inputs-of-stay b c n laid.inputs)) took

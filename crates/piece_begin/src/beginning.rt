@@ -1,7 +1,9 @@
 // A program begins to be run in pieces.
-ghost use Rattle.std.specs.Prelude.{◌≡◌, ◌≤◌, true, IfOk, IfErr, IfSome};
+ghost use Rattle.std.specs.Prelude.{◌≡◌, ◌≤◌, true, IfOk, IfErr, OnOk, IfSome};
 ghost use Rattle.river_outside.specs.Causes.{Rose};
+ghost use Rattle.csv_cuts.specs.Window.{TookWithin};
 ghost use Rattle.piece_files.specs.Counts.{with_more};
+ghost use Rattle.piece_files.specs.Inputs.{inputs_told};
 ghost use Rattle.piece_begin.specs.Begun.{Begun};
 ghost use Rattle.piece_begin.specs.Faults.{WhyNotBegun};
 
@@ -30,7 +32,8 @@ pub struct Call<'a> {
 }
 
 /// Cuts the file into the records of jobs, puts the text of the program, of at most 64 MiB, the words of each job, the state and
-/// the list of all jobs, and says how many jobs there are: at least one. What is put stands in the folder of `inputs`, which has
+/// the list of all jobs, and says how many jobs there are: at least one. No job has more records than a piece is to have, but where
+/// no piece with so few can be cut off. What is put stands in the folder of `inputs`, which has
 /// taken nothing yet. Nothing is put before the program is read, and nothing but records of jobs before the file is cut.
 ///
 /// `Absent`, `Unread` and `Large` are of the program or of the file; `Large` also where a piece would have more bytes than it may
@@ -47,6 +50,8 @@ pub fn begin<S: Shelf, J: JobFiles>(
     ensures inputs_later { with_more (J.faults inputs.old.files) inputs.old.unnumbered ≤ with_more (J.faults inputs.new.files) inputs.new.unnumbered }
     ensures begun { IfOk result (λ jobs. IfSome (S.held shelf.old) (λ h. Begun (h call.now.program.now) (h call.now.file.now)
         call.now.header jobs (J.held inputs.old.files) (J.held inputs.new.files))) }
+    ensures within { OnOk result (TookWithin call.now.size.records call.now.size.bytes (inputs_told (J.held inputs.old.files) inputs.old.count)
+        (inputs_told (J.held inputs.new.files) inputs.new.count)) }
     ensures refused { IfErr result (WhyNotBegun (S.held shelf.old) (Rose S.stays_at_last (S.faults shelf.old) (S.faults shelf.new))
         (Rose true (with_more (J.faults inputs.old.files) inputs.old.unnumbered) (with_more (J.faults inputs.new.files) inputs.new.unnumbered))
         call.now.size.bytes call.now.program.now call.now.file.now) }

@@ -1,7 +1,9 @@
 // A file becomes the records of jobs.
-ghost use Rattle.std.specs.Prelude.{◌≡◌, ◌≤◌, true, IfOk, IfErr, IfSome};
+ghost use Rattle.std.specs.Prelude.{◌≡◌, ◌≤◌, true, IfOk, IfErr, OnOk, IfSome};
 ghost use Rattle.river_outside.specs.Causes.{Rose};
+ghost use Rattle.csv_cuts.specs.Window.{TookWithin};
 ghost use Rattle.piece_files.specs.Counts.{with_more};
+ghost use Rattle.piece_files.specs.Inputs.{inputs_told};
 ghost use Rattle.piece_work.specs.Cutting.{WhyNotCut};
 ghost use Rattle.piece_begin.specs.Begun.{CutIn};
 
@@ -27,6 +29,8 @@ pub(crate) fn cut_jobs<S: Shelf, J: JobFiles>(
     ensures inputs_later { with_more (J.faults inputs.old.files) inputs.old.unnumbered ≤ with_more (J.faults inputs.new.files) inputs.new.unnumbered }
     ensures cut { IfOk result (λ jobs. IfSome (S.held shelf.old) (λ h. CutIn (h call.now.file.now) from header jobs
         (J.held inputs.old.files) (J.held inputs.new.files))) }
+    ensures within { OnOk result (TookWithin call.now.size.records call.now.size.bytes (inputs_told (J.held inputs.old.files) inputs.old.count)
+        (inputs_told (J.held inputs.new.files) inputs.new.count)) }
     ensures refused { IfErr result (λ fault. WhyNotCut (S.held shelf.old) (Rose S.stays_at_last (S.faults shelf.old) (S.faults shelf.new))
         (Rose true (with_more (J.faults inputs.old.files) inputs.old.unnumbered) (with_more (J.faults inputs.new.files) inputs.new.unnumbered))
         from call.now.size.bytes fault call.now.file.now) }

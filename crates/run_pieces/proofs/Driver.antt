@@ -1,23 +1,18 @@
 -- What the calls of `pieces` and those of `river` come to.
-use Rattle.std.proofs.Common.{◌≡◌, ℕ, suc, ◌+◌, ◌<◌, ◌≤◌, ◌^◌, Bool, true, false, List, [], ◌∷◌, ◌++◌, length, refl, sym, ap, ◌∙◌, subst, arith}
-use Rattle.std.specs.Prelude.{Option, None, Some, IsSome, IfSome, Ok}
+use Rattle.std.proofs.Common.{◌≡◌, ℕ, suc, ◌+◌, Bool, false, List, [], ◌∷◌, ◌++◌, length, refl, sym, ap, ◌∙◌, subst, arith}
+use Rattle.std.specs.Prelude.{Option, None, Some}
 use Rattle.std.specs.List.{AllByRecursion}
-use Rattle.csv_cuts.specs.Cut.{AreCut}
 use Rattle.piece_files.specs.Held.{HeldFiles}
 use Rattle.piece_files.specs.Inputs.{HaveInputs}
-use Rattle.piece_files.specs.declared.file.JobFile.{JobFile}
-use Rattle.piece_files.specs.declared.file.JobFile.TheVariants.{Program, State, List as JobList, Kept, Input, Out}
-use Rattle.piece_jobs.specs.Came.{Ended, CameWhole}
+use Rattle.piece_files.specs.declared.file.JobFile.TheVariants.{Program, State, Kept, Input, Out}
+use Rattle.piece_jobs.specs.Came.{Ended}
 use Rattle.piece_jobs.specs.Looked.{AreCame}
-use Rattle.piece_jobs.specs.Next.{IsNext, ReadsProgress, kept_texts, outs_of}
+use Rattle.piece_jobs.specs.Next.{ReadsProgress, kept_texts, outs_of}
 use Rattle.piece_jobs.specs.Plan.{most_text}
 use Rattle.river_plan.specs.Forms.{PlanForm}
 use Rattle.piece_jobs.specs.Progress.{SaysProgress, progress_text}
 use Rattle.piece_jobs.specs.UnderWay.{HasOld, IsUnderWay, OldPart, progress_of}
 use Rattle.piece_jobs.specs.Verdict.{IsDone}
-use Rattle.piece_jobs.specs.declared.came.Ending.{Ending}
-use Rattle.piece_jobs.specs.declared.came.Ending.TheVariants.{Done}
-use Rattle.piece_jobs.specs.declared.going_on.Next.TheVariants as next
 use Rattle.piece_jobs.specs.declared.looking.Came.{Came}
 use Rattle.piece_jobs.specs.declared.progress.Progress.{Progress}
 use Rattle.piece_jobs.proofs.Progressed.{texts_say_progress, one_progress}
@@ -25,9 +20,8 @@ use Rattle.piece_merge.specs.Added.{IsMergeOf}
 use Rattle.piece_work.specs.Faults.{most_file}
 use Rattle.piece_work.specs.Held.{bytes_of}
 use Rattle.river_outside.specs.Fetched.{FetchesAll}
-use Rattle.saw_front.specs.Meaning.{compiled, program_in}
-use Rattle.saw_model.specs.Meaning.{tables_in}
-use Rattle.run_pieces.specs.Driver.{AreCalls, WritesTheWhole, DriverGivesTheWhole, AgainStaysUnderWay}
+use Rattle.saw_front.specs.Meaning.{compiled}
+use Rattle.run_pieces.specs.Driver.{AreCalls, DriverGivesTheWhole, AgainStaysUnderWay}
 use Rattle.run_pieces.specs.Ran.{Ran}
 use Rattle.run_pieces.specs.Whole.{AreRun}
 use Rattle.run_pieces.proofs.Whole.{river_gives_the_whole}

@@ -1,8 +1,7 @@
 -- What the calls of `pieces` that keep something and those of `river` come to.
-use Rattle.std.proofs.Common.{◌≡◌, ◌⊎◌, inl, inr, ℕ, zero, suc, ◌+◌, ◌-◌, ◌<◌, ◌≤◌, Bool, true, false, List, [], ◌∷◌, ◌++◌, length, take, drop, refl, sym, ap, ◌∙◌, subst, arith, length-append}
+use Rattle.std.proofs.Common.{◌≡◌, ◌⊎◌, inl, inr, ℕ, zero, suc, ◌+◌, ◌-◌, ◌≤◌, Bool, false, List, [], ◌∷◌, ◌++◌, length, take, drop, refl, sym, ap, ◌∙◌, subst, arith, length-append}
 use Rattle.std.specs.Prelude.{Option, None, Some, IsSome, IfSome, Ok, codes}
 use Rattle.std.specs.List.{AllByRecursion}
-use Rattle.std.proofs.lemmas.List.{append_assoc}
 use Rattle.csv_cuts.specs.Cut.{AreCut}
 use Rattle.csv_cuts.specs.Faults.{header_behind, moved, records_of}
 use Rattle.csv_streams.specs.FilePieces.{IsUnmarked}
@@ -18,14 +17,14 @@ use Rattle.piece_jobs.specs.Keeping.{HasKept, IsKept, IsKeptFrom, PutKept, Alone
 use Rattle.piece_jobs.specs.Looked.{AreCame}
 use Rattle.piece_jobs.specs.Next.{kept_texts, outs_of}
 use Rattle.piece_jobs.specs.Plan.{most_text}
-use Rattle.piece_jobs.specs.UnderWay.{OldPart, IsUnderWay, is_old, progress_of}
+use Rattle.piece_jobs.specs.UnderWay.{OldPart, is_old}
 use Rattle.piece_jobs.specs.Verdict.{IsDone}
 use Rattle.piece_jobs.specs.declared.looking.Came.{Came}
 use Rattle.piece_jobs.specs.declared.progress.Progress.{Progress}
 use Rattle.piece_keep.specs.Fed.{inputs_to, records_held}
 use Rattle.piece_keep.specs.Found.{IsFoundIn, IsMarkOf}
 use Rattle.piece_keep.specs.Fronts.{bytes_in}
-use Rattle.piece_keep.specs.Mark.{front_text, mark_text, sum_of}
+use Rattle.piece_keep.specs.Mark.{front_text, sum_of}
 use Rattle.piece_keep.specs.declared.extent.Extent.{Extent}
 use Rattle.piece_keep.specs.declared.found.Found.{Found}
 use Rattle.piece_keep.specs.declared.found.Found.TheVariants as is
@@ -42,11 +41,11 @@ use Rattle.river_plan.specs.Forms.{PlanForm}
 use Rattle.saw_front.specs.Meaning.{Accepted, compiled, program_in}
 use Rattle.saw_front.proofs.Fronts.{means_what_it_has}
 use Rattle.saw_model.specs.Meaning.{tables_in}
-use Rattle.run_pieces.specs.Driver.{AreCalls, TellsTheWhole, OfTheWhole, OfTheJob, WritesTheWhole}
+use Rattle.run_pieces.specs.Driver.{AreCalls, TellsTheWhole, OfTheWhole, OfTheJob}
 use Rattle.run_pieces.specs.Grown.{AgainStaysGrowing, BegunIsGrowing, DriverGivesTheGrown, DriverKeepsTheFront, DriverTellsTheGrown, IsGrowing, IsRightFor, KeepsFront}
 use Rattle.run_pieces.specs.Refused.{told_of}
-use Rattle.run_pieces.proofs.Driver.{again_stays_under_way, are-run, driver_gives_the_whole, got-is, held-is, progress-is}
-use Rattle.run_pieces.proofs.Tells.{FirstRefused, HasRefused, First, Itself, first-refused, driver_tells_the_whole, front-calls, front-inputs, moved-record, records-first}
+use Rattle.run_pieces.proofs.Driver.{again_stays_under_way, are-run, driver_gives_the_whole, held-is, progress-is}
+use Rattle.run_pieces.proofs.Tells.{HasRefused, First, Itself, first-refused, driver_tells_the_whole, front-calls, front-inputs, moved-record, records-first}
 use Rattle.run_pieces.proofs.Whole.{all-printed}
 
 -- LISTS

@@ -1,7 +1,6 @@
 -- What `pieces` tells of a refused job is what the whole file has.
-use Rattle.std.proofs.Common.{◌≡◌, ℕ, zero, suc, ◌+◌, ◌<◌, ◌≤◌, Bool, true, false, List, [], ◌∷◌, ◌++◌, length, refl, sym, ap, ◌∙◌, subst, arith}
-use Rattle.std.specs.Prelude.{Option, None, Some, Ok, Err, ◌&&◌, ◌==◌}
-use Rattle.std.specs.List.{AllByRecursion}
+use Rattle.std.proofs.Common.{◌≡◌, ℕ, zero, suc, ◌+◌, ◌<◌, Bool, true, false, List, [], ◌∷◌, ◌++◌, length, refl, sym, ap, ◌∙◌, subst, arith}
+use Rattle.std.specs.Prelude.{Option, None, Some, Ok, Err}
 use Rattle.std.proofs.lemmas.Bool.{ne_eqb}
 use Rattle.std.proofs.lemmas.List.{length-append}
 use Rattle.csv_cuts.specs.Cut.{AreCut}
@@ -19,7 +18,6 @@ use Rattle.piece_jobs.specs.Next.{IsNext, HasFault, IsTold, OfRecord, AsTold, ou
 use Rattle.piece_keep.specs.Fed.{records_held}
 use Rattle.piece_jobs.specs.Plan.{most_text}
 use Rattle.piece_jobs.specs.UnderWay.{IsUnderWay, OldPart, progress_of, records_of_old}
-use Rattle.piece_jobs.specs.Verdict.{IsDone}
 use Rattle.piece_jobs.specs.declared.going_on.Next.TheVariants as next
 use Rattle.piece_jobs.specs.declared.looking.Came.{Came}
 use Rattle.piece_jobs.specs.declared.progress.Progress.{Progress}

@@ -1,5 +1,5 @@
 -- Tallies of a file that grows, by the calls of the program `pieces` that keep something, and those of `river`.
-use Rattle.std.specs.Prelude.{◌≡◌, ◌⊎◌, ℕ, ◌-◌, ◌≤◌, Bool, List, ◌++◌, length, take, drop, Option, None, Some, IsSome, IfSome}
+use Rattle.std.specs.Prelude.{◌≡◌, ◌⊎◌, ℕ, ◌-◌, ◌≤◌, Bool, List, length, take, drop, Option, Some, IsSome, IfSome}
 use Rattle.csv_cuts.specs.Cut.{AreCut}
 use Rattle.csv_streams.specs.Records.{csv_records}
 use Rattle.kept_pieces.specs.Kept.{IsKeptOf}
