@@ -47,15 +47,15 @@ TakenSo None from start old now = Unit {0}
 TakenSo (Some bytes) from start old now = TookOff (drop from bytes) (drop start bytes) old now
 
 -- what follows the window
-more-of : List ℕ → ℕ → List ℕ → List ℕ
+pub more-of : List ℕ → ℕ → List ℕ → List ℕ
 more-of bytes start window = drop (length window) (drop start bytes)
 
-follows : (bytes : List ℕ) (start : ℕ) (window : List ℕ) → IsWindow (Some bytes) start window → drop start bytes ≡ window ++ more-of bytes start window
+pub follows : (bytes : List ℕ) (start : ℕ) (window : List ℕ) → IsWindow (Some bytes) start window → drop start bytes ≡ window ++ more-of bytes start window
 unfolding more-of
 follows bytes start window so =
     sym (take-append-drop (length window) (drop start bytes)) ∙ ap (λ (l : List ℕ). l ++ drop (length window) (drop start bytes)) so.0
 
-follows-on : (bytes : List ℕ) (start count : ℕ) (window : List ℕ) → IsWindow (Some bytes) start window → count ≤ length window
+pub follows-on : (bytes : List ℕ) (start count : ℕ) (window : List ℕ) → IsWindow (Some bytes) start window → count ≤ length window
     → drop (start + count) bytes ≡ drop count window ++ more-of bytes start window
 follows-on bytes start count window so l =
     sym (drop-drop count start bytes) ∙ ap (drop count) (follows bytes start window so) ∙ drop-append-le count window (more-of bytes start window) l
@@ -91,7 +91,7 @@ taken-on (Some h) file window from start count old before now took so done = by 
 
 -- THE END
 
-ends-in : (bytes : List ℕ) (start : ℕ) (window : List ℕ) → IsWindow (Some bytes) start window → length bytes ≤ start + length window → drop start bytes ≡ window
+pub ends-in : (bytes : List ℕ) (start : ℕ) (window : List ℕ) → IsWindow (Some bytes) start window → length bytes ≤ start + length window → drop start bytes ≡ window
 ends-in bytes start window so l =
     sym (take_all (length window) (drop start bytes) (omega (arith, l, length-drop start bytes))) ∙ so.0
 

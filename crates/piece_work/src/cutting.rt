@@ -52,8 +52,8 @@ pub fn cut_shelf<S: Shelf, P: PieceSink>(
     )
 }
 
-// The memory that a block is read into.
-fn new_block(alloc: Global) -> Result<Vec<u8>, NoMemory>
+/// The memory that a block is read into: 256 KiB.
+pub fn new_block(alloc: Global) -> Result<Vec<u8>, NoMemory>
     ensures { IfOk result (λ block. length block.items ≡ BLOCK) }
 {
     Ok(Vec::from_elem(alloc, 0, BLOCK)?)

@@ -7,6 +7,7 @@ pub mod laws;
 mod reading;
 mod windows;
 
-pub use cutting::{count_records, cut_shelf};
+pub use cutting::{count_records, cut_shelf, new_block};
 pub use fault::WorkFault;
 pub use reading::read_file;
+pub use windows::{BLOCK, fill, let_go};

@@ -13,7 +13,7 @@ use csv_cuts::{PieceSink, Size, cut_front, cut_rest};
 use river_outside::{ReadFault, Shelf};
 
 /// How many bytes are read at once: 256 KiB.
-pub(crate) const BLOCK: usize = 262_144;
+pub const BLOCK: usize = 262_144;
 
 /// Passes over so many bytes at the front of a file: they are read and let go.
 pub(crate) fn pass_over<S: Shelf>(
@@ -125,9 +125,13 @@ pub(crate) fn cut_windows<S: Shelf, P: PieceSink>(
     }
 }
 
-// Reads on until a piece fits into the window, with what shows where it may end, and says whether
-// it does: where it does not, the file ends.
-fn fill<S: Shelf>(
+/// Reads on until a piece fits into the window, with what shows where it may end, and says whether
+/// it does: where it does not, the file ends. The window has the bytes of the file from `start` on.
+///
+/// # Errors
+///
+/// `Absent`, `Unread` and `NoMemory`; `Large` where more than 1 TiB of the file would be read.
+pub fn fill<S: Shelf>(
     shelf: &mut S,
     file: &[u8],
     start: u64,
@@ -197,8 +201,8 @@ fn next_block<S: Shelf>(
     }
 }
 
-// Lets so many bytes at the front of a window go.
-fn let_go(window: &mut Vec<u8>, count: usize)
+/// Lets so many bytes at the front of a window go.
+pub fn let_go(window: &mut Vec<u8>, count: usize)
     requires { count ≤ length window.old.items }
     ensures { window.new.items ≡ drop count window.old.items }
 {

@@ -1,0 +1,16 @@
+use Rattle.std.proofs.Common.{◌≤◌, ◌<◌, ◌+◌, ◌-◌, length, drop}
+use Rattle.lap_cuts.specs.Laps.{CutsLap, TookFrom}
+use Rattle.lap_cuts.proofs.laps.laps_of_front.Given as goal
+
+abbrev pub invariant-loop-from : goal.invariant-loop-from
+invariant-loop-from g l = record {
+  later : g.P.PieceSink.faults l.initial.to ≤ g.P.PieceSink.faults l.to;
+  after : l.from ≤ l.lap.next;
+  within : l.from < l.lap.next → l.lap.end + 3 ≤ length l.window;
+  ordered : l.from < l.lap.next → l.lap.next ≤ l.lap.end;
+  cuts : l.from < l.lap.next → CutsLap l.laps.records l.laps.step (drop l.from l.window) (l.lap.end - l.from) (l.lap.next - l.from);
+  front : TookFrom l.laps.records l.laps.step l.window l.from (g.P.PieceSink.taken l.initial.to) (g.P.PieceSink.taken l.to);
+}
+
+abbrev pub decreases-loop-from : goal.decreases-loop-from
+decreases-loop-from g l = length l.window - l.from

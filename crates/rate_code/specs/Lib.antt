@@ -1,0 +1,5 @@
+pub mod Cause
+pub mod Entries
+pub mod Overlaps
+pub mod Rate
+pub mod Walked
