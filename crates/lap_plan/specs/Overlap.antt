@@ -52,7 +52,7 @@ pub record HasNoOverlap (text : List ℕ) (size : ℕ) (e : NoOverlap) : Type 0 
 -- why it is not known how pieces overlap
 abbrev pub WhyNoLaps : List ℕ → ℕ → NoLaps → Type 0
 WhyNoLaps text size (why.Work fault.NoMemory) = ⊤
-WhyNoLaps text size (why.Work other) = ⊥
+WhyNoLaps text size (why.Work _) = ⊥
 WhyNoLaps text size (why.Rate cause) = HasNoRate text cause
 WhyNoLaps text size why.Finite = HasNoOverlap text size no.Finite
 WhyNoLaps text size why.Long = HasNoOverlap text size no.Long
@@ -68,7 +68,7 @@ NothingKnown ops cause = is_unknown ops (codes "in") (codes "out") ⊎ stops_fro
 
 abbrev pub WhyNoSpot : List OpForm → NoLaps → Type 0
 WhyNoSpot ops (why.Work fault.NoMemory) = ⊤
-WhyNoSpot ops (why.Work other) = ⊥
+WhyNoSpot ops (why.Work _) = ⊥
 WhyNoSpot ops (why.Rate cause) = NothingKnown ops cause
 WhyNoSpot ops why.Finite = ⊥
 WhyNoSpot ops why.Long = ⊥
@@ -79,7 +79,7 @@ IsOverlapBy ops size (Some o) = (spot : Spot) × known_out ops spot × Overlaps 
 
 abbrev pub WhyNoOverlapBy : List OpForm → ℕ → NoLaps → Type 0
 WhyNoOverlapBy ops size (why.Work fault.NoMemory) = ⊤
-WhyNoOverlapBy ops size (why.Work other) = ⊥
+WhyNoOverlapBy ops size (why.Work _) = ⊥
 WhyNoOverlapBy ops size (why.Rate cause) = NothingKnown ops cause
 WhyNoOverlapBy ops size why.Finite = (spot : Spot) × known_out ops spot × WhyNoOverlap (known_of spot) size no.Finite
 WhyNoOverlapBy ops size why.Long = (spot : Spot) × known_out ops spot × WhyNoOverlap (known_of spot) size no.Long
